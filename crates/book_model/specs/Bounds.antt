@@ -1,0 +1,132 @@
+-- Bounds of enclosures, computed along expressions: a range of the ends, and a greatest width that is linear in
+-- the width of a moment. An operation that isn't analysed yet promises nothing.
+use Rattle.std.specs.Prelude.{◌≡◌, ℕ, suc, ◌+◌, ◌-◌, ◌*◌, ◌/◌, ◌^◌, ◌≤◌, max, Bool, true, false, cond, ℤ, pos, negsuc, neg_ℤ, unsigned_abs, ◌+ℤ◌, ◌*ℤ◌, ◌≤ℤ◌, nat_le, nat_lt, ◌==◌, ◌&&◌}
+use lib.Signed.{le_z}
+use Rattle.exact_math.specs.Fraction.{Fraction, ◌≤F◌, plus, floor_quotient}
+use Rattle.exact_math.specs.Interval.{Interval, everything, between}
+use Rattle.book_model.specs.Expressions.{Expression, argument, integer, constant, add, subtract, multiply, divide, negate, scale, power, minimum, maximum, hull, clamp, widen}
+
+-- The ends lie from low to high, in 2^-32. The width is at most slope * w + slack, where the width w of a moment
+-- and slack count 2^-64, and slope counts 2^-40.
+pub data Bound : Type 0 where
+  unbounded : Bound
+  bounded : (low high : ℤ) → (slope slack : ℕ) → Bound
+
+-- what the operations of a scale bear: its unit, in 2^-64; the size below which numbers must stay, in 2^-32; and
+-- the sizes below which the numerators of constants and of factors must stay
+pub record Limits : Type 0 where
+  pub unit : ℕ
+  pub sizes : ℕ
+  pub constants : ℕ
+  pub factors : ℕ
+
+-- the greatest size of a number from low to high
+abbrev pub range_size : ℤ → ℤ → ℕ
+range_size low high = max (unsigned_abs low) (unsigned_abs high)
+
+-- n / (d + 1), rounded up
+abbrev pub ceil_div : ℕ → ℕ → ℕ
+ceil_div n d = (n + d) / suc d
+
+-- the bound, where a test holds
+abbrev pub limited : Bool → Bound → Bound
+limited true b = b
+limited false b = unbounded
+
+-- a whole number
+unfoldable pub integer_bound : Limits → ℤ → Bound
+integer_bound l n = limited (nat_lt (unsigned_abs n * 2 ^ 32) l.sizes) (bounded (n *ℤ pos (2 ^ 32)) (n *ℤ pos (2 ^ 32)) 0 0)
+
+-- the least and the greatest number in 2^-32 around a fraction
+abbrev pub floor_at_32 : Fraction → ℤ
+floor_at_32 f = floor_quotient (f.num *ℤ pos (2 ^ 32)) f.below
+
+abbrev pub ceil_at_32 : Fraction → ℤ
+ceil_at_32 f = neg_ℤ (floor_quotient (neg_ℤ (f.num *ℤ pos (2 ^ 32))) f.below)
+
+-- a fraction: a unit between its two neighbours
+unfoldable pub constant_bound : Limits → Fraction → Bound
+constant_bound l f =
+    limited (nat_lt (unsigned_abs f.num) l.constants && nat_lt (range_size (floor_at_32 f) (ceil_at_32 f)) l.sizes)
+    (bounded (floor_at_32 f) (ceil_at_32 f) 0 l.unit)
+
+-- a sum: the widths add up
+unfoldable pub sum_bound : Limits → Bound → Bound → Bound
+sum_bound l unbounded y = unbounded
+sum_bound l (bounded a b s k) unbounded = unbounded
+sum_bound l (bounded a b s k) (bounded c d t m) =
+    limited (nat_lt (range_size (a +ℤ c) (b +ℤ d)) l.sizes) (bounded (a +ℤ c) (b +ℤ d) (s + t) (k + m))
+
+-- from -z to z
+abbrev pub around : ℕ → ℕ → ℕ → Bound
+around z s k = bounded (neg_ℤ (pos z)) (pos z) s k
+
+-- times N / (d + 1), for a number of size A: the width times the fraction's size, and two units
+abbrev pub scaled_around : Limits → (N d A s k : ℕ) → Bound
+scaled_around l N d A s k =
+    limited (nat_lt A l.sizes && nat_lt N l.factors && nat_lt (ceil_div (A * N) d) l.sizes)
+    (around (ceil_div (A * N) d) (ceil_div (s * N) d) (ceil_div (k * N) d + 2 * l.unit))
+
+unfoldable pub scaled_bound : Limits → Fraction → Bound → Bound
+scaled_bound l f unbounded = unbounded
+scaled_bound l f (bounded a b s k) = scaled_around l (unsigned_abs f.num) f.below (range_size a b) s k
+
+-- the width of a moment, and the bounds of the arguments
+pub record Reach : Type 0 where
+  pub width : ℕ
+  pub bounds : ℕ → Bound
+
+unfoldable pub bound_of : Limits → (ℕ → Bound) → Expression → Bound
+bound_of l r (argument k) = r k
+bound_of l r (integer n) = integer_bound l n
+bound_of l r (constant f) = constant_bound l f
+bound_of l r (add x y) = sum_bound l (bound_of l r x) (bound_of l r y)
+bound_of l r (subtract x y) = unbounded
+bound_of l r (multiply x y) = unbounded
+bound_of l r (divide x y) = unbounded
+bound_of l r (negate x) = unbounded
+bound_of l r (scale f x) = scaled_bound l f (bound_of l r x)
+bound_of l r (power x k) = unbounded
+bound_of l r (minimum x y) = unbounded
+bound_of l r (maximum x y) = unbounded
+bound_of l r (hull x y) = unbounded
+bound_of l r (clamp x) = unbounded
+bound_of l r (widen a x) = unbounded
+
+abbrev pub at_32 : ℤ → Fraction
+at_32 n = record { num = n; below = 2 ^ 32 - 1 }
+
+-- (slope * w + slack * 2^40) / 2^104
+abbrev pub breadth : (w slope slack : ℕ) → Fraction
+breadth w s k = record { num = pos (s * w + k * 2 ^ 40); below = 2 ^ 104 - 1 }
+
+-- two ends that keep a bound, for moments of width w
+pub record Spans (low high : ℤ) (slope slack w : ℕ) (lo hi : Fraction) : Type 0 where
+  pub ordered : lo ≤F hi
+  pub above : at_32 low ≤F lo
+  pub below : hi ≤F at_32 high
+  pub close : hi ≤F plus lo (breadth w slope slack)
+
+-- an interval keeps a bound; no bound says nothing
+unfoldable pub IsNarrow : (w : ℕ) → Bound → Interval → Type 0
+IsNarrow w unbounded i = Unit {0}
+IsNarrow w (bounded a b s k) everything = ⊥
+IsNarrow w (bounded a b s k) (between lo hi) = Spans a b s k w lo hi
+
+-- the limits of ends in 64 bits at scale 2^-36
+abbrev pub limits_36 : Limits
+limits_36 = record { unit = 2 ^ 28; sizes = 2 ^ 58; constants = 2 ^ 90; factors = 2 ^ 40 }
+
+-- limits that no operation keeps
+abbrev pub no_limits : Limits
+no_limits = record { unit = 0; sizes = 0; constants = 0; factors = 0 }
+
+-- what the scale 2^-bits bears; nothing is promised of other scales than these
+unfoldable pub limits_of : ℕ → Limits
+limits_of bits = cond (bits == 36) limits_36 no_limits
+
+-- whether the first bound says at least what the second says
+unfoldable pub implies : Bound → Bound → Bool
+implies y unbounded = true
+implies unbounded (bounded c d t m) = false
+implies (bounded a b s k) (bounded c d t m) = le_z c a && le_z b d && nat_le s t && nat_le k m

@@ -1,0 +1,45 @@
+-- The Gregorian calendar, for all years: day numbers of the book (R.D.), where day 1 is 1 January of the year 1.
+-- Reingold and Dershowitz, Calendrical Calculations, chapter 2.
+use Rattle.std.specs.Prelude.{◌≡◌, ℕ, zero, suc, ◌+◌, ◌-◌, ◌%◌, ◌==◌, ◌&&◌, ◌||◌, not, nat_lt, nat_le, Bool, if◌then◌else◌, ℤ, pos, negsuc, ◌+ℤ◌, ◌-ℤ◌, ◌*ℤ◌, ◌≤ℤ◌, ◌<ℤ◌, int_lt, int_le}
+use Rattle.exact_math.specs.Fraction.{floor_quotient}
+
+-- how many leap days the years 1 to n have: every fourth year, but of the centuries only every fourth
+abbrev pub leap_days : ℤ → ℤ
+leap_days n = floor_quotient n 3 -ℤ floor_quotient n 99 +ℤ floor_quotient n 399
+
+-- 1 January of the year y
+unfoldable pub first_day : ℤ → ℤ
+first_day y = pos 365 *ℤ (y -ℤ pos 1) +ℤ leap_days (y -ℤ pos 1) +ℤ pos 1
+
+-- the year in which the day falls: that of 400 years of 146097 days that it is near, or the next
+unfoldable pub year_of_day : ℤ → ℤ
+year_of_day d =
+    let near = floor_quotient (pos 400 *ℤ (d +ℤ pos 1)) 146096 in
+    if int_lt d (first_day (near +ℤ pos 1)) then near else near +ℤ pos 1
+
+-- the year in which the day falls begins at or before it, and the next year after it
+pub record IsYearOfDay (y d : ℤ) : Type 0 where
+  pub begun : first_day y ≤ℤ d
+  pub not_over : d <ℤ first_day (y +ℤ pos 1)
+
+abbrev pub is_leap_year : ℕ → Bool
+is_leap_year y = (y % 4 == 0) && (not (y % 100 == 0) || (y % 400 == 0))
+
+-- the days of the months: thirty days have September, April, June and November
+abbrev pub days_in_month : ℕ → ℕ → ℕ
+days_in_month y m =
+    if m == 2 then (if is_leap_year y then 29 else 28)
+    else (if (m == 4) || (m == 6) || (m == 9) || (m == 11) then 30 else 31)
+
+-- the days of the first n months of the year
+unfoldable pub days_of_months : ℕ → ℕ → ℕ
+days_of_months y zero = 0
+days_of_months y (suc n) = days_of_months y n + days_in_month y (suc n)
+
+-- a date of the years 1 to 9999
+abbrev pub is_date : ℕ → ℕ → ℕ → Bool
+is_date y m d = nat_lt 0 y && nat_lt y 10000 && nat_lt 0 m && nat_lt m 13 && nat_lt 0 d && nat_le d (days_in_month y m)
+
+-- the day number of a date
+unfoldable pub fixed_of : ℕ → ℕ → ℕ → ℤ
+fixed_of y m d = first_day (pos y) +ℤ pos (days_of_months y (m - 1) + d) -ℤ pos 1

@@ -1,0 +1,55 @@
+-- The dynamical time correction of a year, and that of a day in milliseconds.
+-- Reingold and Dershowitz, Calendrical Calculations, chapter 14, ephemeris correction.
+use Rattle.std.specs.Prelude.{◌≡◌, ℕ, zero, suc, ◌+◌, ◌&&◌, Bool, if◌then◌else◌, ℤ, pos, negsuc, ◌-ℤ◌, ◌*ℤ◌, List, length, slice_index_or, int_le}
+use Rattle.book_model.specs.declared.frac.Frac.{Frac}
+use Rattle.book_model.specs.declared.site.Site.{Site}
+use Rattle.book_model.specs.declared.site.Site.TheVariants.{Year, Round}
+use Rattle.book_model.specs.declared.tables.TheConstants.{CORRECTION_1987, CORRECTION_2006, HALF, MILLISECONDS_OF_DAY, SECOND}
+use Rattle.book_model.specs.Fractions.{fraction_of}
+use Rattle.book_model.specs.Expressions.{Expression, integer, constant, add, scale}
+use Rattle.book_model.specs.Programs.{Program, answer, void, cell, bind, integers, years}
+
+-- x to the power k
+unfoldable pub int_power : ℤ → ℕ → ℤ
+int_power x zero = pos 1
+int_power x (suc k) = int_power x k *ℤ x
+
+abbrev pub no_fraction : Frac
+no_fraction = record { num = pos 0; den = 1 }
+
+-- a0 + a1 x + a2 x^2 + .., to the term before that of index n
+unfoldable pub polynomial_to : List Frac → ℤ → ℕ → Expression
+polynomial_to cs x zero = integer (pos 0)
+polynomial_to cs x (suc n) = add (polynomial_to cs x n) (scale (fraction_of (slice_index_or cs n no_fraction)) (integer (int_power x n)))
+
+-- the polynomial with these coefficients at a whole number
+unfoldable pub polynomial_of : List Frac → ℤ → Expression
+polynomial_of cs x = polynomial_to cs x (length cs)
+
+-- a polynomial of seconds in the years from 2000 on, in days
+unfoldable pub seconds_of : List Frac → ℤ → Expression
+seconds_of cs y = scale (fraction_of SECOND) (polynomial_of cs (y -ℤ pos 2000))
+
+abbrev pub is_between : ℤ → ℤ → ℤ → Bool
+is_between low high z = int_le low z && int_le z high
+
+-- dynamical time less universal time in a year, in days
+unfoldable pub correction_of : ℤ → Program Expression
+correction_of y =
+    if is_between (pos 1987) (pos 2005) y then answer (seconds_of CORRECTION_1987 y)
+    else (if is_between (pos 2006) (pos 2050) y then answer (seconds_of CORRECTION_2006 y) else void Year)
+
+-- the Gregorian year of a moment
+unfoldable pub year_of : Expression → Program ℤ
+year_of x = cell Year years x answer
+
+-- the whole number that is nearest, the greater of two
+unfoldable pub rounded_of : Expression → Program ℤ
+rounded_of x = cell Round integers (add x (constant (fraction_of HALF))) answer
+
+-- the correction of a day's year, in milliseconds
+unfoldable pub dt_of : ℤ → Program ℤ
+dt_of d =
+    bind (year_of (integer d)) λ y.
+    bind (correction_of y) λ c.
+    rounded_of (scale (fraction_of MILLISECONDS_OF_DAY) c)

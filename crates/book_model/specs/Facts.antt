@@ -1,0 +1,83 @@
+-- The run of a fact, and when a fact is true, near or void.
+use Rattle.std.specs.Prelude.{◌≡◌, ℕ, ◌+◌, ◌^◌, ◌≤◌, ◌⊎◌, if◌then◌else◌, ℤ, pos, negsuc, ◌-ℤ◌, ◌≤ℤ◌}
+use Rattle.exact_math.specs.Fraction.{Fraction, ◌≤F◌, ◌<F◌}
+use Rattle.exact_math.specs.Interval.{Interval, everything, between, ◌⊆◌, IsProper}
+use Rattle.book_model.specs.declared.site.Site.{Site}
+use Rattle.book_model.specs.declared.site.Site.TheVariants.{Year}
+use Rattle.book_model.specs.declared.fact.Fact.{Fact}
+use Rattle.book_model.specs.declared.fact.Kind.{Kind}
+use Rattle.book_model.specs.declared.fact.Kind.TheVariants.{Dt}
+use Rattle.book_model.specs.declared.fact.Place.{Place}
+use Rattle.book_model.specs.declared.fact.Place.TheVariants.{None as Nowhere}
+use Rattle.book_model.specs.declared.fail.Undecided.{Undecided}
+use Rattle.book_model.specs.Calendar.{year_of_day}
+use Rattle.book_model.specs.Correction.{dt_of, is_between}
+use Rattle.book_model.specs.Expressions.{World}
+use Rattle.book_model.specs.Leading.{at_56, AreNoBounds}
+use Rattle.book_model.specs.Programs.{Grid, threshold, Program, void, Run, run, Outcome, valued, void_at, outcome, MakesTest, Sides, one_side, two_sides}
+
+-- the places of which a kind of fact is asked
+abbrev pub IsPlaceOf : Kind → Place → Type 0
+IsPlaceOf Dt place = place ≡ Nowhere
+
+-- a kind, a place and a day make a fact
+abbrev pub IsFact : Kind → Place → ℤ → Type 0
+IsFact kind place day = IsPlaceOf kind place × (negsuc 39999999 ≤ℤ day) × (day ≤ℤ pos 40000000)
+
+-- the formula of a kind of fact
+unfoldable pub formula_of : Kind → Place → ℤ → Program ℤ
+formula_of Dt place d = dt_of d
+
+-- the formula of a fact; outside 1 July 1800 to 31 December 2049 it is void
+unfoldable pub program_of : Fact → Program ℤ
+program_of f = if is_between (pos 657253) (pos 748382) f.day then formula_of f.kind f.place f.day else void Year
+
+-- a depth alone: the formula of a fact has no arguments
+abbrev pub at_depth : ℕ → World
+at_depth n = record { depth = n; arguments = λ k. everything; proper = λ k. tt }
+
+-- the run of a fact at a depth
+unfoldable pub run_of : ℕ → Fact → Run ℤ
+run_of n f = run (at_depth n) (program_of f)
+
+-- the fact has the value v at every depth from 40 on
+pub record IsTrueWith (f : Fact) (v : ℤ) : Type 0 where
+  pub at_each_depth : (n : ℕ) → 40 ≤ n → outcome (run_of n f) ≡ valued v
+
+-- the fact has no value, for a reason at this site, at every depth from 40 on
+pub record IsVoidAt (f : Fact) (s : Site) : Type 0 where
+  pub at_each_depth : (n : ℕ) → 40 ≤ n → outcome (run_of n f) ≡ void_at s
+
+-- an interval lies between two numbers that count 2^-56, which may stand for no bounds
+pub data LiesFrom (lo hi : ℤ) (i : Interval) : Type 0 where
+  from_ends : i ⊆ between (at_56 lo) (at_56 hi) → LiesFrom lo hi i
+  from_nowhere : AreNoBounds lo hi → LiesFrom lo hi i
+
+-- a cell begins above lo and at most at hi
+pub record HasThreshold (g : Grid) (lo hi : ℤ) : Type 0 where
+  pub begun : ℤ
+  pub above : at_56 lo <F threshold g begun
+  pub at_most : threshold g begun ≤F at_56 hi
+
+-- the sides of a test lie from lo to hi, and for a cell test so does a threshold
+pub data AreNear (lo hi : ℤ) : Sides → Type 0 where
+  near_cell : {g : Grid} {i : Interval} → LiesFrom lo hi i → HasThreshold g lo hi → AreNear lo hi (one_side g i)
+  near_comparison : {i j : Interval} → LiesFrom lo hi i → LiesFrom lo hi j → AreNear lo hi (two_sides i j)
+
+-- a run makes the test that is named, near its threshold
+pub record MakesNearTest (r : Run ℤ) (u : Undecided) : Type 0 where
+  pub sides : Sides
+  pub makes : MakesTest r u.turn u.site sides
+  pub near : AreNear u.lo u.hi sides
+
+-- the kinds of which the first or the third test of the year is made on the whole day itself
+abbrev pub HasWholeDays : Kind → Type 0
+HasWholeDays Dt = Unit {0}
+
+-- The fact is near at a test: at every depth from 40 on its run makes this test, whose sides lie within the ends.
+-- The year of a whole day is never near. For the years 1987 to 2050 the ends of a dynamical time correction lie
+-- at most 2^-6 apart.
+pub record IsNear (f : Fact) (u : Undecided) : Type 0 where
+  pub at_each_depth : (n : ℕ) → 40 ≤ n → MakesNearTest (run_of n f) u
+  pub no_whole_day : u.site ≡ Year → (u.turn ≡ 1) ⊎ (u.turn ≡ 3) → HasWholeDays f.kind → ⊥
+  pub close : f.kind ≡ Dt → pos 1987 ≤ℤ year_of_day f.day → year_of_day f.day ≤ℤ pos 2050 → (u.hi -ℤ u.lo) ≤ℤ pos (2 ^ 50)

@@ -1,0 +1,86 @@
+-- The rule of a line: the facts that it asks, in order, and its result over their values.
+use Rattle.std.specs.Prelude.{◌≡◌, ℕ, ◌-◌, ◌^◌, ◌&&◌, ◌||◌, ◌==◌, if◌then◌else◌, Bool, List, [], ◌∷◌, ◌++◌, ℤ, pos, negsuc, int_le, Option, Some, None}
+use Rattle.std.specs.Ordering.{int_eq}
+use Rattle.std.specs.List.{list_any}
+use Rattle.book_model.specs.declared.site.Site.{Site}
+use Rattle.book_model.specs.declared.fact.Fact.{Fact}
+use Rattle.book_model.specs.declared.fact.Kind.TheVariants.{Dt as dt_kind}
+use Rattle.book_model.specs.declared.fact.Place.TheVariants.{None as Nowhere, Beijing, Cairo, Tehran, Ujjain}
+use Rattle.book_model.specs.declared.fact.Kind.{Kind}
+use Rattle.book_model.specs.declared.fact.Place.{Place}
+use Rattle.book_model.specs.declared.request.ToWord.{ToWord}
+use Rattle.book_model.specs.declared.request.ToWord.TheVariants.{Dt}
+use Rattle.book_model.specs.declared.request.Fields.{Fields}
+use Rattle.book_model.specs.declared.request.Request.{Request}
+use Rattle.book_model.specs.declared.request.Resolved.{Resolved}
+use Rattle.book_model.specs.declared.request.Resolved.TheVariants.{Shown}
+use Rattle.book_model.specs.Facts.{run_of}
+use Rattle.book_model.specs.Programs.{Outcome, valued, void_at, open_at, outcome}
+use Rattle.book_model.specs.Requests.{day_of}
+
+-- what is asked of a table of facts, one fact at a time
+pub data Inquiry (A : Type 0) : Type 0 where
+  done : A → Inquiry A
+  ask : Fact → (ℤ → Inquiry A) → Inquiry A
+
+-- the fact of the dynamical time correction on a day
+abbrev pub dt_fact : ℤ → Fact
+dt_fact d = record { kind = dt_kind; place = Nowhere; day = d }
+
+-- the nearest number of 32 bits
+abbrev pub to_32_bits : ℤ → ℤ
+to_32_bits z = if int_le z (negsuc (2 ^ 31 - 1)) then negsuc (2 ^ 31 - 1) else (if int_le (pos (2 ^ 31 - 1)) z then pos (2 ^ 31 - 1) else z)
+
+-- one number as the only field of a result
+abbrev pub one_field : ℤ → Fields
+one_field z = record { count = 1; values = to_32_bits z ∷ pos 0 ∷ pos 0 ∷ pos 0 ∷ pos 0 ∷ [] }
+
+-- what a day comes to
+abbrev pub result_on : ToWord → ℤ → Inquiry Resolved
+result_on Dt day = ask (dt_fact day) (λ v. done (Shown Dt (one_field v)))
+
+-- the rule of a line
+unfoldable pub rule_of : Request → Inquiry Resolved
+rule_of r = result_on r.to (day_of r.from r.date)
+
+-- the number of a kind of fact, and that of a place
+abbrev pub kind_number : Kind → ℕ
+kind_number dt_kind = 1
+
+abbrev pub place_number : Place → ℕ
+place_number Nowhere = 0
+place_number Beijing = 1
+place_number Cairo = 2
+place_number Tehran = 3
+place_number Ujjain = 4
+
+-- whether two facts are one
+abbrev pub fact_eq : Fact → Fact → Bool
+fact_eq f g = (kind_number f.kind == kind_number g.kind) && (place_number f.place == place_number g.place) && int_eq f.day g.day
+
+-- the facts that were asked, each once with its value, and this one
+abbrev pub with_entry : List (Fact × ℤ) → Fact → ℤ → List (Fact × ℤ)
+with_entry seen f v = if list_any (λ e. fact_eq f e.0) seen then seen else seen ++ (f, v) ∷ []
+
+-- what comes of an inquiry: a result with the facts that were asked, or the first that is open or void
+pub data Finding (A : Type 0) : Type 0 where
+  found : A → List (Fact × ℤ) → Finding A
+  stopped : Fact → Finding A
+
+abbrev pub found_at : {A : Type 0} → Fact → Outcome ℤ → (ℤ → Finding A) → Finding A
+found_at f (valued v) next = next v
+found_at f (void_at s) next = stopped f
+found_at f (open_at s) next = stopped f
+
+-- the finding over the runs of the facts at a depth, after these facts
+unfoldable pub finding_after : {A : Type 0} → ℕ → List (Fact × ℤ) → Inquiry A → Finding A
+finding_after n seen (done a) = found a seen
+finding_after n seen (ask f next) = found_at f (outcome (run_of n f)) (λ v. finding_after n (with_entry seen f v) (next v))
+
+abbrev pub finding : {A : Type 0} → ℕ → Inquiry A → Finding A
+finding n i = finding_after n [] i
+
+-- at a depth the inquiry asks a fact
+pub data AsksAt {A : Type 0} (n : ℕ) : Inquiry A → Fact → Type 0 where
+  asks_here : {f : Fact} {next : ℤ → Inquiry A} → AsksAt n (ask f next) f
+  asks_after : {f g : Fact} {v : ℤ} {next : ℤ → Inquiry A} → outcome (run_of n g) ≡ valued v → AsksAt n (next v) f → AsksAt n (ask g next) f

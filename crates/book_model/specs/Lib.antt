@@ -1,0 +1,15 @@
+pub mod Names
+pub mod Fractions
+pub mod Calendar
+pub mod Expressions
+pub mod Bounds
+pub mod Relations
+pub mod Programs
+pub mod Leading
+pub mod Correction
+pub mod Facts
+pub mod Lines
+pub mod Requests
+pub mod Inquiries
+pub mod Outcomes
+pub mod Text

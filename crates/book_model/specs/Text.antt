@@ -1,0 +1,120 @@
+-- The text that is written for lines and their outcomes.
+use Rattle.std.specs.Prelude.{ℕ, ◌+◌, not, if◌then◌else◌, Bool, List, [], ◌∷◌, ◌++◌, length, slice_index_or, codes, decimal, ℤ, pos}
+use Rattle.std.specs.Fmt.{signed_decimal}
+use Rattle.std.specs.List.{concat, flat_map, list_any, position_or_len}
+use Rattle.book_model.specs.declared.site.Site.{Site}
+use Rattle.book_model.specs.declared.fact.Fact.{Fact}
+use Rattle.book_model.specs.declared.fail.Undecided.{Undecided}
+use Rattle.book_model.specs.declared.request.ToWord.{ToWord}
+use Rattle.book_model.specs.declared.request.ToWord.TheVariants.{Dt}
+use Rattle.book_model.specs.declared.request.Fields.{Fields}
+use Rattle.book_model.specs.declared.request.Resolved.{Resolved}
+use Rattle.book_model.specs.declared.request.Resolved.TheVariants.{Shown}
+use Rattle.book_model.specs.Inquiries.{fact_eq}
+use Rattle.book_model.specs.Lines.{words_of}
+use Rattle.book_model.specs.Names.{site_name, kind_name, place_name}
+use Rattle.book_model.specs.Outcomes.{LineOutcome, refused, resolved, undecided, void}
+use Rattle.book_model.specs.Requests.{rule_number}
+
+abbrev pub header : List ℕ
+header = codes "calendrica 1 depth 40\n"
+
+-- KIND PLACE DAY
+abbrev pub fact_words : Fact → List (List ℕ)
+fact_words f = kind_name f.kind ∷ codes " " ∷ place_name f.place ∷ codes " " ∷ signed_decimal f.day ∷ []
+
+-- fact N KIND PLACE DAY VALUE
+unfoldable pub fact_text : ℕ → Fact → ℤ → List ℕ
+fact_text number f value = concat (codes "fact " ∷ decimal number ∷ codes " " ∷ kind_name f.kind ∷ codes " " ∷ place_name f.place ∷ codes " " ∷ signed_decimal f.day ∷ codes " " ∷ signed_decimal value ∷ codes "\n" ∷ [])
+
+-- the first value of the fields
+abbrev pub first_value : Fields → ℤ
+first_value f = slice_index_or f.values 0 (pos 0)
+
+-- the text of a result
+abbrev pub shown_as : ToWord → Fields → List ℕ
+shown_as Dt fields = signed_decimal (first_value fields)
+
+abbrev pub result_text : Resolved → List ℕ
+result_text (Shown to fields) = shown_as to fields
+
+-- the three words of a line, with single spaces
+abbrev pub echo_of : List ℕ → List ℕ
+echo_of line = concat (echo_words (words_of line))
+  where
+    echo_words : List (List ℕ) → List (List ℕ)
+    echo_words [] = []
+    echo_words (w ∷ ws) = codes " " ∷ w ∷ echo_words ws
+
+-- line N FROM DATE TO RESULT facts
+unfoldable pub head_text : ℕ → List ℕ → List ℕ → List ℕ
+head_text number line result = concat (codes "line " ∷ decimal number ∷ echo_of line ∷ codes " " ∷ result ∷ codes " facts" ∷ [])
+
+abbrev pub number_text : ℕ → List ℕ
+number_text n = codes " " ++ decimal n
+
+-- line N FROM DATE TO RESULT facts A B ..
+abbrev pub resolved_text : ℕ → List ℕ → List ℕ → List ℕ → List ℕ
+resolved_text number line result numbers = head_text number line result ++ flat_map number_text numbers ++ codes "\n"
+
+-- line N refused R
+unfoldable pub refused_text : ℕ → ℕ → List ℕ
+refused_text number rule = concat (codes "line " ∷ decimal number ∷ codes " refused " ∷ decimal rule ∷ codes "\n" ∷ [])
+
+-- line N undecided SITE TURN LO HI fact KIND PLACE DAY
+unfoldable pub undecided_text : ℕ → Fact → Undecided → List ℕ
+undecided_text number f u =
+    concat (codes "line " ∷ decimal number ∷ codes " undecided " ∷ site_name u.site ∷ codes " " ∷ decimal u.turn ∷ codes " " ∷ signed_decimal u.lo ∷ codes " " ∷ signed_decimal u.hi
+    ∷ codes " fact " ∷ kind_name f.kind ∷ codes " " ∷ place_name f.place ∷ codes " " ∷ signed_decimal f.day ∷ codes "\n" ∷ [])
+
+-- line N void SITE fact KIND PLACE DAY
+unfoldable pub void_text : ℕ → Fact → Site → List ℕ
+void_text number f s =
+    concat (codes "line " ∷ decimal number ∷ codes " void " ∷ site_name s ∷ codes " fact " ∷ kind_name f.kind ∷ codes " " ∷ place_name f.place ∷ codes " " ∷ signed_decimal f.day ∷ codes "\n" ∷ [])
+
+-- end lines L facts F
+unfoldable pub end_text : ℕ → ℕ → List ℕ
+end_text lines facts = concat (codes "end lines " ∷ decimal lines ∷ codes " facts " ∷ decimal facts ∷ codes "\n" ∷ [])
+
+-- the facts printed so far, and this one
+abbrev pub with_fact : List Fact → Fact → List Fact
+with_fact seen f = if list_any (fact_eq f) seen then seen else seen ++ f ∷ []
+
+-- the facts printed so far, and these
+abbrev pub with_facts : List Fact → List (Fact × ℤ) → List Fact
+with_facts seen [] = seen
+with_facts seen (e ∷ es) = with_facts (with_fact seen e.0) es
+
+-- those of the facts that aren't printed yet, numbered in order of first use
+abbrev pub new_facts_text : List Fact → List (Fact × ℤ) → List ℕ
+new_facts_text seen [] = []
+new_facts_text seen (e ∷ es) = (if list_any (fact_eq e.0) seen then [] else fact_text (length seen + 1) e.0 e.1) ++ new_facts_text (with_fact seen e.0) es
+
+-- each fact's number, by its place among the facts printed so far
+abbrev pub numbers_of : List Fact → List (Fact × ℤ) → List ℕ
+numbers_of seen [] = []
+numbers_of seen (e ∷ es) = (position_or_len (fact_eq e.0) seen + 1) ∷ numbers_of (with_fact seen e.0) es
+
+-- the facts printed after a line
+abbrev pub seen_after : List Fact → LineOutcome → List Fact
+seen_after seen (refused rule) = seen
+seen_after seen (resolved x facts) = with_facts seen facts
+seen_after seen (undecided f u) = seen
+seen_after seen (void f s) = seen
+
+-- what stands for one line: its new facts, and then the line
+abbrev pub block_text : List Fact → ℕ → List ℕ → LineOutcome → List ℕ
+block_text seen number line (refused rule) = refused_text number (rule_number rule)
+block_text seen number line (resolved x facts) = new_facts_text seen facts ++ resolved_text number line (result_text x) (numbers_of seen facts)
+block_text seen number line (undecided f u) = undecided_text number f u
+block_text seen number line (void f s) = void_text number f s
+
+-- after this many lines with these facts: the other lines, and the end
+abbrev pub text_from : List Fact → ℕ → List (List ℕ) → List LineOutcome → List ℕ
+text_from seen count [] os = end_text count (length seen)
+text_from seen count (line ∷ lines) [] = end_text count (length seen)
+text_from seen count (line ∷ lines) (o ∷ os) = block_text seen (count + 1) line o ++ text_from (seen_after seen o) (count + 1) lines os
+
+-- the text of lines and their outcomes
+abbrev pub text : List (List ℕ) → List LineOutcome → List ℕ
+text lines os = header ++ text_from [] 0 lines os

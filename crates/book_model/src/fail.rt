@@ -1,0 +1,31 @@
+//! Why a formula has no answer.
+ghost use Rattle.std.specs.Prelude.{◌≡◌};
+ghost use Rattle.book_model.specs.declared.fail.Fail.TheVariants.{Undecided as undecided_fail};
+
+use crate::Site;
+
+/// The test that an enclosure leaves open: its number in the run, from 1, its site, and the ends of its sides,
+/// which count 2⁻⁵⁶. For an enclosure of every number, and for a floor outside 64 bits, the ends are the least
+/// and the greatest `i128`.
+#[derive(Clone, Copy, Debug, PartialEq, Eq)]
+pub struct Undecided {
+    pub turn: u32,
+    pub site: Site,
+    pub lo: i128,
+    pub hi: i128,
+}
+
+/// Why a formula has no answer: a test is open, or the formula has no value there.
+#[derive(Clone, Copy, Debug, PartialEq, Eq)]
+pub enum Fail {
+    Undecided(Undecided),
+    Void(Site),
+}
+
+impl From<Undecided> for Fail {
+    ghost from_gives = { λ u f. f ≡ undecided_fail u };
+
+    fn from(at: Undecided) -> Self {
+        Fail::Undecided(at)
+    }
+}

@@ -1,0 +1,17 @@
+//! What the program computes, before any code: the types that the definitions speak of, the tables, and in
+//! `specs/` the definitions themselves: expressions, programs of tests, runs, facts, lines and texts.
+#![tactic(auto)]
+
+mod fact;
+mod fail;
+mod frac;
+mod request;
+mod site;
+mod tables;
+
+pub use fact::{Fact, Kind, Place};
+pub use fail::{Fail, Undecided};
+pub use frac::Frac;
+pub use request::{Fields, FromWord, Request, Resolved, Rule, ToWord};
+pub use site::Site;
+pub use tables::{CORRECTION_1987, CORRECTION_2006, HALF, MILLISECONDS_OF_DAY, SECOND};

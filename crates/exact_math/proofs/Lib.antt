@@ -1,0 +1,10 @@
+pub mod IntLaws
+pub mod Ring
+pub mod RingTests
+pub mod Bounds
+pub mod Fractions
+pub mod Intervals
+pub mod Same
+pub mod FractionRing
+pub mod Certificates
+pub mod Floors

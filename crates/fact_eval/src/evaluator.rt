@@ -1,0 +1,20 @@
+//! What an evaluator answers, and when its answer is right.
+use book_model::{Fact, Site, Undecided};
+
+/// The answer for a fact: its value, a test that the enclosures leave open, or the site where it has no value.
+#[derive(Clone, Copy, Debug, PartialEq, Eq)]
+pub enum Answer {
+    Value(i64),
+    Undecided(Undecided),
+    Void(Site),
+}
+
+/// Answers facts.
+pub trait Evaluator {
+    ghost use Rattle.fact_eval.specs.Answers.{IsRightAnswer};
+
+    /// The answer for a fact. A value comes only where the fact is true with it, and lies in -10,000,000 to
+    /// 10,000,000; an undecided test only where the fact is near at it; a void only where the fact is void there.
+    fn eval(&self, fact: Fact) -> Answer
+        ensures { IsRightAnswer fact result };
+}

@@ -1,0 +1,6 @@
+//! Answers facts: the evaluator's contract, and an evaluator that computes enclosures.
+#![tactic(auto)]
+
+mod evaluator;
+
+pub use evaluator::{Answer, Evaluator};
