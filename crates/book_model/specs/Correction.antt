@@ -1,8 +1,7 @@
 -- The dynamical time correction of a year, and that of a day in milliseconds.
 -- Reingold and Dershowitz, Calendrical Calculations, chapter 14, ephemeris correction.
-use Rattle.std.specs.Prelude.{◌≡◌, ℕ, zero, suc, ◌+◌, ◌&&◌, Bool, if◌then◌else◌, ℤ, pos, negsuc, ◌-ℤ◌, ◌*ℤ◌, List, length, slice_index_or, int_le}
+use Rattle.std.specs.Prelude.{ℕ, zero, suc, ◌&&◌, Bool, if◌then◌else◌, ℤ, pos, ◌-ℤ◌, ◌*ℤ◌, List, length, slice_index_or, int_le}
 use Rattle.book_model.specs.declared.frac.Frac.{Frac}
-use Rattle.book_model.specs.declared.site.Site.{Site}
 use Rattle.book_model.specs.declared.site.Site.TheVariants.{Year, Round}
 use Rattle.book_model.specs.declared.tables.TheConstants.{CORRECTION_1987, CORRECTION_2006, HALF, MILLISECONDS_OF_DAY, SECOND}
 use Rattle.book_model.specs.Fractions.{fraction_of}

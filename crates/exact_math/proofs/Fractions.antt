@@ -1,10 +1,10 @@
 -- The order of fractions, and how the operations go with it.
-use Rattle.std.proofs.Common.{◌≡◌, ℕ, zero, suc, ◌+◌, ◌*◌, ◌<◌, ◌≤◌, refl, sym, ap, ◌∙◌, subst, arith, Bool, true, false, not, cond, ℤ, pos, negsuc, ◌+ℤ◌, ◌*ℤ◌, ◌-ℤ◌, ◌≤ℤ◌, List, [], ◌∷◌, ◌⊎◌, inl, inr, ⊎_elim}
+use Rattle.std.proofs.Common.{◌≡◌, ℕ, zero, suc, refl, sym, ap, subst, arith, Bool, true, false, not, cond, ℤ, pos, negsuc, ◌+ℤ◌, ◌*ℤ◌, ◌≤ℤ◌, [], ◌∷◌, ◌⊎◌, inl, inr}
 use lib.IntN.{neg_ℤ}
 use lib.Signed.{le_z}
 use Rattle.std.proofs.lemmas.Int.{ints}
-use Rattle.exact_math.proofs.Ring.{Poly, at, lit, ◌⊕◌, ◌⊖◌, ◌⊗◌, minus, ring, value, normal}
-use Rattle.exact_math.proofs.Bounds.{Claim, ◌≼◌, Cert, known, ◌⊞◌, ◌⊠◌, square, times as naturally, le_by, le_over, refute, pos_nonneg}
+use Rattle.exact_math.proofs.Ring.{at, lit, ◌⊕◌, ◌⊗◌, minus}
+use Rattle.exact_math.proofs.Bounds.{◌≼◌, known, ◌⊞◌, ◌⊠◌, times as naturally, le_by, le_over, refute}
 use Rattle.exact_math.specs.Fraction.{Fraction, den, ◌≤F◌, below_product, plus, opposite, times, is_at_most, smaller, larger, reciprocal, power, is_even}
 use Rattle.exact_math.specs.Interval.{zero_fraction}
 
