@@ -3,3 +3,6 @@ pub mod Cells
 pub mod Values
 pub mod Nesting
 pub mod Leads
+pub mod Nearness
+pub mod Evaluations
+pub mod Corrections

@@ -13,8 +13,9 @@ unfoldable pub int_power : ℤ → ℕ → ℤ
 int_power x zero = pos 1
 int_power x (suc k) = int_power x k *ℤ x
 
+-- what stands for a coefficient past the last
 abbrev pub no_fraction : Frac
-no_fraction = record { num = pos 0; den = 1 }
+no_fraction = record { num = pos 0; den = 0 }
 
 -- a0 + a1 x + a2 x^2 + .., to the term before that of index n
 unfoldable pub polynomial_to : List Frac → ℤ → ℕ → Expression

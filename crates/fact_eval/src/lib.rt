@@ -1,6 +1,7 @@
 //! Answers facts: the evaluator's contract, and an evaluator that computes enclosures.
 #![tactic(auto)]
 
+mod correction;
 mod evaluator;
 
 pub use evaluator::{Answer, Evaluator};
