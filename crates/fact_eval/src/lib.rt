@@ -3,5 +3,6 @@
 
 mod correction;
 mod evaluator;
+mod year;
 
 pub use evaluator::{Answer, Evaluator};
