@@ -13,8 +13,10 @@ mod coarse;
 mod enclosure;
 mod ends;
 mod rounding;
+mod steps;
 mod trail;
 
 pub use coarse::Coarse;
 pub use enclosure::Enclosure;
+pub use steps::floor_step;
 pub use trail::Trail;
