@@ -10,8 +10,10 @@
 #![tactic(auto)]
 
 mod coarse;
+mod comparing;
 mod enclosure;
 mod ends;
+mod operations;
 mod rounding;
 mod trail;
 
