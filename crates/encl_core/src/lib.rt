@@ -15,8 +15,10 @@ mod enclosure;
 mod ends;
 mod operations;
 mod rounding;
+mod steps;
 mod trail;
 
 pub use coarse::Coarse;
 pub use enclosure::Enclosure;
+pub use steps::floor_step;
 pub use trail::Trail;

@@ -25,7 +25,7 @@ impl Trail {
 
     /// Counts one more test, and gives its number.
     #[tactic(auto, unfolding(book_model::specs::Leading::next_turn))]
-    pub(crate) fn step(&mut self) -> u32
+    pub fn step(&mut self) -> u32
         ensures counted { self.new.count ≡ next_turn self.old.count }
         ensures number { result ≡ self.new.count }
     {
