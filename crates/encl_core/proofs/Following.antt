@@ -6,26 +6,8 @@ use Rattle.exact_math.proofs.Fractions.{le_refl}
 use Rattle.exact_math.proofs.Intervals.{within_refl, within_trans, sum_within, difference_within, negative_within, product_within, minimum_within, maximum_within, hull_within, widen_within, plus_proper, difference_proper, product_proper, quotient_proper, negative_proper, power_proper, minimum_proper, maximum_proper, hull_proper, clamp_proper, widen_proper}
 use Rattle.book_model.specs.Expressions.{Expression, World, value, argument, integer, constant, add, subtract, multiply, divide, negate, scale, power, minimum, maximum, hull, clamp, widen, exactly}
 use Rattle.book_model.specs.Bounds.{Bound, unbounded, Limits, Reach, IsNarrow, bound_of, integer_bound, constant_bound, sum_bound, scaled_bound, limits_of, limits_36}
+use Rattle.book_model.proofs.Values.{value_proper}
 use Rattle.book_model.specs.Relations.{Within, Narrow, Lies, Keeps}
-
--- the values of expressions are proper
-pub value_proper : (w : World) (x : Expression) → IsProper (value w x)
-unfolding value
-value_proper w (argument k) = w.proper k
-value_proper w (integer n) = le_refl (whole n)
-value_proper w (constant a) = le_refl a
-value_proper w (add x y) = plus_proper (value w x) (value w y) (value_proper w x) (value_proper w y)
-value_proper w (subtract x y) = difference_proper (value w x) (value w y) (value_proper w x) (value_proper w y)
-value_proper w (multiply x y) = product_proper (value w x) (value w y) (value_proper w x) (value_proper w y)
-value_proper w (divide x y) = quotient_proper (value w x) (value w y) (value_proper w x) (value_proper w y)
-value_proper w (negate x) = negative_proper (value w x) (value_proper w x)
-value_proper w (scale a x) = product_proper (value w x) (exactly a) (value_proper w x) (le_refl a)
-value_proper w (power x k) = power_proper k (value w x) (value_proper w x)
-value_proper w (minimum x y) = minimum_proper (value w x) (value w y) (value_proper w x) (value_proper w y)
-value_proper w (maximum x y) = maximum_proper (value w x) (value w y) (value_proper w x) (value_proper w y)
-value_proper w (hull x y) = hull_proper (value w x) (value w y) (value_proper w x) (value_proper w y)
-value_proper w (clamp x) = clamp_proper (value w x) (value_proper w x)
-value_proper w (widen a x) = widen_proper a (value w x) (value_proper w x)
 
 -- ---- what an enclosure holds
 pub within_integer : {E : Type 0} (shown : E → Interval) (w : World) (n : ℤ) (k : E) → 40 ≤ w.depth → between (whole n) (whole n) ⊆ shown k → Within shown w (integer n) k

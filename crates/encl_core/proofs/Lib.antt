@@ -4,3 +4,4 @@ pub mod Following
 pub mod Enclosing
 pub mod Scaling
 pub mod Testing
+pub mod Knowing

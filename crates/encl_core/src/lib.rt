@@ -20,5 +20,8 @@ mod trail;
 
 pub use coarse::Coarse;
 pub use enclosure::Enclosure;
-pub use steps::floor_step;
+pub use steps::{floor_step, less_step};
 pub use trail::Trail;
+
+#[cfg(test)]
+mod tests;
