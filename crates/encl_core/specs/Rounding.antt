@@ -1,5 +1,5 @@
 -- Rounded quotients, the lesser and the greater, and ends that fit in 64 bits, over plain numbers.
-use Rattle.std.specs.Prelude.{◌≡◌, ℕ, ◌-◌, ◌^◌, ℤ, pos, ◌+ℤ◌, ◌*ℤ◌, ◌≤ℤ◌, ◌<ℤ◌, FitsSigned}
+use Rattle.std.specs.Prelude.{◌≡◌, ℕ, ◌-◌, ◌^◌, ℤ, pos, ◌+ℤ◌, ◌*ℤ◌, ◌≤ℤ◌, ◌<ℤ◌, ◌+◌, unsigned_abs, FitsSigned}
 use Rattle.std.specs.Int.{w64}
 use Rattle.exact_math.specs.Fraction.{Fraction}
 use Rattle.exact_math.specs.Interval.{Interval, everything, between}
@@ -48,6 +48,10 @@ IsAboveEachBelow z p q r s = (m : ℤ) → m ≤ℤ p → m ≤ℤ q → m ≤�
 -- z is the least number that is at least each of four
 abbrev pub IsBelowEachAbove : ℤ → ℤ → ℤ → ℤ → ℤ → Type 0
 IsBelowEachAbove z p q r s = (m : ℤ) → p ≤ℤ m → q ≤ℤ m → r ≤ℤ m → s ≤ℤ m → z ≤ℤ m
+
+-- m counts 2^-36 in the size of a fraction, rounded up
+pub record IsMargin (f : Fraction) (m : ℤ) : Type 0 where
+  pub rounded : IsCeiling m (pos (unsigned_abs f.num) *ℤ pos (2 ^ 36)) (pos (f.below + 1))
 
 -- the interval that two ends show in 64 bits: just theirs where both fit, and else everything
 pub data Keeps64 (lo hi : ℤ) : Interval → Type 0 where

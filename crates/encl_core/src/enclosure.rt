@@ -52,10 +52,53 @@ pub trait Enclosure: Copy + Drop {
         ensures holds { (w : World) (x y : Expression) → Within shown w x self → Within shown w y other → Within shown w (add_of x y) result }
         ensures narrow { (r : Reach) (x y : Expression) → Narrow shown (limits_of BITS) r x self → Narrow shown (limits_of BITS) r y other → Narrow shown (limits_of BITS) r (add_of x y) result };
 
+    /// The differences of the members.
+    fn sub(self, other: Self) -> Self
+        ensures holds { (w : World) (x y : Expression) → Within shown w x self → Within shown w y other → Within shown w (subtract x y) result }
+        ensures narrow { (r : Reach) (x y : Expression) → Narrow shown (limits_of BITS) r x self → Narrow shown (limits_of BITS) r y other → Narrow shown (limits_of BITS) r (subtract x y) result };
+
+    /// The products of the members.
+    fn mul(self, other: Self) -> Self
+        ensures holds { (w : World) (x y : Expression) → Within shown w x self → Within shown w y other → Within shown w (multiply x y) result }
+        ensures narrow { (r : Reach) (x y : Expression) → Narrow shown (limits_of BITS) r x self → Narrow shown (limits_of BITS) r y other → Narrow shown (limits_of BITS) r (multiply x y) result };
+
+    /// The lesser of each two members.
+    fn min(self, other: Self) -> Self
+        ensures holds { (w : World) (x y : Expression) → Within shown w x self → Within shown w y other → Within shown w (minimum x y) result }
+        ensures narrow { (r : Reach) (x y : Expression) → Narrow shown (limits_of BITS) r x self → Narrow shown (limits_of BITS) r y other → Narrow shown (limits_of BITS) r (minimum x y) result };
+
+    /// The greater of each two members.
+    fn max(self, other: Self) -> Self
+        ensures holds { (w : World) (x y : Expression) → Within shown w x self → Within shown w y other → Within shown w (maximum x y) result }
+        ensures narrow { (r : Reach) (x y : Expression) → Narrow shown (limits_of BITS) r x self → Narrow shown (limits_of BITS) r y other → Narrow shown (limits_of BITS) r (maximum x y) result };
+
+    /// Every number between members of the two.
+    fn hull(self, other: Self) -> Self
+        ensures holds { (w : World) (x y : Expression) → Within shown w x self → Within shown w y other → Within shown w (hull_of x y) result }
+        ensures narrow { (r : Reach) (x y : Expression) → Narrow shown (limits_of BITS) r x self → Narrow shown (limits_of BITS) r y other → Narrow shown (limits_of BITS) r (hull_of x y) result };
+
+    /// The opposites of the members.
+    fn neg(self) -> Self
+        ensures holds { (w : World) (x : Expression) → Within shown w x self → Within shown w (negate x) result }
+        ensures narrow { (r : Reach) (x : Expression) → Narrow shown (limits_of BITS) r x self → Narrow shown (limits_of BITS) r (negate x) result };
+
+    /// The numbers that are no further from a member than the size of a fraction.
+    fn widen(self, by: Frac) -> Self
+        ensures holds { (w : World) (x : Expression) → Within shown w x self → Within shown w (widen_of (fraction_of by) x) result }
+        ensures narrow { (r : Reach) (x : Expression) → Narrow shown (limits_of BITS) r x self → Narrow shown (limits_of BITS) r (widen_of (fraction_of by) x) result };
+
     /// The products of the members with a fraction.
     fn mul_frac(self, by: Frac) -> Self
         ensures holds { (w : World) (x : Expression) → Within shown w x self → Within shown w (scale (fraction_of by) x) result }
         ensures narrow { (r : Reach) (x : Expression) → Narrow shown (limits_of BITS) r x self → Narrow shown (limits_of BITS) r (scale (fraction_of by) x) result };
+
+    /// Whether each member is below each of the other, where that is so of all or of none. The test counts in the
+    /// trail. `Undecided` comes exactly where it is so of some.
+    fn less(self, other: Self, site: Site, trail: &mut Trail) -> Result<bool, Undecided>
+        ensures decided { IfOk result (λ t. compare_at (shown self) (shown other) ≡ Some t) }
+        ensures undecided { IfErr result (λ u. IsOpenComparison (shown self) (shown other) u.lo u.hi) }
+        ensures named { IfErr result (λ u. (u.site ≡ site) × (u.turn ≡ next_turn trail.old.count)) }
+        ensures counted { trail.new.count ≡ next_turn trail.old.count };
 
     /// The greatest whole number that is not above the members, where they all have the same. The test counts
     /// in the trail. `Undecided` comes exactly where they don't, and for a number outside 64 bits.

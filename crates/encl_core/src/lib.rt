@@ -10,13 +10,18 @@
 #![tactic(auto)]
 
 mod coarse;
+mod comparing;
 mod enclosure;
 mod ends;
+mod operations;
 mod rounding;
 mod steps;
 mod trail;
 
 pub use coarse::Coarse;
 pub use enclosure::Enclosure;
-pub use steps::floor_step;
+pub use steps::{floor_step, less_step};
 pub use trail::Trail;
+
+#[cfg(test)]
+mod tests;

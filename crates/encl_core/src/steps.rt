@@ -22,3 +22,17 @@ pub fn floor_step<E: Enclosure>(x: E, site: Site, trail: &mut Trail) -> Result<i
         Err(at) => Err(Fail::Undecided(at)),
     }
 }
+
+/// Whether an enclosed number is below another, as a test at a site. It fails exactly where the enclosures leave the
+/// test open, and is never void.
+pub fn less_step<E: Enclosure>(x: E, y: E, site: Site, trail: &mut Trail) -> Result<bool, Fail>
+    ensures leads { (w : World) (e f : Expression) → Within E.shown w e x → Within E.shown w f y → Leads w Exact (compare site e f answer) trail.old.count trail.new.count result }
+    ensures decided { IfOk result (λ t. compare_at (E.shown x) (E.shown y) ≡ Some t) }
+    ensures open { IfErr result (IsOpenLess (E.shown x) (E.shown y) site) }
+    ensures counted { trail.new.count ≡ next_turn trail.old.count }
+{
+    match x.less(y, site, trail) {
+        Ok(is_less) => Ok(is_less),
+        Err(at) => Err(Fail::Undecided(at)),
+    }
+}

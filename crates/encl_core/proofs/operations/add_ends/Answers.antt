@@ -2,7 +2,7 @@ use Rattle.std.proofs.Common.{◌≡◌, rules, arith, SFits, ℤ, pos, ◌+ℤ�
 use Rattle.std.specs.Int.{w128}
 use Rattle.std.proofs.lemmas.Int.{ints, to_z-of_z}
 use Rattle.encl_core.proofs.Keeping.{sum_encloses, sum_narrow, sum_first, sum_second}
-use Rattle.encl_core.proofs.coarse.add_ends.Goals as goal
+use Rattle.encl_core.proofs.operations.add_ends.Goals as goal
 
 pub returns-clause-holds : goal.returns-clause-holds
 returns-clause-holds c =

@@ -1,7 +1,7 @@
 use Rattle.std.proofs.Common.{◌≡◌, rules, arith, SFits, w64, sym, ◌∙◌}
 use Rattle.std.proofs.lemmas.Int.{ints, to_z-of_z}
 use Rattle.encl_core.proofs.Testing.{cell_same, cell_apart, cell_nowhere}
-use Rattle.encl_core.proofs.coarse.cell_of_ends.Goals as goal
+use Rattle.encl_core.proofs.comparing.cell_of_ends.Goals as goal
 
 pub returns-in_err-e : goal.returns-in_err-e
 returns-in_err-e c = record { value = rw (c.from_residual.ensures, c.in_err-e.was) cell_nowhere }

@@ -4,7 +4,7 @@ use Rattle.std.proofs.lemmas.Int.{ints, to_z-of_z}
 use Rattle.book_model.specs.Fractions.{fraction_of}
 use Rattle.encl_core.proofs.Quotients.{outward_order, sorted_order}
 use Rattle.encl_core.proofs.Scaling.{AreScaled, scale_encloses, scaled_narrow, scaled_first, scaled_overflow}
-use Rattle.encl_core.proofs.coarse.scale_ends.Goals as goal
+use Rattle.encl_core.proofs.operations.scale_ends.Goals as goal
 
 pub returns-in_err-x-clause-narrow : goal.returns-in_err-x-clause-narrow
 returns-in_err-x-clause-narrow c = λ w a h. scaled_first w _ a _ (rw c.in_err-x.was at h)
