@@ -1,6 +1,6 @@
 //! What no clause says: one happy path of each operation, the ends that open tests name, and a second kind of
 //! enclosures, which knows nothing, at another scale.
-ghost use Rattle.exact_math.specs.Interval.{everything};
+ghost use Rattle.encl_core.specs.Shown.{shown_unknown};
 
 use crate::{Coarse, Enclosure, Trail};
 use book_model::{Frac, Site, Undecided};
@@ -9,9 +9,8 @@ use book_model::{Frac, Site, Undecided};
 #[derive(Clone, Copy, Debug, PartialEq)]
 struct Unknown;
 
-#[tactic(auto, using(crate::proofs::Knowing::knowing))]
 impl Enclosure for Unknown {
-    ghost shown = { λ _. everything };
+    ghost shown = { shown_unknown };
 
     ghost BITS = { 8 };
 
