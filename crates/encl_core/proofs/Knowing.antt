@@ -10,15 +10,14 @@ use Rattle.book_model.specs.Bounds.{Bound, unbounded, bounded, limited, Reach, I
 use Rattle.book_model.specs.Relations.{Within, Narrow, Lies, Keeps}
 use Rattle.book_model.specs.Programs.{Grid, cell_at, compare_at}
 use Rattle.book_model.specs.Leading.{AreNoBounds, no_bounds, IsOpenCell, between_cells, IsOpenComparison}
-use Rattle.encl_core.proofs.Following.{narrow_unbounded}
 
 -- everything holds every value
-pub within_any : {E : Type 0} (w : World) (x : Expression) (e : E) → 40 ≤ w.depth → Within {E = E} (λ _. everything) w x e
+pub within_any : {E : Type 0} (shown : E → Interval) (w : World) (x : Expression) (e : E) → shown e ≡ everything → 40 ≤ w.depth → Within shown w x e
 unfolding Lies
-within_any w x e d = record { deep = d; inside = within_everything _ }
+within_any shown w x e s d = record { deep = d; inside = rw s (within_everything _) }
 
-pub within_one : {E : Type 0} (w : World) (x z : Expression) (e r : E) → Within {E = E} (λ _. everything) w x e → Within {E = E} (λ _. everything) w z r
-within_one w x z e r h = within_any w z r h.deep
+pub within_one : {E : Type 0} (shown : E → Interval) (w : World) (x z : Expression) (e r : E) → shown r ≡ everything → Within shown w x e → Within shown w z r
+within_one shown w x z e r s h = within_any shown w z r s h.deep
 
 -- where no limit is kept, no width is promised
 integer_none : (w : ℕ) (n : ℤ) → IsNarrow w (integer_bound no_limits n) everything
@@ -40,29 +39,27 @@ unfolding scaled_bound IsNarrow
 scaled_none w f unbounded = tt
 scaled_none w f (bounded a c s k) = rw leb-suc-zero tt
 
-pub narrow_integer : {E : Type 0} (r : Reach) (n : ℤ) (e : E) → Narrow {E = E} (λ _. everything) (limits_of 8) r (integer n) e
+pub narrow_integer : {E : Type 0} (shown : E → Interval) (r : Reach) (n : ℤ) (e : E) → shown e ≡ everything → Narrow shown (limits_of 8) r (integer n) e
 unfolding Keeps bound_of limits_of
-narrow_integer r n e = record { kept = integer_none r.width n }
+narrow_integer shown r n e s = record { kept = rw s (integer_none r.width n) }
 
-pub narrow_constant : {E : Type 0} (r : Reach) (f : Fraction) (e : E) → Narrow {E = E} (λ _. everything) (limits_of 8) r (constant f) e
+pub narrow_constant : {E : Type 0} (shown : E → Interval) (r : Reach) (f : Fraction) (e : E) → shown e ≡ everything → Narrow shown (limits_of 8) r (constant f) e
 unfolding Keeps bound_of limits_of
-narrow_constant r f e = record { kept = constant_none r.width f }
+narrow_constant shown r f e s = record { kept = rw s (constant_none r.width f) }
 
-pub narrow_add : {E : Type 0} (r : Reach) (x y : Expression) (e : E) → Narrow {E = E} (λ _. everything) (limits_of 8) r (add x y) e
+pub narrow_add : {E : Type 0} (shown : E → Interval) (r : Reach) (x y : Expression) (e : E) → shown e ≡ everything → Narrow shown (limits_of 8) r (add x y) e
 unfolding Keeps bound_of limits_of
-narrow_add r x y e = record { kept = sum_none r.width _ _ }
+narrow_add shown r x y e s = record { kept = rw s (sum_none r.width _ _) }
 
-pub narrow_scale : {E : Type 0} (r : Reach) (f : Fraction) (x : Expression) (e : E) → Narrow {E = E} (λ _. everything) (limits_of 8) r (scale f x) e
+pub narrow_scale : {E : Type 0} (shown : E → Interval) (r : Reach) (f : Fraction) (x : Expression) (e : E) → shown e ≡ everything → Narrow shown (limits_of 8) r (scale f x) e
 unfolding Keeps bound_of limits_of
-narrow_scale r f x e = record { kept = scaled_none r.width f _ }
+narrow_scale shown r f x e s = record { kept = rw s (scaled_none r.width f _) }
 
 -- tests on everything are open, without bounds
-pub cell_open : (g : Grid) (lo hi : ℤ) → lo ≡ negsuc (2 ^ 127 - 1) → hi ≡ pos (2 ^ 127 - 1) → IsOpenCell g everything lo hi
+pub cell_open : (g : Grid) (i : Interval) (lo hi : ℤ) → i ≡ everything → lo ≡ negsuc (2 ^ 127 - 1) → hi ≡ pos (2 ^ 127 - 1) → IsOpenCell g i lo hi
 unfolding cell_at
-cell_open g lo hi e f = between_cells refl (no_bounds (record { least = e; greatest = f }))
+cell_open g i lo hi s e f = rw s (between_cells refl (no_bounds (record { least = e; greatest = f })))
 
-pub compare_open : (lo hi : ℤ) → lo ≡ negsuc (2 ^ 127 - 1) → hi ≡ pos (2 ^ 127 - 1) → IsOpenComparison everything everything lo hi
+pub compare_open : (i j : Interval) (lo hi : ℤ) → i ≡ everything → j ≡ everything → lo ≡ negsuc (2 ^ 127 - 1) → hi ≡ pos (2 ^ 127 - 1) → IsOpenComparison i j lo hi
 unfolding compare_at hull
-compare_open lo hi e f = record { open_there = refl; ends = no_bounds (record { least = e; greatest = f }) }
-
-pub ruleset knowing = (within_any, within_one, narrow_integer, narrow_constant, narrow_add, narrow_scale, cell_open, compare_open)
+compare_open i j lo hi s t e f = rw (s, t) (record { open_there = refl; ends = no_bounds (record { least = e; greatest = f }) })

@@ -247,8 +247,11 @@ scaled_kept A N s k w Z S M f x y m g lo hi e o hx hy hv t hz hs hk =
       ordered = outward_order m g (pos (suc f.below)) lo hi (sorted_order m g _ _ r) t.down t.up (omega (arith, ints));
       above = omega (arith, ints, fa);
       below = omega (arith, ints, ga);
-      close = omega (arith, ints,
-        close_z (pos N) (pos (suc f.below)) (pos s) (pos k) (pos w) (pos S) (pos M) m g lo hi (y -ℤ x) G hv (omega (arith, ints, hs)) (omega (arith, ints, hk)) fl cl (pos_nonneg N) (pos_nonneg w) one);
+      close = omega (
+        arith,
+        ints,
+        close_z (pos N) (pos (suc f.below)) (pos s) (pos k) (pos w) (pos S) (pos M) m g lo hi (y -ℤ x) G hv (omega (arith, ints, hs)) (omega (arith, ints, hk)) fl cl (pos_nonneg N) (pos_nonneg w) one,
+      );
     }
 
 around_size : (z : ℕ) → z < 2 ^ 58 → range_size (neg_ℤ (pos z)) (pos z) < 2 ^ 58

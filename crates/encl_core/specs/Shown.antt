@@ -13,3 +13,7 @@ shown_ends (Some e) = between (at_36 e.lo) (at_36 e.hi)
 -- the interval that an enclosure shows
 abbrev pub shown_coarse : Coarse → Interval
 shown_coarse x = shown_ends x.ends
+
+-- the interval that an enclosure shows which knows nothing
+abbrev pub shown_unknown : {E : Type 0} → E → Interval
+shown_unknown e = everything

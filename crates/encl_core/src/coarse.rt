@@ -3,7 +3,10 @@ ghost use Rattle.encl_core.specs.Shown.{shown_coarse};
 
 use crate::comparing::{cell_of_ends, open_at, order_of_ends};
 use crate::ends::Ends;
-use crate::operations::{add_ends, frac_ends, hull_ends, int_ends, max_ends, min_ends, mul_ends, neg_ends, scale_ends, sub_ends, widen_ends};
+use crate::operations::{
+    add_ends, frac_ends, hull_ends, int_ends, max_ends, min_ends, mul_ends, neg_ends, scale_ends,
+    sub_ends, widen_ends,
+};
 use crate::{Enclosure, Trail};
 use book_model::{Frac, Site, Undecided};
 

@@ -21,7 +21,11 @@ pub(crate) fn cell_of_ends(ends: Option<Ends>) -> Option<i64>
 {
     let e = ends?;
     let cell = floor_of(e.lo);
-    if cell == floor_of(e.hi) { Some(cell) } else { None }
+    if cell == floor_of(e.hi) {
+        Some(cell)
+    } else {
+        None
+    }
 }
 
 /// An open test at these ends, which count 2⁻⁵⁶ in it.

@@ -8,7 +8,9 @@ ghost use Rattle.encl_core.specs.Shown.{shown_ends};
 ghost use Rattle.encl_core.specs.Rounding.{IsBelowFour, IsAboveFour, IsAboveEachBelow, IsBelowEachAbove, IsMargin};
 
 use crate::ends::Ends;
-use crate::rounding::{ceil_36, ceil_div, denominator, ends_of, floor_36, floor_div, greatest_of, least_of, sorted};
+use crate::rounding::{
+    ceil_36, ceil_div, denominator, ends_of, floor_36, floor_div, greatest_of, least_of, sorted,
+};
 use book_model::Frac;
 
 /// The ends of a whole number.
@@ -37,7 +39,10 @@ pub(crate) fn add_ends(x: Option<Ends>, y: Option<Ends>) -> Option<Ends>
 {
     let x = x?;
     let y = y?;
-    ends_of(i128::from(x.lo) + i128::from(y.lo), i128::from(x.hi) + i128::from(y.hi))
+    ends_of(
+        i128::from(x.lo) + i128::from(y.lo),
+        i128::from(x.hi) + i128::from(y.hi),
+    )
 }
 
 /// The ends around the products with a fraction.
@@ -60,7 +65,10 @@ pub(crate) fn sub_ends(x: Option<Ends>, y: Option<Ends>) -> Option<Ends>
 {
     let x = x?;
     let y = y?;
-    ends_of(i128::from(x.lo) - i128::from(y.hi), i128::from(x.hi) - i128::from(y.lo))
+    ends_of(
+        i128::from(x.lo) - i128::from(y.hi),
+        i128::from(x.hi) - i128::from(y.lo),
+    )
 }
 
 /// The opposites of the ends, in the other order.
@@ -137,10 +145,9 @@ pub(crate) fn hull_ends(x: Option<Ends>, y: Option<Ends>) -> Option<Ends>
 {
     let x = x?;
     let y = y?;
-    Some(Ends {
-        lo: x.lo.min(y.lo),
-        hi: x.hi.max(y.hi),
-    })
+    let lo = x.lo.min(y.lo);
+    let hi = x.hi.max(y.hi);
+    Some(Ends { lo, hi })
 }
 
 /// The size of a fraction, which counts 2⁻³⁶, rounded up; `None` only for a numerator of 2⁹⁰ or more in size.

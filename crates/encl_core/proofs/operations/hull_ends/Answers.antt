@@ -15,11 +15,11 @@ returns-clause-holds c =
     let fb : SFits w64 c.in_ok-x.x.hi = search rules in
     let fc : SFits w64 c.in_ok-y.y.lo = search rules in
     let fd : SFits w64 c.in_ok-y.y.hi = search rules in
-    let fl : SFits w64 c.min.result = search rules in
-    let l = simp to_z-of_z at c.min.ensures.value in
-    let fu : SFits w64 c.max.result = search rules in
-    let u = simp to_z-of_z at c.max.ensures.value in
-    rw (c.in_ok-x.was, c.in_ok-y.was) (simp to_z-of_z (hull_is c.in_ok-x.x.lo c.in_ok-x.x.hi c.in_ok-y.y.lo c.in_ok-y.y.hi c.min.result c.max.result l u).there)
+    let fl : SFits w64 c.min-lo.result = search rules in
+    let l = simp to_z-of_z at c.min-lo.ensures.value in
+    let fu : SFits w64 c.max-hi.result = search rules in
+    let u = simp to_z-of_z at c.max-hi.ensures.value in
+    rw (c.in_ok-x.was, c.in_ok-y.was) (simp to_z-of_z (hull_is c.in_ok-x.x.lo c.in_ok-x.x.hi c.in_ok-y.y.lo c.in_ok-y.y.hi c.min-lo.result c.max-hi.result l u).there)
 
 pub returns-clause-tight : goal.returns-clause-tight
 returns-clause-tight c =
@@ -27,8 +27,8 @@ returns-clause-tight c =
     let fb : SFits w64 c.in_ok-x.x.hi = search rules in
     let fc : SFits w64 c.in_ok-y.y.lo = search rules in
     let fd : SFits w64 c.in_ok-y.y.hi = search rules in
-    let fl : SFits w64 c.min.result = search rules in
-    let l = simp to_z-of_z at c.min.ensures.value in
-    let fu : SFits w64 c.max.result = search rules in
-    let u = simp to_z-of_z at c.max.ensures.value in
-    rw (c.in_ok-x.was, c.in_ok-y.was) (simp to_z-of_z (hull_is c.in_ok-x.x.lo c.in_ok-x.x.hi c.in_ok-y.y.lo c.in_ok-y.y.hi c.min.result c.max.result l u).back)
+    let fl : SFits w64 c.min-lo.result = search rules in
+    let l = simp to_z-of_z at c.min-lo.ensures.value in
+    let fu : SFits w64 c.max-hi.result = search rules in
+    let u = simp to_z-of_z at c.max-hi.ensures.value in
+    rw (c.in_ok-x.was, c.in_ok-y.was) (simp to_z-of_z (hull_is c.in_ok-x.x.lo c.in_ok-x.x.hi c.in_ok-y.y.lo c.in_ok-y.y.hi c.min-lo.result c.max-hi.result l u).back)

@@ -39,7 +39,7 @@ ends_of-requires c =
     simp to_z-of_z (outward_order _ _ _ _ _ (sorted_order _ _ _ _ c.sorted-least.ensures) i j c.denominator-below.ensures.positive)
 
 scaled : (c : goal.After-ends_of) → AreScaled (fraction_of c.args.by) c.in_ok-x.x.lo c.in_ok-x.x.hi c.num-factor.result c.in_ok-p.p c.in_ok-q.q c.sorted-least.result.0 c.sorted-least.result.1 c.denominator-below.result c.floor_div.result c.ceil_div.result
-scaled c = 
+scaled c =
     let fn : SFits w128 c.num-factor.result = search rules in
     let fp : SFits w128 c.in_ok-p.p = search rules in
     let fq : SFits w128 c.in_ok-q.q = search rules in
