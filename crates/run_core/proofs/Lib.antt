@@ -1,2 +1,3 @@
 pub mod Flow
+pub mod LineLemmas
 pub mod MemoryLemmas

@@ -3,12 +3,20 @@
 //! does all the work and says how it ended by a `Status`.
 #![tactic(auto)]
 
+mod buffer;
 mod gate;
+mod lines;
 mod memory;
+mod outcome;
 mod standard;
+mod status;
 mod stream;
 
+pub use buffer::WriteStop;
 pub use gate::{Gate, OpenGate};
+pub use lines::split_lines;
 pub use memory::{MemorySink, MemorySource};
+pub use outcome::Outcome;
 pub use standard::{StdSink, StdSource};
+pub use status::Status;
 pub use stream::{Failed, ReadStop, Sink, Source, read_all, write_all};
