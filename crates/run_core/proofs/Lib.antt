@@ -1,3 +1,4 @@
 pub mod Flow
 pub mod LineLemmas
 pub mod MemoryLemmas
+pub mod FactLemmas

@@ -6,14 +6,18 @@
 mod buffer;
 mod gate;
 mod lines;
+mod line;
 mod memory;
+mod numbering;
 mod outcome;
+mod parts;
 mod standard;
 mod status;
 mod stream;
 
 pub use buffer::WriteStop;
 pub use gate::{Gate, OpenGate};
+pub use line::{Words, read_line, request_day, three_words};
 pub use lines::split_lines;
 pub use memory::{MemorySink, MemorySource};
 pub use outcome::Outcome;
