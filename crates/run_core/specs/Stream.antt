@@ -24,8 +24,9 @@ pub record Wrote (old new : Option (List ℕ)) (bytes rest : List ℕ) : Type 0 
   pub whole : bytes ≡ front ++ rest
 
 -- a front of these bytes was appended
-abbrev pub AppendsFront : Option (List ℕ) → Option (List ℕ) → List ℕ → Type 0
-AppendsFront old new bytes = (rest : List ℕ) × Wrote old new bytes rest
+pub record AppendsFront (old new : Option (List ℕ)) (bytes : List ℕ) : Type 0 where
+  pub rest : List ℕ
+  pub wrote : Wrote old new bytes rest
 
 -- whether the number of a call is listed
 abbrev pub is_listed : List ℕ → ℕ → Bool

@@ -14,6 +14,7 @@ mod parts;
 mod standard;
 mod status;
 mod stream;
+mod text;
 
 pub use buffer::WriteStop;
 pub use gate::{Gate, OpenGate};
@@ -24,3 +25,4 @@ pub use outcome::Outcome;
 pub use standard::{StdSink, StdSource};
 pub use status::Status;
 pub use stream::{Failed, ReadStop, Sink, Source, read_all, write_all};
+pub use text::write_text;

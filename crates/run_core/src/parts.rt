@@ -11,7 +11,7 @@ use crate::buffer::{WriteStop, put_parts};
 use crate::line::three_words;
 use crate::stream::Sink;
 use book_model::{Fact, Resolved, Rule, Site, ToWord, Undecided};
-use itoa::Buffer;
+use itoa::{Buffer, Integer};
 
 /// The number of a rule, from 1.
 fn number_of_rule(rule: Rule) -> u8
@@ -34,6 +34,13 @@ fn printed_number(resolved: Resolved) -> i32
     }
 }
 
+/// The decimal digits of a number, after a minus sign where it is below 0.
+fn digits<'a, I: Integer>(buffer: &'a mut Buffer, number: I) -> &'a [u8]
+    ensures { result.now ≡ I.text number }
+{
+    buffer.format(number).as_bytes()
+}
+
 /// Puts the line of a fact with its number and its value.
 #[tactic(auto, unfolding(book_model::specs::Text::fact_text))]
 pub(crate) fn put_fact<K: Sink>(
@@ -51,11 +58,11 @@ pub(crate) fn put_fact<K: Sink>(
     let mut number_buffer = Buffer::new();
     let mut day_buffer = Buffer::new();
     let mut value_buffer = Buffer::new();
-    let number = number_buffer.format(number).as_bytes();
+    let number = digits(&mut number_buffer, number);
     let kind = fact.kind().name().as_bytes();
     let place = fact.place().name().as_bytes();
-    let day = day_buffer.format(fact.day()).as_bytes();
-    let value = value_buffer.format(value).as_bytes();
+    let day = digits(&mut day_buffer, fact.day());
+    let value = digits(&mut value_buffer, value);
     put_parts(
         sink,
         pending,
@@ -80,8 +87,8 @@ pub(crate) fn put_refused<K: Sink>(
 {
     let mut number_buffer = Buffer::new();
     let mut rule_buffer = Buffer::new();
-    let number = number_buffer.format(number).as_bytes();
-    let rule = rule_buffer.format(number_of_rule(rule)).as_bytes();
+    let number = digits(&mut number_buffer, number);
+    let rule = digits(&mut rule_buffer, number_of_rule(rule));
     put_parts(
         sink,
         pending,
@@ -104,8 +111,8 @@ pub(crate) fn put_end<K: Sink>(
 {
     let mut lines_buffer = Buffer::new();
     let mut facts_buffer = Buffer::new();
-    let lines = lines_buffer.format(lines).as_bytes();
-    let facts = facts_buffer.format(facts).as_bytes();
+    let lines = digits(&mut lines_buffer, lines);
+    let facts = digits(&mut facts_buffer, facts);
     put_parts(
         sink,
         pending,
@@ -132,14 +139,14 @@ pub(crate) fn put_undecided<K: Sink>(
     let mut low_buffer = Buffer::new();
     let mut high_buffer = Buffer::new();
     let mut day_buffer = Buffer::new();
-    let number = number_buffer.format(number).as_bytes();
+    let number = digits(&mut number_buffer, number);
     let site = at.site.name().as_bytes();
-    let turn = turn_buffer.format(at.turn).as_bytes();
-    let low = low_buffer.format(at.lo).as_bytes();
-    let high = high_buffer.format(at.hi).as_bytes();
+    let turn = digits(&mut turn_buffer, at.turn);
+    let low = digits(&mut low_buffer, at.lo);
+    let high = digits(&mut high_buffer, at.hi);
     let kind = fact.kind().name().as_bytes();
     let place = fact.place().name().as_bytes();
-    let day = day_buffer.format(fact.day()).as_bytes();
+    let day = digits(&mut day_buffer, fact.day());
     put_parts(
         sink,
         pending,
@@ -166,11 +173,11 @@ pub(crate) fn put_void<K: Sink>(
 {
     let mut number_buffer = Buffer::new();
     let mut day_buffer = Buffer::new();
-    let number = number_buffer.format(number).as_bytes();
+    let number = digits(&mut number_buffer, number);
     let site = site.name().as_bytes();
     let kind = fact.kind().name().as_bytes();
     let place = fact.place().name().as_bytes();
-    let day = day_buffer.format(fact.day()).as_bytes();
+    let day = digits(&mut day_buffer, fact.day());
     put_parts(
         sink,
         pending,
@@ -202,9 +209,9 @@ pub(crate) fn put_found<K: Sink>(
     let mut number_buffer = Buffer::new();
     let mut result_buffer = Buffer::new();
     let mut fact_buffer = Buffer::new();
-    let number = number_buffer.format(number).as_bytes();
-    let printed = result_buffer.format(printed_number(resolved)).as_bytes();
-    let fact = fact_buffer.format(fact).as_bytes();
+    let number = digits(&mut number_buffer, number);
+    let printed = digits(&mut result_buffer, printed_number(resolved));
+    let fact = digits(&mut fact_buffer, fact);
     put_parts(
         sink,
         pending,
