@@ -1,0 +1,4 @@
+pub mod DateText
+pub mod DateDays
+pub mod LineWords
+pub mod Requests
