@@ -1,5 +1,5 @@
 -- When an answer is right for a fact.
-use Rattle.std.specs.Prelude.{ℤ, pos, negsuc, ◌≤ℤ◌}
+use Rattle.std.specs.Prelude.{pos, negsuc, ◌≤ℤ◌}
 use Rattle.book_model.specs.declared.fact.Fact.{Fact}
 use Rattle.book_model.specs.Facts.{IsTrueWith, IsNear, IsVoidAt}
 use Rattle.fact_eval.specs.declared.evaluator.Answer.{Answer}

@@ -2,5 +2,6 @@
 #![tactic(auto)]
 
 mod evaluator;
+mod year;
 
 pub use evaluator::{Answer, Evaluator};

@@ -4,3 +4,7 @@ pub mod MemoryLemmas
 pub mod FactLemmas
 pub mod TextLemmas
 pub mod RightLemmas
+pub mod DateText
+pub mod DateDays
+pub mod LineWords
+pub mod Requests

@@ -1,3 +1,4 @@
 pub mod Stream
 pub mod Outcomes
 pub mod Run
+pub mod Days

@@ -4,9 +4,10 @@
 #![tactic(auto)]
 
 mod buffer;
+mod day;
 mod gate;
-mod lines;
 mod line;
+mod lines;
 mod memory;
 mod numbering;
 mod outcome;
@@ -17,8 +18,9 @@ mod stream;
 mod text;
 
 pub use buffer::WriteStop;
+pub use day::request_day;
 pub use gate::{Gate, OpenGate};
-pub use line::{Words, read_line, request_day, three_words};
+pub use line::{Words, read_line, three_words};
 pub use lines::split_lines;
 pub use memory::{MemorySink, MemorySource};
 pub use outcome::Outcome;
