@@ -8,3 +8,7 @@ pub mod DateText
 pub mod DateDays
 pub mod LineWords
 pub mod Requests
+pub mod AnswerLemmas
+pub mod WordLemmas
+pub mod DecidedLemmas
+pub mod PrintedLemmas

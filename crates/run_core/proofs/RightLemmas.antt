@@ -1,6 +1,7 @@
 -- Outcomes that are right for their lines.
-use Rattle.std.proofs.Common.{◌≡◌, ℕ, zero, suc, ◌+◌, ◌<◌, ◌≤◌, Bool, true, false, cond, ℤ, List, [], ◌∷◌, length, get_or, map, refl, arith}
+use Rattle.std.proofs.Common.{◌≡◌, ℕ, zero, suc, ◌+◌, ◌<◌, ◌≤◌, Bool, true, false, cond, ℤ, List, [], ◌∷◌, length, get_or, map, refl, ap, ◌&&◌, arith}
 use Rattle.std.specs.Prelude.{Result, Ok, Err, if◌then◌else◌}
+use Rattle.std.specs.List.{list_all}
 use Rattle.book_model.specs.declared.fact.Fact.{Fact}
 use Rattle.book_model.specs.declared.request.Request.{Request}
 use Rattle.book_model.specs.declared.request.Resolved.{Resolved}
@@ -8,7 +9,7 @@ use Rattle.book_model.specs.declared.request.Rule.{Rule}
 use Rattle.book_model.specs.declared.request.Rule.TheVariants.{Syntax}
 use Rattle.book_model.specs.Lines.{words_of, is_plain}
 use Rattle.book_model.specs.Requests.{asked_by, request_of}
-use Rattle.book_model.specs.Outcomes.{LineOutcome, IsRightFor, AreRight, HasResult}
+use Rattle.book_model.specs.Outcomes.{LineOutcome, IsRightFor, AreRight, HasResult, is_result}
 use Rattle.run_core.specs.declared.outcome.Outcome.{Outcome}
 use Rattle.run_core.specs.declared.outcome.Outcome.TheVariants.{Found}
 use Rattle.run_core.specs.Outcomes.{line_outcome}
@@ -48,3 +49,8 @@ three_words_asked line r h = three_where _ (words_of line) r h
 -- a line whose outcome is a result has three words
 pub three_words_found : (line : List ℕ) (o : Outcome) (x : Resolved) (f : Fact) (v : ℤ) → o ≡ Found x f v → IsRightFor line (line_outcome o) → length (words_of line) ≡ 3
 three_words_found line o x f v e h = let k : HasResult line x ((f, v) ∷ []) = rw e at h in three_words_asked line k.request k.asked
+
+-- all are results, by either list of outcomes
+pub all_results : (os : List Outcome) → list_all (λ o. is_result (line_outcome o)) os ≡ list_all is_result (map line_outcome os)
+all_results [] = refl
+all_results (o ∷ os) = ap (λ t. is_result (line_outcome o) && t) (all_results os)

@@ -1,4 +1,4 @@
-use Rattle.std.proofs.Common.{◌∙◌, sym}
+use Rattle.std.proofs.Common.{rules, ◌∙◌, sym}
 use Rattle.run_core.proofs.Requests.{asked_unreadable, asked_other, asked_three}
 use Rattle.run_core.proofs.line.read_line.Goals as goal
 
