@@ -1,5 +1,5 @@
 -- A date that jiff has is one of the definitions, with the same day number.
-use Rattle.std.specs.Prelude.{◌<◌, List, [], ◌∷◌, ◌≡◌, ◌↔◌, ℕ, ◌+◌, ◌≤◌, true, ℤ, pos, ◌+ℤ◌, refl, Option, Some, None, Result, Ok, Err, IsSome, IfSome, IfOk, IsOk, IsTrue}
+use Rattle.std.specs.Prelude.{◌<◌, List, [], ◌∷◌, ◌≡◌, ◌↔◌, ℕ, ◌≤◌, ℤ, pos, ◌+ℤ◌, refl, Some, Result, Ok, Err, IsSome, IfSome, IfOk, IsOk, IsTrue}
 use Rattle.std.proofs.Common.{arith, SFits, to_z, of_z, to_z-of_z}
 use Rattle.std.specs.Int.{Width}
 use Rattle.std.specs.Result.{OkIff, result_ok}

@@ -1,12 +1,12 @@
 -- The parts of a date's text, and the numbers that digits spell.
-use Rattle.std.proofs.Common.{◌≡◌, ◌∙◌, ℕ, zero, suc, ◌+◌, ◌-◌, ◌*◌, ◌^◌, ◌<◌, ◌≤◌, Bool, true, false, cond, List, [], ◌∷◌, length, take, drop, ap, refl, sym, arith, nat_lt}
+use Rattle.std.proofs.Common.{◌≡◌, ℕ, zero, suc, ◌+◌, ◌-◌, ◌^◌, ◌<◌, ◌≤◌, Bool, true, false, cond, List, [], ◌∷◌, length, take, drop, ap, refl, arith, nat_lt}
 use native.Mathlib.Numerals.{unary_clauses}
 use borrow.Author.Tests.{ltb-true, ltb-false}
-use Rattle.std.specs.Prelude.{◌==◌, Some, None, Option, not}
+use Rattle.std.specs.Prelude.{◌==◌, Some, None, not}
 use Rattle.std.specs.List.{position_or_len, position}
 use Rattle.std.proofs.lemmas.List.{take_rest}
 use Rattle.std.proofs.Math.Nat.{pow-suc}
-use Rattle.book_model.specs.Lines.{parts_of, onto_first, value_from}
+use Rattle.book_model.specs.Lines.{parts_of, onto_first}
 
 -- where the first dash stands, or the length
 abbrev pub to_dash : List ℕ → ℕ

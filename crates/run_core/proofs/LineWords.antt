@@ -1,10 +1,10 @@
 -- The words of a line, cut off one by one.
-use Rattle.std.proofs.Common.{◌≡◌, ◌∙◌, ℕ, zero, suc, ◌+◌, ◌-◌, ◌<◌, ◌≤◌, Bool, true, false, cond, List, [], ◌∷◌, length, take, drop, get_or, ap, refl, sym, arith}
-use Rattle.std.specs.Prelude.{Some, None, Option, not}
+use Rattle.std.proofs.Common.{◌≡◌, ◌∙◌, ℕ, suc, ◌+◌, Bool, true, false, List, [], ◌∷◌, length, take, drop, get_or, ap, refl, arith}
+use Rattle.std.specs.Prelude.{Some, None, not}
 use Rattle.std.specs.List.{position_or_len, position}
-use Rattle.std.proofs.lemmas.List.{take_rest, drop_more, drop_all}
+use Rattle.std.proofs.lemmas.List.{drop_more, drop_all}
 use Rattle.std.proofs.lemmas.List.Sums.{passes_at_first, prefix_len-le-length}
-use Rattle.book_model.specs.Lines.{is_blank, words_of, onto_word, onto_first}
+use Rattle.book_model.specs.Lines.{is_blank, words_of, onto_first}
 use Rattle.run_core.proofs.DateText.{found_at, not_found}
 
 -- how many blanks stand in front

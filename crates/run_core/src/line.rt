@@ -13,6 +13,7 @@ const LONGEST_LINE: usize = 200;
 
 /// 1 January 1802 and 31 December 2048 (R.D.), the first and the last day that a line may name.
 const FIRST_DAY: i64 = 657_802;
+
 const LAST_DAY: i64 = 748_017;
 
 /// The three words of a line.

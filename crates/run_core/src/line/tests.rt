@@ -53,7 +53,11 @@ fn words_are_known(rt: HostRuntime) {
         "Gregorian 2024-1-1 dt",
         "gregoria 2024-13-1 dt",
     ] {
-        assert_eq!(rt; read_line(line.as_bytes()), Err(Rule::Calendar), "at {line:?}");
+        assert_eq!(rt;
+            read_line(line.as_bytes()),
+            Err(Rule::Calendar),
+            "at {line:?}"
+        );
     }
 }
 

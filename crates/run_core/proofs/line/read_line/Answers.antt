@@ -9,4 +9,4 @@ pub returns-in-Some-clause-request : goal.returns-in-Some-clause-request
 returns-in-Some-clause-request c = c.asked.ensures.asked ∙ asked_three c.args.bytes.now _ _ _ (sym c.if-not-is_readable.ensures.readable) c.in-Some.ensures.words
 
 pub returns-in-None-clause-request : goal.returns-in-None-clause-request
-returns-in-None-clause-request c = asked_other c.args.bytes.now (sym c.if-not-is_readable.ensures.readable) (λ e. search (rules, c.in-None.ensures.three.1 e))
+returns-in-None-clause-request c = asked_other c.args.bytes.now (sym c.if-not-is_readable.ensures.readable) (λ e. cc (c.in-None.ensures.three.1 e))
