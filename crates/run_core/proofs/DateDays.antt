@@ -1,5 +1,5 @@
 -- A date that jiff has is one of the definitions, with the same day number.
-use Rattle.std.specs.Prelude.{◌<◌, List, [], ◌∷◌, ◌≡◌, ◌↔◌, ℕ, ◌+◌, ◌≤◌, true, ℤ, pos, ◌+ℤ◌, refl, Option, Some, None, Result, Ok, Err, IsSome, IfSome, IfOk, IsOk, IsTrue}
+use Rattle.std.specs.Prelude.{◌<◌, List, [], ◌∷◌, ◌≡◌, ◌↔◌, ℕ, ◌≤◌, ℤ, pos, ◌+ℤ◌, refl, Some, Result, Ok, Err, IsSome, IfSome, IfOk, IsOk, IsTrue}
 use Rattle.std.proofs.Common.{arith, SFits, to_z, of_z, to_z-of_z}
 use Rattle.std.specs.Int.{Width}
 use Rattle.std.specs.Result.{OkIff, result_ok}
@@ -17,13 +17,16 @@ pub record IsConverted (P : Type 0) (z : ℤ) (n : ℕ) : Type 0 where
   pub fits : P
   pub same : z ≡ pos n
 
+-- what a conversion that succeeds gives
 pub converted : {E P : Type 0} (r : Result ℤ E) (z : ℤ) (n : ℕ) → OkIff r P (pos n) → Some z ≡ result_ok r → IsConverted P z n
 converted (Ok x) z n h e = record { fits = h.0; same = cc }
 converted (Err x) z n h e = cc
 
+-- such a number comes through its bits as it was
 pub passed : (w : Width) (z : ℤ) (n : ℕ) → IsConverted (SFits w (pos n)) z n → to_z w (of_z w z) ≡ pos n
 passed w z n h = rw h.same (to_z-of_z h.fits)
 
+-- turning an error into nothing keeps when there is a value
 ok_exactly : {T E P : Type 0} (r : Result T E) → IsOk r ↔ P → IsSome (result_ok r) ↔ P
 ok_exactly (Ok x) h = h
 ok_exactly (Err e) h = h
@@ -39,12 +42,13 @@ pub found_day : {E : Type 0} (r : Result Date E) (y m d : ℕ) (year month day :
 found_day (Ok date) y m d year month day same_year same_month same_day h = day_agrees date y m d (rw (same_year, same_month, same_day) at h)
 found_day (Err e) y m d year month day same_year same_month same_day h = tt
 
--- the numbers of a date are small
+-- numbers within those of a date
 pub record AreSmall (y m d : ℕ) : Type 0 where
   pub year : y < 10000
   pub month : m < 13
   pub day : d < 32
 
+-- the numbers of a date are small
 pub date_is_small : (y m d : ℕ) → IsTrue (is_date y m d) → AreSmall y m d
 date_is_small y m d h =
     let e = (date_is y m d h).0 in

@@ -1,17 +1,18 @@
 -- The parts of a date's text, and the numbers that digits spell.
-use Rattle.std.proofs.Common.{◌≡◌, ◌∙◌, ℕ, zero, suc, ◌+◌, ◌-◌, ◌*◌, ◌^◌, ◌<◌, ◌≤◌, Bool, true, false, cond, List, [], ◌∷◌, length, take, drop, ap, refl, sym, arith, nat_lt}
+use Rattle.std.proofs.Common.{◌≡◌, ℕ, zero, suc, ◌+◌, ◌-◌, ◌^◌, ◌<◌, ◌≤◌, Bool, true, false, cond, List, [], ◌∷◌, length, take, drop, ap, refl, arith, nat_lt}
 use native.Mathlib.Numerals.{unary_clauses}
 use borrow.Author.Tests.{ltb-true, ltb-false}
-use Rattle.std.specs.Prelude.{◌==◌, Some, None, Option, not}
+use Rattle.std.specs.Prelude.{◌==◌, Some, None, not}
 use Rattle.std.specs.List.{position_or_len, position}
 use Rattle.std.proofs.lemmas.List.{take_rest}
 use Rattle.std.proofs.Math.Nat.{pow-suc}
-use Rattle.book_model.specs.Lines.{parts_of, onto_first, value_from}
+use Rattle.book_model.specs.Lines.{parts_of, onto_first}
 
 -- where the first dash stands, or the length
 abbrev pub to_dash : List ℕ → ℕ
 to_dash bs = position_or_len (λ b. b == 45) bs
 
+-- the first part ends at the first dash
 at_dash : (bs : List ℕ) → to_dash bs < length bs → parts_of bs ≡ take (to_dash bs) bs ∷ parts_of (drop (to_dash bs + 1) bs)
 at_dash [] h = absurd (omega arith)
 at_dash (b ∷ bs) h = step (b == 45) (at_dash bs) h
@@ -23,6 +24,7 @@ at_dash (b ∷ bs) h = step (b == 45) (at_dash bs) h
         let one : 1 + to_dash bs ≡ suc (to_dash bs) = omega arith in
         rw (rest, one) (simp unary_clauses)
 
+-- a word with no dash is one part
 no_dash : (bs : List ℕ) → length bs ≤ to_dash bs → parts_of bs ≡ bs ∷ []
 no_dash [] h = refl
 no_dash (b ∷ bs) h = step (b == 45) (no_dash bs) h
@@ -36,6 +38,7 @@ pub record IsPlace (i place length : ℕ) : Type 0 where
   pub same : i ≡ place
   pub before_end : place < length
 
+-- what `position` gives is the first place that passes
 pub found_at : (p : ℕ → Bool) (xs : List ℕ) (i : ℕ) → Some i ≡ position p xs → IsPlace i (position_or_len p xs) (length xs)
 found_at p xs i h = chosen (nat_lt (position_or_len p xs) (length xs)) refl h
   where
@@ -43,6 +46,7 @@ found_at p xs i h = chosen (nat_lt (position_or_len p xs) (length xs)) refl h
     chosen true e h = record { same = cc; before_end = ltb-true _ _ e }
     chosen false e h = cc
 
+-- and where it gives none, the first place is the end
 pub not_found : (p : ℕ → Bool) (xs : List ℕ) → None ≡ position p xs → length xs ≤ position_or_len p xs
 not_found p xs h = chosen (nat_lt (position_or_len p xs) (length xs)) refl h
   where
@@ -68,6 +72,7 @@ parts_exist (b ∷ bs) = step (b == 45) (parts_of bs)
     step false [] = omega arith
     step false (part ∷ parts) = omega arith
 
+-- powers of ten rise
 powers_rise : (k n : ℕ) → 10 ^ k ≤ 10 ^ (n + k)
 powers_rise k zero = let same : 0 + k ≡ k = omega arith in rw same (omega arith)
 powers_rise k (suc n) = let next : suc n + k ≡ suc (n + k) = omega arith in rw next (omega (arith, powers_rise k n, pow-suc 10 (n + k)))

@@ -1,10 +1,10 @@
 -- The words of a line, cut off one by one.
-use Rattle.std.proofs.Common.{◌≡◌, ◌∙◌, ℕ, zero, suc, ◌+◌, ◌-◌, ◌<◌, ◌≤◌, Bool, true, false, cond, List, [], ◌∷◌, length, take, drop, get_or, ap, refl, sym, arith}
-use Rattle.std.specs.Prelude.{Some, None, Option, not}
+use Rattle.std.proofs.Common.{◌≡◌, ◌∙◌, ℕ, suc, ◌+◌, Bool, true, false, List, [], ◌∷◌, length, take, drop, get_or, ap, refl, arith}
+use Rattle.std.specs.Prelude.{Some, None, not}
 use Rattle.std.specs.List.{position_or_len, position}
-use Rattle.std.proofs.lemmas.List.{take_rest, drop_more, drop_all}
+use Rattle.std.proofs.lemmas.List.{drop_more, drop_all}
 use Rattle.std.proofs.lemmas.List.Sums.{passes_at_first, prefix_len-le-length}
-use Rattle.book_model.specs.Lines.{is_blank, words_of, onto_word, onto_first}
+use Rattle.book_model.specs.Lines.{is_blank, words_of, onto_first}
 use Rattle.run_core.proofs.DateText.{found_at, not_found}
 
 -- how many blanks stand in front
@@ -15,6 +15,7 @@ blanks bs = position_or_len (λ b. not (is_blank b)) bs
 abbrev pub word_length : List ℕ → ℕ
 word_length bs = position_or_len is_blank bs
 
+-- blanks in front change nothing
 skip_blanks : (bs : List ℕ) → words_of bs ≡ words_of (drop (blanks bs) bs)
 skip_blanks [] = refl
 skip_blanks (b ∷ bs) = step (is_blank b) refl (skip_blanks bs)
@@ -23,6 +24,7 @@ skip_blanks (b ∷ bs) = step (is_blank b) refl (skip_blanks bs)
     step true e rest = let one : 1 + blanks bs ≡ suc (blanks bs) = omega arith in rw (e, one) rest
     step false e rest = let none : blanks (b ∷ bs) ≡ 0 = rw e refl in rw none refl
 
+-- the first word ends at the first blank
 take_word : (b : ℕ) (bs : List ℕ) → is_blank b ≡ false → words_of (b ∷ bs) ≡ take (word_length (b ∷ bs)) (b ∷ bs) ∷ words_of (drop (word_length (b ∷ bs)) (b ∷ bs))
 take_word b [] e = rw e refl
 take_word b (c ∷ cs) e = step (is_blank c) refl (λ f. take_word c cs f)

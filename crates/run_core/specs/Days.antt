@@ -1,6 +1,5 @@
 -- When a request's fields name a day.
-use Rattle.std.specs.Prelude.{ℕ, Bool}
-use Rattle.book_model.specs.declared.request.Request.{Request}
+use Rattle.std.specs.Prelude.{Bool}
 use Rattle.book_model.specs.declared.request.Fields.{Fields}
 use Rattle.book_model.specs.declared.request.FromWord.{FromWord}
 use Rattle.book_model.specs.declared.request.FromWord.TheVariants.{Gregorian}

@@ -1,5 +1,5 @@
 //! Dates of the Gregorian calendar: their text, and their day numbers (R.D.: day 1 is 1 January of the year 1).
-ghost use Rattle.std.specs.Prelude.{◌≡◌, ◌<◌, ◌≤◌, ◌+◌, ◌∷◌, [], ◌==◌, ℕ, length, position, pos, ◌+ℤ◌, IsTrue, IsSome, IfSome, IfNone, MatchOption, ◌↔◌};
+ghost use Rattle.std.specs.Prelude.{◌≡◌, ◌<◌, ◌↔◌, ◌==◌, ◌∷◌, [], length, position, pos, ◌+ℤ◌, IsTrue, IsSome, IfSome, MatchOption};
 ghost use Rattle.book_model.specs.Calendar.{is_date, fixed_of};
 ghost use Rattle.book_model.specs.Lines as spec;
 ghost use Rattle.book_model.specs.Requests.{fields_of, field as field_of, day_of};
@@ -9,7 +9,7 @@ ghost use Rattle.jiff.specs.Words.{epoch_day};
 use book_model::{Fields, FromWord, Request};
 use jiff::civil::Date;
 
-/// The day number of 1 January 1970.
+/// The day number of 1 January 1970 (R.D.).
 const EPOCH: i64 = 719_163;
 
 /// Where the first dash stands.
@@ -36,8 +36,8 @@ struct Parts<'a> {
     day: &'a [u8],
 }
 
-#[tactic(auto, using(crate::proofs::DateText::parts_exist))]
 /// The three parts that dashes separate, if there are three.
+#[tactic(auto, using(crate::proofs::DateText::parts_exist))]
 fn three_parts<'a>(date: &'a [u8]) -> Option<Parts<'a>>
     ensures parts { IfSome result (λ p. spec.parts_of date.now ≡ p.year.now ∷ p.month.now ∷ p.day.now ∷ []) }
     ensures three { IsSome result ↔ (length (spec.parts_of date.now) ≡ 3) }
@@ -116,6 +116,7 @@ pub(crate) fn field(date: &Fields, index: usize) -> u32
     date.values[index].unsigned_abs()
 }
 
+/// The day that the fields of a Gregorian date name (R.D.).
 fn gregorian_day(date: &Fields) -> i64
     requires dated { IsTrue (names_day FromWord.Gregorian date.now) }
     ensures day { result ≡ day_of FromWord.Gregorian date.now }
@@ -124,7 +125,8 @@ fn gregorian_day(date: &Fields) -> i64
     i64::from(named.to_plain().to_unix_epoch_day()) + EPOCH
 }
 
-/// The day that a request's date names (R.D.).
+/// The day that a request's date names (R.D.). The calendar has to have the date, as for each request that
+/// `read_line` gives.
 pub fn request_day(request: &Request) -> i64
     requires dated { IsTrue (names_day request.now.from request.now.date) }
     ensures day { result ≡ day_of request.now.from request.now.date }

@@ -1,5 +1,5 @@
 //! What a line asks, or the first rule that it breaks.
-ghost use Rattle.std.specs.Prelude.{◌≡◌, nat_le, ◌&&◌, ◌<◌, ◌≤◌, ◌+◌, ◌∷◌, [], ◌==◌, ℕ, length, position, not, IsTrue, IsSome, IfSome, IfNone, IfOk, MatchOption, ◌↔◌};
+ghost use Rattle.std.specs.Prelude.{◌≡◌, ◌≤◌, ◌↔◌, ◌&&◌, ◌∷◌, [], nat_le, not, length, position, IsTrue, IsSome, IfSome, IfOk, MatchOption};
 ghost use Rattle.std.specs.List.{list_all, position_or_len};
 ghost use Rattle.book_model.specs.Lines as spec;
 ghost use Rattle.book_model.specs.Requests.{request_of, with_words, from_word_of, to_word_of, ranged as ranged_of, is_year_for as is_year_for_word};
@@ -11,12 +11,13 @@ use book_model::{FromWord, Request, Rule, ToWord};
 /// The longest line, in bytes.
 const LONGEST_LINE: usize = 200;
 
-/// 1 January 1802 and 31 December 2048 (R.D.), the first and the last day that a line may name.
+/// The first day that a line may name: 1 January 1802 (R.D.).
 const FIRST_DAY: i64 = 657_802;
 
+/// The last day that a line may name: 31 December 2048 (R.D.).
 const LAST_DAY: i64 = 748_017;
 
-/// The three words of a line.
+/// The three words of a line: the calendar of its date, the date, and what it asks.
 #[derive(Clone, Copy, Debug)]
 pub struct Words<'a> {
     pub from: &'a [u8],
@@ -90,7 +91,7 @@ fn cut_word(line: &[u8]) -> Option<(&[u8], &[u8])>
     }
 }
 
-/// The three words of a line, where it has three: words stand between blanks.
+/// The three words of a line, which blanks separate; `None` where it has fewer or more.
 pub fn three_words<'a>(line: &'a [u8]) -> Option<Words<'a>>
     ensures words { IfSome result (λ w. spec.words_of line.now ≡ w.from.now ∷ w.date.now ∷ w.to.now ∷ []) }
     ensures three { IsSome result ↔ (length (spec.words_of line.now) ≡ 3) }
@@ -104,7 +105,7 @@ pub fn three_words<'a>(line: &'a [u8]) -> Option<Words<'a>>
     }
 }
 
-/// What `from` a word names.
+/// The calendar that a word names.
 fn from_word(word: &[u8]) -> Option<FromWord>
     ensures word { result ≡ from_word_of word.now }
 {
@@ -160,7 +161,7 @@ fn asked(words: Words<'_>) -> Result<Request, Rule>
     ranged(Request { from, date, to })
 }
 
-/// What a line asks, or the first rule that it breaks: `Syntax` where it isn't three words of printable bytes
+/// What a line asks, which names a day, or the first rule that it breaks: `Syntax` where it isn't three words of printable bytes
 /// with blanks between them, in 200 bytes at most; `Calendar` for a word that isn't known; `Field` where the
 /// calendar has no such date; `Range` for a day or a year that isn't answered.
 pub fn read_line(bytes: &[u8]) -> Result<Request, Rule>

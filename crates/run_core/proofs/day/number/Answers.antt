@@ -1,4 +1,4 @@
-use Rattle.std.proofs.Common.{arith, ◌<◌}
+use Rattle.std.proofs.Common.{arith}
 use Rattle.run_core.proofs.DateText.{few_digits}
 use Rattle.run_core.proofs.day.number.Goals as goal
 
