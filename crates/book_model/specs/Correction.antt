@@ -1,8 +1,7 @@
 -- The dynamical time correction of a year, and that of a day in milliseconds.
 -- Reingold and Dershowitz, Calendrical Calculations, chapter 14, ephemeris correction.
-use Rattle.std.specs.Prelude.{◌≡◌, ℕ, zero, suc, ◌+◌, ◌&&◌, Bool, if◌then◌else◌, ℤ, pos, negsuc, ◌-ℤ◌, ◌*ℤ◌, List, length, slice_index_or, int_le}
+use Rattle.std.specs.Prelude.{ℕ, zero, suc, ◌&&◌, Bool, if◌then◌else◌, ℤ, pos, ◌-ℤ◌, ◌*ℤ◌, List, length, slice_index_or, int_le}
 use Rattle.book_model.specs.declared.frac.Frac.{Frac}
-use Rattle.book_model.specs.declared.site.Site.{Site}
 use Rattle.book_model.specs.declared.site.Site.TheVariants.{Year, Round}
 use Rattle.book_model.specs.declared.tables.TheConstants.{CORRECTION_1987, CORRECTION_2006, HALF, MILLISECONDS_OF_DAY, SECOND}
 use Rattle.book_model.specs.Fractions.{fraction_of}
@@ -14,8 +13,9 @@ unfoldable pub int_power : ℤ → ℕ → ℤ
 int_power x zero = pos 1
 int_power x (suc k) = int_power x k *ℤ x
 
+-- what stands for a coefficient past the last
 abbrev pub no_fraction : Frac
-no_fraction = record { num = pos 0; den = 1 }
+no_fraction = record { num = pos 0; den = 0 }
 
 -- a0 + a1 x + a2 x^2 + .., to the term before that of index n
 unfoldable pub polynomial_to : List Frac → ℤ → ℕ → Expression

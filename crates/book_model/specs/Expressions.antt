@@ -1,7 +1,7 @@
 -- Expressions over the arguments of a formula, and their values at each depth.
-use Rattle.std.specs.Prelude.{◌≡◌, ℕ, ℤ, pos, negsuc}
+use Rattle.std.specs.Prelude.{ℕ, ℤ}
 use Rattle.exact_math.specs.Fraction.{Fraction, whole}
-use Rattle.exact_math.specs.Interval.{Interval, everything, between, sum, difference, negative, product, quotient, power as interval_power, minimum as interval_minimum, maximum as interval_maximum, hull as interval_hull, clamp as interval_clamp, widen as interval_widen, IsProper}
+use Rattle.exact_math.specs.Interval.{Interval, between, sum, difference, negative, product, quotient, power as interval_power, minimum as interval_minimum, maximum as interval_maximum, hull as interval_hull, clamp as interval_clamp, widen as interval_widen, IsProper}
 
 -- what a formula computes: its arguments, numbers, and the operations of the model
 pub data Expression : Type 0 where

@@ -1,7 +1,7 @@
 -- The run of a fact, and when a fact is true, near or void.
-use Rattle.std.specs.Prelude.{◌≡◌, ℕ, ◌+◌, ◌^◌, ◌≤◌, ◌⊎◌, if◌then◌else◌, ℤ, pos, negsuc, ◌-ℤ◌, ◌≤ℤ◌}
-use Rattle.exact_math.specs.Fraction.{Fraction, ◌≤F◌, ◌<F◌}
-use Rattle.exact_math.specs.Interval.{Interval, everything, between, ◌⊆◌, IsProper}
+use Rattle.std.specs.Prelude.{◌≡◌, ℕ, ◌^◌, ◌≤◌, ◌⊎◌, if◌then◌else◌, ℤ, pos, negsuc, ◌-ℤ◌, ◌≤ℤ◌}
+use Rattle.exact_math.specs.Fraction.{◌≤F◌, ◌<F◌}
+use Rattle.exact_math.specs.Interval.{Interval, everything, between, ◌⊆◌}
 use Rattle.book_model.specs.declared.site.Site.{Site}
 use Rattle.book_model.specs.declared.site.Site.TheVariants.{Year}
 use Rattle.book_model.specs.declared.fact.Fact.{Fact}
@@ -14,7 +14,7 @@ use Rattle.book_model.specs.Calendar.{year_of_day}
 use Rattle.book_model.specs.Correction.{dt_of, is_between}
 use Rattle.book_model.specs.Expressions.{World}
 use Rattle.book_model.specs.Leading.{at_56, AreNoBounds}
-use Rattle.book_model.specs.Programs.{Grid, threshold, Program, void, Run, run, Outcome, valued, void_at, outcome, MakesTest, Sides, one_side, two_sides}
+use Rattle.book_model.specs.Programs.{Grid, threshold, Program, void, Run, run, valued, void_at, outcome, MakesTest, Sides, one_side, two_sides}
 
 -- the places of which a kind of fact is asked
 abbrev pub IsPlaceOf : Kind → Place → Type 0

@@ -1,14 +1,14 @@
 -- What the result of a call says of the program that it computes.
-use Rattle.std.specs.Prelude.{◌≡◌, ℕ, ℤ, pos, negsuc, ◌+◌, ◌-◌, ◌^◌, ◌≤◌, min, Option, Some, None, Result, Ok, Err, FitsSigned}
+use Rattle.std.specs.Prelude.{◌≡◌, ℕ, ℤ, pos, negsuc, ◌+◌, ◌-◌, ◌^◌, min, Some, None, Result, Ok, Err, FitsSigned}
 use Rattle.std.specs.Int.{w64}
-use Rattle.exact_math.specs.Fraction.{Fraction, ◌≤F◌, ◌<F◌, ◌≈◌, smaller, larger}
+use Rattle.exact_math.specs.Fraction.{Fraction, ◌≈◌}
 use Rattle.exact_math.specs.Interval.{Interval, everything, between, ◌⊆◌, hull}
 use Rattle.book_model.specs.declared.site.Site.{Site}
 use Rattle.book_model.specs.declared.fail.Undecided.{Undecided}
 use Rattle.book_model.specs.declared.fail.Fail.{Fail}
 use Rattle.book_model.specs.declared.fail.Fail.TheVariants.{Undecided as undecided_at, Void}
 use Rattle.book_model.specs.Expressions.{Expression, World, argument}
-use Rattle.book_model.specs.Programs.{Grid, threshold, cell_at, compare_at, Program, Sides, one_side, two_sides, Reply, Run, answered, voided, undecided, decided, run}
+use Rattle.book_model.specs.Programs.{Grid, cell_at, compare_at, Program, Sides, one_side, two_sides, Reply, Run, answered, voided, undecided, decided, run}
 
 -- a number that counts 2^-56
 abbrev pub at_56 : ℤ → Fraction

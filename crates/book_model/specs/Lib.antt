@@ -6,6 +6,7 @@ pub mod Bounds
 pub mod Relations
 pub mod Programs
 pub mod Leading
+pub mod Nesting
 pub mod Correction
 pub mod Facts
 pub mod Lines

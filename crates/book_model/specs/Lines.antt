@@ -1,6 +1,5 @@
 -- The lines of an input, and the words and numbers of a line.
 use Rattle.std.specs.Prelude.{ℕ, ◌+◌, ◌-◌, ◌*◌, ◌==◌, ◌&&◌, ◌||◌, nat_lt, nat_le, if◌then◌else◌, Bool, List, [], ◌∷◌, length, take, map, slice_index, Some, None, Option}
-use Rattle.std.specs.List.{list_all}
 
 -- the byte, and then the first of the parts
 abbrev pub onto_first : ℕ → List (List ℕ) → List (List ℕ)

@@ -1,7 +1,7 @@
 -- Formulas as programs of tests, and their runs.
-use Rattle.std.specs.Prelude.{◌≡◌, ℕ, suc, ℤ, pos, ◌*ℤ◌, ◌-◌, Bool, true, false, not, cond, Option, Some, None}
+use Rattle.std.specs.Prelude.{ℕ, suc, ℤ, pos, ◌+ℤ◌, ◌*ℤ◌, ◌-◌, Bool, true, false, not, cond, Option, Some, None}
 use Rattle.std.specs.Ordering.{int_eq}
-use Rattle.exact_math.specs.Fraction.{Fraction, whole, floor_quotient, floor, is_at_most}
+use Rattle.exact_math.specs.Fraction.{Fraction, ◌≤F◌, ◌<F◌, whole, floor_quotient, floor, is_at_most}
 use Rattle.exact_math.specs.Interval.{Interval, everything, between, ◌⊆◌}
 use Rattle.book_model.specs.declared.site.Site.{Site}
 use Rattle.book_model.specs.Calendar.{first_day, year_of_day}
@@ -25,6 +25,11 @@ unfoldable pub threshold : Grid → ℤ → Fraction
 threshold integers q = whole q
 threshold (multiples m) q = whole (pos (suc (m - 1)) *ℤ q)
 threshold years q = whole (first_day q)
+
+-- a number falls in the cell that begins at or below it, the next one beginning above it
+pub record CellsCut (g : Grid) : Type 0 where
+  pub begun : (a : Fraction) → threshold g (cell_of g a) ≤F a
+  pub not_over : (a : Fraction) → a <F threshold g (cell_of g a +ℤ pos 1)
 
 abbrev pub when : {A : Type 0} → Bool → A → Option A
 when true a = Some a

@@ -1,9 +1,9 @@
 -- What an enclosure says of an expression: it holds its value, and it keeps its bound. The two are opaque to
 -- callers, so that formulas are proved from the clauses of the operations alone.
-use Rattle.std.specs.Prelude.{◌≡◌, ℕ, ◌≤◌}
+use Rattle.std.specs.Prelude.{◌≤◌}
 use Rattle.exact_math.specs.Interval.{Interval, ◌⊆◌}
 use Rattle.book_model.specs.Expressions.{Expression, World, value}
-use Rattle.book_model.specs.Bounds.{Bound, Limits, Reach, bound_of, IsNarrow}
+use Rattle.book_model.specs.Bounds.{Limits, Reach, bound_of, IsNarrow}
 
 -- the value of an expression lies within an interval
 unfoldable pub Lies : World → Expression → Interval → Type 0

@@ -1,5 +1,5 @@
 -- What a line asks, and the first rule that it breaks.
-use Rattle.std.specs.Prelude.{◌≡◌, ℕ, ◌+◌, ◌-◌, ◌==◌, ◌&&◌, ◌||◌, nat_eq, nat_lt, nat_le, if◌then◌else◌, Bool, List, [], ◌∷◌, length, codes, ℤ, pos, negsuc, ◌≤ℤ◌, int_le, int_lt, unsigned_abs, slice_index_or, Some, None, Option, Result, Ok, Err}
+use Rattle.std.specs.Prelude.{ℕ, ◌&&◌, nat_eq, nat_le, if◌then◌else◌, Bool, List, [], ◌∷◌, length, codes, ℤ, pos, unsigned_abs, slice_index_or, Some, None, Option, Result, Ok, Err}
 use Rattle.std.specs.List.{list_all}
 use lib.Pointwise.{pointwise}
 use Rattle.book_model.specs.declared.request.FromWord.{FromWord}

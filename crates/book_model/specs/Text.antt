@@ -1,5 +1,5 @@
 -- The text that is written for lines and their outcomes.
-use Rattle.std.specs.Prelude.{ℕ, ◌+◌, not, if◌then◌else◌, Bool, List, [], ◌∷◌, ◌++◌, length, slice_index_or, codes, decimal, ℤ, pos}
+use Rattle.std.specs.Prelude.{ℕ, ◌+◌, if◌then◌else◌, List, [], ◌∷◌, ◌++◌, length, slice_index_or, codes, decimal, ℤ, pos}
 use Rattle.std.specs.Fmt.{signed_decimal}
 use Rattle.std.specs.List.{concat, flat_map, list_any, position_or_len}
 use Rattle.book_model.specs.declared.site.Site.{Site}

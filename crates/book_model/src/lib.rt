@@ -5,6 +5,7 @@
 mod fact;
 mod fail;
 mod frac;
+pub mod laws;
 mod request;
 mod site;
 mod tables;

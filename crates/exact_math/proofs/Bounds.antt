@@ -1,9 +1,8 @@
 -- Inequalities over ℤ by computation: a certificate says how the difference of the two sides is made of sums and products of the
 -- differences of known inequalities, of squares and of naturals. Its check is a ring identity.
-use Rattle.std.proofs.Common.{◌≡◌, ℕ, zero, suc, ◌≤◌, ◌*◌, refl, sym, ap, ◌∙◌, subst, arith, ℤ, pos, negsuc, ◌+ℤ◌, ◌*ℤ◌, ◌-ℤ◌, ◌≤ℤ◌, List, [], ◌∷◌}
-use lib.IntN.{neg_ℤ}
+use Rattle.std.proofs.Common.{◌≡◌, ℕ, zero, suc, ◌*◌, sym, subst, arith, ℤ, pos, negsuc, ◌+ℤ◌, ◌*ℤ◌, ◌-ℤ◌, ◌≤ℤ◌, List, [], ◌∷◌}
 use Rattle.std.proofs.lemmas.Int.{ints}
-use Rattle.exact_math.proofs.Ring.{Poly, at, lit, ◌⊕◌, ◌⊖◌, ◌⊗◌, minus, ring, value, normal}
+use Rattle.exact_math.proofs.Ring.{Poly, lit, ◌⊕◌, ◌⊖◌, ◌⊗◌, ring, value, normal}
 
 pub sub_nonneg : (a b : ℤ) → a ≤ℤ b → pos 0 ≤ℤ (b -ℤ a)
 sub_nonneg a b h = omega (arith, ints)

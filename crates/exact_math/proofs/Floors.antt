@@ -1,10 +1,9 @@
 -- The greatest whole number that is not above a fraction: it keeps the order, and lies less than 1 below.
-use Rattle.std.specs.Prelude.{◌≡◌, ℕ, ℤ, pos, negsuc, ◌+◌, ◌*◌, ◌/◌, ◌≤◌, ◌<◌, ◌+ℤ◌, ◌*ℤ◌, ◌≤ℤ◌, ◌<ℤ◌}
+use Rattle.std.specs.Prelude.{ℕ, ℤ, pos, negsuc, ◌+◌, ◌*◌, ◌/◌, ◌≤◌, ◌<◌, ◌+ℤ◌, ◌*ℤ◌, ◌≤ℤ◌, ◌<ℤ◌}
 use Rattle.std.proofs.Common.{suc, arith, ◌⊎◌, inl, inr}
 use Rattle.std.proofs.lemmas.Int.{ints}
 use Rattle.std.proofs.Math.Nat.{mul-le-mul_left}
-use borrow.Author.Differences.{up, down}
-use Rattle.exact_math.specs.Fraction.{Fraction, den, ◌≤F◌, floor_quotient, floor}
+use Rattle.exact_math.specs.Fraction.{Fraction, ◌≤F◌, floor_quotient, floor}
 
 -- quotients keep the order of fractions
 quotient_mono : (a b d e : ℕ) → a * suc e ≤ b * suc d → a / suc d ≤ b / suc e

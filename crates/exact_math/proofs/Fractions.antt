@@ -1,11 +1,11 @@
 -- The order of fractions, and how the operations go with it.
-use Rattle.std.proofs.Common.{◌≡◌, ℕ, zero, suc, ◌+◌, ◌*◌, ◌<◌, ◌≤◌, refl, sym, ap, ◌∙◌, subst, arith, Bool, true, false, not, cond, ℤ, pos, negsuc, ◌+ℤ◌, ◌*ℤ◌, ◌-ℤ◌, ◌≤ℤ◌, List, [], ◌∷◌, ◌⊎◌, inl, inr, ⊎_elim}
+use Rattle.std.proofs.Common.{◌≡◌, ℕ, zero, suc, refl, sym, ap, subst, arith, Bool, true, false, not, cond, ℤ, pos, negsuc, ◌+ℤ◌, ◌*ℤ◌, ◌≤ℤ◌, [], ◌∷◌, ◌⊎◌, inl, inr}
 use lib.IntN.{neg_ℤ}
 use lib.Signed.{le_z}
-use Rattle.std.proofs.lemmas.Int.{ints}
-use Rattle.exact_math.proofs.Ring.{Poly, at, lit, ◌⊕◌, ◌⊖◌, ◌⊗◌, minus, ring, value, normal}
-use Rattle.exact_math.proofs.Bounds.{Claim, ◌≼◌, Cert, known, ◌⊞◌, ◌⊠◌, square, times as naturally, le_by, le_over, refute, pos_nonneg}
-use Rattle.exact_math.specs.Fraction.{Fraction, den, ◌≤F◌, below_product, plus, opposite, times, is_at_most, smaller, larger, reciprocal, power, is_even}
+use Rattle.std.proofs.lemmas.Int.{ints, by_lt_z}
+use Rattle.exact_math.proofs.Ring.{at, lit, ◌⊕◌, ◌⊗◌, minus}
+use Rattle.exact_math.proofs.Bounds.{◌≼◌, known, ◌⊞◌, ◌⊠◌, times as naturally, le_by, le_over, refute}
+use Rattle.exact_math.specs.Fraction.{Fraction, den, ◌≤F◌, ◌<F◌, below_product, plus, opposite, times, is_at_most, smaller, larger, reciprocal, power, is_even}
 use Rattle.exact_math.specs.Interval.{zero_fraction}
 
 pub den_product : (m n : ℕ) → pos (suc (below_product m n)) ≡ pos (suc m) *ℤ pos (suc n)
@@ -32,6 +32,31 @@ trans_z a b c p q r hp hq hr h k =
 
 pub le_trans : (a b c : Fraction) → a ≤F b → b ≤F c → a ≤F c
 le_trans a b c h k = record { cross = trans_z a.num b.num c.num (den a) (den b) (den c) (positive a.below) (positive b.below) (positive c.below) h.cross k.cross }
+
+-- a strict step makes the whole strict
+strict_z : (a b c p q r : ℤ) → pos 1 ≤ℤ p → pos 1 ≤ℤ q → pos 1 ≤ℤ r → (a *ℤ q +ℤ pos 1) ≤ℤ (b *ℤ p) → (b *ℤ r) ≤ℤ (c *ℤ q) → (c *ℤ p) ≤ℤ (a *ℤ r) → ⊥
+strict_z a b c p q r hp hq hr h k l =
+    let one = lit (pos 1) in
+    refute (a ∷ b ∷ c ∷ p ∷ q ∷ r ∷ []) ((one ≼ at 3) ∷ (one ≼ at 4) ∷ (one ≼ at 5) ∷ (at 0 ⊗ at 4 ⊕ one ≼ at 1 ⊗ at 3) ∷ (at 1 ⊗ at 5 ≼ at 2 ⊗ at 4) ∷ (at 2 ⊗ at 3 ≼ at 0 ⊗ at 5) ∷ [])
+    (known 4 ⊠ (known 0 ⊞ naturally 1) ⊞ known 3 ⊠ (known 2 ⊞ naturally 1) ⊞ known 5 ⊠ (known 1 ⊞ naturally 1) ⊞ known 2) refl (hp, (hq, (hr, (h, (k, (l, tt))))))
+
+strict_second_z : (a b c p q r : ℤ) → pos 1 ≤ℤ p → pos 1 ≤ℤ q → pos 1 ≤ℤ r → (a *ℤ q) ≤ℤ (b *ℤ p) → (b *ℤ r +ℤ pos 1) ≤ℤ (c *ℤ q) → (c *ℤ p) ≤ℤ (a *ℤ r) → ⊥
+strict_second_z a b c p q r hp hq hr h k l =
+    let one = lit (pos 1) in
+    refute (a ∷ b ∷ c ∷ p ∷ q ∷ r ∷ []) ((one ≼ at 3) ∷ (one ≼ at 4) ∷ (one ≼ at 5) ∷ (at 0 ⊗ at 4 ≼ at 1 ⊗ at 3) ∷ (at 1 ⊗ at 5 ⊕ one ≼ at 2 ⊗ at 4) ∷ (at 2 ⊗ at 3 ≼ at 0 ⊗ at 5) ∷ [])
+    (known 4 ⊠ (known 0 ⊞ naturally 1) ⊞ known 3 ⊠ (known 2 ⊞ naturally 1) ⊞ known 5 ⊠ (known 1 ⊞ naturally 1) ⊞ known 0) refl (hp, (hq, (hr, (h, (k, (l, tt))))))
+
+pub lt_le_trans : (a b c : Fraction) → a <F b → b ≤F c → a <F c
+lt_le_trans a b c h k = record {
+  strict = by_lt_z (a.num *ℤ den c) (c.num *ℤ den a) (λ l. l)
+      (λ l. let g : (a.num *ℤ den b +ℤ pos 1) ≤ℤ (b.num *ℤ den a) = omega (arith, ints, h.strict) in absurd (strict_z a.num b.num c.num (den a) (den b) (den c) (positive a.below) (positive b.below) (positive c.below) g k.cross l));
+}
+
+pub le_lt_trans : (a b c : Fraction) → a ≤F b → b <F c → a <F c
+le_lt_trans a b c h k = record {
+  strict = by_lt_z (a.num *ℤ den c) (c.num *ℤ den a) (λ l. l)
+      (λ l. let g : (b.num *ℤ den c +ℤ pos 1) ≤ℤ (c.num *ℤ den b) = omega (arith, ints, k.strict) in absurd (strict_second_z a.num b.num c.num (den a) (den b) (den c) (positive a.below) (positive b.below) (positive c.below) h.cross g l));
+}
 
 pub le_total : (a b : Fraction) → (a ≤F b) ⊎ (b ≤F a)
 le_total a b = by_test (le_z (a.num *ℤ den b) (b.num *ℤ den a)) refl

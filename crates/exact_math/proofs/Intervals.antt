@@ -1,12 +1,12 @@
 -- What the operations on intervals hold, and that narrower operands give results within.
-use Rattle.std.proofs.Common.{◌≡◌, ℕ, zero, suc, ◌+◌, ◌*◌, refl, sym, ap, ◌∙◌, subst, arith, Bool, true, false, cond, ℤ, pos, negsuc, ◌+ℤ◌, ◌*ℤ◌, ◌-ℤ◌, ◌≤ℤ◌, List, [], ◌∷◌, ◌⊎◌, inl, inr, ⊎_elim}
-use Rattle.exact_math.specs.Fraction.{Fraction, den, ◌≤F◌, below_product, plus, opposite, size, times, is_at_most, smaller, larger, reciprocal, power, is_even}
+use Rattle.std.proofs.Common.{◌≡◌, ℕ, zero, suc, refl, sym, arith, Bool, true, false, cond, pos, ◌*ℤ◌, ◌≤ℤ◌, ◌⊎◌, inl, inr}
+use Rattle.exact_math.specs.Fraction.{Fraction, ◌≤F◌, plus, opposite, size, times, is_at_most, smaller, larger, reciprocal, power, is_even}
 use Rattle.exact_math.specs.Interval.{Interval, everything, between, IsProper, IsMember, AreWithin, ◌⊆◌, sum, negative, difference, least, greatest, product, minimum, maximum, hull, one, minus_one, clamp, widen, zero_fraction, excludes_zero, quotient, least_even, power as interval_power}
 use lib.Signed.{lt_z}
 use lib.IntN.{neg_ℤ}
 use Rattle.std.specs.Prelude.{unsigned_abs}
 use Rattle.std.proofs.lemmas.Int.{ints}
-use Rattle.exact_math.proofs.Fractions.{le_refl, le_trans, le_total, plus_mono, opposite_mono, times_comm, First, Second, one_of, IsPositive, IsNegative, positive_above, negative_below, reciprocal_anti_positive, reciprocal_anti_negative, power_nonneg, power_mono, power_odd_mono, power_even_falling, power_even_least, at_most_true, at_most_false, smaller_keeps, larger_keeps, smaller_first, smaller_second, larger_first, larger_second, four_above, four_below}
+use Rattle.exact_math.proofs.Fractions.{le_refl, le_trans, le_total, plus_mono, opposite_mono, IsPositive, IsNegative, positive_above, negative_below, reciprocal_anti_positive, reciprocal_anti_negative, power_mono, power_odd_mono, power_even_falling, power_even_least, at_most_true, at_most_false, smaller_keeps, larger_keeps, smaller_first, smaller_second, larger_first, larger_second, four_above, four_below}
 
 pub smaller_mono : (a b c d : Fraction) → a ≤F b → c ≤F d → smaller a c ≤F smaller b d
 smaller_mono a b c d h k =

@@ -1,10 +1,10 @@
 -- Ring identities over ℤ by computation: a polynomial is written as a value of `Poly`, brought to a normal form, and two
 -- polynomials with one normal form have one value at all numbers.
-use Rattle.std.proofs.Common.{◌≡◌, ℕ, zero, suc, refl, sym, ap, ◌∙◌, subst, arith, ℤ, pos, negsuc, ◌+ℤ◌, ◌*ℤ◌, ◌-ℤ◌, List, [], ◌∷◌, Bool, true, false, cond}
+use Rattle.std.proofs.Common.{◌≡◌, ℕ, zero, suc, refl, sym, ap, ◌∙◌, arith, ℤ, pos, negsuc, ◌+ℤ◌, ◌*ℤ◌, ◌-ℤ◌, List, [], ◌∷◌, Bool, true, false}
 use lib.Dec.{ltb, leb}
 use borrow.Author.Tests.{ltb-false}
-use lib.IntN.{neg_ℤ, +ℤ_comm, +ℤ_assoc}
-use Rattle.exact_math.proofs.IntLaws.{mul_assoc, mul_comm, mul_left_comm, mul_add, add_mul, add_left_comm, neg-as_mul, one_mul, mul_one, zero_mul, mul_zero, add_zero, zero_add}
+use lib.IntN.{neg_ℤ, +ℤ_assoc}
+use Rattle.exact_math.proofs.IntLaws.{mul_assoc, mul_left_comm, mul_add, add_mul, add_left_comm, neg-as_mul, one_mul, mul_one, zero_mul, mul_zero, add_zero, zero_add}
 
 infixl 60 ◌⊕◌ ◌⊖◌
 infixl 70 ◌⊗◌

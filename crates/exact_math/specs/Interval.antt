@@ -1,6 +1,6 @@
 -- Intervals of fractions, and the operations that give the smallest interval which holds the result for all members.
-use Rattle.std.specs.Prelude.{◌≡◌, ℕ, zero, suc, ◌+◌, ◌*◌, Bool, true, false, not, cond, ℤ, pos, negsuc, ◌+ℤ◌, ◌*ℤ◌, ◌≤ℤ◌}
-use Rattle.exact_math.specs.Fraction.{Fraction, den, ◌≤F◌, plus, opposite, size, times, is_at_most, smaller, larger, reciprocal, power as fraction_power, is_even}
+use Rattle.std.specs.Prelude.{ℕ, Bool, true, cond, pos, negsuc}
+use Rattle.exact_math.specs.Fraction.{Fraction, ◌≤F◌, plus, opposite, size, times, is_at_most, smaller, larger, reciprocal, power as fraction_power, is_even}
 use lib.Signed.{lt_z}
 
 pub data Interval : Type 0 where

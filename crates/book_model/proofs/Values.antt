@@ -1,0 +1,46 @@
+-- The value of every expression is a proper interval, and lies within its value in a wider world.
+use Rattle.exact_math.specs.Fraction.{whole}
+use Rattle.exact_math.specs.Interval.{IsProper, ◌⊆◌}
+use Rattle.exact_math.proofs.Fractions.{le_refl}
+use Rattle.exact_math.proofs.Intervals.{within_refl, sum_within, difference_within, product_within, quotient_within, negative_within, power_within, minimum_within, maximum_within, hull_within, clamp_within, widen_within, plus_proper, difference_proper, product_proper, quotient_proper, negative_proper, power_proper, minimum_proper, maximum_proper, hull_proper, clamp_proper, widen_proper}
+use Rattle.book_model.specs.Expressions.{Expression, argument, integer, constant, add, subtract, multiply, divide, negate, scale, power, minimum, maximum, hull, clamp, widen, World, value, exactly}
+use Rattle.book_model.specs.Nesting.{IsNarrower, ValuesNest}
+
+pub value_proper : (w : World) (x : Expression) → IsProper (value w x)
+unfolding value
+value_proper w (argument k) = w.proper k
+value_proper w (integer n) = le_refl (whole n)
+value_proper w (constant a) = le_refl a
+value_proper w (add x y) = plus_proper (value w x) (value w y) (value_proper w x) (value_proper w y)
+value_proper w (subtract x y) = difference_proper (value w x) (value w y) (value_proper w x) (value_proper w y)
+value_proper w (multiply x y) = product_proper (value w x) (value w y) (value_proper w x) (value_proper w y)
+value_proper w (divide x y) = quotient_proper (value w x) (value w y) (value_proper w x) (value_proper w y)
+value_proper w (negate x) = negative_proper (value w x) (value_proper w x)
+value_proper w (scale a x) = product_proper (value w x) (exactly a) (value_proper w x) (le_refl a)
+value_proper w (power x k) = power_proper k (value w x) (value_proper w x)
+value_proper w (minimum x y) = minimum_proper (value w x) (value w y) (value_proper w x) (value_proper w y)
+value_proper w (maximum x y) = maximum_proper (value w x) (value w y) (value_proper w x) (value_proper w y)
+value_proper w (hull x y) = hull_proper (value w x) (value w y) (value_proper w x) (value_proper w y)
+value_proper w (clamp x) = clamp_proper (value w x) (value_proper w x)
+value_proper w (widen a x) = widen_proper a (value w x) (value_proper w x)
+
+pub value_nested : (v w : World) → IsNarrower v w → (x : Expression) → value v x ⊆ value w x
+unfolding value
+value_nested v w h (argument k) = h.inner k
+value_nested v w h (integer n) = within_refl (exactly (whole n))
+value_nested v w h (constant a) = within_refl (exactly a)
+value_nested v w h (add x y) = sum_within (value_nested v w h x) (value_nested v w h y)
+value_nested v w h (subtract x y) = difference_within (value_nested v w h x) (value_nested v w h y)
+value_nested v w h (multiply x y) = product_within (value_proper v x) (value_proper v y) (value_nested v w h x) (value_nested v w h y)
+value_nested v w h (divide x y) = quotient_within (value_proper v x) (value_proper v y) (value_nested v w h x) (value_nested v w h y)
+value_nested v w h (negate x) = negative_within (value_nested v w h x)
+value_nested v w h (scale a x) = product_within (value_proper v x) (le_refl a) (value_nested v w h x) (within_refl (exactly a))
+value_nested v w h (power x k) = power_within k (value_proper v x) (value_nested v w h x)
+value_nested v w h (minimum x y) = minimum_within (value_nested v w h x) (value_nested v w h y)
+value_nested v w h (maximum x y) = maximum_within (value_nested v w h x) (value_nested v w h y)
+value_nested v w h (hull x y) = hull_within (value_nested v w h x) (value_nested v w h y)
+value_nested v w h (clamp x) = clamp_within (value_nested v w h x)
+value_nested v w h (widen a x) = widen_within a (value_nested v w h x)
+
+pub values_nest : ValuesNest
+values_nest = record { within = value_nested }

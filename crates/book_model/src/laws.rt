@@ -1,0 +1,28 @@
+//! Laws of the definitions, each carried by a function that does nothing.
+ghost use Rattle.std.specs.Prelude.{◌≡◌, ◌↔◌, ℤ, ℕ, Bool};
+ghost use Rattle.exact_math.specs.Fraction.{Fraction};
+ghost use Rattle.book_model.specs.Expressions.{Expression};
+ghost use Rattle.book_model.specs.Nesting.{ValuesNest, RunsNest};
+ghost use Rattle.book_model.specs.Calendar.{year_of_day, IsYearOfDay};
+ghost use Rattle.book_model.specs.Programs.{Grid, CellsCut};
+
+/// Nesting: at a greater depth, with narrower arguments, each expression's value lies within its value here, and
+/// each program makes the same tests as far as they are decided here, with the same answers.
+#[tactic(auto, using(crate::proofs::Values::values_nest, crate::proofs::Nesting::runs_nest))]
+pub fn nesting()
+    ensures values { ValuesNest }
+    ensures numbers { RunsNest ℤ }
+    ensures tests { RunsNest Bool }
+    ensures expressions { RunsNest Expression }
+{}
+
+/// A day falls in the year that begins at or before it, the next year beginning after it.
+pub fn years_of_days()
+    ensures { (d : ℤ) → IsYearOfDay (year_of_day d) d }
+{}
+
+/// The cells of a test cut the line at their thresholds.
+#[tactic(auto, using(crate::proofs::Cells::cells_cut))]
+pub fn cells()
+    ensures { (g : Grid) → CellsCut g }
+{}

@@ -1,0 +1,109 @@
+-- From the operations on intervals and bounds to those on expressions.
+use Rattle.std.proofs.Common.{◌≡◌, ℕ, ◌≤◌, ℤ, refl}
+use Rattle.exact_math.specs.Fraction.{Fraction, whole}
+use Rattle.exact_math.specs.Interval.{Interval, everything, between, IsProper, ◌⊆◌, sum, difference, negative, product, minimum as interval_minimum, maximum as interval_maximum, hull as interval_hull, widen as interval_widen}
+use Rattle.exact_math.proofs.Fractions.{le_refl}
+use Rattle.exact_math.proofs.Intervals.{within_refl, within_trans, sum_within, difference_within, negative_within, product_within, minimum_within, maximum_within, hull_within, widen_within, plus_proper, difference_proper, product_proper, quotient_proper, negative_proper, power_proper, minimum_proper, maximum_proper, hull_proper, clamp_proper, widen_proper}
+use Rattle.book_model.specs.Expressions.{Expression, World, value, argument, integer, constant, add, subtract, multiply, divide, negate, scale, power, minimum, maximum, hull, clamp, widen, exactly}
+use Rattle.book_model.specs.Bounds.{Bound, unbounded, Limits, Reach, IsNarrow, bound_of, integer_bound, constant_bound, sum_bound, scaled_bound, limits_of, limits_36}
+use Rattle.book_model.proofs.Values.{value_proper}
+use Rattle.book_model.specs.Relations.{Within, Narrow, Lies, Keeps}
+
+-- ---- what an enclosure holds
+pub within_integer : {E : Type 0} (shown : E → Interval) (w : World) (n : ℤ) (k : E) → 40 ≤ w.depth → between (whole n) (whole n) ⊆ shown k → Within shown w (integer n) k
+unfolding Lies value
+within_integer shown w n k d h = record { deep = d; inside = h }
+
+pub within_constant : {E : Type 0} (shown : E → Interval) (w : World) (a : Fraction) (k : E) → 40 ≤ w.depth → between a a ⊆ shown k → Within shown w (constant a) k
+unfolding Lies value
+within_constant shown w a k d h = record { deep = d; inside = h }
+
+pub within_add : {E : Type 0} (shown : E → Interval) (w : World) (x y : Expression) (i j k : E) → sum (shown i) (shown j) ⊆ shown k → Within shown w x i → Within shown w y j → Within shown w (add x y) k
+unfolding Lies value
+within_add shown w x y i j k h p q = let a : value w x ⊆ shown i = p.inside in let b : value w y ⊆ shown j = q.inside in record { deep = p.deep; inside = within_trans (sum_within a b) h }
+
+pub within_scale : {E : Type 0} (shown : E → Interval) (w : World) (f : Fraction) (x : Expression) (i k : E) → product (shown i) (between f f) ⊆ shown k → Within shown w x i → Within shown w (scale f x) k
+unfolding Lies value
+within_scale shown w f x i k h p =
+    let a : value w x ⊆ shown i = p.inside in record { deep = p.deep; inside = within_trans (product_within (value_proper w x) (le_refl f) a (within_refl (between f f))) h }
+
+pub within_subtract : {E : Type 0} (shown : E → Interval) (w : World) (x y : Expression) (i j k : E) → difference (shown i) (shown j) ⊆ shown k → Within shown w x i → Within shown w y j → Within shown w (subtract x y) k
+unfolding Lies value
+within_subtract shown w x y i j k h p q = let a : value w x ⊆ shown i = p.inside in let b : value w y ⊆ shown j = q.inside in record { deep = p.deep; inside = within_trans (difference_within a b) h }
+
+pub within_multiply : {E : Type 0} (shown : E → Interval) (w : World) (x y : Expression) (i j k : E) → product (shown i) (shown j) ⊆ shown k → Within shown w x i → Within shown w y j → Within shown w (multiply x y) k
+unfolding Lies value
+within_multiply shown w x y i j k h p q = let a : value w x ⊆ shown i = p.inside in let b : value w y ⊆ shown j = q.inside in record { deep = p.deep; inside = within_trans (product_within (value_proper w x) (value_proper w y) a b) h }
+
+pub within_minimum : {E : Type 0} (shown : E → Interval) (w : World) (x y : Expression) (i j k : E) → interval_minimum (shown i) (shown j) ⊆ shown k → Within shown w x i → Within shown w y j → Within shown w (minimum x y) k
+unfolding Lies value
+within_minimum shown w x y i j k h p q = let a : value w x ⊆ shown i = p.inside in let b : value w y ⊆ shown j = q.inside in record { deep = p.deep; inside = within_trans (minimum_within a b) h }
+
+pub within_maximum : {E : Type 0} (shown : E → Interval) (w : World) (x y : Expression) (i j k : E) → interval_maximum (shown i) (shown j) ⊆ shown k → Within shown w x i → Within shown w y j → Within shown w (maximum x y) k
+unfolding Lies value
+within_maximum shown w x y i j k h p q = let a : value w x ⊆ shown i = p.inside in let b : value w y ⊆ shown j = q.inside in record { deep = p.deep; inside = within_trans (maximum_within a b) h }
+
+pub within_hull : {E : Type 0} (shown : E → Interval) (w : World) (x y : Expression) (i j k : E) → interval_hull (shown i) (shown j) ⊆ shown k → Within shown w x i → Within shown w y j → Within shown w (hull x y) k
+unfolding Lies value
+within_hull shown w x y i j k h p q = let a : value w x ⊆ shown i = p.inside in let b : value w y ⊆ shown j = q.inside in record { deep = p.deep; inside = within_trans (hull_within a b) h }
+
+pub within_negate : {E : Type 0} (shown : E → Interval) (w : World) (x : Expression) (i k : E) → negative (shown i) ⊆ shown k → Within shown w x i → Within shown w (negate x) k
+unfolding Lies value
+within_negate shown w x i k h p = let a : value w x ⊆ shown i = p.inside in record { deep = p.deep; inside = within_trans (negative_within a) h }
+
+pub within_widen : {E : Type 0} (shown : E → Interval) (w : World) (f : Fraction) (x : Expression) (i k : E) → interval_widen f (shown i) ⊆ shown k → Within shown w x i → Within shown w (widen f x) k
+unfolding Lies value
+within_widen shown w f x i k h p = let a : value w x ⊆ shown i = p.inside in record { deep = p.deep; inside = within_trans (widen_within f a) h }
+
+-- ---- the bound that an enclosure keeps
+pub narrow_integer : {E : Type 0} (shown : E → Interval) (r : Reach) (n : ℤ) (k : E) → ((w : ℕ) → IsNarrow w (integer_bound limits_36 n) (shown k)) → Narrow shown (limits_of 36) r (integer n) k
+unfolding Keeps bound_of limits_of
+narrow_integer shown r n k h = record { kept = h r.width }
+
+pub narrow_constant : {E : Type 0} (shown : E → Interval) (r : Reach) (a : Fraction) (k : E) → ((w : ℕ) → IsNarrow w (constant_bound limits_36 a) (shown k)) → Narrow shown (limits_of 36) r (constant a) k
+unfolding Keeps bound_of limits_of
+narrow_constant shown r a k h = record { kept = h r.width }
+
+pub narrow_add : {E : Type 0} (shown : E → Interval) (r : Reach) (x y : Expression) (i j k : E) → ((w : ℕ) (a b : Bound) → IsNarrow w a (shown i) → IsNarrow w b (shown j) → IsNarrow w (sum_bound limits_36 a b) (shown k))
+    → Narrow shown (limits_of 36) r x i → Narrow shown (limits_of 36) r y j → Narrow shown (limits_of 36) r (add x y) k
+unfolding Keeps bound_of limits_of
+narrow_add shown r x y i j k h p q = record { kept = h r.width _ _ p.kept q.kept }
+
+pub narrow_scale : {E : Type 0} (shown : E → Interval) (r : Reach) (f : Fraction) (x : Expression) (i k : E) → ((w : ℕ) (a : Bound) → IsNarrow w a (shown i) → IsNarrow w (scaled_bound limits_36 f a) (shown k))
+    → Narrow shown (limits_of 36) r x i → Narrow shown (limits_of 36) r (scale f x) k
+unfolding Keeps bound_of limits_of
+narrow_scale shown r f x i k h p = record { kept = h r.width _ p.kept }
+
+-- ---- operations of which no width is promised
+-- an expression without a bound has its promise kept by every enclosure
+pub narrow_unbounded : {E : Type 0} (shown : E → Interval) (l : Limits) (r : Reach) (x : Expression) (k : E) → bound_of l r.bounds x ≡ unbounded → Narrow shown l r x k
+unfolding Keeps IsNarrow
+narrow_unbounded shown l r x k e = record { kept = rw e tt }
+
+pub narrow_subtract : {E : Type 0} (shown : E → Interval) (l : Limits) (r : Reach) (x y : Expression) (k : E) → Narrow shown l r (subtract x y) k
+unfolding bound_of
+narrow_subtract shown l r x y k = narrow_unbounded shown l r (subtract x y) k refl
+
+pub narrow_multiply : {E : Type 0} (shown : E → Interval) (l : Limits) (r : Reach) (x y : Expression) (k : E) → Narrow shown l r (multiply x y) k
+unfolding bound_of
+narrow_multiply shown l r x y k = narrow_unbounded shown l r (multiply x y) k refl
+
+pub narrow_minimum : {E : Type 0} (shown : E → Interval) (l : Limits) (r : Reach) (x y : Expression) (k : E) → Narrow shown l r (minimum x y) k
+unfolding bound_of
+narrow_minimum shown l r x y k = narrow_unbounded shown l r (minimum x y) k refl
+
+pub narrow_maximum : {E : Type 0} (shown : E → Interval) (l : Limits) (r : Reach) (x y : Expression) (k : E) → Narrow shown l r (maximum x y) k
+unfolding bound_of
+narrow_maximum shown l r x y k = narrow_unbounded shown l r (maximum x y) k refl
+
+pub narrow_hull : {E : Type 0} (shown : E → Interval) (l : Limits) (r : Reach) (x y : Expression) (k : E) → Narrow shown l r (hull x y) k
+unfolding bound_of
+narrow_hull shown l r x y k = narrow_unbounded shown l r (hull x y) k refl
+
+pub narrow_negate : {E : Type 0} (shown : E → Interval) (l : Limits) (r : Reach) (x : Expression) (k : E) → Narrow shown l r (negate x) k
+unfolding bound_of
+narrow_negate shown l r x k = narrow_unbounded shown l r (negate x) k refl
+
+pub narrow_widen : {E : Type 0} (shown : E → Interval) (l : Limits) (r : Reach) (f : Fraction) (x : Expression) (k : E) → Narrow shown l r (widen f x) k
+unfolding bound_of
+narrow_widen shown l r f x k = narrow_unbounded shown l r (widen f x) k refl

@@ -1,0 +1,65 @@
+-- The clauses of every scale, for enclosures that show everything.
+use Rattle.std.proofs.Common.{◌≡◌, ℕ, ◌≤◌, ◌^◌, ◌-◌, refl, ℤ, pos, negsuc, Bool, true, false, ◌&&◌}
+use lib.Dec.{ltb}
+use Rattle.std.proofs.Math.Dec.{leb-suc-zero}
+use Rattle.exact_math.specs.Fraction.{Fraction}
+use Rattle.exact_math.specs.Interval.{Interval, everything, hull}
+use Rattle.exact_math.proofs.Intervals.{within_everything}
+use Rattle.book_model.specs.Expressions.{Expression, World, integer, constant, add, subtract, multiply, negate, scale, minimum, maximum, hull as hull_of, widen}
+use Rattle.book_model.specs.Bounds.{Bound, unbounded, bounded, limited, Reach, IsNarrow, bound_of, integer_bound, constant_bound, sum_bound, scaled_bound, limits_of, no_limits}
+use Rattle.book_model.specs.Relations.{Within, Narrow, Lies, Keeps}
+use Rattle.book_model.specs.Programs.{Grid, cell_at, compare_at}
+use Rattle.book_model.specs.Leading.{AreNoBounds, no_bounds, IsOpenCell, between_cells, IsOpenComparison}
+
+-- everything holds every value
+pub within_any : {E : Type 0} (shown : E → Interval) (w : World) (x : Expression) (e : E) → shown e ≡ everything → 40 ≤ w.depth → Within shown w x e
+unfolding Lies
+within_any shown w x e s d = record { deep = d; inside = rw s (within_everything _) }
+
+pub within_one : {E : Type 0} (shown : E → Interval) (w : World) (x z : Expression) (e r : E) → shown r ≡ everything → Within shown w x e → Within shown w z r
+within_one shown w x z e r s h = within_any shown w z r s h.deep
+
+-- where no limit is kept, no width is promised
+integer_none : (w : ℕ) (n : ℤ) → IsNarrow w (integer_bound no_limits n) everything
+unfolding integer_bound IsNarrow
+integer_none w n = rw leb-suc-zero tt
+
+constant_none : (w : ℕ) (f : Fraction) → IsNarrow w (constant_bound no_limits f) everything
+unfolding constant_bound IsNarrow
+constant_none w f = rw leb-suc-zero tt
+
+sum_none : (w : ℕ) (a b : Bound) → IsNarrow w (sum_bound no_limits a b) everything
+unfolding sum_bound IsNarrow
+sum_none w unbounded b = tt
+sum_none w (bounded a c s k) unbounded = tt
+sum_none w (bounded a c s k) (bounded d e t m) = rw leb-suc-zero tt
+
+scaled_none : (w : ℕ) (f : Fraction) (a : Bound) → IsNarrow w (scaled_bound no_limits f a) everything
+unfolding scaled_bound IsNarrow
+scaled_none w f unbounded = tt
+scaled_none w f (bounded a c s k) = rw leb-suc-zero tt
+
+pub narrow_integer : {E : Type 0} (shown : E → Interval) (r : Reach) (n : ℤ) (e : E) → shown e ≡ everything → Narrow shown (limits_of 8) r (integer n) e
+unfolding Keeps bound_of limits_of
+narrow_integer shown r n e s = record { kept = rw s (integer_none r.width n) }
+
+pub narrow_constant : {E : Type 0} (shown : E → Interval) (r : Reach) (f : Fraction) (e : E) → shown e ≡ everything → Narrow shown (limits_of 8) r (constant f) e
+unfolding Keeps bound_of limits_of
+narrow_constant shown r f e s = record { kept = rw s (constant_none r.width f) }
+
+pub narrow_add : {E : Type 0} (shown : E → Interval) (r : Reach) (x y : Expression) (e : E) → shown e ≡ everything → Narrow shown (limits_of 8) r (add x y) e
+unfolding Keeps bound_of limits_of
+narrow_add shown r x y e s = record { kept = rw s (sum_none r.width _ _) }
+
+pub narrow_scale : {E : Type 0} (shown : E → Interval) (r : Reach) (f : Fraction) (x : Expression) (e : E) → shown e ≡ everything → Narrow shown (limits_of 8) r (scale f x) e
+unfolding Keeps bound_of limits_of
+narrow_scale shown r f x e s = record { kept = rw s (scaled_none r.width f _) }
+
+-- tests on everything are open, without bounds
+pub cell_open : (g : Grid) (i : Interval) (lo hi : ℤ) → i ≡ everything → lo ≡ negsuc (2 ^ 127 - 1) → hi ≡ pos (2 ^ 127 - 1) → IsOpenCell g i lo hi
+unfolding cell_at
+cell_open g i lo hi s e f = rw s (between_cells refl (no_bounds (record { least = e; greatest = f })))
+
+pub compare_open : (i j : Interval) (lo hi : ℤ) → i ≡ everything → j ≡ everything → lo ≡ negsuc (2 ^ 127 - 1) → hi ≡ pos (2 ^ 127 - 1) → IsOpenComparison i j lo hi
+unfolding compare_at hull
+compare_open i j lo hi s t e f = rw (s, t) (record { open_there = refl; ends = no_bounds (record { least = e; greatest = f }) })

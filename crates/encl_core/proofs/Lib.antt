@@ -1,0 +1,7 @@
+pub mod Quotients
+pub mod Keeping
+pub mod Following
+pub mod Enclosing
+pub mod Scaling
+pub mod Testing
+pub mod Knowing

@@ -1,0 +1,302 @@
+-- Fractions, and products with fractions, at scale 2^-36: ends rounded outwards hold them and keep a bound.
+use Rattle.std.proofs.Common.{◌≡◌, ℕ, zero, suc, ◌+◌, ◌*◌, ◌^◌, ◌-◌, ◌/◌, ◌≤◌, ◌<◌, max, refl, sym, ap, arith, Bool, true, false, cond, ◌&&◌, ℤ, pos, negsuc, ◌+ℤ◌, ◌*ℤ◌, ◌-ℤ◌, ◌≤ℤ◌, ◌<ℤ◌, List, [], ◌∷◌, SFits}
+use Rattle.std.specs.Int.{w128}
+use lib.IntN.{neg_ℤ}
+use Rattle.std.specs.Prelude.{unsigned_abs, nat_lt}
+use Rattle.std.proofs.lemmas.Int.{ints, by_lt_z}
+use Rattle.std.proofs.lemmas.Bool.{ltb-true}
+use Rattle.std.specs.Int.Signed.{le_z_yes}
+use Rattle.exact_math.specs.Fraction.{Fraction, den, ◌≤F◌, plus, times, floor_quotient}
+use Rattle.exact_math.specs.Interval.{Interval, everything, between, ◌⊆◌, product}
+use Rattle.exact_math.proofs.Ring.{at, lit, ◌⊕◌, ◌⊖◌, ◌⊗◌}
+use Rattle.exact_math.proofs.Bounds.{◌≼◌, known, ◌⊞◌, ◌⊠◌, times as naturally, le_by, le_over, refute, pos_nonneg}
+use Rattle.exact_math.proofs.Fractions.{by_cross, den_product}
+use Rattle.exact_math.proofs.Intervals.{within_trans, least_is, greatest_is}
+use Rattle.book_model.specs.Bounds.{Bound, unbounded, bounded, range_size, ceil_div, floor_at_32, ceil_at_32, limited, around, scaled_around, scaled_bound, constant_bound, IsNarrow, limits_36}
+use Rattle.encl_core.specs.Rounding.{at_36, IsFloor, IsCeiling, AreSorted, Keeps64}
+use Rattle.encl_core.proofs.Quotients.{next_le, ≤ℤ_trans, outward_order, sorted_order, floor_quotient_floor}
+use Rattle.encl_core.proofs.Keeping.{AreKept, kept_of, kept_within, limited_narrow, both}
+
+-- ---- fractions
+-- what an unreduced fraction is at the scale
+constant_above : (f : Fraction) (m q : ℤ) → m ≡ f.num *ℤ pos (2 ^ 36) → (q *ℤ pos (suc f.below)) ≤ℤ m → at_36 q ≤F f
+constant_above f m q e h = by_cross (at_36 q) f (pos (2 ^ 36)) (pos (suc f.below)) refl refl (rw e at h)
+
+constant_below : (f : Fraction) (m q : ℤ) → m ≡ f.num *ℤ pos (2 ^ 36) → m ≤ℤ (q *ℤ pos (suc f.below)) → f ≤F at_36 q
+constant_below f m q e h = by_cross f (at_36 q) (pos (suc f.below)) (pos (2 ^ 36)) refl refl (rw e at h)
+
+pub constant_encloses : (f : Fraction) (m lo hi d : ℤ) (i : Interval) → m ≡ f.num *ℤ pos (2 ^ 36) → d ≡ pos (f.below + 1) → IsFloor lo m d → IsCeiling hi m d → Keeps64 lo hi i → between f f ⊆ i
+constant_encloses f m lo hi d i em ed l u k =
+    let e : d ≡ pos (suc f.below) = omega (arith, ints) in
+    let a = rw e at l in
+    let b = rw e at u in
+    within_trans (record { ends = (constant_above f m lo em a.not_above, constant_below f m hi em b.not_below) }) (kept_within lo hi i k)
+
+-- a quotient at a coarser scale is not above
+finer_z : (n d q r : ℤ) → (q *ℤ d) ≤ℤ (n *ℤ pos (2 ^ 32)) → ((n *ℤ pos (2 ^ 36)) +ℤ pos 1) ≤ℤ (r *ℤ d +ℤ d) → pos 0 ≤ℤ d → (r +ℤ pos 1) ≤ℤ (q *ℤ pos (2 ^ 4)) → ⊥
+finer_z n d q r h0 h1 h2 k =
+    let vn = at 0 in
+    let vd = at 1 in
+    let vq = at 2 in
+    let vr = at 3 in
+    let t = λ (k : ℕ). lit (pos (2 ^ k)) in
+    let one = lit (pos 1) in
+    refute (n ∷ d ∷ q ∷ r ∷ []) ((vq ⊗ vd ≼ vn ⊗ t 32) ∷ (vn ⊗ t 36 ⊕ one ≼ vr ⊗ vd ⊕ vd) ∷ (lit (pos 0) ≼ vd) ∷ (vr ⊕ one ≼ vq ⊗ t 4) ∷ [])
+    (naturally (2 ^ 4) ⊠ known 0 ⊞ known 1 ⊞ known 3 ⊠ known 2) refl (h0, (h1, (h2, (k, tt))))
+
+finer : (n d q r : ℤ) → (q *ℤ d) ≤ℤ (n *ℤ pos (2 ^ 32)) → ((n *ℤ pos (2 ^ 36)) +ℤ pos 1) ≤ℤ (r *ℤ d +ℤ d) → pos 0 ≤ℤ d → (q *ℤ pos (2 ^ 4)) ≤ℤ r
+finer n d q r h0 h1 h2 = by_lt_z r (q *ℤ pos (2 ^ 4)) (λ k. absurd (finer_z n d q r h0 h1 h2 (next_le _ _ k))) (λ h. h)
+
+close_by_one : (n d lo hi : ℤ) → (hi *ℤ d +ℤ pos 1) ≤ℤ (n +ℤ d) → (n +ℤ pos 1) ≤ℤ (lo *ℤ d +ℤ d) → pos 0 ≤ℤ d → (lo +ℤ pos 2) ≤ℤ hi → ⊥
+close_by_one n d lo hi h0 h1 h2 k =
+    refute (n ∷ d ∷ lo ∷ hi ∷ []) ((at 3 ⊗ at 1 ⊕ lit (pos 1) ≼ at 0 ⊕ at 1) ∷ (at 0 ⊕ lit (pos 1) ≼ at 2 ⊗ at 1 ⊕ at 1) ∷ (lit (pos 0) ≼ at 1) ∷ (at 2 ⊕ lit (pos 2) ≼ at 3) ∷ [])
+    (known 0 ⊞ known 1 ⊞ known 3 ⊠ known 2 ⊞ naturally 1) refl (h0, (h1, (h2, (k, tt))))
+
+-- a quotient rounded up is the opposite of one rounded down
+flip_ceiling : (hi d g : ℤ) → (hi *ℤ d +ℤ pos 1) ≤ℤ (g +ℤ d) → ((pos 0 -ℤ g) +ℤ pos 1) ≤ℤ ((pos 0 -ℤ hi) *ℤ d +ℤ d)
+flip_ceiling hi d g h = le_by (hi ∷ d ∷ g ∷ []) ((at 0 ⊗ at 1 ⊕ lit (pos 1) ≼ at 2 ⊕ at 1) ∷ []) ((lit (pos 0) ⊖ at 2) ⊕ lit (pos 1)) ((lit (pos 0) ⊖ at 0) ⊗ at 1 ⊕ at 1) (known 0) refl (h, tt)
+
+constant_kept : (f : Fraction) (w : ℕ) (m lo hi : ℤ) → m ≡ f.num *ℤ pos (2 ^ 36) → IsFloor lo m (pos (suc f.below)) → IsCeiling hi m (pos (suc f.below))
+    → AreKept (floor_at_32 f) (ceil_at_32 f) 0 (2 ^ 28) w lo hi
+constant_kept f w m lo hi e l c =
+    let one : pos 0 <ℤ pos (suc f.below) = omega (arith, ints) in
+    let a = floor_quotient_floor (f.num *ℤ pos (2 ^ 32)) f.below in
+    let b = floor_quotient_floor (neg_ℤ (f.num *ℤ pos (2 ^ 32))) f.below in
+    let g : (m +ℤ pos 1) ≤ℤ (lo *ℤ pos (suc f.below) +ℤ pos (suc f.below)) = next_le _ _ l.close in
+    let u : (hi *ℤ pos (suc f.below) +ℤ pos 1) ≤ℤ (m +ℤ pos (suc f.below)) = next_le _ _ c.close in
+    let low = finer f.num (pos (suc f.below)) _ lo a.not_above (rw e at g) (pos_nonneg (suc f.below)) in
+    let v = flip_ceiling hi (pos (suc f.below)) m u in
+    let high = finer (pos 0 -ℤ f.num) (pos (suc f.below)) (floor_quotient (neg_ℤ (f.num *ℤ pos (2 ^ 32))) f.below) (pos 0 -ℤ hi) (omega (arith, ints, b.not_above)) (omega (arith, ints)) (pos_nonneg (suc f.below)) in
+    let near : hi ≤ℤ (lo +ℤ pos 1) = by_lt_z (lo +ℤ pos 1) hi (λ k. absurd (close_by_one m (pos (suc f.below)) lo hi u g (pos_nonneg (suc f.below)) (omega (arith, ints)))) (λ h. h) in
+    record {
+      ordered = outward_order m m (pos (suc f.below)) lo hi (omega (arith, ints)) l c one;
+      above = low;
+      below = omega (arith, ints, high);
+      close = omega (arith, ints, near);
+    }
+
+pub constant_narrow : (f : Fraction) (w : ℕ) (m lo hi d : ℤ) (i : Interval) → m ≡ f.num *ℤ pos (2 ^ 36) → d ≡ pos (f.below + 1) → IsFloor lo m d → IsCeiling hi m d → Keeps64 lo hi i → IsNarrow w (constant_bound limits_36 f) i
+unfolding constant_bound
+constant_narrow f w m lo hi d i e ed l u k =
+    let ds : d ≡ pos (suc f.below) = omega (arith, ints) in
+    limited_narrow _ _ _ _ _ _ lo hi i (λ t. ltb-true _ _ (both _ _ t).1) (constant_kept f w m lo hi e (rw ds at l) (rw ds at u)) k
+
+-- numerators that the limits allow fit
+constant_small : (n : ℤ) → unsigned_abs n < 2 ^ 90 → SFits w128 (n *ℤ pos (2 ^ 36))
+constant_small n h = omega (arith, ints)
+
+pub constant_overflow : (f : Fraction) (w : ℕ) → (SFits w128 (f.num *ℤ pos (2 ^ 36)) → ⊥) → IsNarrow w (constant_bound limits_36 f) everything
+unfolding constant_bound IsNarrow
+constant_overflow f w n = by_test _ refl
+  where
+    by_test : (t : Bool) → t ≡ (nat_lt (unsigned_abs f.num) (2 ^ 90) && nat_lt (range_size (floor_at_32 f) (ceil_at_32 f)) (2 ^ 58)) → IsNarrow w (limited t (bounded (floor_at_32 f) (ceil_at_32 f) 0 (2 ^ 28))) everything
+    by_test false e = tt
+    by_test true e = absurd (n (constant_small f.num (ltb-true _ _ (both _ _ (sym e)).0)))
+
+-- ---- products with fractions
+-- |x| ≤ a, |y| ≤ b
+pub bounded_z : (x y a b : ℤ) → x ≤ℤ a → (pos 0 -ℤ a) ≤ℤ x → y ≤ℤ b → (pos 0 -ℤ b) ≤ℤ y → ((x *ℤ y) ≤ℤ (a *ℤ b)) × ((pos 0 -ℤ a *ℤ b) ≤ℤ (x *ℤ y))
+bounded_z x y a b h0 h1 h2 h3 =
+    let vx = at 0 in
+    let vy = at 1 in
+    let va = at 2 in
+    let vb = at 3 in
+    let z = lit (pos 0) in (
+      le_over (x ∷ y ∷ a ∷ b ∷ []) ((vx ≼ va) ∷ (z ⊖ va ≼ vx) ∷ (vy ≼ vb) ∷ (z ⊖ vb ≼ vy) ∷ []) (lit (pos 2)) (vx ⊗ vy) (va ⊗ vb)
+          (known 0 ⊠ known 3 ⊞ known 1 ⊠ known 2) refl (le_z_yes tt) (h0, (h1, (h2, (h3, tt)))),
+      le_over (x ∷ y ∷ a ∷ b ∷ []) ((vx ≼ va) ∷ (z ⊖ va ≼ vx) ∷ (vy ≼ vb) ∷ (z ⊖ vb ≼ vy) ∷ []) (lit (pos 2)) (z ⊖ va ⊗ vb) (vx ⊗ vy)
+          (known 0 ⊠ known 2 ⊞ known 1 ⊠ known 3) refl (le_z_yes tt) (h0, (h1, (h2, (h3, tt)))),
+    )
+
+frac_z : (q a n d k : ℤ) → pos 0 ≤ℤ k → (q *ℤ d) ≤ℤ (a *ℤ n) → (q *ℤ (k *ℤ d)) ≤ℤ ((a *ℤ n) *ℤ k)
+frac_z q a n d k p h = le_by (q ∷ a ∷ n ∷ d ∷ k ∷ []) ((lit (pos 0) ≼ at 4) ∷ (at 0 ⊗ at 3 ≼ at 1 ⊗ at 2) ∷ []) (at 0 ⊗ (at 4 ⊗ at 3)) ((at 1 ⊗ at 2) ⊗ at 4) (known 1 ⊠ known 0) refl (p, (h, tt))
+
+frac_under_z : (q a n d k : ℤ) → pos 0 ≤ℤ k → (a *ℤ n) ≤ℤ (q *ℤ d) → ((a *ℤ n) *ℤ k) ≤ℤ (q *ℤ (k *ℤ d))
+frac_under_z q a n d k p h = le_by (q ∷ a ∷ n ∷ d ∷ k ∷ []) ((lit (pos 0) ≼ at 4) ∷ (at 1 ⊗ at 2 ≼ at 0 ⊗ at 3) ∷ []) ((at 1 ⊗ at 2) ⊗ at 4) (at 0 ⊗ (at 4 ⊗ at 3)) (known 1 ⊠ known 0) refl (p, (h, tt))
+
+times_above : (q a : ℤ) (f : Fraction) → (q *ℤ pos (suc f.below)) ≤ℤ (a *ℤ f.num) → at_36 q ≤F times (at_36 a) f
+unfolding times
+times_above q a f h = by_cross (at_36 q) _ (pos (2 ^ 36)) (pos (2 ^ 36) *ℤ pos (suc f.below)) refl (den_product (2 ^ 36 - 1) f.below) (frac_z q a f.num (pos (suc f.below)) (pos (2 ^ 36)) (pos_nonneg (2 ^ 36)) h)
+
+times_below : (q a : ℤ) (f : Fraction) → (a *ℤ f.num) ≤ℤ (q *ℤ pos (suc f.below)) → times (at_36 a) f ≤F at_36 q
+unfolding times
+times_below q a f h = by_cross _ (at_36 q) (pos (2 ^ 36) *ℤ pos (suc f.below)) (pos (2 ^ 36)) (den_product (2 ^ 36 - 1) f.below) refl (frac_under_z q a f.num (pos (suc f.below)) (pos (2 ^ 36)) (pos_nonneg (2 ^ 36)) h)
+
+-- ends x, y and a fraction of numerator n and denominator d: their products p and q are m and g in order, which
+-- are lo and hi when rounded outwards
+pub record AreScaled (f : Fraction) (x y n p q m g d lo hi : ℤ) : Type 0 where
+  pub numerator : n ≡ f.num
+  pub first : p ≡ x *ℤ n
+  pub second : q ≡ y *ℤ n
+  pub denominator : d ≡ pos (f.below + 1)
+  pub order : AreSorted m g p q
+  pub down : IsFloor lo m d
+  pub up : IsCeiling hi g d
+
+-- the same without the names
+record AreProducts (f : Fraction) (x y m g lo hi : ℤ) : Type 0 where
+  order : AreSorted m g (x *ℤ f.num) (y *ℤ f.num)
+  down : IsFloor lo m (pos (suc f.below))
+  up : IsCeiling hi g (pos (suc f.below))
+
+products_of : (f : Fraction) (x y n p q m g d lo hi : ℤ) → AreScaled f x y n p q m g d lo hi → AreProducts f x y m g lo hi
+products_of f x y n p q m g d lo hi s =
+    let en = s.numerator in
+    let ep = s.first in
+    let eq = s.second in
+    let o = s.order in
+    let l = s.down in
+    let u = s.up in
+    let ed : d ≡ pos (suc f.below) = omega (arith, ints, s.denominator) in
+    record { order = rw (ep, eq, en) at o; down = rw ed at l; up = rw ed at u }
+
+pub scale_encloses : (f : Fraction) (x y n p q m g d lo hi : ℤ) (i : Interval) → AreScaled f x y n p q m g d lo hi → Keeps64 lo hi i → product (between (at_36 x) (at_36 y)) (between f f) ⊆ i
+unfolding product
+scale_encloses f x y n p q m g d lo hi i s k =
+    let t = products_of f x y n p q m g d lo hi s in
+    let la = times_above lo x f (≤ℤ_trans _ _ _ t.down.not_above t.order.low_first) in
+    let lb = times_above lo y f (≤ℤ_trans _ _ _ t.down.not_above t.order.low_second) in
+    let ga = times_below hi x f (≤ℤ_trans _ _ _ t.order.high_first t.up.not_below) in
+    let gb = times_below hi y f (≤ℤ_trans _ _ _ t.order.high_second t.up.not_below) in
+    within_trans (record { ends = (least_is (at_36 lo) _ _ _ _ la la lb lb, greatest_is (at_36 hi) _ _ _ _ ga ga gb gb) }) (kept_within lo hi i k)
+
+-- the width of a fraction of ends
+close_z : (N d s k w S M m g lo hi V : ℤ) → g ≤ℤ (m +ℤ N *ℤ V) → (V *ℤ pos (2 ^ 68)) ≤ℤ (s *ℤ w +ℤ k *ℤ pos (2 ^ 40)) → (s *ℤ N) ≤ℤ (S *ℤ d) → (k *ℤ N) ≤ℤ (M *ℤ d)
+    → (m +ℤ pos 1) ≤ℤ (lo *ℤ d +ℤ d) → (hi *ℤ d +ℤ pos 1) ≤ℤ (g +ℤ d) → pos 0 ≤ℤ N → pos 0 ≤ℤ w → pos 1 ≤ℤ d → ((hi -ℤ lo) *ℤ pos (2 ^ 68)) ≤ℤ (S *ℤ w +ℤ (M +ℤ pos (2 ^ 29)) *ℤ pos (2 ^ 40))
+close_z N d s k w S M m g lo hi V h0 h1 h2 h3 h4 h5 h6 h7 h8 =
+    let vN = at 0 in
+    let vd = at 1 in
+    let vs = at 2 in
+    let vk = at 3 in
+    let vw = at 4 in
+    let vS = at 5 in
+    let vM = at 6 in
+    let vm = at 7 in
+    let vg = at 8 in
+    let vlo = at 9 in
+    let vhi = at 10 in
+    let vV = at 11 in
+    let n = λ (k : ℕ). lit (pos (2 ^ k)) in
+    le_over (N ∷ d ∷ s ∷ k ∷ w ∷ S ∷ M ∷ m ∷ g ∷ lo ∷ hi ∷ V ∷ [])
+    ((vg ≼ vm ⊕ vN ⊗ vV) ∷ (vV ⊗ n 68 ≼ vs ⊗ vw ⊕ vk ⊗ n 40) ∷ (vs ⊗ vN ≼ vS ⊗ vd) ∷ (vk ⊗ vN ≼ vM ⊗ vd) ∷ (vm ⊕ lit (pos 1) ≼ vlo ⊗ vd ⊕ vd) ∷ (vhi ⊗ vd ⊕ lit (pos 1) ≼ vg ⊕ vd)
+    ∷ (lit (pos 0) ≼ vN) ∷ (lit (pos 0) ≼ vw) ∷ [])
+    vd ((vhi ⊖ vlo) ⊗ n 68) (vS ⊗ vw ⊕ (vM ⊕ n 29) ⊗ n 40)
+    (naturally (2 ^ 68) ⊠ known 0 ⊞ naturally (2 ^ 68) ⊠ known 4 ⊞ naturally (2 ^ 68) ⊠ known 5 ⊞ known 6 ⊠ known 1 ⊞ known 7 ⊠ known 2 ⊞ naturally (2 ^ 40) ⊠ known 3 ⊞ naturally (2 ^ 69))
+    refl h8 (h0, (h1, (h2, (h3, (h4, (h5, (h6, (h7, tt))))))))
+
+-- a rounded quotient is not far below
+above_z : (P Z d m lo : ℤ) → P ≤ℤ (Z *ℤ d) → (pos 0 -ℤ P) ≤ℤ m → (m +ℤ pos 1) ≤ℤ (lo *ℤ d +ℤ d) → pos 0 ≤ℤ d → (lo +ℤ pos 1) ≤ℤ (pos 0 -ℤ Z) → ⊥
+above_z P Z d m lo h0 h1 h2 h3 n =
+    let vP = at 0 in
+    let vZ = at 1 in
+    let vd = at 2 in
+    let vm = at 3 in
+    let vlo = at 4 in
+    let z = lit (pos 0) in
+    let one = lit (pos 1) in
+    refute (P ∷ Z ∷ d ∷ m ∷ lo ∷ []) ((vP ≼ vZ ⊗ vd) ∷ (z ⊖ vP ≼ vm) ∷ (vm ⊕ one ≼ vlo ⊗ vd ⊕ vd) ∷ (z ≼ vd) ∷ (vlo ⊕ one ≼ z ⊖ vZ) ∷ [])
+    (known 0 ⊞ known 1 ⊞ known 2 ⊞ known 4 ⊠ known 3) refl (h0, (h1, (h2, (h3, (n, tt)))))
+
+above : (P Z d m lo : ℤ) → P ≤ℤ (Z *ℤ d) → (pos 0 -ℤ P) ≤ℤ m → (m +ℤ pos 1) ≤ℤ (lo *ℤ d +ℤ d) → pos 0 ≤ℤ d → (pos 0 -ℤ Z) ≤ℤ lo
+above P Z d m lo h0 h1 h2 h3 = by_lt_z lo (pos 0 -ℤ Z) (λ n. absurd (above_z P Z d m lo h0 h1 h2 h3 (next_le _ _ n))) (λ h. h)
+
+-- the difference of the products of two ends
+turn_z : (x y n N : ℤ) → x ≤ℤ y → n ≤ℤ N → (pos 0 -ℤ N) ≤ℤ n → ((x *ℤ n) ≤ℤ (y *ℤ n +ℤ N *ℤ (y -ℤ x))) × ((y *ℤ n) ≤ℤ (x *ℤ n +ℤ N *ℤ (y -ℤ x)))
+turn_z x y n N h0 h1 h2 = (
+  le_by (x ∷ y ∷ n ∷ N ∷ []) ((at 0 ≼ at 1) ∷ (at 2 ≼ at 3) ∷ (lit (pos 0) ⊖ at 3 ≼ at 2) ∷ []) (at 0 ⊗ at 2) (at 1 ⊗ at 2 ⊕ at 3 ⊗ (at 1 ⊖ at 0)) (known 0 ⊠ known 2) refl (h0, (h1, (h2, tt))),
+  le_by (x ∷ y ∷ n ∷ N ∷ []) ((at 0 ≼ at 1) ∷ (at 2 ≼ at 3) ∷ (lit (pos 0) ⊖ at 3 ≼ at 2) ∷ []) (at 1 ⊗ at 2) (at 0 ⊗ at 2 ⊕ at 3 ⊗ (at 1 ⊖ at 0)) (known 0 ⊠ known 1) refl (h0, (h1, (h2, tt))),
+)
+
+near : (m g p q r : ℤ) → AreSorted m g p q → pos 0 ≤ℤ r → p ≤ℤ (q +ℤ r) → q ≤ℤ (p +ℤ r) → g ≤ℤ (m +ℤ r)
+near m g p q r s z h k =
+    let a : (p -ℤ r) ≤ℤ m = s.best_low _ (omega (arith, ints)) (omega (arith, ints)) in
+    let b : (q -ℤ r) ≤ℤ m = s.best_low _ (omega (arith, ints)) (omega (arith, ints)) in
+    s.best_high _ (omega (arith, ints)) (omega (arith, ints))
+
+size_is : (n : ℤ) → (n ≤ℤ pos (unsigned_abs n)) × ((pos 0 -ℤ pos (unsigned_abs n)) ≤ℤ n)
+size_is n = (omega (arith, ints), omega (arith, ints))
+
+nonneg_mul : (N : ℕ) (x y : ℤ) → x ≤ℤ y → pos 0 ≤ℤ (pos N *ℤ (y -ℤ x))
+nonneg_mul N x y h = le_by (pos N ∷ x ∷ y ∷ []) ((at 1 ≼ at 2) ∷ (lit (pos 0) ≼ at 0) ∷ []) (lit (pos 0)) (at 0 ⊗ (at 2 ⊖ at 1)) (known 1 ⊠ known 0) refl (h, (pos_nonneg N, tt))
+
+-- n is at most its quotient, rounded up, times the divisor
+ceil_above : (n d : ℕ) → n ≤ ceil_div n d * suc d
+ceil_above n d = omega arith
+
+scaled_kept : (A N s k w Z S M : ℕ) (f : Fraction) (x y m g lo hi : ℤ) → N ≡ unsigned_abs f.num → x ≤ℤ y → (pos 0 -ℤ pos (A * 2 ^ 4)) ≤ℤ x → y ≤ℤ pos (A * 2 ^ 4) → ((y -ℤ x) *ℤ pos (2 ^ 68)) ≤ℤ pos (s * w + k * 2 ^ 40)
+    → AreProducts f x y m g lo hi → A * N ≤ Z * suc f.below → s * N ≤ S * suc f.below → k * N ≤ M * suc f.below
+    → AreKept (neg_ℤ (pos Z)) (pos Z) S (M + 2 * 2 ^ 28) w lo hi
+scaled_kept A N s k w Z S M f x y m g lo hi e o hx hy hv t hz hs hk =
+    let r = t.order in
+    let i = size_is f.num in
+    let iN : f.num ≤ℤ pos N = rw e i.0 in
+    let jN : (pos 0 -ℤ pos N) ≤ℤ f.num = rw e i.1 in
+    let u = turn_z x y f.num (pos N) o iN jN in
+    let G = near m g (x *ℤ f.num) (y *ℤ f.num) (pos N *ℤ (y -ℤ x)) r (nonneg_mul N x y o) u.0 u.1 in
+    let bx = bounded_z x f.num (pos (A * 2 ^ 4)) (pos N) (omega (arith, ints)) hx iN jN in
+    let by = bounded_z y f.num (pos (A * 2 ^ 4)) (pos N) hy (omega (arith, ints)) iN jN in
+    let low : (pos 0 -ℤ pos (A * 2 ^ 4) *ℤ pos N) ≤ℤ m = r.best_low _ bx.1 by.1 in
+    let high : g ≤ℤ (pos (A * 2 ^ 4) *ℤ pos N) = r.best_high _ bx.0 by.0 in
+    let z : (pos (A * 2 ^ 4) *ℤ pos N) ≤ℤ (pos (Z * 2 ^ 4) *ℤ pos (suc f.below)) = omega (arith, ints, hz) in
+    let one : pos 1 ≤ℤ pos (suc f.below) = omega (arith, ints) in
+    let fl : (m +ℤ pos 1) ≤ℤ (lo *ℤ pos (suc f.below) +ℤ pos (suc f.below)) = next_le _ _ t.down.close in
+    let cl : (hi *ℤ pos (suc f.below) +ℤ pos 1) ≤ℤ (g +ℤ pos (suc f.below)) = next_le _ _ t.up.close in
+    let fa = above (pos (A * 2 ^ 4) *ℤ pos N) (pos (Z * 2 ^ 4)) (pos (suc f.below)) m lo z low fl (pos_nonneg (suc f.below)) in
+    let ga = above (pos (A * 2 ^ 4) *ℤ pos N) (pos (Z * 2 ^ 4)) (pos (suc f.below)) (pos 0 -ℤ g) (pos 0 -ℤ hi) z (omega (arith, ints, high)) (flip_ceiling hi (pos (suc f.below)) g cl) (pos_nonneg (suc f.below)) in
+    record {
+      ordered = outward_order m g (pos (suc f.below)) lo hi (sorted_order m g _ _ r) t.down t.up (omega (arith, ints));
+      above = omega (arith, ints, fa);
+      below = omega (arith, ints, ga);
+      close = omega (
+        arith,
+        ints,
+        close_z (pos N) (pos (suc f.below)) (pos s) (pos k) (pos w) (pos S) (pos M) m g lo hi (y -ℤ x) G hv (omega (arith, ints, hs)) (omega (arith, ints, hk)) fl cl (pos_nonneg N) (pos_nonneg w) one,
+      );
+    }
+
+around_size : (z : ℕ) → z < 2 ^ 58 → range_size (neg_ℤ (pos z)) (pos z) < 2 ^ 58
+around_size z h = omega (arith, ints)
+
+scaled_limited : (f : Fraction) (a b : ℤ) (s k w : ℕ) (x y m g lo hi : ℤ) (i : Interval) → AreKept a b s k w x y → AreProducts f x y m g lo hi → Keeps64 lo hi i
+    → IsNarrow w (scaled_around limits_36 (unsigned_abs f.num) f.below (range_size a b) s k) i
+scaled_limited f a b s k w x y m g lo hi i h t v =
+    limited_narrow _ _ _ _ _ _ lo hi i (λ l. around_size _ (ltb-true _ _ (both _ _ l).1))
+    (scaled_kept (range_size a b) (unsigned_abs f.num) s k w _ _ _ f x y m g lo hi refl h.ordered (omega (arith, ints, h.above, h.below, h.ordered)) (omega (arith, ints, h.above, h.below, h.ordered)) h.close t (ceil_above _ f.below) (ceil_above _ f.below) (ceil_above _ f.below)) v
+
+pub scaled_narrow : (w : ℕ) (a : Bound) (f : Fraction) (x y n p q m g d lo hi : ℤ) (i : Interval) → AreScaled f x y n p q m g d lo hi → Keeps64 lo hi i → IsNarrow w a (between (at_36 x) (at_36 y)) → IsNarrow w (scaled_bound limits_36 f a) i
+unfolding scaled_bound IsNarrow
+scaled_narrow w unbounded f x y n p q m g d lo hi i s v h = tt
+scaled_narrow w (bounded a b t k) f x y n p q m g d lo hi i s v h = scaled_limited f a b t k w x y m g lo hi i (kept_of _ _ _ _ _ _ _ h) (products_of f x y n p q m g d lo hi s) v
+
+-- where the number is everything, so may the product be
+pub scaled_first : (w : ℕ) (f : Fraction) (x : Bound) (i : Interval) → IsNarrow w x everything → IsNarrow w (scaled_bound limits_36 f x) i
+unfolding scaled_bound IsNarrow
+scaled_first w f unbounded i h = tt
+scaled_first w f (bounded a b s k) i h = absurd h
+
+-- products that the limits allow fit
+small : (A N : ℕ) (x : ℤ) → A < 2 ^ 58 → N < 2 ^ 40 → x ≤ℤ (pos (A * 2 ^ 4) *ℤ pos N) → (pos 0 -ℤ pos (A * 2 ^ 4) *ℤ pos N) ≤ℤ x → SFits w128 x
+small A N x h k p q =
+    let b = bounded_z (pos (A * 2 ^ 4)) (pos N) (pos (2 ^ 62)) (pos (2 ^ 40)) (omega (arith, ints)) (omega (arith, ints)) (omega (arith, ints)) (omega (arith, ints)) in
+    omega (arith, ints, b.0, p, q)
+
+pub scaled_overflow : (w : ℕ) (p : Bound) (f : Fraction) (x y n : ℤ) → n ≡ f.num → (SFits w128 (x *ℤ n) → SFits w128 (y *ℤ n) → ⊥) → IsNarrow w p (between (at_36 x) (at_36 y)) → IsNarrow w (scaled_bound limits_36 f p) everything
+unfolding scaled_bound IsNarrow
+scaled_overflow w unbounded f x y n e j h = tt
+scaled_overflow w (bounded a b s k) f x y n e j h = by_test _ refl
+  where
+    fits : range_size a b < 2 ^ 58 → unsigned_abs f.num < 2 ^ 40 → (u : ℤ) → u ≤ℤ pos (range_size a b * 2 ^ 4) → (pos 0 -ℤ pos (range_size a b * 2 ^ 4)) ≤ℤ u → SFits w128 (u *ℤ n)
+    fits l l' u i o =
+        let r = bounded_z u f.num (pos (range_size a b * 2 ^ 4)) (pos (unsigned_abs f.num)) i o (size_is f.num).0 (size_is f.num).1 in
+        rw e (small (range_size a b) (unsigned_abs f.num) (u *ℤ f.num) l l' r.0 r.1)
+
+    by_test : (t : Bool)
+        → t ≡ (nat_lt (range_size a b) (2 ^ 58) && nat_lt (unsigned_abs f.num) (2 ^ 40) && nat_lt (ceil_div (range_size a b * unsigned_abs f.num) f.below) (2 ^ 58))
+        → IsNarrow w (limited t (around (ceil_div (range_size a b * unsigned_abs f.num) f.below) (ceil_div (s * unsigned_abs f.num) f.below) (ceil_div (k * unsigned_abs f.num) f.below + 2 * 2 ^ 28))) everything
+    by_test false e' = tt
+    by_test true e' =
+        let q = kept_of a b s k w x y h in
+        let t = both _ _ (both _ _ (sym e')).0 in
+        let l = ltb-true _ _ t.0 in
+        let l' = ltb-true _ _ t.1 in
+        absurd (j (fits l l' x (omega (arith, ints, q.above, q.below, q.ordered)) (omega (arith, ints, q.above, q.below, q.ordered))) (fits l l' y (omega (arith, ints, q.above, q.below, q.ordered)) (omega (arith, ints, q.above, q.below, q.ordered))))

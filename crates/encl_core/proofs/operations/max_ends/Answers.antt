@@ -1,0 +1,46 @@
+use Rattle.std.proofs.Common.{rules, arith, SFits, w64}
+use Rattle.std.proofs.lemmas.Int.{ints, to_z-of_z}
+use Rattle.encl_core.proofs.Enclosing.{maximum_is, maximum_first, maximum_second, greater_order}
+use Rattle.encl_core.proofs.operations.max_ends.Goals as goal
+
+pub returns-in_err-x-clause-tight : goal.returns-in_err-x-clause-tight
+returns-in_err-x-clause-tight c = rw (c.from_residual.ensures, c.in_err-x.was) (maximum_first _)
+
+pub returns-in_err-y-clause-tight : goal.returns-in_err-y-clause-tight
+returns-in_err-y-clause-tight c = rw (c.from_residual-in_err-y.ensures, c.in_ok-x.was, c.in_err-y.was) (maximum_second _ _)
+
+pub returns-clause-holds : goal.returns-clause-holds
+returns-clause-holds c =
+    let fa : SFits w64 c.in_ok-x.x.lo = search rules in
+    let fb : SFits w64 c.in_ok-x.x.hi = search rules in
+    let fc : SFits w64 c.in_ok-y.y.lo = search rules in
+    let fd : SFits w64 c.in_ok-y.y.hi = search rules in
+    let fl : SFits w64 c.max.result = search rules in
+    let l = simp to_z-of_z at c.max.ensures.value in
+    let fu : SFits w64 c.max-2.result = search rules in
+    let u = simp to_z-of_z at c.max-2.ensures.value in
+    rw (c.in_ok-x.was, c.in_ok-y.was) (simp to_z-of_z (maximum_is c.in_ok-x.x.lo c.in_ok-x.x.hi c.in_ok-y.y.lo c.in_ok-y.y.hi c.max.result c.max-2.result l u).there)
+
+pub returns-clause-tight : goal.returns-clause-tight
+returns-clause-tight c =
+    let fa : SFits w64 c.in_ok-x.x.lo = search rules in
+    let fb : SFits w64 c.in_ok-x.x.hi = search rules in
+    let fc : SFits w64 c.in_ok-y.y.lo = search rules in
+    let fd : SFits w64 c.in_ok-y.y.hi = search rules in
+    let fl : SFits w64 c.max.result = search rules in
+    let l = simp to_z-of_z at c.max.ensures.value in
+    let fu : SFits w64 c.max-2.result = search rules in
+    let u = simp to_z-of_z at c.max-2.ensures.value in
+    rw (c.in_ok-x.was, c.in_ok-y.was) (simp to_z-of_z (maximum_is c.in_ok-x.x.lo c.in_ok-x.x.hi c.in_ok-y.y.lo c.in_ok-y.y.hi c.max.result c.max-2.result l u).back)
+
+pub invariant_of-result : goal.invariant_of-result
+invariant_of-result c =
+    let fa : SFits w64 c.in_ok-x.x.lo = search rules in
+    let fb : SFits w64 c.in_ok-x.x.hi = search rules in
+    let fc : SFits w64 c.in_ok-y.y.lo = search rules in
+    let fd : SFits w64 c.in_ok-y.y.hi = search rules in
+    let fl : SFits w64 c.max.result = search rules in
+    let l = simp to_z-of_z at c.max.ensures.value in
+    let fu : SFits w64 c.max-2.result = search rules in
+    let u = simp to_z-of_z at c.max-2.ensures.value in
+    record { ordered = simp to_z-of_z (greater_order c.in_ok-x.x.lo c.in_ok-x.x.hi c.in_ok-y.y.lo c.in_ok-y.y.hi c.max.result c.max-2.result c.in_ok-x.x.ordered c.in_ok-y.y.ordered l u) }

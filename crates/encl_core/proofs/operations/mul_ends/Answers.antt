@@ -1,0 +1,27 @@
+use Rattle.std.proofs.Common.{arith, rules, SFits, w64, pos, ◌^◌}
+use Rattle.std.specs.Int.{w128}
+use Rattle.std.proofs.lemmas.Int.{ints, to_z-of_z}
+use Rattle.encl_core.proofs.Quotients.{outward_order}
+use Rattle.encl_core.proofs.Enclosing.{product_encloses, products_order}
+use Rattle.encl_core.proofs.operations.mul_ends.Goals as goal
+
+pub ends_of-requires : goal.ends_of-requires
+ends_of-requires c =
+    let fm : SFits w128 c.products-least.result.0 = search rules in
+    let fg : SFits w128 c.products-least.result.1 = search rules in
+    let fl : SFits w128 c.floor_36.result = search rules in
+    let fh : SFits w128 c.ceil_36.result = search rules in
+    let i = simp to_z-of_z at c.floor_36.ensures.floor in
+    let j = simp to_z-of_z at c.ceil_36.ensures.ceiling in
+    simp to_z-of_z (outward_order _ _ _ _ _ (products_order _ _ _ _ _ _ c.products-least.ensures.least c.products-least.ensures.greatest) i j (omega (arith, ints)))
+
+pub returns : goal.returns
+returns c =
+    let fm : SFits w128 c.products-least.result.0 = search rules in
+    let fg : SFits w128 c.products-least.result.1 = search rules in
+    let fl : SFits w128 c.floor_36.result = search rules in
+    let fh : SFits w128 c.ceil_36.result = search rules in
+    let i = simp to_z-of_z at c.floor_36.ensures.floor in
+    let j = simp to_z-of_z at c.ceil_36.ensures.ceiling in
+    let k = simp to_z-of_z at c.ends_of.ensures.kept in
+    record { holds = rw (c.in_ok-x.was, c.in_ok-y.was) (product_encloses c.in_ok-x.x.lo c.in_ok-x.x.hi c.in_ok-y.y.lo c.in_ok-y.y.hi _ _ _ _ _ c.products-least.ensures.least c.products-least.ensures.greatest i j k) }

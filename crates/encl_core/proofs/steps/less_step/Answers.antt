@@ -1,0 +1,12 @@
+use Rattle.std.proofs.Common.{rules, refl}
+use Rattle.book_model.specs.Programs.{answer}
+use Rattle.book_model.proofs.Leads.{leads_compare, leads_open_compare, leads_answer, lies}
+use Rattle.encl_core.proofs.steps.less_step.Goals as goal
+
+pub returns-in-Ok-clause-leads : goal.returns-in-Ok-clause-leads
+returns-in-Ok-clause-leads g c = λ w e f h k.
+    rw c.in-Ok.ensures.counted (leads_compare c.args.site e f _ _ c.in-Ok.is_less answer (lies h) (lies k) c.in-Ok.ensures.decided (leads_answer refl))
+
+pub returns-in-Err-clause-leads : goal.returns-in-Err-clause-leads
+returns-in-Err-clause-leads g c = λ w e f h k.
+    rw (← c.in-Err.ensures.named.0) (leads_open_compare e f _ _ answer _ c.in-Err.at (lies h) (lies k) c.in-Err.ensures.named.1 c.in-Err.ensures.undecided)

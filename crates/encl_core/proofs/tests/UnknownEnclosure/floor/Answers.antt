@@ -1,0 +1,7 @@
+use Rattle.std.proofs.Common.{refl}
+use Rattle.encl_core.specs.Shown.{shown_unknown}
+use Rattle.encl_core.proofs.Knowing.{cell_open}
+use Rattle.encl_core.proofs.tests.UnknownEnclosure.floor.Goals as goal
+
+pub returns-clause-undecided : goal.returns-clause-undecided
+returns-clause-undecided c = cell_open _ _ _ _ refl refl refl

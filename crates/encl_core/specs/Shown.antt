@@ -1,0 +1,19 @@
+-- The intervals that ends at scale 2^-36 show.
+use Rattle.std.specs.Prelude.{ℤ, Option, Some, None}
+use Rattle.exact_math.specs.Interval.{Interval, everything, between}
+use Rattle.encl_core.specs.declared.ends.Ends.{Ends}
+use Rattle.encl_core.specs.declared.coarse.Coarse.{Coarse}
+use Rattle.encl_core.specs.Rounding.{at_36}
+
+-- the interval between two ends; everything, where there are none
+abbrev pub shown_ends : Option Ends → Interval
+shown_ends None = everything
+shown_ends (Some e) = between (at_36 e.lo) (at_36 e.hi)
+
+-- the interval that an enclosure shows
+abbrev pub shown_coarse : Coarse → Interval
+shown_coarse x = shown_ends x.ends
+
+-- the interval that an enclosure shows which knows nothing
+abbrev pub shown_unknown : {E : Type 0} → E → Interval
+shown_unknown e = everything

@@ -1,0 +1,18 @@
+-- What a step of a formula that fails says of its enclosures.
+use Rattle.std.specs.Prelude.{◌≡◌}
+use Rattle.exact_math.specs.Interval.{Interval}
+use Rattle.book_model.specs.declared.site.Site.{Site}
+use Rattle.book_model.specs.declared.fail.Fail.{Fail}
+use Rattle.book_model.specs.declared.fail.Fail.TheVariants.{Undecided, Void}
+use Rattle.book_model.specs.Leading.{IsOpenCell, IsOpenComparison}
+use Rattle.book_model.specs.Programs.{integers}
+
+-- a floor at a site is open for this enclosure
+abbrev pub IsOpenFloor : Interval → Site → Fail → Type 0
+IsOpenFloor i s (Undecided u) = IsOpenCell integers i u.lo u.hi × (u.site ≡ s)
+IsOpenFloor i s (Void t) = ⊥
+
+-- a comparison at a site is open for these enclosures
+abbrev pub IsOpenLess : Interval → Interval → Site → Fail → Type 0
+IsOpenLess i j s (Undecided u) = IsOpenComparison i j u.lo u.hi × (u.site ≡ s)
+IsOpenLess i j s (Void t) = ⊥

@@ -1,0 +1,115 @@
+//! Enclosures by ends in 64 bits, which count 2⁻³⁶.
+ghost use Rattle.encl_core.specs.Shown.{shown_coarse};
+
+use crate::comparing::{cell_of_ends, open_at, order_of_ends};
+use crate::ends::Ends;
+use crate::operations::{
+    add_ends, frac_ends, hull_ends, int_ends, max_ends, min_ends, mul_ends, neg_ends, scale_ends,
+    sub_ends, widen_ends,
+};
+use crate::{Enclosure, Trail};
+use book_model::{Frac, Site, Undecided};
+
+/// An enclosure by two ends in 64 bits that count 2⁻³⁶, rounded outwards; every number, where an end doesn't fit.
+#[derive(Clone, Copy, Debug, PartialEq)]
+pub struct Coarse {
+    pub(crate) ends: Option<Ends>,
+}
+
+impl Enclosure for Coarse {
+    ghost shown = { shown_coarse };
+
+    ghost BITS = { 36 };
+
+    ghost DEPTH = { 40 };
+
+    const BITS: u32 = 36;
+
+    const DEPTH: u32 = 40;
+
+    fn whole() -> Self {
+        Coarse { ends: None }
+    }
+
+    fn from_int(value: i64) -> Self {
+        Coarse {
+            ends: int_ends(value),
+        }
+    }
+
+    fn from_frac(value: Frac) -> Self {
+        Coarse {
+            ends: frac_ends(value),
+        }
+    }
+
+    fn add(self, other: Self) -> Self {
+        Coarse {
+            ends: add_ends(self.ends, other.ends),
+        }
+    }
+
+    fn sub(self, other: Self) -> Self {
+        Coarse {
+            ends: sub_ends(self.ends, other.ends),
+        }
+    }
+
+    fn mul(self, other: Self) -> Self {
+        Coarse {
+            ends: mul_ends(self.ends, other.ends),
+        }
+    }
+
+    fn min(self, other: Self) -> Self {
+        Coarse {
+            ends: min_ends(self.ends, other.ends),
+        }
+    }
+
+    fn max(self, other: Self) -> Self {
+        Coarse {
+            ends: max_ends(self.ends, other.ends),
+        }
+    }
+
+    fn hull(self, other: Self) -> Self {
+        Coarse {
+            ends: hull_ends(self.ends, other.ends),
+        }
+    }
+
+    fn neg(self) -> Self {
+        Coarse {
+            ends: neg_ends(self.ends),
+        }
+    }
+
+    fn widen(self, by: Frac) -> Self {
+        Coarse {
+            ends: widen_ends(self.ends, by),
+        }
+    }
+
+    fn mul_frac(self, by: Frac) -> Self {
+        Coarse {
+            ends: scale_ends(self.ends, by),
+        }
+    }
+
+    fn less(self, other: Self, site: Site, trail: &mut Trail) -> Result<bool, Undecided> {
+        let turn = trail.step();
+        match order_of_ends(self.ends, other.ends) {
+            Some(answer) => Ok(answer),
+            None => Err(open_at(hull_ends(self.ends, other.ends), site, turn)),
+        }
+    }
+
+    fn floor(self, site: Site, trail: &mut Trail) -> Result<i64, Undecided> {
+        let turn = trail.step();
+        match cell_of_ends(self.ends) {
+            Some(cell) => Ok(cell),
+            None => Err(open_at(self.ends, site, turn)),
+        }
+    }
+}

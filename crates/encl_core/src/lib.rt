@@ -1,0 +1,27 @@
+//! Enclosures: what the code knows of a number. An enclosure shows an interval, and every operation gives one
+//! that holds what the model's operation gives, and that is no wider than the model's bounds promise. So a
+//! formula that is written over the trait holds its value, at whatever scale it runs. A test is made only where
+//! the enclosures decide it; where they don't, it says which test that was and what the enclosures were.
+//!
+//! - `Enclosure`: the trait, with the clauses that formulas are proved from;
+//! - `Trail`: the count of the tests of a run;
+//! - `Coarse`: the first kind, by ends in 64 bits that count 2⁻³⁶;
+//! - `floor_step` and `less_step`: the tests as steps of a formula's program.
+#![tactic(auto)]
+
+mod coarse;
+mod comparing;
+mod enclosure;
+mod ends;
+mod operations;
+mod rounding;
+mod steps;
+mod trail;
+
+pub use coarse::Coarse;
+pub use enclosure::Enclosure;
+pub use steps::{floor_step, less_step};
+pub use trail::Trail;
+
+#[cfg(test)]
+mod tests;

@@ -1,0 +1,171 @@
+//! The operations on ends that count 2⁻³⁶, rounded outwards. No ends stand for every number.
+ghost use Rattle.std.specs.Prelude.{◌≡◌, ℕ, pos, ◌+◌, ◌*ℤ◌, ◌+ℤ◌, ◌-ℤ◌, ◌≤ℤ◌, neg_ℤ, ◌^◌, ◌-◌, ◌<◌, unsigned_abs, IfSome, IsSome};
+ghost use Rattle.exact_math.specs.Fraction.{whole as whole_number};
+ghost use Rattle.exact_math.specs.Interval.{◌⊆◌, sum, difference, negative, product, minimum, maximum, hull, widen, between};
+ghost use Rattle.book_model.specs.Fractions.{fraction_of};
+ghost use Rattle.book_model.specs.Bounds.{Bound, IsNarrow, integer_bound, constant_bound, sum_bound, scaled_bound, limits_36};
+ghost use Rattle.encl_core.specs.Shown.{shown_ends};
+ghost use Rattle.encl_core.specs.Rounding.{IsBelowFour, IsAboveFour, IsAboveEachBelow, IsBelowEachAbove, IsMargin};
+
+use crate::ends::Ends;
+use crate::rounding::{
+    ceil_36, ceil_div, denominator, ends_of, floor_36, floor_div, greatest_of, least_of, sorted,
+};
+use book_model::Frac;
+
+/// The ends of a whole number.
+pub(crate) fn int_ends(value: i64) -> Option<Ends>
+    ensures holds { between (whole_number value) (whole_number value) ⊆ shown_ends result }
+    ensures narrow { (w : ℕ) → IsNarrow w (integer_bound limits_36 value) (shown_ends result) }
+{
+    let at = i128::from(value) * 68_719_476_736;
+    ends_of(at, at)
+}
+
+/// The ends around a fraction.
+pub(crate) fn frac_ends(value: Frac) -> Option<Ends>
+    ensures holds { between (fraction_of value) (fraction_of value) ⊆ shown_ends result }
+    ensures narrow { (w : ℕ) → IsNarrow w (constant_bound limits_36 (fraction_of value)) (shown_ends result) }
+{
+    let raised = value.num().checked_mul(68_719_476_736)?;
+    let below = denominator(value);
+    ends_of(floor_div(raised, below), ceil_div(raised, below))
+}
+
+/// The sums of the ends.
+pub(crate) fn add_ends(x: Option<Ends>, y: Option<Ends>) -> Option<Ends>
+    ensures holds { sum (shown_ends x) (shown_ends y) ⊆ shown_ends result }
+    ensures narrow { (w : ℕ) (a b : Bound) → IsNarrow w a (shown_ends x) → IsNarrow w b (shown_ends y) → IsNarrow w (sum_bound limits_36 a b) (shown_ends result) }
+{
+    let x = x?;
+    let y = y?;
+    ends_of(
+        i128::from(x.lo) + i128::from(y.lo),
+        i128::from(x.hi) + i128::from(y.hi),
+    )
+}
+
+/// The ends around the products with a fraction.
+pub(crate) fn scale_ends(x: Option<Ends>, by: Frac) -> Option<Ends>
+    ensures holds { product (shown_ends x) (between (fraction_of by) (fraction_of by)) ⊆ shown_ends result }
+    ensures narrow { (w : ℕ) (a : Bound) → IsNarrow w a (shown_ends x) → IsNarrow w (scaled_bound limits_36 (fraction_of by) a) (shown_ends result) }
+{
+    let x = x?;
+    let factor = by.num();
+    let p = i128::from(x.lo).checked_mul(factor)?;
+    let q = i128::from(x.hi).checked_mul(factor)?;
+    let below = denominator(by);
+    let (least, greatest) = sorted(p, q);
+    ends_of(floor_div(least, below), ceil_div(greatest, below))
+}
+
+/// The differences of the ends.
+pub(crate) fn sub_ends(x: Option<Ends>, y: Option<Ends>) -> Option<Ends>
+    ensures holds { difference (shown_ends x) (shown_ends y) ⊆ shown_ends result }
+{
+    let x = x?;
+    let y = y?;
+    ends_of(
+        i128::from(x.lo) - i128::from(y.hi),
+        i128::from(x.hi) - i128::from(y.lo),
+    )
+}
+
+/// The opposites of the ends, in the other order.
+pub(crate) fn neg_ends(x: Option<Ends>) -> Option<Ends>
+    ensures holds { negative (shown_ends x) ⊆ shown_ends result }
+{
+    let x = x?;
+    ends_of(-i128::from(x.hi), -i128::from(x.lo))
+}
+
+/// The product of two ends.
+fn product_of(a: i64, b: i64) -> i128
+    ensures value { result ≡ a *ℤ b }
+    ensures room { neg_ℤ (pos (2 ^ 126)) ≤ℤ result }
+{
+    i128::from(a) * i128::from(b)
+}
+
+/// The least and the greatest product of the ends, which count 2⁻⁷².
+fn products(x: Ends, y: Ends) -> (i128, i128)
+    ensures least { IsBelowFour result.0 (x.lo *ℤ y.lo) (x.lo *ℤ y.hi) (x.hi *ℤ y.lo) (x.hi *ℤ y.hi) }
+    ensures greatest { IsAboveFour result.1 (x.lo *ℤ y.lo) (x.lo *ℤ y.hi) (x.hi *ℤ y.lo) (x.hi *ℤ y.hi) }
+    ensures best_least { IsAboveEachBelow result.0 (x.lo *ℤ y.lo) (x.lo *ℤ y.hi) (x.hi *ℤ y.lo) (x.hi *ℤ y.hi) }
+    ensures best_greatest { IsBelowEachAbove result.1 (x.lo *ℤ y.lo) (x.lo *ℤ y.hi) (x.hi *ℤ y.lo) (x.hi *ℤ y.hi) }
+    ensures room { neg_ℤ (pos (2 ^ 126)) ≤ℤ result.1 }
+{
+    let p = product_of(x.lo, y.lo);
+    let q = product_of(x.lo, y.hi);
+    let r = product_of(x.hi, y.lo);
+    let s = product_of(x.hi, y.hi);
+    (least_of(p, q, r, s), greatest_of(p, q, r, s))
+}
+
+/// The ends around the products of the members.
+pub(crate) fn mul_ends(x: Option<Ends>, y: Option<Ends>) -> Option<Ends>
+    ensures holds { product (shown_ends x) (shown_ends y) ⊆ shown_ends result }
+{
+    let x = x?;
+    let y = y?;
+    let (least, greatest) = products(x, y);
+    ends_of(floor_36(least), ceil_36(greatest))
+}
+
+/// The lesser of each two ends.
+pub(crate) fn min_ends(x: Option<Ends>, y: Option<Ends>) -> Option<Ends>
+    ensures holds { minimum (shown_ends x) (shown_ends y) ⊆ shown_ends result }
+    ensures tight { shown_ends result ⊆ minimum (shown_ends x) (shown_ends y) }
+{
+    let x = x?;
+    let y = y?;
+    Some(Ends {
+        lo: x.lo.min(y.lo),
+        hi: x.hi.min(y.hi),
+    })
+}
+
+/// The greater of each two ends.
+pub(crate) fn max_ends(x: Option<Ends>, y: Option<Ends>) -> Option<Ends>
+    ensures holds { maximum (shown_ends x) (shown_ends y) ⊆ shown_ends result }
+    ensures tight { shown_ends result ⊆ maximum (shown_ends x) (shown_ends y) }
+{
+    let x = x?;
+    let y = y?;
+    Some(Ends {
+        lo: x.lo.max(y.lo),
+        hi: x.hi.max(y.hi),
+    })
+}
+
+/// The lesser lower and the greater upper end.
+pub(crate) fn hull_ends(x: Option<Ends>, y: Option<Ends>) -> Option<Ends>
+    ensures holds { hull (shown_ends x) (shown_ends y) ⊆ shown_ends result }
+    ensures tight { shown_ends result ⊆ hull (shown_ends x) (shown_ends y) }
+{
+    let x = x?;
+    let y = y?;
+    let lo = x.lo.min(y.lo);
+    let hi = x.hi.max(y.hi);
+    Some(Ends { lo, hi })
+}
+
+/// The size of a fraction, which counts 2⁻³⁶, rounded up; `None` only for a numerator of 2⁹⁰ or more in size.
+fn margin_of(by: Frac) -> Option<i128>
+    ensures value { IfSome result (λ m. IsMargin (fraction_of by) m) }
+    ensures some { unsigned_abs by.num < 2 ^ 90 → IsSome result }
+{
+    let raised = by.num().checked_abs()?.checked_mul(68_719_476_736)?;
+    Some(ceil_div(raised, denominator(by)))
+}
+
+/// The ends, each moved outwards by the size of a fraction.
+pub(crate) fn widen_ends(x: Option<Ends>, by: Frac) -> Option<Ends>
+    ensures holds { widen (fraction_of by) (shown_ends x) ⊆ shown_ends result }
+{
+    let x = x?;
+    let margin = margin_of(by)?;
+    let lo = i128::from(x.lo).checked_sub(margin)?;
+    let hi = i128::from(x.hi).checked_add(margin)?;
+    ends_of(lo, hi)
+}

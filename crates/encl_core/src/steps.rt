@@ -1,0 +1,38 @@
+//! The tests of enclosures as steps of formulas: each leads to a program of one test.
+ghost use Rattle.std.specs.Prelude.{◌≡◌, ◌≤◌, ℕ, Bool, IfOk, IfErr, Some};
+ghost use Rattle.book_model.specs.Expressions.{Expression, World};
+ghost use Rattle.book_model.specs.Leading.{Leads, Exact, next_turn};
+ghost use Rattle.book_model.specs.Programs.{answer, cell, compare, integers, cell_at, compare_at};
+ghost use Rattle.book_model.specs.Relations.{Within};
+ghost use Rattle.encl_core.specs.Steps.{IsOpenFloor, IsOpenLess};
+
+use crate::{Enclosure, Trail};
+use book_model::{Fail, Site};
+
+/// The greatest whole number that is not above an enclosed number, as a test at a site. It fails exactly where the
+/// enclosure leaves the test open, and is never void.
+pub fn floor_step<E: Enclosure>(x: E, site: Site, trail: &mut Trail) -> Result<i64, Fail>
+    ensures leads { (w : World) (e : Expression) → Within E.shown w e x → Leads w Exact (cell site integers e answer) trail.old.count trail.new.count result }
+    ensures decided { IfOk result (λ q. cell_at integers (E.shown x) ≡ Some q) }
+    ensures open { IfErr result (IsOpenFloor (E.shown x) site) }
+    ensures counted { trail.new.count ≡ next_turn trail.old.count }
+{
+    match x.floor(site, trail) {
+        Ok(whole) => Ok(whole),
+        Err(at) => Err(Fail::Undecided(at)),
+    }
+}
+
+/// Whether an enclosed number is below another, as a test at a site. It fails exactly where the enclosures leave the
+/// test open, and is never void.
+pub fn less_step<E: Enclosure>(x: E, y: E, site: Site, trail: &mut Trail) -> Result<bool, Fail>
+    ensures leads { (w : World) (e f : Expression) → Within E.shown w e x → Within E.shown w f y → Leads w Exact (compare site e f answer) trail.old.count trail.new.count result }
+    ensures decided { IfOk result (λ t. compare_at (E.shown x) (E.shown y) ≡ Some t) }
+    ensures open { IfErr result (IsOpenLess (E.shown x) (E.shown y) site) }
+    ensures counted { trail.new.count ≡ next_turn trail.old.count }
+{
+    match x.less(y, site, trail) {
+        Ok(is_less) => Ok(is_less),
+        Err(at) => Err(Fail::Undecided(at)),
+    }
+}

@@ -1,0 +1,249 @@
+//! What no clause says: one happy path of each operation, the ends that open tests name, and a second kind of
+//! enclosures, which knows nothing, at another scale.
+ghost use Rattle.encl_core.specs.Shown.{shown_unknown};
+
+use crate::{Coarse, Enclosure, Trail, floor_step, less_step};
+use book_model::{Frac, Site, Undecided};
+use std::test::Fail;
+
+/// An enclosure that shows every number.
+#[derive(Clone, Copy, Debug, PartialEq)]
+struct Unknown;
+
+impl Enclosure for Unknown {
+    ghost shown = { shown_unknown };
+
+    ghost BITS = { 8 };
+
+    ghost DEPTH = { 40 };
+
+    const BITS: u32 = 8;
+
+    const DEPTH: u32 = 40;
+
+    fn whole() -> Self {
+        Unknown
+    }
+
+    fn from_int(_value: i64) -> Self {
+        Unknown
+    }
+
+    fn from_frac(_value: Frac) -> Self {
+        Unknown
+    }
+
+    fn add(self, _other: Self) -> Self {
+        self
+    }
+
+    fn sub(self, _other: Self) -> Self {
+        self
+    }
+
+    fn mul(self, _other: Self) -> Self {
+        self
+    }
+
+    fn min(self, _other: Self) -> Self {
+        self
+    }
+
+    fn max(self, _other: Self) -> Self {
+        self
+    }
+
+    fn hull(self, _other: Self) -> Self {
+        self
+    }
+
+    fn neg(self) -> Self {
+        self
+    }
+
+    fn widen(self, _by: Frac) -> Self {
+        self
+    }
+
+    fn mul_frac(self, _by: Frac) -> Self {
+        self
+    }
+
+    fn less(self, _other: Self, site: Site, trail: &mut Trail) -> Result<bool, Undecided> {
+        Err(Undecided {
+            turn: trail.step(),
+            site,
+            lo: i128::MIN,
+            hi: i128::MAX,
+        })
+    }
+
+    fn floor(self, site: Site, trail: &mut Trail) -> Result<i64, Undecided> {
+        Err(Undecided {
+            turn: trail.step(),
+            site,
+            lo: i128::MIN,
+            hi: i128::MAX,
+        })
+    }
+}
+
+fn fraction(num: i128, den: u64) -> Result<Frac, Fail> {
+    Ok(Frac::new(num, den).ok_or("a denominator of 0")?)
+}
+
+/// From the one whole number to the other.
+fn range<E: Enclosure>(low: i64, high: i64) -> E {
+    E::from_int(low).hull(E::from_int(high))
+}
+
+/// Twice a number and a half of another, through the bound alone.
+fn mixed<E: Enclosure>(x: E, y: E, half: Frac) -> E {
+    x.add(x).sub(y.mul_frac(half)).max(E::from_int(0))
+}
+
+#[test]
+fn whole_numbers_are_exact(rt: HostRuntime) {
+    let seven: Coarse = Enclosure::from_int(7);
+    assert_eq!(rt; Coarse::from_int(3).add(Coarse::from_int(4)), seven);
+    assert_eq!(rt; Coarse::from_int(3).sub(Coarse::from_int(-4)), seven);
+    assert_eq!(rt; Coarse::from_int(-7).neg(), seven);
+    assert_eq!(rt;
+        Coarse::from_int(-12).mul(Coarse::from_int(5)),
+        Coarse::from_int(-60)
+    );
+    assert_eq!(rt; Coarse::from_int(7).min(Coarse::from_int(8)), seven);
+    assert_eq!(rt; Coarse::from_int(7).max(Coarse::from_int(-8)), seven);
+}
+
+#[test]
+fn fractions_are_rounded_outwards(rt: HostRuntime) -> Result<(), Fail> {
+    let half = fraction(1, 2)?;
+    let third = fraction(-1, 3)?;
+    assert_eq!(rt;
+        Coarse::from_int(7).mul_frac(half),
+        Coarse::from_frac(fraction(7, 2)?)
+    );
+    let ends = Coarse::from_frac(third).ends.ok_or("whole")?;
+    assert_eq!(rt; ends.lo, -22_906_492_246);
+    assert_eq!(rt; ends.hi, -22_906_492_245);
+    let ends = range::<Coarse>(1, 2).mul_frac(third).ends.ok_or("whole")?;
+    assert_eq!(rt; ends.lo, -45_812_984_491);
+    assert_eq!(rt; ends.hi, -22_906_492_245);
+    let ends = Coarse::from_frac(third)
+        .mul(Coarse::from_frac(half))
+        .ends
+        .ok_or("whole")?;
+    assert_eq!(rt; ends.lo, -11_453_246_123);
+    assert_eq!(rt; ends.hi, -11_453_246_122);
+    Ok(())
+}
+
+#[test]
+fn ranges_keep_their_ends(rt: HostRuntime) -> Result<(), Fail> {
+    let one_to_three: Coarse = range(1, 3);
+    assert_eq!(rt; one_to_three.neg(), range(-3, -1));
+    assert_eq!(rt; one_to_three.sub(range(0, 5)), range(-4, 3));
+    assert_eq!(rt; one_to_three.mul(range(-2, 5)), range(-6, 15));
+    assert_eq!(rt; one_to_three.min(range(0, 2)), range(0, 2));
+    assert_eq!(rt; one_to_three.max(range(0, 2)), one_to_three);
+    assert_eq!(rt; one_to_three.widen(fraction(-4, 2)?), range(-1, 5));
+    assert_eq!(rt;
+        mixed(one_to_three, range(2, 4), fraction(1, 2)?),
+        range(0, 5)
+    );
+    assert_eq!(rt; mixed(Unknown, Unknown, fraction(1, 2)?), Unknown);
+    Ok(())
+}
+
+#[test]
+fn what_does_not_fit_is_whole(rt: HostRuntime) -> Result<(), Fail> {
+    assert_eq!(rt; Coarse::from_int(134_217_728), Coarse::whole());
+    assert_eq!(rt; Coarse::from_int(-134_217_728).ends.is_some(), true);
+    assert_eq!(rt; Coarse::from_frac(fraction(i128::MAX, 1)?), Coarse::whole());
+    assert_eq!(rt;
+        Coarse::from_int(100_000_000).mul(Coarse::from_int(2)),
+        Coarse::whole()
+    );
+    assert_eq!(rt; Coarse::whole().add(Coarse::from_int(1)), Coarse::whole());
+    Ok(())
+}
+
+#[test]
+fn a_comparison_is_open_where_the_ends_leave_it_open(rt: HostRuntime) {
+    let mut trail = Trail::new();
+    let two = Coarse::from_int(2);
+    assert_eq!(rt;
+        Coarse::from_int(1).less(two, Site::PhasePick, &mut trail),
+        Ok(true)
+    );
+    assert_eq!(rt;
+        two.less(range(0, 2), Site::PhasePick, &mut trail),
+        Ok(false)
+    );
+    let open = Undecided {
+        turn: 3,
+        site: Site::PhasePick,
+        lo: 72_057_594_037_927_936,
+        hi: 216_172_782_113_783_808,
+    };
+    assert_eq!(rt;
+        range::<Coarse>(1, 3).less(two, Site::PhasePick, &mut trail),
+        Err(open)
+    );
+    assert_eq!(rt; trail.count(), 3);
+}
+
+#[test]
+fn a_floor_is_open_where_the_ends_differ(rt: HostRuntime) -> Result<(), Fail> {
+    let mut trail = Trail::new();
+    let halves = Coarse::from_frac(fraction(-7, 2)?);
+    assert_eq!(rt; halves.floor(Site::DayFloor, &mut trail), Ok(-4));
+    assert_eq!(rt; halves.neg().floor(Site::DayFloor, &mut trail), Ok(3));
+    let open = Undecided {
+        turn: 3,
+        site: Site::DayFloor,
+        lo: 0,
+        hi: 72_057_594_037_927_936,
+    };
+    assert_eq!(rt;
+        range::<Coarse>(0, 1).floor(Site::DayFloor, &mut trail),
+        Err(open)
+    );
+    let nowhere = Undecided {
+        turn: 4,
+        site: Site::DayFloor,
+        lo: i128::MIN,
+        hi: i128::MAX,
+    };
+    assert_eq!(rt;
+        Coarse::whole().floor(Site::DayFloor, &mut trail),
+        Err(nowhere)
+    );
+    Ok(())
+}
+
+#[test]
+fn steps_carry_the_test_that_is_open(rt: HostRuntime) {
+    let mut trail = Trail::new();
+    assert_eq!(rt;
+        floor_step(Coarse::from_int(5), Site::Round, &mut trail),
+        Ok(5)
+    );
+    let one = Coarse::from_int(1);
+    assert_eq!(rt;
+        less_step(one, Coarse::from_int(2), Site::Search, &mut trail),
+        Ok(true)
+    );
+    let open = Undecided {
+        turn: 3,
+        site: Site::Search,
+        lo: i128::MIN,
+        hi: i128::MAX,
+    };
+    assert_eq!(rt;
+        less_step(Unknown, Unknown, Site::Search, &mut trail),
+        Err(open.into())
+    );
+    assert_eq!(rt; trail.count(), 3);
+}
