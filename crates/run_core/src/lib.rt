@@ -31,3 +31,6 @@ pub use standard::{StdSink, StdSource};
 pub use status::Status;
 pub use stream::{Failed, ReadStop, Sink, Source, read_all, write_all};
 pub use text::write_text;
+
+#[cfg(test)]
+mod tests;
