@@ -1,5 +1,5 @@
 -- The polynomial of a correction, term by term, and the sizes of its powers.
-use Rattle.std.specs.Prelude.{◌≡◌, ℕ, zero, suc, ◌+◌, ◌*◌, ◌^◌, ◌≤◌, ◌<◌, ℤ, pos, negsuc, ◌*ℤ◌, ◌≤ℤ◌, unsigned_abs, List, length, slice_index_or, refl}
+use Rattle.std.specs.Prelude.{◌≡◌, ℕ, zero, suc, ◌+◌, ◌*◌, ◌^◌, ◌≤◌, ℤ, pos, negsuc, ◌*ℤ◌, ◌≤ℤ◌, unsigned_abs, List, length, slice_index_or, refl}
 use Rattle.std.proofs.Common.{arith, add-one, sym}
 use Rattle.std.proofs.lemmas.Int.{ints, unsigned_abs-mul}
 use Rattle.std.proofs.Math.Nat.{mul-le-mul_left, mul-le-mul_right, pow-suc}
@@ -15,7 +15,7 @@ use Rattle.book_model.specs.declared.frac.Frac.{Frac}
 use Rattle.book_model.specs.declared.site.Site.TheVariants.{Year}
 use Rattle.book_model.specs.declared.tables.TheConstants.{CORRECTION_1987, CORRECTION_2006}
 use Rattle.book_model.specs.Correction.{int_power, no_fraction, polynomial_to, polynomial_of, dt_of, correction_of, year_of, rounded_of, is_between, seconds_of}
-use Rattle.book_model.specs.Expressions.{Expression, World, value, exactly, integer, add, scale}
+use Rattle.book_model.specs.Expressions.{World, value, exactly, integer, add, scale}
 use Rattle.book_model.specs.Fractions.{fraction_of}
 use Rattle.book_model.specs.Programs.{Program, years, cell_of, cell_at, answer, void, AtMost, answer_at_most, void_at_most, cell_at_most}
 use Rattle.book_model.proofs.Leads.{at_most_bind, at_most_more, leads_cell, leads_answer}

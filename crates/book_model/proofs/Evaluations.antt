@@ -1,6 +1,6 @@
 -- What a call that evaluates a fact's formula, beginning with no test counted, says of the fact.
-use Rattle.std.specs.Prelude.{◌≡◌, ℕ, ◌+◌, ◌-◌, ◌^◌, ◌≤◌, ◌<◌, min, ℤ, pos, Result, Ok, Err, refl}
-use Rattle.std.proofs.Common.{arith, sym, subst}
+use Rattle.std.specs.Prelude.{◌≡◌, ℕ, ◌+◌, ◌-◌, ◌^◌, ◌≤◌, min, ℤ, Ok, Err}
+use Rattle.std.proofs.Common.{arith, subst}
 use Rattle.book_model.specs.declared.site.Site.{Site}
 use Rattle.book_model.specs.declared.fact.Fact.{Fact}
 use Rattle.book_model.specs.declared.fail.Undecided.{Undecided}
@@ -8,7 +8,7 @@ use Rattle.book_model.specs.declared.fail.Fail.TheVariants.{Undecided as undecid
 use Rattle.book_model.specs.Expressions.{World}
 use Rattle.book_model.specs.Facts.{program_of, at_depth, run_of, IsTrueWith, IsVoidAt, MakesNearTest}
 use Rattle.book_model.specs.Leading.{Exact, Leads}
-use Rattle.book_model.specs.Programs.{Program, run, AtMost, MakesTest, Sides}
+use Rattle.book_model.specs.Programs.{Program, run, AtMost, MakesTest}
 use Rattle.book_model.proofs.Leads.{leads_value, leads_void_at, leads_stop_at, few_tests}
 use Rattle.book_model.proofs.Nearness.{near_open, sides_proper}
 

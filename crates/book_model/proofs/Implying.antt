@@ -1,14 +1,14 @@
 -- A bound that implies another: an enclosure that keeps the first keeps the second.
-use Rattle.std.proofs.Common.{◌≡◌, ℕ, ◌+◌, ◌*◌, ◌^◌, ◌-◌, ◌≤◌, refl, arith, Bool, true, false, ◌&&◌, ℤ, pos, ◌≤ℤ◌}
+use Rattle.std.proofs.Common.{◌≡◌, ℕ, ◌≤◌, refl, arith, Bool, true, false, ◌&&◌, ℤ, ◌≤ℤ◌}
 use Rattle.std.proofs.lemmas.Int.{ints}
 use Rattle.std.proofs.lemmas.Bool.{leb-true}
 use lib.Dec.{leb}
 use Rattle.std.specs.Int.Signed.{le_z, le_z_yes}
 use Rattle.std.proofs.lemmas.Float.{T_from_true}
-use Rattle.exact_math.specs.Fraction.{Fraction, ◌≤F◌, plus}
+use Rattle.exact_math.specs.Fraction.{◌≤F◌}
 use Rattle.exact_math.specs.Interval.{Interval, everything, between}
 use Rattle.exact_math.proofs.Fractions.{le_trans, plus_mono, le_refl}
-use Rattle.book_model.specs.Bounds.{Bound, unbounded, bounded, Limits, Reach, Spans, IsNarrow, implies, bound_of, at_32, breadth, limits_of, limits_36}
+use Rattle.book_model.specs.Bounds.{Bound, unbounded, bounded, IsNarrow, implies, bound_of, at_32, breadth, limits_of, limits_36}
 use Rattle.book_model.specs.Expressions.{Expression}
 use Rattle.book_model.specs.Relations.{Narrow, Keeps}
 

@@ -1,22 +1,21 @@
 -- A test that the code leaves open is near: its sides lie within the ends, and so does a threshold.
-use Rattle.std.specs.Prelude.{◌≡◌, ℕ, zero, suc, ◌+◌, ◌-◌, ◌^◌, ◌≤◌, min, ℤ, pos, negsuc, ◌+ℤ◌, ◌-ℤ◌, ◌*ℤ◌, ◌≤ℤ◌, ◌<ℤ◌, Option, Some, None, Bool, true, false, refl}
-use Rattle.std.proofs.Common.{[], ◌∷◌, arith, sym, ap, subst}
+use Rattle.std.specs.Prelude.{◌≡◌, ℕ, suc, ◌-◌, ℤ, pos, ◌+ℤ◌, ◌*ℤ◌, ◌≤ℤ◌, Option, Some, None, Bool, true, false, refl}
+use Rattle.std.proofs.Common.{[], ◌∷◌, arith}
 use Rattle.std.proofs.lemmas.Int.{ints, by_lt_z}
 use Rattle.std.specs.Ordering.{int_eq}
 use Rattle.std.proofs.lemmas.Bool.Decides.{Decides-int_eq}
-use Rattle.exact_math.specs.Fraction.{Fraction, den, whole, ◌≤F◌, ◌<F◌, ◌≈◌, smaller, larger}
+use Rattle.exact_math.specs.Fraction.{Fraction, whole, ◌≤F◌, ◌≈◌}
 use Rattle.exact_math.specs.Interval.{Interval, everything, between, IsProper, AreWithin, ◌⊆◌, hull}
 use Rattle.exact_math.proofs.Fractions.{le_trans, lt_le_trans, le_lt_trans, smaller_first, smaller_second, larger_first, larger_second}
-use Rattle.exact_math.proofs.Bounds.{Claim, ◌≼◌, Cert, known, ◌⊞◌, ◌⊠◌, le_by, pos_nonneg}
-use Rattle.exact_math.proofs.Ring.{Poly, at, lit, ◌⊗◌}
+use Rattle.exact_math.proofs.Bounds.{◌≼◌, known, ◌⊠◌, le_by, pos_nonneg}
+use Rattle.exact_math.proofs.Ring.{at, lit, ◌⊗◌}
 use Rattle.exact_math.proofs.Intervals.{within_trans, within_everything}
 use Rattle.exact_math.proofs.Same.{le_of_same, ge_of_same}
 use Rattle.book_model.specs.declared.site.Site.{Site}
-use Rattle.book_model.specs.declared.fail.Undecided.{Undecided}
 use Rattle.book_model.specs.Calendar.{first_day}
 use Rattle.book_model.specs.Expressions.{World, value}
 use Rattle.book_model.specs.Facts.{LiesFrom, from_ends, from_nowhere, HasThreshold, AreNear, near_cell, near_comparison}
-use Rattle.book_model.specs.Leading.{at_56, AreNoBounds, AreEnds, bounds, no_bounds, IsOpenCell, between_cells, too_far, IsOpenComparison, IsOpen, open_cell, open_comparison}
+use Rattle.book_model.specs.Leading.{at_56, AreNoBounds, AreEnds, bounds, no_bounds, IsOpenCell, between_cells, too_far, IsOpen, open_cell, open_comparison}
 use Rattle.book_model.specs.Programs.{Grid, integers, multiples, years, cell_of, threshold, when, cell_at, Program, answer, void, cell, compare, Sides, one_side, two_sides, Run, after_cell, after_compare, run, compare_at, MakesTest, here_decided, here_undecided, later}
 use Rattle.book_model.proofs.Calendars.{first_day_rises}
 use Rattle.book_model.proofs.Cells.{cells_cut}

@@ -9,6 +9,8 @@ pub mod laws;
 mod request;
 mod site;
 mod tables;
+#[cfg(test)]
+mod tests;
 
 pub use fact::{Fact, Kind, Place};
 pub use fail::{Fail, Undecided};

@@ -5,6 +5,8 @@ mod correction;
 mod dt;
 mod evaluator;
 mod staged;
+#[cfg(test)]
+mod tests;
 mod year;
 
 pub use evaluator::{Answer, Evaluator};

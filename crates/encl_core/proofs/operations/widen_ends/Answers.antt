@@ -1,6 +1,5 @@
-use Rattle.std.proofs.Common.{◌≡◌, arith, rules, SFits, w64, ◌+ℤ◌, ◌-ℤ◌}
-use Rattle.std.specs.Int.{w128}
-use Rattle.std.proofs.lemmas.Int.{ints, to_z-of_z}
+use Rattle.std.proofs.Common.{arith}
+use Rattle.std.proofs.lemmas.Int.{ints}
 use Rattle.book_model.specs.Fractions.{fraction_of}
 use Rattle.encl_core.proofs.Enclosing.{widen_encloses, margin_nonneg}
 use Rattle.encl_core.proofs.operations.widen_ends.Goals as goal

@@ -1,0 +1,37 @@
+//! The values of the definitions' types, each call once.
+use super::*;
+use std::test::Fail;
+
+#[test]
+fn fractions_keep_what_they_were_given(rt: HostRuntime) -> Result<(), Fail> {
+    let half = Frac::new(-6, 12).ok_or("no fraction")?;
+    assert_eq!(rt; half.num(), -6);
+    assert_eq!(rt; half.den(), 12);
+    assert_eq!(rt; Frac::new(1, 0), None);
+    Ok(())
+}
+
+#[test]
+fn facts_have_a_place_of_their_kind(rt: HostRuntime) -> Result<(), Fail> {
+    let fact = Fact::new(Kind::Dt, Place::None, 738_926).ok_or("no fact")?;
+    assert_eq!(rt; fact.kind().name(), "dt");
+    assert_eq!(rt; fact.place().name(), "-");
+    assert_eq!(rt; fact.day(), 738_926);
+    assert_eq!(rt; Fact::new(Kind::Dt, Place::Cairo, 738_926), None);
+    assert_eq!(rt; Fact::new(Kind::Dt, Place::None, 40_000_001), None);
+    assert!(rt; Fact::new(Kind::Dt, Place::None, -40_000_000).is_some());
+    Ok(())
+}
+
+#[test]
+fn sites_are_numbered_and_named(rt: HostRuntime) {
+    for (site, number, name) in [
+        (Site::Year, 1, "year"),
+        (Site::Search, 14, "search"),
+        (Site::BisectEnd, 15, "bisect-end"),
+        (Site::Sidereal, 21, "sidereal"),
+    ] {
+        assert_eq!(rt; site.number(), number);
+        assert_eq!(rt; site.name(), name);
+    }
+}
