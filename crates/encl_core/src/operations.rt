@@ -5,7 +5,7 @@ ghost use Rattle.exact_math.specs.Interval.{◌⊆◌, sum, difference, negative
 ghost use Rattle.book_model.specs.Fractions.{fraction_of};
 ghost use Rattle.book_model.specs.Bounds.{Bound, IsNarrow, integer_bound, constant_bound, sum_bound, scaled_bound, limits_36};
 ghost use Rattle.encl_core.specs.Shown.{shown_ends};
-ghost use Rattle.encl_core.specs.Rounding.{IsBelowFour, IsAboveFour, IsAboveEachBelow, IsBelowEachAbove, IsMargin};
+ghost use Rattle.encl_core.specs.Rounding.{IsBelowFour, IsAboveFour, IsAboveEachBelow, IsBelowEachAbove, IsMargin, IsBest};
 
 use crate::ends::Ends;
 use crate::rounding::{
@@ -62,6 +62,7 @@ pub(crate) fn scale_ends(x: Option<Ends>, by: Frac) -> Option<Ends>
 /// The differences of the ends.
 pub(crate) fn sub_ends(x: Option<Ends>, y: Option<Ends>) -> Option<Ends>
     ensures holds { difference (shown_ends x) (shown_ends y) ⊆ shown_ends result }
+    ensures best { IsBest (difference (shown_ends x) (shown_ends y)) (shown_ends result) }
 {
     let x = x?;
     let y = y?;
@@ -74,6 +75,7 @@ pub(crate) fn sub_ends(x: Option<Ends>, y: Option<Ends>) -> Option<Ends>
 /// The opposites of the ends, in the other order.
 pub(crate) fn neg_ends(x: Option<Ends>) -> Option<Ends>
     ensures holds { negative (shown_ends x) ⊆ shown_ends result }
+    ensures best { IsBest (negative (shown_ends x)) (shown_ends result) }
 {
     let x = x?;
     ends_of(-i128::from(x.hi), -i128::from(x.lo))
@@ -105,6 +107,7 @@ fn products(x: Ends, y: Ends) -> (i128, i128)
 /// The ends around the products of the members.
 pub(crate) fn mul_ends(x: Option<Ends>, y: Option<Ends>) -> Option<Ends>
     ensures holds { product (shown_ends x) (shown_ends y) ⊆ shown_ends result }
+    ensures best { IsBest (product (shown_ends x) (shown_ends y)) (shown_ends result) }
 {
     let x = x?;
     let y = y?;
@@ -162,6 +165,7 @@ fn margin_of(by: Frac) -> Option<i128>
 /// The ends, each moved outwards by the size of a fraction.
 pub(crate) fn widen_ends(x: Option<Ends>, by: Frac) -> Option<Ends>
     ensures holds { widen (fraction_of by) (shown_ends x) ⊆ shown_ends result }
+    ensures best { unsigned_abs by.num < 2 ^ 90 → IsBest (widen (fraction_of by) (shown_ends x)) (shown_ends result) }
 {
     let x = x?;
     let margin = margin_of(by)?;
