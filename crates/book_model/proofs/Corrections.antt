@@ -4,14 +4,21 @@ use Rattle.std.proofs.Common.{arith, add-one, sym}
 use Rattle.std.proofs.lemmas.Int.{ints, unsigned_abs-mul}
 use Rattle.std.proofs.Math.Nat.{mul-le-mul_left, mul-le-mul_right, pow-suc}
 use Rattle.std.specs.Prelude.{◌<ℤ◌, ◌&&◌, int_le, Bool, true, false, if◌then◌else◌}
+use Rattle.std.specs.Prelude.{Some, Ok}
+use Rattle.std.specs.Ordering.{int_eq}
+use Rattle.std.proofs.lemmas.Bool.Decides.{Decides-int_eq}
+use Rattle.exact_math.specs.Fraction.{whole, floor}
+use Rattle.exact_math.proofs.Intervals.{within_refl}
+use Rattle.book_model.specs.Calendar.{year_of_day}
+use Rattle.book_model.specs.Leading.{Exact, Leads, next_turn}
 use Rattle.book_model.specs.declared.frac.Frac.{Frac}
 use Rattle.book_model.specs.declared.site.Site.TheVariants.{Year}
 use Rattle.book_model.specs.declared.tables.TheConstants.{CORRECTION_1987, CORRECTION_2006}
 use Rattle.book_model.specs.Correction.{int_power, no_fraction, polynomial_to, polynomial_of, dt_of, correction_of, year_of, rounded_of, is_between, seconds_of}
-use Rattle.book_model.specs.Expressions.{Expression, integer, add, scale}
+use Rattle.book_model.specs.Expressions.{Expression, World, value, exactly, integer, add, scale}
 use Rattle.book_model.specs.Fractions.{fraction_of}
-use Rattle.book_model.specs.Programs.{Program, answer, void, AtMost, answer_at_most, void_at_most, cell_at_most}
-use Rattle.book_model.proofs.Leads.{at_most_bind, at_most_more}
+use Rattle.book_model.specs.Programs.{Program, years, cell_of, cell_at, answer, void, AtMost, answer_at_most, void_at_most, cell_at_most}
+use Rattle.book_model.proofs.Leads.{at_most_bind, at_most_more, leads_cell, leads_answer}
 
 pub polynomial_none : (cs : List Frac) (x : ℤ) → polynomial_to cs x 0 ≡ integer (pos 0)
 unfolding polynomial_to
@@ -79,6 +86,20 @@ correction_before y h = rw (below_no (pos 1987) (pos 2005) y h, below_no (pos 20
 pub correction_after : (y : ℤ) → pos 2050 <ℤ y → correction_of y ≡ void Year
 unfolding correction_of
 correction_after y h = rw (above_no (pos 1987) (pos 2005) y (omega (arith, ints)), above_no (pos 2006) (pos 2050) y h) refl
+
+floor_whole : (n : ℤ) → floor (whole n) ≡ n
+floor_whole (pos n) = omega (arith, ints)
+floor_whole (negsuc n) = omega (arith, ints)
+
+year_of_whole : (d : ℤ) → cell_at years (exactly (whole d)) ≡ Some (year_of_day d)
+unfolding cell_at cell_of
+year_of_whole d = let e : int_eq (year_of_day (floor (whole d))) (year_of_day (floor (whole d))) ≡ true = (Decides-int_eq (year_of_day (floor (whole d))) (year_of_day (floor (whole d)))).1 refl in rw (e, floor_whole d) refl
+
+-- the year of a whole day is decided
+pub leads_year : (w : World) (d y : ℤ) (b a : ℕ) → y ≡ year_of_day d → a ≡ next_turn b → Leads w Exact (year_of (integer d)) b a (Ok y)
+unfolding year_of value
+leads_year w d y b a e f =
+    rw (e, f) (leads_cell Year years (integer d) (exactly (whole d)) (year_of_day d) answer (within_refl (exactly (whole d))) (year_of_whole d) (leads_answer refl))
 
 -- a dynamical time correction makes two tests at most
 correction_few : (y : ℤ) → AtMost 0 (correction_of y)

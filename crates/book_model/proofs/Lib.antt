@@ -6,3 +6,4 @@ pub mod Leads
 pub mod Nearness
 pub mod Evaluations
 pub mod Corrections
+pub mod Implying

@@ -1,2 +1,4 @@
 pub mod CorrectionLemmas
 pub mod JiffCalendar
+pub mod Rightness
+pub mod WidthLemmas

@@ -1,5 +1,5 @@
 //! The dynamical time correction of a year.
-ghost use Rattle.std.specs.Prelude.{◌≡◌, ◌≤◌, ◌+◌, ℤ, ℕ, pos, negsuc, ◌≤ℤ◌, ◌-ℤ◌, length, unsigned_abs, IfOk};
+ghost use Rattle.std.specs.Prelude.{◌≡◌, ◌≤◌, ◌+◌, ℤ, ℕ, pos, negsuc, ◌≤ℤ◌, ◌-ℤ◌, length, unsigned_abs, IfOk, IfErr};
 ghost use Rattle.book_model.specs.Bounds.{Reach, limits_of};
 ghost use Rattle.book_model.specs.Correction.{polynomial_of, seconds_of, correction_of};
 ghost use Rattle.book_model.specs.Expressions.{World};
@@ -43,6 +43,8 @@ fn seconds<E: Enclosure>(coefficients: &[Frac], year: i64) -> E
 /// chapter 14, ephemeris correction). A year outside 1987 to 2050 is void at `year`.
 pub(crate) fn correction<E: Enclosure>(year: i64) -> Result<E, Fail>
     ensures leads { (w : World) (b : ℕ) → 40 ≤ w.depth → Leads w (Within E.shown w) (correction_of year) b b result }
+    ensures void { IfErr result (λ f. f ≡ Fail.Void Site.Year) }
+    ensures known { IfOk result (λ e. (pos 1987 ≤ℤ year) × (year ≤ℤ pos 2050)) }
     ensures narrow { IfOk result (λ e. (r : Reach) → Narrow E.shown (limits_of E.BITS) r (correction_expression year) e) }
 {
     if 1987 <= year && year <= 2005 {

@@ -2,7 +2,10 @@
 #![tactic(auto)]
 
 mod correction;
+mod dt;
 mod evaluator;
+mod staged;
 mod year;
 
 pub use evaluator::{Answer, Evaluator};
+pub use staged::Staged;

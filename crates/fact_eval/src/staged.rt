@@ -1,0 +1,61 @@
+//! The evaluator of the program: each fact's formula over enclosures.
+ghost use Rattle.std.specs.Prelude.{◌≡◌, ◌≤◌, IfOk, IfErr};
+ghost use Rattle.book_model.specs.Expressions.{World};
+ghost use Rattle.book_model.specs.Facts.{program_of};
+ghost use Rattle.book_model.specs.Leading.{Exact, Leads};
+ghost use Rattle.fact_eval.specs.Answers.{answer_of};
+ghost use Rattle.fact_eval.specs.Widths.{IsNearRound, IsFactValue};
+
+use crate::dt::dt;
+use crate::{Answer, Evaluator};
+use book_model::{Fact, Fail, Kind, Site};
+use encl_core::{Coarse, Enclosure, Trail};
+
+/// The first and the last day of which a fact may have a value (R.D.): 1 July 1800 and 31 December 2049.
+const FIRST_DAY: i64 = 657_253;
+
+const LAST_DAY: i64 = 748_382;
+
+/// Evaluates each fact over coarse enclosures.
+#[derive(Clone, Copy, Debug, PartialEq, Eq)]
+pub struct Staged;
+
+impl Staged {
+    /// The evaluator. It holds nothing and takes no memory.
+    pub fn new() -> Staged {
+        Staged
+    }
+}
+
+/// The value of a fact by its formula. It fails where a test is open, or where the formula is void.
+pub(crate) fn evaluate<E: Enclosure>(fact: Fact, trail: &mut Trail) -> Result<i64, Fail>
+    ensures leads { (w : World) → 40 ≤ w.depth → Leads w Exact (program_of fact) trail.old.count trail.new.count result }
+    ensures value { E.BITS ≡ 36 → IfOk result IsFactValue }
+    ensures open { E.BITS ≡ 36 → IfErr result IsNearRound }
+{
+    let day = fact.day();
+    if day < FIRST_DAY || LAST_DAY < day {
+        return Err(Fail::Void(Site::Year));
+    }
+    match fact.kind() {
+        Kind::Dt => dt::<E>(day, trail),
+    }
+}
+
+/// The answer that a result is.
+fn answer(outcome: Result<i64, Fail>) -> Answer
+    ensures { result ≡ answer_of outcome }
+{
+    match outcome {
+        Ok(value) => Answer::Value(value),
+        Err(Fail::Undecided(at)) => Answer::Undecided(at),
+        Err(Fail::Void(site)) => Answer::Void(site),
+    }
+}
+
+impl Evaluator for Staged {
+    fn eval(&self, fact: Fact) -> Answer {
+        let mut trail = Trail::new();
+        answer(evaluate::<Coarse>(fact, &mut trail))
+    }
+}

@@ -1,0 +1,14 @@
+pub mod Flow
+pub mod LineLemmas
+pub mod MemoryLemmas
+pub mod FactLemmas
+pub mod TextLemmas
+pub mod RightLemmas
+pub mod DateText
+pub mod DateDays
+pub mod LineWords
+pub mod Requests
+pub mod AnswerLemmas
+pub mod WordLemmas
+pub mod DecidedLemmas
+pub mod PrintedLemmas

@@ -1,0 +1,56 @@
+-- Outcomes that are right for their lines.
+use Rattle.std.proofs.Common.{◌≡◌, ℕ, zero, suc, ◌+◌, ◌<◌, ◌≤◌, Bool, true, false, cond, ℤ, List, [], ◌∷◌, length, get_or, map, refl, ap, ◌&&◌, arith}
+use Rattle.std.specs.Prelude.{Result, Ok, Err, if◌then◌else◌}
+use Rattle.std.specs.List.{list_all}
+use Rattle.book_model.specs.declared.fact.Fact.{Fact}
+use Rattle.book_model.specs.declared.request.Request.{Request}
+use Rattle.book_model.specs.declared.request.Resolved.{Resolved}
+use Rattle.book_model.specs.declared.request.Rule.{Rule}
+use Rattle.book_model.specs.declared.request.Rule.TheVariants.{Syntax}
+use Rattle.book_model.specs.Lines.{words_of, is_plain}
+use Rattle.book_model.specs.Requests.{asked_by, request_of}
+use Rattle.book_model.specs.Outcomes.{LineOutcome, IsRightFor, AreRight, HasResult, is_result}
+use Rattle.run_core.specs.declared.outcome.Outcome.{Outcome}
+use Rattle.run_core.specs.declared.outcome.Outcome.TheVariants.{Found}
+use Rattle.run_core.specs.Outcomes.{line_outcome}
+
+-- there are as many outcomes as lines
+pub right_length : (lines : List (List ℕ)) (os : List LineOutcome) → AreRight lines os → length lines ≡ length os
+right_length [] [] all = refl
+right_length [] (o ∷ os) all = absurd all
+right_length (line ∷ lines) [] all = absurd all
+right_length (line ∷ lines) (o ∷ os) all =
+    let rest : length lines ≡ length os = right_length lines os all.1 in omega arith
+
+-- each is right for its line
+pub right_at : {X : Type 0} (f : X → List ℕ) (lines : List X) (os : List Outcome) (i : ℕ) (d : X) (e : Outcome) → i < length lines → i < length os
+    → AreRight (map f lines) (map line_outcome os) → IsRightFor (f (get_or lines i d)) (line_outcome (get_or os i e))
+right_at f [] os i d e h k all = absurd (omega arith)
+right_at f (line ∷ lines) [] i d e h k all = absurd (omega arith)
+right_at f (line ∷ lines) (o ∷ os) zero d e h k all = all.0
+right_at f (line ∷ lines) (o ∷ os) (suc i) d e h k all = right_at f lines os i d e (omega arith) (omega arith) all.1
+
+three_asked : (ws : List (List ℕ)) (r : Request) → asked_by ws ≡ Ok r → length ws ≡ 3
+three_asked [] r h = cc
+three_asked (a ∷ []) r h = cc
+three_asked (a ∷ b ∷ []) r h = cc
+three_asked (a ∷ b ∷ c ∷ []) r h = refl
+three_asked (a ∷ b ∷ c ∷ d ∷ ws) r h = cc
+
+three_where : (t : Bool) (ws : List (List ℕ)) (r : Request) → (if t then asked_by ws else Err Syntax) ≡ Ok r → length ws ≡ 3
+three_where true ws r h = three_asked ws r h
+three_where false ws r h = cc
+
+-- a line that breaks no rule has three words
+pub three_words_asked : (line : List ℕ) (r : Request) → request_of line ≡ Ok r → length (words_of line) ≡ 3
+unfolding request_of
+three_words_asked line r h = three_where _ (words_of line) r h
+
+-- a line whose outcome is a result has three words
+pub three_words_found : (line : List ℕ) (o : Outcome) (x : Resolved) (f : Fact) (v : ℤ) → o ≡ Found x f v → IsRightFor line (line_outcome o) → length (words_of line) ≡ 3
+three_words_found line o x f v e h = let k : HasResult line x ((f, v) ∷ []) = rw e at h in three_words_asked line k.request k.asked
+
+-- all are results, by either list of outcomes
+pub all_results : (os : List Outcome) → list_all (λ o. is_result (line_outcome o)) os ≡ list_all is_result (map line_outcome os)
+all_results [] = refl
+all_results (o ∷ os) = ap (λ t. is_result (line_outcome o) && t) (all_results os)

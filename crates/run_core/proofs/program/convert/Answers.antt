@@ -1,0 +1,18 @@
+use Rattle.std.proofs.Common.{arith, map}
+use Rattle.std.proofs.lemmas.List.{length-map}
+use Rattle.run_core.specs.Outcomes.{line_outcome}
+use Rattle.run_core.proofs.PrintedLemmas.{printed}
+use Rattle.run_core.proofs.RightLemmas.{right_length}
+use Rattle.run_core.proofs.program.convert.Goals as goal
+
+pub write_text-requires-clause-same : goal.write_text-requires-clause-same
+write_text-requires-clause-same g c =
+    let e = right_length _ _ c.in_ok-outcomes.ensures in
+    omega (arith, e, length-map c.deref.result.now (λ line. line.now), length-map c.in_ok-outcomes.outcomes.items line_outcome, c.deref.ensures.len, c.deref-2.ensures.len, c.deref-3.ensures.len)
+
+pub returns-clause-ok : goal.returns-clause-ok
+returns-clause-ok g c =
+    printed (λ line. line.now) _ _ c.args.input.now c.in_ok-lines.lines.items c.in_ok-outcomes.outcomes.items _ c.in_ok-lines.ensures
+    (rw c.deref.ensures.value at c.in_ok-outcomes.ensures)
+    (rw (c.deref-2.ensures.value, c.deref-3.ensures.value) at c.in_ok-write_text.ensures.ok)
+    (rw c.deref-4.ensures.value at c.all_found.ensures)

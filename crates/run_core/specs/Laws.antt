@@ -1,0 +1,24 @@
+-- What comes of a line that is decided.
+use Rattle.std.specs.Prelude.{◌≡◌, ◌⊎◌, ℕ, List, true, Err}
+use Rattle.book_model.specs.declared.fact.Fact.{Fact}
+use Rattle.book_model.specs.declared.fail.Undecided.{Undecided}
+use Rattle.book_model.specs.declared.request.Rule.{Rule}
+use Rattle.book_model.specs.declared.site.Site.{Site}
+use Rattle.book_model.specs.Facts.{IsNear, IsVoidAt}
+use Rattle.book_model.specs.Outcomes.{LineOutcome, refused, IsRightFor, AsksAlways, is_result}
+use Rattle.book_model.specs.Requests.{request_of}
+
+-- no fact that the line asks is near at a test or void
+pub record IsDecided (line : List ℕ) : Type 0 where
+  pub not_near : (f : Fact) (u : Undecided) → AsksAlways line f → IsNear f u → ⊥
+  pub not_void : (f : Fact) (s : Site) → AsksAlways line f → IsVoidAt f s → ⊥
+
+-- the outcome is the refusal of the rule that the line breaks
+pub record IsRefusal (line : List ℕ) (o : LineOutcome) : Type 0 where
+  pub rule : Rule
+  pub broken : request_of line ≡ Err rule
+  pub is : o ≡ refused rule
+
+-- where no fact that the line asks is near or void, an outcome that is right for it is a result or a refusal
+abbrev pub HasResultOrRule : List ℕ → Type 0
+HasResultOrRule line = IsDecided line → (o : LineOutcome) → IsRightFor line o → (is_result o ≡ true) ⊎ IsRefusal line o

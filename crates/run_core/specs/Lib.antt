@@ -1,0 +1,5 @@
+pub mod Stream
+pub mod Outcomes
+pub mod Run
+pub mod Laws
+pub mod Days

@@ -1,0 +1,59 @@
+-- How a run ends, and what it has done.
+use Rattle.std.specs.Prelude.{◌≡◌, ◌<◌, ◌≤◌, ℕ, Bool, List, [], ◌∷◌, length, codes, None, Some, string_bytes, map}
+use Rattle.std.specs.List.{list_all}
+use Rattle.std.specs.declared.option.Option.{Option}
+use Rattle.std.specs.Io.KnownBytes.{Appends, Consumes, IsAtEnd}
+use Rattle.book_model.specs.Lines.{lines_of}
+use Rattle.book_model.specs.Outcomes.{LineOutcome, AreRight, is_result}
+use Rattle.book_model.specs.Text.{text}
+use Rattle.run_core.specs.declared.status.Status.{Status}
+use Rattle.run_core.specs.declared.status.Status.TheVariants.{Done, Mixed, Words, ReadFault, WriteFault, Memory, TooLarge, BadText}
+use Rattle.run_core.specs.Stream.{AppendsFront}
+
+-- the number of a status, with which the program exits
+abbrev pub status_number : Status → ℕ
+status_number Done = 0
+status_number Mixed = 1
+status_number Words = 2
+status_number ReadFault = 3
+status_number WriteFault = 4
+status_number Memory = 5
+status_number TooLarge = 6
+status_number BadText = 7
+
+-- the words that the program understands: the one word `convert`
+abbrev pub AreForm : List (List ℕ) → Type 0
+AreForm words = words ≡ codes "convert" ∷ []
+
+-- the line that is written where the words aren't in the form
+abbrev pub usage : List ℕ
+usage = codes "usage: calendrica convert\n"
+
+-- the whole text stands behind what the sink held, each outcome right for its line
+pub record Printed (old new : Option (List ℕ)) (input : List ℕ) (all_results : Bool) : Type 0 where
+  pub outcomes : List LineOutcome
+  pub right : AreRight (lines_of input) outcomes
+  pub written : Appends old new (text (lines_of input) outcomes)
+  pub results : all_results ≡ list_all is_result outcomes
+
+-- a front of such a text stands there
+pub record CutShort (old new : Option (List ℕ)) (input : List ℕ) : Type 0 where
+  pub outcomes : List LineOutcome
+  pub right : AreRight (lines_of input) outcomes
+  pub front : AppendsFront old new (text (lines_of input) outcomes)
+
+-- the source gave these bytes and no more, and they are within the limit
+pub record ReadWhole (old new : Option (List ℕ)) (limit : ℕ) (input : List ℕ) : Type 0 where
+  pub read : Consumes old new input
+  pub end : IsAtEnd new
+  pub small : length input ≤ limit
+
+-- the source tells its bytes, and they are within the limit
+abbrev pub Fits : Option (List ℕ) → ℕ → Type 0
+Fits None limit = ⊥
+Fits (Some bytes) limit = length bytes ≤ limit
+
+-- the source tells its bytes, and they are more
+abbrev pub IsLarger : Option (List ℕ) → ℕ → Type 0
+IsLarger None limit = ⊥
+IsLarger (Some bytes) limit = limit < length bytes
