@@ -1,18 +1,18 @@
 -- That the ends are the best that 64 bits can say.
-use Rattle.std.proofs.Common.{◌≡◌, ℕ, suc, ◌+◌, ◌*◌, ◌^◌, ◌-◌, ◌<◌, refl, subst, arith, ℤ, pos, negsuc, ◌+ℤ◌, ◌*ℤ◌, ◌-ℤ◌, ◌≤ℤ◌, ◌<ℤ◌, List, [], ◌∷◌, SFits, w64}
+use Rattle.std.proofs.Common.{◌≡◌, ℕ, suc, ◌+◌, ◌^◌, ◌-◌, ◌<◌, refl, subst, arith, ℤ, pos, ◌+ℤ◌, ◌*ℤ◌, ◌-ℤ◌, ◌≤ℤ◌, ◌<ℤ◌, [], ◌∷◌, SFits, w64}
 use Rattle.std.specs.Int.{w128}
 use lib.IntN.{neg_ℤ}
 use Rattle.std.specs.Prelude.{unsigned_abs}
 use Rattle.std.proofs.lemmas.Int.{ints, by_lt_z}
-use Rattle.exact_math.specs.Fraction.{Fraction, den, ◌≤F◌, whole, plus, opposite, size, times}
-use Rattle.exact_math.specs.Interval.{Interval, everything, between, ◌⊆◌, sum, negative, difference, least, greatest, product, widen}
+use Rattle.exact_math.specs.Fraction.{Fraction, ◌≤F◌, whole, plus, opposite, size, times}
+use Rattle.exact_math.specs.Interval.{Interval, everything, between, ◌⊆◌, sum, negative, difference, product, widen}
 use Rattle.exact_math.proofs.Ring.{at, lit, ◌⊕◌, ◌⊖◌, ◌⊗◌, minus}
-use Rattle.exact_math.proofs.Bounds.{◌≼◌, known, ◌⊞◌, ◌⊠◌, times as naturally, le_over, refute}
+use Rattle.exact_math.proofs.Bounds.{◌≼◌, known, ◌⊞◌, ◌⊠◌, le_over, refute}
 use Rattle.exact_math.proofs.Fractions.{le_trans, den_product}
 use Rattle.exact_math.proofs.Intervals.{least_below, greatest_above}
-use Rattle.encl_core.specs.Rounding.{at_36, IsFloor, IsCeiling, IsAboveEachBelow, IsBelowEachAbove, AreSorted, IsMargin, IsBest, Keeps64, fitting, too_large}
+use Rattle.encl_core.specs.Rounding.{at_36, IsFloor, IsCeiling, IsAboveEachBelow, IsBelowEachAbove, IsMargin, IsBest, Keeps64, fitting, too_large}
 use Rattle.encl_core.proofs.Quotients.{next_le, outward_order, sorted_order}
-use Rattle.encl_core.proofs.Scaling.{AreScaled, AreProducts, products_of, bounded_z}
+use Rattle.encl_core.proofs.Scaling.{AreScaled, products_of, bounded_z}
 
 -- ends further out hold what 64 bits show of two ends
 kept_best : (lo hi p q : ℤ) (i : Interval) → lo ≤ℤ hi → Keeps64 lo hi i → SFits w64 p → SFits w64 q → p ≤ℤ lo → hi ≤ℤ q → i ⊆ between (at_36 p) (at_36 q)
@@ -62,17 +62,17 @@ product_best x y x' y' l g lo hi i o b a f c k =
     let over = greatest_above (times (at_36 x) (at_36 x')) (times (at_36 x) (at_36 y')) (times (at_36 y) (at_36 x')) (times (at_36 y) (at_36 y')) in
     record {
       best = λ p q fp fq h.
-      let l1 = from_below p x x' (le_trans _ _ _ h.ends.0 under.0) in
-      let l2 = from_below p x y' (le_trans _ _ _ h.ends.0 under.1) in
-      let l3 = from_below p y x' (le_trans _ _ _ h.ends.0 under.2) in
-      let l4 = from_below p y y' (le_trans _ _ _ h.ends.0 under.3) in
-      let g1 = from_above q x x' (le_trans _ _ _ over.0 h.ends.1) in
-      let g2 = from_above q x y' (le_trans _ _ _ over.1 h.ends.1) in
-      let g3 = from_above q y x' (le_trans _ _ _ over.2 h.ends.1) in
-      let g4 = from_above q y y' (le_trans _ _ _ over.3 h.ends.1) in
-      let m : (p *ℤ pos (2 ^ 36)) ≤ℤ l = b (p *ℤ pos (2 ^ 36)) l1 l2 l3 l4 in
-      let n : g ≤ℤ (q *ℤ pos (2 ^ 36)) = a (q *ℤ pos (2 ^ 36)) g1 g2 g3 g4 in
-      kept_best lo hi p q i o k fp fq (omega (arith, ints, m, f.close)) (omega (arith, ints, n, c.close));
+          let l1 = from_below p x x' (le_trans _ _ _ h.ends.0 under.0) in
+          let l2 = from_below p x y' (le_trans _ _ _ h.ends.0 under.1) in
+          let l3 = from_below p y x' (le_trans _ _ _ h.ends.0 under.2) in
+          let l4 = from_below p y y' (le_trans _ _ _ h.ends.0 under.3) in
+          let g1 = from_above q x x' (le_trans _ _ _ over.0 h.ends.1) in
+          let g2 = from_above q x y' (le_trans _ _ _ over.1 h.ends.1) in
+          let g3 = from_above q y x' (le_trans _ _ _ over.2 h.ends.1) in
+          let g4 = from_above q y y' (le_trans _ _ _ over.3 h.ends.1) in
+          let m : (p *ℤ pos (2 ^ 36)) ≤ℤ l = b (p *ℤ pos (2 ^ 36)) l1 l2 l3 l4 in
+          let n : g ≤ℤ (q *ℤ pos (2 ^ 36)) = a (q *ℤ pos (2 ^ 36)) g1 g2 g3 g4 in
+          kept_best lo hi p q i o k fp fq (omega (arith, ints, m, f.close)) (omega (arith, ints, n, c.close));
     }
 
 pub product_first : (j i : Interval) → IsBest (product everything j) i
@@ -118,11 +118,11 @@ widen_best f a b m lo hi i o h el eh k =
     let e = den_product (2 ^ 36 - 1) f.below in
     record {
       best = λ p q fp fq w.
-      let x = w.ends.0.cross in
-      let y = w.ends.1.cross in
-      let l = margin_least f m (a -ℤ p) h (lower_z p a (pos (unsigned_abs f.num)) (pos (suc f.below)) (pos (2 ^ 36)) (omega (arith, ints)) (rw e at x)) in
-      let g = margin_least f m (q -ℤ b) h (upper_z q b (pos (unsigned_abs f.num)) (pos (suc f.below)) (pos (2 ^ 36)) (omega (arith, ints)) (rw e at y)) in
-      kept_best lo hi p q i o k fp fq (omega (arith, ints, l)) (omega (arith, ints, g));
+          let x = w.ends.0.cross in
+          let y = w.ends.1.cross in
+          let l = margin_least f m (a -ℤ p) h (lower_z p a (pos (unsigned_abs f.num)) (pos (suc f.below)) (pos (2 ^ 36)) (omega (arith, ints)) (rw e at x)) in
+          let g = margin_least f m (q -ℤ b) h (upper_z q b (pos (unsigned_abs f.num)) (pos (suc f.below)) (pos (2 ^ 36)) (omega (arith, ints)) (rw e at y)) in
+          kept_best lo hi p q i o k fp fq (omega (arith, ints, l)) (omega (arith, ints, g));
     }
 
 pub widen_first : (f : Fraction) (i : Interval) → IsBest (widen f everything) i
@@ -173,21 +173,21 @@ constant_best f m lo hi d i em ed l u k =
     let o : pos 0 <ℤ pos (suc f.below) = omega (arith, ints) in
     record {
       best = λ p q fp fq h.
-      let x : (p *ℤ pos (suc f.below)) ≤ℤ (f.num *ℤ pos (2 ^ 36)) = h.ends.0.cross in
-      let y : (f.num *ℤ pos (2 ^ 36)) ≤ℤ (q *ℤ pos (suc f.below)) = h.ends.1.cross in
-      kept_best lo hi p q i (outward_order m m (pos (suc f.below)) lo hi (omega (arith, ints)) a b o) k fp fq
-      (floor_best p lo m (pos (suc f.below)) o a (rw em x)) (ceil_best q hi m (pos (suc f.below)) o b (rw em y));
+          let x : (p *ℤ pos (suc f.below)) ≤ℤ (f.num *ℤ pos (2 ^ 36)) = h.ends.0.cross in
+          let y : (f.num *ℤ pos (2 ^ 36)) ≤ℤ (q *ℤ pos (suc f.below)) = h.ends.1.cross in
+          kept_best lo hi p q i (outward_order m m (pos (suc f.below)) lo hi (omega (arith, ints)) a b o) k fp fq
+          (floor_best p lo m (pos (suc f.below)) o a (rw em x)) (ceil_best q hi m (pos (suc f.below)) o b (rw em y));
     }
 
 -- where a numerator is too great, the fraction lies outside 64 bits
 pub constant_outside : (f : Fraction) (i : Interval) → f.below + 1 < 2 ^ 64 → (SFits w128 (f.num *ℤ pos (2 ^ 36)) → ⊥) → IsBest (between f f) i
 constant_outside f i l n = record {
   best = λ p q fp fq h.
-  let x : (p *ℤ pos (suc f.below)) ≤ℤ (f.num *ℤ pos (2 ^ 36)) = h.ends.0.cross in
-  let y : (f.num *ℤ pos (2 ^ 36)) ≤ℤ (q *ℤ pos (suc f.below)) = h.ends.1.cross in
-  let a = bounded_z p (pos (suc f.below)) (pos (2 ^ 63)) (pos (2 ^ 64 - 1)) (omega (arith, ints)) (omega (arith, ints)) (omega (arith, ints)) (omega (arith, ints)) in
-  let b = bounded_z q (pos (suc f.below)) (pos (2 ^ 63)) (pos (2 ^ 64 - 1)) (omega (arith, ints)) (omega (arith, ints)) (omega (arith, ints)) (omega (arith, ints)) in
-  absurd (n (omega (arith, ints, a.1, b.0, x, y)));
+      let x : (p *ℤ pos (suc f.below)) ≤ℤ (f.num *ℤ pos (2 ^ 36)) = h.ends.0.cross in
+      let y : (f.num *ℤ pos (2 ^ 36)) ≤ℤ (q *ℤ pos (suc f.below)) = h.ends.1.cross in
+      let a = bounded_z p (pos (suc f.below)) (pos (2 ^ 63)) (pos (2 ^ 64 - 1)) (omega (arith, ints)) (omega (arith, ints)) (omega (arith, ints)) (omega (arith, ints)) in
+      let b = bounded_z q (pos (suc f.below)) (pos (2 ^ 63)) (pos (2 ^ 64 - 1)) (omega (arith, ints)) (omega (arith, ints)) (omega (arith, ints)) (omega (arith, ints)) in
+      absurd (n (omega (arith, ints, a.1, b.0, x, y)));
 }
 
 -- ---- products with fractions
@@ -218,10 +218,10 @@ scale_best f x y n p q m g d lo hi i s k =
     let over = greatest_above (times (at_36 x) f) (times (at_36 x) f) (times (at_36 y) f) (times (at_36 y) f) in
     record {
       best = λ u v fu fv h.
-      let a = t.order.best_low _ (scaled_below u x f (le_trans _ _ _ h.ends.0 under.0)) (scaled_below u y f (le_trans _ _ _ h.ends.0 under.2)) in
-      let b = t.order.best_high _ (scaled_above v x f (le_trans _ _ _ over.0 h.ends.1)) (scaled_above v y f (le_trans _ _ _ over.2 h.ends.1)) in
-      kept_best lo hi u v i (outward_order m g (pos (suc f.below)) lo hi (sorted_order _ _ _ _ t.order) t.down t.up o) k fu fv
-      (floor_best u lo m (pos (suc f.below)) o t.down a) (ceil_best v hi g (pos (suc f.below)) o t.up b);
+          let a = t.order.best_low _ (scaled_below u x f (le_trans _ _ _ h.ends.0 under.0)) (scaled_below u y f (le_trans _ _ _ h.ends.0 under.2)) in
+          let b = t.order.best_high _ (scaled_above v x f (le_trans _ _ _ over.0 h.ends.1)) (scaled_above v y f (le_trans _ _ _ over.2 h.ends.1)) in
+          kept_best lo hi u v i (outward_order m g (pos (suc f.below)) lo hi (sorted_order _ _ _ _ t.order) t.down t.up o) k fu fv
+          (floor_best u lo m (pos (suc f.below)) o t.down a) (ceil_best v hi g (pos (suc f.below)) o t.up b);
     }
 
 -- products of numbers in 64 bits fit

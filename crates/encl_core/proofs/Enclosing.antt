@@ -1,15 +1,15 @@
 -- What the operations on ends at scale 2^-36 hold.
-use Rattle.std.proofs.Common.{◌≡◌, ℕ, suc, ◌+◌, ◌*◌, ◌^◌, ◌-◌, refl, sym, ap, arith, ℤ, pos, negsuc, ◌+ℤ◌, ◌*ℤ◌, ◌-ℤ◌, ◌≤ℤ◌, ◌<ℤ◌, List, [], ◌∷◌, ◌⊎◌, inl, inr}
+use Rattle.std.proofs.Common.{◌≡◌, suc, ◌+◌, ◌^◌, ◌-◌, refl, arith, ℤ, pos, negsuc, ◌+ℤ◌, ◌*ℤ◌, ◌-ℤ◌, ◌≤ℤ◌, [], ◌∷◌, ◌⊎◌, inl, inr}
 use lib.IntN.{neg_ℤ}
 use Rattle.std.specs.Prelude.{unsigned_abs}
 use Rattle.std.specs.Int.{int_min, int_max}
 use Rattle.std.proofs.lemmas.Int.{ints}
-use Rattle.exact_math.specs.Fraction.{Fraction, den, ◌≤F◌, plus, opposite, size, times, smaller, larger}
+use Rattle.exact_math.specs.Fraction.{Fraction, ◌≤F◌, plus, opposite, size, times, smaller, larger}
 use Rattle.exact_math.specs.Interval.{Interval, everything, between, ◌⊆◌, sum, negative, difference, product, minimum, maximum, hull, widen}
 use Rattle.exact_math.proofs.Ring.{at, lit, ◌⊕◌, ◌⊖◌, ◌⊗◌, minus}
-use Rattle.exact_math.proofs.Bounds.{◌≼◌, known, ◌⊞◌, ◌⊠◌, le_by, pos_nonneg}
+use Rattle.exact_math.proofs.Bounds.{◌≼◌, known, ◌⊠◌, le_by, pos_nonneg}
 use Rattle.exact_math.proofs.Fractions.{le_trans, by_cross, den_product, smaller_keeps, larger_keeps, smaller_first, smaller_second, larger_first, larger_second}
-use Rattle.exact_math.proofs.Intervals.{within_trans, within_everything, within_refl, least_is, greatest_is}
+use Rattle.exact_math.proofs.Intervals.{within_trans, within_refl, least_is, greatest_is}
 use Rattle.encl_core.specs.Rounding.{at_36, IsFloor, IsCeiling, IsBelowFour, IsAboveFour, IsMargin, Keeps64}
 use Rattle.encl_core.proofs.Keeping.{kept_within}
 use Rattle.encl_core.proofs.Quotients.{≤ℤ_trans}

@@ -1,10 +1,10 @@
 -- From the operations on intervals and bounds to those on expressions.
 use Rattle.std.proofs.Common.{◌≡◌, ℕ, ◌≤◌, ℤ, refl}
 use Rattle.exact_math.specs.Fraction.{Fraction, whole}
-use Rattle.exact_math.specs.Interval.{Interval, everything, between, IsProper, ◌⊆◌, sum, difference, negative, product, minimum as interval_minimum, maximum as interval_maximum, hull as interval_hull, widen as interval_widen}
+use Rattle.exact_math.specs.Interval.{Interval, between, ◌⊆◌, sum, difference, negative, product, minimum as interval_minimum, maximum as interval_maximum, hull as interval_hull, widen as interval_widen}
 use Rattle.exact_math.proofs.Fractions.{le_refl}
-use Rattle.exact_math.proofs.Intervals.{within_refl, within_trans, sum_within, difference_within, negative_within, product_within, minimum_within, maximum_within, hull_within, widen_within, plus_proper, difference_proper, product_proper, quotient_proper, negative_proper, power_proper, minimum_proper, maximum_proper, hull_proper, clamp_proper, widen_proper}
-use Rattle.book_model.specs.Expressions.{Expression, World, value, argument, integer, constant, add, subtract, multiply, divide, negate, scale, power, minimum, maximum, hull, clamp, widen, exactly}
+use Rattle.exact_math.proofs.Intervals.{within_refl, within_trans, sum_within, difference_within, negative_within, product_within, minimum_within, maximum_within, hull_within, widen_within}
+use Rattle.book_model.specs.Expressions.{Expression, World, value, integer, constant, add, subtract, multiply, negate, scale, minimum, maximum, hull, widen}
 use Rattle.book_model.specs.Bounds.{Bound, unbounded, Limits, Reach, IsNarrow, bound_of, integer_bound, constant_bound, sum_bound, scaled_bound, limits_of, limits_36}
 use Rattle.book_model.proofs.Values.{value_proper}
 use Rattle.book_model.specs.Relations.{Within, Narrow, Lies, Keeps}

@@ -1,10 +1,8 @@
 -- Ends at scale 2^-36 that hold the operations, and that keep a bound.
-use Rattle.std.proofs.Common.{◌≡◌, ℕ, zero, suc, ◌+◌, ◌*◌, ◌^◌, ◌-◌, ◌≤◌, ◌<◌, max, refl, sym, ap, arith, Bool, true, false, cond, ◌&&◌, ℤ, pos, negsuc, ◌+ℤ◌, ◌*ℤ◌, ◌-ℤ◌, ◌≤ℤ◌, ◌<ℤ◌, SFits, w64}
-use lib.IntN.{neg_ℤ}
-use Rattle.std.specs.Prelude.{unsigned_abs, nat_lt}
+use Rattle.std.proofs.Common.{◌≡◌, ℕ, ◌+◌, ◌*◌, ◌^◌, ◌<◌, refl, arith, Bool, true, false, ◌&&◌, ℤ, pos, ◌+ℤ◌, ◌*ℤ◌, ◌-ℤ◌, ◌≤ℤ◌, SFits, w64}
 use Rattle.std.proofs.lemmas.Int.{ints}
 use Rattle.std.proofs.lemmas.Bool.{ltb-true}
-use Rattle.exact_math.specs.Fraction.{Fraction, ◌≤F◌, whole, plus, opposite, times}
+use Rattle.exact_math.specs.Fraction.{whole, plus}
 use Rattle.exact_math.specs.Interval.{Interval, everything, between, ◌⊆◌, sum}
 use Rattle.exact_math.proofs.Intervals.{within_trans, within_everything}
 use Rattle.book_model.specs.Bounds.{Bound, unbounded, bounded, range_size, limited, integer_bound, sum_bound, Spans, IsNarrow, limits_36}

@@ -1,15 +1,14 @@
 -- The clauses of every scale, for enclosures that show everything.
-use Rattle.std.proofs.Common.{◌≡◌, ℕ, ◌≤◌, ◌^◌, ◌-◌, refl, ℤ, pos, negsuc, Bool, true, false, ◌&&◌}
-use lib.Dec.{ltb}
+use Rattle.std.proofs.Common.{◌≡◌, ℕ, ◌≤◌, ◌^◌, ◌-◌, refl, ℤ, pos, negsuc}
 use Rattle.std.proofs.Math.Dec.{leb-suc-zero}
 use Rattle.exact_math.specs.Fraction.{Fraction}
 use Rattle.exact_math.specs.Interval.{Interval, everything, hull}
 use Rattle.exact_math.proofs.Intervals.{within_everything}
-use Rattle.book_model.specs.Expressions.{Expression, World, integer, constant, add, subtract, multiply, negate, scale, minimum, maximum, hull as hull_of, widen}
-use Rattle.book_model.specs.Bounds.{Bound, unbounded, bounded, limited, Reach, IsNarrow, bound_of, integer_bound, constant_bound, sum_bound, scaled_bound, limits_of, no_limits}
+use Rattle.book_model.specs.Expressions.{Expression, World, integer, constant, add, scale}
+use Rattle.book_model.specs.Bounds.{Bound, unbounded, bounded, Reach, IsNarrow, bound_of, integer_bound, constant_bound, sum_bound, scaled_bound, limits_of, no_limits}
 use Rattle.book_model.specs.Relations.{Within, Narrow, Lies, Keeps}
 use Rattle.book_model.specs.Programs.{Grid, cell_at, compare_at}
-use Rattle.book_model.specs.Leading.{AreNoBounds, no_bounds, IsOpenCell, between_cells, IsOpenComparison}
+use Rattle.book_model.specs.Leading.{no_bounds, IsOpenCell, between_cells, IsOpenComparison}
 
 -- everything holds every value
 pub within_any : {E : Type 0} (shown : E → Interval) (w : World) (x : Expression) (e : E) → shown e ≡ everything → 40 ≤ w.depth → Within shown w x e

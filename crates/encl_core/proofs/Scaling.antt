@@ -1,12 +1,12 @@
 -- Fractions, and products with fractions, at scale 2^-36: ends rounded outwards hold them and keep a bound.
-use Rattle.std.proofs.Common.{◌≡◌, ℕ, zero, suc, ◌+◌, ◌*◌, ◌^◌, ◌-◌, ◌/◌, ◌≤◌, ◌<◌, max, refl, sym, ap, arith, Bool, true, false, cond, ◌&&◌, ℤ, pos, negsuc, ◌+ℤ◌, ◌*ℤ◌, ◌-ℤ◌, ◌≤ℤ◌, ◌<ℤ◌, List, [], ◌∷◌, SFits}
+use Rattle.std.proofs.Common.{◌≡◌, ℕ, suc, ◌+◌, ◌*◌, ◌^◌, ◌-◌, ◌≤◌, ◌<◌, refl, sym, arith, Bool, true, false, ◌&&◌, ℤ, pos, ◌+ℤ◌, ◌*ℤ◌, ◌-ℤ◌, ◌≤ℤ◌, ◌<ℤ◌, [], ◌∷◌, SFits}
 use Rattle.std.specs.Int.{w128}
 use lib.IntN.{neg_ℤ}
 use Rattle.std.specs.Prelude.{unsigned_abs, nat_lt}
 use Rattle.std.proofs.lemmas.Int.{ints, by_lt_z}
 use Rattle.std.proofs.lemmas.Bool.{ltb-true}
 use Rattle.std.specs.Int.Signed.{le_z_yes}
-use Rattle.exact_math.specs.Fraction.{Fraction, den, ◌≤F◌, plus, times, floor_quotient}
+use Rattle.exact_math.specs.Fraction.{Fraction, ◌≤F◌, times, floor_quotient}
 use Rattle.exact_math.specs.Interval.{Interval, everything, between, ◌⊆◌, product}
 use Rattle.exact_math.proofs.Ring.{at, lit, ◌⊕◌, ◌⊖◌, ◌⊗◌}
 use Rattle.exact_math.proofs.Bounds.{◌≼◌, known, ◌⊞◌, ◌⊠◌, times as naturally, le_by, le_over, refute, pos_nonneg}

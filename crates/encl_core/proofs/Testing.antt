@@ -1,14 +1,14 @@
 -- The tests at ends of scale 2^-36.
-use Rattle.std.proofs.Common.{◌≡◌, ℕ, ◌*◌, ◌^◌, ◌-◌, refl, sym, ap, ◌∙◌, arith, Bool, true, false, cond, ℤ, pos, negsuc, ◌+ℤ◌, ◌*ℤ◌, ◌-ℤ◌, ◌≤ℤ◌, ◌<ℤ◌, Option, Some, None}
+use Rattle.std.proofs.Common.{◌≡◌, ◌^◌, ◌-◌, refl, sym, ◌∙◌, arith, Bool, true, false, ℤ, pos, negsuc, ◌*ℤ◌, ◌≤ℤ◌, ◌<ℤ◌, Some, None}
 use Rattle.std.specs.Ordering.{int_eq}
 use Rattle.std.proofs.lemmas.Int.{ints}
 use Rattle.std.proofs.lemmas.Bool.Decides.{Decides-int_eq}
 use lib.Signed.{le_z}
-use Rattle.exact_math.specs.Fraction.{Fraction, ◌≈◌, ◌≤F◌, floor_quotient, is_at_most}
+use Rattle.exact_math.specs.Fraction.{Fraction, floor_quotient, is_at_most}
 use Rattle.exact_math.proofs.Same.{same_trans, same_of_le}
 use Rattle.exact_math.specs.Interval.{Interval, everything, between, ◌⊆◌, hull}
-use Rattle.book_model.specs.Programs.{Grid, integers, cell_of, cell_at, compare_at, when}
-use Rattle.book_model.specs.Leading.{at_56, AreEnds, bounds, no_bounds, AreNoBounds, IsOpenComparison}
+use Rattle.book_model.specs.Programs.{integers, cell_of, cell_at, compare_at}
+use Rattle.book_model.specs.Leading.{AreEnds, bounds, no_bounds, IsOpenComparison}
 use Rattle.encl_core.specs.Rounding.{at_36}
 
 -- the ends of an open test, at its finer scale

@@ -1,5 +1,5 @@
 -- Rounded quotients, the lesser and the greater, and ends that fit in 64 bits, over plain numbers.
-use Rattle.std.specs.Prelude.{◌≡◌, ℕ, ◌-◌, ◌^◌, ℤ, pos, ◌+ℤ◌, ◌*ℤ◌, ◌≤ℤ◌, ◌<ℤ◌, ◌+◌, unsigned_abs, FitsSigned}
+use Rattle.std.specs.Prelude.{◌-◌, ◌^◌, ℤ, pos, ◌+ℤ◌, ◌*ℤ◌, ◌≤ℤ◌, ◌<ℤ◌, ◌+◌, unsigned_abs, FitsSigned}
 use Rattle.std.specs.Int.{w64}
 use Rattle.exact_math.specs.Fraction.{Fraction}
 use Rattle.exact_math.specs.Interval.{Interval, everything, between, ◌⊆◌}

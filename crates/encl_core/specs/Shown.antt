@@ -1,5 +1,5 @@
 -- The intervals that ends at scale 2^-36 show.
-use Rattle.std.specs.Prelude.{ℤ, Option, Some, None}
+use Rattle.std.specs.Prelude.{Option, Some, None}
 use Rattle.exact_math.specs.Interval.{Interval, everything, between}
 use Rattle.encl_core.specs.declared.ends.Ends.{Ends}
 use Rattle.encl_core.specs.declared.coarse.Coarse.{Coarse}

@@ -1,4 +1,4 @@
-use Rattle.std.proofs.Common.{◌≡◌, rules, arith, SFits, w64, sym, ◌∙◌}
+use Rattle.std.proofs.Common.{rules, arith, SFits, w64}
 use Rattle.std.proofs.lemmas.Int.{ints, to_z-of_z}
 use Rattle.encl_core.proofs.Testing.{cell_same, cell_apart, cell_nowhere}
 use Rattle.encl_core.proofs.comparing.cell_of_ends.Goals as goal

@@ -1,5 +1,5 @@
-use Rattle.std.proofs.Common.{◌≡◌, rules, arith, SFits, w64}
-use Rattle.std.proofs.lemmas.Int.{ints, to_z-of_z}
+use Rattle.std.proofs.Common.{arith}
+use Rattle.std.proofs.lemmas.Int.{ints}
 use Rattle.encl_core.proofs.Testing.{order_below, order_above, order_open, order_first, order_second}
 use Rattle.encl_core.proofs.comparing.order_of_ends.Goals as goal
 

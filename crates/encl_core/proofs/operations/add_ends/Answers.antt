@@ -1,6 +1,5 @@
-use Rattle.std.proofs.Common.{◌≡◌, rules, arith, SFits, ℤ, pos, ◌+ℤ◌}
-use Rattle.std.specs.Int.{w128}
-use Rattle.std.proofs.lemmas.Int.{ints, to_z-of_z}
+use Rattle.std.proofs.Common.{arith}
+use Rattle.std.proofs.lemmas.Int.{ints}
 use Rattle.encl_core.proofs.Keeping.{sum_encloses, sum_narrow, sum_first, sum_second}
 use Rattle.encl_core.proofs.Best.{sum_best, sum_everything_first, sum_everything_second}
 use Rattle.encl_core.proofs.operations.add_ends.Goals as goal

@@ -1,4 +1,4 @@
-use Rattle.std.proofs.Common.{◌≡◌, rules, arith, SFits, Fits, w64, ℤ, pos, ◌*ℤ◌, ◌^◌}
+use Rattle.std.proofs.Common.{rules, arith, SFits, Fits, w64}
 use Rattle.std.specs.Int.{w128}
 use Rattle.std.proofs.lemmas.Int.{ints, to_z-of_z}
 use Rattle.book_model.specs.Fractions.{fraction_of}

@@ -1,6 +1,5 @@
-use Rattle.std.proofs.Common.{◌≡◌, rules, arith, SFits, ℤ, pos, ◌*ℤ◌, ◌^◌}
-use Rattle.std.specs.Int.{w128}
-use Rattle.std.proofs.lemmas.Int.{ints, to_z-of_z}
+use Rattle.std.proofs.Common.{arith}
+use Rattle.std.proofs.lemmas.Int.{ints}
 use Rattle.encl_core.proofs.Keeping.{int_narrow}
 use Rattle.encl_core.proofs.Best.{int_best}
 use Rattle.encl_core.proofs.operations.int_ends.Goals as goal

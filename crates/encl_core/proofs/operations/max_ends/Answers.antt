@@ -1,5 +1,5 @@
-use Rattle.std.proofs.Common.{rules, arith, SFits, w64}
-use Rattle.std.proofs.lemmas.Int.{ints, to_z-of_z}
+use Rattle.std.proofs.Common.{rules, SFits, w64}
+use Rattle.std.proofs.lemmas.Int.{to_z-of_z}
 use Rattle.encl_core.proofs.Enclosing.{maximum_is, maximum_first, maximum_second, greater_order}
 use Rattle.encl_core.proofs.operations.max_ends.Goals as goal
 

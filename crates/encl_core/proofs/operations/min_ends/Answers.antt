@@ -1,5 +1,5 @@
-use Rattle.std.proofs.Common.{rules, arith, SFits, w64}
-use Rattle.std.proofs.lemmas.Int.{ints, to_z-of_z}
+use Rattle.std.proofs.Common.{rules, SFits, w64}
+use Rattle.std.proofs.lemmas.Int.{to_z-of_z}
 use Rattle.encl_core.proofs.Enclosing.{minimum_is, minimum_first, minimum_second, lesser_order}
 use Rattle.encl_core.proofs.operations.min_ends.Goals as goal
 

@@ -1,6 +1,6 @@
-use Rattle.std.proofs.Common.{◌≡◌, rules, arith, SFits, w64, ℤ, pos, ◌*ℤ◌, ◌^◌}
+use Rattle.std.proofs.Common.{◌≡◌, rules, SFits, w64}
 use Rattle.std.specs.Int.{w128}
-use Rattle.std.proofs.lemmas.Int.{ints, to_z-of_z}
+use Rattle.std.proofs.lemmas.Int.{to_z-of_z}
 use Rattle.book_model.specs.Fractions.{fraction_of}
 use Rattle.encl_core.proofs.Quotients.{outward_order, sorted_order}
 use Rattle.encl_core.proofs.Scaling.{AreScaled, scale_encloses, scaled_narrow, scaled_first, scaled_overflow}

@@ -1,4 +1,4 @@
-use Rattle.std.proofs.Common.{◌≡◌, rules, arith, SFits, w64}
+use Rattle.std.proofs.Common.{arith}
 use Rattle.std.proofs.lemmas.Int.{ints, to_z-of_z}
 use Rattle.encl_core.specs.Rounding.{too_large}
 use Rattle.encl_core.proofs.Keeping.{keeps_both}

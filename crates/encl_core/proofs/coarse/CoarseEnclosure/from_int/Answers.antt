@@ -1,4 +1,4 @@
-use Rattle.std.proofs.Common.{rules, SFits, w64}
+use Rattle.std.proofs.Common.{SFits, w64}
 use Rattle.std.proofs.lemmas.Int.{to_z-of_z}
 use Rattle.encl_core.specs.Shown.{shown_coarse}
 use Rattle.encl_core.proofs.Following.{within_integer, narrow_integer}

@@ -1,5 +1,4 @@
 use Rattle.std.proofs.Common.{refl}
-use Rattle.encl_core.specs.Shown.{shown_unknown}
 use Rattle.encl_core.proofs.Knowing.{cell_open}
 use Rattle.encl_core.proofs.tests.UnknownEnclosure.floor.Goals as goal
 
