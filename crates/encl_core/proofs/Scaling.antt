@@ -134,12 +134,12 @@ pub record AreScaled (f : Fraction) (x y n p q m g d lo hi : ℤ) : Type 0 where
   pub up : IsCeiling hi g d
 
 -- the same without the names
-record AreProducts (f : Fraction) (x y m g lo hi : ℤ) : Type 0 where
-  order : AreSorted m g (x *ℤ f.num) (y *ℤ f.num)
-  down : IsFloor lo m (pos (suc f.below))
-  up : IsCeiling hi g (pos (suc f.below))
+pub record AreProducts (f : Fraction) (x y m g lo hi : ℤ) : Type 0 where
+  pub order : AreSorted m g (x *ℤ f.num) (y *ℤ f.num)
+  pub down : IsFloor lo m (pos (suc f.below))
+  pub up : IsCeiling hi g (pos (suc f.below))
 
-products_of : (f : Fraction) (x y n p q m g d lo hi : ℤ) → AreScaled f x y n p q m g d lo hi → AreProducts f x y m g lo hi
+pub products_of : (f : Fraction) (x y n p q m g d lo hi : ℤ) → AreScaled f x y n p q m g d lo hi → AreProducts f x y m g lo hi
 products_of f x y n p q m g d lo hi s =
     let en = s.numerator in
     let ep = s.first in

@@ -2,7 +2,7 @@
 use Rattle.std.specs.Prelude.{◌-◌, ◌^◌, ℤ, pos, ◌+ℤ◌, ◌*ℤ◌, ◌≤ℤ◌, ◌<ℤ◌, ◌+◌, unsigned_abs, FitsSigned}
 use Rattle.std.specs.Int.{w64}
 use Rattle.exact_math.specs.Fraction.{Fraction}
-use Rattle.exact_math.specs.Interval.{Interval, everything, between}
+use Rattle.exact_math.specs.Interval.{Interval, everything, between, ◌⊆◌}
 
 -- a number that counts 2^-36
 abbrev pub at_36 : ℤ → Fraction
@@ -57,3 +57,7 @@ pub record IsMargin (f : Fraction) (m : ℤ) : Type 0 where
 pub data Keeps64 (lo hi : ℤ) : Interval → Type 0 where
   fitting : Keeps64 lo hi (between (at_36 lo) (at_36 hi))
   too_large : (FitsSigned w64 lo → FitsSigned w64 hi → ⊥) → Keeps64 lo hi everything
+
+-- the second is the smallest that 64 bits can say of the first: it lies between all ends that hold the first
+pub record IsBest (i j : Interval) : Type 0 where
+  pub best : (lo hi : ℤ) → FitsSigned w64 lo → FitsSigned w64 hi → i ⊆ between (at_36 lo) (at_36 hi) → j ⊆ between (at_36 lo) (at_36 hi)

@@ -1,11 +1,12 @@
 //! The operations on ends that count 2⁻³⁶, rounded outwards. No ends stand for every number.
-ghost use Rattle.std.specs.Prelude.{◌≡◌, ℕ, pos, ◌+◌, ◌*ℤ◌, ◌+ℤ◌, ◌-ℤ◌, ◌≤ℤ◌, neg_ℤ, ◌^◌, ◌-◌, ◌<◌, unsigned_abs, IfSome, IsSome};
+ghost use Rattle.std.specs.Prelude.{◌≡◌, ℕ, pos, ◌+◌, ◌*ℤ◌, ◌+ℤ◌, ◌-ℤ◌, ◌≤ℤ◌, neg_ℤ, ◌^◌, ◌-◌, ◌<◌, unsigned_abs, IfSome, IsSome, FitsSigned};
+ghost use Rattle.std.specs.Int.{w64};
 ghost use Rattle.exact_math.specs.Fraction.{whole as whole_number};
 ghost use Rattle.exact_math.specs.Interval.{◌⊆◌, sum, difference, negative, product, minimum, maximum, hull, widen, between};
 ghost use Rattle.book_model.specs.Fractions.{fraction_of};
 ghost use Rattle.book_model.specs.Bounds.{Bound, IsNarrow, integer_bound, constant_bound, sum_bound, scaled_bound, limits_36};
 ghost use Rattle.encl_core.specs.Shown.{shown_ends};
-ghost use Rattle.encl_core.specs.Rounding.{IsBelowFour, IsAboveFour, IsAboveEachBelow, IsBelowEachAbove, IsMargin};
+ghost use Rattle.encl_core.specs.Rounding.{IsBelowFour, IsAboveFour, IsAboveEachBelow, IsBelowEachAbove, IsMargin, IsBest};
 
 use crate::ends::Ends;
 use crate::rounding::{
@@ -16,6 +17,7 @@ use book_model::Frac;
 /// The ends of a whole number.
 pub(crate) fn int_ends(value: i64) -> Option<Ends>
     ensures holds { between (whole_number value) (whole_number value) ⊆ shown_ends result }
+    ensures best { IsBest (between (whole_number value) (whole_number value)) (shown_ends result) }
     ensures narrow { (w : ℕ) → IsNarrow w (integer_bound limits_36 value) (shown_ends result) }
 {
     let at = i128::from(value) * 68_719_476_736;
@@ -25,6 +27,7 @@ pub(crate) fn int_ends(value: i64) -> Option<Ends>
 /// The ends around a fraction.
 pub(crate) fn frac_ends(value: Frac) -> Option<Ends>
     ensures holds { between (fraction_of value) (fraction_of value) ⊆ shown_ends result }
+    ensures best { IsBest (between (fraction_of value) (fraction_of value)) (shown_ends result) }
     ensures narrow { (w : ℕ) → IsNarrow w (constant_bound limits_36 (fraction_of value)) (shown_ends result) }
 {
     let raised = value.num().checked_mul(68_719_476_736)?;
@@ -35,6 +38,7 @@ pub(crate) fn frac_ends(value: Frac) -> Option<Ends>
 /// The sums of the ends.
 pub(crate) fn add_ends(x: Option<Ends>, y: Option<Ends>) -> Option<Ends>
     ensures holds { sum (shown_ends x) (shown_ends y) ⊆ shown_ends result }
+    ensures best { IsBest (sum (shown_ends x) (shown_ends y)) (shown_ends result) }
     ensures narrow { (w : ℕ) (a b : Bound) → IsNarrow w a (shown_ends x) → IsNarrow w b (shown_ends y) → IsNarrow w (sum_bound limits_36 a b) (shown_ends result) }
 {
     let x = x?;
@@ -48,6 +52,7 @@ pub(crate) fn add_ends(x: Option<Ends>, y: Option<Ends>) -> Option<Ends>
 /// The ends around the products with a fraction.
 pub(crate) fn scale_ends(x: Option<Ends>, by: Frac) -> Option<Ends>
     ensures holds { product (shown_ends x) (between (fraction_of by) (fraction_of by)) ⊆ shown_ends result }
+    ensures best { FitsSigned w64 by.num → IsBest (product (shown_ends x) (between (fraction_of by) (fraction_of by))) (shown_ends result) }
     ensures narrow { (w : ℕ) (a : Bound) → IsNarrow w a (shown_ends x) → IsNarrow w (scaled_bound limits_36 (fraction_of by) a) (shown_ends result) }
 {
     let x = x?;
@@ -62,6 +67,7 @@ pub(crate) fn scale_ends(x: Option<Ends>, by: Frac) -> Option<Ends>
 /// The differences of the ends.
 pub(crate) fn sub_ends(x: Option<Ends>, y: Option<Ends>) -> Option<Ends>
     ensures holds { difference (shown_ends x) (shown_ends y) ⊆ shown_ends result }
+    ensures best { IsBest (difference (shown_ends x) (shown_ends y)) (shown_ends result) }
 {
     let x = x?;
     let y = y?;
@@ -74,6 +80,7 @@ pub(crate) fn sub_ends(x: Option<Ends>, y: Option<Ends>) -> Option<Ends>
 /// The opposites of the ends, in the other order.
 pub(crate) fn neg_ends(x: Option<Ends>) -> Option<Ends>
     ensures holds { negative (shown_ends x) ⊆ shown_ends result }
+    ensures best { IsBest (negative (shown_ends x)) (shown_ends result) }
 {
     let x = x?;
     ends_of(-i128::from(x.hi), -i128::from(x.lo))
@@ -105,6 +112,7 @@ fn products(x: Ends, y: Ends) -> (i128, i128)
 /// The ends around the products of the members.
 pub(crate) fn mul_ends(x: Option<Ends>, y: Option<Ends>) -> Option<Ends>
     ensures holds { product (shown_ends x) (shown_ends y) ⊆ shown_ends result }
+    ensures best { IsBest (product (shown_ends x) (shown_ends y)) (shown_ends result) }
 {
     let x = x?;
     let y = y?;
@@ -162,6 +170,7 @@ fn margin_of(by: Frac) -> Option<i128>
 /// The ends, each moved outwards by the size of a fraction.
 pub(crate) fn widen_ends(x: Option<Ends>, by: Frac) -> Option<Ends>
     ensures holds { widen (fraction_of by) (shown_ends x) ⊆ shown_ends result }
+    ensures best { unsigned_abs by.num < 2 ^ 90 → IsBest (widen (fraction_of by) (shown_ends x)) (shown_ends result) }
 {
     let x = x?;
     let margin = margin_of(by)?;

@@ -1,6 +1,7 @@
 use Rattle.std.proofs.Common.{arith}
 use Rattle.std.proofs.lemmas.Int.{ints}
 use Rattle.encl_core.proofs.Keeping.{sum_encloses, sum_narrow, sum_first, sum_second}
+use Rattle.encl_core.proofs.Best.{sum_best, sum_everything_first, sum_everything_second}
 use Rattle.encl_core.proofs.operations.add_ends.Goals as goal
 
 pub returns-clause-holds : goal.returns-clause-holds
@@ -16,3 +17,14 @@ returns-in_err-x-clause-narrow c = λ w a b h k. sum_first w a b _ (rw c.in_err-
 
 pub returns-in_err-y-clause-narrow : goal.returns-in_err-y-clause-narrow
 returns-in_err-y-clause-narrow c = λ w a b h k. sum_second w a b _ (rw c.in_err-y.was at k)
+
+pub returns-in_err-x-clause-best : goal.returns-in_err-x-clause-best
+returns-in_err-x-clause-best c = rw c.in_err-x.was (sum_everything_first _ _)
+
+pub returns-in_err-y-clause-best : goal.returns-in_err-y-clause-best
+returns-in_err-y-clause-best c = rw (c.in_ok-x.was, c.in_err-y.was) (sum_everything_second _ _ _)
+
+pub returns-clause-best : goal.returns-clause-best
+returns-clause-best c =
+    rw (c.in_ok-x.was, c.in_ok-y.was)
+    (sum_best c.in_ok-x.x.lo c.in_ok-x.x.hi c.in_ok-y.y.lo c.in_ok-y.y.hi _ _ _ c.in_ok-x.x.ordered c.in_ok-y.y.ordered (omega (arith, ints)) (omega (arith, ints)) c.ends_of.ensures.kept)

@@ -1,9 +1,10 @@
-use Rattle.std.proofs.Common.{rules, arith, SFits}
+use Rattle.std.proofs.Common.{rules, arith, SFits, Fits, w64}
 use Rattle.std.specs.Int.{w128}
 use Rattle.std.proofs.lemmas.Int.{ints, to_z-of_z}
 use Rattle.book_model.specs.Fractions.{fraction_of}
 use Rattle.encl_core.proofs.Quotients.{outward_order}
 use Rattle.encl_core.proofs.Scaling.{constant_encloses, constant_narrow, constant_overflow}
+use Rattle.encl_core.proofs.Best.{constant_best, constant_outside}
 use Rattle.encl_core.proofs.operations.frac_ends.Goals as goal
 
 pub ends_of-requires : goal.ends_of-requires
@@ -47,3 +48,23 @@ returns-clause-narrow c = λ w.
     let k = simp to_z-of_z at c.ends_of.ensures.kept in
     let e = simp c.num.ensures at (simp to_z-of_z at c.in_ok-raised.ensures) in
     constant_narrow (fraction_of c.args.value) w c.in_ok-raised.raised _ _ c.denominator-below.result _ e.1 c.denominator-below.ensures.value i j k
+
+pub returns-clause-best : goal.returns-clause-best
+returns-clause-best c =
+    let fn : SFits w128 c.num.result = search rules in
+    let fr : SFits w128 c.in_ok-raised.raised = search rules in
+    let fd : SFits w128 c.denominator-below.result = search rules in
+    let fl : SFits w128 c.floor_div.result = search rules in
+    let fh : SFits w128 c.ceil_div.result = search rules in
+    let i = simp to_z-of_z at c.floor_div.ensures in
+    let j = simp to_z-of_z at c.ceil_div.ensures in
+    let k = simp to_z-of_z at c.ends_of.ensures.kept in
+    let e = simp c.num.ensures at (simp to_z-of_z at c.in_ok-raised.ensures) in
+    constant_best (fraction_of c.args.value) c.in_ok-raised.raised _ _ c.denominator-below.result _ e.1 c.denominator-below.ensures.value i j k
+
+pub returns-in_err-raised-clause-best : goal.returns-in_err-raised-clause-best
+returns-in_err-raised-clause-best c =
+    let fn : SFits w128 c.num.result = search rules in
+    let fd : Fits w64 c.args.value.den = search rules in
+    let n = simp c.num.ensures at (simp to_z-of_z at c.in_err-raised.ensures) in
+    constant_outside (fraction_of c.args.value) _ (omega (arith, fd)) n

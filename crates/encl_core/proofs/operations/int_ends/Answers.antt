@@ -1,7 +1,11 @@
 use Rattle.std.proofs.Common.{arith}
 use Rattle.std.proofs.lemmas.Int.{ints}
 use Rattle.encl_core.proofs.Keeping.{int_narrow}
+use Rattle.encl_core.proofs.Best.{int_best}
 use Rattle.encl_core.proofs.operations.int_ends.Goals as goal
 
 pub returns-clause-narrow : goal.returns-clause-narrow
 returns-clause-narrow c = λ w. int_narrow w _ _ _ (omega (arith, ints)) c.ends_of.ensures.kept
+
+pub returns-clause-best : goal.returns-clause-best
+returns-clause-best c = int_best _ _ _ (omega (arith, ints)) c.ends_of.ensures.kept

@@ -2,8 +2,15 @@ use Rattle.std.proofs.Common.{arith, rules, SFits}
 use Rattle.std.specs.Int.{w128}
 use Rattle.std.proofs.lemmas.Int.{ints, to_z-of_z}
 use Rattle.encl_core.proofs.Quotients.{outward_order}
+use Rattle.encl_core.proofs.Best.{product_best, product_first, product_second}
 use Rattle.encl_core.proofs.Enclosing.{product_encloses, products_order}
 use Rattle.encl_core.proofs.operations.mul_ends.Goals as goal
+
+pub returns-in_err-x-clause-best : goal.returns-in_err-x-clause-best
+returns-in_err-x-clause-best c = rw c.in_err-x.was (product_first _ _)
+
+pub returns-in_err-y-clause-best : goal.returns-in_err-y-clause-best
+returns-in_err-y-clause-best c = rw (c.in_ok-x.was, c.in_err-y.was) (product_second _ _ _)
 
 pub ends_of-requires : goal.ends_of-requires
 ends_of-requires c =
@@ -15,8 +22,8 @@ ends_of-requires c =
     let j = simp to_z-of_z at c.ceil_36.ensures.ceiling in
     simp to_z-of_z (outward_order _ _ _ _ _ (products_order _ _ _ _ _ _ c.products-least.ensures.least c.products-least.ensures.greatest) i j (omega (arith, ints)))
 
-pub returns : goal.returns
-returns c =
+pub returns-clause-holds : goal.returns-clause-holds
+returns-clause-holds c =
     let fm : SFits w128 c.products-least.result.0 = search rules in
     let fg : SFits w128 c.products-least.result.1 = search rules in
     let fl : SFits w128 c.floor_36.result = search rules in
@@ -24,4 +31,17 @@ returns c =
     let i = simp to_z-of_z at c.floor_36.ensures.floor in
     let j = simp to_z-of_z at c.ceil_36.ensures.ceiling in
     let k = simp to_z-of_z at c.ends_of.ensures.kept in
-    record { holds = rw (c.in_ok-x.was, c.in_ok-y.was) (product_encloses c.in_ok-x.x.lo c.in_ok-x.x.hi c.in_ok-y.y.lo c.in_ok-y.y.hi _ _ _ _ _ c.products-least.ensures.least c.products-least.ensures.greatest i j k) }
+    rw (c.in_ok-x.was, c.in_ok-y.was) (product_encloses c.in_ok-x.x.lo c.in_ok-x.x.hi c.in_ok-y.y.lo c.in_ok-y.y.hi _ _ _ _ _ c.products-least.ensures.least c.products-least.ensures.greatest i j k)
+
+pub returns-clause-best : goal.returns-clause-best
+returns-clause-best c =
+    let fm : SFits w128 c.products-least.result.0 = search rules in
+    let fg : SFits w128 c.products-least.result.1 = search rules in
+    let fl : SFits w128 c.floor_36.result = search rules in
+    let fh : SFits w128 c.ceil_36.result = search rules in
+    let i = simp to_z-of_z at c.floor_36.ensures.floor in
+    let j = simp to_z-of_z at c.ceil_36.ensures.ceiling in
+    let k = simp to_z-of_z at c.ends_of.ensures.kept in
+    let o = outward_order _ _ _ _ _ (products_order _ _ _ _ _ _ c.products-least.ensures.least c.products-least.ensures.greatest) i j (omega (arith, ints)) in
+    rw (c.in_ok-x.was, c.in_ok-y.was)
+    (product_best c.in_ok-x.x.lo c.in_ok-x.x.hi c.in_ok-y.y.lo c.in_ok-y.y.hi c.products-least.result.0 c.products-least.result.1 c.floor_36.result c.ceil_36.result _ o c.products-least.ensures.best_least c.products-least.ensures.best_greatest i j k)

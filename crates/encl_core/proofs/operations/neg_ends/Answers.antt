@@ -1,7 +1,14 @@
 use Rattle.std.proofs.Common.{arith}
 use Rattle.std.proofs.lemmas.Int.{ints}
+use Rattle.encl_core.proofs.Best.{negative_best, negative_first}
 use Rattle.encl_core.proofs.Enclosing.{negative_encloses}
 use Rattle.encl_core.proofs.operations.neg_ends.Goals as goal
 
-pub returns : goal.returns
-returns c = record { holds = rw c.in_ok-x.was (negative_encloses c.in_ok-x.x.lo c.in_ok-x.x.hi _ _ _ (omega (arith, ints)) (omega (arith, ints)) c.ends_of.ensures.kept) }
+pub returns-in_err-x-clause-best : goal.returns-in_err-x-clause-best
+returns-in_err-x-clause-best c = rw c.in_err-x.was (negative_first _)
+
+pub returns-clause-holds : goal.returns-clause-holds
+returns-clause-holds c = rw c.in_ok-x.was (negative_encloses c.in_ok-x.x.lo c.in_ok-x.x.hi _ _ _ (omega (arith, ints)) (omega (arith, ints)) c.ends_of.ensures.kept)
+
+pub returns-clause-best : goal.returns-clause-best
+returns-clause-best c = rw c.in_ok-x.was (negative_best c.in_ok-x.x.lo c.in_ok-x.x.hi _ _ _ c.in_ok-x.x.ordered (omega (arith, ints)) (omega (arith, ints)) c.ends_of.ensures.kept)

@@ -4,6 +4,7 @@ use Rattle.std.proofs.lemmas.Int.{to_z-of_z}
 use Rattle.book_model.specs.Fractions.{fraction_of}
 use Rattle.encl_core.proofs.Quotients.{outward_order, sorted_order}
 use Rattle.encl_core.proofs.Scaling.{AreScaled, scale_encloses, scaled_narrow, scaled_first, scaled_overflow}
+use Rattle.encl_core.proofs.Best.{scale_best, product_first, product_fits}
 use Rattle.encl_core.proofs.operations.scale_ends.Goals as goal
 
 pub returns-in_err-x-clause-narrow : goal.returns-in_err-x-clause-narrow
@@ -74,3 +75,31 @@ returns-clause-narrow c = λ w a h.
     let fh : SFits w128 c.ceil_div.result = search rules in
     let k = simp to_z-of_z at c.ends_of.ensures.kept in
     scaled_narrow w a (fraction_of c.args.by) _ _ _ _ _ _ _ _ _ _ _ (scaled c) k (rw c.in_ok-x.was at h)
+
+pub returns-clause-best : goal.returns-clause-best
+returns-clause-best c = λ l.
+    let fl : SFits w128 c.floor_div.result = search rules in
+    let fh : SFits w128 c.ceil_div.result = search rules in
+    let k = simp to_z-of_z at c.ends_of.ensures.kept in
+    rw c.in_ok-x.was (scale_best (fraction_of c.args.by) _ _ _ _ _ _ _ _ _ _ _ (scaled c) k)
+
+pub returns-in_err-x-clause-best : goal.returns-in_err-x-clause-best
+returns-in_err-x-clause-best c = λ l. rw c.in_err-x.was (product_first _ _)
+
+pub returns-in_err-p-clause-best : goal.returns-in_err-p-clause-best
+returns-in_err-p-clause-best c = λ l.
+    let fn : SFits w128 c.num-factor.result = search rules in
+    let fx : SFits w64 c.in_ok-x.x.lo = search rules in
+    let ff : SFits w128 c.from.result = search rules in
+    let e : c.from.result ≡ c.in_ok-x.x.lo = simp to_z-of_z at c.from.ensures in
+    let n = simp (e, c.num-factor.ensures) at (simp to_z-of_z at c.in_err-p.ensures) in
+    absurd (n (product_fits _ _ fx l))
+
+pub returns-in_err-q-clause-best : goal.returns-in_err-q-clause-best
+returns-in_err-q-clause-best c = λ l.
+    let fn : SFits w128 c.num-factor.result = search rules in
+    let fx : SFits w64 c.in_ok-x.x.hi = search rules in
+    let ff : SFits w128 c.from-2.result = search rules in
+    let e : c.from-2.result ≡ c.in_ok-x.x.hi = simp to_z-of_z at c.from-2.ensures in
+    let n = simp (e, c.num-factor.ensures) at (simp to_z-of_z at c.in_err-q.ensures) in
+    absurd (n (product_fits _ _ fx l))

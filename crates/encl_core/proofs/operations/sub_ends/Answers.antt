@@ -1,10 +1,22 @@
 use Rattle.std.proofs.Common.{arith}
 use Rattle.std.proofs.lemmas.Int.{ints}
+use Rattle.encl_core.proofs.Best.{difference_best, difference_first, difference_second}
 use Rattle.encl_core.proofs.Enclosing.{difference_encloses}
 use Rattle.encl_core.proofs.operations.sub_ends.Goals as goal
+
+pub returns-in_err-x-clause-best : goal.returns-in_err-x-clause-best
+returns-in_err-x-clause-best c = rw c.in_err-x.was (difference_first _ _)
+
+pub returns-in_err-y-clause-best : goal.returns-in_err-y-clause-best
+returns-in_err-y-clause-best c = rw (c.in_ok-x.was, c.in_err-y.was) (difference_second _ _ _)
 
 pub ends_of-requires : goal.ends_of-requires
 ends_of-requires c = omega (arith, ints, c.in_ok-x.x.ordered, c.in_ok-y.y.ordered)
 
-pub returns : goal.returns
-returns c = record { holds = rw (c.in_ok-x.was, c.in_ok-y.was) (difference_encloses c.in_ok-x.x.lo c.in_ok-x.x.hi c.in_ok-y.y.lo c.in_ok-y.y.hi _ _ _ (omega (arith, ints)) (omega (arith, ints)) c.ends_of.ensures.kept) }
+pub returns-clause-holds : goal.returns-clause-holds
+returns-clause-holds c = rw (c.in_ok-x.was, c.in_ok-y.was) (difference_encloses c.in_ok-x.x.lo c.in_ok-x.x.hi c.in_ok-y.y.lo c.in_ok-y.y.hi _ _ _ (omega (arith, ints)) (omega (arith, ints)) c.ends_of.ensures.kept)
+
+pub returns-clause-best : goal.returns-clause-best
+returns-clause-best c =
+    rw (c.in_ok-x.was, c.in_ok-y.was)
+    (difference_best c.in_ok-x.x.lo c.in_ok-x.x.hi c.in_ok-y.y.lo c.in_ok-y.y.hi _ _ _ c.in_ok-x.x.ordered c.in_ok-y.y.ordered (omega (arith, ints)) (omega (arith, ints)) c.ends_of.ensures.kept)

@@ -1,0 +1,231 @@
+-- That the ends are the best that 64 bits can say.
+use Rattle.std.proofs.Common.{◌≡◌, ℕ, suc, ◌+◌, ◌^◌, ◌-◌, ◌<◌, refl, subst, arith, ℤ, pos, ◌+ℤ◌, ◌*ℤ◌, ◌-ℤ◌, ◌≤ℤ◌, ◌<ℤ◌, [], ◌∷◌, SFits, w64}
+use Rattle.std.specs.Int.{w128}
+use lib.IntN.{neg_ℤ}
+use Rattle.std.specs.Prelude.{unsigned_abs}
+use Rattle.std.proofs.lemmas.Int.{ints, by_lt_z}
+use Rattle.exact_math.specs.Fraction.{Fraction, ◌≤F◌, whole, plus, opposite, size, times}
+use Rattle.exact_math.specs.Interval.{Interval, everything, between, ◌⊆◌, sum, negative, difference, product, widen}
+use Rattle.exact_math.proofs.Ring.{at, lit, ◌⊕◌, ◌⊖◌, ◌⊗◌, minus}
+use Rattle.exact_math.proofs.Bounds.{◌≼◌, known, ◌⊞◌, ◌⊠◌, le_over, refute}
+use Rattle.exact_math.proofs.Fractions.{le_trans, den_product}
+use Rattle.exact_math.proofs.Intervals.{least_below, greatest_above}
+use Rattle.encl_core.specs.Rounding.{at_36, IsFloor, IsCeiling, IsAboveEachBelow, IsBelowEachAbove, IsMargin, IsBest, Keeps64, fitting, too_large}
+use Rattle.encl_core.proofs.Quotients.{next_le, outward_order, sorted_order}
+use Rattle.encl_core.proofs.Scaling.{AreScaled, products_of, bounded_z}
+
+-- ends further out hold what 64 bits show of two ends
+kept_best : (lo hi p q : ℤ) (i : Interval) → lo ≤ℤ hi → Keeps64 lo hi i → SFits w64 p → SFits w64 q → p ≤ℤ lo → hi ≤ℤ q → i ⊆ between (at_36 p) (at_36 q)
+kept_best lo hi p q (between a b) o fitting f g h k = record { ends = (record { cross = omega (arith, ints) }, record { cross = omega (arith, ints) }) }
+kept_best lo hi p q everything o (too_large n) f g h k = absurd (n (omega (arith, ints)) (omega (arith, ints)))
+
+-- nothing but everything holds everything
+everything_best : (i : Interval) → IsBest everything i
+everything_best i = record { best = λ p q f g h. absurd h.ends }
+
+pub difference_best : (a b c d lo hi : ℤ) (i : Interval) → a ≤ℤ b → c ≤ℤ d → lo ≡ a -ℤ d → hi ≡ b -ℤ c → Keeps64 lo hi i → IsBest (difference (between (at_36 a) (at_36 b)) (between (at_36 c) (at_36 d))) i
+unfolding sum negative plus opposite
+difference_best a b c d lo hi i o o' e e' k =
+    record { best = λ p q f g h. kept_best lo hi p q i (omega (arith, ints)) k f g (omega (arith, ints, h.ends.0.cross)) (omega (arith, ints, h.ends.1.cross)) }
+
+pub difference_first : (j i : Interval) → IsBest (difference everything j) i
+unfolding sum
+difference_first j i = everything_best i
+
+pub difference_second : (a b : Fraction) (i : Interval) → IsBest (difference (between a b) everything) i
+unfolding sum negative
+difference_second a b i = everything_best i
+
+pub negative_best : (a b lo hi : ℤ) (i : Interval) → a ≤ℤ b → lo ≡ pos 0 -ℤ b → hi ≡ pos 0 -ℤ a → Keeps64 lo hi i → IsBest (negative (between (at_36 a) (at_36 b))) i
+unfolding negative opposite
+negative_best a b lo hi i o e e' k =
+    record { best = λ p q f g h. kept_best lo hi p q i (omega (arith, ints)) k f g (omega (arith, ints, h.ends.0.cross)) (omega (arith, ints, h.ends.1.cross)) }
+
+pub negative_first : (i : Interval) → IsBest (negative everything) i
+unfolding negative
+negative_first i = everything_best i
+
+-- ---- products
+from_below : (p a c : ℤ) → at_36 p ≤F times (at_36 a) (at_36 c) → (p *ℤ pos (2 ^ 36)) ≤ℤ (a *ℤ c)
+unfolding times
+from_below p a c h = omega (arith, ints, h.cross)
+
+from_above : (p a c : ℤ) → times (at_36 a) (at_36 c) ≤F at_36 p → (a *ℤ c) ≤ℤ (p *ℤ pos (2 ^ 36))
+unfolding times
+from_above p a c h = omega (arith, ints, h.cross)
+
+pub product_best : (x y x' y' l g lo hi : ℤ) (i : Interval) → lo ≤ℤ hi → IsAboveEachBelow l (x *ℤ x') (x *ℤ y') (y *ℤ x') (y *ℤ y') → IsBelowEachAbove g (x *ℤ x') (x *ℤ y') (y *ℤ x') (y *ℤ y')
+    → IsFloor lo l (pos (2 ^ 36)) → IsCeiling hi g (pos (2 ^ 36)) → Keeps64 lo hi i → IsBest (product (between (at_36 x) (at_36 y)) (between (at_36 x') (at_36 y'))) i
+unfolding product
+product_best x y x' y' l g lo hi i o b a f c k =
+    let under = least_below (times (at_36 x) (at_36 x')) (times (at_36 x) (at_36 y')) (times (at_36 y) (at_36 x')) (times (at_36 y) (at_36 y')) in
+    let over = greatest_above (times (at_36 x) (at_36 x')) (times (at_36 x) (at_36 y')) (times (at_36 y) (at_36 x')) (times (at_36 y) (at_36 y')) in
+    record {
+      best = λ p q fp fq h.
+          let l1 = from_below p x x' (le_trans _ _ _ h.ends.0 under.0) in
+          let l2 = from_below p x y' (le_trans _ _ _ h.ends.0 under.1) in
+          let l3 = from_below p y x' (le_trans _ _ _ h.ends.0 under.2) in
+          let l4 = from_below p y y' (le_trans _ _ _ h.ends.0 under.3) in
+          let g1 = from_above q x x' (le_trans _ _ _ over.0 h.ends.1) in
+          let g2 = from_above q x y' (le_trans _ _ _ over.1 h.ends.1) in
+          let g3 = from_above q y x' (le_trans _ _ _ over.2 h.ends.1) in
+          let g4 = from_above q y y' (le_trans _ _ _ over.3 h.ends.1) in
+          let m : (p *ℤ pos (2 ^ 36)) ≤ℤ l = b (p *ℤ pos (2 ^ 36)) l1 l2 l3 l4 in
+          let n : g ≤ℤ (q *ℤ pos (2 ^ 36)) = a (q *ℤ pos (2 ^ 36)) g1 g2 g3 g4 in
+          kept_best lo hi p q i o k fp fq (omega (arith, ints, m, f.close)) (omega (arith, ints, n, c.close));
+    }
+
+pub product_first : (j i : Interval) → IsBest (product everything j) i
+unfolding product
+product_first j i = everything_best i
+
+pub product_second : (a b : Fraction) (i : Interval) → IsBest (product (between a b) everything) i
+unfolding product
+product_second a b i = everything_best i
+
+-- ---- widening
+margin_z : (s m n d k : ℤ) → pos 1 ≤ℤ d → (n *ℤ k) ≤ℤ (s *ℤ d) → (m *ℤ d +ℤ pos 1) ≤ℤ (n *ℤ k +ℤ d) → (s +ℤ pos 1) ≤ℤ m → ⊥
+margin_z s m n d k h0 h1 h2 h3 =
+    refute (s ∷ m ∷ n ∷ d ∷ k ∷ []) ((lit (pos 1) ≼ at 3) ∷ (at 2 ⊗ at 4 ≼ at 0 ⊗ at 3) ∷ (at 1 ⊗ at 3 ⊕ lit (pos 1) ≼ at 2 ⊗ at 4 ⊕ at 3) ∷ (at 0 ⊕ lit (pos 1) ≼ at 1) ∷ [])
+    (known 1 ⊞ known 2 ⊞ known 3 ⊠ known 0 ⊞ known 3) refl (h0, (h1, (h2, (h3, tt))))
+
+-- a margin is at most what covers the size of the fraction
+margin_least : (f : Fraction) (m s : ℤ) → IsMargin f m → (pos (unsigned_abs f.num) *ℤ pos (2 ^ 36)) ≤ℤ (s *ℤ pos (suc f.below)) → m ≤ℤ s
+margin_least f m s h k =
+    let r = h.rounded.close in
+    let e : pos (f.below + 1) ≡ pos (suc f.below) = omega (arith, ints) in
+    let c : (m *ℤ pos (suc f.below) +ℤ pos 1) ≤ℤ (pos (unsigned_abs f.num) *ℤ pos (2 ^ 36) +ℤ pos (suc f.below)) = next_le _ _ (subst (λ x. (m *ℤ x) <ℤ (pos (unsigned_abs f.num) *ℤ pos (2 ^ 36) +ℤ x)) e r) in
+    by_lt_z s m (λ l. absurd (margin_z s m (pos (unsigned_abs f.num)) (pos (suc f.below)) (pos (2 ^ 36)) (omega (arith, ints)) k c (next_le _ _ l))) (λ l. l)
+
+-- the margin of a fraction of no great numerator is small
+pub margin_small : (f : Fraction) (m : ℤ) → IsMargin f m → unsigned_abs f.num < 2 ^ 90 → m ≤ℤ pos (2 ^ 126)
+margin_small f m h l = margin_least f m (pos (2 ^ 126)) h (small_z (unsigned_abs f.num) f.below l)
+  where
+    small_z : (n d : ℕ) → n < 2 ^ 90 → (pos n *ℤ pos (2 ^ 36)) ≤ℤ (pos (2 ^ 126) *ℤ pos (suc d))
+    small_z n d l = omega (arith, ints)
+
+lower_z : (p a n d k : ℤ) → pos 1 ≤ℤ k → (p *ℤ (k *ℤ d)) ≤ℤ ((a *ℤ d +ℤ neg_ℤ n *ℤ k) *ℤ k) → (n *ℤ k) ≤ℤ ((a -ℤ p) *ℤ d)
+lower_z p a n d k o h =
+    le_over (p ∷ a ∷ n ∷ d ∷ k ∷ []) ((at 0 ⊗ (at 4 ⊗ at 3) ≼ (at 1 ⊗ at 3 ⊕ minus (at 2) ⊗ at 4) ⊗ at 4) ∷ []) (at 4) (at 2 ⊗ at 4) ((at 1 ⊖ at 0) ⊗ at 3) (known 0) refl o (h, tt)
+
+upper_z : (q b n d k : ℤ) → pos 1 ≤ℤ k → ((b *ℤ d +ℤ n *ℤ k) *ℤ k) ≤ℤ (q *ℤ (k *ℤ d)) → (n *ℤ k) ≤ℤ ((q -ℤ b) *ℤ d)
+upper_z q b n d k o h =
+    le_over (q ∷ b ∷ n ∷ d ∷ k ∷ []) (((at 1 ⊗ at 3 ⊕ at 2 ⊗ at 4) ⊗ at 4 ≼ at 0 ⊗ (at 4 ⊗ at 3)) ∷ []) (at 4) (at 2 ⊗ at 4) ((at 0 ⊖ at 1) ⊗ at 3) (known 0) refl o (h, tt)
+
+pub widen_best : (f : Fraction) (a b m lo hi : ℤ) (i : Interval) → lo ≤ℤ hi → IsMargin f m → lo ≡ a -ℤ m → hi ≡ b +ℤ m → Keeps64 lo hi i → IsBest (widen f (between (at_36 a) (at_36 b))) i
+unfolding widen plus opposite size
+widen_best f a b m lo hi i o h el eh k =
+    let e = den_product (2 ^ 36 - 1) f.below in
+    record {
+      best = λ p q fp fq w.
+          let x = w.ends.0.cross in
+          let y = w.ends.1.cross in
+          let l = margin_least f m (a -ℤ p) h (lower_z p a (pos (unsigned_abs f.num)) (pos (suc f.below)) (pos (2 ^ 36)) (omega (arith, ints)) (rw e at x)) in
+          let g = margin_least f m (q -ℤ b) h (upper_z q b (pos (unsigned_abs f.num)) (pos (suc f.below)) (pos (2 ^ 36)) (omega (arith, ints)) (rw e at y)) in
+          kept_best lo hi p q i o k fp fq (omega (arith, ints, l)) (omega (arith, ints, g));
+    }
+
+pub widen_first : (f : Fraction) (i : Interval) → IsBest (widen f everything) i
+unfolding widen
+widen_first f i = everything_best i
+
+-- ---- whole numbers and sums
+pub int_best : (n e : ℤ) (i : Interval) → e ≡ n *ℤ pos (2 ^ 36) → Keeps64 e e i → IsBest (between (whole n) (whole n)) i
+int_best n e i r k = record { best = λ p q f g h. kept_best e e p q i (omega (arith, ints)) k f g (omega (arith, ints, h.ends.0.cross)) (omega (arith, ints, h.ends.1.cross)) }
+
+pub sum_best : (a b c d lo hi : ℤ) (i : Interval) → a ≤ℤ b → c ≤ℤ d → lo ≡ a +ℤ c → hi ≡ b +ℤ d → Keeps64 lo hi i → IsBest (sum (between (at_36 a) (at_36 b)) (between (at_36 c) (at_36 d))) i
+unfolding sum plus
+sum_best a b c d lo hi i o o' e e' k =
+    record { best = λ p q f g h. kept_best lo hi p q i (omega (arith, ints)) k f g (omega (arith, ints, h.ends.0.cross)) (omega (arith, ints, h.ends.1.cross)) }
+
+pub sum_everything_first : (j i : Interval) → IsBest (sum everything j) i
+unfolding sum
+sum_everything_first j i = everything_best i
+
+pub sum_everything_second : (a b : Fraction) (i : Interval) → IsBest (sum (between a b) everything) i
+unfolding sum
+sum_everything_second a b i = everything_best i
+
+-- ---- fractions
+floor_z : (p lo m d : ℤ) → pos 1 ≤ℤ d → (p *ℤ d) ≤ℤ m → (m +ℤ pos 1) ≤ℤ (lo *ℤ d +ℤ d) → (lo +ℤ pos 1) ≤ℤ p → ⊥
+floor_z p lo m d h0 h1 h2 h3 =
+    refute (p ∷ lo ∷ m ∷ d ∷ []) ((lit (pos 1) ≼ at 3) ∷ (at 0 ⊗ at 3 ≼ at 2) ∷ (at 2 ⊕ lit (pos 1) ≼ at 1 ⊗ at 3 ⊕ at 3) ∷ (at 1 ⊕ lit (pos 1) ≼ at 0) ∷ [])
+    (known 1 ⊞ known 2 ⊞ known 3 ⊠ known 0 ⊞ known 3) refl (h0, (h1, (h2, (h3, tt))))
+
+-- a quotient rounded down is the greatest that isn't above
+floor_best : (p lo m d : ℤ) → pos 0 <ℤ d → IsFloor lo m d → (p *ℤ d) ≤ℤ m → p ≤ℤ lo
+floor_best p lo m d o f h = by_lt_z lo p (λ l. absurd (floor_z p lo m d (next_le _ _ o) h (next_le _ _ f.close) (next_le _ _ l))) (λ l. l)
+
+ceil_z : (q hi g d : ℤ) → pos 1 ≤ℤ d → g ≤ℤ (q *ℤ d) → (hi *ℤ d +ℤ pos 1) ≤ℤ (g +ℤ d) → (q +ℤ pos 1) ≤ℤ hi → ⊥
+ceil_z q hi g d h0 h1 h2 h3 =
+    refute (q ∷ hi ∷ g ∷ d ∷ []) ((lit (pos 1) ≼ at 3) ∷ (at 2 ≼ at 0 ⊗ at 3) ∷ (at 1 ⊗ at 3 ⊕ lit (pos 1) ≼ at 2 ⊕ at 3) ∷ (at 0 ⊕ lit (pos 1) ≼ at 1) ∷ [])
+    (known 1 ⊞ known 2 ⊞ known 3 ⊠ known 0 ⊞ known 3) refl (h0, (h1, (h2, (h3, tt))))
+
+-- a quotient rounded up is the least that isn't below
+ceil_best : (q hi g d : ℤ) → pos 0 <ℤ d → IsCeiling hi g d → g ≤ℤ (q *ℤ d) → hi ≤ℤ q
+ceil_best q hi g d o c h = by_lt_z q hi (λ l. absurd (ceil_z q hi g d (next_le _ _ o) h (next_le _ _ c.close) (next_le _ _ l))) (λ l. l)
+
+pub constant_best : (f : Fraction) (m lo hi d : ℤ) (i : Interval) → m ≡ f.num *ℤ pos (2 ^ 36) → d ≡ pos (f.below + 1) → IsFloor lo m d → IsCeiling hi m d → Keeps64 lo hi i → IsBest (between f f) i
+constant_best f m lo hi d i em ed l u k =
+    let e : d ≡ pos (suc f.below) = omega (arith, ints) in
+    let a = rw e at l in
+    let b = rw e at u in
+    let o : pos 0 <ℤ pos (suc f.below) = omega (arith, ints) in
+    record {
+      best = λ p q fp fq h.
+          let x : (p *ℤ pos (suc f.below)) ≤ℤ (f.num *ℤ pos (2 ^ 36)) = h.ends.0.cross in
+          let y : (f.num *ℤ pos (2 ^ 36)) ≤ℤ (q *ℤ pos (suc f.below)) = h.ends.1.cross in
+          kept_best lo hi p q i (outward_order m m (pos (suc f.below)) lo hi (omega (arith, ints)) a b o) k fp fq
+          (floor_best p lo m (pos (suc f.below)) o a (rw em x)) (ceil_best q hi m (pos (suc f.below)) o b (rw em y));
+    }
+
+-- where a numerator is too great, the fraction lies outside 64 bits
+pub constant_outside : (f : Fraction) (i : Interval) → f.below + 1 < 2 ^ 64 → (SFits w128 (f.num *ℤ pos (2 ^ 36)) → ⊥) → IsBest (between f f) i
+constant_outside f i l n = record {
+  best = λ p q fp fq h.
+      let x : (p *ℤ pos (suc f.below)) ≤ℤ (f.num *ℤ pos (2 ^ 36)) = h.ends.0.cross in
+      let y : (f.num *ℤ pos (2 ^ 36)) ≤ℤ (q *ℤ pos (suc f.below)) = h.ends.1.cross in
+      let a = bounded_z p (pos (suc f.below)) (pos (2 ^ 63)) (pos (2 ^ 64 - 1)) (omega (arith, ints)) (omega (arith, ints)) (omega (arith, ints)) (omega (arith, ints)) in
+      let b = bounded_z q (pos (suc f.below)) (pos (2 ^ 63)) (pos (2 ^ 64 - 1)) (omega (arith, ints)) (omega (arith, ints)) (omega (arith, ints)) (omega (arith, ints)) in
+      absurd (n (omega (arith, ints, a.1, b.0, x, y)));
+}
+
+-- ---- products with fractions
+below_z : (p x n d k : ℤ) → pos 1 ≤ℤ k → (p *ℤ (k *ℤ d)) ≤ℤ ((x *ℤ n) *ℤ k) → (p *ℤ d) ≤ℤ (x *ℤ n)
+below_z p x n d k o h = le_over (p ∷ x ∷ n ∷ d ∷ k ∷ []) ((at 0 ⊗ (at 4 ⊗ at 3) ≼ (at 1 ⊗ at 2) ⊗ at 4) ∷ []) (at 4) (at 0 ⊗ at 3) (at 1 ⊗ at 2) (known 0) refl o (h, tt)
+
+above_z : (q x n d k : ℤ) → pos 1 ≤ℤ k → ((x *ℤ n) *ℤ k) ≤ℤ (q *ℤ (k *ℤ d)) → (x *ℤ n) ≤ℤ (q *ℤ d)
+above_z q x n d k o h = le_over (q ∷ x ∷ n ∷ d ∷ k ∷ []) (((at 1 ⊗ at 2) ⊗ at 4 ≼ at 0 ⊗ (at 4 ⊗ at 3)) ∷ []) (at 4) (at 1 ⊗ at 2) (at 0 ⊗ at 3) (known 0) refl o (h, tt)
+
+scaled_below : (p x : ℤ) (f : Fraction) → at_36 p ≤F times (at_36 x) f → (p *ℤ pos (suc f.below)) ≤ℤ (x *ℤ f.num)
+unfolding times
+scaled_below p x f h =
+    let c = h.cross in
+    below_z p x f.num (pos (suc f.below)) (pos (2 ^ 36)) (omega (arith, ints)) (rw (den_product (2 ^ 36 - 1) f.below) at c)
+
+scaled_above : (q x : ℤ) (f : Fraction) → times (at_36 x) f ≤F at_36 q → (x *ℤ f.num) ≤ℤ (q *ℤ pos (suc f.below))
+unfolding times
+scaled_above q x f h =
+    let c = h.cross in
+    above_z q x f.num (pos (suc f.below)) (pos (2 ^ 36)) (omega (arith, ints)) (rw (den_product (2 ^ 36 - 1) f.below) at c)
+
+pub scale_best : (f : Fraction) (x y n p q m g d lo hi : ℤ) (i : Interval) → AreScaled f x y n p q m g d lo hi → Keeps64 lo hi i → IsBest (product (between (at_36 x) (at_36 y)) (between f f)) i
+unfolding product
+scale_best f x y n p q m g d lo hi i s k =
+    let t = products_of f x y n p q m g d lo hi s in
+    let o : pos 0 <ℤ pos (suc f.below) = omega (arith, ints) in
+    let under = least_below (times (at_36 x) f) (times (at_36 x) f) (times (at_36 y) f) (times (at_36 y) f) in
+    let over = greatest_above (times (at_36 x) f) (times (at_36 x) f) (times (at_36 y) f) (times (at_36 y) f) in
+    record {
+      best = λ u v fu fv h.
+          let a = t.order.best_low _ (scaled_below u x f (le_trans _ _ _ h.ends.0 under.0)) (scaled_below u y f (le_trans _ _ _ h.ends.0 under.2)) in
+          let b = t.order.best_high _ (scaled_above v x f (le_trans _ _ _ over.0 h.ends.1)) (scaled_above v y f (le_trans _ _ _ over.2 h.ends.1)) in
+          kept_best lo hi u v i (outward_order m g (pos (suc f.below)) lo hi (sorted_order _ _ _ _ t.order) t.down t.up o) k fu fv
+          (floor_best u lo m (pos (suc f.below)) o t.down a) (ceil_best v hi g (pos (suc f.below)) o t.up b);
+    }
+
+-- products of numbers in 64 bits fit
+pub product_fits : (x n : ℤ) → SFits w64 x → SFits w64 n → SFits w128 (x *ℤ n)
+product_fits x n f g =
+    let b = bounded_z x n (pos (2 ^ 63)) (pos (2 ^ 63)) (omega (arith, ints)) (omega (arith, ints)) (omega (arith, ints)) (omega (arith, ints)) in
+    omega (arith, ints, b.0, b.1)
