@@ -264,7 +264,7 @@ fn bytes_come_and_go_one_by_one(rt: HostRuntime) -> Result<(), Fail> {
             Status::Done
         };
         assert_eq!(rt; got, status, "at {failing}");
-        assert_eq!(rt; sink.bytes.len() as u32, failing - 1, "at {failing}");
+        assert_eq!(rt; sink.bytes.len(), failing as usize - 1, "at {failing}");
         assert!(rt;
             ROW_TEXT.as_bytes().starts_with(&sink.bytes),
             "at {failing}"
