@@ -7,3 +7,4 @@ pub mod Nearness
 pub mod Evaluations
 pub mod Corrections
 pub mod Implying
+pub mod Exactly

@@ -13,4 +13,5 @@ pub mod Lines
 pub mod Requests
 pub mod Inquiries
 pub mod Outcomes
+pub mod Plain
 pub mod Text

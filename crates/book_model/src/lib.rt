@@ -6,6 +6,7 @@ mod fact;
 mod fail;
 mod frac;
 pub mod laws;
+pub mod plain;
 mod request;
 mod site;
 mod tables;

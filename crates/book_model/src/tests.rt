@@ -35,3 +35,17 @@ fn sites_are_numbered_and_named(rt: HostRuntime) {
         assert_eq!(rt; site.name(), name);
     }
 }
+
+#[test]
+fn corrections_are_exact(rt: HostRuntime) {
+    for (year, units) in [
+        (1987, 5_531_642_921_893),
+        (2000, 6_386_000_000_000),
+        (2024, 7_387_134_400_000),
+        (2048, 9_126_121_600_000),
+    ] {
+        assert_eq!(rt; plain::exact_correction(year), Some(units), "year {year}");
+    }
+    assert_eq!(rt; plain::exact_correction(1986), None);
+    assert_eq!(rt; plain::exact_correction(2051), None);
+}

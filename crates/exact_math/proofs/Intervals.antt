@@ -418,3 +418,78 @@ quotient_proper (between a b) (between c d) p q = by_test (excludes_zero c d) re
     by_test : (t : Bool) → excludes_zero c d ≡ t → IsProper (cond t (product (between a b) (between (reciprocal d) (reciprocal c))) everything)
     by_test true e = product_proper (between a b) (between (reciprocal d) (reciprocal c)) p (reciprocal_proper c d q e)
     by_test false e = tt
+
+-- ---- each operation holds the result at members
+opposite_between : (a b x : Fraction) → a ≤F x → x ≤F b → (opposite b ≤F opposite x) × (opposite x ≤F opposite a)
+opposite_between a b x h k = (opposite_mono x b k, opposite_mono a x h)
+
+pub negative_holds : (i : Interval) (x : Fraction) → IsMember x i → IsMember (opposite x) (negative i)
+unfolding negative
+negative_holds everything x h = tt
+negative_holds (between a b) x h = opposite_between a b x h.0 h.1
+
+pub difference_holds : (i j : Interval) (x y : Fraction) → IsMember x i → IsMember y j → IsMember (plus x (opposite y)) (difference i j)
+difference_holds i j x y h k = sum_holds i (negative j) x (opposite y) h (negative_holds j y k)
+
+pub minimum_holds : (i j : Interval) (x y : Fraction) → IsMember x i → IsMember y j → IsMember (smaller x y) (minimum i j)
+unfolding minimum
+minimum_holds everything j x y h k = tt
+minimum_holds (between a b) everything x y h k = tt
+minimum_holds (between a b) (between c d) x y h k = (smaller_mono a x c y h.0 k.0, smaller_mono x b y d h.1 k.1)
+
+pub maximum_holds : (i j : Interval) (x y : Fraction) → IsMember x i → IsMember y j → IsMember (larger x y) (maximum i j)
+unfolding maximum
+maximum_holds everything j x y h k = tt
+maximum_holds (between a b) everything x y h k = tt
+maximum_holds (between a b) (between c d) x y h k = (larger_mono a x c y h.0 k.0, larger_mono x b y d h.1 k.1)
+
+pub hull_holds_first : (i j : Interval) (x : Fraction) → IsMember x i → IsMember x (hull i j)
+unfolding hull
+hull_holds_first everything j x h = tt
+hull_holds_first (between a b) everything x h = tt
+hull_holds_first (between a b) (between c d) x h = (le_trans _ _ _ (smaller_first a c) h.0, le_trans _ _ _ h.1 (larger_first b d))
+
+pub hull_holds_second : (i j : Interval) (x : Fraction) → IsMember x j → IsMember x (hull i j)
+unfolding hull
+hull_holds_second everything j x h = tt
+hull_holds_second (between a b) everything x h = tt
+hull_holds_second (between a b) (between c d) x h = (le_trans _ _ _ (smaller_second a c) h.0, le_trans _ _ _ h.1 (larger_second b d))
+
+pub clamp_holds : (i : Interval) (x : Fraction) → IsMember x i → IsMember (larger minus_one (smaller x one)) (clamp i)
+unfolding clamp
+clamp_holds everything x h = clamped_in x
+clamp_holds (between a b) x h = (clamped_mono a x h.0, clamped_mono x b h.1)
+
+-- a widened interval holds what lies at most the fraction's size from a member
+pub widen_holds : (e : Fraction) (i : Interval) (x y : Fraction) → IsMember x i → opposite (size e) ≤F y → y ≤F size e → IsMember (plus x y) (widen e i)
+unfolding widen
+widen_holds e everything x y h l u = tt
+widen_holds e (between a b) x y h l u = (plus_mono a x (opposite (size e)) y h.0 l, plus_mono x b y (size e) h.1 u)
+
+-- ---- each operation gives the smallest interval
+-- a bounded interval that holds each sum of members holds the interval of the sums
+pub sum_smallest : (a b c d : Fraction) (j : Interval) → a ≤F b → c ≤F d → ((x y : Fraction) → IsMember x (between a b) → IsMember y (between c d) → IsMember (plus x y) j)
+    → sum (between a b) (between c d) ⊆ j
+unfolding sum
+sum_smallest a b c d everything p q h = record { ends = tt }
+sum_smallest a b c d (between e f) p q h = record { ends = ((h a c (le_refl a, p) (le_refl c, q)).0, (h b d (p, le_refl b) (q, le_refl d)).1) }
+
+pub minimum_smallest : (a b c d : Fraction) (j : Interval) → a ≤F b → c ≤F d → ((x y : Fraction) → IsMember x (between a b) → IsMember y (between c d) → IsMember (smaller x y) j)
+    → minimum (between a b) (between c d) ⊆ j
+unfolding minimum
+minimum_smallest a b c d everything p q h = record { ends = tt }
+minimum_smallest a b c d (between e f) p q h = record { ends = ((h a c (le_refl a, p) (le_refl c, q)).0, (h b d (p, le_refl b) (q, le_refl d)).1) }
+
+pub maximum_smallest : (a b c d : Fraction) (j : Interval) → a ≤F b → c ≤F d → ((x y : Fraction) → IsMember x (between a b) → IsMember y (between c d) → IsMember (larger x y) j)
+    → maximum (between a b) (between c d) ⊆ j
+unfolding maximum
+maximum_smallest a b c d everything p q h = record { ends = tt }
+maximum_smallest a b c d (between e f) p q h = record { ends = ((h a c (le_refl a, p) (le_refl c, q)).0, (h b d (p, le_refl b) (q, le_refl d)).1) }
+
+-- what holds both intervals holds their hull
+pub hull_smallest : (a b c d : Fraction) (j : Interval) → between a b ⊆ j → between c d ⊆ j → hull (between a b) (between c d) ⊆ j
+unfolding hull
+hull_smallest a b c d everything h k = record { ends = tt }
+hull_smallest a b c d (between e f) h k = record {
+  ends = (smaller_keeps (λ z. e ≤F z) a c h.ends.0 k.ends.0, larger_keeps (λ z. z ≤F f) b d h.ends.1 k.ends.1);
+}
