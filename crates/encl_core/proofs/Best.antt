@@ -23,37 +23,45 @@ kept_best lo hi p q everything o (too_large n) f g h k = absurd (n (omega (arith
 everything_best : (i : Interval) → IsBest everything i
 everything_best i = record { best = λ p q f g h. absurd h.ends }
 
+-- the ends of a difference are the best
 pub difference_best : (a b c d lo hi : ℤ) (i : Interval) → a ≤ℤ b → c ≤ℤ d → lo ≡ a -ℤ d → hi ≡ b -ℤ c → Keeps64 lo hi i → IsBest (difference (between (at_36 a) (at_36 b)) (between (at_36 c) (at_36 d))) i
 unfolding sum negative plus opposite
 difference_best a b c d lo hi i o o' e e' k =
     record { best = λ p q f g h. kept_best lo hi p q i (omega (arith, ints)) k f g (omega (arith, ints, h.ends.0.cross)) (omega (arith, ints, h.ends.1.cross)) }
 
+-- where the first is everything, any difference is the best
 pub difference_first : (j i : Interval) → IsBest (difference everything j) i
 unfolding sum
 difference_first j i = everything_best i
 
+-- where the second is everything, any difference is the best
 pub difference_second : (a b : Fraction) (i : Interval) → IsBest (difference (between a b) everything) i
 unfolding sum negative
 difference_second a b i = everything_best i
 
+-- the ends of an opposite are the best
 pub negative_best : (a b lo hi : ℤ) (i : Interval) → a ≤ℤ b → lo ≡ pos 0 -ℤ b → hi ≡ pos 0 -ℤ a → Keeps64 lo hi i → IsBest (negative (between (at_36 a) (at_36 b))) i
 unfolding negative opposite
 negative_best a b lo hi i o e e' k =
     record { best = λ p q f g h. kept_best lo hi p q i (omega (arith, ints)) k f g (omega (arith, ints, h.ends.0.cross)) (omega (arith, ints, h.ends.1.cross)) }
 
+-- any opposite of everything is the best
 pub negative_first : (i : Interval) → IsBest (negative everything) i
 unfolding negative
 negative_first i = everything_best i
 
 -- ---- products
+-- a number at the scale that is at most a product of two
 from_below : (p a c : ℤ) → at_36 p ≤F times (at_36 a) (at_36 c) → (p *ℤ pos (2 ^ 36)) ≤ℤ (a *ℤ c)
 unfolding times
 from_below p a c h = omega (arith, ints, h.cross)
 
+-- a number at the scale that is at least a product of two
 from_above : (p a c : ℤ) → times (at_36 a) (at_36 c) ≤F at_36 p → (a *ℤ c) ≤ℤ (p *ℤ pos (2 ^ 36))
 unfolding times
 from_above p a c h = omega (arith, ints, h.cross)
 
+-- the ends of a product, rounded outwards, are the best
 pub product_best : (x y x' y' l g lo hi : ℤ) (i : Interval) → lo ≤ℤ hi → IsAboveEachBelow l (x *ℤ x') (x *ℤ y') (y *ℤ x') (y *ℤ y') → IsBelowEachAbove g (x *ℤ x') (x *ℤ y') (y *ℤ x') (y *ℤ y')
     → IsFloor lo l (pos (2 ^ 36)) → IsCeiling hi g (pos (2 ^ 36)) → Keeps64 lo hi i → IsBest (product (between (at_36 x) (at_36 y)) (between (at_36 x') (at_36 y'))) i
 unfolding product
@@ -75,15 +83,18 @@ product_best x y x' y' l g lo hi i o b a f c k =
           kept_best lo hi p q i o k fp fq (omega (arith, ints, m, f.close)) (omega (arith, ints, n, c.close));
     }
 
+-- where the first is everything, any product is the best
 pub product_first : (j i : Interval) → IsBest (product everything j) i
 unfolding product
 product_first j i = everything_best i
 
+-- where the second is everything, any product is the best
 pub product_second : (a b : Fraction) (i : Interval) → IsBest (product (between a b) everything) i
 unfolding product
 product_second a b i = everything_best i
 
 -- ---- widening
+-- a margin that is 1 more than a number which covers isn't rounded up
 margin_z : (s m n d k : ℤ) → pos 1 ≤ℤ d → (n *ℤ k) ≤ℤ (s *ℤ d) → (m *ℤ d +ℤ pos 1) ≤ℤ (n *ℤ k +ℤ d) → (s +ℤ pos 1) ≤ℤ m → ⊥
 margin_z s m n d k h0 h1 h2 h3 =
     refute (s ∷ m ∷ n ∷ d ∷ k ∷ []) ((lit (pos 1) ≼ at 3) ∷ (at 2 ⊗ at 4 ≼ at 0 ⊗ at 3) ∷ (at 1 ⊗ at 3 ⊕ lit (pos 1) ≼ at 2 ⊗ at 4 ⊕ at 3) ∷ (at 0 ⊕ lit (pos 1) ≼ at 1) ∷ [])
@@ -104,14 +115,17 @@ margin_small f m h l = margin_least f m (pos (2 ^ 126)) h (small_z (unsigned_abs
     small_z : (n d : ℕ) → n < 2 ^ 90 → (pos n *ℤ pos (2 ^ 36)) ≤ℤ (pos (2 ^ 126) *ℤ pos (suc d))
     small_z n d l = omega (arith, ints)
 
+-- what a lower end leaves covers the size of the fraction
 lower_z : (p a n d k : ℤ) → pos 1 ≤ℤ k → (p *ℤ (k *ℤ d)) ≤ℤ ((a *ℤ d +ℤ neg_ℤ n *ℤ k) *ℤ k) → (n *ℤ k) ≤ℤ ((a -ℤ p) *ℤ d)
 lower_z p a n d k o h =
     le_over (p ∷ a ∷ n ∷ d ∷ k ∷ []) ((at 0 ⊗ (at 4 ⊗ at 3) ≼ (at 1 ⊗ at 3 ⊕ minus (at 2) ⊗ at 4) ⊗ at 4) ∷ []) (at 4) (at 2 ⊗ at 4) ((at 1 ⊖ at 0) ⊗ at 3) (known 0) refl o (h, tt)
 
+-- what an upper end leaves covers the size of the fraction
 upper_z : (q b n d k : ℤ) → pos 1 ≤ℤ k → ((b *ℤ d +ℤ n *ℤ k) *ℤ k) ≤ℤ (q *ℤ (k *ℤ d)) → (n *ℤ k) ≤ℤ ((q -ℤ b) *ℤ d)
 upper_z q b n d k o h =
     le_over (q ∷ b ∷ n ∷ d ∷ k ∷ []) (((at 1 ⊗ at 3 ⊕ at 2 ⊗ at 4) ⊗ at 4 ≼ at 0 ⊗ (at 4 ⊗ at 3)) ∷ []) (at 4) (at 2 ⊗ at 4) ((at 0 ⊖ at 1) ⊗ at 3) (known 0) refl o (h, tt)
 
+-- the ends of a widening are the best
 pub widen_best : (f : Fraction) (a b m lo hi : ℤ) (i : Interval) → lo ≤ℤ hi → IsMargin f m → lo ≡ a -ℤ m → hi ≡ b +ℤ m → Keeps64 lo hi i → IsBest (widen f (between (at_36 a) (at_36 b))) i
 unfolding widen plus opposite size
 widen_best f a b m lo hi i o h el eh k =
@@ -125,28 +139,35 @@ widen_best f a b m lo hi i o h el eh k =
           kept_best lo hi p q i o k fp fq (omega (arith, ints, l)) (omega (arith, ints, g));
     }
 
+-- any widening of everything is the best
 pub widen_first : (f : Fraction) (i : Interval) → IsBest (widen f everything) i
 unfolding widen
 widen_first f i = everything_best i
 
 -- ---- whole numbers and sums
+-- the ends of a whole number are the best
 pub int_best : (n e : ℤ) (i : Interval) → e ≡ n *ℤ pos (2 ^ 36) → Keeps64 e e i → IsBest (between (whole n) (whole n)) i
+-- the ends of a whole number are the best
 int_best n e i r k = record { best = λ p q f g h. kept_best e e p q i (omega (arith, ints)) k f g (omega (arith, ints, h.ends.0.cross)) (omega (arith, ints, h.ends.1.cross)) }
 
+-- the ends of a sum are the best
 pub sum_best : (a b c d lo hi : ℤ) (i : Interval) → a ≤ℤ b → c ≤ℤ d → lo ≡ a +ℤ c → hi ≡ b +ℤ d → Keeps64 lo hi i → IsBest (sum (between (at_36 a) (at_36 b)) (between (at_36 c) (at_36 d))) i
 unfolding sum plus
 sum_best a b c d lo hi i o o' e e' k =
     record { best = λ p q f g h. kept_best lo hi p q i (omega (arith, ints)) k f g (omega (arith, ints, h.ends.0.cross)) (omega (arith, ints, h.ends.1.cross)) }
 
+-- where the first is everything, any sum is the best
 pub sum_everything_first : (j i : Interval) → IsBest (sum everything j) i
 unfolding sum
 sum_everything_first j i = everything_best i
 
+-- where the second is everything, any sum is the best
 pub sum_everything_second : (a b : Fraction) (i : Interval) → IsBest (sum (between a b) everything) i
 unfolding sum
 sum_everything_second a b i = everything_best i
 
 -- ---- fractions
+-- no number above a quotient rounded down times the divisor is at most the number
 floor_z : (p lo m d : ℤ) → pos 1 ≤ℤ d → (p *ℤ d) ≤ℤ m → (m +ℤ pos 1) ≤ℤ (lo *ℤ d +ℤ d) → (lo +ℤ pos 1) ≤ℤ p → ⊥
 floor_z p lo m d h0 h1 h2 h3 =
     refute (p ∷ lo ∷ m ∷ d ∷ []) ((lit (pos 1) ≼ at 3) ∷ (at 0 ⊗ at 3 ≼ at 2) ∷ (at 2 ⊕ lit (pos 1) ≼ at 1 ⊗ at 3 ⊕ at 3) ∷ (at 1 ⊕ lit (pos 1) ≼ at 0) ∷ [])
@@ -156,6 +177,7 @@ floor_z p lo m d h0 h1 h2 h3 =
 floor_best : (p lo m d : ℤ) → pos 0 <ℤ d → IsFloor lo m d → (p *ℤ d) ≤ℤ m → p ≤ℤ lo
 floor_best p lo m d o f h = by_lt_z lo p (λ l. absurd (floor_z p lo m d (next_le _ _ o) h (next_le _ _ f.close) (next_le _ _ l))) (λ l. l)
 
+-- no number below a quotient rounded up times the divisor is at least the number
 ceil_z : (q hi g d : ℤ) → pos 1 ≤ℤ d → g ≤ℤ (q *ℤ d) → (hi *ℤ d +ℤ pos 1) ≤ℤ (g +ℤ d) → (q +ℤ pos 1) ≤ℤ hi → ⊥
 ceil_z q hi g d h0 h1 h2 h3 =
     refute (q ∷ hi ∷ g ∷ d ∷ []) ((lit (pos 1) ≼ at 3) ∷ (at 2 ≼ at 0 ⊗ at 3) ∷ (at 1 ⊗ at 3 ⊕ lit (pos 1) ≼ at 2 ⊕ at 3) ∷ (at 0 ⊕ lit (pos 1) ≼ at 1) ∷ [])
@@ -165,6 +187,7 @@ ceil_z q hi g d h0 h1 h2 h3 =
 ceil_best : (q hi g d : ℤ) → pos 0 <ℤ d → IsCeiling hi g d → g ≤ℤ (q *ℤ d) → hi ≤ℤ q
 ceil_best q hi g d o c h = by_lt_z q hi (λ l. absurd (ceil_z q hi g d (next_le _ _ o) h (next_le _ _ c.close) (next_le _ _ l))) (λ l. l)
 
+-- the ends around a fraction are the best
 pub constant_best : (f : Fraction) (m lo hi d : ℤ) (i : Interval) → m ≡ f.num *ℤ pos (2 ^ 36) → d ≡ pos (f.below + 1) → IsFloor lo m d → IsCeiling hi m d → Keeps64 lo hi i → IsBest (between f f) i
 constant_best f m lo hi d i em ed l u k =
     let e : d ≡ pos (suc f.below) = omega (arith, ints) in
@@ -191,24 +214,29 @@ constant_outside f i l n = record {
 }
 
 -- ---- products with fractions
+-- the same inequality without the scale
 below_z : (p x n d k : ℤ) → pos 1 ≤ℤ k → (p *ℤ (k *ℤ d)) ≤ℤ ((x *ℤ n) *ℤ k) → (p *ℤ d) ≤ℤ (x *ℤ n)
 below_z p x n d k o h = le_over (p ∷ x ∷ n ∷ d ∷ k ∷ []) ((at 0 ⊗ (at 4 ⊗ at 3) ≼ (at 1 ⊗ at 2) ⊗ at 4) ∷ []) (at 4) (at 0 ⊗ at 3) (at 1 ⊗ at 2) (known 0) refl o (h, tt)
 
+-- the same inequality without the scale
 above_z : (q x n d k : ℤ) → pos 1 ≤ℤ k → ((x *ℤ n) *ℤ k) ≤ℤ (q *ℤ (k *ℤ d)) → (x *ℤ n) ≤ℤ (q *ℤ d)
 above_z q x n d k o h = le_over (q ∷ x ∷ n ∷ d ∷ k ∷ []) (((at 1 ⊗ at 2) ⊗ at 4 ≼ at 0 ⊗ (at 4 ⊗ at 3)) ∷ []) (at 4) (at 1 ⊗ at 2) (at 0 ⊗ at 3) (known 0) refl o (h, tt)
 
+-- a number at the scale that is at most a product with a fraction
 scaled_below : (p x : ℤ) (f : Fraction) → at_36 p ≤F times (at_36 x) f → (p *ℤ pos (suc f.below)) ≤ℤ (x *ℤ f.num)
 unfolding times
 scaled_below p x f h =
     let c = h.cross in
     below_z p x f.num (pos (suc f.below)) (pos (2 ^ 36)) (omega (arith, ints)) (rw (den_product (2 ^ 36 - 1) f.below) at c)
 
+-- a number at the scale that is at least a product with a fraction
 scaled_above : (q x : ℤ) (f : Fraction) → times (at_36 x) f ≤F at_36 q → (x *ℤ f.num) ≤ℤ (q *ℤ pos (suc f.below))
 unfolding times
 scaled_above q x f h =
     let c = h.cross in
     above_z q x f.num (pos (suc f.below)) (pos (2 ^ 36)) (omega (arith, ints)) (rw (den_product (2 ^ 36 - 1) f.below) at c)
 
+-- the ends of a product with a fraction are the best
 pub scale_best : (f : Fraction) (x y n p q m g d lo hi : ℤ) (i : Interval) → AreScaled f x y n p q m g d lo hi → Keeps64 lo hi i → IsBest (product (between (at_36 x) (at_36 y)) (between f f)) i
 unfolding product
 scale_best f x y n p q m g d lo hi i s k =

@@ -10,68 +10,97 @@ use Rattle.book_model.proofs.Values.{value_proper}
 use Rattle.book_model.specs.Relations.{Within, Narrow, Lies, Keeps}
 
 -- ---- what an enclosure holds
+-- an enclosure of a whole number
 pub within_integer : {E : Type 0} (shown : E → Interval) (w : World) (n : ℤ) (k : E) → 40 ≤ w.depth → between (whole n) (whole n) ⊆ shown k → Within shown w (integer n) k
 unfolding Lies value
+-- an enclosure of a whole number
 within_integer shown w n k d h = record { deep = d; inside = h }
 
+-- an enclosure of a fraction
 pub within_constant : {E : Type 0} (shown : E → Interval) (w : World) (a : Fraction) (k : E) → 40 ≤ w.depth → between a a ⊆ shown k → Within shown w (constant a) k
 unfolding Lies value
+-- an enclosure of a fraction
 within_constant shown w a k d h = record { deep = d; inside = h }
 
+-- an enclosure of the sums
 pub within_add : {E : Type 0} (shown : E → Interval) (w : World) (x y : Expression) (i j k : E) → sum (shown i) (shown j) ⊆ shown k → Within shown w x i → Within shown w y j → Within shown w (add x y) k
 unfolding Lies value
+-- an enclosure of the sums
 within_add shown w x y i j k h p q = let a : value w x ⊆ shown i = p.inside in let b : value w y ⊆ shown j = q.inside in record { deep = p.deep; inside = within_trans (sum_within a b) h }
 
+-- an enclosure of the products with a fraction
 pub within_scale : {E : Type 0} (shown : E → Interval) (w : World) (f : Fraction) (x : Expression) (i k : E) → product (shown i) (between f f) ⊆ shown k → Within shown w x i → Within shown w (scale f x) k
 unfolding Lies value
 within_scale shown w f x i k h p =
     let a : value w x ⊆ shown i = p.inside in record { deep = p.deep; inside = within_trans (product_within (value_proper w x) (le_refl f) a (within_refl (between f f))) h }
 
+-- an enclosure of the differences
 pub within_subtract : {E : Type 0} (shown : E → Interval) (w : World) (x y : Expression) (i j k : E) → difference (shown i) (shown j) ⊆ shown k → Within shown w x i → Within shown w y j → Within shown w (subtract x y) k
 unfolding Lies value
+-- an enclosure of the differences
 within_subtract shown w x y i j k h p q = let a : value w x ⊆ shown i = p.inside in let b : value w y ⊆ shown j = q.inside in record { deep = p.deep; inside = within_trans (difference_within a b) h }
 
+-- an enclosure of the products
 pub within_multiply : {E : Type 0} (shown : E → Interval) (w : World) (x y : Expression) (i j k : E) → product (shown i) (shown j) ⊆ shown k → Within shown w x i → Within shown w y j → Within shown w (multiply x y) k
 unfolding Lies value
+-- an enclosure of the products
 within_multiply shown w x y i j k h p q = let a : value w x ⊆ shown i = p.inside in let b : value w y ⊆ shown j = q.inside in record { deep = p.deep; inside = within_trans (product_within (value_proper w x) (value_proper w y) a b) h }
 
+-- an enclosure of the lesser members
 pub within_minimum : {E : Type 0} (shown : E → Interval) (w : World) (x y : Expression) (i j k : E) → interval_minimum (shown i) (shown j) ⊆ shown k → Within shown w x i → Within shown w y j → Within shown w (minimum x y) k
 unfolding Lies value
+-- an enclosure of the lesser members
 within_minimum shown w x y i j k h p q = let a : value w x ⊆ shown i = p.inside in let b : value w y ⊆ shown j = q.inside in record { deep = p.deep; inside = within_trans (minimum_within a b) h }
 
+-- an enclosure of the greater members
 pub within_maximum : {E : Type 0} (shown : E → Interval) (w : World) (x y : Expression) (i j k : E) → interval_maximum (shown i) (shown j) ⊆ shown k → Within shown w x i → Within shown w y j → Within shown w (maximum x y) k
 unfolding Lies value
+-- an enclosure of the greater members
 within_maximum shown w x y i j k h p q = let a : value w x ⊆ shown i = p.inside in let b : value w y ⊆ shown j = q.inside in record { deep = p.deep; inside = within_trans (maximum_within a b) h }
 
+-- an enclosure of the hull
 pub within_hull : {E : Type 0} (shown : E → Interval) (w : World) (x y : Expression) (i j k : E) → interval_hull (shown i) (shown j) ⊆ shown k → Within shown w x i → Within shown w y j → Within shown w (hull x y) k
 unfolding Lies value
+-- an enclosure of the hull
 within_hull shown w x y i j k h p q = let a : value w x ⊆ shown i = p.inside in let b : value w y ⊆ shown j = q.inside in record { deep = p.deep; inside = within_trans (hull_within a b) h }
 
+-- an enclosure of the opposites
 pub within_negate : {E : Type 0} (shown : E → Interval) (w : World) (x : Expression) (i k : E) → negative (shown i) ⊆ shown k → Within shown w x i → Within shown w (negate x) k
 unfolding Lies value
+-- an enclosure of the opposites
 within_negate shown w x i k h p = let a : value w x ⊆ shown i = p.inside in record { deep = p.deep; inside = within_trans (negative_within a) h }
 
+-- an enclosure of the widening
 pub within_widen : {E : Type 0} (shown : E → Interval) (w : World) (f : Fraction) (x : Expression) (i k : E) → interval_widen f (shown i) ⊆ shown k → Within shown w x i → Within shown w (widen f x) k
 unfolding Lies value
+-- an enclosure of the widening
 within_widen shown w f x i k h p = let a : value w x ⊆ shown i = p.inside in record { deep = p.deep; inside = within_trans (widen_within f a) h }
 
 -- ---- the bound that an enclosure keeps
+-- the bound of a whole number
 pub narrow_integer : {E : Type 0} (shown : E → Interval) (r : Reach) (n : ℤ) (k : E) → ((w : ℕ) → IsNarrow w (integer_bound limits_36 n) (shown k)) → Narrow shown (limits_of 36) r (integer n) k
 unfolding Keeps bound_of limits_of
+-- the bound of a whole number
 narrow_integer shown r n k h = record { kept = h r.width }
 
+-- the bound of a fraction
 pub narrow_constant : {E : Type 0} (shown : E → Interval) (r : Reach) (a : Fraction) (k : E) → ((w : ℕ) → IsNarrow w (constant_bound limits_36 a) (shown k)) → Narrow shown (limits_of 36) r (constant a) k
 unfolding Keeps bound_of limits_of
+-- the bound of a fraction
 narrow_constant shown r a k h = record { kept = h r.width }
 
+-- the bound of a sum
 pub narrow_add : {E : Type 0} (shown : E → Interval) (r : Reach) (x y : Expression) (i j k : E) → ((w : ℕ) (a b : Bound) → IsNarrow w a (shown i) → IsNarrow w b (shown j) → IsNarrow w (sum_bound limits_36 a b) (shown k))
     → Narrow shown (limits_of 36) r x i → Narrow shown (limits_of 36) r y j → Narrow shown (limits_of 36) r (add x y) k
 unfolding Keeps bound_of limits_of
+-- the bound of a sum
 narrow_add shown r x y i j k h p q = record { kept = h r.width _ _ p.kept q.kept }
 
+-- the bound of a product with a fraction
 pub narrow_scale : {E : Type 0} (shown : E → Interval) (r : Reach) (f : Fraction) (x : Expression) (i k : E) → ((w : ℕ) (a : Bound) → IsNarrow w a (shown i) → IsNarrow w (scaled_bound limits_36 f a) (shown k))
     → Narrow shown (limits_of 36) r x i → Narrow shown (limits_of 36) r (scale f x) k
 unfolding Keeps bound_of limits_of
+-- the bound of a product with a fraction
 narrow_scale shown r f x i k h p = record { kept = h r.width _ p.kept }
 
 -- ---- operations of which no width is promised
@@ -80,30 +109,37 @@ pub narrow_unbounded : {E : Type 0} (shown : E → Interval) (l : Limits) (r : R
 unfolding Keeps IsNarrow
 narrow_unbounded shown l r x k e = record { kept = rw e tt }
 
+-- no bound of a difference
 pub narrow_subtract : {E : Type 0} (shown : E → Interval) (l : Limits) (r : Reach) (x y : Expression) (k : E) → Narrow shown l r (subtract x y) k
 unfolding bound_of
 narrow_subtract shown l r x y k = narrow_unbounded shown l r (subtract x y) k refl
 
+-- no bound of a product
 pub narrow_multiply : {E : Type 0} (shown : E → Interval) (l : Limits) (r : Reach) (x y : Expression) (k : E) → Narrow shown l r (multiply x y) k
 unfolding bound_of
 narrow_multiply shown l r x y k = narrow_unbounded shown l r (multiply x y) k refl
 
+-- no bound of a minimum
 pub narrow_minimum : {E : Type 0} (shown : E → Interval) (l : Limits) (r : Reach) (x y : Expression) (k : E) → Narrow shown l r (minimum x y) k
 unfolding bound_of
 narrow_minimum shown l r x y k = narrow_unbounded shown l r (minimum x y) k refl
 
+-- no bound of a maximum
 pub narrow_maximum : {E : Type 0} (shown : E → Interval) (l : Limits) (r : Reach) (x y : Expression) (k : E) → Narrow shown l r (maximum x y) k
 unfolding bound_of
 narrow_maximum shown l r x y k = narrow_unbounded shown l r (maximum x y) k refl
 
+-- no bound of a hull
 pub narrow_hull : {E : Type 0} (shown : E → Interval) (l : Limits) (r : Reach) (x y : Expression) (k : E) → Narrow shown l r (hull x y) k
 unfolding bound_of
 narrow_hull shown l r x y k = narrow_unbounded shown l r (hull x y) k refl
 
+-- no bound of an opposite
 pub narrow_negate : {E : Type 0} (shown : E → Interval) (l : Limits) (r : Reach) (x : Expression) (k : E) → Narrow shown l r (negate x) k
 unfolding bound_of
 narrow_negate shown l r x k = narrow_unbounded shown l r (negate x) k refl
 
+-- no bound of a widening
 pub narrow_widen : {E : Type 0} (shown : E → Interval) (l : Limits) (r : Reach) (f : Fraction) (x : Expression) (k : E) → Narrow shown l r (widen f x) k
 unfolding bound_of
 narrow_widen shown l r f x k = narrow_unbounded shown l r (widen f x) k refl

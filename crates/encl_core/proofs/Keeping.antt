@@ -15,8 +15,10 @@ pub record AreKept (a b : ℤ) (s k w : ℕ) (lo hi : ℤ) : Type 0 where
   pub below : hi ≤ℤ (b *ℤ pos (2 ^ 4))
   pub close : ((hi -ℤ lo) *ℤ pos (2 ^ 68)) ≤ℤ pos (s * w + k * 2 ^ 40)
 
+-- a kept bound, in whole numbers
 pub kept_of : (a b : ℤ) (s k w : ℕ) (lo hi : ℤ) → Spans a b s k w (at_36 lo) (at_36 hi) → AreKept a b s k w lo hi
 unfolding plus
+-- a kept bound, in whole numbers
 kept_of a b s k w lo hi h = record {
   ordered = omega (arith, ints, h.ordered.cross);
   above = omega (arith, ints, h.above.cross);
@@ -24,8 +26,10 @@ kept_of a b s k w lo hi h = record {
   close = omega (arith, ints, h.close.cross);
 }
 
+-- a kept bound, from whole numbers
 pub spans_of : (a b : ℤ) (s k w : ℕ) (lo hi : ℤ) → AreKept a b s k w lo hi → Spans a b s k w (at_36 lo) (at_36 hi)
 unfolding plus
+-- a kept bound, from whole numbers
 spans_of a b s k w lo hi h = record {
   ordered = record { cross = omega (arith, ints, h.ordered) };
   above = record { cross = omega (arith, ints, h.above) };
@@ -60,9 +64,12 @@ both true q e = (refl, e)
 both false q e = (e, cc)
 
 -- ---- whole numbers
+-- the ends of a whole number hold it
 pub int_encloses : (n at : ℤ) (i : Interval) → at ≡ n *ℤ pos (2 ^ 36) → Keeps64 at at i → between (whole n) (whole n) ⊆ i
+-- the ends of a whole number hold it
 int_encloses n at i e h = within_trans (record { ends = (record { cross = omega (arith, ints) }, record { cross = omega (arith, ints) }) }) (kept_within at at i h)
 
+-- the ends of a whole number keep its bound
 pub int_narrow : (w : ℕ) (n at : ℤ) (i : Interval) → at ≡ n *ℤ pos (2 ^ 36) → Keeps64 at at i → IsNarrow w (integer_bound limits_36 n) i
 unfolding integer_bound
 int_narrow w n at i e h =
@@ -70,13 +77,18 @@ int_narrow w n at i e h =
     (record { ordered = omega (arith, ints); above = omega (arith, ints); below = omega (arith, ints); close = omega (arith, ints) }) h
 
 -- ---- sums
+-- the ends of a sum hold it
 pub sum_encloses : (a b c d lo hi : ℤ) (i : Interval) → lo ≡ a +ℤ c → hi ≡ b +ℤ d → Keeps64 lo hi i → sum (between (at_36 a) (at_36 b)) (between (at_36 c) (at_36 d)) ⊆ i
 unfolding sum plus
+-- the ends of a sum hold it
 sum_encloses a b c d lo hi i e f h = within_trans (record { ends = (record { cross = omega (arith, ints) }, record { cross = omega (arith, ints) }) }) (kept_within lo hi i h)
 
+-- sums of ends keep the sum of their bounds
 sum_kept : (a b c d : ℤ) (s k t m w : ℕ) (x y x' y' lo hi : ℤ) → lo ≡ x +ℤ x' → hi ≡ y +ℤ y' → AreKept a b s k w x y → AreKept c d t m w x' y' → AreKept (a +ℤ c) (b +ℤ d) (s + t) (k + m) w lo hi
+-- sums of ends keep the sum of their bounds
 sum_kept a b c d s k t m w x y x' y' lo hi e f h j = record { ordered = omega (arith, ints); above = omega (arith, ints); below = omega (arith, ints); close = omega (arith, ints) }
 
+-- the ends of a sum keep its bound
 pub sum_narrow : (w : ℕ) (p q : Bound) (x y x' y' lo hi : ℤ) (i : Interval) → lo ≡ x +ℤ x' → hi ≡ y +ℤ y' → Keeps64 lo hi i → IsNarrow w p (between (at_36 x) (at_36 y)) → IsNarrow w q (between (at_36 x') (at_36 y'))
     → IsNarrow w (sum_bound limits_36 p q) i
 unfolding sum_bound IsNarrow
@@ -91,6 +103,7 @@ unfolding sum_bound IsNarrow
 sum_first w unbounded y i h = tt
 sum_first w (bounded a b s k) y i h = absurd h
 
+-- the same where the second is everything
 pub sum_second : (w : ℕ) (x y : Bound) (i : Interval) → IsNarrow w y everything → IsNarrow w (sum_bound limits_36 x y) i
 unfolding sum_bound IsNarrow
 sum_second w unbounded y i h = tt

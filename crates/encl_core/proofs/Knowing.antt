@@ -15,6 +15,7 @@ pub within_any : {E : Type 0} (shown : E → Interval) (w : World) (x : Expressi
 unfolding Lies
 within_any shown w x e s d = record { deep = d; inside = rw s (within_everything _) }
 
+-- the same, from another expression that is held
 pub within_one : {E : Type 0} (shown : E → Interval) (w : World) (x z : Expression) (e r : E) → shown r ≡ everything → Within shown w x e → Within shown w z r
 within_one shown w x z e r s h = within_any shown w z r s h.deep
 
@@ -23,35 +24,46 @@ integer_none : (w : ℕ) (n : ℤ) → IsNarrow w (integer_bound no_limits n) ev
 unfolding integer_bound IsNarrow
 integer_none w n = rw leb-suc-zero tt
 
+-- no width of a fraction
 constant_none : (w : ℕ) (f : Fraction) → IsNarrow w (constant_bound no_limits f) everything
 unfolding constant_bound IsNarrow
 constant_none w f = rw leb-suc-zero tt
 
+-- no width of a sum
 sum_none : (w : ℕ) (a b : Bound) → IsNarrow w (sum_bound no_limits a b) everything
 unfolding sum_bound IsNarrow
 sum_none w unbounded b = tt
 sum_none w (bounded a c s k) unbounded = tt
 sum_none w (bounded a c s k) (bounded d e t m) = rw leb-suc-zero tt
 
+-- no width of a product with a fraction
 scaled_none : (w : ℕ) (f : Fraction) (a : Bound) → IsNarrow w (scaled_bound no_limits f a) everything
 unfolding scaled_bound IsNarrow
 scaled_none w f unbounded = tt
 scaled_none w f (bounded a c s k) = rw leb-suc-zero tt
 
+-- the bound of a whole number is kept
 pub narrow_integer : {E : Type 0} (shown : E → Interval) (r : Reach) (n : ℤ) (e : E) → shown e ≡ everything → Narrow shown (limits_of 8) r (integer n) e
 unfolding Keeps bound_of limits_of
+-- the bound of a whole number is kept
 narrow_integer shown r n e s = record { kept = rw s (integer_none r.width n) }
 
+-- the bound of a fraction is kept
 pub narrow_constant : {E : Type 0} (shown : E → Interval) (r : Reach) (f : Fraction) (e : E) → shown e ≡ everything → Narrow shown (limits_of 8) r (constant f) e
 unfolding Keeps bound_of limits_of
+-- the bound of a fraction is kept
 narrow_constant shown r f e s = record { kept = rw s (constant_none r.width f) }
 
+-- the bound of a sum is kept
 pub narrow_add : {E : Type 0} (shown : E → Interval) (r : Reach) (x y : Expression) (e : E) → shown e ≡ everything → Narrow shown (limits_of 8) r (add x y) e
 unfolding Keeps bound_of limits_of
+-- the bound of a sum is kept
 narrow_add shown r x y e s = record { kept = rw s (sum_none r.width _ _) }
 
+-- the bound of a product with a fraction is kept
 pub narrow_scale : {E : Type 0} (shown : E → Interval) (r : Reach) (f : Fraction) (x : Expression) (e : E) → shown e ≡ everything → Narrow shown (limits_of 8) r (scale f x) e
 unfolding Keeps bound_of limits_of
+-- the bound of a product with a fraction is kept
 narrow_scale shown r f x e s = record { kept = rw s (scaled_none r.width f _) }
 
 -- tests on everything are open, without bounds
@@ -59,6 +71,7 @@ pub cell_open : (g : Grid) (i : Interval) (lo hi : ℤ) → i ≡ everything →
 unfolding cell_at
 cell_open g i lo hi s e f = rw s (between_cells refl (no_bounds (record { least = e; greatest = f })))
 
+-- the same of a comparison
 pub compare_open : (i j : Interval) (lo hi : ℤ) → i ≡ everything → j ≡ everything → lo ≡ negsuc (2 ^ 127 - 1) → hi ≡ pos (2 ^ 127 - 1) → IsOpenComparison i j lo hi
 unfolding compare_at hull
 compare_open i j lo hi s t e f = rw (s, t) (record { open_there = refl; ends = no_bounds (record { least = e; greatest = f }) })

@@ -12,9 +12,11 @@ use Rattle.encl_core.specs.Rounding.{IsFloor, IsCeiling, AreSorted}
 pub next_le : (a b : ℤ) → a <ℤ b → (a +ℤ pos 1) ≤ℤ b
 next_le a b h = omega (arith, ints)
 
+-- a number that is at most one less is below
 pub lt_next : (a b : ℤ) → (a +ℤ pos 1) ≤ℤ b → a <ℤ b
 lt_next a b h = omega (arith, ints)
 
+-- the order of whole numbers is transitive
 pub ≤ℤ_trans : (a b c : ℤ) → a ≤ℤ b → b ≤ℤ c → a ≤ℤ c
 ≤ℤ_trans a b c h k = omega (arith, ints)
 
@@ -38,6 +40,7 @@ ceil_of_positive q r n d e f =
       close = lt_next _ _ (le_by (q ∷ n ∷ d ∷ []) ((vq ⊗ vd ≼ vn ⊖ one) ∷ []) ((vq ⊕ one) ⊗ vd ⊕ one) (vn ⊕ vd) (known 0) refl (f.not_above, tt));
     })
 
+-- a quotient above the number refutes itself
 room_z : (q m d : ℤ) → (q *ℤ d) ≤ℤ m → pos 0 ≤ℤ m → pos 1 ≤ℤ d → (m +ℤ pos 1) ≤ℤ q → ⊥
 room_z q m d h k o n =
     let vq = at 0 in
@@ -51,6 +54,7 @@ room_z q m d h k o n =
 pub room : (q m d : ℤ) → IsFloor q m d → pos 0 ≤ℤ m → pos 0 <ℤ d → q ≤ℤ m
 room q m d f k o = by_lt_z m q (λ n. absurd (room_z q m d f.not_above k (next_le _ _ o) (next_le _ _ n))) (λ h. h)
 
+-- numbers are in order where their multiples are
 order_z : (m g d lo hi : ℤ) → m ≤ℤ g → (lo *ℤ d) ≤ℤ m → g ≤ℤ (hi *ℤ d) → pos 1 ≤ℤ d → lo ≤ℤ hi
 order_z m g d lo hi h0 h1 h2 h3 =
     le_over (m ∷ g ∷ d ∷ lo ∷ hi ∷ []) ((at 0 ≼ at 1) ∷ (at 3 ⊗ at 2 ≼ at 0) ∷ (at 1 ≼ at 4 ⊗ at 2) ∷ []) (at 2) (at 3) (at 4) (known 0 ⊞ known 1 ⊞ known 2) refl h3 (h0, (h1, (h2, tt)))

@@ -22,9 +22,11 @@ use Rattle.encl_core.proofs.Keeping.{AreKept, kept_of, kept_within, limited_narr
 constant_above : (f : Fraction) (m q : ℤ) → m ≡ f.num *ℤ pos (2 ^ 36) → (q *ℤ pos (suc f.below)) ≤ℤ m → at_36 q ≤F f
 constant_above f m q e h = by_cross (at_36 q) f (pos (2 ^ 36)) (pos (suc f.below)) refl refl (rw e at h)
 
+-- the same from above
 constant_below : (f : Fraction) (m q : ℤ) → m ≡ f.num *ℤ pos (2 ^ 36) → m ≤ℤ (q *ℤ pos (suc f.below)) → f ≤F at_36 q
 constant_below f m q e h = by_cross f (at_36 q) (pos (suc f.below)) (pos (2 ^ 36)) refl refl (rw e at h)
 
+-- ends rounded outwards hold a fraction
 pub constant_encloses : (f : Fraction) (m lo hi d : ℤ) (i : Interval) → m ≡ f.num *ℤ pos (2 ^ 36) → d ≡ pos (f.below + 1) → IsFloor lo m d → IsCeiling hi m d → Keeps64 lo hi i → between f f ⊆ i
 constant_encloses f m lo hi d i em ed l u k =
     let e : d ≡ pos (suc f.below) = omega (arith, ints) in
@@ -44,9 +46,11 @@ finer_z n d q r h0 h1 h2 k =
     refute (n ∷ d ∷ q ∷ r ∷ []) ((vq ⊗ vd ≼ vn ⊗ t 32) ∷ (vn ⊗ t 36 ⊕ one ≼ vr ⊗ vd ⊕ vd) ∷ (lit (pos 0) ≼ vd) ∷ (vr ⊕ one ≼ vq ⊗ t 4) ∷ [])
     (naturally (2 ^ 4) ⊠ known 0 ⊞ known 1 ⊞ known 3 ⊠ known 2) refl (h0, (h1, (h2, (k, tt))))
 
+-- a quotient at a finer scale is not below
 finer : (n d q r : ℤ) → (q *ℤ d) ≤ℤ (n *ℤ pos (2 ^ 32)) → ((n *ℤ pos (2 ^ 36)) +ℤ pos 1) ≤ℤ (r *ℤ d +ℤ d) → pos 0 ≤ℤ d → (q *ℤ pos (2 ^ 4)) ≤ℤ r
 finer n d q r h0 h1 h2 = by_lt_z r (q *ℤ pos (2 ^ 4)) (λ k. absurd (finer_z n d q r h0 h1 h2 (next_le _ _ k))) (λ h. h)
 
+-- the quotients rounded down and up are not 2 apart
 close_by_one : (n d lo hi : ℤ) → (hi *ℤ d +ℤ pos 1) ≤ℤ (n +ℤ d) → (n +ℤ pos 1) ≤ℤ (lo *ℤ d +ℤ d) → pos 0 ≤ℤ d → (lo +ℤ pos 2) ≤ℤ hi → ⊥
 close_by_one n d lo hi h0 h1 h2 k =
     refute (n ∷ d ∷ lo ∷ hi ∷ []) ((at 3 ⊗ at 1 ⊕ lit (pos 1) ≼ at 0 ⊕ at 1) ∷ (at 0 ⊕ lit (pos 1) ≼ at 2 ⊗ at 1 ⊕ at 1) ∷ (lit (pos 0) ≼ at 1) ∷ (at 2 ⊕ lit (pos 2) ≼ at 3) ∷ [])
@@ -56,6 +60,7 @@ close_by_one n d lo hi h0 h1 h2 k =
 flip_ceiling : (hi d g : ℤ) → (hi *ℤ d +ℤ pos 1) ≤ℤ (g +ℤ d) → ((pos 0 -ℤ g) +ℤ pos 1) ≤ℤ ((pos 0 -ℤ hi) *ℤ d +ℤ d)
 flip_ceiling hi d g h = le_by (hi ∷ d ∷ g ∷ []) ((at 0 ⊗ at 1 ⊕ lit (pos 1) ≼ at 2 ⊕ at 1) ∷ []) ((lit (pos 0) ⊖ at 2) ⊕ lit (pos 1)) ((lit (pos 0) ⊖ at 0) ⊗ at 1 ⊕ at 1) (known 0) refl (h, tt)
 
+-- ends rounded outwards keep the bound of a fraction
 constant_kept : (f : Fraction) (w : ℕ) (m lo hi : ℤ) → m ≡ f.num *ℤ pos (2 ^ 36) → IsFloor lo m (pos (suc f.below)) → IsCeiling hi m (pos (suc f.below))
     → AreKept (floor_at_32 f) (ceil_at_32 f) 0 (2 ^ 28) w lo hi
 constant_kept f w m lo hi e l c =
@@ -75,6 +80,7 @@ constant_kept f w m lo hi e l c =
       close = omega (arith, ints, near);
     }
 
+-- what 64 bits show of a fraction keeps its bound
 pub constant_narrow : (f : Fraction) (w : ℕ) (m lo hi d : ℤ) (i : Interval) → m ≡ f.num *ℤ pos (2 ^ 36) → d ≡ pos (f.below + 1) → IsFloor lo m d → IsCeiling hi m d → Keeps64 lo hi i → IsNarrow w (constant_bound limits_36 f) i
 unfolding constant_bound
 constant_narrow f w m lo hi d i e ed l u k =
@@ -85,6 +91,7 @@ constant_narrow f w m lo hi d i e ed l u k =
 constant_small : (n : ℤ) → unsigned_abs n < 2 ^ 90 → SFits w128 (n *ℤ pos (2 ^ 36))
 constant_small n h = omega (arith, ints)
 
+-- where a numerator is too great, no bound is promised
 pub constant_overflow : (f : Fraction) (w : ℕ) → (SFits w128 (f.num *ℤ pos (2 ^ 36)) → ⊥) → IsNarrow w (constant_bound limits_36 f) everything
 unfolding constant_bound IsNarrow
 constant_overflow f w n = by_test _ refl
@@ -108,16 +115,20 @@ bounded_z x y a b h0 h1 h2 h3 =
           (known 0 ⊠ known 2 ⊞ known 1 ⊠ known 3) refl (le_z_yes tt) (h0, (h1, (h2, (h3, tt)))),
     )
 
+-- the same inequality with the scale
 frac_z : (q a n d k : ℤ) → pos 0 ≤ℤ k → (q *ℤ d) ≤ℤ (a *ℤ n) → (q *ℤ (k *ℤ d)) ≤ℤ ((a *ℤ n) *ℤ k)
 frac_z q a n d k p h = le_by (q ∷ a ∷ n ∷ d ∷ k ∷ []) ((lit (pos 0) ≼ at 4) ∷ (at 0 ⊗ at 3 ≼ at 1 ⊗ at 2) ∷ []) (at 0 ⊗ (at 4 ⊗ at 3)) ((at 1 ⊗ at 2) ⊗ at 4) (known 1 ⊠ known 0) refl (p, (h, tt))
 
+-- the same inequality with the scale
 frac_under_z : (q a n d k : ℤ) → pos 0 ≤ℤ k → (a *ℤ n) ≤ℤ (q *ℤ d) → ((a *ℤ n) *ℤ k) ≤ℤ (q *ℤ (k *ℤ d))
 frac_under_z q a n d k p h = le_by (q ∷ a ∷ n ∷ d ∷ k ∷ []) ((lit (pos 0) ≼ at 4) ∷ (at 1 ⊗ at 2 ≼ at 0 ⊗ at 3) ∷ []) ((at 1 ⊗ at 2) ⊗ at 4) (at 0 ⊗ (at 4 ⊗ at 3)) (known 1 ⊠ known 0) refl (p, (h, tt))
 
+-- a number at the scale that is at most a product
 times_above : (q a : ℤ) (f : Fraction) → (q *ℤ pos (suc f.below)) ≤ℤ (a *ℤ f.num) → at_36 q ≤F times (at_36 a) f
 unfolding times
 times_above q a f h = by_cross (at_36 q) _ (pos (2 ^ 36)) (pos (2 ^ 36) *ℤ pos (suc f.below)) refl (den_product (2 ^ 36 - 1) f.below) (frac_z q a f.num (pos (suc f.below)) (pos (2 ^ 36)) (pos_nonneg (2 ^ 36)) h)
 
+-- a number at the scale that is at least a product
 times_below : (q a : ℤ) (f : Fraction) → (a *ℤ f.num) ≤ℤ (q *ℤ pos (suc f.below)) → times (at_36 a) f ≤F at_36 q
 unfolding times
 times_below q a f h = by_cross _ (at_36 q) (pos (2 ^ 36) *ℤ pos (suc f.below)) (pos (2 ^ 36)) (den_product (2 ^ 36 - 1) f.below) refl (frac_under_z q a f.num (pos (suc f.below)) (pos (2 ^ 36)) (pos_nonneg (2 ^ 36)) h)
@@ -139,6 +150,7 @@ pub record AreProducts (f : Fraction) (x y m g lo hi : ℤ) : Type 0 where
   pub down : IsFloor lo m (pos (suc f.below))
   pub up : IsCeiling hi g (pos (suc f.below))
 
+-- from the names to the numbers
 pub products_of : (f : Fraction) (x y n p q m g d lo hi : ℤ) → AreScaled f x y n p q m g d lo hi → AreProducts f x y m g lo hi
 products_of f x y n p q m g d lo hi s =
     let en = s.numerator in
@@ -150,6 +162,7 @@ products_of f x y n p q m g d lo hi s =
     let ed : d ≡ pos (suc f.below) = omega (arith, ints, s.denominator) in
     record { order = rw (ep, eq, en) at o; down = rw ed at l; up = rw ed at u }
 
+-- ends rounded outwards hold the products with a fraction
 pub scale_encloses : (f : Fraction) (x y n p q m g d lo hi : ℤ) (i : Interval) → AreScaled f x y n p q m g d lo hi → Keeps64 lo hi i → product (between (at_36 x) (at_36 y)) (between f f) ⊆ i
 unfolding product
 scale_encloses f x y n p q m g d lo hi i s k =
@@ -197,6 +210,7 @@ above_z P Z d m lo h0 h1 h2 h3 n =
     refute (P ∷ Z ∷ d ∷ m ∷ lo ∷ []) ((vP ≼ vZ ⊗ vd) ∷ (z ⊖ vP ≼ vm) ∷ (vm ⊕ one ≼ vlo ⊗ vd ⊕ vd) ∷ (z ≼ vd) ∷ (vlo ⊕ one ≼ z ⊖ vZ) ∷ [])
     (known 0 ⊞ known 1 ⊞ known 2 ⊞ known 4 ⊠ known 3) refl (h0, (h1, (h2, (h3, (n, tt)))))
 
+-- a rounded quotient is not far below
 above : (P Z d m lo : ℤ) → P ≤ℤ (Z *ℤ d) → (pos 0 -ℤ P) ≤ℤ m → (m +ℤ pos 1) ≤ℤ (lo *ℤ d +ℤ d) → pos 0 ≤ℤ d → (pos 0 -ℤ Z) ≤ℤ lo
 above P Z d m lo h0 h1 h2 h3 = by_lt_z lo (pos 0 -ℤ Z) (λ n. absurd (above_z P Z d m lo h0 h1 h2 h3 (next_le _ _ n))) (λ h. h)
 
@@ -207,15 +221,18 @@ turn_z x y n N h0 h1 h2 = (
   le_by (x ∷ y ∷ n ∷ N ∷ []) ((at 0 ≼ at 1) ∷ (at 2 ≼ at 3) ∷ (lit (pos 0) ⊖ at 3 ≼ at 2) ∷ []) (at 1 ⊗ at 2) (at 0 ⊗ at 2 ⊕ at 3 ⊗ (at 1 ⊖ at 0)) (known 0 ⊠ known 1) refl (h0, (h1, (h2, tt))),
 )
 
+-- the lesser and the greater of two are no further apart than the two
 near : (m g p q r : ℤ) → AreSorted m g p q → pos 0 ≤ℤ r → p ≤ℤ (q +ℤ r) → q ≤ℤ (p +ℤ r) → g ≤ℤ (m +ℤ r)
 near m g p q r s z h k =
     let a : (p -ℤ r) ≤ℤ m = s.best_low _ (omega (arith, ints)) (omega (arith, ints)) in
     let b : (q -ℤ r) ≤ℤ m = s.best_low _ (omega (arith, ints)) (omega (arith, ints)) in
     s.best_high _ (omega (arith, ints)) (omega (arith, ints))
 
+-- a number lies between its size and the opposite
 size_is : (n : ℤ) → (n ≤ℤ pos (unsigned_abs n)) × ((pos 0 -ℤ pos (unsigned_abs n)) ≤ℤ n)
 size_is n = (omega (arith, ints), omega (arith, ints))
 
+-- a size times a width isn't negative
 nonneg_mul : (N : ℕ) (x y : ℤ) → x ≤ℤ y → pos 0 ≤ℤ (pos N *ℤ (y -ℤ x))
 nonneg_mul N x y h = le_by (pos N ∷ x ∷ y ∷ []) ((at 1 ≼ at 2) ∷ (lit (pos 0) ≼ at 0) ∷ []) (lit (pos 0)) (at 0 ⊗ (at 2 ⊖ at 1)) (known 1 ⊠ known 0) refl (h, (pos_nonneg N, tt))
 
@@ -223,6 +240,7 @@ nonneg_mul N x y h = le_by (pos N ∷ x ∷ y ∷ []) ((at 1 ≼ at 2) ∷ (lit 
 ceil_above : (n d : ℕ) → n ≤ ceil_div n d * suc d
 ceil_above n d = omega arith
 
+-- ends rounded outwards keep the bound of a product with a fraction
 scaled_kept : (A N s k w Z S M : ℕ) (f : Fraction) (x y m g lo hi : ℤ) → N ≡ unsigned_abs f.num → x ≤ℤ y → (pos 0 -ℤ pos (A * 2 ^ 4)) ≤ℤ x → y ≤ℤ pos (A * 2 ^ 4) → ((y -ℤ x) *ℤ pos (2 ^ 68)) ≤ℤ pos (s * w + k * 2 ^ 40)
     → AreProducts f x y m g lo hi → A * N ≤ Z * suc f.below → s * N ≤ S * suc f.below → k * N ≤ M * suc f.below
     → AreKept (neg_ℤ (pos Z)) (pos Z) S (M + 2 * 2 ^ 28) w lo hi
@@ -254,15 +272,18 @@ scaled_kept A N s k w Z S M f x y m g lo hi e o hx hy hv t hz hs hk =
       );
     }
 
+-- the size of a range around 0
 around_size : (z : ℕ) → z < 2 ^ 58 → range_size (neg_ℤ (pos z)) (pos z) < 2 ^ 58
 around_size z h = omega (arith, ints)
 
+-- what 64 bits show of a product with a fraction keeps its bound
 scaled_limited : (f : Fraction) (a b : ℤ) (s k w : ℕ) (x y m g lo hi : ℤ) (i : Interval) → AreKept a b s k w x y → AreProducts f x y m g lo hi → Keeps64 lo hi i
     → IsNarrow w (scaled_around limits_36 (unsigned_abs f.num) f.below (range_size a b) s k) i
 scaled_limited f a b s k w x y m g lo hi i h t v =
     limited_narrow _ _ _ _ _ _ lo hi i (λ l. around_size _ (ltb-true _ _ (both _ _ l).1))
     (scaled_kept (range_size a b) (unsigned_abs f.num) s k w _ _ _ f x y m g lo hi refl h.ordered (omega (arith, ints, h.above, h.below, h.ordered)) (omega (arith, ints, h.above, h.below, h.ordered)) h.close t (ceil_above _ f.below) (ceil_above _ f.below) (ceil_above _ f.below)) v
 
+-- the same, for every bound
 pub scaled_narrow : (w : ℕ) (a : Bound) (f : Fraction) (x y n p q m g d lo hi : ℤ) (i : Interval) → AreScaled f x y n p q m g d lo hi → Keeps64 lo hi i → IsNarrow w a (between (at_36 x) (at_36 y)) → IsNarrow w (scaled_bound limits_36 f a) i
 unfolding scaled_bound IsNarrow
 scaled_narrow w unbounded f x y n p q m g d lo hi i s v h = tt
@@ -280,6 +301,7 @@ small A N x h k p q =
     let b = bounded_z (pos (A * 2 ^ 4)) (pos N) (pos (2 ^ 62)) (pos (2 ^ 40)) (omega (arith, ints)) (omega (arith, ints)) (omega (arith, ints)) (omega (arith, ints)) in
     omega (arith, ints, b.0, p, q)
 
+-- where a product is too great, no bound is promised
 pub scaled_overflow : (w : ℕ) (p : Bound) (f : Fraction) (x y n : ℤ) → n ≡ f.num → (SFits w128 (x *ℤ n) → SFits w128 (y *ℤ n) → ⊥) → IsNarrow w p (between (at_36 x) (at_36 y)) → IsNarrow w (scaled_bound limits_36 f p) everything
 unfolding scaled_bound IsNarrow
 scaled_overflow w unbounded f x y n e j h = tt

@@ -15,6 +15,7 @@ use Rattle.encl_core.specs.Rounding.{at_36}
 pub ends_between : (a b lo hi : ℤ) → lo ≡ a *ℤ pos (2 ^ 20) → hi ≡ b *ℤ pos (2 ^ 20) → AreEnds lo hi (between (at_36 a) (at_36 b))
 ends_between a b lo hi e f = bounds (record { cross = omega (arith, ints) }) (record { cross = omega (arith, ints) })
 
+-- an open test of everything has no bounds
 pub ends_everything : AreEnds (negsuc (2 ^ 127 - 1)) (pos (2 ^ 127 - 1)) everything
 ends_everything = no_bounds (record { least = refl; greatest = refl })
 
@@ -22,6 +23,7 @@ ends_everything = no_bounds (record { least = refl; greatest = refl })
 eq_yes : (p q : ℤ) → p ≡ q → int_eq p q ≡ true
 eq_yes p q e = (Decides-int_eq p q).1 e
 
+-- the test of two numbers that differ
 eq_no : (p q : ℤ) → (p ≡ q → ⊥) → int_eq p q ≡ false
 eq_no p q n = by_test _ refl
   where
@@ -58,6 +60,7 @@ at_most_yes p q h = by_test _ refl
     by_test true e = refl
     by_test false e = absurd (omega (arith, ints))
 
+-- the same where it is not so
 at_most_no : (p q : ℤ) → q <ℤ p → is_at_most (at_36 p) (at_36 q) ≡ false
 unfolding is_at_most
 at_most_no p q h = by_test _ refl
@@ -66,22 +69,27 @@ at_most_no p q h = by_test _ refl
     by_test false e = refl
     by_test true e = absurd (omega (arith, ints))
 
+-- the first ends are below the second
 pub order_below : (a b c d : ℤ) → b <ℤ c → Some true ≡ compare_at (between (at_36 a) (at_36 b)) (between (at_36 c) (at_36 d))
 unfolding compare_at
 order_below a b c d h = rw (at_most_no c b h) refl
 
+-- the first ends are not below the second
 pub order_above : (a b c d : ℤ) → c ≤ℤ b → d ≤ℤ a → Some false ≡ compare_at (between (at_36 a) (at_36 b)) (between (at_36 c) (at_36 d))
 unfolding compare_at
 order_above a b c d h k = rw (at_most_yes c b h, at_most_yes d a k) refl
 
+-- the ends leave it open
 pub order_open : (a b c d : ℤ) → c ≤ℤ b → a <ℤ d → None ≡ compare_at (between (at_36 a) (at_36 b)) (between (at_36 c) (at_36 d))
 unfolding compare_at
 order_open a b c d h k = rw (at_most_yes c b h, at_most_no d a k) refl
 
+-- everything is compared with nothing
 pub order_first : (j : Interval) → None ≡ compare_at everything j
 unfolding compare_at
 order_first j = refl
 
+-- nothing is compared with everything
 pub order_second : (a b : Fraction) → None ≡ compare_at (between a b) everything
 unfolding compare_at
 order_second a b = refl
