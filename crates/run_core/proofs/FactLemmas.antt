@@ -1,5 +1,5 @@
 -- The equality of facts that sets of facts use is that of the definitions.
-use Rattle.std.proofs.Common.{◌≡◌, ℕ, ◌+◌, Bool, true, false, cond, not, ◌&&◌, ◌||◌, refl, List, [], ◌∷◌, ◌==◌}
+use Rattle.std.proofs.Common.{◌≡◌, Bool, ◌&&◌, refl, List, [], ◌∷◌, ◌==◌}
 use Rattle.std.specs.List.{list_any, position_or_len}
 use Rattle.book_model.specs.declared.fact.Fact.{Fact}
 use Rattle.book_model.specs.declared.fact.Kind.{Kind}

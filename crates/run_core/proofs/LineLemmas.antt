@@ -1,14 +1,16 @@
 -- The first line, and the others.
-use Rattle.std.proofs.Common.{◌≡◌, ◌∙◌, ℕ, suc, ◌+◌, ◌<◌, ◌≤◌, Bool, true, false, cond, List, [], ◌∷◌, length, take, drop, ap, refl, sym, arith, nat_lt}
+use Rattle.std.proofs.Common.{◌≡◌, ℕ, suc, ◌+◌, ◌<◌, ◌≤◌, Bool, true, false, cond, List, [], ◌∷◌, length, take, drop, ap, refl, arith, nat_lt}
 use native.Mathlib.Numerals.{unary_clauses}
 use borrow.Author.Tests.{ltb-true, ltb-false}
 use Rattle.std.specs.Prelude.{◌==◌, Some, None, not}
 use Rattle.std.specs.List.{position_or_len, position}
 use Rattle.book_model.specs.Lines.{raw_lines, onto_first}
 
+-- where the first line feed stands, or the length
 abbrev pub at_end : List ℕ → ℕ
 at_end bs = position_or_len (λ b. b == 10) bs
 
+-- the first line of one byte more
 raw_step : (b : ℕ) (bs : List ℕ) (t : Bool)
     → (at_end bs < length bs → raw_lines bs ≡ take (at_end bs) bs ∷ raw_lines (drop (at_end bs + 1) bs))
     → cond (not t) (1 + at_end bs) 0 < length (b ∷ bs)
@@ -19,6 +21,7 @@ raw_step b bs false first h =
     let one : 1 + at_end bs ≡ suc (at_end bs) = omega arith in
     rw (rest, one) (simp unary_clauses)
 
+-- the first line ends at the first line feed
 pub raw_first : (bs : List ℕ) → at_end bs < length bs → raw_lines bs ≡ take (at_end bs) bs ∷ raw_lines (drop (at_end bs + 1) bs)
 raw_first [] h = absurd (omega arith)
 raw_first (b ∷ bs) h = raw_step b bs (b == 10) (raw_first bs) h
@@ -28,6 +31,7 @@ abbrev pub alone : List ℕ → List (List ℕ)
 alone [] = []
 alone (b ∷ bs) = (b ∷ bs) ∷ []
 
+-- one byte more without a line feed
 last_step : (b : ℕ) (bs : List ℕ) (t : Bool) → (length bs ≤ at_end bs → raw_lines bs ≡ alone bs)
     → length (b ∷ bs) ≤ cond (not t) (1 + at_end bs) 0
     → cond t ([] ∷ raw_lines bs) (onto_first b (raw_lines bs)) ≡ (b ∷ bs) ∷ []
@@ -37,14 +41,17 @@ last_step b (c ∷ bs) false last h =
     let rest : raw_lines (c ∷ bs) ≡ (c ∷ bs) ∷ [] = last (omega arith) in
     ap (onto_first b) rest
 
+-- without a line feed all the bytes are one line
 pub raw_last : (bs : List ℕ) → length bs ≤ at_end bs → raw_lines bs ≡ alone bs
 raw_last [] h = refl
 raw_last (b ∷ bs) h = last_step b bs (b == 10) (raw_last bs) h
 
+-- a found place is the one that was tested
 chosen : (t : Bool) (a i : ℕ) → Some i ≡ cond t (Some a) None → (t ≡ true) × (i ≡ a)
 chosen true a i h = (refl, cc)
 chosen false a i h = cc
 
+-- nothing is found where the test fails
 not_chosen : (t : Bool) (a : ℕ) → None ≡ cond t (Some a) None → t ≡ false
 not_chosen true a h = cc
 not_chosen false a h = refl

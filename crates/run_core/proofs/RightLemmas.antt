@@ -1,13 +1,12 @@
 -- Outcomes that are right for their lines.
-use Rattle.std.proofs.Common.{◌≡◌, ℕ, zero, suc, ◌+◌, ◌<◌, ◌≤◌, Bool, true, false, cond, ℤ, List, [], ◌∷◌, length, get_or, map, refl, ap, ◌&&◌, arith}
-use Rattle.std.specs.Prelude.{Result, Ok, Err, if◌then◌else◌}
+use Rattle.std.proofs.Common.{◌≡◌, ℕ, zero, suc, ◌<◌, Bool, true, false, ℤ, List, [], ◌∷◌, length, get_or, map, refl, ap, ◌&&◌, arith}
+use Rattle.std.specs.Prelude.{Ok, Err, if◌then◌else◌}
 use Rattle.std.specs.List.{list_all}
 use Rattle.book_model.specs.declared.fact.Fact.{Fact}
 use Rattle.book_model.specs.declared.request.Request.{Request}
 use Rattle.book_model.specs.declared.request.Resolved.{Resolved}
-use Rattle.book_model.specs.declared.request.Rule.{Rule}
 use Rattle.book_model.specs.declared.request.Rule.TheVariants.{Syntax}
-use Rattle.book_model.specs.Lines.{words_of, is_plain}
+use Rattle.book_model.specs.Lines.{words_of}
 use Rattle.book_model.specs.Requests.{asked_by, request_of}
 use Rattle.book_model.specs.Outcomes.{LineOutcome, IsRightFor, AreRight, HasResult, is_result}
 use Rattle.run_core.specs.declared.outcome.Outcome.{Outcome}
@@ -30,6 +29,7 @@ right_at f (line ∷ lines) [] i d e h k all = absurd (omega arith)
 right_at f (line ∷ lines) (o ∷ os) zero d e h k all = all.0
 right_at f (line ∷ lines) (o ∷ os) (suc i) d e h k all = right_at f lines os i d e (omega arith) (omega arith) all.1
 
+-- only three words ask something
 three_asked : (ws : List (List ℕ)) (r : Request) → asked_by ws ≡ Ok r → length ws ≡ 3
 three_asked [] r h = cc
 three_asked (a ∷ []) r h = cc
@@ -37,6 +37,7 @@ three_asked (a ∷ b ∷ []) r h = cc
 three_asked (a ∷ b ∷ c ∷ []) r h = refl
 three_asked (a ∷ b ∷ c ∷ d ∷ ws) r h = cc
 
+-- only three words ask something, where the line is readable
 three_where : (t : Bool) (ws : List (List ℕ)) (r : Request) → (if t then asked_by ws else Err Syntax) ≡ Ok r → length ws ≡ 3
 three_where true ws r h = three_asked ws r h
 three_where false ws r h = cc

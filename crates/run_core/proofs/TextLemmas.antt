@@ -1,9 +1,9 @@
 -- The text of lines and their outcomes, one block further.
-use Rattle.std.proofs.Common.{◌≡◌, ℕ, suc, ◌+◌, ◌<◌, ◌≤◌, ℤ, Bool, true, false, cond, not, ◌||◌, List, [], ◌∷◌, ◌++◌, length, take, drop, get_or, map, codes, decimal, append_assoc, append-nil, refl, arith}
+use Rattle.std.proofs.Common.{◌≡◌, ℕ, suc, ◌+◌, ◌<◌, ◌≤◌, ℤ, Bool, true, false, cond, not, ◌||◌, List, [], ◌∷◌, ◌++◌, length, drop, get_or, map, codes, decimal, append_assoc, append-nil, refl, arith}
 use Rattle.std.proofs.lemmas.Grind.{common_steps}
 use Rattle.std.proofs.lemmas.List.{drop_more}
 use Rattle.std.specs.Prelude.{if◌then◌else◌}
-use Rattle.std.specs.List.{concat, flat_map, list_any, position_or_len}
+use Rattle.std.specs.List.{concat, list_any, position_or_len}
 use Rattle.std.specs.declared.option.Option.{Option}
 use Rattle.book_model.specs.declared.fact.Fact.{Fact}
 use Rattle.book_model.specs.Inquiries.{fact_eq}
@@ -38,6 +38,7 @@ place_of_new p (x ∷ xs) h = place_step (p x) (list_any p xs) (position_or_len 
     place_step false true n m h k = cc
     place_step false false n m h k = let e : n ≡ m = k refl in omega (arith, e)
 
+-- the text of one fact, by whether it is among those that were seen
 new_fact_step : (seen : List Fact) (f : Fact) (v : ℤ) (t : Bool) → list_any (fact_eq f) seen ≡ t
     → (if not t then fact_text (position_or_len (fact_eq f) seen + 1) f v else []) ≡ (if t then [] else fact_text (length seen + 1) f v) ++ []
 new_fact_step seen f v true h = refl
@@ -48,6 +49,7 @@ pub new_fact_is : (seen : List Fact) (f : Fact) (v : ℤ)
     → (if not (list_any (fact_eq f) seen) then fact_text (position_or_len (fact_eq f) seen + 1) f v else []) ≡ new_facts_text seen ((f, v) ∷ [])
 new_fact_is seen f v = new_fact_step seen f v (list_any (fact_eq f) seen) refl
 
+-- the text from a line on is its block and the text from the next line on
 text_split : {X : Type 0} (f : X → List ℕ) (seen : List Fact) (i : ℕ) (lines : List X) (os : List Outcome) (d : X) (e : Outcome) → i < length lines → i < length os
     → text_from seen i (map f (drop i lines)) (map line_outcome (drop i os))
     ≡ block_text seen (i + 1) (f (get_or lines i d)) (line_outcome (get_or os i e))

@@ -1,5 +1,5 @@
 -- What the code's outcome of a line stands for.
-use Rattle.std.specs.Prelude.{List, [], ◌∷◌}
+use Rattle.std.specs.Prelude.{[], ◌∷◌}
 use Rattle.book_model.specs.Outcomes.{LineOutcome, refused, resolved, undecided, void}
 use Rattle.run_core.specs.declared.outcome.Outcome.{Outcome}
 use Rattle.run_core.specs.declared.outcome.Outcome.TheVariants.{Refused, Found, Undecided, Void}

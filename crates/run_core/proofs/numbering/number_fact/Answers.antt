@@ -1,4 +1,4 @@
-use Rattle.std.proofs.Common.{◌≡◌, refl}
+use Rattle.std.proofs.Common.{refl}
 use Rattle.run_core.proofs.FactLemmas.{same_any, same_position}
 use Rattle.run_core.proofs.numbering.number_fact.Goals as goal
 

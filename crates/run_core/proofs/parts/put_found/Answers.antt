@@ -1,5 +1,4 @@
 use Rattle.std.proofs.Common.{rules, ◌≡◌}
-use Rattle.std.specs.Fmt.{signed_decimal}
 use Rattle.book_model.specs.Text.{result_text}
 use Rattle.run_core.proofs.TextLemmas.{found_text}
 use Rattle.run_core.proofs.parts.put_found.Goals as goal

@@ -1,4 +1,4 @@
-use Rattle.std.proofs.Common.{arith, map}
+use Rattle.std.proofs.Common.{arith}
 use Rattle.std.proofs.lemmas.List.{length-map}
 use Rattle.run_core.specs.Outcomes.{line_outcome}
 use Rattle.run_core.proofs.PrintedLemmas.{printed}
