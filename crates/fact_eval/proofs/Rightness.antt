@@ -16,7 +16,8 @@ use Rattle.book_model.specs.Leading.{Exact, Leads}
 use Rattle.book_model.specs.Programs.{Program, void, AtMost, void_at_most}
 use Rattle.book_model.proofs.Corrections.{dt_few, few_of_two, between_yes, above_no, below_no}
 use Rattle.book_model.proofs.Evaluations.{true_of_leads, void_of_leads, near_of_leads}
-use Rattle.fact_eval.specs.Answers.{IsRightAnswer, answer_of}
+use Rattle.oracle_core.specs.Answers.{IsRightAnswer}
+use Rattle.fact_eval.specs.Answers.{answer_of}
 use Rattle.fact_eval.specs.Widths.{IsFactValue, IsNearRound}
 
 formula_few : (k : Kind) (p : Place) (d : ℤ) → AtMost 99999 (formula_of k p d)
