@@ -7,3 +7,6 @@ pub mod Nearness
 pub mod Evaluations
 pub mod Corrections
 pub mod Implying
+pub mod Terms
+pub mod SeriesNesting
+pub mod Pi

@@ -14,3 +14,5 @@ pub mod Requests
 pub mod Inquiries
 pub mod Outcomes
 pub mod Text
+pub mod Series
+pub mod Octants
