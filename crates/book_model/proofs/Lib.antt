@@ -10,3 +10,4 @@ pub mod Implying
 pub mod Terms
 pub mod SeriesNesting
 pub mod Pi
+pub mod OctantHulls

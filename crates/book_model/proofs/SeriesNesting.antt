@@ -38,10 +38,6 @@ within_fifths : (x : Fraction) → zero_F ≤F x → x ≤F four_fifths → IsUp
 unfolding times
 within_fifths x h k = record { nonneg = h; bound = record { cross = omega (arith, ints, k.cross) } }
 
-within_half : (x : Fraction) → zero_F ≤F x → x ≤F half → IsUpTo 1 2 x
-unfolding times
-within_half x h k = record { nonneg = h; bound = record { cross = omega (arith, ints, k.cross) } }
-
 -- a function that has its lower end at f n and its upper end at g n of the ends
 pub record Points (a b c d : Fraction) : Type 0 where
   pub c_nonneg : IsUpTo 4 5 c
