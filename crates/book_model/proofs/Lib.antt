@@ -11,3 +11,4 @@ pub mod Terms
 pub mod SeriesNesting
 pub mod Pi
 pub mod OctantHulls
+pub mod DegreeSines

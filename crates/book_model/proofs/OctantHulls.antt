@@ -69,11 +69,11 @@ unfolding radians
 radians_rise n r s h l = angles_rise (product (pi_at (suc n)) (only (one_over 179))) r s (degree_proper (suc n)) (degree_inside n).ends h l
 
 -- ---- the sines at three angles in an octant
-record InOctant (p q r : Fraction) : Type 0 where
-  nonneg : zero_F ≤F p
-  first : p ≤F q
-  second : q ≤F r
-  bounded : r ≤F whole (pos 45)
+pub record InOctant (p q r : Fraction) : Type 0 where
+  pub nonneg : zero_F ≤F p
+  pub first : p ≤F q
+  pub second : q ≤F r
+  pub bounded : r ≤F whole (pos 45)
 
 short_order : (p q : Fraction) → p ≤F q → short_of q ≤F short_of p
 short_order p q h = le_by (p ∷ q ∷ []) ((at 0 ≼ at 1) ∷ []) (lit (pos 45) ⊖ at 1) (lit (pos 45) ⊖ at 0) (known 0) refl (h, tt)
@@ -97,7 +97,7 @@ cosine_amid n p q r i =
     let q0 = le_trans zero_F p q i.nonneg i.first in
     cosine_between n (radians_proper (suc n) q) (radians_rise n p q i.nonneg i.first) (radians_rise n q r q0 i.second)
 
-into_amid : (n j : ℕ) (p q r : Fraction) → InOctant p q r → sine_into (suc n) j q ⊆ hull (sine_into (suc n) j p) (sine_into (suc n) j r)
+pub into_amid : (n j : ℕ) (p q r : Fraction) → InOctant p q r → sine_into (suc n) j q ⊆ hull (sine_into (suc n) j p) (sine_into (suc n) j r)
 unfolding sine_into
 into_amid n zero p q r i = sine_amid n p q r i
 into_amid n (suc zero) p q r i = within_trans (cosine_amid n _ _ _ (shorts p q r i)) (hull_swap _ _)
@@ -105,7 +105,7 @@ into_amid n (suc (suc zero)) p q r i = cosine_amid n p q r i
 into_amid n (suc (suc (suc zero))) p q r i = within_trans (sine_amid n _ _ _ (shorts p q r i)) (hull_swap _ _)
 into_amid n (suc (suc (suc (suc j)))) p q r i = within_trans (negative_within (into_amid n j p q r i)) (negative_hull _ _)
 
-into_deeper : (n j : ℕ) (r : Fraction) → sine_into (suc (suc n)) j r ⊆ sine_into (suc n) j r
+pub into_deeper : (n j : ℕ) (r : Fraction) → sine_into (suc (suc n)) j r ⊆ sine_into (suc n) j r
 unfolding sine_into
 into_deeper n zero r = narrows sine_series sines (suc n) (radians_proper (suc (suc n)) r) (radians_deeper (suc n) r)
 into_deeper n (suc zero) r = narrows (λ m. cosine_series (suc m)) cosines n (radians_proper (suc (suc n)) (short_of r)) (radians_deeper (suc n) (short_of r))
@@ -113,7 +113,7 @@ into_deeper n (suc (suc zero)) r = narrows (λ m. cosine_series (suc m)) cosines
 into_deeper n (suc (suc (suc zero))) r = narrows sine_series sines (suc n) (radians_proper (suc (suc n)) (short_of r)) (radians_deeper (suc n) (short_of r))
 into_deeper n (suc (suc (suc (suc j)))) r = negative_within (into_deeper n j r)
 
-into_proper : (n j : ℕ) (r : Fraction) → IsProper (sine_into (suc n) j r)
+pub into_proper : (n j : ℕ) (r : Fraction) → IsProper (sine_into (suc n) j r)
 unfolding sine_into
 into_proper n zero r = sines.proper (suc n) (radians (suc n) r) (radians_proper (suc n) r)
 into_proper n (suc zero) r = cosines.proper n (radians (suc n) (short_of r)) (radians_proper (suc n) (short_of r))
@@ -125,7 +125,7 @@ into_proper n (suc (suc (suc (suc j)))) r = negative_proper (sine_into (suc n) j
 abbrev first_angles : Interval
 first_angles = between zero_F four_fifths
 
-abbrev all_sines : Interval
+abbrev pub all_sines : Interval
 all_sines = between minus_one one_fraction
 
 angles_at_1 : product (between zero_F (whole (pos 45))) (product (pi_at 1) (only (one_over 179))) ⊆ first_angles
@@ -161,7 +161,7 @@ negative_sines : negative all_sines ⊆ all_sines
 unfolding negative opposite
 negative_sines = record { ends = (record { cross = record { le = tt } }, record { cross = record { le = tt } }) }
 
-into_inside : (n j : ℕ) (r : Fraction) → zero_F ≤F r → r ≤F whole (pos 45) → sine_into (suc n) j r ⊆ all_sines
+pub into_inside : (n j : ℕ) (r : Fraction) → zero_F ≤F r → r ≤F whole (pos 45) → sine_into (suc n) j r ⊆ all_sines
 unfolding sine_into
 into_inside n zero r h k = sine_inside n r h k
 into_inside n (suc zero) r h k = cosine_inside n (short_of r) (short_nonneg r k) (short_bounded r h)
