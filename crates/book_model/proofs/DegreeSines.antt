@@ -1,20 +1,23 @@
 -- Sine, cosine and tangent of an interval of degrees are narrower for a narrower interval and for a greater depth.
-use Rattle.std.proofs.Common.{◌≡◌, ℕ, zero, suc, ◌+◌, ◌≤◌, refl, sym, subst, arith, unsigned_abs, neg_ℤ, ℤ, pos, negsuc, ◌+ℤ◌, ◌-ℤ◌, ◌*ℤ◌, ◌≤ℤ◌, ◌<ℤ◌, [], ◌∷◌}
+use Rattle.std.proofs.Common.{◌≡◌, ℕ, zero, suc, refl, arith, unsigned_abs, neg_ℤ, ℤ, pos, negsuc, ◌+ℤ◌, ◌-ℤ◌, ◌≤ℤ◌, ◌<ℤ◌, [], ◌∷◌}
 use Rattle.std.proofs.lemmas.Int.{ints, by_lt_z}
 use Rattle.exact_math.specs.Fraction.{Fraction, ◌≤F◌, ◌<F◌, whole, plus, opposite, times, smaller, larger}
-use Rattle.exact_math.specs.Interval.{Interval, everything, between, IsProper, AreWithin, ◌⊆◌, sum, hull, one as one_fraction, minus_one}
+use Rattle.exact_math.specs.Interval.{Interval, everything, between, IsProper, AreWithin, ◌⊆◌, sum, hull}
 use Rattle.exact_math.specs.Sums.{one_over}
 use Rattle.exact_math.proofs.Ring.{at, lit, ◌⊕◌, ◌⊖◌, ◌⊗◌, minus}
-use Rattle.exact_math.proofs.Fractions.{le_refl, le_trans, le_lt_trans, times_mono, opposite_mono, smaller_keeps, smaller_first, smaller_second, larger_keeps, larger_first, larger_second}
+use Rattle.exact_math.proofs.Fractions.{le_refl, le_trans, le_lt_trans, times_mono, opposite_mono, smaller_keeps, smaller_first, larger_keeps, larger_first}
 use Rattle.exact_math.proofs.Intervals.{within_trans, within_refl, smaller_mono, larger_mono, hull_within, hull_proper}
 use Rattle.exact_math.proofs.Same.{whole-plus}
 use Rattle.exact_math.proofs.Certificates.{zero_F, ◌≼◌, ◌≗◌, known, multiple, ◌⊞◌, ◌⊠◌, natural, le_by}
 use Rattle.exact_math.proofs.Floors.{floor_mono, floor_below, floor_close}
 use Rattle.exact_math.proofs.Hulls.{hull_holds_first, hull_holds_second, hull_least}
-use Rattle.exact_math.proofs.Narrowing.{Narrowing, compose, argument, steady, sums, quotients}
+use Rattle.exact_math.proofs.Narrowing.{Narrowing, at_least, compose, argument, steady, sums, quotients}
 use Rattle.book_model.specs.Octants.{only, octant_edge, octant_of_turn, sine_at, sine_in, hull_from, last_octant, first_octant, sine_of_degrees, cosine_of_degrees, tangent_of_degrees}
+use Rattle.book_model.specs.Nesting.{IsNested, IsNestedByDepth, AreOctantsMet}
+use Rattle.book_model.specs.Series.{pi_at}
+use Rattle.book_model.proofs.Pi.{pi_at_least}
 use Rattle.book_model.proofs.Terms.{one_over_nonneg, one_over-whole}
-use Rattle.book_model.proofs.OctantHulls.{InOctant, all_sines, into_amid, into_deeper, into_proper, into_inside}
+use Rattle.book_model.proofs.OctantHulls.{all_sines, into_amid, into_deeper, into_proper, into_inside}
 
 -- ---- the octants that an interval meets
 whole_mono : (j k : ℤ) → j ≤ℤ k → whole j ≤F whole k
@@ -81,6 +84,33 @@ ends_above : (a b : Fraction) (k : ℤ) → AreMet a b k → a ≤F octant_edge 
 ends_above a b k m =
     let f = m.from in
     le_trans _ (octant_edge (first_octant a +ℤ pos 1)) _ (first_ends a) (edges_rise (first_octant a +ℤ pos 1) (k +ℤ pos 1) (omega (arith, ints)))
+
+-- an octant that begins at or below b is at most the last
+begun_at_most : (b : Fraction) (k : ℤ) → octant_edge k ≤F b → k ≤ℤ last_octant b
+unfolding last_octant
+begun_at_most b k h =
+    let low = le_by (b ∷ one_over 44 ∷ whole k ∷ []) ((lit (pos 45) ⊗ at 2 ≼ at 0) ∷ (lit (pos 45) ⊗ at 1 ≗ lit (pos 1)) ∷ (lit (pos 0) ≼ at 1) ∷ []) (at 2) (at 0 ⊗ at 1)
+    (known 0 ⊠ known 2 ⊞ multiple 1 (minus (at 2))) refl (h, (one_over-whole 44, (one_over_nonneg 44, tt))) in
+    let s = whole_strict k (last_octant b +ℤ pos 1) (le_lt_trans _ _ _ low (floor_close (times b (one_over 44)))) in
+    omega (arith, ints, s)
+
+opposite_edge : (a : Fraction) (k : ℤ) → a ≤F octant_edge k → octant_edge (neg_ℤ k) ≤F opposite a
+unfolding opposite
+opposite_edge a k h = le_by (a ∷ whole k ∷ []) ((at 0 ≼ lit (pos 45) ⊗ at 1) ∷ []) (lit (pos 45) ⊗ minus (at 1)) (minus (at 0)) (known 0) refl (h, tt)
+
+-- an octant that ends at or above a is at least the first
+ended_at_least : (a : Fraction) (k : ℤ) → a ≤F octant_edge (k +ℤ pos 1) → first_octant a ≤ℤ k
+unfolding first_octant
+ended_at_least a k h = let l = begun_at_most (opposite a) (neg_ℤ (k +ℤ pos 1)) (opposite_edge a (k +ℤ pos 1) h) in omega (arith, ints)
+
+pub octants_met : AreOctantsMet
+octants_met = record {
+  met = λ a b k. (
+    λ m. (ends_above a b k (record { from = m.0; to = m.1 }), begins_below a b k (record { from = m.0; to = m.1 })),
+    λ m. (ended_at_least a k m.0, begun_at_most b k m.1),
+  );
+  some = first_before_last;
+}
 
 -- ---- the hull of a row
 next_or_here : (k j : ℤ) (P : Type 0) → k ≤ℤ j → (j ≡ k → P) → ((k +ℤ pos 1) ≤ℤ j → P) → P
@@ -250,3 +280,18 @@ degree_cosines =
 pub degree_tangents : Narrowing tangent_of_degrees
 unfolding tangent_of_degrees
 degree_tangents = quotients sine_of_degrees cosine_of_degrees degree_sines degree_cosines
+
+nested_by : (f : ℕ → Interval → Interval) → Narrowing f → IsNested f
+nested_by f c = record { within = λ n m i j l p h. at_least f c n m l p h }
+
+pub sine_nests : IsNested sine_of_degrees
+sine_nests = nested_by sine_of_degrees degree_sines
+
+pub cosine_nests : IsNested cosine_of_degrees
+cosine_nests = nested_by cosine_of_degrees degree_cosines
+
+pub tangent_nests : IsNested tangent_of_degrees
+tangent_nests = nested_by tangent_of_degrees degree_tangents
+
+pub pi_nests : IsNestedByDepth pi_at
+pi_nests = record { within = pi_at_least }

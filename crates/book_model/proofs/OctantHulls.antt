@@ -1,21 +1,17 @@
 -- The sine of degrees is narrower for a narrower interval and for a greater depth.
-use Rattle.std.proofs.Common.{◌≡◌, ℕ, zero, suc, ◌+◌, ◌-◌, ◌≤◌, refl, sym, subst, arith, unsigned_abs, neg_ℤ, ℤ, pos, negsuc, ◌+ℤ◌, ◌-ℤ◌, ◌*ℤ◌, ◌≤ℤ◌, ◌<ℤ◌, [], ◌∷◌}
+use Rattle.std.proofs.Common.{ℕ, zero, suc, refl, arith, pos, [], ◌∷◌}
 use Rattle.std.proofs.lemmas.Int.{ints}
-use Rattle.exact_math.specs.Fraction.{Fraction, ◌≤F◌, ◌<F◌, ◌≈◌, whole, plus, opposite, times, power, is_at_most, smaller, larger, floor, size}
+use Rattle.exact_math.specs.Fraction.{Fraction, ◌≤F◌, whole, plus, opposite, times, power, is_at_most, smaller, larger, size}
 use Rattle.exact_math.specs.Interval.{Interval, everything, between, IsProper, AreWithin, ◌⊆◌, sum, negative, product, hull, least, greatest, one as one_fraction, minus_one}
 use Rattle.exact_math.specs.Sums.{one_over, lower, upper, alternating}
-use Rattle.exact_math.proofs.Ring.{at, lit, ◌⊕◌, ◌⊖◌, ◌⊗◌, minus}
-use Rattle.exact_math.proofs.Fractions.{le_refl, le_trans, le_lt_trans, lt_le_trans, opposite_mono, times_mono, smaller_keeps, smaller_first, smaller_second, larger_keeps, larger_first, larger_second}
-use Rattle.exact_math.proofs.Intervals.{within_trans, within_refl, within_everything, smaller_mono, larger_mono, hull_within, negative_within, product_within, product_proper, negative_proper, hull_proper, least_is, least_below, greatest_is, greatest_above}
-use Rattle.exact_math.proofs.Same.{le_of_same, ge_of_same, same_trans, whole-plus}
-use Rattle.exact_math.proofs.FractionRing.{same_by}
-use Rattle.exact_math.proofs.Certificates.{zero_F, ◌≼◌, ◌≗◌, known, multiple, ◌⊞◌, ◌⊠◌, natural, le_by, le_over}
-use Rattle.exact_math.proofs.Floors.{floor_mono, floor_below, floor_close}
-use Rattle.exact_math.proofs.Hulls.{hull_holds_first, hull_holds_second, hull_least, hull_swap, negative_hull}
-use Rattle.exact_math.proofs.Narrowing.{Narrowing, narrows, at_least}
+use Rattle.exact_math.proofs.Ring.{at, lit, ◌⊖◌, ◌⊗◌}
+use Rattle.exact_math.proofs.Fractions.{le_refl, le_trans, times_mono}
+use Rattle.exact_math.proofs.Intervals.{within_trans, within_refl, negative_within, product_within, product_proper, negative_proper, least_is, least_below, greatest_is, greatest_above}
+use Rattle.exact_math.proofs.Certificates.{zero_F, ◌≼◌, known, ◌⊠◌, le_by}
+use Rattle.exact_math.proofs.Hulls.{hull_swap, negative_hull}
+use Rattle.exact_math.proofs.Narrowing.{narrows, at_least}
 use Rattle.book_model.specs.Series.{sine_term, cosine_term, arctan_term, over_factorial, scaled, four_fifths, sine_series, cosine_series, pi_at}
-use Rattle.book_model.specs.Octants.{only, radians, octant_edge, short_of, sine_into, octant_of_turn, sine_at, sine_in, hull_from, last_octant, first_octant, sine_of_degrees}
-use Rattle.book_model.proofs.Terms.{one_over-whole}
+use Rattle.book_model.specs.Octants.{only, radians, short_of, sine_into}
 use Rattle.book_model.proofs.SeriesNesting.{sines, cosines, Precedes, preceding, sine_between, cosine_between}
 use Rattle.book_model.proofs.Pi.{pi_proper, pi_deeper, pi_at_least}
 

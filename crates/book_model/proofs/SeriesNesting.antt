@@ -1,7 +1,7 @@
 -- The series of sine and cosine on intervals are narrower for a narrower interval and for a greater depth.
-use Rattle.std.proofs.Common.{◌≡◌, ℕ, zero, suc, refl, sym, ◌∙◌, arith, Bool, true, false, cond, pos, ◌*ℤ◌}
+use Rattle.std.proofs.Common.{◌≡◌, ℕ, suc, refl, sym, ◌∙◌, arith, Bool, true, false, cond}
 use Rattle.std.proofs.lemmas.Int.{ints}
-use Rattle.exact_math.specs.Fraction.{Fraction, ◌≤F◌, times, is_at_most, smaller, larger}
+use Rattle.exact_math.specs.Fraction.{Fraction, ◌≤F◌, times, is_at_most}
 use Rattle.exact_math.specs.Interval.{Interval, everything, between, IsProper, AreWithin, ◌⊆◌, hull}
 use Rattle.exact_math.specs.Sums.{lower, upper}
 use Rattle.exact_math.proofs.Fractions.{le_refl, le_trans, at_most_true, smaller_first, smaller_second, larger_first, larger_second}
@@ -9,7 +9,7 @@ use Rattle.exact_math.proofs.Intervals.{within_trans, within_everything}
 use Rattle.exact_math.proofs.Certificates.{zero_F}
 use Rattle.exact_math.proofs.Hulls.{true_at_most}
 use Rattle.exact_math.proofs.Narrowing.{Narrowing}
-use Rattle.exact_math.proofs.Alternating.{Halving, sums_nested, later_sums_nested, lower_rises, upper_rises, lower_falls, upper_falls, sum_ends_in_order}
+use Rattle.exact_math.proofs.Alternating.{sums_nested, later_sums_nested, lower_rises, upper_rises, lower_falls, upper_falls, sum_ends_in_order}
 use Rattle.book_model.specs.Series.{is_inside, sine_term, cosine_term, four_fifths, sine_series, cosine_series}
 use Rattle.book_model.proofs.Terms.{IsUpTo, sine_halving, sine_rising, cosine_halving, cosine_falling}
 
