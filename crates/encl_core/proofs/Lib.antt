@@ -5,3 +5,5 @@ pub mod Enclosing
 pub mod Scaling
 pub mod Testing
 pub mod Knowing
+pub mod Divisions
+pub mod Periods

@@ -11,15 +11,19 @@
 
 mod coarse;
 mod comparing;
+mod dividing;
 mod enclosure;
 mod ends;
 mod operations;
 mod rounding;
+mod span;
 mod steps;
 mod trail;
+mod wrapping;
 
 pub use coarse::Coarse;
 pub use enclosure::Enclosure;
+pub use span::Span;
 pub use steps::{floor_step, less_step};
 pub use trail::Trail;
 
