@@ -1,9 +1,9 @@
 -- Pi's enclosures are nested.
-use Rattle.std.proofs.Common.{◌≡◌, ℕ, zero, suc, ◌+◌, ◌-◌, ◌≤◌, refl, sym, ◌∙◌, subst, arith, pos, [], ◌∷◌}
+use Rattle.std.proofs.Common.{◌≡◌, ℕ, zero, suc, ◌+◌, ◌-◌, ◌^◌, ◌≤◌, refl, sym, ◌∙◌, subst, arith, pos, [], ◌∷◌}
 use Rattle.std.proofs.lemmas.Int.{ints}
-use Rattle.exact_math.specs.Fraction.{Fraction, ◌≤F◌, whole, times}
-use Rattle.exact_math.specs.Interval.{Interval, everything, between, IsProper, AreWithin, ◌⊆◌, negative}
-use Rattle.exact_math.specs.Sums.{one_over}
+use Rattle.exact_math.specs.Fraction.{Fraction, ◌≤F◌, whole, times, plus, opposite, power, size}
+use Rattle.exact_math.specs.Interval.{Interval, everything, between, IsProper, AreWithin, ◌⊆◌, negative, sum}
+use Rattle.exact_math.specs.Sums.{one_over, lower, upper, alternating}
 use Rattle.exact_math.proofs.Ring.{at, lit, ◌⊗◌}
 use Rattle.exact_math.proofs.Intervals.{within_trans, within_refl, sum_within, negative_within, plus_proper, negative_proper}
 use Rattle.exact_math.proofs.Certificates.{◌≼◌, known, ◌⊠◌, le_by}
@@ -56,3 +56,14 @@ pi_proper n =
     plus_proper (scaled 16 (arctan_at n (one_over 4))) (negative (scaled 4 (arctan_at n (one_over 238))))
     (scaled_proper 16 (arctan_at n (one_over 4)) (arctan_proper n 4 (omega arith)))
     (negative_proper (scaled 4 (arctan_at n (one_over 238))) (scaled_proper 4 (arctan_at n (one_over 238)) (arctan_proper n 238 (omega arith))))
+
+-- ---- its number, by computation
+abbrev pub binary : ℕ → Fraction
+binary n = record { num = pos n; below = 2 ^ 56 - 1 }
+
+pi_at_12 : pi_at 12 ⊆ between (binary 226375608064910088) (binary 226375608064910089)
+unfolding pi_at sum scaled negative lower upper alternating size arctan_term power plus times opposite
+pi_at_12 = record { ends = (record { cross = record { le = tt } }, record { cross = record { le = tt } }) }
+
+pub pi_number : (n : ℕ) → 12 ≤ n → pi_at n ⊆ between (binary 226375608064910088) (binary 226375608064910089)
+pi_number n h = within_trans (pi_at_least 12 n h) pi_at_12

@@ -57,7 +57,7 @@ square_half x h =
 abbrev pub falling : ℕ → Fraction
 falling n = times (one_over n) (one_over (suc n))
 
-falling_nonneg : (n : ℕ) → zero_F ≤F falling n
+pub falling_nonneg : (n : ℕ) → zero_F ≤F falling n
 falling_nonneg n = le_by (one_over n ∷ one_over (suc n) ∷ []) ((none ≼ at 0) ∷ (none ≼ at 1) ∷ []) none (at 0 ⊗ at 1) (known 0 ⊠ known 1) refl (one_over_nonneg n, (one_over_nonneg (suc n), tt))
 
 falling_small : (n : ℕ) → 1 ≤ n → times (whole (pos 6)) (falling n) ≤F whole (pos 1)
@@ -83,16 +83,16 @@ small_fifths f h x w = record {
 }
 
 -- ---- sine
-abbrev sine_index : ℕ → ℕ
+abbrev pub sine_index : ℕ → ℕ
 sine_index k = suc (double k)
 
-sine_step : (x : Fraction) (k : ℕ) → sine_term x (suc k) ≈ times (sine_term x k) (times (times x x) (falling (sine_index k)))
+pub sine_step : (x : Fraction) (k : ℕ) → sine_term x (suc k) ≈ times (sine_term x k) (times (times x x) (falling (sine_index k)))
 unfolding sine_term power over_factorial
 sine_step x k =
     same_by (x ∷ power x (suc (double k)) ∷ over_factorial (suc (double k)) ∷ one_over (suc (double k)) ∷ one_over (suc (suc (double k))) ∷ [])
     ((at 0 ⊗ (at 0 ⊗ at 1)) ⊗ ((at 2 ⊗ at 3) ⊗ at 4)) ((at 1 ⊗ at 2) ⊗ ((at 0 ⊗ at 0) ⊗ (at 3 ⊗ at 4))) refl
 
-sine_first : (x : Fraction) → sine_term x 0 ≈ x
+pub sine_first : (x : Fraction) → sine_term x 0 ≈ x
 unfolding sine_term power over_factorial
 sine_first x = same_by (x ∷ []) ((at 0 ⊗ one) ⊗ (one ⊗ one)) (at 0) refl
 
@@ -101,6 +101,17 @@ sine_ratios x h = record { first = le_trans zero_F x (sine_term x 0) h (ge_of_sa
 
 sine_small : (x : Fraction) → IsUpTo 4 5 x → Small (times x x) (λ k. falling (sine_index k))
 sine_small = small_fifths sine_index (λ k. omega arith)
+
+-- from the first term on
+pub cosine_step_from_first : (x : Fraction) (k : ℕ) → cosine_term x (suc k) ≈ times (cosine_term x k) (times (times x x) (falling (double k)))
+unfolding cosine_term power over_factorial
+cosine_step_from_first x k =
+    same_by (x ∷ power x (double k) ∷ over_factorial (double k) ∷ one_over (double k) ∷ one_over (suc (double k)) ∷ [])
+    ((at 0 ⊗ (at 0 ⊗ at 1)) ⊗ ((at 2 ⊗ at 3) ⊗ at 4)) ((at 1 ⊗ at 2) ⊗ ((at 0 ⊗ at 0) ⊗ (at 3 ⊗ at 4))) refl
+
+pub cosine_one : (x : Fraction) → cosine_term x 0 ≈ whole (pos 1)
+unfolding cosine_term power over_factorial
+cosine_one x = same_by [] (one ⊗ one) one refl
 
 pub sine_halving : (x : Fraction) → IsUpTo 4 5 x → Halving (sine_term x)
 sine_halving x w = halving (sine_term x) (times x x) (λ k. falling (sine_index k)) (sine_ratios x w.nonneg) (sine_small x w)

@@ -7,3 +7,4 @@ pub mod Testing
 pub mod Knowing
 pub mod Divisions
 pub mod Periods
+pub mod PiEnds

@@ -9,6 +9,7 @@
 //! - `floor_step` and `less_step`: the tests as steps of a formula's program.
 #![tactic(auto)]
 
+mod circle;
 mod coarse;
 mod comparing;
 mod dividing;
@@ -21,6 +22,7 @@ mod steps;
 mod trail;
 mod wrapping;
 
+pub use circle::pi;
 pub use coarse::Coarse;
 pub use enclosure::Enclosure;
 pub use span::Span;
