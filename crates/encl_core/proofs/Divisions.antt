@@ -4,12 +4,12 @@ use Rattle.std.proofs.lemmas.Int.{ints}
 use lib.IntN.{neg_ℤ}
 use lib.Signed.{lt_z, le_z, ≤ℤ_refl}
 use Rattle.exact_math.specs.Fraction.{Fraction, ◌≤F◌, times, reciprocal, is_at_most, power as fraction_power}
-use Rattle.exact_math.specs.Interval.{Interval, everything, between, ◌⊆◌, product, quotient, excludes_zero, least_even, power as interval_power, zero_fraction}
+use Rattle.exact_math.specs.Interval.{Interval, between, ◌⊆◌, product, quotient, excludes_zero, least_even, power as interval_power, zero_fraction}
 use Rattle.exact_math.proofs.Ring.{at, lit, ◌⊖◌, ◌⊗◌, minus}
 use Rattle.exact_math.proofs.Bounds.{◌≼◌, known, ◌⊠◌, times as naturally, le_by, pos_nonneg, square_nonneg}
 use Rattle.exact_math.proofs.IntLaws.{mul_one}
 use Rattle.exact_math.proofs.Fractions.{by_cross, den_product, le_trans, larger_keeps}
-use Rattle.exact_math.proofs.Intervals.{least_is, greatest_is, within_trans, within_everything}
+use Rattle.exact_math.proofs.Intervals.{least_is, greatest_is, within_trans}
 use Rattle.encl_core.specs.Rounding.{at_36, IsFloor, IsCeiling, IsBelowFour, IsAboveFour, IsOneSided, least_square_of, Keeps64}
 use Rattle.encl_core.proofs.Keeping.{kept_within}
 

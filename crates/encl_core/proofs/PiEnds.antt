@@ -1,5 +1,5 @@
 -- Pi lies between its neighbours that count 2^-56.
-use Rattle.std.proofs.Common.{ℕ, ◌≤◌, arith}
+use Rattle.std.proofs.Common.{◌≤◌, arith}
 use Rattle.exact_math.specs.Interval.{Interval, between, ◌⊆◌, hull as interval_hull}
 use Rattle.exact_math.proofs.Intervals.{within_trans}
 use Rattle.exact_math.proofs.Fractions.{smaller_first, larger_second}

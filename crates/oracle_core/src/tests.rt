@@ -48,7 +48,9 @@ fn listed_facts_have_their_values(rt: HostRuntime) -> Result<(), Fail> {
     let alloc = rt.alloc();
     let fact = correction_on(738_926)?;
     let other = correction_on(1)?;
-    let mut listed = Listed::new(alloc, &[fact], &[73_871]);
+    let facts = [fact];
+    let values = [73_871];
+    let mut listed = Listed::new(alloc, &facts, &values);
     assert_eq!(rt; listed.ask(other), Err(Stop::Missing(other)));
     assert_eq!(rt; listed.asked().len(), 0);
     assert_eq!(rt; listed.ask(fact), Ok(73_871));

@@ -1,4 +1,4 @@
-use Rattle.std.proofs.Common.{rules, SFits, w64, pos, ◌-ℤ◌, arith}
+use Rattle.std.proofs.Common.{rules, SFits, pos, ◌-ℤ◌, arith}
 use Rattle.std.specs.Int.{w128}
 use Rattle.std.proofs.lemmas.Int.{to_z-of_z, ints}
 use Rattle.encl_core.proofs.Divisions.{ceil_ratio_positive, ceil_ratio_negative, from_nonzero}

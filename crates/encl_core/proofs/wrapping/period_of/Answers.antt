@@ -1,5 +1,5 @@
-use Rattle.std.proofs.Common.{rules, arith, SFits, w64, ◌∙◌}
-use Rattle.std.proofs.lemmas.Int.{ints, to_z-of_z}
+use Rattle.std.proofs.Common.{rules, SFits, w64, ◌∙◌}
+use Rattle.std.proofs.lemmas.Int.{to_z-of_z}
 use Rattle.encl_core.proofs.Periods.{euclid_is}
 use Rattle.encl_core.proofs.wrapping.period_of.Goals as goal
 
