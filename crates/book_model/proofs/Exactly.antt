@@ -1,16 +1,16 @@
 -- A polynomial at a whole number has one fraction for its value, and its decimals are that fraction.
-use Rattle.std.specs.Prelude.{◌≡◌, ℕ, zero, suc, ◌+◌, ◌*◌, ◌^◌, ◌-◌, ◌%◌, ◌/◌, ℤ, pos, negsuc, ◌+ℤ◌, ◌*ℤ◌, ◌-ℤ◌, Bool, true, false, cond, List, length, slice_index_or, refl}
-use Rattle.std.proofs.Common.{arith, sym, ap, ◌∙◌, subst, add-one, [], ◌∷◌}
+use Rattle.std.specs.Prelude.{◌≡◌, ℕ, zero, suc, ◌+◌, ◌*◌, ◌^◌, ℤ, pos, ◌+ℤ◌, ◌*ℤ◌, ◌-ℤ◌, Bool, true, false, cond, List, length, slice_index_or, refl}
+use Rattle.std.proofs.Common.{arith, ap, ◌∙◌, add-one, [], ◌∷◌}
 use Rattle.std.proofs.lemmas.Int.{ints}
 use Rattle.std.specs.Prelude.{Option, Some, None, SomeIff, IfSome}
-use Rattle.exact_math.specs.Fraction.{Fraction, den, ◌≈◌, whole, plus, times, smaller, larger, is_at_most}
-use Rattle.exact_math.specs.Interval.{Interval, everything, between, sum, product, least, greatest}
-use Rattle.exact_math.proofs.Ring.{Poly, at, lit, ◌⊕◌, ◌⊖◌, ◌⊗◌, ring}
+use Rattle.exact_math.specs.Fraction.{Fraction, ◌≈◌, whole, plus, times, smaller, larger, is_at_most}
+use Rattle.exact_math.specs.Interval.{sum, product, least, greatest}
+use Rattle.exact_math.proofs.Ring.{at, lit, ◌⊗◌, ring}
 use Rattle.exact_math.proofs.Same.{same_refl, same_sym, same_trans, plus_cong, times_cong}
 use Rattle.book_model.specs.declared.frac.Frac.{Frac}
 use Rattle.book_model.specs.Correction.{int_power, no_fraction, polynomial_to, polynomial_of, seconds_of}
 use Rattle.book_model.specs.declared.tables.TheConstants.{SECOND}
-use Rattle.book_model.specs.Expressions.{Expression, World, value, exactly, integer, add, scale}
+use Rattle.book_model.specs.Expressions.{World, value, exactly}
 use Rattle.book_model.specs.Fractions.{fraction_of}
 use Rattle.book_model.specs.Plain.{decimal_11, seconds_11, exact_to, IsNumber}
 

@@ -8,3 +8,8 @@ pub mod Evaluations
 pub mod Corrections
 pub mod Implying
 pub mod Exactly
+pub mod Terms
+pub mod SeriesNesting
+pub mod Pi
+pub mod OctantHulls
+pub mod DegreeSines

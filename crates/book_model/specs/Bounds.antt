@@ -4,7 +4,7 @@ use Rattle.std.specs.Prelude.{ℕ, suc, ◌+◌, ◌-◌, ◌*◌, ◌/◌, ◌^
 use lib.Signed.{le_z}
 use Rattle.exact_math.specs.Fraction.{Fraction, ◌≤F◌, plus, floor_quotient}
 use Rattle.exact_math.specs.Interval.{Interval, everything, between}
-use Rattle.book_model.specs.Expressions.{Expression, argument, integer, constant, add, subtract, multiply, divide, negate, scale, power, minimum, maximum, hull, clamp, widen}
+use Rattle.book_model.specs.Expressions.{Expression, argument, integer, constant, add, subtract, multiply, divide, negate, scale, power, minimum, maximum, hull, clamp, widen, pi, sine, cosine, tangent, remainder}
 
 -- The ends lie from low to high, in 2^-32. The width is at most slope * w + slack, where the width w of a moment
 -- and slack count 2^-64, and slope counts 2^-40.
@@ -92,6 +92,11 @@ bound_of l r (maximum x y) = unbounded
 bound_of l r (hull x y) = unbounded
 bound_of l r (clamp x) = unbounded
 bound_of l r (widen a x) = unbounded
+bound_of l r pi = unbounded
+bound_of l r (sine x) = unbounded
+bound_of l r (cosine x) = unbounded
+bound_of l r (tangent x) = unbounded
+bound_of l r (remainder m x q) = unbounded
 
 abbrev pub at_32 : ℤ → Fraction
 at_32 n = record { num = n; below = 2 ^ 32 - 1 }

@@ -1,9 +1,12 @@
 -- Expressions over the arguments of a formula, and their values at each depth.
-use Rattle.std.specs.Prelude.{ℕ, ℤ}
+use Rattle.std.specs.Prelude.{ℕ, ℤ, pos, ◌*ℤ◌}
 use Rattle.exact_math.specs.Fraction.{Fraction, whole}
 use Rattle.exact_math.specs.Interval.{Interval, between, sum, difference, negative, product, quotient, power as interval_power, minimum as interval_minimum, maximum as interval_maximum, hull as interval_hull, clamp as interval_clamp, widen as interval_widen, IsProper}
+use Rattle.book_model.specs.Series.{pi_at}
+use Rattle.book_model.specs.Octants.{sine_of_degrees, cosine_of_degrees, tangent_of_degrees}
 
--- what a formula computes: its arguments, numbers, and the operations of the model
+-- What a formula computes: its arguments, numbers, and the operations of the model. Angles are in degrees. The
+-- remainder of x by m, where x lies in the period of number q, is x - m q.
 pub data Expression : Type 0 where
   argument : ℕ → Expression
   integer : ℤ → Expression
@@ -15,6 +18,9 @@ pub data Expression : Type 0 where
   minimum maximum hull : Expression → Expression → Expression
   clamp : Expression → Expression
   widen : Fraction → Expression → Expression
+  pi : Expression
+  sine cosine tangent : Expression → Expression
+  remainder : ℕ → Expression → ℤ → Expression
 
 -- a depth, and what the arguments are
 pub record World : Type 0 where
@@ -43,3 +49,8 @@ value w (maximum x y) = interval_maximum (value w x) (value w y)
 value w (hull x y) = interval_hull (value w x) (value w y)
 value w (clamp x) = interval_clamp (value w x)
 value w (widen a x) = interval_widen a (value w x)
+value w pi = pi_at w.depth
+value w (sine x) = sine_of_degrees w.depth (value w x)
+value w (cosine x) = cosine_of_degrees w.depth (value w x)
+value w (tangent x) = tangent_of_degrees w.depth (value w x)
+value w (remainder m x q) = difference (value w x) (exactly (whole (pos m *ℤ q)))

@@ -57,6 +57,10 @@ place_number Ujjain = 4
 abbrev pub fact_eq : Fact → Fact → Bool
 fact_eq f g = (kind_number f.kind == kind_number g.kind) && (place_number f.place == place_number g.place) && int_eq f.day g.day
 
+-- facts, each once, and this one
+abbrev pub with_fact : List Fact → Fact → List Fact
+with_fact seen f = if list_any (fact_eq f) seen then seen else seen ++ f ∷ []
+
 -- the facts that were asked, each once with its value, and this one
 abbrev pub with_entry : List (Fact × ℤ) → Fact → ℤ → List (Fact × ℤ)
 with_entry seen f v = if list_any (λ e. fact_eq f e.0) seen then seen else seen ++ (f, v) ∷ []

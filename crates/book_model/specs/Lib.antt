@@ -15,3 +15,5 @@ pub mod Inquiries
 pub mod Outcomes
 pub mod Plain
 pub mod Text
+pub mod Series
+pub mod Octants

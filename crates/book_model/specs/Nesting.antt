@@ -1,6 +1,8 @@
 -- The law of nesting: what a run decides, a run at a greater depth with narrower arguments decides alike.
-use Rattle.std.specs.Prelude.{◌≡◌, ℕ, ◌≤◌}
-use Rattle.exact_math.specs.Interval.{◌⊆◌}
+use Rattle.std.specs.Prelude.{◌≡◌, ◌↔◌, ℕ, ◌≤◌, ℤ, pos, ◌+ℤ◌, ◌≤ℤ◌}
+use Rattle.exact_math.specs.Fraction.{Fraction, ◌≤F◌}
+use Rattle.exact_math.specs.Interval.{Interval, IsProper, ◌⊆◌}
+use Rattle.book_model.specs.Octants.{octant_edge, first_octant, last_octant}
 use Rattle.book_model.specs.declared.site.Site.{Site}
 use Rattle.book_model.specs.Expressions.{Expression, World, value}
 use Rattle.book_model.specs.Programs.{Program, run, outcome, valued, void_at, Refines}
@@ -20,3 +22,16 @@ pub record RunsNest (A : Type 0) : Type 0 where
   pub refines : (v w : World) → IsNarrower v w → (p : Program A) → Refines (run v p) (run w p)
   pub value_stays : (v w : World) → IsNarrower v w → (p : Program A) (a : A) → outcome (run w p) ≡ valued a → outcome (run v p) ≡ valued a
   pub void_stays : (v w : World) → IsNarrower v w → (p : Program A) (s : Site) → outcome (run w p) ≡ void_at s → outcome (run v p) ≡ void_at s
+
+-- an interval for each depth that lies within those for lesser depths
+pub record IsNestedByDepth (c : ℕ → Interval) : Type 0 where
+  pub within : (n m : ℕ) → n ≤ m → c m ⊆ c n
+
+-- a function that, at a depth at least as great and of an interval that lies within another, lies within what it is of that
+pub record IsNested (f : ℕ → Interval → Interval) : Type 0 where
+  pub within : (n m : ℕ) (i j : Interval) → n ≤ m → IsProper i → i ⊆ j → f m i ⊆ f n j
+
+-- the octants from the first to the last are those that have a point in common with a .. b
+pub record AreOctantsMet : Type 0 where
+  pub met : (a b : Fraction) (k : ℤ) → ((first_octant a ≤ℤ k) × (k ≤ℤ last_octant b)) ↔ ((a ≤F octant_edge (k +ℤ pos 1)) × (octant_edge k ≤F b))
+  pub some : (a b : Fraction) → a ≤F b → first_octant a ≤ℤ last_octant b

@@ -1,5 +1,5 @@
 -- Numbers at a fixed decimal scale, in which a correction is computed exactly.
-use Rattle.std.specs.Prelude.{◌≡◌, ℕ, zero, suc, ◌*◌, ◌^◌, ◌-◌, ℤ, pos, ◌*ℤ◌, List, slice_index_or}
+use Rattle.std.specs.Prelude.{ℕ, zero, suc, ◌*◌, ◌^◌, ◌-◌, ℤ, pos, List, slice_index_or}
 use Rattle.exact_math.specs.Fraction.{Fraction, ◌≈◌, whole, plus, times}
 use Rattle.exact_math.specs.Interval.{Interval, everything, between}
 use Rattle.book_model.specs.declared.frac.Frac.{Frac}

@@ -10,6 +10,7 @@ use Rattle.book_model.specs.declared.request.ToWord.TheVariants.{Dt}
 use Rattle.book_model.specs.declared.request.Fields.{Fields}
 use Rattle.book_model.specs.declared.request.Resolved.{Resolved}
 use Rattle.book_model.specs.declared.request.Resolved.TheVariants.{Shown}
+pub use Rattle.book_model.specs.Inquiries.{with_fact}
 use Rattle.book_model.specs.Inquiries.{fact_eq}
 use Rattle.book_model.specs.Lines.{words_of}
 use Rattle.book_model.specs.Names.{site_name, kind_name, place_name}
@@ -75,10 +76,6 @@ void_text number f s =
 -- end lines L facts F
 unfoldable pub end_text : ℕ → ℕ → List ℕ
 end_text lines facts = concat (codes "end lines " ∷ decimal lines ∷ codes " facts " ∷ decimal facts ∷ codes "\n" ∷ [])
-
--- the facts printed so far, and this one
-abbrev pub with_fact : List Fact → Fact → List Fact
-with_fact seen f = if list_any (fact_eq f) seen then seen else seen ++ f ∷ []
 
 -- the facts printed so far, and these
 abbrev pub with_facts : List Fact → List (Fact × ℤ) → List Fact

@@ -2,7 +2,9 @@
 ghost use Rattle.std.specs.Prelude.{◌≡◌, ◌↔◌, ℤ, ℕ, Bool};
 ghost use Rattle.exact_math.specs.Fraction.{Fraction};
 ghost use Rattle.book_model.specs.Expressions.{Expression};
-ghost use Rattle.book_model.specs.Nesting.{ValuesNest, RunsNest};
+ghost use Rattle.book_model.specs.Series.{pi_at};
+ghost use Rattle.book_model.specs.Octants.{sine_of_degrees, cosine_of_degrees, tangent_of_degrees};
+ghost use Rattle.book_model.specs.Nesting.{ValuesNest, RunsNest, IsNested, IsNestedByDepth, AreOctantsMet};
 ghost use Rattle.book_model.specs.Calendar.{year_of_day, IsYearOfDay};
 ghost use Rattle.book_model.specs.Programs.{Grid, CellsCut};
 
@@ -25,4 +27,20 @@ pub fn years_of_days()
 #[tactic(auto, using(crate::proofs::Cells::cells_cut))]
 pub fn cells()
     ensures { (g : Grid) → CellsCut g }
+{}
+
+/// Nesting of the series: at a greater depth, and of a narrower interval of degrees, sine, cosine and tangent lie
+/// within what they are here; and so does pi.
+#[tactic(auto, using(crate::proofs::DegreeSines::sine_nests, crate::proofs::DegreeSines::cosine_nests, crate::proofs::DegreeSines::tangent_nests, crate::proofs::DegreeSines::pi_nests))]
+pub fn series()
+    ensures sine { IsNested sine_of_degrees }
+    ensures cosine { IsNested cosine_of_degrees }
+    ensures tangent { IsNested tangent_of_degrees }
+    ensures pi { IsNestedByDepth pi_at }
+{}
+
+/// The octants over which a sine is a hull are those that the interval meets, and there is one.
+#[tactic(auto, using(crate::proofs::DegreeSines::octants_met))]
+pub fn octants()
+    ensures { AreOctantsMet }
 {}

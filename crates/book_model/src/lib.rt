@@ -18,4 +18,7 @@ pub use fail::{Fail, Undecided};
 pub use frac::Frac;
 pub use request::{Fields, FromWord, Request, Resolved, Rule, ToWord};
 pub use site::Site;
-pub use tables::{CORRECTION_1987, CORRECTION_2006, HALF, MILLISECONDS_OF_DAY, SECOND};
+pub use tables::{
+    CORRECTION_1987, CORRECTION_2006, COSINE_RATIOS, DEGREE, HALF, MILLISECONDS_OF_DAY, PI_ABOVE,
+    PI_BELOW, SECOND, SINE_RATIOS,
+};

@@ -1,10 +1,10 @@
 -- From the operations on intervals and bounds to those on expressions.
-use Rattle.std.proofs.Common.{◌≡◌, ℕ, ◌≤◌, ℤ, refl}
+use Rattle.std.proofs.Common.{◌≡◌, ℕ, ◌≤◌, ℤ, pos, ◌*ℤ◌, refl}
 use Rattle.exact_math.specs.Fraction.{Fraction, whole}
-use Rattle.exact_math.specs.Interval.{Interval, between, ◌⊆◌, sum, difference, negative, product, minimum as interval_minimum, maximum as interval_maximum, hull as interval_hull, widen as interval_widen}
+use Rattle.exact_math.specs.Interval.{Interval, between, ◌⊆◌, sum, difference, negative, product, minimum as interval_minimum, maximum as interval_maximum, hull as interval_hull, widen as interval_widen, quotient, power as interval_power}
 use Rattle.exact_math.proofs.Fractions.{le_refl}
-use Rattle.exact_math.proofs.Intervals.{within_refl, within_trans, sum_within, difference_within, negative_within, product_within, minimum_within, maximum_within, hull_within, widen_within}
-use Rattle.book_model.specs.Expressions.{Expression, World, value, integer, constant, add, subtract, multiply, negate, scale, minimum, maximum, hull, widen}
+use Rattle.exact_math.proofs.Intervals.{within_refl, within_trans, sum_within, difference_within, negative_within, product_within, minimum_within, maximum_within, hull_within, widen_within, quotient_within, power_within}
+use Rattle.book_model.specs.Expressions.{Expression, World, value, integer, constant, add, subtract, multiply, negate, scale, minimum, maximum, hull, widen, divide, power, remainder}
 use Rattle.book_model.specs.Bounds.{Bound, unbounded, Limits, Reach, IsNarrow, bound_of, integer_bound, constant_bound, sum_bound, scaled_bound, limits_of, limits_36}
 use Rattle.book_model.proofs.Values.{value_proper}
 use Rattle.book_model.specs.Relations.{Within, Narrow, Lies, Keeps}
@@ -76,6 +76,19 @@ unfolding Lies value
 -- an enclosure of the widening
 within_widen shown w f x i k h p = let a : value w x ⊆ shown i = p.inside in record { deep = p.deep; inside = within_trans (widen_within f a) h }
 
+pub within_divide : {E : Type 0} (shown : E → Interval) (w : World) (x y : Expression) (i j k : E) → quotient (shown i) (shown j) ⊆ shown k → Within shown w x i → Within shown w y j → Within shown w (divide x y) k
+unfolding Lies value
+within_divide shown w x y i j k h p q = let a : value w x ⊆ shown i = p.inside in let b : value w y ⊆ shown j = q.inside in record { deep = p.deep; inside = within_trans (quotient_within (value_proper w x) (value_proper w y) a b) h }
+
+pub within_power : {E : Type 0} (shown : E → Interval) (w : World) (x : Expression) (n : ℕ) (i k : E) → interval_power (shown i) n ⊆ shown k → Within shown w x i → Within shown w (power x n) k
+unfolding Lies value
+within_power shown w x n i k h p = let a : value w x ⊆ shown i = p.inside in record { deep = p.deep; inside = within_trans (power_within n (value_proper w x) a) h }
+
+pub within_remainder : {E : Type 0} (shown : E → Interval) (w : World) (m : ℕ) (x : Expression) (q : ℤ) (i k : E) → difference (shown i) (between (whole (pos m *ℤ q)) (whole (pos m *ℤ q))) ⊆ shown k → Within shown w x i
+    → Within shown w (remainder m x q) k
+unfolding Lies value
+within_remainder shown w m x q i k h p = let a : value w x ⊆ shown i = p.inside in record { deep = p.deep; inside = within_trans (difference_within a (within_refl (between (whole (pos m *ℤ q)) (whole (pos m *ℤ q))))) h }
+
 -- ---- the bound that an enclosure keeps
 -- the bound of a whole number
 pub narrow_integer : {E : Type 0} (shown : E → Interval) (r : Reach) (n : ℤ) (k : E) → ((w : ℕ) → IsNarrow w (integer_bound limits_36 n) (shown k)) → Narrow shown (limits_of 36) r (integer n) k
@@ -143,3 +156,15 @@ narrow_negate shown l r x k = narrow_unbounded shown l r (negate x) k refl
 pub narrow_widen : {E : Type 0} (shown : E → Interval) (l : Limits) (r : Reach) (f : Fraction) (x : Expression) (k : E) → Narrow shown l r (widen f x) k
 unfolding bound_of
 narrow_widen shown l r f x k = narrow_unbounded shown l r (widen f x) k refl
+
+pub narrow_divide : {E : Type 0} (shown : E → Interval) (l : Limits) (r : Reach) (x y : Expression) (k : E) → Narrow shown l r (divide x y) k
+unfolding bound_of
+narrow_divide shown l r x y k = narrow_unbounded shown l r (divide x y) k refl
+
+pub narrow_power : {E : Type 0} (shown : E → Interval) (l : Limits) (r : Reach) (x : Expression) (n : ℕ) (k : E) → Narrow shown l r (power x n) k
+unfolding bound_of
+narrow_power shown l r x n k = narrow_unbounded shown l r (power x n) k refl
+
+pub narrow_remainder : {E : Type 0} (shown : E → Interval) (l : Limits) (r : Reach) (m : ℕ) (x : Expression) (q : ℤ) (k : E) → Narrow shown l r (remainder m x q) k
+unfolding bound_of
+narrow_remainder shown l r m x q k = narrow_unbounded shown l r (remainder m x q) k refl

@@ -6,3 +6,6 @@ pub mod Best
 pub mod Scaling
 pub mod Testing
 pub mod Knowing
+pub mod Divisions
+pub mod Periods
+pub mod PiEnds

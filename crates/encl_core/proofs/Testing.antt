@@ -20,11 +20,11 @@ pub ends_everything : AreEnds (negsuc (2 ^ 127 - 1)) (pos (2 ^ 127 - 1)) everyth
 ends_everything = no_bounds (record { least = refl; greatest = refl })
 
 -- the test of two equal numbers, and of two that differ
-eq_yes : (p q : ℤ) → p ≡ q → int_eq p q ≡ true
+pub eq_yes : (p q : ℤ) → p ≡ q → int_eq p q ≡ true
 eq_yes p q e = (Decides-int_eq p q).1 e
 
 -- the test of two numbers that differ
-eq_no : (p q : ℤ) → (p ≡ q → ⊥) → int_eq p q ≡ false
+pub eq_no : (p q : ℤ) → (p ≡ q → ⊥) → int_eq p q ≡ false
 eq_no p q n = by_test _ refl
   where
     by_test : (t : Bool) → int_eq p q ≡ t → int_eq p q ≡ false

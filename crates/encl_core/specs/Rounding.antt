@@ -1,5 +1,5 @@
 -- Rounded quotients, the lesser and the greater, and ends that fit in 64 bits, over plain numbers.
-use Rattle.std.specs.Prelude.{◌-◌, ◌^◌, ℤ, pos, ◌+ℤ◌, ◌*ℤ◌, ◌≤ℤ◌, ◌<ℤ◌, ◌+◌, unsigned_abs, FitsSigned}
+use Rattle.std.specs.Prelude.{cond, int_le, ◌⊎◌, ◌-◌, ◌^◌, ℤ, pos, ◌+ℤ◌, ◌*ℤ◌, ◌≤ℤ◌, ◌<ℤ◌, ◌+◌, unsigned_abs, FitsSigned}
 use Rattle.std.specs.Int.{w64}
 use Rattle.exact_math.specs.Fraction.{Fraction}
 use Rattle.exact_math.specs.Interval.{Interval, everything, between, ◌⊆◌}
@@ -61,3 +61,11 @@ pub data Keeps64 (lo hi : ℤ) : Interval → Type 0 where
 -- the second is the smallest that 64 bits can say of the first: it lies between all ends that hold the first
 pub record IsBest (i j : Interval) : Type 0 where
   pub best : (lo hi : ℤ) → FitsSigned w64 lo → FitsSigned w64 hi → i ⊆ between (at_36 lo) (at_36 hi) → j ⊆ between (at_36 lo) (at_36 hi)
+
+-- both numbers are above 0, or both below
+abbrev pub IsOneSided : ℤ → ℤ → Type 0
+IsOneSided c d = ((pos 0 <ℤ c) × (pos 0 <ℤ d)) ⊎ ((c <ℤ pos 0) × (d <ℤ pos 0))
+
+-- the least square of a number from lo to hi
+abbrev pub least_square_of : ℤ → ℤ → ℤ
+least_square_of lo hi = cond (int_le (pos 0) lo) (lo *ℤ lo) (cond (int_le hi (pos 0)) (hi *ℤ hi) (pos 0))

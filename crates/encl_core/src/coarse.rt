@@ -2,12 +2,14 @@
 ghost use Rattle.encl_core.specs.Shown.{shown_coarse};
 
 use crate::comparing::{cell_of_ends, open_at, order_of_ends};
+use crate::dividing::{div_ends, square_ends};
 use crate::ends::Ends;
 use crate::operations::{
     add_ends, frac_ends, hull_ends, int_ends, max_ends, min_ends, mul_ends, neg_ends, scale_ends,
     sub_ends, widen_ends,
 };
-use crate::{Enclosure, Trail};
+use crate::wrapping::{lower_ends, period_of_ends, span_of};
+use crate::{Enclosure, Span, Trail};
 use book_model::{Frac, Site, Undecided};
 
 /// An enclosure by two ends in 64 bits that count 2⁻³⁶, rounded outwards; every number, where an end doesn't fit.
@@ -97,6 +99,22 @@ impl Enclosure for Coarse {
         }
     }
 
+    fn div(self, other: Self) -> Self {
+        Coarse {
+            ends: div_ends(self.ends, other.ends),
+        }
+    }
+
+    fn square(self) -> Self {
+        Coarse {
+            ends: square_ends(self.ends),
+        }
+    }
+
+    fn span(self) -> Option<Span> {
+        span_of(self.ends)
+    }
+
     fn less(self, other: Self, site: Site, trail: &mut Trail) -> Result<bool, Undecided> {
         let turn = trail.step();
         match order_of_ends(self.ends, other.ends) {
@@ -109,6 +127,16 @@ impl Enclosure for Coarse {
         let turn = trail.step();
         match cell_of_ends(self.ends) {
             Some(cell) => Ok(cell),
+            None => Err(open_at(self.ends, site, turn)),
+        }
+    }
+
+    fn wrap(self, modulus: u32, site: Site, trail: &mut Trail) -> Result<Self, Undecided> {
+        let turn = trail.step();
+        match period_of_ends(self.ends, modulus) {
+            Some(period) => Ok(Coarse {
+                ends: lower_ends(self.ends, modulus, period),
+            }),
             None => Err(open_at(self.ends, site, turn)),
         }
     }

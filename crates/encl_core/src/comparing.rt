@@ -9,7 +9,7 @@ use crate::ends::Ends;
 use book_model::{Site, Undecided};
 
 /// The greatest whole number that is not above a number that counts 2⁻³⁶.
-fn floor_of(end: i64) -> i64
+pub(crate) fn floor_of(end: i64) -> i64
     ensures value { result ≡ floor_quotient end (2 ^ 36 - 1) }
 {
     end >> 36

@@ -1,14 +1,14 @@
 //! The trait of all kinds of enclosures.
-ghost use Rattle.std.specs.Prelude.{◌≡◌, ℕ, ℤ, ◌≤◌, Some, IfOk, IfErr};
-ghost use Rattle.exact_math.specs.Interval.{Interval, everything};
+ghost use Rattle.std.specs.Prelude.{◌≡◌, ◌<◌, ℕ, ℤ, ◌≤◌, Some, IfOk, IfErr, IfSome, IsSome, IsNone};
+ghost use Rattle.exact_math.specs.Interval.{Interval, everything, between, ◌⊆◌};
 ghost use Rattle.book_model.specs.Fractions.{fraction_of};
-ghost use Rattle.book_model.specs.Expressions.{Expression, World, integer, constant, add as add_of, subtract, multiply, negate, scale, minimum, maximum, hull as hull_of, widen as widen_of};
+ghost use Rattle.book_model.specs.Expressions.{Expression, World, integer, constant, add as add_of, subtract, multiply, negate, scale, minimum, maximum, hull as hull_of, widen as widen_of, divide, power, remainder};
 ghost use Rattle.book_model.specs.Bounds.{Reach, limits_of};
 ghost use Rattle.book_model.specs.Relations.{Within, Narrow};
-ghost use Rattle.book_model.specs.Programs.{integers, cell_at, compare_at};
-ghost use Rattle.book_model.specs.Leading.{IsOpenCell, IsOpenComparison, next_turn};
+ghost use Rattle.book_model.specs.Programs.{integers, multiples, cell_at, compare_at};
+ghost use Rattle.book_model.specs.Leading.{at_56, IsOpenCell, IsOpenComparison, next_turn};
 
-use crate::Trail;
+use crate::{Span, Trail};
 use book_model::{Frac, Site, Undecided};
 
 /// What the code knows of a number: that it lies in the interval that an enclosure shows.
@@ -92,6 +92,22 @@ pub trait Enclosure: Copy + Drop {
         ensures holds { (w : World) (x : Expression) → Within shown w x self → Within shown w (scale (fraction_of by) x) result }
         ensures narrow { (r : Reach) (x : Expression) → Narrow shown (limits_of BITS) r x self → Narrow shown (limits_of BITS) r (scale (fraction_of by) x) result };
 
+    /// The quotients of the members; every number, where the divisor may be 0.
+    fn div(self, other: Self) -> Self
+        ensures holds { (w : World) (x y : Expression) → Within shown w x self → Within shown w y other → Within shown w (divide x y) result }
+        ensures narrow { (r : Reach) (x y : Expression) → Narrow shown (limits_of BITS) r x self → Narrow shown (limits_of BITS) r y other → Narrow shown (limits_of BITS) r (divide x y) result };
+
+    /// The squares of the members.
+    fn square(self) -> Self
+        ensures holds { (w : World) (x : Expression) → Within shown w x self → Within shown w (power x 2) result }
+        ensures narrow { (r : Reach) (x : Expression) → Narrow shown (limits_of BITS) r x self → Narrow shown (limits_of BITS) r (power x 2) result };
+
+    /// The ends, at one scale for every kind; `None` for every number.
+    fn span(self) -> Option<Span>
+        ensures holds { IfSome result (λ s. shown self ⊆ between (at_56 s.lo) (at_56 s.hi)) }
+        ensures tight { IfSome result (λ s. between (at_56 s.lo) (at_56 s.hi) ⊆ shown self) }
+        ensures none { IsNone result → shown self ≡ everything };
+
     /// Whether each member is below each of the other, where that is so of all or of none. The test counts in the
     /// trail. `Undecided` comes exactly where it is so of some.
     fn less(self, other: Self, site: Site, trail: &mut Trail) -> Result<bool, Undecided>
@@ -105,6 +121,17 @@ pub trait Enclosure: Copy + Drop {
     fn floor(self, site: Site, trail: &mut Trail) -> Result<i64, Undecided>
         ensures decided { IfOk result (λ q. cell_at integers (shown self) ≡ Some q) }
         ensures undecided { IfErr result (λ u. IsOpenCell integers (shown self) u.lo u.hi) }
+        ensures named { IfErr result (λ u. (u.site ≡ site) × (u.turn ≡ next_turn trail.old.count)) }
+        ensures counted { trail.new.count ≡ next_turn trail.old.count };
+
+    /// What the members are above the greatest multiple of the modulus that is not above them, where that is the
+    /// same for all. The test counts in the trail. `Undecided` comes exactly where it isn't.
+    fn wrap(self, modulus: u32, site: Site, trail: &mut Trail) -> Result<Self, Undecided>
+        requires { 0 < modulus }
+        ensures decided { IfOk result (λ y. IsSome (cell_at (multiples modulus) (shown self))) }
+        ensures holds { IfOk result (λ y. (q : ℤ) (w : World) (x : Expression) → cell_at (multiples modulus) (shown self) ≡ Some q → Within shown w x self → Within shown w (remainder modulus x q) y) }
+        ensures narrow { IfOk result (λ y. (q : ℤ) (r : Reach) (x : Expression) → Narrow shown (limits_of BITS) r x self → Narrow shown (limits_of BITS) r (remainder modulus x q) y) }
+        ensures undecided { IfErr result (λ u. IsOpenCell (multiples modulus) (shown self) u.lo u.hi) }
         ensures named { IfErr result (λ u. (u.site ≡ site) × (u.turn ≡ next_turn trail.old.count)) }
         ensures counted { trail.new.count ≡ next_turn trail.old.count };
 }

@@ -9,17 +9,23 @@
 //! - `floor_step` and `less_step`: the tests as steps of a formula's program.
 #![tactic(auto)]
 
+mod circle;
 mod coarse;
 mod comparing;
+mod dividing;
 mod enclosure;
 mod ends;
 mod operations;
 mod rounding;
+mod span;
 mod steps;
 mod trail;
+mod wrapping;
 
+pub use circle::pi;
 pub use coarse::Coarse;
 pub use enclosure::Enclosure;
+pub use span::Span;
 pub use steps::{floor_step, less_step};
 pub use trail::Trail;
 

@@ -87,7 +87,7 @@ pub(crate) fn neg_ends(x: Option<Ends>) -> Option<Ends>
 }
 
 /// The product of two ends.
-fn product_of(a: i64, b: i64) -> i128
+pub(crate) fn product_of(a: i64, b: i64) -> i128
     ensures value { result ≡ a *ℤ b }
     ensures room { neg_ℤ (pos (2 ^ 126)) ≤ℤ result }
 {

@@ -2,7 +2,7 @@
 //! enclosures, which knows nothing, at another scale.
 ghost use Rattle.encl_core.specs.Shown.{shown_unknown};
 
-use crate::{Coarse, Enclosure, Trail, floor_step, less_step};
+use crate::{Coarse, Enclosure, Span, Trail, floor_step, less_step};
 use book_model::{Frac, Site, Undecided};
 use std::test::Fail;
 
@@ -69,6 +69,18 @@ impl Enclosure for Unknown {
         self
     }
 
+    fn div(self, _other: Self) -> Self {
+        self
+    }
+
+    fn square(self) -> Self {
+        self
+    }
+
+    fn span(self) -> Option<Span> {
+        None
+    }
+
     fn less(self, _other: Self, site: Site, trail: &mut Trail) -> Result<bool, Undecided> {
         Err(Undecided {
             turn: trail.step(),
@@ -79,6 +91,15 @@ impl Enclosure for Unknown {
     }
 
     fn floor(self, site: Site, trail: &mut Trail) -> Result<i64, Undecided> {
+        Err(Undecided {
+            turn: trail.step(),
+            site,
+            lo: i128::MIN,
+            hi: i128::MAX,
+        })
+    }
+
+    fn wrap(self, _modulus: u32, site: Site, trail: &mut Trail) -> Result<Self, Undecided> {
         Err(Undecided {
             turn: trail.step(),
             site,

@@ -3,7 +3,8 @@ use Rattle.std.specs.Prelude.{ℕ, ℤ, pos, negsuc, ◌+◌, ◌*◌, ◌/◌, 
 use Rattle.std.proofs.Common.{suc, arith, ◌⊎◌, inl, inr}
 use Rattle.std.proofs.lemmas.Int.{ints}
 use Rattle.std.proofs.Math.Nat.{mul-le-mul_left}
-use Rattle.exact_math.specs.Fraction.{Fraction, ◌≤F◌, floor_quotient, floor}
+use Rattle.exact_math.proofs.IntLaws.{add_mul}
+use Rattle.exact_math.specs.Fraction.{Fraction, ◌≤F◌, ◌<F◌, whole, floor_quotient, floor}
 
 -- quotients keep the order of fractions
 quotient_mono : (a b d e : ℕ) → a * suc e ≤ b * suc d → a / suc d ≤ b / suc e
@@ -59,3 +60,13 @@ nat_floor n d = (omega arith, omega arith)
 pub floor_quotient_is : (n : ℤ) (d : ℕ) → IsFloorQuotient (floor_quotient n d) n d
 floor_quotient_is (pos n) d = let w = nat_floor n d in record { not_above = omega (arith, ints, w.0, w.1); close = omega (arith, ints, w.0, w.1) }
 floor_quotient_is (negsuc n) d = let w = nat_floor n d in record { not_above = omega (arith, ints, w.0, w.1); close = omega (arith, ints, w.0, w.1) }
+
+-- the floor of a fraction is at most it, and more than 1 less is not
+pub floor_below : (a : Fraction) → whole (floor a) ≤F a
+floor_below a = let h = floor_quotient_is a.num a.below in record { cross = omega (arith, ints, h.not_above) }
+
+close_z : (n q : ℤ) (d : ℕ) → n <ℤ (q *ℤ pos (suc d) +ℤ pos (suc d)) → (n *ℤ pos 1) <ℤ ((q +ℤ pos 1) *ℤ pos (suc d))
+close_z n q d h = rw (add_mul q (pos 1) (pos (suc d))) (omega (arith, ints, h))
+
+pub floor_close : (a : Fraction) → a <F whole (floor a +ℤ pos 1)
+floor_close a = record { strict = close_z a.num (floor a) a.below (floor_quotient_is a.num a.below).close }

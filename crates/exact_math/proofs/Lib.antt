@@ -8,3 +8,8 @@ pub mod Same
 pub mod FractionRing
 pub mod Certificates
 pub mod Floors
+pub mod Alternating
+pub mod Ratios
+pub mod Horner
+pub mod Hulls
+pub mod Narrowing

@@ -1,22 +1,22 @@
 -- The answer that an evaluation gives is right for its fact.
-use Rattle.std.specs.Prelude.{◌≡◌, ℕ, ◌≤◌, ◌⊎◌, ℤ, pos, ◌≤ℤ◌, ◌<ℤ◌, Bool, true, false, Result, Ok, Err, IfOk, IfErr, refl}
-use Rattle.std.proofs.Common.{arith, sym, ◌∙◌}
-use Rattle.std.proofs.lemmas.Int.{ints}
+use Rattle.std.specs.Prelude.{◌≡◌, ℕ, ◌≤◌, ℤ, pos, ◌≤ℤ◌, ◌<ℤ◌, Result, Ok, Err, IfOk, IfErr, refl}
+use Rattle.std.proofs.Common.{◌∙◌}
 use Rattle.book_model.specs.declared.fact.Fact.{Fact}
 use Rattle.book_model.specs.declared.fact.Kind.{Kind}
 use Rattle.book_model.specs.declared.fact.Kind.TheVariants.{Dt}
 use Rattle.book_model.specs.declared.fact.Place.{Place}
-use Rattle.book_model.specs.declared.site.Site.TheVariants.{Round, Year}
+use Rattle.book_model.specs.declared.site.Site.TheVariants.{Year}
 use Rattle.book_model.specs.declared.fail.Fail.{Fail}
 use Rattle.book_model.specs.declared.fail.Fail.TheVariants.{Undecided as undecided_at, Void}
 use Rattle.book_model.specs.Correction.{is_between, dt_of}
 use Rattle.book_model.specs.Expressions.{World}
 use Rattle.book_model.specs.Facts.{program_of, formula_of}
 use Rattle.book_model.specs.Leading.{Exact, Leads}
-use Rattle.book_model.specs.Programs.{Program, void, AtMost, void_at_most}
+use Rattle.book_model.specs.Programs.{void, AtMost, void_at_most}
 use Rattle.book_model.proofs.Corrections.{dt_few, few_of_two, between_yes, above_no, below_no}
 use Rattle.book_model.proofs.Evaluations.{true_of_leads, void_of_leads, near_of_leads}
-use Rattle.fact_eval.specs.Answers.{IsRightAnswer, answer_of}
+use Rattle.oracle_core.specs.Answers.{IsRightAnswer}
+use Rattle.fact_eval.specs.Answers.{answer_of}
 use Rattle.fact_eval.specs.Widths.{IsFactValue, IsNearRound}
 
 formula_few : (k : Kind) (p : Place) (d : ℤ) → AtMost 99999 (formula_of k p d)

@@ -1,26 +1,24 @@
 -- The bound of a correction that is about to be rounded, computed for each year, and what it says of an open test
 -- and of a value.
-use Rattle.std.specs.Prelude.{◌≡◌, ℕ, zero, suc, ◌+◌, ◌-◌, ◌*◌, ◌^◌, ◌≤◌, ◌<◌, ℤ, pos, negsuc, ◌+ℤ◌, ◌-ℤ◌, ◌*ℤ◌, ◌≤ℤ◌, ◌<ℤ◌, Bool, true, false, ◌&&◌, Option, Some, None, FitsSigned, refl}
-use Rattle.std.proofs.Common.{arith, sym, ap, subst, ◌∙◌, ◌⊎◌, inl, inr}
+use Rattle.std.specs.Prelude.{◌≡◌, ℕ, zero, suc, ◌-◌, ◌*◌, ◌^◌, ℤ, pos, negsuc, ◌+ℤ◌, ◌-ℤ◌, ◌≤ℤ◌, ◌<ℤ◌, Bool, true, false, ◌&&◌, Some, FitsSigned, refl}
+use Rattle.std.proofs.Common.{arith, subst, ◌⊎◌, inl, inr}
 use Rattle.book_model.proofs.Implying.{settled}
 use Rattle.std.proofs.lemmas.Int.{ints, by_lt_z}
 use Rattle.std.specs.Int.{w64}
-use Rattle.std.specs.Int.Signed.{le_z, le_z_yes}
-use Rattle.exact_math.specs.Fraction.{Fraction, den, ◌≤F◌, ◌≈◌, plus, floor, floor_quotient}
+use Rattle.exact_math.specs.Fraction.{Fraction, ◌≤F◌, ◌≈◌, plus, floor}
 use Rattle.exact_math.specs.Interval.{Interval, everything, between}
 use Rattle.exact_math.proofs.Fractions.{le_trans, le_refl, plus_mono}
 use Rattle.exact_math.proofs.Floors.{floor_mono}
 use Rattle.exact_math.proofs.Same.{le_of_same, ge_of_same}
-use Rattle.book_model.specs.declared.fail.Undecided.{Undecided}
 use Rattle.book_model.specs.declared.fail.Fail.{Fail}
 use Rattle.book_model.specs.declared.fail.Fail.TheVariants.{Undecided as undecided_at, Void}
 use Rattle.book_model.specs.declared.site.Site.TheVariants.{Round, Year}
 use Rattle.encl_core.specs.Steps.{IsOpenFloor}
-use Rattle.book_model.specs.Bounds.{Bound, unbounded, bounded, Limits, Reach, IsNarrow, Spans, breadth, at_32, bound_of, implies, integer_bound, constant_bound, sum_bound, scaled_bound, limits_of, limits_36}
+use Rattle.book_model.specs.Bounds.{Bound, unbounded, bounded, Reach, IsNarrow, breadth, at_32, bound_of, implies, integer_bound, constant_bound, sum_bound, scaled_bound, limits_of, limits_36}
 use Rattle.book_model.specs.Correction.{int_power, polynomial_to, polynomial_of, seconds_of}
-use Rattle.book_model.specs.Leading.{at_56, AreNoBounds, AreEnds, bounds, no_bounds, IsOpenCell, between_cells, too_far}
+use Rattle.book_model.specs.Leading.{at_56, bounds, IsOpenCell, between_cells, too_far}
 use Rattle.book_model.specs.Programs.{integers, cell_at, cell_of, when}
-use Rattle.book_model.specs.Relations.{Narrow, Keeps}
+use Rattle.book_model.specs.Relations.{Narrow}
 use Rattle.fact_eval.specs.Widths.{correction_expression, rounded_expression, IsFactValue, IsNearRound}
 
 -- no argument is promised anything

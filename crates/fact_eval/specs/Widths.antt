@@ -1,5 +1,5 @@
 -- The expression of a correction, and the bounds that it keeps.
-use Rattle.std.specs.Prelude.{◌≡◌, ◌^◌, ℕ, ℤ, pos, negsuc, ◌-ℤ◌, ◌≤ℤ◌, if◌then◌else◌}
+use Rattle.std.specs.Prelude.{◌≡◌, ◌^◌, ℤ, pos, ◌-ℤ◌, ◌≤ℤ◌, if◌then◌else◌}
 use Rattle.book_model.specs.declared.site.Site.TheVariants.{Round}
 use Rattle.book_model.specs.declared.fail.Fail.{Fail}
 use Rattle.book_model.specs.declared.fail.Fail.TheVariants.{Undecided, Void}
@@ -7,6 +7,7 @@ use Rattle.book_model.specs.declared.tables.TheConstants.{CORRECTION_1987, CORRE
 use Rattle.book_model.specs.Correction.{is_between, seconds_of}
 use Rattle.book_model.specs.Expressions.{Expression, constant, add, scale}
 use Rattle.book_model.specs.Fractions.{fraction_of}
+pub use Rattle.oracle_core.specs.Answers.{IsFactValue}
 
 -- the correction of a year of either table
 unfoldable pub correction_expression : ℤ → Expression
@@ -15,10 +16,6 @@ correction_expression y = if is_between (pos 1987) (pos 2005) y then seconds_of 
 -- what is rounded: the correction in milliseconds, and a half
 unfoldable pub rounded_expression : ℤ → Expression
 rounded_expression y = add (scale (fraction_of MILLISECONDS_OF_DAY) (correction_expression y)) (constant (fraction_of HALF))
-
--- a value that an answer may have
-abbrev pub IsFactValue : ℤ → Type 0
-IsFactValue v = (negsuc 9999999 ≤ℤ v) × (v ≤ℤ pos 10000000)
 
 -- an open test is that of the rounding, with ends at most 2^-6 apart
 abbrev pub IsNearRound : Fail → Type 0

@@ -1,13 +1,11 @@
-//! Answers facts: the evaluator's contract, and an evaluator that computes enclosures.
+//! Answers facts by computing enclosures of their formulas.
 #![tactic(auto)]
 
 mod correction;
 mod dt;
-mod evaluator;
 mod staged;
 #[cfg(test)]
 mod tests;
 mod year;
 
-pub use evaluator::{Answer, Evaluator};
 pub use staged::Staged;

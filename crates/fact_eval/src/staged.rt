@@ -7,9 +7,9 @@ ghost use Rattle.fact_eval.specs.Answers.{answer_of};
 ghost use Rattle.fact_eval.specs.Widths.{IsNearRound, IsFactValue};
 
 use crate::dt::dt;
-use crate::{Answer, Evaluator};
 use book_model::{Fact, Fail, Kind, Site};
 use encl_core::{Coarse, Enclosure, Trail};
+use oracle_core::{Answer, Evaluator};
 
 /// The first and the last day of which a fact may have a value (R.D.): 1 July 1800 and 31 December 2049.
 const FIRST_DAY: i64 = 657_253;

@@ -1,6 +1,7 @@
 //! The evaluator against an independent implementation of the formulas.
 use super::*;
 use book_model::{Fact, Kind, Place, Site};
+use oracle_core::{Answer, Evaluator};
 use std::test::Fail;
 
 #[test]

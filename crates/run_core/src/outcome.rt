@@ -7,7 +7,7 @@ ghost use Rattle.run_core.specs.Outcomes.{line_outcome};
 use crate::day::request_day;
 use crate::line::read_line;
 use book_model::{Fact, Fields, Kind, Place, Request, Resolved, Rule, Site, Undecided};
-use fact_eval::{Answer, Evaluator};
+use oracle_core::{Answer, Evaluator};
 use std::alloc::{AllocError, Global};
 
 /// What comes of a line: it breaks a rule; it has a result, which rests on a fact with its value; or the fact that

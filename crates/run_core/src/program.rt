@@ -14,7 +14,7 @@ use crate::outcome::{Outcome, outcomes_of};
 use crate::status::Status;
 use crate::stream::{ReadStop, Sink, Source, read_all, write_all};
 use crate::text::write_text;
-use fact_eval::Evaluator;
+use oracle_core::Evaluator;
 use std::alloc::Global;
 use std::thread::Threads;
 

@@ -70,3 +70,6 @@ impl<T: Write + Drop> Sink for StdSink<T> {
         }
     }
 }
+
+#[cfg(test)]
+mod tests;

@@ -151,19 +151,6 @@ fn a_sink_in_memory_keeps_its_room(rt: HostRuntime) -> Result<(), Fail> {
 }
 
 #[test]
-fn readers_and_writers_are_sources_and_sinks(rt: HostRuntime) -> Result<(), Fail> {
-    let alloc = rt.alloc();
-    let mut source = StdSource::new(b"12345".as_slice());
-    assert_eq!(rt;
-        read_all(alloc, &mut source, 9)?.as_slice(),
-        b"12345".as_slice()
-    );
-    let mut sink = StdSink::new(std::io::sink());
-    assert_eq!(rt; write_all(&mut sink, b"12345"), Ok(()));
-    Ok(())
-}
-
-#[test]
 fn lines_end_with_line_feeds(rt: HostRuntime) -> Result<(), Fail> {
     let alloc = rt.alloc();
     let lines = split_lines(alloc, b"a\r\n\n\r\r\nb\rc\nd\r")?;

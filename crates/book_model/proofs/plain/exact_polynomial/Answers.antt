@@ -1,4 +1,4 @@
-use Rattle.std.proofs.Common.{rules, arith, refl, ap, ◌∙◌, ◌≡◌, ◌*ℤ◌, SFits, w64}
+use Rattle.std.proofs.Common.{rules, refl, ap, ◌∙◌, ◌*ℤ◌, SFits, w64}
 use Rattle.std.specs.Int.{w128}
 use Rattle.std.proofs.lemmas.Int.{to_z-of_z}
 use Rattle.book_model.proofs.Exactly.{decimal_zero, decimals_more, exact_none, exact_more}

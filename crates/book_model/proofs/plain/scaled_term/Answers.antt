@@ -1,5 +1,4 @@
-use Rattle.std.proofs.Common.{rules, arith, ◌≡◌, ◌-◌, ◌*ℤ◌, pos, SFits, w64}
-use Rattle.std.specs.Int.{w128}
+use Rattle.std.proofs.Common.{arith, ◌≡◌, ◌-◌, ◌*ℤ◌, pos}
 use Rattle.std.proofs.lemmas.Int.{to_z-of_z}
 use Rattle.book_model.proofs.Exactly.{term_is, checked_holds}
 use Rattle.book_model.proofs.plain.scaled_term.Goals as goal

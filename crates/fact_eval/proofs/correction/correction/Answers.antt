@@ -1,4 +1,4 @@
-use Rattle.std.proofs.Common.{SFits, w64, ◌≡◌, ◌≤◌, ℤ, pos, arith, ◌≤ℤ◌, ◌<ℤ◌}
+use Rattle.std.proofs.Common.{SFits, w64, pos, arith, ◌≤ℤ◌, ◌<ℤ◌}
 use Rattle.std.proofs.lemmas.Int.{ints, to_z-of_z}
 use Rattle.book_model.proofs.Corrections.{correction_early, correction_late, correction_before, correction_after, between_yes, above_no}
 use Rattle.book_model.proofs.Leads.{leads_answer, leads_void}

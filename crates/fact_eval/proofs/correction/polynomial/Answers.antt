@@ -1,8 +1,5 @@
-use Rattle.std.proofs.Common.{◌≡◌, ◌≤◌, arith, ap, ◌*ℤ◌, SFits, w64, to_z, get_or}
-use Rattle.std.proofs.lemmas.Int.{ints, to_z-of_z}
-use Rattle.book_model.specs.Bounds.{Reach}
-use Rattle.book_model.specs.Correction.{int_power, no_fraction}
-use Rattle.book_model.specs.Expressions.{World}
+use Rattle.std.proofs.Common.{◌≤◌, arith, ap, ◌*ℤ◌, SFits, w64, to_z}
+use Rattle.std.proofs.lemmas.Int.{to_z-of_z}
 use Rattle.book_model.proofs.Corrections.{polynomial_more, power_more}
 use Rattle.std.specs.Prelude.{unsigned_abs}
 use Rattle.fact_eval.proofs.CorrectionLemmas.{power_fits}

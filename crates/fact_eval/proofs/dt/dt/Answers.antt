@@ -2,8 +2,7 @@ use Rattle.std.proofs.Common.{rules, SFits, w64}
 use Rattle.std.proofs.lemmas.Int.{to_z-of_z}
 use Rattle.std.proofs.lemmas.Result.{IfOk-weaker, IfErr-weaker}
 use Rattle.book_model.specs.Bounds.{IsNarrow}
-use Rattle.book_model.specs.Correction.{dt_of, rounded_of, correction_of}
-use Rattle.book_model.specs.Programs.{bind}
+use Rattle.book_model.specs.Correction.{dt_of, rounded_of}
 use Rattle.book_model.proofs.Leads.{leads_on, leads_bind_exact, leads_fail, leaf_within}
 use Rattle.fact_eval.specs.Widths.{rounded_expression}
 use Rattle.fact_eval.proofs.WidthLemmas.{rounded_bound, rounded_narrow, floor_is_value, near_round, void_is_no_test}

@@ -1,4 +1,4 @@
-use Rattle.std.proofs.Common.{rules, arith, SFits, w64, ◌≡◌, ℤ, pos, ◌≤ℤ◌, ◌<ℤ◌}
+use Rattle.std.proofs.Common.{rules, arith, SFits, w64, pos, ◌≤ℤ◌, ◌<ℤ◌}
 use Rattle.std.proofs.lemmas.Int.{ints, to_z-of_z}
 use Rattle.book_model.proofs.Leads.{leads_void}
 use Rattle.fact_eval.proofs.Rightness.{dt_inside, program_before, program_after}

@@ -1,5 +1,5 @@
-use Rattle.std.proofs.Common.{refl}
-use Rattle.run_core.proofs.FactLemmas.{same_any, same_position}
+use Rattle.std.proofs.Common.{◌≡◌, refl}
+use Rattle.oracle_core.proofs.FactLemmas.{same_any, same_position}
 use Rattle.run_core.proofs.numbering.number_fact.Goals as goal
 
 pub returns-clause-seen : goal.returns-clause-seen

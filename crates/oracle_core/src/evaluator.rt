@@ -11,7 +11,7 @@ pub enum Answer {
 
 /// Answers facts.
 pub trait Evaluator {
-    ghost use Rattle.fact_eval.specs.Answers.{IsRightAnswer};
+    ghost use Rattle.oracle_core.specs.Answers.{IsRightAnswer};
 
     /// The answer for a fact. A value comes only where the fact is true with it, and lies in -10,000,000 to
     /// 10,000,000; an undecided test only where the fact is near at it; a void only where the fact is void there.

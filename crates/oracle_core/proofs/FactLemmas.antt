@@ -1,6 +1,8 @@
 -- The equality of facts that sets of facts use is that of the definitions.
-use Rattle.std.proofs.Common.{◌≡◌, Bool, ◌&&◌, refl, List, [], ◌∷◌, ◌==◌}
-use Rattle.std.specs.List.{list_any, position_or_len}
+use Rattle.std.proofs.Common.{◌≡◌, ℕ, ◌+◌, Bool, true, false, cond, not, ◌&&◌, ◌||◌, refl, List, [], ◌∷◌, ◌==◌, arith, ℤ}
+use Rattle.std.proofs.lemmas.Int.{ints}
+use Rattle.std.specs.Ordering.{int_eq}
+use Rattle.std.specs.List.{list_any, position_or_len, position}
 use Rattle.book_model.specs.declared.fact.Fact.{Fact}
 use Rattle.book_model.specs.declared.fact.Kind.{Kind}
 use Rattle.book_model.specs.declared.fact.Kind.TheVariants.{Dt}
@@ -60,3 +62,59 @@ same_any f (g ∷ seen) = rw (same_fact_eq f g, same_any f seen) refl
 pub same_position : (f : Fact) (seen : List Fact) → position_or_len (derived.eq-value.it f) seen ≡ position_or_len (fact_eq f) seen
 same_position f [] = refl
 same_position f (g ∷ seen) = rw (same_fact_eq f g, same_position f seen) refl
+
+-- a fact stands at one place among facts by either test
+pub same_place : (f : Fact) (seen : List Fact) → position (derived.eq-value.it f) seen ≡ position (fact_eq f) seen
+same_place f seen = rw (same_position f seen) refl
+
+-- kinds with one number are one
+one_kind : (k l : Kind) → (kind_number k == kind_number l) ≡ true → k ≡ l
+one_kind Dt Dt h = refl
+
+-- places with one number are one
+one_place : (p q : Place) → (place_number p == place_number q) ≡ true → p ≡ q
+one_place Nowhere Nowhere h = refl
+one_place Nowhere Beijing h = cc
+one_place Nowhere Cairo h = cc
+one_place Nowhere Tehran h = cc
+one_place Nowhere Ujjain h = cc
+one_place Beijing Nowhere h = cc
+one_place Beijing Beijing h = refl
+one_place Beijing Cairo h = cc
+one_place Beijing Tehran h = cc
+one_place Beijing Ujjain h = cc
+one_place Cairo Nowhere h = cc
+one_place Cairo Beijing h = cc
+one_place Cairo Cairo h = refl
+one_place Cairo Tehran h = cc
+one_place Cairo Ujjain h = cc
+one_place Tehran Nowhere h = cc
+one_place Tehran Beijing h = cc
+one_place Tehran Cairo h = cc
+one_place Tehran Tehran h = refl
+one_place Tehran Ujjain h = cc
+one_place Ujjain Nowhere h = cc
+one_place Ujjain Beijing h = cc
+one_place Ujjain Cairo h = cc
+one_place Ujjain Tehran h = cc
+one_place Ujjain Ujjain h = refl
+
+-- three tests that hold
+all_three : (a b c : Bool) → ((a && b) && c) ≡ true → (a ≡ true) × (b ≡ true) × (c ≡ true)
+all_three true true true h = (refl, refl, refl)
+all_three true true false h = cc
+all_three true false c h = cc
+all_three false b c h = cc
+
+-- days that are equal by the test are one
+one_day : (d e : ℤ) → int_eq d e ≡ true → d ≡ e
+one_day d e h = grind (arith, ints, h)
+
+-- facts that the test finds equal are one
+pub one_fact : (f g : Fact) → fact_eq f g ≡ true → f ≡ g
+one_fact f g h =
+    let e = all_three _ _ _ h in
+    let k : f.kind ≡ g.kind = one_kind f.kind g.kind e.0 in
+    let p : f.place ≡ g.place = one_place f.place g.place e.1 in
+    let d : f.day ≡ g.day = one_day f.day g.day e.2 in
+    λ j. record { kind = k j; place = p j; day = d j }

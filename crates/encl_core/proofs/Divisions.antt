@@ -1,0 +1,167 @@
+-- Quotients and squares of ends at scale 2^-36, rounded outwards.
+use Rattle.std.proofs.Common.{◌≡◌, ℕ, zero, suc, ◌^◌, ◌-◌, refl, sym, ap, subst, arith, Bool, true, false, cond, ℤ, pos, negsuc, ◌*ℤ◌, ◌-ℤ◌, ◌≤ℤ◌, ◌<ℤ◌, [], ◌∷◌, inl, inr}
+use Rattle.std.proofs.lemmas.Int.{ints}
+use lib.IntN.{neg_ℤ}
+use lib.Signed.{lt_z, le_z, ≤ℤ_refl}
+use Rattle.exact_math.specs.Fraction.{Fraction, ◌≤F◌, times, reciprocal, is_at_most, power as fraction_power}
+use Rattle.exact_math.specs.Interval.{Interval, between, ◌⊆◌, product, quotient, excludes_zero, least_even, power as interval_power, zero_fraction}
+use Rattle.exact_math.proofs.Ring.{at, lit, ◌⊖◌, ◌⊗◌, minus}
+use Rattle.exact_math.proofs.Bounds.{◌≼◌, known, ◌⊠◌, times as naturally, le_by, pos_nonneg, square_nonneg}
+use Rattle.exact_math.proofs.IntLaws.{mul_one}
+use Rattle.exact_math.proofs.Fractions.{by_cross, den_product, le_trans, larger_keeps}
+use Rattle.exact_math.proofs.Intervals.{least_is, greatest_is, within_trans}
+use Rattle.encl_core.specs.Rounding.{at_36, IsFloor, IsCeiling, IsBelowFour, IsAboveFour, IsOneSided, least_square_of, Keeps64}
+use Rattle.encl_core.proofs.Keeping.{kept_within}
+
+abbrev K : ℤ
+K = pos (2 ^ 36)
+
+-- a number that counts 2^-72
+abbrev at_72 : ℤ → Fraction
+at_72 n = record { num = n; below = 2 ^ 72 - 1 }
+
+-- ---- a / c at the scale
+over_z : (q a c k : ℤ) → pos 0 ≤ℤ k → (q *ℤ c) ≤ℤ (a *ℤ k) → (q *ℤ (k *ℤ c)) ≤ℤ ((a *ℤ k) *ℤ k)
+over_z q a c k p h = le_by (q ∷ a ∷ c ∷ k ∷ []) ((lit (pos 0) ≼ at 3) ∷ (at 0 ⊗ at 2 ≼ at 1 ⊗ at 3) ∷ []) (at 0 ⊗ (at 3 ⊗ at 2)) ((at 1 ⊗ at 3) ⊗ at 3) (known 1 ⊠ known 0) refl (p, (h, tt))
+
+over_negative_z : (q a c k : ℤ) → pos 0 ≤ℤ k → (q *ℤ c) ≤ℤ (pos 0 -ℤ a *ℤ k) → (q *ℤ (k *ℤ c)) ≤ℤ ((a *ℤ neg_ℤ k) *ℤ k)
+over_negative_z q a c k p h =
+    le_by (q ∷ a ∷ c ∷ k ∷ []) ((lit (pos 0) ≼ at 3) ∷ (at 0 ⊗ at 2 ≼ lit (pos 0) ⊖ at 1 ⊗ at 3) ∷ []) (at 0 ⊗ (at 3 ⊗ at 2)) ((at 1 ⊗ minus (at 3)) ⊗ at 3) (known 1 ⊠ known 0) refl (p, (h, tt))
+
+under_z : (q a c k : ℤ) → pos 0 ≤ℤ k → (a *ℤ k) ≤ℤ (q *ℤ c) → ((a *ℤ k) *ℤ k) ≤ℤ (q *ℤ (k *ℤ c))
+under_z q a c k p h = le_by (q ∷ a ∷ c ∷ k ∷ []) ((lit (pos 0) ≼ at 3) ∷ (at 1 ⊗ at 3 ≼ at 0 ⊗ at 2) ∷ []) ((at 1 ⊗ at 3) ⊗ at 3) (at 0 ⊗ (at 3 ⊗ at 2)) (known 1 ⊠ known 0) refl (p, (h, tt))
+
+under_negative_z : (q a c k : ℤ) → pos 0 ≤ℤ k → (pos 0 -ℤ a *ℤ k) ≤ℤ (q *ℤ c) → ((a *ℤ neg_ℤ k) *ℤ k) ≤ℤ (q *ℤ (k *ℤ c))
+under_negative_z q a c k p h =
+    le_by (q ∷ a ∷ c ∷ k ∷ []) ((lit (pos 0) ≼ at 3) ∷ (lit (pos 0) ⊖ at 1 ⊗ at 3 ≼ at 0 ⊗ at 2) ∷ []) ((at 1 ⊗ minus (at 3)) ⊗ at 3) (at 0 ⊗ (at 3 ⊗ at 2)) (known 1 ⊠ known 0) refl (p, (h, tt))
+
+pub floor_ratio_positive : (q a c : ℤ) → pos 0 <ℤ c → IsFloor q (a *ℤ pos (2 ^ 36)) c → at_36 q ≤F times (at_36 a) (reciprocal (at_36 c))
+unfolding times reciprocal
+floor_ratio_positive q a (pos (suc m)) h f = by_cross (at_36 q) _ K (K *ℤ pos (suc m)) refl (den_product (2 ^ 36 - 1) m) (over_z q a (pos (suc m)) K (pos_nonneg (2 ^ 36)) f.not_above)
+floor_ratio_positive q a (pos zero) h f = absurd (omega (arith, ints))
+floor_ratio_positive q a (negsuc m) h f = absurd (omega (arith, ints))
+
+negated : (m : ℕ) → pos 0 -ℤ negsuc m ≡ pos (suc m)
+negated m = omega (arith, ints)
+
+pub floor_ratio_negative : (q a c : ℤ) → c <ℤ pos 0 → IsFloor q (pos 0 -ℤ a *ℤ pos (2 ^ 36)) (pos 0 -ℤ c) → at_36 q ≤F times (at_36 a) (reciprocal (at_36 c))
+unfolding times reciprocal
+floor_ratio_negative q a (negsuc m) h f =
+    by_cross (at_36 q) _ K (K *ℤ pos (suc m)) refl (den_product (2 ^ 36 - 1) m)
+    (over_negative_z q a (pos (suc m)) K (pos_nonneg (2 ^ 36)) (subst (λ x. (q *ℤ x) ≤ℤ (pos 0 -ℤ a *ℤ K)) (negated m) f.not_above))
+floor_ratio_negative q a (pos m) h f = absurd (omega (arith, ints))
+
+pub ceil_ratio_positive : (q a c : ℤ) → pos 0 <ℤ c → IsCeiling q (a *ℤ pos (2 ^ 36)) c → times (at_36 a) (reciprocal (at_36 c)) ≤F at_36 q
+unfolding times reciprocal
+ceil_ratio_positive q a (pos (suc m)) h f = by_cross _ (at_36 q) (K *ℤ pos (suc m)) K (den_product (2 ^ 36 - 1) m) refl (under_z q a (pos (suc m)) K (pos_nonneg (2 ^ 36)) f.not_below)
+ceil_ratio_positive q a (pos zero) h f = absurd (omega (arith, ints))
+ceil_ratio_positive q a (negsuc m) h f = absurd (omega (arith, ints))
+
+pub ceil_ratio_negative : (q a c : ℤ) → c <ℤ pos 0 → IsCeiling q (pos 0 -ℤ a *ℤ pos (2 ^ 36)) (pos 0 -ℤ c) → times (at_36 a) (reciprocal (at_36 c)) ≤F at_36 q
+unfolding times reciprocal
+ceil_ratio_negative q a (negsuc m) h f =
+    by_cross _ (at_36 q) (K *ℤ pos (suc m)) K (den_product (2 ^ 36 - 1) m) refl
+    (under_negative_z q a (pos (suc m)) K (pos_nonneg (2 ^ 36)) (subst (λ x. (pos 0 -ℤ a *ℤ K) ≤ℤ (q *ℤ x)) (negated m) f.not_below))
+ceil_ratio_negative q a (pos m) h f = absurd (omega (arith, ints))
+
+pub from_nonzero : (c : ℤ) → c ≤ℤ pos 0 → (c ≡ pos 0 → ⊥) → c <ℤ pos 0
+from_nonzero c h n = omega (arith, ints)
+
+-- ---- quotients
+at_mono : (p q : ℤ) → p ≤ℤ q → at_36 p ≤F at_36 q
+at_mono p q h = record { cross = omega (arith, ints) }
+
+at_order : (p q : ℤ) (f : Fraction) → at_36 p ≤F f → f ≤F at_36 q → p ≤ℤ q
+at_order p q f h k = let l = le_trans (at_36 p) f (at_36 q) h k in omega (arith, ints, l.cross)
+
+-- numbers below four products, and above them
+pub record IsUnder (p q r s : ℤ) (a b c d : Fraction) : Type 0 where
+  pub first : at_36 p ≤F times a c
+  pub second : at_36 q ≤F times a d
+  pub third : at_36 r ≤F times b c
+  pub fourth : at_36 s ≤F times b d
+
+pub record IsOver (p q r s : ℤ) (a b c d : Fraction) : Type 0 where
+  pub first : times a c ≤F at_36 p
+  pub second : times a d ≤F at_36 q
+  pub third : times b c ≤F at_36 r
+  pub fourth : times b d ≤F at_36 s
+
+pub four_order : (a b c d : Fraction) (lo hi p q r s p' q' r' s' : ℤ) → IsBelowFour lo p q r s → IsAboveFour hi p' q' r' s' → IsUnder p q r s a b c d → IsOver p' q' r' s' a b c d → lo ≤ℤ hi
+four_order a b c d lo hi p q r s p' q' r' s' l g u o = let k = at_order p p' (times a c) u.first o.first in omega (arith, ints, l.first, g.first)
+
+pub four_enclose : (a b c d : Fraction) (lo hi p q r s p' q' r' s' : ℤ) → IsBelowFour lo p q r s → IsAboveFour hi p' q' r' s' → IsUnder p q r s a b c d → IsOver p' q' r' s' a b c d
+    → product (between a b) (between c d) ⊆ between (at_36 lo) (at_36 hi)
+unfolding product
+four_enclose a b c d lo hi p q r s p' q' r' s' l g u o = record {
+  ends = (
+    least_is (at_36 lo) _ _ _ _ (le_trans _ _ _ (at_mono lo p l.first) u.first) (le_trans _ _ _ (at_mono lo q l.second) u.second) (le_trans _ _ _ (at_mono lo r l.third) u.third)
+        (le_trans _ _ _ (at_mono lo s l.fourth) u.fourth),
+    greatest_is (at_36 hi) _ _ _ _ (le_trans _ _ _ o.first (at_mono p' hi g.first)) (le_trans _ _ _ o.second (at_mono q' hi g.second)) (le_trans _ _ _ o.third (at_mono r' hi g.third))
+        (le_trans _ _ _ o.fourth (at_mono s' hi g.fourth)),
+  );
+}
+
+excludes_from : (c d : ℤ) → IsOneSided c d → excludes_zero (at_36 c) (at_36 d) ≡ true
+excludes_from c d (inl h) = let p : pos 0 <ℤ c = h.0 in let e : true ≡ lt_z (pos 0) c = omega (arith, ints) in rw (← e) refl
+excludes_from c d (inr h) = by_test (lt_z (pos 0) c)
+  where
+    by_test : (t : Bool) → cond t true (lt_z d (pos 0)) ≡ true
+    by_test true = refl
+    by_test false = let p : d <ℤ pos 0 = h.1 in let e : true ≡ lt_z d (pos 0) = omega (arith, ints) in sym e
+
+-- by a divisor on one side of 0
+pub quotient_encloses : (a b c d : ℤ) (i : Interval) → IsOneSided c d → product (between (at_36 a) (at_36 b)) (between (reciprocal (at_36 d)) (reciprocal (at_36 c))) ⊆ i
+    → quotient (between (at_36 a) (at_36 b)) (between (at_36 c) (at_36 d)) ⊆ i
+unfolding quotient
+quotient_encloses a b c d i n h = let t = excludes_from c d n in simp t h
+
+-- ---- squares
+square_over : (x n : ℤ) → n ≤ℤ (x *ℤ x) → at_72 n ≤F fraction_power (at_36 x) 2
+unfolding fraction_power times
+square_over x n h = record { cross = le_by (x ∷ n ∷ []) ((at 1 ≼ at 0 ⊗ at 0) ∷ []) (at 1 ⊗ lit (pos (2 ^ 72))) ((at 0 ⊗ (at 0 ⊗ lit (pos 1))) ⊗ lit (pos (2 ^ 72))) (known 0 ⊠ naturally (2 ^ 72)) refl (h, tt) }
+
+square_under : (x n : ℤ) → (x *ℤ x) ≤ℤ n → fraction_power (at_36 x) 2 ≤F at_72 n
+unfolding fraction_power times
+square_under x n h = record { cross = le_by (x ∷ n ∷ []) ((at 0 ⊗ at 0 ≼ at 1) ∷ []) ((at 0 ⊗ (at 0 ⊗ lit (pos 1))) ⊗ lit (pos (2 ^ 72))) (at 1 ⊗ lit (pos (2 ^ 72))) (known 0 ⊠ naturally (2 ^ 72)) refl (h, tt) }
+
+square_zero : at_72 (pos 0) ≤F fraction_power zero_fraction 2
+unfolding fraction_power times
+square_zero = record { cross = omega (arith, ints) }
+
+square_above : (lo hi : ℤ) → at_72 (least_square_of lo hi) ≤F least_even (at_36 lo) (at_36 hi) 2
+unfolding least_even is_at_most
+square_above lo hi =
+    by_test (le_z (pos 0 *ℤ pos (2 ^ 36)) (lo *ℤ pos 1)) (le_z (pos 0) lo) (ap (λ x. le_z (pos 0) x) (mul_one lo)) (le_z (hi *ℤ pos 1) (pos 0 *ℤ pos (2 ^ 36))) (le_z hi (pos 0))
+    (ap (λ x. le_z x (pos 0)) (mul_one hi))
+  where
+    both : (t u : Bool) → at_72 (cond t (lo *ℤ lo) (cond u (hi *ℤ hi) (pos 0))) ≤F cond t (fraction_power (at_36 lo) 2) (cond u (fraction_power (at_36 hi) 2) (fraction_power zero_fraction 2))
+    both true u = square_over lo (lo *ℤ lo) (≤ℤ_refl _)
+    both false true = square_over hi (hi *ℤ hi) (≤ℤ_refl _)
+    both false false = square_zero
+
+    by_test : (t t' : Bool) → t ≡ t' → (u u' : Bool) → u ≡ u' → at_72 (cond t' (lo *ℤ lo) (cond u' (hi *ℤ hi) (pos 0))) ≤F cond t (fraction_power (at_36 lo) 2) (cond u (fraction_power (at_36 hi) 2) (fraction_power zero_fraction 2))
+    by_test t t' e u u' f = rw (e, f) (both t' u')
+
+rounded_within : (l g lo hi : ℤ) → IsFloor lo l (pos (2 ^ 36)) → IsCeiling hi g (pos (2 ^ 36)) → between (at_72 l) (at_72 g) ⊆ between (at_36 lo) (at_36 hi)
+rounded_within l g lo hi f c = record { ends = (record { cross = omega (arith, ints, f.not_above) }, record { cross = omega (arith, ints, c.not_below) }) }
+
+pub square_encloses : (a b n g lo hi : ℤ) (i : Interval) → n ≡ least_square_of a b → (a *ℤ a) ≤ℤ g → (b *ℤ b) ≤ℤ g → IsFloor lo n (pos (2 ^ 36)) → IsCeiling hi g (pos (2 ^ 36)) → Keeps64 lo hi i
+    → interval_power (between (at_36 a) (at_36 b)) 2 ⊆ i
+unfolding interval_power
+square_encloses a b n g lo hi i f h k fl ce kept =
+    within_trans
+    (record { ends = (square_above a b, larger_keeps (λ z. z ≤F at_72 g) (fraction_power (at_36 a) 2) (fraction_power (at_36 b) 2) (square_under a g h) (square_under b g k)) })
+    (within_trans (rounded_within (least_square_of a b) g lo hi (subst (λ z. IsFloor lo z (pos (2 ^ 36))) f fl) ce) (kept_within lo hi i kept))
+
+-- the least square is at most the greatest
+square_z : (x : ℤ) → pos 0 ≤ℤ (x *ℤ x)
+square_z x = square_nonneg x
+
+pub squares_order : (a b n g : ℤ) → n ≡ least_square_of a b → (a *ℤ a) ≤ℤ g → (b *ℤ b) ≤ℤ g → n ≤ℤ g
+squares_order a b n g e h k = rw e (by_test (le_z (pos 0) a) (le_z b (pos 0)))
+  where
+    by_test : (t u : Bool) → cond t (a *ℤ a) (cond u (b *ℤ b) (pos 0)) ≤ℤ g
+    by_test true u = h
+    by_test false true = k
+    by_test false false = let z = square_z a in omega (arith, ints)

@@ -1,0 +1,52 @@
+-- The periods of ends at scale 2^-36.
+use Rattle.std.proofs.Common.{◌≡◌, ℕ, zero, suc, ◌^◌, ◌-◌, ◌<◌, refl, sym, ◌∙◌, arith, ℤ, pos, negsuc, ◌*ℤ◌, ◌-ℤ◌, Some, None}
+use Rattle.std.specs.Int.{int_div_euclid}
+use Rattle.std.proofs.lemmas.Int.{ints}
+use Rattle.exact_math.specs.Fraction.{whole, floor_quotient, plus, opposite}
+use Rattle.exact_math.specs.Interval.{Interval, everything, between, ◌⊆◌, sum, negative, difference}
+use Rattle.exact_math.proofs.Intervals.{within_trans}
+use Rattle.book_model.specs.Programs.{multiples, cell_of, cell_at}
+use Rattle.book_model.specs.Leading.{at_56}
+use Rattle.encl_core.specs.Rounding.{at_36, Keeps64}
+use Rattle.encl_core.proofs.Keeping.{kept_within}
+use Rattle.encl_core.proofs.Testing.{eq_yes, eq_no}
+
+-- the quotient of Euclid by a positive number is that rounded down
+pub euclid_is : (n : ℤ) (m : ℕ) → 0 < m → int_div_euclid n (pos m) ≡ floor_quotient n (m - 1)
+euclid_is n zero h = absurd (omega arith)
+euclid_is (pos n) (suc m) h = let e : suc m - 1 ≡ m = omega arith in rw e refl
+euclid_is (negsuc n) (suc m) h = let e : suc m - 1 ≡ m = omega arith in rw e refl
+
+pub period_same : (a b p q r : ℤ) (m : ℕ) → p ≡ floor_quotient (floor_quotient a (2 ^ 36 - 1)) (m - 1) → q ≡ floor_quotient (floor_quotient b (2 ^ 36 - 1)) (m - 1) → p ≡ q → r ≡ p
+    → Some r ≡ cell_at (multiples m) (between (at_36 a) (at_36 b))
+unfolding cell_at cell_of
+period_same a b p q r m e f h k =
+    let t = eq_yes (floor_quotient (floor_quotient a (2 ^ 36 - 1)) (m - 1)) (floor_quotient (floor_quotient b (2 ^ 36 - 1)) (m - 1)) (sym e ∙ h ∙ f) in
+    rw (t, k, e) refl
+
+pub period_apart : (a b p q : ℤ) (m : ℕ) → p ≡ floor_quotient (floor_quotient a (2 ^ 36 - 1)) (m - 1) → q ≡ floor_quotient (floor_quotient b (2 ^ 36 - 1)) (m - 1) → (p ≡ q → ⊥)
+    → None ≡ cell_at (multiples m) (between (at_36 a) (at_36 b))
+unfolding cell_at cell_of
+period_apart a b p q m e f n =
+    let t = eq_no (floor_quotient (floor_quotient a (2 ^ 36 - 1)) (m - 1)) (floor_quotient (floor_quotient b (2 ^ 36 - 1)) (m - 1)) (λ h. n (e ∙ h ∙ sym f)) in
+    rw t refl
+
+pub period_nowhere : (m : ℕ) → None ≡ cell_at (multiples m) everything
+unfolding cell_at
+period_nowhere m = refl
+
+-- ends that are moved down by a whole number
+pub lower_encloses : (a b t lo hi : ℤ) (i : Interval) → lo ≡ a -ℤ (t *ℤ pos (2 ^ 36)) → hi ≡ b -ℤ (t *ℤ pos (2 ^ 36)) → Keeps64 lo hi i → difference (between (at_36 a) (at_36 b)) (between (whole t) (whole t)) ⊆ i
+unfolding sum negative plus opposite
+lower_encloses a b t lo hi i e f h = within_trans (record { ends = (record { cross = omega (arith, ints) }, record { cross = omega (arith, ints) }) }) (kept_within lo hi i h)
+
+-- ends at the finer scale
+pub span_holds : (a b lo hi : ℤ) → lo ≡ a *ℤ pos (2 ^ 20) → hi ≡ b *ℤ pos (2 ^ 20) → between (at_36 a) (at_36 b) ⊆ between (at_56 lo) (at_56 hi)
+span_holds a b lo hi e f = record { ends = (record { cross = omega (arith, ints) }, record { cross = omega (arith, ints) }) }
+
+pub span_tight : (a b lo hi : ℤ) → lo ≡ a *ℤ pos (2 ^ 20) → hi ≡ b *ℤ pos (2 ^ 20) → between (at_56 lo) (at_56 hi) ⊆ between (at_36 a) (at_36 b)
+span_tight a b lo hi e f = record { ends = (record { cross = omega (arith, ints) }, record { cross = omega (arith, ints) }) }
+
+-- a period that is known is the one that the ends give
+pub known_period : (q r : ℤ) (i : Interval) (m : ℕ) → Some q ≡ cell_at (multiples m) i → cell_at (multiples m) i ≡ Some r → r ≡ q
+known_period q r i m e f = cc

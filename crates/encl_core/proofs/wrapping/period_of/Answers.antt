@@ -1,0 +1,14 @@
+use Rattle.std.proofs.Common.{rules, SFits, w64, ◌∙◌}
+use Rattle.std.proofs.lemmas.Int.{to_z-of_z}
+use Rattle.encl_core.proofs.Periods.{euclid_is}
+use Rattle.encl_core.proofs.wrapping.period_of.Goals as goal
+
+pub returns : goal.returns
+returns c =
+    let fe = c.ranges.end in
+    let f : SFits w64 c.floor_of.result = search rules in
+    let g : SFits w64 c.from.result = search rules in
+    let h : SFits w64 c.div_euclid.result = search rules in
+    let v = simp to_z-of_z at c.floor_of.ensures.value in
+    let d = simp (v, c.from.ensures) at (simp to_z-of_z at c.div_euclid.ensures) in
+    record { value = simp to_z-of_z (d ∙ euclid_is _ c.args.modulus c.requires) }

@@ -1,0 +1,15 @@
+//! The number pi.
+ghost use Rattle.std.specs.Prelude.{◌≤◌};
+ghost use Rattle.book_model.specs.Expressions.{World, pi as pi_number};
+ghost use Rattle.book_model.specs.Relations.{Within};
+
+use crate::Enclosure;
+use book_model::{PI_ABOVE, PI_BELOW};
+
+/// Pi, between two neighbours that count 2⁻⁵⁶.
+#[tactic(auto, using(crate::proofs::PiEnds::within_pi))]
+pub fn pi<E: Enclosure>() -> E
+    ensures holds { (w : World) → 40 ≤ w.depth → Within E.shown w pi_number result }
+{
+    E::from_frac(PI_BELOW).hull(E::from_frac(PI_ABOVE))
+}

@@ -1,0 +1,10 @@
+//! The ends of an enclosure at one scale for all kinds.
+ghost use Rattle.std.specs.Prelude.{◌≤ℤ◌};
+
+/// Two ends in order, which count 2⁻⁵⁶.
+#[derive(Clone, Copy, Debug, PartialEq)]
+pub struct Span {
+    pub lo: i128,
+    pub hi: i128,
+    ghost ordered: { lo ≤ℤ hi },
+}

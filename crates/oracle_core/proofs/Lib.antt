@@ -1,0 +1,4 @@
+pub mod FactLemmas
+pub mod Noting
+pub mod Keeping
+pub mod Listing

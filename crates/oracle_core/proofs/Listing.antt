@@ -1,0 +1,107 @@
+-- Facts that are looked up in a list.
+use Rattle.std.proofs.Common.{◌≡◌, ℕ, zero, suc, ◌+◌, ◌<◌, Bool, true, false, cond, not, ◌&&◌, ◌||◌, refl, List, [], ◌∷◌, ◌++◌, length, get_or, drop, ℤ, negsuc, pos, ◌≤ℤ◌, arith, ap, sym, append-nil}
+use Rattle.std.specs.Prelude.{Some, None, Option, IsTrue, if◌then◌else◌}
+use Rattle.std.specs.List.{list_any, position_or_len, position}
+use Rattle.std.proofs.Math.Seq.{drop-append_seam, drop-cons}
+use Rattle.std.proofs.lemmas.List.{append_assoc}
+use Rattle.book_model.specs.contracts.fact.FactPartialEq.TheImpl as derived
+use Rattle.book_model.specs.declared.fact.Fact.{Fact}
+use Rattle.book_model.specs.Inquiries.{fact_eq}
+use Rattle.oracle_core.specs.Answers.{IsFactValue}
+use Rattle.oracle_core.specs.Pairs.{AreFactValues, are_distinct, value_beside, IsFront}
+use Rattle.oracle_core.proofs.FactLemmas.{one_fact, same_any, same_place}
+use Rattle.oracle_core.proofs.Noting.{found_at, not_there}
+
+-- the list begins with no facts
+pub no_front : (fs : List Fact) → IsFront [] fs
+no_front fs = record { rest = fs; joined = refl }
+
+-- the list begins with all of it
+pub whole_front : (xs fs : List Fact) → xs ≡ fs → IsFront xs fs
+whole_front xs fs e = record { rest = []; joined = rw append-nil e }
+
+-- what stands behind a front
+pub behind_front : (xs fs : List Fact) → IsFront xs fs → xs ++ drop (length xs) fs ≡ fs
+behind_front xs fs h = rw (← h.joined) (rw (drop-append_seam xs h.rest) refl)
+
+not_and : (a b : Bool) → IsTrue (not a && b) → (a ≡ false) × IsTrue b
+not_and true b h = cc
+not_and false b h = (refl, h)
+
+neither : (a b : Bool) → (a || b) ≡ false → (a ≡ false) × (b ≡ false)
+neither true b h = cc
+neither false b h = (refl, h)
+
+both_false : (a b : Bool) → a ≡ false → b ≡ false → (a || b) ≡ false
+both_false a b h k = rw (h, k) refl
+
+-- a test that passes none of a list doesn't pass one of it
+passed_over : {X : Type 0} (p : X → Bool) (xs : List X) (x : X) (ys : List X) → list_any p (xs ++ x ∷ ys) ≡ false → p x ≡ false
+passed_over p [] x ys h = (neither _ _ h).0
+passed_over p (z ∷ xs) x ys h = passed_over p xs x ys (neither (p z) _ h).1
+
+-- where a fact isn't another, neither is that one it
+other_way : (f g : Fact) → fact_eq g f ≡ false → fact_eq f g ≡ false
+other_way f g h = by (fact_eq f g) refl
+  where
+    by : (t : Bool) → fact_eq f g ≡ t → t ≡ false
+    by true e = let same : f ≡ g = one_fact f g e in let k : fact_eq g g ≡ false = rw same at h in let l : fact_eq g g ≡ true = rw same at e in cc
+    by false e = refl
+
+-- the next of distinct facts isn't among those before it
+pub next_is_new : (xs : List Fact) (x : Fact) (ys : List Fact) → IsTrue (are_distinct (xs ++ x ∷ ys)) → list_any (fact_eq x) xs ≡ false
+next_is_new [] x ys h = refl
+next_is_new (y ∷ xs) x ys h =
+    let e = not_and (list_any (fact_eq y) (xs ++ x ∷ ys)) (are_distinct (xs ++ x ∷ ys)) h in
+    both_false (fact_eq x y) (list_any (fact_eq x) xs) (other_way x y (passed_over (fact_eq y) xs x ys e.0)) (next_is_new xs x ys e.1)
+
+value_at_place : (fs : List Fact) (vs : List ℤ) (f : Fact) (d : ℤ) → length fs ≡ length vs → position_or_len (fact_eq f) fs < length fs → value_beside fs vs f ≡ Some (get_or vs (position_or_len (fact_eq f) fs) d)
+value_at_place [] vs f d same h = absurd (omega arith)
+value_at_place (g ∷ fs) [] f d same h = absurd (omega arith)
+value_at_place (g ∷ fs) (v ∷ vs) f d same h = step (fact_eq f g) (value_at_place fs vs f d (omega arith)) h
+  where
+    step : (t : Bool) → (position_or_len (fact_eq f) fs < length fs → value_beside fs vs f ≡ Some (get_or vs (position_or_len (fact_eq f) fs) d))
+        → cond (not t) (1 + position_or_len (fact_eq f) fs) 0 < length (g ∷ fs)
+        → (if t then Some v else value_beside fs vs f) ≡ Some (get_or (v ∷ vs) (cond (not t) (1 + position_or_len (fact_eq f) fs) 0) d)
+    step true rest h = refl
+    step false rest h =
+        let next : 1 + position_or_len (fact_eq f) fs ≡ suc (position_or_len (fact_eq f) fs) = omega arith in
+        rw next (rest (omega arith))
+
+-- the value at the place of a fact stands beside it
+pub listed_value : (fs : List Fact) (vs : List ℤ) (f : Fact) (i : ℕ) (d : ℤ) → length fs ≡ length vs → Some i ≡ position (fact_eq f) fs → value_beside fs vs f ≡ Some (get_or vs i d)
+listed_value fs vs f i d same h =
+    let p = found_at (fact_eq f) fs i h in
+    rw p.same (value_at_place fs vs f d same p.before_end)
+
+-- each of the values is one that an answer may have
+pub listed_fits : (vs : List ℤ) (i : ℕ) (d : ℤ) → i < length vs → AreFactValues vs → IsFactValue (get_or vs i d)
+listed_fits [] i d h all = absurd (omega arith)
+listed_fits (v ∷ vs) zero d h all = (all.0, all.1)
+listed_fits (v ∷ vs) (suc i) d h all = listed_fits vs i d (omega arith) all.2
+
+-- the value at the place that an index of the facts gives stands beside the fact
+pub found_value : (fs keys : List Fact) (vs : List ℤ) (f : Fact) (i : ℕ) (d : ℤ) → keys ≡ fs → length fs ≡ length vs → Some i ≡ position (derived.eq-value.it f) keys → value_beside fs vs f ≡ Some (get_or vs i d)
+found_value fs keys vs f i d all same h = listed_value fs vs f i d same (rw all at (rw (same_place f keys) at h))
+
+-- and is one that an answer may have
+pub found_fits : (fs keys : List Fact) (vs : List ℤ) (f : Fact) (i : ℕ) (d : ℤ) → keys ≡ fs → length fs ≡ length vs → Some i ≡ position (derived.eq-value.it f) keys → AreFactValues vs → IsFactValue (get_or vs i d)
+found_fits fs keys vs f i d all same h known =
+    let k : Some i ≡ position (fact_eq f) fs = rw all at (rw (same_place f keys) at h) in
+    let p = found_at (fact_eq f) fs i k in
+    listed_fits vs i d (omega arith) known
+
+-- a fact that an index of the facts doesn't have isn't one of them
+pub unlisted : (fs keys : List Fact) (f : Fact) → keys ≡ fs → None ≡ position (derived.eq-value.it f) keys → list_any (fact_eq f) fs ≡ false
+unlisted fs keys f all h = not_there (fact_eq f) fs (rw all at (rw (same_place f keys) at h))
+
+-- an index with one more of distinct facts and the others make the whole
+pub indexed_more : (fs keys more xs : List Fact) (i : ℕ) (d : Fact) → IsTrue (are_distinct fs) → keys ++ drop i xs ≡ fs → i < length xs
+    → more ≡ (if list_any (derived.eq-value.it (get_or xs i d)) keys then keys else keys ++ get_or xs i d ∷ []) → more ++ drop (i + 1) xs ≡ fs
+indexed_more fs keys more xs i d distinct whole h grown =
+    let n : i + 1 ≡ suc i = omega arith in
+    let parts : keys ++ (get_or xs i d ∷ drop (suc i) xs) ≡ fs = rw (drop-cons xs i d h) at whole in
+    let apart : IsTrue (are_distinct (keys ++ (get_or xs i d ∷ drop (suc i) xs))) = rw parts distinct in
+    let new : list_any (fact_eq (get_or xs i d)) keys ≡ false = next_is_new keys (get_or xs i d) (drop (suc i) xs) apart in
+    let longer : more ≡ keys ++ get_or xs i d ∷ [] = rw (same_any (get_or xs i d) keys, new) at grown in
+    rw (n, longer) (rw append_assoc parts)

@@ -1,0 +1,66 @@
+-- Facts that are among facts, and their places.
+use Rattle.std.proofs.Common.{◌≡◌, ℕ, zero, suc, ◌+◌, ◌-◌, ◌<◌, ◌≤◌, Bool, true, false, cond, not, ◌||◌, refl, sym, List, [], ◌∷◌, ◌++◌, length, take, drop, get_or, arith, nat_lt, ap, ◌∙◌}
+use Rattle.std.specs.Prelude.{Some, None, Option}
+use Rattle.std.specs.List.{list_any, position_or_len, position}
+use Rattle.std.proofs.Math.Seq.{take-append_seam}
+use borrow.Author.Tests.{ltb-true, ltb-false}
+
+-- a first place that is found is before the end
+pub record IsPlace (i place length : ℕ) : Type 0 where
+  pub same : i ≡ place
+  pub before_end : place < length
+
+module _ {X : Type 0} (p : X → Bool) where
+  -- what `position` gives is the first place that passes
+  pub found_at : (xs : List X) (i : ℕ) → Some i ≡ position p xs → IsPlace i (position_or_len p xs) (length xs)
+  found_at xs i h = chosen (nat_lt (position_or_len p xs) (length xs)) refl h
+    where
+      chosen : (t : Bool) → nat_lt (position_or_len p xs) (length xs) ≡ t → Some i ≡ cond t (Some (position_or_len p xs)) None → IsPlace i (position_or_len p xs) (length xs)
+      chosen true e h = record { same = cc; before_end = ltb-true _ _ e }
+      chosen false e h = cc
+
+  -- and where it gives none, the first place is the end
+  pub not_found : (xs : List X) → None ≡ position p xs → length xs ≤ position_or_len p xs
+  not_found xs h = chosen (nat_lt (position_or_len p xs) (length xs)) refl h
+    where
+      chosen : (t : Bool) → nat_lt (position_or_len p xs) (length xs) ≡ t → None ≡ cond t (Some (position_or_len p xs)) None → length xs ≤ position_or_len p xs
+      chosen true e h = cc
+      chosen false e h = ltb-false _ _ e
+
+  any_before : (xs : List X) → position_or_len p xs < length xs → list_any p xs ≡ true
+  any_before [] h = absurd (omega arith)
+  any_before (x ∷ xs) h = step (p x) (any_before xs) h
+    where
+      step : (t : Bool) → (position_or_len p xs < length xs → list_any p xs ≡ true) → cond (not t) (1 + position_or_len p xs) 0 < length (x ∷ xs) → (t || list_any p xs) ≡ true
+      step true rest h = refl
+      step false rest h = rest (omega arith)
+
+  none_before : (xs : List X) → length xs ≤ position_or_len p xs → list_any p xs ≡ false
+  none_before [] h = refl
+  none_before (x ∷ xs) h = step (p x) (none_before xs) h
+    where
+      step : (t : Bool) → (length xs ≤ position_or_len p xs → list_any p xs ≡ false) → length (x ∷ xs) ≤ cond (not t) (1 + position_or_len p xs) 0 → (t || list_any p xs) ≡ false
+      step true rest h = absurd (omega arith)
+      step false rest h = rest (omega arith)
+
+  -- what has a place is there
+  pub there : (xs : List X) (i : ℕ) → Some i ≡ position p xs → list_any p xs ≡ true
+  there xs i h = any_before xs (found_at xs i h).before_end
+
+  -- what has no place isn't there
+  pub not_there : (xs : List X) → None ≡ position p xs → list_any p xs ≡ false
+  not_there xs h = none_before xs (not_found xs h)
+
+-- all but the last of a list with one more
+pub front_of_push : {X : Type 0} (xs : List X) (x : X) → take (length (xs ++ x ∷ []) - 1) (xs ++ x ∷ []) ≡ xs
+front_of_push xs x =
+    let n : length (xs ++ x ∷ []) - 1 ≡ length xs = length_front xs x in
+    rw n (take-append_seam xs (x ∷ []))
+  where
+    length_front : {X : Type 0} (xs : List X) (x : X) → length (xs ++ x ∷ []) - 1 ≡ length xs
+    length_front [] x = refl
+    length_front (y ∷ xs) x = let e : length (xs ++ x ∷ []) ≡ suc (length xs) = longer xs x in omega arith
+      where
+        longer : {X : Type 0} (xs : List X) (x : X) → length (xs ++ x ∷ []) ≡ suc (length xs)
+        longer [] x = refl
+        longer (y ∷ xs) x = ap suc (longer xs x)

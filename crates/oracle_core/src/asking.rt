@@ -1,0 +1,101 @@
+//! An oracle that asks an evaluator.
+ghost use Rattle.std.specs.Prelude.{◌≡◌, ◌++◌, ℤ, [], ◌∷◌, List, false, OnOk, OnErr};
+ghost use Rattle.book_model.specs.declared.fact.Fact.{Fact};
+ghost use Rattle.std.specs.List.{list_any};
+ghost use Rattle.book_model.specs.Inquiries.{fact_eq};
+ghost use Rattle.oracle_core.specs.Pairs.{StandsWith, AllStand, facts_of, one_truth};
+ghost use Rattle.oracle_core.specs.Stops.{MayStopAsking};
+
+use crate::noted::Noted;
+use crate::{Answer, Evaluator, FactList, FactValues, Oracle, Stop};
+use book_model::Fact;
+use std::alloc::{AllocError, Global};
+use std::marker::Model;
+
+/// Answers facts by an evaluator, and keeps each fact that was answered with its value, in order of first use. A
+/// fact that is kept isn't evaluated again.
+#[derive(Drop)]
+pub struct Asking<'a, E: Evaluator> {
+    evaluator: &'a E,
+    asked: Noted,
+    kept: FactValues,
+}
+
+impl<'a, E: Evaluator> Model for Asking<'a, E> {
+    ghost Value = { List (Fact × ℤ) };
+
+    ghost view = { λ a. a.kept };
+
+    ghost invariant = { λ a. (a.asked ≡ facts_of a.kept) × AllStand a.kept };
+}
+
+impl<'a, E: Evaluator> Asking<'a, E> {
+    /// An oracle over the evaluator that wasn't asked anything yet.
+    pub fn new(alloc: Global, evaluator: &'a E) -> Self
+        ensures empty { result ≡ [] }
+    {
+        Asking {
+            evaluator,
+            asked: Noted::new(alloc),
+            kept: FactValues::new(alloc),
+        }
+    }
+
+    /// The facts that were answered, each once, in order of first use.
+    pub fn asked(&self) -> &FactList
+        ensures facts { result.now ≡ facts_of self.now }
+    {
+        self.asked.list()
+    }
+
+    /// The facts that were answered, with their values, in order of first use.
+    pub fn finish(self) -> FactValues
+        ensures pairs { result ≡ self.entry }
+        ensures stand { AllStand self.entry }
+    {
+        self.kept
+    }
+
+    /// Keeps a fact that isn't kept yet with its value. Where memory runs out nothing changes.
+    fn keep(&mut self, fact: Fact, value: i64) -> Result<(), AllocError>
+        requires new { list_any (fact_eq fact) (facts_of self.old) ≡ false }
+        requires stands { StandsWith fact value }
+        ensures ok { OnOk result (self.new ≡ self.old ++ (fact, value) ∷ []) }
+        ensures err { OnErr result (self.new ≡ self.old) }
+    {
+        self.kept.push((fact, value))?;
+        match self.asked.note(fact) {
+            Ok(()) => Ok(()),
+            Err(error) => {
+                self.kept.forget_last();
+                Err(error)
+            }
+        }
+    }
+}
+
+impl<'a, E: Evaluator> Oracle for Asking<'a, E> {
+    ghost value_of = { λ a. StandsWith };
+
+    ghost asked = { λ a. facts_of a };
+
+    ghost kept_as = { λ a f. f };
+
+    ghost may_stop = { λ a. MayStopAsking };
+
+    ghost one_value = { λ a. one_truth };
+
+    fn ask(&mut self, fact: Fact) -> Result<i64, Stop> {
+        match self.asked.place(fact) {
+            Some(place) => Ok(self.kept.item(place).1),
+            None => match self.evaluator.eval(fact) {
+                Answer::Value(value) => {
+                    self.keep(fact, value)?;
+                    Ok(value)
+                }
+                Answer::Undecided(at) => Err(Stop::Undecided(fact, at)),
+                Answer::Void(site) => Err(Stop::Void(fact, site)),
+            },
+        }
+    }
+}

@@ -1,0 +1,18 @@
+//! Answers facts one at a time: the contract of an evaluator, and oracles, which also keep the list of the facts
+//! that they were asked. `Asking` asks an evaluator, `Listed` looks facts up in a list of facts with their values.
+#![tactic(auto)]
+
+mod asking;
+mod evaluator;
+mod listed;
+mod lists;
+mod noted;
+mod oracle;
+#[cfg(test)]
+mod tests;
+
+pub use asking::Asking;
+pub use evaluator::{Answer, Evaluator};
+pub use listed::Listed;
+pub use lists::{Answers, FactList, FactValues};
+pub use oracle::{Oracle, Stop};

@@ -1,0 +1,164 @@
+//! Lists of facts, of facts with their values, and of answers, which contracts see as lists.
+ghost use Rattle.std.specs.Prelude.{◌≡◌, ◌<◌, ◌-◌, ◌++◌, [], ◌∷◌, ℤ, List, Some, length, take, slice_get, OnOk, OnErr};
+ghost use Rattle.book_model.specs.declared.fact.Fact.{Fact};
+ghost use Rattle.oracle_core.specs.declared.evaluator.Answer.{Answer};
+
+use crate::Answer;
+use book_model::Fact;
+use std::alloc::{AllocError, Global};
+use std::marker::Model;
+
+/// Facts, in order.
+#[derive(Drop)]
+pub struct FactList {
+    facts: Vec<Fact>,
+}
+
+impl Model for FactList {
+    ghost Value = { List Fact };
+
+    ghost view = { λ l. l.facts.items };
+}
+
+impl FactList {
+    /// The empty list.
+    pub fn new(alloc: Global) -> Self
+        ensures empty { result ≡ [] }
+    {
+        FactList {
+            facts: Vec::new(alloc),
+        }
+    }
+
+    /// Adds an item at the end. Where memory runs out the list stays as it was.
+    pub fn push(&mut self, item: Fact) -> Result<(), AllocError>
+        ensures ok { OnOk result (self.new ≡ self.old ++ item ∷ []) }
+        ensures err { OnErr result (self.new ≡ self.old) }
+    {
+        self.facts.push(item)?;
+        Ok(())
+    }
+
+    /// The number of items.
+    pub fn len(&self) -> usize
+        ensures len { result ≡ length self.now }
+    {
+        self.facts.len()
+    }
+
+    /// An item, from 0.
+    pub fn item(&self, index: usize) -> &Fact
+        requires within { index < length self.now }
+        ensures item { Some result.now ≡ slice_get self.now index }
+    {
+        &self.facts[index]
+    }
+
+    /// Takes the last item away, if there is one.
+    pub(crate) fn forget_last(&mut self)
+        ensures front { self.new ≡ take (length self.old - 1) self.old }
+    {
+        self.facts.pop();
+    }
+}
+
+/// Facts with their values, in order.
+#[derive(Drop)]
+pub struct FactValues {
+    pairs: Vec<(Fact, i64)>,
+}
+
+impl Model for FactValues {
+    ghost Value = { List (Fact × ℤ) };
+
+    ghost view = { λ l. l.pairs.items };
+}
+
+impl FactValues {
+    /// The empty list.
+    pub fn new(alloc: Global) -> Self
+        ensures empty { result ≡ [] }
+    {
+        FactValues {
+            pairs: Vec::new(alloc),
+        }
+    }
+
+    /// Adds an item at the end. Where memory runs out the list stays as it was.
+    pub fn push(&mut self, item: (Fact, i64)) -> Result<(), AllocError>
+        ensures ok { OnOk result (self.new ≡ self.old ++ item ∷ []) }
+        ensures err { OnErr result (self.new ≡ self.old) }
+    {
+        self.pairs.push(item)?;
+        Ok(())
+    }
+
+    /// The number of items.
+    pub fn len(&self) -> usize
+        ensures len { result ≡ length self.now }
+    {
+        self.pairs.len()
+    }
+
+    /// An item, from 0.
+    pub fn item(&self, index: usize) -> &(Fact, i64)
+        requires within { index < length self.now }
+        ensures item { Some result.now ≡ slice_get self.now index }
+    {
+        &self.pairs[index]
+    }
+
+    /// Takes the last item away, if there is one.
+    pub(crate) fn forget_last(&mut self)
+        ensures front { self.new ≡ take (length self.old - 1) self.old }
+    {
+        self.pairs.pop();
+    }
+}
+
+/// Answers, in order.
+#[derive(Drop)]
+pub struct Answers {
+    answers: Vec<Answer>,
+}
+
+impl Model for Answers {
+    ghost Value = { List Answer };
+
+    ghost view = { λ l. l.answers.items };
+}
+
+impl Answers {
+    /// The empty list.
+    pub fn new(alloc: Global) -> Self
+        ensures empty { result ≡ [] }
+    {
+        Answers {
+            answers: Vec::new(alloc),
+        }
+    }
+
+    /// Adds an item at the end. Where memory runs out the list stays as it was.
+    pub fn push(&mut self, item: Answer) -> Result<(), AllocError>
+        ensures ok { OnOk result (self.new ≡ self.old ++ item ∷ []) }
+        ensures err { OnErr result (self.new ≡ self.old) }
+    {
+        self.answers.push(item)?;
+        Ok(())
+    }
+
+    /// The number of items.
+    pub fn len(&self) -> usize
+        ensures len { result ≡ length self.now }
+    {
+        self.answers.len()
+    }
+
+    /// An item, from 0.
+    pub fn item(&self, index: usize) -> &Answer
+        requires within { index < length self.now }
+        ensures item { Some result.now ≡ slice_get self.now index }
+    {
+        &self.answers[index]
+    }
+}

@@ -1,0 +1,68 @@
+//! The facts asked so far, with quick look-ups.
+ghost use Rattle.std.specs.Prelude.{◌≡◌, [], List, OnOk, OnErr, IfSome};
+ghost use Rattle.book_model.specs.declared.fact.Fact.{Fact};
+ghost use Rattle.std.specs.List.{position};
+ghost use Rattle.book_model.specs.Inquiries.{fact_eq, with_fact};
+
+use crate::FactList;
+use book_model::Fact;
+use indexmap::IndexSet;
+use std::alloc::{AllocError, Global};
+use std::marker::Model;
+
+/// Facts, each once, in order of first use.
+#[derive(Drop)]
+pub(crate) struct Noted {
+    list: FactList,
+    places: IndexSet<Fact>,
+}
+
+impl Model for Noted {
+    ghost Value = { List Fact };
+
+    ghost view = { λ n. n.list };
+
+    ghost invariant = { λ n. n.places.keys ≡ n.list };
+}
+
+impl Noted {
+    /// No facts.
+    pub(crate) fn new(alloc: Global) -> Self
+        ensures empty { result ≡ [] }
+    {
+        Noted {
+            list: FactList::new(alloc),
+            places: IndexSet::new(alloc),
+        }
+    }
+
+    /// The facts as a list.
+    pub(crate) fn list(&self) -> &FactList
+        ensures list { result.now ≡ self.now }
+    {
+        &self.list
+    }
+
+    /// Where the fact stands, if it is there.
+    pub(crate) fn place(&self, fact: Fact) -> Option<usize>
+        ensures place { result ≡ position (fact_eq fact) self.now }
+    {
+        self.places.get_index_of(&fact)
+    }
+
+    /// Adds the fact at the end, unless it is there. Where memory runs out the facts stay as they were.
+    pub(crate) fn note(&mut self, fact: Fact) -> Result<(), AllocError>
+        ensures ok { OnOk result (self.new ≡ with_fact self.old fact) }
+        ensures err { OnErr result (self.new ≡ self.old) }
+    {
+        if self.places.contains(&fact) {
+            return Ok(());
+        }
+        self.list.push(fact)?;
+        if self.places.insert(fact).is_err() {
+            self.list.forget_last();
+            return Err(AllocError);
+        }
+        Ok(())
+    }
+}
