@@ -73,14 +73,14 @@ first_before_last a b h =
     omega (arith, ints, s)
 
 -- octants that an interval meets
-record AreMet (a b : Fraction) (k : ℤ) : Type 0 where
+pub record AreMet (a b : Fraction) (k : ℤ) : Type 0 where
   pub from : first_octant a ≤ℤ k
   pub to : k ≤ℤ last_octant b
 
-begins_below : (a b : Fraction) (k : ℤ) → AreMet a b k → octant_edge k ≤F b
+pub begins_below : (a b : Fraction) (k : ℤ) → AreMet a b k → octant_edge k ≤F b
 begins_below a b k m = le_trans _ (octant_edge (last_octant b)) _ (edges_rise k (last_octant b) m.to) (last_begins b)
 
-ends_above : (a b : Fraction) (k : ℤ) → AreMet a b k → a ≤F octant_edge (k +ℤ pos 1)
+pub ends_above : (a b : Fraction) (k : ℤ) → AreMet a b k → a ≤F octant_edge (k +ℤ pos 1)
 ends_above a b k m =
     let f = m.from in
     le_trans _ (octant_edge (first_octant a +ℤ pos 1)) _ (first_ends a) (edges_rise (first_octant a +ℤ pos 1) (k +ℤ pos 1) (omega (arith, ints)))
@@ -144,7 +144,7 @@ reaches : (f l : ℤ) → f ≤ℤ l → f +ℤ pos (unsigned_abs (l -ℤ f)) �
 reaches f l h = let e = own_size (l -ℤ f) (omega (arith, ints)) in rw e (omega (arith, ints))
 
 -- the hull over the octants that an interval meets
-abbrev over : (ℤ → Interval) → Fraction → Fraction → Interval
+abbrev pub over : (ℤ → Interval) → Fraction → Fraction → Interval
 over f a b = hull_from f (first_octant a) (unsigned_abs (last_octant b -ℤ first_octant a))
 
 over_holds : (f : ℤ → Interval) (a b : Fraction) (k : ℤ) → a ≤F b → AreMet a b k → f k ⊆ over f a b
@@ -152,17 +152,17 @@ over_holds f a b k p m =
     let e = reaches (first_octant a) (last_octant b) (first_before_last a b p) in
     hull_from_holds (unsigned_abs (last_octant b -ℤ first_octant a)) f (first_octant a) k m.from (rw e m.to)
 
-over_least : (f : ℤ → Interval) (a b : Fraction) (x : Interval) → a ≤F b → ((k : ℤ) → AreMet a b k → f k ⊆ x) → over f a b ⊆ x
+pub over_least : (f : ℤ → Interval) (a b : Fraction) (x : Interval) → a ≤F b → ((k : ℤ) → AreMet a b k → f k ⊆ x) → over f a b ⊆ x
 over_least f a b x p h =
     let e = reaches (first_octant a) (last_octant b) (first_before_last a b p) in
     hull_from_least (unsigned_abs (last_octant b -ℤ first_octant a)) f (first_octant a) x (λ k l g. h k (record { from = l; to = rw e at g }))
 
 -- ---- the sines in one octant
-record AreInOctant (k : ℤ) (x y z : Fraction) : Type 0 where
-  begun : octant_edge k ≤F x
-  first : x ≤F y
-  second : y ≤F z
-  ended : z ≤F octant_edge (k +ℤ pos 1)
+pub record AreInOctant (k : ℤ) (x y z : Fraction) : Type 0 where
+  pub begun : octant_edge k ≤F x
+  pub first : x ≤F y
+  pub second : y ≤F z
+  pub ended : z ≤F octant_edge (k +ℤ pos 1)
 
 beyond_nonneg : (k : ℤ) (x : Fraction) → octant_edge k ≤F x → zero_F ≤F plus x (opposite (octant_edge k))
 beyond_nonneg k x h = le_by (x ∷ octant_edge k ∷ []) ((at 1 ≼ at 0) ∷ []) (lit (pos 0)) (at 0 ⊖ at 1) (known 0) refl (h, tt)
@@ -175,7 +175,7 @@ beyond_bounded k x h =
 beyond_order : (k : ℤ) (x y : Fraction) → x ≤F y → plus x (opposite (octant_edge k)) ≤F plus y (opposite (octant_edge k))
 beyond_order k x y h = le_by (x ∷ y ∷ octant_edge k ∷ []) ((at 0 ≼ at 1) ∷ []) (at 0 ⊖ at 2) (at 1 ⊖ at 2) (known 0) refl (h, tt)
 
-at_amid : (n : ℕ) (k : ℤ) (x y z : Fraction) → AreInOctant k x y z → sine_at (suc n) k y ⊆ hull (sine_at (suc n) k x) (sine_at (suc n) k z)
+pub at_amid : (n : ℕ) (k : ℤ) (x y z : Fraction) → AreInOctant k x y z → sine_at (suc n) k y ⊆ hull (sine_at (suc n) k x) (sine_at (suc n) k z)
 unfolding sine_at
 at_amid n k x y z i =
     into_amid n (octant_of_turn k) _ _ _

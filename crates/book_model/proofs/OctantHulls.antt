@@ -19,7 +19,7 @@ use Rattle.book_model.proofs.Pi.{pi_proper, pi_deeper, pi_at_least}
 degree_proper : (n : ℕ) → IsProper (product (pi_at n) (only (one_over 179)))
 degree_proper n = product_proper (pi_at n) (only (one_over 179)) (pi_proper n) (le_refl (one_over 179))
 
-radians_proper : (n : ℕ) (r : Fraction) → IsProper (radians n r)
+pub radians_proper : (n : ℕ) (r : Fraction) → IsProper (radians n r)
 unfolding radians
 radians_proper n r = product_proper (only r) (product (pi_at n) (only (one_over 179))) (le_refl r) (degree_proper n)
 
@@ -128,7 +128,7 @@ angles_at_1 : product (between zero_F (whole (pos 45))) (product (pi_at 1) (only
 unfolding product least greatest smaller larger is_at_most pi_at sum negative scaled lower upper alternating size arctan_term power plus times opposite
 angles_at_1 = record { ends = (record { cross = record { le = tt } }, record { cross = record { le = tt } }) }
 
-radians_inside : (n : ℕ) (r : Fraction) → zero_F ≤F r → r ≤F whole (pos 45) → radians (suc n) r ⊆ first_angles
+pub radians_inside : (n : ℕ) (r : Fraction) → zero_F ≤F r → r ≤F whole (pos 45) → radians (suc n) r ⊆ first_angles
 unfolding radians
 radians_inside n r h k =
     within_trans

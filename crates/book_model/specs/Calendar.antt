@@ -1,6 +1,6 @@
 -- The Gregorian calendar, for all years: day numbers of the book (R.D.), where day 1 is 1 January of the year 1.
 -- Reingold and Dershowitz, Calendrical Calculations, chapter 2.
-use Rattle.std.specs.Prelude.{ℕ, zero, suc, ◌+◌, ◌-◌, ◌%◌, ◌==◌, ◌&&◌, ◌||◌, not, nat_lt, nat_le, Bool, if◌then◌else◌, ℤ, pos, ◌+ℤ◌, ◌-ℤ◌, ◌*ℤ◌, ◌≤ℤ◌, ◌<ℤ◌, int_lt}
+use Rattle.std.specs.Prelude.{ℕ, zero, suc, ◌+◌, ◌-◌, ◌%◌, ◌==◌, ◌&&◌, ◌||◌, not, nat_lt, nat_le, Bool, if◌then◌else◌, ℤ, pos, ◌+ℤ◌, ◌-ℤ◌, ◌*ℤ◌, ◌≤ℤ◌, ◌<ℤ◌, int_lt, unsigned_abs}
 use Rattle.exact_math.specs.Fraction.{floor_quotient}
 
 -- how many leap days the years 1 to n have: every fourth year, but of the centuries only every fourth
@@ -43,3 +43,20 @@ is_date y m d = nat_lt 0 y && nat_lt y 10000 && nat_lt 0 m && nat_lt m 13 && nat
 -- the day number of a date
 unfoldable pub fixed_of : ℕ → ℕ → ℕ → ℤ
 fixed_of y m d = first_day (pos y) +ℤ pos (days_of_months y (m - 1) + d) -ℤ pos 1
+
+-- the number of the first n months that are over on a day of the year, counted from 0
+unfoldable pub months_over : ℕ → ℕ → ℕ → ℕ
+months_over y k zero = 0
+months_over y k (suc n) = if nat_le (days_of_months y (suc n)) k then suc n else months_over y k n
+
+-- the days of its year that are over on a day
+abbrev pub days_over : ℤ → ℕ
+days_over d = unsigned_abs (d -ℤ first_day (year_of_day d))
+
+-- the month of a day, from 1
+unfoldable pub month_of_day : ℤ → ℕ
+month_of_day d = months_over (unsigned_abs (year_of_day d)) (days_over d) 11 + 1
+
+-- the day of its month of a day, from 1
+unfoldable pub day_of_month : ℤ → ℕ
+day_of_month d = days_over d - days_of_months (unsigned_abs (year_of_day d)) (month_of_day d - 1) + 1

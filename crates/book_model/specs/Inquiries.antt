@@ -8,11 +8,12 @@ use Rattle.book_model.specs.declared.fact.Place.TheVariants.{None as Nowhere, Be
 use Rattle.book_model.specs.declared.fact.Kind.{Kind}
 use Rattle.book_model.specs.declared.fact.Place.{Place}
 use Rattle.book_model.specs.declared.request.ToWord.{ToWord}
-use Rattle.book_model.specs.declared.request.ToWord.TheVariants.{Dt}
+use Rattle.book_model.specs.declared.request.ToWord.TheVariants.{Gregorian, Fixed, Dt}
 use Rattle.book_model.specs.declared.request.Fields.{Fields}
 use Rattle.book_model.specs.declared.request.Request.{Request}
 use Rattle.book_model.specs.declared.request.Resolved.{Resolved}
 use Rattle.book_model.specs.declared.request.Resolved.TheVariants.{Shown}
+use Rattle.book_model.specs.Calendar.{year_of_day, month_of_day, day_of_month}
 use Rattle.book_model.specs.Facts.{run_of}
 use Rattle.book_model.specs.Programs.{Outcome, valued, void_at, open_at, outcome}
 use Rattle.book_model.specs.Requests.{day_of}
@@ -34,13 +35,29 @@ to_32_bits z = if int_le z (negsuc (2 ^ 31 - 1)) then negsuc (2 ^ 31 - 1) else (
 abbrev pub one_field : ℤ → Fields
 one_field z = record { count = 1; values = to_32_bits z ∷ pos 0 ∷ pos 0 ∷ pos 0 ∷ pos 0 ∷ [] }
 
+-- the Gregorian date of a day: year, month and day
+unfoldable pub gregorian_fields_on : ℤ → Fields
+gregorian_fields_on day = record { count = 3; values = to_32_bits (year_of_day day) ∷ pos (month_of_day day) ∷ pos (day_of_month day) ∷ pos 0 ∷ pos 0 ∷ [] }
+
 -- what a day comes to
 abbrev pub result_on : ToWord → ℤ → Inquiry Resolved
+result_on Gregorian day = done (Shown Gregorian (gregorian_fields_on day))
+result_on Fixed day = done (Shown Fixed (one_field day))
 result_on Dt day = ask (dt_fact day) (λ v. done (Shown Dt (one_field v)))
 
 -- the rule of a line
 unfoldable pub rule_of : Request → Inquiry Resolved
 rule_of r = result_on r.to (day_of r.from r.date)
+
+-- the result of an inquiry over a table of the values of facts
+abbrev pub result_over : {A : Type 0} → (Fact → ℤ) → Inquiry A → A
+result_over table (done a) = a
+result_over table (ask f next) = result_over table (next (table f))
+
+-- the facts that it asks of the table, in order
+abbrev pub facts_over : {A : Type 0} → (Fact → ℤ) → Inquiry A → List Fact
+facts_over table (done a) = []
+facts_over table (ask f next) = f ∷ facts_over table (next (table f))
 
 -- the number of a kind of fact, and that of a place
 abbrev pub kind_number : Kind → ℕ
@@ -60,6 +77,11 @@ fact_eq f g = (kind_number f.kind == kind_number g.kind) && (place_number f.plac
 -- facts, each once, and this one
 abbrev pub with_fact : List Fact → Fact → List Fact
 with_fact seen f = if list_any (fact_eq f) seen then seen else seen ++ f ∷ []
+
+-- facts, each once, and all these in order, each as the fact under which it is kept
+abbrev pub with_kept : (Fact → Fact) → List Fact → List Fact → List Fact
+with_kept kept_as seen [] = seen
+with_kept kept_as seen (f ∷ fs) = with_kept kept_as (with_fact seen (kept_as f)) fs
 
 -- the facts that were asked, each once with its value, and this one
 abbrev pub with_entry : List (Fact × ℤ) → Fact → ℤ → List (Fact × ℤ)

@@ -1,16 +1,16 @@
 -- What a line asks, and the first rule that it breaks.
-use Rattle.std.specs.Prelude.{ℕ, ◌&&◌, nat_eq, nat_le, if◌then◌else◌, Bool, List, [], ◌∷◌, length, codes, ℤ, pos, unsigned_abs, slice_index_or, Some, None, Option, Result, Ok, Err}
+use Rattle.std.specs.Prelude.{ℕ, ◌&&◌, nat_eq, nat_le, if◌then◌else◌, int_le, Bool, true, List, [], ◌∷◌, length, codes, ℤ, pos, unsigned_abs, slice_index_or, Some, None, Option, Result, Ok, Err}
 use Rattle.std.specs.List.{list_all}
 use lib.Pointwise.{pointwise}
 use Rattle.book_model.specs.declared.request.FromWord.{FromWord}
-use Rattle.book_model.specs.declared.request.FromWord.TheVariants.{Gregorian}
+use Rattle.book_model.specs.declared.request.FromWord.TheVariants.{Gregorian, Fixed}
 use Rattle.book_model.specs.declared.request.ToWord.{ToWord}
-use Rattle.book_model.specs.declared.request.ToWord.TheVariants.{Dt}
+use Rattle.book_model.specs.declared.request.ToWord.TheVariants.{Gregorian as to_gregorian, Fixed as to_fixed, Dt}
 use Rattle.book_model.specs.declared.request.Fields.{Fields}
 use Rattle.book_model.specs.declared.request.Request.{Request}
 use Rattle.book_model.specs.declared.request.Rule.{Rule}
 use Rattle.book_model.specs.declared.request.Rule.TheVariants.{Syntax, Calendar, Field, Range}
-use Rattle.book_model.specs.Calendar.{is_date, fixed_of}
+use Rattle.book_model.specs.Calendar.{is_date, fixed_of, year_of_day}
 use Rattle.book_model.specs.Correction.{is_between}
 use Rattle.book_model.specs.Lines.{is_plain, words_of, parts_of, number_of}
 
@@ -23,11 +23,11 @@ rule_number Range = 4
 
 -- the calendar that a word names
 abbrev pub from_word_of : List ℕ → Option FromWord
-from_word_of word = if pointwise nat_eq word (codes "gregorian") then Some Gregorian else None
+from_word_of word = if pointwise nat_eq word (codes "gregorian") then Some Gregorian else (if pointwise nat_eq word (codes "fixed") then Some Fixed else None)
 
 -- what a word asks for
 abbrev pub to_word_of : List ℕ → Option ToWord
-to_word_of word = if pointwise nat_eq word (codes "dt") then Some Dt else None
+to_word_of word = if pointwise nat_eq word (codes "gregorian") then Some to_gregorian else (if pointwise nat_eq word (codes "fixed") then Some to_fixed else (if pointwise nat_eq word (codes "dt") then Some Dt else None))
 
 -- the three fields of a Gregorian date
 abbrev pub gregorian_fields : ℕ → ℕ → ℕ → Fields
@@ -48,9 +48,21 @@ gregorian_of (y ∷ m ∷ []) = None
 gregorian_of (y ∷ m ∷ d ∷ []) = checked_fields (number_of y) (number_of m) (number_of d)
 gregorian_of (y ∷ m ∷ d ∷ e ∷ es) = None
 
+-- the field of a day number
+abbrev pub fixed_fields : Option ℕ → Option Fields
+fixed_fields (Some d) = Some (record { count = 1; values = pos d ∷ pos 0 ∷ pos 0 ∷ pos 0 ∷ pos 0 ∷ [] })
+fixed_fields None = None
+
+-- the fields of a day number, which is one part
+abbrev pub fixed_day_of : List (List ℕ) → Option Fields
+fixed_day_of [] = None
+fixed_day_of (d ∷ []) = fixed_fields (number_of d)
+fixed_day_of (d ∷ e ∷ es) = None
+
 -- the fields of a date of a calendar
 abbrev pub fields_of : FromWord → List ℕ → Option Fields
 fields_of Gregorian date = gregorian_of (parts_of date)
+fields_of Fixed date = fixed_day_of (parts_of date)
 
 -- a field of a date, from 0
 abbrev pub field : Fields → ℕ → ℕ
@@ -59,18 +71,21 @@ field f k = unsigned_abs (slice_index_or f.values k (pos 0))
 -- the day that a date names (R.D.)
 unfoldable pub day_of : FromWord → Fields → ℤ
 day_of Gregorian f = fixed_of (field f 0) (field f 1) (field f 2)
+day_of Fixed f = pos (field f 0)
 
 -- the days that a line may name: 1 January 1802 to 31 December 2048
 abbrev pub is_in_range : ℤ → Bool
 is_in_range day = is_between (pos 657802) (pos 748017) day
 
--- the years of which a line may ask this: the dynamical time correction from 1987 on
-abbrev pub is_year_for : ToWord → ℕ → Bool
-is_year_for Dt year = nat_le 1987 year
+-- the days whose year a line may ask this of: the dynamical time correction from 1987 on
+abbrev pub is_year_for : ToWord → ℤ → Bool
+is_year_for to_gregorian day = true
+is_year_for to_fixed day = true
+is_year_for Dt day = int_le (pos 1987) (year_of_day day)
 
 -- the request, where its day is within the range
 abbrev pub ranged : Request → Result Request Rule
-ranged r = if is_in_range (day_of r.from r.date) && is_year_for r.to (field r.date 0) then Ok r else Err Range
+ranged r = if is_in_range (day_of r.from r.date) && is_year_for r.to (day_of r.from r.date) then Ok r else Err Range
 
 abbrev pub with_fields : FromWord → ToWord → Option Fields → Result Request Rule
 with_fields from to None = Err Field

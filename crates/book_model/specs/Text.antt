@@ -1,12 +1,12 @@
 -- The text that is written for lines and their outcomes.
-use Rattle.std.specs.Prelude.{ℕ, ◌+◌, if◌then◌else◌, List, [], ◌∷◌, ◌++◌, length, slice_index_or, codes, decimal, ℤ, pos}
+use Rattle.std.specs.Prelude.{ℕ, ◌+◌, ◌-◌, replicate, if◌then◌else◌, List, [], ◌∷◌, ◌++◌, length, slice_index_or, codes, decimal, ℤ, pos}
 use Rattle.std.specs.Fmt.{signed_decimal}
 use Rattle.std.specs.List.{concat, flat_map, list_any, position_or_len}
 use Rattle.book_model.specs.declared.site.Site.{Site}
 use Rattle.book_model.specs.declared.fact.Fact.{Fact}
 use Rattle.book_model.specs.declared.fail.Undecided.{Undecided}
 use Rattle.book_model.specs.declared.request.ToWord.{ToWord}
-use Rattle.book_model.specs.declared.request.ToWord.TheVariants.{Dt}
+use Rattle.book_model.specs.declared.request.ToWord.TheVariants.{Gregorian, Fixed, Dt}
 use Rattle.book_model.specs.declared.request.Fields.{Fields}
 use Rattle.book_model.specs.declared.request.Resolved.{Resolved}
 use Rattle.book_model.specs.declared.request.Resolved.TheVariants.{Shown}
@@ -15,7 +15,7 @@ use Rattle.book_model.specs.Inquiries.{fact_eq}
 use Rattle.book_model.specs.Lines.{words_of}
 use Rattle.book_model.specs.Names.{site_name, kind_name, place_name}
 use Rattle.book_model.specs.Outcomes.{LineOutcome, refused, resolved, undecided, void}
-use Rattle.book_model.specs.Requests.{rule_number}
+use Rattle.book_model.specs.Requests.{rule_number, field}
 
 abbrev pub header : List ℕ
 header = codes "calendrica 1 depth 40\n"
@@ -32,8 +32,18 @@ fact_text number f value = concat (codes "fact " ∷ decimal number ∷ codes " 
 abbrev pub first_value : Fields → ℤ
 first_value f = slice_index_or f.values 0 (pos 0)
 
+-- the decimal digits of a number, with zeros in front up to this many digits
+abbrev pub padded : ℕ → ℕ → List ℕ
+padded width n = replicate (width - length (decimal n)) 48 ++ decimal n
+
+-- a year of four digits, a month of two and a day of two
+unfoldable pub gregorian_text : Fields → List ℕ
+gregorian_text f = concat (padded 4 (field f 0) ∷ codes "-" ∷ padded 2 (field f 1) ∷ codes "-" ∷ padded 2 (field f 2) ∷ [])
+
 -- the text of a result
 abbrev pub shown_as : ToWord → Fields → List ℕ
+shown_as Gregorian fields = gregorian_text fields
+shown_as Fixed fields = signed_decimal (first_value fields)
 shown_as Dt fields = signed_decimal (first_value fields)
 
 abbrev pub result_text : Resolved → List ℕ

@@ -1,14 +1,17 @@
 //! What a line of input asks, and what it gets.
 
-/// A word for the calendar of a line's date.
+/// A word for the calendar of a line's date: a Gregorian date, or the day number of the book (R.D.).
 #[derive(Clone, Copy, Debug, PartialEq, Eq)]
 pub enum FromWord {
     Gregorian,
+    Fixed,
 }
 
-/// A word for what a line asks.
+/// A word for what a line asks: the Gregorian date, the day number (R.D.), or the dynamical time correction.
 #[derive(Clone, Copy, Debug, PartialEq, Eq)]
 pub enum ToWord {
+    Gregorian,
+    Fixed,
     Dt,
 }
 

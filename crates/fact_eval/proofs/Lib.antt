@@ -1,4 +1,3 @@
 pub mod CorrectionLemmas
-pub mod JiffCalendar
 pub mod Rightness
 pub mod WidthLemmas

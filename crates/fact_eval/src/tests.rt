@@ -1,7 +1,7 @@
 //! The evaluator against an independent implementation of the formulas.
 use super::*;
 use book_model::{Fact, Kind, Place, Site};
-use oracle_core::{Answer, Evaluator};
+use oracle_core::{Answer, Asking, Evaluator, Oracle, Stop};
 use std::test::Fail;
 
 #[test]
@@ -37,5 +37,22 @@ fn other_days_are_void_at_the_year(rt: HostRuntime) -> Result<(), Fail> {
         let fact = Fact::new(Kind::Dt, Place::None, day).ok_or("no fact")?;
         assert_eq!(rt; staged.eval(fact), Answer::Void(Site::Year), "day {day}");
     }
+    Ok(())
+}
+
+#[test]
+fn asked_facts_are_kept_once(rt: HostRuntime) -> Result<(), Fail> {
+    let alloc = rt.alloc();
+    let staged = Staged::new();
+    let mut asking = Asking::new(alloc, &staged);
+    let fact = Fact::new(Kind::Dt, Place::None, 738_926).ok_or("no fact")?;
+    let other = Fact::new(Kind::Dt, Place::None, 0).ok_or("no fact")?;
+    assert_eq!(rt; asking.ask(fact), Ok(73_871));
+    assert_eq!(rt; asking.ask(other), Err(Stop::Void(other, Site::Year)));
+    assert_eq!(rt; asking.ask(fact), Ok(73_871));
+    assert_eq!(rt; asking.asked().len(), 1);
+    let kept = asking.finish();
+    assert_eq!(rt; kept.len(), 1);
+    assert_eq!(rt; *kept.item(0), (fact, 73_871));
     Ok(())
 }

@@ -1,6 +1,6 @@
 -- Facts that are kept with true values.
-use Rattle.std.proofs.Common.{◌≡◌, ℕ, zero, suc, ◌+◌, ◌<◌, Bool, true, false, cond, not, refl, List, [], ◌∷◌, ◌++◌, length, get_or, ℤ, arith, ap, sym}
-use Rattle.std.specs.Prelude.{Some, None, Option}
+use Rattle.std.proofs.Common.{◌≡◌, ℕ, suc, ◌+◌, ◌<◌, Bool, true, false, cond, not, refl, List, [], ◌∷◌, ◌++◌, length, get_or, ℤ, arith, ap, sym}
+use Rattle.std.specs.Prelude.{Some}
 use Rattle.std.specs.List.{list_any, position_or_len, position}
 use Rattle.book_model.specs.declared.fact.Fact.{Fact}
 use Rattle.book_model.specs.Inquiries.{fact_eq, with_fact}

@@ -1,6 +1,6 @@
 -- Facts that are looked up in a list.
-use Rattle.std.proofs.Common.{◌≡◌, ℕ, zero, suc, ◌+◌, ◌<◌, Bool, true, false, cond, not, ◌&&◌, ◌||◌, refl, List, [], ◌∷◌, ◌++◌, length, get_or, drop, ℤ, negsuc, pos, ◌≤ℤ◌, arith, ap, sym, append-nil}
-use Rattle.std.specs.Prelude.{Some, None, Option, IsTrue, if◌then◌else◌}
+use Rattle.std.proofs.Common.{◌≡◌, ℕ, zero, suc, ◌+◌, ◌<◌, Bool, true, false, cond, not, ◌&&◌, ◌||◌, refl, List, [], ◌∷◌, ◌++◌, length, get_or, drop, ℤ, arith, append-nil}
+use Rattle.std.specs.Prelude.{Some, None, IsTrue, if◌then◌else◌}
 use Rattle.std.specs.List.{list_any, position_or_len, position}
 use Rattle.std.proofs.Math.Seq.{drop-append_seam, drop-cons}
 use Rattle.std.proofs.lemmas.List.{append_assoc}
@@ -24,24 +24,24 @@ whole_front xs fs e = record { rest = []; joined = rw append-nil e }
 pub behind_front : (xs fs : List Fact) → IsFront xs fs → xs ++ drop (length xs) fs ≡ fs
 behind_front xs fs h = rw (← h.joined) (rw (drop-append_seam xs h.rest) refl)
 
-not_and : (a b : Bool) → IsTrue (not a && b) → (a ≡ false) × IsTrue b
+pub not_and : (a b : Bool) → IsTrue (not a && b) → (a ≡ false) × IsTrue b
 not_and true b h = cc
 not_and false b h = (refl, h)
 
-neither : (a b : Bool) → (a || b) ≡ false → (a ≡ false) × (b ≡ false)
+pub neither : (a b : Bool) → (a || b) ≡ false → (a ≡ false) × (b ≡ false)
 neither true b h = cc
 neither false b h = (refl, h)
 
-both_false : (a b : Bool) → a ≡ false → b ≡ false → (a || b) ≡ false
+pub both_false : (a b : Bool) → a ≡ false → b ≡ false → (a || b) ≡ false
 both_false a b h k = rw (h, k) refl
 
 -- a test that passes none of a list doesn't pass one of it
-passed_over : {X : Type 0} (p : X → Bool) (xs : List X) (x : X) (ys : List X) → list_any p (xs ++ x ∷ ys) ≡ false → p x ≡ false
+pub passed_over : {X : Type 0} (p : X → Bool) (xs : List X) (x : X) (ys : List X) → list_any p (xs ++ x ∷ ys) ≡ false → p x ≡ false
 passed_over p [] x ys h = (neither _ _ h).0
 passed_over p (z ∷ xs) x ys h = passed_over p xs x ys (neither (p z) _ h).1
 
 -- where a fact isn't another, neither is that one it
-other_way : (f g : Fact) → fact_eq g f ≡ false → fact_eq f g ≡ false
+pub other_way : (f g : Fact) → fact_eq g f ≡ false → fact_eq f g ≡ false
 other_way f g h = by (fact_eq f g) refl
   where
     by : (t : Bool) → fact_eq f g ≡ t → t ≡ false
@@ -54,6 +54,20 @@ next_is_new [] x ys h = refl
 next_is_new (y ∷ xs) x ys h =
     let e = not_and (list_any (fact_eq y) (xs ++ x ∷ ys)) (are_distinct (xs ++ x ∷ ys)) h in
     both_false (fact_eq x y) (list_any (fact_eq x) xs) (other_way x y (passed_over (fact_eq y) xs x ys e.0)) (next_is_new xs x ys e.1)
+
+-- where a fact is none of these and not another, it is none of all
+none_more : (g f : Fact) (gs : List Fact) → list_any (fact_eq g) gs ≡ false → fact_eq g f ≡ false → list_any (fact_eq g) (gs ++ f ∷ []) ≡ false
+none_more g f [] h k = rw k refl
+none_more g f (x ∷ gs) h k = let n = neither (fact_eq g x) (list_any (fact_eq g) gs) h in both_false (fact_eq g x) (list_any (fact_eq g) (gs ++ f ∷ [])) n.0 (none_more g f gs n.1 k)
+
+-- a fact more that is none of distinct facts
+pub distinct_more : (gs : List Fact) (f : Fact) → IsTrue (are_distinct gs) → list_any (fact_eq f) gs ≡ false → IsTrue (are_distinct (gs ++ f ∷ []))
+distinct_more [] f h k = refl
+distinct_more (g ∷ gs) f h k =
+    let p = not_and (list_any (fact_eq g) gs) (are_distinct gs) h in
+    let n = neither (fact_eq f g) (list_any (fact_eq f) gs) k in
+    let none : list_any (fact_eq g) (gs ++ f ∷ []) ≡ false = none_more g f gs p.0 (other_way g f n.0) in
+    rw none (distinct_more gs f p.1 n.1)
 
 value_at_place : (fs : List Fact) (vs : List ℤ) (f : Fact) (d : ℤ) → length fs ≡ length vs → position_or_len (fact_eq f) fs < length fs → value_beside fs vs f ≡ Some (get_or vs (position_or_len (fact_eq f) fs) d)
 value_at_place [] vs f d same h = absurd (omega arith)

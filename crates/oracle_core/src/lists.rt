@@ -63,7 +63,7 @@ impl FactList {
 }
 
 /// Facts with their values, in order.
-#[derive(Drop)]
+#[derive(Debug, Drop)]
 pub struct FactValues {
     pairs: Vec<(Fact, i64)>,
 }
@@ -106,6 +106,13 @@ impl FactValues {
         ensures item { Some result.now ≡ slice_get self.now index }
     {
         &self.pairs[index]
+    }
+
+    /// The facts with their values, in order.
+    pub fn entries(&self) -> &[(Fact, i64)]
+        ensures entries { result.now ≡ self.now }
+    {
+        &self.pairs
     }
 
     /// Takes the last item away, if there is one.

@@ -1,7 +1,7 @@
 use Rattle.std.proofs.Common.{arith, pos, ◌-ℤ◌, FitsSigned, w64, ◌∙◌}
 use Rattle.std.proofs.lemmas.Int.{to_z-of_z}
 use Rattle.jiff.proofs.SpanFacts.{signed_arith, date_add-days, can_add-days}
-use Rattle.fact_eval.proofs.JiffCalendar.{day_one, year_from_day_one}
+use Rattle.oracle_core.proofs.JiffCalendar.{day_one, year_from_day_one}
 use Rattle.fact_eval.proofs.year.year_of_whole_day.Goals as goal
 
 pub unwrap-named-requires : goal.unwrap-named-requires

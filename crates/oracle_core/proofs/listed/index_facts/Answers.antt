@@ -1,4 +1,4 @@
-use Rattle.std.proofs.Common.{arith, ◌<◌, length, drop}
+use Rattle.std.proofs.Common.{◌<◌, length, drop}
 use Rattle.std.proofs.lemmas.List.{take_rest}
 use Rattle.oracle_core.proofs.Listing.{indexed_more}
 use Rattle.oracle_core.proofs.listed.index_facts.Goals as goal

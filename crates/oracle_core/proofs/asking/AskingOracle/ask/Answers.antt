@@ -1,6 +1,5 @@
 use Rattle.std.proofs.Common.{rules, ◌≡◌, to_z, of_z, w64}
 use Rattle.book_model.specs.Inquiries.{fact_eq}
-use Rattle.oracle_core.specs.Pairs.{StandsWith}
 use Rattle.oracle_core.proofs.Keeping.{kept_item, place_within, already_there, added_fact}
 use Rattle.oracle_core.proofs.Noting.{not_there}
 use Rattle.oracle_core.proofs.asking.AskingOracle.ask.Goals as goal

@@ -1,0 +1,7 @@
+pub mod DateText
+pub mod DateDays
+pub mod LineWords
+pub mod Requests
+pub mod Ranges
+pub mod Months
+pub mod GregorianDates

@@ -1,0 +1,13 @@
+//! What a line asks, or the first rule that it breaks, and what its request comes to by the answers of an oracle.
+#![tactic(auto)]
+
+mod day;
+mod gregorian;
+mod line;
+mod result;
+#[cfg(test)]
+mod tests;
+
+pub use day::request_day;
+pub use line::{Words, cut_word, read_line, three_words};
+pub use result::resolve;

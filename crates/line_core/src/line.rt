@@ -1,0 +1,202 @@
+//! What a line asks, or the first rule that it breaks.
+ghost use Rattle.std.specs.Prelude.{◌≡◌, ◌≤◌, ◌↔◌, pos, int_le, ◌&&◌, ◌∷◌, [], nat_le, not, length, position, IsTrue, IsSome, IfSome, IfOk, MatchOption};
+ghost use Rattle.std.specs.List.{list_all, position_or_len};
+ghost use Rattle.book_model.specs.Calendar.{year_of_day};
+ghost use Rattle.book_model.specs.Lines as spec;
+ghost use Rattle.book_model.specs.Requests.{request_of, with_words, from_word_of, to_word_of, day_of, is_in_range, ranged as ranged_of, is_year_for as is_year_for_word};
+ghost use Rattle.line_core.specs.Days.{names_day};
+
+use crate::day::{date_fields, request_day};
+use book_model::{FromWord, Request, Rule, ToWord};
+
+/// The longest line, in bytes.
+const LONGEST_LINE: usize = 200;
+
+/// The first day that a line may name: 1 January 1802 (R.D.).
+const FIRST_DAY: i64 = 657_802;
+
+/// The last day that a line may name: 31 December 2048 (R.D.).
+const LAST_DAY: i64 = 748_017;
+
+/// The first day of the years of which the dynamical time correction is known: 1 January 1987 (R.D.).
+const FIRST_CORRECTED_DAY: i64 = 725_372;
+
+/// The three words of a line: the calendar of its date, the date, and what it asks.
+#[derive(Clone, Copy, Debug)]
+pub struct Words<'a> {
+    pub from: &'a [u8],
+    pub date: &'a [u8],
+    pub to: &'a [u8],
+}
+
+/// Whether a byte is a space or a tab.
+fn is_blank(byte: u8) -> bool
+    ensures blank { result ≡ spec.is_blank byte }
+{
+    byte == b' ' || byte == b'\t'
+}
+
+/// Whether a line may hold the byte: a tab, or a byte from 0x20 to 0x7E.
+fn is_plain(byte: u8) -> bool
+    ensures plain { result ≡ spec.is_plain byte }
+{
+    byte == b'\t' || (0x20 <= byte && byte < 0x7F)
+}
+
+/// Whether a line may hold each of the bytes.
+fn are_plain(line: &[u8]) -> bool
+    ensures plain { result ≡ list_all spec.is_plain line.now }
+{
+    line.iter().all(|b| is_plain(*b))
+}
+
+/// Whether a line is short and plain enough to be read.
+fn is_readable(line: &[u8]) -> bool
+    ensures readable { result ≡ (nat_le (length line.now) 200 && list_all spec.is_plain line.now) }
+{
+    line.len() <= LONGEST_LINE && are_plain(line)
+}
+
+/// Where the first word begins.
+fn word_start(line: &[u8]) -> Option<usize>
+    ensures place { result ≡ position (λ b. not (spec.is_blank b)) line.now }
+{
+    line.iter().position(|b| !is_blank(*b))
+}
+
+/// Where the first blank stands.
+fn first_blank(line: &[u8]) -> Option<usize>
+    ensures place { result ≡ position spec.is_blank line.now }
+{
+    line.iter().position(|b| is_blank(*b))
+}
+
+/// How many bytes stand before the first blank.
+fn word_length(line: &[u8]) -> usize
+    ensures length { result ≡ position_or_len spec.is_blank line.now }
+    ensures within { result ≤ length line.now }
+{
+    match first_blank(line) {
+        Some(length) => length,
+        None => line.len(),
+    }
+}
+
+/// The first word of a line, which blanks end, and what follows it; `None` where the line has no word.
+pub fn cut_word(line: &[u8]) -> Option<(&[u8], &[u8])>
+    ensures cut { MatchOption result (spec.words_of line.now ≡ []) (λ p. spec.words_of line.now ≡ p.0.now ∷ spec.words_of p.1.now) }
+{
+    match word_start(line) {
+        Some(start) => {
+            let (_, rest) = line.split_at(start);
+            Some(rest.split_at(word_length(rest)))
+        }
+        None => None,
+    }
+}
+
+/// The three words of a line, which blanks separate; `None` where it has fewer or more.
+pub fn three_words<'a>(line: &'a [u8]) -> Option<Words<'a>>
+    ensures words { IfSome result (λ w. spec.words_of line.now ≡ w.from.now ∷ w.date.now ∷ w.to.now ∷ []) }
+    ensures three { IsSome result ↔ (length (spec.words_of line.now) ≡ 3) }
+{
+    let (from, rest) = cut_word(line)?;
+    let (date, rest) = cut_word(rest)?;
+    let (to, rest) = cut_word(rest)?;
+    match cut_word(rest) {
+        Some(_) => None,
+        None => Some(Words { from, date, to }),
+    }
+}
+
+/// The calendar that a word names.
+fn from_word(word: &[u8]) -> Option<FromWord>
+    ensures word { result ≡ from_word_of word.now }
+{
+    if word == b"gregorian".as_slice() {
+        Some(FromWord::Gregorian)
+    } else if word == b"fixed".as_slice() {
+        Some(FromWord::Fixed)
+    } else {
+        None
+    }
+}
+
+/// What a word asks for.
+fn to_word(word: &[u8]) -> Option<ToWord>
+    ensures word { result ≡ to_word_of word.now }
+{
+    if word == b"gregorian".as_slice() {
+        Some(ToWord::Gregorian)
+    } else if word == b"fixed".as_slice() {
+        Some(ToWord::Fixed)
+    } else if word == b"dt".as_slice() {
+        Some(ToWord::Dt)
+    } else {
+        None
+    }
+}
+
+/// Whether the dynamical time correction of the year of a day (R.D.) is known: from 1987 on.
+fn is_corrected(day: i64) -> bool
+    ensures year { result ≡ int_le (pos 1987) (year_of_day day) }
+{
+    FIRST_CORRECTED_DAY <= day
+}
+
+/// Whether a line may ask this of the year of a day (R.D.): the dynamical time correction from 1987 on.
+fn is_year_for(to: ToWord, day: i64) -> bool
+    ensures year { result ≡ is_year_for_word to day }
+{
+    match to {
+        ToWord::Gregorian | ToWord::Fixed => true,
+        ToWord::Dt => is_corrected(day),
+    }
+}
+
+/// The request, where its day is one that a line may name, and what it asks is known for its year.
+fn ranged(request: Request) -> Result<Request, Rule>
+    requires dated { IsTrue (names_day request.from request.date) }
+    ensures ranged { result ≡ ranged_of request }
+    ensures dated { IfOk result (λ r. IsTrue (names_day r.from r.date)) }
+    ensures near { IfOk result (λ r. IsTrue (is_in_range (day_of r.from r.date))) }
+{
+    let day = request_day(&request);
+    if FIRST_DAY <= day && day <= LAST_DAY && is_year_for(request.to, day) {
+        Ok(request)
+    } else {
+        Err(Rule::Range)
+    }
+}
+
+/// What three words ask.
+fn asked(words: Words<'_>) -> Result<Request, Rule>
+    ensures asked { result ≡ with_words (from_word_of words.entry.from.now) words.entry.date.now (to_word_of words.entry.to.now) }
+    ensures dated { IfOk result (λ r. IsTrue (names_day r.from r.date)) }
+    ensures near { IfOk result (λ r. IsTrue (is_in_range (day_of r.from r.date))) }
+{
+    let from = from_word(words.from).ok_or(Rule::Calendar)?;
+    let to = to_word(words.to).ok_or(Rule::Calendar)?;
+    let date = date_fields(from, words.date).ok_or(Rule::Field)?;
+    ranged(Request { from, date, to })
+}
+
+/// What a line asks, which names a day, or the first rule that it breaks: `Syntax` where it isn't three words of printable bytes
+/// with blanks between them, in 200 bytes at most; `Calendar` for a word that isn't known; `Field` where the
+/// calendar has no such date; `Range` for a day or a year that isn't answered.
+pub fn read_line(bytes: &[u8]) -> Result<Request, Rule>
+    ensures request { result ≡ request_of bytes.now }
+    ensures dated { IfOk result (λ r. IsTrue (names_day r.from r.date)) }
+    ensures near { IfOk result (λ r. IsTrue (is_in_range (day_of r.from r.date))) }
+{
+    if !is_readable(bytes) {
+        return Err(Rule::Syntax);
+    }
+    match three_words(bytes) {
+        Some(words) => asked(words),
+        None => Err(Rule::Syntax),
+    }
+}
+
+#[cfg(test)]
+mod tests;
