@@ -1,0 +1,23 @@
+-- Texts that are written part by part.
+use Rattle.std.proofs.Common.{◌≡◌, ℕ, ◌+◌, ◌<◌, ℤ, List, length, drop, get_or, arith}
+use Rattle.std.proofs.lemmas.List.{drop_more}
+use Rattle.std.specs.declared.option.Option.{Option}
+use Rattle.std.specs.Io.KnownBytes.{Appends}
+use Rattle.cert_text.specs.Stream.{Wrote, AppendsFront}
+use Rattle.cert_text.proofs.Flow.{wrote_on, wrote_front}
+use Rattle.book_model.specs.declared.fact.Fact.{Fact}
+use Rattle.book_model.specs.Text.{fact_text}
+use Rattle.cert_text.specs.Text.{fact_texts}
+
+-- the next fact is written
+pub wrote_fact : (a b c : Option (List ℕ)) (t : List ℕ) (first : ℕ) (es : List (Fact × ℤ)) (i : ℕ) (d : Fact × ℤ) → i < length es
+    → Wrote a b t (fact_texts (first + i) (drop i es)) → Appends b c (fact_text (first + i) (get_or es i d).0 (get_or es i d).1) → Wrote a c t (fact_texts (first + (i + 1)) (drop (i + 1) es))
+wrote_fact a b c t first es i d h w k =
+    let next : first + i + 1 ≡ first + (i + 1) = omega arith in
+    rw (← next) (wrote_on a b c t (fact_text (first + i) (get_or es i d).0 (get_or es i d).1) (fact_texts (first + i + 1) (drop (i + 1) es)) (rw (drop_more es i d h) at w) k)
+
+-- a front of the next fact is written
+pub wrote_fact_front : (a b c : Option (List ℕ)) (t : List ℕ) (first : ℕ) (es : List (Fact × ℤ)) (i : ℕ) (d : Fact × ℤ) → i < length es
+    → Wrote a b t (fact_texts (first + i) (drop i es)) → AppendsFront b c (fact_text (first + i) (get_or es i d).0 (get_or es i d).1) → AppendsFront a c t
+wrote_fact_front a b c t first es i d h w k =
+    wrote_front a b c t (fact_text (first + i) (get_or es i d).0 (get_or es i d).1) (fact_texts (first + i + 1) (drop (i + 1) es)) (rw (drop_more es i d h) at w) k

@@ -1,0 +1,8 @@
+pub mod Stream
+pub mod Numbers
+pub mod Gives
+pub mod Grammar
+pub mod Reading
+pub mod Steps
+pub mod Text
+pub mod ReadAgain

@@ -1,0 +1,47 @@
+//! The lines of a printed file, as they are read and written.
+
+use crate::lists::{Numbers, Word};
+use book_model::{Fact, Site, Undecided};
+
+/// The three words of an input line, as they were given.
+#[derive(Debug, Drop)]
+pub struct Echo {
+    pub from: Word,
+    pub date: Word,
+    pub to: Word,
+}
+
+/// A line of a printed file without its number.
+#[derive(Debug, Drop)]
+pub enum CertLine {
+    /// The result, and the numbers of the facts that it rests on.
+    Shown {
+        echo: Echo,
+        result: Word,
+        facts: Numbers,
+    },
+    /// The computed day (R.D.) is out of range.
+    TooFar {
+        echo: Echo,
+        day: i64,
+        facts: Numbers,
+    },
+    /// The day's own date is another.
+    NoDate {
+        echo: Echo,
+        back: Word,
+        facts: Numbers,
+    },
+    /// The line breaks this rule, from 1 to 4.
+    Refused(u8),
+    /// A test of the fact is open.
+    Undecided {
+        fact: Fact,
+        at: Undecided,
+    },
+    /// The fact has no value.
+    Void {
+        fact: Fact,
+        site: Site,
+    },
+}

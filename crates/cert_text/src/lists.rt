@@ -1,0 +1,129 @@
+//! Lists of bytes and of numbers, which contracts see as lists.
+ghost use Rattle.std.specs.Prelude.{◌≡◌, ◌<◌, ◌++◌, ◌∷◌, [], ℕ, List, Some, length, slice_get, IfOk, OnOk, OnErr};
+
+use std::alloc::{AllocError, Global};
+use std::marker::Model;
+
+/// A word: a list of bytes.
+#[derive(Debug, Drop)]
+pub struct Word {
+    bytes: Vec<u8>,
+}
+
+impl Model for Word {
+    ghost Value = { List ℕ };
+
+    ghost view = { λ w. w.bytes.items };
+}
+
+impl Word {
+    /// The word of no bytes.
+    pub fn new(alloc: Global) -> Self
+        ensures empty { result ≡ [] }
+    {
+        Word {
+            bytes: Vec::new(alloc),
+        }
+    }
+
+    /// The word of these bytes. The error comes where memory runs out.
+    pub fn of(alloc: Global, bytes: &[u8]) -> Result<Word, AllocError>
+        ensures bytes { IfOk result (λ w. w ≡ bytes.now) }
+    {
+        Ok(Word {
+            bytes: Vec::from_slice(alloc, bytes)?,
+        })
+    }
+
+    /// The word that holds these bytes.
+    pub(crate) fn with(bytes: Vec<u8>) -> Word
+        ensures bytes { result ≡ bytes.items }
+    {
+        Word { bytes }
+    }
+
+    /// How many bytes the word has.
+    pub fn len(&self) -> usize
+        ensures len { result ≡ length self.now }
+    {
+        self.bytes.len()
+    }
+
+    /// The byte at an index, from 0.
+    pub fn item(&self, index: usize) -> &u8
+        requires within { index < length self.now }
+        ensures item { Some result.now ≡ slice_get self.now index }
+    {
+        &self.bytes[index]
+    }
+
+    /// Adds a byte at the end. The error comes where memory runs out, and leaves the word as it was.
+    pub fn push(&mut self, byte: u8) -> Result<(), AllocError>
+        ensures ok { OnOk result (self.new ≡ self.old ++ byte ∷ []) }
+        ensures err { OnErr result (self.new ≡ self.old) }
+    {
+        self.bytes.push(byte)?;
+        Ok(())
+    }
+
+    /// The bytes.
+    pub fn bytes(&self) -> &[u8]
+        ensures bytes { result.now ≡ self.now }
+    {
+        &self.bytes
+    }
+}
+
+/// A list of the numbers of facts.
+#[derive(Debug, Drop)]
+pub struct Numbers {
+    items: Vec<u32>,
+}
+
+impl Model for Numbers {
+    ghost Value = { List ℕ };
+
+    ghost view = { λ n. n.items.items };
+}
+
+impl Numbers {
+    /// The list of no numbers.
+    pub fn new(alloc: Global) -> Self
+        ensures empty { result ≡ [] }
+    {
+        Numbers {
+            items: Vec::new(alloc),
+        }
+    }
+
+    /// How many numbers there are.
+    pub fn len(&self) -> usize
+        ensures len { result ≡ length self.now }
+    {
+        self.items.len()
+    }
+
+    /// The number at an index, from 0.
+    pub fn item(&self, index: usize) -> &u32
+        requires within { index < length self.now }
+        ensures item { Some result.now ≡ slice_get self.now index }
+    {
+        &self.items[index]
+    }
+
+    /// Adds a number at the end. The error comes where memory runs out, and leaves the list as it was.
+    pub fn push(&mut self, number: u32) -> Result<(), AllocError>
+        ensures ok { OnOk result (self.new ≡ self.old ++ number ∷ []) }
+        ensures err { OnErr result (self.new ≡ self.old) }
+    {
+        self.items.push(number)?;
+        Ok(())
+    }
+
+    /// The numbers in order.
+    pub fn numbers(&self) -> &[u32]
+        ensures numbers { result.now ≡ self.now }
+    {
+        &self.items
+    }
+}

@@ -1,0 +1,97 @@
+//! Numbers that fit and numbers that don't: at the ends of their ranges, and of 10, 20 and 40 digits.
+use super::{assert_files, assert_last_breaks};
+use std::test::Fail;
+
+/// The ends of the ranges of days, values and ends of open tests.
+const FITTING: [&str; 9] = [
+    "fact 1 dt - 40000000 -10000000\nend lines 0 facts 1",
+    "fact 1 dt - -40000000 10000000\nend lines 0 facts 1",
+    "fact 1 dt - 0 0\nend lines 0 facts 1",
+    "line 1 a b c refused 4 40000000 facts\nend lines 1 facts 0",
+    "line 1 void year fact dt - 40000000\nend lines 1 facts 0",
+    "line 1 undecided round 4294967295 0 0 fact dt - 1\nend lines 1 facts 0",
+    "line 1 undecided year 1 -1234567890 1234567890 fact dt - 1\nend lines 1 facts 0",
+    "line 1 undecided year 1 -12345678901234567890 0 fact dt - 1\nend lines 1 facts 0",
+    "line 1 undecided year 1 -170141183460469231731687303715884105728 \
+        170141183460469231731687303715884105727 fact dt - 1\nend lines 1 facts 0",
+];
+
+/// Counters that are none, since they don't fit or have another spelling.
+const COUNTERS: [&str; 18] = [
+    "line 4294967296 refused 3",
+    "line 12345678901234567890 refused 3",
+    "line 1000000000000000000000000000000000000007 refused 3",
+    "line -1 refused 3",
+    "line -1234567890 refused 3",
+    "line -1000000000000000000000000000000000000007 refused 3",
+    "line -0 refused 3",
+    "line 01 refused 3",
+    "line 00 refused 3",
+    "line 012345678901234567890 refused 3",
+    "line +1 refused 3",
+    "line 1a refused 3",
+    "line 1 a b c d facts 12345678901234567890",
+    "fact 1 dt - 1 1\nline 1 a b c d facts 01",
+    "line 1 undecided round 4294967296 0 1 fact dt - 1",
+    "line 1 undecided round -1 0 1 fact dt - 1",
+    "end lines 00 facts 0",
+    "end lines 0 facts -0",
+];
+
+/// Counters that fit, and are out of order.
+const LARGE_COUNTERS: [&str; 3] = [
+    "line 1234567890 refused 3",
+    "line 4294967295 refused 3",
+    "fact 4294967295 dt - 1 1",
+];
+
+/// Days and values out of their ranges or in another spelling.
+const DAYS_AND_VALUES: [&str; 21] = [
+    "fact 1 dt - 40000001 1",
+    "fact 1 dt - -40000001 1",
+    "fact 1 dt - 1234567890 1",
+    "fact 1 dt - -12345678901234567890 1",
+    "fact 1 dt - 1000000000000000000000000000000000000007 1",
+    "fact 1 dt - -0 1",
+    "fact 1 dt - 0738926 1",
+    "fact 1 dt - -01 1",
+    "fact 1 dt - - 1",
+    "fact 1 dt - --1 1",
+    "fact 1 dt - +1 1",
+    "fact 1 dt - 1 10000001",
+    "fact 1 dt - 1 -10000001",
+    "fact 1 dt - 1 1234567890",
+    "fact 1 dt - 1 12345678901234567890",
+    "fact 1 dt - 1 -1000000000000000000000000000000000000007",
+    "fact 1 dt - 1 -0",
+    "fact 1 dt - 1 01",
+    "line 1 a b c refused 4 40000001 facts",
+    "line 1 void year fact dt - 40000001",
+    "line 1 undecided year 1 0 0 fact dt - -40000001",
+];
+
+/// Ends of open tests that don't fit or have another spelling.
+const ENDS: [&str; 9] = [
+    "line 1 undecided year 1 -170141183460469231731687303715884105729 0 fact dt - 1",
+    "line 1 undecided year 1 0 170141183460469231731687303715884105728 fact dt - 1",
+    "line 1 undecided year 1 0 1000000000000000000000000000000000000007 fact dt - 1",
+    "line 1 undecided year 1 -1000000000000000000000000000000000000007 0 fact dt - 1",
+    "line 1 undecided year 1 -0 0 fact dt - 1",
+    "line 1 undecided year 1 0 012345678901234567890 fact dt - 1",
+    "line 1 undecided year 1 -012345678901234567890 0 fact dt - 1",
+    "line 1 undecided year 1 0 000000000000000000000000000000000000000 fact dt - 1",
+    "line 1 undecided year 1 +5 7 fact dt - 1",
+];
+
+#[test]
+fn numbers_fit_up_to_the_ends_of_their_ranges(rt: HostRuntime) -> Result<(), Fail> {
+    assert_files(&rt, rt.alloc(), &FITTING)?;
+    assert_last_breaks(&rt, rt.alloc(), 3, &LARGE_COUNTERS)
+}
+
+#[test]
+fn other_numbers_have_no_form(rt: HostRuntime) -> Result<(), Fail> {
+    assert_last_breaks(&rt, rt.alloc(), 2, &COUNTERS)?;
+    assert_last_breaks(&rt, rt.alloc(), 2, &DAYS_AND_VALUES)?;
+    assert_last_breaks(&rt, rt.alloc(), 2, &ENDS)
+}

@@ -1,0 +1,385 @@
+//! Writes the text that stands for one line of input.
+ghost use Rattle.std.specs.Prelude.{◌≡◌, ◌≤◌, ◌<◌, ◌+◌, ◌^◌, ◌++◌, codes, length, OnOk, OnErr};
+ghost use Rattle.std.specs.List.{flat_map};
+ghost use Rattle.std.specs.Io.KnownBytes.{Appends};
+ghost use Rattle.cert_text.specs.Stream.{HasCause, AppendsFront, Wrote};
+ghost use Rattle.book_model.specs.Text as model;
+ghost use Rattle.cert_text.specs.Text as spec;
+
+use crate::line::{CertLine, Echo};
+use crate::lines::Block;
+use crate::stream::{Failed, Sink, write_all};
+use book_model::{Fact, Site, Undecided};
+use itoa::{Buffer, Integer};
+
+/// The decimal digits of a number, after a minus sign where it is below 0.
+pub fn decimal<'a, I: Integer>(buffer: &'a mut Buffer, number: I) -> &'a [u8]
+    ensures { result.now ≡ I.text number }
+{
+    buffer.format(number).as_bytes()
+}
+
+/// Writes one part after the other. At an error, which comes only where the count of the sink's faults rose, a front of
+/// them was written.
+pub fn write_parts<K: Sink>(sink: &mut K, parts: &[&[u8]]) -> Result<(), Failed>
+    ensures ok { OnOk result (Appends (K.written sink.old) (K.written sink.new) (flat_map (λ part. part.now) parts.now)) }
+    ensures err { OnErr result (AppendsFront (K.written sink.old) (K.written sink.new) (flat_map (λ part. part.now) parts.now)) }
+    ensures cause { HasCause (K.faults sink.old) (K.faults sink.new) result }
+{
+    for part in parts {
+        write_all(sink, *part)?;
+    }
+    Ok(())
+}
+
+/// Writes the line of a fact with its number and its value.
+#[tactic(auto, unfolding(book_model::specs::Text::fact_text))]
+fn write_fact<K: Sink>(sink: &mut K, number: u32, entry: &(Fact, i64)) -> Result<(), Failed>
+    ensures ok { OnOk result (Appends (K.written sink.old) (K.written sink.new) (model.fact_text number entry.now.0 entry.now.1)) }
+    ensures err { OnErr result (AppendsFront (K.written sink.old) (K.written sink.new) (model.fact_text number entry.now.0 entry.now.1)) }
+    ensures cause { HasCause (K.faults sink.old) (K.faults sink.new) result }
+{
+    let mut number_buffer = Buffer::new();
+    let mut day_buffer = Buffer::new();
+    let mut value_buffer = Buffer::new();
+    let number = decimal(&mut number_buffer, number);
+    let fact = entry.0;
+    let kind = fact.kind().name().as_bytes();
+    let place = fact.place().name().as_bytes();
+    let day = decimal(&mut day_buffer, fact.day());
+    let value = decimal(&mut value_buffer, entry.1);
+    write_parts(
+        sink,
+        &[
+            b"fact ", number, b" ", kind, b" ", place, b" ", day, b" ", value, b"\n",
+        ],
+    )
+}
+
+/// Writes the lines of facts, of which the first has this number.
+fn write_facts<K: Sink>(sink: &mut K, first: u32, facts: &[(Fact, i64)]) -> Result<(), Failed>
+    requires { first + length facts.now ≤ 2 ^ 32 }
+    ensures ok { OnOk result (Appends (K.written sink.old) (K.written sink.new) (spec.fact_texts first facts.now)) }
+    ensures err { OnErr result (AppendsFront (K.written sink.old) (K.written sink.new) (spec.fact_texts first facts.now)) }
+    ensures cause { HasCause (K.faults sink.old) (K.faults sink.new) result }
+{
+    for (index, entry) in facts.iter().enumerate() {
+        write_fact(sink, first + index as u32, entry)?;
+    }
+    Ok(())
+}
+
+/// Writes the number of a line and its three words.
+#[tactic(auto, unfolding(crate::specs::Text::echo_text))]
+fn write_echo<K: Sink>(sink: &mut K, number: u32, echo: &Echo) -> Result<(), Failed>
+    ensures ok { OnOk result (Appends (K.written sink.old) (K.written sink.new) (spec.echo_text number echo.now)) }
+    ensures err { OnErr result (AppendsFront (K.written sink.old) (K.written sink.new) (spec.echo_text number echo.now)) }
+    ensures cause { HasCause (K.faults sink.old) (K.faults sink.new) result }
+{
+    let mut number_buffer = Buffer::new();
+    let number = decimal(&mut number_buffer, number);
+    let from = echo.from.bytes();
+    let date = echo.date.bytes();
+    let to = echo.to.bytes();
+    write_parts(
+        sink,
+        &[b"line ", number, b" ", from, b" ", date, b" ", to, b" "],
+    )
+}
+
+/// Writes the number of a fact that a line lists.
+fn write_number<K: Sink>(sink: &mut K, number: u32) -> Result<(), Failed>
+    ensures ok { OnOk result (Appends (K.written sink.old) (K.written sink.new) (model.number_text number)) }
+    ensures err { OnErr result (AppendsFront (K.written sink.old) (K.written sink.new) (model.number_text number)) }
+    ensures cause { HasCause (K.faults sink.old) (K.faults sink.new) result }
+{
+    let mut buffer = Buffer::new();
+    let number = decimal(&mut buffer, number);
+    write_parts(sink, &[b" ", number])
+}
+
+/// Writes the numbers of the facts that a line lists.
+fn write_numbers<K: Sink>(sink: &mut K, numbers: &[u32]) -> Result<(), Failed>
+    ensures ok { OnOk result (Appends (K.written sink.old) (K.written sink.new) (flat_map model.number_text numbers.now)) }
+    ensures err { OnErr result (AppendsFront (K.written sink.old) (K.written sink.new) (flat_map model.number_text numbers.now)) }
+    ensures cause { HasCause (K.faults sink.old) (K.faults sink.new) result }
+{
+    for number in numbers {
+        write_number(sink, *number)?;
+    }
+    Ok(())
+}
+
+/// Writes the numbers of the facts that a line lists, and the line's end.
+fn write_numbers_end<K: Sink>(sink: &mut K, numbers: &[u32]) -> Result<(), Failed>
+    ensures ok { OnOk result (Appends (K.written sink.old) (K.written sink.new) (flat_map model.number_text numbers.now ++ codes "\n")) }
+    ensures err { OnErr result (AppendsFront (K.written sink.old) (K.written sink.new) (flat_map model.number_text numbers.now ++ codes "\n")) }
+    ensures cause { HasCause (K.faults sink.old) (K.faults sink.new) result }
+{
+    write_numbers(sink, numbers)?;
+    write_all(sink, b"\n")?;
+    Ok(())
+}
+
+/// Writes the list of facts at the end of a line.
+#[tactic(auto, unfolding(crate::specs::Text::facts_text))]
+fn write_list<K: Sink>(sink: &mut K, numbers: &[u32]) -> Result<(), Failed>
+    ensures ok { OnOk result (Appends (K.written sink.old) (K.written sink.new) (spec.facts_text numbers.now)) }
+    ensures err { OnErr result (AppendsFront (K.written sink.old) (K.written sink.new) (spec.facts_text numbers.now)) }
+    ensures cause { HasCause (K.faults sink.old) (K.faults sink.new) result }
+{
+    write_all(sink, b" facts")?;
+    write_numbers_end(sink, numbers)?;
+    Ok(())
+}
+
+/// Writes what a line shows, and its list of facts.
+fn write_shown<K: Sink>(sink: &mut K, shown: &[u8], numbers: &[u32]) -> Result<(), Failed>
+    ensures ok { OnOk result (Appends (K.written sink.old) (K.written sink.new) (shown.now ++ spec.facts_text numbers.now)) }
+    ensures err { OnErr result (AppendsFront (K.written sink.old) (K.written sink.new) (shown.now ++ spec.facts_text numbers.now)) }
+    ensures cause { HasCause (K.faults sink.old) (K.faults sink.new) result }
+{
+    write_all(sink, shown)?;
+    write_list(sink, numbers)?;
+    Ok(())
+}
+
+/// Writes that the computed day (R.D.) is out of range, and the list of facts.
+#[tactic(auto, unfolding(crate::specs::Text::too_far_text))]
+fn write_too_far<K: Sink>(sink: &mut K, day: i64) -> Result<(), Failed>
+    ensures ok { OnOk result (Appends (K.written sink.old) (K.written sink.new) (spec.too_far_text day)) }
+    ensures err { OnErr result (AppendsFront (K.written sink.old) (K.written sink.new) (spec.too_far_text day)) }
+    ensures cause { HasCause (K.faults sink.old) (K.faults sink.new) result }
+{
+    let mut buffer = Buffer::new();
+    let day = decimal(&mut buffer, day);
+    write_parts(sink, &[b"refused 4 ", day])
+}
+
+/// Writes that the day's own date is another.
+#[tactic(auto, unfolding(crate::specs::Text::no_date_text))]
+fn write_no_date<K: Sink>(sink: &mut K, back: &[u8]) -> Result<(), Failed>
+    ensures ok { OnOk result (Appends (K.written sink.old) (K.written sink.new) (spec.no_date_text back.now)) }
+    ensures err { OnErr result (AppendsFront (K.written sink.old) (K.written sink.new) (spec.no_date_text back.now)) }
+    ensures cause { HasCause (K.faults sink.old) (K.faults sink.new) result }
+{
+    write_parts(sink, &[b"refused 5 ", back])
+}
+
+/// Writes the line of a line that breaks a rule.
+#[tactic(auto, unfolding(book_model::specs::Text::refused_text))]
+fn write_refused<K: Sink>(sink: &mut K, number: u32, rule: u8) -> Result<(), Failed>
+    ensures ok { OnOk result (Appends (K.written sink.old) (K.written sink.new) (model.refused_text number rule)) }
+    ensures err { OnErr result (AppendsFront (K.written sink.old) (K.written sink.new) (model.refused_text number rule)) }
+    ensures cause { HasCause (K.faults sink.old) (K.faults sink.new) result }
+{
+    let mut number_buffer = Buffer::new();
+    let mut rule_buffer = Buffer::new();
+    let number = decimal(&mut number_buffer, number);
+    let rule = decimal(&mut rule_buffer, rule);
+    write_parts(sink, &[b"line ", number, b" refused ", rule, b"\n"])
+}
+
+/// Writes the line of a line whose fact is undecided.
+#[tactic(auto, unfolding(book_model::specs::Text::undecided_text))]
+fn write_undecided<K: Sink>(
+    sink: &mut K,
+    number: u32,
+    fact: Fact,
+    at: Undecided,
+) -> Result<(), Failed>
+    ensures ok { OnOk result (Appends (K.written sink.old) (K.written sink.new) (model.undecided_text number fact at)) }
+    ensures err { OnErr result (AppendsFront (K.written sink.old) (K.written sink.new) (model.undecided_text number fact at)) }
+    ensures cause { HasCause (K.faults sink.old) (K.faults sink.new) result }
+{
+    let mut number_buffer = Buffer::new();
+    let mut turn_buffer = Buffer::new();
+    let mut low_buffer = Buffer::new();
+    let mut high_buffer = Buffer::new();
+    let mut day_buffer = Buffer::new();
+    let number = decimal(&mut number_buffer, number);
+    let site = at.site.name().as_bytes();
+    let turn = decimal(&mut turn_buffer, at.turn);
+    let low = decimal(&mut low_buffer, at.lo);
+    let high = decimal(&mut high_buffer, at.hi);
+    let kind = fact.kind().name().as_bytes();
+    let place = fact.place().name().as_bytes();
+    let day = decimal(&mut day_buffer, fact.day());
+    write_parts(
+        sink,
+        &[
+            b"line ",
+            number,
+            b" undecided ",
+            site,
+            b" ",
+            turn,
+            b" ",
+            low,
+            b" ",
+            high,
+            b" fact ",
+            kind,
+            b" ",
+            place,
+            b" ",
+            day,
+            b"\n",
+        ],
+    )
+}
+
+/// Writes the line of a line whose fact is void.
+#[tactic(auto, unfolding(book_model::specs::Text::void_text))]
+fn write_void<K: Sink>(sink: &mut K, number: u32, fact: Fact, site: Site) -> Result<(), Failed>
+    ensures ok { OnOk result (Appends (K.written sink.old) (K.written sink.new) (model.void_text number fact site)) }
+    ensures err { OnErr result (AppendsFront (K.written sink.old) (K.written sink.new) (model.void_text number fact site)) }
+    ensures cause { HasCause (K.faults sink.old) (K.faults sink.new) result }
+{
+    let mut number_buffer = Buffer::new();
+    let mut day_buffer = Buffer::new();
+    let number = decimal(&mut number_buffer, number);
+    let site = site.name().as_bytes();
+    let kind = fact.kind().name().as_bytes();
+    let place = fact.place().name().as_bytes();
+    let day = decimal(&mut day_buffer, fact.day());
+    write_parts(
+        sink,
+        &[
+            b"line ", number, b" void ", site, b" fact ", kind, b" ", place, b" ", day, b"\n",
+        ],
+    )
+}
+
+/// Writes that a day is out of range, and the list of facts.
+fn write_too_far_end<K: Sink>(sink: &mut K, day: i64, numbers: &[u32]) -> Result<(), Failed>
+    ensures ok { OnOk result (Appends (K.written sink.old) (K.written sink.new) (spec.too_far_text day ++ spec.facts_text numbers.now)) }
+    ensures err { OnErr result (AppendsFront (K.written sink.old) (K.written sink.new) (spec.too_far_text day ++ spec.facts_text numbers.now)) }
+    ensures cause { HasCause (K.faults sink.old) (K.faults sink.new) result }
+{
+    write_too_far(sink, day)?;
+    write_list(sink, numbers)?;
+    Ok(())
+}
+
+/// Writes a day's own date, and the list of facts.
+fn write_no_date_end<K: Sink>(sink: &mut K, back: &[u8], numbers: &[u32]) -> Result<(), Failed>
+    ensures ok { OnOk result (Appends (K.written sink.old) (K.written sink.new) (spec.no_date_text back.now ++ spec.facts_text numbers.now)) }
+    ensures err { OnErr result (AppendsFront (K.written sink.old) (K.written sink.new) (spec.no_date_text back.now ++ spec.facts_text numbers.now)) }
+    ensures cause { HasCause (K.faults sink.old) (K.faults sink.new) result }
+{
+    write_no_date(sink, back)?;
+    write_list(sink, numbers)?;
+    Ok(())
+}
+
+/// Writes a line with a result.
+fn write_listed<K: Sink>(
+    sink: &mut K,
+    number: u32,
+    echo: &Echo,
+    shown: &[u8],
+    numbers: &[u32],
+) -> Result<(), Failed>
+    ensures ok { OnOk result (Appends (K.written sink.old) (K.written sink.new) (spec.listed_text number echo.now shown.now numbers.now)) }
+    ensures err { OnErr result (AppendsFront (K.written sink.old) (K.written sink.new) (spec.listed_text number echo.now shown.now numbers.now)) }
+    ensures cause { HasCause (K.faults sink.old) (K.faults sink.new) result }
+{
+    write_echo(sink, number, echo)?;
+    write_shown(sink, shown, numbers)?;
+    Ok(())
+}
+
+/// Writes a line whose computed day is out of range.
+fn write_far_line<K: Sink>(
+    sink: &mut K,
+    number: u32,
+    echo: &Echo,
+    day: i64,
+    numbers: &[u32],
+) -> Result<(), Failed>
+    ensures ok { OnOk result (Appends (K.written sink.old) (K.written sink.new) (spec.listed_text number echo.now (spec.too_far_text day) numbers.now)) }
+    ensures err { OnErr result (AppendsFront (K.written sink.old) (K.written sink.new) (spec.listed_text number echo.now (spec.too_far_text day) numbers.now)) }
+    ensures cause { HasCause (K.faults sink.old) (K.faults sink.new) result }
+{
+    write_echo(sink, number, echo)?;
+    write_too_far_end(sink, day, numbers)?;
+    Ok(())
+}
+
+/// Writes a line whose day has another date.
+fn write_back_line<K: Sink>(
+    sink: &mut K,
+    number: u32,
+    echo: &Echo,
+    back: &[u8],
+    numbers: &[u32],
+) -> Result<(), Failed>
+    ensures ok { OnOk result (Appends (K.written sink.old) (K.written sink.new) (spec.listed_text number echo.now (spec.no_date_text back.now) numbers.now)) }
+    ensures err { OnErr result (AppendsFront (K.written sink.old) (K.written sink.new) (spec.listed_text number echo.now (spec.no_date_text back.now) numbers.now)) }
+    ensures cause { HasCause (K.faults sink.old) (K.faults sink.new) result }
+{
+    write_echo(sink, number, echo)?;
+    write_no_date_end(sink, back, numbers)?;
+    Ok(())
+}
+
+/// Writes a line with its number.
+pub(crate) fn write_line<K: Sink>(sink: &mut K, number: u32, line: &CertLine) -> Result<(), Failed>
+    ensures ok { OnOk result (Appends (K.written sink.old) (K.written sink.new) (spec.line_text number line.now)) }
+    ensures err { OnErr result (AppendsFront (K.written sink.old) (K.written sink.new) (spec.line_text number line.now)) }
+    ensures cause { HasCause (K.faults sink.old) (K.faults sink.new) result }
+{
+    match line {
+        CertLine::Shown {
+            echo,
+            result: shown,
+            facts,
+        } => write_listed(sink, number, echo, shown.bytes(), facts.numbers()),
+        CertLine::TooFar { echo, day, facts } => {
+            write_far_line(sink, number, echo, *day, facts.numbers())
+        }
+        CertLine::NoDate { echo, back, facts } => {
+            write_back_line(sink, number, echo, back.bytes(), facts.numbers())
+        }
+        CertLine::Refused(rule) => write_refused(sink, number, *rule),
+        CertLine::Undecided { fact, at } => write_undecided(sink, number, *fact, *at),
+        CertLine::Void { fact, site } => write_void(sink, number, *fact, *site),
+    }
+}
+
+/// Writes the text of a block: its facts, numbered from its first, and then its line with its number. At an error,
+/// which comes only where the count of the sink's faults rose, a front of the text was written.
+pub fn write_block<K: Sink>(sink: &mut K, block: &Block) -> Result<(), Failed>
+    requires { block.now.first + length block.now.facts ≤ 2 ^ 32 }
+    ensures ok { OnOk result (Appends (K.written sink.old) (K.written sink.new) (spec.block_text block.now)) }
+    ensures err { OnErr result (AppendsFront (K.written sink.old) (K.written sink.new) (spec.block_text block.now)) }
+    ensures cause { HasCause (K.faults sink.old) (K.faults sink.new) result }
+{
+    write_facts(sink, block.first, block.facts.entries())?;
+    write_line(sink, block.number, &block.line)?;
+    Ok(())
+}
+
+/// Writes the first line of a text.
+pub fn write_header<K: Sink>(sink: &mut K) -> Result<(), Failed>
+    ensures ok { OnOk result (Appends (K.written sink.old) (K.written sink.new) model.header) }
+    ensures err { OnErr result (AppendsFront (K.written sink.old) (K.written sink.new) model.header) }
+    ensures cause { HasCause (K.faults sink.old) (K.faults sink.new) result }
+{
+    write_all(sink, b"calendrica 1 depth 40\n")
+}
+
+/// Writes the last line of a text, which counts its lines and facts.
+#[tactic(auto, unfolding(book_model::specs::Text::end_text))]
+pub fn write_end<K: Sink>(sink: &mut K, lines: u32, facts: u32) -> Result<(), Failed>
+    ensures ok { OnOk result (Appends (K.written sink.old) (K.written sink.new) (model.end_text lines facts)) }
+    ensures err { OnErr result (AppendsFront (K.written sink.old) (K.written sink.new) (model.end_text lines facts)) }
+    ensures cause { HasCause (K.faults sink.old) (K.faults sink.new) result }
+{
+    let mut lines_buffer = Buffer::new();
+    let mut facts_buffer = Buffer::new();
+    let lines = decimal(&mut lines_buffer, lines);
+    let facts = decimal(&mut facts_buffer, facts);
+    write_parts(sink, &[b"end lines ", lines, b" facts ", facts, b"\n"])
+}
