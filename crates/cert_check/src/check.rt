@@ -1,0 +1,207 @@
+//! The verdict of a line.
+ghost use Rattle.std.specs.Prelude.{◌≡◌, ◌<◌, ◌^◌, length, IsTrue, IfOk, [], Ok};
+ghost use Rattle.book_model.specs.Inquiries.{rule_of};
+ghost use Rattle.book_model.specs.Requests.{day_of, is_in_range, rule_number};
+ghost use Rattle.line_core.specs.Days.{names_day};
+ghost use Rattle.oracle_core.specs.Pairs.{are_distinct, facts_of, AreFactValues};
+ghost use Rattle.cert_text.specs.Reading.{are_of_facts, listed as numbers_of};
+ghost use Rattle.cert_text.specs.Text.{too_far_text, no_date_text};
+ghost use Rattle.cert_check.specs.Listed.{NamesMissing};
+ghost use Rattle.cert_check.specs.Verdicts as spec;
+
+use crate::compare::verdict_by_list;
+use crate::listed::{first_reason, listed_facts, listed_values};
+use crate::verdict::{Reason, Verdict};
+use book_model::{Fact, Request, Rule};
+use cert_text::{CertFile, CertLine, Echo, decimal};
+use itoa::Buffer;
+use line_core::{read_line, resolve};
+use oracle_core::{Answers, Listed, Stop};
+use std::alloc::{AllocError, Global};
+
+/// The number of a rule.
+fn number_of(rule: Rule) -> u8
+    ensures number { result ≡ rule_number rule }
+{
+    match rule {
+        Rule::Syntax => 1,
+        Rule::Calendar => 2,
+        Rule::Field => 3,
+        Rule::Range => 4,
+    }
+}
+
+/// The words of a line with single spaces.
+#[tactic(auto, unfolding(crate::specs::Verdicts::words_of_echo))]
+fn spaced(alloc: Global, echo: &Echo) -> Result<Vec<u8>, AllocError>
+    ensures words { IfOk result (λ v. v.items ≡ spec.words_of_echo echo.now) }
+{
+    let mut words = Vec::new(alloc);
+    words.extend_from_slice(echo.from.bytes())?;
+    words.extend_from_slice(b" ")?;
+    words.extend_from_slice(echo.date.bytes())?;
+    words.extend_from_slice(b" ")?;
+    words.extend_from_slice(echo.to.bytes())?;
+    Ok(words)
+}
+
+/// The verdict of a line whose rule stops at a fact that it doesn't list. The error is want of memory.
+fn verdict_at(stop: Stop) -> Result<Verdict, AllocError>
+    ensures missing { IfOk result (λ v. NamesMissing stop v) }
+{
+    match stop {
+        Stop::Missing(fact) => Ok(Verdict::No(Reason::Missing(fact))),
+        _ => Err(AllocError),
+    }
+}
+
+/// The verdict of a line that lists these facts with their values, and shows this text: what its request comes to
+/// over them.
+fn verdict_over(
+    alloc: Global,
+    facts: &[Fact],
+    values: &[i64],
+    request: &Request,
+    text: &[u8],
+) -> Result<Verdict, AllocError>
+    requires same { length facts.now ≡ length values.now }
+    requires distinct { IsTrue (are_distinct facts.now) }
+    requires known { AreFactValues values.now }
+    requires few { length facts.now < 2 ^ 32 }
+    requires dated { IsTrue (names_day request.now.from request.now.date) }
+    requires near { IsTrue (is_in_range (day_of request.now.from request.now.date)) }
+    ensures verdict { IfOk result (λ v. v ≡ spec.verdict_on_trace facts.now (spec.trace_after facts.now values.now [] (rule_of request.now)) text.now) }
+{
+    let mut oracle = Listed::new(alloc, facts, values);
+    match resolve(&mut oracle, request) {
+        Ok(found) => verdict_by_list(alloc, oracle.asked(), facts, found, text),
+        Err(stop) => verdict_at(stop),
+    }
+}
+
+/// The verdict of a line with this request, which lists the facts with these numbers and shows this text.
+fn verdict_for(
+    alloc: Global,
+    file: &CertFile,
+    answers: &Answers,
+    request: &Request,
+    text: &[u8],
+    numbers: &[u32],
+) -> Result<Verdict, AllocError>
+    requires distinct { IsTrue (are_distinct (facts_of file.now.facts)) }
+    requires known { AreFactValues (spec.values_of file.now.facts) }
+    requires numbers { IsTrue (are_of_facts (length file.now.facts) [] numbers.now) }
+    requires answered { length answers.now ≡ length file.now.facts }
+    requires dated { IsTrue (names_day request.now.from request.now.date) }
+    requires near { IsTrue (is_in_range (day_of request.now.from request.now.date)) }
+    ensures verdict { IfOk result (λ v. v ≡ spec.verdict_on_request (Ok request.now) (spec.first_unanswered file.now.facts answers.now numbers.now) (spec.numbered file.now.facts numbers.now) text.now) }
+{
+    match first_reason(&file.facts, answers, numbers) {
+        Some(reason) => Ok(Verdict::No(reason)),
+        None => {
+            let facts = listed_facts(alloc, &file.facts, numbers)?;
+            let values = listed_values(alloc, &file.facts, numbers)?;
+            verdict_over(alloc, &facts, &values, request, text)
+        }
+    }
+}
+
+/// The verdict of a line with these words, which lists the facts with these numbers and shows this text.
+fn verdict_of_words(
+    alloc: Global,
+    file: &CertFile,
+    answers: &Answers,
+    echo: &Echo,
+    text: &[u8],
+    numbers: &[u32],
+) -> Result<Verdict, AllocError>
+    requires distinct { IsTrue (are_distinct (facts_of file.now.facts)) }
+    requires known { AreFactValues (spec.values_of file.now.facts) }
+    requires numbers { IsTrue (are_of_facts (length file.now.facts) [] numbers.now) }
+    requires answered { length answers.now ≡ length file.now.facts }
+    ensures verdict { IfOk result (λ v. v ≡ spec.verdict_on file.now.facts answers.now (spec.words_of_echo echo.now) text.now numbers.now) }
+{
+    let words = spaced(alloc, echo)?;
+    match read_line(&words) {
+        Ok(request) => verdict_for(alloc, file, answers, &request, text, numbers),
+        Err(rule) => Ok(Verdict::No(Reason::Form(number_of(rule)))),
+    }
+}
+
+/// The text of a line whose computed day is out of range.
+#[tactic(auto, unfolding(cert_text::specs::Text::too_far_text))]
+fn too_far(alloc: Global, day: i64) -> Result<Vec<u8>, AllocError>
+    ensures text { IfOk result (λ v. v.items ≡ too_far_text day) }
+{
+    let mut buffer = Buffer::new();
+    let mut text = Vec::new(alloc);
+    text.extend_from_slice(b"refused 4 ")?;
+    text.extend_from_slice(decimal(&mut buffer, day))?;
+    Ok(text)
+}
+
+/// The text of a line whose day has another date.
+#[tactic(auto, unfolding(cert_text::specs::Text::no_date_text))]
+fn no_date(alloc: Global, back: &[u8]) -> Result<Vec<u8>, AllocError>
+    ensures text { IfOk result (λ v. v.items ≡ no_date_text back.now) }
+{
+    let mut text = Vec::new(alloc);
+    text.extend_from_slice(b"refused 5 ")?;
+    text.extend_from_slice(back)?;
+    Ok(text)
+}
+
+/// The verdict of a line.
+pub(crate) fn verdict_of_line(
+    alloc: Global,
+    file: &CertFile,
+    answers: &Answers,
+    line: &CertLine,
+) -> Result<Verdict, AllocError>
+    requires distinct { IsTrue (are_distinct (facts_of file.now.facts)) }
+    requires known { AreFactValues (spec.values_of file.now.facts) }
+    requires numbers { IsTrue (are_of_facts (length file.now.facts) [] (numbers_of line.now)) }
+    requires answered { length answers.now ≡ length file.now.facts }
+    ensures verdict { IfOk result (λ v. v ≡ spec.verdict_of file.now.facts answers.now line.now) }
+{
+    match line {
+        CertLine::Shown {
+            echo,
+            result: shown,
+            facts,
+        } => verdict_of_words(alloc, file, answers, echo, shown.bytes(), facts.numbers()),
+        CertLine::TooFar { echo, day, facts } => {
+            let text = too_far(alloc, *day)?;
+            verdict_of_words(alloc, file, answers, echo, &text, facts.numbers())
+        }
+        CertLine::NoDate { echo, back, facts } => {
+            let text = no_date(alloc, back.bytes())?;
+            verdict_of_words(alloc, file, answers, echo, &text, facts.numbers())
+        }
+        CertLine::Refused(_) | CertLine::Undecided { .. } | CertLine::Void { .. } => {
+            Ok(Verdict::Skip)
+        }
+    }
+}
+
+/// The verdict of a line of the file, by an answer for each of its facts. A line that is undecided, void or refused
+/// without its words gets `Skip`. Any other gets the first reason that holds: `Form`; `Value`, `Undecided` or `Void`
+/// for the first listed fact that wasn't answered by its listed value; `Missing`; `List`; `Date`. It gets `Yes` where
+/// none does. A file of the grammar meets what is asked of its facts and of the numbers of its lines. The error comes
+/// where memory runs out.
+pub fn check_line(
+    alloc: Global,
+    file: &CertFile,
+    answers: &Answers,
+    index: usize,
+) -> Result<Verdict, AllocError>
+    requires distinct { IsTrue (are_distinct (facts_of file.now.facts)) }
+    requires known { AreFactValues (spec.values_of file.now.facts) }
+    requires within { index < length file.now.lines }
+    requires numbers { IsTrue (are_of_facts (length file.now.facts) [] (numbers_of (spec.line_at file.now index))) }
+    requires right { spec.AreRightAnswers file.now.facts answers.now }
+    ensures verdict { IfOk result (λ v. v ≡ spec.verdict_of file.now.facts answers.now (spec.line_at file.now index)) }
+    ensures yes { IfOk result (λ v. v ≡ Verdict.Yes → spec.IsCertifiedLine file.now.facts (spec.line_at file.now index)) }
+{
+    verdict_of_line(alloc, file, answers, file.lines.item(index))
+}

@@ -1,0 +1,281 @@
+//! Writes verdicts, and how many there are of each kind.
+ghost use Rattle.std.specs.Prelude.{◌≡◌, ◌++◌, codes, OnOk, OnErr};
+ghost use Rattle.std.specs.Io.KnownBytes.{Appends};
+ghost use Rattle.book_model.specs.Text.{result_text};
+ghost use Rattle.cert_text.specs.Stream.{HasCause, AppendsFront};
+ghost use Rattle.cert_check.specs.Text as spec;
+
+use crate::verdict::{Reason, Verdict};
+use book_model::{Fact, Resolved, Site, Undecided};
+use cert_text::{Failed, Sink, decimal, write_all, write_parts, write_result};
+use itoa::Buffer;
+
+/// Writes that a line stands.
+#[tactic(auto, unfolding(crate::specs::Text::yes_text))]
+fn write_yes<K: Sink>(sink: &mut K, number: u32) -> Result<(), Failed>
+    ensures ok { OnOk result (Appends (K.written sink.old) (K.written sink.new) (spec.yes_text number)) }
+    ensures err { OnErr result (AppendsFront (K.written sink.old) (K.written sink.new) (spec.yes_text number)) }
+    ensures cause { HasCause (K.faults sink.old) (K.faults sink.new) result }
+{
+    let mut buffer = Buffer::new();
+    let number = decimal(&mut buffer, number);
+    write_parts(sink, &[b"yes ", number, b"\n"])
+}
+
+/// Writes that a line shows no result.
+#[tactic(auto, unfolding(crate::specs::Text::skip_text))]
+fn write_skip<K: Sink>(sink: &mut K, number: u32) -> Result<(), Failed>
+    ensures ok { OnOk result (Appends (K.written sink.old) (K.written sink.new) (spec.skip_text number)) }
+    ensures err { OnErr result (AppendsFront (K.written sink.old) (K.written sink.new) (spec.skip_text number)) }
+    ensures cause { HasCause (K.faults sink.old) (K.faults sink.new) result }
+{
+    let mut buffer = Buffer::new();
+    let number = decimal(&mut buffer, number);
+    write_parts(sink, &[b"skip ", number, b"\n"])
+}
+
+/// Writes that a line's words break a rule.
+#[tactic(auto, unfolding(crate::specs::Text::form_text))]
+fn write_form<K: Sink>(sink: &mut K, number: u32, rule: u8) -> Result<(), Failed>
+    ensures ok { OnOk result (Appends (K.written sink.old) (K.written sink.new) (spec.form_text number rule)) }
+    ensures err { OnErr result (AppendsFront (K.written sink.old) (K.written sink.new) (spec.form_text number rule)) }
+    ensures cause { HasCause (K.faults sink.old) (K.faults sink.new) result }
+{
+    let mut number_buffer = Buffer::new();
+    let mut rule_buffer = Buffer::new();
+    let number = decimal(&mut number_buffer, number);
+    let rule = decimal(&mut rule_buffer, rule);
+    write_parts(sink, &[b"no ", number, b" form ", rule, b"\n"])
+}
+
+/// Writes that a listed fact was answered by another value.
+#[tactic(auto, unfolding(crate::specs::Text::value_text))]
+fn write_value<K: Sink>(
+    sink: &mut K,
+    number: u32,
+    fact: u32,
+    listed: i64,
+    found: i64,
+) -> Result<(), Failed>
+    ensures ok { OnOk result (Appends (K.written sink.old) (K.written sink.new) (spec.value_text number fact listed found)) }
+    ensures err { OnErr result (AppendsFront (K.written sink.old) (K.written sink.new) (spec.value_text number fact listed found)) }
+    ensures cause { HasCause (K.faults sink.old) (K.faults sink.new) result }
+{
+    let mut number_buffer = Buffer::new();
+    let mut fact_buffer = Buffer::new();
+    let mut listed_buffer = Buffer::new();
+    let mut found_buffer = Buffer::new();
+    let number = decimal(&mut number_buffer, number);
+    let fact = decimal(&mut fact_buffer, fact);
+    let listed = decimal(&mut listed_buffer, listed);
+    let found = decimal(&mut found_buffer, found);
+    write_parts(
+        sink,
+        &[
+            b"no ", number, b" value ", fact, b" ", listed, b" ", found, b"\n",
+        ],
+    )
+}
+
+/// Writes that a test of a listed fact is open.
+#[tactic(auto, unfolding(crate::specs::Text::undecided_text))]
+fn write_undecided<K: Sink>(
+    sink: &mut K,
+    number: u32,
+    fact: Fact,
+    at: Undecided,
+) -> Result<(), Failed>
+    ensures ok { OnOk result (Appends (K.written sink.old) (K.written sink.new) (spec.undecided_text number fact at)) }
+    ensures err { OnErr result (AppendsFront (K.written sink.old) (K.written sink.new) (spec.undecided_text number fact at)) }
+    ensures cause { HasCause (K.faults sink.old) (K.faults sink.new) result }
+{
+    let mut number_buffer = Buffer::new();
+    let mut turn_buffer = Buffer::new();
+    let mut low_buffer = Buffer::new();
+    let mut high_buffer = Buffer::new();
+    let mut day_buffer = Buffer::new();
+    let number = decimal(&mut number_buffer, number);
+    let site = at.site.name().as_bytes();
+    let turn = decimal(&mut turn_buffer, at.turn);
+    let low = decimal(&mut low_buffer, at.lo);
+    let high = decimal(&mut high_buffer, at.hi);
+    let kind = fact.kind().name().as_bytes();
+    let place = fact.place().name().as_bytes();
+    let day = decimal(&mut day_buffer, fact.day());
+    write_parts(
+        sink,
+        &[
+            b"no ",
+            number,
+            b" undecided ",
+            site,
+            b" ",
+            turn,
+            b" ",
+            low,
+            b" ",
+            high,
+            b" fact ",
+            kind,
+            b" ",
+            place,
+            b" ",
+            day,
+            b"\n",
+        ],
+    )
+}
+
+/// Writes that a listed fact has no value.
+#[tactic(auto, unfolding(crate::specs::Text::void_text))]
+fn write_void<K: Sink>(sink: &mut K, number: u32, fact: Fact, site: Site) -> Result<(), Failed>
+    ensures ok { OnOk result (Appends (K.written sink.old) (K.written sink.new) (spec.void_text number fact site)) }
+    ensures err { OnErr result (AppendsFront (K.written sink.old) (K.written sink.new) (spec.void_text number fact site)) }
+    ensures cause { HasCause (K.faults sink.old) (K.faults sink.new) result }
+{
+    let mut number_buffer = Buffer::new();
+    let mut day_buffer = Buffer::new();
+    let number = decimal(&mut number_buffer, number);
+    let site = site.name().as_bytes();
+    let kind = fact.kind().name().as_bytes();
+    let place = fact.place().name().as_bytes();
+    let day = decimal(&mut day_buffer, fact.day());
+    write_parts(
+        sink,
+        &[
+            b"no ", number, b" void ", site, b" fact ", kind, b" ", place, b" ", day, b"\n",
+        ],
+    )
+}
+
+/// Writes that a fact isn't listed.
+#[tactic(auto, unfolding(crate::specs::Text::missing_text))]
+fn write_missing<K: Sink>(sink: &mut K, number: u32, fact: Fact) -> Result<(), Failed>
+    ensures ok { OnOk result (Appends (K.written sink.old) (K.written sink.new) (spec.missing_text number fact)) }
+    ensures err { OnErr result (AppendsFront (K.written sink.old) (K.written sink.new) (spec.missing_text number fact)) }
+    ensures cause { HasCause (K.faults sink.old) (K.faults sink.new) result }
+{
+    let mut number_buffer = Buffer::new();
+    let mut day_buffer = Buffer::new();
+    let number = decimal(&mut number_buffer, number);
+    let kind = fact.kind().name().as_bytes();
+    let place = fact.place().name().as_bytes();
+    let day = decimal(&mut day_buffer, fact.day());
+    write_parts(
+        sink,
+        &[
+            b"no ",
+            number,
+            b" missing ",
+            kind,
+            b" ",
+            place,
+            b" ",
+            day,
+            b"\n",
+        ],
+    )
+}
+
+/// Writes that a list differs from the facts that are asked.
+#[tactic(auto, unfolding(crate::specs::Text::list_text))]
+fn write_place<K: Sink>(sink: &mut K, number: u32, place: u32) -> Result<(), Failed>
+    ensures ok { OnOk result (Appends (K.written sink.old) (K.written sink.new) (spec.list_text number place)) }
+    ensures err { OnErr result (AppendsFront (K.written sink.old) (K.written sink.new) (spec.list_text number place)) }
+    ensures cause { HasCause (K.faults sink.old) (K.faults sink.new) result }
+{
+    let mut number_buffer = Buffer::new();
+    let mut place_buffer = Buffer::new();
+    let number = decimal(&mut number_buffer, number);
+    let place = decimal(&mut place_buffer, place);
+    write_parts(sink, &[b"no ", number, b" list ", place, b"\n"])
+}
+
+/// Writes the front of a line on a result, up to the result.
+#[tactic(auto, unfolding(crate::specs::Text::date_head_text))]
+fn write_date_head<K: Sink>(sink: &mut K, number: u32) -> Result<(), Failed>
+    ensures ok { OnOk result (Appends (K.written sink.old) (K.written sink.new) (spec.date_head_text number)) }
+    ensures err { OnErr result (AppendsFront (K.written sink.old) (K.written sink.new) (spec.date_head_text number)) }
+    ensures cause { HasCause (K.faults sink.old) (K.faults sink.new) result }
+{
+    let mut buffer = Buffer::new();
+    let number = decimal(&mut buffer, number);
+    write_parts(sink, &[b"no ", number, b" date "])
+}
+
+/// Writes a result and the line's end.
+fn write_found<K: Sink>(sink: &mut K, found: Resolved) -> Result<(), Failed>
+    ensures ok { OnOk result (Appends (K.written sink.old) (K.written sink.new) (result_text found ++ codes "\n")) }
+    ensures err { OnErr result (AppendsFront (K.written sink.old) (K.written sink.new) (result_text found ++ codes "\n")) }
+    ensures cause { HasCause (K.faults sink.old) (K.faults sink.new) result }
+{
+    write_result(sink, found)?;
+    write_all(sink, b"\n")?;
+    Ok(())
+}
+
+/// Writes that a result has another text.
+fn write_date<K: Sink>(sink: &mut K, number: u32, found: Resolved) -> Result<(), Failed>
+    ensures ok { OnOk result (Appends (K.written sink.old) (K.written sink.new) (spec.date_text number found)) }
+    ensures err { OnErr result (AppendsFront (K.written sink.old) (K.written sink.new) (spec.date_text number found)) }
+    ensures cause { HasCause (K.faults sink.old) (K.faults sink.new) result }
+{
+    write_date_head(sink, number)?;
+    write_found(sink, found)?;
+    Ok(())
+}
+
+/// Writes the reason against a line.
+fn write_reason<K: Sink>(sink: &mut K, number: u32, reason: &Reason) -> Result<(), Failed>
+    ensures ok { OnOk result (Appends (K.written sink.old) (K.written sink.new) (spec.reason_text number reason.now)) }
+    ensures err { OnErr result (AppendsFront (K.written sink.old) (K.written sink.new) (spec.reason_text number reason.now)) }
+    ensures cause { HasCause (K.faults sink.old) (K.faults sink.new) result }
+{
+    match *reason {
+        Reason::Form(rule) => write_form(sink, number, rule),
+        Reason::Value {
+            fact,
+            listed,
+            found,
+        } => write_value(sink, number, fact, listed, found),
+        Reason::Undecided(fact, at) => write_undecided(sink, number, fact, at),
+        Reason::Void(fact, site) => write_void(sink, number, fact, site),
+        Reason::Missing(fact) => write_missing(sink, number, fact),
+        Reason::List { place } => write_place(sink, number, place),
+        Reason::Date { found } => write_date(sink, number, found),
+    }
+}
+
+/// Writes the verdict of the line of this number: `yes N`, `skip N`, or `no N` and the reason. At an error, which comes
+/// only where the count of the sink's faults rose, a front of the text was written.
+pub fn write_verdict<K: Sink>(sink: &mut K, number: u32, verdict: &Verdict) -> Result<(), Failed>
+    ensures ok { OnOk result (Appends (K.written sink.old) (K.written sink.new) (spec.verdict_text number verdict.now)) }
+    ensures err { OnErr result (AppendsFront (K.written sink.old) (K.written sink.new) (spec.verdict_text number verdict.now)) }
+    ensures cause { HasCause (K.faults sink.old) (K.faults sink.new) result }
+{
+    match verdict {
+        Verdict::Yes => write_yes(sink, number),
+        Verdict::No(reason) => write_reason(sink, number, reason),
+        Verdict::Skip => write_skip(sink, number),
+    }
+}
+
+/// Writes how many verdicts there are of each kind, `end yes A no B skip C`. At an error, which comes only where the
+/// count of the sink's faults rose, a front of the text was written.
+#[tactic(auto, unfolding(crate::specs::Text::counts_text))]
+pub fn write_counts<K: Sink>(sink: &mut K, yes: u32, no: u32, skip: u32) -> Result<(), Failed>
+    ensures ok { OnOk result (Appends (K.written sink.old) (K.written sink.new) (spec.counts_text yes no skip)) }
+    ensures err { OnErr result (AppendsFront (K.written sink.old) (K.written sink.new) (spec.counts_text yes no skip)) }
+    ensures cause { HasCause (K.faults sink.old) (K.faults sink.new) result }
+{
+    let mut yes_buffer = Buffer::new();
+    let mut no_buffer = Buffer::new();
+    let mut skip_buffer = Buffer::new();
+    let yes = decimal(&mut yes_buffer, yes);
+    let no = decimal(&mut no_buffer, no);
+    let skip = decimal(&mut skip_buffer, skip);
+    write_parts(
+        sink,
+        &[b"end yes ", yes, b" no ", no, b" skip ", skip, b"\n"],
+    )
+}
