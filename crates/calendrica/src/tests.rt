@@ -2,7 +2,7 @@
 ghost use Rattle.std.specs.Prelude.{None};
 
 use fact_eval::Staged;
-use run_core::{Failed, LIMIT, MemorySink, MemorySource, OpenGate, Sink, Source, Status, run};
+use run_core::{Command, Failed, MemorySink, MemorySource, OpenGate, Sink, Source, Status, run};
 use std::alloc::Global;
 use std::test::Fail;
 
@@ -36,7 +36,16 @@ const LINES_TEXT: &str = "calendrica 1 depth 40\n\
     line 8 gregorian 2048-12-31 dt 91261 facts 3\n\
     end lines 8 facts 3\n";
 
-const USAGE: &str = "usage: calendrica convert\n";
+/// A printed file, one whose fact has a wrong value, and one whose line was refused.
+const PRINTED: &str =
+    "calendrica 1 depth 40\nfact 1 dt - 738926 73871\nline 1 gregorian 2024-02-10 dt 73871 facts 1\nend lines 1 facts 1\n";
+
+const WRONG: &str =
+    "calendrica 1 depth 40\nfact 1 dt - 738926 73872\nline 1 gregorian 2024-02-10 dt 73871 facts 1\nend lines 1 facts 1\n";
+
+const REFUSED: &str = "calendrica 1 depth 40\nline 1 refused 2\nend lines 1 facts 0\n";
+
+const USAGE: &str = "usage: calendrica convert | check\n";
 
 fn convert(alloc: Global) -> Result<Vec<String>, Fail> {
     let mut words = Vec::new(alloc);
@@ -140,6 +149,8 @@ fn other_words_are_answered_by_the_usage_line(rt: HostRuntime) -> Result<(), Fai
         &["Convert"],
         &["convert "],
         &["convert", "convert"],
+        &["convert", "check"],
+        &["Check"],
     ] {
         let mut texts = Vec::new(alloc);
         for word in words {
@@ -277,7 +288,8 @@ fn bytes_come_and_go_one_by_one(rt: HostRuntime) -> Result<(), Fail> {
 fn an_input_past_the_limit_is_too_large(rt: HostRuntime) -> Result<(), Fail> {
     let alloc = rt.alloc();
     let words = convert(alloc)?;
-    let mut source = MemorySource::new(vec![in alloc; b'x'; LIMIT + 1]?, Vec::new(alloc));
+    let limit = Command::Convert.limit();
+    let mut source = MemorySource::new(vec![in alloc; b'x'; limit + 1]?, Vec::new(alloc));
     let mut sink = MemorySink::new(alloc, 100, Vec::new(alloc))?;
     let got = run(
         &rt,
@@ -290,7 +302,7 @@ fn an_input_past_the_limit_is_too_large(rt: HostRuntime) -> Result<(), Fail> {
     );
     assert_eq!(rt; got, Status::TooLarge);
     assert_eq!(rt; sink.written().len(), 0);
-    let mut source = MemorySource::new(vec![in alloc; b'x'; LIMIT]?, Vec::new(alloc));
+    let mut source = MemorySource::new(vec![in alloc; b'x'; limit]?, Vec::new(alloc));
     let got = run(
         &rt,
         alloc,
@@ -303,6 +315,37 @@ fn an_input_past_the_limit_is_too_large(rt: HostRuntime) -> Result<(), Fail> {
     assert_eq!(rt; got, Status::Mixed);
     let text = "calendrica 1 depth 40\nline 1 refused 1\nend lines 1 facts 0\n";
     assert_eq!(rt; sink.written(), text.as_bytes());
+    Ok(())
+}
+
+#[test]
+fn printed_files_get_verdicts(rt: HostRuntime) -> Result<(), Fail> {
+    let alloc = rt.alloc();
+    let words = vec![in alloc; String::from_str(alloc, "check")?]?;
+    for (file, text, status) in [
+        (PRINTED, "yes 1\nend yes 1 no 0 skip 0\n", Status::Done),
+        (
+            WRONG,
+            "no 1 value 1 73872 73871\nend yes 0 no 1 skip 0\n",
+            Status::Mixed,
+        ),
+        (REFUSED, "skip 1\nend yes 0 no 0 skip 1\n", Status::Mixed),
+        ("calendrica 1 depth 40\n", "bad 2 6\n", Status::BadText),
+    ] {
+        let mut source = MemorySource::new(file.as_bytes().to_vec(alloc)?, Vec::new(alloc));
+        let mut sink = MemorySink::new(alloc, 100, Vec::new(alloc))?;
+        let got = run(
+            &rt,
+            alloc,
+            &words,
+            &mut source,
+            &mut sink,
+            &Staged::new(),
+            &OpenGate,
+        );
+        assert_eq!(rt; got, status, "at {file:?}");
+        assert_eq!(rt; sink.written(), text.as_bytes(), "at {file:?}");
+    }
     Ok(())
 }
 

@@ -1,107 +1,119 @@
--- An answer for the fact that a line asks makes an outcome of the line.
-use Rattle.std.proofs.Common.{◌≡◌, ℕ, ℤ, pos, ◌≤ℤ◌, Bool, true, false, sym, List, [], ◌∷◌, refl, arith}
-use Rattle.std.proofs.lemmas.Int.{ints}
-use Rattle.std.specs.Prelude.{int_le, Ok, Err, Some, None, Option, if◌then◌else◌, ◌&&◌}
+-- What an oracle over an evaluator answers makes a right outcome.
+use Rattle.std.proofs.Common.{◌≡◌, ℕ, ◌≤◌, ℤ, pos, sym, List, [], ◌∷◌, ◌++◌, refl}
+use Rattle.std.specs.Prelude.{Ok}
 use Rattle.book_model.specs.declared.fact.Fact.{Fact}
-use Rattle.book_model.specs.declared.request.Fields.{Fields}
-use Rattle.book_model.specs.declared.request.FromWord.{FromWord}
+use Rattle.book_model.specs.declared.fail.Undecided.{Undecided}
+use Rattle.book_model.specs.declared.site.Site.{Site}
 use Rattle.book_model.specs.declared.request.Request.{Request}
-use Rattle.book_model.specs.declared.request.Resolved.TheVariants.{Shown}
+use Rattle.book_model.specs.declared.request.Resolved.{Resolved}
 use Rattle.book_model.specs.declared.request.ToWord.{ToWord}
-use Rattle.book_model.specs.declared.request.ToWord.TheVariants.{Dt}
-use Rattle.book_model.specs.declared.request.Rule.TheVariants.{Syntax, Range}
-use Rattle.book_model.specs.Correction.{is_between}
-use Rattle.book_model.specs.Lines.{words_of}
-use Rattle.book_model.specs.Facts.{run_of, IsTrueWith}
-use Rattle.book_model.specs.Programs.{outcome, valued}
-use Rattle.book_model.specs.Inquiries.{dt_fact, one_field, result_on, rule_of, found, finding, finding_after, AsksAt, asks_here}
-use Rattle.book_model.specs.Outcomes.{HasResult, AsksAlways}
-use Rattle.book_model.specs.Requests.{request_of, day_of, asked_by, with_words, with_fields, ranged, is_in_range, is_year_for, field, fields_of, from_word_of, to_word_of}
+use Rattle.book_model.specs.declared.request.ToWord.TheVariants.{Gregorian, Fixed, Dt}
+use Rattle.book_model.specs.Facts.{run_of}
+use Rattle.book_model.specs.Inquiries.{done, ask, dt_fact, result_on, rule_of, facts_over, found, finding, finding_after, AsksAt, asks_here}
+use Rattle.book_model.specs.Outcomes.{LineOutcome, refused, resolved, undecided, void, IsRightFor}
+use Rattle.book_model.specs.Programs.{Outcome, valued, void_at, open_at, outcome}
+use Rattle.book_model.specs.Requests.{request_of, day_of}
+use Rattle.oracle_core.specs.declared.oracle.Stop.{Stop}
+use Rattle.oracle_core.specs.declared.oracle.Stop.TheVariants.{Undecided as undecided_stop, Void as void_stop, Missing as missing_stop, Memory as memory_stop}
+use Rattle.oracle_core.specs.Inquiring.{Agrees, HasAnswer, StopsAt}
+use Rattle.oracle_core.specs.Pairs.{StandsWith, AllStand, facts_of, IsFront}
+use Rattle.oracle_core.specs.Stops.{MayStopAsking}
+use Rattle.run_core.specs.Outcomes.{IsRightOf, ComesOfStop}
 
--- the result of a day over the value of its fact
-found_on : (n : ℕ) (to : ToWord) (day v : ℤ) → outcome (run_of n (dt_fact day)) ≡ valued v
-    → finding n (result_on to day) ≡ found (Shown to (one_field v)) ((dt_fact day, v) ∷ [])
+-- the value of an outcome, or 0
+abbrev value_in : Outcome ℤ → ℤ
+value_in (valued v) = v
+value_in (void_at s) = pos 0
+value_in (open_at s) = pos 0
+
+-- the values of the facts at a depth
+abbrev pub table_at : ℕ → Fact → ℤ
+table_at n f = value_in (outcome (run_of n f))
+
+-- such a table gives each fact the value with which it is true
+agrees_at : (n : ℕ) → 40 ≤ n → Agrees StandsWith (λ f. f) (table_at n)
+agrees_at n deep = record { same = λ f v h. rw (h.is_true.at_each_depth n deep) refl }
+
+one_kept : (es : List (Fact × ℤ)) (f : Fact) → AllStand es → facts_of es ≡ f ∷ [] → (v : ℤ) × (es ≡ (f, v) ∷ []) × StandsWith f v
+one_kept [] f all h = cc
+one_kept ((g, v) ∷ []) f all h = let e : g ≡ f = cc in (v, rw e refl, rw e at all.0)
+one_kept (e ∷ d ∷ es) f all h = cc
+
+none_kept : (es : List (Fact × ℤ)) → facts_of es ≡ [] → es ≡ []
+none_kept [] h = refl
+none_kept (e ∷ es) h = cc
+
+-- a result that rests on no fact
+finds_done : (n : ℕ) (a x : Resolved) (es : List (Fact × ℤ)) → 40 ≤ n → HasAnswer StandsWith (λ f. f) (done a) [] (facts_of es) x → finding n (done a) ≡ found x es
 unfolding finding_after
-found_on n Dt day v h = rw h refl
+finds_done n a x es deep h =
+    let r : a ≡ x = h.result (table_at n) (agrees_at n deep) in
+    let k : es ≡ [] = none_kept es (h.asked (table_at n) (agrees_at n deep)) in
+    rw (r, k) refl
 
--- the rule of a day asks its fact at every depth
-asks_on : (n : ℕ) (to : ToWord) (day : ℤ) → AsksAt n (result_on to day) (dt_fact day)
-asks_on n Dt day = asks_here
+found_one : (n : ℕ) (f : Fact) (v : ℤ) (g : ℤ → Resolved) → outcome (run_of n f) ≡ valued v → finding n (ask f (λ u. done (g u))) ≡ found (g v) ((f, v) ∷ [])
+unfolding finding_after
+found_one n f v g h = rw h refl
 
--- a line has a result where the fact that it asks has a value
-pub has_result : (line : List ℕ) (r : Request) (f : Fact) (v : ℤ) → Ok r ≡ request_of line → f ≡ dt_fact (day_of r.from r.date) → IsTrueWith f v
-    → HasResult line (Shown r.to (one_field v)) ((f, v) ∷ [])
+-- a result that rests on one fact
+finds_one : (n : ℕ) (f : Fact) (g : ℤ → Resolved) (x : Resolved) (es : List (Fact × ℤ)) → 40 ≤ n → AllStand es → HasAnswer StandsWith (λ f. f) (ask f (λ u. done (g u))) [] (facts_of es) x
+    → finding n (ask f (λ u. done (g u))) ≡ found x es
+finds_one n f g x es deep all h =
+    let r : g (table_at n f) ≡ x = h.result (table_at n) (agrees_at n deep) in
+    let k = one_kept es f all (h.asked (table_at n) (agrees_at n deep)) in
+    let t : table_at n f ≡ k.0 = (agrees_at n deep).same f k.0 k.2 in
+    let s : g k.0 ≡ x = rw t at r in
+    rw (k.1, ← s) (found_one n f k.0 g (k.2.is_true.at_each_depth n deep))
+
+finds_on : (n : ℕ) (to : ToWord) (day : ℤ) (x : Resolved) (es : List (Fact × ℤ)) → 40 ≤ n → AllStand es → HasAnswer StandsWith (λ f. f) (result_on to day) [] (facts_of es) x → finding n (result_on to day) ≡ found x es
+finds_on n Gregorian day x es deep all h = finds_done n _ x es deep h
+finds_on n Fixed day x es deep all h = finds_done n _ x es deep h
+finds_on n Dt day x es deep all h = finds_one n (dt_fact day) _ x es deep all h
+
+-- an answer of the oracle makes a right result
+pub right_result : (r : Request) (x : Resolved) (es : List (Fact × ℤ)) → AllStand es → HasAnswer StandsWith (λ f. f) (rule_of r) [] (facts_of es) x → IsRightOf r (resolved x es)
 unfolding rule_of
-has_result line r f v asked e is_true =
-    let is_true' : IsTrueWith (dt_fact (day_of r.from r.date)) v = rw e at is_true in
-    rw e (let h : HasResult line (Shown r.to (one_field v)) ((dt_fact (day_of r.from r.date), v) ∷ []) = record {
-      request = r;
-      asked = sym asked;
-      at_each_depth = λ n deep. found_on n r.to (day_of r.from r.date) v (is_true'.at_each_depth n deep);
-    } in h)
+right_result r x es all h = λ n deep. finds_on n r.to (day_of r.from r.date) x es deep all h
 
--- a line asks its fact at every depth
-pub asks_always : (line : List ℕ) (r : Request) (f : Fact) → Ok r ≡ request_of line → f ≡ dt_fact (day_of r.from r.date) → AsksAlways line f
+front_of_one : (before : List Fact) (f g : Fact) → IsFront (before ++ f ∷ []) (g ∷ []) → f ≡ g
+front_of_one [] f g h = let e : f ∷ h.rest ≡ g ∷ [] = h.joined in cc
+front_of_one (b ∷ []) f g h = let e : b ∷ f ∷ h.rest ≡ g ∷ [] = h.joined in cc
+front_of_one (b ∷ c ∷ bs) f g h = let e : b ∷ c ∷ ((bs ++ f ∷ []) ++ h.rest) ≡ g ∷ [] = h.joined in cc
+
+front_of_none : (before : List Fact) (f : Fact) → IsFront (before ++ f ∷ []) [] → ⊥
+front_of_none [] f h = let e : f ∷ h.rest ≡ [] = h.joined in cc
+front_of_none (b ∷ bs) f h = let e : b ∷ ((bs ++ f ∷ []) ++ h.rest) ≡ [] = h.joined in cc
+
+-- the fact at which the oracle stops is asked
+asks_on : (n : ℕ) (to : ToWord) (day : ℤ) (before : List Fact) (f : Fact) → IsFront (before ++ f ∷ []) (facts_over (table_at n) (result_on to day)) → AsksAt n (result_on to day) f
+asks_on n Gregorian day before f h = absurd (front_of_none before f h)
+asks_on n Fixed day before f h = absurd (front_of_none before f h)
+asks_on n Dt day before f h = let e : f ≡ dt_fact day = front_of_one before f (dt_fact day) h in rw e asks_here
+
+-- an open test at which the oracle stops makes a right outcome
+right_undecided : (r : Request) (f : Fact) (u : Undecided) (new : List Fact) → StopsAt StandsWith (λ g. g) MayStopAsking (rule_of r) [] new (undecided_stop f u) → IsRightOf r (undecided f u)
 unfolding rule_of
-asks_always line r f asked e = rw e (let h : AsksAlways line (dt_fact (day_of r.from r.date)) = record {
-  request = r;
-  asked = sym asked;
-  at_each_depth = λ n deep. asks_on n r.to (day_of r.from r.date);
-} in h)
+right_undecided r f u new h =
+    let same : f ≡ h.fact = h.stop.names in
+    rw same (λ n deep. asks_on n r.to (day_of r.from r.date) h.before h.fact (h.asks (table_at n) (agrees_at n deep)), h.stop.may)
 
--- a request passes both tests of its range
-ranged_where : (a b : Bool) (r q : Request) → Ok q ≡ (if a && b then Ok r else Err Range) → (a ≡ true) × (q ≡ r)
-ranged_where true true r q h = (refl, cc)
-ranged_where true false r q h = cc
-ranged_where false b r q h = cc
+-- and so does a void
+right_void : (r : Request) (f : Fact) (s : Site) (new : List Fact) → StopsAt StandsWith (λ g. g) MayStopAsking (rule_of r) [] new (void_stop f s) → IsRightOf r (void f s)
+unfolding rule_of
+right_void r f s new h =
+    let same : f ≡ h.fact = h.stop.names in
+    rw same (λ n deep. asks_on n r.to (day_of r.from r.date) h.before h.fact (h.asks (table_at n) (agrees_at n deep)), h.stop.may)
 
--- the day of a request is within the range
-abbrev HasDayInRange : Request → Type 0
-HasDayInRange r = is_in_range (day_of r.from r.date) ≡ true
+-- what comes of a stop of the oracle is right
+pub right_stop : (r : Request) (s : Stop) (new : List Fact) (o : LineOutcome) → StopsAt StandsWith (λ g. g) MayStopAsking (rule_of r) [] new s → ComesOfStop s o → IsRightOf r o
+right_stop r (undecided_stop f u) new o h e = rw e (right_undecided r f u new h)
+right_stop r (void_stop f s) new o h e = rw e (right_void r f s new h)
+right_stop r (missing_stop f) new o h e = absurd e
+right_stop r memory_stop new o h e = absurd e
 
--- a ranged request has its day in the range
-in_range_ranged : (r q : Request) → Ok q ≡ ranged r → HasDayInRange q
-in_range_ranged r q h =
-    let s = ranged_where (is_in_range (day_of r.from r.date)) (is_year_for r.to (field r.date 0)) r q h in
-    rw s.1 s.0
-
--- so has one of a date that the calendar has
-in_range_fields : (from : FromWord) (to : ToWord) (fields : Option Fields) (q : Request) → Ok q ≡ with_fields from to fields → HasDayInRange q
-in_range_fields from to None q h = cc
-in_range_fields from to (Some fields) q h = in_range_ranged _ q h
-
--- so has one of words that are known
-in_range_words : (from : Option FromWord) (date : List ℕ) (to : Option ToWord) (q : Request) → Ok q ≡ with_words from date to → HasDayInRange q
-in_range_words None date to q h = cc
-in_range_words (Some from) date None q h = cc
-in_range_words (Some from) date (Some to) q h = in_range_fields from to (fields_of from date) q h
-
--- so has one of three words
-in_range_asked : (words : List (List ℕ)) (q : Request) → Ok q ≡ asked_by words → HasDayInRange q
-in_range_asked [] q h = cc
-in_range_asked (a ∷ []) q h = cc
-in_range_asked (a ∷ b ∷ []) q h = cc
-in_range_asked (a ∷ b ∷ c ∷ []) q h = in_range_words (from_word_of a) b (to_word_of c) q h
-in_range_asked (a ∷ b ∷ c ∷ d ∷ words) q h = cc
-
--- so has one of a readable line
-in_range_where : (t : Bool) (words : List (List ℕ)) (q : Request) → Ok q ≡ (if t then asked_by words else Err Syntax) → HasDayInRange q
-in_range_where true words q h = in_range_asked words q h
-in_range_where false words q h = cc
-
--- two tests hold where both do
-both_true : (a b : Bool) → (a && b) ≡ true → (a ≡ true) × (b ≡ true)
-both_true true true h = (refl, refl)
-both_true true false h = cc
-both_true false b h = cc
-
--- what the test of a range says
-between_is : (low high z : ℤ) → is_between low high z ≡ true → (low ≤ℤ z) × (z ≤ℤ high)
-between_is low high z h =
-    let e = both_true (int_le low z) (int_le z high) h in
-    (omega (arith, ints, e.0), omega (arith, ints, e.1))
-
--- the day that a line names lies within the range
-pub day_in_range : (line : List ℕ) (q : Request) → Ok q ≡ request_of line → (pos 657802 ≤ℤ day_of q.from q.date) × (day_of q.from q.date ≤ℤ pos 748017)
-unfolding request_of
-day_in_range line q h = between_is _ _ _ (in_range_where _ (words_of line) q h)
+-- what is right for its request is right for the line
+pub right_for_line : (line : List ℕ) (r : Request) (o : LineOutcome) → Ok r ≡ request_of line → IsRightOf r o → IsRightFor line o
+right_for_line line r (refused rule) asked h = absurd h
+right_for_line line r (resolved x es) asked h = record { request = r; asked = sym asked; at_each_depth = h }
+right_for_line line r (undecided f u) asked h = (record { request = r; asked = sym asked; at_each_depth = h.0 }, h.1)
+right_for_line line r (void f s) asked h = (record { request = r; asked = sym asked; at_each_depth = h.0 }, h.1)

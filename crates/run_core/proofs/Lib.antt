@@ -1,13 +1,9 @@
-pub mod Flow
-pub mod LineLemmas
 pub mod MemoryLemmas
 pub mod TextLemmas
+pub mod BlockLemmas
 pub mod RightLemmas
-pub mod DateText
-pub mod DateDays
-pub mod LineWords
-pub mod Requests
 pub mod AnswerLemmas
 pub mod WordLemmas
 pub mod DecidedLemmas
 pub mod PrintedLemmas
+pub mod CheckLemmas

@@ -22,12 +22,17 @@ right_length (line ∷ lines) (o ∷ os) all =
     let rest : length lines ≡ length os = right_length lines os all.1 in omega arith
 
 -- each is right for its line
-pub right_at : {X : Type 0} (f : X → List ℕ) (lines : List X) (os : List Outcome) (i : ℕ) (d : X) (e : Outcome) → i < length lines → i < length os
+right_place : {X : Type 0} (f : X → List ℕ) (lines : List X) (os : List Outcome) (i : ℕ) (d : X) (e : Outcome) → i < length lines → i < length os
     → AreRight (map f lines) (map line_outcome os) → IsRightFor (f (get_or lines i d)) (line_outcome (get_or os i e))
-right_at f [] os i d e h k all = absurd (omega arith)
-right_at f (line ∷ lines) [] i d e h k all = absurd (omega arith)
-right_at f (line ∷ lines) (o ∷ os) zero d e h k all = all.0
-right_at f (line ∷ lines) (o ∷ os) (suc i) d e h k all = right_at f lines os i d e (omega arith) (omega arith) all.1
+right_place f [] os i d e h k all = absurd (omega arith)
+right_place f (line ∷ lines) [] i d e h k all = absurd (omega arith)
+right_place f (line ∷ lines) (o ∷ os) zero d e h k all = all.0
+right_place f (line ∷ lines) (o ∷ os) (suc i) d e h k all = right_place f lines os i d e (omega arith) (omega arith) all.1
+
+-- and so is the outcome at its place
+pub right_at : {X : Type 0} (f : X → List ℕ) (lines : List X) (os : List Outcome) (i : ℕ) (d : X) (o : Outcome) → i < length lines → i < length os → o ≡ get_or os i o
+    → AreRight (map f lines) (map line_outcome os) → IsRightFor (f (get_or lines i d)) (line_outcome o)
+right_at f lines os i d o h k e all = let right = right_place f lines os i d o h k all in rw (← e) at right
 
 -- only three words ask something
 three_asked : (ws : List (List ℕ)) (r : Request) → asked_by ws ≡ Ok r → length ws ≡ 3
@@ -48,8 +53,8 @@ unfolding request_of
 three_words_asked line r h = three_where _ (words_of line) r h
 
 -- a line whose outcome is a result has three words
-pub three_words_found : (line : List ℕ) (o : Outcome) (x : Resolved) (f : Fact) (v : ℤ) → o ≡ Found x f v → IsRightFor line (line_outcome o) → length (words_of line) ≡ 3
-three_words_found line o x f v e h = let k : HasResult line x ((f, v) ∷ []) = rw e at h in three_words_asked line k.request k.asked
+pub three_words_found : (line : List ℕ) (o : Outcome) (x : Resolved) (facts : List (Fact × ℤ)) → o ≡ Found x facts → IsRightFor line (line_outcome o) → length (words_of line) ≡ 3
+three_words_found line o x facts e h = let k : HasResult line x facts = rw e at h in three_words_asked line k.request k.asked
 
 -- all are results, by either list of outcomes
 pub all_results : (os : List Outcome) → list_all (λ o. is_result (line_outcome o)) os ≡ list_all is_result (map line_outcome os)

@@ -1,5 +1,7 @@
-pub mod Stream
+pub mod Calls
 pub mod Outcomes
 pub mod Run
 pub mod Laws
-pub mod Days
+pub mod Numbering
+pub mod Commands
+pub mod Checking

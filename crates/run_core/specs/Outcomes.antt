@@ -1,12 +1,31 @@
 -- What the code's outcome of a line stands for.
-use Rattle.std.specs.Prelude.{[], ◌∷◌}
+use Rattle.std.specs.Prelude.{◌≡◌, ℕ, ◌≤◌}
+use Rattle.book_model.specs.declared.request.Request.{Request}
+use Rattle.book_model.specs.Facts.{IsNear, IsVoidAt}
+use Rattle.book_model.specs.Inquiries.{rule_of, finding, found, AsksAt}
 use Rattle.book_model.specs.Outcomes.{LineOutcome, refused, resolved, undecided, void}
+use Rattle.oracle_core.specs.declared.oracle.Stop.{Stop}
+use Rattle.oracle_core.specs.declared.oracle.Stop.TheVariants.{Undecided as undecided_stop, Void as void_stop, Missing as missing_stop, Memory as memory_stop}
 use Rattle.run_core.specs.declared.outcome.Outcome.{Outcome}
 use Rattle.run_core.specs.declared.outcome.Outcome.TheVariants.{Refused, Found, Undecided, Void}
 
--- the outcome that the definitions speak of: a result rests on one fact with its value
+-- the outcome that the definitions speak of
 abbrev pub line_outcome : Outcome → LineOutcome
 line_outcome (Refused rule) = refused rule
-line_outcome (Found x fact value) = resolved x ((fact, value) ∷ [])
+line_outcome (Found x facts) = resolved x facts
 line_outcome (Undecided fact at) = undecided fact at
 line_outcome (Void fact site) = void fact site
+
+-- an outcome is right for a request
+abbrev pub IsRightOf : Request → LineOutcome → Type 0
+IsRightOf r (refused rule) = ⊥
+IsRightOf r (resolved x facts) = (n : ℕ) → 40 ≤ n → finding n (rule_of r) ≡ found x facts
+IsRightOf r (undecided f u) = ((n : ℕ) → 40 ≤ n → AsksAt n (rule_of r) f) × IsNear f u
+IsRightOf r (void f s) = ((n : ℕ) → 40 ≤ n → AsksAt n (rule_of r) f) × IsVoidAt f s
+
+-- an outcome is what comes of a stop, at an open test or a void
+abbrev pub ComesOfStop : Stop → LineOutcome → Type 0
+ComesOfStop (undecided_stop f u) o = o ≡ undecided f u
+ComesOfStop (void_stop f s) o = o ≡ void f s
+ComesOfStop (missing_stop f) o = ⊥
+ComesOfStop memory_stop o = ⊥

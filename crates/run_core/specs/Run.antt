@@ -1,14 +1,17 @@
 -- How a run ends, and what it has done.
-use Rattle.std.specs.Prelude.{◌≡◌, ◌<◌, ◌≤◌, ℕ, Bool, List, [], ◌∷◌, length, codes, None, Some}
+use Rattle.std.specs.Prelude.{◌≡◌, ◌<◌, ◌≤◌, ℕ, Bool, List, length, codes, None, Some}
 use Rattle.std.specs.List.{list_all}
 use Rattle.std.specs.declared.option.Option.{Option}
 use Rattle.std.specs.Io.KnownBytes.{Appends, Consumes, IsAtEnd}
 use Rattle.book_model.specs.Lines.{lines_of}
 use Rattle.book_model.specs.Outcomes.{LineOutcome, AreRight, is_result}
 use Rattle.book_model.specs.Text.{text}
+use Rattle.run_core.specs.Checking.{ChecksText, CheckCutShort}
+use Rattle.run_core.specs.declared.command.Command.{Command}
+use Rattle.run_core.specs.declared.command.Command.TheVariants.{Convert, Check}
 use Rattle.run_core.specs.declared.status.Status.{Status}
 use Rattle.run_core.specs.declared.status.Status.TheVariants.{Done, Mixed, Words, ReadFault, WriteFault, Memory, TooLarge, BadText}
-use Rattle.run_core.specs.Stream.{AppendsFront}
+use Rattle.cert_text.specs.Stream.{AppendsFront}
 
 -- the number of a status, with which the program exits
 abbrev pub status_number : Status → ℕ
@@ -21,13 +24,9 @@ status_number Memory = 5
 status_number TooLarge = 6
 status_number BadText = 7
 
--- the words that the program understands: the one word `convert`
-abbrev pub AreForm : List (List ℕ) → Type 0
-AreForm words = words ≡ codes "convert" ∷ []
-
--- the line that is written where the words aren't in the form
+-- the line that is written where the words are in no form
 abbrev pub usage : List ℕ
-usage = codes "usage: calendrica convert\n"
+usage = codes "usage: calendrica convert | check\n"
 
 -- the whole text stands behind what the sink held, each outcome right for its line
 pub record Printed (old new : Option (List ℕ)) (input : List ℕ) (all_results : Bool) : Type 0 where
@@ -57,3 +56,24 @@ Fits (Some bytes) limit = length bytes ≤ limit
 abbrev pub IsLarger : Option (List ℕ) → ℕ → Type 0
 IsLarger None limit = ⊥
 IsLarger (Some bytes) limit = limit < length bytes
+
+-- what a command has done with an input: the text of its lines stands there, or the verdicts of a printed file
+abbrev pub Finishes : Command → Option (List ℕ) → Option (List ℕ) → List ℕ → Bool → Type 0
+Finishes Convert old new input all = Printed old new input all
+Finishes Check old new input all = ChecksText old new input all
+
+-- a front of what the command writes for an input stands there
+abbrev pub IsCut : Command → Option (List ℕ) → Option (List ℕ) → List ℕ → Type 0
+IsCut Convert old new input = CutShort old new input
+IsCut Check old new input = CheckCutShort old new input
+
+-- a status that comes once the input was read
+abbrev pub IsOfWork : Status → Type 0
+IsOfWork Done = Unit {0}
+IsOfWork Mixed = Unit {0}
+IsOfWork Words = ⊥
+IsOfWork ReadFault = ⊥
+IsOfWork WriteFault = Unit {0}
+IsOfWork Memory = Unit {0}
+IsOfWork TooLarge = ⊥
+IsOfWork BadText = Unit {0}

@@ -2,9 +2,10 @@
 ghost use Rattle.std.specs.Prelude.{◌≡◌, ◌≤◌, ◌<◌, ◌+◌, ◌-◌, ◌^◌, ◌||◌, ◌&&◌, ◌⊎◌, ◌==◌, not, [], nat_lt, if◌then◌else◌, min, length, drop, Some, IfOk, IsErr, IsTrue, ◌↔◌, vec_len, vec_capacity};
 ghost use Rattle.std.specs.Io.{ReadsAtMost};
 ghost use Rattle.std.specs.Io.KnownBytes.{ReadConsumes, WriteAppends};
-ghost use Rattle.run_core.specs.Stream.{HasCause, next_count, is_listed};
+ghost use Rattle.cert_text.specs.Stream.{HasCause, next_count};
+ghost use Rattle.run_core.specs.Calls.{is_listed};
 
-use crate::stream::{Failed, Sink, Source};
+use cert_text::{Failed, Sink, Source};
 use std::alloc::{AllocError, Global};
 
 /// Whether the number of a call is listed.

@@ -1,72 +1,66 @@
 //! What comes of each line.
-ghost use Rattle.std.specs.Prelude.{◌≡◌, ◌≤ℤ◌, pos, negsuc, ℕ, List, map, IfOk};
-ghost use Rattle.book_model.specs.Inquiries.{dt_fact, to_32_bits as nearest, one_field as one_field_of};
+ghost use Rattle.std.specs.Prelude.{◌≡◌, ℕ, List, map, IsTrue, IfOk};
 ghost use Rattle.book_model.specs.Outcomes.{IsRightFor, AreRight};
-ghost use Rattle.run_core.specs.Outcomes.{line_outcome};
+ghost use Rattle.book_model.specs.Requests.{day_of, is_in_range};
+ghost use Rattle.line_core.specs.Days.{names_day};
+ghost use Rattle.run_core.specs.Outcomes.{line_outcome, IsRightOf, ComesOfStop};
 
-use crate::day::request_day;
-use crate::line::read_line;
-use book_model::{Fact, Fields, Kind, Place, Request, Resolved, Rule, Site, Undecided};
-use oracle_core::{Answer, Evaluator};
+use book_model::{Fact, Request, Resolved, Rule, Site, Undecided};
+use line_core::{read_line, resolve};
+use oracle_core::{Asking, Evaluator, FactValues, Stop};
 use std::alloc::{AllocError, Global};
 
-/// What comes of a line: it breaks a rule; it has a result, which rests on a fact with its value; or the fact that
+/// What comes of a line: it breaks a rule; it has a result, which rests on facts with their values; or a fact that
 /// it asks is undecided or void.
-#[derive(Clone, Copy, Debug, PartialEq, Eq)]
+#[derive(Drop)]
 pub enum Outcome {
     Refused(Rule),
-    Found(Resolved, Fact, i64),
+    Found(Resolved, FactValues),
     Undecided(Fact, Undecided),
     Void(Fact, Site),
 }
 
-/// The fact of the dynamical time correction on a day (R.D.).
-fn dt_fact_on(day: i64) -> Fact
-    requires low { negsuc 39999999 ≤ℤ day }
-    requires high { day ≤ℤ pos 40000000 }
-    ensures { result ≡ dt_fact day }
+/// What comes of a line whose facts are asked up to this stop of an oracle over an evaluator. The error comes where
+/// memory runs out; no fact is missing to such an oracle.
+fn outcome_at(stop: Stop) -> Result<Outcome, AllocError>
+    ensures stopped { IfOk result (λ outcome. ComesOfStop stop (line_outcome outcome)) }
 {
-    Fact::new(Kind::Dt, Place::None, day).unwrap()
-}
-
-/// The nearest number of 32 bits.
-fn to_32_bits(value: i64) -> i32
-    ensures { result ≡ nearest value }
-{
-    if value <= -2_147_483_648 {
-        i32::MIN
-    } else if value >= 2_147_483_647 {
-        i32::MAX
-    } else {
-        value as i32
+    match stop {
+        Stop::Undecided(fact, at) => Ok(Outcome::Undecided(fact, at)),
+        Stop::Void(fact, site) => Ok(Outcome::Void(fact, site)),
+        Stop::Missing(_) | Stop::Memory => Err(AllocError),
     }
 }
 
-/// A value as the only field of a result.
-fn one_field(value: i64) -> Fields
-    ensures { result ≡ one_field_of value }
+/// What comes of a request that breaks no rule by itself. The error comes where memory runs out.
+fn outcome_of_request<E: Evaluator>(
+    alloc: Global,
+    evaluator: &E,
+    request: &Request,
+) -> Result<Outcome, AllocError>
+    requires dated { IsTrue (names_day request.now.from request.now.date) }
+    requires near { IsTrue (is_in_range (day_of request.now.from request.now.date)) }
+    ensures right { IfOk result (λ outcome. IsRightOf request.now (line_outcome outcome)) }
 {
-    Fields {
-        count: 1,
-        values: [to_32_bits(value), 0, 0, 0, 0],
+    let mut asking = Asking::new(alloc, evaluator);
+    match resolve(&mut asking, request) {
+        Ok(resolved) => Ok(Outcome::Found(resolved, asking.finish())),
+        Err(stop) => outcome_at(stop),
     }
 }
 
-/// What comes of one line, by the answer of the evaluator for the fact that it asks.
-pub fn outcome_of<E: Evaluator>(evaluator: &E, line: &[u8]) -> Outcome
-    ensures { IsRightFor line.now (line_outcome result) }
+/// What comes of one line, by the answers of the evaluator for the facts that it asks. The error comes where memory
+/// runs out.
+pub fn outcome_of<E: Evaluator>(
+    alloc: Global,
+    evaluator: &E,
+    line: &[u8],
+) -> Result<Outcome, AllocError>
+    ensures right { IfOk result (λ outcome. IsRightFor line.now (line_outcome outcome)) }
 {
-    let request = match read_line(line) {
-        Ok(request) => request,
-        Err(rule) => return Outcome::Refused(rule),
-    };
-    let fact = dt_fact_on(request_day(&request));
-    match evaluator.eval(fact) {
-        Answer::Value(value) => {
-            Outcome::Found(Resolved::Shown(request.to, one_field(value)), fact, value)
-        }
-        Answer::Undecided(at) => Outcome::Undecided(fact, at),
-        Answer::Void(site) => Outcome::Void(fact, site),
+    match read_line(line) {
+        Ok(request) => outcome_of_request(alloc, evaluator, &request),
+        Err(rule) => Ok(Outcome::Refused(rule)),
     }
 }
 
@@ -80,7 +74,7 @@ pub fn outcomes_of<E: Evaluator>(
 {
     let mut outcomes = Vec::new(alloc);
     for line in lines {
-        outcomes.push(outcome_of(evaluator, *line))?;
+        outcomes.push(outcome_of(alloc, evaluator, *line)?)?;
     }
     Ok(outcomes)
 }

@@ -1,7 +1,7 @@
 //! Any reader and any writer of the standard library, with their faults counted.
 ghost use Rattle.std.specs.Prelude.{◌≡◌, None};
 
-use crate::stream::{Failed, Sink, Source};
+use cert_text::{Failed, Sink, Source};
 use std::io::{Read, Write};
 
 /// A reader as a source. It tells no bytes.

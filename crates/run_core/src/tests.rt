@@ -1,11 +1,11 @@
-//! Sources and sinks that fail or take little at a time, and the lines of the text.
+//! Sources and sinks that fail or take little at a time, the numbers of facts, and the bytes that wait.
 ghost use Rattle.std.specs.Prelude.{None};
 
 use super::*;
-use crate::buffer::{flush, put_parts};
 use crate::numbering::number_fact;
-use crate::parts::{put_end, put_fact, put_found, put_refused, put_undecided, put_void};
-use book_model::{Fact, Fields, Kind, Place, Resolved, Rule, Site, ToWord, Undecided};
+use crate::pending::settle;
+use book_model::{Fact, Kind, Place};
+use cert_text::{Gathered, ReadStop, read_all, split_lines, write_all};
 use indexmap::IndexSet;
 use std::test::Fail;
 
@@ -112,10 +112,11 @@ fn a_source_in_memory_fails_at_the_listed_calls(rt: HostRuntime) -> Result<(), F
 #[test]
 fn an_input_past_the_limit_is_too_large(rt: HostRuntime) -> Result<(), Fail> {
     let alloc = rt.alloc();
-    let mut whole = MemorySource::new(vec![in alloc; b'\n'; LIMIT]?, Vec::new(alloc));
-    assert_eq!(rt; read_all(alloc, &mut whole, LIMIT)?.len(), 4_194_304);
-    let mut more = MemorySource::new(vec![in alloc; b'\n'; LIMIT + 1]?, Vec::new(alloc));
-    let got = read_all(alloc, &mut more, LIMIT);
+    let limit = Command::Convert.limit();
+    let mut whole = MemorySource::new(vec![in alloc; b'\n'; limit]?, Vec::new(alloc));
+    assert_eq!(rt; read_all(alloc, &mut whole, limit)?.len(), 4_194_304);
+    let mut more = MemorySource::new(vec![in alloc; b'\n'; limit + 1]?, Vec::new(alloc));
+    let got = read_all(alloc, &mut more, limit);
     assert!(rt; matches!(got, Err(ReadStop::TooLarge)));
     Ok(())
 }
@@ -184,7 +185,7 @@ fn statuses_have_numbers(rt: HostRuntime) {
 fn facts_are_numbered_once(rt: HostRuntime) -> Result<(), Fail> {
     let mut seen = IndexSet::new(rt.alloc());
     for (day, number, is_new) in [
-        (7i64, 1usize, true),
+        (7i64, 1u32, true),
         (9, 2, true),
         (7, 1, false),
         (8, 3, true),
@@ -194,50 +195,6 @@ fn facts_are_numbered_once(rt: HostRuntime) -> Result<(), Fail> {
         assert_eq!(rt; got.number, number, "at {day}");
         assert_eq!(rt; got.is_new, is_new, "at {day}");
     }
-    Ok(())
-}
-
-#[test]
-fn lines_of_the_text(rt: HostRuntime) -> Result<(), Fail> {
-    let alloc = rt.alloc();
-    let mut sink = MemorySink::new(alloc, 1000, Vec::new(alloc))?;
-    let mut pending = Vec::new(alloc);
-    let fact = Fact::new(Kind::Dt, Place::None, 738_926).ok_or("no fact")?;
-    let at = Undecided {
-        turn: 2,
-        site: Site::Round,
-        lo: -5,
-        hi: 72_057_594_037_927_936,
-    };
-    let fields = Fields {
-        count: 1,
-        values: [73_871, 0, 0, 0, 0],
-    };
-    let line = b" gregorian\t2024-02-10  dt ";
-    let words = three_words(line).ok_or("no words")?;
-    assert_eq!(rt; words.date, b"2024-02-10".as_slice());
-    put_fact(&mut sink, &mut pending, 1, fact, -73_871)?;
-    put_found(
-        &mut sink,
-        &mut pending,
-        1,
-        line,
-        Resolved::Shown(ToWord::Dt, fields),
-        1,
-    )?;
-    put_refused(&mut sink, &mut pending, 2, Rule::Range)?;
-    put_undecided(&mut sink, &mut pending, 3, fact, at)?;
-    put_void(&mut sink, &mut pending, 4, fact, Site::Year)?;
-    put_end(&mut sink, &mut pending, 4, 1)?;
-    assert_eq!(rt; sink.written().len(), 0);
-    flush(&mut sink, &pending)?;
-    let want = b"fact 1 dt - 738926 -73871\n\
-        line 1 gregorian 2024-02-10 dt 73871 facts 1\n\
-        line 2 refused 4\n\
-        line 3 undecided round 2 -5 72057594037927936 fact dt - 738926\n\
-        line 4 void year fact dt - 738926\n\
-        end lines 4 facts 1\n";
-    assert_eq!(rt; sink.written(), want.as_slice());
     Ok(())
 }
 
@@ -254,13 +211,16 @@ fn no_lines_make_a_header_and_an_end(rt: HostRuntime) -> Result<(), Fail> {
 #[test]
 fn many_bytes_make_few_writes(rt: HostRuntime) -> Result<(), Fail> {
     let alloc = rt.alloc();
-    // The third write fails: 100,000 parts of one byte are written in two.
+    // The third write would fail: 100,000 bytes, put two at a time, are written in two.
     let mut sink = MemorySink::new(alloc, 100_000, vec![in alloc; 3u32]?)?;
-    let mut pending = Vec::new(alloc);
+    let mut pending = Gathered::new(alloc);
     for _ in 0..50_000u32 {
-        put_parts(&mut sink, &mut pending, &[b"a", b"b"])?;
+        assert_eq!(rt; write_all(&mut pending, b"ab"), Ok(()));
+        assert_eq!(rt; settle(&mut sink, &mut pending, 65_536), Ok(()));
     }
-    flush(&mut sink, &pending)?;
+    assert_eq!(rt; sink.written().len(), 65_538);
+    assert_eq!(rt; settle(&mut sink, &mut pending, 0), Ok(()));
     assert_eq!(rt; sink.written().len(), 100_000);
+    assert_eq!(rt; pending.bytes().len(), 0);
     Ok(())
 }

@@ -1,93 +1,124 @@
 //! Writes the text of lines and their outcomes, block by block.
-ghost use Rattle.std.specs.Prelude.{◌≡◌, ◌≤◌, ◌<◌, ◌+◌, ◌++◌, [], ◌∷◌, if◌then◌else◌, List, ℕ, map, length, OnOk, OnErr, IsErrOf};
+ghost use Rattle.std.specs.Prelude.{◌≡◌, ◌≤◌, ◌<◌, ◌+◌, ◌++◌, [], List, ℕ, map, length, OnOk, OnErr, IsErrOf};
 ghost use Rattle.std.specs.Io.KnownBytes.{Appends};
-ghost use Rattle.book_model.specs.Lines.{words_of};
-ghost use Rattle.book_model.specs.Outcomes.{IsRightFor, AreRight, resolved as resolved_outcome};
+ghost use Rattle.book_model.specs.Outcomes.{IsRightFor, AreRight};
 ghost use Rattle.book_model.specs.Text as spec;
+ghost use Rattle.cert_text.specs.Stream.{Rose, AppendsFront, Wrote};
 ghost use Rattle.run_core.specs.Outcomes.{line_outcome};
-ghost use Rattle.run_core.specs.Stream.{Rose, AppendsFront, Wrote};
+ghost use Rattle.run_core.specs.declared.text.WriteStop.TheVariants.{Fault, Memory};
 
-use crate::buffer::{WriteStop, flush, put};
-use crate::numbering::{Numbered, number_fact};
+use crate::blocks::block_of;
+use crate::numbering::{count_of, number_after};
 use crate::outcome::Outcome;
-use crate::parts::{put_end, put_fact, put_found, put_refused, put_undecided, put_void};
-use crate::stream::Sink;
-use book_model::{Fact, Resolved};
+use crate::pending::settle;
+use book_model::Fact;
+use cert_text::{Failed, Gathered, Sink, write_block, write_end, write_header};
 use indexmap::IndexSet;
-use std::alloc::Global;
+use std::alloc::{AllocError, Global};
 
-/// Puts the line of a fact, where it is new.
-fn put_new_fact<K: Sink>(
-    sink: &mut K,
-    pending: &mut Vec<u8>,
-    numbered: Numbered,
-    fact: Fact,
-    value: i64,
-) -> Result<(), WriteStop>
-    ensures ok { OnOk result (Wrote (K.written sink.old) (K.written sink.new) (pending.old.items ++ (if numbered.is_new then spec.fact_text numbered.number fact value else [])) pending.new.items) }
-    ensures err { OnErr result (AppendsFront (K.written sink.old) (K.written sink.new) (pending.old.items ++ (if numbered.is_new then spec.fact_text numbered.number fact value else []))) }
-    ensures fault { IsErrOf result WriteStop.Fault → Rose (K.faults sink.old) (K.faults sink.new) }
-    ensures later { K.faults sink.old ≤ K.faults sink.new }
-{
-    if numbered.is_new {
-        put_fact(sink, pending, numbered.number, fact, value)
-    } else {
-        Ok(())
+/// Why a text wasn't written whole: a write failed, or memory ran out.
+#[derive(Clone, Copy, Debug, PartialEq, Eq)]
+pub enum WriteStop {
+    Fault,
+    Memory,
+}
+
+impl From<Failed> for WriteStop {
+    ghost from_gives = { λ _ e. e ≡ Fault };
+
+    fn from(_: Failed) -> Self {
+        WriteStop::Fault
     }
 }
 
-/// Puts the block of a line with a result: its fact, where that is new, and then the line.
-fn put_found_block<K: Sink>(
-    sink: &mut K,
-    pending: &mut Vec<u8>,
-    seen: &mut IndexSet<Fact>,
-    number: usize,
-    line: &[u8],
-    resolved: Resolved,
-    fact: Fact,
-    value: i64,
-) -> Result<(), WriteStop>
-    requires { length (words_of line.now) ≡ 3 }
-    ensures ok { OnOk result (Wrote (K.written sink.old) (K.written sink.new) (pending.old.items ++ spec.block_text seen.old.keys number line.now (resolved_outcome resolved ((fact, value) ∷ []))) pending.new.items) }
-    ensures seen { OnOk result (seen.new.keys ≡ spec.with_fact seen.old.keys fact) }
-    ensures err { OnErr result (AppendsFront (K.written sink.old) (K.written sink.new) (pending.old.items ++ spec.block_text seen.old.keys number line.now (resolved_outcome resolved ((fact, value) ∷ [])))) }
-    ensures fault { IsErrOf result WriteStop.Fault → Rose (K.faults sink.old) (K.faults sink.new) }
-    ensures later { K.faults sink.old ≤ K.faults sink.new }
-{
-    let numbered = number_fact(seen, fact)?;
-    put_new_fact(sink, pending, numbered, fact, value)?;
-    put_found(sink, pending, number, line, resolved, numbered.number)?;
-    Ok(())
+impl From<AllocError> for WriteStop {
+    ghost from_gives = { λ _ e. e ≡ Memory };
+
+    fn from(_: AllocError) -> Self {
+        WriteStop::Memory
+    }
 }
 
-/// Puts the block of a line: its new facts, and then the line.
+/// How many bytes may wait before they are written.
+const MANY: usize = 65536;
+
+/// Puts the block of a line behind the bytes that wait, and writes them all once they are many.
 fn put_block<K: Sink>(
+    alloc: Global,
     sink: &mut K,
-    pending: &mut Vec<u8>,
+    pending: &mut Gathered,
     seen: &mut IndexSet<Fact>,
-    number: usize,
+    count: usize,
     line: &[u8],
-    outcome: Outcome,
+    outcome: &Outcome,
 ) -> Result<(), WriteStop>
-    requires { IsRightFor line.now (line_outcome outcome) }
-    ensures ok { OnOk result (Wrote (K.written sink.old) (K.written sink.new) (pending.old.items ++ spec.block_text seen.old.keys number line.now (line_outcome outcome)) pending.new.items) }
-    ensures seen { OnOk result (seen.new.keys ≡ spec.seen_after seen.old.keys (line_outcome outcome)) }
-    ensures err { OnErr result (AppendsFront (K.written sink.old) (K.written sink.new) (pending.old.items ++ spec.block_text seen.old.keys number line.now (line_outcome outcome))) }
+    requires { IsRightFor line.now (line_outcome outcome.now) }
+    ensures ok { OnOk result (Wrote (K.written sink.old) (K.written sink.new) (pending.old.bytes.items ++ spec.block_text seen.old.keys (count + 1) line.now (line_outcome outcome.now)) pending.new.bytes.items) }
+    ensures seen { OnOk result (seen.new.keys ≡ spec.seen_after seen.old.keys (line_outcome outcome.now)) }
+    ensures err { OnErr result (AppendsFront (K.written sink.old) (K.written sink.new) (pending.old.bytes.items ++ spec.block_text seen.old.keys (count + 1) line.now (line_outcome outcome.now))) }
     ensures fault { IsErrOf result WriteStop.Fault → Rose (K.faults sink.old) (K.faults sink.new) }
     ensures later { K.faults sink.old ≤ K.faults sink.new }
 {
-    match outcome {
-        Outcome::Refused(rule) => put_refused(sink, pending, number, rule),
-        Outcome::Found(resolved, fact, value) => {
-            put_found_block(sink, pending, seen, number, line, resolved, fact, value)
+    let number = number_after(count)?;
+    let block = block_of(alloc, seen, number, line, outcome)?;
+    match write_block(pending, &block) {
+        Ok(()) => {
+            settle(sink, pending, MANY)?;
+            Ok(())
         }
-        Outcome::Undecided(fact, at) => put_undecided(sink, pending, number, fact, at),
-        Outcome::Void(fact, site) => put_void(sink, pending, number, fact, site),
+        Err(Failed) => Err(WriteStop::Memory),
     }
+}
+
+/// Writes the bytes that wait, and the last line.
+fn put_end<K: Sink>(
+    sink: &mut K,
+    pending: &mut Gathered,
+    lines: usize,
+    facts: usize,
+) -> Result<(), WriteStop>
+    ensures ok { OnOk result (Appends (K.written sink.old) (K.written sink.new) (pending.old.bytes.items ++ spec.end_text lines facts)) }
+    ensures err { OnErr result (AppendsFront (K.written sink.old) (K.written sink.new) (pending.old.bytes.items ++ spec.end_text lines facts)) }
+    ensures fault { IsErrOf result WriteStop.Fault → Rose (K.faults sink.old) (K.faults sink.new) }
+    ensures later { K.faults sink.old ≤ K.faults sink.new }
+{
+    let lines = count_of(lines)?;
+    let facts = count_of(facts)?;
+    match write_end(pending, lines, facts) {
+        Ok(()) => {
+            settle(sink, pending, 0)?;
+            Ok(())
+        }
+        Err(Failed) => Err(WriteStop::Memory),
+    }
+}
+
+/// Puts the blocks of lines and their outcomes behind the bytes that wait, and then the last line.
+fn put_blocks<K: Sink>(
+    alloc: Global,
+    sink: &mut K,
+    pending: &mut Gathered,
+    lines: &[&[u8]],
+    outcomes: &[Outcome],
+) -> Result<(), WriteStop>
+    requires same { length lines.now ≡ length outcomes.now }
+    requires right { AreRight (map (λ line. line.now) lines.now) (map line_outcome outcomes.now) }
+    ensures ok { OnOk result (Appends (K.written sink.old) (K.written sink.new) (pending.old.bytes.items ++ spec.text_from [] 0 (map (λ line. line.now) lines.now) (map line_outcome outcomes.now))) }
+    ensures err { OnErr result (AppendsFront (K.written sink.old) (K.written sink.new) (pending.old.bytes.items ++ spec.text_from [] 0 (map (λ line. line.now) lines.now) (map line_outcome outcomes.now))) }
+    ensures fault { IsErrOf result WriteStop.Fault → Rose (K.faults sink.old) (K.faults sink.new) }
+    ensures later { K.faults sink.old ≤ K.faults sink.new }
+{
+    let mut seen = IndexSet::new(alloc);
+    for (index, line) in lines.iter().enumerate() {
+        let outcome = &outcomes[index];
+        put_block(alloc, sink, pending, &mut seen, index, *line, outcome)?;
+    }
+    put_end(sink, pending, lines.len(), seen.len())
 }
 
 /// Writes the whole text of lines and their outcomes: a header, each line with its new facts before it, and the
-/// counts of lines and facts. At an error a front of the text was written.
+/// counts of lines and facts. At an error a front of the text was written. Counts of 32 bits are written: more lines or
+/// facts are answered as want of memory.
 pub fn write_text<K: Sink>(
     alloc: Global,
     sink: &mut K,
@@ -101,20 +132,9 @@ pub fn write_text<K: Sink>(
     ensures fault { IsErrOf result WriteStop.Fault → Rose (K.faults sink.old) (K.faults sink.new) }
     ensures later { K.faults sink.old ≤ K.faults sink.new }
 {
-    let mut pending = Vec::new(alloc);
-    let mut seen = IndexSet::new(alloc);
-    put(sink, &mut pending, b"calendrica 1 depth 40\n")?;
-    for (index, line) in lines.iter().enumerate() {
-        put_block(
-            sink,
-            &mut pending,
-            &mut seen,
-            index + 1,
-            *line,
-            outcomes[index],
-        )?;
+    let mut pending = Gathered::new(alloc);
+    match write_header(&mut pending) {
+        Ok(()) => put_blocks(alloc, sink, &mut pending, lines, outcomes),
+        Err(Failed) => Err(WriteStop::Memory),
     }
-    put_end(sink, &mut pending, lines.len(), seen.len())?;
-    flush(sink, &pending)?;
-    Ok(())
 }

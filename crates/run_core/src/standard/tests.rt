@@ -1,6 +1,6 @@
 //! Readers and writers of the standard library as sources and sinks.
 use super::*;
-use crate::stream::{read_all, write_all};
+use cert_text::{read_all, write_all};
 use std::test::Fail;
 
 #[test]

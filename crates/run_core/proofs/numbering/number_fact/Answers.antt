@@ -1,4 +1,4 @@
-use Rattle.std.proofs.Common.{◌≡◌, refl}
+use Rattle.std.proofs.Common.{refl}
 use Rattle.oracle_core.proofs.FactLemmas.{same_any, same_position}
 use Rattle.run_core.proofs.numbering.number_fact.Goals as goal
 
@@ -6,7 +6,7 @@ pub returns-clause-seen : goal.returns-clause-seen
 returns-clause-seen c = rw (← same_any c.args.fact c.args.seen.now.keys) c.in_ok-index.ensures.keys
 
 pub returns-clause-number : goal.returns-clause-number
-returns-clause-number c = rw (← same_position c.args.fact c.args.seen.now.keys, c.in_ok-index.ensures.index) refl
+returns-clause-number c = rw (← same_position c.args.fact c.args.seen.now.keys, c.in_ok-number_after.ensures.number, c.in_ok-index.ensures.index) refl
 
 pub returns-clause-new : goal.returns-clause-new
 returns-clause-new c = rw (← same_any c.args.fact c.args.seen.now.keys) c.in_ok-index.ensures.added

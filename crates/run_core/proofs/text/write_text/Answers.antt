@@ -1,52 +1,8 @@
-use Rattle.std.proofs.Common.{arith, ◌≡◌, ◌<◌, ◌≤◌, length}
-use Rattle.book_model.specs.Text.{header}
-use Rattle.run_core.proofs.Flow.{front_first, front_then, wrote_flushed, wrote_then, at_any_err}
-use Rattle.run_core.proofs.RightLemmas.{right_at}
-use Rattle.run_core.proofs.TextLemmas.{text_on, text_front, text_end}
+use Rattle.cert_text.proofs.Flow.{front_none}
 use Rattle.run_core.proofs.text.write_text.Goals as goal
 
-pub returns-in_err-put-clause-err : goal.returns-in_err-put-clause-err
-returns-in_err-put-clause-err g c = at_any_err _ (front_first _ _ header _ (rw c.new-pending.ensures.items at c.in_err-put.ensures.err))
+pub returns-in-Ok-clause-err : goal.returns-in-Ok-clause-err
+returns-in-Ok-clause-err g c = rw c.new-pending.ensures.bytes at (rw c.in-Ok.ensures.ok at c.put_blocks.ensures.err)
 
-pub put_block-requires : goal.put_block-requires
-put_block-requires g c =
-    let within : c.loop-index.index < length c.args.outcomes.now = omega arith in
-    right_at (λ line. line.now) c.args.lines.now c.args.outcomes.now c.loop-index.index _ _ c.loop-index-test.true within c.requires.right
-
-pub returns-in_err-put_block-clause-err : goal.returns-in_err-put_block-clause-err
-returns-in_err-put_block-clause-err g c =
-    let within : c.loop-index.index < length c.args.outcomes.now = omega arith in
-    at_any_err _ (text_front (λ line. line.now) _ _ _ _ c.loop-index.pending.items c.loop-index.seen.keys c.loop-index.index c.args.lines.now c.args.outcomes.now _ _ c.loop-index-test.true within
-    c.loop-index.invariant.wrote c.in_err-put_block.ensures.err)
-
-pub loop-index-preserved : goal.loop-index-preserved
-loop-index-preserved g c =
-    let within : c.loop-index.index < length c.args.outcomes.now = omega arith in
-    record {
-      wrote = text_on (λ line. line.now) _ _ _ _ c.loop-index.pending.items _ c.loop-index.seen.keys _ c.loop-index.index c.args.lines.now c.args.outcomes.now _ _ c.loop-index-test.true within
-          c.loop-index.invariant.wrote c.in_ok-put_block.ensures.seen c.in_ok-put_block.ensures.ok;
-      later = omega (arith, c.in_ok-put_block.ensures.later);
-    }
-
-pub returns-in_err-put_end-clause-err : goal.returns-in_err-put_end-clause-err
-returns-in_err-put_end-clause-err g c =
-    let over : length c.args.lines.now ≤ c.loop-index.index = omega arith in
-    let all : c.loop-index.index ≡ length c.args.lines.now = omega arith in
-    let left = text_end (λ line. line.now) _ _ _ c.loop-index.pending.items c.loop-index.seen.keys c.loop-index.index _ _ c.args.lines.now _ over all c.len.ensures.len c.loop-index.invariant.wrote in
-    at_any_err _ (front_then _ _ _ _ _ left c.in_err-put_end.ensures.err)
-
-pub returns-in_err-flush-clause-err : goal.returns-in_err-flush-clause-err
-returns-in_err-flush-clause-err g c =
-    let over : length c.args.lines.now ≤ c.loop-index.index = omega arith in
-    let all : c.loop-index.index ≡ length c.args.lines.now = omega arith in
-    let left = text_end (λ line. line.now) _ _ _ c.loop-index.pending.items c.loop-index.seen.keys c.loop-index.index _ _ c.args.lines.now _ over all c.len.ensures.len c.loop-index.invariant.wrote in
-    let waits = wrote_then _ _ _ _ _ _ left c.in_ok-put_end.ensures.ok in
-    at_any_err _ (front_then _ _ _ _ _ waits (rw c.deref.ensures.value at c.in_err-flush.ensures.err))
-
-pub returns-clause-ok : goal.returns-clause-ok
-returns-clause-ok g c =
-    let over : length c.args.lines.now ≤ c.loop-index.index = omega arith in
-    let all : c.loop-index.index ≡ length c.args.lines.now = omega arith in
-    let left = text_end (λ line. line.now) _ _ _ c.loop-index.pending.items c.loop-index.seen.keys c.loop-index.index _ _ c.args.lines.now _ over all c.len.ensures.len c.loop-index.invariant.wrote in
-    let waits = wrote_then _ _ _ _ _ _ left c.in_ok-put_end.ensures.ok in
-    wrote_flushed _ _ _ _ _ waits (rw c.deref.ensures.value at c.in_ok-flush.ensures.ok)
+pub returns-clause-err : goal.returns-clause-err
+returns-clause-err g c = front_none _ _

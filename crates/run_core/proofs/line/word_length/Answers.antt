@@ -1,5 +1,0 @@
-use Rattle.run_core.proofs.LineWords.{no_blank}
-use Rattle.run_core.proofs.line.word_length.Goals as goal
-
-pub returns-in-None-clause-length : goal.returns-in-None-clause-length
-returns-in-None-clause-length c = no_blank c.args.line.now c.in-None.ensures.place

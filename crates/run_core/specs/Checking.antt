@@ -1,0 +1,91 @@
+-- What is written where a printed file is checked.
+use Rattle.std.specs.Prelude.{◌≡◌, ℕ, ◌+◌, ◌<◌, Bool, true, false, List, [], ◌∷◌, ◌++◌, length, map, filter, codes, decimal}
+use Rattle.std.specs.List.{concat, list_all}
+use Rattle.std.specs.declared.option.Option.{Option}
+use Rattle.std.specs.Io.KnownBytes.{Appends}
+use Rattle.oracle_core.specs.declared.evaluator.Answer.{Answer}
+use Rattle.cert_text.specs.declared.lines.CertFile.{CertFile}
+use Rattle.cert_text.specs.Reading.{grammar_of, file, bad}
+use Rattle.cert_text.specs.Stream.{AppendsFront}
+use Rattle.cert_check.specs.declared.verdict.Verdict.{Verdict}
+use Rattle.cert_check.specs.declared.verdict.Verdict.TheVariants.{Yes, No, Skip}
+use Rattle.cert_check.specs.Text.{counts_text}
+pub use Rattle.cert_check.specs.Text.{verdict_text}
+use Rattle.cert_check.specs.Verdicts.{AreRightAnswers, verdict_of, line_at, IsCertifiedLine}
+use Rattle.run_core.specs.declared.check.Checked.{Checked}
+use Rattle.run_core.specs.declared.check.Checked.TheVariants.{AllYes, NotAll, BadText}
+
+abbrev pub is_yes : Verdict → Bool
+is_yes Yes = true
+is_yes (No reason) = false
+is_yes Skip = false
+
+abbrev pub is_no : Verdict → Bool
+is_no Yes = false
+is_no (No reason) = true
+is_no Skip = false
+
+abbrev pub is_skip : Verdict → Bool
+is_skip Yes = false
+is_skip (No reason) = false
+is_skip Skip = true
+
+-- the verdicts of the lines of a file, by an answer for each of its facts
+abbrev pub verdicts_of : CertFile → List Answer → List Verdict
+verdicts_of f answers = map (verdict_of f.facts answers) f.lines
+
+-- verdicts, of which the first has the number after this count
+abbrev pub verdicts_after : ℕ → List Verdict → List ℕ
+verdicts_after count [] = []
+verdicts_after count (v ∷ vs) = verdict_text (count + 1) v ++ verdicts_after (count + 1) vs
+
+-- end yes A no B skip C
+abbrev pub counts_of : List Verdict → List ℕ
+counts_of vs = counts_text (length (filter is_yes vs)) (length (filter is_no vs)) (length (filter is_skip vs))
+
+-- a verdict for each line, numbered from 1, and how many there are of each kind
+abbrev pub verdicts_text : List Verdict → List ℕ
+verdicts_text vs = verdicts_after 0 vs ++ counts_of vs
+
+-- bad LINE RULE
+unfoldable pub bad_text : ℕ → ℕ → List ℕ
+bad_text line rule = concat (codes "bad " ∷ decimal line ∷ codes " " ∷ decimal rule ∷ codes "\n" ∷ [])
+
+-- The verdicts of the lines of a file stand behind what the sink held, by answers that are right for its facts. What a
+-- line with a yes shows is certified.
+pub record ChecksFile (old new : Option (List ℕ)) (f : CertFile) (all_yes : Bool) : Type 0 where
+  pub answers : List Answer
+  pub right : AreRightAnswers f.facts answers
+  pub written : Appends old new (verdicts_text (verdicts_of f answers))
+  pub yes : all_yes ≡ list_all is_yes (verdicts_of f answers)
+  pub certified : (i : ℕ) → i < length f.lines → verdict_of f.facts answers (line_at f i) ≡ Yes → IsCertifiedLine f.facts (line_at f i)
+
+-- a front of such a text stands there
+pub record CutsFile (old new : Option (List ℕ)) (f : CertFile) : Type 0 where
+  pub answers : List Answer
+  pub right : AreRightAnswers f.facts answers
+  pub front : AppendsFront old new (verdicts_text (verdicts_of f answers))
+
+-- the bytes are a file of the grammar, and the verdicts of its lines stand there
+pub record ChecksText (old new : Option (List ℕ)) (input : List ℕ) (all_yes : Bool) : Type 0 where
+  pub of : CertFile
+  pub read : grammar_of input ≡ file of
+  pub checks : ChecksFile old new of all_yes
+
+-- the bytes aren't in the grammar, and the line that names the first bad line and its first broken rule stands there
+pub record RefusesText (old new : Option (List ℕ)) (input : List ℕ) : Type 0 where
+  pub line : ℕ
+  pub rule : ℕ
+  pub read : grammar_of input ≡ bad line rule
+  pub written : Appends old new (bad_text line rule)
+
+-- what comes of checking bytes
+abbrev pub Comes : Option (List ℕ) → Option (List ℕ) → List ℕ → Checked → Type 0
+Comes old new input AllYes = ChecksText old new input true
+Comes old new input NotAll = ChecksText old new input false
+Comes old new input BadText = RefusesText old new input
+
+-- a front of what is written for the bytes stands there
+pub data CheckCutShort (old new : Option (List ℕ)) (input : List ℕ) : Type 0 where
+  cut_verdicts : (f : CertFile) → grammar_of input ≡ file f → CutsFile old new f → CheckCutShort old new input
+  cut_bad : (line rule : ℕ) → grammar_of input ≡ bad line rule → AppendsFront old new (bad_text line rule) → CheckCutShort old new input

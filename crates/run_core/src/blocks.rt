@@ -1,0 +1,143 @@
+//! What is printed for one line of input: its new facts, and then the line.
+ghost use Rattle.std.specs.Prelude.{◌≡◌, ◌≤◌, ◌+◌, ◌^◌, ◌∷◌, [], ℕ, length, IfOk, OnOk};
+ghost use Rattle.book_model.specs.Lines.{words_of};
+ghost use Rattle.book_model.specs.Outcomes.{IsRightFor, resolved as resolved_outcome};
+ghost use Rattle.book_model.specs.Requests.{rule_number};
+ghost use Rattle.book_model.specs.Text as model;
+ghost use Rattle.cert_text.specs.Text as cert;
+ghost use Rattle.run_core.specs.Outcomes.{line_outcome};
+
+use crate::numbering::{count_of, number_after, number_facts};
+use crate::outcome::Outcome;
+use book_model::{Fact, Resolved, Rule};
+use cert_text::{Block, CertLine, Echo, Numbers, Word, result_word};
+use indexmap::IndexSet;
+use line_core::three_words;
+use oracle_core::FactValues;
+use std::alloc::{AllocError, Global};
+
+/// The number of a rule, from 1.
+fn number_of_rule(rule: Rule) -> u8
+    ensures number { result ≡ rule_number rule }
+{
+    match rule {
+        Rule::Syntax => 1,
+        Rule::Calendar => 2,
+        Rule::Field => 3,
+        Rule::Range => 4,
+    }
+}
+
+/// The block of a line that prints no facts.
+fn bare_block(alloc: Global, number: u32, line: CertLine) -> Block
+    ensures text { cert.block_text result ≡ cert.line_text number line }
+    ensures few { result.first + length result.facts ≤ 2 ^ 32 }
+{
+    Block {
+        facts: FactValues::new(alloc),
+        first: 1,
+        number,
+        line,
+    }
+}
+
+/// The three words of a line.
+fn echo_of(alloc: Global, line: &[u8]) -> Result<Echo, AllocError>
+    requires three { length (words_of line.now) ≡ 3 }
+    ensures words { IfOk result (λ e. words_of line.now ≡ e.from ∷ e.date ∷ e.to ∷ []) }
+{
+    let words = three_words(line).unwrap();
+    Ok(Echo {
+        from: Word::of(alloc, words.from)?,
+        date: Word::of(alloc, words.date)?,
+        to: Word::of(alloc, words.to)?,
+    })
+}
+
+/// A line with its result and the numbers of the facts that it rests on.
+fn shown_line(
+    alloc: Global,
+    line: &[u8],
+    resolved: Resolved,
+    facts: Numbers,
+) -> Result<CertLine, AllocError>
+    requires three { length (words_of line.now) ≡ 3 }
+    ensures text { IfOk result (λ l. (number : ℕ) → cert.line_text number l ≡ model.resolved_text number line.now (model.result_text resolved) facts) }
+{
+    let echo = echo_of(alloc, line)?;
+    let result = result_word(alloc, resolved)?;
+    Ok(CertLine::Shown {
+        echo,
+        result,
+        facts,
+    })
+}
+
+/// The block of a line with a result: its facts that are new, and the line with the numbers of all.
+fn found_block(
+    alloc: Global,
+    seen: &mut IndexSet<Fact>,
+    number: u32,
+    line: &[u8],
+    resolved: Resolved,
+    facts: &FactValues,
+) -> Result<Block, AllocError>
+    requires three { length (words_of line.now) ≡ 3 }
+    ensures text { IfOk result (λ b. cert.block_text b ≡ model.block_text seen.old.keys number line.now (resolved_outcome resolved facts.now)) }
+    ensures few { IfOk result (λ b. b.first + length b.facts ≤ 2 ^ 32) }
+    ensures seen { OnOk result (seen.new.keys ≡ model.with_facts seen.old.keys facts.now) }
+{
+    let first = number_after(seen.len())?;
+    let used = number_facts(alloc, seen, facts)?;
+    // The count of all facts fits, so the numbers of the new ones do.
+    count_of(seen.len())?;
+    let line = shown_line(alloc, line, resolved, used.numbers)?;
+    Ok(Block {
+        facts: used.facts,
+        first,
+        number,
+        line,
+    })
+}
+
+/// The block of a line: its new facts, which are added to those that were seen, and the line. The error comes where
+/// memory runs out, or where a fact's number has more than 32 bits.
+pub(crate) fn block_of(
+    alloc: Global,
+    seen: &mut IndexSet<Fact>,
+    number: u32,
+    line: &[u8],
+    outcome: &Outcome,
+) -> Result<Block, AllocError>
+    requires right { IsRightFor line.now (line_outcome outcome.now) }
+    ensures text { IfOk result (λ b. cert.block_text b ≡ model.block_text seen.old.keys number line.now (line_outcome outcome.now)) }
+    ensures few { IfOk result (λ b. b.first + length b.facts ≤ 2 ^ 32) }
+    ensures seen { OnOk result (seen.new.keys ≡ model.seen_after seen.old.keys (line_outcome outcome.now)) }
+{
+    match outcome {
+        Outcome::Refused(rule) => {
+            let line = CertLine::Refused(number_of_rule(*rule));
+            Ok(bare_block(alloc, number, line))
+        }
+        Outcome::Found(resolved, facts) => {
+            found_block(alloc, seen, number, line, *resolved, facts)
+        }
+        Outcome::Undecided(fact, at) => {
+            let line = CertLine::Undecided {
+                fact: *fact,
+                at: *at,
+            };
+            Ok(bare_block(alloc, number, line))
+        }
+        Outcome::Void(fact, site) => {
+            let line = CertLine::Void {
+                fact: *fact,
+                site: *site,
+            };
+            Ok(bare_block(alloc, number, line))
+        }
+    }
+}
+
+#[cfg(test)]
+mod tests;

@@ -1,0 +1,223 @@
+//! Checks a printed file: a verdict for each of its lines, and how many there are of each kind.
+ghost use Rattle.std.specs.Prelude.{◌≡◌, ◌≤◌, ◌<◌, ◌+◌, ◌++◌, ◌⊎◌, [], length, filter, OnOk, OnErr, IfOk, IsErrOf};
+ghost use Rattle.std.specs.List.{list_all};
+ghost use Rattle.std.specs.Io.KnownBytes.{Appends, Keeps};
+ghost use Rattle.cert_check.specs.Verdicts.{AreRightAnswers, IsCheckable};
+ghost use Rattle.cert_text.specs.Stream.{Rose, HasCause, AppendsFront, Wrote};
+ghost use Rattle.run_core.specs.Checking as spec;
+
+use crate::numbering::{count_of, number_after};
+use crate::pending::settle;
+use crate::text::WriteStop;
+use cert_check::{Verdict, check_facts, check_line, write_counts, write_verdict};
+use cert_text::{CertFile, Failed, Gathered, ReadFail, Sink, decimal, read_file, write_parts};
+use itoa::Buffer;
+use oracle_core::{Answers, Evaluator};
+use std::alloc::{AllocError, Global};
+
+/// How many bytes may wait before they are written.
+const MANY: usize = 65536;
+
+/// What comes of checking bytes: every verdict is yes, or one isn't, or the bytes aren't a printed file.
+#[derive(Clone, Copy, Debug, PartialEq, Eq)]
+pub(crate) enum Checked {
+    AllYes,
+    NotAll,
+    BadText,
+}
+
+/// Whether a verdict is yes.
+fn is_yes(verdict: &Verdict) -> bool
+    ensures yes { result ≡ spec.is_yes verdict.now }
+{
+    matches!(verdict, Verdict::Yes)
+}
+
+/// Whether a verdict is a no.
+fn is_no(verdict: &Verdict) -> bool
+    ensures no { result ≡ spec.is_no verdict.now }
+{
+    matches!(verdict, Verdict::No(_))
+}
+
+/// Whether a verdict is a skip.
+fn is_skip(verdict: &Verdict) -> bool
+    ensures skip { result ≡ spec.is_skip verdict.now }
+{
+    matches!(verdict, Verdict::Skip)
+}
+
+/// Whether all verdicts are yes.
+fn all_yes(verdicts: &[Verdict]) -> bool
+    ensures all { result ≡ list_all spec.is_yes verdicts.now }
+{
+    verdicts.iter().all(is_yes)
+}
+
+/// How many verdicts are yes.
+fn count_yes(verdicts: &[Verdict]) -> usize
+    ensures count { result ≡ length (filter spec.is_yes verdicts.now) }
+{
+    verdicts.iter().filter(|verdict| is_yes(*verdict)).count()
+}
+
+/// How many verdicts are a no.
+fn count_no(verdicts: &[Verdict]) -> usize
+    ensures count { result ≡ length (filter spec.is_no verdicts.now) }
+{
+    verdicts.iter().filter(|verdict| is_no(*verdict)).count()
+}
+
+/// How many verdicts are a skip.
+fn count_skip(verdicts: &[Verdict]) -> usize
+    ensures count { result ≡ length (filter spec.is_skip verdicts.now) }
+{
+    verdicts.iter().filter(|verdict| is_skip(*verdict)).count()
+}
+
+/// The verdicts of the lines of a file, in order. The error comes where memory runs out.
+fn verdicts_of(
+    alloc: Global,
+    file: &CertFile,
+    answers: &Answers,
+) -> Result<Vec<Verdict>, AllocError>
+    requires checkable { IsCheckable file.now }
+    requires right { AreRightAnswers file.now.facts answers.now }
+    ensures verdicts { IfOk result (λ v. v.items ≡ spec.verdicts_of file.now answers.now) }
+{
+    let mut verdicts = Vec::new(alloc);
+    for index in 0..file.lines.len() {
+        verdicts.push(check_line(alloc, file, answers, index)?)?;
+    }
+    Ok(verdicts)
+}
+
+/// Puts the verdict of a line behind the bytes that wait, and writes them all once they are many.
+fn put_verdict<K: Sink>(
+    sink: &mut K,
+    pending: &mut Gathered,
+    count: usize,
+    verdict: &Verdict,
+) -> Result<(), WriteStop>
+    ensures ok { OnOk result (Wrote (K.written sink.old) (K.written sink.new) (pending.old.bytes.items ++ spec.verdict_text (count + 1) verdict.now) pending.new.bytes.items) }
+    ensures err { OnErr result (AppendsFront (K.written sink.old) (K.written sink.new) (pending.old.bytes.items ++ spec.verdict_text (count + 1) verdict.now)) }
+    ensures fault { IsErrOf result WriteStop.Fault → Rose (K.faults sink.old) (K.faults sink.new) }
+    ensures later { K.faults sink.old ≤ K.faults sink.new }
+{
+    let number = number_after(count)?;
+    match write_verdict(pending, number, verdict) {
+        Ok(()) => {
+            settle(sink, pending, MANY)?;
+            Ok(())
+        }
+        Err(Failed) => Err(WriteStop::Memory),
+    }
+}
+
+/// Writes the bytes that wait, and how many verdicts there are of each kind.
+fn put_counts<K: Sink>(
+    sink: &mut K,
+    pending: &mut Gathered,
+    verdicts: &[Verdict],
+) -> Result<(), WriteStop>
+    ensures ok { OnOk result (Appends (K.written sink.old) (K.written sink.new) (pending.old.bytes.items ++ spec.counts_of verdicts.now)) }
+    ensures err { OnErr result (AppendsFront (K.written sink.old) (K.written sink.new) (pending.old.bytes.items ++ spec.counts_of verdicts.now)) }
+    ensures fault { IsErrOf result WriteStop.Fault → Rose (K.faults sink.old) (K.faults sink.new) }
+    ensures later { K.faults sink.old ≤ K.faults sink.new }
+{
+    let yes = count_of(count_yes(verdicts))?;
+    let no = count_of(count_no(verdicts))?;
+    let skip = count_of(count_skip(verdicts))?;
+    match write_counts(pending, yes, no, skip) {
+        Ok(()) => {
+            settle(sink, pending, 0)?;
+            Ok(())
+        }
+        Err(Failed) => Err(WriteStop::Memory),
+    }
+}
+
+/// Writes the verdicts, numbered from 1, and how many there are of each kind. At an error a front of the text was
+/// written.
+fn write_verdicts<K: Sink>(
+    alloc: Global,
+    sink: &mut K,
+    verdicts: &[Verdict],
+) -> Result<(), WriteStop>
+    ensures ok { OnOk result (Appends (K.written sink.old) (K.written sink.new) (spec.verdicts_text verdicts.now)) }
+    ensures err { OnErr result (AppendsFront (K.written sink.old) (K.written sink.new) (spec.verdicts_text verdicts.now)) }
+    ensures fault { IsErrOf result WriteStop.Fault → Rose (K.faults sink.old) (K.faults sink.new) }
+    ensures later { K.faults sink.old ≤ K.faults sink.new }
+{
+    let mut pending = Gathered::new(alloc);
+    for (index, verdict) in verdicts.iter().enumerate() {
+        put_verdict(sink, &mut pending, index, verdict)?;
+    }
+    put_counts(sink, &mut pending, verdicts)
+}
+
+/// Writes the line that names the first bad line of bytes, and the rule that it breaks.
+#[tactic(auto, unfolding(crate::specs::Checking::bad_text))]
+fn write_bad<K: Sink>(sink: &mut K, line: u32, rule: u8) -> Result<(), Failed>
+    ensures ok { OnOk result (Appends (K.written sink.old) (K.written sink.new) (spec.bad_text line rule)) }
+    ensures err { OnErr result (AppendsFront (K.written sink.old) (K.written sink.new) (spec.bad_text line rule)) }
+    ensures cause { HasCause (K.faults sink.old) (K.faults sink.new) result }
+{
+    let mut line_buffer = Buffer::new();
+    let mut rule_buffer = Buffer::new();
+    let line = decimal(&mut line_buffer, line);
+    let rule = decimal(&mut rule_buffer, rule);
+    write_parts(sink, &[b"bad ", line, b" ", rule, b"\n"])
+}
+
+/// Writes the verdicts of the lines of a file, and says whether all are yes.
+fn check_file<K: Sink, E: Evaluator>(
+    alloc: Global,
+    sink: &mut K,
+    evaluator: &E,
+    file: &CertFile,
+) -> Result<bool, WriteStop>
+    requires checkable { IsCheckable file.now }
+    ensures ok { IfOk result (λ all. spec.ChecksFile (K.written sink.old) (K.written sink.new) file.now all) }
+    ensures fault { IsErrOf result WriteStop.Fault → spec.CutsFile (K.written sink.old) (K.written sink.new) file.now }
+    ensures memory { IsErrOf result WriteStop.Memory →
+        Keeps (K.written sink.old) (K.written sink.new) ⊎ spec.CutsFile (K.written sink.old) (K.written sink.new) file.now }
+    ensures cause { IsErrOf result WriteStop.Fault → Rose (K.faults sink.old) (K.faults sink.new) }
+    ensures later { K.faults sink.old ≤ K.faults sink.new }
+{
+    let answers = check_facts(alloc, file, evaluator)?;
+    let verdicts = verdicts_of(alloc, file, &answers)?;
+    write_verdicts(alloc, sink, &verdicts)?;
+    Ok(all_yes(&verdicts))
+}
+
+#[tactic(auto, using(cert_check::proofs::FilesRead::read_checkable))]
+/// Checks bytes, whoever made them: writes the verdicts of the lines of a printed file, or the line that says why they
+/// are none.
+pub(crate) fn check<K: Sink, E: Evaluator>(
+    alloc: Global,
+    sink: &mut K,
+    evaluator: &E,
+    input: &[u8],
+) -> Result<Checked, WriteStop>
+    requires short { length input.now ≤ 268435456 }
+    ensures ok { IfOk result (λ c. spec.Comes (K.written sink.old) (K.written sink.new) input.now c) }
+    ensures fault { IsErrOf result WriteStop.Fault → spec.CheckCutShort (K.written sink.old) (K.written sink.new) input.now }
+    ensures memory { IsErrOf result WriteStop.Memory →
+        Keeps (K.written sink.old) (K.written sink.new) ⊎ spec.CheckCutShort (K.written sink.old) (K.written sink.new) input.now }
+    ensures cause { IsErrOf result WriteStop.Fault → Rose (K.faults sink.old) (K.faults sink.new) }
+    ensures later { K.faults sink.old ≤ K.faults sink.new }
+{
+    match read_file(alloc, input) {
+        Ok(file) => match check_file(alloc, sink, evaluator, &file) {
+            Ok(true) => Ok(Checked::AllYes),
+            Ok(false) => Ok(Checked::NotAll),
+            Err(stop) => Err(stop),
+        },
+        Err(ReadFail::Bad { line, rule }) => match write_bad(sink, line, rule) {
+            Ok(()) => Ok(Checked::BadText),
+            Err(Failed) => Err(WriteStop::Fault),
+        },
+        Err(ReadFail::Memory) => Err(WriteStop::Memory),
+    }
+}

@@ -1,0 +1,24 @@
+//! Bytes that wait to be written, so that many blocks make few writes.
+ghost use Rattle.std.specs.Prelude.{◌≡◌, ◌≤◌, length, OnOk, OnErr};
+ghost use Rattle.cert_text.specs.Stream.{HasCause, AppendsFront, Wrote};
+
+use cert_text::{Failed, Gathered, Sink, write_all};
+
+/// Writes the bytes that wait, where they are more than so many. At an error a front of them was written.
+#[tactic(auto, using(cert_text::proofs::Flow::wrote_whole))]
+pub(crate) fn settle<K: Sink>(
+    sink: &mut K,
+    pending: &mut Gathered,
+    most: usize,
+) -> Result<(), Failed>
+    ensures ok { OnOk result (Wrote (K.written sink.old) (K.written sink.new) pending.old.bytes.items pending.new.bytes.items) }
+    ensures few { OnOk result (length pending.new.bytes.items ≤ most) }
+    ensures err { OnErr result (AppendsFront (K.written sink.old) (K.written sink.new) pending.old.bytes.items) }
+    ensures cause { HasCause (K.faults sink.old) (K.faults sink.new) result }
+{
+    if pending.bytes().len() > most {
+        write_all(sink, pending.bytes())?;
+        pending.clear();
+    }
+    Ok(())
+}
