@@ -1,11 +1,11 @@
 -- What a step of a formula that fails says of its enclosures.
-use Rattle.std.specs.Prelude.{◌≡◌}
+use Rattle.std.specs.Prelude.{◌≡◌, ℕ}
 use Rattle.exact_math.specs.Interval.{Interval}
 use Rattle.book_model.specs.declared.site.Site.{Site}
 use Rattle.book_model.specs.declared.fail.Fail.{Fail}
 use Rattle.book_model.specs.declared.fail.Fail.TheVariants.{Undecided, Void}
 use Rattle.book_model.specs.Leading.{IsOpenCell, IsOpenComparison}
-use Rattle.book_model.specs.Programs.{integers}
+use Rattle.book_model.specs.Programs.{integers, multiples}
 
 -- a floor at a site is open for this enclosure
 abbrev pub IsOpenFloor : Interval → Site → Fail → Type 0
@@ -16,3 +16,8 @@ IsOpenFloor i s (Void t) = ⊥
 abbrev pub IsOpenLess : Interval → Interval → Site → Fail → Type 0
 IsOpenLess i j s (Undecided u) = IsOpenComparison i j u.lo u.hi × (u.site ≡ s)
 IsOpenLess i j s (Void t) = ⊥
+
+-- a wrap by a modulus at a site is open for this enclosure
+abbrev pub IsOpenWrap : ℕ → Interval → Site → Fail → Type 0
+IsOpenWrap m i s (Undecided u) = IsOpenCell (multiples m) i u.lo u.hi × (u.site ≡ s)
+IsOpenWrap m i s (Void t) = ⊥

@@ -6,7 +6,7 @@
 //! - `Enclosure`: the trait, with the clauses that formulas are proved from;
 //! - `Trail`: the count of the tests of a run;
 //! - `Coarse`: the first kind, by ends in 64 bits that count 2⁻³⁶;
-//! - `floor_step` and `less_step`: the tests as steps of a formula's program.
+//! - `floor_step`, `less_step` and `wrap_step`: the tests as steps of a formula's program.
 #![tactic(auto)]
 
 mod circle;
@@ -26,7 +26,7 @@ pub use circle::pi;
 pub use coarse::Coarse;
 pub use enclosure::Enclosure;
 pub use span::Span;
-pub use steps::{floor_step, less_step};
+pub use steps::{floor_step, less_step, wrap_step};
 pub use trail::Trail;
 
 #[cfg(test)]

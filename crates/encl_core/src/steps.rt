@@ -1,10 +1,11 @@
 //! The tests of enclosures as steps of formulas: each leads to a program of one test.
-ghost use Rattle.std.specs.Prelude.{◌≡◌, ◌≤◌, ℕ, Bool, IfOk, IfErr, Some};
-ghost use Rattle.book_model.specs.Expressions.{Expression, World};
+ghost use Rattle.std.specs.Prelude.{◌≡◌, ◌≤◌, ◌<◌, ℕ, ℤ, Bool, IfOk, IfErr, IsSome, Some};
+ghost use Rattle.book_model.specs.Bounds.{Reach, limits_of};
+ghost use Rattle.book_model.specs.Expressions.{Expression, World, remainder};
 ghost use Rattle.book_model.specs.Leading.{Leads, Exact, next_turn};
-ghost use Rattle.book_model.specs.Programs.{answer, cell, compare, integers, cell_at, compare_at};
-ghost use Rattle.book_model.specs.Relations.{Within};
-ghost use Rattle.encl_core.specs.Steps.{IsOpenFloor, IsOpenLess};
+ghost use Rattle.book_model.specs.Programs.{answer, cell, compare, integers, multiples, cell_at, compare_at};
+ghost use Rattle.book_model.specs.Relations.{Within, Narrow};
+ghost use Rattle.encl_core.specs.Steps.{IsOpenFloor, IsOpenLess, IsOpenWrap};
 
 use crate::{Enclosure, Trail};
 use book_model::{Fail, Site};
@@ -33,6 +34,22 @@ pub fn less_step<E: Enclosure>(x: E, y: E, site: Site, trail: &mut Trail) -> Res
 {
     match x.less(y, site, trail) {
         Ok(is_less) => Ok(is_less),
+        Err(at) => Err(Fail::Undecided(at)),
+    }
+}
+
+/// What an enclosed number is above the greatest multiple of the modulus that is not above it, as a test at a site. It
+/// fails exactly where the enclosure leaves the test open, and is never void.
+pub fn wrap_step<E: Enclosure>(x: E, modulus: u32, site: Site, trail: &mut Trail) -> Result<E, Fail>
+    requires { 0 < modulus }
+    ensures leads { (w : World) (e : Expression) → Within E.shown w e x → Leads w (Within E.shown w) (cell site (multiples modulus) e (λ q. answer (remainder modulus e q))) trail.old.count trail.new.count result }
+    ensures narrow { IfOk result (λ y. (q : ℤ) (r : Reach) (e : Expression) → Narrow E.shown (limits_of E.BITS) r e x → Narrow E.shown (limits_of E.BITS) r (remainder modulus e q) y) }
+    ensures decided { IfOk result (λ y. IsSome (cell_at (multiples modulus) (E.shown x))) }
+    ensures open { IfErr result (IsOpenWrap modulus (E.shown x) site) }
+    ensures counted { trail.new.count ≡ next_turn trail.old.count }
+{
+    match x.wrap(modulus, site, trail) {
+        Ok(rest) => Ok(rest),
         Err(at) => Err(Fail::Undecided(at)),
     }
 }

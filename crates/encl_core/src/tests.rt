@@ -2,7 +2,7 @@
 //! enclosures, which knows nothing, at another scale.
 ghost use Rattle.encl_core.specs.Shown.{shown_unknown};
 
-use crate::{Coarse, Enclosure, Span, Trail, floor_step, less_step};
+use crate::{Coarse, Enclosure, Span, Trail, floor_step, less_step, pi, wrap_step};
 use book_model::{Frac, Site, Undecided};
 use std::test::Fail;
 
@@ -267,4 +267,98 @@ fn steps_carry_the_test_that_is_open(rt: HostRuntime) {
         Err(open.into())
     );
     assert_eq!(rt; trail.count(), 3);
+}
+
+#[test]
+fn quotients_are_rounded_outwards(rt: HostRuntime) -> Result<(), Fail> {
+    assert_eq!(rt;
+        Coarse::from_int(12).div(Coarse::from_int(-3)),
+        Coarse::from_int(-4)
+    );
+    assert_eq!(rt;
+        Coarse::from_int(-1).div(Coarse::from_int(3)),
+        Coarse::from_frac(fraction(-1, 3)?)
+    );
+    assert_eq!(rt;
+        Coarse::from_int(1).div(Coarse::from_int(-3)),
+        Coarse::from_frac(fraction(-1, 3)?)
+    );
+    let between = Coarse::from_frac(fraction(1, 8)?).hull(Coarse::from_frac(fraction(1, 2)?));
+    assert_eq!(rt; range::<Coarse>(1, 2).div(range(4, 8)), between);
+    assert_eq!(rt; range::<Coarse>(-6, 4).div(range(-2, -1)), range(-4, 6));
+    assert_eq!(rt; Coarse::from_int(1).div(range(-1, 1)), Coarse::whole());
+    assert_eq!(rt; Coarse::from_int(1).div(range(0, 1)), Coarse::whole());
+    assert_eq!(rt; Coarse::whole().div(Coarse::from_int(2)), Coarse::whole());
+    Ok(())
+}
+
+#[test]
+fn squares_are_never_below_zero(rt: HostRuntime) -> Result<(), Fail> {
+    assert_eq!(rt; range::<Coarse>(-3, 2).square(), range(0, 9));
+    assert_eq!(rt; range::<Coarse>(-3, -2).square(), range(4, 9));
+    assert_eq!(rt; range::<Coarse>(2, 3).square(), range(4, 9));
+    let ends = Coarse::from_frac(fraction(-1, 3)?)
+        .square()
+        .ends
+        .ok_or("whole")?;
+    assert_eq!(rt; ends.lo, 7_635_497_414);
+    assert_eq!(rt; ends.hi, 7_635_497_416);
+    assert_eq!(rt; Coarse::from_int(100_000).square(), Coarse::whole());
+    Ok(())
+}
+
+#[test]
+fn a_span_has_the_ends_at_its_scale(rt: HostRuntime) -> Result<(), Fail> {
+    let span = range::<Coarse>(-1, 2).span().ok_or("whole")?;
+    assert_eq!(rt; span.lo, -72_057_594_037_927_936);
+    assert_eq!(rt; span.hi, 144_115_188_075_855_872);
+    assert_eq!(rt; Coarse::whole().span(), None);
+    Ok(())
+}
+
+#[test]
+fn a_wrap_is_open_where_the_periods_differ(rt: HostRuntime) -> Result<(), Fail> {
+    let mut trail = Trail::new();
+    assert_eq!(rt;
+        Coarse::from_frac(fraction(1441, 2)?).wrap(360, Site::Round, &mut trail),
+        Ok(Coarse::from_frac(fraction(1, 2)?))
+    );
+    assert_eq!(rt;
+        Coarse::from_int(-1).wrap(360, Site::Round, &mut trail),
+        Ok(Coarse::from_int(359))
+    );
+    assert_eq!(rt;
+        wrap_step(Coarse::from_int(360), 360, Site::Round, &mut trail),
+        Ok(Coarse::from_int(0))
+    );
+    let open = Undecided {
+        turn: 4,
+        site: Site::Round,
+        lo: 25_868_676_259_616_129_024,
+        hi: 26_012_791_447_691_984_896,
+    };
+    assert_eq!(rt;
+        range::<Coarse>(359, 361).wrap(360, Site::Round, &mut trail),
+        Err(open)
+    );
+    let nowhere = Undecided {
+        turn: 5,
+        site: Site::Round,
+        lo: i128::MIN,
+        hi: i128::MAX,
+    };
+    assert_eq!(rt;
+        wrap_step(Unknown, 360, Site::Round, &mut trail),
+        Err(nowhere.into())
+    );
+    assert_eq!(rt; trail.count(), 5);
+    Ok(())
+}
+
+#[test]
+fn pi_lies_between_neighbours(rt: HostRuntime) -> Result<(), Fail> {
+    let ends = pi::<Coarse>().ends.ok_or("whole")?;
+    assert_eq!(rt; ends.lo, 215_888_603_272);
+    assert_eq!(rt; ends.hi, 215_888_603_273);
+    Ok(())
 }

@@ -1,0 +1,20 @@
+use Rattle.std.proofs.Common.{◌≡◌, refl, ℤ, Option, Some, None, IsSome}
+use Rattle.book_model.specs.Expressions.{remainder}
+use Rattle.book_model.specs.Programs.{answer, multiples}
+use Rattle.book_model.proofs.Leads.{leads_cell, leads_open_cell, leads_answer, lies}
+use Rattle.encl_core.proofs.steps.wrap_step.Goals as goal
+
+by_some : (o : Option ℤ) (P : Type 0) → IsSome o → ((q : ℤ) → o ≡ Some q → P) → P
+by_some (Some q) P h f = f q refl
+by_some None P h f = cc
+
+pub returns-in-Ok-clause-leads : goal.returns-in-Ok-clause-leads
+returns-in-Ok-clause-leads g c = λ w e h.
+    by_some _ _ c.in-Ok.ensures.decided (λ q k.
+    rw c.in-Ok.ensures.counted
+    (leads_cell c.args.site (multiples c.args.modulus) e _ q (λ p. answer (remainder c.args.modulus e p)) (lies h) k (leads_answer (c.in-Ok.ensures.holds q w e k h))))
+
+pub returns-in-Err-clause-leads : goal.returns-in-Err-clause-leads
+returns-in-Err-clause-leads g c = λ w e h.
+    rw (← c.in-Err.ensures.named.0)
+    (leads_open_cell (multiples c.args.modulus) e _ (λ p. answer (remainder c.args.modulus e p)) _ c.in-Err.at (lies h) c.in-Err.ensures.named.1 c.in-Err.ensures.undecided)

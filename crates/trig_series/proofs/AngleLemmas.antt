@@ -1,0 +1,193 @@
+-- Angles, and the octants of a turn, as the code reads them.
+use Rattle.std.proofs.Common.{◌≡◌, ℕ, zero, suc, ◌≤◌, refl, ap, subst, ◌∙◌, arith, unsigned_abs, ℤ, pos, negsuc, ◌-ℤ◌, ◌*ℤ◌, ◌≤ℤ◌, [], ◌∷◌}
+use Rattle.std.specs.Int.{int_div_euclid}
+use Rattle.std.proofs.lemmas.Int.{ints}
+use Rattle.exact_math.specs.Fraction.{Fraction, ◌≈◌, whole, plus, opposite, times, floor_quotient}
+use Rattle.exact_math.specs.Interval.{Interval, everything, between, IsMember, IsProper, ◌⊆◌, negative, product, least, greatest}
+use Rattle.exact_math.proofs.Fractions.{le_refl, smaller_keeps, larger_keeps}
+use Rattle.exact_math.proofs.FractionRing.{same_by}
+use Rattle.exact_math.proofs.Ring.{at, ◌⊗◌}
+use Rattle.exact_math.proofs.Intervals.{within_trans, within_everything, product_holds, least_is, greatest_is}
+use Rattle.exact_math.proofs.Same.{same_refl, same_sym, same_trans, plus_cong, times_cong, opposite_cong}
+use Rattle.exact_math.specs.Sums.{one_over}
+use Rattle.exact_math.proofs.Floors.{IsFloorQuotient, floor_quotient_is}
+use Rattle.book_model.specs.declared.frac.Frac.{Frac}
+use Rattle.book_model.specs.Fractions.{fraction_of}
+use Rattle.book_model.specs.Leading.{at_56}
+use Rattle.book_model.specs.Expressions.{Expression, World, value, argument, constant, multiply, negate, pi}
+use Rattle.book_model.specs.Relations.{Within, Lies}
+use Rattle.book_model.specs.Series.{sine_series, cosine_series, pi_at}
+use Rattle.book_model.specs.Octants.{only, radians, short_of, sine_into, octant_of_turn, sine_at, octant_edge}
+use Rattle.book_model.proofs.Values.{value_proper}
+use Rattle.book_model.proofs.Pi.{pi_proper}
+use Rattle.book_model.proofs.SeriesNesting.{sines, cosines}
+use Rattle.book_model.proofs.OctantHulls.{radians_proper, radians_inside, into_proper}
+use Rattle.encl_core.proofs.Periods.{euclid_is}
+use Rattle.trig_series.specs.Nests.{of_half_turn, angle_of, sine_sum_of, cosine_sum_of}
+use Rattle.trig_series.proofs.SumsHold.{member_same, first_angles, sine_sum_holds, cosine_sum_holds}
+
+-- ---- products of three, where two are fractions
+-- a fraction times an interval lies in what holds its products with the two ends
+ends_product : (r lo hi : Fraction) (j : Interval) → IsMember (times r lo) j → IsMember (times r hi) j → product (only r) (between lo hi) ⊆ j
+unfolding product
+ends_product r lo hi everything m n = within_everything _
+ends_product r lo hi (between c d) m n = record { ends = (least_is c _ _ _ _ m.0 n.0 m.0 n.0, greatest_is d _ _ _ _ m.1 n.1 m.1 n.1) }
+
+regrouped : (r c s p : Fraction) → times r c ≈ s → times s p ≈ times r (times p c)
+regrouped r c s p e = same_trans (times_cong (same_sym e) (same_refl p)) (same_by (r ∷ c ∷ p ∷ []) ((at 0 ⊗ at 1) ⊗ at 2) (at 0 ⊗ (at 2 ⊗ at 1)) refl)
+
+-- r (p c) is in s p, where s is r c and p is a member
+joined_member : (r c s p : Fraction) (i : Interval) → times r c ≈ s → IsMember p i → IsMember (times r (times p c)) (product (only s) i)
+joined_member r c s p i e m = member_same (product (only s) i) (times s p) (times r (times p c)) (regrouped r c s p e) (product_holds (only s) i s p (le_refl s, le_refl s) m)
+
+-- and the other way round
+parted_member : (r c s p : Fraction) (i : Interval) → times r c ≈ s → IsMember p i → IsMember (times s p) (product (only r) (product i (only c)))
+parted_member r c s p i e m =
+    member_same (product (only r) (product i (only c))) (times r (times p c)) (times s p) (same_sym (regrouped r c s p e))
+    (product_holds (only r) (product i (only c)) r (times p c) (le_refl r, le_refl r) (product_holds i (only c) p c m (le_refl c, le_refl c)))
+
+-- what holds for both ends' products with c holds for the ends of the product
+ends_keep : (P : Fraction → Type 0) (a b c : Fraction) → P (times a c) → P (times b c) → P (least (times a c) (times a c) (times b c) (times b c)) × P (greatest (times a c) (times a c) (times b c) (times b c))
+unfolding least greatest
+ends_keep P a b c x y =
+    (smaller_keeps P _ _ (smaller_keeps P _ _ x x) (smaller_keeps P _ _ y y), larger_keeps P _ _ (larger_keeps P _ _ x x) (larger_keeps P _ _ y y))
+
+product_ends : (a b c : Fraction) → product (between a b) (only c) ≡ between (least (times a c) (times a c) (times b c) (times b c)) (greatest (times a c) (times a c) (times b c) (times b c))
+unfolding product
+product_ends a b c = refl
+
+all_products : (r : Fraction) (i : Interval) → i ⊆ product (only r) everything
+unfolding product
+all_products r i = within_everything i
+
+all_triples : (r c : Fraction) (i : Interval) → i ⊆ product (only r) (product everything (only c))
+unfolding product
+all_triples r c i = within_everything i
+
+fractions_joined : (r c s : Fraction) (i : Interval) → IsProper i → times r c ≈ s → product (only r) (product i (only c)) ⊆ product (only s) i
+fractions_joined r c s everything p e = all_products s (product (only r) (product everything (only c)))
+fractions_joined r c s (between a b) p e =
+    let m = ends_keep (λ z. IsMember (times r z) (product (only s) (between a b))) a b c (joined_member r c s a (between a b) e (le_refl a, p)) (joined_member r c s b (between a b) e (p, le_refl b)) in
+    rw (product_ends a b c) (ends_product r _ _ _ m.0 m.1)
+
+fractions_parted : (r c s : Fraction) (i : Interval) → IsProper i → times r c ≈ s → product (only s) i ⊆ product (only r) (product i (only c))
+fractions_parted r c s everything p e = all_triples r c (product (only s) everything)
+fractions_parted r c s (between a b) p e = ends_product s a b _ (parted_member r c s a (between a b) e (le_refl a, p)) (parted_member r c s b (between a b) e (p, le_refl b))
+
+-- ---- angles
+pub part_is : (f : Frac) (d : ℤ) → f.num ≡ d → f.den ≡ 12970366926827028480 → fraction_of f ≡ of_half_turn d
+part_is f d e g = rw (e, g) refl
+
+pub whole_holds : {E : Type 0} (shown : E → Interval) (w : World) (x : Expression) (e : E) → 40 ≤ w.depth → shown e ≡ everything → Within shown w x e
+unfolding Lies
+whole_holds shown w x e d s = record { deep = d; inside = rw s (within_everything _) }
+
+-- the product of a part of a half turn and pi is an angle's expression
+pub angle_from : {E : Type 0} (shown : E → Interval) (w : World) (f : Frac) (d : ℤ) (e : E) → f.num ≡ d → f.den ≡ 12970366926827028480 → Within shown w (multiply (constant (fraction_of f)) pi) e → Within shown w (angle_of d) e
+unfolding angle_of
+angle_from shown w f d e p q h = subst (λ (z : Fraction). Within shown w (multiply (constant z) pi) e) (part_is f d p q) h
+
+angle_value : (w : World) (d : ℤ) → value w (angle_of d) ≡ product (only (of_half_turn d)) (pi_at w.depth)
+unfolding value angle_of
+angle_value w d = refl
+
+half_turn : (d : ℤ) → times (at_56 d) (one_over 179) ≈ of_half_turn d
+unfolding times
+half_turn d = record { cross = omega (arith, ints) }
+
+radians_in_angle : (n : ℕ) (d : ℤ) (y : Fraction) → y ≈ at_56 d → radians n y ⊆ product (only (of_half_turn d)) (pi_at n)
+unfolding radians
+radians_in_angle n d y e = fractions_joined y (one_over 179) (of_half_turn d) (pi_at n) (pi_proper n) (same_trans (times_cong e (same_refl (one_over 179))) (half_turn d))
+
+angle_in_radians : (n : ℕ) (d : ℤ) → product (only (of_half_turn d)) (pi_at n) ⊆ radians n (at_56 d)
+unfolding radians
+angle_in_radians n d = fractions_parted (at_56 d) (one_over 179) (of_half_turn d) (pi_at n) (pi_proper n) (half_turn d)
+
+angle_inside : (n : ℕ) (d : ℤ) → 40 ≤ n → pos 0 ≤ℤ d → d ≤ℤ pos 3242591731706757120 → product (only (of_half_turn d)) (pi_at n) ⊆ first_angles
+angle_inside zero d h l u = absurd (omega arith)
+angle_inside (suc n) d h l u =
+    within_trans (angle_in_radians (suc n) d) (radians_inside n (at_56 d) (record { cross = omega (arith, ints) }) (record { cross = omega (arith, ints) }))
+
+pub sine_angle : {E : Type 0} (shown : E → Interval) (w : World) (d : ℤ) (e : E) (y : Fraction) → 40 ≤ w.depth → pos 0 ≤ℤ d → d ≤ℤ pos 3242591731706757120 → y ≈ at_56 d →
+    Within shown w (sine_sum_of (angle_of d)) e → sine_series w.depth (radians w.depth y) ⊆ shown e
+unfolding Lies
+sine_angle shown w d e y h l u same k =
+    let v = angle_value w d in
+    let i : value w (angle_of d) ⊆ first_angles = rw v (angle_inside w.depth d h l u) in
+    let s = rw v at (sine_sum_holds w (angle_of d) h (value_proper w (angle_of d)) i) in
+    within_trans (sines.within w.depth (radians_proper w.depth y) (radians_in_angle w.depth d y same)) (within_trans s k.inside)
+
+cosine_within : (n : ℕ) {i j : Interval} → 1 ≤ n → IsProper i → i ⊆ j → cosine_series n i ⊆ cosine_series n j
+cosine_within zero h p g = absurd (omega arith)
+cosine_within (suc n) h p g = cosines.within n p g
+
+pub cosine_angle : {E : Type 0} (shown : E → Interval) (w : World) (d : ℤ) (e : E) (y : Fraction) → 40 ≤ w.depth → pos 0 ≤ℤ d → d ≤ℤ pos 3242591731706757120 → y ≈ at_56 d →
+    Within shown w (cosine_sum_of (angle_of d)) e → cosine_series w.depth (radians w.depth y) ⊆ shown e
+unfolding Lies
+cosine_angle shown w d e y h l u same k =
+    let v = angle_value w d in
+    let i : value w (angle_of d) ⊆ first_angles = rw v (angle_inside w.depth d h l u) in
+    let s = rw v at (cosine_sum_holds w (angle_of d) h (value_proper w (angle_of d)) i) in
+    within_trans (cosine_within w.depth (omega arith) (radians_proper w.depth y) (radians_in_angle w.depth d y same)) (within_trans s k.inside)
+
+-- ---- the octants of a turn
+pub short_same : (d : ℤ) (y : Fraction) → y ≈ at_56 d → short_of y ≈ at_56 (pos 3242591731706757120 -ℤ d)
+unfolding plus opposite
+short_same d y e = same_trans (plus_cong (same_refl (whole (pos 45))) (opposite_cong e)) (record { cross = omega (arith, ints) })
+
+pub into_0 : (n : ℕ) (o : ℤ) (y : Fraction) (i : Interval) → o ≡ pos 0 → sine_series n (radians n y) ⊆ i → sine_into n (unsigned_abs o) y ⊆ i
+unfolding sine_into
+into_0 n o y i e h = rw e h
+
+pub into_1 : (n : ℕ) (o : ℤ) (y : Fraction) (i : Interval) → o ≡ pos 1 → cosine_series n (radians n (short_of y)) ⊆ i → sine_into n (unsigned_abs o) y ⊆ i
+unfolding sine_into
+into_1 n o y i e h = rw e h
+
+pub into_2 : (n : ℕ) (o : ℤ) (y : Fraction) (i : Interval) → o ≡ pos 2 → cosine_series n (radians n y) ⊆ i → sine_into n (unsigned_abs o) y ⊆ i
+unfolding sine_into
+into_2 n o y i e h = rw e h
+
+pub into_3 : (n : ℕ) (o : ℤ) (y : Fraction) (i : Interval) → o ≡ pos 3 → sine_series n (radians n (short_of y)) ⊆ i → sine_into n (unsigned_abs o) y ⊆ i
+unfolding sine_into
+into_3 n o y i e h = rw e h
+
+-- four octants later the sign is the other
+pub into_later : (n : ℕ) (o : ℤ) (y : Fraction) (i : Interval) → pos 4 ≤ℤ o → negative (sine_into n (unsigned_abs (o -ℤ pos 4)) y) ⊆ i → sine_into n (unsigned_abs o) y ⊆ i
+unfolding sine_into
+into_later n (negsuc m) y i h k = absurd (omega (arith, ints))
+into_later n (pos zero) y i h k = absurd (omega (arith, ints))
+into_later n (pos (suc zero)) y i h k = absurd (omega (arith, ints))
+into_later n (pos (suc (suc zero))) y i h k = absurd (omega (arith, ints))
+into_later n (pos (suc (suc (suc zero)))) y i h k = absurd (omega (arith, ints))
+into_later n (pos (suc (suc (suc (suc j))))) y i h k = let e : pos (suc (suc (suc (suc j)))) -ℤ pos 4 ≡ pos j = omega (arith, ints) in rw e at k
+
+-- ---- operations on intervals, through worlds where these are the arguments
+pub negate_holds : {E : Type 0} (shown : E → Interval) (i : Interval) (e r : E) → IsProper i → i ⊆ shown e → ((w : World) (x : Expression) → Within shown w x e → Within shown w (negate x) r) → negative i ⊆ shown r
+unfolding Lies value
+negate_holds shown i e r p h f = (f (record { depth = 40; arguments = λ k. i; proper = λ k. p }) (argument 0) (record { deep = omega arith; inside = h })).inside
+
+pub into_is_proper : (n j : ℕ) (y : Fraction) → 40 ≤ n → IsProper (sine_into n j y)
+into_is_proper zero j y h = absurd (omega arith)
+into_is_proper (suc n) j y h = into_proper n j y
+
+-- ---- octants of all turns
+turn_z : (k q : ℤ) → q ≡ floor_quotient k 7 → IsFloorQuotient q k 7 → (k -ℤ q *ℤ pos 8 ≡ pos (octant_of_turn k)) × ((k -ℤ q *ℤ pos 8) ≤ℤ pos 7)
+turn_z k q e f = rw (← e) (by_size (k -ℤ q *ℤ pos 8) (k -ℤ (pos 8 *ℤ q)) (omega (arith, ints)) (omega (arith, ints, f.not_above)), omega (arith, ints, f.close))
+  where
+    by_size : (a b : ℤ) → a ≡ b → pos 0 ≤ℤ a → a ≡ pos (unsigned_abs b)
+    by_size a (pos m) e h = e
+    by_size a (negsuc m) e h = absurd (omega (arith, ints))
+
+pub turn_of : (k q : ℤ) → q ≡ int_div_euclid k (pos 8) → (k -ℤ q *ℤ pos 8 ≡ pos (octant_of_turn k)) × ((k -ℤ q *ℤ pos 8) ≤ℤ pos 7)
+turn_of k q e = let f = e ∙ euclid_is k 8 (omega arith) in turn_z k q f (rw f (floor_quotient_is k 7))
+
+edge_count : (k d : ℤ) → plus (at_56 d) (opposite (octant_edge k)) ≈ at_56 (d -ℤ k *ℤ pos 3242591731706757120)
+unfolding plus opposite times
+edge_count k d = record { cross = omega (arith, ints) }
+
+pub at_in_turn : (n : ℕ) (k o d : ℤ) (y : Fraction) (i : Interval) → o ≡ pos (octant_of_turn k) → y ≈ at_56 d →
+    ((z : Fraction) → z ≈ at_56 (d -ℤ k *ℤ pos 3242591731706757120) → sine_into n (unsigned_abs o) z ⊆ i) → sine_at n k y ⊆ i
+unfolding sine_at
+at_in_turn n k o d y i e same h =
+    let u : unsigned_abs o ≡ octant_of_turn k = ap unsigned_abs e in
+    rw (← u) (h (plus y (opposite (octant_edge k))) (same_trans (plus_cong same (same_refl (opposite (octant_edge k)))) (edge_count k d)))

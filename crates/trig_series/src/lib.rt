@@ -1,0 +1,17 @@
+//! The sine, the cosine and the tangent of enclosures of degrees. Each makes no test and has no refusal, and holds
+//! the model's at every depth from `DEPTH` on.
+//!
+//! - `sin_deg`, `cos_deg` and `tan_deg`: of degrees, which are reduced exactly;
+//! - `pi`: the number, from the crate of the enclosures.
+#![tactic(auto)]
+
+mod angles;
+mod degrees;
+mod octants;
+mod sums;
+
+pub use degrees::{cos_deg, sin_deg, tan_deg};
+pub use encl_core::pi;
+
+#[cfg(test)]
+mod tests;
