@@ -13,12 +13,11 @@ use Rattle.book_model.specs.Calendar.{year_of_day}
 use Rattle.book_model.specs.Leading.{Exact, Leads, next_turn}
 use Rattle.book_model.specs.declared.frac.Frac.{Frac}
 use Rattle.book_model.specs.declared.site.Site.TheVariants.{Year}
-use Rattle.book_model.specs.declared.tables.TheConstants.{CORRECTION_1987, CORRECTION_2006}
-use Rattle.book_model.specs.Correction.{int_power, no_fraction, polynomial_to, polynomial_of, dt_of, correction_of, year_of, rounded_of, is_between, seconds_of}
+use Rattle.book_model.specs.Correction.{int_power, no_fraction, polynomial_to, polynomial_of, year_of, is_between}
 use Rattle.book_model.specs.Expressions.{World, value, exactly, integer, add, scale}
 use Rattle.book_model.specs.Fractions.{fraction_of}
-use Rattle.book_model.specs.Programs.{Program, years, cell_of, cell_at, answer, void, AtMost, answer_at_most, void_at_most, cell_at_most}
-use Rattle.book_model.proofs.Leads.{at_most_bind, at_most_more, leads_cell, leads_answer}
+use Rattle.book_model.specs.Programs.{Program, years, cell_of, cell_at, answer, AtMost}
+use Rattle.book_model.proofs.Leads.{leads_cell, leads_answer}
 
 pub polynomial_none : (cs : List Frac) (x : ℤ) → polynomial_to cs x 0 ≡ integer (pos 0)
 unfolding polynomial_to
@@ -70,28 +69,11 @@ above_no low high z h = by_test (int_le low z)
 pub below_no : (low high z : ℤ) → z <ℤ low → is_between low high z ≡ false
 below_no low high z h = let e : false ≡ int_le low z = omega (arith, ints) in rw (← e) refl
 
--- the correction of a year of either table, and of no other
-pub correction_early : (y : ℤ) → pos 1987 ≤ℤ y → y ≤ℤ pos 2005 → correction_of y ≡ answer (seconds_of CORRECTION_1987 y)
-unfolding correction_of
-correction_early y h k = rw (between_yes (pos 1987) (pos 2005) y h k) refl
-
-pub correction_late : (y : ℤ) → pos 2006 ≤ℤ y → y ≤ℤ pos 2050 → correction_of y ≡ answer (seconds_of CORRECTION_2006 y)
-unfolding correction_of
-correction_late y h k = rw (above_no (pos 1987) (pos 2005) y (omega (arith, ints)), between_yes (pos 2006) (pos 2050) y h k) refl
-
-pub correction_before : (y : ℤ) → y <ℤ pos 1987 → correction_of y ≡ void Year
-unfolding correction_of
-correction_before y h = rw (below_no (pos 1987) (pos 2005) y h, below_no (pos 2006) (pos 2050) y (omega (arith, ints))) refl
-
-pub correction_after : (y : ℤ) → pos 2050 <ℤ y → correction_of y ≡ void Year
-unfolding correction_of
-correction_after y h = rw (above_no (pos 1987) (pos 2005) y (omega (arith, ints)), above_no (pos 2006) (pos 2050) y h) refl
-
-floor_whole : (n : ℤ) → floor (whole n) ≡ n
+pub floor_whole : (n : ℤ) → floor (whole n) ≡ n
 floor_whole (pos n) = omega (arith, ints)
 floor_whole (negsuc n) = omega (arith, ints)
 
-year_of_whole : (d : ℤ) → cell_at years (exactly (whole d)) ≡ Some (year_of_day d)
+pub year_of_whole : (d : ℤ) → cell_at years (exactly (whole d)) ≡ Some (year_of_day d)
 unfolding cell_at cell_of
 year_of_whole d = let e : int_eq (year_of_day (floor (whole d))) (year_of_day (floor (whole d))) ≡ true = (Decides-int_eq (year_of_day (floor (whole d))) (year_of_day (floor (whole d)))).1 refl in rw (e, floor_whole d) refl
 
@@ -100,15 +82,3 @@ pub leads_year : (w : World) (d y : ℤ) (b a : ℕ) → y ≡ year_of_day d →
 unfolding year_of value
 leads_year w d y b a e f =
     rw (e, f) (leads_cell Year years (integer d) (exactly (whole d)) (year_of_day d) answer (within_refl (exactly (whole d))) (year_of_whole d) (leads_answer refl))
-
--- a dynamical time correction makes two tests at most
-correction_few : (y : ℤ) → AtMost 0 (correction_of y)
-unfolding correction_of
-correction_few y =
-    few_of_two 0 (is_between (pos 1987) (pos 2005) y) _ _ answer_at_most (few_of_two 0 (is_between (pos 2006) (pos 2050) y) _ _ answer_at_most void_at_most)
-
-pub dt_few : (d : ℤ) → AtMost 99999 (dt_of d)
-unfolding dt_of year_of rounded_of
-dt_few d =
-    at_most_more 2 99999 (omega arith)
-    (at_most_bind 1 1 (cell_at_most (λ q. answer_at_most)) (λ y. at_most_bind 0 1 (correction_few y) (λ c. cell_at_most (λ q. answer_at_most))))

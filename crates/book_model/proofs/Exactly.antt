@@ -35,11 +35,11 @@ unfolding greatest
 greatest_same a = rw (larger_same a) (larger_same a)
 
 -- the product of two numbers
-product_exactly : (a b : Fraction) → product (exactly a) (exactly b) ≡ exactly (times a b)
+pub product_exactly : (a b : Fraction) → product (exactly a) (exactly b) ≡ exactly (times a b)
 unfolding product
 product_exactly a b = rw (least_same (times a b), greatest_same (times a b)) refl
 
-sum_exactly : (a b : Fraction) → sum (exactly a) (exactly b) ≡ exactly (plus a b)
+pub sum_exactly : (a b : Fraction) → sum (exactly a) (exactly b) ≡ exactly (plus a b)
 unfolding sum
 sum_exactly a b = refl
 

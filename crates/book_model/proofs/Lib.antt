@@ -6,6 +6,8 @@ pub mod Leads
 pub mod Nearness
 pub mod Evaluations
 pub mod Corrections
+pub mod FactRuns
+pub mod CorrectionValues
 pub mod Implying
 pub mod Exactly
 pub mod Terms

@@ -1,12 +1,12 @@
--- The dynamical time correction of a year, and that of a day in milliseconds.
+-- Polynomials at a whole number, as those of the dynamical time correction, and the tests of a year and of a rounding.
 -- Reingold and Dershowitz, Calendrical Calculations, chapter 14, ephemeris correction.
-use Rattle.std.specs.Prelude.{ℕ, zero, suc, ◌&&◌, Bool, if◌then◌else◌, ℤ, pos, ◌-ℤ◌, ◌*ℤ◌, List, length, slice_index_or, int_le}
+use Rattle.std.specs.Prelude.{ℕ, zero, suc, ◌&&◌, Bool, ℤ, pos, ◌-ℤ◌, ◌*ℤ◌, List, length, slice_index_or, int_le}
 use Rattle.book_model.specs.declared.frac.Frac.{Frac}
 use Rattle.book_model.specs.declared.site.Site.TheVariants.{Year, Round}
-use Rattle.book_model.specs.declared.tables.TheConstants.{CORRECTION_1987, CORRECTION_2006, HALF, MILLISECONDS_OF_DAY, SECOND}
+use Rattle.book_model.specs.declared.tables.TheConstants.{HALF, SECOND}
 use Rattle.book_model.specs.Fractions.{fraction_of}
 use Rattle.book_model.specs.Expressions.{Expression, integer, constant, add, scale}
-use Rattle.book_model.specs.Programs.{Program, answer, void, cell, bind, integers, years}
+use Rattle.book_model.specs.Programs.{Program, answer, cell, integers, years}
 
 -- x to the power k
 unfoldable pub int_power : ℤ → ℕ → ℤ
@@ -33,12 +33,6 @@ seconds_of cs y = scale (fraction_of SECOND) (polynomial_of cs (y -ℤ pos 2000)
 abbrev pub is_between : ℤ → ℤ → ℤ → Bool
 is_between low high z = int_le low z && int_le z high
 
--- dynamical time less universal time in a year, in days
-unfoldable pub correction_of : ℤ → Program Expression
-correction_of y =
-    if is_between (pos 1987) (pos 2005) y then answer (seconds_of CORRECTION_1987 y)
-    else (if is_between (pos 2006) (pos 2050) y then answer (seconds_of CORRECTION_2006 y) else void Year)
-
 -- the Gregorian year of a moment
 unfoldable pub year_of : Expression → Program ℤ
 year_of x = cell Year years x answer
@@ -46,10 +40,3 @@ year_of x = cell Year years x answer
 -- the whole number that is nearest, the greater of two
 unfoldable pub rounded_of : Expression → Program ℤ
 rounded_of x = cell Round integers (add x (constant (fraction_of HALF))) answer
-
--- the correction of a day's year, in milliseconds
-unfoldable pub dt_of : ℤ → Program ℤ
-dt_of d =
-    bind (year_of (integer d)) λ y.
-    bind (correction_of y) λ c.
-    rounded_of (scale (fraction_of MILLISECONDS_OF_DAY) c)

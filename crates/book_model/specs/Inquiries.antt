@@ -3,12 +3,12 @@ use Rattle.std.specs.Prelude.{◌≡◌, ℕ, ◌-◌, ◌^◌, ◌&&◌, ◌==�
 use Rattle.std.specs.Ordering.{int_eq}
 use Rattle.std.specs.List.{list_any}
 use Rattle.book_model.specs.declared.fact.Fact.{Fact}
-use Rattle.book_model.specs.declared.fact.Kind.TheVariants.{Dt as dt_kind}
+use Rattle.book_model.specs.declared.fact.Kind.TheVariants.{Dt as dt_kind, Sun as sun_kind}
 use Rattle.book_model.specs.declared.fact.Place.TheVariants.{None as Nowhere, Beijing, Cairo, Tehran, Ujjain}
 use Rattle.book_model.specs.declared.fact.Kind.{Kind}
 use Rattle.book_model.specs.declared.fact.Place.{Place}
 use Rattle.book_model.specs.declared.request.ToWord.{ToWord}
-use Rattle.book_model.specs.declared.request.ToWord.TheVariants.{Gregorian, Fixed, Dt}
+use Rattle.book_model.specs.declared.request.ToWord.TheVariants.{Gregorian, Fixed, Dt, Sun}
 use Rattle.book_model.specs.declared.request.Fields.{Fields}
 use Rattle.book_model.specs.declared.request.Request.{Request}
 use Rattle.book_model.specs.declared.request.Resolved.{Resolved}
@@ -27,6 +27,10 @@ pub data Inquiry (A : Type 0) : Type 0 where
 abbrev pub dt_fact : ℤ → Fact
 dt_fact d = record { kind = dt_kind; place = Nowhere; day = d }
 
+-- the fact of the sun's longitude on a day
+abbrev pub sun_fact : ℤ → Fact
+sun_fact d = record { kind = sun_kind; place = Nowhere; day = d }
+
 -- the nearest number of 32 bits
 abbrev pub to_32_bits : ℤ → ℤ
 to_32_bits z = if int_le z (negsuc (2 ^ 31 - 1)) then negsuc (2 ^ 31 - 1) else (if int_le (pos (2 ^ 31 - 1)) z then pos (2 ^ 31 - 1) else z)
@@ -44,6 +48,7 @@ abbrev pub result_on : ToWord → ℤ → Inquiry Resolved
 result_on Gregorian day = done (Shown Gregorian (gregorian_fields_on day))
 result_on Fixed day = done (Shown Fixed (one_field day))
 result_on Dt day = ask (dt_fact day) (λ v. done (Shown Dt (one_field v)))
+result_on Sun day = ask (sun_fact day) (λ v. done (Shown Sun (one_field v)))
 
 -- the rule of a line
 unfoldable pub rule_of : Request → Inquiry Resolved
@@ -62,6 +67,7 @@ facts_over table (ask f next) = f ∷ facts_over table (next (table f))
 -- the number of a kind of fact, and that of a place
 abbrev pub kind_number : Kind → ℕ
 kind_number dt_kind = 1
+kind_number sun_kind = 2
 
 abbrev pub place_number : Place → ℕ
 place_number Nowhere = 0

@@ -8,7 +8,6 @@ pub mod Programs
 pub mod Leading
 pub mod Nesting
 pub mod Correction
-pub mod Facts
 pub mod Lines
 pub mod Requests
 pub mod Inquiries
@@ -17,3 +16,8 @@ pub mod Plain
 pub mod Text
 pub mod Series
 pub mod Octants
+pub mod Polynomials
+pub mod Time
+pub mod Sun
+pub mod Kinds
+pub mod Facts

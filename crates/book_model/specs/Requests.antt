@@ -1,16 +1,16 @@
 -- What a line asks, and the first rule that it breaks.
-use Rattle.std.specs.Prelude.{ℕ, ◌&&◌, nat_eq, nat_le, if◌then◌else◌, int_le, Bool, true, List, [], ◌∷◌, length, codes, ℤ, pos, unsigned_abs, slice_index_or, Some, None, Option, Result, Ok, Err}
+use Rattle.std.specs.Prelude.{ℕ, ◌&&◌, nat_eq, nat_le, if◌then◌else◌, Bool, List, [], ◌∷◌, length, codes, ℤ, pos, unsigned_abs, slice_index_or, Some, None, Option, Result, Ok, Err}
 use Rattle.std.specs.List.{list_all}
 use lib.Pointwise.{pointwise}
 use Rattle.book_model.specs.declared.request.FromWord.{FromWord}
 use Rattle.book_model.specs.declared.request.FromWord.TheVariants.{Gregorian, Fixed}
 use Rattle.book_model.specs.declared.request.ToWord.{ToWord}
-use Rattle.book_model.specs.declared.request.ToWord.TheVariants.{Gregorian as to_gregorian, Fixed as to_fixed, Dt}
+use Rattle.book_model.specs.declared.request.ToWord.TheVariants.{Gregorian as to_gregorian, Fixed as to_fixed, Dt, Sun}
 use Rattle.book_model.specs.declared.request.Fields.{Fields}
 use Rattle.book_model.specs.declared.request.Request.{Request}
 use Rattle.book_model.specs.declared.request.Rule.{Rule}
 use Rattle.book_model.specs.declared.request.Rule.TheVariants.{Syntax, Calendar, Field, Range}
-use Rattle.book_model.specs.Calendar.{is_date, fixed_of, year_of_day}
+use Rattle.book_model.specs.Calendar.{is_date, fixed_of}
 use Rattle.book_model.specs.Correction.{is_between}
 use Rattle.book_model.specs.Lines.{is_plain, words_of, parts_of, number_of}
 
@@ -27,7 +27,7 @@ from_word_of word = if pointwise nat_eq word (codes "gregorian") then Some Grego
 
 -- what a word asks for
 abbrev pub to_word_of : List ℕ → Option ToWord
-to_word_of word = if pointwise nat_eq word (codes "gregorian") then Some to_gregorian else (if pointwise nat_eq word (codes "fixed") then Some to_fixed else (if pointwise nat_eq word (codes "dt") then Some Dt else None))
+to_word_of word = if pointwise nat_eq word (codes "gregorian") then Some to_gregorian else (if pointwise nat_eq word (codes "fixed") then Some to_fixed else (if pointwise nat_eq word (codes "dt") then Some Dt else (if pointwise nat_eq word (codes "sun") then Some Sun else None)))
 
 -- the three fields of a Gregorian date
 abbrev pub gregorian_fields : ℕ → ℕ → ℕ → Fields
@@ -77,15 +77,9 @@ day_of Fixed f = pos (field f 0)
 abbrev pub is_in_range : ℤ → Bool
 is_in_range day = is_between (pos 657802) (pos 748017) day
 
--- the days whose year a line may ask this of: the dynamical time correction from 1987 on
-abbrev pub is_year_for : ToWord → ℤ → Bool
-is_year_for to_gregorian day = true
-is_year_for to_fixed day = true
-is_year_for Dt day = int_le (pos 1987) (year_of_day day)
-
 -- the request, where its day is within the range
 abbrev pub ranged : Request → Result Request Rule
-ranged r = if is_in_range (day_of r.from r.date) && is_year_for r.to (day_of r.from r.date) then Ok r else Err Range
+ranged r = if is_in_range (day_of r.from r.date) then Ok r else Err Range
 
 abbrev pub with_fields : FromWord → ToWord → Option Fields → Result Request Rule
 with_fields from to None = Err Field

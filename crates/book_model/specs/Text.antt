@@ -6,7 +6,7 @@ use Rattle.book_model.specs.declared.site.Site.{Site}
 use Rattle.book_model.specs.declared.fact.Fact.{Fact}
 use Rattle.book_model.specs.declared.fail.Undecided.{Undecided}
 use Rattle.book_model.specs.declared.request.ToWord.{ToWord}
-use Rattle.book_model.specs.declared.request.ToWord.TheVariants.{Gregorian, Fixed, Dt}
+use Rattle.book_model.specs.declared.request.ToWord.TheVariants.{Gregorian, Fixed, Dt, Sun}
 use Rattle.book_model.specs.declared.request.Fields.{Fields}
 use Rattle.book_model.specs.declared.request.Resolved.{Resolved}
 use Rattle.book_model.specs.declared.request.Resolved.TheVariants.{Shown}
@@ -45,6 +45,7 @@ abbrev pub shown_as : ToWord → Fields → List ℕ
 shown_as Gregorian fields = gregorian_text fields
 shown_as Fixed fields = signed_decimal (first_value fields)
 shown_as Dt fields = signed_decimal (first_value fields)
+shown_as Sun fields = signed_decimal (first_value fields)
 
 abbrev pub result_text : Resolved → List ℕ
 result_text (Shown to fields) = shown_as to fields

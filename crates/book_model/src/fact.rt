@@ -5,6 +5,7 @@ ghost use Rattle.std.specs.Prelude.{◌≡◌, ◌↔◌, ℤ, pos, negsuc, ◌�
 #[derive(Clone, Copy, Debug, PartialEq, Eq, Hash)]
 pub enum Kind {
     Dt,
+    Sun,
 }
 
 /// A place that a fact may be asked of.
@@ -25,6 +26,18 @@ pub struct Fact {
     pub(crate) day: i64,
 }
 
+/// All kinds of facts.
+pub const KINDS: [Kind; 2] = [Kind::Dt, Kind::Sun];
+
+/// All places.
+pub const PLACES: [Place; 5] = [
+    Place::None,
+    Place::Beijing,
+    Place::Cairo,
+    Place::Tehran,
+    Place::Ujjain,
+];
+
 /// The greatest size of a fact's day.
 pub const FARTHEST_DAY: i64 = 40_000_000;
 
@@ -37,6 +50,7 @@ impl Kind {
     {
         match self {
             Kind::Dt => "dt",
+            Kind::Sun => "sun",
         }
     }
 
@@ -45,7 +59,7 @@ impl Kind {
         ensures { IsTrue result ↔ (place ≡ Place.None) }
     {
         match self {
-            Kind::Dt => place == Place::None,
+            Kind::Dt | Kind::Sun => place == Place::None,
         }
     }
 }

@@ -7,18 +7,30 @@ mod fail;
 mod frac;
 pub mod laws;
 pub mod plain;
+mod polynomial;
 mod request;
 mod site;
+mod sun_tables;
 mod tables;
 #[cfg(test)]
 mod tests;
+mod time_tables;
 
-pub use fact::{Fact, Kind, Place};
+pub use fact::{Fact, KINDS, Kind, PLACES, Place};
 pub use fail::{Fail, Undecided};
 pub use frac::Frac;
+pub use polynomial::{Cubic, Quadratic, QuadraticWave, Wave};
 pub use request::{Fields, FromWord, Request, Resolved, Rule, ToWord};
-pub use site::Site;
+pub use site::{SITES, Site};
+pub use sun_tables::{
+    ABERRATION, MEAN_ABERRATION, NODE_NUTATION, OBLIQUITY, SOLAR_NUTATION, SUN_AT_2000, SUN_RATE,
+    SUN_UNIT_COARSELY, SUN_UNIT_FINELY, SUN_WAVES,
+};
 pub use tables::{
     CORRECTION_1987, CORRECTION_2006, COSINE_RATIOS, DEGREE, HALF, MILLISECONDS_OF_DAY, PI_ABOVE,
-    PI_BELOW, SECOND, SINE_RATIOS,
+    PI_BELOW, SECOND, SINE_RATIOS, THOUSANDTHS_OF_DEGREE,
+};
+pub use time_tables::{
+    BEIJING_HOURS, CORRECTION_1800, CORRECTION_1900, CORRECTION_ANCIENT, DAY_IN_CENTURIES,
+    NOON_2000, SIDEREAL_TIME,
 };

@@ -7,12 +7,14 @@ pub enum FromWord {
     Fixed,
 }
 
-/// A word for what a line asks: the Gregorian date, the day number (R.D.), or the dynamical time correction.
+/// A word for what a line asks: the Gregorian date, the day number (R.D.), the dynamical time correction, or the
+/// longitude of the sun.
 #[derive(Clone, Copy, Debug, PartialEq, Eq)]
 pub enum ToWord {
     Gregorian,
     Fixed,
     Dt,
+    Sun,
 }
 
 /// The fields of a date: the first `count` values, in the calendar's order; the values after them are 0.

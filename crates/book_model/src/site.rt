@@ -27,6 +27,31 @@ pub enum Site {
     Sidereal,
 }
 
+/// All sites.
+pub const SITES: [Site; 21] = [
+    Site::Year,
+    Site::Zone,
+    Site::SunWrap,
+    Site::MoonWrap,
+    Site::PhaseWrap,
+    Site::PhasePick,
+    Site::MoonNumber,
+    Site::MoonWalk,
+    Site::StepWrap,
+    Site::StartFloor,
+    Site::DayTest,
+    Site::DayFloor,
+    Site::TermFloor,
+    Site::Search,
+    Site::BisectEnd,
+    Site::Bisect,
+    Site::Offset,
+    Site::Settle,
+    Site::Round,
+    Site::Crescent,
+    Site::Sidereal,
+];
+
 impl Site {
     ghost use Rattle.book_model.specs.Names.{site_number, site_name};
 

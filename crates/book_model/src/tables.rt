@@ -58,6 +58,9 @@ pub const MILLISECONDS_OF_DAY: Frac = Frac {
     den: 1,
 };
 
+/// The thousandths of a degree.
+pub const THOUSANDTHS_OF_DEGREE: Frac = Frac { num: 1000, den: 1 };
+
 /// A half.
 pub const HALF: Frac = Frac { num: 1, den: 2 };
 

@@ -15,6 +15,8 @@ fn fractions_keep_what_they_were_given(rt: HostRuntime) -> Result<(), Fail> {
 fn facts_have_a_place_of_their_kind(rt: HostRuntime) -> Result<(), Fail> {
     let fact = Fact::new(Kind::Dt, Place::None, 738_926).ok_or("no fact")?;
     assert_eq!(rt; fact.kind().name(), "dt");
+    assert_eq!(rt; Kind::Sun.name(), "sun");
+    assert!(rt; Fact::new(Kind::Sun, Place::None, 738_926).is_some());
     assert_eq!(rt; fact.place().name(), "-");
     assert_eq!(rt; fact.day(), 738_926);
     assert_eq!(rt; Fact::new(Kind::Dt, Place::Cairo, 738_926), None);

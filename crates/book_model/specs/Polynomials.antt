@@ -1,0 +1,58 @@
+-- Polynomials and waves, as expressions.
+use Rattle.std.specs.Prelude.{ℕ, zero, suc, pos, List, length, slice_index_or}
+use Rattle.exact_math.specs.Fraction.{Fraction, power as fraction_power}
+use Rattle.book_model.specs.declared.frac.Frac.{Frac}
+use Rattle.book_model.specs.declared.polynomial.Quadratic.{Quadratic}
+use Rattle.book_model.specs.declared.polynomial.Cubic.{Cubic}
+use Rattle.book_model.specs.declared.polynomial.Wave.{Wave}
+use Rattle.book_model.specs.declared.polynomial.QuadraticWave.{QuadraticWave}
+use Rattle.book_model.specs.Correction.{no_fraction}
+use Rattle.book_model.specs.Fractions.{fraction_of}
+use Rattle.book_model.specs.Expressions.{Expression, integer, constant, add, scale, power, sine, cosine}
+
+-- a0 + a1 x + a2 x^2
+unfoldable pub quadratic_of : Quadratic → Expression → Expression
+quadratic_of p x = add (add (constant (fraction_of p.constant)) (scale (fraction_of p.linear) x)) (scale (fraction_of p.square) (power x 2))
+
+-- a0 + a1 x + a2 x^2 + a3 x^3
+unfoldable pub cubic_of : Cubic → Expression → Expression
+cubic_of p x =
+    add (add (add (constant (fraction_of p.constant)) (scale (fraction_of p.linear) x)) (scale (fraction_of p.square) (power x 2))) (scale (fraction_of p.cube) (power x 3))
+
+-- a0 + a1 c + a2 c^2 + .. at an exact fraction c, to the term before that of index n
+unfoldable pub polynomial_at_to : List Frac → Fraction → ℕ → Expression
+polynomial_at_to cs c zero = integer (pos 0)
+polynomial_at_to cs c (suc n) = add (polynomial_at_to cs c n) (scale (fraction_of (slice_index_or cs n no_fraction)) (constant (fraction_power c n)))
+
+-- the polynomial with these coefficients at an exact fraction
+unfoldable pub polynomial_at : List Frac → Fraction → Expression
+polynomial_at cs c = polynomial_at_to cs c (length cs)
+
+-- the phase of a wave and its rate times x
+abbrev pub angle_of_wave : Wave → Expression → Expression
+angle_of_wave v x = add (constant (fraction_of v.phase)) (scale (fraction_of v.rate) x)
+
+-- the size of a wave times the sine of its angle
+unfoldable pub wave_of : Wave → Expression → Expression
+wave_of v x = scale (fraction_of v.size) (sine (angle_of_wave v x))
+
+-- the size of a wave times the cosine of its angle
+unfoldable pub cosine_wave_of : Wave → Expression → Expression
+cosine_wave_of v x = scale (fraction_of v.size) (cosine (angle_of_wave v x))
+
+-- the size of a wave times the sine of its angle, which is quadratic
+unfoldable pub quadratic_wave_of : QuadraticWave → Expression → Expression
+quadratic_wave_of v x = scale (fraction_of v.size) (sine (quadratic_of v.angle x))
+
+-- what stands for a wave past the last
+abbrev pub no_wave : Wave
+no_wave = record { size = no_fraction; phase = no_fraction; rate = no_fraction }
+
+-- the sum of the first n waves
+unfoldable pub waves_to : List Wave → Expression → ℕ → Expression
+waves_to vs x zero = integer (pos 0)
+waves_to vs x (suc n) = add (waves_to vs x n) (wave_of (slice_index_or vs n no_wave) x)
+
+-- the sum of the waves
+unfoldable pub waves_of : List Wave → Expression → Expression
+waves_of vs x = waves_to vs x (length vs)

@@ -1,0 +1,34 @@
+//! The shapes in which tables give polynomials and waves.
+use crate::Frac;
+
+/// The coefficients of a quadratic polynomial.
+#[derive(Clone, Copy, Debug, PartialEq, Eq)]
+pub struct Quadratic {
+    pub constant: Frac,
+    pub linear: Frac,
+    pub square: Frac,
+}
+
+/// The coefficients of a cubic polynomial.
+#[derive(Clone, Copy, Debug, PartialEq, Eq)]
+pub struct Cubic {
+    pub constant: Frac,
+    pub linear: Frac,
+    pub square: Frac,
+    pub cube: Frac,
+}
+
+/// A wave in time: its size times the sine of its phase and its rate times the time, in degrees.
+#[derive(Clone, Copy, Debug, PartialEq, Eq)]
+pub struct Wave {
+    pub size: Frac,
+    pub phase: Frac,
+    pub rate: Frac,
+}
+
+/// A wave whose angle is quadratic in time: its size times the sine of the angle, in degrees.
+#[derive(Clone, Copy, Debug, PartialEq, Eq)]
+pub struct QuadraticWave {
+    pub size: Frac,
+    pub angle: Quadratic,
+}
