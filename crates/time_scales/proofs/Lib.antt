@@ -1,0 +1,7 @@
+pub mod Powers
+pub mod JiffYears
+pub mod FourHundred
+pub mod Years
+pub mod WholePowers
+pub mod HornerLemmas
+pub mod CorrectionRows

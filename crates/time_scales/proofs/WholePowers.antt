@@ -1,0 +1,28 @@
+-- The powers of a small whole number, and the sum of a polynomial term by term.
+use Rattle.std.specs.Prelude.{◌≡◌, ℕ, ◌*◌, ◌^◌, ◌≤◌, ◌<◌, ℤ, ◌*ℤ◌, unsigned_abs, FitsSigned}
+use Rattle.std.proofs.Common.{zero, suc, arith}
+use Rattle.std.specs.Int.{w64}
+use Rattle.std.proofs.lemmas.Int.{fits_signed_mul, to_z-of_z}
+use Rattle.book_model.specs.Correction.{int_power}
+use Rattle.book_model.proofs.Corrections.{polynomial_none, polynomial_more, polynomial_all, power_none, power_more, power_size}
+
+-- the powers of 64 to the ninth fit 64 bits
+small_power : (i : ℕ) → i ≤ 8 → 64 ^ i * 64 < 2 ^ 63
+small_power zero h = omega arith
+small_power (suc zero) h = omega arith
+small_power (suc (suc zero)) h = omega arith
+small_power (suc (suc (suc zero))) h = omega arith
+small_power (suc (suc (suc (suc zero)))) h = omega arith
+small_power (suc (suc (suc (suc (suc zero))))) h = omega arith
+small_power (suc (suc (suc (suc (suc (suc zero)))))) h = omega arith
+small_power (suc (suc (suc (suc (suc (suc (suc zero))))))) h = omega arith
+small_power (suc (suc (suc (suc (suc (suc (suc (suc zero)))))))) h = omega arith
+small_power (suc (suc (suc (suc (suc (suc (suc (suc (suc i))))))))) h = absurd (omega arith)
+
+-- the next power fits 64 bits
+pub power_fits : (x p : ℤ) (i : ℕ) → unsigned_abs x ≤ 64 → i ≤ 8 → p ≡ int_power x i → FitsSigned w64 (p *ℤ x)
+power_fits x p i h k e =
+    let s : unsigned_abs p ≤ 64 ^ i = rw e (power_size x i h) in
+    fits_signed_mul w64 p x (64 ^ i) 64 s h (small_power i k)
+
+pub ruleset polynomials = (polynomial_none, polynomial_more, polynomial_all, power_none, power_more, power_fits, to_z-of_z)

@@ -1,0 +1,36 @@
+use Rattle.std.proofs.Common.{rules, arith, ◌≡◌, ◌∙◌, ap, SFits, w64, pos, ◌+ℤ◌, ◌-ℤ◌, ◌*ℤ◌}
+use Rattle.std.specs.Int.{w128}
+use Rattle.std.proofs.lemmas.Int.{to_z-of_z, ints}
+use Rattle.book_model.specs.Calendar.{year_of_day}
+use Rattle.time_scales.proofs.FourHundred.{year_repeats, division_is}
+use Rattle.time_scales.proofs.calendar.year_of.Goals as goal
+
+pub overflow_add-result : goal.overflow_add-result
+overflow_add-result c =
+    let fd = c.ranges.day in
+    let fq : SFits w128 c.div_euclid-times.result = search rules in
+    let fr : SFits w64 c.year_of_date.result = search rules in
+    let q = division_is c.args.day c.div_euclid-times.result (simp to_z-of_z at c.div_euclid-times.ensures) in
+    let ft : SFits w64 c.div_euclid-times.result = omega (arith, ints, c.requires.from, c.requires.to, q.not_above, q.close) in
+    let fm : SFits w64 (c.div_euclid-times.result *ℤ pos 400) = omega (arith, ints, c.requires.from, c.requires.to, q.not_above, q.close) in
+    simp to_z-of_z (omega (arith, ints, c.requires.from, c.requires.to, q.not_above, q.close, c.year_of_date.ensures.from, c.year_of_date.ensures.to))
+
+pub returns : goal.returns
+returns c =
+    let fd = c.ranges.day in
+    let fq : SFits w128 c.div_euclid-times.result = search rules in
+    let fr : SFits w64 c.year_of_date.result = search rules in
+    let q = division_is c.args.day c.div_euclid-times.result (simp to_z-of_z at c.div_euclid-times.ensures) in
+    let ft : SFits w64 c.div_euclid-times.result = omega (arith, ints, c.requires.from, c.requires.to, q.not_above, q.close) in
+    let fm : SFits w64 (c.div_euclid-times.result *ℤ pos 400) = omega (arith, ints, c.requires.from, c.requires.to, q.not_above, q.close) in
+    let fs : SFits w64 (c.div_euclid-times.result *ℤ pos 400 +ℤ c.year_of_date.result) = omega (arith, ints, c.requires.from, c.requires.to, q.not_above, q.close, c.year_of_date.ensures.from, c.year_of_date.ensures.to) in
+    let fp : SFits w128 (c.div_euclid-times.result *ℤ pos 146097) = omega (arith, ints, c.requires.from, c.requires.to, q.not_above, q.close) in
+    let fe : SFits w128 (c.args.day -ℤ c.div_euclid-times.result *ℤ pos 146097) = omega (arith, ints, c.requires.from, c.requires.to, q.not_above, q.close) in
+    let fl : SFits w64 (c.args.day -ℤ c.div_euclid-times.result *ℤ pos 146097) = omega (arith, ints, c.requires.from, c.requires.to, q.not_above, q.close) in
+    let named = simp to_z-of_z at c.date_of.ensures.day in
+    let year = c.year_of_date.ensures.year ∙ ap year_of_day named in
+    let rest = c.args.day -ℤ c.div_euclid-times.result *ℤ pos 146097 in
+    let back : rest +ℤ c.div_euclid-times.result *ℤ pos 146097 ≡ c.args.day = omega (arith, ints) in
+    let later = year_repeats rest c.div_euclid-times.result in
+    let same = ap year_of_day back in
+    record { year = simp to_z-of_z (omega (arith, ints, year, later, same)) }

@@ -1,0 +1,18 @@
+-- What an open test of the year says of its enclosure.
+use Rattle.std.specs.Prelude.{◌≡◌, ℕ}
+use Rattle.exact_math.specs.Interval.{Interval}
+use Rattle.book_model.specs.declared.site.Site.TheVariants.{Year}
+use Rattle.book_model.specs.declared.fail.Fail.{Fail}
+use Rattle.book_model.specs.declared.fail.Fail.TheVariants.{Undecided, Void}
+use Rattle.book_model.specs.Leading.{IsOpenCell}
+use Rattle.book_model.specs.Programs.{years}
+
+-- the year is open for this enclosure, by the test of this number
+abbrev pub IsOpenYear : Interval → ℕ → Fail → Type 0
+IsOpenYear i n (Undecided u) = IsOpenCell years i u.lo u.hi × (u.site ≡ Year) × (u.turn ≡ n)
+IsOpenYear i n (Void s) = ⊥
+
+-- a failure at the year is a year that is open for this enclosure; any other failure is elsewhere
+abbrev pub IsYearOpenFor : Interval → Fail → Type 0
+IsYearOpenFor i (Undecided u) = u.site ≡ Year → IsOpenCell years i u.lo u.hi
+IsYearOpenFor i (Void s) = Unit {0}

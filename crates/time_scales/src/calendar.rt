@@ -1,0 +1,55 @@
+//! The Gregorian calendar: the year of a day, and the first of July. Day numbers are R.D.: day 1 is 1 January of the
+//! year 1.
+ghost use Rattle.std.specs.Prelude.{◌≡◌, ◌^◌, pos, negsuc, neg_ℤ, ◌+ℤ◌, ◌≤ℤ◌, ◌<ℤ◌, unsigned_abs};
+ghost use Rattle.book_model.specs.Calendar.{fixed_of, year_of_day};
+ghost use Rattle.jiff.specs.Words.{epoch_day};
+
+use jiff::ToSpan;
+use jiff::civil::{Date, date};
+
+/// The day number of 1 January 1970.
+const EPOCH: i64 = 719_163;
+
+/// The days of 400 years, after which the calendar repeats itself.
+const DAYS_OF_400_YEARS: i128 = 146_097;
+
+/// The date of a day.
+fn date_of(day: i64) -> Date
+    requires from { pos 0 ≤ℤ day }
+    requires to { day <ℤ pos 146097 }
+    ensures day { epoch_day result +ℤ pos 719163 ≡ day }
+{
+    date(1, 1, 1).checked_add((day - 1).days()).unwrap()
+}
+
+/// The year of a date is that of its day.
+fn year_of_date(date: Date) -> i64
+    ensures year { result ≡ year_of_day (epoch_day date +ℤ pos 719163) }
+    ensures from { negsuc 9998 ≤ℤ result }
+    ensures to { result ≤ℤ pos 9999 }
+{
+    i64::from(date.year())
+}
+
+/// The Gregorian year of a day: that of the date as many times 400 years away as lies within the years 0 to 400.
+pub(crate) fn year_of(day: i128) -> i64
+    requires from { neg_ℤ (pos (2 ^ 71)) ≤ℤ day }
+    requires to { day ≤ℤ pos (2 ^ 71) }
+    ensures year { result ≡ year_of_day day }
+{
+    let times = day.div_euclid(DAYS_OF_400_YEARS);
+    let rest = day - times * DAYS_OF_400_YEARS;
+    times as i64 * 400 + year_of_date(date_of(rest as i64))
+}
+
+/// The day number of 1 July of a year.
+pub(crate) fn first_of_july(year: i64) -> i64
+    requires from { pos 1800 ≤ℤ year }
+    requires to { year ≤ℤ pos 1986 }
+    ensures day { result ≡ fixed_of (unsigned_abs year) 7 1 }
+    ensures near_from { negsuc 9999999 ≤ℤ result }
+    ensures near_to { result ≤ℤ pos 10000000 }
+{
+    let named = date(year as i16, 7, 1);
+    i64::from(named.to_plain().to_unix_epoch_day()) + EPOCH
+}

@@ -1,0 +1,184 @@
+//! Dynamical time, which flows evenly: what it is ahead of universal time in a year, and its centuries.
+ghost use Rattle.std.specs.Prelude.{◌≡◌, ◌≤◌, ◌+◌, ◌^◌, ℕ, ℤ, pos, ◌≤ℤ◌, length, IfOk, IfErr, IfSome};
+ghost use Rattle.book_model.specs.Bounds.{Reach, limits_of, IsNarrow};
+ghost use Rattle.book_model.specs.Correction.{is_between as lies_between, seconds_of};
+ghost use Rattle.book_model.specs.Expressions.{Expression, World};
+ghost use Rattle.book_model.specs.Fractions.{fraction_of};
+ghost use Rattle.book_model.specs.Leading.{Leads, next_turn};
+ghost use Rattle.book_model.specs.Relations.{Within, Narrow};
+ghost use Rattle.book_model.specs.Time.{hundreds_of, centuries_to_july, correction_of_year, correction_at, dynamical_of, from_dynamical_of, in_centuries, centuries_of};
+ghost use Rattle.time_scales.specs.Steps.{IsYearOpenFor};
+ghost use Rattle.time_scales.specs.Corrections.{row_of, IsInRow, correction_by, computed_by, computed_of, correction_bound};
+
+use crate::calendar;
+use crate::moment::year;
+use crate::polynomial::{at_fraction, at_whole};
+use book_model::{
+    CORRECTION_1800, CORRECTION_1900, CORRECTION_1987, CORRECTION_2006, CORRECTION_ANCIENT,
+    DAY_IN_CENTURIES, Fail, Frac, NOON_2000, SECOND, Site,
+};
+use encl_core::{Enclosure, Trail};
+
+/// The last day of 1899 (R.D.).
+const LAST_DAY_OF_1899: i64 = 693_596;
+
+/// A row of the table of corrections: the years from -499 to 499, or those from the named year up to the next row's;
+/// the last ends with 2050.
+#[derive(Clone, Copy, Debug, PartialEq, Eq)]
+enum Row {
+    Ancient,
+    From1800,
+    From1900,
+    From1987,
+    From2006,
+}
+
+/// Whether a year lies between two others.
+fn is_between(low: i64, high: i64, year: i64) -> bool
+    ensures between { result ≡ lies_between low high year }
+{
+    low <= year && year <= high
+}
+
+/// The row of a year, if the table has one.
+fn row_of_year(year: i64) -> Option<Row>
+    ensures row { result ≡ row_of year }
+{
+    if is_between(-499, 499, year) {
+        Some(Row::Ancient)
+    } else if is_between(1800, 1899, year) {
+        Some(Row::From1800)
+    } else if is_between(1900, 1986, year) {
+        Some(Row::From1900)
+    } else if is_between(1987, 2005, year) {
+        Some(Row::From1987)
+    } else if is_between(2006, 2050, year) {
+        Some(Row::From2006)
+    } else {
+        None
+    }
+}
+
+/// A year in hundreds of years.
+fn hundreds(year: i64) -> Frac
+    ensures value { fraction_of result ≡ hundreds_of year }
+{
+    Frac::new(i128::from(year), 100).unwrap()
+}
+
+/// 1 July of a year, in centuries from the last day of 1899.
+fn july(year: i64) -> Frac
+    requires from { pos 1800 ≤ℤ year }
+    requires to { year ≤ℤ pos 1986 }
+    ensures value { fraction_of result ≡ centuries_to_july year }
+{
+    Frac::new(
+        i128::from(calendar::first_of_july(year) - LAST_DAY_OF_1899),
+        36_525,
+    )
+    .unwrap()
+}
+
+/// A polynomial of seconds in the years from 2000 on, in days.
+#[tactic(auto, unfolding(book_model::specs::Correction::seconds_of))]
+fn seconds<E: Enclosure>(coefficients: &[Frac], year: i64) -> E
+    requires few { length coefficients.now ≤ 8 }
+    requires from { pos 1987 ≤ℤ year }
+    requires to { year ≤ℤ pos 2050 }
+    ensures holds { (w : World) → 40 ≤ w.depth → Within E.shown w (seconds_of coefficients.now year) result }
+    ensures narrow { (r : Reach) → Narrow E.shown (limits_of E.BITS) r (seconds_of coefficients.now year) result }
+{
+    at_whole::<E>(coefficients, year - 2000).mul_frac(SECOND)
+}
+
+/// The correction of a year by its row of the table, in days.
+fn correction_in_row<E: Enclosure>(row: Row, year: i64) -> E
+    requires row { IsInRow row year }
+    ensures holds { (w : World) → 40 ≤ w.depth → Within E.shown w (correction_by row year) result }
+    ensures narrow { (r : Reach) → Narrow E.shown (limits_of E.BITS) r (computed_by row year) result }
+{
+    match row {
+        Row::Ancient => at_fraction::<E>(&CORRECTION_ANCIENT, hundreds(year)).mul_frac(SECOND),
+        Row::From1800 => at_fraction::<E>(&CORRECTION_1800, july(year)),
+        Row::From1900 => at_fraction::<E>(&CORRECTION_1900, july(year)),
+        Row::From1987 => seconds::<E>(&CORRECTION_1987, year),
+        Row::From2006 => seconds::<E>(&CORRECTION_2006, year),
+    }
+}
+
+/// Dynamical time less universal time in a year, in days (Reingold and Dershowitz, Calendrical Calculations, chapter
+/// 14, ephemeris correction). It makes no test, and is void at `year` outside -499 to 499 and 1800 to 2050.
+pub fn correction<E: Enclosure>(year: i64, trail: &mut Trail) -> Result<E, Fail>
+    ensures leads { (w : World) → 40 ≤ w.depth → Leads w (Within E.shown w) (correction_of_year year) trail.old.count trail.new.count result }
+    ensures narrow { IfOk result (λ e. (r : Reach) → Narrow E.shown (limits_of E.BITS) r (computed_of year) e) }
+    ensures close { E.BITS ≡ 36 → pos 1987 ≤ℤ year → year ≤ℤ pos 2050 → IfOk result (λ e. IsNarrow 0 correction_bound (E.shown e)) }
+    ensures void { IfErr result (λ f. f ≡ Fail.Void Site.Year) }
+    ensures counted { trail.new.count ≡ trail.old.count }
+{
+    match row_of_year(year) {
+        Some(row) => Ok(correction_in_row::<E>(row, year)),
+        None => Err(Fail::Void(Site::Year)),
+    }
+}
+
+/// The correction of the year of a moment: one test, at `year`.
+#[tactic(auto, using(book_model::proofs::Leads::leading, crate::proofs::Years::opening), unfolding(book_model::specs::Time::correction_at))]
+fn correction_of_moment<E: Enclosure>(t: E, trail: &mut Trail) -> Result<E, Fail>
+    ensures leads { (w : World) (x : Expression) → Within E.shown w x t → Leads w (Within E.shown w) (correction_at x) trail.old.count trail.new.count result }
+    ensures open { IfErr result (IsYearOpenFor (E.shown t)) }
+    ensures counted { trail.new.count ≡ next_turn trail.old.count }
+{
+    match year(t, trail) {
+        Ok(year) => correction::<E>(year, trail),
+        Err(fail) => Err(fail),
+    }
+}
+
+/// The dynamical time of a moment of universal time, by the correction of that moment's year.
+#[tactic(auto, using(book_model::proofs::Leads::leading), unfolding(book_model::specs::Time::dynamical_of))]
+pub fn dynamical<E: Enclosure>(t: E, trail: &mut Trail) -> Result<E, Fail>
+    ensures leads { (w : World) (x : Expression) → Within E.shown w x t → Leads w (Within E.shown w) (dynamical_of x) trail.old.count trail.new.count result }
+    ensures open { IfErr result (IsYearOpenFor (E.shown t)) }
+    ensures counted { trail.new.count ≡ next_turn trail.old.count }
+{
+    match correction_of_moment(t, trail) {
+        Ok(correction) => Ok(t.add(correction)),
+        Err(fail) => Err(fail),
+    }
+}
+
+/// The universal time of a moment of dynamical time, by the correction of the year in which that moment lies.
+#[tactic(auto, using(book_model::proofs::Leads::leading), unfolding(book_model::specs::Time::from_dynamical_of))]
+pub fn from_dynamical<E: Enclosure>(t: E, trail: &mut Trail) -> Result<E, Fail>
+    ensures leads { (w : World) (x : Expression) → Within E.shown w x t → Leads w (Within E.shown w) (from_dynamical_of x) trail.old.count trail.new.count result }
+    ensures open { IfErr result (IsYearOpenFor (E.shown t)) }
+    ensures counted { trail.new.count ≡ next_turn trail.old.count }
+{
+    match correction_of_moment(t, trail) {
+        Ok(correction) => Ok(t.sub(correction)),
+        Err(fail) => Err(fail),
+    }
+}
+
+/// A moment, in centuries from noon of 1 January 2000.
+#[tactic(auto, unfolding(book_model::specs::Time::in_centuries))]
+pub(crate) fn to_centuries<E: Enclosure>(t: E) -> E
+    ensures holds { (w : World) (x : Expression) → Within E.shown w x t → Within E.shown w (in_centuries x) result }
+    ensures narrow { (r : Reach) (x : Expression) → Narrow E.shown (limits_of E.BITS) r x t → Narrow E.shown (limits_of E.BITS) r (in_centuries x) result }
+{
+    t.sub(E::from_frac(NOON_2000)).mul_frac(DAY_IN_CENTURIES)
+}
+
+/// The centuries of dynamical time from noon of 1 January 2000 to a moment of universal time, by the correction of
+/// the year of universal time.
+#[tactic(auto, using(book_model::proofs::Leads::leading), unfolding(book_model::specs::Time::centuries_of))]
+pub fn centuries<E: Enclosure>(t: E, trail: &mut Trail) -> Result<E, Fail>
+    ensures leads { (w : World) (x : Expression) → Within E.shown w x t → Leads w (Within E.shown w) (centuries_of x) trail.old.count trail.new.count result }
+    ensures open { IfErr result (IsYearOpenFor (E.shown t)) }
+    ensures counted { trail.new.count ≡ next_turn trail.old.count }
+{
+    match dynamical(t, trail) {
+        Ok(moment) => Ok(to_centuries(moment)),
+        Err(fail) => Err(fail),
+    }
+}

@@ -1,0 +1,25 @@
+//! Time: the Gregorian year of a moment, dynamical time and its centuries, sidereal time, and the zone of Beijing.
+//! Moments are days (R.D.) with a fraction, as enclosures. Each formula makes the tests of its definition in the same
+//! order, and its answer holds what the definition gives, at every depth from `DEPTH` on.
+//!
+//! - `year`: the one test of a moment's year; `year_of_whole_day`: that of a whole day, which is always decided;
+//! - `correction`: dynamical time less universal time in a year; `dynamical` and `from_dynamical` apply it, and
+//!   `centuries` counts from noon of 1 January 2000;
+//! - `sidereal` and `zone_beijing`;
+//! - `quadratic` and `cubic`: polynomials of enclosures, for the formulas of the crates above.
+#![tactic(auto)]
+
+mod calendar;
+mod ephemeris;
+mod moment;
+mod polynomial;
+mod sidereal_time;
+#[cfg(test)]
+mod tests;
+mod zone;
+
+pub use ephemeris::{centuries, correction, dynamical, from_dynamical};
+pub use moment::{year, year_of_whole_day};
+pub use polynomial::{cubic, quadratic};
+pub use sidereal_time::sidereal;
+pub use zone::zone_beijing;

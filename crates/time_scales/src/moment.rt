@@ -1,0 +1,71 @@
+//! The Gregorian year of a moment.
+ghost use Rattle.std.specs.Prelude.{◌≡◌, ◌≤◌, ℕ, Some, Ok, IfOk, IfErr};
+ghost use Rattle.exact_math.specs.Interval.{between};
+ghost use Rattle.book_model.specs.Calendar.{year_of_day};
+ghost use Rattle.book_model.specs.Correction.{year_of};
+ghost use Rattle.book_model.specs.Expressions.{Expression, World, integer};
+ghost use Rattle.book_model.specs.Leading.{at_56, Exact, Leads, next_turn};
+ghost use Rattle.book_model.specs.Programs.{years, cell_of, cell_at};
+ghost use Rattle.book_model.specs.Relations.{Within};
+ghost use Rattle.time_scales.specs.Steps.{IsOpenYear};
+
+use crate::calendar;
+use book_model::{Fail, Site, Undecided};
+use encl_core::{Enclosure, Span, Trail};
+
+/// A day, in 2⁻⁵⁶ of a day.
+const DAY: i128 = 72_057_594_037_927_936;
+
+/// The year of a moment that counts 2⁻⁵⁶ of a day.
+fn year_at(moment: i128) -> i64
+    ensures year { result ≡ cell_of years (at_56 moment) }
+{
+    calendar::year_of(moment.div_euclid(DAY))
+}
+
+/// The year in which both ends fall, by the test of the run that has this number.
+fn year_between(span: Span, turn: u32) -> Result<i64, Fail>
+    ensures decided { IfOk result (λ y. cell_at years (between (at_56 span.lo) (at_56 span.hi)) ≡ Some y) }
+    ensures open { IfErr result (IsOpenYear (between (at_56 span.lo) (at_56 span.hi)) turn) }
+{
+    let first = year_at(span.lo);
+    if first == year_at(span.hi) {
+        return Ok(first);
+    }
+    Err(Fail::Undecided(Undecided {
+        turn,
+        site: Site::Year,
+        lo: span.lo,
+        hi: span.hi,
+    }))
+}
+
+/// The Gregorian year of a whole day (R.D.), as a test that is always decided.
+pub fn year_of_whole_day(day: i64, trail: &mut Trail) -> i64
+    ensures year { result ≡ year_of_day day }
+    ensures leads { (w : World) → Leads w Exact (year_of (integer day)) trail.old.count trail.new.count (Ok result) }
+    ensures counted { trail.new.count ≡ next_turn trail.old.count }
+{
+    trail.step();
+    calendar::year_of(i128::from(day))
+}
+
+/// The Gregorian year of a moment (R.D.): one test, at `year`. It is undecided exactly where the ends of the moment
+/// fall in different years, and where nothing is known of the moment.
+pub fn year<E: Enclosure>(t: E, trail: &mut Trail) -> Result<i64, Fail>
+    ensures leads { (w : World) (x : Expression) → Within E.shown w x t → Leads w Exact (year_of x) trail.old.count trail.new.count result }
+    ensures decided { IfOk result (λ y. cell_at years (E.shown t) ≡ Some y) }
+    ensures open { IfErr result (IsOpenYear (E.shown t) trail.new.count) }
+    ensures counted { trail.new.count ≡ next_turn trail.old.count }
+{
+    let turn = trail.step();
+    match t.span() {
+        Some(span) => year_between(span, turn),
+        None => Err(Fail::Undecided(Undecided {
+            turn,
+            site: Site::Year,
+            lo: i128::MIN,
+            hi: i128::MAX,
+        })),
+    }
+}

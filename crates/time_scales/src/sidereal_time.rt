@@ -1,0 +1,21 @@
+//! Sidereal time.
+ghost use Rattle.std.specs.Prelude.{◌≡◌};
+ghost use Rattle.book_model.specs.Expressions.{Expression, World};
+ghost use Rattle.book_model.specs.Leading.{Leads};
+ghost use Rattle.book_model.specs.Relations.{Within};
+ghost use Rattle.book_model.specs.Time.{sidereal_of};
+
+use crate::ephemeris::to_centuries;
+use crate::polynomial::cubic;
+use book_model::{Fail, SIDEREAL_TIME};
+use encl_core::{Enclosure, Trail};
+
+/// Mean sidereal time at Greenwich at a moment of universal time, in degrees, not reduced (Reingold and Dershowitz,
+/// Calendrical Calculations, chapter 14). It makes no test and never fails.
+#[tactic(auto, using(book_model::proofs::Leads::leading), unfolding(book_model::specs::Time::sidereal_of))]
+pub fn sidereal<E: Enclosure>(t: E, trail: &mut Trail) -> Result<E, Fail>
+    ensures leads { (w : World) (x : Expression) → Within E.shown w x t → Leads w (Within E.shown w) (sidereal_of x) trail.old.count trail.new.count result }
+    ensures counted { trail.new.count ≡ trail.old.count }
+{
+    Ok(cubic(&SIDEREAL_TIME, to_centuries(t)))
+}

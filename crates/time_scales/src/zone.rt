@@ -1,0 +1,39 @@
+//! The zone of Beijing.
+ghost use Rattle.std.specs.Prelude.{◌≡◌, ◌≤◌, ℕ, IfErr};
+ghost use Rattle.book_model.specs.Bounds.{Reach, limits_of};
+ghost use Rattle.book_model.specs.Expressions.{Expression, World};
+ghost use Rattle.book_model.specs.Leading.{Leads, next_turn};
+ghost use Rattle.book_model.specs.Relations.{Within, Narrow};
+ghost use Rattle.book_model.specs.Time.{beijing_hours, zone_of_beijing};
+
+use book_model::{BEIJING_HOURS, Fail, Site};
+use encl_core::{Enclosure, Trail, less_step};
+
+/// 1 January 1929 (R.D.), when standard time began.
+const STANDARD_TIME: i64 = 704_188;
+
+/// The hours by which the time of Beijing is ahead of universal time, before 1929 and from then on.
+#[tactic(auto, unfolding(book_model::specs::Time::beijing_hours))]
+fn hours<E: Enclosure>(early: bool) -> E
+    ensures holds { (w : World) → 40 ≤ w.depth → Within E.shown w (beijing_hours early) result }
+    ensures narrow { (r : Reach) → Narrow E.shown (limits_of E.BITS) r (beijing_hours early) result }
+{
+    if early {
+        E::from_frac(BEIJING_HOURS)
+    } else {
+        E::from_int(8)
+    }
+}
+
+/// The hours by which the time of Beijing is ahead of universal time at a moment of universal time: local mean time,
+/// 1397/180 hours, before 1929, and 8 hours from then on. One test, at `zone`.
+#[tactic(auto, using(book_model::proofs::Leads::leading), unfolding(book_model::specs::Time::zone_of_beijing))]
+pub fn zone_beijing<E: Enclosure>(t: E, trail: &mut Trail) -> Result<E, Fail>
+    ensures leads { (w : World) (x : Expression) → Within E.shown w x t → Leads w (Within E.shown w) (zone_of_beijing x) trail.old.count trail.new.count result }
+    ensures counted { trail.new.count ≡ next_turn trail.old.count }
+{
+    match less_step(t, E::from_int(STANDARD_TIME), Site::Zone, trail) {
+        Ok(early) => Ok(hours::<E>(early)),
+        Err(fail) => Err(fail),
+    }
+}
