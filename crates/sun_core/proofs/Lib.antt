@@ -1,0 +1,3 @@
+pub mod WaveSums
+pub mod Scalings
+pub mod Openings

@@ -1,0 +1,60 @@
+-- Scaling twice is scaling once, by the product of the two fractions.
+use Rattle.std.proofs.Common.{◌≡◌, refl, [], ◌∷◌}
+use Rattle.exact_math.specs.Fraction.{Fraction, ◌≈◌, times}
+use Rattle.exact_math.specs.Interval.{Interval, everything, between, IsProper, IsMember, ◌⊆◌, product}
+use Rattle.exact_math.proofs.FractionRing.{same_by}
+use Rattle.exact_math.proofs.Fractions.{le_refl, le_trans}
+use Rattle.exact_math.proofs.Intervals.{product_holds, least_is, greatest_is, within_trans, within_everything}
+use Rattle.exact_math.proofs.Ring.{at, ◌⊗◌}
+use Rattle.exact_math.proofs.Same.{same_trans, same_refl, times_cong, le_of_same, ge_of_same}
+use Rattle.book_model.specs.declared.sun_tables.TheConstants.{SUN_UNIT_COARSELY, SUN_UNIT_FINELY}
+use Rattle.book_model.specs.Expressions.{Expression, World, value, exactly, scale}
+use Rattle.book_model.specs.Fractions.{fraction_of}
+use Rattle.book_model.specs.Relations.{Within, Lies}
+use Rattle.book_model.specs.Sun.{sun_unit}
+use Rattle.book_model.proofs.Values.{value_proper}
+
+-- a number of the value of a member is a member
+same_member : (i : Interval) (x y : Fraction) → x ≈ y → IsMember x i → IsMember y i
+same_member everything x y e h = tt
+same_member (between a b) x y e h = (le_trans _ _ _ h.0 (le_of_same e), le_trans _ _ _ (ge_of_same e) h.1)
+
+-- the product of a member with one number, and then with the other
+twice_member : (i : Interval) (a b f x : Fraction) → times a b ≈ f → IsMember x i → IsMember (times x f) (product (product i (exactly a)) (exactly b))
+twice_member i a b f x e m =
+    let first = product_holds i (exactly a) x a m (le_refl a, le_refl a) in
+    let second = product_holds (product i (exactly a)) (exactly b) (times x a) b first (le_refl b, le_refl b) in
+    let same : times (times x a) b ≈ times x f = same_trans (same_by (x ∷ a ∷ b ∷ []) ((at 0 ⊗ at 1) ⊗ at 2) (at 0 ⊗ (at 1 ⊗ at 2)) refl) (times_cong (same_refl x) e) in
+    same_member (product (product i (exactly a)) (exactly b)) (times (times x a) b) (times x f) same second
+
+-- an interval that holds the product of each member with a number holds the product with that number
+product_in : (i j : Interval) (f : Fraction) → IsProper i → ((x : Fraction) → IsMember x i → IsMember (times x f) j) → (i ≡ everything → j ≡ everything) → product i (exactly f) ⊆ j
+unfolding product
+product_in everything j f p h e = rw (e refl) (within_everything everything)
+product_in (between a b) everything f p h e = within_everything _
+product_in (between a b) (between c d) f p h e =
+    let l = h a (le_refl a, p) in
+    let u = h b (p, le_refl b) in
+    record { ends = (least_is c _ _ _ _ l.0 l.0 u.0 u.0, greatest_is d _ _ _ _ l.1 l.1 u.1 u.1) }
+
+whole_twice : (i : Interval) (a b : Fraction) → i ≡ everything → product (product i (exactly a)) (exactly b) ≡ everything
+unfolding product
+whole_twice i a b e = rw e refl
+
+-- a product with the product of two numbers lies within that with one and then the other
+twice_within : (i : Interval) (a b f : Fraction) → IsProper i → times a b ≈ f → product i (exactly f) ⊆ product (product i (exactly a)) (exactly b)
+twice_within i a b f p e = product_in i (product (product i (exactly a)) (exactly b)) f p (λ x m. twice_member i a b f x e m) (whole_twice i a b)
+
+-- what holds an expression scaled by two fractions holds it scaled by their product
+scaled_holds : {E : Type 0} (shown : E → Interval) (w : World) (x : Expression) (a b f : Fraction) (e : E) → times a b ≈ f → Within shown w (scale b (scale a x)) e → Within shown w (scale f x) e
+unfolding Lies value
+scaled_holds shown w x a b f e s h = record { deep = h.deep; inside = within_trans (twice_within (value w x) a b f (value_proper w x) s) h.inside }
+
+-- the two factors of the unit of the sun's waves
+unit_is : times (fraction_of SUN_UNIT_COARSELY) (fraction_of SUN_UNIT_FINELY) ≈ sun_unit
+unfolding times
+unit_is = record { cross = refl }
+
+-- what holds an expression scaled by both factors of the unit holds it scaled by the unit
+pub unit_holds : {E : Type 0} (shown : E → Interval) (w : World) (x : Expression) (e : E) → Within shown w (scale (fraction_of SUN_UNIT_FINELY) (scale (fraction_of SUN_UNIT_COARSELY) x)) e → Within shown w (scale sun_unit x) e
+unit_holds shown w x e h = scaled_holds shown w x (fraction_of SUN_UNIT_COARSELY) (fraction_of SUN_UNIT_FINELY) sun_unit e unit_is h

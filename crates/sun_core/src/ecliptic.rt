@@ -1,0 +1,20 @@
+//! The obliquity of the ecliptic.
+ghost use Rattle.std.specs.Prelude.{◌≡◌};
+ghost use Rattle.book_model.specs.Expressions.{Expression, World};
+ghost use Rattle.book_model.specs.Leading.{Leads};
+ghost use Rattle.book_model.specs.Relations.{Within};
+ghost use Rattle.book_model.specs.Sun.{obliquity_of};
+
+use book_model::{Fail, OBLIQUITY};
+use encl_core::{Enclosure, Trail};
+use time_scales::cubic;
+
+/// The obliquity of the ecliptic by the centuries from noon of 1 January 2000, in degrees (Reingold and Dershowitz,
+/// Calendrical Calculations, chapter 14). It makes no test and never fails.
+#[tactic(auto, using(book_model::proofs::Leads::leading), unfolding(book_model::specs::Sun::obliquity_of))]
+pub fn obliquity<E: Enclosure>(c: E, trail: &mut Trail) -> Result<E, Fail>
+    ensures leads { (w : World) (x : Expression) → Within E.shown w x c → Leads w (Within E.shown w) (obliquity_of x) trail.old.count trail.new.count result }
+    ensures counted { trail.new.count ≡ trail.old.count }
+{
+    Ok(cubic(&OBLIQUITY, c))
+}
