@@ -1,3 +1,3 @@
-pub mod CorrectionLemmas
 pub mod Rightness
 pub mod WidthLemmas
+pub mod DayLemmas

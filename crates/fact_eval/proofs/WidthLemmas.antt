@@ -19,7 +19,8 @@ use Rattle.book_model.specs.Correction.{int_power, polynomial_to, polynomial_of,
 use Rattle.book_model.specs.Leading.{at_56, bounds, IsOpenCell, between_cells, too_far}
 use Rattle.book_model.specs.Programs.{integers, cell_at, cell_of, when}
 use Rattle.book_model.specs.Relations.{Narrow}
-use Rattle.fact_eval.specs.Widths.{correction_expression, rounded_expression, IsFactValue, IsNearRound}
+use Rattle.time_scales.specs.Corrections.{row_of, computed_by, computed_of}
+use Rattle.fact_eval.specs.Widths.{rounded_expression, IsFactValue, IsNearRound}
 
 -- no argument is promised anything
 abbrev pub no_bound : ℕ → Bound
@@ -38,7 +39,7 @@ unfoldable pub is_rounded_well : ℤ → Bool
 is_rounded_well y = implies (bound_of limits_36 no_bound (rounded_expression y)) rounded_bound
 
 years_fit : holds_from is_rounded_well (pos 1987) 64 ≡ true
-unfolding holds_from is_rounded_well implies bound_of integer_bound constant_bound sum_bound scaled_bound rounded_expression correction_expression seconds_of polynomial_of polynomial_to int_power
+unfolding holds_from is_rounded_well implies bound_of integer_bound constant_bound sum_bound scaled_bound rounded_expression computed_of row_of computed_by seconds_of polynomial_of polynomial_to int_power
 years_fit = refl
 
 both : (p q : Bool) → (p && q) ≡ true → (p ≡ true) × (q ≡ true)
@@ -76,7 +77,7 @@ when_some : {A : Type 0} (b : Bool) (a q : A) → when b a ≡ Some q → a ≡ 
 when_some true a q e = cc
 when_some false a q e = absurd (cc)
 
-pub floor_is_value : (i : Interval) (q : ℤ) → IsNarrow 0 rounded_bound i → cell_at integers i ≡ Some q → IsFactValue q
+floor_is_value : (i : Interval) (q : ℤ) → IsNarrow 0 rounded_bound i → cell_at integers i ≡ Some q → IsFactValue q
 unfolding cell_at cell_of IsNarrow
 floor_is_value everything q h e = absurd h
 floor_is_value (between lo hi) q h e =
@@ -101,16 +102,16 @@ unfolding IsNarrow
 close_ends a b lo hi l r h = le_trans _ _ _ (le_of_same r) (le_trans _ _ _ h.close (plus_mono _ _ _ _ (ge_of_same l) (le_refl _)))
 
 -- the ends of an open floor of what keeps the bound are at most 2^-6 apart
-pub open_floor_close : (i : Interval) (lo hi : ℤ) → IsNarrow 0 rounded_bound i → IsOpenCell integers i lo hi → (hi -ℤ lo) ≤ℤ pos (2 ^ 50)
+open_floor_close : (i : Interval) (lo hi : ℤ) → IsNarrow 0 rounded_bound i → IsOpenCell integers i lo hi → (hi -ℤ lo) ≤ℤ pos (2 ^ 50)
 open_floor_close i lo hi h (too_far q e n b) = absurd (n (value_fits q (floor_is_value i q h e)))
 open_floor_close everything lo hi h (between_cells e k) = absurd (nothing_narrow h)
 open_floor_close (between a b) lo hi h (between_cells e (bounds l r)) = apart_at_most lo hi (close_ends a b lo hi l r h)
 
--- an open floor of what keeps the bound is a near rounding
-pub near_round : (i : Interval) (f : Fail) → IsNarrow 0 rounded_bound i → IsOpenFloor i Round f → IsNearRound f
-near_round i (undecided_at u) h o = (o.1, open_floor_close i u.lo u.hi h o.0)
-near_round i (Void s) h o = tt
+-- an open floor of what keeps the bound from 1987 on is a near rounding
+pub near_round : (i : Interval) (y : ℤ) (f : Fail) → (pos 1987 ≤ℤ y → y ≤ℤ pos 2050 → IsNarrow 0 rounded_bound i) → IsOpenFloor i Round f → IsNearRound y f
+near_round i y (undecided_at u) h o = (o.1, λ a b. open_floor_close i u.lo u.hi (h a b) o.0)
+near_round i y (Void s) h o = tt
 
 -- a void is no open test
-pub void_is_no_test : (f : Fail) → f ≡ Void Year → IsNearRound f
-void_is_no_test f e = rw e tt
+pub void_is_no_test : (y : ℤ) (f : Fail) → f ≡ Void Year → IsNearRound y f
+void_is_no_test y f e = rw e tt

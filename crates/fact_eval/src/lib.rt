@@ -1,11 +1,10 @@
 //! Answers facts by computing enclosures of their formulas.
 #![tactic(auto)]
 
-mod correction;
 mod dt;
+mod longitude;
 mod staged;
 #[cfg(test)]
 mod tests;
-mod year;
 
 pub use staged::Staged;

@@ -1,12 +1,14 @@
 //! The evaluator of the program: each fact's formula over enclosures.
 ghost use Rattle.std.specs.Prelude.{◌≡◌, ◌≤◌, IfOk, IfErr};
+ghost use Rattle.book_model.specs.Calendar.{year_of_day};
 ghost use Rattle.book_model.specs.Expressions.{World};
 ghost use Rattle.book_model.specs.Facts.{program_of};
 ghost use Rattle.book_model.specs.Leading.{Exact, Leads};
 ghost use Rattle.fact_eval.specs.Answers.{answer_of};
-ghost use Rattle.fact_eval.specs.Widths.{IsNearRound, IsFactValue};
+ghost use Rattle.fact_eval.specs.Widths.{IsNearFor, IsFactValue};
 
 use crate::dt::dt;
+use crate::longitude::sun_in_thousandths;
 use book_model::{Fact, Fail, Kind, Site};
 use encl_core::{Coarse, Enclosure, Trail};
 use oracle_core::{Answer, Evaluator};
@@ -30,8 +32,8 @@ impl Staged {
 /// The value of a fact by its formula. It fails where a test is open, or where the formula is void.
 pub(crate) fn evaluate<E: Enclosure>(fact: Fact, trail: &mut Trail) -> Result<i64, Fail>
     ensures leads { (w : World) → 40 ≤ w.depth → Leads w Exact (program_of fact) trail.old.count trail.new.count result }
-    ensures value { E.BITS ≡ 36 → IfOk result IsFactValue }
-    ensures open { E.BITS ≡ 36 → IfErr result IsNearRound }
+    ensures value { IfOk result IsFactValue }
+    ensures open { E.BITS ≡ 36 → IfErr result (IsNearFor fact.kind (year_of_day fact.day)) }
 {
     let day = fact.day();
     if day < FIRST_DAY || LAST_DAY < day {
@@ -39,6 +41,7 @@ pub(crate) fn evaluate<E: Enclosure>(fact: Fact, trail: &mut Trail) -> Result<i6
     }
     match fact.kind() {
         Kind::Dt => dt::<E>(day, trail),
+        Kind::Sun => sun_in_thousandths::<E>(day, trail),
     }
 }
 

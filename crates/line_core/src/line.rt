@@ -1,9 +1,8 @@
 //! What a line asks, or the first rule that it breaks.
-ghost use Rattle.std.specs.Prelude.{◌≡◌, ◌≤◌, ◌↔◌, pos, int_le, ◌&&◌, ◌∷◌, [], nat_le, not, length, position, IsTrue, IsSome, IfSome, IfOk, MatchOption};
+ghost use Rattle.std.specs.Prelude.{◌≡◌, ◌≤◌, ◌↔◌, ◌&&◌, ◌∷◌, [], nat_le, not, length, position, IsTrue, IsSome, IfSome, IfOk, MatchOption};
 ghost use Rattle.std.specs.List.{list_all, position_or_len};
-ghost use Rattle.book_model.specs.Calendar.{year_of_day};
 ghost use Rattle.book_model.specs.Lines as spec;
-ghost use Rattle.book_model.specs.Requests.{request_of, with_words, from_word_of, to_word_of, day_of, is_in_range, ranged as ranged_of, is_year_for as is_year_for_word};
+ghost use Rattle.book_model.specs.Requests.{request_of, with_words, from_word_of, to_word_of, day_of, is_in_range, ranged as ranged_of};
 ghost use Rattle.line_core.specs.Days.{names_day};
 
 use crate::day::{date_fields, request_day};
@@ -17,9 +16,6 @@ const FIRST_DAY: i64 = 657_802;
 
 /// The last day that a line may name: 31 December 2048 (R.D.).
 const LAST_DAY: i64 = 748_017;
-
-/// The first day of the years of which the dynamical time correction is known: 1 January 1987 (R.D.).
-const FIRST_CORRECTED_DAY: i64 = 725_372;
 
 /// The three words of a line: the calendar of its date, the date, and what it asks.
 #[derive(Clone, Copy, Debug)]
@@ -132,29 +128,14 @@ fn to_word(word: &[u8]) -> Option<ToWord>
         Some(ToWord::Fixed)
     } else if word == b"dt".as_slice() {
         Some(ToWord::Dt)
+    } else if word == b"sun".as_slice() {
+        Some(ToWord::Sun)
     } else {
         None
     }
 }
 
-/// Whether the dynamical time correction of the year of a day (R.D.) is known: from 1987 on.
-fn is_corrected(day: i64) -> bool
-    ensures year { result ≡ int_le (pos 1987) (year_of_day day) }
-{
-    FIRST_CORRECTED_DAY <= day
-}
-
-/// Whether a line may ask this of the year of a day (R.D.): the dynamical time correction from 1987 on.
-fn is_year_for(to: ToWord, day: i64) -> bool
-    ensures year { result ≡ is_year_for_word to day }
-{
-    match to {
-        ToWord::Gregorian | ToWord::Fixed => true,
-        ToWord::Dt => is_corrected(day),
-    }
-}
-
-/// The request, where its day is one that a line may name, and what it asks is known for its year.
+/// The request, where its day is one that a line may name.
 fn ranged(request: Request) -> Result<Request, Rule>
     requires dated { IsTrue (names_day request.from request.date) }
     ensures ranged { result ≡ ranged_of request }
@@ -162,7 +143,7 @@ fn ranged(request: Request) -> Result<Request, Rule>
     ensures near { IfOk result (λ r. IsTrue (is_in_range (day_of r.from r.date))) }
 {
     let day = request_day(&request);
-    if FIRST_DAY <= day && day <= LAST_DAY && is_year_for(request.to, day) {
+    if FIRST_DAY <= day && day <= LAST_DAY {
         Ok(request)
     } else {
         Err(Rule::Range)
@@ -183,7 +164,7 @@ fn asked(words: Words<'_>) -> Result<Request, Rule>
 
 /// What a line asks, which names a day, or the first rule that it breaks: `Syntax` where it isn't three words of printable bytes
 /// with blanks between them, in 200 bytes at most; `Calendar` for a word that isn't known; `Field` where the
-/// calendar has no such date; `Range` for a day or a year that isn't answered.
+/// calendar has no such date; `Range` for a day that isn't answered.
 pub fn read_line(bytes: &[u8]) -> Result<Request, Rule>
     ensures request { result ≡ request_of bytes.now }
     ensures dated { IfOk result (λ r. IsTrue (names_day r.from r.date)) }

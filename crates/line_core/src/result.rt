@@ -1,7 +1,7 @@
 //! What a request comes to.
 ghost use Rattle.std.specs.Prelude.{◌≡◌, ◌↔◌, ◌≤ℤ◌, ℤ, pos, negsuc, IsTrue, IfOk, IfErr};
 ghost use Rattle.book_model.specs.declared.fact.Fact.{Fact};
-ghost use Rattle.book_model.specs.Inquiries.{dt_fact, to_32_bits as nearest, one_field as one_field_of, result_on, rule_of};
+ghost use Rattle.book_model.specs.Inquiries.{dt_fact, sun_fact, to_32_bits as nearest, one_field as one_field_of, result_on, rule_of};
 ghost use Rattle.book_model.specs.Requests.{day_of, is_in_range};
 ghost use Rattle.line_core.specs.Days.{names_day};
 ghost use Rattle.oracle_core.specs.Inquiring.{HasAnswer, StopsAt};
@@ -19,6 +19,15 @@ fn dt_fact_on(day: i64) -> Fact
     ensures { result ≡ dt_fact day }
 {
     Fact::new(Kind::Dt, Place::None, day).unwrap()
+}
+
+/// The fact of the longitude of the sun on a day (R.D.).
+fn sun_fact_on(day: i64) -> Fact
+    requires low { negsuc 39999999 ≤ℤ day }
+    requires high { day ≤ℤ pos 40000000 }
+    ensures { result ≡ sun_fact day }
+{
+    Fact::new(Kind::Sun, Place::None, day).unwrap()
 }
 
 /// The nearest number of 32 bits.
@@ -60,6 +69,10 @@ fn resolve_day<O: Oracle>(oracle: &mut O, to: ToWord, day: i64) -> Result<Resolv
         ToWord::Fixed => Ok(Resolved::Shown(to, one_field(day))),
         ToWord::Dt => {
             let value = oracle.ask(dt_fact_on(day))?;
+            Ok(Resolved::Shown(to, one_field(value)))
+        }
+        ToWord::Sun => {
+            let value = oracle.ask(sun_fact_on(day))?;
             Ok(Resolved::Shown(to, one_field(value)))
         }
     }

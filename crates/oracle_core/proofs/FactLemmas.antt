@@ -1,14 +1,14 @@
 -- The equality of facts that sets of facts use is that of the definitions.
-use Rattle.std.proofs.Common.{◌≡◌, Bool, true, false, ◌&&◌, refl, List, [], ◌∷◌, ◌==◌, arith, ℤ}
+use Rattle.std.proofs.Common.{◌≡◌, Bool, true, false, ◌&&◌, refl, sym, ◌∙◌, List, [], ◌∷◌, ◌++◌, ◌==◌, arith, ℤ}
 use Rattle.std.proofs.lemmas.Int.{ints}
 use Rattle.std.specs.Ordering.{int_eq}
 use Rattle.std.specs.List.{list_any, position_or_len, position}
 use Rattle.book_model.specs.declared.fact.Fact.{Fact}
 use Rattle.book_model.specs.declared.fact.Kind.{Kind}
-use Rattle.book_model.specs.declared.fact.Kind.TheVariants.{Dt}
+use Rattle.book_model.specs.declared.fact.Kind.TheVariants.{Dt, Sun}
 use Rattle.book_model.specs.declared.fact.Place.{Place}
 use Rattle.book_model.specs.declared.fact.Place.TheVariants.{None as Nowhere, Beijing, Cairo, Tehran, Ujjain}
-use Rattle.book_model.specs.Inquiries.{fact_eq, kind_number, place_number}
+use Rattle.book_model.specs.Inquiries.{fact_eq, with_fact, kind_number, place_number}
 use Rattle.book_model.specs.contracts.fact.FactPartialEq.TheImpl as derived
 use Rattle.book_model.specs.contracts.fact.KindPartialEq.TheImpl as derived_kind
 use Rattle.book_model.specs.contracts.fact.PlacePartialEq.TheImpl as derived_place
@@ -16,6 +16,9 @@ use Rattle.book_model.specs.contracts.fact.PlacePartialEq.TheImpl as derived_pla
 -- kinds are equal where their numbers are
 same_kind_eq : (k l : Kind) → derived_kind.eq-value.it k l ≡ (kind_number k == kind_number l)
 same_kind_eq Dt Dt = refl
+same_kind_eq Dt Sun = refl
+same_kind_eq Sun Dt = refl
+same_kind_eq Sun Sun = refl
 
 -- places are equal where their numbers are
 same_place_eq : (p q : Place) → derived_place.eq-value.it p q ≡ (place_number p == place_number q)
@@ -45,9 +48,13 @@ same_place_eq Ujjain Cairo = refl
 same_place_eq Ujjain Tehran = refl
 same_place_eq Ujjain Ujjain = refl
 
--- three tests, two of which have the same answers
-same_three : (a b c d e : Bool) → a ≡ b → c ≡ d → ((a && c) && e) ≡ ((b && d) && e)
-same_three a b c d e h k = rw (h, k) refl
+-- three tests in either grouping, two of which have the same answers
+regroup : (b d e : Bool) → (b && (d && e)) ≡ ((b && d) && e)
+regroup true d e = refl
+regroup false d e = refl
+
+same_three : (a b c d e : Bool) → a ≡ b → c ≡ d → (a && (c && e)) ≡ ((b && d) && e)
+same_three a b c d e h k = rw (h, k) (regroup b d e)
 
 -- the code's test of two facts is that of the definitions
 pub same_fact_eq : (f g : Fact) → derived.eq-value.it f g ≡ fact_eq f g
@@ -57,6 +64,10 @@ same_fact_eq f g = same_three _ _ _ _ _ (same_kind_eq f.kind g.kind) (same_place
 pub same_any : (f : Fact) (seen : List Fact) → list_any (derived.eq-value.it f) seen ≡ list_any (fact_eq f) seen
 same_any f [] = refl
 same_any f (g ∷ seen) = rw (same_fact_eq f g, same_any f seen) refl
+
+-- a fact that is not among facts is added at the end
+pub added : (f : Fact) (keys seen : List Fact) → keys ≡ seen → false ≡ list_any (derived.eq-value.it f) keys → seen ++ f ∷ [] ≡ with_fact seen f
+added f keys seen h d = let e = rw h at d in let n : list_any (fact_eq f) seen ≡ false = sym (e ∙ same_any f seen) in rw n refl
 
 -- a fact has one place among facts by either test
 pub same_position : (f : Fact) (seen : List Fact) → position_or_len (derived.eq-value.it f) seen ≡ position_or_len (fact_eq f) seen
@@ -70,6 +81,9 @@ same_place f seen = rw (same_position f seen) refl
 -- kinds with one number are one
 one_kind : (k l : Kind) → (kind_number k == kind_number l) ≡ true → k ≡ l
 one_kind Dt Dt h = refl
+one_kind Dt Sun h = cc
+one_kind Sun Dt h = cc
+one_kind Sun Sun h = refl
 
 -- places with one number are one
 one_place : (p q : Place) → (place_number p == place_number q) ≡ true → p ≡ q

@@ -41,7 +41,10 @@ fn a_day_number_is_one_field(rt: HostRuntime) {
         ("fixed -738926 fixed", Err(Rule::Field)),
         ("fixed 73892x fixed", Err(Rule::Field)),
         ("fixed 725372 dt", fixed(725_372, ToWord::Dt)),
-        ("fixed 725371 dt", Err(Rule::Range)),
+        ("fixed 725371 dt", fixed(725_371, ToWord::Dt)),
+        ("fixed 657801 dt", Err(Rule::Range)),
+        ("fixed 738926 sun", fixed(738_926, ToWord::Sun)),
+        ("sun 738926 fixed", Err(Rule::Calendar)),
         ("fixed 738926 mayan", Err(Rule::Calendar)),
         ("dt 738926 fixed", Err(Rule::Calendar)),
     ] {
@@ -118,8 +121,8 @@ fn the_calendar_has_the_date(rt: HostRuntime) {
 fn the_year_is_in_range(rt: HostRuntime) {
     for (line, want) in [
         ("gregorian 1801-12-31 dt", Err(Rule::Range)),
-        ("gregorian 1802-1-1 dt", Err(Rule::Range)),
-        ("gregorian 1986-12-31 dt", Err(Rule::Range)),
+        ("gregorian 1802-1-1 dt", on(1802, 1, 1)),
+        ("gregorian 1986-12-31 dt", on(1986, 12, 31)),
         ("gregorian 1987-1-1 dt", on(1987, 1, 1)),
         ("gregorian 2048-12-31 dt", on(2048, 12, 31)),
         ("gregorian 2049-1-1 dt", Err(Rule::Range)),
