@@ -19,7 +19,7 @@ const LINES: &str = "gregorian 2024-02-10 dt\n\
     gregorian  1990-1-1\tdt\n\
     foo 2024-1-1 dt\n\
     gregorian 2024-13-1 dt\n\
-    gregorian 1986-1-1 dt\n\
+    gregorian 1801-12-31 dt\n\
     gregorian 2048-12-31 dt";
 
 const LINES_TEXT: &str = "calendrica 1 depth 40\n\

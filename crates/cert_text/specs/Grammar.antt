@@ -2,10 +2,11 @@
 use Rattle.std.specs.Prelude.{ℕ, ◌==◌, ◌&&◌, not, nat_le, nat_lt, nat_eq, if◌then◌else◌, Bool, true, false, List, [], ◌∷◌, codes, ℤ, pos, negsuc, Some, None, Option, option_and_then}
 use lib.Pointwise.{pointwise}
 use Rattle.book_model.specs.declared.site.Site.{Site}
-use Rattle.book_model.specs.declared.site.Site.TheVariants.{Year, Zone, SunWrap, MoonWrap, PhaseWrap, PhasePick, MoonNumber, MoonWalk, StepWrap, StartFloor, DayTest, DayFloor, TermFloor, Search, BisectEnd, Bisect, Offset, Settle, Round, Crescent, Sidereal}
+use Rattle.book_model.specs.declared.site.TheConstants.{SITES}
 use Rattle.book_model.specs.declared.fact.Fact.{Fact}
+use Rattle.book_model.specs.declared.fact.TheConstants.{KINDS, PLACES}
 use Rattle.book_model.specs.declared.fact.Kind.{Kind}
-use Rattle.book_model.specs.declared.fact.Kind.TheVariants.{Dt}
+use Rattle.book_model.specs.declared.fact.Kind.TheVariants.{Dt, Sun}
 use Rattle.book_model.specs.declared.fact.Place.{Place}
 use Rattle.book_model.specs.declared.fact.Place.TheVariants.{None as Nowhere, Beijing, Cairo, Tehran, Ujjain}
 use Rattle.book_model.specs.declared.fail.Undecided.{Undecided as OpenTest}
@@ -98,21 +99,21 @@ kind_in [] word = None
 kind_in (k ∷ ks) word = if is_word (kind_name k) word then Some k else kind_in ks word
 
 abbrev pub kinds : List Kind
-kinds = Dt ∷ []
+kinds = KINDS
 
 abbrev pub place_in : List Place → List ℕ → Option Place
 place_in [] word = None
 place_in (p ∷ ps) word = if is_word (place_name p) word then Some p else place_in ps word
 
 abbrev pub places : List Place
-places = Nowhere ∷ Beijing ∷ Cairo ∷ Tehran ∷ Ujjain ∷ []
+places = PLACES
 
 abbrev pub site_in : List Site → List ℕ → Option Site
 site_in [] word = None
 site_in (s ∷ ss) word = if is_word (site_name s) word then Some s else site_in ss word
 
 abbrev pub sites : List Site
-sites = Year ∷ Zone ∷ SunWrap ∷ MoonWrap ∷ PhaseWrap ∷ PhasePick ∷ MoonNumber ∷ MoonWalk ∷ StepWrap ∷ StartFloor ∷ DayTest ∷ DayFloor ∷ TermFloor ∷ Search ∷ BisectEnd ∷ Bisect ∷ Offset ∷ Settle ∷ Round ∷ Crescent ∷ Sidereal ∷ []
+sites = SITES
 
 unfoldable pub kind_at : List (List ℕ) → Option (Kind × List (List ℕ))
 kind_at ws = do
@@ -139,6 +140,11 @@ is_place_of Dt Beijing = false
 is_place_of Dt Cairo = false
 is_place_of Dt Tehran = false
 is_place_of Dt Ujjain = false
+is_place_of Sun Nowhere = true
+is_place_of Sun Beijing = false
+is_place_of Sun Cairo = false
+is_place_of Sun Tehran = false
+is_place_of Sun Ujjain = false
 
 -- the fact, where the place is one of the kind's places
 abbrev pub fact_with : Kind → Place → ℤ → Option Fact

@@ -36,9 +36,10 @@ impl Gathered {
         self.bytes
     }
 
-    /// Forgets the bytes that were gathered.
+    /// Forgets the bytes that were gathered, and keeps the count of faults.
     pub fn clear(&mut self)
         ensures bytes { self.new.bytes.items ≡ [] }
+        ensures faults { self.new.faults ≡ self.old.faults }
     {
         self.bytes.clear();
     }

@@ -5,44 +5,7 @@ ghost use Rattle.cert_text.specs.Gives.{Gives};
 ghost use Rattle.cert_text.specs.Grammar as spec;
 
 use crate::words::word_at;
-use book_model::{Kind, Place, Site};
-
-/// All kinds of facts.
-const KINDS: [Kind; 1] = [Kind::Dt];
-
-/// All places.
-const PLACES: [Place; 5] = [
-    Place::None,
-    Place::Beijing,
-    Place::Cairo,
-    Place::Tehran,
-    Place::Ujjain,
-];
-
-/// All sites.
-const SITES: [Site; 21] = [
-    Site::Year,
-    Site::Zone,
-    Site::SunWrap,
-    Site::MoonWrap,
-    Site::PhaseWrap,
-    Site::PhasePick,
-    Site::MoonNumber,
-    Site::MoonWalk,
-    Site::StepWrap,
-    Site::StartFloor,
-    Site::DayTest,
-    Site::DayFloor,
-    Site::TermFloor,
-    Site::Search,
-    Site::BisectEnd,
-    Site::Bisect,
-    Site::Offset,
-    Site::Settle,
-    Site::Round,
-    Site::Crescent,
-    Site::Sidereal,
-];
+use book_model::{KINDS, Kind, PLACES, Place, SITES, Site};
 
 /// The first of the kinds with this name.
 fn kind_among(kinds: &[Kind], word: &[u8]) -> Option<Kind>

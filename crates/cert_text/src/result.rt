@@ -68,8 +68,8 @@ fn write_value<K: Sink>(sink: &mut K, fields: &Fields) -> Result<(), Failed>
     write_all(sink, decimal(&mut buffer, fields.values[0]))
 }
 
-/// Writes the text of a result: a Gregorian date with four, two and two digits, a day number or a number of
-/// milliseconds with a minus sign where it is below 0. At an error, which comes only where the count of the sink's
+/// Writes the text of a result: a Gregorian date with four, two and two digits, a day number, or a number of
+/// milliseconds or of thousandths of a degree, with a minus sign where it is below 0. At an error, which comes only where the count of the sink's
 /// faults rose, a front of the text was written.
 pub fn write_result<K: Sink>(sink: &mut K, resolved: Resolved) -> Result<(), Failed>
     ensures ok { OnOk result (Appends (K.written sink.old) (K.written sink.new) (spec.result_text resolved)) }
@@ -79,8 +79,7 @@ pub fn write_result<K: Sink>(sink: &mut K, resolved: Resolved) -> Result<(), Fai
     let Resolved::Shown(to, fields) = resolved;
     match to {
         ToWord::Gregorian => write_gregorian(sink, &fields),
-        ToWord::Fixed => write_value(sink, &fields),
-        ToWord::Dt => write_value(sink, &fields),
+        ToWord::Fixed | ToWord::Dt | ToWord::Sun => write_value(sink, &fields),
     }
 }
 

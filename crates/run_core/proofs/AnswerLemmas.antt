@@ -7,9 +7,9 @@ use Rattle.book_model.specs.declared.site.Site.{Site}
 use Rattle.book_model.specs.declared.request.Request.{Request}
 use Rattle.book_model.specs.declared.request.Resolved.{Resolved}
 use Rattle.book_model.specs.declared.request.ToWord.{ToWord}
-use Rattle.book_model.specs.declared.request.ToWord.TheVariants.{Gregorian, Fixed, Dt}
+use Rattle.book_model.specs.declared.request.ToWord.TheVariants.{Gregorian, Fixed, Dt, Sun}
 use Rattle.book_model.specs.Facts.{run_of}
-use Rattle.book_model.specs.Inquiries.{done, ask, dt_fact, result_on, rule_of, facts_over, found, finding, finding_after, AsksAt, asks_here}
+use Rattle.book_model.specs.Inquiries.{done, ask, dt_fact, sun_fact, result_on, rule_of, facts_over, found, finding, finding_after, AsksAt, asks_here}
 use Rattle.book_model.specs.Outcomes.{LineOutcome, refused, resolved, undecided, void, IsRightFor}
 use Rattle.book_model.specs.Programs.{Outcome, valued, void_at, open_at, outcome}
 use Rattle.book_model.specs.Requests.{request_of, day_of}
@@ -69,6 +69,7 @@ finds_on : (n : ℕ) (to : ToWord) (day : ℤ) (x : Resolved) (es : List (Fact �
 finds_on n Gregorian day x es deep all h = finds_done n _ x es deep h
 finds_on n Fixed day x es deep all h = finds_done n _ x es deep h
 finds_on n Dt day x es deep all h = finds_one n (dt_fact day) _ x es deep all h
+finds_on n Sun day x es deep all h = finds_one n (sun_fact day) _ x es deep all h
 
 -- an answer of the oracle makes a right result
 pub right_result : (r : Request) (x : Resolved) (es : List (Fact × ℤ)) → AllStand es → HasAnswer StandsWith (λ f. f) (rule_of r) [] (facts_of es) x → IsRightOf r (resolved x es)
@@ -89,6 +90,7 @@ asks_on : (n : ℕ) (to : ToWord) (day : ℤ) (before : List Fact) (f : Fact) �
 asks_on n Gregorian day before f h = absurd (front_of_none before f h)
 asks_on n Fixed day before f h = absurd (front_of_none before f h)
 asks_on n Dt day before f h = let e : f ≡ dt_fact day = front_of_one before f (dt_fact day) h in rw e asks_here
+asks_on n Sun day before f h = let e : f ≡ sun_fact day = front_of_one before f (sun_fact day) h in rw e asks_here
 
 -- an open test at which the oracle stops makes a right outcome
 right_undecided : (r : Request) (f : Fact) (u : Undecided) (new : List Fact) → StopsAt StandsWith (λ g. g) MayStopAsking (rule_of r) [] new (undecided_stop f u) → IsRightOf r (undecided f u)

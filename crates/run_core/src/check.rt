@@ -7,16 +7,13 @@ ghost use Rattle.cert_text.specs.Stream.{Rose, HasCause, AppendsFront, Wrote};
 ghost use Rattle.run_core.specs.Checking as spec;
 
 use crate::numbering::{count_of, number_after};
-use crate::pending::settle;
+use crate::pending::{MANY, settle};
 use crate::text::WriteStop;
 use cert_check::{Verdict, check_facts, check_line, write_counts, write_verdict};
 use cert_text::{CertFile, Failed, Gathered, ReadFail, Sink, decimal, read_file, write_parts};
 use itoa::Buffer;
 use oracle_core::{Answers, Evaluator};
 use std::alloc::{AllocError, Global};
-
-/// How many bytes may wait before they are written.
-const MANY: usize = 65536;
 
 /// What comes of checking bytes: every verdict is yes, or one isn't, or the bytes aren't a printed file.
 #[derive(Clone, Copy, Debug, PartialEq, Eq)]

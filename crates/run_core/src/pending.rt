@@ -4,6 +4,9 @@ ghost use Rattle.cert_text.specs.Stream.{HasCause, AppendsFront, Wrote};
 
 use cert_text::{Failed, Gathered, Sink, write_all};
 
+/// How many bytes may wait before they are written.
+pub(crate) const MANY: usize = 65536;
+
 /// Writes the bytes that wait, where they are more than so many. At an error a front of them was written.
 #[tactic(auto, using(cert_text::proofs::Flow::wrote_whole))]
 pub(crate) fn settle<K: Sink>(

@@ -10,7 +10,7 @@ ghost use Rattle.run_core.specs.declared.text.WriteStop.TheVariants.{Fault, Memo
 use crate::blocks::block_of;
 use crate::numbering::{count_of, number_after};
 use crate::outcome::Outcome;
-use crate::pending::settle;
+use crate::pending::{MANY, settle};
 use book_model::Fact;
 use cert_text::{Failed, Gathered, Sink, write_block, write_end, write_header};
 use indexmap::IndexSet;
@@ -38,9 +38,6 @@ impl From<AllocError> for WriteStop {
         WriteStop::Memory
     }
 }
-
-/// How many bytes may wait before they are written.
-const MANY: usize = 65536;
 
 /// Puts the block of a line behind the bytes that wait, and writes them all once they are many.
 fn put_block<K: Sink>(
