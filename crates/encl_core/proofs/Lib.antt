@@ -9,3 +9,4 @@ pub mod Knowing
 pub mod Divisions
 pub mod Periods
 pub mod PiEnds
+pub mod Searching

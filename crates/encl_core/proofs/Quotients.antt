@@ -1,10 +1,11 @@
 -- Rounded quotients, over plain numbers.
-use Rattle.std.proofs.Common.{◌≡◌, ℕ, zero, suc, refl, arith, ℤ, pos, negsuc, ◌+ℤ◌, ◌*ℤ◌, ◌-ℤ◌, ◌≤ℤ◌, ◌<ℤ◌, [], ◌∷◌}
+use Rattle.std.proofs.Common.{◌≡◌, ℕ, zero, suc, ◌+◌, ◌-◌, ◌*◌, ◌/◌, ◌^◌, ◌≤◌, ◌<◌, refl, arith, ℤ, pos, negsuc, ◌+ℤ◌, ◌*ℤ◌, ◌-ℤ◌, ◌≤ℤ◌, ◌<ℤ◌, [], ◌∷◌}
+use Rattle.std.specs.Prelude.{int_div, neg_ℤ}
 use Rattle.std.specs.Int.{int_div_euclid}
 use Rattle.std.proofs.lemmas.Int.{ints, by_lt_z}
 use Rattle.exact_math.specs.Fraction.{floor_quotient}
 use Rattle.exact_math.proofs.Ring.{at, lit, ◌⊕◌, ◌⊖◌, ◌⊗◌}
-use Rattle.exact_math.proofs.Bounds.{◌≼◌, known, ◌⊞◌, ◌⊠◌, le_by, le_over, refute}
+use Rattle.exact_math.proofs.Bounds.{◌≼◌, known, ◌⊞◌, ◌⊠◌, times as naturally, le_by, le_over, refute}
 use Rattle.exact_math.proofs.Floors.{floor_quotient_is}
 use Rattle.encl_core.specs.Rounding.{IsFloor, IsCeiling, AreSorted}
 
@@ -26,6 +27,37 @@ floor_div_is (pos n) (pos (suc d)) h = record { not_above = omega (arith, ints);
 floor_div_is (negsuc n) (pos (suc d)) h = record { not_above = omega (arith, ints); close = omega (arith, ints) }
 floor_div_is n (pos zero) h = absurd (omega (arith, ints))
 floor_div_is n (negsuc d) h = absurd (omega (arith, ints))
+
+-- the quotient towards 0 of a number that isn't negative is rounded down
+pub quotient_down : (n d : ℤ) → pos 0 ≤ℤ n → pos 0 <ℤ d → IsFloor (int_div n d) n d
+quotient_down (pos n) (pos (suc d)) h o = record { not_above = omega (arith, ints); close = omega (arith, ints) }
+quotient_down (negsuc n) d h o = absurd (omega (arith, ints))
+quotient_down n (pos zero) h o = absurd (omega (arith, ints))
+quotient_down n (negsuc d) h o = absurd (omega (arith, ints))
+
+below_zero : (q d n : ℕ) → q * suc d ≤ suc n → suc n < q * suc d + suc d → IsCeiling (neg_ℤ (pos q)) (negsuc n) (pos (suc d))
+below_zero zero d n h k = record { not_below = omega (arith, ints); close = omega (arith, ints) }
+below_zero (suc q) d n h k = record { not_below = omega (arith, ints); close = omega (arith, ints) }
+
+-- and that of a number that isn't positive is rounded up
+pub quotient_up : (n d : ℤ) → n ≤ℤ pos 0 → pos 0 <ℤ d → IsCeiling (int_div n d) n d
+quotient_up (pos n) (pos (suc d)) h o = record { not_below = omega (arith, ints); close = omega (arith, ints) }
+quotient_up (negsuc n) (pos (suc d)) h o = below_zero (suc n / suc d) d n (omega arith) (omega arith)
+quotient_up n (pos zero) h o = absurd (omega (arith, ints))
+quotient_up n (negsuc d) h o = absurd (omega (arith, ints))
+
+-- one less than the quotient of n + 1, rounded up, is that of n, rounded down
+pub floor_of_negative : (q r n d : ℤ) → r ≡ q -ℤ pos 1 → IsCeiling q (n +ℤ pos 1) d → IsFloor r n d
+floor_of_negative q r n d e f =
+    let vq = at 0 in
+    let vn = at 1 in
+    let vd = at 2 in
+    let one = lit (pos 1) in
+    rw e
+    (record {
+      not_above = le_by (q ∷ n ∷ d ∷ []) ((vq ⊗ vd ⊕ one ≼ vn ⊕ one ⊕ vd) ∷ []) ((vq ⊖ one) ⊗ vd) vn (known 0) refl (next_le _ _ f.close, tt);
+      close = lt_next _ _ (le_by (q ∷ n ∷ d ∷ []) ((vn ⊕ one ≼ vq ⊗ vd) ∷ []) (vn ⊕ one) ((vq ⊖ one) ⊗ vd ⊕ vd) (known 0) refl (f.not_below, tt));
+    })
 
 -- one more than the quotient of n - 1, rounded down, is that of n, rounded up
 pub ceil_of_positive : (q r n d : ℤ) → r ≡ q +ℤ pos 1 → IsFloor q (n -ℤ pos 1) d → IsCeiling r n d
@@ -53,6 +85,55 @@ room_z q m d h k o n =
 -- a quotient of a number that isn't negative is at most that number
 pub room : (q m d : ℤ) → IsFloor q m d → pos 0 ≤ℤ m → pos 0 <ℤ d → q ≤ℤ m
 room q m d f k o = by_lt_z m q (λ n. absurd (room_z q m d f.not_above k (next_le _ _ o) (next_le _ _ n))) (λ h. h)
+
+-- a quotient below the number refutes itself
+room_below_z : (q m d : ℤ) → m ≤ℤ (q *ℤ d) → m ≤ℤ pos 0 → pos 1 ≤ℤ d → (q +ℤ pos 1) ≤ℤ m → ⊥
+room_below_z q m d h k o n =
+    let vq = at 0 in
+    let vm = at 1 in
+    let vd = at 2 in
+    let one = lit (pos 1) in
+    refute (q ∷ m ∷ d ∷ []) ((vm ≼ vq ⊗ vd) ∷ (vm ≼ lit (pos 0)) ∷ (one ≼ vd) ∷ (vq ⊕ one ≼ vm) ∷ [])
+    (known 3 ⊞ known 0 ⊞ known 2 ⊠ known 3 ⊞ known 2 ⊠ known 1 ⊞ known 2) refl (h, (k, (o, (n, tt))))
+
+-- a quotient of a number that isn't positive is at least that number
+pub room_below : (q m d : ℤ) → IsCeiling q m d → m ≤ℤ pos 0 → pos 0 <ℤ d → m ≤ℤ q
+room_below q m d f k o = by_lt_z q m (λ n. absurd (room_below_z q m d f.not_below k (next_le _ _ o) (next_le _ _ n))) (λ h. h)
+
+-- a quotient rounded down stays what it is where both numbers are raised
+raised_floor : (q n k : ℤ) → IsFloor q n k → IsFloor q (n *ℤ pos (2 ^ 36)) (k *ℤ pos (2 ^ 36))
+raised_floor q n k f =
+    let t = lit (pos (2 ^ 36)) in
+    let one = lit (pos 1) in
+    record {
+      not_above = le_by (q ∷ n ∷ k ∷ []) ((at 0 ⊗ at 2 ≼ at 1) ∷ []) (at 0 ⊗ (at 2 ⊗ t)) (at 1 ⊗ t) (naturally (2 ^ 36) ⊠ known 0) refl (f.not_above, tt);
+      close = lt_next _ _ (le_by (q ∷ n ∷ k ∷ []) ((at 1 ⊕ one ≼ at 0 ⊗ at 2 ⊕ at 2) ∷ []) (at 1 ⊗ t ⊕ one) (at 0 ⊗ (at 2 ⊗ t) ⊕ at 2 ⊗ t)
+          (naturally (2 ^ 36) ⊠ known 0 ⊞ naturally (2 ^ 36 - 1)) refl (next_le _ _ f.close, tt));
+    }
+
+-- and so does one rounded up
+raised_ceiling : (q n k : ℤ) → IsCeiling q n k → IsCeiling q (n *ℤ pos (2 ^ 36)) (k *ℤ pos (2 ^ 36))
+raised_ceiling q n k f =
+    let t = lit (pos (2 ^ 36)) in
+    let one = lit (pos 1) in
+    record {
+      not_below = le_by (q ∷ n ∷ k ∷ []) ((at 1 ≼ at 0 ⊗ at 2) ∷ []) (at 1 ⊗ t) (at 0 ⊗ (at 2 ⊗ t)) (naturally (2 ^ 36) ⊠ known 0) refl (f.not_below, tt);
+      close = lt_next _ _ (le_by (q ∷ n ∷ k ∷ []) ((at 0 ⊗ at 2 ⊕ one ≼ at 1 ⊕ at 2) ∷ []) (at 0 ⊗ (at 2 ⊗ t) ⊕ one) (at 1 ⊗ t ⊕ at 2 ⊗ t)
+          (naturally (2 ^ 36) ⊠ known 0 ⊞ naturally (2 ^ 36 - 1)) refl (next_le _ _ f.close, tt));
+    }
+
+-- the same for a denominator that holds the scale
+pub fine_floor : (q n k d : ℤ) → k *ℤ pos (2 ^ 36) ≡ d → IsFloor q n k → IsFloor q (n *ℤ pos (2 ^ 36)) d
+fine_floor q n k d e f = rw e at (raised_floor q n k f)
+
+pub fine_ceiling : (q n k d : ℤ) → k *ℤ pos (2 ^ 36) ≡ d → IsCeiling q n k → IsCeiling q (n *ℤ pos (2 ^ 36)) d
+fine_ceiling q n k d e f = rw e at (raised_ceiling q n k f)
+
+-- products of numbers that aren't negative are in the order of the numbers
+pub products_mono : (a b c d : ℤ) → pos 0 ≤ℤ a → pos 0 ≤ℤ c → a ≤ℤ b → c ≤ℤ d → (a *ℤ c) ≤ℤ (b *ℤ d)
+products_mono a b c d h k m n =
+    le_by (a ∷ b ∷ c ∷ d ∷ []) ((lit (pos 0) ≼ at 0) ∷ (lit (pos 0) ≼ at 2) ∷ (at 0 ≼ at 1) ∷ (at 2 ≼ at 3) ∷ []) (at 0 ⊗ at 2) (at 1 ⊗ at 3)
+    (known 2 ⊠ known 3 ⊞ known 2 ⊠ known 1 ⊞ known 0 ⊠ known 3) refl (h, (k, (m, (n, tt))))
 
 -- numbers are in order where their multiples are
 order_z : (m g d lo hi : ℤ) → m ≤ℤ g → (lo *ℤ d) ≤ℤ m → g ≤ℤ (hi *ℤ d) → pos 1 ≤ℤ d → lo ≤ℤ hi

@@ -39,6 +39,7 @@ impl Enclosure for Coarse {
         }
     }
 
+    #[inline(always)]
     fn from_frac(value: Frac) -> Self {
         Coarse {
             ends: frac_ends(value),
@@ -93,6 +94,7 @@ impl Enclosure for Coarse {
         }
     }
 
+    #[inline(always)]
     fn mul_frac(self, by: Frac) -> Self {
         Coarse {
             ends: scale_ends(self.ends, by),

@@ -6,7 +6,8 @@
 //! - `Enclosure`: the trait, with the clauses that formulas are proved from;
 //! - `Trail`: the count of the tests of a run;
 //! - `Coarse`: the first kind, by ends in 64 bits that count 2⁻³⁶;
-//! - `floor_step`, `less_step` and `wrap_step`: the tests as steps of a formula's program.
+//! - `floor_step`, `less_step` and `wrap_step`: the tests as steps of a formula's program;
+//! - `first_day`: the search for the first day of which a `DayTest` is true.
 #![tactic(auto)]
 
 mod circle;
@@ -17,6 +18,7 @@ mod enclosure;
 mod ends;
 mod operations;
 mod rounding;
+mod search;
 mod span;
 mod steps;
 mod trail;
@@ -25,6 +27,7 @@ mod wrapping;
 pub use circle::pi;
 pub use coarse::Coarse;
 pub use enclosure::Enclosure;
+pub use search::{DayTest, first_day};
 pub use span::Span;
 pub use steps::{floor_step, less_step, wrap_step};
 pub use trail::Trail;

@@ -1,5 +1,5 @@
 //! The operations on ends that count 2⁻³⁶, rounded outwards. No ends stand for every number.
-ghost use Rattle.std.specs.Prelude.{◌≡◌, ℕ, pos, ◌+◌, ◌*ℤ◌, ◌+ℤ◌, ◌-ℤ◌, ◌≤ℤ◌, neg_ℤ, ◌^◌, ◌-◌, ◌<◌, unsigned_abs, IfSome, IsSome, FitsSigned};
+ghost use Rattle.std.specs.Prelude.{◌≡◌, ℕ, pos, ◌+◌, ◌*◌, ◌*ℤ◌, ◌+ℤ◌, ◌-ℤ◌, ◌≤ℤ◌, neg_ℤ, ◌^◌, ◌-◌, ◌<◌, unsigned_abs, IfSome, IsSome, FitsSigned};
 ghost use Rattle.std.specs.Int.{w64};
 ghost use Rattle.exact_math.specs.Fraction.{whole as whole_number};
 ghost use Rattle.exact_math.specs.Interval.{◌⊆◌, sum, difference, negative, product, minimum, maximum, hull, widen, between};
@@ -24,8 +24,34 @@ pub(crate) fn int_ends(value: i64) -> Option<Ends>
     ends_of(at, at)
 }
 
-/// The ends around a fraction.
-pub(crate) fn frac_ends(value: Frac) -> Option<Ends>
+/// How many times 2³⁶ goes into a denominator; 0, where it leaves a remainder.
+#[inline(always)]
+fn units_of(den: u64) -> u64
+    ensures value { 0 < result → den ≡ result * 2 ^ 36 }
+{
+    if den % 68_719_476_736 == 0 {
+        den / 68_719_476_736
+    } else {
+        0
+    }
+}
+
+/// The ends around a fraction whose denominator is so many times 2³⁶.
+#[inline(always)]
+fn fine_ends(value: Frac, units: u64) -> Option<Ends>
+    requires some { 0 < units }
+    requires denominator { value.den ≡ units * 2 ^ 36 }
+    ensures holds { between (fraction_of value) (fraction_of value) ⊆ shown_ends result }
+    ensures best { IsBest (between (fraction_of value) (fraction_of value)) (shown_ends result) }
+    ensures narrow { (w : ℕ) → IsNarrow w (constant_bound limits_36 (fraction_of value)) (shown_ends result) }
+{
+    let parts = value.num();
+    let units = i128::from(units);
+    ends_of(floor_div(parts, units), ceil_div(parts, units))
+}
+
+/// The ends around a fraction, whose numerator is raised to the scale first.
+fn raised_ends(value: Frac) -> Option<Ends>
     ensures holds { between (fraction_of value) (fraction_of value) ⊆ shown_ends result }
     ensures best { IsBest (between (fraction_of value) (fraction_of value)) (shown_ends result) }
     ensures narrow { (w : ℕ) → IsNarrow w (constant_bound limits_36 (fraction_of value)) (shown_ends result) }
@@ -33,6 +59,22 @@ pub(crate) fn frac_ends(value: Frac) -> Option<Ends>
     let raised = value.num().checked_mul(68_719_476_736)?;
     let below = denominator(value);
     ends_of(floor_div(raised, below), ceil_div(raised, below))
+}
+
+/// The ends around a fraction. Where the denominator holds the scale, as that of a number that counts 2⁻⁵⁶ does,
+/// the numbers to divide stay small.
+#[inline(always)]
+pub(crate) fn frac_ends(value: Frac) -> Option<Ends>
+    ensures holds { between (fraction_of value) (fraction_of value) ⊆ shown_ends result }
+    ensures best { IsBest (between (fraction_of value) (fraction_of value)) (shown_ends result) }
+    ensures narrow { (w : ℕ) → IsNarrow w (constant_bound limits_36 (fraction_of value)) (shown_ends result) }
+{
+    let units = units_of(value.den());
+    if units > 0 {
+        fine_ends(value, units)
+    } else {
+        raised_ends(value)
+    }
 }
 
 /// The sums of the ends.
@@ -50,6 +92,7 @@ pub(crate) fn add_ends(x: Option<Ends>, y: Option<Ends>) -> Option<Ends>
 }
 
 /// The ends around the products with a fraction.
+#[inline(always)]
 pub(crate) fn scale_ends(x: Option<Ends>, by: Frac) -> Option<Ends>
     ensures holds { product (shown_ends x) (between (fraction_of by) (fraction_of by)) ⊆ shown_ends result }
     ensures best { FitsSigned w64 by.num → IsBest (product (shown_ends x) (between (fraction_of by) (fraction_of by))) (shown_ends result) }
@@ -94,8 +137,8 @@ pub(crate) fn product_of(a: i64, b: i64) -> i128
     i128::from(a) * i128::from(b)
 }
 
-/// The least and the greatest product of the ends, which count 2⁻⁷².
-fn products(x: Ends, y: Ends) -> (i128, i128)
+/// The least and the greatest of the four products of the ends, which count 2⁻⁷².
+fn all_products(x: Ends, y: Ends) -> (i128, i128)
     ensures least { IsBelowFour result.0 (x.lo *ℤ y.lo) (x.lo *ℤ y.hi) (x.hi *ℤ y.lo) (x.hi *ℤ y.hi) }
     ensures greatest { IsAboveFour result.1 (x.lo *ℤ y.lo) (x.lo *ℤ y.hi) (x.hi *ℤ y.lo) (x.hi *ℤ y.hi) }
     ensures best_least { IsAboveEachBelow result.0 (x.lo *ℤ y.lo) (x.lo *ℤ y.hi) (x.hi *ℤ y.lo) (x.hi *ℤ y.hi) }
@@ -107,6 +150,36 @@ fn products(x: Ends, y: Ends) -> (i128, i128)
     let r = product_of(x.hi, y.lo);
     let s = product_of(x.hi, y.hi);
     (least_of(p, q, r, s), greatest_of(p, q, r, s))
+}
+
+/// The same, of ends that are not below 0.
+fn natural_products(x: Ends, y: Ends) -> (i128, i128)
+    requires first { pos 0 ≤ℤ x.lo }
+    requires second { pos 0 ≤ℤ y.lo }
+    ensures least { IsBelowFour result.0 (x.lo *ℤ y.lo) (x.lo *ℤ y.hi) (x.hi *ℤ y.lo) (x.hi *ℤ y.hi) }
+    ensures greatest { IsAboveFour result.1 (x.lo *ℤ y.lo) (x.lo *ℤ y.hi) (x.hi *ℤ y.lo) (x.hi *ℤ y.hi) }
+    ensures best_least { IsAboveEachBelow result.0 (x.lo *ℤ y.lo) (x.lo *ℤ y.hi) (x.hi *ℤ y.lo) (x.hi *ℤ y.hi) }
+    ensures best_greatest { IsBelowEachAbove result.1 (x.lo *ℤ y.lo) (x.lo *ℤ y.hi) (x.hi *ℤ y.lo) (x.hi *ℤ y.hi) }
+    ensures room { neg_ℤ (pos (2 ^ 126)) ≤ℤ result.1 }
+{
+    (product_of(x.lo, y.lo), product_of(x.hi, y.hi))
+}
+
+/// The least and the greatest product of the ends, which count 2⁻⁷².
+fn products(x: Ends, y: Ends) -> (i128, i128)
+    ensures least { IsBelowFour result.0 (x.lo *ℤ y.lo) (x.lo *ℤ y.hi) (x.hi *ℤ y.lo) (x.hi *ℤ y.hi) }
+    ensures greatest { IsAboveFour result.1 (x.lo *ℤ y.lo) (x.lo *ℤ y.hi) (x.hi *ℤ y.lo) (x.hi *ℤ y.hi) }
+    ensures best_least { IsAboveEachBelow result.0 (x.lo *ℤ y.lo) (x.lo *ℤ y.hi) (x.hi *ℤ y.lo) (x.hi *ℤ y.hi) }
+    ensures best_greatest { IsBelowEachAbove result.1 (x.lo *ℤ y.lo) (x.lo *ℤ y.hi) (x.hi *ℤ y.lo) (x.hi *ℤ y.hi) }
+    ensures room { neg_ℤ (pos (2 ^ 126)) ≤ℤ result.1 }
+{
+    if x.lo < 0 {
+        all_products(x, y)
+    } else if y.lo < 0 {
+        all_products(x, y)
+    } else {
+        natural_products(x, y)
+    }
 }
 
 /// The ends around the products of the members.

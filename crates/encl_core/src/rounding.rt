@@ -1,5 +1,5 @@
 //! Exact steps on whole numbers: quotients rounded down and up, the lesser and the greater, and ends that fit.
-ghost use Rattle.std.specs.Prelude.{◌≡◌, ◌+◌, ◌-◌, ◌^◌, pos, ◌≤ℤ◌, ◌<ℤ◌, ◌*ℤ◌, neg_ℤ};
+ghost use Rattle.std.specs.Prelude.{◌≡◌, ◌+◌, ◌-◌, ◌^◌, pos, ◌≤ℤ◌, ◌<ℤ◌, ◌*ℤ◌, neg_ℤ, int_div, IfSome};
 ghost use Rattle.book_model.specs.Fractions.{fraction_of};
 ghost use Rattle.encl_core.specs.Shown.{shown_ends};
 ghost use Rattle.encl_core.specs.Rounding.{IsFloor, IsCeiling, AreSorted, IsBelowFour, IsAboveFour, IsAboveEachBelow, IsBelowEachAbove, Keeps64};
@@ -7,23 +7,60 @@ ghost use Rattle.encl_core.specs.Rounding.{IsFloor, IsCeiling, AreSorted, IsBelo
 use crate::ends::Ends;
 use book_model::Frac;
 
+/// The number in 64 bits, where it fits.
+#[inline(always)]
+fn narrow(n: i128) -> Option<i64>
+    ensures value { IfSome result (λ a. a ≡ n) }
+{
+    i64::try_from(n).ok()
+}
+
+/// The quotient of `n` by `d` in 64 bits, where both fit: there a division is many times faster.
+#[inline(always)]
+fn narrow_quotient(n: i128, d: i128) -> Option<i64>
+    requires { pos 0 <ℤ d }
+    ensures value { IfSome result (λ q. q ≡ int_div n d) }
+{
+    let n = narrow(n)?;
+    let d = narrow(d)?;
+    Some(n / d)
+}
+
+/// The quotient of `n` by `d`, rounded towards 0.
+#[inline(always)]
+fn whole_quotient(n: i128, d: i128) -> i128
+    requires { pos 0 <ℤ d }
+    ensures value { result ≡ int_div n d }
+{
+    match narrow_quotient(n, d) {
+        Some(quotient) => i128::from(quotient),
+        None => n / d,
+    }
+}
+
 /// The quotient of `n` by `d`, rounded down.
+#[inline(always)]
 pub(crate) fn floor_div(n: i128, d: i128) -> i128
     requires { pos 0 <ℤ d }
     ensures { IsFloor result n d }
 {
-    n.div_euclid(d)
+    if n < 0 {
+        whole_quotient(n + 1, d) - 1
+    } else {
+        whole_quotient(n, d)
+    }
 }
 
 /// The quotient of `n` by `d`, rounded up.
+#[inline(always)]
 pub(crate) fn ceil_div(n: i128, d: i128) -> i128
     requires { pos 0 <ℤ d }
     ensures { IsCeiling result n d }
 {
     if n > 0 {
-        floor_div(n - 1, d) + 1
+        whole_quotient(n - 1, d) + 1
     } else {
-        n / d
+        whole_quotient(n, d)
     }
 }
 

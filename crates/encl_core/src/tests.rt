@@ -1,9 +1,17 @@
 //! What no clause says: one happy path of each operation, the ends that open tests name, and a second kind of
 //! enclosures, which knows nothing, at another scale.
+ghost use Rattle.std.specs.Prelude.{◌≤◌, ◌+◌};
+ghost use Rattle.book_model.specs.declared.site.Site.TheVariants.{DayTest as AtDayTest};
+ghost use Rattle.book_model.specs.Expressions.{World, integer};
+ghost use Rattle.book_model.specs.Leading.{Exact, Leads};
+ghost use Rattle.book_model.specs.Programs.{answer, compare};
 ghost use Rattle.encl_core.specs.Shown.{shown_unknown};
 
-use crate::{Coarse, Enclosure, Span, Trail, floor_step, less_step, pi, wrap_step};
-use book_model::{Frac, Site, Undecided};
+use crate::rounding::{ceil_div, floor_div};
+use crate::{
+    Coarse, DayTest, Enclosure, Span, Trail, first_day, floor_step, less_step, pi, wrap_step,
+};
+use book_model::{Fail as FormulaFail, Frac, Site, Undecided};
 use std::test::Fail;
 
 /// An enclosure that shows every number.
@@ -109,6 +117,29 @@ impl Enclosure for Unknown {
     }
 }
 
+/// Whether a day comes after another, as one test.
+#[tactic(auto, unfolding(book_model::specs::Leading::next_turn))]
+fn is_after<E: Enclosure>(day: i64, earlier: i64, trail: &mut Trail) -> Result<bool, FormulaFail>
+    ensures leads { (w : World) → 40 ≤ w.depth → Leads w Exact (compare AtDayTest (integer earlier) (integer day) answer) trail.old.count trail.new.count result }
+    ensures counted { trail.new.count ≤ trail.old.count + 1 }
+{
+    less_step(E::from_int(earlier), E::from_int(day), Site::DayTest, trail)
+}
+
+/// Looks for the days after one. Each is open where the enclosures know nothing.
+#[derive(Clone, Copy, Debug, PartialEq)]
+struct After {
+    day: i64,
+}
+
+impl<E: Enclosure> DayTest<E> for After {
+    ghost test_of = { λ s d. compare AtDayTest (integer s.day) (integer d) answer };
+
+    fn holds(&self, day: i64, trail: &mut Trail) -> Result<bool, FormulaFail> {
+        is_after::<E>(day, self.day, trail)
+    }
+}
+
 fn fraction(num: i128, den: u64) -> Result<Frac, Fail> {
     Ok(Frac::new(num, den).ok_or("a denominator of 0")?)
 }
@@ -158,6 +189,121 @@ fn fractions_are_rounded_outwards(rt: HostRuntime) -> Result<(), Fail> {
     assert_eq!(rt; ends.lo, -11_453_246_123);
     assert_eq!(rt; ends.hi, -11_453_246_122);
     Ok(())
+}
+
+/// The quotient rounded down, and the one rounded up.
+fn rounded(n: i128, d: u64) -> (i128, i128) {
+    let d = i128::from(d.max(1));
+    (floor_div(n, d), ceil_div(n, d))
+}
+
+#[test]
+fn quotients_are_alike_on_both_sides_of_64_bits(rt: HostRuntime) {
+    let two_63 = 9_223_372_036_854_775_808;
+    for (n, d, floor, ceiling) in [
+        (0, 5, 0, 0),
+        (6, 3, 2, 2),
+        (-6, 3, -2, -2),
+        (7, 2, 3, 4),
+        (-7, 2, -4, -3),
+        (1, 9_223_372_036_854_775_807, 0, 1),
+        (-1, 9_223_372_036_854_775_807, -1, 0),
+        (5, 9_223_372_036_854_775_808, 0, 1),
+        (-5, 18_446_744_073_709_551_615, -1, 0),
+        (two_63 - 1, 1, two_63 - 1, two_63 - 1),
+        (two_63, 1, two_63, two_63),
+        (-two_63, 1, -two_63, -two_63),
+        (-two_63 - 1, 1, -two_63 - 1, -two_63 - 1),
+        (
+            two_63 - 1,
+            2,
+            4_611_686_018_427_387_903,
+            4_611_686_018_427_387_904,
+        ),
+        (
+            two_63 + 1,
+            2,
+            4_611_686_018_427_387_904,
+            4_611_686_018_427_387_905,
+        ),
+        (
+            -two_63 - 1,
+            2,
+            -4_611_686_018_427_387_905,
+            -4_611_686_018_427_387_904,
+        ),
+        (
+            1_267_650_600_228_229_401_496_703_205_376,
+            3,
+            422_550_200_076_076_467_165_567_735_125,
+            422_550_200_076_076_467_165_567_735_126,
+        ),
+        (
+            -1_267_650_600_228_229_401_496_703_205_376,
+            3,
+            -422_550_200_076_076_467_165_567_735_126,
+            -422_550_200_076_076_467_165_567_735_125,
+        ),
+        (i128::MAX, 1, i128::MAX, i128::MAX),
+        (i128::MIN, 1, i128::MIN, i128::MIN),
+    ] {
+        assert_eq!(rt; rounded(n, d), (floor, ceiling), "{n} / {d}");
+    }
+}
+
+#[test]
+fn fractions_of_fine_denominators_are_rounded_outwards(rt: HostRuntime) -> Result<(), Fail> {
+    for (num, den, lo, hi) in [
+        (1, 68_719_476_736, 1, 1),
+        (3, 137_438_953_472, 1, 2),
+        (-3, 137_438_953_472, -2, -1),
+        (-4, 137_438_953_472, -2, -2),
+        (1, 137_438_953_473, 0, 1),
+        (5, 68_719_476_735, 5, 6),
+        (
+            3_242_591_731_706_757_120,
+            12_970_366_926_827_028_480,
+            17_179_869_184,
+            17_179_869_184,
+        ),
+        (
+            -3_242_591_731_706_757_121,
+            12_970_366_926_827_028_480,
+            -17_179_869_185,
+            -17_179_869_184,
+        ),
+        (
+            1_237_940_039_285_380_274_899_124_224,
+            9_223_372_036_854_775_808,
+            9_223_372_036_854_775_807,
+            0,
+        ),
+    ] {
+        match Coarse::from_frac(fraction(num, den)?).ends {
+            Some(ends) => assert_eq!(rt; (ends.lo, ends.hi), (lo, hi), "{num} / {den}"),
+            None => assert!(rt; hi < lo, "{num} / {den} is whole"),
+        }
+    }
+    Ok(())
+}
+
+#[test]
+fn products_have_the_ends_of_their_signs(rt: HostRuntime) {
+    for (a, b, c, d, low, high) in [
+        (0, 2, 0, 3, 0, 6),
+        (1, 2, 3, 4, 3, 8),
+        (-1, 2, 3, 4, -4, 8),
+        (1, 2, -3, 4, -6, 8),
+        (-2, 1, -3, 4, -8, 6),
+        (-2, -1, 3, 4, -8, -3),
+        (-2, -1, -4, -3, 3, 8),
+    ] {
+        assert_eq!(rt;
+            range::<Coarse>(a, b).mul(range(c, d)),
+            range(low, high),
+            "{a} to {b} times {c} to {d}"
+        );
+    }
 }
 
 #[test]
@@ -361,4 +507,49 @@ fn pi_lies_between_neighbours(rt: HostRuntime) -> Result<(), Fail> {
     assert_eq!(rt; ends.lo, 215_888_603_272);
     assert_eq!(rt; ends.hi, 215_888_603_273);
     Ok(())
+}
+
+/// Where the searches start.
+const START: i64 = 738_965;
+
+/// The first of the start and the 45 days after it that comes after a day, and how many tests are made.
+fn first_after<E: Enclosure>(day: i64) -> (Result<i64, FormulaFail>, u32) {
+    let mut trail = Trail::new();
+    let found = first_day::<E, After>(&After { day }, START, &mut trail);
+    (found, trail.count())
+}
+
+#[test]
+fn a_search_answers_the_first_day(rt: HostRuntime) {
+    for (day, found, tests) in [
+        (0, 738_965, 1),
+        (738_964, 738_965, 1),
+        (738_965, 738_966, 2),
+        (738_979, 738_980, 16),
+        (739_009, 739_010, 46),
+    ] {
+        assert_eq!(rt;
+            first_after::<Coarse>(day),
+            (Ok(found), tests),
+            "after {day}"
+        );
+    }
+}
+
+#[test]
+fn a_search_is_void_where_no_day_of_46_is_found(rt: HostRuntime) {
+    let void = Err(FormulaFail::Void(Site::Search));
+    assert_eq!(rt; first_after::<Coarse>(739_010), (void, 46));
+    assert_eq!(rt; first_after::<Coarse>(800_000), (void, 46));
+}
+
+#[test]
+fn a_search_fails_where_its_test_does(rt: HostRuntime) {
+    let open = Undecided {
+        turn: 1,
+        site: Site::DayTest,
+        lo: i128::MIN,
+        hi: i128::MAX,
+    };
+    assert_eq!(rt; first_after::<Unknown>(0), (Err(open.into()), 1));
 }

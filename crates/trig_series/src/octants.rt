@@ -1,5 +1,6 @@
 //! The sine over octants of 45 degrees.
 ghost use Rattle.std.specs.Prelude.{◌≡◌, ◌≤◌, ◌^◌, pos, neg_ℤ, unsigned_abs, ◌≤ℤ◌, ◌<ℤ◌, ◌+ℤ◌, ◌*ℤ◌};
+ghost use Rattle.std.specs.Int.{int_div_euclid};
 ghost use Rattle.exact_math.specs.Fraction.{Fraction, ◌≈◌};
 ghost use Rattle.exact_math.specs.Interval.{between, ◌⊆◌};
 ghost use Rattle.book_model.specs.Expressions.{World};
@@ -82,6 +83,18 @@ fn sine_in<E: Enclosure>(octant: i128, lo: i128, hi: i128) -> E
     low.hull(high)
 }
 
+/// How often an octant goes into degrees, which count 2⁻⁵⁶, rounded down: as often as 45 into their whole number,
+/// which nearly always fits in 64 bits.
+fn octants_in(degrees: i128) -> i128
+    ensures value { result ≡ int_div_euclid degrees (pos 3242591731706757120) }
+{
+    let whole = degrees >> 56;
+    match i64::try_from(whole) {
+        Ok(small) => i128::from(small.div_euclid(45)),
+        Err(_) => whole.div_euclid(45),
+    }
+}
+
 /// The first octant that ends at or above so many degrees, which count 2⁻⁵⁶.
 fn first_met(lo: i128) -> i128
     requires from { neg_ℤ (pos (2 ^ 120)) ≤ℤ lo }
@@ -92,7 +105,7 @@ fn first_met(lo: i128) -> i128
     ensures above { neg_ℤ (pos (2 ^ 60)) ≤ℤ result }
     ensures below { result <ℤ pos (2 ^ 60) }
 {
-    -(-lo).div_euclid(OCTANT) - 1
+    -octants_in(-lo) - 1
 }
 
 /// The last octant that begins at or below so many degrees, which count 2⁻⁵⁶.
@@ -104,7 +117,7 @@ fn last_met(hi: i128) -> i128
     ensures above { neg_ℤ (pos (2 ^ 60)) ≤ℤ result }
     ensures below { result <ℤ pos (2 ^ 60) }
 {
-    hi.div_euclid(OCTANT)
+    octants_in(hi)
 }
 
 /// The sine from one number of degrees to another, which count 2⁻⁵⁶.

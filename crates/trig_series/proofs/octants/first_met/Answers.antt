@@ -8,13 +8,13 @@ pub returns : goal.returns
 returns c =
     let fl = c.ranges.lo in
     let fm : SFits w128 (pos 0 -ℤ c.args.lo) = omega (arith, ints, c.requires) in
-    let fq : SFits w128 c.div_euclid.result = search rules in
-    let e = simp to_z-of_z at c.div_euclid.ensures in
-    let q = division_is (pos 0 -ℤ c.args.lo) c.div_euclid.result e in
-    let fn : SFits w128 (pos 0 -ℤ c.div_euclid.result) = omega (arith, ints, c.requires, q.not_above, q.close) in
-    let fr : SFits w128 ((pos 0 -ℤ c.div_euclid.result) -ℤ pos 1) = omega (arith, ints, c.requires, q.not_above, q.close) in
+    let fq : SFits w128 c.octants_in.result = search rules in
+    let e = simp to_z-of_z at c.octants_in.ensures.value in
+    let q = division_is (pos 0 -ℤ c.args.lo) c.octants_in.result e in
+    let fn : SFits w128 (pos 0 -ℤ c.octants_in.result) = omega (arith, ints, c.requires, q.not_above, q.close) in
+    let fr : SFits w128 ((pos 0 -ℤ c.octants_in.result) -ℤ pos 1) = omega (arith, ints, c.requires, q.not_above, q.close) in
     record {
-      value = simp to_z-of_z (first_is c.args.lo c.div_euclid.result e);
+      value = simp to_z-of_z (first_is c.args.lo c.octants_in.result e);
       begun = simp to_z-of_z (omega (arith, ints, q.close));
       ended = simp to_z-of_z (omega (arith, ints, q.not_above));
       above = simp to_z-of_z (omega (arith, ints, c.requires, q.not_above, q.close));

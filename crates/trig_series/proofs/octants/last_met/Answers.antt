@@ -7,11 +7,11 @@ use Rattle.trig_series.proofs.octants.last_met.Goals as goal
 pub returns : goal.returns
 returns c =
     let fh = c.ranges.hi in
-    let fq : SFits w128 c.div_euclid.result = search rules in
-    let e = simp to_z-of_z at c.div_euclid.ensures in
-    let q = division_is c.args.hi c.div_euclid.result e in
+    let fq : SFits w128 c.octants_in.result = search rules in
+    let e = simp to_z-of_z at c.octants_in.ensures.value in
+    let q = division_is c.args.hi c.octants_in.result e in
     record {
-      value = simp to_z-of_z (last_is c.args.hi c.div_euclid.result e);
+      value = simp to_z-of_z (last_is c.args.hi c.octants_in.result e);
       begun = simp to_z-of_z (omega (arith, ints, q.not_above));
       above = simp to_z-of_z (omega (arith, ints, c.requires, q.not_above, q.close));
       below = simp to_z-of_z (omega (arith, ints, c.requires, q.not_above, q.close));

@@ -1,6 +1,6 @@
 use Rattle.std.proofs.Common.{arith}
 use Rattle.std.proofs.lemmas.Int.{ints, to_z-of_z}
-use Rattle.encl_core.proofs.operations.products.Goals as goal
+use Rattle.encl_core.proofs.operations.all_products.Goals as goal
 
 pub returns-clause-least : goal.returns-clause-least
 returns-clause-least c = grind (arith, to_z-of_z)

@@ -5,7 +5,7 @@ use Rattle.book_model.specs.Fractions.{fraction_of}
 use Rattle.encl_core.proofs.Quotients.{outward_order}
 use Rattle.encl_core.proofs.Scaling.{constant_encloses, constant_narrow, constant_overflow}
 use Rattle.encl_core.proofs.Best.{constant_best, constant_outside}
-use Rattle.encl_core.proofs.operations.frac_ends.Goals as goal
+use Rattle.encl_core.proofs.operations.raised_ends.Goals as goal
 
 pub ends_of-requires : goal.ends_of-requires
 ends_of-requires c =

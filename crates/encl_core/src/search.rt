@@ -1,0 +1,51 @@
+//! Searches by day.
+ghost use Rattle.std.specs.Prelude.{◌≡◌, ◌≤◌, ◌+◌, ◌+ℤ◌, pos, negsuc, ◌≤ℤ◌, ℤ, Bool, IfOk};
+ghost use Rattle.book_model.specs.Expressions.{World};
+ghost use Rattle.book_model.specs.Leading.{Leads, Exact};
+ghost use Rattle.book_model.specs.Programs.{Program};
+ghost use Rattle.book_model.specs.Searches.{first_day_from};
+
+use crate::{Enclosure, Trail};
+use book_model::{Fail, Site};
+
+/// How many days a search tries.
+const DAYS_TRIED: u32 = 46;
+
+/// What a search by day looks for: a test of a day.
+pub trait DayTest<E: Enclosure> {
+    /// The test of a day, as a formula.
+    ghost test_of: { Self → ℤ → Program Bool };
+
+    /// Whether the test is true of a day (R.D.). It makes the tests of its formula, at most 100, and fails where
+    /// that does.
+    fn holds(&self, day: i64, trail: &mut Trail) -> Result<bool, Fail>
+        requires low { negsuc 39999999 ≤ℤ day }
+        requires high { day ≤ℤ pos 40000000 }
+        ensures leads { (w : World) → 40 ≤ w.depth → Leads w Exact (test_of self.now day) trail.old.count trail.new.count result }
+        ensures counted { trail.new.count ≤ trail.old.count + 100 };
+}
+
+/// The first day (R.D.) of which a test is true, of the start and the 45 days after it. It fails where the test does,
+/// and is void at `search` where there is no such day.
+pub fn first_day<E: Enclosure, T: DayTest<E>>(
+    test: &T,
+    start: i64,
+    trail: &mut Trail,
+) -> Result<i64, Fail>
+    requires low { negsuc 39999899 ≤ℤ start }
+    requires high { start ≤ℤ pos 39999900 }
+    ensures leads { (w : World) → 40 ≤ w.depth → Leads w Exact (first_day_from (T.test_of test.now) start) trail.old.count trail.new.count result }
+    ensures from { IfOk result (λ d. start ≤ℤ d) }
+    ensures to { IfOk result (λ d. d ≤ℤ (start +ℤ pos 45)) }
+    ensures counted { trail.new.count ≤ trail.old.count + 4600 }
+{
+    for later in 0..DAYS_TRIED {
+        let day = start + i64::from(later);
+        match test.holds(day, trail) {
+            Ok(true) => return Ok(day),
+            Ok(false) => {}
+            Err(fail) => return Err(fail),
+        }
+    }
+    Err(Fail::Void(Site::Search))
+}
