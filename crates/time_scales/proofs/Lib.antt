@@ -1,5 +1,4 @@
 pub mod Powers
-pub mod JiffYears
 pub mod FourHundred
 pub mod Years
 pub mod WholePowers

@@ -1,9 +1,11 @@
 //! Sidereal time.
-ghost use Rattle.std.specs.Prelude.{◌≡◌};
+ghost use Rattle.std.specs.Prelude.{◌≡◌, IfOk};
+ghost use Rattle.book_model.specs.Bounds.{Reach, limits_of};
 ghost use Rattle.book_model.specs.Expressions.{Expression, World};
 ghost use Rattle.book_model.specs.Leading.{Leads};
-ghost use Rattle.book_model.specs.Relations.{Within};
-ghost use Rattle.book_model.specs.Time.{sidereal_of};
+ghost use Rattle.book_model.specs.Polynomials.{cubic_of};
+ghost use Rattle.book_model.specs.Relations.{Within, Narrow};
+ghost use Rattle.book_model.specs.Time.{in_centuries, sidereal_of};
 
 use crate::ephemeris::to_centuries;
 use crate::polynomial::cubic;
@@ -15,6 +17,7 @@ use encl_core::{Enclosure, Trail};
 #[tactic(auto, using(book_model::proofs::Leads::leading), unfolding(book_model::specs::Time::sidereal_of))]
 pub fn sidereal<E: Enclosure>(t: E, trail: &mut Trail) -> Result<E, Fail>
     ensures leads { (w : World) (x : Expression) → Within E.shown w x t → Leads w (Within E.shown w) (sidereal_of x) trail.old.count trail.new.count result }
+    ensures narrow { IfOk result (λ y. (r : Reach) (x : Expression) → Narrow E.shown (limits_of E.BITS) r x t → Narrow E.shown (limits_of E.BITS) r (cubic_of SIDEREAL_TIME (in_centuries x)) y) }
     ensures counted { trail.new.count ≡ trail.old.count }
 {
     Ok(cubic(&SIDEREAL_TIME, to_centuries(t)))

@@ -3,7 +3,7 @@ use Rattle.std.specs.Prelude.{unsigned_abs}
 use Rattle.std.proofs.lemmas.Int.{to_z-of_z, ints}
 use Rattle.jiff.specs.Words.{epoch_day}
 use Rattle.jiff.proofs.SpanFacts.{signed_arith}
-use Rattle.time_scales.proofs.JiffYears.{day_agrees}
+use Rattle.civil_core.proofs.JiffCalendar.{day_agrees}
 use Rattle.time_scales.proofs.calendar.first_of_july.Goals as goal
 
 pub returns : goal.returns

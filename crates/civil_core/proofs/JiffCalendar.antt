@@ -1,12 +1,13 @@
--- The calendar of jiff and that of the definitions are one: days and years of dates agree.
-use Rattle.std.specs.Prelude.{◌≡◌, ℕ, zero, suc, ◌+◌, ◌-◌, ◌≤◌, ℤ, pos, ◌+ℤ◌, ◌-ℤ◌, refl}
+-- The calendar of jiff and that of the definitions are one: day numbers, dates and years agree.
+use Rattle.std.specs.Prelude.{◌&&◌, nat_lt, nat_le, ◌≡◌, ◌↔◌, ℕ, zero, suc, ◌+◌, ◌-◌, ◌≤◌, true, ℤ, pos, ◌+ℤ◌, ◌-ℤ◌, refl}
 use Rattle.std.proofs.Common.{arith, ap, sym}
+use Rattle.std.proofs.lemmas.Bool.Decides.{nat_tests}
 use Rattle.std.proofs.lemmas.Int.{ints}
 use Rattle.exact_math.proofs.Floors.{floor_quotient_is}
-use Rattle.book_model.specs.Calendar.{first_day, year_of_day, IsYearOfDay, days_in_month, days_of_months, fixed_of}
+use Rattle.book_model.specs.Calendar.{first_day, year_of_day, IsYearOfDay, is_date, days_in_month, days_of_months, fixed_of}
 use Rattle.book_model.proofs.Calendars.{year_is, year_unique}
 use Rattle.jiff_core.specs.declared.civil.date.Date.{Date}
-use Rattle.jiff_core.specs.Calendar.{day_count, days_from_civil, days_of_months as jiff_days_of_months}
+use Rattle.jiff_core.specs.Calendar.{IsYear, IsBetween, IsDate, day_count, days_from_civil, days_of_months as jiff_days_of_months}
 use Rattle.jiff_core.specs.Date.{epoch_day, IsYmd}
 use Rattle.jiff_core.specs.March.{march_days}
 use Rattle.jiff_core.proofs.SignedLemmas.{signed_arith}
@@ -52,6 +53,23 @@ day_agrees date y m d (year, month, day) =
 pub day_one : (date : Date) → IsYmd (pos 1) (pos 1) (pos 1) date → epoch_day date +ℤ pos 719163 ≡ pos 1
 unfolding fixed_of first_day days_of_months
 day_one date h = sym (day_agrees date 1 1 1 h)
+
+-- the tests of a date, where its month has k days
+tests_agree : (y m d k : ℕ) → (nat_lt 0 y && nat_lt y 10000 && nat_lt 0 m && nat_lt m 13 && nat_lt 0 d && nat_le d k ≡ true) ↔ ((1 ≤ y) × (y ≤ 9999) × (1 ≤ m) × (m ≤ 12) × (1 ≤ d) × (d ≤ k))
+tests_agree y m d k = (λ h. (grind (arith, nat_tests), grind (arith, nat_tests), grind (arith, nat_tests), grind (arith, nat_tests), grind (arith, nat_tests), grind (arith, nat_tests)), λ h. grind (arith, nat_tests, h.0, h.1, h.2, h.3, h.4, h.5))
+
+-- the dates of the years from 1 on that jiff has are those of the definitions
+pub date_is : (y m d : ℕ) → is_date y m d ≡ true → IsDate (pos y) (pos m) (pos d) × (1 ≤ y)
+date_is y m d e =
+    let t = (tests_agree y m d (days_in_month y m)).0 e in
+    let year : IsYear (pos y) = (omega (arith, ints), omega (arith, ints, t.1)) in
+    let month : IsBetween (pos 1) (pos 12) (pos m) = (omega (arith, ints, t.2), omega (arith, ints, t.3)) in
+    let day : IsBetween (pos 1) (pos (days_in_month y m)) (pos d) = (omega (arith, ints, t.4), omega (arith, ints, t.5)) in
+    ((year, month, day), t.0)
+
+pub is_date_of : (y m d : ℕ) → IsDate (pos y) (pos m) (pos d) → 1 ≤ y → is_date y m d ≡ true
+is_date_of y m d (year, month, day) first =
+    (tests_agree y m d (days_in_month y m)).1 (first, omega (arith, ints, year.1), omega (arith, ints, month.0), omega (arith, ints, month.1), omega (arith, ints, day.0), omega (arith, ints, day.1))
 
 -- a date's year is the year of its day
 pub year_agrees : (d : Date) → year_of_day (epoch_day d +ℤ pos 719163) ≡ d.year

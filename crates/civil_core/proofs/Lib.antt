@@ -1,0 +1,4 @@
+pub mod JiffCalendar
+pub mod Months
+pub mod Conversions
+pub mod Days
