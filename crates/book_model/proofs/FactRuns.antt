@@ -39,12 +39,12 @@ correction_at_few : (x : Expression) → AtMost 1 (correction_at x)
 unfolding correction_at year_of
 correction_at_few x = at_most_bind 1 0 (cell_at_most (λ q. answer_at_most)) (λ y. correction_few y)
 
-centuries_few : (x : Expression) → AtMost 1 (centuries_of x)
+pub centuries_few : (x : Expression) → AtMost 1 (centuries_of x)
 unfolding centuries_of dynamical_of
 centuries_few x = at_most_bind 1 0 (at_most_bind 1 0 (correction_at_few x) (λ c. answer_at_most)) (λ d. answer_at_most)
 
 -- the longitude of the sun makes two
-sun_few : (x : Expression) → AtMost 2 (sun_of x)
+pub sun_few : (x : Expression) → AtMost 2 (sun_of x)
 unfolding sun_of
 sun_few x = at_most_bind 1 1 (centuries_few x) (λ c. cell_at_most (λ q. answer_at_most))
 
@@ -126,6 +126,11 @@ remainder_in_turn (between a b) q e =
     let low = rw w.1 at ((cells_cut (multiples 360)).begun a) in
     let high = rw same at ((cells_cut (multiples 360)).not_over b) in
     record { ends = (turn_below a q low, turn_above b q high) }
+
+-- the same, with the turn's ends
+pub remainder_within : (i : Interval) (q : ℤ) → cell_at (multiples 360) i ≡ Some q → difference i (exactly (whole (pos 360 *ℤ q))) ⊆ between (whole (pos 0)) (whole (pos 360))
+unfolding turn
+remainder_within i q e = remainder_in_turn i q e
 
 sun_in_turn : (w : World) (x e : Expression) → outcome (run w (sun_of x)) ≡ valued e → value w e ⊆ turn
 unfolding sun_of value

@@ -185,6 +185,16 @@ tells_value (answers {v = v} h) = (v, refl, h)
 pub leads_value : {T : Type 0} {w : World} {p : Program T} {b a : ℕ} {y : T} → Leads w Exact p b a (Ok y) → outcome (run w p) ≡ valued y
 leads_value {w = w} {p = p} h = let t = tells_value h.tells in t.1 ∙ ap valued t.2
 
+tells_leaf_value : {A T : Type 0} {R : A → T → Type 0} {r : Run A} {b m : ℕ} {y : T} (d : A) → Tells R r b m (Ok y) → outcome r ≡ valued (leaf_of d r)
+unfolding outcome leaf_of
+tells_leaf_value d (passes h) = tells_leaf_value d h
+tells_leaf_value d (answers h) = refl
+
+-- the expression that a run ends in is its outcome
+pub leads_leaf : {T : Type 0} {w : World} {R : Expression → T → Type 0} {p : Program Expression} {b m : ℕ} {y : T} → Leads w R p b m (Ok y) → outcome (run w p) ≡ valued (leaf w p)
+unfolding leaf
+leads_leaf h = tells_leaf_value _ h.tells
+
 tells_void : {A T : Type 0} {R : A → T → Type 0} {r : Run A} {b a : ℕ} {s : Site} → Tells R r b a (Err (Void s)) → outcome r ≡ void_at s
 unfolding outcome
 tells_void (passes h) = tells_void h

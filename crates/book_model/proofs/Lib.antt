@@ -15,3 +15,5 @@ pub mod SeriesNesting
 pub mod Pi
 pub mod OctantHulls
 pub mod DegreeSines
+pub mod Estimates
+pub mod NewYears

@@ -1,58 +1,32 @@
--- The rule of a line: the facts that it asks, in order, and its result over their values.
+-- Inquiries: the facts that a rule asks, in order, and its result over their values.
 use Rattle.std.specs.Prelude.{◌≡◌, ℕ, ◌-◌, ◌^◌, ◌&&◌, ◌==◌, if◌then◌else◌, Bool, List, [], ◌∷◌, ◌++◌, ℤ, pos, negsuc, int_le}
 use Rattle.std.specs.Ordering.{int_eq}
 use Rattle.std.specs.List.{list_any}
 use Rattle.book_model.specs.declared.fact.Fact.{Fact}
-use Rattle.book_model.specs.declared.fact.Kind.TheVariants.{Dt as dt_kind, Sun as sun_kind}
+use Rattle.book_model.specs.declared.fact.Kind.TheVariants.{Dt, Sun, Nowruz}
 use Rattle.book_model.specs.declared.fact.Place.TheVariants.{None as Nowhere, Beijing, Cairo, Tehran, Ujjain}
 use Rattle.book_model.specs.declared.fact.Kind.{Kind}
 use Rattle.book_model.specs.declared.fact.Place.{Place}
-use Rattle.book_model.specs.declared.request.ToWord.{ToWord}
-use Rattle.book_model.specs.declared.request.ToWord.TheVariants.{Gregorian, Fixed, Dt, Sun}
-use Rattle.book_model.specs.declared.request.Fields.{Fields}
-use Rattle.book_model.specs.declared.request.Request.{Request}
-use Rattle.book_model.specs.declared.request.Resolved.{Resolved}
-use Rattle.book_model.specs.declared.request.Resolved.TheVariants.{Shown}
-use Rattle.book_model.specs.Calendar.{year_of_day, month_of_day, day_of_month}
 use Rattle.book_model.specs.Facts.{run_of}
 use Rattle.book_model.specs.Programs.{Outcome, valued, void_at, open_at, outcome}
-use Rattle.book_model.specs.Requests.{day_of}
 
 -- what is asked of a table of facts, one fact at a time
 pub data Inquiry (A : Type 0) : Type 0 where
   done : A → Inquiry A
   ask : Fact → (ℤ → Inquiry A) → Inquiry A
 
--- the fact of the dynamical time correction on a day
-abbrev pub dt_fact : ℤ → Fact
-dt_fact d = record { kind = dt_kind; place = Nowhere; day = d }
-
--- the fact of the sun's longitude on a day
-abbrev pub sun_fact : ℤ → Fact
-sun_fact d = record { kind = sun_kind; place = Nowhere; day = d }
+-- one inquiry, and then the one that its result leads to
+unfoldable pub and_then : {A B : Type 0} → Inquiry A → (A → Inquiry B) → Inquiry B
+and_then (done a) next = next a
+and_then (ask f more) next = ask f (λ v. and_then (more v) next)
 
 -- the nearest number of 32 bits
 abbrev pub to_32_bits : ℤ → ℤ
 to_32_bits z = if int_le z (negsuc (2 ^ 31 - 1)) then negsuc (2 ^ 31 - 1) else (if int_le (pos (2 ^ 31 - 1)) z then pos (2 ^ 31 - 1) else z)
 
--- one number as the only field of a result
-abbrev pub one_field : ℤ → Fields
-one_field z = record { count = 1; values = to_32_bits z ∷ pos 0 ∷ pos 0 ∷ pos 0 ∷ pos 0 ∷ [] }
-
--- the Gregorian date of a day: year, month and day
-unfoldable pub gregorian_fields_on : ℤ → Fields
-gregorian_fields_on day = record { count = 3; values = to_32_bits (year_of_day day) ∷ pos (month_of_day day) ∷ pos (day_of_month day) ∷ pos 0 ∷ pos 0 ∷ [] }
-
--- what a day comes to
-abbrev pub result_on : ToWord → ℤ → Inquiry Resolved
-result_on Gregorian day = done (Shown Gregorian (gregorian_fields_on day))
-result_on Fixed day = done (Shown Fixed (one_field day))
-result_on Dt day = ask (dt_fact day) (λ v. done (Shown Dt (one_field v)))
-result_on Sun day = ask (sun_fact day) (λ v. done (Shown Sun (one_field v)))
-
--- the rule of a line
-unfoldable pub rule_of : Request → Inquiry Resolved
-rule_of r = result_on r.to (day_of r.from r.date)
+-- the nearest number of 8 bits
+abbrev pub to_8_bits : ℤ → ℤ
+to_8_bits z = if int_le z (pos 0) then pos 0 else (if int_le (pos 255) z then pos 255 else z)
 
 -- the result of an inquiry over a table of the values of facts
 abbrev pub result_over : {A : Type 0} → (Fact → ℤ) → Inquiry A → A
@@ -66,8 +40,9 @@ facts_over table (ask f next) = f ∷ facts_over table (next (table f))
 
 -- the number of a kind of fact, and that of a place
 abbrev pub kind_number : Kind → ℕ
-kind_number dt_kind = 1
-kind_number sun_kind = 2
+kind_number Dt = 1
+kind_number Sun = 2
+kind_number Nowruz = 3
 
 abbrev pub place_number : Place → ℕ
 place_number Nowhere = 0

@@ -1,12 +1,14 @@
 -- The formulas of the kinds of facts, each for a day (R.D.).
-use Rattle.std.specs.Prelude.{ℤ}
-use Rattle.book_model.specs.declared.site.Site.TheVariants.{Round}
+use Rattle.std.specs.Prelude.{ℤ, pos, ◌-ℤ◌, Bool, not}
+use Rattle.book_model.specs.declared.site.Site.TheVariants.{Round, StartFloor, DayTest}
 use Rattle.book_model.specs.declared.tables.TheConstants.{MILLISECONDS_OF_DAY, THOUSANDTHS_OF_DEGREE}
 use Rattle.book_model.specs.Correction.{year_of, rounded_of}
-use Rattle.book_model.specs.Expressions.{integer, scale}
+use Rattle.book_model.specs.Expressions.{Expression, integer, scale}
 use Rattle.book_model.specs.Fractions.{fraction_of}
-use Rattle.book_model.specs.Programs.{Program, answer, cell, bind, integers}
-use Rattle.book_model.specs.Sun.{sun_of}
+use Rattle.book_model.specs.Noon.{noon_of}
+use Rattle.book_model.specs.Programs.{Program, answer, cell, compare, bind, integers}
+use Rattle.book_model.specs.Searches.{first_day_from}
+use Rattle.book_model.specs.Sun.{sun_of, estimate_of}
 use Rattle.book_model.specs.Time.{correction_of_year}
 
 -- the correction of a day's year, in milliseconds
@@ -21,3 +23,32 @@ unfoldable pub sun_in_thousandths_of : ℤ → Program ℤ
 sun_in_thousandths_of d =
     bind (sun_of (integer d)) λ s.
     cell Round integers (scale (fraction_of THOUSANDTHS_OF_DEGREE) s) answer
+
+-- the sun's longitude at true noon of a day in Tehran
+unfoldable pub longitude_at_noon_of : ℤ → Program Expression
+longitude_at_noon_of d = bind (noon_of d) sun_of
+
+-- whether a longitude is at most 2 degrees
+unfoldable pub is_at_most_two_of : Expression → Program Bool
+is_at_most_two_of s = compare DayTest (integer (pos 2)) s λ more. answer (not more)
+
+-- whether the sun has passed the spring equinox at true noon of a day in Tehran: the search begins before it, where the
+-- longitude is near 360
+unfoldable pub has_spring_at_noon : ℤ → Program Bool
+has_spring_at_noon d = bind (longitude_at_noon_of d) is_at_most_two_of
+
+-- the moment at which, as is estimated, the sun was last at the spring equinox before true noon of a day in Tehran
+unfoldable pub last_equinox_of : ℤ → Program Expression
+last_equinox_of d = bind (noon_of d) (estimate_of (integer (pos 0)))
+
+-- the day of that moment
+unfoldable pub search_start_of : ℤ → Program ℤ
+search_start_of d =
+    bind (last_equinox_of d) λ s.
+    cell StartFloor integers s answer
+
+-- the first day of the Persian year in which a day falls
+unfoldable pub nowruz_of : ℤ → Program ℤ
+nowruz_of d =
+    bind (search_start_of d) λ q.
+    first_day_from has_spring_at_noon (q -ℤ pos 1)

@@ -5,12 +5,16 @@ pub mod Expressions
 pub mod Bounds
 pub mod Relations
 pub mod Programs
+pub mod Searches
 pub mod Leading
 pub mod Nesting
 pub mod Correction
 pub mod Lines
 pub mod Requests
 pub mod Inquiries
+pub mod Spans
+pub mod Persian
+pub mod LineRules
 pub mod Outcomes
 pub mod Plain
 pub mod Text
@@ -19,5 +23,6 @@ pub mod Octants
 pub mod Polynomials
 pub mod Time
 pub mod Sun
+pub mod Noon
 pub mod Kinds
 pub mod Facts

@@ -5,9 +5,11 @@ use Rattle.book_model.specs.declared.fact.Fact.{Fact}
 use Rattle.book_model.specs.declared.fail.Undecided.{Undecided}
 use Rattle.book_model.specs.declared.request.Request.{Request}
 use Rattle.book_model.specs.declared.request.Resolved.{Resolved}
+use Rattle.book_model.specs.declared.request.Resolved.TheVariants.{Shown, TooFar, NoDate}
 use Rattle.book_model.specs.declared.request.Rule.{Rule}
 use Rattle.book_model.specs.Facts.{IsNear, IsVoidAt}
-use Rattle.book_model.specs.Inquiries.{rule_of, finding, found, AsksAt}
+use Rattle.book_model.specs.Inquiries.{finding, found, AsksAt}
+use Rattle.book_model.specs.LineRules.{rule_of}
 use Rattle.book_model.specs.Requests.{request_of}
 
 -- what comes of a line: it breaks a rule; it has a result, with the facts asked and their values; or a fact that
@@ -44,9 +46,22 @@ AreRight [] (o ∷ os) = ⊥
 AreRight (line ∷ lines) [] = ⊥
 AreRight (line ∷ lines) (o ∷ os) = IsRightFor line o × AreRight lines os
 
+-- whether what a line comes to is shown
+abbrev pub is_shown : Resolved → Bool
+is_shown (Shown to fields) = true
+is_shown (TooFar day) = false
+is_shown (NoDate back) = false
+
 -- whether the outcome is a result
 abbrev pub is_result : LineOutcome → Bool
 is_result (refused rule) = false
-is_result (resolved x facts) = true
+is_result (resolved x facts) = is_shown x
 is_result (undecided f u) = false
 is_result (void f s) = false
+
+-- whether the outcome is a result, or a refusal that was found by computing
+abbrev pub is_resolved : LineOutcome → Bool
+is_resolved (refused rule) = false
+is_resolved (resolved x facts) = true
+is_resolved (undecided f u) = false
+is_resolved (void f s) = false

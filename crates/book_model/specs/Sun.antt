@@ -1,10 +1,11 @@
--- The apparent longitude of the sun, and the obliquity of the ecliptic, in degrees. Here c is in centuries.
+-- The apparent longitude of the sun, the obliquity of the ecliptic, and about when the sun was last at a longitude.
+-- Angles are in degrees, moments and spans in days; c is in centuries.
 -- Reingold and Dershowitz, Calendrical Calculations, chapter 14.
 use Rattle.std.specs.Prelude.{pos, ◌-◌, ◌^◌}
 use Rattle.exact_math.specs.Fraction.{Fraction}
-use Rattle.book_model.specs.declared.site.Site.TheVariants.{SunWrap}
-use Rattle.book_model.specs.declared.sun_tables.TheConstants.{ABERRATION, MEAN_ABERRATION, NODE_NUTATION, OBLIQUITY, SOLAR_NUTATION, SUN_AT_2000, SUN_RATE, SUN_WAVES}
-use Rattle.book_model.specs.Expressions.{Expression, constant, add, subtract, scale, remainder}
+use Rattle.book_model.specs.declared.site.Site.TheVariants.{StepWrap, SunWrap}
+use Rattle.book_model.specs.declared.sun_tables.TheConstants.{ABERRATION, DEGREE_OF_YEAR, MEAN_ABERRATION, NODE_NUTATION, OBLIQUITY, SOLAR_NUTATION, SUN_AT_2000, SUN_RATE, SUN_WAVES}
+use Rattle.book_model.specs.Expressions.{Expression, integer, constant, add, subtract, scale, minimum, remainder}
 use Rattle.book_model.specs.Fractions.{fraction_of}
 use Rattle.book_model.specs.Polynomials.{cubic_of, cosine_wave_of, quadratic_wave_of, waves_of}
 use Rattle.book_model.specs.Programs.{Program, answer, cell, bind, multiples}
@@ -37,3 +38,29 @@ sun_of x =
 -- the obliquity of the ecliptic
 unfoldable pub obliquity_of : Expression → Program Expression
 obliquity_of c = answer (cubic_of OBLIQUITY c)
+
+-- an angle, reduced to 0 .. 360
+unfoldable pub reduced_of : Expression → Program Expression
+reduced_of x = cell StepWrap (multiples 360) x λ q. answer (remainder 360 x q)
+
+-- how far the sun is past the longitude l, from 0 up to 360
+unfoldable pub past_of : Expression → Expression → Program Expression
+past_of l x = bind (sun_of x) λ s. reduced_of (subtract s l)
+
+-- how far it is past the longitude l, from -180 up to 180
+unfoldable pub off_of : Expression → Expression → Program Expression
+off_of l x =
+    bind (sun_of x) λ s.
+    bind (reduced_of (add (subtract s l) (integer (pos 180)))) λ p.
+    answer (subtract p (integer (pos 180)))
+
+-- the moment x less the time in which the mean sun moves on by p
+unfoldable pub back_by : Expression → Expression → Expression
+back_by p x = subtract x (scale (fraction_of DEGREE_OF_YEAR) p)
+
+-- about when the sun was last at the longitude l, at or before a moment of universal time
+unfoldable pub estimate_of : Expression → Expression → Program Expression
+estimate_of l x =
+    bind (past_of l x) λ p.
+    bind (off_of l (back_by p x)) λ o.
+    answer (minimum x (back_by o (back_by p x)))

@@ -1,15 +1,15 @@
 -- The text that is written for lines and their outcomes.
-use Rattle.std.specs.Prelude.{ℕ, ◌+◌, ◌-◌, replicate, if◌then◌else◌, List, [], ◌∷◌, ◌++◌, length, slice_index_or, codes, decimal, ℤ, pos}
+use Rattle.std.specs.Prelude.{ℕ, ◌+◌, ◌-◌, replicate, if◌then◌else◌, List, [], ◌∷◌, ◌++◌, length, take, slice_index_or, codes, decimal, ℤ, pos}
 use Rattle.std.specs.Fmt.{signed_decimal}
 use Rattle.std.specs.List.{concat, flat_map, list_any, position_or_len}
 use Rattle.book_model.specs.declared.site.Site.{Site}
 use Rattle.book_model.specs.declared.fact.Fact.{Fact}
 use Rattle.book_model.specs.declared.fail.Undecided.{Undecided}
 use Rattle.book_model.specs.declared.request.ToWord.{ToWord}
-use Rattle.book_model.specs.declared.request.ToWord.TheVariants.{Gregorian, Fixed, Dt, Sun}
+use Rattle.book_model.specs.declared.request.ToWord.TheVariants.{Gregorian, Fixed, Persian, Dt, Sun}
 use Rattle.book_model.specs.declared.request.Fields.{Fields}
 use Rattle.book_model.specs.declared.request.Resolved.{Resolved}
-use Rattle.book_model.specs.declared.request.Resolved.TheVariants.{Shown}
+use Rattle.book_model.specs.declared.request.Resolved.TheVariants.{Shown, TooFar, NoDate}
 pub use Rattle.book_model.specs.Inquiries.{with_fact}
 use Rattle.book_model.specs.Inquiries.{fact_eq}
 use Rattle.book_model.specs.Lines.{words_of}
@@ -40,15 +40,32 @@ padded width n = replicate (width - length (decimal n)) 48 ++ decimal n
 unfoldable pub gregorian_text : Fields → List ℕ
 gregorian_text f = concat (padded 4 (field f 0) ∷ codes "-" ∷ padded 2 (field f 1) ∷ codes "-" ∷ padded 2 (field f 2) ∷ [])
 
--- the text of a result
+-- a number, after a dash
+abbrev pub dash_text : ℤ → List ℕ
+dash_text z = codes "-" ++ signed_decimal z
+
+-- numbers with dashes between them
+abbrev pub dashed : List ℤ → List ℕ
+dashed [] = []
+dashed (z ∷ zs) = signed_decimal z ++ flat_map dash_text zs
+
+-- the fields of a date with dashes between them
+unfoldable pub dashed_text : Fields → List ℕ
+dashed_text f = dashed (take f.count f.values)
+
+-- the text of a date or a number that is shown
 abbrev pub shown_as : ToWord → Fields → List ℕ
 shown_as Gregorian fields = gregorian_text fields
 shown_as Fixed fields = signed_decimal (first_value fields)
+shown_as Persian fields = dashed_text fields
 shown_as Dt fields = signed_decimal (first_value fields)
 shown_as Sun fields = signed_decimal (first_value fields)
 
+-- the text of a result, or of why there is none
 abbrev pub result_text : Resolved → List ℕ
 result_text (Shown to fields) = shown_as to fields
+result_text (TooFar day) = codes "refused 4 " ++ signed_decimal day
+result_text (NoDate back) = codes "refused 5 " ++ dashed_text back
 
 -- the three words of a line, with single spaces
 abbrev pub echo_of : List ℕ → List ℕ

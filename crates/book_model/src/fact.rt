@@ -6,6 +6,7 @@ ghost use Rattle.std.specs.Prelude.{◌≡◌, ◌↔◌, ℤ, pos, negsuc, ◌�
 pub enum Kind {
     Dt,
     Sun,
+    Nowruz,
 }
 
 /// A place that a fact may be asked of.
@@ -27,7 +28,7 @@ pub struct Fact {
 }
 
 /// All kinds of facts.
-pub const KINDS: [Kind; 2] = [Kind::Dt, Kind::Sun];
+pub const KINDS: [Kind; 3] = [Kind::Dt, Kind::Sun, Kind::Nowruz];
 
 /// All places.
 pub const PLACES: [Place; 5] = [
@@ -51,6 +52,7 @@ impl Kind {
         match self {
             Kind::Dt => "dt",
             Kind::Sun => "sun",
+            Kind::Nowruz => "nowruz",
         }
     }
 
@@ -59,7 +61,7 @@ impl Kind {
         ensures { IsTrue result ↔ (place ≡ Place.None) }
     {
         match self {
-            Kind::Dt | Kind::Sun => place == Place::None,
+            Kind::Dt | Kind::Sun | Kind::Nowruz => place == Place::None,
         }
     }
 }

@@ -7,6 +7,7 @@ ghost use Rattle.book_model.specs.Octants.{sine_of_degrees, cosine_of_degrees, t
 ghost use Rattle.book_model.specs.Nesting.{ValuesNest, RunsNest, IsNested, IsNestedByDepth, AreOctantsMet};
 ghost use Rattle.book_model.specs.Calendar.{year_of_day, IsYearOfDay};
 ghost use Rattle.book_model.specs.Programs.{Grid, CellsCut};
+ghost use Rattle.book_model.specs.Noon.{StartsNear};
 
 /// Nesting: at a greater depth, with narrower arguments, each expression's value lies within its value here, and
 /// each program makes the same tests as far as they are decided here, with the same answers.
@@ -43,4 +44,11 @@ pub fn series()
 #[tactic(auto, using(crate::proofs::DegreeSines::octants_met))]
 pub fn octants()
     ensures { AreOctantsMet }
+{}
+
+/// A search by days from an estimate sets out near the day: what is estimated from the true noon of a day lies at most
+/// 600 days before it and at most 2 after it, where its floor is decided.
+#[tactic(auto, using(crate::proofs::Estimates::starts_near))]
+pub fn starts()
+    ensures { StartsNear }
 {}

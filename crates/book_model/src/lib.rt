@@ -2,6 +2,7 @@
 //! `specs/` the definitions themselves: expressions, programs of tests, runs, facts, lines and texts.
 #![tactic(auto)]
 
+mod calendar_tables;
 mod fact;
 mod fail;
 mod frac;
@@ -16,6 +17,7 @@ mod tables;
 mod tests;
 mod time_tables;
 
+pub use calendar_tables::{PERSIAN_EPOCH, TROPICAL_YEAR};
 pub use fact::{Fact, KINDS, Kind, PLACES, Place};
 pub use fail::{Fail, Undecided};
 pub use frac::Frac;
@@ -23,8 +25,9 @@ pub use polynomial::{Cubic, Quadratic, QuadraticWave, Wave};
 pub use request::{Fields, FromWord, Request, Resolved, Rule, ToWord};
 pub use site::{SITES, Site};
 pub use sun_tables::{
-    ABERRATION, MEAN_ABERRATION, NODE_NUTATION, OBLIQUITY, SOLAR_NUTATION, SUN_AT_2000, SUN_RATE,
-    SUN_UNIT_COARSELY, SUN_UNIT_FINELY, SUN_WAVES,
+    ABERRATION, DEGREE_IN_DAYS, DEGREE_OF_YEAR, ECCENTRICITY, FIVE_QUARTERS, FOUR, MEAN_ABERRATION,
+    MEAN_SUN, MINUS_HALF, NODE_NUTATION, OBLIQUITY, PERSIAN_NOON_LONGITUDE, SOLAR_ANOMALY,
+    SOLAR_NUTATION, SUN_AT_2000, SUN_RATE, SUN_UNIT_COARSELY, SUN_UNIT_FINELY, SUN_WAVES, TWO,
 };
 pub use tables::{
     CORRECTION_1987, CORRECTION_2006, COSINE_RATIOS, DEGREE, HALF, MILLISECONDS_OF_DAY, PI_ABOVE,

@@ -1,18 +1,20 @@
 //! What a line of input asks, and what it gets.
 
-/// A word for the calendar of a line's date: a Gregorian date, or the day number of the book (R.D.).
+/// A word for the calendar of a line's date: a Gregorian date, the day number of the book (R.D.), or a Persian date.
 #[derive(Clone, Copy, Debug, PartialEq, Eq)]
 pub enum FromWord {
     Gregorian,
     Fixed,
+    Persian,
 }
 
-/// A word for what a line asks: the Gregorian date, the day number (R.D.), the dynamical time correction, or the
-/// longitude of the sun.
+/// A word for what a line asks: the Gregorian date, the day number (R.D.), the Persian date, the dynamical time
+/// correction, or the longitude of the sun.
 #[derive(Clone, Copy, Debug, PartialEq, Eq)]
 pub enum ToWord {
     Gregorian,
     Fixed,
+    Persian,
     Dt,
     Sun,
 }
@@ -41,8 +43,11 @@ pub enum Rule {
     Range,
 }
 
-/// What a line that breaks no rule comes to.
+/// What a line that breaks no rule by itself comes to: what it asks for, the day that its date names where that is
+/// outside the range, or the own date of that day where it isn't the date of the line.
 #[derive(Clone, Copy, Debug, PartialEq, Eq)]
 pub enum Resolved {
     Shown(ToWord, Fields),
+    TooFar { day: i64 },
+    NoDate { back: Fields },
 }

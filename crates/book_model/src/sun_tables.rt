@@ -86,6 +86,86 @@ pub const OBLIQUITY: Cubic = Cubic {
     },
 };
 
+/// The mean longitude of the sun, as the equation of time takes it.
+pub const MEAN_SUN: Quadratic = Quadratic {
+    constant: Frac {
+        num: 28_046_645,
+        den: 100_000,
+    },
+    linear: Frac {
+        num: 3_600_076_983,
+        den: 100_000,
+    },
+    square: Frac {
+        num: 3032,
+        den: 10_000_000,
+    },
+};
+
+/// The mean anomaly of the sun.
+pub const SOLAR_ANOMALY: Cubic = Cubic {
+    constant: Frac {
+        num: 35_752_910,
+        den: 100_000,
+    },
+    linear: Frac {
+        num: 3_599_905_030,
+        den: 100_000,
+    },
+    square: Frac {
+        num: -1559,
+        den: 10_000_000,
+    },
+    cube: Frac {
+        num: -48,
+        den: 100_000_000,
+    },
+};
+
+/// The eccentricity of the earth's orbit.
+pub const ECCENTRICITY: Quadratic = Quadratic {
+    constant: Frac {
+        num: 16_708_617,
+        den: 1_000_000_000,
+    },
+    linear: Frac {
+        num: -42_037,
+        den: 1_000_000_000,
+    },
+    square: Frac {
+        num: -1236,
+        den: 10_000_000_000,
+    },
+};
+
+/// Two.
+pub const TWO: Frac = Frac { num: 2, den: 1 };
+
+/// Four.
+pub const FOUR: Frac = Frac { num: 4, den: 1 };
+
+/// Five quarters.
+pub const FIVE_QUARTERS: Frac = Frac { num: 5, den: 4 };
+
+/// A half below 0.
+pub const MINUS_HALF: Frac = Frac { num: -1, den: 2 };
+
+/// The time in which the earth turns by a degree, in days.
+pub const DEGREE_IN_DAYS: Frac = Frac { num: 1, den: 360 };
+
+/// The longitude of Tehran, in degrees east of Greenwich, by whose true noon the Persian year begins (chapter 15 of the
+/// source).
+pub const PERSIAN_NOON_LONGITUDE: Frac = Frac {
+    num: 5142,
+    den: 100,
+};
+
+/// The time in which the sun moves on by a degree, in days: a 360th of the tropical year of 365.242189 days.
+pub const DEGREE_OF_YEAR: Frac = Frac {
+    num: 365_242_189,
+    den: 360_000_000,
+};
+
 /// The sun's mean longitude at the epoch.
 pub const SUN_AT_2000: Frac = Frac {
     num: 2_827_771_834,
