@@ -1,8 +1,10 @@
 //! The obliquity of the ecliptic.
-ghost use Rattle.std.specs.Prelude.{◌≡◌};
+ghost use Rattle.std.specs.Prelude.{◌≡◌, IfOk};
+ghost use Rattle.book_model.specs.Bounds.{Reach, limits_of};
 ghost use Rattle.book_model.specs.Expressions.{Expression, World};
 ghost use Rattle.book_model.specs.Leading.{Leads};
-ghost use Rattle.book_model.specs.Relations.{Within};
+ghost use Rattle.book_model.specs.Polynomials.{cubic_of};
+ghost use Rattle.book_model.specs.Relations.{Within, Narrow};
 ghost use Rattle.book_model.specs.Sun.{obliquity_of};
 
 use book_model::{Fail, OBLIQUITY};
@@ -14,6 +16,7 @@ use time_scales::cubic;
 #[tactic(auto, using(book_model::proofs::Leads::leading), unfolding(book_model::specs::Sun::obliquity_of))]
 pub fn obliquity<E: Enclosure>(c: E, trail: &mut Trail) -> Result<E, Fail>
     ensures leads { (w : World) (x : Expression) → Within E.shown w x c → Leads w (Within E.shown w) (obliquity_of x) trail.old.count trail.new.count result }
+    ensures narrow { IfOk result (λ y. (r : Reach) (x : Expression) → Narrow E.shown (limits_of E.BITS) r x c → Narrow E.shown (limits_of E.BITS) r (cubic_of OBLIQUITY x) y) }
     ensures counted { trail.new.count ≡ trail.old.count }
 {
     Ok(cubic(&OBLIQUITY, c))

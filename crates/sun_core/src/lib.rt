@@ -1,16 +1,27 @@
-//! The sun: its apparent longitude, and the obliquity of the ecliptic, in degrees. Moments are days (R.D.) with a
-//! fraction, as enclosures. Each formula makes the tests of its definition in the same order, and its answer holds
+//! The sun: its apparent longitude, the obliquity of the ecliptic, the equation of time and true noon, and about when
+//! the sun was last at a longitude. Angles are in degrees, moments and spans in days (moments R.D., with a fraction), all
+//! as enclosures. Each formula makes the tests of its definition in the same order, and its answer holds
 //! what the definition gives, at every depth from `DEPTH` on.
 //!
 //! - `sun`: the longitude at a moment, with nutation and aberration;
-//! - `obliquity`: of the ecliptic, by the centuries.
+//! - `obliquity`: of the ecliptic, by the centuries;
+//! - `equation_of_time`: what apparent time, which sundials show, is ahead of mean time;
+//! - `from_apparent`: from apparent to local mean time;
+//! - `noon`: true noon at Tehran, which decides the first day of a Persian year;
+//! - `estimate`: about when the sun was last at a longitude.
 #![tactic(auto)]
 
+mod apparent;
 mod ecliptic;
+mod equation;
+mod estimates;
 mod longitude;
 #[cfg(test)]
 mod tests;
 mod waves;
 
+pub use apparent::{from_apparent, noon};
 pub use ecliptic::obliquity;
+pub use equation::equation_of_time;
+pub use estimates::estimate;
 pub use longitude::sun;

@@ -1,5 +1,5 @@
 //! What no clause says: values from an independent implementation of the formulas, and how narrow the answers are.
-use crate::{obliquity, sun};
+use crate::{equation_of_time, estimate, from_apparent, noon, obliquity, sun};
 use book_model::{Fail as FormulaFail, Frac, Site};
 use encl_core::{Coarse, Enclosure, Trail};
 use std::test::Fail;
@@ -84,6 +84,106 @@ fn obliquities_are_those_of_the_reference(rt: HostRuntime) -> Result<(), Fail> {
             "the obliquity at {num} / {den}"
         );
         assert_eq!(rt; trail.count(), 0);
+    }
+    Ok(())
+}
+
+#[test]
+fn equations_of_time_are_those_of_the_reference(rt: HostRuntime) -> Result<(), Fail> {
+    for (num, den, days) in [
+        (657_253, 1, -160_861_981_715_541),
+        (1_400_001, 2, -285_308_939_659_302),
+        (738_965, 1, -372_234_267_647_203),
+        (739_194, 1, 824_648_585_918_681),
+        (739_300, 1, -697_093_484_537_938),
+        (748_382, 1, -144_382_769_100_706),
+    ] {
+        let mut trail = Trail::new();
+        let found = equation_of_time(fraction(num, den)?, &mut trail);
+        assert!(rt; is_near(found, days, 100), "the equation at {num} / {den}");
+        assert_eq!(rt; trail.count(), 1);
+    }
+    let mut trail = Trail::new();
+    let found = equation_of_time(Coarse::from_int(500_000), &mut trail);
+    assert_eq!(rt; found, Err(FormulaFail::Void(Site::Year)));
+    Ok(())
+}
+
+#[test]
+fn noons_are_those_of_the_reference(rt: HostRuntime) -> Result<(), Fail> {
+    for (num, den, moment) in [
+        (2571, 50, 53_248_076_373_971_678_943_068),
+        (-75, 1, 53_248_076_368_752_096_217_628),
+    ] {
+        let longitude = Frac::new(num, den).ok_or("a denominator of 0")?;
+        let mut trail = Trail::new();
+        let found = from_apparent(longitude, fraction(1_477_931, 2)?, &mut trail);
+        assert!(rt; is_near(found, moment, 150), "noon at {num} / {den}");
+        assert_eq!(rt; trail.count(), 1);
+    }
+    for (day, moment) in [
+        (657_253, 47_360_095_755_125_324_018_312),
+        (690_000, 49_719_766_278_278_986_750_688),
+        (738_965, 53_248_066_081_745_330_525_695),
+        (748_382, 53_926_632_230_731_779_861_610),
+    ] {
+        let mut trail = Trail::new();
+        let found = noon::<Coarse>(day, &mut trail);
+        assert!(rt; is_near(found, moment, 150), "noon on {day}");
+        assert_eq!(rt; trail.count(), 1);
+    }
+    Ok(())
+}
+
+#[test]
+fn estimates_are_those_of_the_reference(rt: HostRuntime) -> Result<(), Fail> {
+    for (longitude, num, den, moment) in [
+        (0, 657_500, 1, 47_352_708_476_108_292_385_862),
+        (0, 1_477_931, 2, 53_248_049_293_381_209_310_296),
+        (270, 738_886, 1, 53_241_637_990_525_143_703_094),
+        (180, 700_000, 1, 50_419_085_874_662_521_267_644),
+        (15, 1_440_001, 2, 51_880_580_422_051_481_061_800),
+        (0, 748_382, 1, 53_906_010_224_633_116_539_307),
+    ] {
+        let mut trail = Trail::new();
+        let found = estimate(Coarse::from_int(longitude), fraction(num, den)?, &mut trail);
+        assert!(rt;
+            is_near(found, moment, 1_000_000),
+            "{longitude} before {num} / {den}"
+        );
+        assert_eq!(rt; trail.count(), 6);
+    }
+    Ok(())
+}
+
+#[test]
+fn an_estimate_fails_by_its_tests(rt: HostRuntime) -> Result<(), Fail> {
+    let zero = Coarse::from_int(0);
+    for (moment, turn, site) in [
+        (Coarse::whole(), 1, Site::Year),
+        (
+            Coarse::from_int(738_964).hull(Coarse::from_int(738_966)),
+            2,
+            Site::SunWrap,
+        ),
+    ] {
+        let mut trail = Trail::new();
+        match estimate(zero, moment, &mut trail) {
+            Err(FormulaFail::Undecided(at)) => {
+                assert_eq!(rt; at.site, site);
+                assert_eq!(rt; at.turn, turn);
+            }
+            _ => assert!(rt; false, "the estimate is decided"),
+        }
+    }
+    let mut trail = Trail::new();
+    let autumn = Coarse::from_int(739_150).hull(Coarse::from_int(739_153));
+    match estimate(Coarse::from_int(180), autumn, &mut trail) {
+        Err(FormulaFail::Undecided(at)) => {
+            assert_eq!(rt; at.site, Site::StepWrap);
+            assert_eq!(rt; at.turn, 3);
+        }
+        _ => assert!(rt; false, "the estimate is decided"),
     }
     Ok(())
 }

@@ -1,0 +1,75 @@
+//! About when the sun was last at a longitude.
+ghost use Rattle.std.specs.Prelude.{◌≡◌, ◌≤◌, ◌+◌};
+ghost use Rattle.book_model.specs.Bounds.{Reach, limits_of};
+ghost use Rattle.book_model.specs.Expressions.{Expression, World};
+ghost use Rattle.book_model.specs.Leading.{Leads, next_turn};
+ghost use Rattle.book_model.specs.Relations.{Within, Narrow};
+ghost use Rattle.book_model.specs.Sun.{reduced_of, past_of, off_of, back_by, estimate_of};
+
+use crate::longitude::sun;
+use book_model::{DEGREE_OF_YEAR, Fail, Site};
+use encl_core::{Enclosure, Trail, wrap_step};
+
+/// Half a turn, in degrees.
+const HALF_TURN: i64 = 180;
+
+/// An angle, reduced to 0 up to 360 degrees: one test, at `step-wrap`.
+#[tactic(auto, using(book_model::proofs::Leads::leading), unfolding(book_model::specs::Sun::reduced_of))]
+fn reduced<E: Enclosure>(angle: E, trail: &mut Trail) -> Result<E, Fail>
+    ensures leads { (w : World) (x : Expression) → Within E.shown w x angle → Leads w (Within E.shown w) (reduced_of x) trail.old.count trail.new.count result }
+    ensures counted { trail.new.count ≡ next_turn trail.old.count }
+{
+    wrap_step(angle, 360, Site::StepWrap, trail)
+}
+
+/// How far the sun is past a longitude, from 0 up to 360 degrees.
+#[tactic(auto, using(book_model::proofs::Leads::leading), unfolding(book_model::specs::Sun::past_of, book_model::specs::Leading::next_turn))]
+fn past<E: Enclosure>(longitude: E, t: E, trail: &mut Trail) -> Result<E, Fail>
+    ensures leads { (w : World) (l x : Expression) → Within E.shown w l longitude → Within E.shown w x t → Leads w (Within E.shown w) (past_of l x) trail.old.count trail.new.count result }
+    ensures counted { trail.new.count ≤ trail.old.count + 3 }
+{
+    match sun(t, trail) {
+        Ok(there) => reduced(there.sub(longitude), trail),
+        Err(fail) => Err(fail),
+    }
+}
+
+/// How far the sun is past a longitude, from -180 up to 180 degrees.
+#[tactic(auto, using(book_model::proofs::Leads::leading), unfolding(book_model::specs::Sun::off_of, book_model::specs::Leading::next_turn))]
+fn off<E: Enclosure>(longitude: E, t: E, trail: &mut Trail) -> Result<E, Fail>
+    ensures leads { (w : World) (l x : Expression) → Within E.shown w l longitude → Within E.shown w x t → Leads w (Within E.shown w) (off_of l x) trail.old.count trail.new.count result }
+    ensures counted { trail.new.count ≤ trail.old.count + 3 }
+{
+    let there = sun(t, trail)?;
+    let half_turn = E::from_int(HALF_TURN);
+    match reduced(there.sub(longitude).add(half_turn), trail) {
+        Ok(angle) => Ok(angle.sub(half_turn)),
+        Err(fail) => Err(fail),
+    }
+}
+
+/// A moment less the time in which the mean sun moves on by an angle.
+#[tactic(auto, unfolding(book_model::specs::Sun::back_by))]
+fn back<E: Enclosure>(angle: E, t: E) -> E
+    ensures holds { (w : World) (p x : Expression) → Within E.shown w p angle → Within E.shown w x t → Within E.shown w (back_by p x) result }
+    ensures narrow { (r : Reach) (p x : Expression) → Narrow E.shown (limits_of E.BITS) r p angle → Narrow E.shown (limits_of E.BITS) r x t → Narrow E.shown (limits_of E.BITS) r (back_by p x) result }
+{
+    t.sub(angle.mul_frac(DEGREE_OF_YEAR))
+}
+
+/// About when the sun was last at a longitude, in degrees, at or before a moment of universal time (Reingold and
+/// Dershowitz, Calendrical Calculations, chapter 14): from the moment it goes back by the mean sun's time from that
+/// longitude, and from there once more by what the sun is still off. Six tests: the sun's two at the moment, one at
+/// `step-wrap`, the sun's two at the moment found first, and one at `step-wrap`. It is void at `year` in a year
+/// without a correction.
+#[tactic(auto, using(book_model::proofs::Leads::leading), unfolding(book_model::specs::Sun::estimate_of))]
+pub fn estimate<E: Enclosure>(l: E, t: E, trail: &mut Trail) -> Result<E, Fail>
+    ensures leads { (w : World) (a x : Expression) → Within E.shown w a l → Within E.shown w x t → Leads w (Within E.shown w) (estimate_of a x) trail.old.count trail.new.count result }
+    ensures counted { trail.new.count ≤ trail.old.count + 6 }
+{
+    let near = back(past(l, t, trail)?, t);
+    match off(l, near, trail) {
+        Ok(rest) => Ok(t.min(back(rest, near))),
+        Err(fail) => Err(fail),
+    }
+}
