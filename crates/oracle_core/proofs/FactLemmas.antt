@@ -5,7 +5,7 @@ use Rattle.std.specs.Ordering.{int_eq}
 use Rattle.std.specs.List.{list_any, position_or_len, position}
 use Rattle.book_model.specs.declared.fact.Fact.{Fact}
 use Rattle.book_model.specs.declared.fact.Kind.{Kind}
-use Rattle.book_model.specs.declared.fact.Kind.TheVariants.{Dt, Sun}
+use Rattle.book_model.specs.declared.fact.Kind.TheVariants.{Dt, Sun, Nowruz}
 use Rattle.book_model.specs.declared.fact.Place.{Place}
 use Rattle.book_model.specs.declared.fact.Place.TheVariants.{None as Nowhere, Beijing, Cairo, Tehran, Ujjain}
 use Rattle.book_model.specs.Inquiries.{fact_eq, with_fact, kind_number, place_number}
@@ -17,8 +17,13 @@ use Rattle.book_model.specs.contracts.fact.PlacePartialEq.TheImpl as derived_pla
 same_kind_eq : (k l : Kind) → derived_kind.eq-value.it k l ≡ (kind_number k == kind_number l)
 same_kind_eq Dt Dt = refl
 same_kind_eq Dt Sun = refl
+same_kind_eq Dt Nowruz = refl
 same_kind_eq Sun Dt = refl
 same_kind_eq Sun Sun = refl
+same_kind_eq Sun Nowruz = refl
+same_kind_eq Nowruz Dt = refl
+same_kind_eq Nowruz Sun = refl
+same_kind_eq Nowruz Nowruz = refl
 
 -- places are equal where their numbers are
 same_place_eq : (p q : Place) → derived_place.eq-value.it p q ≡ (place_number p == place_number q)
@@ -82,8 +87,13 @@ same_place f seen = rw (same_position f seen) refl
 one_kind : (k l : Kind) → (kind_number k == kind_number l) ≡ true → k ≡ l
 one_kind Dt Dt h = refl
 one_kind Dt Sun h = cc
+one_kind Dt Nowruz h = cc
 one_kind Sun Dt h = cc
 one_kind Sun Sun h = refl
+one_kind Sun Nowruz h = cc
+one_kind Nowruz Dt h = cc
+one_kind Nowruz Sun h = cc
+one_kind Nowruz Nowruz h = refl
 
 -- places with one number are one
 one_place : (p q : Place) → (place_number p == place_number q) ≡ true → p ≡ q

@@ -2,5 +2,6 @@ pub mod FactLemmas
 pub mod Noting
 pub mod Keeping
 pub mod Listing
-pub mod JiffCalendar
 pub mod Inquiring
+pub mod Moving
+pub mod Findings

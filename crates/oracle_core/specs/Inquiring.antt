@@ -15,12 +15,14 @@ abbrev pub HasValues : (Fact → ℤ → Type 0) → (Fact → Fact) → List Fa
 HasValues value_of kept_as [] = Unit {0}
 HasValues value_of kept_as (f ∷ fs) = ((v : ℤ) × value_of (kept_as f) v) × HasValues value_of kept_as fs
 
--- over every such table this is the result of the inquiry, and the facts that it asks have values and were added to
--- the list
+-- over every such table the inquiry asks these facts, which have values and were added to the list, and this is its
+-- result
 pub record HasAnswer {A : Type 0} (value_of : Fact → ℤ → Type 0) (kept_as : Fact → Fact) (i : Inquiry A) (old new : List Fact) (a : A) : Type 0 where
+  pub facts : List Fact
+  pub asks : (table : Fact → ℤ) → Agrees value_of kept_as table → facts ≡ facts_over table i
+  pub asked : new ≡ with_kept kept_as old facts
+  pub valued : HasValues value_of kept_as facts
   pub result : (table : Fact → ℤ) → Agrees value_of kept_as table → result_over table i ≡ a
-  pub asked : (table : Fact → ℤ) → Agrees value_of kept_as table → new ≡ with_kept kept_as old (facts_over table i)
-  pub valued : (table : Fact → ℤ) → Agrees value_of kept_as table → HasValues value_of kept_as (facts_over table i)
 
 -- over every such table the inquiry asks these facts, which have values and were added to the list, and then the one
 -- at which the oracle stops

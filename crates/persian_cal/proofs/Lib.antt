@@ -1,0 +1,3 @@
+pub mod TropicalYears
+pub mod Asked
+pub mod YearDays

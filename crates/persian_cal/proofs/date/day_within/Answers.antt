@@ -1,0 +1,25 @@
+use Rattle.std.proofs.Common.{rules, arith, SFits, w64, pos, ◌+ℤ◌, ◌-ℤ◌}
+use Rattle.std.proofs.lemmas.Int.{to_z-of_z, ints}
+use Rattle.book_model.specs.Persian.{day_within}
+use Rattle.persian_cal.proofs.TropicalYears.{days_near}
+use Rattle.persian_cal.proofs.date.day_within.Goals as goal
+
+pub overflow_add-result-2 : goal.overflow_add-result-2
+overflow_add-result-2 c =
+    let fy = c.ranges.year in
+    let fr : SFits w64 c.days_of_years.result = search rules in
+    let fm : SFits w64 (c.args.year -ℤ pos 1) = omega (arith, ints, c.requires.from, c.requires.to) in
+    let e = simp to_z-of_z at c.days_of_years.ensures.days in
+    let n = days_near (c.args.year -ℤ pos 1) (record { from = omega (arith, ints, c.requires.from, c.requires.to); to = omega (arith, ints, c.requires.from, c.requires.to) }) in
+    simp to_z-of_z (omega (arith, ints, e, n.from, n.to))
+
+pub returns : goal.returns
+unfolding day_within
+returns c =
+    let fy = c.ranges.year in
+    let fr : SFits w64 c.days_of_years.result = search rules in
+    let fm : SFits w64 (c.args.year -ℤ pos 1) = omega (arith, ints, c.requires.from, c.requires.to) in
+    let e = simp to_z-of_z at c.days_of_years.ensures.days in
+    let n = days_near (c.args.year -ℤ pos 1) (record { from = omega (arith, ints, c.requires.from, c.requires.to); to = omega (arith, ints, c.requires.from, c.requires.to) }) in
+    let fs : SFits w64 (pos 227076 +ℤ c.days_of_years.result) = omega (arith, ints, e, n.from, n.to) in
+    simp to_z-of_z (record { day = omega (arith, ints, e); low = omega (arith, ints, e, n.from, n.to); high = omega (arith, ints, e, n.from, n.to) })

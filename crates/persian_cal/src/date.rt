@@ -1,0 +1,163 @@
+//! Persian dates, and the facts that they are found by.
+ghost use Rattle.std.specs.Prelude.{◌≡◌, ◌↔◌, ◌≤◌, ◌≤ℤ◌, ◌+ℤ◌, ◌-ℤ◌, ℤ, pos, negsuc, IfOk, IfErr};
+ghost use Rattle.book_model.specs.declared.fact.Fact.{Fact};
+ghost use Rattle.book_model.specs.Inquiries.{to_8_bits as nearest};
+ghost use Rattle.book_model.specs.Persian.{nowruz_fact, day_within as day_within_year, days_before as days_of_months_before, year_begun as year_begun_on, date_in as date_of_number, persian_on, persian_day};
+ghost use Rattle.oracle_core.specs.Inquiring.{HasAnswer, StopsAt};
+ghost use Rattle.oracle_core.specs.declared.oracle.Stop.{Stop};
+ghost use Rattle.persian_cal.specs.Dates.{fields_of_date};
+
+use crate::months::{days_before, month_of};
+use crate::spans::{days_of_years, years_of_days};
+use book_model::{Fact, Kind, PERSIAN_EPOCH, Place};
+use oracle_core::{Oracle, Stop};
+
+/// A date of the Persian calendar.
+#[derive(Clone, Copy, Debug, PartialEq, Eq)]
+pub struct PersianDate {
+    pub year: i32,
+    pub month: u8,
+    pub day: u8,
+}
+
+/// The fact of the first day of the Persian year that a day (R.D.) falls in.
+pub(crate) fn nowruz_fact_on(day: i64) -> Fact
+    requires low { negsuc 39999999 ≤ℤ day }
+    requires high { day ≤ℤ pos 40000000 }
+    ensures fact { result ≡ nowruz_fact day }
+{
+    Fact::new(Kind::Nowruz, Place::None, day).unwrap()
+}
+
+/// A day (R.D.) about the middle of a year.
+fn day_within(year: i64) -> i64
+    requires from { negsuc 29999 ≤ℤ year }
+    requires to { year ≤ℤ pos 30000 }
+    ensures day { result ≡ day_within_year year }
+    ensures low { negsuc 39999999 ≤ℤ result }
+    ensures high { result ≤ℤ pos 40000000 }
+{
+    PERSIAN_EPOCH + 180 + days_of_years(year - 1)
+}
+
+/// The fact of the first day of a year.
+fn new_year_fact(year: i64) -> Fact
+    requires from { negsuc 29999 ≤ℤ year }
+    requires to { year ≤ℤ pos 30000 }
+    ensures fact { result ≡ nowruz_fact (day_within_year year) }
+{
+    nowruz_fact_on(day_within(year))
+}
+
+/// The year that begins on a day (R.D.).
+fn year_begun(first: i64) -> i64
+    requires low { negsuc 9999999 ≤ℤ first }
+    requires high { first ≤ℤ pos 10000000 }
+    ensures year { result ≡ year_begun_on first }
+    ensures from { negsuc 29999 ≤ℤ result }
+    ensures to { result ≤ℤ pos 30000 }
+{
+    1 + years_of_days(first - PERSIAN_EPOCH)
+}
+
+/// The nearest number of 8 bits.
+fn to_8_bits(value: i64) -> u8
+    ensures number { pos result ≡ nearest value }
+{
+    if value <= 0 {
+        0
+    } else if value >= 255 {
+        255
+    } else {
+        value as u8
+    }
+}
+
+/// Year, month and day of a day of the year, which counts from 1.
+fn date_in(year: i64, number: i64) -> PersianDate
+    requires from { negsuc 29999 ≤ℤ year }
+    requires to { year ≤ℤ pos 30000 }
+    requires low { negsuc 19999999 ≤ℤ number }
+    requires high { number ≤ℤ pos 20000000 }
+    ensures date { fields_of_date result ≡ date_of_number year number }
+{
+    let month = month_of(number);
+    PersianDate {
+        year: year as i32,
+        month: to_8_bits(month),
+        day: to_8_bits(number - days_before(month)),
+    }
+}
+
+/// The date of a day (R.D.) by the first day of its year.
+fn date_by(year: i64, new_year: i64, day: i64) -> PersianDate
+    requires from { negsuc 29999 ≤ℤ year }
+    requires to { year ≤ℤ pos 30000 }
+    requires low { negsuc 9999999 ≤ℤ new_year }
+    requires high { new_year ≤ℤ pos 10000000 }
+    requires first { pos 0 ≤ℤ day }
+    requires last { day ≤ℤ pos 1000000 }
+    ensures date { fields_of_date result ≡ date_of_number year (day -ℤ new_year +ℤ pos 1) }
+{
+    date_in(year, day - new_year + 1)
+}
+
+/// The day (R.D.) of a month and a day by the first day of their year.
+fn day_by(new_year: i64, month: i64, day: i64) -> i64
+    requires low { negsuc 9999999 ≤ℤ new_year }
+    requires high { new_year ≤ℤ pos 10000000 }
+    requires from_first_month { pos 1 ≤ℤ month }
+    requires to_last_month { month ≤ℤ pos 12 }
+    requires from_first_day { pos 1 ≤ℤ day }
+    requires to_last_day { day ≤ℤ pos 31 }
+    ensures day { result ≡ new_year +ℤ days_of_months_before month +ℤ day -ℤ pos 1 }
+    ensures low { negsuc 19999999 ≤ℤ result }
+    ensures high { result ≤ℤ pos 20000000 }
+{
+    new_year + days_before(month) + day - 1
+}
+
+/// The date of a day (R.D.): over each table that gives every fact the value that the oracle has for it, the year
+/// that begins nearest to the first day which is found for the day, with the month and the day of the month that
+/// follow from that year's own first day. A month that its type doesn't hold stands at the nearest end; year and day
+/// always fit. It stops where the oracle stops, at one of the two facts that are asked (Reingold and Dershowitz,
+/// Calendrical Calculations, chapter 15).
+#[tactic(auto, using(crate::proofs::Asked::date_stops))]
+pub fn from_fixed<O: Oracle>(oracle: &mut O, day: i64) -> Result<PersianDate, Stop>
+    requires from { pos 0 ≤ℤ day }
+    requires to { day ≤ℤ pos 1000000 }
+    ensures answer { IfOk result (λ d. HasAnswer (O.value_of oracle.old) (O.kept_as oracle.old) (persian_on day) (O.asked oracle.old) (O.asked oracle.new) (fields_of_date d)) }
+    ensures stop { IfErr result (λ s. StopsAt (O.value_of oracle.old) (O.kept_as oracle.old) (O.may_stop oracle.old) (persian_on day) (O.asked oracle.old) (O.asked oracle.new) s) }
+    ensures same_values { (f : Fact) (v : ℤ) → O.value_of oracle.old f v ↔ O.value_of oracle.new f v }
+    ensures same_keeping { (f : Fact) → O.kept_as oracle.old f ≡ O.kept_as oracle.new f }
+    ensures same_stops { (f : Fact) (s : Stop) → O.may_stop oracle.old f s ↔ O.may_stop oracle.new f s }
+{
+    let first = oracle.ask(nowruz_fact_on(day))?;
+    let year = year_begun(first);
+    let new_year = oracle.ask(new_year_fact(year))?;
+    Ok(date_by(year, new_year, day))
+}
+
+/// The day (R.D.) of a date: over each table that gives every fact the value that the oracle has for it, the first
+/// day of the year, the days of the months before, and the day of the month. The date needn't be one that the
+/// calendar has. It stops where the oracle stops, at the fact of the year's first day (Reingold and Dershowitz,
+/// Calendrical Calculations, chapter 15).
+pub fn to_fixed<O: Oracle>(oracle: &mut O, date: PersianDate) -> Result<i64, Stop>
+    requires from_1180 { pos 1180 ≤ℤ date.year }
+    requires to_1427 { date.year ≤ℤ pos 1427 }
+    requires from_first_month { 1 ≤ date.month }
+    requires to_last_month { date.month ≤ 12 }
+    requires from_first_day { 1 ≤ date.day }
+    requires to_last_day { date.day ≤ 31 }
+    ensures answer { IfOk result (λ d. HasAnswer (O.value_of oracle.old) (O.kept_as oracle.old) (persian_day date.year (pos date.month) (pos date.day)) (O.asked oracle.old) (O.asked oracle.new) d) }
+    ensures near_low { IfOk result (λ d. negsuc 19999999 ≤ℤ d) }
+    ensures near_high { IfOk result (λ d. d ≤ℤ pos 20000000) }
+    ensures stop { IfErr result (λ s. StopsAt (O.value_of oracle.old) (O.kept_as oracle.old) (O.may_stop oracle.old) (persian_day date.year (pos date.month) (pos date.day)) (O.asked oracle.old) (O.asked oracle.new) s) }
+    ensures same_values { (f : Fact) (v : ℤ) → O.value_of oracle.old f v ↔ O.value_of oracle.new f v }
+    ensures same_keeping { (f : Fact) → O.kept_as oracle.old f ≡ O.kept_as oracle.new f }
+    ensures same_stops { (f : Fact) (s : Stop) → O.may_stop oracle.old f s ↔ O.may_stop oracle.new f s }
+{
+    let new_year = oracle.ask(new_year_fact(i64::from(date.year)))?;
+    let day = day_by(new_year, i64::from(date.month), i64::from(date.day));
+    Ok(day)
+}

@@ -1,0 +1,34 @@
+//! The months of a Persian year: six of 31 days, and those after them of 30.
+ghost use Rattle.std.specs.Prelude.{◌≡◌, pos, negsuc, ◌≤ℤ◌};
+ghost use Rattle.book_model.specs.Persian.{days_before as days_of_months_before, month_of as month_of_number};
+
+use crate::quotients::quotient_up;
+
+/// The days of the year that the first six months have.
+const DAYS_OF_SIX_MONTHS: i64 = 186;
+
+/// The days of a year before a month.
+pub(crate) fn days_before(month: i64) -> i64
+    requires from { negsuc 9999999 ≤ℤ month }
+    requires to { month ≤ℤ pos 10000000 }
+    ensures days { result ≡ days_of_months_before month }
+{
+    if month <= 7 {
+        31 * (month - 1)
+    } else {
+        30 * (month - 1) + 6
+    }
+}
+
+/// The month of a day of the year, which counts from 1.
+pub(crate) fn month_of(number: i64) -> i64
+    requires from { negsuc 19999999 ≤ℤ number }
+    requires to { number ≤ℤ pos 20000000 }
+    ensures month { result ≡ month_of_number number }
+{
+    if number <= DAYS_OF_SIX_MONTHS {
+        quotient_up(number, 31)
+    } else {
+        quotient_up(number - 6, 30)
+    }
+}
