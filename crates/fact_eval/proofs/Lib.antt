@@ -1,3 +1,4 @@
 pub mod Rightness
 pub mod WidthLemmas
 pub mod DayLemmas
+pub mod NewYears

@@ -2,7 +2,7 @@
 use Rattle.std.specs.Prelude.{◌≡◌, ◌^◌, ℤ, pos, ◌-ℤ◌, ◌≤ℤ◌}
 use Rattle.book_model.specs.declared.site.Site.TheVariants.{Year, Round}
 use Rattle.book_model.specs.declared.fact.Kind.{Kind}
-use Rattle.book_model.specs.declared.fact.Kind.TheVariants.{Dt, Sun}
+use Rattle.book_model.specs.declared.fact.Kind.TheVariants.{Dt, Sun, Nowruz}
 use Rattle.book_model.specs.declared.fail.Fail.{Fail}
 use Rattle.book_model.specs.declared.fail.Fail.TheVariants.{Undecided, Void}
 use Rattle.book_model.specs.declared.tables.TheConstants.{HALF, MILLISECONDS_OF_DAY}
@@ -29,3 +29,4 @@ IsNotOfYear (Void s) = Unit {0}
 abbrev pub IsNearFor : Kind → ℤ → Fail → Type 0
 IsNearFor Dt y f = IsNearRound y f
 IsNearFor Sun y f = IsNotOfYear f
+IsNearFor Nowruz y f = Unit {0}

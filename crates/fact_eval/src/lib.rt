@@ -3,6 +3,7 @@
 
 mod dt;
 mod longitude;
+mod nowruz;
 mod staged;
 #[cfg(test)]
 mod tests;

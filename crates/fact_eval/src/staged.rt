@@ -9,6 +9,7 @@ ghost use Rattle.fact_eval.specs.Widths.{IsNearFor, IsFactValue};
 
 use crate::dt::dt;
 use crate::longitude::sun_in_thousandths;
+use crate::nowruz::nowruz;
 use book_model::{Fact, Fail, Kind, Site};
 use encl_core::{Coarse, Enclosure, Trail};
 use oracle_core::{Answer, Evaluator};
@@ -42,6 +43,7 @@ pub(crate) fn evaluate<E: Enclosure>(fact: Fact, trail: &mut Trail) -> Result<i6
     match fact.kind() {
         Kind::Dt => dt::<E>(day, trail),
         Kind::Sun => sun_in_thousandths::<E>(day, trail),
+        Kind::Nowruz => nowruz::<E>(day, trail),
     }
 }
 

@@ -42,11 +42,54 @@ fn longitudes_of_the_sun_are_those_of_the_reference(rt: HostRuntime) -> Result<(
 }
 
 #[test]
+fn new_years_of_persia_are_those_of_the_reference(rt: HostRuntime) -> Result<(), Fail> {
+    let staged = Staged::new();
+    for (day, new_year) in [
+        (657_253, 657_151),
+        (657_880, 657_516),
+        (657_881, 657_881),
+        (658_246, 657_881),
+        (658_247, 658_247),
+        (664_455, 664_091),
+        (664_456, 664_456),
+        (682_352, 681_987),
+        (682_353, 682_353),
+        (693_674, 693_310),
+        (693_675, 693_675),
+        (702_805, 702_441),
+        (702_806, 702_806),
+        (711_936, 711_572),
+        (711_938, 711_937),
+        (728_737, 728_373),
+        (728_738, 728_738),
+        (730_198, 729_834),
+        (730_399, 730_199),
+        (738_599, 738_235),
+        (738_600, 738_600),
+        (738_964, 738_600),
+        (738_965, 738_965),
+        (739_330, 738_965),
+        (739_331, 739_331),
+        (740_790, 740_426),
+        (740_791, 740_791),
+        (747_730, 747_366),
+        (747_731, 747_731),
+        (748_382, 748_096),
+    ] {
+        let fact = Fact::new(Kind::Nowruz, Place::None, day).ok_or("no fact")?;
+        assert_eq!(rt; staged.eval(fact), Answer::Value(new_year), "day {day}");
+    }
+    Ok(())
+}
+
+#[test]
 fn other_days_are_void_at_the_year(rt: HostRuntime) -> Result<(), Fail> {
     let staged = Staged::new();
     for day in [-40_000_000, 0, 657_252, 748_383, 40_000_000] {
-        let fact = Fact::new(Kind::Dt, Place::None, day).ok_or("no fact")?;
-        assert_eq!(rt; staged.eval(fact), Answer::Void(Site::Year), "day {day}");
+        for kind in [Kind::Dt, Kind::Sun, Kind::Nowruz] {
+            let fact = Fact::new(kind, Place::None, day).ok_or("no fact")?;
+            assert_eq!(rt; staged.eval(fact), Answer::Void(Site::Year), "day {day}");
+        }
     }
     Ok(())
 }

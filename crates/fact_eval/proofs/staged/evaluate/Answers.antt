@@ -1,7 +1,7 @@
 use Rattle.std.proofs.Common.{rules, sym, arith, SFits, w64, pos, ◌≤ℤ◌, ◌<ℤ◌}
 use Rattle.std.proofs.lemmas.Int.{ints, to_z-of_z}
 use Rattle.book_model.proofs.Leads.{leads_void}
-use Rattle.fact_eval.proofs.Rightness.{dt_inside, sun_inside, program_before, program_after}
+use Rattle.fact_eval.proofs.Rightness.{dt_inside, sun_inside, nowruz_inside, program_before, program_after}
 use Rattle.fact_eval.proofs.staged.evaluate.Goals as goal
 use Rattle.fact_eval.proofs.staged.evaluate.Goals.{then-day-lt-FIRST_DAY-via-then-day-lt-FIRST_DAY, then-day-lt-FIRST_DAY-via-else-day-lt-FIRST_DAY+then-day-gt-LAST_DAY}
 
@@ -30,3 +30,11 @@ returns-in-Sun-clause-leads g c = λ w d.
     let k : c.day-day.result ≤ℤ pos 748382 = grind (arith, ints, to_z-of_z) in
     let l = simp to_z-of_z at (c.sun_in_thousandths.ensures.leads w d) in
     rw (sun_inside c.args.fact (sym c.in-Sun.ensures) (rw c.day-day.ensures at h) (rw c.day-day.ensures at k)) (rw c.day-day.ensures at l)
+
+pub returns-in-Nowruz-clause-leads : goal.returns-in-Nowruz-clause-leads
+returns-in-Nowruz-clause-leads g c = λ w d.
+    let f : SFits w64 c.day-day.result = search rules in
+    let h : pos 657253 ≤ℤ c.day-day.result = grind (arith, ints, to_z-of_z) in
+    let k : c.day-day.result ≤ℤ pos 748382 = grind (arith, ints, to_z-of_z) in
+    let l = simp to_z-of_z at (c.nowruz.ensures.leads w d) in
+    rw (nowruz_inside c.args.fact (sym c.in-Nowruz.ensures) (rw c.day-day.ensures at h) (rw c.day-day.ensures at k)) (rw c.day-day.ensures at l)
