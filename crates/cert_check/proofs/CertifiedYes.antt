@@ -9,7 +9,8 @@ use lib.Pointwise.{pointwise}
 use Rattle.book_model.specs.declared.fact.Fact.{Fact}
 use Rattle.book_model.specs.declared.fail.Undecided.{Undecided}
 use Rattle.book_model.specs.Facts.{run_of, IsNear}
-use Rattle.book_model.specs.Inquiries.{Inquiry, done, ask, fact_eq, with_fact, with_entry, rule_of, found, found_at, finding_after}
+use Rattle.book_model.specs.Inquiries.{Inquiry, done, ask, fact_eq, with_fact, with_entry, found, found_at, finding_after}
+use Rattle.book_model.specs.LineRules.{rule_of}
 use Rattle.book_model.specs.Programs.{Outcome, valued, void_at, open_at, outcome}
 use Rattle.book_model.specs.Text.{result_text}
 use Rattle.oracle_core.specs.declared.evaluator.Answer.{Answer}

@@ -51,8 +51,9 @@ module _ (facts : List Fact) (values : List ℤ) where
     pub traced_answer : (i : Inquiry A) (asked : List Fact) (a : A) → HasAnswer IsBeside (λ f. f) i [] asked a → trace_after facts values [] i ≡ traced a asked
     traced_answer i asked a h =
         let r : result_over table_of i ≡ a = h.result table_of agrees in
-        let k : asked ≡ with_kept (λ f. f) [] (facts_over table_of i) = h.asked table_of agrees in
-        rw (k, ← r) (traces i [] (h.valued table_of agrees))
+        let k : asked ≡ with_kept (λ f. f) [] (facts_over table_of i) = rw (h.asks table_of agrees) at h.asked in
+        let v : HasValues IsBeside (λ f. f) (facts_over table_of i) = rw (h.asks table_of agrees) at h.valued in
+        rw (k, ← r) (traces i [] v)
 
     -- where all that is asked before a fact is listed, and it isn't, it is missing
     misses : (i : Inquiry A) (seen before : List Fact) (f : Fact) → HasValues IsBeside (λ g. g) before → IsFront (before ++ f ∷ []) (facts_over table_of i) → value_beside facts values f ≡ None → trace_after facts values seen i ≡ missing f
@@ -134,10 +135,7 @@ ends_within facts asked values distinct valued = record {
 
 pub asked_within : {A : Type 0} (facts : List Fact) (values : List ℤ) (i : Inquiry A) (asked : List Fact) (a : A) → HasAnswer (IsBeside facts values) (λ f. f) i [] asked a → EndsWithin asked facts
 asked_within facts values i asked a h =
-    let k : asked ≡ with_kept (λ f. f) [] (facts_over (table_of facts values) i) = h.asked (table_of facts values) (agrees facts values) in
-    rw k (ends_within facts (with_kept (λ f. f) [] (facts_over (table_of facts values) i)) values
-    (distinct_kept [] (facts_over (table_of facts values) i) refl)
-    (valued_kept facts values [] (facts_over (table_of facts values) i) tt (h.valued (table_of facts values) (agrees facts values))))
+    rw h.asked (ends_within facts (with_kept (λ f. f) [] h.facts) values (distinct_kept [] h.facts refl) (valued_kept facts values [] h.facts tt h.valued))
 
 -- the verdict by what was asked is that of the listed facts
 pub traced_verdict : {E : Type 0} (facts : List Fact) (values : List ℤ) (i : Inquiry Resolved) (asked : List Fact) (x : Resolved) (text : List ℕ) (result : Result Verdict E) → HasAnswer (IsBeside facts values) (λ f. f) i [] asked x

@@ -9,7 +9,8 @@ use Rattle.book_model.specs.declared.request.Request.{Request}
 use Rattle.book_model.specs.declared.request.Resolved.{Resolved}
 use Rattle.book_model.specs.declared.request.Rule.{Rule}
 use Rattle.book_model.specs.Facts.{IsNear}
-use Rattle.book_model.specs.Inquiries.{Inquiry, done, ask, rule_of, fact_eq, with_fact}
+use Rattle.book_model.specs.Inquiries.{Inquiry, done, ask, fact_eq, with_fact}
+use Rattle.book_model.specs.LineRules.{rule_of}
 use Rattle.book_model.specs.Outcomes.{HasResult}
 use Rattle.book_model.specs.Requests.{request_of, rule_number}
 use Rattle.book_model.specs.Text.{result_text}

@@ -1,7 +1,7 @@
 //! The verdict of a line.
 ghost use Rattle.std.specs.Prelude.{◌≡◌, ◌<◌, ◌^◌, length, IsTrue, IfOk, [], Ok};
-ghost use Rattle.book_model.specs.Inquiries.{rule_of};
-ghost use Rattle.book_model.specs.Requests.{day_of, is_in_range, rule_number};
+ghost use Rattle.book_model.specs.LineRules.{rule_of};
+ghost use Rattle.book_model.specs.Requests.{is_answered, rule_number};
 ghost use Rattle.line_core.specs.Days.{names_day};
 ghost use Rattle.oracle_core.specs.Pairs.{are_distinct, facts_of, AreFactValues};
 ghost use Rattle.cert_text.specs.Reading.{are_of_facts, listed as numbers_of};
@@ -69,7 +69,7 @@ fn verdict_over(
     requires known { AreFactValues values.now }
     requires few { length facts.now < 2 ^ 32 }
     requires dated { IsTrue (names_day request.now.from request.now.date) }
-    requires near { IsTrue (is_in_range (day_of request.now.from request.now.date)) }
+    requires in_reach { IsTrue (is_answered request.now.from request.now.date) }
     ensures verdict { IfOk result (λ v. v ≡ spec.verdict_on_trace facts.now (spec.trace_after facts.now values.now [] (rule_of request.now)) text.now) }
 {
     let mut oracle = Listed::new(alloc, facts, values);
@@ -93,7 +93,7 @@ fn verdict_for(
     requires numbers { IsTrue (are_of_facts (length file.now.facts) [] numbers.now) }
     requires answered { length answers.now ≡ length file.now.facts }
     requires dated { IsTrue (names_day request.now.from request.now.date) }
-    requires near { IsTrue (is_in_range (day_of request.now.from request.now.date)) }
+    requires in_reach { IsTrue (is_answered request.now.from request.now.date) }
     ensures verdict { IfOk result (λ v. v ≡ spec.verdict_on_request (Ok request.now) (spec.first_unanswered file.now.facts answers.now numbers.now) (spec.numbered file.now.facts numbers.now) text.now) }
 {
     match first_reason(&file.facts, answers, numbers) {

@@ -76,6 +76,13 @@ fn text_of(alloc: Global, number: u32, verdict: &Verdict) -> Result<String, Fail
 
 const TRUE: Answer = Answer::Value(73_871);
 
+const OPEN: Answer = Answer::Undecided(Undecided {
+    turn: 2,
+    site: Site::Round,
+    lo: -5,
+    hi: 7,
+});
+
 #[test]
 fn changes_of_a_file_are_told(rt: HostRuntime) -> Result<(), Fail> {
     let alloc = rt.alloc();
@@ -118,7 +125,7 @@ fn changes_of_a_file_are_told(rt: HostRuntime) -> Result<(), Fail> {
 }
 
 #[test]
-fn lines_are_told_by_their_forms(rt: HostRuntime) -> Result<(), Fail> {
+fn lines_without_a_list_are_skipped(rt: HostRuntime) -> Result<(), Fail> {
     let alloc = rt.alloc();
     for (what, text, want) in [
         (
@@ -136,6 +143,17 @@ fn lines_are_told_by_their_forms(rt: HostRuntime) -> Result<(), Fail> {
             "calendrica 1 depth 40\nfact 1 dt - 738926 73871\nline 1 void year fact dt - 1\nend lines 1 facts 1\n",
             "skip 1\n",
         ),
+    ] {
+        let line = told(alloc, text, &[TRUE])?;
+        assert_eq!(rt; line.as_str(), want, "{what}");
+    }
+    Ok(())
+}
+
+#[test]
+fn found_results_are_compared(rt: HostRuntime) -> Result<(), Fail> {
+    let alloc = rt.alloc();
+    for (what, text, want) in [
         (
             "a day out of range",
             "calendrica 1 depth 40\nfact 1 dt - 738926 73871\nline 1 gregorian 2024-02-10 gregorian refused 4 748018 facts\nend lines 1 facts 1\n",
@@ -166,16 +184,10 @@ fn lines_are_told_by_their_forms(rt: HostRuntime) -> Result<(), Fail> {
 #[test]
 fn the_first_reason_is_told(rt: HostRuntime) -> Result<(), Fail> {
     let alloc = rt.alloc();
-    let open = Answer::Undecided(Undecided {
-        turn: 2,
-        site: Site::Round,
-        lo: -5,
-        hi: 7,
-    });
     for (what, found, want) in [
         (
             "an open test before another value",
-            [open, Answer::Value(1)],
+            [OPEN, Answer::Value(1)],
             "no 1 undecided round 2 -5 7 fact dt - 738927\n",
         ),
         (
@@ -185,7 +197,7 @@ fn the_first_reason_is_told(rt: HostRuntime) -> Result<(), Fail> {
         ),
         (
             "another value before an open test",
-            [Answer::Value(1), open],
+            [Answer::Value(1), OPEN],
             "no 1 value 2 5 1\n",
         ),
         (

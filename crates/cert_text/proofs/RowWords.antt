@@ -7,7 +7,7 @@ use Rattle.std.specs.List.{list_all, list_any}
 use Rattle.std.specs.Prelude.{codes, ◌&&◌, nat_le, nat_lt, nat_eq, not, ℤ}
 use Rattle.book_model.specs.declared.fact.Fact.{Fact}
 use Rattle.book_model.specs.declared.fact.Kind.{Kind}
-use Rattle.book_model.specs.declared.fact.Kind.TheVariants.{Dt, Sun}
+use Rattle.book_model.specs.declared.fact.Kind.TheVariants.{Dt, Sun, Nowruz}
 use Rattle.book_model.specs.declared.fact.Place.{Place}
 use Rattle.book_model.specs.declared.fact.Place.TheVariants.{None as Nowhere, Beijing, Cairo, Tehran, Ujjain}
 use Rattle.book_model.specs.declared.fail.Undecided.{Undecided as OpenTest}
@@ -37,6 +37,7 @@ signed_word z h = record { some = signed_some z h; printed = signed_printed z h 
 kind_word : (k : Kind) → IsWord (kind_name k)
 kind_word Dt = text_word (codes "dt") refl
 kind_word Sun = text_word (codes "sun") refl
+kind_word Nowruz = text_word (codes "nowruz") refl
 
 place_word : (p : Place) → IsWord (place_name p)
 place_word Nowhere = text_word (codes "-") refl

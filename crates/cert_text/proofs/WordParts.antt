@@ -6,7 +6,7 @@ use Rattle.std.specs.Fmt.{signed_decimal}
 use Rattle.std.specs.Prelude.{codes, Some, nat_le, ℤ, pos, negsuc, int_le}
 use Rattle.book_model.specs.declared.fact.Fact.{Fact}
 use Rattle.book_model.specs.declared.fact.Kind.{Kind}
-use Rattle.book_model.specs.declared.fact.Kind.TheVariants.{Dt, Sun}
+use Rattle.book_model.specs.declared.fact.Kind.TheVariants.{Dt, Sun, Nowruz}
 use Rattle.book_model.specs.declared.fact.Place.{Place}
 use Rattle.book_model.specs.declared.fact.Place.TheVariants.{None as Nowhere, Beijing, Cairo, Tehran, Ujjain}
 use Rattle.book_model.specs.declared.fail.Undecided.{Undecided as OpenTest}
@@ -55,6 +55,7 @@ end_here z ws h = rw (integer_read z (wide_fits z h)) refl
 kind_found : (k : Kind) → kind_in kinds (kind_name k) ≡ Some k
 kind_found Dt = refl
 kind_found Sun = refl
+kind_found Nowruz = refl
 
 place_found : (p : Place) → place_in places (place_name p) ≡ Some p
 place_found Nowhere = refl

@@ -6,7 +6,7 @@ use Rattle.book_model.specs.declared.site.TheConstants.{SITES}
 use Rattle.book_model.specs.declared.fact.Fact.{Fact}
 use Rattle.book_model.specs.declared.fact.TheConstants.{KINDS, PLACES}
 use Rattle.book_model.specs.declared.fact.Kind.{Kind}
-use Rattle.book_model.specs.declared.fact.Kind.TheVariants.{Dt, Sun}
+use Rattle.book_model.specs.declared.fact.Kind.TheVariants.{Dt, Sun, Nowruz}
 use Rattle.book_model.specs.declared.fact.Place.{Place}
 use Rattle.book_model.specs.declared.fact.Place.TheVariants.{None as Nowhere, Beijing, Cairo, Tehran, Ujjain}
 use Rattle.book_model.specs.declared.fail.Undecided.{Undecided as OpenTest}
@@ -145,6 +145,11 @@ is_place_of Sun Beijing = false
 is_place_of Sun Cairo = false
 is_place_of Sun Tehran = false
 is_place_of Sun Ujjain = false
+is_place_of Nowruz Nowhere = true
+is_place_of Nowruz Beijing = false
+is_place_of Nowruz Cairo = false
+is_place_of Nowruz Tehran = false
+is_place_of Nowruz Ujjain = false
 
 -- the fact, where the place is one of the kind's places
 abbrev pub fact_with : Kind → Place → ℤ → Option Fact

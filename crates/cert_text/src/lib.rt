@@ -25,7 +25,7 @@ pub use line::{CertLine, Echo};
 pub use lines::{Block, CertFile, Lines};
 pub use lists::{Numbers, Word};
 pub use read::{ReadFail, read_file};
-pub use result::{result_word, write_result};
+pub use result::{date_word, result_word, write_result};
 pub use split::split_lines;
 pub use stream::{Failed, ReadStop, Sink, Source, read_all, write_all};
 pub use write::{decimal, write_block, write_end, write_header, write_parts};

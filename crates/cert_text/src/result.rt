@@ -1,7 +1,8 @@
 //! The text of a result.
-ghost use Rattle.std.specs.Prelude.{◌≡◌, ◌≤◌, ◌<◌, ◌-◌, replicate, length, OnOk, OnErr, IfOk};
+ghost use Rattle.std.specs.Prelude.{◌≡◌, ◌≤◌, ◌<◌, ◌-◌, ◌++◌, codes, take, replicate, length, OnOk, OnErr, IfOk};
 ghost use Rattle.std.specs.Fmt.{signed_decimal};
 ghost use Rattle.std.specs.Io.KnownBytes.{Appends};
+ghost use Rattle.std.specs.List.{flat_map};
 ghost use Rattle.book_model.specs.Requests.{field as field_of};
 ghost use Rattle.book_model.specs.Text as spec;
 ghost use Rattle.cert_text.specs.Stream.{HasCause, AppendsFront};
@@ -58,28 +59,135 @@ fn write_gregorian<K: Sink>(sink: &mut K, date: &Fields) -> Result<(), Failed>
     )
 }
 
+/// Writes a number.
+fn write_number<K: Sink>(sink: &mut K, value: i32) -> Result<(), Failed>
+    ensures ok { OnOk result (Appends (K.written sink.old) (K.written sink.new) (signed_decimal value)) }
+    ensures err { OnErr result (AppendsFront (K.written sink.old) (K.written sink.new) (signed_decimal value)) }
+    ensures cause { HasCause (K.faults sink.old) (K.faults sink.new) result }
+{
+    let mut buffer = Buffer::new();
+    write_all(sink, decimal(&mut buffer, value))
+}
+
 /// Writes the first value of a result's fields.
 fn write_value<K: Sink>(sink: &mut K, fields: &Fields) -> Result<(), Failed>
     ensures ok { OnOk result (Appends (K.written sink.old) (K.written sink.new) (signed_decimal (spec.first_value fields.now))) }
     ensures err { OnErr result (AppendsFront (K.written sink.old) (K.written sink.new) (signed_decimal (spec.first_value fields.now))) }
     ensures cause { HasCause (K.faults sink.old) (K.faults sink.new) result }
 {
-    let mut buffer = Buffer::new();
-    write_all(sink, decimal(&mut buffer, fields.values[0]))
+    write_number(sink, fields.values[0])
 }
 
-/// Writes the text of a result: a Gregorian date with four, two and two digits, a day number, or a number of
-/// milliseconds or of thousandths of a degree, with a minus sign where it is below 0. At an error, which comes only where the count of the sink's
-/// faults rose, a front of the text was written.
+/// Writes a dash, and a number.
+fn write_next<K: Sink>(sink: &mut K, value: i32) -> Result<(), Failed>
+    ensures ok { OnOk result (Appends (K.written sink.old) (K.written sink.new) (spec.dash_text value)) }
+    ensures err { OnErr result (AppendsFront (K.written sink.old) (K.written sink.new) (spec.dash_text value)) }
+    ensures cause { HasCause (K.faults sink.old) (K.faults sink.new) result }
+{
+    let mut buffer = Buffer::new();
+    write_parts(sink, &[b"-", decimal(&mut buffer, value)])
+}
+
+/// Writes numbers, a dash before each.
+fn write_others<K: Sink>(sink: &mut K, values: &[i32]) -> Result<(), Failed>
+    ensures ok { OnOk result (Appends (K.written sink.old) (K.written sink.new) (flat_map spec.dash_text values.now)) }
+    ensures err { OnErr result (AppendsFront (K.written sink.old) (K.written sink.new) (flat_map spec.dash_text values.now)) }
+    ensures cause { HasCause (K.faults sink.old) (K.faults sink.new) result }
+{
+    for value in values {
+        write_next(sink, *value)?;
+    }
+    Ok(())
+}
+
+/// The fields that a date has.
+fn fields_in(date: &Fields) -> &[i32]
+    ensures fields { result.now ≡ take date.now.count date.now.values }
+{
+    &date.values[..usize::from(date.count).min(5)]
+}
+
+/// Writes a number, and others with a dash before each.
+fn write_row<K: Sink>(sink: &mut K, first: i32, others: &[i32]) -> Result<(), Failed>
+    ensures ok { OnOk result (Appends (K.written sink.old) (K.written sink.new) (signed_decimal first ++ flat_map spec.dash_text others.now)) }
+    ensures err { OnErr result (AppendsFront (K.written sink.old) (K.written sink.new) (signed_decimal first ++ flat_map spec.dash_text others.now)) }
+    ensures cause { HasCause (K.faults sink.old) (K.faults sink.new) result }
+{
+    write_number(sink, first)?;
+    write_others(sink, others)?;
+    Ok(())
+}
+
+/// Writes numbers with dashes between them.
+fn write_joined<K: Sink>(sink: &mut K, values: &[i32]) -> Result<(), Failed>
+    ensures ok { OnOk result (Appends (K.written sink.old) (K.written sink.new) (spec.dashed values.now)) }
+    ensures err { OnErr result (AppendsFront (K.written sink.old) (K.written sink.new) (spec.dashed values.now)) }
+    ensures cause { HasCause (K.faults sink.old) (K.faults sink.new) result }
+{
+    match values.split_first() {
+        Some((first, others)) => write_row(sink, *first, others),
+        None => Ok(()),
+    }
+}
+
+/// Writes the fields of a date with dashes between them.
+#[tactic(auto, unfolding(book_model::specs::Text::dashed_text))]
+fn write_dashed<K: Sink>(sink: &mut K, date: &Fields) -> Result<(), Failed>
+    ensures ok { OnOk result (Appends (K.written sink.old) (K.written sink.new) (spec.dashed_text date.now)) }
+    ensures err { OnErr result (AppendsFront (K.written sink.old) (K.written sink.new) (spec.dashed_text date.now)) }
+    ensures cause { HasCause (K.faults sink.old) (K.faults sink.new) result }
+{
+    write_joined(sink, fields_in(date))
+}
+
+/// Writes a date or a number that is shown: a Gregorian date with four, two and two digits, a date of another calendar
+/// with dashes between its fields, a day number, or a number of milliseconds or of thousandths of a degree, with a
+/// minus sign where it is below 0.
+fn write_shown<K: Sink>(sink: &mut K, to: ToWord, fields: &Fields) -> Result<(), Failed>
+    ensures ok { OnOk result (Appends (K.written sink.old) (K.written sink.new) (spec.shown_as to fields.now)) }
+    ensures err { OnErr result (AppendsFront (K.written sink.old) (K.written sink.new) (spec.shown_as to fields.now)) }
+    ensures cause { HasCause (K.faults sink.old) (K.faults sink.new) result }
+{
+    match to {
+        ToWord::Gregorian => write_gregorian(sink, fields),
+        ToWord::Persian => write_dashed(sink, fields),
+        ToWord::Fixed | ToWord::Dt | ToWord::Sun => write_value(sink, fields),
+    }
+}
+
+/// Writes that a day (R.D.) is out of range.
+fn write_too_far_day<K: Sink>(sink: &mut K, day: i64) -> Result<(), Failed>
+    ensures ok { OnOk result (Appends (K.written sink.old) (K.written sink.new) (codes "refused 4 " ++ signed_decimal day)) }
+    ensures err { OnErr result (AppendsFront (K.written sink.old) (K.written sink.new) (codes "refused 4 " ++ signed_decimal day)) }
+    ensures cause { HasCause (K.faults sink.old) (K.faults sink.new) result }
+{
+    let mut buffer = Buffer::new();
+    write_parts(sink, &[b"refused 4 ", decimal(&mut buffer, day)])
+}
+
+/// Writes the own date of a day that isn't the one given.
+fn write_own_date<K: Sink>(sink: &mut K, back: &Fields) -> Result<(), Failed>
+    ensures ok { OnOk result (Appends (K.written sink.old) (K.written sink.new) (codes "refused 5 " ++ spec.dashed_text back.now)) }
+    ensures err { OnErr result (AppendsFront (K.written sink.old) (K.written sink.new) (codes "refused 5 " ++ spec.dashed_text back.now)) }
+    ensures cause { HasCause (K.faults sink.old) (K.faults sink.new) result }
+{
+    write_all(sink, b"refused 5 ")?;
+    write_dashed(sink, back)?;
+    Ok(())
+}
+
+/// Writes the text of what a line comes to: a date or a number, or the refusal with the day that is out of range or
+/// the day's own date. At an error, which comes only where the count of the sink's faults rose, a front of the text
+/// was written.
 pub fn write_result<K: Sink>(sink: &mut K, resolved: Resolved) -> Result<(), Failed>
     ensures ok { OnOk result (Appends (K.written sink.old) (K.written sink.new) (spec.result_text resolved)) }
     ensures err { OnErr result (AppendsFront (K.written sink.old) (K.written sink.new) (spec.result_text resolved)) }
     ensures cause { HasCause (K.faults sink.old) (K.faults sink.new) result }
 {
-    let Resolved::Shown(to, fields) = resolved;
-    match to {
-        ToWord::Gregorian => write_gregorian(sink, &fields),
-        ToWord::Fixed | ToWord::Dt | ToWord::Sun => write_value(sink, &fields),
+    match resolved {
+        Resolved::Shown(to, fields) => write_shown(sink, to, &fields),
+        Resolved::TooFar { day } => write_too_far_day(sink, day),
+        Resolved::NoDate { back } => write_own_date(sink, &back),
     }
 }
 
@@ -89,6 +197,17 @@ pub fn result_word(alloc: Global, resolved: Resolved) -> Result<Word, AllocError
 {
     let mut gathered = Gathered::new(alloc);
     match write_result(&mut gathered, resolved) {
+        Ok(()) => Ok(Word::with(gathered.into_bytes())),
+        Err(_) => Err(AllocError),
+    }
+}
+
+/// The fields of a date with dashes between them, as a word. The error comes where memory runs out.
+pub fn date_word(alloc: Global, date: &Fields) -> Result<Word, AllocError>
+    ensures word { IfOk result (λ w. w ≡ spec.dashed_text date.now) }
+{
+    let mut gathered = Gathered::new(alloc);
+    match write_dashed(&mut gathered, date) {
         Ok(()) => Ok(Word::with(gathered.into_bytes())),
         Err(_) => Err(AllocError),
     }

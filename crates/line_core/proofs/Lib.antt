@@ -3,5 +3,4 @@ pub mod DateDays
 pub mod LineWords
 pub mod Requests
 pub mod Ranges
-pub mod Months
 pub mod GregorianDates

@@ -1,16 +1,18 @@
 //! Dates of lines: their text, and their day numbers (R.D.: day 1 is 1 January of the year 1).
-ghost use Rattle.std.specs.Prelude.{◌≡◌, ◌<◌, ◌↔◌, ◌==◌, ◌∷◌, [], length, position, pos, ◌+ℤ◌, IsTrue, IsSome, IfSome, MatchOption};
+ghost use Rattle.std.specs.Prelude.{◌≡◌, ◌<◌, ◌↔◌, ◌==◌, ◌∷◌, [], if◌then◌else◌, length, position, pos, ℕ, Bool, IsTrue, IsSome, IfSome, None, Some, MatchOption};
 ghost use Rattle.book_model.specs.Calendar.{is_date, fixed_of};
 ghost use Rattle.book_model.specs.Lines as spec;
-ghost use Rattle.book_model.specs.Requests.{fields_of, fixed_fields, field as field_of, day_of};
+ghost use Rattle.book_model.specs.Requests.{fields_of, dated_fields, three_fields as three_fields_of, fixed_fields, field as field_of, is_persian as may_be_persian, is_in_range as is_in_range_of, is_answered as is_answered_of};
 ghost use Rattle.line_core.specs.Days.{names_day};
-ghost use Rattle.jiff.specs.Words.{epoch_day};
 
-use book_model::{Fields, FromWord, Request};
-use jiff::civil::Date;
+use book_model::{Fields, FromWord};
+use civil_core::to_fixed;
 
-/// The day number of 1 January 1970 (R.D.).
-const EPOCH: i64 = 719_163;
+/// The first day that a line may name: 1 January 1802 (R.D.).
+const FIRST_DAY: i64 = 657_802;
+
+/// The last day that a line may name: 31 December 2048 (R.D.).
+const LAST_DAY: i64 = 748_017;
 
 /// Where the first dash stands.
 fn first_dash(word: &[u8]) -> Option<usize>
@@ -69,18 +71,55 @@ fn number(digits: &[u8]) -> Option<u32>
     Some(number)
 }
 
-/// The date of the years 1 to 9999 with these numbers, if the calendar has it.
-fn date_of(year: u32, month: u32, day: u32) -> Option<Date>
+/// The day number (R.D.) of the date of the years 1 to 9999 with these numbers, if the calendar has it.
+fn date_day(year: u32, month: u32, day: u32) -> Option<i64>
     ensures some { IsSome result ↔ IsTrue (is_date year month day) }
-    ensures day { IfSome result (λ date. fixed_of year month day ≡ epoch_day date +ℤ pos 719163) }
+    ensures day { IfSome result (λ n. n ≡ fixed_of year month day) }
 {
-    if year == 0 {
-        return None;
+    let year = i32::try_from(year).ok()?;
+    let month = u8::try_from(month).ok()?;
+    let day = u8::try_from(day).ok()?;
+    to_fixed(year, month, day).ok()
+}
+
+/// The numbers of a date.
+#[derive(Clone, Copy)]
+struct Numbers {
+    year: u32,
+    month: u32,
+    day: u32,
+}
+
+/// The numbers of a date that is written as year, month and day, each of up to seven digits.
+fn three_numbers(date: &[u8]) -> Option<Numbers>
+    ensures numbers { (may_have : ℕ → ℕ → ℕ → Bool) → MatchOption result (dated_fields may_have (spec.parts_of date.now) ≡ None) (λ n. dated_fields may_have (spec.parts_of date.now) ≡ (if may_have n.year n.month n.day then Some (three_fields_of n.year n.month n.day) else None)) }
+    ensures small { IfSome result (λ n. (n.year < 10000000) × (n.month < 10000000) × (n.day < 10000000)) }
+{
+    let Parts { year, month, day } = three_parts(date)?;
+    Some(Numbers {
+        year: number(year)?,
+        month: number(month)?,
+        day: number(day)?,
+    })
+}
+
+/// The fields of a date with these numbers.
+fn three_fields(numbers: &Numbers) -> Fields
+    requires year { numbers.now.year < 10000000 }
+    requires month { numbers.now.month < 10000000 }
+    requires day { numbers.now.day < 10000000 }
+    ensures fields { result ≡ three_fields_of numbers.now.year numbers.now.month numbers.now.day }
+{
+    Fields {
+        count: 3,
+        values: [
+            numbers.year as i32,
+            numbers.month as i32,
+            numbers.day as i32,
+            0,
+            0,
+        ],
     }
-    let year = i16::try_from(year).ok()?;
-    let month = i8::try_from(month).ok()?;
-    let day = i8::try_from(day).ok()?;
-    Date::new(year, month, day).ok()
 }
 
 /// The fields of a Gregorian date that is written as year, month and day, if the calendar has it.
@@ -88,15 +127,34 @@ fn gregorian_fields(date: &[u8]) -> Option<Fields>
     ensures fields { result ≡ fields_of FromWord.Gregorian date.now }
     ensures dated { IfSome result (λ f. IsTrue (names_day FromWord.Gregorian f)) }
 {
-    let Parts { year, month, day } = three_parts(date)?;
-    let year = number(year)?;
-    let month = number(month)?;
-    let day = number(day)?;
-    date_of(year, month, day)?;
-    Some(Fields {
-        count: 3,
-        values: [year as i32, month as i32, day as i32, 0, 0],
-    })
+    let numbers = three_numbers(date)?;
+    date_day(numbers.year, numbers.month, numbers.day)?;
+    Some(three_fields(&numbers))
+}
+
+/// Whether a Persian date may have these numbers.
+fn is_persian(numbers: &Numbers) -> bool
+    ensures may { result ≡ may_be_persian numbers.now.year numbers.now.month numbers.now.day }
+{
+    0 < numbers.year
+        && numbers.year < 10_000
+        && 0 < numbers.month
+        && numbers.month < 13
+        && 0 < numbers.day
+        && numbers.day < 32
+}
+
+/// The fields of a Persian date that is written as year, month and day, if there may be one.
+fn persian_fields(date: &[u8]) -> Option<Fields>
+    ensures fields { result ≡ fields_of FromWord.Persian date.now }
+    ensures dated { IfSome result (λ f. IsTrue (names_day FromWord.Persian f)) }
+{
+    let numbers = three_numbers(date)?;
+    if is_persian(&numbers) {
+        Some(three_fields(&numbers))
+    } else {
+        None
+    }
 }
 
 /// The number that digits spell as the only field.
@@ -121,7 +179,7 @@ fn fixed_field(date: &[u8]) -> Option<Fields>
     }
 }
 
-/// The fields of a date of a calendar, if the calendar has it.
+/// The fields of a date of a calendar, if the calendar may have it.
 pub(crate) fn date_fields(from: FromWord, date: &[u8]) -> Option<Fields>
     ensures fields { result ≡ fields_of from date.now }
     ensures dated { IfSome result (λ f. IsTrue (names_day from f)) }
@@ -129,6 +187,7 @@ pub(crate) fn date_fields(from: FromWord, date: &[u8]) -> Option<Fields>
     match from {
         FromWord::Gregorian => gregorian_fields(date),
         FromWord::Fixed => fixed_field(date),
+        FromWord::Persian => persian_fields(date),
     }
 }
 
@@ -141,30 +200,45 @@ pub(crate) fn field(date: &Fields, index: usize) -> u32
 }
 
 /// The day that the fields of a Gregorian date name (R.D.).
-fn gregorian_day(date: &Fields) -> i64
+pub(crate) fn gregorian_day(date: &Fields) -> i64
     requires dated { IsTrue (names_day FromWord.Gregorian date.now) }
-    ensures day { result ≡ day_of FromWord.Gregorian date.now }
+    ensures day { result ≡ fixed_of (field_of date.now 0) (field_of date.now 1) (field_of date.now 2) }
 {
-    let named = date_of(field(date, 0), field(date, 1), field(date, 2)).unwrap();
-    i64::from(named.to_plain().to_unix_epoch_day()) + EPOCH
+    date_day(field(date, 0), field(date, 1), field(date, 2)).unwrap()
 }
 
 /// The day that a day number's field names (R.D.).
-#[tactic(auto, unfolding(book_model::specs::Requests::day_of))]
-fn fixed_day(date: &Fields) -> i64
-    ensures day { result ≡ day_of FromWord.Fixed date.now }
+pub(crate) fn fixed_day(date: &Fields) -> i64
+    ensures day { result ≡ pos (field_of date.now 0) }
 {
     i64::from(field(date, 0))
 }
 
-/// The day that a request's date names (R.D.). The calendar has to have the date, as for each request that
-/// `read_line` gives.
-pub fn request_day(request: &Request) -> i64
-    requires dated { IsTrue (names_day request.now.from request.now.date) }
-    ensures day { result ≡ day_of request.now.from request.now.date }
+/// Whether a day (R.D.) is one of 1 January 1802 to 31 December 2048.
+pub(crate) fn is_in_range(day: i64) -> bool
+    ensures range { result ≡ is_in_range_of day }
 {
-    match request.from {
-        FromWord::Gregorian => gregorian_day(&request.date),
-        FromWord::Fixed => fixed_day(&request.date),
+    FIRST_DAY <= day && day <= LAST_DAY
+}
+
+/// Whether the year of a Persian date is one of 1180 to 1427.
+#[tactic(auto, unfolding(book_model::specs::Requests::is_answered))]
+fn has_persian_year(date: &Fields) -> bool
+    ensures answered { result ≡ is_answered_of FromWord.Persian date.now }
+{
+    let year = field(date, 0);
+    1180 <= year && year <= 1427
+}
+
+/// Whether a date is one that is answered, as far as that can be told without any fact: by its day, or by its year.
+#[tactic(auto, unfolding(book_model::specs::Requests::is_answered))]
+pub(crate) fn is_answered(from: FromWord, date: &Fields) -> bool
+    requires dated { IsTrue (names_day from date.now) }
+    ensures answered { result ≡ is_answered_of from date.now }
+{
+    match from {
+        FromWord::Gregorian => is_in_range(gregorian_day(date)),
+        FromWord::Fixed => is_in_range(fixed_day(date)),
+        FromWord::Persian => has_persian_year(date),
     }
 }

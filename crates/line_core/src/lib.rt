@@ -4,10 +4,10 @@
 mod day;
 mod gregorian;
 mod line;
+mod persian;
 mod result;
 #[cfg(test)]
 mod tests;
 
-pub use day::request_day;
 pub use line::{Words, cut_word, read_line, three_words};
 pub use result::resolve;

@@ -2,20 +2,14 @@
 ghost use Rattle.std.specs.Prelude.{◌≡◌, ◌≤◌, ◌↔◌, ◌&&◌, ◌∷◌, [], nat_le, not, length, position, IsTrue, IsSome, IfSome, IfOk, MatchOption};
 ghost use Rattle.std.specs.List.{list_all, position_or_len};
 ghost use Rattle.book_model.specs.Lines as spec;
-ghost use Rattle.book_model.specs.Requests.{request_of, with_words, from_word_of, to_word_of, day_of, is_in_range, ranged as ranged_of};
+ghost use Rattle.book_model.specs.Requests.{request_of, with_words, from_word_of, to_word_of, is_answered as is_answered_of, ranged as ranged_of};
 ghost use Rattle.line_core.specs.Days.{names_day};
 
-use crate::day::{date_fields, request_day};
+use crate::day::{date_fields, is_answered};
 use book_model::{FromWord, Request, Rule, ToWord};
 
 /// The longest line, in bytes.
 const LONGEST_LINE: usize = 200;
-
-/// The first day that a line may name: 1 January 1802 (R.D.).
-const FIRST_DAY: i64 = 657_802;
-
-/// The last day that a line may name: 31 December 2048 (R.D.).
-const LAST_DAY: i64 = 748_017;
 
 /// The three words of a line: the calendar of its date, the date, and what it asks.
 #[derive(Clone, Copy, Debug)]
@@ -113,6 +107,8 @@ fn from_word(word: &[u8]) -> Option<FromWord>
         Some(FromWord::Gregorian)
     } else if word == b"fixed".as_slice() {
         Some(FromWord::Fixed)
+    } else if word == b"persian".as_slice() {
+        Some(FromWord::Persian)
     } else {
         None
     }
@@ -126,6 +122,8 @@ fn to_word(word: &[u8]) -> Option<ToWord>
         Some(ToWord::Gregorian)
     } else if word == b"fixed".as_slice() {
         Some(ToWord::Fixed)
+    } else if word == b"persian".as_slice() {
+        Some(ToWord::Persian)
     } else if word == b"dt".as_slice() {
         Some(ToWord::Dt)
     } else if word == b"sun".as_slice() {
@@ -135,15 +133,14 @@ fn to_word(word: &[u8]) -> Option<ToWord>
     }
 }
 
-/// The request, where its day is one that a line may name.
+/// The request, where its date is one that is answered.
 fn ranged(request: Request) -> Result<Request, Rule>
     requires dated { IsTrue (names_day request.from request.date) }
     ensures ranged { result ≡ ranged_of request }
     ensures dated { IfOk result (λ r. IsTrue (names_day r.from r.date)) }
-    ensures near { IfOk result (λ r. IsTrue (is_in_range (day_of r.from r.date))) }
+    ensures answered { IfOk result (λ r. IsTrue (is_answered_of r.from r.date)) }
 {
-    let day = request_day(&request);
-    if FIRST_DAY <= day && day <= LAST_DAY {
+    if is_answered(request.from, &request.date) {
         Ok(request)
     } else {
         Err(Rule::Range)
@@ -154,7 +151,7 @@ fn ranged(request: Request) -> Result<Request, Rule>
 fn asked(words: Words<'_>) -> Result<Request, Rule>
     ensures asked { result ≡ with_words (from_word_of words.entry.from.now) words.entry.date.now (to_word_of words.entry.to.now) }
     ensures dated { IfOk result (λ r. IsTrue (names_day r.from r.date)) }
-    ensures near { IfOk result (λ r. IsTrue (is_in_range (day_of r.from r.date))) }
+    ensures answered { IfOk result (λ r. IsTrue (is_answered_of r.from r.date)) }
 {
     let from = from_word(words.from).ok_or(Rule::Calendar)?;
     let to = to_word(words.to).ok_or(Rule::Calendar)?;
@@ -162,13 +159,13 @@ fn asked(words: Words<'_>) -> Result<Request, Rule>
     ranged(Request { from, date, to })
 }
 
-/// What a line asks, which names a day, or the first rule that it breaks: `Syntax` where it isn't three words of printable bytes
-/// with blanks between them, in 200 bytes at most; `Calendar` for a word that isn't known; `Field` where the
-/// calendar has no such date; `Range` for a day that isn't answered.
+/// What a line asks, or the first rule that it breaks: `Syntax` where it isn't three words of printable bytes with
+/// blanks between them, in 200 bytes at most; `Calendar` for a word that isn't known; `Field` where the calendar can
+/// have no such date; `Range` for a date that isn't answered, as far as that can be told without any fact.
 pub fn read_line(bytes: &[u8]) -> Result<Request, Rule>
     ensures request { result ≡ request_of bytes.now }
     ensures dated { IfOk result (λ r. IsTrue (names_day r.from r.date)) }
-    ensures near { IfOk result (λ r. IsTrue (is_in_range (day_of r.from r.date))) }
+    ensures answered { IfOk result (λ r. IsTrue (is_answered_of r.from r.date)) }
 {
     if !is_readable(bytes) {
         return Err(Rule::Syntax);

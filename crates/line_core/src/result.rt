@@ -1,15 +1,17 @@
 //! What a request comes to.
 ghost use Rattle.std.specs.Prelude.{◌≡◌, ◌↔◌, ◌≤ℤ◌, ℤ, pos, negsuc, IsTrue, IfOk, IfErr};
 ghost use Rattle.book_model.specs.declared.fact.Fact.{Fact};
-ghost use Rattle.book_model.specs.Inquiries.{dt_fact, sun_fact, to_32_bits as nearest, one_field as one_field_of, result_on, rule_of};
-ghost use Rattle.book_model.specs.Requests.{day_of, is_in_range};
+ghost use Rattle.book_model.specs.Inquiries.{to_32_bits as nearest};
+ghost use Rattle.book_model.specs.LineRules.{dt_fact, sun_fact, one_field as one_field_of, are_same_fields, confirmed, day_named, persian_shown, result_on, result_within, result_of_day, rule_of, value_shown};
+ghost use Rattle.book_model.specs.Requests.{is_in_range as is_in_range_of, is_answered};
 ghost use Rattle.line_core.specs.Days.{names_day};
 ghost use Rattle.oracle_core.specs.Inquiring.{HasAnswer, StopsAt};
 ghost use Rattle.oracle_core.specs.declared.oracle.Stop.{Stop};
 
-use crate::day::request_day;
+use crate::day::{fixed_day, gregorian_day, is_in_range};
 use crate::gregorian::gregorian_date;
-use book_model::{Fact, Fields, Kind, Place, Request, Resolved, ToWord};
+use crate::persian::{named_persian_day, persian_fields_on};
+use book_model::{Fact, Fields, FromWord, Kind, Place, Request, Resolved, ToWord};
 use oracle_core::{Oracle, Stop};
 
 /// The fact of the dynamical time correction on a day (R.D.).
@@ -53,9 +55,63 @@ fn one_field(value: i64) -> Fields
     }
 }
 
-/// What a day (R.D.) comes to. It stops where the oracle stops.
+/// Whether two dates have the same fields.
+fn have_same_fields(date: &Fields, other: &Fields) -> bool
+    ensures same { result ≡ are_same_fields date.now other.now }
+{
+    date.count == other.count && date.values == other.values
+}
+
+/// The day (R.D.) that the date of a request names. It stops where the oracle stops.
+#[tactic(auto, using(oracle_core::proofs::Inquiring::answer_done))]
+fn named_day<O: Oracle>(oracle: &mut O, request: &Request) -> Result<i64, Stop>
+    requires dated { IsTrue (names_day request.now.from request.now.date) }
+    requires answered { IsTrue (is_answered request.now.from request.now.date) }
+    ensures answer { IfOk result (λ d. HasAnswer (O.value_of oracle.old) (O.kept_as oracle.old) (day_named request.now.from request.now.date) (O.asked oracle.old) (O.asked oracle.new) d) }
+    ensures stop { IfErr result (λ s. StopsAt (O.value_of oracle.old) (O.kept_as oracle.old) (O.may_stop oracle.old) (day_named request.now.from request.now.date) (O.asked oracle.old) (O.asked oracle.new) s) }
+    ensures same_values { (f : Fact) (v : ℤ) → O.value_of oracle.old f v ↔ O.value_of oracle.new f v }
+    ensures same_keeping { (f : Fact) → O.kept_as oracle.old f ≡ O.kept_as oracle.new f }
+    ensures same_stops { (f : Fact) (s : Stop) → O.may_stop oracle.old f s ↔ O.may_stop oracle.new f s }
+{
+    match request.from {
+        FromWord::Gregorian => Ok(gregorian_day(&request.date)),
+        FromWord::Fixed => Ok(fixed_day(&request.date)),
+        FromWord::Persian => named_persian_day(oracle, &request.date),
+    }
+}
+
+/// The value of a fact as a result. It stops where the oracle stops.
 #[tactic(auto, using(oracle_core::proofs::Inquiring::answer_done, oracle_core::proofs::Inquiring::answer_ask, oracle_core::proofs::Inquiring::stops_here))]
-fn resolve_day<O: Oracle>(oracle: &mut O, to: ToWord, day: i64) -> Result<Resolved, Stop>
+fn show_value<O: Oracle>(oracle: &mut O, to: ToWord, fact: Fact) -> Result<Resolved, Stop>
+    ensures answer { IfOk result (λ r. HasAnswer (O.value_of oracle.old) (O.kept_as oracle.old) (value_shown to fact) (O.asked oracle.old) (O.asked oracle.new) r) }
+    ensures stop { IfErr result (λ s. StopsAt (O.value_of oracle.old) (O.kept_as oracle.old) (O.may_stop oracle.old) (value_shown to fact) (O.asked oracle.old) (O.asked oracle.new) s) }
+    ensures same_values { (f : Fact) (v : ℤ) → O.value_of oracle.old f v ↔ O.value_of oracle.new f v }
+    ensures same_keeping { (f : Fact) → O.kept_as oracle.old f ≡ O.kept_as oracle.new f }
+    ensures same_stops { (f : Fact) (s : Stop) → O.may_stop oracle.old f s ↔ O.may_stop oracle.new f s }
+{
+    let value = oracle.ask(fact)?;
+    Ok(Resolved::Shown(to, one_field(value)))
+}
+
+/// The Persian date of a day (R.D.) as a result. It stops where the oracle stops.
+fn show_persian<O: Oracle>(oracle: &mut O, day: i64) -> Result<Resolved, Stop>
+    requires from_1802 { pos 657802 ≤ℤ day }
+    requires to_2048 { day ≤ℤ pos 748017 }
+    ensures answer { IfOk result (λ r. HasAnswer (O.value_of oracle.old) (O.kept_as oracle.old) (persian_shown day) (O.asked oracle.old) (O.asked oracle.new) r) }
+    ensures stop { IfErr result (λ s. StopsAt (O.value_of oracle.old) (O.kept_as oracle.old) (O.may_stop oracle.old) (persian_shown day) (O.asked oracle.old) (O.asked oracle.new) s) }
+    ensures same_values { (f : Fact) (v : ℤ) → O.value_of oracle.old f v ↔ O.value_of oracle.new f v }
+    ensures same_keeping { (f : Fact) → O.kept_as oracle.old f ≡ O.kept_as oracle.new f }
+    ensures same_stops { (f : Fact) (s : Stop) → O.may_stop oracle.old f s ↔ O.may_stop oracle.new f s }
+{
+    match persian_fields_on(oracle, day) {
+        Ok(fields) => Ok(Resolved::Shown(ToWord::Persian, fields)),
+        Err(stop) => Err(stop),
+    }
+}
+
+/// What a day (R.D.) comes to. It stops where the oracle stops.
+#[tactic(auto, using(oracle_core::proofs::Inquiring::answer_done))]
+fn resolve_on<O: Oracle>(oracle: &mut O, to: ToWord, day: i64) -> Result<Resolved, Stop>
     requires from_1802 { pos 657802 ≤ℤ day }
     requires to_2048 { day ≤ℤ pos 748017 }
     ensures answer { IfOk result (λ r. HasAnswer (O.value_of oracle.old) (O.kept_as oracle.old) (result_on to day) (O.asked oracle.old) (O.asked oracle.new) r) }
@@ -67,28 +123,87 @@ fn resolve_day<O: Oracle>(oracle: &mut O, to: ToWord, day: i64) -> Result<Resolv
     match to {
         ToWord::Gregorian => Ok(Resolved::Shown(to, gregorian_date(day))),
         ToWord::Fixed => Ok(Resolved::Shown(to, one_field(day))),
-        ToWord::Dt => {
-            let value = oracle.ask(dt_fact_on(day))?;
-            Ok(Resolved::Shown(to, one_field(value)))
-        }
-        ToWord::Sun => {
-            let value = oracle.ask(sun_fact_on(day))?;
-            Ok(Resolved::Shown(to, one_field(value)))
-        }
+        ToWord::Persian => show_persian(oracle, day),
+        ToWord::Dt => show_value(oracle, to, dt_fact_on(day)),
+        ToWord::Sun => show_value(oracle, to, sun_fact_on(day)),
+    }
+}
+
+/// What a day (R.D.) comes to whose own date is this one: `NoDate`, where that isn't the date of the request. It stops
+/// where the oracle stops.
+#[tactic(auto, using(oracle_core::proofs::Inquiring::answer_done), unfolding(book_model::specs::LineRules::confirmed))]
+fn confirm<O: Oracle>(
+    oracle: &mut O,
+    request: &Request,
+    day: i64,
+    back: Fields,
+) -> Result<Resolved, Stop>
+    requires from_1802 { pos 657802 ≤ℤ day }
+    requires to_2048 { day ≤ℤ pos 748017 }
+    ensures answer { IfOk result (λ r. HasAnswer (O.value_of oracle.old) (O.kept_as oracle.old) (confirmed request.now day back) (O.asked oracle.old) (O.asked oracle.new) r) }
+    ensures stop { IfErr result (λ s. StopsAt (O.value_of oracle.old) (O.kept_as oracle.old) (O.may_stop oracle.old) (confirmed request.now day back) (O.asked oracle.old) (O.asked oracle.new) s) }
+    ensures same_values { (f : Fact) (v : ℤ) → O.value_of oracle.old f v ↔ O.value_of oracle.new f v }
+    ensures same_keeping { (f : Fact) → O.kept_as oracle.old f ≡ O.kept_as oracle.new f }
+    ensures same_stops { (f : Fact) (s : Stop) → O.may_stop oracle.old f s ↔ O.may_stop oracle.new f s }
+{
+    if have_same_fields(&back, &request.date) {
+        resolve_on(oracle, request.to, day)
+    } else {
+        Ok(Resolved::NoDate { back })
+    }
+}
+
+/// What a day (R.D.) comes to that the Persian date of a request names. It stops where the oracle stops.
+fn resolve_persian<O: Oracle>(oracle: &mut O, request: &Request, day: i64) -> Result<Resolved, Stop>
+    requires from_1802 { pos 657802 ≤ℤ day }
+    requires to_2048 { day ≤ℤ pos 748017 }
+    ensures answer { IfOk result (λ r. HasAnswer (O.value_of oracle.old) (O.kept_as oracle.old) (result_within FromWord.Persian request.now day) (O.asked oracle.old) (O.asked oracle.new) r) }
+    ensures stop { IfErr result (λ s. StopsAt (O.value_of oracle.old) (O.kept_as oracle.old) (O.may_stop oracle.old) (result_within FromWord.Persian request.now day) (O.asked oracle.old) (O.asked oracle.new) s) }
+    ensures same_values { (f : Fact) (v : ℤ) → O.value_of oracle.old f v ↔ O.value_of oracle.new f v }
+    ensures same_keeping { (f : Fact) → O.kept_as oracle.old f ≡ O.kept_as oracle.new f }
+    ensures same_stops { (f : Fact) (s : Stop) → O.may_stop oracle.old f s ↔ O.may_stop oracle.new f s }
+{
+    match persian_fields_on(oracle, day) {
+        Ok(back) => confirm(oracle, request, day, back),
+        Err(stop) => Err(stop),
+    }
+}
+
+/// What a day (R.D.) comes to that the date of a request names: `TooFar` outside 1 January 1802 to 31 December 2048,
+/// and `NoDate` where the calendar of the request has another date for it. It stops where the oracle stops.
+#[tactic(auto, using(oracle_core::proofs::Inquiring::answer_done), unfolding(book_model::specs::LineRules::result_of_day))]
+fn resolve_day<O: Oracle>(oracle: &mut O, request: &Request, day: i64) -> Result<Resolved, Stop>
+    ensures answer { IfOk result (λ r. HasAnswer (O.value_of oracle.old) (O.kept_as oracle.old) (result_of_day request.now day) (O.asked oracle.old) (O.asked oracle.new) r) }
+    ensures stop { IfErr result (λ s. StopsAt (O.value_of oracle.old) (O.kept_as oracle.old) (O.may_stop oracle.old) (result_of_day request.now day) (O.asked oracle.old) (O.asked oracle.new) s) }
+    ensures same_values { (f : Fact) (v : ℤ) → O.value_of oracle.old f v ↔ O.value_of oracle.new f v }
+    ensures same_keeping { (f : Fact) → O.kept_as oracle.old f ≡ O.kept_as oracle.new f }
+    ensures same_stops { (f : Fact) (s : Stop) → O.may_stop oracle.old f s ↔ O.may_stop oracle.new f s }
+{
+    if !is_in_range(day) {
+        return Ok(Resolved::TooFar { day });
+    }
+    match request.from {
+        FromWord::Gregorian | FromWord::Fixed => resolve_on(oracle, request.to, day),
+        FromWord::Persian => resolve_persian(oracle, request, day),
     }
 }
 
 /// What a request that breaks no rule by itself comes to: over each table that gives every fact the value that the
 /// oracle has for it, the result of the line's rule, for which the facts that the rule asks are added to the oracle's
-/// list. It stops where the oracle stops, at a fact that the rule asks.
+/// list. `TooFar` comes exactly where the day that the date names is outside 1 January 1802 to 31 December 2048, and
+/// `NoDate` exactly where it isn't and has another date in the calendar of the request. It stops where the oracle
+/// stops, at a fact that the rule asks.
 pub fn resolve<O: Oracle>(oracle: &mut O, request: &Request) -> Result<Resolved, Stop>
     requires dated { IsTrue (names_day request.now.from request.now.date) }
-    requires near { IsTrue (is_in_range (day_of request.now.from request.now.date)) }
+    requires answered { IsTrue (is_answered request.now.from request.now.date) }
     ensures answer { IfOk result (λ r. HasAnswer (O.value_of oracle.old) (O.kept_as oracle.old) (rule_of request.now) (O.asked oracle.old) (O.asked oracle.new) r) }
     ensures stop { IfErr result (λ s. StopsAt (O.value_of oracle.old) (O.kept_as oracle.old) (O.may_stop oracle.old) (rule_of request.now) (O.asked oracle.old) (O.asked oracle.new) s) }
     ensures same_values { (f : Fact) (v : ℤ) → O.value_of oracle.old f v ↔ O.value_of oracle.new f v }
     ensures same_keeping { (f : Fact) → O.kept_as oracle.old f ≡ O.kept_as oracle.new f }
     ensures same_stops { (f : Fact) (s : Stop) → O.may_stop oracle.old f s ↔ O.may_stop oracle.new f s }
 {
-    resolve_day(oracle, request.to, request_day(request))
+    match named_day(oracle, request) {
+        Ok(day) => resolve_day(oracle, request, day),
+        Err(stop) => Err(stop),
+    }
 }

@@ -5,9 +5,11 @@ use Rattle.std.specs.List.{concat, flat_map, list_any}
 use Rattle.book_model.specs.declared.fact.Fact.{Fact}
 use Rattle.book_model.specs.Inquiries.{fact_eq}
 use Rattle.book_model.specs.Lines.{words_of}
-use Rattle.book_model.specs.Text.{fact_text, new_facts_text, with_facts, head_text, number_text, resolved_text}
+use Rattle.book_model.specs.declared.request.Fields.{Fields}
+use Rattle.book_model.specs.declared.request.Resolved.TheVariants.{TooFar, NoDate}
+use Rattle.book_model.specs.Text.{fact_text, new_facts_text, with_facts, head_text, number_text, resolved_text, result_text, dashed_text}
 use Rattle.cert_text.specs.declared.line.Echo.{Echo}
-use Rattle.cert_text.specs.Text.{fact_texts, echo_text, facts_text, listed_text}
+use Rattle.cert_text.specs.Text.{fact_texts, echo_text, facts_text, listed_text, too_far_text, no_date_text}
 use Rattle.run_core.specs.Numbering.{new_facts}
 
 -- numbered from the count of those that were seen, the new facts are the text of the new facts
@@ -47,3 +49,12 @@ pub listed_is : (number : ℕ) (line : List ℕ) (echo : Echo) (result facts : L
     → listed_text number echo result facts ≡ resolved_text number line result facts
 unfolding echo_text facts_text head_text
 listed_is number line echo result facts three = rw three (grouped (codes "line ") (decimal number) (codes " ") echo.from echo.date echo.to result (codes " facts") (flat_map number_text facts) (codes "\n"))
+
+-- the refusals that are found by computing, as they are written
+pub too_far_is : (day : ℤ) → too_far_text day ≡ result_text (TooFar day)
+unfolding too_far_text
+too_far_is day = rw append-nil refl
+
+pub no_date_is : (back : Fields) → no_date_text (dashed_text back) ≡ result_text (NoDate back)
+unfolding no_date_text
+no_date_is back = rw append-nil refl

@@ -5,7 +5,7 @@ use Rattle.book_model.specs.declared.fail.Undecided.{Undecided}
 use Rattle.book_model.specs.declared.request.Rule.{Rule}
 use Rattle.book_model.specs.declared.site.Site.{Site}
 use Rattle.book_model.specs.Facts.{IsNear, IsVoidAt}
-use Rattle.book_model.specs.Outcomes.{LineOutcome, refused, IsRightFor, AsksAlways, is_result}
+use Rattle.book_model.specs.Outcomes.{LineOutcome, refused, IsRightFor, AsksAlways, is_resolved}
 use Rattle.book_model.specs.Requests.{request_of}
 
 -- no fact that the line asks is near at a test or void
@@ -19,6 +19,7 @@ pub record IsRefusal (line : List ℕ) (o : LineOutcome) : Type 0 where
   pub broken : request_of line ≡ Err rule
   pub is : o ≡ refused rule
 
--- where no fact that the line asks is near or void, an outcome that is right for it is a result or a refusal
+-- where no fact that the line asks is near or void, an outcome that is right for it is a result, a refusal that was found by
+-- computing, or the refusal of the rule that the line breaks
 abbrev pub HasResultOrRule : List ℕ → Type 0
-HasResultOrRule line = IsDecided line → (o : LineOutcome) → IsRightFor line o → (is_result o ≡ true) ⊎ IsRefusal line o
+HasResultOrRule line = IsDecided line → (o : LineOutcome) → IsRightFor line o → (is_resolved o ≡ true) ⊎ IsRefusal line o

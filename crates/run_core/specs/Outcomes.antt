@@ -2,7 +2,8 @@
 use Rattle.std.specs.Prelude.{◌≡◌, ℕ, ◌≤◌}
 use Rattle.book_model.specs.declared.request.Request.{Request}
 use Rattle.book_model.specs.Facts.{IsNear, IsVoidAt}
-use Rattle.book_model.specs.Inquiries.{rule_of, finding, found, AsksAt}
+use Rattle.book_model.specs.Inquiries.{finding, found, AsksAt}
+use Rattle.book_model.specs.LineRules.{rule_of}
 use Rattle.book_model.specs.Outcomes.{LineOutcome, refused, resolved, undecided, void}
 use Rattle.oracle_core.specs.declared.oracle.Stop.{Stop}
 use Rattle.oracle_core.specs.declared.oracle.Stop.TheVariants.{Undecided as undecided_stop, Void as void_stop, Missing as missing_stop, Memory as memory_stop}

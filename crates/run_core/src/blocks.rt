@@ -10,7 +10,7 @@ ghost use Rattle.run_core.specs.Outcomes.{line_outcome};
 use crate::numbering::{count_of, number_after, number_facts};
 use crate::outcome::Outcome;
 use book_model::{Fact, Resolved, Rule};
-use cert_text::{Block, CertLine, Echo, Numbers, Word, result_word};
+use cert_text::{Block, CertLine, Echo, Numbers, Word, date_word, result_word};
 use indexmap::IndexSet;
 use line_core::three_words;
 use oracle_core::FactValues;
@@ -65,12 +65,21 @@ fn shown_line(
     ensures text { IfOk result (λ l. (number : ℕ) → cert.line_text number l ≡ model.resolved_text number line.now (model.result_text resolved) facts) }
 {
     let echo = echo_of(alloc, line)?;
-    let result = result_word(alloc, resolved)?;
-    Ok(CertLine::Shown {
-        echo,
-        result,
-        facts,
-    })
+    match resolved {
+        Resolved::Shown(_, _) => {
+            let result = result_word(alloc, resolved)?;
+            Ok(CertLine::Shown {
+                echo,
+                result,
+                facts,
+            })
+        }
+        Resolved::TooFar { day } => Ok(CertLine::TooFar { echo, day, facts }),
+        Resolved::NoDate { back } => {
+            let back = date_word(alloc, &back)?;
+            Ok(CertLine::NoDate { echo, back, facts })
+        }
+    }
 }
 
 /// The block of a line with a result: its facts that are new, and the line with the numbers of all.

@@ -1,7 +1,7 @@
 //! What comes of each line.
 ghost use Rattle.std.specs.Prelude.{◌≡◌, ℕ, List, map, IsTrue, IfOk};
 ghost use Rattle.book_model.specs.Outcomes.{IsRightFor, AreRight};
-ghost use Rattle.book_model.specs.Requests.{day_of, is_in_range};
+ghost use Rattle.book_model.specs.Requests.{is_answered};
 ghost use Rattle.line_core.specs.Days.{names_day};
 ghost use Rattle.run_core.specs.Outcomes.{line_outcome, IsRightOf, ComesOfStop};
 
@@ -39,7 +39,7 @@ fn outcome_of_request<E: Evaluator>(
     request: &Request,
 ) -> Result<Outcome, AllocError>
     requires dated { IsTrue (names_day request.now.from request.now.date) }
-    requires near { IsTrue (is_in_range (day_of request.now.from request.now.date)) }
+    requires in_reach { IsTrue (is_answered request.now.from request.now.date) }
     ensures right { IfOk result (λ outcome. IsRightOf request.now (line_outcome outcome)) }
 {
     let mut asking = Asking::new(alloc, evaluator);

@@ -15,6 +15,7 @@ use crate::gate::Gate;
 use crate::outcome::{Outcome, outcomes_of};
 use crate::status::Status;
 use crate::text::{WriteStop, write_text};
+use book_model::Resolved;
 use cert_text::{ReadStop, Sink, Source, read_all, split_lines, write_all};
 use oracle_core::Evaluator;
 use std::alloc::Global;
@@ -24,7 +25,7 @@ use std::thread::Threads;
 fn is_found(outcome: &Outcome) -> bool
     ensures { result ≡ is_result (line_outcome outcome.now) }
 {
-    matches!(outcome, Outcome::Found(_, _))
+    matches!(outcome, Outcome::Found(Resolved::Shown(_, _), _))
 }
 
 /// Whether all outcomes are results.

@@ -160,20 +160,54 @@ fn a_line_has_up_to_200_bytes(rt: HostRuntime) -> Result<(), Fail> {
     Ok(())
 }
 
+fn persian(year: i32, month: i32, day: i32) -> Result<Request, Rule> {
+    Ok(Request {
+        from: FromWord::Persian,
+        date: Fields {
+            count: 3,
+            values: [year, month, day, 0, 0],
+        },
+        to: ToWord::Persian,
+    })
+}
+
 #[test]
-fn a_request_names_its_day(rt: HostRuntime) -> Result<(), Fail> {
-    for (line, day) in [
-        ("gregorian 1987-1-1 dt", 725_372),
-        ("gregorian 2000-2-29 dt", 730_179),
-        ("gregorian 2024-3-1 dt", 738_946),
-        ("gregorian 1802-01-01 fixed", 657_802),
-        ("fixed 738926 gregorian", 738_926),
-        ("gregorian 2048-12-31 dt", 748_017),
+fn persian_dates_have_12_months_of_31_days(rt: HostRuntime) {
+    for (line, want) in [
+        ("persian 1402-1-1 persian", persian(1402, 1, 1)),
+        ("persian 01402-007-0001 persian", persian(1402, 7, 1)),
+        ("persian 0001402-1-1 persian", persian(1402, 1, 1)),
+        ("persian 00001402-1-1 persian", Err(Rule::Field)),
+        ("persian 1402-7-31 persian", persian(1402, 7, 31)),
+        ("persian 1402-12-30 persian", persian(1402, 12, 30)),
+        ("persian 1402-12-31 persian", persian(1402, 12, 31)),
+        ("persian 1402-12-32 persian", Err(Rule::Field)),
+        ("persian 1402-13-1 persian", Err(Rule::Field)),
+        ("persian 1402-0-1 persian", Err(Rule::Field)),
+        ("persian 1402-1-0 persian", Err(Rule::Field)),
+        ("persian 1402-1 persian", Err(Rule::Field)),
+        ("persian 1402-1-1-1 persian", Err(Rule::Field)),
+        ("persian -1402-1-1 persian", Err(Rule::Field)),
+        ("persian 1402-1-1 persia", Err(Rule::Calendar)),
     ] {
-        let request = read_line(line.as_bytes()).map_err(|_| "a line is refused")?;
-        assert_eq!(rt; request_day(&request), day, "at {line:?}");
+        assert_eq!(rt; read_line(line.as_bytes()), want, "at {line:?}");
     }
-    Ok(())
+}
+
+#[test]
+fn persian_years_are_in_range(rt: HostRuntime) {
+    for (line, want) in [
+        ("persian 0-1-1 persian", Err(Rule::Field)),
+        ("persian 1-1-1 persian", Err(Rule::Range)),
+        ("persian 1179-12-29 persian", Err(Rule::Range)),
+        ("persian 1180-1-1 persian", persian(1180, 1, 1)),
+        ("persian 1427-12-31 persian", persian(1427, 12, 31)),
+        ("persian 1428-1-1 persian", Err(Rule::Range)),
+        ("persian 9999-12-31 persian", Err(Rule::Range)),
+        ("persian 10000-1-1 persian", Err(Rule::Field)),
+    ] {
+        assert_eq!(rt; read_line(line.as_bytes()), want, "at {line:?}");
+    }
 }
 
 #[test]

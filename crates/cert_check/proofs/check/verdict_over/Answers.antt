@@ -1,5 +1,5 @@
 use Rattle.std.proofs.Common.{[]}
-use Rattle.book_model.specs.Inquiries.{rule_of}
+use Rattle.book_model.specs.LineRules.{rule_of}
 use Rattle.oracle_core.specs.Inquiring.{HasAnswer, StopsAt}
 use Rattle.oracle_core.specs.Stops.{MayStopListed}
 use Rattle.cert_check.proofs.Tracing.{IsBeside, asked_within, traced_verdict, missing_verdict}
