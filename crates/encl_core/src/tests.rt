@@ -214,6 +214,15 @@ fn quotients_are_alike_on_both_sides_of_64_bits(rt: HostRuntime) {
         (two_63, 1, two_63, two_63),
         (-two_63, 1, -two_63, -two_63),
         (-two_63 - 1, 1, -two_63 - 1, -two_63 - 1),
+    ] {
+        assert_eq!(rt; rounded(n, d), (floor, ceiling), "{n} / {d}");
+    }
+}
+
+#[test]
+fn quotients_of_wide_numbers_are_rounded(rt: HostRuntime) {
+    let two_63 = 9_223_372_036_854_775_808;
+    for (n, d, floor, ceiling) in [
         (
             two_63 - 1,
             2,

@@ -20,7 +20,7 @@ fn shown(to: ToWord, count: u8, year: i32, month: i32, day: i32) -> Resolved {
 }
 
 #[test]
-fn days_come_to_dates_and_numbers(rt: HostRuntime) -> Result<(), Fail> {
+fn days_come_to_dates(rt: HostRuntime) -> Result<(), Fail> {
     for (line, want) in [
         (
             "fixed 738926 gregorian",
@@ -38,6 +38,22 @@ fn days_come_to_dates_and_numbers(rt: HostRuntime) -> Result<(), Fail> {
             "fixed 730179 gregorian",
             shown(ToWord::Gregorian, 3, 2000, 2, 29),
         ),
+        (
+            "gregorian 2024-3-1 gregorian",
+            shown(ToWord::Gregorian, 3, 2024, 3, 1),
+        ),
+    ] {
+        let mut oracle = Listed::new(rt.alloc(), &[], &[]);
+        let request = read_line(line.as_bytes()).map_err(|_| "a line is refused")?;
+        assert_eq!(rt; resolve(&mut oracle, &request), Ok(want), "at {line:?}");
+        assert_eq!(rt; oracle.asked().len(), 0, "at {line:?}");
+    }
+    Ok(())
+}
+
+#[test]
+fn dates_come_to_day_numbers(rt: HostRuntime) -> Result<(), Fail> {
+    for (line, want) in [
         (
             "gregorian 1802-01-01 fixed",
             shown(ToWord::Fixed, 1, 657_802, 0, 0),
@@ -57,10 +73,6 @@ fn days_come_to_dates_and_numbers(rt: HostRuntime) -> Result<(), Fail> {
         (
             "gregorian 2048-12-31 fixed",
             shown(ToWord::Fixed, 1, 748_017, 0, 0),
-        ),
-        (
-            "gregorian 2024-3-1 gregorian",
-            shown(ToWord::Gregorian, 3, 2024, 3, 1),
         ),
     ] {
         let mut oracle = Listed::new(rt.alloc(), &[], &[]);
@@ -207,6 +219,20 @@ fn days_have_persian_dates(rt: HostRuntime) -> Result<(), Fail> {
             ("gregorian 2024-3-19 persian", 738_780, 738_964, 738_600, 2),
             (1402, 12, 29),
         ),
+    ] {
+        row_holds(
+            &rt,
+            rt.alloc(),
+            row,
+            shown(ToWord::Persian, 3, year, month, day),
+        )?;
+    }
+    Ok(())
+}
+
+#[test]
+fn years_of_366_days_end_on_a_30th(rt: HostRuntime) -> Result<(), Fail> {
+    for (row, (year, month, day)) in [
         (
             ("fixed 738965 persian", 739_145, 738_965, 738_965, 2),
             (1403, 1, 1),
