@@ -24,5 +24,9 @@ pub mod Polynomials
 pub mod Time
 pub mod Sun
 pub mod Noon
+pub mod Terms
+pub mod Moon
+pub mod NewMoons
+pub mod Phases
 pub mod Kinds
 pub mod Facts

@@ -4,6 +4,7 @@ use Rattle.exact_math.specs.Fraction.{Fraction, power as fraction_power}
 use Rattle.book_model.specs.declared.frac.Frac.{Frac}
 use Rattle.book_model.specs.declared.polynomial.Quadratic.{Quadratic}
 use Rattle.book_model.specs.declared.polynomial.Cubic.{Cubic}
+use Rattle.book_model.specs.declared.polynomial.Quartic.{Quartic}
 use Rattle.book_model.specs.declared.polynomial.Wave.{Wave}
 use Rattle.book_model.specs.declared.polynomial.QuadraticWave.{QuadraticWave}
 use Rattle.book_model.specs.Correction.{no_fraction}
@@ -18,6 +19,11 @@ quadratic_of p x = add (add (constant (fraction_of p.constant)) (scale (fraction
 unfoldable pub cubic_of : Cubic → Expression → Expression
 cubic_of p x =
     add (add (add (constant (fraction_of p.constant)) (scale (fraction_of p.linear) x)) (scale (fraction_of p.square) (power x 2))) (scale (fraction_of p.cube) (power x 3))
+
+-- a0 + a1 x + a2 x^2 + a3 x^3 + a4 x^4
+unfoldable pub quartic_of : Quartic → Expression → Expression
+quartic_of p x =
+    add (add (add (add (constant (fraction_of p.constant)) (scale (fraction_of p.linear) x)) (scale (fraction_of p.square) (power x 2))) (scale (fraction_of p.cube) (power x 3))) (scale (fraction_of p.fourth) (power x 4))
 
 -- a0 + a1 c + a2 c^2 + .. at an exact fraction c, to the term before that of index n
 unfoldable pub polynomial_at_to : List Frac → Fraction → ℕ → Expression

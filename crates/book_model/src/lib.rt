@@ -7,6 +7,9 @@ mod fact;
 mod fail;
 mod frac;
 pub mod laws;
+mod moon_tables;
+mod moon_terms;
+mod new_moon_tables;
 pub mod plain;
 mod polynomial;
 mod request;
@@ -21,7 +24,17 @@ pub use calendar_tables::{PERSIAN_EPOCH, TROPICAL_YEAR};
 pub use fact::{Fact, KINDS, Kind, PLACES, Place};
 pub use fail::{Fail, Undecided};
 pub use frac::Frac;
-pub use polynomial::{Cubic, Quadratic, QuadraticWave, Wave};
+pub use moon_tables::{
+    ECCENTRICITY_FACTOR, ELONGATION, FLATTENING, JUPITER_WAVE, LATITUDE_ARGUMENT, MILLIONTH,
+    MOON_ANOMALY, MOON_LONGITUDE, MOON_TERMS, SUN_ANOMALY, VENUS_WAVE,
+};
+pub use moon_terms::{MoonTerm, NewMoonTerm, PlanetTerm};
+pub use new_moon_tables::{
+    DAY_IN_MONTHS, MEAN_NEW_MOON, MONTH_IN_CENTURIES, NEW_MOON_ANOMALY, NEW_MOON_LATITUDE_ARGUMENT,
+    NEW_MOON_NODE, NEW_MOON_OF_2000, NEW_MOON_SUN_ANOMALY, NEW_MOON_TERMS, NEW_MOON_WAVE,
+    NODE_TERM, PLANET_TERMS, SYNODIC_MONTH,
+};
+pub use polynomial::{Cubic, Quadratic, QuadraticWave, Quartic, Wave};
 pub use request::{Fields, FromWord, Request, Resolved, Rule, ToWord};
 pub use site::{SITES, Site};
 pub use sun_tables::{

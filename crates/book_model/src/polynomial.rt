@@ -32,3 +32,13 @@ pub struct QuadraticWave {
     pub size: Frac,
     pub angle: Quadratic,
 }
+
+/// The coefficients of a polynomial of the fourth degree.
+#[derive(Clone, Copy, Debug, PartialEq, Eq)]
+pub struct Quartic {
+    pub constant: Frac,
+    pub linear: Frac,
+    pub square: Frac,
+    pub cube: Frac,
+    pub fourth: Frac,
+}

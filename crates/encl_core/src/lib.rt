@@ -21,6 +21,7 @@ mod rounding;
 mod search;
 mod span;
 mod steps;
+mod sums;
 mod trail;
 mod wrapping;
 
@@ -30,6 +31,7 @@ pub use enclosure::Enclosure;
 pub use search::{DayTest, first_day};
 pub use span::Span;
 pub use steps::{floor_step, less_step, wrap_step};
+pub use sums::{Term, sum_of_terms};
 pub use trail::Trail;
 
 #[cfg(test)]

@@ -20,6 +20,6 @@ mod zone;
 
 pub use ephemeris::{centuries, correction, dynamical, from_dynamical};
 pub use moment::{year, year_of_whole_day};
-pub use polynomial::{cubic, quadratic};
+pub use polynomial::{at_fraction, cubic, quadratic};
 pub use sidereal_time::sidereal;
 pub use zone::zone_beijing;

@@ -55,7 +55,7 @@ pub(crate) fn at_whole<E: Enclosure>(coefficients: &[Frac], x: i64) -> E
 /// The polynomial with these coefficients at a fraction, in Horner's form: at one fraction every order of its terms
 /// gives the same number.
 #[tactic(auto, using(crate::proofs::HornerLemmas::horner))]
-pub(crate) fn at_fraction<E: Enclosure>(coefficients: &[Frac], x: Frac) -> E
+pub fn at_fraction<E: Enclosure>(coefficients: &[Frac], x: Frac) -> E
     ensures holds { (w : World) → 40 ≤ w.depth → Within E.shown w (polynomial_at coefficients.now (fraction_of x)) result }
     ensures narrow { (r : Reach) → Narrow E.shown (limits_of E.BITS) r (horner_of coefficients.now (fraction_of x)) result }
 {

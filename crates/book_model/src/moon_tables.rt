@@ -1,0 +1,236 @@
+//! The tables and constants of the moon's longitude and distance. Each stands here once; the definitions read them too.
+//! The source is Reingold and Dershowitz, Calendrical Calculations, chapter 14, after Jean Meeus, Astronomical Algorithms,
+//! chapter 47, who takes them from Chapront-Touzé and Chapront. Angles are in degrees, by the centuries of dynamical time
+//! from noon of 1 January 2000.
+use crate::{Cubic, Frac, MoonTerm, Quadratic, Quartic, Wave};
+
+/// The mean longitude of the moon.
+pub const MOON_LONGITUDE: Quartic = Quartic {
+    constant: Frac {
+        num: 2_183_164_477,
+        den: 10_000_000,
+    },
+    linear: Frac {
+        num: 48_126_788_123_421,
+        den: 100_000_000,
+    },
+    square: Frac {
+        num: -15_786,
+        den: 10_000_000,
+    },
+    cube: Frac {
+        num: 1,
+        den: 538_841,
+    },
+    fourth: Frac {
+        num: -1,
+        den: 65_194_000,
+    },
+};
+
+/// The mean elongation of the moon from the sun.
+pub const ELONGATION: Quartic = Quartic {
+    constant: Frac {
+        num: 2_978_501_921,
+        den: 10_000_000,
+    },
+    linear: Frac {
+        num: 4_452_671_114_034,
+        den: 10_000_000,
+    },
+    square: Frac {
+        num: -18_819,
+        den: 10_000_000,
+    },
+    cube: Frac {
+        num: 1,
+        den: 545_868,
+    },
+    fourth: Frac {
+        num: -1,
+        den: 113_065_000,
+    },
+};
+
+/// The mean anomaly of the sun, as the moon's formulas take it.
+pub const SUN_ANOMALY: Cubic = Cubic {
+    constant: Frac {
+        num: 3_575_291_092,
+        den: 10_000_000,
+    },
+    linear: Frac {
+        num: 359_990_502_909,
+        den: 10_000_000,
+    },
+    square: Frac {
+        num: -1536,
+        den: 10_000_000,
+    },
+    cube: Frac {
+        num: 1,
+        den: 24_490_000,
+    },
+};
+
+/// The mean anomaly of the moon.
+pub const MOON_ANOMALY: Quartic = Quartic {
+    constant: Frac {
+        num: 1_349_633_964,
+        den: 10_000_000,
+    },
+    linear: Frac {
+        num: 4_771_988_675_055,
+        den: 10_000_000,
+    },
+    square: Frac {
+        num: 87_414,
+        den: 10_000_000,
+    },
+    cube: Frac {
+        num: 1,
+        den: 69_699,
+    },
+    fourth: Frac {
+        num: -1,
+        den: 14_712_000,
+    },
+};
+
+/// The argument of the moon's latitude: its mean distance from its ascending node.
+pub const LATITUDE_ARGUMENT: Quartic = Quartic {
+    constant: Frac {
+        num: 932_720_950,
+        den: 10_000_000,
+    },
+    linear: Frac {
+        num: 4_832_020_175_233,
+        den: 10_000_000,
+    },
+    square: Frac {
+        num: -36_539,
+        den: 10_000_000,
+    },
+    cube: Frac {
+        num: -1,
+        den: 3_526_000,
+    },
+    fourth: Frac {
+        num: 1,
+        den: 863_310_000,
+    },
+};
+
+/// What the eccentricity of the earth's orbit makes of a term of the sun's anomaly, as time goes on.
+pub const ECCENTRICITY_FACTOR: Quadratic = Quadratic {
+    constant: Frac { num: 1, den: 1 },
+    linear: Frac {
+        num: -2516,
+        den: 1_000_000,
+    },
+    square: Frac {
+        num: -74,
+        den: 10_000_000,
+    },
+};
+
+/// What Venus adds to the moon's longitude, in millionths of a degree.
+pub const VENUS_WAVE: Wave = Wave {
+    size: Frac { num: 3958, den: 1 },
+    phase: Frac {
+        num: 11_975,
+        den: 100,
+    },
+    rate: Frac {
+        num: 131_849,
+        den: 1000,
+    },
+};
+
+/// What Jupiter adds to the moon's longitude, in millionths of a degree.
+pub const JUPITER_WAVE: Wave = Wave {
+    size: Frac { num: 318, den: 1 },
+    phase: Frac {
+        num: 5309,
+        den: 100,
+    },
+    rate: Frac {
+        num: 47_926_429,
+        den: 100,
+    },
+};
+
+/// What the flattening of the earth adds to the moon's longitude, in millionths of a degree: this times the sine of the
+/// longitude less the argument of latitude.
+pub const FLATTENING: Frac = Frac { num: 1962, den: 1 };
+
+/// A millionth.
+pub const MILLIONTH: Frac = Frac {
+    num: 1,
+    den: 1_000_000,
+};
+
+/// The terms of the moon's longitude and distance: the multiples of the four angles, and what the sine of their sum
+/// adds to the longitude in millionths of a degree, its cosine to the distance in metres.
+#[rattlefmt::skip]
+pub const MOON_TERMS: [MoonTerm; 60] = [
+    MoonTerm { elongation: 0, sun_anomaly: 0, moon_anomaly: 1, latitude_argument: 0, longitude: 6_288_774, distance: -20_905_355 },
+    MoonTerm { elongation: 2, sun_anomaly: 0, moon_anomaly: -1, latitude_argument: 0, longitude: 1_274_027, distance: -3_699_111 },
+    MoonTerm { elongation: 2, sun_anomaly: 0, moon_anomaly: 0, latitude_argument: 0, longitude: 658_314, distance: -2_955_968 },
+    MoonTerm { elongation: 0, sun_anomaly: 0, moon_anomaly: 2, latitude_argument: 0, longitude: 213_618, distance: -569_925 },
+    MoonTerm { elongation: 0, sun_anomaly: 1, moon_anomaly: 0, latitude_argument: 0, longitude: -185_116, distance: 48_888 },
+    MoonTerm { elongation: 0, sun_anomaly: 0, moon_anomaly: 0, latitude_argument: 2, longitude: -114_332, distance: -3149 },
+    MoonTerm { elongation: 2, sun_anomaly: 0, moon_anomaly: -2, latitude_argument: 0, longitude: 58_793, distance: 246_158 },
+    MoonTerm { elongation: 2, sun_anomaly: -1, moon_anomaly: -1, latitude_argument: 0, longitude: 57_066, distance: -152_138 },
+    MoonTerm { elongation: 2, sun_anomaly: 0, moon_anomaly: 1, latitude_argument: 0, longitude: 53_322, distance: -170_733 },
+    MoonTerm { elongation: 2, sun_anomaly: -1, moon_anomaly: 0, latitude_argument: 0, longitude: 45_758, distance: -204_586 },
+    MoonTerm { elongation: 0, sun_anomaly: 1, moon_anomaly: -1, latitude_argument: 0, longitude: -40_923, distance: -129_620 },
+    MoonTerm { elongation: 1, sun_anomaly: 0, moon_anomaly: 0, latitude_argument: 0, longitude: -34_720, distance: 108_743 },
+    MoonTerm { elongation: 0, sun_anomaly: 1, moon_anomaly: 1, latitude_argument: 0, longitude: -30_383, distance: 104_755 },
+    MoonTerm { elongation: 2, sun_anomaly: 0, moon_anomaly: 0, latitude_argument: -2, longitude: 15_327, distance: 10_321 },
+    MoonTerm { elongation: 0, sun_anomaly: 0, moon_anomaly: 1, latitude_argument: 2, longitude: -12_528, distance: 0 },
+    MoonTerm { elongation: 0, sun_anomaly: 0, moon_anomaly: 1, latitude_argument: -2, longitude: 10_980, distance: 79_661 },
+    MoonTerm { elongation: 4, sun_anomaly: 0, moon_anomaly: -1, latitude_argument: 0, longitude: 10_675, distance: -34_782 },
+    MoonTerm { elongation: 0, sun_anomaly: 0, moon_anomaly: 3, latitude_argument: 0, longitude: 10_034, distance: -23_210 },
+    MoonTerm { elongation: 4, sun_anomaly: 0, moon_anomaly: -2, latitude_argument: 0, longitude: 8548, distance: -21_636 },
+    MoonTerm { elongation: 2, sun_anomaly: 1, moon_anomaly: -1, latitude_argument: 0, longitude: -7888, distance: 24_208 },
+    MoonTerm { elongation: 2, sun_anomaly: 1, moon_anomaly: 0, latitude_argument: 0, longitude: -6766, distance: 30_824 },
+    MoonTerm { elongation: 1, sun_anomaly: 0, moon_anomaly: -1, latitude_argument: 0, longitude: -5163, distance: -8379 },
+    MoonTerm { elongation: 1, sun_anomaly: 1, moon_anomaly: 0, latitude_argument: 0, longitude: 4987, distance: -16_675 },
+    MoonTerm { elongation: 2, sun_anomaly: -1, moon_anomaly: 1, latitude_argument: 0, longitude: 4036, distance: -12_831 },
+    MoonTerm { elongation: 2, sun_anomaly: 0, moon_anomaly: 2, latitude_argument: 0, longitude: 3994, distance: -10_445 },
+    MoonTerm { elongation: 4, sun_anomaly: 0, moon_anomaly: 0, latitude_argument: 0, longitude: 3861, distance: -11_650 },
+    MoonTerm { elongation: 2, sun_anomaly: 0, moon_anomaly: -3, latitude_argument: 0, longitude: 3665, distance: 14_403 },
+    MoonTerm { elongation: 0, sun_anomaly: 1, moon_anomaly: -2, latitude_argument: 0, longitude: -2689, distance: -7003 },
+    MoonTerm { elongation: 2, sun_anomaly: 0, moon_anomaly: -1, latitude_argument: 2, longitude: -2602, distance: 0 },
+    MoonTerm { elongation: 2, sun_anomaly: -1, moon_anomaly: -2, latitude_argument: 0, longitude: 2390, distance: 10_056 },
+    MoonTerm { elongation: 1, sun_anomaly: 0, moon_anomaly: 1, latitude_argument: 0, longitude: -2348, distance: 6322 },
+    MoonTerm { elongation: 2, sun_anomaly: -2, moon_anomaly: 0, latitude_argument: 0, longitude: 2236, distance: -9884 },
+    MoonTerm { elongation: 0, sun_anomaly: 1, moon_anomaly: 2, latitude_argument: 0, longitude: -2120, distance: 5751 },
+    MoonTerm { elongation: 0, sun_anomaly: 2, moon_anomaly: 0, latitude_argument: 0, longitude: -2069, distance: 0 },
+    MoonTerm { elongation: 2, sun_anomaly: -2, moon_anomaly: -1, latitude_argument: 0, longitude: 2048, distance: -4950 },
+    MoonTerm { elongation: 2, sun_anomaly: 0, moon_anomaly: 1, latitude_argument: -2, longitude: -1773, distance: 4130 },
+    MoonTerm { elongation: 2, sun_anomaly: 0, moon_anomaly: 0, latitude_argument: 2, longitude: -1595, distance: 0 },
+    MoonTerm { elongation: 4, sun_anomaly: -1, moon_anomaly: -1, latitude_argument: 0, longitude: 1215, distance: -3958 },
+    MoonTerm { elongation: 0, sun_anomaly: 0, moon_anomaly: 2, latitude_argument: 2, longitude: -1110, distance: 0 },
+    MoonTerm { elongation: 3, sun_anomaly: 0, moon_anomaly: -1, latitude_argument: 0, longitude: -892, distance: 3258 },
+    MoonTerm { elongation: 2, sun_anomaly: 1, moon_anomaly: 1, latitude_argument: 0, longitude: -810, distance: 2616 },
+    MoonTerm { elongation: 4, sun_anomaly: -1, moon_anomaly: -2, latitude_argument: 0, longitude: 759, distance: -1897 },
+    MoonTerm { elongation: 0, sun_anomaly: 2, moon_anomaly: -1, latitude_argument: 0, longitude: -713, distance: -2117 },
+    MoonTerm { elongation: 2, sun_anomaly: 2, moon_anomaly: -1, latitude_argument: 0, longitude: -700, distance: 2354 },
+    MoonTerm { elongation: 2, sun_anomaly: 1, moon_anomaly: -2, latitude_argument: 0, longitude: 691, distance: 0 },
+    MoonTerm { elongation: 2, sun_anomaly: -1, moon_anomaly: 0, latitude_argument: -2, longitude: 596, distance: 0 },
+    MoonTerm { elongation: 4, sun_anomaly: 0, moon_anomaly: 1, latitude_argument: 0, longitude: 549, distance: -1423 },
+    MoonTerm { elongation: 0, sun_anomaly: 0, moon_anomaly: 4, latitude_argument: 0, longitude: 537, distance: -1117 },
+    MoonTerm { elongation: 4, sun_anomaly: -1, moon_anomaly: 0, latitude_argument: 0, longitude: 520, distance: -1571 },
+    MoonTerm { elongation: 1, sun_anomaly: 0, moon_anomaly: -2, latitude_argument: 0, longitude: -487, distance: -1739 },
+    MoonTerm { elongation: 2, sun_anomaly: 1, moon_anomaly: 0, latitude_argument: -2, longitude: -399, distance: 0 },
+    MoonTerm { elongation: 0, sun_anomaly: 0, moon_anomaly: 2, latitude_argument: -2, longitude: -381, distance: -4421 },
+    MoonTerm { elongation: 1, sun_anomaly: 1, moon_anomaly: 1, latitude_argument: 0, longitude: 351, distance: 0 },
+    MoonTerm { elongation: 3, sun_anomaly: 0, moon_anomaly: -2, latitude_argument: 0, longitude: -340, distance: 0 },
+    MoonTerm { elongation: 4, sun_anomaly: 0, moon_anomaly: -3, latitude_argument: 0, longitude: 330, distance: 0 },
+    MoonTerm { elongation: 2, sun_anomaly: -1, moon_anomaly: 2, latitude_argument: 0, longitude: 327, distance: 0 },
+    MoonTerm { elongation: 0, sun_anomaly: 2, moon_anomaly: 1, latitude_argument: 0, longitude: -323, distance: 1165 },
+    MoonTerm { elongation: 1, sun_anomaly: 1, moon_anomaly: -1, latitude_argument: 0, longitude: 299, distance: 0 },
+    MoonTerm { elongation: 2, sun_anomaly: 0, moon_anomaly: 3, latitude_argument: 0, longitude: 294, distance: 0 },
+    MoonTerm { elongation: 2, sun_anomaly: 0, moon_anomaly: -1, latitude_argument: -2, longitude: 0, distance: 8752 },
+];

@@ -1,0 +1,33 @@
+//! The shapes in which tables give the terms of the moon's formulas.
+
+/// A term of the moon's longitude and distance: the multiples of its elongation, of the sun's and of its own anomaly and
+/// of its argument of latitude, and the sizes in millionths of a degree and in metres.
+#[derive(Clone, Copy, Debug, PartialEq, Eq)]
+pub struct MoonTerm {
+    pub elongation: i64,
+    pub sun_anomaly: i64,
+    pub moon_anomaly: i64,
+    pub latitude_argument: i64,
+    pub longitude: i64,
+    pub distance: i64,
+}
+
+/// A term of a new moon: the power of the eccentricity's factor, the multiples of the anomalies of the sun and of the moon
+/// and of the argument of latitude, and the size in hundred-thousandths of a day.
+#[derive(Clone, Copy, Debug, PartialEq, Eq)]
+pub struct NewMoonTerm {
+    pub eccentricity: u32,
+    pub sun_anomaly: i64,
+    pub moon_anomaly: i64,
+    pub latitude_argument: i64,
+    pub size: i64,
+}
+
+/// A term of a new moon that goes by its number: the phase in hundredths of a degree, the rate a month in millionths of a
+/// degree, and the size in millionths of a day.
+#[derive(Clone, Copy, Debug, PartialEq, Eq)]
+pub struct PlanetTerm {
+    pub phase: i64,
+    pub rate: i64,
+    pub size: i64,
+}

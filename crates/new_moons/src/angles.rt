@@ -1,0 +1,37 @@
+//! The angles of which the terms of a new moon are made.
+ghost use Rattle.std.specs.Prelude.{◌≡◌, ◌≤◌};
+ghost use Rattle.book_model.specs.Bounds.{Reach, limits_of};
+ghost use Rattle.book_model.specs.Expressions.{World};
+ghost use Rattle.book_model.specs.Fractions.{fraction_of};
+ghost use Rattle.book_model.specs.NewMoons.{new_moon_angles_of};
+ghost use Rattle.new_moons.specs.Angles.{HoldAngles, KeepAngles, computed_angles_of};
+
+use book_model::{
+    ECCENTRICITY_FACTOR, Frac, NEW_MOON_ANOMALY, NEW_MOON_LATITUDE_ARGUMENT, NEW_MOON_SUN_ANOMALY,
+};
+use encl_core::Enclosure;
+use time_scales::{at_fraction, quadratic};
+
+/// The mean anomalies of the sun and of the moon and the argument of the moon's latitude at a new moon, in degrees, and the
+/// factor of the eccentricity of the earth's orbit.
+#[derive(Clone, Copy, Drop)]
+pub(crate) struct Angles<E> {
+    pub(crate) sun_anomaly: E,
+    pub(crate) moon_anomaly: E,
+    pub(crate) latitude_argument: E,
+    pub(crate) eccentricity: E,
+}
+
+/// The angles at a time, in centuries.
+#[tactic(auto, unfolding(book_model::specs::NewMoons::new_moon_angles_of, crate::specs::Angles::computed_angles_of))]
+pub(crate) fn angles_at<E: Enclosure>(time: Frac) -> Angles<E>
+    ensures holds { (w : World) → 40 ≤ w.depth → HoldAngles E.shown w (new_moon_angles_of (fraction_of time)) result }
+    ensures narrow { (r : Reach) → KeepAngles E.shown (limits_of E.BITS) r (computed_angles_of (fraction_of time)) result }
+{
+    Angles {
+        sun_anomaly: at_fraction::<E>(&NEW_MOON_SUN_ANOMALY, time),
+        moon_anomaly: at_fraction::<E>(&NEW_MOON_ANOMALY, time),
+        latitude_argument: at_fraction::<E>(&NEW_MOON_LATITUDE_ARGUMENT, time),
+        eccentricity: quadratic(&ECCENTRICITY_FACTOR, E::from_frac(time)),
+    }
+}

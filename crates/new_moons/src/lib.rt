@@ -1,0 +1,17 @@
+//! The new moons: the moment of each by its number, counted from that of January of the year 1, as an enclosure. The
+//! formula makes the test of its definition, and its answer holds what the definition gives, at every depth from `DEPTH`
+//! on.
+//!
+//! - `new_moon`: the moment of a new moon, in universal time;
+//! - `whole` and `times_power`: what the terms of the moon's formulas are made with, also in the crate above.
+#![tactic(auto)]
+
+mod angles;
+mod moons;
+mod powers;
+mod terms;
+#[cfg(test)]
+mod tests;
+
+pub use moons::new_moon;
+pub use powers::{times_power, whole};

@@ -1,0 +1,102 @@
+//! The moment of a new moon.
+ghost use Rattle.std.specs.Prelude.{◌≡◌, ◌≤◌, ℤ, pos, negsuc, ◌≤ℤ◌};
+ghost use Rattle.book_model.specs.Bounds.{Reach, limits_of};
+ghost use Rattle.book_model.specs.Expressions.{Expression, World};
+ghost use Rattle.book_model.specs.Fractions.{fraction_of};
+ghost use Rattle.book_model.specs.Leading.{Leads, next_turn};
+ghost use Rattle.book_model.specs.NewMoons as spec;
+ghost use Rattle.book_model.specs.Relations.{Within, Narrow};
+ghost use Rattle.new_moons.specs.Moons.{computed_mean_of, computed_node_term_of, computed_terms_of, computed_new_moon_of};
+
+use crate::angles::{Angles, angles_at};
+use crate::terms::Number;
+use book_model::{
+    Fail, Frac, MEAN_NEW_MOON, NEW_MOON_NODE, NEW_MOON_OF_2000, NEW_MOON_TERMS, NEW_MOON_WAVE,
+    NODE_TERM, NOON_2000, NewMoonTerm, PLANET_TERMS, PlanetTerm,
+};
+use encl_core::{Enclosure, Trail, sum_of_terms};
+use time_scales::{at_fraction, from_dynamical, quadratic};
+use trig_series::sin_deg;
+
+/// So many months in units of 1236.85 months, which are centuries.
+fn centuries_of_months(months: i64) -> Frac
+    requires low { negsuc 40049999 ≤ℤ months }
+    requires high { months ≤ℤ pos 40050000 }
+    ensures value { fraction_of result ≡ spec.centuries_of_months months }
+{
+    Frac::new(100 * i128::from(months), 123_685).unwrap()
+}
+
+/// The mean new moon, in dynamical time.
+#[tactic(auto, unfolding(book_model::specs::NewMoons::mean_new_moon_of, crate::specs::Moons::computed_mean_of))]
+fn mean_new_moon<E: Enclosure>(time: Frac) -> E
+    ensures holds { (w : World) → 40 ≤ w.depth → Within E.shown w (spec.mean_new_moon_of (fraction_of time)) result }
+    ensures narrow { (r : Reach) → Narrow E.shown (limits_of E.BITS) r (computed_mean_of (fraction_of time)) result }
+{
+    E::from_frac(NOON_2000).add(at_fraction::<E>(&MEAN_NEW_MOON, time))
+}
+
+/// What the longitude of the moon's node adds, in days.
+#[tactic(auto, unfolding(book_model::specs::NewMoons::node_term_of, crate::specs::Moons::computed_node_term_of))]
+fn node_term<E: Enclosure>(time: Frac) -> E
+    ensures holds { (w : World) → 40 ≤ w.depth → Within E.shown w (spec.node_term_of (fraction_of time)) result }
+    ensures narrow { (r : Reach) → Narrow E.shown (limits_of E.BITS) r (computed_node_term_of (fraction_of time)) result }
+{
+    sin_deg(at_fraction::<E>(&NEW_MOON_NODE, time)).mul_frac(NODE_TERM)
+}
+
+/// The sum of the terms of the three angles, in days.
+#[tactic(auto, unfolding(book_model::specs::NewMoons::new_moon_terms_of, crate::specs::Moons::computed_terms_of))]
+fn lunar_terms<E: Enclosure>(time: Frac) -> E
+    ensures holds { (w : World) → 40 ≤ w.depth → Within E.shown w (spec.new_moon_terms_of (fraction_of time)) result }
+    ensures narrow { (r : Reach) → Narrow E.shown (limits_of E.BITS) r (computed_terms_of (fraction_of time)) result }
+{
+    sum_of_terms::<Angles<E>, E, NewMoonTerm>(&NEW_MOON_TERMS, angles_at::<E>(time))
+}
+
+/// What Venus adds, in days.
+#[tactic(auto, unfolding(book_model::specs::Polynomials::quadratic_wave_of, book_model::specs::NewMoons::venus_wave_of))]
+fn venus_wave<E: Enclosure>(time: Frac) -> E
+    ensures holds { (w : World) → 40 ≤ w.depth → Within E.shown w (spec.venus_wave_of (fraction_of time)) result }
+    ensures narrow { (r : Reach) → Narrow E.shown (limits_of E.BITS) r (spec.venus_wave_of (fraction_of time)) result }
+{
+    sin_deg(quadratic(&NEW_MOON_WAVE.angle, E::from_frac(time))).mul_frac(NEW_MOON_WAVE.size)
+}
+
+/// What the planets add by the number of the new moon, counted from that of January 2000, in days.
+#[tactic(auto, unfolding(book_model::specs::NewMoons::planet_terms_of))]
+fn planet_terms<E: Enclosure>(number: i64) -> E
+    ensures holds { (w : World) → 40 ≤ w.depth → Within E.shown w (spec.planet_terms_of number) result }
+    ensures narrow { (r : Reach) → Narrow E.shown (limits_of E.BITS) r (spec.planet_terms_of number) result }
+{
+    sum_of_terms::<Number, E, PlanetTerm>(&PLANET_TERMS, Number(number))
+}
+
+/// The new moon of a number, counted from that of January 2000, in dynamical time.
+#[tactic(auto, unfolding(book_model::specs::NewMoons::dynamical_new_moon_of, crate::specs::Moons::computed_new_moon_of))]
+fn dynamical_new_moon<E: Enclosure>(number: i64) -> E
+    requires low { negsuc 40049999 ≤ℤ number }
+    requires high { number ≤ℤ pos 40050000 }
+    ensures holds { (w : World) → 40 ≤ w.depth → Within E.shown w (spec.dynamical_new_moon_of number) result }
+    ensures narrow { (r : Reach) → Narrow E.shown (limits_of E.BITS) r (computed_new_moon_of number) result }
+{
+    let time = centuries_of_months(number);
+    mean_new_moon::<E>(time)
+        .add(node_term::<E>(time))
+        .add(lunar_terms::<E>(time))
+        .add(venus_wave::<E>(time))
+        .add(planet_terms::<E>(number))
+}
+
+/// The moment of the new moon of a number, counted from that of January of the year 1, in universal time (Reingold and
+/// Dershowitz, Calendrical Calculations, chapter 14; Meeus, Astronomical Algorithms, chapter 49). One test, at `year`; it
+/// is void at `year` in a year without a correction.
+#[tactic(auto, using(book_model::proofs::Leads::leading), unfolding(book_model::specs::NewMoons::new_moon_of))]
+pub fn new_moon<E: Enclosure>(n: i64, trail: &mut Trail) -> Result<E, Fail>
+    requires low { negsuc 39999999 ≤ℤ n }
+    requires high { n ≤ℤ pos 40000000 }
+    ensures leads { (w : World) → 40 ≤ w.depth → Leads w (Within E.shown w) (spec.new_moon_of n) trail.old.count trail.new.count result }
+    ensures counted { trail.new.count ≡ next_turn trail.old.count }
+{
+    from_dynamical(dynamical_new_moon::<E>(n - NEW_MOON_OF_2000), trail)
+}

@@ -1,0 +1,36 @@
+//! Whole multiples, and powers of a factor.
+ghost use Rattle.std.specs.Prelude.{◌≡◌, ◌≤◌};
+ghost use Rattle.exact_math.specs.Fraction.{whole as whole_of};
+ghost use Rattle.book_model.specs.Bounds.{Reach, limits_of};
+ghost use Rattle.book_model.specs.Expressions.{Expression, World};
+ghost use Rattle.book_model.specs.Fractions.{fraction_of};
+ghost use Rattle.book_model.specs.Relations.{Within, Narrow};
+ghost use Rattle.book_model.specs.Terms.{times_power as times_power_of};
+
+use book_model::Frac;
+use encl_core::Enclosure;
+
+/// A whole number as a fraction.
+pub fn whole(number: i64) -> Frac
+    ensures value { fraction_of result ≡ whole_of number }
+{
+    Frac::new(i128::from(number), 1).unwrap()
+}
+
+/// A term times a power of a factor; at the exponent 0 the term itself.
+#[tactic(auto, using(crate::proofs::PowerLemmas::powers))]
+pub fn times_power<E: Enclosure>(factor: E, exponent: u32, term: E) -> E
+    ensures holds { (w : World) (f x : Expression) → Within E.shown w f factor → Within E.shown w x term → Within E.shown w (times_power_of f exponent x) result }
+    ensures narrow { (r : Reach) (f x : Expression) → Narrow E.shown (limits_of E.BITS) r f factor → Narrow E.shown (limits_of E.BITS) r x term → Narrow E.shown (limits_of E.BITS) r (times_power_of f exponent x) result }
+{
+    if exponent == 0 {
+        return term;
+    }
+    let mut power = factor;
+    let mut reached = 1;
+    while reached < exponent {
+        power = power.mul(factor);
+        reached += 1;
+    }
+    power.mul(term)
+}
