@@ -99,9 +99,14 @@ fits (between a b) = int_le (negsuc 9999999) (floor a) && int_le (floor b) (pos 
 abbrev rounded : Expression → Expression
 rounded c = add (scale (fraction_of MILLISECONDS_OF_DAY) c) (constant (fraction_of HALF))
 
--- whether a correction in milliseconds is within 10,000,000 of 0
+-- within 200 days of 0
+abbrev pub fits_days : Interval → Bool
+fits_days everything = false
+fits_days (between a b) = is_at_most (whole (negsuc 199)) a && is_at_most b (whole (pos 200))
+
+-- whether a correction is within 200 days of 0, and in milliseconds within 10,000,000
 abbrev fits_all : Program Expression → Bool
-fits_all (answer c) = fits (ranged (rounded c))
+fits_all (answer c) = fits (ranged (rounded c)) && fits_days (ranged c)
 fits_all (void s) = true
 fits_all (cell s g x next) = false
 fits_all (compare s x y next) = false
@@ -142,11 +147,11 @@ small_1958 : holds_from is_small (pos 1958) 29 ≡ true
 unfolding holds_from is_small ranged outwards sum product least greatest times plus smaller larger is_at_most correction_of_year polynomial_at polynomial_at_to fraction_power fixed_of days_of_months first_day seconds_of polynomial_of polynomial_to int_power
 small_1958 = refl
 
-small_1987 : holds_from is_small (pos 1987) 63 ≡ true
+small_1987 : holds_from is_small (pos 1987) 64 ≡ true
 unfolding holds_from is_small ranged outwards sum product least greatest times plus smaller larger is_at_most correction_of_year polynomial_at polynomial_at_to fraction_power fixed_of days_of_months first_day seconds_of polynomial_of polynomial_to int_power
 small_1987 = refl
 
-both : (p q : Bool) → (p && q) ≡ true → (p ≡ true) × (q ≡ true)
+pub both : (p q : Bool) → (p && q) ≡ true → (p ≡ true) × (q ≡ true)
 both true true e = (refl, refl)
 both true false e = absurd (cc)
 both false q e = absurd (cc)
@@ -161,7 +166,7 @@ by_years a (suc n) y e h k =
     let b = both (is_small a) (holds_from is_small (a +ℤ pos 1) n) e in
     elim (same_or_later a y h) [ inl p ↦ subst (λ t. is_small t ≡ true) p b.0 | inr p ↦ by_years (a +ℤ pos 1) n y b.1 p (omega (arith, ints)) ]
 
-year_small : (y : ℤ) → pos 1800 ≤ℤ y → y ≤ℤ pos 2049 → is_small y ≡ true
+year_small : (y : ℤ) → pos 1800 ≤ℤ y → y ≤ℤ pos 2050 → is_small y ≡ true
 year_small y h k =
     by_lt_z y (pos 1825) (λ u. by_years (pos 1800) 25 y small_1800 h (omega (arith, ints))) (λ l1825.
     by_lt_z y (pos 1850) (λ u. by_years (pos 1825) 25 y small_1825 l1825 (omega (arith, ints))) (λ l1850.
@@ -170,7 +175,7 @@ year_small y h k =
     by_lt_z y (pos 1929) (λ u. by_years (pos 1900) 29 y small_1900 l1900 (omega (arith, ints))) (λ l1929.
     by_lt_z y (pos 1958) (λ u. by_years (pos 1929) 29 y small_1929 l1929 (omega (arith, ints))) (λ l1958.
     by_lt_z y (pos 1987) (λ u. by_years (pos 1958) 29 y small_1958 l1958 (omega (arith, ints))) (λ l1987.
-    by_years (pos 1987) 63 y small_1987 l1987 (omega (arith, ints)))))))))
+    by_years (pos 1987) 64 y small_1987 l1987 (omega (arith, ints)))))))))
 
 -- ---- the value of a day's correction
 first_1800 : first_day (pos 1800) ≡ pos 657072
@@ -198,10 +203,27 @@ year_to d h =
 
 answer_fits : (w : World) (p : Program Expression) (c : Expression) → fits_all p ≡ true → outcome (run w p) ≡ valued c → fits (ranged (rounded c)) ≡ true
 unfolding run outcome
-answer_fits w (answer b) c h e = let z : b ≡ c = cc in subst (λ t. fits (ranged (rounded t)) ≡ true) z h
+answer_fits w (answer b) c h e = let z : b ≡ c = cc in subst (λ t. fits (ranged (rounded t)) ≡ true) z (both (fits (ranged (rounded b))) (fits_days (ranged b)) h).0
 answer_fits w (void s) c h e = absurd (cc)
 answer_fits w (cell s g x next) c h e = absurd (cc)
 answer_fits w (compare s x y next) c h e = absurd (cc)
+
+answer_close : (w : World) (p : Program Expression) (c : Expression) → fits_all p ≡ true → outcome (run w p) ≡ valued c → fits_days (ranged c) ≡ true
+unfolding run outcome
+answer_close w (answer b) c h e = let z : b ≡ c = cc in subst (λ t. fits_days (ranged t) ≡ true) z (both (fits (ranged (rounded b))) (fits_days (ranged b)) h).1
+answer_close w (void s) c h e = absurd (cc)
+answer_close w (cell s g x next) c h e = absurd (cc)
+answer_close w (compare s x y next) c h e = absurd (cc)
+
+-- a correction of a year from 1800 to 2050 lies within an interval that is within 200 days of 0
+pub record IsClose (i : Interval) : Type 0 where
+  pub around : Interval
+  pub fits : fits_days around ≡ true
+  pub inside : i ⊆ around
+
+pub correction_close : (w : World) (y : ℤ) (c : Expression) → pos 1800 ≤ℤ y → y ≤ℤ pos 2050 → outcome (run w (correction_of_year y)) ≡ valued c → IsClose (value w c)
+unfolding is_small
+correction_close w y c h k e = record { around = ranged c; fits = answer_close w (correction_of_year y) c (year_small y h k) e; inside = value_ranged w c }
 
 floor_fits : (i j : Interval) (v : ℤ) → IsProper i → i ⊆ j → fits j ≡ true → cell_at integers i ≡ Some v → (negsuc 9999999 ≤ℤ v) × (v ≤ℤ pos 10000000)
 unfolding cell_at cell_of
@@ -232,6 +254,6 @@ dt_value w d v h k e =
     let y = parts w (year_of (integer d)) _ v e in
     let same = year_found w d y.part y.first in
     let c = parts w (correction_of_year y.part) _ v y.then in
-    let small = subst (λ t. is_small t ≡ true) (sym same) (year_small (year_of_day d) (year_from d h) (year_to d k)) in
+    let small = subst (λ t. is_small t ≡ true) (sym same) (year_small (year_of_day d) (year_from d h) (let t = year_to d k in omega (arith, ints, t))) in
     let r = decides w _ integers (rounded c.part) (λ q. q) v c.then in
     rw r.leads_to at (floor_fits _ _ r.cell_there (value_proper w (rounded c.part)) (value_ranged w (rounded c.part)) (answer_fits w (correction_of_year y.part) c.part small c.first) r.decided_so)

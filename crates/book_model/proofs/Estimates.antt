@@ -17,6 +17,7 @@ use Rattle.book_model.specs.Fractions.{fraction_of}
 use Rattle.book_model.specs.Leading.{Leads, Exact, leaf}
 use Rattle.book_model.specs.Noon.{part_of_day, equation_of, equation_of_time_of, ahead_of, from_apparent_of, noon_of, IsStart, StartsNear}
 use Rattle.book_model.specs.Programs.{answer, cell, integers, multiples, cell_of, cell_at, threshold, run, valued, outcome, AtMost, answer_at_most, cell_at_most}
+pub use Rattle.book_model.specs.Ranges.{IsBetween}
 use Rattle.book_model.specs.Relations.{Within}
 use Rattle.book_model.specs.Sun.{sun_of, reduced_of, past_of, off_of, back_by, estimate_of}
 use Rattle.book_model.specs.Time.{centuries_of}
@@ -57,16 +58,11 @@ unfolding estimate_of
 estimate_few l x = at_most_bind 3 3 (past_few l x) (λ p. at_most_bind 3 0 (off_few l _) (λ o. answer_at_most))
 
 -- ---- from where to where intervals lie
--- an interval lies between two whole numbers, or nothing is said of it
-abbrev pub IsBetween : (lo hi : ℤ) → Interval → Type 0
-IsBetween lo hi everything = Unit {0}
-IsBetween lo hi (between a b) = (whole lo ≤F a) × (b ≤F whole hi)
-
-between_of_within : (lo hi : ℤ) (i : Interval) → i ⊆ between (whole lo) (whole hi) → IsBetween lo hi i
+pub between_of_within : (lo hi : ℤ) (i : Interval) → i ⊆ between (whole lo) (whole hi) → IsBetween lo hi i
 between_of_within lo hi everything h = tt
 between_of_within lo hi (between a b) h = (h.ends.0, h.ends.1)
 
-wider : (lo hi l h : ℤ) (i : Interval) → l ≤ℤ lo → hi ≤ℤ h → IsBetween lo hi i → IsBetween l h i
+pub wider : (lo hi l h : ℤ) (i : Interval) → l ≤ℤ lo → hi ≤ℤ h → IsBetween lo hi i → IsBetween l h i
 wider lo hi l h everything p q k = tt
 wider lo hi l h (between a b) p q k =
     (le_trans _ _ _ (record { cross = omega (arith, ints) }) k.0, le_trans _ _ _ k.1 (record { cross = omega (arith, ints) }))
@@ -79,7 +75,7 @@ less_whole : (m n : ℤ) → plus (whole m) (opposite (whole n)) ≤F whole (m -
 unfolding plus opposite
 less_whole m n = record { cross = omega (arith, ints) }
 
-difference_between : (a b c d : ℤ) (i j : Interval) → IsBetween a b i → IsBetween c d j → IsBetween (a -ℤ d) (b -ℤ c) (difference i j)
+pub difference_between : (a b c d : ℤ) (i j : Interval) → IsBetween a b i → IsBetween c d j → IsBetween (a -ℤ d) (b -ℤ c) (difference i j)
 unfolding sum negative
 difference_between a b c d everything j h k = tt
 difference_between a b c d (between p q) everything h k = tt
@@ -97,7 +93,7 @@ minimum_between lo hi h (between a b) (between c d) p q =
     (smaller_keeps (λ z. whole lo ≤F z) a c p.0 q.0, le_trans _ _ _ (smaller_first b d) p.1)
 
 -- the floor of an interval between two whole numbers
-floor_between : (lo hi q : ℤ) (i : Interval) → IsProper i → IsBetween lo hi i → cell_at integers i ≡ Some q → (lo ≤ℤ q) × (q ≤ℤ hi)
+pub floor_between : (lo hi q : ℤ) (i : Interval) → IsProper i → IsBetween lo hi i → cell_at integers i ≡ Some q → (lo ≤ℤ q) × (q ≤ℤ hi)
 unfolding cell_at threshold
 floor_between lo hi q everything p h e = absurd (cc)
 floor_between lo hi q (between a b) p h e =
@@ -119,7 +115,7 @@ past_within : (w : World) (l x p : Expression) → outcome (run w (past_of l x))
 unfolding past_of
 past_within w l x p h = let s = parts w (sun_of x) _ p h in reduced_within w (subtract s.part l) p s.then
 
-valued_same : {A : Type 0} (w : World) (a b : A) → outcome (run w (answer a)) ≡ valued b → a ≡ b
+pub valued_same : {A : Type 0} (w : World) (a b : A) → outcome (run w (answer a)) ≡ valued b → a ≡ b
 unfolding outcome run
 valued_same w a b h = cc
 

@@ -35,7 +35,7 @@ correction_few y =
     (few_of_two 0 (is_between (pos 2006) (pos 2050) y) _ _ answer_at_most void_at_most))))
 
 -- the correction of a moment makes one test
-correction_at_few : (x : Expression) → AtMost 1 (correction_at x)
+pub correction_at_few : (x : Expression) → AtMost 1 (correction_at x)
 unfolding correction_at year_of
 correction_at_few x = at_most_bind 1 0 (cell_at_most (λ q. answer_at_most)) (λ y. correction_few y)
 

@@ -16,4 +16,6 @@ pub mod Pi
 pub mod OctantHulls
 pub mod DegreeSines
 pub mod Estimates
+pub mod Moments
+pub mod PhaseRanges
 pub mod NewYears

@@ -24,6 +24,7 @@ pub mod Polynomials
 pub mod Time
 pub mod Sun
 pub mod Noon
+pub mod Ranges
 pub mod Terms
 pub mod Moon
 pub mod NewMoons

@@ -2,7 +2,7 @@
 -- degrees, moments in days (R.D.) of universal time. Reingold and Dershowitz, Calendrical Calculations, chapter 14.
 use Rattle.std.specs.Prelude.{ℕ, zero, suc, Bool, true, false, cond, if◌then◌else◌, ℤ, pos, ◌+ℤ◌, ◌-ℤ◌}
 use Rattle.exact_math.specs.Fraction.{Fraction, whole}
-use Rattle.book_model.specs.declared.new_moon_tables.TheConstants.{DAY_IN_MONTHS}
+use Rattle.book_model.specs.declared.new_moon_tables.TheConstants.{DAY_IN_MONTHS, DEGREE_IN_MONTHS, TURN}
 use Rattle.book_model.specs.declared.site.Site.TheVariants.{PhaseWrap, PhasePick, MoonNumber, MoonWalk}
 use Rattle.book_model.specs.declared.tables.TheConstants.{HALF}
 use Rattle.book_model.specs.Expressions.{Expression, integer, constant, add, subtract, negate, scale, maximum, remainder}
@@ -12,13 +12,16 @@ use Rattle.book_model.specs.NewMoons.{new_moon_of}
 use Rattle.book_model.specs.Programs.{Program, answer, void, cell, compare, bind, integers, multiples}
 use Rattle.book_model.specs.Sun.{sun_of}
 
+-- an angle, reduced to 0 .. 360
+unfoldable pub turned_of : Expression → Program Expression
+turned_of x = cell PhaseWrap (multiples 360) x λ q. answer (remainder 360 x q)
+
 -- the longitude of the moon less that of the sun, from 0 up to 360
 unfoldable pub elongation_of : Expression → Program Expression
 elongation_of x =
     bind (moon_of x) λ m.
     bind (sun_of x) λ s.
-    cell PhaseWrap (multiples 360) (subtract m s) λ q.
-    answer (remainder 360 (subtract m s) q)
+    turned_of (subtract m s)
 
 -- the synodic months from one moment to another
 unfoldable pub months_between : Expression → Expression → Expression
@@ -36,20 +39,28 @@ nearest_moon_of months = cell MoonNumber integers (add months (constant (fractio
 unfoldable pub rough_number_of : Expression → Program ℤ
 rough_number_of x = bind (months_since (pos 0) x) nearest_moon_of
 
+-- what is left of so many months by whole months
+unfoldable pub rest_of_month : Expression → Program Expression
+rest_of_month m = cell PhaseWrap (multiples 1) m λ q. answer (remainder 1 m q)
+
 -- the phase by the time since the new moon of a number: 360 degrees for each mean month
 unfoldable pub phase_by_months_of : ℤ → Expression → Program Expression
 phase_by_months_of n x =
     bind (months_since n x) λ m.
-    cell PhaseWrap (multiples 1) m λ q.
-    answer (scale (whole (pos 360)) (remainder 1 m q))
+    bind (rest_of_month m) λ r.
+    answer (scale (fraction_of TURN) r)
 
 -- the size of a difference
 abbrev pub size_of : Expression → Expression
 size_of x = maximum x (negate x)
 
+-- the second of two, where they are apart
+unfoldable pub chosen : Bool → Expression → Expression → Expression
+chosen apart p q = if apart then q else p
+
 -- the phase by longitudes, or the one by the time where the two are more than 180 degrees apart
 unfoldable pub picked_of : Expression → Expression → Program Expression
-picked_of p q = compare PhasePick (integer (pos 180)) (size_of (subtract p q)) λ apart. answer (if apart then q else p)
+picked_of p q = bind (compare PhasePick (integer (pos 180)) (size_of (subtract p q)) answer) λ apart. answer (chosen apart p q)
 
 -- the moon's phase at a moment
 unfoldable pub phase_of : Expression → Program Expression
@@ -64,27 +75,31 @@ unfoldable pub number_of_moon : Expression → Program ℤ
 number_of_moon x =
     bind (months_since (pos 0) x) λ m.
     bind (phase_of x) λ p.
-    nearest_moon_of (subtract m (scale (fraction_of record { num = pos 1; den = 360 }) p))
+    nearest_moon_of (subtract m (scale (fraction_of DEGREE_IN_MONTHS) p))
 
 -- whether the new moon of a number is before a moment
 unfoldable pub is_moon_before_of : ℤ → Expression → Program Bool
 is_moon_before_of k x = bind (new_moon_of k) λ m. compare MoonWalk m x answer
 
--- the first number from k on, with at most this many steps, whose new moon isn't before a moment
+-- the first of so many numbers from k on whose new moon isn't before a moment; where there is none, the walk is void
 unfoldable pub walk_of : ℕ → Expression → ℤ → Program ℤ
-walk_of zero x k = bind (is_moon_before_of k x) λ before. if before then void MoonWalk else answer k
+walk_of zero x k = void MoonWalk
 walk_of (suc more) x k = bind (is_moon_before_of k x) λ before. if before then walk_of more x (k +ℤ pos 1) else answer k
 
--- the last new moon before a moment
+-- the new moon that comes before the one of a number
+unfoldable pub moon_preceding_of : ℤ → Program Expression
+moon_preceding_of k = new_moon_of (k -ℤ pos 1)
+
+-- the last new moon before a moment: the walk takes at most five steps
 unfoldable pub moon_before_of : Expression → Program Expression
 moon_before_of x =
     bind (number_of_moon x) λ n.
-    bind (walk_of 5 x (n -ℤ pos 1)) λ k.
-    new_moon_of (k -ℤ pos 1)
+    bind (walk_of 6 x (n -ℤ pos 1)) λ k.
+    moon_preceding_of k
 
 -- the first new moon at or after a moment
 unfoldable pub moon_from_of : Expression → Program Expression
 moon_from_of x =
     bind (number_of_moon x) λ n.
-    bind (walk_of 5 x n) λ k.
+    bind (walk_of 6 x n) λ k.
     new_moon_of k

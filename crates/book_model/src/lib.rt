@@ -30,9 +30,9 @@ pub use moon_tables::{
 };
 pub use moon_terms::{MoonTerm, NewMoonTerm, PlanetTerm};
 pub use new_moon_tables::{
-    DAY_IN_MONTHS, MEAN_NEW_MOON, MONTH_IN_CENTURIES, NEW_MOON_ANOMALY, NEW_MOON_LATITUDE_ARGUMENT,
-    NEW_MOON_NODE, NEW_MOON_OF_2000, NEW_MOON_SUN_ANOMALY, NEW_MOON_TERMS, NEW_MOON_WAVE,
-    NODE_TERM, PLANET_TERMS, SYNODIC_MONTH,
+    DAY_IN_MONTHS, DEGREE_IN_MONTHS, MEAN_NEW_MOON, MONTH_IN_CENTURIES, NEW_MOON_ANOMALY,
+    NEW_MOON_LATITUDE_ARGUMENT, NEW_MOON_NODE, NEW_MOON_OF_2000, NEW_MOON_SUN_ANOMALY,
+    NEW_MOON_TERMS, NEW_MOON_WAVE, NODE_TERM, PLANET_TERMS, SYNODIC_MONTH, TURN,
 };
 pub use polynomial::{Cubic, Quadratic, QuadraticWave, Quartic, Wave};
 pub use request::{Fields, FromWord, Request, Resolved, Rule, ToWord};

@@ -16,7 +16,7 @@ pub struct MoonTerm {
 /// and of the argument of latitude, and the size in hundred-thousandths of a day.
 #[derive(Clone, Copy, Debug, PartialEq, Eq)]
 pub struct NewMoonTerm {
-    pub eccentricity: u32,
+    pub eccentricity: u64,
     pub sun_anomaly: i64,
     pub moon_anomaly: i64,
     pub latitude_argument: i64,

@@ -165,6 +165,12 @@ pub const DAY_IN_MONTHS: Frac = Frac {
     den: 29_530_588_861,
 };
 
+/// A turn, in degrees.
+pub const TURN: Frac = Frac { num: 360, den: 1 };
+
+/// A degree of the moon's phase, in synodic months.
+pub const DEGREE_IN_MONTHS: Frac = Frac { num: 1, den: 360 };
+
 /// The terms of a new moon: the power of the eccentricity's factor, the multiples of the anomalies of the sun and of the
 /// moon and of the argument of latitude, and what the sine of their sum adds, in hundred-thousandths of a day.
 #[rattlefmt::skip]

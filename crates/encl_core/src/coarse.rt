@@ -1,5 +1,5 @@
 //! Enclosures by ends in 64 bits, which count 2⁻³⁶.
-ghost use Rattle.encl_core.specs.Shown.{shown_coarse};
+ghost use Rattle.encl_core.specs.Shown.{shown_coarse, coarse_proper};
 
 use crate::comparing::{cell_of_ends, open_at, order_of_ends};
 use crate::dividing::{div_ends, square_ends};
@@ -20,6 +20,8 @@ pub struct Coarse {
 
 impl Enclosure for Coarse {
     ghost shown = { shown_coarse };
+
+    ghost proper = { coarse_proper };
 
     ghost BITS = { 36 };
 

@@ -1,6 +1,6 @@
 //! The trait of all kinds of enclosures.
 ghost use Rattle.std.specs.Prelude.{◌≡◌, ◌<◌, ℕ, ℤ, ◌≤◌, Some, IfOk, IfErr, IfSome, IsSome, IsNone};
-ghost use Rattle.exact_math.specs.Interval.{Interval, everything, between, ◌⊆◌};
+ghost use Rattle.exact_math.specs.Interval.{Interval, everything, between, ◌⊆◌, IsProper};
 ghost use Rattle.book_model.specs.Fractions.{fraction_of};
 ghost use Rattle.book_model.specs.Expressions.{Expression, World, integer, constant, add as add_of, subtract, multiply, negate, scale, minimum, maximum, hull as hull_of, widen as widen_of, divide, power, remainder};
 ghost use Rattle.book_model.specs.Bounds.{Reach, limits_of};
@@ -20,6 +20,9 @@ use book_model::{Frac, Site, Undecided};
 pub trait Enclosure: Copy + Drop {
     /// The interval that an enclosure shows.
     ghost shown: { Self → Interval };
+
+    /// The ends of that interval are in order.
+    ghost proper: { (e : Self) → IsProper (shown e) };
 
     /// The scale is 2 to the power of minus this.
     ghost BITS: { ℕ };

@@ -5,7 +5,7 @@ ghost use Rattle.book_model.specs.declared.site.Site.TheVariants.{DayTest as AtD
 ghost use Rattle.book_model.specs.Expressions.{World, integer};
 ghost use Rattle.book_model.specs.Leading.{Exact, Leads};
 ghost use Rattle.book_model.specs.Programs.{answer, compare};
-ghost use Rattle.encl_core.specs.Shown.{shown_unknown};
+ghost use Rattle.encl_core.specs.Shown.{shown_unknown, unknown_proper};
 
 use crate::rounding::{ceil_div, floor_div};
 use crate::{
@@ -20,6 +20,8 @@ struct Unknown;
 
 impl Enclosure for Unknown {
     ghost shown = { shown_unknown };
+
+    ghost proper = { unknown_proper };
 
     ghost BITS = { 8 };
 

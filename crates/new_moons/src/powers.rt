@@ -19,7 +19,7 @@ pub fn whole(number: i64) -> Frac
 
 /// A term times a power of a factor; at the exponent 0 the term itself.
 #[tactic(auto, using(crate::proofs::PowerLemmas::powers))]
-pub fn times_power<E: Enclosure>(factor: E, exponent: u32, term: E) -> E
+pub fn times_power<E: Enclosure>(factor: E, exponent: u64, term: E) -> E
     ensures holds { (w : World) (f x : Expression) → Within E.shown w f factor → Within E.shown w x term → Within E.shown w (times_power_of f exponent x) result }
     ensures narrow { (r : Reach) (f x : Expression) → Narrow E.shown (limits_of E.BITS) r f factor → Narrow E.shown (limits_of E.BITS) r x term → Narrow E.shown (limits_of E.BITS) r (times_power_of f exponent x) result }
 {

@@ -18,9 +18,9 @@ use book_model::{
 use encl_core::{Enclosure, Trail, wrap_step};
 use time_scales::centuries;
 
-/// The nutation in longitude.
+/// The nutation in longitude, in degrees, by the centuries (Reingold and Dershowitz, Calendrical Calculations, chapter 14).
 #[tactic(auto, unfolding(book_model::specs::Sun::nutation_of))]
-fn nutation<E: Enclosure>(c: E) -> E
+pub fn nutation<E: Enclosure>(c: E) -> E
     ensures holds { (w : World) (x : Expression) → Within E.shown w x c → Within E.shown w (nutation_of x) result }
     ensures narrow { (r : Reach) (x : Expression) → Narrow E.shown (limits_of E.BITS) r x c → Narrow E.shown (limits_of E.BITS) r (nutation_of x) result }
 {

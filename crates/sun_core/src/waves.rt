@@ -18,9 +18,9 @@ fn angle<E: Enclosure>(wave: &Wave, c: E) -> E
     E::from_frac(wave.phase).add(c.mul_frac(wave.rate))
 }
 
-/// The size of a wave times the sine of its angle.
+/// The size of a wave times the sine of its angle, by the centuries.
 #[tactic(auto, unfolding(book_model::specs::Polynomials::wave_of))]
-pub(crate) fn sine_wave<E: Enclosure>(wave: &Wave, c: E) -> E
+pub fn sine_wave<E: Enclosure>(wave: &Wave, c: E) -> E
     ensures holds { (w : World) (x : Expression) → Within E.shown w x c → Within E.shown w (wave_of wave.now x) result }
     ensures narrow { (r : Reach) (x : Expression) → Narrow E.shown (limits_of E.BITS) r x c → Narrow E.shown (limits_of E.BITS) r (wave_of wave.now x) result }
 {

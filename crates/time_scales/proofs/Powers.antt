@@ -37,4 +37,15 @@ pub cube_keeps : {E : Type 0} (shown : E → Interval) (l : Limits) (r : Reach) 
 unfolding Keeps bound_of IsNarrow
 cube_keeps shown l r x e h = record { kept = tt }
 
+-- an enclosure of the product of a cube and its root holds the fourth power
+pub fourth_holds : {E : Type 0} (shown : E → Interval) (w : World) (x : Expression) (e : E) → Within shown w (multiply (power_of x 3) x) e → Within shown w (power_of x 4) e
+unfolding Lies value
+fourth_holds shown w x e h = record { deep = h.deep; inside = within_trans (next_power 3 (value w x) (value_proper w x)) h.inside }
+
+pub fourth_keeps : {E : Type 0} (shown : E → Interval) (l : Limits) (r : Reach) (x : Expression) (e : E) → Narrow shown l r (multiply (power_of x 3) x) e → Narrow shown l r (power_of x 4) e
+unfolding Keeps bound_of IsNarrow
+fourth_keeps shown l r x e h = record { kept = tt }
+
 pub ruleset cubes = (cube_holds, cube_keeps)
+
+pub ruleset fourths = (cube_holds, cube_keeps, fourth_holds, fourth_keeps)

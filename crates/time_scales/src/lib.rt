@@ -6,7 +6,8 @@
 //! - `correction`: dynamical time less universal time in a year; `dynamical` and `from_dynamical` apply it, and
 //!   `centuries` counts from noon of 1 January 2000;
 //! - `sidereal` and `zone_beijing`;
-//! - `quadratic` and `cubic`: polynomials of enclosures, for the formulas of the crates above.
+//! - `quadratic`, `cubic` and `quartic`: polynomials of enclosures; `at_fraction`: a polynomial at an exact time; for the
+//!   formulas of the crates above.
 #![tactic(auto)]
 
 mod calendar;
@@ -20,6 +21,6 @@ mod zone;
 
 pub use ephemeris::{centuries, correction, dynamical, from_dynamical};
 pub use moment::{year, year_of_whole_day};
-pub use polynomial::{at_fraction, cubic, quadratic};
+pub use polynomial::{at_fraction, cubic, quadratic, quartic};
 pub use sidereal_time::sidereal;
 pub use zone::zone_beijing;

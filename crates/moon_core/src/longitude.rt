@@ -1,0 +1,118 @@
+//! The apparent longitude of the moon.
+ghost use Rattle.std.specs.Prelude.{◌≡◌, ◌≤◌, ◌+◌, unsigned_abs};
+ghost use Rattle.book_model.specs.Bounds.{Reach, limits_of};
+ghost use Rattle.book_model.specs.Expressions.{Expression, World};
+ghost use Rattle.book_model.specs.Leading.{Leads, next_turn};
+ghost use Rattle.book_model.specs.Moon as spec;
+ghost use Rattle.book_model.specs.Relations.{Within, Narrow};
+ghost use Rattle.moon_core.specs.Angles.{HoldAngles, KeepAngles};
+
+use crate::angles::{Angles, angles_at};
+use book_model::{
+    FLATTENING, Fail, JUPITER_WAVE, LATITUDE_ARGUMENT, MILLIONTH, MOON_LONGITUDE, MOON_TERMS,
+    MoonTerm, Site, VENUS_WAVE,
+};
+use encl_core::{Enclosure, Term, Trail, sum_of_terms, wrap_step};
+use new_moons::{times_power, whole};
+use sun_core::{nutation, sine_wave};
+use time_scales::{centuries, quartic};
+use trig_series::sin_deg;
+
+/// The sum of the multiples of the angles.
+#[tactic(auto, unfolding(book_model::specs::Moon::angle_of_term))]
+fn angle<E: Enclosure>(term: &MoonTerm, angles: Angles<E>) -> E
+    ensures holds { (w : World) (a : spec.LunarAngles) → HoldAngles E.shown w a angles → Within E.shown w (spec.angle_of_term a term.now) result }
+    ensures narrow { (r : Reach) (a : spec.LunarAngles) → KeepAngles E.shown (limits_of E.BITS) r a angles → Narrow E.shown (limits_of E.BITS) r (spec.angle_of_term a term.now) result }
+{
+    angles
+        .elongation
+        .mul_frac(whole(term.elongation))
+        .add(angles.sun_anomaly.mul_frac(whole(term.sun_anomaly)))
+        .add(angles.moon_anomaly.mul_frac(whole(term.moon_anomaly)))
+        .add(
+            angles
+                .latitude_argument
+                .mul_frac(whole(term.latitude_argument)),
+        )
+}
+
+/// The size of a multiple.
+fn size_of(multiple: i64) -> u64
+    ensures size { result ≡ unsigned_abs multiple }
+{
+    multiple.unsigned_abs()
+}
+
+impl<E: Enclosure> Term<Angles<E>, E> for MoonTerm {
+    ghost Given = { spec.LunarAngles };
+
+    ghost holds = { λ w a given. HoldAngles E.shown w a given };
+
+    ghost keeps = { λ r a given. KeepAngles E.shown (limits_of E.BITS) r a given };
+
+    ghost term_of = { λ a term. spec.longitude_term_of a term };
+
+    #[tactic(auto, unfolding(book_model::specs::Moon::longitude_term_of))]
+    fn term(&self, given: Angles<E>) -> E {
+        let sine = sin_deg(angle(self, given));
+        times_power(given.eccentricity, size_of(self.sun_anomaly), sine).mul_frac(whole(
+            self.longitude,
+        ))
+    }
+}
+
+/// The sum of the longitude's terms, in millionths of a degree.
+#[tactic(auto, unfolding(book_model::specs::Moon::longitude_terms_of))]
+fn longitude_terms<E: Enclosure>(c: E) -> E
+    ensures holds { (w : World) (x : Expression) → Within E.shown w x c → Within E.shown w (spec.longitude_terms_of x) result }
+    ensures narrow { (r : Reach) (x : Expression) → Narrow E.shown (limits_of E.BITS) r x c → Narrow E.shown (limits_of E.BITS) r (spec.longitude_terms_of x) result }
+{
+    sum_of_terms::<Angles<E>, E, MoonTerm>(&MOON_TERMS, angles_at(c))
+}
+
+/// What the flattening of the earth adds, in millionths of a degree.
+#[tactic(auto, unfolding(book_model::specs::Moon::flattening_of))]
+fn flattening<E: Enclosure>(c: E) -> E
+    ensures holds { (w : World) (x : Expression) → Within E.shown w x c → Within E.shown w (spec.flattening_of x) result }
+    ensures narrow { (r : Reach) (x : Expression) → Narrow E.shown (limits_of E.BITS) r x c → Narrow E.shown (limits_of E.BITS) r (spec.flattening_of x) result }
+{
+    let angle = quartic(&MOON_LONGITUDE, c).sub(quartic(&LATITUDE_ARGUMENT, c));
+    sin_deg(angle).mul_frac(FLATTENING)
+}
+
+/// What the moon is ahead of its mean longitude, in millionths of a degree.
+#[tactic(auto, unfolding(book_model::specs::Moon::inequalities_of))]
+fn inequalities<E: Enclosure>(c: E) -> E
+    ensures holds { (w : World) (x : Expression) → Within E.shown w x c → Within E.shown w (spec.inequalities_of x) result }
+    ensures narrow { (r : Reach) (x : Expression) → Narrow E.shown (limits_of E.BITS) r x c → Narrow E.shown (limits_of E.BITS) r (spec.inequalities_of x) result }
+{
+    longitude_terms(c)
+        .add(sine_wave(&VENUS_WAVE, c))
+        .add(sine_wave(&JUPITER_WAVE, c))
+        .add(flattening(c))
+}
+
+/// The longitude of the moon by the centuries, not reduced.
+#[tactic(auto, unfolding(book_model::specs::Moon::moon_longitude_of))]
+fn longitude<E: Enclosure>(c: E) -> E
+    ensures holds { (w : World) (x : Expression) → Within E.shown w x c → Within E.shown w (spec.moon_longitude_of x) result }
+    ensures narrow { (r : Reach) (x : Expression) → Narrow E.shown (limits_of E.BITS) r x c → Narrow E.shown (limits_of E.BITS) r (spec.moon_longitude_of x) result }
+{
+    quartic(&MOON_LONGITUDE, c)
+        .add(inequalities(c).mul_frac(MILLIONTH))
+        .add(nutation(c))
+}
+
+/// The apparent longitude of the moon at a moment of universal time, in degrees from 0 up to 360 (Reingold and
+/// Dershowitz, Calendrical Calculations, chapter 14; Meeus, Astronomical Algorithms, chapter 47). Two tests, the year's and
+/// the one at `moon-wrap`. It is void at `year` in a year without a correction.
+#[tactic(auto, using(book_model::proofs::Leads::leading), unfolding(book_model::specs::Moon::moon_of, book_model::specs::Leading::next_turn))]
+pub fn moon<E: Enclosure>(t: E, trail: &mut Trail) -> Result<E, Fail>
+    ensures leads { (w : World) (x : Expression) → Within E.shown w x t → Leads w (Within E.shown w) (spec.moon_of x) trail.old.count trail.new.count result }
+    ensures counted { trail.new.count ≤ trail.old.count + 2 }
+{
+    match centuries(t, trail) {
+        Ok(c) => wrap_step(longitude(c), 360, Site::MoonWrap, trail),
+        Err(fail) => Err(fail),
+    }
+}

@@ -1,0 +1,179 @@
+//! The moon's phase, and the number of the new moon about a moment.
+ghost use Rattle.std.specs.Prelude.{◌≡◌, ◌≤◌, ◌+◌, ℤ, pos, negsuc, ◌≤ℤ◌, IfOk};
+ghost use Rattle.book_model.specs.Bounds.{Reach, limits_of};
+ghost use Rattle.book_model.specs.Expressions.{Expression, World};
+ghost use Rattle.book_model.specs.Leading.{Leads, Exact, next_turn};
+ghost use Rattle.book_model.specs.Phases as spec;
+ghost use Rattle.book_model.specs.Ranges.{IsInTable};
+ghost use Rattle.book_model.specs.Relations.{Within, Narrow};
+
+use crate::longitude::moon;
+use book_model::{DAY_IN_MONTHS, DEGREE_IN_MONTHS, Fail, HALF, Site, TURN};
+use encl_core::{Enclosure, Trail, floor_step, less_step, wrap_step};
+use new_moons::new_moon;
+use sun_core::sun;
+
+/// An angle, reduced to 0 up to 360 degrees, as one test.
+#[tactic(auto, using(book_model::proofs::Leads::leading), unfolding(book_model::specs::Phases::turned_of, book_model::specs::Leading::next_turn))]
+fn turned<E: Enclosure>(angle: E, trail: &mut Trail) -> Result<E, Fail>
+    ensures leads { (w : World) (x : Expression) → Within E.shown w x angle → Leads w (Within E.shown w) (spec.turned_of x) trail.old.count trail.new.count result }
+    ensures counted { trail.new.count ≤ trail.old.count + 1 }
+{
+    wrap_step(angle, 360, Site::PhaseWrap, trail)
+}
+
+/// The longitude of the moon less that of the sun, from 0 up to 360 degrees.
+#[tactic(auto, using(book_model::proofs::Leads::leading), unfolding(book_model::specs::Phases::elongation_of))]
+fn longitudes_apart<E: Enclosure>(t: E, trail: &mut Trail) -> Result<E, Fail>
+    ensures leads { (w : World) (x : Expression) → Within E.shown w x t → Leads w (Within E.shown w) (spec.elongation_of x) trail.old.count trail.new.count result }
+    ensures counted { trail.new.count ≤ trail.old.count + 5 }
+{
+    let there = moon(t, trail)?;
+    let longitude = sun(t, trail)?;
+    turned(there.sub(longitude), trail)
+}
+
+/// The same, at a moment of the years of which there is a correction: five tests at most.
+fn elongation<E: Enclosure>(t: E, trail: &mut Trail) -> Result<E, Fail>
+    ensures leads { (w : World) (x : Expression) → Within E.shown w x t → Leads w (Within E.shown w) (spec.elongation_of x) trail.old.count trail.new.count result }
+    ensures in_table { IfOk result (λ p. IsInTable (E.shown t)) }
+    ensures counted { trail.new.count ≤ trail.old.count + 5 }
+{
+    longitudes_apart(t, trail)
+}
+
+/// The synodic months from the new moon of a number to a moment: one test at most.
+#[tactic(auto, using(book_model::proofs::Leads::leading), unfolding(book_model::specs::Phases::months_since, book_model::specs::Phases::months_between, book_model::specs::Leading::next_turn))]
+fn months_since<E: Enclosure>(n: i64, t: E, trail: &mut Trail) -> Result<E, Fail>
+    requires low { negsuc 39999999 ≤ℤ n }
+    requires high { n ≤ℤ pos 40000000 }
+    ensures leads { (w : World) (x : Expression) → Within E.shown w x t → Leads w (Within E.shown w) (spec.months_since n x) trail.old.count trail.new.count result }
+    ensures counted { trail.new.count ≤ trail.old.count + 1 }
+{
+    match new_moon::<E>(n, trail) {
+        Ok(moment) => Ok(t.sub(moment).mul_frac(DAY_IN_MONTHS)),
+        Err(fail) => Err(fail),
+    }
+}
+
+/// The whole number of months that is nearest, as one test.
+#[tactic(auto, using(book_model::proofs::Leads::leading), unfolding(book_model::specs::Phases::nearest_moon_of, book_model::specs::Leading::next_turn))]
+fn nearest_moon<E: Enclosure>(months: E, trail: &mut Trail) -> Result<i64, Fail>
+    ensures leads { (w : World) (m : Expression) → Within E.shown w m months → Leads w Exact (spec.nearest_moon_of m) trail.old.count trail.new.count result }
+    ensures counted { trail.new.count ≤ trail.old.count + 1 }
+{
+    floor_step(months.add(E::from_frac(HALF)), Site::MoonNumber, trail)
+}
+
+/// The number of the new moon about a moment, by mean months from the first.
+#[tactic(auto, using(book_model::proofs::Leads::leading), unfolding(book_model::specs::Phases::rough_number_of))]
+fn number_by_months<E: Enclosure>(t: E, trail: &mut Trail) -> Result<i64, Fail>
+    ensures leads { (w : World) (x : Expression) → Within E.shown w x t → Leads w Exact (spec.rough_number_of x) trail.old.count trail.new.count result }
+    ensures counted { trail.new.count ≤ trail.old.count + 2 }
+{
+    match months_since(0, t, trail) {
+        Ok(months) => nearest_moon(months, trail),
+        Err(fail) => Err(fail),
+    }
+}
+
+/// The same, of a moment of the years of which there is a correction: two tests at most.
+fn rough_number<E: Enclosure>(t: E, trail: &mut Trail) -> Result<i64, Fail>
+    requires in_table { IsInTable (E.shown t) }
+    ensures leads { (w : World) (x : Expression) → Within E.shown w x t → Leads w Exact (spec.rough_number_of x) trail.old.count trail.new.count result }
+    ensures low { IfOk result (λ n. negsuc 39999 ≤ℤ n) }
+    ensures high { IfOk result (λ n. n ≤ℤ pos 40000) }
+    ensures counted { trail.new.count ≤ trail.old.count + 2 }
+{
+    number_by_months(t, trail)
+}
+
+/// What is left of so many months by whole months, as one test.
+#[tactic(auto, using(book_model::proofs::Leads::leading), unfolding(book_model::specs::Phases::rest_of_month, book_model::specs::Leading::next_turn))]
+fn rest_of_month<E: Enclosure>(months: E, trail: &mut Trail) -> Result<E, Fail>
+    ensures leads { (w : World) (m : Expression) → Within E.shown w m months → Leads w (Within E.shown w) (spec.rest_of_month m) trail.old.count trail.new.count result }
+    ensures counted { trail.new.count ≤ trail.old.count + 1 }
+{
+    wrap_step(months, 1, Site::PhaseWrap, trail)
+}
+
+/// The phase by the time since the new moon of a number, from 0 up to 360 degrees: two tests at most.
+#[tactic(auto, using(book_model::proofs::Leads::leading), unfolding(book_model::specs::Phases::phase_by_months_of))]
+fn phase_by_months<E: Enclosure>(n: i64, t: E, trail: &mut Trail) -> Result<E, Fail>
+    requires low { negsuc 39999999 ≤ℤ n }
+    requires high { n ≤ℤ pos 40000000 }
+    ensures leads { (w : World) (x : Expression) → Within E.shown w x t → Leads w (Within E.shown w) (spec.phase_by_months_of n x) trail.old.count trail.new.count result }
+    ensures counted { trail.new.count ≤ trail.old.count + 2 }
+{
+    let months = months_since(n, t, trail)?;
+    match rest_of_month(months, trail) {
+        Ok(rest) => Ok(rest.mul_frac(TURN)),
+        Err(fail) => Err(fail),
+    }
+}
+
+/// The size of a number.
+fn size<E: Enclosure>(x: E) -> E
+    ensures holds { (w : World) (e : Expression) → Within E.shown w e x → Within E.shown w (spec.size_of e) result }
+    ensures narrow { (r : Reach) (e : Expression) → Narrow E.shown (limits_of E.BITS) r e x → Narrow E.shown (limits_of E.BITS) r (spec.size_of e) result }
+{
+    x.max(x.neg())
+}
+
+/// The second of two phases, where they are apart.
+#[tactic(auto, unfolding(book_model::specs::Phases::chosen))]
+fn chosen<E: Enclosure>(apart: bool, by_longitudes: E, by_time: E) -> E
+    ensures holds { (w : World) (p q : Expression) → Within E.shown w p by_longitudes → Within E.shown w q by_time → Within E.shown w (spec.chosen apart p q) result }
+{
+    if apart { by_time } else { by_longitudes }
+}
+
+/// The phase by longitudes, or the one by the time where they are more than 180 degrees apart: one test.
+#[tactic(auto, using(book_model::proofs::Leads::leading), unfolding(book_model::specs::Phases::picked_of, book_model::specs::Leading::next_turn))]
+fn picked<E: Enclosure>(by_longitudes: E, by_time: E, trail: &mut Trail) -> Result<E, Fail>
+    ensures leads { (w : World) (p q : Expression) → Within E.shown w p by_longitudes → Within E.shown w q by_time → Leads w (Within E.shown w) (spec.picked_of p q) trail.old.count trail.new.count result }
+    ensures counted { trail.new.count ≤ trail.old.count + 1 }
+{
+    let apart = size(by_longitudes.sub(by_time));
+    match less_step(E::from_int(180), apart, Site::PhasePick, trail) {
+        Ok(is_apart) => Ok(chosen(is_apart, by_longitudes, by_time)),
+        Err(fail) => Err(fail),
+    }
+}
+
+/// The phase of the moon at a moment of universal time, in degrees: its longitude less the sun's, from 0 up to 360, or,
+/// where the moment is so near a new moon that this is a turn off, the time since the new moon in its place (Reingold
+/// and Dershowitz, Calendrical Calculations, chapter 14). Ten tests: five of the longitudes, two of the number of the new
+/// moon about the moment, two of the time since that, and one that picks. It is void at `year` in a year without a
+/// correction.
+#[tactic(auto, using(book_model::proofs::Leads::leading), unfolding(book_model::specs::Phases::phase_of))]
+pub fn phase<E: Enclosure>(t: E, trail: &mut Trail) -> Result<E, Fail>
+    ensures leads { (w : World) (x : Expression) → Within E.shown w x t → Leads w (Within E.shown w) (spec.phase_of x) trail.old.count trail.new.count result }
+    ensures counted { trail.new.count ≤ trail.old.count + 10 }
+{
+    let by_longitudes = elongation(t, trail)?;
+    let number = rough_number(t, trail)?;
+    let by_time = phase_by_months(number, t, trail)?;
+    picked(by_longitudes, by_time, trail)
+}
+
+/// The number of the last new moon before a moment, or of one next to it.
+#[tactic(auto, using(book_model::proofs::Leads::leading), unfolding(book_model::specs::Phases::number_of_moon))]
+fn number_by_phase<E: Enclosure>(t: E, trail: &mut Trail) -> Result<i64, Fail>
+    ensures leads { (w : World) (x : Expression) → Within E.shown w x t → Leads w Exact (spec.number_of_moon x) trail.old.count trail.new.count result }
+    ensures counted { trail.new.count ≤ trail.old.count + 12 }
+{
+    let months = months_since(0, t, trail)?;
+    let degrees = phase(t, trail)?;
+    nearest_moon(months.sub(degrees.mul_frac(DEGREE_IN_MONTHS)), trail)
+}
+
+/// The same, which lies within 40,000 of 0: twelve tests at most.
+pub(crate) fn number<E: Enclosure>(t: E, trail: &mut Trail) -> Result<i64, Fail>
+    ensures leads { (w : World) (x : Expression) → Within E.shown w x t → Leads w Exact (spec.number_of_moon x) trail.old.count trail.new.count result }
+    ensures low { IfOk result (λ n. negsuc 39999 ≤ℤ n) }
+    ensures high { IfOk result (λ n. n ≤ℤ pos 40000) }
+    ensures counted { trail.new.count ≤ trail.old.count + 12 }
+{
+    number_by_phase(t, trail)
+}

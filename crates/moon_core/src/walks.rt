@@ -1,0 +1,91 @@
+//! The new moons before and from a moment, by a walk over their numbers.
+ghost use Rattle.std.specs.Prelude.{◌≡◌, ◌≤◌, ◌+◌, ◌*◌, ℤ, pos, negsuc, ◌≤ℤ◌, ◌+ℤ◌, IfOk};
+ghost use Rattle.book_model.specs.Expressions.{Expression, World};
+ghost use Rattle.book_model.specs.Leading.{Leads, Exact, next_turn};
+ghost use Rattle.book_model.specs.Phases as spec;
+ghost use Rattle.book_model.specs.Relations.{Within};
+
+use crate::phases::number;
+use book_model::{Fail, Site};
+use encl_core::{Enclosure, Trail, less_step};
+use new_moons::new_moon;
+
+/// How many numbers a walk tries: its start and five steps.
+const NUMBERS_TRIED: u32 = 6;
+
+/// Whether the new moon of a number is before a moment: two tests at most.
+#[tactic(auto, using(book_model::proofs::Leads::leading), unfolding(book_model::specs::Phases::is_moon_before_of, book_model::specs::Leading::next_turn))]
+fn is_moon_before<E: Enclosure>(n: i64, t: E, trail: &mut Trail) -> Result<bool, Fail>
+    requires low { negsuc 39999999 ≤ℤ n }
+    requires high { n ≤ℤ pos 40000000 }
+    ensures leads { (w : World) (x : Expression) → Within E.shown w x t → Leads w Exact (spec.is_moon_before_of n x) trail.old.count trail.new.count result }
+    ensures counted { trail.new.count ≤ trail.old.count + 2 }
+{
+    match new_moon::<E>(n, trail) {
+        Ok(moment) => less_step(moment, t, Site::MoonWalk, trail),
+        Err(fail) => Err(fail),
+    }
+}
+
+/// The first of so many numbers from one on whose new moon isn't before a moment; void at `moon-walk` where there is none.
+#[tactic(auto, using(book_model::proofs::Leads::leading, crate::proofs::WalkSteps::walks), unfolding(book_model::specs::Leading::next_turn))]
+fn walk<E: Enclosure>(more: u32, t: E, n: i64, trail: &mut Trail) -> Result<i64, Fail>
+    requires low { negsuc 39999999 ≤ℤ n }
+    requires high { (n +ℤ pos more) ≤ℤ pos 40000000 }
+    ensures leads { (w : World) (x : Expression) → Within E.shown w x t → Leads w Exact (spec.walk_of more x n) trail.old.count trail.new.count result }
+    ensures from { IfOk result (λ k. n ≤ℤ k) }
+    ensures to { IfOk result (λ k. k ≤ℤ (n +ℤ pos more)) }
+    ensures counted { trail.new.count ≤ trail.old.count + 2 * more }
+{
+    if more == 0 {
+        return Err(Fail::Void(Site::MoonWalk));
+    }
+    match is_moon_before(n, t, trail) {
+        Ok(true) => walk(more - 1, t, n + 1, trail),
+        Ok(false) => Ok(n),
+        Err(fail) => Err(fail),
+    }
+}
+
+/// The moment of the new moon that comes before the one of a number: one test at most.
+#[tactic(auto, unfolding(book_model::specs::Phases::moon_preceding_of, book_model::specs::Leading::next_turn))]
+fn moon_preceding<E: Enclosure>(n: i64, trail: &mut Trail) -> Result<E, Fail>
+    requires low { negsuc 39999998 ≤ℤ n }
+    requires high { n ≤ℤ pos 40000000 }
+    ensures leads { (w : World) → 40 ≤ w.depth → Leads w (Within E.shown w) (spec.moon_preceding_of n) trail.old.count trail.new.count result }
+    ensures counted { trail.new.count ≤ trail.old.count + 1 }
+{
+    new_moon::<E>(n - 1, trail)
+}
+
+/// The moment of the last new moon before a moment of universal time (Reingold and Dershowitz, Calendrical Calculations,
+/// chapter 14): from the number before that of the moment the walk goes to the first new moon that isn't before it, and
+/// takes the one before that anew. At most 25 tests. It is void at `moon-walk` where the walk would take more than
+/// five steps, and at `year` in a year without a correction.
+#[tactic(auto, using(book_model::proofs::Leads::leading), unfolding(book_model::specs::Phases::moon_before_of, book_model::specs::Leading::next_turn))]
+pub fn moon_before<E: Enclosure>(t: E, trail: &mut Trail) -> Result<E, Fail>
+    ensures leads { (w : World) (x : Expression) → Within E.shown w x t → Leads w (Within E.shown w) (spec.moon_before_of x) trail.old.count trail.new.count result }
+    ensures counted { trail.new.count ≤ trail.old.count + 25 }
+{
+    let about = number(t, trail)?;
+    match walk(NUMBERS_TRIED, t, about - 1, trail) {
+        Ok(next) => moon_preceding::<E>(next, trail),
+        Err(fail) => Err(fail),
+    }
+}
+
+/// The moment of the first new moon at or after a moment of universal time (Reingold and Dershowitz, Calendrical
+/// Calculations, chapter 14): from the number of the moment the walk goes to the first new moon that isn't before it, and
+/// takes that anew. At most 25 tests. It is void at `moon-walk` where the walk would take more than five steps, and
+/// at `year` in a year without a correction.
+#[tactic(auto, using(book_model::proofs::Leads::leading), unfolding(book_model::specs::Phases::moon_from_of, book_model::specs::Leading::next_turn))]
+pub fn moon_from<E: Enclosure>(t: E, trail: &mut Trail) -> Result<E, Fail>
+    ensures leads { (w : World) (x : Expression) → Within E.shown w x t → Leads w (Within E.shown w) (spec.moon_from_of x) trail.old.count trail.new.count result }
+    ensures counted { trail.new.count ≤ trail.old.count + 25 }
+{
+    let about = number(t, trail)?;
+    match walk(NUMBERS_TRIED, t, about, trail) {
+        Ok(next) => new_moon::<E>(next, trail),
+        Err(fail) => Err(fail),
+    }
+}
