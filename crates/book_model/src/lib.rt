@@ -7,6 +7,7 @@ mod fact;
 mod fail;
 mod frac;
 pub mod laws;
+mod names;
 pub mod plain;
 mod polynomial;
 mod request;
@@ -18,7 +19,10 @@ mod tests;
 mod time_tables;
 
 pub use calendar_tables::{PERSIAN_EPOCH, TROPICAL_YEAR};
-pub use fact::{Fact, KINDS, Kind, PLACES, Place};
+pub use fact::{
+    FIRST_DAY, FIRST_FACT_DAY, Fact, GREATEST_VALUE, KINDS, Kind, LAST_DAY, LAST_FACT_DAY,
+    LEAST_VALUE, PLACES, Place,
+};
 pub use fail::{Fail, Undecided};
 pub use frac::Frac;
 pub use polynomial::{Cubic, Quadratic, QuadraticWave, Wave};

@@ -8,7 +8,7 @@ use Rattle.book_model.specs.declared.fact.Fact.{Fact}
 use Rattle.book_model.specs.Correction.{is_between}
 use Rattle.book_model.specs.Inquiries.{fact_eq}
 use Rattle.book_model.specs.Lines.{lines_of, words_of}
-use Rattle.oracle_core.specs.Answers.{IsFactValue}
+use Rattle.book_model.specs.Facts.{IsFactValue}
 use Rattle.oracle_core.specs.Pairs.{facts_of, are_distinct}
 use Rattle.oracle_core.proofs.Keeping.{facts_of_push}
 use Rattle.oracle_core.proofs.Listing.{distinct_more}

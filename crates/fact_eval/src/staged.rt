@@ -2,22 +2,18 @@
 ghost use Rattle.std.specs.Prelude.{◌≡◌, ◌≤◌, IfOk, IfErr};
 ghost use Rattle.book_model.specs.Calendar.{year_of_day};
 ghost use Rattle.book_model.specs.Expressions.{World};
-ghost use Rattle.book_model.specs.Facts.{program_of};
+ghost use Rattle.book_model.specs.Facts.{IsFactValue, IsValueDay, formula_of, program_of};
 ghost use Rattle.book_model.specs.Leading.{Exact, Leads};
+ghost use Rattle.book_model.specs.Programs.{AtMost};
 ghost use Rattle.fact_eval.specs.Answers.{answer_of};
-ghost use Rattle.fact_eval.specs.Widths.{IsNearFor, IsFactValue};
+ghost use Rattle.fact_eval.specs.Widths.{IsNearFor};
 
 use crate::dt::dt;
-use crate::longitude::sun_in_thousandths;
 use crate::nowruz::nowruz;
-use book_model::{Fact, Fail, Kind, Site};
+use crate::sun::sun_in_thousandths;
+use book_model::{FIRST_DAY, Fact, Fail, Kind, LAST_DAY, Place, Site};
 use encl_core::{Coarse, Enclosure, Trail};
 use oracle_core::{Answer, Evaluator};
-
-/// The first and the last day of which a fact may have a value (R.D.): 1 July 1800 and 31 December 2049.
-const FIRST_DAY: i64 = 657_253;
-
-const LAST_DAY: i64 = 748_382;
 
 /// Evaluates each fact over coarse enclosures.
 #[derive(Clone, Copy, Debug, PartialEq, Eq)]
@@ -30,8 +26,30 @@ impl Staged {
     }
 }
 
+/// The value that the formula of a kind of fact gives at a place on a day (R.D.): one line for each kind.
+#[tactic(auto, unfolding(book_model::specs::Facts::formula_of))]
+fn formula<E: Enclosure>(
+    kind: Kind,
+    _place: Place,
+    day: i64,
+    trail: &mut Trail,
+) -> Result<i64, Fail>
+    requires day { IsValueDay day }
+    ensures few { AtMost 99999 (formula_of kind _place day) }
+    ensures leads { (w : World) → 40 ≤ w.depth → Leads w Exact (formula_of kind _place day) trail.old.count trail.new.count result }
+    ensures value { IfOk result IsFactValue }
+    ensures open { E.BITS ≡ 36 → IfErr result (IsNearFor kind (year_of_day day)) }
+{
+    match kind {
+        Kind::Dt => dt::<E>(day, trail),
+        Kind::Sun => sun_in_thousandths::<E>(day, trail),
+        Kind::Nowruz => nowruz::<E>(day, trail),
+    }
+}
+
 /// The value of a fact by its formula. It fails where a test is open, or where the formula is void.
 pub(crate) fn evaluate<E: Enclosure>(fact: Fact, trail: &mut Trail) -> Result<i64, Fail>
+    ensures few { AtMost 99999 (program_of fact) }
     ensures leads { (w : World) → 40 ≤ w.depth → Leads w Exact (program_of fact) trail.old.count trail.new.count result }
     ensures value { IfOk result IsFactValue }
     ensures open { E.BITS ≡ 36 → IfErr result (IsNearFor fact.kind (year_of_day fact.day)) }
@@ -40,11 +58,7 @@ pub(crate) fn evaluate<E: Enclosure>(fact: Fact, trail: &mut Trail) -> Result<i6
     if day < FIRST_DAY || LAST_DAY < day {
         return Err(Fail::Void(Site::Year));
     }
-    match fact.kind() {
-        Kind::Dt => dt::<E>(day, trail),
-        Kind::Sun => sun_in_thousandths::<E>(day, trail),
-        Kind::Nowruz => nowruz::<E>(day, trail),
-    }
+    formula::<E>(fact.kind(), fact.place(), day, trail)
 }
 
 /// The answer that a result is.
