@@ -1,5 +1,5 @@
 -- The tables of kinds, places and sites: each row stands at the number of what it names, and its name names it.
-use Rattle.std.proofs.Common.{◌≡◌, ◌∙◌, Bool, true, false, ◌&&◌, ◌==◌, refl, sym, ap, arith, List, [], ◌∷◌, ℕ, suc, zero, ◌+◌, ◌<◌, length, zero-add, add_comm}
+use Rattle.std.proofs.Common.{◌≡◌, Bool, true, false, ◌&&◌, ◌==◌, refl, ap, arith, List, [], ◌∷◌, ℕ, suc, zero, ◌+◌, ◌<◌, length, zero-add, add_comm}
 use Rattle.std.proofs.lemmas.Bool.Decides.{nat_tests}
 use Rattle.std.specs.Prelude.{slice_get, Some, None, Option}
 use Rattle.std.specs.List.{list_all}

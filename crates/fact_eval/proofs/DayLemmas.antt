@@ -1,5 +1,5 @@
 -- The year of a whole day, by an enclosure of the day, what that says of the sun's longitude, and the values of facts.
-use Rattle.std.specs.Prelude.{◌≡◌, ℕ, ◌-◌, ◌*◌, ◌^◌, ◌≤◌, nat_lt, true, ℤ, pos, ◌*ℤ◌, ◌≤ℤ◌, unsigned_abs, Some, Result, Ok, Err, IfOk, FitsSigned, refl}
+use Rattle.std.specs.Prelude.{◌≡◌, ℕ, ◌-◌, ◌*◌, ◌^◌, ◌≤◌, nat_lt, true, ℤ, pos, ◌*ℤ◌, unsigned_abs, Some, Result, Ok, Err, IfOk, FitsSigned, refl}
 use Rattle.std.proofs.Common.{arith, subst}
 use Rattle.std.proofs.lemmas.Int.{ints}
 use Rattle.std.specs.Int.{w64}

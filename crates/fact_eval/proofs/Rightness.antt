@@ -1,24 +1,19 @@
 -- The answer that an evaluation gives is right for its fact.
-use Rattle.std.specs.Prelude.{◌≡◌, ℕ, ◌≤◌, ◌^◌, ℤ, pos, ◌-ℤ◌, ◌≤ℤ◌, ◌<ℤ◌, Result, Ok, Err, IfOk, IfErr, refl}
-use Rattle.std.proofs.Common.{◌∙◌}
+use Rattle.std.specs.Prelude.{◌≡◌, ℕ, ◌≤◌, ℤ, Result, Ok, Err, IfOk, IfErr, refl, true, false}
 use Rattle.book_model.specs.declared.fact.Fact.{Fact}
 use Rattle.book_model.specs.declared.fact.Kind.{Kind}
 use Rattle.book_model.specs.declared.fact.Kind.TheVariants.{Dt, Nowruz}
 use Rattle.book_model.specs.declared.fact.TheConstants.{FIRST_DAY, LAST_DAY}
 use Rattle.book_model.specs.declared.site.Site.TheVariants.{Year}
 use Rattle.book_model.specs.declared.fail.Fail.{Fail}
-use Rattle.book_model.specs.declared.fail.Undecided.{Undecided}
 use Rattle.book_model.specs.declared.fail.Fail.TheVariants.{Undecided as undecided_at, Void}
 use Rattle.book_model.specs.Correction.{is_between}
 use Rattle.book_model.specs.Calendar.{year_of_day}
 use Rattle.book_model.specs.Expressions.{World}
-use Rattle.book_model.specs.Facts.{IsFactValue, IsValueDay, program_of, formula_of, HasWholeDays}
-use Rattle.book_model.specs.Kinds.{dt_of, sun_in_thousandths_of, nowruz_of}
+use Rattle.book_model.specs.Facts.{IsFactValue, program_of, formula_of, HasWholeDays}
 use Rattle.book_model.specs.Leading.{Exact, Leads}
 use Rattle.book_model.specs.Programs.{void, AtMost, void_at_most}
-use Rattle.book_model.proofs.Corrections.{few_of_two, between_yes, above_no, below_no}
-use Rattle.book_model.proofs.FactRuns.{dt_few, sun_in_thousandths_few}
-use Rattle.book_model.proofs.NewYears.{nowruz_few}
+use Rattle.book_model.proofs.Corrections.{few_of_two}
 use Rattle.book_model.proofs.Evaluations.{true_of_leads, void_of_leads, near_of_leads}
 use Rattle.oracle_core.specs.Answers.{IsRightAnswer}
 use Rattle.fact_eval.specs.Answers.{answer_of}
@@ -29,17 +24,17 @@ pub program_few : (f : Fact) → AtMost 99999 (formula_of f.kind f.place f.day) 
 unfolding program_of
 program_few f h = few_of_two 99999 (is_between FIRST_DAY LAST_DAY f.day) _ _ h void_at_most
 
-pub program_inside : (f : Fact) → IsValueDay f.day → program_of f ≡ formula_of f.kind f.place f.day
+-- the formula of a fact by whether it may have a value
+pub program_inside : (f : Fact) → is_between FIRST_DAY LAST_DAY f.day ≡ true → program_of f ≡ formula_of f.kind f.place f.day
 unfolding program_of
-program_inside f h = rw (between_yes FIRST_DAY LAST_DAY f.day h.0 h.1) refl
+program_inside f h = rw h refl
 
-pub program_before : (f : Fact) → f.day <ℤ FIRST_DAY → program_of f ≡ void Year
+pub program_outside : (f : Fact) → is_between FIRST_DAY LAST_DAY f.day ≡ false → program_of f ≡ void Year
 unfolding program_of
-program_before f h = rw (below_no FIRST_DAY LAST_DAY f.day h) refl
+program_outside f h = rw h refl
 
-pub program_after : (f : Fact) → LAST_DAY <ℤ f.day → program_of f ≡ void Year
-unfolding program_of
-program_after f h = rw (above_no FIRST_DAY LAST_DAY f.day h) refl
+pub void_few : AtMost {A = ℤ} 99999 (void Year)
+void_few = void_at_most
 
 -- a kind of which nothing is promised
 nothing_promised : (k : Kind) (y : ℤ) (r : Result ℤ Fail) → (HasWholeDays k → ⊥) → (k ≡ Dt → ⊥) → IfErr r (IsNearFor k y)

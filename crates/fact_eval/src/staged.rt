@@ -1,6 +1,8 @@
 //! The evaluator of the program: each fact's formula over enclosures.
-ghost use Rattle.std.specs.Prelude.{◌≡◌, ◌≤◌, IfOk, IfErr};
+ghost use Rattle.std.specs.Prelude.{◌≡◌, ◌≤◌, IfOk, IfErr, IsTrue};
+ghost use Rattle.book_model.specs.declared.fact.TheConstants.{FIRST_DAY as first_day, LAST_DAY as last_day};
 ghost use Rattle.book_model.specs.Calendar.{year_of_day};
+ghost use Rattle.book_model.specs.Correction.{is_between};
 ghost use Rattle.book_model.specs.Expressions.{World};
 ghost use Rattle.book_model.specs.Facts.{IsFactValue, IsValueDay, formula_of, program_of};
 ghost use Rattle.book_model.specs.Leading.{Exact, Leads};
@@ -47,6 +49,14 @@ fn formula<E: Enclosure>(
     }
 }
 
+/// Whether a fact of the day (R.D.) may have a value.
+fn may_have_value(day: i64) -> bool
+    ensures same { result ≡ is_between first_day last_day day }
+    ensures day { IsTrue result → IsValueDay day }
+{
+    FIRST_DAY <= day && day <= LAST_DAY
+}
+
 /// The value of a fact by its formula. It fails where a test is open, or where the formula is void.
 pub(crate) fn evaluate<E: Enclosure>(fact: Fact, trail: &mut Trail) -> Result<i64, Fail>
     ensures few { AtMost 99999 (program_of fact) }
@@ -55,7 +65,7 @@ pub(crate) fn evaluate<E: Enclosure>(fact: Fact, trail: &mut Trail) -> Result<i6
     ensures open { E.BITS ≡ 36 → IfErr result (IsNearFor fact.kind (year_of_day fact.day)) }
 {
     let day = fact.day();
-    if day < FIRST_DAY || LAST_DAY < day {
+    if !may_have_value(day) {
         return Err(Fail::Void(Site::Year));
     }
     formula::<E>(fact.kind(), fact.place(), day, trail)
