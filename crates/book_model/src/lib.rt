@@ -6,6 +6,7 @@ mod calendar_tables;
 mod fact;
 mod fail;
 mod frac;
+mod header;
 pub mod laws;
 mod names;
 pub mod plain;
@@ -25,6 +26,7 @@ pub use fact::{
 };
 pub use fail::{Fail, Undecided};
 pub use frac::Frac;
+pub use header::HEADER;
 pub use polynomial::{Cubic, Quadratic, QuadraticWave, Wave};
 pub use request::{Fields, FromWord, Request, Resolved, Rule, ToWord};
 pub use site::{SITES, Site};

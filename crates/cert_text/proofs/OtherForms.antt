@@ -4,7 +4,7 @@ use Rattle.std.specs.Prelude.{codes, Some, None, Option, ◌&&◌, nat_le, if◌
 use Rattle.book_model.specs.Names.{kind_named, place_named, site_named}
 use Rattle.cert_text.specs.declared.line.CertLine.TheVariants.{Refused}
 use Rattle.cert_text.specs.declared.form.Form.TheVariants as forms
-use Rattle.cert_text.specs.Numbers.{counter_of, integer_of, natural_of}
+use Rattle.cert_text.specs.Digits.{counter_of, integer_of, natural_of}
 use Rattle.cert_text.specs.Grammar.{is_word, refused_form, undecided_form, void_form, key_at, counter_at, site_at, kind_at, place_at, end_at, fact_at, test_at, last_fact_at}
 
 -- nothing follows a test that fails, or after which nothing comes

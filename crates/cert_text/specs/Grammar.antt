@@ -16,7 +16,7 @@ use Rattle.cert_text.specs.declared.form.Form.{Form}
 use Rattle.cert_text.specs.declared.form.Form.TheVariants as forms
 use Rattle.cert_text.specs.declared.found.Found.{Found}
 use Rattle.cert_text.specs.declared.found.Found.TheVariants as found
-use Rattle.cert_text.specs.Numbers.{counter_of, integer_of, between}
+use Rattle.cert_text.specs.Digits.{counter_of, integer_of, between}
 
 -- one thing after the other, where each is there
 infixl 10 ◌>>=◌
