@@ -19,3 +19,4 @@ pub mod Estimates
 pub mod Moments
 pub mod PhaseRanges
 pub mod NewYears
+pub mod NameLemmas

@@ -1,5 +1,5 @@
 //! Laws of the definitions, each carried by a function that does nothing.
-ghost use Rattle.std.specs.Prelude.{◌≡◌, ◌↔◌, ℤ, ℕ, Bool};
+ghost use Rattle.std.specs.Prelude.{◌≡◌, ◌↔◌, ℤ, ℕ, Bool, Some};
 ghost use Rattle.exact_math.specs.Fraction.{Fraction};
 ghost use Rattle.book_model.specs.Expressions.{Expression};
 ghost use Rattle.book_model.specs.Series.{pi_at};
@@ -8,6 +8,10 @@ ghost use Rattle.book_model.specs.Nesting.{ValuesNest, RunsNest, IsNested, IsNes
 ghost use Rattle.book_model.specs.Calendar.{year_of_day, IsYearOfDay};
 ghost use Rattle.book_model.specs.Programs.{Grid, CellsCut};
 ghost use Rattle.book_model.specs.Noon.{StartsNear};
+ghost use Rattle.book_model.specs.Names.{kind_name, kind_named, place_name, place_named, site_name, site_named};
+ghost use Rattle.book_model.specs.declared.fact.Kind.{Kind};
+ghost use Rattle.book_model.specs.declared.fact.Place.{Place};
+ghost use Rattle.book_model.specs.declared.site.Site.{Site};
 
 /// Nesting: at a greater depth, with narrower arguments, each expression's value lies within its value here, and
 /// each program makes the same tests as far as they are decided here, with the same answers.
@@ -51,4 +55,12 @@ pub fn octants()
 #[tactic(auto, using(crate::proofs::Estimates::starts_near))]
 pub fn starts()
     ensures { StartsNear }
+{}
+
+/// The name of each kind, place and site leads back to it.
+#[tactic(auto, using(crate::proofs::NameLemmas::kind_found, crate::proofs::NameLemmas::place_found, crate::proofs::NameLemmas::site_found))]
+pub fn names()
+    ensures kinds { (k : Kind) → kind_named (kind_name k) ≡ Some k }
+    ensures places { (p : Place) → place_named (place_name p) ≡ Some p }
+    ensures sites { (s : Site) → site_named (site_name s) ≡ Some s }
 {}

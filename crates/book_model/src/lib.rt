@@ -6,9 +6,11 @@ mod calendar_tables;
 mod fact;
 mod fail;
 mod frac;
+mod header;
 pub mod laws;
 mod moon_tables;
 mod moon_terms;
+mod names;
 mod new_moon_tables;
 pub mod plain;
 mod polynomial;
@@ -21,9 +23,13 @@ mod tests;
 mod time_tables;
 
 pub use calendar_tables::{PERSIAN_EPOCH, TROPICAL_YEAR};
-pub use fact::{Fact, KINDS, Kind, PLACES, Place};
+pub use fact::{
+    FIRST_DAY, FIRST_FACT_DAY, Fact, GREATEST_VALUE, KINDS, Kind, LAST_DAY, LAST_FACT_DAY,
+    LEAST_VALUE, PLACES, Place,
+};
 pub use fail::{Fail, Undecided};
 pub use frac::Frac;
+pub use header::HEADER;
 pub use moon_tables::{
     ECCENTRICITY_FACTOR, ELONGATION, FLATTENING, JUPITER_WAVE, LATITUDE_ARGUMENT, MILLIONTH,
     MOON_ANOMALY, MOON_LONGITUDE, MOON_TERMS, SUN_ANOMALY, VENUS_WAVE,

@@ -43,6 +43,23 @@ pub enum Rule {
     Range,
 }
 
+impl Rule {
+    ghost use Rattle.std.specs.Prelude.{◌≡◌};
+    ghost use Rattle.book_model.specs.Requests.{rule_number};
+
+    /// The number of the rule, from 1.
+    pub fn number(self) -> u8
+        ensures number { result ≡ rule_number self }
+    {
+        match self {
+            Rule::Syntax => 1,
+            Rule::Calendar => 2,
+            Rule::Field => 3,
+            Rule::Range => 4,
+        }
+    }
+}
+
 /// What a line that breaks no rule by itself comes to: what it asks for, the day that its date names where that is
 /// outside the range, or the own date of that day where it isn't the date of the line.
 #[derive(Clone, Copy, Debug, PartialEq, Eq)]

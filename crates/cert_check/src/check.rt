@@ -1,9 +1,11 @@
 //! The verdict of a line.
-ghost use Rattle.std.specs.Prelude.{◌≡◌, ◌<◌, ◌^◌, length, IsTrue, IfOk, [], Ok};
+ghost use Rattle.std.specs.Prelude.{◌≡◌, ◌≢◌, ◌<◌, ◌^◌, length, IsTrue, IfOk, OnErr, [], Ok};
+ghost use Rattle.book_model.specs.declared.fact.Fact.{Fact};
 ghost use Rattle.book_model.specs.LineRules.{rule_of};
-ghost use Rattle.book_model.specs.Requests.{is_answered, rule_number};
+ghost use Rattle.book_model.specs.Requests.{is_answered};
 ghost use Rattle.line_core.specs.Days.{names_day};
 ghost use Rattle.oracle_core.specs.Pairs.{are_distinct, facts_of, AreFactValues};
+ghost use Rattle.oracle_core.specs.declared.oracle.Stop.TheVariants.{Missing as missing_stop};
 ghost use Rattle.cert_text.specs.Reading.{are_of_facts, listed as numbers_of};
 ghost use Rattle.cert_text.specs.Text.{too_far_text, no_date_text};
 ghost use Rattle.cert_check.specs.Listed.{NamesMissing};
@@ -12,24 +14,12 @@ ghost use Rattle.cert_check.specs.Verdicts as spec;
 use crate::compare::verdict_by_list;
 use crate::listed::{first_reason, listed_facts, listed_values};
 use crate::verdict::{Reason, Verdict};
-use book_model::{Fact, Request, Rule};
+use book_model::{Fact, Request};
 use cert_text::{CertFile, CertLine, Echo, decimal};
 use itoa::Buffer;
 use line_core::{read_line, resolve};
 use oracle_core::{Answers, Listed, Stop};
 use std::alloc::{AllocError, Global};
-
-/// The number of a rule.
-fn number_of(rule: Rule) -> u8
-    ensures number { result ≡ rule_number rule }
-{
-    match rule {
-        Rule::Syntax => 1,
-        Rule::Calendar => 2,
-        Rule::Field => 3,
-        Rule::Range => 4,
-    }
-}
 
 /// The words of a line with single spaces.
 #[tactic(auto, unfolding(crate::specs::Verdicts::words_of_echo))]
@@ -45,9 +35,11 @@ fn spaced(alloc: Global, echo: &Echo) -> Result<Vec<u8>, AllocError>
     Ok(words)
 }
 
-/// The verdict of a line whose rule stops at a fact that it doesn't list. The error is want of memory.
+/// The verdict of a line whose rule stops at a fact that it doesn't list. The error is want of memory; it comes at no
+/// missing fact.
 fn verdict_at(stop: Stop) -> Result<Verdict, AllocError>
     ensures missing { IfOk result (λ v. NamesMissing stop v) }
+    ensures memory { OnErr result ((fact : Fact) → stop ≢ missing_stop fact) }
 {
     match stop {
         Stop::Missing(fact) => Ok(Verdict::No(Reason::Missing(fact))),
@@ -124,12 +116,12 @@ fn verdict_of_words(
     let words = spaced(alloc, echo)?;
     match read_line(&words) {
         Ok(request) => verdict_for(alloc, file, answers, &request, text, numbers),
-        Err(rule) => Ok(Verdict::No(Reason::Form(number_of(rule)))),
+        Err(rule) => Ok(Verdict::No(Reason::Form(rule.number()))),
     }
 }
 
 /// The text of a line whose computed day is out of range.
-#[tactic(auto, unfolding(cert_text::specs::Text::too_far_text))]
+#[tactic(auto, unfolding(book_model::specs::Text::too_far_text))]
 fn too_far(alloc: Global, day: i64) -> Result<Vec<u8>, AllocError>
     ensures text { IfOk result (λ v. v.items ≡ too_far_text day) }
 {
@@ -141,7 +133,7 @@ fn too_far(alloc: Global, day: i64) -> Result<Vec<u8>, AllocError>
 }
 
 /// The text of a line whose day has another date.
-#[tactic(auto, unfolding(cert_text::specs::Text::no_date_text))]
+#[tactic(auto, unfolding(book_model::specs::Text::no_date_text))]
 fn no_date(alloc: Global, back: &[u8]) -> Result<Vec<u8>, AllocError>
     ensures text { IfOk result (λ v. v.items ≡ no_date_text back.now) }
 {

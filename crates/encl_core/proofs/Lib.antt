@@ -11,3 +11,6 @@ pub mod Periods
 pub mod PiEnds
 pub mod Searching
 pub mod TermSums
+pub mod Widths
+pub mod Products
+pub mod Ratios
