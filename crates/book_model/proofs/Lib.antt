@@ -20,3 +20,4 @@ pub mod Moments
 pub mod PhaseRanges
 pub mod NewYears
 pub mod NameLemmas
+pub mod MoonFacts

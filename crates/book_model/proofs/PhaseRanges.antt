@@ -124,7 +124,7 @@ plus_whole : (m n : ℤ) → plus (whole m) (whole n) ≤F whole (m +ℤ n)
 unfolding plus
 plus_whole m n = record { cross = omega (arith, ints) }
 
-sum_between : (a b c d : ℤ) (i j : Interval) → IsBetween a b i → IsBetween c d j → IsBetween (a +ℤ c) (b +ℤ d) (sum i j)
+pub sum_between : (a b c d : ℤ) (i j : Interval) → IsBetween a b i → IsBetween c d j → IsBetween (a +ℤ c) (b +ℤ d) (sum i j)
 unfolding sum
 sum_between a b c d everything j h k = tt
 sum_between a b c d (between p q) everything h k = tt

@@ -1,6 +1,6 @@
 -- The formulas of the kinds of facts, each for a day (R.D.).
 use Rattle.std.specs.Prelude.{ℤ, pos, ◌-ℤ◌, Bool, not}
-use Rattle.book_model.specs.declared.site.Site.TheVariants.{Round, StartFloor, DayTest}
+use Rattle.book_model.specs.declared.site.Site.TheVariants.{Round, StartFloor, DayFloor, DayTest}
 use Rattle.book_model.specs.declared.tables.TheConstants.{MILLISECONDS_OF_DAY, THOUSANDTHS_OF_DEGREE}
 use Rattle.book_model.specs.Correction.{year_of, rounded_of}
 use Rattle.book_model.specs.Expressions.{Expression, integer, scale}
@@ -9,7 +9,8 @@ use Rattle.book_model.specs.Noon.{noon_of}
 use Rattle.book_model.specs.Programs.{Program, answer, cell, compare, bind, integers}
 use Rattle.book_model.specs.Searches.{first_day_from}
 use Rattle.book_model.specs.Sun.{sun_of, estimate_of}
-use Rattle.book_model.specs.Time.{correction_of_year}
+use Rattle.book_model.specs.Phases.{moon_before_of, moon_from_of}
+use Rattle.book_model.specs.Time.{correction_of_year, midnight_of, in_beijing_of}
 
 -- the correction of a day's year, in milliseconds
 unfoldable pub dt_of : ℤ → Program ℤ
@@ -52,3 +53,17 @@ unfoldable pub nowruz_of : ℤ → Program ℤ
 nowruz_of d =
     bind (search_start_of d) λ q.
     first_day_from has_spring_at_noon (q -ℤ pos 1)
+
+-- the day of a moment of universal time in Beijing
+unfoldable pub day_in_beijing_of : Expression → Program ℤ
+day_in_beijing_of x =
+    bind (in_beijing_of x) λ t.
+    cell DayFloor integers t answer
+
+-- the day in Beijing of the last new moon before the day begins there
+unfoldable pub new_moon_before_of : ℤ → Program ℤ
+new_moon_before_of d = bind (moon_before_of (midnight_of d)) day_in_beijing_of
+
+-- the day in Beijing of the first new moon once the day has begun there
+unfoldable pub new_moon_from_of : ℤ → Program ℤ
+new_moon_from_of d = bind (moon_from_of (midnight_of d)) day_in_beijing_of

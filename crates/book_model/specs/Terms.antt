@@ -14,4 +14,5 @@ terms_of term none rows = terms_to term none rows (length rows)
 -- a term times a power of a factor
 unfoldable pub times_power : Expression → ℕ → Expression → Expression
 times_power factor zero x = x
-times_power factor (suc k) x = multiply (power factor (suc k)) x
+times_power factor (suc zero) x = multiply factor x
+times_power factor (suc (suc k)) x = multiply (power factor (suc (suc k))) x

@@ -1,10 +1,10 @@
 -- Universal, dynamical and sidereal time, and the zone of Beijing. Moments are days (R.D.) with a fraction.
 -- Reingold and Dershowitz, Calendrical Calculations, chapter 14.
-use Rattle.std.specs.Prelude.{Bool, if◌then◌else◌, ℤ, pos, negsuc, ◌-ℤ◌, unsigned_abs}
+use Rattle.std.specs.Prelude.{Bool, if◌then◌else◌, int_lt, ℤ, pos, negsuc, ◌-ℤ◌, unsigned_abs}
 use Rattle.exact_math.specs.Fraction.{Fraction}
 use Rattle.book_model.specs.declared.site.Site.TheVariants.{Year, Zone}
 use Rattle.book_model.specs.declared.tables.TheConstants.{CORRECTION_1987, CORRECTION_2006, SECOND}
-use Rattle.book_model.specs.declared.time_tables.TheConstants.{BEIJING_HOURS, CORRECTION_1800, CORRECTION_1900, CORRECTION_ANCIENT, DAY_IN_CENTURIES, NOON_2000, SIDEREAL_TIME}
+use Rattle.book_model.specs.declared.time_tables.TheConstants.{BEIJING_HOURS, HOUR, CORRECTION_1800, CORRECTION_1900, CORRECTION_ANCIENT, DAY_IN_CENTURIES, NOON_2000, SIDEREAL_TIME}
 use Rattle.book_model.specs.Calendar.{fixed_of}
 use Rattle.book_model.specs.Correction.{is_between, seconds_of, year_of}
 use Rattle.book_model.specs.Expressions.{Expression, integer, constant, add, subtract, scale}
@@ -61,3 +61,11 @@ beijing_hours early = if early then constant (fraction_of BEIJING_HOURS) else in
 -- the hours at a moment of universal time, by whether it is before 1 January 1929
 unfoldable pub zone_of_beijing : Expression → Program Expression
 zone_of_beijing x = bind (compare Zone x (integer (pos 704188)) answer) λ early. answer (beijing_hours early)
+
+-- midnight at the beginning of a day in Beijing, in universal time: its zone goes by the day
+unfoldable pub midnight_of : ℤ → Expression
+midnight_of d = subtract (integer d) (scale (fraction_of HOUR) (beijing_hours (int_lt d (pos 704188))))
+
+-- the time of Beijing of a moment of universal time
+unfoldable pub in_beijing_of : Expression → Program Expression
+in_beijing_of x = bind (zone_of_beijing x) λ z. answer (add x (scale (fraction_of HOUR) z))

@@ -11,6 +11,8 @@ pub enum Kind {
     Dt,
     Sun,
     Nowruz,
+    NewMoonBefore,
+    NewMoonFrom,
 }
 
 /// A place that a fact may be asked of.
@@ -33,10 +35,12 @@ pub struct Fact {
 
 /// Each kind of fact with its printed name and the places that it is asked of, in the order of the variants.
 #[rattlefmt::skip]
-pub const KINDS: [(Kind, &str, &[Place]); 3] = [
+pub const KINDS: [(Kind, &str, &[Place]); 5] = [
     (Kind::Dt, "dt", &[Place::None]),
     (Kind::Sun, "sun", &[Place::None]),
     (Kind::Nowruz, "nowruz", &[Place::None]),
+    (Kind::NewMoonBefore, "new-moon-before", &[Place::Beijing]),
+    (Kind::NewMoonFrom, "new-moon-from", &[Place::Beijing]),
 ];
 
 /// Each place with its printed name, in the order of the variants.

@@ -158,3 +158,6 @@ pub const BEIJING_HOURS: Frac = Frac {
     num: 1397,
     den: 180,
 };
+
+/// An hour, in days.
+pub const HOUR: Frac = Frac { num: 1, den: 24 };

@@ -2,6 +2,7 @@
 #![tactic(auto)]
 
 mod dt;
+mod new_moons;
 mod nowruz;
 mod staged;
 mod sun;

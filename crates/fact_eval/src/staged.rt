@@ -11,6 +11,7 @@ ghost use Rattle.fact_eval.specs.Answers.{answer_of};
 ghost use Rattle.fact_eval.specs.Widths.{IsNearFor};
 
 use crate::dt::dt;
+use crate::new_moons::{new_moon_before, new_moon_from};
 use crate::nowruz::nowruz;
 use crate::sun::sun_in_thousandths;
 use book_model::{FIRST_DAY, Fact, Fail, Kind, LAST_DAY, Place, Site};
@@ -46,6 +47,8 @@ fn formula<E: Enclosure>(
         Kind::Dt => dt::<E>(day, trail),
         Kind::Sun => sun_in_thousandths::<E>(day, trail),
         Kind::Nowruz => nowruz::<E>(day, trail),
+        Kind::NewMoonBefore => new_moon_before::<E>(day, trail),
+        Kind::NewMoonFrom => new_moon_from::<E>(day, trail),
     }
 }
 

@@ -26,8 +26,11 @@ pub fn times_power<E: Enclosure>(factor: E, exponent: u64, term: E) -> E
     if exponent == 0 {
         return term;
     }
-    let mut power = factor;
-    let mut reached = 1;
+    if exponent == 1 {
+        return factor.mul(term);
+    }
+    let mut power = factor.square();
+    let mut reached = 2;
     while reached < exponent {
         power = power.mul(factor);
         reached += 1;

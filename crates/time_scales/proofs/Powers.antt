@@ -43,8 +43,8 @@ unfolding Lies value
 fourth_holds shown w x e h = record { deep = h.deep; inside = within_trans (next_power 3 (value w x) (value_proper w x)) h.inside }
 
 pub fourth_keeps : {E : Type 0} (shown : E → Interval) (l : Limits) (r : Reach) (x : Expression) (e : E) → Narrow shown l r (multiply (power_of x 3) x) e → Narrow shown l r (power_of x 4) e
-unfolding Keeps bound_of IsNarrow
-fourth_keeps shown l r x e h = record { kept = tt }
+unfolding Keeps bound_of power_bound
+fourth_keeps shown l r x e h = record { kept = h.kept }
 
 pub ruleset cubes = (cube_holds, cube_keeps)
 

@@ -5,7 +5,7 @@
 //! - `year`: the one test of a moment's year; `year_of_whole_day`: that of a whole day, which is always decided;
 //! - `correction`: dynamical time less universal time in a year; `dynamical` and `from_dynamical` apply it, and
 //!   `centuries` counts from noon of 1 January 2000;
-//! - `sidereal` and `zone_beijing`;
+//! - `sidereal`; `zone_beijing`, `in_beijing` and `midnight`, the time of Beijing;
 //! - `quadratic`, `cubic` and `quartic`: polynomials of enclosures; `at_fraction`: a polynomial at an exact time; for the
 //!   formulas of the crates above.
 #![tactic(auto)]
@@ -23,4 +23,4 @@ pub use ephemeris::{centuries, correction, dynamical, from_dynamical};
 pub use moment::{year, year_of_whole_day};
 pub use polynomial::{at_fraction, cubic, quadratic, quartic};
 pub use sidereal_time::sidereal;
-pub use zone::zone_beijing;
+pub use zone::{in_beijing, midnight, zone_beijing};

@@ -1,12 +1,12 @@
 //! The zone of Beijing.
-ghost use Rattle.std.specs.Prelude.{◌≡◌, ◌≤◌, ℕ, IfErr};
+ghost use Rattle.std.specs.Prelude.{◌≡◌, ◌≤◌, ℕ, pos, int_lt, IfErr};
 ghost use Rattle.book_model.specs.Bounds.{Reach, limits_of};
 ghost use Rattle.book_model.specs.Expressions.{Expression, World};
 ghost use Rattle.book_model.specs.Leading.{Leads, next_turn};
 ghost use Rattle.book_model.specs.Relations.{Within, Narrow};
-ghost use Rattle.book_model.specs.Time.{beijing_hours, zone_of_beijing};
+ghost use Rattle.book_model.specs.Time.{beijing_hours, zone_of_beijing, midnight_of, in_beijing_of};
 
-use book_model::{BEIJING_HOURS, Fail, Site};
+use book_model::{BEIJING_HOURS, Fail, HOUR, Site};
 use encl_core::{Enclosure, Trail, less_step};
 
 /// 1 January 1929 (R.D.), when standard time began.
@@ -34,6 +34,34 @@ pub fn zone_beijing<E: Enclosure>(t: E, trail: &mut Trail) -> Result<E, Fail>
 {
     match less_step(t, E::from_int(STANDARD_TIME), Site::Zone, trail) {
         Ok(early) => Ok(hours::<E>(early)),
+        Err(fail) => Err(fail),
+    }
+}
+
+/// Whether a day (R.D.) comes before standard time began in Beijing.
+fn is_early(day: i64) -> bool
+    ensures early { result ≡ int_lt day (pos 704188) }
+{
+    day < STANDARD_TIME
+}
+
+/// Midnight at the beginning of a day (R.D.) in Beijing, in universal time. Its zone goes by the day, so it makes no test.
+#[tactic(auto, unfolding(book_model::specs::Time::midnight_of))]
+pub fn midnight<E: Enclosure>(day: i64) -> E
+    ensures holds { (w : World) → 40 ≤ w.depth → Within E.shown w (midnight_of day) result }
+    ensures narrow { (r : Reach) → Narrow E.shown (limits_of E.BITS) r (midnight_of day) result }
+{
+    E::from_int(day).sub(hours::<E>(is_early(day)).mul_frac(HOUR))
+}
+
+/// The time of Beijing of a moment of universal time: one test, at `zone`.
+#[tactic(auto, using(book_model::proofs::Leads::leading), unfolding(book_model::specs::Time::in_beijing_of))]
+pub fn in_beijing<E: Enclosure>(t: E, trail: &mut Trail) -> Result<E, Fail>
+    ensures leads { (w : World) (x : Expression) → Within E.shown w x t → Leads w (Within E.shown w) (in_beijing_of x) trail.old.count trail.new.count result }
+    ensures counted { trail.new.count ≡ next_turn trail.old.count }
+{
+    match zone_beijing(t, trail) {
+        Ok(hours) => Ok(t.add(hours.mul_frac(HOUR))),
         Err(fail) => Err(fail),
     }
 }

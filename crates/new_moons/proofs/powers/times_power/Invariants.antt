@@ -6,7 +6,7 @@ use Rattle.new_moons.proofs.powers.times_power.Given as goal
 
 abbrev pub invariant-loop-reached : goal.invariant-loop-reached
 invariant-loop-reached g l =
-    (1 ≤ l.reached) × (l.reached ≤ l.exponent)
+    (2 ≤ l.reached) × (l.reached ≤ l.exponent)
     × ((w : World) (f : Expression) → Within g.E.Enclosure.shown w f l.factor → Within g.E.Enclosure.shown w (power f l.reached) l.power)
     × ((r : Reach) (f : Expression) → Narrow g.E.Enclosure.shown (limits_of g.E.Enclosure.BITS) r f l.factor → Narrow g.E.Enclosure.shown (limits_of g.E.Enclosure.BITS) r (power f l.reached) l.power)
 

@@ -1,0 +1,79 @@
+//! The new moons before and from a day, by the time of Beijing.
+ghost use Rattle.std.specs.Prelude.{◌≡◌, ◌≤◌, ◌+◌, IfOk, IfErr};
+ghost use Rattle.book_model.specs.Calendar.{year_of_day};
+ghost use Rattle.book_model.specs.Expressions.{Expression, World};
+ghost use Rattle.book_model.specs.Facts.{IsFactValue, IsValueDay};
+ghost use Rattle.book_model.specs.Kinds.{day_in_beijing_of, new_moon_before_of, new_moon_from_of};
+ghost use Rattle.book_model.specs.Leading.{Exact, Leads, next_turn};
+ghost use Rattle.book_model.specs.Programs.{AtMost};
+ghost use Rattle.book_model.specs.Relations.{Within};
+ghost use Rattle.book_model.specs.Time.{midnight_of, in_beijing_of};
+ghost use Rattle.book_model.specs.declared.fact.Kind.TheVariants.{NewMoonBefore, NewMoonFrom};
+ghost use Rattle.fact_eval.specs.Widths.{IsNearFor};
+
+use book_model::{Fail, Site};
+use encl_core::{Enclosure, Trail, floor_step};
+use moon_core::{moon_before, moon_from};
+use time_scales::{in_beijing, midnight};
+
+/// The day (R.D.) of a moment of universal time in Beijing: two tests at most.
+#[tactic(auto, using(book_model::proofs::Leads::leading), unfolding(book_model::specs::Kinds::day_in_beijing_of, book_model::specs::Leading::next_turn))]
+fn day_in_beijing<E: Enclosure>(t: E, trail: &mut Trail) -> Result<i64, Fail>
+    ensures leads { (w : World) (x : Expression) → Within E.shown w x t → Leads w Exact (day_in_beijing_of x) trail.old.count trail.new.count result }
+    ensures counted { trail.new.count ≤ trail.old.count + 2 }
+{
+    match in_beijing(t, trail) {
+        Ok(moment) => floor_step(moment, Site::DayFloor, trail),
+        Err(fail) => Err(fail),
+    }
+}
+
+/// The day (R.D.) in Beijing of the last new moon before midnight at the beginning of a day there.
+#[tactic(auto, using(book_model::proofs::Leads::leading), unfolding(book_model::specs::Kinds::new_moon_before_of))]
+fn day_of_moon_before<E: Enclosure>(day: i64, trail: &mut Trail) -> Result<i64, Fail>
+    ensures leads { (w : World) → 40 ≤ w.depth → Leads w Exact (new_moon_before_of day) trail.old.count trail.new.count result }
+    ensures counted { trail.new.count ≤ trail.old.count + 27 }
+{
+    match moon_before(midnight::<E>(day), trail) {
+        Ok(moment) => day_in_beijing(moment, trail),
+        Err(fail) => Err(fail),
+    }
+}
+
+/// The day (R.D.) in Beijing of the first new moon at or after midnight at the beginning of a day there.
+#[tactic(auto, using(book_model::proofs::Leads::leading), unfolding(book_model::specs::Kinds::new_moon_from_of))]
+fn day_of_moon_from<E: Enclosure>(day: i64, trail: &mut Trail) -> Result<i64, Fail>
+    ensures leads { (w : World) → 40 ≤ w.depth → Leads w Exact (new_moon_from_of day) trail.old.count trail.new.count result }
+    ensures counted { trail.new.count ≤ trail.old.count + 27 }
+{
+    match moon_from(midnight::<E>(day), trail) {
+        Ok(moment) => day_in_beijing(moment, trail),
+        Err(fail) => Err(fail),
+    }
+}
+
+/// The day (R.D.) in Beijing of the last new moon before midnight at the beginning of a day there: 27 tests at most.
+#[tactic(auto, using(book_model::proofs::MoonFacts::new_moon_before_few, book_model::proofs::MoonFacts::new_moon_before_is_value, crate::proofs::Rightness::new_moon_before_keeps))]
+pub(crate) fn new_moon_before<E: Enclosure>(day: i64, trail: &mut Trail) -> Result<i64, Fail>
+    requires day { IsValueDay day }
+    ensures few { AtMost 99999 (new_moon_before_of day) }
+    ensures leads { (w : World) → 40 ≤ w.depth → Leads w Exact (new_moon_before_of day) trail.old.count trail.new.count result }
+    ensures counted { trail.new.count ≤ trail.old.count + 27 }
+    ensures value { IfOk result IsFactValue }
+    ensures open { IfErr result (IsNearFor NewMoonBefore (year_of_day day)) }
+{
+    day_of_moon_before::<E>(day, trail)
+}
+
+/// The day (R.D.) in Beijing of the first new moon at or after midnight at the beginning of a day there: 27 tests at most.
+#[tactic(auto, using(book_model::proofs::MoonFacts::new_moon_from_few, book_model::proofs::MoonFacts::new_moon_from_is_value, crate::proofs::Rightness::new_moon_from_keeps))]
+pub(crate) fn new_moon_from<E: Enclosure>(day: i64, trail: &mut Trail) -> Result<i64, Fail>
+    requires day { IsValueDay day }
+    ensures few { AtMost 99999 (new_moon_from_of day) }
+    ensures leads { (w : World) → 40 ≤ w.depth → Leads w Exact (new_moon_from_of day) trail.old.count trail.new.count result }
+    ensures counted { trail.new.count ≤ trail.old.count + 27 }
+    ensures value { IfOk result IsFactValue }
+    ensures open { IfErr result (IsNearFor NewMoonFrom (year_of_day day)) }
+{
+    day_of_moon_from::<E>(day, trail)
+}
