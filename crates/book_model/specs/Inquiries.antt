@@ -20,6 +20,10 @@ unfoldable pub and_then : {A B : Type 0} → Inquiry A → (A → Inquiry B) →
 and_then (done a) next = next a
 and_then (ask f more) next = ask f (λ v. and_then (more v) next)
 
+-- the inquiry for the value of one fact
+unfoldable pub ask_once : Fact → Inquiry ℤ
+ask_once f = ask f done
+
 -- the nearest number of 32 bits
 abbrev pub to_32_bits : ℤ → ℤ
 to_32_bits z = if int_le z (negsuc (2 ^ 31 - 1)) then negsuc (2 ^ 31 - 1) else (if int_le (pos (2 ^ 31 - 1)) z then pos (2 ^ 31 - 1) else z)

@@ -31,7 +31,7 @@ abbrev pub month_of : ℤ → ℤ
 month_of number = if int_le number (pos 186) then ceiling_quotient number 30 else ceiling_quotient (number -ℤ pos 6) 29
 
 -- year, month and day of a day of the year
-abbrev pub date_in : ℤ → ℤ → Fields
+unfoldable pub date_in : ℤ → ℤ → Fields
 date_in year number =
     record { count = 3; values = to_32_bits year ∷ to_8_bits (month_of number) ∷ to_8_bits (number -ℤ days_before (month_of number)) ∷ pos 0 ∷ pos 0 ∷ [] }
 

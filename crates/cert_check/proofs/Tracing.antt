@@ -1,15 +1,17 @@
 -- Inquiries that are made of listed facts.
-use Rattle.std.proofs.Common.{◌≡◌, ℕ, Bool, true, false, ◌||◌, refl, List, [], ◌∷◌, ◌++◌, ℤ, pos, ap}
+use Rattle.std.proofs.Common.{◌≡◌, ℕ, Bool, true, false, ◌||◌, refl, List, [], ◌∷◌, ◌++◌, ℤ, pos, ap, sym}
 use Rattle.std.specs.Prelude.{Some, None, Option, IsTrue, IfOk, Ok, Err, Result, if◌then◌else◌}
 use Rattle.std.specs.List.{list_any}
 use Rattle.book_model.specs.declared.fact.Fact.{Fact}
 use Rattle.book_model.specs.declared.request.Resolved.{Resolved}
-use Rattle.book_model.specs.Inquiries.{Inquiry, done, ask, fact_eq, with_fact, with_kept, result_over, facts_over}
+use Rattle.book_model.specs.Inquiries.{Inquiry, fact_eq, with_fact}
 use Rattle.oracle_core.specs.declared.oracle.Stop.{Stop}
 use Rattle.oracle_core.specs.declared.oracle.Stop.TheVariants.{Missing as missing_stop}
-use Rattle.oracle_core.specs.Inquiring.{Agrees, HasValues, HasAnswer, StopsAt}
-use Rattle.oracle_core.specs.Pairs.{IsFront, are_distinct, value_beside}
-use Rattle.oracle_core.specs.Stops.{MayStopListed}
+use Rattle.oracle_core.specs.Inquiring.{State, Tells, ends, goes_on, stops, Inquires}
+use Rattle.oracle_core.specs.Oracles.{by_table}
+use Rattle.oracle_core.specs.Pairs.{FactTable, are_distinct, value_beside}
+use Rattle.oracle_core.specs.Stops.{IsStopAt, MayStopListed}
+use Rattle.oracle_core.specs.Tables.{AreValued}
 use Rattle.oracle_core.proofs.Listing.{next_is_new, distinct_more, neither}
 use Rattle.cert_check.specs.declared.verdict.Verdict.{Verdict}
 use Rattle.cert_check.specs.Listed.{EndsWithin, NamesMissing}
@@ -26,79 +28,43 @@ unlisted [] vs f h = refl
 unlisted (g ∷ gs) [] f h = refl
 unlisted (g ∷ gs) (v ∷ vs) f h = let n = neither (fact_eq f g) (list_any (fact_eq f) gs) h in rw n.0 (unlisted gs vs f n.1)
 
-module _ (facts : List Fact) (values : List ℤ) where
-  -- the value stands beside the fact
-  abbrev pub IsBeside : Fact → ℤ → Type 0
-  IsBeside f v = value_beside facts values f ≡ Some v
+-- the values of the listed facts, and 0 of the others
+abbrev pub table_of : List Fact → List ℤ → Fact → ℤ
+table_of facts values f = value_in (value_beside facts values f)
 
-  -- the values of the listed facts, and 0 of the others
-  abbrev pub table_of : Fact → ℤ
-  table_of f = value_in (value_beside facts values f)
+-- a result over the listed facts is what the inquiry comes to over them, with the facts asked
+traces : {A : Type 0} {t : FactTable} {i : Inquiry A} {old new : List Fact} {r : Result A Stop} (a : A) → Tells by_table t i old new r → r ≡ Ok a → trace_after t.facts t.values old i ≡ traced a new
+traces a (ends {a = b} {asked = seen}) e = let same : b ≡ a = cc in ap (λ x. traced x seen) same
+traces a (goes_on value rest) e = rw value (traces a rest e)
+traces a (stops fresh stop) e = cc
 
-  agrees : Agrees IsBeside (λ f. f) table_of
-  agrees = record { same = λ f v h. rw h refl }
+-- where an oracle over listed facts misses a fact, it is the first that isn't listed
+misses : {A : Type 0} {t : FactTable} {i : Inquiry A} {old new : List Fact} {r : Result A Stop} (f : Fact) → Tells by_table t i old new r → r ≡ Err (missing_stop f) → trace_after t.facts t.values old i ≡ missing f
+misses f ends e = cc
+misses f (goes_on value rest) e = rw value (misses f rest e)
+misses {t = t} f (stops {f = g} {s = s} fresh stop) e =
+    let is : s ≡ missing_stop f = cc in
+    let there : IsStopAt (MayStopListed t.facts) g (missing_stop f) = rw is at stop in
+    let same : f ≡ g = there.names in
+    let none : value_beside t.facts t.values g ≡ None = unlisted t.facts t.values g there.may in
+    rw none (ap missing (sym same))
 
-  module _ {A : Type 0} where
-    -- where each fact that is asked is listed, there is a result
-    traces : (i : Inquiry A) (seen : List Fact) → HasValues IsBeside (λ f. f) (facts_over table_of i) → trace_after facts values seen i ≡ traced (result_over table_of i) (with_kept (λ f. f) seen (facts_over table_of i))
-    traces (done a) seen h = refl
-    traces (ask f next) seen h =
-        let e : value_beside facts values f ≡ Some h.0.0 = h.0.1 in
-        let rest : HasValues IsBeside (λ g. g) (facts_over table_of (next h.0.0)) = rw e at h.1 in
-        rw e (traces (next h.0.0) (with_fact seen f) rest)
+-- more facts that have values
+valued_more : (t : FactTable) (xs : List Fact) (f : Fact) (v : ℤ) → AreValued by_table t xs → value_beside t.facts t.values f ≡ Some v → AreValued by_table t (xs ++ f ∷ [])
+valued_more t [] f v h k = ((v, k), tt)
+valued_more t (x ∷ xs) f v h k = (h.0, valued_more t xs f v h.1 k)
 
-    -- an answer of the oracle is that result, with the facts asked
-    pub traced_answer : (i : Inquiry A) (asked : List Fact) (a : A) → HasAnswer IsBeside (λ f. f) i [] asked a → trace_after facts values [] i ≡ traced a asked
-    traced_answer i asked a h =
-        let r : result_over table_of i ≡ a = h.result table_of agrees in
-        let k : asked ≡ with_kept (λ f. f) [] (facts_over table_of i) = rw (h.asks table_of agrees) at h.asked in
-        let v : HasValues IsBeside (λ f. f) (facts_over table_of i) = rw (h.asks table_of agrees) at h.valued in
-        rw (k, ← r) (traces i [] v)
+valued_with : (t : FactTable) (seen : List Fact) (f : Fact) (v : ℤ) → AreValued by_table t seen → value_beside t.facts t.values f ≡ Some v → AreValued by_table t (with_fact seen f)
+valued_with t seen f v h k = step (list_any (fact_eq f) seen)
+  where
+    step : (b : Bool) → AreValued by_table t (if b then seen else seen ++ f ∷ [])
+    step true = h
+    step false = valued_more t seen f v h k
 
-    -- where all that is asked before a fact is listed, and it isn't, it is missing
-    misses : (i : Inquiry A) (seen before : List Fact) (f : Fact) → HasValues IsBeside (λ g. g) before → IsFront (before ++ f ∷ []) (facts_over table_of i) → value_beside facts values f ≡ None → trace_after facts values seen i ≡ missing f
-    misses (done a) seen [] f h front none = let e : f ∷ front.rest ≡ [] = front.joined in cc
-    misses (done a) seen (b ∷ bs) f h front none = let e : b ∷ ((bs ++ f ∷ []) ++ front.rest) ≡ [] = front.joined in cc
-    misses (ask g next) seen [] f h front none =
-        let e : f ∷ front.rest ≡ g ∷ facts_over table_of (next (table_of g)) = front.joined in
-        let same : g ≡ f = cc in
-        let here : value_beside facts values g ≡ None = rw same none in
-        rw here (ap missing same)
-    misses (ask g next) seen (b ∷ bs) f h front none =
-        let e : b ∷ ((bs ++ f ∷ []) ++ front.rest) ≡ g ∷ facts_over table_of (next (table_of g)) = front.joined in
-        let same : b ≡ g = cc in
-        let here : value_beside facts values g ≡ Some h.0.0 = rw same at h.0.1 in
-        let joined : (bs ++ f ∷ []) ++ front.rest ≡ facts_over table_of (next (table_of g)) = cc in
-        let rest : IsFront (bs ++ f ∷ []) (facts_over table_of (next h.0.0)) = record { rest = front.rest; joined = rw here at joined } in
-        rw here (misses (next h.0.0) (with_fact seen g) bs f h.1 rest none)
-
-    -- an oracle over listed facts stops at the first fact that is missing
-    pub missing_answer : (i : Inquiry A) (asked : List Fact) (f : Fact) → StopsAt IsBeside (λ g. g) (MayStopListed facts) i [] asked (missing_stop f) → trace_after facts values [] i ≡ missing f
-    missing_answer i asked f h =
-        let same : f ≡ h.fact = h.stop.names in
-        let none : value_beside facts values h.fact ≡ None = unlisted facts values h.fact h.stop.may in
-        rw same (misses i [] h.before h.fact h.valued (h.asks table_of agrees) none)
-
-  -- more facts that have values
-  valued_more : (xs : List Fact) (f : Fact) → HasValues IsBeside (λ g. g) xs → (v : ℤ) × IsBeside f v → HasValues IsBeside (λ g. g) (xs ++ f ∷ [])
-  valued_more [] f h k = (k, tt)
-  valued_more (x ∷ xs) f h k = (h.0, valued_more xs f h.1 k)
-
-  valued_with : (seen : List Fact) (f : Fact) → HasValues IsBeside (λ g. g) seen → (v : ℤ) × IsBeside f v → HasValues IsBeside (λ g. g) (with_fact seen f)
-  valued_with seen f h k = step (list_any (fact_eq f) seen)
-    where
-      step : (t : Bool) → HasValues IsBeside (λ g. g) (if t then seen else seen ++ f ∷ [])
-      step true = h
-      step false = valued_more seen f h k
-
-  valued_kept : (seen fs : List Fact) → HasValues IsBeside (λ g. g) seen → HasValues IsBeside (λ g. g) fs → HasValues IsBeside (λ g. g) (with_kept (λ g. g) seen fs)
-  valued_kept seen [] h k = h
-  valued_kept seen (f ∷ fs) h k = valued_kept (with_fact seen f) fs (valued_with seen f h k.0) k.1
-
-  -- one of facts that have values
-  valued_at : (xs : List Fact) (f : Fact) (ys : List Fact) → HasValues IsBeside (λ g. g) (xs ++ f ∷ ys) → (v : ℤ) × IsBeside f v
-  valued_at [] f ys h = h.0
-  valued_at (x ∷ xs) f ys h = valued_at xs f ys h.1
+-- one of facts that have values
+valued_at : (t : FactTable) (xs : List Fact) (f : Fact) (ys : List Fact) → AreValued by_table t (xs ++ f ∷ ys) → (v : ℤ) × (value_beside t.facts t.values f ≡ Some v)
+valued_at t [] f ys h = h.0
+valued_at t (x ∷ xs) f ys h = valued_at t xs f ys h.1
 
 distinct_with : (seen : List Fact) (f : Fact) → IsTrue (are_distinct seen) → IsTrue (are_distinct (with_fact seen f))
 distinct_with seen f h = step (list_any (fact_eq f) seen) refl
@@ -106,11 +72,6 @@ distinct_with seen f h = step (list_any (fact_eq f) seen) refl
     step : (t : Bool) → list_any (fact_eq f) seen ≡ t → IsTrue (are_distinct (if t then seen else seen ++ f ∷ []))
     step true e = h
     step false e = distinct_more seen f h e
-
--- facts that are kept are distinct
-distinct_kept : (seen fs : List Fact) → IsTrue (are_distinct seen) → IsTrue (are_distinct (with_kept (λ g. g) seen fs))
-distinct_kept seen [] h = h
-distinct_kept seen (f ∷ fs) h = distinct_kept (with_fact seen f) fs (distinct_with seen f h)
 
 -- a fact that has a value is listed
 has_place : (fs : List Fact) (vs : List ℤ) (f : Fact) (v : ℤ) → value_beside fs vs f ≡ Some v → list_any (fact_eq f) fs ≡ true
@@ -122,31 +83,49 @@ has_place (g ∷ gs) (w ∷ ws) f v h = step (fact_eq f g) (has_place gs ws f v)
     step true rest k = refl
     step false rest k = rest k
 
+-- the facts asked are distinct and have values
+record AreFound (t : FactTable) (asked : List Fact) : Type 0 where
+  distinct : IsTrue (are_distinct asked)
+  valued : AreValued by_table t asked
+
+found_after : {A : Type 0} {t : FactTable} {i : Inquiry A} {old new : List Fact} {r : Result A Stop} → Tells by_table t i old new r → AreFound t old → AreFound t new
+found_after ends h = h
+found_after {t = t} {old = old} (goes_on {f = f} {v = v} value rest) h = found_after rest (record { distinct = distinct_with old f h.distinct; valued = valued_with t old f v h.valued value })
+found_after (stops fresh stop) h = h
+
 -- no fact is asked behind all of the listed ones
-ends_within : (facts asked : List Fact) (values : List ℤ) → IsTrue (are_distinct asked) → HasValues (IsBeside facts values) (λ g. g) asked → EndsWithin asked facts
-ends_within facts asked values distinct valued = record {
+ends_within : (t : FactTable) (asked : List Fact) → AreFound t asked → EndsWithin asked t.facts
+ends_within t asked h = record {
   no_more = λ f fs e.
-      let d : IsTrue (are_distinct (facts ++ f ∷ fs)) = rw e at distinct in
-      let v = valued_at facts values facts f fs (rw e at valued) in
-      let new : list_any (fact_eq f) facts ≡ false = next_is_new facts f fs d in
-      let old : list_any (fact_eq f) facts ≡ true = has_place facts values f v.0 v.1 in
+      let d : IsTrue (are_distinct (t.facts ++ f ∷ fs)) = rw e at h.distinct in
+      let v = valued_at t t.facts f fs (rw e at h.valued) in
+      let new : list_any (fact_eq f) t.facts ≡ false = next_is_new t.facts f fs d in
+      let old : list_any (fact_eq f) t.facts ≡ true = has_place t.facts t.values f v.0 v.1 in
       cc;
 }
 
-pub asked_within : {A : Type 0} (facts : List Fact) (values : List ℤ) (i : Inquiry A) (asked : List Fact) (a : A) → HasAnswer (IsBeside facts values) (λ f. f) i [] asked a → EndsWithin asked facts
-asked_within facts values i asked a h =
-    rw h.asked (ends_within facts (with_kept (λ f. f) [] h.facts) values (distinct_kept [] h.facts refl) (valued_kept facts values [] h.facts tt h.valued))
+-- an oracle over these facts and values, of which none was asked yet
+pub record IsFresh (facts : List Fact) (values : List ℤ) (s : State FactTable) : Type 0 where
+  pub facts_are : s.known.facts ≡ facts
+  pub values_are : s.known.values ≡ values
+  pub none : s.asked ≡ []
+
+pub asked_within : {A : Type 0} (facts : List Fact) (values : List ℤ) (i : Inquiry A) (old new : State FactTable) (r : Result A Stop) → IsFresh facts values old → Inquires by_table i old new r → EndsWithin new.asked facts
+asked_within facts values i old new r fresh h =
+    rw (← fresh.facts_are) (ends_within old.known new.asked (found_after h.tells (rw fresh.none (record { distinct = refl; valued = tt }))))
 
 -- the verdict by what was asked is that of the listed facts
-pub traced_verdict : {E : Type 0} (facts : List Fact) (values : List ℤ) (i : Inquiry Resolved) (asked : List Fact) (x : Resolved) (text : List ℕ) (result : Result Verdict E) → HasAnswer (IsBeside facts values) (λ f. f) i [] asked x
-    → IfOk result (λ v. v ≡ verdict_on_list (difference 1 asked facts) x text) → IfOk result (λ v. v ≡ verdict_on_trace facts (trace_after facts values [] i) text)
-traced_verdict facts values i asked x text (Ok v) h k = rw (traced_answer facts values i asked x h) k
-traced_verdict facts values i asked x text (Err e) h k = tt
+pub traced_verdict : {E : Type 0} (facts : List Fact) (values : List ℤ) (i : Inquiry Resolved) (old new : State FactTable) (x : Resolved) (text : List ℕ) (result : Result Verdict E) → IsFresh facts values old → Inquires by_table i old new (Ok x)
+    → IfOk result (λ v. v ≡ verdict_on_list (difference 1 new.asked facts) x text) → IfOk result (λ v. v ≡ verdict_on_trace facts (trace_after facts values [] i) text)
+traced_verdict facts values i old new x text (Ok v) fresh h k =
+    let traced_as : trace_after facts values [] i ≡ traced x new.asked = rw (fresh.facts_are, fresh.values_are, fresh.none) at (traces x h.tells refl) in
+    rw traced_as k
+traced_verdict facts values i old new x text (Err e) fresh h k = tt
 
 -- and so is the one by a missing fact
-pub missing_verdict : {E : Type 0} (facts : List Fact) (values : List ℤ) (i : Inquiry Resolved) (asked : List Fact) (s : Stop) (text : List ℕ) (result : Result Verdict E) → StopsAt (IsBeside facts values) (λ g. g) (MayStopListed facts) i [] asked s
+pub missing_verdict : {E : Type 0} (facts : List Fact) (values : List ℤ) (i : Inquiry Resolved) (old new : State FactTable) (s : Stop) (text : List ℕ) (result : Result Verdict E) → IsFresh facts values old → Inquires by_table i old new (Err s)
     → IfOk result (λ v. NamesMissing s v) → IfOk result (λ v. v ≡ verdict_on_trace facts (trace_after facts values [] i) text)
-missing_verdict facts values i asked s text (Ok v) h k =
-    let stop : StopsAt (IsBeside facts values) (λ g. g) (MayStopListed facts) i [] asked (missing_stop k.fact) = rw k.stops at h in
-    rw (missing_answer facts values i asked k.fact stop) k.named
-missing_verdict facts values i asked s text (Err e) h k = tt
+missing_verdict facts values i old new s text (Ok v) fresh h k =
+    let misses_it : trace_after facts values [] i ≡ missing k.fact = rw (fresh.facts_are, fresh.values_are, fresh.none) at (misses k.fact h.tells (ap Err k.stops)) in
+    rw misses_it k.named
+missing_verdict facts values i old new s text (Err e) fresh h k = tt

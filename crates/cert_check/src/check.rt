@@ -1,9 +1,11 @@
 //! The verdict of a line.
-ghost use Rattle.std.specs.Prelude.{◌≡◌, ◌<◌, ◌^◌, length, IsTrue, IfOk, [], Ok};
+ghost use Rattle.std.specs.Prelude.{◌≡◌, ◌≢◌, ◌<◌, ◌^◌, length, IsTrue, IfOk, OnErr, [], Ok};
+ghost use Rattle.book_model.specs.declared.fact.Fact.{Fact};
 ghost use Rattle.book_model.specs.LineRules.{rule_of};
 ghost use Rattle.book_model.specs.Requests.{is_answered, rule_number};
 ghost use Rattle.line_core.specs.Days.{names_day};
 ghost use Rattle.oracle_core.specs.Pairs.{are_distinct, facts_of, AreFactValues};
+ghost use Rattle.oracle_core.specs.declared.oracle.Stop.TheVariants.{Missing as missing_stop};
 ghost use Rattle.cert_text.specs.Reading.{are_of_facts, listed as numbers_of};
 ghost use Rattle.cert_text.specs.Text.{too_far_text, no_date_text};
 ghost use Rattle.cert_check.specs.Listed.{NamesMissing};
@@ -45,9 +47,11 @@ fn spaced(alloc: Global, echo: &Echo) -> Result<Vec<u8>, AllocError>
     Ok(words)
 }
 
-/// The verdict of a line whose rule stops at a fact that it doesn't list. The error is want of memory.
+/// The verdict of a line whose rule stops at a fact that it doesn't list. The error is want of memory; it comes at no
+/// missing fact.
 fn verdict_at(stop: Stop) -> Result<Verdict, AllocError>
     ensures missing { IfOk result (λ v. NamesMissing stop v) }
+    ensures memory { OnErr result ((fact : Fact) → stop ≢ missing_stop fact) }
 {
     match stop {
         Stop::Missing(fact) => Ok(Verdict::No(Reason::Missing(fact))),

@@ -1,12 +1,10 @@
 //! What a request comes to.
-ghost use Rattle.std.specs.Prelude.{◌≡◌, ◌↔◌, ◌≤ℤ◌, ℤ, pos, negsuc, IsTrue, IfOk, IfErr};
-ghost use Rattle.book_model.specs.declared.fact.Fact.{Fact};
+ghost use Rattle.std.specs.Prelude.{◌≡◌, ◌≤ℤ◌, pos, negsuc, IsTrue};
 ghost use Rattle.book_model.specs.Inquiries.{to_32_bits as nearest};
 ghost use Rattle.book_model.specs.LineRules.{dt_fact, sun_fact, one_field as one_field_of, are_same_fields, confirmed, day_named, persian_shown, result_on, result_within, result_of_day, rule_of, value_shown};
 ghost use Rattle.book_model.specs.Requests.{is_in_range as is_in_range_of, is_answered};
 ghost use Rattle.line_core.specs.Days.{names_day};
-ghost use Rattle.oracle_core.specs.Inquiring.{HasAnswer, StopsAt};
-ghost use Rattle.oracle_core.specs.declared.oracle.Stop.{Stop};
+ghost use Rattle.oracle_core.specs.Inquiring.{Inquires};
 
 use crate::day::{fixed_day, gregorian_day, is_in_range};
 use crate::gregorian::gregorian_date;
@@ -63,15 +61,11 @@ fn have_same_fields(date: &Fields, other: &Fields) -> bool
 }
 
 /// The day (R.D.) that the date of a request names. It stops where the oracle stops.
-#[tactic(auto, using(oracle_core::proofs::Inquiring::answer_done))]
+#[tactic(auto, using(oracle_core::proofs::Inquiring::asking))]
 fn named_day<O: Oracle>(oracle: &mut O, request: &Request) -> Result<i64, Stop>
     requires dated { IsTrue (names_day request.now.from request.now.date) }
     requires answered { IsTrue (is_answered request.now.from request.now.date) }
-    ensures answer { IfOk result (λ d. HasAnswer (O.value_of oracle.old) (O.kept_as oracle.old) (day_named request.now.from request.now.date) (O.asked oracle.old) (O.asked oracle.new) d) }
-    ensures stop { IfErr result (λ s. StopsAt (O.value_of oracle.old) (O.kept_as oracle.old) (O.may_stop oracle.old) (day_named request.now.from request.now.date) (O.asked oracle.old) (O.asked oracle.new) s) }
-    ensures same_values { (f : Fact) (v : ℤ) → O.value_of oracle.old f v ↔ O.value_of oracle.new f v }
-    ensures same_keeping { (f : Fact) → O.kept_as oracle.old f ≡ O.kept_as oracle.new f }
-    ensures same_stops { (f : Fact) (s : Stop) → O.may_stop oracle.old f s ↔ O.may_stop oracle.new f s }
+    ensures comes { Inquires O.meaning (day_named request.now.from request.now.date) (O.state oracle.old) (O.state oracle.new) result }
 {
     match request.from {
         FromWord::Gregorian => Ok(gregorian_day(&request.date)),
@@ -81,27 +75,20 @@ fn named_day<O: Oracle>(oracle: &mut O, request: &Request) -> Result<i64, Stop>
 }
 
 /// The value of a fact as a result. It stops where the oracle stops.
-#[tactic(auto, using(oracle_core::proofs::Inquiring::answer_done, oracle_core::proofs::Inquiring::answer_ask, oracle_core::proofs::Inquiring::stops_here))]
+#[tactic(auto, using(oracle_core::proofs::Inquiring::asking))]
 fn show_value<O: Oracle>(oracle: &mut O, to: ToWord, fact: Fact) -> Result<Resolved, Stop>
-    ensures answer { IfOk result (λ r. HasAnswer (O.value_of oracle.old) (O.kept_as oracle.old) (value_shown to fact) (O.asked oracle.old) (O.asked oracle.new) r) }
-    ensures stop { IfErr result (λ s. StopsAt (O.value_of oracle.old) (O.kept_as oracle.old) (O.may_stop oracle.old) (value_shown to fact) (O.asked oracle.old) (O.asked oracle.new) s) }
-    ensures same_values { (f : Fact) (v : ℤ) → O.value_of oracle.old f v ↔ O.value_of oracle.new f v }
-    ensures same_keeping { (f : Fact) → O.kept_as oracle.old f ≡ O.kept_as oracle.new f }
-    ensures same_stops { (f : Fact) (s : Stop) → O.may_stop oracle.old f s ↔ O.may_stop oracle.new f s }
+    ensures comes { Inquires O.meaning (value_shown to fact) (O.state oracle.old) (O.state oracle.new) result }
 {
     let value = oracle.ask(fact)?;
     Ok(Resolved::Shown(to, one_field(value)))
 }
 
 /// The Persian date of a day (R.D.) as a result. It stops where the oracle stops.
+#[tactic(auto, using(oracle_core::proofs::Inquiring::asking))]
 fn show_persian<O: Oracle>(oracle: &mut O, day: i64) -> Result<Resolved, Stop>
     requires from_1802 { pos 657802 ≤ℤ day }
     requires to_2048 { day ≤ℤ pos 748017 }
-    ensures answer { IfOk result (λ r. HasAnswer (O.value_of oracle.old) (O.kept_as oracle.old) (persian_shown day) (O.asked oracle.old) (O.asked oracle.new) r) }
-    ensures stop { IfErr result (λ s. StopsAt (O.value_of oracle.old) (O.kept_as oracle.old) (O.may_stop oracle.old) (persian_shown day) (O.asked oracle.old) (O.asked oracle.new) s) }
-    ensures same_values { (f : Fact) (v : ℤ) → O.value_of oracle.old f v ↔ O.value_of oracle.new f v }
-    ensures same_keeping { (f : Fact) → O.kept_as oracle.old f ≡ O.kept_as oracle.new f }
-    ensures same_stops { (f : Fact) (s : Stop) → O.may_stop oracle.old f s ↔ O.may_stop oracle.new f s }
+    ensures comes { Inquires O.meaning (persian_shown day) (O.state oracle.old) (O.state oracle.new) result }
 {
     match persian_fields_on(oracle, day) {
         Ok(fields) => Ok(Resolved::Shown(ToWord::Persian, fields)),
@@ -110,15 +97,11 @@ fn show_persian<O: Oracle>(oracle: &mut O, day: i64) -> Result<Resolved, Stop>
 }
 
 /// What a day (R.D.) comes to. It stops where the oracle stops.
-#[tactic(auto, using(oracle_core::proofs::Inquiring::answer_done))]
+#[tactic(auto, using(oracle_core::proofs::Inquiring::asking))]
 fn resolve_on<O: Oracle>(oracle: &mut O, to: ToWord, day: i64) -> Result<Resolved, Stop>
     requires from_1802 { pos 657802 ≤ℤ day }
     requires to_2048 { day ≤ℤ pos 748017 }
-    ensures answer { IfOk result (λ r. HasAnswer (O.value_of oracle.old) (O.kept_as oracle.old) (result_on to day) (O.asked oracle.old) (O.asked oracle.new) r) }
-    ensures stop { IfErr result (λ s. StopsAt (O.value_of oracle.old) (O.kept_as oracle.old) (O.may_stop oracle.old) (result_on to day) (O.asked oracle.old) (O.asked oracle.new) s) }
-    ensures same_values { (f : Fact) (v : ℤ) → O.value_of oracle.old f v ↔ O.value_of oracle.new f v }
-    ensures same_keeping { (f : Fact) → O.kept_as oracle.old f ≡ O.kept_as oracle.new f }
-    ensures same_stops { (f : Fact) (s : Stop) → O.may_stop oracle.old f s ↔ O.may_stop oracle.new f s }
+    ensures comes { Inquires O.meaning (result_on to day) (O.state oracle.old) (O.state oracle.new) result }
 {
     match to {
         ToWord::Gregorian => Ok(Resolved::Shown(to, gregorian_date(day))),
@@ -131,7 +114,7 @@ fn resolve_on<O: Oracle>(oracle: &mut O, to: ToWord, day: i64) -> Result<Resolve
 
 /// What a day (R.D.) comes to whose own date is this one: `NoDate`, where that isn't the date of the request. It stops
 /// where the oracle stops.
-#[tactic(auto, using(oracle_core::proofs::Inquiring::answer_done), unfolding(book_model::specs::LineRules::confirmed))]
+#[tactic(auto, using(oracle_core::proofs::Inquiring::asking), unfolding(book_model::specs::LineRules::confirmed))]
 fn confirm<O: Oracle>(
     oracle: &mut O,
     request: &Request,
@@ -140,11 +123,7 @@ fn confirm<O: Oracle>(
 ) -> Result<Resolved, Stop>
     requires from_1802 { pos 657802 ≤ℤ day }
     requires to_2048 { day ≤ℤ pos 748017 }
-    ensures answer { IfOk result (λ r. HasAnswer (O.value_of oracle.old) (O.kept_as oracle.old) (confirmed request.now day back) (O.asked oracle.old) (O.asked oracle.new) r) }
-    ensures stop { IfErr result (λ s. StopsAt (O.value_of oracle.old) (O.kept_as oracle.old) (O.may_stop oracle.old) (confirmed request.now day back) (O.asked oracle.old) (O.asked oracle.new) s) }
-    ensures same_values { (f : Fact) (v : ℤ) → O.value_of oracle.old f v ↔ O.value_of oracle.new f v }
-    ensures same_keeping { (f : Fact) → O.kept_as oracle.old f ≡ O.kept_as oracle.new f }
-    ensures same_stops { (f : Fact) (s : Stop) → O.may_stop oracle.old f s ↔ O.may_stop oracle.new f s }
+    ensures comes { Inquires O.meaning (confirmed request.now day back) (O.state oracle.old) (O.state oracle.new) result }
 {
     if have_same_fields(&back, &request.date) {
         resolve_on(oracle, request.to, day)
@@ -154,14 +133,11 @@ fn confirm<O: Oracle>(
 }
 
 /// What a day (R.D.) comes to that the Persian date of a request names. It stops where the oracle stops.
+#[tactic(auto, using(oracle_core::proofs::Inquiring::asking))]
 fn resolve_persian<O: Oracle>(oracle: &mut O, request: &Request, day: i64) -> Result<Resolved, Stop>
     requires from_1802 { pos 657802 ≤ℤ day }
     requires to_2048 { day ≤ℤ pos 748017 }
-    ensures answer { IfOk result (λ r. HasAnswer (O.value_of oracle.old) (O.kept_as oracle.old) (result_within FromWord.Persian request.now day) (O.asked oracle.old) (O.asked oracle.new) r) }
-    ensures stop { IfErr result (λ s. StopsAt (O.value_of oracle.old) (O.kept_as oracle.old) (O.may_stop oracle.old) (result_within FromWord.Persian request.now day) (O.asked oracle.old) (O.asked oracle.new) s) }
-    ensures same_values { (f : Fact) (v : ℤ) → O.value_of oracle.old f v ↔ O.value_of oracle.new f v }
-    ensures same_keeping { (f : Fact) → O.kept_as oracle.old f ≡ O.kept_as oracle.new f }
-    ensures same_stops { (f : Fact) (s : Stop) → O.may_stop oracle.old f s ↔ O.may_stop oracle.new f s }
+    ensures comes { Inquires O.meaning (result_within FromWord.Persian request.now day) (O.state oracle.old) (O.state oracle.new) result }
 {
     match persian_fields_on(oracle, day) {
         Ok(back) => confirm(oracle, request, day, back),
@@ -171,13 +147,9 @@ fn resolve_persian<O: Oracle>(oracle: &mut O, request: &Request, day: i64) -> Re
 
 /// What a day (R.D.) comes to that the date of a request names: `TooFar` outside 1 January 1802 to 31 December 2048,
 /// and `NoDate` where the calendar of the request has another date for it. It stops where the oracle stops.
-#[tactic(auto, using(oracle_core::proofs::Inquiring::answer_done), unfolding(book_model::specs::LineRules::result_of_day))]
+#[tactic(auto, using(oracle_core::proofs::Inquiring::asking), unfolding(book_model::specs::LineRules::result_of_day))]
 fn resolve_day<O: Oracle>(oracle: &mut O, request: &Request, day: i64) -> Result<Resolved, Stop>
-    ensures answer { IfOk result (λ r. HasAnswer (O.value_of oracle.old) (O.kept_as oracle.old) (result_of_day request.now day) (O.asked oracle.old) (O.asked oracle.new) r) }
-    ensures stop { IfErr result (λ s. StopsAt (O.value_of oracle.old) (O.kept_as oracle.old) (O.may_stop oracle.old) (result_of_day request.now day) (O.asked oracle.old) (O.asked oracle.new) s) }
-    ensures same_values { (f : Fact) (v : ℤ) → O.value_of oracle.old f v ↔ O.value_of oracle.new f v }
-    ensures same_keeping { (f : Fact) → O.kept_as oracle.old f ≡ O.kept_as oracle.new f }
-    ensures same_stops { (f : Fact) (s : Stop) → O.may_stop oracle.old f s ↔ O.may_stop oracle.new f s }
+    ensures comes { Inquires O.meaning (result_of_day request.now day) (O.state oracle.old) (O.state oracle.new) result }
 {
     if !is_in_range(day) {
         return Ok(Resolved::TooFar { day });
@@ -188,19 +160,15 @@ fn resolve_day<O: Oracle>(oracle: &mut O, request: &Request, day: i64) -> Result
     }
 }
 
-/// What a request that breaks no rule by itself comes to: over each table that gives every fact the value that the
-/// oracle has for it, the result of the line's rule, for which the facts that the rule asks are added to the oracle's
-/// list. `TooFar` comes exactly where the day that the date names is outside 1 January 1802 to 31 December 2048, and
+/// What a request that breaks no rule by itself comes to: the result of the line's rule over the values that the
+/// oracle has of the facts that the rule asks, which are added to the oracle's list. `TooFar` comes exactly where the day that the date names is outside 1 January 1802 to 31 December 2048, and
 /// `NoDate` exactly where it isn't and has another date in the calendar of the request. It stops where the oracle
 /// stops, at a fact that the rule asks.
+#[tactic(auto, using(oracle_core::proofs::Inquiring::asking), unfolding(book_model::specs::LineRules::rule_of))]
 pub fn resolve<O: Oracle>(oracle: &mut O, request: &Request) -> Result<Resolved, Stop>
     requires dated { IsTrue (names_day request.now.from request.now.date) }
     requires answered { IsTrue (is_answered request.now.from request.now.date) }
-    ensures answer { IfOk result (λ r. HasAnswer (O.value_of oracle.old) (O.kept_as oracle.old) (rule_of request.now) (O.asked oracle.old) (O.asked oracle.new) r) }
-    ensures stop { IfErr result (λ s. StopsAt (O.value_of oracle.old) (O.kept_as oracle.old) (O.may_stop oracle.old) (rule_of request.now) (O.asked oracle.old) (O.asked oracle.new) s) }
-    ensures same_values { (f : Fact) (v : ℤ) → O.value_of oracle.old f v ↔ O.value_of oracle.new f v }
-    ensures same_keeping { (f : Fact) → O.kept_as oracle.old f ≡ O.kept_as oracle.new f }
-    ensures same_stops { (f : Fact) (s : Stop) → O.may_stop oracle.old f s ↔ O.may_stop oracle.new f s }
+    ensures comes { Inquires O.meaning (rule_of request.now) (O.state oracle.old) (O.state oracle.new) result }
 {
     match named_day(oracle, request) {
         Ok(day) => resolve_day(oracle, request, day),

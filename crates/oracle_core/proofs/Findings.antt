@@ -1,28 +1,17 @@
 -- What an oracle over an evaluator answers is what the inquiry finds at every depth.
-use Rattle.std.proofs.Common.{◌≡◌, ℕ, ◌≤◌, Bool, true, false, ◌||◌, refl, List, [], ◌∷◌, ◌++◌, ℤ, pos, ap}
+use Rattle.std.proofs.Common.{◌≡◌, ◌∙◌, ℕ, ◌≤◌, Bool, true, false, ◌||◌, refl, List, [], ◌∷◌, ◌++◌, ℤ, ap, sym}
 use Rattle.std.specs.List.{list_any}
-use Rattle.std.specs.Prelude.{if◌then◌else◌}
+use Rattle.std.specs.Prelude.{if◌then◌else◌, Result, Ok, Err}
 use Rattle.book_model.specs.declared.fact.Fact.{Fact}
 use Rattle.book_model.specs.Facts.{run_of}
-use Rattle.book_model.specs.Inquiries.{Inquiry, done, ask, fact_eq, with_fact, with_kept, with_entry, facts_over, result_over, found, finding, finding_after, AsksAt, asks_here, asks_after}
-use Rattle.book_model.specs.Programs.{Outcome, valued, void_at, open_at, outcome}
-use Rattle.oracle_core.specs.Inquiring.{Agrees, HasValues, HasAnswer}
-use Rattle.oracle_core.specs.Pairs.{StandsWith, AllStand, facts_of, IsFront, one_truth}
+use Rattle.book_model.specs.Inquiries.{Inquiry, done, ask, fact_eq, with_fact, with_entry, found, finding, finding_after, AsksAt, asks_here, asks_after}
+use Rattle.book_model.specs.Programs.{valued, outcome}
+use Rattle.oracle_core.specs.declared.oracle.Stop.{Stop}
+use Rattle.oracle_core.specs.Inquiring.{State, Tells, ends, goes_on, stops, Inquires}
+use Rattle.oracle_core.specs.Oracles.{by_evaluator}
+use Rattle.oracle_core.specs.Pairs.{StandsWith, AllStand, facts_of, one_truth}
+use Rattle.oracle_core.specs.Stops.{MayStopAsking, IsStopAt}
 use Rattle.oracle_core.proofs.Keeping.{facts_of_push, stand_push}
-
--- the value of an outcome, or 0
-abbrev value_in : Outcome ℤ → ℤ
-value_in (valued v) = v
-value_in (void_at s) = pos 0
-value_in (open_at s) = pos 0
-
--- the values of the facts at a depth
-abbrev pub table_at : ℕ → Fact → ℤ
-table_at n f = value_in (outcome (run_of n f))
-
--- such a table gives each fact the value with which it is true
-pub agrees_at : (n : ℕ) → 40 ≤ n → Agrees StandsWith (λ f. f) (table_at n)
-agrees_at n deep = record { same = λ f v h. rw (h.is_true.at_each_depth n deep) refl }
 
 -- a fact is among pairs where it is among their facts
 among_facts : (f : Fact) (es : List (Fact × ℤ)) → list_any (λ e. fact_eq f e.0) es ≡ list_any (fact_eq f) (facts_of es)
@@ -56,41 +45,31 @@ one_list ((f, v) ∷ es) ((g, w) ∷ ds) s t h =
     let value : v ≡ w = one_truth g v w (rw one at s.0) t.0 in
     rw (one, value, one_list es ds s.1 t.1 others) refl
 
-module _ {A : Type 0} (n : ℕ) (deep : 40 ≤ n) where
-  -- where all that an inquiry asks has values, its result over them is found
-  finds_over : (i : Inquiry A) (seen es : List (Fact × ℤ)) → AllStand seen → AllStand es → HasValues StandsWith (λ f. f) (facts_over (table_at n) i) → facts_of es ≡ with_kept (λ f. f) (facts_of seen) (facts_over (table_at n) i)
-      → finding_after n seen i ≡ found (result_over (table_at n) i) es
-  unfolding finding_after
-  finds_over (done a) seen es s t h k = rw (one_list es seen t s k) refl
-  finds_over (ask f next) seen es s t h k =
-      let table : table_at n f ≡ h.0.0 = (agrees_at n deep).same f h.0.0 h.0.1 in
-      let here : StandsWith f (table_at n f) = rw table h.0.1 in
-      let value : outcome (run_of n f) ≡ valued (table_at n f) = here.is_true.at_each_depth n deep in
-      let rest : facts_of es ≡ with_kept (λ g. g) (facts_of (with_entry seen f (table_at n f))) (facts_over (table_at n) (next (table_at n f))) = rw (facts_with seen f (table_at n f)) k in
-      rw value (finds_over (next (table_at n f)) (with_entry seen f (table_at n f)) es (stand_with seen f (table_at n f) s here) t h.1 rest)
+-- where all that an inquiry asks has values, its result over them is found
+finds_over : {A : Type 0} {k : Unit {0}} {i : Inquiry A} {old new : List Fact} {r : Result A Stop} (n : ℕ) (seen es : List (Fact × ℤ)) (a : A) → 40 ≤ n → Tells by_evaluator k i old new r → r ≡ Ok a
+    → old ≡ facts_of seen → new ≡ facts_of es → AllStand seen → AllStand es → finding_after n seen i ≡ found a es
+unfolding finding_after
+finds_over n seen es a deep (ends {a = b}) e h k s t = let result : b ≡ a = cc in rw (result, one_list seen es s t (sym h ∙ k)) refl
+finds_over n seen es a deep (goes_on {f = f} {v = v} value rest) e h k s t =
+    let here : outcome (run_of n f) ≡ valued v = value.is_true.at_each_depth n deep in
+    rw here (finds_over n (with_entry seen f v) es a deep rest e (rw h (sym (facts_with seen f v))) k (stand_with seen f v s value) t)
+finds_over n seen es a deep (stops fresh stop) e h k s t = cc
 
-  -- an answer of the oracle is what is found
-  pub finds : (i : Inquiry A) (es : List (Fact × ℤ)) (a : A) → AllStand es → HasAnswer StandsWith (λ f. f) i [] (facts_of es) a → finding n i ≡ found a es
-  finds i es a all h =
-      let asks : h.facts ≡ facts_over (table_at n) i = h.asks (table_at n) (agrees_at n deep) in
-      let result : result_over (table_at n) i ≡ a = h.result (table_at n) (agrees_at n deep) in
-      let valued_all : HasValues StandsWith (λ f. f) (facts_over (table_at n) i) = rw asks at h.valued in
-      let listed : facts_of es ≡ with_kept (λ f. f) [] (facts_over (table_at n) i) = rw asks at h.asked in
-      rw (← result) (finds_over i [] es tt all valued_all listed)
+-- an answer of the oracle is what is found
+pub finds : {A : Type 0} {old new : State (Unit {0})} (n : ℕ) (i : Inquiry A) (es : List (Fact × ℤ)) (a : A) → 40 ≤ n → AllStand es → old.asked ≡ [] → new.asked ≡ facts_of es → Inquires by_evaluator i old new (Ok a) → finding n i ≡ found a es
+finds n i es a deep all none asked h = finds_over n [] es a deep h.tells refl none asked tt all
 
-  -- a fact is asked, where those before it have values
-  pub asks_at : (i : Inquiry A) (before : List Fact) (f : Fact) → HasValues StandsWith (λ g. g) before → IsFront (before ++ f ∷ []) (facts_over (table_at n) i) → AsksAt n i f
-  asks_at (done a) [] f h k = let e : f ∷ k.rest ≡ [] = k.joined in cc
-  asks_at (done a) (b ∷ bs) f h k = let e : b ∷ ((bs ++ f ∷ []) ++ k.rest) ≡ [] = k.joined in cc
-  asks_at (ask g next) [] f h k =
-      let e : f ∷ k.rest ≡ g ∷ facts_over (table_at n) (next (table_at n g)) = k.joined in
-      let one : f ≡ g = cc in
-      rw one asks_here
-  asks_at (ask g next) (b ∷ bs) f h k =
-      let e : b ∷ ((bs ++ f ∷ []) ++ k.rest) ≡ g ∷ facts_over (table_at n) (next (table_at n g)) = k.joined in
-      let one : b ≡ g = cc in
-      let here : StandsWith g h.0.0 = rw one at h.0.1 in
-      let value : outcome (run_of n g) ≡ valued h.0.0 = here.is_true.at_each_depth n deep in
-      let table : table_at n g ≡ h.0.0 = (agrees_at n deep).same g h.0.0 here in
-      let front : IsFront (bs ++ f ∷ []) (facts_over (table_at n) (next h.0.0)) = record { rest = k.rest; joined = rw (← table) (let j : (bs ++ f ∷ []) ++ k.rest ≡ facts_over (table_at n) (next (table_at n g)) = cc in j) } in
-      asks_after value (asks_at (next h.0.0) bs f h.1 front)
+-- at a depth the inquiry asks a fact at which the oracle may stop
+pub record StopsThere {A : Type 0} (n : ℕ) (i : Inquiry A) (s : Stop) : Type 0 where
+  pub fact : Fact
+  pub asks : AsksAt n i fact
+  pub stop : IsStopAt MayStopAsking fact s
+
+stops_at : {A : Type 0} {k : Unit {0}} {i : Inquiry A} {old new : List Fact} {r : Result A Stop} (n : ℕ) (s : Stop) → 40 ≤ n → Tells by_evaluator k i old new r → r ≡ Err s → StopsThere n i s
+stops_at n s deep ends e = cc
+stops_at n s deep (goes_on value rest) e = let t = stops_at n s deep rest e in record { fact = t.fact; asks = asks_after (value.is_true.at_each_depth n deep) t.asks; stop = t.stop }
+stops_at n s deep (stops {f = f} {s = z} fresh stop) e = let same : z ≡ s = cc in record { fact = f; asks = asks_here; stop = rw same at stop }
+
+-- where the oracle stops, the inquiry asks that fact
+pub stops_there : {A : Type 0} {i : Inquiry A} {old new : State (Unit {0})} {s : Stop} (n : ℕ) → 40 ≤ n → Inquires by_evaluator i old new (Err s) → StopsThere n i s
+stops_there {s = s} n deep h = stops_at n s deep h.tells refl

@@ -3,5 +3,5 @@ pub mod Noting
 pub mod Keeping
 pub mod Listing
 pub mod Inquiring
-pub mod Moving
+pub mod Tables
 pub mod Findings

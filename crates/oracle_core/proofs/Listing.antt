@@ -1,16 +1,16 @@
 -- Facts that are looked up in a list.
-use Rattle.std.proofs.Common.{◌≡◌, ℕ, zero, suc, ◌+◌, ◌<◌, Bool, true, false, cond, not, ◌&&◌, ◌||◌, refl, List, [], ◌∷◌, ◌++◌, length, get_or, drop, ℤ, arith, append-nil}
-use Rattle.std.specs.Prelude.{Some, None, IsTrue, if◌then◌else◌}
+use Rattle.std.proofs.Common.{◌≡◌, ℕ, zero, suc, ◌+◌, ◌<◌, Bool, true, false, cond, not, ◌&&◌, ◌||◌, refl, List, [], ◌∷◌, ◌++◌, length, get_or, drop, ℤ, arith, append-nil, ◌⊎◌, inl, inr, length-drop, ◌-◌}
+use Rattle.std.specs.Prelude.{Some, None, IsTrue, if◌then◌else◌, Result, Ok, Err, OnOk, OnErr}
 use Rattle.std.specs.List.{list_any, position_or_len, position}
 use Rattle.std.proofs.Math.Seq.{drop-append_seam, drop-cons}
 use Rattle.std.proofs.lemmas.List.{append_assoc}
 use Rattle.book_model.specs.contracts.fact.FactPartialEq.TheImpl as derived
 use Rattle.book_model.specs.declared.fact.Fact.{Fact}
-use Rattle.book_model.specs.Inquiries.{fact_eq}
+use Rattle.book_model.specs.Inquiries.{fact_eq, with_fact}
 use Rattle.oracle_core.specs.Answers.{IsFactValue}
 use Rattle.oracle_core.specs.Pairs.{AreFactValues, are_distinct, value_beside, IsFront}
 use Rattle.oracle_core.proofs.FactLemmas.{one_fact, same_any, same_place}
-use Rattle.oracle_core.proofs.Noting.{found_at, not_there}
+use Rattle.oracle_core.proofs.Noting.{found_at, there, not_there}
 
 -- the list begins with no facts
 pub no_front : (fs : List Fact) → IsFront [] fs
@@ -119,3 +119,50 @@ indexed_more fs keys more xs i d distinct whole h grown =
     let new : list_any (fact_eq (get_or xs i d)) keys ≡ false = next_is_new keys (get_or xs i d) (drop (suc i) xs) apart in
     let longer : more ≡ keys ++ get_or xs i d ∷ [] = rw (same_any (get_or xs i d) keys, new) at grown in
     rw (n, longer) (rw append_assoc parts)
+
+-- ---- once a fact was asked
+not_true : (t : Bool) → (t ≡ true → ⊥) → t ≡ false
+not_true true h = absurd (h refl)
+not_true false h = refl
+
+-- while the index isn't whole no fact was asked
+pub none_asked : (fs index asked : List Fact) (f : Fact) → ((g : Fact) → list_any (fact_eq g) asked ≡ true → index ≡ fs) → (index ≡ fs → ⊥) → list_any (fact_eq f) asked ≡ false
+none_asked fs index asked f whole short = not_true (list_any (fact_eq f) asked) (λ h. short (whole f h))
+
+-- a fact that isn't one of these wasn't asked
+pub never_asked : (fs asked : List Fact) (f : Fact) → ((g : Fact) → list_any (fact_eq g) asked ≡ true → list_any (fact_eq g) fs ≡ true) → list_any (fact_eq f) fs ≡ false → list_any (fact_eq f) asked ≡ false
+never_asked fs asked f listed none = not_true (list_any (fact_eq f) asked) (λ h. let e : list_any (fact_eq f) fs ≡ true = listed f h in cc)
+
+either_of : (a b : Bool) → (a || b) ≡ true → (a ≡ true) ⊎ (b ≡ true)
+either_of true b h = inl refl
+either_of false b h = inr h
+
+among_more : (g f : Fact) (xs : List Fact) → list_any (fact_eq g) (xs ++ f ∷ []) ≡ true → (list_any (fact_eq g) xs ≡ true) ⊎ (fact_eq g f ≡ true)
+among_more g f [] h = elim (either_of (fact_eq g f) false h) [ inl e ↦ inr e | inr e ↦ absurd (cc) ]
+among_more g f (x ∷ xs) h = step (fact_eq g x) (among_more g f xs) h
+  where
+    step : (t : Bool) → (list_any (fact_eq g) (xs ++ f ∷ []) ≡ true → (list_any (fact_eq g) xs ≡ true) ⊎ (fact_eq g f ≡ true)) → (t || list_any (fact_eq g) (xs ++ f ∷ [])) ≡ true → ((t || list_any (fact_eq g) xs) ≡ true) ⊎ (fact_eq g f ≡ true)
+    step true rest h = inl refl
+    step false rest h = rest h
+
+-- with one more that is one of these, all that were asked still are
+pub listed_more : (fs asked : List Fact) (f g : Fact) → ((h : Fact) → list_any (fact_eq h) asked ≡ true → list_any (fact_eq h) fs ≡ true) → list_any (fact_eq f) fs ≡ true → list_any (fact_eq g) (with_fact asked f) ≡ true → list_any (fact_eq g) fs ≡ true
+listed_more fs asked f g listed here h = step (list_any (fact_eq f) asked) h
+  where
+    step : (t : Bool) → list_any (fact_eq g) (if t then asked else asked ++ f ∷ []) ≡ true → list_any (fact_eq g) fs ≡ true
+    step true h = listed g h
+    step false h = elim (among_more g f asked h) [ inl e ↦ listed g e | inr e ↦ (let same : g ≡ f = one_fact g f e in rw same here) ]
+
+-- a fact that an index of the facts has is one of them
+pub is_listed : (fs keys : List Fact) (f : Fact) (i : ℕ) → keys ≡ fs → Some i ≡ position (derived.eq-value.it f) keys → list_any (fact_eq f) fs ≡ true
+is_listed fs keys f i all h = there (fact_eq f) fs i (rw all at (rw (same_place f keys) at h))
+
+-- an index that holds the first facts, not all, has fewer
+pub shorter : (fs keys : List Fact) (i : ℕ) → i < length (drop (length keys) fs) → keys ≡ fs → ⊥
+shorter fs keys i h same = let none : i < length (drop (length fs) fs) = rw same at h in let e : length (drop (length fs) fs) ≡ length fs - length fs = length-drop (length fs) fs in omega arith
+
+-- what was asked stays listed, whether or not memory is found for one more
+pub listed_noted : {T E : Type 0} (fs asked now : List Fact) (f : Fact) (r : Result T E) → ((h : Fact) → list_any (fact_eq h) asked ≡ true → list_any (fact_eq h) fs ≡ true) → list_any (fact_eq f) fs ≡ true → OnOk r (now ≡ with_fact asked f) → OnErr r (now ≡ asked)
+    → (g : Fact) → list_any (fact_eq g) now ≡ true → list_any (fact_eq g) fs ≡ true
+listed_noted fs asked now f (Ok x) listed here ok err = λ g h. listed_more fs asked f g listed here (rw ok at h)
+listed_noted fs asked now f (Err e) listed here ok err = λ g h. listed g (rw err at h)

@@ -2,3 +2,5 @@ pub mod Answers
 pub mod Pairs
 pub mod Stops
 pub mod Inquiring
+pub mod Tables
+pub mod Oracles

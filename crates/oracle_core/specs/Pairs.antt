@@ -39,23 +39,25 @@ value_beside [] vs f = None
 value_beside (g ∷ gs) [] f = None
 value_beside (g ∷ gs) (v ∷ vs) f = if fact_eq f g then Some v else value_beside gs vs f
 
--- facts with their values, and those that were asked so far
-pub record Listing : Type 0 where
+-- facts, with the value of each at the same place
+pub record FactTable : Type 0 where
   pub facts : List Fact
   pub values : List ℤ
-  pub asked : List Fact
 
 -- the list begins with these
 pub record IsFront (front whole : List Fact) : Type 0 where
   pub rest : List Fact
   pub joined : front ++ rest ≡ whole
 
--- distinct facts and their values, of which an index holds the first
-pub record IsIndexed (facts : List Fact) (values : List ℤ) (index : List Fact) : Type 0 where
+-- distinct facts and their values, of which an index holds the first; once a fact was asked it is one of them, and the
+-- index holds all
+pub record IsIndexed (facts : List Fact) (values : List ℤ) (index asked : List Fact) : Type 0 where
   pub same : length facts ≡ length values
   pub distinct : IsTrue (are_distinct facts)
   pub known : AreFactValues values
   pub front : IsFront index facts
+  pub whole : (f : Fact) → list_any (fact_eq f) asked ≡ true → index ≡ facts
+  pub listed : (f : Fact) → list_any (fact_eq f) asked ≡ true → list_any (fact_eq f) facts ≡ true
 
 -- a fact stands beside one value
 pub one_value_beside : (facts : List Fact) (values : List ℤ) (f : Fact) (v w : ℤ) → value_beside facts values f ≡ Some v → value_beside facts values f ≡ Some w → v ≡ w

@@ -3,8 +3,8 @@ ghost use Rattle.std.specs.Prelude.{◌≡◌, ◌++◌, ℤ, [], ◌∷◌, Lis
 ghost use Rattle.book_model.specs.declared.fact.Fact.{Fact};
 ghost use Rattle.std.specs.List.{list_any};
 ghost use Rattle.book_model.specs.Inquiries.{fact_eq};
-ghost use Rattle.oracle_core.specs.Pairs.{StandsWith, AllStand, facts_of, one_truth};
-ghost use Rattle.oracle_core.specs.Stops.{MayStopAsking};
+ghost use Rattle.oracle_core.specs.Oracles.{by_evaluator, one_by_evaluator};
+ghost use Rattle.oracle_core.specs.Pairs.{StandsWith, AllStand, facts_of};
 
 use crate::noted::Noted;
 use crate::{Answer, Evaluator, FactList, FactValues, Oracle, Stop};
@@ -75,15 +75,13 @@ impl<'a, E: Evaluator> Asking<'a, E> {
 }
 
 impl<'a, E: Evaluator> Oracle for Asking<'a, E> {
-    ghost value_of = { λ a. StandsWith };
+    ghost Known = { Unit {0} };
 
-    ghost asked = { λ a. facts_of a };
+    ghost meaning = { by_evaluator };
 
-    ghost kept_as = { λ a f. f };
+    ghost state = { λ a. record { known = tt; asked = facts_of a } };
 
-    ghost may_stop = { λ a. MayStopAsking };
-
-    ghost one_value = { λ a. one_truth };
+    ghost one_value = { one_by_evaluator };
 
     fn ask(&mut self, fact: Fact) -> Result<i64, Stop> {
         match self.asked.place(fact) {

@@ -4,6 +4,7 @@
 
 mod asking;
 mod evaluator;
+pub mod laws;
 mod listed;
 mod lists;
 mod noted;

@@ -1,7 +1,8 @@
 //! An oracle that looks facts up in a list.
-ghost use Rattle.std.specs.Prelude.{◌≡◌, ℤ, [], List, length, Some, IsTrue, OnOk};
-ghost use Rattle.oracle_core.specs.Pairs.{Listing, IsFront, IsIndexed, AreFactValues, are_distinct, value_beside, one_value_beside};
-ghost use Rattle.oracle_core.specs.Stops.{MayStopListed};
+ghost use Rattle.std.specs.Prelude.{◌≡◌, ◌≢◌, [], length, IsTrue, OnOk, OnErr};
+ghost use Rattle.oracle_core.specs.Inquiring.{State};
+ghost use Rattle.oracle_core.specs.Oracles.{by_table, one_by_table};
+ghost use Rattle.oracle_core.specs.Pairs.{FactTable, IsFront, IsIndexed, AreFactValues, are_distinct};
 
 use crate::noted::Noted;
 use crate::{FactList, Oracle, Stop};
@@ -10,12 +11,14 @@ use indexmap::IndexSet;
 use std::alloc::{AllocFailed, Global};
 use std::marker::Model;
 
-/// Adds to the index the facts that aren't there yet. Where memory runs out it holds the first of them.
+/// Adds to the index the facts that aren't there yet. Where memory runs out it holds the first of them; none is wanted
+/// where it holds all.
 fn index_facts(places: &mut IndexSet<Fact>, facts: &[Fact]) -> Result<(), AllocFailed<Fact>>
     requires distinct { IsTrue (are_distinct facts.now) }
     requires front { IsFront places.old.keys facts.now }
     ensures front { IsFront places.new.keys facts.now }
     ensures all { OnOk result (places.new.keys ≡ facts.now) }
+    ensures short { OnErr result (places.old.keys ≢ facts.now) }
 {
     for fact in &facts[places.len()..] {
         places.insert(*fact)?;
@@ -34,11 +37,11 @@ pub struct Listed<'a> {
 }
 
 impl<'a> Model for Listed<'a> {
-    ghost Value = { Listing };
+    ghost Value = { State FactTable };
 
-    ghost view = { λ l. record { facts = l.facts.now; values = l.values.now; asked = l.asked } };
+    ghost view = { λ l. record { known = record { facts = l.facts.now; values = l.values.now }; asked = l.asked } };
 
-    ghost invariant = { λ l. IsIndexed l.facts.now l.values.now l.places.keys };
+    ghost invariant = { λ l. IsIndexed l.facts.now l.values.now l.places.keys l.asked };
 }
 
 impl<'a> Listed<'a> {
@@ -47,8 +50,8 @@ impl<'a> Listed<'a> {
         requires same { length facts.now ≡ length values.now }
         requires distinct { IsTrue (are_distinct facts.now) }
         requires known { AreFactValues values.now }
-        ensures facts { result.facts ≡ facts.now }
-        ensures values { result.values ≡ values.now }
+        ensures facts { result.known.facts ≡ facts.now }
+        ensures values { result.known.values ≡ values.now }
         ensures asked { result.asked ≡ [] }
     {
         Listed {
@@ -68,15 +71,13 @@ impl<'a> Listed<'a> {
 }
 
 impl<'a> Oracle for Listed<'a> {
-    ghost value_of = { λ l f v. value_beside l.facts l.values f ≡ Some v };
+    ghost Known = { FactTable };
 
-    ghost asked = { λ l. l.asked };
+    ghost meaning = { by_table };
 
-    ghost kept_as = { λ l f. f };
+    ghost state = { λ l. l };
 
-    ghost may_stop = { λ l. MayStopListed l.facts };
-
-    ghost one_value = { λ l. one_value_beside l.facts l.values };
+    ghost one_value = { one_by_table };
 
     fn ask(&mut self, fact: Fact) -> Result<i64, Stop> {
         index_facts(&mut self.places, self.facts)?;

@@ -1,7 +1,7 @@
 //! The facts asked so far, with quick look-ups.
-ghost use Rattle.std.specs.Prelude.{◌≡◌, [], List, OnOk, OnErr, IfSome};
+ghost use Rattle.std.specs.Prelude.{◌≡◌, [], List, false, OnOk, OnErr};
 ghost use Rattle.book_model.specs.declared.fact.Fact.{Fact};
-ghost use Rattle.std.specs.List.{position};
+ghost use Rattle.std.specs.List.{list_any, position};
 ghost use Rattle.book_model.specs.Inquiries.{fact_eq, with_fact};
 
 use crate::FactList;
@@ -50,10 +50,12 @@ impl Noted {
         self.places.get_index_of(&fact)
     }
 
-    /// Adds the fact at the end, unless it is there. Where memory runs out the facts stay as they were.
+    /// Adds the fact at the end, unless it is there. Where memory runs out the facts stay as they were; none is wanted
+    /// where the fact is there.
     pub(crate) fn note(&mut self, fact: Fact) -> Result<(), AllocError>
         ensures ok { OnOk result (self.new ≡ with_fact self.old fact) }
         ensures err { OnErr result (self.new ≡ self.old) }
+        ensures new { OnErr result (list_any (fact_eq fact) self.old ≡ false) }
     {
         if self.places.contains(&fact) {
             return Ok(());

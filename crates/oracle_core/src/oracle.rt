@@ -1,7 +1,7 @@
 //! Answers facts, and keeps the list of those that it was asked.
-ghost use Rattle.std.specs.Prelude.{◌≡◌, ◌↔◌, ◌≤ℤ◌, ℤ, pos, negsuc, List, IfOk, IfErr, OnOk, OnErr};
+ghost use Rattle.std.specs.Prelude.{◌≡◌, ◌≤ℤ◌, ℤ, pos, negsuc, IfOk};
 ghost use Rattle.book_model.specs.declared.fact.Fact.{Fact};
-ghost use Rattle.book_model.specs.Inquiries.{with_fact};
+ghost use Rattle.book_model.specs.Inquiries.{ask_once};
 ghost use Rattle.oracle_core.specs.declared.oracle.Stop.TheVariants.{Memory as memory_stop};
 
 use book_model::{Fact, Site, Undecided};
@@ -34,35 +34,25 @@ impl<T: Drop> From<AllocFailed<T>> for Stop {
 
 /// Answers facts. Each fact is kept under a fact, mostly itself, and has at most one value.
 pub trait Oracle {
-    ghost use Rattle.oracle_core.specs.declared.oracle.Stop.{Stop};
-    ghost use Rattle.oracle_core.specs.Stops.{IsStopAt};
+    ghost use Rattle.oracle_core.specs.Inquiring.{Meaning, State, Inquires};
 
-    /// The fact, as one that is kept, has the value.
-    ghost value_of: { Self → Fact → ℤ → Type 0 };
+    /// What the oracle knows, which never changes.
+    ghost Known: { Type 0 };
 
-    /// The facts under which the facts asked so far are kept, each once, in order of first use.
-    ghost asked: { Self → List Fact };
+    /// What that says of facts.
+    ghost meaning: { Meaning Self.Known };
 
-    /// The fact under which a fact is kept.
-    ghost kept_as: { Self → Fact → Fact };
-
-    /// The stop may be answered for a fact that is kept.
-    ghost may_stop: { Self → Fact → Stop → Type 0 };
+    /// What it knows, and the facts under which the facts asked so far are kept, each once, in order of first use.
+    ghost state: { Self → State Self.Known };
 
     /// The value of a fact, from -10,000,000 to 10,000,000. The fact under which it is kept is added at the end of the
     /// list of facts asked, unless it is there. A stop, of which each but want of memory names the fact under
-    /// which the fact is kept, leaves that list as it was.
+    /// which the fact is kept, leaves that list as it was; it never comes at a fact that is in the list.
     fn ask(&mut self, fact: Fact) -> Result<i64, Stop>
-        ensures value { IfOk result (λ v. value_of self.old (kept_as self.old fact) v) }
+        ensures asks { Inquires Self.meaning (ask_once fact) (Self.state self.old) (Self.state self.new) result }
         ensures low { IfOk result (λ v. negsuc 9999999 ≤ℤ v) }
-        ensures high { IfOk result (λ v. v ≤ℤ pos 10000000) }
-        ensures added { OnOk result (asked self.new ≡ with_fact (asked self.old) (kept_as self.old fact)) }
-        ensures unchanged { OnErr result (asked self.new ≡ asked self.old) }
-        ensures stop { IfErr result (λ s. IsStopAt (may_stop self.old) (kept_as self.old fact) s) }
-        ensures same_values { (f : Fact) (v : ℤ) → value_of self.old f v ↔ value_of self.new f v }
-        ensures same_keeping { (f : Fact) → kept_as self.old f ≡ kept_as self.new f }
-        ensures same_stops { (f : Fact) (s : Stop) → may_stop self.old f s ↔ may_stop self.new f s };
+        ensures high { IfOk result (λ v. v ≤ℤ pos 10000000) };
 
     /// A fact has at most one value.
-    ghost one_value: { (s : Self) (f : Fact) (v w : ℤ) → value_of s f v → value_of s f w → v ≡ w };
+    ghost one_value: { (k : Self.Known) (f : Fact) (v w : ℤ) → Self.meaning.value_of k f v → Self.meaning.value_of k f w → v ≡ w };
 }

@@ -56,5 +56,6 @@ fn listed_facts_have_their_values(rt: HostRuntime) -> Result<(), Fail> {
     assert_eq!(rt; listed.ask(fact), Ok(73_871));
     assert_eq!(rt; listed.ask(fact), Ok(73_871));
     assert_eq!(rt; listed.asked().len(), 1);
+    laws::tables::<i64, Listed>();
     Ok(())
 }

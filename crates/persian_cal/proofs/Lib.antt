@@ -1,3 +1,2 @@
 pub mod TropicalYears
-pub mod Asked
 pub mod YearDays

@@ -1,10 +1,8 @@
 //! Persian dates, and the facts that they are found by.
-ghost use Rattle.std.specs.Prelude.{◌≡◌, ◌↔◌, ◌≤◌, ◌≤ℤ◌, ◌+ℤ◌, ◌-ℤ◌, ℤ, pos, negsuc, IfOk, IfErr};
-ghost use Rattle.book_model.specs.declared.fact.Fact.{Fact};
+ghost use Rattle.std.specs.Prelude.{◌≡◌, ◌≤◌, ◌≤ℤ◌, ◌+ℤ◌, ◌-ℤ◌, pos, negsuc, IfOk};
 ghost use Rattle.book_model.specs.Inquiries.{to_8_bits as nearest};
 ghost use Rattle.book_model.specs.Persian.{nowruz_fact, day_within as day_within_year, days_before as days_of_months_before, year_begun as year_begun_on, date_in as date_of_number, persian_on, persian_day};
-ghost use Rattle.oracle_core.specs.Inquiring.{HasAnswer, StopsAt};
-ghost use Rattle.oracle_core.specs.declared.oracle.Stop.{Stop};
+ghost use Rattle.oracle_core.specs.Inquiring.{Inquires, map_ok};
 ghost use Rattle.persian_cal.specs.Dates.{fields_of_date};
 
 use crate::months::{days_before, month_of};
@@ -117,20 +115,15 @@ fn day_by(new_year: i64, month: i64, day: i64) -> i64
     new_year + days_before(month) + day - 1
 }
 
-/// The date of a day (R.D.): over each table that gives every fact the value that the oracle has for it, the year
-/// that begins nearest to the first day which is found for the day, with the month and the day of the month that
-/// follow from that year's own first day. A month that its type doesn't hold stands at the nearest end; year and day
-/// always fit. It stops where the oracle stops, at one of the two facts that are asked (Reingold and Dershowitz,
-/// Calendrical Calculations, chapter 15).
-#[tactic(auto, using(crate::proofs::Asked::date_stops))]
+/// The date of a day (R.D.): the year that begins nearest to the first day which the oracle has for the day, with the
+/// month and the day of the month that follow from that year's own first day. A month that its type doesn't hold stands
+/// at the nearest end; year and day always fit. It stops where the oracle stops, at one of the two facts that are
+/// asked (Reingold and Dershowitz, Calendrical Calculations, chapter 15).
+#[tactic(auto, using(oracle_core::proofs::Inquiring::asking), unfolding(book_model::specs::Persian::persian_on))]
 pub fn from_fixed<O: Oracle>(oracle: &mut O, day: i64) -> Result<PersianDate, Stop>
     requires from { pos 0 ≤ℤ day }
     requires to { day ≤ℤ pos 1000000 }
-    ensures answer { IfOk result (λ d. HasAnswer (O.value_of oracle.old) (O.kept_as oracle.old) (persian_on day) (O.asked oracle.old) (O.asked oracle.new) (fields_of_date d)) }
-    ensures stop { IfErr result (λ s. StopsAt (O.value_of oracle.old) (O.kept_as oracle.old) (O.may_stop oracle.old) (persian_on day) (O.asked oracle.old) (O.asked oracle.new) s) }
-    ensures same_values { (f : Fact) (v : ℤ) → O.value_of oracle.old f v ↔ O.value_of oracle.new f v }
-    ensures same_keeping { (f : Fact) → O.kept_as oracle.old f ≡ O.kept_as oracle.new f }
-    ensures same_stops { (f : Fact) (s : Stop) → O.may_stop oracle.old f s ↔ O.may_stop oracle.new f s }
+    ensures date { Inquires O.meaning (persian_on day) (O.state oracle.old) (O.state oracle.new) (map_ok fields_of_date result) }
 {
     let first = oracle.ask(nowruz_fact_on(day))?;
     let year = year_begun(first);
@@ -138,10 +131,10 @@ pub fn from_fixed<O: Oracle>(oracle: &mut O, day: i64) -> Result<PersianDate, St
     Ok(date_by(year, new_year, day))
 }
 
-/// The day (R.D.) of a date: over each table that gives every fact the value that the oracle has for it, the first
-/// day of the year, the days of the months before, and the day of the month. The date needn't be one that the
-/// calendar has. It stops where the oracle stops, at the fact of the year's first day (Reingold and Dershowitz,
-/// Calendrical Calculations, chapter 15).
+/// The day (R.D.) of a date: the first day of the year which the oracle has, the days of the months before, and the day
+/// of the month. The date needn't be one that the calendar has. It stops where the oracle stops, at the fact of the
+/// year's first day (Reingold and Dershowitz, Calendrical Calculations, chapter 15).
+#[tactic(auto, using(oracle_core::proofs::Inquiring::asking), unfolding(book_model::specs::Persian::persian_day))]
 pub fn to_fixed<O: Oracle>(oracle: &mut O, date: PersianDate) -> Result<i64, Stop>
     requires from_1180 { pos 1180 ≤ℤ date.year }
     requires to_1427 { date.year ≤ℤ pos 1427 }
@@ -149,13 +142,9 @@ pub fn to_fixed<O: Oracle>(oracle: &mut O, date: PersianDate) -> Result<i64, Sto
     requires to_last_month { date.month ≤ 12 }
     requires from_first_day { 1 ≤ date.day }
     requires to_last_day { date.day ≤ 31 }
-    ensures answer { IfOk result (λ d. HasAnswer (O.value_of oracle.old) (O.kept_as oracle.old) (persian_day date.year (pos date.month) (pos date.day)) (O.asked oracle.old) (O.asked oracle.new) d) }
+    ensures day { Inquires O.meaning (persian_day date.year (pos date.month) (pos date.day)) (O.state oracle.old) (O.state oracle.new) result }
     ensures near_low { IfOk result (λ d. negsuc 19999999 ≤ℤ d) }
     ensures near_high { IfOk result (λ d. d ≤ℤ pos 20000000) }
-    ensures stop { IfErr result (λ s. StopsAt (O.value_of oracle.old) (O.kept_as oracle.old) (O.may_stop oracle.old) (persian_day date.year (pos date.month) (pos date.day)) (O.asked oracle.old) (O.asked oracle.new) s) }
-    ensures same_values { (f : Fact) (v : ℤ) → O.value_of oracle.old f v ↔ O.value_of oracle.new f v }
-    ensures same_keeping { (f : Fact) → O.kept_as oracle.old f ≡ O.kept_as oracle.new f }
-    ensures same_stops { (f : Fact) (s : Stop) → O.may_stop oracle.old f s ↔ O.may_stop oracle.new f s }
 {
     let new_year = oracle.ask(new_year_fact(i64::from(date.year)))?;
     let day = day_by(new_year, i64::from(date.month), i64::from(date.day));

@@ -24,6 +24,13 @@ IsRightOf r (resolved x facts) = (n : ℕ) → 40 ≤ n → finding n (rule_of r
 IsRightOf r (undecided f u) = ((n : ℕ) → 40 ≤ n → AsksAt n (rule_of r) f) × IsNear f u
 IsRightOf r (void f s) = ((n : ℕ) → 40 ≤ n → AsksAt n (rule_of r) f) × IsVoidAt f s
 
+-- a stop that says nothing of a line
+abbrev pub HasNoOutcome : Stop → Type 0
+HasNoOutcome (undecided_stop f u) = ⊥
+HasNoOutcome (void_stop f s) = ⊥
+HasNoOutcome (missing_stop f) = Unit {0}
+HasNoOutcome memory_stop = Unit {0}
+
 -- an outcome is what comes of a stop, at an open test or a void
 abbrev pub ComesOfStop : Stop → LineOutcome → Type 0
 ComesOfStop (undecided_stop f u) o = o ≡ undecided f u

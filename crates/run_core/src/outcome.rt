@@ -1,9 +1,9 @@
 //! What comes of each line.
-ghost use Rattle.std.specs.Prelude.{◌≡◌, ℕ, List, map, IsTrue, IfOk};
+ghost use Rattle.std.specs.Prelude.{◌≡◌, ℕ, List, map, IsTrue, IfOk, OnErr};
 ghost use Rattle.book_model.specs.Outcomes.{IsRightFor, AreRight};
 ghost use Rattle.book_model.specs.Requests.{is_answered};
 ghost use Rattle.line_core.specs.Days.{names_day};
-ghost use Rattle.run_core.specs.Outcomes.{line_outcome, IsRightOf, ComesOfStop};
+ghost use Rattle.run_core.specs.Outcomes.{line_outcome, IsRightOf, ComesOfStop, HasNoOutcome};
 
 use book_model::{Fact, Request, Resolved, Rule, Site, Undecided};
 use line_core::{read_line, resolve};
@@ -21,9 +21,10 @@ pub enum Outcome {
 }
 
 /// What comes of a line whose facts are asked up to this stop of an oracle over an evaluator. The error comes where
-/// memory runs out; no fact is missing to such an oracle.
+/// memory ran out, and at a missing fact, of which such an oracle has none.
 fn outcome_at(stop: Stop) -> Result<Outcome, AllocError>
     ensures stopped { IfOk result (λ outcome. ComesOfStop stop (line_outcome outcome)) }
+    ensures error { OnErr result (HasNoOutcome stop) }
 {
     match stop {
         Stop::Undecided(fact, at) => Ok(Outcome::Undecided(fact, at)),

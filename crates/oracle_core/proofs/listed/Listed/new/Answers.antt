@@ -7,4 +7,6 @@ invariant_of-result c = record {
   distinct = c.requires.distinct;
   known = c.requires.known;
   front = rw c.new.ensures.empty (no_front c.args.facts.now);
+  whole = λ f h. cc (rw c.new-2.ensures.empty at h);
+  listed = λ f h. cc (rw c.new-2.ensures.empty at h);
 }
