@@ -17,3 +17,4 @@ pub mod OctantHulls
 pub mod DegreeSines
 pub mod Estimates
 pub mod NewYears
+pub mod WordTables

@@ -2,6 +2,7 @@
 //! `specs/` the definitions themselves: expressions, programs of tests, runs, facts, lines and texts.
 #![tactic(auto)]
 
+mod calendar;
 mod calendar_tables;
 mod fact;
 mod fail;
@@ -16,13 +17,15 @@ mod tables;
 #[cfg(test)]
 mod tests;
 mod time_tables;
+mod words;
 
+pub use calendar::{CALENDARS, Calendar, CalendarRow, FIRST_DAY, LAST_DAY};
 pub use calendar_tables::{PERSIAN_EPOCH, TROPICAL_YEAR};
 pub use fact::{Fact, KINDS, Kind, PLACES, Place};
 pub use fail::{Fail, Undecided};
 pub use frac::Frac;
 pub use polynomial::{Cubic, Quadratic, QuadraticWave, Wave};
-pub use request::{Fields, FromWord, Request, Resolved, Rule, ToWord};
+pub use request::{Fields, Request, Resolved, Rule};
 pub use site::{SITES, Site};
 pub use sun_tables::{
     ABERRATION, DEGREE_IN_DAYS, DEGREE_OF_YEAR, ECCENTRICITY, FIVE_QUARTERS, FOUR, MEAN_ABERRATION,
@@ -37,3 +40,4 @@ pub use time_tables::{
     BEIJING_HOURS, CORRECTION_1800, CORRECTION_1900, CORRECTION_ANCIENT, DAY_IN_CENTURIES,
     NOON_2000, SIDEREAL_TIME,
 };
+pub use words::{FROM_WORDS, FromWord, Shown, TO_WORDS, ToWord};

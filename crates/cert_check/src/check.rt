@@ -2,8 +2,7 @@
 ghost use Rattle.std.specs.Prelude.{◌≡◌, ◌≢◌, ◌<◌, ◌^◌, length, IsTrue, IfOk, OnErr, [], Ok};
 ghost use Rattle.book_model.specs.declared.fact.Fact.{Fact};
 ghost use Rattle.book_model.specs.LineRules.{rule_of};
-ghost use Rattle.book_model.specs.Requests.{is_answered, rule_number};
-ghost use Rattle.line_core.specs.Days.{names_day};
+ghost use Rattle.book_model.specs.Requests.{is_possible, is_in_reach};
 ghost use Rattle.oracle_core.specs.Pairs.{are_distinct, facts_of, AreFactValues};
 ghost use Rattle.oracle_core.specs.declared.oracle.Stop.TheVariants.{Missing as missing_stop};
 ghost use Rattle.cert_text.specs.Reading.{are_of_facts, listed as numbers_of};
@@ -14,24 +13,12 @@ ghost use Rattle.cert_check.specs.Verdicts as spec;
 use crate::compare::verdict_by_list;
 use crate::listed::{first_reason, listed_facts, listed_values};
 use crate::verdict::{Reason, Verdict};
-use book_model::{Fact, Request, Rule};
+use book_model::{Fact, Request};
 use cert_text::{CertFile, CertLine, Echo, decimal};
 use itoa::Buffer;
 use line_core::{read_line, resolve};
 use oracle_core::{Answers, Listed, Stop};
 use std::alloc::{AllocError, Global};
-
-/// The number of a rule.
-fn number_of(rule: Rule) -> u8
-    ensures number { result ≡ rule_number rule }
-{
-    match rule {
-        Rule::Syntax => 1,
-        Rule::Calendar => 2,
-        Rule::Field => 3,
-        Rule::Range => 4,
-    }
-}
 
 /// The words of a line with single spaces.
 #[tactic(auto, unfolding(crate::specs::Verdicts::words_of_echo))]
@@ -72,8 +59,8 @@ fn verdict_over(
     requires distinct { IsTrue (are_distinct facts.now) }
     requires known { AreFactValues values.now }
     requires few { length facts.now < 2 ^ 32 }
-    requires dated { IsTrue (names_day request.now.from request.now.date) }
-    requires in_reach { IsTrue (is_answered request.now.from request.now.date) }
+    requires possible { IsTrue (is_possible request.now) }
+    requires in_reach { IsTrue (is_in_reach request.now) }
     ensures verdict { IfOk result (λ v. v ≡ spec.verdict_on_trace facts.now (spec.trace_after facts.now values.now [] (rule_of request.now)) text.now) }
 {
     let mut oracle = Listed::new(alloc, facts, values);
@@ -96,8 +83,8 @@ fn verdict_for(
     requires known { AreFactValues (spec.values_of file.now.facts) }
     requires numbers { IsTrue (are_of_facts (length file.now.facts) [] numbers.now) }
     requires answered { length answers.now ≡ length file.now.facts }
-    requires dated { IsTrue (names_day request.now.from request.now.date) }
-    requires in_reach { IsTrue (is_answered request.now.from request.now.date) }
+    requires possible { IsTrue (is_possible request.now) }
+    requires in_reach { IsTrue (is_in_reach request.now) }
     ensures verdict { IfOk result (λ v. v ≡ spec.verdict_on_request (Ok request.now) (spec.first_unanswered file.now.facts answers.now numbers.now) (spec.numbered file.now.facts numbers.now) text.now) }
 {
     match first_reason(&file.facts, answers, numbers) {
@@ -128,7 +115,7 @@ fn verdict_of_words(
     let words = spaced(alloc, echo)?;
     match read_line(&words) {
         Ok(request) => verdict_for(alloc, file, answers, &request, text, numbers),
-        Err(rule) => Ok(Verdict::No(Reason::Form(number_of(rule)))),
+        Err(rule) => Ok(Verdict::No(Reason::Form(rule.number()))),
     }
 }
 

@@ -2,31 +2,18 @@
 ghost use Rattle.std.specs.Prelude.{◌≡◌, ◌≤◌, ◌+◌, ◌^◌, ◌∷◌, [], ℕ, length, IfOk, OnOk};
 ghost use Rattle.book_model.specs.Lines.{words_of};
 ghost use Rattle.book_model.specs.Outcomes.{IsRightFor, resolved as resolved_outcome};
-ghost use Rattle.book_model.specs.Requests.{rule_number};
 ghost use Rattle.book_model.specs.Text as model;
 ghost use Rattle.cert_text.specs.Text as cert;
 ghost use Rattle.run_core.specs.Outcomes.{line_outcome};
 
 use crate::numbering::{count_of, number_after, number_facts};
 use crate::outcome::Outcome;
-use book_model::{Fact, Resolved, Rule};
+use book_model::{Fact, Resolved};
 use cert_text::{Block, CertLine, Echo, Numbers, Word, date_word, result_word};
 use indexmap::IndexSet;
 use line_core::three_words;
 use oracle_core::FactValues;
 use std::alloc::{AllocError, Global};
-
-/// The number of a rule, from 1.
-fn number_of_rule(rule: Rule) -> u8
-    ensures number { result ≡ rule_number rule }
-{
-    match rule {
-        Rule::Syntax => 1,
-        Rule::Calendar => 2,
-        Rule::Field => 3,
-        Rule::Range => 4,
-    }
-}
 
 /// The block of a line that prints no facts.
 fn bare_block(alloc: Global, number: u32, line: CertLine) -> Block
@@ -125,7 +112,7 @@ pub(crate) fn block_of(
 {
     match outcome {
         Outcome::Refused(rule) => {
-            let line = CertLine::Refused(number_of_rule(*rule));
+            let line = CertLine::Refused(rule.number());
             Ok(bare_block(alloc, number, line))
         }
         Outcome::Found(resolved, facts) => {

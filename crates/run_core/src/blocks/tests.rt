@@ -47,7 +47,7 @@ fn other_blocks_have_no_facts(rt: HostRuntime) -> Result<(), Fail> {
     };
     let mut sink = MemorySink::new(alloc, 1000, Vec::new(alloc))?;
     for line in [
-        CertLine::Refused(number_of_rule(Rule::Range)),
+        CertLine::Refused(Rule::Range.number()),
         CertLine::Undecided { fact, at },
         CertLine::Void {
             fact,

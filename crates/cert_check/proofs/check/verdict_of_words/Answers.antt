@@ -16,4 +16,4 @@ unfolding verdict_on
 returns c =
     let words : c.deref.result.now ≡ words_of_echo c.args.echo.now = c.deref.ensures.value ∙ c.in_ok-words.ensures.words in
     let asked : Err c.in-Err.rule ≡ request_of (words_of_echo c.args.echo.now) = rw words at c.in-Err.ensures.request in
-    record { verdict = rw (← asked, c.number_of.ensures.number) }
+    record { verdict = rw (← asked, c.number.ensures.number) }
