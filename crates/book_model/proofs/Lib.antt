@@ -18,3 +18,4 @@ pub mod DegreeSines
 pub mod Estimates
 pub mod NewYears
 pub mod WordTables
+pub mod NameLemmas

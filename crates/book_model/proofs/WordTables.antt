@@ -1,6 +1,6 @@
 -- The words and the calendars stand in their tables, each where it belongs.
 use Rattle.std.proofs.Common.{◌≡◌, ◌≤◌, refl, lit≤, rules}
-use Rattle.std.specs.Prelude.{Some}
+use Rattle.std.specs.Prelude.{Some, IsTrue}
 use Rattle.book_model.specs.declared.calendar.Calendar.{Calendar}
 use Rattle.book_model.specs.declared.calendar.Calendar.TheVariants as calendars
 use Rattle.book_model.specs.declared.fact.Kind.{Kind}
@@ -12,7 +12,7 @@ use Rattle.book_model.specs.declared.words.FromWord.TheVariants as from
 use Rattle.book_model.specs.declared.words.ToWord.{ToWord}
 use Rattle.book_model.specs.declared.words.ToWord.TheVariants as to
 use Rattle.book_model.specs.Dates.{row_of}
-use Rattle.book_model.specs.Facts.{IsPlaceOf}
+use Rattle.book_model.specs.Names.{has_place}
 use Rattle.book_model.specs.Words.{from_word_of, to_word_of, text_of_from, text_of_to, shown_by}
 
 -- the word for a value is found as that value: the last line is checked for each value by itself
@@ -27,13 +27,13 @@ to_found _ = refl
 -- what a word shows that is no date is the value of facts that there are
 abbrev pub IsPlaced : Shown → Type 0
 IsPlaced (Date c) = Unit {0}
-IsPlaced (Value kind place) = IsPlaceOf kind place
+IsPlaced (Value kind place) = IsTrue (has_place kind place)
 
 shown_placed : (w : ToWord) → IsPlaced (shown_by w)
 shown_placed to.Gregorian = tt
 shown_placed _ = search rules
 
-pub value_placed : (w : ToWord) (kind : Kind) (place : Place) → shown_by w ≡ Value kind place → IsPlaceOf kind place
+pub value_placed : (w : ToWord) (kind : Kind) (place : Place) → shown_by w ≡ Value kind place → IsTrue (has_place kind place)
 value_placed w kind place e = rw e at (shown_placed w)
 
 -- the row of a calendar is its own

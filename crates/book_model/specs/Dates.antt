@@ -8,7 +8,7 @@ use Rattle.book_model.specs.contracts.calendar.Calendar.{the_type}
 use Rattle.book_model.specs.declared.calendar.Calendar.{Calendar}
 use Rattle.book_model.specs.declared.calendar.Calendar.TheVariants.{Gregorian, Fixed, Persian}
 use Rattle.book_model.specs.declared.calendar.CalendarRow.{CalendarRow}
-use Rattle.book_model.specs.declared.calendar.TheConstants.{CALENDARS, FIRST_DAY, LAST_DAY}
+use Rattle.book_model.specs.declared.calendar.TheConstants.{CALENDARS, FIRST_ANSWERED_DAY, LAST_ANSWERED_DAY}
 use Rattle.book_model.specs.declared.request.Fields.{Fields}
 use Rattle.book_model.specs.Calendar.{is_date, fixed_of, year_of_day, month_of_day, day_of_month}
 use Rattle.book_model.specs.Correction.{is_between}
@@ -62,7 +62,7 @@ has_year row f = is_between row.years.0 row.years.1 (year_number row f)
 
 -- the days that a line may name: 1 January 1802 to 31 December 2048
 abbrev pub is_in_range : ℤ → Bool
-is_in_range day = is_between FIRST_DAY LAST_DAY day
+is_in_range day = is_between FIRST_ANSWERED_DAY LAST_ANSWERED_DAY day
 
 -- the day of a Gregorian date, and that of a day number
 abbrev pub gregorian_day : Fields → ℤ

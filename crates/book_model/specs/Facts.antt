@@ -1,5 +1,5 @@
 -- The run of a fact, and when a fact is true, near or void.
-use Rattle.std.specs.Prelude.{◌≡◌, ℕ, ◌^◌, ◌≤◌, ◌⊎◌, if◌then◌else◌, ℤ, pos, negsuc, ◌-ℤ◌, ◌≤ℤ◌}
+use Rattle.std.specs.Prelude.{◌≡◌, ℕ, ◌^◌, ◌≤◌, ◌⊎◌, if◌then◌else◌, IsTrue, ℤ, pos, ◌-ℤ◌, ◌≤ℤ◌}
 use Rattle.exact_math.specs.Fraction.{◌≤F◌, ◌<F◌}
 use Rattle.exact_math.specs.Interval.{Interval, everything, between, ◌⊆◌}
 use Rattle.book_model.specs.declared.site.Site.{Site}
@@ -8,24 +8,31 @@ use Rattle.book_model.specs.declared.fact.Fact.{Fact}
 use Rattle.book_model.specs.declared.fact.Kind.{Kind}
 use Rattle.book_model.specs.declared.fact.Kind.TheVariants.{Dt, Sun, Nowruz}
 use Rattle.book_model.specs.declared.fact.Place.{Place}
-use Rattle.book_model.specs.declared.fact.Place.TheVariants.{None as Nowhere}
+use Rattle.book_model.specs.declared.fact.TheConstants.{FIRST_FACT_DAY, LAST_FACT_DAY, FIRST_DAY, LAST_DAY, LEAST_VALUE, GREATEST_VALUE}
 use Rattle.book_model.specs.declared.fail.Undecided.{Undecided}
 use Rattle.book_model.specs.Calendar.{year_of_day}
 use Rattle.book_model.specs.Correction.{is_between}
 use Rattle.book_model.specs.Expressions.{World}
 use Rattle.book_model.specs.Kinds.{dt_of, sun_in_thousandths_of, nowruz_of}
 use Rattle.book_model.specs.Leading.{at_56, AreNoBounds}
+use Rattle.book_model.specs.Names.{has_place}
 use Rattle.book_model.specs.Programs.{Grid, threshold, Program, void, Run, run, valued, void_at, outcome, MakesTest, Sides, one_side, two_sides}
 
--- the places of which a kind of fact is asked
-abbrev pub IsPlaceOf : Kind → Place → Type 0
-IsPlaceOf Dt place = place ≡ Nowhere
-IsPlaceOf Sun place = place ≡ Nowhere
-IsPlaceOf Nowruz place = place ≡ Nowhere
+-- a day of which a fact may be asked
+abbrev pub IsFactDay : ℤ → Type 0
+IsFactDay day = (FIRST_FACT_DAY ≤ℤ day) × (day ≤ℤ LAST_FACT_DAY)
+
+-- a day of which a fact may have a value
+abbrev pub IsValueDay : ℤ → Type 0
+IsValueDay day = (FIRST_DAY ≤ℤ day) × (day ≤ℤ LAST_DAY)
+
+-- a value that a fact may have
+abbrev pub IsFactValue : ℤ → Type 0
+IsFactValue value = (LEAST_VALUE ≤ℤ value) × (value ≤ℤ GREATEST_VALUE)
 
 -- a kind, a place and a day make a fact
 abbrev pub IsFact : Kind → Place → ℤ → Type 0
-IsFact kind place day = IsPlaceOf kind place × (negsuc 39999999 ≤ℤ day) × (day ≤ℤ pos 40000000)
+IsFact kind place day = IsTrue (has_place kind place) × IsFactDay day
 
 -- the formula of a kind of fact
 unfoldable pub formula_of : Kind → Place → ℤ → Program ℤ
@@ -35,7 +42,7 @@ formula_of Nowruz place d = nowruz_of d
 
 -- the formula of a fact; outside 1 July 1800 to 31 December 2049 it is void
 unfoldable pub program_of : Fact → Program ℤ
-program_of f = if is_between (pos 657253) (pos 748382) f.day then formula_of f.kind f.place f.day else void Year
+program_of f = if is_between FIRST_DAY LAST_DAY f.day then formula_of f.kind f.place f.day else void Year
 
 -- a depth alone: the formula of a fact has no arguments
 abbrev pub at_depth : ℕ → World

@@ -3,11 +3,8 @@ use Rattle.std.specs.Prelude.{◌≡◌, ℕ, ◌-◌, ◌^◌, ◌&&◌, ◌==�
 use Rattle.std.specs.Ordering.{int_eq}
 use Rattle.std.specs.List.{list_any}
 use Rattle.book_model.specs.declared.fact.Fact.{Fact}
-use Rattle.book_model.specs.declared.fact.Kind.TheVariants.{Dt, Sun, Nowruz}
-use Rattle.book_model.specs.declared.fact.Place.TheVariants.{None as Nowhere, Beijing, Cairo, Tehran, Ujjain}
-use Rattle.book_model.specs.declared.fact.Kind.{Kind}
-use Rattle.book_model.specs.declared.fact.Place.{Place}
 use Rattle.book_model.specs.Facts.{run_of}
+use Rattle.book_model.specs.Names.{kind_number, place_number}
 use Rattle.book_model.specs.Programs.{Outcome, valued, void_at, open_at, outcome}
 
 -- what is asked of a table of facts, one fact at a time
@@ -41,19 +38,6 @@ result_over table (ask f next) = result_over table (next (table f))
 abbrev pub facts_over : {A : Type 0} → (Fact → ℤ) → Inquiry A → List Fact
 facts_over table (done a) = []
 facts_over table (ask f next) = f ∷ facts_over table (next (table f))
-
--- the number of a kind of fact, and that of a place
-abbrev pub kind_number : Kind → ℕ
-kind_number Dt = 1
-kind_number Sun = 2
-kind_number Nowruz = 3
-
-abbrev pub place_number : Place → ℕ
-place_number Nowhere = 0
-place_number Beijing = 1
-place_number Cairo = 2
-place_number Tehran = 3
-place_number Ujjain = 4
 
 -- whether two facts are one
 abbrev pub fact_eq : Fact → Fact → Bool

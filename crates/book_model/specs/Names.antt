@@ -1,70 +1,63 @@
--- The numbers and the printed names of sites, kinds of facts and places.
-use Rattle.std.specs.Prelude.{ℕ, List, codes}
-use Rattle.book_model.specs.declared.site.Site.{Site}
-use Rattle.book_model.specs.declared.site.Site.TheVariants.{Year, Zone, SunWrap, MoonWrap, PhaseWrap, PhasePick, MoonNumber, MoonWalk, StepWrap, StartFloor, DayTest, DayFloor, TermFloor, Search, BisectEnd, Bisect, Offset, Settle, Round, Crescent, Sidereal}
+-- The numbers and the printed names of sites, kinds of facts and places, and the places of a kind, by their tables.
+use Rattle.std.specs.Prelude.{ℕ, ◌+◌, ◌==◌, nat_eq, Bool, List, [], ◌∷◌, Option, Some, None, if◌then◌else◌, map, slice_get}
+use Rattle.std.specs.List.{list_any}
+use Rattle.std.specs.Option.{option_map_or}
+use lib.Pointwise.{pointwise}
+use denote.Enum.Declared.{tag_of}
+use Rattle.book_model.specs.contracts.fact.Kind.{the_type as kind_type}
+use Rattle.book_model.specs.contracts.fact.Place.{the_type as place_type}
+use Rattle.book_model.specs.contracts.site.Site.{the_type as site_type}
 use Rattle.book_model.specs.declared.fact.Kind.{Kind}
-use Rattle.book_model.specs.declared.fact.Kind.TheVariants.{Dt, Sun, Nowruz}
 use Rattle.book_model.specs.declared.fact.Place.{Place}
-use Rattle.book_model.specs.declared.fact.Place.TheVariants.{None as Nowhere, Beijing, Cairo, Tehran, Ujjain}
+use Rattle.book_model.specs.declared.fact.TheConstants.{KINDS, PLACES}
+use Rattle.book_model.specs.declared.site.Site.{Site}
+use Rattle.book_model.specs.declared.site.TheConstants.{SITES}
+
+-- the number of a kind of fact, from 0: its place among the kinds, and that of its row
+abbrev pub kind_number : Kind → ℕ
+kind_number kind = tag_of kind_type kind
+
+-- the number of a place, from 0
+abbrev pub place_number : Place → ℕ
+place_number place = tag_of place_type place
 
 -- the number of a site, from 1
 abbrev pub site_number : Site → ℕ
-site_number Year = 1
-site_number Zone = 2
-site_number SunWrap = 3
-site_number MoonWrap = 4
-site_number PhaseWrap = 5
-site_number PhasePick = 6
-site_number MoonNumber = 7
-site_number MoonWalk = 8
-site_number StepWrap = 9
-site_number StartFloor = 10
-site_number DayTest = 11
-site_number DayFloor = 12
-site_number TermFloor = 13
-site_number Search = 14
-site_number BisectEnd = 15
-site_number Bisect = 16
-site_number Offset = 17
-site_number Settle = 18
-site_number Round = 19
-site_number Crescent = 20
-site_number Sidereal = 21
-
--- the word for a site
-abbrev pub site_name : Site → List ℕ
-site_name Year = codes "year"
-site_name Zone = codes "zone"
-site_name SunWrap = codes "sun-wrap"
-site_name MoonWrap = codes "moon-wrap"
-site_name PhaseWrap = codes "phase-wrap"
-site_name PhasePick = codes "phase-pick"
-site_name MoonNumber = codes "moon-number"
-site_name MoonWalk = codes "moon-walk"
-site_name StepWrap = codes "step-wrap"
-site_name StartFloor = codes "start-floor"
-site_name DayTest = codes "day-test"
-site_name DayFloor = codes "day-floor"
-site_name TermFloor = codes "term-floor"
-site_name Search = codes "search"
-site_name BisectEnd = codes "bisect-end"
-site_name Bisect = codes "bisect"
-site_name Offset = codes "offset"
-site_name Settle = codes "settle"
-site_name Round = codes "round"
-site_name Crescent = codes "crescent"
-site_name Sidereal = codes "sidereal"
+site_number site = tag_of site_type site + 1
 
 -- the word for a kind of fact
-abbrev pub kind_name : Kind → List ℕ
-kind_name Dt = codes "dt"
-kind_name Sun = codes "sun"
-kind_name Nowruz = codes "nowruz"
+unfoldable pub kind_name : Kind → List ℕ
+kind_name kind = option_map_or (λ row. row.1.now) (slice_get KINDS (kind_number kind)) []
+
+-- the places of which a kind of fact is asked
+abbrev pub places_of : Kind → List Place
+places_of kind = option_map_or (λ row. row.2.now) (slice_get KINDS (kind_number kind)) []
+
+-- whether a place is one of a kind's places
+abbrev pub has_place : Kind → Place → Bool
+has_place kind place = list_any (λ p. place_number p == place_number place) (places_of kind)
 
 -- the word for a place, a dash for none
-abbrev pub place_name : Place → List ℕ
-place_name Nowhere = codes "-"
-place_name Beijing = codes "beijing"
-place_name Cairo = codes "cairo"
-place_name Tehran = codes "tehran"
-place_name Ujjain = codes "ujjain"
+unfoldable pub place_name : Place → List ℕ
+place_name place = option_map_or (λ row. row.1.now) (slice_get PLACES (place_number place)) []
+
+-- the word for a site
+unfoldable pub site_name : Site → List ℕ
+site_name site = option_map_or (λ row. row.1.now) (slice_get SITES (tag_of site_type site)) []
+
+-- the first that has this name
+abbrev pub first_named : {A : Type 0} → List (A × List ℕ) → List ℕ → Option A
+first_named [] word = None
+first_named (row ∷ rows) word = if pointwise nat_eq word row.1 then Some row.0 else first_named rows word
+
+-- the kind that a word is the name of
+unfoldable pub kind_named : List ℕ → Option Kind
+kind_named word = first_named (map (λ row. (row.0, row.1.now)) KINDS) word
+
+-- the place that a word is the name of
+unfoldable pub place_named : List ℕ → Option Place
+place_named word = first_named (map (λ row. (row.0, row.1.now)) PLACES) word
+
+-- the site that a word is the name of
+unfoldable pub site_named : List ℕ → Option Site
+site_named word = first_named (map (λ row. (row.0, row.1.now)) SITES) word

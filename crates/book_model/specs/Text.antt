@@ -2,6 +2,7 @@
 use Rattle.std.specs.Prelude.{ℕ, ◌+◌, ◌-◌, replicate, if◌then◌else◌, List, [], ◌∷◌, ◌++◌, length, take, slice_index_or, codes, decimal, ℤ, pos}
 use Rattle.std.specs.Fmt.{signed_decimal}
 use Rattle.std.specs.List.{concat, flat_map, list_any, position_or_len}
+use Rattle.book_model.specs.declared.header.TheConstants.{HEADER}
 use Rattle.book_model.specs.declared.site.Site.{Site}
 use Rattle.book_model.specs.declared.fact.Fact.{Fact}
 use Rattle.book_model.specs.declared.fail.Undecided.{Undecided}
@@ -21,12 +22,9 @@ use Rattle.book_model.specs.Dates.{row_of, field}
 use Rattle.book_model.specs.Requests.{rule_number}
 use Rattle.book_model.specs.Words.{shown_by}
 
+-- the first line
 abbrev pub header : List ℕ
-header = codes "calendrica 1 depth 40\n"
-
--- KIND PLACE DAY
-abbrev pub fact_words : Fact → List (List ℕ)
-fact_words f = kind_name f.kind ∷ codes " " ∷ place_name f.place ∷ codes " " ∷ signed_decimal f.day ∷ []
+header = HEADER.now ++ codes "\n"
 
 -- fact N KIND PLACE DAY VALUE
 unfoldable pub fact_text : ℕ → Fact → ℤ → List ℕ
@@ -69,45 +67,62 @@ text_shown (Value kind place) fields = signed_decimal (first_value fields)
 abbrev pub shown_as : ToWord → Fields → List ℕ
 shown_as to fields = text_shown (shown_by to) fields
 
+-- refused 4 DAY
+unfoldable pub too_far_text : ℤ → List ℕ
+too_far_text day = codes "refused 4 " ++ signed_decimal day
+
+-- refused 5 BACK
+unfoldable pub no_date_text : List ℕ → List ℕ
+no_date_text back = codes "refused 5 " ++ back
+
 -- the text of a result, or of why there is none
 abbrev pub result_text : Resolved → List ℕ
 result_text (Shown to fields) = shown_as to fields
-result_text (TooFar day) = codes "refused 4 " ++ signed_decimal day
-result_text (NoDate back) = codes "refused 5 " ++ dashed_text back
+result_text (TooFar day) = too_far_text day
+result_text (NoDate back) = no_date_text (dashed_text back)
 
--- the three words of a line, with single spaces
-abbrev pub echo_of : List ℕ → List ℕ
-echo_of line = concat (echo_words (words_of line))
-  where
-    echo_words : List (List ℕ) → List (List ℕ)
-    echo_words [] = []
-    echo_words (w ∷ ws) = codes " " ∷ w ∷ echo_words ws
+-- words, each with a space after it
+abbrev pub spaced_words : List (List ℕ) → List (List ℕ)
+spaced_words [] = []
+spaced_words (w ∷ ws) = w ∷ codes " " ∷ spaced_words ws
 
--- line N FROM DATE TO RESULT facts
-unfoldable pub head_text : ℕ → List ℕ → List ℕ → List ℕ
-head_text number line result = concat (codes "line " ∷ decimal number ∷ echo_of line ∷ codes " " ∷ result ∷ codes " facts" ∷ [])
+-- line N FROM DATE TO, and a space, by the three words
+unfoldable pub echo_text : ℕ → List (List ℕ) → List ℕ
+echo_text number words = concat (codes "line " ∷ decimal number ∷ codes " " ∷ spaced_words words)
 
 abbrev pub number_text : ℕ → List ℕ
 number_text n = codes " " ++ decimal n
 
--- line N FROM DATE TO RESULT facts A B ..
-abbrev pub resolved_text : ℕ → List ℕ → List ℕ → List ℕ → List ℕ
-resolved_text number line result numbers = head_text number line result ++ flat_map number_text numbers ++ codes "\n"
+-- facts A B .., at the end of a line
+unfoldable pub facts_text : List ℕ → List ℕ
+facts_text numbers = codes " facts" ++ (flat_map number_text numbers ++ codes "\n")
+
+-- line N FROM DATE TO, what it shows, and facts A B ..
+abbrev pub listed_text : ℕ → List (List ℕ) → List ℕ → List ℕ → List ℕ
+listed_text number words shown numbers = echo_text number words ++ (shown ++ facts_text numbers)
 
 -- line N refused R
 unfoldable pub refused_text : ℕ → ℕ → List ℕ
 refused_text number rule = concat (codes "line " ∷ decimal number ∷ codes " refused " ∷ decimal rule ∷ codes "\n" ∷ [])
 
--- line N undecided SITE TURN LO HI fact KIND PLACE DAY
-unfoldable pub undecided_text : ℕ → Fact → Undecided → List ℕ
-undecided_text number f u =
-    concat (codes "line " ∷ decimal number ∷ codes " undecided " ∷ site_name u.site ∷ codes " " ∷ decimal u.turn ∷ codes " " ∷ signed_decimal u.lo ∷ codes " " ∷ signed_decimal u.hi
+-- N undecided SITE TURN LO HI fact KIND PLACE DAY
+unfoldable pub open_text : ℕ → Fact → Undecided → List ℕ
+open_text number f u =
+    concat (decimal number ∷ codes " undecided " ∷ site_name u.site ∷ codes " " ∷ decimal u.turn ∷ codes " " ∷ signed_decimal u.lo ∷ codes " " ∷ signed_decimal u.hi
     ∷ codes " fact " ∷ kind_name f.kind ∷ codes " " ∷ place_name f.place ∷ codes " " ∷ signed_decimal f.day ∷ codes "\n" ∷ [])
 
--- line N void SITE fact KIND PLACE DAY
-unfoldable pub void_text : ℕ → Fact → Site → List ℕ
-void_text number f s =
-    concat (codes "line " ∷ decimal number ∷ codes " void " ∷ site_name s ∷ codes " fact " ∷ kind_name f.kind ∷ codes " " ∷ place_name f.place ∷ codes " " ∷ signed_decimal f.day ∷ codes "\n" ∷ [])
+-- N void SITE fact KIND PLACE DAY
+unfoldable pub empty_text : ℕ → Fact → Site → List ℕ
+empty_text number f s =
+    concat (decimal number ∷ codes " void " ∷ site_name s ∷ codes " fact " ∷ kind_name f.kind ∷ codes " " ∷ place_name f.place ∷ codes " " ∷ signed_decimal f.day ∷ codes "\n" ∷ [])
+
+-- HEAD N undecided SITE TURN LO HI fact KIND PLACE DAY: the head is `line`, or `no` in a verdict
+abbrev pub undecided_text : List ℕ → ℕ → Fact → Undecided → List ℕ
+undecided_text head number f u = head ++ open_text number f u
+
+-- HEAD N void SITE fact KIND PLACE DAY
+abbrev pub void_text : List ℕ → ℕ → Fact → Site → List ℕ
+void_text head number f s = head ++ empty_text number f s
 
 -- end lines L facts F
 unfoldable pub end_text : ℕ → ℕ → List ℕ
@@ -138,9 +153,9 @@ seen_after seen (void f s) = seen
 -- what stands for one line: its new facts, and then the line
 abbrev pub block_text : List Fact → ℕ → List ℕ → LineOutcome → List ℕ
 block_text seen number line (refused rule) = refused_text number (rule_number rule)
-block_text seen number line (resolved x facts) = new_facts_text seen facts ++ resolved_text number line (result_text x) (numbers_of seen facts)
-block_text seen number line (undecided f u) = undecided_text number f u
-block_text seen number line (void f s) = void_text number f s
+block_text seen number line (resolved x facts) = new_facts_text seen facts ++ listed_text number (words_of line) (result_text x) (numbers_of seen facts)
+block_text seen number line (undecided f u) = undecided_text (codes "line ") number f u
+block_text seen number line (void f s) = void_text (codes "line ") number f s
 
 -- after this many lines with these facts: the other lines, and the end
 abbrev pub text_from : List Fact → ℕ → List (List ℕ) → List LineOutcome → List ℕ

@@ -3,10 +3,10 @@
 ghost use Rattle.std.specs.Prelude.{◌≡◌};
 
 /// The first day that a line may name: 1 January 1802 (R.D.).
-pub const FIRST_DAY: i64 = 657_802;
+pub const FIRST_ANSWERED_DAY: i64 = 657_802;
 
 /// The last day that a line may name: 31 December 2048 (R.D.).
-pub const LAST_DAY: i64 = 748_017;
+pub const LAST_ANSWERED_DAY: i64 = 748_017;
 
 /// A calendar of dates: the Gregorian calendar, the day number of the book (R.D.), or the Persian calendar.
 #[derive(Clone, Copy, Debug, PartialEq, Eq)]

@@ -1,5 +1,8 @@
 //! Astronomical facts: a kind, a place and a day, to which the model gives one value.
-ghost use Rattle.std.specs.Prelude.{◌≡◌, ◌↔◌, ℤ, pos, negsuc, ◌≤ℤ◌, IfSome, IsSome, IsTrue};
+ghost use Rattle.std.specs.Prelude.{◌≡◌, ◌↔◌, ◌<◌, ℤ, ◌≤ℤ◌, length, map, IfSome, IsSome};
+ghost use Rattle.book_model.specs.declared.fact.TheConstants.{KINDS, PLACES};
+
+use crate::names::{first_named, first_row_named};
 
 /// A kind of astronomical fact.
 #[derive(Clone, Copy, Debug, PartialEq, Eq, Hash)]
@@ -27,59 +30,106 @@ pub struct Fact {
     pub(crate) day: i64,
 }
 
-/// All kinds of facts.
-pub const KINDS: [Kind; 3] = [Kind::Dt, Kind::Sun, Kind::Nowruz];
-
-/// All places.
-pub const PLACES: [Place; 5] = [
-    Place::None,
-    Place::Beijing,
-    Place::Cairo,
-    Place::Tehran,
-    Place::Ujjain,
+/// Each kind of fact with its printed name and the places that it is asked of, in the order of the variants.
+#[rattlefmt::skip]
+pub const KINDS: [(Kind, &str, &[Place]); 3] = [
+    (Kind::Dt, "dt", &[Place::None]),
+    (Kind::Sun, "sun", &[Place::None]),
+    (Kind::Nowruz, "nowruz", &[Place::None]),
 ];
 
-/// The greatest size of a fact's day.
-pub const FARTHEST_DAY: i64 = 40_000_000;
+/// Each place with its printed name, in the order of the variants.
+#[rattlefmt::skip]
+pub const PLACES: [(Place, &str); 5] = [
+    (Place::None, "-"),
+    (Place::Beijing, "beijing"),
+    (Place::Cairo, "cairo"),
+    (Place::Tehran, "tehran"),
+    (Place::Ujjain, "ujjain"),
+];
+
+/// The first and the last day of which a fact may be asked (R.D.).
+pub const FIRST_FACT_DAY: i64 = -40_000_000;
+
+pub const LAST_FACT_DAY: i64 = 40_000_000;
+
+/// The first and the last day of which a fact may have a value (R.D.): 1 July 1800 and 31 December 2049.
+pub const FIRST_DAY: i64 = 657_253;
+
+pub const LAST_DAY: i64 = 748_382;
+
+/// The least and the greatest value that a fact may have.
+pub const LEAST_VALUE: i64 = -10_000_000;
+
+pub const GREATEST_VALUE: i64 = 10_000_000;
 
 impl Kind {
-    ghost use Rattle.book_model.specs.Names.{kind_name};
+    ghost use Rattle.book_model.specs.Names.{kind_number, kind_name, kind_named, places_of, has_place};
+
+    /// The number of the kind, from 0: its place among the kinds.
+    pub fn number(self) -> usize
+        ensures number { result ≡ kind_number self }
+        ensures within { result < length KINDS }
+    {
+        self as usize
+    }
 
     /// The word for the kind in a printed line.
+    #[tactic(auto, unfolding(crate::specs::Names::kind_name))]
     pub fn name(self) -> &'static str
         ensures { result.now ≡ kind_name self }
     {
-        match self {
-            Kind::Dt => "dt",
-            Kind::Sun => "sun",
-            Kind::Nowruz => "nowruz",
-        }
+        KINDS[self.number()].1
+    }
+
+    /// The kind with this name, if there is one.
+    #[tactic(auto, unfolding(crate::specs::Names::kind_named))]
+    pub fn named(word: &[u8]) -> Option<Kind>
+        ensures { result ≡ kind_named word.now }
+    {
+        first_row_named(&KINDS, word)
+    }
+
+    /// The places that facts of this kind are asked of.
+    pub fn places(self) -> &'static [Place]
+        ensures { result.now ≡ places_of self }
+    {
+        KINDS[self.number()].2
     }
 
     /// Whether facts of this kind are asked of this place.
     pub fn has_place(self, place: Place) -> bool
-        ensures { IsTrue result ↔ (place ≡ Place.None) }
+        ensures { result ≡ has_place self place }
     {
-        match self {
-            Kind::Dt | Kind::Sun | Kind::Nowruz => place == Place::None,
-        }
+        self.places().iter().any(|p| *p == place)
     }
 }
 
 impl Place {
-    ghost use Rattle.book_model.specs.Names.{place_name};
+    ghost use Rattle.book_model.specs.Names.{place_number, place_name, place_named};
+
+    /// The number of the place, from 0: its place among the places.
+    pub fn number(self) -> usize
+        ensures number { result ≡ place_number self }
+        ensures within { result < length PLACES }
+    {
+        self as usize
+    }
 
     /// The word for the place in a printed line, a dash for none.
+    #[tactic(auto, unfolding(crate::specs::Names::place_name))]
     pub fn name(self) -> &'static str
         ensures { result.now ≡ place_name self }
     {
-        match self {
-            Place::None => "-",
-            Place::Beijing => "beijing",
-            Place::Cairo => "cairo",
-            Place::Tehran => "tehran",
-            Place::Ujjain => "ujjain",
-        }
+        PLACES[self.number()].1
+    }
+
+    /// The place with this name, if there is one.
+    #[tactic(auto, unfolding(crate::specs::Names::place_named))]
+    pub fn named(word: &[u8]) -> Option<Place>
+        ensures { result ≡ place_named word.now }
+    {
+        first_named(&PLACES, word)
     }
 }
 
@@ -94,7 +144,7 @@ impl Fact {
         ensures place { IfSome result (λ f. f.place ≡ place) }
         ensures day { IfSome result (λ f. f.day ≡ day) }
     {
-        if kind.has_place(place) && -FARTHEST_DAY <= day && day <= FARTHEST_DAY {
+        if kind.has_place(place) && FIRST_FACT_DAY <= day && day <= LAST_FACT_DAY {
             Some(Fact { kind, place, day })
         } else {
             None

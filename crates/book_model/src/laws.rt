@@ -10,9 +10,12 @@ ghost use Rattle.book_model.specs.Programs.{Grid, CellsCut};
 ghost use Rattle.book_model.specs.Noon.{StartsNear};
 ghost use Rattle.book_model.specs.Dates.{row_of};
 ghost use Rattle.book_model.specs.Words.{from_word_of, to_word_of, text_of_from, text_of_to, from_words, to_words, are_distinct_words, shown_by};
-ghost use Rattle.book_model.specs.Facts.{IsPlaceOf};
+ghost use Rattle.book_model.specs.Names.{has_place, kind_name, kind_named, place_name, place_named, site_name, site_named};
+ghost use Rattle.book_model.specs.declared.fact.Kind.{Kind};
+ghost use Rattle.book_model.specs.declared.fact.Place.{Place};
+ghost use Rattle.book_model.specs.declared.site.Site.{Site};
 
-use crate::{Calendar, FromWord, Kind, Place, Shown, ToWord};
+use crate::{Calendar, FromWord, Shown, ToWord};
 
 /// Nesting: at a greater depth, with narrower arguments, each expression's value lies within its value here, and
 /// each program makes the same tests as far as they are decided here, with the same answers.
@@ -64,9 +67,9 @@ pub fn starts()
 pub fn words()
     ensures from { (w : FromWord) → from_word_of (text_of_from w) ≡ Some w }
     ensures to { (w : ToWord) → to_word_of (text_of_to w) ≡ Some w }
-    ensures distinct_from { IsTrue (are_distinct_words (map (λ row. row.0) from_words)) }
-    ensures distinct_to { IsTrue (are_distinct_words (map (λ row. row.0) to_words)) }
-    ensures placed { (w : ToWord) (kind : Kind) (place : Place) → shown_by w ≡ Shown.Value kind place → IsPlaceOf kind place }
+    ensures distinct_from { IsTrue (are_distinct_words (map (λ row. row.1) from_words)) }
+    ensures distinct_to { IsTrue (are_distinct_words (map (λ row. row.1) to_words)) }
+    ensures placed { (w : ToWord) (kind : Kind) (place : Place) → shown_by w ≡ Shown.Value kind place → IsTrue (has_place kind place) }
 {}
 
 /// The row of a calendar is its own, and a date has at most five fields.
@@ -74,4 +77,12 @@ pub fn words()
 pub fn calendars()
     ensures own { (c : Calendar) → (row_of c).calendar ≡ c }
     ensures few { (c : Calendar) → (row_of c).count ≤ 5 }
+{}
+
+/// The name of each kind, place and site leads back to it.
+#[tactic(auto, using(crate::proofs::NameLemmas::kind_found, crate::proofs::NameLemmas::place_found, crate::proofs::NameLemmas::site_found))]
+pub fn names()
+    ensures kinds { (k : Kind) → kind_named (kind_name k) ≡ Some k }
+    ensures places { (p : Place) → place_named (place_name p) ≡ Some p }
+    ensures sites { (s : Site) → site_named (site_name s) ≡ Some s }
 {}

@@ -7,7 +7,9 @@ mod calendar_tables;
 mod fact;
 mod fail;
 mod frac;
+mod header;
 pub mod laws;
+mod names;
 pub mod plain;
 mod polynomial;
 mod request;
@@ -19,11 +21,15 @@ mod tests;
 mod time_tables;
 mod words;
 
-pub use calendar::{CALENDARS, Calendar, CalendarRow, FIRST_DAY, LAST_DAY};
+pub use calendar::{CALENDARS, Calendar, CalendarRow, FIRST_ANSWERED_DAY, LAST_ANSWERED_DAY};
 pub use calendar_tables::{PERSIAN_EPOCH, TROPICAL_YEAR};
-pub use fact::{Fact, KINDS, Kind, PLACES, Place};
+pub use fact::{
+    FIRST_DAY, FIRST_FACT_DAY, Fact, GREATEST_VALUE, KINDS, Kind, LAST_DAY, LAST_FACT_DAY,
+    LEAST_VALUE, PLACES, Place,
+};
 pub use fail::{Fail, Undecided};
 pub use frac::Frac;
+pub use header::HEADER;
 pub use polynomial::{Cubic, Quadratic, QuadraticWave, Wave};
 pub use request::{Fields, Request, Resolved, Rule};
 pub use site::{SITES, Site};

@@ -1,7 +1,5 @@
 //! What a line of input asks, and what it gets.
 
-ghost use Rattle.std.specs.Prelude.{◌≡◌, ◌<◌};
-
 use crate::{FromWord, ToWord};
 
 /// The fields of a date: the first `count` values, in the calendar's order; the values after them are 0.
@@ -12,6 +10,7 @@ pub struct Fields {
 }
 
 impl Fields {
+    ghost use Rattle.std.specs.Prelude.{◌≡◌, ◌<◌};
     ghost use Rattle.book_model.specs.Dates.{field as field_of};
 
     /// A field of the date, from 0, less its sign.
@@ -41,6 +40,7 @@ pub enum Rule {
 }
 
 impl Rule {
+    ghost use Rattle.std.specs.Prelude.{◌≡◌};
     ghost use Rattle.book_model.specs.Requests.{rule_number};
 
     /// The number of the rule, from 1.

@@ -2,6 +2,7 @@
 //! definitions read the tables too.
 ghost use Rattle.std.specs.Prelude.{◌≡◌};
 
+use crate::names::first_row_named;
 use crate::{Calendar, Kind, Place};
 
 /// A word for the calendar of a line's date: a Gregorian date, the day number of the book (R.D.), or a Persian date.
@@ -32,24 +33,31 @@ pub enum Shown {
 
 /// The words that stand before a date, in the order of their values, with the calendar of the date.
 #[rattlefmt::skip]
-pub const FROM_WORDS: [(&[u8], FromWord, Calendar); 3] = [
-    (b"gregorian", FromWord::Gregorian, Calendar::Gregorian),
-    (b"fixed", FromWord::Fixed, Calendar::Fixed),
-    (b"persian", FromWord::Persian, Calendar::Persian),
+pub const FROM_WORDS: [(FromWord, &str, Calendar); 3] = [
+    (FromWord::Gregorian, "gregorian", Calendar::Gregorian),
+    (FromWord::Fixed, "fixed", Calendar::Fixed),
+    (FromWord::Persian, "persian", Calendar::Persian),
 ];
 
 /// The words for what a line asks, in the order of their values, with what they show of a day.
 #[rattlefmt::skip]
-pub const TO_WORDS: [(&[u8], ToWord, Shown); 5] = [
-    (b"gregorian", ToWord::Gregorian, Shown::Date(Calendar::Gregorian)),
-    (b"fixed", ToWord::Fixed, Shown::Date(Calendar::Fixed)),
-    (b"persian", ToWord::Persian, Shown::Date(Calendar::Persian)),
-    (b"dt", ToWord::Dt, Shown::Value(Kind::Dt, Place::None)),
-    (b"sun", ToWord::Sun, Shown::Value(Kind::Sun, Place::None)),
+pub const TO_WORDS: [(ToWord, &str, Shown); 5] = [
+    (ToWord::Gregorian, "gregorian", Shown::Date(Calendar::Gregorian)),
+    (ToWord::Fixed, "fixed", Shown::Date(Calendar::Fixed)),
+    (ToWord::Persian, "persian", Shown::Date(Calendar::Persian)),
+    (ToWord::Dt, "dt", Shown::Value(Kind::Dt, Place::None)),
+    (ToWord::Sun, "sun", Shown::Value(Kind::Sun, Place::None)),
 ];
 
 impl FromWord {
-    ghost use Rattle.book_model.specs.Words.{calendar_of};
+    ghost use Rattle.book_model.specs.Words.{from_word_of, calendar_of};
+
+    /// What a word before a date stands for, if it is one.
+    pub fn named(word: &[u8]) -> Option<FromWord>
+        ensures word { result ≡ from_word_of word.now }
+    {
+        first_row_named(&FROM_WORDS, word)
+    }
 
     /// The calendar of the date that follows the word.
     pub fn calendar(self) -> Calendar
@@ -60,7 +68,14 @@ impl FromWord {
 }
 
 impl ToWord {
-    ghost use Rattle.book_model.specs.Words.{shown_by};
+    ghost use Rattle.book_model.specs.Words.{to_word_of, shown_by};
+
+    /// What a word after a date asks for, if it is one.
+    pub fn named(word: &[u8]) -> Option<ToWord>
+        ensures word { result ≡ to_word_of word.now }
+    {
+        first_row_named(&TO_WORDS, word)
+    }
 
     /// What the word shows of a day.
     pub fn shown(self) -> Shown

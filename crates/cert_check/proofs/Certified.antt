@@ -11,8 +11,9 @@ use Rattle.book_model.specs.declared.request.Request.{Request}
 use Rattle.book_model.specs.declared.request.Resolved.{Resolved}
 use Rattle.book_model.specs.declared.request.Rule.{Rule}
 use Rattle.book_model.specs.Facts.{run_of}
-use Rattle.book_model.specs.Inquiries.{Inquiry, done, ask, fact_eq, kind_number, place_number, with_fact, with_entry, found, finding_after}
+use Rattle.book_model.specs.Inquiries.{Inquiry, done, ask, fact_eq, with_fact, with_entry, found, finding_after}
 use Rattle.book_model.specs.LineRules.{rule_of}
+use Rattle.book_model.specs.Names.{kind_number, place_number}
 use Rattle.book_model.specs.Programs.{valued, outcome}
 use Rattle.book_model.specs.Requests.{request_of}
 use Rattle.book_model.specs.Text.{result_text}

@@ -119,7 +119,7 @@ equal_values v w e = grind (arith, ints, e)
 -- a right answer for a fact that stands and is near nowhere is its value
 no_reason : (n : ℕ) (e : Fact × ℤ) (a : Answer) → IsRightAnswer e.0 a → StandsWith e.0 e.1 → ((u : Undecided) → IsNear e.0 u → ⊥) → reason_of n e a ≡ None
 no_reason n e (answer.Value v) right stands clear =
-    let same : e.1 ≡ v = one_truth e.0 e.1 v stands (record { is_true = right.0; low = right.1; high = right.2 }) in
+    let same : e.1 ≡ v = one_truth e.0 e.1 v stands (record { is_true = right.0; low = right.1.0; high = right.1.1 }) in
     rw (equal_values e.1 v same) refl
 no_reason n e (answer.Undecided u) right stands clear = absurd (clear u right)
 no_reason n e (answer.Void s) right stands clear =

@@ -80,7 +80,7 @@ stands : (n : ℕ) (e : Fact × ℤ) (a : Answer) → IsRightAnswer e.0 a → re
 stands n e (answer.Value v) right none = step (int_eq e.1 v) refl none
   where
     step : (t : Bool) → int_eq e.1 v ≡ t → (if t then None else Some (Rattle.cert_check.specs.declared.verdict.Reason.TheVariants.Value n e.1 v)) ≡ None → StandsWith e.0 e.1
-    step true same none = rw (same_value e.1 v same) (record { is_true = right.0; low = right.1; high = right.2 })
+    step true same none = rw (same_value e.1 v same) (record { is_true = right.0; low = right.1.0; high = right.1.1 })
     step false same none = cc
 stands n e (answer.Undecided u) right none = cc
 stands n e (answer.Void s) right none = cc

@@ -2,12 +2,10 @@
 use Rattle.std.specs.Prelude.{ℕ, List, [], ◌∷◌, ◌++◌, codes, decimal, ℤ}
 use Rattle.std.specs.Fmt.{signed_decimal}
 use Rattle.std.specs.List.{concat}
-use Rattle.book_model.specs.declared.site.Site.{Site}
 use Rattle.book_model.specs.declared.fact.Fact.{Fact}
-use Rattle.book_model.specs.declared.fail.Undecided.{Undecided as OpenTest}
 use Rattle.book_model.specs.declared.request.Resolved.{Resolved}
-use Rattle.book_model.specs.Names.{site_name, kind_name, place_name}
-use Rattle.book_model.specs.Text.{result_text}
+use Rattle.book_model.specs.Names.{kind_name, place_name}
+use Rattle.book_model.specs.Text.{result_text, undecided_text, void_text}
 use Rattle.cert_check.specs.declared.verdict.Verdict.{Verdict}
 use Rattle.cert_check.specs.declared.verdict.Verdict.TheVariants.{Yes, No, Skip}
 use Rattle.cert_check.specs.declared.verdict.Reason.{Reason}
@@ -29,17 +27,6 @@ form_text number rule = concat (codes "no " ∷ decimal number ∷ codes " form 
 unfoldable pub value_text : ℕ → ℕ → ℤ → ℤ → List ℕ
 value_text number fact listed found = concat (codes "no " ∷ decimal number ∷ codes " value " ∷ decimal fact ∷ codes " " ∷ signed_decimal listed ∷ codes " " ∷ signed_decimal found ∷ codes "\n" ∷ [])
 
--- no N undecided SITE TURN LO HI fact KIND PLACE DAY
-unfoldable pub undecided_text : ℕ → Fact → OpenTest → List ℕ
-undecided_text number f u =
-    concat (codes "no " ∷ decimal number ∷ codes " undecided " ∷ site_name u.site ∷ codes " " ∷ decimal u.turn ∷ codes " " ∷ signed_decimal u.lo ∷ codes " " ∷ signed_decimal u.hi
-    ∷ codes " fact " ∷ kind_name f.kind ∷ codes " " ∷ place_name f.place ∷ codes " " ∷ signed_decimal f.day ∷ codes "\n" ∷ [])
-
--- no N void SITE fact KIND PLACE DAY
-unfoldable pub void_text : ℕ → Fact → Site → List ℕ
-void_text number f s =
-    concat (codes "no " ∷ decimal number ∷ codes " void " ∷ site_name s ∷ codes " fact " ∷ kind_name f.kind ∷ codes " " ∷ place_name f.place ∷ codes " " ∷ signed_decimal f.day ∷ codes "\n" ∷ [])
-
 -- no N missing KIND PLACE DAY
 unfoldable pub missing_text : ℕ → Fact → List ℕ
 missing_text number f = concat (codes "no " ∷ decimal number ∷ codes " missing " ∷ kind_name f.kind ∷ codes " " ∷ place_name f.place ∷ codes " " ∷ signed_decimal f.day ∷ codes "\n" ∷ [])
@@ -60,8 +47,8 @@ date_text number found = date_head_text number ++ (result_text found ++ codes "\
 abbrev pub reason_text : ℕ → Reason → List ℕ
 reason_text number (Form rule) = form_text number rule
 reason_text number (Value fact listed found) = value_text number fact listed found
-reason_text number (Undecided f u) = undecided_text number f u
-reason_text number (Void f s) = void_text number f s
+reason_text number (Undecided f u) = undecided_text (codes "no ") number f u
+reason_text number (Void f s) = void_text (codes "no ") number f s
 reason_text number (Missing f) = missing_text number f
 reason_text number (list_reason place) = list_text number place
 reason_text number (Date found) = date_text number found

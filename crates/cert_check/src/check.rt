@@ -120,7 +120,7 @@ fn verdict_of_words(
 }
 
 /// The text of a line whose computed day is out of range.
-#[tactic(auto, unfolding(cert_text::specs::Text::too_far_text))]
+#[tactic(auto, unfolding(book_model::specs::Text::too_far_text))]
 fn too_far(alloc: Global, day: i64) -> Result<Vec<u8>, AllocError>
     ensures text { IfOk result (λ v. v.items ≡ too_far_text day) }
 {
@@ -132,7 +132,7 @@ fn too_far(alloc: Global, day: i64) -> Result<Vec<u8>, AllocError>
 }
 
 /// The text of a line whose day has another date.
-#[tactic(auto, unfolding(cert_text::specs::Text::no_date_text))]
+#[tactic(auto, unfolding(book_model::specs::Text::no_date_text))]
 fn no_date(alloc: Global, back: &[u8]) -> Result<Vec<u8>, AllocError>
     ensures text { IfOk result (λ v. v.items ≡ no_date_text back.now) }
 {

@@ -6,8 +6,10 @@ ghost use Rattle.cert_text.specs.Stream.{HasCause, AppendsFront};
 ghost use Rattle.cert_check.specs.Text as spec;
 
 use crate::verdict::{Reason, Verdict};
-use book_model::{Fact, Resolved, Site, Undecided};
-use cert_text::{Failed, Sink, decimal, write_all, write_parts, write_result};
+use book_model::{Fact, Resolved};
+use cert_text::{
+    Failed, Sink, decimal, write_all, write_parts, write_result, write_undecided, write_void,
+};
 use itoa::Buffer;
 
 /// Writes that a line stands.
@@ -77,77 +79,6 @@ fn write_value<K: Sink>(
     )
 }
 
-/// Writes that a test of a listed fact is open.
-#[tactic(auto, unfolding(crate::specs::Text::undecided_text))]
-fn write_undecided<K: Sink>(
-    sink: &mut K,
-    number: u32,
-    fact: Fact,
-    at: Undecided,
-) -> Result<(), Failed>
-    ensures ok { OnOk result (Appends (K.written sink.old) (K.written sink.new) (spec.undecided_text number fact at)) }
-    ensures err { OnErr result (AppendsFront (K.written sink.old) (K.written sink.new) (spec.undecided_text number fact at)) }
-    ensures cause { HasCause (K.faults sink.old) (K.faults sink.new) result }
-{
-    let mut number_buffer = Buffer::new();
-    let mut turn_buffer = Buffer::new();
-    let mut low_buffer = Buffer::new();
-    let mut high_buffer = Buffer::new();
-    let mut day_buffer = Buffer::new();
-    let number = decimal(&mut number_buffer, number);
-    let site = at.site.name().as_bytes();
-    let turn = decimal(&mut turn_buffer, at.turn);
-    let low = decimal(&mut low_buffer, at.lo);
-    let high = decimal(&mut high_buffer, at.hi);
-    let kind = fact.kind().name().as_bytes();
-    let place = fact.place().name().as_bytes();
-    let day = decimal(&mut day_buffer, fact.day());
-    write_parts(
-        sink,
-        &[
-            b"no ",
-            number,
-            b" undecided ",
-            site,
-            b" ",
-            turn,
-            b" ",
-            low,
-            b" ",
-            high,
-            b" fact ",
-            kind,
-            b" ",
-            place,
-            b" ",
-            day,
-            b"\n",
-        ],
-    )
-}
-
-/// Writes that a listed fact has no value.
-#[tactic(auto, unfolding(crate::specs::Text::void_text))]
-fn write_void<K: Sink>(sink: &mut K, number: u32, fact: Fact, site: Site) -> Result<(), Failed>
-    ensures ok { OnOk result (Appends (K.written sink.old) (K.written sink.new) (spec.void_text number fact site)) }
-    ensures err { OnErr result (AppendsFront (K.written sink.old) (K.written sink.new) (spec.void_text number fact site)) }
-    ensures cause { HasCause (K.faults sink.old) (K.faults sink.new) result }
-{
-    let mut number_buffer = Buffer::new();
-    let mut day_buffer = Buffer::new();
-    let number = decimal(&mut number_buffer, number);
-    let site = site.name().as_bytes();
-    let kind = fact.kind().name().as_bytes();
-    let place = fact.place().name().as_bytes();
-    let day = decimal(&mut day_buffer, fact.day());
-    write_parts(
-        sink,
-        &[
-            b"no ", number, b" void ", site, b" fact ", kind, b" ", place, b" ", day, b"\n",
-        ],
-    )
-}
-
 /// Writes that a fact isn't listed.
 #[tactic(auto, unfolding(crate::specs::Text::missing_text))]
 fn write_missing<K: Sink>(sink: &mut K, number: u32, fact: Fact) -> Result<(), Failed>
@@ -204,6 +135,7 @@ fn write_date_head<K: Sink>(sink: &mut K, number: u32) -> Result<(), Failed>
 }
 
 /// Writes a result and the line's end.
+#[tactic(auto, using(cert_text::proofs::Flow::writing))]
 fn write_found<K: Sink>(sink: &mut K, found: Resolved) -> Result<(), Failed>
     ensures ok { OnOk result (Appends (K.written sink.old) (K.written sink.new) (result_text found ++ codes "\n")) }
     ensures err { OnErr result (AppendsFront (K.written sink.old) (K.written sink.new) (result_text found ++ codes "\n")) }
@@ -215,6 +147,7 @@ fn write_found<K: Sink>(sink: &mut K, found: Resolved) -> Result<(), Failed>
 }
 
 /// Writes that a result has another text.
+#[tactic(auto, using(cert_text::proofs::Flow::writing))]
 fn write_date<K: Sink>(sink: &mut K, number: u32, found: Resolved) -> Result<(), Failed>
     ensures ok { OnOk result (Appends (K.written sink.old) (K.written sink.new) (spec.date_text number found)) }
     ensures err { OnErr result (AppendsFront (K.written sink.old) (K.written sink.new) (spec.date_text number found)) }
@@ -238,8 +171,8 @@ fn write_reason<K: Sink>(sink: &mut K, number: u32, reason: &Reason) -> Result<(
             listed,
             found,
         } => write_value(sink, number, fact, listed, found),
-        Reason::Undecided(fact, at) => write_undecided(sink, number, fact, at),
-        Reason::Void(fact, site) => write_void(sink, number, fact, site),
+        Reason::Undecided(fact, at) => write_undecided(sink, b"no ", number, fact, at),
+        Reason::Void(fact, site) => write_void(sink, b"no ", number, fact, site),
         Reason::Missing(fact) => write_missing(sink, number, fact),
         Reason::List { place } => write_place(sink, number, place),
         Reason::Date { found } => write_date(sink, number, found),

@@ -4,7 +4,7 @@ use Rattle.std.proofs.lemmas.List.{drop_more}
 use Rattle.std.specs.Prelude.{Some, None, ◌&&◌, if◌then◌else◌}
 use Rattle.std.proofs.lemmas.Bool.Decides.{nat_tests}
 use Rattle.book_model.specs.Lines.{value_from}
-use Rattle.cert_text.specs.Numbers.{at_most}
+use Rattle.cert_text.specs.Digits.{at_most}
 
 above : (g n : ℕ) → g < n → at_most g (Some n) ≡ None
 above g n h = grind (arith, nat_tests)

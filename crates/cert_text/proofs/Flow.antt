@@ -159,3 +159,16 @@ wrote_part f a b c t xs i d h old new = wrote_on a b c t (f (get_or xs i d)) (fl
 pub wrote_part_front : {X : Type 0} (f : X → List ℕ) (a b c : Option (List ℕ)) (t : List ℕ) (xs : List X) (i : ℕ) (d : X) → i < length xs
     → Wrote a b t (flat_map f (drop i xs)) → AppendsFront b c (f (get_or xs i d)) → AppendsFront a c t
 wrote_part_front f a b c t xs i d h old new = wrote_front a b c t (f (get_or xs i d)) (flat_map f (drop (i + 1) xs)) (rw (drop_more xs i d h) at old) new
+
+-- a call failed at the first of two parts, at the second, or before any
+pub failed_first : {T E : Type 0} (r : Result T E) (a b : Option (List ℕ)) (p q : List ℕ) → AppendsFront a b p → OnErr r (AppendsFront a b (p ++ q))
+failed_first r a b p q k = at_any_err r (front_first a b p q k)
+
+pub failed_second : {T E : Type 0} (r : Result T E) (a b c : Option (List ℕ)) (p q : List ℕ) → Appends a b p → AppendsFront b c q → OnErr r (AppendsFront a c (p ++ q))
+failed_second r a b c p q h k = at_any_err r (front_second a b c p q h k)
+
+pub failed_before : {T E : Type 0} (r : Result T E) (a : Option (List ℕ)) (t : List ℕ) → OnErr r (AppendsFront a a t)
+failed_before r a t = at_any_err r (front_none a t)
+
+-- one text written after another, in full or up to a front
+pub ruleset writing = (appends_on, failed_first, failed_second, failed_before, front_none)

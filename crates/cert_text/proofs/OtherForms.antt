@@ -1,10 +1,11 @@
 -- A line that lists facts has none of the forms of other lines, whatever its words are.
 use Rattle.std.proofs.Common.{◌≡◌, ℕ, Bool, true, false, List, ◌∷◌, ◌⊎◌, inl, inr, refl}
 use Rattle.std.specs.Prelude.{codes, Some, None, Option, ◌&&◌, nat_le, if◌then◌else◌, option_and_then}
+use Rattle.book_model.specs.Names.{kind_named, place_named, site_named}
 use Rattle.cert_text.specs.declared.line.CertLine.TheVariants.{Refused}
 use Rattle.cert_text.specs.declared.form.Form.TheVariants as forms
-use Rattle.cert_text.specs.Numbers.{counter_of, integer_of, natural_of}
-use Rattle.cert_text.specs.Grammar.{is_word, refused_form, undecided_form, void_form, key_at, counter_at, site_at, kind_at, kind_in, kinds, place_at, site_in, sites, end_at, fact_at, test_at, last_fact_at}
+use Rattle.cert_text.specs.Digits.{counter_of, integer_of, natural_of}
+use Rattle.cert_text.specs.Grammar.{is_word, refused_form, undecided_form, void_form, key_at, counter_at, site_at, kind_at, place_at, end_at, fact_at, test_at, last_fact_at}
 
 -- nothing follows a test that fails, or after which nothing comes
 after_test : {A B : Type 0} (t : Bool) (x : A) (next : A → Option B) → next x ≡ None → option_and_then next (if t then Some x else None) ≡ None
@@ -29,11 +30,11 @@ end_part w ws = part_of (integer_of w) ws
 
 site_part : (w : List ℕ) (ws : List (List ℕ)) → IsPart (site_at (w ∷ ws)) ws
 unfolding site_at
-site_part w ws = part_of (site_in sites w) ws
+site_part w ws = part_of (site_named w) ws
 
 kind_part : (w : List ℕ) (ws : List (List ℕ)) → IsPart (kind_at (w ∷ ws)) ws
 unfolding kind_at
-kind_part w ws = part_of (kind_in kinds w) ws
+kind_part w ws = part_of (kind_named w) ws
 
 -- nothing follows a part after which nothing comes, whatever the part is
 after_part : {A B : Type 0} (part : Option (A × List (List ℕ))) (rest : List (List ℕ)) (next : A × List (List ℕ) → Option B) → IsPart part rest → ((x : A) → next (x, rest) ≡ None) → option_and_then next part ≡ None
@@ -71,7 +72,7 @@ unfolding end_at integer_of natural_of
 end_not_refused ws = refl
 
 place_not_facts : (ws : List (List ℕ)) → place_at (codes "facts" ∷ ws) ≡ None
-unfolding place_at
+unfolding place_at place_named
 place_not_facts ws = refl
 
 -- HI isn't `facts`
@@ -107,7 +108,7 @@ not_void number a b c d ws = after_key (codes "void") a (b ∷ c ∷ d ∷ codes
 
 -- KIND isn't `refused`
 fact_not_refused : (ws : List (List ℕ)) → fact_at (codes "refused" ∷ ws) ≡ None
-unfolding fact_at kind_at
+unfolding fact_at kind_at kind_named
 fact_not_refused ws = refl
 
 last_not_refused : (c : List ℕ) (ws : List (List ℕ)) → last_fact_at (c ∷ codes "refused" ∷ ws) ≡ None

@@ -8,7 +8,7 @@ use Rattle.book_model.specs.declared.fact.Fact.{Fact}
 use Rattle.book_model.specs.Correction.{is_between}
 use Rattle.book_model.specs.Inquiries.{fact_eq}
 use Rattle.book_model.specs.Lines.{lines_of, words_of}
-use Rattle.oracle_core.specs.Answers.{IsFactValue}
+use Rattle.book_model.specs.Facts.{IsFactValue}
 use Rattle.oracle_core.specs.Pairs.{facts_of, are_distinct}
 use Rattle.oracle_core.proofs.Keeping.{facts_of_push}
 use Rattle.oracle_core.proofs.Listing.{distinct_more}
@@ -17,7 +17,7 @@ use Rattle.cert_text.specs.declared.form.Form.TheVariants as forms
 use Rattle.cert_text.specs.declared.line.CertLine.{CertLine}
 use Rattle.cert_text.specs.declared.line.CertLine.TheVariants as line
 use Rattle.cert_text.specs.declared.lines.CertFile.{CertFile}
-use Rattle.cert_text.specs.Numbers.{between, integer_of}
+use Rattle.cert_text.specs.Digits.{between, integer_of}
 use Rattle.cert_text.specs.Grammar.{◌>>=◌, or_else, is_word, is_over, is_spaced, key_at, counter_at, number_at, value_at, fact_at, last_fact_at, test_at, site_at, echo_at, found_at, counters_of, line_with, fact_form, end_form, refused_form, undecided_form, void_form, listed_form, body_form, line_form, form_in, form_of}
 use Rattle.cert_text.specs.Reading.{file, bad, listed, are_of_facts, is_new, is_numbered, is_placed, is_fresh, lists_facts, counts_well, first_broken, broken_by, with_form, is_end, after_rule, after_form, reading_from, reading_of, grammar_of}
 

@@ -7,9 +7,9 @@ use Rattle.book_model.specs.declared.fact.Fact.{Fact}
 use Rattle.book_model.specs.declared.fail.Undecided.{Undecided as OpenTest}
 use Rattle.book_model.specs.declared.site.Site.{Site}
 use Rattle.book_model.specs.Names.{kind_name, place_name, site_name}
-use Rattle.book_model.specs.Text.{fact_text, refused_text, undecided_text, void_text, end_text, number_text}
+use Rattle.book_model.specs.Text.{fact_text, echo_text, facts_text, listed_text, too_far_text, no_date_text, refused_text, undecided_text, open_text, void_text, empty_text, end_text, number_text}
 use Rattle.cert_text.specs.declared.line.Echo.{Echo}
-use Rattle.cert_text.specs.Text.{echo_text, facts_text, too_far_text, no_date_text, listed_text}
+use Rattle.cert_text.specs.Text.{words_in}
 use Rattle.cert_text.proofs.Rows.{spaced_then}
 
 -- fact N KIND PLACE DAY VALUE
@@ -33,16 +33,16 @@ abbrev pub undecided_row : ℕ → Fact → OpenTest → List (List ℕ)
 undecided_row n f u =
     decimal n ∷ codes "undecided" ∷ site_name u.site ∷ decimal u.turn ∷ signed_decimal u.lo ∷ signed_decimal u.hi ∷ codes "fact" ∷ kind_name f.kind ∷ place_name f.place ∷ signed_decimal f.day ∷ []
 
-pub undecided_is_row : (n : ℕ) (f : Fact) (u : OpenTest) (rest : List ℕ) → undecided_text n f u ++ rest ≡ codes "line" ++ spaced_then (undecided_row n f u) rest
-unfolding undecided_text
+pub undecided_is_row : (n : ℕ) (f : Fact) (u : OpenTest) (rest : List ℕ) → undecided_text (codes "line ") n f u ++ rest ≡ codes "line" ++ spaced_then (undecided_row n f u) rest
+unfolding open_text
 undecided_is_row n f u rest = simp append_assoc
 
 -- line N void SITE fact KIND PLACE DAY
 abbrev pub void_row : ℕ → Fact → Site → List (List ℕ)
 void_row n f s = decimal n ∷ codes "void" ∷ site_name s ∷ codes "fact" ∷ kind_name f.kind ∷ place_name f.place ∷ signed_decimal f.day ∷ []
 
-pub void_is_row : (n : ℕ) (f : Fact) (s : Site) (rest : List ℕ) → void_text n f s ++ rest ≡ codes "line" ++ spaced_then (void_row n f s) rest
-unfolding void_text
+pub void_is_row : (n : ℕ) (f : Fact) (s : Site) (rest : List ℕ) → void_text (codes "line ") n f s ++ rest ≡ codes "line" ++ spaced_then (void_row n f s) rest
+unfolding empty_text
 void_is_row n f s rest = simp append_assoc
 
 -- end lines L facts F
@@ -68,18 +68,18 @@ unfolding facts_text
 facts_spaced ns rest = simp append_assoc (ap (λ t. codes " facts" ++ t) (numbers_spaced ns rest))
 
 -- a result
-pub shown_is_row : (n : ℕ) (echo : Echo) (result facts rest : List ℕ) → listed_text n echo result facts ++ rest ≡ codes "line" ++ spaced_then (listed_row n echo (result ∷ []) facts) rest
+pub shown_is_row : (n : ℕ) (echo : Echo) (result facts rest : List ℕ) → listed_text n (words_in echo) result facts ++ rest ≡ codes "line" ++ spaced_then (listed_row n echo (result ∷ []) facts) rest
 unfolding echo_text
 shown_is_row n echo result facts rest = simp (append_assoc, facts_spaced)
 
 -- a day that is out of range
 pub too_far_is_row : (n : ℕ) (echo : Echo) (day : ℤ) (facts rest : List ℕ)
-    → listed_text n echo (too_far_text day) facts ++ rest ≡ codes "line" ++ spaced_then (listed_row n echo (codes "refused" ∷ codes "4" ∷ signed_decimal day ∷ []) facts) rest
+    → listed_text n (words_in echo) (too_far_text day) facts ++ rest ≡ codes "line" ++ spaced_then (listed_row n echo (codes "refused" ∷ codes "4" ∷ signed_decimal day ∷ []) facts) rest
 unfolding echo_text too_far_text
 too_far_is_row n echo day facts rest = simp (append_assoc, facts_spaced)
 
 -- the day's own date
 pub no_date_is_row : (n : ℕ) (echo : Echo) (back facts rest : List ℕ)
-    → listed_text n echo (no_date_text back) facts ++ rest ≡ codes "line" ++ spaced_then (listed_row n echo (codes "refused" ∷ codes "5" ∷ back ∷ []) facts) rest
+    → listed_text n (words_in echo) (no_date_text back) facts ++ rest ≡ codes "line" ++ spaced_then (listed_row n echo (codes "refused" ∷ codes "5" ∷ back ∷ []) facts) rest
 unfolding echo_text no_date_text
 no_date_is_row n echo back facts rest = simp (append_assoc, facts_spaced)

@@ -7,15 +7,13 @@ use Rattle.std.specs.List.{list_all, list_any}
 use Rattle.std.specs.Prelude.{codes, ◌&&◌, nat_le, nat_lt, nat_eq, not, ℤ}
 use Rattle.book_model.specs.declared.fact.Fact.{Fact}
 use Rattle.book_model.specs.declared.fact.Kind.{Kind}
-use Rattle.book_model.specs.declared.fact.Kind.TheVariants.{Dt, Sun, Nowruz}
 use Rattle.book_model.specs.declared.fact.Place.{Place}
-use Rattle.book_model.specs.declared.fact.Place.TheVariants.{None as Nowhere, Beijing, Cairo, Tehran, Ujjain}
 use Rattle.book_model.specs.declared.fail.Undecided.{Undecided as OpenTest}
 use Rattle.book_model.specs.declared.site.Site.{Site}
-use Rattle.book_model.specs.declared.site.Site.TheVariants.{Year, Zone, SunWrap, MoonWrap, PhaseWrap, PhasePick, MoonNumber, MoonWalk, StepWrap, StartFloor, DayTest, DayFloor, TermFloor, Search, BisectEnd, Bisect, Offset, Settle, Round, Crescent, Sidereal}
-use Rattle.book_model.specs.Names.{kind_name, place_name, site_name}
+use Rattle.book_model.specs.Names.{kind_name, place_name, site_name, has_place}
+use Rattle.book_model.proofs.NameLemmas.{kind_names_pass, place_names_pass, site_names_pass}
 use Rattle.cert_text.specs.declared.line.Echo.{Echo}
-use Rattle.cert_text.specs.Grammar.{is_printable, is_place_of}
+use Rattle.cert_text.specs.Grammar.{is_printable}
 use Rattle.cert_text.specs.Reading.{are_of_facts}
 use Rattle.cert_text.specs.ReadAgain.{is_text_word, are_echo_words, is_day, is_value, is_wide, is_named_well, is_open_test}
 use Rattle.cert_text.proofs.Spelling.{IsWide, decimal_some, decimal_printed, signed_some, signed_printed}
@@ -35,43 +33,17 @@ signed_word : (z : ℤ) → IsWide z → IsWord (signed_decimal z)
 signed_word z h = record { some = signed_some z h; printed = signed_printed z h }
 
 kind_word : (k : Kind) → IsWord (kind_name k)
-kind_word Dt = text_word (codes "dt") refl
-kind_word Sun = text_word (codes "sun") refl
-kind_word Nowruz = text_word (codes "nowruz") refl
+kind_word k = text_word (kind_name k) (kind_names_pass is_text_word k refl)
 
 place_word : (p : Place) → IsWord (place_name p)
-place_word Nowhere = text_word (codes "-") refl
-place_word Beijing = text_word (codes "beijing") refl
-place_word Cairo = text_word (codes "cairo") refl
-place_word Tehran = text_word (codes "tehran") refl
-place_word Ujjain = text_word (codes "ujjain") refl
+place_word p = text_word (place_name p) (place_names_pass is_text_word p refl)
 
 site_word : (s : Site) → IsWord (site_name s)
-site_word Year = text_word (codes "year") refl
-site_word Zone = text_word (codes "zone") refl
-site_word SunWrap = text_word (codes "sun-wrap") refl
-site_word MoonWrap = text_word (codes "moon-wrap") refl
-site_word PhaseWrap = text_word (codes "phase-wrap") refl
-site_word PhasePick = text_word (codes "phase-pick") refl
-site_word MoonNumber = text_word (codes "moon-number") refl
-site_word MoonWalk = text_word (codes "moon-walk") refl
-site_word StepWrap = text_word (codes "step-wrap") refl
-site_word StartFloor = text_word (codes "start-floor") refl
-site_word DayTest = text_word (codes "day-test") refl
-site_word DayFloor = text_word (codes "day-floor") refl
-site_word TermFloor = text_word (codes "term-floor") refl
-site_word Search = text_word (codes "search") refl
-site_word BisectEnd = text_word (codes "bisect-end") refl
-site_word Bisect = text_word (codes "bisect") refl
-site_word Offset = text_word (codes "offset") refl
-site_word Settle = text_word (codes "settle") refl
-site_word Round = text_word (codes "round") refl
-site_word Crescent = text_word (codes "crescent") refl
-site_word Sidereal = text_word (codes "sidereal") refl
+site_word s = text_word (site_name s) (site_names_pass is_text_word s refl)
 
 -- KIND PLACE DAY, and the words after it
 fact_words : (f : Fact) (ws : List (List ℕ)) → is_named_well f ≡ true → AreWords ws → AreWords (kind_name f.kind ∷ place_name f.place ∷ signed_decimal f.day ∷ ws)
-fact_words f ws h k = (kind_word f.kind, (place_word f.place, (signed_word f.day (day_wide f.day (both (is_place_of f.kind f.place) (is_day f.day) h).1), k)))
+fact_words f ws h k = (kind_word f.kind, (place_word f.place, (signed_word f.day (day_wide f.day (both (has_place f.kind f.place) (is_day f.day) h).1), k)))
 
 pub fact_row_words : (n : ℕ) (f : Fact) (v : ℤ) → n ≤ 2 ^ 32 - 1 → is_named_well f ≡ true → is_value v ≡ true → AreWords (fact_row n f v)
 fact_row_words n f v h k l = (counter_word n h, fact_words f (signed_decimal v ∷ []) k (signed_word v (value_wide v l), tt))

@@ -9,7 +9,7 @@ use Rattle.std.specs.Fmt.{signed_decimal}
 use Rattle.std.specs.Prelude.{Some, None, ◌&&◌, ◌==◌, if◌then◌else◌, ◌≤ℤ◌, ℤ, pos, negsuc}
 use Rattle.book_model.specs.Lines.{value_from}
 use Rattle.cert_text.specs.Grammar.{is_printable}
-use Rattle.cert_text.specs.Numbers.{begins_well, natural_of, counter_of, integer_of}
+use Rattle.cert_text.specs.Digits.{begins_well, natural_of, counter_of, integer_of}
 
 -- one digit more
 value_end : (k m d : ℕ) (ds : List ℕ) → value_from k ds ≡ Some m → 48 ≤ d → d < 58 → value_from k (ds ++ d ∷ []) ≡ Some (10 * m + (d - 48))

@@ -3,11 +3,11 @@ use Rattle.std.proofs.Common.{ℕ, ◌+◌, ◌≤◌, ◌<◌, List, [], ◌∷
 use Rattle.std.specs.List.{flat_map}
 use Rattle.std.specs.Prelude.{ℤ}
 use Rattle.book_model.specs.declared.fact.Fact.{Fact}
-use Rattle.book_model.specs.Text.{fact_text, refused_text, undecided_text, void_text}
+use Rattle.book_model.specs.Text.{fact_text, echo_text, refused_text}
 use Rattle.cert_text.specs.declared.line.CertLine.{CertLine}
 use Rattle.cert_text.specs.declared.line.CertLine.TheVariants.{Shown, TooFar, NoDate, Refused, Undecided, Void}
 use Rattle.cert_text.specs.declared.lines.Block.{Block}
-use Rattle.cert_text.specs.Text.{echo_text, fact_texts, line_text, block_text}
+use Rattle.cert_text.specs.Text.{fact_texts, line_text, block_text}
 use Rattle.cert_text.specs.ReadAgain.{facts_of}
 
 fact_length : (n : ℕ) (f : Fact) (v : ℤ) → 0 < length (fact_text n f v)
@@ -15,7 +15,7 @@ unfolding fact_text
 fact_length n f v = omega arith
 
 line_length : (n : ℕ) (line : CertLine) → 0 < length (line_text n line)
-unfolding echo_text refused_text undecided_text void_text
+unfolding echo_text refused_text
 line_length n (Shown echo result facts) = omega arith
 line_length n (TooFar echo day facts) = omega arith
 line_length n (NoDate echo back facts) = omega arith

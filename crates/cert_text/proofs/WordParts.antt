@@ -6,15 +6,14 @@ use Rattle.std.specs.Fmt.{signed_decimal}
 use Rattle.std.specs.Prelude.{codes, Some, nat_le, ℤ, pos, negsuc, int_le}
 use Rattle.book_model.specs.declared.fact.Fact.{Fact}
 use Rattle.book_model.specs.declared.fact.Kind.{Kind}
-use Rattle.book_model.specs.declared.fact.Kind.TheVariants.{Dt, Sun, Nowruz}
 use Rattle.book_model.specs.declared.fact.Place.{Place}
-use Rattle.book_model.specs.declared.fact.Place.TheVariants.{None as Nowhere, Beijing, Cairo, Tehran, Ujjain}
 use Rattle.book_model.specs.declared.fail.Undecided.{Undecided as OpenTest}
 use Rattle.book_model.specs.declared.site.Site.{Site}
-use Rattle.book_model.specs.declared.site.Site.TheVariants.{Year, Zone, SunWrap, MoonWrap, PhaseWrap, PhasePick, MoonNumber, MoonWalk, StepWrap, StartFloor, DayTest, DayFloor, TermFloor, Search, BisectEnd, Bisect, Offset, Settle, Round, Crescent, Sidereal}
 use Rattle.book_model.specs.Correction.{is_between}
-use Rattle.book_model.specs.Names.{kind_name, place_name, site_name}
-use Rattle.cert_text.specs.Grammar.{key_at, kind_at, kind_in, kinds, place_at, place_in, places, site_at, site_in, sites, counter_at, number_at, end_at, day_at, value_at, fact_at, test_at, last_fact_at, is_place_of}
+use Rattle.book_model.specs.declared.fact.TheConstants.{FIRST_FACT_DAY, LAST_FACT_DAY, LEAST_VALUE, GREATEST_VALUE}
+use Rattle.book_model.specs.Names.{kind_name, place_name, site_name, has_place}
+use Rattle.book_model.proofs.NameLemmas.{kind_found, place_found, site_found}
+use Rattle.cert_text.specs.Grammar.{key_at, kind_at, place_at, site_at, counter_at, number_at, end_at, day_at, value_at, fact_at, test_at, last_fact_at}
 use Rattle.cert_text.specs.ReadAgain.{is_day, is_value, is_wide, is_named_well, is_open_test}
 use Rattle.cert_text.proofs.Spelling.{IsWide, counter_read, integer_read}
 use Rattle.cert_text.proofs.Rows.{both, three}
@@ -30,10 +29,10 @@ wide low high z l h k =
     record { low = omega (arith, ints, b.0, l.low); high = omega (arith, ints, b.1, h.high) }
 
 pub day_wide : (z : ℤ) → is_day z ≡ true → IsWide z
-day_wide z h = wide (negsuc 39999999) (pos 40000000) z (record { low = omega (arith, ints); high = omega (arith, ints) }) (record { low = omega (arith, ints); high = omega (arith, ints) }) h
+day_wide z h = wide FIRST_FACT_DAY LAST_FACT_DAY z (record { low = omega (arith, ints); high = omega (arith, ints) }) (record { low = omega (arith, ints); high = omega (arith, ints) }) h
 
 pub value_wide : (z : ℤ) → is_value z ≡ true → IsWide z
-value_wide z h = wide (negsuc 9999999) (pos 10000000) z (record { low = omega (arith, ints); high = omega (arith, ints) }) (record { low = omega (arith, ints); high = omega (arith, ints) }) h
+value_wide z h = wide LEAST_VALUE GREATEST_VALUE z (record { low = omega (arith, ints); high = omega (arith, ints) }) (record { low = omega (arith, ints); high = omega (arith, ints) }) h
 
 pub wide_fits : (z : ℤ) → is_wide z ≡ true → IsWide z
 wide_fits z h = wide (negsuc (2 ^ 127 - 1)) (pos (2 ^ 127 - 1)) z (record { low = omega (arith, ints); high = omega (arith, ints) }) (record { low = omega (arith, ints); high = omega (arith, ints) }) h
@@ -43,49 +42,14 @@ unfolding number_at
 number_here low high z ws h k = rw (integer_read z h) (rw k refl)
 
 pub day_here : (z : ℤ) (ws : List (List ℕ)) → is_day z ≡ true → day_at (signed_decimal z ∷ ws) ≡ Some (z, ws)
-day_here z ws h = number_here (negsuc 39999999) (pos 40000000) z ws (day_wide z h) h
+day_here z ws h = number_here FIRST_FACT_DAY LAST_FACT_DAY z ws (day_wide z h) h
 
 pub value_here : (z : ℤ) (ws : List (List ℕ)) → is_value z ≡ true → value_at (signed_decimal z ∷ ws) ≡ Some (z, ws)
-value_here z ws h = number_here (negsuc 9999999) (pos 10000000) z ws (value_wide z h) h
+value_here z ws h = number_here LEAST_VALUE GREATEST_VALUE z ws (value_wide z h) h
 
 pub end_here : (z : ℤ) (ws : List (List ℕ)) → is_wide z ≡ true → end_at (signed_decimal z ∷ ws) ≡ Some (z, ws)
 unfolding end_at
 end_here z ws h = rw (integer_read z (wide_fits z h)) refl
-
-kind_found : (k : Kind) → kind_in kinds (kind_name k) ≡ Some k
-kind_found Dt = refl
-kind_found Sun = refl
-kind_found Nowruz = refl
-
-place_found : (p : Place) → place_in places (place_name p) ≡ Some p
-place_found Nowhere = refl
-place_found Beijing = refl
-place_found Cairo = refl
-place_found Tehran = refl
-place_found Ujjain = refl
-
-site_found : (s : Site) → site_in sites (site_name s) ≡ Some s
-site_found Year = refl
-site_found Zone = refl
-site_found SunWrap = refl
-site_found MoonWrap = refl
-site_found PhaseWrap = refl
-site_found PhasePick = refl
-site_found MoonNumber = refl
-site_found MoonWalk = refl
-site_found StepWrap = refl
-site_found StartFloor = refl
-site_found DayTest = refl
-site_found DayFloor = refl
-site_found TermFloor = refl
-site_found Search = refl
-site_found BisectEnd = refl
-site_found Bisect = refl
-site_found Offset = refl
-site_found Settle = refl
-site_found Round = refl
-site_found Crescent = refl
-site_found Sidereal = refl
 
 kind_here : (k : Kind) (ws : List (List ℕ)) → kind_at (kind_name k ∷ ws) ≡ Some (k, ws)
 unfolding kind_at
@@ -103,7 +67,7 @@ site_here s ws = rw (site_found s) refl
 pub fact_here : (f : Fact) (ws : List (List ℕ)) → is_named_well f ≡ true → fact_at (kind_name f.kind ∷ place_name f.place ∷ signed_decimal f.day ∷ ws) ≡ Some (Some f, ws)
 unfolding fact_at
 fact_here f ws h =
-    let b = both (is_place_of f.kind f.place) (is_day f.day) h in
+    let b = both (has_place f.kind f.place) (is_day f.day) h in
     rw (kind_here f.kind (place_name f.place ∷ signed_decimal f.day ∷ ws), place_here f.place (signed_decimal f.day ∷ ws), day_here f.day ws b.1, b.0) refl
 
 -- fact KIND PLACE DAY, at the end

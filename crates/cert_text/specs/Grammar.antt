@@ -1,17 +1,14 @@
 -- The grammar of printed files: the form of a line, word by word.
-use Rattle.std.specs.Prelude.{ℕ, ◌==◌, ◌&&◌, not, nat_le, nat_lt, nat_eq, if◌then◌else◌, Bool, true, false, List, [], ◌∷◌, codes, ℤ, pos, negsuc, Some, None, Option, option_and_then}
+use Rattle.std.specs.Prelude.{ℕ, ◌==◌, ◌&&◌, not, nat_le, nat_lt, nat_eq, if◌then◌else◌, Bool, true, false, List, [], ◌∷◌, codes, ℤ, Some, None, Option, option_and_then}
 use lib.Pointwise.{pointwise}
 use Rattle.book_model.specs.declared.site.Site.{Site}
-use Rattle.book_model.specs.declared.site.TheConstants.{SITES}
 use Rattle.book_model.specs.declared.fact.Fact.{Fact}
-use Rattle.book_model.specs.declared.fact.TheConstants.{KINDS, PLACES}
+use Rattle.book_model.specs.declared.fact.TheConstants.{FIRST_FACT_DAY, LAST_FACT_DAY, LEAST_VALUE, GREATEST_VALUE}
 use Rattle.book_model.specs.declared.fact.Kind.{Kind}
-use Rattle.book_model.specs.declared.fact.Kind.TheVariants.{Dt, Sun, Nowruz}
 use Rattle.book_model.specs.declared.fact.Place.{Place}
-use Rattle.book_model.specs.declared.fact.Place.TheVariants.{None as Nowhere, Beijing, Cairo, Tehran, Ujjain}
 use Rattle.book_model.specs.declared.fail.Undecided.{Undecided as OpenTest}
 use Rattle.book_model.specs.Lines.{words_of}
-use Rattle.book_model.specs.Names.{kind_name, place_name, site_name}
+use Rattle.book_model.specs.Names.{kind_named, place_named, site_named, has_place}
 use Rattle.cert_text.specs.declared.line.Echo.{Echo}
 use Rattle.cert_text.specs.declared.line.CertLine.{CertLine}
 use Rattle.cert_text.specs.declared.line.CertLine.TheVariants.{Shown, TooFar, NoDate, Refused}
@@ -19,7 +16,7 @@ use Rattle.cert_text.specs.declared.form.Form.{Form}
 use Rattle.cert_text.specs.declared.form.Form.TheVariants as forms
 use Rattle.cert_text.specs.declared.found.Found.{Found}
 use Rattle.cert_text.specs.declared.found.Found.TheVariants as found
-use Rattle.cert_text.specs.Numbers.{counter_of, integer_of, between}
+use Rattle.cert_text.specs.Digits.{counter_of, integer_of, between}
 
 -- one thing after the other, where each is there
 infixl 10 ◌>>=◌
@@ -80,11 +77,11 @@ number_at low high ws = do
 
 -- the day of a fact
 abbrev pub day_at : List (List ℕ) → Option (ℤ × List (List ℕ))
-day_at ws = number_at (negsuc 39999999) (pos 40000000) ws
+day_at ws = number_at FIRST_FACT_DAY LAST_FACT_DAY ws
 
 -- the value of a fact
 abbrev pub value_at : List (List ℕ) → Option (ℤ × List (List ℕ))
-value_at ws = number_at (negsuc 9999999) (pos 10000000) ws
+value_at ws = number_at LEAST_VALUE GREATEST_VALUE ws
 
 -- an end of an open test, of 128 bits
 unfoldable pub end_at : List (List ℕ) → Option (ℤ × List (List ℕ))
@@ -93,67 +90,28 @@ end_at ws = do
   z ← integer_of w.0
   Some (z, w.1)
 
--- the first of the kinds that has this name
-abbrev pub kind_in : List Kind → List ℕ → Option Kind
-kind_in [] word = None
-kind_in (k ∷ ks) word = if is_word (kind_name k) word then Some k else kind_in ks word
-
-abbrev pub kinds : List Kind
-kinds = KINDS
-
-abbrev pub place_in : List Place → List ℕ → Option Place
-place_in [] word = None
-place_in (p ∷ ps) word = if is_word (place_name p) word then Some p else place_in ps word
-
-abbrev pub places : List Place
-places = PLACES
-
-abbrev pub site_in : List Site → List ℕ → Option Site
-site_in [] word = None
-site_in (s ∷ ss) word = if is_word (site_name s) word then Some s else site_in ss word
-
-abbrev pub sites : List Site
-sites = SITES
-
+-- a kind, a place or a site by its name, and the words after it
 unfoldable pub kind_at : List (List ℕ) → Option (Kind × List (List ℕ))
 kind_at ws = do
   w ← word_at ws
-  k ← kind_in kinds w.0
+  k ← kind_named w.0
   Some (k, w.1)
 
 unfoldable pub place_at : List (List ℕ) → Option (Place × List (List ℕ))
 place_at ws = do
   w ← word_at ws
-  p ← place_in places w.0
+  p ← place_named w.0
   Some (p, w.1)
 
 unfoldable pub site_at : List (List ℕ) → Option (Site × List (List ℕ))
 site_at ws = do
   w ← word_at ws
-  s ← site_in sites w.0
+  s ← site_named w.0
   Some (s, w.1)
-
--- the place is one of the kind's places
-abbrev pub is_place_of : Kind → Place → Bool
-is_place_of Dt Nowhere = true
-is_place_of Dt Beijing = false
-is_place_of Dt Cairo = false
-is_place_of Dt Tehran = false
-is_place_of Dt Ujjain = false
-is_place_of Sun Nowhere = true
-is_place_of Sun Beijing = false
-is_place_of Sun Cairo = false
-is_place_of Sun Tehran = false
-is_place_of Sun Ujjain = false
-is_place_of Nowruz Nowhere = true
-is_place_of Nowruz Beijing = false
-is_place_of Nowruz Cairo = false
-is_place_of Nowruz Tehran = false
-is_place_of Nowruz Ujjain = false
 
 -- the fact, where the place is one of the kind's places
 abbrev pub fact_with : Kind → Place → ℤ → Option Fact
-fact_with kind place day = if is_place_of kind place then Some (record { kind = kind; place = place; day = day }) else None
+fact_with kind place day = if has_place kind place then Some (record { kind = kind; place = place; day = day }) else None
 
 -- KIND PLACE DAY
 unfoldable pub fact_at : List (List ℕ) → Option (Option Fact × List (List ℕ))

@@ -1,5 +1,5 @@
 pub mod Stream
-pub mod Numbers
+pub mod Digits
 pub mod Gives
 pub mod Grammar
 pub mod Reading

@@ -2,14 +2,16 @@
 use Rattle.std.specs.Prelude.{◌≡◌, ℕ, ◌+◌, ◌-◌, ◌^◌, ◌≤◌, ◌==◌, ◌&&◌, nat_le, nat_lt, Bool, true, List, [], ◌∷◌, ◌++◌, length, map, ℤ, pos, negsuc, Some}
 use Rattle.std.specs.List.{list_all, flat_map}
 use Rattle.book_model.specs.declared.fact.Fact.{Fact}
+use Rattle.book_model.specs.declared.fact.TheConstants.{FIRST_FACT_DAY, LAST_FACT_DAY, LEAST_VALUE, GREATEST_VALUE}
 use Rattle.book_model.specs.declared.fail.Undecided.{Undecided as OpenTest}
 use Rattle.book_model.specs.Correction.{is_between}
+use Rattle.book_model.specs.Names.{has_place}
 use Rattle.book_model.specs.Text.{header, end_text}
 use Rattle.cert_text.specs.declared.line.CertLine.{CertLine}
 use Rattle.cert_text.specs.declared.line.CertLine.TheVariants.{Shown, TooFar, NoDate, Refused, Undecided, Void}
 use Rattle.cert_text.specs.declared.line.Echo.{Echo}
 use Rattle.cert_text.specs.declared.lines.Block.{Block}
-use Rattle.cert_text.specs.Grammar.{is_printable, is_place_of}
+use Rattle.cert_text.specs.Grammar.{is_printable}
 use Rattle.cert_text.specs.Reading.{grammar_of, file, is_new, are_of_facts, listed}
 use Rattle.cert_text.specs.Text.{block_text}
 
@@ -22,11 +24,11 @@ are_echo_words echo = is_text_word echo.from && is_text_word echo.date && is_tex
 
 -- the day of a fact
 abbrev pub is_day : ℤ → Bool
-is_day day = is_between (negsuc 39999999) (pos 40000000) day
+is_day day = is_between FIRST_FACT_DAY LAST_FACT_DAY day
 
 -- the value of a fact
 abbrev pub is_value : ℤ → Bool
-is_value value = is_between (negsuc 9999999) (pos 10000000) value
+is_value value = is_between LEAST_VALUE GREATEST_VALUE value
 
 -- a number of 128 bits
 abbrev pub is_wide : ℤ → Bool
@@ -34,7 +36,7 @@ is_wide number = is_between (negsuc (2 ^ 127 - 1)) (pos (2 ^ 127 - 1)) number
 
 -- a fact that a file may name
 abbrev pub is_named_well : Fact → Bool
-is_named_well f = is_place_of f.kind f.place && is_day f.day
+is_named_well f = has_place f.kind f.place && is_day f.day
 
 -- an open test whose numbers fit
 abbrev pub is_open_test : OpenTest → Bool

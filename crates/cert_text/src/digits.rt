@@ -1,6 +1,6 @@
 //! The numbers that words spell.
 ghost use Rattle.std.specs.Prelude.{◌≡◌, ◌≤◌, ◌^◌, ◌-◌, ◌<◌, ◌==◌, ◌≤ℤ◌, pos, IfSome};
-ghost use Rattle.cert_text.specs.Numbers as spec;
+ghost use Rattle.cert_text.specs.Digits as spec;
 
 /// Whether a word is `0`, or doesn't begin with 0.
 fn begins_well(word: &[u8]) -> bool
@@ -30,7 +30,7 @@ fn digits_value(digits: &[u8], greatest: u128) -> Option<u128>
 }
 
 /// The number that digits alone spell, without a leading zero, where it isn't above the greatest.
-#[tactic(auto, unfolding(crate::specs::Numbers::natural_of))]
+#[tactic(auto, unfolding(crate::specs::Digits::natural_of))]
 fn natural(digits: &[u8], greatest: u128) -> Option<u128>
     requires { 9 ≤ greatest }
     ensures value { result ≡ spec.natural_of greatest digits.now }
@@ -79,7 +79,7 @@ fn positive(digits: &[u8]) -> Option<i128>
 }
 
 /// The number that a word spells, with a minus sign where it is below 0.
-#[tactic(auto, unfolding(crate::specs::Numbers::integer_of))]
+#[tactic(auto, unfolding(crate::specs::Digits::integer_of))]
 pub(crate) fn integer(word: &[u8]) -> Option<i128>
     ensures { result ≡ spec.integer_of word.now }
 {

@@ -1,5 +1,6 @@
 //! The form of a line.
-ghost use Rattle.std.specs.Prelude.{◌≡◌, ◌≤ℤ◌, pos, negsuc};
+ghost use Rattle.std.specs.Prelude.{◌≡◌};
+ghost use Rattle.book_model.specs.Facts.{IsFactDay};
 ghost use Rattle.book_model.specs.Lines.{words_of};
 ghost use Rattle.cert_text.specs.Gives.{Gives, Yields};
 ghost use Rattle.cert_text.specs.Grammar as spec;
@@ -26,8 +27,7 @@ pub(crate) enum Form {
 
 /// The fact, where the place is one of the kind's places.
 fn fact_with(kind: Kind, place: Place, day: i64) -> Option<Fact>
-    requires low { negsuc 39999999 ≤ℤ day }
-    requires high { day ≤ℤ pos 40000000 }
+    requires day { IsFactDay day }
     ensures { result ≡ spec.fact_with kind place day }
 {
     Fact::new(kind, place, day)

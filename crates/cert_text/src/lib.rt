@@ -28,7 +28,9 @@ pub use read::{ReadFail, read_file};
 pub use result::{date_word, result_word, write_result};
 pub use split::split_lines;
 pub use stream::{Failed, ReadStop, Sink, Source, read_all, write_all};
-pub use write::{decimal, write_block, write_end, write_header, write_parts};
+pub use write::{
+    decimal, write_block, write_end, write_header, write_parts, write_undecided, write_void,
+};
 
 #[cfg(test)]
 mod tests;

@@ -5,6 +5,7 @@ ghost use Rattle.cert_text.specs.Reading.{Answers, grammar_of, reading_from};
 use crate::lines::CertFile;
 use crate::reader::{Reader, Stop};
 use crate::split::split_lines;
+use book_model::HEADER;
 use std::alloc::Global;
 use thiserror::Error;
 
@@ -17,9 +18,6 @@ pub enum ReadFail {
     #[error("memory ran out")]
     Memory,
 }
-
-/// The first line of a file.
-const HEADER: &[u8] = b"calendrica 1 depth 40";
 
 /// Reads the lines below the header.
 fn read_lines(alloc: Global, lines: &[&[u8]]) -> Result<CertFile, ReadFail>
@@ -62,7 +60,7 @@ pub fn read_file(alloc: Global, bytes: &[u8]) -> Result<CertFile, ReadFail>
     let Some((first, rest)) = lines.split_first() else {
         return Err(ReadFail::Bad { line: 1, rule: 1 });
     };
-    if *first == HEADER {
+    if *first == HEADER.as_bytes() {
         read_lines(alloc, rest)
     } else {
         Err(ReadFail::Bad { line: 1, rule: 1 })

@@ -9,7 +9,7 @@ ghost use Rattle.cert_text.specs.Stream.{HasCause, AppendsFront};
 use crate::gathered::Gathered;
 use crate::lists::Word;
 use crate::stream::{Failed, Sink, write_all};
-use crate::write::{decimal, write_parts};
+use crate::write::{decimal, write_parts, write_too_far};
 use book_model::{Calendar, Fields, Resolved, Shown, ToWord};
 use itoa::Buffer;
 use std::alloc::{AllocError, Global};
@@ -157,20 +157,10 @@ fn write_shown<K: Sink>(sink: &mut K, to: ToWord, fields: &Fields) -> Result<(),
     }
 }
 
-/// Writes that a day (R.D.) is out of range.
-fn write_too_far_day<K: Sink>(sink: &mut K, day: i64) -> Result<(), Failed>
-    ensures ok { OnOk result (Appends (K.written sink.old) (K.written sink.new) (codes "refused 4 " ++ signed_decimal day)) }
-    ensures err { OnErr result (AppendsFront (K.written sink.old) (K.written sink.new) (codes "refused 4 " ++ signed_decimal day)) }
-    ensures cause { HasCause (K.faults sink.old) (K.faults sink.new) result }
-{
-    let mut buffer = Buffer::new();
-    write_parts(sink, &[b"refused 4 ", decimal(&mut buffer, day)])
-}
-
 /// Writes the own date of a day that isn't the one given.
 fn write_own_date<K: Sink>(sink: &mut K, back: &Fields) -> Result<(), Failed>
-    ensures ok { OnOk result (Appends (K.written sink.old) (K.written sink.new) (codes "refused 5 " ++ spec.dashed_text back.now)) }
-    ensures err { OnErr result (AppendsFront (K.written sink.old) (K.written sink.new) (codes "refused 5 " ++ spec.dashed_text back.now)) }
+    ensures ok { OnOk result (Appends (K.written sink.old) (K.written sink.new) (spec.no_date_text (spec.dashed_text back.now))) }
+    ensures err { OnErr result (AppendsFront (K.written sink.old) (K.written sink.new) (spec.no_date_text (spec.dashed_text back.now))) }
     ensures cause { HasCause (K.faults sink.old) (K.faults sink.new) result }
 {
     write_all(sink, b"refused 5 ")?;
@@ -188,7 +178,7 @@ pub fn write_result<K: Sink>(sink: &mut K, resolved: Resolved) -> Result<(), Fai
 {
     match resolved {
         Resolved::Shown(to, fields) => write_shown(sink, to, &fields),
-        Resolved::TooFar { day } => write_too_far_day(sink, day),
+        Resolved::TooFar { day } => write_too_far(sink, day),
         Resolved::NoDate { back } => write_own_date(sink, &back),
     }
 }

@@ -1,11 +1,13 @@
 //! The words of a printed line, taken one after another.
-ghost use Rattle.std.specs.Prelude.{◌≡◌, ◌≤ℤ◌, pos, negsuc, IfSome};
+ghost use Rattle.std.specs.Prelude.{◌≡◌, ◌≤ℤ◌, IfSome};
+ghost use Rattle.book_model.specs.declared.fact.TheConstants.{FIRST_FACT_DAY as first_day, LAST_FACT_DAY as last_day};
 ghost use Rattle.book_model.specs.Lines.{words_of};
 ghost use Rattle.cert_text.specs.Gives.{Gives};
 ghost use Rattle.cert_text.specs.Grammar as spec;
 ghost use Rattle.cert_text.specs.declared.words.NoForm.TheVariants.{Memory};
 
 use crate::digits;
+use book_model::{FIRST_FACT_DAY, GREATEST_VALUE, LAST_FACT_DAY, LEAST_VALUE};
 use line_core::cut_word;
 use std::alloc::{AllocError, AllocFailed};
 
@@ -108,17 +110,17 @@ pub(crate) fn number_at(line: &[u8], low: i64, high: i64) -> Option<(i64, &[u8])
 /// The day of a fact (R.D.), and what follows it.
 pub(crate) fn day_at(line: &[u8]) -> Option<(i64, &[u8])>
     ensures read { Gives (λ p. (p.0, words_of p.1.now)) result (spec.day_at (words_of line.now)) }
-    ensures low { IfSome result (λ p. negsuc 39999999 ≤ℤ p.0) }
-    ensures high { IfSome result (λ p. p.0 ≤ℤ pos 40000000) }
+    ensures low { IfSome result (λ p. first_day ≤ℤ p.0) }
+    ensures high { IfSome result (λ p. p.0 ≤ℤ last_day) }
 {
-    number_at(line, -40_000_000, 40_000_000)
+    number_at(line, FIRST_FACT_DAY, LAST_FACT_DAY)
 }
 
 /// The value of a fact, and what follows it.
 pub(crate) fn value_at(line: &[u8]) -> Option<(i64, &[u8])>
     ensures { Gives (λ p. (p.0, words_of p.1.now)) result (spec.value_at (words_of line.now)) }
 {
-    number_at(line, -10_000_000, 10_000_000)
+    number_at(line, LEAST_VALUE, GREATEST_VALUE)
 }
 
 /// An end of an open test, and what follows it.

@@ -9,7 +9,7 @@ ghost use Rattle.cert_text.specs.Text as spec;
 use crate::line::{CertLine, Echo};
 use crate::lines::Block;
 use crate::stream::{Failed, Sink, write_all};
-use book_model::{Fact, Site, Undecided};
+use book_model::{Fact, HEADER, Site, Undecided};
 use itoa::{Buffer, Integer};
 
 /// The decimal digits of a number, after a minus sign where it is below 0.
@@ -70,10 +70,10 @@ fn write_facts<K: Sink>(sink: &mut K, first: u32, facts: &[(Fact, i64)]) -> Resu
 }
 
 /// Writes the number of a line and its three words.
-#[tactic(auto, unfolding(crate::specs::Text::echo_text))]
+#[tactic(auto, unfolding(book_model::specs::Text::echo_text))]
 fn write_echo<K: Sink>(sink: &mut K, number: u32, echo: &Echo) -> Result<(), Failed>
-    ensures ok { OnOk result (Appends (K.written sink.old) (K.written sink.new) (spec.echo_text number echo.now)) }
-    ensures err { OnErr result (AppendsFront (K.written sink.old) (K.written sink.new) (spec.echo_text number echo.now)) }
+    ensures ok { OnOk result (Appends (K.written sink.old) (K.written sink.new) (model.echo_text number (spec.words_in echo.now))) }
+    ensures err { OnErr result (AppendsFront (K.written sink.old) (K.written sink.new) (model.echo_text number (spec.words_in echo.now))) }
     ensures cause { HasCause (K.faults sink.old) (K.faults sink.new) result }
 {
     let mut number_buffer = Buffer::new();
@@ -111,6 +111,7 @@ fn write_numbers<K: Sink>(sink: &mut K, numbers: &[u32]) -> Result<(), Failed>
 }
 
 /// Writes the numbers of the facts that a line lists, and the line's end.
+#[tactic(auto, using(crate::proofs::Flow::writing))]
 fn write_numbers_end<K: Sink>(sink: &mut K, numbers: &[u32]) -> Result<(), Failed>
     ensures ok { OnOk result (Appends (K.written sink.old) (K.written sink.new) (flat_map model.number_text numbers.now ++ codes "\n")) }
     ensures err { OnErr result (AppendsFront (K.written sink.old) (K.written sink.new) (flat_map model.number_text numbers.now ++ codes "\n")) }
@@ -122,10 +123,10 @@ fn write_numbers_end<K: Sink>(sink: &mut K, numbers: &[u32]) -> Result<(), Faile
 }
 
 /// Writes the list of facts at the end of a line.
-#[tactic(auto, unfolding(crate::specs::Text::facts_text))]
+#[tactic(auto, unfolding(book_model::specs::Text::facts_text))]
 fn write_list<K: Sink>(sink: &mut K, numbers: &[u32]) -> Result<(), Failed>
-    ensures ok { OnOk result (Appends (K.written sink.old) (K.written sink.new) (spec.facts_text numbers.now)) }
-    ensures err { OnErr result (AppendsFront (K.written sink.old) (K.written sink.new) (spec.facts_text numbers.now)) }
+    ensures ok { OnOk result (Appends (K.written sink.old) (K.written sink.new) (model.facts_text numbers.now)) }
+    ensures err { OnErr result (AppendsFront (K.written sink.old) (K.written sink.new) (model.facts_text numbers.now)) }
     ensures cause { HasCause (K.faults sink.old) (K.faults sink.new) result }
 {
     write_all(sink, b" facts")?;
@@ -134,9 +135,10 @@ fn write_list<K: Sink>(sink: &mut K, numbers: &[u32]) -> Result<(), Failed>
 }
 
 /// Writes what a line shows, and its list of facts.
+#[tactic(auto, using(crate::proofs::Flow::writing))]
 fn write_shown<K: Sink>(sink: &mut K, shown: &[u8], numbers: &[u32]) -> Result<(), Failed>
-    ensures ok { OnOk result (Appends (K.written sink.old) (K.written sink.new) (shown.now ++ spec.facts_text numbers.now)) }
-    ensures err { OnErr result (AppendsFront (K.written sink.old) (K.written sink.new) (shown.now ++ spec.facts_text numbers.now)) }
+    ensures ok { OnOk result (Appends (K.written sink.old) (K.written sink.new) (shown.now ++ model.facts_text numbers.now)) }
+    ensures err { OnErr result (AppendsFront (K.written sink.old) (K.written sink.new) (shown.now ++ model.facts_text numbers.now)) }
     ensures cause { HasCause (K.faults sink.old) (K.faults sink.new) result }
 {
     write_all(sink, shown)?;
@@ -144,11 +146,11 @@ fn write_shown<K: Sink>(sink: &mut K, shown: &[u8], numbers: &[u32]) -> Result<(
     Ok(())
 }
 
-/// Writes that the computed day (R.D.) is out of range, and the list of facts.
-#[tactic(auto, unfolding(crate::specs::Text::too_far_text))]
-fn write_too_far<K: Sink>(sink: &mut K, day: i64) -> Result<(), Failed>
-    ensures ok { OnOk result (Appends (K.written sink.old) (K.written sink.new) (spec.too_far_text day)) }
-    ensures err { OnErr result (AppendsFront (K.written sink.old) (K.written sink.new) (spec.too_far_text day)) }
+/// Writes that a day (R.D.) is out of range.
+#[tactic(auto, unfolding(book_model::specs::Text::too_far_text))]
+pub(crate) fn write_too_far<K: Sink>(sink: &mut K, day: i64) -> Result<(), Failed>
+    ensures ok { OnOk result (Appends (K.written sink.old) (K.written sink.new) (model.too_far_text day)) }
+    ensures err { OnErr result (AppendsFront (K.written sink.old) (K.written sink.new) (model.too_far_text day)) }
     ensures cause { HasCause (K.faults sink.old) (K.faults sink.new) result }
 {
     let mut buffer = Buffer::new();
@@ -156,11 +158,11 @@ fn write_too_far<K: Sink>(sink: &mut K, day: i64) -> Result<(), Failed>
     write_parts(sink, &[b"refused 4 ", day])
 }
 
-/// Writes that the day's own date is another.
-#[tactic(auto, unfolding(crate::specs::Text::no_date_text))]
+/// Writes that a day has another date of its own.
+#[tactic(auto, unfolding(book_model::specs::Text::no_date_text))]
 fn write_no_date<K: Sink>(sink: &mut K, back: &[u8]) -> Result<(), Failed>
-    ensures ok { OnOk result (Appends (K.written sink.old) (K.written sink.new) (spec.no_date_text back.now)) }
-    ensures err { OnErr result (AppendsFront (K.written sink.old) (K.written sink.new) (spec.no_date_text back.now)) }
+    ensures ok { OnOk result (Appends (K.written sink.old) (K.written sink.new) (model.no_date_text back.now)) }
+    ensures err { OnErr result (AppendsFront (K.written sink.old) (K.written sink.new) (model.no_date_text back.now)) }
     ensures cause { HasCause (K.faults sink.old) (K.faults sink.new) result }
 {
     write_parts(sink, &[b"refused 5 ", back])
@@ -180,16 +182,11 @@ fn write_refused<K: Sink>(sink: &mut K, number: u32, rule: u8) -> Result<(), Fai
     write_parts(sink, &[b"line ", number, b" refused ", rule, b"\n"])
 }
 
-/// Writes the line of a line whose fact is undecided.
-#[tactic(auto, unfolding(book_model::specs::Text::undecided_text))]
-fn write_undecided<K: Sink>(
-    sink: &mut K,
-    number: u32,
-    fact: Fact,
-    at: Undecided,
-) -> Result<(), Failed>
-    ensures ok { OnOk result (Appends (K.written sink.old) (K.written sink.new) (model.undecided_text number fact at)) }
-    ensures err { OnErr result (AppendsFront (K.written sink.old) (K.written sink.new) (model.undecided_text number fact at)) }
+/// Writes the number of a line, and that a fact is undecided.
+#[tactic(auto, unfolding(book_model::specs::Text::open_text))]
+fn write_open<K: Sink>(sink: &mut K, number: u32, fact: Fact, at: Undecided) -> Result<(), Failed>
+    ensures ok { OnOk result (Appends (K.written sink.old) (K.written sink.new) (model.open_text number fact at)) }
+    ensures err { OnErr result (AppendsFront (K.written sink.old) (K.written sink.new) (model.open_text number fact at)) }
     ensures cause { HasCause (K.faults sink.old) (K.faults sink.new) result }
 {
     let mut number_buffer = Buffer::new();
@@ -208,7 +205,6 @@ fn write_undecided<K: Sink>(
     write_parts(
         sink,
         &[
-            b"line ",
             number,
             b" undecided ",
             site,
@@ -229,11 +225,11 @@ fn write_undecided<K: Sink>(
     )
 }
 
-/// Writes the line of a line whose fact is void.
-#[tactic(auto, unfolding(book_model::specs::Text::void_text))]
-fn write_void<K: Sink>(sink: &mut K, number: u32, fact: Fact, site: Site) -> Result<(), Failed>
-    ensures ok { OnOk result (Appends (K.written sink.old) (K.written sink.new) (model.void_text number fact site)) }
-    ensures err { OnErr result (AppendsFront (K.written sink.old) (K.written sink.new) (model.void_text number fact site)) }
+/// Writes the number of a line, and that a fact is void.
+#[tactic(auto, unfolding(book_model::specs::Text::empty_text))]
+fn write_empty<K: Sink>(sink: &mut K, number: u32, fact: Fact, site: Site) -> Result<(), Failed>
+    ensures ok { OnOk result (Appends (K.written sink.old) (K.written sink.new) (model.empty_text number fact site)) }
+    ensures err { OnErr result (AppendsFront (K.written sink.old) (K.written sink.new) (model.empty_text number fact site)) }
     ensures cause { HasCause (K.faults sink.old) (K.faults sink.new) result }
 {
     let mut number_buffer = Buffer::new();
@@ -246,15 +242,54 @@ fn write_void<K: Sink>(sink: &mut K, number: u32, fact: Fact, site: Site) -> Res
     write_parts(
         sink,
         &[
-            b"line ", number, b" void ", site, b" fact ", kind, b" ", place, b" ", day, b"\n",
+            number, b" void ", site, b" fact ", kind, b" ", place, b" ", day, b"\n",
         ],
     )
 }
 
+/// Writes a line that names an undecided fact, behind a head. At an error, which comes only where the count of the
+/// sink's faults rose, a front of the text was written.
+#[tactic(auto, using(crate::proofs::Flow::writing))]
+pub fn write_undecided<K: Sink>(
+    sink: &mut K,
+    head: &[u8],
+    number: u32,
+    fact: Fact,
+    at: Undecided,
+) -> Result<(), Failed>
+    ensures ok { OnOk result (Appends (K.written sink.old) (K.written sink.new) (model.undecided_text head.now number fact at)) }
+    ensures err { OnErr result (AppendsFront (K.written sink.old) (K.written sink.new) (model.undecided_text head.now number fact at)) }
+    ensures cause { HasCause (K.faults sink.old) (K.faults sink.new) result }
+{
+    write_all(sink, head)?;
+    write_open(sink, number, fact, at)?;
+    Ok(())
+}
+
+/// Writes a line that names a void fact, behind a head. At an error, which comes only where the count of the sink's
+/// faults rose, a front of the text was written.
+#[tactic(auto, using(crate::proofs::Flow::writing))]
+pub fn write_void<K: Sink>(
+    sink: &mut K,
+    head: &[u8],
+    number: u32,
+    fact: Fact,
+    site: Site,
+) -> Result<(), Failed>
+    ensures ok { OnOk result (Appends (K.written sink.old) (K.written sink.new) (model.void_text head.now number fact site)) }
+    ensures err { OnErr result (AppendsFront (K.written sink.old) (K.written sink.new) (model.void_text head.now number fact site)) }
+    ensures cause { HasCause (K.faults sink.old) (K.faults sink.new) result }
+{
+    write_all(sink, head)?;
+    write_empty(sink, number, fact, site)?;
+    Ok(())
+}
+
 /// Writes that a day is out of range, and the list of facts.
+#[tactic(auto, using(crate::proofs::Flow::writing))]
 fn write_too_far_end<K: Sink>(sink: &mut K, day: i64, numbers: &[u32]) -> Result<(), Failed>
-    ensures ok { OnOk result (Appends (K.written sink.old) (K.written sink.new) (spec.too_far_text day ++ spec.facts_text numbers.now)) }
-    ensures err { OnErr result (AppendsFront (K.written sink.old) (K.written sink.new) (spec.too_far_text day ++ spec.facts_text numbers.now)) }
+    ensures ok { OnOk result (Appends (K.written sink.old) (K.written sink.new) (model.too_far_text day ++ model.facts_text numbers.now)) }
+    ensures err { OnErr result (AppendsFront (K.written sink.old) (K.written sink.new) (model.too_far_text day ++ model.facts_text numbers.now)) }
     ensures cause { HasCause (K.faults sink.old) (K.faults sink.new) result }
 {
     write_too_far(sink, day)?;
@@ -263,9 +298,10 @@ fn write_too_far_end<K: Sink>(sink: &mut K, day: i64, numbers: &[u32]) -> Result
 }
 
 /// Writes a day's own date, and the list of facts.
+#[tactic(auto, using(crate::proofs::Flow::writing))]
 fn write_no_date_end<K: Sink>(sink: &mut K, back: &[u8], numbers: &[u32]) -> Result<(), Failed>
-    ensures ok { OnOk result (Appends (K.written sink.old) (K.written sink.new) (spec.no_date_text back.now ++ spec.facts_text numbers.now)) }
-    ensures err { OnErr result (AppendsFront (K.written sink.old) (K.written sink.new) (spec.no_date_text back.now ++ spec.facts_text numbers.now)) }
+    ensures ok { OnOk result (Appends (K.written sink.old) (K.written sink.new) (model.no_date_text back.now ++ model.facts_text numbers.now)) }
+    ensures err { OnErr result (AppendsFront (K.written sink.old) (K.written sink.new) (model.no_date_text back.now ++ model.facts_text numbers.now)) }
     ensures cause { HasCause (K.faults sink.old) (K.faults sink.new) result }
 {
     write_no_date(sink, back)?;
@@ -274,6 +310,7 @@ fn write_no_date_end<K: Sink>(sink: &mut K, back: &[u8], numbers: &[u32]) -> Res
 }
 
 /// Writes a line with a result.
+#[tactic(auto, using(crate::proofs::Flow::writing))]
 fn write_listed<K: Sink>(
     sink: &mut K,
     number: u32,
@@ -281,8 +318,8 @@ fn write_listed<K: Sink>(
     shown: &[u8],
     numbers: &[u32],
 ) -> Result<(), Failed>
-    ensures ok { OnOk result (Appends (K.written sink.old) (K.written sink.new) (spec.listed_text number echo.now shown.now numbers.now)) }
-    ensures err { OnErr result (AppendsFront (K.written sink.old) (K.written sink.new) (spec.listed_text number echo.now shown.now numbers.now)) }
+    ensures ok { OnOk result (Appends (K.written sink.old) (K.written sink.new) (model.listed_text number (spec.words_in echo.now) shown.now numbers.now)) }
+    ensures err { OnErr result (AppendsFront (K.written sink.old) (K.written sink.new) (model.listed_text number (spec.words_in echo.now) shown.now numbers.now)) }
     ensures cause { HasCause (K.faults sink.old) (K.faults sink.new) result }
 {
     write_echo(sink, number, echo)?;
@@ -291,6 +328,7 @@ fn write_listed<K: Sink>(
 }
 
 /// Writes a line whose computed day is out of range.
+#[tactic(auto, using(crate::proofs::Flow::writing))]
 fn write_far_line<K: Sink>(
     sink: &mut K,
     number: u32,
@@ -298,8 +336,8 @@ fn write_far_line<K: Sink>(
     day: i64,
     numbers: &[u32],
 ) -> Result<(), Failed>
-    ensures ok { OnOk result (Appends (K.written sink.old) (K.written sink.new) (spec.listed_text number echo.now (spec.too_far_text day) numbers.now)) }
-    ensures err { OnErr result (AppendsFront (K.written sink.old) (K.written sink.new) (spec.listed_text number echo.now (spec.too_far_text day) numbers.now)) }
+    ensures ok { OnOk result (Appends (K.written sink.old) (K.written sink.new) (model.listed_text number (spec.words_in echo.now) (model.too_far_text day) numbers.now)) }
+    ensures err { OnErr result (AppendsFront (K.written sink.old) (K.written sink.new) (model.listed_text number (spec.words_in echo.now) (model.too_far_text day) numbers.now)) }
     ensures cause { HasCause (K.faults sink.old) (K.faults sink.new) result }
 {
     write_echo(sink, number, echo)?;
@@ -308,6 +346,7 @@ fn write_far_line<K: Sink>(
 }
 
 /// Writes a line whose day has another date.
+#[tactic(auto, using(crate::proofs::Flow::writing))]
 fn write_back_line<K: Sink>(
     sink: &mut K,
     number: u32,
@@ -315,8 +354,8 @@ fn write_back_line<K: Sink>(
     back: &[u8],
     numbers: &[u32],
 ) -> Result<(), Failed>
-    ensures ok { OnOk result (Appends (K.written sink.old) (K.written sink.new) (spec.listed_text number echo.now (spec.no_date_text back.now) numbers.now)) }
-    ensures err { OnErr result (AppendsFront (K.written sink.old) (K.written sink.new) (spec.listed_text number echo.now (spec.no_date_text back.now) numbers.now)) }
+    ensures ok { OnOk result (Appends (K.written sink.old) (K.written sink.new) (model.listed_text number (spec.words_in echo.now) (model.no_date_text back.now) numbers.now)) }
+    ensures err { OnErr result (AppendsFront (K.written sink.old) (K.written sink.new) (model.listed_text number (spec.words_in echo.now) (model.no_date_text back.now) numbers.now)) }
     ensures cause { HasCause (K.faults sink.old) (K.faults sink.new) result }
 {
     write_echo(sink, number, echo)?;
@@ -343,13 +382,14 @@ pub(crate) fn write_line<K: Sink>(sink: &mut K, number: u32, line: &CertLine) ->
             write_back_line(sink, number, echo, back.bytes(), facts.numbers())
         }
         CertLine::Refused(rule) => write_refused(sink, number, *rule),
-        CertLine::Undecided { fact, at } => write_undecided(sink, number, *fact, *at),
-        CertLine::Void { fact, site } => write_void(sink, number, *fact, *site),
+        CertLine::Undecided { fact, at } => write_undecided(sink, b"line ", number, *fact, *at),
+        CertLine::Void { fact, site } => write_void(sink, b"line ", number, *fact, *site),
     }
 }
 
 /// Writes the text of a block: its facts, numbered from its first, and then its line with its number. At an error,
 /// which comes only where the count of the sink's faults rose, a front of the text was written.
+#[tactic(auto, using(crate::proofs::Flow::writing))]
 pub fn write_block<K: Sink>(sink: &mut K, block: &Block) -> Result<(), Failed>
     requires { block.now.first + length block.now.facts ≤ 2 ^ 32 }
     ensures ok { OnOk result (Appends (K.written sink.old) (K.written sink.new) (spec.block_text block.now)) }
@@ -367,7 +407,7 @@ pub fn write_header<K: Sink>(sink: &mut K) -> Result<(), Failed>
     ensures err { OnErr result (AppendsFront (K.written sink.old) (K.written sink.new) model.header) }
     ensures cause { HasCause (K.faults sink.old) (K.faults sink.new) result }
 {
-    write_all(sink, b"calendrica 1 depth 40\n")
+    write_parts(sink, &[HEADER.as_bytes(), b"\n"])
 }
 
 /// Writes the last line of a text, which counts its lines and facts.

@@ -10,3 +10,6 @@ pub mod Divisions
 pub mod Periods
 pub mod PiEnds
 pub mod Searching
+pub mod Widths
+pub mod Products
+pub mod Ratios

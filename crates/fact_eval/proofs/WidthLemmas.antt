@@ -13,14 +13,16 @@ use Rattle.exact_math.proofs.Same.{le_of_same, ge_of_same}
 use Rattle.book_model.specs.declared.fail.Fail.{Fail}
 use Rattle.book_model.specs.declared.fail.Fail.TheVariants.{Undecided as undecided_at, Void}
 use Rattle.book_model.specs.declared.site.Site.TheVariants.{Round, Year}
+use Rattle.book_model.specs.declared.fact.Kind.TheVariants.{Dt}
 use Rattle.encl_core.specs.Steps.{IsOpenFloor}
 use Rattle.book_model.specs.Bounds.{Bound, unbounded, bounded, Reach, IsNarrow, breadth, at_32, bound_of, implies, integer_bound, constant_bound, sum_bound, scaled_bound, limits_of, limits_36}
 use Rattle.book_model.specs.Correction.{int_power, polynomial_to, polynomial_of, seconds_of}
+use Rattle.book_model.specs.Facts.{IsFactValue}
 use Rattle.book_model.specs.Leading.{at_56, bounds, IsOpenCell, between_cells, too_far}
 use Rattle.book_model.specs.Programs.{integers, cell_at, cell_of, when}
 use Rattle.book_model.specs.Relations.{Narrow}
 use Rattle.time_scales.specs.Corrections.{row_of, computed_by, computed_of}
-use Rattle.fact_eval.specs.Widths.{rounded_expression, IsFactValue, IsNearRound}
+use Rattle.fact_eval.specs.Widths.{rounded_expression, IsNearFor}
 
 -- no argument is promised anything
 abbrev pub no_bound : ℕ → Bound
@@ -108,10 +110,10 @@ open_floor_close everything lo hi h (between_cells e k) = absurd (nothing_narrow
 open_floor_close (between a b) lo hi h (between_cells e (bounds l r)) = apart_at_most lo hi (close_ends a b lo hi l r h)
 
 -- an open floor of what keeps the bound from 1987 on is a near rounding
-pub near_round : (i : Interval) (y : ℤ) (f : Fail) → (pos 1987 ≤ℤ y → y ≤ℤ pos 2050 → IsNarrow 0 rounded_bound i) → IsOpenFloor i Round f → IsNearRound y f
-near_round i y (undecided_at u) h o = (o.1, λ a b. open_floor_close i u.lo u.hi (h a b) o.0)
+pub near_round : (i : Interval) (y : ℤ) (f : Fail) → (pos 1987 ≤ℤ y → y ≤ℤ pos 2050 → IsNarrow 0 rounded_bound i) → IsOpenFloor i Round f → IsNearFor Dt y f
+near_round i y (undecided_at u) h o = record { no_whole_day = λ e t d. let r = o.1 in absurd (cc); close = λ k a b. open_floor_close i u.lo u.hi (h a b) o.0 }
 near_round i y (Void s) h o = tt
 
 -- a void is no open test
-pub void_is_no_test : (y : ℤ) (f : Fail) → f ≡ Void Year → IsNearRound y f
+pub void_is_no_test : (y : ℤ) (f : Fail) → f ≡ Void Year → IsNearFor Dt y f
 void_is_no_test y f e = rw e tt

@@ -1,13 +1,16 @@
 //! The dynamical time correction of a day, in milliseconds.
-ghost use Rattle.std.specs.Prelude.{◌≡◌, ◌≤◌, ◌+◌, pos, negsuc, ◌≤ℤ◌, IfOk, IfErr};
+ghost use Rattle.std.specs.Prelude.{◌≡◌, ◌≤◌, ◌+◌, IfOk, IfErr};
 ghost use Rattle.book_model.specs.Bounds.{Reach, limits_of};
 ghost use Rattle.book_model.specs.Calendar.{year_of_day};
 ghost use Rattle.book_model.specs.Expressions.{Expression, World, constant, add, scale};
 ghost use Rattle.book_model.specs.Fractions.{fraction_of};
+ghost use Rattle.book_model.specs.Facts.{IsFactValue, IsValueDay};
 ghost use Rattle.book_model.specs.Kinds.{dt_of};
+ghost use Rattle.book_model.specs.declared.fact.Kind.TheVariants.{Dt};
+ghost use Rattle.book_model.specs.Programs.{AtMost};
 ghost use Rattle.book_model.specs.Leading.{Exact, Leads};
 ghost use Rattle.book_model.specs.Relations.{Within, Narrow};
-ghost use Rattle.fact_eval.specs.Widths.{IsNearRound, IsFactValue};
+ghost use Rattle.fact_eval.specs.Widths.{IsNearFor};
 
 use book_model::{Fail, HALF, MILLISECONDS_OF_DAY, Site};
 use encl_core::{Enclosure, Trail, floor_step};
@@ -23,16 +26,16 @@ fn milliseconds<E: Enclosure>(days: E) -> E
     days.mul_frac(MILLISECONDS_OF_DAY).add(E::from_frac(HALF))
 }
 
-#[tactic(auto, using(book_model::proofs::Leads::leading), unfolding(book_model::specs::Kinds::dt_of, book_model::specs::Correction::rounded_of, book_model::specs::Leading::next_turn))]
+#[tactic(auto, using(book_model::proofs::Leads::leading, book_model::proofs::FactRuns::dt_few), unfolding(book_model::specs::Kinds::dt_of, book_model::specs::Correction::rounded_of, book_model::specs::Leading::next_turn))]
 /// The dynamical time correction of the year of a day, in milliseconds, rounded: two tests, of which only the second
 /// may be open.
 pub(crate) fn dt<E: Enclosure>(day: i64, trail: &mut Trail) -> Result<i64, Fail>
-    requires from_1800 { pos 657253 ≤ℤ day }
-    requires to_2049 { day ≤ℤ pos 748382 }
+    requires day { IsValueDay day }
+    ensures few { AtMost 99999 (dt_of day) }
     ensures leads { (w : World) → 40 ≤ w.depth → Leads w Exact (dt_of day) trail.old.count trail.new.count result }
     ensures counted { trail.new.count ≤ trail.old.count + 2 }
     ensures value { IfOk result IsFactValue }
-    ensures open { E.BITS ≡ 36 → IfErr result (IsNearRound (year_of_day day)) }
+    ensures open { E.BITS ≡ 36 → IfErr result (IsNearFor Dt (year_of_day day)) }
 {
     let year = year_of_whole_day(day, trail);
     match correction::<E>(year, trail) {

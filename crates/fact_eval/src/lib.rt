@@ -2,9 +2,9 @@
 #![tactic(auto)]
 
 mod dt;
-mod longitude;
 mod nowruz;
 mod staged;
+mod sun;
 #[cfg(test)]
 mod tests;
 

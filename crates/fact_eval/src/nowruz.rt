@@ -1,10 +1,14 @@
 //! The first day of a Persian year.
-ghost use Rattle.std.specs.Prelude.{◌≡◌, ◌≤◌, ◌+◌, pos, negsuc, ◌≤ℤ◌, ◌+ℤ◌, ◌-ℤ◌, ℤ, Bool, IfOk};
+ghost use Rattle.std.specs.Prelude.{◌≡◌, ◌≤◌, ◌+◌, pos, ◌≤ℤ◌, ◌+ℤ◌, ◌-ℤ◌, ℤ, Bool, IfOk, IfErr};
+ghost use Rattle.book_model.specs.Calendar.{year_of_day};
 ghost use Rattle.book_model.specs.Expressions.{Expression, World};
+ghost use Rattle.book_model.specs.Facts.{IsFactDay, IsFactValue, IsValueDay};
 ghost use Rattle.book_model.specs.Kinds.{longitude_at_noon_of, is_at_most_two_of, has_spring_at_noon, last_equinox_of, search_start_of, nowruz_of};
+ghost use Rattle.book_model.specs.declared.fact.Kind.TheVariants.{Nowruz};
+ghost use Rattle.book_model.specs.Programs.{AtMost};
 ghost use Rattle.book_model.specs.Leading.{Exact, Leads};
 ghost use Rattle.book_model.specs.Relations.{Within};
-ghost use Rattle.fact_eval.specs.Widths.{IsFactValue};
+ghost use Rattle.fact_eval.specs.Widths.{IsNearFor};
 
 use book_model::{Fail, Site};
 use encl_core::{DayTest, Enclosure, Trail, first_day, floor_step, less_step};
@@ -17,8 +21,7 @@ struct SpringAtNoon;
 /// The longitude of the sun at true noon of a day (R.D.) at Tehran: three tests at most.
 #[tactic(auto, using(book_model::proofs::Leads::leading), unfolding(book_model::specs::Kinds::longitude_at_noon_of, book_model::specs::Leading::next_turn))]
 fn longitude_at_noon<E: Enclosure>(day: i64, trail: &mut Trail) -> Result<E, Fail>
-    requires low { negsuc 39999999 ≤ℤ day }
-    requires high { day ≤ℤ pos 40000000 }
+    requires day { IsFactDay day }
     ensures leads { (w : World) → 40 ≤ w.depth → Leads w (Within E.shown w) (longitude_at_noon_of day) trail.old.count trail.new.count result }
     ensures counted { trail.new.count ≤ trail.old.count + 3 }
 {
@@ -43,8 +46,7 @@ fn is_at_most_two<E: Enclosure>(longitude: E, trail: &mut Trail) -> Result<bool,
 /// The test of a day (R.D.): four tests at most.
 #[tactic(auto, using(book_model::proofs::Leads::leading), unfolding(book_model::specs::Kinds::has_spring_at_noon, book_model::specs::Leading::next_turn))]
 fn has_spring<E: Enclosure>(day: i64, trail: &mut Trail) -> Result<bool, Fail>
-    requires low { negsuc 39999999 ≤ℤ day }
-    requires high { day ≤ℤ pos 40000000 }
+    requires day { IsFactDay day }
     ensures leads { (w : World) → 40 ≤ w.depth → Leads w Exact (has_spring_at_noon day) trail.old.count trail.new.count result }
     ensures counted { trail.new.count ≤ trail.old.count + 4 }
 {
@@ -66,8 +68,7 @@ impl<E: Enclosure> DayTest<E> for SpringAtNoon {
 /// Tehran: seven tests at most.
 #[tactic(auto, using(book_model::proofs::Leads::leading), unfolding(book_model::specs::Kinds::last_equinox_of, book_model::specs::Leading::next_turn))]
 fn last_equinox<E: Enclosure>(day: i64, trail: &mut Trail) -> Result<E, Fail>
-    requires low { negsuc 39999999 ≤ℤ day }
-    requires high { day ≤ℤ pos 40000000 }
+    requires day { IsFactDay day }
     ensures leads { (w : World) → 40 ≤ w.depth → Leads w (Within E.shown w) (last_equinox_of day) trail.old.count trail.new.count result }
     ensures counted { trail.new.count ≤ trail.old.count + 7 }
 {
@@ -81,8 +82,7 @@ fn last_equinox<E: Enclosure>(day: i64, trail: &mut Trail) -> Result<E, Fail>
 /// estimated: eight tests at most.
 #[tactic(auto, using(book_model::proofs::Leads::leading), unfolding(book_model::specs::Kinds::search_start_of, book_model::specs::Leading::next_turn))]
 fn search_start<E: Enclosure>(day: i64, trail: &mut Trail) -> Result<i64, Fail>
-    requires from_1800 { pos 657253 ≤ℤ day }
-    requires to_2049 { day ≤ℤ pos 748382 }
+    requires day { IsValueDay day }
     ensures leads { (w : World) → 40 ≤ w.depth → Leads w Exact (search_start_of day) trail.old.count trail.new.count result }
     ensures from { IfOk result (λ q. (day -ℤ pos 600) ≤ℤ q) }
     ensures to { IfOk result (λ q. q ≤ℤ (day +ℤ pos 2)) }
@@ -97,13 +97,14 @@ fn search_start<E: Enclosure>(day: i64, trail: &mut Trail) -> Result<i64, Fail>
 /// The first day (R.D.) of the Persian year in which a day falls: the first from the day before the estimated equinox
 /// on, of 46, at whose true noon at Tehran the longitude of the sun is at most 2 degrees. It is void at `search` where
 /// there is none.
-#[tactic(auto, using(book_model::proofs::Leads::leading), unfolding(book_model::specs::Kinds::nowruz_of))]
+#[tactic(auto, using(book_model::proofs::Leads::leading, book_model::proofs::NewYears::nowruz_few, crate::proofs::Rightness::nowruz_keeps), unfolding(book_model::specs::Kinds::nowruz_of))]
 pub(crate) fn nowruz<E: Enclosure>(day: i64, trail: &mut Trail) -> Result<i64, Fail>
-    requires from_1800 { pos 657253 ≤ℤ day }
-    requires to_2049 { day ≤ℤ pos 748382 }
+    requires day { IsValueDay day }
+    ensures few { AtMost 99999 (nowruz_of day) }
     ensures leads { (w : World) → 40 ≤ w.depth → Leads w Exact (nowruz_of day) trail.old.count trail.new.count result }
     ensures value { IfOk result IsFactValue }
     ensures counted { trail.new.count ≤ trail.old.count + 5000 }
+    ensures open { IfErr result (IsNearFor Nowruz (year_of_day day)) }
 {
     match search_start::<E>(day, trail) {
         Ok(start) => first_day::<E, SpringAtNoon>(&SpringAtNoon, start - 1, trail),

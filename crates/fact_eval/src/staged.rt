@@ -1,23 +1,21 @@
 //! The evaluator of the program: each fact's formula over enclosures.
-ghost use Rattle.std.specs.Prelude.{◌≡◌, ◌≤◌, IfOk, IfErr};
+ghost use Rattle.std.specs.Prelude.{◌≡◌, ◌≤◌, IfOk, IfErr, IsTrue};
+ghost use Rattle.book_model.specs.declared.fact.TheConstants.{FIRST_DAY as first_day, LAST_DAY as last_day};
 ghost use Rattle.book_model.specs.Calendar.{year_of_day};
+ghost use Rattle.book_model.specs.Correction.{is_between};
 ghost use Rattle.book_model.specs.Expressions.{World};
-ghost use Rattle.book_model.specs.Facts.{program_of};
+ghost use Rattle.book_model.specs.Facts.{IsFactValue, IsValueDay, formula_of, program_of};
 ghost use Rattle.book_model.specs.Leading.{Exact, Leads};
+ghost use Rattle.book_model.specs.Programs.{AtMost};
 ghost use Rattle.fact_eval.specs.Answers.{answer_of};
-ghost use Rattle.fact_eval.specs.Widths.{IsNearFor, IsFactValue};
+ghost use Rattle.fact_eval.specs.Widths.{IsNearFor};
 
 use crate::dt::dt;
-use crate::longitude::sun_in_thousandths;
 use crate::nowruz::nowruz;
-use book_model::{Fact, Fail, Kind, Site};
+use crate::sun::sun_in_thousandths;
+use book_model::{FIRST_DAY, Fact, Fail, Kind, LAST_DAY, Place, Site};
 use encl_core::{Coarse, Enclosure, Trail};
 use oracle_core::{Answer, Evaluator};
-
-/// The first and the last day of which a fact may have a value (R.D.): 1 July 1800 and 31 December 2049.
-const FIRST_DAY: i64 = 657_253;
-
-const LAST_DAY: i64 = 748_382;
 
 /// Evaluates each fact over coarse enclosures.
 #[derive(Clone, Copy, Debug, PartialEq, Eq)]
@@ -30,21 +28,47 @@ impl Staged {
     }
 }
 
+/// The value that the formula of a kind of fact gives at a place on a day (R.D.): one line for each kind.
+#[tactic(auto, unfolding(book_model::specs::Facts::formula_of))]
+fn formula<E: Enclosure>(
+    kind: Kind,
+    _place: Place,
+    day: i64,
+    trail: &mut Trail,
+) -> Result<i64, Fail>
+    requires day { IsValueDay day }
+    ensures few { AtMost 99999 (formula_of kind _place day) }
+    ensures leads { (w : World) → 40 ≤ w.depth → Leads w Exact (formula_of kind _place day) trail.old.count trail.new.count result }
+    ensures value { IfOk result IsFactValue }
+    ensures open { E.BITS ≡ 36 → IfErr result (IsNearFor kind (year_of_day day)) }
+{
+    match kind {
+        Kind::Dt => dt::<E>(day, trail),
+        Kind::Sun => sun_in_thousandths::<E>(day, trail),
+        Kind::Nowruz => nowruz::<E>(day, trail),
+    }
+}
+
+/// Whether a fact of the day (R.D.) may have a value.
+fn may_have_value(day: i64) -> bool
+    ensures same { result ≡ is_between first_day last_day day }
+    ensures day { IsTrue result → IsValueDay day }
+{
+    FIRST_DAY <= day && day <= LAST_DAY
+}
+
 /// The value of a fact by its formula. It fails where a test is open, or where the formula is void.
 pub(crate) fn evaluate<E: Enclosure>(fact: Fact, trail: &mut Trail) -> Result<i64, Fail>
+    ensures few { AtMost 99999 (program_of fact) }
     ensures leads { (w : World) → 40 ≤ w.depth → Leads w Exact (program_of fact) trail.old.count trail.new.count result }
     ensures value { IfOk result IsFactValue }
     ensures open { E.BITS ≡ 36 → IfErr result (IsNearFor fact.kind (year_of_day fact.day)) }
 {
     let day = fact.day();
-    if day < FIRST_DAY || LAST_DAY < day {
+    if !may_have_value(day) {
         return Err(Fail::Void(Site::Year));
     }
-    match fact.kind() {
-        Kind::Dt => dt::<E>(day, trail),
-        Kind::Sun => sun_in_thousandths::<E>(day, trail),
-        Kind::Nowruz => nowruz::<E>(day, trail),
-    }
+    formula::<E>(fact.kind(), fact.place(), day, trail)
 }
 
 /// The answer that a result is.

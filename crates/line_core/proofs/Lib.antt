@@ -4,6 +4,5 @@ pub mod DateDays
 pub mod LineWords
 pub mod Requests
 pub mod OtherCalendars
-pub mod WordRows
 pub mod YearNumbers
 pub mod GregorianDates

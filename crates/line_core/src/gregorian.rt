@@ -3,14 +3,14 @@ ghost use Rattle.std.specs.Prelude.{◌≡◌, ◌↔◌, IsTrue, IsSome, IfSome
 ghost use Rattle.book_model.specs.Calendar.{is_date, fixed_of};
 ghost use Rattle.book_model.specs.Dates as dates;
 
-use book_model::{FIRST_DAY, Fields, LAST_DAY};
+use book_model::{FIRST_ANSWERED_DAY, Fields, LAST_ANSWERED_DAY};
 use civil_core::{from_fixed, to_fixed};
 
 /// Whether a day (R.D.) is one of 1 January 1802 to 31 December 2048.
 pub(crate) fn is_in_range(day: i64) -> bool
     ensures range { result ≡ dates.is_in_range day }
 {
-    FIRST_DAY <= day && day <= LAST_DAY
+    FIRST_ANSWERED_DAY <= day && day <= LAST_ANSWERED_DAY
 }
 
 /// The day number (R.D.) of the date of the years 1 to 9999 with these numbers, if the calendar has it.

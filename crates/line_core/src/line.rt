@@ -1,12 +1,12 @@
 //! What a line asks, or the first rule that it breaks.
-ghost use Rattle.std.specs.Prelude.{◌≡◌, ◌≤◌, ◌↔◌, ◌&&◌, ◌∷◌, [], nat_le, not, length, position, IsTrue, IsSome, IfSome, IfOk, MatchOption, map};
+ghost use Rattle.std.specs.Prelude.{◌≡◌, ◌≤◌, ◌↔◌, ◌&&◌, ◌∷◌, [], nat_le, not, length, position, IsTrue, IsSome, IfSome, IfOk, MatchOption};
 ghost use Rattle.std.specs.List.{list_all, position_or_len};
 ghost use Rattle.book_model.specs.Lines as spec;
 ghost use Rattle.book_model.specs.Requests.{request_of, with_words, is_possible, is_in_reach};
-ghost use Rattle.book_model.specs.Words.{from_word_of, to_word_of, looked_up as value_in};
+ghost use Rattle.book_model.specs.Words.{from_word_of, to_word_of};
 
 use crate::dates::ranged_date;
-use book_model::{FROM_WORDS, FromWord, Request, Rule, TO_WORDS, ToWord};
+use book_model::{FromWord, Request, Rule, ToWord};
 
 /// The longest line, in bytes.
 const LONGEST_LINE: usize = 200;
@@ -99,40 +99,14 @@ pub fn three_words<'a>(line: &'a [u8]) -> Option<Words<'a>>
     }
 }
 
-/// The value of a word in a table.
-fn looked_up<V: Copy, W>(rows: &[(&[u8], V, W)], word: &[u8]) -> Option<V>
-    ensures value { result ≡ value_in (map (λ row. (row.0.now, row.1)) rows.now) word.now }
-{
-    for row in rows {
-        if word == row.0 {
-            return Some(row.1);
-        }
-    }
-    None
-}
-
-/// What a word before a date stands for.
-fn from_word(word: &[u8]) -> Option<FromWord>
-    ensures word { result ≡ from_word_of word.now }
-{
-    looked_up(&FROM_WORDS, word)
-}
-
-/// What a word after a date asks for.
-fn to_word(word: &[u8]) -> Option<ToWord>
-    ensures word { result ≡ to_word_of word.now }
-{
-    looked_up(&TO_WORDS, word)
-}
-
 /// What three words ask.
 fn asked(words: Words<'_>) -> Result<Request, Rule>
     ensures asked { result ≡ with_words (from_word_of words.entry.from.now) words.entry.date.now (to_word_of words.entry.to.now) }
     ensures possible { IfOk result (λ r. IsTrue (is_possible r)) }
     ensures in_reach { IfOk result (λ r. IsTrue (is_in_reach r)) }
 {
-    let from = from_word(words.from).ok_or(Rule::Calendar)?;
-    let to = to_word(words.to).ok_or(Rule::Calendar)?;
+    let from = FromWord::named(words.from).ok_or(Rule::Calendar)?;
+    let to = ToWord::named(words.to).ok_or(Rule::Calendar)?;
     let date = ranged_date(from.calendar(), words.date)?;
     Ok(Request { from, date, to })
 }

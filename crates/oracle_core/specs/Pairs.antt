@@ -1,17 +1,18 @@
 -- Facts beside their values.
-use Rattle.std.specs.Prelude.{◌≡◌, ◌&&◌, not, Bool, true, if◌then◌else◌, ℤ, pos, negsuc, ◌≤ℤ◌, List, [], ◌∷◌, ◌++◌, length, Option, Some, None, IsTrue}
+use Rattle.std.specs.Prelude.{◌≡◌, ◌&&◌, not, Bool, true, if◌then◌else◌, ℤ, ◌≤ℤ◌, List, [], ◌∷◌, ◌++◌, length, Option, Some, None, IsTrue}
 use Rattle.std.specs.List.{list_any}
 use Rattle.std.proofs.Common.{arith}
 use Rattle.book_model.specs.declared.fact.Fact.{Fact}
+use Rattle.book_model.specs.declared.fact.TheConstants.{LEAST_VALUE, GREATEST_VALUE}
 use Rattle.book_model.specs.Facts.{run_of, IsTrueWith}
 use Rattle.book_model.specs.Inquiries.{fact_eq}
 use Rattle.book_model.specs.Programs.{outcome, valued}
 
--- the fact is true with the value, which lies within 10,000,000 of 0
+-- the fact is true with the value, which it may have
 pub record StandsWith (f : Fact) (v : ℤ) : Type 0 where
   pub is_true : IsTrueWith f v
-  pub low : negsuc 9999999 ≤ℤ v
-  pub high : v ≤ℤ pos 10000000
+  pub low : LEAST_VALUE ≤ℤ v
+  pub high : v ≤ℤ GREATEST_VALUE
 
 -- the facts of the pairs
 abbrev pub facts_of : List (Fact × ℤ) → List Fact
@@ -28,10 +29,10 @@ abbrev pub are_distinct : List Fact → Bool
 are_distinct [] = true
 are_distinct (f ∷ fs) = not (list_any (fact_eq f) fs) && are_distinct fs
 
--- each value lies within 10,000,000 of 0
+-- each value is one that a fact may have
 abbrev pub AreFactValues : List ℤ → Type 0
 AreFactValues [] = Unit {0}
-AreFactValues (v ∷ vs) = (negsuc 9999999 ≤ℤ v) × (v ≤ℤ pos 10000000) × AreFactValues vs
+AreFactValues (v ∷ vs) = (LEAST_VALUE ≤ℤ v) × (v ≤ℤ GREATEST_VALUE) × AreFactValues vs
 
 -- the value that stands beside the fact
 abbrev pub value_beside : List Fact → List ℤ → Fact → Option ℤ

@@ -4,12 +4,8 @@ use Rattle.std.specs.Prelude.{if◌then◌else◌}
 use Rattle.std.specs.List.{concat, flat_map, list_any}
 use Rattle.book_model.specs.declared.fact.Fact.{Fact}
 use Rattle.book_model.specs.Inquiries.{fact_eq}
-use Rattle.book_model.specs.Lines.{words_of}
-use Rattle.book_model.specs.declared.request.Fields.{Fields}
-use Rattle.book_model.specs.declared.request.Resolved.TheVariants.{TooFar, NoDate}
-use Rattle.book_model.specs.Text.{fact_text, new_facts_text, with_facts, head_text, number_text, resolved_text, result_text, dashed_text}
-use Rattle.cert_text.specs.declared.line.Echo.{Echo}
-use Rattle.cert_text.specs.Text.{fact_texts, echo_text, facts_text, listed_text, too_far_text, no_date_text}
+use Rattle.book_model.specs.Text.{fact_text, new_facts_text, with_facts}
+use Rattle.cert_text.specs.Text.{fact_texts}
 use Rattle.run_core.specs.Numbering.{new_facts}
 
 -- numbered from the count of those that were seen, the new facts are the text of the new facts
@@ -39,22 +35,3 @@ new_facts_count seen (e ∷ es) = step (list_any (fact_eq e.0) seen) (new_facts_
 pub new_facts_few : (seen : List Fact) (es facts : List (Fact × ℤ)) (first count : ℕ) → first ≡ length seen + 1 → facts ≡ new_facts seen es → count ≡ length (with_facts seen es) → count < 2 ^ 32
     → first + length facts ≤ 2 ^ 32
 new_facts_few seen es facts first count a b c d = rw (a, b) (omega (arith, new_facts_count seen es, c, d))
-
--- the parts of a line in another grouping
-grouped : (l n s x y z r f ns e : List ℕ) → concat (l ∷ n ∷ s ∷ x ∷ s ∷ y ∷ s ∷ z ∷ s ∷ []) ++ (r ++ (f ++ (ns ++ e))) ≡ concat (l ∷ n ∷ concat (s ∷ x ∷ s ∷ y ∷ s ∷ z ∷ []) ∷ s ∷ r ∷ f ∷ []) ++ ns ++ e
-grouped l n s x y z r f ns e = simp (append_assoc, append-nil)
-
--- a line with its words, its result and the numbers of its facts is the text of the result
-pub listed_is : (number : ℕ) (line : List ℕ) (echo : Echo) (result facts : List ℕ) → words_of line ≡ echo.from ∷ echo.date ∷ echo.to ∷ []
-    → listed_text number echo result facts ≡ resolved_text number line result facts
-unfolding echo_text facts_text head_text
-listed_is number line echo result facts three = rw three (grouped (codes "line ") (decimal number) (codes " ") echo.from echo.date echo.to result (codes " facts") (flat_map number_text facts) (codes "\n"))
-
--- the refusals that are found by computing, as they are written
-pub too_far_is : (day : ℤ) → too_far_text day ≡ result_text (TooFar day)
-unfolding too_far_text
-too_far_is day = rw append-nil refl
-
-pub no_date_is : (back : Fields) → no_date_text (dashed_text back) ≡ result_text (NoDate back)
-unfolding no_date_text
-no_date_is back = rw append-nil refl

@@ -14,7 +14,16 @@ command_of [] = None
 command_of (word ∷ []) = command_named word
 command_of (word ∷ more ∷ words) = None
 
+-- what a command reads: the whole input, of up to so many bytes, or nothing
+pub data Input : Type 0 where
+  whole : ℕ → Input
+  nothing : Input
+
 -- how many bytes an input of the command may have
 abbrev pub limit_of : Command → ℕ
 limit_of Convert = 4194304
 limit_of Check = 268435456
+
+-- what the command reads
+abbrev pub input_of : Command → Input
+input_of command = whole (limit_of command)

@@ -1,11 +1,12 @@
 -- How a run ends, and what it has done.
-use Rattle.std.specs.Prelude.{◌≡◌, ◌<◌, ◌≤◌, ℕ, Bool, List, length, codes, None, Some}
+use Rattle.std.specs.Prelude.{◌≡◌, ◌<◌, ◌≤◌, ℕ, Bool, List, [], length, codes, None, Some}
 use Rattle.std.specs.List.{list_all}
 use Rattle.std.specs.declared.option.Option.{Option}
 use Rattle.std.specs.Io.KnownBytes.{Appends, Consumes, IsAtEnd}
 use Rattle.book_model.specs.Lines.{lines_of}
 use Rattle.book_model.specs.Outcomes.{LineOutcome, AreRight, is_result}
 use Rattle.book_model.specs.Text.{text}
+use Rattle.run_core.specs.Commands.{Input, whole, nothing}
 use Rattle.run_core.specs.Checking.{ChecksText, CheckCutShort}
 use Rattle.run_core.specs.declared.command.Command.{Command}
 use Rattle.run_core.specs.declared.command.Command.TheVariants.{Convert, Check}
@@ -56,6 +57,26 @@ Fits (Some bytes) limit = length bytes ≤ limit
 abbrev pub IsLarger : Option (List ℕ) → ℕ → Type 0
 IsLarger None limit = ⊥
 IsLarger (Some bytes) limit = limit < length bytes
+
+-- these bytes were read, as a command that reads so does
+abbrev pub HasRead : Input → Option (List ℕ) → Option (List ℕ) → List ℕ → Type 0
+HasRead (whole limit) old new input = ReadWhole old new limit input
+HasRead nothing old new input = (new ≡ old) × (input ≡ [])
+
+-- the source tells its bytes, and such a command takes them
+abbrev pub CanRead : Input → Option (List ℕ) → Type 0
+CanRead (whole limit) left = Fits left limit
+CanRead nothing left = Unit {0}
+
+-- the source tells its bytes, and such a command doesn't take them
+abbrev pub IsTooLarge : Input → Option (List ℕ) → Type 0
+IsTooLarge (whole limit) left = IsLarger left limit
+IsTooLarge nothing left = ⊥
+
+-- so many bytes are more than such a command takes
+abbrev pub IsPast : Input → List ℕ → Type 0
+IsPast (whole limit) taken = limit < length taken
+IsPast nothing taken = ⊥
 
 -- what a command has done with an input: the text of its lines stands there, or the verdicts of a printed file
 abbrev pub Finishes : Command → Option (List ℕ) → Option (List ℕ) → List ℕ → Bool → Type 0

@@ -49,7 +49,7 @@ fn shown_line(
     facts: Numbers,
 ) -> Result<CertLine, AllocError>
     requires three { length (words_of line.now) ≡ 3 }
-    ensures text { IfOk result (λ l. (number : ℕ) → cert.line_text number l ≡ model.resolved_text number line.now (model.result_text resolved) facts) }
+    ensures text { IfOk result (λ l. (number : ℕ) → cert.line_text number l ≡ model.listed_text number (words_of line.now) (model.result_text resolved) facts) }
 {
     let echo = echo_of(alloc, line)?;
     match resolved {

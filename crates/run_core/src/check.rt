@@ -90,6 +90,7 @@ fn verdicts_of(
 }
 
 /// Puts the verdict of a line behind the bytes that wait, and writes them all once they are many.
+#[tactic(auto, using(cert_text::proofs::Flow::writing))]
 fn put_verdict<K: Sink>(
     sink: &mut K,
     pending: &mut Gathered,
@@ -112,6 +113,7 @@ fn put_verdict<K: Sink>(
 }
 
 /// Writes the bytes that wait, and how many verdicts there are of each kind.
+#[tactic(auto, using(cert_text::proofs::Flow::writing))]
 fn put_counts<K: Sink>(
     sink: &mut K,
     pending: &mut Gathered,

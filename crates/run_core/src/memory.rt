@@ -54,6 +54,8 @@ impl Source for MemorySource {
         ensures bound { ReadsAtMost result into.new }
         ensures bytes { ReadConsumes (Some (drop self.old.taken self.old.bytes.items)) (Some (drop self.new.taken self.new.bytes.items)) result into.new }
         ensures cause { HasCause self.old.faults self.new.faults result }
+        // Where it doesn't fail it gives as many bytes as are left, or as there is room for.
+        ensures most { IfOk result (λ n. n ≡ min (length into.old) (length (drop self.old.taken self.old.bytes.items))) }
         // It fails exactly at the listed calls.
         ensures exact { IsErr result ↔ IsTrue (is_listed self.old.failing.items (next_count self.old.calls)) }
         ensures count { self.new.faults ≡ (if is_listed self.old.failing.items (next_count self.old.calls) then next_count self.old.faults else self.old.faults) }

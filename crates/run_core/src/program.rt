@@ -1,12 +1,12 @@
 //! The top call: all that the program does.
-ghost use Rattle.std.specs.Prelude.{◌≡◌, ◌≤◌, ◌<◌, ◌⊎◌, ◌∷◌, [], ℕ, Bool, true, false, List, map, length, Some, None, string_bytes, IsTrue, IfOk, OnOk, OnErr, IsErrOf};
+ghost use Rattle.std.specs.Prelude.{◌≡◌, ◌≤◌, ◌⊎◌, ◌∷◌, [], ℕ, Bool, true, false, List, map, length, Some, None, string_bytes, IsTrue, IfOk, OnOk, OnErr, IsErrOf};
 ghost use Rattle.std.specs.Io.KnownBytes.{Appends, Consumes, Keeps};
 ghost use Rattle.std.specs.List.{list_all};
 ghost use Rattle.book_model.specs.Outcomes.{is_result};
 ghost use Rattle.run_core.specs.Outcomes.{line_outcome};
 ghost use Rattle.run_core.specs.Checking.{RefusesText};
-ghost use Rattle.run_core.specs.Commands.{command_of as named, limit_of};
-ghost use Rattle.run_core.specs.Run.{usage, Printed, CutShort, Finishes, IsCut, IsOfWork, ReadWhole, Fits, IsLarger};
+ghost use Rattle.run_core.specs.Commands.{command_of as named, input_of, limit_of};
+ghost use Rattle.run_core.specs.Run.{usage, Printed, CutShort, Finishes, IsCut, IsOfWork, HasRead, CanRead, IsTooLarge, IsPast};
 ghost use Rattle.cert_text.specs.Stream.{Rose, HasCause, AppendsFront};
 
 use crate::check::{Checked, check};
@@ -112,14 +112,14 @@ pub fn run<R: Threads + Sync, S: Source, K: Sink, E: Evaluator + Sync, G: Gate +
     // At Done and Mixed the input was read to its end, and the whole text stands for it; Done exactly where every outcome is a
     // result, under `check` where every verdict is yes.
     ensures done { result ≡ Status.Done → (c : Command) × (named (map string_bytes words.now) ≡ Some c)
-        × (input : List ℕ) × ReadWhole (S.left source.old) (S.left source.new) (limit_of c) input
+        × (input : List ℕ) × HasRead (input_of c) (S.left source.old) (S.left source.new) input
         × Finishes c (K.written sink.old) (K.written sink.new) input true }
     ensures mixed { result ≡ Status.Mixed → (c : Command) × (named (map string_bytes words.now) ≡ Some c)
-        × (input : List ℕ) × ReadWhole (S.left source.old) (S.left source.new) (limit_of c) input
+        × (input : List ℕ) × HasRead (input_of c) (S.left source.old) (S.left source.new) input
         × Finishes c (K.written sink.old) (K.written sink.new) input false }
     // BadText comes only under `check`, where the bytes read to their end aren't in the grammar.
     ensures bad_text { result ≡ Status.BadText → (named (map string_bytes words.now) ≡ Some Command.Check)
-        × (input : List ℕ) × ReadWhole (S.left source.old) (S.left source.new) (limit_of Command.Check) input
+        × (input : List ℕ) × HasRead (input_of Command.Check) (S.left source.old) (S.left source.new) input
         × RefusesText (K.written sink.old) (K.written sink.new) input }
     // Words comes exactly where the words aren't in the form, unless the usage line can't be written. Nothing is read then.
     ensures words { result ≡ Status.Words → Appends (K.written sink.old) (K.written sink.new) usage }
@@ -133,23 +133,23 @@ pub fn run<R: Threads + Sync, S: Source, K: Sink, E: Evaluator + Sync, G: Gate +
     ensures sink_later { K.faults sink.old ≤ K.faults sink.new }
     // TooLarge comes only where the source gave more bytes than the limit; and where it tells more, nothing else comes but a fault or want of memory.
     ensures too_large { result ≡ Status.TooLarge → (c : Command) × (named (map string_bytes words.now) ≡ Some c)
-        × (taken : List ℕ) × Consumes (S.left source.old) (S.left source.new) taken × (limit_of c < length taken) }
-    ensures too_large_told { (c : Command) → named (map string_bytes words.now) ≡ Some c → IsLarger (S.left source.old) (limit_of c)
+        × (taken : List ℕ) × Consumes (S.left source.old) (S.left source.new) taken × IsPast (input_of c) taken }
+    ensures too_large_told { (c : Command) → named (map string_bytes words.now) ≡ Some c → IsTooLarge (input_of c) (S.left source.old)
         → ¬ Rose (S.faults source.old) (S.faults source.new) → (result ≡ Status.TooLarge) ⊎ (result ≡ Status.Memory) }
     // Nothing is written at a fault of reading and for an input that is too large.
     ensures unwritten { (result ≡ Status.ReadFault) ⊎ (result ≡ Status.TooLarge) → sink.new ≡ sink.old }
     // What a cut leaves is a front of such a text.
     ensures cut { result ≡ Status.WriteFault → (c : Command) → named (map string_bytes words.now) ≡ Some c →
-        (input : List ℕ) × ReadWhole (S.left source.old) (S.left source.new) (limit_of c) input
+        (input : List ℕ) × HasRead (input_of c) (S.left source.old) (S.left source.new) input
         × IsCut c (K.written sink.old) (K.written sink.new) input }
     ensures cut_usage { result ≡ Status.WriteFault → named (map string_bytes words.now) ≡ None →
         AppendsFront (K.written sink.old) (K.written sink.new) usage }
     ensures memory { result ≡ Status.Memory → Keeps (K.written sink.old) (K.written sink.new)
         ⊎ (c : Command) × (named (map string_bytes words.now) ≡ Some c)
-        × (input : List ℕ) × ReadWhole (S.left source.old) (S.left source.new) (limit_of c) input
+        × (input : List ℕ) × HasRead (input_of c) (S.left source.old) (S.left source.new) input
         × IsCut c (K.written sink.old) (K.written sink.new) input }
     // With the words in the form, an input within the limit and no new fault, the run is finished, unless memory runs out.
-    ensures finished { (c : Command) → named (map string_bytes words.now) ≡ Some c → Fits (S.left source.old) (limit_of c)
+    ensures finished { (c : Command) → named (map string_bytes words.now) ≡ Some c → CanRead (input_of c) (S.left source.old)
         → ¬ Rose (S.faults source.old) (S.faults source.new) → ¬ Rose (K.faults sink.old) (K.faults sink.new)
         → (result ≡ Status.Done) ⊎ (result ≡ Status.Mixed) ⊎ (result ≡ Status.BadText) ⊎ (result ≡ Status.Memory) }
 {

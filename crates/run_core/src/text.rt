@@ -40,6 +40,7 @@ impl From<AllocError> for WriteStop {
 }
 
 /// Puts the block of a line behind the bytes that wait, and writes them all once they are many.
+#[tactic(auto, using(cert_text::proofs::Flow::writing))]
 fn put_block<K: Sink>(
     alloc: Global,
     sink: &mut K,
@@ -68,6 +69,7 @@ fn put_block<K: Sink>(
 }
 
 /// Writes the bytes that wait, and the last line.
+#[tactic(auto, using(cert_text::proofs::Flow::writing))]
 fn put_end<K: Sink>(
     sink: &mut K,
     pending: &mut Gathered,

@@ -1,5 +1,5 @@
 use Rattle.std.proofs.Common.{◌≡◌, ◌≤◌, drop}
-use Rattle.cert_text.specs.Numbers.{at_most, digits_of}
+use Rattle.cert_text.specs.Digits.{at_most, digits_of}
 use Rattle.book_model.specs.Lines.{value_from}
 use Rattle.cert_text.proofs.digits.digits_value.Given as goal
 

@@ -1,14 +1,15 @@
-use Rattle.cert_text.proofs.Flow.{appends_on, front_first, front_second, at_any_err}
+use Rattle.book_model.specs.Text.{no_date_text}
+use Rattle.cert_text.proofs.Flow.{failed_first, failed_second, appends_on}
 use Rattle.cert_text.proofs.result.write_own_date.Goals as goal
 
 pub returns-in_err-write_all-clause-err : goal.returns-in_err-write_all-clause-err
-returns-in_err-write_all-clause-err g c =
-    at_any_err _ (front_first _ _ _ _ c.in_err-write_all.ensures.err)
+unfolding no_date_text
+returns-in_err-write_all-clause-err g c = failed_first _ _ _ _ _ c.in_err-write_all.ensures.err
 
 pub returns-in_err-write_dashed-clause-err : goal.returns-in_err-write_dashed-clause-err
-returns-in_err-write_dashed-clause-err g c =
-    at_any_err _ (front_second _ _ _ _ _ c.in_ok-write_all.ensures.ok c.in_err-write_dashed.ensures.err)
+unfolding no_date_text
+returns-in_err-write_dashed-clause-err g c = failed_second _ _ _ _ _ _ c.in_ok-write_all.ensures.ok c.in_err-write_dashed.ensures.err
 
 pub returns-clause-ok : goal.returns-clause-ok
-returns-clause-ok g c =
-    appends_on _ _ _ _ _ c.in_ok-write_all.ensures.ok c.in_ok-write_dashed.ensures.ok
+unfolding no_date_text
+returns-clause-ok g c = appends_on _ _ _ _ _ c.in_ok-write_all.ensures.ok c.in_ok-write_dashed.ensures.ok

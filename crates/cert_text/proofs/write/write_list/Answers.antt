@@ -1,14 +1,14 @@
-use Rattle.cert_text.proofs.Flow.{front_first, front_second, appends_on, at_any_err}
-use Rattle.cert_text.specs.Text.{facts_text}
+use Rattle.book_model.specs.Text.{facts_text}
+use Rattle.cert_text.proofs.Flow.{failed_first, failed_second, appends_on}
 use Rattle.cert_text.proofs.write.write_list.Goals as goal
 
 pub returns-in_err-write_all-clause-err : goal.returns-in_err-write_all-clause-err
 unfolding facts_text
-returns-in_err-write_all-clause-err g c = at_any_err _ (front_first _ _ _ _ c.in_err-write_all.ensures.err)
+returns-in_err-write_all-clause-err g c = failed_first _ _ _ _ _ c.in_err-write_all.ensures.err
 
 pub returns-in_err-write_numbers_end-clause-err : goal.returns-in_err-write_numbers_end-clause-err
 unfolding facts_text
-returns-in_err-write_numbers_end-clause-err g c = at_any_err _ (front_second _ _ _ _ _ c.in_ok-write_all.ensures.ok c.in_err-write_numbers_end.ensures.err)
+returns-in_err-write_numbers_end-clause-err g c = failed_second _ _ _ _ _ _ c.in_ok-write_all.ensures.ok c.in_err-write_numbers_end.ensures.err
 
 pub returns-clause-ok : goal.returns-clause-ok
 unfolding facts_text

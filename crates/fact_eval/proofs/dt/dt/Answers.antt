@@ -19,7 +19,7 @@ returns-in-Ok-clause-leads g c = λ w d.
     leads_bind_exact _ k (leads_on _ l (c.floor_step.ensures.leads w _ (c.milliseconds.ensures.holds w _ (leaf_within l))))
 
 pub returns-in-Ok-clause-value : goal.returns-in-Ok-clause-value
-returns-in-Ok-clause-value g c = dt_is_value c.args.day _ _ _ c.requires.from_1800 c.requires.to_2049 (returns-in-Ok-clause-leads g c)
+returns-in-Ok-clause-value g c = dt_is_value c.args.day _ _ _ c.requires.day (returns-in-Ok-clause-leads g c)
 
 pub returns-in-Ok-clause-open : goal.returns-in-Ok-clause-open
 unfolding rounded_expression

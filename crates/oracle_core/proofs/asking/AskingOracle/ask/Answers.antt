@@ -24,7 +24,7 @@ pub returns-in_ok-keep-in-Value-clause-asks : goal.returns-in_ok-keep-in-Value-c
 returns-in_ok-keep-in-Value-clause-asks g c =
     let value : to_z w64 (of_z w64 c.in-Value.value) ≡ c.in-Value.value = search rules in
     let new : list_any (fact_eq c.args.fact) (facts_of c.args.self.now) ≡ false = not_there (fact_eq c.args.fact) _ (rw (c.self.invariant.0, c.self.view_is) at c.in-None.ensures.place) in
-    rw value (asked_value c.args.fact refl (added_fact _ _ c.args.fact c.in-Value.value new (rw value at c.in_ok-keep-in-Value.ensures.ok)) (record { is_true = c.in-Value.ensures.0; low = c.in-Value.ensures.1; high = c.in-Value.ensures.2 }))
+    rw value (asked_value c.args.fact refl (added_fact _ _ c.args.fact c.in-Value.value new (rw value at c.in_ok-keep-in-Value.ensures.ok)) (record { is_true = c.in-Value.ensures.0; low = c.in-Value.ensures.1.0; high = c.in-Value.ensures.1.1 }))
 
 pub returns-in_err-keep-in-Value-clause-asks : goal.returns-in_err-keep-in-Value-clause-asks
 returns-in_err-keep-in-Value-clause-asks g c =

@@ -1,0 +1,31 @@
+//! The longitude of the sun at the beginning of a day.
+ghost use Rattle.std.specs.Prelude.{◌≡◌, ◌≤◌, ◌+◌, IfOk, IfErr};
+ghost use Rattle.book_model.specs.Calendar.{year_of_day};
+ghost use Rattle.book_model.specs.Expressions.{World};
+ghost use Rattle.book_model.specs.Facts.{IsFactValue, IsValueDay};
+ghost use Rattle.book_model.specs.Kinds.{sun_in_thousandths_of};
+ghost use Rattle.book_model.specs.declared.fact.Kind.TheVariants.{Sun};
+ghost use Rattle.book_model.specs.Programs.{AtMost};
+ghost use Rattle.book_model.specs.Leading.{Exact, Leads};
+ghost use Rattle.fact_eval.specs.Widths.{IsNearFor};
+
+use book_model::{Fail, Site, THOUSANDTHS_OF_DEGREE};
+use encl_core::{Enclosure, Trail, floor_step};
+use sun_core::sun;
+
+/// The longitude of the sun at 0 h universal time of a day, in thousandths of a degree, rounded down: three tests, of
+/// which that of the year is never open.
+#[tactic(auto, using(book_model::proofs::Leads::leading, book_model::proofs::FactRuns::sun_in_thousandths_few), unfolding(book_model::specs::Kinds::sun_in_thousandths_of, book_model::specs::Leading::next_turn))]
+pub(crate) fn sun_in_thousandths<E: Enclosure>(day: i64, trail: &mut Trail) -> Result<i64, Fail>
+    requires day { IsValueDay day }
+    ensures few { AtMost 99999 (sun_in_thousandths_of day) }
+    ensures leads { (w : World) → 40 ≤ w.depth → Leads w Exact (sun_in_thousandths_of day) trail.old.count trail.new.count result }
+    ensures counted { trail.new.count ≤ trail.old.count + 3 }
+    ensures value { IfOk result IsFactValue }
+    ensures open { E.BITS ≡ 36 → IfErr result (IsNearFor Sun (year_of_day day)) }
+{
+    match sun(E::from_int(day), trail) {
+        Ok(degrees) => floor_step(degrees.mul_frac(THOUSANDTHS_OF_DEGREE), Site::Round, trail),
+        Err(fail) => Err(fail),
+    }
+}
