@@ -17,4 +17,5 @@ pub mod OctantHulls
 pub mod DegreeSines
 pub mod Estimates
 pub mod NewYears
+pub mod WordTables
 pub mod NameLemmas

@@ -2,6 +2,7 @@
 //! `specs/` the definitions themselves: expressions, programs of tests, runs, facts, lines and texts.
 #![tactic(auto)]
 
+mod calendar;
 mod calendar_tables;
 mod fact;
 mod fail;
@@ -18,7 +19,9 @@ mod tables;
 #[cfg(test)]
 mod tests;
 mod time_tables;
+mod words;
 
+pub use calendar::{CALENDARS, Calendar, CalendarRow, FIRST_ANSWERED_DAY, LAST_ANSWERED_DAY};
 pub use calendar_tables::{PERSIAN_EPOCH, TROPICAL_YEAR};
 pub use fact::{
     FIRST_DAY, FIRST_FACT_DAY, Fact, GREATEST_VALUE, KINDS, Kind, LAST_DAY, LAST_FACT_DAY,
@@ -28,7 +31,7 @@ pub use fail::{Fail, Undecided};
 pub use frac::Frac;
 pub use header::HEADER;
 pub use polynomial::{Cubic, Quadratic, QuadraticWave, Wave};
-pub use request::{Fields, FromWord, Request, Resolved, Rule, ToWord};
+pub use request::{Fields, Request, Resolved, Rule};
 pub use site::{SITES, Site};
 pub use sun_tables::{
     ABERRATION, DEGREE_IN_DAYS, DEGREE_OF_YEAR, ECCENTRICITY, FIVE_QUARTERS, FOUR, MEAN_ABERRATION,
@@ -43,3 +46,4 @@ pub use time_tables::{
     BEIJING_HOURS, CORRECTION_1800, CORRECTION_1900, CORRECTION_ANCIENT, DAY_IN_CENTURIES,
     NOON_2000, SIDEREAL_TIME,
 };
+pub use words::{FROM_WORDS, FromWord, Shown, TO_WORDS, ToWord};

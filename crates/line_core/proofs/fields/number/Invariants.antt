@@ -1,6 +1,6 @@
 use Rattle.std.proofs.Common.{◌≡◌, ◌<◌, ◌^◌, drop}
 use Rattle.book_model.specs.Lines.{value_from}
-use Rattle.line_core.proofs.day.number.Given as goal
+use Rattle.line_core.proofs.fields.number.Given as goal
 
 -- the rest of the digits goes on from the number so far, which has as many digits as are read
 abbrev pub invariant-loop-digit : goal.invariant-loop-digit

@@ -1,5 +1,5 @@
 use Rattle.line_core.proofs.DateText.{parts_at, parts_alone}
-use Rattle.line_core.proofs.day.cut_part.Goals as goal
+use Rattle.line_core.proofs.fields.cut_part.Goals as goal
 
 pub returns-in-Some : goal.returns-in-Some
 returns-in-Some c = record { cut = parts_at c.args.word.now _ c.in-Some.ensures.place }

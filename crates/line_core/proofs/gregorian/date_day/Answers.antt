@@ -1,7 +1,7 @@
 use Rattle.std.proofs.Common.{w32}
 use Rattle.civil_core.proofs.Conversions.{converted, passed}
 use Rattle.line_core.proofs.DateDays.{found_exactly, found_day}
-use Rattle.line_core.proofs.day.date_day.Goals as goal
+use Rattle.line_core.proofs.gregorian.date_day.Goals as goal
 
 pub returns-clause-some : goal.returns-clause-some
 returns-clause-some c =
