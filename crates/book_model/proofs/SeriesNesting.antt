@@ -66,10 +66,10 @@ pub narrower_inside : (lo hi a b c d : Fraction) → AreWithin (between a b) (be
 narrower_inside lo hi a b c d h i = inside_in lo hi a b (record { above = le_trans lo c a i.above h.0; below = le_trans b d hi h.1 i.below })
 
 -- ---- sine
-sine_lowers : (n : ℕ) (x y : Fraction) → IsUpTo 4 5 x → IsUpTo 4 5 y → x ≤F y → lower (sine_term x) n ≤F lower (sine_term y) n
+pub sine_lowers : (n : ℕ) (x y : Fraction) → IsUpTo 4 5 x → IsUpTo 4 5 y → x ≤F y → lower (sine_term x) n ≤F lower (sine_term y) n
 sine_lowers n x y w v h = lower_rises n (sine_term x) (sine_term y) ((sine_halving x w).nonneg (suc n)) ((sine_halving y v).nonneg (suc n)) (sine_rising x y w v h)
 
-sine_uppers : (n : ℕ) (x y : Fraction) → IsUpTo 4 5 x → IsUpTo 4 5 y → x ≤F y → upper (sine_term x) n ≤F upper (sine_term y) n
+pub sine_uppers : (n : ℕ) (x y : Fraction) → IsUpTo 4 5 x → IsUpTo 4 5 y → x ≤F y → upper (sine_term x) n ≤F upper (sine_term y) n
 sine_uppers n x y w v h = upper_rises n (sine_term x) (sine_term y) ((sine_halving x w).nonneg (suc n)) ((sine_halving y v).nonneg (suc n)) (sine_rising x y w v h)
 
 sine_ends : (n : ℕ) (i j : Interval) → IsProper i → AreWithin i j → sine_series n i ⊆ sine_series n j
@@ -100,10 +100,10 @@ pub sine_narrows : (n : ℕ) {i j : Interval} → IsProper i → i ⊆ j → sin
 sine_narrows n {i} {j} p h = within_trans (sine_deeper n i p) (sine_within n p h)
 
 -- ---- cosine, from depth 1 on
-cosine_lowers : (n : ℕ) (x y : Fraction) → IsUpTo 4 5 x → IsUpTo 4 5 y → x ≤F y → lower (cosine_term y) (suc n) ≤F lower (cosine_term x) (suc n)
+pub cosine_lowers : (n : ℕ) (x y : Fraction) → IsUpTo 4 5 x → IsUpTo 4 5 y → x ≤F y → lower (cosine_term y) (suc n) ≤F lower (cosine_term x) (suc n)
 cosine_lowers n x y w v h = lower_falls n (cosine_term x) (cosine_term y) ((cosine_halving x w).nonneg (suc n)) ((cosine_halving y v).nonneg (suc n)) (cosine_falling x y w v h)
 
-cosine_uppers : (n : ℕ) (x y : Fraction) → IsUpTo 4 5 x → IsUpTo 4 5 y → x ≤F y → upper (cosine_term y) (suc n) ≤F upper (cosine_term x) (suc n)
+pub cosine_uppers : (n : ℕ) (x y : Fraction) → IsUpTo 4 5 x → IsUpTo 4 5 y → x ≤F y → upper (cosine_term y) (suc n) ≤F upper (cosine_term x) (suc n)
 cosine_uppers n x y w v h = upper_falls n (cosine_term x) (cosine_term y) ((cosine_halving x w).nonneg (suc n)) ((cosine_halving y v).nonneg (suc n)) (cosine_falling x y w v h)
 
 cosine_ends : (n : ℕ) (i j : Interval) → IsProper i → AreWithin i j → cosine_series (suc n) i ⊆ cosine_series (suc n) j

@@ -1,6 +1,7 @@
 -- Bounds of enclosures, computed along expressions: a range of the ends, and a greatest width that is linear in
 -- the width of a moment. An operation that isn't analysed yet promises nothing.
-use Rattle.std.specs.Prelude.{ℕ, suc, ◌+◌, ◌-◌, ◌*◌, ◌/◌, ◌^◌, max, Bool, true, false, cond, ℤ, pos, neg_ℤ, unsigned_abs, ◌+ℤ◌, ◌*ℤ◌, nat_le, nat_lt, ◌==◌, ◌&&◌}
+use Rattle.std.specs.Prelude.{ℕ, suc, ◌+◌, ◌-◌, ◌*◌, ◌/◌, ◌^◌, max, Bool, true, false, cond, ℤ, pos, neg_ℤ, unsigned_abs, ◌+ℤ◌, ◌-ℤ◌, ◌*ℤ◌, nat_le, nat_lt, ◌==◌, ◌&&◌}
+use Rattle.std.specs.Int.{int_min, int_max}
 use lib.Signed.{le_z}
 use Rattle.exact_math.specs.Fraction.{Fraction, ◌≤F◌, plus, floor_quotient}
 use Rattle.exact_math.specs.Interval.{Interval, everything, between}
@@ -71,6 +72,68 @@ unfoldable pub scaled_bound : Limits → Fraction → Bound → Bound
 scaled_bound l f unbounded = unbounded
 scaled_bound l f (bounded a b s k) = scaled_around l (unsigned_abs f.num) f.below (range_size a b) s k
 
+-- a difference: the widths add up too
+unfoldable pub difference_bound : Limits → Bound → Bound → Bound
+difference_bound l unbounded y = unbounded
+difference_bound l (bounded a b s k) unbounded = unbounded
+difference_bound l (bounded a b s k) (bounded c d t m) =
+    limited (nat_lt (range_size (a -ℤ d) (b -ℤ c)) l.sizes) (bounded (a -ℤ d) (b -ℤ c) (s + t) (k + m))
+
+-- an opposite
+unfoldable pub negated_bound : Limits → Bound → Bound
+negated_bound l unbounded = unbounded
+negated_bound l (bounded a b s k) = limited (nat_lt (range_size (neg_ℤ b) (neg_ℤ a)) l.sizes) (bounded (neg_ℤ b) (neg_ℤ a) s k)
+
+-- the lesser of two: no wider than the wider of them
+unfoldable pub minimum_bound : Bound → Bound → Bound
+minimum_bound unbounded y = unbounded
+minimum_bound (bounded a b s k) unbounded = unbounded
+minimum_bound (bounded a b s k) (bounded c d t m) = bounded (int_min a c) (int_min b d) (max s t) (max k m)
+
+-- the greater of two
+unfoldable pub maximum_bound : Bound → Bound → Bound
+maximum_bound unbounded y = unbounded
+maximum_bound (bounded a b s k) unbounded = unbounded
+maximum_bound (bounded a b s k) (bounded c d t m) = bounded (int_max a c) (int_max b d) (max s t) (max k m)
+
+-- less whole multiples of m
+unfoldable pub remainder_bound : Limits → ℕ → Bound → Bound
+remainder_bound l m unbounded = unbounded
+remainder_bound l m (bounded a b s k) = limited (nat_lt (m * 2 ^ 32) l.sizes) (bounded (pos 0) (pos (m * 2 ^ 32)) s k)
+
+-- ends that count 2^-56, at the scale: two units more
+unfoldable pub spanned_bound : Limits → Bound → Bound
+spanned_bound l unbounded = unbounded
+spanned_bound l (bounded a b s k) = limited (nat_lt (range_size a b) l.sizes) (bounded a b s (k + 2 * l.unit))
+
+-- 45 degrees, in 2^-32
+abbrev pub eighth_turn : ℕ
+eighth_turn = 45 * 2 ^ 32
+
+-- how far the sine of an angle of at most this size is from 0, and its cosine from 1: a 57th of the angle
+abbrev pub sine_size : ℕ → ℕ
+sine_size n = cond (nat_lt n eighth_turn) (ceil_div n 56 + 1) (2 ^ 32)
+
+-- what the cosine of an angle of at most this size is at least
+abbrev pub cosine_least : ℕ → ℤ
+cosine_least n = cond (nat_lt n eighth_turn) (pos (2 ^ 32) -ℤ pos (ceil_div n 56 + 1)) (neg_ℤ (pos (2 ^ 32)))
+
+-- the sine of degrees, as ends that count 2^-56: a 57th of the width, and 36 parts
+unfoldable pub sine_spans : Bound → Bound
+sine_spans unbounded = unbounded
+sine_spans (bounded a b s k) =
+    limited (nat_lt (range_size a b) (2 ^ 95)) (around (sine_size (range_size a b)) (ceil_div s 56) (ceil_div k 56 + 36 * 2 ^ 8))
+
+-- the cosine of degrees
+unfoldable pub cosine_spans : Bound → Bound
+cosine_spans unbounded = unbounded
+cosine_spans (bounded a b s k) =
+    limited (nat_lt (range_size a b) (2 ^ 95)) (bounded (cosine_least (range_size a b)) (pos (2 ^ 32)) (ceil_div s 56) (ceil_div k 56 + 36 * 2 ^ 8))
+
+-- pi between its neighbours that count 2^-56
+abbrev pub pi_spans : Bound
+pi_spans = bounded (pos 13493037704) (pos 13493037705) 0 (2 ^ 8)
+
 -- the width of a moment, and the bounds of the arguments
 pub record Reach : Type 0 where
   pub width : ℕ
@@ -81,22 +144,22 @@ bound_of l r (argument k) = r k
 bound_of l r (integer n) = integer_bound l n
 bound_of l r (constant f) = constant_bound l f
 bound_of l r (add x y) = sum_bound l (bound_of l r x) (bound_of l r y)
-bound_of l r (subtract x y) = unbounded
+bound_of l r (subtract x y) = difference_bound l (bound_of l r x) (bound_of l r y)
 bound_of l r (multiply x y) = unbounded
 bound_of l r (divide x y) = unbounded
-bound_of l r (negate x) = unbounded
+bound_of l r (negate x) = negated_bound l (bound_of l r x)
 bound_of l r (scale f x) = scaled_bound l f (bound_of l r x)
 bound_of l r (power x k) = unbounded
-bound_of l r (minimum x y) = unbounded
-bound_of l r (maximum x y) = unbounded
+bound_of l r (minimum x y) = minimum_bound (bound_of l r x) (bound_of l r y)
+bound_of l r (maximum x y) = maximum_bound (bound_of l r x) (bound_of l r y)
 bound_of l r (hull x y) = unbounded
 bound_of l r (clamp x) = unbounded
 bound_of l r (widen a x) = unbounded
-bound_of l r pi = unbounded
-bound_of l r (sine x) = unbounded
-bound_of l r (cosine x) = unbounded
+bound_of l r pi = spanned_bound l pi_spans
+bound_of l r (sine x) = spanned_bound l (sine_spans (bound_of l r x))
+bound_of l r (cosine x) = spanned_bound l (cosine_spans (bound_of l r x))
 bound_of l r (tangent x) = unbounded
-bound_of l r (remainder m x q) = unbounded
+bound_of l r (remainder m x q) = remainder_bound l m (bound_of l r x)
 
 abbrev pub at_32 : ℤ → Fraction
 at_32 n = record { num = n; below = 2 ^ 32 - 1 }

@@ -5,7 +5,7 @@ use Rattle.exact_math.specs.Interval.{Interval, between, ◌⊆◌, sum, differe
 use Rattle.exact_math.proofs.Fractions.{le_refl}
 use Rattle.exact_math.proofs.Intervals.{within_refl, within_trans, sum_within, difference_within, negative_within, product_within, minimum_within, maximum_within, hull_within, widen_within, quotient_within, power_within}
 use Rattle.book_model.specs.Expressions.{Expression, World, value, integer, constant, add, subtract, multiply, negate, scale, minimum, maximum, hull, widen, divide, power, remainder}
-use Rattle.book_model.specs.Bounds.{Bound, unbounded, Limits, Reach, IsNarrow, bound_of, integer_bound, constant_bound, sum_bound, scaled_bound, limits_of, limits_36}
+use Rattle.book_model.specs.Bounds.{Bound, unbounded, Limits, Reach, IsNarrow, bound_of, integer_bound, constant_bound, sum_bound, scaled_bound, difference_bound, negated_bound, minimum_bound, maximum_bound, remainder_bound, spanned_bound, limits_of, limits_36}
 use Rattle.book_model.proofs.Values.{value_proper}
 use Rattle.book_model.specs.Relations.{Within, Narrow, Lies, Keeps}
 
@@ -122,35 +122,39 @@ pub narrow_unbounded : {E : Type 0} (shown : E → Interval) (l : Limits) (r : R
 unfolding Keeps IsNarrow
 narrow_unbounded shown l r x k e = record { kept = rw e tt }
 
--- no bound of a difference
-pub narrow_subtract : {E : Type 0} (shown : E → Interval) (l : Limits) (r : Reach) (x y : Expression) (k : E) → Narrow shown l r (subtract x y) k
-unfolding bound_of
-narrow_subtract shown l r x y k = narrow_unbounded shown l r (subtract x y) k refl
+-- the bound of a difference
+pub narrow_subtract : {E : Type 0} (shown : E → Interval) (r : Reach) (x y : Expression) (i j k : E) → ((w : ℕ) (a b : Bound) → IsNarrow w a (shown i) → IsNarrow w b (shown j) → IsNarrow w (difference_bound limits_36 a b) (shown k))
+    → Narrow shown (limits_of 36) r x i → Narrow shown (limits_of 36) r y j → Narrow shown (limits_of 36) r (subtract x y) k
+unfolding Keeps bound_of limits_of
+narrow_subtract shown r x y i j k h p q = record { kept = h r.width _ _ p.kept q.kept }
 
 -- no bound of a product
 pub narrow_multiply : {E : Type 0} (shown : E → Interval) (l : Limits) (r : Reach) (x y : Expression) (k : E) → Narrow shown l r (multiply x y) k
 unfolding bound_of
 narrow_multiply shown l r x y k = narrow_unbounded shown l r (multiply x y) k refl
 
--- no bound of a minimum
-pub narrow_minimum : {E : Type 0} (shown : E → Interval) (l : Limits) (r : Reach) (x y : Expression) (k : E) → Narrow shown l r (minimum x y) k
-unfolding bound_of
-narrow_minimum shown l r x y k = narrow_unbounded shown l r (minimum x y) k refl
+-- the bound of the lesser
+pub narrow_minimum : {E : Type 0} (shown : E → Interval) (l : Limits) (r : Reach) (x y : Expression) (i j k : E) → ((w : ℕ) (a b : Bound) → IsNarrow w a (shown i) → IsNarrow w b (shown j) → IsNarrow w (minimum_bound a b) (shown k))
+    → Narrow shown l r x i → Narrow shown l r y j → Narrow shown l r (minimum x y) k
+unfolding Keeps bound_of
+narrow_minimum shown l r x y i j k h p q = record { kept = h r.width _ _ p.kept q.kept }
 
--- no bound of a maximum
-pub narrow_maximum : {E : Type 0} (shown : E → Interval) (l : Limits) (r : Reach) (x y : Expression) (k : E) → Narrow shown l r (maximum x y) k
-unfolding bound_of
-narrow_maximum shown l r x y k = narrow_unbounded shown l r (maximum x y) k refl
+-- the bound of the greater
+pub narrow_maximum : {E : Type 0} (shown : E → Interval) (l : Limits) (r : Reach) (x y : Expression) (i j k : E) → ((w : ℕ) (a b : Bound) → IsNarrow w a (shown i) → IsNarrow w b (shown j) → IsNarrow w (maximum_bound a b) (shown k))
+    → Narrow shown l r x i → Narrow shown l r y j → Narrow shown l r (maximum x y) k
+unfolding Keeps bound_of
+narrow_maximum shown l r x y i j k h p q = record { kept = h r.width _ _ p.kept q.kept }
 
 -- no bound of a hull
 pub narrow_hull : {E : Type 0} (shown : E → Interval) (l : Limits) (r : Reach) (x y : Expression) (k : E) → Narrow shown l r (hull x y) k
 unfolding bound_of
 narrow_hull shown l r x y k = narrow_unbounded shown l r (hull x y) k refl
 
--- no bound of an opposite
-pub narrow_negate : {E : Type 0} (shown : E → Interval) (l : Limits) (r : Reach) (x : Expression) (k : E) → Narrow shown l r (negate x) k
-unfolding bound_of
-narrow_negate shown l r x k = narrow_unbounded shown l r (negate x) k refl
+-- the bound of an opposite
+pub narrow_negate : {E : Type 0} (shown : E → Interval) (r : Reach) (x : Expression) (i k : E) → ((w : ℕ) (a : Bound) → IsNarrow w a (shown i) → IsNarrow w (negated_bound limits_36 a) (shown k))
+    → Narrow shown (limits_of 36) r x i → Narrow shown (limits_of 36) r (negate x) k
+unfolding Keeps bound_of limits_of
+narrow_negate shown r x i k h p = record { kept = h r.width _ p.kept }
 
 -- no bound of a widening
 pub narrow_widen : {E : Type 0} (shown : E → Interval) (l : Limits) (r : Reach) (f : Fraction) (x : Expression) (k : E) → Narrow shown l r (widen f x) k
@@ -165,6 +169,13 @@ pub narrow_power : {E : Type 0} (shown : E → Interval) (l : Limits) (r : Reach
 unfolding bound_of
 narrow_power shown l r x n k = narrow_unbounded shown l r (power x n) k refl
 
-pub narrow_remainder : {E : Type 0} (shown : E → Interval) (l : Limits) (r : Reach) (m : ℕ) (x : Expression) (q : ℤ) (k : E) → Narrow shown l r (remainder m x q) k
-unfolding bound_of
-narrow_remainder shown l r m x q k = narrow_unbounded shown l r (remainder m x q) k refl
+-- the bound of a remainder
+pub narrow_remainder : {E : Type 0} (shown : E → Interval) (r : Reach) (m : ℕ) (x : Expression) (q : ℤ) (i k : E) → ((w : ℕ) (a : Bound) → IsNarrow w a (shown i) → IsNarrow w (remainder_bound limits_36 m a) (shown k))
+    → Narrow shown (limits_of 36) r x i → Narrow shown (limits_of 36) r (remainder m x q) k
+unfolding Keeps bound_of limits_of
+narrow_remainder shown r m x q i k h p = record { kept = h r.width _ p.kept }
+
+-- the bound of ends that count 2^-56
+pub narrow_spanned : (w : ℕ) (b : Bound) (i j : Interval) → (IsNarrow w b i → IsNarrow w (spanned_bound limits_36 b) j) → IsNarrow w b i → IsNarrow w (spanned_bound (limits_of 36) b) j
+unfolding limits_of
+narrow_spanned w b i j h p = h p

@@ -4,8 +4,8 @@ use Rattle.std.proofs.Math.Dec.{leb-suc-zero}
 use Rattle.exact_math.specs.Fraction.{Fraction}
 use Rattle.exact_math.specs.Interval.{Interval, everything, hull}
 use Rattle.exact_math.proofs.Intervals.{within_everything}
-use Rattle.book_model.specs.Expressions.{Expression, World, integer, constant, add, scale}
-use Rattle.book_model.specs.Bounds.{Bound, unbounded, bounded, Reach, IsNarrow, bound_of, integer_bound, constant_bound, sum_bound, scaled_bound, limits_of, no_limits}
+use Rattle.book_model.specs.Expressions.{Expression, World, integer, constant, add, subtract, negate, scale}
+use Rattle.book_model.specs.Bounds.{Bound, unbounded, bounded, Reach, IsNarrow, bound_of, integer_bound, constant_bound, sum_bound, scaled_bound, difference_bound, negated_bound, spanned_bound, limits_of, no_limits}
 use Rattle.book_model.specs.Relations.{Within, Narrow, Lies, Keeps}
 use Rattle.book_model.specs.Programs.{Grid, cell_at, compare_at}
 use Rattle.book_model.specs.Leading.{no_bounds, IsOpenCell, between_cells, IsOpenComparison}
@@ -75,3 +75,35 @@ cell_open g i lo hi s e f = rw s (between_cells refl (no_bounds (record { least 
 pub compare_open : (i j : Interval) (lo hi : ℤ) → i ≡ everything → j ≡ everything → lo ≡ negsuc (2 ^ 127 - 1) → hi ≡ pos (2 ^ 127 - 1) → IsOpenComparison i j lo hi
 unfolding compare_at hull
 compare_open i j lo hi s t e f = rw (s, t) (record { open_there = refl; ends = no_bounds (record { least = e; greatest = f }) })
+
+-- ---- the bounds of the other operations
+difference_none : (w : ℕ) (a b : Bound) → IsNarrow w (difference_bound no_limits a b) everything
+unfolding difference_bound IsNarrow
+difference_none w unbounded b = tt
+difference_none w (bounded a c s k) unbounded = tt
+difference_none w (bounded a c s k) (bounded d e t m) = rw leb-suc-zero tt
+
+negated_none : (w : ℕ) (a : Bound) → IsNarrow w (negated_bound no_limits a) everything
+unfolding negated_bound IsNarrow
+negated_none w unbounded = tt
+negated_none w (bounded a c s k) = rw leb-suc-zero tt
+
+spanned_none : (w : ℕ) (a : Bound) → IsNarrow w (spanned_bound no_limits a) everything
+unfolding spanned_bound IsNarrow
+spanned_none w unbounded = tt
+spanned_none w (bounded a c s k) = rw leb-suc-zero tt
+
+-- the bound of a difference is kept
+pub narrow_subtract : {E : Type 0} (shown : E → Interval) (r : Reach) (x y : Expression) (e : E) → shown e ≡ everything → Narrow shown (limits_of 8) r (subtract x y) e
+unfolding Keeps bound_of limits_of
+narrow_subtract shown r x y e s = record { kept = rw s (difference_none r.width _ _) }
+
+-- the bound of an opposite is kept
+pub narrow_negate : {E : Type 0} (shown : E → Interval) (r : Reach) (x : Expression) (e : E) → shown e ≡ everything → Narrow shown (limits_of 8) r (negate x) e
+unfolding Keeps bound_of limits_of
+narrow_negate shown r x e s = record { kept = rw s (negated_none r.width _) }
+
+-- the bound of ends is kept
+pub narrow_ends : (w : ℕ) (b : Bound) → IsNarrow w (spanned_bound (limits_of 8) b) everything
+unfolding limits_of
+narrow_ends w b = spanned_none w b

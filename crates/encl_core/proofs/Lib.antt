@@ -10,3 +10,4 @@ pub mod Divisions
 pub mod Periods
 pub mod PiEnds
 pub mod Searching
+pub mod Widths

@@ -1,28 +1,31 @@
 -- Pi lies between its neighbours that count 2^-56.
-use Rattle.std.proofs.Common.{◌≤◌, arith, refl}
-use Rattle.exact_math.specs.Interval.{Interval, between, ◌⊆◌, hull as interval_hull}
+use Rattle.std.proofs.Common.{◌≡◌, ℕ, ◌≤◌, pos, arith}
+use Rattle.std.proofs.lemmas.Int.{ints}
+use Rattle.exact_math.specs.Fraction.{plus}
+use Rattle.exact_math.specs.Interval.{Interval, between, ◌⊆◌}
 use Rattle.exact_math.proofs.Intervals.{within_trans}
-use Rattle.exact_math.proofs.Fractions.{smaller_first, larger_second}
-use Rattle.book_model.specs.declared.tables.TheConstants.{PI_BELOW, PI_ABOVE}
-use Rattle.book_model.specs.Fractions.{fraction_of}
-use Rattle.book_model.specs.Expressions.{World, value, constant, hull, pi}
-use Rattle.book_model.specs.Bounds.{Limits, Reach, bound_of}
-use Rattle.book_model.specs.Relations.{Within, Lies, Narrow}
-use Rattle.book_model.proofs.Pi.{binary, pi_number}
-use Rattle.encl_core.proofs.Following.{narrow_unbounded}
+use Rattle.book_model.specs.Bounds.{Bound, Limits, Reach, IsNarrow, Spans, bound_of, spanned_bound, pi_spans, limits_of}
+use Rattle.book_model.specs.Expressions.{World, value, pi}
+use Rattle.book_model.specs.Leading.{at_56}
+use Rattle.book_model.specs.Relations.{Within, Lies, Narrow, Keeps}
+use Rattle.book_model.proofs.Pi.{pi_number}
 
-hull_of_ends : between (binary 226375608064910088) (binary 226375608064910089) ⊆ interval_hull (between (binary 226375608064910088) (binary 226375608064910088)) (between (binary 226375608064910089) (binary 226375608064910089))
-unfolding interval_hull
-hull_of_ends = record { ends = (smaller_first _ _, larger_second _ _) }
-
--- what holds the hull of its neighbours holds pi
-pub within_pi : {E : Type 0} (shown : E → Interval) (w : World) (e : E) → Within shown w (hull (constant (fraction_of PI_BELOW)) (constant (fraction_of PI_ABOVE))) e → Within shown w pi e
+-- what holds what lies between its neighbours holds pi
+pub within_pi : {E : Type 0} (shown : E → Interval) (w : World) (e : E) → 40 ≤ w.depth → between (at_56 (pos 226375608064910088)) (at_56 (pos 226375608064910089)) ⊆ shown e → Within shown w pi e
 unfolding Lies value
-within_pi shown w e h =
-    let d : 40 ≤ w.depth = h.deep in
-    record { deep = h.deep; inside = within_trans (within_trans (pi_number w.depth (omega arith)) hull_of_ends) h.inside }
+within_pi shown w e d h = record { deep = d; inside = within_trans (pi_number w.depth (omega (arith, d))) h }
 
--- of how narrow pi is, nothing is promised yet
-pub pi_keeps : {E : Type 0} (shown : E → Interval) (l : Limits) (r : Reach) (k : E) → Narrow shown l r pi k
-unfolding bound_of
-pi_keeps shown l r k = narrow_unbounded shown l r pi k refl
+ends_narrow : (w : ℕ) → IsNarrow w pi_spans (between (at_56 (pos 226375608064910088)) (at_56 (pos 226375608064910089)))
+unfolding IsNarrow plus
+ends_narrow w = record {
+  ordered = record { cross = omega (arith, ints) };
+  above = record { cross = omega (arith, ints) };
+  below = record { cross = omega (arith, ints) };
+  close = record { cross = omega (arith, ints) };
+}
+
+-- and what is hardly wider is as narrow as pi
+pub narrow_pi : {E : Type 0} (shown : E → Interval) (n : ℕ) (r : Reach) (e : E)
+    → ((w : ℕ) (b : Bound) → IsNarrow w b (between (at_56 (pos 226375608064910088)) (at_56 (pos 226375608064910089))) → IsNarrow w (spanned_bound (limits_of n) b) (shown e)) → Narrow shown (limits_of n) r pi e
+unfolding Keeps bound_of
+narrow_pi shown n r e h = record { kept = h r.width pi_spans (ends_narrow r.width) }

@@ -4,14 +4,16 @@ ghost use Rattle.book_model.specs.Bounds.{Reach, limits_of};
 ghost use Rattle.book_model.specs.Expressions.{World, pi as pi_number};
 ghost use Rattle.book_model.specs.Relations.{Within, Narrow};
 
-use crate::Enclosure;
-use book_model::{PI_ABOVE, PI_BELOW};
+use crate::{Enclosure, Span};
 
 /// Pi, between two neighbours that count 2⁻⁵⁶.
-#[tactic(auto, using(crate::proofs::PiEnds::within_pi, crate::proofs::PiEnds::pi_keeps))]
+#[tactic(auto, using(crate::proofs::PiEnds::within_pi, crate::proofs::PiEnds::narrow_pi))]
 pub fn pi<E: Enclosure>() -> E
     ensures holds { (w : World) → 40 ≤ w.depth → Within E.shown w pi_number result }
     ensures narrow { (r : Reach) → Narrow E.shown (limits_of E.BITS) r pi_number result }
 {
-    E::from_frac(PI_BELOW).hull(E::from_frac(PI_ABOVE))
+    E::from_span(Span {
+        lo: 226_375_608_064_910_088,
+        hi: 226_375_608_064_910_089,
+    })
 }

@@ -8,7 +8,8 @@ use crate::operations::{
     add_ends, frac_ends, hull_ends, int_ends, max_ends, min_ends, mul_ends, neg_ends, scale_ends,
     sub_ends, widen_ends,
 };
-use crate::wrapping::{lower_ends, period_of_ends, span_of};
+use crate::spanning::{ends_of_span, span_of};
+use crate::wrapping::{lower_ends, period_of_ends};
 use crate::{Enclosure, Span, Trail};
 use book_model::{Frac, Site, Undecided};
 
@@ -43,6 +44,13 @@ impl Enclosure for Coarse {
     fn from_frac(value: Frac) -> Self {
         Coarse {
             ends: frac_ends(value),
+        }
+    }
+
+    #[inline(always)]
+    fn from_span(span: Span) -> Self {
+        Coarse {
+            ends: ends_of_span(span),
         }
     }
 

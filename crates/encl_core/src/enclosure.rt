@@ -3,7 +3,7 @@ ghost use Rattle.std.specs.Prelude.{◌≡◌, ◌<◌, ℕ, ℤ, ◌≤◌, Som
 ghost use Rattle.exact_math.specs.Interval.{Interval, everything, between, ◌⊆◌};
 ghost use Rattle.book_model.specs.Fractions.{fraction_of};
 ghost use Rattle.book_model.specs.Expressions.{Expression, World, integer, constant, add as add_of, subtract, multiply, negate, scale, minimum, maximum, hull as hull_of, widen as widen_of, divide, power, remainder};
-ghost use Rattle.book_model.specs.Bounds.{Reach, limits_of};
+ghost use Rattle.book_model.specs.Bounds.{Bound, Reach, IsNarrow, spanned_bound, limits_of};
 ghost use Rattle.book_model.specs.Relations.{Within, Narrow};
 ghost use Rattle.book_model.specs.Programs.{integers, multiples, cell_at, compare_at};
 ghost use Rattle.book_model.specs.Leading.{at_56, IsOpenCell, IsOpenComparison, next_turn};
@@ -46,6 +46,11 @@ pub trait Enclosure: Copy + Drop {
     fn from_frac(value: Frac) -> Self
         ensures holds { (w : World) → 40 ≤ w.depth → Within shown w (constant (fraction_of value)) result }
         ensures narrow { (r : Reach) → Narrow shown (limits_of BITS) r (constant (fraction_of value)) result };
+
+    /// The enclosure of what lies between two ends. It is at most two units wider than these are apart.
+    fn from_span(span: Span) -> Self
+        ensures holds { between (at_56 span.lo) (at_56 span.hi) ⊆ shown result }
+        ensures narrow { (w : ℕ) (b : Bound) → IsNarrow w b (between (at_56 span.lo) (at_56 span.hi)) → IsNarrow w (spanned_bound (limits_of BITS) b) (shown result) };
 
     /// The sums of the members.
     fn add(self, other: Self) -> Self

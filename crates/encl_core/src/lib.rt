@@ -20,6 +20,7 @@ mod operations;
 mod rounding;
 mod search;
 mod span;
+mod spanning;
 mod steps;
 mod trail;
 mod wrapping;

@@ -4,7 +4,7 @@ ghost use Rattle.std.specs.Int.{w64};
 ghost use Rattle.exact_math.specs.Fraction.{whole as whole_number};
 ghost use Rattle.exact_math.specs.Interval.{◌⊆◌, sum, difference, negative, product, minimum, maximum, hull, widen, between};
 ghost use Rattle.book_model.specs.Fractions.{fraction_of};
-ghost use Rattle.book_model.specs.Bounds.{Bound, IsNarrow, integer_bound, constant_bound, sum_bound, scaled_bound, limits_36};
+ghost use Rattle.book_model.specs.Bounds.{Bound, IsNarrow, integer_bound, constant_bound, sum_bound, scaled_bound, difference_bound, negated_bound, minimum_bound, maximum_bound, limits_36};
 ghost use Rattle.encl_core.specs.Shown.{shown_ends};
 ghost use Rattle.encl_core.specs.Rounding.{IsBelowFour, IsAboveFour, IsAboveEachBelow, IsBelowEachAbove, IsMargin, IsBest};
 
@@ -111,6 +111,7 @@ pub(crate) fn scale_ends(x: Option<Ends>, by: Frac) -> Option<Ends>
 pub(crate) fn sub_ends(x: Option<Ends>, y: Option<Ends>) -> Option<Ends>
     ensures holds { difference (shown_ends x) (shown_ends y) ⊆ shown_ends result }
     ensures best { IsBest (difference (shown_ends x) (shown_ends y)) (shown_ends result) }
+    ensures narrow { (w : ℕ) (a b : Bound) → IsNarrow w a (shown_ends x) → IsNarrow w b (shown_ends y) → IsNarrow w (difference_bound limits_36 a b) (shown_ends result) }
 {
     let x = x?;
     let y = y?;
@@ -124,6 +125,7 @@ pub(crate) fn sub_ends(x: Option<Ends>, y: Option<Ends>) -> Option<Ends>
 pub(crate) fn neg_ends(x: Option<Ends>) -> Option<Ends>
     ensures holds { negative (shown_ends x) ⊆ shown_ends result }
     ensures best { IsBest (negative (shown_ends x)) (shown_ends result) }
+    ensures narrow { (w : ℕ) (a : Bound) → IsNarrow w a (shown_ends x) → IsNarrow w (negated_bound limits_36 a) (shown_ends result) }
 {
     let x = x?;
     ends_of(-i128::from(x.hi), -i128::from(x.lo))
@@ -197,6 +199,7 @@ pub(crate) fn mul_ends(x: Option<Ends>, y: Option<Ends>) -> Option<Ends>
 pub(crate) fn min_ends(x: Option<Ends>, y: Option<Ends>) -> Option<Ends>
     ensures holds { minimum (shown_ends x) (shown_ends y) ⊆ shown_ends result }
     ensures tight { shown_ends result ⊆ minimum (shown_ends x) (shown_ends y) }
+    ensures narrow { (w : ℕ) (a b : Bound) → IsNarrow w a (shown_ends x) → IsNarrow w b (shown_ends y) → IsNarrow w (minimum_bound a b) (shown_ends result) }
 {
     let x = x?;
     let y = y?;
@@ -210,6 +213,7 @@ pub(crate) fn min_ends(x: Option<Ends>, y: Option<Ends>) -> Option<Ends>
 pub(crate) fn max_ends(x: Option<Ends>, y: Option<Ends>) -> Option<Ends>
     ensures holds { maximum (shown_ends x) (shown_ends y) ⊆ shown_ends result }
     ensures tight { shown_ends result ⊆ maximum (shown_ends x) (shown_ends y) }
+    ensures narrow { (w : ℕ) (a b : Bound) → IsNarrow w a (shown_ends x) → IsNarrow w b (shown_ends y) → IsNarrow w (maximum_bound a b) (shown_ends result) }
 {
     let x = x?;
     let y = y?;

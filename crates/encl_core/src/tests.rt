@@ -41,6 +41,10 @@ impl Enclosure for Unknown {
         Unknown
     }
 
+    fn from_span(_span: Span) -> Self {
+        Unknown
+    }
+
     fn add(self, _other: Self) -> Self {
         self
     }

@@ -1,14 +1,14 @@
 -- Angles, and the octants of a turn, as the code reads them.
-use Rattle.std.proofs.Common.{◌≡◌, ℕ, zero, suc, ◌≤◌, refl, ap, subst, ◌∙◌, arith, unsigned_abs, ℤ, pos, negsuc, ◌-ℤ◌, ◌*ℤ◌, ◌≤ℤ◌, [], ◌∷◌}
+use Rattle.std.proofs.Common.{◌≡◌, ℕ, zero, suc, ◌≤◌, refl, ap, subst, ◌∙◌, arith, unsigned_abs, ℤ, pos, negsuc, ◌-ℤ◌, ◌*ℤ◌, ◌≤ℤ◌, ◌*◌, ◌-◌, ◌^◌, [], ◌∷◌}
 use Rattle.std.specs.Int.{int_div_euclid}
 use Rattle.std.proofs.lemmas.Int.{ints}
 use Rattle.exact_math.specs.Fraction.{Fraction, ◌≈◌, whole, plus, opposite, times, floor_quotient}
 use Rattle.exact_math.specs.Interval.{Interval, everything, between, IsMember, IsProper, ◌⊆◌, negative, product, least, greatest}
-use Rattle.exact_math.proofs.Fractions.{le_refl, smaller_keeps, larger_keeps}
+use Rattle.exact_math.proofs.Fractions.{le_refl, le_trans, smaller_keeps, larger_keeps}
 use Rattle.exact_math.proofs.FractionRing.{same_by}
 use Rattle.exact_math.proofs.Ring.{at, ◌⊗◌}
 use Rattle.exact_math.proofs.Intervals.{within_trans, within_everything, product_holds, least_is, greatest_is}
-use Rattle.exact_math.proofs.Same.{same_refl, same_sym, same_trans, plus_cong, times_cong, opposite_cong}
+use Rattle.exact_math.proofs.Same.{le_of_same, ge_of_same, same_refl, same_sym, same_trans, plus_cong, times_cong, opposite_cong}
 use Rattle.exact_math.specs.Sums.{one_over}
 use Rattle.exact_math.proofs.Floors.{IsFloorQuotient, floor_quotient_is}
 use Rattle.book_model.specs.declared.frac.Frac.{Frac}
@@ -23,8 +23,14 @@ use Rattle.book_model.proofs.Pi.{pi_proper}
 use Rattle.book_model.proofs.SeriesNesting.{sines, cosines}
 use Rattle.book_model.proofs.OctantHulls.{radians_proper, radians_inside, into_proper}
 use Rattle.encl_core.proofs.Periods.{euclid_is}
-use Rattle.trig_series.specs.Nests.{of_half_turn, angle_of, sine_sum_of, cosine_sum_of}
-use Rattle.trig_series.proofs.SumsHold.{member_same, first_angles, sine_sum_holds, cosine_sum_holds}
+
+member_same : (i : Interval) (a b : Fraction) → a ≈ b → IsMember a i → IsMember b i
+member_same everything a b e m = tt
+member_same (between c d) a b e m = (le_trans c a b m.0 (le_of_same e), le_trans b a d (ge_of_same e) m.1)
+
+-- n degrees that count 2^-56, as a part of 180
+abbrev of_half_turn : ℤ → Fraction
+of_half_turn n = record { num = n; below = 180 * 2 ^ 56 - 1 }
 
 -- ---- products of three, where two are fractions
 -- a fraction times an interval lies in what holds its products with the two ends
@@ -75,60 +81,21 @@ fractions_parted r c s everything p e = all_triples r c (product (only s) everyt
 fractions_parted r c s (between a b) p e = ends_product s a b _ (parted_member r c s a (between a b) e (le_refl a, p)) (parted_member r c s b (between a b) e (p, le_refl b))
 
 -- ---- angles
-pub part_is : (f : Frac) (d : ℤ) → f.num ≡ d → f.den ≡ 12970366926827028480 → fraction_of f ≡ of_half_turn d
-part_is f d e g = rw (e, g) refl
-
-pub whole_holds : {E : Type 0} (shown : E → Interval) (w : World) (x : Expression) (e : E) → 40 ≤ w.depth → shown e ≡ everything → Within shown w x e
-unfolding Lies
-whole_holds shown w x e d s = record { deep = d; inside = rw s (within_everything _) }
-
--- the product of a part of a half turn and pi is an angle's expression
-pub angle_from : {E : Type 0} (shown : E → Interval) (w : World) (f : Frac) (d : ℤ) (e : E) → f.num ≡ d → f.den ≡ 12970366926827028480 → Within shown w (multiply (constant (fraction_of f)) pi) e → Within shown w (angle_of d) e
-unfolding angle_of
-angle_from shown w f d e p q h = subst (λ (z : Fraction). Within shown w (multiply (constant z) pi) e) (part_is f d p q) h
-
-angle_value : (w : World) (d : ℤ) → value w (angle_of d) ≡ product (only (of_half_turn d)) (pi_at w.depth)
-unfolding value angle_of
-angle_value w d = refl
-
 half_turn : (d : ℤ) → times (at_56 d) (one_over 179) ≈ of_half_turn d
 unfolding times
 half_turn d = record { cross = omega (arith, ints) }
 
-radians_in_angle : (n : ℕ) (d : ℤ) (y : Fraction) → y ≈ at_56 d → radians n y ⊆ product (only (of_half_turn d)) (pi_at n)
+pub radians_in_angle : (n : ℕ) (d : ℤ) (y : Fraction) → y ≈ at_56 d → radians n y ⊆ product (only (of_half_turn d)) (pi_at n)
 unfolding radians
 radians_in_angle n d y e = fractions_joined y (one_over 179) (of_half_turn d) (pi_at n) (pi_proper n) (same_trans (times_cong e (same_refl (one_over 179))) (half_turn d))
 
-angle_in_radians : (n : ℕ) (d : ℤ) → product (only (of_half_turn d)) (pi_at n) ⊆ radians n (at_56 d)
+pub angle_in_radians : (n : ℕ) (d : ℤ) → product (only (of_half_turn d)) (pi_at n) ⊆ radians n (at_56 d)
 unfolding radians
 angle_in_radians n d = fractions_parted (at_56 d) (one_over 179) (of_half_turn d) (pi_at n) (pi_proper n) (half_turn d)
 
-angle_inside : (n : ℕ) (d : ℤ) → 40 ≤ n → pos 0 ≤ℤ d → d ≤ℤ pos 3242591731706757120 → product (only (of_half_turn d)) (pi_at n) ⊆ first_angles
-angle_inside zero d h l u = absurd (omega arith)
-angle_inside (suc n) d h l u =
-    within_trans (angle_in_radians (suc n) d) (radians_inside n (at_56 d) (record { cross = omega (arith, ints) }) (record { cross = omega (arith, ints) }))
-
-pub sine_angle : {E : Type 0} (shown : E → Interval) (w : World) (d : ℤ) (e : E) (y : Fraction) → 40 ≤ w.depth → pos 0 ≤ℤ d → d ≤ℤ pos 3242591731706757120 → y ≈ at_56 d →
-    Within shown w (sine_sum_of (angle_of d)) e → sine_series w.depth (radians w.depth y) ⊆ shown e
-unfolding Lies
-sine_angle shown w d e y h l u same k =
-    let v = angle_value w d in
-    let i : value w (angle_of d) ⊆ first_angles = rw v (angle_inside w.depth d h l u) in
-    let s = rw v at (sine_sum_holds w (angle_of d) h (value_proper w (angle_of d)) i) in
-    within_trans (sines.within w.depth (radians_proper w.depth y) (radians_in_angle w.depth d y same)) (within_trans s k.inside)
-
-cosine_within : (n : ℕ) {i j : Interval} → 1 ≤ n → IsProper i → i ⊆ j → cosine_series n i ⊆ cosine_series n j
+pub cosine_within : (n : ℕ) {i j : Interval} → 1 ≤ n → IsProper i → i ⊆ j → cosine_series n i ⊆ cosine_series n j
 cosine_within zero h p g = absurd (omega arith)
 cosine_within (suc n) h p g = cosines.within n p g
-
-pub cosine_angle : {E : Type 0} (shown : E → Interval) (w : World) (d : ℤ) (e : E) (y : Fraction) → 40 ≤ w.depth → pos 0 ≤ℤ d → d ≤ℤ pos 3242591731706757120 → y ≈ at_56 d →
-    Within shown w (cosine_sum_of (angle_of d)) e → cosine_series w.depth (radians w.depth y) ⊆ shown e
-unfolding Lies
-cosine_angle shown w d e y h l u same k =
-    let v = angle_value w d in
-    let i : value w (angle_of d) ⊆ first_angles = rw v (angle_inside w.depth d h l u) in
-    let s = rw v at (cosine_sum_holds w (angle_of d) h (value_proper w (angle_of d)) i) in
-    within_trans (cosine_within w.depth (omega arith) (radians_proper w.depth y) (radians_in_angle w.depth d y same)) (within_trans s k.inside)
 
 -- ---- the octants of a turn
 pub short_same : (d : ℤ) (y : Fraction) → y ≈ at_56 d → short_of y ≈ at_56 (pos 3242591731706757120 -ℤ d)
@@ -160,15 +127,6 @@ into_later n (pos (suc zero)) y i h k = absurd (omega (arith, ints))
 into_later n (pos (suc (suc zero))) y i h k = absurd (omega (arith, ints))
 into_later n (pos (suc (suc (suc zero)))) y i h k = absurd (omega (arith, ints))
 into_later n (pos (suc (suc (suc (suc j))))) y i h k = let e : pos (suc (suc (suc (suc j)))) -ℤ pos 4 ≡ pos j = omega (arith, ints) in rw e at k
-
--- ---- operations on intervals, through worlds where these are the arguments
-pub negate_holds : {E : Type 0} (shown : E → Interval) (i : Interval) (e r : E) → IsProper i → i ⊆ shown e → ((w : World) (x : Expression) → Within shown w x e → Within shown w (negate x) r) → negative i ⊆ shown r
-unfolding Lies value
-negate_holds shown i e r p h f = (f (record { depth = 40; arguments = λ k. i; proper = λ k. p }) (argument 0) (record { deep = omega arith; inside = h })).inside
-
-pub into_is_proper : (n j : ℕ) (y : Fraction) → 40 ≤ n → IsProper (sine_into n j y)
-into_is_proper zero j y h = absurd (omega arith)
-into_is_proper (suc n) j y h = into_proper n j y
 
 -- ---- octants of all turns
 turn_z : (k q : ℤ) → q ≡ floor_quotient k 7 → IsFloorQuotient q k 7 → (k -ℤ q *ℤ pos 8 ≡ pos (octant_of_turn k)) × ((k -ℤ q *ℤ pos 8) ≤ℤ pos 7)

@@ -1,5 +1,11 @@
-pub mod NestLemmas
-pub mod SumsHold
 pub mod AngleLemmas
 pub mod OctantLemmas
+pub mod KernelSteps
+pub mod SineChain
+pub mod CosineChain
+pub mod KernelAngles
+pub mod Slopes
+pub mod PointLemmas
+pub mod TurnLemmas
+pub mod Steady
 pub mod SineLemmas

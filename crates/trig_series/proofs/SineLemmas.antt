@@ -1,76 +1,318 @@
 -- Sine, cosine and tangent as operations of enclosures.
-use Rattle.std.proofs.Common.{ℕ, ◌≤◌, refl, arith, pos, negsuc}
-use Rattle.std.proofs.lemmas.Int.{ints}
-use Rattle.exact_math.specs.Fraction.{◌≤F◌, whole, larger}
-use Rattle.exact_math.specs.Interval.{Interval, everything, between, IsProper, ◌⊆◌, hull as interval_hull, minimum as interval_minimum, maximum as interval_maximum}
-use Rattle.exact_math.proofs.Fractions.{le_refl, le_trans, smaller_keeps, smaller_first, larger_keeps, larger_first, larger_second}
-use Rattle.exact_math.proofs.Intervals.{within_trans}
-use Rattle.book_model.specs.Bounds.{Limits, Reach, bound_of}
-use Rattle.book_model.specs.Expressions.{Expression, World, value, exactly, argument, integer, add, divide, minimum, maximum, hull, sine, cosine, tangent}
-use Rattle.book_model.specs.Relations.{Within, Lies, Narrow}
-use Rattle.book_model.specs.Octants.{sine_of_degrees, cosine_of_degrees, tangent_of_degrees}
+use Rattle.std.proofs.Common.{◌≡◌, ℕ, zero, suc, ◌+◌, ◌*◌, ◌^◌, ◌-◌, ◌≤◌, ◌<◌, refl, sym, arith, Bool, true, false, cond, neg_ℤ, ℤ, pos, negsuc, ◌+ℤ◌, ◌-ℤ◌, ◌*ℤ◌, ◌≤ℤ◌, ◌<ℤ◌, ◌⊎◌, inl, inr}
+use Rattle.std.specs.Prelude.{nat_lt}
+use Rattle.std.specs.Int.{int_max, int_min}
+use Rattle.std.proofs.lemmas.Int.{ints, clamps, by_lt_z}
+use Rattle.std.proofs.lemmas.Bool.{ltb-true}
+use Rattle.std.proofs.Math.Nat.{mul-le-mul_right}
+use Rattle.exact_math.specs.Fraction.{Fraction, ◌≤F◌, whole, plus}
+use Rattle.exact_math.specs.Interval.{Interval, everything, between, IsProper, ◌⊆◌, sum, one, minus_one}
+use Rattle.exact_math.proofs.Fractions.{le_trans, le_refl, plus_mono}
+use Rattle.exact_math.proofs.Intervals.{within_trans, within_refl, sum_within, plus_proper}
+use Rattle.book_model.specs.Bounds.{Bound, unbounded, bounded, Limits, Reach, Spans, IsNarrow, bound_of, limited, around, range_size, ceil_div, sine_size, cosine_least, eighth_turn, sine_spans, cosine_spans, spanned_bound, limits_of, breadth, at_32}
+use Rattle.book_model.specs.Expressions.{Expression, World, value, divide, sine, cosine, tangent}
+use Rattle.book_model.specs.Leading.{at_56}
+use Rattle.book_model.specs.Octants.{only, sine_of_degrees, cosine_of_degrees, tangent_of_degrees}
+use Rattle.book_model.specs.Relations.{Within, Lies, Narrow, Keeps}
 use Rattle.book_model.proofs.Values.{value_proper}
 use Rattle.book_model.proofs.OctantHulls.{all_sines}
 use Rattle.book_model.proofs.DegreeSines.{degree_sines, sine_inside}
-use Rattle.encl_core.proofs.Following.{narrow_unbounded}
+use Rattle.trig_series.specs.Points.{IsAround, IsNarrowSine, IsNarrowCosine}
+use Rattle.trig_series.proofs.OctantLemmas.{order_at, by_max, by_min}
 
 -- ---- whatever a sine may be
--- a world with no arguments to speak of
-some_world : World
-some_world = record { depth = 40; arguments = λ k. all_sines; proper = λ k. record { cross = omega (arith, ints) } }
+all_inside : (lo hi : ℤ) → lo ≡ neg_ℤ (pos 72057594037927936) → hi ≡ pos 72057594037927936 → all_sines ⊆ between (at_56 lo) (at_56 hi)
+all_inside lo hi e f = rw (e, f) (record { ends = (record { cross = omega (arith, ints) }, record { cross = omega (arith, ints) }) })
 
-all_in_hull : all_sines ⊆ interval_hull (exactly (whole (negsuc 0))) (exactly (whole (pos 1)))
-unfolding interval_hull
-all_in_hull = record { ends = (smaller_first _ _, larger_second _ _) }
+pub all_hold : (n : ℕ) (i : Interval) (lo hi : ℤ) → IsProper i → lo ≡ neg_ℤ (pos 72057594037927936) → hi ≡ pos 72057594037927936 → sine_of_degrees n i ⊆ between (at_56 lo) (at_56 hi)
+all_hold n i lo hi p e f = within_trans (sine_inside n i p) (all_inside lo hi e f)
 
-pub all_hold : {E : Type 0} (shown : E → Interval) (r : E) → ((w : World) → 40 ≤ w.depth → Within shown w (hull (integer (negsuc 0)) (integer (pos 1))) r) → (n : ℕ) (i : Interval) → IsProper i → sine_of_degrees n i ⊆ shown r
-unfolding Lies value some_world
-all_hold shown r f n i p = within_trans (sine_inside n i p) (within_trans all_in_hull (f some_world (omega arith)).inside)
+pub quarter_proper : (i : Interval) → IsProper i → IsProper (sum i (only (whole (pos 90))))
+quarter_proper i p = plus_proper i (only (whole (pos 90))) p (le_refl (whole (pos 90)))
 
--- ---- a sine, cut to -1 .. 1
-within_cut : (i : Interval) → i ⊆ all_sines → i ⊆ interval_minimum (interval_maximum i (exactly (whole (negsuc 0)))) (exactly (whole (pos 1)))
-unfolding interval_minimum interval_maximum
-within_cut everything h = absurd h.ends
-within_cut (between a b) h =
+pub all_cosines_hold : (n : ℕ) (i : Interval) (lo hi : ℤ) → IsProper i → lo ≡ neg_ℤ (pos 72057594037927936) → hi ≡ pos 72057594037927936 → cosine_of_degrees n i ⊆ between (at_56 lo) (at_56 hi)
+unfolding cosine_of_degrees
+all_cosines_hold n i lo hi p e f = all_hold n (sum i (only (whole (pos 90)))) lo hi (quarter_proper i p) e f
+
+-- ---- a sine, cut to -1..1
+low_cut : (a : Fraction) (lo p q : ℤ) → p ≡ int_max lo (neg_ℤ (pos 72057594037927936)) → q ≡ int_min p (pos 72057594037927936) → at_56 lo ≤F a → minus_one ≤F a → a ≤F one → at_56 q ≤F a
+low_cut a lo p q e f h m u =
+    let n : at_56 (neg_ℤ (pos 72057594037927936)) ≤F a = le_trans _ minus_one a (record { cross = omega (arith, ints) }) m in
+    le_trans _ (at_56 p) a (order_at q p (omega (arith, ints, clamps, f))) (by_max lo (neg_ℤ (pos 72057594037927936)) p (λ z. at_56 z ≤F a) e h n)
+
+high_cut : (a : Fraction) (hi p q : ℤ) → p ≡ int_max hi (neg_ℤ (pos 72057594037927936)) → q ≡ int_min p (pos 72057594037927936) → a ≤F at_56 hi → a ≤F one → a ≤F at_56 q
+high_cut a hi p q e f h u =
+    by_min p (pos 72057594037927936) q (λ z. a ≤F at_56 z) f (le_trans a (at_56 hi) (at_56 p) h (order_at hi p (omega (arith, ints, clamps, e)))) (le_trans a one _ u (record { cross = omega (arith, ints) }))
+
+within_cut : (i : Interval) (lo hi p q p' q' : ℤ) → IsProper i → i ⊆ all_sines → i ⊆ between (at_56 lo) (at_56 hi) → p ≡ int_max lo (neg_ℤ (pos 72057594037927936)) → q ≡ int_min p (pos 72057594037927936)
+    → p' ≡ int_max hi (neg_ℤ (pos 72057594037927936)) → q' ≡ int_min p' (pos 72057594037927936) → i ⊆ between (at_56 q) (at_56 q')
+within_cut everything lo hi p q p' q' n h k e f e' f' = absurd h.ends
+within_cut (between a b) lo hi p q p' q' n h k e f e' f' = record {
+  ends = (low_cut a lo p q e f k.ends.0 h.ends.0 (le_trans a b one n h.ends.1), high_cut b hi p' q' e' f' k.ends.1 h.ends.1);
+}
+
+pub cut_holds : (n : ℕ) (i : Interval) (lo hi p q p' q' : ℤ) → IsProper i → sine_of_degrees n i ⊆ between (at_56 lo) (at_56 hi) → p ≡ int_max lo (neg_ℤ (pos 72057594037927936)) → q ≡ int_min p (pos 72057594037927936)
+    → p' ≡ int_max hi (neg_ℤ (pos 72057594037927936)) → q' ≡ int_min p' (pos 72057594037927936) → sine_of_degrees n i ⊆ between (at_56 q) (at_56 q')
+cut_holds n i lo hi p q p' q' r h e f e' f' = within_cut (sine_of_degrees n i) lo hi p q p' q' (degree_sines.proper n i r) (sine_inside n i r) h e f e' f'
+
+cut_around_none : (w lo hi p q p' q' : ℤ) → pos 0 ≤ℤ w → p ≡ int_max lo (neg_ℤ (pos 72057594037927936)) → q ≡ int_min p (pos 72057594037927936) → p' ≡ int_max hi (neg_ℤ (pos 72057594037927936)) → q' ≡ int_min p' (pos 72057594037927936)
+    → IsAround (pos 0) w lo hi → IsAround (pos 0) w q q'
+cut_around_none w lo hi p q p' q' z e f e' f' h = record { up = omega (arith, ints, clamps, z, e', f', h.up); down = omega (arith, ints, clamps, z, e, f, h.down) }
+
+cut_around_one : (w lo hi p q p' q' : ℤ) → pos 0 ≤ℤ w → p ≡ int_max lo (neg_ℤ (pos 72057594037927936)) → q ≡ int_min p (pos 72057594037927936) → p' ≡ int_max hi (neg_ℤ (pos 72057594037927936)) → q' ≡ int_min p' (pos 72057594037927936)
+    → IsAround (pos 72057594037927936) w lo hi → IsAround (pos 72057594037927936) w q q'
+cut_around_one w lo hi p q p' q' z e f e' f' h = record { up = omega (arith, ints, clamps, z, e', f'); down = omega (arith, ints, clamps, z, e, f, h.down) }
+
+cut_apart : (v lo hi p q p' q' : ℤ) → pos 0 ≤ℤ v → (pos 57 *ℤ (hi -ℤ lo)) ≤ℤ v → p ≡ int_max lo (neg_ℤ (pos 72057594037927936)) → q ≡ int_min p (pos 72057594037927936) → p' ≡ int_max hi (neg_ℤ (pos 72057594037927936))
+    → q' ≡ int_min p' (pos 72057594037927936) → (pos 57 *ℤ (q' -ℤ q)) ≤ℤ v
+cut_apart v lo hi p q p' q' z h e f e' f' = omega (arith, ints, clamps, z, h, e, f, e', f')
+
+-- what three octants allow is more than the sine has
+many : (from to q q' : ℤ) → pos 9727775195120271360 ≤ℤ (to -ℤ from) → neg_ℤ (pos 72057594037927936) ≤ℤ q → q' ≤ℤ pos 72057594037927936 → (pos 57 *ℤ (q' -ℤ q)) ≤ℤ ((to -ℤ from) +ℤ pos 2052)
+many from to q q' h l u = omega (arith, ints, h, l, u)
+
+pub cut_narrow : (from to lo hi p q p' q' : ℤ) → from ≤ℤ to → p ≡ int_max lo (neg_ℤ (pos 72057594037927936)) → q ≡ int_min p (pos 72057594037927936) → p' ≡ int_max hi (neg_ℤ (pos 72057594037927936)) → q' ≡ int_min p' (pos 72057594037927936)
+    → (pos 9727775195120271360 ≤ℤ (to -ℤ from)) ⊎ ((pos 57 *ℤ (hi -ℤ lo)) ≤ℤ ((to -ℤ from) +ℤ pos 2052))
+    → ((a : ℤ) → neg_ℤ a ≤ℤ from → to ≤ℤ a → a <ℤ pos 3242591731706757120 → IsAround (pos 0) a lo hi)
+    → ((a : ℤ) → (pos 6485183463413514240 -ℤ a) ≤ℤ from → to ≤ℤ (pos 6485183463413514240 +ℤ a) → a <ℤ pos 3242591731706757120 → IsAround (pos 72057594037927936) a lo hi)
+    → IsNarrowSine from to q q'
+cut_narrow from to lo hi p q p' q' o e f e' f' n s c =
+    let l : neg_ℤ (pos 72057594037927936) ≤ℤ q = omega (arith, ints, clamps, e, f) in
+    let u : q' ≤ℤ pos 72057594037927936 = omega (arith, ints, clamps, e', f') in
     record {
-      ends = (
-        le_trans _ (larger a (whole (negsuc 0))) a (smaller_first _ _) (larger_keeps (λ z. z ≤F a) a (whole (negsuc 0)) (le_refl a) h.ends.0),
-        smaller_keeps (λ z. b ≤F z) (larger b (whole (negsuc 0))) (whole (pos 1)) (larger_first b (whole (negsuc 0))) h.ends.1,
-      );
+      above = l;
+      below = u;
+      narrow = λ r t. elim n [ inl m ↦ many from to q q' m l u | inr m ↦ cut_apart _ lo hi p q p' q' (omega (arith, ints, o)) m e f e' f' ];
+      small = λ a x y z. cut_around_none a lo hi p q p' q' (omega (arith, ints, o, x, y)) e f e' f' (s a x y z);
+      crest = λ a x y z. cut_around_one a lo hi p q p' q' (omega (arith, ints, o, x, y)) e f e' f' (c a x y z);
     }
 
-pub cut_holds : {E : Type 0} (shown : E → Interval) (n : ℕ) (i : Interval) (x r : E) → IsProper i → sine_of_degrees n i ⊆ shown x
-    → ((w : World) (a : Expression) → Within shown w a x → Within shown w (minimum (maximum a (integer (negsuc 0))) (integer (pos 1))) r) → sine_of_degrees n i ⊆ shown r
-unfolding Lies value
-cut_holds shown n i x r p h f =
-    within_trans (within_cut (sine_of_degrees n i) (sine_inside n i p))
-    (f (record { depth = 40; arguments = λ k. sine_of_degrees n i; proper = λ k. degree_sines.proper n i p }) (argument 0) (record { deep = omega arith; inside = h })).inside
+-- ---- ends that are far from 0 or far apart
+pub far_below : (from to lo hi : ℤ) → from <ℤ neg_ℤ (pos (2 ^ 120)) → from ≤ℤ to → lo ≡ neg_ℤ (pos 72057594037927936) → hi ≡ pos 72057594037927936 → IsNarrowSine from to lo hi
+far_below from to lo hi h o e f = record {
+  above = omega (arith, ints, e);
+  below = omega (arith, ints, f);
+  narrow = λ r t. absurd (omega (arith, ints, h, r));
+  small = λ a x y z. absurd (omega (arith, ints, h, x, z));
+  crest = λ a x y z. absurd (omega (arith, ints, h, x, z));
+}
 
--- ---- the three functions
-pub sine_holds : {E : Type 0} (shown : E → Interval) (w : World) (a : Expression) (x r : E) (i : Interval) → shown x ⊆ i → (40 ≤ w.depth → sine_of_degrees w.depth i ⊆ shown r) → Within shown w a x → Within shown w (sine a) r
-unfolding Lies value
-sine_holds shown w a x r i s f h = record { deep = h.deep; inside = within_trans (degree_sines.within w.depth (value_proper w a) (within_trans h.inside s)) (f h.deep) }
+pub far_above : (from to lo hi : ℤ) → pos (2 ^ 120) <ℤ to → from ≤ℤ to → lo ≡ neg_ℤ (pos 72057594037927936) → hi ≡ pos 72057594037927936 → IsNarrowSine from to lo hi
+far_above from to lo hi h o e f = record {
+  above = omega (arith, ints, e);
+  below = omega (arith, ints, f);
+  narrow = λ r t. absurd (omega (arith, ints, h, t));
+  small = λ a x y z. absurd (omega (arith, ints, h, y, z));
+  crest = λ a x y z. absurd (omega (arith, ints, h, y, z));
+}
 
-pub sine_somewhere : {E : Type 0} (shown : E → Interval) (w : World) (a : Expression) (x r : E) → ((n : ℕ) (i : Interval) → IsProper i → sine_of_degrees n i ⊆ shown r) → Within shown w a x → Within shown w (sine a) r
-unfolding Lies value
-sine_somewhere shown w a x r f h = record { deep = h.deep; inside = f w.depth (value w a) (value_proper w a) }
+pub far_apart : (from to lo hi : ℤ) → pos 25940733853654056960 ≤ℤ (to -ℤ from) → lo ≡ neg_ℤ (pos 72057594037927936) → hi ≡ pos 72057594037927936 → IsNarrowSine from to lo hi
+far_apart from to lo hi h e f = record {
+  above = omega (arith, ints, e);
+  below = omega (arith, ints, f);
+  narrow = λ r t. omega (arith, ints, h, e, f);
+  small = λ a x y z. absurd (omega (arith, ints, h, x, y, z));
+  crest = λ a x y z. absurd (omega (arith, ints, h, x, y, z));
+}
 
-pub cosine_holds : {E : Type 0} (shown : E → Interval) (w : World) (a : Expression) (r : E) → Within shown w (sine (add a (integer (pos 90)))) r → Within shown w (cosine a) r
-unfolding Lies value cosine_of_degrees
-cosine_holds shown w a r h = record { deep = h.deep; inside = h.inside }
+-- ---- 90 degrees more
+quarter_more : (from to a b : ℤ) → a ≡ from +ℤ pos 6485183463413514240 → b ≡ to +ℤ pos 6485183463413514240 → sum (between (at_56 from) (at_56 to)) (only (whole (pos 90))) ⊆ between (at_56 a) (at_56 b)
+unfolding sum plus
+quarter_more from to a b e f = rw (e, f) (record { ends = (record { cross = omega (arith, ints) }, record { cross = omega (arith, ints) }) })
+
+pub quarter_holds : (n : ℕ) (from to a b lo hi : ℤ) → from ≤ℤ to → a ≡ from +ℤ pos 6485183463413514240 → b ≡ to +ℤ pos 6485183463413514240 → sine_of_degrees n (between (at_56 a) (at_56 b)) ⊆ between (at_56 lo) (at_56 hi)
+    → cosine_of_degrees n (between (at_56 from) (at_56 to)) ⊆ between (at_56 lo) (at_56 hi)
+unfolding cosine_of_degrees
+quarter_holds n from to a b lo hi o e f h = within_trans (degree_sines.within n (quarter_proper (between (at_56 from) (at_56 to)) (order_at from to o)) (quarter_more from to a b e f)) h
+
+pub quarter_narrow : (from to a b lo hi : ℤ) → a ≡ from +ℤ pos 6485183463413514240 → b ≡ to +ℤ pos 6485183463413514240 → IsNarrowSine a b lo hi → IsNarrowCosine from to lo hi
+quarter_narrow from to a b lo hi e f h = record {
+  above = h.above;
+  below = h.below;
+  narrow = λ r t. let n = h.narrow (omega (arith, ints, e, r)) (omega (arith, ints, f, t)) in omega (arith, ints, n, e, f);
+  crest = λ c x y z. h.crest c (omega (arith, ints, e, x)) (omega (arith, ints, f, y)) z;
+}
+
+pub far_cosine : (from to lo hi : ℤ) → pos (2 ^ 120) <ℤ to → from ≤ℤ to → lo ≡ neg_ℤ (pos 72057594037927936) → hi ≡ pos 72057594037927936 → IsNarrowCosine from to lo hi
+far_cosine from to lo hi h o e f = record {
+  above = omega (arith, ints, e);
+  below = omega (arith, ints, f);
+  narrow = λ r t. absurd (omega (arith, ints, h, t));
+  crest = λ a x y z. absurd (omega (arith, ints, h, y, z));
+}
+
+-- ---- the three functions hold
+pub sine_holds : {E : Type 0} (shown : E → Interval) (w : World) (a : Expression) (x r : E) (from to lo hi : ℤ) → shown x ⊆ between (at_56 from) (at_56 to)
+    → ((n : ℕ) → 40 ≤ n → sine_of_degrees n (between (at_56 from) (at_56 to)) ⊆ between (at_56 lo) (at_56 hi)) → between (at_56 lo) (at_56 hi) ⊆ shown r → Within shown w a x → Within shown w (sine a) r
+unfolding Lies value
+sine_holds shown w a x r from to lo hi s f t h =
+    record { deep = h.deep; inside = within_trans (within_trans (degree_sines.within w.depth (value_proper w a) (within_trans h.inside s)) (f w.depth h.deep)) t }
+
+pub sine_somewhere : {E : Type 0} (shown : E → Interval) (w : World) (a : Expression) (x r : E) (lo hi : ℤ) → lo ≡ neg_ℤ (pos 72057594037927936) → hi ≡ pos 72057594037927936 → between (at_56 lo) (at_56 hi) ⊆ shown r
+    → Within shown w a x → Within shown w (sine a) r
+unfolding Lies value
+sine_somewhere shown w a x r lo hi e f t h = record { deep = h.deep; inside = within_trans (all_hold w.depth (value w a) lo hi (value_proper w a) e f) t }
+
+cosines_within : (n : ℕ) (i j : Interval) → IsProper i → i ⊆ j → cosine_of_degrees n i ⊆ cosine_of_degrees n j
+unfolding cosine_of_degrees
+cosines_within n i j p k = degree_sines.within n (quarter_proper i p) (sum_within k (within_refl (only (whole (pos 90)))))
+
+pub cosine_holds : {E : Type 0} (shown : E → Interval) (w : World) (a : Expression) (x r : E) (from to lo hi : ℤ) → shown x ⊆ between (at_56 from) (at_56 to)
+    → ((n : ℕ) → 40 ≤ n → cosine_of_degrees n (between (at_56 from) (at_56 to)) ⊆ between (at_56 lo) (at_56 hi)) → between (at_56 lo) (at_56 hi) ⊆ shown r → Within shown w a x → Within shown w (cosine a) r
+unfolding Lies value
+cosine_holds shown w a x r from to lo hi s f t h = record { deep = h.deep; inside = within_trans (within_trans (cosines_within w.depth (value w a) _ (value_proper w a) (within_trans h.inside s)) (f w.depth h.deep)) t }
+
+pub cosine_somewhere : {E : Type 0} (shown : E → Interval) (w : World) (a : Expression) (x r : E) (lo hi : ℤ) → lo ≡ neg_ℤ (pos 72057594037927936) → hi ≡ pos 72057594037927936 → between (at_56 lo) (at_56 hi) ⊆ shown r
+    → Within shown w a x → Within shown w (cosine a) r
+unfolding Lies value
+cosine_somewhere shown w a x r lo hi e f t h = record { deep = h.deep; inside = within_trans (all_cosines_hold w.depth (value w a) lo hi (value_proper w a) e f) t }
 
 pub tangent_holds : {E : Type 0} (shown : E → Interval) (w : World) (a : Expression) (r : E) → Within shown w (divide (sine a) (cosine a)) r → Within shown w (tangent a) r
 unfolding Lies value tangent_of_degrees
 tangent_holds shown w a r h = record { deep = h.deep; inside = h.inside }
 
-pub sine_keeps : {E : Type 0} (shown : E → Interval) (l : Limits) (r : Reach) (a : Expression) (k : E) → Narrow shown l r (sine a) k
-unfolding bound_of
-sine_keeps shown l r a k = narrow_unbounded shown l r (sine a) k refl
+-- ---- and keep their bounds
+-- the ends of an enclosure keep its bound, since they lie within it and hold it
+span_keeps : (w : ℕ) (b : Bound) (i : Interval) (lo hi : ℤ) → lo ≤ℤ hi → i ⊆ between (at_56 lo) (at_56 hi) → between (at_56 lo) (at_56 hi) ⊆ i → IsNarrow w b i → IsNarrow w b (between (at_56 lo) (at_56 hi))
+unfolding IsNarrow
+span_keeps w unbounded i lo hi o g h k = tt
+span_keeps w (bounded a b s t) everything lo hi o g h k = absurd k
+span_keeps w (bounded a b s t) (between c d) lo hi o g h k = record {
+  ordered = order_at lo hi o;
+  above = le_trans _ _ _ k.above h.ends.0;
+  below = le_trans _ _ _ h.ends.1 k.below;
+  close = le_trans _ _ _ h.ends.1 (le_trans _ _ _ k.close (plus_mono _ _ _ _ h.ends.0 (le_refl _)));
+}
 
-pub cosine_keeps : {E : Type 0} (shown : E → Interval) (l : Limits) (r : Reach) (a : Expression) (k : E) → Narrow shown l r (cosine a) k
-unfolding bound_of
-cosine_keeps shown l r a k = narrow_unbounded shown l r (cosine a) k refl
+-- ends that keep a bound, in whole numbers
+record AreKept (a b : ℤ) (s k w : ℕ) (from to : ℤ) : Type 0 where
+  low : (a *ℤ pos (2 ^ 24)) ≤ℤ from
+  high : to ≤ℤ (b *ℤ pos (2 ^ 24))
+  order : from ≤ℤ to
+  close : ((to -ℤ from) *ℤ pos (2 ^ 48)) ≤ℤ (pos (s * w) +ℤ pos (k * 2 ^ 40))
+
+kept_of : (a b : ℤ) (s k w : ℕ) (from to : ℤ) → Spans a b s k w (at_56 from) (at_56 to) → AreKept a b s k w from to
+unfolding plus
+kept_of a b s k w from to h = record {
+  low = omega (arith, ints, h.above.cross);
+  high = omega (arith, ints, h.below.cross);
+  order = omega (arith, ints, h.ordered.cross);
+  close = omega (arith, ints, h.close.cross);
+}
+
+spans_of : (a b : ℤ) (s k w : ℕ) (lo hi : ℤ) → AreKept a b s k w lo hi → Spans a b s k w (at_56 lo) (at_56 hi)
+unfolding plus
+spans_of a b s k w lo hi h = record {
+  ordered = record { cross = omega (arith, ints, h.order) };
+  above = record { cross = omega (arith, ints, h.low) };
+  below = record { cross = omega (arith, ints, h.high) };
+  close = record { cross = omega (arith, ints, h.close) };
+}
+
+-- n is at most its quotient, rounded up, times the divisor
+ceil_above : (n d : ℕ) → n ≤ ceil_div n d * suc d
+ceil_above n d = omega arith
+
+scaled_slope : (s t w : ℕ) → s ≤ t * 57 → s * w ≤ 57 * (t * w)
+scaled_slope s t w h = omega (arith, mul-le-mul_right w h)
+
+-- a 57th of the width, and 36 parts
+close_57 : (s k w : ℕ) (from to lo hi : ℤ) → ((to -ℤ from) *ℤ pos (2 ^ 48)) ≤ℤ (pos (s * w) +ℤ pos (k * 2 ^ 40)) → (pos 57 *ℤ (hi -ℤ lo)) ≤ℤ ((to -ℤ from) +ℤ pos 2052)
+    → ((hi -ℤ lo) *ℤ pos (2 ^ 48)) ≤ℤ (pos (ceil_div s 56 * w) +ℤ pos ((ceil_div k 56 + 36 * 2 ^ 8) * 2 ^ 40))
+close_57 s k w from to lo hi h n = by_quotients (ceil_div s 56) (ceil_div k 56) (ceil_above s 56) (ceil_above k 56)
+  where
+    by_quotients : (t m : ℕ) → s ≤ t * 57 → k ≤ m * 57 → ((hi -ℤ lo) *ℤ pos (2 ^ 48)) ≤ℤ (pos (t * w) +ℤ pos ((m + 36 * 2 ^ 8) * 2 ^ 40))
+    by_quotients t m p q = omega (arith, ints, h, n, scaled_slope s t w p, q)
+
+-- how far from 0, by the size of the angle
+size_low : (n : ℕ) (from to lo hi : ℤ) (t : Bool) → t ≡ nat_lt n eighth_turn → neg_ℤ (pos (n * 2 ^ 24)) ≤ℤ from → to ≤ℤ pos (n * 2 ^ 24) → IsNarrowSine from to lo hi
+    → (neg_ℤ (pos (cond t (ceil_div n 56 + 1) (2 ^ 32) * 2 ^ 24)) ≤ℤ lo) × (hi ≤ℤ pos (cond t (ceil_div n 56 + 1) (2 ^ 32) * 2 ^ 24))
+size_low n from to lo hi false e l u h = (omega (arith, ints, h.above), omega (arith, ints, h.below))
+size_low n from to lo hi true e l u h =
+    let m = ltb-true n eighth_turn (sym e) in
+    let a = h.small (pos (n * 2 ^ 24)) l u (omega (arith, ints, m)) in
+    let c = ceil_above n 56 in
+    (omega (arith, ints, a.down, c), omega (arith, ints, a.up, c))
+
+-- how far from 1
+least_low : (n : ℕ) (from to lo hi : ℤ) (t : Bool) → t ≡ nat_lt n eighth_turn → neg_ℤ (pos (n * 2 ^ 24)) ≤ℤ from → to ≤ℤ pos (n * 2 ^ 24) → IsNarrowCosine from to lo hi
+    → ((cond t (pos (2 ^ 32) -ℤ pos (ceil_div n 56 + 1)) (neg_ℤ (pos (2 ^ 32)))) *ℤ pos (2 ^ 24)) ≤ℤ lo
+least_low n from to lo hi false e l u h = omega (arith, ints, h.above)
+least_low n from to lo hi true e l u h =
+    let m = ltb-true n eighth_turn (sym e) in
+    let a = h.crest (pos (n * 2 ^ 24)) l u (omega (arith, ints, m)) in
+    let c = ceil_above n 56 in
+    omega (arith, ints, a.down, c)
+
+limited_keeps : (t : Bool) (a b : ℤ) (s k w : ℕ) (lo hi : ℤ) → (t ≡ true → AreKept a b s k w lo hi) → IsNarrow w (limited t (bounded a b s k)) (between (at_56 lo) (at_56 hi))
+unfolding IsNarrow
+limited_keeps false a b s k w lo hi h = tt
+limited_keeps true a b s k w lo hi h = spans_of a b s k w lo hi (h refl)
+
+in_range : (a b from to : ℤ) → (a *ℤ pos (2 ^ 24)) ≤ℤ from → to ≤ℤ (b *ℤ pos (2 ^ 24)) → from ≤ℤ to → (neg_ℤ (pos (range_size a b * 2 ^ 24)) ≤ℤ from) × (to ≤ℤ pos (range_size a b * 2 ^ 24))
+in_range a b from to l u o = (omega (arith, ints, l), omega (arith, ints, u))
+
+sine_kept : (w : ℕ) (b : Bound) (from to lo hi : ℤ) → lo ≤ℤ hi → IsNarrowSine from to lo hi → IsNarrow w b (between (at_56 from) (at_56 to)) → IsNarrow w (sine_spans b) (between (at_56 lo) (at_56 hi))
+unfolding sine_spans IsNarrow
+sine_kept w unbounded from to lo hi o h k = tt
+sine_kept w (bounded a b s t) from to lo hi o h k =
+    let e = kept_of a b s t w from to k in
+    let r = in_range a b from to e.low e.high e.order in
+    let z = size_low (range_size a b) from to lo hi _ refl r.0 r.1 h in
+    limited_keeps _ _ _ _ _ w lo hi (λ q.
+    let m = ltb-true (range_size a b) (2 ^ 95) q in
+    record {
+      low = omega (arith, ints, z.0);
+      high = omega (arith, ints, z.1);
+      order = o;
+      close = close_57 s t w from to lo hi e.close (h.narrow (omega (arith, ints, m, r.0)) (omega (arith, ints, m, r.1)));
+    })
+
+cosine_kept : (w : ℕ) (b : Bound) (from to lo hi : ℤ) → lo ≤ℤ hi → IsNarrowCosine from to lo hi → IsNarrow w b (between (at_56 from) (at_56 to)) → IsNarrow w (cosine_spans b) (between (at_56 lo) (at_56 hi))
+unfolding cosine_spans IsNarrow
+cosine_kept w unbounded from to lo hi o h k = tt
+cosine_kept w (bounded a b s t) from to lo hi o h k =
+    let e = kept_of a b s t w from to k in
+    let r = in_range a b from to e.low e.high e.order in
+    limited_keeps _ _ _ _ _ w lo hi (λ q.
+    let m = ltb-true (range_size a b) (2 ^ 95) q in
+    record {
+      low = least_low (range_size a b) from to lo hi _ refl r.0 r.1 h;
+      high = omega (arith, ints, h.below);
+      order = o;
+      close = close_57 s t w from to lo hi e.close (h.narrow (omega (arith, ints, m, r.0)) (omega (arith, ints, m, r.1)));
+    })
+
+-- an operation on ends that keeps their bound, as one of enclosures
+pub sine_keeps : {E : Type 0} (shown : E → Interval) (l : Limits) (r : Reach) (a : Expression) (x y : E) (from to lo hi : ℤ) → from ≤ℤ to → lo ≤ℤ hi → shown x ⊆ between (at_56 from) (at_56 to) → between (at_56 from) (at_56 to) ⊆ shown x
+    → IsNarrowSine from to lo hi → ((w : ℕ) (b : Bound) → IsNarrow w b (between (at_56 lo) (at_56 hi)) → IsNarrow w (spanned_bound l b) (shown y)) → Narrow shown l r a x → Narrow shown l r (sine a) y
+unfolding Keeps bound_of
+sine_keeps shown l r a x y from to lo hi o p g h n f k = record { kept = f r.width _ (sine_kept r.width (bound_of l r.bounds a) from to lo hi p n (span_keeps r.width (bound_of l r.bounds a) (shown x) from to o g h k.kept)) }
+
+pub cosine_keeps : {E : Type 0} (shown : E → Interval) (l : Limits) (r : Reach) (a : Expression) (x y : E) (from to lo hi : ℤ) → from ≤ℤ to → lo ≤ℤ hi → shown x ⊆ between (at_56 from) (at_56 to) → between (at_56 from) (at_56 to) ⊆ shown x
+    → IsNarrowCosine from to lo hi → ((w : ℕ) (b : Bound) → IsNarrow w b (between (at_56 lo) (at_56 hi)) → IsNarrow w (spanned_bound l b) (shown y)) → Narrow shown l r a x → Narrow shown l r (cosine a) y
+unfolding Keeps bound_of
+cosine_keeps shown l r a x y from to lo hi o p g h n f k = record { kept = f r.width _ (cosine_kept r.width (bound_of l r.bounds a) from to lo hi p n (span_keeps r.width (bound_of l r.bounds a) (shown x) from to o g h k.kept)) }
+
+-- of every number no width is known
+sine_of_all : (w : ℕ) (l : Limits) (b : Bound) (i : Interval) → IsNarrow w b everything → IsNarrow w (spanned_bound l (sine_spans b)) i
+unfolding sine_spans spanned_bound IsNarrow
+sine_of_all w l unbounded i h = tt
+sine_of_all w l (bounded a b s k) i h = absurd h
+
+cosine_of_all : (w : ℕ) (l : Limits) (b : Bound) (i : Interval) → IsNarrow w b everything → IsNarrow w (spanned_bound l (cosine_spans b)) i
+unfolding cosine_spans spanned_bound IsNarrow
+cosine_of_all w l unbounded i h = tt
+cosine_of_all w l (bounded a b s k) i h = absurd h
+
+pub sine_keeps_all : {E : Type 0} (shown : E → Interval) (l : Limits) (r : Reach) (a : Expression) (x y : E) → shown x ≡ everything → Narrow shown l r a x → Narrow shown l r (sine a) y
+unfolding Keeps bound_of
+sine_keeps_all shown l r a x y e k = record { kept = sine_of_all r.width l (bound_of l r.bounds a) (shown y) (rw e at k.kept) }
+
+pub cosine_keeps_all : {E : Type 0} (shown : E → Interval) (l : Limits) (r : Reach) (a : Expression) (x y : E) → shown x ≡ everything → Narrow shown l r a x → Narrow shown l r (cosine a) y
+unfolding Keeps bound_of
+cosine_keeps_all shown l r a x y e k = record { kept = cosine_of_all r.width l (bound_of l r.bounds a) (shown y) (rw e at k.kept) }
 
 pub tangent_keeps : {E : Type 0} (shown : E → Interval) (l : Limits) (r : Reach) (a : Expression) (k : E) → Narrow shown l r (tangent a) k
-unfolding bound_of
-tangent_keeps shown l r a k = narrow_unbounded shown l r (tangent a) k refl
+unfolding Keeps bound_of IsNarrow
+tangent_keeps shown l r a k = record { kept = tt }

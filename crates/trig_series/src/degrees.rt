@@ -1,11 +1,12 @@
 //! Sine, cosine and tangent of enclosures of degrees.
-ghost use Rattle.std.specs.Prelude.{ℕ, ◌≤◌};
+ghost use Rattle.std.specs.Prelude.{◌≡◌, ℕ, ℤ, pos, neg_ℤ, ◌^◌, ◌≤◌, ◌≤ℤ◌};
 ghost use Rattle.exact_math.specs.Interval.{Interval, IsProper, between, ◌⊆◌};
 ghost use Rattle.book_model.specs.Bounds.{Reach, limits_of};
 ghost use Rattle.book_model.specs.Expressions.{Expression, World, sine, cosine, tangent};
 ghost use Rattle.book_model.specs.Leading.{at_56};
-ghost use Rattle.book_model.specs.Octants.{sine_of_degrees};
+ghost use Rattle.book_model.specs.Octants.{sine_of_degrees, cosine_of_degrees};
 ghost use Rattle.book_model.specs.Relations.{Within, Narrow};
+ghost use Rattle.trig_series.specs.Points.{IsNarrowSine, IsNarrowCosine};
 
 use crate::octants::sine_between;
 use encl_core::{Enclosure, Span};
@@ -13,44 +14,81 @@ use encl_core::{Enclosure, Span};
 /// 360 degrees, which count 2⁻⁵⁶.
 const TURN: i128 = 25_940_733_853_654_056_960;
 
+/// 90 degrees, which count 2⁻⁵⁶.
+const QUARTER: i128 = 6_485_183_463_413_514_240;
+
 /// 2⁶⁴ degrees, which count 2⁻⁵⁶. Further from 0 no octants are counted.
 const FAR: i128 = 1_329_227_995_784_915_872_903_807_060_280_344_576;
 
+/// One.
+const ONE: i128 = 72_057_594_037_927_936;
+
 /// What every sine lies in.
-fn all_sines<E: Enclosure>() -> E
-    ensures holds { (n : ℕ) (i : Interval) → IsProper i → sine_of_degrees n i ⊆ E.shown result }
+fn all_sines() -> Span
+    ensures low { result.lo ≡ neg_ℤ (pos 72057594037927936) }
+    ensures high { result.hi ≡ pos 72057594037927936 }
 {
-    E::from_int(-1).hull(E::from_int(1))
+    Span { lo: -ONE, hi: ONE }
+}
+
+/// The sine over ends that are not too far from 0 and less than a turn apart, cut to -1..1.
+#[inline(always)]
+fn cut_sine(lo: i128, hi: i128) -> Span
+    requires ordered { lo ≤ℤ hi }
+    requires from { neg_ℤ (pos (2 ^ 120)) ≤ℤ lo }
+    requires to { hi ≤ℤ pos (2 ^ 120) }
+    ensures holds { (n : ℕ) → 40 ≤ n → sine_of_degrees n (between (at_56 lo) (at_56 hi)) ⊆ between (at_56 result.lo) (at_56 result.hi) }
+    ensures narrow { IsNarrowSine lo hi result.lo result.hi }
+{
+    let sine = sine_between(lo, hi);
+    let low = sine.lo.max(-ONE).min(ONE);
+    let high = sine.hi.max(-ONE).min(ONE);
+    Span { lo: low, hi: high }
 }
 
 /// The sine over ends in degrees; whatever a sine may be, where they are a turn or more apart, or too far from 0.
-fn sine_over<E: Enclosure>(degrees: Span) -> E
-    ensures holds { (w : World) → 40 ≤ w.depth → sine_of_degrees w.depth (between (at_56 degrees.lo) (at_56 degrees.hi)) ⊆ E.shown result }
+fn sine_over(degrees: Span) -> Span
+    ensures holds { (n : ℕ) → 40 ≤ n → sine_of_degrees n (between (at_56 degrees.lo) (at_56 degrees.hi)) ⊆ between (at_56 result.lo) (at_56 result.hi) }
+    ensures narrow { IsNarrowSine degrees.lo degrees.hi result.lo result.hi }
 {
     if degrees.lo < -FAR {
-        return all_sines::<E>();
+        return all_sines();
     }
     if degrees.hi > FAR {
-        return all_sines::<E>();
+        return all_sines();
     }
     if degrees.hi - degrees.lo >= TURN {
-        return all_sines::<E>();
+        return all_sines();
     }
-    let sine = sine_between::<E>(degrees.lo, degrees.hi);
-    sine.max(E::from_int(-1)).min(E::from_int(1))
+    cut_sine(degrees.lo, degrees.hi)
+}
+
+/// The cosine over ends in degrees: the sine over 90 degrees more.
+fn cosine_over(degrees: Span) -> Span
+    ensures holds { (n : ℕ) → 40 ≤ n → cosine_of_degrees n (between (at_56 degrees.lo) (at_56 degrees.hi)) ⊆ between (at_56 result.lo) (at_56 result.hi) }
+    ensures narrow { IsNarrowCosine degrees.lo degrees.hi result.lo result.hi }
+{
+    if degrees.hi > FAR {
+        return all_sines();
+    }
+    sine_over(Span {
+        lo: degrees.lo + QUARTER,
+        hi: degrees.hi + QUARTER,
+    })
 }
 
 /// The sine of degrees.
 ///
 /// The degrees are reduced exactly, by octants of 45, and the series of sine and cosine are taken at the ends of
-/// what they have in common with each octant that they meet; what is left out of a series widens it.
+/// what they have in common with each octant that they meet; what is left out of a series widens it. The result is
+/// at most a 57th as wide as the degrees, and two units of its scale and 36 parts of 2⁻⁵⁶.
 pub fn sin_deg<E: Enclosure>(x: E) -> E
     ensures holds { (w : World) (a : Expression) → Within E.shown w a x → Within E.shown w (sine a) result }
     ensures narrow { (r : Reach) (a : Expression) → Narrow E.shown (limits_of E.BITS) r a x → Narrow E.shown (limits_of E.BITS) r (sine a) result }
 {
     match x.span() {
-        Some(degrees) => sine_over::<E>(degrees),
-        None => all_sines::<E>(),
+        Some(degrees) => E::from_span(sine_over(degrees)),
+        None => E::from_span(all_sines()),
     }
 }
 
@@ -59,7 +97,10 @@ pub fn cos_deg<E: Enclosure>(x: E) -> E
     ensures holds { (w : World) (a : Expression) → Within E.shown w a x → Within E.shown w (cosine a) result }
     ensures narrow { (r : Reach) (a : Expression) → Narrow E.shown (limits_of E.BITS) r a x → Narrow E.shown (limits_of E.BITS) r (cosine a) result }
 {
-    sin_deg::<E>(x.add(E::from_int(90)))
+    match x.span() {
+        Some(degrees) => E::from_span(cosine_over(degrees)),
+        None => E::from_span(all_sines()),
+    }
 }
 
 /// The tangent of degrees: the quotient of sine and cosine, which is every number where the cosine may be 0.

@@ -5,10 +5,10 @@
 //! - `pi`: the number, from the crate of the enclosures.
 #![tactic(auto)]
 
-mod angles;
 mod degrees;
+mod kernel;
 mod octants;
-mod sums;
+mod points;
 
 pub use degrees::{cos_deg, sin_deg, tan_deg};
 pub use encl_core::pi;

@@ -1,53 +1,87 @@
-//! The sine over octants of 45 degrees.
-ghost use Rattle.std.specs.Prelude.{◌≡◌, ◌≤◌, ◌^◌, pos, neg_ℤ, unsigned_abs, ◌≤ℤ◌, ◌<ℤ◌, ◌+ℤ◌, ◌*ℤ◌};
-ghost use Rattle.std.specs.Int.{int_div_euclid};
+//! The sine over octants of 45 degrees, as spans.
+ghost use Rattle.std.specs.Prelude.{◌≡◌, ◌≤◌, ◌⊎◌, ◌^◌, ℕ, ℤ, pos, suc, neg_ℤ, unsigned_abs, ◌≤ℤ◌, ◌<ℤ◌, ◌+ℤ◌, ◌-ℤ◌, ◌*ℤ◌};
+ghost use Rattle.std.specs.Int.{int_div_euclid, int_min, int_max};
 ghost use Rattle.exact_math.specs.Fraction.{Fraction, ◌≈◌};
 ghost use Rattle.exact_math.specs.Interval.{between, ◌⊆◌};
-ghost use Rattle.book_model.specs.Expressions.{World};
 ghost use Rattle.book_model.specs.Leading.{at_56};
 ghost use Rattle.book_model.specs.Octants.{octant_of_turn, sine_into as into_octant, sine_at as at_degrees, sine_in as in_octant, first_octant, last_octant, sine_of_degrees};
+ghost use Rattle.trig_series.specs.Points.{IsPoint, edge_of, IsAt, IsSmall, IsAround};
 
-use crate::angles::{cosine_of, sine_of};
-use encl_core::Enclosure;
+use crate::points::{cosine_point, sine_point};
+use encl_core::Span;
 
 /// 45 degrees, which count 2⁻⁵⁶.
 const OCTANT: i128 = 3_242_591_731_706_757_120;
 
 /// The sine at so many degrees into an octant of the first half turn.
-fn sine_into_half<E: Enclosure>(octant: i128, degrees: i128) -> E
+#[inline(always)]
+fn sine_into_half(octant: i128, degrees: u64) -> Span
     requires from { pos 0 ≤ℤ octant }
     requires to { octant ≤ℤ pos 3 }
-    requires low { pos 0 ≤ℤ degrees }
-    requires high { degrees ≤ℤ pos 3242591731706757120 }
-    ensures holds { (w : World) (y : Fraction) → 40 ≤ w.depth → y ≈ at_56 degrees → into_octant w.depth (unsigned_abs octant) y ⊆ E.shown result }
+    requires high { degrees ≤ 3242591731706757120 }
+    ensures holds { (n : ℕ) (y : Fraction) → 40 ≤ n → y ≈ at_56 (pos degrees) → into_octant n (unsigned_abs octant) y ⊆ between (at_56 result.lo) (at_56 result.hi) }
+    ensures near { IsPoint (unsigned_abs octant) degrees result.lo result.hi }
+    ensures room { IsSmall result.lo result.hi }
+    ensures begins { degrees ≡ 0 → IsAt (edge_of (unsigned_abs octant)) result.lo result.hi }
+    ensures ends { degrees ≡ 3242591731706757120 → IsAt (edge_of (suc (unsigned_abs octant))) result.lo result.hi }
 {
     if octant == 0 {
-        sine_of::<E>(degrees)
-    } else if octant == 1 {
-        cosine_of::<E>(OCTANT - degrees)
-    } else if octant == 2 {
-        cosine_of::<E>(degrees)
-    } else {
-        sine_of::<E>(OCTANT - degrees)
+        return sine_point(degrees);
     }
+    if octant == 1 {
+        return cosine_point(crate::points::OCTANT - degrees);
+    }
+    if octant == 2 {
+        return cosine_point(degrees);
+    }
+    sine_point(crate::points::OCTANT - degrees)
+}
+
+/// The opposite of a span.
+#[inline(always)]
+fn opposite(span: Span) -> Span
+    requires { IsSmall span.lo span.hi }
+    ensures room { IsSmall result.lo result.hi }
+    ensures low { result.lo ≡ neg_ℤ span.hi }
+    ensures high { result.hi ≡ neg_ℤ span.lo }
+{
+    Span {
+        lo: -span.hi,
+        hi: -span.lo,
+    }
+}
+
+/// From the lesser lower to the greater upper end.
+#[inline(always)]
+fn hull(first: Span, second: Span) -> Span
+    ensures low { result.lo ≡ int_min first.lo second.lo }
+    ensures high { result.hi ≡ int_max first.hi second.hi }
+{
+    let lo = first.lo.min(second.lo);
+    let hi = first.hi.max(second.hi);
+    Span { lo, hi }
 }
 
 /// The sine at so many degrees into an octant of a turn.
-fn sine_into<E: Enclosure>(octant: i128, degrees: i128) -> E
+#[inline(always)]
+fn sine_into(octant: i128, degrees: u64) -> Span
     requires from { pos 0 ≤ℤ octant }
     requires to { octant ≤ℤ pos 7 }
-    requires low { pos 0 ≤ℤ degrees }
-    requires high { degrees ≤ℤ pos 3242591731706757120 }
-    ensures holds { (w : World) (y : Fraction) → 40 ≤ w.depth → y ≈ at_56 degrees → into_octant w.depth (unsigned_abs octant) y ⊆ E.shown result }
+    requires high { degrees ≤ 3242591731706757120 }
+    ensures holds { (n : ℕ) (y : Fraction) → 40 ≤ n → y ≈ at_56 (pos degrees) → into_octant n (unsigned_abs octant) y ⊆ between (at_56 result.lo) (at_56 result.hi) }
+    ensures near { IsPoint (unsigned_abs octant) degrees result.lo result.hi }
+    ensures room { IsSmall result.lo result.hi }
+    ensures begins { degrees ≡ 0 → IsAt (edge_of (unsigned_abs octant)) result.lo result.hi }
+    ensures ends { degrees ≡ 3242591731706757120 → IsAt (edge_of (suc (unsigned_abs octant))) result.lo result.hi }
 {
     if octant >= 4 {
-        sine_into_half::<E>(octant - 4, degrees).neg()
-    } else {
-        sine_into_half::<E>(octant, degrees)
+        return opposite(sine_into_half(octant - 4, degrees));
     }
+    sine_into_half(octant, degrees)
 }
 
 /// Which octant of its turn an octant is.
+#[inline(always)]
 fn octant_in_turn(octant: i128) -> i128
     requires from { neg_ℤ (pos (2 ^ 60)) ≤ℤ octant }
     requires to { octant ≤ℤ pos (2 ^ 60) }
@@ -58,33 +92,44 @@ fn octant_in_turn(octant: i128) -> i128
 }
 
 /// The sine at a number of degrees in an octant.
-fn sine_at<E: Enclosure>(octant: i128, degrees: i128) -> E
+#[inline(always)]
+fn sine_at(octant: i128, degrees: i128) -> Span
     requires from { neg_ℤ (pos (2 ^ 60)) ≤ℤ octant }
     requires to { octant ≤ℤ pos (2 ^ 60) }
     requires low { (octant *ℤ pos 3242591731706757120) ≤ℤ degrees }
     requires high { degrees ≤ℤ (octant *ℤ pos 3242591731706757120 +ℤ pos 3242591731706757120) }
-    ensures holds { (w : World) (y : Fraction) → 40 ≤ w.depth → y ≈ at_56 degrees → at_degrees w.depth octant y ⊆ E.shown result }
+    ensures holds { (n : ℕ) (y : Fraction) → 40 ≤ n → y ≈ at_56 degrees → at_degrees n octant y ⊆ between (at_56 result.lo) (at_56 result.hi) }
+    ensures near { IsPoint (octant_of_turn octant) (unsigned_abs (degrees -ℤ octant *ℤ pos 3242591731706757120)) result.lo result.hi }
+    ensures begins { degrees ≡ octant *ℤ pos 3242591731706757120 → IsAt (edge_of (octant_of_turn octant)) result.lo result.hi }
+    ensures ends { degrees ≡ octant *ℤ pos 3242591731706757120 +ℤ pos 3242591731706757120 → IsAt (edge_of (suc (octant_of_turn octant))) result.lo result.hi }
 {
-    sine_into::<E>(octant_in_turn(octant), degrees - octant * OCTANT)
+    sine_into(octant_in_turn(octant), (degrees - octant * OCTANT) as u64)
 }
 
 /// The sine over the part of two ends, which count 2⁻⁵⁶, in an octant that they meet.
-fn sine_in<E: Enclosure>(octant: i128, lo: i128, hi: i128) -> E
+#[inline(always)]
+fn sine_in(octant: i128, lo: i128, hi: i128) -> Span
     requires from { neg_ℤ (pos (2 ^ 60)) ≤ℤ octant }
     requires to { octant ≤ℤ pos (2 ^ 60) }
     requires ordered { lo ≤ℤ hi }
     requires begun { (octant *ℤ pos 3242591731706757120) ≤ℤ hi }
     requires ended { lo ≤ℤ (octant *ℤ pos 3242591731706757120 +ℤ pos 3242591731706757120) }
-    ensures holds { (w : World) → 40 ≤ w.depth → in_octant w.depth (at_56 lo) (at_56 hi) octant ⊆ E.shown result }
+    ensures holds { (n : ℕ) → 40 ≤ n → in_octant n (at_56 lo) (at_56 hi) octant ⊆ between (at_56 result.lo) (at_56 result.hi) }
+    ensures narrow { (pos 57 *ℤ (result.hi -ℤ result.lo)) ≤ℤ ((int_min (octant *ℤ pos 3242591731706757120 +ℤ pos 3242591731706757120) hi -ℤ int_max (octant *ℤ pos 3242591731706757120) lo) +ℤ pos 513) }
+    ensures begins { lo ≤ℤ (octant *ℤ pos 3242591731706757120) → IsAt (edge_of (octant_of_turn octant)) result.lo result.hi }
+    ensures ends { (octant *ℤ pos 3242591731706757120 +ℤ pos 3242591731706757120) ≤ℤ hi → IsAt (edge_of (suc (octant_of_turn octant))) result.lo result.hi }
+    ensures small { (a : ℤ) → neg_ℤ a ≤ℤ lo → hi ≤ℤ a → a <ℤ pos 3242591731706757120 → IsAround (pos 0) a result.lo result.hi }
+    ensures crest { (a : ℤ) → (pos 6485183463413514240 -ℤ a) ≤ℤ lo → hi ≤ℤ (pos 6485183463413514240 +ℤ a) → a <ℤ pos 3242591731706757120 → IsAround (pos 72057594037927936) a result.lo result.hi }
 {
     let edge = octant * OCTANT;
-    let low = sine_at::<E>(octant, edge.max(lo));
-    let high = sine_at::<E>(octant, (edge + OCTANT).min(hi));
-    low.hull(high)
+    let low = sine_at(octant, edge.max(lo));
+    let high = sine_at(octant, (edge + OCTANT).min(hi));
+    hull(low, high)
 }
 
 /// How often an octant goes into degrees, which count 2⁻⁵⁶, rounded down: as often as 45 into their whole number,
 /// which nearly always fits in 64 bits.
+#[inline(always)]
 fn octants_in(degrees: i128) -> i128
     ensures value { result ≡ int_div_euclid degrees (pos 3242591731706757120) }
 {
@@ -96,6 +141,7 @@ fn octants_in(degrees: i128) -> i128
 }
 
 /// The first octant that ends at or above so many degrees, which count 2⁻⁵⁶.
+#[inline(always)]
 fn first_met(lo: i128) -> i128
     requires from { neg_ℤ (pos (2 ^ 120)) ≤ℤ lo }
     requires to { lo ≤ℤ pos (2 ^ 120) }
@@ -109,6 +155,7 @@ fn first_met(lo: i128) -> i128
 }
 
 /// The last octant that begins at or below so many degrees, which count 2⁻⁵⁶.
+#[inline(always)]
 fn last_met(hi: i128) -> i128
     requires from { neg_ℤ (pos (2 ^ 120)) ≤ℤ hi }
     requires to { hi ≤ℤ pos (2 ^ 120) }
@@ -120,18 +167,46 @@ fn last_met(hi: i128) -> i128
     octants_in(hi)
 }
 
-/// The sine from one number of degrees to another, which count 2⁻⁵⁶.
-pub(crate) fn sine_between<E: Enclosure>(lo: i128, hi: i128) -> E
+/// The sine over the octants from the first to the last that two ends meet.
+#[cold]
+fn sine_over_octants(first: i128, last: i128, lo: i128, hi: i128) -> Span
+    requires ordered { lo ≤ℤ hi }
+    requires first { first ≡ first_octant (at_56 lo) }
+    requires last { last ≡ last_octant (at_56 hi) }
+    requires begun { (first *ℤ pos 3242591731706757120) ≤ℤ lo }
+    requires ended { lo ≤ℤ (first *ℤ pos 3242591731706757120 +ℤ pos 3242591731706757120) }
+    requires reached { (last *ℤ pos 3242591731706757120) ≤ℤ hi }
+    requires above { neg_ℤ (pos (2 ^ 60)) ≤ℤ first }
+    requires below { last <ℤ pos (2 ^ 60) }
+    requires several { first <ℤ last }
+    ensures holds { (n : ℕ) → 40 ≤ n → sine_of_degrees n (between (at_56 lo) (at_56 hi)) ⊆ between (at_56 result.lo) (at_56 result.hi) }
+    ensures narrow { (pos 57 *ℤ (result.hi -ℤ result.lo)) ≤ℤ ((hi -ℤ lo) +ℤ pos 513 *ℤ ((last -ℤ first) +ℤ pos 1)) }
+    ensures small { (a : ℤ) → neg_ℤ a ≤ℤ lo → hi ≤ℤ a → a <ℤ pos 3242591731706757120 → IsAround (pos 0) a result.lo result.hi }
+    ensures crest { (a : ℤ) → (pos 6485183463413514240 -ℤ a) ≤ℤ lo → hi ≤ℤ (pos 6485183463413514240 +ℤ a) → a <ℤ pos 3242591731706757120 → IsAround (pos 72057594037927936) a result.lo result.hi }
+{
+    let mut sine = sine_in(first, lo, hi);
+    for octant in first + 1..last + 1 {
+        sine = hull(sine, sine_in(octant, lo, hi));
+    }
+    sine
+}
+
+/// The sine from one number of degrees to another, which count 2⁻⁵⁶. Its width is at most a 57th of theirs, and 36
+/// parts, unless they are three octants or more apart.
+#[inline(always)]
+pub(crate) fn sine_between(lo: i128, hi: i128) -> Span
     requires ordered { lo ≤ℤ hi }
     requires from { neg_ℤ (pos (2 ^ 120)) ≤ℤ lo }
     requires to { hi ≤ℤ pos (2 ^ 120) }
-    ensures holds { (w : World) → 40 ≤ w.depth → sine_of_degrees w.depth (between (at_56 lo) (at_56 hi)) ⊆ E.shown result }
+    ensures holds { (n : ℕ) → 40 ≤ n → sine_of_degrees n (between (at_56 lo) (at_56 hi)) ⊆ between (at_56 result.lo) (at_56 result.hi) }
+    ensures narrow { (pos 9727775195120271360 ≤ℤ (hi -ℤ lo)) ⊎ ((pos 57 *ℤ (result.hi -ℤ result.lo)) ≤ℤ ((hi -ℤ lo) +ℤ pos 2052)) }
+    ensures small { (a : ℤ) → neg_ℤ a ≤ℤ lo → hi ≤ℤ a → a <ℤ pos 3242591731706757120 → IsAround (pos 0) a result.lo result.hi }
+    ensures crest { (a : ℤ) → (pos 6485183463413514240 -ℤ a) ≤ℤ lo → hi ≤ℤ (pos 6485183463413514240 +ℤ a) → a <ℤ pos 3242591731706757120 → IsAround (pos 72057594037927936) a result.lo result.hi }
 {
     let first = first_met(lo);
     let last = last_met(hi);
-    let mut sine = sine_in::<E>(first, lo, hi);
-    for octant in first + 1..last + 1 {
-        sine = sine.hull(sine_in::<E>(octant, lo, hi));
+    if last <= first {
+        return sine_in(first, lo, hi);
     }
-    sine
+    sine_over_octants(first, last, lo, hi)
 }

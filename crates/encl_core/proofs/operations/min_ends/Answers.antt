@@ -1,6 +1,7 @@
 use Rattle.std.proofs.Common.{rules, SFits, w64}
 use Rattle.std.proofs.lemmas.Int.{to_z-of_z}
 use Rattle.encl_core.proofs.Enclosing.{minimum_is, minimum_first, minimum_second, lesser_order}
+use Rattle.encl_core.proofs.Widths.{minimum_narrow, minimum_of_all, minimum_with_all}
 use Rattle.encl_core.proofs.operations.min_ends.Goals as goal
 
 pub returns-in_err-x-clause-tight : goal.returns-in_err-x-clause-tight
@@ -44,3 +45,21 @@ invariant_of-result c =
     let fu : SFits w64 c.min-2.result = search rules in
     let u = simp to_z-of_z at c.min-2.ensures.value in
     record { ordered = simp to_z-of_z (lesser_order c.in_ok-x.x.lo c.in_ok-x.x.hi c.in_ok-y.y.lo c.in_ok-y.y.hi c.min.result c.min-2.result c.in_ok-x.x.ordered c.in_ok-y.y.ordered l u) }
+
+pub returns-clause-narrow : goal.returns-clause-narrow
+returns-clause-narrow c = λ w a b h k.
+    let fa : SFits w64 c.in_ok-x.x.lo = search rules in
+    let fb : SFits w64 c.in_ok-x.x.hi = search rules in
+    let fc : SFits w64 c.in_ok-y.y.lo = search rules in
+    let fd : SFits w64 c.in_ok-y.y.hi = search rules in
+    let fl : SFits w64 c.min.result = search rules in
+    let l = simp to_z-of_z at c.min.ensures.value in
+    let fu : SFits w64 c.min-2.result = search rules in
+    let u = simp to_z-of_z at c.min-2.ensures.value in
+    simp to_z-of_z (minimum_narrow w a b c.in_ok-x.x.lo c.in_ok-x.x.hi c.in_ok-y.y.lo c.in_ok-y.y.hi c.min.result c.min-2.result l u (rw c.in_ok-x.was at h) (rw c.in_ok-y.was at k))
+
+pub returns-in_err-x-clause-narrow : goal.returns-in_err-x-clause-narrow
+returns-in_err-x-clause-narrow c = λ w a b h k. minimum_of_all w a b _ (rw c.in_err-x.was at h)
+
+pub returns-in_err-y-clause-narrow : goal.returns-in_err-y-clause-narrow
+returns-in_err-y-clause-narrow c = λ w a b h k. minimum_with_all w a b _ (rw c.in_err-y.was at k)

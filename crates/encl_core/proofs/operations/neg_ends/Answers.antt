@@ -2,6 +2,7 @@ use Rattle.std.proofs.Common.{arith}
 use Rattle.std.proofs.lemmas.Int.{ints}
 use Rattle.encl_core.proofs.Best.{negative_best, negative_first}
 use Rattle.encl_core.proofs.Enclosing.{negative_encloses}
+use Rattle.encl_core.proofs.Widths.{negated_narrow, negated_of_all}
 use Rattle.encl_core.proofs.operations.neg_ends.Goals as goal
 
 pub returns-in_err-x-clause-best : goal.returns-in_err-x-clause-best
@@ -12,3 +13,9 @@ returns-clause-holds c = rw c.in_ok-x.was (negative_encloses c.in_ok-x.x.lo c.in
 
 pub returns-clause-best : goal.returns-clause-best
 returns-clause-best c = rw c.in_ok-x.was (negative_best c.in_ok-x.x.lo c.in_ok-x.x.hi _ _ _ c.in_ok-x.x.ordered (omega (arith, ints)) (omega (arith, ints)) c.ends_of.ensures.kept)
+
+pub returns-clause-narrow : goal.returns-clause-narrow
+returns-clause-narrow c = λ w a h. negated_narrow w a c.in_ok-x.x.lo c.in_ok-x.x.hi _ _ _ (omega (arith, ints)) (omega (arith, ints)) c.ends_of.ensures.kept (rw c.in_ok-x.was at h)
+
+pub returns-in_err-x-clause-narrow : goal.returns-in_err-x-clause-narrow
+returns-in_err-x-clause-narrow c = λ w a h. negated_of_all w a _ (rw c.in_err-x.was at h)

@@ -1,22 +1,35 @@
 use Rattle.std.proofs.Common.{arith, SFits, pos, ◌-ℤ◌}
 use Rattle.std.specs.Int.{w128}
 use Rattle.std.proofs.lemmas.Int.{ints, to_z-of_z}
-use Rattle.trig_series.proofs.AngleLemmas.{into_later, into_is_proper, negate_holds}
+use Rattle.trig_series.proofs.AngleLemmas.{into_later}
+use Rattle.trig_series.proofs.OctantLemmas.{span_opposite}
+use Rattle.trig_series.proofs.TurnLemmas.{later_point, later_begins, later_ends}
 use Rattle.trig_series.proofs.octants.sine_into.Goals as goal
 
-pub returns-then-octant-ge4 : goal.returns-then-octant-ge4
-returns-then-octant-ge4 g c =
+pub returns-then-octant-ge4-clause-holds : goal.returns-then-octant-ge4-clause-holds
+returns-then-octant-ge4-clause-holds c = λ n y l e.
     let fo = c.ranges.octant in
-    let fd = c.ranges.degrees in
     let fm : SFits w128 (c.args.octant -ℤ pos 4) = omega (arith, ints, c.requires) in
-    let k = simp to_z-of_z at c.sine_into_half.ensures.holds in
-    record {
-      holds = λ w y h same. into_later w.depth c.args.octant y _ (omega (arith, ints, c.if-octant-ge4.true))
-          (negate_holds g.E.Enclosure.shown _ _ _ (into_is_proper w.depth _ y h) (k w y h same) c.neg.ensures.holds);
-    }
+    let h = simp to_z-of_z at c.sine_into_half.ensures.holds in
+    into_later n c.args.octant y _ (omega (arith, ints, c.if-octant-ge4.true)) (span_opposite _ _ _ _ _ c.opposite.ensures.low c.opposite.ensures.high (h n y l e))
 
-pub returns-else-octant-ge4 : goal.returns-else-octant-ge4
-returns-else-octant-ge4 g c =
+pub returns-then-octant-ge4-clause-near : goal.returns-then-octant-ge4-clause-near
+returns-then-octant-ge4-clause-near c =
     let fo = c.ranges.octant in
-    let fd = c.ranges.degrees in
-    record { holds = simp to_z-of_z at c.sine_into_half-else-octant-ge4.ensures.holds }
+    let fm : SFits w128 (c.args.octant -ℤ pos 4) = omega (arith, ints, c.requires) in
+    let h = simp to_z-of_z at c.sine_into_half.ensures.near in
+    later_point c.args.octant c.args.degrees _ _ _ _ (omega (arith, ints, c.if-octant-ge4.true)) c.opposite.ensures.low c.opposite.ensures.high h
+
+pub returns-then-octant-ge4-clause-begins : goal.returns-then-octant-ge4-clause-begins
+returns-then-octant-ge4-clause-begins c = λ e.
+    let fo = c.ranges.octant in
+    let fm : SFits w128 (c.args.octant -ℤ pos 4) = omega (arith, ints, c.requires) in
+    let h = simp to_z-of_z at c.sine_into_half.ensures.begins in
+    later_begins c.args.octant _ _ _ _ (omega (arith, ints, c.if-octant-ge4.true)) c.opposite.ensures.low c.opposite.ensures.high (h e)
+
+pub returns-then-octant-ge4-clause-ends : goal.returns-then-octant-ge4-clause-ends
+returns-then-octant-ge4-clause-ends c = λ e.
+    let fo = c.ranges.octant in
+    let fm : SFits w128 (c.args.octant -ℤ pos 4) = omega (arith, ints, c.requires) in
+    let h = simp to_z-of_z at c.sine_into_half.ensures.ends in
+    later_ends c.args.octant _ _ _ _ (omega (arith, ints, c.if-octant-ge4.true)) c.opposite.ensures.low c.opposite.ensures.high (h e)

@@ -1,35 +1,43 @@
-use Rattle.std.proofs.Common.{arith, SFits, pos, ◌-ℤ◌}
-use Rattle.std.specs.Int.{w128}
-use Rattle.std.proofs.lemmas.Int.{ints, to_z-of_z}
-use Rattle.trig_series.proofs.AngleLemmas.{into_0, into_1, into_2, into_3, short_same}
+use Rattle.std.proofs.Common.{◌≡◌, arith, pos, ◌-◌}
+use Rattle.std.proofs.lemmas.Int.{ints}
+use Rattle.trig_series.proofs.AngleLemmas.{into_0, into_1, into_2, into_3}
+use Rattle.trig_series.proofs.TurnLemmas.{short_count, point_0, point_1, point_2, point_3}
 use Rattle.trig_series.proofs.octants.sine_into_half.Goals as goal
 
-pub returns-then-octant-eq0 : goal.returns-then-octant-eq0
-returns-then-octant-eq0 g c =
-    let fo = c.ranges.octant in
-    let fd = c.ranges.degrees in
-    let k = simp to_z-of_z at c.sine_of.ensures.holds in
-    record { holds = λ w y h same. into_0 w.depth c.args.octant y _ (omega (arith, ints, c.if-octant-eq0.true)) (k w y h same) }
+pub returns-then-octant-eq0-clause-holds : goal.returns-then-octant-eq0-clause-holds
+returns-then-octant-eq0-clause-holds c = λ n y l e. into_0 n c.args.octant y _ (omega (arith, ints, c.if-octant-eq0.true)) (c.sine_point.ensures.holds n y l e)
 
-pub returns-then-octant-eq1 : goal.returns-then-octant-eq1
-returns-then-octant-eq1 g c =
-    let fo = c.ranges.octant in
-    let fd = c.ranges.degrees in
-    let fm : SFits w128 (pos 3242591731706757120 -ℤ c.args.degrees) = omega (arith, ints, c.requires) in
-    let k = simp to_z-of_z at c.cosine_of.ensures.holds in
-    record { holds = λ w y h same. into_1 w.depth c.args.octant y _ (omega (arith, ints, c.if-octant-eq1.true)) (k w _ h (short_same c.args.degrees y same)) }
+pub returns-then-octant-eq0-clause-near : goal.returns-then-octant-eq0-clause-near
+returns-then-octant-eq0-clause-near c = point_0 c.args.octant c.args.degrees _ _ (omega (arith, ints, c.if-octant-eq0.true)) c.sine_point.ensures.near
 
-pub returns-then-octant-eq2 : goal.returns-then-octant-eq2
-returns-then-octant-eq2 g c =
-    let fo = c.ranges.octant in
-    let fd = c.ranges.degrees in
-    let k = simp to_z-of_z at c.cosine_of-then-octant-eq2.ensures.holds in
-    record { holds = λ w y h same. into_2 w.depth c.args.octant y _ (omega (arith, ints, c.if-octant-eq2.true)) (k w y h same) }
+pub returns-then-octant-eq1-clause-holds : goal.returns-then-octant-eq1-clause-holds
+returns-then-octant-eq1-clause-holds c = λ n y l e. into_1 n c.args.octant y _ (omega (arith, ints, c.if-octant-eq1.true)) (c.cosine_point.ensures.holds n _ l (short_count c.args.degrees y c.requires.high e))
 
-pub returns-else-octant-eq2 : goal.returns-else-octant-eq2
-returns-else-octant-eq2 g c =
-    let fo = c.ranges.octant in
-    let fd = c.ranges.degrees in
-    let fm : SFits w128 (pos 3242591731706757120 -ℤ c.args.degrees) = omega (arith, ints, c.requires) in
-    let k = simp to_z-of_z at c.sine_of-else-octant-eq2.ensures.holds in
-    record { holds = λ w y h same. into_3 w.depth c.args.octant y _ (omega (arith, ints, c.requires, c.if-octant-eq0.false, c.if-octant-eq1.false, c.if-octant-eq2.false)) (k w _ h (short_same c.args.degrees y same)) }
+pub returns-then-octant-eq1-clause-near : goal.returns-then-octant-eq1-clause-near
+returns-then-octant-eq1-clause-near c = point_1 c.args.octant c.args.degrees _ _ (omega (arith, ints, c.if-octant-eq1.true)) c.cosine_point.ensures.near
+
+pub returns-then-octant-eq2-clause-holds : goal.returns-then-octant-eq2-clause-holds
+returns-then-octant-eq2-clause-holds c = λ n y l e. into_2 n c.args.octant y _ (omega (arith, ints, c.if-octant-eq2.true)) (c.cosine_point-then-octant-eq2.ensures.holds n y l e)
+
+pub returns-then-octant-eq2-clause-near : goal.returns-then-octant-eq2-clause-near
+returns-then-octant-eq2-clause-near c = point_2 c.args.octant c.args.degrees _ _ (omega (arith, ints, c.if-octant-eq2.true)) c.cosine_point-then-octant-eq2.ensures.near
+
+pub returns-clause-holds : goal.returns-clause-holds
+returns-clause-holds c =
+    let o : c.args.octant ≡ pos 3 = omega (arith, ints, c.requires.from, c.requires.to, c.if-octant-eq0.false, c.if-octant-eq1.false, c.if-octant-eq2.false) in
+    λ n y l e. into_3 n c.args.octant y _ o (c.sine_point-2.ensures.holds n _ l (short_count c.args.degrees y c.requires.high e))
+
+pub returns-clause-near : goal.returns-clause-near
+returns-clause-near c =
+    let o : c.args.octant ≡ pos 3 = omega (arith, ints, c.requires.from, c.requires.to, c.if-octant-eq0.false, c.if-octant-eq1.false, c.if-octant-eq2.false) in
+    point_3 c.args.octant c.args.degrees _ _ o c.sine_point-2.ensures.near
+
+pub returns-clause-begins : goal.returns-clause-begins
+returns-clause-begins c =
+    let o : c.args.octant ≡ pos 3 = omega (arith, ints, c.requires.from, c.requires.to, c.if-octant-eq0.false, c.if-octant-eq1.false, c.if-octant-eq2.false) in
+    λ e. rw o (c.sine_point-2.ensures.ends (omega (arith, e)))
+
+pub returns-clause-ends : goal.returns-clause-ends
+returns-clause-ends c =
+    let o : c.args.octant ≡ pos 3 = omega (arith, ints, c.requires.from, c.requires.to, c.if-octant-eq0.false, c.if-octant-eq1.false, c.if-octant-eq2.false) in
+    λ e. rw o (c.sine_point-2.ensures.begins (omega (arith, e)))

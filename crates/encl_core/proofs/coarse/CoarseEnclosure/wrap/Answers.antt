@@ -12,4 +12,7 @@ returns-in-Some-clause-holds c = λ q w x e.
     rw p (within_remainder shown_coarse w c.args.modulus x c.in-Some.period _ _ (simp to_z-of_z at c.lower_ends.ensures.holds))
 
 pub returns-in-Some-clause-narrow : goal.returns-in-Some-clause-narrow
-returns-in-Some-clause-narrow c = λ q r x h. narrow_remainder shown_coarse _ r c.args.modulus x q _
+returns-in-Some-clause-narrow c = λ q r x h.
+    let f : SFits w64 c.in-Some.period = search rules in
+    let n = simp to_z-of_z at c.lower_ends.ensures.narrow in
+    narrow_remainder shown_coarse r c.args.modulus x q _ _ (λ w b. n w b (sym (sym c.in-Some.is ∙ c.period_of_ends.ensures.value))) h

@@ -1,0 +1,124 @@
+-- Degrees in radians, and the series over them.
+use Rattle.std.proofs.Common.{◌≡◌, ℕ, zero, suc, ◌+◌, ◌*◌, ◌/◌, ◌^◌, ◌≤◌, refl, arith, pos, ◌+ℤ◌, ◌-ℤ◌}
+use Rattle.std.proofs.lemmas.Int.{ints}
+use Rattle.exact_math.specs.Fraction.{Fraction, ◌≤F◌, times}
+use Rattle.exact_math.specs.Interval.{Interval, everything, between, IsMember, IsProper, ◌⊆◌, product, least, greatest}
+use Rattle.exact_math.specs.Sums.{one_over}
+use Rattle.exact_math.proofs.Fractions.{le_refl, le_trans, smaller_keeps, larger_keeps}
+use Rattle.exact_math.proofs.Intervals.{within_trans, within_refl, product_within, product_proper, least_is, greatest_is}
+use Rattle.exact_math.proofs.Certificates.{zero_F}
+use Rattle.book_model.specs.Series.{sine_series, cosine_series, pi_at, four_fifths}
+use Rattle.book_model.specs.Leading.{at_56}
+use Rattle.book_model.specs.Octants.{only, radians}
+use Rattle.book_model.proofs.Pi.{binary, pi_number, pi_proper}
+use Rattle.book_model.proofs.SeriesNesting.{inside_in}
+use Rattle.book_model.proofs.OctantHulls.{radians_proper, radians_inside}
+use Rattle.trig_series.specs.Kernel.{at_64, IsAngle, AreSineEnds, AreCosineEnds, in_radians}
+
+pub ends_product : (r lo hi : Fraction) (c d : Fraction) → IsMember (times r lo) (between c d) → IsMember (times r hi) (between c d) → product (only r) (between lo hi) ⊆ between c d
+unfolding product
+ends_product r lo hi c d m n = record { ends = (least_is c _ _ _ _ m.0 n.0 m.0 n.0, greatest_is d _ _ _ _ m.1 n.1 m.1 n.1) }
+
+ends_keep : (P : Fraction → Type 0) (a b c : Fraction) → P (times a c) → P (times b c) → P (least (times a c) (times a c) (times b c) (times b c)) × P (greatest (times a c) (times a c) (times b c) (times b c))
+unfolding least greatest
+ends_keep P a b c x y =
+    (smaller_keeps P _ _ (smaller_keeps P _ _ x x) (smaller_keeps P _ _ y y), larger_keeps P _ _ (larger_keeps P _ _ x x) (larger_keeps P _ _ y y))
+
+pub product_ends : (a b c : Fraction) → product (between a b) (only c) ≡ between (least (times a c) (times a c) (times b c) (times b c)) (greatest (times a c) (times a c) (times b c) (times b c))
+unfolding product
+product_ends a b c = refl
+
+-- ---- an angle's count, from below and above, by either neighbour of pi
+low_below : (d h : ℕ) → d ≤ 3242591731706757120 → h * 2 ^ 64 ≤ 41210421805949854240 * d → at_64 (pos (h * 2)) ≤F times (at_56 (pos d)) (times (binary 226375608064910088) (one_over 179))
+unfolding times
+low_below d h l p = record { cross = omega (arith, ints, l, p) }
+
+high_above : (d h : ℕ) → d ≤ 3242591731706757120 → 41210421805949854240 * d ≤ h * 2 ^ 64 + 2 ^ 64 → times (at_56 (pos d)) (times (binary 226375608064910089) (one_over 179)) ≤F at_64 (pos (h * 2) +ℤ pos 68)
+unfolding times
+high_above d h l q = record { cross = omega (arith, ints, l, q) }
+
+neighbours : (d : ℕ) → times (at_56 (pos d)) (times (binary 226375608064910088) (one_over 179)) ≤F times (at_56 (pos d)) (times (binary 226375608064910089) (one_over 179))
+unfolding times
+neighbours d = record { cross = omega (arith, ints) }
+
+abbrev pub turn : Interval
+turn = between (binary 226375608064910088) (binary 226375608064910089)
+
+abbrev pub angles : ℕ → Interval
+angles h = between (at_64 (pos (h * 2))) (at_64 (pos (h * 2) +ℤ pos 68))
+
+pub degree_ends : (d h : ℕ) → d ≤ 3242591731706757120 → h * 2 ^ 64 ≤ 41210421805949854240 * d → 41210421805949854240 * d ≤ h * 2 ^ 64 + 2 ^ 64 → product (only (at_56 (pos d))) (product turn (only (one_over 179))) ⊆ angles h
+degree_ends d h l p q =
+    let lo = low_below d h l p in
+    let hi = high_above d h l q in
+    let m = ends_keep (λ z. IsMember (times (at_56 (pos d)) z) (angles h)) (binary 226375608064910088) (binary 226375608064910089) (one_over 179)
+    (lo, le_trans _ _ _ (neighbours d) hi) (le_trans _ _ _ lo (neighbours d), hi) in
+    rw (product_ends (binary 226375608064910088) (binary 226375608064910089) (one_over 179)) (ends_product (at_56 (pos d)) _ _ _ _ m.0 m.1)
+
+pub turn_proper : IsProper turn
+turn_proper = record { cross = omega (arith, ints) }
+
+-- the radians of so many degrees lie in the 68 parts above the angle's count
+pub radians_near : (n d h : ℕ) → 12 ≤ n → d ≤ 3242591731706757120 → h * 2 ^ 64 ≤ 41210421805949854240 * d → 41210421805949854240 * d ≤ h * 2 ^ 64 + 2 ^ 64 → radians n (at_56 (pos d)) ⊆ angles h
+unfolding radians
+radians_near n d h m l p q =
+    within_trans
+    (product_within (le_refl (at_56 (pos d))) (product_proper (pi_at n) (only (one_over 179)) (pi_proper n) (le_refl (one_over 179))) (within_refl (only (at_56 (pos d))))
+    (product_within (pi_proper n) (le_refl (one_over 179)) (pi_number n m) (within_refl (only (one_over 179)))))
+    (degree_ends d h l p q)
+
+-- ---- the series over an interval of angles
+pub sine_over : (n a s : ℕ) (i : Interval) → IsProper i → i ⊆ between (at_64 (pos a)) (at_64 (pos a +ℤ pos 68)) → i ⊆ between zero_F four_fifths → ((x : Fraction) → IsAngle a x → AreSineEnds x s n)
+    → sine_series n i ⊆ between (at_64 (pos s -ℤ pos 384)) (at_64 (pos s +ℤ pos 384))
+unfolding sine_series
+sine_over n a s everything p h k f = absurd h.ends
+sine_over n a s (between x y) p h k f =
+    rw (inside_in zero_F four_fifths x y (record { above = k.ends.0; below = k.ends.1 }))
+    (record {
+      ends = (
+        (f x (record { not_above = h.ends.0; close = le_trans _ _ _ p h.ends.1; small = le_trans _ _ _ p k.ends.1 })).low,
+        (f y (record { not_above = le_trans _ _ _ h.ends.0 p; close = h.ends.1; small = k.ends.1 })).high,
+      );
+    })
+
+pub cosine_over : (n a s : ℕ) (i : Interval) → IsProper i → i ⊆ between (at_64 (pos a)) (at_64 (pos a +ℤ pos 68)) → i ⊆ between zero_F four_fifths → ((x : Fraction) → IsAngle a x → AreCosineEnds x s n)
+    → cosine_series n i ⊆ between (at_64 (pos s -ℤ pos 320)) (at_64 (pos s +ℤ pos 320))
+unfolding cosine_series
+cosine_over n a s everything p h k f = absurd h.ends
+cosine_over n a s (between x y) p h k f =
+    rw (inside_in zero_F four_fifths x y (record { above = k.ends.0; below = k.ends.1 }))
+    (record {
+      ends = (
+        (f y (record { not_above = le_trans _ _ _ h.ends.0 p; close = h.ends.1; small = k.ends.1 })).low,
+        (f x (record { not_above = h.ends.0; close = le_trans _ _ _ p h.ends.1; small = le_trans _ _ _ p k.ends.1 })).high,
+      );
+    })
+
+pub octant_inside : (n d : ℕ) → 12 ≤ n → d ≤ 3242591731706757120 → radians n (at_56 (pos d)) ⊆ between zero_F four_fifths
+octant_inside zero d h l = absurd (omega (arith, h))
+octant_inside (suc n) d h l = radians_inside n (at_56 (pos d)) (record { cross = omega (arith, ints) }) (record { cross = omega (arith, ints, l) })
+
+pub sine_there : (n d a s : ℕ) → 12 ≤ n → d ≤ 3242591731706757120 → radians n (at_56 (pos d)) ⊆ between (at_64 (pos a)) (at_64 (pos a +ℤ pos 68)) → ((x : Fraction) → 8 ≤ n → IsAngle a x → AreSineEnds x s n)
+    → sine_series n (radians n (at_56 (pos d))) ⊆ between (at_64 (pos s -ℤ pos 384)) (at_64 (pos s +ℤ pos 384))
+sine_there n d a s m l h f = sine_over n a s _ (radians_proper n (at_56 (pos d))) h (octant_inside n d m l) (λ x t. f x (omega (arith, m)) t)
+
+pub cosine_there : (n d a s : ℕ) → 12 ≤ n → d ≤ 3242591731706757120 → radians n (at_56 (pos d)) ⊆ between (at_64 (pos a)) (at_64 (pos a +ℤ pos 68)) → ((x : Fraction) → 9 ≤ n → IsAngle a x → AreCosineEnds x s n)
+    → cosine_series n (radians n (at_56 (pos d))) ⊆ between (at_64 (pos s -ℤ pos 320)) (at_64 (pos s +ℤ pos 320))
+cosine_there n d a s m l h f = cosine_over n a s _ (radians_proper n (at_56 (pos d))) h (octant_inside n d m l) (λ x t. f x (omega (arith, m)) t)
+
+pub angle_there : (n d w h a : ℕ) → 12 ≤ n → d ≤ 3242591731706757120 → w ≡ d * 4 → h ≡ w * 10302605451487463560 / 2 ^ 64 → a ≡ h * 2 → radians n (at_56 (pos d)) ⊆ between (at_64 (pos a)) (at_64 (pos a +ℤ pos 68))
+angle_there n d w h a m l e f g = rw g (radians_near n d h m l (omega (arith, e, f)) (omega (arith, e, f)))
+
+-- ---- the angle by the lower neighbour of pi alone
+radians_small : (d : ℕ) → d ≤ 3242591731706757120 → in_radians d ≤F four_fifths
+unfolding times
+radians_small d l = record { cross = omega (arith, ints, l) }
+
+pub angle_is : (d w h a : ℕ) → d ≤ 3242591731706757120 → w ≡ d * 4 → h ≡ w * 10302605451487463560 / 2 ^ 64 → a ≡ h * 2 → IsAngle a (in_radians d)
+angle_is d w h a l e f g =
+    rw g
+    (record {
+      not_above = low_below d h l (omega (arith, e, f));
+      close = le_trans _ _ _ (neighbours d) (high_above d h l (omega (arith, e, f)));
+      small = radians_small d l;
+    })

@@ -1,0 +1,48 @@
+-- Numbers in 64 bits that are near a fraction; all count 2^-64.
+use Rattle.std.specs.Prelude.{ℕ, ℤ, pos, ◌-◌, ◌^◌, ◌-ℤ◌, ◌+ℤ◌}
+use Rattle.exact_math.specs.Fraction.{Fraction, ◌≤F◌, times}
+use Rattle.exact_math.specs.Sums.{lower, upper, one_over}
+use Rattle.book_model.specs.declared.tables.TheConstants.{PI_BELOW}
+use Rattle.book_model.specs.Fractions.{fraction_of}
+use Rattle.book_model.specs.Leading.{at_56}
+use Rattle.book_model.specs.Series.{four_fifths, sine_term, cosine_term}
+
+-- a number that counts 2^-64
+abbrev pub at_64 : ℤ → Fraction
+at_64 n = record { num = n; below = 2 ^ 64 - 1 }
+
+-- x lies within e of t
+pub record IsNear (e t : ℕ) (x : Fraction) : Type 0 where
+  pub above : at_64 (pos t -ℤ pos e) ≤F x
+  pub below : x ≤F at_64 (pos t +ℤ pos e)
+
+-- c is x, rounded down
+pub record IsCut (c : ℕ) (x : Fraction) : Type 0 where
+  pub not_above : at_64 (pos c) ≤F x
+  pub close : x ≤F at_64 (pos c +ℤ pos 1)
+
+-- x is at most 68 above a, and from 0 to 4/5
+pub record IsAngle (a : ℕ) (x : Fraction) : Type 0 where
+  pub not_above : at_64 (pos a) ≤F x
+  pub close : x ≤F at_64 (pos a +ℤ pos 68)
+  pub small : x ≤F four_fifths
+
+-- u is at most 112 above w, and at most 16/25
+pub record IsSquare (w : ℕ) (u : Fraction) : Type 0 where
+  pub not_above : at_64 (pos w) ≤F u
+  pub close : u ≤F at_64 (pos w +ℤ pos 112)
+  pub small : u ≤F record { num = pos 16; below = 24 }
+
+-- at depth n the ends of the sine's sum at x are within 384 of s
+pub record AreSineEnds (x : Fraction) (s n : ℕ) : Type 0 where
+  pub low : at_64 (pos s -ℤ pos 384) ≤F lower (sine_term x) n
+  pub high : upper (sine_term x) n ≤F at_64 (pos s +ℤ pos 384)
+
+-- at depth n the ends of the cosine's sum at x are within 320 of s
+pub record AreCosineEnds (x : Fraction) (s n : ℕ) : Type 0 where
+  pub low : at_64 (pos s -ℤ pos 320) ≤F lower (cosine_term x) n
+  pub high : upper (cosine_term x) n ≤F at_64 (pos s +ℤ pos 320)
+
+-- so many degrees that count 2^-56, in radians, by the lower neighbour of pi
+abbrev pub in_radians : ℕ → Fraction
+in_radians d = times (at_56 (pos d)) (times (fraction_of PI_BELOW) (one_over 179))

@@ -1,0 +1,68 @@
+-- The sines at single angles as spans: near the ends of the series, and exact where an octant begins and ends.
+use Rattle.std.specs.Prelude.{◌≡◌, ℕ, zero, suc, neg_ℤ, ◌-◌, ◌^◌, ℤ, pos, ◌+ℤ◌, ◌-ℤ◌, ◌*ℤ◌, ◌≤ℤ◌, ◌<ℤ◌}
+use Rattle.exact_math.specs.Fraction.{◌≤F◌}
+use Rattle.exact_math.specs.Sums.{lower, upper}
+use Rattle.book_model.specs.Series.{sine_term, cosine_term}
+use Rattle.trig_series.specs.Kernel.{at_64, in_radians}
+
+-- lo is hardly below the sine of d degrees that count 2^-56, and hi hardly above it: by four and a half parts of 2^-56
+pub record IsNearSine (d : ℕ) (lo hi : ℤ) : Type 0 where
+  pub low : upper (sine_term (in_radians d)) 8 ≤F at_64 (lo *ℤ pos 256 +ℤ pos 1152)
+  pub high : at_64 (hi *ℤ pos 256 -ℤ pos 1152) ≤F lower (sine_term (in_radians d)) 8
+
+-- the same of the cosine
+pub record IsNearCosine (d : ℕ) (lo hi : ℤ) : Type 0 where
+  pub low : upper (cosine_term (in_radians d)) 9 ≤F at_64 (lo *ℤ pos 256 +ℤ pos 1152)
+  pub high : at_64 (hi *ℤ pos 256 -ℤ pos 1152) ≤F lower (cosine_term (in_radians d)) 9
+
+-- the same of the sine at d degrees into octant j of a turn
+unfoldable pub IsPoint : ℕ → ℕ → ℤ → ℤ → Type 0
+IsPoint zero d lo hi = IsNearSine d lo hi
+IsPoint (suc zero) d lo hi = IsNearCosine (3242591731706757120 - d) lo hi
+IsPoint (suc (suc zero)) d lo hi = IsNearCosine d lo hi
+IsPoint (suc (suc (suc zero))) d lo hi = IsNearSine (3242591731706757120 - d) lo hi
+IsPoint (suc (suc (suc (suc j)))) d lo hi = IsPoint j d (neg_ℤ hi) (neg_ℤ lo)
+
+-- the sine where octant j of a turn begins, in parts of 2^-56
+abbrev pub edge_of : ℕ → ℤ
+edge_of zero = pos 0
+edge_of (suc zero) = pos 50952413380206180
+edge_of (suc (suc zero)) = pos 72057594037927936
+edge_of (suc (suc (suc zero))) = pos 50952413380206180
+edge_of (suc (suc (suc (suc j)))) = neg_ℤ (edge_of j)
+
+-- e lies from lo to hi
+pub record IsAt (e lo hi : ℤ) : Type 0 where
+  pub above : lo ≤ℤ e
+  pub below : e ≤ℤ hi
+
+-- two spans whose ends are no further apart than a 57th of w and nine parts
+pub record AreSteady (w lo hi lo' hi' : ℤ) : Type 0 where
+  pub up : (pos 57 *ℤ (hi' -ℤ lo)) ≤ℤ (w +ℤ pos 513)
+  pub down : (pos 57 *ℤ (hi -ℤ lo')) ≤ℤ (w +ℤ pos 513)
+
+-- a span that lies within a 57th of w, and nine parts, of e
+pub record IsAround (e w lo hi : ℤ) : Type 0 where
+  pub up : (pos 57 *ℤ (hi -ℤ e)) ≤ℤ (w +ℤ pos 513)
+  pub down : (pos 57 *ℤ (e -ℤ lo)) ≤ℤ (w +ℤ pos 513)
+
+-- a span that lies within -16 and 16
+pub record IsSmall (lo hi : ℤ) : Type 0 where
+  pub above : neg_ℤ (pos (2 ^ 60)) ≤ℤ lo
+  pub below : hi ≤ℤ pos (2 ^ 60)
+
+-- the sine of what lies between two ends of degrees: it lies in -1..1, it is hardly wider than a 57th of the ends'
+-- width, and near 0 degrees it is near 0
+pub record IsNarrowSine (from to lo hi : ℤ) : Type 0 where
+  pub above : neg_ℤ (pos 72057594037927936) ≤ℤ lo
+  pub below : hi ≤ℤ pos 72057594037927936
+  pub narrow : neg_ℤ (pos (2 ^ 120)) ≤ℤ from → to ≤ℤ pos (2 ^ 120) → (pos 57 *ℤ (hi -ℤ lo)) ≤ℤ ((to -ℤ from) +ℤ pos 2052)
+  pub small : (a : ℤ) → neg_ℤ a ≤ℤ from → to ≤ℤ a → a <ℤ pos 3242591731706757120 → IsAround (pos 0) a lo hi
+  pub crest : (a : ℤ) → (pos 6485183463413514240 -ℤ a) ≤ℤ from → to ≤ℤ (pos 6485183463413514240 +ℤ a) → a <ℤ pos 3242591731706757120 → IsAround (pos 72057594037927936) a lo hi
+
+-- the same of the cosine, which is near 1 there
+pub record IsNarrowCosine (from to lo hi : ℤ) : Type 0 where
+  pub above : neg_ℤ (pos 72057594037927936) ≤ℤ lo
+  pub below : hi ≤ℤ pos 72057594037927936
+  pub narrow : neg_ℤ (pos (2 ^ 119)) ≤ℤ from → to ≤ℤ pos (2 ^ 119) → (pos 57 *ℤ (hi -ℤ lo)) ≤ℤ ((to -ℤ from) +ℤ pos 2052)
+  pub crest : (a : ℤ) → neg_ℤ a ≤ℤ from → to ≤ℤ a → a <ℤ pos 3242591731706757120 → IsAround (pos 72057594037927936) a lo hi

@@ -1,0 +1,95 @@
+//! Sine and cosine in the first octant, in 64 bits.
+//!
+//! All numbers count 2⁻⁶⁴. The coefficients are 1 / n!, rounded down, and Horner's form takes them from the inside
+//! out. A step makes an error of at most 320 into one of at most 320, since the square of an angle is at most 16/25.
+ghost use Rattle.std.specs.Prelude.{◌≡◌, ◌≤◌, ◌*◌, ◌/◌, ◌-◌, ◌^◌, ℕ, pos, ◌-ℤ◌, ◌+ℤ◌};
+ghost use Rattle.exact_math.specs.Fraction.{Fraction, ◌≤F◌, plus, opposite, times};
+ghost use Rattle.exact_math.specs.Interval.{zero_fraction, between, ◌⊆◌};
+ghost use Rattle.book_model.specs.Leading.{at_56};
+ghost use Rattle.book_model.specs.Octants.{radians};
+ghost use Rattle.book_model.specs.Series.{sine_series, cosine_series};
+ghost use Rattle.trig_series.specs.Kernel.{at_64, IsNear, IsCut, IsSquare, IsAngle, AreSineEnds, AreCosineEnds, in_radians};
+
+/// The high half of a product.
+#[inline(always)]
+fn high_half(a: u64, b: u64) -> u64
+    ensures value { result ≡ a * b / 2 ^ 64 }
+{
+    (u128::from(a) * u128::from(b) >> 64) as u64
+}
+
+/// One step of Horner's form: a coefficient less a square times what stands further in.
+#[inline(always)]
+fn step(coefficient: u64, square: u64, inner: u64) -> u64
+    requires falling { inner ≤ coefficient }
+    requires half { 2 * inner ≤ 2 ^ 64 }
+    ensures near { (c u v : Fraction) → zero_fraction ≤F u → IsCut coefficient c → IsSquare square u → IsNear 320 inner v → IsNear 320 result (plus c (opposite (times u v))) }
+    ensures below { result ≤ coefficient }
+{
+    coefficient - high_half(square, inner)
+}
+
+/// The sine of an angle from 0 to 4/5: within 384 for each angle that is at most 68 greater.
+#[inline(always)]
+fn sine_at(angle: u64) -> u64
+    requires small { angle ≤ 14757395258967641292 }
+    ensures near { (n : ℕ) (x : Fraction) → 8 ≤ n → IsAngle angle x → AreSineEnds x result n }
+{
+    let square = high_half(angle, angle);
+    let h = step(14_106_527, square, 51_862);
+    let g = step(2_962_370_717, square, h);
+    let f = step(462_129_831_893, square, g);
+    let e = step(50_834_281_508_238, square, f);
+    let d = step(3_660_068_268_593_165, square, e);
+    let c = step(153_722_867_280_912_930, square, d);
+    let b = step(3_074_457_345_618_258_602, square, c);
+    let a = step(18_446_744_073_709_551_615, square, b);
+    high_half(angle, a)
+}
+
+/// The cosine of an angle from 0 to 4/5: within 320 for each angle that is at most 68 greater.
+#[inline(always)]
+fn cosine_at(angle: u64) -> u64
+    requires small { angle ≤ 14757395258967641292 }
+    ensures near { (n : ℕ) (x : Fraction) → 9 ≤ n → IsAngle angle x → AreCosineEnds x result n }
+{
+    let square = high_half(angle, angle);
+    let i = step(881_657, square, 2_881);
+    let h = step(211_597_908, square, i);
+    let g = step(38_510_819_324, square, h);
+    let f = step(5_083_428_150_823, square, g);
+    let e = step(457_508_533_574_145, square, f);
+    let d = step(25_620_477_880_152_155, square, e);
+    let c = step(768_614_336_404_564_650, square, d);
+    let b = step(9_223_372_036_854_775_808, square, c);
+    step(18_446_744_073_709_551_615, square, b)
+}
+
+/// So many degrees of an octant, which count 2⁻⁵⁶, in radians: at most 68 less. The factor is pi · 2⁶⁹ / 180.
+#[inline(always)]
+fn angle(degrees: u64) -> u64
+    requires octant { degrees ≤ 3242591731706757120 }
+    ensures near { (n : ℕ) → 12 ≤ n → radians n (at_56 (pos degrees)) ⊆ between (at_64 (pos result)) (at_64 (pos result +ℤ pos 68)) }
+    ensures there { IsAngle result (in_radians degrees) }
+    ensures small { result ≤ 14757395258967641292 }
+{
+    high_half(degrees * 4, 10_302_605_451_487_463_560) * 2
+}
+
+/// The sine of so many degrees of an octant, which count 2⁻⁵⁶, within 384.
+pub(crate) fn sine_of(degrees: u64) -> u64
+    requires octant { degrees ≤ 3242591731706757120 }
+    ensures near { (n : ℕ) → 12 ≤ n → sine_series n (radians n (at_56 (pos degrees))) ⊆ between (at_64 (pos result -ℤ pos 384)) (at_64 (pos result +ℤ pos 384)) }
+    ensures there { AreSineEnds (in_radians degrees) result 8 }
+{
+    sine_at(angle(degrees))
+}
+
+/// The cosine of so many degrees of an octant, which count 2⁻⁵⁶, within 320.
+pub(crate) fn cosine_of(degrees: u64) -> u64
+    requires octant { degrees ≤ 3242591731706757120 }
+    ensures near { (n : ℕ) → 12 ≤ n → cosine_series n (radians n (at_56 (pos degrees))) ⊆ between (at_64 (pos result -ℤ pos 320)) (at_64 (pos result +ℤ pos 320)) }
+    ensures there { AreCosineEnds (in_radians degrees) result 9 }
+{
+    cosine_at(angle(degrees))
+}

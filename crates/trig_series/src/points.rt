@@ -1,0 +1,82 @@
+//! The sine and the cosine at one angle of the first octant, as spans.
+ghost use Rattle.std.specs.Prelude.{◌≡◌, ◌≤◌, ◌*◌, ◌<◌, ◌+◌, ℕ, pos, ◌*ℤ◌, ◌≤ℤ◌, ◌+ℤ◌, ◌-ℤ◌};
+ghost use Rattle.exact_math.specs.Fraction.{Fraction, ◌≈◌};
+ghost use Rattle.exact_math.specs.Interval.{between, ◌⊆◌};
+ghost use Rattle.book_model.specs.Leading.{at_56};
+ghost use Rattle.book_model.specs.Octants.{radians};
+ghost use Rattle.book_model.specs.Series.{sine_series, cosine_series};
+ghost use Rattle.trig_series.specs.Points.{IsNearSine, IsNearCosine, IsAt, IsSmall};
+
+use crate::kernel::{cosine_of, sine_of};
+use encl_core::Span;
+
+/// 45 degrees, which count 2⁻⁵⁶.
+pub(crate) const OCTANT: u64 = 3_242_591_731_706_757_120;
+
+/// One.
+const ONE: i128 = 72_057_594_037_927_936;
+
+/// What lies within so many parts of 2⁻⁶⁴, fewer than 2 · 2⁸, of a number that counts 2⁻⁶⁴.
+#[inline(always)]
+fn around(number: u64) -> Span
+    ensures room { IsSmall result.lo result.hi }
+    ensures low { (result.lo *ℤ pos 256 +ℤ pos 384) ≤ℤ pos number }
+    ensures high { pos number ≤ℤ (result.hi *ℤ pos 256 -ℤ pos 384) }
+    ensures low_close { pos number ≤ℤ (result.lo *ℤ pos 256 +ℤ pos 767) }
+    ensures high_close { (result.hi *ℤ pos 256 -ℤ pos 768) ≤ℤ pos number }
+{
+    let floor = i128::from(number >> 8);
+    Span {
+        lo: floor - 2,
+        hi: floor + 3,
+    }
+}
+
+/// The sine and the cosine of 45 degrees.
+fn at_octant_end() -> Span
+    ensures low { result.lo ≡ pos 50952413380206178 }
+    ensures high { result.hi ≡ pos 50952413380206182 }
+{
+    Span {
+        lo: 50_952_413_380_206_178,
+        hi: 50_952_413_380_206_182,
+    }
+}
+
+/// The sine of so many degrees of an octant, which count 2⁻⁵⁶; exact at 0.
+#[inline(always)]
+pub(crate) fn sine_point(degrees: u64) -> Span
+    requires octant { degrees ≤ 3242591731706757120 }
+    ensures holds { (n : ℕ) (y : Fraction) → 40 ≤ n → y ≈ at_56 (pos degrees) → sine_series n (radians n y) ⊆ between (at_56 result.lo) (at_56 result.hi) }
+    ensures near { IsNearSine degrees result.lo result.hi }
+    ensures room { IsSmall result.lo result.hi }
+    ensures begins { degrees ≡ 0 → IsAt (pos 0) result.lo result.hi }
+    ensures ends { degrees ≡ 3242591731706757120 → IsAt (pos 50952413380206180) result.lo result.hi }
+{
+    if degrees == 0 {
+        return Span { lo: 0, hi: 0 };
+    }
+    if degrees == OCTANT {
+        return at_octant_end();
+    }
+    around(sine_of(degrees))
+}
+
+/// The cosine of so many degrees of an octant, which count 2⁻⁵⁶; exact at 0.
+#[inline(always)]
+pub(crate) fn cosine_point(degrees: u64) -> Span
+    requires octant { degrees ≤ 3242591731706757120 }
+    ensures holds { (n : ℕ) (y : Fraction) → 40 ≤ n → y ≈ at_56 (pos degrees) → cosine_series n (radians n y) ⊆ between (at_56 result.lo) (at_56 result.hi) }
+    ensures near { IsNearCosine degrees result.lo result.hi }
+    ensures room { IsSmall result.lo result.hi }
+    ensures begins { degrees ≡ 0 → IsAt (pos 72057594037927936) result.lo result.hi }
+    ensures ends { degrees ≡ 3242591731706757120 → IsAt (pos 50952413380206180) result.lo result.hi }
+{
+    if degrees == 0 {
+        return Span { lo: ONE, hi: ONE };
+    }
+    if degrees == OCTANT {
+        return at_octant_end();
+    }
+    around(cosine_of(degrees))
+}
