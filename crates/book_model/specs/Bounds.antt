@@ -1,6 +1,6 @@
 -- Bounds of enclosures, computed along expressions: a range of the ends, and a greatest width that is linear in
 -- the width of a moment. An operation that isn't analysed yet promises nothing.
-use Rattle.std.specs.Prelude.{ℕ, suc, ◌+◌, ◌-◌, ◌*◌, ◌/◌, ◌^◌, max, Bool, true, false, cond, ℤ, pos, neg_ℤ, unsigned_abs, ◌+ℤ◌, ◌-ℤ◌, ◌*ℤ◌, nat_le, nat_lt, ◌==◌, ◌&&◌}
+use Rattle.std.specs.Prelude.{ℕ, zero, suc, ◌+◌, ◌-◌, ◌*◌, ◌/◌, ◌^◌, max, Bool, true, false, cond, ℤ, pos, neg_ℤ, unsigned_abs, ◌+ℤ◌, ◌-ℤ◌, ◌*ℤ◌, nat_le, nat_lt, ◌==◌, ◌&&◌}
 use Rattle.std.specs.Int.{int_min, int_max}
 use lib.Signed.{le_z}
 use Rattle.exact_math.specs.Fraction.{Fraction, ◌≤F◌, plus, floor_quotient}
@@ -84,6 +84,24 @@ unfoldable pub negated_bound : Limits → Bound → Bound
 negated_bound l unbounded = unbounded
 negated_bound l (bounded a b s k) = limited (nat_lt (range_size (neg_ℤ b) (neg_ℤ a)) l.sizes) (bounded (neg_ℤ b) (neg_ℤ a) s k)
 
+-- the product of numbers of sizes A and B: each width times the other's size, and two units
+abbrev pub product_around : Limits → (A B s k t m : ℕ) → Bound
+product_around l A B s k t m =
+    limited (nat_lt (ceil_div (A * B) (2 ^ 32 - 1)) l.sizes)
+    (around (ceil_div (A * B) (2 ^ 32 - 1)) (ceil_div (A * t + B * s) (2 ^ 32 - 1)) (ceil_div (A * m + B * k) (2 ^ 32 - 1) + 2 * l.unit))
+
+unfoldable pub product_bound : Limits → Bound → Bound → Bound
+product_bound l unbounded y = unbounded
+product_bound l (bounded a b s k) unbounded = unbounded
+product_bound l (bounded a b s k) (bounded c d t m) = product_around l (range_size a b) (range_size c d) s k t m
+
+-- a power from the second on: the product of the power before it and the number
+unfoldable pub power_bound : Limits → Bound → ℕ → Bound
+power_bound l x zero = unbounded
+power_bound l x (suc zero) = unbounded
+power_bound l x (suc (suc zero)) = product_bound l x x
+power_bound l x (suc (suc (suc k))) = product_bound l (power_bound l x (suc (suc k))) x
+
 -- the lesser of two: no wider than the wider of them
 unfoldable pub minimum_bound : Bound → Bound → Bound
 minimum_bound unbounded y = unbounded
@@ -145,11 +163,11 @@ bound_of l r (integer n) = integer_bound l n
 bound_of l r (constant f) = constant_bound l f
 bound_of l r (add x y) = sum_bound l (bound_of l r x) (bound_of l r y)
 bound_of l r (subtract x y) = difference_bound l (bound_of l r x) (bound_of l r y)
-bound_of l r (multiply x y) = unbounded
+bound_of l r (multiply x y) = product_bound l (bound_of l r x) (bound_of l r y)
 bound_of l r (divide x y) = unbounded
 bound_of l r (negate x) = negated_bound l (bound_of l r x)
 bound_of l r (scale f x) = scaled_bound l f (bound_of l r x)
-bound_of l r (power x k) = unbounded
+bound_of l r (power x k) = power_bound l (bound_of l r x) k
 bound_of l r (minimum x y) = minimum_bound (bound_of l r x) (bound_of l r y)
 bound_of l r (maximum x y) = maximum_bound (bound_of l r x) (bound_of l r y)
 bound_of l r (hull x y) = unbounded

@@ -5,7 +5,7 @@ use Rattle.exact_math.specs.Interval.{Interval, between, ◌⊆◌, sum, differe
 use Rattle.exact_math.proofs.Fractions.{le_refl}
 use Rattle.exact_math.proofs.Intervals.{within_refl, within_trans, sum_within, difference_within, negative_within, product_within, minimum_within, maximum_within, hull_within, widen_within, quotient_within, power_within}
 use Rattle.book_model.specs.Expressions.{Expression, World, value, integer, constant, add, subtract, multiply, negate, scale, minimum, maximum, hull, widen, divide, power, remainder}
-use Rattle.book_model.specs.Bounds.{Bound, unbounded, Limits, Reach, IsNarrow, bound_of, integer_bound, constant_bound, sum_bound, scaled_bound, difference_bound, negated_bound, minimum_bound, maximum_bound, remainder_bound, spanned_bound, limits_of, limits_36}
+use Rattle.book_model.specs.Bounds.{Bound, unbounded, Limits, Reach, IsNarrow, bound_of, integer_bound, constant_bound, sum_bound, scaled_bound, difference_bound, product_bound, power_bound, negated_bound, minimum_bound, maximum_bound, remainder_bound, spanned_bound, limits_of, limits_36}
 use Rattle.book_model.proofs.Values.{value_proper}
 use Rattle.book_model.specs.Relations.{Within, Narrow, Lies, Keeps}
 
@@ -128,10 +128,11 @@ pub narrow_subtract : {E : Type 0} (shown : E → Interval) (r : Reach) (x y : E
 unfolding Keeps bound_of limits_of
 narrow_subtract shown r x y i j k h p q = record { kept = h r.width _ _ p.kept q.kept }
 
--- no bound of a product
-pub narrow_multiply : {E : Type 0} (shown : E → Interval) (l : Limits) (r : Reach) (x y : Expression) (k : E) → Narrow shown l r (multiply x y) k
-unfolding bound_of
-narrow_multiply shown l r x y k = narrow_unbounded shown l r (multiply x y) k refl
+-- the bound of a product
+pub narrow_multiply : {E : Type 0} (shown : E → Interval) (r : Reach) (x y : Expression) (i j k : E) → ((w : ℕ) (a b : Bound) → IsNarrow w a (shown i) → IsNarrow w b (shown j) → IsNarrow w (product_bound limits_36 a b) (shown k))
+    → Narrow shown (limits_of 36) r x i → Narrow shown (limits_of 36) r y j → Narrow shown (limits_of 36) r (multiply x y) k
+unfolding Keeps bound_of limits_of
+narrow_multiply shown r x y i j k h p q = record { kept = h r.width _ _ p.kept q.kept }
 
 -- the bound of the lesser
 pub narrow_minimum : {E : Type 0} (shown : E → Interval) (l : Limits) (r : Reach) (x y : Expression) (i j k : E) → ((w : ℕ) (a b : Bound) → IsNarrow w a (shown i) → IsNarrow w b (shown j) → IsNarrow w (minimum_bound a b) (shown k))
@@ -165,9 +166,11 @@ pub narrow_divide : {E : Type 0} (shown : E → Interval) (l : Limits) (r : Reac
 unfolding bound_of
 narrow_divide shown l r x y k = narrow_unbounded shown l r (divide x y) k refl
 
-pub narrow_power : {E : Type 0} (shown : E → Interval) (l : Limits) (r : Reach) (x : Expression) (n : ℕ) (k : E) → Narrow shown l r (power x n) k
-unfolding bound_of
-narrow_power shown l r x n k = narrow_unbounded shown l r (power x n) k refl
+-- the bound of a square
+pub narrow_square : {E : Type 0} (shown : E → Interval) (r : Reach) (x : Expression) (i k : E) → ((w : ℕ) (a : Bound) → IsNarrow w a (shown i) → IsNarrow w (power_bound limits_36 a 2) (shown k))
+    → Narrow shown (limits_of 36) r x i → Narrow shown (limits_of 36) r (power x 2) k
+unfolding Keeps bound_of limits_of
+narrow_square shown r x i k h p = record { kept = h r.width _ p.kept }
 
 -- the bound of a remainder
 pub narrow_remainder : {E : Type 0} (shown : E → Interval) (r : Reach) (m : ℕ) (x : Expression) (q : ℤ) (i k : E) → ((w : ℕ) (a : Bound) → IsNarrow w a (shown i) → IsNarrow w (remainder_bound limits_36 m a) (shown k))

@@ -4,8 +4,8 @@ use Rattle.std.proofs.Math.Dec.{leb-suc-zero}
 use Rattle.exact_math.specs.Fraction.{Fraction}
 use Rattle.exact_math.specs.Interval.{Interval, everything, hull}
 use Rattle.exact_math.proofs.Intervals.{within_everything}
-use Rattle.book_model.specs.Expressions.{Expression, World, integer, constant, add, subtract, negate, scale}
-use Rattle.book_model.specs.Bounds.{Bound, unbounded, bounded, Reach, IsNarrow, bound_of, integer_bound, constant_bound, sum_bound, scaled_bound, difference_bound, negated_bound, spanned_bound, limits_of, no_limits}
+use Rattle.book_model.specs.Expressions.{Expression, World, integer, constant, add, subtract, multiply, power, negate, scale}
+use Rattle.book_model.specs.Bounds.{Bound, unbounded, bounded, Reach, IsNarrow, bound_of, integer_bound, constant_bound, sum_bound, scaled_bound, difference_bound, product_bound, power_bound, negated_bound, spanned_bound, limits_of, no_limits}
 use Rattle.book_model.specs.Relations.{Within, Narrow, Lies, Keeps}
 use Rattle.book_model.specs.Programs.{Grid, cell_at, compare_at}
 use Rattle.book_model.specs.Leading.{no_bounds, IsOpenCell, between_cells, IsOpenComparison}
@@ -107,3 +107,19 @@ narrow_negate shown r x e s = record { kept = rw s (negated_none r.width _) }
 pub narrow_ends : (w : ℕ) (b : Bound) → IsNarrow w (spanned_bound (limits_of 8) b) everything
 unfolding limits_of
 narrow_ends w b = spanned_none w b
+
+product_none : (w : ℕ) (a b : Bound) → IsNarrow w (product_bound no_limits a b) everything
+unfolding product_bound IsNarrow
+product_none w unbounded b = tt
+product_none w (bounded a c s k) unbounded = tt
+product_none w (bounded a c s k) (bounded d e t m) = rw leb-suc-zero tt
+
+-- the bound of a product is kept
+pub narrow_multiply : {E : Type 0} (shown : E → Interval) (r : Reach) (x y : Expression) (e : E) → shown e ≡ everything → Narrow shown (limits_of 8) r (multiply x y) e
+unfolding Keeps bound_of limits_of
+narrow_multiply shown r x y e s = record { kept = rw s (product_none r.width _ _) }
+
+-- the bound of a square is kept
+pub narrow_square : {E : Type 0} (shown : E → Interval) (r : Reach) (x : Expression) (e : E) → shown e ≡ everything → Narrow shown (limits_of 8) r (power x 2) e
+unfolding Keeps bound_of limits_of power_bound
+narrow_square shown r x e s = record { kept = rw s (product_none r.width _ _) }

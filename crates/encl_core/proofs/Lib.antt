@@ -11,3 +11,5 @@ pub mod Periods
 pub mod PiEnds
 pub mod Searching
 pub mod Widths
+pub mod Products
+pub mod Ratios

@@ -1,5 +1,5 @@
 -- Rounded quotients, the lesser and the greater, and ends that fit in 64 bits, over plain numbers.
-use Rattle.std.specs.Prelude.{cond, int_le, ◌⊎◌, ◌-◌, ◌^◌, ℤ, pos, ◌+ℤ◌, ◌*ℤ◌, ◌≤ℤ◌, ◌<ℤ◌, ◌+◌, unsigned_abs, FitsSigned}
+use Rattle.std.specs.Prelude.{◌≡◌, cond, int_le, ◌⊎◌, ◌-◌, ◌^◌, ℤ, pos, ◌+ℤ◌, ◌*ℤ◌, ◌≤ℤ◌, ◌<ℤ◌, ◌+◌, unsigned_abs, FitsSigned}
 use Rattle.std.specs.Int.{w64}
 use Rattle.exact_math.specs.Fraction.{Fraction}
 use Rattle.exact_math.specs.Interval.{Interval, everything, between, ◌⊆◌}
@@ -69,3 +69,11 @@ IsOneSided c d = ((pos 0 <ℤ c) × (pos 0 <ℤ d)) ⊎ ((c <ℤ pos 0) × (d <�
 -- the least square of a number from lo to hi
 abbrev pub least_square_of : ℤ → ℤ → ℤ
 least_square_of lo hi = cond (int_le (pos 0) lo) (lo *ℤ lo) (cond (int_le hi (pos 0)) (hi *ℤ hi) (pos 0))
+
+-- of quotients of a by numbers from c to d, which are above 0, that by p is the least
+abbrev pub IsLeastBy : (a c d p : ℤ) → Type 0
+IsLeastBy a c d p = ((a <ℤ pos 0) × (p ≡ c)) ⊎ ((pos 0 ≤ℤ a) × (p ≡ d))
+
+-- that by q is the greatest
+abbrev pub IsGreatestBy : (b c d q : ℤ) → Type 0
+IsGreatestBy b c d q = ((b <ℤ pos 0) × (q ≡ d)) ⊎ ((pos 0 ≤ℤ b) × (q ≡ c))

@@ -1,7 +1,8 @@
 //! Quotients and squares of ends that count 2⁻³⁶, rounded outwards.
-ghost use Rattle.std.specs.Prelude.{◌≡◌, ◌≢◌, pos, ◌^◌, ◌≤ℤ◌, neg_ℤ, IsTrue};
+ghost use Rattle.std.specs.Prelude.{◌≡◌, ◌≢◌, ℕ, pos, ◌^◌, ◌≤ℤ◌, neg_ℤ, IsTrue};
 ghost use Rattle.exact_math.specs.Fraction.{◌≤F◌, times, reciprocal};
 ghost use Rattle.exact_math.specs.Interval.{◌⊆◌, product, quotient, power, between};
+ghost use Rattle.book_model.specs.Bounds.{Bound, IsNarrow, power_bound, limits_36};
 ghost use Rattle.encl_core.specs.Shown.{shown_ends};
 ghost use Rattle.encl_core.specs.Rounding.{at_36, IsOneSided, least_square_of};
 
@@ -92,6 +93,7 @@ fn least_square(lo: i64, hi: i64) -> i128
 /// The ends around the squares.
 pub(crate) fn square_ends(x: Option<Ends>) -> Option<Ends>
     ensures holds { power (shown_ends x) 2 ⊆ shown_ends result }
+    ensures narrow { (w : ℕ) (a : Bound) → IsNarrow w a (shown_ends x) → IsNarrow w (power_bound limits_36 a 2) (shown_ends result) }
 {
     let x = x?;
     let least = least_square(x.lo, x.hi);

@@ -4,7 +4,7 @@ ghost use Rattle.std.specs.Int.{w64};
 ghost use Rattle.exact_math.specs.Fraction.{whole as whole_number};
 ghost use Rattle.exact_math.specs.Interval.{◌⊆◌, sum, difference, negative, product, minimum, maximum, hull, widen, between};
 ghost use Rattle.book_model.specs.Fractions.{fraction_of};
-ghost use Rattle.book_model.specs.Bounds.{Bound, IsNarrow, integer_bound, constant_bound, sum_bound, scaled_bound, difference_bound, negated_bound, minimum_bound, maximum_bound, limits_36};
+ghost use Rattle.book_model.specs.Bounds.{Bound, IsNarrow, integer_bound, constant_bound, sum_bound, scaled_bound, difference_bound, product_bound, negated_bound, minimum_bound, maximum_bound, limits_36};
 ghost use Rattle.encl_core.specs.Shown.{shown_ends};
 ghost use Rattle.encl_core.specs.Rounding.{IsBelowFour, IsAboveFour, IsAboveEachBelow, IsBelowEachAbove, IsMargin, IsBest};
 
@@ -188,6 +188,7 @@ fn products(x: Ends, y: Ends) -> (i128, i128)
 pub(crate) fn mul_ends(x: Option<Ends>, y: Option<Ends>) -> Option<Ends>
     ensures holds { product (shown_ends x) (shown_ends y) ⊆ shown_ends result }
     ensures best { IsBest (product (shown_ends x) (shown_ends y)) (shown_ends result) }
+    ensures narrow { (w : ℕ) (a b : Bound) → IsNarrow w a (shown_ends x) → IsNarrow w b (shown_ends y) → IsNarrow w (product_bound limits_36 a b) (shown_ends result) }
 {
     let x = x?;
     let y = y?;

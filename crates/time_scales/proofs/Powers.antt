@@ -4,7 +4,7 @@ use Rattle.exact_math.specs.Fraction.{Fraction, ◌≤F◌, times, power}
 use Rattle.exact_math.specs.Interval.{Interval, everything, between, IsProper, IsMember, ◌⊆◌, product, power as interval_power}
 use Rattle.exact_math.proofs.Fractions.{turned_above, turned_below}
 use Rattle.exact_math.proofs.Intervals.{power_smallest, power_holds, product_holds, within_trans, within_everything}
-use Rattle.book_model.specs.Bounds.{Limits, Reach, bound_of, IsNarrow}
+use Rattle.book_model.specs.Bounds.{Limits, Reach, bound_of, power_bound}
 use Rattle.book_model.specs.Expressions.{Expression, World, value, multiply, power as power_of}
 use Rattle.book_model.specs.Relations.{Within, Narrow, Lies, Keeps}
 use Rattle.book_model.proofs.Values.{value_proper}
@@ -34,7 +34,7 @@ cube_holds shown w x e h = record { deep = h.deep; inside = within_trans (next_p
 
 -- and it keeps the cube's bound
 pub cube_keeps : {E : Type 0} (shown : E → Interval) (l : Limits) (r : Reach) (x : Expression) (e : E) → Narrow shown l r (multiply (power_of x 2) x) e → Narrow shown l r (power_of x 3) e
-unfolding Keeps bound_of IsNarrow
-cube_keeps shown l r x e h = record { kept = tt }
+unfolding Keeps bound_of power_bound
+cube_keeps shown l r x e h = record { kept = h.kept }
 
 pub ruleset cubes = (cube_holds, cube_keeps)
