@@ -13,3 +13,4 @@ pub mod Searching
 pub mod Widths
 pub mod Products
 pub mod Ratios
+pub mod Stepping
