@@ -19,5 +19,6 @@ pub mod Estimates
 pub mod Moments
 pub mod PhaseRanges
 pub mod NewYears
+pub mod WordTables
 pub mod NameLemmas
 pub mod MoonFacts

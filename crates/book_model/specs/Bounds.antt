@@ -1,6 +1,6 @@
 -- Bounds of enclosures, computed along expressions: a range of the ends, and a greatest width that is linear in
 -- the width of a moment. An operation that isn't analysed yet promises nothing.
-use Rattle.std.specs.Prelude.{ℕ, zero, suc, ◌+◌, ◌-◌, ◌*◌, ◌/◌, ◌^◌, max, Bool, true, false, cond, ℤ, pos, neg_ℤ, unsigned_abs, ◌+ℤ◌, ◌-ℤ◌, ◌*ℤ◌, nat_le, nat_lt, ◌==◌, ◌&&◌}
+use Rattle.std.specs.Prelude.{ℕ, zero, suc, ◌+◌, ◌-◌, ◌*◌, ◌/◌, ◌^◌, max, Bool, true, false, cond, ℤ, pos, negsuc, neg_ℤ, unsigned_abs, ◌+ℤ◌, ◌-ℤ◌, ◌*ℤ◌, nat_le, nat_lt, ◌==◌, ◌&&◌}
 use Rattle.std.specs.Int.{int_min, int_max}
 use lib.Signed.{le_z}
 use Rattle.exact_math.specs.Fraction.{Fraction, ◌≤F◌, plus, floor_quotient}
@@ -102,6 +102,19 @@ power_bound l x (suc zero) = unbounded
 power_bound l x (suc (suc zero)) = product_bound l x x
 power_bound l x (suc (suc (suc k))) = product_bound l (power_bound l x (suc (suc k))) x
 
+-- the quotient of a number of size A by one that is at least g + 1
+abbrev pub quotient_around : Limits → (A g s k t m : ℕ) → Bound
+quotient_around l A g s k t m =
+    limited (nat_lt (ceil_div (A * 2 ^ 32) g) l.sizes)
+    (around (ceil_div (A * 2 ^ 32) g) (ceil_div ((s * suc g + A * t) * 2 ^ 32) (suc g * suc g - 1)) (ceil_div ((k * suc g + A * m) * 2 ^ 32) (suc g * suc g - 1) + 2 * l.unit))
+
+unfoldable pub quotient_bound : Limits → Bound → Bound → Bound
+quotient_bound l unbounded y = unbounded
+quotient_bound l (bounded a b s k) unbounded = unbounded
+quotient_bound l (bounded a b s k) (bounded (pos zero) d t m) = unbounded
+quotient_bound l (bounded a b s k) (bounded (negsuc c) d t m) = unbounded
+quotient_bound l (bounded a b s k) (bounded (pos (suc c)) d t m) = quotient_around l (range_size a b) c s k t m
+
 -- the lesser of two: no wider than the wider of them
 unfoldable pub minimum_bound : Bound → Bound → Bound
 minimum_bound unbounded y = unbounded
@@ -164,7 +177,7 @@ bound_of l r (constant f) = constant_bound l f
 bound_of l r (add x y) = sum_bound l (bound_of l r x) (bound_of l r y)
 bound_of l r (subtract x y) = difference_bound l (bound_of l r x) (bound_of l r y)
 bound_of l r (multiply x y) = product_bound l (bound_of l r x) (bound_of l r y)
-bound_of l r (divide x y) = unbounded
+bound_of l r (divide x y) = quotient_bound l (bound_of l r x) (bound_of l r y)
 bound_of l r (negate x) = negated_bound l (bound_of l r x)
 bound_of l r (scale f x) = scaled_bound l f (bound_of l r x)
 bound_of l r (power x k) = power_bound l (bound_of l r x) k
@@ -176,7 +189,7 @@ bound_of l r (widen a x) = unbounded
 bound_of l r pi = spanned_bound l pi_spans
 bound_of l r (sine x) = spanned_bound l (sine_spans (bound_of l r x))
 bound_of l r (cosine x) = spanned_bound l (cosine_spans (bound_of l r x))
-bound_of l r (tangent x) = unbounded
+bound_of l r (tangent x) = quotient_bound l (spanned_bound l (sine_spans (bound_of l r x))) (spanned_bound l (cosine_spans (bound_of l r x)))
 bound_of l r (remainder m x q) = remainder_bound l m (bound_of l r x)
 
 abbrev pub at_32 : ℤ → Fraction

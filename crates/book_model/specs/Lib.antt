@@ -10,10 +10,12 @@ pub mod Leading
 pub mod Nesting
 pub mod Correction
 pub mod Lines
-pub mod Requests
 pub mod Inquiries
 pub mod Spans
 pub mod Persian
+pub mod Words
+pub mod Dates
+pub mod Requests
 pub mod LineRules
 pub mod Outcomes
 pub mod Plain

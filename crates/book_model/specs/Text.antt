@@ -6,8 +6,10 @@ use Rattle.book_model.specs.declared.header.TheConstants.{HEADER}
 use Rattle.book_model.specs.declared.site.Site.{Site}
 use Rattle.book_model.specs.declared.fact.Fact.{Fact}
 use Rattle.book_model.specs.declared.fail.Undecided.{Undecided}
-use Rattle.book_model.specs.declared.request.ToWord.{ToWord}
-use Rattle.book_model.specs.declared.request.ToWord.TheVariants.{Gregorian, Fixed, Persian, Dt, Sun}
+use Rattle.book_model.specs.declared.calendar.Calendar.{Calendar}
+use Rattle.book_model.specs.declared.words.ToWord.{ToWord}
+use Rattle.book_model.specs.declared.words.Shown.{Shown as WhatIsShown}
+use Rattle.book_model.specs.declared.words.Shown.TheVariants.{Date, Value}
 use Rattle.book_model.specs.declared.request.Fields.{Fields}
 use Rattle.book_model.specs.declared.request.Resolved.{Resolved}
 use Rattle.book_model.specs.declared.request.Resolved.TheVariants.{Shown, TooFar, NoDate}
@@ -16,7 +18,9 @@ use Rattle.book_model.specs.Inquiries.{fact_eq}
 use Rattle.book_model.specs.Lines.{words_of}
 use Rattle.book_model.specs.Names.{site_name, kind_name, place_name}
 use Rattle.book_model.specs.Outcomes.{LineOutcome, refused, resolved, undecided, void}
-use Rattle.book_model.specs.Requests.{rule_number, field}
+use Rattle.book_model.specs.Dates.{row_of, field}
+use Rattle.book_model.specs.Requests.{rule_number}
+use Rattle.book_model.specs.Words.{shown_by}
 
 -- the first line
 abbrev pub header : List ℕ
@@ -51,13 +55,17 @@ dashed (z ∷ zs) = signed_decimal z ++ flat_map dash_text zs
 unfoldable pub dashed_text : Fields → List ℕ
 dashed_text f = dashed (take f.count f.values)
 
--- the text of a date or a number that is shown
+-- the text of a date of a calendar
+abbrev pub date_text : Calendar → Fields → List ℕ
+date_text c date = if (row_of c).is_padded then gregorian_text date else dashed_text date
+
+-- the text of a date or a value that is shown
+abbrev pub text_shown : WhatIsShown → Fields → List ℕ
+text_shown (Date c) fields = date_text c fields
+text_shown (Value kind place) fields = signed_decimal (first_value fields)
+
 abbrev pub shown_as : ToWord → Fields → List ℕ
-shown_as Gregorian fields = gregorian_text fields
-shown_as Fixed fields = signed_decimal (first_value fields)
-shown_as Persian fields = dashed_text fields
-shown_as Dt fields = signed_decimal (first_value fields)
-shown_as Sun fields = signed_decimal (first_value fields)
+shown_as to fields = text_shown (shown_by to) fields
 
 -- refused 4 DAY
 unfoldable pub too_far_text : ℤ → List ℕ

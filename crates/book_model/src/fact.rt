@@ -1,9 +1,8 @@
 //! Astronomical facts: a kind, a place and a day, to which the model gives one value.
 ghost use Rattle.std.specs.Prelude.{◌≡◌, ◌↔◌, ◌<◌, ℤ, ◌≤ℤ◌, length, map, IfSome, IsSome};
 ghost use Rattle.book_model.specs.declared.fact.TheConstants.{KINDS, PLACES};
-ghost use Rattle.book_model.specs.Names.{first_named as first_of};
 
-use crate::names::first_named;
+use crate::names::{first_named, first_row_named};
 
 /// A kind of astronomical fact.
 #[derive(Clone, Copy, Debug, PartialEq, Eq, Hash)]
@@ -68,19 +67,6 @@ pub const LEAST_VALUE: i64 = -10_000_000;
 
 pub const GREATEST_VALUE: i64 = 10_000_000;
 
-/// The first kind of the rows that has this name.
-fn kind_among(mut rows: &[(Kind, &str, &[Place])], word: &[u8]) -> Option<Kind>
-    ensures { result ≡ first_of (map (λ row. (row.0, row.1.now)) rows.entry.now) word.now }
-{
-    while let [row, rest @ ..] = rows {
-        if word == row.1.as_bytes() {
-            return Some(row.0);
-        }
-        rows = rest;
-    }
-    None
-}
-
 impl Kind {
     ghost use Rattle.book_model.specs.Names.{kind_number, kind_name, kind_named, places_of, has_place};
 
@@ -105,7 +91,7 @@ impl Kind {
     pub fn named(word: &[u8]) -> Option<Kind>
         ensures { result ≡ kind_named word.now }
     {
-        kind_among(&KINDS, word)
+        first_row_named(&KINDS, word)
     }
 
     /// The places that facts of this kind are asked of.

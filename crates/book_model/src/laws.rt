@@ -1,5 +1,5 @@
 //! Laws of the definitions, each carried by a function that does nothing.
-ghost use Rattle.std.specs.Prelude.{◌≡◌, ◌↔◌, ℤ, ℕ, Bool, Some};
+ghost use Rattle.std.specs.Prelude.{◌≡◌, ◌↔◌, ◌≤◌, ℤ, ℕ, Bool, map, Some, IsTrue};
 ghost use Rattle.exact_math.specs.Fraction.{Fraction};
 ghost use Rattle.book_model.specs.Expressions.{Expression};
 ghost use Rattle.book_model.specs.Series.{pi_at};
@@ -8,10 +8,14 @@ ghost use Rattle.book_model.specs.Nesting.{ValuesNest, RunsNest, IsNested, IsNes
 ghost use Rattle.book_model.specs.Calendar.{year_of_day, IsYearOfDay};
 ghost use Rattle.book_model.specs.Programs.{Grid, CellsCut};
 ghost use Rattle.book_model.specs.Noon.{StartsNear};
-ghost use Rattle.book_model.specs.Names.{kind_name, kind_named, place_name, place_named, site_name, site_named};
+ghost use Rattle.book_model.specs.Dates.{row_of};
+ghost use Rattle.book_model.specs.Words.{from_word_of, to_word_of, text_of_from, text_of_to, from_words, to_words, are_distinct_words, shown_by};
+ghost use Rattle.book_model.specs.Names.{has_place, kind_name, kind_named, place_name, place_named, site_name, site_named};
 ghost use Rattle.book_model.specs.declared.fact.Kind.{Kind};
 ghost use Rattle.book_model.specs.declared.fact.Place.{Place};
 ghost use Rattle.book_model.specs.declared.site.Site.{Site};
+
+use crate::{Calendar, FromWord, Shown, ToWord};
 
 /// Nesting: at a greater depth, with narrower arguments, each expression's value lies within its value here, and
 /// each program makes the same tests as far as they are decided here, with the same answers.
@@ -55,6 +59,24 @@ pub fn octants()
 #[tactic(auto, using(crate::proofs::Estimates::starts_near))]
 pub fn starts()
     ensures { StartsNear }
+{}
+
+/// The word for a value is found as that value, and no table has a word twice. What a word shows that is no date is the
+/// value of facts that there are.
+#[tactic(auto, using(crate::proofs::WordTables::from_found, crate::proofs::WordTables::to_found, crate::proofs::WordTables::value_placed))]
+pub fn words()
+    ensures from { (w : FromWord) → from_word_of (text_of_from w) ≡ Some w }
+    ensures to { (w : ToWord) → to_word_of (text_of_to w) ≡ Some w }
+    ensures distinct_from { IsTrue (are_distinct_words (map (λ row. row.1) from_words)) }
+    ensures distinct_to { IsTrue (are_distinct_words (map (λ row. row.1) to_words)) }
+    ensures placed { (w : ToWord) (kind : Kind) (place : Place) → shown_by w ≡ Shown.Value kind place → IsTrue (has_place kind place) }
+{}
+
+/// The row of a calendar is its own, and a date has at most five fields.
+#[tactic(auto, using(crate::proofs::WordTables::own_row, crate::proofs::WordTables::few_fields))]
+pub fn calendars()
+    ensures own { (c : Calendar) → (row_of c).calendar ≡ c }
+    ensures few { (c : Calendar) → (row_of c).count ≤ 5 }
 {}
 
 /// The name of each kind, place and site leads back to it.

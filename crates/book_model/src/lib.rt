@@ -2,6 +2,7 @@
 //! `specs/` the definitions themselves: expressions, programs of tests, runs, facts, lines and texts.
 #![tactic(auto)]
 
+mod calendar;
 mod calendar_tables;
 mod fact;
 mod fail;
@@ -21,7 +22,9 @@ mod tables;
 #[cfg(test)]
 mod tests;
 mod time_tables;
+mod words;
 
+pub use calendar::{CALENDARS, Calendar, CalendarRow, FIRST_ANSWERED_DAY, LAST_ANSWERED_DAY};
 pub use calendar_tables::{PERSIAN_EPOCH, TROPICAL_YEAR};
 pub use fact::{
     FIRST_DAY, FIRST_FACT_DAY, Fact, GREATEST_VALUE, KINDS, Kind, LAST_DAY, LAST_FACT_DAY,
@@ -41,7 +44,7 @@ pub use new_moon_tables::{
     NEW_MOON_TERMS, NEW_MOON_WAVE, NODE_TERM, PLANET_TERMS, SYNODIC_MONTH, TURN,
 };
 pub use polynomial::{Cubic, Quadratic, QuadraticWave, Quartic, Wave};
-pub use request::{Fields, FromWord, Request, Resolved, Rule, ToWord};
+pub use request::{Fields, Request, Resolved, Rule};
 pub use site::{SITES, Site};
 pub use sun_tables::{
     ABERRATION, DEGREE_IN_DAYS, DEGREE_OF_YEAR, ECCENTRICITY, FIVE_QUARTERS, FOUR, MEAN_ABERRATION,
@@ -56,3 +59,4 @@ pub use time_tables::{
     BEIJING_HOURS, CORRECTION_1800, CORRECTION_1900, CORRECTION_ANCIENT, DAY_IN_CENTURIES, HOUR,
     NOON_2000, SIDEREAL_TIME,
 };
+pub use words::{FROM_WORDS, FromWord, Shown, TO_WORDS, ToWord};

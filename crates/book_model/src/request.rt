@@ -1,29 +1,25 @@
 //! What a line of input asks, and what it gets.
 
-/// A word for the calendar of a line's date: a Gregorian date, the day number of the book (R.D.), or a Persian date.
-#[derive(Clone, Copy, Debug, PartialEq, Eq)]
-pub enum FromWord {
-    Gregorian,
-    Fixed,
-    Persian,
-}
-
-/// A word for what a line asks: the Gregorian date, the day number (R.D.), the Persian date, the dynamical time
-/// correction, or the longitude of the sun.
-#[derive(Clone, Copy, Debug, PartialEq, Eq)]
-pub enum ToWord {
-    Gregorian,
-    Fixed,
-    Persian,
-    Dt,
-    Sun,
-}
+use crate::{FromWord, ToWord};
 
 /// The fields of a date: the first `count` values, in the calendar's order; the values after them are 0.
 #[derive(Clone, Copy, Debug, PartialEq, Eq)]
 pub struct Fields {
     pub count: u8,
     pub values: [i32; 5],
+}
+
+impl Fields {
+    ghost use Rattle.std.specs.Prelude.{◌≡◌, ◌<◌};
+    ghost use Rattle.book_model.specs.Dates.{field as field_of};
+
+    /// A field of the date, from 0, less its sign.
+    pub fn field(&self, index: usize) -> u32
+        requires few { index < 5 }
+        ensures field { result ≡ field_of self.now index }
+    {
+        self.values[index].unsigned_abs()
+    }
 }
 
 /// What a line asks that breaks none of the rules.

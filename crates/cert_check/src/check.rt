@@ -2,8 +2,7 @@
 ghost use Rattle.std.specs.Prelude.{◌≡◌, ◌≢◌, ◌<◌, ◌^◌, length, IsTrue, IfOk, OnErr, [], Ok};
 ghost use Rattle.book_model.specs.declared.fact.Fact.{Fact};
 ghost use Rattle.book_model.specs.LineRules.{rule_of};
-ghost use Rattle.book_model.specs.Requests.{is_answered};
-ghost use Rattle.line_core.specs.Days.{names_day};
+ghost use Rattle.book_model.specs.Requests.{is_possible, is_in_reach};
 ghost use Rattle.oracle_core.specs.Pairs.{are_distinct, facts_of, AreFactValues};
 ghost use Rattle.oracle_core.specs.declared.oracle.Stop.TheVariants.{Missing as missing_stop};
 ghost use Rattle.cert_text.specs.Reading.{are_of_facts, listed as numbers_of};
@@ -60,8 +59,8 @@ fn verdict_over(
     requires distinct { IsTrue (are_distinct facts.now) }
     requires known { AreFactValues values.now }
     requires few { length facts.now < 2 ^ 32 }
-    requires dated { IsTrue (names_day request.now.from request.now.date) }
-    requires in_reach { IsTrue (is_answered request.now.from request.now.date) }
+    requires possible { IsTrue (is_possible request.now) }
+    requires in_reach { IsTrue (is_in_reach request.now) }
     ensures verdict { IfOk result (λ v. v ≡ spec.verdict_on_trace facts.now (spec.trace_after facts.now values.now [] (rule_of request.now)) text.now) }
 {
     let mut oracle = Listed::new(alloc, facts, values);
@@ -84,8 +83,8 @@ fn verdict_for(
     requires known { AreFactValues (spec.values_of file.now.facts) }
     requires numbers { IsTrue (are_of_facts (length file.now.facts) [] numbers.now) }
     requires answered { length answers.now ≡ length file.now.facts }
-    requires dated { IsTrue (names_day request.now.from request.now.date) }
-    requires in_reach { IsTrue (is_answered request.now.from request.now.date) }
+    requires possible { IsTrue (is_possible request.now) }
+    requires in_reach { IsTrue (is_in_reach request.now) }
     ensures verdict { IfOk result (λ v. v ≡ spec.verdict_on_request (Ok request.now) (spec.first_unanswered file.now.facts answers.now numbers.now) (spec.numbered file.now.facts numbers.now) text.now) }
 {
     match first_reason(&file.facts, answers, numbers) {

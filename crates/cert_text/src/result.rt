@@ -3,7 +3,6 @@ ghost use Rattle.std.specs.Prelude.{◌≡◌, ◌≤◌, ◌<◌, ◌-◌, ◌+
 ghost use Rattle.std.specs.Fmt.{signed_decimal};
 ghost use Rattle.std.specs.Io.KnownBytes.{Appends};
 ghost use Rattle.std.specs.List.{flat_map};
-ghost use Rattle.book_model.specs.Requests.{field as field_of};
 ghost use Rattle.book_model.specs.Text as spec;
 ghost use Rattle.cert_text.specs.Stream.{HasCause, AppendsFront};
 
@@ -11,7 +10,7 @@ use crate::gathered::Gathered;
 use crate::lists::Word;
 use crate::stream::{Failed, Sink, write_all};
 use crate::write::{decimal, write_parts, write_too_far};
-use book_model::{Fields, Resolved, ToWord};
+use book_model::{Calendar, Fields, Resolved, Shown, ToWord};
 use itoa::Buffer;
 use std::alloc::{AllocError, Global};
 
@@ -21,14 +20,6 @@ fn zeros(width: usize, digits: &[u8]) -> &'static [u8]
     ensures zeros { result.now ≡ replicate (width - length digits.now) 48 }
 {
     &b"0000"[..width.saturating_sub(digits.len())]
-}
-
-/// A field of a date, from 0.
-fn field(date: &Fields, index: usize) -> u32
-    requires few { index < 5 }
-    ensures field { result ≡ field_of date.now index }
-{
-    date.values[index].unsigned_abs()
 }
 
 /// Writes a Gregorian date: a year of four digits, a month of two and a day of two.
@@ -41,9 +32,9 @@ fn write_gregorian<K: Sink>(sink: &mut K, date: &Fields) -> Result<(), Failed>
     let mut year_buffer = Buffer::new();
     let mut month_buffer = Buffer::new();
     let mut day_buffer = Buffer::new();
-    let year = decimal(&mut year_buffer, field(date, 0));
-    let month = decimal(&mut month_buffer, field(date, 1));
-    let day = decimal(&mut day_buffer, field(date, 2));
+    let year = decimal(&mut year_buffer, date.field(0));
+    let month = decimal(&mut month_buffer, date.field(1));
+    let day = decimal(&mut day_buffer, date.field(2));
     write_parts(
         sink,
         &[
@@ -140,18 +131,29 @@ fn write_dashed<K: Sink>(sink: &mut K, date: &Fields) -> Result<(), Failed>
     write_joined(sink, fields_in(date))
 }
 
-/// Writes a date or a number that is shown: a Gregorian date with four, two and two digits, a date of another calendar
-/// with dashes between its fields, a day number, or a number of milliseconds or of thousandths of a degree, with a
-/// minus sign where it is below 0.
+/// Writes a date of a calendar: a Gregorian date with four, two and two digits, a date of another calendar with dashes
+/// between its fields.
+fn write_date<K: Sink>(sink: &mut K, calendar: Calendar, date: &Fields) -> Result<(), Failed>
+    ensures ok { OnOk result (Appends (K.written sink.old) (K.written sink.new) (spec.date_text calendar date.now)) }
+    ensures err { OnErr result (AppendsFront (K.written sink.old) (K.written sink.new) (spec.date_text calendar date.now)) }
+    ensures cause { HasCause (K.faults sink.old) (K.faults sink.new) result }
+{
+    if calendar.row().is_padded {
+        write_gregorian(sink, date)
+    } else {
+        write_dashed(sink, date)
+    }
+}
+
+/// Writes a date of a calendar, or the value of a fact, with a minus sign where it is below 0.
 fn write_shown<K: Sink>(sink: &mut K, to: ToWord, fields: &Fields) -> Result<(), Failed>
     ensures ok { OnOk result (Appends (K.written sink.old) (K.written sink.new) (spec.shown_as to fields.now)) }
     ensures err { OnErr result (AppendsFront (K.written sink.old) (K.written sink.new) (spec.shown_as to fields.now)) }
     ensures cause { HasCause (K.faults sink.old) (K.faults sink.new) result }
 {
-    match to {
-        ToWord::Gregorian => write_gregorian(sink, fields),
-        ToWord::Persian => write_dashed(sink, fields),
-        ToWord::Fixed | ToWord::Dt | ToWord::Sun => write_value(sink, fields),
+    match to.shown() {
+        Shown::Date(calendar) => write_date(sink, calendar, fields),
+        Shown::Value(_, _) => write_value(sink, fields),
     }
 }
 

@@ -10,7 +10,7 @@ use Rattle.exact_math.proofs.Bounds.{◌≼◌, known, ◌⊠◌, times as natur
 use Rattle.exact_math.proofs.IntLaws.{mul_one}
 use Rattle.exact_math.proofs.Fractions.{by_cross, den_product, le_trans, larger_keeps}
 use Rattle.exact_math.proofs.Intervals.{least_is, greatest_is, within_trans}
-use Rattle.encl_core.specs.Rounding.{at_36, IsFloor, IsCeiling, IsBelowFour, IsAboveFour, IsOneSided, least_square_of, Keeps64}
+use Rattle.encl_core.specs.Rounding.{at_36, IsFloor, IsCeiling, IsBelowFour, IsAboveFour, IsOneSided, AreQuotients, least_square_of, Keeps64}
 use Rattle.encl_core.proofs.Keeping.{kept_within}
 
 abbrev K : ℤ
@@ -35,37 +35,34 @@ under_negative_z : (q a c k : ℤ) → pos 0 ≤ℤ k → (pos 0 -ℤ a *ℤ k) 
 under_negative_z q a c k p h =
     le_by (q ∷ a ∷ c ∷ k ∷ []) ((lit (pos 0) ≼ at 3) ∷ (lit (pos 0) ⊖ at 1 ⊗ at 3 ≼ at 0 ⊗ at 2) ∷ []) ((at 1 ⊗ minus (at 3)) ⊗ at 3) (at 0 ⊗ (at 3 ⊗ at 2)) (known 1 ⊠ known 0) refl (p, (h, tt))
 
-pub floor_ratio_positive : (q a c : ℤ) → pos 0 <ℤ c → IsFloor q (a *ℤ pos (2 ^ 36)) c → at_36 q ≤F times (at_36 a) (reciprocal (at_36 c))
+pub floor_ratio_positive : (q a c : ℤ) → pos 0 <ℤ c → (q *ℤ c) ≤ℤ (a *ℤ pos (2 ^ 36)) → at_36 q ≤F times (at_36 a) (reciprocal (at_36 c))
 unfolding times reciprocal
-floor_ratio_positive q a (pos (suc m)) h f = by_cross (at_36 q) _ K (K *ℤ pos (suc m)) refl (den_product (2 ^ 36 - 1) m) (over_z q a (pos (suc m)) K (pos_nonneg (2 ^ 36)) f.not_above)
+floor_ratio_positive q a (pos (suc m)) h f = by_cross (at_36 q) _ K (K *ℤ pos (suc m)) refl (den_product (2 ^ 36 - 1) m) (over_z q a (pos (suc m)) K (pos_nonneg (2 ^ 36)) f)
 floor_ratio_positive q a (pos zero) h f = absurd (omega (arith, ints))
 floor_ratio_positive q a (negsuc m) h f = absurd (omega (arith, ints))
 
 negated : (m : ℕ) → pos 0 -ℤ negsuc m ≡ pos (suc m)
 negated m = omega (arith, ints)
 
-pub floor_ratio_negative : (q a c : ℤ) → c <ℤ pos 0 → IsFloor q (pos 0 -ℤ a *ℤ pos (2 ^ 36)) (pos 0 -ℤ c) → at_36 q ≤F times (at_36 a) (reciprocal (at_36 c))
+pub floor_ratio_negative : (q a c : ℤ) → c <ℤ pos 0 → (q *ℤ (pos 0 -ℤ c)) ≤ℤ (pos 0 -ℤ a *ℤ pos (2 ^ 36)) → at_36 q ≤F times (at_36 a) (reciprocal (at_36 c))
 unfolding times reciprocal
 floor_ratio_negative q a (negsuc m) h f =
     by_cross (at_36 q) _ K (K *ℤ pos (suc m)) refl (den_product (2 ^ 36 - 1) m)
-    (over_negative_z q a (pos (suc m)) K (pos_nonneg (2 ^ 36)) (subst (λ x. (q *ℤ x) ≤ℤ (pos 0 -ℤ a *ℤ K)) (negated m) f.not_above))
+    (over_negative_z q a (pos (suc m)) K (pos_nonneg (2 ^ 36)) (subst (λ x. (q *ℤ x) ≤ℤ (pos 0 -ℤ a *ℤ K)) (negated m) f))
 floor_ratio_negative q a (pos m) h f = absurd (omega (arith, ints))
 
-pub ceil_ratio_positive : (q a c : ℤ) → pos 0 <ℤ c → IsCeiling q (a *ℤ pos (2 ^ 36)) c → times (at_36 a) (reciprocal (at_36 c)) ≤F at_36 q
+pub ceil_ratio_positive : (q a c : ℤ) → pos 0 <ℤ c → (a *ℤ pos (2 ^ 36)) ≤ℤ (q *ℤ c) → times (at_36 a) (reciprocal (at_36 c)) ≤F at_36 q
 unfolding times reciprocal
-ceil_ratio_positive q a (pos (suc m)) h f = by_cross _ (at_36 q) (K *ℤ pos (suc m)) K (den_product (2 ^ 36 - 1) m) refl (under_z q a (pos (suc m)) K (pos_nonneg (2 ^ 36)) f.not_below)
+ceil_ratio_positive q a (pos (suc m)) h f = by_cross _ (at_36 q) (K *ℤ pos (suc m)) K (den_product (2 ^ 36 - 1) m) refl (under_z q a (pos (suc m)) K (pos_nonneg (2 ^ 36)) f)
 ceil_ratio_positive q a (pos zero) h f = absurd (omega (arith, ints))
 ceil_ratio_positive q a (negsuc m) h f = absurd (omega (arith, ints))
 
-pub ceil_ratio_negative : (q a c : ℤ) → c <ℤ pos 0 → IsCeiling q (pos 0 -ℤ a *ℤ pos (2 ^ 36)) (pos 0 -ℤ c) → times (at_36 a) (reciprocal (at_36 c)) ≤F at_36 q
+pub ceil_ratio_negative : (q a c : ℤ) → c <ℤ pos 0 → (pos 0 -ℤ a *ℤ pos (2 ^ 36)) ≤ℤ (q *ℤ (pos 0 -ℤ c)) → times (at_36 a) (reciprocal (at_36 c)) ≤F at_36 q
 unfolding times reciprocal
 ceil_ratio_negative q a (negsuc m) h f =
     by_cross _ (at_36 q) (K *ℤ pos (suc m)) K (den_product (2 ^ 36 - 1) m) refl
-    (under_negative_z q a (pos (suc m)) K (pos_nonneg (2 ^ 36)) (subst (λ x. (pos 0 -ℤ a *ℤ K) ≤ℤ (q *ℤ x)) (negated m) f.not_below))
+    (under_negative_z q a (pos (suc m)) K (pos_nonneg (2 ^ 36)) (subst (λ x. (pos 0 -ℤ a *ℤ K) ≤ℤ (q *ℤ x)) (negated m) f))
 ceil_ratio_negative q a (pos m) h f = absurd (omega (arith, ints))
-
-pub from_nonzero : (c : ℤ) → c ≤ℤ pos 0 → (c ≡ pos 0 → ⊥) → c <ℤ pos 0
-from_nonzero c h n = omega (arith, ints)
 
 -- ---- quotients
 at_mono : (p q : ℤ) → p ≤ℤ q → at_36 p ≤F at_36 q
@@ -74,33 +71,20 @@ at_mono p q h = record { cross = omega (arith, ints) }
 at_order : (p q : ℤ) (f : Fraction) → at_36 p ≤F f → f ≤F at_36 q → p ≤ℤ q
 at_order p q f h k = let l = le_trans (at_36 p) f (at_36 q) h k in omega (arith, ints, l.cross)
 
--- numbers below four products, and above them
-pub record IsUnder (p q r s : ℤ) (a b c d : Fraction) : Type 0 where
-  pub first : at_36 p ≤F times a c
-  pub second : at_36 q ≤F times a d
-  pub third : at_36 r ≤F times b c
-  pub fourth : at_36 s ≤F times b d
+-- two ends hold the products with the reciprocals of a divisor, where they hold the four of the ends
+record HoldFour (a b : ℤ) (c d : Fraction) (lo hi : ℤ) : Type 0 where
+  low_1 : at_36 lo ≤F times (at_36 a) c
+  low_2 : at_36 lo ≤F times (at_36 a) d
+  low_3 : at_36 lo ≤F times (at_36 b) c
+  low_4 : at_36 lo ≤F times (at_36 b) d
+  high_1 : times (at_36 a) c ≤F at_36 hi
+  high_2 : times (at_36 a) d ≤F at_36 hi
+  high_3 : times (at_36 b) c ≤F at_36 hi
+  high_4 : times (at_36 b) d ≤F at_36 hi
 
-pub record IsOver (p q r s : ℤ) (a b c d : Fraction) : Type 0 where
-  pub first : times a c ≤F at_36 p
-  pub second : times a d ≤F at_36 q
-  pub third : times b c ≤F at_36 r
-  pub fourth : times b d ≤F at_36 s
-
-pub four_order : (a b c d : Fraction) (lo hi p q r s p' q' r' s' : ℤ) → IsBelowFour lo p q r s → IsAboveFour hi p' q' r' s' → IsUnder p q r s a b c d → IsOver p' q' r' s' a b c d → lo ≤ℤ hi
-four_order a b c d lo hi p q r s p' q' r' s' l g u o = let k = at_order p p' (times a c) u.first o.first in omega (arith, ints, l.first, g.first)
-
-pub four_enclose : (a b c d : Fraction) (lo hi p q r s p' q' r' s' : ℤ) → IsBelowFour lo p q r s → IsAboveFour hi p' q' r' s' → IsUnder p q r s a b c d → IsOver p' q' r' s' a b c d
-    → product (between a b) (between c d) ⊆ between (at_36 lo) (at_36 hi)
+four_enclose : (a b : ℤ) (c d : Fraction) (lo hi : ℤ) → HoldFour a b c d lo hi → product (between (at_36 a) (at_36 b)) (between c d) ⊆ between (at_36 lo) (at_36 hi)
 unfolding product
-four_enclose a b c d lo hi p q r s p' q' r' s' l g u o = record {
-  ends = (
-    least_is (at_36 lo) _ _ _ _ (le_trans _ _ _ (at_mono lo p l.first) u.first) (le_trans _ _ _ (at_mono lo q l.second) u.second) (le_trans _ _ _ (at_mono lo r l.third) u.third)
-        (le_trans _ _ _ (at_mono lo s l.fourth) u.fourth),
-    greatest_is (at_36 hi) _ _ _ _ (le_trans _ _ _ o.first (at_mono p' hi g.first)) (le_trans _ _ _ o.second (at_mono q' hi g.second)) (le_trans _ _ _ o.third (at_mono r' hi g.third))
-        (le_trans _ _ _ o.fourth (at_mono s' hi g.fourth)),
-  );
-}
+four_enclose a b c d lo hi h = record { ends = (least_is (at_36 lo) _ _ _ _ h.low_1 h.low_2 h.low_3 h.low_4, greatest_is (at_36 hi) _ _ _ _ h.high_1 h.high_2 h.high_3 h.high_4) }
 
 excludes_from : (c d : ℤ) → IsOneSided c d → excludes_zero (at_36 c) (at_36 d) ≡ true
 excludes_from c d (inl h) = let p : pos 0 <ℤ c = h.0 in let e : true ≡ lt_z (pos 0) c = omega (arith, ints) in rw (← e) refl
@@ -115,6 +99,53 @@ pub quotient_encloses : (a b c d : ℤ) (i : Interval) → IsOneSided c d → pr
     → quotient (between (at_36 a) (at_36 b)) (between (at_36 c) (at_36 d)) ⊆ i
 unfolding quotient
 quotient_encloses a b c d i n h = let t = excludes_from c d n in simp t h
+
+-- the quotients by a divisor above 0
+pub positive_enclosed : (a b c d lo hi : ℤ) (i : Interval) → a ≤ℤ b → pos 0 <ℤ c → c ≤ℤ d → AreQuotients a b c d lo hi → Keeps64 lo hi i → quotient (between (at_36 a) (at_36 b)) (between (at_36 c) (at_36 d)) ⊆ i
+positive_enclosed a b c d lo hi i o h k q v =
+    let e : pos 0 <ℤ d = omega (arith, ints, h, k) in
+    let uc = q.under c (≤ℤ_refl c) k in
+    let ud = q.under d k (≤ℤ_refl d) in
+    let vc = q.over c (≤ℤ_refl c) k in
+    let vd = q.over d k (≤ℤ_refl d) in
+    quotient_encloses a b c d i (inl (h, e))
+    (within_trans
+    (four_enclose a b (reciprocal (at_36 d)) (reciprocal (at_36 c)) lo hi
+    (record {
+      low_1 = floor_ratio_positive lo a d e ud;
+      low_2 = floor_ratio_positive lo a c h uc;
+      low_3 = floor_ratio_positive lo b d e (omega (arith, ints, ud, o));
+      low_4 = floor_ratio_positive lo b c h (omega (arith, ints, uc, o));
+      high_1 = ceil_ratio_positive hi a d e (omega (arith, ints, vd, o));
+      high_2 = ceil_ratio_positive hi a c h (omega (arith, ints, vc, o));
+      high_3 = ceil_ratio_positive hi b d e vd;
+      high_4 = ceil_ratio_positive hi b c h vc;
+    }))
+    (kept_within lo hi i v))
+
+-- the quotients by a divisor below 0: those of the opposites
+pub negative_enclosed : (a b c d x y z w lo hi : ℤ) (i : Interval) → a ≤ℤ b → d <ℤ pos 0 → c ≤ℤ d → x ≡ pos 0 -ℤ b → y ≡ pos 0 -ℤ a → z ≡ pos 0 -ℤ d → w ≡ pos 0 -ℤ c → AreQuotients x y z w lo hi → Keeps64 lo hi i
+    → quotient (between (at_36 a) (at_36 b)) (between (at_36 c) (at_36 d)) ⊆ i
+negative_enclosed a b c d x y z w lo hi i o h k ex ey ez ew q v =
+    let e : c <ℤ pos 0 = omega (arith, ints, h, k) in
+    let uc : (lo *ℤ (pos 0 -ℤ c)) ≤ℤ (x *ℤ pos (2 ^ 36)) = rw ew at (q.under w (omega (arith, ints, ez, ew, k)) (≤ℤ_refl w)) in
+    let ud : (lo *ℤ (pos 0 -ℤ d)) ≤ℤ (x *ℤ pos (2 ^ 36)) = rw ez at (q.under z (≤ℤ_refl z) (omega (arith, ints, ez, ew, k))) in
+    let vc : (y *ℤ pos (2 ^ 36)) ≤ℤ (hi *ℤ (pos 0 -ℤ c)) = rw ew at (q.over w (omega (arith, ints, ez, ew, k)) (≤ℤ_refl w)) in
+    let vd : (y *ℤ pos (2 ^ 36)) ≤ℤ (hi *ℤ (pos 0 -ℤ d)) = rw ez at (q.over z (≤ℤ_refl z) (omega (arith, ints, ez, ew, k))) in
+    quotient_encloses a b c d i (inr (e, h))
+    (within_trans
+    (four_enclose a b (reciprocal (at_36 d)) (reciprocal (at_36 c)) lo hi
+    (record {
+      low_1 = floor_ratio_negative lo a d h (omega (arith, ints, ud, ex, o));
+      low_2 = floor_ratio_negative lo a c e (omega (arith, ints, uc, ex, o));
+      low_3 = floor_ratio_negative lo b d h (omega (arith, ints, ud, ex));
+      low_4 = floor_ratio_negative lo b c e (omega (arith, ints, uc, ex));
+      high_1 = ceil_ratio_negative hi a d h (omega (arith, ints, vd, ey));
+      high_2 = ceil_ratio_negative hi a c e (omega (arith, ints, vc, ey));
+      high_3 = ceil_ratio_negative hi b d h (omega (arith, ints, vd, ey, o));
+      high_4 = ceil_ratio_negative hi b c e (omega (arith, ints, vc, ey, o));
+    }))
+    (kept_within lo hi i v))
 
 -- ---- squares
 square_over : (x n : ℤ) → n ≤ℤ (x *ℤ x) → at_72 n ≤F fraction_power (at_36 x) 2

@@ -5,7 +5,7 @@ use Rattle.exact_math.specs.Interval.{Interval, between, ◌⊆◌, sum, differe
 use Rattle.exact_math.proofs.Fractions.{le_refl}
 use Rattle.exact_math.proofs.Intervals.{within_refl, within_trans, sum_within, difference_within, negative_within, product_within, minimum_within, maximum_within, hull_within, widen_within, quotient_within, power_within}
 use Rattle.book_model.specs.Expressions.{Expression, World, value, integer, constant, add, subtract, multiply, negate, scale, minimum, maximum, hull, widen, divide, power, remainder}
-use Rattle.book_model.specs.Bounds.{Bound, unbounded, Limits, Reach, IsNarrow, bound_of, integer_bound, constant_bound, sum_bound, scaled_bound, difference_bound, product_bound, power_bound, negated_bound, minimum_bound, maximum_bound, remainder_bound, spanned_bound, limits_of, limits_36}
+use Rattle.book_model.specs.Bounds.{Bound, unbounded, Limits, Reach, IsNarrow, bound_of, integer_bound, constant_bound, sum_bound, scaled_bound, difference_bound, product_bound, power_bound, quotient_bound, negated_bound, minimum_bound, maximum_bound, remainder_bound, spanned_bound, limits_of, limits_36}
 use Rattle.book_model.proofs.Values.{value_proper}
 use Rattle.book_model.specs.Relations.{Within, Narrow, Lies, Keeps}
 
@@ -162,9 +162,11 @@ pub narrow_widen : {E : Type 0} (shown : E → Interval) (l : Limits) (r : Reach
 unfolding bound_of
 narrow_widen shown l r f x k = narrow_unbounded shown l r (widen f x) k refl
 
-pub narrow_divide : {E : Type 0} (shown : E → Interval) (l : Limits) (r : Reach) (x y : Expression) (k : E) → Narrow shown l r (divide x y) k
-unfolding bound_of
-narrow_divide shown l r x y k = narrow_unbounded shown l r (divide x y) k refl
+-- the bound of a quotient
+pub narrow_divide : {E : Type 0} (shown : E → Interval) (r : Reach) (x y : Expression) (i j k : E) → ((w : ℕ) (a b : Bound) → IsNarrow w a (shown i) → IsNarrow w b (shown j) → IsNarrow w (quotient_bound limits_36 a b) (shown k))
+    → Narrow shown (limits_of 36) r x i → Narrow shown (limits_of 36) r y j → Narrow shown (limits_of 36) r (divide x y) k
+unfolding Keeps bound_of limits_of
+narrow_divide shown r x y i j k h p q = record { kept = h r.width _ _ p.kept q.kept }
 
 -- the bound of a square
 pub narrow_square : {E : Type 0} (shown : E → Interval) (r : Reach) (x : Expression) (i k : E) → ((w : ℕ) (a : Bound) → IsNarrow w a (shown i) → IsNarrow w (power_bound limits_36 a 2) (shown k))

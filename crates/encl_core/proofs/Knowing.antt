@@ -1,11 +1,11 @@
 -- The clauses of every scale, for enclosures that show everything.
-use Rattle.std.proofs.Common.{◌≡◌, ℕ, ◌≤◌, ◌^◌, ◌-◌, refl, ℤ, pos, negsuc}
+use Rattle.std.proofs.Common.{◌≡◌, ℕ, zero, suc, ◌≤◌, ◌^◌, ◌-◌, refl, ℤ, pos, negsuc}
 use Rattle.std.proofs.Math.Dec.{leb-suc-zero}
 use Rattle.exact_math.specs.Fraction.{Fraction}
 use Rattle.exact_math.specs.Interval.{Interval, everything, hull}
 use Rattle.exact_math.proofs.Intervals.{within_everything}
-use Rattle.book_model.specs.Expressions.{Expression, World, integer, constant, add, subtract, multiply, power, negate, scale}
-use Rattle.book_model.specs.Bounds.{Bound, unbounded, bounded, Reach, IsNarrow, bound_of, integer_bound, constant_bound, sum_bound, scaled_bound, difference_bound, product_bound, power_bound, negated_bound, spanned_bound, limits_of, no_limits}
+use Rattle.book_model.specs.Expressions.{Expression, World, integer, constant, add, subtract, multiply, divide, power, negate, scale}
+use Rattle.book_model.specs.Bounds.{Bound, unbounded, bounded, Reach, IsNarrow, bound_of, integer_bound, constant_bound, sum_bound, scaled_bound, difference_bound, product_bound, power_bound, quotient_bound, negated_bound, spanned_bound, limits_of, no_limits}
 use Rattle.book_model.specs.Relations.{Within, Narrow, Lies, Keeps}
 use Rattle.book_model.specs.Programs.{Grid, cell_at, compare_at}
 use Rattle.book_model.specs.Leading.{no_bounds, IsOpenCell, between_cells, IsOpenComparison}
@@ -123,3 +123,16 @@ narrow_multiply shown r x y e s = record { kept = rw s (product_none r.width _ _
 pub narrow_square : {E : Type 0} (shown : E → Interval) (r : Reach) (x : Expression) (e : E) → shown e ≡ everything → Narrow shown (limits_of 8) r (power x 2) e
 unfolding Keeps bound_of limits_of power_bound
 narrow_square shown r x e s = record { kept = rw s (product_none r.width _ _) }
+
+quotient_none : (w : ℕ) (a b : Bound) → IsNarrow w (quotient_bound no_limits a b) everything
+unfolding quotient_bound IsNarrow
+quotient_none w unbounded b = tt
+quotient_none w (bounded a c s k) unbounded = tt
+quotient_none w (bounded a c s k) (bounded (pos zero) e t m) = tt
+quotient_none w (bounded a c s k) (bounded (negsuc d) e t m) = tt
+quotient_none w (bounded a c s k) (bounded (pos (suc d)) e t m) = rw leb-suc-zero tt
+
+-- the bound of a quotient is kept
+pub narrow_divide : {E : Type 0} (shown : E → Interval) (r : Reach) (x y : Expression) (e : E) → shown e ≡ everything → Narrow shown (limits_of 8) r (divide x y) e
+unfolding Keeps bound_of limits_of
+narrow_divide shown r x y e s = record { kept = rw s (quotient_none r.width _ _) }

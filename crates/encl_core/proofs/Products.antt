@@ -28,6 +28,7 @@ bounded_product x y a b h0 h1 h2 h3 = record {
       (le_by (x ∷ y ∷ a ∷ b ∷ []) ((lit (pos 0) ⊖ at 2 ≼ at 0) ∷ (at 0 ≼ at 2) ∷ (lit (pos 0) ⊖ at 3 ≼ at 1) ∷ (at 1 ≼ at 3) ∷ []) (lit (pos 2) ⊗ (at 0 ⊗ at 1)) (lit (pos 2) ⊗ (at 2 ⊗ at 3))
       (known 0 ⊠ known 3 ⊞ known 1 ⊠ known 2) refl (h0, (h1, (h2, (h3, tt)))));
 }
+
 -- two products of numbers from x to y and from c to d are at most this far apart
 apart : (p q x y c d a b : ℤ) → x ≤ℤ p → p ≤ℤ y → x ≤ℤ q → q ≤ℤ y → (pos 0 -ℤ b) ≤ℤ c → d ≤ℤ b → c ≤ℤ d → (pos 0 -ℤ a) ≤ℤ x → y ≤ℤ a → (u v : ℤ) → c ≤ℤ u → u ≤ℤ d → c ≤ℤ v → v ≤ℤ d → (p *ℤ u) ≤ℤ (q *ℤ v +ℤ (a *ℤ (d -ℤ c) +ℤ b *ℤ (y -ℤ x)))
 apart p q x y c d a b xp py xq qy bc db cd ax ya u v cu ud cv vd =
@@ -139,7 +140,6 @@ unfolding product_bound IsNarrow
 product_with_all w unbounded y i h = tt
 product_with_all w (bounded a b s k) unbounded i h = tt
 product_with_all w (bounded a b s k) (bounded c d t m) i h = absurd h
-
 
 -- ---- squares
 rising_square : (x y a : ℤ) → x ≤ℤ y → y ≤ℤ a → (y *ℤ y) ≤ℤ (x *ℤ x +ℤ (a *ℤ (y -ℤ x) +ℤ a *ℤ (y -ℤ x)))

@@ -5,20 +5,12 @@ use Rattle.std.proofs.lemmas.Bool.{ltb-true}
 use Rattle.exact_math.specs.Interval.{Interval, everything, between}
 use Rattle.exact_math.proofs.Ring.{at, lit, ◌⊕◌, ◌⊖◌, ◌⊗◌}
 use Rattle.exact_math.proofs.Bounds.{◌≼◌, known, ◌⊞◌, ◌⊠◌, times as naturally, le_by, le_over, refute, pos_nonneg}
-use Rattle.encl_core.specs.Rounding.{IsLeastBy, IsGreatestBy}
+use lib.Signed.{≤ℤ_refl}
+use Rattle.book_model.specs.Bounds.{Bound, unbounded, bounded, range_size, ceil_div, quotient_bound, IsNarrow, limits_36}
+use Rattle.encl_core.specs.Rounding.{at_36, Keeps64, IsFloor, IsCeiling, IsLeastBy, IsGreatestBy, AreQuotients}
 use Rattle.encl_core.proofs.Keeping.{AreKept, kept_of, limited_narrow, both}
+use Rattle.encl_core.proofs.Quotients.{next_le}
 use Rattle.encl_core.proofs.Products.{AreSized, sized, ceil_above, around_size}
-
--- what two quotients of a number from a to b by one from c to d are: rounded down and up, and of these ends
-pub record AreRatios (a b c d p q lo hi : ℤ) : Type 0 where
-  pub low : (lo *ℤ p) ≤ℤ (a *ℤ pos (2 ^ 36))
-  pub low_close : (a *ℤ pos (2 ^ 36)) ≤ℤ (lo *ℤ p +ℤ p)
-  pub high : (b *ℤ pos (2 ^ 36)) ≤ℤ (hi *ℤ q)
-  pub high_close : (hi *ℤ q) ≤ℤ (b *ℤ pos (2 ^ 36) +ℤ q)
-  pub p_from : c ≤ℤ p
-  pub p_to : p ≤ℤ d
-  pub q_from : c ≤ℤ q
-  pub q_to : q ≤ℤ d
 
 -- ---- the least and the greatest
 -- a quotient below 0 by the lesser divisor is the least, and one that isn't by the greater
@@ -115,3 +107,119 @@ by_bounds X g A s k t m w S M x y one hg hA hw hx hy h hS hM =
     (at 1 ⊗ at 1) (at 0 ⊗ n 68) (at 8 ⊗ at 7 ⊕ at 9 ⊗ n 40)
     (naturally (2 ^ 60) ⊠ known 5 ⊞ naturally (2 ^ 32) ⊠ known 0 ⊠ known 3 ⊞ naturally (2 ^ 32) ⊠ known 1 ⊠ known 4 ⊞ known 2 ⊠ known 6 ⊞ naturally (2 ^ 40) ⊠ known 7) refl
     one (hg, (hA, (hw, (hx, (hy, (h, (hS, (hM, tt))))))))
+
+-- ---- the two quotients
+divisor_from : (a c d p : ℤ) → c ≤ℤ d → IsLeastBy a c d p → (c ≤ℤ p) × (p ≤ℤ d)
+divisor_from a c d p h (inl n) = (omega (arith, ints, n.1), omega (arith, ints, n.1, h))
+divisor_from a c d p h (inr n) = (omega (arith, ints, n.1, h), omega (arith, ints, n.1))
+
+divisor_to : (b c d q : ℤ) → c ≤ℤ d → IsGreatestBy b c d q → (c ≤ℤ q) × (q ≤ℤ d)
+divisor_to b c d q h (inl n) = (omega (arith, ints, n.1, h), omega (arith, ints, n.1))
+divisor_to b c d q h (inr n) = (omega (arith, ints, n.1), omega (arith, ints, n.1, h))
+
+in_order : (lo hi c z y : ℤ) → pos 0 <ℤ c → (lo *ℤ c) ≤ℤ z → z ≤ℤ y → y ≤ℤ (hi *ℤ c) → lo ≤ℤ hi
+in_order lo hi c z y h k l m =
+    by_lt_z hi lo
+    (λ n. absurd
+    (refute (lo ∷ hi ∷ c ∷ z ∷ y ∷ []) ((lit (pos 1) ≼ at 2) ∷ (at 0 ⊗ at 2 ≼ at 3) ∷ (at 3 ≼ at 4) ∷ (at 4 ≼ at 1 ⊗ at 2) ∷ (at 1 ⊕ lit (pos 1) ≼ at 0) ∷ [])
+    (known 1 ⊞ known 2 ⊞ known 3 ⊞ known 4 ⊠ (known 0 ⊞ naturally 1) ⊞ known 0) refl (omega (arith, ints, h), (k, (l, (m, (omega (arith, ints, n), tt)))))))
+    (λ n. n)
+
+nonneg_product : (n v : ℤ) → pos 0 ≤ℤ n → pos 0 ≤ℤ v → pos 0 ≤ℤ (pos (2 ^ 36) *ℤ (n *ℤ v))
+nonneg_product n v h k = le_by (n ∷ v ∷ []) ((lit (pos 0) ≼ at 0) ∷ (lit (pos 0) ≼ at 1) ∷ []) (lit (pos 0)) (lit (pos (2 ^ 36)) ⊗ (at 0 ⊗ at 1)) (naturally (2 ^ 36) ⊠ known 0 ⊠ known 1) refl (h, (k, tt))
+
+halved : (p q : ℤ) → (pos 2 *ℤ p) ≤ℤ (pos 2 *ℤ q) → p ≤ℤ q
+halved p q h = omega (arith, ints, h)
+
+flip_floor : (lo a p : ℤ) → (a *ℤ pos (2 ^ 36) +ℤ pos 1) ≤ℤ (lo *ℤ p +ℤ p) → ((pos 0 -ℤ lo) *ℤ p +ℤ pos 1) ≤ℤ ((pos 0 -ℤ a) *ℤ pos (2 ^ 36) +ℤ p)
+flip_floor lo a p h =
+    le_by (lo ∷ a ∷ p ∷ []) ((at 1 ⊗ lit (pos (2 ^ 36)) ⊕ lit (pos 1) ≼ at 0 ⊗ at 2 ⊕ at 2) ∷ []) ((lit (pos 0) ⊖ at 0) ⊗ at 2 ⊕ lit (pos 1)) ((lit (pos 0) ⊖ at 1) ⊗ lit (pos (2 ^ 36)) ⊕ at 2) (known 0) refl (h, tt)
+
+pub quotients_are : (a b c d p q lo hi : ℤ) → a ≤ℤ b → pos 0 <ℤ c → c ≤ℤ d → IsLeastBy a c d p → IsGreatestBy b c d q → IsFloor lo (a *ℤ pos (2 ^ 36)) p → IsCeiling hi (b *ℤ pos (2 ^ 36)) q → AreQuotients a b c d lo hi
+quotients_are a b c d p q lo hi o h k l g f t =
+    let i = divisor_from a c d p k l in
+    let j = divisor_to b c d q k g in
+    let u = under_all lo a c d p c h (≤ℤ_refl c) k l f.not_above in
+    let v = over_all hi b c d q c h (≤ℤ_refl c) k g t.not_below in
+    record {
+      ordered = in_order lo hi c (a *ℤ pos (2 ^ 36)) (b *ℤ pos (2 ^ 36)) h u (omega (arith, ints, o)) v;
+      under = λ e from to. under_all lo a c d p e h from to l f.not_above;
+      over = λ e from to. over_all hi b c d q e h from to g t.not_below;
+      close = λ n e na bn ze ec.
+          let s = divided a b p q lo hi (b -ℤ a) (d -ℤ c) n (omega (arith, ints, h, i.0)) (omega (arith, ints, h, j.0)) (omega (arith, ints, f.close)) (omega (arith, ints, t.close)) (≤ℤ_refl (b -ℤ a))
+          (omega (arith, ints, i.1, j.0)) (omega (arith, ints, i.0, j.1)) na (omega (arith, ints, o, bn)) in
+          let z = nonneg_product n (d -ℤ c) (omega (arith, ints, na, bn, o)) (omega (arith, ints, k)) in
+          by_least ((hi -ℤ lo) -ℤ pos 2) q e (b -ℤ a) (pos (2 ^ 36) *ℤ (n *ℤ (d -ℤ c))) (omega (arith, ints, ec, j.0)) ze z (omega (arith, ints, o))
+          (by_lesser (((hi -ℤ lo) -ℤ pos 2) *ℤ q -ℤ pos (2 ^ 36) *ℤ (b -ℤ a)) p e (pos (2 ^ 36) *ℤ (n *ℤ (d -ℤ c))) (omega (arith, ints, ec, i.0)) ze z (halved _ _ s));
+      low = λ y A Z gc na hz z.
+          let s = size_above (pos 0 -ℤ lo) (pos 0 -ℤ a) p y A Z (omega (arith, ints, h, i.0)) (omega (arith, ints, gc, i.0)) (omega (arith, ints, na)) (flip_floor lo a p (next_le _ _ f.close)) hz z in
+          omega (arith, ints, s);
+      high = λ y A Z gc bn hz z. size_above hi b q y A Z (omega (arith, ints, h, j.0)) (omega (arith, ints, gc, j.0)) bn (omega (arith, ints, t.close)) hz z;
+    }
+
+-- ---- the bound
+square_above_none : (g : ℕ) → suc (suc g * suc g - 1) ≡ suc g * suc g
+square_above_none g = omega arith
+
+by_equal : (n q a b : ℕ) → a ≡ b → n ≤ q * a → n ≤ q * b
+by_equal n q a b e h = rw e at h
+
+ceil_square : (n g : ℕ) → n ≤ ceil_div n (suc g * suc g - 1) * (suc g * suc g)
+ceil_square n g = by_equal n (ceil_div n (suc g * suc g - 1)) (suc (suc g * suc g - 1)) (suc g * suc g) (square_above_none g) (ceil_above n (suc g * suc g - 1))
+
+quotient_kept : (A g s k t m w Z S M : ℕ) (x y c d lo hi : ℤ) → AreQuotients x y c d lo hi → AreSized A x y → (pos 16 *ℤ pos (suc g)) ≤ℤ c → c ≤ℤ d → x ≤ℤ y → ((y -ℤ x) *ℤ pos (2 ^ 68)) ≤ℤ pos (s * w + k * 2 ^ 40) → ((d -ℤ c) *ℤ pos (2 ^ 68)) ≤ℤ pos (t * w + m * 2 ^ 40)
+    → A * 2 ^ 32 ≤ Z * suc g → (s * suc g + A * t) * 2 ^ 32 ≤ S * (suc g * suc g) → (k * suc g + A * m) * 2 ^ 32 ≤ M * (suc g * suc g) → AreKept (neg_ℤ (pos Z)) (pos Z) S (M + 2 * 2 ^ 28) w lo hi
+quotient_kept A g s k t m w Z S M x y c d lo hi q z from o r wx wy hz hs hm =
+    let n = q.close (pos 16 *ℤ pos A) (pos 16 *ℤ pos (suc g)) z.above z.below (omega (arith, ints)) from in
+    let one : pos 1 ≤ℤ (pos (suc g) *ℤ pos (suc g)) = omega (arith, ints) in
+    let b = by_bounds ((hi -ℤ lo) -ℤ pos 2) (pos (suc g)) (pos A) (pos s) (pos k) (pos t) (pos m) (pos w) (pos S) (pos M) (y -ℤ x) (d -ℤ c) one (pos_nonneg (suc g)) (pos_nonneg A) (pos_nonneg w) (omega (arith, ints, wx)) (omega (arith, ints, wy)) n
+    (omega (arith, ints, hs)) (omega (arith, ints, hm)) in
+    let l = q.low (pos (suc g)) (pos A) (pos Z) from z.above (omega (arith, ints, hz)) (pos_nonneg Z) in
+    let u = q.high (pos (suc g)) (pos A) (pos Z) from z.below (omega (arith, ints, hz)) (pos_nonneg Z) in
+    record {
+      ordered = q.ordered;
+      above = omega (arith, ints, l);
+      below = omega (arith, ints, u);
+      close = omega (arith, ints, b);
+    }
+
+pub quotient_narrow : (w : ℕ) (p q : Bound) (x y c d lo hi : ℤ) (i : Interval) → AreQuotients x y c d lo hi → Keeps64 lo hi i → IsNarrow w p (between (at_36 x) (at_36 y)) → IsNarrow w q (between (at_36 c) (at_36 d)) → IsNarrow w (quotient_bound limits_36 p q) i
+unfolding quotient_bound IsNarrow
+quotient_narrow w unbounded q x y c d lo hi i r v h k = tt
+quotient_narrow w (bounded a b s t) unbounded x y c d lo hi i r v h k = tt
+quotient_narrow w (bounded a b s t) (bounded (pos zero) b' s' t') x y c d lo hi i r v h k = tt
+quotient_narrow w (bounded a b s t) (bounded (negsuc a') b' s' t') x y c d lo hi i r v h k = tt
+quotient_narrow w (bounded a b s t) (bounded (pos (suc g)) b' s' t') x y c d lo hi i r v h k =
+    let m = kept_of a b s t w x y h in
+    let n = kept_of (pos (suc g)) b' s' t' w c d k in
+    limited_narrow _ _ _ _ _ w lo hi i (λ l. around_size _ (ltb-true _ _ l))
+    (quotient_kept (range_size a b) g s t s' t' w _ _ _ x y c d lo hi r (sized a b s t w x y m) (omega (arith, ints, n.above)) n.ordered m.ordered m.close n.close
+    (ceil_above (range_size a b * 2 ^ 32) g)
+    (ceil_square ((s * suc g + range_size a b * s') * 2 ^ 32) g)
+    (ceil_square ((t * suc g + range_size a b * t') * 2 ^ 32) g)) v
+
+-- by what may be 0 or less no bound is promised
+pub quotient_none : (w : ℕ) (p q : Bound) (x c d : ℤ) (i j : Interval) → (pos 0 <ℤ c → ⊥) → IsNarrow w p i → IsNarrow w q (between (at_36 c) (at_36 d)) → IsNarrow w (quotient_bound limits_36 p q) j
+unfolding quotient_bound IsNarrow
+quotient_none w unbounded q x c d i j n h k = tt
+quotient_none w (bounded a b s t) unbounded x c d i j n h k = tt
+quotient_none w (bounded a b s t) (bounded (pos zero) b' s' t') x c d i j n h k = tt
+quotient_none w (bounded a b s t) (bounded (negsuc a') b' s' t') x c d i j n h k = tt
+quotient_none w (bounded a b s t) (bounded (pos (suc g)) b' s' t') x c d i j n h k = let m = kept_of (pos (suc g)) b' s' t' w c d k in absurd (n (omega (arith, ints, m.above)))
+
+pub quotient_of_all : (w : ℕ) (x y : Bound) (i : Interval) → IsNarrow w x everything → IsNarrow w (quotient_bound limits_36 x y) i
+unfolding quotient_bound IsNarrow
+quotient_of_all w unbounded y i h = tt
+quotient_of_all w (bounded a b s k) y i h = absurd h
+
+pub quotient_by_all : (w : ℕ) (x y : Bound) (i : Interval) → IsNarrow w y everything → IsNarrow w (quotient_bound limits_36 x y) i
+unfolding quotient_bound IsNarrow
+quotient_by_all w unbounded y i h = tt
+quotient_by_all w (bounded a b s k) unbounded i h = tt
+quotient_by_all w (bounded a b s k) (bounded c d t m) i h = absurd h
+
+pub divisor_positive : (b c d q : ℤ) → pos 0 <ℤ c → c ≤ℤ d → IsGreatestBy b c d q → pos 0 <ℤ q
+divisor_positive b c d q h k g = let j = divisor_to b c d q k g in omega (arith, ints, h, j.0)
+
+pub first_divisor_positive : (a c d p : ℤ) → pos 0 <ℤ c → c ≤ℤ d → IsLeastBy a c d p → pos 0 <ℤ p
+first_divisor_positive a c d p h k g = let j = divisor_from a c d p k g in omega (arith, ints, h, j.0)

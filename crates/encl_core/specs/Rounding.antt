@@ -1,5 +1,5 @@
 -- Rounded quotients, the lesser and the greater, and ends that fit in 64 bits, over plain numbers.
-use Rattle.std.specs.Prelude.{◌≡◌, cond, int_le, ◌⊎◌, ◌-◌, ◌^◌, ℤ, pos, ◌+ℤ◌, ◌*ℤ◌, ◌≤ℤ◌, ◌<ℤ◌, ◌+◌, unsigned_abs, FitsSigned}
+use Rattle.std.specs.Prelude.{◌≡◌, cond, int_le, ◌⊎◌, ◌-◌, ◌^◌, ℤ, pos, ◌+ℤ◌, ◌-ℤ◌, ◌*ℤ◌, ◌≤ℤ◌, ◌<ℤ◌, ◌+◌, unsigned_abs, FitsSigned}
 use Rattle.std.specs.Int.{w64}
 use Rattle.exact_math.specs.Fraction.{Fraction}
 use Rattle.exact_math.specs.Interval.{Interval, everything, between, ◌⊆◌}
@@ -77,3 +77,13 @@ IsLeastBy a c d p = ((a <ℤ pos 0) × (p ≡ c)) ⊎ ((pos 0 ≤ℤ a) × (p �
 -- that by q is the greatest
 abbrev pub IsGreatestBy : (b c d q : ℤ) → Type 0
 IsGreatestBy b c d q = ((b <ℤ pos 0) × (q ≡ d)) ⊎ ((pos 0 ≤ℤ b) × (q ≡ c))
+
+-- lo and hi are the quotients of the numbers from a to b by those from c to d, which are above 0, at scale 2^-36,
+-- rounded outwards: hardly further apart than the widths allow
+pub record AreQuotients (a b c d lo hi : ℤ) : Type 0 where
+  pub ordered : lo ≤ℤ hi
+  pub under : (e : ℤ) → c ≤ℤ e → e ≤ℤ d → (lo *ℤ e) ≤ℤ (a *ℤ pos (2 ^ 36))
+  pub over : (e : ℤ) → c ≤ℤ e → e ≤ℤ d → (b *ℤ pos (2 ^ 36)) ≤ℤ (hi *ℤ e)
+  pub close : (n e : ℤ) → (pos 0 -ℤ n) ≤ℤ a → b ≤ℤ n → pos 0 ≤ℤ e → e ≤ℤ c → (((hi -ℤ lo) -ℤ pos 2) *ℤ (e *ℤ e)) ≤ℤ (pos (2 ^ 36) *ℤ ((b -ℤ a) *ℤ e) +ℤ pos (2 ^ 36) *ℤ (n *ℤ (d -ℤ c)))
+  pub low : (g A Z : ℤ) → (pos 16 *ℤ g) ≤ℤ c → (pos 0 -ℤ pos 16 *ℤ A) ≤ℤ a → (A *ℤ pos (2 ^ 32)) ≤ℤ (Z *ℤ g) → pos 0 ≤ℤ Z → (pos 0 -ℤ pos 16 *ℤ Z) ≤ℤ lo
+  pub high : (g A Z : ℤ) → (pos 16 *ℤ g) ≤ℤ c → b ≤ℤ (pos 16 *ℤ A) → (A *ℤ pos (2 ^ 32)) ≤ℤ (Z *ℤ g) → pos 0 ≤ℤ Z → hi ≤ℤ (pos 16 *ℤ Z)

@@ -1,80 +1,85 @@
 //! Quotients and squares of ends that count 2⁻³⁶, rounded outwards.
-ghost use Rattle.std.specs.Prelude.{◌≡◌, ◌≢◌, ℕ, pos, ◌^◌, ◌≤ℤ◌, neg_ℤ, IsTrue};
-ghost use Rattle.exact_math.specs.Fraction.{◌≤F◌, times, reciprocal};
-ghost use Rattle.exact_math.specs.Interval.{◌⊆◌, product, quotient, power, between};
-ghost use Rattle.book_model.specs.Bounds.{Bound, IsNarrow, power_bound, limits_36};
+ghost use Rattle.std.specs.Prelude.{◌≡◌, ℕ, pos, ◌^◌, ◌≤ℤ◌, ◌<ℤ◌, neg_ℤ};
+ghost use Rattle.exact_math.specs.Interval.{◌⊆◌, quotient, power, between};
+ghost use Rattle.book_model.specs.Bounds.{Bound, IsNarrow, power_bound, quotient_bound, limits_36};
 ghost use Rattle.encl_core.specs.Shown.{shown_ends};
-ghost use Rattle.encl_core.specs.Rounding.{at_36, IsOneSided, least_square_of};
+ghost use Rattle.encl_core.specs.Rounding.{at_36, least_square_of, IsLeastBy, IsGreatestBy, AreQuotients};
 
 use crate::ends::Ends;
 use crate::operations::product_of;
-use crate::rounding::{ceil_36, ceil_div, ends_of, floor_36, floor_div, greatest_of, least_of};
+use crate::rounding::{ceil_36, ceil_div, ends_of, floor_36, floor_div};
 
-/// The quotient of two ends, rounded down.
-fn floor_ratio(a: i64, c: i64) -> i128
-    requires { c ≢ pos 0 }
-    ensures below { at_36 result ≤F times (at_36 a) (reciprocal (at_36 c)) }
+/// By which of two divisors above 0, the first the lesser, the quotient of a number is the least.
+fn least_by(a: i128, c: i128, d: i128) -> i128
+    ensures { IsLeastBy a c d result }
 {
-    let raised = product_of(a, 68_719_476_736);
-    if c > 0 {
-        floor_div(raised, i128::from(c))
-    } else {
-        floor_div(-raised, -i128::from(c))
-    }
+    if a < 0 { c } else { d }
 }
 
-/// The quotient of two ends, rounded up.
-fn ceil_ratio(a: i64, c: i64) -> i128
-    requires { c ≢ pos 0 }
-    ensures above { times (at_36 a) (reciprocal (at_36 c)) ≤F at_36 result }
+/// By which of them it is the greatest.
+fn greatest_by(b: i128, c: i128, d: i128) -> i128
+    ensures { IsGreatestBy b c d result }
 {
-    let raised = product_of(a, 68_719_476_736);
-    if c > 0 {
-        ceil_div(raised, i128::from(c))
-    } else {
-        ceil_div(-raised, -i128::from(c))
-    }
+    if b < 0 { d } else { c }
 }
 
-/// The ends around the quotients, where neither end of the divisor is 0.
-fn quotients(x: Ends, y: Ends) -> Option<Ends>
-    requires low { y.lo ≢ pos 0 }
-    requires high { y.hi ≢ pos 0 }
-    ensures holds { product (between (at_36 x.lo) (at_36 x.hi)) (between (reciprocal (at_36 y.hi)) (reciprocal (at_36 y.lo))) ⊆ shown_ends result }
+/// The ends around the quotients of the numbers from `a` to `b` by those from `c` to `d`, which are above 0.
+fn quotients(a: i128, b: i128, c: i128, d: i128) -> (i128, i128)
+    requires dividend { a ≤ℤ b }
+    requires divisor { c ≤ℤ d }
+    requires positive { pos 0 <ℤ c }
+    requires from { neg_ℤ (pos (2 ^ 63)) ≤ℤ a }
+    requires to { b ≤ℤ pos (2 ^ 63) }
+    ensures { AreQuotients a b c d result.0 result.1 }
 {
-    let lo = least_of(
-        floor_ratio(x.lo, y.hi),
-        floor_ratio(x.lo, y.lo),
-        floor_ratio(x.hi, y.hi),
-        floor_ratio(x.hi, y.lo),
-    );
-    let hi = greatest_of(
-        ceil_ratio(x.lo, y.hi),
-        ceil_ratio(x.lo, y.lo),
-        ceil_ratio(x.hi, y.hi),
-        ceil_ratio(x.hi, y.lo),
+    let lo = floor_div(a * 68_719_476_736, least_by(a, c, d));
+    let hi = ceil_div(b * 68_719_476_736, greatest_by(b, c, d));
+    (lo, hi)
+}
+
+/// The ends around the quotients by a divisor above 0.
+fn positive_quotients(x: Ends, y: Ends) -> Option<Ends>
+    requires { pos 0 <ℤ y.lo }
+    ensures holds { quotient (between (at_36 x.lo) (at_36 x.hi)) (between (at_36 y.lo) (at_36 y.hi)) ⊆ shown_ends result }
+    ensures narrow { (w : ℕ) (a b : Bound) → IsNarrow w a (between (at_36 x.lo) (at_36 x.hi)) → IsNarrow w b (between (at_36 y.lo) (at_36 y.hi)) → IsNarrow w (quotient_bound limits_36 a b) (shown_ends result) }
+{
+    let (lo, hi) = quotients(
+        i128::from(x.lo),
+        i128::from(x.hi),
+        i128::from(y.lo),
+        i128::from(y.hi),
     );
     ends_of(lo, hi)
 }
 
-/// Whether both ends are on one side of 0.
-fn is_one_sided(c: i64, d: i64) -> bool
-    ensures { IsTrue result → IsOneSided c d }
+/// The ends around the quotients by a divisor below 0.
+fn negative_quotients(x: Ends, y: Ends) -> Option<Ends>
+    requires { y.hi <ℤ pos 0 }
+    ensures holds { quotient (between (at_36 x.lo) (at_36 x.hi)) (between (at_36 y.lo) (at_36 y.hi)) ⊆ shown_ends result }
 {
-    if c > 0 { d > 0 } else { c < 0 && d < 0 }
+    let (lo, hi) = quotients(
+        -i128::from(x.hi),
+        -i128::from(x.lo),
+        -i128::from(y.hi),
+        -i128::from(y.lo),
+    );
+    ends_of(lo, hi)
 }
 
 /// The ends around the quotients; none, where the divisor may be 0.
 pub(crate) fn div_ends(x: Option<Ends>, y: Option<Ends>) -> Option<Ends>
     ensures holds { quotient (shown_ends x) (shown_ends y) ⊆ shown_ends result }
+    ensures narrow { (w : ℕ) (a b : Bound) → IsNarrow w a (shown_ends x) → IsNarrow w b (shown_ends y) → IsNarrow w (quotient_bound limits_36 a b) (shown_ends result) }
 {
     let x = x?;
     let y = y?;
-    if is_one_sided(y.lo, y.hi) {
-        quotients(x, y)
-    } else {
-        None
+    if y.lo > 0 {
+        return positive_quotients(x, y);
     }
+    if y.hi < 0 {
+        return negative_quotients(x, y);
+    }
+    None
 }
 
 /// The least square of a number between two ends.

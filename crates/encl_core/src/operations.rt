@@ -1,12 +1,12 @@
 //! The operations on ends that count 2⁻³⁶, rounded outwards. No ends stand for every number.
-ghost use Rattle.std.specs.Prelude.{◌≡◌, ℕ, pos, ◌+◌, ◌*◌, ◌*ℤ◌, ◌+ℤ◌, ◌-ℤ◌, ◌≤ℤ◌, neg_ℤ, ◌^◌, ◌-◌, ◌<◌, unsigned_abs, IfSome, IsSome, FitsSigned};
-ghost use Rattle.std.specs.Int.{w64};
+ghost use Rattle.std.specs.Prelude.{◌≡◌, ℕ, pos, ◌+◌, ◌*◌, ◌*ℤ◌, ◌+ℤ◌, ◌-ℤ◌, ◌≤ℤ◌, neg_ℤ, ◌^◌, ◌-◌, ◌<◌, unsigned_abs, IfSome, IsSome, IsNone, FitsSigned};
+ghost use Rattle.std.specs.Int.{w64, w128};
 ghost use Rattle.exact_math.specs.Fraction.{whole as whole_number};
 ghost use Rattle.exact_math.specs.Interval.{◌⊆◌, sum, difference, negative, product, minimum, maximum, hull, widen, between};
 ghost use Rattle.book_model.specs.Fractions.{fraction_of};
 ghost use Rattle.book_model.specs.Bounds.{Bound, IsNarrow, integer_bound, constant_bound, sum_bound, scaled_bound, difference_bound, product_bound, negated_bound, minimum_bound, maximum_bound, limits_36};
 ghost use Rattle.encl_core.specs.Shown.{shown_ends};
-ghost use Rattle.encl_core.specs.Rounding.{IsBelowFour, IsAboveFour, IsAboveEachBelow, IsBelowEachAbove, IsMargin, IsBest};
+ghost use Rattle.encl_core.specs.Rounding.{IsBelowFour, IsAboveFour, IsAboveEachBelow, IsBelowEachAbove, IsMargin, IsBest, Keeps64};
 
 use crate::ends::Ends;
 use crate::rounding::{
@@ -77,6 +77,28 @@ pub(crate) fn frac_ends(value: Frac) -> Option<Ends>
     }
 }
 
+/// The ends that are sums, in 64 bits.
+#[inline(always)]
+fn sums(a: i64, b: i64, c: i64, d: i64) -> Option<Ends>
+    requires { (a +ℤ c) ≤ℤ (b +ℤ d) }
+    ensures kept { Keeps64 (a +ℤ c) (b +ℤ d) (shown_ends result) }
+{
+    let lo = a.checked_add(c)?;
+    let hi = b.checked_add(d)?;
+    Some(Ends { lo, hi })
+}
+
+/// The ends that are differences, in 64 bits.
+#[inline(always)]
+fn differences(a: i64, b: i64, c: i64, d: i64) -> Option<Ends>
+    requires { (a -ℤ d) ≤ℤ (b -ℤ c) }
+    ensures kept { Keeps64 (a -ℤ d) (b -ℤ c) (shown_ends result) }
+{
+    let lo = a.checked_sub(d)?;
+    let hi = b.checked_sub(c)?;
+    Some(Ends { lo, hi })
+}
+
 /// The sums of the ends.
 pub(crate) fn add_ends(x: Option<Ends>, y: Option<Ends>) -> Option<Ends>
     ensures holds { sum (shown_ends x) (shown_ends y) ⊆ shown_ends result }
@@ -85,10 +107,19 @@ pub(crate) fn add_ends(x: Option<Ends>, y: Option<Ends>) -> Option<Ends>
 {
     let x = x?;
     let y = y?;
-    ends_of(
-        i128::from(x.lo) + i128::from(y.lo),
-        i128::from(x.hi) + i128::from(y.hi),
-    )
+    sums(x.lo, x.hi, y.lo, y.hi)
+}
+
+/// The product of an end and a numerator, which mostly has 64 bits too.
+#[inline(always)]
+fn multiplied(end: i64, factor: i128) -> Option<i128>
+    ensures value { IfSome result (λ p. p ≡ end *ℤ factor) }
+    ensures none { IsNone result → ¬ FitsSigned w128 (end *ℤ factor) }
+{
+    match i64::try_from(factor) {
+        Ok(small) => Some(product_of(end, small)),
+        Err(_) => i128::from(end).checked_mul(factor),
+    }
 }
 
 /// The ends around the products with a fraction.
@@ -100,8 +131,8 @@ pub(crate) fn scale_ends(x: Option<Ends>, by: Frac) -> Option<Ends>
 {
     let x = x?;
     let factor = by.num();
-    let p = i128::from(x.lo).checked_mul(factor)?;
-    let q = i128::from(x.hi).checked_mul(factor)?;
+    let p = multiplied(x.lo, factor)?;
+    let q = multiplied(x.hi, factor)?;
     let below = denominator(by);
     let (least, greatest) = sorted(p, q);
     ends_of(floor_div(least, below), ceil_div(greatest, below))
@@ -115,10 +146,7 @@ pub(crate) fn sub_ends(x: Option<Ends>, y: Option<Ends>) -> Option<Ends>
 {
     let x = x?;
     let y = y?;
-    ends_of(
-        i128::from(x.lo) - i128::from(y.hi),
-        i128::from(x.hi) - i128::from(y.lo),
-    )
+    differences(x.lo, x.hi, y.lo, y.hi)
 }
 
 /// The opposites of the ends, in the other order.

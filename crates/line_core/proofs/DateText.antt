@@ -6,7 +6,6 @@ use Rattle.std.specs.Prelude.{◌==◌, Some, None, not}
 use Rattle.std.specs.List.{position_or_len, position}
 use Rattle.std.proofs.lemmas.List.{take_rest}
 use Rattle.std.proofs.Math.Nat.{pow-suc}
-use Rattle.book_model.specs.Requests.{fixed_day_of}
 use Rattle.book_model.specs.Lines.{parts_of, onto_first}
 
 -- where the first dash stands, or the length
@@ -85,8 +84,3 @@ few_digits k n h below = let six : 6 - k + k ≡ 6 = omega arith in omega (arith
 -- a number of seven digits or fewer
 pub seven_digits : (k n : ℕ) → k < 8 → n < 10 ^ k → n < 10000000
 seven_digits k n h below = let seven : 7 - k + k ≡ 7 = omega arith in omega (arith, rw seven at (powers_rise k (7 - k)))
-
--- a day number is one part
-pub two_parts : (p : List ℕ) (ps : List (List ℕ)) → 1 ≤ length ps → None ≡ fixed_day_of (p ∷ ps)
-two_parts p [] h = absurd (omega arith)
-two_parts p (q ∷ ps) h = refl

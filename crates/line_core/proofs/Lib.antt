@@ -1,6 +1,8 @@
 pub mod DateText
+pub mod FieldText
 pub mod DateDays
 pub mod LineWords
 pub mod Requests
-pub mod Ranges
+pub mod OtherCalendars
+pub mod YearNumbers
 pub mod GregorianDates

@@ -1,15 +1,41 @@
-//! The Gregorian date of a day.
-ghost use Rattle.std.specs.Prelude.{◌≡◌, pos, ◌≤ℤ◌};
-ghost use Rattle.book_model.specs.LineRules.{gregorian_fields_on};
+//! Gregorian dates and their days.
+ghost use Rattle.std.specs.Prelude.{◌≡◌, ◌↔◌, IsTrue, IsSome, IfSome};
+ghost use Rattle.book_model.specs.Calendar.{is_date, fixed_of};
+ghost use Rattle.book_model.specs.Dates as dates;
 
-use book_model::Fields;
-use civil_core::from_fixed;
+use book_model::{FIRST_ANSWERED_DAY, Fields, LAST_ANSWERED_DAY};
+use civil_core::{from_fixed, to_fixed};
+
+/// Whether a day (R.D.) is one of 1 January 1802 to 31 December 2048.
+pub(crate) fn is_in_range(day: i64) -> bool
+    ensures range { result ≡ dates.is_in_range day }
+{
+    FIRST_ANSWERED_DAY <= day && day <= LAST_ANSWERED_DAY
+}
+
+/// The day number (R.D.) of the date of the years 1 to 9999 with these numbers, if the calendar has it.
+fn date_day(year: u32, month: u32, day: u32) -> Option<i64>
+    ensures some { IsSome result ↔ IsTrue (is_date year month day) }
+    ensures day { IfSome result (λ n. n ≡ fixed_of year month day) }
+{
+    let year = i32::try_from(year).ok()?;
+    let month = u8::try_from(month).ok()?;
+    let day = u8::try_from(day).ok()?;
+    to_fixed(year, month, day).ok()
+}
+
+/// The day (R.D.) of a Gregorian date, if the calendar has it.
+pub(crate) fn gregorian_day(date: &Fields) -> Option<i64>
+    ensures some { IsSome result ↔ IsTrue (is_date (dates.field date.now 0) (dates.field date.now 1) (dates.field date.now 2)) }
+    ensures day { IfSome result (λ n. n ≡ dates.gregorian_day date.now) }
+{
+    date_day(date.field(0), date.field(1), date.field(2))
+}
 
 /// The year, month and day of a day number (R.D.), from 1 January 1802 to 31 December 2048.
 pub(crate) fn gregorian_date(day: i64) -> Fields
-    requires from_1802 { pos 657802 ≤ℤ day }
-    requires to_2048 { day ≤ℤ pos 748017 }
-    ensures fields { result ≡ gregorian_fields_on day }
+    requires in_range { IsTrue (dates.is_in_range day) }
+    ensures fields { result ≡ dates.gregorian_fields_on day }
 {
     let date = from_fixed(day).unwrap();
     Fields {

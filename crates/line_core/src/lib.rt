@@ -1,10 +1,10 @@
 //! What a line asks, or the first rule that it breaks, and what its request comes to by the answers of an oracle.
 #![tactic(auto)]
 
-mod day;
+mod dates;
+mod fields;
 mod gregorian;
 mod line;
-mod persian;
 mod result;
 #[cfg(test)]
 mod tests;

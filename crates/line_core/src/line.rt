@@ -2,10 +2,10 @@
 ghost use Rattle.std.specs.Prelude.{◌≡◌, ◌≤◌, ◌↔◌, ◌&&◌, ◌∷◌, [], nat_le, not, length, position, IsTrue, IsSome, IfSome, IfOk, MatchOption};
 ghost use Rattle.std.specs.List.{list_all, position_or_len};
 ghost use Rattle.book_model.specs.Lines as spec;
-ghost use Rattle.book_model.specs.Requests.{request_of, with_words, from_word_of, to_word_of, is_answered as is_answered_of, ranged as ranged_of};
-ghost use Rattle.line_core.specs.Days.{names_day};
+ghost use Rattle.book_model.specs.Requests.{request_of, with_words, is_possible, is_in_reach};
+ghost use Rattle.book_model.specs.Words.{from_word_of, to_word_of};
 
-use crate::day::{date_fields, is_answered};
+use crate::dates::ranged_date;
 use book_model::{FromWord, Request, Rule, ToWord};
 
 /// The longest line, in bytes.
@@ -99,64 +99,16 @@ pub fn three_words<'a>(line: &'a [u8]) -> Option<Words<'a>>
     }
 }
 
-/// The calendar that a word names.
-fn from_word(word: &[u8]) -> Option<FromWord>
-    ensures word { result ≡ from_word_of word.now }
-{
-    if word == b"gregorian".as_slice() {
-        Some(FromWord::Gregorian)
-    } else if word == b"fixed".as_slice() {
-        Some(FromWord::Fixed)
-    } else if word == b"persian".as_slice() {
-        Some(FromWord::Persian)
-    } else {
-        None
-    }
-}
-
-/// What a word asks for.
-fn to_word(word: &[u8]) -> Option<ToWord>
-    ensures word { result ≡ to_word_of word.now }
-{
-    if word == b"gregorian".as_slice() {
-        Some(ToWord::Gregorian)
-    } else if word == b"fixed".as_slice() {
-        Some(ToWord::Fixed)
-    } else if word == b"persian".as_slice() {
-        Some(ToWord::Persian)
-    } else if word == b"dt".as_slice() {
-        Some(ToWord::Dt)
-    } else if word == b"sun".as_slice() {
-        Some(ToWord::Sun)
-    } else {
-        None
-    }
-}
-
-/// The request, where its date is one that is answered.
-fn ranged(request: Request) -> Result<Request, Rule>
-    requires dated { IsTrue (names_day request.from request.date) }
-    ensures ranged { result ≡ ranged_of request }
-    ensures dated { IfOk result (λ r. IsTrue (names_day r.from r.date)) }
-    ensures answered { IfOk result (λ r. IsTrue (is_answered_of r.from r.date)) }
-{
-    if is_answered(request.from, &request.date) {
-        Ok(request)
-    } else {
-        Err(Rule::Range)
-    }
-}
-
 /// What three words ask.
 fn asked(words: Words<'_>) -> Result<Request, Rule>
     ensures asked { result ≡ with_words (from_word_of words.entry.from.now) words.entry.date.now (to_word_of words.entry.to.now) }
-    ensures dated { IfOk result (λ r. IsTrue (names_day r.from r.date)) }
-    ensures answered { IfOk result (λ r. IsTrue (is_answered_of r.from r.date)) }
+    ensures possible { IfOk result (λ r. IsTrue (is_possible r)) }
+    ensures in_reach { IfOk result (λ r. IsTrue (is_in_reach r)) }
 {
-    let from = from_word(words.from).ok_or(Rule::Calendar)?;
-    let to = to_word(words.to).ok_or(Rule::Calendar)?;
-    let date = date_fields(from, words.date).ok_or(Rule::Field)?;
-    ranged(Request { from, date, to })
+    let from = FromWord::named(words.from).ok_or(Rule::Calendar)?;
+    let to = ToWord::named(words.to).ok_or(Rule::Calendar)?;
+    let date = ranged_date(from.calendar(), words.date)?;
+    Ok(Request { from, date, to })
 }
 
 /// What a line asks, or the first rule that it breaks: `Syntax` where it isn't three words of printable bytes with
@@ -164,8 +116,8 @@ fn asked(words: Words<'_>) -> Result<Request, Rule>
 /// have no such date; `Range` for a date that isn't answered, as far as that can be told without any fact.
 pub fn read_line(bytes: &[u8]) -> Result<Request, Rule>
     ensures request { result ≡ request_of bytes.now }
-    ensures dated { IfOk result (λ r. IsTrue (names_day r.from r.date)) }
-    ensures answered { IfOk result (λ r. IsTrue (is_answered_of r.from r.date)) }
+    ensures possible { IfOk result (λ r. IsTrue (is_possible r)) }
+    ensures in_reach { IfOk result (λ r. IsTrue (is_in_reach r)) }
 {
     if !is_readable(bytes) {
         return Err(Rule::Syntax);

@@ -1,8 +1,7 @@
 //! What comes of each line.
 ghost use Rattle.std.specs.Prelude.{◌≡◌, ℕ, List, map, IsTrue, IfOk, OnErr};
 ghost use Rattle.book_model.specs.Outcomes.{IsRightFor, AreRight};
-ghost use Rattle.book_model.specs.Requests.{is_answered};
-ghost use Rattle.line_core.specs.Days.{names_day};
+ghost use Rattle.book_model.specs.Requests.{is_possible, is_in_reach};
 ghost use Rattle.run_core.specs.Outcomes.{line_outcome, IsRightOf, ComesOfStop, HasNoOutcome};
 
 use book_model::{Fact, Request, Resolved, Rule, Site, Undecided};
@@ -39,8 +38,8 @@ fn outcome_of_request<E: Evaluator>(
     evaluator: &E,
     request: &Request,
 ) -> Result<Outcome, AllocError>
-    requires dated { IsTrue (names_day request.now.from request.now.date) }
-    requires in_reach { IsTrue (is_answered request.now.from request.now.date) }
+    requires possible { IsTrue (is_possible request.now) }
+    requires in_reach { IsTrue (is_in_reach request.now) }
     ensures right { IfOk result (λ outcome. IsRightOf request.now (line_outcome outcome)) }
 {
     let mut asking = Asking::new(alloc, evaluator);

@@ -313,6 +313,6 @@ pub cosine_keeps_all : {E : Type 0} (shown : E → Interval) (l : Limits) (r : R
 unfolding Keeps bound_of
 cosine_keeps_all shown l r a x y e k = record { kept = cosine_of_all r.width l (bound_of l r.bounds a) (shown y) (rw e at k.kept) }
 
-pub tangent_keeps : {E : Type 0} (shown : E → Interval) (l : Limits) (r : Reach) (a : Expression) (k : E) → Narrow shown l r (tangent a) k
-unfolding Keeps bound_of IsNarrow
-tangent_keeps shown l r a k = record { kept = tt }
+pub tangent_keeps : {E : Type 0} (shown : E → Interval) (l : Limits) (r : Reach) (a : Expression) (k : E) → Narrow shown l r (divide (sine a) (cosine a)) k → Narrow shown l r (tangent a) k
+unfolding Keeps bound_of
+tangent_keeps shown l r a k h = record { kept = h.kept }

@@ -1,14 +1,16 @@
-use Rattle.std.proofs.Common.{arith, rules, SFits, w64, refl}
-use Rattle.std.proofs.lemmas.Int.{ints, to_z-of_z}
-use Rattle.encl_core.proofs.Divisions.{quotient_encloses}
+use Rattle.std.proofs.Common.{arith}
+use Rattle.std.proofs.lemmas.Int.{ints}
+use Rattle.encl_core.proofs.Ratios.{quotient_none, quotient_of_all, quotient_by_all}
 use Rattle.encl_core.proofs.dividing.div_ends.Goals as goal
 
-pub quotients-requires : goal.quotients-requires
-quotients-requires c = let s = c.if-is_one_sided.ensures refl in record { low = λ e. omega (arith, ints, s); high = λ e. omega (arith, ints, s) }
+pub returns-in_err-x-clause-narrow : goal.returns-in_err-x-clause-narrow
+returns-in_err-x-clause-narrow c = λ w a b h k. quotient_of_all w a b _ (rw c.in_err-x.was at h)
 
-pub returns-then-is_one_sided : goal.returns-then-is_one_sided
-returns-then-is_one_sided c =
-    let fc : SFits w64 c.in_ok-y.y.lo = search rules in
-    let fd : SFits w64 c.in_ok-y.y.hi = search rules in
-    let s = simp to_z-of_z at (c.if-is_one_sided.ensures refl) in
-    record { holds = rw (c.in_ok-x.was, c.in_ok-y.was) (quotient_encloses c.in_ok-x.x.lo c.in_ok-x.x.hi c.in_ok-y.y.lo c.in_ok-y.y.hi _ s c.quotients.ensures.holds) }
+pub returns-in_err-y-clause-narrow : goal.returns-in_err-y-clause-narrow
+returns-in_err-y-clause-narrow c = λ w a b h k. quotient_by_all w a b _ (rw c.in_err-y.was at k)
+
+pub returns-then-y-lt0-clause-narrow : goal.returns-then-y-lt0-clause-narrow
+returns-then-y-lt0-clause-narrow c = λ w a b h k. quotient_none w a b c.in_ok-x.x.lo c.in_ok-y.y.lo c.in_ok-y.y.hi _ _ (λ n. omega (arith, ints, n, c.if-y-gt0.false)) h (rw c.in_ok-y.was at k)
+
+pub returns-clause-narrow : goal.returns-clause-narrow
+returns-clause-narrow c = λ w a b h k. quotient_none w a b c.in_ok-x.x.lo c.in_ok-y.y.lo c.in_ok-y.y.hi _ _ (λ n. omega (arith, ints, n, c.if-y-gt0.false)) h (rw c.in_ok-y.was at k)

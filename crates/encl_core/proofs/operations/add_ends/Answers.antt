@@ -6,11 +6,11 @@ use Rattle.encl_core.proofs.operations.add_ends.Goals as goal
 
 pub returns-clause-holds : goal.returns-clause-holds
 returns-clause-holds c =
-    rw (c.in_ok-x.was, c.in_ok-y.was) (sum_encloses c.in_ok-x.x.lo c.in_ok-x.x.hi c.in_ok-y.y.lo c.in_ok-y.y.hi _ _ _ (omega (arith, ints)) (omega (arith, ints)) c.ends_of.ensures.kept)
+    rw (c.in_ok-x.was, c.in_ok-y.was) (sum_encloses c.in_ok-x.x.lo c.in_ok-x.x.hi c.in_ok-y.y.lo c.in_ok-y.y.hi _ _ _ (omega (arith, ints)) (omega (arith, ints)) c.sums.ensures.kept)
 
 pub returns-clause-narrow : goal.returns-clause-narrow
 returns-clause-narrow c = λ w a b h k.
-    sum_narrow w a b c.in_ok-x.x.lo c.in_ok-x.x.hi c.in_ok-y.y.lo c.in_ok-y.y.hi _ _ _ (omega (arith, ints)) (omega (arith, ints)) c.ends_of.ensures.kept (rw c.in_ok-x.was at h) (rw c.in_ok-y.was at k)
+    sum_narrow w a b c.in_ok-x.x.lo c.in_ok-x.x.hi c.in_ok-y.y.lo c.in_ok-y.y.hi _ _ _ (omega (arith, ints)) (omega (arith, ints)) c.sums.ensures.kept (rw c.in_ok-x.was at h) (rw c.in_ok-y.was at k)
 
 pub returns-in_err-x-clause-narrow : goal.returns-in_err-x-clause-narrow
 returns-in_err-x-clause-narrow c = λ w a b h k. sum_first w a b _ (rw c.in_err-x.was at h)
@@ -27,4 +27,4 @@ returns-in_err-y-clause-best c = rw (c.in_ok-x.was, c.in_err-y.was) (sum_everyth
 pub returns-clause-best : goal.returns-clause-best
 returns-clause-best c =
     rw (c.in_ok-x.was, c.in_ok-y.was)
-    (sum_best c.in_ok-x.x.lo c.in_ok-x.x.hi c.in_ok-y.y.lo c.in_ok-y.y.hi _ _ _ c.in_ok-x.x.ordered c.in_ok-y.y.ordered (omega (arith, ints)) (omega (arith, ints)) c.ends_of.ensures.kept)
+    (sum_best c.in_ok-x.x.lo c.in_ok-x.x.hi c.in_ok-y.y.lo c.in_ok-y.y.hi _ _ _ c.in_ok-x.x.ordered c.in_ok-y.y.ordered (omega (arith, ints)) (omega (arith, ints)) c.sums.ensures.kept)

@@ -1,4 +1,4 @@
-use Rattle.std.proofs.Common.{◌≡◌, rules, SFits, w64}
+use Rattle.std.proofs.Common.{refl, rules, SFits, w64}
 use Rattle.std.specs.Int.{w128}
 use Rattle.std.proofs.lemmas.Int.{to_z-of_z}
 use Rattle.book_model.specs.Fractions.{fraction_of}
@@ -14,19 +14,15 @@ pub returns-in_err-p-clause-narrow : goal.returns-in_err-p-clause-narrow
 returns-in_err-p-clause-narrow c = λ w a h.
     let fn : SFits w128 c.num-factor.result = search rules in
     let fx : SFits w64 c.in_ok-x.x.lo = search rules in
-    let ff : SFits w128 c.from.result = search rules in
-    let e : c.from.result ≡ c.in_ok-x.x.lo = simp to_z-of_z at c.from.ensures in
-    let n = simp e at (simp to_z-of_z at c.in_err-p.ensures) in
-    rw c.from_residual-in_err-p.ensures (scaled_overflow w a (fraction_of c.args.by) c.in_ok-x.x.lo c.in_ok-x.x.hi c.num-factor.result c.num-factor.ensures (λ s t. n s) (rw c.in_ok-x.was at h))
+    let n = simp to_z-of_z at c.in_err-p.ensures.none in
+    rw c.from_residual-in_err-p.ensures (scaled_overflow w a (fraction_of c.args.by) c.in_ok-x.x.lo c.in_ok-x.x.hi c.num-factor.result c.num-factor.ensures (λ s t. n refl s) (rw c.in_ok-x.was at h))
 
 pub returns-in_err-q-clause-narrow : goal.returns-in_err-q-clause-narrow
 returns-in_err-q-clause-narrow c = λ w a h.
     let fn : SFits w128 c.num-factor.result = search rules in
     let fx : SFits w64 c.in_ok-x.x.hi = search rules in
-    let ff : SFits w128 c.from-2.result = search rules in
-    let e : c.from-2.result ≡ c.in_ok-x.x.hi = simp to_z-of_z at c.from-2.ensures in
-    let n = simp e at (simp to_z-of_z at c.in_err-q.ensures) in
-    rw c.from_residual-in_err-q.ensures (scaled_overflow w a (fraction_of c.args.by) c.in_ok-x.x.lo c.in_ok-x.x.hi c.num-factor.result c.num-factor.ensures (λ s t. n t) (rw c.in_ok-x.was at h))
+    let n = simp to_z-of_z at c.in_err-q.ensures.none in
+    rw c.from_residual-in_err-q.ensures (scaled_overflow w a (fraction_of c.args.by) c.in_ok-x.x.lo c.in_ok-x.x.hi c.num-factor.result c.num-factor.ensures (λ s t. n refl t) (rw c.in_ok-x.was at h))
 
 pub ends_of-requires : goal.ends_of-requires
 ends_of-requires c =
@@ -51,16 +47,12 @@ scaled c =
     let fh : SFits w128 c.ceil_div.result = search rules in
     let fx : SFits w64 c.in_ok-x.x.lo = search rules in
     let fy : SFits w64 c.in_ok-x.x.hi = search rules in
-    let ff : SFits w128 c.from.result = search rules in
-    let gg : SFits w128 c.from-2.result = search rules in
-    let e : c.from.result ≡ c.in_ok-x.x.lo = simp to_z-of_z at c.from.ensures in
-    let e' : c.from-2.result ≡ c.in_ok-x.x.hi = simp to_z-of_z at c.from-2.ensures in
-    let p = simp e at (simp to_z-of_z at c.in_ok-p.ensures) in
-    let q = simp e' at (simp to_z-of_z at c.in_ok-q.ensures) in
+    let p = simp to_z-of_z at c.in_ok-p.ensures.value in
+    let q = simp to_z-of_z at c.in_ok-q.ensures.value in
     let s = simp to_z-of_z at c.sorted-least.ensures in
     let i = simp to_z-of_z at c.floor_div.ensures in
     let j = simp to_z-of_z at c.ceil_div.ensures in
-    record { numerator = c.num-factor.ensures; first = p.1; second = q.1; denominator = c.denominator-below.ensures.value; order = s; down = i; up = j }
+    record { numerator = c.num-factor.ensures; first = p; second = q; denominator = c.denominator-below.ensures.value; order = s; down = i; up = j }
 
 pub returns-clause-holds : goal.returns-clause-holds
 returns-clause-holds c =
@@ -90,16 +82,12 @@ pub returns-in_err-p-clause-best : goal.returns-in_err-p-clause-best
 returns-in_err-p-clause-best c = λ l.
     let fn : SFits w128 c.num-factor.result = search rules in
     let fx : SFits w64 c.in_ok-x.x.lo = search rules in
-    let ff : SFits w128 c.from.result = search rules in
-    let e : c.from.result ≡ c.in_ok-x.x.lo = simp to_z-of_z at c.from.ensures in
-    let n = simp (e, c.num-factor.ensures) at (simp to_z-of_z at c.in_err-p.ensures) in
-    absurd (n (product_fits _ _ fx l))
+    let n = simp c.num-factor.ensures at (simp to_z-of_z at c.in_err-p.ensures.none) in
+    absurd (n refl (product_fits _ _ fx l))
 
 pub returns-in_err-q-clause-best : goal.returns-in_err-q-clause-best
 returns-in_err-q-clause-best c = λ l.
     let fn : SFits w128 c.num-factor.result = search rules in
     let fx : SFits w64 c.in_ok-x.x.hi = search rules in
-    let ff : SFits w128 c.from-2.result = search rules in
-    let e : c.from-2.result ≡ c.in_ok-x.x.hi = simp to_z-of_z at c.from-2.ensures in
-    let n = simp (e, c.num-factor.ensures) at (simp to_z-of_z at c.in_err-q.ensures) in
-    absurd (n (product_fits _ _ fx l))
+    let n = simp c.num-factor.ensures at (simp to_z-of_z at c.in_err-q.ensures.none) in
+    absurd (n refl (product_fits _ _ fx l))

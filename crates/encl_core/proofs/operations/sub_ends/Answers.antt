@@ -11,20 +11,20 @@ returns-in_err-x-clause-best c = rw c.in_err-x.was (difference_first _ _)
 pub returns-in_err-y-clause-best : goal.returns-in_err-y-clause-best
 returns-in_err-y-clause-best c = rw (c.in_ok-x.was, c.in_err-y.was) (difference_second _ _ _)
 
-pub ends_of-requires : goal.ends_of-requires
-ends_of-requires c = omega (arith, ints, c.in_ok-x.x.ordered, c.in_ok-y.y.ordered)
+pub differences-requires : goal.differences-requires
+differences-requires c = omega (arith, ints, c.in_ok-x.x.ordered, c.in_ok-y.y.ordered)
 
 pub returns-clause-holds : goal.returns-clause-holds
-returns-clause-holds c = rw (c.in_ok-x.was, c.in_ok-y.was) (difference_encloses c.in_ok-x.x.lo c.in_ok-x.x.hi c.in_ok-y.y.lo c.in_ok-y.y.hi _ _ _ (omega (arith, ints)) (omega (arith, ints)) c.ends_of.ensures.kept)
+returns-clause-holds c = rw (c.in_ok-x.was, c.in_ok-y.was) (difference_encloses c.in_ok-x.x.lo c.in_ok-x.x.hi c.in_ok-y.y.lo c.in_ok-y.y.hi _ _ _ (omega (arith, ints)) (omega (arith, ints)) c.differences.ensures.kept)
 
 pub returns-clause-best : goal.returns-clause-best
 returns-clause-best c =
     rw (c.in_ok-x.was, c.in_ok-y.was)
-    (difference_best c.in_ok-x.x.lo c.in_ok-x.x.hi c.in_ok-y.y.lo c.in_ok-y.y.hi _ _ _ c.in_ok-x.x.ordered c.in_ok-y.y.ordered (omega (arith, ints)) (omega (arith, ints)) c.ends_of.ensures.kept)
+    (difference_best c.in_ok-x.x.lo c.in_ok-x.x.hi c.in_ok-y.y.lo c.in_ok-y.y.hi _ _ _ c.in_ok-x.x.ordered c.in_ok-y.y.ordered (omega (arith, ints)) (omega (arith, ints)) c.differences.ensures.kept)
 
 pub returns-clause-narrow : goal.returns-clause-narrow
 returns-clause-narrow c = λ w a b h k.
-    difference_narrow w a b c.in_ok-x.x.lo c.in_ok-x.x.hi c.in_ok-y.y.lo c.in_ok-y.y.hi _ _ _ (omega (arith, ints)) (omega (arith, ints)) c.ends_of.ensures.kept (rw c.in_ok-x.was at h) (rw c.in_ok-y.was at k)
+    difference_narrow w a b c.in_ok-x.x.lo c.in_ok-x.x.hi c.in_ok-y.y.lo c.in_ok-y.y.hi _ _ _ (omega (arith, ints)) (omega (arith, ints)) c.differences.ensures.kept (rw c.in_ok-x.was at h) (rw c.in_ok-y.was at k)
 
 pub returns-in_err-x-clause-narrow : goal.returns-in_err-x-clause-narrow
 returns-in_err-x-clause-narrow c = λ w a b h k. difference_of_all w a b _ (rw c.in_err-x.was at h)

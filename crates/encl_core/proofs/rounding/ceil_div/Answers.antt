@@ -1,24 +1,26 @@
-use Rattle.std.proofs.Common.{rules, arith, SFits, pos, ◌-ℤ◌}
+use Rattle.std.proofs.Common.{◌≡◌, rules, arith, refl, sym, ◌∙◌, ap, SFits, w64, int_div, pos, ◌+ℤ◌, ◌-ℤ◌, ◌*ℤ◌}
 use Rattle.std.specs.Int.{w128}
-use Rattle.std.proofs.lemmas.Int.{ints, to_z-of_z}
-use Rattle.encl_core.proofs.Quotients.{quotient_down, quotient_up, ceil_of_positive, room}
+use Rattle.std.proofs.lemmas.Int.{ints, by_lt_z, to_z-of_z}
+use Rattle.encl_core.specs.Rounding.{IsFloor}
+use Rattle.encl_core.proofs.Stepping.{next_ceiling, next_fits, least_ceiling}
 use Rattle.encl_core.proofs.rounding.ceil_div.Goals as goal
 
-pub returns-then-n-gt0 : goal.returns-then-n-gt0
-returns-then-n-gt0 c =
+pub returns-in-Some : goal.returns-in-Some
+returns-in-Some c =
     let fn = c.ranges.n in
     let fd = c.ranges.d in
-    let fq : SFits w128 c.whole_quotient.result = search rules in
-    let fm : SFits w128 (c.args.n -ℤ pos 1) = omega (arith, ints) in
-    let e = simp to_z-of_z at c.whole_quotient.ensures.value in
-    let f = rw (← e) at (quotient_down (c.args.n -ℤ pos 1) c.args.d (omega (arith, ints, c.if-n-gt0.true)) c.requires) in
-    let r = room c.whole_quotient.result (c.args.n -ℤ pos 1) c.args.d f (omega (arith, ints, c.if-n-gt0.true)) c.requires in
-    ceil_of_positive c.whole_quotient.result _ c.args.n c.args.d (omega (arith, ints, r)) f
+    let fb : SFits w128 c.in-Some.before = search rules in
+    let b = simp to_z-of_z at c.in-Some.ensures in
+    let fq : SFits w128 c.floor_div.result = search rules in
+    let f = simp b.1 at (simp to_z-of_z at c.floor_div.ensures) in
+    let fm = next_fits c.floor_div.result c.args.n c.args.d fn fq c.requires f in
+    simp to_z-of_z (next_ceiling c.args.n c.args.d c.floor_div.result f)
 
-pub returns-else-n-gt0 : goal.returns-else-n-gt0
-returns-else-n-gt0 c =
+pub returns-in-None : goal.returns-in-None
+returns-in-None c =
     let fn = c.ranges.n in
     let fd = c.ranges.d in
-    let fq : SFits w128 c.whole_quotient-else-n-gt0.result = search rules in
-    let e = simp to_z-of_z at c.whole_quotient-else-n-gt0.ensures.value in
-    simp to_z-of_z (rw e (quotient_up c.args.n c.args.d (omega (arith, ints, c.if-n-gt0.false)) c.requires))
+    let n = simp to_z-of_z at c.in-None.ensures in
+    let fq : SFits w128 c.whole_quotient.result = search rules in
+    let v = simp to_z-of_z at c.whole_quotient.ensures.value in
+    simp to_z-of_z (rw v (least_ceiling c.args.n c.args.d c.requires (by_lt_z (pos 0) c.args.n (λ l. absurd (n (omega (arith, ints, l)))) (λ l. l))))

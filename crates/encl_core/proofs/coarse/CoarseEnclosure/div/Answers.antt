@@ -3,4 +3,4 @@ use Rattle.encl_core.proofs.Following.{within_divide, narrow_divide}
 use Rattle.encl_core.proofs.coarse.CoarseEnclosure.div.Goals as goal
 
 pub returns : goal.returns
-returns c = record { holds = λ w x y. within_divide shown_coarse w x y _ _ _ c.div_ends.ensures.holds; narrow = λ r x y h k. narrow_divide shown_coarse _ r x y _ }
+returns c = record { holds = λ w x y. within_divide shown_coarse w x y _ _ _ c.div_ends.ensures.holds; narrow = λ r x y. narrow_divide shown_coarse r x y _ _ _ c.div_ends.ensures.narrow }

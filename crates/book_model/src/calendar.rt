@@ -1,0 +1,61 @@
+//! The calendars: the fields of a date and the years that are answered. Each calendar stands here once; the definitions
+//! read the table too.
+ghost use Rattle.std.specs.Prelude.{◌≡◌};
+
+/// The first day that a line may name: 1 January 1802 (R.D.).
+pub const FIRST_ANSWERED_DAY: i64 = 657_802;
+
+/// The last day that a line may name: 31 December 2048 (R.D.).
+pub const LAST_ANSWERED_DAY: i64 = 748_017;
+
+/// A calendar of dates: the Gregorian calendar, the day number of the book (R.D.), or the Persian calendar.
+#[derive(Clone, Copy, Debug, PartialEq, Eq)]
+pub enum Calendar {
+    Gregorian,
+    Fixed,
+    Persian,
+}
+
+/// What differs from calendar to calendar. The number of a date's year is the offset and the sum of the fields, each
+/// times its weight.
+#[derive(Clone, Copy, Debug, PartialEq, Eq)]
+pub struct CalendarRow {
+    pub calendar: Calendar,
+    /// How many fields a date has.
+    pub count: u8,
+    /// The least and the greatest number of each field; those that a date hasn't are 0.
+    pub limits: [(u32, u32); 5],
+    /// What each field counts in the number of the year.
+    pub weights: [i32; 5],
+    /// The number of the year, less the weighed fields.
+    pub offset: i32,
+    /// The first and the last number of a year that is answered.
+    pub years: (i32, i32),
+    /// Whether a date has to be its day's own date.
+    pub is_confirmed: bool,
+    /// Whether a year is written with four digits, and a month and a day with two.
+    pub is_padded: bool,
+}
+
+/// The calendars, in the order of their values. The days of Gregorian dates and day numbers are known without any fact
+/// and tell which of them are answered.
+#[rattlefmt::skip]
+pub const CALENDARS: [CalendarRow; 3] = [
+    CalendarRow { calendar: Calendar::Gregorian, count: 3, limits: [(1, 9999), (1, 12), (1, 31), (0, 0), (0, 0)],
+        weights: [1, 0, 0, 0, 0], offset: 0, years: (1, 9999), is_confirmed: false, is_padded: true },
+    CalendarRow { calendar: Calendar::Fixed, count: 1, limits: [(0, 9_999_999), (0, 0), (0, 0), (0, 0), (0, 0)],
+        weights: [0, 0, 0, 0, 0], offset: 0, years: (0, 0), is_confirmed: false, is_padded: false },
+    CalendarRow { calendar: Calendar::Persian, count: 3, limits: [(1, 9999), (1, 12), (1, 31), (0, 0), (0, 0)],
+        weights: [1, 0, 0, 0, 0], offset: 0, years: (1180, 1427), is_confirmed: true, is_padded: false },
+];
+
+impl Calendar {
+    ghost use Rattle.book_model.specs.Dates.{row_of};
+
+    /// What the calendar differs in.
+    pub fn row(self) -> CalendarRow
+        ensures row { result ≡ row_of self }
+    {
+        CALENDARS[self as usize]
+    }
+}

@@ -1,0 +1,86 @@
+//! The words of a line of input: what stands before its date and what stands after it. Each word stands here once; the
+//! definitions read the tables too.
+ghost use Rattle.std.specs.Prelude.{◌≡◌};
+
+use crate::names::first_row_named;
+use crate::{Calendar, Kind, Place};
+
+/// A word for the calendar of a line's date: a Gregorian date, the day number of the book (R.D.), or a Persian date.
+#[derive(Clone, Copy, Debug, PartialEq, Eq)]
+pub enum FromWord {
+    Gregorian,
+    Fixed,
+    Persian,
+}
+
+/// A word for what a line asks: the Gregorian date, the day number (R.D.), the Persian date, the dynamical time
+/// correction, or the longitude of the sun.
+#[derive(Clone, Copy, Debug, PartialEq, Eq)]
+pub enum ToWord {
+    Gregorian,
+    Fixed,
+    Persian,
+    Dt,
+    Sun,
+}
+
+/// What is shown of a day: its date in a calendar, or the value of its fact of this kind at this place.
+#[derive(Clone, Copy, Debug, PartialEq, Eq)]
+pub enum Shown {
+    Date(Calendar),
+    Value(Kind, Place),
+}
+
+/// The words that stand before a date, in the order of their values, with the calendar of the date.
+#[rattlefmt::skip]
+pub const FROM_WORDS: [(FromWord, &str, Calendar); 3] = [
+    (FromWord::Gregorian, "gregorian", Calendar::Gregorian),
+    (FromWord::Fixed, "fixed", Calendar::Fixed),
+    (FromWord::Persian, "persian", Calendar::Persian),
+];
+
+/// The words for what a line asks, in the order of their values, with what they show of a day.
+#[rattlefmt::skip]
+pub const TO_WORDS: [(ToWord, &str, Shown); 5] = [
+    (ToWord::Gregorian, "gregorian", Shown::Date(Calendar::Gregorian)),
+    (ToWord::Fixed, "fixed", Shown::Date(Calendar::Fixed)),
+    (ToWord::Persian, "persian", Shown::Date(Calendar::Persian)),
+    (ToWord::Dt, "dt", Shown::Value(Kind::Dt, Place::None)),
+    (ToWord::Sun, "sun", Shown::Value(Kind::Sun, Place::None)),
+];
+
+impl FromWord {
+    ghost use Rattle.book_model.specs.Words.{from_word_of, calendar_of};
+
+    /// What a word before a date stands for, if it is one.
+    pub fn named(word: &[u8]) -> Option<FromWord>
+        ensures word { result ≡ from_word_of word.now }
+    {
+        first_row_named(&FROM_WORDS, word)
+    }
+
+    /// The calendar of the date that follows the word.
+    pub fn calendar(self) -> Calendar
+        ensures calendar { result ≡ calendar_of self }
+    {
+        FROM_WORDS[self as usize].2
+    }
+}
+
+impl ToWord {
+    ghost use Rattle.book_model.specs.Words.{to_word_of, shown_by};
+
+    /// What a word after a date asks for, if it is one.
+    pub fn named(word: &[u8]) -> Option<ToWord>
+        ensures word { result ≡ to_word_of word.now }
+    {
+        first_row_named(&TO_WORDS, word)
+    }
+
+    /// What the word shows of a day.
+    pub fn shown(self) -> Shown
+        ensures shown { result ≡ shown_by self }
+    {
+        TO_WORDS[self as usize].2
+    }
+}

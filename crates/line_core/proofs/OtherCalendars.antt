@@ -1,0 +1,28 @@
+-- Calendars whose days are known by facts alone.
+use Rattle.std.proofs.Common.{◌≡◌, Bool, true, false, refl}
+use Rattle.std.specs.Prelude.{◌&&◌, ◌==◌, IsTrue}
+use Rattle.book_model.specs.declared.calendar.Calendar.{Calendar}
+use Rattle.book_model.specs.declared.calendar.Calendar.TheVariants.{Gregorian, Fixed}
+use Rattle.book_model.specs.declared.request.Fields.{Fields}
+use Rattle.book_model.specs.Calendar.{is_date}
+use Rattle.book_model.specs.Dates.{may_have, row_of, field, are_within, is_in_month, has_day_in_range}
+
+-- nothing is said of their months: the last line is checked for each calendar by itself
+pub other_month : (c : Calendar) (f : Fields) → (c ≡ Gregorian → ⊥) → is_in_month c f ≡ true
+other_month Gregorian f other = absurd (other refl)
+other_month _ f other = refl
+
+-- nor of their days
+pub other_day : (c : Calendar) (f : Fields) → (c ≡ Gregorian → ⊥) → (c ≡ Fixed → ⊥) → true ≡ has_day_in_range c f
+other_day Gregorian f other and_other = absurd (other refl)
+other_day Fixed f other and_other = absurd (and_other refl)
+other_day _ f other and_other = refl
+
+both : (a b : Bool) → IsTrue (a && b) → IsTrue b
+both true b h = h
+both false b h = cc
+
+-- the Gregorian calendar has each date that it may have
+pub gregorian_has : (f : Fields) → IsTrue (may_have Gregorian f) → IsTrue (is_date (field f 0) (field f 1) (field f 2))
+unfolding may_have
+gregorian_has f h = both ((f.count == (row_of Gregorian).count) && are_within (row_of Gregorian) f) (is_in_month Gregorian f) h

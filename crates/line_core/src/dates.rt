@@ -1,0 +1,124 @@
+//! Dates of all calendars: which may be asked, the day that a date names, and the date of a day.
+ghost use Rattle.std.specs.Prelude.{◌≡◌, IsTrue, IfOk, MatchOption, true, false};
+ghost use Rattle.book_model.specs.Dates as spec;
+ghost use Rattle.book_model.specs.Inquiries.{to_32_bits as nearest};
+ghost use Rattle.book_model.specs.Requests.{ranged, fields_of};
+ghost use Rattle.oracle_core.specs.Inquiring.{Inquires};
+
+use crate::fields::{are_within, has_year, spelled_fields};
+use crate::gregorian::{gregorian_date, gregorian_day, is_in_range};
+use book_model::{Calendar, Fields, Rule};
+use oracle_core::{Oracle, Stop};
+
+/// The day (R.D.) that a day number names.
+fn fixed_day(date: &Fields) -> i64
+    ensures day { result ≡ spec.fixed_day date.now }
+{
+    i64::from(date.field(0))
+}
+
+/// Whether the day of a date is one that is answered, where it is known without any fact; `None` where the month of the
+/// date hasn't this day.
+fn has_day_in_range(calendar: Calendar, date: &Fields) -> Option<bool>
+    ensures day { MatchOption result (spec.is_in_month calendar date.now ≡ false) (λ near. (spec.is_in_month calendar date.now ≡ true) × (near ≡ spec.has_day_in_range calendar date.now)) }
+{
+    match calendar {
+        Calendar::Gregorian => Some(is_in_range(gregorian_day(date)?)),
+        Calendar::Fixed => Some(is_in_range(fixed_day(date))),
+        _ => Some(true),
+    }
+}
+
+/// The date of a calendar, where it is one that is answered as far as that can be told without any fact: `Field` where
+/// the calendar can have no such date, `Range` where it is out of range.
+#[tactic(auto, unfolding(book_model::specs::Dates::may_have, book_model::specs::Dates::is_answered))]
+pub(crate) fn ranged_date(calendar: Calendar, date: &[u8]) -> Result<Fields, Rule>
+    ensures date { result ≡ ranged calendar (fields_of calendar date.now) }
+    ensures possible { IfOk result (λ f. IsTrue (spec.may_have calendar f)) }
+    ensures in_reach { IfOk result (λ f. IsTrue (spec.is_answered calendar f)) }
+{
+    let row = calendar.row();
+    let fields = spelled_fields(date).ok_or(Rule::Field)?;
+    if fields.count != row.count || !are_within(&row, &fields) {
+        return Err(Rule::Field);
+    }
+    let is_near = has_day_in_range(calendar, &fields).ok_or(Rule::Field)?;
+    if is_near && has_year(&row, &fields) {
+        Ok(fields)
+    } else {
+        Err(Rule::Range)
+    }
+}
+
+/// The nearest number of 32 bits.
+fn to_32_bits(value: i64) -> i32
+    ensures { result ≡ nearest value }
+{
+    if value <= -2_147_483_648 {
+        i32::MIN
+    } else if value >= 2_147_483_647 {
+        i32::MAX
+    } else {
+        value as i32
+    }
+}
+
+/// A number as the only field of a date or of a result.
+pub(crate) fn one_field(value: i64) -> Fields
+    ensures { result ≡ spec.one_field value }
+{
+    Fields {
+        count: 1,
+        values: [to_32_bits(value), 0, 0, 0, 0],
+    }
+}
+
+/// Whether two dates have the same fields.
+pub(crate) fn have_same_fields(date: &Fields, other: &Fields) -> bool
+    ensures same { result ≡ spec.are_same_fields date.now other.now }
+{
+    date.count == other.count && date.values == other.values
+}
+
+/// The day (R.D.) of a Gregorian date that the calendar has.
+fn day_of_gregorian(date: &Fields) -> i64
+    requires possible { IsTrue (spec.may_have Calendar.Gregorian date.now) }
+    ensures day { result ≡ spec.gregorian_day date.now }
+{
+    gregorian_day(date).unwrap()
+}
+
+/// The day (R.D.) that a date names. It stops where the oracle stops.
+#[tactic(auto, using(oracle_core::proofs::Inquiring::asking))]
+pub(crate) fn named_day<O: Oracle>(
+    oracle: &mut O,
+    calendar: Calendar,
+    date: &Fields,
+) -> Result<i64, Stop>
+    requires possible { IsTrue (spec.may_have calendar date.now) }
+    requires in_reach { IsTrue (spec.is_answered calendar date.now) }
+    ensures comes { Inquires O.meaning (spec.day_named calendar date.now) (O.state oracle.old) (O.state oracle.new) result }
+{
+    match calendar {
+        Calendar::Gregorian => Ok(day_of_gregorian(date)),
+        Calendar::Fixed => Ok(fixed_day(date)),
+        Calendar::Persian => persian_cal::named_day(oracle, date),
+    }
+}
+
+/// The date of a day (R.D.), from 1 January 1802 to 31 December 2048. It stops where the oracle stops.
+#[tactic(auto, using(oracle_core::proofs::Inquiring::asking))]
+pub(crate) fn date_on<O: Oracle>(
+    oracle: &mut O,
+    calendar: Calendar,
+    day: i64,
+) -> Result<Fields, Stop>
+    requires in_range { IsTrue (spec.is_in_range day) }
+    ensures comes { Inquires O.meaning (spec.date_on calendar day) (O.state oracle.old) (O.state oracle.new) result }
+{
+    match calendar {
+        Calendar::Gregorian => Ok(gregorian_date(day)),
+        Calendar::Fixed => Ok(one_field(day)),
+        Calendar::Persian => persian_cal::date_on(oracle, day),
+    }
+}
