@@ -83,6 +83,23 @@ fn new_years_of_persia_are_those_of_the_reference(rt: HostRuntime) -> Result<(),
 }
 
 #[test]
+fn new_moons_are_those_of_the_reference(rt: HostRuntime) -> Result<(), Fail> {
+    let staged = Staged::new();
+    for (kind, day, new_moon) in [
+        (Kind::NewMoonFrom, 738_877, 738_896),
+        (Kind::NewMoonBefore, 738_927, 738_926),
+        (Kind::NewMoonBefore, 739_242, 739_221),
+    ] {
+        let fact = Fact::new(kind, Place::Beijing, day).ok_or("no fact")?;
+        assert_eq!(rt; staged.eval(fact), Answer::Value(new_moon), "day {day}");
+        assert_eq!(rt; Fact::new(kind, Place::None, day), None, "day {day}");
+    }
+    let fact = Fact::new(Kind::NewMoonBefore, Place::Beijing, 657_252).ok_or("no fact")?;
+    assert_eq!(rt; staged.eval(fact), Answer::Void(Site::Year));
+    Ok(())
+}
+
+#[test]
 fn other_days_are_void_at_the_year(rt: HostRuntime) -> Result<(), Fail> {
     let staged = Staged::new();
     for day in [-40_000_000, 0, 657_252, 748_383, 40_000_000] {

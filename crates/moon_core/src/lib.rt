@@ -10,6 +10,8 @@
 mod angles;
 mod longitude;
 mod phases;
+#[cfg(test)]
+mod tests;
 mod walks;
 
 pub use longitude::moon;

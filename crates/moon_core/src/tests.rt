@@ -1,0 +1,149 @@
+//! What no clause says: values from an independent implementation of the formulas, and how narrow the answers are.
+use crate::{moon, moon_before, moon_from, phase};
+use book_model::{Fail as FormulaFail, Frac, Site};
+use encl_core::{Coarse, Enclosure, Trail};
+use std::test::Fail;
+
+/// A unit of `Coarse`, which counts 2⁻⁵⁶.
+const UNIT: i128 = 1_048_576;
+
+/// The greatest widths of a longitude or a phase, in degrees, and of a new moon, in days, each in units.
+const WIDEST_ANGLE: i128 = 620_000;
+
+const WIDEST_MOMENT: i128 = 120;
+
+/// Whether an enclosure holds a number, given as its floor at 2⁻⁵⁶, and is at most so many units wide.
+fn is_near(found: Result<Coarse, FormulaFail>, value: i128, most: i128) -> bool {
+    let Ok(found) = found else {
+        return false;
+    };
+    let Some(span) = found.span() else {
+        return false;
+    };
+    if span.lo > value || value > span.hi {
+        return false;
+    }
+    match span.hi.checked_sub(span.lo) {
+        Some(width) => width / UNIT <= most,
+        None => false,
+    }
+}
+
+/// A moment that counts quarters of a day (R.D.).
+fn quarters(number: i128) -> Result<Coarse, Fail> {
+    Ok(Coarse::from_frac(Frac::new(number, 4).ok_or("a denominator of 0")?))
+}
+
+#[test]
+fn longitudes_and_phases_are_those_of_the_reference(rt: HostRuntime) -> Result<(), Fail> {
+    for (moment, longitude, degrees) in [
+        (
+            2_631_208,
+            16_872_735_075_328_964_686,
+            22_641_921_557_064_120_285,
+        ),
+        (
+            2_640_001,
+            3_078_177_995_868_983_234,
+            8_348_113_502_901_443_749,
+        ),
+        (
+            2_680_494,
+            16_979_243_525_761_718_017,
+            3_816_857_154_860_324_160,
+        ),
+        (
+            2_772_000,
+            25_234_734_752_139_658_975,
+            21_332_645_066_190_975_967,
+        ),
+        (
+            2_800_007,
+            6_262_683_828_641_806_531,
+            24_018_421_358_847_570_751,
+        ),
+        (
+            2_860_000,
+            4_313_556_125_897_577_110,
+            20_461_123_759_043_600_798,
+        ),
+        (
+            2_901_488,
+            21_073_525_403_330_145_979,
+            895_915_742_935_461_355,
+        ),
+        (
+            2_920_482,
+            16_092_176_402_948_774_134,
+            21_830_188_118_428_545_360,
+        ),
+        (
+            2_955_705,
+            23_427_346_421_281_255_798,
+            298_395_688_200_984_404,
+        ),
+        (
+            2_992_068,
+            16_083_778_521_643_813_578,
+            21_850_260_083_543_380_686,
+        ),
+    ] {
+        let mut trail = Trail::new();
+        let found = moon(quarters(moment)?, &mut trail);
+        assert!(rt;
+            is_near(found, longitude, WIDEST_ANGLE),
+            "the moon at {moment} / 4"
+        );
+        assert_eq!(rt; trail.count(), 2);
+        let mut trail = Trail::new();
+        let found = phase(quarters(moment)?, &mut trail);
+        assert!(rt;
+            is_near(found, degrees, WIDEST_ANGLE),
+            "the phase at {moment} / 4"
+        );
+        assert_eq!(rt; trail.count(), 10);
+    }
+    Ok(())
+}
+
+#[test]
+fn new_moons_about_a_moment_are_those_of_the_reference(rt: HostRuntime) -> Result<(), Fail> {
+    for (moment, before, from) in [
+        (
+            2_631_208,
+            47_397_747_358_441_379_810_681,
+            47_399_870_339_997_265_783_386,
+        ),
+        (
+            2_772_000,
+            49_934_178_318_438_288_015_981,
+            49_936_311_907_470_498_807_363,
+        ),
+        (
+            2_955_705,
+            53_245_226_681_151_288_226_603,
+            53_247_346_439_582_435_677_964,
+        ),
+        (
+            2_992_068,
+            53_898_478_358_527_885_164_620,
+            53_900_600_765_699_913_366_311,
+        ),
+    ] {
+        let found = moon_before(quarters(moment)?, &mut Trail::new());
+        assert!(rt;
+            is_near(found, before, WIDEST_MOMENT),
+            "before {moment} / 4"
+        );
+        let found = moon_from(quarters(moment)?, &mut Trail::new());
+        assert!(rt; is_near(found, from, WIDEST_MOMENT), "from {moment} / 4");
+    }
+    Ok(())
+}
+
+#[test]
+fn a_moment_of_a_year_without_a_correction_is_void(rt: HostRuntime) -> Result<(), Fail> {
+    let found = phase(quarters(4_000_000)?, &mut Trail::new());
+    assert!(rt; matches!(found, Err(FormulaFail::Void(Site::Year))));
+    Ok(())
+}
