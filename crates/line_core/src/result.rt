@@ -1,6 +1,5 @@
 //! What a request comes to.
 ghost use Rattle.std.specs.Prelude.{◌≡◌, ◌≤ℤ◌, pos, negsuc, IsTrue};
-ghost use Rattle.book_model.specs.Inquiries.{to_32_bits as nearest};
 ghost use Rattle.book_model.specs.LineRules.{dt_fact, sun_fact, one_field as one_field_of, are_same_fields, confirmed, day_named, persian_shown, result_on, result_within, result_of_day, rule_of, value_shown};
 ghost use Rattle.book_model.specs.Requests.{is_in_range as is_in_range_of, is_answered};
 ghost use Rattle.line_core.specs.Days.{names_day};
@@ -10,6 +9,7 @@ use crate::day::{fixed_day, gregorian_day, is_in_range};
 use crate::gregorian::gregorian_date;
 use crate::persian::{named_persian_day, persian_fields_on};
 use book_model::{Fact, Fields, FromWord, Kind, Place, Request, Resolved, ToWord};
+use calendar_math::to_32_bits;
 use oracle_core::{Oracle, Stop};
 
 /// The fact of the dynamical time correction on a day (R.D.).
@@ -28,19 +28,6 @@ fn sun_fact_on(day: i64) -> Fact
     ensures { result ≡ sun_fact day }
 {
     Fact::new(Kind::Sun, Place::None, day).unwrap()
-}
-
-/// The nearest number of 32 bits.
-fn to_32_bits(value: i64) -> i32
-    ensures { result ≡ nearest value }
-{
-    if value <= -2_147_483_648 {
-        i32::MIN
-    } else if value >= 2_147_483_647 {
-        i32::MAX
-    } else {
-        value as i32
-    }
 }
 
 /// A value as the only field of a result.
