@@ -2,7 +2,7 @@ use Rattle.std.proofs.Common.{rules, arith, ◌≡◌, ◌∙◌, ap, sym, SFits
 use Rattle.std.specs.Int.{w128}
 use Rattle.std.proofs.lemmas.Int.{to_z-of_z, ints}
 use Rattle.exact_math.proofs.IntLaws.{mul_comm}
-use Rattle.calendar_math.proofs.SpanLemmas.{LiesWithin, days_as_quotient, days_lie}
+use Rattle.calendar_math.proofs.SpanLemmas.{days_as_quotient, days_lie}
 use Rattle.calendar_math.proofs.spans.days_of.Goals as goal
 
 pub quotient_within-requires-clause-low : goal.quotient_within-requires-clause-low

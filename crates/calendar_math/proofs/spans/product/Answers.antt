@@ -1,7 +1,7 @@
 use Rattle.std.proofs.Common.{arith, refl, SFits, pos, ◌*ℤ◌}
 use Rattle.std.specs.Int.{w128}
 use Rattle.std.proofs.lemmas.Int.{to_z-of_z, ints}
-use Rattle.calendar_math.proofs.SpanLemmas.{LiesWithin, product_lies}
+use Rattle.calendar_math.proofs.SpanLemmas.{product_lies}
 use Rattle.calendar_math.proofs.spans.product.Goals as goal
 
 pub returns : goal.returns
