@@ -1,5 +1,5 @@
 -- Sine, cosine and tangent of an interval of degrees are narrower for a narrower interval and for a greater depth.
-use Rattle.std.proofs.Common.{◌≡◌, ℕ, zero, suc, refl, arith, unsigned_abs, neg_ℤ, ℤ, pos, negsuc, ◌+ℤ◌, ◌-ℤ◌, ◌≤ℤ◌, ◌<ℤ◌, [], ◌∷◌}
+use Rattle.std.proofs.Common.{◌≡◌, ℕ, zero, suc, refl, arith, unsigned_abs, neg_ℤ, ℤ, pos, negsuc, ◌+ℤ◌, ◌-ℤ◌, ◌≤ℤ◌, ◌<ℤ◌, [], ◌∷◌, ◌≤◌}
 use Rattle.std.proofs.lemmas.Int.{ints, by_lt_z}
 use Rattle.exact_math.specs.Fraction.{Fraction, ◌≤F◌, ◌<F◌, whole, plus, opposite, times, smaller, larger}
 use Rattle.exact_math.specs.Interval.{Interval, everything, between, IsProper, AreWithin, ◌⊆◌, sum, hull}
@@ -14,8 +14,9 @@ use Rattle.exact_math.proofs.Hulls.{hull_holds_first, hull_holds_second, hull_le
 use Rattle.exact_math.proofs.Narrowing.{Narrowing, at_least, compose, argument, steady, sums, quotients}
 use Rattle.book_model.specs.Octants.{only, octant_edge, octant_of_turn, sine_at, sine_in, hull_from, last_octant, first_octant, sine_of_degrees, cosine_of_degrees, tangent_of_degrees}
 use Rattle.book_model.specs.Nesting.{IsNested, IsNestedByDepth, AreOctantsMet}
-use Rattle.book_model.specs.Series.{pi_at}
-use Rattle.book_model.proofs.Pi.{pi_at_least}
+use Rattle.book_model.specs.Series.{pi_at, sine_series, cosine_series, arctan_at}
+use Rattle.book_model.proofs.SeriesNesting.{sines, cosines}
+use Rattle.book_model.proofs.Pi.{pi_at_least, arctan_at_least}
 use Rattle.book_model.proofs.Terms.{one_over_nonneg, one_over-whole}
 use Rattle.book_model.proofs.OctantHulls.{all_sines, into_amid, into_deeper, into_proper, into_inside}
 
@@ -295,3 +296,13 @@ tangent_nests = nested_by tangent_of_degrees degree_tangents
 
 pub pi_nests : IsNestedByDepth pi_at
 pi_nests = record { within = pi_at_least }
+
+-- the series themselves
+pub sine_series_nests : IsNested sine_series
+sine_series_nests = nested_by sine_series sines
+
+pub cosine_series_nests : IsNested (λ n. cosine_series (suc n))
+cosine_series_nests = nested_by (λ n. cosine_series (suc n)) cosines
+
+pub arctan_nests : (k : ℕ) → 1 ≤ k → IsNestedByDepth (λ n. arctan_at n (one_over k))
+arctan_nests k h = record { within = λ n m l. arctan_at_least k n m h l }

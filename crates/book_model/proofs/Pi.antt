@@ -67,3 +67,11 @@ pi_at_12 = record { ends = (record { cross = record { le = tt } }, record { cros
 
 pub pi_number : (n : ℕ) → 12 ≤ n → pi_at n ⊆ between (binary 226375608064910088) (binary 226375608064910089)
 pi_number n h = within_trans (pi_at_least 12 n h) pi_at_12
+
+-- ---- the arctangents nest by themselves
+arctan_by : (k n m : ℕ) (x : Fraction) → IsUpTo 1 2 x → m ≡ k + n → arctan_at m x ⊆ arctan_at n x
+arctan_by zero n m x w e = subst (λ z. arctan_at z x ⊆ arctan_at n x) (sym (e ∙ omega arith)) (within_refl (arctan_at n x))
+arctan_by (suc k) n m x w e = subst (λ z. arctan_at z x ⊆ arctan_at n x) (sym (e ∙ omega arith)) (within_trans (arctan_deeper (k + n) x w) (arctan_by k n (k + n) x w refl))
+
+pub arctan_at_least : (k n m : ℕ) → 1 ≤ k → n ≤ m → arctan_at m (one_over k) ⊆ arctan_at n (one_over k)
+arctan_at_least k n m h l = arctan_by (m - n) n m (one_over k) (small_one_over k h) (omega arith)

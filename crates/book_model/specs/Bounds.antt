@@ -62,15 +62,21 @@ sum_bound l (bounded a b s k) (bounded c d t m) =
 abbrev pub around : ℕ → ℕ → ℕ → Bound
 around z s k = bounded (neg_ℤ (pos z)) (pos z) s k
 
--- times N / (d + 1), for a number of size A: the width times the fraction's size, and two units
-abbrev pub scaled_around : Limits → (N d A s k : ℕ) → Bound
-scaled_around l N d A s k =
-    limited (nat_lt A l.sizes && nat_lt N l.factors && nat_lt (ceil_div (A * N) d) l.sizes)
-    (around (ceil_div (A * N) d) (ceil_div (s * N) d) (ceil_div (k * N) d + 2 * l.unit))
+-- n / (d + 1), rounded up, for whole numbers
+abbrev pub ceil_quotient : ℤ → ℕ → ℤ
+ceil_quotient n d = neg_ℤ (floor_quotient (neg_ℤ n) d)
+
+-- times n / (d + 1), for a number from a to b of size A: its two ends, and the width times the size of n, and two units
+abbrev pub scaled_within : Limits → (n : ℤ) (d : ℕ) (a b : ℤ) (A N s k : ℕ) → Bound
+scaled_within l n d a b A N s k =
+    limited
+    (nat_lt A l.sizes && nat_lt N l.factors
+    && nat_lt (range_size (int_min (floor_quotient (a *ℤ n) d) (floor_quotient (b *ℤ n) d)) (int_max (ceil_quotient (a *ℤ n) d) (ceil_quotient (b *ℤ n) d))) l.sizes)
+    (bounded (int_min (floor_quotient (a *ℤ n) d) (floor_quotient (b *ℤ n) d)) (int_max (ceil_quotient (a *ℤ n) d) (ceil_quotient (b *ℤ n) d)) (ceil_div (s * N) d) (ceil_div (k * N) d + 2 * l.unit))
 
 unfoldable pub scaled_bound : Limits → Fraction → Bound → Bound
 scaled_bound l f unbounded = unbounded
-scaled_bound l f (bounded a b s k) = scaled_around l (unsigned_abs f.num) f.below (range_size a b) s k
+scaled_bound l f (bounded a b s k) = scaled_within l f.num f.below a b (range_size a b) (unsigned_abs f.num) s k
 
 -- a difference: the widths add up too
 unfoldable pub difference_bound : Limits → Bound → Bound → Bound
@@ -214,7 +220,7 @@ IsNarrow w (bounded a b s k) (between lo hi) = Spans a b s k w lo hi
 
 -- the limits of ends in 64 bits at scale 2^-36
 abbrev pub limits_36 : Limits
-limits_36 = record { unit = 2 ^ 28; sizes = 2 ^ 58; constants = 2 ^ 90; factors = 2 ^ 40 }
+limits_36 = record { unit = 2 ^ 28; sizes = 2 ^ 58; constants = 2 ^ 90; factors = 2 ^ 64 }
 
 -- limits that no operation keeps
 abbrev pub no_limits : Limits

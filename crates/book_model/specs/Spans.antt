@@ -1,5 +1,6 @@
--- Whole numbers of days and of years, exact: what the rules of dates count with. Nothing here is a test.
-use Rattle.std.specs.Prelude.{ℕ, ℤ}
+-- Whole numbers of days and of spans, as years and months are, exact: what the rules of dates count with. Nothing here is a
+-- test.
+use Rattle.std.specs.Prelude.{ℕ, suc, ℤ, pos, ◌-ℤ◌, ◌*ℤ◌}
 use lib.IntN.{neg_ℤ}
 use Rattle.exact_math.specs.Fraction.{Fraction, whole, plus, times, reciprocal, floor, floor_quotient}
 use Rattle.book_model.specs.declared.calendar_tables.TheConstants.{TROPICAL_YEAR}
@@ -14,9 +15,25 @@ nearest a = floor (plus a (fraction_of HALF))
 abbrev pub ceiling_quotient : ℤ → ℕ → ℤ
 ceiling_quotient n d = neg_ℤ (floor_quotient (neg_ℤ n) d)
 
+-- the number from 1 to m that differs from n by a multiple of m, where m is d + 1
+abbrev pub amod : ℤ → ℕ → ℤ
+amod n d = n -ℤ pos (suc d) *ℤ (ceiling_quotient n d -ℤ pos 1)
+
+-- n / (d + 1)
+abbrev pub ratio : ℤ → ℕ → Fraction
+ratio n d = record { num = n; below = d }
+
+-- the whole days of a count of spans, rounded down
+unfoldable pub days_of : Fraction → Fraction → ℤ
+days_of span count = floor (times span count)
+
+-- how many spans so many days are, and a fraction more, rounded down
+unfoldable pub spans_of : Fraction → ℤ → Fraction → ℤ
+spans_of span days more = floor (plus (times (whole days) (reciprocal span)) more)
+
 -- the whole days of so many tropical years
 unfoldable pub days_of_years : ℤ → ℤ
-days_of_years years = floor (times (fraction_of TROPICAL_YEAR) (whole years))
+days_of_years years = days_of (fraction_of TROPICAL_YEAR) (whole years)
 
 -- the number of tropical years that is nearest to so many days
 unfoldable pub years_of_days : ℤ → ℤ

@@ -1,8 +1,9 @@
 //! Laws of the definitions, each carried by a function that does nothing.
-ghost use Rattle.std.specs.Prelude.{◌≡◌, ◌↔◌, ◌≤◌, ℤ, ℕ, Bool, map, Some, IsTrue};
+ghost use Rattle.std.specs.Prelude.{◌≡◌, ◌↔◌, ◌≤◌, ℤ, ℕ, suc, Bool, map, Some, IsTrue};
 ghost use Rattle.exact_math.specs.Fraction.{Fraction};
+ghost use Rattle.exact_math.specs.Sums.{one_over};
 ghost use Rattle.book_model.specs.Expressions.{Expression};
-ghost use Rattle.book_model.specs.Series.{pi_at};
+ghost use Rattle.book_model.specs.Series.{pi_at, sine_series, cosine_series, arctan_at};
 ghost use Rattle.book_model.specs.Octants.{sine_of_degrees, cosine_of_degrees, tangent_of_degrees};
 ghost use Rattle.book_model.specs.Nesting.{ValuesNest, RunsNest, IsNested, IsNestedByDepth, AreOctantsMet};
 ghost use Rattle.book_model.specs.Calendar.{year_of_day, IsYearOfDay};
@@ -46,6 +47,15 @@ pub fn series()
     ensures cosine { IsNested cosine_of_degrees }
     ensures tangent { IsNested tangent_of_degrees }
     ensures pi { IsNestedByDepth pi_at }
+{}
+
+/// Nesting of the sums from which these are made: of the sine's and, from depth 1 on, the cosine's over an interval of
+/// angles in radians, and of the arctangents of 1/2, 1/3 and so on, by whose values at 1/5 and 1/239 pi is defined.
+#[tactic(auto, using(crate::proofs::DegreeSines::sine_series_nests, crate::proofs::DegreeSines::cosine_series_nests, crate::proofs::DegreeSines::arctan_nests))]
+pub fn sums()
+    ensures sine { IsNested sine_series }
+    ensures cosine { IsNested (λ n. cosine_series (suc n)) }
+    ensures arctangent { (k : ℕ) → 1 ≤ k → IsNestedByDepth (λ n. arctan_at n (one_over k)) }
 {}
 
 /// The octants over which a sine is a hull are those that the interval meets, and there is one.

@@ -75,35 +75,3 @@ pub const PI_ABOVE: Frac = Frac {
     num: 226_375_608_064_910_089,
     den: 72_057_594_037_927_936,
 };
-
-/// A degree, in half turns.
-pub const DEGREE: Frac = Frac { num: 1, den: 180 };
-
-/// Each term of the sine's series over the one before, without the square of the angle, from the ninth ratio to the
-/// first: 1 / (2k (2k + 1)).
-pub const SINE_RATIOS: [Frac; 9] = [
-    Frac { num: 1, den: 342 },
-    Frac { num: 1, den: 272 },
-    Frac { num: 1, den: 210 },
-    Frac { num: 1, den: 156 },
-    Frac { num: 1, den: 110 },
-    Frac { num: 1, den: 72 },
-    Frac { num: 1, den: 42 },
-    Frac { num: 1, den: 20 },
-    Frac { num: 1, den: 6 },
-];
-
-/// Each term of the cosine's series over the one before, without the square of the angle, from the tenth ratio to
-/// the first: 1 / ((2k - 1) 2k).
-pub const COSINE_RATIOS: [Frac; 10] = [
-    Frac { num: 1, den: 380 },
-    Frac { num: 1, den: 306 },
-    Frac { num: 1, den: 240 },
-    Frac { num: 1, den: 182 },
-    Frac { num: 1, den: 132 },
-    Frac { num: 1, den: 90 },
-    Frac { num: 1, den: 56 },
-    Frac { num: 1, den: 30 },
-    Frac { num: 1, den: 12 },
-    Frac { num: 1, den: 2 },
-];

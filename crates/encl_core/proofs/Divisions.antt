@@ -65,12 +65,6 @@ ceil_ratio_negative q a (negsuc m) h f =
 ceil_ratio_negative q a (pos m) h f = absurd (omega (arith, ints))
 
 -- ---- quotients
-at_mono : (p q : ℤ) → p ≤ℤ q → at_36 p ≤F at_36 q
-at_mono p q h = record { cross = omega (arith, ints) }
-
-at_order : (p q : ℤ) (f : Fraction) → at_36 p ≤F f → f ≤F at_36 q → p ≤ℤ q
-at_order p q f h k = let l = le_trans (at_36 p) f (at_36 q) h k in omega (arith, ints, l.cross)
-
 -- two ends hold the products with the reciprocals of a divisor, where they hold the four of the ends
 record HoldFour (a b : ℤ) (c d : Fraction) (lo hi : ℤ) : Type 0 where
   low_1 : at_36 lo ≤F times (at_36 a) c

@@ -64,11 +64,6 @@ both true q e = (refl, e)
 both false q e = (e, cc)
 
 -- ---- whole numbers
--- the ends of a whole number hold it
-pub int_encloses : (n at : ℤ) (i : Interval) → at ≡ n *ℤ pos (2 ^ 36) → Keeps64 at at i → between (whole n) (whole n) ⊆ i
--- the ends of a whole number hold it
-int_encloses n at i e h = within_trans (record { ends = (record { cross = omega (arith, ints) }, record { cross = omega (arith, ints) }) }) (kept_within at at i h)
-
 -- the ends of a whole number keep its bound
 pub int_narrow : (w : ℕ) (n at : ℤ) (i : Interval) → at ≡ n *ℤ pos (2 ^ 36) → Keeps64 at at i → IsNarrow w (integer_bound limits_36 n) i
 unfolding integer_bound

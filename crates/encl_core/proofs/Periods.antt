@@ -40,13 +40,6 @@ pub lower_encloses : (a b t lo hi : ℤ) (i : Interval) → lo ≡ a -ℤ (t *�
 unfolding sum negative plus opposite
 lower_encloses a b t lo hi i e f h = within_trans (record { ends = (record { cross = omega (arith, ints) }, record { cross = omega (arith, ints) }) }) (kept_within lo hi i h)
 
--- ends at the finer scale
-pub span_holds : (a b lo hi : ℤ) → lo ≡ a *ℤ pos (2 ^ 20) → hi ≡ b *ℤ pos (2 ^ 20) → between (at_36 a) (at_36 b) ⊆ between (at_56 lo) (at_56 hi)
-span_holds a b lo hi e f = record { ends = (record { cross = omega (arith, ints) }, record { cross = omega (arith, ints) }) }
-
-pub span_tight : (a b lo hi : ℤ) → lo ≡ a *ℤ pos (2 ^ 20) → hi ≡ b *ℤ pos (2 ^ 20) → between (at_56 lo) (at_56 hi) ⊆ between (at_36 a) (at_36 b)
-span_tight a b lo hi e f = record { ends = (record { cross = omega (arith, ints) }, record { cross = omega (arith, ints) }) }
-
 -- a period that is known is the one that the ends give
 pub known_period : (q r : ℤ) (i : Interval) (m : ℕ) → Some q ≡ cell_at (multiples m) i → cell_at (multiples m) i ≡ Some r → r ≡ q
 known_period q r i m e f = cc

@@ -46,32 +46,6 @@ quotient_up (negsuc n) (pos (suc d)) h o = below_zero (suc n / suc d) d n (omega
 quotient_up n (pos zero) h o = absurd (omega (arith, ints))
 quotient_up n (negsuc d) h o = absurd (omega (arith, ints))
 
--- one less than the quotient of n + 1, rounded up, is that of n, rounded down
-pub floor_of_negative : (q r n d : ℤ) → r ≡ q -ℤ pos 1 → IsCeiling q (n +ℤ pos 1) d → IsFloor r n d
-floor_of_negative q r n d e f =
-    let vq = at 0 in
-    let vn = at 1 in
-    let vd = at 2 in
-    let one = lit (pos 1) in
-    rw e
-    (record {
-      not_above = le_by (q ∷ n ∷ d ∷ []) ((vq ⊗ vd ⊕ one ≼ vn ⊕ one ⊕ vd) ∷ []) ((vq ⊖ one) ⊗ vd) vn (known 0) refl (next_le _ _ f.close, tt);
-      close = lt_next _ _ (le_by (q ∷ n ∷ d ∷ []) ((vn ⊕ one ≼ vq ⊗ vd) ∷ []) (vn ⊕ one) ((vq ⊖ one) ⊗ vd ⊕ vd) (known 0) refl (f.not_below, tt));
-    })
-
--- one more than the quotient of n - 1, rounded down, is that of n, rounded up
-pub ceil_of_positive : (q r n d : ℤ) → r ≡ q +ℤ pos 1 → IsFloor q (n -ℤ pos 1) d → IsCeiling r n d
-ceil_of_positive q r n d e f =
-    let vq = at 0 in
-    let vn = at 1 in
-    let vd = at 2 in
-    let one = lit (pos 1) in
-    rw e
-    (record {
-      not_below = le_by (q ∷ n ∷ d ∷ []) ((vn ⊖ one ⊕ one ≼ vq ⊗ vd ⊕ vd) ∷ []) vn ((vq ⊕ one) ⊗ vd) (known 0) refl (next_le _ _ f.close, tt);
-      close = lt_next _ _ (le_by (q ∷ n ∷ d ∷ []) ((vq ⊗ vd ≼ vn ⊖ one) ∷ []) ((vq ⊕ one) ⊗ vd ⊕ one) (vn ⊕ vd) (known 0) refl (f.not_above, tt));
-    })
-
 -- a quotient above the number refutes itself
 room_z : (q m d : ℤ) → (q *ℤ d) ≤ℤ m → pos 0 ≤ℤ m → pos 1 ≤ℤ d → (m +ℤ pos 1) ≤ℤ q → ⊥
 room_z q m d h k o n =
@@ -82,10 +56,6 @@ room_z q m d h k o n =
     refute (q ∷ m ∷ d ∷ []) ((vq ⊗ vd ≼ vm) ∷ (lit (pos 0) ≼ vm) ∷ (one ≼ vd) ∷ (vm ⊕ one ≼ vq) ∷ [])
     (known 3 ⊞ known 0 ⊞ known 2 ⊠ known 3 ⊞ known 2 ⊠ known 1 ⊞ known 2) refl (h, (k, (o, (n, tt))))
 
--- a quotient of a number that isn't negative is at most that number
-pub room : (q m d : ℤ) → IsFloor q m d → pos 0 ≤ℤ m → pos 0 <ℤ d → q ≤ℤ m
-room q m d f k o = by_lt_z m q (λ n. absurd (room_z q m d f.not_above k (next_le _ _ o) (next_le _ _ n))) (λ h. h)
-
 -- a quotient below the number refutes itself
 room_below_z : (q m d : ℤ) → m ≤ℤ (q *ℤ d) → m ≤ℤ pos 0 → pos 1 ≤ℤ d → (q +ℤ pos 1) ≤ℤ m → ⊥
 room_below_z q m d h k o n =
@@ -95,10 +65,6 @@ room_below_z q m d h k o n =
     let one = lit (pos 1) in
     refute (q ∷ m ∷ d ∷ []) ((vm ≼ vq ⊗ vd) ∷ (vm ≼ lit (pos 0)) ∷ (one ≼ vd) ∷ (vq ⊕ one ≼ vm) ∷ [])
     (known 3 ⊞ known 0 ⊞ known 2 ⊠ known 3 ⊞ known 2 ⊠ known 1 ⊞ known 2) refl (h, (k, (o, (n, tt))))
-
--- a quotient of a number that isn't positive is at least that number
-pub room_below : (q m d : ℤ) → IsCeiling q m d → m ≤ℤ pos 0 → pos 0 <ℤ d → m ≤ℤ q
-room_below q m d f k o = by_lt_z q m (λ n. absurd (room_below_z q m d f.not_below k (next_le _ _ o) (next_le _ _ n))) (λ h. h)
 
 -- a quotient rounded down stays what it is where both numbers are raised
 raised_floor : (q n k : ℤ) → IsFloor q n k → IsFloor q (n *ℤ pos (2 ^ 36)) (k *ℤ pos (2 ^ 36))

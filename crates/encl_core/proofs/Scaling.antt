@@ -3,16 +3,17 @@ use Rattle.std.proofs.Common.{◌≡◌, ℕ, suc, ◌+◌, ◌*◌, ◌^◌, �
 use Rattle.std.specs.Int.{w128}
 use lib.IntN.{neg_ℤ}
 use Rattle.std.specs.Prelude.{unsigned_abs, nat_lt}
-use Rattle.std.proofs.lemmas.Int.{ints, by_lt_z}
+use Rattle.std.specs.Int.{int_min, int_max}
+use Rattle.std.proofs.lemmas.Int.{ints, clamps, by_lt_z}
 use Rattle.std.proofs.lemmas.Bool.{ltb-true}
 use Rattle.std.specs.Int.Signed.{le_z_yes}
 use Rattle.exact_math.specs.Fraction.{Fraction, ◌≤F◌, times, floor_quotient}
 use Rattle.exact_math.specs.Interval.{Interval, everything, between, ◌⊆◌, product}
-use Rattle.exact_math.proofs.Ring.{at, lit, ◌⊕◌, ◌⊖◌, ◌⊗◌}
+use Rattle.exact_math.proofs.Ring.{at, lit, ◌⊕◌, ◌⊖◌, ◌⊗◌, minus}
 use Rattle.exact_math.proofs.Bounds.{◌≼◌, known, ◌⊞◌, ◌⊠◌, times as naturally, le_by, le_over, refute, pos_nonneg}
 use Rattle.exact_math.proofs.Fractions.{by_cross, den_product}
 use Rattle.exact_math.proofs.Intervals.{within_trans, least_is, greatest_is}
-use Rattle.book_model.specs.Bounds.{Bound, unbounded, bounded, range_size, ceil_div, floor_at_32, ceil_at_32, limited, around, scaled_around, scaled_bound, constant_bound, IsNarrow, limits_36}
+use Rattle.book_model.specs.Bounds.{Bound, unbounded, bounded, range_size, ceil_div, floor_at_32, ceil_at_32, limited, ceil_quotient, scaled_within, scaled_bound, constant_bound, IsNarrow, limits_36}
 use Rattle.encl_core.specs.Rounding.{at_36, IsFloor, IsCeiling, AreSorted, Keeps64}
 use Rattle.encl_core.proofs.Quotients.{next_le, ≤ℤ_trans, outward_order, sorted_order, floor_quotient_floor}
 use Rattle.encl_core.proofs.Keeping.{AreKept, kept_of, kept_within, limited_narrow, both}
@@ -240,31 +241,83 @@ nonneg_mul N x y h = le_by (pos N ∷ x ∷ y ∷ []) ((at 1 ≼ at 2) ∷ (lit 
 ceil_above : (n d : ℕ) → n ≤ ceil_div n d * suc d
 ceil_above n d = omega arith
 
+-- ---- the range of a product
+-- 16 times a quotient of an end of the range, rounded down, is not above a product
+corner_low : (z a b n d p q u : ℤ) → (a *ℤ pos 16) ≤ℤ z → z ≤ℤ (b *ℤ pos 16) → (p *ℤ d) ≤ℤ (a *ℤ n) → (q *ℤ d) ≤ℤ (b *ℤ n) → u ≤ℤ p → u ≤ℤ q → pos 0 ≤ℤ d → ((u *ℤ pos 16) *ℤ d) ≤ℤ (z *ℤ n)
+corner_low z a b n d p q u hz kz hp hq hu ku hd =
+    by_lt_z n (pos 0)
+    (λ m. le_by (z ∷ b ∷ n ∷ d ∷ q ∷ u ∷ []) ((at 0 ≼ at 1 ⊗ lit (pos 16)) ∷ (at 4 ⊗ at 3 ≼ at 1 ⊗ at 2) ∷ (at 5 ≼ at 4) ∷ (lit (pos 0) ≼ at 3) ∷ (at 2 ≼ lit (pos 0)) ∷ []) ((at 5 ⊗ lit (pos 16)) ⊗ at 3) (at 0 ⊗ at 2)
+    (known 0 ⊠ known 4 ⊞ naturally 16 ⊠ known 1 ⊞ naturally 16 ⊠ known 2 ⊠ known 3) refl (kz, (hq, (ku, (hd, (omega (arith, ints, m), tt))))))
+    (λ m. le_by (z ∷ a ∷ n ∷ d ∷ p ∷ u ∷ []) ((at 1 ⊗ lit (pos 16) ≼ at 0) ∷ (at 4 ⊗ at 3 ≼ at 1 ⊗ at 2) ∷ (at 5 ≼ at 4) ∷ (lit (pos 0) ≼ at 3) ∷ (lit (pos 0) ≼ at 2) ∷ []) ((at 5 ⊗ lit (pos 16)) ⊗ at 3) (at 0 ⊗ at 2)
+    (known 0 ⊠ known 4 ⊞ naturally 16 ⊠ known 1 ⊞ naturally 16 ⊠ known 2 ⊠ known 3) refl (hz, (hp, (hu, (hd, (m, tt))))))
+
+-- 16 times one that is rounded up is not below it
+corner_high : (z a b n d p q u : ℤ) → (a *ℤ pos 16) ≤ℤ z → z ≤ℤ (b *ℤ pos 16) → (a *ℤ n) ≤ℤ (p *ℤ d) → (b *ℤ n) ≤ℤ (q *ℤ d) → p ≤ℤ u → q ≤ℤ u → pos 0 ≤ℤ d → (z *ℤ n) ≤ℤ ((u *ℤ pos 16) *ℤ d)
+corner_high z a b n d p q u hz kz hp hq hu ku hd =
+    by_lt_z n (pos 0)
+    (λ m. le_by (z ∷ a ∷ n ∷ d ∷ p ∷ u ∷ []) ((at 1 ⊗ lit (pos 16) ≼ at 0) ∷ (at 1 ⊗ at 2 ≼ at 4 ⊗ at 3) ∷ (at 4 ≼ at 5) ∷ (lit (pos 0) ≼ at 3) ∷ (at 2 ≼ lit (pos 0)) ∷ []) (at 0 ⊗ at 2) ((at 5 ⊗ lit (pos 16)) ⊗ at 3)
+    (known 0 ⊠ known 4 ⊞ naturally 16 ⊠ known 1 ⊞ naturally 16 ⊠ known 2 ⊠ known 3) refl (hz, (hp, (hu, (hd, (omega (arith, ints, m), tt))))))
+    (λ m. le_by (z ∷ b ∷ n ∷ d ∷ q ∷ u ∷ []) ((at 0 ≼ at 1 ⊗ lit (pos 16)) ∷ (at 1 ⊗ at 2 ≼ at 4 ⊗ at 3) ∷ (at 4 ≼ at 5) ∷ (lit (pos 0) ≼ at 3) ∷ (lit (pos 0) ≼ at 2) ∷ []) (at 0 ⊗ at 2) ((at 5 ⊗ lit (pos 16)) ⊗ at 3)
+    (known 0 ⊠ known 4 ⊞ naturally 16 ⊠ known 1 ⊞ naturally 16 ⊠ known 2 ⊠ known 3) refl (kz, (hq, (ku, (hd, (m, tt))))))
+
+-- a whole number whose multiple is at most m is at most m's quotient, rounded down
+below_floor : (v d m lo : ℤ) → (v *ℤ d) ≤ℤ m → (m +ℤ pos 1) ≤ℤ (lo *ℤ d +ℤ d) → pos 0 ≤ℤ d → v ≤ℤ lo
+below_floor v d m lo h k l =
+    by_lt_z lo v
+    (λ n. absurd
+    (refute (v ∷ d ∷ m ∷ lo ∷ []) ((at 0 ⊗ at 1 ≼ at 2) ∷ (at 2 ⊕ lit (pos 1) ≼ at 3 ⊗ at 1 ⊕ at 1) ∷ (lit (pos 0) ≼ at 1) ∷ (at 3 ⊕ lit (pos 1) ≼ at 0) ∷ []) (known 0 ⊞ known 1 ⊞ known 3 ⊠ known 2) refl
+    (h, (k, (l, (next_le _ _ n, tt))))))
+    (λ n. n)
+
+above_ceiling : (v d g hi : ℤ) → g ≤ℤ (v *ℤ d) → (hi *ℤ d +ℤ pos 1) ≤ℤ (g +ℤ d) → pos 0 ≤ℤ d → hi ≤ℤ v
+above_ceiling v d g hi h k l =
+    by_lt_z v hi
+    (λ n. absurd
+    (refute (v ∷ d ∷ g ∷ hi ∷ []) ((at 2 ≼ at 0 ⊗ at 1) ∷ (at 3 ⊗ at 1 ⊕ lit (pos 1) ≼ at 2 ⊕ at 1) ∷ (lit (pos 0) ≼ at 1) ∷ (at 0 ⊕ lit (pos 1) ≼ at 3) ∷ []) (known 0 ⊞ known 1 ⊞ known 3 ⊠ known 2) refl
+    (h, (k, (l, (next_le _ _ n, tt))))))
+    (λ n. n)
+
+-- quotients of the range's two ends by which a product's range is known
+record AreScaledEnds (n : ℤ) (d : ℕ) (a b u v : ℤ) : Type 0 where
+  low_first : u ≤ℤ floor_quotient (a *ℤ n) d
+  low_second : u ≤ℤ floor_quotient (b *ℤ n) d
+  high_first : ceil_quotient (a *ℤ n) d ≤ℤ v
+  high_second : ceil_quotient (b *ℤ n) d ≤ℤ v
+
+quotient_below : (z : ℤ) (d : ℕ) → (floor_quotient z d *ℤ pos (suc d)) ≤ℤ z
+quotient_below z d = (floor_quotient_floor z d).not_above
+
+quotient_above : (z : ℤ) (d : ℕ) → z ≤ℤ (ceil_quotient z d *ℤ pos (suc d))
+quotient_above z d = turned z (floor_quotient (neg_ℤ z) d) (pos (suc d)) (floor_quotient_floor (neg_ℤ z) d).not_above
+  where
+    turned : (z q d : ℤ) → (q *ℤ d) ≤ℤ neg_ℤ z → z ≤ℤ (neg_ℤ q *ℤ d)
+    turned z q d h = le_by (z ∷ q ∷ d ∷ []) ((at 1 ⊗ at 2 ≼ minus (at 0)) ∷ []) (at 0) (minus (at 1) ⊗ at 2) (known 0) refl (h, tt)
+
 -- ends rounded outwards keep the bound of a product with a fraction
-scaled_kept : (A N s k w Z S M : ℕ) (f : Fraction) (x y m g lo hi : ℤ) → N ≡ unsigned_abs f.num → x ≤ℤ y → (pos 0 -ℤ pos (A * 2 ^ 4)) ≤ℤ x → y ≤ℤ pos (A * 2 ^ 4) → ((y -ℤ x) *ℤ pos (2 ^ 68)) ≤ℤ pos (s * w + k * 2 ^ 40)
-    → AreProducts f x y m g lo hi → A * N ≤ Z * suc f.below → s * N ≤ S * suc f.below → k * N ≤ M * suc f.below
-    → AreKept (neg_ℤ (pos Z)) (pos Z) S (M + 2 * 2 ^ 28) w lo hi
-scaled_kept A N s k w Z S M f x y m g lo hi e o hx hy hv t hz hs hk =
+scaled_kept : (a b u v : ℤ) (N s k w S M : ℕ) (f : Fraction) (x y m g lo hi : ℤ) → N ≡ unsigned_abs f.num → x ≤ℤ y → (a *ℤ pos 16) ≤ℤ x → y ≤ℤ (b *ℤ pos 16) → ((y -ℤ x) *ℤ pos (2 ^ 68)) ≤ℤ pos (s * w + k * 2 ^ 40)
+    → AreProducts f x y m g lo hi → AreScaledEnds f.num f.below a b u v → s * N ≤ S * suc f.below → k * N ≤ M * suc f.below
+    → AreKept u v S (M + 2 * 2 ^ 28) w lo hi
+scaled_kept a b u v N s k w S M f x y m g lo hi e o hx hy hv t z hs hk =
     let r = t.order in
     let i = size_is f.num in
     let iN : f.num ≤ℤ pos N = rw e i.0 in
     let jN : (pos 0 -ℤ pos N) ≤ℤ f.num = rw e i.1 in
-    let u = turn_z x y f.num (pos N) o iN jN in
-    let G = near m g (x *ℤ f.num) (y *ℤ f.num) (pos N *ℤ (y -ℤ x)) r (nonneg_mul N x y o) u.0 u.1 in
-    let bx = bounded_z x f.num (pos (A * 2 ^ 4)) (pos N) (omega (arith, ints)) hx iN jN in
-    let by = bounded_z y f.num (pos (A * 2 ^ 4)) (pos N) hy (omega (arith, ints)) iN jN in
-    let low : (pos 0 -ℤ pos (A * 2 ^ 4) *ℤ pos N) ≤ℤ m = r.best_low _ bx.1 by.1 in
-    let high : g ≤ℤ (pos (A * 2 ^ 4) *ℤ pos N) = r.best_high _ bx.0 by.0 in
-    let z : (pos (A * 2 ^ 4) *ℤ pos N) ≤ℤ (pos (Z * 2 ^ 4) *ℤ pos (suc f.below)) = omega (arith, ints, hz) in
+    let U = turn_z x y f.num (pos N) o iN jN in
+    let G = near m g (x *ℤ f.num) (y *ℤ f.num) (pos N *ℤ (y -ℤ x)) r (nonneg_mul N x y o) U.0 U.1 in
+    let D = pos (suc f.below) in
+    let low = λ (c : ℤ) (ac : (a *ℤ pos 16) ≤ℤ c) (cb : c ≤ℤ (b *ℤ pos 16)).
+    corner_low c a b f.num D (floor_quotient (a *ℤ f.num) f.below) (floor_quotient (b *ℤ f.num) f.below) u ac cb (quotient_below (a *ℤ f.num) f.below) (quotient_below (b *ℤ f.num) f.below) z.low_first z.low_second (pos_nonneg (suc f.below)) in
+    let high = λ (c : ℤ) (ac : (a *ℤ pos 16) ≤ℤ c) (cb : c ≤ℤ (b *ℤ pos 16)).
+    corner_high c a b f.num D (ceil_quotient (a *ℤ f.num) f.below) (ceil_quotient (b *ℤ f.num) f.below) v ac cb (quotient_above (a *ℤ f.num) f.below) (quotient_above (b *ℤ f.num) f.below) z.high_first z.high_second (pos_nonneg (suc f.below)) in
+    let xb : x ≤ℤ (b *ℤ pos 16) = omega (arith, ints, o, hy) in
+    let ay : (a *ℤ pos 16) ≤ℤ y = omega (arith, ints, o, hx) in
     let one : pos 1 ≤ℤ pos (suc f.below) = omega (arith, ints) in
     let fl : (m +ℤ pos 1) ≤ℤ (lo *ℤ pos (suc f.below) +ℤ pos (suc f.below)) = next_le _ _ t.down.close in
     let cl : (hi *ℤ pos (suc f.below) +ℤ pos 1) ≤ℤ (g +ℤ pos (suc f.below)) = next_le _ _ t.up.close in
-    let fa = above (pos (A * 2 ^ 4) *ℤ pos N) (pos (Z * 2 ^ 4)) (pos (suc f.below)) m lo z low fl (pos_nonneg (suc f.below)) in
-    let ga = above (pos (A * 2 ^ 4) *ℤ pos N) (pos (Z * 2 ^ 4)) (pos (suc f.below)) (pos 0 -ℤ g) (pos 0 -ℤ hi) z (omega (arith, ints, high)) (flip_ceiling hi (pos (suc f.below)) g cl) (pos_nonneg (suc f.below)) in
     record {
       ordered = outward_order m g (pos (suc f.below)) lo hi (sorted_order m g _ _ r) t.down t.up (omega (arith, ints));
-      above = omega (arith, ints, fa);
-      below = omega (arith, ints, ga);
+      above = below_floor (u *ℤ pos 16) D m lo (r.best_low _ (low x hx xb) (low y ay hy)) fl (pos_nonneg (suc f.below));
+      below = above_ceiling (v *ℤ pos 16) D g hi (r.best_high _ (high x hx xb) (high y ay hy)) cl (pos_nonneg (suc f.below));
       close = omega (
         arith,
         ints,
@@ -272,16 +325,27 @@ scaled_kept A N s k w Z S M f x y m g lo hi e o hx hy hv t hz hs hk =
       );
     }
 
--- the size of a range around 0
-around_size : (z : ℕ) → z < 2 ^ 58 → range_size (neg_ℤ (pos z)) (pos z) < 2 ^ 58
-around_size z h = omega (arith, ints)
+ends_least : (n : ℤ) (d : ℕ) (a b : ℤ) → AreScaledEnds n d a b (int_min (floor_quotient (a *ℤ n) d) (floor_quotient (b *ℤ n) d)) (int_max (ceil_quotient (a *ℤ n) d) (ceil_quotient (b *ℤ n) d))
+ends_least n d a b = record { low_first = min_first _ _; low_second = min_second _ _; high_first = max_first _ _; high_second = max_second _ _ }
+  where
+    min_first : (p q : ℤ) → int_min p q ≤ℤ p
+    min_first p q = omega (arith, ints, clamps)
+
+    min_second : (p q : ℤ) → int_min p q ≤ℤ q
+    min_second p q = omega (arith, ints, clamps)
+
+    max_first : (p q : ℤ) → p ≤ℤ int_max p q
+    max_first p q = omega (arith, ints, clamps)
+
+    max_second : (p q : ℤ) → q ≤ℤ int_max p q
+    max_second p q = omega (arith, ints, clamps)
 
 -- what 64 bits show of a product with a fraction keeps its bound
 scaled_limited : (f : Fraction) (a b : ℤ) (s k w : ℕ) (x y m g lo hi : ℤ) (i : Interval) → AreKept a b s k w x y → AreProducts f x y m g lo hi → Keeps64 lo hi i
-    → IsNarrow w (scaled_around limits_36 (unsigned_abs f.num) f.below (range_size a b) s k) i
+    → IsNarrow w (scaled_within limits_36 f.num f.below a b (range_size a b) (unsigned_abs f.num) s k) i
 scaled_limited f a b s k w x y m g lo hi i h t v =
-    limited_narrow _ _ _ _ _ _ lo hi i (λ l. around_size _ (ltb-true _ _ (both _ _ l).1))
-    (scaled_kept (range_size a b) (unsigned_abs f.num) s k w _ _ _ f x y m g lo hi refl h.ordered (omega (arith, ints, h.above, h.below, h.ordered)) (omega (arith, ints, h.above, h.below, h.ordered)) h.close t (ceil_above _ f.below) (ceil_above _ f.below) (ceil_above _ f.below)) v
+    limited_narrow _ _ _ _ _ _ lo hi i (λ l. ltb-true _ _ (both _ _ l).1)
+    (scaled_kept a b _ _ (unsigned_abs f.num) s k w _ _ f x y m g lo hi refl h.ordered (omega (arith, ints, h.above)) (omega (arith, ints, h.below)) h.close t (ends_least f.num f.below a b) (ceil_above _ f.below) (ceil_above _ f.below)) v
 
 -- the same, for every bound
 pub scaled_narrow : (w : ℕ) (a : Bound) (f : Fraction) (x y n p q m g d lo hi : ℤ) (i : Interval) → AreScaled f x y n p q m g d lo hi → Keeps64 lo hi i → IsNarrow w a (between (at_36 x) (at_36 y)) → IsNarrow w (scaled_bound limits_36 f a) i
@@ -296,27 +360,25 @@ scaled_first w f unbounded i h = tt
 scaled_first w f (bounded a b s k) i h = absurd h
 
 -- products that the limits allow fit
-small : (A N : ℕ) (x : ℤ) → A < 2 ^ 58 → N < 2 ^ 40 → x ≤ℤ (pos (A * 2 ^ 4) *ℤ pos N) → (pos 0 -ℤ pos (A * 2 ^ 4) *ℤ pos N) ≤ℤ x → SFits w128 x
+small : (A N : ℕ) (x : ℤ) → A < 2 ^ 58 → N < 2 ^ 64 → x ≤ℤ (pos (A * 2 ^ 4) *ℤ pos N) → (pos 0 -ℤ pos (A * 2 ^ 4) *ℤ pos N) ≤ℤ x → SFits w128 x
 small A N x h k p q =
-    let b = bounded_z (pos (A * 2 ^ 4)) (pos N) (pos (2 ^ 62)) (pos (2 ^ 40)) (omega (arith, ints)) (omega (arith, ints)) (omega (arith, ints)) (omega (arith, ints)) in
+    let b = bounded_z (pos (A * 2 ^ 4)) (pos N) (pos (2 ^ 62)) (pos (2 ^ 64)) (omega (arith, ints)) (omega (arith, ints)) (omega (arith, ints)) (omega (arith, ints)) in
     omega (arith, ints, b.0, p, q)
 
 -- where a product is too great, no bound is promised
 pub scaled_overflow : (w : ℕ) (p : Bound) (f : Fraction) (x y n : ℤ) → n ≡ f.num → (SFits w128 (x *ℤ n) → SFits w128 (y *ℤ n) → ⊥) → IsNarrow w p (between (at_36 x) (at_36 y)) → IsNarrow w (scaled_bound limits_36 f p) everything
 unfolding scaled_bound IsNarrow
 scaled_overflow w unbounded f x y n e j h = tt
-scaled_overflow w (bounded a b s k) f x y n e j h = by_test _ refl
+scaled_overflow w (bounded a b s k) f x y n e j h = by_test _ _ _ _ _ _ refl
   where
-    fits : range_size a b < 2 ^ 58 → unsigned_abs f.num < 2 ^ 40 → (u : ℤ) → u ≤ℤ pos (range_size a b * 2 ^ 4) → (pos 0 -ℤ pos (range_size a b * 2 ^ 4)) ≤ℤ u → SFits w128 (u *ℤ n)
+    fits : range_size a b < 2 ^ 58 → unsigned_abs f.num < 2 ^ 64 → (u : ℤ) → u ≤ℤ pos (range_size a b * 2 ^ 4) → (pos 0 -ℤ pos (range_size a b * 2 ^ 4)) ≤ℤ u → SFits w128 (u *ℤ n)
     fits l l' u i o =
         let r = bounded_z u f.num (pos (range_size a b * 2 ^ 4)) (pos (unsigned_abs f.num)) i o (size_is f.num).0 (size_is f.num).1 in
         rw e (small (range_size a b) (unsigned_abs f.num) (u *ℤ f.num) l l' r.0 r.1)
 
-    by_test : (t : Bool)
-        → t ≡ (nat_lt (range_size a b) (2 ^ 58) && nat_lt (unsigned_abs f.num) (2 ^ 40) && nat_lt (ceil_div (range_size a b * unsigned_abs f.num) f.below) (2 ^ 58))
-        → IsNarrow w (limited t (around (ceil_div (range_size a b * unsigned_abs f.num) f.below) (ceil_div (s * unsigned_abs f.num) f.below) (ceil_div (k * unsigned_abs f.num) f.below + 2 * 2 ^ 28))) everything
-    by_test false e' = tt
-    by_test true e' =
+    by_test : (t r : Bool) (u v : ℤ) (S M : ℕ) → t ≡ (nat_lt (range_size a b) (2 ^ 58) && nat_lt (unsigned_abs f.num) (2 ^ 64) && r) → IsNarrow w (limited t (bounded u v S M)) everything
+    by_test false r u v S M e' = tt
+    by_test true r u v S M e' =
         let q = kept_of a b s k w x y h in
         let t = both _ _ (both _ _ (sym e')).0 in
         let l = ltb-true _ _ t.0 in

@@ -27,9 +27,6 @@ pub natural_floor : (m d q : ℕ) → 0 < d → q ≡ m / d → IsFloor (pos q) 
 natural_floor m zero q h e = absurd (omega (arith, h))
 natural_floor m (suc d) q h e = rw e (record { not_above = omega (arith, ints); close = omega (arith, ints) })
 
-pub last_floor : (r l d q : ℕ) → 0 < d → q ≡ (r * 2 ^ 36 + l) / d → IsFloor (pos q) (pos r *ℤ pos (2 ^ 36) +ℤ pos l) (pos d)
-last_floor r l d q h e = let f = natural_floor (r * 2 ^ 36 + l) d q h e in record { not_above = omega (arith, ints, f.not_above); close = omega (arith, ints, f.close) }
-
 -- the upper part's quotient and that of what is left make the whole
 pub steps_floor : (n p d q s r l : ℤ) → IsFloor p n (pos (2 ^ 36)) → r ≡ p -ℤ q *ℤ d → l ≡ n -ℤ p *ℤ pos (2 ^ 36) → IsFloor s (r *ℤ pos (2 ^ 36) +ℤ l) d → IsFloor (q *ℤ pos (2 ^ 36) +ℤ s) n d
 steps_floor n p d q s r l f e g h =

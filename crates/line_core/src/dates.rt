@@ -1,13 +1,13 @@
 //! Dates of all calendars: which may be asked, the day that a date names, and the date of a day.
 ghost use Rattle.std.specs.Prelude.{◌≡◌, IsTrue, IfOk, MatchOption, true, false};
 ghost use Rattle.book_model.specs.Dates as spec;
-ghost use Rattle.book_model.specs.Inquiries.{to_32_bits as nearest};
 ghost use Rattle.book_model.specs.Requests.{ranged, fields_of};
 ghost use Rattle.oracle_core.specs.Inquiring.{Inquires};
 
 use crate::fields::{are_within, has_year, spelled_fields};
 use crate::gregorian::{gregorian_date, gregorian_day, is_in_range};
 use book_model::{Calendar, Fields, Rule};
+use calendar_math::to_32_bits;
 use oracle_core::{Oracle, Stop};
 
 /// The day (R.D.) that a day number names.
@@ -47,19 +47,6 @@ pub(crate) fn ranged_date(calendar: Calendar, date: &[u8]) -> Result<Fields, Rul
         Ok(fields)
     } else {
         Err(Rule::Range)
-    }
-}
-
-/// The nearest number of 32 bits.
-fn to_32_bits(value: i64) -> i32
-    ensures { result ≡ nearest value }
-{
-    if value <= -2_147_483_648 {
-        i32::MIN
-    } else if value >= 2_147_483_647 {
-        i32::MAX
-    } else {
-        value as i32
     }
 }
 

@@ -1,5 +1,5 @@
 -- Inquiries that are made of an oracle: how the results of calls make that of the whole.
-use Rattle.std.proofs.Common.{◌≡◌, ◌∙◌, false, ℤ, List, sym, refl}
+use Rattle.std.proofs.Common.{◌≡◌, ◌∙◌, false, ℤ, List, refl}
 use Rattle.std.specs.Prelude.{Result, Ok, Err}
 use Rattle.std.specs.List.{list_any}
 use Rattle.std.proofs.lemmas.Int.{to_z-of_z}

@@ -1,5 +1,5 @@
 -- What comes of an inquiry that is made of an oracle.
-use Rattle.std.specs.Prelude.{◌≡◌, false, ℤ, List, [], ◌∷◌, Result, Ok, Err}
+use Rattle.std.specs.Prelude.{◌≡◌, false, ℤ, List, Result, Ok, Err}
 use Rattle.std.specs.List.{list_any}
 use Rattle.book_model.specs.declared.fact.Fact.{Fact}
 use Rattle.book_model.specs.Inquiries.{Inquiry, done, ask, fact_eq, with_fact}

@@ -1,5 +1,5 @@
 -- What the two oracles know, and what that says of facts.
-use Rattle.std.specs.Prelude.{◌≡◌, ℤ, List, Some}
+use Rattle.std.specs.Prelude.{◌≡◌, ℤ, Some}
 use Rattle.book_model.specs.declared.fact.Fact.{Fact}
 use Rattle.oracle_core.specs.Inquiring.{Meaning}
 use Rattle.oracle_core.specs.Pairs.{StandsWith, FactTable, value_beside, one_value_beside, one_truth}

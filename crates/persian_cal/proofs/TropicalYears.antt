@@ -1,32 +1,21 @@
 -- Spans of mean tropical years: the quotients that they are, and how large they get.
-use Rattle.std.specs.Prelude.{◌≡◌, ℤ, pos, negsuc, ◌+ℤ◌, ◌*ℤ◌, ◌≤ℤ◌, refl}
+use Rattle.std.specs.Prelude.{◌≡◌, ℤ, pos, negsuc, ◌+ℤ◌, ◌*ℤ◌, refl}
 use Rattle.std.proofs.Common.{arith}
 use Rattle.std.proofs.lemmas.Int.{ints}
 use Rattle.exact_math.specs.Fraction.{floor_quotient, times, plus, reciprocal}
 use Rattle.exact_math.proofs.Floors.{floor_quotient_is}
-use Rattle.book_model.specs.Spans.{days_of_years, years_of_days, nearest}
+use Rattle.calendar_math.proofs.SpanLemmas.{LiesWithin}
+use Rattle.book_model.specs.Spans.{days_of, days_of_years, years_of_days, nearest}
 
 -- the days of years as a quotient of whole numbers
 pub days_of_years_is : (years : ℤ) → days_of_years years ≡ floor_quotient (pos 365242189 *ℤ years) 999999
-unfolding days_of_years times
+unfolding days_of_years days_of times
 days_of_years_is years = refl
 
 -- the years of days as a quotient of whole numbers
 pub years_of_days_is : (days : ℤ) → years_of_days days ≡ floor_quotient ((days *ℤ pos 1000000) *ℤ pos 2 +ℤ pos 365242189) 730484377
 unfolding years_of_days nearest times plus reciprocal
 years_of_days_is days = refl
-
--- a number lies between two others
-pub record LiesWithin (low high z : ℤ) : Type 0 where
-  pub from : low ≤ℤ z
-  pub to : z ≤ℤ high
-
--- the quotients lie within these ends
-pub quotient_days_near : (years q : ℤ) → q ≡ floor_quotient (pos 365242189 *ℤ years) 999999 → LiesWithin (negsuc 50000000) (pos 50000000) years → LiesWithin (negsuc 18999999999) (pos 19000000000) q
-quotient_days_near years q e h = let f = floor_quotient_is (pos 365242189 *ℤ years) 999999 in record { from = omega (arith, ints, h.from, h.to, f.not_above, f.close); to = omega (arith, ints, h.from, h.to, f.not_above, f.close) }
-
-pub quotient_years_near : (days q : ℤ) → q ≡ floor_quotient ((days *ℤ pos 1000000) *ℤ pos 2 +ℤ pos 365242189) 730484377 → LiesWithin (negsuc 50000000) (pos 50000000) days → LiesWithin (negsuc 199999) (pos 200000) q
-quotient_years_near days q e h = let f = floor_quotient_is ((days *ℤ pos 1000000) *ℤ pos 2 +ℤ pos 365242189) 730484377 in record { from = omega (arith, ints, h.from, h.to, f.not_above, f.close); to = omega (arith, ints, h.from, h.to, f.not_above, f.close) }
 
 -- the days of the years that values of facts begin
 pub days_near : (years : ℤ) → LiesWithin (negsuc 30000) (pos 30000) years → LiesWithin (negsuc 11999999) (pos 12000000) (days_of_years years)

@@ -7,7 +7,7 @@ use Rattle.exact_math.proofs.Floors.{floor_quotient_is}
 use Rattle.book_model.specs.Inquiries.{to_32_bits}
 use Rattle.book_model.specs.Persian.{days_before, month_of}
 use Rattle.book_model.specs.Spans.{ceiling_quotient}
-use Rattle.persian_cal.proofs.TropicalYears.{LiesWithin}
+use Rattle.calendar_math.proofs.SpanLemmas.{LiesWithin}
 
 -- a year that a value of a fact begins is its own nearest number of 32 bits
 pub year_stands : (year : ℤ) → LiesWithin (negsuc 29999) (pos 30000) year → to_32_bits year ≡ year

@@ -1,13 +1,12 @@
 //! Persian dates, and the facts that they are found by.
 ghost use Rattle.std.specs.Prelude.{◌≡◌, ◌≤◌, ◌≤ℤ◌, ◌+ℤ◌, ◌-ℤ◌, pos, negsuc, IfOk};
-ghost use Rattle.book_model.specs.Inquiries.{to_8_bits as nearest};
 ghost use Rattle.book_model.specs.Persian.{nowruz_fact, day_within as day_within_year, days_before as days_of_months_before, year_begun as year_begun_on, date_in as date_of_number, persian_on, persian_day};
 ghost use Rattle.oracle_core.specs.Inquiring.{Inquires, map_ok};
 ghost use Rattle.persian_cal.specs.Dates.{fields_of_date};
 
 use crate::months::{days_before, month_of};
-use crate::spans::{days_of_years, years_of_days};
 use book_model::{Fact, Kind, PERSIAN_EPOCH, Place};
+use calendar_math::{days_of_years, to_8_bits, years_of_days};
 use oracle_core::{Oracle, Stop};
 
 /// A date of the Persian calendar.
@@ -56,19 +55,6 @@ fn year_begun(first: i64) -> i64
     ensures to { result ≤ℤ pos 30000 }
 {
     1 + years_of_days(first - PERSIAN_EPOCH)
-}
-
-/// The nearest number of 8 bits.
-fn to_8_bits(value: i64) -> u8
-    ensures number { pos result ≡ nearest value }
-{
-    if value <= 0 {
-        0
-    } else if value >= 255 {
-        255
-    } else {
-        value as u8
-    }
 }
 
 /// Year, month and day of a day of the year, which counts from 1.

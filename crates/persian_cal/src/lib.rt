@@ -1,17 +1,13 @@
 //! Dates of the Persian calendar by the equinox, over any oracle that answers facts: which facts are asked, in which
 //! order, and what follows from their values. All of it is in whole numbers; the mean tropical year is an exact
-//! fraction. `spans` counts tropical years and their days, `months` the months of a year, `date` asks the oracle,
-//! `fields` has dates as the fields of a line.
+//! fraction. `months` counts the months of a year, `date` asks the oracle, `fields` has dates as the fields of a line.
 #![tactic(auto)]
 
 mod date;
 mod fields;
 mod months;
-mod quotients;
-mod spans;
 #[cfg(test)]
 mod tests;
 
 pub use date::{PersianDate, from_fixed, to_fixed};
 pub use fields::{date_on, named_day};
-pub use spans::{days_of_years, years_of_days};

@@ -2,7 +2,7 @@
 ghost use Rattle.std.specs.Prelude.{◌≡◌, pos, negsuc, ◌≤ℤ◌};
 ghost use Rattle.book_model.specs.Persian.{days_before as days_of_months_before, month_of as month_of_number};
 
-use crate::quotients::quotient_up;
+use calendar_math::quotient_up;
 
 /// The days of the year that the first six months have.
 const DAYS_OF_SIX_MONTHS: i64 = 186;

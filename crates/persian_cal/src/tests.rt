@@ -219,36 +219,3 @@ fn days_are_those_of_the_dates(rt: HostRuntime) -> Result<(), Fail> {
     }
     Ok(())
 }
-
-#[test]
-fn tropical_years_are_counted(rt: HostRuntime) -> Result<(), Fail> {
-    for (years, days) in [
-        (-50_000_000, -18_262_109_450),
-        (-1, -366),
-        (0, 0),
-        (1, 365),
-        (2, 730),
-        (1403, 512_434),
-        (50_000_000, 18_262_109_450),
-    ] {
-        assert!(rt; -50_000_000 <= years);
-        assert!(rt; years <= 50_000_000);
-        assert_eq!(rt; days_of_years(years), days, "at {years}");
-    }
-    for (days, years) in [
-        (-50_000_000, -136_895),
-        (-183, -1),
-        (-182, 0),
-        (0, 0),
-        (182, 0),
-        (183, 1),
-        (365, 1),
-        (512_069, 1402),
-        (50_000_000, 136_895),
-    ] {
-        assert!(rt; -50_000_000 <= days);
-        assert!(rt; days <= 50_000_000);
-        assert_eq!(rt; years_of_days(days), years, "at {days}");
-    }
-    Ok(())
-}

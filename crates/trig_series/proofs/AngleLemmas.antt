@@ -136,9 +136,6 @@ turn_z k q e f = rw (← e) (by_size (k -ℤ q *ℤ pos 8) (k -ℤ (pos 8 *ℤ q
     by_size a (pos m) e h = e
     by_size a (negsuc m) e h = absurd (omega (arith, ints))
 
-pub turn_of : (k q : ℤ) → q ≡ int_div_euclid k (pos 8) → (k -ℤ q *ℤ pos 8 ≡ pos (octant_of_turn k)) × ((k -ℤ q *ℤ pos 8) ≤ℤ pos 7)
-turn_of k q e = let f = e ∙ euclid_is k 8 (omega arith) in turn_z k q f (rw f (floor_quotient_is k 7))
-
 edge_count : (k d : ℤ) → plus (at_56 d) (opposite (octant_edge k)) ≈ at_56 (d -ℤ k *ℤ pos 3242591731706757120)
 unfolding plus opposite times
 edge_count k d = record { cross = omega (arith, ints) }

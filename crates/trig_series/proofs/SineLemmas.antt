@@ -88,33 +88,6 @@ cut_narrow from to lo hi p q p' q' o e f e' f' n s c =
     }
 
 -- ---- ends that are far from 0 or far apart
-pub far_below : (from to lo hi : ℤ) → from <ℤ neg_ℤ (pos (2 ^ 120)) → from ≤ℤ to → lo ≡ neg_ℤ (pos 72057594037927936) → hi ≡ pos 72057594037927936 → IsNarrowSine from to lo hi
-far_below from to lo hi h o e f = record {
-  above = omega (arith, ints, e);
-  below = omega (arith, ints, f);
-  narrow = λ r t. absurd (omega (arith, ints, h, r));
-  small = λ a x y z. absurd (omega (arith, ints, h, x, z));
-  crest = λ a x y z. absurd (omega (arith, ints, h, x, z));
-}
-
-pub far_above : (from to lo hi : ℤ) → pos (2 ^ 120) <ℤ to → from ≤ℤ to → lo ≡ neg_ℤ (pos 72057594037927936) → hi ≡ pos 72057594037927936 → IsNarrowSine from to lo hi
-far_above from to lo hi h o e f = record {
-  above = omega (arith, ints, e);
-  below = omega (arith, ints, f);
-  narrow = λ r t. absurd (omega (arith, ints, h, t));
-  small = λ a x y z. absurd (omega (arith, ints, h, y, z));
-  crest = λ a x y z. absurd (omega (arith, ints, h, y, z));
-}
-
-pub far_apart : (from to lo hi : ℤ) → pos 25940733853654056960 ≤ℤ (to -ℤ from) → lo ≡ neg_ℤ (pos 72057594037927936) → hi ≡ pos 72057594037927936 → IsNarrowSine from to lo hi
-far_apart from to lo hi h e f = record {
-  above = omega (arith, ints, e);
-  below = omega (arith, ints, f);
-  narrow = λ r t. omega (arith, ints, h, e, f);
-  small = λ a x y z. absurd (omega (arith, ints, h, x, y, z));
-  crest = λ a x y z. absurd (omega (arith, ints, h, x, y, z));
-}
-
 -- ---- 90 degrees more
 quarter_more : (from to a b : ℤ) → a ≡ from +ℤ pos 6485183463413514240 → b ≡ to +ℤ pos 6485183463413514240 → sum (between (at_56 from) (at_56 to)) (only (whole (pos 90))) ⊆ between (at_56 a) (at_56 b)
 unfolding sum plus

@@ -1,0 +1,14 @@
+//! Arithmetic that calendars share: whole numbers of days, and of spans as a year or a month, whose length is an exact
+//! fraction of a day. `quotients` rounds quotients down and up, `spans` counts spans and their days, `ends` gives the
+//! nearest number of a type.
+#![tactic(auto)]
+
+mod ends;
+mod quotients;
+mod spans;
+#[cfg(test)]
+mod tests;
+
+pub use ends::{to_8_bits, to_32_bits};
+pub use quotients::quotient_up;
+pub use spans::{days_of, days_of_years, spans_of, years_of_days};

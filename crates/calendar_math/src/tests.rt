@@ -1,0 +1,114 @@
+//! Numbers of an independent implementation.
+ghost use Rattle.std.specs.Prelude.{◌≤ℤ◌, pos, negsuc};
+
+use super::*;
+use book_model::{Frac, TROPICAL_YEAR};
+use std::test::Fail;
+
+/// The number of mean synodic months that is nearest to so many days.
+fn months_of(days: i64) -> Option<i64>
+    requires from { negsuc 99999999 ≤ℤ days }
+    requires to { days ≤ℤ pos 100000000 }
+{
+    let month = Frac::new(29_530_588_861, 1_000_000_000)?;
+    Some(spans_of(month, days, 1, 2))
+}
+
+/// The whole days of half so many mean synodic months.
+fn days_of_half_months(halves: i64) -> Option<i64>
+    requires from { negsuc 99999999 ≤ℤ halves }
+    requires to { halves ≤ℤ pos 100000000 }
+{
+    let month = Frac::new(29_530_588_861, 1_000_000_000)?;
+    Some(days_of(month, halves, 2))
+}
+
+#[test]
+fn tropical_years_are_counted(rt: HostRuntime) -> Result<(), Fail> {
+    for (years, days) in [
+        (-50_000_000, -18_262_109_450),
+        (-1, -366),
+        (0, 0),
+        (1, 365),
+        (2, 730),
+        (1403, 512_434),
+        (50_000_000, 18_262_109_450),
+    ] {
+        assert!(rt; -50_000_000 <= years);
+        assert!(rt; years <= 50_000_000);
+        assert_eq!(rt; days_of_years(years), days, "at {years}");
+    }
+    for (days, years) in [
+        (-50_000_000, -136_895),
+        (-183, -1),
+        (-182, 0),
+        (0, 0),
+        (182, 0),
+        (183, 1),
+        (365, 1),
+        (512_069, 1402),
+        (50_000_000, 136_895),
+    ] {
+        assert!(rt; -50_000_000 <= days);
+        assert!(rt; days <= 50_000_000);
+        assert_eq!(rt; years_of_days(days), years, "at {days}");
+    }
+    Ok(())
+}
+
+#[test]
+fn fractions_of_spans_are_counted(rt: HostRuntime) -> Result<(), Fail> {
+    for (halves, days) in [(-199, -36_342), (1, 182), (361, 65_926), (363, 66_291)] {
+        assert!(rt; -1000 <= halves);
+        assert!(rt; halves <= 1000);
+        assert_eq!(rt; days_of(TROPICAL_YEAR, halves, 2), days, "at {halves}");
+    }
+    for (days, more, years) in [
+        (1_702_007, 6, 4660),
+        (1_702_029, 17, 4661),
+        (1_617_420, 11, 4429),
+    ] {
+        assert!(rt; 0 <= days);
+        assert!(rt; days <= 2_000_000);
+        assert!(rt; 0 <= more);
+        assert!(rt; more <= 100);
+        assert_eq!(rt; spans_of(TROPICAL_YEAR, days, more, 12), years, "at {days}");
+    }
+    Ok(())
+}
+
+#[test]
+fn synodic_months_are_counted(rt: HostRuntime) -> Result<(), Fail> {
+    for (days, months) in [(-15, -1), (14, 0), (15, 1), (355, 12), (384, 13)] {
+        assert!(rt; -1000 <= days);
+        assert!(rt; days <= 1000);
+        assert_eq!(rt; months_of(days), Some(months), "at {days}");
+    }
+    for (halves, days) in [
+        (-3, -45),
+        (0, 0),
+        (1, 14),
+        (33_551, 495_390),
+        (34_800, 513_832),
+    ] {
+        assert!(rt; -100_000 <= halves);
+        assert!(rt; halves <= 100_000);
+        assert_eq!(rt; days_of_half_months(halves), Some(days), "at {halves}");
+    }
+    Ok(())
+}
+
+#[test]
+fn nearest_numbers_of_a_type(rt: HostRuntime) -> Result<(), Fail> {
+    for (value, narrow, wide) in [
+        (-3_000_000_000, 0, i32::MIN),
+        (-1, 0, -1),
+        (254, 254, 254),
+        (256, 255, 256),
+        (3_000_000_000, 255, i32::MAX),
+    ] {
+        assert_eq!(rt; to_8_bits(value), narrow, "at {value}");
+        assert_eq!(rt; to_32_bits(value), wide, "at {value}");
+    }
+    Ok(())
+}
