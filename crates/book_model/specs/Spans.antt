@@ -15,9 +15,9 @@ nearest a = floor (plus a (fraction_of HALF))
 abbrev pub ceiling_quotient : ℤ → ℕ → ℤ
 ceiling_quotient n d = neg_ℤ (floor_quotient (neg_ℤ n) d)
 
--- the number from 1 to m that differs from n by a multiple of m, where m is d + 1
+-- the number from 1 to d + 1 that differs from n by a multiple of d + 1
 abbrev pub amod : ℤ → ℕ → ℤ
-amod n d = n -ℤ pos (suc d) *ℤ (ceiling_quotient n d -ℤ pos 1)
+amod n d = n -ℤ floor_quotient (n -ℤ pos 1) d *ℤ pos (suc d)
 
 -- n / (d + 1)
 abbrev pub ratio : ℤ → ℕ → Fraction

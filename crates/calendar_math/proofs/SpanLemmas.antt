@@ -1,14 +1,14 @@
 -- Spans and their days as quotients of whole numbers, and how large quotients get.
-use Rattle.std.specs.Prelude.{◌≡◌, ℕ, suc, ◌+◌, ◌-◌, ◌*◌, ◌/◌, ◌≤◌, ◌<◌, ◌^◌, ℤ, pos, negsuc, ◌+ℤ◌, ◌*ℤ◌, ◌≤ℤ◌, refl}
+use Rattle.std.specs.Prelude.{◌≡◌, ℕ, suc, ◌+◌, ◌-◌, ◌*◌, ◌/◌, ◌≤◌, ◌<◌, ◌^◌, ℤ, pos, negsuc, ◌+ℤ◌, ◌*ℤ◌, ◌-ℤ◌, ◌≤ℤ◌, refl}
 use Rattle.std.proofs.Common.{zero, arith, ap, sym, ◌∙◌, SFits}
 use Rattle.std.specs.Int.{w128}
 use Rattle.std.proofs.lemmas.Int.{ints}
 use Rattle.exact_math.specs.Fraction.{floor_quotient, times, plus, reciprocal, below_product}
-use Rattle.exact_math.proofs.Floors.{floor_quotient_mono}
+use Rattle.exact_math.proofs.Floors.{floor_quotient_mono, floor_quotient_is}
 use Rattle.exact_math.proofs.Fractions.{den_product}
 use Rattle.exact_math.proofs.IntLaws.{mul_assoc, mul_one}
 use Rattle.std.proofs.Math.Nat.{mul-le-mul_right}
-use Rattle.book_model.specs.Spans.{ratio, days_of, spans_of, days_of_years, years_of_days, nearest}
+use Rattle.book_model.specs.Spans.{amod, ratio, days_of, spans_of, days_of_years, years_of_days, nearest}
 
 -- the denominator of a product
 below_is : (m n : ℕ) → suc m * suc n - 1 ≡ below_product m n
@@ -115,3 +115,17 @@ sum_fits n s d h k l =
 -- a product of positive numbers is positive
 pub product_above : (s d : ℕ) → 0 < s → 0 < d → 0 < s * d
 product_above s d h k = grind arith
+
+-- what is left of a number by the quotient of the one before it, and how large it is
+pub record IsLeft (n q : ℤ) (d : ℕ) : Type 0 where
+  pub same : n -ℤ q *ℤ pos d ≡ amod n (d - 1)
+  pub from : pos 1 ≤ℤ (n -ℤ q *ℤ pos d)
+  pub to : (n -ℤ q *ℤ pos d) ≤ℤ pos d
+
+pub left_lies : (n q : ℤ) (d : ℕ) → 0 < d → q ≡ floor_quotient (n -ℤ pos 1) (d - 1) → IsLeft n q d
+left_lies n q zero h k = absurd (omega arith)
+left_lies n q (suc d) h k =
+    let e : suc d - 1 ≡ d = omega arith in
+    let f = floor_quotient_is (n -ℤ pos 1) d in
+    let is : q ≡ floor_quotient (n -ℤ pos 1) d = rw e at k in
+    rw is (record { same = rw e refl; from = omega (arith, ints, f.not_above, f.close); to = omega (arith, ints, f.not_above, f.close) })

@@ -99,6 +99,24 @@ fn synodic_months_are_counted(rt: HostRuntime) -> Result<(), Fail> {
 }
 
 #[test]
+fn remainders_from_1_on(rt: HostRuntime) -> Result<(), Fail> {
+    for (number, divisor, rest) in [
+        (-60, 60, 60),
+        (-1, 12, 11),
+        (0, 12, 12),
+        (1, 12, 1),
+        (12, 12, 12),
+        (4660, 60, 40),
+    ] {
+        assert!(rt; -1000 <= number);
+        assert!(rt; number <= 10_000);
+        assert!(rt; 0 < divisor);
+        assert_eq!(rt; amod(number, divisor), rest, "at {number}");
+    }
+    Ok(())
+}
+
+#[test]
 fn nearest_numbers_of_a_type(rt: HostRuntime) -> Result<(), Fail> {
     for (value, narrow, wide) in [
         (-3_000_000_000, 0, i32::MIN),

@@ -26,7 +26,7 @@ pub next_keeps : {E : Type 0} (shown : E → Interval) (l : Limits) (r : Reach) 
 unfolding Keeps bound_of power_bound
 next_keeps shown l r x zero e h n = absurd (omega (arith, h))
 next_keeps shown l r x (suc zero) e h n = absurd (omega (arith, h))
-next_keeps shown l r x (suc (suc k)) e h n = record { kept = n.kept }
+next_keeps shown l r x (suc (suc k)) e h n = record { kept = rw add-one n.kept }
 
 pub times_none : (f x : Expression) → times_power f 0 x ≡ x
 unfolding times_power

@@ -1,9 +1,10 @@
 //! An oracle that asks an evaluator.
-ghost use Rattle.std.specs.Prelude.{◌≡◌, ◌++◌, ℤ, [], ◌∷◌, List, false, OnOk, OnErr};
+ghost use Rattle.std.specs.Prelude.{◌≤ℤ◌, pos, negsuc, IfOk, ◌≡◌, ◌++◌, ℤ, [], ◌∷◌, List, false, OnOk, OnErr};
 ghost use Rattle.book_model.specs.declared.fact.Fact.{Fact};
 ghost use Rattle.std.specs.List.{list_any};
-ghost use Rattle.book_model.specs.Inquiries.{fact_eq};
-ghost use Rattle.oracle_core.specs.Oracles.{by_evaluator, one_by_evaluator};
+ghost use Rattle.book_model.specs.Inquiries.{ask_once, fact_eq};
+ghost use Rattle.oracle_core.specs.Inquiring.{Inquires};
+ghost use Rattle.oracle_core.specs.Oracles.{after_pairs, by_evaluator, one_by_evaluator};
 ghost use Rattle.oracle_core.specs.Pairs.{StandsWith, AllStand, facts_of};
 
 use crate::noted::Noted;
@@ -72,6 +73,23 @@ impl<'a, E: Evaluator> Asking<'a, E> {
             }
         }
     }
+
+    /// The value of a fact that isn't kept yet, by the evaluator; then it is kept. A stop changes nothing.
+    fn evaluate(&mut self, fact: Fact) -> Result<i64, Stop>
+        requires new { list_any (fact_eq fact) (facts_of self.old) ≡ false }
+        ensures asks { Inquires by_evaluator (ask_once fact) (after_pairs self.old) (after_pairs self.new) result }
+        ensures low { IfOk result (λ v. negsuc 9999999 ≤ℤ v) }
+        ensures high { IfOk result (λ v. v ≤ℤ pos 10000000) }
+    {
+        match self.evaluator.eval(fact) {
+            Answer::Value(value) => {
+                self.keep(fact, value)?;
+                Ok(value)
+            }
+            Answer::Undecided(at) => Err(Stop::Undecided(fact, at)),
+            Answer::Void(site) => Err(Stop::Void(fact, site)),
+        }
+    }
 }
 
 impl<'a, E: Evaluator> Oracle for Asking<'a, E> {
@@ -79,21 +97,14 @@ impl<'a, E: Evaluator> Oracle for Asking<'a, E> {
 
     ghost meaning = { by_evaluator };
 
-    ghost state = { λ a. record { known = tt; asked = facts_of a } };
+    ghost state = { λ a. after_pairs a };
 
     ghost one_value = { one_by_evaluator };
 
     fn ask(&mut self, fact: Fact) -> Result<i64, Stop> {
         match self.asked.place(fact) {
             Some(place) => Ok(self.kept.item(place).1),
-            None => match self.evaluator.eval(fact) {
-                Answer::Value(value) => {
-                    self.keep(fact, value)?;
-                    Ok(value)
-                }
-                Answer::Undecided(at) => Err(Stop::Undecided(fact, at)),
-                Answer::Void(site) => Err(Stop::Void(fact, site)),
-            },
+            None => self.evaluate(fact),
         }
     }
 }
