@@ -8,9 +8,9 @@ use Rattle.exact_math.specs.Interval.{Interval, between, ◌⊆◌, product, quo
 use Rattle.exact_math.proofs.Ring.{at, lit, ◌⊖◌, ◌⊗◌, minus}
 use Rattle.exact_math.proofs.Bounds.{◌≼◌, known, ◌⊠◌, times as naturally, le_by, pos_nonneg, square_nonneg}
 use Rattle.exact_math.proofs.IntLaws.{mul_one}
-use Rattle.exact_math.proofs.Fractions.{by_cross, den_product, le_trans, larger_keeps}
+use Rattle.exact_math.proofs.Fractions.{by_cross, den_product, larger_keeps}
 use Rattle.exact_math.proofs.Intervals.{least_is, greatest_is, within_trans}
-use Rattle.encl_core.specs.Rounding.{at_36, IsFloor, IsCeiling, IsBelowFour, IsAboveFour, IsOneSided, AreQuotients, least_square_of, Keeps64}
+use Rattle.encl_core.specs.Rounding.{at_36, IsFloor, IsCeiling, IsOneSided, AreQuotients, least_square_of, Keeps64}
 use Rattle.encl_core.proofs.Keeping.{kept_within}
 
 abbrev K : ℤ

@@ -2,7 +2,7 @@
 use Rattle.std.proofs.Common.{◌≡◌, ℕ, ◌+◌, ◌*◌, ◌^◌, ◌<◌, refl, arith, Bool, true, false, ◌&&◌, ℤ, pos, ◌+ℤ◌, ◌*ℤ◌, ◌-ℤ◌, ◌≤ℤ◌, SFits, w64}
 use Rattle.std.proofs.lemmas.Int.{ints}
 use Rattle.std.proofs.lemmas.Bool.{ltb-true}
-use Rattle.exact_math.specs.Fraction.{whole, plus}
+use Rattle.exact_math.specs.Fraction.{plus}
 use Rattle.exact_math.specs.Interval.{Interval, everything, between, ◌⊆◌, sum}
 use Rattle.exact_math.proofs.Intervals.{within_trans, within_everything}
 use Rattle.book_model.specs.Bounds.{Bound, unbounded, bounded, range_size, limited, integer_bound, sum_bound, Spans, IsNarrow, limits_36}

@@ -6,7 +6,6 @@ use Rattle.exact_math.specs.Fraction.{whole, floor_quotient, plus, opposite}
 use Rattle.exact_math.specs.Interval.{Interval, everything, between, ◌⊆◌, sum, negative, difference}
 use Rattle.exact_math.proofs.Intervals.{within_trans}
 use Rattle.book_model.specs.Programs.{multiples, cell_of, cell_at}
-use Rattle.book_model.specs.Leading.{at_56}
 use Rattle.encl_core.specs.Rounding.{at_36, Keeps64}
 use Rattle.encl_core.proofs.Keeping.{kept_within}
 use Rattle.encl_core.proofs.Testing.{eq_yes, eq_no}

@@ -1,10 +1,10 @@
 -- Pi lies between its neighbours that count 2^-56.
-use Rattle.std.proofs.Common.{◌≡◌, ℕ, ◌≤◌, pos, arith}
+use Rattle.std.proofs.Common.{ℕ, ◌≤◌, pos, arith}
 use Rattle.std.proofs.lemmas.Int.{ints}
 use Rattle.exact_math.specs.Fraction.{plus}
 use Rattle.exact_math.specs.Interval.{Interval, between, ◌⊆◌}
 use Rattle.exact_math.proofs.Intervals.{within_trans}
-use Rattle.book_model.specs.Bounds.{Bound, Limits, Reach, IsNarrow, Spans, bound_of, spanned_bound, pi_spans, limits_of}
+use Rattle.book_model.specs.Bounds.{Bound, Reach, IsNarrow, bound_of, spanned_bound, pi_spans, limits_of}
 use Rattle.book_model.specs.Expressions.{World, value, pi}
 use Rattle.book_model.specs.Leading.{at_56}
 use Rattle.book_model.specs.Relations.{Within, Lies, Narrow, Keeps}

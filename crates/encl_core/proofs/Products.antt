@@ -1,14 +1,13 @@
 -- Ends at scale 2^-36 that keep the bounds of products and squares.
-use Rattle.std.proofs.Common.{◌≡◌, ℕ, zero, suc, ◌+◌, ◌*◌, ◌-◌, ◌^◌, ◌≤◌, ◌<◌, refl, sym, arith, Bool, true, false, cond, int_le, neg_ℤ, ℤ, pos, ◌+ℤ◌, ◌*ℤ◌, ◌-ℤ◌, ◌≤ℤ◌, ◌<ℤ◌, [], ◌∷◌}
-use Rattle.std.specs.Prelude.{nat_lt}
-use Rattle.std.proofs.lemmas.Int.{ints, clamps, by_lt_z}
+use Rattle.std.proofs.Common.{◌≡◌, ℕ, suc, ◌+◌, ◌*◌, ◌-◌, ◌^◌, ◌≤◌, ◌<◌, refl, sym, arith, Bool, true, false, cond, int_le, neg_ℤ, ℤ, pos, ◌+ℤ◌, ◌*ℤ◌, ◌-ℤ◌, ◌≤ℤ◌, [], ◌∷◌}
+use Rattle.std.proofs.lemmas.Int.{ints}
 use Rattle.std.proofs.lemmas.Bool.{ltb-true}
 use lib.Signed.{≤ℤ_refl}
 use Rattle.exact_math.specs.Interval.{Interval, everything, between}
 use Rattle.exact_math.proofs.Ring.{at, lit, ◌⊕◌, ◌⊖◌, ◌⊗◌}
 use Rattle.exact_math.proofs.Bounds.{◌≼◌, known, ◌⊞◌, ◌⊠◌, times as naturally, le_by, pos_nonneg, square_nonneg}
-use Rattle.book_model.specs.Bounds.{Bound, unbounded, bounded, range_size, ceil_div, limited, around, product_around, product_bound, power_bound, IsNarrow, limits_36}
-use Rattle.encl_core.specs.Rounding.{at_36, Keeps64, IsFloor, IsCeiling, IsBelowFour, IsAboveFour, IsAboveEachBelow, IsBelowEachAbove, least_square_of}
+use Rattle.book_model.specs.Bounds.{Bound, unbounded, bounded, range_size, ceil_div, product_bound, power_bound, IsNarrow, limits_36}
+use Rattle.encl_core.specs.Rounding.{at_36, Keeps64, IsFloor, IsCeiling, IsAboveEachBelow, IsBelowEachAbove, least_square_of}
 use Rattle.encl_core.proofs.Keeping.{AreKept, kept_of, limited_narrow}
 
 halved : (p q : ℤ) → (pos 2 *ℤ p) ≤ℤ (pos 2 *ℤ q) → p ≤ℤ q

@@ -1,5 +1,5 @@
 -- Quotients of ends at scale 2^-36 by a divisor above 0: two of them enclose all, and they keep a bound.
-use Rattle.std.proofs.Common.{◌≡◌, ℕ, zero, suc, ◌+◌, ◌*◌, ◌-◌, ◌^◌, ◌≤◌, ◌<◌, refl, sym, arith, Bool, true, false, neg_ℤ, unsigned_abs, ℤ, pos, negsuc, ◌+ℤ◌, ◌*ℤ◌, ◌-ℤ◌, ◌≤ℤ◌, ◌<ℤ◌, [], ◌∷◌, inl, inr}
+use Rattle.std.proofs.Common.{◌≡◌, ℕ, zero, suc, ◌+◌, ◌*◌, ◌-◌, ◌^◌, ◌≤◌, refl, arith, neg_ℤ, ℤ, pos, negsuc, ◌+ℤ◌, ◌*ℤ◌, ◌-ℤ◌, ◌≤ℤ◌, ◌<ℤ◌, [], ◌∷◌, inl, inr}
 use Rattle.std.proofs.lemmas.Int.{ints, by_lt_z}
 use Rattle.std.proofs.lemmas.Bool.{ltb-true}
 use Rattle.exact_math.specs.Interval.{Interval, everything, between}
@@ -8,7 +8,7 @@ use Rattle.exact_math.proofs.Bounds.{◌≼◌, known, ◌⊞◌, ◌⊠◌, tim
 use lib.Signed.{≤ℤ_refl}
 use Rattle.book_model.specs.Bounds.{Bound, unbounded, bounded, range_size, ceil_div, quotient_bound, IsNarrow, limits_36}
 use Rattle.encl_core.specs.Rounding.{at_36, Keeps64, IsFloor, IsCeiling, IsLeastBy, IsGreatestBy, AreQuotients}
-use Rattle.encl_core.proofs.Keeping.{AreKept, kept_of, limited_narrow, both}
+use Rattle.encl_core.proofs.Keeping.{AreKept, kept_of, limited_narrow}
 use Rattle.encl_core.proofs.Quotients.{next_le}
 use Rattle.encl_core.proofs.Products.{AreSized, sized, ceil_above, around_size}
 

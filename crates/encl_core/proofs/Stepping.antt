@@ -1,5 +1,5 @@
 -- Quotients in two steps of 64 bits, and what they are together.
-use Rattle.std.proofs.Common.{◌≡◌, ℕ, zero, suc, ◌+◌, ◌*◌, ◌/◌, ◌-◌, ◌^◌, ◌<◌, arith, ℤ, pos, negsuc, ◌+ℤ◌, ◌-ℤ◌, ◌*ℤ◌, ◌≤ℤ◌, ◌<ℤ◌, ◌∙◌, refl, SFits, Fits, unsigned_abs, int_div, [], ◌∷◌}
+use Rattle.std.proofs.Common.{◌≡◌, ℕ, zero, suc, ◌/◌, ◌-◌, ◌^◌, ◌<◌, arith, ℤ, pos, negsuc, ◌+ℤ◌, ◌-ℤ◌, ◌*ℤ◌, ◌≤ℤ◌, ◌<ℤ◌, ◌∙◌, refl, SFits, Fits, unsigned_abs, int_div, [], ◌∷◌}
 use lib.Dec.{T}
 use lib.Signed.{non_neg}
 use Rattle.std.specs.Int.{w64, w128, int_div_euclid}

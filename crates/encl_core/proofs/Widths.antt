@@ -1,22 +1,21 @@
 -- Ends at scale 2^-36 that keep the bounds of differences, opposites, the lesser and the greater, remainders, and
 -- of ends that count 2^-56.
-use Rattle.std.proofs.Common.{◌≡◌, ℕ, zero, suc, ◌+◌, ◌*◌, ◌-◌, ◌^◌, ◌≤◌, ◌<◌, max, refl, sym, ◌∙◌, ap, arith, Bool, true, false, cond, neg_ℤ, ℤ, pos, ◌+ℤ◌, ◌*ℤ◌, ◌-ℤ◌, ◌≤ℤ◌, ◌<ℤ◌, int_eq, Some, SFits}
+use Rattle.std.proofs.Common.{◌≡◌, ℕ, suc, ◌+◌, ◌*◌, ◌-◌, ◌^◌, ◌≤◌, ◌<◌, max, refl, sym, arith, Bool, true, false, neg_ℤ, ℤ, pos, ◌+ℤ◌, ◌*ℤ◌, ◌-ℤ◌, ◌≤ℤ◌, ◌<ℤ◌, int_eq, Some, SFits}
 use Rattle.std.specs.Int.{w64, w128, int_max, int_min}
 use Rattle.std.proofs.lemmas.Int.{ints, clamps, by_lt_z}
 use Rattle.std.proofs.lemmas.Bool.{ltb-true}
 use Rattle.std.proofs.Math.Nat.{mul-le-mul_right}
-use Rattle.exact_math.specs.Fraction.{Fraction, ◌≤F◌, ◌<F◌, whole, plus}
-use Rattle.exact_math.specs.Interval.{Interval, everything, between, AreWithin, ◌⊆◌}
-use Rattle.exact_math.proofs.Fractions.{le_trans, plus_mono, le_refl}
+use Rattle.exact_math.specs.Fraction.{◌≤F◌, ◌<F◌, plus}
+use Rattle.exact_math.specs.Interval.{Interval, everything, between, ◌⊆◌}
 use Rattle.exact_math.proofs.IntLaws.{mul_add}
 use Rattle.exact_math.proofs.Intervals.{within_trans}
-use Rattle.book_model.specs.Bounds.{Bound, unbounded, bounded, range_size, limited, difference_bound, negated_bound, minimum_bound, maximum_bound, remainder_bound, spanned_bound, Spans, IsNarrow, limits_36, no_limits, at_32, breadth}
+use Rattle.book_model.specs.Bounds.{Bound, unbounded, bounded, range_size, difference_bound, negated_bound, minimum_bound, maximum_bound, remainder_bound, spanned_bound, Spans, IsNarrow, limits_36}
 use Rattle.book_model.specs.Leading.{at_56}
-use Rattle.book_model.specs.Programs.{Grid, multiples, cell_at, cell_of, threshold, when}
+use Rattle.book_model.specs.Programs.{multiples, cell_at, cell_of, threshold, when}
 use Rattle.book_model.proofs.Cells.{cells_cut}
-use Rattle.encl_core.specs.Rounding.{at_36, Keeps64, fitting, too_large, IsFloor, IsCeiling}
+use Rattle.encl_core.specs.Rounding.{at_36, Keeps64, IsFloor, IsCeiling}
 use Rattle.encl_core.proofs.Keeping.{AreKept, kept_of, spans_of, kept_within, limited_narrow}
-use Rattle.encl_core.proofs.Testing.{eq_yes, eq_no}
+use Rattle.encl_core.proofs.Testing.{eq_no}
 
 -- ---- differences
 difference_kept : (a b c d : ℤ) (s k t m w : ℕ) (x y x' y' lo hi : ℤ) → lo ≡ x -ℤ y' → hi ≡ y -ℤ x' → AreKept a b s k w x y → AreKept c d t m w x' y' → AreKept (a -ℤ d) (b -ℤ c) (s + t) (k + m) w lo hi

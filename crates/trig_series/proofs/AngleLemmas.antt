@@ -1,28 +1,20 @@
 -- Angles, and the octants of a turn, as the code reads them.
-use Rattle.std.proofs.Common.{◌≡◌, ℕ, zero, suc, ◌≤◌, refl, ap, subst, ◌∙◌, arith, unsigned_abs, ℤ, pos, negsuc, ◌-ℤ◌, ◌*ℤ◌, ◌≤ℤ◌, ◌*◌, ◌-◌, ◌^◌, [], ◌∷◌}
-use Rattle.std.specs.Int.{int_div_euclid}
+use Rattle.std.proofs.Common.{◌≡◌, ℕ, zero, suc, ◌≤◌, refl, ap, arith, unsigned_abs, ℤ, pos, negsuc, ◌-ℤ◌, ◌*ℤ◌, ◌≤ℤ◌, ◌*◌, ◌-◌, ◌^◌, [], ◌∷◌}
 use Rattle.std.proofs.lemmas.Int.{ints}
 use Rattle.exact_math.specs.Fraction.{Fraction, ◌≈◌, whole, plus, opposite, times, floor_quotient}
 use Rattle.exact_math.specs.Interval.{Interval, everything, between, IsMember, IsProper, ◌⊆◌, negative, product, least, greatest}
 use Rattle.exact_math.proofs.Fractions.{le_refl, le_trans, smaller_keeps, larger_keeps}
 use Rattle.exact_math.proofs.FractionRing.{same_by}
 use Rattle.exact_math.proofs.Ring.{at, ◌⊗◌}
-use Rattle.exact_math.proofs.Intervals.{within_trans, within_everything, product_holds, least_is, greatest_is}
+use Rattle.exact_math.proofs.Intervals.{within_everything, product_holds, least_is, greatest_is}
 use Rattle.exact_math.proofs.Same.{le_of_same, ge_of_same, same_refl, same_sym, same_trans, plus_cong, times_cong, opposite_cong}
 use Rattle.exact_math.specs.Sums.{one_over}
-use Rattle.exact_math.proofs.Floors.{IsFloorQuotient, floor_quotient_is}
-use Rattle.book_model.specs.declared.frac.Frac.{Frac}
-use Rattle.book_model.specs.Fractions.{fraction_of}
+use Rattle.exact_math.proofs.Floors.{IsFloorQuotient}
 use Rattle.book_model.specs.Leading.{at_56}
-use Rattle.book_model.specs.Expressions.{Expression, World, value, argument, constant, multiply, negate, pi}
-use Rattle.book_model.specs.Relations.{Within, Lies}
 use Rattle.book_model.specs.Series.{sine_series, cosine_series, pi_at}
 use Rattle.book_model.specs.Octants.{only, radians, short_of, sine_into, octant_of_turn, sine_at, octant_edge}
-use Rattle.book_model.proofs.Values.{value_proper}
 use Rattle.book_model.proofs.Pi.{pi_proper}
-use Rattle.book_model.proofs.SeriesNesting.{sines, cosines}
-use Rattle.book_model.proofs.OctantHulls.{radians_proper, radians_inside, into_proper}
-use Rattle.encl_core.proofs.Periods.{euclid_is}
+use Rattle.book_model.proofs.SeriesNesting.{cosines}
 
 member_same : (i : Interval) (a b : Fraction) → a ≈ b → IsMember a i → IsMember b i
 member_same everything a b e m = tt

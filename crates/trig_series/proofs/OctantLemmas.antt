@@ -3,14 +3,14 @@ use Rattle.std.proofs.Common.{◌≡◌, ℕ, zero, suc, ◌≤◌, ◌∙◌, a
 use Rattle.std.specs.Int.{int_div_euclid, int_max, int_min}
 use Rattle.std.proofs.lemmas.Int.{ints, clamps, by_lt_z}
 use Rattle.exact_math.specs.Fraction.{Fraction, ◌≤F◌, ◌≈◌, opposite, times, smaller, larger}
-use Rattle.exact_math.specs.Interval.{Interval, between, IsProper, ◌⊆◌, negative, hull as interval_hull}
+use Rattle.exact_math.specs.Interval.{Interval, between, ◌⊆◌, negative, hull as interval_hull}
 use Rattle.exact_math.proofs.Fractions.{le_trans, smaller_keeps, smaller_first, smaller_second, larger_keeps, larger_first, larger_second}
 use Rattle.exact_math.proofs.Intervals.{within_trans, hull_within, negative_within}
 use Rattle.exact_math.proofs.Hulls.{hull_holds_first, hull_holds_second}
 use Rattle.exact_math.proofs.Same.{same_of_le, le_of_same, ge_of_same}
 use Rattle.exact_math.proofs.Floors.{IsFloorQuotient, floor_quotient_is}
 use Rattle.book_model.specs.Leading.{at_56}
-use Rattle.book_model.specs.Octants.{octant_edge, octant_of_turn, sine_at, sine_in, first_octant, last_octant, sine_of_degrees}
+use Rattle.book_model.specs.Octants.{octant_edge, sine_at, sine_in, first_octant, last_octant, sine_of_degrees}
 use Rattle.book_model.proofs.DegreeSines.{over_least}
 use Rattle.encl_core.proofs.Periods.{euclid_is}
 

@@ -1,27 +1,27 @@
 -- Spans at single angles of the first octant: they hold the series, and are near its ends.
-use Rattle.std.proofs.Common.{◌≡◌, ℕ, zero, suc, ◌+◌, ◌*◌, ◌-◌, ◌^◌, ◌≤◌, refl, arith, ℤ, pos, negsuc, ◌+ℤ◌, ◌-ℤ◌, ◌*ℤ◌, ◌≤ℤ◌, [], ◌∷◌}
+use Rattle.std.proofs.Common.{ℕ, zero, suc, ◌+◌, ◌*◌, ◌-◌, ◌^◌, ◌≤◌, refl, arith, ℤ, pos, negsuc, ◌+ℤ◌, ◌-ℤ◌, ◌*ℤ◌, ◌≤ℤ◌, [], ◌∷◌}
 use Rattle.std.proofs.lemmas.Int.{ints}
-use Rattle.exact_math.specs.Fraction.{Fraction, ◌≤F◌, ◌≈◌, whole, plus, opposite, times}
+use Rattle.exact_math.specs.Fraction.{Fraction, ◌≤F◌, ◌≈◌, whole, times}
 use Rattle.exact_math.specs.Interval.{Interval, everything, between, IsMember, IsProper, ◌⊆◌, product}
 use Rattle.exact_math.specs.Sums.{lower, upper, one_over}
 use Rattle.exact_math.proofs.Ring.{at, lit, ◌⊖◌, ◌⊗◌}
 use Rattle.exact_math.proofs.Fractions.{le_refl, le_trans}
 use Rattle.exact_math.proofs.FractionRing.{same_by}
 use Rattle.exact_math.proofs.Intervals.{within_trans, within_refl, product_within, product_proper}
-use Rattle.exact_math.proofs.Same.{same_refl, same_sym, same_trans, le_of_same, ge_of_same, same_of_le, times_cong, plus_cong, opposite_cong}
+use Rattle.exact_math.proofs.Same.{same_refl, same_trans, le_of_same, ge_of_same, same_of_le, times_cong, plus_cong, opposite_cong}
 use Rattle.exact_math.proofs.Certificates.{zero_F}
 use Rattle.exact_math.proofs.Narrowing.{at_least}
 use Rattle.book_model.specs.Leading.{at_56}
 use Rattle.book_model.specs.Octants.{only, radians}
 use Rattle.book_model.specs.Series.{sine_series, cosine_series, sine_term, cosine_term, four_fifths, double, pi_at}
 use Rattle.book_model.proofs.Terms.{IsUpTo, falling}
-use Rattle.book_model.proofs.Pi.{binary, pi_number, pi_proper}
+use Rattle.book_model.proofs.Pi.{pi_number, pi_proper}
 use Rattle.book_model.proofs.OctantHulls.{radians_proper}
 use Rattle.book_model.proofs.SeriesNesting.{sines, cosines, inside_in}
 use Rattle.trig_series.specs.Kernel.{at_64, in_radians, IsAngle, AreSineEnds, AreCosineEnds}
 use Rattle.trig_series.specs.Points.{IsNearSine, IsNearCosine}
 use Rattle.trig_series.proofs.AngleLemmas.{radians_in_angle, angle_in_radians, cosine_within}
-use Rattle.trig_series.proofs.KernelAngles.{ends_product, product_ends, sine_there, cosine_there, angles, radians_near, angle_is, degree_ends, turn, turn_proper}
+use Rattle.trig_series.proofs.KernelAngles.{ends_product, product_ends, sine_there, cosine_there, radians_near, angle_is}
 use Rattle.trig_series.proofs.KernelSteps.{IsHigh, step_near}
 use Rattle.trig_series.proofs.SineChain.{sine_near, low_is as sine_low, high_is as sine_high, nested, flipped, step_at, Keeps, Chain, innermost}
 use Rattle.trig_series.proofs.CosineChain.{Chain as CosineChain, innermost as cosine_innermost, cosine_near, low_is as cosine_low, high_is as cosine_high}

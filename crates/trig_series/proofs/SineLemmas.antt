@@ -1,15 +1,15 @@
 -- Sine, cosine and tangent as operations of enclosures.
-use Rattle.std.proofs.Common.{◌≡◌, ℕ, zero, suc, ◌+◌, ◌*◌, ◌^◌, ◌-◌, ◌≤◌, ◌<◌, refl, sym, arith, Bool, true, false, cond, neg_ℤ, ℤ, pos, negsuc, ◌+ℤ◌, ◌-ℤ◌, ◌*ℤ◌, ◌≤ℤ◌, ◌<ℤ◌, ◌⊎◌, inl, inr}
+use Rattle.std.proofs.Common.{◌≡◌, ℕ, suc, ◌+◌, ◌*◌, ◌^◌, ◌≤◌, refl, sym, arith, Bool, true, false, cond, neg_ℤ, ℤ, pos, ◌+ℤ◌, ◌-ℤ◌, ◌*ℤ◌, ◌≤ℤ◌, ◌<ℤ◌, ◌⊎◌, inl, inr}
 use Rattle.std.specs.Prelude.{nat_lt}
 use Rattle.std.specs.Int.{int_max, int_min}
-use Rattle.std.proofs.lemmas.Int.{ints, clamps, by_lt_z}
+use Rattle.std.proofs.lemmas.Int.{ints, clamps}
 use Rattle.std.proofs.lemmas.Bool.{ltb-true}
 use Rattle.std.proofs.Math.Nat.{mul-le-mul_right}
 use Rattle.exact_math.specs.Fraction.{Fraction, ◌≤F◌, whole, plus}
 use Rattle.exact_math.specs.Interval.{Interval, everything, between, IsProper, ◌⊆◌, sum, one, minus_one}
 use Rattle.exact_math.proofs.Fractions.{le_trans, le_refl, plus_mono}
 use Rattle.exact_math.proofs.Intervals.{within_trans, within_refl, sum_within, plus_proper}
-use Rattle.book_model.specs.Bounds.{Bound, unbounded, bounded, Limits, Reach, Spans, IsNarrow, bound_of, limited, around, range_size, ceil_div, sine_size, cosine_least, eighth_turn, sine_spans, cosine_spans, spanned_bound, limits_of, breadth, at_32}
+use Rattle.book_model.specs.Bounds.{Bound, unbounded, bounded, Limits, Reach, Spans, IsNarrow, bound_of, limited, range_size, ceil_div, eighth_turn, sine_spans, cosine_spans, spanned_bound}
 use Rattle.book_model.specs.Expressions.{Expression, World, value, divide, sine, cosine, tangent}
 use Rattle.book_model.specs.Leading.{at_56}
 use Rattle.book_model.specs.Octants.{only, sine_of_degrees, cosine_of_degrees, tangent_of_degrees}

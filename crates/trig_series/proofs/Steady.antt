@@ -1,19 +1,16 @@
 -- Spans at two angles of an octant are hardly further apart than a 57th of what the angles are.
-use Rattle.std.proofs.Common.{◌≡◌, ℕ, zero, suc, ◌+◌, ◌*◌, ◌-◌, ◌^◌, ◌≤◌, refl, arith, neg_ℤ, unsigned_abs, ◌<ℤ◌, ℤ, pos, negsuc, ◌+ℤ◌, ◌-ℤ◌, ◌*ℤ◌, ◌≤ℤ◌, [], ◌∷◌}
+use Rattle.std.proofs.Common.{◌≡◌, ℕ, zero, suc, ◌-◌, ◌≤◌, refl, arith, neg_ℤ, unsigned_abs, ◌<ℤ◌, ℤ, pos, negsuc, ◌+ℤ◌, ◌-ℤ◌, ◌*ℤ◌, ◌≤ℤ◌}
 use Rattle.std.specs.Int.{int_max, int_min}
 use Rattle.std.proofs.lemmas.Int.{ints, clamps, by_lt_z}
-use Rattle.exact_math.specs.Fraction.{Fraction, ◌≤F◌, plus, times}
-use Rattle.exact_math.specs.Sums.{lower, upper, one_over}
+use Rattle.exact_math.specs.Fraction.{◌≤F◌, plus, times}
 use Rattle.exact_math.proofs.Fractions.{le_refl, le_trans, plus_mono}
 use Rattle.exact_math.proofs.Alternating.{sum_ends_in_order}
-use Rattle.exact_math.proofs.Certificates.{zero_F}
-use Rattle.book_model.specs.Leading.{at_56}
 use Rattle.book_model.specs.Octants.{octant_of_turn}
-use Rattle.book_model.specs.Series.{sine_term, cosine_term, four_fifths}
+use Rattle.book_model.specs.Series.{sine_term, cosine_term}
 use Rattle.book_model.proofs.Terms.{IsUpTo, sine_halving, cosine_halving}
 use Rattle.book_model.proofs.SeriesNesting.{sine_lowers, cosine_uppers}
 use Rattle.trig_series.specs.Kernel.{at_64, in_radians}
-use Rattle.trig_series.specs.Points.{IsNearSine, IsNearCosine, IsPoint, edge_of, IsAt, AreSteady, IsAround}
+use Rattle.trig_series.specs.Points.{IsNearSine, IsNearCosine, IsPoint, IsAt, AreSteady, IsAround}
 use Rattle.trig_series.proofs.Slopes.{sine_slow, cosine_slow}
 use Rattle.trig_series.proofs.PointLemmas.{near_none, near_full}
 

@@ -1,5 +1,5 @@
 -- The sines at single angles as spans: near the ends of the series, and exact where an octant begins and ends.
-use Rattle.std.specs.Prelude.{◌≡◌, ℕ, zero, suc, neg_ℤ, ◌-◌, ◌^◌, ℤ, pos, ◌+ℤ◌, ◌-ℤ◌, ◌*ℤ◌, ◌≤ℤ◌, ◌<ℤ◌}
+use Rattle.std.specs.Prelude.{ℕ, zero, suc, neg_ℤ, ◌-◌, ◌^◌, ℤ, pos, ◌+ℤ◌, ◌-ℤ◌, ◌*ℤ◌, ◌≤ℤ◌, ◌<ℤ◌}
 use Rattle.exact_math.specs.Fraction.{◌≤F◌}
 use Rattle.exact_math.specs.Sums.{lower, upper}
 use Rattle.book_model.specs.Series.{sine_term, cosine_term}

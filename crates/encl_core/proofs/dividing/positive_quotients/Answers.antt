@@ -1,6 +1,6 @@
-use Rattle.std.proofs.Common.{◌≡◌, rules, arith, SFits, w64, pos, refl, ◌-ℤ◌}
+use Rattle.std.proofs.Common.{◌≡◌, rules, SFits, w64}
 use Rattle.std.specs.Int.{w128}
-use Rattle.std.proofs.lemmas.Int.{ints, to_z-of_z}
+use Rattle.std.proofs.lemmas.Int.{to_z-of_z}
 use Rattle.encl_core.proofs.Divisions.{positive_enclosed}
 use Rattle.encl_core.proofs.Ratios.{quotient_narrow}
 use Rattle.encl_core.proofs.dividing.positive_quotients.Goals as goal

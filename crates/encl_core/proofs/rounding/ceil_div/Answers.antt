@@ -1,7 +1,6 @@
-use Rattle.std.proofs.Common.{◌≡◌, rules, arith, refl, sym, ◌∙◌, ap, SFits, w64, int_div, pos, ◌+ℤ◌, ◌-ℤ◌, ◌*ℤ◌}
+use Rattle.std.proofs.Common.{rules, arith, SFits, pos}
 use Rattle.std.specs.Int.{w128}
 use Rattle.std.proofs.lemmas.Int.{ints, by_lt_z, to_z-of_z}
-use Rattle.encl_core.specs.Rounding.{IsFloor}
 use Rattle.encl_core.proofs.Stepping.{next_ceiling, next_fits, least_ceiling}
 use Rattle.encl_core.proofs.rounding.ceil_div.Goals as goal
 

@@ -1,7 +1,7 @@
-use Rattle.std.proofs.Common.{◌≡◌, rules, arith, refl, SFits, w64, pos, negsuc, ◌^◌, ◌+ℤ◌, ◌-ℤ◌, ◌*ℤ◌}
+use Rattle.std.proofs.Common.{rules, SFits}
 use Rattle.std.specs.Int.{w128}
-use Rattle.std.proofs.lemmas.Int.{ints, to_z-of_z}
-use Rattle.encl_core.proofs.Stepping.{euclid_floor, rest_in, steps_floor, floor_by_one, next_ceiling}
+use Rattle.std.proofs.lemmas.Int.{to_z-of_z}
+use Rattle.encl_core.proofs.Stepping.{euclid_floor}
 use Rattle.encl_core.proofs.rounding.floor_div.Goals as goal
 
 pub returns-in-None : goal.returns-in-None

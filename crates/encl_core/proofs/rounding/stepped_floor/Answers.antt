@@ -1,6 +1,6 @@
-use Rattle.std.proofs.Common.{◌≡◌, rules, arith, refl, sym, ◌∙◌, ap, SFits, w64, pos, ◌+ℤ◌, ◌-ℤ◌, ◌*ℤ◌}
+use Rattle.std.proofs.Common.{◌≡◌, rules, SFits, w64, pos, ◌+ℤ◌, ◌*ℤ◌}
 use Rattle.std.specs.Int.{w128}
-use Rattle.std.proofs.lemmas.Int.{ints, to_z-of_z}
+use Rattle.std.proofs.lemmas.Int.{to_z-of_z}
 use Rattle.encl_core.specs.Rounding.{IsFloor}
 use Rattle.encl_core.proofs.Stepping.{steps_floor, unsigned_divisor, two_steps_fit}
 use Rattle.encl_core.proofs.rounding.stepped_floor.Goals as goal

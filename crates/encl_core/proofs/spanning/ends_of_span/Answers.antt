@@ -1,4 +1,4 @@
-use Rattle.std.proofs.Common.{rules, arith, SFits, pos}
+use Rattle.std.proofs.Common.{rules, arith, SFits}
 use Rattle.std.specs.Int.{w128}
 use Rattle.std.proofs.lemmas.Int.{ints, to_z-of_z}
 use Rattle.encl_core.proofs.Quotients.{outward_order}

@@ -2,7 +2,7 @@ use Rattle.std.proofs.Common.{rules, arith, SFits, pos, refl, ◌+ℤ◌}
 use Rattle.std.specs.Int.{w128}
 use Rattle.std.proofs.lemmas.Int.{ints, to_z-of_z}
 use Rattle.trig_series.proofs.OctantLemmas.{order_at}
-use Rattle.trig_series.proofs.SineLemmas.{all_cosines_hold, far_cosine, quarter_holds, quarter_narrow}
+use Rattle.trig_series.proofs.SineLemmas.{all_cosines_hold, quarter_holds, quarter_narrow}
 use Rattle.trig_series.proofs.degrees.cosine_over.Goals as goal
 
 pub returns-then-degrees-gt-FAR-clause-holds : goal.returns-then-degrees-gt-FAR-clause-holds

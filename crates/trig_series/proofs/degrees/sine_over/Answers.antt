@@ -1,6 +1,6 @@
-use Rattle.std.proofs.Common.{rules, arith, SFits}
+use Rattle.std.proofs.Common.{rules, SFits}
 use Rattle.std.specs.Int.{w128}
-use Rattle.std.proofs.lemmas.Int.{ints, to_z-of_z}
+use Rattle.std.proofs.lemmas.Int.{to_z-of_z}
 use Rattle.trig_series.proofs.OctantLemmas.{order_at}
 use Rattle.trig_series.proofs.SineLemmas.{all_hold}
 use Rattle.trig_series.proofs.degrees.sine_over.Goals as goal

@@ -1,4 +1,4 @@
-use Rattle.std.proofs.Common.{◌≡◌, rules, arith, SFits, pos, unsigned_abs, ◌+ℤ◌, ◌-ℤ◌, ◌*ℤ◌}
+use Rattle.std.proofs.Common.{◌≡◌, rules, arith, SFits, pos, unsigned_abs, ◌-ℤ◌, ◌*ℤ◌}
 use Rattle.std.specs.Int.{w128}
 use Rattle.std.proofs.lemmas.Int.{ints, to_z-of_z}
 use Rattle.trig_series.proofs.AngleLemmas.{at_in_turn}

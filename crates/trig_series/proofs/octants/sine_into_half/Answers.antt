@@ -1,4 +1,4 @@
-use Rattle.std.proofs.Common.{◌≡◌, arith, pos, ◌-◌}
+use Rattle.std.proofs.Common.{◌≡◌, arith, pos}
 use Rattle.std.proofs.lemmas.Int.{ints}
 use Rattle.trig_series.proofs.AngleLemmas.{into_0, into_1, into_2, into_3}
 use Rattle.trig_series.proofs.TurnLemmas.{short_count, point_0, point_1, point_2, point_3}

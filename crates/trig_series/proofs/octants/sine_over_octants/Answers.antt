@@ -1,4 +1,4 @@
-use Rattle.std.proofs.Common.{rules, arith, SFits, pos, ◌+ℤ◌, to_z, refl}
+use Rattle.std.proofs.Common.{arith, SFits, pos, ◌+ℤ◌, to_z, refl}
 use Rattle.std.specs.Int.{w128}
 use Rattle.std.proofs.lemmas.Int.{ints, to_z-of_z}
 use Rattle.book_model.specs.Leading.{at_56}

@@ -1,4 +1,4 @@
-use Rattle.std.proofs.Common.{arith, refl}
+use Rattle.std.proofs.Common.{arith}
 use Rattle.std.proofs.lemmas.Int.{ints}
 use Rattle.trig_series.proofs.PointLemmas.{cosine_same, cosine_around, cosine_close, cosine_of_none, cosine_of_eighth, near_full, near_cosine_eighth}
 use Rattle.trig_series.proofs.points.cosine_point.Goals as goal

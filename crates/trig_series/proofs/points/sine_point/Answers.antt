@@ -1,4 +1,4 @@
-use Rattle.std.proofs.Common.{arith, refl}
+use Rattle.std.proofs.Common.{arith}
 use Rattle.std.proofs.lemmas.Int.{ints}
 use Rattle.trig_series.proofs.PointLemmas.{sine_same, sine_around, sine_close, sine_of_none, sine_of_eighth, near_none, near_sine_eighth}
 use Rattle.trig_series.proofs.points.sine_point.Goals as goal

@@ -1,4 +1,3 @@
-use Rattle.encl_core.specs.Shown.{shown_coarse}
 use Rattle.encl_core.proofs.Following.{narrow_spanned}
 use Rattle.encl_core.proofs.coarse.CoarseEnclosure.from_span.Goals as goal
 
