@@ -53,7 +53,7 @@ fn day_of_moon_from<E: Enclosure>(day: i64, trail: &mut Trail) -> Result<i64, Fa
 }
 
 /// The day (R.D.) in Beijing of the last new moon before midnight at the beginning of a day there: 27 tests at most.
-#[tactic(auto, using(book_model::proofs::MoonFacts::new_moon_before_few, book_model::proofs::MoonFacts::new_moon_before_is_value, crate::proofs::Rightness::new_moon_before_keeps))]
+#[tactic(auto, using(book_model::proofs::MoonFacts::new_moon_before_few, crate::proofs::Rightness::new_moon_before_keeps))]
 pub(crate) fn new_moon_before<E: Enclosure>(day: i64, trail: &mut Trail) -> Result<i64, Fail>
     requires day { IsValueDay day }
     ensures few { AtMost 99999 (new_moon_before_of day) }
@@ -66,7 +66,7 @@ pub(crate) fn new_moon_before<E: Enclosure>(day: i64, trail: &mut Trail) -> Resu
 }
 
 /// The day (R.D.) in Beijing of the first new moon at or after midnight at the beginning of a day there: 27 tests at most.
-#[tactic(auto, using(book_model::proofs::MoonFacts::new_moon_from_few, book_model::proofs::MoonFacts::new_moon_from_is_value, crate::proofs::Rightness::new_moon_from_keeps))]
+#[tactic(auto, using(book_model::proofs::MoonFacts::new_moon_from_few, crate::proofs::Rightness::new_moon_from_keeps))]
 pub(crate) fn new_moon_from<E: Enclosure>(day: i64, trail: &mut Trail) -> Result<i64, Fail>
     requires day { IsValueDay day }
     ensures few { AtMost 99999 (new_moon_from_of day) }
