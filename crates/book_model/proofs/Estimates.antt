@@ -189,9 +189,9 @@ from_apparent_between w l x t lo hi b h =
     let k = difference_between lo hi (negsuc 0) (pos 1) _ _ b (equation_of_time_between w _ e.part e.first) in
     rw (← valued_same w (subtract x e.part) t e.then) (wider _ _ (lo -ℤ pos 1) (hi +ℤ pos 1) _ (omega (arith, ints)) (omega (arith, ints)) k)
 
-mean_noon_between : (w : World) (d : ℤ) → IsBetween d (d +ℤ pos 1) (value w (add (integer d) (constant (fraction_of HALF))))
+apparent_noon_between : (w : World) (d : ℤ) → IsBetween d (d +ℤ pos 1) (value w (add (integer d) (constant (fraction_of HALF))))
 unfolding value sum plus
-mean_noon_between w d = (record { cross = omega (arith, ints) }, record { cross = omega (arith, ints) })
+apparent_noon_between w d = (record { cross = omega (arith, ints) }, record { cross = omega (arith, ints) })
 
 ahead_between : (w : World) → IsBetween (pos 0) (pos 1) (value w (ahead_of (fraction_of PERSIAN_NOON_LONGITUDE)))
 unfolding ahead_of value product least greatest smaller larger times is_at_most
@@ -202,7 +202,7 @@ pub noon_between : (w : World) (d : ℤ) (n : Expression) → outcome (run w (no
 unfolding noon_of value
 noon_between w d n h =
     let t = parts w (from_apparent_of (fraction_of PERSIAN_NOON_LONGITUDE) (add (integer d) (constant (fraction_of HALF)))) _ n h in
-    let f = from_apparent_between w _ _ t.part d (d +ℤ pos 1) (mean_noon_between w d) t.first in
+    let f = from_apparent_between w _ _ t.part d (d +ℤ pos 1) (apparent_noon_between w d) t.first in
     let k = difference_between (d -ℤ pos 1) ((d +ℤ pos 1) +ℤ pos 1) (pos 0) (pos 1) _ _ f (ahead_between w) in
     rw (← valued_same w (subtract t.part (ahead_of (fraction_of PERSIAN_NOON_LONGITUDE))) n t.then) (wider _ _ (d -ℤ pos 2) (d +ℤ pos 2) _ (omega (arith, ints)) (omega (arith, ints)) k)
 
@@ -216,11 +216,3 @@ start_of_floor w d q l n s h k e =
 
 pub starts_near : StartsNear
 starts_near = record { start = start_of_floor }
-
--- the same of the calls that compute it
-pub start_of_calls : {E : Type 0} {shown : E → Interval} (w : World) (site : Site) (d q : ℤ) (l : Expression) {a b c e : ℕ} {x y : E} →
-    Leads w (Within shown w) (noon_of d) a b (Ok x) → Leads w (Within shown w) (estimate_of l (leaf w (noon_of d))) b c (Ok y)
-    → Leads w Exact (cell site integers (leaf w (estimate_of l (leaf w (noon_of d)))) answer) c e (Ok q) → IsStart d q
-start_of_calls w site d q l h k f =
-    let v = decides w site integers (leaf w (estimate_of l (leaf w (noon_of d)))) (λ z. z) q (leads_value f) in
-    rw v.leads_to at (start_of_floor w d v.cell_there l _ _ (leads_leaf h) (leads_leaf k) v.decided_so)

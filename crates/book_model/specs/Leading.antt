@@ -62,11 +62,6 @@ pub data Tells {A T : Type 0} (R : A → T → Type 0) : Run A → ℕ → ℕ �
 pub record Leads {A T : Type 0} (w : World) (R : A → T → Type 0) (p : Program A) (b a : ℕ) (t : Result T Fail) : Type 0 where
   pub tells : Tells R (run w p) b a t
 
--- a result whose failure is an undecided test, as that of a formula
-abbrev pub as_fail : {T : Type 0} → Result T Undecided → Result T Fail
-as_fail (Ok x) = Ok x
-as_fail (Err u) = Err (undecided_at u)
-
 -- what is left of a program that began at turn b is q, at turn m
 pub record Continues {A T : Type 0} (w : World) (R : A → T → Type 0) (p : Program A) (b : ℕ) (q : Program A) (m : ℕ) : Type 0 where
   pub rest : (a : ℕ) (t : Result T Fail) → Leads w R q m a t → Leads w R p b a t

@@ -29,7 +29,7 @@ pub fn nesting()
 {}
 
 /// A day falls in the year that begins at or before it, the next year beginning after it.
-pub fn years_of_days()
+pub fn gregorian_years()
     ensures { (d : ℤ) → IsYearOfDay (year_of_day d) d }
 {}
 

@@ -24,39 +24,106 @@ mod tests;
 mod time_tables;
 mod words;
 
-pub use calendar::{CALENDARS, Calendar, CalendarRow, FIRST_ANSWERED_DAY, LAST_ANSWERED_DAY};
-pub use calendar_tables::{PERSIAN_EPOCH, TROPICAL_YEAR};
-pub use fact::{
-    FIRST_DAY, FIRST_FACT_DAY, Fact, GREATEST_VALUE, KINDS, Kind, LAST_DAY, LAST_FACT_DAY,
-    LEAST_VALUE, PLACES, Place,
-};
-pub use fail::{Fail, Undecided};
+pub use calendar::CALENDARS;
+pub use calendar::Calendar;
+pub use calendar::CalendarRow;
+pub use calendar::FIRST_ANSWERED_DAY;
+pub use calendar::LAST_ANSWERED_DAY;
+pub use calendar_tables::PERSIAN_EPOCH;
+pub use calendar_tables::TROPICAL_YEAR;
+pub use fact::FIRST_DAY;
+pub use fact::FIRST_FACT_DAY;
+pub use fact::Fact;
+pub use fact::GREATEST_VALUE;
+pub use fact::KINDS;
+pub use fact::Kind;
+pub use fact::LAST_DAY;
+pub use fact::LAST_FACT_DAY;
+pub use fact::LEAST_VALUE;
+pub use fact::PLACES;
+pub use fact::Place;
+pub use fail::Fail;
+pub use fail::Undecided;
 pub use frac::Frac;
 pub use header::HEADER;
-pub use moon_tables::{
-    ECCENTRICITY_FACTOR, ELONGATION, FLATTENING, JUPITER_WAVE, LATITUDE_ARGUMENT, MILLIONTH,
-    MOON_ANOMALY, MOON_LONGITUDE, MOON_TERMS, SUN_ANOMALY, VENUS_WAVE,
-};
-pub use moon_terms::{MoonTerm, NewMoonTerm, PlanetTerm};
-pub use new_moon_tables::{
-    DAY_IN_MONTHS, DEGREE_IN_MONTHS, MEAN_NEW_MOON, MONTH_IN_CENTURIES, NEW_MOON_ANOMALY,
-    NEW_MOON_LATITUDE_ARGUMENT, NEW_MOON_NODE, NEW_MOON_OF_2000, NEW_MOON_SUN_ANOMALY,
-    NEW_MOON_TERMS, NEW_MOON_WAVE, NODE_TERM, PLANET_TERMS, SYNODIC_MONTH, TURN,
-};
-pub use polynomial::{Cubic, Quadratic, QuadraticWave, Quartic, Wave};
-pub use request::{Fields, Request, Resolved, Rule};
-pub use site::{SITES, Site};
-pub use sun_tables::{
-    ABERRATION, DEGREE_IN_DAYS, DEGREE_OF_YEAR, ECCENTRICITY, FIVE_QUARTERS, FOUR, MEAN_ABERRATION,
-    MEAN_SUN, MINUS_HALF, NODE_NUTATION, OBLIQUITY, PERSIAN_NOON_LONGITUDE, SOLAR_ANOMALY,
-    SOLAR_NUTATION, SUN_AT_2000, SUN_RATE, SUN_UNIT_COARSELY, SUN_UNIT_FINELY, SUN_WAVES, TWO,
-};
-pub use tables::{
-    CORRECTION_1987, CORRECTION_2006, HALF, MILLISECONDS_OF_DAY, PI_ABOVE, PI_BELOW, SECOND,
-    THOUSANDTHS_OF_DEGREE,
-};
-pub use time_tables::{
-    BEIJING_HOURS, CORRECTION_1800, CORRECTION_1900, CORRECTION_ANCIENT, DAY_IN_CENTURIES, HOUR,
-    NOON_2000, SIDEREAL_TIME,
-};
-pub use words::{FROM_WORDS, FromWord, Shown, TO_WORDS, ToWord};
+pub use moon_tables::ECCENTRICITY_FACTOR;
+pub use moon_tables::ELONGATION;
+pub use moon_tables::FLATTENING;
+pub use moon_tables::JUPITER_WAVE;
+pub use moon_tables::LATITUDE_ARGUMENT;
+pub use moon_tables::MILLIONTH;
+pub use moon_tables::MOON_ANOMALY;
+pub use moon_tables::MOON_LONGITUDE;
+pub use moon_tables::MOON_TERMS;
+pub use moon_tables::SUN_ANOMALY;
+pub use moon_tables::VENUS_WAVE;
+pub use moon_terms::MoonTerm;
+pub use moon_terms::NewMoonTerm;
+pub use moon_terms::PlanetTerm;
+pub use new_moon_tables::DAY_IN_MONTHS;
+pub use new_moon_tables::DEGREE_IN_MONTHS;
+pub use new_moon_tables::MEAN_NEW_MOON;
+pub use new_moon_tables::MONTH_IN_CENTURIES;
+pub use new_moon_tables::NEW_MOON_ANOMALY;
+pub use new_moon_tables::NEW_MOON_LATITUDE_ARGUMENT;
+pub use new_moon_tables::NEW_MOON_NODE;
+pub use new_moon_tables::NEW_MOON_OF_2000;
+pub use new_moon_tables::NEW_MOON_SUN_ANOMALY;
+pub use new_moon_tables::NEW_MOON_TERMS;
+pub use new_moon_tables::NEW_MOON_WAVE;
+pub use new_moon_tables::NODE_TERM;
+pub use new_moon_tables::PLANET_TERMS;
+pub use new_moon_tables::SYNODIC_MONTH;
+pub use new_moon_tables::TURN;
+pub use polynomial::Cubic;
+pub use polynomial::Quadratic;
+pub use polynomial::QuadraticWave;
+pub use polynomial::Quartic;
+pub use polynomial::Wave;
+pub use request::Fields;
+pub use request::Request;
+pub use request::Resolved;
+pub use request::Rule;
+pub use site::SITES;
+pub use site::Site;
+pub use sun_tables::ABERRATION;
+pub use sun_tables::DEGREE_IN_DAYS;
+pub use sun_tables::DEGREE_OF_YEAR;
+pub use sun_tables::ECCENTRICITY;
+pub use sun_tables::FIVE_QUARTERS;
+pub use sun_tables::FOUR;
+pub use sun_tables::MEAN_ABERRATION;
+pub use sun_tables::MEAN_SUN;
+pub use sun_tables::MINUS_HALF;
+pub use sun_tables::NODE_NUTATION;
+pub use sun_tables::OBLIQUITY;
+pub use sun_tables::PERSIAN_NOON_LONGITUDE;
+pub use sun_tables::SOLAR_ANOMALY;
+pub use sun_tables::SOLAR_NUTATION;
+pub use sun_tables::SUN_AT_2000;
+pub use sun_tables::SUN_RATE;
+pub use sun_tables::SUN_UNIT_COARSELY;
+pub use sun_tables::SUN_UNIT_FINELY;
+pub use sun_tables::SUN_WAVES;
+pub use sun_tables::TWO;
+pub use tables::CORRECTION_1987;
+pub use tables::CORRECTION_2006;
+pub use tables::HALF;
+pub use tables::MILLISECONDS_OF_DAY;
+pub use tables::PI_ABOVE;
+pub use tables::PI_BELOW;
+pub use tables::SECOND;
+pub use tables::THOUSANDTHS_OF_DEGREE;
+pub use time_tables::BEIJING_HOURS;
+pub use time_tables::CORRECTION_1800;
+pub use time_tables::CORRECTION_1900;
+pub use time_tables::CORRECTION_ANCIENT;
+pub use time_tables::DAY_IN_CENTURIES;
+pub use time_tables::HOUR;
+pub use time_tables::NOON_2000;
+pub use time_tables::SIDEREAL_TIME;
+pub use words::FROM_WORDS;
+pub use words::FromWord;
+pub use words::Shown;
+pub use words::TO_WORDS;
+pub use words::ToWord;

@@ -29,5 +29,5 @@ unfoldable pub first_radians_of : (y e l m : Expression) → Expression
 first_radians_of y e l m = add (subtract (reduction_of y l) (centre_of e m)) (joint_of y e l m)
 
 -- the middle of a day
-unfoldable pub mean_noon_of : ℤ → Expression
-mean_noon_of d = add (integer d) (constant (fraction_of HALF))
+unfoldable pub apparent_noon_of : ℤ → Expression
+apparent_noon_of d = add (integer d) (constant (fraction_of HALF))

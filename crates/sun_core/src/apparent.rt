@@ -6,7 +6,7 @@ ghost use Rattle.book_model.specs.Fractions.{fraction_of};
 ghost use Rattle.book_model.specs.Leading.{Leads, next_turn};
 ghost use Rattle.book_model.specs.Noon.{ahead_of, from_apparent_of, noon_of};
 ghost use Rattle.book_model.specs.Relations.{Within, Narrow};
-ghost use Rattle.sun_core.specs.Steps.{mean_noon_of};
+ghost use Rattle.sun_core.specs.Steps.{apparent_noon_of};
 
 use crate::equation::equation_of_time;
 use book_model::{DEGREE_IN_DAYS, Fail, Frac, HALF, PERSIAN_NOON_LONGITUDE};
@@ -36,24 +36,24 @@ pub fn from_apparent<E: Enclosure>(longitude: Frac, t: E, trail: &mut Trail) -> 
 }
 
 /// The middle of a day.
-#[tactic(auto, unfolding(crate::specs::Steps::mean_noon_of))]
-fn mean_noon<E: Enclosure>(day: i64) -> E
-    ensures holds { (w : World) → 40 ≤ w.depth → Within E.shown w (mean_noon_of day) result }
-    ensures narrow { (r : Reach) → Narrow E.shown (limits_of E.BITS) r (mean_noon_of day) result }
+#[tactic(auto, unfolding(crate::specs::Steps::apparent_noon_of))]
+fn apparent_noon<E: Enclosure>(day: i64) -> E
+    ensures holds { (w : World) → 40 ≤ w.depth → Within E.shown w (apparent_noon_of day) result }
+    ensures narrow { (r : Reach) → Narrow E.shown (limits_of E.BITS) r (apparent_noon_of day) result }
 {
     E::from_int(day).add(E::from_frac(HALF))
 }
 
 /// The moment of true noon on a day at Tehran, in universal time (Reingold and Dershowitz, Calendrical Calculations,
 /// chapter 15). One test, at `year`; it is void at `year` in a year without a correction.
-#[tactic(auto, using(book_model::proofs::Leads::leading), unfolding(book_model::specs::Noon::noon_of, crate::specs::Steps::mean_noon_of))]
+#[tactic(auto, using(book_model::proofs::Leads::leading), unfolding(book_model::specs::Noon::noon_of, crate::specs::Steps::apparent_noon_of))]
 pub fn noon<E: Enclosure>(d: i64, trail: &mut Trail) -> Result<E, Fail>
     requires from { negsuc 39999999 ≤ℤ d }
     requires to { d ≤ℤ pos 40000000 }
     ensures leads { (w : World) → 40 ≤ w.depth → Leads w (Within E.shown w) (noon_of d) trail.old.count trail.new.count result }
     ensures counted { trail.new.count ≡ next_turn trail.old.count }
 {
-    match from_apparent(PERSIAN_NOON_LONGITUDE, mean_noon::<E>(d), trail) {
+    match from_apparent(PERSIAN_NOON_LONGITUDE, apparent_noon::<E>(d), trail) {
         Ok(local) => Ok(local.sub(ahead::<E>(PERSIAN_NOON_LONGITUDE))),
         Err(fail) => Err(fail),
     }

@@ -14,8 +14,8 @@ use Rattle.book_model.specs.Relations.{Narrow}
 use Rattle.book_model.specs.Time.{correction_of_year}
 use Rattle.book_model.proofs.Corrections.{between_yes, above_no}
 use Rattle.book_model.proofs.Implying.{settled}
-use Rattle.time_scales.specs.declared.ephemeris.Row.{Row}
-use Rattle.time_scales.specs.declared.ephemeris.Row.TheVariants.{Ancient, From1800, From1900, From1987, From2006}
+use Rattle.time_scales.specs.declared.dynamical_time.Row.{Row}
+use Rattle.time_scales.specs.declared.dynamical_time.Row.TheVariants.{Ancient, From1800, From1900, From1987, From2006}
 use Rattle.time_scales.specs.Corrections.{row_of, IsInRow, correction_by, computed_by, computed_of, correction_bound}
 
 -- a correction by its row

@@ -8,8 +8,8 @@ use Rattle.book_model.specs.Expressions.{Expression, integer, scale}
 use Rattle.book_model.specs.Fractions.{fraction_of}
 use Rattle.book_model.specs.Polynomials.{polynomial_at}
 use Rattle.book_model.specs.Time.{hundreds_of, centuries_to_july}
-use Rattle.time_scales.specs.declared.ephemeris.Row.{Row}
-use Rattle.time_scales.specs.declared.ephemeris.Row.TheVariants.{Ancient, From1800, From1900, From1987, From2006}
+use Rattle.time_scales.specs.declared.dynamical_time.Row.{Row}
+use Rattle.time_scales.specs.declared.dynamical_time.Row.TheVariants.{Ancient, From1800, From1900, From1987, From2006}
 use Rattle.time_scales.specs.Horner.{horner_of}
 
 -- the row of a year, if there is one

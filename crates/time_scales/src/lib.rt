@@ -11,7 +11,7 @@
 #![tactic(auto)]
 
 mod calendar;
-mod ephemeris;
+mod dynamical_time;
 mod moment;
 mod polynomial;
 mod sidereal_time;
@@ -19,7 +19,7 @@ mod sidereal_time;
 mod tests;
 mod zone;
 
-pub use ephemeris::{centuries, correction, dynamical, from_dynamical};
+pub use dynamical_time::{centuries, correction, dynamical, from_dynamical};
 pub use moment::{year, year_of_whole_day};
 pub use polynomial::{at_fraction, cubic, quadratic, quartic};
 pub use sidereal_time::sidereal;

@@ -7,7 +7,7 @@ ghost use Rattle.book_model.specs.Polynomials.{cubic_of};
 ghost use Rattle.book_model.specs.Relations.{Within, Narrow};
 ghost use Rattle.book_model.specs.Time.{in_centuries, sidereal_of};
 
-use crate::ephemeris::to_centuries;
+use crate::dynamical_time::to_centuries;
 use crate::polynomial::cubic;
 use book_model::{Fail, SIDEREAL_TIME};
 use encl_core::{Enclosure, Trail};

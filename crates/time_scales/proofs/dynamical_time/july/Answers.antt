@@ -2,7 +2,7 @@ use Rattle.std.proofs.Common.{rules, arith, ◌∙◌, ap, SFits, w64, pos, ◌-
 use Rattle.std.specs.Int.{w128}
 use Rattle.std.proofs.lemmas.Int.{ints, to_z-of_z}
 use Rattle.time_scales.proofs.CorrectionRows.{fraction_is}
-use Rattle.time_scales.proofs.ephemeris.july.Goals as goal
+use Rattle.time_scales.proofs.dynamical_time.july.Goals as goal
 
 pub overflow_sub-first_of_july : goal.overflow_sub-first_of_july
 overflow_sub-first_of_july c =

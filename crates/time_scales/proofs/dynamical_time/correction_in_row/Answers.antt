@@ -1,6 +1,6 @@
 use Rattle.std.proofs.lemmas.Int.{to_z-of_z}
 use Rattle.time_scales.specs.Corrections.{correction_by, computed_by}
-use Rattle.time_scales.proofs.ephemeris.correction_in_row.Goals as goal
+use Rattle.time_scales.proofs.dynamical_time.correction_in_row.Goals as goal
 
 pub returns-in-Ancient-clause-holds : goal.returns-in-Ancient-clause-holds
 unfolding correction_by

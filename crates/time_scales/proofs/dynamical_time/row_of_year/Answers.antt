@@ -1,6 +1,6 @@
 use Rattle.std.proofs.lemmas.Int.{to_z-of_z}
 use Rattle.time_scales.proofs.CorrectionRows.{row_ancient, row_1800, row_1900, row_1987, row_2006, no_row}
-use Rattle.time_scales.proofs.ephemeris.row_of_year.Goals as goal
+use Rattle.time_scales.proofs.dynamical_time.row_of_year.Goals as goal
 
 pub returns-then-is_between : goal.returns-then-is_between
 returns-then-is_between c =

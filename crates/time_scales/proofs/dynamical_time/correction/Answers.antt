@@ -2,7 +2,7 @@ use Rattle.std.proofs.Common.{sym}
 use Rattle.std.proofs.lemmas.Int.{to_z-of_z}
 use Rattle.book_model.proofs.Leads.{leads_answer, leads_void}
 use Rattle.time_scales.proofs.CorrectionRows.{correction_is, row_has, computed_is, correction_close}
-use Rattle.time_scales.proofs.ephemeris.correction.Goals as goal
+use Rattle.time_scales.proofs.dynamical_time.correction.Goals as goal
 
 pub correction_in_row-requires : goal.correction_in_row-requires
 correction_in_row-requires g c =
