@@ -2,7 +2,7 @@
 #![tactic(auto)]
 
 mod dt;
-mod new_moons;
+mod moon_days;
 mod nowruz;
 mod staged;
 mod sun;

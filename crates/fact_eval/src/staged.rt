@@ -11,7 +11,7 @@ ghost use Rattle.fact_eval.specs.Answers.{answer_of};
 ghost use Rattle.fact_eval.specs.Widths.{IsNearFor};
 
 use crate::dt::dt;
-use crate::new_moons::{new_moon_before, new_moon_from};
+use crate::moon_days::{new_moon_before, new_moon_from};
 use crate::nowruz::nowruz;
 use crate::sun::sun_in_thousandths;
 use book_model::{FIRST_DAY, Fact, Fail, Kind, LAST_DAY, Place, Site};

@@ -1,7 +1,7 @@
 use Rattle.std.proofs.Common.{SFits, w64}
 use Rattle.std.proofs.lemmas.Int.{to_z-of_z}
 use Rattle.book_model.proofs.MoonFacts.{new_moon_from_is_value}
-use Rattle.fact_eval.proofs.new_moons.new_moon_from.Goals as goal
+use Rattle.fact_eval.proofs.moon_days.new_moon_from.Goals as goal
 
 pub returns-clause-value : goal.returns-clause-value
 returns-clause-value g c =
