@@ -1,6 +1,6 @@
 -- A walk over the numbers of new moons, number by number.
 use Rattle.std.specs.Prelude.{◌≡◌, ℕ, zero, suc, ◌-◌, ◌≤◌, ℤ, pos, ◌+ℤ◌, if◌then◌else◌, refl}
-use Rattle.std.proofs.Common.{arith, sub-one}
+use Rattle.std.proofs.Common.{arith}
 use Rattle.book_model.specs.declared.site.Site.TheVariants.{MoonWalk}
 use Rattle.book_model.specs.Expressions.{Expression}
 use Rattle.book_model.specs.Phases.{is_moon_before_of, walk_of}

@@ -6,16 +6,18 @@ ghost use Rattle.book_model.specs.Leading.{Leads, next_turn};
 ghost use Rattle.book_model.specs.Moon as spec;
 ghost use Rattle.book_model.specs.Relations.{Within, Narrow};
 ghost use Rattle.moon_core.specs.Angles.{HoldAngles, KeepAngles};
+ghost use Rattle.moon_core.specs.Daily.{computed_terms_of, computed_flattening_of, computed_inequalities_of, computed_longitude_of};
+ghost use Rattle.sun_core.specs.Daily.{in_centuries};
 
-use crate::angles::{Angles, angles_at};
+use crate::angles::{Angles, angles_at, daily_quartic};
 use book_model::{
-    FLATTENING, Fail, JUPITER_WAVE, LATITUDE_ARGUMENT, MILLIONTH, MOON_LONGITUDE, MOON_TERMS,
-    MoonTerm, Site, VENUS_WAVE,
+    DAY_IN_CENTURIES, FLATTENING, Fail, JUPITER_WAVE, LATITUDE_ARGUMENT, MILLIONTH, MOON_LONGITUDE,
+    MOON_TERMS, MoonTerm, NOON_2000, Site, VENUS_WAVE,
 };
 use encl_core::{Enclosure, Term, Trail, sum_of_terms, wrap_step};
 use new_moons::{times_power, whole};
 use sun_core::{nutation, sine_wave};
-use time_scales::{centuries, quartic};
+use time_scales::dynamical;
 use trig_series::sin_deg;
 
 /// The sum of the multiples of the angles.
@@ -62,57 +64,65 @@ impl<E: Enclosure> Term<Angles<E>, E> for MoonTerm {
 }
 
 /// The sum of the longitude's terms, in millionths of a degree.
-#[tactic(auto, unfolding(book_model::specs::Moon::longitude_terms_of))]
-fn longitude_terms<E: Enclosure>(c: E) -> E
-    ensures holds { (w : World) (x : Expression) → Within E.shown w x c → Within E.shown w (spec.longitude_terms_of x) result }
-    ensures narrow { (r : Reach) (x : Expression) → Narrow E.shown (limits_of E.BITS) r x c → Narrow E.shown (limits_of E.BITS) r (spec.longitude_terms_of x) result }
+#[tactic(auto, unfolding(book_model::specs::Moon::longitude_terms_of, crate::specs::Daily::computed_terms_of))]
+fn longitude_terms<E: Enclosure>(days: E, c: E) -> E
+    ensures holds { (w : World) (x : Expression) → Within E.shown w x days → Within E.shown w (in_centuries x) c → Within E.shown w (spec.longitude_terms_of (in_centuries x)) result }
+    ensures narrow { (r : Reach) (x : Expression) → Narrow E.shown (limits_of E.BITS) r x days → Narrow E.shown (limits_of E.BITS) r (in_centuries x) c → Narrow E.shown (limits_of E.BITS) r (computed_terms_of x) result }
 {
-    sum_of_terms::<Angles<E>, E, MoonTerm>(&MOON_TERMS, angles_at(c))
+    sum_of_terms::<Angles<E>, E, MoonTerm>(&MOON_TERMS, angles_at(days, c))
 }
 
 /// What the flattening of the earth adds, in millionths of a degree.
-#[tactic(auto, unfolding(book_model::specs::Moon::flattening_of))]
-fn flattening<E: Enclosure>(c: E) -> E
-    ensures holds { (w : World) (x : Expression) → Within E.shown w x c → Within E.shown w (spec.flattening_of x) result }
-    ensures narrow { (r : Reach) (x : Expression) → Narrow E.shown (limits_of E.BITS) r x c → Narrow E.shown (limits_of E.BITS) r (spec.flattening_of x) result }
+#[tactic(auto, unfolding(book_model::specs::Moon::flattening_of, crate::specs::Daily::computed_flattening_of))]
+fn flattening<E: Enclosure>(days: E, c: E) -> E
+    ensures holds { (w : World) (x : Expression) → Within E.shown w x days → Within E.shown w (in_centuries x) c → Within E.shown w (spec.flattening_of (in_centuries x)) result }
+    ensures narrow { (r : Reach) (x : Expression) → Narrow E.shown (limits_of E.BITS) r x days → Narrow E.shown (limits_of E.BITS) r (in_centuries x) c → Narrow E.shown (limits_of E.BITS) r (computed_flattening_of x) result }
 {
-    let angle = quartic(&MOON_LONGITUDE, c).sub(quartic(&LATITUDE_ARGUMENT, c));
+    let angle = daily_quartic(&MOON_LONGITUDE, days, c).sub(daily_quartic(
+        &LATITUDE_ARGUMENT,
+        days,
+        c,
+    ));
     sin_deg(angle).mul_frac(FLATTENING)
 }
 
 /// What the moon is ahead of its mean longitude, in millionths of a degree.
-#[tactic(auto, unfolding(book_model::specs::Moon::inequalities_of))]
-fn inequalities<E: Enclosure>(c: E) -> E
-    ensures holds { (w : World) (x : Expression) → Within E.shown w x c → Within E.shown w (spec.inequalities_of x) result }
-    ensures narrow { (r : Reach) (x : Expression) → Narrow E.shown (limits_of E.BITS) r x c → Narrow E.shown (limits_of E.BITS) r (spec.inequalities_of x) result }
+#[tactic(auto, unfolding(book_model::specs::Moon::inequalities_of, crate::specs::Daily::computed_inequalities_of))]
+fn inequalities<E: Enclosure>(days: E, c: E) -> E
+    ensures holds { (w : World) (x : Expression) → Within E.shown w x days → Within E.shown w (in_centuries x) c → Within E.shown w (spec.inequalities_of (in_centuries x)) result }
+    ensures narrow { (r : Reach) (x : Expression) → Narrow E.shown (limits_of E.BITS) r x days → Narrow E.shown (limits_of E.BITS) r (in_centuries x) c → Narrow E.shown (limits_of E.BITS) r (computed_inequalities_of x) result }
 {
-    longitude_terms(c)
-        .add(sine_wave(&VENUS_WAVE, c))
-        .add(sine_wave(&JUPITER_WAVE, c))
-        .add(flattening(c))
+    longitude_terms(days, c)
+        .add(sine_wave(&VENUS_WAVE, days))
+        .add(sine_wave(&JUPITER_WAVE, days))
+        .add(flattening(days, c))
 }
 
-/// The longitude of the moon by the centuries, not reduced.
-#[tactic(auto, unfolding(book_model::specs::Moon::moon_longitude_of))]
-fn longitude<E: Enclosure>(c: E) -> E
-    ensures holds { (w : World) (x : Expression) → Within E.shown w x c → Within E.shown w (spec.moon_longitude_of x) result }
-    ensures narrow { (r : Reach) (x : Expression) → Narrow E.shown (limits_of E.BITS) r x c → Narrow E.shown (limits_of E.BITS) r (spec.moon_longitude_of x) result }
+/// The longitude of the moon by the days from noon of 1 January 2000, and these in centuries; not reduced.
+#[tactic(auto, unfolding(book_model::specs::Moon::moon_longitude_of, crate::specs::Daily::computed_longitude_of))]
+fn longitude<E: Enclosure>(days: E, c: E) -> E
+    ensures holds { (w : World) (x : Expression) → Within E.shown w x days → Within E.shown w (in_centuries x) c → Within E.shown w (spec.moon_longitude_of (in_centuries x)) result }
+    ensures narrow { (r : Reach) (x : Expression) → Narrow E.shown (limits_of E.BITS) r x days → Narrow E.shown (limits_of E.BITS) r (in_centuries x) c → Narrow E.shown (limits_of E.BITS) r (computed_longitude_of x) result }
 {
-    quartic(&MOON_LONGITUDE, c)
-        .add(inequalities(c).mul_frac(MILLIONTH))
+    daily_quartic(&MOON_LONGITUDE, days, c)
+        .add(inequalities(days, c).mul_frac(MILLIONTH))
         .add(nutation(c))
 }
 
 /// The apparent longitude of the moon at a moment of universal time, in degrees from 0 up to 360 (Reingold and
 /// Dershowitz, Calendrical Calculations, chapter 14; Meeus, Astronomical Algorithms, chapter 47). Two tests, the year's and
 /// the one at `moon-wrap`. It is void at `year` in a year without a correction.
-#[tactic(auto, using(book_model::proofs::Leads::leading), unfolding(book_model::specs::Moon::moon_of, book_model::specs::Leading::next_turn))]
+#[tactic(auto, using(book_model::proofs::Leads::leading), unfolding(book_model::specs::Moon::moon_of, book_model::specs::Time::centuries_of, book_model::specs::Time::in_centuries, sun_core::specs::Daily::in_centuries, book_model::specs::Leading::next_turn))]
 pub fn moon<E: Enclosure>(t: E, trail: &mut Trail) -> Result<E, Fail>
     ensures leads { (w : World) (x : Expression) → Within E.shown w x t → Leads w (Within E.shown w) (spec.moon_of x) trail.old.count trail.new.count result }
     ensures counted { trail.new.count ≤ trail.old.count + 2 }
 {
-    match centuries(t, trail) {
-        Ok(c) => wrap_step(longitude(c), 360, Site::MoonWrap, trail),
+    match dynamical(t, trail) {
+        Ok(moment) => {
+            let days = moment.sub(E::from_frac(NOON_2000));
+            let c = days.mul_frac(DAY_IN_CENTURIES);
+            wrap_step(longitude(days, c), 360, Site::MoonWrap, trail)
+        }
         Err(fail) => Err(fail),
     }
 }

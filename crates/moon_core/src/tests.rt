@@ -8,7 +8,7 @@ use std::test::Fail;
 const UNIT: i128 = 1_048_576;
 
 /// The greatest widths of a longitude or a phase, in degrees, and of a new moon, in days, each in units.
-const WIDEST_ANGLE: i128 = 640_000;
+const WIDEST_ANGLE: i128 = 1_500;
 
 const WIDEST_MOMENT: i128 = 120;
 

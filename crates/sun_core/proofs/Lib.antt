@@ -1,3 +1,4 @@
 pub mod WaveSums
 pub mod Scalings
 pub mod Openings
+pub mod Elapsed

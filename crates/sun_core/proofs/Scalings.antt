@@ -1,13 +1,16 @@
 -- Scaling twice is scaling once, by the product of the two fractions.
-use Rattle.std.proofs.Common.{◌≡◌, refl, [], ◌∷◌}
-use Rattle.exact_math.specs.Fraction.{Fraction, ◌≈◌, times}
-use Rattle.exact_math.specs.Interval.{Interval, everything, between, IsProper, IsMember, ◌⊆◌, product}
+use Rattle.std.proofs.Common.{arith, ◌≡◌, ◌<◌, ◌*◌, ◌-◌, suc, refl, [], ◌∷◌}
+use Rattle.exact_math.specs.Fraction.{Fraction, ◌≈◌, times, below_product}
+use Rattle.exact_math.specs.Interval.{Interval, everything, between, IsProper, IsMember, ◌⊆◌, product, least, greatest}
 use Rattle.exact_math.proofs.FractionRing.{same_by}
-use Rattle.exact_math.proofs.Fractions.{le_refl, le_trans}
+use Rattle.exact_math.proofs.Fractions.{le_refl, le_trans, smaller_keeps, larger_keeps}
+use Rattle.exact_math.proofs.IntLaws.{one_mul}
 use Rattle.exact_math.proofs.Intervals.{product_holds, least_is, greatest_is, within_trans, within_everything}
 use Rattle.exact_math.proofs.Ring.{at, ◌⊗◌}
-use Rattle.exact_math.proofs.Same.{same_trans, same_refl, times_cong, le_of_same, ge_of_same}
+use Rattle.exact_math.proofs.Same.{same_trans, same_refl, same_sym, times_cong, le_of_same, ge_of_same}
+use Rattle.book_model.specs.declared.frac.Frac.{Frac}
 use Rattle.book_model.specs.declared.sun_tables.TheConstants.{SUN_UNIT_COARSELY, SUN_UNIT_FINELY}
+use Rattle.book_model.specs.declared.time_tables.TheConstants.{DAY_IN_CENTURIES}
 use Rattle.book_model.specs.Expressions.{Expression, World, value, exactly, scale}
 use Rattle.book_model.specs.Fractions.{fraction_of}
 use Rattle.book_model.specs.Relations.{Within, Lies}
@@ -58,3 +61,48 @@ unit_is = record { cross = refl }
 -- what holds an expression scaled by both factors of the unit holds it scaled by the unit
 pub unit_holds : {E : Type 0} (shown : E → Interval) (w : World) (x : Expression) (e : E) → Within shown w (scale (fraction_of SUN_UNIT_FINELY) (scale (fraction_of SUN_UNIT_COARSELY) x)) e → Within shown w (scale sun_unit x) e
 unit_holds shown w x e h = scaled_holds shown w x (fraction_of SUN_UNIT_COARSELY) (fraction_of SUN_UNIT_FINELY) sun_unit e unit_is h
+
+-- what each of four keeps the least and the greatest keep
+least_keeps : (P : Fraction → Type 0) (p q r s : Fraction) → P p → P q → P r → P s → P (least p q r s)
+unfolding least
+least_keeps P p q r s hp hq hr hs = smaller_keeps P _ _ (smaller_keeps P p q hp hq) (smaller_keeps P r s hr hs)
+
+greatest_keeps : (P : Fraction → Type 0) (p q r s : Fraction) → P p → P q → P r → P s → P (greatest p q r s)
+unfolding greatest
+greatest_keeps P p q r s hp hq hr hs = larger_keeps P _ _ (larger_keeps P p q hp hq) (larger_keeps P r s hr hs)
+
+-- the product of a member with one number and then with another, where an interval holds the product with both
+once_member : (i : Interval) (a b f x : Fraction) → times a b ≈ f → IsMember x i → IsMember (times (times x a) b) (product i (exactly f))
+once_member i a b f x e m =
+    let same : times (times x a) b ≈ times x f = same_trans (same_by (x ∷ a ∷ b ∷ []) ((at 0 ⊗ at 1) ⊗ at 2) (at 0 ⊗ (at 1 ⊗ at 2)) refl) (times_cong (same_refl x) e) in
+    same_member (product i (exactly f)) (times x f) (times (times x a) b) (same_sym same) (product_holds i (exactly f) x f m (le_refl f, le_refl f))
+
+-- the ends of a product, times a number, in an interval of ends
+ends_within : (p q b : Fraction) (j : Interval) → IsMember (times p b) j → IsMember (times q b) j → product (between p q) (exactly b) ⊆ j
+unfolding product
+ends_within p q b everything hp hq = within_everything _
+ends_within p q b (between c d) hp hq = record { ends = (least_is c _ _ _ _ hp.0 hp.0 hq.0 hq.0, greatest_is d _ _ _ _ hp.1 hp.1 hq.1 hq.1) }
+
+-- scaling by two numbers, one after the other, lies within scaling by their product
+once_within : (i : Interval) (a b f : Fraction) → IsProper i → times a b ≈ f → product (product i (exactly a)) (exactly b) ⊆ product i (exactly f)
+unfolding product
+once_within everything a b f p e = within_everything _
+once_within (between l u) a b f p e =
+    let P : Fraction → Type 0 = λ z. IsMember (times z b) (product (between l u) (exactly f)) in
+    let hl = once_member (between l u) a b f l e (le_refl l, p) in
+    let hu = once_member (between l u) a b f u e (p, le_refl u) in
+    ends_within (least (times l a) (times l a) (times u a) (times u a)) (greatest (times l a) (times l a) (times u a) (times u a)) b (product (between l u) (exactly f))
+    (least_keeps P _ _ _ _ hl hl hu hu) (greatest_keeps P _ _ _ _ hl hl hu hu)
+
+-- what holds an expression scaled by the product of two fractions holds it scaled by both
+pub both_hold : {E : Type 0} (shown : E → Interval) (w : World) (x : Expression) (a b f : Fraction) (e : E) → times a b ≈ f → Within shown w (scale f x) e → Within shown w (scale b (scale a x)) e
+unfolding Lies value
+both_hold shown w x a b f e s h = record { deep = h.deep; inside = within_trans (once_within (value w x) a b f (value_proper w x) s) h.inside }
+
+-- a rate a century is a rate a day, times the days of a century
+pub daily_is : (f g : Frac) → g.num ≡ f.num → g.den ≡ f.den * 36525 → 0 < f.den → times (fraction_of DAY_IN_CENTURIES) (fraction_of f) ≈ fraction_of g
+unfolding times
+daily_is f g n d p =
+    let a : suc (g.den - 1) ≡ f.den * 36525 = omega (arith) in
+    let b : suc (below_product 36524 (f.den - 1)) ≡ f.den * 36525 = omega (arith) in
+    record { cross = rw n (rw a (rw b (rw (one_mul f.num) refl))) }

@@ -1,12 +1,13 @@
 -- The parts of the sun's longitude, and the order in which they are computed; parts of the equation of time and of noon.
 use Rattle.std.specs.Prelude.{ℤ}
-use Rattle.book_model.specs.declared.sun_tables.TheConstants.{SUN_AT_2000, SUN_RATE, SUN_UNIT_COARSELY, SUN_UNIT_FINELY, SUN_WAVES}
+use Rattle.book_model.specs.declared.sun_tables.TheConstants.{ABERRATION, MEAN_ABERRATION, SUN_AT_2000, SUN_RATE, SUN_UNIT_COARSELY, SUN_UNIT_FINELY, SUN_WAVES}
 use Rattle.book_model.specs.declared.tables.TheConstants.{HALF}
 use Rattle.book_model.specs.Expressions.{Expression, integer, constant, add, subtract, scale}
 use Rattle.book_model.specs.Fractions.{fraction_of}
 use Rattle.book_model.specs.Noon.{reduction_of, centre_of, joint_of}
 use Rattle.book_model.specs.Polynomials.{waves_of}
-use Rattle.book_model.specs.Sun.{nutation_of, aberration_of, sun_unit}
+use Rattle.book_model.specs.Sun.{nutation_of, sun_unit}
+use Rattle.sun_core.specs.Daily.{in_centuries, by_days, daily_cosine_wave_of, daily_waves_of}
 
 -- the mean longitude, not reduced
 unfoldable pub mean_longitude_of : Expression → Expression
@@ -16,13 +17,21 @@ mean_longitude_of c = add (constant (fraction_of SUN_AT_2000)) (scale (fraction_
 unfoldable pub periodic_of : Expression → Expression
 periodic_of c = scale sun_unit (waves_of SUN_WAVES c)
 
--- the same, by the unit's two factors
+-- the same by the days, and by the unit's two factors
 unfoldable pub computed_periodic_of : Expression → Expression
-computed_periodic_of c = scale (fraction_of SUN_UNIT_FINELY) (scale (fraction_of SUN_UNIT_COARSELY) (waves_of SUN_WAVES c))
+computed_periodic_of x = scale (fraction_of SUN_UNIT_FINELY) (scale (fraction_of SUN_UNIT_COARSELY) (daily_waves_of SUN_WAVES x))
 
--- the sun's longitude as it is computed, not reduced
+-- the mean longitude by the days
+unfoldable pub computed_mean_longitude_of : Expression → Expression
+computed_mean_longitude_of x = add (constant (fraction_of SUN_AT_2000)) (by_days SUN_RATE x)
+
+-- the aberration by the days
+unfoldable pub computed_aberration_of : Expression → Expression
+computed_aberration_of x = subtract (daily_cosine_wave_of ABERRATION x) (constant (fraction_of MEAN_ABERRATION))
+
+-- the sun's longitude as it is computed by the days from noon of 1 January 2000, not reduced
 unfoldable pub computed_longitude_of : Expression → Expression
-computed_longitude_of c = add (add (add (mean_longitude_of c) (computed_periodic_of c)) (aberration_of c)) (nutation_of c)
+computed_longitude_of x = add (add (add (computed_mean_longitude_of x) (computed_periodic_of x)) (computed_aberration_of x)) (nutation_of (in_centuries x))
 
 -- the first three terms of the equation of time, in radians
 unfoldable pub first_radians_of : (y e l m : Expression) → Expression

@@ -4,7 +4,7 @@
 //! what the definition gives, at every depth from `DEPTH` on.
 //!
 //! - `sun`: the longitude at a moment, with nutation and aberration;
-//! - `obliquity`: of the ecliptic, by the centuries; `nutation` and `sine_wave`, of which longitudes are made;
+//! - `obliquity`: of the ecliptic, by the centuries; `nutation`, `sine_wave` and `times_rate`, of which longitudes are made;
 //! - `equation_of_time`: what apparent time, which sundials show, is ahead of mean time;
 //! - `from_apparent`: from apparent to local mean time;
 //! - `noon`: true noon at Tehran, which decides the first day of a Persian year;
@@ -12,6 +12,7 @@
 #![tactic(auto)]
 
 mod apparent;
+mod daily;
 mod ecliptic;
 mod equation;
 mod estimates;
@@ -21,6 +22,7 @@ mod tests;
 mod waves;
 
 pub use apparent::{from_apparent, noon};
+pub use daily::times_rate;
 pub use ecliptic::obliquity;
 pub use equation::equation_of_time;
 pub use estimates::estimate;

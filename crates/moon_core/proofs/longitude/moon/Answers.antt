@@ -1,0 +1,19 @@
+use Rattle.book_model.specs.Expressions.{remainder, subtract, constant}
+use Rattle.book_model.specs.Fractions.{fraction_of}
+use Rattle.book_model.specs.declared.site.Site.TheVariants.{MoonWrap}
+use Rattle.book_model.specs.declared.time_tables.TheConstants.{NOON_2000}
+use Rattle.book_model.specs.Programs.{answer, cell, multiples}
+use Rattle.book_model.specs.Moon.{moon_of, moon_longitude_of}
+use Rattle.book_model.specs.Time.{in_centuries as centuries_from}
+use Rattle.sun_core.specs.Daily.{in_centuries}
+use Rattle.sun_core.proofs.Elapsed.{by_dynamical}
+use Rattle.moon_core.proofs.longitude.moon.Goals as goal
+
+pub returns-in-Ok-clause-leads : goal.returns-in-Ok-clause-leads
+unfolding moon_of centuries_from in_centuries
+returns-in-Ok-clause-leads g c = λ w x h.
+    by_dynamical x (λ v. cell MoonWrap (multiples 360) (moon_longitude_of v) (λ q. answer (remainder 360 (moon_longitude_of v) q))) (c.in-Ok.ensures.leads w x h)
+    (λ d r.
+    let days = c.sub-days.ensures.holds w d (constant (fraction_of NOON_2000)) r (c.from_frac.ensures.holds w r.deep) in
+    c.wrap_step.ensures.leads w (moon_longitude_of (in_centuries (subtract d (constant (fraction_of NOON_2000)))))
+    (c.longitude.ensures.holds w (subtract d (constant (fraction_of NOON_2000))) days (c.mul_frac-c.ensures.holds w _ days)))

@@ -1,0 +1,42 @@
+-- The moon's longitude as it is computed, its linear parts and waves by the days from noon of 1 January 2000.
+use Rattle.book_model.specs.declared.moon_tables.TheConstants.{ECCENTRICITY_FACTOR, ELONGATION, FLATTENING, JUPITER_WAVE, LATITUDE_ARGUMENT, MILLIONTH, MOON_ANOMALY, MOON_LONGITUDE, MOON_TERMS, SUN_ANOMALY, VENUS_WAVE}
+use Rattle.book_model.specs.declared.polynomial.Cubic.{Cubic}
+use Rattle.book_model.specs.declared.polynomial.Quartic.{Quartic}
+use Rattle.book_model.specs.Expressions.{Expression, constant, add, subtract, scale, power, sine}
+use Rattle.book_model.specs.Fractions.{fraction_of}
+use Rattle.book_model.specs.Moon.{LunarAngles, longitude_term_of, no_term}
+use Rattle.book_model.specs.Polynomials.{quadratic_of}
+use Rattle.book_model.specs.Sun.{nutation_of}
+use Rattle.book_model.specs.Terms.{terms_of}
+use Rattle.sun_core.specs.Daily.{in_centuries, by_days, daily_wave_of}
+
+-- a quartic, its linear part by the days
+unfoldable pub daily_quartic_of : Quartic → Expression → Expression
+daily_quartic_of p x =
+    add (add (add (add (constant (fraction_of p.constant)) (by_days p.linear x)) (scale (fraction_of p.square) (power (in_centuries x) 2))) (scale (fraction_of p.cube) (power (in_centuries x) 3))) (scale (fraction_of p.fourth) (power (in_centuries x) 4))
+
+-- a cubic, its linear part by the days
+unfoldable pub daily_cubic_of : Cubic → Expression → Expression
+daily_cubic_of p x =
+    add (add (add (constant (fraction_of p.constant)) (by_days p.linear x)) (scale (fraction_of p.square) (power (in_centuries x) 2))) (scale (fraction_of p.cube) (power (in_centuries x) 3))
+
+-- the angles at a time
+unfoldable pub daily_angles_of : Expression → LunarAngles
+daily_angles_of x =
+    record { elongation = daily_quartic_of ELONGATION x; sun_anomaly = daily_cubic_of SUN_ANOMALY x; moon_anomaly = daily_quartic_of MOON_ANOMALY x; latitude_argument = daily_quartic_of LATITUDE_ARGUMENT x; eccentricity = quadratic_of ECCENTRICITY_FACTOR (in_centuries x) }
+
+-- the sum of the longitude's terms
+unfoldable pub computed_terms_of : Expression → Expression
+computed_terms_of x = terms_of (longitude_term_of (daily_angles_of x)) no_term MOON_TERMS
+
+-- what the flattening of the earth adds
+unfoldable pub computed_flattening_of : Expression → Expression
+computed_flattening_of x = scale (fraction_of FLATTENING) (sine (subtract (daily_quartic_of MOON_LONGITUDE x) (daily_quartic_of LATITUDE_ARGUMENT x)))
+
+-- what the moon is ahead of its mean longitude, in millionths of a degree
+unfoldable pub computed_inequalities_of : Expression → Expression
+computed_inequalities_of x = add (add (add (computed_terms_of x) (daily_wave_of VENUS_WAVE x)) (daily_wave_of JUPITER_WAVE x)) (computed_flattening_of x)
+
+-- the moon's longitude, not reduced
+unfoldable pub computed_longitude_of : Expression → Expression
+computed_longitude_of x = add (add (daily_quartic_of MOON_LONGITUDE x) (scale (fraction_of MILLIONTH) (computed_inequalities_of x))) (nutation_of (in_centuries x))

@@ -1,0 +1,46 @@
+-- The sun's waves and mean longitude by days: as the definitions have them, in centuries, and as they are computed.
+use Rattle.std.specs.Prelude.{Bool, ℕ, zero, suc, List, length, slice_index_or, ◌-◌, ◌*◌, ◌&&◌, nat_lt, nat_le, cond, pos}
+use Rattle.book_model.specs.declared.frac.Frac.{Frac}
+use Rattle.book_model.specs.declared.polynomial.Wave.{Wave}
+use Rattle.book_model.specs.declared.time_tables.TheConstants.{DAY_IN_CENTURIES}
+use Rattle.book_model.specs.Expressions.{Expression, integer, constant, add, scale, sine, cosine}
+use Rattle.book_model.specs.Fractions.{fraction_of}
+use Rattle.book_model.specs.Polynomials.{no_wave}
+use Rattle.sun_core.specs.declared.daily.TheConstants.{GREATEST}
+
+-- a number of days in centuries
+unfoldable pub in_centuries : Expression → Expression
+in_centuries x = scale (fraction_of DAY_IN_CENTURIES) x
+
+-- whether the rate a day has a denominator of 64 bits, as the code decides it
+unfoldable pub has_daily : Frac → Bool
+has_daily f = nat_lt 0 f.den && nat_le f.den GREATEST
+
+-- the days in centuries, and these times the rate
+unfoldable pub by_centuries : Frac → Expression → Expression
+by_centuries f x = scale (fraction_of f) (in_centuries x)
+
+-- the days times the rate a day
+unfoldable pub by_days : Frac → Expression → Expression
+by_days f x = cond (has_daily f) (scale (record { num = f.num; below = f.den * 36525 - 1 }) x) (by_centuries f x)
+
+-- the angle of a wave, as it is computed
+unfoldable pub daily_angle_of : Wave → Expression → Expression
+daily_angle_of v x = add (constant (fraction_of v.phase)) (by_days v.rate x)
+
+-- the size of a wave times the sine of its angle
+unfoldable pub daily_wave_of : Wave → Expression → Expression
+daily_wave_of v x = scale (fraction_of v.size) (sine (daily_angle_of v x))
+
+-- the size of a wave times the cosine of its angle
+unfoldable pub daily_cosine_wave_of : Wave → Expression → Expression
+daily_cosine_wave_of v x = scale (fraction_of v.size) (cosine (daily_angle_of v x))
+
+-- the sum of the first n waves
+unfoldable pub daily_waves_to : List Wave → Expression → ℕ → Expression
+daily_waves_to vs x zero = integer (pos 0)
+daily_waves_to vs x (suc n) = add (daily_waves_to vs x n) (daily_wave_of (slice_index_or vs n no_wave) x)
+
+-- the sum of the waves
+unfoldable pub daily_waves_of : List Wave → Expression → Expression
+daily_waves_of vs x = daily_waves_to vs x (length vs)

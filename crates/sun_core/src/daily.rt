@@ -1,0 +1,36 @@
+//! Rates a century times the time, by days, so that the rounding of the centuries isn't multiplied by a rate.
+ghost use Rattle.std.specs.Prelude.{◌≡◌, ◌*◌, ◌<◌, MatchOption, true, false};
+ghost use Rattle.book_model.specs.Bounds.{Reach, limits_of};
+ghost use Rattle.book_model.specs.Expressions.{Expression, World, scale};
+ghost use Rattle.book_model.specs.Fractions.{fraction_of};
+ghost use Rattle.book_model.specs.Relations.{Within, Narrow};
+ghost use Rattle.sun_core.specs.Daily.{has_daily, by_days, by_centuries};
+
+use book_model::{DAY_IN_CENTURIES, Frac};
+use encl_core::Enclosure;
+
+/// The greatest denominator of a rate a century whose rate a day has one in 64 bits.
+const GREATEST: u64 = 500_000_000_000_000;
+
+/// A rate a century as a rate a day, where its denominator fits.
+#[tactic(auto, unfolding(crate::specs::Daily::has_daily))]
+fn daily(rate: Frac) -> Option<Frac>
+    ensures daily { MatchOption result (has_daily rate ≡ false) (λ f. (has_daily rate ≡ true) × (0 < rate.den) × (f.num ≡ rate.num) × (f.den ≡ rate.den * 36525)) }
+{
+    if 0 < rate.den() && rate.den() <= GREATEST {
+        Frac::new(rate.num(), rate.den() * 36_525)
+    } else {
+        None
+    }
+}
+
+/// A rate a century times the days from noon of 1 January 2000.
+pub fn times_rate<E: Enclosure>(days: E, rate: Frac) -> E
+    ensures holds { (w : World) (x : Expression) → Within E.shown w x days → Within E.shown w (by_centuries rate x) result }
+    ensures narrow { (r : Reach) (x : Expression) → Narrow E.shown (limits_of E.BITS) r x days → Narrow E.shown (limits_of E.BITS) r (by_days rate x) result }
+{
+    match daily(rate) {
+        Some(rate) => days.mul_frac(rate),
+        None => days.mul_frac(DAY_IN_CENTURIES).mul_frac(rate),
+    }
+}
