@@ -17,6 +17,7 @@ use Rattle.book_model.specs.Kinds.{dt_of, sun_in_thousandths_of, nowruz_of, new_
 use Rattle.book_model.specs.Leading.{at_56, AreNoBounds}
 use Rattle.book_model.specs.Names.{has_place}
 use Rattle.book_model.specs.Programs.{Grid, threshold, Program, void, Run, run, valued, void_at, outcome, MakesTest, Sides, one_side, two_sides}
+use Rattle.book_model.specs.Depth.{DEPTH}
 
 -- a day of which a fact may be asked
 abbrev pub IsFactDay : ℤ → Type 0
@@ -56,11 +57,11 @@ run_of n f = run (at_depth n) (program_of f)
 
 -- the fact has the value v at every depth from 40 on
 pub record IsTrueWith (f : Fact) (v : ℤ) : Type 0 where
-  pub at_each_depth : (n : ℕ) → 40 ≤ n → outcome (run_of n f) ≡ valued v
+  pub at_each_depth : (n : ℕ) → DEPTH ≤ n → outcome (run_of n f) ≡ valued v
 
 -- the fact has no value, for a reason at this site, at every depth from 40 on
 pub record IsVoidAt (f : Fact) (s : Site) : Type 0 where
-  pub at_each_depth : (n : ℕ) → 40 ≤ n → outcome (run_of n f) ≡ void_at s
+  pub at_each_depth : (n : ℕ) → DEPTH ≤ n → outcome (run_of n f) ≡ void_at s
 
 -- an interval lies between two numbers that count 2^-56, which may stand for no bounds
 pub data LiesFrom (lo hi : ℤ) (i : Interval) : Type 0 where
@@ -96,6 +97,6 @@ HasWholeDays NewMoonFrom = ⊥
 -- The year of a whole day is never near. For the years 1987 to 2050 the ends of a dynamical time correction lie
 -- at most 2^-6 apart.
 pub record IsNear (f : Fact) (u : Undecided) : Type 0 where
-  pub at_each_depth : (n : ℕ) → 40 ≤ n → MakesNearTest (run_of n f) u
+  pub at_each_depth : (n : ℕ) → DEPTH ≤ n → MakesNearTest (run_of n f) u
   pub no_whole_day : u.site ≡ Year → (u.turn ≡ 1) ⊎ (u.turn ≡ 3) → HasWholeDays f.kind → ⊥
   pub close : f.kind ≡ Dt → pos 1987 ≤ℤ year_of_day f.day → year_of_day f.day ≤ℤ pos 2050 → (u.hi -ℤ u.lo) ≤ℤ pos (2 ^ 50)

@@ -1,3 +1,4 @@
+pub mod Depth
 pub mod Names
 pub mod Fractions
 pub mod Calendar

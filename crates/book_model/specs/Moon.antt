@@ -49,7 +49,7 @@ flattening_of c = scale (fraction_of FLATTENING) (sine (subtract (quartic_of MOO
 
 -- what the moon is ahead of its mean longitude, in millionths of a degree
 unfoldable pub inequalities_of : Expression → Expression
-inequalities_of c = add (add (add (longitude_terms_of c) (wave_of VENUS_WAVE c)) (wave_of JUPITER_WAVE c)) (flattening_of c)
+inequalities_of c = add (add (add (longitude_terms_of c) (wave_of c VENUS_WAVE)) (wave_of c JUPITER_WAVE)) (flattening_of c)
 
 -- the moon's longitude, not reduced
 unfoldable pub moon_longitude_of : Expression → Expression

@@ -11,6 +11,7 @@ use Rattle.book_model.specs.Facts.{IsNear, IsVoidAt}
 use Rattle.book_model.specs.Inquiries.{finding, found, AsksAt}
 use Rattle.book_model.specs.LineRules.{rule_of}
 use Rattle.book_model.specs.Requests.{request_of}
+use Rattle.book_model.specs.Depth.{DEPTH}
 
 -- what comes of a line: it breaks a rule; it has a result, with the facts asked and their values; or a fact that
 -- it asks is undecided or void
@@ -24,13 +25,13 @@ pub data LineOutcome : Type 0 where
 pub record HasResult (line : List ℕ) (x : Resolved) (facts : List (Fact × ℤ)) : Type 0 where
   pub request : Request
   pub asked : request_of line ≡ Ok request
-  pub at_each_depth : (n : ℕ) → 40 ≤ n → finding n (rule_of request) ≡ found x facts
+  pub at_each_depth : (n : ℕ) → DEPTH ≤ n → finding n (rule_of request) ≡ found x facts
 
 -- the line breaks no rule, and at every depth from 40 on its rule asks this fact
 pub record AsksAlways (line : List ℕ) (f : Fact) : Type 0 where
   pub request : Request
   pub asked : request_of line ≡ Ok request
-  pub at_each_depth : (n : ℕ) → 40 ≤ n → AsksAt n (rule_of request) f
+  pub at_each_depth : (n : ℕ) → DEPTH ≤ n → AsksAt n (rule_of request) f
 
 -- an outcome is right for a line
 abbrev pub IsRightFor : List ℕ → LineOutcome → Type 0

@@ -1,6 +1,6 @@
 -- Polynomials and waves, as expressions.
 use Rattle.std.specs.Prelude.{ℕ, zero, suc, pos, List, length, slice_index_or}
-use Rattle.exact_math.specs.Fraction.{Fraction, power as fraction_power}
+use Rattle.exact_math.specs.Fraction.{Fraction, whole, power as fraction_power}
 use Rattle.book_model.specs.declared.frac.Frac.{Frac}
 use Rattle.book_model.specs.declared.polynomial.Quadratic.{Quadratic}
 use Rattle.book_model.specs.declared.polynomial.Cubic.{Cubic}
@@ -8,8 +8,9 @@ use Rattle.book_model.specs.declared.polynomial.Quartic.{Quartic}
 use Rattle.book_model.specs.declared.polynomial.Wave.{Wave}
 use Rattle.book_model.specs.declared.polynomial.QuadraticWave.{QuadraticWave}
 use Rattle.book_model.specs.Correction.{no_fraction}
-use Rattle.book_model.specs.Fractions.{fraction_of}
-use Rattle.book_model.specs.Expressions.{Expression, integer, constant, add, scale, power, sine, cosine}
+use Rattle.book_model.specs.Fractions.{fraction_of, ten_millionths}
+use Rattle.book_model.specs.Expressions.{Expression, integer, constant, add, scale, power, sine}
+use Rattle.book_model.specs.Terms.{terms_of}
 
 -- a0 + a1 x + a2 x^2
 unfoldable pub quadratic_of : Quadratic → Expression → Expression
@@ -34,17 +35,13 @@ polynomial_at_to cs c (suc n) = add (polynomial_at_to cs c n) (scale (fraction_o
 unfoldable pub polynomial_at : List Frac → Fraction → Expression
 polynomial_at cs c = polynomial_at_to cs c (length cs)
 
--- the phase of a wave and its rate times x
+-- the phase of a wave and its rate times x, which are in centuries
 abbrev pub angle_of_wave : Wave → Expression → Expression
-angle_of_wave v x = add (constant (fraction_of v.phase)) (scale (fraction_of v.rate) x)
+angle_of_wave v x = add (constant (ten_millionths v.phase)) (scale (ten_millionths v.rate) x)
 
 -- the size of a wave times the sine of its angle
-unfoldable pub wave_of : Wave → Expression → Expression
-wave_of v x = scale (fraction_of v.size) (sine (angle_of_wave v x))
-
--- the size of a wave times the cosine of its angle
-unfoldable pub cosine_wave_of : Wave → Expression → Expression
-cosine_wave_of v x = scale (fraction_of v.size) (cosine (angle_of_wave v x))
+unfoldable pub wave_of : Expression → Wave → Expression
+wave_of x v = scale (whole v.size) (sine (angle_of_wave v x))
 
 -- the size of a wave times the sine of its angle, which is quadratic
 unfoldable pub quadratic_wave_of : QuadraticWave → Expression → Expression
@@ -52,13 +49,8 @@ quadratic_wave_of v x = scale (fraction_of v.size) (sine (quadratic_of v.angle x
 
 -- what stands for a wave past the last
 abbrev pub no_wave : Wave
-no_wave = record { size = no_fraction; phase = no_fraction; rate = no_fraction }
-
--- the sum of the first n waves
-unfoldable pub waves_to : List Wave → Expression → ℕ → Expression
-waves_to vs x zero = integer (pos 0)
-waves_to vs x (suc n) = add (waves_to vs x n) (wave_of (slice_index_or vs n no_wave) x)
+no_wave = record { size = pos 0; phase = pos 0; rate = pos 0 }
 
 -- the sum of the waves
-unfoldable pub waves_of : List Wave → Expression → Expression
-waves_of vs x = waves_to vs x (length vs)
+abbrev pub waves_of : List Wave → Expression → Expression
+waves_of vs x = terms_of (wave_of x) no_wave vs

@@ -4,6 +4,7 @@ use Rattle.std.specs.Prelude.{◌≤◌}
 use Rattle.exact_math.specs.Interval.{Interval, ◌⊆◌}
 use Rattle.book_model.specs.Expressions.{Expression, World, value}
 use Rattle.book_model.specs.Bounds.{Limits, Reach, bound_of, IsNarrow}
+use Rattle.book_model.specs.Depth.{DEPTH}
 
 -- the value of an expression lies within an interval
 unfoldable pub Lies : World → Expression → Interval → Type 0
@@ -11,7 +12,7 @@ Lies w x i = value w x ⊆ i
 
 -- an enclosure, which shows an interval, holds the value of an expression in a world that is deep enough
 pub record Within {E : Type 0} (shown : E → Interval) (w : World) (x : Expression) (e : E) : Type 0 where
-  pub deep : 40 ≤ w.depth
+  pub deep : DEPTH ≤ w.depth
   pub inside : Lies w x (shown e)
 
 -- an interval keeps the bound of an expression

@@ -5,9 +5,9 @@ use Rattle.std.specs.Prelude.{pos, ◌-◌, ◌^◌}
 use Rattle.exact_math.specs.Fraction.{Fraction}
 use Rattle.book_model.specs.declared.site.Site.TheVariants.{StepWrap, SunWrap}
 use Rattle.book_model.specs.declared.sun_tables.TheConstants.{ABERRATION, DEGREE_OF_YEAR, MEAN_ABERRATION, NODE_NUTATION, OBLIQUITY, SOLAR_NUTATION, SUN_AT_2000, SUN_RATE, SUN_WAVES}
-use Rattle.book_model.specs.Expressions.{Expression, integer, constant, add, subtract, scale, minimum, remainder}
-use Rattle.book_model.specs.Fractions.{fraction_of}
-use Rattle.book_model.specs.Polynomials.{cubic_of, cosine_wave_of, quadratic_wave_of, waves_of}
+use Rattle.book_model.specs.Expressions.{Expression, integer, constant, add, subtract, scale, minimum, cosine, remainder}
+use Rattle.book_model.specs.Fractions.{fraction_of, ten_millionths}
+use Rattle.book_model.specs.Polynomials.{cubic_of, angle_of_wave, quadratic_wave_of, waves_of}
 use Rattle.book_model.specs.Programs.{Program, answer, cell, bind, multiples}
 use Rattle.book_model.specs.Time.{centuries_of}
 
@@ -17,7 +17,7 @@ nutation_of c = add (quadratic_wave_of NODE_NUTATION c) (quadratic_wave_of SOLAR
 
 -- the aberration
 unfoldable pub aberration_of : Expression → Expression
-aberration_of c = subtract (cosine_wave_of ABERRATION c) (constant (fraction_of MEAN_ABERRATION))
+aberration_of c = subtract (scale (ten_millionths ABERRATION.size) (cosine (angle_of_wave ABERRATION c))) (constant (fraction_of MEAN_ABERRATION))
 
 -- the unit of the sun's waves, 0.000005729577951308232
 abbrev pub sun_unit : Fraction

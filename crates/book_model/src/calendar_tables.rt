@@ -2,10 +2,8 @@
 use crate::Frac;
 
 /// The mean tropical year, in days (Reingold and Dershowitz, Calendrical Calculations, chapter 14).
-pub const TROPICAL_YEAR: Frac = Frac {
-    num: 365_242_189,
-    den: 1_000_000,
-};
+#[rattlefmt::skip]
+pub const TROPICAL_YEAR: Frac = Frac { num: 365_242_189, den: 1_000_000 };
 
 /// The first day of the Persian year 1: 19 March 622 of the Julian calendar (R.D.; Reingold and Dershowitz,
 /// Calendrical Calculations, chapter 15).

@@ -1,5 +1,7 @@
 //! Exact fractions as the tables and formulas give them.
 ghost use Rattle.std.specs.Prelude.{◌≡◌, ◌↔◌, ℤ, ℕ, IfSome, IsNone};
+ghost use Rattle.exact_math.specs.Fraction.{whole as whole_number};
+ghost use Rattle.book_model.specs.Fractions.{fraction_of, ten_millionths as parts, daily_ten_millionths as daily_parts};
 
 /// An exact fraction, a whole number over a positive one. It isn't reduced.
 #[derive(Clone, Copy, Debug, PartialEq, Eq)]
@@ -10,6 +12,7 @@ pub struct Frac {
 
 impl Frac {
     /// The fraction `num / den`; `None` exactly where `den` is 0.
+    #[inline(always)]
     pub fn new(num: i128, den: u64) -> Option<Frac>
         ensures none { IsNone result ↔ (den ≡ 0) }
         ensures num { IfSome result (λ f. f.num ≡ num) }
@@ -22,7 +25,41 @@ impl Frac {
         }
     }
 
+    /// A whole number.
+    #[inline(always)]
+    pub fn whole(number: i64) -> Self
+        ensures value { fraction_of result ≡ whole_number number }
+    {
+        Frac {
+            num: i128::from(number),
+            den: 1,
+        }
+    }
+
+    /// So many ten-millionths.
+    #[inline(always)]
+    pub fn ten_millionths(number: i64) -> Self
+        ensures value { fraction_of result ≡ parts number }
+    {
+        Frac {
+            num: i128::from(number),
+            den: 10_000_000,
+        }
+    }
+
+    /// What so many ten-millionths a century of 36,525 days are a day.
+    #[inline(always)]
+    pub fn daily_ten_millionths(number: i64) -> Self
+        ensures value { fraction_of result ≡ daily_parts number }
+    {
+        Frac {
+            num: i128::from(number),
+            den: 365_250_000_000,
+        }
+    }
+
     /// The numerator, as it was given.
+    #[inline(always)]
     pub fn num(self) -> i128
         ensures { result ≡ self.num }
     {
@@ -30,6 +67,7 @@ impl Frac {
     }
 
     /// The denominator, as it was given.
+    #[inline(always)]
     pub fn den(self) -> u64
         ensures { result ≡ self.den }
     {

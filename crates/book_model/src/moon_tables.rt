@@ -5,169 +5,77 @@
 use crate::{Cubic, Frac, MoonTerm, Quadratic, Quartic, Wave};
 
 /// The mean longitude of the moon.
+#[rattlefmt::skip]
 pub const MOON_LONGITUDE: Quartic = Quartic {
-    constant: Frac {
-        num: 2_183_164_477,
-        den: 10_000_000,
-    },
-    linear: Frac {
-        num: 48_126_788_123_421,
-        den: 100_000_000,
-    },
-    square: Frac {
-        num: -15_786,
-        den: 10_000_000,
-    },
-    cube: Frac {
-        num: 1,
-        den: 538_841,
-    },
-    fourth: Frac {
-        num: -1,
-        den: 65_194_000,
-    },
+    constant: Frac { num: 2_183_164_477, den: 10_000_000 },
+    linear: Frac { num: 48_126_788_123_421, den: 100_000_000 },
+    square: Frac { num: -15_786, den: 10_000_000 },
+    cube: Frac { num: 1, den: 538_841 },
+    fourth: Frac { num: -1, den: 65_194_000 },
 };
 
 /// The mean elongation of the moon from the sun.
+#[rattlefmt::skip]
 pub const ELONGATION: Quartic = Quartic {
-    constant: Frac {
-        num: 2_978_501_921,
-        den: 10_000_000,
-    },
-    linear: Frac {
-        num: 4_452_671_114_034,
-        den: 10_000_000,
-    },
-    square: Frac {
-        num: -18_819,
-        den: 10_000_000,
-    },
-    cube: Frac {
-        num: 1,
-        den: 545_868,
-    },
-    fourth: Frac {
-        num: -1,
-        den: 113_065_000,
-    },
+    constant: Frac { num: 2_978_501_921, den: 10_000_000 },
+    linear: Frac { num: 4_452_671_114_034, den: 10_000_000 },
+    square: Frac { num: -18_819, den: 10_000_000 },
+    cube: Frac { num: 1, den: 545_868 },
+    fourth: Frac { num: -1, den: 113_065_000 },
 };
 
 /// The mean anomaly of the sun, as the moon's formulas take it.
+#[rattlefmt::skip]
 pub const SUN_ANOMALY: Cubic = Cubic {
-    constant: Frac {
-        num: 3_575_291_092,
-        den: 10_000_000,
-    },
-    linear: Frac {
-        num: 359_990_502_909,
-        den: 10_000_000,
-    },
-    square: Frac {
-        num: -1536,
-        den: 10_000_000,
-    },
-    cube: Frac {
-        num: 1,
-        den: 24_490_000,
-    },
+    constant: Frac { num: 3_575_291_092, den: 10_000_000 },
+    linear: Frac { num: 359_990_502_909, den: 10_000_000 },
+    square: Frac { num: -1536, den: 10_000_000 },
+    cube: Frac { num: 1, den: 24_490_000 },
 };
 
 /// The mean anomaly of the moon.
+#[rattlefmt::skip]
 pub const MOON_ANOMALY: Quartic = Quartic {
-    constant: Frac {
-        num: 1_349_633_964,
-        den: 10_000_000,
-    },
-    linear: Frac {
-        num: 4_771_988_675_055,
-        den: 10_000_000,
-    },
-    square: Frac {
-        num: 87_414,
-        den: 10_000_000,
-    },
-    cube: Frac {
-        num: 1,
-        den: 69_699,
-    },
-    fourth: Frac {
-        num: -1,
-        den: 14_712_000,
-    },
+    constant: Frac { num: 1_349_633_964, den: 10_000_000 },
+    linear: Frac { num: 4_771_988_675_055, den: 10_000_000 },
+    square: Frac { num: 87_414, den: 10_000_000 },
+    cube: Frac { num: 1, den: 69_699 },
+    fourth: Frac { num: -1, den: 14_712_000 },
 };
 
 /// The argument of the moon's latitude: its mean distance from its ascending node.
+#[rattlefmt::skip]
 pub const LATITUDE_ARGUMENT: Quartic = Quartic {
-    constant: Frac {
-        num: 932_720_950,
-        den: 10_000_000,
-    },
-    linear: Frac {
-        num: 4_832_020_175_233,
-        den: 10_000_000,
-    },
-    square: Frac {
-        num: -36_539,
-        den: 10_000_000,
-    },
-    cube: Frac {
-        num: -1,
-        den: 3_526_000,
-    },
-    fourth: Frac {
-        num: 1,
-        den: 863_310_000,
-    },
+    constant: Frac { num: 932_720_950, den: 10_000_000 },
+    linear: Frac { num: 4_832_020_175_233, den: 10_000_000 },
+    square: Frac { num: -36_539, den: 10_000_000 },
+    cube: Frac { num: -1, den: 3_526_000 },
+    fourth: Frac { num: 1, den: 863_310_000 },
 };
 
 /// What the eccentricity of the earth's orbit makes of a term of the sun's anomaly, as time goes on.
+#[rattlefmt::skip]
 pub const ECCENTRICITY_FACTOR: Quadratic = Quadratic {
     constant: Frac { num: 1, den: 1 },
-    linear: Frac {
-        num: -2516,
-        den: 1_000_000,
-    },
-    square: Frac {
-        num: -74,
-        den: 10_000_000,
-    },
+    linear: Frac { num: -2516, den: 1_000_000 },
+    square: Frac { num: -74, den: 10_000_000 },
 };
 
 /// What Venus adds to the moon's longitude, in millionths of a degree.
-pub const VENUS_WAVE: Wave = Wave {
-    size: Frac { num: 3958, den: 1 },
-    phase: Frac {
-        num: 11_975,
-        den: 100,
-    },
-    rate: Frac {
-        num: 131_849,
-        den: 1000,
-    },
-};
+#[rattlefmt::skip]
+pub const VENUS_WAVE: Wave = Wave { size: 3958, phase: 1_197_500_000, rate: 1_318_490_000 };
 
 /// What Jupiter adds to the moon's longitude, in millionths of a degree.
-pub const JUPITER_WAVE: Wave = Wave {
-    size: Frac { num: 318, den: 1 },
-    phase: Frac {
-        num: 5309,
-        den: 100,
-    },
-    rate: Frac {
-        num: 47_926_429,
-        den: 100,
-    },
-};
+#[rattlefmt::skip]
+pub const JUPITER_WAVE: Wave = Wave { size: 318, phase: 530_900_000, rate: 4_792_642_900_000 };
 
 /// What the flattening of the earth adds to the moon's longitude, in millionths of a degree: this times the sine of the
 /// longitude less the argument of latitude.
 pub const FLATTENING: Frac = Frac { num: 1962, den: 1 };
 
 /// A millionth.
-pub const MILLIONTH: Frac = Frac {
-    num: 1,
-    den: 1_000_000,
-};
+#[rattlefmt::skip]
+pub const MILLIONTH: Frac = Frac { num: 1, den: 1_000_000 };
 
 /// The terms of the moon's longitude and distance: the multiples of the four angles, and what the sine of their sum
 /// adds to the longitude in millionths of a degree, its cosine to the distance in metres.

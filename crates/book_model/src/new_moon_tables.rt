@@ -8,162 +8,79 @@ use crate::{Frac, NewMoonTerm, PlanetTerm, Quadratic, QuadraticWave};
 pub const NEW_MOON_OF_2000: i64 = 24_724;
 
 /// A month, in these centuries.
-pub const MONTH_IN_CENTURIES: Frac = Frac {
-    num: 100,
-    den: 123_685,
-};
+#[rattlefmt::skip]
+pub const MONTH_IN_CENTURIES: Frac = Frac { num: 100, den: 123_685 };
 
 /// The mean new moon, in days of dynamical time from noon of 1 January 2000.
+#[rattlefmt::skip]
 pub const MEAN_NEW_MOON: [Frac; 5] = [
-    Frac {
-        num: 509_766,
-        den: 100_000,
-    },
-    Frac {
-        num: 3_652_490_883_272_785,
-        den: 100_000_000_000,
-    },
-    Frac {
-        num: 15_437,
-        den: 100_000_000,
-    },
-    Frac {
-        num: -15,
-        den: 100_000_000,
-    },
-    Frac {
-        num: 73,
-        den: 100_000_000_000,
-    },
+    Frac { num: 509_766, den: 100_000 },
+    Frac { num: 3_652_490_883_272_785, den: 100_000_000_000 },
+    Frac { num: 15_437, den: 100_000_000 },
+    Frac { num: -15, den: 100_000_000 },
+    Frac { num: 73, den: 100_000_000_000 },
 ];
 
 /// The mean anomaly of the sun at a new moon.
+#[rattlefmt::skip]
 pub const NEW_MOON_SUN_ANOMALY: [Frac; 4] = [
-    Frac {
-        num: 25_534,
-        den: 10_000,
-    },
-    Frac {
-        num: 35_998_960_434_395,
-        den: 1_000_000_000,
-    },
-    Frac {
-        num: -14,
-        den: 10_000_000,
-    },
-    Frac {
-        num: -11,
-        den: 100_000_000,
-    },
+    Frac { num: 25_534, den: 10_000 },
+    Frac { num: 35_998_960_434_395, den: 1_000_000_000 },
+    Frac { num: -14, den: 10_000_000 },
+    Frac { num: -11, den: 100_000_000 },
 ];
 
 /// The mean anomaly of the moon at a new moon.
+#[rattlefmt::skip]
 pub const NEW_MOON_ANOMALY: [Frac; 5] = [
-    Frac {
-        num: 2_015_643,
-        den: 10_000,
-    },
-    Frac {
-        num: 477_197_676_401_068,
-        den: 1_000_000_000,
-    },
-    Frac {
-        num: 107_582,
-        den: 10_000_000,
-    },
-    Frac {
-        num: 1238,
-        den: 100_000_000,
-    },
-    Frac {
-        num: -58,
-        den: 1_000_000_000,
-    },
+    Frac { num: 2_015_643, den: 10_000 },
+    Frac { num: 477_197_676_401_068, den: 1_000_000_000 },
+    Frac { num: 107_582, den: 10_000_000 },
+    Frac { num: 1238, den: 100_000_000 },
+    Frac { num: -58, den: 1_000_000_000 },
 ];
 
 /// The argument of the moon's latitude at a new moon.
+#[rattlefmt::skip]
 pub const NEW_MOON_LATITUDE_ARGUMENT: [Frac; 5] = [
-    Frac {
-        num: 1_607_108,
-        den: 10_000,
-    },
-    Frac {
-        num: 483_200_811_437_654,
-        den: 1_000_000_000,
-    },
-    Frac {
-        num: -16_118,
-        den: 10_000_000,
-    },
-    Frac {
-        num: -227,
-        den: 100_000_000,
-    },
-    Frac {
-        num: 11,
-        den: 1_000_000_000,
-    },
+    Frac { num: 1_607_108, den: 10_000 },
+    Frac { num: 483_200_811_437_654, den: 1_000_000_000 },
+    Frac { num: -16_118, den: 10_000_000 },
+    Frac { num: -227, den: 100_000_000 },
+    Frac { num: 11, den: 1_000_000_000 },
 ];
 
 /// The longitude of the moon's ascending node at a new moon.
+#[rattlefmt::skip]
 pub const NEW_MOON_NODE: [Frac; 4] = [
-    Frac {
-        num: 1_247_746,
-        den: 10_000,
-    },
-    Frac {
-        num: -1_934_131_460_178,
-        den: 1_000_000_000,
-    },
-    Frac {
-        num: 20_672,
-        den: 10_000_000,
-    },
-    Frac {
-        num: 215,
-        den: 100_000_000,
-    },
+    Frac { num: 1_247_746, den: 10_000 },
+    Frac { num: -1_934_131_460_178, den: 1_000_000_000 },
+    Frac { num: 20_672, den: 10_000_000 },
+    Frac { num: 215, den: 100_000_000 },
 ];
 
 /// What the node adds to a new moon, in days: this times the sine of its longitude.
-pub const NODE_TERM: Frac = Frac {
-    num: -17,
-    den: 100_000,
-};
+#[rattlefmt::skip]
+pub const NODE_TERM: Frac = Frac { num: -17, den: 100_000 };
 
 /// What Venus adds to a new moon, in days.
+#[rattlefmt::skip]
 pub const NEW_MOON_WAVE: QuadraticWave = QuadraticWave {
-    size: Frac {
-        num: 325,
-        den: 1_000_000,
-    },
+    size: Frac { num: 325, den: 1_000_000 },
     angle: Quadratic {
-        constant: Frac {
-            num: 29_977,
-            den: 100,
-        },
-        linear: Frac {
-            num: 1_328_475_848,
-            den: 10_000_000,
-        },
-        square: Frac {
-            num: -9173,
-            den: 1_000_000,
-        },
+        constant: Frac { num: 29_977, den: 100 },
+        linear: Frac { num: 1_328_475_848, den: 10_000_000 },
+        square: Frac { num: -9173, den: 1_000_000 },
     },
 };
 
 /// The synodic month, in days.
-pub const SYNODIC_MONTH: Frac = Frac {
-    num: 29_530_588_861,
-    den: 1_000_000_000,
-};
+#[rattlefmt::skip]
+pub const SYNODIC_MONTH: Frac = Frac { num: 29_530_588_861, den: 1_000_000_000 };
 
 /// A day, in synodic months.
-pub const DAY_IN_MONTHS: Frac = Frac {
-    num: 1_000_000_000,
-    den: 29_530_588_861,
-};
+#[rattlefmt::skip]
+pub const DAY_IN_MONTHS: Frac = Frac { num: 1_000_000_000, den: 29_530_588_861 };
 
 /// A turn, in degrees.
 pub const TURN: Frac = Frac { num: 360, den: 1 };

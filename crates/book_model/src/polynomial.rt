@@ -18,12 +18,13 @@ pub struct Cubic {
     pub cube: Frac,
 }
 
-/// A wave in time: its size times the sine of its phase and its rate times the time, in degrees.
+/// A wave in time: its size times the sine of its phase and its rate times the time. The phase is in ten-millionths of a
+/// degree, the rate in the same a century, and the size in a unit of its table.
 #[derive(Clone, Copy, Debug, PartialEq, Eq)]
 pub struct Wave {
-    pub size: Frac,
-    pub phase: Frac,
-    pub rate: Frac,
+    pub size: i64,
+    pub phase: i64,
+    pub rate: i64,
 }
 
 /// A wave whose angle is quadratic in time: its size times the sine of the angle, in degrees.

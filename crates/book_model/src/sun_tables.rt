@@ -4,138 +4,67 @@
 use crate::{Cubic, Frac, Quadratic, QuadraticWave, Wave};
 
 /// The nutation in longitude by the moon's node.
+#[rattlefmt::skip]
 pub const NODE_NUTATION: QuadraticWave = QuadraticWave {
-    size: Frac {
-        num: -4778,
-        den: 1_000_000,
-    },
+    size: Frac { num: -4778, den: 1_000_000 },
     angle: Quadratic {
         constant: Frac { num: 1249, den: 10 },
-        linear: Frac {
-            num: -1_934_134,
-            den: 1000,
-        },
-        square: Frac {
-            num: 2063,
-            den: 1_000_000,
-        },
+        linear: Frac { num: -1_934_134, den: 1000 },
+        square: Frac { num: 2063, den: 1_000_000 },
     },
 };
 
 /// The nutation in longitude by twice the sun's mean longitude.
+#[rattlefmt::skip]
 pub const SOLAR_NUTATION: QuadraticWave = QuadraticWave {
-    size: Frac {
-        num: -3667,
-        den: 10_000_000,
-    },
+    size: Frac { num: -3667, den: 10_000_000 },
     angle: Quadratic {
-        constant: Frac {
-            num: 20_111,
-            den: 100,
-        },
-        linear: Frac {
-            num: 720_015_377,
-            den: 10_000,
-        },
-        square: Frac {
-            num: 57,
-            den: 100_000,
-        },
+        constant: Frac { num: 20_111, den: 100 },
+        linear: Frac { num: 720_015_377, den: 10_000 },
+        square: Frac { num: 57, den: 100_000 },
     },
 };
 
-/// What changes in the aberration, with a cosine for its sine.
-pub const ABERRATION: Wave = Wave {
-    size: Frac {
-        num: 974,
-        den: 10_000_000,
-    },
-    phase: Frac {
-        num: 17_763,
-        den: 100,
-    },
-    rate: Frac {
-        num: 3_599_901_848,
-        den: 100_000,
-    },
-};
+/// What changes in the aberration, with a cosine for its sine; the size is in ten-millionths of a degree.
+#[rattlefmt::skip]
+pub const ABERRATION: Wave = Wave { size: 974, phase: 1_776_300_000, rate: 359_990_184_800 };
 
 /// What the aberration takes off on an average.
-pub const MEAN_ABERRATION: Frac = Frac {
-    num: 5575,
-    den: 1_000_000,
-};
+#[rattlefmt::skip]
+pub const MEAN_ABERRATION: Frac = Frac { num: 5575, den: 1_000_000 };
 
 /// The obliquity of the ecliptic: 84381.448, -46.8150, -0.00059 and 0.001813 seconds of arc, of which a degree has 3600.
+#[rattlefmt::skip]
 pub const OBLIQUITY: Cubic = Cubic {
-    constant: Frac {
-        num: 84_381_448,
-        den: 3_600_000,
-    },
-    linear: Frac {
-        num: -468_150,
-        den: 36_000_000,
-    },
-    square: Frac {
-        num: -59,
-        den: 360_000_000,
-    },
-    cube: Frac {
-        num: 1813,
-        den: 3_600_000_000,
-    },
+    constant: Frac { num: 84_381_448, den: 3_600_000 },
+    linear: Frac { num: -468_150, den: 36_000_000 },
+    square: Frac { num: -59, den: 360_000_000 },
+    cube: Frac { num: 1813, den: 3_600_000_000 },
 };
 
 /// The mean longitude of the sun, as the equation of time takes it.
+#[rattlefmt::skip]
 pub const MEAN_SUN: Quadratic = Quadratic {
-    constant: Frac {
-        num: 28_046_645,
-        den: 100_000,
-    },
-    linear: Frac {
-        num: 3_600_076_983,
-        den: 100_000,
-    },
-    square: Frac {
-        num: 3032,
-        den: 10_000_000,
-    },
+    constant: Frac { num: 28_046_645, den: 100_000 },
+    linear: Frac { num: 3_600_076_983, den: 100_000 },
+    square: Frac { num: 3032, den: 10_000_000 },
 };
 
 /// The mean anomaly of the sun.
+#[rattlefmt::skip]
 pub const SOLAR_ANOMALY: Cubic = Cubic {
-    constant: Frac {
-        num: 35_752_910,
-        den: 100_000,
-    },
-    linear: Frac {
-        num: 3_599_905_030,
-        den: 100_000,
-    },
-    square: Frac {
-        num: -1559,
-        den: 10_000_000,
-    },
-    cube: Frac {
-        num: -48,
-        den: 100_000_000,
-    },
+    constant: Frac { num: 35_752_910, den: 100_000 },
+    linear: Frac { num: 3_599_905_030, den: 100_000 },
+    square: Frac { num: -1559, den: 10_000_000 },
+    cube: Frac { num: -48, den: 100_000_000 },
 };
 
 /// The eccentricity of the earth's orbit.
+#[rattlefmt::skip]
 pub const ECCENTRICITY: Quadratic = Quadratic {
-    constant: Frac {
-        num: 16_708_617,
-        den: 1_000_000_000,
-    },
-    linear: Frac {
-        num: -42_037,
-        den: 1_000_000_000,
-    },
-    square: Frac {
-        num: -1236,
-        den: 10_000_000_000,
-    },
+    constant: Frac { num: 16_708_617, den: 1_000_000_000 },
+    linear: Frac { num: -42_037, den: 1_000_000_000 },
+    square: Frac { num: -1236, den: 10_000_000_000 },
 };
 
 /// Two.
@@ -155,497 +84,80 @@ pub const DEGREE_IN_DAYS: Frac = Frac { num: 1, den: 360 };
 
 /// The longitude of Tehran, in degrees east of Greenwich, by whose true noon the Persian year begins (chapter 15 of the
 /// source).
-pub const PERSIAN_NOON_LONGITUDE: Frac = Frac {
-    num: 5142,
-    den: 100,
-};
+#[rattlefmt::skip]
+pub const PERSIAN_NOON_LONGITUDE: Frac = Frac { num: 5142, den: 100 };
 
 /// The time in which the sun moves on by a degree, in days: a 360th of the tropical year of 365.242189 days.
-pub const DEGREE_OF_YEAR: Frac = Frac {
-    num: 365_242_189,
-    den: 360_000_000,
-};
+#[rattlefmt::skip]
+pub const DEGREE_OF_YEAR: Frac = Frac { num: 365_242_189, den: 360_000_000 };
 
 /// The sun's mean longitude at the epoch.
-pub const SUN_AT_2000: Frac = Frac {
-    num: 2_827_771_834,
-    den: 10_000_000,
-};
+#[rattlefmt::skip]
+pub const SUN_AT_2000: Frac = Frac { num: 2_827_771_834, den: 10_000_000 };
 
 /// What the sun's mean longitude gains in a century.
-pub const SUN_RATE: Frac = Frac {
-    num: 3_600_076_953_744,
-    den: 100_000_000,
-};
+#[rattlefmt::skip]
+pub const SUN_RATE: Frac = Frac { num: 3_600_076_953_744, den: 100_000_000 };
 
 /// The first of two factors whose product is the unit of the sun's waves, 0.000005729577951308232: its denominator
 /// doesn't fit in 64 bits, and so it is applied in two steps. 5729577951308232 is 1374639 times 4168060088.
-pub const SUN_UNIT_COARSELY: Frac = Frac {
-    num: 1_374_639,
-    den: 1_000_000,
-};
+#[rattlefmt::skip]
+pub const SUN_UNIT_COARSELY: Frac = Frac { num: 1_374_639, den: 1_000_000 };
 
 /// The second of these factors.
-pub const SUN_UNIT_FINELY: Frac = Frac {
-    num: 4_168_060_088,
-    den: 1_000_000_000_000_000,
-};
+#[rattlefmt::skip]
+pub const SUN_UNIT_FINELY: Frac = Frac { num: 4_168_060_088, den: 1_000_000_000_000_000 };
 
-/// The sun's 49 waves, in units of 0.000005729577951308232 degrees.
+/// The sun's 49 waves, their sizes in units of 0.000005729577951308232 degrees.
+#[rattlefmt::skip]
 pub const SUN_WAVES: [Wave; 49] = [
-    Wave {
-        size: Frac {
-            num: 403_406,
-            den: 1,
-        },
-        phase: Frac {
-            num: 27_054_861,
-            den: 100_000,
-        },
-        rate: Frac {
-            num: 9_287_892,
-            den: 10_000_000,
-        },
-    },
-    Wave {
-        size: Frac {
-            num: 195_207,
-            den: 1,
-        },
-        phase: Frac {
-            num: 34_019_128,
-            den: 100_000,
-        },
-        rate: Frac {
-            num: 359_991_376_958,
-            den: 10_000_000,
-        },
-    },
-    Wave {
-        size: Frac {
-            num: 119_433,
-            den: 1,
-        },
-        phase: Frac {
-            num: 6_391_854,
-            den: 100_000,
-        },
-        rate: Frac {
-            num: 359_994_089_666,
-            den: 10_000_000,
-        },
-    },
-    Wave {
-        size: Frac {
-            num: 112_392,
-            den: 1,
-        },
-        phase: Frac {
-            num: 3_312_622,
-            den: 10_000,
-        },
-        rate: Frac {
-            num: 359_987_287_385,
-            den: 10_000_000,
-        },
-    },
-    Wave {
-        size: Frac { num: 3891, den: 1 },
-        phase: Frac {
-            num: 317_843,
-            den: 1000,
-        },
-        rate: Frac {
-            num: 7_199_820_261,
-            den: 100_000,
-        },
-    },
-    Wave {
-        size: Frac { num: 2819, den: 1 },
-        phase: Frac {
-            num: 86_631,
-            den: 1000,
-        },
-        rate: Frac {
-            num: 719_984_403,
-            den: 10_000,
-        },
-    },
-    Wave {
-        size: Frac { num: 1721, den: 1 },
-        phase: Frac {
-            num: 240_052,
-            den: 1000,
-        },
-        rate: Frac {
-            num: 3_600_035_726,
-            den: 100_000,
-        },
-    },
-    Wave {
-        size: Frac { num: 660, den: 1 },
-        phase: Frac {
-            num: 31_026,
-            den: 100,
-        },
-        rate: Frac {
-            num: 719_974_812,
-            den: 10_000,
-        },
-    },
-    Wave {
-        size: Frac { num: 350, den: 1 },
-        phase: Frac {
-            num: 24_723,
-            den: 100,
-        },
-        rate: Frac {
-            num: 329_644_678,
-            den: 10_000,
-        },
-    },
-    Wave {
-        size: Frac { num: 334, den: 1 },
-        phase: Frac {
-            num: 26_087,
-            den: 100,
-        },
-        rate: Frac {
-            num: -19_441,
-            den: 1000,
-        },
-    },
-    Wave {
-        size: Frac { num: 314, den: 1 },
-        phase: Frac {
-            num: 29_782,
-            den: 100,
-        },
-        rate: Frac {
-            num: 4_452_671_117,
-            den: 10_000,
-        },
-    },
-    Wave {
-        size: Frac { num: 268, den: 1 },
-        phase: Frac {
-            num: 34_314,
-            den: 100,
-        },
-        rate: Frac {
-            num: 45_036_884,
-            den: 1000,
-        },
-    },
-    Wave {
-        size: Frac { num: 242, den: 1 },
-        phase: Frac {
-            num: 16_679,
-            den: 100,
-        },
-        rate: Frac {
-            num: 31_008,
-            den: 10_000,
-        },
-    },
-    Wave {
-        size: Frac { num: 234, den: 1 },
-        phase: Frac {
-            num: 8153,
-            den: 100,
-        },
-        rate: Frac {
-            num: 225_184_434,
-            den: 10_000,
-        },
-    },
-    Wave {
-        size: Frac { num: 158, den: 1 },
-        phase: Frac { num: 35, den: 10 },
-        rate: Frac {
-            num: -199_739,
-            den: 10_000,
-        },
-    },
-    Wave {
-        size: Frac { num: 132, den: 1 },
-        phase: Frac {
-            num: 13_275,
-            den: 100,
-        },
-        rate: Frac {
-            num: 659_289_345,
-            den: 10_000,
-        },
-    },
-    Wave {
-        size: Frac { num: 129, den: 1 },
-        phase: Frac {
-            num: 18_295,
-            den: 100,
-        },
-        rate: Frac {
-            num: 90_380_293,
-            den: 10_000,
-        },
-    },
-    Wave {
-        size: Frac { num: 114, den: 1 },
-        phase: Frac {
-            num: 16_203,
-            den: 100,
-        },
-        rate: Frac {
-            num: 30_347_684,
-            den: 10_000,
-        },
-    },
-    Wave {
-        size: Frac { num: 99, den: 1 },
-        phase: Frac { num: 298, den: 10 },
-        rate: Frac {
-            num: 33_718_148,
-            den: 1000,
-        },
-    },
-    Wave {
-        size: Frac { num: 93, den: 1 },
-        phase: Frac { num: 2664, den: 10 },
-        rate: Frac {
-            num: 3_034_448,
-            den: 1000,
-        },
-    },
-    Wave {
-        size: Frac { num: 86, den: 1 },
-        phase: Frac { num: 2492, den: 10 },
-        rate: Frac {
-            num: -2_280_773,
-            den: 1000,
-        },
-    },
-    Wave {
-        size: Frac { num: 78, den: 1 },
-        phase: Frac { num: 1576, den: 10 },
-        rate: Frac {
-            num: 29_929_992,
-            den: 1000,
-        },
-    },
-    Wave {
-        size: Frac { num: 72, den: 1 },
-        phase: Frac { num: 2578, den: 10 },
-        rate: Frac {
-            num: 31_556_493,
-            den: 1000,
-        },
-    },
-    Wave {
-        size: Frac { num: 68, den: 1 },
-        phase: Frac { num: 1851, den: 10 },
-        rate: Frac {
-            num: 149_588,
-            den: 1000,
-        },
-    },
-    Wave {
-        size: Frac { num: 64, den: 1 },
-        phase: Frac { num: 699, den: 10 },
-        rate: Frac {
-            num: 903_775,
-            den: 100,
-        },
-    },
-    Wave {
-        size: Frac { num: 46, den: 1 },
-        phase: Frac { num: 8, den: 1 },
-        rate: Frac {
-            num: 107_997_405,
-            den: 1000,
-        },
-    },
-    Wave {
-        size: Frac { num: 38, den: 1 },
-        phase: Frac { num: 1971, den: 10 },
-        rate: Frac {
-            num: -4_444_176,
-            den: 1000,
-        },
-    },
-    Wave {
-        size: Frac { num: 37, den: 1 },
-        phase: Frac { num: 2504, den: 10 },
-        rate: Frac {
-            num: 151_771,
-            den: 1000,
-        },
-    },
-    Wave {
-        size: Frac { num: 32, den: 1 },
-        phase: Frac { num: 653, den: 10 },
-        rate: Frac {
-            num: 67_555_316,
-            den: 1000,
-        },
-    },
-    Wave {
-        size: Frac { num: 29, den: 1 },
-        phase: Frac { num: 1627, den: 10 },
-        rate: Frac {
-            num: 3_155_608,
-            den: 100,
-        },
-    },
-    Wave {
-        size: Frac { num: 28, den: 1 },
-        phase: Frac { num: 3415, den: 10 },
-        rate: Frac {
-            num: -456_154,
-            den: 100,
-        },
-    },
-    Wave {
-        size: Frac { num: 27, den: 1 },
-        phase: Frac { num: 2916, den: 10 },
-        rate: Frac {
-            num: 107_996_706,
-            den: 1000,
-        },
-    },
-    Wave {
-        size: Frac { num: 27, den: 1 },
-        phase: Frac { num: 985, den: 10 },
-        rate: Frac {
-            num: 1_221_655,
-            den: 1000,
-        },
-    },
-    Wave {
-        size: Frac { num: 25, den: 1 },
-        phase: Frac { num: 1467, den: 10 },
-        rate: Frac {
-            num: 62_894_167,
-            den: 1000,
-        },
-    },
-    Wave {
-        size: Frac { num: 24, den: 1 },
-        phase: Frac { num: 110, den: 1 },
-        rate: Frac {
-            num: 31_437_369,
-            den: 1000,
-        },
-    },
-    Wave {
-        size: Frac { num: 21, den: 1 },
-        phase: Frac { num: 52, den: 10 },
-        rate: Frac {
-            num: 14_578_298,
-            den: 1000,
-        },
-    },
-    Wave {
-        size: Frac { num: 21, den: 1 },
-        phase: Frac { num: 3426, den: 10 },
-        rate: Frac {
-            num: -31_931_757,
-            den: 1000,
-        },
-    },
-    Wave {
-        size: Frac { num: 20, den: 1 },
-        phase: Frac { num: 2309, den: 10 },
-        rate: Frac {
-            num: 34_777_243,
-            den: 1000,
-        },
-    },
-    Wave {
-        size: Frac { num: 18, den: 1 },
-        phase: Frac { num: 2561, den: 10 },
-        rate: Frac {
-            num: 1_221_999,
-            den: 1000,
-        },
-    },
-    Wave {
-        size: Frac { num: 17, den: 1 },
-        phase: Frac { num: 453, den: 10 },
-        rate: Frac {
-            num: 62_894_511,
-            den: 1000,
-        },
-    },
-    Wave {
-        size: Frac { num: 14, den: 1 },
-        phase: Frac { num: 2429, den: 10 },
-        rate: Frac {
-            num: -4_442_039,
-            den: 1000,
-        },
-    },
-    Wave {
-        size: Frac { num: 13, den: 1 },
-        phase: Frac { num: 1152, den: 10 },
-        rate: Frac {
-            num: 107_997_909,
-            den: 1000,
-        },
-    },
-    Wave {
-        size: Frac { num: 13, den: 1 },
-        phase: Frac { num: 1518, den: 10 },
-        rate: Frac {
-            num: 119_066,
-            den: 1000,
-        },
-    },
-    Wave {
-        size: Frac { num: 13, den: 1 },
-        phase: Frac { num: 2853, den: 10 },
-        rate: Frac {
-            num: 16_859_071,
-            den: 1000,
-        },
-    },
-    Wave {
-        size: Frac { num: 12, den: 1 },
-        phase: Frac { num: 533, den: 10 },
-        rate: Frac {
-            num: -4578,
-            den: 1000,
-        },
-    },
-    Wave {
-        size: Frac { num: 10, den: 1 },
-        phase: Frac { num: 1266, den: 10 },
-        rate: Frac {
-            num: 26_895_292,
-            den: 1000,
-        },
-    },
-    Wave {
-        size: Frac { num: 10, den: 1 },
-        phase: Frac { num: 2057, den: 10 },
-        rate: Frac {
-            num: -39_127,
-            den: 1000,
-        },
-    },
-    Wave {
-        size: Frac { num: 10, den: 1 },
-        phase: Frac { num: 859, den: 10 },
-        rate: Frac {
-            num: 12_297_536,
-            den: 1000,
-        },
-    },
-    Wave {
-        size: Frac { num: 10, den: 1 },
-        phase: Frac { num: 1461, den: 10 },
-        rate: Frac {
-            num: 90_073_778,
-            den: 1000,
-        },
-    },
+    Wave { size: 403_406, phase: 2_705_486_100, rate: 9_287_892 },
+    Wave { size: 195_207, phase: 3_401_912_800, rate: 359_991_376_958 },
+    Wave { size: 119_433, phase: 639_185_400, rate: 359_994_089_666 },
+    Wave { size: 112_392, phase: 3_312_622_000, rate: 359_987_287_385 },
+    Wave { size: 3891, phase: 3_178_430_000, rate: 719_982_026_100 },
+    Wave { size: 2819, phase: 866_310_000, rate: 719_984_403_000 },
+    Wave { size: 1721, phase: 2_400_520_000, rate: 360_003_572_600 },
+    Wave { size: 660, phase: 3_102_600_000, rate: 719_974_812_000 },
+    Wave { size: 350, phase: 2_472_300_000, rate: 329_644_678_000 },
+    Wave { size: 334, phase: 2_608_700_000, rate: -194_410_000 },
+    Wave { size: 314, phase: 2_978_200_000, rate: 4_452_671_117_000 },
+    Wave { size: 268, phase: 3_431_400_000, rate: 450_368_840_000 },
+    Wave { size: 242, phase: 1_667_900_000, rate: 31_008_000 },
+    Wave { size: 234, phase: 815_300_000, rate: 225_184_434_000 },
+    Wave { size: 158, phase: 35_000_000, rate: -199_739_000 },
+    Wave { size: 132, phase: 1_327_500_000, rate: 659_289_345_000 },
+    Wave { size: 129, phase: 1_829_500_000, rate: 90_380_293_000 },
+    Wave { size: 114, phase: 1_620_300_000, rate: 30_347_684_000 },
+    Wave { size: 99, phase: 298_000_000, rate: 337_181_480_000 },
+    Wave { size: 93, phase: 2_664_000_000, rate: 30_344_480_000 },
+    Wave { size: 86, phase: 2_492_000_000, rate: -22_807_730_000 },
+    Wave { size: 78, phase: 1_576_000_000, rate: 299_299_920_000 },
+    Wave { size: 72, phase: 2_578_000_000, rate: 315_564_930_000 },
+    Wave { size: 68, phase: 1_851_000_000, rate: 1_495_880_000 },
+    Wave { size: 64, phase: 699_000_000, rate: 90_377_500_000 },
+    Wave { size: 46, phase: 80_000_000, rate: 1_079_974_050_000 },
+    Wave { size: 38, phase: 1_971_000_000, rate: -44_441_760_000 },
+    Wave { size: 37, phase: 2_504_000_000, rate: 1_517_710_000 },
+    Wave { size: 32, phase: 653_000_000, rate: 675_553_160_000 },
+    Wave { size: 29, phase: 1_627_000_000, rate: 315_560_800_000 },
+    Wave { size: 28, phase: 3_415_000_000, rate: -45_615_400_000 },
+    Wave { size: 27, phase: 2_916_000_000, rate: 1_079_967_060_000 },
+    Wave { size: 27, phase: 985_000_000, rate: 12_216_550_000 },
+    Wave { size: 25, phase: 1_467_000_000, rate: 628_941_670_000 },
+    Wave { size: 24, phase: 1_100_000_000, rate: 314_373_690_000 },
+    Wave { size: 21, phase: 52_000_000, rate: 145_782_980_000 },
+    Wave { size: 21, phase: 3_426_000_000, rate: -319_317_570_000 },
+    Wave { size: 20, phase: 2_309_000_000, rate: 347_772_430_000 },
+    Wave { size: 18, phase: 2_561_000_000, rate: 12_219_990_000 },
+    Wave { size: 17, phase: 453_000_000, rate: 628_945_110_000 },
+    Wave { size: 14, phase: 2_429_000_000, rate: -44_420_390_000 },
+    Wave { size: 13, phase: 1_152_000_000, rate: 1_079_979_090_000 },
+    Wave { size: 13, phase: 1_518_000_000, rate: 1_190_660_000 },
+    Wave { size: 13, phase: 2_853_000_000, rate: 168_590_710_000 },
+    Wave { size: 12, phase: 533_000_000, rate: -45_780_000 },
+    Wave { size: 10, phase: 1_266_000_000, rate: 268_952_920_000 },
+    Wave { size: 10, phase: 2_057_000_000, rate: -391_270_000 },
+    Wave { size: 10, phase: 859_000_000, rate: 122_975_360_000 },
+    Wave { size: 10, phase: 1_461_000_000, rate: 900_737_780_000 },
 ];

@@ -4,160 +4,68 @@ use crate::{Cubic, Frac};
 
 /// Dynamical time less universal time, in seconds, for the years -499 to 499: the coefficients of the powers of a
 /// hundredth of the year.
+#[rattlefmt::skip]
 pub const CORRECTION_ANCIENT: [Frac; 7] = [
-    Frac {
-        num: 105_836,
-        den: 10,
-    },
-    Frac {
-        num: -101_441,
-        den: 100,
-    },
-    Frac {
-        num: 3_378_311,
-        den: 100_000,
-    },
-    Frac {
-        num: -5_952_053,
-        den: 1_000_000,
-    },
-    Frac {
-        num: -1_798_452,
-        den: 10_000_000,
-    },
-    Frac {
-        num: 22_174_192,
-        den: 1_000_000_000,
-    },
-    Frac {
-        num: 90_316_521,
-        den: 10_000_000_000,
-    },
+    Frac { num: 105_836, den: 10 },
+    Frac { num: -101_441, den: 100 },
+    Frac { num: 3_378_311, den: 100_000 },
+    Frac { num: -5_952_053, den: 1_000_000 },
+    Frac { num: -1_798_452, den: 10_000_000 },
+    Frac { num: 22_174_192, den: 1_000_000_000 },
+    Frac { num: 90_316_521, den: 10_000_000_000 },
 ];
 
 /// The same in days, for the years 1800 to 1899: the coefficients of the powers of the centuries from the end of 1899
 /// to 1 July of the year.
+#[rattlefmt::skip]
 pub const CORRECTION_1800: [Frac; 11] = [
-    Frac {
-        num: -9,
-        den: 1_000_000,
-    },
-    Frac {
-        num: 3844,
-        den: 1_000_000,
-    },
-    Frac {
-        num: 83_563,
-        den: 1_000_000,
-    },
-    Frac {
-        num: 865_736,
-        den: 1_000_000,
-    },
-    Frac {
-        num: 4_867_575,
-        den: 1_000_000,
-    },
-    Frac {
-        num: 15_845_535,
-        den: 1_000_000,
-    },
-    Frac {
-        num: 31_332_267,
-        den: 1_000_000,
-    },
-    Frac {
-        num: 38_291_999,
-        den: 1_000_000,
-    },
-    Frac {
-        num: 28_316_289,
-        den: 1_000_000,
-    },
-    Frac {
-        num: 11_636_204,
-        den: 1_000_000,
-    },
-    Frac {
-        num: 2_043_794,
-        den: 1_000_000,
-    },
+    Frac { num: -9, den: 1_000_000 },
+    Frac { num: 3844, den: 1_000_000 },
+    Frac { num: 83_563, den: 1_000_000 },
+    Frac { num: 865_736, den: 1_000_000 },
+    Frac { num: 4_867_575, den: 1_000_000 },
+    Frac { num: 15_845_535, den: 1_000_000 },
+    Frac { num: 31_332_267, den: 1_000_000 },
+    Frac { num: 38_291_999, den: 1_000_000 },
+    Frac { num: 28_316_289, den: 1_000_000 },
+    Frac { num: 11_636_204, den: 1_000_000 },
+    Frac { num: 2_043_794, den: 1_000_000 },
 ];
 
 /// The same for the years 1900 to 1986.
+#[rattlefmt::skip]
 pub const CORRECTION_1900: [Frac; 8] = [
-    Frac {
-        num: -2,
-        den: 100_000,
-    },
-    Frac {
-        num: 297,
-        den: 1_000_000,
-    },
-    Frac {
-        num: 25_184,
-        den: 1_000_000,
-    },
-    Frac {
-        num: -181_133,
-        den: 1_000_000,
-    },
-    Frac {
-        num: 55_304,
-        den: 100_000,
-    },
-    Frac {
-        num: -861_938,
-        den: 1_000_000,
-    },
-    Frac {
-        num: 677_066,
-        den: 1_000_000,
-    },
-    Frac {
-        num: -212_591,
-        den: 1_000_000,
-    },
+    Frac { num: -2, den: 100_000 },
+    Frac { num: 297, den: 1_000_000 },
+    Frac { num: 25_184, den: 1_000_000 },
+    Frac { num: -181_133, den: 1_000_000 },
+    Frac { num: 55_304, den: 100_000 },
+    Frac { num: -861_938, den: 1_000_000 },
+    Frac { num: 677_066, den: 1_000_000 },
+    Frac { num: -212_591, den: 1_000_000 },
 ];
 
 /// Noon of 1 January 2000 (R.D.), from which centuries are counted.
-pub const NOON_2000: Frac = Frac {
-    num: 1_460_241,
-    den: 2,
-};
+#[rattlefmt::skip]
+pub const NOON_2000: Frac = Frac { num: 1_460_241, den: 2 };
 
 /// A day, in centuries of 36525 days.
-pub const DAY_IN_CENTURIES: Frac = Frac {
-    num: 1,
-    den: 36_525,
-};
+#[rattlefmt::skip]
+pub const DAY_IN_CENTURIES: Frac = Frac { num: 1, den: 36_525 };
 
 /// Mean sidereal time at Greenwich, in degrees, not reduced, by the centuries of universal time from noon of
 /// 1 January 2000. It gains 360.98564736629 degrees a day.
+#[rattlefmt::skip]
 pub const SIDEREAL_TIME: Cubic = Cubic {
-    constant: Frac {
-        num: 28_046_061_837,
-        den: 100_000_000,
-    },
-    linear: Frac {
-        num: 1_318_500_077_005_374_225,
-        den: 100_000_000_000,
-    },
-    square: Frac {
-        num: 387_933,
-        den: 1_000_000_000,
-    },
-    cube: Frac {
-        num: -1,
-        den: 38_710_000,
-    },
+    constant: Frac { num: 28_046_061_837, den: 100_000_000 },
+    linear: Frac { num: 1_318_500_077_005_374_225, den: 100_000_000_000 },
+    square: Frac { num: 387_933, den: 1_000_000_000 },
+    cube: Frac { num: -1, den: 38_710_000 },
 };
 
 /// What local mean time in Beijing is ahead of universal time, in hours: its zone before 1929.
-pub const BEIJING_HOURS: Frac = Frac {
-    num: 1397,
-    den: 180,
-};
+#[rattlefmt::skip]
+pub const BEIJING_HOURS: Frac = Frac { num: 1397, den: 180 };
 
 /// An hour, in days.
 pub const HOUR: Frac = Frac { num: 1, den: 24 };

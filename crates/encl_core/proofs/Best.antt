@@ -10,8 +10,9 @@ use Rattle.exact_math.proofs.Ring.{at, lit, ◌⊕◌, ◌⊖◌, ◌⊗◌, min
 use Rattle.exact_math.proofs.Bounds.{◌≼◌, known, ◌⊞◌, ◌⊠◌, le_over, refute}
 use Rattle.exact_math.proofs.Fractions.{le_trans, den_product}
 use Rattle.exact_math.proofs.Intervals.{least_below, greatest_above}
-use Rattle.encl_core.specs.Rounding.{at_36, IsFloor, IsCeiling, IsAboveEachBelow, IsBelowEachAbove, IsMargin, IsBest, Keeps64, fitting, too_large}
-use Rattle.encl_core.proofs.Quotients.{next_le, outward_order, sorted_order}
+use Rattle.rounded_quotients.specs.Rounding.{IsFloor, IsCeiling, IsAboveEachBelow, IsBelowEachAbove}
+use Rattle.encl_core.specs.Rounding.{at_36, IsMargin, IsBest, Keeps64, fitting, too_large}
+use Rattle.rounded_quotients.proofs.Quotients.{next_le, outward_order, sorted_order}
 use Rattle.encl_core.proofs.Scaling.{AreScaled, products_of, bounded_z}
 
 -- ends further out hold what 64 bits show of two ends

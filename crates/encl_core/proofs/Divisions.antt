@@ -10,7 +10,8 @@ use Rattle.exact_math.proofs.Bounds.{◌≼◌, known, ◌⊠◌, times as natur
 use Rattle.exact_math.proofs.IntLaws.{mul_one}
 use Rattle.exact_math.proofs.Fractions.{by_cross, den_product, larger_keeps}
 use Rattle.exact_math.proofs.Intervals.{least_is, greatest_is, within_trans}
-use Rattle.encl_core.specs.Rounding.{at_36, IsFloor, IsCeiling, IsOneSided, AreQuotients, least_square_of, Keeps64}
+use Rattle.rounded_quotients.specs.Rounding.{IsFloor, IsCeiling}
+use Rattle.encl_core.specs.Rounding.{at_36, IsOneSided, AreQuotients, least_square_of, Keeps64}
 use Rattle.encl_core.proofs.Keeping.{kept_within}
 
 abbrev K : ℤ

@@ -10,9 +10,10 @@ use Rattle.exact_math.proofs.Ring.{at, lit, ◌⊕◌, ◌⊖◌, ◌⊗◌, min
 use Rattle.exact_math.proofs.Bounds.{◌≼◌, known, ◌⊠◌, le_by, pos_nonneg}
 use Rattle.exact_math.proofs.Fractions.{le_trans, by_cross, den_product, smaller_keeps, larger_keeps, smaller_first, smaller_second, larger_first, larger_second}
 use Rattle.exact_math.proofs.Intervals.{within_trans, within_refl, least_is, greatest_is}
-use Rattle.encl_core.specs.Rounding.{at_36, IsFloor, IsCeiling, IsBelowFour, IsAboveFour, IsMargin, Keeps64}
+use Rattle.rounded_quotients.specs.Rounding.{IsFloor, IsCeiling, IsBelowFour, IsAboveFour}
+use Rattle.encl_core.specs.Rounding.{at_36, IsMargin, Keeps64}
 use Rattle.encl_core.proofs.Keeping.{kept_within}
-use Rattle.encl_core.proofs.Quotients.{≤ℤ_trans}
+use Rattle.rounded_quotients.proofs.Quotients.{≤ℤ_trans}
 
 -- ---- differences and opposites
 -- the ends of a difference hold it

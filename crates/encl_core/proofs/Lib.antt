@@ -1,4 +1,3 @@
-pub mod Quotients
 pub mod Keeping
 pub mod Following
 pub mod Enclosing
@@ -14,4 +13,3 @@ pub mod TermSums
 pub mod Widths
 pub mod Products
 pub mod Ratios
-pub mod Stepping

@@ -10,12 +10,6 @@ use Rattle.encl_core.specs.Rounding.{at_36, Keeps64}
 use Rattle.encl_core.proofs.Keeping.{kept_within}
 use Rattle.encl_core.proofs.Testing.{eq_yes, eq_no}
 
--- the quotient of Euclid by a positive number is that rounded down
-pub euclid_is : (n : ℤ) (m : ℕ) → 0 < m → int_div_euclid n (pos m) ≡ floor_quotient n (m - 1)
-euclid_is n zero h = absurd (omega arith)
-euclid_is (pos n) (suc m) h = let e : suc m - 1 ≡ m = omega arith in rw e refl
-euclid_is (negsuc n) (suc m) h = let e : suc m - 1 ≡ m = omega arith in rw e refl
-
 pub period_same : (a b p q r : ℤ) (m : ℕ) → p ≡ floor_quotient (floor_quotient a (2 ^ 36 - 1)) (m - 1) → q ≡ floor_quotient (floor_quotient b (2 ^ 36 - 1)) (m - 1) → p ≡ q → r ≡ p
     → Some r ≡ cell_at (multiples m) (between (at_36 a) (at_36 b))
 unfolding cell_at cell_of

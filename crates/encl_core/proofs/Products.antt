@@ -7,7 +7,8 @@ use Rattle.exact_math.specs.Interval.{Interval, everything, between}
 use Rattle.exact_math.proofs.Ring.{at, lit, ◌⊕◌, ◌⊖◌, ◌⊗◌}
 use Rattle.exact_math.proofs.Bounds.{◌≼◌, known, ◌⊞◌, ◌⊠◌, times as naturally, le_by, pos_nonneg, square_nonneg}
 use Rattle.book_model.specs.Bounds.{Bound, unbounded, bounded, range_size, ceil_div, product_bound, power_bound, IsNarrow, limits_36}
-use Rattle.encl_core.specs.Rounding.{at_36, Keeps64, IsFloor, IsCeiling, IsAboveEachBelow, IsBelowEachAbove, least_square_of}
+use Rattle.rounded_quotients.specs.Rounding.{IsFloor, IsCeiling, IsAboveEachBelow, IsBelowEachAbove}
+use Rattle.encl_core.specs.Rounding.{at_36, Keeps64, least_square_of}
 use Rattle.encl_core.proofs.Keeping.{AreKept, kept_of, limited_narrow}
 
 halved : (p q : ℤ) → (pos 2 *ℤ p) ≤ℤ (pos 2 *ℤ q) → p ≤ℤ q

@@ -7,9 +7,10 @@ use Rattle.exact_math.proofs.Ring.{at, lit, ◌⊕◌, ◌⊖◌, ◌⊗◌}
 use Rattle.exact_math.proofs.Bounds.{◌≼◌, known, ◌⊞◌, ◌⊠◌, times as naturally, le_by, le_over, refute, pos_nonneg}
 use lib.Signed.{≤ℤ_refl}
 use Rattle.book_model.specs.Bounds.{Bound, unbounded, bounded, range_size, ceil_div, quotient_bound, IsNarrow, limits_36}
-use Rattle.encl_core.specs.Rounding.{at_36, Keeps64, IsFloor, IsCeiling, IsLeastBy, IsGreatestBy, AreQuotients}
+use Rattle.rounded_quotients.specs.Rounding.{IsFloor, IsCeiling}
+use Rattle.encl_core.specs.Rounding.{at_36, Keeps64, IsLeastBy, IsGreatestBy, AreQuotients}
 use Rattle.encl_core.proofs.Keeping.{AreKept, kept_of, limited_narrow}
-use Rattle.encl_core.proofs.Quotients.{next_le}
+use Rattle.rounded_quotients.proofs.Quotients.{next_le}
 use Rattle.encl_core.proofs.Products.{AreSized, sized, ceil_above, around_size}
 
 -- ---- the least and the greatest

@@ -14,8 +14,9 @@ use Rattle.exact_math.proofs.Bounds.{◌≼◌, known, ◌⊞◌, ◌⊠◌, tim
 use Rattle.exact_math.proofs.Fractions.{by_cross, den_product}
 use Rattle.exact_math.proofs.Intervals.{within_trans, least_is, greatest_is}
 use Rattle.book_model.specs.Bounds.{Bound, unbounded, bounded, range_size, ceil_div, floor_at_32, ceil_at_32, limited, ceil_quotient, scaled_within, scaled_bound, constant_bound, IsNarrow, limits_36}
-use Rattle.encl_core.specs.Rounding.{at_36, IsFloor, IsCeiling, AreSorted, Keeps64}
-use Rattle.encl_core.proofs.Quotients.{next_le, ≤ℤ_trans, outward_order, sorted_order, floor_quotient_floor}
+use Rattle.rounded_quotients.specs.Rounding.{IsFloor, IsCeiling, AreSorted}
+use Rattle.encl_core.specs.Rounding.{at_36, Keeps64}
+use Rattle.rounded_quotients.proofs.Quotients.{next_le, ≤ℤ_trans, outward_order, sorted_order, floor_quotient_floor}
 use Rattle.encl_core.proofs.Keeping.{AreKept, kept_of, kept_within, limited_narrow, both}
 
 -- ---- fractions

@@ -13,7 +13,8 @@ use Rattle.book_model.specs.Bounds.{Bound, unbounded, bounded, range_size, diffe
 use Rattle.book_model.specs.Leading.{at_56}
 use Rattle.book_model.specs.Programs.{multiples, cell_at, cell_of, threshold, when}
 use Rattle.book_model.proofs.Cells.{cells_cut}
-use Rattle.encl_core.specs.Rounding.{at_36, Keeps64, IsFloor, IsCeiling}
+use Rattle.rounded_quotients.specs.Rounding.{IsFloor, IsCeiling}
+use Rattle.encl_core.specs.Rounding.{at_36, Keeps64}
 use Rattle.encl_core.proofs.Keeping.{AreKept, kept_of, spans_of, kept_within, limited_narrow}
 use Rattle.encl_core.proofs.Testing.{eq_no}
 

@@ -1,53 +1,13 @@
--- Rounded quotients, the lesser and the greater, and ends that fit in 64 bits, over plain numbers.
+-- Ends that fit in 64 bits, and quotients of ends, over plain numbers.
 use Rattle.std.specs.Prelude.{◌≡◌, cond, int_le, ◌⊎◌, ◌-◌, ◌^◌, ℤ, pos, ◌+ℤ◌, ◌-ℤ◌, ◌*ℤ◌, ◌≤ℤ◌, ◌<ℤ◌, ◌+◌, unsigned_abs, FitsSigned}
 use Rattle.std.specs.Int.{w64}
 use Rattle.exact_math.specs.Fraction.{Fraction}
 use Rattle.exact_math.specs.Interval.{Interval, everything, between, ◌⊆◌}
+use Rattle.rounded_quotients.specs.Rounding.{IsCeiling}
 
 -- a number that counts 2^-36
 abbrev pub at_36 : ℤ → Fraction
 at_36 n = record { num = n; below = 2 ^ 36 - 1 }
-
--- q is n / d, rounded down
-pub record IsFloor (q n d : ℤ) : Type 0 where
-  pub not_above : (q *ℤ d) ≤ℤ n
-  pub close : n <ℤ (q *ℤ d +ℤ d)
-
--- q is n / d, rounded up
-pub record IsCeiling (q n d : ℤ) : Type 0 where
-  pub not_below : n ≤ℤ (q *ℤ d)
-  pub close : (q *ℤ d) <ℤ (n +ℤ d)
-
--- m is the lesser and g the greater of two
-pub record AreSorted (m g p q : ℤ) : Type 0 where
-  pub low_first : m ≤ℤ p
-  pub low_second : m ≤ℤ q
-  pub high_first : p ≤ℤ g
-  pub high_second : q ≤ℤ g
-  pub best_low : (z : ℤ) → z ≤ℤ p → z ≤ℤ q → z ≤ℤ m
-  pub best_high : (z : ℤ) → p ≤ℤ z → q ≤ℤ z → g ≤ℤ z
-
--- z is at most each of four
-pub record IsBelowFour (z p q r s : ℤ) : Type 0 where
-  pub first : z ≤ℤ p
-  pub second : z ≤ℤ q
-  pub third : z ≤ℤ r
-  pub fourth : z ≤ℤ s
-
--- z is at least each of four
-pub record IsAboveFour (z p q r s : ℤ) : Type 0 where
-  pub first : p ≤ℤ z
-  pub second : q ≤ℤ z
-  pub third : r ≤ℤ z
-  pub fourth : s ≤ℤ z
-
--- z is the greatest number that is at most each of four
-abbrev pub IsAboveEachBelow : ℤ → ℤ → ℤ → ℤ → ℤ → Type 0
-IsAboveEachBelow z p q r s = (m : ℤ) → m ≤ℤ p → m ≤ℤ q → m ≤ℤ r → m ≤ℤ s → m ≤ℤ z
-
--- z is the least number that is at least each of four
-abbrev pub IsBelowEachAbove : ℤ → ℤ → ℤ → ℤ → ℤ → Type 0
-IsBelowEachAbove z p q r s = (m : ℤ) → p ≤ℤ m → q ≤ℤ m → r ≤ℤ m → s ≤ℤ m → z ≤ℤ m
 
 -- m counts 2^-36 in the size of a fraction, rounded up
 pub record IsMargin (f : Fraction) (m : ℤ) : Type 0 where

@@ -3,13 +3,14 @@ ghost use Rattle.std.specs.Prelude.{◌≤◌};
 ghost use Rattle.book_model.specs.Bounds.{Reach, limits_of};
 ghost use Rattle.book_model.specs.Expressions.{World, pi as pi_number};
 ghost use Rattle.book_model.specs.Relations.{Within, Narrow};
+ghost use Rattle.book_model.specs.Depth.{DEPTH};
 
 use crate::{Enclosure, Span};
 
 /// Pi, between two neighbours that count 2⁻⁵⁶.
 #[tactic(auto, using(crate::proofs::PiEnds::within_pi, crate::proofs::PiEnds::narrow_pi))]
 pub fn pi<E: Enclosure>() -> E
-    ensures holds { (w : World) → 40 ≤ w.depth → Within E.shown w pi_number result }
+    ensures holds { (w : World) → DEPTH ≤ w.depth → Within E.shown w pi_number result }
     ensures narrow { (r : Reach) → Narrow E.shown (limits_of E.BITS) r pi_number result }
 {
     E::from_span(Span {

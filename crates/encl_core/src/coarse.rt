@@ -1,4 +1,5 @@
 //! Enclosures by ends in 64 bits, which count 2⁻³⁶.
+ghost use Rattle.std.specs.Prelude.{refl};
 ghost use Rattle.encl_core.specs.Shown.{shown_coarse, coarse_proper};
 
 use crate::comparing::{cell_of_ends, open_at, order_of_ends};
@@ -27,6 +28,8 @@ impl Enclosure for Coarse {
     ghost BITS = { 36 };
 
     ghost DEPTH = { 40 };
+
+    ghost depth_law = { refl };
 
     const BITS: u32 = 36;
 

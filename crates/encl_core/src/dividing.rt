@@ -7,7 +7,8 @@ ghost use Rattle.encl_core.specs.Rounding.{at_36, least_square_of, IsLeastBy, Is
 
 use crate::ends::Ends;
 use crate::operations::product_of;
-use crate::rounding::{ceil_36, ceil_div, ends_of, floor_36, floor_div};
+use crate::rounding::{ceil_36, ends_of, floor_36};
+use rounded_quotients::{ceil_div, floor_div};
 
 /// By which of two divisors above 0, the first the lesser, the quotient of a number is the least.
 fn least_by(a: i128, c: i128, d: i128) -> i128

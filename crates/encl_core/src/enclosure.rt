@@ -1,12 +1,14 @@
 //! The trait of all kinds of enclosures.
 ghost use Rattle.std.specs.Prelude.{◌≡◌, ◌<◌, ℕ, ℤ, ◌≤◌, Some, IfOk, IfErr, IfSome, IsSome, IsNone};
+ghost use Rattle.exact_math.specs.Fraction.{whole as whole_number};
 ghost use Rattle.exact_math.specs.Interval.{Interval, everything, between, ◌⊆◌, IsProper};
-ghost use Rattle.book_model.specs.Fractions.{fraction_of};
+ghost use Rattle.book_model.specs.Fractions.{fraction_of, ten_millionths, daily_ten_millionths};
 ghost use Rattle.book_model.specs.Expressions.{Expression, World, integer, constant, add as add_of, subtract, multiply, negate, scale, minimum, maximum, hull as hull_of, widen as widen_of, divide, power, remainder};
 ghost use Rattle.book_model.specs.Bounds.{Bound, Reach, IsNarrow, spanned_bound, limits_of};
 ghost use Rattle.book_model.specs.Relations.{Within, Narrow};
 ghost use Rattle.book_model.specs.Programs.{integers, multiples, cell_at, compare_at};
 ghost use Rattle.book_model.specs.Leading.{at_56, IsOpenCell, IsOpenComparison, next_turn};
+ghost use Rattle.book_model.specs.Depth.{DEPTH as LEAST_DEPTH};
 
 use crate::{Span, Trail};
 use book_model::{Frac, Site, Undecided};
@@ -30,6 +32,9 @@ pub trait Enclosure: Copy + Drop {
     /// The depth from which on the answers hold.
     ghost DEPTH: { ℕ };
 
+    /// That depth is the same for every kind.
+    ghost depth_law: { DEPTH ≡ LEAST_DEPTH };
+
     /// The scale is 2 to the power of minus this.
     const BITS: u32;
 
@@ -42,12 +47,12 @@ pub trait Enclosure: Copy + Drop {
 
     /// The enclosure of a whole number.
     fn from_int(value: i64) -> Self
-        ensures holds { (w : World) → 40 ≤ w.depth → Within shown w (integer value) result }
+        ensures holds { (w : World) → LEAST_DEPTH ≤ w.depth → Within shown w (integer value) result }
         ensures narrow { (r : Reach) → Narrow shown (limits_of BITS) r (integer value) result };
 
     /// The enclosure of a fraction.
     fn from_frac(value: Frac) -> Self
-        ensures holds { (w : World) → 40 ≤ w.depth → Within shown w (constant (fraction_of value)) result }
+        ensures holds { (w : World) → LEAST_DEPTH ≤ w.depth → Within shown w (constant (fraction_of value)) result }
         ensures narrow { (r : Reach) → Narrow shown (limits_of BITS) r (constant (fraction_of value)) result };
 
     /// The enclosure of what lies between two ends. It is at most two units wider than these are apart.
@@ -99,6 +104,26 @@ pub trait Enclosure: Copy + Drop {
     fn mul_frac(self, by: Frac) -> Self
         ensures holds { (w : World) (x : Expression) → Within shown w x self → Within shown w (scale (fraction_of by) x) result }
         ensures narrow { (r : Reach) (x : Expression) → Narrow shown (limits_of BITS) r x self → Narrow shown (limits_of BITS) r (scale (fraction_of by) x) result };
+
+    /// The products of the members with a whole number.
+    #[inline(always)]
+    fn times(self, by: i64) -> Self
+        ensures holds { (w : World) (x : Expression) → Within shown w x self → Within shown w (scale (whole_number by) x) result }
+        ensures narrow { (r : Reach) (x : Expression) → Narrow shown (limits_of BITS) r x self → Narrow shown (limits_of BITS) r (scale (whole_number by) x) result }
+    {
+        self.mul_frac(Frac::whole(by))
+    }
+
+    /// The angle of a wave: its phase, and its rate times the members, which are days. The phase is in ten-millionths,
+    /// the rate in ten-millionths a century. So the rounding of centuries isn't multiplied by a rate.
+    #[inline(always)]
+    fn angle(self, phase: i64, rate: i64) -> Self
+        ensures holds { (w : World) (x : Expression) → Within shown w x self → Within shown w (add_of (constant (ten_millionths phase)) (scale (daily_ten_millionths rate) x)) result }
+        ensures narrow { (r : Reach) (x : Expression) → Narrow shown (limits_of BITS) r x self → Narrow shown (limits_of BITS) r (add_of (constant (ten_millionths phase)) (scale (daily_ten_millionths rate) x)) result }
+    {
+        let turned = self.mul_frac(Frac::daily_ten_millionths(rate));
+        Self::from_frac(Frac::ten_millionths(phase)).add(turned)
+    }
 
     /// The quotients of the members; every number, where the divisor may be 0.
     fn div(self, other: Self) -> Self

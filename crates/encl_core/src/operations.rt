@@ -6,12 +6,12 @@ ghost use Rattle.exact_math.specs.Interval.{◌⊆◌, sum, difference, negative
 ghost use Rattle.book_model.specs.Fractions.{fraction_of};
 ghost use Rattle.book_model.specs.Bounds.{Bound, IsNarrow, integer_bound, constant_bound, sum_bound, scaled_bound, difference_bound, product_bound, negated_bound, minimum_bound, maximum_bound, limits_36};
 ghost use Rattle.encl_core.specs.Shown.{shown_ends};
-ghost use Rattle.encl_core.specs.Rounding.{IsBelowFour, IsAboveFour, IsAboveEachBelow, IsBelowEachAbove, IsMargin, IsBest, Keeps64};
+ghost use Rattle.rounded_quotients.specs.Rounding.{IsBelowFour, IsAboveFour, IsAboveEachBelow, IsBelowEachAbove};
+ghost use Rattle.encl_core.specs.Rounding.{IsMargin, IsBest, Keeps64};
 
 use crate::ends::Ends;
-use crate::rounding::{
-    ceil_36, ceil_div, denominator, ends_of, floor_36, floor_div, greatest_of, least_of, sorted,
-};
+use crate::rounding::{ceil_36, denominator, ends_of, floor_36};
+use rounded_quotients::{ceil_div, floor_div, greatest_of, least_of, sorted};
 use book_model::Frac;
 
 /// The ends of a whole number.
@@ -51,6 +51,7 @@ fn fine_ends(value: Frac, units: u64) -> Option<Ends>
 }
 
 /// The ends around a fraction, whose numerator is raised to the scale first.
+#[inline(always)]
 fn raised_ends(value: Frac) -> Option<Ends>
     ensures holds { between (fraction_of value) (fraction_of value) ⊆ shown_ends result }
     ensures best { IsBest (between (fraction_of value) (fraction_of value)) (shown_ends result) }

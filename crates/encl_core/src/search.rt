@@ -4,6 +4,7 @@ ghost use Rattle.book_model.specs.Expressions.{World};
 ghost use Rattle.book_model.specs.Leading.{Leads, Exact};
 ghost use Rattle.book_model.specs.Programs.{Program};
 ghost use Rattle.book_model.specs.Searches.{first_day_from};
+ghost use Rattle.book_model.specs.Depth.{DEPTH};
 
 use crate::{Enclosure, Trail};
 use book_model::{Fail, Site};
@@ -21,7 +22,7 @@ pub trait DayTest<E: Enclosure> {
     fn holds(&self, day: i64, trail: &mut Trail) -> Result<bool, Fail>
         requires low { negsuc 39999999 ≤ℤ day }
         requires high { day ≤ℤ pos 40000000 }
-        ensures leads { (w : World) → 40 ≤ w.depth → Leads w Exact (test_of self.now day) trail.old.count trail.new.count result }
+        ensures leads { (w : World) → DEPTH ≤ w.depth → Leads w Exact (test_of self.now day) trail.old.count trail.new.count result }
         ensures counted { trail.new.count ≤ trail.old.count + 100 };
 }
 
@@ -34,7 +35,7 @@ pub fn first_day<E: Enclosure, T: DayTest<E>>(
 ) -> Result<i64, Fail>
     requires low { negsuc 39999899 ≤ℤ start }
     requires high { start ≤ℤ pos 39999900 }
-    ensures leads { (w : World) → 40 ≤ w.depth → Leads w Exact (first_day_from (T.test_of test.now) start) trail.old.count trail.new.count result }
+    ensures leads { (w : World) → DEPTH ≤ w.depth → Leads w Exact (first_day_from (T.test_of test.now) start) trail.old.count trail.new.count result }
     ensures from { IfOk result (λ d. start ≤ℤ d) }
     ensures to { IfOk result (λ d. d ≤ℤ (start +ℤ pos 45)) }
     ensures counted { trail.new.count ≤ trail.old.count + 4600 }

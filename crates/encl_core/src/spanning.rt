@@ -6,7 +6,8 @@ ghost use Rattle.book_model.specs.Leading.{at_56};
 ghost use Rattle.encl_core.specs.Shown.{shown_ends};
 
 use crate::ends::Ends;
-use crate::rounding::{ceil_div, ends_of, floor_div};
+use crate::rounding::ends_of;
+use rounded_quotients::{ceil_div, floor_div};
 use crate::span::Span;
 
 /// The ends around those that count 2⁻⁵⁶.

@@ -4,6 +4,7 @@ ghost use Rattle.book_model.specs.Bounds.{Reach, limits_of};
 ghost use Rattle.book_model.specs.Expressions.{Expression, World};
 ghost use Rattle.book_model.specs.Relations.{Within, Narrow};
 ghost use Rattle.book_model.specs.Terms.{terms_of};
+ghost use Rattle.book_model.specs.Depth.{DEPTH};
 
 use crate::Enclosure;
 
@@ -18,20 +19,23 @@ pub trait Term<A: Copy, E: Enclosure> {
     /// What is given keeps the bounds of what stands for it in the definition.
     ghost keeps: { Reach → Self.Given → A → Type 0 };
 
-    /// What the row adds, as an expression.
+    /// What the row adds, as an expression of the definition.
     ghost term_of: { Self.Given → Self → Expression };
+
+    /// The same expression in the form in which it is computed.
+    ghost computed_of: { Self.Given → Self → Expression };
 
     /// What the row adds.
     fn term(&self, given: A) -> E
-        ensures held { (w : World) (g : Self.Given) → 40 ≤ w.depth → holds w g given → Within E.shown w (term_of g self.now) result }
-        ensures narrow { (r : Reach) (g : Self.Given) → keeps r g given → Narrow E.shown (limits_of E.BITS) r (term_of g self.now) result };
+        ensures held { (w : World) (g : Self.Given) → DEPTH ≤ w.depth → holds w g given → Within E.shown w (term_of g self.now) result }
+        ensures narrow { (r : Reach) (g : Self.Given) → keeps r g given → Narrow E.shown (limits_of E.BITS) r (computed_of g self.now) result };
 }
 
 /// The sum of what the rows of a table add.
 #[tactic(auto, using(crate::proofs::TermSums::sums))]
 pub fn sum_of_terms<A: Copy, E: Enclosure, T: Term<A, E>>(rows: &[T], given: A) -> E
-    ensures holds { (w : World) (g : T.Given) (none : T) → 40 ≤ w.depth → T.holds w g given → Within E.shown w (terms_of (T.term_of g) none rows.now) result }
-    ensures narrow { (r : Reach) (g : T.Given) (none : T) → T.keeps r g given → Narrow E.shown (limits_of E.BITS) r (terms_of (T.term_of g) none rows.now) result }
+    ensures holds { (w : World) (g : T.Given) (none : T) → DEPTH ≤ w.depth → T.holds w g given → Within E.shown w (terms_of (T.term_of g) none rows.now) result }
+    ensures narrow { (r : Reach) (g : T.Given) (none : T) → T.keeps r g given → Narrow E.shown (limits_of E.BITS) r (terms_of (T.computed_of g) none rows.now) result }
 {
     let mut sum = E::from_int(0);
     for row in rows {

@@ -1,13 +1,13 @@
 //! What no clause says: one happy path of each operation, the ends that open tests name, and a second kind of
 //! enclosures, which knows nothing, at another scale.
-ghost use Rattle.std.specs.Prelude.{◌≤◌, ◌+◌};
+ghost use Rattle.std.specs.Prelude.{refl, ◌≤◌, ◌+◌};
 ghost use Rattle.book_model.specs.declared.site.Site.TheVariants.{DayTest as AtDayTest};
 ghost use Rattle.book_model.specs.Expressions.{World, integer};
 ghost use Rattle.book_model.specs.Leading.{Exact, Leads};
 ghost use Rattle.book_model.specs.Programs.{answer, compare};
 ghost use Rattle.encl_core.specs.Shown.{shown_unknown, unknown_proper};
+ghost use Rattle.book_model.specs.Depth.{DEPTH};
 
-use crate::rounding::{ceil_div, floor_div};
 use crate::{
     Coarse, DayTest, Enclosure, Span, Trail, first_day, floor_step, less_step, pi, wrap_step,
 };
@@ -26,6 +26,8 @@ impl Enclosure for Unknown {
     ghost BITS = { 8 };
 
     ghost DEPTH = { 40 };
+
+    ghost depth_law = { refl };
 
     const BITS: u32 = 8;
 
@@ -126,7 +128,7 @@ impl Enclosure for Unknown {
 /// Whether a day comes after another, as one test.
 #[tactic(auto, unfolding(book_model::specs::Leading::next_turn))]
 fn is_after<E: Enclosure>(day: i64, earlier: i64, trail: &mut Trail) -> Result<bool, FormulaFail>
-    ensures leads { (w : World) → 40 ≤ w.depth → Leads w Exact (compare AtDayTest (integer earlier) (integer day) answer) trail.old.count trail.new.count result }
+    ensures leads { (w : World) → DEPTH ≤ w.depth → Leads w Exact (compare AtDayTest (integer earlier) (integer day) answer) trail.old.count trail.new.count result }
     ensures counted { trail.new.count ≤ trail.old.count + 1 }
 {
     less_step(E::from_int(earlier), E::from_int(day), Site::DayTest, trail)
@@ -195,75 +197,6 @@ fn fractions_are_rounded_outwards(rt: HostRuntime) -> Result<(), Fail> {
     assert_eq!(rt; ends.lo, -11_453_246_123);
     assert_eq!(rt; ends.hi, -11_453_246_122);
     Ok(())
-}
-
-/// The quotient rounded down, and the one rounded up.
-fn rounded(n: i128, d: u64) -> (i128, i128) {
-    let d = i128::from(d.max(1));
-    (floor_div(n, d), ceil_div(n, d))
-}
-
-#[test]
-fn quotients_are_alike_on_both_sides_of_64_bits(rt: HostRuntime) {
-    let two_63 = 9_223_372_036_854_775_808;
-    for (n, d, floor, ceiling) in [
-        (0, 5, 0, 0),
-        (6, 3, 2, 2),
-        (-6, 3, -2, -2),
-        (7, 2, 3, 4),
-        (-7, 2, -4, -3),
-        (1, 9_223_372_036_854_775_807, 0, 1),
-        (-1, 9_223_372_036_854_775_807, -1, 0),
-        (5, 9_223_372_036_854_775_808, 0, 1),
-        (-5, 18_446_744_073_709_551_615, -1, 0),
-        (two_63 - 1, 1, two_63 - 1, two_63 - 1),
-        (two_63, 1, two_63, two_63),
-        (-two_63, 1, -two_63, -two_63),
-        (-two_63 - 1, 1, -two_63 - 1, -two_63 - 1),
-    ] {
-        assert_eq!(rt; rounded(n, d), (floor, ceiling), "{n} / {d}");
-    }
-}
-
-#[test]
-fn quotients_of_wide_numbers_are_rounded(rt: HostRuntime) {
-    let two_63 = 9_223_372_036_854_775_808;
-    for (n, d, floor, ceiling) in [
-        (
-            two_63 - 1,
-            2,
-            4_611_686_018_427_387_903,
-            4_611_686_018_427_387_904,
-        ),
-        (
-            two_63 + 1,
-            2,
-            4_611_686_018_427_387_904,
-            4_611_686_018_427_387_905,
-        ),
-        (
-            -two_63 - 1,
-            2,
-            -4_611_686_018_427_387_905,
-            -4_611_686_018_427_387_904,
-        ),
-        (
-            1_267_650_600_228_229_401_496_703_205_376,
-            3,
-            422_550_200_076_076_467_165_567_735_125,
-            422_550_200_076_076_467_165_567_735_126,
-        ),
-        (
-            -1_267_650_600_228_229_401_496_703_205_376,
-            3,
-            -422_550_200_076_076_467_165_567_735_126,
-            -422_550_200_076_076_467_165_567_735_125,
-        ),
-        (i128::MAX, 1, i128::MAX, i128::MAX),
-        (i128::MIN, 1, i128::MIN, i128::MIN),
-    ] {
-        assert_eq!(rt; rounded(n, d), (floor, ceiling), "{n} / {d}");
-    }
 }
 
 #[test]

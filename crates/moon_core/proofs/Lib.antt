@@ -1,1 +1,2 @@
 pub mod WalkSteps
+pub mod Reaches

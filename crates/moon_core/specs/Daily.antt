@@ -35,7 +35,7 @@ computed_flattening_of x = scale (fraction_of FLATTENING) (sine (subtract (daily
 
 -- what the moon is ahead of its mean longitude, in millionths of a degree
 unfoldable pub computed_inequalities_of : Expression → Expression
-computed_inequalities_of x = add (add (add (computed_terms_of x) (daily_wave_of VENUS_WAVE x)) (daily_wave_of JUPITER_WAVE x)) (computed_flattening_of x)
+computed_inequalities_of x = add (add (add (computed_terms_of x) (daily_wave_of x VENUS_WAVE)) (daily_wave_of x JUPITER_WAVE)) (computed_flattening_of x)
 
 -- the moon's longitude, not reduced
 unfoldable pub computed_longitude_of : Expression → Expression

@@ -1,2 +1,3 @@
 pub mod Angles
 pub mod Daily
+pub mod Widths

@@ -28,6 +28,7 @@ pub(crate) struct Angles<E> {
 }
 
 /// A quartic of the time, by the days from noon of 1 January 2000, and these in centuries: the linear part by the days.
+#[inline(always)]
 #[tactic(auto, using(time_scales::proofs::Powers::fourths), unfolding(book_model::specs::Polynomials::quartic_of, sun_core::specs::Daily::by_centuries, crate::specs::Daily::daily_quartic_of))]
 pub(crate) fn daily_quartic<E: Enclosure>(angle: &Quartic, days: E, c: E) -> E
     ensures holds { (w : World) (x : Expression) → Within E.shown w x days → Within E.shown w (in_centuries x) c → Within E.shown w (quartic_of angle.now (in_centuries x)) result }
@@ -43,6 +44,7 @@ pub(crate) fn daily_quartic<E: Enclosure>(angle: &Quartic, days: E, c: E) -> E
 }
 
 /// A cubic of the time, in the same way.
+#[inline(always)]
 #[tactic(auto, using(time_scales::proofs::Powers::cubes), unfolding(book_model::specs::Polynomials::cubic_of, sun_core::specs::Daily::by_centuries, crate::specs::Daily::daily_cubic_of))]
 fn daily_cubic<E: Enclosure>(angle: &Cubic, days: E, c: E) -> E
     ensures holds { (w : World) (x : Expression) → Within E.shown w x days → Within E.shown w (in_centuries x) c → Within E.shown w (cubic_of angle.now (in_centuries x)) result }

@@ -1,13 +1,15 @@
 //! The apparent longitude of the moon.
-ghost use Rattle.std.specs.Prelude.{◌≡◌, ◌≤◌, ◌+◌, unsigned_abs};
-ghost use Rattle.book_model.specs.Bounds.{Reach, limits_of};
-ghost use Rattle.book_model.specs.Expressions.{Expression, World};
+ghost use Rattle.std.specs.Prelude.{◌≡◌, ◌≤◌, ◌+◌, ℕ, unsigned_abs};
+ghost use Rattle.book_model.specs.Bounds.{Reach, IsNarrow, limits_of};
+ghost use Rattle.book_model.specs.Expressions.{Expression, World, argument};
 ghost use Rattle.book_model.specs.Leading.{Leads, next_turn};
 ghost use Rattle.book_model.specs.Moon as spec;
 ghost use Rattle.book_model.specs.Relations.{Within, Narrow};
 ghost use Rattle.moon_core.specs.Angles.{HoldAngles, KeepAngles};
 ghost use Rattle.moon_core.specs.Daily.{computed_terms_of, computed_flattening_of, computed_inequalities_of, computed_longitude_of};
+ghost use Rattle.moon_core.specs.Widths.{longitude_bound};
 ghost use Rattle.sun_core.specs.Daily.{in_centuries};
+ghost use Rattle.sun_core.specs.Widths.{days_of_years};
 
 use crate::angles::{Angles, angles_at, daily_quartic};
 use book_model::{
@@ -15,7 +17,7 @@ use book_model::{
     MOON_TERMS, MoonTerm, NOON_2000, Site, VENUS_WAVE,
 };
 use encl_core::{Enclosure, Term, Trail, sum_of_terms, wrap_step};
-use new_moons::{times_power, whole};
+use new_moons::times_power;
 use sun_core::{nutation, sine_wave};
 use time_scales::dynamical;
 use trig_series::sin_deg;
@@ -28,14 +30,10 @@ fn angle<E: Enclosure>(term: &MoonTerm, angles: Angles<E>) -> E
 {
     angles
         .elongation
-        .mul_frac(whole(term.elongation))
-        .add(angles.sun_anomaly.mul_frac(whole(term.sun_anomaly)))
-        .add(angles.moon_anomaly.mul_frac(whole(term.moon_anomaly)))
-        .add(
-            angles
-                .latitude_argument
-                .mul_frac(whole(term.latitude_argument)),
-        )
+        .times(term.elongation)
+        .add(angles.sun_anomaly.times(term.sun_anomaly))
+        .add(angles.moon_anomaly.times(term.moon_anomaly))
+        .add(angles.latitude_argument.times(term.latitude_argument))
 }
 
 /// The size of a multiple.
@@ -54,12 +52,12 @@ impl<E: Enclosure> Term<Angles<E>, E> for MoonTerm {
 
     ghost term_of = { λ a term. spec.longitude_term_of a term };
 
+    ghost computed_of = { λ a term. spec.longitude_term_of a term };
+
     #[tactic(auto, unfolding(book_model::specs::Moon::longitude_term_of))]
     fn term(&self, given: Angles<E>) -> E {
         let sine = sin_deg(angle(self, given));
-        times_power(given.eccentricity, size_of(self.sun_anomaly), sine).mul_frac(whole(
-            self.longitude,
-        ))
+        times_power(given.eccentricity, size_of(self.sun_anomaly), sine).times(self.longitude)
     }
 }
 
@@ -103,6 +101,7 @@ fn inequalities<E: Enclosure>(days: E, c: E) -> E
 fn longitude<E: Enclosure>(days: E, c: E) -> E
     ensures holds { (w : World) (x : Expression) → Within E.shown w x days → Within E.shown w (in_centuries x) c → Within E.shown w (spec.moon_longitude_of (in_centuries x)) result }
     ensures narrow { (r : Reach) (x : Expression) → Narrow E.shown (limits_of E.BITS) r x days → Narrow E.shown (limits_of E.BITS) r (in_centuries x) c → Narrow E.shown (limits_of E.BITS) r (computed_longitude_of x) result }
+    ensures close { (w : ℕ) → E.BITS ≡ 36 → Narrow E.shown (limits_of E.BITS) (record { width = w; bounds = days_of_years }) (argument 0) days → Narrow E.shown (limits_of E.BITS) (record { width = w; bounds = days_of_years }) (in_centuries (argument 0)) c → IsNarrow w longitude_bound (E.shown result) }
 {
     daily_quartic(&MOON_LONGITUDE, days, c)
         .add(inequalities(days, c).mul_frac(MILLIONTH))

@@ -23,6 +23,7 @@ pub(crate) struct Angles<E> {
 }
 
 /// The angles at a time, in centuries.
+#[inline(always)]
 #[tactic(auto, unfolding(book_model::specs::NewMoons::new_moon_angles_of, crate::specs::Angles::computed_angles_of))]
 pub(crate) fn angles_at<E: Enclosure>(time: Frac) -> Angles<E>
     ensures holds { (w : World) → 40 ≤ w.depth → HoldAngles E.shown w (new_moon_angles_of (fraction_of time)) result }

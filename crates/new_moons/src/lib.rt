@@ -3,7 +3,7 @@
 //! on.
 //!
 //! - `new_moon`: the moment of a new moon, in universal time;
-//! - `whole` and `times_power`: what the terms of the moon's formulas are made with, also in the crate above.
+//! - `times_power`: what the terms of the moon's formulas are made with, also in the crate above.
 #![tactic(auto)]
 
 mod angles;
@@ -14,4 +14,4 @@ mod terms;
 mod tests;
 
 pub use moons::new_moon;
-pub use powers::{times_power, whole};
+pub use powers::times_power;

@@ -19,6 +19,7 @@ use time_scales::{at_fraction, from_dynamical, quadratic};
 use trig_series::sin_deg;
 
 /// So many months in units of 1236.85 months, which are centuries.
+#[inline(always)]
 fn centuries_of_months(months: i64) -> Frac
     requires low { negsuc 40049999 ≤ℤ months }
     requires high { months ≤ℤ pos 40050000 }
@@ -28,6 +29,7 @@ fn centuries_of_months(months: i64) -> Frac
 }
 
 /// The mean new moon, in dynamical time.
+#[inline(always)]
 #[tactic(auto, unfolding(book_model::specs::NewMoons::mean_new_moon_of, crate::specs::Moons::computed_mean_of))]
 fn mean_new_moon<E: Enclosure>(time: Frac) -> E
     ensures holds { (w : World) → 40 ≤ w.depth → Within E.shown w (spec.mean_new_moon_of (fraction_of time)) result }
@@ -37,6 +39,7 @@ fn mean_new_moon<E: Enclosure>(time: Frac) -> E
 }
 
 /// What the longitude of the moon's node adds, in days.
+#[inline(always)]
 #[tactic(auto, unfolding(book_model::specs::NewMoons::node_term_of, crate::specs::Moons::computed_node_term_of))]
 fn node_term<E: Enclosure>(time: Frac) -> E
     ensures holds { (w : World) → 40 ≤ w.depth → Within E.shown w (spec.node_term_of (fraction_of time)) result }
@@ -55,6 +58,7 @@ fn lunar_terms<E: Enclosure>(time: Frac) -> E
 }
 
 /// What Venus adds, in days.
+#[inline(always)]
 #[tactic(auto, unfolding(book_model::specs::Polynomials::quadratic_wave_of, book_model::specs::NewMoons::venus_wave_of))]
 fn venus_wave<E: Enclosure>(time: Frac) -> E
     ensures holds { (w : World) → 40 ≤ w.depth → Within E.shown w (spec.venus_wave_of (fraction_of time)) result }

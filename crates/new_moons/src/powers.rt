@@ -1,21 +1,11 @@
-//! Whole multiples, and powers of a factor.
+//! Powers of a factor.
 ghost use Rattle.std.specs.Prelude.{◌≡◌, ◌≤◌};
-ghost use Rattle.exact_math.specs.Fraction.{whole as whole_of};
 ghost use Rattle.book_model.specs.Bounds.{Reach, limits_of};
 ghost use Rattle.book_model.specs.Expressions.{Expression, World};
-ghost use Rattle.book_model.specs.Fractions.{fraction_of};
 ghost use Rattle.book_model.specs.Relations.{Within, Narrow};
 ghost use Rattle.book_model.specs.Terms.{times_power as times_power_of};
 
-use book_model::Frac;
 use encl_core::Enclosure;
-
-/// A whole number as a fraction.
-pub fn whole(number: i64) -> Frac
-    ensures value { fraction_of result ≡ whole_of number }
-{
-    Frac::new(i128::from(number), 1).unwrap()
-}
 
 /// A term times a power of a factor; at the exponent 0 the term itself.
 #[tactic(auto, using(crate::proofs::PowerLemmas::powers))]

@@ -8,12 +8,13 @@ ghost use Rattle.book_model.specs.Relations.{Within, Narrow};
 ghost use Rattle.new_moons.specs.Angles.{HoldAngles, KeepAngles};
 
 use crate::angles::Angles;
-use crate::powers::{times_power, whole};
+use crate::powers::times_power;
 use book_model::{Frac, NewMoonTerm, PlanetTerm};
 use encl_core::{Enclosure, Term};
 use trig_series::sin_deg;
 
 /// A number of hundred-thousandths.
+#[inline(always)]
 fn hundred_thousandths(number: i64) -> Frac
     ensures value { fraction_of result ≡ spec.hundred_thousandths number }
 {
@@ -21,6 +22,7 @@ fn hundred_thousandths(number: i64) -> Frac
 }
 
 /// A number of millionths.
+#[inline(always)]
 fn millionths(number: i128) -> Frac
     ensures value { fraction_of result ≡ spec.millionths number }
 {
@@ -35,13 +37,9 @@ fn angle<E: Enclosure>(term: &NewMoonTerm, angles: Angles<E>) -> E
 {
     angles
         .sun_anomaly
-        .mul_frac(whole(term.sun_anomaly))
-        .add(angles.moon_anomaly.mul_frac(whole(term.moon_anomaly)))
-        .add(
-            angles
-                .latitude_argument
-                .mul_frac(whole(term.latitude_argument)),
-        )
+        .times(term.sun_anomaly)
+        .add(angles.moon_anomaly.times(term.moon_anomaly))
+        .add(angles.latitude_argument.times(term.latitude_argument))
 }
 
 impl<E: Enclosure> Term<Angles<E>, E> for NewMoonTerm {
@@ -52,6 +50,8 @@ impl<E: Enclosure> Term<Angles<E>, E> for NewMoonTerm {
     ghost keeps = { λ r a given. KeepAngles E.shown (limits_of E.BITS) r a given };
 
     ghost term_of = { λ a term. spec.new_moon_term_of a term };
+
+    ghost computed_of = { λ a term. spec.new_moon_term_of a term };
 
     #[tactic(auto, unfolding(book_model::specs::NewMoons::new_moon_term_of))]
     fn term(&self, given: Angles<E>) -> E {
@@ -91,6 +91,8 @@ impl<E: Enclosure> Term<Number, E> for PlanetTerm {
     ghost keeps = { λ r k given. k ≡ given.0 };
 
     ghost term_of = { λ k term. spec.planet_term_of k term };
+
+    ghost computed_of = { λ k term. spec.planet_term_of k term };
 
     fn term(&self, given: Number) -> E {
         planet_term(self, given.0)

@@ -1,4 +1,4 @@
-pub mod WaveSums
 pub mod Scalings
 pub mod Openings
 pub mod Elapsed
+pub mod Reaches

@@ -1,18 +1,18 @@
 -- Scaling twice is scaling once, by the product of the two fractions.
-use Rattle.std.proofs.Common.{arith, ◌≡◌, ◌<◌, ◌*◌, ◌-◌, suc, refl, [], ◌∷◌}
+use Rattle.std.proofs.Common.{arith, ◌≡◌, ◌<◌, ◌*◌, ◌-◌, suc, refl, ℤ, [], ◌∷◌}
 use Rattle.exact_math.specs.Fraction.{Fraction, ◌≈◌, times, below_product}
 use Rattle.exact_math.specs.Interval.{Interval, everything, between, IsProper, IsMember, ◌⊆◌, product, least, greatest}
 use Rattle.exact_math.proofs.FractionRing.{same_by}
 use Rattle.exact_math.proofs.Fractions.{le_refl, le_trans, smaller_keeps, larger_keeps}
 use Rattle.exact_math.proofs.IntLaws.{one_mul}
-use Rattle.exact_math.proofs.Intervals.{product_holds, least_is, greatest_is, within_trans, within_everything}
+use Rattle.exact_math.proofs.Intervals.{product_holds, least_is, greatest_is, within_trans, within_refl, within_everything, sum_within}
 use Rattle.exact_math.proofs.Ring.{at, ◌⊗◌}
 use Rattle.exact_math.proofs.Same.{same_trans, same_refl, same_sym, times_cong, le_of_same, ge_of_same}
 use Rattle.book_model.specs.declared.frac.Frac.{Frac}
 use Rattle.book_model.specs.declared.sun_tables.TheConstants.{SUN_UNIT_COARSELY, SUN_UNIT_FINELY}
 use Rattle.book_model.specs.declared.time_tables.TheConstants.{DAY_IN_CENTURIES}
-use Rattle.book_model.specs.Expressions.{Expression, World, value, exactly, scale}
-use Rattle.book_model.specs.Fractions.{fraction_of}
+use Rattle.book_model.specs.Expressions.{Expression, World, value, exactly, add, scale}
+use Rattle.book_model.specs.Fractions.{fraction_of, ten_millionths, daily_ten_millionths}
 use Rattle.book_model.specs.Relations.{Within, Lies}
 use Rattle.book_model.specs.Sun.{sun_unit}
 use Rattle.book_model.proofs.Values.{value_proper}
@@ -98,6 +98,16 @@ once_within (between l u) a b f p e =
 pub both_hold : {E : Type 0} (shown : E → Interval) (w : World) (x : Expression) (a b f : Fraction) (e : E) → times a b ≈ f → Within shown w (scale f x) e → Within shown w (scale b (scale a x)) e
 unfolding Lies value
 both_hold shown w x a b f e s h = record { deep = h.deep; inside = within_trans (once_within (value w x) a b f (value_proper w x) s) h.inside }
+
+-- the same where another expression is added
+pub both_hold_in_sum : {E : Type 0} (shown : E → Interval) (w : World) (k x : Expression) (a b f : Fraction) (e : E) → times a b ≈ f → Within shown w (add k (scale f x)) e → Within shown w (add k (scale b (scale a x))) e
+unfolding Lies value
+both_hold_in_sum shown w k x a b f e s h = record { deep = h.deep; inside = within_trans (sum_within (within_refl (value w k)) (once_within (value w x) a b f (value_proper w x) s)) h.inside }
+
+-- ten-millionths a century are the same a day, times the days of a century
+pub daily_ten_millionths_are : (n : ℤ) → times (fraction_of DAY_IN_CENTURIES) (ten_millionths n) ≈ daily_ten_millionths n
+unfolding times
+daily_ten_millionths_are n = record { cross = rw (one_mul n) refl }
 
 -- a rate a century is a rate a day, times the days of a century
 pub daily_is : (f g : Frac) → g.num ≡ f.num → g.den ≡ f.den * 36525 → 0 < f.den → times (fraction_of DAY_IN_CENTURIES) (fraction_of f) ≈ fraction_of g

@@ -1,11 +1,13 @@
 -- The sun's waves and mean longitude by days: as the definitions have them, in centuries, and as they are computed.
-use Rattle.std.specs.Prelude.{Bool, ℕ, zero, suc, List, length, slice_index_or, ◌-◌, ◌*◌, ◌&&◌, nat_lt, nat_le, cond, pos}
+use Rattle.std.specs.Prelude.{Bool, List, ◌-◌, ◌*◌, ◌&&◌, nat_lt, nat_le, cond}
+use Rattle.exact_math.specs.Fraction.{whole}
 use Rattle.book_model.specs.declared.frac.Frac.{Frac}
 use Rattle.book_model.specs.declared.polynomial.Wave.{Wave}
 use Rattle.book_model.specs.declared.time_tables.TheConstants.{DAY_IN_CENTURIES}
-use Rattle.book_model.specs.Expressions.{Expression, integer, constant, add, scale, sine, cosine}
-use Rattle.book_model.specs.Fractions.{fraction_of}
+use Rattle.book_model.specs.Expressions.{Expression, constant, add, scale, sine}
+use Rattle.book_model.specs.Fractions.{fraction_of, ten_millionths, daily_ten_millionths}
 use Rattle.book_model.specs.Polynomials.{no_wave}
+use Rattle.book_model.specs.Terms.{terms_of}
 use Rattle.sun_core.specs.declared.daily.TheConstants.{GREATEST}
 
 -- a number of days in centuries
@@ -25,22 +27,13 @@ unfoldable pub by_days : Frac → Expression → Expression
 by_days f x = cond (has_daily f) (scale (record { num = f.num; below = f.den * 36525 - 1 }) x) (by_centuries f x)
 
 -- the angle of a wave, as it is computed
-unfoldable pub daily_angle_of : Wave → Expression → Expression
-daily_angle_of v x = add (constant (fraction_of v.phase)) (by_days v.rate x)
+abbrev pub daily_angle_of : Wave → Expression → Expression
+daily_angle_of v x = add (constant (ten_millionths v.phase)) (scale (daily_ten_millionths v.rate) x)
 
 -- the size of a wave times the sine of its angle
-unfoldable pub daily_wave_of : Wave → Expression → Expression
-daily_wave_of v x = scale (fraction_of v.size) (sine (daily_angle_of v x))
-
--- the size of a wave times the cosine of its angle
-unfoldable pub daily_cosine_wave_of : Wave → Expression → Expression
-daily_cosine_wave_of v x = scale (fraction_of v.size) (cosine (daily_angle_of v x))
-
--- the sum of the first n waves
-unfoldable pub daily_waves_to : List Wave → Expression → ℕ → Expression
-daily_waves_to vs x zero = integer (pos 0)
-daily_waves_to vs x (suc n) = add (daily_waves_to vs x n) (daily_wave_of (slice_index_or vs n no_wave) x)
+unfoldable pub daily_wave_of : Expression → Wave → Expression
+daily_wave_of x v = scale (whole v.size) (sine (daily_angle_of v x))
 
 -- the sum of the waves
-unfoldable pub daily_waves_of : List Wave → Expression → Expression
-daily_waves_of vs x = daily_waves_to vs x (length vs)
+abbrev pub daily_waves_of : List Wave → Expression → Expression
+daily_waves_of vs x = terms_of (daily_wave_of x) no_wave vs

@@ -2,12 +2,12 @@
 use Rattle.std.specs.Prelude.{ℤ}
 use Rattle.book_model.specs.declared.sun_tables.TheConstants.{ABERRATION, MEAN_ABERRATION, SUN_AT_2000, SUN_RATE, SUN_UNIT_COARSELY, SUN_UNIT_FINELY, SUN_WAVES}
 use Rattle.book_model.specs.declared.tables.TheConstants.{HALF}
-use Rattle.book_model.specs.Expressions.{Expression, integer, constant, add, subtract, scale}
-use Rattle.book_model.specs.Fractions.{fraction_of}
+use Rattle.book_model.specs.Expressions.{Expression, integer, constant, add, subtract, scale, cosine}
+use Rattle.book_model.specs.Fractions.{fraction_of, ten_millionths}
 use Rattle.book_model.specs.Noon.{reduction_of, centre_of, joint_of}
 use Rattle.book_model.specs.Polynomials.{waves_of}
 use Rattle.book_model.specs.Sun.{nutation_of, sun_unit}
-use Rattle.sun_core.specs.Daily.{in_centuries, by_days, daily_cosine_wave_of, daily_waves_of}
+use Rattle.sun_core.specs.Daily.{in_centuries, by_days, daily_angle_of, daily_waves_of}
 
 -- the mean longitude, not reduced
 unfoldable pub mean_longitude_of : Expression → Expression
@@ -27,7 +27,7 @@ computed_mean_longitude_of x = add (constant (fraction_of SUN_AT_2000)) (by_days
 
 -- the aberration by the days
 unfoldable pub computed_aberration_of : Expression → Expression
-computed_aberration_of x = subtract (daily_cosine_wave_of ABERRATION x) (constant (fraction_of MEAN_ABERRATION))
+computed_aberration_of x = subtract (scale (ten_millionths ABERRATION.size) (cosine (daily_angle_of ABERRATION x))) (constant (fraction_of MEAN_ABERRATION))
 
 -- the sun's longitude as it is computed by the days from noon of 1 January 2000, not reduced
 unfoldable pub computed_longitude_of : Expression → Expression

@@ -13,6 +13,7 @@ use encl_core::Enclosure;
 const GREATEST: u64 = 500_000_000_000_000;
 
 /// A rate a century as a rate a day, where its denominator fits.
+#[inline(always)]
 #[tactic(auto, unfolding(crate::specs::Daily::has_daily))]
 fn daily(rate: Frac) -> Option<Frac>
     ensures daily { MatchOption result (has_daily rate ≡ false) (λ f. (has_daily rate ≡ true) × (0 < rate.den) × (f.num ≡ rate.num) × (f.den ≡ rate.den * 36525)) }
@@ -25,6 +26,7 @@ fn daily(rate: Frac) -> Option<Frac>
 }
 
 /// A rate a century times the days from noon of 1 January 2000.
+#[inline(always)]
 pub fn times_rate<E: Enclosure>(days: E, rate: Frac) -> E
     ensures holds { (w : World) (x : Expression) → Within E.shown w x days → Within E.shown w (by_centuries rate x) result }
     ensures narrow { (r : Reach) (x : Expression) → Narrow E.shown (limits_of E.BITS) r x days → Narrow E.shown (limits_of E.BITS) r (by_days rate x) result }

@@ -1,7 +1,7 @@
 //! The apparent longitude of the sun.
-ghost use Rattle.std.specs.Prelude.{◌≡◌, ◌≤◌, ◌+◌, IfErr};
-ghost use Rattle.book_model.specs.Bounds.{Reach, limits_of};
-ghost use Rattle.book_model.specs.Expressions.{Expression, World, constant, add, scale};
+ghost use Rattle.std.specs.Prelude.{◌≡◌, ◌≤◌, ◌+◌, ℕ, IfErr};
+ghost use Rattle.book_model.specs.Bounds.{Reach, IsNarrow, limits_of};
+ghost use Rattle.book_model.specs.Expressions.{Expression, World, argument, constant, add, scale};
 ghost use Rattle.book_model.specs.Fractions.{fraction_of};
 ghost use Rattle.book_model.specs.Leading.{Leads, next_turn};
 ghost use Rattle.book_model.specs.Polynomials.{waves_of};
@@ -9,15 +9,16 @@ ghost use Rattle.book_model.specs.Relations.{Within, Narrow};
 ghost use Rattle.book_model.specs.Sun.{nutation_of, aberration_of, sun_unit, longitude_of, sun_of};
 ghost use Rattle.time_scales.specs.Steps.{IsYearOpenFor};
 ghost use Rattle.sun_core.specs.Daily.{in_centuries};
+ghost use Rattle.sun_core.specs.Widths.{days_of_years, longitude_bound};
 ghost use Rattle.sun_core.specs.Steps.{mean_longitude_of, periodic_of, computed_aberration_of, computed_mean_longitude_of, computed_periodic_of, computed_longitude_of};
 
 use crate::daily::times_rate;
-use crate::waves::{cosine_wave, quadratic_wave, sum_of_waves};
+use crate::waves::{Days, cosine_wave, quadratic_wave};
 use book_model::{
     ABERRATION, DAY_IN_CENTURIES, Fail, MEAN_ABERRATION, NODE_NUTATION, NOON_2000, SOLAR_NUTATION,
-    SUN_AT_2000, SUN_RATE, SUN_UNIT_COARSELY, SUN_UNIT_FINELY, SUN_WAVES, Site,
+    SUN_AT_2000, SUN_RATE, SUN_UNIT_COARSELY, SUN_UNIT_FINELY, SUN_WAVES, Site, Wave,
 };
-use encl_core::{Enclosure, Trail, wrap_step};
+use encl_core::{Enclosure, Trail, sum_of_terms, wrap_step};
 use time_scales::dynamical;
 
 /// The nutation in longitude, in degrees, by the centuries (Reingold and Dershowitz, Calendrical Calculations, chapter 14).
@@ -44,7 +45,7 @@ fn periodic<E: Enclosure>(days: E) -> E
     ensures holds { (w : World) (x : Expression) → Within E.shown w x days → Within E.shown w (periodic_of (in_centuries x)) result }
     ensures narrow { (r : Reach) (x : Expression) → Narrow E.shown (limits_of E.BITS) r x days → Narrow E.shown (limits_of E.BITS) r (computed_periodic_of x) result }
 {
-    sum_of_waves::<E>(&SUN_WAVES, days)
+    sum_of_terms::<Days<E>, E, Wave>(&SUN_WAVES, Days(days))
         .mul_frac(SUN_UNIT_COARSELY)
         .mul_frac(SUN_UNIT_FINELY)
 }
@@ -63,6 +64,7 @@ fn mean_longitude<E: Enclosure>(days: E) -> E
 fn longitude<E: Enclosure>(days: E, c: E) -> E
     ensures holds { (w : World) (x : Expression) → Within E.shown w x days → Within E.shown w (in_centuries x) c → Within E.shown w (longitude_of (in_centuries x)) result }
     ensures narrow { (r : Reach) (x : Expression) → Narrow E.shown (limits_of E.BITS) r x days → Narrow E.shown (limits_of E.BITS) r (in_centuries x) c → Narrow E.shown (limits_of E.BITS) r (computed_longitude_of x) result }
+    ensures close { (w : ℕ) → E.BITS ≡ 36 → Narrow E.shown (limits_of E.BITS) (record { width = w; bounds = days_of_years }) (argument 0) days → Narrow E.shown (limits_of E.BITS) (record { width = w; bounds = days_of_years }) (in_centuries (argument 0)) c → IsNarrow w longitude_bound (E.shown result) }
 {
     mean_longitude(days)
         .add(periodic(days))

@@ -1,18 +1,20 @@
-//! Waves: sizes times sines or cosines of angles that grow with time, and their sums.
+//! Waves: sizes times sines or cosines of angles that grow with time.
 ghost use Rattle.std.specs.Prelude.{◌≡◌};
+ghost use Rattle.exact_math.specs.Fraction.{whole};
 ghost use Rattle.book_model.specs.Bounds.{Reach, limits_of};
-ghost use Rattle.book_model.specs.Expressions.{Expression, World};
-ghost use Rattle.book_model.specs.Polynomials.{angle_of_wave, wave_of, cosine_wave_of, quadratic_wave_of, waves_of};
+ghost use Rattle.book_model.specs.Expressions.{Expression, World, scale, cosine};
+ghost use Rattle.book_model.specs.Fractions.{ten_millionths};
+ghost use Rattle.book_model.specs.Polynomials.{angle_of_wave, wave_of, quadratic_wave_of};
 ghost use Rattle.book_model.specs.Relations.{Within, Narrow};
-ghost use Rattle.sun_core.specs.Daily.{in_centuries, daily_angle_of, daily_wave_of, daily_cosine_wave_of, daily_waves_of};
+ghost use Rattle.sun_core.specs.Daily.{in_centuries, daily_angle_of, daily_wave_of};
 
-use crate::daily::times_rate;
-use book_model::{QuadraticWave, Wave};
-use encl_core::Enclosure;
+use book_model::{Frac, QuadraticWave, Wave};
+use encl_core::{Enclosure, Term};
 use time_scales::quadratic;
 use trig_series::{cos_deg, sin_deg};
 
 /// The size of a wave times the sine of its angle, which is quadratic.
+#[inline(always)]
 #[tactic(auto, unfolding(book_model::specs::Polynomials::quadratic_wave_of))]
 pub(crate) fn quadratic_wave<E: Enclosure>(wave: &QuadraticWave, c: E) -> E
     ensures holds { (w : World) (x : Expression) → Within E.shown w x c → Within E.shown w (quadratic_wave_of wave.now x) result }
@@ -21,42 +23,49 @@ pub(crate) fn quadratic_wave<E: Enclosure>(wave: &QuadraticWave, c: E) -> E
     sin_deg(quadratic(&wave.angle, c)).mul_frac(wave.size)
 }
 
-/// The angle of a wave, its phase and its rate times the time, by the days from noon of 1 January 2000.
-#[tactic(auto, unfolding(crate::specs::Daily::by_centuries, crate::specs::Daily::in_centuries, crate::specs::Daily::daily_angle_of))]
+/// The angle of a wave by the days from noon of 1 January 2000.
+#[inline(always)]
 fn angle<E: Enclosure>(wave: &Wave, days: E) -> E
     ensures holds { (w : World) (x : Expression) → Within E.shown w x days → Within E.shown w (angle_of_wave wave.now (in_centuries x)) result }
     ensures narrow { (r : Reach) (x : Expression) → Narrow E.shown (limits_of E.BITS) r x days → Narrow E.shown (limits_of E.BITS) r (daily_angle_of wave.now x) result }
 {
-    E::from_frac(wave.phase).add(times_rate(days, wave.rate))
+    days.angle(wave.phase, wave.rate)
 }
 
 /// The size of a wave times the sine of its angle, by the days.
 #[tactic(auto, unfolding(book_model::specs::Polynomials::wave_of, crate::specs::Daily::daily_wave_of))]
 pub fn sine_wave<E: Enclosure>(wave: &Wave, days: E) -> E
-    ensures holds { (w : World) (x : Expression) → Within E.shown w x days → Within E.shown w (wave_of wave.now (in_centuries x)) result }
-    ensures narrow { (r : Reach) (x : Expression) → Narrow E.shown (limits_of E.BITS) r x days → Narrow E.shown (limits_of E.BITS) r (daily_wave_of wave.now x) result }
+    ensures holds { (w : World) (x : Expression) → Within E.shown w x days → Within E.shown w (wave_of (in_centuries x) wave.now) result }
+    ensures narrow { (r : Reach) (x : Expression) → Narrow E.shown (limits_of E.BITS) r x days → Narrow E.shown (limits_of E.BITS) r (daily_wave_of x wave.now) result }
 {
-    sin_deg(angle(wave, days)).mul_frac(wave.size)
+    sin_deg(angle(wave, days)).times(wave.size)
 }
 
-/// The size of a wave times the cosine of its angle, by the days.
-#[tactic(auto, unfolding(book_model::specs::Polynomials::cosine_wave_of, crate::specs::Daily::daily_cosine_wave_of))]
+/// The size of a wave, in ten-millionths, times the cosine of its angle, by the days.
+#[inline(always)]
 pub(crate) fn cosine_wave<E: Enclosure>(wave: &Wave, days: E) -> E
-    ensures holds { (w : World) (x : Expression) → Within E.shown w x days → Within E.shown w (cosine_wave_of wave.now (in_centuries x)) result }
-    ensures narrow { (r : Reach) (x : Expression) → Narrow E.shown (limits_of E.BITS) r x days → Narrow E.shown (limits_of E.BITS) r (daily_cosine_wave_of wave.now x) result }
+    ensures holds { (w : World) (x : Expression) → Within E.shown w x days → Within E.shown w (scale (ten_millionths wave.now.size) (cosine (angle_of_wave wave.now (in_centuries x)))) result }
+    ensures narrow { (r : Reach) (x : Expression) → Narrow E.shown (limits_of E.BITS) r x days → Narrow E.shown (limits_of E.BITS) r (scale (ten_millionths wave.now.size) (cosine (daily_angle_of wave.now x))) result }
 {
-    cos_deg(angle(wave, days)).mul_frac(wave.size)
+    cos_deg(angle(wave, days)).mul_frac(Frac::ten_millionths(wave.size))
 }
 
-/// The sum of waves, by the days.
-#[tactic(auto, using(crate::proofs::WaveSums::sums))]
-pub(crate) fn sum_of_waves<E: Enclosure>(waves: &[Wave], days: E) -> E
-    ensures holds { (w : World) (x : Expression) → Within E.shown w x days → Within E.shown w (waves_of waves.now (in_centuries x)) result }
-    ensures narrow { (r : Reach) (x : Expression) → Narrow E.shown (limits_of E.BITS) r x days → Narrow E.shown (limits_of E.BITS) r (daily_waves_of waves.now x) result }
-{
-    let mut sum = E::from_int(0);
-    for wave in waves {
-        sum = sum.add(sine_wave(wave, days));
+/// The days from noon of 1 January 2000.
+#[derive(Clone, Copy, Drop)]
+pub(crate) struct Days<E>(pub(crate) E);
+
+impl<E: Enclosure> Term<Days<E>, E> for Wave {
+    ghost Given = { Expression };
+
+    ghost holds = { λ w x given. Within E.shown w x given.0 };
+
+    ghost keeps = { λ r x given. Narrow E.shown (limits_of E.BITS) r x given.0 };
+
+    ghost term_of = { λ x wave. wave_of (in_centuries x) wave };
+
+    ghost computed_of = { λ x wave. daily_wave_of x wave };
+
+    fn term(&self, given: Days<E>) -> E {
+        sine_wave(self, given.0)
     }
-    sum
 }

@@ -5,7 +5,7 @@ use Rattle.std.specs.Int.{int_div_euclid}
 use Rattle.exact_math.proofs.Floors.{IsFloorQuotient, floor_quotient_is}
 use Rattle.book_model.specs.Calendar.{first_day, year_of_day, IsYearOfDay}
 use Rattle.book_model.proofs.Calendars.{year_is, year_unique}
-use Rattle.encl_core.proofs.Periods.{euclid_is}
+use Rattle.rounded_quotients.proofs.Quotients.{euclid_is}
 
 -- the first day of a year k times 400 years later
 pub first_day_repeats : (y k : ℤ) → first_day (y +ℤ k *ℤ pos 400) ≡ first_day y +ℤ k *ℤ pos 146097

@@ -17,7 +17,7 @@ use Rattle.book_model.specs.Relations.{Within}
 use Rattle.book_model.specs.Programs.{Grid, years, cell_of, cell_at, answer}
 use Rattle.book_model.proofs.Leads.{leads_cell, leads_open_cell, leads_answer, lies}
 use Rattle.book_model.proofs.Nesting.{cell_nested}
-use Rattle.encl_core.proofs.Periods.{euclid_is}
+use Rattle.rounded_quotients.proofs.Quotients.{euclid_is}
 use Rattle.encl_core.proofs.Testing.{eq_yes, eq_no}
 use Rattle.time_scales.specs.Steps.{IsOpenYear, IsYearOpenFor}
 

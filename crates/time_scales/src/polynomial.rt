@@ -12,6 +12,7 @@ use book_model::{Cubic, Frac, Quadratic, Quartic};
 use encl_core::Enclosure;
 
 /// The quadratic polynomial with these coefficients.
+#[inline(always)]
 #[tactic(auto, unfolding(book_model::specs::Polynomials::quadratic_of))]
 pub fn quadratic<E: Enclosure>(coefficients: &Quadratic, x: E) -> E
     ensures holds { (w : World) (a : Expression) → Within E.shown w a x → Within E.shown w (quadratic_of coefficients.now a) result }
@@ -23,6 +24,7 @@ pub fn quadratic<E: Enclosure>(coefficients: &Quadratic, x: E) -> E
 }
 
 /// The cubic polynomial with these coefficients.
+#[inline(always)]
 #[tactic(auto, using(crate::proofs::Powers::cubes), unfolding(book_model::specs::Polynomials::cubic_of))]
 pub fn cubic<E: Enclosure>(coefficients: &Cubic, x: E) -> E
     ensures holds { (w : World) (a : Expression) → Within E.shown w a x → Within E.shown w (cubic_of coefficients.now a) result }
@@ -36,6 +38,7 @@ pub fn cubic<E: Enclosure>(coefficients: &Cubic, x: E) -> E
 }
 
 /// The polynomial of the fourth degree with these coefficients.
+#[inline(always)]
 #[tactic(auto, using(crate::proofs::Powers::fourths), unfolding(book_model::specs::Polynomials::quartic_of))]
 pub fn quartic<E: Enclosure>(coefficients: &Quartic, x: E) -> E
     ensures holds { (w : World) (a : Expression) → Within E.shown w a x → Within E.shown w (quartic_of coefficients.now a) result }
@@ -51,6 +54,7 @@ pub fn quartic<E: Enclosure>(coefficients: &Quartic, x: E) -> E
 }
 
 /// The polynomial with these coefficients at a whole number, its powers taken in whole numbers.
+#[inline(always)]
 #[tactic(auto, using(crate::proofs::WholePowers::polynomials))]
 pub(crate) fn at_whole<E: Enclosure>(coefficients: &[Frac], x: i64) -> E
     requires few { length coefficients.now ≤ 8 }
@@ -69,6 +73,7 @@ pub(crate) fn at_whole<E: Enclosure>(coefficients: &[Frac], x: i64) -> E
 
 /// The polynomial with these coefficients at a fraction, in Horner's form: at one fraction every order of its terms
 /// gives the same number.
+#[inline(always)]
 #[tactic(auto, using(crate::proofs::HornerLemmas::horner))]
 pub fn at_fraction<E: Enclosure>(coefficients: &[Frac], x: Frac) -> E
     ensures holds { (w : World) → 40 ≤ w.depth → Within E.shown w (polynomial_at coefficients.now (fraction_of x)) result }

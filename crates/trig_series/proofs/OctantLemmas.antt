@@ -12,7 +12,7 @@ use Rattle.exact_math.proofs.Floors.{IsFloorQuotient, floor_quotient_is}
 use Rattle.book_model.specs.Leading.{at_56}
 use Rattle.book_model.specs.Octants.{octant_edge, sine_at, sine_in, first_octant, last_octant, sine_of_degrees}
 use Rattle.book_model.proofs.DegreeSines.{over_least}
-use Rattle.encl_core.proofs.Periods.{euclid_is}
+use Rattle.rounded_quotients.proofs.Quotients.{euclid_is}
 
 -- ---- the part of two ends in an octant
 pub order_at : (p q : ℤ) → p ≤ℤ q → at_56 p ≤F at_56 q

@@ -2,7 +2,7 @@ use Rattle.std.proofs.Common.{◌≡◌, refl, rules, arith, SFits, pos, ◌+◌
 use Rattle.std.specs.Int.{w128}
 use Rattle.std.proofs.lemmas.Int.{ints, to_z-of_z}
 use Rattle.book_model.specs.Fractions.{fraction_of}
-use Rattle.encl_core.proofs.Quotients.{outward_order, fine_floor, fine_ceiling}
+use Rattle.rounded_quotients.proofs.Quotients.{outward_order, fine_floor, fine_ceiling}
 use Rattle.encl_core.proofs.Scaling.{constant_encloses, constant_narrow}
 use Rattle.encl_core.proofs.Best.{constant_best}
 use Rattle.encl_core.proofs.operations.fine_ends.Goals as goal

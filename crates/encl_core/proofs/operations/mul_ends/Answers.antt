@@ -1,7 +1,7 @@
 use Rattle.std.proofs.Common.{arith, rules, SFits}
 use Rattle.std.specs.Int.{w128}
 use Rattle.std.proofs.lemmas.Int.{ints, to_z-of_z}
-use Rattle.encl_core.proofs.Quotients.{outward_order}
+use Rattle.rounded_quotients.proofs.Quotients.{outward_order}
 use Rattle.encl_core.proofs.Best.{product_best, product_first, product_second}
 use Rattle.encl_core.proofs.Enclosing.{product_encloses, products_order}
 use Rattle.encl_core.proofs.Products.{product_narrow, product_of_all, product_with_all}

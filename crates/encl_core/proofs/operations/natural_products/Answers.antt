@@ -1,7 +1,7 @@
 use Rattle.std.proofs.Common.{arith, rules, SFits, w64, pos, ◌≤ℤ◌}
 use Rattle.std.specs.Int.{w128}
 use Rattle.std.proofs.lemmas.Int.{ints, to_z-of_z}
-use Rattle.encl_core.proofs.Quotients.{products_mono}
+use Rattle.rounded_quotients.proofs.Quotients.{products_mono}
 use Rattle.encl_core.proofs.operations.natural_products.Goals as goal
 
 pub returns : goal.returns

@@ -2,7 +2,7 @@ use Rattle.std.proofs.Common.{refl, rules, SFits, w64}
 use Rattle.std.specs.Int.{w128}
 use Rattle.std.proofs.lemmas.Int.{to_z-of_z}
 use Rattle.book_model.specs.Fractions.{fraction_of}
-use Rattle.encl_core.proofs.Quotients.{outward_order, sorted_order}
+use Rattle.rounded_quotients.proofs.Quotients.{outward_order, sorted_order}
 use Rattle.encl_core.proofs.Scaling.{AreScaled, scale_encloses, scaled_narrow, scaled_first, scaled_overflow}
 use Rattle.encl_core.proofs.Best.{scale_best, product_first, product_fits}
 use Rattle.encl_core.proofs.operations.scale_ends.Goals as goal

@@ -1,7 +1,7 @@
 use Rattle.std.proofs.Common.{rules, arith, SFits}
 use Rattle.std.specs.Int.{w128}
 use Rattle.std.proofs.lemmas.Int.{ints, to_z-of_z}
-use Rattle.encl_core.proofs.Quotients.{outward_order}
+use Rattle.rounded_quotients.proofs.Quotients.{outward_order}
 use Rattle.encl_core.proofs.Widths.{span_encloses, spanned_narrow}
 use Rattle.encl_core.proofs.spanning.ends_of_span.Goals as goal
 

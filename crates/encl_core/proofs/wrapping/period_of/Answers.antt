@@ -1,6 +1,6 @@
 use Rattle.std.proofs.Common.{rules, SFits, w64, ◌∙◌}
 use Rattle.std.proofs.lemmas.Int.{to_z-of_z}
-use Rattle.encl_core.proofs.Periods.{euclid_is}
+use Rattle.rounded_quotients.proofs.Quotients.{euclid_is}
 use Rattle.encl_core.proofs.wrapping.period_of.Goals as goal
 
 pub returns : goal.returns
