@@ -47,8 +47,13 @@ pub limits_at_36 : (n : ℕ) → n ≡ 36 → limits_of n ≡ limits_36
 unfolding limits_of
 limits_at_36 n e = rw e refl
 
--- an enclosure at scale 2^-36 keeps each bound that the computed bound of its expression implies
-pub settled : {E : Type 0} (shown : E → Interval) (n w : ℕ) (b : ℕ → Bound) (x : Expression) (y : Bound) (e : E) → n ≡ 36 → implies (bound_of limits_36 b x) y ≡ true
+-- an enclosure keeps each bound that the computed bound of its expression implies
+pub settled_at : {E : Type 0} (shown : E → Interval) (n w : ℕ) (b : ℕ → Bound) (x : Expression) (y : Bound) (e : E) → implies (bound_of (limits_of n) b x) y ≡ true
     → Narrow shown (limits_of n) (record { width = w; bounds = b }) x e → IsNarrow w y (shown e)
 unfolding Keeps
-settled shown n w b x y e p i h = let k : IsNarrow w (bound_of (limits_of n) b x) (shown e) = h.kept in implied w (bound_of limits_36 b x) y (shown e) i (rw (limits_at_36 n p) at k)
+settled_at shown n w b x y e i h = implied w (bound_of (limits_of n) b x) y (shown e) i h.kept
+
+-- the same at scale 2^-36
+pub settled : {E : Type 0} (shown : E → Interval) (n w : ℕ) (b : ℕ → Bound) (x : Expression) (y : Bound) (e : E) → n ≡ 36 → implies (bound_of limits_36 b x) y ≡ true
+    → Narrow shown (limits_of n) (record { width = w; bounds = b }) x e → IsNarrow w y (shown e)
+settled shown n w b x y e p i h = settled_at shown n w b x y e (rw (limits_at_36 n p) i) h

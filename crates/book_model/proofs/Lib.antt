@@ -9,6 +9,7 @@ pub mod Corrections
 pub mod FactRuns
 pub mod CorrectionValues
 pub mod Implying
+pub mod FormulaWidths
 pub mod Exactly
 pub mod Terms
 pub mod SeriesNesting

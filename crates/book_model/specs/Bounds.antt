@@ -222,13 +222,21 @@ IsNarrow w (bounded a b s k) (between lo hi) = Spans a b s k w lo hi
 abbrev pub limits_36 : Limits
 limits_36 = record { unit = 2 ^ 28; sizes = 2 ^ 58; constants = 2 ^ 90; factors = 2 ^ 64 }
 
+-- the limits at scale 2^-bits: those of a finer scale bear shorter numerators
+abbrev pub limits_at : ℕ → Limits
+limits_at bits = record { unit = 2 ^ (64 - bits); sizes = 2 ^ 58; constants = 2 ^ (126 - bits); factors = 2 ^ (100 - bits) }
+
 -- limits that no operation keeps
 abbrev pub no_limits : Limits
 no_limits = record { unit = 0; sizes = 0; constants = 0; factors = 0 }
 
+-- whether something is promised of the scale 2^-bits
+abbrev pub is_scale : ℕ → Bool
+is_scale bits = nat_le 36 bits && nat_le bits 56
+
 -- what the scale 2^-bits bears; nothing is promised of other scales than these
 unfoldable pub limits_of : ℕ → Limits
-limits_of bits = cond (bits == 36) limits_36 no_limits
+limits_of bits = cond (is_scale bits) (limits_at bits) no_limits
 
 -- whether the first bound says at least what the second says
 unfoldable pub implies : Bound → Bound → Bool

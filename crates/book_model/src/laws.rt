@@ -1,6 +1,8 @@
 //! Laws of the definitions, each carried by a function that does nothing.
-ghost use Rattle.std.specs.Prelude.{◌≡◌, ◌↔◌, ◌≤◌, ℤ, ℕ, suc, Bool, map, Some, IsTrue};
-ghost use Rattle.exact_math.specs.Fraction.{Fraction};
+ghost use Rattle.std.specs.Prelude.{◌≡◌, ◌↔◌, ◌≤◌, ℤ, ℕ, suc, Bool, true, map, Some, IsTrue};
+ghost use Rattle.exact_math.specs.Fraction.{Fraction, ◌≤F◌, plus, opposite, size, times, reciprocal, smaller, larger, power};
+ghost use Rattle.exact_math.specs.Interval.{Interval, between, IsMember, one, minus_one, excludes_zero, sum, negative, product, quotient, power as power_of_all, minimum, maximum, hull, clamp, widen};
+ghost use Rattle.exact_math.specs.Smallest.{IsSmallest, IsSmallestOfTwo, IsSmallestAround};
 ghost use Rattle.exact_math.specs.Sums.{one_over};
 ghost use Rattle.book_model.specs.Expressions.{Expression};
 ghost use Rattle.book_model.specs.Series.{pi_at, sine_series, cosine_series, arctan_at};
@@ -56,6 +58,23 @@ pub fn sums()
     ensures sine { IsNested sine_series }
     ensures cosine { IsNested (λ n. cosine_series (suc n)) }
     ensures arctangent { (k : ℕ) → 1 ≤ k → IsNestedByDepth (λ n. arctan_at n (one_over k)) }
+{}
+
+/// Sums, products, opposites, minima, maxima, powers and hulls of intervals hold the results for all members, and those of
+/// bounded intervals are the smallest that do. A quotient by an interval that keeps to one side of 0 holds them too, and so
+/// does what is clamped and what is widened.
+#[tactic(auto, using(exact_math::proofs::Intervals::sums_smallest, exact_math::proofs::Intervals::products_smallest, exact_math::proofs::Intervals::negatives_smallest, exact_math::proofs::Intervals::minima_smallest, exact_math::proofs::Intervals::maxima_smallest, exact_math::proofs::Intervals::powers_smallest, exact_math::proofs::Intervals::hulls_smallest, exact_math::proofs::Intervals::quotient_holds, exact_math::proofs::Intervals::clamp_holds, exact_math::proofs::Intervals::widen_holds))]
+pub fn intervals()
+    ensures sums { IsSmallestOfTwo plus sum }
+    ensures products { IsSmallestOfTwo times product }
+    ensures opposites { IsSmallest opposite negative }
+    ensures minima { IsSmallestOfTwo smaller minimum }
+    ensures maxima { IsSmallestOfTwo larger maximum }
+    ensures powers { (k : ℕ) → IsSmallest (λ x. power x k) (λ i. power_of_all i k) }
+    ensures hulls { IsSmallestAround hull }
+    ensures quotients { (i : Interval) (c d x y : Fraction) → c ≤F d → excludes_zero c d ≡ true → IsMember x i → IsMember y (between c d) → IsMember (times x (reciprocal y)) (quotient i (between c d)) }
+    ensures clamped { (i : Interval) (x : Fraction) → IsMember x i → IsMember (larger minus_one (smaller x one)) (clamp i) }
+    ensures widened { (e : Fraction) (i : Interval) (x y : Fraction) → IsMember x i → opposite (size e) ≤F y → y ≤F size e → IsMember (plus x y) (widen e i) }
 {}
 
 /// The octants over which a sine is a hull are those that the interval meets, and there is one.

@@ -7,10 +7,6 @@ use crate::{Frac, NewMoonTerm, PlanetTerm, Quadratic, QuadraticWave};
 /// The number of the new moon of January 2000, counted from that of January of the year 1.
 pub const NEW_MOON_OF_2000: i64 = 24_724;
 
-/// A month, in these centuries.
-#[rattlefmt::skip]
-pub const MONTH_IN_CENTURIES: Frac = Frac { num: 100, den: 123_685 };
-
 /// The mean new moon, in days of dynamical time from noon of 1 January 2000.
 #[rattlefmt::skip]
 pub const MEAN_NEW_MOON: [Frac; 5] = [
@@ -74,11 +70,7 @@ pub const NEW_MOON_WAVE: QuadraticWave = QuadraticWave {
     },
 };
 
-/// The synodic month, in days.
-#[rattlefmt::skip]
-pub const SYNODIC_MONTH: Frac = Frac { num: 29_530_588_861, den: 1_000_000_000 };
-
-/// A day, in synodic months.
+/// A day, in synodic months of 29.530588861 days.
 #[rattlefmt::skip]
 pub const DAY_IN_MONTHS: Frac = Frac { num: 1_000_000_000, den: 29_530_588_861 };
 

@@ -1,7 +1,7 @@
 //! The tables and constants of the sun's formulas. Each stands here once; the definitions read them too. The source of
 //! all is Reingold and Dershowitz, Calendrical Calculations, chapter 14. Angles are in degrees, rates in degrees a
 //! century.
-use crate::{Cubic, Frac, Quadratic, QuadraticWave, Wave};
+use crate::{Cubic, Frac, Quadratic, QuadraticWave, TROPICAL_YEAR, Wave};
 
 /// The nutation in longitude by the moon's node.
 #[rattlefmt::skip]
@@ -87,9 +87,11 @@ pub const DEGREE_IN_DAYS: Frac = Frac { num: 1, den: 360 };
 #[rattlefmt::skip]
 pub const PERSIAN_NOON_LONGITUDE: Frac = Frac { num: 5142, den: 100 };
 
-/// The time in which the sun moves on by a degree, in days: a 360th of the tropical year of 365.242189 days.
-#[rattlefmt::skip]
-pub const DEGREE_OF_YEAR: Frac = Frac { num: 365_242_189, den: 360_000_000 };
+/// The time in which the sun moves on by a degree, in days: a 360th of the tropical year.
+pub const DEGREE_OF_YEAR: Frac = Frac {
+    num: TROPICAL_YEAR.num,
+    den: 360 * TROPICAL_YEAR.den,
+};
 
 /// The sun's mean longitude at the epoch.
 #[rattlefmt::skip]

@@ -4,7 +4,6 @@ use Rattle.std.proofs.lemmas.Int.{ints}
 use Rattle.exact_math.proofs.Ring.{Poly, at, lit, ◌⊕◌, ◌⊖◌, ◌⊗◌}
 use Rattle.exact_math.specs.Fraction.{Fraction, ◌≤F◌, ◌≈◌, plus, opposite, size}
 use Rattle.exact_math.specs.Sums.{alternating, twice, lower, upper}
-use Rattle.exact_math.proofs.Fractions.{le_trans}
 use Rattle.exact_math.proofs.FractionRing.{same_by}
 use Rattle.exact_math.proofs.Certificates.{zero_F, ◌≼◌, ◌≗◌, known, multiple, ◌⊞◌, ◌⊠◌, natural, le_by}
 
@@ -141,11 +140,6 @@ atop_falls n p q h =
 pub ends_in_order : (n : ℕ) (t : ℕ → Fraction) → zero_F ≤F t (suc n) → beneath t n ≤F atop t n
 unfolding beneath atop
 ends_in_order n t h = le_by (alternating t n ∷ t (suc n) ∷ []) ((lit (pos 0) ≼ at 1) ∷ []) (at 0 ⊖ two ⊗ at 1) (at 0 ⊕ two ⊗ at 1) (natural 4 ⊠ known 0) refl (h, tt)
-
-pub beneath_nonneg : (n : ℕ) (t : ℕ → Fraction) → Halving t → zero_F ≤F beneath t n
-unfolding beneath alternating
-beneath_nonneg zero t h = le_by (t 0 ∷ t 1 ∷ []) ((two ⊗ at 1 ≼ at 0) ∷ []) (lit (pos 0)) (at 0 ⊖ two ⊗ at 1) (known 0) refl (h.halves 0, tt)
-beneath_nonneg (suc n) t h = le_trans zero_F (beneath t n) (beneath t (suc n)) (beneath_nonneg n t h) (nested n t h).below
 
 -- ---- the same for the ends of a series, whose terms are not negative
 pub sums_nested : (n : ℕ) (t : ℕ → Fraction) → Halving t → (lower t n ≤F lower t (suc n)) × (upper t (suc n) ≤F upper t n)

@@ -142,23 +142,6 @@ le_over s ρ cs p q c e h =
 pub record IsPositive (a : Fraction) : Type 0 where
   pub above : pos 1 ≤ℤ a.num
 
-over_positive_z : (s n d e : ℤ) → pos 1 ≤ℤ s → (pos 0 *ℤ e) ≤ℤ ((s *ℤ n) *ℤ pos 1) → (pos 0 *ℤ d) ≤ℤ (n *ℤ pos 1)
-over_positive_z s (pos n) d e h k = omega (arith, ints)
-over_positive_z (pos (suc m)) (negsuc n) d e h k = absurd (omega (arith, ints))
-over_positive_z (pos zero) (negsuc n) d e h k = absurd (omega (arith, ints))
-over_positive_z (negsuc m) (negsuc n) d e h k = absurd (omega (arith, ints))
-
-pub over_positive : (s a : Fraction) → IsPositive s → zero_F ≤F times s a → zero_F ≤F a
-unfolding times
-over_positive s a p h = record { cross = over_positive_z s.num a.num (den a) (den (times s a)) p.above h.cross }
-
--- p ≤ q, where a positive s times q - p is shown
-pub le_times : (ρ : List Fraction) (cs : List Claim) (s p q : Poly) (c : Cert) → normal (s ⊗ (q ⊖ p)) ≡ normal (shown cs c) → IsPositive (value ρ s) → Holds ρ cs → value ρ p ≤F value ρ q
-le_times ρ cs s p q c e k h =
-    from_sub (value ρ p) (value ρ q)
-    (over_positive (value ρ s) (value ρ (q ⊖ p)) k
-    (le_trans zero_F (value ρ (shown cs c)) (value ρ (s ⊗ (q ⊖ p))) (shown_nonneg ρ cs c h) (ge_of_same (same_by ρ (s ⊗ (q ⊖ p)) (shown cs c) e))))
-
 not_negative : (n : ℕ) → zero_F ≤F whole (negsuc n) → ⊥
 not_negative n h = omega (arith, ints, h.cross)
 

@@ -1,6 +1,7 @@
 -- What the operations on intervals hold, and that narrower operands give results within.
 use Rattle.std.proofs.Common.{◌≡◌, ℕ, zero, suc, refl, sym, arith, Bool, true, false, cond, pos, ◌*ℤ◌, ◌≤ℤ◌, ◌⊎◌, inl, inr}
 use Rattle.exact_math.specs.Fraction.{Fraction, ◌≤F◌, plus, opposite, size, times, is_at_most, smaller, larger, reciprocal, power, is_even}
+use Rattle.exact_math.specs.Smallest.{IsSmallest, IsSmallestOfTwo, IsSmallestAround}
 use Rattle.exact_math.specs.Interval.{Interval, everything, between, IsProper, IsMember, AreWithin, ◌⊆◌, sum, negative, difference, least, greatest, product, minimum, maximum, hull, one, minus_one, clamp, widen, zero_fraction, excludes_zero, quotient, least_even, power as interval_power}
 use lib.Signed.{lt_z}
 use lib.IntN.{neg_ℤ}
@@ -295,22 +296,17 @@ power_proper k (between a b) p = by_test (is_even k) refl
     by_test true e = le_trans _ _ _ (even_above k a b a e (le_refl a) p) (larger_first (power a k) (power b k))
     by_test false e = power_odd_mono k a b e p
 
--- a bounded interval that holds each product of members holds the interval of the products
-pub product_smallest : (a b c d e f : Fraction) → a ≤F b → c ≤F d → ((x y : Fraction) → IsMember x (between a b) → IsMember y (between c d) → IsMember (times x y) (between e f))
-    → product (between a b) (between c d) ⊆ between e f
+-- what holds each product of members holds the interval of the products
+product_smallest : (a b c d : Fraction) (k : Interval) → a ≤F b → c ≤F d → ((x y : Fraction) → IsMember x (between a b) → IsMember y (between c d) → IsMember (times x y) k)
+    → product (between a b) (between c d) ⊆ k
 unfolding product
-product_smallest a b c d e f p q h =
+product_smallest a b c d everything p q h = record { ends = tt }
+product_smallest a b c d (between e f) p q h =
     let ac = h a c (le_refl a, p) (le_refl c, q) in
     let ad = h a d (le_refl a, p) (q, le_refl d) in
     let bc = h b c (p, le_refl b) (le_refl c, q) in
     let bd = h b d (p, le_refl b) (q, le_refl d) in
     record { ends = (least_is e _ _ _ _ ac.0 ad.0 bc.0 bd.0, greatest_is f _ _ _ _ ac.1 ad.1 bc.1 bd.1) }
-
--- a proper interval lies within another exactly where each member is a member
-pub within_by_members : (i j : Interval) → IsProper i → i ⊆ j → (x : Fraction) → IsMember x i → IsMember x j
-within_by_members i everything p h x m = tt
-within_by_members everything (between c d) p h x m = absurd h.ends
-within_by_members (between a b) (between c d) p h x m = (le_trans _ _ _ h.ends.0 m.0, le_trans _ _ _ m.1 h.ends.1)
 
 -- what holds each power of a member holds the interval of the powers
 pub power_smallest : (k : ℕ) (a b : Fraction) (j : Interval) → a ≤F b → ((x : Fraction) → IsMember x (between a b) → IsMember (power x k) j) → interval_power (between a b) k ⊆ j
@@ -327,12 +323,6 @@ power_smallest k a b (between c d) p h = record { ends = by_test (is_even k) ref
     by_test : (t : Bool) → is_even k ≡ t → AreWithin (cond t (between (least_even a b k) (larger (power a k) (power b k))) (between (power a k) (power b k))) (between c d)
     by_test true e = (least_keeps k a b (λ z. c ≤F z) (λ _. ha.0) (λ _. hb.0) (λ u v. (h zero_fraction (u, v)).0), larger_keeps (λ z. z ≤F d) (power a k) (power b k) ha.1 hb.1)
     by_test false e = (ha.0, hb.1)
-
--- at each member, of any interval
-pub member_within : (i j : Interval) → i ⊆ j → (x : Fraction) → IsMember x i → IsMember x j
-member_within i everything h x m = tt
-member_within everything (between c d) h x m = absurd h.ends
-member_within (between a b) (between c d) h x m = (le_trans _ _ _ h.ends.0 m.0, le_trans _ _ _ m.1 h.ends.1)
 
 -- ---- each operation is monotone under inclusion
 pub within_refl : (i : Interval) → i ⊆ i
@@ -428,8 +418,10 @@ unfolding negative
 negative_holds everything x h = tt
 negative_holds (between a b) x h = opposite_between a b x h.0 h.1
 
-pub difference_holds : (i j : Interval) (x y : Fraction) → IsMember x i → IsMember y j → IsMember (plus x (opposite y)) (difference i j)
-difference_holds i j x y h k = sum_holds i (negative j) x (opposite y) h (negative_holds j y k)
+negative_smallest : (a b : Fraction) (k : Interval) → a ≤F b → ((x : Fraction) → IsMember x (between a b) → IsMember (opposite x) k) → negative (between a b) ⊆ k
+unfolding negative
+negative_smallest a b everything p h = record { ends = tt }
+negative_smallest a b (between c d) p h = record { ends = ((h b (p, le_refl b)).0, (h a (le_refl a, p)).1) }
 
 pub minimum_holds : (i j : Interval) (x y : Fraction) → IsMember x i → IsMember y j → IsMember (smaller x y) (minimum i j)
 unfolding minimum
@@ -467,20 +459,19 @@ widen_holds e everything x y h l u = tt
 widen_holds e (between a b) x y h l u = (plus_mono a x (opposite (size e)) y h.0 l, plus_mono x b y (size e) h.1 u)
 
 -- ---- each operation gives the smallest interval
--- a bounded interval that holds each sum of members holds the interval of the sums
-pub sum_smallest : (a b c d : Fraction) (j : Interval) → a ≤F b → c ≤F d → ((x y : Fraction) → IsMember x (between a b) → IsMember y (between c d) → IsMember (plus x y) j)
+sum_smallest : (a b c d : Fraction) (j : Interval) → a ≤F b → c ≤F d → ((x y : Fraction) → IsMember x (between a b) → IsMember y (between c d) → IsMember (plus x y) j)
     → sum (between a b) (between c d) ⊆ j
 unfolding sum
 sum_smallest a b c d everything p q h = record { ends = tt }
 sum_smallest a b c d (between e f) p q h = record { ends = ((h a c (le_refl a, p) (le_refl c, q)).0, (h b d (p, le_refl b) (q, le_refl d)).1) }
 
-pub minimum_smallest : (a b c d : Fraction) (j : Interval) → a ≤F b → c ≤F d → ((x y : Fraction) → IsMember x (between a b) → IsMember y (between c d) → IsMember (smaller x y) j)
+minimum_smallest : (a b c d : Fraction) (j : Interval) → a ≤F b → c ≤F d → ((x y : Fraction) → IsMember x (between a b) → IsMember y (between c d) → IsMember (smaller x y) j)
     → minimum (between a b) (between c d) ⊆ j
 unfolding minimum
 minimum_smallest a b c d everything p q h = record { ends = tt }
 minimum_smallest a b c d (between e f) p q h = record { ends = ((h a c (le_refl a, p) (le_refl c, q)).0, (h b d (p, le_refl b) (q, le_refl d)).1) }
 
-pub maximum_smallest : (a b c d : Fraction) (j : Interval) → a ≤F b → c ≤F d → ((x y : Fraction) → IsMember x (between a b) → IsMember y (between c d) → IsMember (larger x y) j)
+maximum_smallest : (a b c d : Fraction) (j : Interval) → a ≤F b → c ≤F d → ((x y : Fraction) → IsMember x (between a b) → IsMember y (between c d) → IsMember (larger x y) j)
     → maximum (between a b) (between c d) ⊆ j
 unfolding maximum
 maximum_smallest a b c d everything p q h = record { ends = tt }
@@ -493,3 +484,25 @@ hull_smallest a b c d everything h k = record { ends = tt }
 hull_smallest a b c d (between e f) h k = record {
   ends = (smaller_keeps (λ z. e ≤F z) a c h.ends.0 k.ends.0, larger_keeps (λ z. z ≤F f) b d h.ends.1 k.ends.1);
 }
+
+-- ---- the operations of which all of this is so
+pub sums_smallest : IsSmallestOfTwo plus sum
+sums_smallest = record { holds = sum_holds; smallest = sum_smallest }
+
+pub products_smallest : IsSmallestOfTwo times product
+products_smallest = record { holds = product_holds; smallest = product_smallest }
+
+pub minima_smallest : IsSmallestOfTwo smaller minimum
+minima_smallest = record { holds = minimum_holds; smallest = minimum_smallest }
+
+pub maxima_smallest : IsSmallestOfTwo larger maximum
+maxima_smallest = record { holds = maximum_holds; smallest = maximum_smallest }
+
+pub negatives_smallest : IsSmallest opposite negative
+negatives_smallest = record { holds = negative_holds; smallest = negative_smallest }
+
+pub powers_smallest : (k : ℕ) → IsSmallest (λ x. power x k) (λ i. interval_power i k)
+powers_smallest k = record { holds = power_holds k; smallest = power_smallest k }
+
+pub hulls_smallest : IsSmallestAround hull
+hulls_smallest = record { first = hull_holds_first; second = hull_holds_second; smallest = hull_smallest }

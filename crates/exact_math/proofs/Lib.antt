@@ -1,6 +1,5 @@
 pub mod IntLaws
 pub mod Ring
-pub mod RingTests
 pub mod Bounds
 pub mod Fractions
 pub mod Intervals

@@ -1,7 +1,7 @@
 -- Functions of an interval, one for each depth, that are narrower for a narrower interval and for a greater depth.
 use Rattle.std.proofs.Common.{◌≡◌, ℕ, zero, suc, ◌+◌, ◌-◌, ◌≤◌, refl, subst, arith}
-use Rattle.exact_math.specs.Interval.{Interval, IsProper, ◌⊆◌, sum, negative, product, quotient}
-use Rattle.exact_math.proofs.Intervals.{within_trans, within_refl, sum_within, negative_within, product_within, quotient_within, plus_proper, negative_proper, product_proper, quotient_proper}
+use Rattle.exact_math.specs.Interval.{Interval, IsProper, ◌⊆◌, sum, product, quotient}
+use Rattle.exact_math.proofs.Intervals.{within_trans, within_refl, sum_within, product_within, quotient_within, plus_proper, product_proper, quotient_proper}
 
 pub record Narrowing (f : ℕ → Interval → Interval) : Type 0 where
   pub proper : (n : ℕ) (i : Interval) → IsProper i → IsProper (f n i)
@@ -33,21 +33,11 @@ argument = record { proper = λ n i p. p; within = λ n {i} {j} p h. h; deeper =
 pub steady : (c : Interval) → IsProper c → Narrowing (λ n i. c)
 steady c q = record { proper = λ n i p. q; within = λ n {i} {j} p h. within_refl c; deeper = λ n i p. within_refl c }
 
-pub of_depth : (c : ℕ → Interval) → ((n : ℕ) → IsProper (c n)) → ((n : ℕ) → c (suc n) ⊆ c n) → Narrowing (λ n i. c n)
-of_depth c q d = record { proper = λ n i p. q n; within = λ n {i} {j} p h. within_refl (c n); deeper = λ n i p. d n }
-
 pub sums : (f g : ℕ → Interval → Interval) → Narrowing f → Narrowing g → Narrowing (λ n i. sum (f n i) (g n i))
 sums f g c d = record {
   proper = λ n i p. plus_proper (f n i) (g n i) (c.proper n i p) (d.proper n i p);
   within = λ n {i} {j} p h. sum_within (c.within n p h) (d.within n p h);
   deeper = λ n i p. sum_within (c.deeper n i p) (d.deeper n i p);
-}
-
-pub negatives : (f : ℕ → Interval → Interval) → Narrowing f → Narrowing (λ n i. negative (f n i))
-negatives f c = record {
-  proper = λ n i p. negative_proper (f n i) (c.proper n i p);
-  within = λ n {i} {j} p h. negative_within (c.within n p h);
-  deeper = λ n i p. negative_within (c.deeper n i p);
 }
 
 pub products : (f g : ℕ → Interval → Interval) → Narrowing f → Narrowing g → Narrowing (λ n i. product (f n i) (g n i))

@@ -107,9 +107,6 @@ top_is a b c (minus p) = ap neg_ℤ (top_is a b c p)
 pub law : (a b c : Fraction) (p q : Poly) → normal (top p ⊗ bottom q) ≡ normal (top q ⊗ bottom p) → of_three a b c p ≈ of_three a b c q
 law a b c p q e = record { cross = (λ i. top_is a b c p i *ℤ bottom_is a b c q i) ∙ ring (flat a b c) (top p ⊗ bottom q) (top q ⊗ bottom p) e ∙ (λ i. sym (top_is a b c q) i *ℤ sym (bottom_is a b c p) i) }
 
-pub plus_comm : (a b : Fraction) → plus a b ≈ plus b a
-plus_comm a b = law a b a (at 0 ⊕ at 1) (at 1 ⊕ at 0) refl
-
 pub plus_assoc : (a b c : Fraction) → plus (plus a b) c ≈ plus a (plus b c)
 plus_assoc a b c = law a b c (at 0 ⊕ at 1 ⊕ at 2) (at 0 ⊕ (at 1 ⊕ at 2)) refl
 
@@ -121,9 +118,6 @@ zero_plus a = law a a a (lit (pos 0) ⊕ at 0) (at 0) refl
 
 pub plus_zero : (a : Fraction) → plus a (whole (pos 0)) ≈ a
 plus_zero a = law a a a (at 0 ⊕ lit (pos 0)) (at 0) refl
-
-pub times_commutes : (a b : Fraction) → times a b ≈ times b a
-times_commutes a b = law a b a (at 0 ⊗ at 1) (at 1 ⊗ at 0) refl
 
 pub times_assoc : (a b c : Fraction) → times (times a b) c ≈ times a (times b c)
 times_assoc a b c = law a b c (at 0 ⊗ at 1 ⊗ at 2) (at 0 ⊗ (at 1 ⊗ at 2)) refl

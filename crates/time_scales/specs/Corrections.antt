@@ -1,5 +1,5 @@
 -- The rows of the table of corrections, and what is computed by each.
-use Rattle.std.specs.Prelude.{◌-◌, ◌^◌, if◌then◌else◌, ℤ, pos, negsuc, ◌≤ℤ◌, Option, Some, None}
+use Rattle.std.specs.Prelude.{ℕ, ◌-◌, ◌*◌, ◌^◌, if◌then◌else◌, ℤ, pos, negsuc, ◌≤ℤ◌, Option, Some, None}
 use Rattle.book_model.specs.declared.tables.TheConstants.{CORRECTION_1987, CORRECTION_2006, SECOND}
 use Rattle.book_model.specs.declared.time_tables.TheConstants.{CORRECTION_1800, CORRECTION_1900, CORRECTION_ANCIENT}
 use Rattle.book_model.specs.Bounds.{Bound, bounded}
@@ -54,6 +54,6 @@ computed_in y (Some r) = computed_by r y
 unfoldable pub computed_of : ℤ → Expression
 computed_of y = computed_in y (row_of y)
 
--- within a day of 0, and at most 2^-34 wide: four units of 2^-36
-abbrev pub correction_bound : Bound
-correction_bound = bounded (negsuc (2 ^ 32 - 1)) (pos (2 ^ 32)) 0 (2 ^ 30)
+-- within a day of 0, and at most four units of 2^-bits wide
+abbrev pub correction_bound : ℕ → Bound
+correction_bound bits = bounded (negsuc (2 ^ 32 - 1)) (pos (2 ^ 32)) 0 (4 * 2 ^ (64 - bits))

@@ -25,11 +25,11 @@ returns-in-Some-clause-narrow g c = λ r.
     rw (computed_is c.args.year c.in-Some.row (sym e)) (h r)
 
 pub returns-in-Some-clause-close : goal.returns-in-Some-clause-close
-returns-in-Some-clause-close g c = λ p from to.
+returns-in-Some-clause-close g c = λ coarsest finest from to.
     let f = c.ranges.year in
     let e = simp to_z-of_z at c.in-Some.ensures.row in
     let h = simp to_z-of_z at c.correction_in_row.ensures.narrow in
-    correction_close g.E.Enclosure.shown _ c.args.year _ p from to (λ r. rw (computed_is c.args.year c.in-Some.row (sym e)) (h r))
+    correction_close g.E.Enclosure.shown _ c.args.year _ coarsest finest from to (λ r. rw (computed_is c.args.year c.in-Some.row (sym e)) (h r))
 
 pub returns-in-None-clause-leads : goal.returns-in-None-clause-leads
 returns-in-None-clause-leads g c = λ w d.
