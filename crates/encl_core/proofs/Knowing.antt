@@ -9,6 +9,7 @@ use Rattle.book_model.specs.Bounds.{Bound, unbounded, bounded, Reach, IsNarrow, 
 use Rattle.book_model.specs.Relations.{Within, Narrow, Lies, Keeps}
 use Rattle.book_model.specs.Programs.{Grid, cell_at, compare_at}
 use Rattle.book_model.specs.Leading.{no_bounds, IsOpenCell, between_cells, IsOpenComparison}
+use Rattle.encl_core.specs.Steps.{IsOpenPeriod}
 
 -- everything holds every value
 pub within_any : {E : Type 0} (shown : E → Interval) (w : World) (x : Expression) (e : E) → shown e ≡ everything → 40 ≤ w.depth → Within shown w x e
@@ -70,6 +71,11 @@ narrow_scale shown r f x e s = record { kept = rw s (scaled_none r.width f _) }
 pub cell_open : (g : Grid) (i : Interval) (lo hi : ℤ) → i ≡ everything → lo ≡ negsuc (2 ^ 127 - 1) → hi ≡ pos (2 ^ 127 - 1) → IsOpenCell g i lo hi
 unfolding cell_at
 cell_open g i lo hi s e f = rw s (between_cells refl (no_bounds (record { least = e; greatest = f })))
+
+-- the same of a wrap
+pub period_open : (m : ℕ) (i : Interval) (lo hi : ℤ) → i ≡ everything → lo ≡ negsuc (2 ^ 127 - 1) → hi ≡ pos (2 ^ 127 - 1) → IsOpenPeriod m i lo hi
+unfolding cell_at
+period_open m i lo hi s e f = rw s (record { open_there = refl; ends = no_bounds (record { least = e; greatest = f }) })
 
 -- the same of a comparison
 pub compare_open : (i j : Interval) (lo hi : ℤ) → i ≡ everything → j ≡ everything → lo ≡ negsuc (2 ^ 127 - 1) → hi ≡ pos (2 ^ 127 - 1) → IsOpenComparison i j lo hi

@@ -5,17 +5,21 @@ use Rattle.exact_math.specs.Fraction.{plus}
 use Rattle.exact_math.specs.Interval.{Interval, between, ◌⊆◌}
 use Rattle.exact_math.proofs.Intervals.{within_trans}
 use Rattle.book_model.specs.Bounds.{Bound, Reach, IsNarrow, bound_of, spanned_bound, pi_spans, limits_of}
+use Rattle.book_model.specs.declared.tables.TheConstants.{PI_BELOW, PI_ABOVE}
 use Rattle.book_model.specs.Expressions.{World, value, pi}
 use Rattle.book_model.specs.Leading.{at_56}
 use Rattle.book_model.specs.Relations.{Within, Lies, Narrow, Keeps}
 use Rattle.book_model.proofs.Pi.{pi_number}
 
+abbrev pub pi_ends : Interval
+pi_ends = between (at_56 PI_BELOW.num) (at_56 PI_ABOVE.num)
+
 -- what holds what lies between its neighbours holds pi
-pub within_pi : {E : Type 0} (shown : E → Interval) (w : World) (e : E) → 40 ≤ w.depth → between (at_56 (pos 226375608064910088)) (at_56 (pos 226375608064910089)) ⊆ shown e → Within shown w pi e
+pub within_pi : {E : Type 0} (shown : E → Interval) (w : World) (e : E) → 40 ≤ w.depth → pi_ends ⊆ shown e → Within shown w pi e
 unfolding Lies value
 within_pi shown w e d h = record { deep = d; inside = within_trans (pi_number w.depth (omega (arith, d))) h }
 
-ends_narrow : (w : ℕ) → IsNarrow w pi_spans (between (at_56 (pos 226375608064910088)) (at_56 (pos 226375608064910089)))
+ends_narrow : (w : ℕ) → IsNarrow w pi_spans (pi_ends)
 unfolding IsNarrow plus
 ends_narrow w = record {
   ordered = record { cross = omega (arith, ints) };
@@ -26,6 +30,6 @@ ends_narrow w = record {
 
 -- and what is hardly wider is as narrow as pi
 pub narrow_pi : {E : Type 0} (shown : E → Interval) (n : ℕ) (r : Reach) (e : E)
-    → ((w : ℕ) (b : Bound) → IsNarrow w b (between (at_56 (pos 226375608064910088)) (at_56 (pos 226375608064910089))) → IsNarrow w (spanned_bound (limits_of n) b) (shown e)) → Narrow shown (limits_of n) r pi e
+    → ((w : ℕ) (b : Bound) → IsNarrow w b (pi_ends) → IsNarrow w (spanned_bound (limits_of n) b) (shown e)) → Narrow shown (limits_of n) r pi e
 unfolding Keeps bound_of
 narrow_pi shown n r e h = record { kept = h r.width pi_spans (ends_narrow r.width) }

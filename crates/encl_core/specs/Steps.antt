@@ -1,11 +1,11 @@
 -- What a step of a formula that fails says of its enclosures.
-use Rattle.std.specs.Prelude.{◌≡◌, ℕ}
+use Rattle.std.specs.Prelude.{◌≡◌, ℕ, ℤ, None}
 use Rattle.exact_math.specs.Interval.{Interval}
 use Rattle.book_model.specs.declared.site.Site.{Site}
 use Rattle.book_model.specs.declared.fail.Fail.{Fail}
 use Rattle.book_model.specs.declared.fail.Fail.TheVariants.{Undecided, Void}
-use Rattle.book_model.specs.Leading.{IsOpenCell, IsOpenComparison}
-use Rattle.book_model.specs.Programs.{integers, multiples}
+use Rattle.book_model.specs.Leading.{AreEnds, IsOpenCell, IsOpenComparison}
+use Rattle.book_model.specs.Programs.{integers, multiples, cell_at}
 
 -- a floor at a site is open for this enclosure
 abbrev pub IsOpenFloor : Interval → Site → Fail → Type 0
@@ -17,7 +17,12 @@ abbrev pub IsOpenLess : Interval → Interval → Site → Fail → Type 0
 IsOpenLess i j s (Undecided u) = IsOpenComparison i j u.lo u.hi × (u.site ≡ s)
 IsOpenLess i j s (Void t) = ⊥
 
+-- A wrap by a modulus is open at the ends of an enclosure: the enclosure lies in no one period, and these are its ends.
+pub record IsOpenPeriod (m : ℕ) (i : Interval) (lo hi : ℤ) : Type 0 where
+  pub open_there : cell_at (multiples m) i ≡ None
+  pub ends : AreEnds lo hi i
+
 -- a wrap by a modulus at a site is open for this enclosure
 abbrev pub IsOpenWrap : ℕ → Interval → Site → Fail → Type 0
-IsOpenWrap m i s (Undecided u) = IsOpenCell (multiples m) i u.lo u.hi × (u.site ≡ s)
+IsOpenWrap m i s (Undecided u) = IsOpenPeriod m i u.lo u.hi × (u.site ≡ s)
 IsOpenWrap m i s (Void t) = ⊥

@@ -6,6 +6,7 @@ ghost use Rattle.book_model.specs.Relations.{Within, Narrow};
 ghost use Rattle.book_model.specs.Depth.{DEPTH};
 
 use crate::{Enclosure, Span};
+use book_model::{PI_ABOVE, PI_BELOW};
 
 /// Pi, between two neighbours that count 2⁻⁵⁶.
 #[tactic(auto, using(crate::proofs::PiEnds::within_pi, crate::proofs::PiEnds::narrow_pi))]
@@ -14,7 +15,7 @@ pub fn pi<E: Enclosure>() -> E
     ensures narrow { (r : Reach) → Narrow E.shown (limits_of E.BITS) r pi_number result }
 {
     E::from_span(Span {
-        lo: 226_375_608_064_910_088,
-        hi: 226_375_608_064_910_089,
+        lo: PI_BELOW.num(),
+        hi: PI_ABOVE.num(),
     })
 }

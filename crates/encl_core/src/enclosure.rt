@@ -9,6 +9,7 @@ ghost use Rattle.book_model.specs.Relations.{Within, Narrow};
 ghost use Rattle.book_model.specs.Programs.{integers, multiples, cell_at, compare_at};
 ghost use Rattle.book_model.specs.Leading.{at_56, IsOpenCell, IsOpenComparison, next_turn};
 ghost use Rattle.book_model.specs.Depth.{DEPTH as LEAST_DEPTH};
+ghost use Rattle.encl_core.specs.Steps.{IsOpenPeriod};
 
 use crate::{Span, Trail};
 use book_model::{Frac, Site, Undecided};
@@ -158,13 +159,14 @@ pub trait Enclosure: Copy + Drop {
         ensures counted { trail.new.count ≡ next_turn trail.old.count };
 
     /// What the members are above the greatest multiple of the modulus that is not above them, where that is the
-    /// same for all. The test counts in the trail. `Undecided` comes exactly where it isn't.
+    /// same for all. The test counts in the trail. `Undecided` comes exactly where it isn't: where the ends lie in
+    /// different periods, or nothing is known.
     fn wrap(self, modulus: u32, site: Site, trail: &mut Trail) -> Result<Self, Undecided>
         requires { 0 < modulus }
         ensures decided { IfOk result (λ y. IsSome (cell_at (multiples modulus) (shown self))) }
         ensures holds { IfOk result (λ y. (q : ℤ) (w : World) (x : Expression) → cell_at (multiples modulus) (shown self) ≡ Some q → Within shown w x self → Within shown w (remainder modulus x q) y) }
         ensures narrow { IfOk result (λ y. (q : ℤ) (r : Reach) (x : Expression) → Narrow shown (limits_of BITS) r x self → Narrow shown (limits_of BITS) r (remainder modulus x q) y) }
-        ensures undecided { IfErr result (λ u. IsOpenCell (multiples modulus) (shown self) u.lo u.hi) }
+        ensures undecided { IfErr result (λ u. IsOpenPeriod modulus (shown self) u.lo u.hi) }
         ensures named { IfErr result (λ u. (u.site ≡ site) × (u.turn ≡ next_turn trail.old.count)) }
         ensures counted { trail.new.count ≡ next_turn trail.old.count };
 }

@@ -13,7 +13,7 @@ use Rattle.book_model.specs.Octants.{only, radians}
 use Rattle.book_model.proofs.Pi.{binary, pi_number, pi_proper}
 use Rattle.book_model.proofs.SeriesNesting.{inside_in}
 use Rattle.book_model.proofs.OctantHulls.{radians_proper, radians_inside}
-use Rattle.trig_series.specs.Kernel.{at_64, IsAngle, AreSineEnds, AreCosineEnds, in_radians}
+use Rattle.trig_series.specs.Kernel.{at_64, IsAngle, AreSineEnds, AreCosineEnds, in_radians, in_radians_above, IsInRadians}
 
 pub ends_product : (r lo hi : Fraction) (c d : Fraction) → IsMember (times r lo) (between c d) → IsMember (times r hi) (between c d) → product (only r) (between lo hi) ⊆ between c d
 unfolding product
@@ -47,25 +47,27 @@ turn = between (binary 226375608064910088) (binary 226375608064910089)
 abbrev pub angles : ℕ → Interval
 angles h = between (at_64 (pos (h * 2))) (at_64 (pos (h * 2) +ℤ pos 68))
 
-pub degree_ends : (d h : ℕ) → d ≤ 3242591731706757120 → h * 2 ^ 64 ≤ 41210421805949854240 * d → 41210421805949854240 * d ≤ h * 2 ^ 64 + 2 ^ 64 → product (only (at_56 (pos d))) (product turn (only (one_over 179))) ⊆ angles h
-degree_ends d h l p q =
-    let lo = low_below d h l p in
-    let hi = high_above d h l q in
-    let m = ends_keep (λ z. IsMember (times (at_56 (pos d)) z) (angles h)) (binary 226375608064910088) (binary 226375608064910089) (one_over 179)
-    (lo, le_trans _ _ _ (neighbours d) hi) (le_trans _ _ _ lo (neighbours d), hi) in
+turn_over : (d : ℕ) → product (only (at_56 (pos d))) (product turn (only (one_over 179))) ⊆ between (in_radians d) (in_radians_above d)
+turn_over d =
+    let m = ends_keep (λ z. IsMember (times (at_56 (pos d)) z) (between (in_radians d) (in_radians_above d))) (binary 226375608064910088) (binary 226375608064910089) (one_over 179)
+    (le_refl (in_radians d), neighbours d) (neighbours d, le_refl (in_radians_above d)) in
     rw (product_ends (binary 226375608064910088) (binary 226375608064910089) (one_over 179)) (ends_product (at_56 (pos d)) _ _ _ _ m.0 m.1)
 
 pub turn_proper : IsProper turn
 turn_proper = record { cross = omega (arith, ints) }
 
--- the radians of so many degrees lie in the 68 parts above the angle's count
-pub radians_near : (n d h : ℕ) → 12 ≤ n → d ≤ 3242591731706757120 → h * 2 ^ 64 ≤ 41210421805949854240 * d → 41210421805949854240 * d ≤ h * 2 ^ 64 + 2 ^ 64 → radians n (at_56 (pos d)) ⊆ angles h
+-- the radians of so many degrees lie between those by the neighbours of pi
+pub radians_over : (n d : ℕ) → 12 ≤ n → radians n (at_56 (pos d)) ⊆ between (in_radians d) (in_radians_above d)
 unfolding radians
-radians_near n d h m l p q =
+radians_over n d m =
     within_trans
     (product_within (le_refl (at_56 (pos d))) (product_proper (pi_at n) (only (one_over 179)) (pi_proper n) (le_refl (one_over 179))) (within_refl (only (at_56 (pos d))))
     (product_within (pi_proper n) (le_refl (one_over 179)) (pi_number n m) (within_refl (only (one_over 179)))))
-    (degree_ends d h l p q)
+    (turn_over d)
+
+-- and in the 68 parts above the angle's count
+pub radians_near : (n d h : ℕ) → 12 ≤ n → d ≤ 3242591731706757120 → h * 2 ^ 64 ≤ 41210421805949854240 * d → 41210421805949854240 * d ≤ h * 2 ^ 64 + 2 ^ 64 → radians n (at_56 (pos d)) ⊆ angles h
+radians_near n d h m l p q = within_trans (radians_over n d m) (record { ends = (low_below d h l p, high_above d h l q) })
 
 -- ---- the series over an interval of angles
 pub sine_over : (n a s : ℕ) (i : Interval) → IsProper i → i ⊆ between (at_64 (pos a)) (at_64 (pos a +ℤ pos 68)) → i ⊆ between zero_F four_fifths → ((x : Fraction) → IsAngle a x → AreSineEnds x s n)
@@ -109,16 +111,22 @@ cosine_there n d a s m l h f = cosine_over n a s _ (radians_proper n (at_56 (pos
 pub angle_there : (n d w h a : ℕ) → 12 ≤ n → d ≤ 3242591731706757120 → w ≡ d * 4 → h ≡ w * 10302605451487463560 / 2 ^ 64 → a ≡ h * 2 → radians n (at_56 (pos d)) ⊆ between (at_64 (pos a)) (at_64 (pos a +ℤ pos 68))
 angle_there n d w h a m l e f g = rw g (radians_near n d h m l (omega (arith, e, f)) (omega (arith, e, f)))
 
--- ---- the angle by the lower neighbour of pi alone
-radians_small : (d : ℕ) → d ≤ 3242591731706757120 → in_radians d ≤F four_fifths
+-- ---- the angles between those by the neighbours of pi
+pub radians_small : (d : ℕ) → d ≤ 3242591731706757120 → in_radians_above d ≤F four_fifths
 unfolding times
 radians_small d l = record { cross = omega (arith, ints, l) }
 
-pub angle_is : (d w h a : ℕ) → d ≤ 3242591731706757120 → w ≡ d * 4 → h ≡ w * 10302605451487463560 / 2 ^ 64 → a ≡ h * 2 → IsAngle a (in_radians d)
-angle_is d w h a l e f g =
+pub by_lower : (d : ℕ) → IsInRadians d (in_radians d)
+by_lower d = record { above = le_refl (in_radians d); below = neighbours d }
+
+pub by_upper : (d : ℕ) → IsInRadians d (in_radians_above d)
+by_upper d = record { above = neighbours d; below = le_refl (in_radians_above d) }
+
+pub angle_between : (d w h a : ℕ) (x : Fraction) → d ≤ 3242591731706757120 → w ≡ d * 4 → h ≡ w * 10302605451487463560 / 2 ^ 64 → a ≡ h * 2 → IsInRadians d x → IsAngle a x
+angle_between d w h a x l e f g t =
     rw g
     (record {
-      not_above = low_below d h l (omega (arith, e, f));
-      close = le_trans _ _ _ (neighbours d) (high_above d h l (omega (arith, e, f)));
-      small = radians_small d l;
+      not_above = le_trans _ _ _ (low_below d h l (omega (arith, e, f))) t.above;
+      close = le_trans _ _ _ t.below (high_above d h l (omega (arith, e, f)));
+      small = le_trans _ _ _ t.below (radians_small d l);
     })

@@ -9,3 +9,4 @@ pub mod PointLemmas
 pub mod TurnLemmas
 pub mod Steady
 pub mod SineLemmas
+pub mod PartLemmas

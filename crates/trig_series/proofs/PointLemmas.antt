@@ -21,7 +21,7 @@ use Rattle.book_model.proofs.SeriesNesting.{sines, cosines, inside_in}
 use Rattle.trig_series.specs.Kernel.{at_64, in_radians, IsAngle, AreSineEnds, AreCosineEnds}
 use Rattle.trig_series.specs.Points.{IsNearSine, IsNearCosine}
 use Rattle.trig_series.proofs.AngleLemmas.{radians_in_angle, angle_in_radians, cosine_within}
-use Rattle.trig_series.proofs.KernelAngles.{ends_product, product_ends, sine_there, cosine_there, radians_near, angle_is}
+use Rattle.trig_series.proofs.KernelAngles.{ends_product, product_ends, sine_there, cosine_there, radians_near, angle_between, by_lower}
 use Rattle.trig_series.proofs.KernelSteps.{IsHigh, step_near}
 use Rattle.trig_series.proofs.SineChain.{sine_near, low_is as sine_low, high_is as sine_high, nested, flipped, step_at, Keeps, Chain, innermost}
 use Rattle.trig_series.proofs.CosineChain.{Chain as CosineChain, innermost as cosine_innermost, cosine_near, low_is as cosine_low, high_is as cosine_high}
@@ -148,7 +148,7 @@ cosine_of_none n l =
     let p = radians_proper n (at_56 (pos 0)) in
     within_trans (cosine_deeper n (radians n (at_56 (pos 0))) (omega (arith, l)) p) (cosine_full _ p (radians_zero n (omega (arith, l))))
 
-none_in_radians : in_radians 0 ≈ zero_F
+pub none_in_radians : in_radians 0 ≈ zero_F
 none_in_radians = zero_times _
 
 pub near_none : IsNearSine 0 (pos 0) (pos 0)
@@ -169,7 +169,7 @@ high : (h w t : ℕ) → h * 2 ^ 64 ≤ w * t → w * t ≤ h * 2 ^ 64 + 2 ^ 64 
 high h w t p q = record { not_above = p; close = q }
 
 eighth : IsAngle 14488038916154245630 (in_radians 3242591731706757120)
-eighth = angle_is 3242591731706757120 _ 7244019458077122815 _ (omega arith) refl refl refl
+eighth = angle_between 3242591731706757120 _ 7244019458077122815 _ _ (omega arith) refl refl refl (by_lower 3242591731706757120)
 
 sine_chain : Chain 11378879155978302076 51862 14074536 2953688836 460307848123 50550340485508 3628886277159895 151484387782656051 2981014159346006776 16607904669535111438
 sine_chain = record {

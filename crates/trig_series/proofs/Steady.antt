@@ -14,11 +14,11 @@ use Rattle.trig_series.specs.Points.{IsNearSine, IsNearCosine, IsPoint, IsAt, Ar
 use Rattle.trig_series.proofs.Slopes.{sine_slow, cosine_slow}
 use Rattle.trig_series.proofs.PointLemmas.{near_none, near_full}
 
-in_order : (d e : ℕ) → d ≤ e → in_radians d ≤F in_radians e
+pub in_order : (d e : ℕ) → d ≤ e → in_radians d ≤F in_radians e
 unfolding times
 in_order d e h = record { cross = omega (arith, ints, h) }
 
-in_fifths : (d : ℕ) → d ≤ 3242591731706757120 → IsUpTo 4 5 (in_radians d)
+pub in_fifths : (d : ℕ) → d ≤ 3242591731706757120 → IsUpTo 4 5 (in_radians d)
 unfolding times
 in_fifths d h = record { nonneg = record { cross = omega (arith, ints) }; bound = record { cross = omega (arith, ints, h) } }
 

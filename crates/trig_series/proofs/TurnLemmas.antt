@@ -124,6 +124,5 @@ few_or_many first last lo hi x y l r h =
     (λ m. inr (omega (arith, ints, m, h)))
     (λ m. inl (omega (arith, ints, m, l, r)))
 
-pub one_narrow : (first lo hi p q x y : ℤ) → p ≡ int_max (first *ℤ pos 3242591731706757120) lo → q ≡ int_min (first *ℤ pos 3242591731706757120 +ℤ pos 3242591731706757120) hi
-    → (pos 57 *ℤ (y -ℤ x)) ≤ℤ ((q -ℤ p) +ℤ pos 513) → (pos 9727775195120271360 ≤ℤ (hi -ℤ lo)) ⊎ ((pos 57 *ℤ (y -ℤ x)) ≤ℤ ((hi -ℤ lo) +ℤ pos 2052))
-one_narrow first lo hi p q x y e f h = inr (omega (arith, ints, clamps, e, f, h))
+pub one_narrow : (lo hi x y : ℤ) → (pos 57 *ℤ (y -ℤ x)) ≤ℤ ((hi -ℤ lo) +ℤ pos 513) → (pos 9727775195120271360 ≤ℤ (hi -ℤ lo)) ⊎ ((pos 57 *ℤ (y -ℤ x)) ≤ℤ ((hi -ℤ lo) +ℤ pos 2052))
+one_narrow lo hi x y h = inr (omega (arith, ints, h))

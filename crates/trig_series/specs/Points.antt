@@ -46,6 +46,15 @@ pub record IsAround (e w lo hi : ℤ) : Type 0 where
   pub up : (pos 57 *ℤ (hi -ℤ e)) ≤ℤ (w +ℤ pos 513)
   pub down : (pos 57 *ℤ (e -ℤ lo)) ≤ℤ (w +ℤ pos 513)
 
+-- the sine from f to t degrees into octant j of a turn: where that begins or ends at 0 degrees the span is near 0, and at
+-- 90 degrees near 1
+unfoldable pub IsPart : ℕ → ℕ → ℕ → ℤ → ℤ → Type 0
+IsPart zero f t lo hi = IsAround (pos 0) (pos t) lo hi
+IsPart (suc zero) f t lo hi = IsAround (pos 72057594037927936) (pos (3242591731706757120 - f)) lo hi
+IsPart (suc (suc zero)) f t lo hi = IsAround (pos 72057594037927936) (pos t) lo hi
+IsPart (suc (suc (suc zero))) f t lo hi = IsAround (pos 0) (pos (3242591731706757120 - f)) lo hi
+IsPart (suc (suc (suc (suc j)))) f t lo hi = IsPart j f t (neg_ℤ hi) (neg_ℤ lo)
+
 -- a span that lies within -16 and 16
 pub record IsSmall (lo hi : ℤ) : Type 0 where
   pub above : neg_ℤ (pos (2 ^ 60)) ≤ℤ lo

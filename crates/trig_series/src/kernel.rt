@@ -8,7 +8,7 @@ ghost use Rattle.exact_math.specs.Interval.{zero_fraction, between, ◌⊆◌};
 ghost use Rattle.book_model.specs.Leading.{at_56};
 ghost use Rattle.book_model.specs.Octants.{radians};
 ghost use Rattle.book_model.specs.Series.{sine_series, cosine_series};
-ghost use Rattle.trig_series.specs.Kernel.{at_64, IsNear, IsCut, IsSquare, IsAngle, AreSineEnds, AreCosineEnds, in_radians};
+ghost use Rattle.trig_series.specs.Kernel.{at_64, IsNear, IsCut, IsSquare, IsAngle, AreSineEnds, AreCosineEnds, IsInRadians};
 
 /// The high half of a product.
 #[inline(always)]
@@ -70,7 +70,7 @@ fn cosine_at(angle: u64) -> u64
 fn angle(degrees: u64) -> u64
     requires octant { degrees ≤ 3242591731706757120 }
     ensures near { (n : ℕ) → 12 ≤ n → radians n (at_56 (pos degrees)) ⊆ between (at_64 (pos result)) (at_64 (pos result +ℤ pos 68)) }
-    ensures there { IsAngle result (in_radians degrees) }
+    ensures there { (x : Fraction) → IsInRadians degrees x → IsAngle result x }
     ensures small { result ≤ 14757395258967641292 }
 {
     high_half(degrees * 4, 10_302_605_451_487_463_560) * 2
@@ -80,7 +80,7 @@ fn angle(degrees: u64) -> u64
 pub(crate) fn sine_of(degrees: u64) -> u64
     requires octant { degrees ≤ 3242591731706757120 }
     ensures near { (n : ℕ) → 12 ≤ n → sine_series n (radians n (at_56 (pos degrees))) ⊆ between (at_64 (pos result -ℤ pos 384)) (at_64 (pos result +ℤ pos 384)) }
-    ensures there { AreSineEnds (in_radians degrees) result 8 }
+    ensures ends { (n : ℕ) (x : Fraction) → 8 ≤ n → IsInRadians degrees x → AreSineEnds x result n }
 {
     sine_at(angle(degrees))
 }
@@ -89,7 +89,7 @@ pub(crate) fn sine_of(degrees: u64) -> u64
 pub(crate) fn cosine_of(degrees: u64) -> u64
     requires octant { degrees ≤ 3242591731706757120 }
     ensures near { (n : ℕ) → 12 ≤ n → cosine_series n (radians n (at_56 (pos degrees))) ⊆ between (at_64 (pos result -ℤ pos 320)) (at_64 (pos result +ℤ pos 320)) }
-    ensures there { AreCosineEnds (in_radians degrees) result 9 }
+    ensures ends { (n : ℕ) (x : Fraction) → 9 ≤ n → IsInRadians degrees x → AreCosineEnds x result n }
 {
     cosine_at(angle(degrees))
 }

@@ -8,6 +8,7 @@
 mod degrees;
 mod kernel;
 mod octants;
+mod parts;
 mod points;
 
 pub use degrees::{cos_deg, sin_deg, tan_deg};

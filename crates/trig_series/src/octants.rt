@@ -7,7 +7,8 @@ ghost use Rattle.book_model.specs.Leading.{at_56};
 ghost use Rattle.book_model.specs.Octants.{octant_of_turn, sine_into as into_octant, sine_at as at_degrees, sine_in as in_octant, first_octant, last_octant, sine_of_degrees};
 ghost use Rattle.trig_series.specs.Points.{IsPoint, edge_of, IsAt, IsSmall, IsAround};
 
-use crate::points::{cosine_point, sine_point};
+use crate::parts::part_of_turn;
+use crate::points::{cosine_point, opposite, sine_point};
 use encl_core::Span;
 
 /// 45 degrees, which count 2⁻⁵⁶.
@@ -35,20 +36,6 @@ fn sine_into_half(octant: i128, degrees: u64) -> Span
         return cosine_point(degrees);
     }
     sine_point(crate::points::OCTANT - degrees)
-}
-
-/// The opposite of a span.
-#[inline(always)]
-fn opposite(span: Span) -> Span
-    requires { IsSmall span.lo span.hi }
-    ensures room { IsSmall result.lo result.hi }
-    ensures low { result.lo ≡ neg_ℤ span.hi }
-    ensures high { result.hi ≡ neg_ℤ span.lo }
-{
-    Span {
-        lo: -span.hi,
-        hi: -span.lo,
-    }
 }
 
 /// From the lesser lower to the greater upper end.
@@ -161,6 +148,7 @@ fn last_met(hi: i128) -> i128
     requires to { hi ≤ℤ pos (2 ^ 120) }
     ensures value { result ≡ last_octant (at_56 hi) }
     ensures begun { (result *ℤ pos 3242591731706757120) ≤ℤ hi }
+    ensures ended { hi ≤ℤ (result *ℤ pos 3242591731706757120 +ℤ pos 3242591731706757120) }
     ensures above { neg_ℤ (pos (2 ^ 60)) ≤ℤ result }
     ensures below { result <ℤ pos (2 ^ 60) }
 {
@@ -191,6 +179,25 @@ fn sine_over_octants(first: i128, last: i128, lo: i128, hi: i128) -> Span
     sine
 }
 
+/// The sine over ends, which count 2⁻⁵⁶, that lie in one octant.
+#[inline(always)]
+fn sine_within(octant: i128, lo: i128, hi: i128) -> Span
+    requires from { neg_ℤ (pos (2 ^ 60)) ≤ℤ octant }
+    requires to { octant ≤ℤ pos (2 ^ 60) }
+    requires begun { (octant *ℤ pos 3242591731706757120) ≤ℤ lo }
+    requires ordered { lo ≤ℤ hi }
+    requires ended { hi ≤ℤ (octant *ℤ pos 3242591731706757120 +ℤ pos 3242591731706757120) }
+    ensures holds { (n : ℕ) → 40 ≤ n → in_octant n (at_56 lo) (at_56 hi) octant ⊆ between (at_56 result.lo) (at_56 result.hi) }
+    ensures narrow { (pos 57 *ℤ (result.hi -ℤ result.lo)) ≤ℤ ((hi -ℤ lo) +ℤ pos 513) }
+    ensures small { (a : ℤ) → neg_ℤ a ≤ℤ lo → hi ≤ℤ a → a <ℤ pos 3242591731706757120 → IsAround (pos 0) a result.lo result.hi }
+    ensures crest { (a : ℤ) → (pos 6485183463413514240 -ℤ a) ≤ℤ lo → hi ≤ℤ (pos 6485183463413514240 +ℤ a) → a <ℤ pos 3242591731706757120 → IsAround (pos 72057594037927936) a result.lo result.hi }
+{
+    let edge = octant * OCTANT;
+    let from = (lo - edge) as u64;
+    let to = (hi - edge) as u64;
+    part_of_turn(octant_in_turn(octant), from, to)
+}
+
 /// The sine from one number of degrees to another, which count 2⁻⁵⁶. Its width is at most a 57th of theirs, and 36
 /// parts, unless they are three octants or more apart.
 #[inline(always)]
@@ -206,7 +213,7 @@ pub(crate) fn sine_between(lo: i128, hi: i128) -> Span
     let first = first_met(lo);
     let last = last_met(hi);
     if last <= first {
-        return sine_in(first, lo, hi);
+        return sine_within(first, lo, hi);
     }
     sine_over_octants(first, last, lo, hi)
 }

@@ -1,5 +1,5 @@
 //! The sine and the cosine at one angle of the first octant, as spans.
-ghost use Rattle.std.specs.Prelude.{◌≡◌, ◌≤◌, ◌*◌, ◌<◌, ◌+◌, ℕ, pos, ◌*ℤ◌, ◌≤ℤ◌, ◌+ℤ◌, ◌-ℤ◌};
+ghost use Rattle.std.specs.Prelude.{◌≡◌, neg_ℤ, ◌≤◌, ◌*◌, ◌<◌, ◌+◌, ℕ, pos, ◌*ℤ◌, ◌≤ℤ◌, ◌+ℤ◌, ◌-ℤ◌};
 ghost use Rattle.exact_math.specs.Fraction.{Fraction, ◌≈◌};
 ghost use Rattle.exact_math.specs.Interval.{between, ◌⊆◌};
 ghost use Rattle.book_model.specs.Leading.{at_56};
@@ -16,9 +16,23 @@ pub(crate) const OCTANT: u64 = 3_242_591_731_706_757_120;
 /// One.
 const ONE: i128 = 72_057_594_037_927_936;
 
+/// The opposite of a span.
+#[inline(always)]
+pub(crate) fn opposite(span: Span) -> Span
+    requires { IsSmall span.lo span.hi }
+    ensures room { IsSmall result.lo result.hi }
+    ensures low { result.lo ≡ neg_ℤ span.hi }
+    ensures high { result.hi ≡ neg_ℤ span.lo }
+{
+    Span {
+        lo: -span.hi,
+        hi: -span.lo,
+    }
+}
+
 /// What lies within so many parts of 2⁻⁶⁴, fewer than 2 · 2⁸, of a number that counts 2⁻⁶⁴.
 #[inline(always)]
-fn around(number: u64) -> Span
+pub(crate) fn around(number: u64) -> Span
     ensures room { IsSmall result.lo result.hi }
     ensures low { (result.lo *ℤ pos 256 +ℤ pos 384) ≤ℤ pos number }
     ensures high { pos number ≤ℤ (result.hi *ℤ pos 256 -ℤ pos 384) }

@@ -4,6 +4,8 @@ use book_model::Frac;
 use encl_core::{Coarse, Enclosure};
 use std::test::Fail;
 
+mod spans;
+
 /// A unit of `Coarse`, which counts 2⁻⁵⁶.
 const UNIT: i128 = 1_048_576;
 
@@ -98,6 +100,14 @@ fn a_range_takes_in_what_it_turns_at(rt: HostRuntime) {
     assert_eq!(rt; cos_deg(from_to(-90, 90)), from_to(0, 1));
     assert_eq!(rt; cos_deg(from_to(90, 270)), from_to(-1, 0));
     assert_eq!(rt; cos_deg(from_to(3600, 3780)), all);
+}
+
+#[test]
+fn a_multiple_of_90_has_an_exact_sine(rt: HostRuntime) {
+    for (angle, sine) in [(0, 0), (90, 1), (180, 0), (270, -1), (-90, -1), (3_690, 1)] {
+        let x = Coarse::from_int(angle);
+        assert_eq!(rt; sin_deg(x), Coarse::from_int(sine), "the sine of {angle}");
+    }
 }
 
 #[test]

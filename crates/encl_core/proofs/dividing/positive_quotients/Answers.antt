@@ -24,8 +24,8 @@ ends_of-requires c =
     let q = simp (e1, e2, e3, e4) at (simp to_z-of_z at c.quotients-lo.ensures) in
     simp to_z-of_z q.ordered
 
-pub returns-clause-holds : goal.returns-clause-holds
-returns-clause-holds c =
+pub returns : goal.returns
+returns c =
     let fa : SFits w64 c.args.x.lo = search rules in
     let fb : SFits w64 c.args.x.hi = search rules in
     let fc : SFits w64 c.args.y.lo = search rules in
@@ -42,24 +42,7 @@ returns-clause-holds c =
     let e4 : c.from-4.result ≡ c.args.y.hi = simp to_z-of_z at c.from-4.ensures in
     let q = simp (e1, e2, e3, e4) at (simp to_z-of_z at c.quotients-lo.ensures) in
     let k = simp to_z-of_z at c.ends_of.ensures.kept in
-    positive_enclosed c.args.x.lo c.args.x.hi c.args.y.lo c.args.y.hi _ _ _ c.args.x.ordered c.requires c.args.y.ordered q k
-
-pub returns-clause-narrow : goal.returns-clause-narrow
-returns-clause-narrow c =
-    let fa : SFits w64 c.args.x.lo = search rules in
-    let fb : SFits w64 c.args.x.hi = search rules in
-    let fc : SFits w64 c.args.y.lo = search rules in
-    let fd : SFits w64 c.args.y.hi = search rules in
-    let fl : SFits w128 c.quotients-lo.result.0 = search rules in
-    let fh : SFits w128 c.quotients-lo.result.1 = search rules in
-    let f1 : SFits w128 c.from.result = search rules in
-    let e1 : c.from.result ≡ c.args.x.lo = simp to_z-of_z at c.from.ensures in
-    let f2 : SFits w128 c.from-2.result = search rules in
-    let e2 : c.from-2.result ≡ c.args.x.hi = simp to_z-of_z at c.from-2.ensures in
-    let f3 : SFits w128 c.from-3.result = search rules in
-    let e3 : c.from-3.result ≡ c.args.y.lo = simp to_z-of_z at c.from-3.ensures in
-    let f4 : SFits w128 c.from-4.result = search rules in
-    let e4 : c.from-4.result ≡ c.args.y.hi = simp to_z-of_z at c.from-4.ensures in
-    let q = simp (e1, e2, e3, e4) at (simp to_z-of_z at c.quotients-lo.ensures) in
-    let k = simp to_z-of_z at c.ends_of.ensures.kept in
-    λ w a b h n. quotient_narrow w a b c.args.x.lo c.args.x.hi c.args.y.lo c.args.y.hi _ _ _ q k h n
+    record {
+      holds = positive_enclosed c.args.x.lo c.args.x.hi c.args.y.lo c.args.y.hi _ _ _ c.args.x.ordered c.requires c.args.y.ordered q k;
+      narrow = λ w a b h n. quotient_narrow w a b c.args.x.lo c.args.x.hi c.args.y.lo c.args.y.hi _ _ _ q k h n;
+    }

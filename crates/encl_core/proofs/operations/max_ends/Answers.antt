@@ -10,30 +10,6 @@ returns-in_err-x-clause-tight c = rw (c.from_residual.ensures, c.in_err-x.was) (
 pub returns-in_err-y-clause-tight : goal.returns-in_err-y-clause-tight
 returns-in_err-y-clause-tight c = rw (c.from_residual-in_err-y.ensures, c.in_ok-x.was, c.in_err-y.was) (maximum_second _ _)
 
-pub returns-clause-holds : goal.returns-clause-holds
-returns-clause-holds c =
-    let fa : SFits w64 c.in_ok-x.x.lo = search rules in
-    let fb : SFits w64 c.in_ok-x.x.hi = search rules in
-    let fc : SFits w64 c.in_ok-y.y.lo = search rules in
-    let fd : SFits w64 c.in_ok-y.y.hi = search rules in
-    let fl : SFits w64 c.max.result = search rules in
-    let l = simp to_z-of_z at c.max.ensures.value in
-    let fu : SFits w64 c.max-2.result = search rules in
-    let u = simp to_z-of_z at c.max-2.ensures.value in
-    rw (c.in_ok-x.was, c.in_ok-y.was) (simp to_z-of_z (maximum_is c.in_ok-x.x.lo c.in_ok-x.x.hi c.in_ok-y.y.lo c.in_ok-y.y.hi c.max.result c.max-2.result l u).there)
-
-pub returns-clause-tight : goal.returns-clause-tight
-returns-clause-tight c =
-    let fa : SFits w64 c.in_ok-x.x.lo = search rules in
-    let fb : SFits w64 c.in_ok-x.x.hi = search rules in
-    let fc : SFits w64 c.in_ok-y.y.lo = search rules in
-    let fd : SFits w64 c.in_ok-y.y.hi = search rules in
-    let fl : SFits w64 c.max.result = search rules in
-    let l = simp to_z-of_z at c.max.ensures.value in
-    let fu : SFits w64 c.max-2.result = search rules in
-    let u = simp to_z-of_z at c.max-2.ensures.value in
-    rw (c.in_ok-x.was, c.in_ok-y.was) (simp to_z-of_z (maximum_is c.in_ok-x.x.lo c.in_ok-x.x.hi c.in_ok-y.y.lo c.in_ok-y.y.hi c.max.result c.max-2.result l u).back)
-
 pub invariant_of-result : goal.invariant_of-result
 invariant_of-result c =
     let fa : SFits w64 c.in_ok-x.x.lo = search rules in
@@ -46,8 +22,14 @@ invariant_of-result c =
     let u = simp to_z-of_z at c.max-2.ensures.value in
     record { ordered = simp to_z-of_z (greater_order c.in_ok-x.x.lo c.in_ok-x.x.hi c.in_ok-y.y.lo c.in_ok-y.y.hi c.max.result c.max-2.result c.in_ok-x.x.ordered c.in_ok-y.y.ordered l u) }
 
-pub returns-clause-narrow : goal.returns-clause-narrow
-returns-clause-narrow c = λ w a b h k.
+pub returns-in_err-x-clause-narrow : goal.returns-in_err-x-clause-narrow
+returns-in_err-x-clause-narrow c = λ w a b h k. maximum_of_all w a b _ (rw c.in_err-x.was at h)
+
+pub returns-in_err-y-clause-narrow : goal.returns-in_err-y-clause-narrow
+returns-in_err-y-clause-narrow c = λ w a b h k. maximum_with_all w a b _ (rw c.in_err-y.was at k)
+
+pub returns : goal.returns
+returns c =
     let fa : SFits w64 c.in_ok-x.x.lo = search rules in
     let fb : SFits w64 c.in_ok-x.x.hi = search rules in
     let fc : SFits w64 c.in_ok-y.y.lo = search rules in
@@ -56,10 +38,8 @@ returns-clause-narrow c = λ w a b h k.
     let l = simp to_z-of_z at c.max.ensures.value in
     let fu : SFits w64 c.max-2.result = search rules in
     let u = simp to_z-of_z at c.max-2.ensures.value in
-    simp to_z-of_z (maximum_narrow w a b c.in_ok-x.x.lo c.in_ok-x.x.hi c.in_ok-y.y.lo c.in_ok-y.y.hi c.max.result c.max-2.result l u (rw c.in_ok-x.was at h) (rw c.in_ok-y.was at k))
-
-pub returns-in_err-x-clause-narrow : goal.returns-in_err-x-clause-narrow
-returns-in_err-x-clause-narrow c = λ w a b h k. maximum_of_all w a b _ (rw c.in_err-x.was at h)
-
-pub returns-in_err-y-clause-narrow : goal.returns-in_err-y-clause-narrow
-returns-in_err-y-clause-narrow c = λ w a b h k. maximum_with_all w a b _ (rw c.in_err-y.was at k)
+    record {
+      holds = rw (c.in_ok-x.was, c.in_ok-y.was) (simp to_z-of_z (maximum_is c.in_ok-x.x.lo c.in_ok-x.x.hi c.in_ok-y.y.lo c.in_ok-y.y.hi c.max.result c.max-2.result l u).there);
+      tight = rw (c.in_ok-x.was, c.in_ok-y.was) (simp to_z-of_z (maximum_is c.in_ok-x.x.lo c.in_ok-x.x.hi c.in_ok-y.y.lo c.in_ok-y.y.hi c.max.result c.max-2.result l u).back);
+      narrow = λ w a b h k. simp to_z-of_z (maximum_narrow w a b c.in_ok-x.x.lo c.in_ok-x.x.hi c.in_ok-y.y.lo c.in_ok-y.y.hi c.max.result c.max-2.result l u (rw c.in_ok-x.was at h) (rw c.in_ok-y.was at k));
+    }

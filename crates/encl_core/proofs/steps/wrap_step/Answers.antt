@@ -1,5 +1,6 @@
 use Rattle.std.proofs.Common.{◌≡◌, refl, ℤ, Option, Some, None, IsSome}
 use Rattle.book_model.specs.Expressions.{remainder}
+use Rattle.book_model.specs.Leading.{between_cells}
 use Rattle.book_model.specs.Programs.{answer, multiples}
 use Rattle.book_model.proofs.Leads.{leads_cell, leads_open_cell, leads_answer, lies}
 use Rattle.encl_core.proofs.steps.wrap_step.Goals as goal
@@ -17,4 +18,4 @@ returns-in-Ok-clause-leads g c = λ w e h.
 pub returns-in-Err-clause-leads : goal.returns-in-Err-clause-leads
 returns-in-Err-clause-leads g c = λ w e h.
     rw (← c.in-Err.ensures.named.0)
-    (leads_open_cell (multiples c.args.modulus) e _ (λ p. answer (remainder c.args.modulus e p)) _ c.in-Err.at (lies h) c.in-Err.ensures.named.1 c.in-Err.ensures.undecided)
+    (leads_open_cell (multiples c.args.modulus) e _ (λ p. answer (remainder c.args.modulus e p)) _ c.in-Err.at (lies h) c.in-Err.ensures.named.1 (between_cells c.in-Err.ensures.undecided.open_there c.in-Err.ensures.undecided.ends))

@@ -13,6 +13,7 @@ returns c =
     record {
       value = simp to_z-of_z (last_is c.args.hi c.octants_in.result e);
       begun = simp to_z-of_z (omega (arith, ints, q.not_above));
+      ended = simp to_z-of_z (omega (arith, ints, q.close));
       above = simp to_z-of_z (omega (arith, ints, c.requires, q.not_above, q.close));
       below = simp to_z-of_z (omega (arith, ints, c.requires, q.not_above, q.close));
     }

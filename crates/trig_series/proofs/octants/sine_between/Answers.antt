@@ -1,4 +1,4 @@
-use Rattle.std.proofs.Common.{rules, arith, SFits, refl}
+use Rattle.std.proofs.Common.{rules, arith, SFits}
 use Rattle.std.specs.Int.{w128}
 use Rattle.std.proofs.lemmas.Int.{ints, to_z-of_z}
 use Rattle.book_model.specs.Leading.{at_56}
@@ -16,7 +16,7 @@ returns-then-last-first-clause-holds c =
     let e = simp to_z-of_z at c.first_met-first.ensures.value in
     let f = simp to_z-of_z at c.last_met-last.ensures.value in
     let t = simp to_z-of_z at c.if-last-first.true in
-    let h = simp to_z-of_z at c.sine_in.ensures.holds in
+    let h = simp to_z-of_z at c.sine_within.ensures.holds in
     λ n l.
     over_holds n c.args.lo c.args.hi c.first_met-first.result c.last_met-last.result _ _ l c.requires.ordered e f
     (λ k from to. first_alone (in_octant n (at_56 c.args.lo) (at_56 c.args.hi)) _ c.first_met-first.result (h n l) k from (omega (arith, ints, to, t)))
@@ -27,8 +27,8 @@ returns-then-last-first-clause-narrow c =
     let fh = c.ranges.hi in
     let ff : SFits w128 c.first_met-first.result = search rules in
     let ft : SFits w128 c.last_met-last.result = search rules in
-    let n = simp to_z-of_z at c.sine_in.ensures.narrow in
-    one_narrow c.first_met-first.result c.args.lo c.args.hi _ _ c.sine_in.result.lo c.sine_in.result.hi refl refl n
+    let n = simp to_z-of_z at c.sine_within.ensures.narrow in
+    one_narrow c.args.lo c.args.hi c.sine_within.result.lo c.sine_within.result.hi n
 
 pub returns-then-last-first-clause-small : goal.returns-then-last-first-clause-small
 returns-then-last-first-clause-small c =
@@ -36,7 +36,7 @@ returns-then-last-first-clause-small c =
     let fh = c.ranges.hi in
     let ff : SFits w128 c.first_met-first.result = search rules in
     let ft : SFits w128 c.last_met-last.result = search rules in
-    simp to_z-of_z at c.sine_in.ensures.small
+    simp to_z-of_z at c.sine_within.ensures.small
 
 pub returns-then-last-first-clause-crest : goal.returns-then-last-first-clause-crest
 returns-then-last-first-clause-crest c =
@@ -44,7 +44,7 @@ returns-then-last-first-clause-crest c =
     let fh = c.ranges.hi in
     let ff : SFits w128 c.first_met-first.result = search rules in
     let ft : SFits w128 c.last_met-last.result = search rules in
-    simp to_z-of_z at c.sine_in.ensures.crest
+    simp to_z-of_z at c.sine_within.ensures.crest
 
 pub returns-clause-holds : goal.returns-clause-holds
 returns-clause-holds c =

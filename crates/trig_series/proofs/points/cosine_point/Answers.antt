@@ -1,5 +1,6 @@
 use Rattle.std.proofs.Common.{arith}
 use Rattle.std.proofs.lemmas.Int.{ints}
+use Rattle.trig_series.proofs.KernelAngles.{by_lower}
 use Rattle.trig_series.proofs.PointLemmas.{cosine_same, cosine_around, cosine_close, cosine_of_none, cosine_of_eighth, near_full, near_cosine_eighth}
 use Rattle.trig_series.proofs.points.cosine_point.Goals as goal
 
@@ -32,4 +33,4 @@ pub returns-clause-near : goal.returns-clause-near
 returns-clause-near c =
     let low = c.around.ensures.low_close in
     let high = c.around.ensures.high_close in
-    cosine_close c.args.degrees c.cosine_of.result _ _ c.cosine_of.ensures.there (omega (arith, ints, low)) (omega (arith, ints, high))
+    cosine_close c.args.degrees c.cosine_of.result _ _ (c.cosine_of.ensures.ends 9 _ (omega arith) (by_lower c.args.degrees)) (omega (arith, ints, low)) (omega (arith, ints, high))

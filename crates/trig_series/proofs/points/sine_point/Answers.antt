@@ -1,5 +1,6 @@
 use Rattle.std.proofs.Common.{arith}
 use Rattle.std.proofs.lemmas.Int.{ints}
+use Rattle.trig_series.proofs.KernelAngles.{by_lower}
 use Rattle.trig_series.proofs.PointLemmas.{sine_same, sine_around, sine_close, sine_of_none, sine_of_eighth, near_none, near_sine_eighth}
 use Rattle.trig_series.proofs.points.sine_point.Goals as goal
 
@@ -32,4 +33,4 @@ pub returns-clause-near : goal.returns-clause-near
 returns-clause-near c =
     let low = c.around.ensures.low_close in
     let high = c.around.ensures.high_close in
-    sine_close c.args.degrees c.sine_of.result _ _ c.sine_of.ensures.there (omega (arith, ints, low)) (omega (arith, ints, high))
+    sine_close c.args.degrees c.sine_of.result _ _ (c.sine_of.ensures.ends 8 _ (omega arith) (by_lower c.args.degrees)) (omega (arith, ints, low)) (omega (arith, ints, high))

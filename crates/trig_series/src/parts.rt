@@ -1,0 +1,98 @@
+//! The sine over a part of one octant: the series at its angle of the fewest radians, and how far the other angles may
+//! lead from there.
+ghost use Rattle.std.specs.Prelude.{◌≤◌, ℕ, pos, ◌≤ℤ◌, ◌+ℤ◌, ◌-ℤ◌, ◌*ℤ◌, unsigned_abs};
+ghost use Rattle.exact_math.specs.Fraction.{Fraction, ◌≈◌};
+ghost use Rattle.exact_math.specs.Interval.{between, ◌⊆◌};
+ghost use Rattle.book_model.specs.Leading.{at_56};
+ghost use Rattle.book_model.specs.Octants.{radians, sine_into as into_octant};
+ghost use Rattle.book_model.specs.Series.{sine_series, cosine_series};
+ghost use Rattle.trig_series.specs.Points.{IsSmall, IsAround, IsPart};
+
+use crate::kernel::{cosine_of, sine_of};
+use crate::points::{OCTANT, around, opposite};
+use encl_core::Span;
+
+/// How far a sine or a cosine moves at most over so many degrees of an octant: a 57th of them, rounded up.
+#[inline(always)]
+fn most_moved(degrees: u64) -> i128
+    requires octant { degrees ≤ 3242591731706757120 }
+    ensures enough { pos degrees ≤ℤ (pos 57 *ℤ result) }
+    ensures close { (pos 57 *ℤ result) ≤ℤ (pos degrees +ℤ pos 56) }
+{
+    i128::from(degrees.div_ceil(57))
+}
+
+/// The sine from so many degrees of an octant to as many more, which count 2⁻⁵⁶. It rises.
+#[inline(always)]
+fn sine_part(from: u64, to: u64) -> Span
+    requires ordered { from ≤ to }
+    requires octant { to ≤ 3242591731706757120 }
+    ensures holds { (n d : ℕ) (y : Fraction) → 40 ≤ n → from ≤ d → d ≤ to → y ≈ at_56 (pos d) → sine_series n (radians n y) ⊆ between (at_56 result.lo) (at_56 result.hi) }
+    ensures narrow { (pos 57 *ℤ (result.hi -ℤ result.lo)) ≤ℤ ((pos to -ℤ pos from) +ℤ pos 513) }
+    ensures room { IsSmall result.lo result.hi }
+    ensures small { IsAround (pos 0) (pos to) result.lo result.hi }
+{
+    let point = around(sine_of(from));
+    Span {
+        lo: point.lo,
+        hi: point.hi + most_moved(to - from),
+    }
+}
+
+/// The cosine from so many degrees of an octant to as many more, which count 2⁻⁵⁶. It falls.
+#[inline(always)]
+fn cosine_part(from: u64, to: u64) -> Span
+    requires ordered { from ≤ to }
+    requires octant { to ≤ 3242591731706757120 }
+    ensures holds { (n d : ℕ) (y : Fraction) → 40 ≤ n → from ≤ d → d ≤ to → y ≈ at_56 (pos d) → cosine_series n (radians n y) ⊆ between (at_56 result.lo) (at_56 result.hi) }
+    ensures narrow { (pos 57 *ℤ (result.hi -ℤ result.lo)) ≤ℤ ((pos to -ℤ pos from) +ℤ pos 513) }
+    ensures room { IsSmall result.lo result.hi }
+    ensures crest { IsAround (pos 72057594037927936) (pos to) result.lo result.hi }
+{
+    let point = around(cosine_of(from));
+    Span {
+        lo: point.lo - most_moved(to - from),
+        hi: point.hi,
+    }
+}
+
+/// The sine from so many degrees into an octant of the first half turn to as many more.
+#[inline(always)]
+fn part_of_half(octant: i128, from: u64, to: u64) -> Span
+    requires first { pos 0 ≤ℤ octant }
+    requires last { octant ≤ℤ pos 3 }
+    requires ordered { from ≤ to }
+    requires high { to ≤ 3242591731706757120 }
+    ensures holds { (n d : ℕ) (y : Fraction) → 40 ≤ n → from ≤ d → d ≤ to → y ≈ at_56 (pos d) → into_octant n (unsigned_abs octant) y ⊆ between (at_56 result.lo) (at_56 result.hi) }
+    ensures narrow { (pos 57 *ℤ (result.hi -ℤ result.lo)) ≤ℤ ((pos to -ℤ pos from) +ℤ pos 513) }
+    ensures room { IsSmall result.lo result.hi }
+    ensures near { IsPart (unsigned_abs octant) from to result.lo result.hi }
+{
+    if octant == 0 {
+        return sine_part(from, to);
+    }
+    if octant == 1 {
+        return cosine_part(OCTANT - to, OCTANT - from);
+    }
+    if octant == 2 {
+        return cosine_part(from, to);
+    }
+    sine_part(OCTANT - to, OCTANT - from)
+}
+
+/// The sine from so many degrees into an octant of a turn to as many more.
+#[inline(always)]
+pub(crate) fn part_of_turn(octant: i128, from: u64, to: u64) -> Span
+    requires first { pos 0 ≤ℤ octant }
+    requires last { octant ≤ℤ pos 7 }
+    requires ordered { from ≤ to }
+    requires high { to ≤ 3242591731706757120 }
+    ensures holds { (n d : ℕ) (y : Fraction) → 40 ≤ n → from ≤ d → d ≤ to → y ≈ at_56 (pos d) → into_octant n (unsigned_abs octant) y ⊆ between (at_56 result.lo) (at_56 result.hi) }
+    ensures narrow { (pos 57 *ℤ (result.hi -ℤ result.lo)) ≤ℤ ((pos to -ℤ pos from) +ℤ pos 513) }
+    ensures near { IsPart (unsigned_abs octant) from to result.lo result.hi }
+{
+    if octant >= 4 {
+        return opposite(part_of_half(octant - 4, from, to));
+    }
+    part_of_half(octant, from, to)
+}
