@@ -11,6 +11,7 @@ ghost use Rattle.book_model.specs.Programs.{AtMost};
 ghost use Rattle.book_model.specs.Leading.{Exact, Leads};
 ghost use Rattle.book_model.specs.Relations.{Within, Narrow};
 ghost use Rattle.fact_eval.specs.Widths.{IsNearFor};
+ghost use Rattle.book_model.specs.Depth.{DEPTH};
 
 use book_model::{Fail, HALF, MILLISECONDS_OF_DAY, Site};
 use encl_core::{Enclosure, Trail, floor_step};
@@ -32,7 +33,7 @@ fn milliseconds<E: Enclosure>(days: E) -> E
 pub(crate) fn dt<E: Enclosure>(day: i64, trail: &mut Trail) -> Result<i64, Fail>
     requires day { IsValueDay day }
     ensures few { AtMost 99999 (dt_of day) }
-    ensures leads { (w : World) → 40 ≤ w.depth → Leads w Exact (dt_of day) trail.old.count trail.new.count result }
+    ensures leads { (w : World) → DEPTH ≤ w.depth → Leads w Exact (dt_of day) trail.old.count trail.new.count result }
     ensures counted { trail.new.count ≤ trail.old.count + 2 }
     ensures value { IfOk result IsFactValue }
     ensures open { E.BITS ≡ 36 → IfErr result (IsNearFor Dt (year_of_day day)) }

@@ -10,6 +10,7 @@ ghost use Rattle.book_model.specs.Relations.{Within};
 ghost use Rattle.book_model.specs.Time.{midnight_of, in_beijing_of};
 ghost use Rattle.book_model.specs.declared.fact.Kind.TheVariants.{NewMoonBefore, NewMoonFrom};
 ghost use Rattle.fact_eval.specs.Widths.{IsNearFor};
+ghost use Rattle.book_model.specs.Depth.{DEPTH};
 
 use book_model::{Fail, Site};
 use encl_core::{Enclosure, Trail, floor_step};
@@ -31,7 +32,7 @@ fn day_in_beijing<E: Enclosure>(t: E, trail: &mut Trail) -> Result<i64, Fail>
 /// The day (R.D.) in Beijing of the last new moon before midnight at the beginning of a day there.
 #[tactic(auto, using(book_model::proofs::Leads::leading), unfolding(book_model::specs::Kinds::new_moon_before_of))]
 fn day_of_moon_before<E: Enclosure>(day: i64, trail: &mut Trail) -> Result<i64, Fail>
-    ensures leads { (w : World) → 40 ≤ w.depth → Leads w Exact (new_moon_before_of day) trail.old.count trail.new.count result }
+    ensures leads { (w : World) → DEPTH ≤ w.depth → Leads w Exact (new_moon_before_of day) trail.old.count trail.new.count result }
     ensures counted { trail.new.count ≤ trail.old.count + 27 }
 {
     match moon_before(midnight::<E>(day), trail) {
@@ -43,7 +44,7 @@ fn day_of_moon_before<E: Enclosure>(day: i64, trail: &mut Trail) -> Result<i64, 
 /// The day (R.D.) in Beijing of the first new moon at or after midnight at the beginning of a day there.
 #[tactic(auto, using(book_model::proofs::Leads::leading), unfolding(book_model::specs::Kinds::new_moon_from_of))]
 fn day_of_moon_from<E: Enclosure>(day: i64, trail: &mut Trail) -> Result<i64, Fail>
-    ensures leads { (w : World) → 40 ≤ w.depth → Leads w Exact (new_moon_from_of day) trail.old.count trail.new.count result }
+    ensures leads { (w : World) → DEPTH ≤ w.depth → Leads w Exact (new_moon_from_of day) trail.old.count trail.new.count result }
     ensures counted { trail.new.count ≤ trail.old.count + 27 }
 {
     match moon_from(midnight::<E>(day), trail) {
@@ -57,7 +58,7 @@ fn day_of_moon_from<E: Enclosure>(day: i64, trail: &mut Trail) -> Result<i64, Fa
 pub(crate) fn new_moon_before<E: Enclosure>(day: i64, trail: &mut Trail) -> Result<i64, Fail>
     requires day { IsValueDay day }
     ensures few { AtMost 99999 (new_moon_before_of day) }
-    ensures leads { (w : World) → 40 ≤ w.depth → Leads w Exact (new_moon_before_of day) trail.old.count trail.new.count result }
+    ensures leads { (w : World) → DEPTH ≤ w.depth → Leads w Exact (new_moon_before_of day) trail.old.count trail.new.count result }
     ensures counted { trail.new.count ≤ trail.old.count + 27 }
     ensures value { IfOk result IsFactValue }
     ensures open { IfErr result (IsNearFor NewMoonBefore (year_of_day day)) }
@@ -70,7 +71,7 @@ pub(crate) fn new_moon_before<E: Enclosure>(day: i64, trail: &mut Trail) -> Resu
 pub(crate) fn new_moon_from<E: Enclosure>(day: i64, trail: &mut Trail) -> Result<i64, Fail>
     requires day { IsValueDay day }
     ensures few { AtMost 99999 (new_moon_from_of day) }
-    ensures leads { (w : World) → 40 ≤ w.depth → Leads w Exact (new_moon_from_of day) trail.old.count trail.new.count result }
+    ensures leads { (w : World) → DEPTH ≤ w.depth → Leads w Exact (new_moon_from_of day) trail.old.count trail.new.count result }
     ensures counted { trail.new.count ≤ trail.old.count + 27 }
     ensures value { IfOk result IsFactValue }
     ensures open { IfErr result (IsNearFor NewMoonFrom (year_of_day day)) }

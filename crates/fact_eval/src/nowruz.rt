@@ -9,6 +9,7 @@ ghost use Rattle.book_model.specs.Programs.{AtMost};
 ghost use Rattle.book_model.specs.Leading.{Exact, Leads};
 ghost use Rattle.book_model.specs.Relations.{Within};
 ghost use Rattle.fact_eval.specs.Widths.{IsNearFor};
+ghost use Rattle.book_model.specs.Depth.{DEPTH};
 
 use book_model::{Fail, Site};
 use encl_core::{DayTest, Enclosure, Trail, first_day, floor_step, less_step};
@@ -22,7 +23,7 @@ struct SpringAtNoon;
 #[tactic(auto, using(book_model::proofs::Leads::leading), unfolding(book_model::specs::Kinds::longitude_at_noon_of, book_model::specs::Leading::next_turn))]
 fn longitude_at_noon<E: Enclosure>(day: i64, trail: &mut Trail) -> Result<E, Fail>
     requires day { IsFactDay day }
-    ensures leads { (w : World) → 40 ≤ w.depth → Leads w (Within E.shown w) (longitude_at_noon_of day) trail.old.count trail.new.count result }
+    ensures leads { (w : World) → DEPTH ≤ w.depth → Leads w (Within E.shown w) (longitude_at_noon_of day) trail.old.count trail.new.count result }
     ensures counted { trail.new.count ≤ trail.old.count + 3 }
 {
     match noon::<E>(day, trail) {
@@ -34,7 +35,7 @@ fn longitude_at_noon<E: Enclosure>(day: i64, trail: &mut Trail) -> Result<E, Fai
 /// Whether a longitude is at most 2 degrees, as one test.
 #[tactic(auto, using(book_model::proofs::Leads::leading), unfolding(book_model::specs::Kinds::is_at_most_two_of, book_model::specs::Leading::next_turn))]
 fn is_at_most_two<E: Enclosure>(longitude: E, trail: &mut Trail) -> Result<bool, Fail>
-    ensures leads { (w : World) (x : Expression) → 40 ≤ w.depth → Within E.shown w x longitude → Leads w Exact (is_at_most_two_of x) trail.old.count trail.new.count result }
+    ensures leads { (w : World) (x : Expression) → DEPTH ≤ w.depth → Within E.shown w x longitude → Leads w Exact (is_at_most_two_of x) trail.old.count trail.new.count result }
     ensures counted { trail.new.count ≤ trail.old.count + 1 }
 {
     match less_step(E::from_int(2), longitude, Site::DayTest, trail) {
@@ -47,7 +48,7 @@ fn is_at_most_two<E: Enclosure>(longitude: E, trail: &mut Trail) -> Result<bool,
 #[tactic(auto, using(book_model::proofs::Leads::leading), unfolding(book_model::specs::Kinds::has_spring_at_noon, book_model::specs::Leading::next_turn))]
 fn has_spring<E: Enclosure>(day: i64, trail: &mut Trail) -> Result<bool, Fail>
     requires day { IsFactDay day }
-    ensures leads { (w : World) → 40 ≤ w.depth → Leads w Exact (has_spring_at_noon day) trail.old.count trail.new.count result }
+    ensures leads { (w : World) → DEPTH ≤ w.depth → Leads w Exact (has_spring_at_noon day) trail.old.count trail.new.count result }
     ensures counted { trail.new.count ≤ trail.old.count + 4 }
 {
     match longitude_at_noon::<E>(day, trail) {
@@ -69,7 +70,7 @@ impl<E: Enclosure> DayTest<E> for SpringAtNoon {
 #[tactic(auto, using(book_model::proofs::Leads::leading), unfolding(book_model::specs::Kinds::last_equinox_of, book_model::specs::Leading::next_turn))]
 fn last_equinox<E: Enclosure>(day: i64, trail: &mut Trail) -> Result<E, Fail>
     requires day { IsFactDay day }
-    ensures leads { (w : World) → 40 ≤ w.depth → Leads w (Within E.shown w) (last_equinox_of day) trail.old.count trail.new.count result }
+    ensures leads { (w : World) → DEPTH ≤ w.depth → Leads w (Within E.shown w) (last_equinox_of day) trail.old.count trail.new.count result }
     ensures counted { trail.new.count ≤ trail.old.count + 7 }
 {
     match noon::<E>(day, trail) {
@@ -83,7 +84,7 @@ fn last_equinox<E: Enclosure>(day: i64, trail: &mut Trail) -> Result<E, Fail>
 #[tactic(auto, using(book_model::proofs::Leads::leading), unfolding(book_model::specs::Kinds::search_start_of, book_model::specs::Leading::next_turn))]
 fn search_start<E: Enclosure>(day: i64, trail: &mut Trail) -> Result<i64, Fail>
     requires day { IsValueDay day }
-    ensures leads { (w : World) → 40 ≤ w.depth → Leads w Exact (search_start_of day) trail.old.count trail.new.count result }
+    ensures leads { (w : World) → DEPTH ≤ w.depth → Leads w Exact (search_start_of day) trail.old.count trail.new.count result }
     ensures from { IfOk result (λ q. (day -ℤ pos 600) ≤ℤ q) }
     ensures to { IfOk result (λ q. q ≤ℤ (day +ℤ pos 2)) }
     ensures counted { trail.new.count ≤ trail.old.count + 8 }
@@ -101,7 +102,7 @@ fn search_start<E: Enclosure>(day: i64, trail: &mut Trail) -> Result<i64, Fail>
 pub(crate) fn nowruz<E: Enclosure>(day: i64, trail: &mut Trail) -> Result<i64, Fail>
     requires day { IsValueDay day }
     ensures few { AtMost 99999 (nowruz_of day) }
-    ensures leads { (w : World) → 40 ≤ w.depth → Leads w Exact (nowruz_of day) trail.old.count trail.new.count result }
+    ensures leads { (w : World) → DEPTH ≤ w.depth → Leads w Exact (nowruz_of day) trail.old.count trail.new.count result }
     ensures value { IfOk result IsFactValue }
     ensures counted { trail.new.count ≤ trail.old.count + 5000 }
     ensures open { IfErr result (IsNearFor Nowruz (year_of_day day)) }

@@ -9,6 +9,7 @@ ghost use Rattle.book_model.specs.Leading.{Exact, Leads};
 ghost use Rattle.book_model.specs.Programs.{AtMost};
 ghost use Rattle.fact_eval.specs.Answers.{answer_of};
 ghost use Rattle.fact_eval.specs.Widths.{IsNearFor};
+ghost use Rattle.book_model.specs.Depth.{DEPTH};
 
 use crate::dt::dt;
 use crate::moon_days::{new_moon_before, new_moon_from};
@@ -39,7 +40,7 @@ fn formula<E: Enclosure>(
 ) -> Result<i64, Fail>
     requires day { IsValueDay day }
     ensures few { AtMost 99999 (formula_of kind _place day) }
-    ensures leads { (w : World) → 40 ≤ w.depth → Leads w Exact (formula_of kind _place day) trail.old.count trail.new.count result }
+    ensures leads { (w : World) → DEPTH ≤ w.depth → Leads w Exact (formula_of kind _place day) trail.old.count trail.new.count result }
     ensures value { IfOk result IsFactValue }
     ensures open { E.BITS ≡ 36 → IfErr result (IsNearFor kind (year_of_day day)) }
 {
@@ -63,7 +64,7 @@ fn may_have_value(day: i64) -> bool
 /// The value of a fact by its formula. It fails where a test is open, or where the formula is void.
 pub(crate) fn evaluate<E: Enclosure>(fact: Fact, trail: &mut Trail) -> Result<i64, Fail>
     ensures few { AtMost 99999 (program_of fact) }
-    ensures leads { (w : World) → 40 ≤ w.depth → Leads w Exact (program_of fact) trail.old.count trail.new.count result }
+    ensures leads { (w : World) → DEPTH ≤ w.depth → Leads w Exact (program_of fact) trail.old.count trail.new.count result }
     ensures value { IfOk result IsFactValue }
     ensures open { E.BITS ≡ 36 → IfErr result (IsNearFor fact.kind (year_of_day fact.day)) }
 {

@@ -8,6 +8,7 @@ ghost use Rattle.book_model.specs.declared.fact.Kind.TheVariants.{Sun};
 ghost use Rattle.book_model.specs.Programs.{AtMost};
 ghost use Rattle.book_model.specs.Leading.{Exact, Leads};
 ghost use Rattle.fact_eval.specs.Widths.{IsNearFor};
+ghost use Rattle.book_model.specs.Depth.{DEPTH};
 
 use book_model::{Fail, Site, THOUSANDTHS_OF_DEGREE};
 use encl_core::{Enclosure, Trail, floor_step};
@@ -19,7 +20,7 @@ use sun_core::sun;
 pub(crate) fn sun_in_thousandths<E: Enclosure>(day: i64, trail: &mut Trail) -> Result<i64, Fail>
     requires day { IsValueDay day }
     ensures few { AtMost 99999 (sun_in_thousandths_of day) }
-    ensures leads { (w : World) → 40 ≤ w.depth → Leads w Exact (sun_in_thousandths_of day) trail.old.count trail.new.count result }
+    ensures leads { (w : World) → DEPTH ≤ w.depth → Leads w Exact (sun_in_thousandths_of day) trail.old.count trail.new.count result }
     ensures counted { trail.new.count ≤ trail.old.count + 3 }
     ensures value { IfOk result IsFactValue }
     ensures open { E.BITS ≡ 36 → IfErr result (IsNearFor Sun (year_of_day day)) }

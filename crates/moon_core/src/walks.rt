@@ -4,6 +4,7 @@ ghost use Rattle.book_model.specs.Expressions.{Expression, World};
 ghost use Rattle.book_model.specs.Leading.{Leads, Exact, next_turn};
 ghost use Rattle.book_model.specs.Phases as spec;
 ghost use Rattle.book_model.specs.Relations.{Within};
+ghost use Rattle.book_model.specs.Depth.{DEPTH};
 
 use crate::phases::number;
 use book_model::{Fail, Site};
@@ -52,7 +53,7 @@ fn walk<E: Enclosure>(more: u32, t: E, n: i64, trail: &mut Trail) -> Result<i64,
 fn moon_preceding<E: Enclosure>(n: i64, trail: &mut Trail) -> Result<E, Fail>
     requires low { negsuc 39999998 ≤ℤ n }
     requires high { n ≤ℤ pos 40000000 }
-    ensures leads { (w : World) → 40 ≤ w.depth → Leads w (Within E.shown w) (spec.moon_preceding_of n) trail.old.count trail.new.count result }
+    ensures leads { (w : World) → DEPTH ≤ w.depth → Leads w (Within E.shown w) (spec.moon_preceding_of n) trail.old.count trail.new.count result }
     ensures counted { trail.new.count ≤ trail.old.count + 1 }
 {
     new_moon::<E>(n - 1, trail)

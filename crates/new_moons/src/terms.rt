@@ -6,6 +6,7 @@ ghost use Rattle.book_model.specs.Fractions.{fraction_of};
 ghost use Rattle.book_model.specs.NewMoons as spec;
 ghost use Rattle.book_model.specs.Relations.{Within, Narrow};
 ghost use Rattle.new_moons.specs.Angles.{HoldAngles, KeepAngles};
+ghost use Rattle.book_model.specs.Depth.{DEPTH};
 
 use crate::angles::Angles;
 use crate::powers::times_power;
@@ -72,7 +73,7 @@ fn planet_angle(phase: i64, rate: i64, number: i64) -> i128
 /// What a planet adds to a new moon by its number, counted from that of January 2000, in days.
 #[tactic(auto, unfolding(book_model::specs::NewMoons::planet_term_of))]
 fn planet_term<E: Enclosure>(term: &PlanetTerm, number: i64) -> E
-    ensures holds { (w : World) → 40 ≤ w.depth → Within E.shown w (spec.planet_term_of number term.now) result }
+    ensures holds { (w : World) → DEPTH ≤ w.depth → Within E.shown w (spec.planet_term_of number term.now) result }
     ensures narrow { (r : Reach) → Narrow E.shown (limits_of E.BITS) r (spec.planet_term_of number term.now) result }
 {
     let angle = E::from_frac(millionths(planet_angle(term.phase, term.rate, number)));

@@ -23,6 +23,16 @@ euclid_floor n (pos zero) q h e = absurd (omega (arith, ints, h))
 euclid_floor n (negsuc m) q h e = absurd (omega (arith, ints, h))
 euclid_floor n (pos (suc m)) q h e = let p : suc m - 1 ≡ m = omega arith in quotient_floor n q m (rw p at (e ∙ euclid_is n (suc m) (omega arith))) (floor_quotient_is n m)
 
+-- the quotient of a number below 0, by that of one as far above
+pub floor_below : (n d q : ℤ) → IsFloor q (negsuc 0 -ℤ n) d → IsFloor (negsuc 0 -ℤ q) n d
+floor_below n d q f =
+    let b = next_le _ _ f.close in
+    let less = lit (negsuc 0) in
+    record {
+      not_above = le_by (n ∷ d ∷ q ∷ []) (((less ⊖ at 0) ⊕ lit (pos 1) ≼ at 2 ⊗ at 1 ⊕ at 1) ∷ []) ((less ⊖ at 2) ⊗ at 1) (at 0) (known 0) refl (b, tt);
+      close = from_next _ _ (le_by (n ∷ d ∷ q ∷ []) ((at 2 ⊗ at 1 ≼ less ⊖ at 0) ∷ []) (at 0 ⊕ lit (pos 1)) ((less ⊖ at 2) ⊗ at 1 ⊕ at 1) (known 0) refl (f.not_above, tt));
+    }
+
 pub natural_floor : (m d q : ℕ) → 0 < d → q ≡ m / d → IsFloor (pos q) (pos m) (pos d)
 natural_floor m zero q h e = absurd (omega (arith, h))
 natural_floor m (suc d) q h e = rw e (record { not_above = omega (arith, ints); close = omega (arith, ints) })

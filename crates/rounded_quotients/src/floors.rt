@@ -10,6 +10,30 @@ fn narrow(n: i128) -> Option<i64>
     i64::try_from(n).ok()
 }
 
+/// The quotient of a number that isn't negative, rounded down.
+#[inline(always)]
+fn natural_floor(n: i64, d: i64) -> i64
+    requires natural { pos 0 ≤ℤ n }
+    requires divisor { pos 0 <ℤ d }
+    ensures floor { IsFloor result n d }
+    ensures natural { pos 0 ≤ℤ result }
+{
+    n / d
+}
+
+/// The quotient of `n` by `d`, rounded down, in 64 bits. By a constant it is a multiplication.
+#[inline(always)]
+pub fn floor_64(n: i64, d: i64) -> i64
+    requires { pos 0 <ℤ d }
+    ensures { IsFloor result n d }
+{
+    if n < 0 {
+        -1 - natural_floor(-1 - n, d)
+    } else {
+        natural_floor(n, d)
+    }
+}
+
 /// The quotient of `n` by `d`, rounded down, in 64 bits, where both fit: there a division is many times faster.
 #[inline(always)]
 fn narrow_floor(n: i128, d: i128) -> Option<i64>
@@ -18,7 +42,7 @@ fn narrow_floor(n: i128, d: i128) -> Option<i64>
 {
     let n = narrow(n)?;
     let d = narrow(d)?;
-    Some(n.div_euclid(d))
+    Some(floor_64(n, d))
 }
 
 /// A divisor below 2³⁵.
@@ -72,15 +96,6 @@ fn low_part(number: i128, upper: i128) -> u64
     (number - upper * 536_870_912) as u64
 }
 
-/// The quotient of a number by a small divisor, rounded down.
-#[inline(always)]
-fn upper_floor(number: i64, d: i64) -> i64
-    requires { pos 0 <ℤ d }
-    ensures { IsFloor result number d }
-{
-    number.div_euclid(d)
-}
-
 /// The quotient of `n` by `d`, rounded down, in two steps of 64 bits, where `d` is small and the upper part of `n` fits.
 #[inline(always)]
 fn stepped_floor(n: i128, d: i128) -> Option<i128>
@@ -90,7 +105,7 @@ fn stepped_floor(n: i128, d: i128) -> Option<i128>
     let d = small_divisor(d)?;
     let part = upper_part(n);
     let upper = narrow(part)?;
-    let quotient = upper_floor(upper, d);
+    let quotient = floor_64(upper, d);
     let rest = rest_of(upper, quotient, d);
     let last = last_step(rest, low_part(n, part), d as u64);
     Some(i128::from(quotient) * 536_870_912 + i128::from(last))

@@ -7,6 +7,7 @@ ghost use Rattle.book_model.specs.Leading.{Leads, next_turn};
 ghost use Rattle.book_model.specs.Noon.{ahead_of, from_apparent_of, noon_of};
 ghost use Rattle.book_model.specs.Relations.{Within, Narrow};
 ghost use Rattle.sun_core.specs.Steps.{apparent_noon_of};
+ghost use Rattle.book_model.specs.Depth.{DEPTH};
 
 use crate::equation::equation_of_time;
 use book_model::{DEGREE_IN_DAYS, Fail, Frac, HALF, PERSIAN_NOON_LONGITUDE};
@@ -15,7 +16,7 @@ use encl_core::{Enclosure, Trail};
 /// What local mean time is ahead of universal time at a longitude, in days.
 #[tactic(auto, unfolding(book_model::specs::Noon::ahead_of))]
 fn ahead<E: Enclosure>(longitude: Frac) -> E
-    ensures holds { (w : World) → 40 ≤ w.depth → Within E.shown w (ahead_of (fraction_of longitude)) result }
+    ensures holds { (w : World) → DEPTH ≤ w.depth → Within E.shown w (ahead_of (fraction_of longitude)) result }
     ensures narrow { (r : Reach) → Narrow E.shown (limits_of E.BITS) r (ahead_of (fraction_of longitude)) result }
 {
     E::from_frac(longitude).mul_frac(DEGREE_IN_DAYS)
@@ -38,7 +39,7 @@ pub fn from_apparent<E: Enclosure>(longitude: Frac, t: E, trail: &mut Trail) -> 
 /// The middle of a day.
 #[tactic(auto, unfolding(crate::specs::Steps::apparent_noon_of))]
 fn apparent_noon<E: Enclosure>(day: i64) -> E
-    ensures holds { (w : World) → 40 ≤ w.depth → Within E.shown w (apparent_noon_of day) result }
+    ensures holds { (w : World) → DEPTH ≤ w.depth → Within E.shown w (apparent_noon_of day) result }
     ensures narrow { (r : Reach) → Narrow E.shown (limits_of E.BITS) r (apparent_noon_of day) result }
 {
     E::from_int(day).add(E::from_frac(HALF))
@@ -50,7 +51,7 @@ fn apparent_noon<E: Enclosure>(day: i64) -> E
 pub fn noon<E: Enclosure>(d: i64, trail: &mut Trail) -> Result<E, Fail>
     requires from { negsuc 39999999 ≤ℤ d }
     requires to { d ≤ℤ pos 40000000 }
-    ensures leads { (w : World) → 40 ≤ w.depth → Leads w (Within E.shown w) (noon_of d) trail.old.count trail.new.count result }
+    ensures leads { (w : World) → DEPTH ≤ w.depth → Leads w (Within E.shown w) (noon_of d) trail.old.count trail.new.count result }
     ensures counted { trail.new.count ≡ next_turn trail.old.count }
 {
     match from_apparent(PERSIAN_NOON_LONGITUDE, apparent_noon::<E>(d), trail) {

@@ -9,6 +9,7 @@ ghost use Rattle.book_model.specs.Relations.{Within, Narrow};
 ghost use Rattle.book_model.specs.Time.{hundreds_of, centuries_to_july, correction_of_year, correction_at, dynamical_of, from_dynamical_of, in_centuries, centuries_of};
 ghost use Rattle.time_scales.specs.Steps.{IsYearOpenFor};
 ghost use Rattle.time_scales.specs.Corrections.{row_of, IsInRow, correction_by, computed_by, computed_of, correction_bound};
+ghost use Rattle.book_model.specs.Depth.{DEPTH};
 
 use crate::calendar;
 use crate::moment::year;
@@ -85,7 +86,7 @@ fn seconds<E: Enclosure>(coefficients: &[Frac], year: i64) -> E
     requires few { length coefficients.now ≤ 8 }
     requires from { pos 1987 ≤ℤ year }
     requires to { year ≤ℤ pos 2050 }
-    ensures holds { (w : World) → 40 ≤ w.depth → Within E.shown w (seconds_of coefficients.now year) result }
+    ensures holds { (w : World) → DEPTH ≤ w.depth → Within E.shown w (seconds_of coefficients.now year) result }
     ensures narrow { (r : Reach) → Narrow E.shown (limits_of E.BITS) r (seconds_of coefficients.now year) result }
 {
     at_whole::<E>(coefficients, year - 2000).mul_frac(SECOND)
@@ -94,7 +95,7 @@ fn seconds<E: Enclosure>(coefficients: &[Frac], year: i64) -> E
 /// The correction of a year by its row of the table, in days.
 fn correction_in_row<E: Enclosure>(row: Row, year: i64) -> E
     requires row { IsInRow row year }
-    ensures holds { (w : World) → 40 ≤ w.depth → Within E.shown w (correction_by row year) result }
+    ensures holds { (w : World) → DEPTH ≤ w.depth → Within E.shown w (correction_by row year) result }
     ensures narrow { (r : Reach) → Narrow E.shown (limits_of E.BITS) r (computed_by row year) result }
 {
     match row {
@@ -109,7 +110,7 @@ fn correction_in_row<E: Enclosure>(row: Row, year: i64) -> E
 /// Dynamical time less universal time in a year, in days (Reingold and Dershowitz, Calendrical Calculations, chapter
 /// 14, ephemeris correction). It makes no test, and is void at `year` outside -499 to 499 and 1800 to 2050.
 pub fn correction<E: Enclosure>(year: i64, trail: &mut Trail) -> Result<E, Fail>
-    ensures leads { (w : World) → 40 ≤ w.depth → Leads w (Within E.shown w) (correction_of_year year) trail.old.count trail.new.count result }
+    ensures leads { (w : World) → DEPTH ≤ w.depth → Leads w (Within E.shown w) (correction_of_year year) trail.old.count trail.new.count result }
     ensures narrow { IfOk result (λ e. (r : Reach) → Narrow E.shown (limits_of E.BITS) r (computed_of year) e) }
     ensures close { 36 ≤ E.BITS → E.BITS ≤ 56 → pos 1987 ≤ℤ year → year ≤ℤ pos 2050 → IfOk result (λ e. IsNarrow 0 (correction_bound E.BITS) (E.shown e)) }
     ensures void { IfErr result (λ f. f ≡ Fail.Void Site.Year) }

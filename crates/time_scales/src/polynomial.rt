@@ -7,6 +7,7 @@ ghost use Rattle.book_model.specs.Fractions.{fraction_of};
 ghost use Rattle.book_model.specs.Polynomials.{quadratic_of, cubic_of, quartic_of, polynomial_at};
 ghost use Rattle.book_model.specs.Relations.{Within, Narrow};
 ghost use Rattle.time_scales.specs.Horner.{horner_of};
+ghost use Rattle.book_model.specs.Depth.{DEPTH};
 
 use book_model::{Cubic, Frac, Quadratic, Quartic};
 use encl_core::Enclosure;
@@ -59,7 +60,7 @@ pub fn quartic<E: Enclosure>(coefficients: &Quartic, x: E) -> E
 pub(crate) fn at_whole<E: Enclosure>(coefficients: &[Frac], x: i64) -> E
     requires few { length coefficients.now ≤ 8 }
     requires small { unsigned_abs x ≤ 64 }
-    ensures holds { (w : World) → 40 ≤ w.depth → Within E.shown w (polynomial_of coefficients.now x) result }
+    ensures holds { (w : World) → DEPTH ≤ w.depth → Within E.shown w (polynomial_of coefficients.now x) result }
     ensures narrow { (r : Reach) → Narrow E.shown (limits_of E.BITS) r (polynomial_of coefficients.now x) result }
 {
     let mut sum = E::from_int(0);
@@ -76,7 +77,7 @@ pub(crate) fn at_whole<E: Enclosure>(coefficients: &[Frac], x: i64) -> E
 #[inline(always)]
 #[tactic(auto, using(crate::proofs::HornerLemmas::horner))]
 pub fn at_fraction<E: Enclosure>(coefficients: &[Frac], x: Frac) -> E
-    ensures holds { (w : World) → 40 ≤ w.depth → Within E.shown w (polynomial_at coefficients.now (fraction_of x)) result }
+    ensures holds { (w : World) → DEPTH ≤ w.depth → Within E.shown w (polynomial_at coefficients.now (fraction_of x)) result }
     ensures narrow { (r : Reach) → Narrow E.shown (limits_of E.BITS) r (horner_of coefficients.now (fraction_of x)) result }
 {
     let mut sum = E::from_int(0);

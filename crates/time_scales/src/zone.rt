@@ -5,6 +5,7 @@ ghost use Rattle.book_model.specs.Expressions.{Expression, World};
 ghost use Rattle.book_model.specs.Leading.{Leads, next_turn};
 ghost use Rattle.book_model.specs.Relations.{Within, Narrow};
 ghost use Rattle.book_model.specs.Time.{beijing_hours, zone_of_beijing, midnight_of, in_beijing_of};
+ghost use Rattle.book_model.specs.Depth.{DEPTH};
 
 use book_model::{BEIJING_HOURS, Fail, HOUR, Site};
 use encl_core::{Enclosure, Trail, less_step};
@@ -15,7 +16,7 @@ const STANDARD_TIME: i64 = 704_188;
 /// The hours by which the time of Beijing is ahead of universal time, before 1929 and from then on.
 #[tactic(auto, unfolding(book_model::specs::Time::beijing_hours))]
 fn hours<E: Enclosure>(early: bool) -> E
-    ensures holds { (w : World) → 40 ≤ w.depth → Within E.shown w (beijing_hours early) result }
+    ensures holds { (w : World) → DEPTH ≤ w.depth → Within E.shown w (beijing_hours early) result }
     ensures narrow { (r : Reach) → Narrow E.shown (limits_of E.BITS) r (beijing_hours early) result }
 {
     if early {
@@ -48,7 +49,7 @@ fn is_early(day: i64) -> bool
 /// Midnight at the beginning of a day (R.D.) in Beijing, in universal time. Its zone goes by the day, so it makes no test.
 #[tactic(auto, unfolding(book_model::specs::Time::midnight_of))]
 pub fn midnight<E: Enclosure>(day: i64) -> E
-    ensures holds { (w : World) → 40 ≤ w.depth → Within E.shown w (midnight_of day) result }
+    ensures holds { (w : World) → DEPTH ≤ w.depth → Within E.shown w (midnight_of day) result }
     ensures narrow { (r : Reach) → Narrow E.shown (limits_of E.BITS) r (midnight_of day) result }
 {
     E::from_int(day).sub(hours::<E>(is_early(day)).mul_frac(HOUR))

@@ -7,6 +7,7 @@ ghost use Rattle.book_model.specs.Leading.{at_56};
 ghost use Rattle.book_model.specs.Octants.{radians, sine_into as into_octant};
 ghost use Rattle.book_model.specs.Series.{sine_series, cosine_series};
 ghost use Rattle.trig_series.specs.Points.{IsSmall, IsAround, IsPart};
+ghost use Rattle.book_model.specs.Depth.{DEPTH};
 
 use crate::kernel::{cosine_of, sine_of};
 use crate::points::{OCTANT, around, opposite};
@@ -27,7 +28,7 @@ fn most_moved(degrees: u64) -> i128
 fn sine_part(from: u64, to: u64) -> Span
     requires ordered { from ≤ to }
     requires octant { to ≤ 3242591731706757120 }
-    ensures holds { (n d : ℕ) (y : Fraction) → 40 ≤ n → from ≤ d → d ≤ to → y ≈ at_56 (pos d) → sine_series n (radians n y) ⊆ between (at_56 result.lo) (at_56 result.hi) }
+    ensures holds { (n d : ℕ) (y : Fraction) → DEPTH ≤ n → from ≤ d → d ≤ to → y ≈ at_56 (pos d) → sine_series n (radians n y) ⊆ between (at_56 result.lo) (at_56 result.hi) }
     ensures narrow { (pos 57 *ℤ (result.hi -ℤ result.lo)) ≤ℤ ((pos to -ℤ pos from) +ℤ pos 513) }
     ensures room { IsSmall result.lo result.hi }
     ensures small { IsAround (pos 0) (pos to) result.lo result.hi }
@@ -44,7 +45,7 @@ fn sine_part(from: u64, to: u64) -> Span
 fn cosine_part(from: u64, to: u64) -> Span
     requires ordered { from ≤ to }
     requires octant { to ≤ 3242591731706757120 }
-    ensures holds { (n d : ℕ) (y : Fraction) → 40 ≤ n → from ≤ d → d ≤ to → y ≈ at_56 (pos d) → cosine_series n (radians n y) ⊆ between (at_56 result.lo) (at_56 result.hi) }
+    ensures holds { (n d : ℕ) (y : Fraction) → DEPTH ≤ n → from ≤ d → d ≤ to → y ≈ at_56 (pos d) → cosine_series n (radians n y) ⊆ between (at_56 result.lo) (at_56 result.hi) }
     ensures narrow { (pos 57 *ℤ (result.hi -ℤ result.lo)) ≤ℤ ((pos to -ℤ pos from) +ℤ pos 513) }
     ensures room { IsSmall result.lo result.hi }
     ensures crest { IsAround (pos 72057594037927936) (pos to) result.lo result.hi }
@@ -63,7 +64,7 @@ fn part_of_half(octant: i128, from: u64, to: u64) -> Span
     requires last { octant ≤ℤ pos 3 }
     requires ordered { from ≤ to }
     requires high { to ≤ 3242591731706757120 }
-    ensures holds { (n d : ℕ) (y : Fraction) → 40 ≤ n → from ≤ d → d ≤ to → y ≈ at_56 (pos d) → into_octant n (unsigned_abs octant) y ⊆ between (at_56 result.lo) (at_56 result.hi) }
+    ensures holds { (n d : ℕ) (y : Fraction) → DEPTH ≤ n → from ≤ d → d ≤ to → y ≈ at_56 (pos d) → into_octant n (unsigned_abs octant) y ⊆ between (at_56 result.lo) (at_56 result.hi) }
     ensures narrow { (pos 57 *ℤ (result.hi -ℤ result.lo)) ≤ℤ ((pos to -ℤ pos from) +ℤ pos 513) }
     ensures room { IsSmall result.lo result.hi }
     ensures near { IsPart (unsigned_abs octant) from to result.lo result.hi }
@@ -87,7 +88,7 @@ pub(crate) fn part_of_turn(octant: i128, from: u64, to: u64) -> Span
     requires last { octant ≤ℤ pos 7 }
     requires ordered { from ≤ to }
     requires high { to ≤ 3242591731706757120 }
-    ensures holds { (n d : ℕ) (y : Fraction) → 40 ≤ n → from ≤ d → d ≤ to → y ≈ at_56 (pos d) → into_octant n (unsigned_abs octant) y ⊆ between (at_56 result.lo) (at_56 result.hi) }
+    ensures holds { (n d : ℕ) (y : Fraction) → DEPTH ≤ n → from ≤ d → d ≤ to → y ≈ at_56 (pos d) → into_octant n (unsigned_abs octant) y ⊆ between (at_56 result.lo) (at_56 result.hi) }
     ensures narrow { (pos 57 *ℤ (result.hi -ℤ result.lo)) ≤ℤ ((pos to -ℤ pos from) +ℤ pos 513) }
     ensures near { IsPart (unsigned_abs octant) from to result.lo result.hi }
 {
