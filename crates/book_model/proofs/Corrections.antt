@@ -1,9 +1,9 @@
 -- The polynomial of a correction, term by term, and the sizes of its powers.
 use Rattle.std.specs.Prelude.{◌≡◌, ℕ, zero, suc, ◌+◌, ◌*◌, ◌^◌, ◌≤◌, ℤ, pos, negsuc, ◌*ℤ◌, ◌≤ℤ◌, unsigned_abs, List, length, slice_index_or, refl}
-use Rattle.std.proofs.Common.{arith, add-one, sym}
+use Rattle.std.proofs.Common.{arith, add-one}
 use Rattle.std.proofs.lemmas.Int.{ints, unsigned_abs-mul}
 use Rattle.std.proofs.Math.Nat.{mul-le-mul_left, mul-le-mul_right, pow-suc}
-use Rattle.std.specs.Prelude.{◌<ℤ◌, ◌&&◌, int_le, Bool, true, false, if◌then◌else◌}
+use Rattle.std.specs.Prelude.{◌<ℤ◌, int_le, Bool, true, false, if◌then◌else◌}
 use Rattle.std.specs.Prelude.{Some, Ok}
 use Rattle.std.specs.Ordering.{int_eq}
 use Rattle.std.proofs.lemmas.Bool.Decides.{Decides-int_eq}
@@ -58,13 +58,6 @@ between_yes low high z h k =
     let e : true ≡ int_le low z = omega (arith, ints) in
     let f : true ≡ int_le z high = omega (arith, ints) in
     rw (← e, ← f) refl
-
-pub above_no : (low high z : ℤ) → high <ℤ z → is_between low high z ≡ false
-above_no low high z h = by_test (int_le low z)
-  where
-    by_test : (t : Bool) → (t && int_le z high) ≡ false
-    by_test true = let e : false ≡ int_le z high = omega (arith, ints) in sym e
-    by_test false = refl
 
 pub below_no : (low high z : ℤ) → z <ℤ low → is_between low high z ≡ false
 below_no low high z h = let e : false ≡ int_le low z = omega (arith, ints) in rw (← e) refl

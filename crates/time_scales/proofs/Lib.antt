@@ -4,3 +4,4 @@ pub mod Years
 pub mod WholePowers
 pub mod HornerLemmas
 pub mod CorrectionRows
+pub mod CorrectionWidths

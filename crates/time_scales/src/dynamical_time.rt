@@ -112,7 +112,8 @@ fn correction_in_row<E: Enclosure>(row: Row, year: i64) -> E
 pub fn correction<E: Enclosure>(year: i64, trail: &mut Trail) -> Result<E, Fail>
     ensures leads { (w : World) → DEPTH ≤ w.depth → Leads w (Within E.shown w) (correction_of_year year) trail.old.count trail.new.count result }
     ensures narrow { IfOk result (λ e. (r : Reach) → Narrow E.shown (limits_of E.BITS) r (computed_of year) e) }
-    ensures close { 36 ≤ E.BITS → E.BITS ≤ 56 → pos 1987 ≤ℤ year → year ≤ℤ pos 2050 → IfOk result (λ e. IsNarrow 0 (correction_bound E.BITS) (E.shown e)) }
+    ensures close { 36 ≤ E.BITS → E.BITS ≤ 56 → pos 1987 ≤ℤ year → year ≤ℤ pos 2050 → IfOk result (λ e. IsNarrow 0 (correction_bound 4 E.BITS) (E.shown e)) }
+    ensures close_before { 36 ≤ E.BITS → E.BITS ≤ 56 → pos 1800 ≤ℤ year → year ≤ℤ pos 1986 → IfOk result (λ e. IsNarrow 0 (correction_bound 33 E.BITS) (E.shown e)) }
     ensures void { IfErr result (λ f. f ≡ Fail.Void Site.Year) }
     ensures counted { trail.new.count ≡ trail.old.count }
 {

@@ -1,7 +1,8 @@
 use Rattle.std.proofs.Common.{sym}
 use Rattle.std.proofs.lemmas.Int.{to_z-of_z}
 use Rattle.book_model.proofs.Leads.{leads_answer, leads_void}
-use Rattle.time_scales.proofs.CorrectionRows.{correction_is, row_has, computed_is, correction_close}
+use Rattle.time_scales.proofs.CorrectionRows.{correction_is, row_has, computed_is}
+use Rattle.time_scales.proofs.CorrectionWidths.{recent_is_close, earlier_is_close}
 use Rattle.time_scales.proofs.dynamical_time.correction.Goals as goal
 
 pub correction_in_row-requires : goal.correction_in_row-requires
@@ -29,7 +30,14 @@ returns-in-Some-clause-close g c = λ coarsest finest from to.
     let f = c.ranges.year in
     let e = simp to_z-of_z at c.in-Some.ensures.row in
     let h = simp to_z-of_z at c.correction_in_row.ensures.narrow in
-    correction_close g.E.Enclosure.shown _ c.args.year _ coarsest finest from to (λ r. rw (computed_is c.args.year c.in-Some.row (sym e)) (h r))
+    recent_is_close g.E.Enclosure.shown _ c.args.year _ coarsest finest from to (λ r. rw (computed_is c.args.year c.in-Some.row (sym e)) (h r))
+
+pub returns-in-Some-clause-close_before : goal.returns-in-Some-clause-close_before
+returns-in-Some-clause-close_before g c = λ coarsest finest from to.
+    let f = c.ranges.year in
+    let e = simp to_z-of_z at c.in-Some.ensures.row in
+    let h = simp to_z-of_z at c.correction_in_row.ensures.narrow in
+    earlier_is_close g.E.Enclosure.shown _ c.args.year _ coarsest finest from to (λ r. rw (computed_is c.args.year c.in-Some.row (sym e)) (h r))
 
 pub returns-in-None-clause-leads : goal.returns-in-None-clause-leads
 returns-in-None-clause-leads g c = λ w d.
