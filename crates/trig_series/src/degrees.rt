@@ -6,27 +6,20 @@ ghost use Rattle.book_model.specs.Expressions.{Expression, World, sine, cosine, 
 ghost use Rattle.book_model.specs.Leading.{at_56};
 ghost use Rattle.book_model.specs.Octants.{sine_of_degrees, cosine_of_degrees};
 ghost use Rattle.book_model.specs.Relations.{Within, Narrow};
+ghost use Rattle.trig_series.specs.declared.scale.TheConstants.{ONE};
 ghost use Rattle.trig_series.specs.Points.{IsNarrowSine, IsNarrowCosine};
 
 use crate::octants::sine_between;
+use crate::scale::{ONE, QUARTER, TURN};
 use encl_core::{Enclosure, Span};
-
-/// 360 degrees, which count 2⁻⁵⁶.
-const TURN: i128 = 25_940_733_853_654_056_960;
-
-/// 90 degrees, which count 2⁻⁵⁶.
-const QUARTER: i128 = 6_485_183_463_413_514_240;
 
 /// 2⁶⁴ degrees, which count 2⁻⁵⁶. Further from 0 no octants are counted.
 const FAR: i128 = 1_329_227_995_784_915_872_903_807_060_280_344_576;
 
-/// One.
-const ONE: i128 = 72_057_594_037_927_936;
-
 /// What every sine lies in.
 fn all_sines() -> Span
-    ensures low { result.lo ≡ neg_ℤ (pos 72057594037927936) }
-    ensures high { result.hi ≡ pos 72057594037927936 }
+    ensures low { result.lo ≡ neg_ℤ ONE }
+    ensures high { result.hi ≡ ONE }
 {
     Span { lo: -ONE, hi: ONE }
 }
