@@ -72,9 +72,10 @@ fn cosine_over(degrees: Span) -> Span
 
 /// The sine of degrees.
 ///
-/// The degrees are reduced exactly, by octants of 45, and the series of sine and cosine are taken at the ends of
-/// what they have in common with each octant that they meet; what is left out of a series widens it. The result is
-/// at most a 57th as wide as the degrees, and two units of its scale and 36 parts of 2⁻⁵⁶.
+/// The degrees are reduced exactly, by octants of 45. Where they lie inside one octant, its series is taken at one end,
+/// and from there to the other the sine moves by at most a 57th of the degrees. Else the series of sine and cosine
+/// are taken at the ends of what they have in common with each octant that they meet. What is left out of a series
+/// widens it. The result is at most a 57th as wide as the degrees, and two units of its scale and 36 parts of 2⁻⁵⁶.
 pub fn sin_deg<E: Enclosure>(x: E) -> E
     ensures holds { (w : World) (a : Expression) → Within E.shown w a x → Within E.shown w (sine a) result }
     ensures narrow { (r : Reach) (a : Expression) → Narrow E.shown (limits_of E.BITS) r a x → Narrow E.shown (limits_of E.BITS) r (sine a) result }

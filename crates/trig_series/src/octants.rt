@@ -74,7 +74,7 @@ fn octant_in_turn(octant: i128) -> i128
     ensures value { result ≡ pos (octant_of_turn octant) }
     ensures few { result ≤ℤ pos 7 }
 {
-    octant - octant.div_euclid(8) * 8
+    octant - (octant >> 3) * 8
 }
 
 /// The sine at a number of degrees in an octant.
@@ -116,15 +116,25 @@ fn sine_in(octant: i128, lo: i128, hi: i128) -> Span
     hull(low, high)
 }
 
+/// How often 45 goes into a number, rounded down. It goes 2²⁷ times more into what is divided, which isn't below 0:
+/// without a sign a division by a constant is a multiplication.
+#[inline(always)]
+fn times_of_45(number: i32) -> i64
+    ensures value { result ≡ int_div_euclid number (pos 45) }
+{
+    let raised = (i64::from(number) + 6_039_797_760) as u64;
+    (raised / 45) as i64 - 134_217_728
+}
+
 /// How often an octant goes into degrees, which count 2⁻⁵⁶, rounded down: as often as 45 into their whole number,
-/// which nearly always fits in 64 bits.
+/// which nearly always fits in 32 bits.
 #[inline(always)]
 fn octants_in(degrees: i128) -> i128
     ensures value { result ≡ int_div_euclid degrees (pos OCTANT) }
 {
     let whole = degrees >> 56;
-    match i64::try_from(whole) {
-        Ok(small) => i128::from(small.div_euclid(45)),
+    match i32::try_from(whole) {
+        Ok(small) => i128::from(times_of_45(small)),
         Err(_) => whole.div_euclid(45),
     }
 }
@@ -200,6 +210,21 @@ fn sine_within(octant: i128, lo: i128, hi: i128) -> Span
     part_of_turn(octant_in_turn(octant), from, to)
 }
 
+/// The sine over ends that meet several octants.
+#[cold]
+fn sine_over_edges(lo: i128, hi: i128) -> Span
+    requires ordered { lo ≤ℤ hi }
+    requires from { neg_ℤ (pos (2 ^ 120)) ≤ℤ lo }
+    requires to { hi ≤ℤ pos (2 ^ 120) }
+    requires several { first_octant (at_56 lo) <ℤ last_octant (at_56 hi) }
+    ensures holds { (n : ℕ) → 40 ≤ n → sine_of_degrees n (between (at_56 lo) (at_56 hi)) ⊆ between (at_56 result.lo) (at_56 result.hi) }
+    ensures narrow { ((pos 3 *ℤ pos OCTANT) ≤ℤ (hi -ℤ lo)) ⊎ ((pos 57 *ℤ (result.hi -ℤ result.lo)) ≤ℤ ((hi -ℤ lo) +ℤ pos 2052)) }
+    ensures small { (a : ℤ) → neg_ℤ a ≤ℤ lo → hi ≤ℤ a → a <ℤ pos OCTANT → IsAround (pos 0) a result.lo result.hi }
+    ensures crest { (a : ℤ) → (QUARTER -ℤ a) ≤ℤ lo → hi ≤ℤ (QUARTER +ℤ a) → a <ℤ pos OCTANT → IsAround (ONE) a result.lo result.hi }
+{
+    sine_over_octants(first_met(lo), last_met(hi), lo, hi)
+}
+
 /// The sine from one number of degrees to another, which count 2⁻⁵⁶. Its width is at most a 57th of theirs, and 36
 /// parts, unless they are three octants or more apart.
 #[inline(always)]
@@ -212,10 +237,13 @@ pub(crate) fn sine_between(lo: i128, hi: i128) -> Span
     ensures small { (a : ℤ) → neg_ℤ a ≤ℤ lo → hi ≤ℤ a → a <ℤ pos OCTANT → IsAround (pos 0) a result.lo result.hi }
     ensures crest { (a : ℤ) → (QUARTER -ℤ a) ≤ℤ lo → hi ≤ℤ (QUARTER +ℤ a) → a <ℤ pos OCTANT → IsAround (ONE) a result.lo result.hi }
 {
-    let first = first_met(lo);
-    let last = last_met(hi);
-    if last <= first {
-        return sine_within(first, lo, hi);
+    let octant = octants_in(lo);
+    let edge = octant * WIDE_OCTANT;
+    if lo <= edge {
+        return sine_over_edges(lo, hi);
     }
-    sine_over_octants(first, last, lo, hi)
+    if hi >= edge + WIDE_OCTANT {
+        return sine_over_edges(lo, hi);
+    }
+    sine_within(octant, lo, hi)
 }
