@@ -1,5 +1,5 @@
 -- The sine over an octant that two ends meet, and over all of these.
-use Rattle.std.proofs.Common.{◌≡◌, ℕ, zero, suc, ◌≤◌, ◌∙◌, arith, neg_ℤ, ℤ, pos, ◌+ℤ◌, ◌-ℤ◌, ◌*ℤ◌, ◌≤ℤ◌, ◌<ℤ◌}
+use Rattle.std.proofs.Common.{◌≡◌, ℕ, zero, suc, ◌≤◌, ◌/◌, ◌∙◌, refl, arith, neg_ℤ, ℤ, pos, ◌+ℤ◌, ◌-ℤ◌, ◌*ℤ◌, ◌≤ℤ◌, ◌<ℤ◌}
 use Rattle.std.specs.Int.{int_div_euclid, int_max, int_min}
 use Rattle.std.proofs.lemmas.Int.{ints, clamps, by_lt_z}
 use Rattle.exact_math.specs.Fraction.{Fraction, ◌≤F◌, ◌≈◌, opposite, times, smaller, larger}
@@ -95,6 +95,39 @@ first_is d q e =
     let n : pos 0 -ℤ d ≡ neg_ℤ d = omega (arith, ints) in
     let l = last_is (neg_ℤ d) q (rw n at e) in
     rw (← l) (omega (arith, ints))
+
+-- the octants on either side of degrees
+pub first_bounds : (lo : ℤ) → ((first_octant (at_56 lo) *ℤ pos 3242591731706757120) <ℤ lo) × (lo ≤ℤ (first_octant (at_56 lo) *ℤ pos 3242591731706757120 +ℤ pos 3242591731706757120))
+first_bounds lo =
+    let q = int_div_euclid (pos 0 -ℤ lo) (pos 3242591731706757120) in
+    let f = division_is (pos 0 -ℤ lo) q refl in
+    rw (← first_is lo q refl) (omega (arith, ints, f.close), omega (arith, ints, f.not_above))
+
+pub last_bounds : (hi : ℤ) → ((last_octant (at_56 hi) *ℤ pos 3242591731706757120) ≤ℤ hi) × (hi <ℤ (last_octant (at_56 hi) *ℤ pos 3242591731706757120 +ℤ pos 3242591731706757120))
+last_bounds hi =
+    let q = int_div_euclid hi (pos 3242591731706757120) in
+    let f = division_is hi q refl in
+    rw (← last_is hi q refl) (omega (arith, ints, f.not_above), omega (arith, ints, f.close))
+
+-- the only octant that ends meet which lie inside of it
+pub first_alone_is : (k lo : ℤ) → (k *ℤ pos 3242591731706757120) <ℤ lo → lo <ℤ (k *ℤ pos 3242591731706757120 +ℤ pos 3242591731706757120) → k ≡ first_octant (at_56 lo)
+first_alone_is k lo l u = let b = first_bounds lo in omega (arith, ints, l, u, b.0, b.1)
+
+pub last_alone_is : (k hi : ℤ) → (k *ℤ pos 3242591731706757120) <ℤ hi → hi <ℤ (k *ℤ pos 3242591731706757120 +ℤ pos 3242591731706757120) → k ≡ last_octant (at_56 hi)
+last_alone_is k hi l u = let b = last_bounds hi in omega (arith, ints, l, u, b.0, b.1)
+
+-- ends of which one lies on an octant's edge, or beyond, meet several
+pub edge_below : (k lo hi : ℤ) → (k *ℤ pos 3242591731706757120) ≤ℤ lo → lo ≤ℤ (k *ℤ pos 3242591731706757120) → lo ≤ℤ hi → first_octant (at_56 lo) <ℤ last_octant (at_56 hi)
+edge_below k lo hi l u o = let b = first_bounds lo in let c = last_bounds hi in omega (arith, ints, l, u, o, b.0, b.1, c.0, c.1)
+
+pub edge_above : (k lo hi : ℤ) → lo <ℤ (k *ℤ pos 3242591731706757120 +ℤ pos 3242591731706757120) → (k *ℤ pos 3242591731706757120 +ℤ pos 3242591731706757120) ≤ℤ hi → first_octant (at_56 lo) <ℤ last_octant (at_56 hi)
+edge_above k lo hi l u = let b = first_bounds lo in let c = last_bounds hi in omega (arith, ints, l, u, b.0, b.1, c.0, c.1)
+
+-- how often 45 goes into a number
+pub raised_45 : (n : ℤ) (m : ℕ) (r : ℤ) → pos m ≡ n +ℤ pos 6039797760 → r ≡ pos (m / 45) -ℤ pos 134217728 → r ≡ int_div_euclid n (pos 45)
+raised_45 n m r e f =
+    let q = floor_quotient_is n 44 in
+    rw (euclid_is n 45 (omega arith)) (omega (arith, ints, e, f, q.not_above, q.close))
 
 -- ---- the hull over them
 pub first_alone : (f : ℤ → Interval) (i : Interval) (first : ℤ) → f first ⊆ i → (k : ℤ) → first ≤ℤ k → k <ℤ (first +ℤ pos 1) → f k ⊆ i

@@ -3,6 +3,7 @@ use Rattle.std.specs.Prelude.{ℕ, zero, suc, neg_ℤ, ◌-◌, ◌^◌, ℤ, po
 use Rattle.exact_math.specs.Fraction.{◌≤F◌}
 use Rattle.exact_math.specs.Sums.{lower, upper}
 use Rattle.book_model.specs.Series.{sine_term, cosine_term}
+use Rattle.trig_series.specs.declared.scale.TheConstants.{OCTANT, QUARTER, ONE}
 use Rattle.trig_series.specs.Kernel.{at_64, in_radians}
 
 -- lo is hardly below the sine of d degrees that count 2^-56, and hi hardly above it: by four and a half parts of 2^-56
@@ -18,16 +19,16 @@ pub record IsNearCosine (d : ℕ) (lo hi : ℤ) : Type 0 where
 -- the same of the sine at d degrees into octant j of a turn
 unfoldable pub IsPoint : ℕ → ℕ → ℤ → ℤ → Type 0
 IsPoint zero d lo hi = IsNearSine d lo hi
-IsPoint (suc zero) d lo hi = IsNearCosine (3242591731706757120 - d) lo hi
+IsPoint (suc zero) d lo hi = IsNearCosine (OCTANT - d) lo hi
 IsPoint (suc (suc zero)) d lo hi = IsNearCosine d lo hi
-IsPoint (suc (suc (suc zero))) d lo hi = IsNearSine (3242591731706757120 - d) lo hi
+IsPoint (suc (suc (suc zero))) d lo hi = IsNearSine (OCTANT - d) lo hi
 IsPoint (suc (suc (suc (suc j)))) d lo hi = IsPoint j d (neg_ℤ hi) (neg_ℤ lo)
 
 -- the sine where octant j of a turn begins, in parts of 2^-56
 abbrev pub edge_of : ℕ → ℤ
 edge_of zero = pos 0
 edge_of (suc zero) = pos 50952413380206180
-edge_of (suc (suc zero)) = pos 72057594037927936
+edge_of (suc (suc zero)) = ONE
 edge_of (suc (suc (suc zero))) = pos 50952413380206180
 edge_of (suc (suc (suc (suc j)))) = neg_ℤ (edge_of j)
 
@@ -50,9 +51,9 @@ pub record IsAround (e w lo hi : ℤ) : Type 0 where
 -- 90 degrees near 1
 unfoldable pub IsPart : ℕ → ℕ → ℕ → ℤ → ℤ → Type 0
 IsPart zero f t lo hi = IsAround (pos 0) (pos t) lo hi
-IsPart (suc zero) f t lo hi = IsAround (pos 72057594037927936) (pos (3242591731706757120 - f)) lo hi
-IsPart (suc (suc zero)) f t lo hi = IsAround (pos 72057594037927936) (pos t) lo hi
-IsPart (suc (suc (suc zero))) f t lo hi = IsAround (pos 0) (pos (3242591731706757120 - f)) lo hi
+IsPart (suc zero) f t lo hi = IsAround (ONE) (pos (OCTANT - f)) lo hi
+IsPart (suc (suc zero)) f t lo hi = IsAround (ONE) (pos t) lo hi
+IsPart (suc (suc (suc zero))) f t lo hi = IsAround (pos 0) (pos (OCTANT - f)) lo hi
 IsPart (suc (suc (suc (suc j)))) f t lo hi = IsPart j f t (neg_ℤ hi) (neg_ℤ lo)
 
 -- a span that lies within -16 and 16
@@ -63,15 +64,15 @@ pub record IsSmall (lo hi : ℤ) : Type 0 where
 -- the sine of what lies between two ends of degrees: it lies in -1..1, it is hardly wider than a 57th of the ends'
 -- width, and near 0 degrees it is near 0
 pub record IsNarrowSine (from to lo hi : ℤ) : Type 0 where
-  pub above : neg_ℤ (pos 72057594037927936) ≤ℤ lo
-  pub below : hi ≤ℤ pos 72057594037927936
+  pub above : neg_ℤ ONE ≤ℤ lo
+  pub below : hi ≤ℤ ONE
   pub narrow : neg_ℤ (pos (2 ^ 120)) ≤ℤ from → to ≤ℤ pos (2 ^ 120) → (pos 57 *ℤ (hi -ℤ lo)) ≤ℤ ((to -ℤ from) +ℤ pos 2052)
-  pub small : (a : ℤ) → neg_ℤ a ≤ℤ from → to ≤ℤ a → a <ℤ pos 3242591731706757120 → IsAround (pos 0) a lo hi
-  pub crest : (a : ℤ) → (pos 6485183463413514240 -ℤ a) ≤ℤ from → to ≤ℤ (pos 6485183463413514240 +ℤ a) → a <ℤ pos 3242591731706757120 → IsAround (pos 72057594037927936) a lo hi
+  pub small : (a : ℤ) → neg_ℤ a ≤ℤ from → to ≤ℤ a → a <ℤ pos OCTANT → IsAround (pos 0) a lo hi
+  pub crest : (a : ℤ) → (QUARTER -ℤ a) ≤ℤ from → to ≤ℤ (QUARTER +ℤ a) → a <ℤ pos OCTANT → IsAround (ONE) a lo hi
 
 -- the same of the cosine, which is near 1 there
 pub record IsNarrowCosine (from to lo hi : ℤ) : Type 0 where
-  pub above : neg_ℤ (pos 72057594037927936) ≤ℤ lo
-  pub below : hi ≤ℤ pos 72057594037927936
+  pub above : neg_ℤ ONE ≤ℤ lo
+  pub below : hi ≤ℤ ONE
   pub narrow : neg_ℤ (pos (2 ^ 119)) ≤ℤ from → to ≤ℤ pos (2 ^ 119) → (pos 57 *ℤ (hi -ℤ lo)) ≤ℤ ((to -ℤ from) +ℤ pos 2052)
-  pub crest : (a : ℤ) → neg_ℤ a ≤ℤ from → to ≤ℤ a → a <ℤ pos 3242591731706757120 → IsAround (pos 72057594037927936) a lo hi
+  pub crest : (a : ℤ) → neg_ℤ a ≤ℤ from → to ≤ℤ a → a <ℤ pos OCTANT → IsAround (ONE) a lo hi

@@ -6,28 +6,21 @@ ghost use Rattle.book_model.specs.Expressions.{Expression, World, sine, cosine, 
 ghost use Rattle.book_model.specs.Leading.{at_56};
 ghost use Rattle.book_model.specs.Octants.{sine_of_degrees, cosine_of_degrees};
 ghost use Rattle.book_model.specs.Relations.{Within, Narrow};
+ghost use Rattle.trig_series.specs.declared.scale.TheConstants.{ONE};
 ghost use Rattle.trig_series.specs.Points.{IsNarrowSine, IsNarrowCosine};
 ghost use Rattle.book_model.specs.Depth.{DEPTH};
 
 use crate::octants::sine_between;
+use crate::scale::{ONE, QUARTER, TURN};
 use encl_core::{Enclosure, Span};
-
-/// 360 degrees, which count 2⁻⁵⁶.
-const TURN: i128 = 25_940_733_853_654_056_960;
-
-/// 90 degrees, which count 2⁻⁵⁶.
-const QUARTER: i128 = 6_485_183_463_413_514_240;
 
 /// 2⁶⁴ degrees, which count 2⁻⁵⁶. Further from 0 no octants are counted.
 const FAR: i128 = 1_329_227_995_784_915_872_903_807_060_280_344_576;
 
-/// One.
-const ONE: i128 = 72_057_594_037_927_936;
-
 /// What every sine lies in.
 fn all_sines() -> Span
-    ensures low { result.lo ≡ neg_ℤ (pos 72057594037927936) }
-    ensures high { result.hi ≡ pos 72057594037927936 }
+    ensures low { result.lo ≡ neg_ℤ ONE }
+    ensures high { result.hi ≡ ONE }
 {
     Span { lo: -ONE, hi: ONE }
 }
@@ -80,9 +73,10 @@ fn cosine_over(degrees: Span) -> Span
 
 /// The sine of degrees.
 ///
-/// The degrees are reduced exactly, by octants of 45, and the series of sine and cosine are taken at the ends of
-/// what they have in common with each octant that they meet; what is left out of a series widens it. The result is
-/// at most a 57th as wide as the degrees, and two units of its scale and 36 parts of 2⁻⁵⁶.
+/// The degrees are reduced exactly, by octants of 45. Where they lie inside one octant, its series is taken at one end,
+/// and from there to the other the sine moves by at most a 57th of the degrees. Else the series of sine and cosine
+/// are taken at the ends of what they have in common with each octant that they meet. What is left out of a series
+/// widens it. The result is at most a 57th as wide as the degrees, and two units of its scale and 36 parts of 2⁻⁵⁶.
 pub fn sin_deg<E: Enclosure>(x: E) -> E
     ensures holds { (w : World) (a : Expression) → Within E.shown w a x → Within E.shown w (sine a) result }
     ensures narrow { (r : Reach) (a : Expression) → Narrow E.shown (limits_of E.BITS) r a x → Narrow E.shown (limits_of E.BITS) r (sine a) result }

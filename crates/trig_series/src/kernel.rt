@@ -8,6 +8,7 @@ ghost use Rattle.exact_math.specs.Interval.{zero_fraction, between, ◌⊆◌};
 ghost use Rattle.book_model.specs.Leading.{at_56};
 ghost use Rattle.book_model.specs.Octants.{radians};
 ghost use Rattle.book_model.specs.Series.{sine_series, cosine_series};
+ghost use Rattle.trig_series.specs.declared.scale.TheConstants.{OCTANT};
 ghost use Rattle.trig_series.specs.Kernel.{at_64, IsNear, IsCut, IsSquare, IsAngle, AreSineEnds, AreCosineEnds, IsInRadians};
 
 /// The high half of a product.
@@ -68,7 +69,7 @@ fn cosine_at(angle: u64) -> u64
 /// So many degrees of an octant, which count 2⁻⁵⁶, in radians: at most 68 less. The factor is pi · 2⁶⁹ / 180.
 #[inline(always)]
 fn angle(degrees: u64) -> u64
-    requires octant { degrees ≤ 3242591731706757120 }
+    requires octant { degrees ≤ OCTANT }
     ensures near { (n : ℕ) → 12 ≤ n → radians n (at_56 (pos degrees)) ⊆ between (at_64 (pos result)) (at_64 (pos result +ℤ pos 68)) }
     ensures there { (x : Fraction) → IsInRadians degrees x → IsAngle result x }
     ensures small { result ≤ 14757395258967641292 }
@@ -78,7 +79,7 @@ fn angle(degrees: u64) -> u64
 
 /// The sine of so many degrees of an octant, which count 2⁻⁵⁶, within 384.
 pub(crate) fn sine_of(degrees: u64) -> u64
-    requires octant { degrees ≤ 3242591731706757120 }
+    requires octant { degrees ≤ OCTANT }
     ensures near { (n : ℕ) → 12 ≤ n → sine_series n (radians n (at_56 (pos degrees))) ⊆ between (at_64 (pos result -ℤ pos 384)) (at_64 (pos result +ℤ pos 384)) }
     ensures ends { (n : ℕ) (x : Fraction) → 8 ≤ n → IsInRadians degrees x → AreSineEnds x result n }
 {
@@ -87,7 +88,7 @@ pub(crate) fn sine_of(degrees: u64) -> u64
 
 /// The cosine of so many degrees of an octant, which count 2⁻⁵⁶, within 320.
 pub(crate) fn cosine_of(degrees: u64) -> u64
-    requires octant { degrees ≤ 3242591731706757120 }
+    requires octant { degrees ≤ OCTANT }
     ensures near { (n : ℕ) → 12 ≤ n → cosine_series n (radians n (at_56 (pos degrees))) ⊆ between (at_64 (pos result -ℤ pos 320)) (at_64 (pos result +ℤ pos 320)) }
     ensures ends { (n : ℕ) (x : Fraction) → 9 ≤ n → IsInRadians degrees x → AreCosineEnds x result n }
 {

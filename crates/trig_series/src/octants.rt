@@ -5,38 +5,36 @@ ghost use Rattle.exact_math.specs.Fraction.{Fraction, ◌≈◌};
 ghost use Rattle.exact_math.specs.Interval.{between, ◌⊆◌};
 ghost use Rattle.book_model.specs.Leading.{at_56};
 ghost use Rattle.book_model.specs.Octants.{octant_of_turn, sine_into as into_octant, sine_at as at_degrees, sine_in as in_octant, first_octant, last_octant, sine_of_degrees};
+ghost use Rattle.trig_series.specs.declared.scale.TheConstants.{OCTANT, QUARTER, ONE};
 ghost use Rattle.trig_series.specs.Points.{IsPoint, edge_of, IsAt, IsSmall, IsAround};
-ghost use Rattle.book_model.specs.Depth.{DEPTH};
 
 use crate::parts::part_of_turn;
 use crate::points::{cosine_point, opposite, sine_point};
+use crate::scale::{OCTANT, WIDE_OCTANT};
 use encl_core::Span;
-
-/// 45 degrees, which count 2⁻⁵⁶.
-const OCTANT: i128 = 3_242_591_731_706_757_120;
 
 /// The sine at so many degrees into an octant of the first half turn.
 #[inline(always)]
 fn sine_into_half(octant: i128, degrees: u64) -> Span
     requires from { pos 0 ≤ℤ octant }
     requires to { octant ≤ℤ pos 3 }
-    requires high { degrees ≤ 3242591731706757120 }
-    ensures holds { (n : ℕ) (y : Fraction) → DEPTH ≤ n → y ≈ at_56 (pos degrees) → into_octant n (unsigned_abs octant) y ⊆ between (at_56 result.lo) (at_56 result.hi) }
+    requires high { degrees ≤ OCTANT }
+    ensures holds { (n : ℕ) (y : Fraction) → 40 ≤ n → y ≈ at_56 (pos degrees) → into_octant n (unsigned_abs octant) y ⊆ between (at_56 result.lo) (at_56 result.hi) }
     ensures near { IsPoint (unsigned_abs octant) degrees result.lo result.hi }
     ensures room { IsSmall result.lo result.hi }
     ensures begins { degrees ≡ 0 → IsAt (edge_of (unsigned_abs octant)) result.lo result.hi }
-    ensures ends { degrees ≡ 3242591731706757120 → IsAt (edge_of (suc (unsigned_abs octant))) result.lo result.hi }
+    ensures ends { degrees ≡ OCTANT → IsAt (edge_of (suc (unsigned_abs octant))) result.lo result.hi }
 {
     if octant == 0 {
         return sine_point(degrees);
     }
     if octant == 1 {
-        return cosine_point(crate::points::OCTANT - degrees);
+        return cosine_point(OCTANT - degrees);
     }
     if octant == 2 {
         return cosine_point(degrees);
     }
-    sine_point(crate::points::OCTANT - degrees)
+    sine_point(OCTANT - degrees)
 }
 
 /// From the lesser lower to the greater upper end.
@@ -55,12 +53,12 @@ fn hull(first: Span, second: Span) -> Span
 fn sine_into(octant: i128, degrees: u64) -> Span
     requires from { pos 0 ≤ℤ octant }
     requires to { octant ≤ℤ pos 7 }
-    requires high { degrees ≤ 3242591731706757120 }
-    ensures holds { (n : ℕ) (y : Fraction) → DEPTH ≤ n → y ≈ at_56 (pos degrees) → into_octant n (unsigned_abs octant) y ⊆ between (at_56 result.lo) (at_56 result.hi) }
+    requires high { degrees ≤ OCTANT }
+    ensures holds { (n : ℕ) (y : Fraction) → 40 ≤ n → y ≈ at_56 (pos degrees) → into_octant n (unsigned_abs octant) y ⊆ between (at_56 result.lo) (at_56 result.hi) }
     ensures near { IsPoint (unsigned_abs octant) degrees result.lo result.hi }
     ensures room { IsSmall result.lo result.hi }
     ensures begins { degrees ≡ 0 → IsAt (edge_of (unsigned_abs octant)) result.lo result.hi }
-    ensures ends { degrees ≡ 3242591731706757120 → IsAt (edge_of (suc (unsigned_abs octant))) result.lo result.hi }
+    ensures ends { degrees ≡ OCTANT → IsAt (edge_of (suc (unsigned_abs octant))) result.lo result.hi }
 {
     if octant >= 4 {
         return opposite(sine_into_half(octant - 4, degrees));
@@ -76,7 +74,7 @@ fn octant_in_turn(octant: i128) -> i128
     ensures value { result ≡ pos (octant_of_turn octant) }
     ensures few { result ≤ℤ pos 7 }
 {
-    octant - octant.div_euclid(8) * 8
+    octant - (octant >> 3) * 8
 }
 
 /// The sine at a number of degrees in an octant.
@@ -84,14 +82,17 @@ fn octant_in_turn(octant: i128) -> i128
 fn sine_at(octant: i128, degrees: i128) -> Span
     requires from { neg_ℤ (pos (2 ^ 60)) ≤ℤ octant }
     requires to { octant ≤ℤ pos (2 ^ 60) }
-    requires low { (octant *ℤ pos 3242591731706757120) ≤ℤ degrees }
-    requires high { degrees ≤ℤ (octant *ℤ pos 3242591731706757120 +ℤ pos 3242591731706757120) }
-    ensures holds { (n : ℕ) (y : Fraction) → DEPTH ≤ n → y ≈ at_56 degrees → at_degrees n octant y ⊆ between (at_56 result.lo) (at_56 result.hi) }
-    ensures near { IsPoint (octant_of_turn octant) (unsigned_abs (degrees -ℤ octant *ℤ pos 3242591731706757120)) result.lo result.hi }
-    ensures begins { degrees ≡ octant *ℤ pos 3242591731706757120 → IsAt (edge_of (octant_of_turn octant)) result.lo result.hi }
-    ensures ends { degrees ≡ octant *ℤ pos 3242591731706757120 +ℤ pos 3242591731706757120 → IsAt (edge_of (suc (octant_of_turn octant))) result.lo result.hi }
+    requires low { (octant *ℤ pos OCTANT) ≤ℤ degrees }
+    requires high { degrees ≤ℤ (octant *ℤ pos OCTANT +ℤ pos OCTANT) }
+    ensures holds { (n : ℕ) (y : Fraction) → 40 ≤ n → y ≈ at_56 degrees → at_degrees n octant y ⊆ between (at_56 result.lo) (at_56 result.hi) }
+    ensures near { IsPoint (octant_of_turn octant) (unsigned_abs (degrees -ℤ octant *ℤ pos OCTANT)) result.lo result.hi }
+    ensures begins { degrees ≡ octant *ℤ pos OCTANT → IsAt (edge_of (octant_of_turn octant)) result.lo result.hi }
+    ensures ends { degrees ≡ octant *ℤ pos OCTANT +ℤ pos OCTANT → IsAt (edge_of (suc (octant_of_turn octant))) result.lo result.hi }
 {
-    sine_into(octant_in_turn(octant), (degrees - octant * OCTANT) as u64)
+    sine_into(
+        octant_in_turn(octant),
+        (degrees - octant * WIDE_OCTANT) as u64,
+    )
 }
 
 /// The sine over the part of two ends, which count 2⁻⁵⁶, in an octant that they meet.
@@ -100,30 +101,40 @@ fn sine_in(octant: i128, lo: i128, hi: i128) -> Span
     requires from { neg_ℤ (pos (2 ^ 60)) ≤ℤ octant }
     requires to { octant ≤ℤ pos (2 ^ 60) }
     requires ordered { lo ≤ℤ hi }
-    requires begun { (octant *ℤ pos 3242591731706757120) ≤ℤ hi }
-    requires ended { lo ≤ℤ (octant *ℤ pos 3242591731706757120 +ℤ pos 3242591731706757120) }
-    ensures holds { (n : ℕ) → DEPTH ≤ n → in_octant n (at_56 lo) (at_56 hi) octant ⊆ between (at_56 result.lo) (at_56 result.hi) }
-    ensures narrow { (pos 57 *ℤ (result.hi -ℤ result.lo)) ≤ℤ ((int_min (octant *ℤ pos 3242591731706757120 +ℤ pos 3242591731706757120) hi -ℤ int_max (octant *ℤ pos 3242591731706757120) lo) +ℤ pos 513) }
-    ensures begins { lo ≤ℤ (octant *ℤ pos 3242591731706757120) → IsAt (edge_of (octant_of_turn octant)) result.lo result.hi }
-    ensures ends { (octant *ℤ pos 3242591731706757120 +ℤ pos 3242591731706757120) ≤ℤ hi → IsAt (edge_of (suc (octant_of_turn octant))) result.lo result.hi }
-    ensures small { (a : ℤ) → neg_ℤ a ≤ℤ lo → hi ≤ℤ a → a <ℤ pos 3242591731706757120 → IsAround (pos 0) a result.lo result.hi }
-    ensures crest { (a : ℤ) → (pos 6485183463413514240 -ℤ a) ≤ℤ lo → hi ≤ℤ (pos 6485183463413514240 +ℤ a) → a <ℤ pos 3242591731706757120 → IsAround (pos 72057594037927936) a result.lo result.hi }
+    requires begun { (octant *ℤ pos OCTANT) ≤ℤ hi }
+    requires ended { lo ≤ℤ (octant *ℤ pos OCTANT +ℤ pos OCTANT) }
+    ensures holds { (n : ℕ) → 40 ≤ n → in_octant n (at_56 lo) (at_56 hi) octant ⊆ between (at_56 result.lo) (at_56 result.hi) }
+    ensures narrow { (pos 57 *ℤ (result.hi -ℤ result.lo)) ≤ℤ ((int_min (octant *ℤ pos OCTANT +ℤ pos OCTANT) hi -ℤ int_max (octant *ℤ pos OCTANT) lo) +ℤ pos 513) }
+    ensures begins { lo ≤ℤ (octant *ℤ pos OCTANT) → IsAt (edge_of (octant_of_turn octant)) result.lo result.hi }
+    ensures ends { (octant *ℤ pos OCTANT +ℤ pos OCTANT) ≤ℤ hi → IsAt (edge_of (suc (octant_of_turn octant))) result.lo result.hi }
+    ensures small { (a : ℤ) → neg_ℤ a ≤ℤ lo → hi ≤ℤ a → a <ℤ pos OCTANT → IsAround (pos 0) a result.lo result.hi }
+    ensures crest { (a : ℤ) → (QUARTER -ℤ a) ≤ℤ lo → hi ≤ℤ (QUARTER +ℤ a) → a <ℤ pos OCTANT → IsAround (ONE) a result.lo result.hi }
 {
-    let edge = octant * OCTANT;
+    let edge = octant * WIDE_OCTANT;
     let low = sine_at(octant, edge.max(lo));
-    let high = sine_at(octant, (edge + OCTANT).min(hi));
+    let high = sine_at(octant, (edge + WIDE_OCTANT).min(hi));
     hull(low, high)
 }
 
+/// How often 45 goes into a number, rounded down. It goes 2²⁷ times more into what is divided, which isn't below 0:
+/// without a sign a division by a constant is a multiplication.
+#[inline(always)]
+fn times_of_45(number: i32) -> i64
+    ensures value { result ≡ int_div_euclid number (pos 45) }
+{
+    let raised = (i64::from(number) + 6_039_797_760) as u64;
+    (raised / 45) as i64 - 134_217_728
+}
+
 /// How often an octant goes into degrees, which count 2⁻⁵⁶, rounded down: as often as 45 into their whole number,
-/// which nearly always fits in 64 bits.
+/// which nearly always fits in 32 bits.
 #[inline(always)]
 fn octants_in(degrees: i128) -> i128
-    ensures value { result ≡ int_div_euclid degrees (pos 3242591731706757120) }
+    ensures value { result ≡ int_div_euclid degrees (pos OCTANT) }
 {
     let whole = degrees >> 56;
-    match i64::try_from(whole) {
-        Ok(small) => i128::from(small.div_euclid(45)),
+    match i32::try_from(whole) {
+        Ok(small) => i128::from(times_of_45(small)),
         Err(_) => whole.div_euclid(45),
     }
 }
@@ -134,8 +145,8 @@ fn first_met(lo: i128) -> i128
     requires from { neg_ℤ (pos (2 ^ 120)) ≤ℤ lo }
     requires to { lo ≤ℤ pos (2 ^ 120) }
     ensures value { result ≡ first_octant (at_56 lo) }
-    ensures begun { (result *ℤ pos 3242591731706757120) ≤ℤ lo }
-    ensures ended { lo ≤ℤ (result *ℤ pos 3242591731706757120 +ℤ pos 3242591731706757120) }
+    ensures begun { (result *ℤ pos OCTANT) ≤ℤ lo }
+    ensures ended { lo ≤ℤ (result *ℤ pos OCTANT +ℤ pos OCTANT) }
     ensures above { neg_ℤ (pos (2 ^ 60)) ≤ℤ result }
     ensures below { result <ℤ pos (2 ^ 60) }
 {
@@ -148,8 +159,8 @@ fn last_met(hi: i128) -> i128
     requires from { neg_ℤ (pos (2 ^ 120)) ≤ℤ hi }
     requires to { hi ≤ℤ pos (2 ^ 120) }
     ensures value { result ≡ last_octant (at_56 hi) }
-    ensures begun { (result *ℤ pos 3242591731706757120) ≤ℤ hi }
-    ensures ended { hi ≤ℤ (result *ℤ pos 3242591731706757120 +ℤ pos 3242591731706757120) }
+    ensures begun { (result *ℤ pos OCTANT) ≤ℤ hi }
+    ensures ended { hi ≤ℤ (result *ℤ pos OCTANT +ℤ pos OCTANT) }
     ensures above { neg_ℤ (pos (2 ^ 60)) ≤ℤ result }
     ensures below { result <ℤ pos (2 ^ 60) }
 {
@@ -162,16 +173,16 @@ fn sine_over_octants(first: i128, last: i128, lo: i128, hi: i128) -> Span
     requires ordered { lo ≤ℤ hi }
     requires first { first ≡ first_octant (at_56 lo) }
     requires last { last ≡ last_octant (at_56 hi) }
-    requires begun { (first *ℤ pos 3242591731706757120) ≤ℤ lo }
-    requires ended { lo ≤ℤ (first *ℤ pos 3242591731706757120 +ℤ pos 3242591731706757120) }
-    requires reached { (last *ℤ pos 3242591731706757120) ≤ℤ hi }
+    requires begun { (first *ℤ pos OCTANT) ≤ℤ lo }
+    requires ended { lo ≤ℤ (first *ℤ pos OCTANT +ℤ pos OCTANT) }
+    requires reached { (last *ℤ pos OCTANT) ≤ℤ hi }
     requires above { neg_ℤ (pos (2 ^ 60)) ≤ℤ first }
     requires below { last <ℤ pos (2 ^ 60) }
     requires several { first <ℤ last }
-    ensures holds { (n : ℕ) → DEPTH ≤ n → sine_of_degrees n (between (at_56 lo) (at_56 hi)) ⊆ between (at_56 result.lo) (at_56 result.hi) }
+    ensures holds { (n : ℕ) → 40 ≤ n → sine_of_degrees n (between (at_56 lo) (at_56 hi)) ⊆ between (at_56 result.lo) (at_56 result.hi) }
     ensures narrow { (pos 57 *ℤ (result.hi -ℤ result.lo)) ≤ℤ ((hi -ℤ lo) +ℤ pos 513 *ℤ ((last -ℤ first) +ℤ pos 1)) }
-    ensures small { (a : ℤ) → neg_ℤ a ≤ℤ lo → hi ≤ℤ a → a <ℤ pos 3242591731706757120 → IsAround (pos 0) a result.lo result.hi }
-    ensures crest { (a : ℤ) → (pos 6485183463413514240 -ℤ a) ≤ℤ lo → hi ≤ℤ (pos 6485183463413514240 +ℤ a) → a <ℤ pos 3242591731706757120 → IsAround (pos 72057594037927936) a result.lo result.hi }
+    ensures small { (a : ℤ) → neg_ℤ a ≤ℤ lo → hi ≤ℤ a → a <ℤ pos OCTANT → IsAround (pos 0) a result.lo result.hi }
+    ensures crest { (a : ℤ) → (QUARTER -ℤ a) ≤ℤ lo → hi ≤ℤ (QUARTER +ℤ a) → a <ℤ pos OCTANT → IsAround (ONE) a result.lo result.hi }
 {
     let mut sine = sine_in(first, lo, hi);
     for octant in first + 1..last + 1 {
@@ -185,18 +196,33 @@ fn sine_over_octants(first: i128, last: i128, lo: i128, hi: i128) -> Span
 fn sine_within(octant: i128, lo: i128, hi: i128) -> Span
     requires from { neg_ℤ (pos (2 ^ 60)) ≤ℤ octant }
     requires to { octant ≤ℤ pos (2 ^ 60) }
-    requires begun { (octant *ℤ pos 3242591731706757120) ≤ℤ lo }
+    requires begun { (octant *ℤ pos OCTANT) ≤ℤ lo }
     requires ordered { lo ≤ℤ hi }
-    requires ended { hi ≤ℤ (octant *ℤ pos 3242591731706757120 +ℤ pos 3242591731706757120) }
-    ensures holds { (n : ℕ) → DEPTH ≤ n → in_octant n (at_56 lo) (at_56 hi) octant ⊆ between (at_56 result.lo) (at_56 result.hi) }
+    requires ended { hi ≤ℤ (octant *ℤ pos OCTANT +ℤ pos OCTANT) }
+    ensures holds { (n : ℕ) → 40 ≤ n → in_octant n (at_56 lo) (at_56 hi) octant ⊆ between (at_56 result.lo) (at_56 result.hi) }
     ensures narrow { (pos 57 *ℤ (result.hi -ℤ result.lo)) ≤ℤ ((hi -ℤ lo) +ℤ pos 513) }
-    ensures small { (a : ℤ) → neg_ℤ a ≤ℤ lo → hi ≤ℤ a → a <ℤ pos 3242591731706757120 → IsAround (pos 0) a result.lo result.hi }
-    ensures crest { (a : ℤ) → (pos 6485183463413514240 -ℤ a) ≤ℤ lo → hi ≤ℤ (pos 6485183463413514240 +ℤ a) → a <ℤ pos 3242591731706757120 → IsAround (pos 72057594037927936) a result.lo result.hi }
+    ensures small { (a : ℤ) → neg_ℤ a ≤ℤ lo → hi ≤ℤ a → a <ℤ pos OCTANT → IsAround (pos 0) a result.lo result.hi }
+    ensures crest { (a : ℤ) → (QUARTER -ℤ a) ≤ℤ lo → hi ≤ℤ (QUARTER +ℤ a) → a <ℤ pos OCTANT → IsAround (ONE) a result.lo result.hi }
 {
-    let edge = octant * OCTANT;
+    let edge = octant * WIDE_OCTANT;
     let from = (lo - edge) as u64;
     let to = (hi - edge) as u64;
     part_of_turn(octant_in_turn(octant), from, to)
+}
+
+/// The sine over ends that meet several octants.
+#[cold]
+fn sine_over_edges(lo: i128, hi: i128) -> Span
+    requires ordered { lo ≤ℤ hi }
+    requires from { neg_ℤ (pos (2 ^ 120)) ≤ℤ lo }
+    requires to { hi ≤ℤ pos (2 ^ 120) }
+    requires several { first_octant (at_56 lo) <ℤ last_octant (at_56 hi) }
+    ensures holds { (n : ℕ) → 40 ≤ n → sine_of_degrees n (between (at_56 lo) (at_56 hi)) ⊆ between (at_56 result.lo) (at_56 result.hi) }
+    ensures narrow { ((pos 3 *ℤ pos OCTANT) ≤ℤ (hi -ℤ lo)) ⊎ ((pos 57 *ℤ (result.hi -ℤ result.lo)) ≤ℤ ((hi -ℤ lo) +ℤ pos 2052)) }
+    ensures small { (a : ℤ) → neg_ℤ a ≤ℤ lo → hi ≤ℤ a → a <ℤ pos OCTANT → IsAround (pos 0) a result.lo result.hi }
+    ensures crest { (a : ℤ) → (QUARTER -ℤ a) ≤ℤ lo → hi ≤ℤ (QUARTER +ℤ a) → a <ℤ pos OCTANT → IsAround (ONE) a result.lo result.hi }
+{
+    sine_over_octants(first_met(lo), last_met(hi), lo, hi)
 }
 
 /// The sine from one number of degrees to another, which count 2⁻⁵⁶. Its width is at most a 57th of theirs, and 36
@@ -206,15 +232,18 @@ pub(crate) fn sine_between(lo: i128, hi: i128) -> Span
     requires ordered { lo ≤ℤ hi }
     requires from { neg_ℤ (pos (2 ^ 120)) ≤ℤ lo }
     requires to { hi ≤ℤ pos (2 ^ 120) }
-    ensures holds { (n : ℕ) → DEPTH ≤ n → sine_of_degrees n (between (at_56 lo) (at_56 hi)) ⊆ between (at_56 result.lo) (at_56 result.hi) }
-    ensures narrow { (pos 9727775195120271360 ≤ℤ (hi -ℤ lo)) ⊎ ((pos 57 *ℤ (result.hi -ℤ result.lo)) ≤ℤ ((hi -ℤ lo) +ℤ pos 2052)) }
-    ensures small { (a : ℤ) → neg_ℤ a ≤ℤ lo → hi ≤ℤ a → a <ℤ pos 3242591731706757120 → IsAround (pos 0) a result.lo result.hi }
-    ensures crest { (a : ℤ) → (pos 6485183463413514240 -ℤ a) ≤ℤ lo → hi ≤ℤ (pos 6485183463413514240 +ℤ a) → a <ℤ pos 3242591731706757120 → IsAround (pos 72057594037927936) a result.lo result.hi }
+    ensures holds { (n : ℕ) → 40 ≤ n → sine_of_degrees n (between (at_56 lo) (at_56 hi)) ⊆ between (at_56 result.lo) (at_56 result.hi) }
+    ensures narrow { ((pos 3 *ℤ pos OCTANT) ≤ℤ (hi -ℤ lo)) ⊎ ((pos 57 *ℤ (result.hi -ℤ result.lo)) ≤ℤ ((hi -ℤ lo) +ℤ pos 2052)) }
+    ensures small { (a : ℤ) → neg_ℤ a ≤ℤ lo → hi ≤ℤ a → a <ℤ pos OCTANT → IsAround (pos 0) a result.lo result.hi }
+    ensures crest { (a : ℤ) → (QUARTER -ℤ a) ≤ℤ lo → hi ≤ℤ (QUARTER +ℤ a) → a <ℤ pos OCTANT → IsAround (ONE) a result.lo result.hi }
 {
-    let first = first_met(lo);
-    let last = last_met(hi);
-    if last <= first {
-        return sine_within(first, lo, hi);
+    let octant = octants_in(lo);
+    let edge = octant * WIDE_OCTANT;
+    if lo <= edge {
+        return sine_over_edges(lo, hi);
     }
-    sine_over_octants(first, last, lo, hi)
+    if hi >= edge + WIDE_OCTANT {
+        return sine_over_edges(lo, hi);
+    }
+    sine_within(octant, lo, hi)
 }

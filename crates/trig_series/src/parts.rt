@@ -6,17 +6,18 @@ ghost use Rattle.exact_math.specs.Interval.{between, ◌⊆◌};
 ghost use Rattle.book_model.specs.Leading.{at_56};
 ghost use Rattle.book_model.specs.Octants.{radians, sine_into as into_octant};
 ghost use Rattle.book_model.specs.Series.{sine_series, cosine_series};
+ghost use Rattle.trig_series.specs.declared.scale.TheConstants.{OCTANT, ONE};
 ghost use Rattle.trig_series.specs.Points.{IsSmall, IsAround, IsPart};
-ghost use Rattle.book_model.specs.Depth.{DEPTH};
 
 use crate::kernel::{cosine_of, sine_of};
-use crate::points::{OCTANT, around, opposite};
+use crate::points::{around, opposite};
+use crate::scale::OCTANT;
 use encl_core::Span;
 
 /// How far a sine or a cosine moves at most over so many degrees of an octant: a 57th of them, rounded up.
 #[inline(always)]
 fn most_moved(degrees: u64) -> i128
-    requires octant { degrees ≤ 3242591731706757120 }
+    requires octant { degrees ≤ OCTANT }
     ensures enough { pos degrees ≤ℤ (pos 57 *ℤ result) }
     ensures close { (pos 57 *ℤ result) ≤ℤ (pos degrees +ℤ pos 56) }
 {
@@ -27,8 +28,8 @@ fn most_moved(degrees: u64) -> i128
 #[inline(always)]
 fn sine_part(from: u64, to: u64) -> Span
     requires ordered { from ≤ to }
-    requires octant { to ≤ 3242591731706757120 }
-    ensures holds { (n d : ℕ) (y : Fraction) → DEPTH ≤ n → from ≤ d → d ≤ to → y ≈ at_56 (pos d) → sine_series n (radians n y) ⊆ between (at_56 result.lo) (at_56 result.hi) }
+    requires octant { to ≤ OCTANT }
+    ensures holds { (n d : ℕ) (y : Fraction) → 40 ≤ n → from ≤ d → d ≤ to → y ≈ at_56 (pos d) → sine_series n (radians n y) ⊆ between (at_56 result.lo) (at_56 result.hi) }
     ensures narrow { (pos 57 *ℤ (result.hi -ℤ result.lo)) ≤ℤ ((pos to -ℤ pos from) +ℤ pos 513) }
     ensures room { IsSmall result.lo result.hi }
     ensures small { IsAround (pos 0) (pos to) result.lo result.hi }
@@ -44,11 +45,11 @@ fn sine_part(from: u64, to: u64) -> Span
 #[inline(always)]
 fn cosine_part(from: u64, to: u64) -> Span
     requires ordered { from ≤ to }
-    requires octant { to ≤ 3242591731706757120 }
-    ensures holds { (n d : ℕ) (y : Fraction) → DEPTH ≤ n → from ≤ d → d ≤ to → y ≈ at_56 (pos d) → cosine_series n (radians n y) ⊆ between (at_56 result.lo) (at_56 result.hi) }
+    requires octant { to ≤ OCTANT }
+    ensures holds { (n d : ℕ) (y : Fraction) → 40 ≤ n → from ≤ d → d ≤ to → y ≈ at_56 (pos d) → cosine_series n (radians n y) ⊆ between (at_56 result.lo) (at_56 result.hi) }
     ensures narrow { (pos 57 *ℤ (result.hi -ℤ result.lo)) ≤ℤ ((pos to -ℤ pos from) +ℤ pos 513) }
     ensures room { IsSmall result.lo result.hi }
-    ensures crest { IsAround (pos 72057594037927936) (pos to) result.lo result.hi }
+    ensures crest { IsAround (ONE) (pos to) result.lo result.hi }
 {
     let point = around(cosine_of(from));
     Span {
@@ -63,8 +64,8 @@ fn part_of_half(octant: i128, from: u64, to: u64) -> Span
     requires first { pos 0 ≤ℤ octant }
     requires last { octant ≤ℤ pos 3 }
     requires ordered { from ≤ to }
-    requires high { to ≤ 3242591731706757120 }
-    ensures holds { (n d : ℕ) (y : Fraction) → DEPTH ≤ n → from ≤ d → d ≤ to → y ≈ at_56 (pos d) → into_octant n (unsigned_abs octant) y ⊆ between (at_56 result.lo) (at_56 result.hi) }
+    requires high { to ≤ OCTANT }
+    ensures holds { (n d : ℕ) (y : Fraction) → 40 ≤ n → from ≤ d → d ≤ to → y ≈ at_56 (pos d) → into_octant n (unsigned_abs octant) y ⊆ between (at_56 result.lo) (at_56 result.hi) }
     ensures narrow { (pos 57 *ℤ (result.hi -ℤ result.lo)) ≤ℤ ((pos to -ℤ pos from) +ℤ pos 513) }
     ensures room { IsSmall result.lo result.hi }
     ensures near { IsPart (unsigned_abs octant) from to result.lo result.hi }
@@ -87,8 +88,8 @@ pub(crate) fn part_of_turn(octant: i128, from: u64, to: u64) -> Span
     requires first { pos 0 ≤ℤ octant }
     requires last { octant ≤ℤ pos 7 }
     requires ordered { from ≤ to }
-    requires high { to ≤ 3242591731706757120 }
-    ensures holds { (n d : ℕ) (y : Fraction) → DEPTH ≤ n → from ≤ d → d ≤ to → y ≈ at_56 (pos d) → into_octant n (unsigned_abs octant) y ⊆ between (at_56 result.lo) (at_56 result.hi) }
+    requires high { to ≤ OCTANT }
+    ensures holds { (n d : ℕ) (y : Fraction) → 40 ≤ n → from ≤ d → d ≤ to → y ≈ at_56 (pos d) → into_octant n (unsigned_abs octant) y ⊆ between (at_56 result.lo) (at_56 result.hi) }
     ensures narrow { (pos 57 *ℤ (result.hi -ℤ result.lo)) ≤ℤ ((pos to -ℤ pos from) +ℤ pos 513) }
     ensures near { IsPart (unsigned_abs octant) from to result.lo result.hi }
 {

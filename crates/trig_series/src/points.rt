@@ -5,17 +5,12 @@ ghost use Rattle.exact_math.specs.Interval.{between, ◌⊆◌};
 ghost use Rattle.book_model.specs.Leading.{at_56};
 ghost use Rattle.book_model.specs.Octants.{radians};
 ghost use Rattle.book_model.specs.Series.{sine_series, cosine_series};
+ghost use Rattle.trig_series.specs.declared.scale.TheConstants.{OCTANT, ONE};
 ghost use Rattle.trig_series.specs.Points.{IsNearSine, IsNearCosine, IsAt, IsSmall};
-ghost use Rattle.book_model.specs.Depth.{DEPTH};
 
 use crate::kernel::{cosine_of, sine_of};
+use crate::scale::{OCTANT, ONE};
 use encl_core::Span;
-
-/// 45 degrees, which count 2⁻⁵⁶.
-pub(crate) const OCTANT: u64 = 3_242_591_731_706_757_120;
-
-/// One.
-const ONE: i128 = 72_057_594_037_927_936;
 
 /// The opposite of a span.
 #[inline(always)]
@@ -61,12 +56,12 @@ fn at_octant_end() -> Span
 /// The sine of so many degrees of an octant, which count 2⁻⁵⁶; exact at 0.
 #[inline(always)]
 pub(crate) fn sine_point(degrees: u64) -> Span
-    requires octant { degrees ≤ 3242591731706757120 }
-    ensures holds { (n : ℕ) (y : Fraction) → DEPTH ≤ n → y ≈ at_56 (pos degrees) → sine_series n (radians n y) ⊆ between (at_56 result.lo) (at_56 result.hi) }
+    requires octant { degrees ≤ OCTANT }
+    ensures holds { (n : ℕ) (y : Fraction) → 40 ≤ n → y ≈ at_56 (pos degrees) → sine_series n (radians n y) ⊆ between (at_56 result.lo) (at_56 result.hi) }
     ensures near { IsNearSine degrees result.lo result.hi }
     ensures room { IsSmall result.lo result.hi }
     ensures begins { degrees ≡ 0 → IsAt (pos 0) result.lo result.hi }
-    ensures ends { degrees ≡ 3242591731706757120 → IsAt (pos 50952413380206180) result.lo result.hi }
+    ensures ends { degrees ≡ OCTANT → IsAt (pos 50952413380206180) result.lo result.hi }
 {
     if degrees == 0 {
         return Span { lo: 0, hi: 0 };
@@ -80,12 +75,12 @@ pub(crate) fn sine_point(degrees: u64) -> Span
 /// The cosine of so many degrees of an octant, which count 2⁻⁵⁶; exact at 0.
 #[inline(always)]
 pub(crate) fn cosine_point(degrees: u64) -> Span
-    requires octant { degrees ≤ 3242591731706757120 }
-    ensures holds { (n : ℕ) (y : Fraction) → DEPTH ≤ n → y ≈ at_56 (pos degrees) → cosine_series n (radians n y) ⊆ between (at_56 result.lo) (at_56 result.hi) }
+    requires octant { degrees ≤ OCTANT }
+    ensures holds { (n : ℕ) (y : Fraction) → 40 ≤ n → y ≈ at_56 (pos degrees) → cosine_series n (radians n y) ⊆ between (at_56 result.lo) (at_56 result.hi) }
     ensures near { IsNearCosine degrees result.lo result.hi }
     ensures room { IsSmall result.lo result.hi }
-    ensures begins { degrees ≡ 0 → IsAt (pos 72057594037927936) result.lo result.hi }
-    ensures ends { degrees ≡ 3242591731706757120 → IsAt (pos 50952413380206180) result.lo result.hi }
+    ensures begins { degrees ≡ 0 → IsAt (ONE) result.lo result.hi }
+    ensures ends { degrees ≡ OCTANT → IsAt (pos 50952413380206180) result.lo result.hi }
 {
     if degrees == 0 {
         return Span { lo: ONE, hi: ONE };
