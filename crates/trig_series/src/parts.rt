@@ -8,6 +8,7 @@ ghost use Rattle.book_model.specs.Octants.{radians, sine_into as into_octant};
 ghost use Rattle.book_model.specs.Series.{sine_series, cosine_series};
 ghost use Rattle.trig_series.specs.declared.scale.TheConstants.{OCTANT, ONE};
 ghost use Rattle.trig_series.specs.Points.{IsSmall, IsAround, IsPart};
+ghost use Rattle.book_model.specs.Depth.{DEPTH};
 
 use crate::kernel::{cosine_of, sine_of};
 use crate::points::{around, opposite};
@@ -29,7 +30,7 @@ fn most_moved(degrees: u64) -> i128
 fn sine_part(from: u64, to: u64) -> Span
     requires ordered { from ≤ to }
     requires octant { to ≤ OCTANT }
-    ensures holds { (n d : ℕ) (y : Fraction) → 40 ≤ n → from ≤ d → d ≤ to → y ≈ at_56 (pos d) → sine_series n (radians n y) ⊆ between (at_56 result.lo) (at_56 result.hi) }
+    ensures holds { (n d : ℕ) (y : Fraction) → DEPTH ≤ n → from ≤ d → d ≤ to → y ≈ at_56 (pos d) → sine_series n (radians n y) ⊆ between (at_56 result.lo) (at_56 result.hi) }
     ensures narrow { (pos 57 *ℤ (result.hi -ℤ result.lo)) ≤ℤ ((pos to -ℤ pos from) +ℤ pos 513) }
     ensures room { IsSmall result.lo result.hi }
     ensures small { IsAround (pos 0) (pos to) result.lo result.hi }
@@ -46,7 +47,7 @@ fn sine_part(from: u64, to: u64) -> Span
 fn cosine_part(from: u64, to: u64) -> Span
     requires ordered { from ≤ to }
     requires octant { to ≤ OCTANT }
-    ensures holds { (n d : ℕ) (y : Fraction) → 40 ≤ n → from ≤ d → d ≤ to → y ≈ at_56 (pos d) → cosine_series n (radians n y) ⊆ between (at_56 result.lo) (at_56 result.hi) }
+    ensures holds { (n d : ℕ) (y : Fraction) → DEPTH ≤ n → from ≤ d → d ≤ to → y ≈ at_56 (pos d) → cosine_series n (radians n y) ⊆ between (at_56 result.lo) (at_56 result.hi) }
     ensures narrow { (pos 57 *ℤ (result.hi -ℤ result.lo)) ≤ℤ ((pos to -ℤ pos from) +ℤ pos 513) }
     ensures room { IsSmall result.lo result.hi }
     ensures crest { IsAround (ONE) (pos to) result.lo result.hi }
@@ -65,7 +66,7 @@ fn part_of_half(octant: i128, from: u64, to: u64) -> Span
     requires last { octant ≤ℤ pos 3 }
     requires ordered { from ≤ to }
     requires high { to ≤ OCTANT }
-    ensures holds { (n d : ℕ) (y : Fraction) → 40 ≤ n → from ≤ d → d ≤ to → y ≈ at_56 (pos d) → into_octant n (unsigned_abs octant) y ⊆ between (at_56 result.lo) (at_56 result.hi) }
+    ensures holds { (n d : ℕ) (y : Fraction) → DEPTH ≤ n → from ≤ d → d ≤ to → y ≈ at_56 (pos d) → into_octant n (unsigned_abs octant) y ⊆ between (at_56 result.lo) (at_56 result.hi) }
     ensures narrow { (pos 57 *ℤ (result.hi -ℤ result.lo)) ≤ℤ ((pos to -ℤ pos from) +ℤ pos 513) }
     ensures room { IsSmall result.lo result.hi }
     ensures near { IsPart (unsigned_abs octant) from to result.lo result.hi }
@@ -89,7 +90,7 @@ pub(crate) fn part_of_turn(octant: i128, from: u64, to: u64) -> Span
     requires last { octant ≤ℤ pos 7 }
     requires ordered { from ≤ to }
     requires high { to ≤ OCTANT }
-    ensures holds { (n d : ℕ) (y : Fraction) → 40 ≤ n → from ≤ d → d ≤ to → y ≈ at_56 (pos d) → into_octant n (unsigned_abs octant) y ⊆ between (at_56 result.lo) (at_56 result.hi) }
+    ensures holds { (n d : ℕ) (y : Fraction) → DEPTH ≤ n → from ≤ d → d ≤ to → y ≈ at_56 (pos d) → into_octant n (unsigned_abs octant) y ⊆ between (at_56 result.lo) (at_56 result.hi) }
     ensures narrow { (pos 57 *ℤ (result.hi -ℤ result.lo)) ≤ℤ ((pos to -ℤ pos from) +ℤ pos 513) }
     ensures near { IsPart (unsigned_abs octant) from to result.lo result.hi }
 {

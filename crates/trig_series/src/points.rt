@@ -7,6 +7,7 @@ ghost use Rattle.book_model.specs.Octants.{radians};
 ghost use Rattle.book_model.specs.Series.{sine_series, cosine_series};
 ghost use Rattle.trig_series.specs.declared.scale.TheConstants.{OCTANT, ONE};
 ghost use Rattle.trig_series.specs.Points.{IsNearSine, IsNearCosine, IsAt, IsSmall};
+ghost use Rattle.book_model.specs.Depth.{DEPTH};
 
 use crate::kernel::{cosine_of, sine_of};
 use crate::scale::{OCTANT, ONE};
@@ -57,7 +58,7 @@ fn at_octant_end() -> Span
 #[inline(always)]
 pub(crate) fn sine_point(degrees: u64) -> Span
     requires octant { degrees ≤ OCTANT }
-    ensures holds { (n : ℕ) (y : Fraction) → 40 ≤ n → y ≈ at_56 (pos degrees) → sine_series n (radians n y) ⊆ between (at_56 result.lo) (at_56 result.hi) }
+    ensures holds { (n : ℕ) (y : Fraction) → DEPTH ≤ n → y ≈ at_56 (pos degrees) → sine_series n (radians n y) ⊆ between (at_56 result.lo) (at_56 result.hi) }
     ensures near { IsNearSine degrees result.lo result.hi }
     ensures room { IsSmall result.lo result.hi }
     ensures begins { degrees ≡ 0 → IsAt (pos 0) result.lo result.hi }
@@ -76,7 +77,7 @@ pub(crate) fn sine_point(degrees: u64) -> Span
 #[inline(always)]
 pub(crate) fn cosine_point(degrees: u64) -> Span
     requires octant { degrees ≤ OCTANT }
-    ensures holds { (n : ℕ) (y : Fraction) → 40 ≤ n → y ≈ at_56 (pos degrees) → cosine_series n (radians n y) ⊆ between (at_56 result.lo) (at_56 result.hi) }
+    ensures holds { (n : ℕ) (y : Fraction) → DEPTH ≤ n → y ≈ at_56 (pos degrees) → cosine_series n (radians n y) ⊆ between (at_56 result.lo) (at_56 result.hi) }
     ensures near { IsNearCosine degrees result.lo result.hi }
     ensures room { IsSmall result.lo result.hi }
     ensures begins { degrees ≡ 0 → IsAt (ONE) result.lo result.hi }
