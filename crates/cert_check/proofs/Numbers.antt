@@ -3,7 +3,7 @@ use Rattle.std.proofs.Common.{◌≡◌, ℕ, zero, suc, ◌-◌, ◌^◌, ◌<�
 use Rattle.std.specs.Prelude.{nat_eq, nat_le, ◌&&◌, not, if◌then◌else◌}
 use Rattle.std.specs.List.{list_any}
 use Rattle.std.proofs.lemmas.Bool.Decides.{nat_tests}
-use Rattle.cert_text.specs.Reading.{are_of_facts}
+use Rattle.cert_read.specs.Reading.{are_of_facts}
 use Rattle.cert_check.specs.Listed.{AreNumbers}
 
 -- none of the numbers is this one

@@ -2,14 +2,13 @@
 ghost use Rattle.std.specs.Prelude.{◌≡◌, ◌++◌, codes, OnOk, OnErr};
 ghost use Rattle.std.specs.Io.KnownBytes.{Appends};
 ghost use Rattle.book_model.specs.Text.{result_text};
-ghost use Rattle.cert_text.specs.Stream.{HasCause, AppendsFront};
+ghost use Rattle.byte_streams.specs.Stream.{HasCause, AppendsFront};
 ghost use Rattle.cert_check.specs.Text as spec;
 
 use crate::verdict::{Reason, Verdict};
 use book_model::{Fact, Resolved};
-use cert_text::{
-    Failed, Sink, decimal, write_all, write_parts, write_result, write_undecided, write_void,
-};
+use byte_streams::{Failed, Sink, decimal, write_all, write_parts};
+use cert_text::{write_result, write_undecided, write_void};
 use itoa::Buffer;
 
 /// Writes that a line stands.
@@ -135,7 +134,7 @@ fn write_date_head<K: Sink>(sink: &mut K, number: u32) -> Result<(), Failed>
 }
 
 /// Writes a result and the line's end.
-#[tactic(auto, using(cert_text::proofs::Flow::writing))]
+#[tactic(auto, using(byte_streams::proofs::Flow::writing))]
 fn write_found<K: Sink>(sink: &mut K, found: Resolved) -> Result<(), Failed>
     ensures ok { OnOk result (Appends (K.written sink.old) (K.written sink.new) (result_text found ++ codes "\n")) }
     ensures err { OnErr result (AppendsFront (K.written sink.old) (K.written sink.new) (result_text found ++ codes "\n")) }
@@ -147,7 +146,7 @@ fn write_found<K: Sink>(sink: &mut K, found: Resolved) -> Result<(), Failed>
 }
 
 /// Writes that a result has another text.
-#[tactic(auto, using(cert_text::proofs::Flow::writing))]
+#[tactic(auto, using(byte_streams::proofs::Flow::writing))]
 fn write_date<K: Sink>(sink: &mut K, number: u32, found: Resolved) -> Result<(), Failed>
     ensures ok { OnOk result (Appends (K.written sink.old) (K.written sink.new) (spec.date_text number found)) }
     ensures err { OnErr result (AppendsFront (K.written sink.old) (K.written sink.new) (spec.date_text number found)) }

@@ -1,7 +1,8 @@
-//! The lines of a printed file, as they are read and written.
+//! The lines of a printed file, and the block of facts and a line that stands for one line of input.
 
 use crate::lists::{Numbers, Word};
 use book_model::{Fact, Site, Undecided};
+use oracle_core::FactValues;
 
 /// The three words of an input line, as they were given.
 #[derive(Debug, Drop)]
@@ -44,4 +45,14 @@ pub enum CertLine {
         fact: Fact,
         site: Site,
     },
+}
+
+/// What stands for one line of input: the new facts, of which the first has the number `first`, and the line with
+/// its number.
+#[derive(Debug, Drop)]
+pub struct Block {
+    pub facts: FactValues,
+    pub first: u32,
+    pub number: u32,
+    pub line: CertLine,
 }

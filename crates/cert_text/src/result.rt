@@ -4,13 +4,12 @@ ghost use Rattle.std.specs.Fmt.{signed_decimal};
 ghost use Rattle.std.specs.Io.KnownBytes.{Appends};
 ghost use Rattle.std.specs.List.{flat_map};
 ghost use Rattle.book_model.specs.Text as spec;
-ghost use Rattle.cert_text.specs.Stream.{HasCause, AppendsFront};
+ghost use Rattle.byte_streams.specs.Stream.{HasCause, AppendsFront};
 
-use crate::gathered::Gathered;
 use crate::lists::Word;
-use crate::stream::{Failed, Sink, write_all};
-use crate::write::{decimal, write_parts, write_too_far};
+use crate::write::write_too_far;
 use book_model::{Calendar, Fields, Resolved, Shown, ToWord};
+use byte_streams::{Failed, Gathered, Sink, decimal, write_all, write_parts};
 use itoa::Buffer;
 use std::alloc::{AllocError, Global};
 

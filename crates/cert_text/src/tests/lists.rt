@@ -1,5 +1,5 @@
 //! Lists hold what they are given.
-use crate::{CertLine, Lines, Numbers, Word};
+use crate::{Numbers, Word};
 use std::test::Fail;
 
 #[test]
@@ -17,7 +17,7 @@ fn words_hold_their_bytes(rt: HostRuntime) -> Result<(), Fail> {
 }
 
 #[test]
-fn numbers_and_lines_stand_in_order(rt: HostRuntime) -> Result<(), Fail> {
+fn numbers_stand_in_order(rt: HostRuntime) -> Result<(), Fail> {
     let alloc = rt.alloc();
     let mut numbers = Numbers::new(alloc);
     numbers.push(7)?;
@@ -25,12 +25,5 @@ fn numbers_and_lines_stand_in_order(rt: HostRuntime) -> Result<(), Fail> {
     assert_eq!(rt; numbers.len(), 2);
     assert_eq!(rt; *numbers.item(1), u32::MAX);
     assert_eq!(rt; numbers.numbers(), [7, u32::MAX].as_slice());
-    let mut lines = Lines::new(alloc);
-    lines.push(CertLine::Refused(3))?;
-    lines.push(CertLine::Refused(4))?;
-    assert_eq!(rt; lines.len(), 2);
-    assert_eq!(rt; lines.entries().len(), 2);
-    assert!(rt; matches!(lines.item(0), CertLine::Refused(3)));
-    assert!(rt; matches!(lines.item(1), CertLine::Refused(4)));
     Ok(())
 }
