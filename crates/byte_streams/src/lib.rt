@@ -12,7 +12,7 @@ mod stream;
 
 pub use gathered::Gathered;
 pub use memory::{MemorySink, MemorySource};
-pub use parts::{decimal, write_parts};
+pub use parts::{decimal, write_parts, write_two_counts};
 pub use standard::{StdSink, StdSource};
 pub use stream::{Failed, ReadStop, Sink, Source, read_all, write_all};
 

@@ -7,7 +7,7 @@ ghost use Rattle.cert_check.specs.Text as spec;
 
 use crate::verdict::{Reason, Verdict};
 use book_model::{Fact, Resolved};
-use byte_streams::{Failed, Sink, decimal, write_all, write_parts};
+use byte_streams::{Failed, Sink, decimal, write_all, write_parts, write_two_counts};
 use cert_text::{write_result, write_undecided, write_void};
 use itoa::Buffer;
 
@@ -42,11 +42,7 @@ fn write_form<K: Sink>(sink: &mut K, number: u32, rule: u8) -> Result<(), Failed
     ensures err { OnErr result (AppendsFront (K.written sink.old) (K.written sink.new) (spec.form_text number rule)) }
     ensures cause { HasCause (K.faults sink.old) (K.faults sink.new) result }
 {
-    let mut number_buffer = Buffer::new();
-    let mut rule_buffer = Buffer::new();
-    let number = decimal(&mut number_buffer, number);
-    let rule = decimal(&mut rule_buffer, rule);
-    write_parts(sink, &[b"no ", number, b" form ", rule, b"\n"])
+    write_two_counts(sink, b"no ", number, b" form ", u32::from(rule))
 }
 
 /// Writes that a listed fact was answered by another value.
@@ -114,11 +110,7 @@ fn write_place<K: Sink>(sink: &mut K, number: u32, place: u32) -> Result<(), Fai
     ensures err { OnErr result (AppendsFront (K.written sink.old) (K.written sink.new) (spec.list_text number place)) }
     ensures cause { HasCause (K.faults sink.old) (K.faults sink.new) result }
 {
-    let mut number_buffer = Buffer::new();
-    let mut place_buffer = Buffer::new();
-    let number = decimal(&mut number_buffer, number);
-    let place = decimal(&mut place_buffer, place);
-    write_parts(sink, &[b"no ", number, b" list ", place, b"\n"])
+    write_two_counts(sink, b"no ", number, b" list ", place)
 }
 
 /// Writes the front of a line on a result, up to the result.

@@ -1,5 +1,5 @@
 -- What the facts and lists of a file of the grammar are like.
-use Rattle.std.proofs.Common.{◌≡◌, ℕ, zero, suc, ◌+◌, ◌≤◌, Bool, true, false, refl, List, [], ◌∷◌, ◌++◌, length, map, ℤ, pos, negsuc, ◌≤ℤ◌, ap, arith, length-append}
+use Rattle.std.proofs.Common.{◌≡◌, ℕ, zero, suc, ◌+◌, ◌≤◌, Bool, true, false, refl, List, [], ◌∷◌, ◌++◌, length, map, ℤ, ◌≤ℤ◌, ap, arith, length-append}
 use Rattle.std.proofs.lemmas.Int.{ints}
 use Rattle.std.proofs.lemmas.Bool.Decides.{nat_tests}
 use Rattle.std.specs.Prelude.{Some, None, Option, IsTrue, ◌&&◌, not, nat_eq, nat_le, int_le, slice_index_or, if◌then◌else◌}
@@ -14,6 +14,7 @@ use Rattle.oracle_core.proofs.Keeping.{facts_of_push}
 use Rattle.oracle_core.proofs.Listing.{distinct_more}
 use Rattle.cert_read.specs.declared.form.Form.{Form}
 use Rattle.cert_read.specs.declared.form.Form.TheVariants as forms
+use Rattle.book_model.specs.declared.fact.TheConstants.{LEAST_VALUE, GREATEST_VALUE}
 use Rattle.cert_text.specs.declared.line.CertLine.{CertLine}
 use Rattle.cert_text.specs.declared.line.CertLine.TheVariants as line
 use Rattle.cert_read.specs.declared.lines.CertFile.{CertFile}
@@ -79,7 +80,7 @@ fact_known : (ws : List (List ℕ)) → IsKnownForm (fact_form ws)
 unfolding fact_form
 fact_known ws =
     known_after (counter_at ws) _ (λ n e. known_after (fact_at n.1) _ (λ f e. known_after (value_at f.1) _ (λ v e.
-    known_if (is_over v.1) _ None (known_form (forms.Fact n.0 f.0 v.0) (number_between (negsuc 9999999) (pos 10000000) f.1 v e)) no_form)))
+    known_if (is_over v.1) _ None (known_form (forms.Fact n.0 f.0 v.0) (number_between LEAST_VALUE GREATEST_VALUE f.1 v e)) no_form)))
 
 end_known : (ws : List (List ℕ)) → IsKnownForm (end_form ws)
 unfolding end_form
@@ -141,7 +142,7 @@ pub record IsReadWell (f : CertFile) : Type 0 where
   pub lines : ListFacts (length f.facts) f.lines
 
 -- four tests that hold
-four_hold : (a b c d : Bool) → ((a && b && not c) && d) ≡ true → (a ≡ true) × (b ≡ true) × (c ≡ false) × (d ≡ true)
+pub four_hold : (a b c d : Bool) → ((a && b && not c) && d) ≡ true → (a ≡ true) × (b ≡ true) × (c ≡ false) × (d ≡ true)
 four_hold true true false true h = (refl, refl, refl, refl)
 four_hold true true false false h = cc
 four_hold true true true d h = cc

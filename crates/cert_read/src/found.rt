@@ -1,5 +1,5 @@
 //! What a line with a result shows: its words, its result and the facts that it rests on.
-ghost use Rattle.std.specs.Prelude.{◌≡◌, IfOk};
+ghost use Rattle.std.specs.Prelude.{◌≡◌};
 ghost use Rattle.book_model.specs.Lines.{words_of};
 ghost use Rattle.cert_read.specs.Gives.{Gives, Yields};
 ghost use Rattle.cert_read.specs.Grammar as spec;
@@ -9,7 +9,7 @@ use crate::digits;
 use crate::words::{NoForm, day_at, key_at, word_at};
 use cert_text::{CertLine, Echo, Numbers, Word};
 use line_core::cut_word;
-use std::alloc::{AllocError, Global};
+use std::alloc::Global;
 
 /// What a line with a result shows.
 #[derive(Drop)]
@@ -27,19 +27,7 @@ pub(crate) fn echo_at(alloc: Global, line: &[u8]) -> Result<(Echo, &[u8]), NoFor
     let (from, rest) = word_at(line).ok_or(NoForm::Broken)?;
     let (date, rest) = word_at(rest).ok_or(NoForm::Broken)?;
     let (to, rest) = word_at(rest).ok_or(NoForm::Broken)?;
-    Ok((echo(alloc, from, date, to)?, rest))
-}
-
-/// An echo of these words.
-fn echo(alloc: Global, from: &[u8], date: &[u8], to: &[u8]) -> Result<Echo, AllocError>
-    ensures from { IfOk result (λ e. e.from ≡ from.now) }
-    ensures date { IfOk result (λ e. e.date ≡ date.now) }
-    ensures to { IfOk result (λ e. e.to ≡ to.now) }
-{
-    let from = Word::of(alloc, from)?;
-    let date = Word::of(alloc, date)?;
-    let to = Word::of(alloc, to)?;
-    Ok(Echo { from, date, to })
+    Ok((Echo::of(alloc, from, date, to)?, rest))
 }
 
 /// `RESULT facts`: the result, and what follows it.

@@ -8,8 +8,11 @@ ghost use Rattle.cert_text.specs.Text as spec;
 
 use crate::line::{Block, CertLine, Echo};
 use book_model::{Fact, HEADER, Site, Undecided};
-use byte_streams::{Failed, Sink, decimal, write_all, write_parts};
+use byte_streams::{Failed, Sink, decimal, write_all, write_parts, write_two_counts};
 use itoa::Buffer;
+
+/// What stands before a day's own date.
+pub(crate) const REFUSED_5: &[u8] = b"refused 5 ";
 
 /// Writes the line of a fact with its number and its value.
 #[tactic(auto, unfolding(book_model::specs::Text::fact_text))]
@@ -139,12 +142,12 @@ pub(crate) fn write_too_far<K: Sink>(sink: &mut K, day: i64) -> Result<(), Faile
 
 /// Writes that a day has another date of its own.
 #[tactic(auto, unfolding(book_model::specs::Text::no_date_text))]
-fn write_no_date<K: Sink>(sink: &mut K, back: &[u8]) -> Result<(), Failed>
+pub(crate) fn write_no_date<K: Sink>(sink: &mut K, back: &[u8]) -> Result<(), Failed>
     ensures ok { OnOk result (Appends (K.written sink.old) (K.written sink.new) (model.no_date_text back.now)) }
     ensures err { OnErr result (AppendsFront (K.written sink.old) (K.written sink.new) (model.no_date_text back.now)) }
     ensures cause { HasCause (K.faults sink.old) (K.faults sink.new) result }
 {
-    write_parts(sink, &[b"refused 5 ", back])
+    write_parts(sink, &[REFUSED_5, back])
 }
 
 /// Writes the line of a line that breaks a rule.
@@ -154,11 +157,7 @@ fn write_refused<K: Sink>(sink: &mut K, number: u32, rule: u8) -> Result<(), Fai
     ensures err { OnErr result (AppendsFront (K.written sink.old) (K.written sink.new) (model.refused_text number rule)) }
     ensures cause { HasCause (K.faults sink.old) (K.faults sink.new) result }
 {
-    let mut number_buffer = Buffer::new();
-    let mut rule_buffer = Buffer::new();
-    let number = decimal(&mut number_buffer, number);
-    let rule = decimal(&mut rule_buffer, rule);
-    write_parts(sink, &[b"line ", number, b" refused ", rule, b"\n"])
+    write_two_counts(sink, b"line ", number, b" refused ", u32::from(rule))
 }
 
 /// Writes the number of a line, and that a fact is undecided.
@@ -397,9 +396,5 @@ pub fn write_end<K: Sink>(sink: &mut K, lines: u32, facts: u32) -> Result<(), Fa
     ensures err { OnErr result (AppendsFront (K.written sink.old) (K.written sink.new) (model.end_text lines facts)) }
     ensures cause { HasCause (K.faults sink.old) (K.faults sink.new) result }
 {
-    let mut lines_buffer = Buffer::new();
-    let mut facts_buffer = Buffer::new();
-    let lines = decimal(&mut lines_buffer, lines);
-    let facts = decimal(&mut facts_buffer, facts);
-    write_parts(sink, &[b"end lines ", lines, b" facts ", facts, b"\n"])
+    write_two_counts(sink, b"end lines ", lines, b" facts ", facts)
 }

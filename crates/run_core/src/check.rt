@@ -9,10 +9,9 @@ ghost use Rattle.run_core.specs.Checking as spec;
 use crate::numbering::{count_of, number_after};
 use crate::pending::{MANY, settle};
 use crate::text::WriteStop;
-use byte_streams::{Failed, Gathered, Sink, decimal, write_parts};
+use byte_streams::{Failed, Gathered, Sink, write_two_counts};
 use cert_check::{Verdict, check_facts, check_line, write_counts, write_verdict};
 use cert_read::{CertFile, ReadFail, read_file};
-use itoa::Buffer;
 use oracle_core::{Answers, Evaluator};
 use std::alloc::{AllocError, Global};
 
@@ -163,11 +162,7 @@ fn write_bad<K: Sink>(sink: &mut K, line: u32, rule: u8) -> Result<(), Failed>
     ensures err { OnErr result (AppendsFront (K.written sink.old) (K.written sink.new) (spec.bad_text line rule)) }
     ensures cause { HasCause (K.faults sink.old) (K.faults sink.new) result }
 {
-    let mut line_buffer = Buffer::new();
-    let mut rule_buffer = Buffer::new();
-    let line = decimal(&mut line_buffer, line);
-    let rule = decimal(&mut rule_buffer, rule);
-    write_parts(sink, &[b"bad ", line, b" ", rule, b"\n"])
+    write_two_counts(sink, b"bad ", line, b" ", u32::from(rule))
 }
 
 /// Writes the verdicts of the lines of a file, and says whether all are yes.

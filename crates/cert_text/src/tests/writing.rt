@@ -1,7 +1,7 @@
 //! The forms of lines, and sinks that are full in the middle of a block.
 ghost use Rattle.std.specs.Prelude.{◌≤◌, ◌+◌, ◌^◌, length, IfOk};
 
-use crate::{Block, CertLine, Echo, Numbers, Word, write_block, write_line};
+use crate::{Block, CertLine, Echo, Numbers, Word, write_block};
 use book_model::{Fact, Kind, Place, Site, Undecided};
 use byte_streams::{Failed, MemorySink};
 use oracle_core::FactValues;
@@ -18,14 +18,6 @@ const TEXT: &[u8] = b"fact 1 dt - 738926 73871\n\
     line 5 undecided round 2 -5 7 fact dt - 738926\n\
     line 6 void bisect-end fact dt - -5\n";
 
-/// The echo of three words.
-fn echo(alloc: Global, from: &[u8], date: &[u8], to: &[u8]) -> Result<Echo, AllocError> {
-    let from = Word::of(alloc, from)?;
-    let date = Word::of(alloc, date)?;
-    let to = Word::of(alloc, to)?;
-    Ok(Echo { from, date, to })
-}
-
 /// The correction on a day (R.D.).
 fn correction_on(day: i64) -> Result<Fact, &'static str> {
     Fact::new(Kind::Dt, Place::None, day).ok_or("no fact")
@@ -40,7 +32,7 @@ fn first_fact(alloc: Global) -> Result<Numbers, AllocError> {
 
 /// A line with a result.
 fn shown(alloc: Global) -> Result<CertLine, AllocError> {
-    let echo = echo(alloc, b"gregorian", b"2024-02-10", b"dt")?;
+    let echo = Echo::of(alloc, b"gregorian", b"2024-02-10", b"dt")?;
     let correction = Word::of(alloc, b"73871")?;
     let facts = first_fact(alloc)?;
     Ok(CertLine::Shown {
@@ -52,7 +44,7 @@ fn shown(alloc: Global) -> Result<CertLine, AllocError> {
 
 /// A line whose computed day is out of range.
 fn too_far(alloc: Global) -> Result<CertLine, AllocError> {
-    let echo = echo(alloc, b"persian", b"1427-10-12", b"gregorian")?;
+    let echo = Echo::of(alloc, b"persian", b"1427-10-12", b"gregorian")?;
     let facts = first_fact(alloc)?;
     let day = 748_018;
     Ok(CertLine::TooFar { echo, day, facts })
@@ -60,7 +52,7 @@ fn too_far(alloc: Global) -> Result<CertLine, AllocError> {
 
 /// A line whose day has another date.
 fn no_date(alloc: Global) -> Result<CertLine, AllocError> {
-    let echo = echo(alloc, b"persian", b"1402-12-30", b"gregorian")?;
+    let echo = Echo::of(alloc, b"persian", b"1402-12-30", b"gregorian")?;
     let back = Word::of(alloc, b"1403-1-1")?;
     let facts = Numbers::new(alloc);
     Ok(CertLine::NoDate { echo, back, facts })
