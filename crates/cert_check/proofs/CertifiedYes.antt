@@ -21,8 +21,8 @@ use Rattle.oracle_core.proofs.FactLemmas.{one_fact}
 use Rattle.oracle_core.proofs.Keeping.{facts_of_push}
 use Rattle.cert_text.specs.declared.line.CertLine.{CertLine}
 use Rattle.cert_text.specs.declared.line.CertLine.TheVariants as line
-use Rattle.cert_text.specs.Grammar.{or_else}
-use Rattle.cert_text.specs.Reading.{listed}
+use Rattle.cert_read.specs.Grammar.{or_else}
+use Rattle.cert_read.specs.Reading.{listed}
 use Rattle.cert_text.specs.Text.{too_far_text, no_date_text}
 use Rattle.cert_check.specs.declared.verdict.Verdict.TheVariants.{Yes}
 use Rattle.cert_check.specs.Verdicts.{AreRightAnswers, values_of, onto, numbered, words_of_echo, reason_of, unanswered, first_unanswered, traced, trace_after, difference, verdict_on, verdict_of, IsCertified, IsCertifiedLine, AreNearNowhere}

@@ -1,9 +1,10 @@
 -- Numbers of facts that are listed.
 use Rattle.std.proofs.Common.{◌≡◌, ℕ, zero, suc, ◌-◌, ◌^◌, ◌<◌, ◌≤◌, Bool, true, false, ◌||◌, refl, List, [], ◌∷◌, ◌++◌, length, get_or, arith, eqb-true, eq-eqb}
-use Rattle.std.specs.Prelude.{nat_eq, nat_le, ◌&&◌, not, if◌then◌else◌}
+use Rattle.std.specs.Prelude.{nat_eq, nat_le, if◌then◌else◌}
 use Rattle.std.specs.List.{list_any}
 use Rattle.std.proofs.lemmas.Bool.Decides.{nat_tests}
-use Rattle.cert_text.specs.Reading.{are_of_facts}
+use Rattle.cert_read.specs.Reading.{are_of_facts}
+use Rattle.cert_read.proofs.ReadFiles.{four_hold}
 use Rattle.cert_check.specs.Listed.{AreNumbers}
 
 -- none of the numbers is this one
@@ -26,14 +27,6 @@ pub number_at : (count : ℕ) (ns : List ℕ) (i d : ℕ) → AreNumbers count n
 number_at count [] i d all h = absurd (omega arith)
 number_at count (n ∷ ns) zero d all h = record { first = all.0; last = all.1 }
 number_at count (n ∷ ns) (suc i) d all h = number_at count ns i d all.2 (omega arith)
-
--- four tests that hold
-four_hold : (a b c d : Bool) → ((a && b && not c) && d) ≡ true → (a ≡ true) × (b ≡ true) × (c ≡ false) × (d ≡ true)
-four_hold true true false true h = (refl, refl, refl, refl)
-four_hold true true false false h = cc
-four_hold true true true d h = cc
-four_hold true false c d h = cc
-four_hold false b c d h = cc
 
 -- one that is among the first is among both
 among_more : (x : ℕ) (seen : List ℕ) (n : ℕ) → list_any (nat_eq x) seen ≡ true → list_any (nat_eq x) (seen ++ n ∷ []) ≡ true

@@ -21,9 +21,9 @@ use Rattle.oracle_core.specs.Pairs.{AllStand, AreFactValues, are_distinct, facts
 use Rattle.cert_text.specs.declared.line.Echo.{Echo}
 use Rattle.cert_text.specs.declared.line.CertLine.{CertLine}
 use Rattle.cert_text.specs.declared.line.CertLine.TheVariants as line
-use Rattle.cert_text.specs.declared.lines.CertFile.{CertFile}
-use Rattle.cert_text.specs.Grammar.{or_else}
-use Rattle.cert_text.specs.Reading.{are_of_facts, listed}
+use Rattle.cert_read.specs.declared.lines.CertFile.{CertFile}
+use Rattle.cert_read.specs.Grammar.{or_else}
+use Rattle.cert_read.specs.Reading.{are_of_facts, listed}
 use Rattle.cert_text.specs.Text.{too_far_text, no_date_text}
 use Rattle.cert_check.specs.declared.verdict.Verdict.{Verdict}
 use Rattle.cert_check.specs.declared.verdict.Verdict.TheVariants.{Yes, No, Skip}

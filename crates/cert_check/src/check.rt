@@ -5,8 +5,7 @@ ghost use Rattle.book_model.specs.LineRules.{rule_of};
 ghost use Rattle.book_model.specs.Requests.{is_possible, is_in_reach};
 ghost use Rattle.oracle_core.specs.Pairs.{are_distinct, facts_of, AreFactValues};
 ghost use Rattle.oracle_core.specs.declared.oracle.Stop.TheVariants.{Missing as missing_stop};
-ghost use Rattle.cert_text.specs.Reading.{are_of_facts, listed as numbers_of};
-ghost use Rattle.cert_text.specs.Text.{too_far_text, no_date_text};
+ghost use Rattle.cert_read.specs.Reading.{are_of_facts, listed as numbers_of};
 ghost use Rattle.cert_check.specs.Listed.{NamesMissing};
 ghost use Rattle.cert_check.specs.Verdicts as spec;
 
@@ -14,8 +13,8 @@ use crate::compare::verdict_by_list;
 use crate::listed::{first_reason, listed_facts, listed_values};
 use crate::verdict::{Reason, Verdict};
 use book_model::{Fact, Request};
-use cert_text::{CertFile, CertLine, Echo, decimal};
-use itoa::Buffer;
+use cert_read::CertFile;
+use cert_text::{CertLine, Echo, no_date_word, too_far_word};
 use line_core::{read_line, resolve};
 use oracle_core::{Answers, Listed, Stop};
 use std::alloc::{AllocError, Global};
@@ -119,29 +118,6 @@ fn verdict_of_words(
     }
 }
 
-/// The text of a line whose computed day is out of range.
-#[tactic(auto, unfolding(book_model::specs::Text::too_far_text))]
-fn too_far(alloc: Global, day: i64) -> Result<Vec<u8>, AllocError>
-    ensures text { IfOk result (λ v. v.items ≡ too_far_text day) }
-{
-    let mut buffer = Buffer::new();
-    let mut text = Vec::new(alloc);
-    text.extend_from_slice(b"refused 4 ")?;
-    text.extend_from_slice(decimal(&mut buffer, day))?;
-    Ok(text)
-}
-
-/// The text of a line whose day has another date.
-#[tactic(auto, unfolding(book_model::specs::Text::no_date_text))]
-fn no_date(alloc: Global, back: &[u8]) -> Result<Vec<u8>, AllocError>
-    ensures text { IfOk result (λ v. v.items ≡ no_date_text back.now) }
-{
-    let mut text = Vec::new(alloc);
-    text.extend_from_slice(b"refused 5 ")?;
-    text.extend_from_slice(back)?;
-    Ok(text)
-}
-
 /// The verdict of a line.
 pub(crate) fn verdict_of_line(
     alloc: Global,
@@ -162,12 +138,12 @@ pub(crate) fn verdict_of_line(
             facts,
         } => verdict_of_words(alloc, file, answers, echo, shown.bytes(), facts.numbers()),
         CertLine::TooFar { echo, day, facts } => {
-            let text = too_far(alloc, *day)?;
-            verdict_of_words(alloc, file, answers, echo, &text, facts.numbers())
+            let text = too_far_word(alloc, *day)?;
+            verdict_of_words(alloc, file, answers, echo, text.bytes(), facts.numbers())
         }
         CertLine::NoDate { echo, back, facts } => {
-            let text = no_date(alloc, back.bytes())?;
-            verdict_of_words(alloc, file, answers, echo, &text, facts.numbers())
+            let text = no_date_word(alloc, back.bytes())?;
+            verdict_of_words(alloc, file, answers, echo, text.bytes(), facts.numbers())
         }
         CertLine::Refused(_) | CertLine::Undecided { .. } | CertLine::Void { .. } => {
             Ok(Verdict::Skip)

@@ -2,14 +2,13 @@
 ghost use Rattle.std.specs.Prelude.{◌≡◌, ◌++◌, codes, OnOk, OnErr};
 ghost use Rattle.std.specs.Io.KnownBytes.{Appends};
 ghost use Rattle.book_model.specs.Text.{result_text};
-ghost use Rattle.cert_text.specs.Stream.{HasCause, AppendsFront};
+ghost use Rattle.byte_streams.specs.Stream.{HasCause, AppendsFront};
 ghost use Rattle.cert_check.specs.Text as spec;
 
 use crate::verdict::{Reason, Verdict};
 use book_model::{Fact, Resolved};
-use cert_text::{
-    Failed, Sink, decimal, write_all, write_parts, write_result, write_undecided, write_void,
-};
+use byte_streams::{Failed, Sink, decimal, write_all, write_parts, write_two_counts};
+use cert_text::{write_result, write_undecided, write_void};
 use itoa::Buffer;
 
 /// Writes that a line stands.
@@ -43,11 +42,7 @@ fn write_form<K: Sink>(sink: &mut K, number: u32, rule: u8) -> Result<(), Failed
     ensures err { OnErr result (AppendsFront (K.written sink.old) (K.written sink.new) (spec.form_text number rule)) }
     ensures cause { HasCause (K.faults sink.old) (K.faults sink.new) result }
 {
-    let mut number_buffer = Buffer::new();
-    let mut rule_buffer = Buffer::new();
-    let number = decimal(&mut number_buffer, number);
-    let rule = decimal(&mut rule_buffer, rule);
-    write_parts(sink, &[b"no ", number, b" form ", rule, b"\n"])
+    write_two_counts(sink, b"no ", number, b" form ", u32::from(rule))
 }
 
 /// Writes that a listed fact was answered by another value.
@@ -115,11 +110,7 @@ fn write_place<K: Sink>(sink: &mut K, number: u32, place: u32) -> Result<(), Fai
     ensures err { OnErr result (AppendsFront (K.written sink.old) (K.written sink.new) (spec.list_text number place)) }
     ensures cause { HasCause (K.faults sink.old) (K.faults sink.new) result }
 {
-    let mut number_buffer = Buffer::new();
-    let mut place_buffer = Buffer::new();
-    let number = decimal(&mut number_buffer, number);
-    let place = decimal(&mut place_buffer, place);
-    write_parts(sink, &[b"no ", number, b" list ", place, b"\n"])
+    write_two_counts(sink, b"no ", number, b" list ", place)
 }
 
 /// Writes the front of a line on a result, up to the result.
@@ -135,7 +126,7 @@ fn write_date_head<K: Sink>(sink: &mut K, number: u32) -> Result<(), Failed>
 }
 
 /// Writes a result and the line's end.
-#[tactic(auto, using(cert_text::proofs::Flow::writing))]
+#[tactic(auto, using(byte_streams::proofs::Flow::writing))]
 fn write_found<K: Sink>(sink: &mut K, found: Resolved) -> Result<(), Failed>
     ensures ok { OnOk result (Appends (K.written sink.old) (K.written sink.new) (result_text found ++ codes "\n")) }
     ensures err { OnErr result (AppendsFront (K.written sink.old) (K.written sink.new) (result_text found ++ codes "\n")) }
@@ -147,7 +138,7 @@ fn write_found<K: Sink>(sink: &mut K, found: Resolved) -> Result<(), Failed>
 }
 
 /// Writes that a result has another text.
-#[tactic(auto, using(cert_text::proofs::Flow::writing))]
+#[tactic(auto, using(byte_streams::proofs::Flow::writing))]
 fn write_date<K: Sink>(sink: &mut K, number: u32, found: Resolved) -> Result<(), Failed>
     ensures ok { OnOk result (Appends (K.written sink.old) (K.written sink.new) (spec.date_text number found)) }
     ensures err { OnErr result (AppendsFront (K.written sink.old) (K.written sink.new) (spec.date_text number found)) }

@@ -3,8 +3,8 @@ use Rattle.std.proofs.Common.{◌≡◌, ℕ, ◌+◌, ◌<◌, ℤ, List, lengt
 use Rattle.std.proofs.lemmas.List.{drop_more}
 use Rattle.std.specs.declared.option.Option.{Option}
 use Rattle.std.specs.Io.KnownBytes.{Appends}
-use Rattle.cert_text.specs.Stream.{Wrote, AppendsFront}
-use Rattle.cert_text.proofs.Flow.{wrote_on, wrote_front}
+use Rattle.byte_streams.specs.Stream.{Wrote, AppendsFront}
+use Rattle.byte_streams.proofs.Flow.{wrote_on, wrote_front}
 use Rattle.book_model.specs.declared.fact.Fact.{Fact}
 use Rattle.book_model.specs.Text.{fact_text}
 use Rattle.cert_text.specs.Text.{fact_texts}

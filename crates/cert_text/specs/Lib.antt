@@ -1,8 +1,1 @@
-pub mod Stream
-pub mod Digits
-pub mod Gives
-pub mod Grammar
-pub mod Reading
-pub mod Steps
 pub mod Text
-pub mod ReadAgain

@@ -6,7 +6,7 @@ pub use Rattle.book_model.specs.Text.{too_far_text, no_date_text}
 use Rattle.cert_text.specs.declared.line.CertLine.{CertLine}
 use Rattle.cert_text.specs.declared.line.CertLine.TheVariants.{Shown, TooFar, NoDate, Refused, Undecided, Void}
 use Rattle.cert_text.specs.declared.line.Echo.{Echo}
-use Rattle.cert_text.specs.declared.lines.Block.{Block}
+use Rattle.cert_text.specs.declared.line.Block.{Block}
 
 -- facts numbered from the first
 abbrev pub fact_texts : ℕ → List (Fact × ℤ) → List ℕ

@@ -1,5 +1,5 @@
 //! Lists of bytes and of numbers, which contracts see as lists.
-ghost use Rattle.std.specs.Prelude.{◌≡◌, ◌<◌, ◌++◌, ◌∷◌, [], ℕ, List, Some, length, slice_get, IfOk, OnOk, OnErr};
+ghost use Rattle.std.specs.Prelude.{◌≡◌, ◌++◌, ◌∷◌, [], ℕ, List, IfOk, OnOk, OnErr};
 
 use std::alloc::{AllocError, Global};
 use std::marker::Model;
@@ -17,15 +17,6 @@ impl Model for Word {
 }
 
 impl Word {
-    /// The word of no bytes.
-    pub fn new(alloc: Global) -> Self
-        ensures empty { result ≡ [] }
-    {
-        Word {
-            bytes: Vec::new(alloc),
-        }
-    }
-
     /// The word of these bytes. The error comes where memory runs out.
     pub fn of(alloc: Global, bytes: &[u8]) -> Result<Word, AllocError>
         ensures bytes { IfOk result (λ w. w ≡ bytes.now) }
@@ -40,30 +31,6 @@ impl Word {
         ensures bytes { result ≡ bytes.items }
     {
         Word { bytes }
-    }
-
-    /// How many bytes the word has.
-    pub fn len(&self) -> usize
-        ensures len { result ≡ length self.now }
-    {
-        self.bytes.len()
-    }
-
-    /// The byte at an index, from 0.
-    pub fn item(&self, index: usize) -> &u8
-        requires within { index < length self.now }
-        ensures item { Some result.now ≡ slice_get self.now index }
-    {
-        &self.bytes[index]
-    }
-
-    /// Adds a byte at the end. The error comes where memory runs out, and leaves the word as it was.
-    pub fn push(&mut self, byte: u8) -> Result<(), AllocError>
-        ensures ok { OnOk result (self.new ≡ self.old ++ byte ∷ []) }
-        ensures err { OnErr result (self.new ≡ self.old) }
-    {
-        self.bytes.push(byte)?;
-        Ok(())
     }
 
     /// The bytes.
@@ -94,21 +61,6 @@ impl Numbers {
         Numbers {
             items: Vec::new(alloc),
         }
-    }
-
-    /// How many numbers there are.
-    pub fn len(&self) -> usize
-        ensures len { result ≡ length self.now }
-    {
-        self.items.len()
-    }
-
-    /// The number at an index, from 0.
-    pub fn item(&self, index: usize) -> &u32
-        requires within { index < length self.now }
-        ensures item { Some result.now ≡ slice_get self.now index }
-    {
-        &self.items[index]
     }
 
     /// Adds a number at the end. The error comes where memory runs out, and leaves the list as it was.

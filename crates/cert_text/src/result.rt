@@ -4,13 +4,12 @@ ghost use Rattle.std.specs.Fmt.{signed_decimal};
 ghost use Rattle.std.specs.Io.KnownBytes.{Appends};
 ghost use Rattle.std.specs.List.{flat_map};
 ghost use Rattle.book_model.specs.Text as spec;
-ghost use Rattle.cert_text.specs.Stream.{HasCause, AppendsFront};
+ghost use Rattle.byte_streams.specs.Stream.{HasCause, AppendsFront};
 
-use crate::gathered::Gathered;
 use crate::lists::Word;
-use crate::stream::{Failed, Sink, write_all};
-use crate::write::{decimal, write_parts, write_too_far};
+use crate::write::{REFUSED_5, write_no_date, write_too_far};
 use book_model::{Calendar, Fields, Resolved, Shown, ToWord};
+use byte_streams::{Failed, Gathered, Sink, decimal, write_all, write_parts};
 use itoa::Buffer;
 use std::alloc::{AllocError, Global};
 
@@ -163,7 +162,7 @@ fn write_own_date<K: Sink>(sink: &mut K, back: &Fields) -> Result<(), Failed>
     ensures err { OnErr result (AppendsFront (K.written sink.old) (K.written sink.new) (spec.no_date_text (spec.dashed_text back.now))) }
     ensures cause { HasCause (K.faults sink.old) (K.faults sink.new) result }
 {
-    write_all(sink, b"refused 5 ")?;
+    write_all(sink, REFUSED_5)?;
     write_dashed(sink, back)?;
     Ok(())
 }
@@ -200,6 +199,28 @@ pub fn date_word(alloc: Global, date: &Fields) -> Result<Word, AllocError>
 {
     let mut gathered = Gathered::new(alloc);
     match write_dashed(&mut gathered, date) {
+        Ok(()) => Ok(Word::with(gathered.into_bytes())),
+        Err(_) => Err(AllocError),
+    }
+}
+
+/// The text of a refusal with the day (R.D.) that is out of range, as a word. The error comes where memory runs out.
+pub fn too_far_word(alloc: Global, day: i64) -> Result<Word, AllocError>
+    ensures word { IfOk result (λ w. w ≡ spec.too_far_text day) }
+{
+    let mut gathered = Gathered::new(alloc);
+    match write_too_far(&mut gathered, day) {
+        Ok(()) => Ok(Word::with(gathered.into_bytes())),
+        Err(_) => Err(AllocError),
+    }
+}
+
+/// The text of a refusal with the day's own date, as a word. The error comes where memory runs out.
+pub fn no_date_word(alloc: Global, back: &[u8]) -> Result<Word, AllocError>
+    ensures word { IfOk result (λ w. w ≡ spec.no_date_text back.now) }
+{
+    let mut gathered = Gathered::new(alloc);
+    match write_no_date(&mut gathered, back) {
         Ok(()) => Ok(Word::with(gathered.into_bytes())),
         Err(_) => Err(AllocError),
     }

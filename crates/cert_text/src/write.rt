@@ -2,35 +2,17 @@
 ghost use Rattle.std.specs.Prelude.{◌≡◌, ◌≤◌, ◌<◌, ◌+◌, ◌^◌, ◌++◌, codes, length, OnOk, OnErr};
 ghost use Rattle.std.specs.List.{flat_map};
 ghost use Rattle.std.specs.Io.KnownBytes.{Appends};
-ghost use Rattle.cert_text.specs.Stream.{HasCause, AppendsFront, Wrote};
+ghost use Rattle.byte_streams.specs.Stream.{HasCause, AppendsFront, Wrote};
 ghost use Rattle.book_model.specs.Text as model;
 ghost use Rattle.cert_text.specs.Text as spec;
 
-use crate::line::{CertLine, Echo};
-use crate::lines::Block;
-use crate::stream::{Failed, Sink, write_all};
+use crate::line::{Block, CertLine, Echo};
 use book_model::{Fact, HEADER, Site, Undecided};
-use itoa::{Buffer, Integer};
+use byte_streams::{Failed, Sink, decimal, write_all, write_parts, write_two_counts};
+use itoa::Buffer;
 
-/// The decimal digits of a number, after a minus sign where it is below 0.
-pub fn decimal<'a, I: Integer>(buffer: &'a mut Buffer, number: I) -> &'a [u8]
-    ensures { result.now ≡ I.text number }
-{
-    buffer.format(number).as_bytes()
-}
-
-/// Writes one part after the other. At an error, which comes only where the count of the sink's faults rose, a front of
-/// them was written.
-pub fn write_parts<K: Sink>(sink: &mut K, parts: &[&[u8]]) -> Result<(), Failed>
-    ensures ok { OnOk result (Appends (K.written sink.old) (K.written sink.new) (flat_map (λ part. part.now) parts.now)) }
-    ensures err { OnErr result (AppendsFront (K.written sink.old) (K.written sink.new) (flat_map (λ part. part.now) parts.now)) }
-    ensures cause { HasCause (K.faults sink.old) (K.faults sink.new) result }
-{
-    for part in parts {
-        write_all(sink, *part)?;
-    }
-    Ok(())
-}
+/// What stands before a day's own date.
+pub(crate) const REFUSED_5: &[u8] = b"refused 5 ";
 
 /// Writes the line of a fact with its number and its value.
 #[tactic(auto, unfolding(book_model::specs::Text::fact_text))]
@@ -111,7 +93,7 @@ fn write_numbers<K: Sink>(sink: &mut K, numbers: &[u32]) -> Result<(), Failed>
 }
 
 /// Writes the numbers of the facts that a line lists, and the line's end.
-#[tactic(auto, using(crate::proofs::Flow::writing))]
+#[tactic(auto, using(byte_streams::proofs::Flow::writing))]
 fn write_numbers_end<K: Sink>(sink: &mut K, numbers: &[u32]) -> Result<(), Failed>
     ensures ok { OnOk result (Appends (K.written sink.old) (K.written sink.new) (flat_map model.number_text numbers.now ++ codes "\n")) }
     ensures err { OnErr result (AppendsFront (K.written sink.old) (K.written sink.new) (flat_map model.number_text numbers.now ++ codes "\n")) }
@@ -135,7 +117,7 @@ fn write_list<K: Sink>(sink: &mut K, numbers: &[u32]) -> Result<(), Failed>
 }
 
 /// Writes what a line shows, and its list of facts.
-#[tactic(auto, using(crate::proofs::Flow::writing))]
+#[tactic(auto, using(byte_streams::proofs::Flow::writing))]
 fn write_shown<K: Sink>(sink: &mut K, shown: &[u8], numbers: &[u32]) -> Result<(), Failed>
     ensures ok { OnOk result (Appends (K.written sink.old) (K.written sink.new) (shown.now ++ model.facts_text numbers.now)) }
     ensures err { OnErr result (AppendsFront (K.written sink.old) (K.written sink.new) (shown.now ++ model.facts_text numbers.now)) }
@@ -160,12 +142,12 @@ pub(crate) fn write_too_far<K: Sink>(sink: &mut K, day: i64) -> Result<(), Faile
 
 /// Writes that a day has another date of its own.
 #[tactic(auto, unfolding(book_model::specs::Text::no_date_text))]
-fn write_no_date<K: Sink>(sink: &mut K, back: &[u8]) -> Result<(), Failed>
+pub(crate) fn write_no_date<K: Sink>(sink: &mut K, back: &[u8]) -> Result<(), Failed>
     ensures ok { OnOk result (Appends (K.written sink.old) (K.written sink.new) (model.no_date_text back.now)) }
     ensures err { OnErr result (AppendsFront (K.written sink.old) (K.written sink.new) (model.no_date_text back.now)) }
     ensures cause { HasCause (K.faults sink.old) (K.faults sink.new) result }
 {
-    write_parts(sink, &[b"refused 5 ", back])
+    write_parts(sink, &[REFUSED_5, back])
 }
 
 /// Writes the line of a line that breaks a rule.
@@ -175,11 +157,7 @@ fn write_refused<K: Sink>(sink: &mut K, number: u32, rule: u8) -> Result<(), Fai
     ensures err { OnErr result (AppendsFront (K.written sink.old) (K.written sink.new) (model.refused_text number rule)) }
     ensures cause { HasCause (K.faults sink.old) (K.faults sink.new) result }
 {
-    let mut number_buffer = Buffer::new();
-    let mut rule_buffer = Buffer::new();
-    let number = decimal(&mut number_buffer, number);
-    let rule = decimal(&mut rule_buffer, rule);
-    write_parts(sink, &[b"line ", number, b" refused ", rule, b"\n"])
+    write_two_counts(sink, b"line ", number, b" refused ", u32::from(rule))
 }
 
 /// Writes the number of a line, and that a fact is undecided.
@@ -249,7 +227,7 @@ fn write_empty<K: Sink>(sink: &mut K, number: u32, fact: Fact, site: Site) -> Re
 
 /// Writes a line that names an undecided fact, behind a head. At an error, which comes only where the count of the
 /// sink's faults rose, a front of the text was written.
-#[tactic(auto, using(crate::proofs::Flow::writing))]
+#[tactic(auto, using(byte_streams::proofs::Flow::writing))]
 pub fn write_undecided<K: Sink>(
     sink: &mut K,
     head: &[u8],
@@ -268,7 +246,7 @@ pub fn write_undecided<K: Sink>(
 
 /// Writes a line that names a void fact, behind a head. At an error, which comes only where the count of the sink's
 /// faults rose, a front of the text was written.
-#[tactic(auto, using(crate::proofs::Flow::writing))]
+#[tactic(auto, using(byte_streams::proofs::Flow::writing))]
 pub fn write_void<K: Sink>(
     sink: &mut K,
     head: &[u8],
@@ -286,7 +264,7 @@ pub fn write_void<K: Sink>(
 }
 
 /// Writes that a day is out of range, and the list of facts.
-#[tactic(auto, using(crate::proofs::Flow::writing))]
+#[tactic(auto, using(byte_streams::proofs::Flow::writing))]
 fn write_too_far_end<K: Sink>(sink: &mut K, day: i64, numbers: &[u32]) -> Result<(), Failed>
     ensures ok { OnOk result (Appends (K.written sink.old) (K.written sink.new) (model.too_far_text day ++ model.facts_text numbers.now)) }
     ensures err { OnErr result (AppendsFront (K.written sink.old) (K.written sink.new) (model.too_far_text day ++ model.facts_text numbers.now)) }
@@ -298,7 +276,7 @@ fn write_too_far_end<K: Sink>(sink: &mut K, day: i64, numbers: &[u32]) -> Result
 }
 
 /// Writes a day's own date, and the list of facts.
-#[tactic(auto, using(crate::proofs::Flow::writing))]
+#[tactic(auto, using(byte_streams::proofs::Flow::writing))]
 fn write_no_date_end<K: Sink>(sink: &mut K, back: &[u8], numbers: &[u32]) -> Result<(), Failed>
     ensures ok { OnOk result (Appends (K.written sink.old) (K.written sink.new) (model.no_date_text back.now ++ model.facts_text numbers.now)) }
     ensures err { OnErr result (AppendsFront (K.written sink.old) (K.written sink.new) (model.no_date_text back.now ++ model.facts_text numbers.now)) }
@@ -310,7 +288,7 @@ fn write_no_date_end<K: Sink>(sink: &mut K, back: &[u8], numbers: &[u32]) -> Res
 }
 
 /// Writes a line with a result.
-#[tactic(auto, using(crate::proofs::Flow::writing))]
+#[tactic(auto, using(byte_streams::proofs::Flow::writing))]
 fn write_listed<K: Sink>(
     sink: &mut K,
     number: u32,
@@ -328,7 +306,7 @@ fn write_listed<K: Sink>(
 }
 
 /// Writes a line whose computed day is out of range.
-#[tactic(auto, using(crate::proofs::Flow::writing))]
+#[tactic(auto, using(byte_streams::proofs::Flow::writing))]
 fn write_far_line<K: Sink>(
     sink: &mut K,
     number: u32,
@@ -346,7 +324,7 @@ fn write_far_line<K: Sink>(
 }
 
 /// Writes a line whose day has another date.
-#[tactic(auto, using(crate::proofs::Flow::writing))]
+#[tactic(auto, using(byte_streams::proofs::Flow::writing))]
 fn write_back_line<K: Sink>(
     sink: &mut K,
     number: u32,
@@ -363,8 +341,9 @@ fn write_back_line<K: Sink>(
     Ok(())
 }
 
-/// Writes a line with its number.
-pub(crate) fn write_line<K: Sink>(sink: &mut K, number: u32, line: &CertLine) -> Result<(), Failed>
+/// Writes a line with its number. At an error, which comes only where the count of the sink's faults rose, a front of the
+/// text was written.
+pub fn write_line<K: Sink>(sink: &mut K, number: u32, line: &CertLine) -> Result<(), Failed>
     ensures ok { OnOk result (Appends (K.written sink.old) (K.written sink.new) (spec.line_text number line.now)) }
     ensures err { OnErr result (AppendsFront (K.written sink.old) (K.written sink.new) (spec.line_text number line.now)) }
     ensures cause { HasCause (K.faults sink.old) (K.faults sink.new) result }
@@ -389,7 +368,7 @@ pub(crate) fn write_line<K: Sink>(sink: &mut K, number: u32, line: &CertLine) ->
 
 /// Writes the text of a block: its facts, numbered from its first, and then its line with its number. At an error,
 /// which comes only where the count of the sink's faults rose, a front of the text was written.
-#[tactic(auto, using(crate::proofs::Flow::writing))]
+#[tactic(auto, using(byte_streams::proofs::Flow::writing))]
 pub fn write_block<K: Sink>(sink: &mut K, block: &Block) -> Result<(), Failed>
     requires { block.now.first + length block.now.facts ≤ 2 ^ 32 }
     ensures ok { OnOk result (Appends (K.written sink.old) (K.written sink.new) (spec.block_text block.now)) }
@@ -417,9 +396,5 @@ pub fn write_end<K: Sink>(sink: &mut K, lines: u32, facts: u32) -> Result<(), Fa
     ensures err { OnErr result (AppendsFront (K.written sink.old) (K.written sink.new) (model.end_text lines facts)) }
     ensures cause { HasCause (K.faults sink.old) (K.faults sink.new) result }
 {
-    let mut lines_buffer = Buffer::new();
-    let mut facts_buffer = Buffer::new();
-    let lines = decimal(&mut lines_buffer, lines);
-    let facts = decimal(&mut facts_buffer, facts);
-    write_parts(sink, &[b"end lines ", lines, b" facts ", facts, b"\n"])
+    write_two_counts(sink, b"end lines ", lines, b" facts ", facts)
 }

@@ -6,3 +6,4 @@ pub mod Requests
 pub mod OtherCalendars
 pub mod YearNumbers
 pub mod GregorianDates
+pub mod LineLemmas

@@ -93,7 +93,7 @@ pub(crate) fn named_day<O: Oracle>(
     }
 }
 
-/// The date of a day (R.D.), from 1 January 1802 to 31 December 2048. It stops where the oracle stops.
+/// The date of a day (R.D.) in range. It stops where the oracle stops.
 #[tactic(auto, using(oracle_core::proofs::Inquiring::asking))]
 pub(crate) fn date_on<O: Oracle>(
     oracle: &mut O,

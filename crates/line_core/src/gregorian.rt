@@ -6,7 +6,7 @@ ghost use Rattle.book_model.specs.Dates as dates;
 use book_model::{FIRST_ANSWERED_DAY, Fields, LAST_ANSWERED_DAY};
 use civil_core::{from_fixed, to_fixed};
 
-/// Whether a day (R.D.) is one of 1 January 1802 to 31 December 2048.
+/// Whether a day (R.D.) is one of the days that a line may name.
 pub(crate) fn is_in_range(day: i64) -> bool
     ensures range { result ≡ dates.is_in_range day }
 {
@@ -32,7 +32,7 @@ pub(crate) fn gregorian_day(date: &Fields) -> Option<i64>
     date_day(date.field(0), date.field(1), date.field(2))
 }
 
-/// The year, month and day of a day number (R.D.), from 1 January 1802 to 31 December 2048.
+/// The year, month and day of a day number (R.D.) in range.
 pub(crate) fn gregorian_date(day: i64) -> Fields
     requires in_range { IsTrue (dates.is_in_range day) }
     ensures fields { result ≡ dates.gregorian_fields_on day }

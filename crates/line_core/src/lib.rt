@@ -6,8 +6,10 @@ mod fields;
 mod gregorian;
 mod line;
 mod result;
+mod split;
 #[cfg(test)]
 mod tests;
 
 pub use line::{Words, cut_word, read_line, three_words};
 pub use result::resolve;
+pub use split::split_lines;

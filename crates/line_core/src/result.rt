@@ -98,8 +98,8 @@ fn resolve_within<O: Oracle>(oracle: &mut O, request: &Request, day: i64) -> Res
     confirm(oracle, request, day, back)
 }
 
-/// What a day (R.D.) comes to that the date of a request names: `TooFar` outside 1 January 1802 to 31 December 2048,
-/// and `NoDate` where the calendar of the request has another date for it. It stops where the oracle stops.
+/// What a day (R.D.) comes to that the date of a request names: `TooFar` where it isn't in range, and `NoDate` where
+/// the calendar of the request has another date for it. It stops where the oracle stops.
 #[tactic(auto, using(oracle_core::proofs::Inquiring::asking), unfolding(book_model::specs::LineRules::result_of_day))]
 fn resolve_day<O: Oracle>(oracle: &mut O, request: &Request, day: i64) -> Result<Resolved, Stop>
     ensures comes { Inquires O.meaning (spec.result_of_day request.now day) (O.state oracle.old) (O.state oracle.new) result }
@@ -113,8 +113,8 @@ fn resolve_day<O: Oracle>(oracle: &mut O, request: &Request, day: i64) -> Result
 
 /// What a request that breaks no rule by itself comes to: the result of the line's rule by what the oracle knows, for
 /// which the facts that the rule asks are added to the oracle's list. `TooFar` comes exactly where the day that the
-/// date names is outside 1 January 1802 to 31 December 2048, and `NoDate` exactly where it isn't and has another date
-/// in the calendar of the request. It stops where the oracle stops, at a fact that the rule asks.
+/// date names isn't one of those that a line may name, and `NoDate` exactly where it is and has another date in the
+/// calendar of the request. It stops where the oracle stops, at a fact that the rule asks.
 #[tactic(auto, using(oracle_core::proofs::Inquiring::asking), unfolding(book_model::specs::LineRules::rule_of))]
 pub fn resolve<O: Oracle>(oracle: &mut O, request: &Request) -> Result<Resolved, Stop>
     requires possible { IsTrue (is_possible request.now) }

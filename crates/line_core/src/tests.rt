@@ -1,9 +1,13 @@
 //! What requests come to, over oracles with small lists.
-ghost use Rattle.std.specs.Prelude.{◌≡◌, ◌≢◌, ◌≤ℤ◌, pos, negsuc};
+ghost use Rattle.std.specs.Prelude.{◌≡◌, ◌≢◌};
+ghost use Rattle.book_model.specs.Facts.{IsFactDay, IsFactValue};
 ghost use Rattle.book_model.specs.Persian.{nowruz_fact};
 
 use super::*;
-use book_model::{Fact, Fields, Kind, Place, Resolved, ToWord};
+use book_model::{
+    FIRST_FACT_DAY, Fact, Fields, GREATEST_VALUE, Kind, LAST_FACT_DAY, LEAST_VALUE, Place,
+    Resolved, ToWord,
+};
 use oracle_core::{Listed, Oracle, Stop};
 use std::alloc::Global;
 use std::process::Abort;
@@ -111,8 +115,7 @@ fn a_missing_fact_stops(rt: HostRuntime) -> Result<(), Fail> {
 
 /// The fact of the first day of the Persian year that a day falls in.
 fn nowruz_on(day: i64) -> Fact
-    requires low { negsuc 39999999 ≤ℤ day }
-    requires high { day ≤ℤ pos 40000000 }
+    requires day { IsFactDay day }
     ensures fact { result ≡ nowruz_fact day }
 {
     Fact::new(Kind::Nowruz, Place::None, day).unwrap()
@@ -127,12 +130,9 @@ fn resolved(
     new_year: i64,
 ) -> Result<(Result<Resolved, Stop>, usize), Fail>
     requires apart { within ≢ day }
-    requires within_from { negsuc 39999999 ≤ℤ within }
-    requires within_to { within ≤ℤ pos 40000000 }
-    requires day_from { negsuc 39999999 ≤ℤ day }
-    requires day_to { day ≤ℤ pos 40000000 }
-    requires low { negsuc 9999999 ≤ℤ new_year }
-    requires high { new_year ≤ℤ pos 10000000 }
+    requires within { IsFactDay within }
+    requires day { IsFactDay day }
+    requires new_year { IsFactValue new_year }
 {
     let facts = [nowruz_on(within), nowruz_on(day)];
     let values = [new_year, new_year];
@@ -149,12 +149,12 @@ type Row<'a> = (&'a str, i64, i64, i64, usize);
 fn row_holds(rt: &impl Abort, alloc: Global, row: Row<'_>, want: Resolved) -> Result<(), Fail> {
     let (line, within, day, new_year, count) = row;
     assert!(rt; within != day);
-    assert!(rt; 0 <= within);
-    assert!(rt; within <= 1_000_000);
-    assert!(rt; 0 <= day);
-    assert!(rt; day <= 1_000_000);
-    assert!(rt; 0 <= new_year);
-    assert!(rt; new_year <= 1_000_000);
+    assert!(rt; FIRST_FACT_DAY <= within);
+    assert!(rt; within <= LAST_FACT_DAY);
+    assert!(rt; FIRST_FACT_DAY <= day);
+    assert!(rt; day <= LAST_FACT_DAY);
+    assert!(rt; LEAST_VALUE <= new_year);
+    assert!(rt; new_year <= GREATEST_VALUE);
     let (result, asked) = resolved(alloc, line, within, day, new_year)?;
     assert_eq!(rt; result, Ok(want), "at {line:?}");
     assert_eq!(rt; asked, count, "at {line:?}");

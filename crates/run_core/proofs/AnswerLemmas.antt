@@ -1,12 +1,11 @@
 -- What an oracle over an evaluator answers makes a right outcome.
-use Rattle.std.proofs.Common.{◌≡◌, ℕ, ◌≤◌, ℤ, sym, arith, List, []}
+use Rattle.std.proofs.Common.{◌≡◌, ℕ, ℤ, sym, arith, List, []}
 use Rattle.std.specs.Prelude.{Ok, Err}
 use Rattle.book_model.specs.declared.fact.Fact.{Fact}
 use Rattle.book_model.specs.declared.fail.Undecided.{Undecided}
 use Rattle.book_model.specs.declared.site.Site.{Site}
 use Rattle.book_model.specs.declared.request.Request.{Request}
 use Rattle.book_model.specs.declared.request.Resolved.{Resolved}
-use Rattle.book_model.specs.Inquiries.{found, finding}
 use Rattle.book_model.specs.LineRules.{rule_of}
 use Rattle.book_model.specs.Outcomes.{LineOutcome, refused, resolved, undecided, void, IsRightFor}
 use Rattle.book_model.specs.Requests.{request_of}

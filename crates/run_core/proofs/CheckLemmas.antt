@@ -7,10 +7,10 @@ use Rattle.std.specs.List.{list_all}
 use Rattle.std.specs.declared.option.Option.{Option}
 use Rattle.std.specs.Io.KnownBytes.{Appends, Keeps}
 use Rattle.oracle_core.specs.declared.evaluator.Answer.{Answer}
-use Rattle.cert_text.specs.declared.lines.CertFile.{CertFile}
-use Rattle.cert_text.specs.Reading.{grammar_of, file}
-use Rattle.cert_text.specs.Stream.{Wrote, AppendsFront}
-use Rattle.cert_text.proofs.Flow.{buffered_on, buffered_front}
+use Rattle.cert_read.specs.declared.lines.CertFile.{CertFile}
+use Rattle.cert_read.specs.Reading.{grammar_of, file}
+use Rattle.byte_streams.specs.Stream.{Wrote, AppendsFront}
+use Rattle.byte_streams.proofs.Flow.{buffered_on, buffered_front}
 use Rattle.cert_check.specs.declared.verdict.Verdict.{Verdict}
 use Rattle.cert_check.specs.Verdicts.{AreRightAnswers, IsCheckable, line_at}
 use Rattle.cert_check.proofs.Certified.{yes_line}

@@ -1,4 +1,3 @@
-pub mod MemoryLemmas
 pub mod TextLemmas
 pub mod BlockLemmas
 pub mod RightLemmas

@@ -10,8 +10,8 @@ use Rattle.book_model.specs.Outcomes.{LineOutcome}
 use Rattle.book_model.specs.Text.{block_text, seen_after, text_from, end_text}
 use Rattle.run_core.specs.declared.outcome.Outcome.{Outcome}
 use Rattle.run_core.specs.Outcomes.{line_outcome}
-use Rattle.cert_text.specs.Stream.{Wrote, AppendsFront}
-use Rattle.cert_text.proofs.Flow.{buffered_on, buffered_front, wrote_flushed, front_then}
+use Rattle.byte_streams.specs.Stream.{Wrote, AppendsFront}
+use Rattle.byte_streams.proofs.Flow.{buffered_on, buffered_front, wrote_flushed, front_then}
 
 -- the text from a line on is its block and the text from the next line on
 text_split : {X : Type 0} (f : X → List ℕ) (seen : List Fact) (i : ℕ) (lines : List X) (os : List Outcome) (d : X) (o : Outcome) → i < length lines → i < length os → o ≡ get_or os i o

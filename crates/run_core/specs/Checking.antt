@@ -4,9 +4,9 @@ use Rattle.std.specs.List.{concat, list_all}
 use Rattle.std.specs.declared.option.Option.{Option}
 use Rattle.std.specs.Io.KnownBytes.{Appends}
 use Rattle.oracle_core.specs.declared.evaluator.Answer.{Answer}
-use Rattle.cert_text.specs.declared.lines.CertFile.{CertFile}
-use Rattle.cert_text.specs.Reading.{grammar_of, file, bad}
-use Rattle.cert_text.specs.Stream.{AppendsFront}
+use Rattle.cert_read.specs.declared.lines.CertFile.{CertFile}
+use Rattle.cert_read.specs.Reading.{grammar_of, file, bad}
+use Rattle.byte_streams.specs.Stream.{AppendsFront}
 use Rattle.cert_check.specs.declared.verdict.Verdict.{Verdict}
 use Rattle.cert_check.specs.declared.verdict.Verdict.TheVariants.{Yes, No, Skip}
 use Rattle.cert_check.specs.Text.{counts_text}

@@ -12,7 +12,7 @@ use Rattle.run_core.specs.declared.command.Command.{Command}
 use Rattle.run_core.specs.declared.command.Command.TheVariants.{Convert, Check}
 use Rattle.run_core.specs.declared.status.Status.{Status}
 use Rattle.run_core.specs.declared.status.Status.TheVariants.{Done, Mixed, Words, ReadFault, WriteFault, Memory, TooLarge, BadText}
-use Rattle.cert_text.specs.Stream.{AppendsFront}
+use Rattle.byte_streams.specs.Stream.{AppendsFront}
 
 -- the number of a status, with which the program exits
 abbrev pub status_number : Status → ℕ

@@ -9,7 +9,7 @@ ghost use Rattle.run_core.specs.Outcomes.{line_outcome};
 use crate::numbering::{count_of, number_after, number_facts};
 use crate::outcome::Outcome;
 use book_model::{Fact, Resolved};
-use cert_text::{Block, CertLine, Echo, Numbers, Word, date_word, result_word};
+use cert_text::{Block, CertLine, Echo, Numbers, date_word, result_word};
 use indexmap::IndexSet;
 use line_core::three_words;
 use oracle_core::FactValues;
@@ -34,11 +34,7 @@ fn echo_of(alloc: Global, line: &[u8]) -> Result<Echo, AllocError>
     ensures words { IfOk result (λ e. words_of line.now ≡ e.from ∷ e.date ∷ e.to ∷ []) }
 {
     let words = three_words(line).unwrap();
-    Ok(Echo {
-        from: Word::of(alloc, words.from)?,
-        date: Word::of(alloc, words.date)?,
-        to: Word::of(alloc, words.to)?,
-    })
+    Echo::of(alloc, words.from, words.date, words.to)
 }
 
 /// A line with its result and the numbers of the facts that it rests on.

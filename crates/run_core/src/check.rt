@@ -3,15 +3,15 @@ ghost use Rattle.std.specs.Prelude.{◌≡◌, ◌≤◌, ◌<◌, ◌+◌, ◌+
 ghost use Rattle.std.specs.List.{list_all};
 ghost use Rattle.std.specs.Io.KnownBytes.{Appends, Keeps};
 ghost use Rattle.cert_check.specs.Verdicts.{AreRightAnswers, IsCheckable};
-ghost use Rattle.cert_text.specs.Stream.{Rose, HasCause, AppendsFront, Wrote};
+ghost use Rattle.byte_streams.specs.Stream.{Rose, HasCause, AppendsFront, Wrote};
 ghost use Rattle.run_core.specs.Checking as spec;
 
 use crate::numbering::{count_of, number_after};
 use crate::pending::{MANY, settle};
 use crate::text::WriteStop;
+use byte_streams::{Failed, Gathered, Sink, write_two_counts};
 use cert_check::{Verdict, check_facts, check_line, write_counts, write_verdict};
-use cert_text::{CertFile, Failed, Gathered, ReadFail, Sink, decimal, read_file, write_parts};
-use itoa::Buffer;
+use cert_read::{CertFile, ReadFail, read_file};
 use oracle_core::{Answers, Evaluator};
 use std::alloc::{AllocError, Global};
 
@@ -90,7 +90,7 @@ fn verdicts_of(
 }
 
 /// Puts the verdict of a line behind the bytes that wait, and writes them all once they are many.
-#[tactic(auto, using(cert_text::proofs::Flow::writing))]
+#[tactic(auto, using(byte_streams::proofs::Flow::writing))]
 fn put_verdict<K: Sink>(
     sink: &mut K,
     pending: &mut Gathered,
@@ -113,7 +113,7 @@ fn put_verdict<K: Sink>(
 }
 
 /// Writes the bytes that wait, and how many verdicts there are of each kind.
-#[tactic(auto, using(cert_text::proofs::Flow::writing))]
+#[tactic(auto, using(byte_streams::proofs::Flow::writing))]
 fn put_counts<K: Sink>(
     sink: &mut K,
     pending: &mut Gathered,
@@ -162,11 +162,7 @@ fn write_bad<K: Sink>(sink: &mut K, line: u32, rule: u8) -> Result<(), Failed>
     ensures err { OnErr result (AppendsFront (K.written sink.old) (K.written sink.new) (spec.bad_text line rule)) }
     ensures cause { HasCause (K.faults sink.old) (K.faults sink.new) result }
 {
-    let mut line_buffer = Buffer::new();
-    let mut rule_buffer = Buffer::new();
-    let line = decimal(&mut line_buffer, line);
-    let rule = decimal(&mut rule_buffer, rule);
-    write_parts(sink, &[b"bad ", line, b" ", rule, b"\n"])
+    write_two_counts(sink, b"bad ", line, b" ", u32::from(rule))
 }
 
 /// Writes the verdicts of the lines of a file, and says whether all are yes.

@@ -8,22 +8,18 @@ mod check;
 mod command;
 mod gate;
 pub mod laws;
-mod memory;
 mod numbering;
 mod outcome;
 mod pending;
 mod program;
-mod standard;
 mod status;
 mod text;
 
-pub use cert_text::{Failed, Sink, Source};
+pub use byte_streams::{Failed, MemorySink, MemorySource, Sink, Source, StdSink, StdSource};
 pub use command::Command;
 pub use gate::{Gate, OpenGate};
-pub use memory::{MemorySink, MemorySource};
 pub use outcome::{Outcome, outcome_of, outcomes_of};
 pub use program::run;
-pub use standard::{StdSink, StdSource};
 pub use status::Status;
 pub use text::{WriteStop, write_text};
 

@@ -1,14 +1,14 @@
 //! Bytes that wait to be written, so that many blocks make few writes.
 ghost use Rattle.std.specs.Prelude.{◌≡◌, ◌≤◌, length, OnOk, OnErr};
-ghost use Rattle.cert_text.specs.Stream.{HasCause, AppendsFront, Wrote};
+ghost use Rattle.byte_streams.specs.Stream.{HasCause, AppendsFront, Wrote};
 
-use cert_text::{Failed, Gathered, Sink, write_all};
+use byte_streams::{Failed, Gathered, Sink, write_all};
 
 /// How many bytes may wait before they are written.
 pub(crate) const MANY: usize = 65536;
 
 /// Writes the bytes that wait, where they are more than so many. At an error a front of them was written.
-#[tactic(auto, using(cert_text::proofs::Flow::wrote_whole))]
+#[tactic(auto, using(byte_streams::proofs::Flow::wrote_whole))]
 pub(crate) fn settle<K: Sink>(
     sink: &mut K,
     pending: &mut Gathered,

@@ -7,7 +7,7 @@ ghost use Rattle.run_core.specs.Outcomes.{line_outcome};
 ghost use Rattle.run_core.specs.Checking.{RefusesText};
 ghost use Rattle.run_core.specs.Commands.{command_of as named, input_of, limit_of};
 ghost use Rattle.run_core.specs.Run.{usage, Printed, CutShort, Finishes, IsCut, IsOfWork, HasRead, CanRead, IsTooLarge, IsPast};
-ghost use Rattle.cert_text.specs.Stream.{Rose, HasCause, AppendsFront};
+ghost use Rattle.byte_streams.specs.Stream.{Rose, HasCause, AppendsFront};
 
 use crate::check::{Checked, check};
 use crate::command::{Command, command_of};
@@ -16,7 +16,8 @@ use crate::outcome::{Outcome, outcomes_of};
 use crate::status::Status;
 use crate::text::{WriteStop, write_text};
 use book_model::Resolved;
-use cert_text::{ReadStop, Sink, Source, read_all, split_lines, write_all};
+use byte_streams::{ReadStop, Sink, Source, read_all, write_all};
+use line_core::split_lines;
 use oracle_core::Evaluator;
 use std::alloc::Global;
 use std::thread::Threads;

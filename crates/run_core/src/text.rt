@@ -3,7 +3,7 @@ ghost use Rattle.std.specs.Prelude.{◌≡◌, ◌≤◌, ◌<◌, ◌+◌, ◌+
 ghost use Rattle.std.specs.Io.KnownBytes.{Appends};
 ghost use Rattle.book_model.specs.Outcomes.{IsRightFor, AreRight};
 ghost use Rattle.book_model.specs.Text as spec;
-ghost use Rattle.cert_text.specs.Stream.{Rose, AppendsFront, Wrote};
+ghost use Rattle.byte_streams.specs.Stream.{Rose, AppendsFront, Wrote};
 ghost use Rattle.run_core.specs.Outcomes.{line_outcome};
 ghost use Rattle.run_core.specs.declared.text.WriteStop.TheVariants.{Fault, Memory};
 
@@ -12,7 +12,8 @@ use crate::numbering::{count_of, number_after};
 use crate::outcome::Outcome;
 use crate::pending::{MANY, settle};
 use book_model::Fact;
-use cert_text::{Failed, Gathered, Sink, write_block, write_end, write_header};
+use byte_streams::{Failed, Gathered, Sink};
+use cert_text::{write_block, write_end, write_header};
 use indexmap::IndexSet;
 use std::alloc::{AllocError, Global};
 
@@ -40,7 +41,7 @@ impl From<AllocError> for WriteStop {
 }
 
 /// Puts the block of a line behind the bytes that wait, and writes them all once they are many.
-#[tactic(auto, using(cert_text::proofs::Flow::writing))]
+#[tactic(auto, using(byte_streams::proofs::Flow::writing))]
 fn put_block<K: Sink>(
     alloc: Global,
     sink: &mut K,
@@ -69,7 +70,7 @@ fn put_block<K: Sink>(
 }
 
 /// Writes the bytes that wait, and the last line.
-#[tactic(auto, using(cert_text::proofs::Flow::writing))]
+#[tactic(auto, using(byte_streams::proofs::Flow::writing))]
 fn put_end<K: Sink>(
     sink: &mut K,
     pending: &mut Gathered,

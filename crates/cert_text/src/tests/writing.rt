@@ -1,11 +1,9 @@
-//! The seven forms, written and read, and sinks that are full in the middle of a block.
+//! The forms of lines, and sinks that are full in the middle of a block.
 ghost use Rattle.std.specs.Prelude.{◌≤◌, ◌+◌, ◌^◌, length, IfOk};
 
-use super::LIMIT;
-use super::kept::Kept;
-use crate::write::write_line;
-use crate::{Block, CertLine, Echo, Failed, Numbers, Word, read_file, write_block};
+use crate::{Block, CertLine, Echo, Numbers, Word, write_block};
 use book_model::{Fact, Kind, Place, Site, Undecided};
+use byte_streams::{Failed, MemorySink};
 use oracle_core::FactValues;
 use std::alloc::{AllocError, Global};
 use std::process::Abort;
@@ -19,14 +17,6 @@ const TEXT: &[u8] = b"fact 1 dt - 738926 73871\n\
     line 4 refused 3\n\
     line 5 undecided round 2 -5 7 fact dt - 738926\n\
     line 6 void bisect-end fact dt - -5\n";
-
-/// The echo of three words.
-fn echo(alloc: Global, from: &[u8], date: &[u8], to: &[u8]) -> Result<Echo, AllocError> {
-    let from = Word::of(alloc, from)?;
-    let date = Word::of(alloc, date)?;
-    let to = Word::of(alloc, to)?;
-    Ok(Echo { from, date, to })
-}
 
 /// The correction on a day (R.D.).
 fn correction_on(day: i64) -> Result<Fact, &'static str> {
@@ -42,7 +32,7 @@ fn first_fact(alloc: Global) -> Result<Numbers, AllocError> {
 
 /// A line with a result.
 fn shown(alloc: Global) -> Result<CertLine, AllocError> {
-    let echo = echo(alloc, b"gregorian", b"2024-02-10", b"dt")?;
+    let echo = Echo::of(alloc, b"gregorian", b"2024-02-10", b"dt")?;
     let correction = Word::of(alloc, b"73871")?;
     let facts = first_fact(alloc)?;
     Ok(CertLine::Shown {
@@ -54,7 +44,7 @@ fn shown(alloc: Global) -> Result<CertLine, AllocError> {
 
 /// A line whose computed day is out of range.
 fn too_far(alloc: Global) -> Result<CertLine, AllocError> {
-    let echo = echo(alloc, b"persian", b"1427-10-12", b"gregorian")?;
+    let echo = Echo::of(alloc, b"persian", b"1427-10-12", b"gregorian")?;
     let facts = first_fact(alloc)?;
     let day = 748_018;
     Ok(CertLine::TooFar { echo, day, facts })
@@ -62,7 +52,7 @@ fn too_far(alloc: Global) -> Result<CertLine, AllocError> {
 
 /// A line whose day has another date.
 fn no_date(alloc: Global) -> Result<CertLine, AllocError> {
-    let echo = echo(alloc, b"persian", b"1402-12-30", b"gregorian")?;
+    let echo = Echo::of(alloc, b"persian", b"1402-12-30", b"gregorian")?;
     let back = Word::of(alloc, b"1403-1-1")?;
     let facts = Numbers::new(alloc);
     Ok(CertLine::NoDate { echo, back, facts })
@@ -92,7 +82,7 @@ fn first_block(alloc: Global) -> Result<Block, Fail>
 }
 
 /// Writes a line with its number as a block without facts.
-fn write_alone(rt: &impl Abort, alloc: Global, sink: &mut Kept, number: u32, line: CertLine) {
+fn write_alone(rt: &impl Abort, alloc: Global, sink: &mut MemorySink, number: u32, line: CertLine) {
     let block = Block {
         facts: FactValues::new(alloc),
         first: 2,
@@ -108,7 +98,7 @@ fn each_form_is_written(rt: HostRuntime) -> Result<(), Fail> {
     let fact = correction_on(738_926)?;
     let earlier = correction_on(-5)?;
     let site = Site::BisectEnd;
-    let mut sink = Kept::new(alloc, 1000, 7);
+    let mut sink = MemorySink::new(alloc, 1000, Vec::new(alloc))?;
     assert_eq!(rt; write_block(&mut sink, &first_block(alloc)?), Ok(()));
     write_alone(&rt, alloc, &mut sink, 2, too_far(alloc)?);
     write_alone(&rt, alloc, &mut sink, 3, no_date(alloc)?);
@@ -130,39 +120,16 @@ fn each_form_is_written(rt: HostRuntime) -> Result<(), Fail> {
             site,
         },
     );
-    assert_eq!(rt; sink.bytes.as_slice(), TEXT);
-    Ok(())
-}
-
-#[test]
-fn each_form_is_read_and_written_again(rt: HostRuntime) -> Result<(), Fail> {
-    let alloc = rt.alloc();
-    let mut text = Vec::from_slice(alloc, b"calendrica 1 depth 40\n")?;
-    text.extend_from_slice(TEXT)?;
-    text.extend_from_slice(b"end lines 6 facts 1\n")?;
-    assert!(rt; text.len() <= LIMIT);
-    let file = read_file(alloc, &text)?;
-    assert_eq!(rt;
-        file.facts.entries(),
-        [(correction_on(738_926)?, 73_871)].as_slice()
-    );
-    let mut sink = Kept::new(alloc, 1000, 1000);
-    assert_eq!(rt; file.lines.len(), 6);
-    for (line, number) in file.lines.entries().iter().zip(1..7u32) {
-        assert_eq!(rt; write_line(&mut sink, number, line), Ok(()));
-    }
-    let fact = b"fact 1 dt - 738926 73871\n";
-    assert_eq!(rt; sink.bytes.as_slice(), &TEXT[fact.len()..]);
+    assert_eq!(rt; sink.written(), TEXT);
     Ok(())
 }
 
 /// A sink with so much room, less than the first block takes, keeps as much of it.
 fn assert_front_is_kept(rt: &impl Abort, alloc: Global, room: usize) -> Result<(), Fail> {
-    let mut sink = Kept::new(alloc, room, 1000);
+    let mut sink = MemorySink::new(alloc, room, Vec::new(alloc))?;
     assert_eq!(rt; write_block(&mut sink, &first_block(alloc)?), Err(Failed));
     assert!(rt; room <= TEXT.len());
-    assert_eq!(rt; sink.bytes.as_slice(), &TEXT[..room], "room for {room}");
-    assert_eq!(rt; sink.faults, 1);
+    assert_eq!(rt; sink.written(), &TEXT[..room], "room for {room}");
     Ok(())
 }
 
@@ -172,7 +139,7 @@ fn a_sink_that_is_full_keeps_a_front_of_the_block(rt: HostRuntime) -> Result<(),
     for room in 0..70usize {
         assert_front_is_kept(&rt, alloc, room)?;
     }
-    let mut sink = Kept::new(alloc, 70, 1000);
+    let mut sink = MemorySink::new(alloc, 70, Vec::new(alloc))?;
     assert_eq!(rt; write_block(&mut sink, &first_block(alloc)?), Ok(()));
     Ok(())
 }

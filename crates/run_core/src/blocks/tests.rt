@@ -1,7 +1,7 @@
 //! The blocks of lines, as they are written.
 use super::*;
-use crate::memory::MemorySink;
 use book_model::{Fields, Kind, Place, Rule, Site, ToWord, Undecided};
+use byte_streams::MemorySink;
 use cert_text::write_block;
 use std::test::Fail;
 

@@ -1,6 +1,4 @@
 use Rattle.book_model.specs.LineRules.{rule_of}
-use Rattle.oracle_core.specs.Pairs.{FactTable}
-use Rattle.oracle_core.specs.Inquiring.{State}
 use Rattle.cert_check.proofs.Tracing.{IsFresh, asked_within, traced_verdict, missing_verdict}
 use Rattle.cert_check.proofs.check.verdict_over.Goals as goal
 

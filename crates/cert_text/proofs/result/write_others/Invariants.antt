@@ -1,7 +1,7 @@
 use Rattle.std.proofs.Common.{◌≤◌, drop}
 use Rattle.std.specs.List.{flat_map}
 use Rattle.book_model.specs.Text.{dash_text}
-use Rattle.cert_text.specs.Stream.{Wrote}
+use Rattle.byte_streams.specs.Stream.{Wrote}
 use Rattle.cert_text.proofs.result.write_others.Given as goal
 
 abbrev pub invariant-loop-value : goal.invariant-loop-value

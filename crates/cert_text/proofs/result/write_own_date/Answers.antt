@@ -1,5 +1,5 @@
 use Rattle.book_model.specs.Text.{no_date_text}
-use Rattle.cert_text.proofs.Flow.{failed_first, failed_second, appends_on}
+use Rattle.byte_streams.proofs.Flow.{failed_first, failed_second, appends_on}
 use Rattle.cert_text.proofs.result.write_own_date.Goals as goal
 
 pub returns-in_err-write_all-clause-err : goal.returns-in_err-write_all-clause-err

@@ -1,5 +1,5 @@
 use Rattle.std.proofs.Common.{rules, ◌≡◌, w32, to_z, of_z}
-use Rattle.cert_text.proofs.Flow.{appends_on, front_first, front_second, at_any_err}
+use Rattle.byte_streams.proofs.Flow.{appends_on, front_first, front_second, at_any_err}
 use Rattle.cert_text.proofs.result.write_row.Goals as goal
 
 pub returns-in_err-write_number-clause-err : goal.returns-in_err-write_number-clause-err

@@ -1,4 +1,4 @@
-use Rattle.cert_text.proofs.Flow.{front_first, front_second, appends_on, at_any_err}
+use Rattle.byte_streams.proofs.Flow.{front_first, front_second, appends_on, at_any_err}
 use Rattle.cert_text.proofs.write.write_block.Goals as goal
 
 pub returns-in_err-write_facts-clause-err : goal.returns-in_err-write_facts-clause-err

@@ -1,5 +1,5 @@
 use Rattle.std.proofs.Common.{arith}
-use Rattle.cert_text.proofs.Flow.{at_any_err}
+use Rattle.byte_streams.proofs.Flow.{at_any_err}
 use Rattle.cert_text.proofs.Writing.{wrote_fact, wrote_fact_front}
 use Rattle.cert_text.proofs.write.write_facts.Goals as goal
 

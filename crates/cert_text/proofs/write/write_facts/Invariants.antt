@@ -1,5 +1,5 @@
 use Rattle.std.proofs.Common.{◌≤◌, ◌+◌, drop}
-use Rattle.cert_text.specs.Stream.{Wrote}
+use Rattle.byte_streams.specs.Stream.{Wrote}
 use Rattle.cert_text.specs.Text.{fact_texts}
 use Rattle.cert_text.proofs.write.write_facts.Given as goal
 

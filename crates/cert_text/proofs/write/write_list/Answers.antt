@@ -1,5 +1,5 @@
 use Rattle.book_model.specs.Text.{facts_text}
-use Rattle.cert_text.proofs.Flow.{failed_first, failed_second, appends_on}
+use Rattle.byte_streams.proofs.Flow.{failed_first, failed_second, appends_on}
 use Rattle.cert_text.proofs.write.write_list.Goals as goal
 
 pub returns-in_err-write_all-clause-err : goal.returns-in_err-write_all-clause-err

@@ -1,6 +1,6 @@
 use Rattle.std.proofs.Common.{◌≤◌, drop}
 use Rattle.std.specs.List.{flat_map}
-use Rattle.cert_text.specs.Stream.{Wrote}
+use Rattle.byte_streams.specs.Stream.{Wrote}
 use Rattle.book_model.specs.Text.{number_text}
 use Rattle.cert_text.proofs.write.write_numbers.Given as goal
 

@@ -1,5 +1,5 @@
 use Rattle.std.proofs.Common.{arith, ◌≤◌, length}
-use Rattle.cert_text.proofs.Flow.{at_any_err}
+use Rattle.byte_streams.proofs.Flow.{at_any_err}
 use Rattle.run_core.specs.Checking.{counts_of}
 use Rattle.run_core.proofs.CheckLemmas.{verdicts_on, verdicts_front, verdicts_end}
 use Rattle.run_core.proofs.TextLemmas.{text_ended, text_cut}

@@ -1,5 +1,5 @@
 use Rattle.std.proofs.Common.{◌≤◌, ◌++◌, drop}
-use Rattle.cert_text.specs.Stream.{Wrote}
+use Rattle.byte_streams.specs.Stream.{Wrote}
 use Rattle.run_core.specs.Checking.{verdicts_after, counts_of, verdicts_text}
 use Rattle.run_core.proofs.check.write_verdicts.Given as goal
 

@@ -1,5 +1,5 @@
 use Rattle.std.proofs.Common.{arith, ◌≡◌, ◌<◌, ◌≤◌, length}
-use Rattle.cert_text.proofs.Flow.{at_any_err}
+use Rattle.byte_streams.proofs.Flow.{at_any_err}
 use Rattle.run_core.proofs.RightLemmas.{right_at}
 use Rattle.run_core.proofs.TextLemmas.{text_on, text_front, text_end, text_ended, text_cut}
 use Rattle.run_core.proofs.text.put_blocks.Goals as goal

@@ -1,4 +1,4 @@
-use Rattle.cert_text.proofs.Flow.{front_none}
+use Rattle.byte_streams.proofs.Flow.{front_none}
 use Rattle.run_core.proofs.text.write_text.Goals as goal
 
 pub returns-in-Ok-clause-err : goal.returns-in-Ok-clause-err

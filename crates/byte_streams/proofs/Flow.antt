@@ -1,0 +1,174 @@
+-- Bytes that are read or written in pieces.
+use Rattle.std.proofs.Common.{◌≡◌, ◌∙◌, ℕ, List, [], ◌++◌, ap, sym, refl, append_assoc, append-nil, take, drop, get_or, length, ◌<◌, ◌+◌}
+use Rattle.std.proofs.lemmas.List.{take-append-drop, drop_more}
+use Rattle.std.specs.Prelude.{None, Some, Ok, Err, Result, OnErr}
+use Rattle.std.specs.List.{flat_map}
+use Rattle.std.specs.declared.option.Option.{Option}
+use Rattle.std.specs.Io.KnownBytes.{Appends, Consumes, Keeps}
+use Rattle.byte_streams.specs.Stream.{Wrote, AppendsFront}
+
+-- nothing was taken
+pub consumes_none : (a : Option (List ℕ)) → Consumes a a []
+consumes_none None = tt
+consumes_none (Some xs) = refl
+
+-- one piece was taken, and then the next
+pub consumes_on : (a b c : Option (List ℕ)) (p q : List ℕ) → Consumes a b p → Consumes b c q → Consumes a c (p ++ q)
+consumes_on None b c p q h k = tt
+consumes_on (Some xs) None c p q h k = absurd h
+consumes_on (Some xs) (Some ys) None p q h k = absurd k
+consumes_on (Some xs) (Some ys) (Some zs) p q h k = h ∙ ap (λ t. p ++ t) k ∙ sym (append_assoc p q zs)
+
+-- nothing was written
+pub appends_none : (a : Option (List ℕ)) → Appends a a []
+appends_none None = tt
+appends_none (Some xs) = sym (append-nil xs)
+
+-- one piece was written, and then the next
+pub appends_on : (a b c : Option (List ℕ)) (p q : List ℕ) → Appends a b p → Appends b c q → Appends a c (p ++ q)
+appends_on None b c p q h k = tt
+appends_on (Some xs) None c p q h k = absurd h
+appends_on (Some xs) (Some ys) None p q h k = absurd k
+appends_on (Some xs) (Some ys) (Some zs) p q h k = k ∙ ap (λ t. t ++ q) h ∙ append_assoc xs p q
+
+-- a piece was written, and then nothing
+pub appends_kept : (a b c : Option (List ℕ)) (p : List ℕ) → Appends a b p → Keeps b c → Appends a c p
+appends_kept None b c p h k = tt
+appends_kept (Some xs) None c p h k = absurd h
+appends_kept (Some xs) (Some ys) None p h k = absurd k
+appends_kept (Some xs) (Some ys) (Some zs) p h k = k ∙ h
+
+-- nothing of a text is written yet
+pub wrote_none : (a : Option (List ℕ)) (t : List ℕ) → Wrote a a t t
+wrote_none a t = record { front = []; appended = appends_none a; whole = refl }
+
+-- a piece more is written
+pub wrote_on : (a b c : Option (List ℕ)) (t p r : List ℕ) → Wrote a b t (p ++ r) → Appends b c p → Wrote a c t r
+wrote_on a b c t p r w k = record {
+  front = w.front ++ p;
+  appended = appends_on a b c w.front p w.appended k;
+  whole = w.whole ∙ sym (append_assoc w.front p r);
+}
+
+-- a call wrote nothing
+pub wrote_kept : (a b c : Option (List ℕ)) (t r : List ℕ) → Wrote a b t r → Keeps b c → Wrote a c t r
+wrote_kept a b c t r w k = record { front = w.front; appended = appends_kept a b c w.front w.appended k; whole = w.whole }
+
+-- a front of a piece more is written
+pub wrote_front : (a b c : Option (List ℕ)) (t p r : List ℕ) → Wrote a b t (p ++ r) → AppendsFront b c p → AppendsFront a c t
+wrote_front a b c t p r w k = record {
+  rest = k.rest ++ r;
+  wrote = record {
+    front = w.front ++ k.wrote.front;
+    appended = appends_on a b c w.front k.wrote.front w.appended k.wrote.appended;
+    whole = w.whole ∙ ap (λ x. w.front ++ (x ++ r)) k.wrote.whole ∙ ap (λ x. w.front ++ x) (append_assoc k.wrote.front k.rest r)
+        ∙ sym (append_assoc w.front k.wrote.front (k.rest ++ r));
+  };
+}
+
+-- nothing is left to write
+pub wrote_all : (a b : Option (List ℕ)) (t : List ℕ) → Wrote a b t [] → Appends a b t
+wrote_all None b t w = tt
+wrote_all (Some xs) None t w = absurd w.appended
+wrote_all (Some xs) (Some ys) t w = w.appended ∙ ap (λ x. xs ++ x) (sym (append-nil w.front) ∙ sym w.whole)
+
+-- a call took n of the bytes that were left
+pub wrote_take : (a b c : Option (List ℕ)) (t r : List ℕ) (n : ℕ) → Wrote a b t r → Appends b c (take n r) → Wrote a c t (drop n r)
+wrote_take a b c t r n w k = wrote_on a b c t (take n r) (drop n r) (rw take-append-drop w) k
+
+-- a fact that stands at any answer
+pub at_any_err : {T E P : Type 0} (r : Result T E) → P → OnErr r P
+at_any_err (Ok x) p = tt
+at_any_err (Err e) p = p
+
+-- nothing of a text is written, which is a front of it
+pub front_none : (a : Option (List ℕ)) (t : List ℕ) → AppendsFront a a t
+front_none a t = record { rest = t; wrote = wrote_none a t }
+
+-- a front of the first part is a front of both
+pub front_first : (a b : Option (List ℕ)) (p q : List ℕ) → AppendsFront a b p → AppendsFront a b (p ++ q)
+front_first a b p q k = wrote_front a a b (p ++ q) p q (wrote_none a (p ++ q)) k
+
+-- all is written, and nothing waits
+pub wrote_whole : (a b : Option (List ℕ)) (t r : List ℕ) → r ≡ [] → Appends a b t → Wrote a b t r
+wrote_whole a b t r e h = rw e (record { front = t; appended = h; whole = sym (append-nil t) })
+
+-- a part more was put, of which w' waits
+pub buffered_on : (a b c : Option (List ℕ)) (t w p w' r : List ℕ) → Wrote a b t (w ++ (p ++ r)) → Wrote b c (w ++ p) w' → Wrote a c t (w' ++ r)
+buffered_on a b c t w p w' r old new =
+    let grouped : Wrote a b t ((w ++ p) ++ r) = rw append_assoc old in
+    let split : Wrote a b t (new.front ++ (w' ++ r)) = rw (← append_assoc) (rw new.whole at grouped) in
+    wrote_on a b c t new.front (w' ++ r) split new.appended
+
+-- a front of a part more was put
+pub buffered_front : (a b c : Option (List ℕ)) (t w p r : List ℕ) → Wrote a b t (w ++ (p ++ r)) → AppendsFront b c (w ++ p) → AppendsFront a c t
+buffered_front a b c t w p r old new =
+    let grouped : Wrote a b t ((w ++ p) ++ r) = rw append_assoc old in
+    wrote_front a b c t (w ++ p) r grouped new
+
+-- the next of the parts that were left is put
+pub put_part : {X : Type 0} (f : X → List ℕ) (a b c : Option (List ℕ)) (t w w' : List ℕ) (xs : List X) (i : ℕ) (d : X) → i < length xs
+    → Wrote a b t (w ++ flat_map f (drop i xs)) → Wrote b c (w ++ f (get_or xs i d)) w' → Wrote a c t (w' ++ flat_map f (drop (i + 1) xs))
+put_part f a b c t w w' xs i d h old new = buffered_on a b c t w (f (get_or xs i d)) w' (flat_map f (drop (i + 1) xs)) (rw (drop_more xs i d h) at old) new
+
+-- a front of the next of the parts is put
+pub put_part_front : {X : Type 0} (f : X → List ℕ) (a b c : Option (List ℕ)) (t w : List ℕ) (xs : List X) (i : ℕ) (d : X) → i < length xs
+    → Wrote a b t (w ++ flat_map f (drop i xs)) → AppendsFront b c (w ++ f (get_or xs i d)) → AppendsFront a c t
+put_part_front f a b c t w xs i d h old new = buffered_front a b c t w (f (get_or xs i d)) (flat_map f (drop (i + 1) xs)) (rw (drop_more xs i d h) at old) new
+
+-- what was left to write is written but for the rest
+pub wrote_then : (a b c : Option (List ℕ)) (t r s : List ℕ) → Wrote a b t r → Wrote b c r s → Wrote a c t s
+wrote_then a b c t r s old new = wrote_on a b c t new.front s (rw new.whole at old) new.appended
+
+-- more bytes wait, behind the others
+pub wrote_more : (a b : Option (List ℕ)) (t r q : List ℕ) → Wrote a b t r → Wrote a b (t ++ q) (r ++ q)
+wrote_more a b t r q w = record { front = w.front; appended = w.appended; whole = ap (λ x. x ++ q) w.whole ∙ append_assoc w.front r q }
+
+-- two parts were put
+pub put_both : (a b c : Option (List ℕ)) (w p w' q w'' : List ℕ) → Wrote a b (w ++ p) w' → Wrote b c (w' ++ q) w'' → Wrote a c (w ++ (p ++ q)) w''
+put_both a b c w p w' q w'' h k =
+    let more : Wrote a b ((w ++ p) ++ q) (w' ++ q) = wrote_more a b (w ++ p) w' q h in
+    wrote_then a b c (w ++ (p ++ q)) (w' ++ q) w'' (rw append_assoc at more) k
+
+-- a front of the first of two parts was put
+pub put_first_front : (a b : Option (List ℕ)) (w p q : List ℕ) → AppendsFront a b (w ++ p) → AppendsFront a b (w ++ (p ++ q))
+put_first_front a b w p q k = let more = front_first a b (w ++ p) q k in rw append_assoc at more
+
+-- the first of two parts was put, and a front of the second
+pub put_second_front : (a b c : Option (List ℕ)) (w p w' q : List ℕ) → Wrote a b (w ++ p) w' → AppendsFront b c (w' ++ q) → AppendsFront a c (w ++ (p ++ q))
+put_second_front a b c w p w' q h k = record { rest = k.rest; wrote = put_both a b c w p w' q k.rest h k.wrote }
+
+-- a front of what was left is written
+pub front_then : (a b c : Option (List ℕ)) (t r : List ℕ) → Wrote a b t r → AppendsFront b c r → AppendsFront a c t
+front_then a b c t r w k = record { rest = k.rest; wrote = wrote_then a b c t r k.rest w k.wrote }
+
+-- all that waited is written
+pub wrote_flushed : (a b c : Option (List ℕ)) (t r : List ℕ) → Wrote a b t r → Appends b c r → Appends a c t
+wrote_flushed a b c t r w k = wrote_all a c t (wrote_on a b c t r [] (rw (append-nil r) w) k)
+
+-- the first of two parts was written, and a front of the second
+pub front_second : (a b c : Option (List ℕ)) (p q : List ℕ) → Appends a b p → AppendsFront b c q → AppendsFront a c (p ++ q)
+front_second a b c p q h k = record { rest = k.rest; wrote = wrote_then a b c (p ++ q) q k.rest (record { front = p; appended = h; whole = refl }) k.wrote }
+
+-- the next of the parts that were left is written
+pub wrote_part : {X : Type 0} (f : X → List ℕ) (a b c : Option (List ℕ)) (t : List ℕ) (xs : List X) (i : ℕ) (d : X) → i < length xs
+    → Wrote a b t (flat_map f (drop i xs)) → Appends b c (f (get_or xs i d)) → Wrote a c t (flat_map f (drop (i + 1) xs))
+wrote_part f a b c t xs i d h old new = wrote_on a b c t (f (get_or xs i d)) (flat_map f (drop (i + 1) xs)) (rw (drop_more xs i d h) at old) new
+
+-- a front of the next of the parts is written
+pub wrote_part_front : {X : Type 0} (f : X → List ℕ) (a b c : Option (List ℕ)) (t : List ℕ) (xs : List X) (i : ℕ) (d : X) → i < length xs
+    → Wrote a b t (flat_map f (drop i xs)) → AppendsFront b c (f (get_or xs i d)) → AppendsFront a c t
+wrote_part_front f a b c t xs i d h old new = wrote_front a b c t (f (get_or xs i d)) (flat_map f (drop (i + 1) xs)) (rw (drop_more xs i d h) at old) new
+
+-- a call failed at the first of two parts, at the second, or before any
+pub failed_first : {T E : Type 0} (r : Result T E) (a b : Option (List ℕ)) (p q : List ℕ) → AppendsFront a b p → OnErr r (AppendsFront a b (p ++ q))
+failed_first r a b p q k = at_any_err r (front_first a b p q k)
+
+pub failed_second : {T E : Type 0} (r : Result T E) (a b c : Option (List ℕ)) (p q : List ℕ) → Appends a b p → AppendsFront b c q → OnErr r (AppendsFront a c (p ++ q))
+failed_second r a b c p q h k = at_any_err r (front_second a b c p q h k)
+
+pub failed_before : {T E : Type 0} (r : Result T E) (a : Option (List ℕ)) (t : List ℕ) → OnErr r (AppendsFront a a t)
+failed_before r a t = at_any_err r (front_none a t)
+
+-- one text written after another, in full or up to a front
+pub ruleset writing = (appends_on, failed_first, failed_second, failed_before, front_none)

@@ -1,0 +1,16 @@
+pub mod DigitLemmas
+pub mod Counters
+pub mod LineCount
+pub mod ReadFiles
+pub mod Spelling
+pub mod Rows
+pub mod RowTexts
+pub mod WordParts
+pub mod FormsRead
+pub mod OtherForms
+pub mod ListedRead
+pub mod RowWords
+pub mod Comings
+pub mod LineComings
+pub mod TextLengths
+pub mod ReadingAgain

@@ -1,0 +1,12 @@
+use Rattle.std.proofs.Common.{◌≡◌, length}
+use Rattle.book_model.specs.Lines.{words_of}
+use Rattle.cert_read.specs.Grammar.{counters_of}
+use Rattle.cert_read.proofs.Counters.{with_front}
+use Rattle.cert_read.proofs.found.numbers.Given as goal
+
+-- the numbers so far, and those of the other words
+abbrev pub invariant-loop-word : goal.invariant-loop-word
+invariant-loop-word l = with_front l.numbers (counters_of (words_of l.rest)) ≡ counters_of (words_of l.line)
+
+abbrev pub decreases-loop-word : goal.decreases-loop-word
+decreases-loop-word l = length (words_of l.rest)

@@ -1,0 +1,20 @@
+//! Reads printed files. `read_file` answers the file that bytes are by the grammar, or the first line that breaks a
+//! rule of it. A line is read word by word (`words`, `digits`, `names`) to its form (`form`, `found`), and the forms one
+//! after another to the file (`reader`). What `cert_text` writes is read again (`laws`).
+#![tactic(auto)]
+
+mod digits;
+mod form;
+mod found;
+pub mod laws;
+mod lines;
+mod names;
+mod read;
+mod reader;
+mod words;
+
+pub use lines::{CertFile, Lines};
+pub use read::{ReadFail, read_file};
+
+#[cfg(test)]
+mod tests;

@@ -1,0 +1,68 @@
+//! Reads a printed file.
+ghost use Rattle.std.specs.Prelude.{false, ◌≡◌, ◌<◌, ◌≤◌, ◌^◌, [], map, length};
+ghost use Rattle.cert_read.specs.Reading.{Answers, grammar_of, reading_from};
+
+use crate::lines::CertFile;
+use crate::reader::{Reader, Stop};
+use book_model::HEADER;
+use line_core::split_lines;
+use std::alloc::Global;
+use thiserror::Error;
+
+/// Why bytes weren't read as a file: a line breaks a rule of the grammar, or memory ran out.
+#[derive(Clone, Copy, Debug, PartialEq, Eq, Error)]
+pub enum ReadFail {
+    /// The first line that breaks a rule, from 1, and the first rule that it breaks.
+    #[error("line {line} breaks rule {rule}")]
+    Bad { line: u32, rule: u8 },
+    #[error("memory ran out")]
+    Memory,
+}
+
+/// Reads the lines below the header.
+fn read_lines(alloc: Global, lines: &[&[u8]]) -> Result<CertFile, ReadFail>
+    requires { length lines.now < 2 ^ 31 }
+    ensures { Answers result (reading_from 2 (record { facts = []; lines = [] }) false (map (λ line. line.now) lines.now)) }
+{
+    let mut reader = Reader::new(alloc);
+    for (index, line) in lines.iter().enumerate() {
+        match reader.take(alloc, *line) {
+            Ok(()) => {}
+            Err(Stop::Rule(rule)) => {
+                return Err(ReadFail::Bad {
+                    line: (index + 2) as u32,
+                    rule,
+                });
+            }
+            Err(Stop::Memory) => return Err(ReadFail::Memory),
+        }
+    }
+    if reader.ended {
+        Ok(reader.file)
+    } else {
+        Err(ReadFail::Bad {
+            line: (lines.len() + 2) as u32,
+            rule: 6,
+        })
+    }
+}
+
+/// The file that the bytes are by the grammar. `Bad` comes exactly where they are none, with the first line that
+/// breaks a rule and the first rule that it breaks, and `Memory` where memory runs out.
+#[tactic(auto, unfolding(crate::specs::Reading::grammar_of))]
+pub fn read_file(alloc: Global, bytes: &[u8]) -> Result<CertFile, ReadFail>
+    requires { length bytes.now ≤ 268435456 }
+    ensures { Answers result (grammar_of bytes.now) }
+{
+    let Ok(lines) = split_lines(alloc, bytes) else {
+        return Err(ReadFail::Memory);
+    };
+    let Some((first, rest)) = lines.split_first() else {
+        return Err(ReadFail::Bad { line: 1, rule: 1 });
+    };
+    if *first == HEADER.as_bytes() {
+        read_lines(alloc, rest)
+    } else {
+        Err(ReadFail::Bad { line: 1, rule: 1 })
+    }
+}
