@@ -15,6 +15,9 @@ const ROW_TEXT: &str = "calendrica 1 depth 40\n\
     line 1 gregorian 2024-02-10 dt 73871 facts 1\n\
     end lines 1 facts 1\n";
 
+/// What `check` writes for `ROW_TEXT`.
+const COUNTS: &str = "yes 1\nend yes 1 no 0 skip 0\n";
+
 const USAGE: &str = "usage: calendrica convert | check\n";
 
 /// A list of one word.
@@ -136,44 +139,37 @@ fn a_failing_read_leaves_nothing_written(rt: HostRuntime) -> Result<(), Fail> {
     Ok(())
 }
 
+/// Runs a command over an input, with room in the sink for so many bytes.
+fn run_with_room<R: Threads + Sync>(
+    rt: &R,
+    alloc: Global,
+    word: &str,
+    input: &str,
+    room: usize,
+) -> Result<(Status, MemorySink), Fail> {
+    let words = one_word(alloc, word)?;
+    let mut source = MemorySource::new(input.as_bytes().to_vec(alloc)?, Vec::new(alloc));
+    let mut sink = MemorySink::new(alloc, room, Vec::new(alloc))?;
+    let status = run_over(rt, alloc, &words, &mut source, &mut sink);
+    Ok((status, sink))
+}
+
 #[test]
 fn a_full_sink_keeps_a_front_of_the_text(rt: HostRuntime) -> Result<(), Fail> {
     let alloc = rt.alloc();
-    let front = &ROW_TEXT[..111];
     for (word, input, room, status, text) in [
         ("convert", ROW, 0, Status::WriteFault, ""),
         ("convert", ROW, 10, Status::WriteFault, "calendrica"),
-        ("convert", ROW, 111, Status::WriteFault, front),
+        ("convert", ROW, 111, Status::WriteFault, &ROW_TEXT[..111]),
         ("convert", ROW, 112, Status::Done, ROW_TEXT),
-        ("check", ROW_TEXT, 9, Status::WriteFault, "yes 1\nend"),
-        (
-            "check",
-            ROW_TEXT,
-            27,
-            Status::WriteFault,
-            "yes 1\nend yes 1 no 0 skip 0",
-        ),
-        (
-            "check",
-            ROW_TEXT,
-            28,
-            Status::Done,
-            "yes 1\nend yes 1 no 0 skip 0\n",
-        ),
-        (
-            "check",
-            front,
-            28,
-            Status::Done,
-            "yes 1\nend yes 1 no 0 skip 0\n",
-        ),
+        ("check", ROW_TEXT, 9, Status::WriteFault, &COUNTS[..9]),
+        ("check", ROW_TEXT, 27, Status::WriteFault, &COUNTS[..27]),
+        ("check", ROW_TEXT, 28, Status::Done, COUNTS),
+        ("check", &ROW_TEXT[..111], 28, Status::Done, COUNTS),
         ("check", ROW, 7, Status::WriteFault, "bad 1 1"),
         ("check", ROW, 8, Status::BadText, "bad 1 1\n"),
     ] {
-        let words = one_word(alloc, word)?;
-        let mut source = MemorySource::new(input.as_bytes().to_vec(alloc)?, Vec::new(alloc));
-        let mut sink = MemorySink::new(alloc, room, Vec::new(alloc))?;
-        let got = run_over(&rt, alloc, &words, &mut source, &mut sink);
+        let (got, sink) = run_with_room(&rt, alloc, word, input, room)?;
         assert_eq!(rt; got, status, "{word} with room for {room}");
         assert_eq!(rt;
             sink.written(),

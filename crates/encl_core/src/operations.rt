@@ -11,8 +11,8 @@ ghost use Rattle.encl_core.specs.Rounding.{IsMargin, IsBest, Keeps64};
 
 use crate::ends::Ends;
 use crate::rounding::{ceil_36, denominator, ends_of, floor_36};
-use rounded_quotients::{ceil_div, floor_div, greatest_of, least_of, sorted};
 use book_model::Frac;
+use rounded_quotients::{ceil_div, floor_div, greatest_of, least_of, sorted};
 
 /// The ends of a whole number.
 pub(crate) fn int_ends(value: i64) -> Option<Ends>

@@ -7,8 +7,8 @@ ghost use Rattle.encl_core.specs.Shown.{shown_ends};
 
 use crate::ends::Ends;
 use crate::rounding::ends_of;
-use rounded_quotients::{ceil_div, floor_div};
 use crate::span::Span;
+use rounded_quotients::{ceil_div, floor_div};
 
 /// The ends around those that count 2⁻⁵⁶.
 #[inline(always)]

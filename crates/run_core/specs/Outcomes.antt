@@ -9,6 +9,7 @@ use Rattle.oracle_core.specs.declared.oracle.Stop.{Stop}
 use Rattle.oracle_core.specs.declared.oracle.Stop.TheVariants.{Undecided as undecided_stop, Void as void_stop, Missing as missing_stop, Memory as memory_stop}
 use Rattle.run_core.specs.declared.outcome.Outcome.{Outcome}
 use Rattle.run_core.specs.declared.outcome.Outcome.TheVariants.{Refused, Found, Undecided, Void}
+use Rattle.book_model.specs.Depth.{DEPTH}
 
 -- the outcome that the definitions speak of
 abbrev pub line_outcome : Outcome → LineOutcome
@@ -20,9 +21,9 @@ line_outcome (Void fact site) = void fact site
 -- an outcome is right for a request
 abbrev pub IsRightOf : Request → LineOutcome → Type 0
 IsRightOf r (refused rule) = ⊥
-IsRightOf r (resolved x facts) = (n : ℕ) → 40 ≤ n → finding n (rule_of r) ≡ found x facts
-IsRightOf r (undecided f u) = ((n : ℕ) → 40 ≤ n → AsksAt n (rule_of r) f) × IsNear f u
-IsRightOf r (void f s) = ((n : ℕ) → 40 ≤ n → AsksAt n (rule_of r) f) × IsVoidAt f s
+IsRightOf r (resolved x facts) = (n : ℕ) → DEPTH ≤ n → finding n (rule_of r) ≡ found x facts
+IsRightOf r (undecided f u) = ((n : ℕ) → DEPTH ≤ n → AsksAt n (rule_of r) f) × IsNear f u
+IsRightOf r (void f s) = ((n : ℕ) → DEPTH ≤ n → AsksAt n (rule_of r) f) × IsVoidAt f s
 
 -- a stop that says nothing of a line
 abbrev pub HasNoOutcome : Stop → Type 0
