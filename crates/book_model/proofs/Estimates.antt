@@ -1,6 +1,6 @@
 -- True noon and the estimate of a longitude's moment: how many tests they make, from where to where they lie, and the
 -- day from which a search for the first day of a Persian year sets out.
-use Rattle.std.specs.Prelude.{◌≡◌, ℕ, ℤ, pos, negsuc, ◌+ℤ◌, ◌-ℤ◌, ◌≤ℤ◌, Some, Ok}
+use Rattle.std.specs.Prelude.{◌≡◌, ℤ, pos, negsuc, ◌+ℤ◌, ◌-ℤ◌, ◌≤ℤ◌, Some}
 use Rattle.std.proofs.Common.{arith}
 use Rattle.std.proofs.lemmas.Int.{ints}
 use Rattle.std.specs.Ordering.{int_eq}
@@ -8,22 +8,19 @@ use Rattle.exact_math.specs.Fraction.{Fraction, ◌≤F◌, whole, plus, opposit
 use Rattle.exact_math.specs.Interval.{Interval, everything, between, ◌⊆◌, IsProper, sum, negative, difference, product, minimum as interval_minimum, maximum as interval_maximum, least, greatest}
 use Rattle.exact_math.proofs.Fractions.{le_trans, le_refl, le_lt_trans, plus_mono, opposite_mono, smaller_first, smaller_keeps, larger_first, larger_keeps}
 use Rattle.exact_math.proofs.Intervals.{within_trans, product_within, within_refl}
-use Rattle.book_model.specs.declared.site.Site.{Site}
 use Rattle.book_model.specs.declared.site.Site.TheVariants.{StepWrap}
 use Rattle.book_model.specs.declared.sun_tables.TheConstants.{DEGREE_OF_YEAR, MINUS_HALF, PERSIAN_NOON_LONGITUDE}
 use Rattle.book_model.specs.declared.tables.TheConstants.{HALF}
 use Rattle.book_model.specs.Expressions.{Expression, World, value, exactly, integer, constant, add, subtract, minimum, remainder}
 use Rattle.book_model.specs.Fractions.{fraction_of}
-use Rattle.book_model.specs.Leading.{Leads, Exact, leaf}
 use Rattle.book_model.specs.Noon.{part_of_day, equation_of, equation_of_time_of, ahead_of, from_apparent_of, noon_of, IsStart, StartsNear}
-use Rattle.book_model.specs.Programs.{answer, cell, integers, multiples, cell_of, cell_at, threshold, run, valued, outcome, AtMost, answer_at_most, cell_at_most}
+use Rattle.book_model.specs.Programs.{answer, integers, multiples, cell_of, cell_at, threshold, run, valued, outcome, AtMost, answer_at_most, cell_at_most}
 pub use Rattle.book_model.specs.Ranges.{IsBetween}
-use Rattle.book_model.specs.Relations.{Within}
 use Rattle.book_model.specs.Sun.{sun_of, reduced_of, past_of, off_of, back_by, estimate_of}
 use Rattle.book_model.specs.Time.{centuries_of}
 use Rattle.book_model.proofs.Cells.{cells_cut}
 use Rattle.book_model.proofs.FactRuns.{centuries_few, sun_few, parts, decides, when_some, remainder_within}
-use Rattle.book_model.proofs.Leads.{at_most_bind, leads_leaf, leads_value}
+use Rattle.book_model.proofs.Leads.{at_most_bind}
 use Rattle.book_model.proofs.Values.{value_proper}
 
 -- ---- how many tests

@@ -1,25 +1,25 @@
 -- From where to where moments lie at which a formula has a value: a correction is known of few years, and is small.
-use Rattle.std.specs.Prelude.{◌≡◌, ℕ, zero, suc, int_le, ℤ, pos, negsuc, ◌+ℤ◌, ◌-ℤ◌, ◌≤ℤ◌, List, slice_index_or, Some, Bool, true, false, if◌then◌else◌, refl}
+use Rattle.std.specs.Prelude.{◌≡◌, ℕ, zero, suc, int_le, ℤ, pos, negsuc, ◌+ℤ◌, ◌≤ℤ◌, List, slice_index_or, Some, Bool, true, false, if◌then◌else◌, refl}
 use Rattle.std.proofs.Common.{arith, sym, ◌∙◌, ◌⊎◌, inl, inr}
 use Rattle.std.proofs.lemmas.Int.{ints}
 use Rattle.std.specs.Ordering.{int_eq}
 use Rattle.std.proofs.lemmas.Bool.Decides.{Decides-int_eq}
-use Rattle.exact_math.specs.Fraction.{Fraction, ◌≤F◌, ◌<F◌, whole, plus, times, smaller, larger, is_at_most, power as fraction_power}
-use Rattle.exact_math.specs.Interval.{Interval, everything, between, ◌⊆◌, IsProper, IsMember, sum, product, least, greatest}
-use Rattle.exact_math.proofs.Fractions.{le_trans, le_refl, at_most_true}
+use Rattle.exact_math.specs.Fraction.{Fraction, whole, plus, times, smaller, larger, is_at_most, power as fraction_power}
+use Rattle.exact_math.specs.Interval.{Interval, everything, between, ◌⊆◌, IsMember, sum, product, least, greatest}
+use Rattle.exact_math.proofs.Fractions.{le_refl, at_most_true}
 use Rattle.exact_math.proofs.Intervals.{within_trans, within_refl, within_everything, sum_within, product_within, product_holds}
 use Rattle.book_model.specs.declared.frac.Frac.{Frac}
 use Rattle.book_model.specs.declared.site.Site.{Site}
 use Rattle.book_model.specs.declared.site.Site.TheVariants.{Year}
-use Rattle.book_model.specs.declared.tables.TheConstants.{CORRECTION_1987, CORRECTION_2006, SECOND}
-use Rattle.book_model.specs.declared.time_tables.TheConstants.{CORRECTION_1800, CORRECTION_1900, CORRECTION_ANCIENT}
+use Rattle.book_model.specs.declared.tables.TheConstants.{SECOND}
+use Rattle.book_model.specs.declared.time_tables.TheConstants.{CORRECTION_ANCIENT}
 use Rattle.book_model.specs.Calendar.{first_day}
-use Rattle.book_model.specs.Correction.{is_between, no_fraction, seconds_of, year_of}
-use Rattle.book_model.specs.Expressions.{Expression, World, value, exactly, add, subtract, scale}
+use Rattle.book_model.specs.Correction.{is_between, no_fraction, year_of}
+use Rattle.book_model.specs.Expressions.{Expression, World, value, exactly, subtract, scale}
 use Rattle.book_model.specs.Fractions.{fraction_of}
 use Rattle.book_model.specs.Polynomials.{polynomial_at, polynomial_at_to}
 use Rattle.book_model.specs.Programs.{Program, answer, void, years, cell_of, cell_at, threshold, run, valued, outcome}
-use Rattle.book_model.specs.Time.{hundreds_of, centuries_to_july, correction_of_year, correction_at, dynamical_of, from_dynamical_of, in_centuries, centuries_of}
+use Rattle.book_model.specs.Time.{hundreds_of, correction_of_year, correction_at, dynamical_of, from_dynamical_of, centuries_of}
 use Rattle.book_model.proofs.Calendars.{first_day_rises}
 use Rattle.book_model.proofs.Cells.{cells_cut}
 use Rattle.book_model.proofs.CorrectionValues.{IsClose, fits_days, both, correction_close}

@@ -1,18 +1,17 @@
 -- The facts of the new moons: how many tests they make, and from where to where their values lie.
-use Rattle.std.specs.Prelude.{◌≡◌, ℕ, ℤ, pos, negsuc, ◌+ℤ◌, ◌≤ℤ◌, Some, Bool, true, false, Result, Ok, Err, IfOk, ◌≤◌}
+use Rattle.std.specs.Prelude.{◌≡◌, ℕ, ℤ, pos, negsuc, ◌+ℤ◌, ◌≤ℤ◌, Bool, true, false, Result, Ok, Err, IfOk, ◌≤◌}
 use Rattle.std.proofs.Common.{arith}
 use Rattle.std.proofs.lemmas.Int.{ints}
-use Rattle.exact_math.specs.Fraction.{Fraction, whole, times, smaller, larger, is_at_most}
+use Rattle.exact_math.specs.Fraction.{times, smaller, larger, is_at_most}
 use Rattle.exact_math.specs.Interval.{product, least, greatest}
 use Rattle.book_model.specs.declared.fail.Fail.{Fail}
 use Rattle.book_model.specs.declared.site.Site.TheVariants.{Zone, DayFloor}
-use Rattle.book_model.specs.declared.time_tables.TheConstants.{BEIJING_HOURS, HOUR}
+use Rattle.book_model.specs.declared.time_tables.TheConstants.{HOUR}
 use Rattle.book_model.specs.Expressions.{Expression, World, value, integer, add, scale}
 use Rattle.book_model.specs.Facts.{IsFactValue, at_depth}
 use Rattle.book_model.specs.Fractions.{fraction_of}
 use Rattle.book_model.specs.Kinds.{day_in_beijing_of, new_moon_before_of, new_moon_from_of}
 use Rattle.book_model.specs.Leading.{Leads, Exact}
-use Rattle.book_model.specs.NewMoons.{new_moon_of}
 use Rattle.book_model.specs.Phases.{number_of_moon, walk_of, moon_preceding_of, moon_before_of, moon_from_of}
 use Rattle.book_model.specs.Programs.{answer, compare, integers, run, valued, outcome, AtMost, answer_at_most, cell_at_most, compare_at_most}
 use Rattle.book_model.specs.Ranges.{IsBetween}

@@ -1,16 +1,16 @@
 -- The moon's formulas: how many tests they make, and from where to where the numbers of new moons lie that they find.
-use Rattle.std.specs.Prelude.{◌≡◌, ℕ, zero, suc, ◌+◌, ◌*◌, ◌-◌, ℤ, pos, negsuc, ◌+ℤ◌, ◌-ℤ◌, ◌*ℤ◌, ◌≤ℤ◌, Some, Bool, true, false, if◌then◌else◌, Result, Ok, Err, IfOk, refl}
+use Rattle.std.specs.Prelude.{◌≡◌, ℕ, zero, suc, ◌+◌, ◌*◌, ◌-◌, ℤ, pos, negsuc, ◌+ℤ◌, ◌-ℤ◌, ◌*ℤ◌, ◌≤ℤ◌, Some, Bool, true, false, if◌then◌else◌, Result, Ok, Err, IfOk}
 use Rattle.std.proofs.Common.{arith, sym, ◌∙◌}
 use Rattle.std.proofs.lemmas.Int.{ints}
 use Rattle.std.specs.Ordering.{int_eq}
 use Rattle.std.proofs.lemmas.Bool.Decides.{Decides-int_eq}
 use Rattle.exact_math.specs.Fraction.{Fraction, ◌≤F◌, ◌<F◌, whole, plus, opposite, times, smaller, larger, is_at_most}
-use Rattle.exact_math.specs.Interval.{Interval, everything, between, ◌⊆◌, IsProper, sum, negative, difference, product, least, greatest, maximum as interval_maximum}
+use Rattle.exact_math.specs.Interval.{Interval, everything, between, ◌⊆◌, IsProper, sum, negative, difference, product, least, greatest}
 use Rattle.exact_math.proofs.Fractions.{le_trans, le_refl, plus_mono}
 use Rattle.exact_math.proofs.IntLaws.{mul_add}
 use Rattle.exact_math.proofs.Intervals.{within_trans, within_refl, product_within}
 use Rattle.book_model.specs.declared.new_moon_tables.TheConstants.{DAY_IN_MONTHS, DEGREE_IN_MONTHS, TURN}
-use Rattle.book_model.specs.declared.site.Site.TheVariants.{PhaseWrap, MoonNumber, PhasePick, MoonWalk}
+use Rattle.book_model.specs.declared.site.Site.TheVariants.{PhaseWrap, MoonNumber, PhasePick}
 use Rattle.book_model.specs.declared.tables.TheConstants.{HALF}
 use Rattle.book_model.specs.declared.fail.Fail.{Fail}
 use Rattle.book_model.specs.Expressions.{Expression, argument, World, value, exactly, integer, constant, add, subtract, scale, remainder}
@@ -18,12 +18,12 @@ use Rattle.book_model.specs.Fractions.{fraction_of}
 use Rattle.book_model.specs.Moon.{moon_of}
 use Rattle.book_model.specs.NewMoons.{new_moon_of}
 use Rattle.book_model.specs.Phases.{elongation_of, months_between, months_since, nearest_moon_of, rough_number_of, phase_by_months_of, size_of, turned_of, rest_of_month, chosen, picked_of, phase_of, number_of_moon, is_moon_before_of, walk_of, moon_preceding_of, moon_before_of, moon_from_of}
-use Rattle.book_model.specs.Programs.{Program, answer, void, compare, bind, integers, multiples, cell_of, cell_at, threshold, run, valued, outcome, AtMost, answer_at_most, void_at_most, cell_at_most, compare_at_most}
+use Rattle.book_model.specs.Programs.{Program, answer, compare, integers, multiples, cell_of, cell_at, threshold, run, valued, outcome, AtMost, answer_at_most, void_at_most, cell_at_most, compare_at_most}
 use Rattle.book_model.specs.Leading.{Leads, Exact, leaf}
 use Rattle.book_model.specs.Ranges.{IsBetween, IsInTable}
 use Rattle.book_model.specs.Relations.{Within, Lies}
 use Rattle.book_model.specs.Sun.{sun_of}
-use Rattle.book_model.specs.Time.{correction_at, centuries_of, from_dynamical_of}
+use Rattle.book_model.specs.Time.{centuries_of, from_dynamical_of}
 use Rattle.book_model.proofs.Cells.{cells_cut}
 use Rattle.book_model.proofs.Estimates.{wider, difference_between, floor_between, between_of_within, valued_same}
 use Rattle.book_model.proofs.FactRuns.{centuries_few, correction_at_few, sun_few, parts, decides, when_some}

@@ -1,8 +1,7 @@
 -- The new moons, each by its number. Angles are in degrees, moments in days.
 -- Reingold and Dershowitz, Calendrical Calculations, chapter 14; Meeus, Astronomical Algorithms, chapter 49.
-use Rattle.std.specs.Prelude.{ℕ, zero, suc, ◌-◌, ◌^◌, ℤ, pos, ◌+ℤ◌, ◌-ℤ◌, ◌*ℤ◌, List}
+use Rattle.std.specs.Prelude.{ℤ, pos, ◌+ℤ◌, ◌-ℤ◌, ◌*ℤ◌}
 use Rattle.exact_math.specs.Fraction.{Fraction, whole}
-use Rattle.book_model.specs.declared.frac.Frac.{Frac}
 use Rattle.book_model.specs.declared.moon_tables.TheConstants.{ECCENTRICITY_FACTOR}
 use Rattle.book_model.specs.declared.new_moon_tables.TheConstants.{MEAN_NEW_MOON, NEW_MOON_ANOMALY, NEW_MOON_LATITUDE_ARGUMENT, NEW_MOON_NODE, NEW_MOON_OF_2000, NEW_MOON_SUN_ANOMALY, NEW_MOON_TERMS, NEW_MOON_WAVE, NODE_TERM, PLANET_TERMS}
 use Rattle.book_model.specs.declared.moon_terms.NewMoonTerm.{NewMoonTerm}

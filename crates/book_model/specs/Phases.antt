@@ -1,7 +1,6 @@
 -- The moon's phase, which is its longitude less the sun's, and the new moons before and from a moment. Angles are in
 -- degrees, moments in days (R.D.) of universal time. Reingold and Dershowitz, Calendrical Calculations, chapter 14.
-use Rattle.std.specs.Prelude.{ℕ, zero, suc, Bool, true, false, cond, if◌then◌else◌, ℤ, pos, ◌+ℤ◌, ◌-ℤ◌}
-use Rattle.exact_math.specs.Fraction.{Fraction, whole}
+use Rattle.std.specs.Prelude.{ℕ, zero, suc, Bool, if◌then◌else◌, ℤ, pos, ◌+ℤ◌, ◌-ℤ◌}
 use Rattle.book_model.specs.declared.new_moon_tables.TheConstants.{DAY_IN_MONTHS, DEGREE_IN_MONTHS, TURN}
 use Rattle.book_model.specs.declared.site.Site.TheVariants.{PhaseWrap, PhasePick, MoonNumber, MoonWalk}
 use Rattle.book_model.specs.declared.tables.TheConstants.{HALF}

@@ -1,6 +1,5 @@
 -- The periods of ends at scale 2^-36.
-use Rattle.std.proofs.Common.{◌≡◌, ℕ, zero, suc, ◌^◌, ◌-◌, ◌<◌, refl, sym, ◌∙◌, arith, ℤ, pos, negsuc, ◌*ℤ◌, ◌-ℤ◌, Some, None}
-use Rattle.std.specs.Int.{int_div_euclid}
+use Rattle.std.proofs.Common.{◌≡◌, ℕ, ◌^◌, ◌-◌, refl, sym, ◌∙◌, arith, ℤ, pos, ◌*ℤ◌, ◌-ℤ◌, Some, None}
 use Rattle.std.proofs.lemmas.Int.{ints}
 use Rattle.exact_math.specs.Fraction.{whole, floor_quotient, plus, opposite}
 use Rattle.exact_math.specs.Interval.{Interval, everything, between, ◌⊆◌, sum, negative, difference}

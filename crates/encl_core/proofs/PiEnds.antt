@@ -1,5 +1,5 @@
 -- Pi lies between its neighbours that count 2^-56.
-use Rattle.std.proofs.Common.{ℕ, ◌≤◌, pos, arith}
+use Rattle.std.proofs.Common.{ℕ, ◌≤◌, arith}
 use Rattle.std.proofs.lemmas.Int.{ints}
 use Rattle.exact_math.specs.Fraction.{plus}
 use Rattle.exact_math.specs.Interval.{Interval, between, ◌⊆◌}
