@@ -1,14 +1,15 @@
 -- A bound that implies another: an enclosure that keeps the first keeps the second.
 use Rattle.std.proofs.Common.{◌≡◌, ℕ, ◌≤◌, refl, arith, Bool, true, false, ◌&&◌, ℤ, ◌≤ℤ◌}
 use Rattle.std.proofs.lemmas.Int.{ints}
-use Rattle.std.proofs.lemmas.Bool.{leb-true}
+use Rattle.std.specs.Prelude.{nat_le}
+use Rattle.std.proofs.lemmas.Bool.{leb-true, le-leb}
 use lib.Dec.{leb}
 use Rattle.std.specs.Int.Signed.{le_z, le_z_yes}
 use Rattle.std.proofs.lemmas.Float.{T_from_true}
 use Rattle.exact_math.specs.Fraction.{◌≤F◌}
 use Rattle.exact_math.specs.Interval.{Interval, everything, between}
 use Rattle.exact_math.proofs.Fractions.{le_trans, plus_mono, le_refl}
-use Rattle.book_model.specs.Bounds.{Bound, unbounded, bounded, IsNarrow, implies, bound_of, at_32, breadth, limits_of, limits_36}
+use Rattle.book_model.specs.Bounds.{Bound, unbounded, bounded, IsNarrow, implies, bound_of, at_32, breadth, limits_of, limits_at, limits_36}
 use Rattle.book_model.specs.Expressions.{Expression}
 use Rattle.book_model.specs.Relations.{Narrow, Keeps}
 
@@ -46,6 +47,13 @@ implied w (bounded a b s k) (bounded c d t m) (between lo hi) e h =
 pub limits_at_36 : (n : ℕ) → n ≡ 36 → limits_of n ≡ limits_36
 unfolding limits_of
 limits_at_36 n e = rw e refl
+
+pub limits_within : (n : ℕ) → 36 ≤ n → n ≤ 56 → limits_of n ≡ limits_at n
+unfolding limits_of
+limits_within n a b =
+    let p : nat_le 36 n ≡ true = le-leb 36 n a in
+    let q : nat_le n 56 ≡ true = le-leb n 56 b in
+    rw (p, q) refl
 
 -- an enclosure keeps each bound that the computed bound of its expression implies
 pub settled_at : {E : Type 0} (shown : E → Interval) (n w : ℕ) (b : ℕ → Bound) (x : Expression) (y : Bound) (e : E) → implies (bound_of (limits_of n) b x) y ≡ true

@@ -184,3 +184,13 @@ narrow_remainder shown r m x q i k h p = record { kept = h r.width _ p.kept }
 pub narrow_spanned : (w : ℕ) (b : Bound) (i j : Interval) → (IsNarrow w b i → IsNarrow w (spanned_bound limits_36 b) j) → IsNarrow w b i → IsNarrow w (spanned_bound (limits_of 36) b) j
 unfolding limits_of
 narrow_spanned w b i j h p = h p
+
+-- the angle of a wave: a phase, and a rate times the value
+pub within_angle : {E : Type 0} (shown : E → Interval) (w : World) (f g : Fraction) (x : Expression) (i k : E) → sum (between f f) (product (shown i) (between g g)) ⊆ shown k → Within shown w x i → Within shown w (add (constant f) (scale g x)) k
+unfolding Lies value
+within_angle shown w f g x i k h p = record { deep = p.deep; inside = within_trans (sum_within (within_refl (between f f)) (product_within (value_proper w x) (le_refl g) p.inside (within_refl (between g g)))) h }
+
+pub narrow_angle : {E : Type 0} (shown : E → Interval) (r : Reach) (f g : Fraction) (x : Expression) (i k : E) → ((w : ℕ) (a : Bound) → IsNarrow w a (shown i) → IsNarrow w (sum_bound limits_36 (constant_bound limits_36 f) (scaled_bound limits_36 g a)) (shown k))
+    → Narrow shown (limits_of 36) r x i → Narrow shown (limits_of 36) r (add (constant f) (scale g x)) k
+unfolding Keeps bound_of limits_of
+narrow_angle shown r f g x i k h p = record { kept = h r.width _ p.kept }

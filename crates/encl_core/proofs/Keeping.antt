@@ -92,6 +92,18 @@ sum_narrow w (bounded a b s k) unbounded x y x' y' lo hi i e f v h j = tt
 sum_narrow w (bounded a b s k) (bounded c d t m) x y x' y' lo hi i e f v h j =
     limited_narrow _ _ _ _ _ _ lo hi i (λ l. ltb-true _ _ l) (sum_kept a b c d s k t m w x y x' y' lo hi e f (kept_of _ _ _ _ _ _ _ h) (kept_of _ _ _ _ _ _ _ j)) v
 
+-- ends that lie within sums of ends keep the sum of their bounds
+sum_kept_inner : (a b c d : ℤ) (s k t m w : ℕ) (x y x' y' lo hi : ℤ) → lo ≤ℤ hi → (x +ℤ x') ≤ℤ lo → hi ≤ℤ (y +ℤ y') → AreKept a b s k w x y → AreKept c d t m w x' y' → AreKept (a +ℤ c) (b +ℤ d) (s + t) (k + m) w lo hi
+sum_kept_inner a b c d s k t m w x y x' y' lo hi o e f h j = record { ordered = o; above = omega (arith, ints, e, h.above, j.above); below = omega (arith, ints, f, h.below, j.below); close = omega (arith, ints, e, f, h.close, j.close) }
+
+pub sum_narrow_inner : (w : ℕ) (p q : Bound) (x y x' y' lo hi : ℤ) (i : Interval) → lo ≤ℤ hi → (x +ℤ x') ≤ℤ lo → hi ≤ℤ (y +ℤ y') → Keeps64 lo hi i → IsNarrow w p (between (at_36 x) (at_36 y)) → IsNarrow w q (between (at_36 x') (at_36 y'))
+    → IsNarrow w (sum_bound limits_36 p q) i
+unfolding sum_bound IsNarrow
+sum_narrow_inner w unbounded q x y x' y' lo hi i o e f v h j = tt
+sum_narrow_inner w (bounded a b s k) unbounded x y x' y' lo hi i o e f v h j = tt
+sum_narrow_inner w (bounded a b s k) (bounded c d t m) x y x' y' lo hi i o e f v h j =
+    limited_narrow _ _ _ _ _ _ lo hi i (λ l. ltb-true _ _ l) (sum_kept_inner a b c d s k t m w x y x' y' lo hi o e f (kept_of _ _ _ _ _ _ _ h) (kept_of _ _ _ _ _ _ _ j)) v
+
 -- where an operand is everything, so may the sum be
 pub sum_first : (w : ℕ) (x y : Bound) (i : Interval) → IsNarrow w x everything → IsNarrow w (sum_bound limits_36 x y) i
 unfolding sum_bound IsNarrow

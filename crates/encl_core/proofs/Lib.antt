@@ -13,3 +13,4 @@ pub mod TermSums
 pub mod Widths
 pub mod Products
 pub mod Ratios
+pub mod WaveAngles

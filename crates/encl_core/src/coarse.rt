@@ -10,6 +10,7 @@ use crate::operations::{
     sub_ends, widen_ends,
 };
 use crate::spanning::{ends_of_span, span_of};
+use crate::turning::angle_ends;
 use crate::wrapping::{lower_ends, period_of_ends};
 use crate::{Enclosure, Span, Trail};
 use book_model::{Frac, Site, Undecided};
@@ -111,6 +112,13 @@ impl Enclosure for Coarse {
     fn mul_frac(self, by: Frac) -> Self {
         Coarse {
             ends: scale_ends(self.ends, by),
+        }
+    }
+
+    #[inline(always)]
+    fn angle(self, phase: i64, rate: i64) -> Self {
+        Coarse {
+            ends: angle_ends(self.ends, phase, rate),
         }
     }
 

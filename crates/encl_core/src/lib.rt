@@ -24,6 +24,7 @@ mod spanning;
 mod steps;
 mod sums;
 mod trail;
+mod turning;
 mod wrapping;
 
 pub use circle::pi;

@@ -24,6 +24,15 @@ sum_holds everything j x y h k = tt
 sum_holds (between a b) everything x y h k = tt
 sum_holds (between a b) (between c d) x y h k = (plus_mono a x c y h.0 k.0, plus_mono x b y d h.1 k.1)
 
+-- what each of four keeps the least and the greatest keep
+pub least_keeps : (P : Fraction → Type 0) (p q r s : Fraction) → P p → P q → P r → P s → P (least p q r s)
+unfolding least
+least_keeps P p q r s hp hq hr hs = smaller_keeps P _ _ (smaller_keeps P p q hp hq) (smaller_keeps P r s hr hs)
+
+pub greatest_keeps : (P : Fraction → Type 0) (p q r s : Fraction) → P p → P q → P r → P s → P (greatest p q r s)
+unfolding greatest
+greatest_keeps P p q r s hp hq hr hs = larger_keeps P _ _ (larger_keeps P p q hp hq) (larger_keeps P r s hr hs)
+
 pub least_is : (z p q r s : Fraction) → z ≤F p → z ≤F q → z ≤F r → z ≤F s → z ≤F least p q r s
 unfolding least
 least_is z p q r s hp hq hr hs =
@@ -233,9 +242,9 @@ even_below k a b x e ax xb =
     ]
 
 -- what the least power is a power of
-least_keeps : (k : ℕ) (a b : Fraction) (P : Fraction → Type 0) → (zero_fraction ≤F a → P (power a k)) → (b ≤F zero_fraction → P (power b k)) → (a ≤F zero_fraction → zero_fraction ≤F b → P (power zero_fraction k)) → P (least_even a b k)
+least_even_keeps : (k : ℕ) (a b : Fraction) (P : Fraction → Type 0) → (zero_fraction ≤F a → P (power a k)) → (b ≤F zero_fraction → P (power b k)) → (a ≤F zero_fraction → zero_fraction ≤F b → P (power zero_fraction k)) → P (least_even a b k)
 unfolding least_even
-least_keeps k a b P f g h = by_test (is_at_most zero_fraction a) refl (is_at_most b zero_fraction) refl
+least_even_keeps k a b P f g h = by_test (is_at_most zero_fraction a) refl (is_at_most b zero_fraction) refl
   where
     by_test : (t : Bool) → is_at_most zero_fraction a ≡ t → (u : Bool) → is_at_most b zero_fraction ≡ u → P (cond t (power a k) (cond u (power b k) (power zero_fraction k)))
     by_test true p u q = f (at_most_true zero_fraction a p)
@@ -244,7 +253,7 @@ least_keeps k a b P f g h = by_test (is_at_most zero_fraction a) refl (is_at_mos
 
 even_above : (k : ℕ) (a b x : Fraction) → is_even k ≡ true → a ≤F x → x ≤F b → least_even a b k ≤F power x k
 even_above k a b x e ax xb =
-    least_keeps k a b (λ z. z ≤F power x k) (λ h. power_mono k a x h ax) (λ h. (power_even_falling k x b e xb h).1) (λ _ _. power_even_least k x e)
+    least_even_keeps k a b (λ z. z ≤F power x k) (λ h. power_mono k a x h ax) (λ h. (power_even_falling k x b e xb h).1) (λ _ _. power_even_least k x e)
 
 pub power_holds : (k : ℕ) (i : Interval) (x : Fraction) → IsMember x i → IsMember (power x k) (interval_power i k)
 unfolding interval_power
@@ -265,7 +274,7 @@ power_ends k (between a b) (between a' b') p h = by_test (is_even k) refl
     by_test false e = (power_odd_mono k a' a e h.0, power_odd_mono k b b' e h.1)
     by_test true e =
         let m = ends_within a b a' b' p h in (
-          least_keeps k a b (λ z. least_even a' b' k ≤F z) (λ _. even_above k a' b' a e m.0.0 m.0.1) (λ _. even_above k a' b' b e m.1.0 m.1.1)
+          least_even_keeps k a b (λ z. least_even a' b' k ≤F z) (λ _. even_above k a' b' a e m.0.0 m.0.1) (λ _. even_above k a' b' b e m.1.0 m.1.1)
               (λ u v. even_above k a' b' zero_fraction e (le_trans _ _ _ m.0.0 u) (le_trans _ _ _ v m.1.1)),
           larger_keeps (λ z. z ≤F larger (power a' k) (power b' k)) (power a k) (power b k) (even_below k a' b' a e m.0.0 m.0.1) (even_below k a' b' b e m.1.0 m.1.1),
         )
@@ -321,7 +330,7 @@ power_smallest k a b (between c d) p h = record { ends = by_test (is_even k) ref
     hb = h b (p, le_refl b)
 
     by_test : (t : Bool) → is_even k ≡ t → AreWithin (cond t (between (least_even a b k) (larger (power a k) (power b k))) (between (power a k) (power b k))) (between c d)
-    by_test true e = (least_keeps k a b (λ z. c ≤F z) (λ _. ha.0) (λ _. hb.0) (λ u v. (h zero_fraction (u, v)).0), larger_keeps (λ z. z ≤F d) (power a k) (power b k) ha.1 hb.1)
+    by_test true e = (least_even_keeps k a b (λ z. c ≤F z) (λ _. ha.0) (λ _. hb.0) (λ u v. (h zero_fraction (u, v)).0), larger_keeps (λ z. z ≤F d) (power a k) (power b k) ha.1 hb.1)
     by_test false e = (ha.0, hb.1)
 
 -- ---- each operation is monotone under inclusion

@@ -22,6 +22,7 @@ use Rattle.book_model.specs.Programs.{years, cell_at, cell_of}
 use Rattle.book_model.specs.Relations.{Narrow, Keeps}
 use Rattle.book_model.proofs.CorrectionValues.{dt_value, year_from, year_to}
 use Rattle.book_model.proofs.FactRuns.{sun_value}
+use Rattle.book_model.proofs.Implying.{limits_within}
 use Rattle.book_model.proofs.Leads.{leads_value}
 use Rattle.encl_core.specs.Steps.{IsOpenFloor}
 use Rattle.time_scales.specs.Steps.{IsYearOpenFor}
@@ -44,12 +45,12 @@ year_of_ends (between lo hi) d w h =
     let t : int_eq (year_of_day d) (year_of_day d) ≡ true = (Decides-int_eq (year_of_day d) (year_of_day d)).1 refl in
     rw (p, q, t) refl
 
-year_enclosed : {E : Type 0} (shown : E → Interval) (bits : ℕ) (d : ℤ) (e : E) → bits ≡ 36 → IsValueDay d → Narrow shown (limits_of bits) (record { width = 0; bounds = λ k. unbounded }) (integer d) e
+year_enclosed : {E : Type 0} (shown : E → Interval) (bits : ℕ) (d : ℤ) (e : E) → 36 ≤ bits → bits ≤ 56 → IsValueDay d → Narrow shown (limits_of bits) (record { width = 0; bounds = λ k. unbounded }) (integer d) e
     → cell_at years (shown e) ≡ Some (year_of_day d)
-unfolding Keeps bound_of integer_bound limits_of
-year_enclosed shown bits d e p h n =
+unfolding Keeps bound_of integer_bound
+year_enclosed shown bits d e a b h n =
     let small : nat_lt (unsigned_abs d * 2 ^ 32) (2 ^ 58) ≡ true = (Decides-ltb (unsigned_abs d * 2 ^ 32) (2 ^ 58)).1 (omega (arith, ints, h.0, h.1)) in
-    let kept = (rw p at n).kept in
+    let kept = (rw (limits_within bits a b) at n).kept in
     year_of_ends (shown e) d 0 (rw small at kept)
 
 closed_year : (i : Interval) (y : ℤ) (f : Fail) → cell_at years i ≡ Some y → FitsSigned w64 y → IsYearOpenFor i f → IsNotOfYear f
@@ -66,12 +67,12 @@ sun_keeps y (undecided_at u) h = record { no_whole_day = λ e t d. h e; close = 
 sun_keeps y (Void s) h = tt
 
 -- a failure of the sun at a whole day is not at the year
-pub sun_not_of_year : {E : Type 0} (shown : E → Interval) (bits : ℕ) (d : ℤ) (e : E) (f : Fail) → bits ≡ 36 → IsValueDay d → ((r : Reach) → Narrow shown (limits_of bits) r (integer d) e)
+pub sun_not_of_year : {E : Type 0} (shown : E → Interval) (bits : ℕ) (d : ℤ) (e : E) (f : Fail) → 36 ≤ bits → bits ≤ 56 → IsValueDay d → ((r : Reach) → Narrow shown (limits_of bits) r (integer d) e)
     → IsYearOpenFor (shown e) f → IsNearFor Sun (year_of_day d) f
-sun_not_of_year shown bits d e f p h n o =
+sun_not_of_year shown bits d e f p q h n o =
     let a = year_from d h.0 in
     let b = year_to d h.1 in
-    sun_keeps (year_of_day d) f (closed_year (shown e) (year_of_day d) f (year_enclosed shown bits d e p h (n _)) (omega (arith, ints)) o)
+    sun_keeps (year_of_day d) f (closed_year (shown e) (year_of_day d) f (year_enclosed shown bits d e p q h (n _)) (omega (arith, ints)) o)
 
 -- nor is an open rounding
 pub round_not_of_year : (i : Interval) (y : ℤ) (f : Fail) → IsOpenFloor i Round f → IsNearFor Sun y f

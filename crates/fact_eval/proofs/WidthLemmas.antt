@@ -1,9 +1,10 @@
--- The bound of a correction that is about to be rounded, computed for each year, and what it says of an open test
+-- The bound of a correction that is about to be rounded, computed for each scale, and what it says of an open test
 -- and of a value.
-use Rattle.std.specs.Prelude.{◌≡◌, ℕ, zero, suc, ◌-◌, ◌*◌, ◌^◌, ℤ, pos, negsuc, ◌+ℤ◌, ◌-ℤ◌, ◌≤ℤ◌, ◌<ℤ◌, Bool, true, false, ◌&&◌, Some, FitsSigned, refl}
-use Rattle.std.proofs.Common.{arith, subst, ◌⊎◌, inl, inr}
-use Rattle.book_model.proofs.Implying.{settled}
-use Rattle.std.proofs.lemmas.Int.{ints, by_lt_z}
+use Rattle.std.specs.Prelude.{◌≡◌, ℕ, ◌+◌, ◌-◌, ◌*◌, ◌^◌, ◌≤◌, ℤ, pos, negsuc, ◌-ℤ◌, ◌*ℤ◌, ◌≤ℤ◌, Bool, true, false, ◌&&◌, nat_le, Some, FitsSigned, refl}
+use Rattle.std.proofs.lemmas.Bool.{leb-true}
+use Rattle.std.proofs.Common.{arith, subst}
+use Rattle.book_model.proofs.Implying.{settled_at}
+use Rattle.std.proofs.lemmas.Int.{ints}
 use Rattle.std.specs.Int.{w64}
 use Rattle.exact_math.specs.Fraction.{Fraction, ◌≤F◌, ◌≈◌, plus, floor}
 use Rattle.exact_math.specs.Interval.{Interval, everything, between}
@@ -15,58 +16,58 @@ use Rattle.book_model.specs.declared.fail.Fail.TheVariants.{Undecided as undecid
 use Rattle.book_model.specs.declared.site.Site.TheVariants.{Round, Year}
 use Rattle.book_model.specs.declared.fact.Kind.TheVariants.{Dt}
 use Rattle.encl_core.specs.Steps.{IsOpenFloor}
-use Rattle.book_model.specs.Bounds.{Bound, unbounded, bounded, Reach, IsNarrow, breadth, at_32, bound_of, implies, integer_bound, constant_bound, sum_bound, scaled_bound, limits_of, limits_36}
-use Rattle.book_model.specs.Correction.{int_power, polynomial_to, polynomial_of, seconds_of}
+use Rattle.book_model.specs.Bounds.{Bound, bounded, Reach, IsNarrow, breadth, at_32, bound_of, implies, constant_bound, sum_bound, scaled_bound, limits_of}
 use Rattle.book_model.specs.Facts.{IsFactValue}
 use Rattle.book_model.specs.Leading.{at_56, bounds, IsOpenCell, between_cells, too_far}
 use Rattle.book_model.specs.Programs.{integers, cell_at, cell_of, when}
-use Rattle.book_model.specs.Relations.{Narrow}
-use Rattle.time_scales.specs.Corrections.{row_of, computed_by, computed_of}
-use Rattle.fact_eval.specs.Widths.{rounded_expression, IsNearFor}
+use Rattle.book_model.specs.Expressions.{Expression, argument}
+use Rattle.book_model.specs.Relations.{Narrow, Keeps}
+use Rattle.time_scales.specs.Corrections.{correction_bound}
+use Rattle.time_scales.proofs.CorrectionWidths.{holds_below, holds_of}
+use Rattle.fact_eval.specs.Widths.{rounded_expression, IsNearFor, IsCloseFor}
 
--- no argument is promised anything
-abbrev pub no_bound : ℕ → Bound
-no_bound k = unbounded
+-- within 10,000,000 of 0, and at most 345,600,003 units of 2^-bits wide
+abbrev pub rounded_bound : ℕ → Bound
+rounded_bound bits = bounded (negsuc (10000000 * 2 ^ 32 - 1)) (pos (10000000 * 2 ^ 32)) 0 (345600003 * 2 ^ (64 - bits))
 
--- within 10,000,000 of 0, and at most 2^-6 wide
-abbrev pub rounded_bound : Bound
-rounded_bound = bounded (negsuc (10000000 * 2 ^ 32 - 1)) (pos (10000000 * 2 ^ 32)) 0 (2 ^ 58)
+abbrev narrow_correction : ℕ → ℕ → Bound
+narrow_correction bits k = correction_bound 4 bits
 
--- whether a test holds of the n numbers from y on
-unfoldable pub holds_from : (ℤ → Bool) → ℤ → ℕ → Bool
-holds_from f y zero = true
-holds_from f y (suc n) = f y && holds_from f (y +ℤ pos 1) n
+-- what is rounded keeps the bound at the scale k bits finer than 2^-36, and its units are 2^-6 at most
+unfoldable is_rounded_well : ℕ → Bool
+is_rounded_well k = implies (bound_of (limits_of (36 + k)) (narrow_correction (36 + k)) (rounded_expression (argument 0))) (rounded_bound (36 + k)) && nat_le (345600003 * 2 ^ (64 - (36 + k))) (2 ^ 58)
 
-unfoldable pub is_rounded_well : ℤ → Bool
-is_rounded_well y = implies (bound_of limits_36 no_bound (rounded_expression y)) rounded_bound
-
-years_fit : holds_from is_rounded_well (pos 1987) 64 ≡ true
-unfolding holds_from is_rounded_well implies bound_of integer_bound constant_bound sum_bound scaled_bound rounded_expression computed_of row_of computed_by seconds_of polynomial_of polynomial_to int_power
-years_fit = refl
+scales_fit : holds_below is_rounded_well 21 ≡ true
+unfolding holds_below is_rounded_well implies bound_of limits_of constant_bound sum_bound scaled_bound
+scales_fit = refl
 
 both : (p q : Bool) → (p && q) ≡ true → (p ≡ true) × (q ≡ true)
 both true true e = (refl, refl)
 both true false e = absurd (cc)
 both false q e = absurd (cc)
 
-same_or_later : (y z : ℤ) → y ≤ℤ z → (y ≡ z) ⊎ ((y +ℤ pos 1) ≤ℤ z)
-same_or_later y z h = by_lt_z y z (λ l. inr (omega (arith, ints))) (λ l. inl (omega (arith, ints)))
+abbrev FitsScale : ℕ → Type 0
+FitsScale n = (implies (bound_of (limits_of n) (narrow_correction n) (rounded_expression (argument 0))) (rounded_bound n) ≡ true) × (nat_le (345600003 * 2 ^ (64 - n)) (2 ^ 58) ≡ true)
 
-holds_at : (f : ℤ → Bool) (n : ℕ) (y z : ℤ) → holds_from f y n ≡ true → y ≤ℤ z → z <ℤ (y +ℤ pos n) → f z ≡ true
-unfolding holds_from
-holds_at f zero y z e h k = absurd (omega (arith, ints))
-holds_at f (suc n) y z e h k =
-    let b = both (f y) (holds_from f (y +ℤ pos 1) n) e in
-    elim (same_or_later y z h) [ inl p ↦ subst (λ t. f t ≡ true) p b.0 | inr p ↦ holds_at f n (y +ℤ pos 1) z b.1 p (omega (arith, ints)) ]
-
-year_fits : (y : ℤ) → pos 1987 ≤ℤ y → y ≤ℤ pos 2050 → implies (bound_of limits_36 no_bound (rounded_expression y)) rounded_bound ≡ true
+fits_finer : (k : ℕ) → is_rounded_well k ≡ true → FitsScale (36 + k)
 unfolding is_rounded_well
-year_fits y h k = holds_at is_rounded_well 64 (pos 1987) y years_fit h (omega (arith, ints))
+fits_finer k e = both _ _ e
 
--- what is rounded for a year of the table keeps the bound
-pub rounded_narrow : {E : Type 0} (shown : E → Interval) (n : ℕ) (y : ℤ) (e : E) → n ≡ 36 → pos 1987 ≤ℤ y → y ≤ℤ pos 2050
-    → ((r : Reach) → Narrow shown (limits_of n) r (rounded_expression y) e) → IsNarrow 0 rounded_bound (shown e)
-rounded_narrow shown n y e p h k f = settled shown n 0 no_bound (rounded_expression y) rounded_bound e p (year_fits y h k) (f (record { width = 0; bounds = no_bound }))
+scale_fits : (n : ℕ) → 36 ≤ n → n ≤ 56 → FitsScale n
+scale_fits n a b =
+    let p : 36 + (n - 36) ≡ n = omega (arith, a) in
+    subst FitsScale p (fits_finer (n - 36) (holds_of is_rounded_well 21 (n - 36) scales_fit (omega (arith, a, b))))
+
+units_small : (n : ℕ) → 36 ≤ n → n ≤ 56 → 345600003 * 2 ^ (64 - n) ≤ 2 ^ 58
+units_small n a b = leb-true _ _ (scale_fits n a b).1
+
+-- what is rounded for a correction of at most 4 units keeps the bound
+pub rounded_narrow : {E : Type 0} (shown : E → Interval) (n : ℕ) (d e : E) → 36 ≤ n → n ≤ 56 → IsNarrow 0 (correction_bound 4 n) (shown d)
+    → ((r : Reach) (x : Expression) → Narrow shown (limits_of n) r x d → Narrow shown (limits_of n) r (rounded_expression x) e) → IsNarrow 0 (rounded_bound n) (shown e)
+unfolding Keeps bound_of
+rounded_narrow shown n d e a b h f =
+    let r : Reach = record { width = 0; bounds = narrow_correction n } in
+    settled_at shown n 0 (narrow_correction n) (rounded_expression (argument 0)) (rounded_bound n) e (scale_fits n a b).0 (f r (argument 0) (record { kept = h }))
 
 -- the floor of a number that keeps the bound is a value of a fact
 floor_low : floor (at_32 (negsuc (10000000 * 2 ^ 32 - 1))) ≡ negsuc 9999999
@@ -79,10 +80,10 @@ when_some : {A : Type 0} (b : Bool) (a q : A) → when b a ≡ Some q → a ≡ 
 when_some true a q e = cc
 when_some false a q e = absurd (cc)
 
-floor_is_value : (i : Interval) (q : ℤ) → IsNarrow 0 rounded_bound i → cell_at integers i ≡ Some q → IsFactValue q
+floor_is_value : (n : ℕ) (i : Interval) (q : ℤ) → IsNarrow 0 (rounded_bound n) i → cell_at integers i ≡ Some q → IsFactValue q
 unfolding cell_at cell_of IsNarrow
-floor_is_value everything q h e = absurd h
-floor_is_value (between lo hi) q h e =
+floor_is_value n everything q h e = absurd h
+floor_is_value n (between lo hi) q h e =
     let s : floor lo ≡ q = when_some _ _ q e in
     let l = floor_mono _ _ h.above in
     let u = floor_mono _ _ (le_trans _ _ _ h.ordered h.below) in
@@ -91,29 +92,40 @@ floor_is_value (between lo hi) q h e =
 value_fits : (q : ℤ) → IsFactValue q → FitsSigned w64 q
 value_fits q h = omega (arith, ints, h.0, h.1)
 
-apart_at_most : (lo hi : ℤ) → at_56 hi ≤F plus (at_56 lo) (breadth 0 0 (2 ^ 58)) → (hi -ℤ lo) ≤ℤ pos (2 ^ 50)
+apart_at_most : (n : ℕ) (lo hi : ℤ) → at_56 hi ≤F plus (at_56 lo) (breadth 0 0 (345600003 * 2 ^ (64 - n))) → ((hi -ℤ lo) *ℤ pos 256) ≤ℤ pos (345600003 * 2 ^ (64 - n))
 unfolding plus
-apart_at_most lo hi h = omega (arith, ints, h.cross)
+apart_at_most n lo hi h = omega (arith, ints, h.cross)
 
-nothing_narrow : IsNarrow 0 rounded_bound everything → ⊥
+nothing_narrow : (n : ℕ) → IsNarrow 0 (rounded_bound n) everything → ⊥
 unfolding IsNarrow
-nothing_narrow h = h
+nothing_narrow n h = h
 
-close_ends : (a b : Fraction) (lo hi : ℤ) → at_56 lo ≈ a → at_56 hi ≈ b → IsNarrow 0 rounded_bound (between a b) → at_56 hi ≤F plus (at_56 lo) (breadth 0 0 (2 ^ 58))
+close_ends : (n : ℕ) (a b : Fraction) (lo hi : ℤ) → at_56 lo ≈ a → at_56 hi ≈ b → IsNarrow 0 (rounded_bound n) (between a b) → at_56 hi ≤F plus (at_56 lo) (breadth 0 0 (345600003 * 2 ^ (64 - n)))
 unfolding IsNarrow
-close_ends a b lo hi l r h = le_trans _ _ _ (le_of_same r) (le_trans _ _ _ h.close (plus_mono _ _ _ _ (ge_of_same l) (le_refl _)))
+close_ends n a b lo hi l r h = le_trans _ _ _ (le_of_same r) (le_trans _ _ _ h.close (plus_mono _ _ _ _ (ge_of_same l) (le_refl _)))
 
--- the ends of an open floor of what keeps the bound are at most 2^-6 apart
-open_floor_close : (i : Interval) (lo hi : ℤ) → IsNarrow 0 rounded_bound i → IsOpenCell integers i lo hi → (hi -ℤ lo) ≤ℤ pos (2 ^ 50)
-open_floor_close i lo hi h (too_far q e n b) = absurd (n (value_fits q (floor_is_value i q h e)))
-open_floor_close everything lo hi h (between_cells e k) = absurd (nothing_narrow h)
-open_floor_close (between a b) lo hi h (between_cells e (bounds l r)) = apart_at_most lo hi (close_ends a b lo hi l r h)
+-- the ends of an open floor of what keeps the bound are no further apart than its units
+open_floor_close : (n : ℕ) (i : Interval) (lo hi : ℤ) → IsNarrow 0 (rounded_bound n) i → IsOpenCell integers i lo hi → ((hi -ℤ lo) *ℤ pos 256) ≤ℤ pos (345600003 * 2 ^ (64 - n))
+open_floor_close n i lo hi h (too_far q e f b) = absurd (f (value_fits q (floor_is_value n i q h e)))
+open_floor_close n everything lo hi h (between_cells e k) = absurd (nothing_narrow n h)
+open_floor_close n (between a b) lo hi h (between_cells e (bounds l r)) = apart_at_most n lo hi (close_ends n a b lo hi l r h)
 
--- an open floor of what keeps the bound from 1987 on is a near rounding
-pub near_round : (i : Interval) (y : ℤ) (f : Fail) → (pos 1987 ≤ℤ y → y ≤ℤ pos 2050 → IsNarrow 0 rounded_bound i) → IsOpenFloor i Round f → IsNearFor Dt y f
-near_round i y (undecided_at u) h o = record { no_whole_day = λ e t d. let r = o.1 in absurd (cc); close = λ k a b. open_floor_close i u.lo u.hi (h a b) o.0 }
-near_round i y (Void s) h o = tt
+-- an open floor of what keeps the bound from 1987 on lies within its units
+pub close_round : (n : ℕ) (i : Interval) (y : ℤ) (f : Fail) → (pos 1987 ≤ℤ y → y ≤ℤ pos 2050 → IsNarrow 0 (rounded_bound n) i) → IsOpenFloor i Round f → IsCloseFor n y f
+close_round n i y (undecided_at u) h o = λ a b. open_floor_close n i u.lo u.hi (h a b) o.0
+close_round n i y (Void s) h o = tt
+
+-- and it is a near rounding
+near_units : (n : ℕ) (z : ℤ) → 36 ≤ n → n ≤ 56 → (z *ℤ pos 256) ≤ℤ pos (345600003 * 2 ^ (64 - n)) → z ≤ℤ pos (2 ^ 50)
+near_units n z a b h = omega (arith, ints, h, units_small n a b)
+
+pub near_round : (n : ℕ) (i : Interval) (y : ℤ) (f : Fail) → 36 ≤ n → n ≤ 56 → IsOpenFloor i Round f → IsCloseFor n y f → IsNearFor Dt y f
+near_round n i y (undecided_at u) p q o c = record { no_whole_day = λ e t d. let r = o.1 in absurd (cc); close = λ k a b. near_units n (u.hi -ℤ u.lo) p q (c a b) }
+near_round n i y (Void s) p q o c = tt
 
 -- a void is no open test
 pub void_is_no_test : (y : ℤ) (f : Fail) → f ≡ Void Year → IsNearFor Dt y f
 void_is_no_test y f e = rw e tt
+
+pub void_is_close : (n : ℕ) (y : ℤ) (f : Fail) → f ≡ Void Year → IsCloseFor n y f
+void_is_close n y f e = rw e tt

@@ -1,5 +1,5 @@
 -- What is rounded for a correction, and what an open test of a fact keeps.
-use Rattle.std.specs.Prelude.{◌≡◌, ◌^◌, ◌⊎◌, ℤ, pos, ◌-ℤ◌, ◌≤ℤ◌}
+use Rattle.std.specs.Prelude.{◌≡◌, ℕ, ◌-◌, ◌*◌, ◌^◌, ◌⊎◌, ℤ, pos, ◌-ℤ◌, ◌*ℤ◌, ◌≤ℤ◌}
 use Rattle.book_model.specs.declared.site.Site.TheVariants.{Year}
 use Rattle.book_model.specs.declared.fact.Kind.{Kind}
 use Rattle.book_model.specs.declared.fact.Kind.TheVariants.{Dt}
@@ -10,11 +10,16 @@ use Rattle.book_model.specs.declared.tables.TheConstants.{HALF, MILLISECONDS_OF_
 use Rattle.book_model.specs.Expressions.{Expression, constant, add, scale}
 use Rattle.book_model.specs.Facts.{HasWholeDays}
 use Rattle.book_model.specs.Fractions.{fraction_of}
-use Rattle.time_scales.specs.Corrections.{computed_of}
 
--- what is rounded: the correction of a year in milliseconds, and a half
-unfoldable pub rounded_expression : ℤ → Expression
-rounded_expression y = add (scale (fraction_of MILLISECONDS_OF_DAY) (computed_of y)) (constant (fraction_of HALF))
+-- what is rounded: a correction in milliseconds, and a half
+abbrev pub rounded_expression : Expression → Expression
+rounded_expression x = add (scale (fraction_of MILLISECONDS_OF_DAY) x) (constant (fraction_of HALF))
+
+-- what an open test of a correction keeps, at the scale 2^-bits: from 1987 to 2050 its ends, which count 2^-56, lie at most
+-- 345,600,003 units of the scale apart
+abbrev pub IsCloseFor : ℕ → ℤ → Fail → Type 0
+IsCloseFor bits year (Undecided u) = pos 1987 ≤ℤ year → year ≤ℤ pos 2050 → ((u.hi -ℤ u.lo) *ℤ pos 256) ≤ℤ pos (345600003 * 2 ^ (64 - bits))
+IsCloseFor bits year (Void s) = Unit {0}
 
 -- what an open test of a fact of this kind keeps, by the year of its day: it isn't that of a whole day, and from 1987 to
 -- 2050 the ends of a correction lie at most 2^-6 apart

@@ -10,7 +10,7 @@ ghost use Rattle.book_model.specs.declared.fact.Kind.TheVariants.{Dt};
 ghost use Rattle.book_model.specs.Programs.{AtMost};
 ghost use Rattle.book_model.specs.Leading.{Exact, Leads};
 ghost use Rattle.book_model.specs.Relations.{Within, Narrow};
-ghost use Rattle.fact_eval.specs.Widths.{IsNearFor};
+ghost use Rattle.fact_eval.specs.Widths.{IsNearFor, IsCloseFor};
 ghost use Rattle.book_model.specs.Depth.{DEPTH};
 
 use book_model::{Fail, HALF, MILLISECONDS_OF_DAY, Site};
@@ -36,7 +36,8 @@ pub(crate) fn dt<E: Enclosure>(day: i64, trail: &mut Trail) -> Result<i64, Fail>
     ensures leads { (w : World) → DEPTH ≤ w.depth → Leads w Exact (dt_of day) trail.old.count trail.new.count result }
     ensures counted { trail.new.count ≤ trail.old.count + 2 }
     ensures value { IfOk result IsFactValue }
-    ensures open { E.BITS ≡ 36 → IfErr result (IsNearFor Dt (year_of_day day)) }
+    ensures open { 36 ≤ E.BITS → E.BITS ≤ 56 → IfErr result (IsNearFor Dt (year_of_day day)) }
+    ensures close { 36 ≤ E.BITS → E.BITS ≤ 56 → IfErr result (IsCloseFor E.BITS (year_of_day day)) }
 {
     let year = year_of_whole_day(day, trail);
     match correction::<E>(year, trail) {

@@ -42,7 +42,7 @@ fn formula<E: Enclosure>(
     ensures few { AtMost 99999 (formula_of kind _place day) }
     ensures leads { (w : World) → DEPTH ≤ w.depth → Leads w Exact (formula_of kind _place day) trail.old.count trail.new.count result }
     ensures value { IfOk result IsFactValue }
-    ensures open { E.BITS ≡ 36 → IfErr result (IsNearFor kind (year_of_day day)) }
+    ensures open { 36 ≤ E.BITS → E.BITS ≤ 56 → IfErr result (IsNearFor kind (year_of_day day)) }
 {
     match kind {
         Kind::Dt => dt::<E>(day, trail),
@@ -66,7 +66,7 @@ pub(crate) fn evaluate<E: Enclosure>(fact: Fact, trail: &mut Trail) -> Result<i6
     ensures few { AtMost 99999 (program_of fact) }
     ensures leads { (w : World) → DEPTH ≤ w.depth → Leads w Exact (program_of fact) trail.old.count trail.new.count result }
     ensures value { IfOk result IsFactValue }
-    ensures open { E.BITS ≡ 36 → IfErr result (IsNearFor fact.kind (year_of_day fact.day)) }
+    ensures open { 36 ≤ E.BITS → E.BITS ≤ 56 → IfErr result (IsNearFor fact.kind (year_of_day fact.day)) }
 {
     let day = fact.day();
     if !may_have_value(day) {

@@ -23,7 +23,7 @@ pub(crate) fn sun_in_thousandths<E: Enclosure>(day: i64, trail: &mut Trail) -> R
     ensures leads { (w : World) → DEPTH ≤ w.depth → Leads w Exact (sun_in_thousandths_of day) trail.old.count trail.new.count result }
     ensures counted { trail.new.count ≤ trail.old.count + 3 }
     ensures value { IfOk result IsFactValue }
-    ensures open { E.BITS ≡ 36 → IfErr result (IsNearFor Sun (year_of_day day)) }
+    ensures open { 36 ≤ E.BITS → E.BITS ≤ 56 → IfErr result (IsNearFor Sun (year_of_day day)) }
 {
     match sun(E::from_int(day), trail) {
         Ok(degrees) => floor_step(degrees.mul_frac(THOUSANDTHS_OF_DEGREE), Site::Round, trail),

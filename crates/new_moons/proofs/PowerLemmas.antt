@@ -1,14 +1,8 @@
 -- Powers of a factor, one after the other.
-use Rattle.std.specs.Prelude.{◌≡◌, ℕ, zero, suc, ◌+◌, ◌<◌, ◌≤◌, pos, [], ◌∷◌, refl}
+use Rattle.std.specs.Prelude.{◌≡◌, ℕ, zero, suc, ◌+◌, ◌≤◌, refl}
 use Rattle.std.proofs.Common.{add-one, arith}
-use Rattle.std.proofs.lemmas.Int.{ints}
-use Rattle.exact_math.specs.Fraction.{Fraction, ◌≈◌, ◌≤F◌, whole, times, den, power as fraction_power}
-use Rattle.exact_math.specs.Interval.{Interval, everything, between, IsProper, IsMember, ◌⊆◌, product, power as interval_power}
-use Rattle.exact_math.proofs.Fractions.{le_trans, le_refl}
-use Rattle.exact_math.proofs.Intervals.{power_smallest, within_everything, within_trans}
-use Rattle.exact_math.proofs.FractionRing.{same_by}
-use Rattle.exact_math.proofs.Ring.{at, lit, ◌⊗◌}
-use Rattle.exact_math.proofs.Same.{le_of_same, ge_of_same}
+use Rattle.exact_math.specs.Interval.{Interval}
+use Rattle.exact_math.proofs.Intervals.{within_trans}
 use Rattle.book_model.specs.Bounds.{Limits, Reach, bound_of, power_bound}
 use Rattle.book_model.specs.Expressions.{Expression, World, value, multiply, power}
 use Rattle.book_model.specs.Relations.{Within, Narrow, Lies, Keeps}

@@ -3,9 +3,9 @@ use Rattle.std.proofs.Common.{arith, ◌≡◌, ◌<◌, ◌*◌, ◌-◌, suc, 
 use Rattle.exact_math.specs.Fraction.{Fraction, ◌≈◌, times, below_product}
 use Rattle.exact_math.specs.Interval.{Interval, everything, between, IsProper, IsMember, ◌⊆◌, product, least, greatest}
 use Rattle.exact_math.proofs.FractionRing.{same_by}
-use Rattle.exact_math.proofs.Fractions.{le_refl, le_trans, smaller_keeps, larger_keeps}
+use Rattle.exact_math.proofs.Fractions.{le_refl, le_trans}
 use Rattle.exact_math.proofs.IntLaws.{one_mul}
-use Rattle.exact_math.proofs.Intervals.{product_holds, least_is, greatest_is, within_trans, within_refl, within_everything, sum_within}
+use Rattle.exact_math.proofs.Intervals.{product_holds, least_is, greatest_is, least_keeps, greatest_keeps, within_trans, within_refl, within_everything, sum_within}
 use Rattle.exact_math.proofs.Ring.{at, ◌⊗◌}
 use Rattle.exact_math.proofs.Same.{same_trans, same_refl, same_sym, times_cong, le_of_same, ge_of_same}
 use Rattle.book_model.specs.declared.frac.Frac.{Frac}
@@ -61,15 +61,6 @@ unit_is = record { cross = refl }
 -- what holds an expression scaled by both factors of the unit holds it scaled by the unit
 pub unit_holds : {E : Type 0} (shown : E → Interval) (w : World) (x : Expression) (e : E) → Within shown w (scale (fraction_of SUN_UNIT_FINELY) (scale (fraction_of SUN_UNIT_COARSELY) x)) e → Within shown w (scale sun_unit x) e
 unit_holds shown w x e h = scaled_holds shown w x (fraction_of SUN_UNIT_COARSELY) (fraction_of SUN_UNIT_FINELY) sun_unit e unit_is h
-
--- what each of four keeps the least and the greatest keep
-least_keeps : (P : Fraction → Type 0) (p q r s : Fraction) → P p → P q → P r → P s → P (least p q r s)
-unfolding least
-least_keeps P p q r s hp hq hr hs = smaller_keeps P _ _ (smaller_keeps P p q hp hq) (smaller_keeps P r s hr hs)
-
-greatest_keeps : (P : Fraction → Type 0) (p q r s : Fraction) → P p → P q → P r → P s → P (greatest p q r s)
-unfolding greatest
-greatest_keeps P p q r s hp hq hr hs = larger_keeps P _ _ (larger_keeps P p q hp hq) (larger_keeps P r s hr hs)
 
 -- the product of a member with one number and then with another, where an interval holds the product with both
 once_member : (i : Interval) (a b f x : Fraction) → times a b ≈ f → IsMember x i → IsMember (times (times x a) b) (product i (exactly f))

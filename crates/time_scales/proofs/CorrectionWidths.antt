@@ -22,7 +22,7 @@ holds_from f y zero = true
 holds_from f y (suc n) = f y && holds_from f (y +ℤ pos 1) n
 
 -- whether a test holds of the numbers below n
-unfoldable holds_below : (ℕ → Bool) → ℕ → Bool
+unfoldable pub holds_below : (ℕ → Bool) → ℕ → Bool
 holds_below f zero = true
 holds_below f (suc n) = f n && holds_below f n
 
@@ -52,7 +52,7 @@ holds_at f (suc n) y z e h k =
     let b = both (f y) (holds_from f (y +ℤ pos 1) n) e in
     elim (same_or_later y z h) [ inl p ↦ subst (λ t. f t ≡ true) p b.0 | inr p ↦ holds_at f n (y +ℤ pos 1) z b.1 p (omega (arith, ints)) ]
 
-holds_of : (f : ℕ → Bool) (n k : ℕ) → holds_below f n ≡ true → k < n → f k ≡ true
+pub holds_of : (f : ℕ → Bool) (n k : ℕ) → holds_below f n ≡ true → k < n → f k ≡ true
 unfolding holds_below
 holds_of f zero k e h = absurd (omega arith)
 holds_of f (suc n) k e h =

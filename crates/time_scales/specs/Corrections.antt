@@ -54,6 +54,6 @@ computed_in y (Some r) = computed_by r y
 unfoldable pub computed_of : ℤ → Expression
 computed_of y = computed_in y (row_of y)
 
--- within a day of 0, and at most so many units of 2^-bits wide
+-- within a 64th of a day of 0, and at most so many units of 2^-bits wide
 abbrev pub correction_bound : (units bits : ℕ) → Bound
-correction_bound units bits = bounded (negsuc (2 ^ 32 - 1)) (pos (2 ^ 32)) 0 (units * 2 ^ (64 - bits))
+correction_bound units bits = bounded (negsuc (2 ^ 26 - 1)) (pos (2 ^ 26)) 0 (units * 2 ^ (64 - bits))

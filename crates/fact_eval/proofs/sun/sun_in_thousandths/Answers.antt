@@ -18,10 +18,10 @@ pub returns-in-Ok-clause-value : goal.returns-in-Ok-clause-value
 returns-in-Ok-clause-value g c = sun_is_value c.args.day _ _ _ (returns-in-Ok-clause-leads g c)
 
 pub returns-in-Ok-clause-open : goal.returns-in-Ok-clause-open
-returns-in-Ok-clause-open g c = λ p. IfErr-weaker c.floor_step.result _ _ (λ f o. round_not_of_year _ _ f o) c.floor_step.ensures.open
+returns-in-Ok-clause-open g c = λ p q. IfErr-weaker c.floor_step.result _ _ (λ f o. round_not_of_year _ _ f o) c.floor_step.ensures.open
 
 pub returns-in-Err-clause-open : goal.returns-in-Err-clause-open
-returns-in-Err-clause-open g c = λ p.
+returns-in-Err-clause-open g c = λ p q.
     let f : SFits w64 c.args.day = c.ranges.day in
     let n = simp to_z-of_z at c.from_int.ensures.narrow in
-    sun_not_of_year g.E.Enclosure.shown _ c.args.day c.from_int.result _ p c.requires.day n c.in-Err.ensures.open
+    sun_not_of_year g.E.Enclosure.shown _ c.args.day c.from_int.result _ p q c.requires.day n c.in-Err.ensures.open

@@ -1,5 +1,5 @@
-use Rattle.std.proofs.Common.{◌≡◌, arith, rules, SFits, pos, ◌^◌, ◌*ℤ◌, ◌+ℤ◌, refl}
-use Rattle.std.specs.Int.{w64, w128}
+use Rattle.std.proofs.Common.{◌≡◌, arith, SFits, pos, ◌^◌, ◌*ℤ◌, ◌+ℤ◌, refl}
+use Rattle.std.specs.Int.{w128}
 use Rattle.std.proofs.lemmas.Int.{ints, to_z-of_z}
 use Rattle.encl_core.proofs.Scaling.{bounded_z}
 use Rattle.new_moons.proofs.terms.planet_angle.Goals as goal

@@ -1,0 +1,36 @@
+//! The angle of a wave, of ends that count 2⁻³⁶.
+ghost use Rattle.std.specs.Prelude.{◌≡◌, ℕ, pos, neg_ℤ, ◌^◌, ◌*ℤ◌, ◌+ℤ◌, ◌≤ℤ◌};
+ghost use Rattle.exact_math.specs.Interval.{◌⊆◌, sum, product, between};
+ghost use Rattle.book_model.specs.Bounds.{Bound, IsNarrow, sum_bound, constant_bound, scaled_bound, limits_36};
+ghost use Rattle.book_model.specs.Fractions.{ten_millionths, daily_ten_millionths};
+ghost use Rattle.encl_core.specs.Shown.{shown_ends};
+
+use crate::ends::Ends;
+use crate::operations::product_of;
+use crate::rounding::ends_of;
+use rounded_quotients::{ceil_div, floor_div, sorted};
+
+/// What a rate of ten-millionths a century is counted by in a day.
+const DAILY: i128 = 365_250_000_000;
+
+/// A phase of ten-millionths and the rate times an end, by that number.
+#[inline(always)]
+fn turned(end: i64, phase: i64, rate: i64) -> i128
+    ensures value { result ≡ phase *ℤ pos 2509978887782400 +ℤ end *ℤ rate }
+{
+    i128::from(phase) * 2_509_978_887_782_400 + product_of(end, rate)
+}
+
+/// The ends around a phase of ten-millionths and a rate of so many a century times the members, which are days: one
+/// quotient at each end.
+#[inline(always)]
+pub(crate) fn angle_ends(x: Option<Ends>, phase: i64, rate: i64) -> Option<Ends>
+    ensures holds { sum (between (ten_millionths phase) (ten_millionths phase)) (product (shown_ends x) (between (daily_ten_millionths rate) (daily_ten_millionths rate))) ⊆ shown_ends result }
+    ensures narrow { (w : ℕ) (a : Bound) → IsNarrow w a (shown_ends x) → IsNarrow w (sum_bound limits_36 (constant_bound limits_36 (ten_millionths phase)) (scaled_bound limits_36 (daily_ten_millionths rate) a)) (shown_ends result) }
+{
+    let x = x?;
+    let p = turned(x.lo, phase, rate);
+    let q = turned(x.hi, phase, rate);
+    let (least, greatest) = sorted(p, q);
+    ends_of(floor_div(least, DAILY), ceil_div(greatest, DAILY))
+}
