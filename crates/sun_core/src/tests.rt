@@ -1,4 +1,6 @@
 //! What no clause says: values from an independent implementation of the formulas, and how narrow the answers are.
+ghost use Rattle.std.specs.Prelude.{pos, ◌≤ℤ◌};
+
 use crate::{equation_of_time, estimate, from_apparent, noon, obliquity, sun};
 use book_model::{Fail as FormulaFail, Frac, Site};
 use encl_core::{Coarse, Enclosure, Trail};
@@ -56,6 +58,32 @@ fn longitudes_are_those_of_the_reference(rt: HostRuntime) -> Result<(), Fail> {
         let found = sun(fraction(num, den)?, &mut trail);
         assert!(rt; is_near(found, degrees, most), "the sun at {num} / {den}");
         assert_eq!(rt; trail.count(), 2);
+    }
+    Ok(())
+}
+
+/// How many units wide an enclosure is.
+fn width(found: Result<Coarse, FormulaFail>) -> Option<i128> {
+    let span = found.ok()?.span()?;
+    Some(span.hi.checked_sub(span.lo)? / UNIT)
+}
+
+/// 1 January of a year (R.D.).
+fn new_year(year: i64) -> i64
+    requires from { pos 1802 ≤ℤ year }
+    requires to { year ≤ℤ pos 2048 }
+{
+    let before = year - 1;
+    365 * before + before / 4 - before / 100 + before / 400 + 1
+}
+
+#[test]
+fn longitudes_of_every_new_year_keep_their_bound(rt: HostRuntime) -> Result<(), Fail> {
+    for year in 1802..2049 {
+        let most = if year < 1987 { 58 } else { 28 };
+        let found = sun(Coarse::from_int(new_year(year)), &mut Trail::new());
+        let width = width(found).ok_or("no longitude")?;
+        assert!(rt; width <= most, "the sun on 1 January {year}");
     }
     Ok(())
 }
