@@ -1,6 +1,4 @@
 //! What no clause says: values from an independent implementation of the formulas, and how narrow the answers are.
-ghost use Rattle.std.specs.Prelude.{pos, ◌≤ℤ◌};
-
 use crate::{equation_of_time, estimate, from_apparent, noon, obliquity, sun};
 use book_model::{Fail as FormulaFail, Frac, Site};
 use encl_core::{Coarse, Enclosure, Trail};
@@ -69,12 +67,15 @@ fn width(found: Result<Coarse, FormulaFail>) -> Option<i128> {
 }
 
 /// 1 January of a year (R.D.).
-fn new_year(year: i64) -> i64
-    requires from { pos 1802 ≤ℤ year }
-    requires to { year ≤ℤ pos 2048 }
-{
-    let before = year - 1;
-    365 * before + before / 4 - before / 100 + before / 400 + 1
+fn new_year(year: i64) -> i64 {
+    let before = year.saturating_sub(1);
+    let leap_days = (before / 4)
+        .saturating_sub(before / 100)
+        .saturating_add(before / 400);
+    before
+        .saturating_mul(365)
+        .saturating_add(leap_days)
+        .saturating_add(1)
 }
 
 #[test]
