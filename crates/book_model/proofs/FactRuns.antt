@@ -139,6 +139,11 @@ sun_in_turn w x e h =
     let d = decides w _ (multiples 360) (longitude_of p.part) (λ q. remainder 360 (longitude_of p.part) q) e p.then in
     rw (← d.leads_to) (remainder_in_turn _ d.cell_there d.decided_so)
 
+-- the same, with the turn's ends
+pub sun_within : (w : World) (x e : Expression) → outcome (run w (sun_of x)) ≡ valued e → value w e ⊆ between (whole (pos 0)) (whole (pos 360))
+unfolding turn
+sun_within w x e h = sun_in_turn w x e h
+
 -- ---- the value of the sun's longitude, in thousandths
 thousand_turns : product turn (exactly (fraction_of THOUSANDTHS_OF_DEGREE)) ⊆ between (whole (pos 0)) (whole (pos 360000))
 unfolding product turn least greatest smaller larger times is_at_most

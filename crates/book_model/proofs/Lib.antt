@@ -20,6 +20,7 @@ pub mod Estimates
 pub mod Moments
 pub mod PhaseRanges
 pub mod NewYears
+pub mod Solstices
 pub mod WordTables
 pub mod NameLemmas
 pub mod MoonFacts

@@ -37,7 +37,7 @@ new_moon_from_few d = at_most_more 27 99999 (omega arith) (at_most_bind 25 2 (mo
 
 -- ---- values
 -- what the time of Beijing is ahead of universal time is less than a day
-hours_between : (w : World) (early : Bool) → IsBetween (pos 0) (pos 1) (value w (scale (fraction_of HOUR) (beijing_hours early)))
+pub hours_between : (w : World) (early : Bool) → IsBetween (pos 0) (pos 1) (value w (scale (fraction_of HOUR) (beijing_hours early)))
 unfolding value beijing_hours product least greatest smaller larger times is_at_most
 hours_between w true = (record { cross = omega (arith, ints) }, record { cross = omega (arith, ints) })
 hours_between w false = (record { cross = omega (arith, ints) }, record { cross = omega (arith, ints) })

@@ -1,6 +1,7 @@
 -- The formulas of the kinds of facts, each for a day (R.D.).
-use Rattle.std.specs.Prelude.{ℤ, pos, ◌-ℤ◌, Bool, not}
-use Rattle.book_model.specs.declared.site.Site.TheVariants.{Round, StartFloor, DayFloor, DayTest}
+use Rattle.std.specs.Prelude.{ℤ, pos, ◌+ℤ◌, ◌-ℤ◌, Bool, not}
+use Rattle.book_model.specs.declared.site.Site.TheVariants.{Round, StartFloor, DayFloor, DayTest, TermFloor}
+use Rattle.book_model.specs.declared.sun_tables.TheConstants.{DEGREE_IN_TERMS}
 use Rattle.book_model.specs.declared.tables.TheConstants.{MILLISECONDS_OF_DAY, THOUSANDTHS_OF_DEGREE}
 use Rattle.book_model.specs.Correction.{year_of, rounded_of}
 use Rattle.book_model.specs.Expressions.{Expression, integer, scale}
@@ -8,6 +9,7 @@ use Rattle.book_model.specs.Fractions.{fraction_of}
 use Rattle.book_model.specs.Noon.{noon_of}
 use Rattle.book_model.specs.Programs.{Program, answer, cell, compare, bind, integers}
 use Rattle.book_model.specs.Searches.{first_day_from}
+use Rattle.book_model.specs.Spans.{amod}
 use Rattle.book_model.specs.Sun.{sun_of, estimate_of}
 use Rattle.book_model.specs.Phases.{moon_before_of, moon_from_of}
 use Rattle.book_model.specs.Time.{correction_of_year, midnight_of, in_beijing_of}
@@ -67,3 +69,42 @@ new_moon_before_of d = bind (moon_before_of (midnight_of d)) day_in_beijing_of
 -- the day in Beijing of the first new moon once the day has begun there
 unfoldable pub new_moon_from_of : ℤ → Program ℤ
 new_moon_from_of d = bind (moon_from_of (midnight_of d)) day_in_beijing_of
+
+-- the sun's longitude when a day begins in Beijing
+unfoldable pub longitude_at_midnight_of : ℤ → Program Expression
+longitude_at_midnight_of d = sun_of (midnight_of d)
+
+-- whether a longitude is past the winter solstice
+unfoldable pub is_past_winter_of : Expression → Program Bool
+is_past_winter_of s = compare DayTest (integer (pos 270)) s answer
+
+-- whether the sun is past the winter solstice when a day ends in Beijing
+unfoldable pub has_winter_at_end : ℤ → Program Bool
+has_winter_at_end d = bind (longitude_at_midnight_of (d +ℤ pos 1)) is_past_winter_of
+
+-- the moment at which, as is estimated, the sun was last at the winter solstice before a day ends in Beijing
+unfoldable pub last_solstice_of : ℤ → Program Expression
+last_solstice_of d = estimate_of (integer (pos 270)) (midnight_of (d +ℤ pos 1))
+
+-- the day of that moment
+unfoldable pub solstice_start_of : ℤ → Program ℤ
+solstice_start_of d =
+    bind (last_solstice_of d) λ s.
+    cell StartFloor integers s answer
+
+-- the day of the last winter solstice in Beijing before a day ends there
+unfoldable pub solstice_of : ℤ → Program ℤ
+solstice_of d =
+    bind (solstice_start_of d) λ q.
+    first_day_from has_winter_at_end (q -ℤ pos 1)
+
+-- how many major solar terms, which are 30 degrees apart, the sun has passed since the spring equinox when a day begins in
+-- Beijing
+unfoldable pub terms_passed_of : ℤ → Program ℤ
+terms_passed_of d =
+    bind (longitude_at_midnight_of d) λ s.
+    cell TermFloor integers (scale (fraction_of DEGREE_IN_TERMS) s) answer
+
+-- the number, from 1 to 12, of the last major solar term when a day begins in Beijing: that at 330 degrees is the first
+unfoldable pub major_of : ℤ → Program ℤ
+major_of d = bind (terms_passed_of d) λ q. answer (amod (pos 2 +ℤ q) 11)

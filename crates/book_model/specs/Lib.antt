@@ -14,6 +14,7 @@ pub mod Lines
 pub mod Inquiries
 pub mod Spans
 pub mod Persian
+pub mod Chinese
 pub mod Words
 pub mod Dates
 pub mod Requests

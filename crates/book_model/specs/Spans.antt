@@ -3,7 +3,7 @@
 use Rattle.std.specs.Prelude.{ℕ, suc, ℤ, pos, ◌-ℤ◌, ◌*ℤ◌}
 use lib.IntN.{neg_ℤ}
 use Rattle.exact_math.specs.Fraction.{Fraction, whole, plus, times, reciprocal, floor, floor_quotient}
-use Rattle.book_model.specs.declared.calendar_tables.TheConstants.{TROPICAL_YEAR}
+use Rattle.book_model.specs.declared.calendar_tables.TheConstants.{SYNODIC_MONTH, TROPICAL_YEAR}
 use Rattle.book_model.specs.declared.tables.TheConstants.{HALF}
 use Rattle.book_model.specs.Fractions.{fraction_of}
 
@@ -34,6 +34,10 @@ spans_of span days more = floor (plus (times (whole days) (reciprocal span)) mor
 -- the whole days of so many tropical years
 unfoldable pub days_of_years : ℤ → ℤ
 days_of_years years = days_of (fraction_of TROPICAL_YEAR) (whole years)
+
+-- the number of synodic months that is nearest to so many days
+unfoldable pub months_of_days : ℤ → ℤ
+months_of_days days = nearest (times (whole days) (reciprocal (fraction_of SYNODIC_MONTH)))
 
 -- the number of tropical years that is nearest to so many days
 unfoldable pub years_of_days : ℤ → ℤ

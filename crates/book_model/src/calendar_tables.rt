@@ -5,6 +5,15 @@ use crate::Frac;
 #[rattlefmt::skip]
 pub const TROPICAL_YEAR: Frac = Frac { num: 365_242_189, den: 1_000_000 };
 
+/// The mean synodic month, from new moon to new moon, in days (Reingold and Dershowitz, Calendrical Calculations,
+/// chapter 14).
+#[rattlefmt::skip]
+pub const SYNODIC_MONTH: Frac = Frac { num: 29_530_588_861, den: 1_000_000_000 };
+
 /// The first day of the Persian year 1: 19 March 622 of the Julian calendar (R.D.; Reingold and Dershowitz,
 /// Calendrical Calculations, chapter 15).
 pub const PERSIAN_EPOCH: i64 = 226_896;
+
+/// The day from which the years of the Chinese cycles of 60 are counted: 15 February -2636 (R.D.; Reingold and Dershowitz,
+/// Calendrical Calculations, chapter 19).
+pub const CHINESE_EPOCH: i64 = -963_099;

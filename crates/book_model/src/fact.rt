@@ -10,8 +10,10 @@ pub enum Kind {
     Dt,
     Sun,
     Nowruz,
+    Solstice,
     NewMoonBefore,
     NewMoonFrom,
+    Major,
 }
 
 /// A place that a fact may be asked of.
@@ -34,12 +36,14 @@ pub struct Fact {
 
 /// Each kind of fact with its printed name and the places that it is asked of, in the order of the variants.
 #[rattlefmt::skip]
-pub const KINDS: [(Kind, &str, &[Place]); 5] = [
+pub const KINDS: [(Kind, &str, &[Place]); 7] = [
     (Kind::Dt, "dt", &[Place::None]),
     (Kind::Sun, "sun", &[Place::None]),
     (Kind::Nowruz, "nowruz", &[Place::None]),
+    (Kind::Solstice, "solstice", &[Place::Beijing]),
     (Kind::NewMoonBefore, "new-moon-before", &[Place::Beijing]),
     (Kind::NewMoonFrom, "new-moon-from", &[Place::Beijing]),
+    (Kind::Major, "major", &[Place::Beijing]),
 ];
 
 /// Each place with its printed name, in the order of the variants.

@@ -4,6 +4,7 @@
 
 mod calendar;
 mod calendar_tables;
+mod chinese;
 mod fact;
 mod fail;
 mod frac;
@@ -29,8 +30,12 @@ pub use calendar::Calendar;
 pub use calendar::CalendarRow;
 pub use calendar::FIRST_ANSWERED_DAY;
 pub use calendar::LAST_ANSWERED_DAY;
+pub use calendar_tables::CHINESE_EPOCH;
 pub use calendar_tables::PERSIAN_EPOCH;
+pub use calendar_tables::SYNODIC_MONTH;
 pub use calendar_tables::TROPICAL_YEAR;
+pub use chinese::ChineseMonth;
+pub use chinese::Sui;
 pub use fact::FIRST_DAY;
 pub use fact::FIRST_FACT_DAY;
 pub use fact::Fact;
@@ -86,6 +91,7 @@ pub use site::SITES;
 pub use site::Site;
 pub use sun_tables::ABERRATION;
 pub use sun_tables::DEGREE_IN_DAYS;
+pub use sun_tables::DEGREE_IN_TERMS;
 pub use sun_tables::DEGREE_OF_YEAR;
 pub use sun_tables::ECCENTRICITY;
 pub use sun_tables::FIVE_QUARTERS;

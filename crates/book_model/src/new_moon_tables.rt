@@ -2,7 +2,7 @@
 //! Reingold and Dershowitz, Calendrical Calculations, chapter 14, after Jean Meeus, Astronomical Algorithms, chapter 49.
 //! Angles are in degrees. The polynomials are by the time in units of 1236.85 months from the new moon of January 2000,
 //! which are centuries; what grows by a month is multiplied by 1236.85.
-use crate::{Frac, NewMoonTerm, PlanetTerm, Quadratic, QuadraticWave};
+use crate::{Frac, NewMoonTerm, PlanetTerm, Quadratic, QuadraticWave, SYNODIC_MONTH};
 
 /// The number of the new moon of January 2000, counted from that of January of the year 1.
 pub const NEW_MOON_OF_2000: i64 = 24_724;
@@ -72,7 +72,7 @@ pub const NEW_MOON_WAVE: QuadraticWave = QuadraticWave {
 
 /// A day, in synodic months of 29.530588861 days.
 #[rattlefmt::skip]
-pub const DAY_IN_MONTHS: Frac = Frac { num: 1_000_000_000, den: 29_530_588_861 };
+pub const DAY_IN_MONTHS: Frac = Frac { num: SYNODIC_MONTH.den as i128, den: SYNODIC_MONTH.num as u64 };
 
 /// A turn, in degrees.
 pub const TURN: Frac = Frac { num: 360, den: 1 };

@@ -93,6 +93,10 @@ pub const DEGREE_OF_YEAR: Frac = Frac {
     den: 360 * TROPICAL_YEAR.den,
 };
 
+/// A degree of the sun's longitude, in spans of 30 degrees from one major solar term to the next.
+#[rattlefmt::skip]
+pub const DEGREE_IN_TERMS: Frac = Frac { num: 1, den: 30 };
+
 /// The sun's mean longitude at the epoch.
 #[rattlefmt::skip]
 pub const SUN_AT_2000: Frac = Frac { num: 2_827_771_834, den: 10_000_000 };

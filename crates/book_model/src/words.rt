@@ -5,21 +5,24 @@ ghost use Rattle.std.specs.Prelude.{◌≡◌};
 use crate::names::first_row_named;
 use crate::{Calendar, Kind, Place};
 
-/// A word for the calendar of a line's date: a Gregorian date, the day number of the book (R.D.), or a Persian date.
+/// A word for the calendar of a line's date: a Gregorian date, the day number of the book (R.D.), a Persian or a Chinese
+/// date.
 #[derive(Clone, Copy, Debug, PartialEq, Eq)]
 pub enum FromWord {
     Gregorian,
     Fixed,
     Persian,
+    Chinese,
 }
 
-/// A word for what a line asks: the Gregorian date, the day number (R.D.), the Persian date, the dynamical time
-/// correction, or the longitude of the sun.
+/// A word for what a line asks: the Gregorian date, the day number (R.D.), the Persian or the Chinese date, the dynamical
+/// time correction, or the longitude of the sun.
 #[derive(Clone, Copy, Debug, PartialEq, Eq)]
 pub enum ToWord {
     Gregorian,
     Fixed,
     Persian,
+    Chinese,
     Dt,
     Sun,
 }
@@ -33,18 +36,20 @@ pub enum Shown {
 
 /// The words that stand before a date, in the order of their values, with the calendar of the date.
 #[rattlefmt::skip]
-pub const FROM_WORDS: [(FromWord, &str, Calendar); 3] = [
+pub const FROM_WORDS: [(FromWord, &str, Calendar); 4] = [
     (FromWord::Gregorian, "gregorian", Calendar::Gregorian),
     (FromWord::Fixed, "fixed", Calendar::Fixed),
     (FromWord::Persian, "persian", Calendar::Persian),
+    (FromWord::Chinese, "chinese", Calendar::Chinese),
 ];
 
 /// The words for what a line asks, in the order of their values, with what they show of a day.
 #[rattlefmt::skip]
-pub const TO_WORDS: [(ToWord, &str, Shown); 5] = [
+pub const TO_WORDS: [(ToWord, &str, Shown); 6] = [
     (ToWord::Gregorian, "gregorian", Shown::Date(Calendar::Gregorian)),
     (ToWord::Fixed, "fixed", Shown::Date(Calendar::Fixed)),
     (ToWord::Persian, "persian", Shown::Date(Calendar::Persian)),
+    (ToWord::Chinese, "chinese", Shown::Date(Calendar::Chinese)),
     (ToWord::Dt, "dt", Shown::Value(Kind::Dt, Place::None)),
     (ToWord::Sun, "sun", Shown::Value(Kind::Sun, Place::None)),
 ];

@@ -8,7 +8,7 @@ use Rattle.exact_math.proofs.Floors.{floor_quotient_mono, floor_quotient_is}
 use Rattle.exact_math.proofs.Fractions.{den_product}
 use Rattle.exact_math.proofs.IntLaws.{mul_assoc, mul_one}
 use Rattle.std.proofs.Math.Nat.{mul-le-mul_right}
-use Rattle.book_model.specs.Spans.{amod, ratio, days_of, spans_of, days_of_years, years_of_days, nearest}
+use Rattle.book_model.specs.Spans.{amod, ratio, days_of, spans_of, days_of_years, months_of_days, years_of_days, nearest}
 
 -- the denominator of a product
 below_is : (m n : ℕ) → suc m * suc n - 1 ≡ below_product m n
@@ -53,6 +53,10 @@ spans_as_quotient days n (suc s) (suc t) (suc d) h k l =
 pub years_are_spans : (days : ℤ) → years_of_days days ≡ spans_of (ratio (pos 365242189) 999999) days (ratio (pos 1) 1)
 unfolding years_of_days nearest spans_of
 years_are_spans days = refl
+
+pub months_are_spans : (days : ℤ) → months_of_days days ≡ spans_of (ratio (pos 29530588861) 999999999) days (ratio (pos 1) 1)
+unfolding months_of_days nearest spans_of
+months_are_spans days = refl
 
 pub years_have_days : (years : ℤ) → days_of_years years ≡ days_of (ratio (pos 365242189) 999999) (ratio years 0)
 unfolding days_of_years

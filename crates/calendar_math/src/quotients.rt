@@ -42,8 +42,9 @@ fn left_of(number: i64, whole: i64, divisor: u8) -> i64
     number - whole * i64::from(divisor)
 }
 
-/// The greatest whole number that isn't above the quotient of the number before this one.
-fn quotient_before(number: i64, divisor: u8) -> i64
+/// The greatest whole number that isn't above the quotient of the number before this one: how many whole groups of the
+/// divisor's size come before the group in which the number falls, where numbers and groups count from 1.
+pub fn quotient_before(number: i64, divisor: u8) -> i64
     requires positive { 0 < divisor }
     requires from { negsuc 49999999 ≤ℤ number }
     requires to { number ≤ℤ pos 50000000 }

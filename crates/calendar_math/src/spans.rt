@@ -1,10 +1,10 @@
 //! Spans, as a year or a month, and their days. A span's length is an exact fraction, from one day to a thousand.
 ghost use Rattle.std.specs.Prelude.{◌≡◌, ◌<◌, ◌≤◌, ◌-◌, ◌^◌, pos, negsuc, ◌≤ℤ◌, ◌*ℤ◌};
 ghost use Rattle.book_model.specs.Fractions.{fraction_of};
-ghost use Rattle.book_model.specs.Spans.{ratio, days_of as days_of_spans, spans_of as spans_of_days, days_of_years as days_of_tropical_years, years_of_days as tropical_years_of};
+ghost use Rattle.book_model.specs.Spans.{ratio, days_of as days_of_spans, spans_of as spans_of_days, days_of_years as days_of_tropical_years, months_of_days as synodic_months_of, years_of_days as tropical_years_of};
 
 use crate::quotients::quotient_within;
-use book_model::{Frac, TROPICAL_YEAR};
+use book_model::{Frac, SYNODIC_MONTH, TROPICAL_YEAR};
 
 /// The numerator of a span.
 fn parts_of(span: Frac) -> u64
@@ -68,6 +68,15 @@ pub fn days_of_years(years: i64) -> i64
     ensures days { result ≡ days_of_tropical_years years }
 {
     days_of(TROPICAL_YEAR, years, 1)
+}
+
+/// The number of mean synodic months that is nearest to so many days, the greater of two.
+pub fn months_of_days(days: i64) -> i64
+    requires from { negsuc 49999999 ≤ℤ days }
+    requires to { days ≤ℤ pos 50000000 }
+    ensures months { result ≡ synodic_months_of days }
+{
+    spans_of(SYNODIC_MONTH, days, 1, 2)
 }
 
 /// The number of mean tropical years that is nearest to so many days, the greater of two.

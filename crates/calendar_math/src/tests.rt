@@ -1,27 +1,7 @@
 //! Numbers of an independent implementation.
-ghost use Rattle.std.specs.Prelude.{◌≤ℤ◌, pos, negsuc};
-
 use super::*;
-use book_model::{Frac, TROPICAL_YEAR};
+use book_model::{SYNODIC_MONTH, TROPICAL_YEAR};
 use std::test::Fail;
-
-/// The number of mean synodic months that is nearest to so many days.
-fn months_of(days: i64) -> Option<i64>
-    requires from { negsuc 99999999 ≤ℤ days }
-    requires to { days ≤ℤ pos 100000000 }
-{
-    let month = Frac::new(29_530_588_861, 1_000_000_000)?;
-    Some(spans_of(month, days, 1, 2))
-}
-
-/// The whole days of half so many mean synodic months.
-fn days_of_half_months(halves: i64) -> Option<i64>
-    requires from { negsuc 99999999 ≤ℤ halves }
-    requires to { halves ≤ℤ pos 100000000 }
-{
-    let month = Frac::new(29_530_588_861, 1_000_000_000)?;
-    Some(days_of(month, halves, 2))
-}
 
 #[test]
 fn tropical_years_are_counted(rt: HostRuntime) -> Result<(), Fail> {
@@ -82,7 +62,7 @@ fn synodic_months_are_counted(rt: HostRuntime) -> Result<(), Fail> {
     for (days, months) in [(-15, -1), (14, 0), (15, 1), (355, 12), (384, 13)] {
         assert!(rt; -1000 <= days);
         assert!(rt; days <= 1000);
-        assert_eq!(rt; months_of(days), Some(months), "at {days}");
+        assert_eq!(rt; months_of_days(days), months, "at {days}");
     }
     for (halves, days) in [
         (-3, -45),
@@ -93,7 +73,7 @@ fn synodic_months_are_counted(rt: HostRuntime) -> Result<(), Fail> {
     ] {
         assert!(rt; -100_000 <= halves);
         assert!(rt; halves <= 100_000);
-        assert_eq!(rt; days_of_half_months(halves), Some(days), "at {halves}");
+        assert_eq!(rt; days_of(SYNODIC_MONTH, halves, 2), days, "at {halves}");
     }
     Ok(())
 }

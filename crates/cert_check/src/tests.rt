@@ -6,7 +6,7 @@ use super::*;
 use crate::check::verdict_of_line;
 use book_model::{Fact, Fields, Kind, Place, Resolved, Site, ToWord, Undecided};
 use byte_streams::Gathered;
-use cert_read::{CertFile, read_file};
+use cert_read::{CertFile, LONGEST_FILE, read_file};
 use oracle_core::{Answer, Answers, Evaluator};
 use std::alloc::Global;
 use std::process::Abort;
@@ -32,7 +32,7 @@ impl<'a, A: Abort> Evaluator for Early<'a, A> {
 fn file_of(alloc: Global, text: &str) -> Result<CertFile, Fail>
     ensures checkable { IfOk result IsCheckable }
 {
-    if text.len() > 268_435_456 {
+    if text.len() > LONGEST_FILE {
         return Err("too long")?;
     }
     checkable();

@@ -14,7 +14,7 @@ mod reader;
 mod words;
 
 pub use lines::{CertFile, Lines};
-pub use read::{ReadFail, read_file};
+pub use read::{LONGEST_FILE, ReadFail, read_file};
 
 #[cfg(test)]
 mod tests;

@@ -1,6 +1,7 @@
 //! Reads a printed file.
 ghost use Rattle.std.specs.Prelude.{false, ◌≡◌, ◌<◌, ◌≤◌, ◌^◌, [], map, length};
 ghost use Rattle.cert_read.specs.Reading.{Answers, grammar_of, reading_from};
+ghost use Rattle.cert_read.specs.declared.read.TheConstants.{LONGEST_FILE as longest_file};
 
 use crate::lines::CertFile;
 use crate::reader::{Reader, Stop};
@@ -8,6 +9,9 @@ use book_model::HEADER;
 use line_core::split_lines;
 use std::alloc::Global;
 use thiserror::Error;
+
+/// How many bytes a file may have.
+pub const LONGEST_FILE: usize = 268_435_456;
 
 /// Why bytes weren't read as a file: a line breaks a rule of the grammar, or memory ran out.
 #[derive(Clone, Copy, Debug, PartialEq, Eq, Error)]
@@ -51,7 +55,7 @@ fn read_lines(alloc: Global, lines: &[&[u8]]) -> Result<CertFile, ReadFail>
 /// breaks a rule and the first rule that it breaks, and `Memory` where memory runs out.
 #[tactic(auto, unfolding(crate::specs::Reading::grammar_of))]
 pub fn read_file(alloc: Global, bytes: &[u8]) -> Result<CertFile, ReadFail>
-    requires { length bytes.now ≤ 268435456 }
+    requires { length bytes.now ≤ longest_file }
     ensures { Answers result (grammar_of bytes.now) }
 {
     let Ok(lines) = split_lines(alloc, bytes) else {

@@ -1,6 +1,6 @@
 //! Files of the grammar and files outside it, with what an independent program answers for them; the forms of lines,
 //! read and written again.
-use crate::{ReadFail, read_file};
+use crate::{LONGEST_FILE, ReadFail, read_file};
 use std::alloc::{AllocError, Global};
 use std::process::Abort;
 use std::test::Fail;
@@ -13,12 +13,9 @@ mod numbers;
 mod order;
 mod rules;
 
-/// The most bytes that are read as a file.
-const LIMIT: usize = 268_435_456;
-
 /// The line and the rule that bytes break, or nothing for a file of the grammar.
 fn broken(alloc: Global, bytes: &[u8]) -> Result<Option<(usize, u8)>, AllocError> {
-    if bytes.len() > LIMIT {
+    if bytes.len() > LONGEST_FILE {
         return Err(AllocError);
     }
     match read_file(alloc, bytes) {

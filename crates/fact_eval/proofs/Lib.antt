@@ -2,3 +2,4 @@ pub mod Rightness
 pub mod WidthLemmas
 pub mod DayLemmas
 pub mod NewYears
+pub mod Winters

@@ -2,8 +2,11 @@
 #![tactic(auto)]
 
 mod dt;
+mod major;
+mod midnight;
 mod moon_days;
 mod nowruz;
+mod solstice;
 mod staged;
 mod sun;
 #[cfg(test)]

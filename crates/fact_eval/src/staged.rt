@@ -12,8 +12,10 @@ ghost use Rattle.fact_eval.specs.Widths.{IsNearFor};
 ghost use Rattle.book_model.specs.Depth.{DEPTH};
 
 use crate::dt::dt;
+use crate::major::major;
 use crate::moon_days::{new_moon_before, new_moon_from};
 use crate::nowruz::nowruz;
+use crate::solstice::solstice;
 use crate::sun::sun_in_thousandths;
 use book_model::{FIRST_DAY, Fact, Fail, Kind, LAST_DAY, Place, Site};
 use encl_core::{Coarse, Enclosure, Trail};
@@ -48,8 +50,10 @@ fn formula<E: Enclosure>(
         Kind::Dt => dt::<E>(day, trail),
         Kind::Sun => sun_in_thousandths::<E>(day, trail),
         Kind::Nowruz => nowruz::<E>(day, trail),
+        Kind::Solstice => solstice::<E>(day, trail),
         Kind::NewMoonBefore => new_moon_before::<E>(day, trail),
         Kind::NewMoonFrom => new_moon_from::<E>(day, trail),
+        Kind::Major => major::<E>(day, trail),
     }
 }
 

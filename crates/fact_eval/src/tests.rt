@@ -100,6 +100,33 @@ fn new_moons_are_those_of_the_reference(rt: HostRuntime) -> Result<(), Fail> {
 }
 
 #[test]
+fn solstices_and_terms_are_those_of_the_reference(rt: HostRuntime) -> Result<(), Fail> {
+    let staged = Staged::new();
+    for (kind, day, value) in [
+        (Kind::Solstice, 693_961, 693_951),
+        (Kind::Solstice, 704_187, 704_178),
+        (Kind::Solstice, 738_875, 738_511),
+        (Kind::Solstice, 738_876, 738_876),
+        (Kind::Solstice, 739_240, 738_876),
+        (Kind::Solstice, 739_241, 739_241),
+        (Kind::Solstice, 748_382, 748_372),
+        (Kind::Major, 657_253, 5),
+        (Kind::Major, 738_926, 12),
+        (Kind::Major, 738_955, 1),
+        (Kind::Major, 739_014, 3),
+        (Kind::Major, 742_529, 11),
+        (Kind::Major, 742_558, 11),
+        (Kind::Major, 748_382, 11),
+    ] {
+        let fact = Fact::new(kind, Place::Beijing, day).ok_or("no fact")?;
+        assert_eq!(rt; staged.eval(fact), Answer::Value(value), "day {day}");
+    }
+    let before = Fact::new(Kind::Solstice, Place::Beijing, 657_253).ok_or("no fact")?;
+    assert_eq!(rt; staged.eval(before), Answer::Void(Site::Year));
+    Ok(())
+}
+
+#[test]
 fn other_days_are_void_at_the_year(rt: HostRuntime) -> Result<(), Fail> {
     let staged = Staged::new();
     for day in [-40_000_000, 0, 657_252, 748_383, 40_000_000] {

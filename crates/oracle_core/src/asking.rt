@@ -1,7 +1,8 @@
 //! An oracle that asks an evaluator.
-ghost use Rattle.std.specs.Prelude.{◌≤ℤ◌, pos, negsuc, IfOk, ◌≡◌, ◌++◌, ℤ, [], ◌∷◌, List, false, OnOk, OnErr};
+ghost use Rattle.std.specs.Prelude.{IfOk, ◌≡◌, ◌++◌, ℤ, [], ◌∷◌, List, false, OnOk, OnErr};
 ghost use Rattle.book_model.specs.declared.fact.Fact.{Fact};
 ghost use Rattle.std.specs.List.{list_any};
+ghost use Rattle.book_model.specs.Facts.{IsFactValue};
 ghost use Rattle.book_model.specs.Inquiries.{ask_once, fact_eq};
 ghost use Rattle.oracle_core.specs.Inquiring.{Inquires};
 ghost use Rattle.oracle_core.specs.Oracles.{after_pairs, by_evaluator, one_by_evaluator};
@@ -78,8 +79,7 @@ impl<'a, E: Evaluator> Asking<'a, E> {
     fn evaluate(&mut self, fact: Fact) -> Result<i64, Stop>
         requires new { list_any (fact_eq fact) (facts_of self.old) ≡ false }
         ensures asks { Inquires by_evaluator (ask_once fact) (after_pairs self.old) (after_pairs self.new) result }
-        ensures low { IfOk result (λ v. negsuc 9999999 ≤ℤ v) }
-        ensures high { IfOk result (λ v. v ≤ℤ pos 10000000) }
+        ensures value { IfOk result IsFactValue }
     {
         match self.evaluator.eval(fact) {
             Answer::Value(value) => {

@@ -1,6 +1,7 @@
 //! Answers facts, and keeps the list of those that it was asked.
-ghost use Rattle.std.specs.Prelude.{◌≡◌, ◌≤ℤ◌, ℤ, pos, negsuc, IfOk};
+ghost use Rattle.std.specs.Prelude.{◌≡◌, ℤ, IfOk};
 ghost use Rattle.book_model.specs.declared.fact.Fact.{Fact};
+ghost use Rattle.book_model.specs.Facts.{IsFactValue};
 ghost use Rattle.book_model.specs.Inquiries.{ask_once};
 ghost use Rattle.oracle_core.specs.declared.oracle.Stop.TheVariants.{Memory as memory_stop};
 
@@ -50,8 +51,7 @@ pub trait Oracle {
     /// which the fact is kept, leaves that list as it was; it never comes at a fact that is in the list.
     fn ask(&mut self, fact: Fact) -> Result<i64, Stop>
         ensures asks { Inquires Self.meaning (ask_once fact) (Self.state self.old) (Self.state self.new) result }
-        ensures low { IfOk result (λ v. negsuc 9999999 ≤ℤ v) }
-        ensures high { IfOk result (λ v. v ≤ℤ pos 10000000) };
+        ensures value { IfOk result IsFactValue };
 
     /// A fact has at most one value.
     ghost one_value: { (k : Self.Known) (f : Fact) (v w : ℤ) → Self.meaning.value_of k f v → Self.meaning.value_of k f w → v ≡ w };

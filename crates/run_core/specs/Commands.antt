@@ -1,6 +1,7 @@
 -- The commands of the program.
 use Rattle.std.specs.Prelude.{ℕ, nat_eq, if◌then◌else◌, List, [], ◌∷◌, codes, Some, None, Option}
 use lib.Pointwise.{pointwise}
+use Rattle.cert_read.specs.declared.read.TheConstants.{LONGEST_FILE}
 use Rattle.run_core.specs.declared.command.Command.{Command}
 use Rattle.run_core.specs.declared.command.Command.TheVariants.{Convert, Check}
 
@@ -22,7 +23,7 @@ pub data Input : Type 0 where
 -- how many bytes an input of the command may have
 abbrev pub limit_of : Command → ℕ
 limit_of Convert = 4194304
-limit_of Check = 268435456
+limit_of Check = LONGEST_FILE
 
 -- what the command reads
 abbrev pub input_of : Command → Input

@@ -3,6 +3,7 @@ ghost use Rattle.std.specs.Prelude.{◌≡◌, ◌≤◌, ◌<◌, ◌+◌, ◌+
 ghost use Rattle.std.specs.List.{list_all};
 ghost use Rattle.std.specs.Io.KnownBytes.{Appends, Keeps};
 ghost use Rattle.cert_check.specs.Verdicts.{AreRightAnswers, IsCheckable};
+ghost use Rattle.cert_read.specs.declared.read.TheConstants.{LONGEST_FILE as longest_file};
 ghost use Rattle.byte_streams.specs.Stream.{Rose, HasCause, AppendsFront, Wrote};
 ghost use Rattle.run_core.specs.Checking as spec;
 
@@ -195,7 +196,7 @@ pub(crate) fn check<K: Sink, E: Evaluator>(
     evaluator: &E,
     input: &[u8],
 ) -> Result<Checked, WriteStop>
-    requires short { length input.now ≤ 268435456 }
+    requires short { length input.now ≤ longest_file }
     ensures ok { IfOk result (λ c. spec.Comes (K.written sink.old) (K.written sink.new) input.now c) }
     ensures fault { IsErrOf result WriteStop.Fault → spec.CheckCutShort (K.written sink.old) (K.written sink.new) input.now }
     ensures memory { IsErrOf result WriteStop.Memory →

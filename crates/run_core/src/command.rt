@@ -2,6 +2,8 @@
 ghost use Rattle.std.specs.Prelude.{◌≡◌, map, string_bytes};
 ghost use Rattle.run_core.specs.Commands as spec;
 
+use cert_read::LONGEST_FILE;
+
 /// What the program is told to do: to write what lines of dates come to, or to check such a text.
 #[derive(Clone, Copy, Debug, PartialEq, Eq)]
 pub enum Command {
@@ -16,7 +18,7 @@ impl Command {
     {
         match self {
             Command::Convert => 4_194_304,
-            Command::Check => 268_435_456,
+            Command::Check => LONGEST_FILE,
         }
     }
 }

@@ -1,6 +1,5 @@
 //! Files are read into their facts and lines.
-use super::LIMIT;
-use crate::{Lines, read_file};
+use crate::{LONGEST_FILE, Lines, read_file};
 use book_model::{Fact, Kind, Place};
 use byte_streams::Gathered;
 use cert_text::{CertLine, write_line};
@@ -24,7 +23,7 @@ fn each_form_is_read_and_written_again(rt: HostRuntime) -> Result<(), Fail> {
     text.extend_from_slice(FACT)?;
     text.extend_from_slice(LINES)?;
     text.extend_from_slice(b"end lines 6 facts 1\n")?;
-    assert!(rt; text.len() <= LIMIT);
+    assert!(rt; text.len() <= LONGEST_FILE);
     let file = read_file(alloc, &text)?;
     let fact = Fact::new(Kind::Dt, Place::None, 738_926).ok_or("no fact")?;
     assert_eq!(rt; file.facts.entries(), [(fact, 73_871)].as_slice());

@@ -23,8 +23,7 @@ returns-in_ok-note-in-Some c =
     let fits = found_fits _ _ _ c.args.fact _ (pos 0) c.in_ok-index_facts.ensures.all c.self.invariant.same c.in-Some.ensures.index c.self.invariant.known in
     rw (← c.self.view_is, value) (record {
       asks = asked_value c.args.fact refl c.in_ok-note-in-Some.ensures.ok (found_value _ _ _ c.args.fact _ (pos 0) c.in_ok-index_facts.ensures.all c.self.invariant.same c.in-Some.ensures.index);
-      low = fits.0;
-      high = fits.1;
+      value = fits;
     })
 
 pub returns-in-None-clause-asks : goal.returns-in-None-clause-asks

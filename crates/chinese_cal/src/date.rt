@@ -1,0 +1,116 @@
+//! Chinese dates, and the date of a day. Days are R.D.
+ghost use Rattle.std.specs.Prelude.{◌≡◌, ◌≤ℤ◌, ◌+ℤ◌, ◌-ℤ◌, pos, negsuc};
+ghost use Rattle.exact_math.specs.Fraction.{floor_quotient};
+ghost use Rattle.book_model.specs.Chinese.{elapsed_years as years_elapsed, fields_by, date_in as date_of_month, chinese_on};
+ghost use Rattle.book_model.specs.Inquiries.{to_32_bits as to_32_bits_of, to_8_bits as to_8_bits_of};
+ghost use Rattle.book_model.specs.Spans.{amod as amod_of};
+ghost use Rattle.chinese_cal.specs.Dates.{fields_of_date};
+ghost use Rattle.chinese_cal.specs.Days.{IsNearDay, IsNearMonth};
+ghost use Rattle.oracle_core.specs.Inquiring.{Inquires, map_ok};
+
+use crate::months::month_of;
+use book_model::{CHINESE_EPOCH, ChineseMonth, TROPICAL_YEAR};
+use calendar_math::{amod, quotient_before, spans_of, to_8_bits, to_32_bits};
+use oracle_core::{Oracle, Stop};
+
+/// The years of a cycle.
+const CYCLE: u8 = 60;
+
+/// A date of the Chinese calendar: the cycle of 60 years, the year in it, the month, whether it is a leap month, which has the
+/// number of the month before it, and the day.
+#[derive(Clone, Copy, Debug, PartialEq, Eq)]
+pub struct ChineseDate {
+    pub cycle: i32,
+    pub year: u8,
+    pub month: u8,
+    pub leap: bool,
+    pub day: u8,
+}
+
+/// The years since the epoch, counted from 1, in which a day of a month falls.
+fn elapsed_years(day: i64, month: i64) -> i64
+    requires near { IsNearDay day }
+    requires from { pos 1 ≤ℤ month }
+    requires to { month ≤ℤ pos 12 }
+    ensures years { result ≡ years_elapsed day month }
+    ensures low { negsuc 99999 ≤ℤ result }
+    ensures high { result ≤ℤ pos 100000 }
+{
+    spans_of(TROPICAL_YEAR, day - CHINESE_EPOCH, 18 - month, 12)
+}
+
+/// The cycle of a year, which counts from 1.
+fn cycle_of(years: i64) -> i32
+    requires low { negsuc 99999 ≤ℤ years }
+    requires high { years ≤ℤ pos 100000 }
+    ensures cycle { result ≡ to_32_bits_of (floor_quotient (years -ℤ pos 1) 59 +ℤ pos 1) }
+{
+    to_32_bits(quotient_before(years, CYCLE) + 1)
+}
+
+/// The number of a year in its cycle.
+fn year_in_cycle(years: i64) -> u8
+    requires low { negsuc 99999 ≤ℤ years }
+    requires high { years ≤ℤ pos 100000 }
+    ensures year { pos result ≡ amod_of years 59 }
+{
+    amod(years, CYCLE) as u8
+}
+
+/// The number of a month.
+fn number_of(month: ChineseMonth) -> u8
+    requires near { IsNearMonth month }
+    ensures number { pos result ≡ month.number }
+{
+    month.number as u8
+}
+
+/// The day of the month that begins on a day, or the nearest end.
+fn day_of_month(day: i64, first: i64) -> u8
+    requires near { IsNearDay day }
+    requires first_near { IsNearDay first }
+    ensures day { pos result ≡ to_8_bits_of (day -ℤ first +ℤ pos 1) }
+{
+    to_8_bits(day - first + 1)
+}
+
+/// The date of a day by its month and the years since the epoch.
+fn date_by(day: i64, month: ChineseMonth, years: i64) -> ChineseDate
+    requires near { IsNearDay day }
+    requires month_near { IsNearMonth month }
+    requires low { negsuc 99999 ≤ℤ years }
+    requires high { years ≤ℤ pos 100000 }
+    ensures date { fields_of_date result ≡ fields_by day month years }
+{
+    ChineseDate {
+        cycle: cycle_of(years),
+        year: year_in_cycle(years),
+        month: number_of(month),
+        leap: month.is_leap,
+        day: day_of_month(day, month.first_day),
+    }
+}
+
+/// The date of a day by its month.
+#[tactic(auto, unfolding(book_model::specs::Chinese::date_in))]
+fn date_in(day: i64, month: ChineseMonth) -> ChineseDate
+    requires near { IsNearDay day }
+    requires month_near { IsNearMonth month }
+    ensures date { fields_of_date result ≡ date_of_month day month }
+{
+    date_by(day, month, elapsed_years(day, month.number))
+}
+
+/// The date of a day (R.D.): the month that begins with the last new moon before the day ends in Beijing, numbered from the
+/// winter solstice of its sui, whose month is the eleventh; in a sui with thirteen months the first without a major solar term
+/// is a leap month. Cycle and year follow from the mean years since the epoch. A day of the month that its type doesn't hold
+/// stands at the nearest end; the other fields always fit. It stops where the oracle stops, at one of the facts that the rules
+/// ask (Reingold and Dershowitz, Calendrical Calculations, chapter 19).
+#[tactic(auto, using(oracle_core::proofs::Inquiring::asking), unfolding(book_model::specs::Chinese::chinese_on))]
+pub fn from_fixed<O: Oracle>(oracle: &mut O, day: i64) -> Result<ChineseDate, Stop>
+    requires near { IsNearDay day }
+    ensures date { Inquires O.meaning (chinese_on day) (O.state oracle.old) (O.state oracle.new) (map_ok fields_of_date result) }
+{
+    let month = month_of(oracle, day)?;
+    Ok(date_in(day, month))
+}

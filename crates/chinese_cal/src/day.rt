@@ -1,0 +1,96 @@
+//! The day of a Chinese date. Days are R.D.
+ghost use Rattle.std.specs.Prelude.{◌≡◌, ◌≤◌, ◌≤ℤ◌, ◌+ℤ◌, ◌-ℤ◌, ◌*ℤ◌, pos, IfOk};
+ghost use Rattle.book_model.specs.Chinese as spec;
+ghost use Rattle.book_model.specs.Facts.{IsFactValue};
+ghost use Rattle.chinese_cal.specs.Dates.{fields_of_date};
+ghost use Rattle.oracle_core.specs.Inquiring.{Inquires};
+
+use crate::date::{ChineseDate, from_fixed};
+use crate::facts::{moon_after, moon_from};
+use crate::years::{middle_of_year, new_year_by_day};
+use book_model::Fact;
+use oracle_core::{Oracle, Stop};
+
+/// The fact of the first new moon from the earliest day on that a month of a year may begin on.
+fn moon_of_month(new_year: i64, month: u8) -> Fact
+    requires value { IsFactValue new_year }
+    requires from { 1 ≤ month }
+    requires to { month ≤ 12 }
+    ensures fact { result ≡ spec.moon_from_fact (new_year +ℤ pos 29 *ℤ (pos month -ℤ pos 1)) }
+{
+    moon_from(new_year + 29 * (i64::from(month) - 1))
+}
+
+/// Whether a date is in a month of this number, which is a leap month or isn't.
+fn is_in_month(date: ChineseDate, month: u8, leap: bool) -> bool
+    ensures same { result ≡ spec.is_in_month (pos month) (spec.flag leap) (fields_of_date date) }
+{
+    date.month == month && date.leap == leap
+}
+
+/// The first day of a month, which is this one or the next after it, given the date of this one. It stops where the oracle stops.
+#[tactic(auto, using(oracle_core::proofs::Inquiring::asking), unfolding(book_model::specs::Chinese::or_next_month))]
+fn or_next_month<O: Oracle>(
+    oracle: &mut O,
+    month: u8,
+    leap: bool,
+    first: i64,
+    date: ChineseDate,
+) -> Result<i64, Stop>
+    requires value { IsFactValue first }
+    ensures day { Inquires O.meaning (spec.or_next_month (pos month) (spec.flag leap) first (fields_of_date date)) (O.state oracle.old) (O.state oracle.new) result }
+    ensures value { IfOk result IsFactValue }
+{
+    if is_in_month(date, month, leap) {
+        Ok(first)
+    } else {
+        oracle.ask(moon_after(first))
+    }
+}
+
+/// The first day of a month of a year. It stops where the oracle stops.
+#[tactic(auto, using(oracle_core::proofs::Inquiring::asking), unfolding(book_model::specs::Chinese::month_beginning))]
+fn month_beginning<O: Oracle>(
+    oracle: &mut O,
+    new_year: i64,
+    month: u8,
+    leap: bool,
+) -> Result<i64, Stop>
+    requires new_year_value { IsFactValue new_year }
+    requires from { 1 ≤ month }
+    requires to { month ≤ 12 }
+    ensures day { Inquires O.meaning (spec.month_beginning new_year (pos month) (spec.flag leap)) (O.state oracle.old) (O.state oracle.new) result }
+    ensures value { IfOk result IsFactValue }
+{
+    let first = oracle.ask(moon_of_month(new_year, month))?;
+    let date = from_fixed(oracle, first)?;
+    or_next_month(oracle, month, leap, first, date)
+}
+
+/// A day of the month that begins on a day.
+fn day_of_month(first: i64, day: u8) -> i64
+    requires value { IsFactValue first }
+    ensures day { result ≡ first +ℤ pos day -ℤ pos 1 }
+{
+    first + i64::from(day) - 1
+}
+
+/// The day (R.D.) of a date: the first new moon 29 days for each month before it after the new year, or the one after that
+/// where the first is in another month, and the day of the month. The date needn't be one that the calendar has. It stops
+/// where the oracle stops, at one of the facts that the rules ask (Reingold and Dershowitz, Calendrical Calculations, chapter
+/// 19).
+#[tactic(auto, using(oracle_core::proofs::Inquiring::asking), unfolding(book_model::specs::Chinese::chinese_day))]
+pub fn to_fixed<O: Oracle>(oracle: &mut O, date: ChineseDate) -> Result<i64, Stop>
+    requires from_4438 { pos 4438 ≤ℤ (pos 60 *ℤ (date.cycle -ℤ pos 1) +ℤ pos date.year) }
+    requires to_4685 { (pos 60 *ℤ (date.cycle -ℤ pos 1) +ℤ pos date.year) ≤ℤ pos 4685 }
+    requires from_first_year { 1 ≤ date.year }
+    requires to_last_year { date.year ≤ 60 }
+    requires from_first_month { 1 ≤ date.month }
+    requires to_last_month { date.month ≤ 12 }
+    ensures day { Inquires O.meaning (spec.chinese_day date.cycle (pos date.year) (pos date.month) (spec.flag date.leap) (pos date.day)) (O.state oracle.old) (O.state oracle.new) result }
+{
+    let middle = middle_of_year(i64::from(date.cycle), i64::from(date.year));
+    let new_year = new_year_by_day(oracle, middle)?;
+    let first = month_beginning(oracle, new_year, date.month, date.leap)?;
+    Ok(day_of_month(first, date.day))
+}

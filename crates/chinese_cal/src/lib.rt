@@ -1,0 +1,21 @@
+//! Dates of the Chinese calendar by the new moons and the solar terms in Beijing, over any oracle that answers facts: which
+//! facts are asked, in which order, and what follows from their values. All of it is in whole numbers; the mean synodic
+//! month and the mean tropical year are exact fractions. `facts` names what is asked, `sui` finds the span from one winter
+//! solstice to the next, `leap_months` the leap month in it, `months` the month of a day, `date` the date of a day, `years`
+//! the first day of a year, `day` the day of a date; `fields` has dates as the fields of a line.
+#![tactic(auto)]
+
+mod date;
+mod day;
+mod facts;
+mod fields;
+mod leap_months;
+mod months;
+mod sui;
+#[cfg(test)]
+mod tests;
+mod years;
+
+pub use date::{ChineseDate, from_fixed};
+pub use day::to_fixed;
+pub use fields::{date_on, named_day};

@@ -1,0 +1,40 @@
+-- From where a search for a winter solstice sets out, and how many solar terms there are.
+use Rattle.std.specs.Prelude.{ℕ, ℤ, ◌≤ℤ◌, pos, Result, Ok, Err, IfOk}
+use Rattle.exact_math.specs.Interval.{Interval}
+use Rattle.book_model.specs.declared.fail.Fail.{Fail}
+use Rattle.book_model.specs.declared.site.Site.{Site}
+use Rattle.book_model.specs.declared.sun_tables.TheConstants.{DEGREE_IN_TERMS}
+use Rattle.book_model.specs.Expressions.{World, scale}
+use Rattle.book_model.specs.Fractions.{fraction_of}
+use Rattle.book_model.specs.Kinds.{last_solstice_of, longitude_at_midnight_of}
+use Rattle.book_model.specs.Leading.{Leads, Exact, leaf}
+use Rattle.book_model.specs.Noon.{IsStart}
+use Rattle.book_model.specs.Programs.{answer, cell, integers}
+use Rattle.book_model.specs.Relations.{Within}
+use Rattle.book_model.proofs.FactRuns.{decides}
+use Rattle.book_model.proofs.Leads.{leads_leaf, leads_value}
+use Rattle.book_model.proofs.Solstices.{solstice_start_near, term_near, IsTerm}
+
+-- the floor of the estimated solstice lies near the day
+pub is_start : {E : Type 0} {shown : E → Interval} (w : World) (site : Site) (d : ℤ) {a b e : ℕ} {y : E} (r : Result ℤ Fail) →
+    Leads w (Within shown w) (last_solstice_of d) a b (Ok y) → Leads w Exact (cell site integers (leaf w (last_solstice_of d)) answer) b e r → IfOk r (λ q. IsStart d q)
+is_start w site d (Ok q) h f =
+    let v = decides w site integers (leaf w (last_solstice_of d)) (λ z. z) q (leads_value f) in
+    rw v.leads_to at (solstice_start_near w d v.cell_there (leaf w (last_solstice_of d)) (leads_leaf h) v.decided_so)
+is_start w site d (Err z) h f = tt
+
+-- the spans of 30 degrees that the sun has passed are at most twelve
+pub is_term : {E : Type 0} {shown : E → Interval} (w : World) (site : Site) (d : ℤ) {a b e : ℕ} {y : E} (r : Result ℤ Fail) →
+    Leads w (Within shown w) (longitude_at_midnight_of d) a b (Ok y) → Leads w Exact (cell site integers (scale (fraction_of DEGREE_IN_TERMS) (leaf w (longitude_at_midnight_of d))) answer) b e r → IfOk r (λ q. IsTerm q)
+is_term w site d (Ok q) h f =
+    let v = decides w site integers (scale (fraction_of DEGREE_IN_TERMS) (leaf w (longitude_at_midnight_of d))) (λ z. z) q (leads_value f) in
+    rw v.leads_to at (term_near w d v.cell_there (leaf w (longitude_at_midnight_of d)) (leads_leaf h) v.decided_so)
+is_term w site d (Err z) h f = tt
+
+pub term_from : (r : Result ℤ Fail) → IfOk r (λ q. IsTerm q) → IfOk r (λ q. pos 0 ≤ℤ q)
+term_from (Ok q) h = h.from
+term_from (Err z) h = tt
+
+pub term_to : (r : Result ℤ Fail) → IfOk r (λ q. IsTerm q) → IfOk r (λ q. q ≤ℤ pos 12)
+term_to (Ok q) h = h.to
+term_to (Err z) h = tt

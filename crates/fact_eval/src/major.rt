@@ -1,0 +1,48 @@
+//! The major solar term at midnight in Beijing.
+ghost use Rattle.std.specs.Prelude.{◌≡◌, ◌≤◌, ◌+◌, pos, ◌≤ℤ◌, IfOk, IfErr};
+ghost use Rattle.book_model.specs.Calendar.{year_of_day};
+ghost use Rattle.book_model.specs.Depth.{DEPTH};
+ghost use Rattle.book_model.specs.Expressions.{World};
+ghost use Rattle.book_model.specs.Facts.{IsFactValue, IsValueDay};
+ghost use Rattle.book_model.specs.Kinds.{terms_passed_of, major_of};
+ghost use Rattle.book_model.specs.Leading.{Exact, Leads};
+ghost use Rattle.book_model.specs.Programs.{AtMost};
+ghost use Rattle.book_model.specs.declared.fact.Kind.TheVariants.{Major};
+ghost use Rattle.fact_eval.specs.Widths.{IsNearFor};
+
+use crate::midnight::longitude_at_midnight;
+use book_model::{DEGREE_IN_TERMS, Fail, Site};
+use calendar_math::amod;
+use encl_core::{Enclosure, Trail, floor_step};
+
+/// How many major solar terms the sun has passed since the spring equinox at midnight at the beginning of a day (R.D.) in
+/// Beijing: three tests at most.
+#[tactic(auto, using(book_model::proofs::Leads::leading), unfolding(book_model::specs::Kinds::terms_passed_of, book_model::specs::Leading::next_turn))]
+fn terms_passed<E: Enclosure>(day: i64, trail: &mut Trail) -> Result<i64, Fail>
+    ensures leads { (w : World) → DEPTH ≤ w.depth → Leads w Exact (terms_passed_of day) trail.old.count trail.new.count result }
+    ensures from { IfOk result (λ q. pos 0 ≤ℤ q) }
+    ensures to { IfOk result (λ q. q ≤ℤ pos 12) }
+    ensures counted { trail.new.count ≤ trail.old.count + 3 }
+{
+    match longitude_at_midnight::<E>(day, trail) {
+        Ok(longitude) => floor_step(longitude.mul_frac(DEGREE_IN_TERMS), Site::TermFloor, trail),
+        Err(fail) => Err(fail),
+    }
+}
+
+/// The number, from 1 to 12, of the last major solar term at midnight at the beginning of a day (R.D.) in Beijing, that at 330
+/// degrees being the first: three tests at most.
+#[tactic(auto, using(book_model::proofs::Leads::leading, book_model::proofs::Solstices::major_few, crate::proofs::Rightness::major_keeps), unfolding(book_model::specs::Kinds::major_of))]
+pub(crate) fn major<E: Enclosure>(day: i64, trail: &mut Trail) -> Result<i64, Fail>
+    requires day { IsValueDay day }
+    ensures few { AtMost 99999 (major_of day) }
+    ensures leads { (w : World) → DEPTH ≤ w.depth → Leads w Exact (major_of day) trail.old.count trail.new.count result }
+    ensures value { IfOk result IsFactValue }
+    ensures counted { trail.new.count ≤ trail.old.count + 3 }
+    ensures open { IfErr result (IsNearFor Major (year_of_day day)) }
+{
+    match terms_passed::<E>(day, trail) {
+        Ok(passed) => Ok(amod(2 + passed, 12)),
+        Err(fail) => Err(fail),
+    }
+}
