@@ -1,29 +1,23 @@
 -- The winter solstice and the major solar terms by the time of Beijing: how many tests they make, from which day a search sets
 -- out, and from where to where the values lie.
-use Rattle.std.specs.Prelude.{◌≡◌, ℕ, ℤ, pos, negsuc, ◌+ℤ◌, ◌-ℤ◌, ◌≤ℤ◌, ◌≤◌, Some, Result, Ok, Err, IfOk, int_lt}
+use Rattle.std.specs.Prelude.{◌≡◌, ℤ, pos, ◌+ℤ◌, ◌-ℤ◌, ◌≤ℤ◌, Some, int_lt}
 use Rattle.std.proofs.Common.{arith}
 use Rattle.std.proofs.lemmas.Int.{ints}
 use Rattle.exact_math.specs.Fraction.{whole, times, smaller, larger, is_at_most}
 use Rattle.exact_math.specs.Interval.{between, ◌⊆◌, product, least, greatest}
-use Rattle.exact_math.proofs.Floors.{floor_quotient_is}
 use Rattle.exact_math.proofs.Intervals.{within_trans, product_within, within_refl}
-use Rattle.book_model.specs.declared.fail.Fail.{Fail}
 use Rattle.book_model.specs.declared.sun_tables.TheConstants.{DEGREE_IN_TERMS}
 use Rattle.book_model.specs.Expressions.{Expression, World, value, exactly, integer, constant, scale}
-use Rattle.book_model.specs.Facts.{IsFactValue, at_depth}
 use Rattle.book_model.specs.Fractions.{fraction_of}
 use Rattle.book_model.specs.Kinds.{longitude_at_midnight_of, is_past_winter_of, has_winter_at_end, last_solstice_of, solstice_start_of, solstice_of, terms_passed_of, major_of}
-use Rattle.book_model.specs.Leading.{Leads, Exact}
 use Rattle.book_model.specs.Noon.{IsStart}
 use Rattle.book_model.specs.Programs.{integers, cell_at, run, valued, outcome, AtMost, answer_at_most, cell_at_most, compare_at_most}
 use Rattle.book_model.specs.Ranges.{IsBetween}
 use Rattle.book_model.specs.Searches.{first_day_from}
-use Rattle.book_model.specs.Spans.{amod}
-use Rattle.book_model.specs.Sun.{sun_of}
 use Rattle.book_model.specs.Time.{midnight_of}
 use Rattle.book_model.proofs.Estimates.{difference_between, estimate_between, estimate_few, floor_between, between_of_within}
-use Rattle.book_model.proofs.FactRuns.{sun_few, sun_within, parts, decides}
-use Rattle.book_model.proofs.Leads.{at_most_bind, at_most_more, leads_value}
+use Rattle.book_model.proofs.FactRuns.{sun_few, sun_within}
+use Rattle.book_model.proofs.Leads.{at_most_bind, at_most_more}
 use Rattle.book_model.proofs.MoonFacts.{hours_between}
 use Rattle.book_model.proofs.NewYears.{days_few}
 use Rattle.book_model.proofs.Values.{value_proper}

@@ -3,7 +3,7 @@
 -- Reingold and Dershowitz, Calendrical Calculations, chapter 19; Aslaksen, The Mathematics of the Chinese Calendar.
 -- The fields of a result that their types don't hold stand at the nearest ends, so that the rules have an answer over every
 -- table.
-use Rattle.std.specs.Prelude.{ℕ, zero, suc, ◌==◌, ◌&&◌, if◌then◌else◌, Bool, true, false, not, [], ◌∷◌, ℤ, pos, ◌+ℤ◌, ◌-ℤ◌, ◌*ℤ◌, int_lt, slice_index_or}
+use Rattle.std.specs.Prelude.{ℕ, zero, suc, ◌&&◌, if◌then◌else◌, Bool, true, false, not, [], ◌∷◌, ℤ, pos, ◌+ℤ◌, ◌-ℤ◌, ◌*ℤ◌, int_lt, slice_index_or}
 use Rattle.std.specs.Ordering.{int_eq}
 use Rattle.exact_math.specs.Fraction.{floor_quotient}
 use Rattle.book_model.specs.declared.calendar_tables.TheConstants.{CHINESE_EPOCH, TROPICAL_YEAR}

@@ -36,7 +36,12 @@ fn date_of_2024(alloc: Global) -> (Result<ChineseDate, Stop>, usize) {
         moon_before(739_242),
         moon_before(738_927),
     ];
-    date_over(alloc, &facts, &[738_876, 739_241, 738_896, 739_221, 738_926], 738_926)
+    date_over(
+        alloc,
+        &facts,
+        &[738_876, 739_241, 738_896, 739_221, 738_926],
+        738_926,
+    )
 }
 
 /// The same over a table without the last of its facts.
@@ -47,7 +52,12 @@ fn date_without_its_month(alloc: Global) -> (Result<ChineseDate, Stop>, usize) {
         moon_from(738_877),
         moon_before(739_242),
     ];
-    date_over(alloc, &facts, &[738_876, 739_241, 738_896, 739_221], 738_926)
+    date_over(
+        alloc,
+        &facts,
+        &[738_876, 739_241, 738_896, 739_221],
+        738_926,
+    )
 }
 
 /// The same day by values at their ends.
@@ -59,7 +69,12 @@ fn date_by_ends(alloc: Global) -> (Result<ChineseDate, Stop>, usize) {
         moon_until(10_000_000),
         moon_before(738_927),
     ];
-    date_over(alloc, &facts, &[-10_000_000, 10_000_000, -10_000_000, 9_999_999, 10_000_000], 738_926)
+    date_over(
+        alloc,
+        &facts,
+        &[-10_000_000, 10_000_000, -10_000_000, 9_999_999, 10_000_000],
+        738_926,
+    )
 }
 
 /// The same day by a leap sui in which each month comes before itself.
@@ -74,7 +89,9 @@ fn date_in_a_circle(alloc: Global) -> (Result<ChineseDate, Stop>, usize) {
         major_term(738_926),
         moon_after(738_926),
     ];
-    let values = [738_876, 739_241, 738_896, 739_250, 738_926, 738_926, 5, 738_926];
+    let values = [
+        738_876, 739_241, 738_896, 739_250, 738_926, 738_926, 5, 738_926,
+    ];
     date_over(alloc, &facts, &values, 738_926)
 }
 
