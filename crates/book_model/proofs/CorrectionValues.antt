@@ -13,7 +13,7 @@ use Rattle.exact_math.proofs.Intervals.{within_trans, within_refl, within_everyt
 use Rattle.book_model.specs.declared.tables.TheConstants.{HALF, MILLISECONDS_OF_DAY}
 use Rattle.book_model.specs.Calendar.{first_day, year_of_day, days_of_months, fixed_of}
 use Rattle.book_model.specs.Correction.{int_power, polynomial_to, polynomial_of, seconds_of, year_of, rounded_of}
-use Rattle.book_model.specs.Expressions.{Expression, argument, integer, constant, add, subtract, multiply, divide, negate, scale, power, minimum, maximum, hull, clamp, widen, pi, sine, cosine, tangent, remainder, World, value, exactly}
+use Rattle.book_model.specs.Expressions.{Expression, argument, integer, constant, add, subtract, multiply, divide, negate, scale, power, minimum, maximum, hull, clamp, widen, pi, sine, cosine, tangent, root, arctangent, arcsine, arccosine, arctangent_of_two, remainder, World, value, exactly}
 use Rattle.book_model.specs.Fractions.{fraction_of}
 use Rattle.book_model.specs.Kinds.{dt_of}
 use Rattle.book_model.specs.Polynomials.{polynomial_at, polynomial_at_to}
@@ -65,6 +65,11 @@ ranged pi = everything
 ranged (sine x) = everything
 ranged (cosine x) = everything
 ranged (tangent x) = everything
+ranged (root x) = everything
+ranged (arctangent x) = everything
+ranged (arcsine x) = everything
+ranged (arccosine x) = everything
+ranged (arctangent_of_two y x) = everything
 ranged (remainder m x q) = everything
 
 value_ranged : (w : World) (x : Expression) → value w x ⊆ ranged x
@@ -88,6 +93,11 @@ value_ranged w pi = within_everything _
 value_ranged w (sine x) = within_everything _
 value_ranged w (cosine x) = within_everything _
 value_ranged w (tangent x) = within_everything _
+value_ranged w (root x) = within_everything _
+value_ranged w (arctangent x) = within_everything _
+value_ranged w (arcsine x) = within_everything _
+value_ranged w (arccosine x) = within_everything _
+value_ranged w (arctangent_of_two y x) = within_everything _
 value_ranged w (remainder m x q) = within_everything _
 
 -- ---- each year's correction

@@ -282,7 +282,7 @@ pub degree_tangents : Narrowing tangent_of_degrees
 unfolding tangent_of_degrees
 degree_tangents = quotients sine_of_degrees cosine_of_degrees degree_sines degree_cosines
 
-nested_by : (f : ℕ → Interval → Interval) → Narrowing f → IsNested f
+pub nested_by : (f : ℕ → Interval → Interval) → Narrowing f → IsNested f
 nested_by f c = record { within = λ n m i j l p h. at_least f c n m l p h }
 
 pub sine_nests : IsNested sine_of_degrees

@@ -179,7 +179,7 @@ equation_of_time_between w x e h =
     let c = parts w (centuries_of x) _ e h in
     rw (← valued_same w (equation_of c.part) e c.then) (equation_between w c.part)
 
-from_apparent_between : (w : World) (l : Fraction) (x t : Expression) (lo hi : ℤ) → IsBetween lo hi (value w x) → outcome (run w (from_apparent_of l x)) ≡ valued t → IsBetween (lo -ℤ pos 1) (hi +ℤ pos 1) (value w t)
+pub from_apparent_between : (w : World) (l : Fraction) (x t : Expression) (lo hi : ℤ) → IsBetween lo hi (value w x) → outcome (run w (from_apparent_of l x)) ≡ valued t → IsBetween (lo -ℤ pos 1) (hi +ℤ pos 1) (value w t)
 unfolding from_apparent_of value
 from_apparent_between w l x t lo hi b h =
     let e = parts w (equation_of_time_of (subtract x (ahead_of l))) _ t h in

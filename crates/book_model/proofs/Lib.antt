@@ -16,11 +16,17 @@ pub mod SeriesNesting
 pub mod Pi
 pub mod OctantHulls
 pub mod DegreeSines
+pub mod Roots
+pub mod ArcSeries
+pub mod ArcPieces
+pub mod Arcs
 pub mod Estimates
 pub mod Moments
 pub mod PhaseRanges
 pub mod NewYears
 pub mod Solstices
+pub mod Horizons
+pub mod Sunsets
 pub mod WordTables
 pub mod NameLemmas
 pub mod MoonFacts

@@ -238,8 +238,37 @@ four_slow u r h k l =
     le_by (u ∷ r ∷ []) ((none ≼ at 0) ∷ (lit (pos 4) ⊗ at 0 ≼ one) ∷ (at 1 ≼ one) ∷ []) (lit (pos 4) ⊗ (at 0 ⊗ at 1)) one
     (known 1 ⊞ natural 4 ⊠ known 0 ⊠ known 2) refl (h, (k, (l, tt)))
 
+six_slow : (u r : Fraction) → zero_F ≤F u → times (whole (pos 4)) u ≤F whole (pos 1) → times (whole (pos 3)) r ≤F whole (pos 1) → times (whole (pos 6)) (times u r) ≤F whole (pos 1)
+six_slow u r h k l =
+    le_over 1 (u ∷ r ∷ []) ((none ≼ at 0) ∷ (lit (pos 4) ⊗ at 0 ≼ one) ∷ (lit (pos 3) ⊗ at 1 ≼ one) ∷ []) (lit (pos 6) ⊗ (at 0 ⊗ at 1)) one
+    (natural 1 ⊞ known 1 ⊞ natural 4 ⊠ known 0 ⊠ known 2) refl (h, (k, (l, tt)))
+
+slow_first : times (whole (pos 3)) (slow 0) ≤F whole (pos 1)
+unfolding times
+slow_first = record { cross = record { le = tt } }
+
 arctan_small : (x : Fraction) → IsUpTo 1 2 x → Small (times x x) slow
 arctan_small x w = record { square = square_nonneg x w; nonneg = slow_nonneg; small = λ k. four_slow (times x x) (slow k) (square_nonneg x w) (square_half x w) (slow_small k) }
 
 pub arctan_halving : (x : Fraction) → IsUpTo 1 2 x → Halving (arctan_term x)
 arctan_halving x w = halving (arctan_term x) (times x x) slow (arctan_ratios x w.nonneg) (arctan_small x w)
+
+pub arctan_rising : (x y : Fraction) → IsUpTo 1 2 x → IsUpTo 1 2 y → x ≤F y → Rising (arctan_term x) (arctan_term y)
+arctan_rising x y w v h =
+    let c : Pair (arctan_term x) (arctan_term y) (times x x) (times y y) slow = record {
+      left = arctan_ratios x w.nonneg;
+      right = arctan_ratios y v.nonneg;
+      left_small = arctan_small x w;
+      small = arctan_small y v;
+      arguments = squares x y w.nonneg h;
+      first = first_in_order (arctan_first x) (arctan_first y) h;
+    } in
+    rising (arctan_term x) (arctan_term y) (times x x) (times y y) slow c
+    (by_cubes (arctan_term x) (arctan_term y) x y slow c (record {
+      is_x = arctan_first x;
+      is_y = arctan_first y;
+      nonneg = w.nonneg;
+      order = h;
+      ratio = slow_nonneg 0;
+      small = six_slow (times y y) (slow 0) (square_nonneg y v) (square_half y v) slow_first;
+    }))

@@ -5,7 +5,8 @@ use Rattle.std.specs.Int.{int_min, int_max}
 use lib.Signed.{le_z}
 use Rattle.exact_math.specs.Fraction.{Fraction, ◌≤F◌, plus, floor_quotient}
 use Rattle.exact_math.specs.Interval.{Interval, everything, between}
-use Rattle.book_model.specs.Expressions.{Expression, argument, integer, constant, add, subtract, multiply, divide, negate, scale, power, minimum, maximum, hull, clamp, widen, pi, sine, cosine, tangent, remainder}
+use Rattle.book_model.specs.Roots.{root_by_digits}
+use Rattle.book_model.specs.Expressions.{Expression, argument, integer, constant, add, subtract, multiply, divide, negate, scale, power, minimum, maximum, hull, clamp, widen, pi, sine, cosine, tangent, root, arctangent, arcsine, arccosine, arctangent_of_two, remainder}
 
 -- The ends lie from low to high, in 2^-32. The width is at most slope * w + slack, where the width w of a moment
 -- and slack count 2^-64, and slope counts 2^-40.
@@ -133,6 +134,28 @@ maximum_bound unbounded y = unbounded
 maximum_bound (bounded a b s k) unbounded = unbounded
 maximum_bound (bounded a b s k) (bounded c d t m) = bounded (int_max a c) (int_max b d) (max s t) (max k m)
 
+-- the root of a number that is at least m, whose root is at least g: a width over twice that, and two units
+abbrev pub root_around : Limits → (g h s k : ℕ) → Bound
+root_around l g h s k =
+    limited (nat_lt 0 g && nat_lt (range_size (pos g) (pos h)) l.sizes) (bounded (pos g) (pos h) (ceil_div (s * 2 ^ 31) (g - 1)) (ceil_div (k * 2 ^ 31) (g - 1) + 2 * l.unit))
+
+-- for numbers of less than 96 bits
+unfoldable pub root_bound : Limits → Bound → Bound
+root_bound l unbounded = unbounded
+root_bound l (bounded (negsuc a) b s k) = unbounded
+root_bound l (bounded (pos a) (negsuc b) s k) = unbounded
+root_bound l (bounded (pos a) (pos b) s k) =
+    limited (nat_lt a l.sizes && nat_lt b l.sizes) (root_around l (root_by_digits 48 (a * 2 ^ 32)) (suc (root_by_digits 48 (b * 2 ^ 32))) s k)
+
+-- an end, cut to -1..1
+abbrev pub cut_32 : ℤ → ℤ
+cut_32 a = int_max (int_min a (pos (2 ^ 32))) (neg_ℤ (pos (2 ^ 32)))
+
+-- what is cut to -1..1 is no wider
+unfoldable pub clamp_bound : Bound → Bound
+clamp_bound unbounded = unbounded
+clamp_bound (bounded a b s k) = bounded (cut_32 a) (cut_32 b) s k
+
 -- less whole multiples of m
 unfoldable pub remainder_bound : Limits → ℕ → Bound → Bound
 remainder_bound l m unbounded = unbounded
@@ -190,12 +213,17 @@ bound_of l r (power x k) = power_bound l (bound_of l r x) k
 bound_of l r (minimum x y) = minimum_bound (bound_of l r x) (bound_of l r y)
 bound_of l r (maximum x y) = maximum_bound (bound_of l r x) (bound_of l r y)
 bound_of l r (hull x y) = unbounded
-bound_of l r (clamp x) = unbounded
+bound_of l r (clamp x) = clamp_bound (bound_of l r x)
 bound_of l r (widen a x) = unbounded
 bound_of l r pi = spanned_bound l pi_spans
 bound_of l r (sine x) = spanned_bound l (sine_spans (bound_of l r x))
 bound_of l r (cosine x) = spanned_bound l (cosine_spans (bound_of l r x))
 bound_of l r (tangent x) = quotient_bound l (spanned_bound l (sine_spans (bound_of l r x))) (spanned_bound l (cosine_spans (bound_of l r x)))
+bound_of l r (root x) = root_bound l (bound_of l r x)
+bound_of l r (arctangent x) = unbounded
+bound_of l r (arcsine x) = unbounded
+bound_of l r (arccosine x) = unbounded
+bound_of l r (arctangent_of_two y x) = unbounded
 bound_of l r (remainder m x q) = remainder_bound l m (bound_of l r x)
 
 abbrev pub at_32 : ℤ → Fraction

@@ -6,10 +6,11 @@ use denote.Enum.Declared.{tag_of}
 use lib.Pointwise.{pointwise}
 use Rattle.book_model.specs.contracts.calendar.Calendar.{the_type}
 use Rattle.book_model.specs.declared.calendar.Calendar.{Calendar}
-use Rattle.book_model.specs.declared.calendar.Calendar.TheVariants.{Gregorian, Fixed, Persian, Chinese}
+use Rattle.book_model.specs.declared.calendar.Calendar.TheVariants.{Gregorian, Fixed, Persian, Bahai, Chinese}
 use Rattle.book_model.specs.declared.calendar.CalendarRow.{CalendarRow}
 use Rattle.book_model.specs.declared.calendar.TheConstants.{CALENDARS, FIRST_ANSWERED_DAY, LAST_ANSWERED_DAY}
 use Rattle.book_model.specs.declared.request.Fields.{Fields}
+use Rattle.book_model.specs.Bahai.{bahai_on, bahai_day}
 use Rattle.book_model.specs.Calendar.{is_date, fixed_of, year_of_day, month_of_day, day_of_month}
 use Rattle.book_model.specs.Chinese.{chinese_on, chinese_day}
 use Rattle.book_model.specs.Correction.{is_between}
@@ -99,6 +100,7 @@ abbrev pub day_named : Calendar → Fields → Inquiry ℤ
 day_named Gregorian f = done (gregorian_day f)
 day_named Fixed f = done (fixed_day f)
 day_named Persian f = persian_day (pos (field f 0)) (pos (field f 1)) (pos (field f 2))
+day_named Bahai f = bahai_day (pos (field f 0)) (pos (field f 1)) (pos (field f 2)) (pos (field f 3)) (pos (field f 4))
 day_named Chinese f = chinese_day (pos (field f 0)) (pos (field f 1)) (pos (field f 2)) (pos (field f 3)) (pos (field f 4))
 
 -- the date of a day (R.D.)
@@ -106,4 +108,5 @@ abbrev pub date_on : Calendar → ℤ → Inquiry Fields
 date_on Gregorian day = done (gregorian_fields_on day)
 date_on Fixed day = done (one_field day)
 date_on Persian day = persian_on day
+date_on Bahai day = bahai_on day
 date_on Chinese day = chinese_on day

@@ -4,6 +4,8 @@ use Rattle.exact_math.specs.Fraction.{Fraction, whole}
 use Rattle.exact_math.specs.Interval.{Interval, between, sum, difference, negative, product, quotient, power as interval_power, minimum as interval_minimum, maximum as interval_maximum, hull as interval_hull, clamp as interval_clamp, widen as interval_widen, IsProper}
 use Rattle.book_model.specs.Series.{pi_at}
 use Rattle.book_model.specs.Octants.{sine_of_degrees, cosine_of_degrees, tangent_of_degrees}
+use Rattle.book_model.specs.Roots.{root_of}
+use Rattle.book_model.specs.Arcs.{arctangent_of, arcsine_of, arccosine_of, arctangent_of_two as two_arctangent}
 
 -- What a formula computes: its arguments, numbers, and the operations of the model. Angles are in degrees. The
 -- remainder of x by m, where x lies in the period of number q, is x - m q.
@@ -20,6 +22,8 @@ pub data Expression : Type 0 where
   widen : Fraction → Expression → Expression
   pi : Expression
   sine cosine tangent : Expression → Expression
+  root arctangent arcsine arccosine : Expression → Expression
+  arctangent_of_two : Expression → Expression → Expression
   remainder : ℕ → Expression → ℤ → Expression
 
 -- a depth, and what the arguments are
@@ -53,4 +57,9 @@ value w pi = pi_at w.depth
 value w (sine x) = sine_of_degrees w.depth (value w x)
 value w (cosine x) = cosine_of_degrees w.depth (value w x)
 value w (tangent x) = tangent_of_degrees w.depth (value w x)
+value w (root x) = root_of w.depth (value w x)
+value w (arctangent x) = arctangent_of w.depth (value w x)
+value w (arcsine x) = arcsine_of w.depth (value w x)
+value w (arccosine x) = arccosine_of w.depth (value w x)
+value w (arctangent_of_two y x) = two_arctangent w.depth (value w y) (value w x)
 value w (remainder m x q) = difference (value w x) (exactly (whole (pos m *ℤ q)))

@@ -6,14 +6,14 @@ use Rattle.book_model.specs.declared.site.Site.{Site}
 use Rattle.book_model.specs.declared.site.Site.TheVariants.{Year}
 use Rattle.book_model.specs.declared.fact.Fact.{Fact}
 use Rattle.book_model.specs.declared.fact.Kind.{Kind}
-use Rattle.book_model.specs.declared.fact.Kind.TheVariants.{Dt, Sun, Nowruz, Solstice, NewMoonBefore, NewMoonFrom, Major}
+use Rattle.book_model.specs.declared.fact.Kind.TheVariants.{Dt, Sun, Nowruz, BahaiYear, Solstice, NewMoonBefore, NewMoonFrom, Major, Sunset}
 use Rattle.book_model.specs.declared.fact.Place.{Place}
 use Rattle.book_model.specs.declared.fact.TheConstants.{FIRST_FACT_DAY, LAST_FACT_DAY, FIRST_DAY, LAST_DAY, LEAST_VALUE, GREATEST_VALUE}
 use Rattle.book_model.specs.declared.fail.Undecided.{Undecided}
 use Rattle.book_model.specs.Calendar.{year_of_day}
 use Rattle.book_model.specs.Correction.{is_between}
 use Rattle.book_model.specs.Expressions.{World}
-use Rattle.book_model.specs.Kinds.{dt_of, sun_in_thousandths_of, nowruz_of, solstice_of, new_moon_before_of, new_moon_from_of, major_of}
+use Rattle.book_model.specs.Kinds.{dt_of, sun_in_thousandths_of, nowruz_of, bahai_year_of, solstice_of, new_moon_before_of, new_moon_from_of, major_of, location_of, sunset_in_minutes_of}
 use Rattle.book_model.specs.Leading.{at_56, AreNoBounds}
 use Rattle.book_model.specs.Names.{has_place}
 use Rattle.book_model.specs.Programs.{Grid, threshold, Program, void, Run, run, valued, void_at, outcome, MakesTest, Sides, one_side, two_sides}
@@ -40,10 +40,12 @@ unfoldable pub formula_of : Kind → Place → ℤ → Program ℤ
 formula_of Dt place d = dt_of d
 formula_of Sun place d = sun_in_thousandths_of d
 formula_of Nowruz place d = nowruz_of d
+formula_of BahaiYear place d = bahai_year_of d
 formula_of Solstice place d = solstice_of d
 formula_of NewMoonBefore place d = new_moon_before_of d
 formula_of NewMoonFrom place d = new_moon_from_of d
 formula_of Major place d = major_of d
+formula_of Sunset place d = sunset_in_minutes_of (location_of place) d
 
 -- the formula of a fact; outside 1 July 1800 to 31 December 2049 it is void
 unfoldable pub program_of : Fact → Program ℤ
@@ -92,10 +94,12 @@ abbrev pub HasWholeDays : Kind → Type 0
 HasWholeDays Dt = Unit {0}
 HasWholeDays Sun = Unit {0}
 HasWholeDays Nowruz = ⊥
+HasWholeDays BahaiYear = ⊥
 HasWholeDays Solstice = ⊥
 HasWholeDays NewMoonBefore = ⊥
 HasWholeDays NewMoonFrom = ⊥
 HasWholeDays Major = ⊥
+HasWholeDays Sunset = ⊥
 
 -- The fact is near at a test: at every depth from 40 on its run makes this test, whose sides lie within the ends.
 -- The year of a whole day is never near. For the years 1987 to 2050 the ends of a dynamical time correction lie

@@ -1,11 +1,17 @@
 -- The formulas of the kinds of facts, each for a day (R.D.).
 use Rattle.std.specs.Prelude.{ℤ, pos, ◌+ℤ◌, ◌-ℤ◌, Bool, not}
 use Rattle.book_model.specs.declared.site.Site.TheVariants.{Round, StartFloor, DayFloor, DayTest, TermFloor}
+use Rattle.book_model.specs.declared.fact.Place.{Place}
+use Rattle.book_model.specs.declared.fact.Place.TheVariants.{Cairo, Ujjain}
+use Rattle.book_model.specs.declared.horizon.Location.{Location}
+use Rattle.book_model.specs.declared.location_tables.TheConstants.{TEHRAN, CAIRO, UJJAIN, MINUTES_OF_DAY}
 use Rattle.book_model.specs.declared.sun_tables.TheConstants.{DEGREE_IN_TERMS}
 use Rattle.book_model.specs.declared.tables.TheConstants.{MILLISECONDS_OF_DAY, THOUSANDTHS_OF_DEGREE}
+use Rattle.book_model.specs.declared.time_tables.TheConstants.{HOUR}
 use Rattle.book_model.specs.Correction.{year_of, rounded_of}
-use Rattle.book_model.specs.Expressions.{Expression, integer, scale}
+use Rattle.book_model.specs.Expressions.{Expression, integer, constant, add, subtract, scale}
 use Rattle.book_model.specs.Fractions.{fraction_of}
+use Rattle.book_model.specs.Horizon.{sunset_of}
 use Rattle.book_model.specs.Noon.{noon_of}
 use Rattle.book_model.specs.Programs.{Program, answer, cell, compare, bind, integers}
 use Rattle.book_model.specs.Searches.{first_day_from}
@@ -27,34 +33,56 @@ sun_in_thousandths_of d =
     bind (sun_of (integer d)) λ s.
     cell Round integers (scale (fraction_of THOUSANDTHS_OF_DEGREE) s) answer
 
--- the sun's longitude at true noon of a day in Tehran
-unfoldable pub longitude_at_noon_of : ℤ → Program Expression
-longitude_at_noon_of d = bind (noon_of d) sun_of
+-- the sun's longitude at a moment of a day
+unfoldable pub longitude_at_of : (ℤ → Program Expression) → ℤ → Program Expression
+longitude_at_of moment d = bind (moment d) sun_of
 
 -- whether a longitude is at most 2 degrees
 unfoldable pub is_at_most_two_of : Expression → Program Bool
 is_at_most_two_of s = compare DayTest (integer (pos 2)) s λ more. answer (not more)
 
--- whether the sun has passed the spring equinox at true noon of a day in Tehran: the search begins before it, where the
--- longitude is near 360
-unfoldable pub has_spring_at_noon : ℤ → Program Bool
-has_spring_at_noon d = bind (longitude_at_noon_of d) is_at_most_two_of
+-- whether the sun has passed the spring equinox at a moment of a day: the search begins before it, where the longitude is
+-- near 360
+unfoldable pub has_spring_at : (ℤ → Program Expression) → ℤ → Program Bool
+has_spring_at moment d = bind (longitude_at_of moment d) is_at_most_two_of
 
--- the moment at which, as is estimated, the sun was last at the spring equinox before true noon of a day in Tehran
-unfoldable pub last_equinox_of : ℤ → Program Expression
-last_equinox_of d = bind (noon_of d) (estimate_of (integer (pos 0)))
+-- the moment at which, as is estimated, the sun was last at the spring equinox before a moment of a day
+unfoldable pub last_equinox_of : (ℤ → Program Expression) → ℤ → Program Expression
+last_equinox_of moment d = bind (moment d) (estimate_of (integer (pos 0)))
 
 -- the day of that moment
-unfoldable pub search_start_of : ℤ → Program ℤ
-search_start_of d =
-    bind (last_equinox_of d) λ s.
+unfoldable pub search_start_of : (ℤ → Program Expression) → ℤ → Program ℤ
+search_start_of moment d =
+    bind (last_equinox_of moment d) λ s.
     cell StartFloor integers s answer
 
--- the first day of the Persian year in which a day falls
-unfoldable pub nowruz_of : ℤ → Program ℤ
-nowruz_of d =
-    bind (search_start_of d) λ q.
-    first_day_from has_spring_at_noon (q -ℤ pos 1)
+-- the last day before a day, or the day itself, at whose moment the sun has just passed the spring equinox
+unfoldable pub spring_day_of : (ℤ → Program Expression) → ℤ → Program ℤ
+spring_day_of moment d =
+    bind (search_start_of moment d) λ q.
+    first_day_from (has_spring_at moment) (q -ℤ pos 1)
+
+-- the first day of the Persian year in which a day falls: by true noon in Tehran
+abbrev pub nowruz_of : ℤ → Program ℤ
+nowruz_of d = spring_day_of noon_of d
+
+-- the first day of the Bahá'í year in which a day falls: by sunset in Tehran
+abbrev pub bahai_year_of : ℤ → Program ℤ
+bahai_year_of d = spring_day_of (sunset_of TEHRAN) d
+
+-- the location of a place; of other places no horizon is asked
+abbrev pub location_of : Place → Location
+location_of Cairo = CAIRO
+location_of Ujjain = UJJAIN
+location_of place = TEHRAN
+
+-- sunset on a day at a location, in minutes of its standard time after midnight, not rounded
+unfoldable pub minutes_of : Location → ℤ → Expression → Expression
+minutes_of p d x = scale (fraction_of MINUTES_OF_DAY) (subtract (add x (scale (fraction_of HOUR) (constant (fraction_of p.zone)))) (integer d))
+
+-- the same, rounded
+unfoldable pub sunset_in_minutes_of : Location → ℤ → Program ℤ
+sunset_in_minutes_of p d = bind (sunset_of p d) λ x. rounded_of (minutes_of p d x)
 
 -- the day of a moment of universal time in Beijing
 unfoldable pub day_in_beijing_of : Expression → Program ℤ

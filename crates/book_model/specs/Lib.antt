@@ -14,6 +14,7 @@ pub mod Lines
 pub mod Inquiries
 pub mod Spans
 pub mod Persian
+pub mod Bahai
 pub mod Chinese
 pub mod Words
 pub mod Dates
@@ -24,6 +25,8 @@ pub mod Plain
 pub mod Text
 pub mod Series
 pub mod Octants
+pub mod Roots
+pub mod Arcs
 pub mod Polynomials
 pub mod Time
 pub mod Sun
@@ -33,5 +36,6 @@ pub mod Terms
 pub mod Moon
 pub mod NewMoons
 pub mod Phases
+pub mod Horizon
 pub mod Kinds
 pub mod Facts

@@ -3,6 +3,7 @@ use Rattle.std.specs.Prelude.{◌≡◌, ◌↔◌, ℕ, ◌≤◌, ℤ, pos, �
 use Rattle.exact_math.specs.Fraction.{Fraction, ◌≤F◌}
 use Rattle.exact_math.specs.Interval.{Interval, IsProper, ◌⊆◌}
 use Rattle.book_model.specs.Octants.{octant_edge, first_octant, last_octant}
+use Rattle.book_model.specs.Arcs.{all_around}
 use Rattle.book_model.specs.declared.site.Site.{Site}
 use Rattle.book_model.specs.Expressions.{Expression, World, value}
 use Rattle.book_model.specs.Programs.{Program, run, outcome, valued, void_at, Refines}
@@ -30,6 +31,11 @@ pub record IsNestedByDepth (c : ℕ → Interval) : Type 0 where
 -- a function that, at a depth at least as great and of an interval that lies within another, lies within what it is of that
 pub record IsNested (f : ℕ → Interval → Interval) : Type 0 where
   pub within : (n m : ℕ) (i j : Interval) → n ≤ m → IsProper i → i ⊆ j → f m i ⊆ f n j
+
+-- the same of two intervals; and it lies from -180 to 180
+pub record IsNestedOfTwo (f : ℕ → Interval → Interval → Interval) : Type 0 where
+  pub within : (n m : ℕ) (i i' j j' : Interval) → n ≤ m → IsProper i → IsProper j → i ⊆ i' → j ⊆ j' → f m i j ⊆ f n i' j'
+  pub inside : (n : ℕ) (i j : Interval) → IsProper i → IsProper j → f n i j ⊆ all_around
 
 -- the octants from the first to the last are those that have a point in common with a .. b
 pub record AreOctantsMet : Type 0 where

@@ -19,6 +19,10 @@ ceiling_quotient n d = neg_ℤ (floor_quotient (neg_ℤ n) d)
 abbrev pub amod : ℤ → ℕ → ℤ
 amod n d = n -ℤ floor_quotient (n -ℤ pos 1) d *ℤ pos (suc d)
 
+-- what is left of n by multiples of d + 1, from 0 to d
+abbrev pub modulo : ℤ → ℕ → ℤ
+modulo n d = n -ℤ floor_quotient n d *ℤ pos (suc d)
+
 -- n / (d + 1)
 abbrev pub ratio : ℤ → ℕ → Fraction
 ratio n d = record { num = n; below = d }

@@ -14,6 +14,9 @@ pub const SYNODIC_MONTH: Frac = Frac { num: 29_530_588_861, den: 1_000_000_000 }
 /// Calendrical Calculations, chapter 15).
 pub const PERSIAN_EPOCH: i64 = 226_896;
 
+/// The first day of the Bahá'í year 1: 21 March 1844 (R.D.; Reingold and Dershowitz, Calendrical Calculations, chapter 16).
+pub const BAHAI_EPOCH: i64 = 673_222;
+
 /// The day from which the years of the Chinese cycles of 60 are counted: 15 February -2636 (R.D.; Reingold and Dershowitz,
 /// Calendrical Calculations, chapter 19).
 pub const CHINESE_EPOCH: i64 = -963_099;

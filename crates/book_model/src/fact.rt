@@ -10,10 +10,12 @@ pub enum Kind {
     Dt,
     Sun,
     Nowruz,
+    BahaiYear,
     Solstice,
     NewMoonBefore,
     NewMoonFrom,
     Major,
+    Sunset,
 }
 
 /// A place that a fact may be asked of.
@@ -36,14 +38,16 @@ pub struct Fact {
 
 /// Each kind of fact with its printed name and the places that it is asked of, in the order of the variants.
 #[rattlefmt::skip]
-pub const KINDS: [(Kind, &str, &[Place]); 7] = [
+pub const KINDS: [(Kind, &str, &[Place]); 9] = [
     (Kind::Dt, "dt", &[Place::None]),
     (Kind::Sun, "sun", &[Place::None]),
     (Kind::Nowruz, "nowruz", &[Place::None]),
+    (Kind::BahaiYear, "bahai-year", &[Place::None]),
     (Kind::Solstice, "solstice", &[Place::Beijing]),
     (Kind::NewMoonBefore, "new-moon-before", &[Place::Beijing]),
     (Kind::NewMoonFrom, "new-moon-from", &[Place::Beijing]),
     (Kind::Major, "major", &[Place::Beijing]),
+    (Kind::Sunset, "sunset", &[Place::Tehran, Place::Cairo, Place::Ujjain]),
 ];
 
 /// Each place with its printed name, in the order of the variants.

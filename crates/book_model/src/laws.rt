@@ -7,7 +7,9 @@ ghost use Rattle.exact_math.specs.Sums.{one_over};
 ghost use Rattle.book_model.specs.Expressions.{Expression};
 ghost use Rattle.book_model.specs.Series.{pi_at, sine_series, cosine_series, arctan_at};
 ghost use Rattle.book_model.specs.Octants.{sine_of_degrees, cosine_of_degrees, tangent_of_degrees};
-ghost use Rattle.book_model.specs.Nesting.{ValuesNest, RunsNest, IsNested, IsNestedByDepth, AreOctantsMet};
+ghost use Rattle.book_model.specs.Roots.{IsGreatestRoot, IsLeastRoot, not_negative, root_low, root_high, root_of};
+ghost use Rattle.book_model.specs.Arcs.{half, minus_half, arctan_series, arctangent_of, arcsine_of, arccosine_of, arctangent_of_two};
+ghost use Rattle.book_model.specs.Nesting.{ValuesNest, RunsNest, IsNested, IsNestedByDepth, IsNestedOfTwo, AreOctantsMet};
 ghost use Rattle.book_model.specs.Calendar.{year_of_day, IsYearOfDay};
 ghost use Rattle.book_model.specs.Programs.{Grid, CellsCut};
 ghost use Rattle.book_model.specs.Noon.{StartsNear};
@@ -58,6 +60,26 @@ pub fn sums()
     ensures sine { IsNested sine_series }
     ensures cosine { IsNested (λ n. cosine_series (suc n)) }
     ensures arctangent { (k : ℕ) → 1 ≤ k → IsNestedByDepth (λ n. arctan_at n (one_over k)) }
+{}
+
+/// Nesting of roots and arcs: at a greater depth, and of narrower intervals, root, arctangent, arcsine, arccosine and the
+/// arctangent of two numbers lie within what they are here; so does the series of the arctangent of each fraction from
+/// -1/2 to 1/2. The arctangent of two numbers lies from -180 to 180.
+#[tactic(auto, using(crate::proofs::Arcs::roots_nest, crate::proofs::Arcs::arctangents_nest, crate::proofs::Arcs::arcsines_nest, crate::proofs::Arcs::arccosines_nest, crate::proofs::Arcs::arctangents_of_two_nest, crate::proofs::ArcSeries::series_nests))]
+pub fn arcs()
+    ensures root { IsNested root_of }
+    ensures series { (x : Fraction) → minus_half ≤F x → x ≤F half → IsNestedByDepth (λ n. arctan_series n x) }
+    ensures arctangent { IsNested arctangent_of }
+    ensures arcsine { IsNested arcsine_of }
+    ensures arccosine { IsNested arccosine_of }
+    ensures two { IsNestedOfTwo arctangent_of_two }
+{}
+
+/// The ends of a root at depth n: of a number that is not negative, the greatest multiple of 2 to the power of minus
+/// twice n whose square is at most that, and the least whose square is at least that. A negative number counts as 0.
+pub fn roots()
+    ensures low { (n : ℕ) (a : Fraction) → IsGreatestRoot n (not_negative a) (root_low n a) }
+    ensures high { (n : ℕ) (a : Fraction) → IsLeastRoot n (not_negative a) (root_high n a) }
 {}
 
 /// Sums, products, opposites, minima, maxima, powers and hulls of intervals hold the results for all members, and those of

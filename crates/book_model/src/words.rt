@@ -5,26 +5,31 @@ ghost use Rattle.std.specs.Prelude.{◌≡◌};
 use crate::names::first_row_named;
 use crate::{Calendar, Kind, Place};
 
-/// A word for the calendar of a line's date: a Gregorian date, the day number of the book (R.D.), a Persian or a Chinese
-/// date.
+/// A word for the calendar of a line's date: a Gregorian date, the day number of the book (R.D.), a Persian, a
+/// Bahá'í or a Chinese date.
 #[derive(Clone, Copy, Debug, PartialEq, Eq)]
 pub enum FromWord {
     Gregorian,
     Fixed,
     Persian,
+    Bahai,
     Chinese,
 }
 
-/// A word for what a line asks: the Gregorian date, the day number (R.D.), the Persian or the Chinese date, the dynamical
-/// time correction, or the longitude of the sun.
+/// A word for what a line asks: the Gregorian date, the day number (R.D.), the Persian, the Bahá'í or the Chinese date, the
+/// dynamical time correction, the longitude of the sun, or sunset at Tehran, Cairo or Ujjain.
 #[derive(Clone, Copy, Debug, PartialEq, Eq)]
 pub enum ToWord {
     Gregorian,
     Fixed,
     Persian,
+    Bahai,
     Chinese,
     Dt,
     Sun,
+    SunsetTehran,
+    SunsetCairo,
+    SunsetUjjain,
 }
 
 /// What is shown of a day: its date in a calendar, or the value of its fact of this kind at this place.
@@ -36,22 +41,27 @@ pub enum Shown {
 
 /// The words that stand before a date, in the order of their values, with the calendar of the date.
 #[rattlefmt::skip]
-pub const FROM_WORDS: [(FromWord, &str, Calendar); 4] = [
+pub const FROM_WORDS: [(FromWord, &str, Calendar); 5] = [
     (FromWord::Gregorian, "gregorian", Calendar::Gregorian),
     (FromWord::Fixed, "fixed", Calendar::Fixed),
     (FromWord::Persian, "persian", Calendar::Persian),
+    (FromWord::Bahai, "bahai", Calendar::Bahai),
     (FromWord::Chinese, "chinese", Calendar::Chinese),
 ];
 
 /// The words for what a line asks, in the order of their values, with what they show of a day.
 #[rattlefmt::skip]
-pub const TO_WORDS: [(ToWord, &str, Shown); 6] = [
+pub const TO_WORDS: [(ToWord, &str, Shown); 10] = [
     (ToWord::Gregorian, "gregorian", Shown::Date(Calendar::Gregorian)),
     (ToWord::Fixed, "fixed", Shown::Date(Calendar::Fixed)),
     (ToWord::Persian, "persian", Shown::Date(Calendar::Persian)),
+    (ToWord::Bahai, "bahai", Shown::Date(Calendar::Bahai)),
     (ToWord::Chinese, "chinese", Shown::Date(Calendar::Chinese)),
     (ToWord::Dt, "dt", Shown::Value(Kind::Dt, Place::None)),
     (ToWord::Sun, "sun", Shown::Value(Kind::Sun, Place::None)),
+    (ToWord::SunsetTehran, "sunset-tehran", Shown::Value(Kind::Sunset, Place::Tehran)),
+    (ToWord::SunsetCairo, "sunset-cairo", Shown::Value(Kind::Sunset, Place::Cairo)),
+    (ToWord::SunsetUjjain, "sunset-ujjain", Shown::Value(Kind::Sunset, Place::Ujjain)),
 ];
 
 impl FromWord {

@@ -1,5 +1,5 @@
 -- Spans and their days as quotients of whole numbers, and how large quotients get.
-use Rattle.std.specs.Prelude.{◌≡◌, ℕ, suc, ◌+◌, ◌-◌, ◌*◌, ◌/◌, ◌≤◌, ◌<◌, ◌^◌, ℤ, pos, negsuc, ◌+ℤ◌, ◌*ℤ◌, ◌-ℤ◌, ◌≤ℤ◌, refl}
+use Rattle.std.specs.Prelude.{◌≡◌, ℕ, suc, ◌+◌, ◌-◌, ◌*◌, ◌/◌, ◌≤◌, ◌<◌, ◌^◌, ℤ, pos, negsuc, ◌+ℤ◌, ◌*ℤ◌, ◌-ℤ◌, ◌≤ℤ◌, ◌<ℤ◌, refl}
 use Rattle.std.proofs.Common.{zero, arith, ap, sym, ◌∙◌, SFits}
 use Rattle.std.specs.Int.{w128}
 use Rattle.std.proofs.lemmas.Int.{ints}
@@ -8,7 +8,7 @@ use Rattle.exact_math.proofs.Floors.{floor_quotient_mono, floor_quotient_is}
 use Rattle.exact_math.proofs.Fractions.{den_product}
 use Rattle.exact_math.proofs.IntLaws.{mul_assoc, mul_one}
 use Rattle.std.proofs.Math.Nat.{mul-le-mul_right}
-use Rattle.book_model.specs.Spans.{amod, ratio, days_of, spans_of, days_of_years, months_of_days, years_of_days, nearest}
+use Rattle.book_model.specs.Spans.{amod, modulo, ratio, days_of, spans_of, days_of_years, months_of_days, years_of_days, nearest}
 
 -- the denominator of a product
 below_is : (m n : ℕ) → suc m * suc n - 1 ≡ below_product m n
@@ -132,4 +132,18 @@ left_lies n q (suc d) h k =
     let e : suc d - 1 ≡ d = omega arith in
     let f = floor_quotient_is (n -ℤ pos 1) d in
     let is : q ≡ floor_quotient (n -ℤ pos 1) d = rw e at k in
+    rw is (record { same = rw e refl; from = omega (arith, ints, f.not_above, f.close); to = omega (arith, ints, f.not_above, f.close) })
+
+-- the same, of the quotient of the number itself
+pub record IsRest (n q : ℤ) (d : ℕ) : Type 0 where
+  pub same : n -ℤ q *ℤ pos d ≡ modulo n (d - 1)
+  pub from : pos 0 ≤ℤ (n -ℤ q *ℤ pos d)
+  pub to : (n -ℤ q *ℤ pos d) <ℤ pos d
+
+pub rest_lies : (n q : ℤ) (d : ℕ) → 0 < d → q ≡ floor_quotient n (d - 1) → IsRest n q d
+rest_lies n q zero h k = absurd (omega arith)
+rest_lies n q (suc d) h k =
+    let e : suc d - 1 ≡ d = omega arith in
+    let f = floor_quotient_is n d in
+    let is : q ≡ floor_quotient n d = rw e at k in
     rw is (record { same = rw e refl; from = omega (arith, ints, f.not_above, f.close); to = omega (arith, ints, f.not_above, f.close) })

@@ -10,5 +10,5 @@ mod spans;
 mod tests;
 
 pub use ends::{to_8_bits, to_32_bits};
-pub use quotients::{amod, quotient_before, quotient_up};
+pub use quotients::{amod, modulo, quotient, quotient_before, quotient_up};
 pub use spans::{days_of, days_of_years, months_of_days, spans_of, years_of_days};

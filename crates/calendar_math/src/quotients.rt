@@ -1,7 +1,7 @@
 //! Quotients of whole numbers, rounded down and up.
-ghost use Rattle.std.specs.Prelude.{◌≡◌, ◌<◌, ◌-◌, pos, negsuc, ◌≤ℤ◌, ◌-ℤ◌, ◌*ℤ◌};
+ghost use Rattle.std.specs.Prelude.{◌≡◌, ◌<◌, ◌-◌, pos, negsuc, ◌≤ℤ◌, ◌<ℤ◌, ◌-ℤ◌, ◌*ℤ◌};
 ghost use Rattle.exact_math.specs.Fraction.{floor_quotient};
-ghost use Rattle.book_model.specs.Spans.{ceiling_quotient, amod as amod_of};
+ghost use Rattle.book_model.specs.Spans.{ceiling_quotient, amod as amod_of, modulo as modulo_of};
 
 /// The greatest whole number that isn't above the quotient.
 fn quotient_down(number: i128, divisor: u64) -> i128
@@ -29,6 +29,39 @@ pub fn quotient_up(number: i64, divisor: u8) -> i64
     ensures quotient { result ≡ ceiling_quotient number (divisor - 1) }
 {
     -(-number).div_euclid(i64::from(divisor))
+}
+
+/// The greatest whole number that isn't above the quotient.
+pub fn quotient(number: i64, divisor: u16) -> i64
+    requires positive { 0 < divisor }
+    requires from { negsuc 49999999 ≤ℤ number }
+    requires to { number ≤ℤ pos 50000000 }
+    ensures quotient { result ≡ floor_quotient number (divisor - 1) }
+{
+    number.div_euclid(i64::from(divisor))
+}
+
+/// A number less a multiple of the divisor, given that what is left is from 0 to less than the divisor.
+fn left_below(number: i64, whole: i64, divisor: u16) -> i64
+    requires from { pos 0 ≤ℤ (number -ℤ whole *ℤ pos divisor) }
+    requires to { (number -ℤ whole *ℤ pos divisor) <ℤ pos divisor }
+    requires low { negsuc 49999999 ≤ℤ number }
+    requires high { number ≤ℤ pos 50000000 }
+    ensures left { result ≡ number -ℤ whole *ℤ pos divisor }
+{
+    number - whole * i64::from(divisor)
+}
+
+/// What is left of a number by multiples of the divisor, from 0 to less than the divisor.
+pub fn modulo(number: i64, divisor: u16) -> i64
+    requires positive { 0 < divisor }
+    requires from { negsuc 49999999 ≤ℤ number }
+    requires to { number ≤ℤ pos 50000000 }
+    ensures number { result ≡ modulo_of number (divisor - 1) }
+    ensures from { pos 0 ≤ℤ result }
+    ensures to { result <ℤ pos divisor }
+{
+    left_below(number, quotient(number, divisor), divisor)
 }
 
 /// A number less a multiple of the divisor, given that what is left is from 1 to the divisor.

@@ -14,3 +14,5 @@ pub mod Widths
 pub mod Products
 pub mod Ratios
 pub mod WaveAngles
+pub mod RootEnds
+pub mod RootWidths

@@ -9,6 +9,7 @@ use crate::operations::{
     add_ends, frac_ends, hull_ends, int_ends, max_ends, min_ends, mul_ends, neg_ends, scale_ends,
     sub_ends, widen_ends,
 };
+use crate::roots::{clamp_ends, root_ends};
 use crate::spanning::{ends_of_span, span_of};
 use crate::turning::angle_ends;
 use crate::wrapping::{lower_ends, period_of_ends};
@@ -131,6 +132,18 @@ impl Enclosure for Coarse {
     fn square(self) -> Self {
         Coarse {
             ends: square_ends(self.ends),
+        }
+    }
+
+    fn root(self) -> Self {
+        Coarse {
+            ends: root_ends(self.ends),
+        }
+    }
+
+    fn clamp_unit(self) -> Self {
+        Coarse {
+            ends: Some(clamp_ends(self.ends)),
         }
     }
 

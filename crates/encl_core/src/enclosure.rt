@@ -3,7 +3,7 @@ ghost use Rattle.std.specs.Prelude.{◌≡◌, ◌<◌, ℕ, ℤ, ◌≤◌, Som
 ghost use Rattle.exact_math.specs.Fraction.{whole as whole_number};
 ghost use Rattle.exact_math.specs.Interval.{Interval, everything, between, ◌⊆◌, IsProper};
 ghost use Rattle.book_model.specs.Fractions.{fraction_of, ten_millionths, daily_ten_millionths};
-ghost use Rattle.book_model.specs.Expressions.{Expression, World, integer, constant, add as add_of, subtract, multiply, negate, scale, minimum, maximum, hull as hull_of, widen as widen_of, divide, power, remainder};
+ghost use Rattle.book_model.specs.Expressions.{Expression, World, integer, constant, add as add_of, subtract, multiply, negate, scale, minimum, maximum, hull as hull_of, widen as widen_of, divide, power, root as root_of, clamp as clamp_of, remainder};
 ghost use Rattle.book_model.specs.Bounds.{Bound, Reach, IsNarrow, spanned_bound, limits_of};
 ghost use Rattle.book_model.specs.Relations.{Within, Narrow};
 ghost use Rattle.book_model.specs.Programs.{integers, multiples, cell_at, compare_at};
@@ -135,6 +135,16 @@ pub trait Enclosure: Copy + Drop {
     fn square(self) -> Self
         ensures holds { (w : World) (x : Expression) → Within shown w x self → Within shown w (power x 2) result }
         ensures narrow { (r : Reach) (x : Expression) → Narrow shown (limits_of BITS) r x self → Narrow shown (limits_of BITS) r (power x 2) result };
+
+    /// The roots of the members. A negative end counts as 0.
+    fn root(self) -> Self
+        ensures holds { (w : World) (x : Expression) → Within shown w x self → Within shown w (root_of x) result }
+        ensures narrow { (r : Reach) (x : Expression) → Narrow shown (limits_of BITS) r x self → Narrow shown (limits_of BITS) r (root_of x) result };
+
+    /// The members, each end moved into -1..1; all of -1..1, where nothing is known.
+    fn clamp_unit(self) -> Self
+        ensures holds { (w : World) (x : Expression) → Within shown w x self → Within shown w (clamp_of x) result }
+        ensures narrow { (r : Reach) (x : Expression) → Narrow shown (limits_of BITS) r x self → Narrow shown (limits_of BITS) r (clamp_of x) result };
 
     /// The ends, at one scale for every kind; `None` for every number.
     fn span(self) -> Option<Span>

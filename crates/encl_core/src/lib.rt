@@ -17,6 +17,7 @@ mod dividing;
 mod enclosure;
 mod ends;
 mod operations;
+mod roots;
 mod rounding;
 mod search;
 mod span;

@@ -1,5 +1,5 @@
 //! Searches by day.
-ghost use Rattle.std.specs.Prelude.{◌≡◌, ◌≤◌, ◌+◌, ◌+ℤ◌, pos, negsuc, ◌≤ℤ◌, ℤ, Bool, IfOk};
+ghost use Rattle.std.specs.Prelude.{◌≡◌, ◌≤◌, ◌+◌, ◌*◌, ◌+ℤ◌, pos, negsuc, ◌≤ℤ◌, ℕ, ℤ, Bool, IfOk};
 ghost use Rattle.book_model.specs.Expressions.{World};
 ghost use Rattle.book_model.specs.Leading.{Leads, Exact};
 ghost use Rattle.book_model.specs.Programs.{Program};
@@ -17,13 +17,15 @@ pub trait DayTest<E: Enclosure> {
     /// The test of a day, as a formula.
     ghost test_of: { Self → ℤ → Program Bool };
 
-    /// Whether the test is true of a day (R.D.). It makes the tests of its formula, at most 100, and fails where
-    /// that does.
+    /// How many tests the test of a day makes at most.
+    ghost most: { ℕ };
+
+    /// Whether the test is true of a day (R.D.). It makes the tests of its formula, and fails where that does.
     fn holds(&self, day: i64, trail: &mut Trail) -> Result<bool, Fail>
         requires low { negsuc 39999999 ≤ℤ day }
         requires high { day ≤ℤ pos 40000000 }
         ensures leads { (w : World) → DEPTH ≤ w.depth → Leads w Exact (test_of self.now day) trail.old.count trail.new.count result }
-        ensures counted { trail.new.count ≤ trail.old.count + 100 };
+        ensures counted { trail.new.count ≤ trail.old.count + most };
 }
 
 /// The first day (R.D.) of which a test is true, of the start and the 45 days after it. It fails where the test does,
@@ -38,7 +40,7 @@ pub fn first_day<E: Enclosure, T: DayTest<E>>(
     ensures leads { (w : World) → DEPTH ≤ w.depth → Leads w Exact (first_day_from (T.test_of test.now) start) trail.old.count trail.new.count result }
     ensures from { IfOk result (λ d. start ≤ℤ d) }
     ensures to { IfOk result (λ d. d ≤ℤ (start +ℤ pos 45)) }
-    ensures counted { trail.new.count ≤ trail.old.count + 4600 }
+    ensures counted { trail.new.count ≤ trail.old.count + 46 * T.most }
 {
     for later in 0..DAYS_TRIED {
         let day = start + i64::from(later);

@@ -93,6 +93,14 @@ impl Enclosure for Unknown {
         self
     }
 
+    fn root(self) -> Self {
+        self
+    }
+
+    fn clamp_unit(self) -> Self {
+        self
+    }
+
     fn span(self) -> Option<Span> {
         None
     }
@@ -142,6 +150,8 @@ struct After {
 
 impl<E: Enclosure> DayTest<E> for After {
     ghost test_of = { λ s d. compare AtDayTest (integer s.day) (integer d) answer };
+
+    ghost most = { 1 };
 
     fn holds(&self, day: i64, trail: &mut Trail) -> Result<bool, FormulaFail> {
         is_after::<E>(day, self.day, trail)
@@ -268,6 +278,36 @@ fn ranges_keep_their_ends(rt: HostRuntime) -> Result<(), Fail> {
         range(0, 5)
     );
     assert_eq!(rt; mixed(Unknown, Unknown, fraction(1, 2)?), Unknown);
+    Ok(())
+}
+
+#[test]
+fn roots_are_rounded_outwards(rt: HostRuntime) -> Result<(), Fail> {
+    assert_eq!(rt; range::<Coarse>(4, 9).root(), range(2, 3));
+    assert_eq!(rt; range::<Coarse>(-4, 9).root(), range(0, 3));
+    assert_eq!(rt; range::<Coarse>(-4, -1).root(), range(0, 0));
+    assert_eq!(rt; Coarse::whole().root(), Coarse::whole());
+    for (num, den, lo, hi) in [
+        (2, 1, 97_184_015_999, 97_184_016_000),
+        (1, 2, 48_592_007_999, 48_592_008_000),
+        (1, 68_719_476_736, 262_144, 262_144),
+    ] {
+        let ends = Coarse::from_frac(fraction(num, den)?)
+            .root()
+            .ends
+            .ok_or("whole")?;
+        assert_eq!(rt; (ends.lo, ends.hi), (lo, hi), "{num} / {den}");
+    }
+    Ok(())
+}
+
+#[test]
+fn a_clamped_enclosure_lies_from_minus_1_to_1(rt: HostRuntime) -> Result<(), Fail> {
+    let half = Coarse::from_frac(fraction(1, 2)?);
+    assert_eq!(rt; half.clamp_unit(), half);
+    assert_eq!(rt; range::<Coarse>(0, 3).clamp_unit(), range(0, 1));
+    assert_eq!(rt; range::<Coarse>(-3, -2).clamp_unit(), range(-1, -1));
+    assert_eq!(rt; Coarse::whole().clamp_unit(), range(-1, 1));
     Ok(())
 }
 

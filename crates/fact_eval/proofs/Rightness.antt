@@ -2,7 +2,7 @@
 use Rattle.std.specs.Prelude.{◌≡◌, ℕ, ◌≤◌, ℤ, Result, Ok, Err, IfOk, IfErr, refl, true, false}
 use Rattle.book_model.specs.declared.fact.Fact.{Fact}
 use Rattle.book_model.specs.declared.fact.Kind.{Kind}
-use Rattle.book_model.specs.declared.fact.Kind.TheVariants.{Dt, Nowruz, Solstice, NewMoonBefore, NewMoonFrom, Major}
+use Rattle.book_model.specs.declared.fact.Kind.TheVariants.{Dt, Nowruz, BahaiYear, Solstice, NewMoonBefore, NewMoonFrom, Major, Sunset}
 use Rattle.book_model.specs.declared.fact.TheConstants.{FIRST_DAY, LAST_DAY}
 use Rattle.book_model.specs.declared.site.Site.TheVariants.{Year}
 use Rattle.book_model.specs.declared.fail.Fail.{Fail}
@@ -45,6 +45,9 @@ nothing_promised k y (Err (Void s)) h d = tt
 pub nowruz_keeps : (y : ℤ) (r : Result ℤ Fail) → IfErr r (IsNearFor Nowruz y)
 nowruz_keeps y r = nothing_promised Nowruz y r (λ w. w) (λ e. absurd (cc))
 
+pub bahai_year_keeps : (y : ℤ) (r : Result ℤ Fail) → IfErr r (IsNearFor BahaiYear y)
+bahai_year_keeps y r = nothing_promised BahaiYear y r (λ w. w) (λ e. absurd (cc))
+
 pub solstice_keeps : (y : ℤ) (r : Result ℤ Fail) → IfErr r (IsNearFor Solstice y)
 solstice_keeps y r = nothing_promised Solstice y r (λ w. w) (λ e. absurd (cc))
 
@@ -56,6 +59,9 @@ new_moon_from_keeps y r = nothing_promised NewMoonFrom y r (λ w. w) (λ e. absu
 
 pub major_keeps : (y : ℤ) (r : Result ℤ Fail) → IfErr r (IsNearFor Major y)
 major_keeps y r = nothing_promised Major y r (λ w. w) (λ e. absurd (cc))
+
+pub sunset_keeps : (y : ℤ) (r : Result ℤ Fail) → IfErr r (IsNearFor Sunset y)
+sunset_keeps y r = nothing_promised Sunset y r (λ w. w) (λ e. absurd (cc))
 
 -- what an evaluation that began with no test counted gives is right
 pub right_result : (f : Fact) (t : Result ℤ Fail) (a : ℕ) → ((w : World) → 40 ≤ w.depth → Leads w Exact (program_of f) 0 a t) → IfOk t IsFactValue → IfErr t (IsNearFor f.kind (year_of_day f.day)) → AtMost 99999 (program_of f) → IsRightAnswer f (answer_of t)

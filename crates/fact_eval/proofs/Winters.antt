@@ -1,5 +1,5 @@
 -- From where a search for a winter solstice sets out, and how many solar terms there are.
-use Rattle.std.specs.Prelude.{ℕ, ℤ, ◌≤ℤ◌, pos, Result, Ok, Err, IfOk}
+use Rattle.std.specs.Prelude.{ℕ, ℤ, ◌≤ℤ◌, ◌+ℤ◌, ◌-ℤ◌, pos, Result, Ok, Err, IfOk}
 use Rattle.exact_math.specs.Interval.{Interval}
 use Rattle.book_model.specs.declared.fail.Fail.{Fail}
 use Rattle.book_model.specs.declared.site.Site.{Site}
@@ -22,6 +22,14 @@ is_start w site d (Ok q) h f =
     let v = decides w site integers (leaf w (last_solstice_of d)) (λ z. z) q (leads_value f) in
     rw v.leads_to at (solstice_start_near w d v.cell_there (leaf w (last_solstice_of d)) (leads_leaf h) v.decided_so)
 is_start w site d (Err z) h f = tt
+
+pub begun : (d : ℤ) (r : Result ℤ Fail) → IfOk r (λ q. IsStart d q) → IfOk r (λ q. (d -ℤ pos 600) ≤ℤ q)
+begun d (Ok q) h = h.from
+begun d (Err z) h = tt
+
+pub ended : (d : ℤ) (r : Result ℤ Fail) → IfOk r (λ q. IsStart d q) → IfOk r (λ q. q ≤ℤ (d +ℤ pos 2))
+ended d (Ok q) h = h.to
+ended d (Err z) h = tt
 
 -- the spans of 30 degrees that the sun has passed are at most twelve
 pub is_term : {E : Type 0} {shown : E → Interval} (w : World) (site : Site) (d : ℤ) {a b e : ℕ} {y : E} (r : Result ℤ Fail) →

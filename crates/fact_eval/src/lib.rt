@@ -7,8 +7,10 @@ mod midnight;
 mod moon_days;
 mod nowruz;
 mod solstice;
+mod spring;
 mod staged;
 mod sun;
+mod sunsets;
 #[cfg(test)]
 mod tests;
 

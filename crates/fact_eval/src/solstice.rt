@@ -48,6 +48,8 @@ fn has_winter<E: Enclosure>(day: i64, trail: &mut Trail) -> Result<bool, Fail>
 impl<E: Enclosure> DayTest<E> for WinterAtEnd {
     ghost test_of = { λ s d. has_winter_at_end d };
 
+    ghost most = { 3 };
+
     fn holds(&self, day: i64, trail: &mut Trail) -> Result<bool, Fail> {
         has_winter::<E>(day, trail)
     }
@@ -88,7 +90,7 @@ pub(crate) fn solstice<E: Enclosure>(day: i64, trail: &mut Trail) -> Result<i64,
     ensures few { AtMost 99999 (solstice_of day) }
     ensures leads { (w : World) → DEPTH ≤ w.depth → Leads w Exact (solstice_of day) trail.old.count trail.new.count result }
     ensures value { IfOk result IsFactValue }
-    ensures counted { trail.new.count ≤ trail.old.count + 5000 }
+    ensures counted { trail.new.count ≤ trail.old.count + 145 }
     ensures open { IfErr result (IsNearFor Solstice (year_of_day day)) }
 {
     match search_start::<E>(day, trail) {

@@ -17,6 +17,7 @@ use crate::moon_days::{new_moon_before, new_moon_from};
 use crate::nowruz::nowruz;
 use crate::solstice::solstice;
 use crate::sun::sun_in_thousandths;
+use crate::sunsets::{bahai_year, sunset_in_minutes};
 use book_model::{FIRST_DAY, Fact, Fail, Kind, LAST_DAY, Place, Site};
 use encl_core::{Coarse, Enclosure, Trail};
 use oracle_core::{Answer, Evaluator};
@@ -34,15 +35,10 @@ impl Staged {
 
 /// The value that the formula of a kind of fact gives at a place on a day (R.D.): one line for each kind.
 #[tactic(auto, unfolding(book_model::specs::Facts::formula_of))]
-fn formula<E: Enclosure>(
-    kind: Kind,
-    _place: Place,
-    day: i64,
-    trail: &mut Trail,
-) -> Result<i64, Fail>
+fn formula<E: Enclosure>(kind: Kind, place: Place, day: i64, trail: &mut Trail) -> Result<i64, Fail>
     requires day { IsValueDay day }
-    ensures few { AtMost 99999 (formula_of kind _place day) }
-    ensures leads { (w : World) → DEPTH ≤ w.depth → Leads w Exact (formula_of kind _place day) trail.old.count trail.new.count result }
+    ensures few { AtMost 99999 (formula_of kind place day) }
+    ensures leads { (w : World) → DEPTH ≤ w.depth → Leads w Exact (formula_of kind place day) trail.old.count trail.new.count result }
     ensures value { IfOk result IsFactValue }
     ensures open { 36 ≤ E.BITS → E.BITS ≤ 56 → IfErr result (IsNearFor kind (year_of_day day)) }
 {
@@ -50,10 +46,12 @@ fn formula<E: Enclosure>(
         Kind::Dt => dt::<E>(day, trail),
         Kind::Sun => sun_in_thousandths::<E>(day, trail),
         Kind::Nowruz => nowruz::<E>(day, trail),
+        Kind::BahaiYear => bahai_year::<E>(day, trail),
         Kind::Solstice => solstice::<E>(day, trail),
         Kind::NewMoonBefore => new_moon_before::<E>(day, trail),
         Kind::NewMoonFrom => new_moon_from::<E>(day, trail),
         Kind::Major => major::<E>(day, trail),
+        Kind::Sunset => sunset_in_minutes::<E>(place, day, trail),
     }
 }
 

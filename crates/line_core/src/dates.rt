@@ -90,6 +90,7 @@ pub(crate) fn named_day<O: Oracle>(
         Calendar::Gregorian => Ok(day_of_gregorian(date)),
         Calendar::Fixed => Ok(fixed_day(date)),
         Calendar::Persian => persian_cal::named_day(oracle, date),
+        Calendar::Bahai => bahai_cal::named_day(oracle, date),
         Calendar::Chinese => chinese_cal::named_day(oracle, date),
     }
 }
@@ -108,6 +109,7 @@ pub(crate) fn date_on<O: Oracle>(
         Calendar::Gregorian => Ok(gregorian_date(day)),
         Calendar::Fixed => Ok(one_field(day)),
         Calendar::Persian => persian_cal::date_on(oracle, day),
+        Calendar::Bahai => bahai_cal::date_on(oracle, day),
         Calendar::Chinese => chinese_cal::date_on(oracle, day),
     }
 }

@@ -1,0 +1,178 @@
+-- From enclosures of points to those of what two ends have in common with the pieces.
+use Rattle.std.proofs.Common.{◌≡◌, ℕ, zero, suc, ◌≤◌, ◌-◌, ◌^◌, refl, arith, Bool, true, false, cond, ℤ, pos, negsuc, ◌+ℤ◌, ◌≤ℤ◌, ◌<ℤ◌, ◌⊎◌, inl, inr, Option, Some, None}
+use Rattle.std.specs.Int.{int_min, int_max}
+use Rattle.std.proofs.lemmas.Int.{ints, clamps}
+use Rattle.exact_math.specs.Fraction.{Fraction, ◌≤F◌, whole, smaller, larger}
+use Rattle.exact_math.specs.Interval.{Interval, between, IsProper, ◌⊆◌, hull}
+use Rattle.exact_math.proofs.Fractions.{le_refl, le_trans, smaller_keeps, larger_keeps, smaller_first, smaller_second, larger_first, larger_second}
+use Rattle.exact_math.proofs.Intervals.{within_trans, within_refl, hull_within}
+use Rattle.exact_math.proofs.Hulls.{hull_holds_first, hull_holds_second}
+use Rattle.book_model.specs.Expressions.{Expression, World, value, argument, hull as hull_of}
+use Rattle.book_model.specs.Relations.{Within, Lies}
+use Rattle.book_model.specs.Leading.{at_56}
+use Rattle.book_model.specs.Octants.{only}
+use Rattle.book_model.specs.Arcs.{half, minus_half, arc_at, begin_of, end_of, arc_over, join, found, arctangent_of}
+use Rattle.book_model.proofs.ArcPieces.{InPiece, IsFrom, IsTo}
+use Rattle.book_model.proofs.Arcs.{met_out, low_in, high_in, low_of, high_of, over_all, all_there, IsThere}
+use Rattle.arc_series.specs.declared.pieces.Piece.{Piece}
+use Rattle.arc_series.specs.declared.pieces.Piece.TheVariants.{FarBelow, Below, Near, Above, FarAbove}
+use Rattle.arc_series.specs.Forms.{piece_of, arc_in, AreHeld, begin_56, end_56}
+use Rattle.arc_series.proofs.ArcValues.{arc_value}
+
+-- ---- enclosures of one and of two
+abbrev point_world : ℕ → Fraction → World
+point_world n x = record { depth = n; arguments = λ k. only x; proper = λ k. le_refl x }
+
+pub arc_held : {E : Type 0} (shown : E → Interval) (n : ℕ) (p : Piece) (x : Fraction) (e r : E) → 40 ≤ n → InPiece (piece_of p) x → only x ⊆ shown e
+    → ((w : World) (a : Expression) → 40 ≤ w.depth → Within shown w a e → Within shown w (arc_in p a) r) → arc_at n (piece_of p) x ⊆ shown r
+unfolding Lies value
+arc_held shown n p x e r d i h f =
+    let k = f (point_world n x) (argument 0) d (record { deep = d; inside = h }) in
+    let l : value (point_world n x) (arc_in p (argument 0)) ⊆ shown r = k.inside in
+    within_trans (arc_value (point_world n x) p (argument 0) x d i (within_refl (only x))) l
+
+abbrev two : Interval → Interval → ℕ → Interval
+two i j zero = i
+two i j (suc k) = j
+
+two_proper : (i j : Interval) (k : ℕ) → IsProper i → IsProper j → IsProper (two i j k)
+two_proper i j zero p q = p
+two_proper i j (suc k) p q = q
+
+abbrev pair_world : (i j : Interval) → IsProper i → IsProper j → World
+pair_world i j p q = record { depth = 40; arguments = two i j; proper = λ k. two_proper i j k p q }
+
+pub hull_held : {E : Type 0} (shown : E → Interval) (i j : Interval) (x y r : E) → IsProper (shown x) → IsProper (shown y) → i ⊆ shown x → j ⊆ shown y
+    → ((w : World) (a b : Expression) → Within shown w a x → Within shown w b y → Within shown w (hull_of a b) r) → hull i j ⊆ shown r
+unfolding Lies value
+hull_held shown i j x y r p q h k f =
+    let l = f (pair_world (shown x) (shown y) p q) (argument 0) (argument 1) (record { deep = omega arith; inside = within_refl (shown x) }) (record { deep = omega arith; inside = within_refl (shown y) }) in
+    let m : hull (shown x) (shown y) ⊆ shown r = l.inside in
+    within_trans (hull_within h k) m
+
+-- ---- the ends of parts
+split : (j k : ℤ) → (j ≤ℤ k) ⊎ ((k +ℤ pos 1) ≤ℤ j)
+split j k = grind (arith, ints)
+
+-- where f is b at scale 2^-56
+larger_at : (f : Fraction) (b x : ℤ) → f ≤F at_56 b → at_56 b ≤F f → only (larger f (at_56 x)) ⊆ only (at_56 (int_max b x))
+larger_at f b x h k = record {
+  ends = (
+    by_split (split x b),
+    larger_keeps (λ z. z ≤F at_56 (int_max b x)) f (at_56 x) (le_trans _ (at_56 b) _ h (record { cross = omega (arith, ints, clamps) })) (record { cross = omega (arith, ints, clamps) }),
+  );
+}
+  where
+    by_split : (x ≤ℤ b) ⊎ ((b +ℤ pos 1) ≤ℤ x) → at_56 (int_max b x) ≤F larger f (at_56 x)
+    by_split (inl l) = le_trans _ (at_56 b) _ (record { cross = omega (arith, ints, clamps, l) }) (le_trans _ f _ k (larger_first f (at_56 x)))
+    by_split (inr l) = le_trans _ (at_56 x) _ (record { cross = omega (arith, ints, clamps, l) }) (larger_second f (at_56 x))
+
+smaller_at : (f : Fraction) (b x : ℤ) → f ≤F at_56 b → at_56 b ≤F f → only (smaller f (at_56 x)) ⊆ only (at_56 (int_min b x))
+smaller_at f b x h k = record {
+  ends = (
+    smaller_keeps (λ z. at_56 (int_min b x) ≤F z) f (at_56 x) (le_trans _ (at_56 b) _ (record { cross = omega (arith, ints, clamps) }) k) (record { cross = omega (arith, ints, clamps) }),
+    by_split (split b x),
+  );
+}
+  where
+    by_split : (b ≤ℤ x) ⊎ ((x +ℤ pos 1) ≤ℤ b) → smaller f (at_56 x) ≤F at_56 (int_min b x)
+    by_split (inl l) = le_trans _ f _ (smaller_first f (at_56 x)) (le_trans _ (at_56 b) _ h (record { cross = omega (arith, ints, clamps, l) }))
+    by_split (inr l) = le_trans _ (at_56 x) _ (smaller_second f (at_56 x)) (record { cross = omega (arith, ints, clamps, l) })
+
+low_only : (p : Piece) (x : ℤ) → negsuc (2 ^ 127 - 1) ≤ℤ x → only (low_of (piece_of p) (at_56 x)) ⊆ only (at_56 (int_max (begin_56 p) x))
+low_only FarBelow x h = record { ends = (record { cross = omega (arith, ints, clamps, h) }, record { cross = omega (arith, ints, clamps, h) }) }
+low_only Below x h = larger_at (whole (negsuc 2)) (begin_56 Below) x (record { cross = omega (arith, ints) }) (record { cross = omega (arith, ints) })
+low_only Near x h = larger_at minus_half (begin_56 Near) x (record { cross = omega (arith, ints) }) (record { cross = omega (arith, ints) })
+low_only Above x h = larger_at half (begin_56 Above) x (record { cross = omega (arith, ints) }) (record { cross = omega (arith, ints) })
+low_only FarAbove x h = larger_at (whole (pos 3)) (begin_56 FarAbove) x (record { cross = omega (arith, ints) }) (record { cross = omega (arith, ints) })
+
+high_only : (p : Piece) (x : ℤ) → x ≤ℤ pos (2 ^ 127 - 1) → only (high_of (piece_of p) (at_56 x)) ⊆ only (at_56 (int_min (end_56 p) x))
+high_only FarBelow x h = smaller_at (whole (negsuc 2)) (end_56 FarBelow) x (record { cross = omega (arith, ints) }) (record { cross = omega (arith, ints) })
+high_only Below x h = smaller_at minus_half (end_56 Below) x (record { cross = omega (arith, ints) }) (record { cross = omega (arith, ints) })
+high_only Near x h = smaller_at half (end_56 Near) x (record { cross = omega (arith, ints) }) (record { cross = omega (arith, ints) })
+high_only Above x h = smaller_at (whole (pos 3)) (end_56 Above) x (record { cross = omega (arith, ints) }) (record { cross = omega (arith, ints) })
+high_only FarAbove x h = record { ends = (record { cross = omega (arith, ints, clamps, h) }, record { cross = omega (arith, ints, clamps, h) }) }
+
+begun_says : (p : Piece) (x : ℤ) → negsuc (2 ^ 127 - 1) ≤ℤ x → IsFrom (begin_of (piece_of p)) (at_56 x) → begin_56 p ≤ℤ x
+begun_says FarBelow x h f = h
+begun_says Below x h f = omega (arith, ints, f.cross)
+begun_says Near x h f = omega (arith, ints, f.cross)
+begun_says Above x h f = omega (arith, ints, f.cross)
+begun_says FarAbove x h f = omega (arith, ints, f.cross)
+
+ended_says : (p : Piece) (x : ℤ) → x ≤ℤ pos (2 ^ 127 - 1) → IsTo (end_of (piece_of p)) (at_56 x) → x ≤ℤ end_56 p
+ended_says FarBelow x h f = omega (arith, ints, f.cross)
+ended_says Below x h f = omega (arith, ints, f.cross)
+ended_says Near x h f = omega (arith, ints, f.cross)
+ended_says Above x h f = omega (arith, ints, f.cross)
+ended_says FarAbove x h f = h
+
+-- ---- the part in a piece
+none_by : {E : Type 0} (shown : E → Interval) (s : Bool) (i : Interval) (y : Option E) → (s ≡ true → ⊥) → AreHeld shown (cond s (Some i) None) y
+none_by shown true i y h = absurd (h refl)
+none_by shown false i y h = tt
+
+some_by : {E : Type 0} (shown : E → Interval) (s : Bool) (i : Interval) (r : E) → (s ≡ true → i ⊆ shown r) → AreHeld shown (cond s (Some i) None) (Some r)
+some_by shown true i r h = h refl
+some_by shown false i r h = tt
+
+pub unbegun_held : {E : Type 0} (shown : E → Interval) (n : ℕ) (p : Piece) (lo hi : ℤ) (y : Option E) → negsuc (2 ^ 127 - 1) ≤ℤ hi → hi <ℤ begin_56 p → AreHeld shown (arc_over n (at_56 lo) (at_56 hi) (piece_of p)) y
+unfolding arc_over
+unbegun_held shown n p lo hi y h k = none_by shown _ _ y λ t. let m = met_out (piece_of p) (at_56 lo) (at_56 hi) t in let l = begun_says p hi h m.begun in omega (arith, ints, l, k)
+
+pub ended_held : {E : Type 0} (shown : E → Interval) (n : ℕ) (p : Piece) (lo hi : ℤ) (y : Option E) → lo ≤ℤ pos (2 ^ 127 - 1) → end_56 p <ℤ lo → AreHeld shown (arc_over n (at_56 lo) (at_56 hi) (piece_of p)) y
+unfolding arc_over
+ended_held shown n p lo hi y h k = none_by shown _ _ y λ t. let m = met_out (piece_of p) (at_56 lo) (at_56 hi) t in let l = ended_says p lo h m.ended in omega (arith, ints, l, k)
+
+pub over_held : {E : Type 0} (shown : E → Interval) (proper : (e : E) → IsProper (shown e)) (n : ℕ) (p : Piece) (lo hi : ℤ) (x y low high r : E) → 40 ≤ n → negsuc (2 ^ 127 - 1) ≤ℤ lo → hi ≤ℤ pos (2 ^ 127 - 1)
+    → only (at_56 (int_max (begin_56 p) lo)) ⊆ shown x → only (at_56 (int_min (end_56 p) hi)) ⊆ shown y
+    → ((w : World) (a : Expression) → 40 ≤ w.depth → Within shown w a x → Within shown w (arc_in p a) low)
+    → ((w : World) (a : Expression) → 40 ≤ w.depth → Within shown w a y → Within shown w (arc_in p a) high)
+    → ((w : World) (a b : Expression) → Within shown w a low → Within shown w b high → Within shown w (hull_of a b) r)
+    → AreHeld shown (arc_over n (at_56 lo) (at_56 hi) (piece_of p)) (Some r)
+unfolding arc_over
+over_held shown proper n p lo hi x y low high r d hl hh hx hy fx fy fh =
+    some_by shown _ _ r λ t.
+    let m = met_out (piece_of p) (at_56 lo) (at_56 hi) t in
+    hull_held shown _ _ low high r (proper low) (proper high)
+    (arc_held shown n p (low_of (piece_of p) (at_56 lo)) x low d (low_in (piece_of p) (at_56 lo) (at_56 hi) m) (within_trans (low_only p lo hl) hx) fx)
+    (arc_held shown n p (high_of (piece_of p) (at_56 hi)) y high d (high_in (piece_of p) (at_56 lo) (at_56 hi) m) (within_trans (high_only p hi hh) hy) fy)
+    fh
+
+-- ---- what there is of two
+hull_first : {E : Type 0} (shown : E → Interval) (i : Interval) (x y r : E) → IsProper (shown x) → IsProper (shown y) → i ⊆ shown x
+    → ((w : World) (a b : Expression) → Within shown w a x → Within shown w b y → Within shown w (hull_of a b) r) → i ⊆ shown r
+hull_first shown i x y r p q h f = within_trans (within_trans h (hull_holds_first (shown x) (shown y))) (hull_held shown (shown x) (shown y) x y r p q (within_refl _) (within_refl _) f)
+
+hull_second : {E : Type 0} (shown : E → Interval) (i : Interval) (x y r : E) → IsProper (shown x) → IsProper (shown y) → i ⊆ shown y
+    → ((w : World) (a b : Expression) → Within shown w a x → Within shown w b y → Within shown w (hull_of a b) r) → i ⊆ shown r
+hull_second shown i x y r p q h f = within_trans (within_trans h (hull_holds_second (shown x) (shown y))) (hull_held shown (shown x) (shown y) x y r p q (within_refl _) (within_refl _) f)
+
+pub join_both : {E : Type 0} (shown : E → Interval) (proper : (e : E) → IsProper (shown e)) (i j : Option Interval) (x y r : E) → AreHeld shown i (Some x) → AreHeld shown j (Some y)
+    → ((w : World) (a b : Expression) → Within shown w a x → Within shown w b y → Within shown w (hull_of a b) r) → AreHeld shown (join i j) (Some r)
+unfolding join
+join_both shown proper None None x y r h k f = tt
+join_both shown proper None (Some j) x y r h k f = hull_second shown j x y r (proper x) (proper y) k f
+join_both shown proper (Some i) None x y r h k f = hull_first shown i x y r (proper x) (proper y) h f
+join_both shown proper (Some i) (Some j) x y r h k f = hull_held shown i j x y r (proper x) (proper y) h k f
+
+pub join_first : {E : Type 0} (shown : E → Interval) (i j : Option Interval) (x : E) → AreHeld shown i (Some x) → AreHeld shown j None → AreHeld shown (join i j) (Some x)
+unfolding join
+join_first shown None None x h k = tt
+join_first shown None (Some j) x h k = absurd k
+join_first shown (Some i) None x h k = h
+join_first shown (Some i) (Some j) x h k = absurd k
+
+pub join_second : {E : Type 0} (shown : E → Interval) (i j : Option Interval) (y : Option E) → AreHeld shown i None → AreHeld shown j y → AreHeld shown (join i j) y
+unfolding join
+join_second shown None j y h k = k
+join_second shown (Some i) j y h k = absurd h
+
+-- ---- all pieces
+found_held : {E : Type 0} (shown : E → Interval) (x : Option Interval) (e : E) → IsThere x → AreHeld shown x (Some e) → found x ⊆ shown e
+found_held shown None e t h = absurd t
+found_held shown (Some i) e t h = h
+
+pub all_held : {E : Type 0} (shown : E → Interval) (n : ℕ) (lo hi : ℤ) (e : E) → lo ≤ℤ hi → AreHeld shown (over_all n (at_56 lo) (at_56 hi)) (Some e) → arctangent_of n (between (at_56 lo) (at_56 hi)) ⊆ shown e
+unfolding arctangent_of
+all_held shown n lo hi e o h = found_held shown (over_all n (at_56 lo) (at_56 hi)) e (all_there n (at_56 lo) (at_56 hi) (record { cross = omega (arith, ints, o) })) h

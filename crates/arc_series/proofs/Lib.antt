@@ -1,0 +1,4 @@
+pub mod FormLemmas
+pub mod ArcValues
+pub mod HeldArcs
+pub mod ArcLemmas

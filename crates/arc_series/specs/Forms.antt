@@ -1,0 +1,73 @@
+-- The forms in which arctangents are computed, as expressions.
+use Rattle.std.specs.Prelude.{ℕ, zero, suc, ◌+◌, ◌-◌, ◌*◌, ◌^◌, ℤ, pos, negsuc, neg_ℤ, Option, Some, None, Bool, false, ◌||◌}
+use Rattle.exact_math.specs.Interval.{Interval, everything, between, ◌⊆◌}
+use lib.Signed.{lt_z}
+use Rattle.book_model.specs.Arcs.{Piece as ArcPiece, far_below, below, near, above, far_above}
+use Rattle.arc_series.specs.declared.pieces.Piece.{Piece}
+use Rattle.arc_series.specs.declared.pieces.Piece.TheVariants.{FarBelow, Below, Near, Above, FarAbove}
+use Rattle.book_model.specs.declared.tables.TheConstants.{FINEST_PART}
+use Rattle.book_model.specs.Fractions.{fraction_of}
+use Rattle.book_model.specs.Expressions.{Expression, integer, add, subtract, multiply, divide, negate, power, clamp, root, widen, pi}
+
+-- 1 / odd - u (1 / (odd + 2) - u (..)), to the term after m more
+unfoldable pub horner : Expression → ℕ → ℕ → Expression
+horner u odd zero = divide (integer (pos 1)) (integer (pos odd))
+horner u odd (suc m) = subtract (divide (integer (pos 1)) (integer (pos odd))) (multiply u (horner u (odd + 2) m))
+
+-- the arctangent in degrees from -1/2 to 1/2
+unfoldable pub near_of : Expression → Expression
+near_of a = multiply (widen (fraction_of FINEST_PART) (multiply a (horner (power a 2) 1 25))) (divide (integer (pos 180)) pi)
+
+-- from 1/2 to 3
+unfoldable pub above_of : Expression → Expression
+above_of a = add (integer (pos 45)) (near_of (divide (subtract a (integer (pos 1))) (add a (integer (pos 1)))))
+
+-- from 3 on
+unfoldable pub beyond_of : Expression → Expression
+beyond_of a = subtract (integer (pos 90)) (near_of (divide (integer (pos 1)) a))
+
+-- a piece of the line, as the code names it
+abbrev pub piece_of : Piece → ArcPiece
+piece_of FarBelow = far_below
+piece_of Below = below
+piece_of Near = near
+piece_of Above = above
+piece_of FarAbove = far_above
+
+-- the arctangent of a number in a piece
+unfoldable pub arc_in : Piece → Expression → Expression
+arc_in FarBelow a = negate (beyond_of (negate a))
+arc_in Below a = negate (above_of (negate a))
+arc_in Near a = near_of a
+arc_in Above a = above_of a
+arc_in FarAbove a = beyond_of a
+
+-- what there is of an enclosure holds what there is of an interval
+abbrev pub AreHeld : {E : Type 0} → (E → Interval) → Option Interval → Option E → Type 0
+AreHeld shown None y = Unit {0}
+AreHeld shown (Some i) None = ⊥
+AreHeld shown (Some i) (Some e) = i ⊆ shown e
+
+-- the ends of a piece at scale 2^-56; where it doesn't begin or end, the least and the greatest number of 128 bits
+abbrev pub begin_56 : Piece → ℤ
+begin_56 FarBelow = negsuc (2 ^ 127 - 1)
+begin_56 Below = neg_ℤ (pos (3 * 2 ^ 56))
+begin_56 Near = neg_ℤ (pos (2 ^ 55))
+begin_56 Above = pos (2 ^ 55)
+begin_56 FarAbove = pos (3 * 2 ^ 56)
+
+abbrev pub end_56 : Piece → ℤ
+end_56 FarBelow = neg_ℤ (pos (3 * 2 ^ 56))
+end_56 Below = neg_ℤ (pos (2 ^ 55))
+end_56 Near = pos (2 ^ 55)
+end_56 Above = pos (3 * 2 ^ 56)
+end_56 FarAbove = pos (2 ^ 127 - 1)
+
+-- the tangent of half the arcsine: x / (1 + root (1 - x^2)), of what is cut to -1..1
+unfoldable pub half_tangent_of : Expression → Expression
+half_tangent_of a = divide (clamp a) (add (integer (pos 1)) (root (subtract (integer (pos 1)) (power (clamp a) 2))))
+
+-- all members are positive, or all negative
+abbrev pub has_sign : Interval → Bool
+has_sign everything = false
+has_sign (between a b) = lt_z (pos 0) a.num || lt_z b.num (pos 0)

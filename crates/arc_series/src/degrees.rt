@@ -1,0 +1,113 @@
+//! Arctangents, arcsines and arccosines of enclosures, in degrees.
+ghost use Rattle.std.specs.Prelude.{◌≡◌, ◌≤◌, IsTrue, false, neg_ℤ};
+ghost use Rattle.std.specs.Int.{int_min, int_max};
+ghost use Rattle.arc_series.specs.declared.degrees.TheConstants.{HALF_TURN};
+ghost use Rattle.exact_math.specs.Interval.{Interval, everything, ◌⊆◌};
+ghost use Rattle.book_model.specs.Arcs.{all_around};
+ghost use Rattle.book_model.specs.Bounds.{Reach, limits_of, is_scale};
+ghost use Rattle.book_model.specs.Expressions.{Expression, World, arctangent, arcsine, arccosine, arctangent_of_two};
+ghost use Rattle.book_model.specs.Relations.{Within, Narrow};
+ghost use Rattle.book_model.specs.Depth.{DEPTH};
+ghost use Rattle.arc_series.specs.Forms.{half_tangent_of, has_sign};
+
+use crate::pieces::arctan_over;
+use encl_core::{Enclosure, Span};
+
+/// 180 degrees, which count 2⁻⁵⁶.
+const HALF_TURN: i128 = 12_970_366_926_827_028_480;
+
+/// The arctangent in degrees.
+///
+/// It is taken over the closed pieces of the line that the enclosure meets, by the series of a number from -1/2 to 1/2 at
+/// both ends of each part. Source: Reingold and Dershowitz, Calendrical Calculations, chapter 14.
+pub fn arctan_deg<E: Enclosure>(x: E) -> E
+    ensures holds { (w : World) (a : Expression) → Within E.shown w a x → Within E.shown w (arctangent a) result }
+    ensures narrow { (r : Reach) (a : Expression) → Narrow E.shown (limits_of E.BITS) r a x → Narrow E.shown (limits_of E.BITS) r (arctangent a) result }
+{
+    match x.span() {
+        Some(span) => arctan_over(span),
+        None => E::whole(),
+    }
+}
+
+/// The tangent of half the arcsine of what is cut to -1..1.
+#[tactic(auto, unfolding(crate::specs::Forms::half_tangent_of))]
+fn half_tangent<E: Enclosure>(x: E) -> E
+    ensures holds { (w : World) (a : Expression) → DEPTH ≤ w.depth → Within E.shown w a x → Within E.shown w (half_tangent_of a) result }
+{
+    let sine = x.clamp_unit();
+    let one = E::from_int(1);
+    let cosine = one.sub(sine.square()).root();
+    sine.div(one.add(cosine))
+}
+
+/// The arcsine in degrees, of what is cut to -1..1 first: twice the arctangent of x / (1 + √(1 - x²)). Source: Reingold and
+/// Dershowitz, Calendrical Calculations, chapter 14.
+pub fn arcsin_deg<E: Enclosure>(x: E) -> E
+    ensures holds { (w : World) (a : Expression) → Within E.shown w a x → Within E.shown w (arcsine a) result }
+    ensures narrow { (r : Reach) (a : Expression) → Narrow E.shown (limits_of E.BITS) r a x → Narrow E.shown (limits_of E.BITS) r (arcsine a) result }
+{
+    arctan_deg(half_tangent(x)).times(2)
+}
+
+/// The arccosine in degrees: 90 less the arcsine. Source: Reingold and Dershowitz, Calendrical Calculations, chapter 14.
+pub fn arccos_deg<E: Enclosure>(x: E) -> E
+    ensures holds { (w : World) (a : Expression) → Within E.shown w a x → Within E.shown w (arccosine a) result }
+    ensures narrow { (r : Reach) (a : Expression) → Narrow E.shown (limits_of E.BITS) r a x → Narrow E.shown (limits_of E.BITS) r (arccosine a) result }
+{
+    E::from_int(90).sub(arcsin_deg(x))
+}
+
+/// From -180 to 180 degrees.
+fn around<E: Enclosure>() -> E
+    ensures holds { all_around ⊆ E.shown result }
+    ensures inside { IsTrue (is_scale E.BITS) → E.shown result ⊆ all_around }
+{
+    E::from_span(Span {
+        lo: -HALF_TURN,
+        hi: HALF_TURN,
+    })
+}
+
+/// An end, moved into -180..180 degrees.
+fn end_around(end: i128) -> i128
+    ensures value { result ≡ int_max (int_min end HALF_TURN) (neg_ℤ HALF_TURN) }
+{
+    end.min(HALF_TURN).max(-HALF_TURN)
+}
+
+/// What an enclosure has of -180..180 degrees, by ends that are moved there; all of it, where nothing is known.
+fn kept_around<E: Enclosure>(x: E) -> E
+    ensures holds { (i : Interval) → i ⊆ E.shown x → i ⊆ all_around → i ⊆ E.shown result }
+    ensures all { everything ⊆ E.shown x → all_around ⊆ E.shown result }
+    ensures inside { IsTrue (is_scale E.BITS) → E.shown result ⊆ all_around }
+{
+    match x.span() {
+        Some(span) => E::from_span(Span {
+            lo: end_around(span.lo),
+            hi: end_around(span.hi),
+        }),
+        None => around(),
+    }
+}
+
+/// The angle in degrees of the direction that goes y up and x to the right: 90 - arctan (x / y) where y is positive,
+/// -90 - arctan (x / y) where it is negative. It lies in -180..180, and is all of this where y has no sure sign. Source:
+/// Reingold and Dershowitz, Calendrical Calculations, chapter 14.
+pub fn arctan2_deg<E: Enclosure>(y: E, x: E) -> E
+    ensures holds { (w : World) (a b : Expression) → Within E.shown w a y → Within E.shown w b x → Within E.shown w (arctangent_of_two a b) result }
+    ensures narrow { (r : Reach) (a b : Expression) → Narrow E.shown (limits_of E.BITS) r a y → Narrow E.shown (limits_of E.BITS) r b x → Narrow E.shown (limits_of E.BITS) r (arctangent_of_two a b) result }
+    ensures inside { IsTrue (is_scale E.BITS) → E.shown result ⊆ all_around }
+    ensures unsure { has_sign (E.shown y) ≡ false → all_around ⊆ E.shown result }
+{
+    let Some(span) = y.span() else {
+        return around();
+    };
+    if span.lo > 0 {
+        return kept_around(E::from_int(90).sub(arctan_deg(x.div(y))));
+    }
+    if span.hi < 0 {
+        return kept_around(E::from_int(-90).sub(arctan_deg(x.div(y))));
+    }
+    around()
+}

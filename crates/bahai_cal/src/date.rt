@@ -1,0 +1,156 @@
+//! Bahá'í dates, and the facts that they are found by. Days are R.D.
+ghost use Rattle.std.specs.Prelude.{◌≡◌, ◌≤◌, ◌≤ℤ◌, ◌+ℤ◌, ◌-ℤ◌, ◌*ℤ◌, pos, negsuc};
+ghost use Rattle.exact_math.specs.Fraction.{floor_quotient};
+ghost use Rattle.book_model.specs.Bahai as spec;
+ghost use Rattle.book_model.specs.Facts.{IsFactValue};
+ghost use Rattle.book_model.specs.Inquiries.{to_32_bits as to_32_bits_of};
+ghost use Rattle.book_model.specs.Spans.{modulo as modulo_of};
+ghost use Rattle.bahai_cal.specs.Dates.{fields_of_date};
+ghost use Rattle.bahai_cal.specs.Years.{IsNearMonth, IsNearYear};
+ghost use Rattle.oracle_core.specs.Inquiring.{Inquires, map_ok};
+
+use crate::months::{day_from, day_of, month_of, passed_before};
+use crate::years::{next_year_fact, same_year_fact, year_fact_after, year_fact_on, years_before};
+use book_model::Fact;
+use calendar_math::{modulo, quotient, to_8_bits, to_32_bits};
+use oracle_core::{Oracle, Stop};
+
+/// A date of the Bahá'í calendar: the major cycle of 361 years, the cycle of 19 years in it, the year in that, the month, which
+/// is 0 for Ayyám-i-Há, and the day.
+#[derive(Clone, Copy, Debug, PartialEq, Eq)]
+pub struct BahaiDate {
+    pub major: i32,
+    pub cycle: u8,
+    pub year: u8,
+    pub month: u8,
+    pub day: u8,
+}
+
+/// The major cycle, where so many years have passed.
+fn major_of(passed: i64) -> i32
+    requires near { IsNearYear passed }
+    ensures major { result ≡ to_32_bits_of (floor_quotient passed 360 +ℤ pos 1) }
+{
+    to_32_bits(quotient(passed, 361) + 1)
+}
+
+/// The cycle, by the years that have passed of its major cycle.
+fn cycle_of(left: i64) -> u8
+    requires from { pos 0 ≤ℤ left }
+    requires to { left ≤ℤ pos 360 }
+    ensures cycle { pos result ≡ floor_quotient left 18 +ℤ pos 1 }
+{
+    (quotient(left, 19) + 1) as u8
+}
+
+/// The cycle, where so many years have passed.
+fn cycle_after(passed: i64) -> u8
+    requires near { IsNearYear passed }
+    ensures cycle { pos result ≡ floor_quotient (modulo_of passed 360) 18 +ℤ pos 1 }
+{
+    cycle_of(modulo(passed, 361))
+}
+
+/// The year of its cycle, where so many years have passed.
+fn year_after(passed: i64) -> u8
+    requires near { IsNearYear passed }
+    ensures year { pos result ≡ modulo_of passed 18 +ℤ pos 1 }
+{
+    (modulo(passed, 19) + 1) as u8
+}
+
+/// The date, where so many years have passed.
+#[tactic(auto, unfolding(book_model::specs::Bahai::date_in))]
+fn date_in(passed: i64, month: i64, day: i64) -> BahaiDate
+    requires near { IsNearYear passed }
+    ensures date { fields_of_date result ≡ spec.date_in passed month day }
+{
+    BahaiDate {
+        major: major_of(passed),
+        cycle: cycle_after(passed),
+        year: year_after(passed),
+        month: to_8_bits(month),
+        day: to_8_bits(day),
+    }
+}
+
+/// The date of a day by the first day that was asked of it, that of its year and that of the next.
+#[tactic(auto, unfolding(book_model::specs::Bahai::date_by))]
+fn date_by(day: i64, first: i64, base: i64, next: i64) -> BahaiDate
+    requires from { pos 0 ≤ℤ day }
+    requires to { day ≤ℤ pos 1000000 }
+    requires first_value { IsFactValue first }
+    requires base_value { IsFactValue base }
+    requires next_value { IsFactValue next }
+    ensures date { fields_of_date result ≡ spec.date_by day first base next }
+{
+    let month = month_of(day, first, base, next);
+    date_in(years_before(first), month, day_of(day, base, next, month))
+}
+
+/// The date of a day (R.D.): the year that begins nearest to the first day which the oracle has for the day. The last month is
+/// counted back from the first day of the next year, the others from that of the year, and what lies between them is
+/// Ayyám-i-Há. A month or a day that its type doesn't hold stands at the nearest end; the other fields always fit. It stops
+/// where the oracle stops, at one of the three facts that are asked (Reingold and Dershowitz, Calendrical Calculations, chapter
+/// 16).
+#[tactic(auto, using(oracle_core::proofs::Inquiring::asking), unfolding(book_model::specs::Bahai::bahai_on))]
+pub fn from_fixed<O: Oracle>(oracle: &mut O, day: i64) -> Result<BahaiDate, Stop>
+    requires from { pos 0 ≤ℤ day }
+    requires to { day ≤ℤ pos 1000000 }
+    ensures date { Inquires O.meaning (spec.bahai_on day) (O.state oracle.old) (O.state oracle.new) (map_ok fields_of_date result) }
+{
+    let first = oracle.ask(year_fact_on(day))?;
+    let next = oracle.ask(next_year_fact(first))?;
+    let base = oracle.ask(same_year_fact(first))?;
+    Ok(date_by(day, first, base, next))
+}
+
+/// The fact of the first day of the year from which a month is counted.
+fn fact_of_month(number: i64, month: i64) -> Fact
+    requires from { negsuc 41 ≤ℤ number }
+    requires to { number ≤ℤ pos 205 }
+    ensures fact { result ≡ spec.bahai_fact (spec.middle_after (spec.passed_before number month)) }
+{
+    year_fact_after(passed_before(number, month))
+}
+
+/// The years of the major cycles and the cycles before these.
+fn years_of_cycles(major: i64, cycle: i64) -> i64
+    requires major_from { pos 0 ≤ℤ major }
+    requires major_to { major ≤ℤ pos 9 }
+    requires cycle_from { pos 0 ≤ℤ cycle }
+    requires cycle_to { cycle ≤ℤ pos 255 }
+    ensures years { result ≡ pos 361 *ℤ (major -ℤ pos 1) +ℤ pos 19 *ℤ (cycle -ℤ pos 1) }
+    ensures low { negsuc 999 ≤ℤ result }
+    ensures high { result ≤ℤ pos 10000 }
+{
+    361 * (major - 1) + 19 * (cycle - 1)
+}
+
+/// The number of the year of a date.
+fn year_number(date: BahaiDate) -> i64
+    requires major_from { pos 0 ≤ℤ date.major }
+    requires major_to { date.major ≤ℤ pos 9 }
+    ensures number { result ≡ spec.year_number date.major (pos date.cycle) (pos date.year) }
+{
+    years_of_cycles(i64::from(date.major), i64::from(date.cycle)) + i64::from(date.year)
+}
+
+/// The day (R.D.) of a date: that of its month and day, counted from the first day of its year, or, in the last month, back from
+/// that of the next year. The date needn't be one that the calendar has. It stops where the oracle stops, at the one fact that is
+/// asked (Reingold and Dershowitz, Calendrical Calculations, chapter 16).
+#[tactic(auto, using(oracle_core::proofs::Inquiring::asking), unfolding(book_model::specs::Bahai::bahai_day))]
+pub fn to_fixed<O: Oracle>(oracle: &mut O, date: BahaiDate) -> Result<i64, Stop>
+    requires major_from { pos 0 ≤ℤ date.major }
+    requires major_to { date.major ≤ℤ pos 9 }
+    requires year_from { negsuc 41 ≤ℤ spec.year_number date.major (pos date.cycle) (pos date.year) }
+    requires year_to { spec.year_number date.major (pos date.cycle) (pos date.year) ≤ℤ pos 205 }
+    requires to_last_month { date.month ≤ 19 }
+    requires from_first_day { 1 ≤ date.day }
+    requires to_last_day { date.day ≤ 19 }
+    ensures day { Inquires O.meaning (spec.bahai_day date.major (pos date.cycle) (pos date.year) (pos date.month) (pos date.day)) (O.state oracle.old) (O.state oracle.new) result }
+{
+    let number = year_number(date);
+    let first = oracle.ask(fact_of_month(number, i64::from(date.month)))?;
+    Ok(day_from(first, i64::from(date.month), i64::from(date.day)))
+}

@@ -1,0 +1,117 @@
+-- Roots of ends at scale 2^-36, and ends that are cut to -1..1.
+use Rattle.std.proofs.Common.{◌≡◌, ℕ, zero, suc, ◌≤◌, ◌^◌, ◌*◌, arith, ℤ, pos, negsuc, ◌+ℤ◌, ◌*ℤ◌, ◌≤ℤ◌, ◌⊎◌, inl, inr}
+use lib.IntN.{neg_ℤ}
+use Rattle.std.specs.Int.{int_min, int_max}
+use Rattle.std.proofs.Math.Nat.{mul-le-mul_left}
+use Rattle.std.proofs.lemmas.Int.{ints, clamps}
+use Rattle.exact_math.specs.Fraction.{◌≤F◌, times, smaller, larger}
+use Rattle.exact_math.specs.Interval.{Interval, everything, between, ◌⊆◌, clamp, one, minus_one}
+use Rattle.exact_math.proofs.Fractions.{le_trans, smaller_keeps, larger_keeps, smaller_first, smaller_second, larger_first, larger_second}
+use Rattle.exact_math.proofs.Intervals.{within_trans, within_refl, within_everything, clamp_within}
+use Rattle.exact_math.proofs.Narrowing.{at_least}
+use Rattle.book_model.specs.Expressions.{Expression, World, value, root, clamp as clamp_of}
+use Rattle.book_model.specs.Roots.{natural_part, on_grid, root_low, root_high, root_of}
+use Rattle.book_model.specs.Relations.{Within, Lies}
+use Rattle.book_model.proofs.Roots.{roots, low_is, high_is}
+use Rattle.book_model.proofs.Values.{value_proper}
+use Rattle.encl_core.specs.Rounding.{at_36, Keeps64}
+use Rattle.encl_core.proofs.Keeping.{kept_within}
+
+-- ---- squares of whole numbers
+no_greater : (r s : ℕ) → r * r ≤ s * s → r ≤ s
+no_greater r s h = by_split (split r s)
+  where
+    split : (j k : ℕ) → (j ≤ k) ⊎ (suc k ≤ j)
+    split j k = grind arith
+
+    by_split : (r ≤ s) ⊎ (suc s ≤ r) → r ≤ s
+    by_split (inl l) = l
+    by_split (inr l) = let a = mul-le-mul_left r l in let b = mul-le-mul_left (suc s) l in absurd (omega (arith, a, b, h))
+
+natural_mono : (a b : ℤ) → a ≤ℤ b → natural_part a ≤ natural_part b
+natural_mono (pos a) (pos b) h = omega (arith, ints)
+natural_mono (pos zero) (negsuc b) h = omega arith
+natural_mono (pos (suc a)) (negsuc b) h = absurd (omega (arith, ints))
+natural_mono (negsuc a) b h = omega arith
+
+pub roots_order : (a b r s : ℤ) → a ≤ℤ b → pos 0 ≤ℤ r → pos 0 ≤ℤ s → (r *ℤ r) ≤ℤ (pos (natural_part a) *ℤ pos (2 ^ 36)) → (pos (natural_part b) *ℤ pos (2 ^ 36)) ≤ℤ (s *ℤ s) → r ≤ℤ s
+roots_order a b (pos r) (pos s) h p q k l = let m = natural_mono a b h in let n = no_greater r s (omega (arith, ints, k, l, m)) in omega (arith, ints, n)
+roots_order a b (negsuc r) s h p q k l = absurd (omega (arith, ints))
+roots_order a b (pos r) (negsuc s) h p q k l = absurd (omega (arith, ints))
+
+-- ---- the root
+squares_below : (r m : ℕ) → (pos r *ℤ pos r) ≤ℤ (pos m *ℤ pos (2 ^ 36)) → times (on_grid 18 r) (on_grid 18 r) ≤F at_36 (pos m)
+unfolding times
+squares_below r m h = record { cross = omega (arith, ints, h) }
+
+squares_above : (r m : ℕ) → (pos m *ℤ pos (2 ^ 36)) ≤ℤ (pos r *ℤ pos r) → at_36 (pos m) ≤F times (on_grid 18 r) (on_grid 18 r)
+unfolding times
+squares_above r m h = record { cross = omega (arith, ints, h) }
+
+low_holds : (a r : ℤ) → pos 0 ≤ℤ r → (r *ℤ r) ≤ℤ (pos (natural_part a) *ℤ pos (2 ^ 36)) → at_36 r ≤F root_low 18 (at_36 a)
+low_holds a (negsuc r) p h = absurd (omega (arith, ints))
+low_holds a (pos r) p h = (low_is 18 (at_36 a)).greatest r (squares_below r (natural_part a) h)
+
+high_holds : (b s : ℤ) → pos 0 ≤ℤ s → (pos (natural_part b) *ℤ pos (2 ^ 36)) ≤ℤ (s *ℤ s) → root_high 18 (at_36 b) ≤F at_36 s
+high_holds b (negsuc s) p h = absurd (omega (arith, ints))
+high_holds b (pos s) p h = (high_is 18 (at_36 b)).least s (squares_above s (natural_part b) h)
+
+at_18 : (a b r s : ℤ) → pos 0 ≤ℤ r → pos 0 ≤ℤ s → (r *ℤ r) ≤ℤ (pos (natural_part a) *ℤ pos (2 ^ 36)) → (pos (natural_part b) *ℤ pos (2 ^ 36)) ≤ℤ (s *ℤ s) → root_of 18 (between (at_36 a) (at_36 b)) ⊆ between (at_36 r) (at_36 s)
+unfolding root_of
+at_18 a b r s p q h k = record { ends = (low_holds a r p h, high_holds b s q k) }
+
+pub root_holds : (n : ℕ) (a b r s : ℤ) (i : Interval) → 40 ≤ n → a ≤ℤ b → pos 0 ≤ℤ r → pos 0 ≤ℤ s → (r *ℤ r) ≤ℤ (pos (natural_part a) *ℤ pos (2 ^ 36)) → (pos (natural_part b) *ℤ pos (2 ^ 36)) ≤ℤ (s *ℤ s)
+    → Keeps64 r s i → root_of n (between (at_36 a) (at_36 b)) ⊆ i
+root_holds n a b r s i d o p q h k l =
+    within_trans (at_least root_of roots 18 n (omega (arith, d)) (record { cross = omega (arith, ints, o) }) (within_refl (between (at_36 a) (at_36 b))))
+    (within_trans (at_18 a b r s p q h k) (kept_within r s i l))
+
+pub root_all : (n : ℕ) (i : Interval) → i ≡ everything → root_of n i ⊆ everything
+root_all n i e = within_everything _
+
+-- ---- cut to -1..1
+abbrev pub cut_of : ℤ → ℤ
+cut_of a = int_max (int_min a (pos (2 ^ 36))) (neg_ℤ (pos (2 ^ 36)))
+
+cut_low : (a c : ℤ) → c ≡ cut_of a → at_36 c ≤F larger minus_one (smaller (at_36 a) one)
+cut_low a c e = smaller_keeps (λ z. at_36 c ≤F larger minus_one z) (at_36 a) one (by_split (split c (neg_ℤ (pos (2 ^ 36))))) (le_trans _ _ _ below_one (larger_second minus_one one))
+  where
+    split : (j k : ℤ) → (j ≤ℤ k) ⊎ ((k +ℤ pos 1) ≤ℤ j)
+    split j k = grind (arith, ints)
+
+    below_one : at_36 c ≤F one
+    below_one = record { cross = omega (arith, ints, clamps, e) }
+
+    by_split : (c ≤ℤ neg_ℤ (pos (2 ^ 36))) ⊎ ((neg_ℤ (pos (2 ^ 36)) +ℤ pos 1) ≤ℤ c) → at_36 c ≤F larger minus_one (at_36 a)
+    by_split (inl l) = le_trans _ minus_one _ (record { cross = omega (arith, ints, l) }) (larger_first minus_one (at_36 a))
+    by_split (inr l) = le_trans _ (at_36 a) _ (record { cross = omega (arith, ints, clamps, e, l) }) (larger_second minus_one (at_36 a))
+
+cut_high : (a c : ℤ) → c ≡ cut_of a → larger minus_one (smaller (at_36 a) one) ≤F at_36 c
+cut_high a c e = larger_keeps (λ z. z ≤F at_36 c) minus_one (smaller (at_36 a) one) (record { cross = omega (arith, ints, clamps, e) }) (by_split (split (pos (2 ^ 36)) c))
+  where
+    split : (j k : ℤ) → (j ≤ℤ k) ⊎ ((k +ℤ pos 1) ≤ℤ j)
+    split j k = grind (arith, ints)
+
+    by_split : (pos (2 ^ 36) ≤ℤ c) ⊎ ((c +ℤ pos 1) ≤ℤ pos (2 ^ 36)) → smaller (at_36 a) one ≤F at_36 c
+    by_split (inl l) = le_trans _ one _ (smaller_second (at_36 a) one) (record { cross = omega (arith, ints, l) })
+    by_split (inr l) = le_trans _ (at_36 a) _ (smaller_first (at_36 a) one) (record { cross = omega (arith, ints, clamps, e, l) })
+
+pub cut_order : (a b c d : ℤ) → a ≤ℤ b → c ≡ cut_of a → d ≡ cut_of b → c ≤ℤ d
+cut_order a b c d h e f = omega (arith, ints, clamps, h, e, f)
+
+pub cut_holds : (a b c d : ℤ) → c ≡ cut_of a → d ≡ cut_of b → clamp (between (at_36 a) (at_36 b)) ⊆ between (at_36 c) (at_36 d)
+unfolding clamp
+cut_holds a b c d e f = record { ends = (cut_low a c e, cut_high b d f) }
+
+pub cut_all : clamp everything ⊆ between (at_36 (neg_ℤ (pos (2 ^ 36)))) (at_36 (pos (2 ^ 36)))
+unfolding clamp
+cut_all = record { ends = (record { cross = record { le = tt } }, record { cross = record { le = tt } }) }
+
+-- ---- as expressions
+pub within_root : {E : Type 0} (shown : E → Interval) (w : World) (x : Expression) (i k : E) → ((n : ℕ) → 40 ≤ n → root_of n (shown i) ⊆ shown k) → Within shown w x i → Within shown w (root x) k
+unfolding Lies value
+within_root shown w x i k h p = let a : value w x ⊆ shown i = p.inside in record { deep = p.deep; inside = within_trans (roots.within w.depth (value_proper w x) a) (h w.depth p.deep) }
+
+pub within_clamp : {E : Type 0} (shown : E → Interval) (w : World) (x : Expression) (i k : E) → clamp (shown i) ⊆ shown k → Within shown w x i → Within shown w (clamp_of x) k
+unfolding Lies value
+within_clamp shown w x i k h p = let a : value w x ⊆ shown i = p.inside in record { deep = p.deep; inside = within_trans (clamp_within a) h }

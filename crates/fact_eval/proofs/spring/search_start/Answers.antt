@@ -1,0 +1,18 @@
+use Rattle.std.proofs.Common.{arith, SFits, w64}
+use Rattle.std.proofs.lemmas.Int.{to_z-of_z}
+use Rattle.book_model.specs.Facts.{at_depth}
+use Rattle.book_model.proofs.Leads.{leaf_within}
+use Rattle.fact_eval.proofs.NewYears.{is_estimate, begun, ended}
+use Rattle.fact_eval.proofs.spring.search_start.Goals as goal
+
+pub returns-in-Ok-clause-from : goal.returns-in-Ok-clause-from
+returns-in-Ok-clause-from g c =
+    let f : SFits w64 c.args.day = c.ranges.day in
+    let l = simp to_z-of_z at (c.in-Ok.ensures.leads (at_depth 40) (omega arith)) in
+    begun _ (is_estimate (at_depth 40) _ g.M.DayMoment.moment_of c.args.day _ l (c.floor_step.ensures.leads (at_depth 40) _ (leaf_within l)))
+
+pub returns-in-Ok-clause-to : goal.returns-in-Ok-clause-to
+returns-in-Ok-clause-to g c =
+    let f : SFits w64 c.args.day = c.ranges.day in
+    let l = simp to_z-of_z at (c.in-Ok.ensures.leads (at_depth 40) (omega arith)) in
+    ended _ (is_estimate (at_depth 40) _ g.M.DayMoment.moment_of c.args.day _ l (c.floor_step.ensures.leads (at_depth 40) _ (leaf_within l)))

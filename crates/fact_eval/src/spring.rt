@@ -1,0 +1,147 @@
+//! The day by whose moment, as true noon or sunset at a place, the sun has just passed the spring equinox: the first of a year.
+ghost use Rattle.std.specs.Prelude.{◌≡◌, ◌≤◌, ◌+◌, ◌*◌, pos, negsuc, ◌≤ℤ◌, ◌+ℤ◌, ◌-ℤ◌, ℕ, ℤ, Bool, IfOk};
+ghost use Rattle.book_model.specs.Depth.{DEPTH};
+ghost use Rattle.book_model.specs.Expressions.{Expression, World};
+ghost use Rattle.book_model.specs.Facts.{IsFactDay, IsFactValue, IsValueDay};
+ghost use Rattle.book_model.specs.Kinds.{longitude_at_of, is_at_most_two_of, has_spring_at, last_equinox_of, search_start_of, spring_day_of};
+ghost use Rattle.book_model.specs.Leading.{Exact, Leads};
+ghost use Rattle.book_model.specs.Programs.{Program};
+ghost use Rattle.book_model.specs.Relations.{Within};
+
+use book_model::{Fail, Site};
+use encl_core::{DayTest, Enclosure, Trail, first_day, floor_step, less_step};
+use sun_core::{estimate, sun};
+
+/// A moment of each day, as true noon or sunset at a place.
+pub(crate) trait DayMoment<E: Enclosure>: Copy {
+    /// The moment of a day, as a formula.
+    ghost moment_of: { ℤ → Program Expression };
+
+    /// How many tests it makes at most.
+    ghost most: { ℕ };
+
+    /// The moment of a day (R.D.), in universal time. It makes the tests of its formula, and fails where that does.
+    fn at(self, day: i64, trail: &mut Trail) -> Result<E, Fail>
+        requires day { IsFactDay day }
+        ensures leads { (w : World) → DEPTH ≤ w.depth → Leads w (Within E.shown w) (moment_of day) trail.old.count trail.new.count result }
+        ensures counted { trail.new.count ≤ trail.old.count + most };
+}
+
+/// Whether the longitude of the sun at a moment of a day is at most 2 degrees. The search for it begins before the equinox,
+/// where the longitude is near 360.
+#[derive(Drop)]
+struct SpringAt<M> {
+    moment: M,
+}
+
+/// The longitude of the sun at a moment of a day (R.D.).
+#[tactic(auto, using(book_model::proofs::Leads::leading), unfolding(book_model::specs::Kinds::longitude_at_of, book_model::specs::Leading::next_turn))]
+fn longitude_at<E: Enclosure, M: DayMoment<E>>(
+    moment: M,
+    day: i64,
+    trail: &mut Trail,
+) -> Result<E, Fail>
+    requires day { IsFactDay day }
+    ensures leads { (w : World) → DEPTH ≤ w.depth → Leads w (Within E.shown w) (longitude_at_of M.moment_of day) trail.old.count trail.new.count result }
+    ensures counted { trail.new.count ≤ trail.old.count + M.most + 2 }
+{
+    match moment.at(day, trail) {
+        Ok(there) => sun(there, trail),
+        Err(fail) => Err(fail),
+    }
+}
+
+/// Whether a longitude is at most 2 degrees, as one test.
+#[tactic(auto, using(book_model::proofs::Leads::leading), unfolding(book_model::specs::Kinds::is_at_most_two_of, book_model::specs::Leading::next_turn))]
+fn is_at_most_two<E: Enclosure>(longitude: E, trail: &mut Trail) -> Result<bool, Fail>
+    ensures leads { (w : World) (x : Expression) → DEPTH ≤ w.depth → Within E.shown w x longitude → Leads w Exact (is_at_most_two_of x) trail.old.count trail.new.count result }
+    ensures counted { trail.new.count ≤ trail.old.count + 1 }
+{
+    match less_step(E::from_int(2), longitude, Site::DayTest, trail) {
+        Ok(is_more) => Ok(!is_more),
+        Err(fail) => Err(fail),
+    }
+}
+
+/// The test of a day (R.D.).
+#[tactic(auto, using(book_model::proofs::Leads::leading), unfolding(book_model::specs::Kinds::has_spring_at, book_model::specs::Leading::next_turn))]
+fn has_spring<E: Enclosure, M: DayMoment<E>>(
+    moment: M,
+    day: i64,
+    trail: &mut Trail,
+) -> Result<bool, Fail>
+    requires day { IsFactDay day }
+    ensures leads { (w : World) → DEPTH ≤ w.depth → Leads w Exact (has_spring_at M.moment_of day) trail.old.count trail.new.count result }
+    ensures counted { trail.new.count ≤ trail.old.count + M.most + 3 }
+{
+    match longitude_at::<E, M>(moment, day, trail) {
+        Ok(longitude) => is_at_most_two(longitude, trail),
+        Err(fail) => Err(fail),
+    }
+}
+
+impl<E: Enclosure, M: DayMoment<E>> DayTest<E> for SpringAt<M> {
+    ghost test_of = { λ s d. has_spring_at M.moment_of d };
+
+    ghost most = { M.most + 3 };
+
+    fn holds(&self, day: i64, trail: &mut Trail) -> Result<bool, Fail> {
+        has_spring::<E, M>(self.moment, day, trail)
+    }
+}
+
+/// The moment at which, as is estimated, the sun was last at the spring equinox before a moment of a day (R.D.).
+#[tactic(auto, using(book_model::proofs::Leads::leading), unfolding(book_model::specs::Kinds::last_equinox_of, book_model::specs::Leading::next_turn))]
+fn last_equinox<E: Enclosure, M: DayMoment<E>>(
+    moment: M,
+    day: i64,
+    trail: &mut Trail,
+) -> Result<E, Fail>
+    requires day { IsFactDay day }
+    ensures leads { (w : World) → DEPTH ≤ w.depth → Leads w (Within E.shown w) (last_equinox_of M.moment_of day) trail.old.count trail.new.count result }
+    ensures counted { trail.new.count ≤ trail.old.count + M.most + 6 }
+{
+    match moment.at(day, trail) {
+        Ok(there) => estimate(E::from_int(0), there, trail),
+        Err(fail) => Err(fail),
+    }
+}
+
+/// The day (R.D.) of the moment at which the sun was last at the equinox before a moment of a day, as it is estimated.
+#[tactic(auto, using(book_model::proofs::Leads::leading), unfolding(book_model::specs::Kinds::search_start_of, book_model::specs::Leading::next_turn))]
+fn search_start<E: Enclosure, M: DayMoment<E>>(
+    moment: M,
+    day: i64,
+    trail: &mut Trail,
+) -> Result<i64, Fail>
+    requires day { IsValueDay day }
+    ensures leads { (w : World) → DEPTH ≤ w.depth → Leads w Exact (search_start_of M.moment_of day) trail.old.count trail.new.count result }
+    ensures from { IfOk result (λ q. negsuc 183199 ≤ℤ q) }
+    ensures to { IfOk result (λ q. q ≤ℤ pos 748748) }
+    ensures counted { trail.new.count ≤ trail.old.count + M.most + 7 }
+{
+    match last_equinox::<E, M>(moment, day, trail) {
+        Ok(equinox) => floor_step(equinox, Site::StartFloor, trail),
+        Err(fail) => Err(fail),
+    }
+}
+
+/// The day (R.D.) by whose moment the sun has just passed the spring equinox, the last until a day: the first from the day
+/// before the estimated equinox on, of 46, at whose moment the longitude of the sun is at most 2 degrees. It is void at
+/// `search` where there is none.
+#[tactic(auto, using(book_model::proofs::Leads::leading), unfolding(book_model::specs::Kinds::spring_day_of))]
+pub(crate) fn spring_day<E: Enclosure, M: DayMoment<E>>(
+    moment: M,
+    day: i64,
+    trail: &mut Trail,
+) -> Result<i64, Fail>
+    requires day { IsValueDay day }
+    ensures leads { (w : World) → DEPTH ≤ w.depth → Leads w Exact (spring_day_of M.moment_of day) trail.old.count trail.new.count result }
+    ensures value { IfOk result IsFactValue }
+    ensures counted { trail.new.count ≤ trail.old.count + 47 * M.most + 145 }
+{
+    match search_start::<E, M>(moment, day, trail) {
+        Ok(start) => first_day::<E, SpringAt<M>>(&SpringAt { moment }, start - 1, trail),
+        Err(fail) => Err(fail),
+    }
+}

@@ -1,0 +1,112 @@
+//! The first day of a Bahá'í year, and sunset in minutes.
+ghost use Rattle.std.specs.Prelude.{◌≡◌, ◌≤◌, ◌+◌, ℤ, IfOk, IfErr};
+ghost use Rattle.book_model.specs.Calendar.{year_of_day};
+ghost use Rattle.book_model.specs.Correction.{rounded_of};
+ghost use Rattle.book_model.specs.Depth.{DEPTH};
+ghost use Rattle.book_model.specs.Expressions.{Expression, World};
+ghost use Rattle.book_model.specs.Facts.{IsFactValue, IsValueDay};
+ghost use Rattle.book_model.specs.Horizon.{sunset_of};
+ghost use Rattle.book_model.specs.Kinds.{bahai_year_of, location_of as location_at, minutes_of, sunset_in_minutes_of};
+ghost use Rattle.book_model.specs.Leading.{Exact, Leads};
+ghost use Rattle.book_model.specs.Programs.{AtMost};
+ghost use Rattle.book_model.specs.Relations.{Within};
+ghost use Rattle.book_model.specs.declared.fact.Kind.TheVariants.{BahaiYear, Sunset};
+ghost use Rattle.book_model.specs.declared.location_tables.TheConstants.{TEHRAN as tehran};
+ghost use Rattle.fact_eval.specs.Widths.{IsNearFor};
+
+use crate::spring::{DayMoment, spring_day};
+use book_model::{CAIRO, Fail, HALF, HOUR, Location, MINUTES_OF_DAY, Place, Site, TEHRAN, UJJAIN};
+use encl_core::{Enclosure, Trail, floor_step};
+use rise_set::sunset;
+
+/// Sunset on a day at Tehran.
+#[derive(Clone, Copy)]
+struct SunsetAtTehran;
+
+impl<E: Enclosure> DayMoment<E> for SunsetAtTehran {
+    ghost moment_of = { sunset_of tehran };
+
+    ghost most = { 132 };
+
+    fn at(self, day: i64, trail: &mut Trail) -> Result<E, Fail> {
+        sunset::<E>(&TEHRAN, day, trail)
+    }
+}
+
+/// The first day (R.D.) of the Bahá'í year in which a day falls, by sunset at Tehran. It is void at `search` where there is none, and
+/// where a sunset is.
+#[tactic(auto, using(book_model::proofs::Horizons::bahai_year_few, crate::proofs::Rightness::bahai_year_keeps))]
+pub(crate) fn bahai_year<E: Enclosure>(day: i64, trail: &mut Trail) -> Result<i64, Fail>
+    requires day { IsValueDay day }
+    ensures few { AtMost 99999 (bahai_year_of day) }
+    ensures leads { (w : World) → DEPTH ≤ w.depth → Leads w Exact (bahai_year_of day) trail.old.count trail.new.count result }
+    ensures value { IfOk result IsFactValue }
+    ensures counted { trail.new.count ≤ trail.old.count + 6349 }
+    ensures open { IfErr result (IsNearFor BahaiYear (year_of_day day)) }
+{
+    spring_day::<E, SunsetAtTehran>(SunsetAtTehran, day, trail)
+}
+
+/// The location of a place.
+fn location_of(place: Place) -> Location
+    ensures location { result ≡ location_at place }
+{
+    match place {
+        Place::Cairo => CAIRO,
+        Place::Ujjain => UJJAIN,
+        _ => TEHRAN,
+    }
+}
+
+/// A moment of universal time on a day (R.D.) as minutes of the standard time of a location after midnight.
+#[tactic(auto, unfolding(book_model::specs::Kinds::minutes_of))]
+fn minutes<E: Enclosure>(location: &Location, day: i64, t: E) -> E
+    ensures holds { (w : World) (x : Expression) → DEPTH ≤ w.depth → Within E.shown w x t → Within E.shown w (minutes_of location.now day x) result }
+{
+    t.add(E::from_frac(location.zone).mul_frac(HOUR))
+        .sub(E::from_int(day))
+        .mul_frac(MINUTES_OF_DAY)
+}
+
+/// A number rounded, the greater of two: one test.
+#[tactic(auto, using(book_model::proofs::Leads::leading), unfolding(book_model::specs::Correction::rounded_of, book_model::specs::Leading::next_turn))]
+fn rounded<E: Enclosure>(number: E, trail: &mut Trail) -> Result<i64, Fail>
+    ensures leads { (w : World) (x : Expression) → DEPTH ≤ w.depth → Within E.shown w x number → Leads w Exact (rounded_of x) trail.old.count trail.new.count result }
+    ensures counted { trail.new.count ≤ trail.old.count + 1 }
+{
+    floor_step(number.add(E::from_frac(HALF)), Site::Round, trail)
+}
+
+/// Sunset on a day (R.D.) at a location, in minutes of its standard time after midnight, rounded.
+#[tactic(auto, using(book_model::proofs::Leads::leading), unfolding(book_model::specs::Kinds::sunset_in_minutes_of))]
+fn minutes_of_sunset<E: Enclosure>(
+    location: &Location,
+    day: i64,
+    trail: &mut Trail,
+) -> Result<i64, Fail>
+    ensures leads { (w : World) → DEPTH ≤ w.depth → Leads w Exact (sunset_in_minutes_of location.now day) trail.old.count trail.new.count result }
+    ensures counted { trail.new.count ≤ trail.old.count + 133 }
+{
+    match sunset::<E>(location, day, trail) {
+        Ok(t) => rounded(minutes(location, day, t), trail),
+        Err(fail) => Err(fail),
+    }
+}
+
+/// Sunset on a day (R.D.) at a place, in minutes of its standard time after midnight, rounded: 133 tests at most. It is void
+/// where sunset is.
+#[tactic(auto, using(book_model::proofs::Horizons::sunset_in_minutes_few, crate::proofs::Rightness::sunset_keeps))]
+pub(crate) fn sunset_in_minutes<E: Enclosure>(
+    place: Place,
+    day: i64,
+    trail: &mut Trail,
+) -> Result<i64, Fail>
+    requires day { IsValueDay day }
+    ensures few { AtMost 99999 (sunset_in_minutes_of (location_at place) day) }
+    ensures leads { (w : World) → DEPTH ≤ w.depth → Leads w Exact (sunset_in_minutes_of (location_at place) day) trail.old.count trail.new.count result }
+    ensures value { IfOk result IsFactValue }
+    ensures counted { trail.new.count ≤ trail.old.count + 133 }
+    ensures open { IfErr result (IsNearFor Sunset (year_of_day day)) }
+{
+    minutes_of_sunset::<E>(&location_of(place), day, trail)
+}

@@ -1,0 +1,18 @@
+use Rattle.std.proofs.Common.{SFits, w64}
+use Rattle.std.proofs.lemmas.Int.{to_z-of_z}
+use Rattle.book_model.specs.Horizon.{approximation_on}
+use Rattle.book_model.proofs.Leads.{leads_on, leads_fail, leaf_within}
+use Rattle.rise_set.proofs.approximation.approximation_on.Goals as goal
+
+pub returns-in-Ok-clause-leads : goal.returns-in-Ok-clause-leads
+unfolding approximation_on
+returns-in-Ok-clause-leads g c = λ w a x d h k.
+    let f : SFits w64 c.args.day = c.ranges.day in
+    let l = simp to_z-of_z at (c.in-Ok.ensures.leads w a x d h k) in
+    leads_on _ l (c.from_apparent.ensures.leads w _ (simp to_z-of_z at (c.apparent.ensures.holds w _ d (leaf_within l))))
+
+pub returns-in-Err-clause-leads : goal.returns-in-Err-clause-leads
+unfolding approximation_on
+returns-in-Err-clause-leads g c = λ w a x d h k.
+    let f : SFits w64 c.args.day = c.ranges.day in
+    leads_fail _ (simp to_z-of_z at (c.in-Err.ensures.leads w a x d h k))

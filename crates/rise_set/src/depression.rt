@@ -1,0 +1,106 @@
+//! Dawn and dusk: approximations until two of them are less than half a minute apart.
+ghost use Rattle.std.specs.Prelude.{◌≡◌, ◌≤◌, ◌+◌, ◌*◌, ℤ, Bool};
+ghost use Rattle.book_model.specs.Depth.{DEPTH};
+ghost use Rattle.book_model.specs.Expressions.{Expression, World};
+ghost use Rattle.book_model.specs.Horizon as spec;
+ghost use Rattle.book_model.specs.Leading.{Exact, Leads};
+ghost use Rattle.book_model.specs.Relations.{Within};
+
+use crate::approximation::{approximation, quarter};
+use crate::offsets::size;
+use book_model::{Fail, HALF_MINUTE, Location, Site, Twilight};
+use encl_core::{Enclosure, Trail, less_step};
+
+/// How many approximations are made at most.
+const APPROXIMATIONS: u32 = 12;
+
+/// Whether two moments are less than half a minute apart: one test.
+#[tactic(auto, using(book_model::proofs::Leads::leading), unfolding(book_model::specs::Horizon::has_settled_of, book_model::specs::Leading::next_turn))]
+fn has_settled<E: Enclosure>(old: E, new: E, trail: &mut Trail) -> Result<bool, Fail>
+    ensures leads { (w : World) (x y : Expression) → DEPTH ≤ w.depth → Within E.shown w x old → Within E.shown w y new → Leads w Exact (spec.has_settled_of x y) trail.old.count trail.new.count result }
+    ensures counted { trail.new.count ≤ trail.old.count + 1 }
+{
+    less_step(
+        size(new.sub(old)),
+        E::from_frac(HALF_MINUTE),
+        Site::Settle,
+        trail,
+    )
+}
+
+/// Approximations, so many at most, from a moment on until two are less than half a minute apart: eleven tests at most for each.
+/// It is void at `settle` where none are, and where an approximation is.
+#[tactic(auto, using(book_model::proofs::Leads::leading, crate::proofs::Settling::settling), unfolding(book_model::specs::Leading::next_turn))]
+fn settled<E: Enclosure>(
+    more: u32,
+    location: &Location,
+    twilight: Twilight,
+    depression: E,
+    t: E,
+    trail: &mut Trail,
+) -> Result<E, Fail>
+    ensures leads { (w : World) (a x : Expression) → DEPTH ≤ w.depth → Within E.shown w a depression → Within E.shown w x t → Leads w (Within E.shown w) (spec.settled_of more location.now twilight a x) trail.old.count trail.new.count result }
+    ensures counted { trail.new.count ≤ trail.old.count + 11 * more }
+{
+    if more == 0 {
+        return Err(Fail::Void(Site::Settle));
+    }
+    let new = approximation(location, twilight, depression, t, trail)?;
+    match has_settled(t, new, trail) {
+        Ok(true) => Ok(new),
+        Ok(false) => settled(more - 1, location, twilight, depression, new, trail),
+        Err(fail) => Err(fail),
+    }
+}
+
+/// The local mean time of a day (R.D.) at which the sun has a depression, in degrees: 132 tests at most.
+#[tactic(auto, using(book_model::proofs::Leads::leading), unfolding(book_model::specs::Horizon::depression_of))]
+fn depressed<E: Enclosure>(
+    location: &Location,
+    twilight: Twilight,
+    depression: E,
+    day: i64,
+    trail: &mut Trail,
+) -> Result<E, Fail>
+    ensures leads { (w : World) (a : Expression) → DEPTH ≤ w.depth → Within E.shown w a depression → Leads w (Within E.shown w) (spec.depression_of location.now twilight a day) trail.old.count trail.new.count result }
+    ensures counted { trail.new.count ≤ trail.old.count + 132 }
+{
+    settled(
+        APPROXIMATIONS,
+        location,
+        twilight,
+        depression,
+        quarter(twilight, day),
+        trail,
+    )
+}
+
+/// Dawn of a day (R.D.), when the sun before rising has a depression, in degrees; in local mean time (Reingold and Dershowitz,
+/// Calendrical Calculations, chapter 14). 132 tests at most. It is void at `offset` where the sun doesn't come to the depression, at
+/// `settle` where twelve approximations don't settle, and at `year` in a year without a correction.
+#[tactic(auto, unfolding(book_model::specs::Horizon::dawn_of))]
+pub fn dawn<E: Enclosure>(
+    location: &Location,
+    depression: E,
+    day: i64,
+    trail: &mut Trail,
+) -> Result<E, Fail>
+    ensures leads { (w : World) (a : Expression) → DEPTH ≤ w.depth → Within E.shown w a depression → Leads w (Within E.shown w) (spec.dawn_of location.now a day) trail.old.count trail.new.count result }
+    ensures counted { trail.new.count ≤ trail.old.count + 132 }
+{
+    depressed(location, Twilight::Dawn, depression, day, trail)
+}
+
+/// Dusk of a day (R.D.), when the sun after setting has a depression, in the same sense.
+#[tactic(auto, unfolding(book_model::specs::Horizon::dusk_of))]
+pub fn dusk<E: Enclosure>(
+    location: &Location,
+    depression: E,
+    day: i64,
+    trail: &mut Trail,
+) -> Result<E, Fail>
+    ensures leads { (w : World) (a : Expression) → DEPTH ≤ w.depth → Within E.shown w a depression → Leads w (Within E.shown w) (spec.dusk_of location.now a day) trail.old.count trail.new.count result }
+    ensures counted { trail.new.count ≤ trail.old.count + 132 }
+{
+    depressed(location, Twilight::Dusk, depression, day, trail)
+}

@@ -1,0 +1,154 @@
+//! How far the sun is from the horizon: the sine of the hour angle at which it has a depression, less a quarter of a turn.
+ghost use Rattle.std.specs.Prelude.{◌≡◌, ◌≤◌, ◌+◌, ℤ, Bool};
+ghost use Rattle.book_model.specs.Depth.{DEPTH};
+ghost use Rattle.book_model.specs.Expressions.{Expression, World};
+ghost use Rattle.book_model.specs.Fractions.{fraction_of};
+ghost use Rattle.book_model.specs.Horizon as spec;
+ghost use Rattle.book_model.specs.Leading.{Exact, Leads};
+ghost use Rattle.book_model.specs.Phases.{size_of};
+ghost use Rattle.book_model.specs.Relations.{Within};
+
+use crate::declinations::{declination, universal};
+use book_model::{Fail, Frac, Location, Site, Twilight};
+use encl_core::{Enclosure, Trail, less_step};
+use trig_series::{cos_deg, sin_deg, tan_deg};
+
+/// The size of a number.
+#[tactic(auto, unfolding(book_model::specs::Phases::size_of))]
+pub(crate) fn size<E: Enclosure>(x: E) -> E
+    ensures holds { (w : World) (e : Expression) → Within E.shown w e x → Within E.shown w (size_of e) result }
+{
+    x.max(x.neg())
+}
+
+/// What the latitude and the declination make of the offset.
+fn by_declination<E: Enclosure>(latitude: E, declination: E) -> E
+    ensures holds { (w : World) (l d : Expression) → DEPTH ≤ w.depth → Within E.shown w l latitude → Within E.shown w d declination → Within E.shown w (spec.by_declination l d) result }
+{
+    tan_deg(latitude).mul(tan_deg(declination))
+}
+
+/// What the depression makes of it.
+fn by_depression<E: Enclosure>(latitude: E, depression: E, declination: E) -> E
+    ensures holds { (w : World) (l a d : Expression) → DEPTH ≤ w.depth → Within E.shown w l latitude → Within E.shown w a depression → Within E.shown w d declination → Within E.shown w (spec.by_depression l a d) result }
+{
+    sin_deg(depression).div(cos_deg(declination).mul(cos_deg(latitude)))
+}
+
+/// The offset by the latitude, the depression and the declination, all in degrees.
+#[tactic(auto, unfolding(book_model::specs::Horizon::offset_by))]
+fn offset_by<E: Enclosure>(latitude: Frac, depression: E, declination: E) -> E
+    ensures holds { (w : World) (a d : Expression) → DEPTH ≤ w.depth → Within E.shown w a depression → Within E.shown w d declination → Within E.shown w (spec.offset_by (fraction_of latitude) a d) result }
+{
+    let north = E::from_frac(latitude);
+    by_declination(north, declination).add(by_depression(north, depression, declination))
+}
+
+/// The sine of the hour angle at which the sun has a depression, in degrees, less a quarter of a turn, by the declination of the
+/// sun at a moment of local mean time (Reingold and Dershowitz, Calendrical Calculations, chapter 14): three tests at most. It is
+/// void at `year` in a year without a correction.
+#[tactic(auto, using(book_model::proofs::Leads::leading), unfolding(book_model::specs::Horizon::offset_of))]
+pub fn offset<E: Enclosure>(
+    location: &Location,
+    depression: E,
+    t: E,
+    trail: &mut Trail,
+) -> Result<E, Fail>
+    ensures leads { (w : World) (a x : Expression) → DEPTH ≤ w.depth → Within E.shown w a depression → Within E.shown w x t → Leads w (Within E.shown w) (spec.offset_of location.now a x) trail.old.count trail.new.count result }
+    ensures counted { trail.new.count ≤ trail.old.count + 3 }
+{
+    match declination(universal(location.longitude, t), trail) {
+        Ok(angle) => Ok(offset_by(location.latitude, depression, angle)),
+        Err(fail) => Err(fail),
+    }
+}
+
+/// Whether an offset is no sine, so that the sun doesn't come to the depression: one test.
+#[tactic(auto, using(book_model::proofs::Leads::leading), unfolding(book_model::specs::Horizon::is_out_of_reach, book_model::specs::Leading::next_turn))]
+fn is_out_of_reach<E: Enclosure>(offset: E, trail: &mut Trail) -> Result<bool, Fail>
+    ensures leads { (w : World) (s : Expression) → DEPTH ≤ w.depth → Within E.shown w s offset → Leads w Exact (spec.is_out_of_reach s) trail.old.count trail.new.count result }
+    ensures counted { trail.new.count ≤ trail.old.count + 1 }
+{
+    less_step(E::from_int(1), size(offset), Site::Offset, trail)
+}
+
+/// An offset that is reached; void at `offset` where it isn't.
+#[tactic(auto, using(book_model::proofs::Leads::leading), unfolding(book_model::specs::Horizon::if_reached))]
+fn if_reached<E: Enclosure>(offset: E, out: bool, trail: &mut Trail) -> Result<E, Fail>
+    ensures leads { (w : World) (s : Expression) → Within E.shown w s offset → Leads w (Within E.shown w) (spec.if_reached s out) trail.old.count trail.new.count result }
+    ensures counted { trail.new.count ≡ trail.old.count }
+{
+    if out {
+        Err(Fail::Void(Site::Offset))
+    } else {
+        Ok(offset)
+    }
+}
+
+/// The offset at a moment of local mean time: four tests at most. It is void at `offset` where the sun doesn't come to the
+/// depression.
+#[tactic(auto, using(book_model::proofs::Leads::leading), unfolding(book_model::specs::Horizon::reached_offset_of))]
+fn reached_offset<E: Enclosure>(
+    location: &Location,
+    depression: E,
+    t: E,
+    trail: &mut Trail,
+) -> Result<E, Fail>
+    ensures leads { (w : World) (a x : Expression) → DEPTH ≤ w.depth → Within E.shown w a depression → Within E.shown w x t → Leads w (Within E.shown w) (spec.reached_offset_of location.now a x) trail.old.count trail.new.count result }
+    ensures counted { trail.new.count ≤ trail.old.count + 4 }
+{
+    let there = offset(location, depression, t, trail)?;
+    let out = is_out_of_reach(there, trail)?;
+    if_reached(there, out, trail)
+}
+
+/// Where the offset is taken anew: as a day (R.D.) begins, for dawn, and as it ends, for dusk.
+#[tactic(auto, unfolding(book_model::specs::Horizon::edge_of))]
+fn edge<E: Enclosure>(twilight: Twilight, day: i64) -> E
+    ensures holds { (w : World) → DEPTH ≤ w.depth → Within E.shown w (spec.edge_of twilight day) result }
+{
+    match twilight {
+        Twilight::Dawn => E::from_int(day),
+        Twilight::Dusk => E::from_int(day).add(E::from_int(1)),
+    }
+}
+
+/// An offset, or, where the sun doesn't come to the depression, that at the edge of the day: four tests at most.
+#[tactic(auto, using(book_model::proofs::Leads::leading), unfolding(book_model::specs::Horizon::or_at_edge))]
+fn or_at_edge<E: Enclosure>(
+    location: &Location,
+    twilight: Twilight,
+    depression: E,
+    day: i64,
+    offset: E,
+    out: bool,
+    trail: &mut Trail,
+) -> Result<E, Fail>
+    ensures leads { (w : World) (a s : Expression) → DEPTH ≤ w.depth → Within E.shown w a depression → Within E.shown w s offset → Leads w (Within E.shown w) (spec.or_at_edge location.now twilight a day s out) trail.old.count trail.new.count result }
+    ensures counted { trail.new.count ≤ trail.old.count + 4 }
+{
+    if out {
+        reached_offset(location, depression, edge(twilight, day), trail)
+    } else {
+        Ok(offset)
+    }
+}
+
+/// The offset at a moment of local mean time of a day (R.D.), or at the edge of the day where the sun doesn't come to the
+/// depression then: eight tests at most. It is void at `offset` where it doesn't come to it there either.
+#[tactic(auto, using(book_model::proofs::Leads::leading), unfolding(book_model::specs::Horizon::near_offset_of))]
+pub(crate) fn near_offset<E: Enclosure>(
+    location: &Location,
+    twilight: Twilight,
+    depression: E,
+    day: i64,
+    t: E,
+    trail: &mut Trail,
+) -> Result<E, Fail>
+    ensures leads { (w : World) (a x : Expression) → DEPTH ≤ w.depth → Within E.shown w a depression → Within E.shown w x t → Leads w (Within E.shown w) (spec.near_offset_of location.now twilight a day x) trail.old.count trail.new.count result }
+    ensures counted { trail.new.count ≤ trail.old.count + 8 }
+{
+    let there = offset(location, depression, t, trail)?;
+    let out = is_out_of_reach(there, trail)?;
+    or_at_edge(location, twilight, depression, day, there, out, trail)
+}

@@ -1,0 +1,74 @@
+//! Sunset, and by how many degrees the sun stands below the horizon then.
+ghost use Rattle.std.specs.Prelude.{◌≡◌, ◌≤◌, ◌+◌, ◌-◌, ℕ, ℤ, pos};
+ghost use Rattle.book_model.specs.Depth.{DEPTH};
+ghost use Rattle.book_model.specs.Expressions.{World, constant, integer};
+ghost use Rattle.book_model.specs.Fractions.{fraction_of};
+ghost use Rattle.book_model.specs.Horizon as spec;
+ghost use Rattle.book_model.specs.Leading.{Leads};
+ghost use Rattle.book_model.specs.Relations.{Within};
+
+use crate::declinations::universal;
+use crate::depression::dusk;
+use arc_series::arccos_deg;
+use book_model::{EARTH_RADIUS, Fail, Frac, HALF_SUN, Location, REFRACTION, REFRACTION_OF_HEIGHT};
+use encl_core::{Enclosure, Trail};
+
+/// The cosine of the angle by which the horizon lies deeper from so many metres of height.
+fn horizon_cosine(height: u16) -> Frac
+    ensures cosine { fraction_of result ≡ spec.horizon_cosine height }
+{
+    Frac::new(
+        i128::from(EARTH_RADIUS),
+        u64::from(EARTH_RADIUS) + u64::from(height),
+    )
+    .unwrap()
+}
+
+/// The angle by which the horizon lies deeper from so many metres of height, in degrees.
+fn dip<E: Enclosure>(height: u16) -> E
+    ensures holds { (w : World) → DEPTH ≤ w.depth → Within E.shown w (spec.dip_of height) result }
+{
+    arccos_deg(E::from_frac(horizon_cosine(height)))
+}
+
+/// What the air lifts the sun besides from so many metres of height, in degrees.
+fn refraction_of_height<E: Enclosure>(height: u16) -> E
+    ensures holds { (w : World) → DEPTH ≤ w.depth → Within E.shown w (spec.refraction_of_height height) result }
+{
+    E::from_int(i64::from(height))
+        .root()
+        .mul_frac(REFRACTION_OF_HEIGHT)
+}
+
+/// By how many degrees the sun stands below the level when its middle is seen to set at a location: what the air lifts it, and
+/// what the height of the location lowers the horizon (Reingold and Dershowitz, Calendrical Calculations, chapter 14). It makes
+/// no test.
+#[tactic(auto, unfolding(book_model::specs::Horizon::refraction_of))]
+pub fn refraction<E: Enclosure>(location: &Location) -> E
+    ensures holds { (w : World) → DEPTH ≤ w.depth → Within E.shown w (spec.refraction_of location.now) result }
+{
+    E::from_frac(REFRACTION)
+        .add(dip(location.height))
+        .add(refraction_of_height(location.height))
+}
+
+/// The same when its upper edge is seen to set.
+#[tactic(auto, unfolding(book_model::specs::Horizon::sunset_depression_of))]
+pub fn sunset_depression<E: Enclosure>(location: &Location) -> E
+    ensures holds { (w : World) → DEPTH ≤ w.depth → Within E.shown w (spec.sunset_depression_of location.now) result }
+{
+    refraction::<E>(location).add(E::from_frac(HALF_SUN))
+}
+
+/// Sunset on a day (R.D.) at a location, in universal time (Reingold and Dershowitz, Calendrical Calculations, chapter 14): 132
+/// tests at most. It is void where dusk is.
+#[tactic(auto, using(book_model::proofs::Leads::leading), unfolding(book_model::specs::Horizon::sunset_of))]
+pub fn sunset<E: Enclosure>(location: &Location, day: i64, trail: &mut Trail) -> Result<E, Fail>
+    ensures leads { (w : World) → DEPTH ≤ w.depth → Leads w (Within E.shown w) (spec.sunset_of location.now day) trail.old.count trail.new.count result }
+    ensures counted { trail.new.count ≤ trail.old.count + 132 }
+{
+    match dusk(location, sunset_depression::<E>(location), day, trail) {
+        Ok(t) => Ok(universal(location.longitude, t)),
+        Err(fail) => Err(fail),
+    }
+}
