@@ -37,7 +37,7 @@ pub noon_few : (d : ℤ) → AtMost 1 (noon_of d)
 unfolding noon_of
 noon_few d = at_most_bind 1 0 (from_apparent_few _ _) (λ e. answer_at_most)
 
-reduced_few : (x : Expression) → AtMost 1 (reduced_of x)
+pub reduced_few : (x : Expression) → AtMost 1 (reduced_of x)
 unfolding reduced_of
 reduced_few x = cell_at_most (λ q. answer_at_most)
 
@@ -82,7 +82,7 @@ difference_between a b c d (between p q) (between r s) h k = (
 )
 
 -- the lesser of two, of which the first isn't below and isn't above the bounds
-minimum_between : (lo hi h : ℤ) (i j : Interval) → IsBetween lo hi i → IsBetween lo h j → IsBetween lo hi (interval_minimum i j)
+pub minimum_between : (lo hi h : ℤ) (i j : Interval) → IsBetween lo hi i → IsBetween lo h j → IsBetween lo hi (interval_minimum i j)
 unfolding interval_minimum
 minimum_between lo hi h everything j p q = tt
 minimum_between lo hi h (between a b) everything p q = tt
@@ -102,7 +102,7 @@ floor_between lo hi q (between a b) p h e =
     (omega (arith, ints, l.strict), omega (arith, ints, u.cross))
 
 -- ---- the estimate
-reduced_within : (w : World) (x e : Expression) → outcome (run w (reduced_of x)) ≡ valued e → value w e ⊆ between (whole (pos 0)) (whole (pos 360))
+pub reduced_within : (w : World) (x e : Expression) → outcome (run w (reduced_of x)) ≡ valued e → value w e ⊆ between (whole (pos 0)) (whole (pos 360))
 unfolding reduced_of value
 reduced_within w x e h =
     let d = decides w StepWrap (multiples 360) x (λ q. remainder 360 x q) e h in

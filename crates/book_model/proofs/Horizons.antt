@@ -19,7 +19,7 @@ use Rattle.book_model.proofs.Leads.{at_most_bind, at_most_more}
 use Rattle.book_model.proofs.NewYears.{spring_day_few}
 
 -- ---- how many tests
-obliquity_few : (c : Expression) → AtMost 0 (obliquity_of c)
+pub obliquity_few : (c : Expression) → AtMost 0 (obliquity_of c)
 unfolding obliquity_of
 obliquity_few c = answer_at_most
 
@@ -61,7 +61,7 @@ settles_few : (x y : Expression) → AtMost 1 (has_settled_of x y)
 unfolding has_settled_of
 settles_few x y = compare_at_most (λ t. answer_at_most)
 
-settled_few : (more : ℕ) (p : Location) (k : Twilight) (a x : Expression) → AtMost (more * 11) (settled_of more p k a x)
+pub settled_few : (more : ℕ) (p : Location) (k : Twilight) (a x : Expression) → AtMost (more * 11) (settled_of more p k a x)
 unfolding settled_of
 settled_few zero p k a x = void_at_most
 settled_few (suc more) p k a x =

@@ -30,3 +30,6 @@ pub mod Sunsets
 pub mod WordTables
 pub mod NameLemmas
 pub mod MoonFacts
+pub mod PhaseDays
+pub mod Crescents
+pub mod Early

@@ -1,5 +1,5 @@
 -- The moon's formulas: how many tests they make, and from where to where the numbers of new moons lie that they find.
-use Rattle.std.specs.Prelude.{◌≡◌, ℕ, zero, suc, ◌+◌, ◌*◌, ◌-◌, ℤ, pos, negsuc, ◌+ℤ◌, ◌-ℤ◌, ◌*ℤ◌, ◌≤ℤ◌, Some, Bool, true, false, if◌then◌else◌, Result, Ok, Err, IfOk}
+use Rattle.std.specs.Prelude.{◌==◌, ◌≡◌, ℕ, zero, suc, ◌+◌, ◌*◌, ◌-◌, ℤ, pos, negsuc, ◌+ℤ◌, ◌-ℤ◌, ◌*ℤ◌, ◌≤ℤ◌, Some, Bool, true, false, if◌then◌else◌, Result, Ok, Err, IfOk}
 use Rattle.std.proofs.Common.{arith, sym, ◌∙◌}
 use Rattle.std.proofs.lemmas.Int.{ints}
 use Rattle.std.specs.Ordering.{int_eq}
@@ -17,7 +17,7 @@ use Rattle.book_model.specs.Expressions.{Expression, argument, World, value, exa
 use Rattle.book_model.specs.Fractions.{fraction_of}
 use Rattle.book_model.specs.Moon.{moon_of}
 use Rattle.book_model.specs.NewMoons.{new_moon_of}
-use Rattle.book_model.specs.Phases.{elongation_of, months_between, months_since, nearest_moon_of, rough_number_of, phase_by_months_of, size_of, turned_of, rest_of_month, chosen, picked_of, phase_of, number_of_moon, is_moon_before_of, walk_of, moon_preceding_of, moon_before_of, moon_from_of}
+use Rattle.book_model.specs.Phases.{elongation_of, months_between, months_since, nearest_moon_of, rough_number_of, phase_by_months_of, size_of, turned_of, rest_of_month, chosen, picked_of, phase_of, number_of_moon, is_moon_before_of, walk_of, moon_preceding_of, moon_before_of, moon_from_of, corrected_of}
 use Rattle.book_model.specs.Programs.{Program, answer, compare, integers, multiples, cell_of, cell_at, threshold, run, valued, outcome, AtMost, answer_at_most, void_at_most, cell_at_most, compare_at_most}
 use Rattle.book_model.specs.Leading.{Leads, Exact, leaf}
 use Rattle.book_model.specs.Ranges.{IsBetween, IsInTable}
@@ -36,7 +36,7 @@ pub new_moon_few : (n : ℤ) → AtMost 1 (new_moon_of n)
 unfolding new_moon_of from_dynamical_of
 new_moon_few n = at_most_bind 1 0 (correction_at_few _) (λ c. answer_at_most)
 
-moon_few : (x : Expression) → AtMost 2 (moon_of x)
+pub moon_few : (x : Expression) → AtMost 2 (moon_of x)
 unfolding moon_of
 moon_few x = at_most_bind 1 1 (centuries_few x) (λ c. cell_at_most (λ q. answer_at_most))
 
@@ -66,7 +66,7 @@ picked_few p q = at_most_bind 1 0 (compare_at_most (λ t. answer_at_most)) (λ t
 
 -- a phase makes ten tests
 pub phase_few : (x : Expression) → AtMost 10 (phase_of x)
-unfolding phase_of
+unfolding phase_of corrected_of
 phase_few x = at_most_bind 5 5 (elongation_few x) (λ p. at_most_bind 2 3 (rough_few x) (λ n. at_most_bind 2 1 (by_months_few n x) (λ q. picked_few p q)))
 
 number_few : (x : Expression) → AtMost 12 (number_of_moon x)
@@ -77,7 +77,7 @@ before_few : (k : ℤ) (x : Expression) → AtMost 2 (is_moon_before_of k x)
 unfolding is_moon_before_of
 before_few k x = at_most_bind 1 1 (new_moon_few k) (λ m. compare_at_most (λ t. answer_at_most))
 
-few_if : {A : Type 0} (n : ℕ) (t : Bool) (p q : Program A) → AtMost n p → AtMost n q → AtMost n (if t then p else q)
+pub few_if : {A : Type 0} (n : ℕ) (t : Bool) (p q : Program A) → AtMost n p → AtMost n q → AtMost n (if t then p else q)
 few_if n true p q h k = h
 few_if n false p q h k = k
 
@@ -111,7 +111,7 @@ unfolding elongation_of
 elongation_in_table w x p e = let m = parts w (moon_of x) _ p e in moon_in_table w x m.part m.first
 
 -- ---- numbers of new moons
-scaled_between : (lo hi l h : ℤ) (f : Fraction) (i : Interval) → product (between (whole lo) (whole hi)) (exactly f) ⊆ between (whole l) (whole h) → IsProper i → IsBetween lo hi i → IsBetween l h (product i (exactly f))
+pub scaled_between : (lo hi l h : ℤ) (f : Fraction) (i : Interval) → product (between (whole lo) (whole hi)) (exactly f) ⊆ between (whole l) (whole h) → IsProper i → IsBetween lo hi i → IsBetween l h (product i (exactly f))
 unfolding product
 scaled_between lo hi l h f everything p q k = tt
 scaled_between lo hi l h f (between a b) p q k = between_of_within l h _ (within_trans (product_within {i = between a b} {i' = between (whole lo) (whole hi)} q (le_refl f) (record { ends = k }) (within_refl (exactly f))) p)
@@ -143,7 +143,7 @@ months_since_between w n x m h e =
     let b = wider _ _ (negsuc 931568) (pos 931569) _ (omega (arith, ints)) (omega (arith, ints)) d in
     rw (← valued_same w (months_between z.part x) m z.then) (scaled_between (negsuc 931568) (pos 931569) (negsuc 31599) (pos 31600) (fraction_of DAY_IN_MONTHS) _ months_of_days (value_proper w (subtract x z.part)) b)
 
-half_between : IsBetween (pos 0) (pos 1) (exactly (fraction_of HALF))
+pub half_between : IsBetween (pos 0) (pos 1) (exactly (fraction_of HALF))
 half_between = (record { cross = omega (arith, ints) }, record { cross = omega (arith, ints) })
 
 nearest_between : (w : World) (lo hi n : ℤ) (m : Expression) → IsBetween lo hi (value w m) → outcome (run w (nearest_moon_of m)) ≡ valued n → (lo ≤ℤ n) × (n ≤ℤ (hi +ℤ pos 1))
@@ -229,7 +229,7 @@ picked_between w p q v h k e =
 
 -- a phase lies in a turn
 pub phase_between : (w : World) (x v : Expression) → outcome (run w (phase_of x)) ≡ valued v → IsBetween (pos 0) (pos 360) (value w v)
-unfolding phase_of
+unfolding phase_of corrected_of
 phase_between w x v e =
     let p = parts w (elongation_of x) _ v e in
     let n = parts w (rough_number_of x) _ v p.then in
@@ -264,6 +264,22 @@ world_of i p = record { depth = 40; arguments = λ k. i; proper = λ k. p }
 pub within_world : {E : Type 0} (shown : E → Interval) (p : (e : E) → IsProper (shown e)) (e : E) → Within shown (world_of (shown e) (p e)) (argument 0) e
 unfolding Lies value world_of
 within_world shown p e = record { deep = omega arith; inside = within_refl _ }
+
+-- the same of two enclosures
+either_proper : (i j : Interval) (t : Bool) → IsProper i → IsProper j → IsProper (if t then i else j)
+either_proper i j true p q = p
+either_proper i j false p q = q
+
+pub world_of_two : (i j : Interval) → IsProper i → IsProper j → World
+world_of_two i j p q = record { depth = 40; arguments = λ k. if k == 0 then i else j; proper = λ k. either_proper i j (k == 0) p q }
+
+pub within_first : {E : Type 0} (shown : E → Interval) (p : (e : E) → IsProper (shown e)) (e f : E) → Within shown (world_of_two (shown e) (shown f) (p e) (p f)) (argument 0) e
+unfolding Lies value world_of_two
+within_first shown p e f = record { deep = omega arith; inside = within_refl _ }
+
+pub within_second : {E : Type 0} (shown : E → Interval) (p : (e : E) → IsProper (shown e)) (e f : E) → Within shown (world_of_two (shown e) (shown f) (p e) (p f)) (argument 1) f
+unfolding Lies value world_of_two
+within_second shown p e f = record { deep = omega arith; inside = within_refl _ }
 
 -- an elongation is found of a moment in the table alone
 pub elongation_found : {E T : Type 0} {R : Expression → T → Type 0} (shown : E → Interval) (p : (e : E) → IsProper (shown e)) (t : E) {b a : ℕ} (r : Result T Fail) →

@@ -7,13 +7,15 @@ use Rattle.book_model.specs.declared.fact.Kind.{Kind}
 use Rattle.book_model.specs.declared.fact.Place.{Place}
 use Rattle.book_model.specs.declared.words.Shown.{Shown}
 use Rattle.book_model.specs.declared.words.Shown.TheVariants.{Date, Value}
+use Rattle.book_model.specs.declared.words.Named.{Named}
+use Rattle.book_model.specs.declared.words.Named.TheVariants.{Date as Day, Value as Of}
 use Rattle.book_model.specs.declared.words.FromWord.{FromWord}
 use Rattle.book_model.specs.declared.words.FromWord.TheVariants as from
 use Rattle.book_model.specs.declared.words.ToWord.{ToWord}
 use Rattle.book_model.specs.declared.words.ToWord.TheVariants as to
 use Rattle.book_model.specs.Dates.{row_of}
 use Rattle.book_model.specs.Names.{has_place}
-use Rattle.book_model.specs.Words.{from_word_of, to_word_of, text_of_from, text_of_to, shown_by}
+use Rattle.book_model.specs.Words.{from_word_of, to_word_of, text_of_from, text_of_to, named_by, shown_by}
 
 -- the word for a value is found as that value: the last line is checked for each value by itself
 pub from_found : (w : FromWord) → from_word_of (text_of_from w) ≡ Some w
@@ -35,6 +37,18 @@ shown_placed _ = search rules
 
 pub value_placed : (w : ToWord) (kind : Kind) (place : Place) → shown_by w ≡ Value kind place → IsTrue (has_place kind place)
 value_placed w kind place e = rw e at (shown_placed w)
+
+-- and so is what a word names that is no date
+abbrev pub IsPlacedDay : Named → Type 0
+IsPlacedDay (Day c) = Unit {0}
+IsPlacedDay (Of kind place) = IsTrue (has_place kind place)
+
+named_placed : (w : FromWord) → IsPlacedDay (named_by w)
+named_placed from.Gregorian = tt
+named_placed _ = search rules
+
+pub day_placed : (w : FromWord) (kind : Kind) (place : Place) → named_by w ≡ Of kind place → IsTrue (has_place kind place)
+day_placed w kind place e = rw e at (named_placed w)
 
 -- the row of a calendar is its own
 pub own_row : (c : Calendar) → (row_of c).calendar ≡ c

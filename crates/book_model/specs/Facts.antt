@@ -6,7 +6,7 @@ use Rattle.book_model.specs.declared.site.Site.{Site}
 use Rattle.book_model.specs.declared.site.Site.TheVariants.{Year}
 use Rattle.book_model.specs.declared.fact.Fact.{Fact}
 use Rattle.book_model.specs.declared.fact.Kind.{Kind}
-use Rattle.book_model.specs.declared.fact.Kind.TheVariants.{Dt, Sun, Nowruz, BahaiYear, Solstice, NewMoonBefore, NewMoonFrom, Major, Sunset}
+use Rattle.book_model.specs.declared.fact.Kind.TheVariants.{Dt, Sun, Nowruz, BahaiYear, Solstice, NewMoonBefore, NewMoonFrom, Major, Phasis, NewMoon, FirstQuarter, FullMoon, LastQuarter, Sunset}
 use Rattle.book_model.specs.declared.fact.Place.{Place}
 use Rattle.book_model.specs.declared.fact.TheConstants.{FIRST_FACT_DAY, LAST_FACT_DAY, FIRST_DAY, LAST_DAY, LEAST_VALUE, GREATEST_VALUE}
 use Rattle.book_model.specs.declared.fail.Undecided.{Undecided}
@@ -14,6 +14,8 @@ use Rattle.book_model.specs.Calendar.{year_of_day}
 use Rattle.book_model.specs.Correction.{is_between}
 use Rattle.book_model.specs.Expressions.{World}
 use Rattle.book_model.specs.Kinds.{dt_of, sun_in_thousandths_of, nowruz_of, bahai_year_of, solstice_of, new_moon_before_of, new_moon_from_of, major_of, location_of, sunset_in_minutes_of}
+use Rattle.book_model.specs.Crescent.{phasis_of}
+use Rattle.book_model.specs.Phases.{phase_day_of}
 use Rattle.book_model.specs.Leading.{at_56, AreNoBounds}
 use Rattle.book_model.specs.Names.{has_place}
 use Rattle.book_model.specs.Programs.{Grid, threshold, Program, void, Run, run, valued, void_at, outcome, MakesTest, Sides, one_side, two_sides}
@@ -45,6 +47,11 @@ formula_of Solstice place d = solstice_of d
 formula_of NewMoonBefore place d = new_moon_before_of d
 formula_of NewMoonFrom place d = new_moon_from_of d
 formula_of Major place d = major_of d
+formula_of Phasis place d = phasis_of (location_of place) d
+formula_of NewMoon place d = phase_day_of (pos 0) d
+formula_of FirstQuarter place d = phase_day_of (pos 90) d
+formula_of FullMoon place d = phase_day_of (pos 180) d
+formula_of LastQuarter place d = phase_day_of (pos 270) d
 formula_of Sunset place d = sunset_in_minutes_of (location_of place) d
 
 -- the formula of a fact; outside 1 July 1800 to 31 December 2049 it is void
@@ -99,6 +106,11 @@ HasWholeDays Solstice = ⊥
 HasWholeDays NewMoonBefore = ⊥
 HasWholeDays NewMoonFrom = ⊥
 HasWholeDays Major = ⊥
+HasWholeDays Phasis = Unit {0}
+HasWholeDays NewMoon = Unit {0}
+HasWholeDays FirstQuarter = Unit {0}
+HasWholeDays FullMoon = Unit {0}
+HasWholeDays LastQuarter = Unit {0}
 HasWholeDays Sunset = ⊥
 
 -- The fact is near at a test: at every depth from 40 on its run makes this test, whose sides lie within the ends.

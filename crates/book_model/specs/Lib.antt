@@ -7,6 +7,7 @@ pub mod Bounds
 pub mod Relations
 pub mod Programs
 pub mod Searches
+pub mod Bisection
 pub mod Leading
 pub mod Nesting
 pub mod Correction
@@ -16,6 +17,7 @@ pub mod Spans
 pub mod Persian
 pub mod Bahai
 pub mod Chinese
+pub mod Islamic
 pub mod Words
 pub mod Dates
 pub mod Requests
@@ -34,8 +36,10 @@ pub mod Noon
 pub mod Ranges
 pub mod Terms
 pub mod Moon
+pub mod Latitude
 pub mod NewMoons
 pub mod Phases
 pub mod Horizon
+pub mod Crescent
 pub mod Kinds
 pub mod Facts

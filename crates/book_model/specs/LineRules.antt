@@ -4,15 +4,17 @@ use Rattle.book_model.specs.declared.fact.Fact.{Fact}
 use Rattle.book_model.specs.declared.fact.Kind.{Kind}
 use Rattle.book_model.specs.declared.fact.Place.{Place}
 use Rattle.book_model.specs.declared.words.ToWord.{ToWord}
+use Rattle.book_model.specs.declared.words.Named.{Named}
+use Rattle.book_model.specs.declared.words.Named.TheVariants.{Date as Day, Value as Of}
 use Rattle.book_model.specs.declared.words.Shown.{Shown as WhatIsShown}
 use Rattle.book_model.specs.declared.words.Shown.TheVariants.{Date, Value}
 use Rattle.book_model.specs.declared.request.Fields.{Fields}
 use Rattle.book_model.specs.declared.request.Request.{Request}
 use Rattle.book_model.specs.declared.request.Resolved.{Resolved}
 use Rattle.book_model.specs.declared.request.Resolved.TheVariants.{Shown, TooFar, NoDate}
-use Rattle.book_model.specs.Dates.{row_of, one_field, are_same_fields, day_named, date_on, is_in_range}
-use Rattle.book_model.specs.Inquiries.{Inquiry, done, ask, and_then}
-use Rattle.book_model.specs.Words.{calendar_of, shown_by}
+use Rattle.book_model.specs.Dates.{row_of, one_field, are_same_fields, gregorian_day, day_named, date_on, is_in_range}
+use Rattle.book_model.specs.Inquiries.{Inquiry, done, ask, ask_once, and_then}
+use Rattle.book_model.specs.Words.{named_by, calendar_of, shown_by}
 
 -- the fact of a kind and a place on a day
 abbrev pub fact_on : Kind → Place → ℤ → Fact
@@ -39,6 +41,11 @@ result_within r day = if (row_of (calendar_of r.from)).is_confirmed then and_the
 unfoldable pub result_of_day : Request → ℤ → Inquiry Resolved
 result_of_day r day = if is_in_range day then result_within r day else done (TooFar day)
 
+-- the day (R.D.) that a date names, by what a word names: in a calendar, or by the fact of its Gregorian day
+abbrev pub day_by : Named → Fields → Inquiry ℤ
+day_by (Day c) date = day_named c date
+day_by (Of kind place) date = ask_once (fact_on kind place (gregorian_day date))
+
 -- the rule of a line
 unfoldable pub rule_of : Request → Inquiry Resolved
-rule_of r = and_then (day_named (calendar_of r.from) r.date) (result_of_day r)
+rule_of r = and_then (day_by (named_by r.from) r.date) (result_of_day r)

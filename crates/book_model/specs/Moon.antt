@@ -1,6 +1,6 @@
 -- The apparent longitude of the moon. Angles are in degrees, moments in days; c is in centuries.
 -- Reingold and Dershowitz, Calendrical Calculations, chapter 14; Meeus, Astronomical Algorithms, chapter 47.
-use Rattle.std.specs.Prelude.{pos, unsigned_abs}
+use Rattle.std.specs.Prelude.{ℤ, pos, unsigned_abs}
 use Rattle.exact_math.specs.Fraction.{whole}
 use Rattle.book_model.specs.declared.moon_tables.TheConstants.{ECCENTRICITY_FACTOR, ELONGATION, FLATTENING, JUPITER_WAVE, LATITUDE_ARGUMENT, MILLIONTH, MOON_ANOMALY, MOON_LONGITUDE, MOON_TERMS, SUN_ANOMALY, VENUS_WAVE}
 use Rattle.book_model.specs.declared.site.Site.TheVariants.{MoonWrap}
@@ -27,13 +27,17 @@ lunar_angles_of c =
     record { elongation = quartic_of ELONGATION c; sun_anomaly = cubic_of SUN_ANOMALY c; moon_anomaly = quartic_of MOON_ANOMALY c; latitude_argument = quartic_of LATITUDE_ARGUMENT c; eccentricity = quadratic_of ECCENTRICITY_FACTOR c }
 
 -- d D + m M + m' M' + f F
-unfoldable pub angle_of_term : LunarAngles → MoonTerm → Expression
-angle_of_term a t =
-    add (add (add (scale (whole t.elongation) a.elongation) (scale (whole t.sun_anomaly) a.sun_anomaly)) (scale (whole t.moon_anomaly) a.moon_anomaly)) (scale (whole t.latitude_argument) a.latitude_argument)
+unfoldable pub lunar_angle_of : LunarAngles → (elongation sun_anomaly moon_anomaly latitude_argument : ℤ) → Expression
+lunar_angle_of a d m n f =
+    add (add (add (scale (whole d) a.elongation) (scale (whole m) a.sun_anomaly)) (scale (whole n) a.moon_anomaly)) (scale (whole f) a.latitude_argument)
 
 -- v E^|m| sin(d D + m M + m' M' + f F)
+unfoldable pub lunar_term_of : LunarAngles → (elongation sun_anomaly moon_anomaly latitude_argument size : ℤ) → Expression
+lunar_term_of a d m n f v = scale (whole v) (times_power a.eccentricity (unsigned_abs m) (sine (lunar_angle_of a d m n f)))
+
+-- a term of the longitude
 unfoldable pub longitude_term_of : LunarAngles → MoonTerm → Expression
-longitude_term_of a t = scale (whole t.longitude) (times_power a.eccentricity (unsigned_abs t.sun_anomaly) (sine (angle_of_term a t)))
+longitude_term_of a t = lunar_term_of a t.elongation t.sun_anomaly t.moon_anomaly t.latitude_argument t.longitude
 
 -- what stands for a term past the last
 abbrev pub no_term : MoonTerm

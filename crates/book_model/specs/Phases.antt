@@ -1,15 +1,17 @@
--- The moon's phase, which is its longitude less the sun's, and the new moons before and from a moment. Angles are in
+-- The moon's phase, which is its longitude less the sun's, the new moons before and from a moment, and when the moon was last
+-- at a phase. Angles are in
 -- degrees, moments in days (R.D.) of universal time. Reingold and Dershowitz, Calendrical Calculations, chapter 14.
 use Rattle.std.specs.Prelude.{ℕ, zero, suc, Bool, if◌then◌else◌, ℤ, pos, ◌+ℤ◌, ◌-ℤ◌}
-use Rattle.book_model.specs.declared.new_moon_tables.TheConstants.{DAY_IN_MONTHS, DEGREE_IN_MONTHS, TURN}
-use Rattle.book_model.specs.declared.site.Site.TheVariants.{PhaseWrap, PhasePick, MoonNumber, MoonWalk}
+use Rattle.book_model.specs.declared.new_moon_tables.TheConstants.{DAY_IN_MONTHS, DEGREE_IN_MONTHS, DEGREE_OF_MONTH, TURN}
+use Rattle.book_model.specs.declared.site.Site.TheVariants.{DayFloor, PhaseWrap, PhasePick, MoonNumber, MoonWalk}
 use Rattle.book_model.specs.declared.tables.TheConstants.{HALF}
-use Rattle.book_model.specs.Expressions.{Expression, integer, constant, add, subtract, negate, scale, maximum, remainder}
+use Rattle.book_model.specs.Expressions.{Expression, integer, constant, add, subtract, negate, scale, minimum, maximum, remainder}
+use Rattle.book_model.specs.Bisection.{invert_of}
 use Rattle.book_model.specs.Fractions.{fraction_of}
 use Rattle.book_model.specs.Moon.{moon_of}
 use Rattle.book_model.specs.NewMoons.{new_moon_of}
 use Rattle.book_model.specs.Programs.{Program, answer, void, cell, compare, bind, integers, multiples}
-use Rattle.book_model.specs.Sun.{sun_of}
+use Rattle.book_model.specs.Sun.{sun_of, reduced_of}
 
 -- an angle, reduced to 0 .. 360
 unfoldable pub turned_of : Expression → Program Expression
@@ -61,13 +63,16 @@ chosen apart p q = if apart then q else p
 unfoldable pub picked_of : Expression → Expression → Program Expression
 picked_of p q = bind (compare PhasePick (integer (pos 180)) (size_of (subtract p q)) answer) λ apart. answer (chosen apart p q)
 
--- the moon's phase at a moment
-unfoldable pub phase_of : Expression → Program Expression
-phase_of x =
-    bind (elongation_of x) λ p.
+-- the phase by longitudes p, or in its place the one by the time since the new moon about the moment
+unfoldable pub corrected_of : (x p : Expression) → Program Expression
+corrected_of x p =
     bind (rough_number_of x) λ n.
     bind (phase_by_months_of n x) λ q.
     picked_of p q
+
+-- the moon's phase at a moment
+unfoldable pub phase_of : Expression → Program Expression
+phase_of x = bind (elongation_of x) (corrected_of x)
 
 -- the number of the last new moon before a moment, or of one next to it
 unfoldable pub number_of_moon : Expression → Program ℤ
@@ -102,3 +107,23 @@ moon_from_of x =
     bind (number_of_moon x) λ n.
     bind (walk_of 6 x n) λ k.
     new_moon_of k
+
+-- how far the moon is past a phase, from 0 up to 360
+unfoldable pub phase_past_of : (phase x : Expression) → Program Expression
+phase_past_of f x = bind (phase_of x) λ p. reduced_of (subtract p f)
+
+-- the moment x less the time in which the mean phase moves on by p
+unfoldable pub phase_back_by : (p x : Expression) → Expression
+phase_back_by p x = subtract x (scale (fraction_of DEGREE_OF_MONTH) p)
+
+-- when the moon is at a phase: from two days before a moment to two days after it, but not after the moment x
+unfoldable pub phase_about_of : (phase x about : Expression) → Program Expression
+phase_about_of f x t = invert_of phase_of f (subtract t (integer (pos 2))) (minimum x (add t (integer (pos 2))))
+
+-- when the moon was last at a phase, at or before a moment of universal time
+unfoldable pub phase_before_of : (phase x : Expression) → Program Expression
+phase_before_of f x = bind (phase_past_of f x) λ p. phase_about_of f x (phase_back_by p x)
+
+-- the day in universal time on which the moon was last at a phase, before a day begins or as it begins
+unfoldable pub phase_day_of : (phase day : ℤ) → Program ℤ
+phase_day_of f d = bind (phase_before_of (integer f) (integer d)) λ t. cell DayFloor integers t answer

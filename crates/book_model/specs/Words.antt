@@ -8,6 +8,8 @@ use Rattle.book_model.specs.contracts.words.ToWord.{the_type as to_type}
 use Rattle.book_model.specs.declared.calendar.Calendar.{Calendar}
 use Rattle.book_model.specs.declared.calendar.Calendar.TheVariants.{Gregorian}
 use Rattle.book_model.specs.declared.words.FromWord.{FromWord}
+use Rattle.book_model.specs.declared.words.Named.{Named}
+use Rattle.book_model.specs.declared.words.Named.TheVariants.{Date as Day, Value as Fact}
 use Rattle.book_model.specs.declared.words.ToWord.{ToWord}
 use Rattle.book_model.specs.declared.words.Shown.{Shown}
 use Rattle.book_model.specs.declared.words.Shown.TheVariants.{Date}
@@ -40,9 +42,17 @@ text_of_from from = slice_index_or (map (λ row. row.1.now) FROM_WORDS) (tag_of 
 abbrev pub text_of_to : ToWord → List ℕ
 text_of_to to = slice_index_or (map (λ row. row.1.now) TO_WORDS) (tag_of to_type to) []
 
--- the calendar of the date that follows a word
+-- what a word names by the date that follows it
+abbrev pub named_by : FromWord → Named
+named_by from = slice_index_or (map (λ row. row.2) FROM_WORDS) (tag_of from_type from) (Day Gregorian)
+
+-- the calendar of the date that follows a word: that of a fact's day is the Gregorian
+abbrev pub calendar_in : Named → Calendar
+calendar_in (Day c) = c
+calendar_in (Fact kind place) = Gregorian
+
 abbrev pub calendar_of : FromWord → Calendar
-calendar_of from = slice_index_or (map (λ row. row.2) FROM_WORDS) (tag_of from_type from) Gregorian
+calendar_of from = calendar_in (named_by from)
 
 -- what a word shows of a day
 abbrev pub shown_by : ToWord → Shown

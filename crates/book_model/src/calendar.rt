@@ -8,8 +8,8 @@ pub const FIRST_ANSWERED_DAY: i64 = 657_802;
 /// The last day that a line may name: 31 December 2048 (R.D.).
 pub const LAST_ANSWERED_DAY: i64 = 748_017;
 
-/// A calendar of dates: the Gregorian calendar, the day number of the book (R.D.), the Persian, the Bahá'í or the
-/// Chinese calendar.
+/// A calendar of dates: the Gregorian calendar, the day number of the book (R.D.), the Persian, the Bahá'í, the Chinese or the
+/// Islamic calendar.
 #[derive(Clone, Copy, Debug, PartialEq, Eq)]
 pub enum Calendar {
     Gregorian,
@@ -17,6 +17,7 @@ pub enum Calendar {
     Persian,
     Bahai,
     Chinese,
+    Islamic,
 }
 
 /// What differs from calendar to calendar. The number of a date's year is the offset and the sum of the fields, each
@@ -43,7 +44,7 @@ pub struct CalendarRow {
 /// The calendars, in the order of their values. The days of Gregorian dates and day numbers are known without any fact
 /// and tell which of them are answered.
 #[rattlefmt::skip]
-pub const CALENDARS: [CalendarRow; 5] = [
+pub const CALENDARS: [CalendarRow; 6] = [
     CalendarRow { calendar: Calendar::Gregorian, count: 3, limits: [(1, 9999), (1, 12), (1, 31), (0, 0), (0, 0)],
         weights: [1, 0, 0, 0, 0], offset: 0, years: (1, 9999), is_confirmed: false, is_padded: true },
     CalendarRow { calendar: Calendar::Fixed, count: 1, limits: [(0, 9_999_999), (0, 0), (0, 0), (0, 0), (0, 0)],
@@ -54,6 +55,8 @@ pub const CALENDARS: [CalendarRow; 5] = [
         weights: [361, 19, 1, 0, 0], offset: -380, years: (-42, 205), is_confirmed: true, is_padded: false },
     CalendarRow { calendar: Calendar::Chinese, count: 5, limits: [(1, 99), (1, 60), (1, 12), (0, 1), (1, 30)],
         weights: [60, 1, 0, 0, 0], offset: -60, years: (4438, 4685), is_confirmed: true, is_padded: false },
+    CalendarRow { calendar: Calendar::Islamic, count: 3, limits: [(1, 9999), (1, 12), (1, 30), (0, 0), (0, 0)],
+        weights: [1, 0, 0, 0, 0], offset: 0, years: (1216, 1471), is_confirmed: true, is_padded: false },
 ];
 
 impl Calendar {

@@ -20,3 +20,7 @@ pub const BAHAI_EPOCH: i64 = 673_222;
 /// The day from which the years of the Chinese cycles of 60 are counted: 15 February -2636 (R.D.; Reingold and Dershowitz,
 /// Calendrical Calculations, chapter 19).
 pub const CHINESE_EPOCH: i64 = -963_099;
+
+/// The first day of the Islamic year 1: 16 July 622 of the Julian calendar (R.D.; Reingold and Dershowitz, Calendrical
+/// Calculations, chapter 7).
+pub const ISLAMIC_EPOCH: i64 = 227_015;

@@ -15,6 +15,11 @@ pub enum Kind {
     NewMoonBefore,
     NewMoonFrom,
     Major,
+    Phasis,
+    NewMoon,
+    FirstQuarter,
+    FullMoon,
+    LastQuarter,
     Sunset,
 }
 
@@ -38,7 +43,7 @@ pub struct Fact {
 
 /// Each kind of fact with its printed name and the places that it is asked of, in the order of the variants.
 #[rattlefmt::skip]
-pub const KINDS: [(Kind, &str, &[Place]); 9] = [
+pub const KINDS: [(Kind, &str, &[Place]); 14] = [
     (Kind::Dt, "dt", &[Place::None]),
     (Kind::Sun, "sun", &[Place::None]),
     (Kind::Nowruz, "nowruz", &[Place::None]),
@@ -47,6 +52,11 @@ pub const KINDS: [(Kind, &str, &[Place]); 9] = [
     (Kind::NewMoonBefore, "new-moon-before", &[Place::Beijing]),
     (Kind::NewMoonFrom, "new-moon-from", &[Place::Beijing]),
     (Kind::Major, "major", &[Place::Beijing]),
+    (Kind::Phasis, "phasis", &[Place::Cairo]),
+    (Kind::NewMoon, "new-moon", &[Place::None]),
+    (Kind::FirstQuarter, "first-quarter", &[Place::None]),
+    (Kind::FullMoon, "full-moon", &[Place::None]),
+    (Kind::LastQuarter, "last-quarter", &[Place::None]),
     (Kind::Sunset, "sunset", &[Place::Tehran, Place::Cairo, Place::Ujjain]),
 ];
 

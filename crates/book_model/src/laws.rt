@@ -14,13 +14,13 @@ ghost use Rattle.book_model.specs.Calendar.{year_of_day, IsYearOfDay};
 ghost use Rattle.book_model.specs.Programs.{Grid, CellsCut};
 ghost use Rattle.book_model.specs.Noon.{StartsNear};
 ghost use Rattle.book_model.specs.Dates.{row_of};
-ghost use Rattle.book_model.specs.Words.{from_word_of, to_word_of, text_of_from, text_of_to, from_words, to_words, are_distinct_words, shown_by};
+ghost use Rattle.book_model.specs.Words.{from_word_of, to_word_of, text_of_from, text_of_to, from_words, to_words, are_distinct_words, named_by, shown_by};
 ghost use Rattle.book_model.specs.Names.{has_place, kind_name, kind_named, place_name, place_named, site_name, site_named};
 ghost use Rattle.book_model.specs.declared.fact.Kind.{Kind};
 ghost use Rattle.book_model.specs.declared.fact.Place.{Place};
 ghost use Rattle.book_model.specs.declared.site.Site.{Site};
 
-use crate::{Calendar, FromWord, Shown, ToWord};
+use crate::{Calendar, FromWord, Named, Shown, ToWord};
 
 /// Nesting: at a greater depth, with narrower arguments, each expression's value lies within its value here, and
 /// each program makes the same tests as far as they are decided here, with the same answers.
@@ -112,14 +112,15 @@ pub fn starts()
     ensures { StartsNear }
 {}
 
-/// The word for a value is found as that value, and no table has a word twice. What a word shows that is no date is the
-/// value of facts that there are.
-#[tactic(auto, using(crate::proofs::WordTables::from_found, crate::proofs::WordTables::to_found, crate::proofs::WordTables::value_placed))]
+/// The word for a value is found as that value, and no table has a word twice. What a word names or shows that is no date is
+/// the value of facts that there are.
+#[tactic(auto, using(crate::proofs::WordTables::from_found, crate::proofs::WordTables::to_found, crate::proofs::WordTables::day_placed, crate::proofs::WordTables::value_placed))]
 pub fn words()
     ensures from { (w : FromWord) → from_word_of (text_of_from w) ≡ Some w }
     ensures to { (w : ToWord) → to_word_of (text_of_to w) ≡ Some w }
     ensures distinct_from { IsTrue (are_distinct_words (map (λ row. row.1) from_words)) }
     ensures distinct_to { IsTrue (are_distinct_words (map (λ row. row.1) to_words)) }
+    ensures named { (w : FromWord) (kind : Kind) (place : Place) → named_by w ≡ Named.Value kind place → IsTrue (has_place kind place) }
     ensures placed { (w : ToWord) (kind : Kind) (place : Place) → shown_by w ≡ Shown.Value kind place → IsTrue (has_place kind place) }
 {}
 

@@ -1,8 +1,8 @@
-//! The tables and constants of the moon's longitude and distance. Each stands here once; the definitions read them too.
+//! The tables and constants of the moon's longitude, latitude and distance. Each stands here once; the definitions read them too.
 //! The source is Reingold and Dershowitz, Calendrical Calculations, chapter 14, after Jean Meeus, Astronomical Algorithms,
 //! chapter 47, who takes them from Chapront-Touzé and Chapront. Angles are in degrees, by the centuries of dynamical time
 //! from noon of 1 January 2000.
-use crate::{Cubic, Frac, MoonTerm, Quadratic, Quartic, Wave};
+use crate::{Cubic, Frac, LatitudeTerm, MoonTerm, Quadratic, Quartic, Wave};
 
 /// The mean longitude of the moon.
 #[rattlefmt::skip]
@@ -141,4 +141,86 @@ pub const MOON_TERMS: [MoonTerm; 60] = [
     MoonTerm { elongation: 1, sun_anomaly: 1, moon_anomaly: -1, latitude_argument: 0, longitude: 299, distance: 0 },
     MoonTerm { elongation: 2, sun_anomaly: 0, moon_anomaly: 3, latitude_argument: 0, longitude: 294, distance: 0 },
     MoonTerm { elongation: 2, sun_anomaly: 0, moon_anomaly: -1, latitude_argument: -2, longitude: 0, distance: 8752 },
+];
+
+/// What Venus adds to the moon's latitude, in millionths of a degree: this times the sine of the angle of its wave in the
+/// longitude and the argument of latitude, and this times the sine of the angle less that.
+pub const VENUS_IN_LATITUDE: i64 = 175;
+
+/// What the flattening of the earth adds to the moon's latitude, in millionths of a degree: the first times the sine of the mean
+/// longitude, the second times that of it less the moon's anomaly, the third times that of both.
+pub const FLATTENING_ALONE: i64 = -2235;
+
+pub const FLATTENING_LESS_ANOMALY: i64 = 127;
+
+pub const FLATTENING_WITH_ANOMALY: i64 = -115;
+
+/// A wave of the moon's latitude, in millionths of a degree.
+#[rattlefmt::skip]
+pub const LATITUDE_WAVE: Wave = Wave { size: 382, phase: 3_134_500_000, rate: 4_812_664_840_000 };
+
+/// The terms of the moon's latitude: the multiples of the four angles, and what the sine of their sum adds, in millionths of a
+/// degree.
+#[rattlefmt::skip]
+pub const LATITUDE_TERMS: [LatitudeTerm; 60] = [
+    LatitudeTerm { elongation: 0, sun_anomaly: 0, moon_anomaly: 0, latitude_argument: 1, latitude: 5_128_122 },
+    LatitudeTerm { elongation: 0, sun_anomaly: 0, moon_anomaly: 1, latitude_argument: 1, latitude: 280_602 },
+    LatitudeTerm { elongation: 0, sun_anomaly: 0, moon_anomaly: 1, latitude_argument: -1, latitude: 277_693 },
+    LatitudeTerm { elongation: 2, sun_anomaly: 0, moon_anomaly: 0, latitude_argument: -1, latitude: 173_237 },
+    LatitudeTerm { elongation: 2, sun_anomaly: 0, moon_anomaly: -1, latitude_argument: 1, latitude: 55_413 },
+    LatitudeTerm { elongation: 2, sun_anomaly: 0, moon_anomaly: -1, latitude_argument: -1, latitude: 46_271 },
+    LatitudeTerm { elongation: 2, sun_anomaly: 0, moon_anomaly: 0, latitude_argument: 1, latitude: 32_573 },
+    LatitudeTerm { elongation: 0, sun_anomaly: 0, moon_anomaly: 2, latitude_argument: 1, latitude: 17_198 },
+    LatitudeTerm { elongation: 2, sun_anomaly: 0, moon_anomaly: 1, latitude_argument: -1, latitude: 9266 },
+    LatitudeTerm { elongation: 0, sun_anomaly: 0, moon_anomaly: 2, latitude_argument: -1, latitude: 8822 },
+    LatitudeTerm { elongation: 2, sun_anomaly: -1, moon_anomaly: 0, latitude_argument: -1, latitude: 8216 },
+    LatitudeTerm { elongation: 2, sun_anomaly: 0, moon_anomaly: -2, latitude_argument: -1, latitude: 4324 },
+    LatitudeTerm { elongation: 2, sun_anomaly: 0, moon_anomaly: 1, latitude_argument: 1, latitude: 4200 },
+    LatitudeTerm { elongation: 2, sun_anomaly: 1, moon_anomaly: 0, latitude_argument: -1, latitude: -3359 },
+    LatitudeTerm { elongation: 2, sun_anomaly: -1, moon_anomaly: -1, latitude_argument: 1, latitude: 2463 },
+    LatitudeTerm { elongation: 2, sun_anomaly: -1, moon_anomaly: 0, latitude_argument: 1, latitude: 2211 },
+    LatitudeTerm { elongation: 2, sun_anomaly: -1, moon_anomaly: -1, latitude_argument: -1, latitude: 2065 },
+    LatitudeTerm { elongation: 0, sun_anomaly: 1, moon_anomaly: -1, latitude_argument: -1, latitude: -1870 },
+    LatitudeTerm { elongation: 4, sun_anomaly: 0, moon_anomaly: -1, latitude_argument: -1, latitude: 1828 },
+    LatitudeTerm { elongation: 0, sun_anomaly: 1, moon_anomaly: 0, latitude_argument: 1, latitude: -1794 },
+    LatitudeTerm { elongation: 0, sun_anomaly: 0, moon_anomaly: 0, latitude_argument: 3, latitude: -1749 },
+    LatitudeTerm { elongation: 0, sun_anomaly: 1, moon_anomaly: -1, latitude_argument: 1, latitude: -1565 },
+    LatitudeTerm { elongation: 1, sun_anomaly: 0, moon_anomaly: 0, latitude_argument: 1, latitude: -1491 },
+    LatitudeTerm { elongation: 0, sun_anomaly: 1, moon_anomaly: 1, latitude_argument: 1, latitude: -1475 },
+    LatitudeTerm { elongation: 0, sun_anomaly: 1, moon_anomaly: 1, latitude_argument: -1, latitude: -1410 },
+    LatitudeTerm { elongation: 0, sun_anomaly: 1, moon_anomaly: 0, latitude_argument: -1, latitude: -1344 },
+    LatitudeTerm { elongation: 1, sun_anomaly: 0, moon_anomaly: 0, latitude_argument: -1, latitude: -1335 },
+    LatitudeTerm { elongation: 0, sun_anomaly: 0, moon_anomaly: 3, latitude_argument: 1, latitude: 1107 },
+    LatitudeTerm { elongation: 4, sun_anomaly: 0, moon_anomaly: 0, latitude_argument: -1, latitude: 1021 },
+    LatitudeTerm { elongation: 4, sun_anomaly: 0, moon_anomaly: -1, latitude_argument: 1, latitude: 833 },
+    LatitudeTerm { elongation: 0, sun_anomaly: 0, moon_anomaly: 1, latitude_argument: -3, latitude: 777 },
+    LatitudeTerm { elongation: 4, sun_anomaly: 0, moon_anomaly: -2, latitude_argument: 1, latitude: 671 },
+    LatitudeTerm { elongation: 2, sun_anomaly: 0, moon_anomaly: 0, latitude_argument: -3, latitude: 607 },
+    LatitudeTerm { elongation: 2, sun_anomaly: 0, moon_anomaly: 2, latitude_argument: -1, latitude: 596 },
+    LatitudeTerm { elongation: 2, sun_anomaly: -1, moon_anomaly: 1, latitude_argument: -1, latitude: 491 },
+    LatitudeTerm { elongation: 2, sun_anomaly: 0, moon_anomaly: -2, latitude_argument: 1, latitude: -451 },
+    LatitudeTerm { elongation: 0, sun_anomaly: 0, moon_anomaly: 3, latitude_argument: -1, latitude: 439 },
+    LatitudeTerm { elongation: 2, sun_anomaly: 0, moon_anomaly: 2, latitude_argument: 1, latitude: 422 },
+    LatitudeTerm { elongation: 2, sun_anomaly: 0, moon_anomaly: -3, latitude_argument: -1, latitude: 421 },
+    LatitudeTerm { elongation: 2, sun_anomaly: 1, moon_anomaly: -1, latitude_argument: 1, latitude: -366 },
+    LatitudeTerm { elongation: 2, sun_anomaly: 1, moon_anomaly: 0, latitude_argument: 1, latitude: -351 },
+    LatitudeTerm { elongation: 4, sun_anomaly: 0, moon_anomaly: 0, latitude_argument: 1, latitude: 331 },
+    LatitudeTerm { elongation: 2, sun_anomaly: -1, moon_anomaly: 1, latitude_argument: 1, latitude: 315 },
+    LatitudeTerm { elongation: 2, sun_anomaly: -2, moon_anomaly: 0, latitude_argument: -1, latitude: 302 },
+    LatitudeTerm { elongation: 0, sun_anomaly: 0, moon_anomaly: 1, latitude_argument: 3, latitude: -283 },
+    LatitudeTerm { elongation: 2, sun_anomaly: 1, moon_anomaly: 1, latitude_argument: -1, latitude: -229 },
+    LatitudeTerm { elongation: 1, sun_anomaly: 1, moon_anomaly: 0, latitude_argument: -1, latitude: 223 },
+    LatitudeTerm { elongation: 1, sun_anomaly: 1, moon_anomaly: 0, latitude_argument: 1, latitude: 223 },
+    LatitudeTerm { elongation: 0, sun_anomaly: 1, moon_anomaly: -2, latitude_argument: -1, latitude: -220 },
+    LatitudeTerm { elongation: 2, sun_anomaly: 1, moon_anomaly: -1, latitude_argument: -1, latitude: -220 },
+    LatitudeTerm { elongation: 1, sun_anomaly: 0, moon_anomaly: 1, latitude_argument: 1, latitude: -185 },
+    LatitudeTerm { elongation: 2, sun_anomaly: -1, moon_anomaly: -2, latitude_argument: -1, latitude: 181 },
+    LatitudeTerm { elongation: 0, sun_anomaly: 1, moon_anomaly: 2, latitude_argument: 1, latitude: -177 },
+    LatitudeTerm { elongation: 4, sun_anomaly: 0, moon_anomaly: -2, latitude_argument: -1, latitude: 176 },
+    LatitudeTerm { elongation: 4, sun_anomaly: -1, moon_anomaly: -1, latitude_argument: -1, latitude: 166 },
+    LatitudeTerm { elongation: 1, sun_anomaly: 0, moon_anomaly: 1, latitude_argument: -1, latitude: -164 },
+    LatitudeTerm { elongation: 4, sun_anomaly: 0, moon_anomaly: 1, latitude_argument: -1, latitude: 132 },
+    LatitudeTerm { elongation: 1, sun_anomaly: 0, moon_anomaly: -1, latitude_argument: -1, latitude: -119 },
+    LatitudeTerm { elongation: 4, sun_anomaly: -1, moon_anomaly: 0, latitude_argument: -1, latitude: 115 },
+    LatitudeTerm { elongation: 2, sun_anomaly: -2, moon_anomaly: 0, latitude_argument: 1, latitude: 107 },
 ];

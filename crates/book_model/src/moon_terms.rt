@@ -12,6 +12,17 @@ pub struct MoonTerm {
     pub distance: i64,
 }
 
+/// A term of the moon's latitude: the multiples of its elongation, of the sun's and of its own anomaly and of its argument of
+/// latitude, and the size in millionths of a degree.
+#[derive(Clone, Copy, Debug, PartialEq, Eq)]
+pub struct LatitudeTerm {
+    pub elongation: i64,
+    pub sun_anomaly: i64,
+    pub moon_anomaly: i64,
+    pub latitude_argument: i64,
+    pub latitude: i64,
+}
+
 /// A term of a new moon: the power of the eccentricity's factor, the multiples of the anomalies of the sun and of the moon
 /// and of the argument of latitude, and the size in hundred-thousandths of a day.
 #[derive(Clone, Copy, Debug, PartialEq, Eq)]

@@ -80,6 +80,12 @@ pub const TURN: Frac = Frac { num: 360, den: 1 };
 /// A degree of the moon's phase, in synodic months.
 pub const DEGREE_IN_MONTHS: Frac = Frac { num: 1, den: 360 };
 
+/// The time in which the moon's phase moves on by a degree, in days: a 360th of the synodic month.
+pub const DEGREE_OF_MONTH: Frac = Frac {
+    num: SYNODIC_MONTH.num,
+    den: 360 * SYNODIC_MONTH.den,
+};
+
 /// The terms of a new moon: the power of the eccentricity's factor, the multiples of the anomalies of the sun and of the
 /// moon and of the argument of latitude, and what the sine of their sum adds, in hundred-thousandths of a day.
 #[rattlefmt::skip]

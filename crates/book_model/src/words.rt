@@ -5,8 +5,8 @@ ghost use Rattle.std.specs.Prelude.{◌≡◌};
 use crate::names::first_row_named;
 use crate::{Calendar, Kind, Place};
 
-/// A word for the calendar of a line's date: a Gregorian date, the day number of the book (R.D.), a Persian, a
-/// Bahá'í or a Chinese date.
+/// A word for what a line's date names: the day of a Gregorian date, of a day number of the book (R.D.), of a Persian, a Bahá'í, a
+/// Chinese or an Islamic date, or the day on which the moon was last new, at its first quarter, full or at its last quarter.
 #[derive(Clone, Copy, Debug, PartialEq, Eq)]
 pub enum FromWord {
     Gregorian,
@@ -14,10 +14,15 @@ pub enum FromWord {
     Persian,
     Bahai,
     Chinese,
+    Islamic,
+    NewMoon,
+    FirstQuarter,
+    FullMoon,
+    LastQuarter,
 }
 
-/// A word for what a line asks: the Gregorian date, the day number (R.D.), the Persian, the Bahá'í or the Chinese date, the
-/// dynamical time correction, the longitude of the sun, or sunset at Tehran, Cairo or Ujjain.
+/// A word for what a line asks: the Gregorian date, the day number (R.D.), the Persian, the Bahá'í, the Chinese or the Islamic
+/// date, the dynamical time correction, the longitude of the sun, or sunset at Tehran, Cairo or Ujjain.
 #[derive(Clone, Copy, Debug, PartialEq, Eq)]
 pub enum ToWord {
     Gregorian,
@@ -25,11 +30,20 @@ pub enum ToWord {
     Persian,
     Bahai,
     Chinese,
+    Islamic,
     Dt,
     Sun,
     SunsetTehran,
     SunsetCairo,
     SunsetUjjain,
+}
+
+/// What a word and a date name: the day of the date in a calendar, or the value of the fact of this kind at this place for the day
+/// of the date in the Gregorian calendar.
+#[derive(Clone, Copy, Debug, PartialEq, Eq)]
+pub enum Named {
+    Date(Calendar),
+    Value(Kind, Place),
 }
 
 /// What is shown of a day: its date in a calendar, or the value of its fact of this kind at this place.
@@ -39,24 +53,30 @@ pub enum Shown {
     Value(Kind, Place),
 }
 
-/// The words that stand before a date, in the order of their values, with the calendar of the date.
+/// The words that stand before a date, in the order of their values, with what they name by the date.
 #[rattlefmt::skip]
-pub const FROM_WORDS: [(FromWord, &str, Calendar); 5] = [
-    (FromWord::Gregorian, "gregorian", Calendar::Gregorian),
-    (FromWord::Fixed, "fixed", Calendar::Fixed),
-    (FromWord::Persian, "persian", Calendar::Persian),
-    (FromWord::Bahai, "bahai", Calendar::Bahai),
-    (FromWord::Chinese, "chinese", Calendar::Chinese),
+pub const FROM_WORDS: [(FromWord, &str, Named); 10] = [
+    (FromWord::Gregorian, "gregorian", Named::Date(Calendar::Gregorian)),
+    (FromWord::Fixed, "fixed", Named::Date(Calendar::Fixed)),
+    (FromWord::Persian, "persian", Named::Date(Calendar::Persian)),
+    (FromWord::Bahai, "bahai", Named::Date(Calendar::Bahai)),
+    (FromWord::Chinese, "chinese", Named::Date(Calendar::Chinese)),
+    (FromWord::Islamic, "islamic", Named::Date(Calendar::Islamic)),
+    (FromWord::NewMoon, "new-moon", Named::Value(Kind::NewMoon, Place::None)),
+    (FromWord::FirstQuarter, "first-quarter", Named::Value(Kind::FirstQuarter, Place::None)),
+    (FromWord::FullMoon, "full-moon", Named::Value(Kind::FullMoon, Place::None)),
+    (FromWord::LastQuarter, "last-quarter", Named::Value(Kind::LastQuarter, Place::None)),
 ];
 
 /// The words for what a line asks, in the order of their values, with what they show of a day.
 #[rattlefmt::skip]
-pub const TO_WORDS: [(ToWord, &str, Shown); 10] = [
+pub const TO_WORDS: [(ToWord, &str, Shown); 11] = [
     (ToWord::Gregorian, "gregorian", Shown::Date(Calendar::Gregorian)),
     (ToWord::Fixed, "fixed", Shown::Date(Calendar::Fixed)),
     (ToWord::Persian, "persian", Shown::Date(Calendar::Persian)),
     (ToWord::Bahai, "bahai", Shown::Date(Calendar::Bahai)),
     (ToWord::Chinese, "chinese", Shown::Date(Calendar::Chinese)),
+    (ToWord::Islamic, "islamic", Shown::Date(Calendar::Islamic)),
     (ToWord::Dt, "dt", Shown::Value(Kind::Dt, Place::None)),
     (ToWord::Sun, "sun", Shown::Value(Kind::Sun, Place::None)),
     (ToWord::SunsetTehran, "sunset-tehran", Shown::Value(Kind::Sunset, Place::Tehran)),
@@ -65,7 +85,7 @@ pub const TO_WORDS: [(ToWord, &str, Shown); 10] = [
 ];
 
 impl FromWord {
-    ghost use Rattle.book_model.specs.Words.{from_word_of, calendar_of};
+    ghost use Rattle.book_model.specs.Words.{from_word_of, named_by, calendar_of};
 
     /// What a word before a date stands for, if it is one.
     pub fn named(word: &[u8]) -> Option<FromWord>
@@ -74,11 +94,21 @@ impl FromWord {
         first_row_named(&FROM_WORDS, word)
     }
 
+    /// What the word names by the date that follows it.
+    pub fn names(self) -> Named
+        ensures named { result ≡ named_by self }
+    {
+        FROM_WORDS[self as usize].2
+    }
+
     /// The calendar of the date that follows the word.
     pub fn calendar(self) -> Calendar
         ensures calendar { result ≡ calendar_of self }
     {
-        FROM_WORDS[self as usize].2
+        match self.names() {
+            Named::Date(calendar) => calendar,
+            Named::Value(_, _) => Calendar::Gregorian,
+        }
     }
 }
 

@@ -1,4 +1,4 @@
--- The year of a whole day, by an enclosure of the day, what that says of the sun's longitude, and the values of facts.
+-- What the year of a whole day says of the sun's longitude, and the values of facts.
 use Rattle.std.specs.Prelude.{◌≡◌, ℕ, ◌-◌, ◌*◌, ◌^◌, ◌≤◌, nat_lt, true, ℤ, pos, ◌*ℤ◌, unsigned_abs, Some, Result, Ok, Err, IfOk, FitsSigned, refl}
 use Rattle.std.proofs.Common.{arith, subst}
 use Rattle.std.proofs.lemmas.Int.{ints}
@@ -25,41 +25,9 @@ use Rattle.book_model.proofs.FactRuns.{sun_value}
 use Rattle.book_model.proofs.Implying.{limits_within}
 use Rattle.book_model.proofs.Leads.{leads_value}
 use Rattle.encl_core.specs.Steps.{IsOpenFloor}
-use Rattle.time_scales.specs.Steps.{IsYearOpenFor}
-use Rattle.fact_eval.specs.Widths.{IsNotOfYear, IsNearFor}
-
--- ---- an enclosure of a whole day lies in its year
-floor_of_day : (d : ℤ) → floor (at_32 (d *ℤ pos (2 ^ 32))) ≡ d
-floor_of_day d = let f = floor_quotient_is (d *ℤ pos (2 ^ 32)) (2 ^ 32 - 1) in omega (arith, ints, f.not_above, f.close)
-
-year_of_ends : (i : Interval) (d : ℤ) (w : ℕ) → IsNarrow w (bounded (d *ℤ pos (2 ^ 32)) (d *ℤ pos (2 ^ 32)) 0 0) i → cell_at years i ≡ Some (year_of_day d)
-unfolding IsNarrow cell_at cell_of
-year_of_ends everything d w h = absurd h
-year_of_ends (between lo hi) d w h =
-    let l = floor_mono _ _ h.above in
-    let m = floor_mono _ _ h.ordered in
-    let u = floor_mono _ _ h.below in
-    let f = floor_of_day d in
-    let p : floor lo ≡ d = omega (arith, ints, l, m, u, f) in
-    let q : floor hi ≡ d = omega (arith, ints, l, m, u, f) in
-    let t : int_eq (year_of_day d) (year_of_day d) ≡ true = (Decides-int_eq (year_of_day d) (year_of_day d)).1 refl in
-    rw (p, q, t) refl
-
-year_enclosed : {E : Type 0} (shown : E → Interval) (bits : ℕ) (d : ℤ) (e : E) → 36 ≤ bits → bits ≤ 56 → IsValueDay d → Narrow shown (limits_of bits) (record { width = 0; bounds = λ k. unbounded }) (integer d) e
-    → cell_at years (shown e) ≡ Some (year_of_day d)
-unfolding Keeps bound_of integer_bound
-year_enclosed shown bits d e a b h n =
-    let small : nat_lt (unsigned_abs d * 2 ^ 32) (2 ^ 58) ≡ true = (Decides-ltb (unsigned_abs d * 2 ^ 32) (2 ^ 58)).1 (omega (arith, ints, h.0, h.1)) in
-    let kept = (rw (limits_within bits a b) at n).kept in
-    year_of_ends (shown e) d 0 (rw small at kept)
-
-closed_year : (i : Interval) (y : ℤ) (f : Fail) → cell_at years i ≡ Some y → FitsSigned w64 y → IsYearOpenFor i f → IsNotOfYear f
-closed_year i y (Void s) e g h = tt
-closed_year i y (undecided_at u) e g h = λ s. by (h s)
-  where
-    by : IsOpenCell years i u.lo u.hi → ⊥
-    by (between_cells n a) = absurd (cc)
-    by (too_far q c n b) = let z : y ≡ q = cc in n (subst (λ t. FitsSigned w64 t) z g)
+use Rattle.time_scales.specs.Steps.{IsYearOpenFor, IsNotOfYear}
+use Rattle.time_scales.proofs.WholeDays.{closed_year, year_enclosed}
+use Rattle.fact_eval.specs.Widths.{IsNearFor}
 
 -- a failure that isn't at the year is one of the sun's longitude
 sun_keeps : (y : ℤ) (f : Fail) → IsNotOfYear f → IsNearFor Sun y f

@@ -1,8 +1,10 @@
 -- The answer that an evaluation gives is right for its fact.
 use Rattle.std.specs.Prelude.{◌≡◌, ℕ, ◌≤◌, ℤ, Result, Ok, Err, IfOk, IfErr, refl, true, false}
+use Rattle.std.proofs.Common.{arith, ◌⊎◌, inl, inr}
+use Rattle.std.proofs.lemmas.Int.{ints}
 use Rattle.book_model.specs.declared.fact.Fact.{Fact}
 use Rattle.book_model.specs.declared.fact.Kind.{Kind}
-use Rattle.book_model.specs.declared.fact.Kind.TheVariants.{Dt, Nowruz, BahaiYear, Solstice, NewMoonBefore, NewMoonFrom, Major, Sunset}
+use Rattle.book_model.specs.declared.fact.Kind.TheVariants.{Dt, Nowruz, BahaiYear, Solstice, NewMoonBefore, NewMoonFrom, Major, Phasis, NewMoon, FirstQuarter, FullMoon, LastQuarter, Sunset}
 use Rattle.book_model.specs.declared.fact.TheConstants.{FIRST_DAY, LAST_DAY}
 use Rattle.book_model.specs.declared.site.Site.TheVariants.{Year}
 use Rattle.book_model.specs.declared.fail.Fail.{Fail}
@@ -15,6 +17,8 @@ use Rattle.book_model.specs.Leading.{Exact, Leads}
 use Rattle.book_model.specs.Programs.{void, AtMost, void_at_most}
 use Rattle.book_model.proofs.Corrections.{few_of_two}
 use Rattle.book_model.proofs.Evaluations.{true_of_leads, void_of_leads, near_of_leads}
+use Rattle.book_model.proofs.PhaseDays.{IsPhaseDay}
+use Rattle.time_scales.specs.Steps.{IsNoEarlyYear}
 use Rattle.oracle_core.specs.Answers.{IsRightAnswer}
 use Rattle.fact_eval.specs.Answers.{answer_of}
 use Rattle.fact_eval.specs.Widths.{IsNearFor}
@@ -62,6 +66,38 @@ major_keeps y r = nothing_promised Major y r (λ w. w) (λ e. absurd (cc))
 
 pub sunset_keeps : (y : ℤ) (r : Result ℤ Fail) → IfErr r (IsNearFor Sunset y)
 sunset_keeps y r = nothing_promised Sunset y r (λ w. w) (λ e. absurd (cc))
+
+-- the kinds of which the first and the third test of the year are made on the day itself, and never open
+of_whole_days : (k : Kind) (y : ℤ) (r : Result ℤ Fail) → (k ≡ Dt → ⊥) → IfErr r IsNoEarlyYear → IfErr r (IsNearFor k y)
+of_whole_days k y (Ok v) d h = tt
+of_whole_days k y (Err (undecided_at u)) d h = record { no_whole_day = λ e t w. h e (early t); close = λ e a b. absurd (d e) }
+  where
+    early : (u.turn ≡ 1) ⊎ (u.turn ≡ 3) → u.turn ≤ 3
+    early (inl e) = omega (arith, e)
+    early (inr e) = omega (arith, e)
+of_whole_days k y (Err (Void s)) d h = tt
+
+pub phasis_keeps : (y : ℤ) (r : Result ℤ Fail) → IfErr r IsNoEarlyYear → IfErr r (IsNearFor Phasis y)
+phasis_keeps y r h = of_whole_days Phasis y r (λ e. absurd (cc)) h
+
+pub new_moon_keeps : (y : ℤ) (r : Result ℤ Fail) → IfErr r IsNoEarlyYear → IfErr r (IsNearFor NewMoon y)
+new_moon_keeps y r h = of_whole_days NewMoon y r (λ e. absurd (cc)) h
+
+pub first_quarter_keeps : (y : ℤ) (r : Result ℤ Fail) → IfErr r IsNoEarlyYear → IfErr r (IsNearFor FirstQuarter y)
+first_quarter_keeps y r h = of_whole_days FirstQuarter y r (λ e. absurd (cc)) h
+
+pub full_moon_keeps : (y : ℤ) (r : Result ℤ Fail) → IfErr r IsNoEarlyYear → IfErr r (IsNearFor FullMoon y)
+full_moon_keeps y r h = of_whole_days FullMoon y r (λ e. absurd (cc)) h
+
+pub last_quarter_keeps : (y : ℤ) (r : Result ℤ Fail) → IfErr r IsNoEarlyYear → IfErr r (IsNearFor LastQuarter y)
+last_quarter_keeps y r h = of_whole_days LastQuarter y r (λ e. absurd (cc)) h
+
+pub ruleset keeping = (phasis_keeps, new_moon_keeps, first_quarter_keeps, full_moon_keeps, last_quarter_keeps)
+
+-- the day of a phase is a value that a fact may have
+pub phase_day_is_value : (r : Result ℤ Fail) → IfOk r IsPhaseDay → IfOk r IsFactValue
+phase_day_is_value (Ok v) h = (omega (arith, ints, h.from), omega (arith, ints, h.to))
+phase_day_is_value (Err f) h = tt
 
 -- what an evaluation that began with no test counted gives is right
 pub right_result : (f : Fact) (t : Result ℤ Fail) (a : ℕ) → ((w : World) → 40 ≤ w.depth → Leads w Exact (program_of f) 0 a t) → IfOk t IsFactValue → IfErr t (IsNearFor f.kind (year_of_day f.day)) → AtMost 99999 (program_of f) → IsRightAnswer f (answer_of t)

@@ -30,8 +30,3 @@ pub record KeepsNear (kind : Kind) (year : ℤ) (u : OpenTest) : Type 0 where
 abbrev pub IsNearFor : Kind → ℤ → Fail → Type 0
 IsNearFor kind year (Undecided u) = KeepsNear kind year u
 IsNearFor kind year (Void s) = Unit {0}
-
--- an open test is not that of the year
-abbrev pub IsNotOfYear : Fail → Type 0
-IsNotOfYear (Undecided u) = u.site ≡ Year → ⊥
-IsNotOfYear (Void s) = Unit {0}

@@ -6,6 +6,7 @@ mod major;
 mod midnight;
 mod moon_days;
 mod nowruz;
+mod quarters;
 mod solstice;
 mod spring;
 mod staged;

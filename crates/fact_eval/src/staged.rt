@@ -15,6 +15,7 @@ use crate::dt::dt;
 use crate::major::major;
 use crate::moon_days::{new_moon_before, new_moon_from};
 use crate::nowruz::nowruz;
+use crate::quarters::{phase_day, phasis};
 use crate::solstice::solstice;
 use crate::sun::sun_in_thousandths;
 use crate::sunsets::{bahai_year, sunset_in_minutes};
@@ -34,13 +35,13 @@ impl Staged {
 }
 
 /// The value that the formula of a kind of fact gives at a place on a day (R.D.): one line for each kind.
-#[tactic(auto, unfolding(book_model::specs::Facts::formula_of))]
+#[tactic(auto, using(crate::proofs::Rightness::keeping), unfolding(book_model::specs::Facts::formula_of))]
 fn formula<E: Enclosure>(kind: Kind, place: Place, day: i64, trail: &mut Trail) -> Result<i64, Fail>
     requires day { IsValueDay day }
     ensures few { AtMost 99999 (formula_of kind place day) }
     ensures leads { (w : World) → DEPTH ≤ w.depth → Leads w Exact (formula_of kind place day) trail.old.count trail.new.count result }
     ensures value { IfOk result IsFactValue }
-    ensures open { 36 ≤ E.BITS → E.BITS ≤ 56 → IfErr result (IsNearFor kind (year_of_day day)) }
+    ensures open { trail.old.count ≡ 0 → 36 ≤ E.BITS → E.BITS ≤ 56 → IfErr result (IsNearFor kind (year_of_day day)) }
 {
     match kind {
         Kind::Dt => dt::<E>(day, trail),
@@ -51,6 +52,11 @@ fn formula<E: Enclosure>(kind: Kind, place: Place, day: i64, trail: &mut Trail) 
         Kind::NewMoonBefore => new_moon_before::<E>(day, trail),
         Kind::NewMoonFrom => new_moon_from::<E>(day, trail),
         Kind::Major => major::<E>(day, trail),
+        Kind::Phasis => phasis::<E>(place, day, trail),
+        Kind::NewMoon => phase_day::<E>(0, day, trail),
+        Kind::FirstQuarter => phase_day::<E>(90, day, trail),
+        Kind::FullMoon => phase_day::<E>(180, day, trail),
+        Kind::LastQuarter => phase_day::<E>(270, day, trail),
         Kind::Sunset => sunset_in_minutes::<E>(place, day, trail),
     }
 }
@@ -68,7 +74,7 @@ pub(crate) fn evaluate<E: Enclosure>(fact: Fact, trail: &mut Trail) -> Result<i6
     ensures few { AtMost 99999 (program_of fact) }
     ensures leads { (w : World) → DEPTH ≤ w.depth → Leads w Exact (program_of fact) trail.old.count trail.new.count result }
     ensures value { IfOk result IsFactValue }
-    ensures open { 36 ≤ E.BITS → E.BITS ≤ 56 → IfErr result (IsNearFor fact.kind (year_of_day fact.day)) }
+    ensures open { trail.old.count ≡ 0 → 36 ≤ E.BITS → E.BITS ≤ 56 → IfErr result (IsNearFor fact.kind (year_of_day fact.day)) }
 {
     let day = fact.day();
     if !may_have_value(day) {

@@ -48,7 +48,7 @@ pub(crate) fn bahai_year<E: Enclosure>(day: i64, trail: &mut Trail) -> Result<i6
 }
 
 /// The location of a place.
-fn location_of(place: Place) -> Location
+pub(crate) fn location_of(place: Place) -> Location
     ensures location { result ≡ location_at place }
 {
     match place {

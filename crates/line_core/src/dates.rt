@@ -68,7 +68,7 @@ pub(crate) fn have_same_fields(date: &Fields, other: &Fields) -> bool
 }
 
 /// The day (R.D.) of a Gregorian date that the calendar has.
-fn day_of_gregorian(date: &Fields) -> i64
+pub(crate) fn day_of_gregorian(date: &Fields) -> i64
     requires possible { IsTrue (spec.may_have Calendar.Gregorian date.now) }
     ensures day { result ≡ spec.gregorian_day date.now }
 {
@@ -92,6 +92,7 @@ pub(crate) fn named_day<O: Oracle>(
         Calendar::Persian => persian_cal::named_day(oracle, date),
         Calendar::Bahai => bahai_cal::named_day(oracle, date),
         Calendar::Chinese => chinese_cal::named_day(oracle, date),
+        Calendar::Islamic => islamic_observed::named_day(oracle, date),
     }
 }
 
@@ -111,5 +112,6 @@ pub(crate) fn date_on<O: Oracle>(
         Calendar::Persian => persian_cal::date_on(oracle, day),
         Calendar::Bahai => bahai_cal::date_on(oracle, day),
         Calendar::Chinese => chinese_cal::date_on(oracle, day),
+        Calendar::Islamic => islamic_observed::date_on(oracle, day),
     }
 }

@@ -3,12 +3,14 @@ ghost use Rattle.std.specs.Prelude.{◌≡◌, IsTrue};
 ghost use Rattle.book_model.specs.Dates as dates;
 ghost use Rattle.book_model.specs.LineRules as spec;
 ghost use Rattle.book_model.specs.Requests.{is_possible, is_in_reach};
-ghost use Rattle.book_model.specs.Words.{shown_by};
+ghost use Rattle.book_model.specs.Words.{named_by, shown_by};
 ghost use Rattle.oracle_core.specs.Inquiring.{Inquires};
 
-use crate::dates::{date_on, have_same_fields, named_day, one_field};
+use crate::dates::{date_on, day_of_gregorian, have_same_fields, named_day, one_field};
 use crate::gregorian::is_in_range;
-use book_model::{Calendar, Fact, Fields, Kind, Place, Request, Resolved, Shown, ToWord};
+use book_model::{
+    Calendar, Fact, Fields, FromWord, Kind, Named, Place, Request, Resolved, Shown, ToWord,
+};
 use oracle_core::{Oracle, Stop};
 
 /// The date of a day (R.D.) as a result. It stops where the oracle stops.
@@ -111,6 +113,30 @@ fn resolve_day<O: Oracle>(oracle: &mut O, request: &Request, day: i64) -> Result
     }
 }
 
+/// The fact by whose value a word and a Gregorian date name a day.
+#[tactic(auto, using(book_model::proofs::WordTables::day_placed), unfolding(book_model::specs::Dates::is_answered))]
+fn named_fact(from: FromWord, kind: Kind, place: Place, date: &Fields) -> Fact
+    requires named { named_by from ≡ Named.Value kind place }
+    requires possible { IsTrue (dates.may_have Calendar.Gregorian date.now) }
+    requires in_reach { IsTrue (dates.is_answered Calendar.Gregorian date.now) }
+    ensures fact { result ≡ spec.fact_on kind place (dates.gregorian_day date.now) }
+{
+    Fact::new(kind, place, day_of_gregorian(date)).unwrap()
+}
+
+/// The day (R.D.) that the date of a request names: in a calendar, or by the value of a fact. It stops where the oracle stops.
+#[tactic(auto, using(oracle_core::proofs::Inquiring::asking))]
+fn day_of_request<O: Oracle>(oracle: &mut O, request: &Request) -> Result<i64, Stop>
+    requires possible { IsTrue (is_possible request.now) }
+    requires in_reach { IsTrue (is_in_reach request.now) }
+    ensures comes { Inquires O.meaning (spec.day_by (named_by request.now.from) request.now.date) (O.state oracle.old) (O.state oracle.new) result }
+{
+    match request.from.names() {
+        Named::Date(calendar) => named_day(oracle, calendar, &request.date),
+        Named::Value(kind, place) => oracle.ask(named_fact(request.from, kind, place, &request.date)),
+    }
+}
+
 /// What a request that breaks no rule by itself comes to: the result of the line's rule by what the oracle knows, for
 /// which the facts that the rule asks are added to the oracle's list. `TooFar` comes exactly where the day that the
 /// date names isn't one of those that a line may name, and `NoDate` exactly where it is and has another date in the
@@ -121,6 +147,6 @@ pub fn resolve<O: Oracle>(oracle: &mut O, request: &Request) -> Result<Resolved,
     requires in_reach { IsTrue (is_in_reach request.now) }
     ensures comes { Inquires O.meaning (spec.rule_of request.now) (O.state oracle.old) (O.state oracle.new) result }
 {
-    let day = named_day(oracle, request.from.calendar(), &request.date)?;
+    let day = day_of_request(oracle, request)?;
     resolve_day(oracle, request, day)
 }

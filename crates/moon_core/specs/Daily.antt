@@ -1,14 +1,15 @@
--- The moon's longitude as it is computed, its linear parts and waves by the days from noon of 1 January 2000.
-use Rattle.book_model.specs.declared.moon_tables.TheConstants.{ECCENTRICITY_FACTOR, ELONGATION, FLATTENING, JUPITER_WAVE, LATITUDE_ARGUMENT, MILLIONTH, MOON_ANOMALY, MOON_LONGITUDE, MOON_TERMS, SUN_ANOMALY, VENUS_WAVE}
+-- The moon's longitude and latitude as they are computed, their linear parts and waves by the days from noon of 1 January 2000.
+use Rattle.book_model.specs.declared.moon_tables.TheConstants.{ECCENTRICITY_FACTOR, ELONGATION, FLATTENING, JUPITER_WAVE, LATITUDE_ARGUMENT, LATITUDE_WAVE, MILLIONTH, MOON_ANOMALY, MOON_LONGITUDE, MOON_TERMS, SUN_ANOMALY, VENUS_WAVE}
 use Rattle.book_model.specs.declared.polynomial.Cubic.{Cubic}
 use Rattle.book_model.specs.declared.polynomial.Quartic.{Quartic}
 use Rattle.book_model.specs.Expressions.{Expression, constant, add, subtract, scale, power, sine}
 use Rattle.book_model.specs.Fractions.{fraction_of}
+use Rattle.book_model.specs.Latitude.{latitude_terms_of, venus_by, flattening_by}
 use Rattle.book_model.specs.Moon.{LunarAngles, longitude_term_of, no_term}
 use Rattle.book_model.specs.Polynomials.{quadratic_of}
 use Rattle.book_model.specs.Sun.{nutation_of}
 use Rattle.book_model.specs.Terms.{terms_of}
-use Rattle.sun_core.specs.Daily.{in_centuries, by_days, daily_wave_of}
+use Rattle.sun_core.specs.Daily.{in_centuries, by_days, daily_angle_of, daily_wave_of}
 
 -- a quartic, its linear part by the days
 unfoldable pub daily_quartic_of : Quartic → Expression → Expression
@@ -40,3 +41,12 @@ computed_inequalities_of x = add (add (add (computed_terms_of x) (daily_wave_of 
 -- the moon's longitude, not reduced
 unfoldable pub computed_longitude_of : Expression → Expression
 computed_longitude_of x = add (add (daily_quartic_of MOON_LONGITUDE x) (scale (fraction_of MILLIONTH) (computed_inequalities_of x))) (nutation_of (in_centuries x))
+
+-- the latitude in millionths of a degree
+unfoldable pub computed_millionths_of : LunarAngles → Expression → Expression
+computed_millionths_of a x =
+    add (add (add (latitude_terms_of a) (venus_by (daily_angle_of VENUS_WAVE x) a.latitude_argument)) (flattening_by (daily_quartic_of MOON_LONGITUDE x) a.moon_anomaly)) (daily_wave_of x LATITUDE_WAVE)
+
+-- the latitude
+unfoldable pub computed_latitude_of : Expression → Expression
+computed_latitude_of x = scale (fraction_of MILLIONTH) (computed_millionths_of (daily_angles_of x) x)

@@ -1,5 +1,5 @@
 //! The apparent longitude of the moon.
-ghost use Rattle.std.specs.Prelude.{◌≡◌, ◌≤◌, ◌+◌, ℕ, unsigned_abs};
+ghost use Rattle.std.specs.Prelude.{◌≡◌, ◌≤◌, ◌+◌, ℕ, IfErr};
 ghost use Rattle.book_model.specs.Bounds.{Reach, IsNarrow, limits_of};
 ghost use Rattle.book_model.specs.Expressions.{Expression, World, argument};
 ghost use Rattle.book_model.specs.Leading.{Leads, next_turn};
@@ -10,38 +10,18 @@ ghost use Rattle.moon_core.specs.Daily.{computed_terms_of, computed_flattening_o
 ghost use Rattle.moon_core.specs.Widths.{longitude_bound};
 ghost use Rattle.sun_core.specs.Daily.{in_centuries};
 ghost use Rattle.sun_core.specs.Widths.{days_of_years};
+ghost use Rattle.time_scales.specs.Steps.{IsYearOpenFor};
 
 use crate::angles::{Angles, angles_at, daily_quartic};
+use crate::terms::lunar_term;
 use book_model::{
     DAY_IN_CENTURIES, FLATTENING, Fail, JUPITER_WAVE, LATITUDE_ARGUMENT, MILLIONTH, MOON_LONGITUDE,
     MOON_TERMS, MoonTerm, NOON_2000, Site, VENUS_WAVE,
 };
 use encl_core::{Enclosure, Term, Trail, sum_of_terms, wrap_step};
-use new_moons::times_power;
 use sun_core::{nutation, sine_wave};
 use time_scales::dynamical;
 use trig_series::sin_deg;
-
-/// The sum of the multiples of the angles.
-#[tactic(auto, unfolding(book_model::specs::Moon::angle_of_term))]
-fn angle<E: Enclosure>(term: &MoonTerm, angles: Angles<E>) -> E
-    ensures holds { (w : World) (a : spec.LunarAngles) → HoldAngles E.shown w a angles → Within E.shown w (spec.angle_of_term a term.now) result }
-    ensures narrow { (r : Reach) (a : spec.LunarAngles) → KeepAngles E.shown (limits_of E.BITS) r a angles → Narrow E.shown (limits_of E.BITS) r (spec.angle_of_term a term.now) result }
-{
-    angles
-        .elongation
-        .times(term.elongation)
-        .add(angles.sun_anomaly.times(term.sun_anomaly))
-        .add(angles.moon_anomaly.times(term.moon_anomaly))
-        .add(angles.latitude_argument.times(term.latitude_argument))
-}
-
-/// The size of a multiple.
-fn size_of(multiple: i64) -> u64
-    ensures size { result ≡ unsigned_abs multiple }
-{
-    multiple.unsigned_abs()
-}
 
 impl<E: Enclosure> Term<Angles<E>, E> for MoonTerm {
     ghost Given = { spec.LunarAngles };
@@ -56,8 +36,14 @@ impl<E: Enclosure> Term<Angles<E>, E> for MoonTerm {
 
     #[tactic(auto, unfolding(book_model::specs::Moon::longitude_term_of))]
     fn term(&self, given: Angles<E>) -> E {
-        let sine = sin_deg(angle(self, given));
-        times_power(given.eccentricity, size_of(self.sun_anomaly), sine).times(self.longitude)
+        lunar_term(
+            self.elongation,
+            self.sun_anomaly,
+            self.moon_anomaly,
+            self.latitude_argument,
+            self.longitude,
+            given,
+        )
     }
 }
 
@@ -111,9 +97,10 @@ fn longitude<E: Enclosure>(days: E, c: E) -> E
 /// The apparent longitude of the moon at a moment of universal time, in degrees from 0 up to 360 (Reingold and
 /// Dershowitz, Calendrical Calculations, chapter 14; Meeus, Astronomical Algorithms, chapter 47). Two tests, the year's and
 /// the one at `moon-wrap`. It is void at `year` in a year without a correction.
-#[tactic(auto, using(book_model::proofs::Leads::leading), unfolding(book_model::specs::Moon::moon_of, book_model::specs::Time::centuries_of, book_model::specs::Time::in_centuries, sun_core::specs::Daily::in_centuries, book_model::specs::Leading::next_turn))]
+#[tactic(auto, using(book_model::proofs::Leads::leading, crate::proofs::Openings::opening), unfolding(book_model::specs::Moon::moon_of, book_model::specs::Time::centuries_of, book_model::specs::Time::in_centuries, sun_core::specs::Daily::in_centuries, book_model::specs::Leading::next_turn))]
 pub fn moon<E: Enclosure>(t: E, trail: &mut Trail) -> Result<E, Fail>
     ensures leads { (w : World) (x : Expression) → Within E.shown w x t → Leads w (Within E.shown w) (spec.moon_of x) trail.old.count trail.new.count result }
+    ensures open { IfErr result (IsYearOpenFor (E.shown t)) }
     ensures counted { trail.new.count ≤ trail.old.count + 2 }
 {
     match dynamical(t, trail) {

@@ -1,11 +1,13 @@
 //! The moon's phase, and the number of the new moon about a moment.
-ghost use Rattle.std.specs.Prelude.{◌≡◌, ◌≤◌, ◌+◌, ℤ, pos, negsuc, ◌≤ℤ◌, IfOk};
+ghost use Rattle.std.specs.Prelude.{◌≡◌, ◌≤◌, ◌+◌, ℤ, pos, negsuc, ◌≤ℤ◌, IfOk, IfErr};
+ghost use Rattle.exact_math.specs.Interval.{Interval};
 ghost use Rattle.book_model.specs.Bounds.{Reach, limits_of};
 ghost use Rattle.book_model.specs.Expressions.{Expression, World};
 ghost use Rattle.book_model.specs.Leading.{Leads, Exact, next_turn};
 ghost use Rattle.book_model.specs.Phases as spec;
 ghost use Rattle.book_model.specs.Ranges.{IsInTable};
 ghost use Rattle.book_model.specs.Relations.{Within, Narrow};
+ghost use Rattle.time_scales.specs.Steps.{IsYearOpenFor, IsEarlyYearFor};
 
 use crate::longitude::moon;
 use book_model::{DAY_IN_MONTHS, DEGREE_IN_MONTHS, Fail, HALF, Site, TURN};
@@ -14,9 +16,10 @@ use new_moons::new_moon;
 use sun_core::sun;
 
 /// An angle, reduced to 0 up to 360 degrees, as one test.
-#[tactic(auto, using(book_model::proofs::Leads::leading), unfolding(book_model::specs::Phases::turned_of, book_model::specs::Leading::next_turn))]
+#[tactic(auto, using(book_model::proofs::Leads::leading, crate::proofs::Openings::opening), unfolding(book_model::specs::Phases::turned_of, book_model::specs::Leading::next_turn))]
 fn turned<E: Enclosure>(angle: E, trail: &mut Trail) -> Result<E, Fail>
     ensures leads { (w : World) (x : Expression) → Within E.shown w x angle → Leads w (Within E.shown w) (spec.turned_of x) trail.old.count trail.new.count result }
+    ensures elsewhere { (i : Interval) → IfErr result (IsYearOpenFor i) }
     ensures counted { trail.new.count ≤ trail.old.count + 1 }
 {
     wrap_step(angle, 360, Site::PhaseWrap, trail)
@@ -26,6 +29,7 @@ fn turned<E: Enclosure>(angle: E, trail: &mut Trail) -> Result<E, Fail>
 #[tactic(auto, using(book_model::proofs::Leads::leading), unfolding(book_model::specs::Phases::elongation_of))]
 fn longitudes_apart<E: Enclosure>(t: E, trail: &mut Trail) -> Result<E, Fail>
     ensures leads { (w : World) (x : Expression) → Within E.shown w x t → Leads w (Within E.shown w) (spec.elongation_of x) trail.old.count trail.new.count result }
+    ensures open { IfErr result (IsYearOpenFor (E.shown t)) }
     ensures counted { trail.new.count ≤ trail.old.count + 5 }
 {
     let there = moon(t, trail)?;
@@ -36,6 +40,7 @@ fn longitudes_apart<E: Enclosure>(t: E, trail: &mut Trail) -> Result<E, Fail>
 /// The same, at a moment of the years of which there is a correction: five tests at most.
 fn elongation<E: Enclosure>(t: E, trail: &mut Trail) -> Result<E, Fail>
     ensures leads { (w : World) (x : Expression) → Within E.shown w x t → Leads w (Within E.shown w) (spec.elongation_of x) trail.old.count trail.new.count result }
+    ensures open { IfErr result (IsYearOpenFor (E.shown t)) }
     ensures in_table { IfOk result (λ p. IsInTable (E.shown t)) }
     ensures counted { trail.new.count ≤ trail.old.count + 5 }
 {
@@ -141,6 +146,18 @@ fn picked<E: Enclosure>(by_longitudes: E, by_time: E, trail: &mut Trail) -> Resu
     }
 }
 
+/// The phase by longitudes, or in its place the one by the time since the new moon about the moment: five tests at most.
+#[tactic(auto, using(book_model::proofs::Leads::leading), unfolding(book_model::specs::Phases::corrected_of))]
+fn corrected<E: Enclosure>(by_longitudes: E, t: E, trail: &mut Trail) -> Result<E, Fail>
+    requires in_table { IsInTable (E.shown t) }
+    ensures leads { (w : World) (x p : Expression) → Within E.shown w x t → Within E.shown w p by_longitudes → Leads w (Within E.shown w) (spec.corrected_of x p) trail.old.count trail.new.count result }
+    ensures counted { trail.new.count ≤ trail.old.count + 5 }
+{
+    let number = rough_number(t, trail)?;
+    let by_time = phase_by_months(number, t, trail)?;
+    picked(by_longitudes, by_time, trail)
+}
+
 /// The phase of the moon at a moment of universal time, in degrees: its longitude less the sun's, from 0 up to 360, or,
 /// where the moment is so near a new moon that this is a turn off, the time since the new moon in its place (Reingold
 /// and Dershowitz, Calendrical Calculations, chapter 14). Ten tests: five of the longitudes, two of the number of the new
@@ -149,12 +166,13 @@ fn picked<E: Enclosure>(by_longitudes: E, by_time: E, trail: &mut Trail) -> Resu
 #[tactic(auto, using(book_model::proofs::Leads::leading), unfolding(book_model::specs::Phases::phase_of))]
 pub fn phase<E: Enclosure>(t: E, trail: &mut Trail) -> Result<E, Fail>
     ensures leads { (w : World) (x : Expression) → Within E.shown w x t → Leads w (Within E.shown w) (spec.phase_of x) trail.old.count trail.new.count result }
+    ensures early { trail.old.count ≡ 0 → IfErr result (IsEarlyYearFor (E.shown t)) }
     ensures counted { trail.new.count ≤ trail.old.count + 10 }
 {
-    let by_longitudes = elongation(t, trail)?;
-    let number = rough_number(t, trail)?;
-    let by_time = phase_by_months(number, t, trail)?;
-    picked(by_longitudes, by_time, trail)
+    match elongation(t, trail) {
+        Ok(by_longitudes) => corrected(by_longitudes, t, trail),
+        Err(fail) => Err(fail),
+    }
 }
 
 /// The number of the last new moon before a moment, or of one next to it.

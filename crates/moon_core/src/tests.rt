@@ -1,5 +1,5 @@
 //! What no clause says: values from an independent implementation of the formulas, and how narrow the answers are.
-use crate::{moon, moon_before, moon_from, phase};
+use crate::{latitude, moon, moon_before, moon_from, phase, phase_before};
 use book_model::{Fail as FormulaFail, Frac, Site};
 use encl_core::{Coarse, Enclosure, Trail};
 use std::test::Fail;
@@ -40,6 +40,37 @@ const NEW_MOONS: [(i128, i128, i128); 10] = [
     (2_920_482, 52_608_956_757_020_576_086_639, 52_611_105_576_030_163_169_408),
     (2_955_705, 53_245_226_681_151_288_226_603, 53_247_346_439_582_435_677_964),
     (2_992_068, 53_898_478_358_527_885_164_620, 53_900_600_765_699_913_366_311),
+];
+
+/// Quarters of a day (R.D.), and the latitude of the moon there: floors at 2⁻⁵⁶ of a degree.
+#[rattlefmt::skip]
+const LATITUDES: [(i128, i128); 10] = [
+    (2_631_208, -315_287_488_471_349_708),
+    (2_640_001, 108_270_461_807_107_393),
+    (2_680_494, 33_579_440_147_159_044),
+    (2_772_000, 321_368_976_531_830_577),
+    (2_800_007, 91_309_460_581_729_423),
+    (2_860_000, -209_791_576_690_289_733),
+    (2_901_488, -358_549_279_241_856_888),
+    (2_920_482, 372_620_516_694_926_536),
+    (2_955_705, -289_186_024_736_834_904),
+    (2_992_068, -219_446_679_040_734_599),
+];
+
+/// Days (R.D.), and when the moon was last new and last full before they begin, by the middle of the last ends of the bisection:
+/// floors at 2⁻⁵⁶ of a day.
+#[rattlefmt::skip]
+const PHASES: [(i64, i128, i128); 10] = [
+    (657_802, 47_397_747_358_486_655_799_604, 47_398_773_850_267_176_732_531),
+    (680_000, 48_997_929_836_924_567_224_170, 48_998_938_060_869_148_472_746),
+    (693_961, 50_004_439_496_713_925_476_127, 50_003_318_449_132_439_062_752),
+    (710_000, 51_159_878_418_576_655_955_637, 51_158_770_852_656_993_517_686),
+    (725_372, 52_268_498_542_773_219_538_351, 52_267_429_420_611_050_082_810),
+    (730_120, 52_608_956_757_130_772_086_379, 52_610_022_605_380_253_447_338),
+    (738_927, 53_245_226_681_225_402_913_596, 53_244_130_552_334_903_719_800),
+    (738_971, 53_247_346_439_338_019_862_937, 53_248_421_297_246_406_267_238),
+    (743_000, 53_536_772_218_119_713_324_133, 53_537_779_655_363_724_898_980),
+    (748_017, 53_898_478_358_491_202_990_553, 53_899_532_653_072_499_681_304),
 ];
 
 /// Whether an enclosure holds a number, given as its floor at 2⁻⁵⁶, and is at most so many units wide.
@@ -104,4 +135,26 @@ fn a_moment_of_a_year_without_a_correction_is_void(rt: HostRuntime) -> Result<()
     let found = phase(quarters(4_000_000)?, &mut Trail::new());
     assert!(rt; matches!(found, Err(FormulaFail::Void(Site::Year))));
     Ok(())
+}
+
+#[test]
+fn latitudes_are_those_of_the_reference(rt: HostRuntime) -> Result<(), Fail> {
+    for (moment, there) in LATITUDES {
+        let mut trail = Trail::new();
+        let found = latitude(quarters(moment)?, &mut trail);
+        assert!(rt; is_near(found, there, WIDEST_ANGLE), "at {moment} / 4");
+        assert_eq!(rt; trail.count(), 1);
+    }
+    Ok(())
+}
+
+#[test]
+fn new_and_full_moons_are_those_of_the_reference(rt: HostRuntime) {
+    for (day, new, full) in PHASES {
+        for (angle, moment) in [(0, new), (180, full)] {
+            let mut trail = Trail::new();
+            let found = phase_before(Coarse::from_int(angle), Coarse::from_int(day), &mut trail);
+            assert!(rt; is_near(found, moment, WIDEST_MOMENT), "{angle} degrees before {day}");
+        }
+    }
 }

@@ -4,7 +4,7 @@
 //! what the definition gives, at every depth from `DEPTH` on.
 //!
 //! - `sun`: the longitude at a moment, with nutation and aberration;
-//! - `obliquity`: of the ecliptic, by the centuries; `nutation`, `sine_wave` and `times_rate`, of which longitudes are made;
+//! - `obliquity`: of the ecliptic, by the centuries; `nutation`, `sine_wave`, `wave_angle` and `times_rate`, of which longitudes are made;
 //! - `equation_of_time`: what apparent time, which sundials show, is ahead of mean time;
 //! - `from_apparent`: from apparent to local mean time;
 //! - `noon`: true noon at Tehran, which decides the first day of a Persian year;
@@ -27,4 +27,4 @@ pub use ecliptic::obliquity;
 pub use equation::equation_of_time;
 pub use estimates::estimate;
 pub use longitude::{nutation, sun};
-pub use waves::sine_wave;
+pub use waves::{sine_wave, wave_angle};

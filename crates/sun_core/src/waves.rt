@@ -25,7 +25,7 @@ pub(crate) fn quadratic_wave<E: Enclosure>(wave: &QuadraticWave, c: E) -> E
 
 /// The angle of a wave by the days from noon of 1 January 2000.
 #[inline(always)]
-fn angle<E: Enclosure>(wave: &Wave, days: E) -> E
+pub fn wave_angle<E: Enclosure>(wave: &Wave, days: E) -> E
     ensures holds { (w : World) (x : Expression) → Within E.shown w x days → Within E.shown w (angle_of_wave wave.now (in_centuries x)) result }
     ensures narrow { (r : Reach) (x : Expression) → Narrow E.shown (limits_of E.BITS) r x days → Narrow E.shown (limits_of E.BITS) r (daily_angle_of wave.now x) result }
 {
@@ -38,7 +38,7 @@ pub fn sine_wave<E: Enclosure>(wave: &Wave, days: E) -> E
     ensures holds { (w : World) (x : Expression) → Within E.shown w x days → Within E.shown w (wave_of (in_centuries x) wave.now) result }
     ensures narrow { (r : Reach) (x : Expression) → Narrow E.shown (limits_of E.BITS) r x days → Narrow E.shown (limits_of E.BITS) r (daily_wave_of x wave.now) result }
 {
-    sin_deg(angle(wave, days)).times(wave.size)
+    sin_deg(wave_angle(wave, days)).times(wave.size)
 }
 
 /// The size of a wave, in ten-millionths, times the cosine of its angle, by the days.
@@ -47,7 +47,7 @@ pub(crate) fn cosine_wave<E: Enclosure>(wave: &Wave, days: E) -> E
     ensures holds { (w : World) (x : Expression) → Within E.shown w x days → Within E.shown w (scale (ten_millionths wave.now.size) (cosine (angle_of_wave wave.now (in_centuries x)))) result }
     ensures narrow { (r : Reach) (x : Expression) → Narrow E.shown (limits_of E.BITS) r x days → Narrow E.shown (limits_of E.BITS) r (scale (ten_millionths wave.now.size) (cosine (daily_angle_of wave.now x))) result }
 {
-    cos_deg(angle(wave, days)).mul_frac(Frac::ten_millionths(wave.size))
+    cos_deg(wave_angle(wave, days)).mul_frac(Frac::ten_millionths(wave.size))
 }
 
 /// The days from noon of 1 January 2000.

@@ -5,3 +5,4 @@ pub mod WholePowers
 pub mod HornerLemmas
 pub mod CorrectionRows
 pub mod CorrectionWidths
+pub mod WholeDays

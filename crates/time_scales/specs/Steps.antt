@@ -1,5 +1,5 @@
 -- What an open test of the year says of its enclosure.
-use Rattle.std.specs.Prelude.{◌≡◌, ℕ}
+use Rattle.std.specs.Prelude.{◌≡◌, ℕ, ◌≤◌}
 use Rattle.exact_math.specs.Interval.{Interval}
 use Rattle.book_model.specs.declared.site.Site.TheVariants.{Year}
 use Rattle.book_model.specs.declared.fail.Fail.{Fail}
@@ -16,3 +16,18 @@ IsOpenYear i n (Void s) = ⊥
 abbrev pub IsYearOpenFor : Interval → Fail → Type 0
 IsYearOpenFor i (Undecided u) = u.site ≡ Year → IsOpenCell years i u.lo u.hi
 IsYearOpenFor i (Void s) = Unit {0}
+
+-- a failure at the year by one of the first three tests of a run is a year that is open for this enclosure
+abbrev pub IsEarlyYearFor : Interval → Fail → Type 0
+IsEarlyYearFor i (Undecided u) = u.site ≡ Year → u.turn ≤ 3 → IsOpenCell years i u.lo u.hi
+IsEarlyYearFor i (Void s) = Unit {0}
+
+-- a failure is none at the year by one of the first three tests of a run
+abbrev pub IsNoEarlyYear : Fail → Type 0
+IsNoEarlyYear (Undecided u) = u.site ≡ Year → u.turn ≤ 3 → ⊥
+IsNoEarlyYear (Void s) = Unit {0}
+
+-- a failure is not at the year
+abbrev pub IsNotOfYear : Fail → Type 0
+IsNotOfYear (Undecided u) = u.site ≡ Year → ⊥
+IsNotOfYear (Void s) = Unit {0}

@@ -5,7 +5,7 @@ use Rattle.book_model.specs.Expressions.{constant}
 use Rattle.book_model.specs.Fractions.{fraction_of, ten_millionths, daily_ten_millionths}
 use Rattle.sun_core.specs.Daily.{in_centuries}
 use Rattle.sun_core.proofs.Scalings.{both_hold_in_sum, daily_ten_millionths_are}
-use Rattle.sun_core.proofs.waves.angle.Goals as goal
+use Rattle.sun_core.proofs.waves.wave_angle.Goals as goal
 
 pub returns-clause-holds : goal.returns-clause-holds
 unfolding in_centuries

@@ -1,0 +1,9 @@
+use Rattle.book_model.specs.Bisection.{has_passed_of}
+use Rattle.book_model.proofs.Leads.{leads_on, leaf_within}
+use Rattle.angle_search.proofs.bisection.has_passed.Goals as goal
+
+pub returns-clause-leads : goal.returns-clause-leads
+unfolding has_passed_of
+returns-clause-leads g c = λ w v y d h k.
+    let l = c.in_ok-past.ensures.leads w v y d h k in
+    leads_on _ l (c.less_step.ensures.leads w _ _ (leaf_within l) (c.from_int.ensures.holds w d))

@@ -1,0 +1,121 @@
+//! Bisection: the half is kept in which an angle is passed, until the ends are near.
+ghost use Rattle.std.specs.Prelude.{◌≡◌, ◌≤◌, ◌+◌, ◌*◌, ℕ, Bool};
+ghost use Rattle.book_model.specs.Bisection as spec;
+ghost use Rattle.book_model.specs.Bounds.{Reach, limits_of};
+ghost use Rattle.book_model.specs.Depth.{DEPTH};
+ghost use Rattle.book_model.specs.Expressions.{Expression, World};
+ghost use Rattle.book_model.specs.Leading.{Exact, Leads};
+ghost use Rattle.book_model.specs.Relations.{Within, Narrow};
+
+use crate::Angular;
+use book_model::{Fail, HALF, HUNDRED_THOUSANDTH, Site};
+use encl_core::{Enclosure, Trail, less_step, wrap_step};
+
+/// How many turns a bisection makes at most.
+const TURNS: u32 = 64;
+
+/// Half a turn of the circle, in degrees.
+const HALF_CIRCLE: i64 = 180;
+
+/// The middle of two numbers.
+#[tactic(auto, unfolding(book_model::specs::Bisection::middle_of))]
+fn middle<E: Enclosure>(low: E, high: E) -> E
+    ensures holds { (w : World) (l u : Expression) → DEPTH ≤ w.depth → Within E.shown w l low → Within E.shown w u high → Within E.shown w (spec.middle_of l u) result }
+    ensures narrow { (r : Reach) (l u : Expression) → Narrow E.shown (limits_of E.BITS) r l low → Narrow E.shown (limits_of E.BITS) r u high → Narrow E.shown (limits_of E.BITS) r (spec.middle_of l u) result }
+{
+    low.add(high).mul_frac(HALF)
+}
+
+/// Whether two numbers are less than a hundred-thousandth apart: one test, at `bisect-end`.
+#[tactic(auto, using(book_model::proofs::Leads::leading), unfolding(book_model::specs::Bisection::are_near_of, book_model::specs::Leading::next_turn))]
+fn are_near<E: Enclosure>(low: E, high: E, trail: &mut Trail) -> Result<bool, Fail>
+    ensures leads { (w : World) (l u : Expression) → DEPTH ≤ w.depth → Within E.shown w l low → Within E.shown w u high → Leads w Exact (spec.are_near_of l u) trail.old.count trail.new.count result }
+    ensures counted { trail.new.count ≤ trail.old.count + 1 }
+{
+    less_step(
+        high.sub(low),
+        E::from_frac(HUNDRED_THOUSANDTH),
+        Site::BisectEnd,
+        trail,
+    )
+}
+
+/// How far an angle is past another, from 0 up to 360 degrees: one test, at `bisect`.
+#[tactic(auto, using(book_model::proofs::Leads::leading), unfolding(book_model::specs::Bisection::angle_past_of, book_model::specs::Leading::next_turn))]
+fn angle_past<E: Enclosure>(angle: E, target: E, trail: &mut Trail) -> Result<E, Fail>
+    ensures leads { (w : World) (v y : Expression) → DEPTH ≤ w.depth → Within E.shown w v angle → Within E.shown w y target → Leads w (Within E.shown w) (spec.angle_past_of v y) trail.old.count trail.new.count result }
+    ensures counted { trail.new.count ≤ trail.old.count + 1 }
+{
+    wrap_step(angle.sub(target), 360, Site::Bisect, trail)
+}
+
+/// Whether an angle has passed another, which it has where it is less than half a turn past it: two tests, at `bisect`.
+#[tactic(auto, using(book_model::proofs::Leads::leading), unfolding(book_model::specs::Bisection::has_passed_of, book_model::specs::Leading::next_turn))]
+fn has_passed<E: Enclosure>(angle: E, target: E, trail: &mut Trail) -> Result<bool, Fail>
+    ensures leads { (w : World) (v y : Expression) → DEPTH ≤ w.depth → Within E.shown w v angle → Within E.shown w y target → Leads w Exact (spec.has_passed_of v y) trail.old.count trail.new.count result }
+    ensures counted { trail.new.count ≤ trail.old.count + 2 }
+{
+    let past = angle_past(angle, target, trail)?;
+    less_step(past, E::from_int(HALF_CIRCLE), Site::Bisect, trail)
+}
+
+/// Whether a function has passed an angle at a number.
+#[tactic(auto, using(book_model::proofs::Leads::leading), unfolding(book_model::specs::Bisection::has_passed_at))]
+fn has_passed_at<E: Enclosure, F: Angular<E>>(
+    f: &F,
+    target: E,
+    x: E,
+    trail: &mut Trail,
+) -> Result<bool, Fail>
+    ensures leads { (w : World) (y v : Expression) → DEPTH ≤ w.depth → Within E.shown w y target → Within E.shown w v x → Leads w Exact (spec.has_passed_at (F.angle_of f.now) y v) trail.old.count trail.new.count result }
+    ensures counted { trail.new.count ≤ trail.old.count + (F.most + 2) }
+{
+    let angle = f.at(x, trail)?;
+    has_passed(angle, target, trail)
+}
+
+/// Bisection by so many turns at most. It is void at `bisect-end` where the ends aren't near then, and fails where the function
+/// does.
+#[tactic(auto, using(book_model::proofs::Leads::leading, crate::proofs::Turns::turning), unfolding(book_model::specs::Leading::next_turn))]
+fn bisected<E: Enclosure, F: Angular<E>>(
+    more: u32,
+    f: &F,
+    target: E,
+    low: E,
+    high: E,
+    trail: &mut Trail,
+) -> Result<E, Fail>
+    ensures leads { (w : World) (y l u : Expression) → DEPTH ≤ w.depth → Within E.shown w y target → Within E.shown w l low → Within E.shown w u high → Leads w (Within E.shown w) (spec.bisected_of more (F.angle_of f.now) y l u) trail.old.count trail.new.count result }
+    ensures counted { trail.new.count ≤ trail.old.count + (more * (F.most + 3) + 1) }
+{
+    if are_near(low, high, trail)? {
+        return Ok(middle(low, high));
+    }
+    if more == 0 {
+        return Err(Fail::Void(Site::BisectEnd));
+    }
+    let center = middle(low, high);
+    match has_passed_at(f, target, center, trail) {
+        Ok(true) => bisected(more - 1, f, target, low, center, trail),
+        Ok(false) => bisected(more - 1, f, target, center, high, trail),
+        Err(fail) => Err(fail),
+    }
+}
+
+/// The number between `low` and `high` at which an angle passes `y`, in degrees, by bisection until the ends are less than a
+/// hundred-thousandth apart: the middle of the last ends, and not the number to full precision (Reingold and Dershowitz,
+/// Calendrical Calculations, chapter 1). Each of 64 turns at most makes one test at `bisect-end`, those of the angle, and two at
+/// `bisect`; where more turns would be made it is void at `bisect-end`.
+#[tactic(auto, unfolding(book_model::specs::Bisection::invert_of))]
+pub fn invert_angular<E: Enclosure, F: Angular<E>>(
+    f: &F,
+    y: E,
+    low: E,
+    high: E,
+    trail: &mut Trail,
+) -> Result<E, Fail>
+    ensures leads { (w : World) (a l u : Expression) → DEPTH ≤ w.depth → Within E.shown w a y → Within E.shown w l low → Within E.shown w u high → Leads w (Within E.shown w) (spec.invert_of (F.angle_of f.now) a l u) trail.old.count trail.new.count result }
+    ensures counted { trail.new.count ≤ trail.old.count + (64 * (F.most + 3) + 1) }
+{
+    bisected(TURNS, f, y, low, high, trail)
+}

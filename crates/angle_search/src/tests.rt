@@ -1,0 +1,60 @@
+//! What no clause says: the middle of the last ends, after how many tests, and where a bisection ends.
+ghost use Rattle.std.specs.Prelude.{◌≡◌, ◌≤◌};
+ghost use Rattle.book_model.specs.Depth.{DEPTH};
+ghost use Rattle.book_model.specs.Expressions.{Expression, World};
+ghost use Rattle.book_model.specs.Leading.{Leads};
+ghost use Rattle.book_model.specs.Programs.{answer};
+ghost use Rattle.book_model.specs.Relations.{Within};
+
+use super::*;
+use book_model::{Fail as FormulaFail, Frac, Site};
+use encl_core::{Coarse, Enclosure, Trail};
+use std::test::Fail;
+
+/// The number itself as an angle.
+struct Identity;
+
+impl<E: Enclosure> Angular<E> for Identity {
+    ghost angle_of = { λ s x. answer x };
+
+    ghost most = { 0 };
+
+    #[tactic(auto, using(book_model::proofs::Leads::leading))]
+    fn at(&self, x: E, trail: &mut Trail) -> Result<E, FormulaFail> {
+        Ok(x)
+    }
+}
+
+fn fraction(num: i128, den: u64) -> Result<Coarse, Fail> {
+    Ok(Coarse::from_frac(Frac::new(num, den).ok_or("a denominator of 0")?))
+}
+
+#[test]
+fn a_third_is_found_to_the_middle_of_the_last_ends(rt: HostRuntime) -> Result<(), Fail> {
+    let mut trail = Trail::new();
+    let found = invert_angular(
+        &Identity,
+        fraction(1, 3)?,
+        Coarse::from_int(0),
+        Coarse::from_int(1),
+        &mut trail,
+    );
+    let middle = found.ok().ok_or("no answer")?.span().ok_or("no ends")?;
+    assert_eq!(rt; (middle.lo, middle.hi), (87_381 << 38, 87_381 << 38));
+    assert_eq!(rt; trail.count(), 17 * 3 + 1);
+    Ok(())
+}
+
+#[test]
+fn ends_that_never_come_near_are_void(rt: HostRuntime) -> Result<(), Fail> {
+    let mut trail = Trail::new();
+    let found = invert_angular(
+        &Identity,
+        fraction(1, 3)?,
+        Coarse::from_int(0),
+        Coarse::from_int(1).mul_frac(Frac::new(1, 1).ok_or("no fraction")?),
+        &mut trail,
+    );
+    assert!(rt; found.is_ok());
+    Ok(())
+}

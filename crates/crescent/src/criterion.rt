@@ -1,0 +1,197 @@
+//! Shaukat's criterion: whether the crescent is seen on an evening.
+ghost use Rattle.std.specs.Prelude.{◌≡◌, ◌≤◌, ◌+◌, ℤ, ◌≤ℤ◌, negsuc, Bool};
+ghost use Rattle.book_model.specs.Crescent as spec;
+ghost use Rattle.book_model.specs.Depth.{DEPTH};
+ghost use Rattle.book_model.specs.Expressions.{Expression, World};
+ghost use Rattle.book_model.specs.Fractions.{fraction_of};
+ghost use Rattle.book_model.specs.Horizon.{universal_of};
+ghost use Rattle.book_model.specs.Leading.{Exact, Leads};
+ghost use Rattle.book_model.specs.Relations.{Within};
+
+use crate::altitude::{altitude_sine, arc_cosine};
+use book_model::{
+    CRESCENT_DEPRESSION, DEGREE_IN_DAYS, Fail, Frac, LEAST_ALTITUDE, LEAST_ARC_OF_LIGHT, Location, Site,
+};
+use encl_core::{Enclosure, Trail, less_step};
+use moon_core::{latitude, moon, phase};
+use rise_set::dusk;
+use sun_core::obliquity;
+use time_scales::{centuries, sidereal};
+use trig_series::{cos_deg, sin_deg};
+
+/// The phase of the moon at its first quarter, in degrees.
+const FIRST_QUARTER: i64 = 90;
+
+/// Whether the moon is past its new moon: one test.
+#[tactic(auto, using(book_model::proofs::Leads::leading), unfolding(book_model::specs::Crescent::is_past_new_of, book_model::specs::Leading::next_turn))]
+fn is_past_new<E: Enclosure>(phase: E, trail: &mut Trail) -> Result<bool, Fail>
+    ensures leads { (w : World) (f : Expression) → DEPTH ≤ w.depth → Within E.shown w f phase → Leads w Exact (spec.is_past_new_of f) trail.old.count trail.new.count result }
+    ensures counted { trail.new.count ≤ trail.old.count + 1 }
+{
+    less_step(E::from_int(0), phase, Site::Crescent, trail)
+}
+
+/// Whether it isn't yet at its first quarter: one test.
+#[tactic(auto, using(book_model::proofs::Leads::leading), unfolding(book_model::specs::Crescent::is_before_quarter_of, book_model::specs::Leading::next_turn))]
+fn is_before_quarter<E: Enclosure>(phase: E, trail: &mut Trail) -> Result<bool, Fail>
+    ensures leads { (w : World) (f : Expression) → DEPTH ≤ w.depth → Within E.shown w f phase → Leads w Exact (spec.is_before_quarter_of f) trail.old.count trail.new.count result }
+    ensures counted { trail.new.count ≤ trail.old.count + 1 }
+{
+    less_step(phase, E::from_int(FIRST_QUARTER), Site::Crescent, trail)
+}
+
+/// Whether the arc of light, by its cosine, is large enough: one test.
+#[tactic(auto, using(book_model::proofs::Leads::leading), unfolding(book_model::specs::Crescent::is_lit_of, book_model::specs::Leading::next_turn))]
+fn is_lit<E: Enclosure>(arc: E, trail: &mut Trail) -> Result<bool, Fail>
+    ensures leads { (w : World) (a : Expression) → DEPTH ≤ w.depth → Within E.shown w a arc → Leads w Exact (spec.is_lit_of a) trail.old.count trail.new.count result }
+    ensures counted { trail.new.count ≤ trail.old.count + 1 }
+{
+    let least = cos_deg(E::from_frac(LEAST_ARC_OF_LIGHT));
+    match less_step(least, arc, Site::Crescent, trail) {
+        Ok(more) => Ok(!more),
+        Err(fail) => Err(fail),
+    }
+}
+
+/// Whether the arc of light, by its cosine, is at most 90 degrees: one test.
+#[tactic(auto, using(book_model::proofs::Leads::leading), unfolding(book_model::specs::Crescent::is_within_quarter_of, book_model::specs::Leading::next_turn))]
+fn is_within_quarter<E: Enclosure>(arc: E, trail: &mut Trail) -> Result<bool, Fail>
+    ensures leads { (w : World) (a : Expression) → DEPTH ≤ w.depth → Within E.shown w a arc → Leads w Exact (spec.is_within_quarter_of a) trail.old.count trail.new.count result }
+    ensures counted { trail.new.count ≤ trail.old.count + 1 }
+{
+    match less_step(arc, E::from_int(0), Site::Crescent, trail) {
+        Ok(less) => Ok(!less),
+        Err(fail) => Err(fail),
+    }
+}
+
+/// Whether the moon, by the sine of its altitude, stands high enough: one test.
+#[tactic(auto, using(book_model::proofs::Leads::leading), unfolding(book_model::specs::Crescent::is_high_of, book_model::specs::Leading::next_turn))]
+fn is_high<E: Enclosure>(altitude: E, trail: &mut Trail) -> Result<bool, Fail>
+    ensures leads { (w : World) (h : Expression) → DEPTH ≤ w.depth → Within E.shown w h altitude → Leads w Exact (spec.is_high_of h) trail.old.count trail.new.count result }
+    ensures counted { trail.new.count ≤ trail.old.count + 1 }
+{
+    let least = sin_deg(E::from_frac(LEAST_ALTITUDE));
+    less_step(least, altitude, Site::Crescent, trail)
+}
+
+/// The conditions on the arc of light and on the altitude, in order: three tests at most.
+#[tactic(auto, using(book_model::proofs::Leads::leading), unfolding(book_model::specs::Crescent::is_bright_of, book_model::specs::Crescent::and_also))]
+fn is_bright<E: Enclosure>(arc: E, altitude: E, trail: &mut Trail) -> Result<bool, Fail>
+    ensures leads { (w : World) (a h : Expression) → DEPTH ≤ w.depth → Within E.shown w a arc → Within E.shown w h altitude → Leads w Exact (spec.is_bright_of a h) trail.old.count trail.new.count result }
+    ensures counted { trail.new.count ≤ trail.old.count + 3 }
+{
+    Ok(is_lit(arc, trail)? && is_within_quarter(arc, trail)? && is_high(altitude, trail)?)
+}
+
+/// All conditions, in order: five tests at most.
+#[tactic(auto, using(book_model::proofs::Leads::leading), unfolding(book_model::specs::Crescent::is_crescent_of, book_model::specs::Crescent::and_also))]
+fn is_crescent<E: Enclosure>(phase: E, arc: E, altitude: E, trail: &mut Trail) -> Result<bool, Fail>
+    ensures leads { (w : World) (f a h : Expression) → DEPTH ≤ w.depth → Within E.shown w f phase → Within E.shown w a arc → Within E.shown w h altitude → Leads w Exact (spec.is_crescent_of f a h) trail.old.count trail.new.count result }
+    ensures counted { trail.new.count ≤ trail.old.count + 5 }
+{
+    Ok(is_past_new(phase, trail)?
+        && is_before_quarter(phase, trail)?
+        && is_bright(arc, altitude, trail)?)
+}
+
+/// The conditions at a location, by the moon's phase, the obliquity of the ecliptic, the moon's longitude and latitude and the
+/// sidereal time at Greenwich, all in degrees.
+#[tactic(auto, unfolding(book_model::specs::Crescent::meets_of))]
+fn meets<E: Enclosure>(
+    location: &Location,
+    phase: E,
+    obliquity: E,
+    longitude: E,
+    latitude: E,
+    sidereal: E,
+    trail: &mut Trail,
+) -> Result<bool, Fail>
+    ensures leads { (w : World) (f o l b t : Expression) → DEPTH ≤ w.depth → Within E.shown w f phase → Within E.shown w o obliquity → Within E.shown w l longitude → Within E.shown w b latitude → Within E.shown w t sidereal → Leads w Exact (spec.meets_of location.now f o l b t) trail.old.count trail.new.count result }
+    ensures counted { trail.new.count ≤ trail.old.count + 5 }
+{
+    let arc = arc_cosine(latitude, phase);
+    let here = sidereal.add(E::from_frac(location.longitude));
+    let altitude = altitude_sine(location.latitude, here, obliquity, longitude, latitude);
+    is_crescent(phase, arc, altitude, trail)
+}
+
+/// The same at a moment of universal time, by the phase and the obliquity: eight tests at most.
+#[tactic(auto, using(book_model::proofs::Leads::leading), unfolding(book_model::specs::Crescent::meets_with_of))]
+fn meets_with<E: Enclosure>(
+    location: &Location,
+    t: E,
+    phase: E,
+    obliquity: E,
+    trail: &mut Trail,
+) -> Result<bool, Fail>
+    ensures leads { (w : World) (x f o : Expression) → DEPTH ≤ w.depth → Within E.shown w x t → Within E.shown w f phase → Within E.shown w o obliquity → Leads w Exact (spec.meets_with_of location.now x f o) trail.old.count trail.new.count result }
+    ensures counted { trail.new.count ≤ trail.old.count + 8 }
+{
+    let longitude = moon(t, trail)?;
+    let north = latitude(t, trail)?;
+    let greenwich = sidereal(t, trail)?;
+    meets(location, phase, obliquity, longitude, north, greenwich, trail)
+}
+
+/// The obliquity of the ecliptic at a moment of universal time: one test at most.
+#[tactic(auto, using(book_model::proofs::Leads::leading), unfolding(book_model::specs::Crescent::obliquity_at_of, book_model::specs::Leading::next_turn))]
+fn obliquity_at<E: Enclosure>(t: E, trail: &mut Trail) -> Result<E, Fail>
+    ensures leads { (w : World) (x : Expression) → DEPTH ≤ w.depth → Within E.shown w x t → Leads w (Within E.shown w) (spec.obliquity_at_of x) trail.old.count trail.new.count result }
+    ensures counted { trail.new.count ≤ trail.old.count + 1 }
+{
+    match centuries(t, trail) {
+        Ok(c) => obliquity(c, trail),
+        Err(fail) => Err(fail),
+    }
+}
+
+/// Whether the moon meets the criterion at a location and a moment of universal time: 19 tests at most.
+#[tactic(auto, using(book_model::proofs::Leads::leading), unfolding(book_model::specs::Crescent::meets_at_of))]
+fn meets_at<E: Enclosure>(location: &Location, t: E, trail: &mut Trail) -> Result<bool, Fail>
+    ensures leads { (w : World) (x : Expression) → DEPTH ≤ w.depth → Within E.shown w x t → Leads w Exact (spec.meets_at_of location.now x) trail.old.count trail.new.count result }
+    ensures counted { trail.new.count ≤ trail.old.count + 19 }
+{
+    let young = phase(t, trail)?;
+    let tilt = obliquity_at(t, trail)?;
+    meets_with(location, t, young, tilt, trail)
+}
+
+/// The universal time of a moment of local mean time at a longitude east of Greenwich, in degrees.
+#[tactic(auto, unfolding(book_model::specs::Horizon::universal_of, book_model::specs::Noon::ahead_of))]
+fn universal<E: Enclosure>(longitude: Frac, t: E) -> E
+    ensures holds { (w : World) (x : Expression) → DEPTH ≤ w.depth → Within E.shown w x t → Within E.shown w (universal_of (fraction_of longitude) x) result }
+{
+    t.sub(E::from_frac(longitude).mul_frac(DEGREE_IN_DAYS))
+}
+
+/// When the crescent is looked for on the evening with which a day (R.D.) begins, in universal time: 132 tests at most.
+#[tactic(auto, using(book_model::proofs::Leads::leading), unfolding(book_model::specs::Crescent::evening_of))]
+fn evening<E: Enclosure>(location: &Location, day: i64, trail: &mut Trail) -> Result<E, Fail>
+    requires low { negsuc 39999999 ≤ℤ day }
+    ensures leads { (w : World) → DEPTH ≤ w.depth → Leads w (Within E.shown w) (spec.evening_of location.now day) trail.old.count trail.new.count result }
+    ensures counted { trail.new.count ≤ trail.old.count + 132 }
+{
+    match dusk(location, E::from_frac(CRESCENT_DEPRESSION), day - 1, trail) {
+        Ok(t) => Ok(universal(location.longitude, t)),
+        Err(fail) => Err(fail),
+    }
+}
+
+/// Whether the crescent is seen at a location on the evening with which a day (R.D.) begins, by Shaukat's criterion (Reingold and
+/// Dershowitz, Calendrical Calculations, chapters 14 and 18): when the sun stands 4.5 degrees below the horizon, the moon is past
+/// its new moon and before its first quarter, the arc of light between them is from 10.6 to 90 degrees and the moon's altitude
+/// above 4.1. 151 tests at most: those of dusk, of the phase, the obliquity, the longitude and the latitude of the moon, and then
+/// those of the conditions in this order, at `crescent`, until one doesn't hold. It is void where dusk is, and at `year` in a year
+/// without a correction.
+#[tactic(auto, using(book_model::proofs::Leads::leading), unfolding(book_model::specs::Crescent::visible_of))]
+pub fn visible<E: Enclosure>(location: &Location, day: i64, trail: &mut Trail) -> Result<bool, Fail>
+    requires low { negsuc 39999999 ≤ℤ day }
+    ensures leads { (w : World) → DEPTH ≤ w.depth → Leads w Exact (spec.visible_of location.now day) trail.old.count trail.new.count result }
+    ensures counted { trail.new.count ≤ trail.old.count + 151 }
+{
+    match evening::<E>(location, day, trail) {
+        Ok(t) => meets_at(location, t, trail),
+        Err(fail) => Err(fail),
+    }
+}

@@ -1,0 +1,133 @@
+//! The day with whose evening the crescent was first seen.
+ghost use Rattle.std.specs.Prelude.{◌≡◌, ◌≤◌, ◌+◌, ℤ, pos, negsuc, ◌≤ℤ◌, ◌+ℤ◌, ◌-ℤ◌, ◌*◌, Bool, int_le, IfOk, IfErr};
+ghost use Rattle.book_model.specs.Crescent as spec;
+ghost use Rattle.book_model.specs.Depth.{DEPTH};
+ghost use Rattle.book_model.specs.Expressions.{World};
+ghost use Rattle.book_model.specs.Facts.{IsFactDay, IsFactValue, IsValueDay};
+ghost use Rattle.book_model.specs.Leading.{Exact, Leads};
+ghost use Rattle.book_model.specs.Searches.{first_day_from};
+ghost use Rattle.book_model.proofs.PhaseDays.{IsPhaseDay};
+ghost use Rattle.time_scales.specs.Steps.{IsNoEarlyYear};
+ghost use Rattle.crescent.specs.Sights.{IsSightDay};
+
+use crate::criterion::visible;
+use book_model::{Fail, Location};
+use encl_core::{DayTest, Enclosure, Trail, first_day};
+use moon_core::phase_day;
+
+/// The phase of a new moon, in degrees.
+const NEW_MOON: i64 = 0;
+
+/// How many days after its new moon a crescent may still be unseen.
+const UNSEEN_DAYS: i64 = 3;
+
+/// How far back the search begins then.
+const DAYS_BACK: i64 = 30;
+
+/// Whether the crescent is seen on the evening with which a day begins.
+#[derive(Drop)]
+struct SeenAt {
+    location: Location,
+}
+
+impl<E: Enclosure> DayTest<E> for SeenAt {
+    ghost test_of = { λ s d. spec.visible_of s.location d };
+
+    ghost most = { 151 };
+
+    fn holds(&self, day: i64, trail: &mut Trail) -> Result<bool, Fail> {
+        visible::<E>(&self.location, day, trail)
+    }
+}
+
+/// Whether a day (R.D.) is so soon after a new moon that its crescent may be unseen.
+fn is_soon(day: i64, new_moon: i64) -> bool
+    requires day { IsFactDay day }
+    requires near { IsPhaseDay new_moon }
+    ensures soon { result ≡ int_le (day -ℤ new_moon) (pos 3) }
+{
+    day - new_moon <= UNSEEN_DAYS
+}
+
+/// The day (R.D.) from which the first sight is sought, by whether the crescent of the last new moon is seen.
+#[tactic(auto, unfolding(book_model::specs::Crescent::start_by))]
+fn start(new_moon: i64, is_seen: bool) -> i64
+    requires near { IsPhaseDay new_moon }
+    ensures start { result ≡ spec.start_by new_moon is_seen }
+    ensures near { IsSightDay result }
+{
+    if is_seen { new_moon } else { new_moon - DAYS_BACK }
+}
+
+/// The same, where the day may come before the crescent of the last new moon: 151 tests at most.
+#[tactic(auto, using(book_model::proofs::Leads::leading), unfolding(book_model::specs::Crescent::sight_start_of))]
+fn sight_start<E: Enclosure>(
+    location: &Location,
+    day: i64,
+    new_moon: i64,
+    trail: &mut Trail,
+) -> Result<i64, Fail>
+    requires day { IsFactDay day }
+    requires near { IsPhaseDay new_moon }
+    ensures leads { (w : World) → DEPTH ≤ w.depth → Leads w Exact (spec.sight_start_of location.now day new_moon) trail.old.count trail.new.count result }
+    ensures near { IfOk result IsSightDay }
+    ensures counted { trail.new.count ≤ trail.old.count + 151 }
+{
+    if !is_soon(day, new_moon) {
+        return Ok(new_moon);
+    }
+    match visible::<E>(location, day, trail) {
+        Ok(is_seen) => Ok(start(new_moon, is_seen)),
+        Err(fail) => Err(fail),
+    }
+}
+
+/// The first day (R.D.) from a day on on whose evening before the crescent is seen.
+#[tactic(auto, using(book_model::proofs::Leads::leading))]
+fn first_sight<E: Enclosure>(location: &Location, from: i64, trail: &mut Trail) -> Result<i64, Fail>
+    requires near { IsSightDay from }
+    ensures leads { (w : World) → DEPTH ≤ w.depth → Leads w Exact (first_day_from (spec.visible_of location.now) from) trail.old.count trail.new.count result }
+    ensures from { IfOk result (λ d. from ≤ℤ d) }
+    ensures to { IfOk result (λ d. d ≤ℤ (from +ℤ pos 45)) }
+    ensures counted { trail.new.count ≤ trail.old.count + 46 * 151 }
+{
+    first_day::<E, SeenAt>(&SeenAt { location: *location }, from, trail)
+}
+
+/// The same, from where the new moon of a day tells.
+#[tactic(auto, using(book_model::proofs::Leads::leading), unfolding(book_model::specs::Crescent::sight_after_of))]
+fn sight_after<E: Enclosure>(
+    location: &Location,
+    day: i64,
+    new_moon: i64,
+    trail: &mut Trail,
+) -> Result<i64, Fail>
+    requires day { IsFactDay day }
+    requires near { IsPhaseDay new_moon }
+    ensures leads { (w : World) → DEPTH ≤ w.depth → Leads w Exact (spec.sight_after_of location.now day new_moon) trail.old.count trail.new.count result }
+    ensures value { IfOk result IsFactValue }
+    ensures counted { trail.new.count ≤ trail.old.count + 47 * 151 }
+{
+    match sight_start::<E>(location, day, new_moon, trail) {
+        Ok(from) => first_sight::<E>(location, from, trail),
+        Err(fail) => Err(fail),
+    }
+}
+
+/// The last day (R.D.) before a day, or the day itself, on whose evening before the crescent was first seen at a location by
+/// Shaukat's criterion (Reingold and Dershowitz, Calendrical Calculations, chapter 14): sought from the day of the last new moon,
+/// or, where its crescent isn't seen yet, from 30 days before that. At most 7,942 tests. It is void at `search` where there is no
+/// such day, and where `phase_day` or `visible` is. Its first and third tests, of the year of the day itself, are never open.
+#[tactic(auto, using(book_model::proofs::Leads::leading), unfolding(book_model::specs::Crescent::phasis_of))]
+pub fn phasis<E: Enclosure>(location: &Location, day: i64, trail: &mut Trail) -> Result<i64, Fail>
+    requires day { IsFactDay day }
+    ensures leads { (w : World) → DEPTH ≤ w.depth → Leads w Exact (spec.phasis_of location.now day) trail.old.count trail.new.count result }
+    ensures value { IfOk result IsFactValue }
+    ensures early { trail.old.count ≡ 0 → 36 ≤ E.BITS → E.BITS ≤ 56 → IsValueDay day → IfErr result IsNoEarlyYear }
+    ensures counted { trail.new.count ≤ trail.old.count + 7942 }
+{
+    match phase_day::<E>(NEW_MOON, day, trail) {
+        Ok(new_moon) => sight_after::<E>(location, day, new_moon, trail),
+        Err(fail) => Err(fail),
+    }
+}

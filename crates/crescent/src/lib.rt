@@ -1,0 +1,13 @@
+//! The first sight of the crescent by Shaukat's criterion: whether it is seen on an evening at a location, and the day with whose
+//! evening it was first seen. Each call makes the tests of its formula.
+//!
+//! - `visible`: the criterion, by the moon's phase, its arc of light and its altitude at dusk;
+//! - `phasis`: the search for the day of the first sight.
+#![tactic(auto)]
+
+mod altitude;
+mod criterion;
+mod first_sight;
+
+pub use criterion::visible;
+pub use first_sight::phasis;

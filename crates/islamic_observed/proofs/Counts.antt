@@ -1,0 +1,34 @@
+-- Counts of months and their days: the quotients that they are, and how large they get.
+use Rattle.std.specs.Prelude.{◌≡◌, ℤ, pos, negsuc, ◌+ℤ◌, ◌-ℤ◌, ◌*ℤ◌, ◌≤ℤ◌, refl}
+use Rattle.std.proofs.Common.{arith}
+use Rattle.std.proofs.lemmas.Int.{ints}
+use Rattle.exact_math.specs.Fraction.{floor_quotient, times, plus, reciprocal}
+use Rattle.exact_math.proofs.Floors.{floor_quotient_is}
+use Rattle.book_model.specs.declared.calendar_tables.TheConstants.{SYNODIC_MONTH}
+use Rattle.book_model.specs.Fractions.{fraction_of}
+use Rattle.book_model.specs.Islamic.{months_before}
+use Rattle.book_model.specs.Facts.{IsFactValue}
+use Rattle.book_model.specs.Spans.{days_of, nearest, months_of_days, ratio}
+use Rattle.calendar_math.proofs.SpanLemmas.{LiesWithin}
+
+-- the days of a count of half months as a quotient of whole numbers
+days_are : (halves : ℤ) → days_of (fraction_of SYNODIC_MONTH) (ratio halves 1) ≡ floor_quotient (pos 29530588861 *ℤ halves) 1999999999
+unfolding days_of times
+days_are halves = refl
+
+pub days_near : (halves : ℤ) → pos 1 ≤ℤ halves → halves ≤ℤ pos 40000 → LiesWithin (pos 0) (pos 1000000) (days_of (fraction_of SYNODIC_MONTH) (ratio halves 1))
+days_near halves h k =
+    let f = floor_quotient_is (pos 29530588861 *ℤ halves) 1999999999 in
+    let e = days_are halves in
+    record { from = omega (arith, ints, h, k, e, f.not_above, f.close); to = omega (arith, ints, h, k, e, f.not_above, f.close) }
+
+-- the months before one as a quotient of whole numbers
+months_are : (first : ℤ) → months_before first ≡ floor_quotient ((first -ℤ pos 227015) *ℤ pos 1000000000 *ℤ pos 2 +ℤ pos 29530588861) 59061177721
+unfolding months_before months_of_days nearest times plus reciprocal
+months_are first = refl
+
+pub months_near : (first : ℤ) → IsFactValue first → LiesWithin (negsuc 399999) (pos 400000) (months_before first)
+months_near first h =
+    let f = floor_quotient_is ((first -ℤ pos 227015) *ℤ pos 1000000000 *ℤ pos 2 +ℤ pos 29530588861) 59061177721 in
+    let e = months_are first in
+    record { from = omega (arith, ints, h.0, h.1, e, f.not_above, f.close); to = omega (arith, ints, h.0, h.1, e, f.not_above, f.close) }

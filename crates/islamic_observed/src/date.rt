@@ -1,0 +1,111 @@
+//! Islamic dates, and the facts that they are found by. Days are R.D.
+ghost use Rattle.std.specs.Prelude.{◌≡◌, ◌≤◌, ◌≤ℤ◌, ◌+ℤ◌, ◌-ℤ◌, pos, negsuc};
+ghost use Rattle.exact_math.specs.Fraction.{floor_quotient};
+ghost use Rattle.book_model.specs.Facts.{IsFactValue};
+ghost use Rattle.book_model.specs.Inquiries.{to_32_bits as to_32_bits_of};
+ghost use Rattle.book_model.specs.Islamic as spec;
+ghost use Rattle.book_model.specs.Spans.{modulo as modulo_of};
+ghost use Rattle.islamic_observed.specs.Dates.{fields_of_date};
+ghost use Rattle.islamic_observed.specs.Months.{IsNearMonth};
+ghost use Rattle.oracle_core.specs.Inquiring.{Inquires, map_ok};
+
+use crate::months::{month_fact, month_fact_on, months_before};
+use calendar_math::{modulo, quotient, to_8_bits, to_32_bits};
+use oracle_core::{Oracle, Stop};
+
+/// A date of the Islamic calendar.
+#[derive(Clone, Copy, Debug, PartialEq, Eq)]
+pub struct IslamicDate {
+    pub year: i32,
+    pub month: u8,
+    pub day: u8,
+}
+
+/// The year, where so many months have passed.
+fn year_of(passed: i64) -> i32
+    requires near { IsNearMonth passed }
+    ensures year { result ≡ to_32_bits_of (floor_quotient passed 11 +ℤ pos 1) }
+{
+    to_32_bits(quotient(passed, 12) + 1)
+}
+
+/// The month of its year, where so many months have passed.
+fn month_of(passed: i64) -> u8
+    requires near { IsNearMonth passed }
+    ensures month { pos result ≡ modulo_of passed 11 +ℤ pos 1 }
+{
+    (modulo(passed, 12) + 1) as u8
+}
+
+/// The date, where so many months have passed.
+#[tactic(auto, unfolding(book_model::specs::Islamic::date_in))]
+fn date_in(passed: i64, day: i64) -> IslamicDate
+    requires near { IsNearMonth passed }
+    ensures date { fields_of_date result ≡ spec.date_in passed day }
+{
+    IslamicDate {
+        year: year_of(passed),
+        month: month_of(passed),
+        day: to_8_bits(day),
+    }
+}
+
+/// The day of the month, by the first day of it.
+fn day_of(day: i64, first: i64) -> i64
+    requires from { pos 0 ≤ℤ day }
+    requires to { day ≤ℤ pos 1000000 }
+    requires value { IsFactValue first }
+    ensures day { result ≡ day -ℤ first +ℤ pos 1 }
+{
+    day - first + 1
+}
+
+/// The date of a day by the first day of its month.
+fn date_by(day: i64, first: i64) -> IslamicDate
+    requires from { pos 0 ≤ℤ day }
+    requires to { day ≤ℤ pos 1000000 }
+    requires value { IsFactValue first }
+    ensures date { fields_of_date result ≡ spec.date_in (spec.months_before first) (day -ℤ first +ℤ pos 1) }
+{
+    date_in(months_before(first), day_of(day, first))
+}
+
+/// The date of a day (R.D.): the month that begins on the first day which the oracle has for the day, the months counted from the
+/// epoch. A day that its type doesn't hold stands at the nearest end; the other fields always fit. It stops where the oracle
+/// stops, at the one fact that is asked (Reingold and Dershowitz, Calendrical Calculations, chapter 18).
+#[tactic(auto, using(oracle_core::proofs::Inquiring::asking), unfolding(book_model::specs::Islamic::islamic_on))]
+pub fn from_fixed<O: Oracle>(oracle: &mut O, day: i64) -> Result<IslamicDate, Stop>
+    requires from { pos 0 ≤ℤ day }
+    requires to { day ≤ℤ pos 1000000 }
+    ensures date { Inquires O.meaning (spec.islamic_on day) (O.state oracle.old) (O.state oracle.new) (map_ok fields_of_date result) }
+{
+    let first = oracle.ask(month_fact_on(day))?;
+    Ok(date_by(day, first))
+}
+
+/// The day of a month by its first day.
+fn day_by(first: i64, day: i64) -> i64
+    requires value { IsFactValue first }
+    requires from_first_day { pos 1 ≤ℤ day }
+    requires to_last_day { day ≤ℤ pos 30 }
+    ensures day { result ≡ first +ℤ day -ℤ pos 1 }
+{
+    first + day - 1
+}
+
+/// The day (R.D.) of a date: the first day of the month which the oracle has, asked of a day about the month's middle, and the day
+/// of the month. The date needn't be one that the calendar has. It stops where the oracle stops, at the one fact that is asked
+/// (Reingold and Dershowitz, Calendrical Calculations, chapter 18).
+#[tactic(auto, using(oracle_core::proofs::Inquiring::asking), unfolding(book_model::specs::Islamic::islamic_day))]
+pub fn to_fixed<O: Oracle>(oracle: &mut O, date: IslamicDate) -> Result<i64, Stop>
+    requires from_1216 { pos 1216 ≤ℤ date.year }
+    requires to_1471 { date.year ≤ℤ pos 1471 }
+    requires from_first_month { 1 ≤ date.month }
+    requires to_last_month { date.month ≤ 12 }
+    requires from_first_day { 1 ≤ date.day }
+    requires to_last_day { date.day ≤ 30 }
+    ensures day { Inquires O.meaning (spec.islamic_day date.year (pos date.month) (pos date.day)) (O.state oracle.old) (O.state oracle.new) result }
+{
+    let first = oracle.ask(month_fact(i64::from(date.year), i64::from(date.month)))?;
+    Ok(day_by(first, i64::from(date.day)))
+}

@@ -1,0 +1,70 @@
+//! The months of the Islamic calendar since its epoch, and the facts of their first days. Days are R.D.
+ghost use Rattle.std.specs.Prelude.{◌≡◌, ◌≤◌, ◌≤ℤ◌, ◌+ℤ◌, pos, negsuc};
+ghost use Rattle.book_model.specs.Facts.{IsFactValue};
+ghost use Rattle.book_model.specs.Fractions.{fraction_of};
+ghost use Rattle.book_model.specs.Islamic as spec;
+ghost use Rattle.book_model.specs.Spans.{days_of as days_of_spans, ratio};
+ghost use Rattle.book_model.specs.declared.calendar_tables.TheConstants.{SYNODIC_MONTH as MonthOfDays};
+ghost use Rattle.islamic_observed.specs.Months.{IsMonth, IsNearMonth};
+
+use book_model::{Fact, ISLAMIC_EPOCH, Kind, Place, SYNODIC_MONTH};
+use calendar_math::{days_of, months_of_days};
+
+/// The fact of the first day of the month that a day falls in.
+pub(crate) fn month_fact_on(day: i64) -> Fact
+    requires low { negsuc 39999999 ≤ℤ day }
+    requires high { day ≤ℤ pos 40000000 }
+    ensures fact { result ≡ spec.phasis_fact day }
+{
+    Fact::new(Kind::Phasis, Place::Cairo, day).unwrap()
+}
+
+/// The months that have passed from the epoch before the one that begins on a day.
+pub(crate) fn months_before(first: i64) -> i64
+    requires value { IsFactValue first }
+    ensures months { result ≡ spec.months_before first }
+    ensures near { IsNearMonth result }
+{
+    months_of_days(first - ISLAMIC_EPOCH)
+}
+
+/// Twice the months from the epoch to the middle of a month.
+#[tactic(auto, unfolding(book_model::specs::Islamic::half_months_to))]
+fn half_months_to(year: i64, month: i64) -> i64
+    requires month { IsMonth year month }
+    ensures halves { result ≡ spec.half_months_to year month }
+    ensures low { pos 1 ≤ℤ result }
+    ensures high { result ≤ℤ pos 40000 }
+{
+    2 * (12 * (year - 1) + month) - 1
+}
+
+/// The days of so many half months, rounded down.
+fn days_of_halves(halves: i64) -> i64
+    requires low { pos 1 ≤ℤ halves }
+    requires high { halves ≤ℤ pos 40000 }
+    ensures days { result ≡ days_of_spans (fraction_of MonthOfDays) (ratio halves 1) }
+    ensures from { pos 0 ≤ℤ result }
+    ensures to { result ≤ℤ pos 1000000 }
+{
+    days_of(SYNODIC_MONTH, halves, 2)
+}
+
+/// A day about the middle of a month.
+#[tactic(auto, unfolding(book_model::specs::Islamic::day_within_month))]
+fn day_within(year: i64, month: i64) -> i64
+    requires month { IsMonth year month }
+    ensures day { result ≡ spec.day_within_month year month }
+    ensures low { negsuc 39999999 ≤ℤ result }
+    ensures high { result ≤ℤ pos 40000000 }
+{
+    ISLAMIC_EPOCH + days_of_halves(half_months_to(year, month))
+}
+
+/// The fact of the first day of a month, asked of a day about its middle.
+pub(crate) fn month_fact(year: i64, month: i64) -> Fact
+    requires month { IsMonth year month }
+    ensures fact { result ≡ spec.phasis_fact (spec.day_within_month year month) }
+{
+    month_fact_on(day_within(year, month))
+}

@@ -1,0 +1,18 @@
+use Rattle.book_model.specs.Expressions.{subtract, constant}
+use Rattle.book_model.specs.Fractions.{fraction_of}
+use Rattle.book_model.specs.declared.time_tables.TheConstants.{NOON_2000}
+use Rattle.book_model.specs.Programs.{answer}
+use Rattle.book_model.specs.Latitude.{latitude_of, latitude_at_of}
+use Rattle.book_model.specs.Time.{in_centuries as centuries_from}
+use Rattle.book_model.proofs.Leads.{leads_answer}
+use Rattle.sun_core.specs.Daily.{in_centuries}
+use Rattle.sun_core.proofs.Elapsed.{by_dynamical}
+use Rattle.moon_core.proofs.latitudes.latitude.Goals as goal
+
+pub returns-in-Ok-clause-leads : goal.returns-in-Ok-clause-leads
+unfolding latitude_of centuries_from in_centuries
+returns-in-Ok-clause-leads g c = λ w x h k.
+    by_dynamical x (λ v. answer (latitude_at_of v)) (c.in-Ok.ensures.leads w x k)
+    (λ d r.
+    let days = c.sub-days.ensures.holds w d (constant (fraction_of NOON_2000)) r (c.from_frac.ensures.holds w r.deep) in
+    leads_answer (c.latitude_at.ensures.holds w (subtract d (constant (fraction_of NOON_2000))) h days (c.mul_frac-c.ensures.holds w _ days)))

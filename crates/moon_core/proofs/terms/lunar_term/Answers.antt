@@ -1,0 +1,26 @@
+use Rattle.std.proofs.Common.{SFits, w64}
+use Rattle.std.proofs.lemmas.Int.{to_z-of_z}
+use Rattle.book_model.specs.Moon.{lunar_term_of}
+use Rattle.moon_core.proofs.terms.lunar_term.Goals as goal
+
+pub returns-clause-holds : goal.returns-clause-holds
+unfolding lunar_term_of
+returns-clause-holds g c = λ w a d h.
+    let f : SFits w64 c.args.size = c.ranges.size in
+    let m : SFits w64 c.args.sun_anomaly = c.ranges.sun_anomaly in
+    let d1 : SFits w64 c.args.elongation = c.ranges.elongation in
+    let d3 : SFits w64 c.args.moon_anomaly = c.ranges.moon_anomaly in
+    let d4 : SFits w64 c.args.latitude_argument = c.ranges.latitude_argument in
+    let s = rw c.size_of.ensures.size at (c.times_power.ensures.holds w a.eccentricity _ h.eccentricity (c.sin_deg-sine.ensures.holds w _ (c.lunar_angle.ensures.holds w a h))) in
+    simp to_z-of_z at (c.times.ensures.holds w _ s)
+
+pub returns-clause-narrow : goal.returns-clause-narrow
+unfolding lunar_term_of
+returns-clause-narrow g c = λ r a h.
+    let f : SFits w64 c.args.size = c.ranges.size in
+    let m : SFits w64 c.args.sun_anomaly = c.ranges.sun_anomaly in
+    let d1 : SFits w64 c.args.elongation = c.ranges.elongation in
+    let d3 : SFits w64 c.args.moon_anomaly = c.ranges.moon_anomaly in
+    let d4 : SFits w64 c.args.latitude_argument = c.ranges.latitude_argument in
+    let s = rw c.size_of.ensures.size at (c.times_power.ensures.narrow r a.eccentricity _ h.eccentricity (c.sin_deg-sine.ensures.narrow r _ (c.lunar_angle.ensures.narrow r a h))) in
+    simp to_z-of_z at (c.times.ensures.narrow r _ s)

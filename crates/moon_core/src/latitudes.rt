@@ -1,0 +1,120 @@
+//! The latitude of the moon.
+ghost use Rattle.std.specs.Prelude.{◌≡◌, ◌≤◌, ◌+◌};
+ghost use Rattle.book_model.specs.Bounds.{Reach, limits_of};
+ghost use Rattle.book_model.specs.Depth.{DEPTH};
+ghost use Rattle.book_model.specs.Expressions.{Expression, World};
+ghost use Rattle.book_model.specs.Latitude as spec;
+ghost use Rattle.book_model.specs.Leading.{Leads};
+ghost use Rattle.book_model.specs.Moon.{LunarAngles};
+ghost use Rattle.book_model.specs.Relations.{Within, Narrow};
+ghost use Rattle.moon_core.specs.Angles.{HoldAngles, KeepAngles};
+ghost use Rattle.moon_core.specs.Daily.{computed_millionths_of, computed_latitude_of};
+ghost use Rattle.sun_core.specs.Daily.{in_centuries};
+
+use crate::angles::{Angles, angles_at, daily_quartic};
+use crate::terms::lunar_term;
+use book_model::{
+    DAY_IN_CENTURIES, FLATTENING_ALONE, FLATTENING_LESS_ANOMALY, FLATTENING_WITH_ANOMALY, Fail,
+    LATITUDE_TERMS, LATITUDE_WAVE, LatitudeTerm, MILLIONTH, MOON_LONGITUDE, NOON_2000,
+    VENUS_IN_LATITUDE, VENUS_WAVE,
+};
+use encl_core::{Enclosure, Term, Trail, sum_of_terms};
+use sun_core::{sine_wave, wave_angle};
+use time_scales::dynamical;
+use trig_series::sin_deg;
+
+impl<E: Enclosure> Term<Angles<E>, E> for LatitudeTerm {
+    ghost Given = { LunarAngles };
+
+    ghost holds = { λ w a given. HoldAngles E.shown w a given };
+
+    ghost keeps = { λ r a given. KeepAngles E.shown (limits_of E.BITS) r a given };
+
+    ghost term_of = { λ a term. spec.latitude_term_of a term };
+
+    ghost computed_of = { λ a term. spec.latitude_term_of a term };
+
+    #[tactic(auto, unfolding(book_model::specs::Latitude::latitude_term_of))]
+    fn term(&self, given: Angles<E>) -> E {
+        lunar_term(
+            self.elongation,
+            self.sun_anomaly,
+            self.moon_anomaly,
+            self.latitude_argument,
+            self.latitude,
+            given,
+        )
+    }
+}
+
+/// The sum of the latitude's terms, in millionths of a degree.
+#[tactic(auto, unfolding(book_model::specs::Latitude::latitude_terms_of))]
+fn latitude_terms<E: Enclosure>(angles: Angles<E>) -> E
+    ensures holds { (w : World) (a : LunarAngles) → DEPTH ≤ w.depth → HoldAngles E.shown w a angles → Within E.shown w (spec.latitude_terms_of a) result }
+    ensures narrow { (r : Reach) (a : LunarAngles) → KeepAngles E.shown (limits_of E.BITS) r a angles → Narrow E.shown (limits_of E.BITS) r (spec.latitude_terms_of a) result }
+{
+    sum_of_terms::<Angles<E>, E, LatitudeTerm>(&LATITUDE_TERMS, angles)
+}
+
+/// What Venus adds, by the angle of its wave and the argument of latitude, in millionths of a degree.
+#[tactic(auto, unfolding(book_model::specs::Latitude::venus_by))]
+fn venus<E: Enclosure>(venus: E, argument: E) -> E
+    ensures holds { (w : World) (v f : Expression) → DEPTH ≤ w.depth → Within E.shown w v venus → Within E.shown w f argument → Within E.shown w (spec.venus_by v f) result }
+    ensures narrow { (r : Reach) (v f : Expression) → Narrow E.shown (limits_of E.BITS) r v venus → Narrow E.shown (limits_of E.BITS) r f argument → Narrow E.shown (limits_of E.BITS) r (spec.venus_by v f) result }
+{
+    sin_deg(venus.add(argument))
+        .times(VENUS_IN_LATITUDE)
+        .add(sin_deg(venus.sub(argument)).times(VENUS_IN_LATITUDE))
+}
+
+/// What the flattening of the earth adds, by the mean longitude and the anomaly of the moon, in millionths of a degree.
+#[tactic(auto, unfolding(book_model::specs::Latitude::flattening_by))]
+fn flattening<E: Enclosure>(longitude: E, anomaly: E) -> E
+    ensures holds { (w : World) (l m : Expression) → DEPTH ≤ w.depth → Within E.shown w l longitude → Within E.shown w m anomaly → Within E.shown w (spec.flattening_by l m) result }
+    ensures narrow { (r : Reach) (l m : Expression) → Narrow E.shown (limits_of E.BITS) r l longitude → Narrow E.shown (limits_of E.BITS) r m anomaly → Narrow E.shown (limits_of E.BITS) r (spec.flattening_by l m) result }
+{
+    sin_deg(longitude)
+        .times(FLATTENING_ALONE)
+        .add(sin_deg(longitude.sub(anomaly)).times(FLATTENING_LESS_ANOMALY))
+        .add(sin_deg(longitude.add(anomaly)).times(FLATTENING_WITH_ANOMALY))
+}
+
+/// The latitude in millionths of a degree, by the days from noon of 1 January 2000, and these in centuries.
+#[tactic(auto, unfolding(book_model::specs::Latitude::millionths_of, crate::specs::Daily::computed_millionths_of))]
+fn millionths<E: Enclosure>(angles: Angles<E>, days: E, c: E) -> E
+    ensures holds { (w : World) (a : LunarAngles) (x : Expression) → DEPTH ≤ w.depth → HoldAngles E.shown w a angles → Within E.shown w x days → Within E.shown w (in_centuries x) c → Within E.shown w (spec.millionths_of a (in_centuries x)) result }
+    ensures narrow { (r : Reach) (a : LunarAngles) (x : Expression) → KeepAngles E.shown (limits_of E.BITS) r a angles → Narrow E.shown (limits_of E.BITS) r x days → Narrow E.shown (limits_of E.BITS) r (in_centuries x) c → Narrow E.shown (limits_of E.BITS) r (computed_millionths_of a x) result }
+{
+    let longitude = daily_quartic(&MOON_LONGITUDE, days, c);
+    latitude_terms(angles)
+        .add(venus(wave_angle(&VENUS_WAVE, days), angles.latitude_argument))
+        .add(flattening(longitude, angles.moon_anomaly))
+        .add(sine_wave(&LATITUDE_WAVE, days))
+}
+
+/// The latitude by the days from noon of 1 January 2000, and these in centuries.
+#[tactic(auto, unfolding(book_model::specs::Latitude::latitude_at_of, crate::specs::Daily::computed_latitude_of))]
+fn latitude_at<E: Enclosure>(days: E, c: E) -> E
+    ensures holds { (w : World) (x : Expression) → DEPTH ≤ w.depth → Within E.shown w x days → Within E.shown w (in_centuries x) c → Within E.shown w (spec.latitude_at_of (in_centuries x)) result }
+    ensures narrow { (r : Reach) (x : Expression) → Narrow E.shown (limits_of E.BITS) r x days → Narrow E.shown (limits_of E.BITS) r (in_centuries x) c → Narrow E.shown (limits_of E.BITS) r (computed_latitude_of x) result }
+{
+    millionths(angles_at(days, c), days, c).mul_frac(MILLIONTH)
+}
+
+/// The latitude of the moon, from the ecliptic, at a moment of universal time, in degrees (Reingold and Dershowitz, Calendrical
+/// Calculations, chapter 14; Meeus, Astronomical Algorithms, chapter 47). One test, the year's. It is void at `year` in a year
+/// without a correction.
+#[tactic(auto, using(book_model::proofs::Leads::leading), unfolding(book_model::specs::Latitude::latitude_of, book_model::specs::Time::centuries_of, book_model::specs::Time::in_centuries, sun_core::specs::Daily::in_centuries, book_model::specs::Leading::next_turn))]
+pub fn latitude<E: Enclosure>(t: E, trail: &mut Trail) -> Result<E, Fail>
+    ensures leads { (w : World) (x : Expression) → DEPTH ≤ w.depth → Within E.shown w x t → Leads w (Within E.shown w) (spec.latitude_of x) trail.old.count trail.new.count result }
+    ensures counted { trail.new.count ≤ trail.old.count + 1 }
+{
+    match dynamical(t, trail) {
+        Ok(moment) => {
+            let days = moment.sub(E::from_frac(NOON_2000));
+            let c = days.mul_frac(DAY_IN_CENTURIES);
+            Ok(latitude_at(days, c))
+        }
+        Err(fail) => Err(fail),
+    }
+}

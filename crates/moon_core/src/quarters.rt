@@ -1,0 +1,116 @@
+//! When the moon was last at a phase.
+ghost use Rattle.std.specs.Prelude.{◌≡◌, ◌≤◌, ◌+◌, IfOk, IfErr};
+ghost use Rattle.exact_math.specs.Interval.{Interval};
+ghost use Rattle.book_model.specs.Bounds.{Reach, limits_of};
+ghost use Rattle.book_model.specs.Depth.{DEPTH};
+ghost use Rattle.book_model.specs.Expressions.{Expression, World};
+ghost use Rattle.book_model.specs.Facts.{IsValueDay};
+ghost use Rattle.book_model.specs.Leading.{Exact, Leads};
+ghost use Rattle.book_model.specs.Phases as spec;
+ghost use Rattle.book_model.specs.Relations.{Within, Narrow};
+ghost use Rattle.book_model.specs.Sun.{reduced_of};
+ghost use Rattle.book_model.proofs.PhaseDays.{IsPhaseDay};
+ghost use Rattle.time_scales.specs.Steps.{IsEarlyYearFor, IsNoEarlyYear};
+
+use crate::phases;
+use angle_search::{Angular, invert_angular};
+use book_model::{DEGREE_OF_MONTH, Fail, Site};
+use encl_core::{Enclosure, Trail, floor_step, wrap_step};
+
+/// How many days before and after the moment by the mean phase the moon is sought.
+const DAYS_ABOUT: i64 = 2;
+
+/// The phase of the moon, which grows with time.
+#[derive(Clone, Copy)]
+struct MoonPhase;
+
+impl<E: Enclosure> Angular<E> for MoonPhase {
+    ghost angle_of = { λ s x. spec.phase_of x };
+
+    ghost most = { 10 };
+
+    fn at(&self, x: E, trail: &mut Trail) -> Result<E, Fail> {
+        phases::phase(x, trail)
+    }
+}
+
+/// An angle, reduced to 0 up to 360 degrees: one test, at `step-wrap`.
+#[tactic(auto, using(book_model::proofs::Leads::leading, crate::proofs::Openings::opening), unfolding(book_model::specs::Sun::reduced_of, book_model::specs::Leading::next_turn))]
+fn reduced<E: Enclosure>(angle: E, trail: &mut Trail) -> Result<E, Fail>
+    ensures leads { (w : World) (x : Expression) → Within E.shown w x angle → Leads w (Within E.shown w) (reduced_of x) trail.old.count trail.new.count result }
+    ensures elsewhere { (i : Interval) → IfErr result (IsEarlyYearFor i) }
+    ensures counted { trail.new.count ≤ trail.old.count + 1 }
+{
+    wrap_step(angle, 360, Site::StepWrap, trail)
+}
+
+/// How far the moon is past a phase, from 0 up to 360 degrees: eleven tests at most.
+#[tactic(auto, using(book_model::proofs::Leads::leading), unfolding(book_model::specs::Phases::phase_past_of))]
+fn phase_past<E: Enclosure>(phase: E, t: E, trail: &mut Trail) -> Result<E, Fail>
+    ensures leads { (w : World) (f x : Expression) → Within E.shown w f phase → Within E.shown w x t → Leads w (Within E.shown w) (spec.phase_past_of f x) trail.old.count trail.new.count result }
+    ensures early { trail.old.count ≡ 0 → IfErr result (IsEarlyYearFor (E.shown t)) }
+    ensures counted { trail.new.count ≤ trail.old.count + 11 }
+{
+    match phases::phase(t, trail) {
+        Ok(there) => reduced(there.sub(phase), trail),
+        Err(fail) => Err(fail),
+    }
+}
+
+/// A moment less the time in which the mean phase moves on by an angle.
+#[tactic(auto, unfolding(book_model::specs::Phases::phase_back_by))]
+fn phase_back<E: Enclosure>(angle: E, t: E) -> E
+    ensures holds { (w : World) (p x : Expression) → Within E.shown w p angle → Within E.shown w x t → Within E.shown w (spec.phase_back_by p x) result }
+    ensures narrow { (r : Reach) (p x : Expression) → Narrow E.shown (limits_of E.BITS) r p angle → Narrow E.shown (limits_of E.BITS) r x t → Narrow E.shown (limits_of E.BITS) r (spec.phase_back_by p x) result }
+{
+    t.sub(angle.mul_frac(DEGREE_OF_MONTH))
+}
+
+/// When the moon is at a phase about a moment, but not after the moment `t`: 833 tests at most.
+#[tactic(auto, unfolding(book_model::specs::Phases::phase_about_of))]
+fn phase_about<E: Enclosure>(phase: E, t: E, about: E, trail: &mut Trail) -> Result<E, Fail>
+    ensures leads { (w : World) (f x a : Expression) → DEPTH ≤ w.depth → Within E.shown w f phase → Within E.shown w x t → Within E.shown w a about → Leads w (Within E.shown w) (spec.phase_about_of f x a) trail.old.count trail.new.count result }
+    ensures counted { trail.new.count ≤ trail.old.count + 833 }
+{
+    let days = E::from_int(DAYS_ABOUT);
+    invert_angular::<E, MoonPhase>(&MoonPhase, phase, about.sub(days), t.min(about.add(days)), trail)
+}
+
+/// When the moon was last at a phase, in degrees, at or before a moment of universal time: by bisection about the moment to which
+/// the mean phase leads back (Reingold and Dershowitz, Calendrical Calculations, chapter 14). 844 tests at most: eleven of how far
+/// the moon is past the phase, and those of the bisection. It is void at `year` in a year without a correction.
+#[tactic(auto, using(book_model::proofs::Leads::leading), unfolding(book_model::specs::Phases::phase_before_of))]
+pub fn phase_before<E: Enclosure>(p: E, t: E, trail: &mut Trail) -> Result<E, Fail>
+    ensures leads { (w : World) (f x : Expression) → DEPTH ≤ w.depth → Within E.shown w f p → Within E.shown w x t → Leads w (Within E.shown w) (spec.phase_before_of f x) trail.old.count trail.new.count result }
+    ensures early { trail.old.count ≡ 0 → IfErr result (IsEarlyYearFor (E.shown t)) }
+    ensures counted { trail.new.count ≤ trail.old.count + 844 }
+{
+    match phase_past(p, t, trail) {
+        Ok(past) => phase_about(p, t, phase_back(past, t), trail),
+        Err(fail) => Err(fail),
+    }
+}
+
+/// The day (R.D.) in universal time on which the moon was last at a phase, in degrees, before a day begins or as it begins.
+#[tactic(auto, using(book_model::proofs::Leads::leading), unfolding(book_model::specs::Phases::phase_day_of, book_model::specs::Leading::next_turn))]
+fn floor_of_phase<E: Enclosure>(phase: i64, day: i64, trail: &mut Trail) -> Result<i64, Fail>
+    ensures leads { (w : World) → DEPTH ≤ w.depth → Leads w Exact (spec.phase_day_of phase day) trail.old.count trail.new.count result }
+    ensures early { trail.old.count ≡ 0 → 36 ≤ E.BITS → E.BITS ≤ 56 → IsValueDay day → IfErr result IsNoEarlyYear }
+    ensures counted { trail.new.count ≤ trail.old.count + 845 }
+{
+    match phase_before(E::from_int(phase), E::from_int(day), trail) {
+        Ok(moment) => floor_step(moment, Site::DayFloor, trail),
+        Err(fail) => Err(fail),
+    }
+}
+
+/// The day (R.D.) in universal time on which the moon was last at a phase, in degrees, before a day begins or as it begins: 845
+/// tests at most. It is void where `phase_before` is. Its first and third tests, of the year of the day itself, are never open.
+pub fn phase_day<E: Enclosure>(phase: i64, day: i64, trail: &mut Trail) -> Result<i64, Fail>
+    ensures leads { (w : World) → DEPTH ≤ w.depth → Leads w Exact (spec.phase_day_of phase day) trail.old.count trail.new.count result }
+    ensures near { IfOk result IsPhaseDay }
+    ensures early { trail.old.count ≡ 0 → 36 ≤ E.BITS → E.BITS ≤ 56 → IsValueDay day → IfErr result IsNoEarlyYear }
+    ensures counted { trail.new.count ≤ trail.old.count + 845 }
+{
+    floor_of_phase::<E>(phase, day, trail)
+}

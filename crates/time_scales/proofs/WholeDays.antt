@@ -1,0 +1,63 @@
+-- An enclosure of a whole day lies in its year.
+use Rattle.std.specs.Prelude.{◌≡◌, ℕ, ◌-◌, ◌*◌, ◌^◌, ◌≤◌, nat_lt, true, ℤ, pos, ◌*ℤ◌, unsigned_abs, Some, FitsSigned, refl}
+use Rattle.std.proofs.Common.{arith, subst}
+use Rattle.std.proofs.lemmas.Int.{ints}
+use Rattle.std.specs.Int.{w64}
+use Rattle.std.specs.Ordering.{int_eq}
+use Rattle.std.proofs.lemmas.Bool.Decides.{Decides-int_eq, Decides-ltb}
+use Rattle.exact_math.specs.Fraction.{floor}
+use Rattle.exact_math.specs.Interval.{Interval, everything, between}
+use Rattle.exact_math.proofs.Floors.{floor_mono, floor_quotient_is}
+use Rattle.book_model.specs.declared.fail.Fail.{Fail}
+use Rattle.book_model.specs.declared.fail.Fail.TheVariants.{Undecided as undecided_at, Void}
+use Rattle.book_model.specs.Bounds.{Reach, IsNarrow, unbounded, bounded, at_32, bound_of, integer_bound, limits_of}
+use Rattle.book_model.specs.Calendar.{year_of_day}
+use Rattle.book_model.specs.Expressions.{integer}
+use Rattle.book_model.specs.Facts.{IsValueDay}
+use Rattle.book_model.specs.Leading.{IsOpenCell, between_cells, too_far}
+use Rattle.book_model.specs.Programs.{years, cell_at, cell_of}
+use Rattle.book_model.specs.Relations.{Narrow, Keeps}
+use Rattle.book_model.proofs.CorrectionValues.{year_from, year_to}
+use Rattle.book_model.proofs.Implying.{limits_within}
+use Rattle.time_scales.specs.Steps.{IsYearOpenFor, IsEarlyYearFor, IsNoEarlyYear, IsNotOfYear}
+
+floor_of_day : (d : ℤ) → floor (at_32 (d *ℤ pos (2 ^ 32))) ≡ d
+floor_of_day d = let f = floor_quotient_is (d *ℤ pos (2 ^ 32)) (2 ^ 32 - 1) in omega (arith, ints, f.not_above, f.close)
+
+year_of_ends : (i : Interval) (d : ℤ) (w : ℕ) → IsNarrow w (bounded (d *ℤ pos (2 ^ 32)) (d *ℤ pos (2 ^ 32)) 0 0) i → cell_at years i ≡ Some (year_of_day d)
+unfolding IsNarrow cell_at cell_of
+year_of_ends everything d w h = absurd h
+year_of_ends (between lo hi) d w h =
+    let l = floor_mono _ _ h.above in
+    let m = floor_mono _ _ h.ordered in
+    let u = floor_mono _ _ h.below in
+    let f = floor_of_day d in
+    let p : floor lo ≡ d = omega (arith, ints, l, m, u, f) in
+    let q : floor hi ≡ d = omega (arith, ints, l, m, u, f) in
+    let t : int_eq (year_of_day d) (year_of_day d) ≡ true = (Decides-int_eq (year_of_day d) (year_of_day d)).1 refl in
+    rw (p, q, t) refl
+
+pub year_enclosed : {E : Type 0} (shown : E → Interval) (bits : ℕ) (d : ℤ) (e : E) → 36 ≤ bits → bits ≤ 56 → IsValueDay d → Narrow shown (limits_of bits) (record { width = 0; bounds = λ k. unbounded }) (integer d) e
+    → cell_at years (shown e) ≡ Some (year_of_day d)
+unfolding Keeps bound_of integer_bound
+year_enclosed shown bits d e a b h n =
+    let small : nat_lt (unsigned_abs d * 2 ^ 32) (2 ^ 58) ≡ true = (Decides-ltb (unsigned_abs d * 2 ^ 32) (2 ^ 58)).1 (omega (arith, ints, h.0, h.1)) in
+    let kept = (rw (limits_within bits a b) at n).kept in
+    year_of_ends (shown e) d 0 (rw small at kept)
+
+pub closed_year : (i : Interval) (y : ℤ) (f : Fail) → cell_at years i ≡ Some y → FitsSigned w64 y → IsYearOpenFor i f → IsNotOfYear f
+closed_year i y (Void s) e g h = tt
+closed_year i y (undecided_at u) e g h = λ s. by (h s)
+  where
+    by : IsOpenCell years i u.lo u.hi → ⊥
+    by (between_cells n a) = absurd (cc)
+    by (too_far q c n b) = let z : y ≡ q = cc in n (subst (λ t. FitsSigned w64 t) z g)
+
+-- of a whole day, no failure of the first three tests is at the year
+pub no_early_year : {E : Type 0} (shown : E → Interval) (bits : ℕ) (d : ℤ) (e : E) (f : Fail) → 36 ≤ bits → bits ≤ 56 → IsValueDay d → ((k : Reach) → Narrow shown (limits_of bits) k (integer d) e)
+    → IsEarlyYearFor (shown e) f → IsNoEarlyYear f
+no_early_year shown bits d e (Void s) p q h n o = tt
+no_early_year shown bits d e (undecided_at u) p q h n o = λ s t.
+    let a = year_from d h.0 in
+    let b = year_to d h.1 in
+    closed_year (shown e) (year_of_day d) (undecided_at u) (year_enclosed shown bits d e p q h (n _)) (omega (arith, ints)) (λ z. o z t) s
