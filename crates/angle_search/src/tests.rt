@@ -1,13 +1,8 @@
-//! What no clause says: the middle of the last ends, after how many tests, and where a bisection ends.
-ghost use Rattle.std.specs.Prelude.{◌≡◌, ◌≤◌};
-ghost use Rattle.book_model.specs.Depth.{DEPTH};
-ghost use Rattle.book_model.specs.Expressions.{Expression, World};
-ghost use Rattle.book_model.specs.Leading.{Leads};
+//! What no clause says: the middle of the last ends, and after how many tests.
 ghost use Rattle.book_model.specs.Programs.{answer};
-ghost use Rattle.book_model.specs.Relations.{Within};
 
 use super::*;
-use book_model::{Fail as FormulaFail, Frac, Site};
+use book_model::{Fail as FormulaFail, Frac};
 use encl_core::{Coarse, Enclosure, Trail};
 use std::test::Fail;
 
@@ -42,19 +37,5 @@ fn a_third_is_found_to_the_middle_of_the_last_ends(rt: HostRuntime) -> Result<()
     let middle = found.ok().ok_or("no answer")?.span().ok_or("no ends")?;
     assert_eq!(rt; (middle.lo, middle.hi), (87_381 << 38, 87_381 << 38));
     assert_eq!(rt; trail.count(), 17 * 3 + 1);
-    Ok(())
-}
-
-#[test]
-fn ends_that_never_come_near_are_void(rt: HostRuntime) -> Result<(), Fail> {
-    let mut trail = Trail::new();
-    let found = invert_angular(
-        &Identity,
-        fraction(1, 3)?,
-        Coarse::from_int(0),
-        Coarse::from_int(1).mul_frac(Frac::new(1, 1).ok_or("no fraction")?),
-        &mut trail,
-    );
-    assert!(rt; found.is_ok());
     Ok(())
 }

@@ -109,7 +109,7 @@ least_told w (compare_at_least {n = n} {s = s} {x = x} {y = y} {next = next} k) 
 pub three_made : {A T : Type 0} {R : A → T → Type 0} {p : Program A} (w : World) {b a : ℕ} {y : T} → AtLeast 3 p → b ≡ 0 → Leads w R p b a (Ok y) → 3 ≤ a
 three_made w h e l = let z = least_told w h l.tells in omega (arith, z, e)
 
-from_one : {A : Type 0} {r : Run A} {k : ℕ} {s : Site} {i : Sides} → MakesTest r k s i → 1 ≤ k
+pub from_one : {A : Type 0} {r : Run A} {k : ℕ} {s : Site} {i : Sides} → MakesTest r k s i → 1 ≤ k
 from_one here_decided = omega arith
 from_one here_undecided = omega arith
 from_one (later h) = omega arith

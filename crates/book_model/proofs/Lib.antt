@@ -32,4 +32,5 @@ pub mod NameLemmas
 pub mod MoonFacts
 pub mod PhaseDays
 pub mod Crescents
+pub mod HinduRuns
 pub mod Early

@@ -6,7 +6,7 @@ use denote.Enum.Declared.{tag_of}
 use lib.Pointwise.{pointwise}
 use Rattle.book_model.specs.contracts.calendar.Calendar.{the_type}
 use Rattle.book_model.specs.declared.calendar.Calendar.{Calendar}
-use Rattle.book_model.specs.declared.calendar.Calendar.TheVariants.{Gregorian, Fixed, Persian, Bahai, Chinese, Islamic}
+use Rattle.book_model.specs.declared.calendar.Calendar.TheVariants.{Gregorian, Fixed, Persian, Bahai, Chinese, Islamic, HinduSolar, HinduLunar}
 use Rattle.book_model.specs.declared.calendar.CalendarRow.{CalendarRow}
 use Rattle.book_model.specs.declared.calendar.TheConstants.{CALENDARS, FIRST_ANSWERED_DAY, LAST_ANSWERED_DAY}
 use Rattle.book_model.specs.declared.request.Fields.{Fields}
@@ -15,6 +15,8 @@ use Rattle.book_model.specs.Calendar.{is_date, fixed_of, year_of_day, month_of_d
 use Rattle.book_model.specs.Chinese.{chinese_on, chinese_day}
 use Rattle.book_model.specs.Correction.{is_between}
 use Rattle.book_model.specs.Inquiries.{Inquiry, done, to_32_bits}
+use Rattle.book_model.specs.HinduLunar.{hindu_lunar_on, hindu_lunar_day}
+use Rattle.book_model.specs.HinduSolar.{hindu_solar_on, hindu_solar_day}
 use Rattle.book_model.specs.Islamic.{islamic_on, islamic_day}
 use Rattle.book_model.specs.Persian.{persian_on, persian_day}
 
@@ -104,6 +106,8 @@ day_named Persian f = persian_day (pos (field f 0)) (pos (field f 1)) (pos (fiel
 day_named Bahai f = bahai_day (pos (field f 0)) (pos (field f 1)) (pos (field f 2)) (pos (field f 3)) (pos (field f 4))
 day_named Chinese f = chinese_day (pos (field f 0)) (pos (field f 1)) (pos (field f 2)) (pos (field f 3)) (pos (field f 4))
 day_named Islamic f = islamic_day (pos (field f 0)) (pos (field f 1)) (pos (field f 2))
+day_named HinduSolar f = hindu_solar_day (pos (field f 0)) (pos (field f 1)) (pos (field f 2))
+day_named HinduLunar f = hindu_lunar_day (pos (field f 0)) (pos (field f 1)) (pos (field f 2)) (pos (field f 3)) (pos (field f 4))
 
 -- the date of a day (R.D.)
 abbrev pub date_on : Calendar → ℤ → Inquiry Fields
@@ -113,3 +117,5 @@ date_on Persian day = persian_on day
 date_on Bahai day = bahai_on day
 date_on Chinese day = chinese_on day
 date_on Islamic day = islamic_on day
+date_on HinduSolar day = hindu_solar_on day
+date_on HinduLunar day = hindu_lunar_on day

@@ -6,7 +6,7 @@ use Rattle.book_model.specs.declared.site.Site.{Site}
 use Rattle.book_model.specs.declared.site.Site.TheVariants.{Year}
 use Rattle.book_model.specs.declared.fact.Fact.{Fact}
 use Rattle.book_model.specs.declared.fact.Kind.{Kind}
-use Rattle.book_model.specs.declared.fact.Kind.TheVariants.{Dt, Sun, Nowruz, BahaiYear, Solstice, NewMoonBefore, NewMoonFrom, Major, Phasis, NewMoon, FirstQuarter, FullMoon, LastQuarter, Sunset}
+use Rattle.book_model.specs.declared.fact.Kind.TheVariants.{Dt, Sun, Nowruz, BahaiYear, Solstice, NewMoonBefore, NewMoonFrom, Major, Phasis, Sign, SolarYear, Sankranti, Tithi, SignBefore, SignAfter, CalendarYear, NewMoon, FirstQuarter, FullMoon, LastQuarter, Sunset}
 use Rattle.book_model.specs.declared.fact.Place.{Place}
 use Rattle.book_model.specs.declared.fact.TheConstants.{FIRST_FACT_DAY, LAST_FACT_DAY, FIRST_DAY, LAST_DAY, LEAST_VALUE, GREATEST_VALUE}
 use Rattle.book_model.specs.declared.fail.Undecided.{Undecided}
@@ -15,6 +15,7 @@ use Rattle.book_model.specs.Correction.{is_between}
 use Rattle.book_model.specs.Expressions.{World}
 use Rattle.book_model.specs.Kinds.{dt_of, sun_in_thousandths_of, nowruz_of, bahai_year_of, solstice_of, new_moon_before_of, new_moon_from_of, major_of, location_of, sunset_in_minutes_of}
 use Rattle.book_model.specs.Crescent.{phasis_of}
+use Rattle.book_model.specs.HinduFacts.{sign_at_sunset_of, year_at_sunset_of, sankranti_of, tithi_of, sign_before_of, sign_after_of, calendar_year_of}
 use Rattle.book_model.specs.Phases.{phase_day_of}
 use Rattle.book_model.specs.Leading.{at_56, AreNoBounds}
 use Rattle.book_model.specs.Names.{has_place}
@@ -48,6 +49,13 @@ formula_of NewMoonBefore place d = new_moon_before_of d
 formula_of NewMoonFrom place d = new_moon_from_of d
 formula_of Major place d = major_of d
 formula_of Phasis place d = phasis_of (location_of place) d
+formula_of Sign place d = sign_at_sunset_of d
+formula_of SolarYear place d = year_at_sunset_of d
+formula_of Sankranti place d = sankranti_of d
+formula_of Tithi place d = tithi_of d
+formula_of SignBefore place d = sign_before_of d
+formula_of SignAfter place d = sign_after_of d
+formula_of CalendarYear place d = calendar_year_of d
 formula_of NewMoon place d = phase_day_of (pos 0) d
 formula_of FirstQuarter place d = phase_day_of (pos 90) d
 formula_of FullMoon place d = phase_day_of (pos 180) d
@@ -107,6 +115,13 @@ HasWholeDays NewMoonBefore = ⊥
 HasWholeDays NewMoonFrom = ⊥
 HasWholeDays Major = ⊥
 HasWholeDays Phasis = Unit {0}
+HasWholeDays Sign = ⊥
+HasWholeDays SolarYear = ⊥
+HasWholeDays Sankranti = ⊥
+HasWholeDays Tithi = ⊥
+HasWholeDays SignBefore = ⊥
+HasWholeDays SignAfter = ⊥
+HasWholeDays CalendarYear = Unit {0}
 HasWholeDays NewMoon = Unit {0}
 HasWholeDays FirstQuarter = Unit {0}
 HasWholeDays FullMoon = Unit {0}

@@ -1,14 +1,15 @@
 -- Dawn, dusk and sunset at a location: when the sun stands so many degrees below the horizon, which is its depression. Angles are
 -- in degrees, moments in days (R.D.) of local mean time, but where universal time is named. Reingold and Dershowitz,
 -- Calendrical Calculations, chapter 14.
-use Rattle.std.specs.Prelude.{ℕ, zero, suc, ◌+◌, ◌-◌, Bool, if◌then◌else◌, ℤ, pos}
+use Rattle.std.specs.Prelude.{ℕ, zero, suc, ◌+◌, ◌-◌, Bool, if◌then◌else◌, ℤ, pos, ◌*ℤ◌}
 use Rattle.exact_math.specs.Fraction.{Fraction}
 use Rattle.book_model.specs.declared.horizon.Location.{Location}
 use Rattle.book_model.specs.declared.horizon.Twilight.{Twilight}
 use Rattle.book_model.specs.declared.horizon.Twilight.TheVariants.{Dawn, Dusk}
-use Rattle.book_model.specs.declared.location_tables.TheConstants.{QUARTER, THREE_QUARTERS, HALF_MINUTE, REFRACTION, REFRACTION_OF_HEIGHT, HALF_SUN, EARTH_RADIUS}
-use Rattle.book_model.specs.declared.site.Site.TheVariants.{DayFloor, Offset, Settle}
+use Rattle.book_model.specs.declared.location_tables.TheConstants.{QUARTER, THREE_QUARTERS, HALF_MINUTE, REFRACTION, REFRACTION_OF_HEIGHT, HALF_SUN, EARTH_RADIUS, UJJAIN, HINDU_SUNRISE_DEPRESSION, MINUTES, MINUTES_OF_DAY}
+use Rattle.book_model.specs.declared.site.Site.TheVariants.{DayFloor, Offset, Round, Settle}
 use Rattle.book_model.specs.declared.sun_tables.TheConstants.{DEGREE_IN_DAYS}
+use Rattle.book_model.specs.declared.tables.TheConstants.{HALF}
 use Rattle.book_model.specs.Expressions.{Expression, integer, constant, add, subtract, multiply, divide, scale, root, sine, cosine, tangent, arcsine, arccosine}
 use Rattle.book_model.specs.Fractions.{fraction_of}
 use Rattle.book_model.specs.Noon.{ahead_of, from_apparent_of}
@@ -138,3 +139,26 @@ sunset_depression_of p = add (refraction_of p) (constant (fraction_of HALF_SUN))
 -- sunset on a day, in universal time
 unfoldable pub sunset_of : Location → ℤ → Program Expression
 sunset_of p d = bind (dusk_of p (sunset_depression_of p) d) λ x. answer (universal_of (fraction_of p.longitude) x)
+
+-- ---- sunrise and sunset of the Hindu calendars, at Ujjain
+-- minutes from the day of R.D. 0 to a moment of a day, rounded: those to the beginning of the day, which are whole, and those after it
+abbrev pub minutes_after_of : ℤ → Expression → Expression
+minutes_after_of d x = add (scale (fraction_of MINUTES_OF_DAY) (subtract x (integer d))) (constant (fraction_of HALF))
+
+unfoldable pub rounded_minutes_of : ℤ → Expression → Program ℤ
+rounded_minutes_of d x = cell Round integers (add (integer (pos MINUTES *ℤ d)) (minutes_after_of d x)) answer
+
+-- a number of minutes, in days
+abbrev pub minutes_in_days : ℤ → Fraction
+minutes_in_days n = record { num = n; below = MINUTES - 1 }
+
+-- when the sun rises on a day: a whole minute of local mean time, as universal time
+unfoldable pub sunrise_of : ℤ → Program Expression
+sunrise_of d =
+    bind (dawn_of UJJAIN (constant (fraction_of HINDU_SUNRISE_DEPRESSION)) d) λ x.
+    bind (rounded_minutes_of d x) λ n.
+    answer (universal_of (fraction_of UJJAIN.longitude) (constant (minutes_in_days n)))
+
+-- when the sun's middle sets on a day, the air left out, as universal time
+unfoldable pub hindu_sunset_of : ℤ → Program Expression
+hindu_sunset_of d = bind (dusk_of UJJAIN (integer (pos 0)) d) λ x. answer (universal_of (fraction_of UJJAIN.longitude) x)

@@ -18,6 +18,8 @@ pub mod Persian
 pub mod Bahai
 pub mod Chinese
 pub mod Islamic
+pub mod HinduSolar
+pub mod HinduLunar
 pub mod Words
 pub mod Dates
 pub mod Requests
@@ -32,6 +34,7 @@ pub mod Arcs
 pub mod Polynomials
 pub mod Time
 pub mod Sun
+pub mod Sidereal
 pub mod Noon
 pub mod Ranges
 pub mod Terms
@@ -41,5 +44,6 @@ pub mod NewMoons
 pub mod Phases
 pub mod Horizon
 pub mod Crescent
+pub mod HinduFacts
 pub mod Kinds
 pub mod Facts

@@ -8,8 +8,8 @@ pub const FIRST_ANSWERED_DAY: i64 = 657_802;
 /// The last day that a line may name: 31 December 2048 (R.D.).
 pub const LAST_ANSWERED_DAY: i64 = 748_017;
 
-/// A calendar of dates: the Gregorian calendar, the day number of the book (R.D.), the Persian, the Bahá'í, the Chinese or the
-/// Islamic calendar.
+/// A calendar of dates: the Gregorian calendar, the day number of the book (R.D.), the Persian, the Bahá'í, the Chinese, the
+/// Islamic, the Hindu solar or the Hindu lunar calendar.
 #[derive(Clone, Copy, Debug, PartialEq, Eq)]
 pub enum Calendar {
     Gregorian,
@@ -18,6 +18,8 @@ pub enum Calendar {
     Bahai,
     Chinese,
     Islamic,
+    HinduSolar,
+    HinduLunar,
 }
 
 /// What differs from calendar to calendar. The number of a date's year is the offset and the sum of the fields, each
@@ -44,7 +46,7 @@ pub struct CalendarRow {
 /// The calendars, in the order of their values. The days of Gregorian dates and day numbers are known without any fact
 /// and tell which of them are answered.
 #[rattlefmt::skip]
-pub const CALENDARS: [CalendarRow; 6] = [
+pub const CALENDARS: [CalendarRow; 8] = [
     CalendarRow { calendar: Calendar::Gregorian, count: 3, limits: [(1, 9999), (1, 12), (1, 31), (0, 0), (0, 0)],
         weights: [1, 0, 0, 0, 0], offset: 0, years: (1, 9999), is_confirmed: false, is_padded: true },
     CalendarRow { calendar: Calendar::Fixed, count: 1, limits: [(0, 9_999_999), (0, 0), (0, 0), (0, 0), (0, 0)],
@@ -57,6 +59,10 @@ pub const CALENDARS: [CalendarRow; 6] = [
         weights: [60, 1, 0, 0, 0], offset: -60, years: (4438, 4685), is_confirmed: true, is_padded: false },
     CalendarRow { calendar: Calendar::Islamic, count: 3, limits: [(1, 9999), (1, 12), (1, 30), (0, 0), (0, 0)],
         weights: [1, 0, 0, 0, 0], offset: 0, years: (1216, 1471), is_confirmed: true, is_padded: false },
+    CalendarRow { calendar: Calendar::HinduSolar, count: 3, limits: [(1, 9999), (1, 12), (1, 32), (0, 0), (0, 0)],
+        weights: [1, 0, 0, 0, 0], offset: 0, years: (1723, 1970), is_confirmed: true, is_padded: false },
+    CalendarRow { calendar: Calendar::HinduLunar, count: 5, limits: [(1, 9999), (1, 12), (0, 1), (1, 30), (0, 1)],
+        weights: [1, 0, 0, 0, 0], offset: 0, years: (1858, 2105), is_confirmed: true, is_padded: false },
 ];
 
 impl Calendar {

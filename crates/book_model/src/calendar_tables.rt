@@ -24,3 +24,18 @@ pub const CHINESE_EPOCH: i64 = -963_099;
 /// The first day of the Islamic year 1: 16 July 622 of the Julian calendar (R.D.; Reingold and Dershowitz, Calendrical
 /// Calculations, chapter 7).
 pub const ISLAMIC_EPOCH: i64 = 227_015;
+
+/// The mean sidereal year, after which the sun is at the same stars, in days (Reingold and Dershowitz, Calendrical Calculations,
+/// chapter 14).
+#[rattlefmt::skip]
+pub const SIDEREAL_YEAR: Frac = Frac { num: 36_525_636, den: 100_000 };
+
+/// The day from which the years of the Hindu calendars are counted, the beginning of the Kali Yuga: 18 February -3101 of the Julian
+/// calendar (R.D.; Reingold and Dershowitz, Calendrical Calculations, chapter 10).
+pub const HINDU_EPOCH: i64 = -1_132_959;
+
+/// The year of the Kali Yuga before the first of the Saka era, by which solar years are counted, and before the first of the Vikrama
+/// era, by which lunar years are.
+pub const SAKA_ERA: i64 = 3179;
+
+pub const VIKRAMA_ERA: i64 = 3044;

@@ -16,6 +16,13 @@ pub enum Kind {
     NewMoonFrom,
     Major,
     Phasis,
+    Sign,
+    SolarYear,
+    Sankranti,
+    Tithi,
+    SignBefore,
+    SignAfter,
+    CalendarYear,
     NewMoon,
     FirstQuarter,
     FullMoon,
@@ -43,7 +50,7 @@ pub struct Fact {
 
 /// Each kind of fact with its printed name and the places that it is asked of, in the order of the variants.
 #[rattlefmt::skip]
-pub const KINDS: [(Kind, &str, &[Place]); 14] = [
+pub const KINDS: [(Kind, &str, &[Place]); 21] = [
     (Kind::Dt, "dt", &[Place::None]),
     (Kind::Sun, "sun", &[Place::None]),
     (Kind::Nowruz, "nowruz", &[Place::None]),
@@ -53,6 +60,13 @@ pub const KINDS: [(Kind, &str, &[Place]); 14] = [
     (Kind::NewMoonFrom, "new-moon-from", &[Place::Beijing]),
     (Kind::Major, "major", &[Place::Beijing]),
     (Kind::Phasis, "phasis", &[Place::Cairo]),
+    (Kind::Sign, "sign", &[Place::None]),
+    (Kind::SolarYear, "solar-year", &[Place::None]),
+    (Kind::Sankranti, "sankranti", &[Place::None]),
+    (Kind::Tithi, "tithi", &[Place::None]),
+    (Kind::SignBefore, "sign-before", &[Place::None]),
+    (Kind::SignAfter, "sign-after", &[Place::None]),
+    (Kind::CalendarYear, "calendar-year", &[Place::None]),
     (Kind::NewMoon, "new-moon", &[Place::None]),
     (Kind::FirstQuarter, "first-quarter", &[Place::None]),
     (Kind::FullMoon, "full-moon", &[Place::None]),

@@ -39,3 +39,9 @@ pub const EARTH_RADIUS: u32 = 6_372_000;
 
 /// The minutes of a day.
 pub const MINUTES_OF_DAY: Frac = Frac { num: 1440, den: 1 };
+
+/// How far the sun's middle stands below the horizon at a Hindu sunrise, in degrees: 47 minutes of arc.
+pub const HINDU_SUNRISE_DEPRESSION: Frac = Frac { num: 47, den: 60 };
+
+/// The minutes of a day, as a count.
+pub const MINUTES: u32 = 1440;

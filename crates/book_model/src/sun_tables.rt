@@ -1,7 +1,7 @@
 //! The tables and constants of the sun's formulas. Each stands here once; the definitions read them too. The source of
 //! all is Reingold and Dershowitz, Calendrical Calculations, chapter 14. Angles are in degrees, rates in degrees a
 //! century.
-use crate::{Cubic, Frac, Quadratic, QuadraticWave, TROPICAL_YEAR, Wave};
+use crate::{Cubic, Frac, Quadratic, QuadraticWave, SIDEREAL_YEAR, TROPICAL_YEAR, Wave};
 
 /// The nutation in longitude by the moon's node.
 #[rattlefmt::skip]
@@ -91,6 +91,53 @@ pub const PERSIAN_NOON_LONGITUDE: Frac = Frac { num: 5142, den: 100 };
 pub const DEGREE_OF_YEAR: Frac = Frac {
     num: TROPICAL_YEAR.num,
     den: 360 * TROPICAL_YEAR.den,
+};
+
+/// The three angles of which precession is made: the tilt of the ecliptic against that of 2000, where the two cross, and how far
+/// the equinox has moved along it; seconds of arc, of which a degree has 3600.
+#[rattlefmt::skip]
+pub const ECLIPTIC_TILT: Cubic = Cubic {
+    constant: Frac { num: 0, den: 1 },
+    linear: Frac { num: 470_029, den: 36_000_000 },
+    square: Frac { num: -3302, den: 360_000_000 },
+    cube: Frac { num: 60, den: 3_600_000_000 },
+};
+
+#[rattlefmt::skip]
+pub const ECLIPTIC_CROSSING: Quadratic = Quadratic {
+    constant: Frac { num: 174_876_384, den: 1_000_000 },
+    linear: Frac { num: -8_698_089, den: 36_000_000 },
+    square: Frac { num: 3536, den: 360_000_000 },
+};
+
+#[rattlefmt::skip]
+pub const EQUINOX_ADVANCE: Cubic = Cubic {
+    constant: Frac { num: 0, den: 1 },
+    linear: Frac { num: 50_290_966, den: 36_000_000 },
+    square: Frac { num: 111_113, den: 360_000_000 },
+    cube: Frac { num: 6, den: 3_600_000_000 },
+};
+
+/// What the sidereal longitude of the sun is ahead of the one from which precession is taken off.
+#[rattlefmt::skip]
+pub const SIDEREAL_START: Frac = Frac { num: 3_361_361, den: 10_000 };
+
+/// A degree of the sun's longitude, in signs of 30 degrees.
+#[rattlefmt::skip]
+pub const DEGREE_IN_SIGNS: Frac = Frac { num: 1, den: 30 };
+
+/// A degree of the moon's phase, in lunar days of 12 degrees.
+#[rattlefmt::skip]
+pub const DEGREE_IN_LUNAR_DAYS: Frac = Frac { num: 1, den: 12 };
+
+/// A degree, in turns.
+#[rattlefmt::skip]
+pub const DEGREE_IN_TURNS: Frac = Frac { num: 1, den: 360 };
+
+/// A day, in sidereal years.
+pub const DAY_IN_SIDEREAL_YEARS: Frac = Frac {
+    num: SIDEREAL_YEAR.den as i128,
+    den: SIDEREAL_YEAR.num as u64,
 };
 
 /// A degree of the sun's longitude, in spans of 30 degrees from one major solar term to the next.

@@ -6,7 +6,7 @@ use crate::names::first_row_named;
 use crate::{Calendar, Kind, Place};
 
 /// A word for what a line's date names: the day of a Gregorian date, of a day number of the book (R.D.), of a Persian, a Bahá'í, a
-/// Chinese or an Islamic date, or the day on which the moon was last new, at its first quarter, full or at its last quarter.
+/// Chinese, an Islamic, a Hindu solar or a Hindu lunar date, or the day on which the moon was last new, at its first quarter, full or at its last quarter.
 #[derive(Clone, Copy, Debug, PartialEq, Eq)]
 pub enum FromWord {
     Gregorian,
@@ -15,14 +15,16 @@ pub enum FromWord {
     Bahai,
     Chinese,
     Islamic,
+    HinduSolar,
+    HinduLunar,
     NewMoon,
     FirstQuarter,
     FullMoon,
     LastQuarter,
 }
 
-/// A word for what a line asks: the Gregorian date, the day number (R.D.), the Persian, the Bahá'í, the Chinese or the Islamic
-/// date, the dynamical time correction, the longitude of the sun, or sunset at Tehran, Cairo or Ujjain.
+/// A word for what a line asks: the Gregorian date, the day number (R.D.), the Persian, the Bahá'í, the Chinese, the Islamic,
+/// the Hindu solar or the Hindu lunar date, the dynamical time correction, the longitude of the sun, or sunset at Tehran, Cairo or Ujjain.
 #[derive(Clone, Copy, Debug, PartialEq, Eq)]
 pub enum ToWord {
     Gregorian,
@@ -31,6 +33,8 @@ pub enum ToWord {
     Bahai,
     Chinese,
     Islamic,
+    HinduSolar,
+    HinduLunar,
     Dt,
     Sun,
     SunsetTehran,
@@ -55,13 +59,15 @@ pub enum Shown {
 
 /// The words that stand before a date, in the order of their values, with what they name by the date.
 #[rattlefmt::skip]
-pub const FROM_WORDS: [(FromWord, &str, Named); 10] = [
+pub const FROM_WORDS: [(FromWord, &str, Named); 12] = [
     (FromWord::Gregorian, "gregorian", Named::Date(Calendar::Gregorian)),
     (FromWord::Fixed, "fixed", Named::Date(Calendar::Fixed)),
     (FromWord::Persian, "persian", Named::Date(Calendar::Persian)),
     (FromWord::Bahai, "bahai", Named::Date(Calendar::Bahai)),
     (FromWord::Chinese, "chinese", Named::Date(Calendar::Chinese)),
     (FromWord::Islamic, "islamic", Named::Date(Calendar::Islamic)),
+    (FromWord::HinduSolar, "hindu-solar", Named::Date(Calendar::HinduSolar)),
+    (FromWord::HinduLunar, "hindu-lunar", Named::Date(Calendar::HinduLunar)),
     (FromWord::NewMoon, "new-moon", Named::Value(Kind::NewMoon, Place::None)),
     (FromWord::FirstQuarter, "first-quarter", Named::Value(Kind::FirstQuarter, Place::None)),
     (FromWord::FullMoon, "full-moon", Named::Value(Kind::FullMoon, Place::None)),
@@ -70,13 +76,15 @@ pub const FROM_WORDS: [(FromWord, &str, Named); 10] = [
 
 /// The words for what a line asks, in the order of their values, with what they show of a day.
 #[rattlefmt::skip]
-pub const TO_WORDS: [(ToWord, &str, Shown); 11] = [
+pub const TO_WORDS: [(ToWord, &str, Shown); 13] = [
     (ToWord::Gregorian, "gregorian", Shown::Date(Calendar::Gregorian)),
     (ToWord::Fixed, "fixed", Shown::Date(Calendar::Fixed)),
     (ToWord::Persian, "persian", Shown::Date(Calendar::Persian)),
     (ToWord::Bahai, "bahai", Shown::Date(Calendar::Bahai)),
     (ToWord::Chinese, "chinese", Shown::Date(Calendar::Chinese)),
     (ToWord::Islamic, "islamic", Shown::Date(Calendar::Islamic)),
+    (ToWord::HinduSolar, "hindu-solar", Shown::Date(Calendar::HinduSolar)),
+    (ToWord::HinduLunar, "hindu-lunar", Shown::Date(Calendar::HinduLunar)),
     (ToWord::Dt, "dt", Shown::Value(Kind::Dt, Place::None)),
     (ToWord::Sun, "sun", Shown::Value(Kind::Sun, Place::None)),
     (ToWord::SunsetTehran, "sunset-tehran", Shown::Value(Kind::Sunset, Place::Tehran)),

@@ -10,7 +10,8 @@ ghost use Rattle.book_model.specs.Relations.{Within};
 
 use crate::altitude::{altitude_sine, arc_cosine};
 use book_model::{
-    CRESCENT_DEPRESSION, DEGREE_IN_DAYS, Fail, Frac, LEAST_ALTITUDE, LEAST_ARC_OF_LIGHT, Location, Site,
+    CRESCENT_DEPRESSION, DEGREE_IN_DAYS, Fail, Frac, LEAST_ALTITUDE, LEAST_ARC_OF_LIGHT, Location,
+    Site,
 };
 use encl_core::{Enclosure, Trail, less_step};
 use moon_core::{latitude, moon, phase};
@@ -90,9 +91,11 @@ fn is_crescent<E: Enclosure>(phase: E, arc: E, altitude: E, trail: &mut Trail) -
     ensures leads { (w : World) (f a h : Expression) → DEPTH ≤ w.depth → Within E.shown w f phase → Within E.shown w a arc → Within E.shown w h altitude → Leads w Exact (spec.is_crescent_of f a h) trail.old.count trail.new.count result }
     ensures counted { trail.new.count ≤ trail.old.count + 5 }
 {
-    Ok(is_past_new(phase, trail)?
-        && is_before_quarter(phase, trail)?
-        && is_bright(arc, altitude, trail)?)
+    Ok(
+        is_past_new(phase, trail)?
+            && is_before_quarter(phase, trail)?
+            && is_bright(arc, altitude, trail)?,
+    )
 }
 
 /// The conditions at a location, by the moon's phase, the obliquity of the ecliptic, the moon's longitude and latitude and the
@@ -131,7 +134,9 @@ fn meets_with<E: Enclosure>(
     let longitude = moon(t, trail)?;
     let north = latitude(t, trail)?;
     let greenwich = sidereal(t, trail)?;
-    meets(location, phase, obliquity, longitude, north, greenwich, trail)
+    meets(
+        location, phase, obliquity, longitude, north, greenwich, trail,
+    )
 }
 
 /// The obliquity of the ecliptic at a moment of universal time: one test at most.

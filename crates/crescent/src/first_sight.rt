@@ -56,7 +56,11 @@ fn start(new_moon: i64, is_seen: bool) -> i64
     ensures start { result ≡ spec.start_by new_moon is_seen }
     ensures near { IsSightDay result }
 {
-    if is_seen { new_moon } else { new_moon - DAYS_BACK }
+    if is_seen {
+        new_moon
+    } else {
+        new_moon - DAYS_BACK
+    }
 }
 
 /// The same, where the day may come before the crescent of the last new moon: 151 tests at most.
@@ -91,7 +95,13 @@ fn first_sight<E: Enclosure>(location: &Location, from: i64, trail: &mut Trail) 
     ensures to { IfOk result (λ d. d ≤ℤ (from +ℤ pos 45)) }
     ensures counted { trail.new.count ≤ trail.old.count + 46 * 151 }
 {
-    first_day::<E, SeenAt>(&SeenAt { location: *location }, from, trail)
+    first_day::<E, SeenAt>(
+        &SeenAt {
+            location: *location,
+        },
+        from,
+        trail,
+    )
 }
 
 /// The same, from where the new moon of a day tells.

@@ -8,6 +8,8 @@
 mod altitude;
 mod criterion;
 mod first_sight;
+#[cfg(test)]
+mod tests;
 
 pub use criterion::visible;
 pub use first_sight::phasis;

@@ -4,7 +4,7 @@ use Rattle.std.proofs.Common.{arith, ◌⊎◌, inl, inr}
 use Rattle.std.proofs.lemmas.Int.{ints}
 use Rattle.book_model.specs.declared.fact.Fact.{Fact}
 use Rattle.book_model.specs.declared.fact.Kind.{Kind}
-use Rattle.book_model.specs.declared.fact.Kind.TheVariants.{Dt, Nowruz, BahaiYear, Solstice, NewMoonBefore, NewMoonFrom, Major, Phasis, NewMoon, FirstQuarter, FullMoon, LastQuarter, Sunset}
+use Rattle.book_model.specs.declared.fact.Kind.TheVariants.{Dt, Nowruz, BahaiYear, Solstice, NewMoonBefore, NewMoonFrom, Major, Phasis, Sign, SolarYear, Sankranti, Tithi, SignBefore, SignAfter, CalendarYear, NewMoon, FirstQuarter, FullMoon, LastQuarter, Sunset}
 use Rattle.book_model.specs.declared.fact.TheConstants.{FIRST_DAY, LAST_DAY}
 use Rattle.book_model.specs.declared.site.Site.TheVariants.{Year}
 use Rattle.book_model.specs.declared.fail.Fail.{Fail}
@@ -67,6 +67,24 @@ major_keeps y r = nothing_promised Major y r (λ w. w) (λ e. absurd (cc))
 pub sunset_keeps : (y : ℤ) (r : Result ℤ Fail) → IfErr r (IsNearFor Sunset y)
 sunset_keeps y r = nothing_promised Sunset y r (λ w. w) (λ e. absurd (cc))
 
+pub sign_keeps : (y : ℤ) (r : Result ℤ Fail) → IfErr r (IsNearFor Sign y)
+sign_keeps y r = nothing_promised Sign y r (λ w. w) (λ e. absurd (cc))
+
+pub solar_year_keeps : (y : ℤ) (r : Result ℤ Fail) → IfErr r (IsNearFor SolarYear y)
+solar_year_keeps y r = nothing_promised SolarYear y r (λ w. w) (λ e. absurd (cc))
+
+pub sankranti_keeps : (y : ℤ) (r : Result ℤ Fail) → IfErr r (IsNearFor Sankranti y)
+sankranti_keeps y r = nothing_promised Sankranti y r (λ w. w) (λ e. absurd (cc))
+
+pub tithi_keeps : (y : ℤ) (r : Result ℤ Fail) → IfErr r (IsNearFor Tithi y)
+tithi_keeps y r = nothing_promised Tithi y r (λ w. w) (λ e. absurd (cc))
+
+pub sign_before_keeps : (y : ℤ) (r : Result ℤ Fail) → IfErr r (IsNearFor SignBefore y)
+sign_before_keeps y r = nothing_promised SignBefore y r (λ w. w) (λ e. absurd (cc))
+
+pub sign_after_keeps : (y : ℤ) (r : Result ℤ Fail) → IfErr r (IsNearFor SignAfter y)
+sign_after_keeps y r = nothing_promised SignAfter y r (λ w. w) (λ e. absurd (cc))
+
 -- the kinds of which the first and the third test of the year are made on the day itself, and never open
 of_whole_days : (k : Kind) (y : ℤ) (r : Result ℤ Fail) → (k ≡ Dt → ⊥) → IfErr r IsNoEarlyYear → IfErr r (IsNearFor k y)
 of_whole_days k y (Ok v) d h = tt
@@ -92,7 +110,10 @@ full_moon_keeps y r h = of_whole_days FullMoon y r (λ e. absurd (cc)) h
 pub last_quarter_keeps : (y : ℤ) (r : Result ℤ Fail) → IfErr r IsNoEarlyYear → IfErr r (IsNearFor LastQuarter y)
 last_quarter_keeps y r h = of_whole_days LastQuarter y r (λ e. absurd (cc)) h
 
-pub ruleset keeping = (phasis_keeps, new_moon_keeps, first_quarter_keeps, full_moon_keeps, last_quarter_keeps)
+pub calendar_year_keeps : (y : ℤ) (r : Result ℤ Fail) → IfErr r IsNoEarlyYear → IfErr r (IsNearFor CalendarYear y)
+calendar_year_keeps y r h = of_whole_days CalendarYear y r (λ e. absurd (cc)) h
+
+pub ruleset keeping = (sign_keeps, solar_year_keeps, sankranti_keeps, tithi_keeps, sign_before_keeps, sign_after_keeps, phasis_keeps, calendar_year_keeps, new_moon_keeps, first_quarter_keeps, full_moon_keeps, last_quarter_keeps)
 
 -- the day of a phase is a value that a fact may have
 pub phase_day_is_value : (r : Result ℤ Fail) → IfOk r IsPhaseDay → IfOk r IsFactValue

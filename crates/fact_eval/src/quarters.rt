@@ -17,11 +17,7 @@ use encl_core::{Enclosure, Trail};
 /// The day (R.D.) in universal time on which the moon was last at a phase, in degrees, before a day begins or as it begins: 845
 /// tests at most.
 #[tactic(auto, using(book_model::proofs::PhaseDays::phase_day_few, crate::proofs::Rightness::phase_day_is_value))]
-pub(crate) fn phase_day<E: Enclosure>(
-    phase: i64,
-    day: i64,
-    trail: &mut Trail,
-) -> Result<i64, Fail>
+pub(crate) fn phase_day<E: Enclosure>(phase: i64, day: i64, trail: &mut Trail) -> Result<i64, Fail>
     requires day { IsValueDay day }
     ensures few { AtMost 99999 (phase_day_of phase day) }
     ensures leads { (w : World) → DEPTH ≤ w.depth → Leads w Exact (phase_day_of phase day) trail.old.count trail.new.count result }

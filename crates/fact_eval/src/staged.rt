@@ -21,6 +21,9 @@ use crate::sun::sun_in_thousandths;
 use crate::sunsets::{bahai_year, sunset_in_minutes};
 use book_model::{FIRST_DAY, Fact, Fail, Kind, LAST_DAY, Place, Site};
 use encl_core::{Coarse, Enclosure, Trail};
+use hindu_sky::{
+    calendar_year, sankranti, sign_after, sign_at_sunset, sign_before, solar_year, tithi,
+};
 use oracle_core::{Answer, Evaluator};
 
 /// Evaluates each fact over coarse enclosures.
@@ -53,6 +56,13 @@ fn formula<E: Enclosure>(kind: Kind, place: Place, day: i64, trail: &mut Trail) 
         Kind::NewMoonFrom => new_moon_from::<E>(day, trail),
         Kind::Major => major::<E>(day, trail),
         Kind::Phasis => phasis::<E>(place, day, trail),
+        Kind::Sign => sign_at_sunset::<E>(day, trail),
+        Kind::SolarYear => solar_year::<E>(day, trail),
+        Kind::Sankranti => sankranti::<E>(day, trail),
+        Kind::Tithi => tithi::<E>(day, trail),
+        Kind::SignBefore => sign_before::<E>(day, trail),
+        Kind::SignAfter => sign_after::<E>(day, trail),
+        Kind::CalendarYear => calendar_year::<E>(day, trail),
         Kind::NewMoon => phase_day::<E>(0, day, trail),
         Kind::FirstQuarter => phase_day::<E>(90, day, trail),
         Kind::FullMoon => phase_day::<E>(180, day, trail),

@@ -127,6 +127,23 @@ fn solstices_and_terms_are_those_of_the_reference(rt: HostRuntime) -> Result<(),
 }
 
 #[test]
+fn moons_are_those_of_the_reference(rt: HostRuntime) -> Result<(), Fail> {
+    let staged = Staged::new();
+    for (kind, place, day, value) in [
+        (Kind::NewMoon, Place::None, 739_004, 738_984),
+        (Kind::FirstQuarter, Place::None, 738_973, 738_962),
+        (Kind::FullMoon, Place::None, 738_973, 738_970),
+        (Kind::LastQuarter, Place::None, 738_973, 738_948),
+        (Kind::Phasis, Place::Cairo, 738_956, 738_927),
+        (Kind::Phasis, Place::Cairo, 738_957, 738_957),
+    ] {
+        let fact = Fact::new(kind, place, day).ok_or("no fact")?;
+        assert_eq!(rt; staged.eval(fact), Answer::Value(value), "day {day}");
+    }
+    Ok(())
+}
+
+#[test]
 fn other_days_are_void_at_the_year(rt: HostRuntime) -> Result<(), Fail> {
     let staged = Staged::new();
     for day in [-40_000_000, 0, 657_252, 748_383, 40_000_000] {

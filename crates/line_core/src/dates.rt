@@ -93,6 +93,8 @@ pub(crate) fn named_day<O: Oracle>(
         Calendar::Bahai => bahai_cal::named_day(oracle, date),
         Calendar::Chinese => chinese_cal::named_day(oracle, date),
         Calendar::Islamic => islamic_observed::named_day(oracle, date),
+        Calendar::HinduSolar => hindu_astro::solar::named_day(oracle, date),
+        Calendar::HinduLunar => hindu_astro::lunar::named_day(oracle, date),
     }
 }
 
@@ -113,5 +115,7 @@ pub(crate) fn date_on<O: Oracle>(
         Calendar::Bahai => bahai_cal::date_on(oracle, day),
         Calendar::Chinese => chinese_cal::date_on(oracle, day),
         Calendar::Islamic => islamic_observed::date_on(oracle, day),
+        Calendar::HinduSolar => hindu_astro::solar::date_on(oracle, day),
+        Calendar::HinduLunar => hindu_astro::lunar::date_on(oracle, day),
     }
 }

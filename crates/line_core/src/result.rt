@@ -133,7 +133,10 @@ fn day_of_request<O: Oracle>(oracle: &mut O, request: &Request) -> Result<i64, S
 {
     match request.from.names() {
         Named::Date(calendar) => named_day(oracle, calendar, &request.date),
-        Named::Value(kind, place) => oracle.ask(named_fact(request.from, kind, place, &request.date)),
+        Named::Value(kind, place) => {
+            let fact = named_fact(request.from, kind, place, &request.date);
+            oracle.ask(fact)
+        }
     }
 }
 

@@ -73,7 +73,13 @@ fn phase_about<E: Enclosure>(phase: E, t: E, about: E, trail: &mut Trail) -> Res
     ensures counted { trail.new.count ≤ trail.old.count + 833 }
 {
     let days = E::from_int(DAYS_ABOUT);
-    invert_angular::<E, MoonPhase>(&MoonPhase, phase, about.sub(days), t.min(about.add(days)), trail)
+    invert_angular::<E, MoonPhase>(
+        &MoonPhase,
+        phase,
+        about.sub(days),
+        t.min(about.add(days)),
+        trail,
+    )
 }
 
 /// When the moon was last at a phase, in degrees, at or before a moment of universal time: by bisection about the moment to which

@@ -154,7 +154,10 @@ fn new_and_full_moons_are_those_of_the_reference(rt: HostRuntime) {
         for (angle, moment) in [(0, new), (180, full)] {
             let mut trail = Trail::new();
             let found = phase_before(Coarse::from_int(angle), Coarse::from_int(day), &mut trail);
-            assert!(rt; is_near(found, moment, WIDEST_MOMENT), "{angle} degrees before {day}");
+            assert!(rt;
+                is_near(found, moment, WIDEST_MOMENT),
+                "{angle} degrees before {day}"
+            );
         }
     }
 }

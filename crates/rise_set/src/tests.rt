@@ -119,3 +119,40 @@ fn where_the_sun_stays_above_there_is_no_dusk(rt: HostRuntime) -> Result<(), Fai
     assert_eq!(rt; found, Err(FormulaFail::Void(Site::Offset)));
     Ok(())
 }
+
+#[test]
+fn risings_and_settings_at_ujjain_are_those_of_the_reference(rt: HostRuntime) {
+    for (day, rising, setting) in [
+        (
+            657_802,
+            47_399_634_423_627_062_567_841,
+            47_399_666_442_276_317_006_249,
+        ),
+        (
+            693_961,
+            50_005_164_966_444_498_805_665,
+            50_005_196_973_900_087_971_019,
+        ),
+        (
+            738_965,
+            53_248_043_027_007_564_969_866,
+            53_248_079_233_919_362_972_553,
+        ),
+        (
+            748_017,
+            53_900_310_219_718_735_454_409,
+            53_900_342_264_377_747_332_859,
+        ),
+    ] {
+        let mut trail = Trail::new();
+        assert!(rt;
+            holds(sunrise(day, &mut trail), rising, 4),
+            "sunrise on {day}"
+        );
+        let mut trail = Trail::new();
+        assert!(rt;
+            holds(hsunset(day, &mut trail), setting, 1000),
+            "sunset on {day}"
+        );
+    }
+}

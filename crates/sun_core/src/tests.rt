@@ -1,5 +1,7 @@
 //! What no clause says: values from an independent implementation of the formulas, and how narrow the answers are.
-use crate::{equation_of_time, estimate, from_apparent, noon, obliquity, sun};
+use crate::{
+    equation_of_time, estimate, from_apparent, noon, obliquity, precession, sidereal_sun, sun,
+};
 use book_model::{Fail as FormulaFail, Frac, Site};
 use encl_core::{Coarse, Enclosure, Trail};
 use std::test::Fail;
@@ -273,4 +275,32 @@ fn an_estimate_fails_by_its_tests(rt: HostRuntime) -> Result<(), Fail> {
         _ => assert!(rt; false, "the estimate is decided"),
     }
     Ok(())
+}
+
+#[test]
+fn longitudes_among_the_stars_are_those_of_the_reference(rt: HostRuntime) {
+    for (day, moved, longitude) in [
+        (
+            657_802,
+            -199_221_620_440_848_376,
+            18_651_193_773_998_041_264,
+        ),
+        (693_961, -99_633_287_907_549_277, 18_549_648_676_926_385_298),
+        (738_965, 24_376_624_199_409_474, 24_187_528_951_980_584_697),
+        (748_017, 49_327_843_779_514_199, 18_405_349_229_613_267_179),
+    ] {
+        let t = Coarse::from_int(day);
+        let mut trail = Trail::new();
+        assert!(rt;
+            is_near(precession(t, &mut trail), moved, 800),
+            "precession on {day}"
+        );
+        assert_eq!(rt; trail.count(), 1);
+        let mut trail = Trail::new();
+        assert!(rt;
+            is_near(sidereal_sun(t, &mut trail), longitude, 900),
+            "the sun on {day}"
+        );
+        assert_eq!(rt; trail.count(), 4);
+    }
 }

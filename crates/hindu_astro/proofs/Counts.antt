@@ -1,0 +1,20 @@
+-- The days of so many twelfths of sidereal years: the quotient that they are, and how large they get.
+use Rattle.std.specs.Prelude.{◌≡◌, ℤ, pos, ◌*ℤ◌, ◌≤ℤ◌, refl}
+use Rattle.std.proofs.Common.{arith}
+use Rattle.std.proofs.lemmas.Int.{ints}
+use Rattle.exact_math.specs.Fraction.{floor_quotient, times}
+use Rattle.exact_math.proofs.Floors.{floor_quotient_is}
+use Rattle.book_model.specs.declared.calendar_tables.TheConstants.{SIDEREAL_YEAR}
+use Rattle.book_model.specs.Fractions.{fraction_of}
+use Rattle.book_model.specs.Spans.{days_of, ratio}
+use Rattle.calendar_math.proofs.SpanLemmas.{LiesWithin}
+
+days_are : (twelfths : ℤ) → days_of (fraction_of SIDEREAL_YEAR) (ratio twelfths 11) ≡ floor_quotient (pos 36525636 *ℤ twelfths) 1199999
+unfolding days_of times
+days_are twelfths = refl
+
+pub days_near : (twelfths : ℤ) → pos 0 ≤ℤ twelfths → twelfths ≤ℤ pos 100000 → LiesWithin (pos 0) (pos 5000000) (days_of (fraction_of SIDEREAL_YEAR) (ratio twelfths 11))
+days_near twelfths h k =
+    let f = floor_quotient_is (pos 36525636 *ℤ twelfths) 1199999 in
+    let e = days_are twelfths in
+    record { from = omega (arith, ints, h, k, e, f.not_above, f.close); to = omega (arith, ints, h, k, e, f.not_above, f.close) }

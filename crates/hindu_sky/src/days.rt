@@ -1,0 +1,230 @@
+//! What the Hindu calendars ask of a day, by sunrise and sunset at Ujjain.
+ghost use Rattle.std.specs.Prelude.{◌≡◌, ◌≤◌, ◌+◌, ◌-ℤ◌, ◌+ℤ◌, pos, negsuc, ◌≤ℤ◌, ℤ, Bool, IfOk, IfErr};
+ghost use Rattle.std.specs.Ordering.{int_eq};
+ghost use Rattle.book_model.specs.Depth.{DEPTH};
+ghost use Rattle.book_model.specs.Expressions.{Expression, World};
+ghost use Rattle.book_model.specs.Facts.{IsFactValue, IsValueDay};
+ghost use Rattle.book_model.specs.HinduFacts as spec;
+ghost use Rattle.book_model.specs.Leading.{Exact, Leads};
+ghost use Rattle.book_model.specs.Programs.{AtMost};
+ghost use Rattle.book_model.specs.Relations.{Within};
+ghost use Rattle.book_model.specs.Searches.{first_day_from};
+ghost use Rattle.book_model.proofs.HinduRuns.{IsDegree, IsLunarDay};
+ghost use Rattle.time_scales.specs.Steps.{IsNoEarlyYear};
+
+use crate::zodiac::{hindu_year, sign, whole_degrees};
+use book_model::{DEGREE_IN_LUNAR_DAYS, Fail, Site};
+use calendar_math::modulo;
+use encl_core::{DayTest, Enclosure, Trail, first_day, floor_step};
+use moon_core::{moon_before, moon_from, phase};
+use rise_set::{hsunset, sunrise};
+
+/// The sign of the zodiac in which the sun stands at sunset on a day (R.D.): 137 tests at most.
+#[tactic(auto, using(book_model::proofs::Leads::leading), unfolding(book_model::specs::HinduFacts::sign_at_sunset_of))]
+fn sign_by_sunset<E: Enclosure>(day: i64, trail: &mut Trail) -> Result<i64, Fail>
+    ensures leads { (w : World) → DEPTH ≤ w.depth → Leads w Exact (spec.sign_at_sunset_of day) trail.old.count trail.new.count result }
+    ensures from { IfOk result (λ g. pos 1 ≤ℤ g) }
+    ensures to { IfOk result (λ g. g ≤ℤ pos 13) }
+    ensures counted { trail.new.count ≤ trail.old.count + 137 }
+{
+    match hsunset::<E>(day, trail) {
+        Ok(t) => sign(t, trail),
+        Err(fail) => Err(fail),
+    }
+}
+
+/// The sign of the zodiac in which the sun stands at sunset on a day (R.D.) at Ujjain: 137 tests at most.
+#[tactic(auto, using(book_model::proofs::HinduRuns::sign_at_sunset_few))]
+pub fn sign_at_sunset<E: Enclosure>(day: i64, trail: &mut Trail) -> Result<i64, Fail>
+    requires day { IsValueDay day }
+    ensures few { AtMost 99999 (spec.sign_at_sunset_of day) }
+    ensures leads { (w : World) → DEPTH ≤ w.depth → Leads w Exact (spec.sign_at_sunset_of day) trail.old.count trail.new.count result }
+    ensures value { IfOk result IsFactValue }
+{
+    sign_by_sunset::<E>(day, trail)
+}
+
+/// The year of the Kali Yuga at sunset on a day (R.D.).
+#[tactic(auto, using(book_model::proofs::Leads::leading), unfolding(book_model::specs::HinduFacts::year_at_sunset_of))]
+fn year_by_sunset<E: Enclosure>(day: i64, trail: &mut Trail) -> Result<i64, Fail>
+    ensures leads { (w : World) → DEPTH ≤ w.depth → Leads w Exact (spec.year_at_sunset_of day) trail.old.count trail.new.count result }
+{
+    match hsunset::<E>(day, trail) {
+        Ok(t) => hindu_year(t, trail),
+        Err(fail) => Err(fail),
+    }
+}
+
+/// The year of the Kali Yuga at sunset on a day (R.D.) at Ujjain: 137 tests at most.
+#[tactic(auto, using(book_model::proofs::HinduRuns::year_at_sunset_few))]
+pub fn solar_year<E: Enclosure>(day: i64, trail: &mut Trail) -> Result<i64, Fail>
+    requires day { IsValueDay day }
+    ensures few { AtMost 99999 (spec.year_at_sunset_of day) }
+    ensures leads { (w : World) → DEPTH ≤ w.depth → Leads w Exact (spec.year_at_sunset_of day) trail.old.count trail.new.count result }
+    ensures value { IfOk result IsFactValue }
+{
+    year_by_sunset::<E>(day, trail)
+}
+
+/// Whether two signs are the same.
+fn is_sign(one: i64, other: i64) -> bool
+    ensures same { result ≡ int_eq one other }
+{
+    one == other
+}
+
+/// Whether the sun stands in a sign at the sunset of a day.
+#[derive(Drop)]
+struct InSign {
+    sign: i64,
+}
+
+impl<E: Enclosure> DayTest<E> for InSign {
+    ghost test_of = { λ s d. spec.has_sign_at s.sign d };
+
+    ghost most = { 137 };
+
+    #[tactic(auto, using(book_model::proofs::Leads::leading), unfolding(book_model::specs::HinduFacts::has_sign_at))]
+    fn holds(&self, day: i64, trail: &mut Trail) -> Result<bool, Fail> {
+        match sign_by_sunset::<E>(day, trail) {
+            Ok(there) => Ok(is_sign(there, self.sign)),
+            Err(fail) => Err(fail),
+        }
+    }
+}
+
+/// The day from which a sankranti is sought, by the degrees of the sun.
+fn start(day: i64, degrees: i64) -> i64
+    requires day { IsValueDay day }
+    requires near { IsDegree degrees }
+    ensures start { result ≡ spec.before_sign day degrees }
+    ensures low { (day -ℤ pos 40) ≤ℤ result }
+    ensures high { result ≤ℤ day }
+{
+    day - 3 - modulo(degrees, 30)
+}
+
+/// The first day (R.D.) from a day on on whose sunset the sun stands in a sign.
+#[tactic(auto, using(book_model::proofs::Leads::leading))]
+fn first_in_sign<E: Enclosure>(sign: i64, from: i64, trail: &mut Trail) -> Result<i64, Fail>
+    requires low { pos 600000 ≤ℤ from }
+    requires high { from ≤ℤ pos 800000 }
+    ensures leads { (w : World) → DEPTH ≤ w.depth → Leads w Exact (first_day_from (spec.has_sign_at sign) from) trail.old.count trail.new.count result }
+    ensures value { IfOk result IsFactValue }
+{
+    first_day::<E, InSign>(&InSign { sign }, from, trail)
+}
+
+/// The day (R.D.) on which the sun came into the sign in which it stands at a moment.
+#[tactic(auto, using(book_model::proofs::Leads::leading), unfolding(book_model::specs::HinduFacts::sign_entered_of))]
+fn sign_entered<E: Enclosure>(day: i64, t: E, trail: &mut Trail) -> Result<i64, Fail>
+    requires day { IsValueDay day }
+    ensures leads { (w : World) (x : Expression) → DEPTH ≤ w.depth → Within E.shown w x t → Leads w Exact (spec.sign_entered_of day x) trail.old.count trail.new.count result }
+    ensures value { IfOk result IsFactValue }
+{
+    let there = sign(t, trail)?;
+    match whole_degrees(t, trail) {
+        Ok(degrees) => first_in_sign::<E>(there, start(day, degrees), trail),
+        Err(fail) => Err(fail),
+    }
+}
+
+/// The first day (R.D.) of the solar month in which a day falls, by whose sunset at Ujjain the sun has come into its sign: 6,444 tests
+/// at most. It is void at `search` where there is none.
+#[tactic(auto, using(book_model::proofs::Leads::leading, book_model::proofs::HinduRuns::sankranti_few), unfolding(book_model::specs::HinduFacts::sankranti_of))]
+pub fn sankranti<E: Enclosure>(day: i64, trail: &mut Trail) -> Result<i64, Fail>
+    requires day { IsValueDay day }
+    ensures few { AtMost 99999 (spec.sankranti_of day) }
+    ensures leads { (w : World) → DEPTH ≤ w.depth → Leads w Exact (spec.sankranti_of day) trail.old.count trail.new.count result }
+    ensures value { IfOk result IsFactValue }
+{
+    match hsunset::<E>(day, trail) {
+        Ok(t) => sign_entered(day, t, trail),
+        Err(fail) => Err(fail),
+    }
+}
+
+/// The whole lunar days that have passed of a month at a moment.
+#[tactic(auto, using(book_model::proofs::Leads::leading), unfolding(book_model::specs::HinduFacts::lunar_days_passed_of))]
+fn whole_lunar_days<E: Enclosure>(t: E, trail: &mut Trail) -> Result<i64, Fail>
+    ensures leads { (w : World) (x : Expression) → DEPTH ≤ w.depth → Within E.shown w x t → Leads w Exact (spec.lunar_days_passed_of x) trail.old.count trail.new.count result }
+{
+    match phase(t, trail) {
+        Ok(degrees) => floor_step(degrees.mul_frac(DEGREE_IN_LUNAR_DAYS), Site::Round, trail),
+        Err(fail) => Err(fail),
+    }
+}
+
+/// The same, from 0 to 30.
+fn lunar_days_passed<E: Enclosure>(t: E, trail: &mut Trail) -> Result<i64, Fail>
+    ensures leads { (w : World) (x : Expression) → DEPTH ≤ w.depth → Within E.shown w x t → Leads w Exact (spec.lunar_days_passed_of x) trail.old.count trail.new.count result }
+    ensures near { IfOk result IsLunarDay }
+{
+    whole_lunar_days(t, trail)
+}
+
+/// The lunar day, from 1 on, at sunrise on a day (R.D.) at Ujjain: 144 tests at most.
+#[tactic(auto, using(book_model::proofs::Leads::leading, book_model::proofs::HinduRuns::tithi_few), unfolding(book_model::specs::HinduFacts::tithi_of))]
+pub fn tithi<E: Enclosure>(day: i64, trail: &mut Trail) -> Result<i64, Fail>
+    requires day { IsValueDay day }
+    ensures few { AtMost 99999 (spec.tithi_of day) }
+    ensures leads { (w : World) → DEPTH ≤ w.depth → Leads w Exact (spec.tithi_of day) trail.old.count trail.new.count result }
+    ensures value { IfOk result IsFactValue }
+{
+    let rising = sunrise::<E>(day, trail)?;
+    match lunar_days_passed(rising, trail) {
+        Ok(passed) => Ok(passed + 1),
+        Err(fail) => Err(fail),
+    }
+}
+
+/// The sign in which the sun stood at the last new moon before sunrise on a day (R.D.) at Ujjain: 163 tests at most.
+#[tactic(auto, using(book_model::proofs::Leads::leading, book_model::proofs::HinduRuns::sign_before_few), unfolding(book_model::specs::HinduFacts::sign_before_of))]
+pub fn sign_before<E: Enclosure>(day: i64, trail: &mut Trail) -> Result<i64, Fail>
+    requires day { IsValueDay day }
+    ensures few { AtMost 99999 (spec.sign_before_of day) }
+    ensures leads { (w : World) → DEPTH ≤ w.depth → Leads w Exact (spec.sign_before_of day) trail.old.count trail.new.count result }
+    ensures value { IfOk result IsFactValue }
+{
+    let rising = sunrise::<E>(day, trail)?;
+    match moon_before(rising, trail) {
+        Ok(t) => sign(t, trail),
+        Err(fail) => Err(fail),
+    }
+}
+
+/// The sign in which the sun stands at the first new moon from sunrise on on a day (R.D.) at Ujjain: 163 tests at most.
+#[tactic(auto, using(book_model::proofs::Leads::leading, book_model::proofs::HinduRuns::sign_after_few), unfolding(book_model::specs::HinduFacts::sign_after_of))]
+pub fn sign_after<E: Enclosure>(day: i64, trail: &mut Trail) -> Result<i64, Fail>
+    requires day { IsValueDay day }
+    ensures few { AtMost 99999 (spec.sign_after_of day) }
+    ensures leads { (w : World) → DEPTH ≤ w.depth → Leads w Exact (spec.sign_after_of day) trail.old.count trail.new.count result }
+    ensures value { IfOk result IsFactValue }
+{
+    let rising = sunrise::<E>(day, trail)?;
+    match moon_from(rising, trail) {
+        Ok(t) => sign(t, trail),
+        Err(fail) => Err(fail),
+    }
+}
+
+/// The year of the Kali Yuga when a day (R.D.) begins in universal time.
+#[tactic(auto, unfolding(book_model::specs::HinduFacts::calendar_year_of))]
+fn year_of_beginning<E: Enclosure>(day: i64, trail: &mut Trail) -> Result<i64, Fail>
+    ensures leads { (w : World) → DEPTH ≤ w.depth → Leads w Exact (spec.calendar_year_of day) trail.old.count trail.new.count result }
+    ensures early { 36 ≤ E.BITS → E.BITS ≤ 56 → IsValueDay day → IfErr result IsNoEarlyYear }
+{
+    hindu_year(E::from_int(day), trail)
+}
+
+/// The year of the Kali Yuga when a day (R.D.) begins in universal time: five tests, of which the two of the year are never open.
+#[tactic(auto, using(book_model::proofs::HinduRuns::calendar_year_few))]
+pub fn calendar_year<E: Enclosure>(day: i64, trail: &mut Trail) -> Result<i64, Fail>
+    requires day { IsValueDay day }
+    ensures few { AtMost 99999 (spec.calendar_year_of day) }
+    ensures leads { (w : World) → DEPTH ≤ w.depth → Leads w Exact (spec.calendar_year_of day) trail.old.count trail.new.count result }
+    ensures value { IfOk result IsFactValue }
+    ensures early { trail.old.count ≡ 0 → 36 ≤ E.BITS → E.BITS ≤ 56 → IfErr result IsNoEarlyYear }
+{
+    year_of_beginning::<E>(day, trail)
+}

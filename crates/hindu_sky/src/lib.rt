@@ -1,0 +1,15 @@
+//! What the Hindu calendars ask of a day: the sign of the zodiac in which the sun stands, the year of the Kali Yuga, the lunar day and
+//! the signs at the new moons about it, by sunrise and sunset at Ujjain. Each call makes the tests of its formula.
+//!
+//! - `sign_at_sunset`, `solar_year`, `sankranti`: of the solar calendar;
+//! - `tithi`, `sign_before`, `sign_after`, `calendar_year`: of the lunar one.
+#![tactic(auto)]
+
+mod days;
+#[cfg(test)]
+mod tests;
+mod zodiac;
+
+pub use days::{
+    calendar_year, sankranti, sign_after, sign_at_sunset, sign_before, solar_year, tithi,
+};

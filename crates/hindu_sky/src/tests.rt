@@ -1,0 +1,37 @@
+//! What no clause says: values of an independent implementation of the formulas, with the tests that they make.
+ghost use Rattle.std.specs.Prelude.{pos, ◌≤ℤ◌};
+
+use super::*;
+use book_model::Fail as FormulaFail;
+use encl_core::{Coarse, Trail};
+
+/// The values of a day (R.D.), in the order of the facts.
+fn values(day: i64, trail: &mut Trail) -> Result<[i64; 7], FormulaFail>
+    requires from { pos 657253 ≤ℤ day }
+    requires to { day ≤ℤ pos 748382 }
+{
+    Ok([
+        sign_at_sunset::<Coarse>(day, trail)?,
+        solar_year::<Coarse>(day, trail)?,
+        sankranti::<Coarse>(day, trail)?,
+        tithi::<Coarse>(day, trail)?,
+        sign_before::<Coarse>(day, trail)?,
+        sign_after::<Coarse>(day, trail)?,
+        calendar_year::<Coarse>(day, trail)?,
+    ])
+}
+
+#[test]
+fn values_are_those_of_the_reference(rt: HostRuntime) {
+    for (day, expected, tests) in [
+        (657_802, [9, 4902, 657_784, 27, 8, 9, 4902], 264),
+        (693_961, [9, 5001, 693_944, 11, 9, 10, 5001], 245),
+        (738_990, [1, 5125, 738_990, 6, 12, 1, 5125], 245),
+        (739_085, [4, 5125, 739_083, 12, 3, 4, 5125], 245),
+        (748_017, [9, 5149, 748_002, 26, 8, 9, 5149], 245),
+    ] {
+        let mut trail = Trail::new();
+        assert_eq!(rt; values(day, &mut trail), Ok(expected), "day {day}");
+        assert_eq!(rt; trail.count(), tests, "day {day}");
+    }
+}

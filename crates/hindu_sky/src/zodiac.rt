@@ -1,0 +1,101 @@
+//! The sign of the zodiac in which the sun stands, and the year of the Kali Yuga, at a moment.
+ghost use Rattle.std.specs.Prelude.{◌≡◌, ◌≤◌, ◌+◌, pos, ◌≤ℤ◌, IfOk, IfErr};
+ghost use Rattle.book_model.specs.Depth.{DEPTH};
+ghost use Rattle.book_model.specs.Expressions.{Expression, World};
+ghost use Rattle.book_model.specs.HinduFacts.{whole_degrees_of};
+ghost use Rattle.book_model.specs.Leading.{Exact, Leads};
+ghost use Rattle.book_model.specs.Relations.{Within};
+ghost use Rattle.book_model.specs.Sidereal as spec;
+ghost use Rattle.book_model.proofs.HinduRuns.{IsDegree, IsSign};
+ghost use Rattle.time_scales.specs.Steps.{IsYearOpenFor};
+
+use book_model::{
+    DAY_IN_SIDEREAL_YEARS, DEGREE_IN_SIGNS, DEGREE_IN_TURNS, Fail, HALF, HINDU_EPOCH, Site,
+};
+use encl_core::{Enclosure, Trail, floor_step};
+use sun_core::sidereal_sun;
+
+/// The whole signs that the sun has passed.
+#[tactic(auto, using(book_model::proofs::Leads::leading), unfolding(book_model::specs::Sidereal::signs_passed_of, book_model::specs::Leading::next_turn))]
+fn whole_signs<E: Enclosure>(t: E, trail: &mut Trail) -> Result<i64, Fail>
+    ensures leads { (w : World) (x : Expression) → DEPTH ≤ w.depth → Within E.shown w x t → Leads w Exact (spec.signs_passed_of x) trail.old.count trail.new.count result }
+    ensures counted { trail.new.count ≤ trail.old.count + 5 }
+{
+    match sidereal_sun(t, trail) {
+        Ok(longitude) => floor_step(longitude.mul_frac(DEGREE_IN_SIGNS), Site::Sidereal, trail),
+        Err(fail) => Err(fail),
+    }
+}
+
+/// The same, from 0 to 12.
+fn signs_passed<E: Enclosure>(t: E, trail: &mut Trail) -> Result<i64, Fail>
+    ensures leads { (w : World) (x : Expression) → DEPTH ≤ w.depth → Within E.shown w x t → Leads w Exact (spec.signs_passed_of x) trail.old.count trail.new.count result }
+    ensures near { IfOk result IsSign }
+    ensures counted { trail.new.count ≤ trail.old.count + 5 }
+{
+    whole_signs(t, trail)
+}
+
+/// The sign of the zodiac, from 1 on, in which the sun stands at a moment of universal time (Reingold and Dershowitz, Calendrical
+/// Calculations, chapter 20): five tests at most.
+#[tactic(auto, using(book_model::proofs::Leads::leading), unfolding(book_model::specs::Sidereal::sign_of))]
+pub(crate) fn sign<E: Enclosure>(t: E, trail: &mut Trail) -> Result<i64, Fail>
+    ensures leads { (w : World) (x : Expression) → DEPTH ≤ w.depth → Within E.shown w x t → Leads w Exact (spec.sign_of x) trail.old.count trail.new.count result }
+    ensures from { IfOk result (λ g. pos 1 ≤ℤ g) }
+    ensures to { IfOk result (λ g. g ≤ℤ pos 13) }
+    ensures counted { trail.new.count ≤ trail.old.count + 5 }
+{
+    match signs_passed(t, trail) {
+        Ok(passed) => Ok(passed + 1),
+        Err(fail) => Err(fail),
+    }
+}
+
+/// The whole degrees of the longitude of the sun among the stars.
+#[tactic(auto, using(book_model::proofs::Leads::leading), unfolding(book_model::specs::HinduFacts::whole_degrees_of, book_model::specs::Leading::next_turn))]
+fn floor_of_longitude<E: Enclosure>(t: E, trail: &mut Trail) -> Result<i64, Fail>
+    ensures leads { (w : World) (x : Expression) → DEPTH ≤ w.depth → Within E.shown w x t → Leads w Exact (whole_degrees_of x) trail.old.count trail.new.count result }
+    ensures counted { trail.new.count ≤ trail.old.count + 5 }
+{
+    match sidereal_sun(t, trail) {
+        Ok(longitude) => floor_step(longitude, Site::Sidereal, trail),
+        Err(fail) => Err(fail),
+    }
+}
+
+/// The same, from 0 to 360: five tests at most.
+pub(crate) fn whole_degrees<E: Enclosure>(t: E, trail: &mut Trail) -> Result<i64, Fail>
+    ensures leads { (w : World) (x : Expression) → DEPTH ≤ w.depth → Within E.shown w x t → Leads w Exact (whole_degrees_of x) trail.old.count trail.new.count result }
+    ensures near { IfOk result IsDegree }
+    ensures counted { trail.new.count ≤ trail.old.count + 5 }
+{
+    floor_of_longitude(t, trail)
+}
+
+/// The sidereal years from the epoch to a moment, less what the sun has gone of the year.
+#[tactic(auto, unfolding(book_model::specs::Sidereal::years_gone_of))]
+fn years_gone<E: Enclosure>(t: E, longitude: E) -> E
+    ensures holds { (w : World) (x s : Expression) → DEPTH ≤ w.depth → Within E.shown w x t → Within E.shown w s longitude → Within E.shown w (spec.years_gone_of x s) result }
+{
+    t.add(E::from_int(-HINDU_EPOCH))
+        .mul_frac(DAY_IN_SIDEREAL_YEARS)
+        .sub(longitude.mul_frac(DEGREE_IN_TURNS))
+}
+
+/// The year of the Kali Yuga at a moment of universal time (Reingold and Dershowitz, Calendrical Calculations, chapter 20): five tests
+/// at most.
+#[tactic(auto, using(book_model::proofs::Leads::leading, crate::proofs::Openings::opening), unfolding(book_model::specs::Sidereal::hindu_year_of, book_model::specs::Correction::rounded_of, book_model::specs::Leading::next_turn))]
+pub(crate) fn hindu_year<E: Enclosure>(t: E, trail: &mut Trail) -> Result<i64, Fail>
+    ensures leads { (w : World) (x : Expression) → DEPTH ≤ w.depth → Within E.shown w x t → Leads w Exact (spec.hindu_year_of x) trail.old.count trail.new.count result }
+    ensures open { IfErr result (IsYearOpenFor (E.shown t)) }
+    ensures counted { trail.new.count ≤ trail.old.count + 5 }
+{
+    match sidereal_sun(t, trail) {
+        Ok(longitude) => floor_step(
+            years_gone(t, longitude).add(E::from_frac(HALF)),
+            Site::Round,
+            trail,
+        ),
+        Err(fail) => Err(fail),
+    }
+}

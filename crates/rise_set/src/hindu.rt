@@ -1,0 +1,58 @@
+//! Sunrise and sunset as the Hindu calendars take them, at Ujjain.
+ghost use Rattle.std.specs.Prelude.{◌≡◌, ◌≤◌, ◌+◌, ◌≤ℤ◌, pos, negsuc};
+ghost use Rattle.book_model.specs.Depth.{DEPTH};
+ghost use Rattle.book_model.specs.Expressions.{World, constant};
+ghost use Rattle.book_model.specs.Fractions.{fraction_of};
+ghost use Rattle.book_model.specs.Horizon as spec;
+ghost use Rattle.book_model.specs.Leading.{Leads};
+ghost use Rattle.book_model.specs.Relations.{Within};
+
+use crate::declinations::universal;
+use crate::depression::{dawn, dusk};
+use crate::minutes::rounded_minutes;
+use book_model::{Fail, Frac, HINDU_SUNRISE_DEPRESSION, MINUTES, UJJAIN};
+use encl_core::{Enclosure, Trail};
+
+/// A number of minutes, in days.
+fn in_days(minutes: i64) -> Frac
+    ensures days { fraction_of result ≡ spec.minutes_in_days minutes }
+{
+    Frac::new(i128::from(minutes), u64::from(MINUTES)).unwrap()
+}
+
+/// A number of minutes as an enclosure of days.
+fn days<E: Enclosure>(minutes: i64) -> E
+    ensures holds { (w : World) → DEPTH ≤ w.depth → Within E.shown w (constant (spec.minutes_in_days minutes)) result }
+{
+    E::from_frac(in_days(minutes))
+}
+
+/// When the sun rises on a day (R.D.) at Ujjain, in universal time: dawn with a depression of 47 minutes of arc, rounded to a
+/// minute of local mean time (Reingold and Dershowitz, Calendrical Calculations, chapter 20). 133 tests at most, those of dawn and
+/// one at `round`. It is void where dawn is.
+#[tactic(auto, using(book_model::proofs::Leads::leading), unfolding(book_model::specs::Horizon::sunrise_of))]
+pub fn sunrise<E: Enclosure>(day: i64, trail: &mut Trail) -> Result<E, Fail>
+    requires low { negsuc 39999999 ≤ℤ day }
+    requires high { day ≤ℤ pos 40000000 }
+    ensures leads { (w : World) → DEPTH ≤ w.depth → Leads w (Within E.shown w) (spec.sunrise_of day) trail.old.count trail.new.count result }
+    ensures counted { trail.new.count ≤ trail.old.count + 133 }
+{
+    let rising = dawn(&UJJAIN, E::from_frac(HINDU_SUNRISE_DEPRESSION), day, trail)?;
+    match rounded_minutes(day, rising, trail) {
+        Ok(minutes) => Ok(universal(UJJAIN.longitude, days::<E>(minutes))),
+        Err(fail) => Err(fail),
+    }
+}
+
+/// When the sun's middle sets on a day (R.D.) at Ujjain, the air left out, in universal time (Reingold and Dershowitz, Calendrical
+/// Calculations, chapter 20): 132 tests at most. It is void where dusk is.
+#[tactic(auto, using(book_model::proofs::Leads::leading), unfolding(book_model::specs::Horizon::hindu_sunset_of))]
+pub fn hsunset<E: Enclosure>(day: i64, trail: &mut Trail) -> Result<E, Fail>
+    ensures leads { (w : World) → DEPTH ≤ w.depth → Leads w (Within E.shown w) (spec.hindu_sunset_of day) trail.old.count trail.new.count result }
+    ensures counted { trail.new.count ≤ trail.old.count + 132 }
+{
+    match dusk(&UJJAIN, E::from_int(0), day, trail) {
+        Ok(t) => Ok(universal(UJJAIN.longitude, t)),
+        Err(fail) => Err(fail),
+    }
+}

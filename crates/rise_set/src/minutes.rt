@@ -1,0 +1,107 @@
+//! The floor of a number to which a whole number is added, and moments rounded to minutes.
+ghost use Rattle.std.specs.Prelude.{◌≡◌, ◌≤◌, ◌+◌, ◌*ℤ◌, ◌+ℤ◌, ◌≤ℤ◌, ℤ, pos, negsuc, IfOk, IfErr, IfSome};
+ghost use Rattle.book_model.specs.Depth.{DEPTH};
+ghost use Rattle.book_model.specs.Expressions.{Expression, World, add, integer};
+ghost use Rattle.book_model.specs.Horizon as spec;
+ghost use Rattle.book_model.specs.Leading.{Exact, Leads};
+ghost use Rattle.book_model.specs.Programs.{answer, cell, integers};
+ghost use Rattle.book_model.specs.Relations.{Within};
+ghost use Rattle.rise_set.specs.Moved.{AreMoved, AreOf128Bits, IsBeside, IsTooFar};
+
+use book_model::{Fail, HALF, MINUTES, MINUTES_OF_DAY, Site, Undecided};
+use encl_core::{Enclosure, Trail, floor_step};
+
+/// One, in 2⁻⁵⁶.
+const PARTS_OF_ONE: i128 = 72_057_594_037_927_936;
+
+/// A number that counts 2⁻⁵⁶ with a whole number added, where it has 128 bits.
+fn end_beside(end: i128, whole: i64) -> Option<i128>
+    ensures end { IfSome result (λ e. e ≡ end +ℤ whole *ℤ pos 72057594037927936) }
+{
+    end.checked_add(i128::from(whole) * PARTS_OF_ONE)
+}
+
+/// The open test of a number, where a whole number is added to it; with ends that have no 128 bits it has none.
+fn beside(at: Undecided, whole: i64) -> Undecided
+    ensures turn { result.turn ≡ at.turn }
+    ensures site { result.site ≡ at.site }
+    ensures moved { AreMoved whole at.lo at.hi result.lo result.hi }
+{
+    let mut moved = Undecided {
+        turn: at.turn,
+        site: at.site,
+        lo: i128::MIN,
+        hi: i128::MAX,
+    };
+    if let Some(lo) = end_beside(at.lo, whole) {
+        if let Some(hi) = end_beside(at.hi, whole) {
+            moved.lo = lo;
+            moved.hi = hi;
+        }
+    }
+    moved
+}
+
+/// The failure of the test of a number, where a whole number is added to it.
+fn failing_beside(fail: Fail, whole: i64) -> Fail
+    ensures beside { IsBeside whole fail result }
+    ensures bits { AreOf128Bits result }
+{
+    match fail {
+        Fail::Undecided(at) => Fail::Undecided(beside(at, whole)),
+        Fail::Void(site) => Fail::Void(site),
+    }
+}
+
+/// The sum of two whole numbers; where it has more than 64 bits, the test of this number is open.
+fn sum(whole: i64, floor: i64, site: Site, turn: u32) -> Result<i64, Fail>
+    ensures decided { IfOk result (λ q. q ≡ whole +ℤ floor) }
+    ensures far { IfErr result (IsTooFar site turn (whole +ℤ floor)) }
+{
+    match whole.checked_add(floor) {
+        Some(sum) => Ok(sum),
+        None => Err(Fail::Undecided(Undecided {
+            turn,
+            site,
+            lo: i128::MIN,
+            hi: i128::MAX,
+        })),
+    }
+}
+
+/// The floor of a whole number and an enclosed one, as one test of both: what is enclosed stays small, so that it is narrow.
+#[tactic(auto, unfolding(book_model::specs::Leading::next_turn))]
+fn floor_beside<E: Enclosure>(whole: i64, x: E, site: Site, trail: &mut Trail) -> Result<i64, Fail>
+    ensures leads { (w : World) (e : Expression) → Within E.shown w e x → Leads w Exact (cell site integers (add (integer whole) e) answer) trail.old.count trail.new.count result }
+    ensures counted { trail.new.count ≤ trail.old.count + 1 }
+{
+    match floor_step(x, site, trail) {
+        Ok(floor) => sum(whole, floor, site, trail.count()),
+        Err(fail) => Err(failing_beside(fail, whole)),
+    }
+}
+
+/// The minutes from the beginning of a day (R.D.) to a moment of it, and a half.
+fn minutes_after<E: Enclosure>(day: i64, t: E) -> E
+    ensures holds { (w : World) (x : Expression) → DEPTH ≤ w.depth → Within E.shown w x t → Within E.shown w (spec.minutes_after_of day x) result }
+{
+    t.sub(E::from_int(day))
+        .mul_frac(MINUTES_OF_DAY)
+        .add(E::from_frac(HALF))
+}
+
+/// The minutes from the day of R.D. 0 to a moment of a day, rounded: one test, at `round`.
+#[tactic(auto, unfolding(book_model::specs::Horizon::rounded_minutes_of))]
+pub(crate) fn rounded_minutes<E: Enclosure>(day: i64, t: E, trail: &mut Trail) -> Result<i64, Fail>
+    requires low { negsuc 39999999 ≤ℤ day }
+    requires high { day ≤ℤ pos 40000000 }
+    ensures leads { (w : World) (x : Expression) → DEPTH ≤ w.depth → Within E.shown w x t → Leads w Exact (spec.rounded_minutes_of day x) trail.old.count trail.new.count result }
+    ensures counted { trail.new.count ≤ trail.old.count + 1 }
+{
+    floor_beside(
+        i64::from(MINUTES) * day,
+        minutes_after(day, t),
+        Site::Round,
+        trail,
+    )
+}
