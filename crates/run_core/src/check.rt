@@ -31,20 +31,6 @@ fn is_yes(verdict: &Verdict) -> bool
     matches!(verdict, Verdict::Yes)
 }
 
-/// Whether a verdict is a no.
-fn is_no(verdict: &Verdict) -> bool
-    ensures no { result ≡ spec.is_no verdict.now }
-{
-    matches!(verdict, Verdict::No(_))
-}
-
-/// Whether a verdict is a skip.
-fn is_skip(verdict: &Verdict) -> bool
-    ensures skip { result ≡ spec.is_skip verdict.now }
-{
-    matches!(verdict, Verdict::Skip)
-}
-
 /// Whether all verdicts are yes.
 fn all_yes(verdicts: &[Verdict]) -> bool
     ensures all { result ≡ list_all spec.is_yes verdicts.now }
@@ -52,25 +38,33 @@ fn all_yes(verdicts: &[Verdict]) -> bool
     verdicts.iter().all(is_yes)
 }
 
-/// How many verdicts are yes.
-fn count_yes(verdicts: &[Verdict]) -> usize
-    ensures count { result ≡ length (filter spec.is_yes verdicts.now) }
-{
-    verdicts.iter().filter(|verdict| is_yes(*verdict)).count()
+/// How many verdicts are yes, a no and a skip.
+#[derive(Clone, Copy, Debug, PartialEq, Eq)]
+struct Counts {
+    yes: usize,
+    no: usize,
+    skip: usize,
 }
 
-/// How many verdicts are a no.
-fn count_no(verdicts: &[Verdict]) -> usize
-    ensures count { result ≡ length (filter spec.is_no verdicts.now) }
+/// How many verdicts there are of each kind.
+fn counts_of(verdicts: &[Verdict]) -> Counts
+    ensures yes { result.yes ≡ length (filter spec.is_yes verdicts.now) }
+    ensures no { result.no ≡ length (filter spec.is_no verdicts.now) }
+    ensures skip { result.skip ≡ length (filter spec.is_skip verdicts.now) }
 {
-    verdicts.iter().filter(|verdict| is_no(*verdict)).count()
-}
-
-/// How many verdicts are a skip.
-fn count_skip(verdicts: &[Verdict]) -> usize
-    ensures count { result ≡ length (filter spec.is_skip verdicts.now) }
-{
-    verdicts.iter().filter(|verdict| is_skip(*verdict)).count()
+    let mut counts = Counts {
+        yes: 0,
+        no: 0,
+        skip: 0,
+    };
+    for verdict in verdicts.iter() {
+        match verdict {
+            Verdict::Yes => counts.yes += 1,
+            Verdict::No(_) => counts.no += 1,
+            Verdict::Skip => counts.skip += 1,
+        }
+    }
+    counts
 }
 
 /// The verdicts of the lines of a file, in order. The error comes where memory runs out.
@@ -125,9 +119,10 @@ fn put_counts<K: Sink>(
     ensures fault { IsErrOf result WriteStop.Fault → Rose (K.faults sink.old) (K.faults sink.new) }
     ensures later { K.faults sink.old ≤ K.faults sink.new }
 {
-    let yes = count_of(count_yes(verdicts))?;
-    let no = count_of(count_no(verdicts))?;
-    let skip = count_of(count_skip(verdicts))?;
+    let counts = counts_of(verdicts);
+    let yes = count_of(counts.yes)?;
+    let no = count_of(counts.no)?;
+    let skip = count_of(counts.skip)?;
     match write_counts(pending, yes, no, skip) {
         Ok(()) => {
             settle(sink, pending, 0)?;
