@@ -1,12 +1,12 @@
 -- The first sight of the crescent: how many tests it makes.
-use Rattle.std.specs.Prelude.{ℕ, ◌+◌, ◌*◌, ◌≤◌, Bool, true, false, if◌then◌else◌, ℤ, pos, ◌-ℤ◌, int_le}
+use Rattle.std.specs.Prelude.{ℕ, ◌+◌, ◌*◌, Bool, ℤ, pos, ◌-ℤ◌, int_le}
 use Rattle.std.proofs.Common.{arith}
 use Rattle.book_model.specs.declared.horizon.Location.{Location}
 use Rattle.book_model.specs.Crescent.{evening_of, and_also, is_past_new_of, is_before_quarter_of, is_lit_of, is_within_quarter_of, is_high_of, is_bright_of, is_crescent_of, meets_of, meets_with_of, obliquity_at_of, meets_at_of, visible_of, sight_start_of, sight_after_of, phasis_of}
 use Rattle.book_model.specs.Expressions.{Expression}
 use Rattle.book_model.specs.Horizon.{dusk_of, depression_of}
 use Rattle.book_model.specs.Latitude.{latitude_of}
-use Rattle.book_model.specs.Programs.{Program, AtMost, answer_at_most, cell_at_most, compare_at_most}
+use Rattle.book_model.specs.Programs.{Program, AtMost, answer_at_most, compare_at_most}
 use Rattle.book_model.specs.Searches.{first_day_from}
 use Rattle.book_model.specs.Time.{sidereal_of}
 use Rattle.book_model.proofs.FactRuns.{centuries_few}

@@ -1,8 +1,7 @@
 -- The first tests of a run: how many a program makes at least that has an answer, and that a later failure has a later number.
-use Rattle.std.specs.Prelude.{◌≡◌, ℕ, zero, suc, ◌+◌, ◌-◌, ◌^◌, ◌≤◌, min, Bool, ℤ, Option, Some, None, Result, Ok, Err}
+use Rattle.std.specs.Prelude.{◌≡◌, ℕ, zero, suc, ◌+◌, ◌-◌, ◌^◌, ◌≤◌, min, Bool, ℤ, Option, Some, None, Ok, Err}
 use Rattle.std.proofs.Common.{arith}
 use Rattle.exact_math.specs.Interval.{Interval}
-use Rattle.book_model.specs.declared.fail.Fail.{Fail}
 use Rattle.book_model.specs.declared.fail.Fail.TheVariants.{Undecided as undecided_at}
 use Rattle.book_model.specs.declared.fail.Undecided.{Undecided}
 use Rattle.book_model.specs.declared.site.Site.{Site}
@@ -13,7 +12,7 @@ use Rattle.book_model.specs.Phases.{turned_of, elongation_of, phase_of, phase_pa
 use Rattle.book_model.specs.Programs.{Grid, Program, answer, void, cell, compare, bind, Run, run, after_cell, after_compare, cell_at, compare_at, MakesTest, here_decided, here_undecided, later, Sides}
 use Rattle.book_model.specs.Sun.{sun_of}
 use Rattle.book_model.specs.Time.{centuries_of}
-use Rattle.book_model.proofs.Leads.{StopsAt, leads_stop_at}
+use Rattle.book_model.proofs.Leads.{leads_stop_at}
 
 -- a program makes at least so many tests where it has an answer
 pub data AtLeast {A : Type 0} : ℕ → Program A → Type 0 where

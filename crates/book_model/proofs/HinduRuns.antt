@@ -1,11 +1,10 @@
 -- The facts of the Hindu calendars: how many tests they make, and from where to where their values lie.
-use Rattle.std.specs.Prelude.{◌≡◌, ℕ, ◌+◌, ◌*◌, ◌≤◌, ℤ, pos, negsuc, ◌+ℤ◌, ◌-ℤ◌, ◌≤ℤ◌, neg_ℤ, Some, Bool, true, false, Result, Ok, Err, IfOk}
+use Rattle.std.specs.Prelude.{◌≡◌, ℕ, ◌+◌, ◌*◌, ◌≤◌, ℤ, pos, negsuc, ◌≤ℤ◌, neg_ℤ, Some, Result, Ok, Err, IfOk}
 use Rattle.std.proofs.Common.{arith}
 use Rattle.std.proofs.lemmas.Int.{ints}
 use Rattle.exact_math.specs.Fraction.{whole, times, smaller, larger, is_at_most}
 use Rattle.exact_math.specs.Interval.{Interval, between, ◌⊆◌, IsProper, product, least, greatest}
 use Rattle.exact_math.proofs.Fractions.{le_refl}
-use Rattle.exact_math.proofs.Intervals.{within_trans, product_within, within_refl}
 use Rattle.book_model.specs.declared.calendar_tables.TheConstants.{HINDU_EPOCH}
 use Rattle.book_model.specs.declared.fail.Fail.{Fail}
 use Rattle.book_model.specs.declared.site.Site.TheVariants.{Round, Sidereal}
@@ -15,11 +14,11 @@ use Rattle.book_model.specs.Correction.{rounded_of}
 use Rattle.book_model.specs.Expressions.{Expression, World, value, exactly, argument, integer, constant, add, scale, remainder}
 use Rattle.book_model.specs.Facts.{IsFactValue, at_depth}
 use Rattle.book_model.specs.Fractions.{fraction_of}
-use Rattle.book_model.specs.HinduFacts.{sign_at_sunset_of, year_at_sunset_of, has_sign_at, whole_degrees_of, before_sign, sign_entered_of, sankranti_of, lunar_days_passed_of, tithi_of, sign_before_of, sign_after_of, calendar_year_of}
+use Rattle.book_model.specs.HinduFacts.{sign_at_sunset_of, year_at_sunset_of, has_sign_at, whole_degrees_of, sign_entered_of, sankranti_of, lunar_days_passed_of, tithi_of, sign_before_of, sign_after_of, calendar_year_of}
 use Rattle.book_model.specs.Horizon.{dawn_of, dusk_of, depression_of, rounded_minutes_of, sunrise_of, hindu_sunset_of}
 use Rattle.book_model.specs.Leading.{Leads, Exact}
 use Rattle.book_model.specs.Phases.{phase_of}
-use Rattle.book_model.specs.Programs.{answer, integers, multiples, cell_at, run, valued, outcome, AtMost, answer_at_most, cell_at_most}
+use Rattle.book_model.specs.Programs.{integers, multiples, cell_at, run, valued, outcome, AtMost, answer_at_most, cell_at_most}
 use Rattle.book_model.specs.Ranges.{IsBetween, IsInTable}
 use Rattle.book_model.specs.Searches.{first_day_from}
 use Rattle.book_model.specs.Sidereal.{precession_of, sidereal_by, starred_of, sidereal_sun_of, signs_passed_of, sign_of, years_gone_of, hindu_year_of}

@@ -1,17 +1,14 @@
 -- Dawn, dusk and sunset: how many tests they make, and from where to where their values lie.
-use Rattle.std.specs.Prelude.{◌≡◌, ℕ, zero, suc, ◌+◌, ◌*◌, ◌-◌, ◌≤◌, Bool, true, false, if◌then◌else◌, ℤ, pos, negsuc, ◌+ℤ◌, ◌-ℤ◌, ◌≤ℤ◌}
+use Rattle.std.specs.Prelude.{ℕ, zero, suc, ◌+◌, ◌*◌, Bool, true, false, if◌then◌else◌, ℤ}
 use Rattle.std.proofs.Common.{arith}
-use Rattle.std.proofs.lemmas.Int.{ints}
-use Rattle.exact_math.specs.Fraction.{Fraction}
 use Rattle.book_model.specs.declared.horizon.Location.{Location}
 use Rattle.book_model.specs.declared.horizon.Twilight.{Twilight}
 use Rattle.book_model.specs.declared.location_tables.TheConstants.{TEHRAN}
 use Rattle.book_model.specs.Correction.{rounded_of}
 use Rattle.book_model.specs.Expressions.{Expression}
-use Rattle.book_model.specs.Fractions.{fraction_of}
-use Rattle.book_model.specs.Horizon.{declination_of, offset_of, is_out_of_reach, if_reached, reached_offset_of, or_at_edge, near_offset_of, approximation_on, approximation_of, has_settled_of, settled_of, depression_of, dawn_of, dusk_of, sunset_depression_of, sunset_of}
+use Rattle.book_model.specs.Horizon.{declination_of, offset_of, is_out_of_reach, if_reached, reached_offset_of, or_at_edge, near_offset_of, approximation_on, approximation_of, has_settled_of, settled_of, depression_of, dusk_of, sunset_of}
 use Rattle.book_model.specs.Kinds.{bahai_year_of, sunset_in_minutes_of}
-use Rattle.book_model.specs.Programs.{Program, answer, bind, AtMost, answer_at_most, void_at_most, cell_at_most, compare_at_most}
+use Rattle.book_model.specs.Programs.{answer, AtMost, answer_at_most, void_at_most, cell_at_most, compare_at_most}
 use Rattle.book_model.specs.Sun.{obliquity_of}
 use Rattle.book_model.proofs.Estimates.{from_apparent_few}
 use Rattle.book_model.proofs.FactRuns.{centuries_few, sun_few}

@@ -30,7 +30,10 @@ pub mod Sunsets
 pub mod WordTables
 pub mod NameLemmas
 pub mod MoonFacts
+pub mod Bisections
 pub mod PhaseDays
+pub mod TermDays
 pub mod Crescents
 pub mod HinduRuns
 pub mod Early
+pub mod Rows

@@ -23,7 +23,7 @@ use Rattle.book_model.proofs.PhaseRanges.{moon_before_few, moon_from_few, new_mo
 use Rattle.book_model.proofs.Values.{value_proper}
 
 -- ---- how many tests
-day_few : (x : Expression) → AtMost 2 (day_in_beijing_of x)
+pub day_few : (x : Expression) → AtMost 2 (day_in_beijing_of x)
 unfolding day_in_beijing_of in_beijing_of zone_of_beijing
 day_few x = at_most_bind 1 1 (at_most_bind 1 0 (at_most_bind 1 0 (compare_at_most (λ t. answer_at_most)) (λ t. answer_at_most)) (λ z. answer_at_most)) (λ t. cell_at_most (λ q. answer_at_most))
 
@@ -49,7 +49,7 @@ zone_between w x z e =
     rw (← valued_same w (beijing_hours t.part) z t.then) (hours_between w t.part)
 
 -- the day in Beijing of a moment that lies between two days
-day_between : (w : World) (lo hi v : ℤ) (x : Expression) → IsBetween lo hi (value w x) → outcome (run w (day_in_beijing_of x)) ≡ valued v → (lo ≤ℤ v) × (v ≤ℤ (hi +ℤ pos 1))
+pub day_between : (w : World) (lo hi v : ℤ) (x : Expression) → IsBetween lo hi (value w x) → outcome (run w (day_in_beijing_of x)) ≡ valued v → (lo ≤ℤ v) × (v ≤ℤ (hi +ℤ pos 1))
 unfolding day_in_beijing_of in_beijing_of value
 day_between w lo hi v x h e =
     let t = parts w (in_beijing_of x) _ v e in

@@ -1,47 +1,28 @@
 -- When the moon was last at a phase: how many tests that makes, and from where to where it lies.
-use Rattle.std.specs.Prelude.{◌≡◌, ℕ, zero, suc, ◌+◌, ◌*◌, Bool, true, false, if◌then◌else◌, ℤ, pos, negsuc, ◌-ℤ◌, ◌+ℤ◌, ◌≤ℤ◌, ◌≤◌, Result, Ok, Err, IfOk}
+use Rattle.std.specs.Prelude.{◌≡◌, ℕ, ℤ, pos, negsuc, ◌≤ℤ◌, ◌≤◌, Result, Ok, Err, IfOk}
 use Rattle.std.proofs.Common.{arith}
 use Rattle.std.proofs.lemmas.Int.{ints}
 use Rattle.exact_math.specs.Fraction.{whole, times, smaller, larger, is_at_most}
 use Rattle.exact_math.specs.Interval.{between, ◌⊆◌, product, least, greatest}
 use Rattle.book_model.specs.declared.fail.Fail.{Fail}
 use Rattle.book_model.specs.declared.new_moon_tables.TheConstants.{DEGREE_OF_MONTH}
-use Rattle.book_model.specs.declared.site.Site.{Site}
-use Rattle.book_model.specs.declared.site.Site.TheVariants.{BisectEnd, DayFloor}
-use Rattle.book_model.specs.declared.tables.TheConstants.{HALF}
-use Rattle.book_model.specs.Bisection.{middle_of, are_near_of, angle_past_of, has_passed_of, has_passed_at, bisected_of, invert_of}
+use Rattle.book_model.specs.declared.site.Site.TheVariants.{DayFloor}
+use Rattle.book_model.specs.Bisection.{invert_of}
 use Rattle.book_model.specs.Expressions.{Expression, World, value, exactly, integer, add, subtract}
-use Rattle.book_model.specs.Facts.{IsFactValue, at_depth}
+use Rattle.book_model.specs.Facts.{at_depth}
 use Rattle.book_model.specs.Fractions.{fraction_of}
 use Rattle.book_model.specs.Leading.{Leads, Exact}
 use Rattle.book_model.specs.Phases.{phase_of, phase_past_of, phase_back_by, phase_about_of, phase_before_of, phase_day_of}
-use Rattle.book_model.specs.Programs.{Program, answer, void, bind, integers, run, valued, outcome, AtMost, answer_at_most, void_at_most, cell_at_most, compare_at_most}
+use Rattle.book_model.specs.Programs.{integers, run, valued, outcome, AtMost, answer_at_most, cell_at_most}
 use Rattle.book_model.specs.Ranges.{IsBetween}
-use Rattle.book_model.specs.Sun.{reduced_of}
-use Rattle.book_model.proofs.Estimates.{wider, difference_between, minimum_between, between_of_within, floor_between, reduced_few, reduced_within, valued_same}
+use Rattle.book_model.proofs.Bisections.{AreHalved, bisected_few, bisected_between}
+use Rattle.book_model.proofs.Estimates.{wider, difference_between, minimum_between, between_of_within, floor_between, reduced_few, reduced_within}
 use Rattle.book_model.proofs.FactRuns.{parts, decides}
 use Rattle.book_model.proofs.Leads.{at_most_bind, at_most_more, leads_value}
-use Rattle.book_model.proofs.PhaseRanges.{few_if, phase_few, phase_in_table, scaled_between, sum_between}
+use Rattle.book_model.proofs.PhaseRanges.{phase_few, phase_in_table, scaled_between, sum_between}
 use Rattle.book_model.proofs.Values.{value_proper}
 
 -- ---- how many tests
-near_few : (l u : Expression) → AtMost 1 (are_near_of l u)
-unfolding are_near_of
-near_few l u = compare_at_most (λ t. answer_at_most)
-
-passed_few : (n : ℕ) (f : Expression → Program Expression) → ((x : Expression) → AtMost n (f x)) → (y x : Expression) → AtMost (n + 2) (has_passed_at f y x)
-unfolding has_passed_at has_passed_of angle_past_of
-passed_few n f h y x = at_most_bind n 2 (h x) (λ v. at_most_bind 1 1 (cell_at_most (λ q. answer_at_most)) (λ r. compare_at_most (λ t. answer_at_most)))
-
--- each turn of a bisection makes those of its function and three more
-pub bisected_few : (n : ℕ) (f : Expression → Program Expression) → ((x : Expression) → AtMost n (f x)) → (more : ℕ) (y l u : Expression) → AtMost (more * (n + 3) + 1) (bisected_of more f y l u)
-unfolding bisected_of
-bisected_few n f h zero y l u = at_most_more 1 (0 * (n + 3) + 1) (omega arith) (at_most_bind 1 0 (near_few l u) (λ near. few_if 0 near _ _ answer_at_most void_at_most))
-bisected_few n f h (suc more) y l u =
-    at_most_more (1 + (n + 2 + (more * (n + 3) + 1))) (suc more * (n + 3) + 1) (omega arith)
-    (at_most_bind 1 (n + 2 + (more * (n + 3) + 1)) (near_few l u) (λ near. few_if (n + 2 + (more * (n + 3) + 1)) near _ _ answer_at_most
-    (at_most_bind (n + 2) (more * (n + 3) + 1) (passed_few n f h y (middle_of l u)) (λ passed. few_if (more * (n + 3) + 1) passed _ _ (bisected_few n f h more y l (middle_of l u)) (bisected_few n f h more y (middle_of l u) u)))))
-
 past_few : (f x : Expression) → AtMost 11 (phase_past_of f x)
 unfolding phase_past_of
 past_few f x = at_most_bind 10 1 (phase_few x) (λ p. reduced_few _)
@@ -62,36 +43,9 @@ phase_day_few f d = at_most_more 845 99999 (omega arith) (phase_day_few_exactly 
 abbrev IsSought : World → Expression → Type 0
 IsSought w x = IsBetween (negsuc 182659) (pos 748760) (value w x)
 
-half_of_sum : product (between (whole (negsuc 365319)) (whole (pos 1497520))) (exactly (fraction_of HALF)) ⊆ between (whole (negsuc 182659)) (whole (pos 748760))
+half_of_sum : AreHalved (negsuc 182659) (pos 748760) (negsuc 365319) (pos 1497520)
 unfolding product least greatest smaller larger times is_at_most
-half_of_sum = record { ends = (record { cross = omega (arith, ints) }, record { cross = omega (arith, ints) }) }
-
-middle_between : (w : World) (l u : Expression) → IsSought w l → IsSought w u → IsSought w (middle_of l u)
-unfolding middle_of value
-middle_between w l u h k =
-    let s = wider _ _ (negsuc 365319) (pos 1497520) _ (omega (arith, ints)) (omega (arith, ints)) (sum_between (negsuc 182659) (pos 748760) (negsuc 182659) (pos 748760) _ _ h k) in
-    scaled_between (negsuc 365319) (pos 1497520) (negsuc 182659) (pos 748760) (fraction_of HALF) _ half_of_sum (value_proper w (add l u)) s
-
-either : (w : World) (t : Bool) (p q : Program Expression) (v : Expression) → (outcome (run w p) ≡ valued v → IsSought w v) → (outcome (run w q) ≡ valued v → IsSought w v) → outcome (run w (if t then p else q)) ≡ valued v → IsSought w v
-either w true p q v h k e = h e
-either w false p q v h k e = k e
-
-no_value : (w : World) (s : Site) (v : Expression) → outcome (run w (void s)) ≡ valued v → ⊥
-unfolding outcome run
-no_value w s v e = absurd (cc)
-
-bisected_between : (w : World) (f : Expression → Program Expression) (more : ℕ) (y l u v : Expression) → IsSought w l → IsSought w u → outcome (run w (bisected_of more f y l u)) ≡ valued v → IsSought w v
-unfolding bisected_of
-bisected_between w f zero y l u v h k e =
-    let n = parts w (are_near_of l u) _ v e in
-    either w n.part (answer (middle_of l u)) (void BisectEnd) v (λ z. rw (← valued_same w (middle_of l u) v z) (middle_between w l u h k)) (λ z. absurd (no_value w BisectEnd v z)) n.then
-bisected_between w f (suc more) y l u v h k e =
-    let n = parts w (are_near_of l u) _ v e in
-    let m = middle_between w l u h k in
-    let halves : Bool → Program Expression = λ passed. if passed then bisected_of more f y l (middle_of l u) else bisected_of more f y (middle_of l u) u in
-    either w n.part (answer (middle_of l u)) (bind (has_passed_at f y (middle_of l u)) halves) v (λ z. rw (← valued_same w (middle_of l u) v z) m)
-    (λ z. let p = parts w (has_passed_at f y (middle_of l u)) halves v z in
-    either w p.part (bisected_of more f y l (middle_of l u)) (bisected_of more f y (middle_of l u) u) v (λ t. bisected_between w f more y l (middle_of l u) v h m t) (λ t. bisected_between w f more y (middle_of l u) u v m k t) p.then) n.then
+half_of_sum = record { halved = record { ends = (record { cross = omega (arith, ints) }, record { cross = omega (arith, ints) }) }; low = omega (arith, ints); high = omega (arith, ints) }
 
 -- a turn of the phase, as the days of the mean month
 days_of_turn : product (between (whole (pos 0)) (whole (pos 360))) (exactly (fraction_of DEGREE_OF_MONTH)) ⊆ between (whole (pos 0)) (whole (pos 30))
@@ -116,7 +70,7 @@ about_between w f x t v h k e =
     let a : IsSought w (add t (integer (pos 2))) = wider _ _ (negsuc 182659) (pos 748760) _ (omega (arith, ints)) (omega (arith, ints)) (sum_between (negsuc 182650) (pos 748748) (pos 2) (pos 2) _ _ k two) in
     let b = wider _ _ (negsuc 182659) (pos 748760) _ (omega (arith, ints)) (omega (arith, ints)) h in
     let u = minimum_between (negsuc 182659) (pos 748760) (pos 748760) _ _ b a in
-    bisected_between w phase_of 64 f _ _ v l u e
+    bisected_between w (negsuc 182659) (pos 748760) (negsuc 365319) (pos 1497520) half_of_sum phase_of 64 f _ _ v l u e
   where
     two_between : (w : World) → IsBetween (pos 2) (pos 2) (value w (integer (pos 2)))
     two_between w = (record { cross = omega (arith, ints) }, record { cross = omega (arith, ints) })

@@ -1,10 +1,10 @@
 -- From where to where dusk and sunset lie, and a sunset in minutes.
-use Rattle.std.specs.Prelude.{◌≡◌, ℕ, zero, suc, ◌*◌, ◌≤◌, Bool, true, false, cond, if◌then◌else◌, ℤ, pos, negsuc, ◌+ℤ◌, ◌-ℤ◌, ◌≤ℤ◌, Result, Ok, Err, IfOk, refl}
+use Rattle.std.specs.Prelude.{◌≡◌, ℕ, zero, suc, ◌*◌, ◌≤◌, Bool, true, false, if◌then◌else◌, ℤ, pos, negsuc, ◌+ℤ◌, ◌-ℤ◌, Result, Ok, Err, IfOk}
 use Rattle.std.proofs.Common.{arith, sym}
 use Rattle.std.proofs.lemmas.Int.{ints}
 use lib.Signed.{lt_z}
-use Rattle.exact_math.specs.Fraction.{Fraction, ◌≤F◌, whole, plus, times, smaller, larger, is_at_most}
-use Rattle.exact_math.specs.Interval.{Interval, everything, between, ◌⊆◌, IsProper, one, sum, negative, difference, product, quotient, power, clamp, least, greatest}
+use Rattle.exact_math.specs.Fraction.{Fraction, whole, plus, times, smaller, larger, is_at_most}
+use Rattle.exact_math.specs.Interval.{Interval, everything, between, ◌⊆◌, IsProper, one, sum, negative, product, quotient, power, clamp, least, greatest}
 use Rattle.exact_math.proofs.Fractions.{le_refl}
 use Rattle.exact_math.proofs.Intervals.{within_trans, within_refl, product_within, quotient_proper, plus_proper, difference_proper, clamp_proper, power_proper}
 use Rattle.book_model.specs.declared.fail.Fail.{Fail}
@@ -13,7 +13,7 @@ use Rattle.book_model.specs.declared.fact.Place.TheVariants as places
 use Rattle.book_model.specs.declared.horizon.Location.{Location}
 use Rattle.book_model.specs.declared.horizon.Twilight.{Twilight}
 use Rattle.book_model.specs.declared.horizon.Twilight.TheVariants.{Dawn, Dusk}
-use Rattle.book_model.specs.declared.location_tables.TheConstants.{TEHRAN, CAIRO, UJJAIN, QUARTER, THREE_QUARTERS, MINUTES_OF_DAY}
+use Rattle.book_model.specs.declared.location_tables.TheConstants.{MINUTES_OF_DAY}
 use Rattle.book_model.specs.declared.sun_tables.TheConstants.{DEGREE_IN_DAYS}
 use Rattle.book_model.specs.declared.tables.TheConstants.{HALF}
 use Rattle.book_model.specs.declared.time_tables.TheConstants.{HOUR}
@@ -25,11 +25,11 @@ use Rattle.book_model.specs.Fractions.{fraction_of}
 use Rattle.book_model.specs.Horizon.{universal_of, near_offset_of, part_of, quarter_of, apparent_by, approximation_on, approximation_of, has_settled_of, settled_of, depression_of, dusk_of, sunset_depression_of, sunset_of}
 use Rattle.book_model.specs.Kinds.{location_of, minutes_of, sunset_in_minutes_of}
 use Rattle.book_model.specs.Leading.{Leads, Exact}
-use Rattle.book_model.specs.Noon.{ahead_of, from_apparent_of}
+use Rattle.book_model.specs.Noon.{ahead_of}
 use Rattle.book_model.specs.Octants.{only}
 use Rattle.book_model.specs.Programs.{answer, cell, integers, run, valued, outcome}
 use Rattle.book_model.specs.Ranges.{IsBetween}
-use Rattle.book_model.specs.Roots.{root_of, root_low, root_high, on_grid}
+use Rattle.book_model.specs.Roots.{root_of, root_low, on_grid}
 use Rattle.book_model.specs.declared.site.Site.TheVariants.{DayFloor, Round}
 use Rattle.book_model.proofs.ArcPieces.{quarters}
 use Rattle.book_model.proofs.Arcs.{arctangents, arctangent_inside}

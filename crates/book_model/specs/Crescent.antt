@@ -1,7 +1,7 @@
 -- The first sight of the crescent by Shaukat's criterion: when the sun stands 4.5 degrees below the horizon, the arc of light
 -- between moon and sun is at least 10.6 degrees and the moon's altitude above 4.1. Angles are in degrees, moments in days (R.D.).
 -- Reingold and Dershowitz, Calendrical Calculations, chapters 14 and 18.
-use Rattle.std.specs.Prelude.{Bool, false, not, if◌then◌else◌, ℤ, pos, ◌+ℤ◌, ◌-ℤ◌, int_le}
+use Rattle.std.specs.Prelude.{Bool, false, not, if◌then◌else◌, ℤ, pos, ◌-ℤ◌, int_le}
 use Rattle.exact_math.specs.Fraction.{Fraction}
 use Rattle.book_model.specs.declared.crescent_tables.TheConstants.{CRESCENT_DEPRESSION, LEAST_ALTITUDE, LEAST_ARC_OF_LIGHT}
 use Rattle.book_model.specs.declared.horizon.Location.{Location}

@@ -6,14 +6,14 @@ use Rattle.book_model.specs.declared.site.Site.{Site}
 use Rattle.book_model.specs.declared.site.Site.TheVariants.{Year}
 use Rattle.book_model.specs.declared.fact.Fact.{Fact}
 use Rattle.book_model.specs.declared.fact.Kind.{Kind}
-use Rattle.book_model.specs.declared.fact.Kind.TheVariants.{Dt, Sun, Nowruz, BahaiYear, Solstice, NewMoonBefore, NewMoonFrom, Major, Phasis, Sign, SolarYear, Sankranti, Tithi, SignBefore, SignAfter, CalendarYear, NewMoon, FirstQuarter, FullMoon, LastQuarter, Sunset}
+use Rattle.book_model.specs.declared.fact.Kind.TheVariants.{Dt, Sun, Nowruz, BahaiYear, Solstice, NewMoonBefore, NewMoonFrom, Major, MajorTerm, MinorTerm, Phasis, Sign, SolarYear, Sankranti, Tithi, SignBefore, SignAfter, CalendarYear, NewMoon, FirstQuarter, FullMoon, LastQuarter, Sunset}
 use Rattle.book_model.specs.declared.fact.Place.{Place}
 use Rattle.book_model.specs.declared.fact.TheConstants.{FIRST_FACT_DAY, LAST_FACT_DAY, FIRST_DAY, LAST_DAY, LEAST_VALUE, GREATEST_VALUE}
 use Rattle.book_model.specs.declared.fail.Undecided.{Undecided}
 use Rattle.book_model.specs.Calendar.{year_of_day}
 use Rattle.book_model.specs.Correction.{is_between}
 use Rattle.book_model.specs.Expressions.{World}
-use Rattle.book_model.specs.Kinds.{dt_of, sun_in_thousandths_of, nowruz_of, bahai_year_of, solstice_of, new_moon_before_of, new_moon_from_of, major_of, location_of, sunset_in_minutes_of}
+use Rattle.book_model.specs.Kinds.{dt_of, sun_in_thousandths_of, nowruz_of, bahai_year_of, solstice_of, new_moon_before_of, new_moon_from_of, major_of, term_day_of, location_of, sunset_in_minutes_of}
 use Rattle.book_model.specs.Crescent.{phasis_of}
 use Rattle.book_model.specs.HinduFacts.{sign_at_sunset_of, year_at_sunset_of, sankranti_of, tithi_of, sign_before_of, sign_after_of, calendar_year_of}
 use Rattle.book_model.specs.Phases.{phase_day_of}
@@ -48,6 +48,8 @@ formula_of Solstice place d = solstice_of d
 formula_of NewMoonBefore place d = new_moon_before_of d
 formula_of NewMoonFrom place d = new_moon_from_of d
 formula_of Major place d = major_of d
+formula_of MajorTerm place d = term_day_of (pos 0) d
+formula_of MinorTerm place d = term_day_of (pos 15) d
 formula_of Phasis place d = phasis_of (location_of place) d
 formula_of Sign place d = sign_at_sunset_of d
 formula_of SolarYear place d = year_at_sunset_of d
@@ -114,6 +116,8 @@ HasWholeDays Solstice = ⊥
 HasWholeDays NewMoonBefore = ⊥
 HasWholeDays NewMoonFrom = ⊥
 HasWholeDays Major = ⊥
+HasWholeDays MajorTerm = ⊥
+HasWholeDays MinorTerm = ⊥
 HasWholeDays Phasis = Unit {0}
 HasWholeDays Sign = ⊥
 HasWholeDays SolarYear = ⊥

@@ -1,5 +1,5 @@
 -- The formulas of the kinds of facts, each for a day (R.D.).
-use Rattle.std.specs.Prelude.{ℤ, pos, ◌+ℤ◌, ◌-ℤ◌, Bool, not}
+use Rattle.std.specs.Prelude.{ℤ, pos, ◌+ℤ◌, ◌-ℤ◌, ◌*ℤ◌, Bool, not}
 use Rattle.book_model.specs.declared.site.Site.TheVariants.{Round, StartFloor, DayFloor, DayTest, TermFloor}
 use Rattle.book_model.specs.declared.fact.Place.{Place}
 use Rattle.book_model.specs.declared.fact.Place.TheVariants.{Cairo, Ujjain}
@@ -15,8 +15,8 @@ use Rattle.book_model.specs.Horizon.{sunset_of}
 use Rattle.book_model.specs.Noon.{noon_of}
 use Rattle.book_model.specs.Programs.{Program, answer, cell, compare, bind, integers}
 use Rattle.book_model.specs.Searches.{first_day_from}
-use Rattle.book_model.specs.Spans.{amod}
-use Rattle.book_model.specs.Sun.{sun_of, estimate_of}
+use Rattle.book_model.specs.Spans.{amod, modulo}
+use Rattle.book_model.specs.Sun.{sun_of, estimate_of, sun_from_of}
 use Rattle.book_model.specs.Phases.{moon_before_of, moon_from_of}
 use Rattle.book_model.specs.Time.{correction_of_year, midnight_of, in_beijing_of}
 
@@ -136,3 +136,21 @@ terms_passed_of d =
 -- the number, from 1 to 12, of the last major solar term when a day begins in Beijing: that at 330 degrees is the first
 unfoldable pub major_of : ℤ → Program ℤ
 major_of d = bind (terms_passed_of d) λ q. answer (amod (pos 2 +ℤ q) 11)
+
+-- the whole spans of 30 degrees, rounded down, from the sun's longitude when a day begins in Beijing to a longitude r
+unfoldable pub spans_short_of : (r d : ℤ) → Program ℤ
+spans_short_of r d =
+    bind (longitude_at_midnight_of d) λ s.
+    cell TermFloor integers (scale (fraction_of DEGREE_IN_TERMS) (subtract (integer r) s)) answer
+
+-- the longitude of the next solar term: the one so many spans of 30 degrees before r, from 0 to 359
+unfoldable pub term_longitude : (r spans : ℤ) → ℤ
+term_longitude r spans = modulo (r -ℤ pos 30 *ℤ spans) 359
+
+-- the day in Beijing on which the sun is next at a longitude, once the day d has begun there
+unfoldable pub longitude_day_of : (l d : ℤ) → Program ℤ
+longitude_day_of l d = bind (sun_from_of (integer l) (midnight_of d)) day_in_beijing_of
+
+-- the day in Beijing on which the sun comes to the first of the longitudes r, r + 30, r + 60 .. once the day d has begun there
+unfoldable pub term_day_of : (r d : ℤ) → Program ℤ
+term_day_of r d = bind (spans_short_of r d) λ n. longitude_day_of (term_longitude r n) d

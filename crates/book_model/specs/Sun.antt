@@ -1,11 +1,13 @@
--- The apparent longitude of the sun, the obliquity of the ecliptic, and about when the sun was last at a longitude.
+-- The apparent longitude of the sun, the obliquity of the ecliptic, about when the sun was last at a longitude, and when it is next
+-- at one.
 -- Angles are in degrees, moments and spans in days; c is in centuries.
 -- Reingold and Dershowitz, Calendrical Calculations, chapter 14.
 use Rattle.std.specs.Prelude.{pos, ◌-◌, ◌^◌}
 use Rattle.exact_math.specs.Fraction.{Fraction}
 use Rattle.book_model.specs.declared.site.Site.TheVariants.{StepWrap, SunWrap}
 use Rattle.book_model.specs.declared.sun_tables.TheConstants.{ABERRATION, DEGREE_OF_YEAR, MEAN_ABERRATION, NODE_NUTATION, OBLIQUITY, SOLAR_NUTATION, SUN_AT_2000, SUN_RATE, SUN_WAVES}
-use Rattle.book_model.specs.Expressions.{Expression, integer, constant, add, subtract, scale, minimum, cosine, remainder}
+use Rattle.book_model.specs.Bisection.{invert_of}
+use Rattle.book_model.specs.Expressions.{Expression, integer, constant, add, subtract, scale, minimum, maximum, cosine, remainder}
 use Rattle.book_model.specs.Fractions.{fraction_of, ten_millionths}
 use Rattle.book_model.specs.Polynomials.{cubic_of, angle_of_wave, quadratic_wave_of, waves_of}
 use Rattle.book_model.specs.Programs.{Program, answer, cell, bind, multiples}
@@ -64,3 +66,19 @@ estimate_of l x =
     bind (past_of l x) λ p.
     bind (off_of l (back_by p x)) λ o.
     answer (minimum x (back_by o (back_by p x)))
+
+-- how far the sun is before the longitude l, from 0 up to 360
+unfoldable pub sun_short_of : (l x : Expression) → Program Expression
+sun_short_of l x = bind (sun_of x) λ s. reduced_of (subtract l s)
+
+-- the moment x and the time in which the mean sun moves on by p
+unfoldable pub forward_by : (p x : Expression) → Expression
+forward_by p x = add x (scale (fraction_of DEGREE_OF_YEAR) p)
+
+-- when the sun is at a longitude: from five days before a moment to five days after it, but not before the moment x
+unfoldable pub sun_about_of : (l x about : Expression) → Program Expression
+sun_about_of l x t = invert_of sun_of l (maximum x (subtract t (integer (pos 5)))) (add t (integer (pos 5)))
+
+-- when the sun is next at the longitude l, at or after a moment of universal time
+unfoldable pub sun_from_of : (l x : Expression) → Program Expression
+sun_from_of l x = bind (sun_short_of l x) λ p. sun_about_of l x (forward_by p x)

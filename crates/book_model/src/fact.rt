@@ -2,7 +2,7 @@
 ghost use Rattle.std.specs.Prelude.{◌≡◌, ◌↔◌, ◌<◌, ℤ, ◌≤ℤ◌, length, map, IfSome, IsSome};
 ghost use Rattle.book_model.specs.declared.fact.TheConstants.{KINDS, PLACES};
 
-use crate::names::{first_named, first_row_named};
+use crate::names::{first_named, first_row_named, list_at, name_at};
 
 /// A kind of astronomical fact.
 #[derive(Clone, Copy, Debug, PartialEq, Eq, Hash)]
@@ -15,6 +15,8 @@ pub enum Kind {
     NewMoonBefore,
     NewMoonFrom,
     Major,
+    MajorTerm,
+    MinorTerm,
     Phasis,
     Sign,
     SolarYear,
@@ -50,7 +52,7 @@ pub struct Fact {
 
 /// Each kind of fact with its printed name and the places that it is asked of, in the order of the variants.
 #[rattlefmt::skip]
-pub const KINDS: [(Kind, &str, &[Place]); 21] = [
+pub const KINDS: [(Kind, &str, &[Place]); 23] = [
     (Kind::Dt, "dt", &[Place::None]),
     (Kind::Sun, "sun", &[Place::None]),
     (Kind::Nowruz, "nowruz", &[Place::None]),
@@ -59,6 +61,8 @@ pub const KINDS: [(Kind, &str, &[Place]); 21] = [
     (Kind::NewMoonBefore, "new-moon-before", &[Place::Beijing]),
     (Kind::NewMoonFrom, "new-moon-from", &[Place::Beijing]),
     (Kind::Major, "major", &[Place::Beijing]),
+    (Kind::MajorTerm, "major-term", &[Place::Beijing]),
+    (Kind::MinorTerm, "minor-term", &[Place::Beijing]),
     (Kind::Phasis, "phasis", &[Place::Cairo]),
     (Kind::Sign, "sign", &[Place::None]),
     (Kind::SolarYear, "solar-year", &[Place::None]),
@@ -111,11 +115,10 @@ impl Kind {
     }
 
     /// The word for the kind in a printed line.
-    #[tactic(auto, unfolding(crate::specs::Names::kind_name))]
     pub fn name(self) -> &'static str
         ensures { result.now ≡ kind_name self }
     {
-        KINDS[self.number()].1
+        name_at(&KINDS, self.number())
     }
 
     /// The kind with this name, if there is one.
@@ -130,7 +133,7 @@ impl Kind {
     pub fn places(self) -> &'static [Place]
         ensures { result.now ≡ places_of self }
     {
-        KINDS[self.number()].2
+        list_at(&KINDS, self.number())
     }
 
     /// Whether facts of this kind are asked of this place.

@@ -1,5 +1,5 @@
 //! Values that are looked up by their names.
-ghost use Rattle.std.specs.Prelude.{◌≡◌, map};
+ghost use Rattle.std.specs.Prelude.{◌≡◌, ◌<◌, [], length, map, slice_index_or};
 ghost use Rattle.book_model.specs.Names.{first_named as first_of};
 
 /// The first value of the rows that has this name.
@@ -26,4 +26,20 @@ pub(crate) fn first_row_named<T: Copy, W>(mut rows: &[(T, &str, W)], word: &[u8]
         rows = rest;
     }
     None
+}
+
+/// The name in the row at a place.
+pub(crate) fn name_at<T, W>(rows: &[(T, &'static str, W)], place: usize) -> &'static str
+    requires within { place < length rows.now }
+    ensures { result.now ≡ slice_index_or (map (λ row. row.1.now) rows.now) place [] }
+{
+    rows[place].1
+}
+
+/// The list in the row at a place.
+pub(crate) fn list_at<T, N, U>(rows: &[(T, N, &'static [U])], place: usize) -> &'static [U]
+    requires within { place < length rows.now }
+    ensures { result.now ≡ slice_index_or (map (λ row. row.2.now) rows.now) place [] }
+{
+    rows[place].2
 }

@@ -2,11 +2,11 @@
 //! definitions read the tables too.
 ghost use Rattle.std.specs.Prelude.{◌≡◌};
 
-use crate::names::first_row_named;
+use crate::names::{first_row_named, name_at};
 use crate::{Calendar, Kind, Place};
 
 /// A word for what a line's date names: the day of a Gregorian date, of a day number of the book (R.D.), of a Persian, a Bahá'í, a
-/// Chinese, an Islamic, a Hindu solar or a Hindu lunar date, or the day on which the moon was last new, at its first quarter, full or at its last quarter.
+/// Chinese, an Islamic, a Hindu solar or a Hindu lunar date, the day of the next minor or major solar term, or the day on which the moon was last new, at its first quarter, full or at its last quarter.
 #[derive(Clone, Copy, Debug, PartialEq, Eq)]
 pub enum FromWord {
     Gregorian,
@@ -17,6 +17,8 @@ pub enum FromWord {
     Islamic,
     HinduSolar,
     HinduLunar,
+    MinorTerm,
+    MajorTerm,
     NewMoon,
     FirstQuarter,
     FullMoon,
@@ -59,7 +61,7 @@ pub enum Shown {
 
 /// The words that stand before a date, in the order of their values, with what they name by the date.
 #[rattlefmt::skip]
-pub const FROM_WORDS: [(FromWord, &str, Named); 12] = [
+pub const FROM_WORDS: [(FromWord, &str, Named); 14] = [
     (FromWord::Gregorian, "gregorian", Named::Date(Calendar::Gregorian)),
     (FromWord::Fixed, "fixed", Named::Date(Calendar::Fixed)),
     (FromWord::Persian, "persian", Named::Date(Calendar::Persian)),
@@ -68,6 +70,8 @@ pub const FROM_WORDS: [(FromWord, &str, Named); 12] = [
     (FromWord::Islamic, "islamic", Named::Date(Calendar::Islamic)),
     (FromWord::HinduSolar, "hindu-solar", Named::Date(Calendar::HinduSolar)),
     (FromWord::HinduLunar, "hindu-lunar", Named::Date(Calendar::HinduLunar)),
+    (FromWord::MinorTerm, "minor-term", Named::Value(Kind::MinorTerm, Place::Beijing)),
+    (FromWord::MajorTerm, "major-term", Named::Value(Kind::MajorTerm, Place::Beijing)),
     (FromWord::NewMoon, "new-moon", Named::Value(Kind::NewMoon, Place::None)),
     (FromWord::FirstQuarter, "first-quarter", Named::Value(Kind::FirstQuarter, Place::None)),
     (FromWord::FullMoon, "full-moon", Named::Value(Kind::FullMoon, Place::None)),
@@ -93,13 +97,20 @@ pub const TO_WORDS: [(ToWord, &str, Shown); 13] = [
 ];
 
 impl FromWord {
-    ghost use Rattle.book_model.specs.Words.{from_word_of, named_by, calendar_of};
+    ghost use Rattle.book_model.specs.Words.{from_word_of, text_of_from, named_by, calendar_of};
 
     /// What a word before a date stands for, if it is one.
     pub fn named(word: &[u8]) -> Option<FromWord>
         ensures word { result ≡ from_word_of word.now }
     {
         first_row_named(&FROM_WORDS, word)
+    }
+
+    /// The word as it stands in a line.
+    pub fn name(self) -> &'static str
+        ensures name { result.now ≡ text_of_from self }
+    {
+        name_at(&FROM_WORDS, self as usize)
     }
 
     /// What the word names by the date that follows it.
@@ -121,13 +132,20 @@ impl FromWord {
 }
 
 impl ToWord {
-    ghost use Rattle.book_model.specs.Words.{to_word_of, shown_by};
+    ghost use Rattle.book_model.specs.Words.{to_word_of, text_of_to, shown_by};
 
     /// What a word after a date asks for, if it is one.
     pub fn named(word: &[u8]) -> Option<ToWord>
         ensures word { result ≡ to_word_of word.now }
     {
         first_row_named(&TO_WORDS, word)
+    }
+
+    /// The word as it stands in a line.
+    pub fn name(self) -> &'static str
+        ensures name { result.now ≡ text_of_to self }
+    {
+        name_at(&TO_WORDS, self as usize)
     }
 
     /// What the word shows of a day.

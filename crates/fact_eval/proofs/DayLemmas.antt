@@ -1,28 +1,21 @@
 -- What the year of a whole day says of the sun's longitude, and the values of facts.
-use Rattle.std.specs.Prelude.{◌≡◌, ℕ, ◌-◌, ◌*◌, ◌^◌, ◌≤◌, nat_lt, true, ℤ, pos, ◌*ℤ◌, unsigned_abs, Some, Result, Ok, Err, IfOk, FitsSigned, refl}
-use Rattle.std.proofs.Common.{arith, subst}
+use Rattle.std.specs.Prelude.{ℕ, ◌≤◌, ℤ, Result, Ok, Err, IfOk}
+use Rattle.std.proofs.Common.{arith}
 use Rattle.std.proofs.lemmas.Int.{ints}
-use Rattle.std.specs.Int.{w64}
-use Rattle.std.specs.Ordering.{int_eq}
-use Rattle.std.proofs.lemmas.Bool.Decides.{Decides-int_eq, Decides-ltb}
-use Rattle.exact_math.specs.Fraction.{floor}
-use Rattle.exact_math.specs.Interval.{Interval, everything, between}
-use Rattle.exact_math.proofs.Floors.{floor_mono, floor_quotient_is}
+use Rattle.exact_math.specs.Interval.{Interval}
 use Rattle.book_model.specs.declared.fail.Fail.{Fail}
 use Rattle.book_model.specs.declared.fail.Fail.TheVariants.{Undecided as undecided_at, Void}
 use Rattle.book_model.specs.declared.site.Site.TheVariants.{Round}
 use Rattle.book_model.specs.declared.fact.Kind.TheVariants.{Sun}
-use Rattle.book_model.specs.Bounds.{Reach, IsNarrow, unbounded, bounded, at_32, bound_of, integer_bound, limits_of}
+use Rattle.book_model.specs.Bounds.{Reach, limits_of}
 use Rattle.book_model.specs.Calendar.{year_of_day}
 use Rattle.book_model.specs.Expressions.{World, integer}
 use Rattle.book_model.specs.Facts.{IsFactValue, IsValueDay, at_depth}
 use Rattle.book_model.specs.Kinds.{dt_of, sun_in_thousandths_of}
-use Rattle.book_model.specs.Leading.{Exact, Leads, IsOpenCell, between_cells, too_far}
-use Rattle.book_model.specs.Programs.{years, cell_at, cell_of}
-use Rattle.book_model.specs.Relations.{Narrow, Keeps}
+use Rattle.book_model.specs.Leading.{Exact, Leads}
+use Rattle.book_model.specs.Relations.{Narrow}
 use Rattle.book_model.proofs.CorrectionValues.{dt_value, year_from, year_to}
 use Rattle.book_model.proofs.FactRuns.{sun_value}
-use Rattle.book_model.proofs.Implying.{limits_within}
 use Rattle.book_model.proofs.Leads.{leads_value}
 use Rattle.encl_core.specs.Steps.{IsOpenFloor}
 use Rattle.time_scales.specs.Steps.{IsYearOpenFor, IsNotOfYear}

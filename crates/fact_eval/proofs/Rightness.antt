@@ -4,7 +4,7 @@ use Rattle.std.proofs.Common.{arith, ◌⊎◌, inl, inr}
 use Rattle.std.proofs.lemmas.Int.{ints}
 use Rattle.book_model.specs.declared.fact.Fact.{Fact}
 use Rattle.book_model.specs.declared.fact.Kind.{Kind}
-use Rattle.book_model.specs.declared.fact.Kind.TheVariants.{Dt, Nowruz, BahaiYear, Solstice, NewMoonBefore, NewMoonFrom, Major, Phasis, Sign, SolarYear, Sankranti, Tithi, SignBefore, SignAfter, CalendarYear, NewMoon, FirstQuarter, FullMoon, LastQuarter, Sunset}
+use Rattle.book_model.specs.declared.fact.Kind.TheVariants.{Dt, Nowruz, BahaiYear, Solstice, NewMoonBefore, NewMoonFrom, Major, MajorTerm, MinorTerm, Phasis, Sign, SolarYear, Sankranti, Tithi, SignBefore, SignAfter, CalendarYear, NewMoon, FirstQuarter, FullMoon, LastQuarter, Sunset}
 use Rattle.book_model.specs.declared.fact.TheConstants.{FIRST_DAY, LAST_DAY}
 use Rattle.book_model.specs.declared.site.Site.TheVariants.{Year}
 use Rattle.book_model.specs.declared.fail.Fail.{Fail}
@@ -64,6 +64,12 @@ new_moon_from_keeps y r = nothing_promised NewMoonFrom y r (λ w. w) (λ e. absu
 pub major_keeps : (y : ℤ) (r : Result ℤ Fail) → IfErr r (IsNearFor Major y)
 major_keeps y r = nothing_promised Major y r (λ w. w) (λ e. absurd (cc))
 
+pub major_term_keeps : (y : ℤ) (r : Result ℤ Fail) → IfErr r (IsNearFor MajorTerm y)
+major_term_keeps y r = nothing_promised MajorTerm y r (λ w. w) (λ e. absurd (cc))
+
+pub minor_term_keeps : (y : ℤ) (r : Result ℤ Fail) → IfErr r (IsNearFor MinorTerm y)
+minor_term_keeps y r = nothing_promised MinorTerm y r (λ w. w) (λ e. absurd (cc))
+
 pub sunset_keeps : (y : ℤ) (r : Result ℤ Fail) → IfErr r (IsNearFor Sunset y)
 sunset_keeps y r = nothing_promised Sunset y r (λ w. w) (λ e. absurd (cc))
 
@@ -113,7 +119,7 @@ last_quarter_keeps y r h = of_whole_days LastQuarter y r (λ e. absurd (cc)) h
 pub calendar_year_keeps : (y : ℤ) (r : Result ℤ Fail) → IfErr r IsNoEarlyYear → IfErr r (IsNearFor CalendarYear y)
 calendar_year_keeps y r h = of_whole_days CalendarYear y r (λ e. absurd (cc)) h
 
-pub ruleset keeping = (sign_keeps, solar_year_keeps, sankranti_keeps, tithi_keeps, sign_before_keeps, sign_after_keeps, phasis_keeps, calendar_year_keeps, new_moon_keeps, first_quarter_keeps, full_moon_keeps, last_quarter_keeps)
+pub ruleset keeping = (major_term_keeps, minor_term_keeps, sign_keeps, solar_year_keeps, sankranti_keeps, tithi_keeps, sign_before_keeps, sign_after_keeps, phasis_keeps, calendar_year_keeps, new_moon_keeps, first_quarter_keeps, full_moon_keeps, last_quarter_keeps)
 
 -- the day of a phase is a value that a fact may have
 pub phase_day_is_value : (r : Result ℤ Fail) → IfOk r IsPhaseDay → IfOk r IsFactValue

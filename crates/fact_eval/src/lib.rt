@@ -1,12 +1,13 @@
 //! Answers facts by computing enclosures of their formulas.
 #![tactic(auto)]
 
+mod beijing;
 mod dt;
 mod major;
-mod midnight;
 mod moon_days;
 mod nowruz;
 mod quarters;
+mod solar_terms;
 mod solstice;
 mod spring;
 mod staged;

@@ -10,7 +10,7 @@ ghost use Rattle.book_model.specs.Programs.{AtMost};
 ghost use Rattle.book_model.specs.declared.fact.Kind.TheVariants.{Major};
 ghost use Rattle.fact_eval.specs.Widths.{IsNearFor};
 
-use crate::midnight::longitude_at_midnight;
+use crate::beijing::longitude_at_midnight;
 use book_model::{DEGREE_IN_TERMS, Fail, Site};
 use calendar_math::amod;
 use encl_core::{Enclosure, Trail, floor_step};

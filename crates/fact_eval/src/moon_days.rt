@@ -1,33 +1,20 @@
 //! The new moons before and from a day, by the time of Beijing.
 ghost use Rattle.std.specs.Prelude.{◌≡◌, ◌≤◌, ◌+◌, IfOk, IfErr};
 ghost use Rattle.book_model.specs.Calendar.{year_of_day};
-ghost use Rattle.book_model.specs.Expressions.{Expression, World};
+ghost use Rattle.book_model.specs.Expressions.{World};
 ghost use Rattle.book_model.specs.Facts.{IsFactValue, IsValueDay};
-ghost use Rattle.book_model.specs.Kinds.{day_in_beijing_of, new_moon_before_of, new_moon_from_of};
-ghost use Rattle.book_model.specs.Leading.{Exact, Leads, next_turn};
+ghost use Rattle.book_model.specs.Kinds.{new_moon_before_of, new_moon_from_of};
+ghost use Rattle.book_model.specs.Leading.{Exact, Leads};
 ghost use Rattle.book_model.specs.Programs.{AtMost};
-ghost use Rattle.book_model.specs.Relations.{Within};
-ghost use Rattle.book_model.specs.Time.{midnight_of, in_beijing_of};
 ghost use Rattle.book_model.specs.declared.fact.Kind.TheVariants.{NewMoonBefore, NewMoonFrom};
 ghost use Rattle.fact_eval.specs.Widths.{IsNearFor};
 ghost use Rattle.book_model.specs.Depth.{DEPTH};
 
-use book_model::{Fail, Site};
-use encl_core::{Enclosure, Trail, floor_step};
+use crate::beijing::day_in_beijing;
+use book_model::Fail;
+use encl_core::{Enclosure, Trail};
 use moon_core::{moon_before, moon_from};
-use time_scales::{in_beijing, midnight};
-
-/// The day (R.D.) of a moment of universal time in Beijing: two tests at most.
-#[tactic(auto, using(book_model::proofs::Leads::leading), unfolding(book_model::specs::Kinds::day_in_beijing_of, book_model::specs::Leading::next_turn))]
-fn day_in_beijing<E: Enclosure>(t: E, trail: &mut Trail) -> Result<i64, Fail>
-    ensures leads { (w : World) (x : Expression) → Within E.shown w x t → Leads w Exact (day_in_beijing_of x) trail.old.count trail.new.count result }
-    ensures counted { trail.new.count ≤ trail.old.count + 2 }
-{
-    match in_beijing(t, trail) {
-        Ok(moment) => floor_step(moment, Site::DayFloor, trail),
-        Err(fail) => Err(fail),
-    }
-}
+use time_scales::midnight;
 
 /// The day (R.D.) in Beijing of the last new moon before midnight at the beginning of a day there.
 #[tactic(auto, using(book_model::proofs::Leads::leading), unfolding(book_model::specs::Kinds::new_moon_before_of))]

@@ -11,7 +11,7 @@ ghost use Rattle.book_model.specs.Relations.{Within};
 ghost use Rattle.book_model.specs.declared.fact.Kind.TheVariants.{Solstice};
 ghost use Rattle.fact_eval.specs.Widths.{IsNearFor};
 
-use crate::midnight::longitude_at_midnight;
+use crate::beijing::longitude_at_midnight;
 use book_model::{Fail, Site};
 use encl_core::{DayTest, Enclosure, Trail, first_day, floor_step, less_step};
 use sun_core::estimate;

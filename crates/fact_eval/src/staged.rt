@@ -16,6 +16,7 @@ use crate::major::major;
 use crate::moon_days::{new_moon_before, new_moon_from};
 use crate::nowruz::nowruz;
 use crate::quarters::{phase_day, phasis};
+use crate::solar_terms::term_day;
 use crate::solstice::solstice;
 use crate::sun::sun_in_thousandths;
 use crate::sunsets::{bahai_year, sunset_in_minutes};
@@ -55,6 +56,8 @@ fn formula<E: Enclosure>(kind: Kind, place: Place, day: i64, trail: &mut Trail) 
         Kind::NewMoonBefore => new_moon_before::<E>(day, trail),
         Kind::NewMoonFrom => new_moon_from::<E>(day, trail),
         Kind::Major => major::<E>(day, trail),
+        Kind::MajorTerm => term_day::<E>(0, day, trail),
+        Kind::MinorTerm => term_day::<E>(15, day, trail),
         Kind::Phasis => phasis::<E>(place, day, trail),
         Kind::Sign => sign_at_sunset::<E>(day, trail),
         Kind::SolarYear => solar_year::<E>(day, trail),

@@ -117,6 +117,12 @@ fn solstices_and_terms_are_those_of_the_reference(rt: HostRuntime) -> Result<(),
         (Kind::Major, 742_529, 11),
         (Kind::Major, 742_558, 11),
         (Kind::Major, 748_382, 11),
+        (Kind::MajorTerm, 738_886, 738_905),
+        (Kind::MajorTerm, 738_977, 738_995),
+        (Kind::MajorTerm, 739_221, 739_241),
+        (Kind::MinorTerm, 738_886, 738_891),
+        (Kind::MinorTerm, 738_977, 738_980),
+        (Kind::MinorTerm, 739_221, 739_226),
     ] {
         let fact = Fact::new(kind, Place::Beijing, day).ok_or("no fact")?;
         assert_eq!(rt; staged.eval(fact), Answer::Value(value), "day {day}");

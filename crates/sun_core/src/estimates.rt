@@ -15,7 +15,7 @@ const HALF_TURN: i64 = 180;
 
 /// An angle, reduced to 0 up to 360 degrees: one test, at `step-wrap`.
 #[tactic(auto, using(book_model::proofs::Leads::leading), unfolding(book_model::specs::Sun::reduced_of))]
-fn reduced<E: Enclosure>(angle: E, trail: &mut Trail) -> Result<E, Fail>
+pub(crate) fn reduced<E: Enclosure>(angle: E, trail: &mut Trail) -> Result<E, Fail>
     ensures leads { (w : World) (x : Expression) → Within E.shown w x angle → Leads w (Within E.shown w) (reduced_of x) trail.old.count trail.new.count result }
     ensures counted { trail.new.count ≡ next_turn trail.old.count }
 {

@@ -8,7 +8,7 @@
 //! - `equation_of_time`: what apparent time, which sundials show, is ahead of mean time;
 //! - `from_apparent`: from apparent to local mean time;
 //! - `noon`: true noon at Tehran, which decides the first day of a Persian year;
-//! - `estimate`: about when the sun was last at a longitude;
+//! - `estimate`: about when the sun was last at a longitude; `sun_from`: when it is next at one;
 //! - `precession`: how far the equinox has moved among the stars; `sidereal_sun`: the longitude of the sun among them.
 #![tactic(auto)]
 
@@ -18,6 +18,7 @@ mod ecliptic;
 mod equation;
 mod estimates;
 mod longitude;
+mod passages;
 mod stars;
 #[cfg(test)]
 mod tests;
@@ -29,5 +30,6 @@ pub use ecliptic::obliquity;
 pub use equation::equation_of_time;
 pub use estimates::estimate;
 pub use longitude::{nutation, sun};
+pub use passages::sun_from;
 pub use stars::{precession, sidereal_sun};
 pub use waves::{sine_wave, wave_angle};

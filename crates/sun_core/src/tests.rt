@@ -1,6 +1,7 @@
 //! What no clause says: values from an independent implementation of the formulas, and how narrow the answers are.
 use crate::{
     equation_of_time, estimate, from_apparent, noon, obliquity, precession, sidereal_sun, sun,
+    sun_from,
 };
 use book_model::{Fail as FormulaFail, Frac, Site};
 use encl_core::{Coarse, Enclosure, Trail};
@@ -242,6 +243,38 @@ fn estimates_are_those_of_the_reference(rt: HostRuntime) -> Result<(), Fail> {
         );
         assert_eq!(rt; trail.count(), 6);
     }
+    Ok(())
+}
+
+#[test]
+fn passages_are_those_of_the_reference(rt: HostRuntime) -> Result<(), Fail> {
+    for (longitude, num, den, moment) in [
+        (0, 738_886, 1, 53_248_049_291_533_863_605_986),
+        (15, 738_886, 1, 53_249_141_957_652_561_656_728),
+        (270, 738_886, 1, 53_267_955_899_058_278_001_583),
+        (90, 657_802, 1, 47_412_040_156_881_442_340_307),
+        (345, 657_900, 1, 47_430_578_191_079_639_571_516),
+        (180, 748_000, 1, 53_919_441_733_637_282_677_849),
+        (45, 700_000, 1, 50_461_598_748_889_741_685_724),
+        (300, 1_440_001, 2, 51_901_514_133_210_704_131_722),
+        (105, 2_956_001, 4, 53_255_865_236_163_670_497_260),
+    ] {
+        let found = sun_from(
+            Coarse::from_int(longitude),
+            fraction(num, den)?,
+            &mut Trail::new(),
+        );
+        assert!(rt;
+            is_near(found, moment, 400),
+            "{longitude} from {num} / {den}"
+        );
+    }
+    let late = sun_from(
+        Coarse::from_int(0),
+        fraction(748_300, 1)?,
+        &mut Trail::new(),
+    );
+    assert!(rt; matches!(late, Err(FormulaFail::Void(Site::Year))));
     Ok(())
 }
 

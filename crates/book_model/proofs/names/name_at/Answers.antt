@@ -1,0 +1,6 @@
+use Rattle.std.specs.Prelude.{[]}
+use Rattle.book_model.proofs.Rows.{at_row}
+use Rattle.book_model.proofs.names.name_at.Goals as goal
+
+pub returns : goal.returns
+returns g c = at_row c.args.rows.now (λ row. row.1.now) c.args.place _ [] c.requires.within
