@@ -131,8 +131,9 @@ fn write_dashed<K: Sink>(sink: &mut K, date: &Fields) -> Result<(), Failed>
 }
 
 /// Writes a date of a calendar: a Gregorian date with four, two and two digits, a date of another calendar with dashes
-/// between its fields.
-fn write_date<K: Sink>(sink: &mut K, calendar: Calendar, date: &Fields) -> Result<(), Failed>
+/// between its fields. At an error, which comes only where the count of the sink's faults rose, a front of it was
+/// written.
+pub fn write_date<K: Sink>(sink: &mut K, calendar: Calendar, date: &Fields) -> Result<(), Failed>
     ensures ok { OnOk result (Appends (K.written sink.old) (K.written sink.new) (spec.date_text calendar date.now)) }
     ensures err { OnErr result (AppendsFront (K.written sink.old) (K.written sink.new) (spec.date_text calendar date.now)) }
     ensures cause { HasCause (K.faults sink.old) (K.faults sink.new) result }

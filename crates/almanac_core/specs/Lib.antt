@@ -1,0 +1,2 @@
+pub mod Almanac
+pub mod Sample

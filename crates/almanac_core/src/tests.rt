@@ -1,0 +1,59 @@
+//! What no clause says: lines of an almanac and of a sample as they are given elsewhere.
+use super::*;
+use book_model::{Fields, FromWord, Request, ToWord};
+use std::test::Fail;
+
+fn request(from: FromWord, count: u8, values: [i32; 5], to: ToWord) -> Request {
+    Request {
+        from,
+        date: Fields { count, values },
+        to,
+    }
+}
+
+#[test]
+fn the_almanac_of_2024(rt: HostRuntime) -> Result<(), Fail> {
+    let day = ToWord::Gregorian;
+    assert_eq!(rt;
+        almanac_line(2024, 1),
+        request(FromWord::Chinese, 5, [78, 41, 1, 0, 1], day)
+    );
+    assert_eq!(rt;
+        almanac_line(2024, 2),
+        request(FromWord::Chinese, 5, [78, 41, 5, 0, 5], day)
+    );
+    assert_eq!(rt;
+        almanac_line(2024, 5),
+        request(FromWord::Bahai, 5, [1, 10, 10, 1, 1], day)
+    );
+    assert_eq!(rt;
+        almanac_line(2024, 7),
+        request(FromWord::HinduLunar, 5, [2081, 1, 0, 1, 0], day)
+    );
+    assert_eq!(rt;
+        almanac_line(2024, 8),
+        request(FromWord::Islamic, 3, [1445, 6, 1, 0, 0], day)
+    );
+    assert_eq!(rt;
+        almanac_line(2024, 20),
+        request(FromWord::Islamic, 3, [1446, 6, 1, 0, 0], day)
+    );
+    assert_eq!(rt;
+        almanac_line(2024, 44),
+        request(FromWord::MajorTerm, 3, [2024, 12, 15, 0, 0], day)
+    );
+    assert_eq!(rt;
+        almanac_line(2024, 92),
+        request(FromWord::LastQuarter, 3, [2024, 12, 28, 0, 0], day)
+    );
+    assert_eq!(rt;
+        almanac_line(2024, 104),
+        request(
+            FromWord::Gregorian,
+            3,
+            [2024, 12, 1, 0, 0],
+            ToWord::SunsetCairo
+        )
+    );
+    Ok(())
+}

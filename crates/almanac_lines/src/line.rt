@@ -1,0 +1,43 @@
+//! The text of one line.
+ghost use Rattle.std.specs.Prelude.{◌≡◌, codes, OnOk, IfOk};
+ghost use Rattle.std.specs.Io.KnownBytes.{Appends};
+ghost use Rattle.almanac_lines.specs.Texts as spec;
+ghost use Rattle.byte_streams.specs.Stream.{HasCause, AppendsFront};
+ghost use Rattle.book_model.specs.Text.{date_text};
+ghost use Rattle.book_model.specs.Words.{calendar_of};
+
+use book_model::Request;
+use byte_streams::{Failed, Gathered, Sink, write_all, write_parts};
+use cert_text::{Word, write_date};
+use std::alloc::{AllocError, Global};
+
+/// The date of a request as a word.
+fn date_of(alloc: Global, request: &Request) -> Result<Word, AllocError>
+    ensures date { IfOk result (λ w. w ≡ date_text (calendar_of request.now.from) request.now.date) }
+{
+    let mut gathered = Gathered::new(alloc);
+    match write_date(&mut gathered, request.from.calendar(), &request.date) {
+        Ok(()) => Word::of(alloc, gathered.bytes()),
+        Err(_) => Err(AllocError),
+    }
+}
+
+/// The line of a request. The error comes where memory runs out.
+#[tactic(auto, unfolding(crate::specs::Texts::line_text))]
+pub(crate) fn line_of(alloc: Global, request: &Request) -> Result<Word, AllocError>
+    ensures line { IfOk result (λ w. w ≡ spec.line_text request.now) }
+{
+    let date = date_of(alloc, request)?;
+    let mut gathered = Gathered::new(alloc);
+    let parts = [
+        request.from.name().as_bytes(),
+        b" ",
+        date.bytes(),
+        b" ",
+        request.to.name().as_bytes(),
+    ];
+    match write_parts(&mut gathered, &parts) {
+        Ok(()) => Word::of(alloc, gathered.bytes()),
+        Err(_) => Err(AllocError),
+    }
+}
