@@ -1,0 +1,97 @@
+-- What the program is told to do by its words.
+use Rattle.std.specs.Prelude.{ℕ, ◌+◌, ◌-◌, ◌*◌, ◌^◌, ◌≤◌, ◌&&◌, nat_le, if◌then◌else◌, Bool, true, false, List, [], ◌∷◌, length, codes, Option, Some, None, is_some, option_map, option_and_then}
+use Rattle.std.specs.Str.{all_ascii_digits, bytes_eq}
+use Rattle.clap.specs.Walk.{Row, Rule, first_of, is_empty}
+use Rattle.clap.specs.Simple.{App, matches_of, new_app, new_rule, on_top, with_rule}
+use Rattle.clap.specs.Faults.{fault_of}
+use Rattle.clap.specs.declared.builder.action.ArgAction.TheVariants.{Set}
+use Rattle.command_words.specs.declared.command.Command.{Command}
+use Rattle.command_words.specs.declared.command.Command.TheVariants.{Convert, Check, Almanac, Sample}
+
+-- ---- the command by which clap reads the words
+
+-- an argument that its place among the words tells
+abbrev pub placed : List ℕ → Bool → Rule
+placed id required = record (new_rule id) { action = Some Set; required = required }
+
+-- the option --jobs, which has the value 1 where it isn't given
+abbrev pub jobs : Rule
+jobs = record (new_rule (codes "jobs")) { long = Some (codes "jobs"); action = Some Set; defaults = codes "1" ∷ [] }
+
+-- the command with no argument yet: the words come without the program's name, and --help is no flag
+abbrev pub bare : App
+bare = on_top (λ s. record s { no_binary_name = true; disable_help_flag = true }) (new_app (codes "calendrica"))
+
+-- COMMAND, which has to be there, then A, then B, and the option --jobs
+abbrev pub program : App
+program = with_rule (with_rule (with_rule (with_rule bare (placed (codes "command") true)) (placed (codes "a") false)) (placed (codes "b") false)) jobs
+
+-- clap finds no fault in the words
+abbrev pub is_accepted : List (List ℕ) → Bool
+is_accepted words = is_empty (fault_of program words)
+
+-- ---- numbers
+
+-- one to twenty decimal digits and nothing else
+abbrev pub is_number : List ℕ → Bool
+is_number word = (nat_le 1 (length word) && nat_le (length word) 20) && all_ascii_digits word
+
+-- what decimal digits are worth, each by its place
+abbrev pub worth : List ℕ → ℕ
+worth [] = 0
+worth (b ∷ bs) = (b - 48) * 10 ^ length bs + worth bs
+
+-- the number that one to twenty decimal digits spell
+abbrev pub number_word : List ℕ → Option ℕ
+number_word word = if is_number word then Some (worth word) else None
+
+-- a number that lies from low to high
+abbrev pub between : ℕ → ℕ → Option ℕ → Option ℕ
+between low high None = None
+between low high (Some n) = if nat_le low n && nat_le n high then Some n else None
+
+-- ---- the table
+
+-- `convert` or `check`, with nothing behind it
+abbrev pub lone_command : List ℕ → Option Command
+lone_command name = if bytes_eq name (codes "convert") then Some Convert else (if bytes_eq name (codes "check") then Some Check else None)
+
+-- `almanac` with a year from 1803 to 2047
+abbrev pub year_command : List ℕ → List ℕ → Option Command
+year_command name year = if bytes_eq name (codes "almanac") then option_map (λ y. Almanac y) (between 1803 2047 (number_word year)) else None
+
+-- `sample` with a count from 1 to 100,000 and a seed of 64 bits
+abbrev pub sample_command : List ℕ → List ℕ → List ℕ → Option Command
+sample_command name count seed = if bytes_eq name (codes "sample") then option_and_then (λ n. option_map (λ s. Sample n s) (between 0 18446744073709551615 (number_word seed))) (between 1 100000 (number_word count)) else None
+
+-- the command that COMMAND names, with A and B where they are there
+abbrev pub table : List ℕ → Option (List ℕ) → Option (List ℕ) → Option Command
+table name None None = lone_command name
+table name (Some year) None = year_command name year
+table name (Some count) (Some seed) = sample_command name count seed
+table name None (Some seed) = None
+
+-- the word is the number 1
+abbrev pub is_one : List ℕ → Bool
+is_one word = is_some (between 1 1 (number_word word))
+
+-- what the values of COMMAND, --jobs, A and B tell, where that of --jobs is the number 1
+abbrev pub told_by : Option (List ℕ) → Option (List ℕ) → Option (List ℕ) → Option (List ℕ) → Option Command
+told_by None value a b = None
+told_by (Some name) None a b = None
+told_by (Some name) (Some value) a b = if is_one value then table name a b else None
+
+-- what the first values that clap's reading found tell
+abbrev pub told : List Row → Option Command
+told rows = told_by (first_of (codes "command") rows) (first_of (codes "jobs") rows) (first_of (codes "a") rows) (first_of (codes "b") rows)
+
+-- what the words tell: words that clap accepts, by the table
+abbrev pub command_of : List (List ℕ) → Option Command
+command_of words = if is_accepted words then told (matches_of program words) else None
+
+-- the numbers of a command are in their ranges
+abbrev pub IsInRange : Command → Type 0
+IsInRange Convert = Unit {0}
+IsInRange Check = Unit {0}
+IsInRange (Almanac year) = (1803 ≤ year) × (year ≤ 2047)
+IsInRange (Sample count seed) = (1 ≤ count) × (count ≤ 100000)

@@ -1,0 +1,51 @@
+//! The command by which clap reads the words.
+ghost use Rattle.std.specs.Prelude.{◌≡◌, IfOk, false};
+ghost use Rattle.clap.specs.Words.{app_of, rule_of};
+ghost use Rattle.command_words.specs.Words as spec;
+
+use clap::{Arg, ArgAction, Command};
+use std::alloc::{AllocError, Global};
+
+/// An argument that its place among the words tells.
+fn placed<'a>(alloc: Global, id: &'a str, required: bool) -> Arg<'a>
+    ensures rule { rule_of result ≡ spec.placed id.entry.now required }
+    ensures local { result.global ≡ false }
+{
+    Arg::new(alloc, id)
+        .required(required)
+        .action(ArgAction::Set)
+}
+
+/// The option `--jobs`.
+fn jobs<'a>(alloc: Global) -> Arg<'a>
+    ensures rule { rule_of result ≡ spec.jobs }
+    ensures local { result.global ≡ false }
+{
+    Arg::new(alloc, "jobs")
+        .long("jobs")
+        .action(ArgAction::Set)
+        .default_value("1")
+}
+
+/// The command with no argument yet.
+fn bare<'a>(alloc: Global) -> Command<'a>
+    ensures app { app_of result ≡ spec.bare }
+{
+    Command::new(alloc, "calendrica")
+        .no_binary_name(true)
+        .disable_help_flag(true)
+}
+
+/// The command by which clap reads the words.
+pub(crate) fn program<'a>(alloc: Global) -> Result<Command<'a>, AllocError>
+    ensures app { IfOk result (λ p. app_of p ≡ spec.program) }
+{
+    let command = placed(alloc, "command", true);
+    let first = placed(alloc, "a", false);
+    let second = placed(alloc, "b", false);
+    bare(alloc)
+        .arg(command)?
+        .arg(first)?
+        .arg(second)?
+        .arg(jobs(alloc))
+}

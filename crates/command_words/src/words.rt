@@ -1,0 +1,126 @@
+//! The reading of the program's words.
+ghost use Rattle.std.specs.Prelude.{◌≡◌, IfOk, IsErrOf, map, option_map, string_bytes, None, Some, true, false};
+ghost use Rattle.clap.specs.Words.{found_of, kind_of, matches_of, rows_of};
+ghost use Rattle.command_words.specs.Words as spec;
+
+use crate::command::{Command, NoCommand};
+use crate::number::number_between;
+use crate::program::program;
+use clap::error::ErrorKind;
+use clap::{ArgMatches, Error};
+use std::alloc::Global;
+
+/// The command that a word names by itself.
+fn lone_command(name: &str) -> Option<Command>
+    ensures command { result ≡ spec.lone_command name.now }
+{
+    match name {
+        "convert" => Some(Command::Convert),
+        "check" => Some(Command::Check),
+        _ => None,
+    }
+}
+
+/// The command that a word names with a year behind it.
+fn year_command(name: &str, year: &str) -> Option<Command>
+    ensures command { result ≡ spec.year_command name.now year.now }
+{
+    if name != "almanac" {
+        return None;
+    }
+    let year = number_between(year, 1803, 2047)?;
+    Some(Command::Almanac { year: year as u32 })
+}
+
+/// The command that a word names with a count and a seed behind it.
+fn sample_command(name: &str, count: &str, seed: &str) -> Option<Command>
+    ensures command { result ≡ spec.sample_command name.now count.now seed.now }
+{
+    if name != "sample" {
+        return None;
+    }
+    let count = number_between(count, 1, 100_000)?;
+    let seed = number_between(seed, 0, u64::MAX)?;
+    Some(Command::Sample {
+        count: count as u32,
+        seed,
+    })
+}
+
+/// The command that a word names with what stands behind it, by the table.
+fn table(name: &str, first: Option<&str>, second: Option<&str>) -> Option<Command>
+    ensures command { result ≡ spec.table name.now (option_map (λ s. s.now) first.entry) (option_map (λ s. s.now) second.entry) }
+{
+    match (first, second) {
+        (None, None) => lone_command(name),
+        (Some(year), None) => year_command(name, year),
+        (Some(count), Some(seed)) => sample_command(name, count, seed),
+        (None, Some(_)) => None,
+    }
+}
+
+/// What the values of the arguments tell.
+fn told_by(
+    name: Option<&str>,
+    jobs: Option<&str>,
+    first: Option<&str>,
+    second: Option<&str>,
+) -> Option<Command>
+    ensures command { result ≡ spec.told_by (option_map (λ s. s.now) name.entry) (option_map (λ s. s.now) jobs.entry) (option_map (λ s. s.now) first.entry) (option_map (λ s. s.now) second.entry) }
+{
+    let name = name?;
+    let jobs = jobs?;
+    if number_between(jobs, 1, 1).is_none() {
+        return None;
+    }
+    table(name, first, second)
+}
+
+/// What clap's reading of the words tells.
+fn told(matches: &ArgMatches) -> Option<Command>
+    ensures command { result ≡ spec.told (rows_of (found_of matches.now)) }
+{
+    let name = matches.get_str("command");
+    let jobs = matches.get_str("jobs");
+    let first = matches.get_str("a");
+    let second = matches.get_str("b");
+    told_by(name, jobs, first, second)
+}
+
+/// Why clap read no words: memory ran out, or they aren't in the form.
+fn reason(error: &Error) -> NoCommand
+    ensures memory { result ≡ NoCommand.Form → kind_of error.now ≡ ErrorKind.OutOfMemory → ⊥ }
+{
+    match error.kind() {
+        ErrorKind::OutOfMemory => NoCommand::Memory,
+        _ => NoCommand::Form,
+    }
+}
+
+/// What clap finds in the words. `Form` comes where it finds a fault, and `Memory` where memory runs out.
+fn matches_in<'a>(alloc: Global, words: &'a [String]) -> Result<ArgMatches<'a>, NoCommand>
+    ensures accepted { IfOk result (λ m. spec.is_accepted (map string_bytes words.entry.now) ≡ true) }
+    ensures matches { IfOk result (λ m. rows_of (found_of m) ≡ matches_of spec.program (map string_bytes words.entry.now)) }
+    ensures form { IsErrOf result NoCommand.Form → spec.is_accepted (map string_bytes words.entry.now) ≡ false }
+{
+    let Ok(command) = program(alloc) else {
+        return Err(NoCommand::Memory);
+    };
+    match command.try_get_matches_from(words) {
+        Ok(matches) => Ok(matches),
+        Err(error) => Err(reason(&error)),
+    }
+}
+
+/// The command that the words name: `convert`, `check`, `almanac YEAR` or `sample COUNT SEED`, with `--jobs 1` or without
+/// it. The words come without the program's own name.
+///
+/// `Form` comes where the words name no command, and `Memory` where memory ran out before they were read.
+pub fn command_of(alloc: Global, words: &[String]) -> Result<Command, NoCommand>
+    ensures command { IfOk result (λ c. spec.command_of (map string_bytes words.now) ≡ Some c) }
+    ensures form { IsErrOf result NoCommand.Form → spec.command_of (map string_bytes words.now) ≡ None }
+    ensures ranges { IfOk result spec.IsInRange }
+{
+    let matches = matches_in(alloc, words)?;
+    told(&matches).ok_or(NoCommand::Form)
+}
