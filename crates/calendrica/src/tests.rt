@@ -3,7 +3,9 @@
 ghost use Rattle.std.specs.Prelude.{None};
 
 use fact_eval::Staged;
-use run_core::{Command, Failed, MemorySink, MemorySource, OpenGate, Sink, Source, Status, run};
+use run_core::{
+    Command, Failed, MemorySink, MemorySource, OpenGate, Sink, Source, Status, input_limit, run,
+};
 use std::alloc::Global;
 use std::test::Fail;
 use std::thread::Threads;
@@ -18,12 +20,18 @@ const ROW_TEXT: &str = "calendrica 1 depth 40\n\
 /// What `check` writes for `ROW_TEXT`.
 const COUNTS: &str = "yes 1\nend yes 1 no 0 skip 0\n";
 
-const USAGE: &str = "usage: calendrica convert | check\n";
+const USAGE: &str =
+    "usage: calendrica convert | check | almanac YEAR | sample COUNT SEED [--jobs N]\n";
 
-/// A list of one word.
-fn one_word(alloc: Global, word: &str) -> Result<Vec<String>, Fail> {
+/// What `sample 1 0` writes.
+const SAMPLE: &str = "sample 1 0 decided 1 undecided 0 void 0 refused 0 facts 1\n";
+
+/// Words between single spaces.
+fn words_in(alloc: Global, line: &str) -> Result<Vec<String>, Fail> {
     let mut words = Vec::new(alloc);
-    words.push(String::from_str(alloc, word)?)?;
+    for word in line.split(' ') {
+        words.push(String::from_str(alloc, word)?)?;
+    }
     Ok(words)
 }
 
@@ -124,7 +132,7 @@ fn other_words_are_answered_by_the_usage_line(rt: HostRuntime) -> Result<(), Fai
 #[test]
 fn a_failing_read_leaves_nothing_written(rt: HostRuntime) -> Result<(), Fail> {
     let alloc = rt.alloc();
-    let words = one_word(alloc, "convert")?;
+    let words = words_in(alloc, "convert")?;
     for (failing, status, text) in [
         (1u32, Status::ReadFault, ""),
         (2, Status::ReadFault, ""),
@@ -143,11 +151,11 @@ fn a_failing_read_leaves_nothing_written(rt: HostRuntime) -> Result<(), Fail> {
 fn run_with_room<R: Threads + Sync>(
     rt: &R,
     alloc: Global,
-    word: &str,
+    line: &str,
     input: &str,
     room: usize,
 ) -> Result<(Status, MemorySink), Fail> {
-    let words = one_word(alloc, word)?;
+    let words = words_in(alloc, line)?;
     let mut source = MemorySource::new(input.as_bytes().to_vec(alloc)?, Vec::new(alloc));
     let mut sink = MemorySink::new(alloc, room, Vec::new(alloc))?;
     let status = run_over(rt, alloc, &words, &mut source, &mut sink);
@@ -168,6 +176,9 @@ fn a_full_sink_keeps_a_front_of_the_text(rt: HostRuntime) -> Result<(), Fail> {
         ("check", &ROW_TEXT[..111], 28, Status::Done, COUNTS),
         ("check", ROW, 7, Status::WriteFault, "bad 1 1"),
         ("check", ROW, 8, Status::BadText, "bad 1 1\n"),
+        ("sample 1 0", "", 0, Status::WriteFault, ""),
+        ("sample 1 0", "", 57, Status::WriteFault, &SAMPLE[..57]),
+        ("sample 1 0", "", 58, Status::Done, SAMPLE),
     ] {
         let (got, sink) = run_with_room(&rt, alloc, word, input, room)?;
         assert_eq!(rt; got, status, "{word} with room for {room}");
@@ -181,9 +192,22 @@ fn a_full_sink_keeps_a_front_of_the_text(rt: HostRuntime) -> Result<(), Fail> {
 }
 
 #[test]
+fn an_almanac_is_written_without_reading(rt: HostRuntime) -> Result<(), Fail> {
+    let alloc = rt.alloc();
+    let words = words_in(alloc, "almanac 2024")?;
+    // The source would fail at its first call.
+    let mut source = MemorySource::new(Vec::new(alloc), vec![in alloc; 1u32]?);
+    let mut sink = MemorySink::new(alloc, 20_000, Vec::new(alloc))?;
+    let got = run_over(&rt, alloc, &words, &mut source, &mut sink);
+    assert_eq!(rt; got, Status::Done);
+    assert!(rt; sink.written().ends_with(b"end lines 104 facts 152\n"));
+    Ok(())
+}
+
+#[test]
 fn bytes_come_and_go_one_by_one(rt: HostRuntime) -> Result<(), Fail> {
     let alloc = rt.alloc();
-    let words = one_word(alloc, "convert")?;
+    let words = words_in(alloc, "convert")?;
     for failing in 1..114u32 {
         let mut source = Drops {
             bytes: ROW.as_bytes().to_vec(alloc)?,
@@ -215,8 +239,8 @@ fn bytes_come_and_go_one_by_one(rt: HostRuntime) -> Result<(), Fail> {
 #[test]
 fn an_input_past_the_limit_is_too_large(rt: HostRuntime) -> Result<(), Fail> {
     let alloc = rt.alloc();
-    let words = one_word(alloc, "convert")?;
-    let limit = Command::Convert.limit();
+    let words = words_in(alloc, "convert")?;
+    let limit = input_limit(Command::Convert);
     let refused = "calendrica 1 depth 40\nline 1 refused 1\nend lines 1 facts 0\n";
     for (size, status, text) in [
         (limit + 1, Status::TooLarge, ""),
@@ -234,7 +258,7 @@ fn an_input_past_the_limit_is_too_large(rt: HostRuntime) -> Result<(), Fail> {
 #[test]
 fn a_long_text_takes_few_writes(rt: HostRuntime) -> Result<(), Fail> {
     let alloc = rt.alloc();
-    let words = one_word(alloc, "convert")?;
+    let words = words_in(alloc, "convert")?;
     let mut input = Vec::new(alloc);
     for _ in 0..3000u32 {
         input.extend_from_slice(ROW.as_bytes())?;

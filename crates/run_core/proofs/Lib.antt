@@ -2,7 +2,9 @@ pub mod TextLemmas
 pub mod BlockLemmas
 pub mod RightLemmas
 pub mod AnswerLemmas
-pub mod WordLemmas
 pub mod DecidedLemmas
+pub mod OneText
+pub mod SampleRefusals
 pub mod PrintedLemmas
+pub mod SampleLemmas
 pub mod CheckLemmas

@@ -3,7 +3,6 @@ use Rattle.std.proofs.Common.{◌≡◌, ◌∙◌, ℕ, Bool, List, map}
 use Rattle.std.specs.List.{list_all}
 use Rattle.std.specs.declared.option.Option.{Option}
 use Rattle.std.specs.Io.KnownBytes.{Appends}
-use Rattle.book_model.specs.Lines.{lines_of}
 use Rattle.book_model.specs.Outcomes.{AreRight, is_result}
 use Rattle.book_model.specs.Text.{text}
 use Rattle.run_core.specs.declared.outcome.Outcome.{Outcome}
@@ -11,13 +10,13 @@ use Rattle.run_core.specs.Outcomes.{line_outcome}
 use Rattle.run_core.specs.Run.{Printed}
 use Rattle.run_core.proofs.RightLemmas.{all_results}
 
--- the lines of the input, outcomes that are right for them, and their text
-pub printed : {X : Type 0} (f : X → List ℕ) (old new : Option (List ℕ)) (input : List ℕ) (lines : List X) (os : List Outcome) (all : Bool)
-    → map f lines ≡ lines_of input → AreRight (map f lines) (map line_outcome os) → Appends old new (text (map f lines) (map line_outcome os))
-    → all ≡ list_all (λ o. is_result (line_outcome o)) os → Printed old new input all
-printed f old new input lines os all same right written results = record {
+-- lines, outcomes that are right for them, and their text
+pub printed : {X : Type 0} (f : X → List ℕ) (old new : Option (List ℕ)) (lines : List X) (os : List Outcome) (all : Bool)
+    → AreRight (map f lines) (map line_outcome os) → Appends old new (text (map f lines) (map line_outcome os))
+    → all ≡ list_all (λ o. is_result (line_outcome o)) os → Printed old new (map f lines) all
+printed f old new lines os all right written results = record {
   outcomes = map line_outcome os;
-  right = rw same at right;
-  written = rw same at written;
+  right = right;
+  written = written;
   results = results ∙ all_results os;
 }

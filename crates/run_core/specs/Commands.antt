@@ -1,19 +1,8 @@
--- The commands of the program.
-use Rattle.std.specs.Prelude.{ℕ, nat_eq, if◌then◌else◌, List, [], ◌∷◌, codes, Some, None, Option}
-use lib.Pointwise.{pointwise}
+-- What the commands of the program read.
+use Rattle.std.specs.Prelude.{ℕ}
 use Rattle.cert_read.specs.declared.read.TheConstants.{LONGEST_FILE}
-use Rattle.run_core.specs.declared.command.Command.{Command}
-use Rattle.run_core.specs.declared.command.Command.TheVariants.{Convert, Check}
-
--- the command that a word names
-abbrev pub command_named : List ℕ → Option Command
-command_named word = if pointwise nat_eq word (codes "convert") then Some Convert else (if pointwise nat_eq word (codes "check") then Some Check else None)
-
--- the command that the words name, which is one word
-abbrev pub command_of : List (List ℕ) → Option Command
-command_of [] = None
-command_of (word ∷ []) = command_named word
-command_of (word ∷ more ∷ words) = None
+use Rattle.command_words.specs.declared.command.Command.{Command}
+use Rattle.command_words.specs.declared.command.Command.TheVariants.{Convert, Check, Almanac, Sample}
 
 -- what a command reads: the whole input, of up to so many bytes, or nothing
 pub data Input : Type 0 where
@@ -24,7 +13,12 @@ pub data Input : Type 0 where
 abbrev pub limit_of : Command → ℕ
 limit_of Convert = 4194304
 limit_of Check = LONGEST_FILE
+limit_of (Almanac year) = 0
+limit_of (Sample count seed) = 0
 
 -- what the command reads
 abbrev pub input_of : Command → Input
-input_of command = whole (limit_of command)
+input_of Convert = whole (limit_of Convert)
+input_of Check = whole (limit_of Check)
+input_of (Almanac year) = nothing
+input_of (Sample count seed) = nothing

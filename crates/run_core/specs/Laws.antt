@@ -1,12 +1,14 @@
 -- What comes of a line that is decided.
-use Rattle.std.specs.Prelude.{◌≡◌, ◌⊎◌, ℕ, List, true, Err}
+use Rattle.std.specs.Prelude.{◌≡◌, ◌⊎◌, ℕ, List, true, Err, length, filter}
 use Rattle.book_model.specs.declared.fact.Fact.{Fact}
 use Rattle.book_model.specs.declared.fail.Undecided.{Undecided}
 use Rattle.book_model.specs.declared.request.Rule.{Rule}
 use Rattle.book_model.specs.declared.site.Site.{Site}
 use Rattle.book_model.specs.Facts.{IsNear, IsVoidAt}
-use Rattle.book_model.specs.Outcomes.{LineOutcome, refused, IsRightFor, AsksAlways, is_resolved}
+use Rattle.book_model.specs.Outcomes.{LineOutcome, refused, IsRightFor, AreRight, AsksAlways, is_resolved}
 use Rattle.book_model.specs.Requests.{request_of}
+use Rattle.run_core.specs.Sampling.{is_undecided, is_refused}
+use Rattle.almanac_lines.specs.Texts.{sample_lines}
 
 -- no fact that the line asks is near at a test or void
 pub record IsDecided (line : List ℕ) : Type 0 where
@@ -23,3 +25,11 @@ pub record IsRefusal (line : List ℕ) (o : LineOutcome) : Type 0 where
 -- computing, or the refusal of the rule that the line breaks
 abbrev pub HasResultOrRule : List ℕ → Type 0
 HasResultOrRule line = IsDecided line → (o : LineOutcome) → IsRightFor line o → (is_resolved o ≡ true) ⊎ IsRefusal line o
+
+-- outcomes that are right for lines, none of them undecided, are settled by the lines
+abbrev pub HasOneText : List (List ℕ) → Type 0
+HasOneText lines = (os ps : List LineOutcome) → AreRight lines os → AreRight lines ps → length (filter is_undecided os) ≡ 0 → length (filter is_undecided ps) ≡ 0 → os ≡ ps
+
+-- no line of a sample is refused, by itself or by computing
+abbrev pub HasNoRefusal : (count seed : ℕ) → Type 0
+HasNoRefusal count seed = (os : List LineOutcome) → AreRight (sample_lines count seed) os → length (filter is_refused os) ≡ 0

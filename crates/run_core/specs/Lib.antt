@@ -3,4 +3,5 @@ pub mod Run
 pub mod Laws
 pub mod Numbering
 pub mod Commands
+pub mod Sampling
 pub mod Checking

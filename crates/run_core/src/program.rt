@@ -1,59 +1,59 @@
 //! The top call: all that the program does.
-ghost use Rattle.std.specs.Prelude.{◌≡◌, ◌≤◌, ◌⊎◌, ◌∷◌, [], ℕ, Bool, true, false, List, map, length, Some, None, string_bytes, IsTrue, IfOk, OnOk, OnErr, IsErrOf};
+ghost use Rattle.std.specs.Prelude.{◌≡◌, ◌≤◌, ◌⊎◌, ℕ, true, false, List, map, length, Some, None, string_bytes, IfOk, IsOk, IsErrOf};
 ghost use Rattle.std.specs.Io.KnownBytes.{Appends, Consumes, Keeps};
-ghost use Rattle.std.specs.List.{list_all};
-ghost use Rattle.book_model.specs.Outcomes.{is_result};
-ghost use Rattle.run_core.specs.Outcomes.{line_outcome};
 ghost use Rattle.run_core.specs.Checking.{RefusesText};
-ghost use Rattle.run_core.specs.Commands.{command_of as named, input_of, limit_of};
-ghost use Rattle.run_core.specs.Run.{usage, Printed, CutShort, Finishes, IsCut, IsOfWork, HasRead, CanRead, IsTooLarge, IsPast};
+ghost use Rattle.command_words.specs.Words.{command_of as named, IsInRange};
+ghost use Rattle.run_core.specs.Commands.{input_of, limit_of};
+ghost use Rattle.run_core.specs.Run.{usage, Finishes, IsCut, IsOfWork, HasRead, CanRead, IsTooLarge, IsPast, ended};
 ghost use Rattle.byte_streams.specs.Stream.{Rose, HasCause, AppendsFront};
 
 use crate::check::{Checked, check};
-use crate::command::{Command, command_of};
 use crate::gate::Gate;
-use crate::outcome::{Outcome, outcomes_of};
+use crate::limits::input_limit;
+use crate::printing::{almanac, convert};
+use crate::sampling::sample;
 use crate::status::Status;
-use crate::text::{WriteStop, write_text};
-use book_model::Resolved;
+use crate::text::WriteStop;
 use byte_streams::{ReadStop, Sink, Source, read_all, write_all};
-use line_core::split_lines;
+use command_words::{Command, NoCommand, command_of};
 use oracle_core::Evaluator;
 use std::alloc::Global;
 use std::thread::Threads;
 
-/// Whether an outcome is a result.
-fn is_found(outcome: &Outcome) -> bool
-    ensures { result ≡ is_result (line_outcome outcome.now) }
+/// The line that is written where the words are in no form.
+const USAGE: &[u8] =
+    b"usage: calendrica convert | check | almanac YEAR | sample COUNT SEED [--jobs N]\n";
+
+/// How a run ends whose lines were written, with results in all or not, or that stopped there.
+fn status_of(written: Result<bool, WriteStop>) -> Status
+    ensures status { result ≡ ended written }
 {
-    matches!(outcome, Outcome::Found(Resolved::Shown(_, _), _))
+    match written {
+        Ok(true) => Status::Done,
+        Ok(false) => Status::Mixed,
+        Err(WriteStop::Fault) => Status::WriteFault,
+        Err(WriteStop::Memory) => Status::Memory,
+    }
 }
 
-/// Whether all outcomes are results.
-fn all_found(outcomes: &[Outcome]) -> bool
-    ensures { result ≡ list_all (λ outcome. is_result (line_outcome outcome)) outcomes.now }
-{
-    outcomes.iter().all(is_found)
-}
-
-/// Writes the text of the lines of an input, and says whether all have results.
-fn convert<K: Sink, E: Evaluator>(
+/// Reads what a command reads: the whole input, or nothing.
+fn read_input<S: Source>(
     alloc: Global,
-    sink: &mut K,
-    evaluator: &E,
-    input: &[u8],
-) -> Result<bool, WriteStop>
-    ensures ok { IfOk result (λ all. Printed (K.written sink.old) (K.written sink.new) input.now all) }
-    ensures fault { IsErrOf result WriteStop.Fault → CutShort (K.written sink.old) (K.written sink.new) input.now }
-    ensures memory { IsErrOf result WriteStop.Memory →
-        Keeps (K.written sink.old) (K.written sink.new) ⊎ CutShort (K.written sink.old) (K.written sink.new) input.now }
-    ensures cause { IsErrOf result WriteStop.Fault → Rose (K.faults sink.old) (K.faults sink.new) }
-    ensures later { K.faults sink.old ≤ K.faults sink.new }
+    command: Command,
+    source: &mut S,
+) -> Result<Vec<u8>, ReadStop>
+    ensures ok { IfOk result (λ input. HasRead (input_of command) (S.left source.old) (S.left source.new) input.items) }
+    ensures short { IfOk result (λ input. length input.items ≤ limit_of command) }
+    ensures too_large { IsErrOf result ReadStop.TooLarge → (taken : List ℕ) × Consumes (S.left source.old) (S.left source.new) taken × IsPast (input_of command) taken }
+    ensures too_large_told { IsTooLarge (input_of command) (S.left source.old) → ¬ Rose (S.faults source.old) (S.faults source.new) → IsErrOf result ReadStop.TooLarge ⊎ IsErrOf result ReadStop.Memory }
+    ensures finished { CanRead (input_of command) (S.left source.old) → ¬ Rose (S.faults source.old) (S.faults source.new) → IsErrOf result ReadStop.Memory ⊎ IsOk result }
+    ensures fault { IsErrOf result ReadStop.Fault → Rose (S.faults source.old) (S.faults source.new) }
+    ensures later { S.faults source.old ≤ S.faults source.new }
 {
-    let lines = split_lines(alloc, input)?;
-    let outcomes = outcomes_of(alloc, evaluator, &lines)?;
-    write_text(alloc, sink, &lines, &outcomes)?;
-    Ok(all_found(&outcomes))
+    match command {
+        Command::Convert | Command::Check => read_all(alloc, source, input_limit(command)),
+        Command::Almanac { .. } | Command::Sample { .. } => Ok(Vec::new(alloc)),
+    }
 }
 
 /// Does what a command says with an input that was read whole.
@@ -65,6 +65,7 @@ fn perform<K: Sink, E: Evaluator>(
     input: &[u8],
 ) -> Status
     requires short { length input.now ≤ limit_of command }
+    requires ranges { IsInRange command }
     ensures done { result ≡ Status.Done → Finishes command (K.written sink.old) (K.written sink.new) input.now true }
     ensures mixed { result ≡ Status.Mixed → Finishes command (K.written sink.old) (K.written sink.new) input.now false }
     ensures bad_text { result ≡ Status.BadText → (command ≡ Command.Check) × RefusesText (K.written sink.old) (K.written sink.new) input.now }
@@ -76,12 +77,9 @@ fn perform<K: Sink, E: Evaluator>(
     ensures work { IsOfWork result }
 {
     match command {
-        Command::Convert => match convert(alloc, sink, evaluator, input) {
-            Ok(true) => Status::Done,
-            Ok(false) => Status::Mixed,
-            Err(WriteStop::Fault) => Status::WriteFault,
-            Err(WriteStop::Memory) => Status::Memory,
-        },
+        Command::Convert => status_of(convert(alloc, sink, evaluator, input)),
+        Command::Almanac { year } => status_of(almanac(alloc, sink, evaluator, year)),
+        Command::Sample { count, seed } => status_of(sample(alloc, sink, evaluator, count, seed)),
         Command::Check => match check(alloc, sink, evaluator, input) {
             Ok(Checked::AllYes) => Status::Done,
             Ok(Checked::NotAll) => Status::Mixed,
@@ -92,12 +90,28 @@ fn perform<K: Sink, E: Evaluator>(
     }
 }
 
-/// All that the program does: looks at its words, reads the whole input, computes, and writes. The form of the words is
-/// one word: `convert`, which writes what each line of the input comes to, or `check`, which writes a verdict for each
-/// line of a printed file, whoever made it. Other words are answered by a usage line.
+/// Writes the usage line.
+fn refuse_words<K: Sink>(sink: &mut K) -> Status
+    ensures words { result ≡ Status.Words → Appends (K.written sink.old) (K.written sink.new) usage }
+    ensures cut { result ≡ Status.WriteFault → AppendsFront (K.written sink.old) (K.written sink.new) usage }
+    ensures either { (result ≡ Status.Words) ⊎ (result ≡ Status.WriteFault) }
+    ensures cause { result ≡ Status.WriteFault → Rose (K.faults sink.old) (K.faults sink.new) }
+    ensures later { K.faults sink.old ≤ K.faults sink.new }
+{
+    match write_all(sink, USAGE) {
+        Ok(()) => Status::Words,
+        Err(_) => Status::WriteFault,
+    }
+}
+
+/// All that the program does: looks at its words, reads the whole input, computes, and writes. The words name a command:
+/// `convert`, which writes what each line of the input comes to; `check`, which writes a verdict for each line of a printed
+/// file, whoever made it; `almanac YEAR`, which writes what the lines of an almanac come to; or `sample COUNT SEED`, which
+/// writes one line of counts of what the lines of a sample come to. The last two read nothing. Other words are answered by a
+/// usage line.
 ///
 /// `Done` says that each line has a result, or that each verdict is yes, `Mixed` that some line or verdict isn't so,
-/// `Words` that the words aren't the form and the usage line is written, `ReadFault` and `WriteFault` that a read or a
+/// `Words` that the words are in no form and the usage line is written, `ReadFault` and `WriteFault` that a read or a
 /// write failed, `Memory` that memory ran out, `TooLarge` that the input has more bytes than the limit (4,194,304, or
 /// 268,435,456 under `check`), and `BadText` that the bytes to check aren't in the grammar, and a line says why. The
 /// handle of threads and the gate aren't used yet.
@@ -110,8 +124,8 @@ pub fn run<R: Threads + Sync, S: Source, K: Sink, E: Evaluator + Sync, G: Gate +
     evaluator: &E,
     gate: &G,
 ) -> Status
-    // At Done and Mixed the input was read to its end, and the whole text stands for it; Done exactly where every outcome is a
-    // result, under `check` where every verdict is yes.
+    // At Done and Mixed what the command reads was read to its end, and the whole text stands for it; Done exactly where every
+    // outcome is a result, under `check` where every verdict is yes.
     ensures done { result ≡ Status.Done → (c : Command) × (named (map string_bytes words.now) ≡ Some c)
         × (input : List ℕ) × HasRead (input_of c) (S.left source.old) (S.left source.new) input
         × Finishes c (K.written sink.old) (K.written sink.new) input true }
@@ -122,10 +136,10 @@ pub fn run<R: Threads + Sync, S: Source, K: Sink, E: Evaluator + Sync, G: Gate +
     ensures bad_text { result ≡ Status.BadText → (named (map string_bytes words.now) ≡ Some Command.Check)
         × (input : List ℕ) × HasRead (input_of Command.Check) (S.left source.old) (S.left source.new) input
         × RefusesText (K.written sink.old) (K.written sink.new) input }
-    // Words comes exactly where the words aren't in the form, unless the usage line can't be written. Nothing is read then.
+    // Words comes exactly where the words are in no form, unless the usage line can't be written or memory runs out. Nothing is read then.
     ensures words { result ≡ Status.Words → Appends (K.written sink.old) (K.written sink.new) usage }
     ensures words_only { result ≡ Status.Words → named (map string_bytes words.now) ≡ None }
-    ensures words_refused { named (map string_bytes words.now) ≡ None → (result ≡ Status.Words) ⊎ (result ≡ Status.WriteFault) }
+    ensures words_refused { named (map string_bytes words.now) ≡ None → (result ≡ Status.Words) ⊎ (result ≡ Status.WriteFault) ⊎ (result ≡ Status.Memory) }
     ensures words_unread { named (map string_bytes words.now) ≡ None → source.new ≡ source.old }
     // Faults have a cause.
     ensures read_fault { result ≡ Status.ReadFault → Rose (S.faults source.old) (S.faults source.new) }
@@ -154,13 +168,12 @@ pub fn run<R: Threads + Sync, S: Source, K: Sink, E: Evaluator + Sync, G: Gate +
         → ¬ Rose (S.faults source.old) (S.faults source.new) → ¬ Rose (K.faults sink.old) (K.faults sink.new)
         → (result ≡ Status.Done) ⊎ (result ≡ Status.Mixed) ⊎ (result ≡ Status.BadText) ⊎ (result ≡ Status.Memory) }
 {
-    let Some(command) = command_of(words) else {
-        return match write_all(sink, b"usage: calendrica convert | check\n") {
-            Ok(()) => Status::Words,
-            Err(_) => Status::WriteFault,
-        };
+    let command = match command_of(alloc, words) {
+        Ok(command) => command,
+        Err(NoCommand::Form) => return refuse_words(sink),
+        Err(NoCommand::Memory) => return Status::Memory,
     };
-    let input = match read_all(alloc, source, command.limit()) {
+    let input = match read_input(alloc, command, source) {
         Ok(input) => input,
         Err(ReadStop::Fault) => return Status::ReadFault,
         Err(ReadStop::Memory) => return Status::Memory,

@@ -10,7 +10,7 @@ use std::test::Fail;
 #[test]
 fn an_input_past_the_limit_is_too_large(rt: HostRuntime) -> Result<(), Fail> {
     let alloc = rt.alloc();
-    let limit = Command::Convert.limit();
+    let limit = input_limit(Command::Convert);
     let mut whole = MemorySource::new(vec![in alloc; b'\n'; limit]?, Vec::new(alloc));
     assert_eq!(rt; read_all(alloc, &mut whole, limit)?.len(), 4_194_304);
     let mut more = MemorySource::new(vec![in alloc; b'\n'; limit + 1]?, Vec::new(alloc));

@@ -1,0 +1,103 @@
+//! Writes what lines come to: those of an input, or of an almanac.
+ghost use Rattle.std.specs.Prelude.{◌≡◌, ◌≤◌, ◌⊎◌, map, IfOk, IsErrOf};
+ghost use Rattle.std.specs.Io.KnownBytes.{Keeps};
+ghost use Rattle.std.specs.List.{list_all};
+ghost use Rattle.almanac_lines.specs.Texts as texts;
+ghost use Rattle.book_model.specs.Lines.{lines_of};
+ghost use Rattle.book_model.specs.Outcomes.{is_result};
+ghost use Rattle.byte_streams.specs.Stream.{Rose};
+ghost use Rattle.run_core.specs.Outcomes.{line_outcome};
+ghost use Rattle.run_core.specs.Run.{Printed, CutShort};
+
+use crate::outcome::{Outcome, outcomes_of};
+use crate::text::{WriteStop, write_text};
+use almanac_lines::almanac_lines;
+use book_model::Resolved;
+use byte_streams::Sink;
+use cert_text::Word;
+use line_core::split_lines;
+use oracle_core::Evaluator;
+use std::alloc::{AllocError, Global};
+
+/// Whether an outcome is a result.
+fn is_found(outcome: &Outcome) -> bool
+    ensures { result ≡ is_result (line_outcome outcome.now) }
+{
+    matches!(outcome, Outcome::Found(Resolved::Shown(_, _), _))
+}
+
+/// Whether all outcomes are results.
+pub(crate) fn all_found(outcomes: &[Outcome]) -> bool
+    ensures { result ≡ list_all (λ outcome. is_result (line_outcome outcome)) outcomes.now }
+{
+    outcomes.iter().all(is_found)
+}
+
+/// The bytes of each of the lines. The error comes where memory runs out.
+pub(crate) fn bytes_of(alloc: Global, lines: &[Word]) -> Result<Vec<&[u8]>, AllocError>
+    ensures bytes { IfOk result (λ bytes. map (λ line. line.now) bytes.items ≡ lines.now) }
+{
+    let mut bytes = Vec::new(alloc);
+    for line in lines {
+        bytes.push(line.bytes())?;
+    }
+    Ok(bytes)
+}
+
+/// Writes the text of lines, and says whether all have results.
+fn print_lines<K: Sink, E: Evaluator>(
+    alloc: Global,
+    sink: &mut K,
+    evaluator: &E,
+    lines: &[&[u8]],
+) -> Result<bool, WriteStop>
+    ensures ok { IfOk result (λ all. Printed (K.written sink.old) (K.written sink.new) (map (λ line. line.now) lines.now) all) }
+    ensures fault { IsErrOf result WriteStop.Fault → CutShort (K.written sink.old) (K.written sink.new) (map (λ line. line.now) lines.now) }
+    ensures memory { IsErrOf result WriteStop.Memory →
+        Keeps (K.written sink.old) (K.written sink.new) ⊎ CutShort (K.written sink.old) (K.written sink.new) (map (λ line. line.now) lines.now) }
+    ensures cause { IsErrOf result WriteStop.Fault → Rose (K.faults sink.old) (K.faults sink.new) }
+    ensures later { K.faults sink.old ≤ K.faults sink.new }
+{
+    let outcomes = outcomes_of(alloc, evaluator, lines)?;
+    write_text(alloc, sink, lines, &outcomes)?;
+    Ok(all_found(&outcomes))
+}
+
+/// Writes the text of the lines of an input, and says whether all have results.
+pub(crate) fn convert<K: Sink, E: Evaluator>(
+    alloc: Global,
+    sink: &mut K,
+    evaluator: &E,
+    input: &[u8],
+) -> Result<bool, WriteStop>
+    ensures ok { IfOk result (λ all. Printed (K.written sink.old) (K.written sink.new) (lines_of input.now) all) }
+    ensures fault { IsErrOf result WriteStop.Fault → CutShort (K.written sink.old) (K.written sink.new) (lines_of input.now) }
+    ensures memory { IsErrOf result WriteStop.Memory →
+        Keeps (K.written sink.old) (K.written sink.new) ⊎ CutShort (K.written sink.old) (K.written sink.new) (lines_of input.now) }
+    ensures cause { IsErrOf result WriteStop.Fault → Rose (K.faults sink.old) (K.faults sink.new) }
+    ensures later { K.faults sink.old ≤ K.faults sink.new }
+{
+    let lines = split_lines(alloc, input)?;
+    print_lines(alloc, sink, evaluator, &lines)
+}
+
+/// Writes the text of the lines of the almanac of a year, and says whether all have results.
+pub(crate) fn almanac<K: Sink, E: Evaluator>(
+    alloc: Global,
+    sink: &mut K,
+    evaluator: &E,
+    year: u32,
+) -> Result<bool, WriteStop>
+    requires from { 1803 ≤ year }
+    requires to { year ≤ 2047 }
+    ensures ok { IfOk result (λ all. Printed (K.written sink.old) (K.written sink.new) (texts.almanac_lines year) all) }
+    ensures fault { IsErrOf result WriteStop.Fault → CutShort (K.written sink.old) (K.written sink.new) (texts.almanac_lines year) }
+    ensures memory { IsErrOf result WriteStop.Memory →
+        Keeps (K.written sink.old) (K.written sink.new) ⊎ CutShort (K.written sink.old) (K.written sink.new) (texts.almanac_lines year) }
+    ensures cause { IsErrOf result WriteStop.Fault → Rose (K.faults sink.old) (K.faults sink.new) }
+    ensures later { K.faults sink.old ≤ K.faults sink.new }
+{
+    let words = almanac_lines(alloc, year)?;
+    let lines = bytes_of(alloc, &words)?;
+    print_lines(alloc, sink, evaluator, &lines)
+}
