@@ -1,6 +1,6 @@
 -- The floor of a number to which a whole number is added.
-use Rattle.std.specs.Prelude.{◌≡◌, ℕ, suc, ◌+◌, ◌*◌, ◌-◌, ◌^◌, ℤ, pos, negsuc, ◌+ℤ◌, ◌*ℤ◌, ◌≤ℤ◌, ◌<ℤ◌, ◌≤◌, Bool, true, false, Option, Some, None, Result, Ok, Err, IfOk, IfErr, FitsSigned, refl}
-use Rattle.std.proofs.Common.{arith, sym, ◌∙◌}
+use Rattle.std.specs.Prelude.{◌≡◌, ℕ, suc, ◌+◌, ◌*◌, ◌-◌, ◌^◌, ℤ, pos, negsuc, ◌+ℤ◌, ◌*ℤ◌, ◌≤ℤ◌, ◌<ℤ◌, Bool, true, false, Some, None, Result, Ok, Err, IfOk, IfErr, FitsSigned, refl}
+use Rattle.std.proofs.Common.{arith, ◌∙◌}
 use Rattle.std.specs.Int.{w64}
 use Rattle.std.specs.Ordering.{int_eq}
 use Rattle.std.proofs.lemmas.Int.{ints}

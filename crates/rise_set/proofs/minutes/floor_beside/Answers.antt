@@ -1,4 +1,4 @@
-use Rattle.std.proofs.Common.{rules, refl, SFits, w64}
+use Rattle.std.proofs.Common.{rules, SFits, w64}
 use Rattle.std.proofs.lemmas.Int.{to_z-of_z}
 use Rattle.rise_set.proofs.Beside.{leads_sum, leads_failing}
 use Rattle.rise_set.proofs.minutes.floor_beside.Goals as goal
