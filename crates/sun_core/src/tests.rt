@@ -271,7 +271,7 @@ fn passages_are_those_of_the_reference(rt: HostRuntime) -> Result<(), Fail> {
     }
     let late = sun_from(
         Coarse::from_int(0),
-        fraction(748_300, 1)?,
+        fraction(749_000, 1)?,
         &mut Trail::new(),
     );
     assert!(rt; matches!(late, Err(FormulaFail::Void(Site::Year))));
