@@ -1,6 +1,6 @@
 -- From spans and forms to the arcs of expressions.
 use Rattle.std.proofs.Common.{◌≡◌, ℕ, ◌≤◌, ◌+◌, ◌-◌, ◌*◌, ◌^◌, refl, sym, subst, arith, ℤ, pos, negsuc, ◌+ℤ◌, ◌≤ℤ◌, ◌<ℤ◌, Bool, true, false, cond, ◌⊎◌, inl, inr}
-use Rattle.std.specs.Prelude.{IsTrue}
+use Rattle.std.specs.Prelude.{IsTrue, nat_lt, nat_le}
 use Rattle.std.specs.Int.{int_min, int_max}
 use Rattle.std.proofs.lemmas.Int.{ints, clamps}
 use lib.IntN.{neg_ℤ}
@@ -16,7 +16,7 @@ use Rattle.book_model.specs.Expressions.{Expression, World, value, integer, subt
 use Rattle.book_model.specs.Relations.{Within, Narrow, Lies, Keeps}
 use Rattle.book_model.specs.Arcs.{arctangent_of, arcsine_of, arccosine_of, arctangent_of_two as two_arctangent, all_around}
 use Rattle.book_model.specs.Octants.{only}
-use Rattle.book_model.specs.Bounds.{bound_of, IsNarrow, Bound, bounded, spanned_bound, limits_of, limits_at, no_limits, is_scale}
+use Rattle.book_model.specs.Bounds.{limited, bound_of, IsNarrow, Bound, bounded, spanned_bound, limits_of, limits_at, no_limits, is_scale}
 use Rattle.book_model.proofs.Values.{value_proper}
 use Rattle.book_model.proofs.Arcs.{arctangents, two_inside, not_positive}
 use Rattle.arc_series.specs.Forms.{half_tangent_of, has_sign}
@@ -84,8 +84,12 @@ spanned_turn : (bits : ℕ) → IsTrue (is_scale bits) → spanned_bound (limits
 unfolding spanned_bound limits_of
 spanned_turn bits s = by_scale (is_scale bits) s
   where
+    by_size : (t : Bool) → limited (nat_lt (180 * 2 ^ 32) (cond t (2 ^ 58) (2 ^ 100))) (turn_at bits) ≡ turn_at bits
+    by_size true = refl
+    by_size false = refl
+
     by_scale : (t : Bool) → IsTrue t → spanned_bound (cond t (limits_at bits) no_limits) turn ≡ turn_at bits
-    by_scale true s = refl
+    by_scale true s = by_size (nat_le bits 36)
     by_scale false s = absurd (cc)
 
 from_spans : (k s : ℕ) (i : Interval) → IsNarrow 0 (bounded (neg_ℤ (pos (180 * 2 ^ 32))) (pos (180 * 2 ^ 32)) s k) i → i ⊆ all_around

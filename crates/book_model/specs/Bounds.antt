@@ -14,11 +14,13 @@ pub data Bound : Type 0 where
   unbounded : Bound
   bounded : (low high : ℤ) → (slope slack : ℕ) → Bound
 
--- what the operations of a scale bear: its unit, in 2^-64; the size below which numbers must stay, in 2^-32; and
--- the sizes below which the numerators of constants and of factors must stay
+-- what the operations of a scale bear: its unit, in 2^-64; the size below which numbers must stay, in 2^-32, and that of products,
+-- of divisors and of what has a root; the size below which the numerators of constants must stay, and that of the products of
+-- numbers, in 2^-32, with the numerators of factors
 pub record Limits : Type 0 where
   pub unit : ℕ
   pub sizes : ℕ
+  pub products : ℕ
   pub constants : ℕ
   pub factors : ℕ
 
@@ -71,7 +73,7 @@ ceil_quotient n d = neg_ℤ (floor_quotient (neg_ℤ n) d)
 abbrev pub scaled_within : Limits → (n : ℤ) (d : ℕ) (a b : ℤ) (A N s k : ℕ) → Bound
 scaled_within l n d a b A N s k =
     limited
-    (nat_lt A l.sizes && nat_lt N l.factors
+    (nat_lt (A * N) l.factors
     && nat_lt (range_size (int_min (floor_quotient (a *ℤ n) d) (floor_quotient (b *ℤ n) d)) (int_max (ceil_quotient (a *ℤ n) d) (ceil_quotient (b *ℤ n) d))) l.sizes)
     (bounded (int_min (floor_quotient (a *ℤ n) d) (floor_quotient (b *ℤ n) d)) (int_max (ceil_quotient (a *ℤ n) d) (ceil_quotient (b *ℤ n) d)) (ceil_div (s * N) d) (ceil_div (k * N) d + 2 * l.unit))
 
@@ -94,7 +96,7 @@ negated_bound l (bounded a b s k) = limited (nat_lt (range_size (neg_ℤ b) (neg
 -- the product of numbers of sizes A and B: each width times the other's size, and two units
 abbrev pub product_around : Limits → (A B s k t m : ℕ) → Bound
 product_around l A B s k t m =
-    limited (nat_lt (ceil_div (A * B) (2 ^ 32 - 1)) l.sizes)
+    limited (nat_lt (ceil_div (A * B) (2 ^ 32 - 1)) l.sizes && nat_lt (ceil_div (A * B) (2 ^ 32 - 1)) l.products)
     (around (ceil_div (A * B) (2 ^ 32 - 1)) (ceil_div (A * t + B * s) (2 ^ 32 - 1)) (ceil_div (A * m + B * k) (2 ^ 32 - 1) + 2 * l.unit))
 
 unfoldable pub product_bound : Limits → Bound → Bound → Bound
@@ -109,10 +111,10 @@ power_bound l x (suc zero) = unbounded
 power_bound l x (suc (suc zero)) = product_bound l x x
 power_bound l x (suc (suc (suc k))) = product_bound l (power_bound l x (suc (suc k))) x
 
--- the quotient of a number of size A by one that is at least g + 1
-abbrev pub quotient_around : Limits → (A g s k t m : ℕ) → Bound
-quotient_around l A g s k t m =
-    limited (nat_lt (ceil_div (A * 2 ^ 32) g) l.sizes)
+-- the quotient of a number of size A by one of size B that is at least g + 1
+abbrev pub quotient_around : Limits → (A B g s k t m : ℕ) → Bound
+quotient_around l A B g s k t m =
+    limited (nat_lt (ceil_div (A * 2 ^ 32) g) l.sizes && nat_lt B l.products)
     (around (ceil_div (A * 2 ^ 32) g) (ceil_div ((s * suc g + A * t) * 2 ^ 32) (suc g * suc g - 1)) (ceil_div ((k * suc g + A * m) * 2 ^ 32) (suc g * suc g - 1) + 2 * l.unit))
 
 unfoldable pub quotient_bound : Limits → Bound → Bound → Bound
@@ -120,13 +122,33 @@ quotient_bound l unbounded y = unbounded
 quotient_bound l (bounded a b s k) unbounded = unbounded
 quotient_bound l (bounded a b s k) (bounded (pos zero) d t m) = unbounded
 quotient_bound l (bounded a b s k) (bounded (negsuc c) d t m) = unbounded
-quotient_bound l (bounded a b s k) (bounded (pos (suc c)) d t m) = quotient_around l (range_size a b) c s k t m
+quotient_bound l (bounded a b s k) (bounded (pos (suc c)) d t m) = quotient_around l (range_size a b) (range_size (pos (suc c)) d) c s k t m
 
 -- the lesser of two: no wider than the wider of them
 unfoldable pub minimum_bound : Bound → Bound → Bound
 minimum_bound unbounded y = unbounded
 minimum_bound (bounded a b s k) unbounded = unbounded
 minimum_bound (bounded a b s k) (bounded c d t m) = bounded (int_min a c) (int_min b d) (max s t) (max k m)
+
+-- what lies between two: no wider than their range
+unfoldable pub hull_bound : Bound → Bound → Bound
+hull_bound unbounded y = unbounded
+hull_bound (bounded a b s k) unbounded = unbounded
+hull_bound (bounded a b s k) (bounded c d t m) = bounded (int_min a c) (int_max b d) 0 (unsigned_abs (int_max b d -ℤ int_min a c) * 2 ^ 32)
+
+-- the size of a fraction in 2^-32, rounded up, and in 2^-64
+abbrev pub margin_32 : Fraction → ℕ
+margin_32 f = ceil_div (unsigned_abs f.num * 2 ^ 32) f.below
+
+abbrev pub margin_64 : Fraction → ℕ
+margin_64 f = ceil_div (unsigned_abs f.num * 2 ^ 64) f.below
+
+-- moved outwards by the size of a fraction: twice that wider, and two units
+unfoldable pub widen_bound : Limits → Fraction → Bound → Bound
+widen_bound l f unbounded = unbounded
+widen_bound l f (bounded a b s k) =
+    limited (nat_lt (unsigned_abs f.num) l.constants && nat_lt (range_size (a -ℤ pos (margin_32 f)) (b +ℤ pos (margin_32 f))) l.sizes)
+    (bounded (a -ℤ pos (margin_32 f)) (b +ℤ pos (margin_32 f)) s (k + (2 * margin_64 f + 2 * l.unit)))
 
 -- the greater of two
 unfoldable pub maximum_bound : Bound → Bound → Bound
@@ -145,7 +167,7 @@ root_bound l unbounded = unbounded
 root_bound l (bounded (negsuc a) b s k) = unbounded
 root_bound l (bounded (pos a) (negsuc b) s k) = unbounded
 root_bound l (bounded (pos a) (pos b) s k) =
-    limited (nat_lt a l.sizes && nat_lt b l.sizes) (root_around l (root_by_digits 48 (a * 2 ^ 32)) (suc (root_by_digits 48 (b * 2 ^ 32))) s k)
+    limited (nat_lt a l.sizes && nat_lt b l.sizes && nat_lt b l.products) (root_around l (root_by_digits 48 (a * 2 ^ 32)) (suc (root_by_digits 48 (b * 2 ^ 32))) s k)
 
 -- an end, cut to -1..1
 abbrev pub cut_32 : ℤ → ℤ
@@ -212,9 +234,9 @@ bound_of l r (scale f x) = scaled_bound l f (bound_of l r x)
 bound_of l r (power x k) = power_bound l (bound_of l r x) k
 bound_of l r (minimum x y) = minimum_bound (bound_of l r x) (bound_of l r y)
 bound_of l r (maximum x y) = maximum_bound (bound_of l r x) (bound_of l r y)
-bound_of l r (hull x y) = unbounded
+bound_of l r (hull x y) = hull_bound (bound_of l r x) (bound_of l r y)
 bound_of l r (clamp x) = clamp_bound (bound_of l r x)
-bound_of l r (widen a x) = unbounded
+bound_of l r (widen f x) = widen_bound l f (bound_of l r x)
 bound_of l r pi = spanned_bound l pi_spans
 bound_of l r (sine x) = spanned_bound l (sine_spans (bound_of l r x))
 bound_of l r (cosine x) = spanned_bound l (cosine_spans (bound_of l r x))
@@ -248,15 +270,15 @@ IsNarrow w (bounded a b s k) (between lo hi) = Spans a b s k w lo hi
 
 -- the limits of ends in 64 bits at scale 2^-36
 abbrev pub limits_36 : Limits
-limits_36 = record { unit = 2 ^ 28; sizes = 2 ^ 58; constants = 2 ^ 90; factors = 2 ^ 64 }
+limits_36 = record { unit = 2 ^ 28; sizes = 2 ^ 58; products = 2 ^ 86; constants = 2 ^ 90; factors = 2 ^ 122 }
 
 -- the limits at scale 2^-bits: those of a finer scale bear shorter numerators
 abbrev pub limits_at : ℕ → Limits
-limits_at bits = record { unit = 2 ^ (64 - bits); sizes = 2 ^ 58; constants = 2 ^ (126 - bits); factors = 2 ^ (100 - bits) }
+limits_at bits = record { unit = 2 ^ (64 - bits); sizes = cond (nat_le bits 36) (2 ^ 58) (2 ^ 100); products = 2 ^ (158 - 2 * bits); constants = 2 ^ (126 - bits); factors = 2 ^ (158 - bits) }
 
 -- limits that no operation keeps
 abbrev pub no_limits : Limits
-no_limits = record { unit = 0; sizes = 0; constants = 0; factors = 0 }
+no_limits = record { unit = 0; sizes = 0; products = 0; constants = 0; factors = 0 }
 
 -- whether something is promised of the scale 2^-bits
 abbrev pub is_scale : ℕ → Bool

@@ -1,4 +1,5 @@
 -- That the ends are the best that 64 bits can say.
+use Rattle.encl_core.specs.Scales.{Scale, coarse, fine, at_scale, unit, most_numerator, word}
 use Rattle.std.proofs.Common.{◌≡◌, ℕ, suc, ◌+◌, ◌^◌, ◌-◌, ◌<◌, refl, subst, arith, ℤ, pos, ◌+ℤ◌, ◌*ℤ◌, ◌-ℤ◌, ◌≤ℤ◌, ◌<ℤ◌, [], ◌∷◌, SFits, w64}
 use Rattle.std.specs.Int.{w128}
 use lib.IntN.{neg_ℤ}
@@ -11,88 +12,113 @@ use Rattle.exact_math.proofs.Bounds.{◌≼◌, known, ◌⊞◌, ◌⊠◌, le_
 use Rattle.exact_math.proofs.Fractions.{le_trans, den_product}
 use Rattle.exact_math.proofs.Intervals.{least_below, greatest_above}
 use Rattle.rounded_quotients.specs.Rounding.{IsFloor, IsCeiling, IsAboveEachBelow, IsBelowEachAbove}
-use Rattle.encl_core.specs.Rounding.{at_36, IsMargin, IsBest, Keeps64, fitting, too_large}
+use Rattle.encl_core.specs.Rounding.{IsMarginAt, IsBestAt, ShowsEnds, fitting, too_large}
 use Rattle.rounded_quotients.proofs.Quotients.{next_le, outward_order, sorted_order}
 use Rattle.encl_core.proofs.Scaling.{AreScaled, products_of, bounded_z}
 
 -- ends further out hold what 64 bits show of two ends
-kept_best : (lo hi p q : ℤ) (i : Interval) → lo ≤ℤ hi → Keeps64 lo hi i → SFits w64 p → SFits w64 q → p ≤ℤ lo → hi ≤ℤ q → i ⊆ between (at_36 p) (at_36 q)
-kept_best lo hi p q (between a b) o fitting f g h k = record { ends = (record { cross = omega (arith, ints) }, record { cross = omega (arith, ints) }) }
-kept_best lo hi p q everything o (too_large n) f g h k = absurd (n (omega (arith, ints)) (omega (arith, ints)))
+kept_best : (scale : Scale) → (lo hi p q : ℤ) (i : Interval) → lo ≤ℤ hi → ShowsEnds scale lo hi i → SFits (word scale) p → SFits (word scale) q → p ≤ℤ lo → hi ≤ℤ q → i ⊆ between (at_scale scale p) (at_scale scale q)
+kept_best coarse lo hi p q (between a b) o fitting f g h k = record { ends = (record { cross = omega (arith, ints) }, record { cross = omega (arith, ints) }) }
+kept_best fine lo hi p q (between a b) o fitting f g h k = record { ends = (record { cross = omega (arith, ints) }, record { cross = omega (arith, ints) }) }
+kept_best coarse lo hi p q everything o (too_large n) f g h k = absurd (n (omega (arith, ints)) (omega (arith, ints)))
+kept_best fine lo hi p q everything o (too_large n) f g h k = absurd (n (omega (arith, ints)) (omega (arith, ints)))
 
 -- nothing but everything holds everything
-everything_best : (i : Interval) → IsBest everything i
-everything_best i = record { best = λ p q f g h. absurd h.ends }
+everything_best : (scale : Scale) → (i : Interval) → IsBestAt scale everything i
+everything_best scale i = record { best = λ p q f g h. absurd h.ends }
 
 -- the ends of a difference are the best
-pub difference_best : (a b c d lo hi : ℤ) (i : Interval) → a ≤ℤ b → c ≤ℤ d → lo ≡ a -ℤ d → hi ≡ b -ℤ c → Keeps64 lo hi i → IsBest (difference (between (at_36 a) (at_36 b)) (between (at_36 c) (at_36 d))) i
+pub difference_best : (scale : Scale) → (a b c d lo hi : ℤ) (i : Interval) → a ≤ℤ b → c ≤ℤ d → lo ≡ a -ℤ d → hi ≡ b -ℤ c → ShowsEnds scale lo hi i → IsBestAt scale (difference (between (at_scale scale a) (at_scale scale b)) (between (at_scale scale c) (at_scale scale d))) i
 unfolding sum negative plus opposite
-difference_best a b c d lo hi i o o' e e' k =
-    record { best = λ p q f g h. kept_best lo hi p q i (omega (arith, ints)) k f g (omega (arith, ints, h.ends.0.cross)) (omega (arith, ints, h.ends.1.cross)) }
+difference_best coarse a b c d lo hi i o o' e e' k =
+    record { best = λ p q f g h. kept_best coarse lo hi p q i (omega (arith, ints)) k f g (omega (arith, ints, h.ends.0.cross)) (omega (arith, ints, h.ends.1.cross)) }
+difference_best fine a b c d lo hi i o o' e e' k =
+    record { best = λ p q f g h. kept_best fine lo hi p q i (omega (arith, ints)) k f g (omega (arith, ints, h.ends.0.cross)) (omega (arith, ints, h.ends.1.cross)) }
 
 -- where the first is everything, any difference is the best
-pub difference_first : (j i : Interval) → IsBest (difference everything j) i
+pub difference_first : (scale : Scale) → (j i : Interval) → IsBestAt scale (difference everything j) i
 unfolding sum
-difference_first j i = everything_best i
+difference_first scale j i = everything_best scale i
 
 -- where the second is everything, any difference is the best
-pub difference_second : (a b : Fraction) (i : Interval) → IsBest (difference (between a b) everything) i
+pub difference_second : (scale : Scale) → (a b : Fraction) (i : Interval) → IsBestAt scale (difference (between a b) everything) i
 unfolding sum negative
-difference_second a b i = everything_best i
+difference_second scale a b i = everything_best scale i
 
 -- the ends of an opposite are the best
-pub negative_best : (a b lo hi : ℤ) (i : Interval) → a ≤ℤ b → lo ≡ pos 0 -ℤ b → hi ≡ pos 0 -ℤ a → Keeps64 lo hi i → IsBest (negative (between (at_36 a) (at_36 b))) i
+pub negative_best : (scale : Scale) → (a b lo hi : ℤ) (i : Interval) → a ≤ℤ b → lo ≡ pos 0 -ℤ b → hi ≡ pos 0 -ℤ a → ShowsEnds scale lo hi i → IsBestAt scale (negative (between (at_scale scale a) (at_scale scale b))) i
 unfolding negative opposite
-negative_best a b lo hi i o e e' k =
-    record { best = λ p q f g h. kept_best lo hi p q i (omega (arith, ints)) k f g (omega (arith, ints, h.ends.0.cross)) (omega (arith, ints, h.ends.1.cross)) }
+negative_best coarse a b lo hi i o e e' k =
+    record { best = λ p q f g h. kept_best coarse lo hi p q i (omega (arith, ints)) k f g (omega (arith, ints, h.ends.0.cross)) (omega (arith, ints, h.ends.1.cross)) }
+negative_best fine a b lo hi i o e e' k =
+    record { best = λ p q f g h. kept_best fine lo hi p q i (omega (arith, ints)) k f g (omega (arith, ints, h.ends.0.cross)) (omega (arith, ints, h.ends.1.cross)) }
 
 -- any opposite of everything is the best
-pub negative_first : (i : Interval) → IsBest (negative everything) i
+pub negative_first : (scale : Scale) → (i : Interval) → IsBestAt scale (negative everything) i
 unfolding negative
-negative_first i = everything_best i
+negative_first scale i = everything_best scale i
 
 -- ---- products
 -- a number at the scale that is at most a product of two
-from_below : (p a c : ℤ) → at_36 p ≤F times (at_36 a) (at_36 c) → (p *ℤ pos (2 ^ 36)) ≤ℤ (a *ℤ c)
+from_below : (scale : Scale) → (p a c : ℤ) → at_scale scale p ≤F times (at_scale scale a) (at_scale scale c) → (p *ℤ (unit scale)) ≤ℤ (a *ℤ c)
 unfolding times
-from_below p a c h = omega (arith, ints, h.cross)
+from_below coarse p a c h = omega (arith, ints, h.cross)
+from_below fine p a c h = omega (arith, ints, h.cross)
 
 -- a number at the scale that is at least a product of two
-from_above : (p a c : ℤ) → times (at_36 a) (at_36 c) ≤F at_36 p → (a *ℤ c) ≤ℤ (p *ℤ pos (2 ^ 36))
+from_above : (scale : Scale) → (p a c : ℤ) → times (at_scale scale a) (at_scale scale c) ≤F at_scale scale p → (a *ℤ c) ≤ℤ (p *ℤ (unit scale))
 unfolding times
-from_above p a c h = omega (arith, ints, h.cross)
+from_above coarse p a c h = omega (arith, ints, h.cross)
+from_above fine p a c h = omega (arith, ints, h.cross)
 
 -- the ends of a product, rounded outwards, are the best
-pub product_best : (x y x' y' l g lo hi : ℤ) (i : Interval) → lo ≤ℤ hi → IsAboveEachBelow l (x *ℤ x') (x *ℤ y') (y *ℤ x') (y *ℤ y') → IsBelowEachAbove g (x *ℤ x') (x *ℤ y') (y *ℤ x') (y *ℤ y')
-    → IsFloor lo l (pos (2 ^ 36)) → IsCeiling hi g (pos (2 ^ 36)) → Keeps64 lo hi i → IsBest (product (between (at_36 x) (at_36 y)) (between (at_36 x') (at_36 y'))) i
+pub product_best : (scale : Scale) → (x y x' y' l g lo hi : ℤ) (i : Interval) → lo ≤ℤ hi → IsAboveEachBelow l (x *ℤ x') (x *ℤ y') (y *ℤ x') (y *ℤ y') → IsBelowEachAbove g (x *ℤ x') (x *ℤ y') (y *ℤ x') (y *ℤ y')
+    → IsFloor lo l (unit scale) → IsCeiling hi g (unit scale) → ShowsEnds scale lo hi i → IsBestAt scale (product (between (at_scale scale x) (at_scale scale y)) (between (at_scale scale x') (at_scale scale y'))) i
 unfolding product
-product_best x y x' y' l g lo hi i o b a f c k =
-    let under = least_below (times (at_36 x) (at_36 x')) (times (at_36 x) (at_36 y')) (times (at_36 y) (at_36 x')) (times (at_36 y) (at_36 y')) in
-    let over = greatest_above (times (at_36 x) (at_36 x')) (times (at_36 x) (at_36 y')) (times (at_36 y) (at_36 x')) (times (at_36 y) (at_36 y')) in
+product_best coarse x y x' y' l g lo hi i o b a f c k =
+    let under = least_below (times (at_scale coarse x) (at_scale coarse x')) (times (at_scale coarse x) (at_scale coarse y')) (times (at_scale coarse y) (at_scale coarse x')) (times (at_scale coarse y) (at_scale coarse y')) in
+    let over = greatest_above (times (at_scale coarse x) (at_scale coarse x')) (times (at_scale coarse x) (at_scale coarse y')) (times (at_scale coarse y) (at_scale coarse x')) (times (at_scale coarse y) (at_scale coarse y')) in
     record {
       best = λ p q fp fq h.
-          let l1 = from_below p x x' (le_trans _ _ _ h.ends.0 under.0) in
-          let l2 = from_below p x y' (le_trans _ _ _ h.ends.0 under.1) in
-          let l3 = from_below p y x' (le_trans _ _ _ h.ends.0 under.2) in
-          let l4 = from_below p y y' (le_trans _ _ _ h.ends.0 under.3) in
-          let g1 = from_above q x x' (le_trans _ _ _ over.0 h.ends.1) in
-          let g2 = from_above q x y' (le_trans _ _ _ over.1 h.ends.1) in
-          let g3 = from_above q y x' (le_trans _ _ _ over.2 h.ends.1) in
-          let g4 = from_above q y y' (le_trans _ _ _ over.3 h.ends.1) in
+          let l1 = from_below coarse p x x' (le_trans _ _ _ h.ends.0 under.0) in
+          let l2 = from_below coarse p x y' (le_trans _ _ _ h.ends.0 under.1) in
+          let l3 = from_below coarse p y x' (le_trans _ _ _ h.ends.0 under.2) in
+          let l4 = from_below coarse p y y' (le_trans _ _ _ h.ends.0 under.3) in
+          let g1 = from_above coarse q x x' (le_trans _ _ _ over.0 h.ends.1) in
+          let g2 = from_above coarse q x y' (le_trans _ _ _ over.1 h.ends.1) in
+          let g3 = from_above coarse q y x' (le_trans _ _ _ over.2 h.ends.1) in
+          let g4 = from_above coarse q y y' (le_trans _ _ _ over.3 h.ends.1) in
           let m : (p *ℤ pos (2 ^ 36)) ≤ℤ l = b (p *ℤ pos (2 ^ 36)) l1 l2 l3 l4 in
           let n : g ≤ℤ (q *ℤ pos (2 ^ 36)) = a (q *ℤ pos (2 ^ 36)) g1 g2 g3 g4 in
-          kept_best lo hi p q i o k fp fq (omega (arith, ints, m, f.close)) (omega (arith, ints, n, c.close));
+          kept_best coarse lo hi p q i o k fp fq (omega (arith, ints, m, f.close)) (omega (arith, ints, n, c.close));
+    }
+product_best fine x y x' y' l g lo hi i o b a f c k =
+    let under = least_below (times (at_scale fine x) (at_scale fine x')) (times (at_scale fine x) (at_scale fine y')) (times (at_scale fine y) (at_scale fine x')) (times (at_scale fine y) (at_scale fine y')) in
+    let over = greatest_above (times (at_scale fine x) (at_scale fine x')) (times (at_scale fine x) (at_scale fine y')) (times (at_scale fine y) (at_scale fine x')) (times (at_scale fine y) (at_scale fine y')) in
+    record {
+      best = λ p q fp fq h.
+          let l1 = from_below fine p x x' (le_trans _ _ _ h.ends.0 under.0) in
+          let l2 = from_below fine p x y' (le_trans _ _ _ h.ends.0 under.1) in
+          let l3 = from_below fine p y x' (le_trans _ _ _ h.ends.0 under.2) in
+          let l4 = from_below fine p y y' (le_trans _ _ _ h.ends.0 under.3) in
+          let g1 = from_above fine q x x' (le_trans _ _ _ over.0 h.ends.1) in
+          let g2 = from_above fine q x y' (le_trans _ _ _ over.1 h.ends.1) in
+          let g3 = from_above fine q y x' (le_trans _ _ _ over.2 h.ends.1) in
+          let g4 = from_above fine q y y' (le_trans _ _ _ over.3 h.ends.1) in
+          let m : (p *ℤ pos (2 ^ 56)) ≤ℤ l = b (p *ℤ pos (2 ^ 56)) l1 l2 l3 l4 in
+          let n : g ≤ℤ (q *ℤ pos (2 ^ 56)) = a (q *ℤ pos (2 ^ 56)) g1 g2 g3 g4 in
+          kept_best fine lo hi p q i o k fp fq (omega (arith, ints, m, f.close)) (omega (arith, ints, n, c.close));
     }
 
 -- where the first is everything, any product is the best
-pub product_first : (j i : Interval) → IsBest (product everything j) i
+pub product_first : (scale : Scale) → (j i : Interval) → IsBestAt scale (product everything j) i
 unfolding product
-product_first j i = everything_best i
+product_first scale j i = everything_best scale i
 
 -- where the second is everything, any product is the best
-pub product_second : (a b : Fraction) (i : Interval) → IsBest (product (between a b) everything) i
+pub product_second : (scale : Scale) → (a b : Fraction) (i : Interval) → IsBestAt scale (product (between a b) everything) i
 unfolding product
-product_second a b i = everything_best i
+product_second scale a b i = everything_best scale i
 
 -- ---- widening
 -- a margin that is 1 more than a number which covers isn't rounded up
@@ -102,18 +128,27 @@ margin_z s m n d k h0 h1 h2 h3 =
     (known 1 ⊞ known 2 ⊞ known 3 ⊠ known 0 ⊞ known 3) refl (h0, (h1, (h2, (h3, tt))))
 
 -- a margin is at most what covers the size of the fraction
-margin_least : (f : Fraction) (m s : ℤ) → IsMargin f m → (pos (unsigned_abs f.num) *ℤ pos (2 ^ 36)) ≤ℤ (s *ℤ pos (suc f.below)) → m ≤ℤ s
-margin_least f m s h k =
+pub margin_least : (scale : Scale) → (f : Fraction) (m s : ℤ) → IsMarginAt scale f m → (pos (unsigned_abs f.num) *ℤ (unit scale)) ≤ℤ (s *ℤ pos (suc f.below)) → m ≤ℤ s
+margin_least coarse f m s h k =
     let r = h.rounded.close in
     let e : pos (f.below + 1) ≡ pos (suc f.below) = omega (arith, ints) in
     let c : (m *ℤ pos (suc f.below) +ℤ pos 1) ≤ℤ (pos (unsigned_abs f.num) *ℤ pos (2 ^ 36) +ℤ pos (suc f.below)) = next_le _ _ (subst (λ x. (m *ℤ x) <ℤ (pos (unsigned_abs f.num) *ℤ pos (2 ^ 36) +ℤ x)) e r) in
     by_lt_z s m (λ l. absurd (margin_z s m (pos (unsigned_abs f.num)) (pos (suc f.below)) (pos (2 ^ 36)) (omega (arith, ints)) k c (next_le _ _ l))) (λ l. l)
+margin_least fine f m s h k =
+    let r = h.rounded.close in
+    let e : pos (f.below + 1) ≡ pos (suc f.below) = omega (arith, ints) in
+    let c : (m *ℤ pos (suc f.below) +ℤ pos 1) ≤ℤ (pos (unsigned_abs f.num) *ℤ pos (2 ^ 56) +ℤ pos (suc f.below)) = next_le _ _ (subst (λ x. (m *ℤ x) <ℤ (pos (unsigned_abs f.num) *ℤ pos (2 ^ 56) +ℤ x)) e r) in
+    by_lt_z s m (λ l. absurd (margin_z s m (pos (unsigned_abs f.num)) (pos (suc f.below)) (pos (2 ^ 56)) (omega (arith, ints)) k c (next_le _ _ l))) (λ l. l)
 
 -- the margin of a fraction of no great numerator is small
-pub margin_small : (f : Fraction) (m : ℤ) → IsMargin f m → unsigned_abs f.num < 2 ^ 90 → m ≤ℤ pos (2 ^ 126)
-margin_small f m h l = margin_least f m (pos (2 ^ 126)) h (small_z (unsigned_abs f.num) f.below l)
+pub margin_small : (scale : Scale) → (f : Fraction) (m : ℤ) → IsMarginAt scale f m → unsigned_abs f.num < (most_numerator scale) → m ≤ℤ pos (2 ^ 126)
+margin_small coarse f m h l = margin_least coarse f m (pos (2 ^ 126)) h (small_z (unsigned_abs f.num) f.below l)
   where
     small_z : (n d : ℕ) → n < 2 ^ 90 → (pos n *ℤ pos (2 ^ 36)) ≤ℤ (pos (2 ^ 126) *ℤ pos (suc d))
+    small_z n d l = omega (arith, ints)
+margin_small fine f m h l = margin_least fine f m (pos (2 ^ 126)) h (small_z (unsigned_abs f.num) f.below l)
+  where
+    small_z : (n d : ℕ) → n < 2 ^ 70 → (pos n *ℤ pos (2 ^ 56)) ≤ℤ (pos (2 ^ 126) *ℤ pos (suc d))
     small_z n d l = omega (arith, ints)
 
 -- what a lower end leaves covers the size of the fraction
@@ -127,45 +162,58 @@ upper_z q b n d k o h =
     le_over (q ∷ b ∷ n ∷ d ∷ k ∷ []) (((at 1 ⊗ at 3 ⊕ at 2 ⊗ at 4) ⊗ at 4 ≼ at 0 ⊗ (at 4 ⊗ at 3)) ∷ []) (at 4) (at 2 ⊗ at 4) ((at 0 ⊖ at 1) ⊗ at 3) (known 0) refl o (h, tt)
 
 -- the ends of a widening are the best
-pub widen_best : (f : Fraction) (a b m lo hi : ℤ) (i : Interval) → lo ≤ℤ hi → IsMargin f m → lo ≡ a -ℤ m → hi ≡ b +ℤ m → Keeps64 lo hi i → IsBest (widen f (between (at_36 a) (at_36 b))) i
+pub widen_best : (scale : Scale) → (f : Fraction) (a b m lo hi : ℤ) (i : Interval) → lo ≤ℤ hi → IsMarginAt scale f m → lo ≡ a -ℤ m → hi ≡ b +ℤ m → ShowsEnds scale lo hi i → IsBestAt scale (widen f (between (at_scale scale a) (at_scale scale b))) i
 unfolding widen plus opposite size
-widen_best f a b m lo hi i o h el eh k =
+widen_best coarse f a b m lo hi i o h el eh k =
     let e = den_product (2 ^ 36 - 1) f.below in
     record {
       best = λ p q fp fq w.
           let x = w.ends.0.cross in
           let y = w.ends.1.cross in
-          let l = margin_least f m (a -ℤ p) h (lower_z p a (pos (unsigned_abs f.num)) (pos (suc f.below)) (pos (2 ^ 36)) (omega (arith, ints)) (rw e at x)) in
-          let g = margin_least f m (q -ℤ b) h (upper_z q b (pos (unsigned_abs f.num)) (pos (suc f.below)) (pos (2 ^ 36)) (omega (arith, ints)) (rw e at y)) in
-          kept_best lo hi p q i o k fp fq (omega (arith, ints, l)) (omega (arith, ints, g));
+          let l = margin_least coarse f m (a -ℤ p) h (lower_z p a (pos (unsigned_abs f.num)) (pos (suc f.below)) (pos (2 ^ 36)) (omega (arith, ints)) (rw e at x)) in
+          let g = margin_least coarse f m (q -ℤ b) h (upper_z q b (pos (unsigned_abs f.num)) (pos (suc f.below)) (pos (2 ^ 36)) (omega (arith, ints)) (rw e at y)) in
+          kept_best coarse lo hi p q i o k fp fq (omega (arith, ints, l)) (omega (arith, ints, g));
+    }
+widen_best fine f a b m lo hi i o h el eh k =
+    let e = den_product (2 ^ 56 - 1) f.below in
+    record {
+      best = λ p q fp fq w.
+          let x = w.ends.0.cross in
+          let y = w.ends.1.cross in
+          let l = margin_least fine f m (a -ℤ p) h (lower_z p a (pos (unsigned_abs f.num)) (pos (suc f.below)) (pos (2 ^ 56)) (omega (arith, ints)) (rw e at x)) in
+          let g = margin_least fine f m (q -ℤ b) h (upper_z q b (pos (unsigned_abs f.num)) (pos (suc f.below)) (pos (2 ^ 56)) (omega (arith, ints)) (rw e at y)) in
+          kept_best fine lo hi p q i o k fp fq (omega (arith, ints, l)) (omega (arith, ints, g));
     }
 
 -- any widening of everything is the best
-pub widen_first : (f : Fraction) (i : Interval) → IsBest (widen f everything) i
+pub widen_first : (scale : Scale) → (f : Fraction) (i : Interval) → IsBestAt scale (widen f everything) i
 unfolding widen
-widen_first f i = everything_best i
+widen_first scale f i = everything_best scale i
 
 -- ---- whole numbers and sums
 -- the ends of a whole number are the best
-pub int_best : (n e : ℤ) (i : Interval) → e ≡ n *ℤ pos (2 ^ 36) → Keeps64 e e i → IsBest (between (whole n) (whole n)) i
+pub int_best : (scale : Scale) → (n e : ℤ) (i : Interval) → e ≡ n *ℤ (unit scale) → ShowsEnds scale e e i → IsBestAt scale (between (whole n) (whole n)) i
 -- the ends of a whole number are the best
-int_best n e i r k = record { best = λ p q f g h. kept_best e e p q i (omega (arith, ints)) k f g (omega (arith, ints, h.ends.0.cross)) (omega (arith, ints, h.ends.1.cross)) }
+int_best coarse n e i r k = record { best = λ p q f g h. kept_best coarse e e p q i (omega (arith, ints)) k f g (omega (arith, ints, h.ends.0.cross)) (omega (arith, ints, h.ends.1.cross)) }
+int_best fine n e i r k = record { best = λ p q f g h. kept_best fine e e p q i (omega (arith, ints)) k f g (omega (arith, ints, h.ends.0.cross)) (omega (arith, ints, h.ends.1.cross)) }
 
 -- the ends of a sum are the best
-pub sum_best : (a b c d lo hi : ℤ) (i : Interval) → a ≤ℤ b → c ≤ℤ d → lo ≡ a +ℤ c → hi ≡ b +ℤ d → Keeps64 lo hi i → IsBest (sum (between (at_36 a) (at_36 b)) (between (at_36 c) (at_36 d))) i
+pub sum_best : (scale : Scale) → (a b c d lo hi : ℤ) (i : Interval) → a ≤ℤ b → c ≤ℤ d → lo ≡ a +ℤ c → hi ≡ b +ℤ d → ShowsEnds scale lo hi i → IsBestAt scale (sum (between (at_scale scale a) (at_scale scale b)) (between (at_scale scale c) (at_scale scale d))) i
 unfolding sum plus
-sum_best a b c d lo hi i o o' e e' k =
-    record { best = λ p q f g h. kept_best lo hi p q i (omega (arith, ints)) k f g (omega (arith, ints, h.ends.0.cross)) (omega (arith, ints, h.ends.1.cross)) }
+sum_best coarse a b c d lo hi i o o' e e' k =
+    record { best = λ p q f g h. kept_best coarse lo hi p q i (omega (arith, ints)) k f g (omega (arith, ints, h.ends.0.cross)) (omega (arith, ints, h.ends.1.cross)) }
+sum_best fine a b c d lo hi i o o' e e' k =
+    record { best = λ p q f g h. kept_best fine lo hi p q i (omega (arith, ints)) k f g (omega (arith, ints, h.ends.0.cross)) (omega (arith, ints, h.ends.1.cross)) }
 
 -- where the first is everything, any sum is the best
-pub sum_everything_first : (j i : Interval) → IsBest (sum everything j) i
+pub sum_everything_first : (scale : Scale) → (j i : Interval) → IsBestAt scale (sum everything j) i
 unfolding sum
-sum_everything_first j i = everything_best i
+sum_everything_first scale j i = everything_best scale i
 
 -- where the second is everything, any sum is the best
-pub sum_everything_second : (a b : Fraction) (i : Interval) → IsBest (sum (between a b) everything) i
+pub sum_everything_second : (scale : Scale) → (a b : Fraction) (i : Interval) → IsBestAt scale (sum (between a b) everything) i
 unfolding sum
-sum_everything_second a b i = everything_best i
+sum_everything_second scale a b i = everything_best scale i
 
 -- ---- fractions
 -- no number above a quotient rounded down times the divisor is at most the number
@@ -189,8 +237,8 @@ ceil_best : (q hi g d : ℤ) → pos 0 <ℤ d → IsCeiling hi g d → g ≤ℤ 
 ceil_best q hi g d o c h = by_lt_z q hi (λ l. absurd (ceil_z q hi g d (next_le _ _ o) h (next_le _ _ c.close) (next_le _ _ l))) (λ l. l)
 
 -- the ends around a fraction are the best
-pub constant_best : (f : Fraction) (m lo hi d : ℤ) (i : Interval) → m ≡ f.num *ℤ pos (2 ^ 36) → d ≡ pos (f.below + 1) → IsFloor lo m d → IsCeiling hi m d → Keeps64 lo hi i → IsBest (between f f) i
-constant_best f m lo hi d i em ed l u k =
+pub constant_best : (scale : Scale) → (f : Fraction) (m lo hi d : ℤ) (i : Interval) → m ≡ f.num *ℤ (unit scale) → d ≡ pos (f.below + 1) → IsFloor lo m d → IsCeiling hi m d → ShowsEnds scale lo hi i → IsBestAt scale (between f f) i
+constant_best coarse f m lo hi d i em ed l u k =
     let e : d ≡ pos (suc f.below) = omega (arith, ints) in
     let a = rw e at l in
     let b = rw e at u in
@@ -199,12 +247,24 @@ constant_best f m lo hi d i em ed l u k =
       best = λ p q fp fq h.
           let x : (p *ℤ pos (suc f.below)) ≤ℤ (f.num *ℤ pos (2 ^ 36)) = h.ends.0.cross in
           let y : (f.num *ℤ pos (2 ^ 36)) ≤ℤ (q *ℤ pos (suc f.below)) = h.ends.1.cross in
-          kept_best lo hi p q i (outward_order m m (pos (suc f.below)) lo hi (omega (arith, ints)) a b o) k fp fq
+          kept_best coarse lo hi p q i (outward_order m m (pos (suc f.below)) lo hi (omega (arith, ints)) a b o) k fp fq
+          (floor_best p lo m (pos (suc f.below)) o a (rw em x)) (ceil_best q hi m (pos (suc f.below)) o b (rw em y));
+    }
+constant_best fine f m lo hi d i em ed l u k =
+    let e : d ≡ pos (suc f.below) = omega (arith, ints) in
+    let a = rw e at l in
+    let b = rw e at u in
+    let o : pos 0 <ℤ pos (suc f.below) = omega (arith, ints) in
+    record {
+      best = λ p q fp fq h.
+          let x : (p *ℤ pos (suc f.below)) ≤ℤ (f.num *ℤ pos (2 ^ 56)) = h.ends.0.cross in
+          let y : (f.num *ℤ pos (2 ^ 56)) ≤ℤ (q *ℤ pos (suc f.below)) = h.ends.1.cross in
+          kept_best fine lo hi p q i (outward_order m m (pos (suc f.below)) lo hi (omega (arith, ints)) a b o) k fp fq
           (floor_best p lo m (pos (suc f.below)) o a (rw em x)) (ceil_best q hi m (pos (suc f.below)) o b (rw em y));
     }
 
 -- where a numerator is too great, the fraction lies outside 64 bits
-pub constant_outside : (f : Fraction) (i : Interval) → f.below + 1 < 2 ^ 64 → (SFits w128 (f.num *ℤ pos (2 ^ 36)) → ⊥) → IsBest (between f f) i
+pub constant_outside : (f : Fraction) (i : Interval) → f.below + 1 < 2 ^ 64 → (SFits w128 (f.num *ℤ pos (2 ^ 36)) → ⊥) → IsBestAt coarse (between f f) i
 constant_outside f i l n = record {
   best = λ p q fp fq h.
       let x : (p *ℤ pos (suc f.below)) ≤ℤ (f.num *ℤ pos (2 ^ 36)) = h.ends.0.cross in
@@ -224,32 +284,50 @@ above_z : (q x n d k : ℤ) → pos 1 ≤ℤ k → ((x *ℤ n) *ℤ k) ≤ℤ (q
 above_z q x n d k o h = le_over (q ∷ x ∷ n ∷ d ∷ k ∷ []) (((at 1 ⊗ at 2) ⊗ at 4 ≼ at 0 ⊗ (at 4 ⊗ at 3)) ∷ []) (at 4) (at 1 ⊗ at 2) (at 0 ⊗ at 3) (known 0) refl o (h, tt)
 
 -- a number at the scale that is at most a product with a fraction
-scaled_below : (p x : ℤ) (f : Fraction) → at_36 p ≤F times (at_36 x) f → (p *ℤ pos (suc f.below)) ≤ℤ (x *ℤ f.num)
+scaled_below : (scale : Scale) → (p x : ℤ) (f : Fraction) → at_scale scale p ≤F times (at_scale scale x) f → (p *ℤ pos (suc f.below)) ≤ℤ (x *ℤ f.num)
 unfolding times
-scaled_below p x f h =
+scaled_below coarse p x f h =
     let c = h.cross in
     below_z p x f.num (pos (suc f.below)) (pos (2 ^ 36)) (omega (arith, ints)) (rw (den_product (2 ^ 36 - 1) f.below) at c)
+scaled_below fine p x f h =
+    let c = h.cross in
+    below_z p x f.num (pos (suc f.below)) (pos (2 ^ 56)) (omega (arith, ints)) (rw (den_product (2 ^ 56 - 1) f.below) at c)
 
 -- a number at the scale that is at least a product with a fraction
-scaled_above : (q x : ℤ) (f : Fraction) → times (at_36 x) f ≤F at_36 q → (x *ℤ f.num) ≤ℤ (q *ℤ pos (suc f.below))
+scaled_above : (scale : Scale) → (q x : ℤ) (f : Fraction) → times (at_scale scale x) f ≤F at_scale scale q → (x *ℤ f.num) ≤ℤ (q *ℤ pos (suc f.below))
 unfolding times
-scaled_above q x f h =
+scaled_above coarse q x f h =
     let c = h.cross in
     above_z q x f.num (pos (suc f.below)) (pos (2 ^ 36)) (omega (arith, ints)) (rw (den_product (2 ^ 36 - 1) f.below) at c)
+scaled_above fine q x f h =
+    let c = h.cross in
+    above_z q x f.num (pos (suc f.below)) (pos (2 ^ 56)) (omega (arith, ints)) (rw (den_product (2 ^ 56 - 1) f.below) at c)
 
 -- the ends of a product with a fraction are the best
-pub scale_best : (f : Fraction) (x y n p q m g d lo hi : ℤ) (i : Interval) → AreScaled f x y n p q m g d lo hi → Keeps64 lo hi i → IsBest (product (between (at_36 x) (at_36 y)) (between f f)) i
+pub scale_best : (scale : Scale) → (f : Fraction) (x y n p q m g d lo hi : ℤ) (i : Interval) → AreScaled f x y n p q m g d lo hi → ShowsEnds scale lo hi i → IsBestAt scale (product (between (at_scale scale x) (at_scale scale y)) (between f f)) i
 unfolding product
-scale_best f x y n p q m g d lo hi i s k =
+scale_best coarse f x y n p q m g d lo hi i s k =
     let t = products_of f x y n p q m g d lo hi s in
     let o : pos 0 <ℤ pos (suc f.below) = omega (arith, ints) in
-    let under = least_below (times (at_36 x) f) (times (at_36 x) f) (times (at_36 y) f) (times (at_36 y) f) in
-    let over = greatest_above (times (at_36 x) f) (times (at_36 x) f) (times (at_36 y) f) (times (at_36 y) f) in
+    let under = least_below (times (at_scale coarse x) f) (times (at_scale coarse x) f) (times (at_scale coarse y) f) (times (at_scale coarse y) f) in
+    let over = greatest_above (times (at_scale coarse x) f) (times (at_scale coarse x) f) (times (at_scale coarse y) f) (times (at_scale coarse y) f) in
     record {
       best = λ u v fu fv h.
-          let a = t.order.best_low _ (scaled_below u x f (le_trans _ _ _ h.ends.0 under.0)) (scaled_below u y f (le_trans _ _ _ h.ends.0 under.2)) in
-          let b = t.order.best_high _ (scaled_above v x f (le_trans _ _ _ over.0 h.ends.1)) (scaled_above v y f (le_trans _ _ _ over.2 h.ends.1)) in
-          kept_best lo hi u v i (outward_order m g (pos (suc f.below)) lo hi (sorted_order _ _ _ _ t.order) t.down t.up o) k fu fv
+          let a = t.order.best_low _ (scaled_below coarse u x f (le_trans _ _ _ h.ends.0 under.0)) (scaled_below coarse u y f (le_trans _ _ _ h.ends.0 under.2)) in
+          let b = t.order.best_high _ (scaled_above coarse v x f (le_trans _ _ _ over.0 h.ends.1)) (scaled_above coarse v y f (le_trans _ _ _ over.2 h.ends.1)) in
+          kept_best coarse lo hi u v i (outward_order m g (pos (suc f.below)) lo hi (sorted_order _ _ _ _ t.order) t.down t.up o) k fu fv
+          (floor_best u lo m (pos (suc f.below)) o t.down a) (ceil_best v hi g (pos (suc f.below)) o t.up b);
+    }
+scale_best fine f x y n p q m g d lo hi i s k =
+    let t = products_of f x y n p q m g d lo hi s in
+    let o : pos 0 <ℤ pos (suc f.below) = omega (arith, ints) in
+    let under = least_below (times (at_scale fine x) f) (times (at_scale fine x) f) (times (at_scale fine y) f) (times (at_scale fine y) f) in
+    let over = greatest_above (times (at_scale fine x) f) (times (at_scale fine x) f) (times (at_scale fine y) f) (times (at_scale fine y) f) in
+    record {
+      best = λ u v fu fv h.
+          let a = t.order.best_low _ (scaled_below fine u x f (le_trans _ _ _ h.ends.0 under.0)) (scaled_below fine u y f (le_trans _ _ _ h.ends.0 under.2)) in
+          let b = t.order.best_high _ (scaled_above fine v x f (le_trans _ _ _ over.0 h.ends.1)) (scaled_above fine v y f (le_trans _ _ _ over.2 h.ends.1)) in
+          kept_best fine lo hi u v i (outward_order m g (pos (suc f.below)) lo hi (sorted_order _ _ _ _ t.order) t.down t.up o) k fu fv
           (floor_best u lo m (pos (suc f.below)) o t.down a) (ceil_best v hi g (pos (suc f.below)) o t.up b);
     }
 

@@ -1,11 +1,12 @@
 -- From the operations on intervals and bounds to those on expressions.
-use Rattle.std.proofs.Common.{◌≡◌, ℕ, ◌≤◌, ℤ, pos, ◌*ℤ◌, refl}
+use Rattle.encl_core.specs.Scales.{Scale, coarse, fine, bits_of, limits_on}
+use Rattle.std.proofs.Common.{◌≡◌, ℕ, ◌≤◌, ℤ, pos, ◌*ℤ◌}
 use Rattle.exact_math.specs.Fraction.{Fraction, whole}
 use Rattle.exact_math.specs.Interval.{Interval, between, ◌⊆◌, sum, difference, negative, product, minimum as interval_minimum, maximum as interval_maximum, hull as interval_hull, widen as interval_widen, quotient, power as interval_power}
 use Rattle.exact_math.proofs.Fractions.{le_refl}
 use Rattle.exact_math.proofs.Intervals.{within_refl, within_trans, sum_within, difference_within, negative_within, product_within, minimum_within, maximum_within, hull_within, widen_within, quotient_within, power_within}
 use Rattle.book_model.specs.Expressions.{Expression, World, value, integer, constant, add, subtract, multiply, negate, scale, minimum, maximum, hull, widen, divide, power, remainder}
-use Rattle.book_model.specs.Bounds.{Bound, unbounded, Limits, Reach, IsNarrow, bound_of, integer_bound, constant_bound, sum_bound, scaled_bound, difference_bound, product_bound, power_bound, quotient_bound, negated_bound, minimum_bound, maximum_bound, remainder_bound, spanned_bound, limits_of, limits_36}
+use Rattle.book_model.specs.Bounds.{Bound, unbounded, Limits, Reach, IsNarrow, bound_of, integer_bound, constant_bound, sum_bound, scaled_bound, difference_bound, product_bound, power_bound, quotient_bound, negated_bound, minimum_bound, maximum_bound, hull_bound, widen_bound, remainder_bound, spanned_bound, limits_of}
 use Rattle.book_model.proofs.Values.{value_proper}
 use Rattle.book_model.specs.Relations.{Within, Narrow, Lies, Keeps}
 
@@ -91,30 +92,34 @@ within_remainder shown w m x q i k h p = let a : value w x ⊆ shown i = p.insid
 
 -- ---- the bound that an enclosure keeps
 -- the bound of a whole number
-pub narrow_integer : {E : Type 0} (shown : E → Interval) (r : Reach) (n : ℤ) (k : E) → ((w : ℕ) → IsNarrow w (integer_bound limits_36 n) (shown k)) → Narrow shown (limits_of 36) r (integer n) k
+pub narrow_integer : (ends : Scale) → {E : Type 0} (shown : E → Interval) (r : Reach) (n : ℤ) (k : E) → ((w : ℕ) → IsNarrow w (integer_bound (limits_on ends) n) (shown k)) → Narrow shown (limits_of (bits_of ends)) r (integer n) k
 unfolding Keeps bound_of limits_of
 -- the bound of a whole number
-narrow_integer shown r n k h = record { kept = h r.width }
+narrow_integer coarse shown r n k h = record { kept = h r.width }
+narrow_integer fine shown r n k h = record { kept = h r.width }
 
 -- the bound of a fraction
-pub narrow_constant : {E : Type 0} (shown : E → Interval) (r : Reach) (a : Fraction) (k : E) → ((w : ℕ) → IsNarrow w (constant_bound limits_36 a) (shown k)) → Narrow shown (limits_of 36) r (constant a) k
+pub narrow_constant : (ends : Scale) → {E : Type 0} (shown : E → Interval) (r : Reach) (a : Fraction) (k : E) → ((w : ℕ) → IsNarrow w (constant_bound (limits_on ends) a) (shown k)) → Narrow shown (limits_of (bits_of ends)) r (constant a) k
 unfolding Keeps bound_of limits_of
 -- the bound of a fraction
-narrow_constant shown r a k h = record { kept = h r.width }
+narrow_constant coarse shown r a k h = record { kept = h r.width }
+narrow_constant fine shown r a k h = record { kept = h r.width }
 
 -- the bound of a sum
-pub narrow_add : {E : Type 0} (shown : E → Interval) (r : Reach) (x y : Expression) (i j k : E) → ((w : ℕ) (a b : Bound) → IsNarrow w a (shown i) → IsNarrow w b (shown j) → IsNarrow w (sum_bound limits_36 a b) (shown k))
-    → Narrow shown (limits_of 36) r x i → Narrow shown (limits_of 36) r y j → Narrow shown (limits_of 36) r (add x y) k
+pub narrow_add : (ends : Scale) → {E : Type 0} (shown : E → Interval) (r : Reach) (x y : Expression) (i j k : E) → ((w : ℕ) (a b : Bound) → IsNarrow w a (shown i) → IsNarrow w b (shown j) → IsNarrow w (sum_bound (limits_on ends) a b) (shown k))
+    → Narrow shown (limits_of (bits_of ends)) r x i → Narrow shown (limits_of (bits_of ends)) r y j → Narrow shown (limits_of (bits_of ends)) r (add x y) k
 unfolding Keeps bound_of limits_of
 -- the bound of a sum
-narrow_add shown r x y i j k h p q = record { kept = h r.width _ _ p.kept q.kept }
+narrow_add coarse shown r x y i j k h p q = record { kept = h r.width _ _ p.kept q.kept }
+narrow_add fine shown r x y i j k h p q = record { kept = h r.width _ _ p.kept q.kept }
 
 -- the bound of a product with a fraction
-pub narrow_scale : {E : Type 0} (shown : E → Interval) (r : Reach) (f : Fraction) (x : Expression) (i k : E) → ((w : ℕ) (a : Bound) → IsNarrow w a (shown i) → IsNarrow w (scaled_bound limits_36 f a) (shown k))
-    → Narrow shown (limits_of 36) r x i → Narrow shown (limits_of 36) r (scale f x) k
+pub narrow_scale : (ends : Scale) → {E : Type 0} (shown : E → Interval) (r : Reach) (f : Fraction) (x : Expression) (i k : E) → ((w : ℕ) (a : Bound) → IsNarrow w a (shown i) → IsNarrow w (scaled_bound (limits_on ends) f a) (shown k))
+    → Narrow shown (limits_of (bits_of ends)) r x i → Narrow shown (limits_of (bits_of ends)) r (scale f x) k
 unfolding Keeps bound_of limits_of
 -- the bound of a product with a fraction
-narrow_scale shown r f x i k h p = record { kept = h r.width _ p.kept }
+narrow_scale coarse shown r f x i k h p = record { kept = h r.width _ p.kept }
+narrow_scale fine shown r f x i k h p = record { kept = h r.width _ p.kept }
 
 -- ---- operations of which no width is promised
 -- an expression without a bound has its promise kept by every enclosure
@@ -123,16 +128,18 @@ unfolding Keeps IsNarrow
 narrow_unbounded shown l r x k e = record { kept = rw e tt }
 
 -- the bound of a difference
-pub narrow_subtract : {E : Type 0} (shown : E → Interval) (r : Reach) (x y : Expression) (i j k : E) → ((w : ℕ) (a b : Bound) → IsNarrow w a (shown i) → IsNarrow w b (shown j) → IsNarrow w (difference_bound limits_36 a b) (shown k))
-    → Narrow shown (limits_of 36) r x i → Narrow shown (limits_of 36) r y j → Narrow shown (limits_of 36) r (subtract x y) k
+pub narrow_subtract : (ends : Scale) → {E : Type 0} (shown : E → Interval) (r : Reach) (x y : Expression) (i j k : E) → ((w : ℕ) (a b : Bound) → IsNarrow w a (shown i) → IsNarrow w b (shown j) → IsNarrow w (difference_bound (limits_on ends) a b) (shown k))
+    → Narrow shown (limits_of (bits_of ends)) r x i → Narrow shown (limits_of (bits_of ends)) r y j → Narrow shown (limits_of (bits_of ends)) r (subtract x y) k
 unfolding Keeps bound_of limits_of
-narrow_subtract shown r x y i j k h p q = record { kept = h r.width _ _ p.kept q.kept }
+narrow_subtract coarse shown r x y i j k h p q = record { kept = h r.width _ _ p.kept q.kept }
+narrow_subtract fine shown r x y i j k h p q = record { kept = h r.width _ _ p.kept q.kept }
 
 -- the bound of a product
-pub narrow_multiply : {E : Type 0} (shown : E → Interval) (r : Reach) (x y : Expression) (i j k : E) → ((w : ℕ) (a b : Bound) → IsNarrow w a (shown i) → IsNarrow w b (shown j) → IsNarrow w (product_bound limits_36 a b) (shown k))
-    → Narrow shown (limits_of 36) r x i → Narrow shown (limits_of 36) r y j → Narrow shown (limits_of 36) r (multiply x y) k
+pub narrow_multiply : (ends : Scale) → {E : Type 0} (shown : E → Interval) (r : Reach) (x y : Expression) (i j k : E) → ((w : ℕ) (a b : Bound) → IsNarrow w a (shown i) → IsNarrow w b (shown j) → IsNarrow w (product_bound (limits_on ends) a b) (shown k))
+    → Narrow shown (limits_of (bits_of ends)) r x i → Narrow shown (limits_of (bits_of ends)) r y j → Narrow shown (limits_of (bits_of ends)) r (multiply x y) k
 unfolding Keeps bound_of limits_of
-narrow_multiply shown r x y i j k h p q = record { kept = h r.width _ _ p.kept q.kept }
+narrow_multiply coarse shown r x y i j k h p q = record { kept = h r.width _ _ p.kept q.kept }
+narrow_multiply fine shown r x y i j k h p q = record { kept = h r.width _ _ p.kept q.kept }
 
 -- the bound of the lesser
 pub narrow_minimum : {E : Type 0} (shown : E → Interval) (l : Limits) (r : Reach) (x y : Expression) (i j k : E) → ((w : ℕ) (a b : Bound) → IsNarrow w a (shown i) → IsNarrow w b (shown j) → IsNarrow w (minimum_bound a b) (shown k))
@@ -146,51 +153,60 @@ pub narrow_maximum : {E : Type 0} (shown : E → Interval) (l : Limits) (r : Rea
 unfolding Keeps bound_of
 narrow_maximum shown l r x y i j k h p q = record { kept = h r.width _ _ p.kept q.kept }
 
--- no bound of a hull
-pub narrow_hull : {E : Type 0} (shown : E → Interval) (l : Limits) (r : Reach) (x y : Expression) (k : E) → Narrow shown l r (hull x y) k
-unfolding bound_of
-narrow_hull shown l r x y k = narrow_unbounded shown l r (hull x y) k refl
+-- the bound of a hull
+pub narrow_hull : {E : Type 0} (shown : E → Interval) (l : Limits) (r : Reach) (x y : Expression) (i j k : E) → ((w : ℕ) (a b : Bound) → IsNarrow w a (shown i) → IsNarrow w b (shown j) → IsNarrow w (hull_bound a b) (shown k))
+    → Narrow shown l r x i → Narrow shown l r y j → Narrow shown l r (hull x y) k
+unfolding Keeps bound_of
+narrow_hull shown l r x y i j k h p q = record { kept = h r.width _ _ p.kept q.kept }
 
 -- the bound of an opposite
-pub narrow_negate : {E : Type 0} (shown : E → Interval) (r : Reach) (x : Expression) (i k : E) → ((w : ℕ) (a : Bound) → IsNarrow w a (shown i) → IsNarrow w (negated_bound limits_36 a) (shown k))
-    → Narrow shown (limits_of 36) r x i → Narrow shown (limits_of 36) r (negate x) k
+pub narrow_negate : (ends : Scale) → {E : Type 0} (shown : E → Interval) (r : Reach) (x : Expression) (i k : E) → ((w : ℕ) (a : Bound) → IsNarrow w a (shown i) → IsNarrow w (negated_bound (limits_on ends) a) (shown k))
+    → Narrow shown (limits_of (bits_of ends)) r x i → Narrow shown (limits_of (bits_of ends)) r (negate x) k
 unfolding Keeps bound_of limits_of
-narrow_negate shown r x i k h p = record { kept = h r.width _ p.kept }
+narrow_negate coarse shown r x i k h p = record { kept = h r.width _ p.kept }
+narrow_negate fine shown r x i k h p = record { kept = h r.width _ p.kept }
 
--- no bound of a widening
-pub narrow_widen : {E : Type 0} (shown : E → Interval) (l : Limits) (r : Reach) (f : Fraction) (x : Expression) (k : E) → Narrow shown l r (widen f x) k
-unfolding bound_of
-narrow_widen shown l r f x k = narrow_unbounded shown l r (widen f x) k refl
+-- the bound of a widening
+pub narrow_widen : (ends : Scale) → {E : Type 0} (shown : E → Interval) (r : Reach) (f : Fraction) (x : Expression) (i k : E) → ((w : ℕ) (a : Bound) → IsNarrow w a (shown i) → IsNarrow w (widen_bound (limits_on ends) f a) (shown k))
+    → Narrow shown (limits_of (bits_of ends)) r x i → Narrow shown (limits_of (bits_of ends)) r (widen f x) k
+unfolding Keeps bound_of limits_of
+narrow_widen coarse shown r f x i k h p = record { kept = h r.width _ p.kept }
+narrow_widen fine shown r f x i k h p = record { kept = h r.width _ p.kept }
 
 -- the bound of a quotient
-pub narrow_divide : {E : Type 0} (shown : E → Interval) (r : Reach) (x y : Expression) (i j k : E) → ((w : ℕ) (a b : Bound) → IsNarrow w a (shown i) → IsNarrow w b (shown j) → IsNarrow w (quotient_bound limits_36 a b) (shown k))
-    → Narrow shown (limits_of 36) r x i → Narrow shown (limits_of 36) r y j → Narrow shown (limits_of 36) r (divide x y) k
+pub narrow_divide : (ends : Scale) → {E : Type 0} (shown : E → Interval) (r : Reach) (x y : Expression) (i j k : E) → ((w : ℕ) (a b : Bound) → IsNarrow w a (shown i) → IsNarrow w b (shown j) → IsNarrow w (quotient_bound (limits_on ends) a b) (shown k))
+    → Narrow shown (limits_of (bits_of ends)) r x i → Narrow shown (limits_of (bits_of ends)) r y j → Narrow shown (limits_of (bits_of ends)) r (divide x y) k
 unfolding Keeps bound_of limits_of
-narrow_divide shown r x y i j k h p q = record { kept = h r.width _ _ p.kept q.kept }
+narrow_divide coarse shown r x y i j k h p q = record { kept = h r.width _ _ p.kept q.kept }
+narrow_divide fine shown r x y i j k h p q = record { kept = h r.width _ _ p.kept q.kept }
 
 -- the bound of a square
-pub narrow_square : {E : Type 0} (shown : E → Interval) (r : Reach) (x : Expression) (i k : E) → ((w : ℕ) (a : Bound) → IsNarrow w a (shown i) → IsNarrow w (power_bound limits_36 a 2) (shown k))
-    → Narrow shown (limits_of 36) r x i → Narrow shown (limits_of 36) r (power x 2) k
+pub narrow_square : (ends : Scale) → {E : Type 0} (shown : E → Interval) (r : Reach) (x : Expression) (i k : E) → ((w : ℕ) (a : Bound) → IsNarrow w a (shown i) → IsNarrow w (power_bound (limits_on ends) a 2) (shown k))
+    → Narrow shown (limits_of (bits_of ends)) r x i → Narrow shown (limits_of (bits_of ends)) r (power x 2) k
 unfolding Keeps bound_of limits_of
-narrow_square shown r x i k h p = record { kept = h r.width _ p.kept }
+narrow_square coarse shown r x i k h p = record { kept = h r.width _ p.kept }
+narrow_square fine shown r x i k h p = record { kept = h r.width _ p.kept }
 
 -- the bound of a remainder
-pub narrow_remainder : {E : Type 0} (shown : E → Interval) (r : Reach) (m : ℕ) (x : Expression) (q : ℤ) (i k : E) → ((w : ℕ) (a : Bound) → IsNarrow w a (shown i) → IsNarrow w (remainder_bound limits_36 m a) (shown k))
-    → Narrow shown (limits_of 36) r x i → Narrow shown (limits_of 36) r (remainder m x q) k
+pub narrow_remainder : (ends : Scale) → {E : Type 0} (shown : E → Interval) (r : Reach) (m : ℕ) (x : Expression) (q : ℤ) (i k : E) → ((w : ℕ) (a : Bound) → IsNarrow w a (shown i) → IsNarrow w (remainder_bound (limits_on ends) m a) (shown k))
+    → Narrow shown (limits_of (bits_of ends)) r x i → Narrow shown (limits_of (bits_of ends)) r (remainder m x q) k
 unfolding Keeps bound_of limits_of
-narrow_remainder shown r m x q i k h p = record { kept = h r.width _ p.kept }
+narrow_remainder coarse shown r m x q i k h p = record { kept = h r.width _ p.kept }
+narrow_remainder fine shown r m x q i k h p = record { kept = h r.width _ p.kept }
 
 -- the bound of ends that count 2^-56
-pub narrow_spanned : (w : ℕ) (b : Bound) (i j : Interval) → (IsNarrow w b i → IsNarrow w (spanned_bound limits_36 b) j) → IsNarrow w b i → IsNarrow w (spanned_bound (limits_of 36) b) j
+pub narrow_spanned : (ends : Scale) → (w : ℕ) (b : Bound) (i j : Interval) → (IsNarrow w b i → IsNarrow w (spanned_bound (limits_on ends) b) j) → IsNarrow w b i → IsNarrow w (spanned_bound (limits_of (bits_of ends)) b) j
 unfolding limits_of
-narrow_spanned w b i j h p = h p
+narrow_spanned coarse w b i j h p = h p
+narrow_spanned fine w b i j h p = h p
 
 -- the angle of a wave: a phase, and a rate times the value
 pub within_angle : {E : Type 0} (shown : E → Interval) (w : World) (f g : Fraction) (x : Expression) (i k : E) → sum (between f f) (product (shown i) (between g g)) ⊆ shown k → Within shown w x i → Within shown w (add (constant f) (scale g x)) k
 unfolding Lies value
 within_angle shown w f g x i k h p = record { deep = p.deep; inside = within_trans (sum_within (within_refl (between f f)) (product_within (value_proper w x) (le_refl g) p.inside (within_refl (between g g)))) h }
 
-pub narrow_angle : {E : Type 0} (shown : E → Interval) (r : Reach) (f g : Fraction) (x : Expression) (i k : E) → ((w : ℕ) (a : Bound) → IsNarrow w a (shown i) → IsNarrow w (sum_bound limits_36 (constant_bound limits_36 f) (scaled_bound limits_36 g a)) (shown k))
-    → Narrow shown (limits_of 36) r x i → Narrow shown (limits_of 36) r (add (constant f) (scale g x)) k
+pub narrow_angle : (ends : Scale) → {E : Type 0} (shown : E → Interval) (r : Reach) (f g : Fraction) (x : Expression) (i k : E) → ((w : ℕ) (a : Bound) → IsNarrow w a (shown i) → IsNarrow w (sum_bound (limits_on ends) (constant_bound (limits_on ends) f) (scaled_bound (limits_on ends) g a)) (shown k))
+    → Narrow shown (limits_of (bits_of ends)) r x i → Narrow shown (limits_of (bits_of ends)) r (add (constant f) (scale g x)) k
 unfolding Keeps bound_of limits_of
-narrow_angle shown r f g x i k h p = record { kept = h r.width _ p.kept }
+narrow_angle coarse shown r f g x i k h p = record { kept = h r.width _ p.kept }
+narrow_angle fine shown r f g x i k h p = record { kept = h r.width _ p.kept }

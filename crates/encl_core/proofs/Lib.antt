@@ -4,7 +4,7 @@ pub mod Enclosing
 pub mod Best
 pub mod Scaling
 pub mod Testing
-pub mod Knowing
+pub mod Unpromised
 pub mod Divisions
 pub mod Periods
 pub mod PiEnds
@@ -16,3 +16,4 @@ pub mod Ratios
 pub mod WaveAngles
 pub mod RootEnds
 pub mod RootWidths
+pub mod Widenings

@@ -1,4 +1,5 @@
 -- The angle of a wave at scale 2^-36: a phase and a rate times the days, by one quotient at each end.
+use Rattle.encl_core.specs.Scales.{coarse}
 use Rattle.std.proofs.Common.{◌≡◌, ℕ, ◌^◌, refl, arith, ℤ, pos, ◌+ℤ◌, ◌*ℤ◌, ◌≤ℤ◌, ◌<ℤ◌}
 use lib.IntN.{neg_ℤ}
 use Rattle.std.specs.Int.{int_min, int_max}
@@ -56,7 +57,7 @@ turned_encloses phase rate x y p q m g lo hi i t k =
     let ly : at_36 lo ≤F at_angle phase rate y = angle_above phase rate y lo (omega (arith, ints, t.down.not_above, t.order.low_second, t.second)) in
     let ux : at_angle phase rate x ≤F at_36 hi = angle_below phase rate x hi (omega (arith, ints, t.up.not_below, t.order.high_first, t.first)) in
     let uy : at_angle phase rate y ≤F at_36 hi = angle_below phase rate y hi (omega (arith, ints, t.up.not_below, t.order.high_second, t.second)) in
-    within_trans (record { ends = (least_keeps L _ _ _ _ lx lx ly ly, greatest_keeps U _ _ _ _ ux ux uy uy) }) (kept_within lo hi i k)
+    within_trans (record { ends = (least_keeps L _ _ _ _ lx lx ly ly, greatest_keeps U _ _ _ _ ux ux uy uy) }) (kept_within coarse lo hi i k)
 
 -- ---- no wider than the phase and the product apart
 phase_ceiling : (n f : ℤ) → IsFloor f (neg_ℤ n) (pos 10000000) → IsCeiling (neg_ℤ f) n (pos 10000000)
@@ -104,8 +105,8 @@ turned_narrow w a phase rate x y p q m g lo hi i t k h =
     let fc = floor_quotient_floor least 365249999999 in
     let fe = rate_ceiling most _ (floor_quotient_floor (neg_ℤ most) 365249999999) in
     let s : AreScaled (daily_ten_millionths rate) x y rate (x *ℤ rate) (y *ℤ rate) least most D c e = record { numerator = refl; first = refl; second = refl; denominator = refl; order = sorted_by (x *ℤ rate) (y *ℤ rate); down = fc; up = fe } in
-    let kc = constant_narrow (ten_millionths phase) w n l u (pos 10000000) (between (at_36 l) (at_36 u)) refl refl fl fu fitting in
-    let ks = scaled_narrow w a (daily_ten_millionths rate) x y rate (x *ℤ rate) (y *ℤ rate) least most D c e (between (at_36 c) (at_36 e)) s fitting h in
-    sum_narrow_inner w _ _ l u c e lo hi i (turned_order phase rate x y p q m g lo hi t)
+    let kc = constant_narrow coarse (ten_millionths phase) w n l u (pos 10000000) (between (at_36 l) (at_36 u)) refl refl fl fu fitting in
+    let ks = scaled_narrow coarse w a (daily_ten_millionths rate) x y rate (x *ℤ rate) (y *ℤ rate) least most D c e (between (at_36 c) (at_36 e)) s fitting h in
+    sum_narrow_inner coarse w _ _ l u c e lo hi i (turned_order phase rate x y p q m g lo hi t)
     (inner_low phase least m l c lo fl.not_above fc.not_above (least_turned phase rate x y p q m g lo hi t) t.down.close)
     (inner_high phase most g u e hi fu.not_below fe.not_below (greatest_turned phase rate x y p q m g lo hi t) t.up.close) k kc ks

@@ -1,3 +1,4 @@
+pub mod Scales
 pub mod Rounding
 pub mod Shown
 pub mod Steps

@@ -17,16 +17,9 @@ abbrev pub shown_coarse : Coarse → Interval
 shown_coarse x = shown_ends x.ends
 
 -- its ends are in order
-ends_proper : (o : Option Ends) → IsProper (shown_ends o)
+pub ends_proper : (o : Option Ends) → IsProper (shown_ends o)
 ends_proper None = tt
 ends_proper (Some e) = record { cross = omega (arith, ints, e.ordered) }
 
 pub coarse_proper : (x : Coarse) → IsProper (shown_coarse x)
 coarse_proper x = ends_proper x.ends
-
--- the interval that an enclosure shows which knows nothing
-abbrev pub shown_unknown : {E : Type 0} → E → Interval
-shown_unknown e = everything
-
-pub unknown_proper : {E : Type 0} (e : E) → IsProper (shown_unknown e)
-unknown_proper e = tt

@@ -4,7 +4,7 @@ ghost use Rattle.std.specs.Int.{w64, w128};
 ghost use Rattle.exact_math.specs.Fraction.{whole as whole_number};
 ghost use Rattle.exact_math.specs.Interval.{◌⊆◌, sum, difference, negative, product, minimum, maximum, hull, widen, between};
 ghost use Rattle.book_model.specs.Fractions.{fraction_of};
-ghost use Rattle.book_model.specs.Bounds.{Bound, IsNarrow, integer_bound, constant_bound, sum_bound, scaled_bound, difference_bound, product_bound, negated_bound, minimum_bound, maximum_bound, limits_36};
+ghost use Rattle.book_model.specs.Bounds.{Bound, IsNarrow, integer_bound, constant_bound, sum_bound, scaled_bound, difference_bound, product_bound, negated_bound, minimum_bound, maximum_bound, hull_bound, widen_bound, limits_36};
 ghost use Rattle.encl_core.specs.Shown.{shown_ends};
 ghost use Rattle.rounded_quotients.specs.Rounding.{IsBelowFour, IsAboveFour, IsAboveEachBelow, IsBelowEachAbove};
 ghost use Rattle.encl_core.specs.Rounding.{IsMargin, IsBest, Keeps64};
@@ -257,6 +257,7 @@ pub(crate) fn max_ends(x: Option<Ends>, y: Option<Ends>) -> Option<Ends>
 pub(crate) fn hull_ends(x: Option<Ends>, y: Option<Ends>) -> Option<Ends>
     ensures holds { hull (shown_ends x) (shown_ends y) ⊆ shown_ends result }
     ensures tight { shown_ends result ⊆ hull (shown_ends x) (shown_ends y) }
+    ensures narrow { (w : ℕ) (a b : Bound) → IsNarrow w a (shown_ends x) → IsNarrow w b (shown_ends y) → IsNarrow w (hull_bound a b) (shown_ends result) }
 {
     let x = x?;
     let y = y?;
@@ -278,6 +279,7 @@ fn margin_of(by: Frac) -> Option<i128>
 pub(crate) fn widen_ends(x: Option<Ends>, by: Frac) -> Option<Ends>
     ensures holds { widen (fraction_of by) (shown_ends x) ⊆ shown_ends result }
     ensures best { unsigned_abs by.num < 2 ^ 90 → IsBest (widen (fraction_of by) (shown_ends x)) (shown_ends result) }
+    ensures narrow { (w : ℕ) (a : Bound) → IsNarrow w a (shown_ends x) → IsNarrow w (widen_bound limits_36 (fraction_of by) a) (shown_ends result) }
 {
     let x = x?;
     let margin = margin_of(by)?;

@@ -66,7 +66,6 @@ fn cut_ends(x: Ends) -> Ends
 }
 
 /// Both ends of -1..1.
-#[tactic(auto, using(crate::proofs::RootEnds::cut_all))]
 fn unit_ends() -> Ends
     ensures holds { clamp everything ⊆ between (at_36 result.lo) (at_36 result.hi) }
 {

@@ -1,137 +1,18 @@
-//! What no clause says: one happy path of each operation, the ends that open tests name, and a second kind of
-//! enclosures, which knows nothing, at another scale.
-ghost use Rattle.std.specs.Prelude.{refl, ◌≤◌, ◌+◌};
+//! What no clause says: one happy path of each operation, the ends that open tests name, and another kind of enclosures, at a
+//! rough scale.
+mod rough;
+
+ghost use Rattle.std.specs.Prelude.{◌≤◌, ◌+◌};
 ghost use Rattle.book_model.specs.declared.site.Site.TheVariants.{DayTest as AtDayTest};
 ghost use Rattle.book_model.specs.Expressions.{World, integer};
 ghost use Rattle.book_model.specs.Leading.{Exact, Leads};
 ghost use Rattle.book_model.specs.Programs.{answer, compare};
-ghost use Rattle.encl_core.specs.Shown.{shown_unknown, unknown_proper};
 ghost use Rattle.book_model.specs.Depth.{DEPTH};
 
-use crate::{
-    Coarse, DayTest, Enclosure, Span, Trail, first_day, floor_step, less_step, pi, wrap_step,
-};
+use crate::{Coarse, DayTest, Enclosure, Trail, first_day, floor_step, less_step, pi, wrap_step};
 use book_model::{Fail as FormulaFail, Frac, Site, Undecided};
+use rough::Rough;
 use std::test::Fail;
-
-/// An enclosure that shows every number.
-#[derive(Clone, Copy, Debug, PartialEq)]
-struct Unknown;
-
-impl Enclosure for Unknown {
-    ghost shown = { shown_unknown };
-
-    ghost proper = { unknown_proper };
-
-    ghost BITS = { 8 };
-
-    ghost DEPTH = { 40 };
-
-    ghost depth_law = { refl };
-
-    const BITS: u32 = 8;
-
-    const DEPTH: u32 = 40;
-
-    fn whole() -> Self {
-        Unknown
-    }
-
-    fn from_int(_value: i64) -> Self {
-        Unknown
-    }
-
-    fn from_frac(_value: Frac) -> Self {
-        Unknown
-    }
-
-    fn from_span(_span: Span) -> Self {
-        Unknown
-    }
-
-    fn add(self, _other: Self) -> Self {
-        self
-    }
-
-    fn sub(self, _other: Self) -> Self {
-        self
-    }
-
-    fn mul(self, _other: Self) -> Self {
-        self
-    }
-
-    fn min(self, _other: Self) -> Self {
-        self
-    }
-
-    fn max(self, _other: Self) -> Self {
-        self
-    }
-
-    fn hull(self, _other: Self) -> Self {
-        self
-    }
-
-    fn neg(self) -> Self {
-        self
-    }
-
-    fn widen(self, _by: Frac) -> Self {
-        self
-    }
-
-    fn mul_frac(self, _by: Frac) -> Self {
-        self
-    }
-
-    fn div(self, _other: Self) -> Self {
-        self
-    }
-
-    fn square(self) -> Self {
-        self
-    }
-
-    fn root(self) -> Self {
-        self
-    }
-
-    fn clamp_unit(self) -> Self {
-        self
-    }
-
-    fn span(self) -> Option<Span> {
-        None
-    }
-
-    fn less(self, _other: Self, site: Site, trail: &mut Trail) -> Result<bool, Undecided> {
-        Err(Undecided {
-            turn: trail.step(),
-            site,
-            lo: i128::MIN,
-            hi: i128::MAX,
-        })
-    }
-
-    fn floor(self, site: Site, trail: &mut Trail) -> Result<i64, Undecided> {
-        Err(Undecided {
-            turn: trail.step(),
-            site,
-            lo: i128::MIN,
-            hi: i128::MAX,
-        })
-    }
-
-    fn wrap(self, _modulus: u32, site: Site, trail: &mut Trail) -> Result<Self, Undecided> {
-        Err(Undecided {
-            turn: trail.step(),
-            site,
-            lo: i128::MIN,
-            hi: i128::MAX,
-        })
-    }
-}
 
 /// Whether a day comes after another, as one test.
 #[tactic(auto, unfolding(book_model::specs::Leading::next_turn))]
@@ -142,7 +23,7 @@ fn is_after<E: Enclosure>(day: i64, earlier: i64, trail: &mut Trail) -> Result<b
     less_step(E::from_int(earlier), E::from_int(day), Site::DayTest, trail)
 }
 
-/// Looks for the days after one. Each is open where the enclosures know nothing.
+/// Looks for the days after one.
 #[derive(Clone, Copy, Debug, PartialEq)]
 struct After {
     day: i64,
@@ -277,7 +158,10 @@ fn ranges_keep_their_ends(rt: HostRuntime) -> Result<(), Fail> {
         mixed(one_to_three, range(2, 4), fraction(1, 2)?),
         range(0, 5)
     );
-    assert_eq!(rt; mixed(Unknown, Unknown, fraction(1, 2)?), Unknown);
+    assert_eq!(rt;
+        mixed(range::<Rough>(1, 3), range(2, 4), fraction(1, 2)?),
+        range(0, 5)
+    );
     Ok(())
 }
 
@@ -397,7 +281,7 @@ fn steps_carry_the_test_that_is_open(rt: HostRuntime) {
         hi: i128::MAX,
     };
     assert_eq!(rt;
-        less_step(Unknown, Unknown, Site::Search, &mut trail),
+        less_step(Rough::whole(), Rough::whole(), Site::Search, &mut trail),
         Err(open.into())
     );
     assert_eq!(rt; trail.count(), 3);
@@ -482,7 +366,7 @@ fn a_wrap_is_open_where_the_periods_differ(rt: HostRuntime) -> Result<(), Fail> 
         hi: i128::MAX,
     };
     assert_eq!(rt;
-        wrap_step(Unknown, 360, Site::Round, &mut trail),
+        wrap_step(Rough::whole(), 360, Site::Round, &mut trail),
         Err(nowhere.into())
     );
     assert_eq!(rt; trail.count(), 5);
@@ -494,6 +378,35 @@ fn pi_lies_between_neighbours(rt: HostRuntime) -> Result<(), Fail> {
     let ends = pi::<Coarse>().ends.ok_or("whole")?;
     assert_eq!(rt; ends.lo, 215_888_603_272);
     assert_eq!(rt; ends.hi, 215_888_603_273);
+    Ok(())
+}
+
+#[test]
+fn rough_ends_are_multiples_of_a_256th(rt: HostRuntime) -> Result<(), Fail> {
+    let third = Rough::from_frac(fraction(-1, 3)?);
+    let two = Rough::from_int(2);
+    for (found, low, high) in [
+        (third, -86, -85),
+        (third.neg().add(two), 597, 598),
+        (third.mul_frac(fraction(1, 2)?), -43, -42),
+        (third.square(), 28, 29),
+        (two.root(), 362, 363),
+        (two.div(Rough::from_int(7)), 73, 74),
+        (two.widen(fraction(1, 3)?), 426, 598),
+        (range::<Rough>(0, 3).clamp_unit(), 0, 256),
+    ] {
+        let (low, high) = (fraction(low, 256)?, fraction(high, 256)?);
+        assert_eq!(rt; found, Rough::from_frac(low).hull(Rough::from_frac(high)));
+    }
+    let mut trail = Trail::new();
+    assert_eq!(rt;
+        third.wrap(360, Site::Round, &mut trail),
+        Ok(third.add(Rough::from_int(360)))
+    );
+    assert_eq!(rt; third.less(two, Site::Search, &mut trail), Ok(true));
+    assert_eq!(rt; third.floor(Site::Search, &mut trail), Ok(-1));
+    let span = two.span().ok_or("whole")?;
+    assert_eq!(rt; Rough::from_span(span), two);
     Ok(())
 }
 
@@ -521,6 +434,11 @@ fn a_search_answers_the_first_day(rt: HostRuntime) {
             (Ok(found), tests),
             "after {day}"
         );
+        assert_eq!(rt;
+            first_after::<Rough>(day),
+            (Ok(found), tests),
+            "roughly after {day}"
+        );
     }
 }
 
@@ -539,5 +457,5 @@ fn a_search_fails_where_its_test_does(rt: HostRuntime) {
         lo: i128::MIN,
         hi: i128::MAX,
     };
-    assert_eq!(rt; first_after::<Unknown>(0), (Err(open.into()), 1));
+    assert_eq!(rt; first_after::<Rough>(200_000_000), (Err(open.into()), 1));
 }

@@ -1,5 +1,5 @@
 -- An enclosure of a whole day lies in its year.
-use Rattle.std.specs.Prelude.{◌≡◌, ℕ, ◌-◌, ◌*◌, ◌^◌, ◌≤◌, nat_lt, true, ℤ, pos, ◌*ℤ◌, unsigned_abs, Some, FitsSigned, refl}
+use Rattle.std.specs.Prelude.{◌≡◌, ℕ, ◌-◌, ◌*◌, ◌^◌, ◌≤◌, ◌<◌, nat_lt, nat_le, cond, Bool, true, false, ℤ, pos, ◌*ℤ◌, unsigned_abs, Some, FitsSigned, refl}
 use Rattle.std.proofs.Common.{arith, subst}
 use Rattle.std.proofs.lemmas.Int.{ints}
 use Rattle.std.specs.Int.{w64}
@@ -37,11 +37,16 @@ year_of_ends (between lo hi) d w h =
     let t : int_eq (year_of_day d) (year_of_day d) ≡ true = (Decides-int_eq (year_of_day d) (year_of_day d)).1 refl in
     rw (p, q, t) refl
 
+-- a number that the least of the scales bears is one that each bears
+small_at : (t : Bool) (n : ℕ) → n < 2 ^ 58 → nat_lt n (cond t (2 ^ 58) (2 ^ 100)) ≡ true
+small_at true n h = (Decides-ltb n (2 ^ 58)).1 h
+small_at false n h = (Decides-ltb n (2 ^ 100)).1 (omega (arith, h))
+
 pub year_enclosed : {E : Type 0} (shown : E → Interval) (bits : ℕ) (d : ℤ) (e : E) → 36 ≤ bits → bits ≤ 56 → IsValueDay d → Narrow shown (limits_of bits) (record { width = 0; bounds = λ k. unbounded }) (integer d) e
     → cell_at years (shown e) ≡ Some (year_of_day d)
 unfolding Keeps bound_of integer_bound
 year_enclosed shown bits d e a b h n =
-    let small : nat_lt (unsigned_abs d * 2 ^ 32) (2 ^ 58) ≡ true = (Decides-ltb (unsigned_abs d * 2 ^ 32) (2 ^ 58)).1 (omega (arith, ints, h.0, h.1)) in
+    let small = small_at (nat_le bits 36) (unsigned_abs d * 2 ^ 32) (omega (arith, ints, h.0, h.1)) in
     let kept = (rw (limits_within bits a b) at n).kept in
     year_of_ends (shown e) d 0 (rw small at kept)
 

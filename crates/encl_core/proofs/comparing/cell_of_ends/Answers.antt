@@ -1,3 +1,4 @@
+use Rattle.encl_core.specs.Scales.{coarse}
 use Rattle.std.proofs.Common.{rules, arith, SFits, w64}
 use Rattle.std.proofs.lemmas.Int.{ints, to_z-of_z}
 use Rattle.encl_core.proofs.Testing.{cell_same, cell_apart, cell_nowhere}
@@ -14,7 +15,7 @@ returns-then-cell-floor_of c =
     let fq : SFits w64 c.floor_of.result = search rules in
     let p = simp to_z-of_z at c.floor_of-cell.ensures.value in
     let q = simp to_z-of_z at c.floor_of.ensures.value in
-    record { value = rw c.in_ok-e.was (cell_same c.in_ok-e.e.lo c.in_ok-e.e.hi c.floor_of-cell.result c.floor_of.result _ p q (omega (arith, ints, c.if-cell-floor_of.true)) (omega (arith, ints))) }
+    record { value = rw c.in_ok-e.was (cell_same coarse c.in_ok-e.e.lo c.in_ok-e.e.hi c.floor_of-cell.result c.floor_of.result _ p q (omega (arith, ints, c.if-cell-floor_of.true)) (omega (arith, ints))) }
 
 pub returns-else-cell-floor_of : goal.returns-else-cell-floor_of
 returns-else-cell-floor_of c =
@@ -24,4 +25,4 @@ returns-else-cell-floor_of c =
     let fq : SFits w64 c.floor_of.result = search rules in
     let p = simp to_z-of_z at c.floor_of-cell.ensures.value in
     let q = simp to_z-of_z at c.floor_of.ensures.value in
-    record { value = rw c.in_ok-e.was (cell_apart c.in_ok-e.e.lo c.in_ok-e.e.hi c.floor_of-cell.result c.floor_of.result p q (λ e. omega (arith, ints, c.if-cell-floor_of.false))) }
+    record { value = rw c.in_ok-e.was (cell_apart coarse c.in_ok-e.e.lo c.in_ok-e.e.hi c.floor_of-cell.result c.floor_of.result p q (λ e. omega (arith, ints, c.if-cell-floor_of.false))) }

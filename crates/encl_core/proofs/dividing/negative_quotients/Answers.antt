@@ -1,3 +1,4 @@
+use Rattle.encl_core.specs.Scales.{coarse}
 use Rattle.std.proofs.Common.{◌≡◌, rules, arith, SFits, w64, pos, refl, ◌-ℤ◌}
 use Rattle.std.specs.Int.{w128}
 use Rattle.std.proofs.lemmas.Int.{ints, to_z-of_z}
@@ -49,4 +50,4 @@ returns c =
     let g4 : SFits w128 (pos 0 -ℤ c.from-4.result) = omega (arith, ints, e4) in
     let q = simp (e1, e2, e3, e4) at (simp to_z-of_z at c.quotients-lo.ensures) in
     let k = simp to_z-of_z at c.ends_of.ensures.kept in
-    record { holds = negative_enclosed c.args.x.lo c.args.x.hi c.args.y.lo c.args.y.hi _ _ _ _ _ _ _ c.args.x.ordered c.requires c.args.y.ordered refl refl refl refl q k }
+    record { holds = negative_enclosed coarse c.args.x.lo c.args.x.hi c.args.y.lo c.args.y.hi _ _ _ _ _ _ _ c.args.x.ordered c.requires c.args.y.ordered refl refl refl refl q k }

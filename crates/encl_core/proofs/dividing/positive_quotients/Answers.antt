@@ -1,3 +1,4 @@
+use Rattle.encl_core.specs.Scales.{coarse}
 use Rattle.std.proofs.Common.{◌≡◌, rules, SFits, w64}
 use Rattle.std.specs.Int.{w128}
 use Rattle.std.proofs.lemmas.Int.{to_z-of_z}
@@ -43,6 +44,6 @@ returns c =
     let q = simp (e1, e2, e3, e4) at (simp to_z-of_z at c.quotients-lo.ensures) in
     let k = simp to_z-of_z at c.ends_of.ensures.kept in
     record {
-      holds = positive_enclosed c.args.x.lo c.args.x.hi c.args.y.lo c.args.y.hi _ _ _ c.args.x.ordered c.requires c.args.y.ordered q k;
-      narrow = λ w a b h n. quotient_narrow w a b c.args.x.lo c.args.x.hi c.args.y.lo c.args.y.hi _ _ _ q k h n;
+      holds = positive_enclosed coarse c.args.x.lo c.args.x.hi c.args.y.lo c.args.y.hi _ _ _ c.args.x.ordered c.requires c.args.y.ordered q k;
+      narrow = λ w a b h n. quotient_narrow coarse w a b c.args.x.lo c.args.x.hi c.args.y.lo c.args.y.hi _ _ _ q k h n;
     }

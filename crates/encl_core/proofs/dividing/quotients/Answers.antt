@@ -1,3 +1,4 @@
+use Rattle.encl_core.specs.Scales.{coarse}
 use Rattle.std.proofs.Common.{rules, arith, SFits, pos, ◌*ℤ◌}
 use Rattle.std.specs.Int.{w128}
 use Rattle.std.proofs.lemmas.Int.{ints, to_z-of_z}
@@ -36,4 +37,4 @@ returns c =
     let fh : SFits w128 c.ceil_div-hi.result = search rules in
     let i = simp to_z-of_z at c.floor_div-lo.ensures in
     let j = simp to_z-of_z at c.ceil_div-hi.ensures in
-    simp to_z-of_z (quotients_are c.args.a c.args.b c.args.c c.args.d _ _ _ _ c.requires.dividend c.requires.positive c.requires.divisor l g i j)
+    simp to_z-of_z (quotients_are coarse c.args.a c.args.b c.args.c c.args.d _ _ _ _ c.requires.dividend c.requires.positive c.requires.divisor l g i j)

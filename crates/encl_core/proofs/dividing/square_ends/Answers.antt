@@ -1,3 +1,4 @@
+use Rattle.encl_core.specs.Scales.{coarse}
 use Rattle.std.proofs.Common.{arith, rules, SFits, w64}
 use Rattle.std.specs.Int.{w128}
 use Rattle.std.proofs.lemmas.Int.{ints, clamps, to_z-of_z}
@@ -53,10 +54,10 @@ returns c =
     let o = outward_order _ _ _ _ _ (squares_order c.in_ok-x.x.lo c.in_ok-x.x.hi _ _ n k k') i j (omega (arith, ints)) in
     let v = simp to_z-of_z at c.max-greatest.ensures.value in
     record {
-      holds = rw c.in_ok-x.was (square_encloses c.in_ok-x.x.lo c.in_ok-x.x.hi _ _ _ _ _ n k k' i j kept);
-      narrow = λ w a h. square_narrow w a c.in_ok-x.x.lo c.in_ok-x.x.hi c.least_square-least.result c.max-greatest.result c.floor_36.result c.ceil_36.result _ c.in_ok-x.x.ordered n
+      holds = rw c.in_ok-x.was (square_encloses coarse c.in_ok-x.x.lo c.in_ok-x.x.hi _ _ _ _ _ n k k' i j kept);
+      narrow = λ w a h. square_narrow coarse w a c.in_ok-x.x.lo c.in_ok-x.x.hi c.least_square-least.result c.max-greatest.result c.floor_36.result c.ceil_36.result _ c.in_ok-x.x.ordered n
           (λ z s t. omega (arith, ints, clamps, v, e, e', s, t)) o i j kept (rw c.in_ok-x.was at h);
     }
 
 pub returns-in_err-x-clause-narrow : goal.returns-in_err-x-clause-narrow
-returns-in_err-x-clause-narrow c = λ w a h. square_of_all w a _ (rw c.in_err-x.was at h)
+returns-in_err-x-clause-narrow c = λ w a h. square_of_all coarse w a _ (rw c.in_err-x.was at h)

@@ -1,3 +1,4 @@
+use Rattle.encl_core.specs.Scales.{coarse}
 use Rattle.std.proofs.Common.{rules, SFits, w64}
 use Rattle.std.proofs.lemmas.Int.{to_z-of_z}
 use Rattle.encl_core.specs.Rounding.{too_large}
@@ -32,4 +33,4 @@ returns c =
     let fh : SFits w64 c.in_ok-hi.hi = search rules in
     let l = simp to_z-of_z at c.in_ok-lo.ensures in
     let h = simp to_z-of_z at c.in_ok-hi.ensures in
-    record { kept = simp to_z-of_z (keeps_both _ _ c.in_ok-lo.lo c.in_ok-hi.hi l.1 h.1) }
+    record { kept = simp to_z-of_z (keeps_both coarse _ _ c.in_ok-lo.lo c.in_ok-hi.hi l.1 h.1) }

@@ -1,3 +1,4 @@
+use Rattle.encl_core.specs.Scales.{coarse}
 use Rattle.std.proofs.Common.{◌≡◌, refl, rules, arith, SFits, pos, ◌+◌, ◌^◌, ◌*ℤ◌}
 use Rattle.std.specs.Int.{w128}
 use Rattle.std.proofs.lemmas.Int.{ints, to_z-of_z}
@@ -31,7 +32,7 @@ returns c =
     let l = fine_floor c.floor_div.result f.num c.from-units.result _ e i in
     let u = fine_ceiling c.ceil_div.result f.num c.from-units.result _ e j in
     record {
-      holds = constant_encloses f (f.num *ℤ pos (2 ^ 36)) _ _ _ _ refl refl l u k;
-      best = constant_best f (f.num *ℤ pos (2 ^ 36)) _ _ _ _ refl refl l u k;
-      narrow = λ w. constant_narrow f w (f.num *ℤ pos (2 ^ 36)) _ _ _ _ refl refl l u k;
+      holds = constant_encloses coarse f (f.num *ℤ pos (2 ^ 36)) _ _ _ _ refl refl l u k;
+      best = constant_best coarse f (f.num *ℤ pos (2 ^ 36)) _ _ _ _ refl refl l u k;
+      narrow = λ w. constant_narrow coarse f w (f.num *ℤ pos (2 ^ 36)) _ _ _ _ refl refl l u k;
     }

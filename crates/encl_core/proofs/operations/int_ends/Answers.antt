@@ -1,3 +1,4 @@
+use Rattle.encl_core.specs.Scales.{coarse}
 use Rattle.std.proofs.Common.{arith}
 use Rattle.std.proofs.lemmas.Int.{ints}
 use Rattle.encl_core.proofs.Keeping.{int_narrow}
@@ -5,7 +6,7 @@ use Rattle.encl_core.proofs.Best.{int_best}
 use Rattle.encl_core.proofs.operations.int_ends.Goals as goal
 
 pub returns-clause-narrow : goal.returns-clause-narrow
-returns-clause-narrow c = λ w. int_narrow w _ _ _ (omega (arith, ints)) c.ends_of.ensures.kept
+returns-clause-narrow c = λ w. int_narrow coarse w _ _ _ (omega (arith, ints)) c.ends_of.ensures.kept
 
 pub returns-clause-best : goal.returns-clause-best
-returns-clause-best c = int_best _ _ _ (omega (arith, ints)) c.ends_of.ensures.kept
+returns-clause-best c = int_best coarse _ _ _ (omega (arith, ints)) c.ends_of.ensures.kept

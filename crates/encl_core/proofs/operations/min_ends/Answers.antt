@@ -1,3 +1,4 @@
+use Rattle.encl_core.specs.Scales.{coarse}
 use Rattle.std.proofs.Common.{rules, SFits, w64}
 use Rattle.std.proofs.lemmas.Int.{to_z-of_z}
 use Rattle.encl_core.proofs.Enclosing.{minimum_is, minimum_first, minimum_second, lesser_order}
@@ -39,7 +40,7 @@ returns c =
     let fu : SFits w64 c.min-2.result = search rules in
     let u = simp to_z-of_z at c.min-2.ensures.value in
     record {
-      holds = rw (c.in_ok-x.was, c.in_ok-y.was) (simp to_z-of_z (minimum_is c.in_ok-x.x.lo c.in_ok-x.x.hi c.in_ok-y.y.lo c.in_ok-y.y.hi c.min.result c.min-2.result l u).there);
-      tight = rw (c.in_ok-x.was, c.in_ok-y.was) (simp to_z-of_z (minimum_is c.in_ok-x.x.lo c.in_ok-x.x.hi c.in_ok-y.y.lo c.in_ok-y.y.hi c.min.result c.min-2.result l u).back);
-      narrow = λ w a b h k. simp to_z-of_z (minimum_narrow w a b c.in_ok-x.x.lo c.in_ok-x.x.hi c.in_ok-y.y.lo c.in_ok-y.y.hi c.min.result c.min-2.result l u (rw c.in_ok-x.was at h) (rw c.in_ok-y.was at k));
+      holds = rw (c.in_ok-x.was, c.in_ok-y.was) (simp to_z-of_z (minimum_is coarse c.in_ok-x.x.lo c.in_ok-x.x.hi c.in_ok-y.y.lo c.in_ok-y.y.hi c.min.result c.min-2.result l u).there);
+      tight = rw (c.in_ok-x.was, c.in_ok-y.was) (simp to_z-of_z (minimum_is coarse c.in_ok-x.x.lo c.in_ok-x.x.hi c.in_ok-y.y.lo c.in_ok-y.y.hi c.min.result c.min-2.result l u).back);
+      narrow = λ w a b h k. simp to_z-of_z (minimum_narrow coarse w a b c.in_ok-x.x.lo c.in_ok-x.x.hi c.in_ok-y.y.lo c.in_ok-y.y.hi c.min.result c.min-2.result l u (rw c.in_ok-x.was at h) (rw c.in_ok-y.was at k));
     }

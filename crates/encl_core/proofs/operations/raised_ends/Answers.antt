@@ -1,3 +1,4 @@
+use Rattle.encl_core.specs.Scales.{coarse}
 use Rattle.std.proofs.Common.{rules, arith, SFits, Fits, w64}
 use Rattle.std.specs.Int.{w128}
 use Rattle.std.proofs.lemmas.Int.{ints, to_z-of_z}
@@ -21,7 +22,7 @@ pub returns-in_err-raised-clause-narrow : goal.returns-in_err-raised-clause-narr
 returns-in_err-raised-clause-narrow c = λ w.
     let fn : SFits w128 c.num.result = search rules in
     let n = simp c.num.ensures at (simp to_z-of_z at c.in_err-raised.ensures) in
-    rw c.from_residual.ensures (constant_overflow (fraction_of c.args.value) w n)
+    rw c.from_residual.ensures (constant_overflow coarse (fraction_of c.args.value) w n)
 
 pub returns-clause-holds : goal.returns-clause-holds
 returns-clause-holds c =
@@ -34,7 +35,7 @@ returns-clause-holds c =
     let j = simp to_z-of_z at c.ceil_div.ensures in
     let k = simp to_z-of_z at c.ends_of.ensures.kept in
     let e = simp c.num.ensures at (simp to_z-of_z at c.in_ok-raised.ensures) in
-    constant_encloses (fraction_of c.args.value) c.in_ok-raised.raised _ _ c.denominator-below.result _ e.1 c.denominator-below.ensures.value i j k
+    constant_encloses coarse (fraction_of c.args.value) c.in_ok-raised.raised _ _ c.denominator-below.result _ e.1 c.denominator-below.ensures.value i j k
 
 pub returns-clause-narrow : goal.returns-clause-narrow
 returns-clause-narrow c = λ w.
@@ -47,7 +48,7 @@ returns-clause-narrow c = λ w.
     let j = simp to_z-of_z at c.ceil_div.ensures in
     let k = simp to_z-of_z at c.ends_of.ensures.kept in
     let e = simp c.num.ensures at (simp to_z-of_z at c.in_ok-raised.ensures) in
-    constant_narrow (fraction_of c.args.value) w c.in_ok-raised.raised _ _ c.denominator-below.result _ e.1 c.denominator-below.ensures.value i j k
+    constant_narrow coarse (fraction_of c.args.value) w c.in_ok-raised.raised _ _ c.denominator-below.result _ e.1 c.denominator-below.ensures.value i j k
 
 pub returns-clause-best : goal.returns-clause-best
 returns-clause-best c =
@@ -60,7 +61,7 @@ returns-clause-best c =
     let j = simp to_z-of_z at c.ceil_div.ensures in
     let k = simp to_z-of_z at c.ends_of.ensures.kept in
     let e = simp c.num.ensures at (simp to_z-of_z at c.in_ok-raised.ensures) in
-    constant_best (fraction_of c.args.value) c.in_ok-raised.raised _ _ c.denominator-below.result _ e.1 c.denominator-below.ensures.value i j k
+    constant_best coarse (fraction_of c.args.value) c.in_ok-raised.raised _ _ c.denominator-below.result _ e.1 c.denominator-below.ensures.value i j k
 
 pub returns-in_err-raised-clause-best : goal.returns-in_err-raised-clause-best
 returns-in_err-raised-clause-best c =

@@ -1,3 +1,4 @@
+use Rattle.encl_core.specs.Scales.{coarse}
 use Rattle.std.proofs.Common.{refl, rules, SFits, w64}
 use Rattle.std.specs.Int.{w128}
 use Rattle.std.proofs.lemmas.Int.{to_z-of_z}
@@ -8,21 +9,21 @@ use Rattle.encl_core.proofs.Best.{scale_best, product_first, product_fits}
 use Rattle.encl_core.proofs.operations.scale_ends.Goals as goal
 
 pub returns-in_err-x-clause-narrow : goal.returns-in_err-x-clause-narrow
-returns-in_err-x-clause-narrow c = λ w a h. scaled_first w _ a _ (rw c.in_err-x.was at h)
+returns-in_err-x-clause-narrow c = λ w a h. scaled_first coarse w _ a _ (rw c.in_err-x.was at h)
 
 pub returns-in_err-p-clause-narrow : goal.returns-in_err-p-clause-narrow
 returns-in_err-p-clause-narrow c = λ w a h.
     let fn : SFits w128 c.num-factor.result = search rules in
     let fx : SFits w64 c.in_ok-x.x.lo = search rules in
     let n = simp to_z-of_z at c.in_err-p.ensures.none in
-    rw c.from_residual-in_err-p.ensures (scaled_overflow w a (fraction_of c.args.by) c.in_ok-x.x.lo c.in_ok-x.x.hi c.num-factor.result c.num-factor.ensures (λ s t. n refl s) (rw c.in_ok-x.was at h))
+    rw c.from_residual-in_err-p.ensures (scaled_overflow coarse w a (fraction_of c.args.by) c.in_ok-x.x.lo c.in_ok-x.x.hi c.num-factor.result c.num-factor.ensures (λ s t. n refl s) (rw c.in_ok-x.was at h))
 
 pub returns-in_err-q-clause-narrow : goal.returns-in_err-q-clause-narrow
 returns-in_err-q-clause-narrow c = λ w a h.
     let fn : SFits w128 c.num-factor.result = search rules in
     let fx : SFits w64 c.in_ok-x.x.hi = search rules in
     let n = simp to_z-of_z at c.in_err-q.ensures.none in
-    rw c.from_residual-in_err-q.ensures (scaled_overflow w a (fraction_of c.args.by) c.in_ok-x.x.lo c.in_ok-x.x.hi c.num-factor.result c.num-factor.ensures (λ s t. n refl t) (rw c.in_ok-x.was at h))
+    rw c.from_residual-in_err-q.ensures (scaled_overflow coarse w a (fraction_of c.args.by) c.in_ok-x.x.lo c.in_ok-x.x.hi c.num-factor.result c.num-factor.ensures (λ s t. n refl t) (rw c.in_ok-x.was at h))
 
 pub ends_of-requires : goal.ends_of-requires
 ends_of-requires c =
@@ -59,24 +60,24 @@ returns-clause-holds c =
     let fl : SFits w128 c.floor_div.result = search rules in
     let fh : SFits w128 c.ceil_div.result = search rules in
     let k = simp to_z-of_z at c.ends_of.ensures.kept in
-    rw c.in_ok-x.was (scale_encloses (fraction_of c.args.by) _ _ _ _ _ _ _ _ _ _ _ (scaled c) k)
+    rw c.in_ok-x.was (scale_encloses coarse (fraction_of c.args.by) _ _ _ _ _ _ _ _ _ _ _ (scaled c) k)
 
 pub returns-clause-narrow : goal.returns-clause-narrow
 returns-clause-narrow c = λ w a h.
     let fl : SFits w128 c.floor_div.result = search rules in
     let fh : SFits w128 c.ceil_div.result = search rules in
     let k = simp to_z-of_z at c.ends_of.ensures.kept in
-    scaled_narrow w a (fraction_of c.args.by) _ _ _ _ _ _ _ _ _ _ _ (scaled c) k (rw c.in_ok-x.was at h)
+    scaled_narrow coarse w a (fraction_of c.args.by) _ _ _ _ _ _ _ _ _ _ _ (scaled c) k (rw c.in_ok-x.was at h)
 
 pub returns-clause-best : goal.returns-clause-best
 returns-clause-best c = λ l.
     let fl : SFits w128 c.floor_div.result = search rules in
     let fh : SFits w128 c.ceil_div.result = search rules in
     let k = simp to_z-of_z at c.ends_of.ensures.kept in
-    rw c.in_ok-x.was (scale_best (fraction_of c.args.by) _ _ _ _ _ _ _ _ _ _ _ (scaled c) k)
+    rw c.in_ok-x.was (scale_best coarse (fraction_of c.args.by) _ _ _ _ _ _ _ _ _ _ _ (scaled c) k)
 
 pub returns-in_err-x-clause-best : goal.returns-in_err-x-clause-best
-returns-in_err-x-clause-best c = λ l. rw c.in_err-x.was (product_first _ _)
+returns-in_err-x-clause-best c = λ l. rw c.in_err-x.was (product_first coarse _ _)
 
 pub returns-in_err-p-clause-best : goal.returns-in_err-p-clause-best
 returns-in_err-p-clause-best c = λ l.

@@ -1,3 +1,4 @@
+use Rattle.encl_core.specs.Scales.{coarse}
 use Rattle.std.proofs.Common.{rules, SFits, w64}
 use Rattle.std.proofs.lemmas.Int.{to_z-of_z}
 use Rattle.encl_core.proofs.RootWidths.{clamp_narrow}
@@ -12,4 +13,4 @@ returns c =
     let fd : SFits w64 c.cut-2.result = search rules in
     let e = simp to_z-of_z at c.cut.ensures.value in
     let f = simp to_z-of_z at c.cut-2.ensures.value in
-    record { holds = simp to_z-of_z (cut_holds c.args.x.lo c.args.x.hi c.cut.result c.cut-2.result e f); narrow = λ w a h. simp to_z-of_z (clamp_narrow w a c.args.x.lo c.args.x.hi c.cut.result c.cut-2.result e f h) }
+    record { holds = simp to_z-of_z (cut_holds coarse c.args.x.lo c.args.x.hi c.cut.result c.cut-2.result e f); narrow = λ w a h. simp to_z-of_z (clamp_narrow coarse w a c.args.x.lo c.args.x.hi c.cut.result c.cut-2.result e f h) }

@@ -1,3 +1,4 @@
+use Rattle.encl_core.specs.Scales.{coarse}
 use Rattle.std.proofs.Common.{rules, SFits, w64}
 use Rattle.std.specs.Int.{w128}
 use Rattle.std.proofs.lemmas.Int.{to_z-of_z}
@@ -16,7 +17,7 @@ ends_of-requires c =
     let q = c.root_up.ensures.natural in
     let h = simp to_z-of_z at c.root_down.ensures.square in
     let k = simp to_z-of_z at c.root_up.ensures.square in
-    simp to_z-of_z (roots_order c.in_ok-x.x.lo c.in_ok-x.x.hi c.root_down.result c.root_up.result c.in_ok-x.x.ordered p q h k)
+    simp to_z-of_z (roots_order coarse c.in_ok-x.x.lo c.in_ok-x.x.hi c.root_down.result c.root_up.result c.in_ok-x.x.ordered p q h k)
 
 pub returns : goal.returns
 returns c =
@@ -31,11 +32,11 @@ returns c =
     let kept = simp to_z-of_z at c.ends_of.ensures.kept in
     let u = simp to_z-of_z at c.root_down.ensures.close in
     let v = simp to_z-of_z at c.root_up.ensures.close in
-    let o = roots_order c.in_ok-x.x.lo c.in_ok-x.x.hi c.root_down.result c.root_up.result c.in_ok-x.x.ordered p q h k in
+    let o = roots_order coarse c.in_ok-x.x.lo c.in_ok-x.x.hi c.root_down.result c.root_up.result c.in_ok-x.x.ordered p q h k in
     record {
-      holds = λ n d. rw c.in_ok-x.was (root_holds n c.in_ok-x.x.lo c.in_ok-x.x.hi c.root_down.result c.root_up.result _ d c.in_ok-x.x.ordered p q h k kept);
+      holds = λ n d. rw c.in_ok-x.was (root_holds coarse n c.in_ok-x.x.lo c.in_ok-x.x.hi c.root_down.result c.root_up.result _ d c.in_ok-x.x.ordered p q h k kept);
       narrow = λ w a m.
-          root_narrow w a c.in_ok-x.x.lo c.in_ok-x.x.hi c.root_down.result c.root_up.result _ (record { ordered = o; natural = p; above = u; below = v }) kept (rw c.in_ok-x.was at m);
+          root_narrow coarse w a c.in_ok-x.x.lo c.in_ok-x.x.hi c.root_down.result c.root_up.result _ (record { ordered = o; natural = p; above = u; below = v }) kept (rw c.in_ok-x.was at m);
     }
 
 pub returns-in_err-x-clause-narrow : goal.returns-in_err-x-clause-narrow

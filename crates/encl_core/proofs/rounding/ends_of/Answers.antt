@@ -1,3 +1,4 @@
+use Rattle.encl_core.specs.Scales.{coarse}
 use Rattle.std.proofs.Common.{arith}
 use Rattle.std.proofs.lemmas.Int.{ints, to_z-of_z}
 use Rattle.encl_core.specs.Rounding.{too_large}
@@ -5,7 +6,7 @@ use Rattle.encl_core.proofs.Keeping.{keeps_both}
 use Rattle.encl_core.proofs.rounding.ends_of.Goals as goal
 
 pub returns : goal.returns
-returns c = record { kept = keeps_both _ _ _ _ (omega (arith, ints, c.in-Ok.ensures)) (omega (arith, ints, c.in-Ok-try_from.ensures)) }
+returns c = record { kept = keeps_both coarse _ _ _ _ (omega (arith, ints, c.in-Ok.ensures)) (omega (arith, ints, c.in-Ok-try_from.ensures)) }
 
 pub returns-in_default : goal.returns-in_default
 returns-in_default c =

@@ -1,3 +1,4 @@
+use Rattle.encl_core.specs.Scales.{coarse}
 use Rattle.std.proofs.Common.{rules, arith, SFits}
 use Rattle.std.specs.Int.{w128}
 use Rattle.std.proofs.lemmas.Int.{ints, to_z-of_z}
@@ -22,4 +23,4 @@ returns c =
     let l = simp to_z-of_z at c.floor_div.ensures in
     let u = simp to_z-of_z at c.ceil_div.ensures in
     let k = simp to_z-of_z at c.ends_of.ensures.kept in
-    record { holds = span_encloses _ _ _ _ _ l u k; narrow = λ w b h. spanned_narrow w b _ _ _ _ _ l u k h }
+    record { holds = span_encloses coarse _ _ _ _ _ l u k; narrow = λ w b h. spanned_narrow coarse w b _ _ _ _ _ l u k h }

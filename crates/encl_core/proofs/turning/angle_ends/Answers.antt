@@ -1,3 +1,4 @@
+use Rattle.encl_core.specs.Scales.{coarse}
 use Rattle.std.proofs.Common.{rules, arith, SFits, w64}
 use Rattle.std.specs.Int.{w128}
 use Rattle.std.proofs.lemmas.Int.{ints, to_z-of_z}
@@ -11,7 +12,7 @@ use Rattle.encl_core.proofs.turning.angle_ends.Goals as goal
 
 pub returns-in_err-x-clause-narrow : goal.returns-in_err-x-clause-narrow
 returns-in_err-x-clause-narrow c = λ w a h.
-    sum_second w (constant_bound limits_36 (ten_millionths c.args.phase)) (scaled_bound limits_36 (daily_ten_millionths c.args.rate) a) _ (scaled_first w (daily_ten_millionths c.args.rate) a _ (rw c.in_err-x.was at h))
+    sum_second coarse w (constant_bound limits_36 (ten_millionths c.args.phase)) (scaled_bound limits_36 (daily_ten_millionths c.args.rate) a) _ (scaled_first coarse w (daily_ten_millionths c.args.rate) a _ (rw c.in_err-x.was at h))
 
 turned : (c : goal.After-ends_of) → AreTurned c.args.phase c.args.rate c.in_ok-x.x.lo c.in_ok-x.x.hi c.turned-p.result c.turned-q.result c.sorted-least.result.0 c.sorted-least.result.1 c.floor_div.result c.ceil_div.result
 turned c =

@@ -1,3 +1,4 @@
+use Rattle.encl_core.specs.Scales.{coarse}
 use Rattle.std.proofs.Common.{◌≡◌, refl, rules, arith, SFits, pos, ◌*ℤ◌}
 use Rattle.std.specs.Int.{w64, w128}
 use Rattle.std.proofs.lemmas.Int.{ints, to_z-of_z}
@@ -23,12 +24,12 @@ returns c =
     let l = simp to_z-of_z at c.in_ok-lo.ensures in
     let h = simp to_z-of_z at c.in_ok-hi.ensures in
     record {
-      narrow = λ w b e n. remainder_narrow w c.args.modulus b c.args.times c.in_ok-e.e.lo c.in_ok-e.e.hi c.in_ok-lo.lo c.in_ok-hi.hi _ c.requires (rw c.in_ok-e.was at e) (omega (arith, ints, l, m)) (omega (arith, ints, h, m)) k (rw c.in_ok-e.was at n);
-      holds = rw c.in_ok-e.was (lower_encloses c.in_ok-e.e.lo c.in_ok-e.e.hi (pos c.args.modulus *ℤ c.args.times) c.in_ok-lo.lo c.in_ok-hi.hi _ (omega (arith, ints, c.in_ok-lo.ensures, m)) (omega (arith, ints, c.in_ok-hi.ensures, m)) k);
+      narrow = λ w b e n. remainder_narrow coarse w c.args.modulus b c.args.times c.in_ok-e.e.lo c.in_ok-e.e.hi c.in_ok-lo.lo c.in_ok-hi.hi _ c.requires (rw c.in_ok-e.was at e) (omega (arith, ints, l, m)) (omega (arith, ints, h, m)) k (rw c.in_ok-e.was at n);
+      holds = rw c.in_ok-e.was (lower_encloses coarse c.in_ok-e.e.lo c.in_ok-e.e.hi (pos c.args.modulus *ℤ c.args.times) c.in_ok-lo.lo c.in_ok-hi.hi _ (omega (arith, ints, c.in_ok-lo.ensures, m)) (omega (arith, ints, c.in_ok-hi.ensures, m)) k);
     }
 
 pub returns-in_err-e-clause-narrow : goal.returns-in_err-e-clause-narrow
-returns-in_err-e-clause-narrow c = λ w b e h. remainder_of_all w c.args.modulus b _ (rw c.in_err-e.was at h)
+returns-in_err-e-clause-narrow c = λ w b e h. remainder_of_all coarse w c.args.modulus b _ (rw c.in_err-e.was at h)
 
 pub returns-in_err-moved-clause-narrow : goal.returns-in_err-moved-clause-narrow
 returns-in_err-moved-clause-narrow c = λ w b e h.

@@ -1,3 +1,4 @@
+use Rattle.encl_core.specs.Scales.{coarse}
 use Rattle.std.proofs.Common.{rules, arith, SFits, w64}
 use Rattle.std.proofs.lemmas.Int.{ints, to_z-of_z}
 use Rattle.encl_core.proofs.Periods.{period_same, period_apart, period_nowhere}
@@ -14,7 +15,7 @@ returns-then-period-period_of c =
     let fq : SFits w64 c.period_of.result = search rules in
     let p = simp to_z-of_z at c.period_of-period.ensures.value in
     let q = simp to_z-of_z at c.period_of.ensures.value in
-    record { value = rw c.in_ok-e.was (period_same c.in_ok-e.e.lo c.in_ok-e.e.hi c.period_of-period.result c.period_of.result _ _ p q (omega (arith, ints, c.if-period-period_of.true)) (omega (arith, ints))) }
+    record { value = rw c.in_ok-e.was (period_same coarse c.in_ok-e.e.lo c.in_ok-e.e.hi c.period_of-period.result c.period_of.result _ _ p q (omega (arith, ints, c.if-period-period_of.true)) (omega (arith, ints))) }
 
 pub returns-else-period-period_of : goal.returns-else-period-period_of
 returns-else-period-period_of c =
@@ -24,4 +25,4 @@ returns-else-period-period_of c =
     let fq : SFits w64 c.period_of.result = search rules in
     let p = simp to_z-of_z at c.period_of-period.ensures.value in
     let q = simp to_z-of_z at c.period_of.ensures.value in
-    record { value = rw c.in_ok-e.was (period_apart c.in_ok-e.e.lo c.in_ok-e.e.hi c.period_of-period.result c.period_of.result _ p q (λ e. omega (arith, ints, c.if-period-period_of.false))) }
+    record { value = rw c.in_ok-e.was (period_apart coarse c.in_ok-e.e.lo c.in_ok-e.e.hi c.period_of-period.result c.period_of.result _ p q (λ e. omega (arith, ints, c.if-period-period_of.false))) }

@@ -1,3 +1,4 @@
+use Rattle.encl_core.specs.Scales.{coarse}
 use Rattle.std.proofs.Common.{SFits, w64}
 use Rattle.std.proofs.lemmas.Int.{to_z-of_z}
 use Rattle.encl_core.specs.Shown.{shown_coarse}
@@ -9,4 +10,4 @@ returns c =
     let f : SFits w64 c.args.value = c.ranges.value in
     let h = simp to_z-of_z at c.int_ends.ensures.holds in
     let n = simp to_z-of_z at c.int_ends.ensures.narrow in
-    record { holds = λ w d. within_integer shown_coarse w _ _ d h; narrow = λ r. narrow_integer shown_coarse r _ _ n }
+    record { holds = λ w d. within_integer shown_coarse w _ _ d h; narrow = λ r. narrow_integer coarse shown_coarse r _ _ n }

@@ -1,5 +1,6 @@
+use Rattle.encl_core.specs.Scales.{coarse}
 use Rattle.encl_core.proofs.Following.{narrow_spanned}
 use Rattle.encl_core.proofs.coarse.CoarseEnclosure.from_span.Goals as goal
 
 pub returns : goal.returns
-returns c = record { holds = c.ends_of_span.ensures.holds; narrow = λ w b. narrow_spanned w b _ _ (c.ends_of_span.ensures.narrow w b) }
+returns c = record { holds = c.ends_of_span.ensures.holds; narrow = λ w b. narrow_spanned coarse w b _ _ (c.ends_of_span.ensures.narrow w b) }

@@ -1,6 +1,7 @@
+use Rattle.encl_core.specs.Scales.{coarse}
 use Rattle.encl_core.specs.Shown.{shown_coarse}
 use Rattle.encl_core.proofs.Following.{within_scale, narrow_scale}
 use Rattle.encl_core.proofs.coarse.CoarseEnclosure.mul_frac.Goals as goal
 
 pub returns : goal.returns
-returns c = record { holds = λ w x. within_scale shown_coarse w _ x _ _ c.scale_ends.ensures.holds; narrow = λ r x. narrow_scale shown_coarse r _ x _ _ c.scale_ends.ensures.narrow }
+returns c = record { holds = λ w x. within_scale shown_coarse w _ x _ _ c.scale_ends.ensures.holds; narrow = λ r x. narrow_scale coarse shown_coarse r _ x _ _ c.scale_ends.ensures.narrow }

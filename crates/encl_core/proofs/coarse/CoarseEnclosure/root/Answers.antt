@@ -1,7 +1,8 @@
+use Rattle.encl_core.specs.Scales.{coarse}
 use Rattle.encl_core.specs.Shown.{shown_coarse}
 use Rattle.encl_core.proofs.RootEnds.{within_root}
-use Rattle.encl_core.proofs.RootWidths.{narrow_root_36}
+use Rattle.encl_core.proofs.RootWidths.{narrow_root_at}
 use Rattle.encl_core.proofs.coarse.CoarseEnclosure.root.Goals as goal
 
 pub returns : goal.returns
-returns c = record { holds = λ w x. within_root shown_coarse w x _ _ c.root_ends.ensures.holds; narrow = λ r x. narrow_root_36 shown_coarse r x _ _ c.root_ends.ensures.narrow }
+returns c = record { holds = λ w x. within_root shown_coarse w x _ _ c.root_ends.ensures.holds; narrow = λ r x. narrow_root_at coarse shown_coarse r x _ _ c.root_ends.ensures.narrow }

@@ -1,3 +1,4 @@
+use Rattle.encl_core.specs.Scales.{coarse}
 use Rattle.std.proofs.Common.{rules, SFits, w64, sym, ◌∙◌}
 use Rattle.std.proofs.lemmas.Int.{to_z-of_z}
 use Rattle.encl_core.specs.Shown.{shown_coarse}
@@ -15,4 +16,4 @@ pub returns-in-Some-clause-narrow : goal.returns-in-Some-clause-narrow
 returns-in-Some-clause-narrow c = λ q r x h.
     let f : SFits w64 c.in-Some.period = search rules in
     let n = simp to_z-of_z at c.lower_ends.ensures.narrow in
-    narrow_remainder shown_coarse r c.args.modulus x q _ _ (λ w b. n w b (sym (sym c.in-Some.is ∙ c.period_of_ends.ensures.value))) h
+    narrow_remainder coarse shown_coarse r c.args.modulus x q _ _ (λ w b. n w b (sym (sym c.in-Some.is ∙ c.period_of_ends.ensures.value))) h

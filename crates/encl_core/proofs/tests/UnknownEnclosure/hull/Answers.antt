@@ -1,8 +1,0 @@
-use Rattle.std.proofs.Common.{refl}
-use Rattle.encl_core.specs.Shown.{shown_unknown}
-use Rattle.encl_core.proofs.Knowing.{within_one}
-use Rattle.encl_core.proofs.Following.{narrow_hull}
-use Rattle.encl_core.proofs.tests.UnknownEnclosure.hull.Goals as goal
-
-pub returns : goal.returns
-returns c = record { holds = λ w x y h k. within_one shown_unknown w x _ _ _ refl h; narrow = λ r x y h k. narrow_hull shown_unknown _ r x y _ }
