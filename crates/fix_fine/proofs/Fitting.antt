@@ -1,0 +1,137 @@
+-- Where a bound is promised, the products of ends that count 2^-56 fit in 128 bits.
+use Rattle.std.proofs.Common.{◌≡◌, ℕ, zero, suc, ◌*◌, ◌^◌, ◌≤◌, ◌<◌, ◌-◌, arith, refl, sym, Bool, true, false, ◌&&◌, nat_lt, ℤ, pos, negsuc, ◌+ℤ◌, ◌*ℤ◌, ◌-ℤ◌, ◌≤ℤ◌, ◌<ℤ◌, SFits, inl, inr}
+use Rattle.std.specs.Prelude.{FitsSigned, Some}
+use Rattle.std.specs.Int.{w64, w128}
+use Rattle.std.proofs.Math.Nat.{mul-le-mul_right}
+use Rattle.std.proofs.lemmas.Int.{ints}
+use Rattle.std.proofs.lemmas.Bool.{ltb-true}
+use lib.Signed.{≤ℤ_refl}
+use Rattle.exact_math.specs.Interval.{Interval, everything, between}
+use Rattle.book_model.specs.Bounds.{Bound, unbounded, bounded, range_size, ceil_div, limited, product_bound, power_bound, root_bound, quotient_bound, IsNarrow}
+use Rattle.fix_fine.specs.Quotients.{HasFineQuotient, HaveFineQuotients}
+use Rattle.encl_core.specs.Rounding.{IsLeastBy, IsGreatestBy}
+use Rattle.encl_core.specs.Scales.{fine, at_scale, limits_on}
+use Rattle.encl_core.proofs.Keeping.{AreKept, kept_of, both}
+use Rattle.encl_core.proofs.Products.{IsBounded, corner_sized, sized, ceil_above}
+use Rattle.book_model.specs.Leading.{AreEnds, AreNoBounds, no_bounds, IsOpenCell, too_far}
+use Rattle.book_model.specs.Programs.{integers, cell_at}
+
+-- a number that 128 bits have room for, and its opposite too
+pub record IsRoomy (p : ℤ) : Type 0 where
+  pub above : (pos 0 -ℤ pos (2 ^ 126)) ≤ℤ p
+  pub below : p ≤ℤ pos (2 ^ 126)
+
+pub roomy_fits : (p : ℤ) → IsRoomy p → SFits w128 p
+roomy_fits p h = omega (arith, ints, h.above, h.below)
+
+-- all products of the numbers from x to y with those from c to d
+pub record AreRoomy (x y c d : ℤ) : Type 0 where
+  pub first : IsRoomy (x *ℤ c)
+  pub second : IsRoomy (x *ℤ d)
+  pub third : IsRoomy (y *ℤ c)
+  pub fourth : IsRoomy (y *ℤ d)
+
+roomy : (A B Z : ℕ) (p : ℤ) → IsBounded p ((pos (2 ^ 24) *ℤ pos A) *ℤ (pos (2 ^ 24) *ℤ pos B)) → A * B ≤ Z * 2 ^ 32 → Z < 2 ^ 46 → IsRoomy p
+roomy A B Z p h k l = record { above = omega (arith, ints, h.above, k, l); below = omega (arith, ints, h.below, k, l) }
+
+-- ends that keep a bound
+kept : (a b : ℤ) (s k w : ℕ) (x y : ℤ) → IsNarrow w (bounded a b s k) (between (at_scale fine x) (at_scale fine y)) → AreKept fine a b s k w x y
+unfolding IsNarrow
+kept a b s k w x y h = kept_of fine a b s k w x y h
+
+pub product_overflow : (w : ℕ) (p q : Bound) (x y c d : ℤ) (i : Interval) → x ≤ℤ y → c ≤ℤ d → IsNarrow w p (between (at_scale fine x) (at_scale fine y)) → IsNarrow w q (between (at_scale fine c) (at_scale fine d)) → (AreRoomy x y c d → ⊥)
+    → IsNarrow w (product_bound (limits_on fine) p q) i
+unfolding product_bound IsNarrow
+product_overflow w unbounded q x y c d i o r h k n = tt
+product_overflow w (bounded a b s t) unbounded x y c d i o r h k n = tt
+product_overflow w (bounded a b s t) (bounded a' b' s' t') x y c d i o r h k n = by_test _ _ _ refl
+  where
+    by_test : (t r : Bool) (p : Bound) → t ≡ (r && nat_lt (ceil_div (range_size a b * range_size a' b') (2 ^ 32 - 1)) (2 ^ 46)) → IsNarrow w (limited t p) i
+    by_test false r p e = tt
+    by_test true r1 p e =
+        let z = sized fine a b s t w x y (kept a b s t w x y h) in
+        let z' = sized fine a' b' s' t' w c d (kept a' b' s' t' w c d k) in
+        let l = ltb-true _ _ (both _ _ (sym e)).1 in
+        let at_corner = λ (p1 l1 : ℤ) (xp : x ≤ℤ p1) (py : p1 ≤ℤ y) (cl : c ≤ℤ l1) (ld : l1 ≤ℤ d). roomy (range_size a b) (range_size a' b') _ (p1 *ℤ l1) (corner_sized fine (range_size a b) (range_size a' b') x y c d p1 l1 o r z z' xp py cl ld) (ceil_above (range_size a b * range_size a' b') (2 ^ 32 - 1)) l in
+        absurd (n (record { first = at_corner x c (≤ℤ_refl x) o (≤ℤ_refl c) r; second = at_corner x d (≤ℤ_refl x) o r (≤ℤ_refl d); third = at_corner y c o (≤ℤ_refl y) (≤ℤ_refl c) r; fourth = at_corner y d o (≤ℤ_refl y) r (≤ℤ_refl d) }))
+
+pub square_overflow : (w : ℕ) (p : Bound) (x y : ℤ) (i : Interval) → x ≤ℤ y → IsNarrow w p (between (at_scale fine x) (at_scale fine y)) → (AreRoomy x y x y → ⊥) → IsNarrow w (power_bound (limits_on fine) p 2) i
+unfolding power_bound
+square_overflow w p x y i o h n = product_overflow w p p x y x y i o o h h n
+
+pub root_overflow : (w : ℕ) (p : Bound) (x y : ℤ) (i : Interval) → IsNarrow w p (between (at_scale fine x) (at_scale fine y)) → ((y <ℤ pos (2 ^ 70)) → ⊥) → IsNarrow w (root_bound (limits_on fine) p) i
+unfolding root_bound IsNarrow
+root_overflow w unbounded x y i h n = tt
+root_overflow w (bounded (negsuc a) b s k) x y i h n = tt
+root_overflow w (bounded (pos a) (negsuc b) s k) x y i h n = tt
+root_overflow w (bounded (pos a) (pos b) s k) x y i h n = by_test _ _ _ refl
+  where
+    by_test : (t r : Bool) (p : Bound) → t ≡ (r && nat_lt b (2 ^ 46)) → IsNarrow w (limited t p) i
+    by_test false r p e = tt
+    by_test true r p e =
+        let l : b < 2 ^ 46 = ltb-true _ _ (both _ _ (sym e)).1 in
+        let m = kept (pos a) (pos b) s k w x y h in
+        absurd (n (omega (arith, ints, l, m.below)))
+
+-- the quotients by which the least and the greatest are taken have room where all have
+pub first_has : (a b c d p : ℤ) → a ≤ℤ b → c ≤ℤ d → IsLeastBy a c d p → HaveFineQuotients a b c d → HasFineQuotient a p
+first_has a b c d p o k (inl l) r = record { divisor = omega (arith, ints, k, l.1, r.divisor); above = omega (arith, ints, k, l.1, r.above); below = omega (arith, ints, k, l.1, o, r.below) }
+first_has a b c d p o k (inr l) r = record { divisor = omega (arith, ints, k, l.1, r.divisor); above = omega (arith, ints, k, l.1, r.above); below = omega (arith, ints, k, l.1, o, r.below, r.divisor) }
+
+pub last_has : (a b c d p : ℤ) → a ≤ℤ b → c ≤ℤ d → IsGreatestBy b c d p → HaveFineQuotients a b c d → HasFineQuotient b p
+last_has a b c d p o k (inl l) r = record { divisor = omega (arith, ints, k, l.1, r.divisor); above = omega (arith, ints, k, l.1, o, r.above); below = omega (arith, ints, k, l.1, r.below) }
+last_has a b c d p o k (inr l) r = record { divisor = omega (arith, ints, k, l.1, r.divisor); above = omega (arith, ints, k, l.1, o, r.above); below = omega (arith, ints, k, l.1, r.below) }
+
+-- a quotient of sizes that the scale bears has room
+by_ratio : (A Z g : ℕ) (c : ℤ) → A * 2 ^ 32 ≤ Z * suc g → Z < 2 ^ 100 → (pos (2 ^ 24) *ℤ pos (suc g)) ≤ℤ c → (pos (2 ^ 24) *ℤ pos A) ≤ℤ (pos (2 ^ 69) *ℤ c)
+by_ratio A Z g c h k l =
+    let m : Z * suc g ≤ 2 ^ 100 * suc g = mul-le-mul_right (suc g) (omega (arith, k)) in
+    omega (arith, ints, h, m, l)
+
+pub quotient_overflow : (w : ℕ) (p q : Bound) (x y c d : ℤ) (i : Interval) → IsNarrow w p (between (at_scale fine x) (at_scale fine y)) → IsNarrow w q (between (at_scale fine c) (at_scale fine d)) → (HaveFineQuotients x y c d → ⊥) → IsNarrow w (quotient_bound (limits_on fine) p q) i
+unfolding quotient_bound IsNarrow
+quotient_overflow w unbounded q x y c d i h o n = tt
+quotient_overflow w (bounded a b s t) unbounded x y c d i h o n = tt
+quotient_overflow w (bounded a b s t) (bounded (pos zero) b' s' t') x y c d i h o n = tt
+quotient_overflow w (bounded a b s t) (bounded (negsuc a') b' s' t') x y c d i h o n = tt
+quotient_overflow w (bounded a b s t) (bounded (pos (suc g)) b' s' t') x y c d i h o n = by_test _ _ refl
+  where
+    by_test : (t : Bool) (p : Bound) → t ≡ (nat_lt (ceil_div (range_size a b * 2 ^ 32) g) (2 ^ 100) && nat_lt (range_size (pos (suc g)) b') (2 ^ 46)) → IsNarrow w (limited t p) i
+    by_test false p e = tt
+    by_test true p e =
+        let k = both _ _ (sym e) in
+        let l : ceil_div (range_size a b * 2 ^ 32) g < 2 ^ 100 = ltb-true _ _ k.0 in
+        let m : range_size (pos (suc g)) b' < 2 ^ 46 = ltb-true _ _ k.1 in
+        let u = kept (pos (suc g)) b' s' t' w c d o in
+        let z = sized fine a b s t w x y (kept a b s t w x y h) in
+        let v = sized fine (pos (suc g)) b' s' t' w c d u in
+        let r = by_ratio (range_size a b) _ g c (ceil_above (range_size a b * 2 ^ 32) g) l (omega (arith, ints, u.above)) in
+        absurd (n (record { divisor = omega (arith, ints, m, v.below); above = omega (arith, ints, r, z.above); below = omega (arith, ints, r, z.below) }))
+
+-- how far an end is above a number z, in units, by the whole number that is not above the end
+pub record AreLowered (z whole end : ℤ) : Type 0 where
+  pub begun : SFits w128 z
+  pub above : SFits w128 (whole -ℤ z)
+  pub raised : SFits w128 ((whole -ℤ z) *ℤ pos (2 ^ 56))
+  pub down : SFits w128 (whole *ℤ pos (2 ^ 56))
+  pub rest : SFits w128 (end -ℤ whole *ℤ pos (2 ^ 56))
+  pub sum : SFits w128 ((whole -ℤ z) *ℤ pos (2 ^ 56) +ℤ (end -ℤ whole *ℤ pos (2 ^ 56)))
+  pub same : ((whole -ℤ z) *ℤ pos (2 ^ 56) +ℤ (end -ℤ whole *ℤ pos (2 ^ 56))) ≡ end -ℤ z *ℤ pos (2 ^ 56)
+
+pub are_lowered : (z whole end : ℤ) (m : ℕ) → SFits w128 end → (whole *ℤ pos (2 ^ 56)) ≤ℤ end → end <ℤ ((whole +ℤ pos 1) *ℤ pos (2 ^ 56)) → (z *ℤ pos (2 ^ 56)) ≤ℤ end → end <ℤ ((z +ℤ pos m) *ℤ pos (2 ^ 56)) → m < 2 ^ 32 → AreLowered z whole end
+are_lowered z whole end m f a b c d l = record {
+  begun = omega (arith, ints, f, a, b, c, d, l);
+  above = omega (arith, ints, f, a, b, c, d, l);
+  raised = omega (arith, ints, f, a, b, c, d, l);
+  down = omega (arith, ints, f, a, b, c, d, l);
+  rest = omega (arith, ints, f, a, b, c, d, l);
+  sum = omega (arith, ints, f, a, b, c, d, l);
+  same = omega (arith, ints);
+}
+
+-- a cell outside 64 bits leaves the test open
+no_bounds_of : (lo hi : ℤ) → AreEnds lo hi everything → AreNoBounds lo hi
+no_bounds_of lo hi (no_bounds n) = n
+
+pub far_open : (i : Interval) (lo hi q : ℤ) → Some q ≡ cell_at integers i → (FitsSigned w64 q → ⊥) → AreEnds lo hi everything → IsOpenCell integers i lo hi
+far_open i lo hi q e n a = too_far q (sym e) n (no_bounds_of lo hi a)

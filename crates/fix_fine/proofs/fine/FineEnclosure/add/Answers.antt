@@ -1,0 +1,7 @@
+use Rattle.encl_core.specs.Scales.{fine}
+use Rattle.fix_fine.specs.Shown.{shown_fine}
+use Rattle.encl_core.proofs.Following.{within_add, narrow_add}
+use Rattle.fix_fine.proofs.fine.FineEnclosure.add.Goals as goal
+
+pub returns : goal.returns
+returns c = record { holds = λ w x y. within_add shown_fine w x y _ _ _ c.add_ends.ensures.holds; narrow = λ r x y. narrow_add fine shown_fine r x y _ _ _ c.add_ends.ensures.narrow }

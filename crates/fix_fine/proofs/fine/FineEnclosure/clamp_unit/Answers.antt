@@ -1,0 +1,7 @@
+use Rattle.fix_fine.specs.Shown.{shown_fine}
+use Rattle.encl_core.proofs.RootEnds.{within_clamp}
+use Rattle.encl_core.proofs.RootWidths.{narrow_clamp}
+use Rattle.fix_fine.proofs.fine.FineEnclosure.clamp_unit.Goals as goal
+
+pub returns : goal.returns
+returns c = record { holds = λ w x. within_clamp shown_fine w x _ _ c.clamp_ends.ensures.holds; narrow = λ r x. narrow_clamp shown_fine _ r x _ _ c.clamp_ends.ensures.narrow }

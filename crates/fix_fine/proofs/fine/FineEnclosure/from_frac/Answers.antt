@@ -1,0 +1,7 @@
+use Rattle.encl_core.specs.Scales.{fine}
+use Rattle.fix_fine.specs.Shown.{shown_fine}
+use Rattle.encl_core.proofs.Following.{within_constant, narrow_constant}
+use Rattle.fix_fine.proofs.fine.FineEnclosure.from_frac.Goals as goal
+
+pub returns : goal.returns
+returns c = record { holds = λ w d. within_constant shown_fine w _ _ d c.frac_ends.ensures.holds; narrow = λ r. narrow_constant fine shown_fine r _ _ c.frac_ends.ensures.narrow }

@@ -1,0 +1,6 @@
+use Rattle.fix_fine.specs.Shown.{shown_fine}
+use Rattle.encl_core.proofs.Following.{within_minimum, narrow_minimum}
+use Rattle.fix_fine.proofs.fine.FineEnclosure.min.Goals as goal
+
+pub returns : goal.returns
+returns c = record { holds = λ w x y. within_minimum shown_fine w x y _ _ _ c.min_ends.ensures.holds; narrow = λ r x y. narrow_minimum shown_fine _ r x y _ _ _ c.min_ends.ensures.narrow }

@@ -1,0 +1,7 @@
+use Rattle.encl_core.specs.Scales.{fine}
+use Rattle.fix_fine.specs.Shown.{shown_fine}
+use Rattle.encl_core.proofs.Following.{within_negate, narrow_negate}
+use Rattle.fix_fine.proofs.fine.FineEnclosure.neg.Goals as goal
+
+pub returns : goal.returns
+returns c = record { holds = λ w x. within_negate shown_fine w x _ _ c.neg_ends.ensures.holds; narrow = λ r x. narrow_negate fine shown_fine r x _ _ c.neg_ends.ensures.narrow }

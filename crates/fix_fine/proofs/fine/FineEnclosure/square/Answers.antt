@@ -1,0 +1,7 @@
+use Rattle.encl_core.specs.Scales.{fine}
+use Rattle.fix_fine.specs.Shown.{shown_fine}
+use Rattle.encl_core.proofs.Following.{within_power, narrow_square}
+use Rattle.fix_fine.proofs.fine.FineEnclosure.square.Goals as goal
+
+pub returns : goal.returns
+returns c = record { holds = λ w x. within_power shown_fine w x 2 _ _ c.square_ends.ensures.holds; narrow = λ r x. narrow_square fine shown_fine r x _ _ c.square_ends.ensures.narrow }

@@ -1,0 +1,7 @@
+use Rattle.encl_core.specs.Scales.{fine}
+use Rattle.fix_fine.specs.Shown.{shown_fine}
+use Rattle.encl_core.proofs.Following.{within_widen, narrow_widen}
+use Rattle.fix_fine.proofs.fine.FineEnclosure.widen.Goals as goal
+
+pub returns : goal.returns
+returns c = record { holds = λ w x. within_widen shown_fine w _ x _ _ c.widen_ends.ensures.holds; narrow = λ r x. narrow_widen fine shown_fine r _ x _ _ c.widen_ends.ensures.narrow }

@@ -1,0 +1,22 @@
+use Rattle.encl_core.specs.Scales.{fine}
+use Rattle.std.proofs.Common.{arith}
+use Rattle.std.proofs.lemmas.Int.{ints}
+use Rattle.encl_core.proofs.Enclosing.{difference_encloses}
+use Rattle.encl_core.proofs.Widths.{difference_narrow, difference_of_all, difference_from_all}
+use Rattle.fix_fine.proofs.operations.sub_ends.Goals as goal
+
+pub differences-requires : goal.differences-requires
+differences-requires c = omega (arith, ints, c.in_ok-x.x.ordered, c.in_ok-y.y.ordered)
+
+pub returns-clause-holds : goal.returns-clause-holds
+returns-clause-holds c = rw (c.in_ok-x.was, c.in_ok-y.was) (difference_encloses fine c.in_ok-x.x.lo c.in_ok-x.x.hi c.in_ok-y.y.lo c.in_ok-y.y.hi _ _ _ (omega (arith, ints)) (omega (arith, ints)) c.differences.ensures.kept)
+
+pub returns-clause-narrow : goal.returns-clause-narrow
+returns-clause-narrow c = λ w a b h k.
+    difference_narrow fine w a b c.in_ok-x.x.lo c.in_ok-x.x.hi c.in_ok-y.y.lo c.in_ok-y.y.hi _ _ _ (omega (arith, ints)) (omega (arith, ints)) c.differences.ensures.kept (rw c.in_ok-x.was at h) (rw c.in_ok-y.was at k)
+
+pub returns-in_err-x-clause-narrow : goal.returns-in_err-x-clause-narrow
+returns-in_err-x-clause-narrow c = λ w a b h k. difference_of_all fine w a b _ (rw c.in_err-x.was at h)
+
+pub returns-in_err-y-clause-narrow : goal.returns-in_err-y-clause-narrow
+returns-in_err-y-clause-narrow c = λ w a b h k. difference_from_all fine w a b _ (rw c.in_err-y.was at k)

@@ -1,0 +1,40 @@
+use Rattle.encl_core.specs.Scales.{fine}
+use Rattle.std.specs.Int.{w128}
+use Rattle.std.proofs.Common.{rules, SFits}
+use Rattle.std.proofs.lemmas.Int.{to_z-of_z}
+use Rattle.encl_core.proofs.Enclosing.{minimum_is, lesser_order}
+use Rattle.encl_core.proofs.Widths.{minimum_narrow, minimum_of_all, minimum_with_all}
+use Rattle.fix_fine.proofs.ranges.min_ends.Goals as goal
+
+pub invariant_of-result : goal.invariant_of-result
+invariant_of-result c =
+    let fa : SFits w128 c.in_ok-x.x.lo = search rules in
+    let fb : SFits w128 c.in_ok-x.x.hi = search rules in
+    let fc : SFits w128 c.in_ok-y.y.lo = search rules in
+    let fd : SFits w128 c.in_ok-y.y.hi = search rules in
+    let fl : SFits w128 c.min.result = search rules in
+    let l = simp to_z-of_z at c.min.ensures.value in
+    let fu : SFits w128 c.min-2.result = search rules in
+    let u = simp to_z-of_z at c.min-2.ensures.value in
+    record { ordered = simp to_z-of_z (lesser_order c.in_ok-x.x.lo c.in_ok-x.x.hi c.in_ok-y.y.lo c.in_ok-y.y.hi c.min.result c.min-2.result c.in_ok-x.x.ordered c.in_ok-y.y.ordered l u) }
+
+pub returns-in_err-x-clause-narrow : goal.returns-in_err-x-clause-narrow
+returns-in_err-x-clause-narrow c = λ w a b h k. minimum_of_all w a b _ (rw c.in_err-x.was at h)
+
+pub returns-in_err-y-clause-narrow : goal.returns-in_err-y-clause-narrow
+returns-in_err-y-clause-narrow c = λ w a b h k. minimum_with_all w a b _ (rw c.in_err-y.was at k)
+
+pub returns : goal.returns
+returns c =
+    let fa : SFits w128 c.in_ok-x.x.lo = search rules in
+    let fb : SFits w128 c.in_ok-x.x.hi = search rules in
+    let fc : SFits w128 c.in_ok-y.y.lo = search rules in
+    let fd : SFits w128 c.in_ok-y.y.hi = search rules in
+    let fl : SFits w128 c.min.result = search rules in
+    let l = simp to_z-of_z at c.min.ensures.value in
+    let fu : SFits w128 c.min-2.result = search rules in
+    let u = simp to_z-of_z at c.min-2.ensures.value in
+    record {
+      holds = rw (c.in_ok-x.was, c.in_ok-y.was) (simp to_z-of_z (minimum_is fine c.in_ok-x.x.lo c.in_ok-x.x.hi c.in_ok-y.y.lo c.in_ok-y.y.hi c.min.result c.min-2.result l u).there);
+      narrow = λ w a b h k. simp to_z-of_z (minimum_narrow fine w a b c.in_ok-x.x.lo c.in_ok-x.x.hi c.in_ok-y.y.lo c.in_ok-y.y.hi c.min.result c.min-2.result l u (rw c.in_ok-x.was at h) (rw c.in_ok-y.was at k));
+    }

@@ -1,0 +1,17 @@
+use Rattle.encl_core.specs.Scales.{fine}
+use Rattle.std.specs.Int.{w128}
+use Rattle.std.proofs.Common.{rules, SFits}
+use Rattle.std.proofs.lemmas.Int.{to_z-of_z}
+use Rattle.encl_core.proofs.RootWidths.{clamp_narrow}
+use Rattle.encl_core.proofs.RootEnds.{cut_holds}
+use Rattle.fix_fine.proofs.roots.cut_ends.Goals as goal
+
+pub returns : goal.returns
+returns c =
+    let fa : SFits w128 c.args.x.lo = search rules in
+    let fb : SFits w128 c.args.x.hi = search rules in
+    let fc : SFits w128 c.cut.result = search rules in
+    let fd : SFits w128 c.cut-2.result = search rules in
+    let e = simp to_z-of_z at c.cut.ensures.value in
+    let f = simp to_z-of_z at c.cut-2.ensures.value in
+    record { holds = simp to_z-of_z (cut_holds fine c.args.x.lo c.args.x.hi c.cut.result c.cut-2.result e f); narrow = λ w a h. simp to_z-of_z (clamp_narrow fine w a c.args.x.lo c.args.x.hi c.cut.result c.cut-2.result e f h) }
