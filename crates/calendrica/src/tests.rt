@@ -2,7 +2,10 @@
 //! fails, the rows under `tests/rows` show on the built program.
 ghost use Rattle.std.specs.Prelude.{None};
 
-use fact_eval::Staged;
+use book_model::Fact;
+use encl_core::Coarse;
+use fact_eval::{Staged, answer_over};
+use oracle_core::{Answer, Evaluator};
 use run_core::{
     Command, Failed, MemorySink, MemorySource, OpenGate, Sink, Source, Status, input_limit, run,
 };
@@ -201,6 +204,48 @@ fn an_almanac_is_written_without_reading(rt: HostRuntime) -> Result<(), Fail> {
     let got = run_over(&rt, alloc, &words, &mut source, &mut sink);
     assert_eq!(rt; got, Status::Done);
     assert!(rt; sink.written().ends_with(b"end lines 104 facts 152\n"));
+    Ok(())
+}
+
+/// The evaluator by coarse enclosures alone.
+struct CoarseAlone;
+
+impl Evaluator for CoarseAlone {
+    fn eval(&self, fact: Fact) -> Answer {
+        answer_over::<Coarse>(fact)
+    }
+}
+
+/// What `sample 700 1` writes over an evaluator.
+fn sampled_over<R: Threads + Sync, E: Evaluator + Sync>(
+    rt: &R,
+    alloc: Global,
+    evaluator: &E,
+) -> Result<MemorySink, Fail> {
+    let words = words_in(alloc, "sample 700 1")?;
+    let mut source = MemorySource::new(Vec::new(alloc), Vec::new(alloc));
+    let mut sink = MemorySink::new(alloc, 100, Vec::new(alloc))?;
+    run(
+        rt,
+        alloc,
+        &words,
+        &mut source,
+        &mut sink,
+        evaluator,
+        &OpenGate,
+    );
+    Ok(sink)
+}
+
+#[test]
+fn two_scales_leave_fewer_lines_of_a_sample_open(rt: HostRuntime) -> Result<(), Fail> {
+    let alloc = rt.alloc();
+    let coarse = sampled_over(&rt, alloc, &CoarseAlone)?;
+    let want = "sample 700 1 decided 699 undecided 1 void 0 refused 0 facts 2562\n";
+    assert_eq!(rt; coarse.written(), want.as_bytes());
+    let staged = sampled_over(&rt, alloc, &Staged::new())?;
+    let want = "sample 700 1 decided 700 undecided 0 void 0 refused 0 facts 2563\n";
+    assert_eq!(rt; staged.written(), want.as_bytes());
     Ok(())
 }
 

@@ -16,4 +16,4 @@ mod sunsets;
 #[cfg(test)]
 mod tests;
 
-pub use staged::Staged;
+pub use staged::{Staged, answer_over};

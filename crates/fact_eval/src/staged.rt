@@ -7,6 +7,7 @@ ghost use Rattle.book_model.specs.Expressions.{World};
 ghost use Rattle.book_model.specs.Facts.{IsFactValue, IsValueDay, formula_of, program_of};
 ghost use Rattle.book_model.specs.Leading.{Exact, Leads};
 ghost use Rattle.book_model.specs.Programs.{AtMost};
+ghost use Rattle.oracle_core.specs.Answers.{IsRightAnswer};
 ghost use Rattle.fact_eval.specs.Answers.{answer_of};
 ghost use Rattle.fact_eval.specs.Widths.{IsNearFor};
 ghost use Rattle.book_model.specs.Depth.{DEPTH};
@@ -22,12 +23,13 @@ use crate::sun::sun_in_thousandths;
 use crate::sunsets::{bahai_year, sunset_in_minutes};
 use book_model::{FIRST_DAY, Fact, Fail, Kind, LAST_DAY, Place, Site};
 use encl_core::{Coarse, Enclosure, Trail};
+use fix_fine::Fine;
 use hindu_sky::{
     calendar_year, sankranti, sign_after, sign_at_sunset, sign_before, solar_year, tithi,
 };
 use oracle_core::{Answer, Evaluator};
 
-/// Evaluates each fact over coarse enclosures.
+/// Evaluates each fact over coarse enclosures, and over fine ones where these leave a test open.
 #[derive(Clone, Copy, Debug, PartialEq, Eq)]
 pub struct Staged;
 
@@ -107,9 +109,21 @@ fn answer(outcome: Result<i64, Fail>) -> Answer
     }
 }
 
+/// The answer for a fact by enclosures of one kind, with a scale from 2⁻³⁶ to 2⁻⁵⁶.
+pub fn answer_over<E: Enclosure>(fact: Fact) -> Answer
+    requires least { 36 ≤ E.BITS }
+    requires most { E.BITS ≤ 56 }
+    ensures { IsRightAnswer fact result }
+{
+    let mut trail = Trail::new();
+    answer(evaluate::<E>(fact, &mut trail))
+}
+
 impl Evaluator for Staged {
     fn eval(&self, fact: Fact) -> Answer {
-        let mut trail = Trail::new();
-        answer(evaluate::<Coarse>(fact, &mut trail))
+        match answer_over::<Coarse>(fact) {
+            Answer::Undecided(_) => answer_over::<Fine>(fact),
+            decided => decided,
+        }
     }
 }

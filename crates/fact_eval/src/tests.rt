@@ -1,4 +1,6 @@
 //! The evaluator against an independent implementation of the formulas.
+mod decided;
+
 use super::*;
 use book_model::{Fact, Kind, Place, Site};
 use oracle_core::{Answer, Asking, Evaluator, Oracle, Stop};

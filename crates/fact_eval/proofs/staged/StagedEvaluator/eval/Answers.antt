@@ -1,8 +1,0 @@
-use Rattle.std.proofs.Common.{arith}
-use Rattle.fact_eval.proofs.Rightness.{right_result}
-use Rattle.fact_eval.proofs.staged.StagedEvaluator.eval.Goals as goal
-
-pub returns : goal.returns
-returns c =
-    rw c.answer.ensures
-    (right_result c.args.fact c.evaluate.result c.evaluate.new.trail.count (λ w d. rw c.new-trail.ensures.empty at (c.evaluate.ensures.leads w d)) c.evaluate.ensures.value (c.evaluate.ensures.open c.new-trail.ensures.empty (omega arith) (omega arith)) c.evaluate.ensures.few)
