@@ -7,6 +7,7 @@ use Rattle.std.proofs.lemmas.List.Folds.{list_all-append}
 use Rattle.std.specs.List.{list_all}
 use Rattle.std.specs.Prelude.{Ok, Some, None, Option, codes, pos, ℤ, ◌+ℤ◌, ◌*ℤ◌, int_le, ◌==◌}
 use Rattle.almanac_core.specs.Sample.{state_after, day_by, asked_at, sample_line_of}
+use Rattle.almanac_core.proofs.Samples.{day_low, day_high}
 use Rattle.almanac_lines.specs.Texts.{line_text, sample_from}
 use Rattle.book_model.specs.declared.calendar.Calendar.TheVariants as calendars
 use Rattle.book_model.specs.declared.fact.Fact.{Fact}
@@ -83,14 +84,6 @@ number_read n h =
     rw fits (value_of_decimal n h)
 
 -- ---- the request of a line
-
-day_low : (state : ℕ) → 657802 ≤ day_by state
-unfolding day_by
-day_low state = omega arith
-
-day_high : (state : ℕ) → day_by state ≤ 748017
-unfolding day_by
-day_high state = omega arith
 
 -- a day number as the fields of a date that is answered
 fixed_may : (n : ℕ) → n ≤ 748017 → may_have calendars.Fixed (fields_with (n ∷ [])) ≡ true
