@@ -14,46 +14,28 @@ fn request(from: FromWord, count: u8, values: [i32; 5], to: ToWord) -> Request {
 #[test]
 fn the_almanac_of_2024(rt: HostRuntime) -> Result<(), Fail> {
     let day = ToWord::Gregorian;
-    assert_eq!(rt;
-        almanac_line(2024, 1),
-        request(FromWord::Chinese, 5, [78, 41, 1, 0, 1], day)
-    );
-    assert_eq!(rt;
-        almanac_line(2024, 2),
-        request(FromWord::Chinese, 5, [78, 41, 5, 0, 5], day)
-    );
-    assert_eq!(rt;
-        almanac_line(2024, 5),
-        request(FromWord::Bahai, 5, [1, 10, 10, 1, 1], day)
-    );
-    assert_eq!(rt;
-        almanac_line(2024, 7),
-        request(FromWord::HinduLunar, 5, [2081, 1, 0, 1, 0], day)
-    );
-    assert_eq!(rt;
-        almanac_line(2024, 8),
-        request(FromWord::Islamic, 3, [1445, 6, 1, 0, 0], day)
-    );
-    assert_eq!(rt;
-        almanac_line(2024, 20),
-        request(FromWord::Islamic, 3, [1446, 6, 1, 0, 0], day)
-    );
-    assert_eq!(rt;
-        almanac_line(2024, 44),
-        request(FromWord::MajorTerm, 3, [2024, 12, 15, 0, 0], day)
-    );
-    assert_eq!(rt;
-        almanac_line(2024, 92),
-        request(FromWord::LastQuarter, 3, [2024, 12, 28, 0, 0], day)
-    );
-    assert_eq!(rt;
-        almanac_line(2024, 104),
-        request(
+    for (index, from, count, values, to) in [
+        (1, FromWord::Chinese, 5, [78, 41, 1, 0, 1], day),
+        (2, FromWord::Chinese, 5, [78, 41, 5, 0, 5], day),
+        (5, FromWord::Bahai, 5, [1, 10, 10, 1, 1], day),
+        (7, FromWord::HinduLunar, 5, [2081, 1, 0, 1, 0], day),
+        (8, FromWord::Islamic, 3, [1445, 6, 1, 0, 0], day),
+        (20, FromWord::Islamic, 3, [1446, 6, 1, 0, 0], day),
+        (44, FromWord::MajorTerm, 3, [2024, 12, 15, 0, 0], day),
+        (92, FromWord::LastQuarter, 3, [2024, 12, 28, 0, 0], day),
+        (
+            104,
             FromWord::Gregorian,
             3,
             [2024, 12, 1, 0, 0],
-            ToWord::SunsetCairo
-        )
-    );
+            ToWord::SunsetCairo,
+        ),
+    ] {
+        assert_eq!(rt;
+            almanac_line(2024, index),
+            request(from, count, values, to),
+            "line {index}"
+        );
+    }
     Ok(())
 }

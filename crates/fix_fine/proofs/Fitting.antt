@@ -9,6 +9,7 @@ use lib.Signed.{≤ℤ_refl}
 use Rattle.exact_math.specs.Interval.{Interval, everything, between}
 use Rattle.book_model.specs.Bounds.{Bound, unbounded, bounded, range_size, ceil_div, limited, product_bound, power_bound, root_bound, quotient_bound, IsNarrow}
 use Rattle.fix_fine.specs.Quotients.{HasFineQuotient, HaveFineQuotients}
+use Rattle.fix_fine.specs.Room.{IsRoomy, AreRoomy}
 use Rattle.encl_core.specs.Rounding.{IsLeastBy, IsGreatestBy}
 use Rattle.encl_core.specs.Scales.{fine, at_scale, limits_on}
 use Rattle.encl_core.proofs.Keeping.{AreKept, kept_of, both}
@@ -16,20 +17,9 @@ use Rattle.encl_core.proofs.Products.{IsBounded, corner_sized, sized, ceil_above
 use Rattle.book_model.specs.Leading.{AreEnds, AreNoBounds, no_bounds, IsOpenCell, too_far}
 use Rattle.book_model.specs.Programs.{integers, cell_at}
 
--- a number that 128 bits have room for, and its opposite too
-pub record IsRoomy (p : ℤ) : Type 0 where
-  pub above : (pos 0 -ℤ pos (2 ^ 126)) ≤ℤ p
-  pub below : p ≤ℤ pos (2 ^ 126)
-
+-- a number that 128 bits have room for
 pub roomy_fits : (p : ℤ) → IsRoomy p → SFits w128 p
 roomy_fits p h = omega (arith, ints, h.above, h.below)
-
--- all products of the numbers from x to y with those from c to d
-pub record AreRoomy (x y c d : ℤ) : Type 0 where
-  pub first : IsRoomy (x *ℤ c)
-  pub second : IsRoomy (x *ℤ d)
-  pub third : IsRoomy (y *ℤ c)
-  pub fourth : IsRoomy (y *ℤ d)
 
 roomy : (A B Z : ℕ) (p : ℤ) → IsBounded p ((pos (2 ^ 24) *ℤ pos A) *ℤ (pos (2 ^ 24) *ℤ pos B)) → A * B ≤ Z * 2 ^ 32 → Z < 2 ^ 46 → IsRoomy p
 roomy A B Z p h k l = record { above = omega (arith, ints, h.above, k, l); below = omega (arith, ints, h.below, k, l) }

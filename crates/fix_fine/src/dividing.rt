@@ -5,7 +5,7 @@ ghost use Rattle.book_model.specs.Bounds.{Bound, IsNarrow, quotient_bound};
 ghost use Rattle.encl_core.specs.Rounding.{IsLeastBy, IsGreatestBy, AreQuotientsAt};
 ghost use Rattle.encl_core.specs.Scales.{fine, at_scale, limits_on};
 ghost use Rattle.fix_fine.specs.Shown.{shown_ends};
-ghost use Rattle.fix_fine.specs.Quotients.{HasFineQuotient, HaveFineQuotients};
+ghost use Rattle.fix_fine.specs.Quotients.{HasFineQuotient, HaveFineQuotients, HasParts};
 ghost use Rattle.rounded_quotients.specs.Rounding.{IsFloor, IsCeiling};
 
 use crate::ends::FineEnds;
@@ -26,8 +26,20 @@ fn greatest_by(b: i128, c: i128, d: i128) -> i128
     if b < 0 { d } else { c }
 }
 
-/// The quotient of two numbers, which counts 2⁻⁵⁶, rounded down. Where the dividend can't be raised to the scale, what the whole quotient
-/// leaves of it is. `None` only where the divisor is above 2⁷⁰, or the quotient 2⁶⁹ or more in size.
+/// The whole quotient of two numbers and what it leaves of the dividend, both raised to the scale. `None` only where the divisor is above
+/// 2⁷⁰, or the quotient above 2⁶⁹ in size.
+fn raised_parts(n: i128, d: i128) -> Option<(i128, i128)>
+    requires { pos 0 <ℤ d }
+    ensures value { IfSome result (λ p. HasParts n d p.0 p.1) }
+    ensures some { HasFineQuotient n d → IsSome result }
+{
+    let whole = n.div_euclid(d).checked_mul(ONE)?;
+    let rest = n.rem_euclid(d).checked_mul(ONE)?;
+    Some((whole, rest))
+}
+
+/// The quotient of two numbers, which counts 2⁻⁵⁶, rounded down: in two steps, where the dividend can't be raised to the scale. `None` as
+/// `raised_parts`.
 fn quotient_down(n: i128, d: i128) -> Option<i128>
     requires { pos 0 <ℤ d }
     ensures value { IfSome result (λ q. IsFloor q (n *ℤ pos (2 ^ 56)) d) }
@@ -36,9 +48,8 @@ fn quotient_down(n: i128, d: i128) -> Option<i128>
     if let Some(raised) = n.checked_mul(ONE) {
         return Some(floor_div(raised, d));
     }
-    let whole = n.div_euclid(d).checked_mul(ONE)?;
-    let part = n.rem_euclid(d).checked_mul(ONE)?;
-    whole.checked_add(floor_div(part, d))
+    let (whole, rest) = raised_parts(n, d)?;
+    whole.checked_add(floor_div(rest, d))
 }
 
 /// The same, rounded up.
@@ -50,9 +61,8 @@ fn quotient_up(n: i128, d: i128) -> Option<i128>
     if let Some(raised) = n.checked_mul(ONE) {
         return Some(ceil_div(raised, d));
     }
-    let whole = n.div_euclid(d).checked_mul(ONE)?;
-    let part = n.rem_euclid(d).checked_mul(ONE)?;
-    whole.checked_add(ceil_div(part, d))
+    let (whole, rest) = raised_parts(n, d)?;
+    whole.checked_add(ceil_div(rest, d))
 }
 
 /// The ends around the quotients of the numbers from `a` to `b` by those from `c` to `d`, which are above 0; `None` only where `d` is

@@ -1,16 +1,32 @@
 //! Products and squares of ends that count 2⁻⁵⁶, rounded outwards.
-ghost use Rattle.std.specs.Prelude.{◌≡◌, ◌^◌, ℕ, pos, ◌*ℤ◌, ◌≤ℤ◌, IfSome, IsNone, FitsSigned};
+ghost use Rattle.std.specs.Prelude.{◌≡◌, ◌^◌, ℕ, pos, ◌*ℤ◌, ◌≤ℤ◌, IfSome, IsSome, IsNone, FitsSigned};
 ghost use Rattle.std.specs.Int.{w128};
 ghost use Rattle.exact_math.specs.Interval.{◌⊆◌, product, power};
 ghost use Rattle.book_model.specs.Bounds.{Bound, IsNarrow, product_bound, power_bound};
 ghost use Rattle.encl_core.specs.Rounding.{least_square_of};
 ghost use Rattle.encl_core.specs.Scales.{fine, limits_on};
 ghost use Rattle.fix_fine.specs.Shown.{shown_ends};
-ghost use Rattle.rounded_quotients.specs.Rounding.{IsFloor, IsCeiling};
+ghost use Rattle.fix_fine.specs.Room.{AreRoomy};
+ghost use Rattle.rounded_quotients.specs.Rounding.{IsFloor, IsCeiling, IsBelowFour, IsAboveFour, IsAboveEachBelow, IsBelowEachAbove};
 
 use crate::ends::FineEnds;
 use crate::rounding::{ceil_56, ends_of, floor_56};
 use rounded_quotients::{greatest_of, least_of};
+
+/// The least and the greatest product of the ends, which count 2⁻¹¹². `None` only where a product is above 2¹²⁶ in size.
+fn products(x: FineEnds, y: FineEnds) -> Option<(i128, i128)>
+    ensures least { IfSome result (λ m. IsBelowFour m.0 (x.lo *ℤ y.lo) (x.lo *ℤ y.hi) (x.hi *ℤ y.lo) (x.hi *ℤ y.hi)) }
+    ensures greatest { IfSome result (λ m. IsAboveFour m.1 (x.lo *ℤ y.lo) (x.lo *ℤ y.hi) (x.hi *ℤ y.lo) (x.hi *ℤ y.hi)) }
+    ensures best_least { IfSome result (λ m. IsAboveEachBelow m.0 (x.lo *ℤ y.lo) (x.lo *ℤ y.hi) (x.hi *ℤ y.lo) (x.hi *ℤ y.hi)) }
+    ensures best_greatest { IfSome result (λ m. IsBelowEachAbove m.1 (x.lo *ℤ y.lo) (x.lo *ℤ y.hi) (x.hi *ℤ y.lo) (x.hi *ℤ y.hi)) }
+    ensures some { AreRoomy x.lo x.hi y.lo y.hi → IsSome result }
+{
+    let p = x.lo.checked_mul(y.lo)?;
+    let q = x.lo.checked_mul(y.hi)?;
+    let r = x.hi.checked_mul(y.lo)?;
+    let s = x.hi.checked_mul(y.hi)?;
+    Some((least_of(p, q, r, s), greatest_of(p, q, r, s)))
+}
 
 /// The ends around the products of the members.
 pub(crate) fn mul_ends(x: Option<FineEnds>, y: Option<FineEnds>) -> Option<FineEnds>
@@ -19,12 +35,9 @@ pub(crate) fn mul_ends(x: Option<FineEnds>, y: Option<FineEnds>) -> Option<FineE
 {
     let x = x?;
     let y = y?;
-    let p = x.lo.checked_mul(y.lo)?;
-    let q = x.lo.checked_mul(y.hi)?;
-    let r = x.hi.checked_mul(y.lo)?;
-    let s = x.hi.checked_mul(y.hi)?;
-    let hi = ceil_56(greatest_of(p, q, r, s))?;
-    ends_of(floor_56(least_of(p, q, r, s)), hi)
+    let (least, greatest) = products(x, y)?;
+    let hi = ceil_56(greatest)?;
+    ends_of(floor_56(least), hi)
 }
 
 /// The least square of a number between two ends whose squares are these.

@@ -60,16 +60,6 @@ fn fractions_are_rounded_outwards(rt: HostRuntime) -> Result<(), Fail> {
             20_587_884_010_836_554,
         ),
         (
-            Fine::from_int(1_000_000_000_001).div(Fine::from_int(7)),
-            10_293_942_005_428_570_513_433_989_705,
-            10_293_942_005_428_570_513_433_989_706,
-        ),
-        (
-            Fine::from_int(-1_000_000_000_001).div(Fine::from_int(7)),
-            -10_293_942_005_428_570_513_433_989_706,
-            -10_293_942_005_428_570_513_433_989_705,
-        ),
-        (
             Fine::from_int(2).root(),
             101_904_826_760_412_361,
             101_904_826_760_412_362,
@@ -83,6 +73,25 @@ fn fractions_are_rounded_outwards(rt: HostRuntime) -> Result<(), Fail> {
             Fine::from_int(0).widen(third),
             -24_019_198_012_642_646,
             24_019_198_012_642_646,
+        ),
+    ] {
+        assert_eq!(rt; ends_of(found)?, (lo, hi));
+    }
+    Ok(())
+}
+
+#[test]
+fn quotients_of_large_numbers_are_rounded_outwards(rt: HostRuntime) -> Result<(), Fail> {
+    for (found, lo, hi) in [
+        (
+            Fine::from_int(1_000_000_000_001).div(Fine::from_int(7)),
+            10_293_942_005_428_570_513_433_989_705,
+            10_293_942_005_428_570_513_433_989_706,
+        ),
+        (
+            Fine::from_int(-1_000_000_000_001).div(Fine::from_int(7)),
+            -10_293_942_005_428_570_513_433_989_706,
+            -10_293_942_005_428_570_513_433_989_705,
         ),
     ] {
         assert_eq!(rt; ends_of(found)?, (lo, hi));
@@ -150,7 +159,7 @@ fn periods_are_taken_off(rt: HostRuntime) {
 }
 
 #[test]
-fn open_tests_have_its_ends(rt: HostRuntime) {
+fn comparisons_are_open_at_its_ends(rt: HostRuntime) {
     let mut trail = Trail::new();
     let two = Fine::from_int(2);
     assert_eq!(rt;
@@ -171,19 +180,24 @@ fn open_tests_have_its_ends(rt: HostRuntime) {
         range(1, 3).less(two, Site::PhasePick, &mut trail),
         Err(open)
     );
+}
+
+#[test]
+fn floors_are_open_at_its_ends(rt: HostRuntime) {
+    let mut trail = Trail::new();
     assert_eq!(rt;
         Fine::from_int(-4).floor(Site::DayFloor, &mut trail),
         Ok(-4)
     );
     let between = Undecided {
-        turn: 5,
+        turn: 2,
         site: Site::DayFloor,
         lo: 0,
         hi: 72_057_594_037_927_936,
     };
     assert_eq!(rt; range(0, 1).floor(Site::DayFloor, &mut trail), Err(between));
     let nowhere = Undecided {
-        turn: 6,
+        turn: 3,
         site: Site::DayFloor,
         lo: i128::MIN,
         hi: i128::MAX,
@@ -193,9 +207,9 @@ fn open_tests_have_its_ends(rt: HostRuntime) {
         Err(nowhere)
     );
     let far = Fine::from_int(i64::MAX).add(Fine::from_int(1));
-    let too_far = Undecided { turn: 7, ..nowhere };
+    let too_far = Undecided { turn: 4, ..nowhere };
     assert_eq!(rt; far.floor(Site::DayFloor, &mut trail), Err(too_far));
-    assert_eq!(rt; trail.count(), 7);
+    assert_eq!(rt; trail.count(), 4);
 }
 
 #[test]
