@@ -5,9 +5,9 @@ use Rattle.std.proofs.lemmas.Int.{ints}
 use Rattle.exact_math.specs.Fraction.{floor_quotient, times, plus, reciprocal}
 use Rattle.exact_math.proofs.Floors.{floor_quotient_is}
 use Rattle.book_model.specs.declared.calendar_tables.TheConstants.{SYNODIC_MONTH}
-use Rattle.book_model.specs.Calendar.{first_day, days_of_months, fixed_of}
-use Rattle.book_model.specs.Fractions.{fraction_of}
-use Rattle.book_model.specs.Spans.{spans_of, ratio}
+use Rattle.book_model.specs.calendars.Gregorian.{first_day, days_of_months, fixed_of}
+use Rattle.book_model.specs.numbers.Fractions.{fraction_of}
+use Rattle.book_model.specs.calendars.Spans.{spans_of, ratio}
 
 pub january_from : (y : ℕ) → 1803 ≤ y → pos 600000 ≤ℤ fixed_of y 1 1
 unfolding fixed_of first_day days_of_months

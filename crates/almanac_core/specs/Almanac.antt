@@ -6,10 +6,10 @@ use Rattle.book_model.specs.declared.request.Request.{Request}
 use Rattle.book_model.specs.declared.words.FromWord.{FromWord}
 use Rattle.book_model.specs.declared.words.FromWord.TheVariants as from
 use Rattle.book_model.specs.declared.words.ToWord.TheVariants as to
-use Rattle.book_model.specs.Calendar.{fixed_of}
-use Rattle.book_model.specs.Fractions.{fraction_of}
-use Rattle.book_model.specs.Requests.{fields_with}
-use Rattle.book_model.specs.Spans.{spans_of, ratio}
+use Rattle.book_model.specs.calendars.Gregorian.{fixed_of}
+use Rattle.book_model.specs.numbers.Fractions.{fraction_of}
+use Rattle.book_model.specs.lines.Requests.{fields_with}
+use Rattle.book_model.specs.calendars.Spans.{spans_of, ratio}
 
 -- the Gregorian date of what a word and numbers name
 abbrev pub date_of : FromWord → List ℕ → Request

@@ -5,7 +5,7 @@ use Rattle.book_model.specs.declared.request.Request.{Request}
 use Rattle.book_model.specs.declared.words.FromWord.TheVariants as from
 use Rattle.book_model.specs.declared.words.ToWord.{ToWord}
 use Rattle.book_model.specs.declared.words.ToWord.TheVariants as to
-use Rattle.book_model.specs.Requests.{fields_with}
+use Rattle.book_model.specs.lines.Requests.{fields_with}
 
 -- the state after another
 unfoldable pub state_after : ℕ → ℕ

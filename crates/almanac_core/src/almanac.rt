@@ -1,8 +1,8 @@
 //! The lines of an almanac.
 ghost use Rattle.std.specs.Prelude.{◌≡◌, ◌≤◌, ◌<◌, pos, ◌≤ℤ◌};
-ghost use Rattle.book_model.specs.Calendar.{fixed_of};
-ghost use Rattle.book_model.specs.Fractions.{fraction_of};
-ghost use Rattle.book_model.specs.Spans.{ratio, spans_of as spans_in};
+ghost use Rattle.book_model.specs.calendars.Gregorian.{fixed_of};
+ghost use Rattle.book_model.specs.numbers.Fractions.{fraction_of};
+ghost use Rattle.book_model.specs.calendars.Spans.{ratio, spans_of as spans_in};
 ghost use Rattle.book_model.specs.declared.calendar_tables.TheConstants.{SYNODIC_MONTH as SYNODIC};
 ghost use Rattle.almanac_core.specs.Almanac as spec;
 

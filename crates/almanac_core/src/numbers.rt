@@ -1,7 +1,7 @@
 //! Requests by whole numbers.
 ghost use Rattle.std.specs.Prelude.{◌≡◌, ◌<◌, [], ◌∷◌, pos};
 ghost use Rattle.almanac_core.specs.Almanac as spec;
-ghost use Rattle.book_model.specs.Requests.{fields_with};
+ghost use Rattle.book_model.specs.lines.Requests.{fields_with};
 
 use book_model::{Fields, FromWord, Request, ToWord};
 

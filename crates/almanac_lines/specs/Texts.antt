@@ -4,8 +4,8 @@ use Rattle.std.specs.List.{concat}
 use Rattle.almanac_core.specs.Almanac.{almanac_line_of}
 use Rattle.almanac_core.specs.Sample.{state_after, sample_line_of}
 use Rattle.book_model.specs.declared.request.Request.{Request}
-use Rattle.book_model.specs.Text.{date_text}
-use Rattle.book_model.specs.Words.{calendar_of, text_of_from, text_of_to}
+use Rattle.book_model.specs.lines.Text.{date_text}
+use Rattle.book_model.specs.lines.Words.{calendar_of, text_of_from, text_of_to}
 
 -- FROM DATE TO, with a space between
 unfoldable pub line_text : Request → List ℕ

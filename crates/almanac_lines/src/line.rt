@@ -3,8 +3,8 @@ ghost use Rattle.std.specs.Prelude.{◌≡◌, codes, OnOk, IfOk};
 ghost use Rattle.std.specs.Io.KnownBytes.{Appends};
 ghost use Rattle.almanac_lines.specs.Texts as spec;
 ghost use Rattle.byte_streams.specs.Stream.{HasCause, AppendsFront};
-ghost use Rattle.book_model.specs.Text.{date_text};
-ghost use Rattle.book_model.specs.Words.{calendar_of};
+ghost use Rattle.book_model.specs.lines.Text.{date_text};
+ghost use Rattle.book_model.specs.lines.Words.{calendar_of};
 
 use book_model::Request;
 use byte_streams::{Failed, Gathered, Sink, write_all, write_parts};

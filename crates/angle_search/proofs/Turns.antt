@@ -2,9 +2,9 @@
 use Rattle.std.specs.Prelude.{◌≡◌, ℕ, zero, suc, ◌-◌, ◌≤◌, Bool, true, false, if◌then◌else◌, refl}
 use Rattle.std.proofs.Common.{arith}
 use Rattle.book_model.specs.declared.site.Site.TheVariants.{BisectEnd}
-use Rattle.book_model.specs.Bisection.{middle_of, are_near_of, has_passed_at, bisected_of}
-use Rattle.book_model.specs.Expressions.{Expression}
-use Rattle.book_model.specs.Programs.{Program, answer, void, bind}
+use Rattle.book_model.specs.programs.Bisection.{middle_of, are_near_of, has_passed_at, bisected_of}
+use Rattle.book_model.specs.numbers.Expressions.{Expression}
+use Rattle.book_model.specs.programs.Programs.{Program, answer, void, bind}
 
 -- what follows the test of the ends, where so many turns are left
 unfoldable pub after_test : ℕ → (Expression → Program Expression) → (y l u : Expression) → Bool → Program Expression

@@ -1,10 +1,10 @@
 //! An angle that grows with time.
 ghost use Rattle.std.specs.Prelude.{◌≤◌, ◌+◌, ℕ};
-ghost use Rattle.book_model.specs.Depth.{DEPTH};
-ghost use Rattle.book_model.specs.Expressions.{Expression, World};
-ghost use Rattle.book_model.specs.Leading.{Leads};
-ghost use Rattle.book_model.specs.Programs.{Program};
-ghost use Rattle.book_model.specs.Relations.{Within};
+ghost use Rattle.book_model.specs.numbers.Depth.{DEPTH};
+ghost use Rattle.book_model.specs.numbers.Expressions.{Expression, World};
+ghost use Rattle.book_model.specs.programs.Leading.{Leads};
+ghost use Rattle.book_model.specs.programs.Programs.{Program};
+ghost use Rattle.book_model.specs.numbers.Relations.{Within};
 
 use book_model::Fail;
 use encl_core::{Enclosure, Trail};

@@ -1,11 +1,11 @@
 //! Bisection: the half is kept in which an angle is passed, until the ends are near.
 ghost use Rattle.std.specs.Prelude.{◌≡◌, ◌≤◌, ◌+◌, ◌*◌, ℕ, Bool};
-ghost use Rattle.book_model.specs.Bisection as spec;
-ghost use Rattle.book_model.specs.Bounds.{Reach, limits_of};
-ghost use Rattle.book_model.specs.Depth.{DEPTH};
-ghost use Rattle.book_model.specs.Expressions.{Expression, World};
-ghost use Rattle.book_model.specs.Leading.{Exact, Leads};
-ghost use Rattle.book_model.specs.Relations.{Within, Narrow};
+ghost use Rattle.book_model.specs.programs.Bisection as spec;
+ghost use Rattle.book_model.specs.numbers.Bounds.{Reach, limits_of};
+ghost use Rattle.book_model.specs.numbers.Depth.{DEPTH};
+ghost use Rattle.book_model.specs.numbers.Expressions.{Expression, World};
+ghost use Rattle.book_model.specs.programs.Leading.{Exact, Leads};
+ghost use Rattle.book_model.specs.numbers.Relations.{Within, Narrow};
 
 use crate::Angular;
 use book_model::{Fail, HALF, HUNDRED_THOUSANDTH, Site};
@@ -18,7 +18,7 @@ const TURNS: u32 = 64;
 const HALF_CIRCLE: i64 = 180;
 
 /// The middle of two numbers.
-#[tactic(auto, unfolding(book_model::specs::Bisection::middle_of))]
+#[tactic(auto, unfolding(book_model::specs::programs::Bisection::middle_of))]
 fn middle<E: Enclosure>(low: E, high: E) -> E
     ensures holds { (w : World) (l u : Expression) → DEPTH ≤ w.depth → Within E.shown w l low → Within E.shown w u high → Within E.shown w (spec.middle_of l u) result }
     ensures narrow { (r : Reach) (l u : Expression) → Narrow E.shown (limits_of E.BITS) r l low → Narrow E.shown (limits_of E.BITS) r u high → Narrow E.shown (limits_of E.BITS) r (spec.middle_of l u) result }
@@ -27,7 +27,7 @@ fn middle<E: Enclosure>(low: E, high: E) -> E
 }
 
 /// Whether two numbers are less than a hundred-thousandth apart: one test, at `bisect-end`.
-#[tactic(auto, using(book_model::proofs::Leads::leading), unfolding(book_model::specs::Bisection::are_near_of, book_model::specs::Leading::next_turn))]
+#[tactic(auto, using(book_model::proofs::Leads::leading), unfolding(book_model::specs::programs::Bisection::are_near_of, book_model::specs::programs::Leading::next_turn))]
 fn are_near<E: Enclosure>(low: E, high: E, trail: &mut Trail) -> Result<bool, Fail>
     ensures leads { (w : World) (l u : Expression) → DEPTH ≤ w.depth → Within E.shown w l low → Within E.shown w u high → Leads w Exact (spec.are_near_of l u) trail.old.count trail.new.count result }
     ensures counted { trail.new.count ≤ trail.old.count + 1 }
@@ -41,7 +41,7 @@ fn are_near<E: Enclosure>(low: E, high: E, trail: &mut Trail) -> Result<bool, Fa
 }
 
 /// How far an angle is past another, from 0 up to 360 degrees: one test, at `bisect`.
-#[tactic(auto, using(book_model::proofs::Leads::leading), unfolding(book_model::specs::Bisection::angle_past_of, book_model::specs::Leading::next_turn))]
+#[tactic(auto, using(book_model::proofs::Leads::leading), unfolding(book_model::specs::programs::Bisection::angle_past_of, book_model::specs::programs::Leading::next_turn))]
 fn angle_past<E: Enclosure>(angle: E, target: E, trail: &mut Trail) -> Result<E, Fail>
     ensures leads { (w : World) (v y : Expression) → DEPTH ≤ w.depth → Within E.shown w v angle → Within E.shown w y target → Leads w (Within E.shown w) (spec.angle_past_of v y) trail.old.count trail.new.count result }
     ensures counted { trail.new.count ≤ trail.old.count + 1 }
@@ -50,7 +50,7 @@ fn angle_past<E: Enclosure>(angle: E, target: E, trail: &mut Trail) -> Result<E,
 }
 
 /// Whether an angle has passed another, which it has where it is less than half a turn past it: two tests, at `bisect`.
-#[tactic(auto, using(book_model::proofs::Leads::leading), unfolding(book_model::specs::Bisection::has_passed_of, book_model::specs::Leading::next_turn))]
+#[tactic(auto, using(book_model::proofs::Leads::leading), unfolding(book_model::specs::programs::Bisection::has_passed_of, book_model::specs::programs::Leading::next_turn))]
 fn has_passed<E: Enclosure>(angle: E, target: E, trail: &mut Trail) -> Result<bool, Fail>
     ensures leads { (w : World) (v y : Expression) → DEPTH ≤ w.depth → Within E.shown w v angle → Within E.shown w y target → Leads w Exact (spec.has_passed_of v y) trail.old.count trail.new.count result }
     ensures counted { trail.new.count ≤ trail.old.count + 2 }
@@ -60,7 +60,7 @@ fn has_passed<E: Enclosure>(angle: E, target: E, trail: &mut Trail) -> Result<bo
 }
 
 /// Whether a function has passed an angle at a number.
-#[tactic(auto, using(book_model::proofs::Leads::leading), unfolding(book_model::specs::Bisection::has_passed_at))]
+#[tactic(auto, using(book_model::proofs::Leads::leading), unfolding(book_model::specs::programs::Bisection::has_passed_at))]
 fn has_passed_at<E: Enclosure, F: Angular<E>>(
     f: &F,
     target: E,
@@ -76,7 +76,7 @@ fn has_passed_at<E: Enclosure, F: Angular<E>>(
 
 /// Bisection by so many turns at most. It is void at `bisect-end` where the ends aren't near then, and fails where the function
 /// does.
-#[tactic(auto, using(book_model::proofs::Leads::leading, crate::proofs::Turns::turning), unfolding(book_model::specs::Leading::next_turn))]
+#[tactic(auto, using(book_model::proofs::Leads::leading, crate::proofs::Turns::turning), unfolding(book_model::specs::programs::Leading::next_turn))]
 fn bisected<E: Enclosure, F: Angular<E>>(
     more: u32,
     f: &F,
@@ -106,7 +106,7 @@ fn bisected<E: Enclosure, F: Angular<E>>(
 /// hundred-thousandth apart: the middle of the last ends, and not the number to full precision (Reingold and Dershowitz,
 /// Calendrical Calculations, chapter 1). Each of 64 turns at most makes one test at `bisect-end`, those of the angle, and two at
 /// `bisect`; where more turns would be made it is void at `bisect-end`.
-#[tactic(auto, unfolding(book_model::specs::Bisection::invert_of))]
+#[tactic(auto, unfolding(book_model::specs::programs::Bisection::invert_of))]
 pub fn invert_angular<E: Enclosure, F: Angular<E>>(
     f: &F,
     y: E,

@@ -1,5 +1,5 @@
 //! What no clause says: the middle of the last ends, and after how many tests.
-ghost use Rattle.book_model.specs.Programs.{answer};
+ghost use Rattle.book_model.specs.programs.Programs.{answer};
 
 use super::*;
 use book_model::{Fail as FormulaFail, Frac};

@@ -5,18 +5,18 @@ use Rattle.std.specs.Int.{int_min, int_max}
 use Rattle.std.proofs.lemmas.Int.{ints, clamps}
 use lib.IntN.{neg_ℤ}
 use lib.Signed.{lt_z}
-use Rattle.book_model.specs.Leading.{at_56}
+use Rattle.book_model.specs.programs.Leading.{at_56}
 use Rattle.exact_math.specs.Fraction.{Fraction, whole, plus, ◌≤F◌}
 use Rattle.exact_math.specs.Interval.{Interval, everything, between, IsProper, AreWithin, ◌⊆◌, sum, difference, negative, quotient}
 use Rattle.exact_math.proofs.Fractions.{le_trans, positive_above, negative_below}
 use Rattle.std.specs.Prelude.{◌||◌}
 use Rattle.exact_math.proofs.Intervals.{within_trans, within_everything}
-use Rattle.book_model.specs.Bounds.{Limits, Reach}
-use Rattle.book_model.specs.Expressions.{Expression, World, value, integer, subtract, divide, scale, arctangent, arcsine, arccosine, arctangent_of_two}
-use Rattle.book_model.specs.Relations.{Within, Narrow, Lies, Keeps}
-use Rattle.book_model.specs.Arcs.{arctangent_of, arcsine_of, arccosine_of, arctangent_of_two as two_arctangent, all_around}
-use Rattle.book_model.specs.Octants.{only}
-use Rattle.book_model.specs.Bounds.{limited, bound_of, IsNarrow, Bound, bounded, spanned_bound, limits_of, limits_at, no_limits, is_scale}
+use Rattle.book_model.specs.numbers.Bounds.{Limits, Reach}
+use Rattle.book_model.specs.numbers.Expressions.{Expression, World, value, integer, subtract, divide, scale, arctangent, arcsine, arccosine, arctangent_of_two}
+use Rattle.book_model.specs.numbers.Relations.{Within, Narrow, Lies, Keeps}
+use Rattle.book_model.specs.numbers.Arcs.{arctangent_of, arcsine_of, arccosine_of, arctangent_of_two as two_arctangent, all_around}
+use Rattle.book_model.specs.numbers.Octants.{only}
+use Rattle.book_model.specs.numbers.Bounds.{limited, bound_of, IsNarrow, Bound, bounded, spanned_bound, limits_of, limits_at, no_limits, is_scale}
 use Rattle.book_model.proofs.Values.{value_proper}
 use Rattle.book_model.proofs.Arcs.{arctangents, two_inside, not_positive}
 use Rattle.arc_series.specs.Forms.{half_tangent_of, has_sign}

@@ -12,11 +12,11 @@ use Rattle.exact_math.proofs.FractionRing.{same_by}
 use Rattle.exact_math.proofs.Certificates.{zero_F, ◌≼◌, ◌≗◌, known, multiple, ◌⊞◌, ◌⊠◌, natural, le_by, same_given}
 use Rattle.exact_math.proofs.Alternating.{size_same}
 use Rattle.book_model.specs.declared.tables.TheConstants.{FINEST_PART}
-use Rattle.book_model.specs.Fractions.{fraction_of}
-use Rattle.book_model.specs.Expressions.{Expression, World, value, integer, add, subtract, divide, negate, power}
-use Rattle.book_model.specs.Octants.{only}
-use Rattle.book_model.specs.Series.{arctan_term, arctan_at, double}
-use Rattle.book_model.specs.Arcs.{half, arctan_series, radian_at, arc_near, arc_above, arc_beyond, arc_at}
+use Rattle.book_model.specs.numbers.Fractions.{fraction_of}
+use Rattle.book_model.specs.numbers.Expressions.{Expression, World, value, integer, add, subtract, divide, negate, power}
+use Rattle.book_model.specs.numbers.Octants.{only}
+use Rattle.book_model.specs.numbers.Series.{arctan_term, arctan_at, double}
+use Rattle.book_model.specs.numbers.Arcs.{half, arctan_series, radian_at, arc_near, arc_above, arc_beyond, arc_at}
 use Rattle.book_model.proofs.Terms.{IsUpTo, arctan_halving, arctan_rising}
 use Rattle.book_model.proofs.ArcSeries.{InHalf, positive_near, negative_near, series_nests, series_proper, degrees_proper}
 use Rattle.book_model.proofs.ArcPieces.{InPiece, InAbove, turned, turned_in, recip_in, opposite_three, opposite_above}

@@ -1,8 +1,8 @@
 -- The steps of the forms.
 use Rattle.std.proofs.Common.{◌≡◌, ℕ, zero, suc, ◌+◌, ◌-◌, ◌<◌, arith, pos, subst}
 use Rattle.exact_math.specs.Interval.{Interval}
-use Rattle.book_model.specs.Expressions.{Expression, World, integer, subtract, multiply, divide}
-use Rattle.book_model.specs.Relations.{Within}
+use Rattle.book_model.specs.numbers.Expressions.{Expression, World, integer, subtract, multiply, divide}
+use Rattle.book_model.specs.numbers.Relations.{Within}
 use Rattle.arc_series.specs.Forms.{horner}
 
 pub horner_first : {E : Type 0} (shown : E → Interval) (w : World) (u : Expression) (odd more : ℕ) (e : E) → more ≡ 0 → Within shown w (divide (integer (pos 1)) (integer (pos odd))) e → Within shown w (horner u odd more) e

@@ -7,11 +7,11 @@ use Rattle.exact_math.specs.Interval.{Interval, between, IsProper, ◌⊆◌, hu
 use Rattle.exact_math.proofs.Fractions.{le_refl, le_trans, smaller_keeps, larger_keeps, smaller_first, smaller_second, larger_first, larger_second}
 use Rattle.exact_math.proofs.Intervals.{within_trans, within_refl, hull_within}
 use Rattle.exact_math.proofs.Hulls.{hull_holds_first, hull_holds_second}
-use Rattle.book_model.specs.Expressions.{Expression, World, value, argument, hull as hull_of}
-use Rattle.book_model.specs.Relations.{Within, Lies}
-use Rattle.book_model.specs.Leading.{at_56}
-use Rattle.book_model.specs.Octants.{only}
-use Rattle.book_model.specs.Arcs.{half, minus_half, arc_at, begin_of, end_of, arc_over, join, found, arctangent_of}
+use Rattle.book_model.specs.numbers.Expressions.{Expression, World, value, argument, hull as hull_of}
+use Rattle.book_model.specs.numbers.Relations.{Within, Lies}
+use Rattle.book_model.specs.programs.Leading.{at_56}
+use Rattle.book_model.specs.numbers.Octants.{only}
+use Rattle.book_model.specs.numbers.Arcs.{half, minus_half, arc_at, begin_of, end_of, arc_over, join, found, arctangent_of}
 use Rattle.book_model.proofs.ArcPieces.{InPiece, IsFrom, IsTo}
 use Rattle.book_model.proofs.Arcs.{met_out, low_in, high_in, low_of, high_of, over_all, all_there, IsThere}
 use Rattle.arc_series.specs.declared.pieces.Piece.{Piece}

@@ -2,12 +2,12 @@
 use Rattle.std.specs.Prelude.{ℕ, zero, suc, ◌+◌, ◌-◌, ◌*◌, ◌^◌, ℤ, pos, negsuc, neg_ℤ, Option, Some, None, Bool, false, ◌||◌}
 use Rattle.exact_math.specs.Interval.{Interval, everything, between, ◌⊆◌}
 use lib.Signed.{lt_z}
-use Rattle.book_model.specs.Arcs.{Piece as ArcPiece, far_below, below, near, above, far_above}
+use Rattle.book_model.specs.numbers.Arcs.{Piece as ArcPiece, far_below, below, near, above, far_above}
 use Rattle.arc_series.specs.declared.pieces.Piece.{Piece}
 use Rattle.arc_series.specs.declared.pieces.Piece.TheVariants.{FarBelow, Below, Near, Above, FarAbove}
 use Rattle.book_model.specs.declared.tables.TheConstants.{FINEST_PART}
-use Rattle.book_model.specs.Fractions.{fraction_of}
-use Rattle.book_model.specs.Expressions.{Expression, integer, add, subtract, multiply, divide, negate, power, clamp, root, widen, pi}
+use Rattle.book_model.specs.numbers.Fractions.{fraction_of}
+use Rattle.book_model.specs.numbers.Expressions.{Expression, integer, add, subtract, multiply, divide, negate, power, clamp, root, widen, pi}
 
 -- 1 / odd - u (1 / (odd + 2) - u (..)), to the term after m more
 unfoldable pub horner : Expression → ℕ → ℕ → Expression

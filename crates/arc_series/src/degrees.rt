@@ -3,11 +3,11 @@ ghost use Rattle.std.specs.Prelude.{◌≡◌, ◌≤◌, IsTrue, false, neg_ℤ
 ghost use Rattle.std.specs.Int.{int_min, int_max};
 ghost use Rattle.arc_series.specs.declared.degrees.TheConstants.{HALF_TURN};
 ghost use Rattle.exact_math.specs.Interval.{Interval, everything, ◌⊆◌};
-ghost use Rattle.book_model.specs.Arcs.{all_around};
-ghost use Rattle.book_model.specs.Bounds.{Reach, limits_of, is_scale};
-ghost use Rattle.book_model.specs.Expressions.{Expression, World, arctangent, arcsine, arccosine, arctangent_of_two};
-ghost use Rattle.book_model.specs.Relations.{Within, Narrow};
-ghost use Rattle.book_model.specs.Depth.{DEPTH};
+ghost use Rattle.book_model.specs.numbers.Arcs.{all_around};
+ghost use Rattle.book_model.specs.numbers.Bounds.{Reach, limits_of, is_scale};
+ghost use Rattle.book_model.specs.numbers.Expressions.{Expression, World, arctangent, arcsine, arccosine, arctangent_of_two};
+ghost use Rattle.book_model.specs.numbers.Relations.{Within, Narrow};
+ghost use Rattle.book_model.specs.numbers.Depth.{DEPTH};
 ghost use Rattle.arc_series.specs.Forms.{half_tangent_of, has_sign};
 
 use crate::pieces::arctan_over;

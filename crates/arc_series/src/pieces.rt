@@ -1,12 +1,12 @@
 //! Arctangents over the closed pieces of the line.
 ghost use Rattle.std.specs.Prelude.{◌≡◌, ℕ, ◌≤◌, ◌≤ℤ◌, Option};
 ghost use Rattle.exact_math.specs.Interval.{Interval, between, ◌⊆◌};
-ghost use Rattle.book_model.specs.Arcs.{arc_over as arc_over_piece, join as join_of, arctangent_of, far_below, below, near as near_piece, above as above_piece, far_above};
-ghost use Rattle.book_model.specs.Expressions.{Expression, World};
-ghost use Rattle.book_model.specs.Leading.{at_56};
-ghost use Rattle.book_model.specs.Octants.{only};
-ghost use Rattle.book_model.specs.Relations.{Within};
-ghost use Rattle.book_model.specs.Depth.{DEPTH};
+ghost use Rattle.book_model.specs.numbers.Arcs.{arc_over as arc_over_piece, join as join_of, arctangent_of, far_below, below, near as near_piece, above as above_piece, far_above};
+ghost use Rattle.book_model.specs.numbers.Expressions.{Expression, World};
+ghost use Rattle.book_model.specs.programs.Leading.{at_56};
+ghost use Rattle.book_model.specs.numbers.Octants.{only};
+ghost use Rattle.book_model.specs.numbers.Relations.{Within};
+ghost use Rattle.book_model.specs.numbers.Depth.{DEPTH};
 ghost use Rattle.arc_series.specs.Forms.{above_of, beyond_of, piece_of, arc_in, AreHeld, begin_56, end_56};
 
 use crate::series::near;

@@ -4,9 +4,9 @@ use Rattle.std.proofs.Common.{arith}
 use Rattle.std.proofs.lemmas.Int.{ints}
 use Rattle.exact_math.specs.Fraction.{floor_quotient, times, plus, reciprocal}
 use Rattle.exact_math.proofs.Floors.{floor_quotient_is}
-use Rattle.book_model.specs.Bahai.{days_to_middle, years_before}
-use Rattle.book_model.specs.Facts.{IsFactValue}
-use Rattle.book_model.specs.Spans.{days_of, nearest, years_of_days}
+use Rattle.book_model.specs.calendars.Bahai.{days_to_middle, years_before}
+use Rattle.book_model.specs.sky.Facts.{IsFactValue}
+use Rattle.book_model.specs.calendars.Spans.{days_of, nearest, years_of_days}
 use Rattle.calendar_math.proofs.SpanLemmas.{LiesWithin}
 use Rattle.bahai_cal.specs.Years.{IsNearYear}
 

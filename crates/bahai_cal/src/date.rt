@@ -1,10 +1,10 @@
 //! Bahá'í dates, and the facts that they are found by. Days are R.D.
 ghost use Rattle.std.specs.Prelude.{◌≡◌, ◌≤◌, ◌≤ℤ◌, ◌+ℤ◌, ◌-ℤ◌, ◌*ℤ◌, pos, negsuc};
 ghost use Rattle.exact_math.specs.Fraction.{floor_quotient};
-ghost use Rattle.book_model.specs.Bahai as spec;
-ghost use Rattle.book_model.specs.Facts.{IsFactValue};
-ghost use Rattle.book_model.specs.Inquiries.{to_32_bits as to_32_bits_of};
-ghost use Rattle.book_model.specs.Spans.{modulo as modulo_of};
+ghost use Rattle.book_model.specs.calendars.Bahai as spec;
+ghost use Rattle.book_model.specs.sky.Facts.{IsFactValue};
+ghost use Rattle.book_model.specs.calendars.Inquiries.{to_32_bits as to_32_bits_of};
+ghost use Rattle.book_model.specs.calendars.Spans.{modulo as modulo_of};
 ghost use Rattle.bahai_cal.specs.Dates.{fields_of_date};
 ghost use Rattle.bahai_cal.specs.Years.{IsNearMonth, IsNearYear};
 ghost use Rattle.oracle_core.specs.Inquiring.{Inquires, map_ok};
@@ -60,7 +60,7 @@ fn year_after(passed: i64) -> u8
 }
 
 /// The date, where so many years have passed.
-#[tactic(auto, unfolding(book_model::specs::Bahai::date_in))]
+#[tactic(auto, unfolding(book_model::specs::calendars::Bahai::date_in))]
 fn date_in(passed: i64, month: i64, day: i64) -> BahaiDate
     requires near { IsNearYear passed }
     ensures date { fields_of_date result ≡ spec.date_in passed month day }
@@ -75,7 +75,7 @@ fn date_in(passed: i64, month: i64, day: i64) -> BahaiDate
 }
 
 /// The date of a day by the first day that was asked of it, that of its year and that of the next.
-#[tactic(auto, unfolding(book_model::specs::Bahai::date_by))]
+#[tactic(auto, unfolding(book_model::specs::calendars::Bahai::date_by))]
 fn date_by(day: i64, first: i64, base: i64, next: i64) -> BahaiDate
     requires from { pos 0 ≤ℤ day }
     requires to { day ≤ℤ pos 1000000 }
@@ -93,7 +93,7 @@ fn date_by(day: i64, first: i64, base: i64, next: i64) -> BahaiDate
 /// Ayyám-i-Há. A month or a day that its type doesn't hold stands at the nearest end; the other fields always fit. It stops
 /// where the oracle stops, at one of the three facts that are asked (Reingold and Dershowitz, Calendrical Calculations, chapter
 /// 16).
-#[tactic(auto, using(oracle_core::proofs::Inquiring::asking), unfolding(book_model::specs::Bahai::bahai_on))]
+#[tactic(auto, using(oracle_core::proofs::Inquiring::asking), unfolding(book_model::specs::calendars::Bahai::bahai_on))]
 pub fn from_fixed<O: Oracle>(oracle: &mut O, day: i64) -> Result<BahaiDate, Stop>
     requires from { pos 0 ≤ℤ day }
     requires to { day ≤ℤ pos 1000000 }
@@ -139,7 +139,7 @@ fn year_number(date: BahaiDate) -> i64
 /// The day (R.D.) of a date: that of its month and day, counted from the first day of its year, or, in the last month, back from
 /// that of the next year. The date needn't be one that the calendar has. It stops where the oracle stops, at the one fact that is
 /// asked (Reingold and Dershowitz, Calendrical Calculations, chapter 16).
-#[tactic(auto, using(oracle_core::proofs::Inquiring::asking), unfolding(book_model::specs::Bahai::bahai_day))]
+#[tactic(auto, using(oracle_core::proofs::Inquiring::asking), unfolding(book_model::specs::calendars::Bahai::bahai_day))]
 pub fn to_fixed<O: Oracle>(oracle: &mut O, date: BahaiDate) -> Result<i64, Stop>
     requires major_from { pos 0 ≤ℤ date.major }
     requires major_to { date.major ≤ℤ pos 9 }

@@ -2,8 +2,8 @@
 //! Days are R.D.
 ghost use Rattle.std.specs.Prelude.{◌≡◌, ◌≤ℤ◌, ◌+ℤ◌, ◌-ℤ◌, ◌*ℤ◌, pos, negsuc, int_le};
 ghost use Rattle.exact_math.specs.Fraction.{floor_quotient};
-ghost use Rattle.book_model.specs.Bahai as spec;
-ghost use Rattle.book_model.specs.Facts.{IsFactValue};
+ghost use Rattle.book_model.specs.calendars.Bahai as spec;
+ghost use Rattle.book_model.specs.sky.Facts.{IsFactValue};
 ghost use Rattle.bahai_cal.specs.Years.{IsNearMonth};
 
 use calendar_math::quotient;
@@ -70,7 +70,7 @@ fn day_by_month(day: i64, base: i64, month: i64) -> i64
 }
 
 /// The month of a day, by the first day that was asked of it, that of its year and that of the next.
-#[tactic(auto, unfolding(book_model::specs::Bahai::month_of))]
+#[tactic(auto, unfolding(book_model::specs::calendars::Bahai::month_of))]
 pub(crate) fn month_of(day: i64, first: i64, base: i64, next: i64) -> i64
     requires from { pos 0 ≤ℤ day }
     requires to { day ≤ℤ pos 1000000 }
@@ -90,7 +90,7 @@ pub(crate) fn month_of(day: i64, first: i64, base: i64, next: i64) -> i64
 }
 
 /// The day of the month, by the first day of the year and that of the next.
-#[tactic(auto, unfolding(book_model::specs::Bahai::day_of))]
+#[tactic(auto, unfolding(book_model::specs::calendars::Bahai::day_of))]
 pub(crate) fn day_of(day: i64, base: i64, next: i64, month: i64) -> i64
     requires from { pos 0 ≤ℤ day }
     requires to { day ≤ℤ pos 1000000 }
@@ -110,7 +110,7 @@ pub(crate) fn day_of(day: i64, base: i64, next: i64, month: i64) -> i64
 
 /// The years that have passed before the year from whose first day a month is counted: the last month from that of the next
 /// year.
-#[tactic(auto, unfolding(book_model::specs::Bahai::passed_before))]
+#[tactic(auto, unfolding(book_model::specs::calendars::Bahai::passed_before))]
 pub(crate) fn passed_before(number: i64, month: i64) -> i64
     requires from { negsuc 41 ≤ℤ number }
     requires to { number ≤ℤ pos 205 }
@@ -138,7 +138,7 @@ fn day_in_month(first: i64, month: i64, day: i64) -> i64
 }
 
 /// A day of a month by the first day of the year from which the month is counted.
-#[tactic(auto, unfolding(book_model::specs::Bahai::day_from))]
+#[tactic(auto, unfolding(book_model::specs::calendars::Bahai::day_from))]
 pub(crate) fn day_from(first: i64, month: i64, day: i64) -> i64
     requires value { IsFactValue first }
     requires from_first_month { pos 0 ≤ℤ month }

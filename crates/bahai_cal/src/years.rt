@@ -1,7 +1,7 @@
 //! The years of the Bahá'í calendar since its epoch, and the facts of their first days. Days are R.D.
 ghost use Rattle.std.specs.Prelude.{◌≡◌, ◌≤◌, ◌≤ℤ◌, ◌+ℤ◌, pos, negsuc};
-ghost use Rattle.book_model.specs.Bahai as spec;
-ghost use Rattle.book_model.specs.Facts.{IsFactValue};
+ghost use Rattle.book_model.specs.calendars.Bahai as spec;
+ghost use Rattle.book_model.specs.sky.Facts.{IsFactValue};
 ghost use Rattle.bahai_cal.specs.Years.{IsNearYear};
 
 use book_model::{BAHAI_EPOCH, Fact, Kind, Place, TROPICAL_YEAR};
@@ -37,7 +37,7 @@ fn days_to_middle(passed: i64) -> i64
 }
 
 /// A day in the middle of the year before which so many have passed since the epoch.
-#[tactic(auto, unfolding(book_model::specs::Bahai::middle_after))]
+#[tactic(auto, unfolding(book_model::specs::calendars::Bahai::middle_after))]
 fn middle_after(passed: i64) -> i64
     requires near { IsNearYear passed }
     ensures day { result ≡ spec.middle_after passed }

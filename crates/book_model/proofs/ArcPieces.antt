@@ -7,8 +7,8 @@ use Rattle.exact_math.proofs.Ring.{at, lit, ◌⊕◌, ◌⊖◌, ◌⊗◌, min
 use Rattle.exact_math.proofs.Fractions.{le_refl, opposite_mono, plus_mono, IsPositive, positive_above, reciprocal_anti_positive}
 use Rattle.exact_math.proofs.Intervals.{within_trans, within_refl, negative_within, negative_proper, sum_within, plus_proper}
 use Rattle.exact_math.proofs.Certificates.{zero_F, ◌≼◌, ◌≗◌, known, multiple, ◌⊞◌, ◌⊠◌, natural, le_by, le_over}
-use Rattle.book_model.specs.Octants.{only}
-use Rattle.book_model.specs.Arcs.{half, minus_half, arc_above, arc_beyond, arc_at, Piece, far_below, below, near, above, far_above, begin_of, end_of}
+use Rattle.book_model.specs.numbers.Octants.{only}
+use Rattle.book_model.specs.numbers.Arcs.{half, minus_half, arc_above, arc_beyond, arc_at, Piece, far_below, below, near, above, far_above, begin_of, end_of}
 use Rattle.book_model.proofs.SeriesNesting.{Precedes, preceding}
 use Rattle.book_model.proofs.ArcSeries.{InHalf, near_rises, near_deeper, near_proper, near_inside, near_nonneg}
 

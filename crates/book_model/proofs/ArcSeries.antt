@@ -10,10 +10,10 @@ use Rattle.exact_math.proofs.Intervals.{within_trans, within_refl, negative_with
 use Rattle.exact_math.proofs.Certificates.{zero_F, ◌≼◌, known, ◌⊞◌, le_by}
 use Rattle.exact_math.proofs.Hulls.{true_at_most, hull_least}
 use Rattle.exact_math.proofs.Alternating.{Halving, beneath, lower_is_beneath, sums_nested, lower_rises, upper_rises, sum_ends_in_order}
-use Rattle.book_model.specs.Series.{arctan_term, arctan_at, scaled, pi_at}
-use Rattle.book_model.specs.Octants.{only}
-use Rattle.book_model.specs.Arcs.{half, minus_half, arctan_series, radian_at, arc_near}
-use Rattle.book_model.specs.Nesting.{IsNestedByDepth}
+use Rattle.book_model.specs.numbers.Series.{arctan_term, arctan_at, scaled, pi_at}
+use Rattle.book_model.specs.numbers.Octants.{only}
+use Rattle.book_model.specs.numbers.Arcs.{half, minus_half, arctan_series, radian_at, arc_near}
+use Rattle.book_model.specs.programs.Nesting.{IsNestedByDepth}
 use Rattle.book_model.proofs.Terms.{IsUpTo, arctan_halving, arctan_rising}
 use Rattle.book_model.proofs.SeriesNesting.{Precedes, preceding}
 use Rattle.book_model.proofs.Pi.{pi_proper, pi_deeper, pi_at_least}

@@ -9,10 +9,10 @@ use Rattle.exact_math.proofs.Fractions.{le_refl, le_trans, le_total, at_most_tru
 use Rattle.exact_math.proofs.Intervals.{within_trans, within_refl, smaller_mono, larger_mono, difference_within, difference_proper, hull_within, hull_proper, clamp_within, clamp_proper, power_within, power_proper, quotient_within, quotient_proper}
 use Rattle.exact_math.proofs.Hulls.{true_at_most, hull_holds_first, hull_holds_second, hull_least}
 use Rattle.exact_math.proofs.Narrowing.{Narrowing, at_least, compose, argument, steady, sums, products, quotients}
-use Rattle.book_model.specs.Octants.{only}
-use Rattle.book_model.specs.Arcs.{half, minus_half, Piece, far_below, below, near, above, far_above, begin_of, end_of, begins_by, ends_from, low_from, high_to, arc_over, join, found, arctangent_of, all_around, arctangent_of_two, other_side, arcsine_of, arccosine_of}
-use Rattle.book_model.specs.Roots.{root_of}
-use Rattle.book_model.specs.Nesting.{IsNested, IsNestedOfTwo}
+use Rattle.book_model.specs.numbers.Octants.{only}
+use Rattle.book_model.specs.numbers.Arcs.{half, minus_half, Piece, far_below, below, near, above, far_above, begin_of, end_of, begins_by, ends_from, low_from, high_to, arc_over, join, found, arctangent_of, all_around, arctangent_of_two, other_side, arcsine_of, arccosine_of}
+use Rattle.book_model.specs.numbers.Roots.{root_of}
+use Rattle.book_model.specs.programs.Nesting.{IsNested, IsNestedOfTwo}
 use Rattle.book_model.proofs.Roots.{roots}
 use Rattle.book_model.proofs.DegreeSines.{nested_by}
 use Rattle.book_model.proofs.ArcSeries.{amid}

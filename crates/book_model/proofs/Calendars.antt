@@ -4,7 +4,7 @@ use Rattle.std.proofs.Common.{arith}
 use Rattle.std.proofs.lemmas.Int.{ints, by_lt_z}
 use Rattle.exact_math.specs.Fraction.{floor_quotient}
 use Rattle.exact_math.proofs.Floors.{IsFloorQuotient, floor_quotient_is}
-use Rattle.book_model.specs.Calendar.{first_day, year_of_day, IsYearOfDay}
+use Rattle.book_model.specs.calendars.Gregorian.{first_day, year_of_day, IsYearOfDay}
 
 -- 400 years have 146097 days: how far a year's first day may lie from that pace, in 400ths of a day
 pub record KeepsPace (y first : ℤ) : Type 0 where

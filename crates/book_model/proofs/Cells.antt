@@ -7,7 +7,7 @@ use Rattle.exact_math.proofs.Bounds.{◌≼◌, known, ◌⊞◌, ◌⊠◌, tim
 use Rattle.exact_math.proofs.IntLaws.{mul_add, mul_comm}
 use Rattle.exact_math.proofs.Ring.{at, lit, ◌⊕◌, ◌⊗◌}
 use Rattle.exact_math.proofs.Floors.{floor_quotient_is}
-use Rattle.book_model.specs.Programs.{Grid, integers, multiples, years, cell_of, threshold, CellsCut}
+use Rattle.book_model.specs.programs.Programs.{Grid, integers, multiples, years, cell_of, threshold, CellsCut}
 use Rattle.book_model.proofs.Calendars.{year_is}
 
 below_z : (q f n d : ℤ) → q ≤ℤ f → (f *ℤ d) ≤ℤ n → pos 1 ≤ℤ d → (q *ℤ d) ≤ℤ (n *ℤ pos 1)

@@ -9,14 +9,14 @@ use Rattle.std.specs.Ordering.{int_eq}
 use Rattle.std.proofs.lemmas.Bool.Decides.{Decides-int_eq}
 use Rattle.exact_math.specs.Fraction.{whole, floor}
 use Rattle.exact_math.proofs.Intervals.{within_refl}
-use Rattle.book_model.specs.Calendar.{year_of_day}
-use Rattle.book_model.specs.Leading.{Exact, Leads, next_turn}
+use Rattle.book_model.specs.calendars.Gregorian.{year_of_day}
+use Rattle.book_model.specs.programs.Leading.{Exact, Leads, next_turn}
 use Rattle.book_model.specs.declared.frac.Frac.{Frac}
 use Rattle.book_model.specs.declared.site.Site.TheVariants.{Year}
-use Rattle.book_model.specs.Correction.{int_power, no_fraction, polynomial_to, polynomial_of, year_of, is_between}
-use Rattle.book_model.specs.Expressions.{World, value, exactly, integer, add, scale}
-use Rattle.book_model.specs.Fractions.{fraction_of}
-use Rattle.book_model.specs.Programs.{Program, years, cell_of, cell_at, answer, AtMost}
+use Rattle.book_model.specs.sky.Correction.{int_power, no_fraction, polynomial_to, polynomial_of, year_of, is_between}
+use Rattle.book_model.specs.numbers.Expressions.{World, value, exactly, integer, add, scale}
+use Rattle.book_model.specs.numbers.Fractions.{fraction_of}
+use Rattle.book_model.specs.programs.Programs.{Program, years, cell_of, cell_at, answer, AtMost}
 use Rattle.book_model.proofs.Leads.{leads_cell, leads_answer}
 
 pub polynomial_none : (cs : List Frac) (x : ℤ) → polynomial_to cs x 0 ≡ integer (pos 0)

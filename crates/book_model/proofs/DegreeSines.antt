@@ -12,9 +12,9 @@ use Rattle.exact_math.proofs.Certificates.{zero_F, ◌≼◌, ◌≗◌, known, 
 use Rattle.exact_math.proofs.Floors.{floor_mono, floor_below, floor_close}
 use Rattle.exact_math.proofs.Hulls.{hull_holds_first, hull_holds_second, hull_least}
 use Rattle.exact_math.proofs.Narrowing.{Narrowing, at_least, compose, argument, steady, sums, quotients}
-use Rattle.book_model.specs.Octants.{only, octant_edge, octant_of_turn, sine_at, sine_in, hull_from, last_octant, first_octant, sine_of_degrees, cosine_of_degrees, tangent_of_degrees}
-use Rattle.book_model.specs.Nesting.{IsNested, IsNestedByDepth, AreOctantsMet}
-use Rattle.book_model.specs.Series.{pi_at, sine_series, cosine_series, arctan_at}
+use Rattle.book_model.specs.numbers.Octants.{only, octant_edge, octant_of_turn, sine_at, sine_in, hull_from, last_octant, first_octant, sine_of_degrees, cosine_of_degrees, tangent_of_degrees}
+use Rattle.book_model.specs.programs.Nesting.{IsNested, IsNestedByDepth, AreOctantsMet}
+use Rattle.book_model.specs.numbers.Series.{pi_at, sine_series, cosine_series, arctan_at}
 use Rattle.book_model.proofs.SeriesNesting.{sines, cosines}
 use Rattle.book_model.proofs.Pi.{pi_at_least, arctan_at_least}
 use Rattle.book_model.proofs.Terms.{one_over_nonneg, one_over-whole}

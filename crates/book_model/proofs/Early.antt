@@ -5,13 +5,13 @@ use Rattle.exact_math.specs.Interval.{Interval}
 use Rattle.book_model.specs.declared.fail.Fail.TheVariants.{Undecided as undecided_at}
 use Rattle.book_model.specs.declared.fail.Undecided.{Undecided}
 use Rattle.book_model.specs.declared.site.Site.{Site}
-use Rattle.book_model.specs.Expressions.{Expression, World, value, subtract}
-use Rattle.book_model.specs.Leading.{next_turn, Tells, passes, answers, Leads}
-use Rattle.book_model.specs.Moon.{moon_of}
-use Rattle.book_model.specs.Phases.{turned_of, elongation_of, phase_of, phase_past_of, phase_before_of, phase_day_of}
-use Rattle.book_model.specs.Programs.{Grid, Program, answer, void, cell, compare, bind, Run, run, after_cell, after_compare, cell_at, compare_at, MakesTest, here_decided, here_undecided, later, Sides}
-use Rattle.book_model.specs.Sun.{sun_of}
-use Rattle.book_model.specs.Time.{centuries_of}
+use Rattle.book_model.specs.numbers.Expressions.{Expression, World, value, subtract}
+use Rattle.book_model.specs.programs.Leading.{next_turn, Tells, passes, answers, Leads}
+use Rattle.book_model.specs.sky.Moon.{moon_of}
+use Rattle.book_model.specs.sky.Phases.{turned_of, elongation_of, phase_of, phase_past_of, phase_before_of, phase_day_of}
+use Rattle.book_model.specs.programs.Programs.{Grid, Program, answer, void, cell, compare, bind, Run, run, after_cell, after_compare, cell_at, compare_at, MakesTest, here_decided, here_undecided, later, Sides}
+use Rattle.book_model.specs.sky.Sun.{sun_of}
+use Rattle.book_model.specs.sky.Time.{centuries_of}
 use Rattle.book_model.proofs.Leads.{leads_stop_at}
 
 -- a program makes at least so many tests where it has an answer

@@ -11,13 +11,13 @@ use Rattle.exact_math.proofs.Intervals.{within_trans, product_within, within_ref
 use Rattle.book_model.specs.declared.site.Site.TheVariants.{StepWrap}
 use Rattle.book_model.specs.declared.sun_tables.TheConstants.{DEGREE_OF_YEAR, MINUS_HALF, PERSIAN_NOON_LONGITUDE}
 use Rattle.book_model.specs.declared.tables.TheConstants.{HALF}
-use Rattle.book_model.specs.Expressions.{Expression, World, value, exactly, integer, constant, add, subtract, minimum, remainder}
-use Rattle.book_model.specs.Fractions.{fraction_of}
-use Rattle.book_model.specs.Noon.{part_of_day, equation_of, equation_of_time_of, ahead_of, from_apparent_of, noon_of, IsStart, StartsNear}
-use Rattle.book_model.specs.Programs.{answer, integers, multiples, cell_of, cell_at, threshold, run, valued, outcome, AtMost, answer_at_most, cell_at_most}
-pub use Rattle.book_model.specs.Ranges.{IsBetween}
-use Rattle.book_model.specs.Sun.{sun_of, reduced_of, past_of, off_of, back_by, estimate_of}
-use Rattle.book_model.specs.Time.{centuries_of}
+use Rattle.book_model.specs.numbers.Expressions.{Expression, World, value, exactly, integer, constant, add, subtract, minimum, remainder}
+use Rattle.book_model.specs.numbers.Fractions.{fraction_of}
+use Rattle.book_model.specs.sky.Noon.{part_of_day, equation_of, equation_of_time_of, ahead_of, from_apparent_of, noon_of, IsStart, StartsNear}
+use Rattle.book_model.specs.programs.Programs.{answer, integers, multiples, cell_of, cell_at, threshold, run, valued, outcome, AtMost, answer_at_most, cell_at_most}
+pub use Rattle.book_model.specs.numbers.Ranges.{IsBetween}
+use Rattle.book_model.specs.sky.Sun.{sun_of, reduced_of, past_of, off_of, back_by, estimate_of}
+use Rattle.book_model.specs.sky.Time.{centuries_of}
 use Rattle.book_model.proofs.Cells.{cells_cut}
 use Rattle.book_model.proofs.FactRuns.{centuries_few, sun_few, parts, decides, when_some, remainder_within}
 use Rattle.book_model.proofs.Leads.{at_most_bind}

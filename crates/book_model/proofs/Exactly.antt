@@ -8,11 +8,11 @@ use Rattle.exact_math.specs.Interval.{sum, product, least, greatest}
 use Rattle.exact_math.proofs.Ring.{at, lit, ◌⊗◌, ring}
 use Rattle.exact_math.proofs.Same.{same_refl, same_sym, same_trans, plus_cong, times_cong}
 use Rattle.book_model.specs.declared.frac.Frac.{Frac}
-use Rattle.book_model.specs.Correction.{int_power, no_fraction, polynomial_to, polynomial_of, seconds_of}
+use Rattle.book_model.specs.sky.Correction.{int_power, no_fraction, polynomial_to, polynomial_of, seconds_of}
 use Rattle.book_model.specs.declared.tables.TheConstants.{SECOND}
-use Rattle.book_model.specs.Expressions.{World, value, exactly}
-use Rattle.book_model.specs.Fractions.{fraction_of}
-use Rattle.book_model.specs.Plain.{decimal_11, seconds_11, exact_to, IsNumber}
+use Rattle.book_model.specs.numbers.Expressions.{World, value, exactly}
+use Rattle.book_model.specs.numbers.Fractions.{fraction_of}
+use Rattle.book_model.specs.sky.Plain.{decimal_11, seconds_11, exact_to, IsNumber}
 
 choose_same : {A : Type 0} (t : Bool) (a : A) → cond t a a ≡ a
 choose_same true a = refl

@@ -12,13 +12,13 @@ use Rattle.exact_math.proofs.IntLaws.{mul_add}
 use Rattle.exact_math.proofs.Intervals.{within_trans, product_within, within_refl}
 use Rattle.book_model.specs.declared.site.Site.{Site}
 use Rattle.book_model.specs.declared.tables.TheConstants.{THOUSANDTHS_OF_DEGREE}
-use Rattle.book_model.specs.Correction.{is_between, year_of, rounded_of}
-use Rattle.book_model.specs.Expressions.{Expression, World, value, exactly, integer, constant, scale, remainder}
-use Rattle.book_model.specs.Fractions.{fraction_of}
-use Rattle.book_model.specs.Kinds.{dt_of, sun_in_thousandths_of}
-use Rattle.book_model.specs.Programs.{Grid, integers, multiples, cell_of, cell_at, compare_at, when, threshold, Program, answer, void, cell, compare, bind, after_cell, after_compare, run, valued, outcome, AtMost, answer_at_most, void_at_most, cell_at_most}
-use Rattle.book_model.specs.Sun.{sun_of, longitude_of}
-use Rattle.book_model.specs.Time.{correction_of_year, correction_at, dynamical_of, centuries_of}
+use Rattle.book_model.specs.sky.Correction.{is_between, year_of, rounded_of}
+use Rattle.book_model.specs.numbers.Expressions.{Expression, World, value, exactly, integer, constant, scale, remainder}
+use Rattle.book_model.specs.numbers.Fractions.{fraction_of}
+use Rattle.book_model.specs.sky.Kinds.{dt_of, sun_in_thousandths_of}
+use Rattle.book_model.specs.programs.Programs.{Grid, integers, multiples, cell_of, cell_at, compare_at, when, threshold, Program, answer, void, cell, compare, bind, after_cell, after_compare, run, valued, outcome, AtMost, answer_at_most, void_at_most, cell_at_most}
+use Rattle.book_model.specs.sky.Sun.{sun_of, longitude_of}
+use Rattle.book_model.specs.sky.Time.{correction_of_year, correction_at, dynamical_of, centuries_of}
 use Rattle.book_model.proofs.Cells.{cells_cut}
 use Rattle.book_model.proofs.Corrections.{few_of_two}
 use Rattle.book_model.proofs.Leads.{at_most_bind, at_most_more}

@@ -9,9 +9,9 @@ use Rattle.std.proofs.lemmas.Float.{T_from_true}
 use Rattle.exact_math.specs.Fraction.{◌≤F◌}
 use Rattle.exact_math.specs.Interval.{Interval, everything, between}
 use Rattle.exact_math.proofs.Fractions.{le_trans, plus_mono, le_refl}
-use Rattle.book_model.specs.Bounds.{Bound, unbounded, bounded, IsNarrow, implies, bound_of, at_32, breadth, limits_of, limits_at, limits_36}
-use Rattle.book_model.specs.Expressions.{Expression}
-use Rattle.book_model.specs.Relations.{Narrow, Keeps}
+use Rattle.book_model.specs.numbers.Bounds.{Bound, unbounded, bounded, IsNarrow, implies, bound_of, at_32, breadth, limits_of, limits_at, limits_36}
+use Rattle.book_model.specs.numbers.Expressions.{Expression}
+use Rattle.book_model.specs.numbers.Relations.{Narrow, Keeps}
 
 parts : (p q r s : Bool) → (p && q && r && s) ≡ true → (p ≡ true) × (q ≡ true) × (r ≡ true) × (s ≡ true)
 parts true true true true e = (refl, refl, refl, refl)

@@ -7,10 +7,10 @@ use Rattle.book_model.specs.declared.site.Site.{Site}
 use Rattle.book_model.specs.declared.fail.Undecided.{Undecided}
 use Rattle.book_model.specs.declared.fail.Fail.{Fail}
 use Rattle.book_model.specs.declared.fail.Fail.TheVariants.{Undecided as undecided_at, Void}
-use Rattle.book_model.specs.Expressions.{Expression, World, value}
-use Rattle.book_model.specs.Leading.{IsOpenCell, IsOpenComparison, IsOpen, open_cell, open_comparison, Exact, next_turn, Tells, passes, answers, stops, stops_early, voids, Leads, Continues, leaf_of, leaf}
-use Rattle.book_model.specs.Programs.{Grid, cell_at, compare_at, Program, answer, void, cell, compare, bind, Sides, one_side, two_sides, in_cell, is_less, Run, answered, voided, undecided, decided, after_cell, after_compare, run, valued, void_at, outcome, MakesTest, here_decided, here_undecided, later, AtMost, answer_at_most, void_at_most, cell_at_most, compare_at_most}
-use Rattle.book_model.specs.Relations.{Within, Lies}
+use Rattle.book_model.specs.numbers.Expressions.{Expression, World, value}
+use Rattle.book_model.specs.programs.Leading.{IsOpenCell, IsOpenComparison, IsOpen, open_cell, open_comparison, Exact, next_turn, Tells, passes, answers, stops, stops_early, voids, Leads, Continues, leaf_of, leaf}
+use Rattle.book_model.specs.programs.Programs.{Grid, cell_at, compare_at, Program, answer, void, cell, compare, bind, Sides, one_side, two_sides, in_cell, is_less, Run, answered, voided, undecided, decided, after_cell, after_compare, run, valued, void_at, outcome, MakesTest, here_decided, here_undecided, later, AtMost, answer_at_most, void_at_most, cell_at_most, compare_at_most}
+use Rattle.book_model.specs.numbers.Relations.{Within, Lies}
 use Rattle.book_model.proofs.Nesting.{cell_nested, compare_nested}
 use Rattle.book_model.proofs.Values.{value_proper}
 

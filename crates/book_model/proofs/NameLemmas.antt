@@ -15,7 +15,7 @@ use Rattle.book_model.specs.declared.fact.Place.{Place}
 use Rattle.book_model.specs.declared.fact.TheConstants.{KINDS, PLACES}
 use Rattle.book_model.specs.declared.site.Site.{Site}
 use Rattle.book_model.specs.declared.site.TheConstants.{SITES}
-use Rattle.book_model.specs.Names.{kind_number, kind_name, kind_named, place_number, place_name, place_named, site_number, site_name, site_named}
+use Rattle.book_model.specs.sky.Names.{kind_number, kind_name, kind_named, place_number, place_name, place_named, site_number, site_name, site_named}
 
 -- the rows have the numbers from n on
 abbrev are_numbered : {R : Type 0} → (R → ℕ) → ℕ → List R → Bool

@@ -12,9 +12,9 @@ use Rattle.exact_math.specs.Interval.{Interval, everything, between, IsProper, A
 use Rattle.exact_math.proofs.Fractions.{le_trans, at_most_true}
 use Rattle.exact_math.proofs.Floors.{floor_mono, floor_quotient_mono}
 use Rattle.book_model.specs.declared.site.Site.{Site}
-use Rattle.book_model.specs.Expressions.{World, value}
-use Rattle.book_model.specs.Nesting.{IsNarrower, RunsNest}
-use Rattle.book_model.specs.Programs.{Grid, integers, multiples, years, cell_of, when, cell_at, compare_at, Program, answer, void, cell, compare, Run, after_cell, after_compare, run, valued, void_at, outcome, inner_one, inner_two, Refines, same_answer, same_void, still_undecided, now_decided, same_test}
+use Rattle.book_model.specs.numbers.Expressions.{World, value}
+use Rattle.book_model.specs.programs.Nesting.{IsNarrower, RunsNest}
+use Rattle.book_model.specs.programs.Programs.{Grid, integers, multiples, years, cell_of, when, cell_at, compare_at, Program, answer, void, cell, compare, Run, after_cell, after_compare, run, valued, void_at, outcome, inner_one, inner_two, Refines, same_answer, same_void, still_undecided, now_decided, same_test}
 use Rattle.book_model.proofs.Calendars.{year_mono}
 use Rattle.book_model.proofs.Values.{value_proper, value_nested}
 

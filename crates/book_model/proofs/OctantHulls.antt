@@ -10,8 +10,8 @@ use Rattle.exact_math.proofs.Intervals.{within_trans, within_refl, negative_with
 use Rattle.exact_math.proofs.Certificates.{zero_F, ◌≼◌, known, ◌⊠◌, le_by}
 use Rattle.exact_math.proofs.Hulls.{hull_swap, negative_hull}
 use Rattle.exact_math.proofs.Narrowing.{narrows, at_least}
-use Rattle.book_model.specs.Series.{sine_term, cosine_term, arctan_term, over_factorial, scaled, four_fifths, sine_series, cosine_series, pi_at}
-use Rattle.book_model.specs.Octants.{only, radians, short_of, sine_into}
+use Rattle.book_model.specs.numbers.Series.{sine_term, cosine_term, arctan_term, over_factorial, scaled, four_fifths, sine_series, cosine_series, pi_at}
+use Rattle.book_model.specs.numbers.Octants.{only, radians, short_of, sine_into}
 use Rattle.book_model.proofs.SeriesNesting.{sines, cosines, Precedes, preceding, sine_between, cosine_between}
 use Rattle.book_model.proofs.Pi.{pi_proper, pi_deeper, pi_at_least}
 

@@ -8,7 +8,7 @@ use Rattle.exact_math.proofs.Ring.{at, lit, ◌⊗◌}
 use Rattle.exact_math.proofs.Intervals.{within_trans, within_refl, sum_within, negative_within, plus_proper, negative_proper}
 use Rattle.exact_math.proofs.Certificates.{◌≼◌, known, ◌⊠◌, le_by}
 use Rattle.exact_math.proofs.Alternating.{sums_nested, sum_ends_in_order}
-use Rattle.book_model.specs.Series.{arctan_term, arctan_at, scaled, pi_at}
+use Rattle.book_model.specs.numbers.Series.{arctan_term, arctan_at, scaled, pi_at}
 use Rattle.book_model.proofs.Terms.{IsUpTo, arctan_halving, one_over_nonneg, one_over_small}
 
 scaled_ends : (k : ℕ) (i j : Interval) → AreWithin i j → AreWithin (scaled k i) (scaled k j)

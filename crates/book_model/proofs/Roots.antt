@@ -10,7 +10,7 @@ use Rattle.exact_math.proofs.Fractions.{le_trans, den_product, by_cross}
 use Rattle.exact_math.proofs.Ring.{at, lit, ◌⊗◌}
 use Rattle.exact_math.proofs.Certificates.{zero_F, ◌≼◌, known, ◌⊞◌, ◌⊠◌, natural, le_by}
 use Rattle.exact_math.proofs.Narrowing.{Narrowing}
-use Rattle.book_model.specs.Roots.{root_below, root_above, root_by_digits, on_grid, natural_part, not_negative, root_low, root_high, root_of, IsGreatestRoot, IsLeastRoot}
+use Rattle.book_model.specs.numbers.Roots.{root_below, root_above, root_by_digits, on_grid, natural_part, not_negative, root_low, root_high, root_of, IsGreatestRoot, IsLeastRoot}
 
 -- ---- whole numbers
 pub record IsRoot (m r : ℕ) : Type 0 where

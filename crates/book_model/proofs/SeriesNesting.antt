@@ -10,7 +10,7 @@ use Rattle.exact_math.proofs.Certificates.{zero_F}
 use Rattle.exact_math.proofs.Hulls.{true_at_most}
 use Rattle.exact_math.proofs.Narrowing.{Narrowing}
 use Rattle.exact_math.proofs.Alternating.{sums_nested, later_sums_nested, lower_rises, upper_rises, lower_falls, upper_falls, sum_ends_in_order}
-use Rattle.book_model.specs.Series.{is_inside, sine_term, cosine_term, four_fifths, sine_series, cosine_series}
+use Rattle.book_model.specs.numbers.Series.{is_inside, sine_term, cosine_term, four_fifths, sine_series, cosine_series}
 use Rattle.book_model.proofs.Terms.{IsUpTo, sine_halving, sine_rising, cosine_halving, cosine_falling}
 
 pub record Inside (lo hi a b : Fraction) : Type 0 where

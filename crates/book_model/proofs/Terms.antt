@@ -4,7 +4,7 @@ use Rattle.std.proofs.lemmas.Int.{ints}
 use Rattle.exact_math.proofs.Ring.{Poly, at, lit, ◌⊗◌, minus}
 use Rattle.exact_math.specs.Fraction.{Fraction, ◌≤F◌, ◌≈◌, whole, times, power}
 use Rattle.exact_math.specs.Sums.{one_over}
-use Rattle.book_model.specs.Series.{over_factorial, double, sine_term, cosine_term, arctan_term}
+use Rattle.book_model.specs.numbers.Series.{over_factorial, double, sine_term, cosine_term, arctan_term}
 use Rattle.exact_math.proofs.Fractions.{le_refl, le_trans}
 use Rattle.exact_math.proofs.Same.{le_of_same, ge_of_same, same_of_le}
 use Rattle.exact_math.proofs.FractionRing.{same_by}

@@ -4,16 +4,16 @@ use Rattle.exact_math.specs.Fraction.{whole}
 use Rattle.exact_math.specs.Interval.{IsProper, ◌⊆◌}
 use Rattle.exact_math.proofs.Fractions.{le_refl}
 use Rattle.exact_math.proofs.Intervals.{within_refl, sum_within, difference_within, product_within, quotient_within, negative_within, power_within, minimum_within, maximum_within, hull_within, clamp_within, widen_within, plus_proper, difference_proper, product_proper, quotient_proper, negative_proper, power_proper, minimum_proper, maximum_proper, hull_proper, clamp_proper, widen_proper}
-use Rattle.book_model.specs.Expressions.{Expression, argument, integer, constant, add, subtract, multiply, divide, negate, scale, power, minimum, maximum, hull, clamp, widen, pi, sine, cosine, tangent, root, arctangent, arcsine, arccosine, arctangent_of_two, remainder, World, value, exactly}
+use Rattle.book_model.specs.numbers.Expressions.{Expression, argument, integer, constant, add, subtract, multiply, divide, negate, scale, power, minimum, maximum, hull, clamp, widen, pi, sine, cosine, tangent, root, arctangent, arcsine, arccosine, arctangent_of_two, remainder, World, value, exactly}
 use Rattle.exact_math.proofs.Narrowing.{at_least}
-use Rattle.book_model.specs.Octants.{sine_of_degrees, cosine_of_degrees, tangent_of_degrees}
-use Rattle.book_model.specs.Roots.{root_of}
-use Rattle.book_model.specs.Arcs.{arctangent_of, arcsine_of, arccosine_of}
+use Rattle.book_model.specs.numbers.Octants.{sine_of_degrees, cosine_of_degrees, tangent_of_degrees}
+use Rattle.book_model.specs.numbers.Roots.{root_of}
+use Rattle.book_model.specs.numbers.Arcs.{arctangent_of, arcsine_of, arccosine_of}
 use Rattle.book_model.proofs.Roots.{roots}
 use Rattle.book_model.proofs.Arcs.{arctangents, arcsines, arccosines, two_proper, two_nested}
 use Rattle.book_model.proofs.Pi.{pi_proper, pi_at_least}
 use Rattle.book_model.proofs.DegreeSines.{degree_sines, degree_cosines, degree_tangents}
-use Rattle.book_model.specs.Nesting.{IsNarrower, ValuesNest}
+use Rattle.book_model.specs.programs.Nesting.{IsNarrower, ValuesNest}
 
 pub value_proper : (w : World) (x : Expression) → IsProper (value w x)
 unfolding value

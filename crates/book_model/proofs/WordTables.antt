@@ -13,9 +13,9 @@ use Rattle.book_model.specs.declared.words.FromWord.{FromWord}
 use Rattle.book_model.specs.declared.words.FromWord.TheVariants as from
 use Rattle.book_model.specs.declared.words.ToWord.{ToWord}
 use Rattle.book_model.specs.declared.words.ToWord.TheVariants as to
-use Rattle.book_model.specs.Dates.{row_of}
-use Rattle.book_model.specs.Names.{has_place}
-use Rattle.book_model.specs.Words.{from_word_of, to_word_of, text_of_from, text_of_to, named_by, shown_by}
+use Rattle.book_model.specs.calendars.Dates.{row_of}
+use Rattle.book_model.specs.sky.Names.{has_place}
+use Rattle.book_model.specs.lines.Words.{from_word_of, to_word_of, text_of_from, text_of_to, named_by, shown_by}
 
 -- the word for a value is found as that value: the last line is checked for each value by itself
 pub from_found : (w : FromWord) → from_word_of (text_of_from w) ≡ Some w

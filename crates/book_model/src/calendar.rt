@@ -66,7 +66,7 @@ pub const CALENDARS: [CalendarRow; 8] = [
 ];
 
 impl Calendar {
-    ghost use Rattle.book_model.specs.Dates.{row_of};
+    ghost use Rattle.book_model.specs.calendars.Dates.{row_of};
 
     /// What the calendar differs in.
     pub fn row(self) -> CalendarRow

@@ -104,7 +104,7 @@ pub const LEAST_VALUE: i64 = -10_000_000;
 pub const GREATEST_VALUE: i64 = 10_000_000;
 
 impl Kind {
-    ghost use Rattle.book_model.specs.Names.{kind_number, kind_name, kind_named, places_of, has_place};
+    ghost use Rattle.book_model.specs.sky.Names.{kind_number, kind_name, kind_named, places_of, has_place};
 
     /// The number of the kind, from 0: its place among the kinds.
     pub fn number(self) -> usize
@@ -122,7 +122,7 @@ impl Kind {
     }
 
     /// The kind with this name, if there is one.
-    #[tactic(auto, unfolding(crate::specs::Names::kind_named))]
+    #[tactic(auto, unfolding(crate::specs::sky::Names::kind_named))]
     pub fn named(word: &[u8]) -> Option<Kind>
         ensures { result ≡ kind_named word.now }
     {
@@ -145,7 +145,7 @@ impl Kind {
 }
 
 impl Place {
-    ghost use Rattle.book_model.specs.Names.{place_number, place_name, place_named};
+    ghost use Rattle.book_model.specs.sky.Names.{place_number, place_name, place_named};
 
     /// The number of the place, from 0: its place among the places.
     pub fn number(self) -> usize
@@ -156,7 +156,7 @@ impl Place {
     }
 
     /// The word for the place in a printed line, a dash for none.
-    #[tactic(auto, unfolding(crate::specs::Names::place_name))]
+    #[tactic(auto, unfolding(crate::specs::sky::Names::place_name))]
     pub fn name(self) -> &'static str
         ensures { result.now ≡ place_name self }
     {
@@ -164,7 +164,7 @@ impl Place {
     }
 
     /// The place with this name, if there is one.
-    #[tactic(auto, unfolding(crate::specs::Names::place_named))]
+    #[tactic(auto, unfolding(crate::specs::sky::Names::place_named))]
     pub fn named(word: &[u8]) -> Option<Place>
         ensures { result ≡ place_named word.now }
     {
@@ -173,7 +173,7 @@ impl Place {
 }
 
 impl Fact {
-    ghost use Rattle.book_model.specs.Facts.{IsFact};
+    ghost use Rattle.book_model.specs.sky.Facts.{IsFact};
 
     /// The fact; `None` exactly where the place isn't one of the kind's places, or the day lies outside
     /// -40,000,000 to 40,000,000.

@@ -1,7 +1,7 @@
 //! Exact fractions as the tables and formulas give them.
 ghost use Rattle.std.specs.Prelude.{◌≡◌, ◌↔◌, ℤ, ℕ, IfSome, IsNone};
 ghost use Rattle.exact_math.specs.Fraction.{whole as whole_number};
-ghost use Rattle.book_model.specs.Fractions.{fraction_of, ten_millionths as parts, daily_ten_millionths as daily_parts};
+ghost use Rattle.book_model.specs.numbers.Fractions.{fraction_of, ten_millionths as parts, daily_ten_millionths as daily_parts};
 
 /// An exact fraction, a whole number over a positive one. It isn't reduced.
 #[derive(Clone, Copy, Debug, PartialEq, Eq)]

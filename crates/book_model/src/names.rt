@@ -1,6 +1,6 @@
 //! Values that are looked up by their names.
 ghost use Rattle.std.specs.Prelude.{◌≡◌, ◌<◌, [], length, map, slice_index_or};
-ghost use Rattle.book_model.specs.Names.{first_named as first_of};
+ghost use Rattle.book_model.specs.sky.Names.{first_named as first_of};
 
 /// The first value of the rows that has this name.
 pub(crate) fn first_named<T: Copy>(mut rows: &[(T, &str)], word: &[u8]) -> Option<T>

@@ -1,10 +1,10 @@
 //! A slow plain program beside a definition: the correction of a year in exact decimals, to compare with tables.
 ghost use Rattle.std.specs.Prelude.{◌≡◌, ◌≤◌, ◌<◌, ◌*◌, ◌-◌, ◌^◌, suc, ℤ, ℕ, pos, ◌-ℤ◌, ◌≤ℤ◌, length, IfSome};
 ghost use Rattle.exact_math.specs.Fraction.{◌≈◌, whole, times};
-ghost use Rattle.book_model.specs.Correction.{polynomial_of, seconds_of};
-ghost use Rattle.book_model.specs.Expressions.{World, value};
-ghost use Rattle.book_model.specs.Fractions.{fraction_of};
-ghost use Rattle.book_model.specs.Plain.{decimal_11, seconds_11, exact_to, IsNumber};
+ghost use Rattle.book_model.specs.sky.Correction.{polynomial_of, seconds_of};
+ghost use Rattle.book_model.specs.numbers.Expressions.{World, value};
+ghost use Rattle.book_model.specs.numbers.Fractions.{fraction_of};
+ghost use Rattle.book_model.specs.sky.Plain.{decimal_11, seconds_11, exact_to, IsNumber};
 
 use crate::{CORRECTION_1987, CORRECTION_2006, Frac};
 

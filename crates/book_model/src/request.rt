@@ -11,7 +11,7 @@ pub struct Fields {
 
 impl Fields {
     ghost use Rattle.std.specs.Prelude.{◌≡◌, ◌<◌};
-    ghost use Rattle.book_model.specs.Dates.{field as field_of};
+    ghost use Rattle.book_model.specs.calendars.Dates.{field as field_of};
 
     /// A field of the date, from 0, less its sign.
     pub fn field(&self, index: usize) -> u32
@@ -41,7 +41,7 @@ pub enum Rule {
 
 impl Rule {
     ghost use Rattle.std.specs.Prelude.{◌≡◌};
-    ghost use Rattle.book_model.specs.Requests.{rule_number};
+    ghost use Rattle.book_model.specs.lines.Requests.{rule_number};
 
     /// The number of the rule, from 1.
     pub fn number(self) -> u8

@@ -56,7 +56,7 @@ pub const SITES: [(Site, &str); 21] = [
 ];
 
 impl Site {
-    ghost use Rattle.book_model.specs.Names.{site_number, site_name, site_named};
+    ghost use Rattle.book_model.specs.sky.Names.{site_number, site_name, site_named};
 
     /// The number of the site, from 1.
     pub fn number(self) -> u8
@@ -66,7 +66,7 @@ impl Site {
     }
 
     /// The word for the site in a printed line.
-    #[tactic(auto, unfolding(crate::specs::Names::site_name))]
+    #[tactic(auto, unfolding(crate::specs::sky::Names::site_name))]
     pub fn name(self) -> &'static str
         ensures { result.now ≡ site_name self }
     {
@@ -74,7 +74,7 @@ impl Site {
     }
 
     /// The site with this name, if there is one.
-    #[tactic(auto, unfolding(crate::specs::Names::site_named))]
+    #[tactic(auto, unfolding(crate::specs::sky::Names::site_named))]
     pub fn named(word: &[u8]) -> Option<Site>
         ensures { result ≡ site_named word.now }
     {

@@ -97,7 +97,7 @@ pub const TO_WORDS: [(ToWord, &str, Shown); 13] = [
 ];
 
 impl FromWord {
-    ghost use Rattle.book_model.specs.Words.{from_word_of, text_of_from, named_by, calendar_of};
+    ghost use Rattle.book_model.specs.lines.Words.{from_word_of, text_of_from, named_by, calendar_of};
 
     /// What a word before a date stands for, if it is one.
     pub fn named(word: &[u8]) -> Option<FromWord>
@@ -132,7 +132,7 @@ impl FromWord {
 }
 
 impl ToWord {
-    ghost use Rattle.book_model.specs.Words.{to_word_of, text_of_to, shown_by};
+    ghost use Rattle.book_model.specs.lines.Words.{to_word_of, text_of_to, shown_by};
 
     /// What a word after a date asks for, if it is one.
     pub fn named(word: &[u8]) -> Option<ToWord>

@@ -8,7 +8,7 @@ use Rattle.exact_math.proofs.Floors.{floor_quotient_mono, floor_quotient_is}
 use Rattle.exact_math.proofs.Fractions.{den_product}
 use Rattle.exact_math.proofs.IntLaws.{mul_assoc, mul_one}
 use Rattle.std.proofs.Math.Nat.{mul-le-mul_right}
-use Rattle.book_model.specs.Spans.{amod, modulo, ratio, days_of, spans_of, days_of_years, months_of_days, years_of_days, nearest}
+use Rattle.book_model.specs.calendars.Spans.{amod, modulo, ratio, days_of, spans_of, days_of_years, months_of_days, years_of_days, nearest}
 
 -- the denominator of a product
 below_is : (m n : ℕ) → suc m * suc n - 1 ≡ below_product m n

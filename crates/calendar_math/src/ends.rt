@@ -1,6 +1,6 @@
 //! The nearest number of a type.
 ghost use Rattle.std.specs.Prelude.{◌≡◌, pos};
-ghost use Rattle.book_model.specs.Inquiries.{to_8_bits as nearest_of_8, to_32_bits as nearest_of_32};
+ghost use Rattle.book_model.specs.calendars.Inquiries.{to_8_bits as nearest_of_8, to_32_bits as nearest_of_32};
 
 /// The nearest number of 8 bits.
 pub fn to_8_bits(value: i64) -> u8

@@ -1,7 +1,7 @@
 //! Quotients of whole numbers, rounded down and up.
 ghost use Rattle.std.specs.Prelude.{◌≡◌, ◌<◌, ◌-◌, pos, negsuc, ◌≤ℤ◌, ◌<ℤ◌, ◌-ℤ◌, ◌*ℤ◌};
 ghost use Rattle.exact_math.specs.Fraction.{floor_quotient};
-ghost use Rattle.book_model.specs.Spans.{ceiling_quotient, amod as amod_of, modulo as modulo_of};
+ghost use Rattle.book_model.specs.calendars.Spans.{ceiling_quotient, amod as amod_of, modulo as modulo_of};
 
 /// The greatest whole number that isn't above the quotient.
 fn quotient_down(number: i128, divisor: u64) -> i128

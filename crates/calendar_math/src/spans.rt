@@ -1,7 +1,7 @@
 //! Spans, as a year or a month, and their days. A span's length is an exact fraction, from one day to a thousand.
 ghost use Rattle.std.specs.Prelude.{◌≡◌, ◌<◌, ◌≤◌, ◌-◌, ◌^◌, pos, negsuc, ◌≤ℤ◌, ◌*ℤ◌};
-ghost use Rattle.book_model.specs.Fractions.{fraction_of};
-ghost use Rattle.book_model.specs.Spans.{ratio, days_of as days_of_spans, spans_of as spans_of_days, days_of_years as days_of_tropical_years, months_of_days as synodic_months_of, years_of_days as tropical_years_of};
+ghost use Rattle.book_model.specs.numbers.Fractions.{fraction_of};
+ghost use Rattle.book_model.specs.calendars.Spans.{ratio, days_of as days_of_spans, spans_of as spans_of_days, days_of_years as days_of_tropical_years, months_of_days as synodic_months_of, years_of_days as tropical_years_of};
 
 use crate::quotients::quotient_within;
 use book_model::{Frac, SYNODIC_MONTH, TROPICAL_YEAR};

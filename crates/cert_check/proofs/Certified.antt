@@ -10,13 +10,13 @@ use Rattle.book_model.specs.declared.fact.Fact.{Fact}
 use Rattle.book_model.specs.declared.request.Request.{Request}
 use Rattle.book_model.specs.declared.request.Resolved.{Resolved}
 use Rattle.book_model.specs.declared.request.Rule.{Rule}
-use Rattle.book_model.specs.Facts.{run_of}
-use Rattle.book_model.specs.Inquiries.{Inquiry, done, ask, fact_eq, with_fact, with_entry, found, finding_after}
-use Rattle.book_model.specs.LineRules.{rule_of}
-use Rattle.book_model.specs.Names.{kind_number, place_number}
-use Rattle.book_model.specs.Programs.{valued, outcome}
-use Rattle.book_model.specs.Requests.{request_of}
-use Rattle.book_model.specs.Text.{result_text}
+use Rattle.book_model.specs.sky.Facts.{run_of}
+use Rattle.book_model.specs.calendars.Inquiries.{Inquiry, done, ask, fact_eq, with_fact, with_entry, found, finding_after}
+use Rattle.book_model.specs.lines.LineRules.{rule_of}
+use Rattle.book_model.specs.sky.Names.{kind_number, place_number}
+use Rattle.book_model.specs.programs.Programs.{valued, outcome}
+use Rattle.book_model.specs.lines.Requests.{request_of}
+use Rattle.book_model.specs.lines.Text.{result_text}
 use Rattle.oracle_core.specs.declared.evaluator.Answer.{Answer}
 use Rattle.oracle_core.specs.Pairs.{StandsWith, AllStand, facts_of, are_distinct, value_beside}
 use Rattle.oracle_core.proofs.FactLemmas.{one_fact}

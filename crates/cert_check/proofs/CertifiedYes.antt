@@ -8,11 +8,11 @@ use Rattle.std.specs.List.{list_any}
 use lib.Pointwise.{pointwise}
 use Rattle.book_model.specs.declared.fact.Fact.{Fact}
 use Rattle.book_model.specs.declared.fail.Undecided.{Undecided}
-use Rattle.book_model.specs.Facts.{run_of, IsNear}
-use Rattle.book_model.specs.Inquiries.{Inquiry, done, ask, fact_eq, with_fact, with_entry, found, found_at, finding_after}
-use Rattle.book_model.specs.LineRules.{rule_of}
-use Rattle.book_model.specs.Programs.{Outcome, valued, void_at, open_at, outcome}
-use Rattle.book_model.specs.Text.{result_text}
+use Rattle.book_model.specs.sky.Facts.{run_of, IsNear}
+use Rattle.book_model.specs.calendars.Inquiries.{Inquiry, done, ask, fact_eq, with_fact, with_entry, found, found_at, finding_after}
+use Rattle.book_model.specs.lines.LineRules.{rule_of}
+use Rattle.book_model.specs.programs.Programs.{Outcome, valued, void_at, open_at, outcome}
+use Rattle.book_model.specs.lines.Text.{result_text}
 use Rattle.oracle_core.specs.declared.evaluator.Answer.{Answer}
 use Rattle.oracle_core.specs.declared.evaluator.Answer.TheVariants as answer
 use Rattle.oracle_core.specs.Answers.{IsRightAnswer}

@@ -4,7 +4,7 @@ use Rattle.std.specs.Prelude.{Some, None, Option, slice_get, if◌then◌else◌
 use Rattle.std.proofs.lemmas.List.{drop_more, take_more, drop_all, take_all}
 use Rattle.std.proofs.lemmas.Option.{get_or_from_slice_get, slice_get_within}
 use Rattle.book_model.specs.declared.fact.Fact.{Fact}
-use Rattle.book_model.specs.Inquiries.{fact_eq}
+use Rattle.book_model.specs.calendars.Inquiries.{fact_eq}
 use Rattle.oracle_core.proofs.FactLemmas.{one_fact}
 use Rattle.cert_check.specs.Listed.{EndsWithin, is_fact_at}
 use Rattle.cert_check.specs.Verdicts.{difference}

@@ -4,7 +4,7 @@ use Rattle.std.specs.Prelude.{Some, None, Option, IsTrue, IfOk, Ok, Err, Result,
 use Rattle.std.specs.List.{list_any}
 use Rattle.book_model.specs.declared.fact.Fact.{Fact}
 use Rattle.book_model.specs.declared.request.Resolved.{Resolved}
-use Rattle.book_model.specs.Inquiries.{Inquiry, fact_eq, with_fact}
+use Rattle.book_model.specs.calendars.Inquiries.{Inquiry, fact_eq, with_fact}
 use Rattle.oracle_core.specs.declared.oracle.Stop.{Stop}
 use Rattle.oracle_core.specs.declared.oracle.Stop.TheVariants.{Missing as missing_stop}
 use Rattle.oracle_core.specs.Inquiring.{State, Tells, ends, goes_on, stops, Inquires}

@@ -1,7 +1,7 @@
 -- The numbers of facts that a line lists.
 use Rattle.std.specs.Prelude.{◌≡◌, ◌≤◌, ℕ, Bool, false, List, [], ◌∷◌, ◌++◌, Option, Some, None}
 use Rattle.book_model.specs.declared.fact.Fact.{Fact}
-use Rattle.book_model.specs.Inquiries.{fact_eq}
+use Rattle.book_model.specs.calendars.Inquiries.{fact_eq}
 use Rattle.cert_check.specs.declared.verdict.Verdict.{Verdict}
 use Rattle.cert_check.specs.declared.verdict.Verdict.TheVariants.{No}
 use Rattle.cert_check.specs.declared.verdict.Reason.TheVariants.{Missing as missing_reason}

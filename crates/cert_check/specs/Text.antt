@@ -4,8 +4,8 @@ use Rattle.std.specs.Fmt.{signed_decimal}
 use Rattle.std.specs.List.{concat}
 use Rattle.book_model.specs.declared.fact.Fact.{Fact}
 use Rattle.book_model.specs.declared.request.Resolved.{Resolved}
-use Rattle.book_model.specs.Names.{kind_name, place_name}
-use Rattle.book_model.specs.Text.{result_text, undecided_text, void_text}
+use Rattle.book_model.specs.sky.Names.{kind_name, place_name}
+use Rattle.book_model.specs.lines.Text.{result_text, undecided_text, void_text}
 use Rattle.cert_check.specs.declared.verdict.Verdict.{Verdict}
 use Rattle.cert_check.specs.declared.verdict.Verdict.TheVariants.{Yes, No, Skip}
 use Rattle.cert_check.specs.declared.verdict.Reason.{Reason}

@@ -8,12 +8,12 @@ use Rattle.book_model.specs.declared.fail.Undecided.{Undecided as OpenTest}
 use Rattle.book_model.specs.declared.request.Request.{Request}
 use Rattle.book_model.specs.declared.request.Resolved.{Resolved}
 use Rattle.book_model.specs.declared.request.Rule.{Rule}
-use Rattle.book_model.specs.Facts.{IsNear}
-use Rattle.book_model.specs.Inquiries.{Inquiry, done, ask, fact_eq, with_fact}
-use Rattle.book_model.specs.LineRules.{rule_of}
-use Rattle.book_model.specs.Outcomes.{HasResult}
-use Rattle.book_model.specs.Requests.{request_of, rule_number}
-use Rattle.book_model.specs.Text.{result_text}
+use Rattle.book_model.specs.sky.Facts.{IsNear}
+use Rattle.book_model.specs.calendars.Inquiries.{Inquiry, done, ask, fact_eq, with_fact}
+use Rattle.book_model.specs.lines.LineRules.{rule_of}
+use Rattle.book_model.specs.lines.Outcomes.{HasResult}
+use Rattle.book_model.specs.lines.Requests.{request_of, rule_number}
+use Rattle.book_model.specs.lines.Text.{result_text}
 use Rattle.oracle_core.specs.declared.evaluator.Answer.{Answer}
 use Rattle.oracle_core.specs.declared.evaluator.Answer.TheVariants as answer
 use Rattle.oracle_core.specs.Answers.{IsRightAnswer}

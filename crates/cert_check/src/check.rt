@@ -1,8 +1,8 @@
 //! The verdict of a line.
 ghost use Rattle.std.specs.Prelude.{◌≡◌, ◌≢◌, ◌<◌, ◌^◌, length, IsTrue, IfOk, OnErr, [], Ok};
 ghost use Rattle.book_model.specs.declared.fact.Fact.{Fact};
-ghost use Rattle.book_model.specs.LineRules.{rule_of};
-ghost use Rattle.book_model.specs.Requests.{is_possible, is_in_reach};
+ghost use Rattle.book_model.specs.lines.LineRules.{rule_of};
+ghost use Rattle.book_model.specs.lines.Requests.{is_possible, is_in_reach};
 ghost use Rattle.oracle_core.specs.Pairs.{are_distinct, facts_of, AreFactValues};
 ghost use Rattle.oracle_core.specs.declared.oracle.Stop.TheVariants.{Missing as missing_stop};
 ghost use Rattle.cert_read.specs.Reading.{are_of_facts, listed as numbers_of};

@@ -1,7 +1,7 @@
 //! Writes verdicts, and how many there are of each kind.
 ghost use Rattle.std.specs.Prelude.{◌≡◌, ◌++◌, codes, OnOk, OnErr};
 ghost use Rattle.std.specs.Io.KnownBytes.{Appends};
-ghost use Rattle.book_model.specs.Text.{result_text};
+ghost use Rattle.book_model.specs.lines.Text.{result_text};
 ghost use Rattle.byte_streams.specs.Stream.{HasCause, AppendsFront};
 ghost use Rattle.cert_check.specs.Text as spec;
 

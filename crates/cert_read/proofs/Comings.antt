@@ -3,8 +3,8 @@ use Rattle.std.proofs.Common.{◌≡◌, ◌∙◌, ℕ, ◌+◌, ◌-◌, ◌^�
 use Rattle.std.proofs.lemmas.Bool.Decides.{nat_tests}
 use Rattle.std.specs.Prelude.{codes, Some, None, ◌&&◌, ◌==◌, ℤ}
 use Rattle.book_model.specs.declared.fact.Fact.{Fact}
-use Rattle.book_model.specs.Lines.{lines_of}
-use Rattle.book_model.specs.Text.{fact_text}
+use Rattle.book_model.specs.lines.Lines.{lines_of}
+use Rattle.book_model.specs.lines.Text.{fact_text}
 use Rattle.cert_text.specs.declared.line.CertLine.{CertLine}
 use Rattle.cert_read.specs.declared.lines.CertFile.{CertFile}
 use Rattle.cert_read.specs.declared.form.Form.{Form}

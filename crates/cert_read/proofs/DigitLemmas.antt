@@ -3,7 +3,7 @@ use Rattle.std.proofs.Common.{◌≡◌, ℕ, ◌+◌, ◌-◌, ◌*◌, ◌/◌
 use Rattle.std.proofs.lemmas.List.{drop_more}
 use Rattle.std.specs.Prelude.{Some, None, ◌&&◌, if◌then◌else◌}
 use Rattle.std.proofs.lemmas.Bool.Decides.{nat_tests}
-use Rattle.book_model.specs.Lines.{value_from}
+use Rattle.book_model.specs.lines.Lines.{value_from}
 use Rattle.cert_read.specs.Digits.{at_most}
 
 above : (g n : ℕ) → g < n → at_most g (Some n) ≡ None

@@ -6,7 +6,7 @@ use Rattle.std.specs.Prelude.{codes, Some, ◌&&◌, nat_le, ℤ}
 use Rattle.book_model.specs.declared.fact.Fact.{Fact}
 use Rattle.book_model.specs.declared.fail.Undecided.{Undecided as OpenTest}
 use Rattle.book_model.specs.declared.site.Site.{Site}
-use Rattle.book_model.specs.Names.{kind_name, place_name, site_name}
+use Rattle.book_model.specs.sky.Names.{kind_name, place_name, site_name}
 use Rattle.cert_text.specs.declared.line.CertLine.TheVariants.{Refused}
 use Rattle.cert_read.specs.declared.form.Form.TheVariants as forms
 use Rattle.cert_read.specs.Grammar.{form_in, fact_form, line_form, body_form, end_form, refused_form, undecided_form, void_form, key_at}

@@ -2,7 +2,7 @@
 use Rattle.std.proofs.Common.{◌≡◌, ℕ, suc, ◌≤◌, Bool, true, false, List, [], ◌∷◌, length, map, arith}
 use Rattle.std.proofs.lemmas.List.{length-map}
 use Rattle.std.specs.Prelude.{◌==◌, if◌then◌else◌}
-use Rattle.book_model.specs.Lines.{raw_lines, onto_first, lines_of, without_return}
+use Rattle.book_model.specs.lines.Lines.{raw_lines, onto_first, lines_of, without_return}
 
 onto_first_length : (b : ℕ) (parts : List (List ℕ)) → length (onto_first b parts) ≤ suc (length parts)
 onto_first_length b [] = omega arith

@@ -1,7 +1,7 @@
 -- A line that lists facts has none of the forms of other lines, whatever its words are.
 use Rattle.std.proofs.Common.{◌≡◌, ℕ, Bool, true, false, List, ◌∷◌, ◌⊎◌, inl, inr, refl}
 use Rattle.std.specs.Prelude.{codes, Some, None, Option, ◌&&◌, nat_le, if◌then◌else◌, option_and_then}
-use Rattle.book_model.specs.Names.{kind_named, place_named, site_named}
+use Rattle.book_model.specs.sky.Names.{kind_named, place_named, site_named}
 use Rattle.cert_text.specs.declared.line.CertLine.TheVariants.{Refused}
 use Rattle.cert_read.specs.declared.form.Form.TheVariants as forms
 use Rattle.cert_read.specs.Digits.{counter_of, integer_of, natural_of}

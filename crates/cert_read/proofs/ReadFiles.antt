@@ -5,10 +5,10 @@ use Rattle.std.proofs.lemmas.Bool.Decides.{nat_tests}
 use Rattle.std.specs.Prelude.{Some, None, Option, IsTrue, ◌&&◌, not, nat_eq, nat_le, int_le, slice_index_or, if◌then◌else◌}
 use Rattle.std.specs.List.{list_any}
 use Rattle.book_model.specs.declared.fact.Fact.{Fact}
-use Rattle.book_model.specs.Correction.{is_between}
-use Rattle.book_model.specs.Inquiries.{fact_eq}
-use Rattle.book_model.specs.Lines.{lines_of, words_of}
-use Rattle.book_model.specs.Facts.{IsFactValue}
+use Rattle.book_model.specs.sky.Correction.{is_between}
+use Rattle.book_model.specs.calendars.Inquiries.{fact_eq}
+use Rattle.book_model.specs.lines.Lines.{lines_of, words_of}
+use Rattle.book_model.specs.sky.Facts.{IsFactValue}
 use Rattle.oracle_core.specs.Pairs.{facts_of, are_distinct}
 use Rattle.oracle_core.proofs.Keeping.{facts_of_push}
 use Rattle.oracle_core.proofs.Listing.{distinct_more}

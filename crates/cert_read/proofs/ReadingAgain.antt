@@ -5,8 +5,8 @@ use Rattle.std.proofs.lemmas.List.{length-map}
 use Rattle.std.specs.List.{flat_map}
 use Rattle.std.specs.Prelude.{codes, ◌==◌, ℤ}
 use Rattle.book_model.specs.declared.fact.Fact.{Fact}
-use Rattle.book_model.specs.Lines.{lines_of}
-use Rattle.book_model.specs.Text.{header, end_text}
+use Rattle.book_model.specs.lines.Lines.{lines_of}
+use Rattle.book_model.specs.lines.Text.{header, end_text}
 use Rattle.cert_text.specs.declared.line.CertLine.{CertLine}
 use Rattle.cert_text.specs.declared.line.Block.{Block}
 use Rattle.cert_read.specs.declared.form.Form.TheVariants as forms

@@ -10,7 +10,7 @@ use Rattle.book_model.specs.declared.fact.Kind.{Kind}
 use Rattle.book_model.specs.declared.fact.Place.{Place}
 use Rattle.book_model.specs.declared.fail.Undecided.{Undecided as OpenTest}
 use Rattle.book_model.specs.declared.site.Site.{Site}
-use Rattle.book_model.specs.Names.{kind_name, place_name, site_name, has_place}
+use Rattle.book_model.specs.sky.Names.{kind_name, place_name, site_name, has_place}
 use Rattle.book_model.proofs.NameLemmas.{kind_names_pass, place_names_pass, site_names_pass}
 use Rattle.cert_text.specs.declared.line.Echo.{Echo}
 use Rattle.cert_read.specs.Grammar.{is_printable}

@@ -3,7 +3,7 @@ use Rattle.std.proofs.Common.{◌≡◌, ◌∙◌, ℕ, suc, ◌-◌, ◌<◌, 
 use Rattle.std.proofs.lemmas.Bool.Decides.{nat_tests}
 use Rattle.std.specs.List.{list_all}
 use Rattle.std.specs.Prelude.{◌&&◌, ◌==◌}
-use Rattle.book_model.specs.Lines.{is_blank, words_of, onto_first, raw_lines, lines_of}
+use Rattle.book_model.specs.lines.Lines.{is_blank, words_of, onto_first, raw_lines, lines_of}
 use Rattle.cert_read.specs.Grammar.{is_printable, is_spaced_after, is_spaced}
 
 -- one or more bytes that a word may hold

@@ -7,7 +7,7 @@ use Rattle.std.proofs.lemmas.List.Folds.{list_all-append}
 use Rattle.std.specs.List.{list_all}
 use Rattle.std.specs.Fmt.{signed_decimal}
 use Rattle.std.specs.Prelude.{Some, None, ◌&&◌, ◌==◌, if◌then◌else◌, ◌≤ℤ◌, ℤ, pos, negsuc}
-use Rattle.book_model.specs.Lines.{value_from}
+use Rattle.book_model.specs.lines.Lines.{value_from}
 use Rattle.cert_read.specs.Grammar.{is_printable}
 use Rattle.cert_read.specs.Digits.{begins_well, natural_of, counter_of, integer_of}
 

@@ -3,7 +3,7 @@ use Rattle.std.proofs.Common.{ℕ, ◌+◌, ◌≤◌, ◌<◌, List, [], ◌∷
 use Rattle.std.specs.List.{flat_map}
 use Rattle.std.specs.Prelude.{ℤ}
 use Rattle.book_model.specs.declared.fact.Fact.{Fact}
-use Rattle.book_model.specs.Text.{fact_text, echo_text, refused_text}
+use Rattle.book_model.specs.lines.Text.{fact_text, echo_text, refused_text}
 use Rattle.cert_text.specs.declared.line.CertLine.{CertLine}
 use Rattle.cert_text.specs.declared.line.CertLine.TheVariants.{Shown, TooFar, NoDate, Refused, Undecided, Void}
 use Rattle.cert_text.specs.declared.line.Block.{Block}

@@ -9,9 +9,9 @@ use Rattle.book_model.specs.declared.fact.Kind.{Kind}
 use Rattle.book_model.specs.declared.fact.Place.{Place}
 use Rattle.book_model.specs.declared.fail.Undecided.{Undecided as OpenTest}
 use Rattle.book_model.specs.declared.site.Site.{Site}
-use Rattle.book_model.specs.Correction.{is_between}
+use Rattle.book_model.specs.sky.Correction.{is_between}
 use Rattle.book_model.specs.declared.fact.TheConstants.{FIRST_FACT_DAY, LAST_FACT_DAY, LEAST_VALUE, GREATEST_VALUE}
-use Rattle.book_model.specs.Names.{kind_name, place_name, site_name, has_place}
+use Rattle.book_model.specs.sky.Names.{kind_name, place_name, site_name, has_place}
 use Rattle.book_model.proofs.NameLemmas.{kind_found, place_found, site_found}
 use Rattle.cert_read.specs.Grammar.{key_at, kind_at, place_at, site_at, counter_at, number_at, end_at, day_at, value_at, fact_at, test_at, last_fact_at}
 use Rattle.cert_read.specs.ReadAgain.{is_day, is_value, is_wide, is_named_well, is_open_test}

@@ -7,8 +7,8 @@ use Rattle.book_model.specs.declared.fact.TheConstants.{FIRST_FACT_DAY, LAST_FAC
 use Rattle.book_model.specs.declared.fact.Kind.{Kind}
 use Rattle.book_model.specs.declared.fact.Place.{Place}
 use Rattle.book_model.specs.declared.fail.Undecided.{Undecided as OpenTest}
-use Rattle.book_model.specs.Lines.{words_of}
-use Rattle.book_model.specs.Names.{kind_named, place_named, site_named, has_place}
+use Rattle.book_model.specs.lines.Lines.{words_of}
+use Rattle.book_model.specs.sky.Names.{kind_named, place_named, site_named, has_place}
 use Rattle.cert_text.specs.declared.line.Echo.{Echo}
 use Rattle.cert_text.specs.declared.line.CertLine.{CertLine}
 use Rattle.cert_text.specs.declared.line.CertLine.TheVariants.{Shown, TooFar, NoDate, Refused}

@@ -4,9 +4,9 @@ use Rattle.std.specs.List.{list_all, flat_map}
 use Rattle.book_model.specs.declared.fact.Fact.{Fact}
 use Rattle.book_model.specs.declared.fact.TheConstants.{FIRST_FACT_DAY, LAST_FACT_DAY, LEAST_VALUE, GREATEST_VALUE}
 use Rattle.book_model.specs.declared.fail.Undecided.{Undecided as OpenTest}
-use Rattle.book_model.specs.Correction.{is_between}
-use Rattle.book_model.specs.Names.{has_place}
-use Rattle.book_model.specs.Text.{header, end_text}
+use Rattle.book_model.specs.sky.Correction.{is_between}
+use Rattle.book_model.specs.sky.Names.{has_place}
+use Rattle.book_model.specs.lines.Text.{header, end_text}
 use Rattle.cert_text.specs.declared.line.CertLine.{CertLine}
 use Rattle.cert_text.specs.declared.line.CertLine.TheVariants.{Shown, TooFar, NoDate, Refused, Undecided, Void}
 use Rattle.cert_text.specs.declared.line.Echo.{Echo}

@@ -3,8 +3,8 @@ use Rattle.std.specs.Prelude.{◌≡◌, ℕ, ◌+◌, ◌==◌, ◌&&◌, not, 
 use Rattle.std.specs.List.{list_any}
 use Rattle.book_model.specs.declared.fact.Fact.{Fact}
 use Rattle.book_model.specs.declared.header.TheConstants.{HEADER}
-use Rattle.book_model.specs.Inquiries.{fact_eq}
-use Rattle.book_model.specs.Lines.{lines_of}
+use Rattle.book_model.specs.calendars.Inquiries.{fact_eq}
+use Rattle.book_model.specs.lines.Lines.{lines_of}
 use Rattle.cert_text.specs.declared.line.CertLine.{CertLine}
 use Rattle.cert_text.specs.declared.line.CertLine.TheVariants.{Shown, TooFar, NoDate, Refused, Undecided, Void}
 use Rattle.cert_read.specs.declared.lines.CertFile.{CertFile}

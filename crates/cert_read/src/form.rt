@@ -1,7 +1,7 @@
 //! The form of a line.
 ghost use Rattle.std.specs.Prelude.{◌≡◌};
-ghost use Rattle.book_model.specs.Facts.{IsFactDay};
-ghost use Rattle.book_model.specs.Lines.{words_of};
+ghost use Rattle.book_model.specs.sky.Facts.{IsFactDay};
+ghost use Rattle.book_model.specs.lines.Lines.{words_of};
 ghost use Rattle.cert_read.specs.Gives.{Gives, Yields};
 ghost use Rattle.cert_read.specs.Grammar as spec;
 

@@ -1,6 +1,6 @@
 //! What a line with a result shows: its words, its result and the facts that it rests on.
 ghost use Rattle.std.specs.Prelude.{◌≡◌};
-ghost use Rattle.book_model.specs.Lines.{words_of};
+ghost use Rattle.book_model.specs.lines.Lines.{words_of};
 ghost use Rattle.cert_read.specs.Gives.{Gives, Yields};
 ghost use Rattle.cert_read.specs.Grammar as spec;
 ghost use Rattle.cert_read.specs.declared.found.Found.TheVariants.{Shown, TooFar, NoDate};

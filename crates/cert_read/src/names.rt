@@ -1,6 +1,6 @@
 //! Kinds of facts, places and sites, read by their names.
 ghost use Rattle.std.specs.Prelude.{◌≡◌};
-ghost use Rattle.book_model.specs.Lines.{words_of};
+ghost use Rattle.book_model.specs.lines.Lines.{words_of};
 ghost use Rattle.cert_read.specs.Gives.{Gives};
 ghost use Rattle.cert_read.specs.Grammar as spec;
 

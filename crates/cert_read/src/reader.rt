@@ -1,8 +1,8 @@
 //! The reading of a file, line by line.
 ghost use Rattle.std.specs.Prelude.{true, false, ◌≡◌, ◌+◌, ◌==◌, ℕ, [], not, map, nat_eq, IfOk, IfErr, OnOk};
 ghost use Rattle.std.specs.List.{list_any};
-ghost use Rattle.book_model.specs.Inquiries.{fact_eq};
-ghost use Rattle.book_model.specs.Text.{with_fact};
+ghost use Rattle.book_model.specs.calendars.Inquiries.{fact_eq};
+ghost use Rattle.book_model.specs.lines.Text.{with_fact};
 ghost use Rattle.cert_read.specs.Grammar.{form_of as form_of_line};
 ghost use Rattle.cert_read.specs.Reading as spec;
 ghost use Rattle.cert_read.specs.Steps.{Tells, Passes, Fails};

@@ -1,7 +1,7 @@
 //! The words of a printed line, taken one after another.
 ghost use Rattle.std.specs.Prelude.{◌≡◌, ◌≤ℤ◌, IfSome};
 ghost use Rattle.book_model.specs.declared.fact.TheConstants.{FIRST_FACT_DAY as first_day, LAST_FACT_DAY as last_day};
-ghost use Rattle.book_model.specs.Lines.{words_of};
+ghost use Rattle.book_model.specs.lines.Lines.{words_of};
 ghost use Rattle.cert_read.specs.Gives.{Gives};
 ghost use Rattle.cert_read.specs.Grammar as spec;
 ghost use Rattle.cert_read.specs.declared.words.NoForm.TheVariants.{Memory};

@@ -6,7 +6,7 @@ use Rattle.std.specs.Io.KnownBytes.{Appends}
 use Rattle.byte_streams.specs.Stream.{Wrote, AppendsFront}
 use Rattle.byte_streams.proofs.Flow.{wrote_on, wrote_front}
 use Rattle.book_model.specs.declared.fact.Fact.{Fact}
-use Rattle.book_model.specs.Text.{fact_text}
+use Rattle.book_model.specs.lines.Text.{fact_text}
 use Rattle.cert_text.specs.Text.{fact_texts}
 
 -- the next fact is written

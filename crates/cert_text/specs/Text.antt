@@ -1,8 +1,8 @@
 -- The text that is written for a line of input: its new facts, and then the line.
 use Rattle.std.specs.Prelude.{ℕ, ◌+◌, List, [], ◌∷◌, ◌++◌, codes, ℤ}
 use Rattle.book_model.specs.declared.fact.Fact.{Fact}
-use Rattle.book_model.specs.Text.{fact_text, refused_text, undecided_text, void_text, listed_text}
-pub use Rattle.book_model.specs.Text.{too_far_text, no_date_text}
+use Rattle.book_model.specs.lines.Text.{fact_text, refused_text, undecided_text, void_text, listed_text}
+pub use Rattle.book_model.specs.lines.Text.{too_far_text, no_date_text}
 use Rattle.cert_text.specs.declared.line.CertLine.{CertLine}
 use Rattle.cert_text.specs.declared.line.CertLine.TheVariants.{Shown, TooFar, NoDate, Refused, Undecided, Void}
 use Rattle.cert_text.specs.declared.line.Echo.{Echo}

@@ -3,7 +3,7 @@ ghost use Rattle.std.specs.Prelude.{◌≡◌, ◌≤◌, ◌<◌, ◌-◌, ◌+
 ghost use Rattle.std.specs.Fmt.{signed_decimal};
 ghost use Rattle.std.specs.Io.KnownBytes.{Appends};
 ghost use Rattle.std.specs.List.{flat_map};
-ghost use Rattle.book_model.specs.Text as spec;
+ghost use Rattle.book_model.specs.lines.Text as spec;
 ghost use Rattle.byte_streams.specs.Stream.{HasCause, AppendsFront};
 
 use crate::lists::Word;
@@ -22,7 +22,7 @@ fn zeros(width: usize, digits: &[u8]) -> &'static [u8]
 }
 
 /// Writes a Gregorian date: a year of four digits, a month of two and a day of two.
-#[tactic(auto, unfolding(book_model::specs::Text::gregorian_text))]
+#[tactic(auto, unfolding(book_model::specs::lines::Text::gregorian_text))]
 fn write_gregorian<K: Sink>(sink: &mut K, date: &Fields) -> Result<(), Failed>
     ensures ok { OnOk result (Appends (K.written sink.old) (K.written sink.new) (spec.gregorian_text date.now)) }
     ensures err { OnErr result (AppendsFront (K.written sink.old) (K.written sink.new) (spec.gregorian_text date.now)) }
@@ -121,7 +121,7 @@ fn write_joined<K: Sink>(sink: &mut K, values: &[i32]) -> Result<(), Failed>
 }
 
 /// Writes the fields of a date with dashes between them.
-#[tactic(auto, unfolding(book_model::specs::Text::dashed_text))]
+#[tactic(auto, unfolding(book_model::specs::lines::Text::dashed_text))]
 fn write_dashed<K: Sink>(sink: &mut K, date: &Fields) -> Result<(), Failed>
     ensures ok { OnOk result (Appends (K.written sink.old) (K.written sink.new) (spec.dashed_text date.now)) }
     ensures err { OnErr result (AppendsFront (K.written sink.old) (K.written sink.new) (spec.dashed_text date.now)) }

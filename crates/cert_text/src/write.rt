@@ -3,7 +3,7 @@ ghost use Rattle.std.specs.Prelude.{◌≡◌, ◌≤◌, ◌<◌, ◌+◌, ◌^
 ghost use Rattle.std.specs.List.{flat_map};
 ghost use Rattle.std.specs.Io.KnownBytes.{Appends};
 ghost use Rattle.byte_streams.specs.Stream.{HasCause, AppendsFront, Wrote};
-ghost use Rattle.book_model.specs.Text as model;
+ghost use Rattle.book_model.specs.lines.Text as model;
 ghost use Rattle.cert_text.specs.Text as spec;
 
 use crate::line::{Block, CertLine, Echo};
@@ -15,7 +15,7 @@ use itoa::Buffer;
 pub(crate) const REFUSED_5: &[u8] = b"refused 5 ";
 
 /// Writes the line of a fact with its number and its value.
-#[tactic(auto, unfolding(book_model::specs::Text::fact_text))]
+#[tactic(auto, unfolding(book_model::specs::lines::Text::fact_text))]
 fn write_fact<K: Sink>(sink: &mut K, number: u32, entry: &(Fact, i64)) -> Result<(), Failed>
     ensures ok { OnOk result (Appends (K.written sink.old) (K.written sink.new) (model.fact_text number entry.now.0 entry.now.1)) }
     ensures err { OnErr result (AppendsFront (K.written sink.old) (K.written sink.new) (model.fact_text number entry.now.0 entry.now.1)) }
@@ -52,7 +52,7 @@ fn write_facts<K: Sink>(sink: &mut K, first: u32, facts: &[(Fact, i64)]) -> Resu
 }
 
 /// Writes the number of a line and its three words.
-#[tactic(auto, unfolding(book_model::specs::Text::echo_text))]
+#[tactic(auto, unfolding(book_model::specs::lines::Text::echo_text))]
 fn write_echo<K: Sink>(sink: &mut K, number: u32, echo: &Echo) -> Result<(), Failed>
     ensures ok { OnOk result (Appends (K.written sink.old) (K.written sink.new) (model.echo_text number (spec.words_in echo.now))) }
     ensures err { OnErr result (AppendsFront (K.written sink.old) (K.written sink.new) (model.echo_text number (spec.words_in echo.now))) }
@@ -105,7 +105,7 @@ fn write_numbers_end<K: Sink>(sink: &mut K, numbers: &[u32]) -> Result<(), Faile
 }
 
 /// Writes the list of facts at the end of a line.
-#[tactic(auto, unfolding(book_model::specs::Text::facts_text))]
+#[tactic(auto, unfolding(book_model::specs::lines::Text::facts_text))]
 fn write_list<K: Sink>(sink: &mut K, numbers: &[u32]) -> Result<(), Failed>
     ensures ok { OnOk result (Appends (K.written sink.old) (K.written sink.new) (model.facts_text numbers.now)) }
     ensures err { OnErr result (AppendsFront (K.written sink.old) (K.written sink.new) (model.facts_text numbers.now)) }
@@ -129,7 +129,7 @@ fn write_shown<K: Sink>(sink: &mut K, shown: &[u8], numbers: &[u32]) -> Result<(
 }
 
 /// Writes that a day (R.D.) is out of range.
-#[tactic(auto, unfolding(book_model::specs::Text::too_far_text))]
+#[tactic(auto, unfolding(book_model::specs::lines::Text::too_far_text))]
 pub(crate) fn write_too_far<K: Sink>(sink: &mut K, day: i64) -> Result<(), Failed>
     ensures ok { OnOk result (Appends (K.written sink.old) (K.written sink.new) (model.too_far_text day)) }
     ensures err { OnErr result (AppendsFront (K.written sink.old) (K.written sink.new) (model.too_far_text day)) }
@@ -141,7 +141,7 @@ pub(crate) fn write_too_far<K: Sink>(sink: &mut K, day: i64) -> Result<(), Faile
 }
 
 /// Writes that a day has another date of its own.
-#[tactic(auto, unfolding(book_model::specs::Text::no_date_text))]
+#[tactic(auto, unfolding(book_model::specs::lines::Text::no_date_text))]
 pub(crate) fn write_no_date<K: Sink>(sink: &mut K, back: &[u8]) -> Result<(), Failed>
     ensures ok { OnOk result (Appends (K.written sink.old) (K.written sink.new) (model.no_date_text back.now)) }
     ensures err { OnErr result (AppendsFront (K.written sink.old) (K.written sink.new) (model.no_date_text back.now)) }
@@ -151,7 +151,7 @@ pub(crate) fn write_no_date<K: Sink>(sink: &mut K, back: &[u8]) -> Result<(), Fa
 }
 
 /// Writes the line of a line that breaks a rule.
-#[tactic(auto, unfolding(book_model::specs::Text::refused_text))]
+#[tactic(auto, unfolding(book_model::specs::lines::Text::refused_text))]
 fn write_refused<K: Sink>(sink: &mut K, number: u32, rule: u8) -> Result<(), Failed>
     ensures ok { OnOk result (Appends (K.written sink.old) (K.written sink.new) (model.refused_text number rule)) }
     ensures err { OnErr result (AppendsFront (K.written sink.old) (K.written sink.new) (model.refused_text number rule)) }
@@ -161,7 +161,7 @@ fn write_refused<K: Sink>(sink: &mut K, number: u32, rule: u8) -> Result<(), Fai
 }
 
 /// Writes the number of a line, and that a fact is undecided.
-#[tactic(auto, unfolding(book_model::specs::Text::open_text))]
+#[tactic(auto, unfolding(book_model::specs::lines::Text::open_text))]
 fn write_open<K: Sink>(sink: &mut K, number: u32, fact: Fact, at: Undecided) -> Result<(), Failed>
     ensures ok { OnOk result (Appends (K.written sink.old) (K.written sink.new) (model.open_text number fact at)) }
     ensures err { OnErr result (AppendsFront (K.written sink.old) (K.written sink.new) (model.open_text number fact at)) }
@@ -204,7 +204,7 @@ fn write_open<K: Sink>(sink: &mut K, number: u32, fact: Fact, at: Undecided) -> 
 }
 
 /// Writes the number of a line, and that a fact is void.
-#[tactic(auto, unfolding(book_model::specs::Text::empty_text))]
+#[tactic(auto, unfolding(book_model::specs::lines::Text::empty_text))]
 fn write_empty<K: Sink>(sink: &mut K, number: u32, fact: Fact, site: Site) -> Result<(), Failed>
     ensures ok { OnOk result (Appends (K.written sink.old) (K.written sink.new) (model.empty_text number fact site)) }
     ensures err { OnErr result (AppendsFront (K.written sink.old) (K.written sink.new) (model.empty_text number fact site)) }
@@ -390,7 +390,7 @@ pub fn write_header<K: Sink>(sink: &mut K) -> Result<(), Failed>
 }
 
 /// Writes the last line of a text, which counts its lines and facts.
-#[tactic(auto, unfolding(book_model::specs::Text::end_text))]
+#[tactic(auto, unfolding(book_model::specs::lines::Text::end_text))]
 pub fn write_end<K: Sink>(sink: &mut K, lines: u32, facts: u32) -> Result<(), Failed>
     ensures ok { OnOk result (Appends (K.written sink.old) (K.written sink.new) (model.end_text lines facts)) }
     ensures err { OnErr result (AppendsFront (K.written sink.old) (K.written sink.new) (model.end_text lines facts)) }

@@ -4,8 +4,8 @@ use Rattle.std.proofs.Common.{arith}
 use Rattle.std.proofs.lemmas.Int.{ints}
 use Rattle.exact_math.specs.Fraction.{floor_quotient, times, plus, reciprocal}
 use Rattle.exact_math.proofs.Floors.{floor_quotient_is}
-use Rattle.book_model.specs.Chinese.{months_between, elapsed_years, days_to_middle}
-use Rattle.book_model.specs.Spans.{days_of, months_of_days, nearest, spans_of}
+use Rattle.book_model.specs.calendars.Chinese.{months_between, elapsed_years, days_to_middle}
+use Rattle.book_model.specs.calendars.Spans.{days_of, months_of_days, nearest, spans_of}
 use Rattle.calendar_math.proofs.SpanLemmas.{LiesWithin}
 use Rattle.chinese_cal.specs.Days.{IsNearDay}
 

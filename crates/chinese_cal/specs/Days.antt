@@ -2,7 +2,7 @@
 use Rattle.std.specs.Prelude.{ℤ, pos, negsuc, ◌≤ℤ◌}
 use Rattle.book_model.specs.declared.chinese.ChineseMonth.{ChineseMonth}
 use Rattle.book_model.specs.declared.chinese.Sui.{Sui}
-use Rattle.book_model.specs.Facts.{IsFactValue}
+use Rattle.book_model.specs.sky.Facts.{IsFactValue}
 
 -- a day that is a value of a fact, or near one
 abbrev pub IsNearDay : ℤ → Type 0

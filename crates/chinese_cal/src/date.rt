@@ -1,9 +1,9 @@
 //! Chinese dates, and the date of a day. Days are R.D.
 ghost use Rattle.std.specs.Prelude.{◌≡◌, ◌≤ℤ◌, ◌+ℤ◌, ◌-ℤ◌, pos, negsuc};
 ghost use Rattle.exact_math.specs.Fraction.{floor_quotient};
-ghost use Rattle.book_model.specs.Chinese.{elapsed_years as years_elapsed, fields_by, date_in as date_of_month, chinese_on};
-ghost use Rattle.book_model.specs.Inquiries.{to_32_bits as to_32_bits_of, to_8_bits as to_8_bits_of};
-ghost use Rattle.book_model.specs.Spans.{amod as amod_of};
+ghost use Rattle.book_model.specs.calendars.Chinese.{elapsed_years as years_elapsed, fields_by, date_in as date_of_month, chinese_on};
+ghost use Rattle.book_model.specs.calendars.Inquiries.{to_32_bits as to_32_bits_of, to_8_bits as to_8_bits_of};
+ghost use Rattle.book_model.specs.calendars.Spans.{amod as amod_of};
 ghost use Rattle.chinese_cal.specs.Dates.{fields_of_date};
 ghost use Rattle.chinese_cal.specs.Days.{IsNearDay, IsNearMonth};
 ghost use Rattle.oracle_core.specs.Inquiring.{Inquires, map_ok};
@@ -92,7 +92,7 @@ fn date_by(day: i64, month: ChineseMonth, years: i64) -> ChineseDate
 }
 
 /// The date of a day by its month.
-#[tactic(auto, unfolding(book_model::specs::Chinese::date_in))]
+#[tactic(auto, unfolding(book_model::specs::calendars::Chinese::date_in))]
 fn date_in(day: i64, month: ChineseMonth) -> ChineseDate
     requires near { IsNearDay day }
     requires month_near { IsNearMonth month }
@@ -106,7 +106,7 @@ fn date_in(day: i64, month: ChineseMonth) -> ChineseDate
 /// is a leap month. Cycle and year follow from the mean years since the epoch. A day of the month that its type doesn't hold
 /// stands at the nearest end; the other fields always fit. It stops where the oracle stops, at one of the facts that the rules
 /// ask (Reingold and Dershowitz, Calendrical Calculations, chapter 19).
-#[tactic(auto, using(oracle_core::proofs::Inquiring::asking), unfolding(book_model::specs::Chinese::chinese_on))]
+#[tactic(auto, using(oracle_core::proofs::Inquiring::asking), unfolding(book_model::specs::calendars::Chinese::chinese_on))]
 pub fn from_fixed<O: Oracle>(oracle: &mut O, day: i64) -> Result<ChineseDate, Stop>
     requires near { IsNearDay day }
     ensures date { Inquires O.meaning (chinese_on day) (O.state oracle.old) (O.state oracle.new) (map_ok fields_of_date result) }

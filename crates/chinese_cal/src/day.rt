@@ -1,7 +1,7 @@
 //! The day of a Chinese date. Days are R.D.
 ghost use Rattle.std.specs.Prelude.{◌≡◌, ◌≤◌, ◌≤ℤ◌, ◌+ℤ◌, ◌-ℤ◌, ◌*ℤ◌, pos, IfOk};
-ghost use Rattle.book_model.specs.Chinese as spec;
-ghost use Rattle.book_model.specs.Facts.{IsFactValue};
+ghost use Rattle.book_model.specs.calendars.Chinese as spec;
+ghost use Rattle.book_model.specs.sky.Facts.{IsFactValue};
 ghost use Rattle.chinese_cal.specs.Dates.{fields_of_date};
 ghost use Rattle.oracle_core.specs.Inquiring.{Inquires};
 
@@ -29,7 +29,7 @@ fn is_in_month(date: ChineseDate, month: u8, leap: bool) -> bool
 }
 
 /// The first day of a month, which is this one or the next after it, given the date of this one. It stops where the oracle stops.
-#[tactic(auto, using(oracle_core::proofs::Inquiring::asking), unfolding(book_model::specs::Chinese::or_next_month))]
+#[tactic(auto, using(oracle_core::proofs::Inquiring::asking), unfolding(book_model::specs::calendars::Chinese::or_next_month))]
 fn or_next_month<O: Oracle>(
     oracle: &mut O,
     month: u8,
@@ -49,7 +49,7 @@ fn or_next_month<O: Oracle>(
 }
 
 /// The first day of a month of a year. It stops where the oracle stops.
-#[tactic(auto, using(oracle_core::proofs::Inquiring::asking), unfolding(book_model::specs::Chinese::month_beginning))]
+#[tactic(auto, using(oracle_core::proofs::Inquiring::asking), unfolding(book_model::specs::calendars::Chinese::month_beginning))]
 fn month_beginning<O: Oracle>(
     oracle: &mut O,
     new_year: i64,
@@ -79,7 +79,7 @@ fn day_of_month(first: i64, day: u8) -> i64
 /// where the first is in another month, and the day of the month. The date needn't be one that the calendar has. It stops
 /// where the oracle stops, at one of the facts that the rules ask (Reingold and Dershowitz, Calendrical Calculations, chapter
 /// 19).
-#[tactic(auto, using(oracle_core::proofs::Inquiring::asking), unfolding(book_model::specs::Chinese::chinese_day))]
+#[tactic(auto, using(oracle_core::proofs::Inquiring::asking), unfolding(book_model::specs::calendars::Chinese::chinese_day))]
 pub fn to_fixed<O: Oracle>(oracle: &mut O, date: ChineseDate) -> Result<i64, Stop>
     requires from_4438 { pos 4438 ≤ℤ (pos 60 *ℤ (date.cycle -ℤ pos 1) +ℤ pos date.year) }
     requires to_4685 { (pos 60 *ℤ (date.cycle -ℤ pos 1) +ℤ pos date.year) ≤ℤ pos 4685 }

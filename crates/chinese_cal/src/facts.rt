@@ -1,12 +1,12 @@
 //! The facts that the rules ask of the sky of Beijing. Days are R.D.
 ghost use Rattle.std.specs.Prelude.{◌≡◌, ◌+ℤ◌, ◌≤ℤ◌, pos, negsuc};
-ghost use Rattle.book_model.specs.Chinese.{solstice_fact, moon_before_fact, moon_from_fact, major_fact};
+ghost use Rattle.book_model.specs.calendars.Chinese.{solstice_fact, moon_before_fact, moon_from_fact, major_fact};
 ghost use Rattle.chinese_cal.specs.Days.{IsNearDay};
 
 use book_model::{Fact, Kind, Place};
 
 /// The fact of the last winter solstice before the end of a day.
-#[tactic(auto, unfolding(book_model::specs::Chinese::beijing_fact))]
+#[tactic(auto, unfolding(book_model::specs::calendars::Chinese::beijing_fact))]
 pub(crate) fn solstice_on(day: i64) -> Fact
     requires near { IsNearDay day }
     ensures fact { result ≡ solstice_fact day }

@@ -1,7 +1,7 @@
 //! Chinese dates as the fields of lines.
 ghost use Rattle.std.specs.Prelude.{◌≡◌, pos, IsTrue};
-ghost use Rattle.book_model.specs.Chinese.{flag};
-ghost use Rattle.book_model.specs.Dates.{field as field_of, may_have, is_answered, is_in_range, day_named, date_on as date_of_day};
+ghost use Rattle.book_model.specs.calendars.Chinese.{flag};
+ghost use Rattle.book_model.specs.calendars.Dates.{field as field_of, may_have, is_answered, is_in_range, day_named, date_on as date_of_day};
 ghost use Rattle.book_model.specs.declared.calendar.Calendar.TheVariants.{Chinese};
 ghost use Rattle.oracle_core.specs.Inquiring.{Inquires, map_ok};
 ghost use Rattle.chinese_cal.specs.Dates.{fields_of_date};
@@ -28,7 +28,7 @@ fn fields_of(date: ChineseDate) -> Fields
 }
 
 /// The date with these fields.
-#[tactic(auto, unfolding(book_model::specs::Dates::may_have))]
+#[tactic(auto, unfolding(book_model::specs::calendars::Dates::may_have))]
 fn date_of(fields: &Fields) -> ChineseDate
     requires possible { IsTrue (may_have Chinese fields.now) }
     ensures cycle { result.cycle ≡ pos (field_of fields.now 0) }
@@ -47,7 +47,7 @@ fn date_of(fields: &Fields) -> ChineseDate
 }
 
 /// The day (R.D.) that the fields of a date name. It stops where the oracle stops.
-#[tactic(auto, unfolding(book_model::specs::Dates::may_have, book_model::specs::Dates::is_answered, book_model::specs::Dates::year_number))]
+#[tactic(auto, unfolding(book_model::specs::calendars::Dates::may_have, book_model::specs::calendars::Dates::is_answered, book_model::specs::calendars::Dates::year_number))]
 pub fn named_day<O: Oracle>(oracle: &mut O, fields: &Fields) -> Result<i64, Stop>
     requires possible { IsTrue (may_have Chinese fields.now) }
     requires in_reach { IsTrue (is_answered Chinese fields.now) }

@@ -2,7 +2,7 @@
 //! which they begin (R.D.).
 ghost use Rattle.std.specs.Prelude.{◌≡◌, ◌≤◌, Bool};
 ghost use Rattle.std.specs.Ordering.{int_eq};
-ghost use Rattle.book_model.specs.Chinese as spec;
+ghost use Rattle.book_model.specs.calendars.Chinese as spec;
 ghost use Rattle.chinese_cal.specs.Days.{IsNearDay};
 ghost use Rattle.oracle_core.specs.Inquiring.{Inquires};
 
@@ -21,7 +21,7 @@ fn is_same_term(term: i64, next_term: i64) -> bool
 
 /// Whether a month has no major solar term: the sun is at the same one when the next month begins. It stops where the oracle
 /// stops, at one of the two terms or at the next month.
-#[tactic(auto, using(oracle_core::proofs::Inquiring::asking), unfolding(book_model::specs::Chinese::has_no_major_term))]
+#[tactic(auto, using(oracle_core::proofs::Inquiring::asking), unfolding(book_model::specs::calendars::Chinese::has_no_major_term))]
 pub(crate) fn has_no_major_term<O: Oracle>(oracle: &mut O, month: i64) -> Result<bool, Stop>
     requires near { IsNearDay month }
     ensures term { Inquires O.meaning (spec.has_no_major_term month) (O.state oracle.old) (O.state oracle.new) result }
@@ -33,7 +33,7 @@ pub(crate) fn has_no_major_term<O: Oracle>(oracle: &mut O, month: i64) -> Result
 }
 
 /// What is known already, or else whether the month has no major solar term.
-#[tactic(auto, using(oracle_core::proofs::Inquiring::asking), unfolding(book_model::specs::Chinese::or_no_major_term))]
+#[tactic(auto, using(oracle_core::proofs::Inquiring::asking), unfolding(book_model::specs::calendars::Chinese::or_no_major_term))]
 pub(crate) fn or_no_major_term<O: Oracle>(
     oracle: &mut O,
     month: i64,
@@ -51,7 +51,7 @@ pub(crate) fn or_no_major_term<O: Oracle>(
 
 /// Whether a month, or one of those before it as far as the first of its sui, has no major solar term; of so many months.
 /// It stops where the oracle stops.
-#[tactic(auto, using(oracle_core::proofs::Inquiring::asking), unfolding(book_model::specs::Chinese::has_prior_leap_month))]
+#[tactic(auto, using(oracle_core::proofs::Inquiring::asking), unfolding(book_model::specs::calendars::Chinese::has_prior_leap_month))]
 fn has_prior_leap_month<O: Oracle>(
     oracle: &mut O,
     calls: u32,
@@ -84,7 +84,7 @@ fn has_leap_month_by<O: Oracle>(oracle: &mut O, first: i64, month: i64) -> Resul
 
 /// Whether a month of a sui is its leap month or comes after it, given whether the sui has one. It stops where the oracle
 /// stops.
-#[tactic(auto, using(oracle_core::proofs::Inquiring::asking), unfolding(book_model::specs::Chinese::is_from_leap_month))]
+#[tactic(auto, using(oracle_core::proofs::Inquiring::asking), unfolding(book_model::specs::calendars::Chinese::is_from_leap_month))]
 pub(crate) fn is_from_leap_month<O: Oracle>(
     oracle: &mut O,
     leap_sui: bool,
@@ -103,7 +103,7 @@ pub(crate) fn is_from_leap_month<O: Oracle>(
 }
 
 /// Whether each month of a sui before this one has a major solar term. It stops where the oracle stops.
-#[tactic(auto, using(oracle_core::proofs::Inquiring::asking), unfolding(book_model::specs::Chinese::is_first_without))]
+#[tactic(auto, using(oracle_core::proofs::Inquiring::asking), unfolding(book_model::specs::calendars::Chinese::is_first_without))]
 fn is_first_without<O: Oracle>(oracle: &mut O, first: i64, month: i64) -> Result<bool, Stop>
     requires first_near { IsNearDay first }
     requires near { IsNearDay month }
@@ -115,7 +115,7 @@ fn is_first_without<O: Oracle>(oracle: &mut O, first: i64, month: i64) -> Result
 }
 
 /// The same, where the month has no major solar term.
-#[tactic(auto, using(oracle_core::proofs::Inquiring::asking), unfolding(book_model::specs::Chinese::and_first_without))]
+#[tactic(auto, using(oracle_core::proofs::Inquiring::asking), unfolding(book_model::specs::calendars::Chinese::and_first_without))]
 fn and_first_without<O: Oracle>(
     oracle: &mut O,
     first: i64,
@@ -134,7 +134,7 @@ fn and_first_without<O: Oracle>(
 }
 
 /// Whether a month has no major solar term, as the first month of its sui.
-#[tactic(auto, using(oracle_core::proofs::Inquiring::asking), unfolding(book_model::specs::Chinese::is_first_of_sui_without))]
+#[tactic(auto, using(oracle_core::proofs::Inquiring::asking), unfolding(book_model::specs::calendars::Chinese::is_first_of_sui_without))]
 fn is_first_of_sui_without<O: Oracle>(oracle: &mut O, first: i64, month: i64) -> Result<bool, Stop>
     requires first_near { IsNearDay first }
     requires near { IsNearDay month }
@@ -146,7 +146,7 @@ fn is_first_of_sui_without<O: Oracle>(oracle: &mut O, first: i64, month: i64) ->
 
 /// Whether a month of a sui is its leap month, given whether the sui has one: the first that has no major solar term. It
 /// stops where the oracle stops.
-#[tactic(auto, using(oracle_core::proofs::Inquiring::asking), unfolding(book_model::specs::Chinese::is_leap_month))]
+#[tactic(auto, using(oracle_core::proofs::Inquiring::asking), unfolding(book_model::specs::calendars::Chinese::is_leap_month))]
 pub(crate) fn is_leap_month<O: Oracle>(
     oracle: &mut O,
     leap_sui: bool,

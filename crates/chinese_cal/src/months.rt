@@ -1,7 +1,7 @@
 //! The month in which a day falls. Days are R.D.
 ghost use Rattle.std.specs.Prelude.{◌≡◌, ◌≤ℤ◌, ◌-ℤ◌, pos, negsuc, IfOk};
-ghost use Rattle.book_model.specs.Chinese.{flag, months_between, month_number as number_of_month, month_by as month_with, month_in as month_of_sui, month_of as month_on};
-ghost use Rattle.book_model.specs.Facts.{IsFactValue};
+ghost use Rattle.book_model.specs.calendars.Chinese.{flag, months_between, month_number as number_of_month, month_by as month_with, month_in as month_of_sui, month_of as month_on};
+ghost use Rattle.book_model.specs.sky.Facts.{IsFactValue};
 ghost use Rattle.chinese_cal.specs.Days.{IsNearDay, IsNearMonth, IsNearSui};
 ghost use Rattle.oracle_core.specs.Inquiring.{Inquires};
 
@@ -34,7 +34,7 @@ fn months_counted(first: i64, month: i64, from_leap: bool) -> i64
 
 /// The number of a month, from the first month of its sui, which is the twelfth of a year, and whether it comes after the leap
 /// month or is it.
-#[tactic(auto, unfolding(book_model::specs::Chinese::month_number))]
+#[tactic(auto, unfolding(book_model::specs::calendars::Chinese::month_number))]
 fn month_number(first: i64, month: i64, from_leap: bool) -> i64
     requires first_near { IsNearDay first }
     requires near { IsNearDay month }
@@ -46,7 +46,7 @@ fn month_number(first: i64, month: i64, from_leap: bool) -> i64
 }
 
 /// A month by the first month of its sui, whether it comes after the leap month or is it, and whether it is it.
-#[tactic(auto, unfolding(book_model::specs::Chinese::month_by))]
+#[tactic(auto, unfolding(book_model::specs::calendars::Chinese::month_by))]
 fn month_by(first: i64, month: i64, from_leap: bool, is_leap: bool) -> ChineseMonth
     requires first_near { IsNearDay first }
     requires near { IsFactValue month }
@@ -61,7 +61,7 @@ fn month_by(first: i64, month: i64, from_leap: bool, is_leap: bool) -> ChineseMo
 }
 
 /// A month of a sui, given whether the sui has a leap month. It stops where the oracle stops.
-#[tactic(auto, using(oracle_core::proofs::Inquiring::asking), unfolding(book_model::specs::Chinese::month_in))]
+#[tactic(auto, using(oracle_core::proofs::Inquiring::asking), unfolding(book_model::specs::calendars::Chinese::month_in))]
 fn month_in<O: Oracle>(
     oracle: &mut O,
     sui: Sui,
@@ -79,7 +79,7 @@ fn month_in<O: Oracle>(
 }
 
 /// The month in which a day falls. It stops where the oracle stops.
-#[tactic(auto, using(oracle_core::proofs::Inquiring::asking), unfolding(book_model::specs::Chinese::month_of))]
+#[tactic(auto, using(oracle_core::proofs::Inquiring::asking), unfolding(book_model::specs::calendars::Chinese::month_of))]
 pub(crate) fn month_of<O: Oracle>(oracle: &mut O, day: i64) -> Result<ChineseMonth, Stop>
     requires near { IsNearDay day }
     ensures month { Inquires O.meaning (month_on day) (O.state oracle.old) (O.state oracle.new) result }

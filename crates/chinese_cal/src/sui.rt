@@ -1,7 +1,7 @@
 //! The sui of a day: the months from one winter solstice to the next. Days are R.D.
 ghost use Rattle.std.specs.Prelude.{◌≡◌, ◌≤ℤ◌, pos, negsuc, IfOk};
 ghost use Rattle.std.specs.Ordering.{int_eq};
-ghost use Rattle.book_model.specs.Chinese.{months_between, sui_of as sui_on, is_leap_sui as is_leap};
+ghost use Rattle.book_model.specs.calendars.Chinese.{months_between, sui_of as sui_on, is_leap_sui as is_leap};
 ghost use Rattle.chinese_cal.specs.Days.{IsNearDay, IsNearSui};
 ghost use Rattle.oracle_core.specs.Inquiring.{Inquires};
 
@@ -11,7 +11,7 @@ use calendar_math::months_of_days;
 use oracle_core::{Oracle, Stop};
 
 /// The number of synodic months that is nearest to the days from one day to another.
-#[tactic(auto, unfolding(book_model::specs::Chinese::months_between))]
+#[tactic(auto, unfolding(book_model::specs::calendars::Chinese::months_between))]
 pub(crate) fn months_from_to(from: i64, to: i64) -> i64
     requires from_near { IsNearDay from }
     requires to_near { IsNearDay to }
@@ -33,7 +33,7 @@ fn are_twelve_apart(from: i64, to: i64) -> bool
 
 /// The sui in which a day falls. It stops where the oracle stops, at one of the two solstices or at the new moon after the
 /// first.
-#[tactic(auto, using(oracle_core::proofs::Inquiring::asking), unfolding(book_model::specs::Chinese::sui_of))]
+#[tactic(auto, using(oracle_core::proofs::Inquiring::asking), unfolding(book_model::specs::calendars::Chinese::sui_of))]
 pub(crate) fn sui_of<O: Oracle>(oracle: &mut O, day: i64) -> Result<Sui, Stop>
     requires near { IsNearDay day }
     ensures sui { Inquires O.meaning (sui_on day) (O.state oracle.old) (O.state oracle.new) result }
@@ -50,7 +50,7 @@ pub(crate) fn sui_of<O: Oracle>(oracle: &mut O, day: i64) -> Result<Sui, Stop>
 
 /// Whether a sui has thirteen months, the two of its solstices counted as one. It stops where the oracle stops, at the month
 /// of the second solstice.
-#[tactic(auto, using(oracle_core::proofs::Inquiring::asking), unfolding(book_model::specs::Chinese::is_leap_sui))]
+#[tactic(auto, using(oracle_core::proofs::Inquiring::asking), unfolding(book_model::specs::calendars::Chinese::is_leap_sui))]
 pub(crate) fn is_leap_sui<O: Oracle>(oracle: &mut O, sui: Sui) -> Result<bool, Stop>
     requires near { IsNearSui sui }
     ensures leap { Inquires O.meaning (is_leap sui) (O.state oracle.old) (O.state oracle.new) result }

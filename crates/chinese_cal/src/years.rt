@@ -1,7 +1,7 @@
 //! The first day of a Chinese year. Days are R.D.
 ghost use Rattle.std.specs.Prelude.{◌≡◌, ◌≤ℤ◌, ◌+ℤ◌, ◌-ℤ◌, ◌*ℤ◌, pos, IfOk};
-ghost use Rattle.book_model.specs.Chinese as spec;
-ghost use Rattle.book_model.specs.Facts.{IsFactValue};
+ghost use Rattle.book_model.specs.calendars.Chinese as spec;
+ghost use Rattle.book_model.specs.sky.Facts.{IsFactValue};
 ghost use Rattle.chinese_cal.specs.Days.{IsNearDay, IsNearSui};
 ghost use Rattle.oracle_core.specs.Inquiring.{Inquires};
 
@@ -13,7 +13,7 @@ use calendar_math::days_of;
 use oracle_core::{Oracle, Stop};
 
 /// Whether one of the first two months of a sui has no major solar term. It stops where the oracle stops.
-#[tactic(auto, using(oracle_core::proofs::Inquiring::asking), unfolding(book_model::specs::Chinese::has_early_leap_month))]
+#[tactic(auto, using(oracle_core::proofs::Inquiring::asking), unfolding(book_model::specs::calendars::Chinese::has_early_leap_month))]
 fn has_early_leap_month<O: Oracle>(oracle: &mut O, first: i64, second: i64) -> Result<bool, Stop>
     requires first_near { IsNearDay first }
     requires second_near { IsNearDay second }
@@ -24,7 +24,7 @@ fn has_early_leap_month<O: Oracle>(oracle: &mut O, first: i64, second: i64) -> R
 }
 
 /// Whether the leap month of a sui is one of its first two, given whether it has one. It stops where the oracle stops.
-#[tactic(auto, using(oracle_core::proofs::Inquiring::asking), unfolding(book_model::specs::Chinese::is_leap_at_start))]
+#[tactic(auto, using(oracle_core::proofs::Inquiring::asking), unfolding(book_model::specs::calendars::Chinese::is_leap_at_start))]
 fn is_leap_at_start<O: Oracle>(
     oracle: &mut O,
     leap_sui: bool,
@@ -43,7 +43,7 @@ fn is_leap_at_start<O: Oracle>(
 }
 
 /// The second month of a sui, or the one after it. It stops where the oracle stops.
-#[tactic(auto, using(oracle_core::proofs::Inquiring::asking), unfolding(book_model::specs::Chinese::new_year_after))]
+#[tactic(auto, using(oracle_core::proofs::Inquiring::asking), unfolding(book_model::specs::calendars::Chinese::new_year_after))]
 fn new_year_after<O: Oracle>(oracle: &mut O, second: i64, late: bool) -> Result<i64, Stop>
     requires second_value { IsFactValue second }
     ensures day { Inquires O.meaning (spec.new_year_after second late) (O.state oracle.old) (O.state oracle.new) result }
@@ -57,7 +57,7 @@ fn new_year_after<O: Oracle>(oracle: &mut O, second: i64, late: bool) -> Result<
 }
 
 /// The first day of the year that begins in a sui, given its second month. It stops where the oracle stops.
-#[tactic(auto, using(oracle_core::proofs::Inquiring::asking), unfolding(book_model::specs::Chinese::new_year_by))]
+#[tactic(auto, using(oracle_core::proofs::Inquiring::asking), unfolding(book_model::specs::calendars::Chinese::new_year_by))]
 fn new_year_by<O: Oracle>(oracle: &mut O, sui: Sui, second: i64) -> Result<i64, Stop>
     requires near { IsNearSui sui }
     requires second_value { IsFactValue second }
@@ -70,7 +70,7 @@ fn new_year_by<O: Oracle>(oracle: &mut O, sui: Sui, second: i64) -> Result<i64, 
 }
 
 /// The first day of the year that begins in the sui of a day. It stops where the oracle stops.
-#[tactic(auto, using(oracle_core::proofs::Inquiring::asking), unfolding(book_model::specs::Chinese::new_year_in_sui))]
+#[tactic(auto, using(oracle_core::proofs::Inquiring::asking), unfolding(book_model::specs::calendars::Chinese::new_year_in_sui))]
 fn new_year_in_sui<O: Oracle>(oracle: &mut O, day: i64) -> Result<i64, Stop>
     requires near { IsNearDay day }
     ensures day { Inquires O.meaning (spec.new_year_in_sui day) (O.state oracle.old) (O.state oracle.new) result }
@@ -92,7 +92,7 @@ fn new_year_before<O: Oracle>(oracle: &mut O, day: i64) -> Result<i64, Stop>
 }
 
 /// A first day of a year, or the one before where it comes after a day. It stops where the oracle stops.
-#[tactic(auto, using(oracle_core::proofs::Inquiring::asking), unfolding(book_model::specs::Chinese::or_year_before))]
+#[tactic(auto, using(oracle_core::proofs::Inquiring::asking), unfolding(book_model::specs::calendars::Chinese::or_year_before))]
 fn or_year_before<O: Oracle>(oracle: &mut O, day: i64, new_year: i64) -> Result<i64, Stop>
     requires from { pos 0 ≤ℤ day }
     requires to { day ≤ℤ pos 10000000 }
@@ -108,7 +108,7 @@ fn or_year_before<O: Oracle>(oracle: &mut O, day: i64, new_year: i64) -> Result<
 }
 
 /// The first day of the year in which a day falls. It stops where the oracle stops.
-#[tactic(auto, using(oracle_core::proofs::Inquiring::asking), unfolding(book_model::specs::Chinese::new_year_by_day))]
+#[tactic(auto, using(oracle_core::proofs::Inquiring::asking), unfolding(book_model::specs::calendars::Chinese::new_year_by_day))]
 pub(crate) fn new_year_by_day<O: Oracle>(oracle: &mut O, day: i64) -> Result<i64, Stop>
     requires from { pos 0 ≤ℤ day }
     requires to { day ≤ℤ pos 10000000 }
@@ -131,7 +131,7 @@ fn days_to_middle(number: i64) -> i64
 }
 
 /// A day in the middle of a year of a cycle.
-#[tactic(auto, unfolding(book_model::specs::Chinese::middle_of_year))]
+#[tactic(auto, unfolding(book_model::specs::calendars::Chinese::middle_of_year))]
 pub(crate) fn middle_of_year(cycle: i64, year: i64) -> i64
     requires from_4438 { pos 4438 ≤ℤ (pos 60 *ℤ (cycle -ℤ pos 1) +ℤ year) }
     requires to_4685 { (pos 60 *ℤ (cycle -ℤ pos 1) +ℤ year) ≤ℤ pos 4685 }

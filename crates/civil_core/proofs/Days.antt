@@ -3,7 +3,7 @@ use Rattle.std.proofs.Common.{◌≡◌, ℕ, zero, suc, ◌-◌, ◌≤◌, ℤ
 use Rattle.std.proofs.lemmas.Int.{ints, by_lt_z}
 use Rattle.std.specs.Prelude.{◌↔◌, ◌&&◌, int_lt, Result, Ok, Err, IsOk, IfOk, IsSome, IfSome, IsTrue}
 use Rattle.std.specs.Result.{result_ok}
-use Rattle.book_model.specs.Calendar.{first_day, year_of_day, is_date, fixed_of}
+use Rattle.book_model.specs.calendars.Gregorian.{first_day, year_of_day, is_date, fixed_of}
 use Rattle.book_model.proofs.Calendars.{year_is, first_day_rises}
 use Rattle.jiff_core.specs.declared.civil.date.Date.{Date}
 use Rattle.jiff_core.specs.Calendar.{IsDate}

@@ -4,7 +4,7 @@ use Rattle.std.proofs.Common.{arith, ap, sym}
 use Rattle.std.proofs.lemmas.Bool.Decides.{nat_tests}
 use Rattle.std.proofs.lemmas.Int.{ints}
 use Rattle.exact_math.proofs.Floors.{floor_quotient_is}
-use Rattle.book_model.specs.Calendar.{first_day, year_of_day, IsYearOfDay, is_date, days_in_month, days_of_months, fixed_of}
+use Rattle.book_model.specs.calendars.Gregorian.{first_day, year_of_day, IsYearOfDay, is_date, days_in_month, days_of_months, fixed_of}
 use Rattle.book_model.proofs.Calendars.{year_is, year_unique}
 use Rattle.jiff_core.specs.declared.civil.date.Date.{Date}
 use Rattle.jiff_core.specs.Calendar.{IsYear, IsBetween, IsDate, day_count, days_from_civil, days_of_months as jiff_days_of_months}

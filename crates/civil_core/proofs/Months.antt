@@ -3,7 +3,7 @@ use Rattle.std.proofs.Common.{◌≡◌, ℕ, zero, suc, ◌+◌, ◌-◌, ◌<�
 use Rattle.std.proofs.lemmas.Bool.Decides.{nat_tests}
 use Rattle.std.specs.Prelude.{unsigned_abs}
 use Rattle.jiff_core.proofs.SignedLemmas.{signed_arith}
-use Rattle.book_model.specs.Calendar.{first_day, year_of_day, days_in_month, days_of_months, months_over, days_over, month_of_day, day_of_month, fixed_of}
+use Rattle.book_model.specs.calendars.Gregorian.{first_day, year_of_day, days_in_month, days_of_months, months_over, days_over, month_of_day, day_of_month, fixed_of}
 
 -- more months have more days
 months_rise : (y m k : ℕ) → days_of_months y m ≤ days_of_months y (k + m)

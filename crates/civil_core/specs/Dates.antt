@@ -1,6 +1,6 @@
 -- Gregorian dates of the years 1 to 9999, and their days.
 use Rattle.std.specs.Prelude.{◌≡◌, ℕ, ℤ, pos, ◌≤ℤ◌, Bool, ◌&&◌, int_lt, unsigned_abs, IsTrue}
-use Rattle.book_model.specs.Calendar.{is_date, fixed_of, year_of_day, month_of_day, day_of_month}
+use Rattle.book_model.specs.calendars.Gregorian.{is_date, fixed_of, year_of_day, month_of_day, day_of_month}
 
 -- the calendar has this date, in the years 1 to 9999
 abbrev pub has_date : ℤ → ℕ → ℕ → Bool

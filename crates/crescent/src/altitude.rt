@@ -1,17 +1,17 @@
 //! Where the moon stands: its arc of light and its altitude, by cosine and sine.
 ghost use Rattle.std.specs.Prelude.{◌≤◌};
-ghost use Rattle.book_model.specs.Crescent as spec;
-ghost use Rattle.book_model.specs.Depth.{DEPTH};
-ghost use Rattle.book_model.specs.Expressions.{Expression, World};
-ghost use Rattle.book_model.specs.Fractions.{fraction_of};
-ghost use Rattle.book_model.specs.Relations.{Within};
+ghost use Rattle.book_model.specs.sky.Crescent as spec;
+ghost use Rattle.book_model.specs.numbers.Depth.{DEPTH};
+ghost use Rattle.book_model.specs.numbers.Expressions.{Expression, World};
+ghost use Rattle.book_model.specs.numbers.Fractions.{fraction_of};
+ghost use Rattle.book_model.specs.numbers.Relations.{Within};
 
 use book_model::Frac;
 use encl_core::Enclosure;
 use trig_series::{cos_deg, sin_deg};
 
 /// The cosine of the arc of light between the moon and the sun, by the moon's latitude and its phase, in degrees.
-#[tactic(auto, unfolding(book_model::specs::Crescent::arc_cosine_of))]
+#[tactic(auto, unfolding(book_model::specs::sky::Crescent::arc_cosine_of))]
 pub(crate) fn arc_cosine<E: Enclosure>(latitude: E, phase: E) -> E
     ensures holds { (w : World) (b f : Expression) → DEPTH ≤ w.depth → Within E.shown w b latitude → Within E.shown w f phase → Within E.shown w (spec.arc_cosine_of b f) result }
 {
@@ -19,7 +19,7 @@ pub(crate) fn arc_cosine<E: Enclosure>(latitude: E, phase: E) -> E
 }
 
 /// The sine of the moon's declination, by the obliquity of the ecliptic and the longitude and the latitude of the moon.
-#[tactic(auto, unfolding(book_model::specs::Crescent::north_of))]
+#[tactic(auto, unfolding(book_model::specs::sky::Crescent::north_of))]
 fn north<E: Enclosure>(obliquity: E, longitude: E, latitude: E) -> E
     ensures holds { (w : World) (o l b : Expression) → DEPTH ≤ w.depth → Within E.shown w o obliquity → Within E.shown w l longitude → Within E.shown w b latitude → Within E.shown w (spec.north_of o l b) result }
 {
@@ -32,7 +32,7 @@ fn north<E: Enclosure>(obliquity: E, longitude: E, latitude: E) -> E
 }
 
 /// The part of the moon's direction towards the east of the equinox, in the plane of the equator.
-#[tactic(auto, unfolding(book_model::specs::Crescent::east_of))]
+#[tactic(auto, unfolding(book_model::specs::sky::Crescent::east_of))]
 fn east<E: Enclosure>(obliquity: E, longitude: E, latitude: E) -> E
     ensures holds { (w : World) (o l b : Expression) → DEPTH ≤ w.depth → Within E.shown w o obliquity → Within E.shown w l longitude → Within E.shown w b latitude → Within E.shown w (spec.east_of o l b) result }
 {
@@ -43,7 +43,7 @@ fn east<E: Enclosure>(obliquity: E, longitude: E, latitude: E) -> E
 }
 
 /// The part of the moon's direction towards where the equator crosses the meridian, at a local sidereal time.
-#[tactic(auto, unfolding(book_model::specs::Crescent::towards_of))]
+#[tactic(auto, unfolding(book_model::specs::sky::Crescent::towards_of))]
 fn towards<E: Enclosure>(sidereal: E, obliquity: E, longitude: E, latitude: E) -> E
     ensures holds { (w : World) (t o l b : Expression) → DEPTH ≤ w.depth → Within E.shown w t sidereal → Within E.shown w o obliquity → Within E.shown w l longitude → Within E.shown w b latitude → Within E.shown w (spec.towards_of t o l b) result }
 {
@@ -55,7 +55,7 @@ fn towards<E: Enclosure>(sidereal: E, obliquity: E, longitude: E, latitude: E) -
 
 /// The sine of the moon's altitude at a latitude of the ground, by the local sidereal time, the obliquity of the ecliptic and the
 /// moon's longitude and latitude, all in degrees (Reingold and Dershowitz, Calendrical Calculations, chapter 14).
-#[tactic(auto, unfolding(book_model::specs::Crescent::altitude_sine_of))]
+#[tactic(auto, unfolding(book_model::specs::sky::Crescent::altitude_sine_of))]
 pub(crate) fn altitude_sine<E: Enclosure>(
     ground: Frac,
     sidereal: E,

@@ -1,12 +1,12 @@
 //! Shaukat's criterion: whether the crescent is seen on an evening.
 ghost use Rattle.std.specs.Prelude.{◌≡◌, ◌≤◌, ◌+◌, ℤ, ◌≤ℤ◌, negsuc, Bool};
-ghost use Rattle.book_model.specs.Crescent as spec;
-ghost use Rattle.book_model.specs.Depth.{DEPTH};
-ghost use Rattle.book_model.specs.Expressions.{Expression, World};
-ghost use Rattle.book_model.specs.Fractions.{fraction_of};
-ghost use Rattle.book_model.specs.Horizon.{universal_of};
-ghost use Rattle.book_model.specs.Leading.{Exact, Leads};
-ghost use Rattle.book_model.specs.Relations.{Within};
+ghost use Rattle.book_model.specs.sky.Crescent as spec;
+ghost use Rattle.book_model.specs.numbers.Depth.{DEPTH};
+ghost use Rattle.book_model.specs.numbers.Expressions.{Expression, World};
+ghost use Rattle.book_model.specs.numbers.Fractions.{fraction_of};
+ghost use Rattle.book_model.specs.sky.Horizon.{universal_of};
+ghost use Rattle.book_model.specs.programs.Leading.{Exact, Leads};
+ghost use Rattle.book_model.specs.numbers.Relations.{Within};
 
 use crate::altitude::{altitude_sine, arc_cosine};
 use book_model::{
@@ -24,7 +24,7 @@ use trig_series::{cos_deg, sin_deg};
 const FIRST_QUARTER: i64 = 90;
 
 /// Whether the moon is past its new moon: one test.
-#[tactic(auto, using(book_model::proofs::Leads::leading), unfolding(book_model::specs::Crescent::is_past_new_of, book_model::specs::Leading::next_turn))]
+#[tactic(auto, using(book_model::proofs::Leads::leading), unfolding(book_model::specs::sky::Crescent::is_past_new_of, book_model::specs::programs::Leading::next_turn))]
 fn is_past_new<E: Enclosure>(phase: E, trail: &mut Trail) -> Result<bool, Fail>
     ensures leads { (w : World) (f : Expression) → DEPTH ≤ w.depth → Within E.shown w f phase → Leads w Exact (spec.is_past_new_of f) trail.old.count trail.new.count result }
     ensures counted { trail.new.count ≤ trail.old.count + 1 }
@@ -33,7 +33,7 @@ fn is_past_new<E: Enclosure>(phase: E, trail: &mut Trail) -> Result<bool, Fail>
 }
 
 /// Whether it isn't yet at its first quarter: one test.
-#[tactic(auto, using(book_model::proofs::Leads::leading), unfolding(book_model::specs::Crescent::is_before_quarter_of, book_model::specs::Leading::next_turn))]
+#[tactic(auto, using(book_model::proofs::Leads::leading), unfolding(book_model::specs::sky::Crescent::is_before_quarter_of, book_model::specs::programs::Leading::next_turn))]
 fn is_before_quarter<E: Enclosure>(phase: E, trail: &mut Trail) -> Result<bool, Fail>
     ensures leads { (w : World) (f : Expression) → DEPTH ≤ w.depth → Within E.shown w f phase → Leads w Exact (spec.is_before_quarter_of f) trail.old.count trail.new.count result }
     ensures counted { trail.new.count ≤ trail.old.count + 1 }
@@ -42,7 +42,7 @@ fn is_before_quarter<E: Enclosure>(phase: E, trail: &mut Trail) -> Result<bool, 
 }
 
 /// Whether the arc of light, by its cosine, is large enough: one test.
-#[tactic(auto, using(book_model::proofs::Leads::leading), unfolding(book_model::specs::Crescent::is_lit_of, book_model::specs::Leading::next_turn))]
+#[tactic(auto, using(book_model::proofs::Leads::leading), unfolding(book_model::specs::sky::Crescent::is_lit_of, book_model::specs::programs::Leading::next_turn))]
 fn is_lit<E: Enclosure>(arc: E, trail: &mut Trail) -> Result<bool, Fail>
     ensures leads { (w : World) (a : Expression) → DEPTH ≤ w.depth → Within E.shown w a arc → Leads w Exact (spec.is_lit_of a) trail.old.count trail.new.count result }
     ensures counted { trail.new.count ≤ trail.old.count + 1 }
@@ -55,7 +55,7 @@ fn is_lit<E: Enclosure>(arc: E, trail: &mut Trail) -> Result<bool, Fail>
 }
 
 /// Whether the arc of light, by its cosine, is at most 90 degrees: one test.
-#[tactic(auto, using(book_model::proofs::Leads::leading), unfolding(book_model::specs::Crescent::is_within_quarter_of, book_model::specs::Leading::next_turn))]
+#[tactic(auto, using(book_model::proofs::Leads::leading), unfolding(book_model::specs::sky::Crescent::is_within_quarter_of, book_model::specs::programs::Leading::next_turn))]
 fn is_within_quarter<E: Enclosure>(arc: E, trail: &mut Trail) -> Result<bool, Fail>
     ensures leads { (w : World) (a : Expression) → DEPTH ≤ w.depth → Within E.shown w a arc → Leads w Exact (spec.is_within_quarter_of a) trail.old.count trail.new.count result }
     ensures counted { trail.new.count ≤ trail.old.count + 1 }
@@ -67,7 +67,7 @@ fn is_within_quarter<E: Enclosure>(arc: E, trail: &mut Trail) -> Result<bool, Fa
 }
 
 /// Whether the moon, by the sine of its altitude, stands high enough: one test.
-#[tactic(auto, using(book_model::proofs::Leads::leading), unfolding(book_model::specs::Crescent::is_high_of, book_model::specs::Leading::next_turn))]
+#[tactic(auto, using(book_model::proofs::Leads::leading), unfolding(book_model::specs::sky::Crescent::is_high_of, book_model::specs::programs::Leading::next_turn))]
 fn is_high<E: Enclosure>(altitude: E, trail: &mut Trail) -> Result<bool, Fail>
     ensures leads { (w : World) (h : Expression) → DEPTH ≤ w.depth → Within E.shown w h altitude → Leads w Exact (spec.is_high_of h) trail.old.count trail.new.count result }
     ensures counted { trail.new.count ≤ trail.old.count + 1 }
@@ -77,7 +77,7 @@ fn is_high<E: Enclosure>(altitude: E, trail: &mut Trail) -> Result<bool, Fail>
 }
 
 /// The conditions on the arc of light and on the altitude, in order: three tests at most.
-#[tactic(auto, using(book_model::proofs::Leads::leading), unfolding(book_model::specs::Crescent::is_bright_of, book_model::specs::Crescent::and_also))]
+#[tactic(auto, using(book_model::proofs::Leads::leading), unfolding(book_model::specs::sky::Crescent::is_bright_of, book_model::specs::sky::Crescent::and_also))]
 fn is_bright<E: Enclosure>(arc: E, altitude: E, trail: &mut Trail) -> Result<bool, Fail>
     ensures leads { (w : World) (a h : Expression) → DEPTH ≤ w.depth → Within E.shown w a arc → Within E.shown w h altitude → Leads w Exact (spec.is_bright_of a h) trail.old.count trail.new.count result }
     ensures counted { trail.new.count ≤ trail.old.count + 3 }
@@ -86,7 +86,7 @@ fn is_bright<E: Enclosure>(arc: E, altitude: E, trail: &mut Trail) -> Result<boo
 }
 
 /// All conditions, in order: five tests at most.
-#[tactic(auto, using(book_model::proofs::Leads::leading), unfolding(book_model::specs::Crescent::is_crescent_of, book_model::specs::Crescent::and_also))]
+#[tactic(auto, using(book_model::proofs::Leads::leading), unfolding(book_model::specs::sky::Crescent::is_crescent_of, book_model::specs::sky::Crescent::and_also))]
 fn is_crescent<E: Enclosure>(phase: E, arc: E, altitude: E, trail: &mut Trail) -> Result<bool, Fail>
     ensures leads { (w : World) (f a h : Expression) → DEPTH ≤ w.depth → Within E.shown w f phase → Within E.shown w a arc → Within E.shown w h altitude → Leads w Exact (spec.is_crescent_of f a h) trail.old.count trail.new.count result }
     ensures counted { trail.new.count ≤ trail.old.count + 5 }
@@ -100,7 +100,7 @@ fn is_crescent<E: Enclosure>(phase: E, arc: E, altitude: E, trail: &mut Trail) -
 
 /// The conditions at a location, by the moon's phase, the obliquity of the ecliptic, the moon's longitude and latitude and the
 /// sidereal time at Greenwich, all in degrees.
-#[tactic(auto, unfolding(book_model::specs::Crescent::meets_of))]
+#[tactic(auto, unfolding(book_model::specs::sky::Crescent::meets_of))]
 fn meets<E: Enclosure>(
     location: &Location,
     phase: E,
@@ -120,7 +120,7 @@ fn meets<E: Enclosure>(
 }
 
 /// The same at a moment of universal time, by the phase and the obliquity: eight tests at most.
-#[tactic(auto, using(book_model::proofs::Leads::leading), unfolding(book_model::specs::Crescent::meets_with_of))]
+#[tactic(auto, using(book_model::proofs::Leads::leading), unfolding(book_model::specs::sky::Crescent::meets_with_of))]
 fn meets_with<E: Enclosure>(
     location: &Location,
     t: E,
@@ -140,7 +140,7 @@ fn meets_with<E: Enclosure>(
 }
 
 /// The obliquity of the ecliptic at a moment of universal time: one test at most.
-#[tactic(auto, using(book_model::proofs::Leads::leading), unfolding(book_model::specs::Crescent::obliquity_at_of, book_model::specs::Leading::next_turn))]
+#[tactic(auto, using(book_model::proofs::Leads::leading), unfolding(book_model::specs::sky::Crescent::obliquity_at_of, book_model::specs::programs::Leading::next_turn))]
 fn obliquity_at<E: Enclosure>(t: E, trail: &mut Trail) -> Result<E, Fail>
     ensures leads { (w : World) (x : Expression) → DEPTH ≤ w.depth → Within E.shown w x t → Leads w (Within E.shown w) (spec.obliquity_at_of x) trail.old.count trail.new.count result }
     ensures counted { trail.new.count ≤ trail.old.count + 1 }
@@ -152,7 +152,7 @@ fn obliquity_at<E: Enclosure>(t: E, trail: &mut Trail) -> Result<E, Fail>
 }
 
 /// Whether the moon meets the criterion at a location and a moment of universal time: 19 tests at most.
-#[tactic(auto, using(book_model::proofs::Leads::leading), unfolding(book_model::specs::Crescent::meets_at_of))]
+#[tactic(auto, using(book_model::proofs::Leads::leading), unfolding(book_model::specs::sky::Crescent::meets_at_of))]
 fn meets_at<E: Enclosure>(location: &Location, t: E, trail: &mut Trail) -> Result<bool, Fail>
     ensures leads { (w : World) (x : Expression) → DEPTH ≤ w.depth → Within E.shown w x t → Leads w Exact (spec.meets_at_of location.now x) trail.old.count trail.new.count result }
     ensures counted { trail.new.count ≤ trail.old.count + 19 }
@@ -163,7 +163,7 @@ fn meets_at<E: Enclosure>(location: &Location, t: E, trail: &mut Trail) -> Resul
 }
 
 /// The universal time of a moment of local mean time at a longitude east of Greenwich, in degrees.
-#[tactic(auto, unfolding(book_model::specs::Horizon::universal_of, book_model::specs::Noon::ahead_of))]
+#[tactic(auto, unfolding(book_model::specs::sky::Horizon::universal_of, book_model::specs::sky::Noon::ahead_of))]
 fn universal<E: Enclosure>(longitude: Frac, t: E) -> E
     ensures holds { (w : World) (x : Expression) → DEPTH ≤ w.depth → Within E.shown w x t → Within E.shown w (universal_of (fraction_of longitude) x) result }
 {
@@ -171,7 +171,7 @@ fn universal<E: Enclosure>(longitude: Frac, t: E) -> E
 }
 
 /// When the crescent is looked for on the evening with which a day (R.D.) begins, in universal time: 132 tests at most.
-#[tactic(auto, using(book_model::proofs::Leads::leading), unfolding(book_model::specs::Crescent::evening_of))]
+#[tactic(auto, using(book_model::proofs::Leads::leading), unfolding(book_model::specs::sky::Crescent::evening_of))]
 fn evening<E: Enclosure>(location: &Location, day: i64, trail: &mut Trail) -> Result<E, Fail>
     requires low { negsuc 39999999 ≤ℤ day }
     ensures leads { (w : World) → DEPTH ≤ w.depth → Leads w (Within E.shown w) (spec.evening_of location.now day) trail.old.count trail.new.count result }
@@ -189,7 +189,7 @@ fn evening<E: Enclosure>(location: &Location, day: i64, trail: &mut Trail) -> Re
 /// above 4.1. 151 tests at most: those of dusk, of the phase, the obliquity, the longitude and the latitude of the moon, and then
 /// those of the conditions in this order, at `crescent`, until one doesn't hold. It is void where dusk is, and at `year` in a year
 /// without a correction.
-#[tactic(auto, using(book_model::proofs::Leads::leading), unfolding(book_model::specs::Crescent::visible_of))]
+#[tactic(auto, using(book_model::proofs::Leads::leading), unfolding(book_model::specs::sky::Crescent::visible_of))]
 pub fn visible<E: Enclosure>(location: &Location, day: i64, trail: &mut Trail) -> Result<bool, Fail>
     requires low { negsuc 39999999 ≤ℤ day }
     ensures leads { (w : World) → DEPTH ≤ w.depth → Leads w Exact (spec.visible_of location.now day) trail.old.count trail.new.count result }

@@ -1,12 +1,12 @@
 //! The day with whose evening the crescent was first seen.
 ghost use Rattle.std.specs.Prelude.{◌≡◌, ◌≤◌, ◌+◌, ℤ, pos, negsuc, ◌≤ℤ◌, ◌+ℤ◌, ◌-ℤ◌, ◌*◌, Bool, int_le, IfOk, IfErr};
-ghost use Rattle.book_model.specs.Crescent as spec;
-ghost use Rattle.book_model.specs.Depth.{DEPTH};
-ghost use Rattle.book_model.specs.Expressions.{World};
-ghost use Rattle.book_model.specs.Facts.{IsFactDay, IsFactValue, IsValueDay};
-ghost use Rattle.book_model.specs.Leading.{Exact, Leads};
-ghost use Rattle.book_model.specs.Searches.{first_day_from};
-ghost use Rattle.book_model.proofs.PhaseDays.{IsPhaseDay};
+ghost use Rattle.book_model.specs.sky.Crescent as spec;
+ghost use Rattle.book_model.specs.numbers.Depth.{DEPTH};
+ghost use Rattle.book_model.specs.numbers.Expressions.{World};
+ghost use Rattle.book_model.specs.sky.Facts.{IsFactDay, IsFactValue, IsValueDay};
+ghost use Rattle.book_model.specs.programs.Leading.{Exact, Leads};
+ghost use Rattle.book_model.specs.programs.Searches.{first_day_from};
+ghost use Rattle.moon_core.specs.PhaseDays.{IsPhaseDay};
 ghost use Rattle.time_scales.specs.Steps.{IsNoEarlyYear};
 ghost use Rattle.crescent.specs.Sights.{IsSightDay};
 
@@ -50,7 +50,7 @@ fn is_soon(day: i64, new_moon: i64) -> bool
 }
 
 /// The day (R.D.) from which the first sight is sought, by whether the crescent of the last new moon is seen.
-#[tactic(auto, unfolding(book_model::specs::Crescent::start_by))]
+#[tactic(auto, unfolding(book_model::specs::sky::Crescent::start_by))]
 fn start(new_moon: i64, is_seen: bool) -> i64
     requires near { IsPhaseDay new_moon }
     ensures start { result ≡ spec.start_by new_moon is_seen }
@@ -64,7 +64,7 @@ fn start(new_moon: i64, is_seen: bool) -> i64
 }
 
 /// The same, where the day may come before the crescent of the last new moon: 151 tests at most.
-#[tactic(auto, using(book_model::proofs::Leads::leading), unfolding(book_model::specs::Crescent::sight_start_of))]
+#[tactic(auto, using(book_model::proofs::Leads::leading), unfolding(book_model::specs::sky::Crescent::sight_start_of))]
 fn sight_start<E: Enclosure>(
     location: &Location,
     day: i64,
@@ -105,7 +105,7 @@ fn first_sight<E: Enclosure>(location: &Location, from: i64, trail: &mut Trail) 
 }
 
 /// The same, from where the new moon of a day tells.
-#[tactic(auto, using(book_model::proofs::Leads::leading), unfolding(book_model::specs::Crescent::sight_after_of))]
+#[tactic(auto, using(book_model::proofs::Leads::leading), unfolding(book_model::specs::sky::Crescent::sight_after_of))]
 fn sight_after<E: Enclosure>(
     location: &Location,
     day: i64,
@@ -128,7 +128,7 @@ fn sight_after<E: Enclosure>(
 /// Shaukat's criterion (Reingold and Dershowitz, Calendrical Calculations, chapter 14): sought from the day of the last new moon,
 /// or, where its crescent isn't seen yet, from 30 days before that. At most 7,942 tests. It is void at `search` where there is no
 /// such day, and where `phase_day` or `visible` is. Its first and third tests, of the year of the day itself, are never open.
-#[tactic(auto, using(book_model::proofs::Leads::leading), unfolding(book_model::specs::Crescent::phasis_of))]
+#[tactic(auto, using(book_model::proofs::Leads::leading), unfolding(book_model::specs::sky::Crescent::phasis_of))]
 pub fn phasis<E: Enclosure>(location: &Location, day: i64, trail: &mut Trail) -> Result<i64, Fail>
     requires day { IsFactDay day }
     ensures leads { (w : World) → DEPTH ≤ w.depth → Leads w Exact (spec.phasis_of location.now day) trail.old.count trail.new.count result }

@@ -4,11 +4,11 @@ use Rattle.std.proofs.lemmas.Int.{ints}
 use Rattle.exact_math.specs.Fraction.{plus}
 use Rattle.exact_math.specs.Interval.{Interval, between, ◌⊆◌}
 use Rattle.exact_math.proofs.Intervals.{within_trans}
-use Rattle.book_model.specs.Bounds.{Bound, Reach, IsNarrow, bound_of, spanned_bound, pi_spans, limits_of}
+use Rattle.book_model.specs.numbers.Bounds.{Bound, Reach, IsNarrow, bound_of, spanned_bound, pi_spans, limits_of}
 use Rattle.book_model.specs.declared.tables.TheConstants.{PI_BELOW, PI_ABOVE}
-use Rattle.book_model.specs.Expressions.{World, value, pi}
-use Rattle.book_model.specs.Leading.{at_56}
-use Rattle.book_model.specs.Relations.{Within, Lies, Narrow, Keeps}
+use Rattle.book_model.specs.numbers.Expressions.{World, value, pi}
+use Rattle.book_model.specs.programs.Leading.{at_56}
+use Rattle.book_model.specs.numbers.Relations.{Within, Lies, Narrow, Keeps}
 use Rattle.book_model.proofs.Pi.{pi_number}
 
 abbrev pub pi_ends : Interval

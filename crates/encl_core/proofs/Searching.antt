@@ -5,10 +5,10 @@ use Rattle.std.specs.Prelude.{Ok, Err}
 use Rattle.book_model.specs.declared.fail.Fail.{Fail}
 use Rattle.book_model.specs.declared.fail.Fail.TheVariants.{Void}
 use Rattle.book_model.specs.declared.site.Site.TheVariants.{Search}
-use Rattle.book_model.specs.Expressions.{World}
-use Rattle.book_model.specs.Leading.{Continues, Exact, Leads}
-use Rattle.book_model.specs.Programs.{Program, answer, bind}
-use Rattle.book_model.specs.Searches.{first_of_days, first_day_from}
+use Rattle.book_model.specs.numbers.Expressions.{World}
+use Rattle.book_model.specs.programs.Leading.{Continues, Exact, Leads}
+use Rattle.book_model.specs.programs.Programs.{Program, answer, bind}
+use Rattle.book_model.specs.programs.Searches.{first_of_days, first_day_from}
 use Rattle.book_model.proofs.Leads.{continues_exact, continues_fail, continues_answer, continues_void, continues_here}
 
 -- what is left of a search of so many days is the test of a day, and then the days after it

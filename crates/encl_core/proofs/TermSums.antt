@@ -1,7 +1,7 @@
 -- The sum of the terms of a table, row by row.
 use Rattle.std.proofs.Common.{◌≡◌, ℕ, ◌+◌, pos, refl, add-one, List, length, slice_index_or}
-use Rattle.book_model.specs.Expressions.{Expression, integer, add}
-use Rattle.book_model.specs.Terms.{terms_to, terms_of}
+use Rattle.book_model.specs.numbers.Expressions.{Expression, integer, add}
+use Rattle.book_model.specs.numbers.Terms.{terms_to, terms_of}
 
 pub terms_none : {R : Type 0} (term : R → Expression) (none : R) (rows : List R) → terms_to term none rows 0 ≡ integer (pos 0)
 unfolding terms_to

@@ -1,4 +1,2 @@
-pub mod Scales
-pub mod Rounding
 pub mod Shown
 pub mod Steps

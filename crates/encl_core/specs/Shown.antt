@@ -5,7 +5,7 @@ use Rattle.std.proofs.lemmas.Int.{ints}
 use Rattle.exact_math.specs.Interval.{Interval, everything, between, IsProper}
 use Rattle.encl_core.specs.declared.ends.Ends.{Ends}
 use Rattle.encl_core.specs.declared.coarse.Coarse.{Coarse}
-use Rattle.encl_core.specs.Rounding.{at_36}
+use Rattle.scaled_ends.specs.Rounding.{at_36}
 
 -- the interval between two ends; everything, where there are none
 abbrev pub shown_ends : Option Ends → Interval

@@ -4,8 +4,8 @@ use Rattle.exact_math.specs.Interval.{Interval}
 use Rattle.book_model.specs.declared.site.Site.{Site}
 use Rattle.book_model.specs.declared.fail.Fail.{Fail}
 use Rattle.book_model.specs.declared.fail.Fail.TheVariants.{Undecided, Void}
-use Rattle.book_model.specs.Leading.{AreEnds, IsOpenCell, IsOpenComparison}
-use Rattle.book_model.specs.Programs.{integers, multiples, cell_at}
+use Rattle.book_model.specs.programs.Leading.{AreEnds, IsOpenCell, IsOpenComparison}
+use Rattle.book_model.specs.programs.Programs.{integers, multiples, cell_at}
 
 -- a floor at a site is open for this enclosure
 abbrev pub IsOpenFloor : Interval → Site → Fail → Type 0

@@ -1,9 +1,9 @@
 //! The number pi.
 ghost use Rattle.std.specs.Prelude.{◌≤◌};
-ghost use Rattle.book_model.specs.Bounds.{Reach, limits_of};
-ghost use Rattle.book_model.specs.Expressions.{World, pi as pi_number};
-ghost use Rattle.book_model.specs.Relations.{Within, Narrow};
-ghost use Rattle.book_model.specs.Depth.{DEPTH};
+ghost use Rattle.book_model.specs.numbers.Bounds.{Reach, limits_of};
+ghost use Rattle.book_model.specs.numbers.Expressions.{World, pi as pi_number};
+ghost use Rattle.book_model.specs.numbers.Relations.{Within, Narrow};
+ghost use Rattle.book_model.specs.numbers.Depth.{DEPTH};
 
 use crate::{Enclosure, Span};
 use book_model::{PI_ABOVE, PI_BELOW};

@@ -1,9 +1,9 @@
 //! Quotients and squares of ends that count 2⁻³⁶, rounded outwards.
 ghost use Rattle.std.specs.Prelude.{◌≡◌, ℕ, pos, ◌^◌, ◌≤ℤ◌, ◌<ℤ◌, neg_ℤ};
 ghost use Rattle.exact_math.specs.Interval.{◌⊆◌, quotient, power, between};
-ghost use Rattle.book_model.specs.Bounds.{Bound, IsNarrow, power_bound, quotient_bound, limits_36};
+ghost use Rattle.book_model.specs.numbers.Bounds.{Bound, IsNarrow, power_bound, quotient_bound, limits_36};
 ghost use Rattle.encl_core.specs.Shown.{shown_ends};
-ghost use Rattle.encl_core.specs.Rounding.{at_36, least_square_of, IsLeastBy, IsGreatestBy, AreQuotients};
+ghost use Rattle.scaled_ends.specs.Rounding.{at_36, least_square_of, IsLeastBy, IsGreatestBy, AreQuotients};
 
 use crate::ends::Ends;
 use crate::operations::product_of;

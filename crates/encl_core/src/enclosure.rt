@@ -2,13 +2,13 @@
 ghost use Rattle.std.specs.Prelude.{◌≡◌, ◌<◌, ℕ, ℤ, ◌≤◌, Some, IfOk, IfErr, IfSome, IsSome, IsNone};
 ghost use Rattle.exact_math.specs.Fraction.{whole as whole_number};
 ghost use Rattle.exact_math.specs.Interval.{Interval, everything, between, ◌⊆◌, IsProper};
-ghost use Rattle.book_model.specs.Fractions.{fraction_of, ten_millionths, daily_ten_millionths};
-ghost use Rattle.book_model.specs.Expressions.{Expression, World, integer, constant, add as add_of, subtract, multiply, negate, scale, minimum, maximum, hull as hull_of, widen as widen_of, divide, power, root as root_of, clamp as clamp_of, remainder};
-ghost use Rattle.book_model.specs.Bounds.{Bound, Reach, IsNarrow, spanned_bound, limits_of};
-ghost use Rattle.book_model.specs.Relations.{Within, Narrow};
-ghost use Rattle.book_model.specs.Programs.{integers, multiples, cell_at, compare_at};
-ghost use Rattle.book_model.specs.Leading.{at_56, IsOpenCell, IsOpenComparison, next_turn};
-ghost use Rattle.book_model.specs.Depth.{DEPTH as LEAST_DEPTH};
+ghost use Rattle.book_model.specs.numbers.Fractions.{fraction_of, ten_millionths, daily_ten_millionths};
+ghost use Rattle.book_model.specs.numbers.Expressions.{Expression, World, integer, constant, add as add_of, subtract, multiply, negate, scale, minimum, maximum, hull as hull_of, widen as widen_of, divide, power, root as root_of, clamp as clamp_of, remainder};
+ghost use Rattle.book_model.specs.numbers.Bounds.{Bound, Reach, IsNarrow, spanned_bound, limits_of};
+ghost use Rattle.book_model.specs.numbers.Relations.{Within, Narrow};
+ghost use Rattle.book_model.specs.programs.Programs.{integers, multiples, cell_at, compare_at};
+ghost use Rattle.book_model.specs.programs.Leading.{at_56, IsOpenCell, IsOpenComparison, next_turn};
+ghost use Rattle.book_model.specs.numbers.Depth.{DEPTH as LEAST_DEPTH};
 ghost use Rattle.encl_core.specs.Steps.{IsOpenPeriod};
 
 use crate::{Span, Trail};

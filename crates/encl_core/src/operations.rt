@@ -3,11 +3,11 @@ ghost use Rattle.std.specs.Prelude.{◌≡◌, ℕ, pos, ◌+◌, ◌*◌, ◌*�
 ghost use Rattle.std.specs.Int.{w64, w128};
 ghost use Rattle.exact_math.specs.Fraction.{whole as whole_number};
 ghost use Rattle.exact_math.specs.Interval.{◌⊆◌, sum, difference, negative, product, minimum, maximum, hull, widen, between};
-ghost use Rattle.book_model.specs.Fractions.{fraction_of};
-ghost use Rattle.book_model.specs.Bounds.{Bound, IsNarrow, integer_bound, constant_bound, sum_bound, scaled_bound, difference_bound, product_bound, negated_bound, minimum_bound, maximum_bound, hull_bound, widen_bound, limits_36};
+ghost use Rattle.book_model.specs.numbers.Fractions.{fraction_of};
+ghost use Rattle.book_model.specs.numbers.Bounds.{Bound, IsNarrow, integer_bound, constant_bound, sum_bound, scaled_bound, difference_bound, product_bound, negated_bound, minimum_bound, maximum_bound, hull_bound, widen_bound, limits_36};
 ghost use Rattle.encl_core.specs.Shown.{shown_ends};
 ghost use Rattle.rounded_quotients.specs.Rounding.{IsBelowFour, IsAboveFour, IsAboveEachBelow, IsBelowEachAbove};
-ghost use Rattle.encl_core.specs.Rounding.{IsMargin, IsBest, Keeps64};
+ghost use Rattle.scaled_ends.specs.Rounding.{IsMargin, IsBest, Keeps64};
 
 use crate::ends::Ends;
 use crate::rounding::{ceil_36, denominator, ends_of, floor_36};

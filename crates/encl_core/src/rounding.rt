@@ -1,7 +1,7 @@
 //! Denominators, products of ends at their scale, and ends that fit.
 ghost use Rattle.std.specs.Prelude.{◌≡◌, ◌+◌, ◌^◌, pos, ◌≤ℤ◌, ◌<ℤ◌, neg_ℤ};
-ghost use Rattle.book_model.specs.Fractions.{fraction_of};
-ghost use Rattle.encl_core.specs.Rounding.{Keeps64};
+ghost use Rattle.book_model.specs.numbers.Fractions.{fraction_of};
+ghost use Rattle.scaled_ends.specs.Rounding.{Keeps64};
 ghost use Rattle.encl_core.specs.Shown.{shown_ends};
 ghost use Rattle.rounded_quotients.specs.Rounding.{IsFloor, IsCeiling};
 

@@ -1,10 +1,10 @@
 //! Searches by day.
 ghost use Rattle.std.specs.Prelude.{◌≡◌, ◌≤◌, ◌+◌, ◌*◌, ◌+ℤ◌, pos, negsuc, ◌≤ℤ◌, ℕ, ℤ, Bool, IfOk};
-ghost use Rattle.book_model.specs.Expressions.{World};
-ghost use Rattle.book_model.specs.Leading.{Leads, Exact};
-ghost use Rattle.book_model.specs.Programs.{Program};
-ghost use Rattle.book_model.specs.Searches.{first_day_from};
-ghost use Rattle.book_model.specs.Depth.{DEPTH};
+ghost use Rattle.book_model.specs.numbers.Expressions.{World};
+ghost use Rattle.book_model.specs.programs.Leading.{Leads, Exact};
+ghost use Rattle.book_model.specs.programs.Programs.{Program};
+ghost use Rattle.book_model.specs.programs.Searches.{first_day_from};
+ghost use Rattle.book_model.specs.numbers.Depth.{DEPTH};
 
 use crate::{Enclosure, Trail};
 use book_model::{Fail, Site};

@@ -1,8 +1,8 @@
 //! Ends that count 2⁻⁵⁶, from those that count 2⁻³⁶ and back.
 ghost use Rattle.std.specs.Prelude.{◌≡◌, ℕ, IfSome, IsNone};
 ghost use Rattle.exact_math.specs.Interval.{◌⊆◌, between, everything};
-ghost use Rattle.book_model.specs.Bounds.{Bound, IsNarrow, spanned_bound, limits_36};
-ghost use Rattle.book_model.specs.Leading.{at_56};
+ghost use Rattle.book_model.specs.numbers.Bounds.{Bound, IsNarrow, spanned_bound, limits_36};
+ghost use Rattle.book_model.specs.programs.Leading.{at_56};
 ghost use Rattle.encl_core.specs.Shown.{shown_ends};
 
 use crate::ends::Ends;

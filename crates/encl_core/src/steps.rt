@@ -1,10 +1,10 @@
 //! The tests of enclosures as steps of formulas: each leads to a program of one test.
 ghost use Rattle.std.specs.Prelude.{◌≡◌, ◌≤◌, ◌<◌, ℕ, ℤ, Bool, IfOk, IfErr, IsSome, Some};
-ghost use Rattle.book_model.specs.Bounds.{Reach, limits_of};
-ghost use Rattle.book_model.specs.Expressions.{Expression, World, remainder};
-ghost use Rattle.book_model.specs.Leading.{Leads, Exact, next_turn};
-ghost use Rattle.book_model.specs.Programs.{answer, cell, compare, integers, multiples, cell_at, compare_at};
-ghost use Rattle.book_model.specs.Relations.{Within, Narrow};
+ghost use Rattle.book_model.specs.numbers.Bounds.{Reach, limits_of};
+ghost use Rattle.book_model.specs.numbers.Expressions.{Expression, World, remainder};
+ghost use Rattle.book_model.specs.programs.Leading.{Leads, Exact, next_turn};
+ghost use Rattle.book_model.specs.programs.Programs.{answer, cell, compare, integers, multiples, cell_at, compare_at};
+ghost use Rattle.book_model.specs.numbers.Relations.{Within, Narrow};
 ghost use Rattle.encl_core.specs.Steps.{IsOpenFloor, IsOpenLess, IsOpenWrap};
 
 use crate::{Enclosure, Trail};

@@ -4,10 +4,10 @@ mod rough;
 
 ghost use Rattle.std.specs.Prelude.{◌≤◌, ◌+◌};
 ghost use Rattle.book_model.specs.declared.site.Site.TheVariants.{DayTest as AtDayTest};
-ghost use Rattle.book_model.specs.Expressions.{World, integer};
-ghost use Rattle.book_model.specs.Leading.{Exact, Leads};
-ghost use Rattle.book_model.specs.Programs.{answer, compare};
-ghost use Rattle.book_model.specs.Depth.{DEPTH};
+ghost use Rattle.book_model.specs.numbers.Expressions.{World, integer};
+ghost use Rattle.book_model.specs.programs.Leading.{Exact, Leads};
+ghost use Rattle.book_model.specs.programs.Programs.{answer, compare};
+ghost use Rattle.book_model.specs.numbers.Depth.{DEPTH};
 
 use crate::{Coarse, DayTest, Enclosure, Trail, first_day, floor_step, less_step, pi, wrap_step};
 use book_model::{Fail as FormulaFail, Frac, Site, Undecided};
@@ -15,7 +15,7 @@ use rough::Rough;
 use std::test::Fail;
 
 /// Whether a day comes after another, as one test.
-#[tactic(auto, unfolding(book_model::specs::Leading::next_turn))]
+#[tactic(auto, unfolding(book_model::specs::programs::Leading::next_turn))]
 fn is_after<E: Enclosure>(day: i64, earlier: i64, trail: &mut Trail) -> Result<bool, FormulaFail>
     ensures leads { (w : World) → DEPTH ≤ w.depth → Leads w Exact (compare AtDayTest (integer earlier) (integer day) answer) trail.old.count trail.new.count result }
     ensures counted { trail.new.count ≤ trail.old.count + 1 }

@@ -1,6 +1,6 @@
 //! The count of the tests of a run.
 ghost use Rattle.std.specs.Prelude.{◌≡◌};
-ghost use Rattle.book_model.specs.Leading.{next_turn};
+ghost use Rattle.book_model.specs.programs.Leading.{next_turn};
 
 /// How many tests a run has made. The count stops at the greatest `u32`.
 #[derive(Debug, PartialEq, Drop)]
@@ -24,7 +24,7 @@ impl Trail {
     }
 
     /// Counts one more test, and gives its number.
-    #[tactic(auto, unfolding(book_model::specs::Leading::next_turn))]
+    #[tactic(auto, unfolding(book_model::specs::programs::Leading::next_turn))]
     pub fn step(&mut self) -> u32
         ensures counted { self.new.count ≡ next_turn self.old.count }
         ensures number { result ≡ self.new.count }

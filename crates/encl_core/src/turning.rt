@@ -1,8 +1,8 @@
 //! The angle of a wave, of ends that count 2⁻³⁶.
 ghost use Rattle.std.specs.Prelude.{◌≡◌, ℕ, pos, neg_ℤ, ◌^◌, ◌*ℤ◌, ◌+ℤ◌, ◌≤ℤ◌};
 ghost use Rattle.exact_math.specs.Interval.{◌⊆◌, sum, product, between};
-ghost use Rattle.book_model.specs.Bounds.{Bound, IsNarrow, sum_bound, constant_bound, scaled_bound, limits_36};
-ghost use Rattle.book_model.specs.Fractions.{ten_millionths, daily_ten_millionths};
+ghost use Rattle.book_model.specs.numbers.Bounds.{Bound, IsNarrow, sum_bound, constant_bound, scaled_bound, limits_36};
+ghost use Rattle.book_model.specs.numbers.Fractions.{ten_millionths, daily_ten_millionths};
 ghost use Rattle.encl_core.specs.Shown.{shown_ends};
 
 use crate::ends::Ends;

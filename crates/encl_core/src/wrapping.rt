@@ -3,8 +3,8 @@ ghost use Rattle.std.specs.Prelude.{◌≡◌, ◌<◌, ◌-◌, ◌^◌, ◌*�
 ghost use Rattle.std.specs.Int.{w128};
 ghost use Rattle.exact_math.specs.Fraction.{whole as whole_number, floor_quotient};
 ghost use Rattle.exact_math.specs.Interval.{◌⊆◌, difference, between};
-ghost use Rattle.book_model.specs.Bounds.{Bound, IsNarrow, remainder_bound, limits_36};
-ghost use Rattle.book_model.specs.Programs.{multiples, cell_at};
+ghost use Rattle.book_model.specs.numbers.Bounds.{Bound, IsNarrow, remainder_bound, limits_36};
+ghost use Rattle.book_model.specs.programs.Programs.{multiples, cell_at};
 ghost use Rattle.encl_core.specs.Shown.{shown_ends};
 
 use crate::comparing::floor_of;

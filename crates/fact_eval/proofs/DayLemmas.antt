@@ -7,14 +7,14 @@ use Rattle.book_model.specs.declared.fail.Fail.{Fail}
 use Rattle.book_model.specs.declared.fail.Fail.TheVariants.{Undecided as undecided_at, Void}
 use Rattle.book_model.specs.declared.site.Site.TheVariants.{Round}
 use Rattle.book_model.specs.declared.fact.Kind.TheVariants.{Sun}
-use Rattle.book_model.specs.Bounds.{Reach, limits_of}
-use Rattle.book_model.specs.Calendar.{year_of_day}
-use Rattle.book_model.specs.Expressions.{World, integer}
-use Rattle.book_model.specs.Facts.{IsFactValue, IsValueDay, at_depth}
-use Rattle.book_model.specs.Kinds.{dt_of, sun_in_thousandths_of}
-use Rattle.book_model.specs.Leading.{Exact, Leads}
-use Rattle.book_model.specs.Relations.{Narrow}
-use Rattle.book_model.proofs.CorrectionValues.{dt_value, year_from, year_to}
+use Rattle.book_model.specs.numbers.Bounds.{Reach, limits_of}
+use Rattle.book_model.specs.calendars.Gregorian.{year_of_day}
+use Rattle.book_model.specs.numbers.Expressions.{World, integer}
+use Rattle.book_model.specs.sky.Facts.{IsFactValue, IsValueDay, at_depth}
+use Rattle.book_model.specs.sky.Kinds.{dt_of, sun_in_thousandths_of}
+use Rattle.book_model.specs.programs.Leading.{Exact, Leads}
+use Rattle.book_model.specs.numbers.Relations.{Narrow}
+use Rattle.time_scales.proofs.CorrectionValues.{dt_value, year_from, year_to}
 use Rattle.book_model.proofs.FactRuns.{sun_value}
 use Rattle.book_model.proofs.Leads.{leads_value}
 use Rattle.encl_core.specs.Steps.{IsOpenFloor}

@@ -3,3 +3,10 @@ pub mod WidthLemmas
 pub mod DayLemmas
 pub mod NewYears
 pub mod Winters
+pub mod Evaluations
+pub mod Nearness
+pub mod Crescents
+pub mod SunsetValues
+pub mod Solstices
+pub mod TermDays
+pub mod MoonFacts

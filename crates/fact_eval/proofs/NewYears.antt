@@ -3,14 +3,14 @@ use Rattle.std.specs.Prelude.{ℕ, ℤ, ◌≤ℤ◌, pos, negsuc, Result, Ok, E
 use Rattle.exact_math.specs.Interval.{Interval}
 use Rattle.book_model.specs.declared.fail.Fail.{Fail}
 use Rattle.book_model.specs.declared.site.Site.{Site}
-use Rattle.book_model.specs.Expressions.{Expression, World}
-use Rattle.book_model.specs.Kinds.{last_equinox_of}
-use Rattle.book_model.specs.Leading.{Leads, Exact, leaf}
-use Rattle.book_model.specs.Programs.{Program, answer, cell, integers}
-use Rattle.book_model.specs.Relations.{Within}
+use Rattle.book_model.specs.numbers.Expressions.{Expression, World}
+use Rattle.book_model.specs.sky.Kinds.{last_equinox_of}
+use Rattle.book_model.specs.programs.Leading.{Leads, Exact, leaf}
+use Rattle.book_model.specs.programs.Programs.{Program, answer, cell, integers}
+use Rattle.book_model.specs.numbers.Relations.{Within}
 use Rattle.book_model.proofs.FactRuns.{decides}
 use Rattle.book_model.proofs.Leads.{leads_leaf, leads_value}
-use Rattle.book_model.proofs.NewYears.{IsEstimate, spring_start_near}
+use Rattle.sun_core.proofs.NewYears.{IsEstimate, spring_start_near}
 
 -- the floor of the estimated equinox doesn't lie far off
 pub is_estimate : {E : Type 0} {shown : E → Interval} (w : World) (site : Site) (moment : ℤ → Program Expression) (d : ℤ) {a b e : ℕ} {y : E} (r : Result ℤ Fail) →

@@ -9,15 +9,15 @@ use Rattle.book_model.specs.declared.fact.TheConstants.{FIRST_DAY, LAST_DAY}
 use Rattle.book_model.specs.declared.site.Site.TheVariants.{Year}
 use Rattle.book_model.specs.declared.fail.Fail.{Fail}
 use Rattle.book_model.specs.declared.fail.Fail.TheVariants.{Undecided as undecided_at, Void}
-use Rattle.book_model.specs.Correction.{is_between}
-use Rattle.book_model.specs.Calendar.{year_of_day}
-use Rattle.book_model.specs.Expressions.{World}
-use Rattle.book_model.specs.Facts.{IsFactValue, program_of, formula_of, HasWholeDays}
-use Rattle.book_model.specs.Leading.{Exact, Leads}
-use Rattle.book_model.specs.Programs.{void, AtMost, void_at_most}
+use Rattle.book_model.specs.sky.Correction.{is_between}
+use Rattle.book_model.specs.calendars.Gregorian.{year_of_day}
+use Rattle.book_model.specs.numbers.Expressions.{World}
+use Rattle.book_model.specs.sky.Facts.{IsFactValue, program_of, formula_of, HasWholeDays}
+use Rattle.book_model.specs.programs.Leading.{Exact, Leads}
+use Rattle.book_model.specs.programs.Programs.{void, AtMost, void_at_most}
 use Rattle.book_model.proofs.Corrections.{few_of_two}
-use Rattle.book_model.proofs.Evaluations.{true_of_leads, void_of_leads, near_of_leads}
-use Rattle.book_model.proofs.PhaseDays.{IsPhaseDay}
+use Rattle.fact_eval.proofs.Evaluations.{true_of_leads, void_of_leads, near_of_leads}
+use Rattle.moon_core.specs.PhaseDays.{IsPhaseDay}
 use Rattle.time_scales.specs.Steps.{IsNoEarlyYear}
 use Rattle.oracle_core.specs.Answers.{IsRightAnswer}
 use Rattle.fact_eval.specs.Answers.{answer_of}

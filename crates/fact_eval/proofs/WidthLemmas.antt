@@ -16,12 +16,12 @@ use Rattle.book_model.specs.declared.fail.Fail.TheVariants.{Undecided as undecid
 use Rattle.book_model.specs.declared.site.Site.TheVariants.{Round, Year}
 use Rattle.book_model.specs.declared.fact.Kind.TheVariants.{Dt}
 use Rattle.encl_core.specs.Steps.{IsOpenFloor}
-use Rattle.book_model.specs.Bounds.{Bound, bounded, Reach, IsNarrow, breadth, at_32, bound_of, implies, constant_bound, sum_bound, scaled_bound, limits_of}
-use Rattle.book_model.specs.Facts.{IsFactValue}
-use Rattle.book_model.specs.Leading.{at_56, bounds, IsOpenCell, between_cells, too_far}
-use Rattle.book_model.specs.Programs.{integers, cell_at, cell_of, when}
-use Rattle.book_model.specs.Expressions.{Expression, argument}
-use Rattle.book_model.specs.Relations.{Narrow, Keeps}
+use Rattle.book_model.specs.numbers.Bounds.{Bound, bounded, Reach, IsNarrow, breadth, at_32, bound_of, implies, constant_bound, sum_bound, scaled_bound, limits_of}
+use Rattle.book_model.specs.sky.Facts.{IsFactValue}
+use Rattle.book_model.specs.programs.Leading.{at_56, bounds, IsOpenCell, between_cells, too_far}
+use Rattle.book_model.specs.programs.Programs.{integers, cell_at, cell_of, when}
+use Rattle.book_model.specs.numbers.Expressions.{Expression, argument}
+use Rattle.book_model.specs.numbers.Relations.{Narrow, Keeps}
 use Rattle.time_scales.specs.Corrections.{correction_bound}
 use Rattle.time_scales.proofs.CorrectionWidths.{holds_below, holds_of}
 use Rattle.fact_eval.specs.Widths.{rounded_expression, IsNearFor, IsCloseFor}

@@ -4,16 +4,16 @@ use Rattle.exact_math.specs.Interval.{Interval}
 use Rattle.book_model.specs.declared.fail.Fail.{Fail}
 use Rattle.book_model.specs.declared.site.Site.{Site}
 use Rattle.book_model.specs.declared.sun_tables.TheConstants.{DEGREE_IN_TERMS}
-use Rattle.book_model.specs.Expressions.{World, scale}
-use Rattle.book_model.specs.Fractions.{fraction_of}
-use Rattle.book_model.specs.Kinds.{last_solstice_of, longitude_at_midnight_of}
-use Rattle.book_model.specs.Leading.{Leads, Exact, leaf}
-use Rattle.book_model.specs.Noon.{IsStart}
-use Rattle.book_model.specs.Programs.{answer, cell, integers}
-use Rattle.book_model.specs.Relations.{Within}
+use Rattle.book_model.specs.numbers.Expressions.{World, scale}
+use Rattle.book_model.specs.numbers.Fractions.{fraction_of}
+use Rattle.book_model.specs.sky.Kinds.{last_solstice_of, longitude_at_midnight_of}
+use Rattle.book_model.specs.programs.Leading.{Leads, Exact, leaf}
+use Rattle.book_model.specs.sky.Noon.{IsStart}
+use Rattle.book_model.specs.programs.Programs.{answer, cell, integers}
+use Rattle.book_model.specs.numbers.Relations.{Within}
 use Rattle.book_model.proofs.FactRuns.{decides}
 use Rattle.book_model.proofs.Leads.{leads_leaf, leads_value}
-use Rattle.book_model.proofs.Solstices.{solstice_start_near, term_near, IsTerm}
+use Rattle.fact_eval.proofs.Solstices.{solstice_start_near, term_near, IsTerm}
 
 -- the floor of the estimated solstice lies near the day
 pub is_start : {E : Type 0} {shown : E → Interval} (w : World) (site : Site) (d : ℤ) {a b e : ℕ} {y : E} (r : Result ℤ Fail) →

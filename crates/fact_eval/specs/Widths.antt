@@ -7,9 +7,9 @@ use Rattle.book_model.specs.declared.fail.Fail.{Fail}
 use Rattle.book_model.specs.declared.fail.Undecided.{Undecided as OpenTest}
 use Rattle.book_model.specs.declared.fail.Fail.TheVariants.{Undecided, Void}
 use Rattle.book_model.specs.declared.tables.TheConstants.{HALF, MILLISECONDS_OF_DAY}
-use Rattle.book_model.specs.Expressions.{Expression, constant, add, scale}
-use Rattle.book_model.specs.Facts.{HasWholeDays}
-use Rattle.book_model.specs.Fractions.{fraction_of}
+use Rattle.book_model.specs.numbers.Expressions.{Expression, constant, add, scale}
+use Rattle.book_model.specs.sky.Facts.{HasWholeDays}
+use Rattle.book_model.specs.numbers.Fractions.{fraction_of}
 
 -- what is rounded: a correction in milliseconds, and a half
 abbrev pub rounded_expression : Expression → Expression

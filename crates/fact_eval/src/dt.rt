@@ -1,17 +1,17 @@
 //! The dynamical time correction of a day, in milliseconds.
 ghost use Rattle.std.specs.Prelude.{◌≡◌, ◌≤◌, ◌+◌, IfOk, IfErr};
-ghost use Rattle.book_model.specs.Bounds.{Reach, limits_of};
-ghost use Rattle.book_model.specs.Calendar.{year_of_day};
-ghost use Rattle.book_model.specs.Expressions.{Expression, World, constant, add, scale};
-ghost use Rattle.book_model.specs.Fractions.{fraction_of};
-ghost use Rattle.book_model.specs.Facts.{IsFactValue, IsValueDay};
-ghost use Rattle.book_model.specs.Kinds.{dt_of};
+ghost use Rattle.book_model.specs.numbers.Bounds.{Reach, limits_of};
+ghost use Rattle.book_model.specs.calendars.Gregorian.{year_of_day};
+ghost use Rattle.book_model.specs.numbers.Expressions.{Expression, World, constant, add, scale};
+ghost use Rattle.book_model.specs.numbers.Fractions.{fraction_of};
+ghost use Rattle.book_model.specs.sky.Facts.{IsFactValue, IsValueDay};
+ghost use Rattle.book_model.specs.sky.Kinds.{dt_of};
 ghost use Rattle.book_model.specs.declared.fact.Kind.TheVariants.{Dt};
-ghost use Rattle.book_model.specs.Programs.{AtMost};
-ghost use Rattle.book_model.specs.Leading.{Exact, Leads};
-ghost use Rattle.book_model.specs.Relations.{Within, Narrow};
+ghost use Rattle.book_model.specs.programs.Programs.{AtMost};
+ghost use Rattle.book_model.specs.programs.Leading.{Exact, Leads};
+ghost use Rattle.book_model.specs.numbers.Relations.{Within, Narrow};
 ghost use Rattle.fact_eval.specs.Widths.{IsNearFor, IsCloseFor};
-ghost use Rattle.book_model.specs.Depth.{DEPTH};
+ghost use Rattle.book_model.specs.numbers.Depth.{DEPTH};
 
 use book_model::{Fail, HALF, MILLISECONDS_OF_DAY, Site};
 use encl_core::{Enclosure, Trail, floor_step};
@@ -27,7 +27,7 @@ fn milliseconds<E: Enclosure>(days: E) -> E
     days.mul_frac(MILLISECONDS_OF_DAY).add(E::from_frac(HALF))
 }
 
-#[tactic(auto, using(book_model::proofs::Leads::leading, book_model::proofs::FactRuns::dt_few), unfolding(book_model::specs::Kinds::dt_of, book_model::specs::Correction::rounded_of, book_model::specs::Leading::next_turn))]
+#[tactic(auto, using(book_model::proofs::Leads::leading, book_model::proofs::FactRuns::dt_few), unfolding(book_model::specs::sky::Kinds::dt_of, book_model::specs::sky::Correction::rounded_of, book_model::specs::programs::Leading::next_turn))]
 /// The dynamical time correction of the year of a day, in milliseconds, rounded: two tests, of which only the second
 /// may be open.
 pub(crate) fn dt<E: Enclosure>(day: i64, trail: &mut Trail) -> Result<i64, Fail>

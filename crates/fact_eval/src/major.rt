@@ -1,12 +1,12 @@
 //! The major solar term at midnight in Beijing.
 ghost use Rattle.std.specs.Prelude.{◌≡◌, ◌≤◌, ◌+◌, pos, ◌≤ℤ◌, IfOk, IfErr};
-ghost use Rattle.book_model.specs.Calendar.{year_of_day};
-ghost use Rattle.book_model.specs.Depth.{DEPTH};
-ghost use Rattle.book_model.specs.Expressions.{World};
-ghost use Rattle.book_model.specs.Facts.{IsFactValue, IsValueDay};
-ghost use Rattle.book_model.specs.Kinds.{terms_passed_of, major_of};
-ghost use Rattle.book_model.specs.Leading.{Exact, Leads};
-ghost use Rattle.book_model.specs.Programs.{AtMost};
+ghost use Rattle.book_model.specs.calendars.Gregorian.{year_of_day};
+ghost use Rattle.book_model.specs.numbers.Depth.{DEPTH};
+ghost use Rattle.book_model.specs.numbers.Expressions.{World};
+ghost use Rattle.book_model.specs.sky.Facts.{IsFactValue, IsValueDay};
+ghost use Rattle.book_model.specs.sky.Kinds.{terms_passed_of, major_of};
+ghost use Rattle.book_model.specs.programs.Leading.{Exact, Leads};
+ghost use Rattle.book_model.specs.programs.Programs.{AtMost};
 ghost use Rattle.book_model.specs.declared.fact.Kind.TheVariants.{Major};
 ghost use Rattle.fact_eval.specs.Widths.{IsNearFor};
 
@@ -17,7 +17,7 @@ use encl_core::{Enclosure, Trail, floor_step};
 
 /// How many major solar terms the sun has passed since the spring equinox at midnight at the beginning of a day (R.D.) in
 /// Beijing: three tests at most.
-#[tactic(auto, using(book_model::proofs::Leads::leading), unfolding(book_model::specs::Kinds::terms_passed_of, book_model::specs::Leading::next_turn))]
+#[tactic(auto, using(book_model::proofs::Leads::leading), unfolding(book_model::specs::sky::Kinds::terms_passed_of, book_model::specs::programs::Leading::next_turn))]
 fn terms_passed<E: Enclosure>(day: i64, trail: &mut Trail) -> Result<i64, Fail>
     ensures leads { (w : World) → DEPTH ≤ w.depth → Leads w Exact (terms_passed_of day) trail.old.count trail.new.count result }
     ensures from { IfOk result (λ q. pos 0 ≤ℤ q) }
@@ -32,7 +32,7 @@ fn terms_passed<E: Enclosure>(day: i64, trail: &mut Trail) -> Result<i64, Fail>
 
 /// The number, from 1 to 12, of the last major solar term at midnight at the beginning of a day (R.D.) in Beijing, that at 330
 /// degrees being the first: three tests at most.
-#[tactic(auto, using(book_model::proofs::Leads::leading, book_model::proofs::Solstices::major_few, crate::proofs::Rightness::major_keeps), unfolding(book_model::specs::Kinds::major_of))]
+#[tactic(auto, using(book_model::proofs::Leads::leading, crate::proofs::Solstices::major_few, crate::proofs::Rightness::major_keeps), unfolding(book_model::specs::sky::Kinds::major_of))]
 pub(crate) fn major<E: Enclosure>(day: i64, trail: &mut Trail) -> Result<i64, Fail>
     requires day { IsValueDay day }
     ensures few { AtMost 99999 (major_of day) }

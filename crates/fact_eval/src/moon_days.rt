@@ -1,14 +1,14 @@
 //! The new moons before and from a day, by the time of Beijing.
 ghost use Rattle.std.specs.Prelude.{◌≡◌, ◌≤◌, ◌+◌, IfOk, IfErr};
-ghost use Rattle.book_model.specs.Calendar.{year_of_day};
-ghost use Rattle.book_model.specs.Expressions.{World};
-ghost use Rattle.book_model.specs.Facts.{IsFactValue, IsValueDay};
-ghost use Rattle.book_model.specs.Kinds.{new_moon_before_of, new_moon_from_of};
-ghost use Rattle.book_model.specs.Leading.{Exact, Leads};
-ghost use Rattle.book_model.specs.Programs.{AtMost};
+ghost use Rattle.book_model.specs.calendars.Gregorian.{year_of_day};
+ghost use Rattle.book_model.specs.numbers.Expressions.{World};
+ghost use Rattle.book_model.specs.sky.Facts.{IsFactValue, IsValueDay};
+ghost use Rattle.book_model.specs.sky.Kinds.{new_moon_before_of, new_moon_from_of};
+ghost use Rattle.book_model.specs.programs.Leading.{Exact, Leads};
+ghost use Rattle.book_model.specs.programs.Programs.{AtMost};
 ghost use Rattle.book_model.specs.declared.fact.Kind.TheVariants.{NewMoonBefore, NewMoonFrom};
 ghost use Rattle.fact_eval.specs.Widths.{IsNearFor};
-ghost use Rattle.book_model.specs.Depth.{DEPTH};
+ghost use Rattle.book_model.specs.numbers.Depth.{DEPTH};
 
 use crate::beijing::day_in_beijing;
 use book_model::Fail;
@@ -17,7 +17,7 @@ use moon_core::{moon_before, moon_from};
 use time_scales::midnight;
 
 /// The day (R.D.) in Beijing of the last new moon before midnight at the beginning of a day there.
-#[tactic(auto, using(book_model::proofs::Leads::leading), unfolding(book_model::specs::Kinds::new_moon_before_of))]
+#[tactic(auto, using(book_model::proofs::Leads::leading), unfolding(book_model::specs::sky::Kinds::new_moon_before_of))]
 fn day_of_moon_before<E: Enclosure>(day: i64, trail: &mut Trail) -> Result<i64, Fail>
     ensures leads { (w : World) → DEPTH ≤ w.depth → Leads w Exact (new_moon_before_of day) trail.old.count trail.new.count result }
     ensures counted { trail.new.count ≤ trail.old.count + 27 }
@@ -29,7 +29,7 @@ fn day_of_moon_before<E: Enclosure>(day: i64, trail: &mut Trail) -> Result<i64, 
 }
 
 /// The day (R.D.) in Beijing of the first new moon at or after midnight at the beginning of a day there.
-#[tactic(auto, using(book_model::proofs::Leads::leading), unfolding(book_model::specs::Kinds::new_moon_from_of))]
+#[tactic(auto, using(book_model::proofs::Leads::leading), unfolding(book_model::specs::sky::Kinds::new_moon_from_of))]
 fn day_of_moon_from<E: Enclosure>(day: i64, trail: &mut Trail) -> Result<i64, Fail>
     ensures leads { (w : World) → DEPTH ≤ w.depth → Leads w Exact (new_moon_from_of day) trail.old.count trail.new.count result }
     ensures counted { trail.new.count ≤ trail.old.count + 27 }
@@ -41,7 +41,7 @@ fn day_of_moon_from<E: Enclosure>(day: i64, trail: &mut Trail) -> Result<i64, Fa
 }
 
 /// The day (R.D.) in Beijing of the last new moon before midnight at the beginning of a day there: 27 tests at most.
-#[tactic(auto, using(book_model::proofs::MoonFacts::new_moon_before_few, crate::proofs::Rightness::new_moon_before_keeps))]
+#[tactic(auto, using(crate::proofs::MoonFacts::new_moon_before_few, crate::proofs::Rightness::new_moon_before_keeps))]
 pub(crate) fn new_moon_before<E: Enclosure>(day: i64, trail: &mut Trail) -> Result<i64, Fail>
     requires day { IsValueDay day }
     ensures few { AtMost 99999 (new_moon_before_of day) }
@@ -54,7 +54,7 @@ pub(crate) fn new_moon_before<E: Enclosure>(day: i64, trail: &mut Trail) -> Resu
 }
 
 /// The day (R.D.) in Beijing of the first new moon at or after midnight at the beginning of a day there: 27 tests at most.
-#[tactic(auto, using(book_model::proofs::MoonFacts::new_moon_from_few, crate::proofs::Rightness::new_moon_from_keeps))]
+#[tactic(auto, using(crate::proofs::MoonFacts::new_moon_from_few, crate::proofs::Rightness::new_moon_from_keeps))]
 pub(crate) fn new_moon_from<E: Enclosure>(day: i64, trail: &mut Trail) -> Result<i64, Fail>
     requires day { IsValueDay day }
     ensures few { AtMost 99999 (new_moon_from_of day) }

@@ -1,13 +1,13 @@
 //! The first day of a Persian year.
 ghost use Rattle.std.specs.Prelude.{◌≤◌, ◌+◌, IfOk, IfErr};
-ghost use Rattle.book_model.specs.Calendar.{year_of_day};
-ghost use Rattle.book_model.specs.Depth.{DEPTH};
-ghost use Rattle.book_model.specs.Expressions.{World};
-ghost use Rattle.book_model.specs.Facts.{IsFactValue, IsValueDay};
-ghost use Rattle.book_model.specs.Kinds.{nowruz_of};
-ghost use Rattle.book_model.specs.Leading.{Exact, Leads};
-ghost use Rattle.book_model.specs.Noon.{noon_of};
-ghost use Rattle.book_model.specs.Programs.{AtMost};
+ghost use Rattle.book_model.specs.calendars.Gregorian.{year_of_day};
+ghost use Rattle.book_model.specs.numbers.Depth.{DEPTH};
+ghost use Rattle.book_model.specs.numbers.Expressions.{World};
+ghost use Rattle.book_model.specs.sky.Facts.{IsFactValue, IsValueDay};
+ghost use Rattle.book_model.specs.sky.Kinds.{nowruz_of};
+ghost use Rattle.book_model.specs.programs.Leading.{Exact, Leads};
+ghost use Rattle.book_model.specs.sky.Noon.{noon_of};
+ghost use Rattle.book_model.specs.programs.Programs.{AtMost};
 ghost use Rattle.book_model.specs.declared.fact.Kind.TheVariants.{Nowruz};
 ghost use Rattle.fact_eval.specs.Widths.{IsNearFor};
 
@@ -25,7 +25,7 @@ impl<E: Enclosure> DayMoment<E> for NoonAtTehran {
 
     ghost most = { 1 };
 
-    #[tactic(auto, unfolding(book_model::specs::Leading::next_turn))]
+    #[tactic(auto, unfolding(book_model::specs::programs::Leading::next_turn))]
     fn at(self, day: i64, trail: &mut Trail) -> Result<E, Fail> {
         noon::<E>(day, trail)
     }
@@ -33,7 +33,7 @@ impl<E: Enclosure> DayMoment<E> for NoonAtTehran {
 
 /// The first day (R.D.) of the Persian year in which a day falls, by true noon at Tehran. It is void at `search` where there is
 /// none.
-#[tactic(auto, using(book_model::proofs::NewYears::nowruz_few, crate::proofs::Rightness::nowruz_keeps))]
+#[tactic(auto, using(sun_core::proofs::NewYears::nowruz_few, crate::proofs::Rightness::nowruz_keeps))]
 pub(crate) fn nowruz<E: Enclosure>(day: i64, trail: &mut Trail) -> Result<i64, Fail>
     requires day { IsValueDay day }
     ensures few { AtMost 99999 (nowruz_of day) }

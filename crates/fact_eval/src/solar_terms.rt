@@ -1,12 +1,12 @@
 //! The days in Beijing of the next major and minor solar terms.
 ghost use Rattle.std.specs.Prelude.{◌≡◌, ◌≤◌, ◌+◌, pos, ◌≤ℤ◌, IfOk};
-ghost use Rattle.book_model.specs.Depth.{DEPTH};
-ghost use Rattle.book_model.specs.Expressions.{World};
-ghost use Rattle.book_model.specs.Facts.{IsFactValue, IsValueDay};
-ghost use Rattle.book_model.specs.Kinds as spec;
-ghost use Rattle.book_model.specs.Leading.{Exact, Leads};
-ghost use Rattle.book_model.specs.Programs.{AtMost};
-ghost use Rattle.book_model.proofs.TermDays.{IsSpan};
+ghost use Rattle.book_model.specs.numbers.Depth.{DEPTH};
+ghost use Rattle.book_model.specs.numbers.Expressions.{World};
+ghost use Rattle.book_model.specs.sky.Facts.{IsFactValue, IsValueDay};
+ghost use Rattle.book_model.specs.sky.Kinds as spec;
+ghost use Rattle.book_model.specs.programs.Leading.{Exact, Leads};
+ghost use Rattle.book_model.specs.programs.Programs.{AtMost};
+ghost use Rattle.fact_eval.specs.Spans.{IsSpan};
 
 use crate::beijing::{day_in_beijing, longitude_at_midnight};
 use book_model::{DEGREE_IN_TERMS, Fail, Site};
@@ -20,7 +20,7 @@ const TERM_DEGREES: i64 = 30;
 
 /// The whole spans of 30 degrees, rounded down, from the sun to a longitude in degrees, at midnight at the beginning of a day (R.D.) in
 /// Beijing: three tests at most.
-#[tactic(auto, using(book_model::proofs::Leads::leading), unfolding(book_model::specs::Kinds::spans_short_of, book_model::specs::Leading::next_turn))]
+#[tactic(auto, using(book_model::proofs::Leads::leading), unfolding(book_model::specs::sky::Kinds::spans_short_of, book_model::specs::programs::Leading::next_turn))]
 fn floor_of_spans<E: Enclosure>(longitude: i64, day: i64, trail: &mut Trail) -> Result<i64, Fail>
     ensures leads { (w : World) → DEPTH ≤ w.depth → Leads w Exact (spec.spans_short_of longitude day) trail.old.count trail.new.count result }
     ensures counted { trail.new.count ≤ trail.old.count + 3 }
@@ -46,7 +46,7 @@ fn spans_short<E: Enclosure>(first: i64, day: i64, trail: &mut Trail) -> Result<
 }
 
 /// The longitude, from 0 to 359 degrees, that lies so many spans of 30 degrees before the first.
-#[tactic(auto, unfolding(book_model::specs::Kinds::term_longitude))]
+#[tactic(auto, unfolding(book_model::specs::sky::Kinds::term_longitude))]
 fn term_longitude(first: i64, spans: i64) -> i64
     requires from { pos 0 ≤ℤ first }
     requires to { first ≤ℤ pos 15 }
@@ -57,7 +57,7 @@ fn term_longitude(first: i64, spans: i64) -> i64
 }
 
 /// The day (R.D.) in Beijing on which the sun is next at a longitude, in degrees, once a day has begun there: 326 tests at most.
-#[tactic(auto, using(book_model::proofs::Leads::leading), unfolding(book_model::specs::Kinds::longitude_day_of))]
+#[tactic(auto, using(book_model::proofs::Leads::leading), unfolding(book_model::specs::sky::Kinds::longitude_day_of))]
 fn longitude_day<E: Enclosure>(longitude: i64, day: i64, trail: &mut Trail) -> Result<i64, Fail>
     ensures leads { (w : World) → DEPTH ≤ w.depth → Leads w Exact (spec.longitude_day_of longitude day) trail.old.count trail.new.count result }
     ensures counted { trail.new.count ≤ trail.old.count + 326 }
@@ -69,7 +69,7 @@ fn longitude_day<E: Enclosure>(longitude: i64, day: i64, trail: &mut Trail) -> R
 }
 
 /// The day of the next term, whose longitude is a multiple of 30 degrees past the first.
-#[tactic(auto, using(book_model::proofs::Leads::leading), unfolding(book_model::specs::Kinds::term_day_of))]
+#[tactic(auto, using(book_model::proofs::Leads::leading), unfolding(book_model::specs::sky::Kinds::term_day_of))]
 fn next_term_day<E: Enclosure>(first: i64, day: i64, trail: &mut Trail) -> Result<i64, Fail>
     requires from { pos 0 ≤ℤ first }
     requires to { first ≤ℤ pos 15 }
@@ -84,7 +84,7 @@ fn next_term_day<E: Enclosure>(first: i64, day: i64, trail: &mut Trail) -> Resul
 
 /// The day (R.D.) in Beijing on which the sun comes to the first of the longitudes of the terms once a day has begun there: those 30
 /// degrees apart, the least of which is `first`, 0 for the major terms and 15 for the minor. 329 tests at most.
-#[tactic(auto, using(book_model::proofs::TermDays::term_day_few))]
+#[tactic(auto, using(crate::proofs::TermDays::term_day_few))]
 pub(crate) fn term_day<E: Enclosure>(first: i64, day: i64, trail: &mut Trail) -> Result<i64, Fail>
     requires from { pos 0 ≤ℤ first }
     requires to { first ≤ℤ pos 15 }

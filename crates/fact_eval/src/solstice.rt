@@ -1,13 +1,13 @@
 //! The day of the last winter solstice in Beijing.
 ghost use Rattle.std.specs.Prelude.{◌≡◌, ◌≤◌, ◌+◌, pos, ◌≤ℤ◌, ◌+ℤ◌, ◌-ℤ◌, ℤ, IfOk, IfErr};
-ghost use Rattle.book_model.specs.Calendar.{year_of_day};
-ghost use Rattle.book_model.specs.Depth.{DEPTH};
-ghost use Rattle.book_model.specs.Expressions.{Expression, World};
-ghost use Rattle.book_model.specs.Facts.{IsFactDay, IsFactValue, IsValueDay};
-ghost use Rattle.book_model.specs.Kinds.{is_past_winter_of, has_winter_at_end, last_solstice_of, solstice_start_of, solstice_of};
-ghost use Rattle.book_model.specs.Leading.{Exact, Leads};
-ghost use Rattle.book_model.specs.Programs.{AtMost};
-ghost use Rattle.book_model.specs.Relations.{Within};
+ghost use Rattle.book_model.specs.calendars.Gregorian.{year_of_day};
+ghost use Rattle.book_model.specs.numbers.Depth.{DEPTH};
+ghost use Rattle.book_model.specs.numbers.Expressions.{Expression, World};
+ghost use Rattle.book_model.specs.sky.Facts.{IsFactDay, IsFactValue, IsValueDay};
+ghost use Rattle.book_model.specs.sky.Kinds.{is_past_winter_of, has_winter_at_end, last_solstice_of, solstice_start_of, solstice_of};
+ghost use Rattle.book_model.specs.programs.Leading.{Exact, Leads};
+ghost use Rattle.book_model.specs.programs.Programs.{AtMost};
+ghost use Rattle.book_model.specs.numbers.Relations.{Within};
 ghost use Rattle.book_model.specs.declared.fact.Kind.TheVariants.{Solstice};
 ghost use Rattle.fact_eval.specs.Widths.{IsNearFor};
 
@@ -24,7 +24,7 @@ const WINTER: i64 = 270;
 struct WinterAtEnd;
 
 /// Whether a longitude is past the winter solstice, as one test.
-#[tactic(auto, using(book_model::proofs::Leads::leading), unfolding(book_model::specs::Kinds::is_past_winter_of, book_model::specs::Leading::next_turn))]
+#[tactic(auto, using(book_model::proofs::Leads::leading), unfolding(book_model::specs::sky::Kinds::is_past_winter_of, book_model::specs::programs::Leading::next_turn))]
 fn is_past_winter<E: Enclosure>(longitude: E, trail: &mut Trail) -> Result<bool, Fail>
     ensures leads { (w : World) (x : Expression) → DEPTH ≤ w.depth → Within E.shown w x longitude → Leads w Exact (is_past_winter_of x) trail.old.count trail.new.count result }
     ensures counted { trail.new.count ≤ trail.old.count + 1 }
@@ -33,7 +33,7 @@ fn is_past_winter<E: Enclosure>(longitude: E, trail: &mut Trail) -> Result<bool,
 }
 
 /// The test of a day (R.D.): three tests at most.
-#[tactic(auto, using(book_model::proofs::Leads::leading), unfolding(book_model::specs::Kinds::has_winter_at_end, book_model::specs::Leading::next_turn))]
+#[tactic(auto, using(book_model::proofs::Leads::leading), unfolding(book_model::specs::sky::Kinds::has_winter_at_end, book_model::specs::programs::Leading::next_turn))]
 fn has_winter<E: Enclosure>(day: i64, trail: &mut Trail) -> Result<bool, Fail>
     requires day { IsFactDay day }
     ensures leads { (w : World) → DEPTH ≤ w.depth → Leads w Exact (has_winter_at_end day) trail.old.count trail.new.count result }
@@ -57,7 +57,7 @@ impl<E: Enclosure> DayTest<E> for WinterAtEnd {
 
 /// The moment at which, as is estimated, the sun was last at the winter solstice before a day (R.D.) ends in Beijing: six tests
 /// at most.
-#[tactic(auto, using(book_model::proofs::Leads::leading), unfolding(book_model::specs::Kinds::last_solstice_of, book_model::specs::Leading::next_turn))]
+#[tactic(auto, using(book_model::proofs::Leads::leading), unfolding(book_model::specs::sky::Kinds::last_solstice_of, book_model::specs::programs::Leading::next_turn))]
 fn last_solstice<E: Enclosure>(day: i64, trail: &mut Trail) -> Result<E, Fail>
     requires day { IsFactDay day }
     ensures leads { (w : World) → DEPTH ≤ w.depth → Leads w (Within E.shown w) (last_solstice_of day) trail.old.count trail.new.count result }
@@ -68,7 +68,7 @@ fn last_solstice<E: Enclosure>(day: i64, trail: &mut Trail) -> Result<E, Fail>
 
 /// The day (R.D.) of the moment at which, as is estimated, the sun was last at the winter solstice before a day ends in
 /// Beijing: seven tests at most.
-#[tactic(auto, using(book_model::proofs::Leads::leading), unfolding(book_model::specs::Kinds::solstice_start_of, book_model::specs::Leading::next_turn))]
+#[tactic(auto, using(book_model::proofs::Leads::leading), unfolding(book_model::specs::sky::Kinds::solstice_start_of, book_model::specs::programs::Leading::next_turn))]
 fn search_start<E: Enclosure>(day: i64, trail: &mut Trail) -> Result<i64, Fail>
     requires day { IsValueDay day }
     ensures leads { (w : World) → DEPTH ≤ w.depth → Leads w Exact (solstice_start_of day) trail.old.count trail.new.count result }
@@ -84,7 +84,7 @@ fn search_start<E: Enclosure>(day: i64, trail: &mut Trail) -> Result<i64, Fail>
 
 /// The day (R.D.) of the last winter solstice in Beijing before a day ends there: the first from the day before the estimated
 /// one on, of 46, at whose end the sun is past the solstice. It is void at `search` where there is none.
-#[tactic(auto, using(book_model::proofs::Leads::leading, book_model::proofs::Solstices::solstice_few, crate::proofs::Rightness::solstice_keeps), unfolding(book_model::specs::Kinds::solstice_of))]
+#[tactic(auto, using(book_model::proofs::Leads::leading, crate::proofs::Solstices::solstice_few, crate::proofs::Rightness::solstice_keeps), unfolding(book_model::specs::sky::Kinds::solstice_of))]
 pub(crate) fn solstice<E: Enclosure>(day: i64, trail: &mut Trail) -> Result<i64, Fail>
     requires day { IsValueDay day }
     ensures few { AtMost 99999 (solstice_of day) }

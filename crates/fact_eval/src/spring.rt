@@ -1,12 +1,12 @@
 //! The day by whose moment, as true noon or sunset at a place, the sun has just passed the spring equinox: the first of a year.
 ghost use Rattle.std.specs.Prelude.{◌≡◌, ◌≤◌, ◌+◌, ◌*◌, pos, negsuc, ◌≤ℤ◌, ◌+ℤ◌, ◌-ℤ◌, ℕ, ℤ, Bool, IfOk};
-ghost use Rattle.book_model.specs.Depth.{DEPTH};
-ghost use Rattle.book_model.specs.Expressions.{Expression, World};
-ghost use Rattle.book_model.specs.Facts.{IsFactDay, IsFactValue, IsValueDay};
-ghost use Rattle.book_model.specs.Kinds.{longitude_at_of, is_at_most_two_of, has_spring_at, last_equinox_of, search_start_of, spring_day_of};
-ghost use Rattle.book_model.specs.Leading.{Exact, Leads};
-ghost use Rattle.book_model.specs.Programs.{Program};
-ghost use Rattle.book_model.specs.Relations.{Within};
+ghost use Rattle.book_model.specs.numbers.Depth.{DEPTH};
+ghost use Rattle.book_model.specs.numbers.Expressions.{Expression, World};
+ghost use Rattle.book_model.specs.sky.Facts.{IsFactDay, IsFactValue, IsValueDay};
+ghost use Rattle.book_model.specs.sky.Kinds.{longitude_at_of, is_at_most_two_of, has_spring_at, last_equinox_of, search_start_of, spring_day_of};
+ghost use Rattle.book_model.specs.programs.Leading.{Exact, Leads};
+ghost use Rattle.book_model.specs.programs.Programs.{Program};
+ghost use Rattle.book_model.specs.numbers.Relations.{Within};
 
 use book_model::{Fail, Site};
 use encl_core::{DayTest, Enclosure, Trail, first_day, floor_step, less_step};
@@ -35,7 +35,7 @@ struct SpringAt<M> {
 }
 
 /// The longitude of the sun at a moment of a day (R.D.).
-#[tactic(auto, using(book_model::proofs::Leads::leading), unfolding(book_model::specs::Kinds::longitude_at_of, book_model::specs::Leading::next_turn))]
+#[tactic(auto, using(book_model::proofs::Leads::leading), unfolding(book_model::specs::sky::Kinds::longitude_at_of, book_model::specs::programs::Leading::next_turn))]
 fn longitude_at<E: Enclosure, M: DayMoment<E>>(
     moment: M,
     day: i64,
@@ -52,7 +52,7 @@ fn longitude_at<E: Enclosure, M: DayMoment<E>>(
 }
 
 /// Whether a longitude is at most 2 degrees, as one test.
-#[tactic(auto, using(book_model::proofs::Leads::leading), unfolding(book_model::specs::Kinds::is_at_most_two_of, book_model::specs::Leading::next_turn))]
+#[tactic(auto, using(book_model::proofs::Leads::leading), unfolding(book_model::specs::sky::Kinds::is_at_most_two_of, book_model::specs::programs::Leading::next_turn))]
 fn is_at_most_two<E: Enclosure>(longitude: E, trail: &mut Trail) -> Result<bool, Fail>
     ensures leads { (w : World) (x : Expression) → DEPTH ≤ w.depth → Within E.shown w x longitude → Leads w Exact (is_at_most_two_of x) trail.old.count trail.new.count result }
     ensures counted { trail.new.count ≤ trail.old.count + 1 }
@@ -64,7 +64,7 @@ fn is_at_most_two<E: Enclosure>(longitude: E, trail: &mut Trail) -> Result<bool,
 }
 
 /// The test of a day (R.D.).
-#[tactic(auto, using(book_model::proofs::Leads::leading), unfolding(book_model::specs::Kinds::has_spring_at, book_model::specs::Leading::next_turn))]
+#[tactic(auto, using(book_model::proofs::Leads::leading), unfolding(book_model::specs::sky::Kinds::has_spring_at, book_model::specs::programs::Leading::next_turn))]
 fn has_spring<E: Enclosure, M: DayMoment<E>>(
     moment: M,
     day: i64,
@@ -91,7 +91,7 @@ impl<E: Enclosure, M: DayMoment<E>> DayTest<E> for SpringAt<M> {
 }
 
 /// The moment at which, as is estimated, the sun was last at the spring equinox before a moment of a day (R.D.).
-#[tactic(auto, using(book_model::proofs::Leads::leading), unfolding(book_model::specs::Kinds::last_equinox_of, book_model::specs::Leading::next_turn))]
+#[tactic(auto, using(book_model::proofs::Leads::leading), unfolding(book_model::specs::sky::Kinds::last_equinox_of, book_model::specs::programs::Leading::next_turn))]
 fn last_equinox<E: Enclosure, M: DayMoment<E>>(
     moment: M,
     day: i64,
@@ -108,7 +108,7 @@ fn last_equinox<E: Enclosure, M: DayMoment<E>>(
 }
 
 /// The day (R.D.) of the moment at which the sun was last at the equinox before a moment of a day, as it is estimated.
-#[tactic(auto, using(book_model::proofs::Leads::leading), unfolding(book_model::specs::Kinds::search_start_of, book_model::specs::Leading::next_turn))]
+#[tactic(auto, using(book_model::proofs::Leads::leading), unfolding(book_model::specs::sky::Kinds::search_start_of, book_model::specs::programs::Leading::next_turn))]
 fn search_start<E: Enclosure, M: DayMoment<E>>(
     moment: M,
     day: i64,
@@ -129,7 +129,7 @@ fn search_start<E: Enclosure, M: DayMoment<E>>(
 /// The day (R.D.) by whose moment the sun has just passed the spring equinox, the last until a day: the first from the day
 /// before the estimated equinox on, of 46, at whose moment the longitude of the sun is at most 2 degrees. It is void at
 /// `search` where there is none.
-#[tactic(auto, using(book_model::proofs::Leads::leading), unfolding(book_model::specs::Kinds::spring_day_of))]
+#[tactic(auto, using(book_model::proofs::Leads::leading), unfolding(book_model::specs::sky::Kinds::spring_day_of))]
 pub(crate) fn spring_day<E: Enclosure, M: DayMoment<E>>(
     moment: M,
     day: i64,

@@ -1,16 +1,16 @@
 //! The evaluator of the program: each fact's formula over enclosures.
 ghost use Rattle.std.specs.Prelude.{◌≡◌, ◌≤◌, IfOk, IfErr, IsTrue};
 ghost use Rattle.book_model.specs.declared.fact.TheConstants.{FIRST_DAY as first_day, LAST_DAY as last_day};
-ghost use Rattle.book_model.specs.Calendar.{year_of_day};
-ghost use Rattle.book_model.specs.Correction.{is_between};
-ghost use Rattle.book_model.specs.Expressions.{World};
-ghost use Rattle.book_model.specs.Facts.{IsFactValue, IsValueDay, formula_of, program_of};
-ghost use Rattle.book_model.specs.Leading.{Exact, Leads};
-ghost use Rattle.book_model.specs.Programs.{AtMost};
+ghost use Rattle.book_model.specs.calendars.Gregorian.{year_of_day};
+ghost use Rattle.book_model.specs.sky.Correction.{is_between};
+ghost use Rattle.book_model.specs.numbers.Expressions.{World};
+ghost use Rattle.book_model.specs.sky.Facts.{IsFactValue, IsValueDay, formula_of, program_of};
+ghost use Rattle.book_model.specs.programs.Leading.{Exact, Leads};
+ghost use Rattle.book_model.specs.programs.Programs.{AtMost};
 ghost use Rattle.oracle_core.specs.Answers.{IsRightAnswer};
 ghost use Rattle.fact_eval.specs.Answers.{answer_of};
 ghost use Rattle.fact_eval.specs.Widths.{IsNearFor};
-ghost use Rattle.book_model.specs.Depth.{DEPTH};
+ghost use Rattle.book_model.specs.numbers.Depth.{DEPTH};
 
 use crate::dt::dt;
 use crate::major::major;
@@ -41,7 +41,7 @@ impl Staged {
 }
 
 /// The value that the formula of a kind of fact gives at a place on a day (R.D.): one line for each kind.
-#[tactic(auto, using(crate::proofs::Rightness::keeping), unfolding(book_model::specs::Facts::formula_of))]
+#[tactic(auto, using(crate::proofs::Rightness::keeping), unfolding(book_model::specs::sky::Facts::formula_of))]
 fn formula<E: Enclosure>(kind: Kind, place: Place, day: i64, trail: &mut Trail) -> Result<i64, Fail>
     requires day { IsValueDay day }
     ensures few { AtMost 99999 (formula_of kind place day) }

@@ -1,14 +1,14 @@
 //! The longitude of the sun at the beginning of a day.
 ghost use Rattle.std.specs.Prelude.{◌≡◌, ◌≤◌, ◌+◌, IfOk, IfErr};
-ghost use Rattle.book_model.specs.Calendar.{year_of_day};
-ghost use Rattle.book_model.specs.Expressions.{World};
-ghost use Rattle.book_model.specs.Facts.{IsFactValue, IsValueDay};
-ghost use Rattle.book_model.specs.Kinds.{sun_in_thousandths_of};
+ghost use Rattle.book_model.specs.calendars.Gregorian.{year_of_day};
+ghost use Rattle.book_model.specs.numbers.Expressions.{World};
+ghost use Rattle.book_model.specs.sky.Facts.{IsFactValue, IsValueDay};
+ghost use Rattle.book_model.specs.sky.Kinds.{sun_in_thousandths_of};
 ghost use Rattle.book_model.specs.declared.fact.Kind.TheVariants.{Sun};
-ghost use Rattle.book_model.specs.Programs.{AtMost};
-ghost use Rattle.book_model.specs.Leading.{Exact, Leads};
+ghost use Rattle.book_model.specs.programs.Programs.{AtMost};
+ghost use Rattle.book_model.specs.programs.Leading.{Exact, Leads};
 ghost use Rattle.fact_eval.specs.Widths.{IsNearFor};
-ghost use Rattle.book_model.specs.Depth.{DEPTH};
+ghost use Rattle.book_model.specs.numbers.Depth.{DEPTH};
 
 use book_model::{Fail, Site, THOUSANDTHS_OF_DEGREE};
 use encl_core::{Enclosure, Trail, floor_step};
@@ -16,7 +16,7 @@ use sun_core::sun;
 
 /// The longitude of the sun at 0 h universal time of a day, in thousandths of a degree, rounded down: three tests, of
 /// which that of the year is never open.
-#[tactic(auto, using(book_model::proofs::Leads::leading, book_model::proofs::FactRuns::sun_in_thousandths_few), unfolding(book_model::specs::Kinds::sun_in_thousandths_of, book_model::specs::Leading::next_turn))]
+#[tactic(auto, using(book_model::proofs::Leads::leading, book_model::proofs::FactRuns::sun_in_thousandths_few), unfolding(book_model::specs::sky::Kinds::sun_in_thousandths_of, book_model::specs::programs::Leading::next_turn))]
 pub(crate) fn sun_in_thousandths<E: Enclosure>(day: i64, trail: &mut Trail) -> Result<i64, Fail>
     requires day { IsValueDay day }
     ensures few { AtMost 99999 (sun_in_thousandths_of day) }

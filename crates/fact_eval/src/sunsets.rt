@@ -1,15 +1,15 @@
 //! The first day of a Bahá'í year, and sunset in minutes.
 ghost use Rattle.std.specs.Prelude.{◌≡◌, ◌≤◌, ◌+◌, ℤ, IfOk, IfErr};
-ghost use Rattle.book_model.specs.Calendar.{year_of_day};
-ghost use Rattle.book_model.specs.Correction.{rounded_of};
-ghost use Rattle.book_model.specs.Depth.{DEPTH};
-ghost use Rattle.book_model.specs.Expressions.{Expression, World};
-ghost use Rattle.book_model.specs.Facts.{IsFactValue, IsValueDay};
-ghost use Rattle.book_model.specs.Horizon.{sunset_of};
-ghost use Rattle.book_model.specs.Kinds.{bahai_year_of, location_of as location_at, minutes_of, sunset_in_minutes_of};
-ghost use Rattle.book_model.specs.Leading.{Exact, Leads};
-ghost use Rattle.book_model.specs.Programs.{AtMost};
-ghost use Rattle.book_model.specs.Relations.{Within};
+ghost use Rattle.book_model.specs.calendars.Gregorian.{year_of_day};
+ghost use Rattle.book_model.specs.sky.Correction.{rounded_of};
+ghost use Rattle.book_model.specs.numbers.Depth.{DEPTH};
+ghost use Rattle.book_model.specs.numbers.Expressions.{Expression, World};
+ghost use Rattle.book_model.specs.sky.Facts.{IsFactValue, IsValueDay};
+ghost use Rattle.book_model.specs.sky.Horizon.{sunset_of};
+ghost use Rattle.book_model.specs.sky.Kinds.{bahai_year_of, location_of as location_at, minutes_of, sunset_in_minutes_of};
+ghost use Rattle.book_model.specs.programs.Leading.{Exact, Leads};
+ghost use Rattle.book_model.specs.programs.Programs.{AtMost};
+ghost use Rattle.book_model.specs.numbers.Relations.{Within};
 ghost use Rattle.book_model.specs.declared.fact.Kind.TheVariants.{BahaiYear, Sunset};
 ghost use Rattle.book_model.specs.declared.location_tables.TheConstants.{TEHRAN as tehran};
 ghost use Rattle.fact_eval.specs.Widths.{IsNearFor};
@@ -35,7 +35,7 @@ impl<E: Enclosure> DayMoment<E> for SunsetAtTehran {
 
 /// The first day (R.D.) of the Bahá'í year in which a day falls, by sunset at Tehran. It is void at `search` where there is none, and
 /// where a sunset is.
-#[tactic(auto, using(book_model::proofs::Horizons::bahai_year_few, crate::proofs::Rightness::bahai_year_keeps))]
+#[tactic(auto, using(rise_set::proofs::Horizons::bahai_year_few, crate::proofs::Rightness::bahai_year_keeps))]
 pub(crate) fn bahai_year<E: Enclosure>(day: i64, trail: &mut Trail) -> Result<i64, Fail>
     requires day { IsValueDay day }
     ensures few { AtMost 99999 (bahai_year_of day) }
@@ -59,7 +59,7 @@ pub(crate) fn location_of(place: Place) -> Location
 }
 
 /// A moment of universal time on a day (R.D.) as minutes of the standard time of a location after midnight.
-#[tactic(auto, unfolding(book_model::specs::Kinds::minutes_of))]
+#[tactic(auto, unfolding(book_model::specs::sky::Kinds::minutes_of))]
 fn minutes<E: Enclosure>(location: &Location, day: i64, t: E) -> E
     ensures holds { (w : World) (x : Expression) → DEPTH ≤ w.depth → Within E.shown w x t → Within E.shown w (minutes_of location.now day x) result }
 {
@@ -69,7 +69,7 @@ fn minutes<E: Enclosure>(location: &Location, day: i64, t: E) -> E
 }
 
 /// A number rounded, the greater of two: one test.
-#[tactic(auto, using(book_model::proofs::Leads::leading), unfolding(book_model::specs::Correction::rounded_of, book_model::specs::Leading::next_turn))]
+#[tactic(auto, using(book_model::proofs::Leads::leading), unfolding(book_model::specs::sky::Correction::rounded_of, book_model::specs::programs::Leading::next_turn))]
 fn rounded<E: Enclosure>(number: E, trail: &mut Trail) -> Result<i64, Fail>
     ensures leads { (w : World) (x : Expression) → DEPTH ≤ w.depth → Within E.shown w x number → Leads w Exact (rounded_of x) trail.old.count trail.new.count result }
     ensures counted { trail.new.count ≤ trail.old.count + 1 }
@@ -78,7 +78,7 @@ fn rounded<E: Enclosure>(number: E, trail: &mut Trail) -> Result<i64, Fail>
 }
 
 /// Sunset on a day (R.D.) at a location, in minutes of its standard time after midnight, rounded.
-#[tactic(auto, using(book_model::proofs::Leads::leading), unfolding(book_model::specs::Kinds::sunset_in_minutes_of))]
+#[tactic(auto, using(book_model::proofs::Leads::leading), unfolding(book_model::specs::sky::Kinds::sunset_in_minutes_of))]
 fn minutes_of_sunset<E: Enclosure>(
     location: &Location,
     day: i64,
@@ -95,7 +95,7 @@ fn minutes_of_sunset<E: Enclosure>(
 
 /// Sunset on a day (R.D.) at a place, in minutes of its standard time after midnight, rounded: 133 tests at most. It is void
 /// where sunset is.
-#[tactic(auto, using(book_model::proofs::Horizons::sunset_in_minutes_few, crate::proofs::Rightness::sunset_keeps))]
+#[tactic(auto, using(rise_set::proofs::Horizons::sunset_in_minutes_few, crate::proofs::Rightness::sunset_keeps))]
 pub(crate) fn sunset_in_minutes<E: Enclosure>(
     place: Place,
     day: i64,

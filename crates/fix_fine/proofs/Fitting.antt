@@ -7,15 +7,15 @@ use Rattle.std.proofs.lemmas.Int.{ints}
 use Rattle.std.proofs.lemmas.Bool.{ltb-true}
 use lib.Signed.{≤ℤ_refl}
 use Rattle.exact_math.specs.Interval.{Interval, everything, between}
-use Rattle.book_model.specs.Bounds.{Bound, unbounded, bounded, range_size, ceil_div, limited, product_bound, power_bound, root_bound, quotient_bound, IsNarrow}
+use Rattle.book_model.specs.numbers.Bounds.{Bound, unbounded, bounded, range_size, ceil_div, limited, product_bound, power_bound, root_bound, quotient_bound, IsNarrow}
 use Rattle.fix_fine.specs.Quotients.{HasFineQuotient, HaveFineQuotients}
 use Rattle.fix_fine.specs.Room.{IsRoomy, AreRoomy}
-use Rattle.encl_core.specs.Rounding.{IsLeastBy, IsGreatestBy}
-use Rattle.encl_core.specs.Scales.{fine, at_scale, limits_on}
-use Rattle.encl_core.proofs.Keeping.{AreKept, kept_of, both}
-use Rattle.encl_core.proofs.Products.{IsBounded, corner_sized, sized, ceil_above}
-use Rattle.book_model.specs.Leading.{AreEnds, AreNoBounds, no_bounds, IsOpenCell, too_far}
-use Rattle.book_model.specs.Programs.{integers, cell_at}
+use Rattle.scaled_ends.specs.Rounding.{IsLeastBy, IsGreatestBy}
+use Rattle.scaled_ends.specs.Scales.{fine, at_scale, limits_on}
+use Rattle.scaled_ends.proofs.Keeping.{AreKept, kept_of, both}
+use Rattle.scaled_ends.proofs.Products.{IsBounded, corner_sized, sized, ceil_above}
+use Rattle.book_model.specs.programs.Leading.{AreEnds, AreNoBounds, no_bounds, IsOpenCell, too_far}
+use Rattle.book_model.specs.programs.Programs.{integers, cell_at}
 
 -- a number that 128 bits have room for
 pub roomy_fits : (p : ℤ) → IsRoomy p → SFits w128 p

@@ -3,7 +3,7 @@ use Rattle.std.specs.Prelude.{Option, Some, None}
 use Rattle.std.proofs.Common.{arith}
 use Rattle.std.proofs.lemmas.Int.{ints}
 use Rattle.exact_math.specs.Interval.{Interval, everything, between, IsProper}
-use Rattle.encl_core.specs.Scales.{fine, at_scale}
+use Rattle.scaled_ends.specs.Scales.{fine, at_scale}
 use Rattle.fix_fine.specs.declared.ends.FineEnds.{FineEnds}
 use Rattle.fix_fine.specs.declared.fine.Fine.{Fine}
 

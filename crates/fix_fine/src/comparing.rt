@@ -1,8 +1,8 @@
 //! The tests on ends that count 2⁻⁵⁶.
 ghost use Rattle.std.specs.Prelude.{◌≡◌, ◌^◌, ◌-◌, IfSome, Some, IsNone};
 ghost use Rattle.exact_math.specs.Fraction.{floor_quotient};
-ghost use Rattle.book_model.specs.Programs.{integers, cell_at, compare_at};
-ghost use Rattle.book_model.specs.Leading.{AreEnds};
+ghost use Rattle.book_model.specs.programs.Programs.{integers, cell_at, compare_at};
+ghost use Rattle.book_model.specs.programs.Leading.{AreEnds};
 ghost use Rattle.fix_fine.specs.Shown.{shown_ends};
 
 use crate::ends::FineEnds;

@@ -1,9 +1,9 @@
 //! Quotients of ends that count 2⁻⁵⁶, rounded outwards.
 ghost use Rattle.std.specs.Prelude.{ℕ, pos, ◌^◌, ◌*ℤ◌, ◌≤ℤ◌, ◌<ℤ◌, IfSome, IsSome};
 ghost use Rattle.exact_math.specs.Interval.{◌⊆◌, quotient, between};
-ghost use Rattle.book_model.specs.Bounds.{Bound, IsNarrow, quotient_bound};
-ghost use Rattle.encl_core.specs.Rounding.{IsLeastBy, IsGreatestBy, AreQuotientsAt};
-ghost use Rattle.encl_core.specs.Scales.{fine, at_scale, limits_on};
+ghost use Rattle.book_model.specs.numbers.Bounds.{Bound, IsNarrow, quotient_bound};
+ghost use Rattle.scaled_ends.specs.Rounding.{IsLeastBy, IsGreatestBy, AreQuotientsAt};
+ghost use Rattle.scaled_ends.specs.Scales.{fine, at_scale, limits_on};
 ghost use Rattle.fix_fine.specs.Shown.{shown_ends};
 ghost use Rattle.fix_fine.specs.Quotients.{HasFineQuotient, HaveFineQuotients, HasParts};
 ghost use Rattle.rounded_quotients.specs.Rounding.{IsFloor, IsCeiling};

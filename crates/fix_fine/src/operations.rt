@@ -2,10 +2,10 @@
 ghost use Rattle.std.specs.Prelude.{◌<◌, ◌^◌, ℕ, pos, ◌+ℤ◌, ◌-ℤ◌, ◌≤ℤ◌, IfSome, IsSome, unsigned_abs};
 ghost use Rattle.exact_math.specs.Fraction.{whole as whole_number};
 ghost use Rattle.exact_math.specs.Interval.{◌⊆◌, sum, difference, negative, product, widen, between};
-ghost use Rattle.book_model.specs.Fractions.{fraction_of};
-ghost use Rattle.book_model.specs.Bounds.{Bound, IsNarrow, integer_bound, constant_bound, sum_bound, scaled_bound, difference_bound, negated_bound, widen_bound};
-ghost use Rattle.encl_core.specs.Scales.{fine, limits_on};
-ghost use Rattle.encl_core.specs.Rounding.{IsMarginAt, ShowsEnds};
+ghost use Rattle.book_model.specs.numbers.Fractions.{fraction_of};
+ghost use Rattle.book_model.specs.numbers.Bounds.{Bound, IsNarrow, integer_bound, constant_bound, sum_bound, scaled_bound, difference_bound, negated_bound, widen_bound};
+ghost use Rattle.scaled_ends.specs.Scales.{fine, limits_on};
+ghost use Rattle.scaled_ends.specs.Rounding.{IsMarginAt, ShowsEnds};
 ghost use Rattle.fix_fine.specs.Shown.{shown_ends};
 
 use crate::ends::FineEnds;

@@ -2,9 +2,9 @@
 ghost use Rattle.std.specs.Prelude.{◌≡◌, ◌^◌, ℕ, pos, ◌*ℤ◌, ◌≤ℤ◌, IfSome, IsSome, IsNone, FitsSigned};
 ghost use Rattle.std.specs.Int.{w128};
 ghost use Rattle.exact_math.specs.Interval.{◌⊆◌, product, power};
-ghost use Rattle.book_model.specs.Bounds.{Bound, IsNarrow, product_bound, power_bound};
-ghost use Rattle.encl_core.specs.Rounding.{least_square_of};
-ghost use Rattle.encl_core.specs.Scales.{fine, limits_on};
+ghost use Rattle.book_model.specs.numbers.Bounds.{Bound, IsNarrow, product_bound, power_bound};
+ghost use Rattle.scaled_ends.specs.Rounding.{least_square_of};
+ghost use Rattle.scaled_ends.specs.Scales.{fine, limits_on};
 ghost use Rattle.fix_fine.specs.Shown.{shown_ends};
 ghost use Rattle.fix_fine.specs.Room.{AreRoomy};
 ghost use Rattle.rounded_quotients.specs.Rounding.{IsFloor, IsCeiling, IsBelowFour, IsAboveFour, IsAboveEachBelow, IsBelowEachAbove};

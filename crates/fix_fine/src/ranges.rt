@@ -1,7 +1,7 @@
 //! The lesser and the greater of ends that count 2⁻⁵⁶, and what lies between them.
 ghost use Rattle.std.specs.Prelude.{ℕ};
 ghost use Rattle.exact_math.specs.Interval.{◌⊆◌, minimum, maximum, hull};
-ghost use Rattle.book_model.specs.Bounds.{Bound, IsNarrow, minimum_bound, maximum_bound, hull_bound};
+ghost use Rattle.book_model.specs.numbers.Bounds.{Bound, IsNarrow, minimum_bound, maximum_bound, hull_bound};
 ghost use Rattle.fix_fine.specs.Shown.{shown_ends};
 
 use crate::ends::FineEnds;

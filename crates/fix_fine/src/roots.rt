@@ -2,10 +2,10 @@
 ghost use Rattle.std.specs.Prelude.{◌≡◌, ℕ, neg_ℤ, pos, ◌^◌, ◌≤◌, ◌<◌, ◌≤ℤ◌, ◌<ℤ◌, ◌*ℤ◌, ◌+ℤ◌, ◌-ℤ◌, IfSome, IsSome};
 ghost use Rattle.std.specs.Int.{int_min, int_max};
 ghost use Rattle.exact_math.specs.Interval.{everything, between, ◌⊆◌, clamp};
-ghost use Rattle.book_model.specs.Roots.{natural_part, root_of};
-ghost use Rattle.book_model.specs.Bounds.{Bound, IsNarrow, clamp_bound, root_bound};
-ghost use Rattle.book_model.specs.Depth.{DEPTH};
-ghost use Rattle.encl_core.specs.Scales.{fine, at_scale, limits_on};
+ghost use Rattle.book_model.specs.numbers.Roots.{natural_part, root_of};
+ghost use Rattle.book_model.specs.numbers.Bounds.{Bound, IsNarrow, clamp_bound, root_bound};
+ghost use Rattle.book_model.specs.numbers.Depth.{DEPTH};
+ghost use Rattle.scaled_ends.specs.Scales.{fine, at_scale, limits_on};
 ghost use Rattle.fix_fine.specs.Shown.{shown_ends};
 
 use crate::ends::FineEnds;

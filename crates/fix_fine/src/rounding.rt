@@ -1,9 +1,9 @@
 //! Denominators, products of ends at their scale, and ends in order.
 ghost use Rattle.std.specs.Prelude.{◌≡◌, ◌+◌, ◌^◌, pos, ◌-ℤ◌, ◌≤ℤ◌, ◌<ℤ◌, IfSome, IsNone, FitsSigned};
 ghost use Rattle.std.specs.Int.{w128};
-ghost use Rattle.book_model.specs.Fractions.{fraction_of};
-ghost use Rattle.encl_core.specs.Rounding.{ShowsEnds};
-ghost use Rattle.encl_core.specs.Scales.{fine};
+ghost use Rattle.book_model.specs.numbers.Fractions.{fraction_of};
+ghost use Rattle.scaled_ends.specs.Rounding.{ShowsEnds};
+ghost use Rattle.scaled_ends.specs.Scales.{fine};
 ghost use Rattle.fix_fine.specs.Shown.{shown_ends};
 ghost use Rattle.rounded_quotients.specs.Rounding.{IsFloor, IsCeiling};
 

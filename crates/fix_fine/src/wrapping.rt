@@ -2,9 +2,9 @@
 ghost use Rattle.std.specs.Prelude.{◌≡◌, ◌<◌, ◌-◌, ◌^◌, ◌*ℤ◌, ◌+ℤ◌, ◌-ℤ◌, ◌≤ℤ◌, ◌<ℤ◌, ℕ, pos, Some};
 ghost use Rattle.exact_math.specs.Fraction.{whole as whole_number, floor_quotient};
 ghost use Rattle.exact_math.specs.Interval.{◌⊆◌, difference, between};
-ghost use Rattle.book_model.specs.Bounds.{Bound, IsNarrow, remainder_bound};
-ghost use Rattle.book_model.specs.Programs.{multiples, cell_at};
-ghost use Rattle.encl_core.specs.Scales.{fine, limits_on};
+ghost use Rattle.book_model.specs.numbers.Bounds.{Bound, IsNarrow, remainder_bound};
+ghost use Rattle.book_model.specs.programs.Programs.{multiples, cell_at};
+ghost use Rattle.scaled_ends.specs.Scales.{fine, limits_on};
 ghost use Rattle.fix_fine.specs.Shown.{shown_ends};
 
 use crate::comparing::floor_of;

@@ -5,8 +5,8 @@ use Rattle.std.proofs.lemmas.Int.{ints}
 use Rattle.exact_math.specs.Fraction.{floor_quotient, times}
 use Rattle.exact_math.proofs.Floors.{floor_quotient_is}
 use Rattle.book_model.specs.declared.calendar_tables.TheConstants.{SIDEREAL_YEAR}
-use Rattle.book_model.specs.Fractions.{fraction_of}
-use Rattle.book_model.specs.Spans.{days_of, ratio}
+use Rattle.book_model.specs.numbers.Fractions.{fraction_of}
+use Rattle.book_model.specs.calendars.Spans.{days_of, ratio}
 use Rattle.calendar_math.proofs.SpanLemmas.{LiesWithin}
 
 days_are : (twelfths : ℤ) → days_of (fraction_of SIDEREAL_YEAR) (ratio twelfths 11) ≡ floor_quotient (pos 36525636 *ℤ twelfths) 1199999

@@ -1,7 +1,7 @@
 -- Dates of the Hindu calendars as the fields of a result.
 use Rattle.std.specs.Prelude.{[], ◌∷◌, pos}
 use Rattle.book_model.specs.declared.request.Fields.{Fields}
-use Rattle.book_model.specs.HinduLunar.{flag}
+use Rattle.book_model.specs.calendars.HinduLunar.{flag}
 use Rattle.hindu_astro.specs.declared.lunar.HinduLunar.{HinduLunar}
 use Rattle.hindu_astro.specs.declared.solar.HinduSolar.{HinduSolar}
 

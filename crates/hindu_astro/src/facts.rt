@@ -1,7 +1,7 @@
 //! The facts that the rules ask. Days are R.D.
 ghost use Rattle.std.specs.Prelude.{◌≡◌, IsTrue};
-ghost use Rattle.book_model.specs.HinduSolar.{hindu_fact};
-ghost use Rattle.book_model.specs.Names.{has_place};
+ghost use Rattle.book_model.specs.calendars.HinduSolar.{hindu_fact};
+ghost use Rattle.book_model.specs.sky.Names.{has_place};
 ghost use Rattle.hindu_astro.specs.Days.{IsNearDay};
 
 use book_model::{Fact, Kind, Place};

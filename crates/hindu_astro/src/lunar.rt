@@ -1,10 +1,10 @@
 //! Hindu lunar dates. Days are R.D.
 ghost use Rattle.std.specs.Prelude.{◌≡◌, ◌≤◌, ◌≤ℤ◌, ◌+ℤ◌, ◌-ℤ◌, pos, negsuc, IsTrue, IfOk, Bool};
 ghost use Rattle.std.specs.Ordering.{int_eq};
-ghost use Rattle.book_model.specs.Dates.{field as field_of, may_have, is_answered, is_in_range, day_named, date_on as date_of_day};
-ghost use Rattle.book_model.specs.Facts.{IsFactValue};
-ghost use Rattle.book_model.specs.HinduLunar as spec;
-ghost use Rattle.book_model.specs.HinduSolar.{hindu_fact};
+ghost use Rattle.book_model.specs.calendars.Dates.{field as field_of, may_have, is_answered, is_in_range, day_named, date_on as date_of_day};
+ghost use Rattle.book_model.specs.sky.Facts.{IsFactValue};
+ghost use Rattle.book_model.specs.calendars.HinduLunar as spec;
+ghost use Rattle.book_model.specs.calendars.HinduSolar.{hindu_fact};
 ghost use Rattle.book_model.specs.declared.calendar.Calendar.TheVariants.{HinduLunar as LunarCalendar};
 ghost use Rattle.book_model.specs.declared.fact.Kind.TheVariants.{CalendarYear};
 ghost use Rattle.hindu_astro.specs.Dates.{fields_of_lunar};
@@ -40,7 +40,7 @@ fn month_after(sign: i64) -> u8
 }
 
 /// The day of whose year a month is.
-#[tactic(auto, unfolding(book_model::specs::HinduLunar::day_of_year))]
+#[tactic(auto, unfolding(book_model::specs::calendars::HinduLunar::day_of_year))]
 fn day_of_year(day: i64, month: u8) -> i64
     requires from { negsuc 29999000 ≤ℤ day }
     requires to { day ≤ℤ pos 29999000 }
@@ -77,7 +77,7 @@ fn is_same(one: i64, other: i64) -> bool
 
 /// The date by the tithis of the day and of the day before, the signs at the new moons before and after, and the year of the Kali
 /// Yuga.
-#[tactic(auto, unfolding(book_model::specs::HinduLunar::date_by))]
+#[tactic(auto, unfolding(book_model::specs::calendars::HinduLunar::date_by))]
 fn date_by(tithi: i64, earlier: i64, before: i64, after: i64, year: i64) -> HinduLunar
     requires before_value { IsFactValue before }
     requires year_value { IsFactValue year }
@@ -93,7 +93,7 @@ fn date_by(tithi: i64, earlier: i64, before: i64, after: i64, year: i64) -> Hind
 }
 
 /// The date of a day by its tithi and that of the day before.
-#[tactic(auto, using(oracle_core::proofs::Inquiring::asking), unfolding(book_model::specs::HinduLunar::date_with))]
+#[tactic(auto, using(oracle_core::proofs::Inquiring::asking), unfolding(book_model::specs::calendars::HinduLunar::date_with))]
 fn date_with<O: Oracle>(
     oracle: &mut O,
     day: i64,
@@ -111,7 +111,7 @@ fn date_with<O: Oracle>(
 }
 
 /// The date of a day (R.D.) to which values of facts lead.
-#[tactic(auto, using(oracle_core::proofs::Inquiring::asking), unfolding(book_model::specs::HinduLunar::hindu_lunar_on))]
+#[tactic(auto, using(oracle_core::proofs::Inquiring::asking), unfolding(book_model::specs::calendars::HinduLunar::hindu_lunar_on))]
 fn date_near<O: Oracle>(oracle: &mut O, day: i64) -> Result<HinduLunar, Stop>
     requires from { negsuc 29998999 ≤ℤ day }
     requires to { day ≤ℤ pos 29999000 }
@@ -135,7 +135,7 @@ pub fn from_fixed<O: Oracle>(oracle: &mut O, day: i64) -> Result<HinduLunar, Sto
 }
 
 /// Whether a date lies in the month of another.
-#[tactic(auto, unfolding(book_model::specs::HinduLunar::is_in_month))]
+#[tactic(auto, unfolding(book_model::specs::calendars::HinduLunar::is_in_month))]
 fn is_in_month(date: HinduLunar, sought: HinduLunar) -> bool
     ensures same { result ≡ spec.is_in_month sought.year (pos sought.month) (spec.flag sought.leap_month) (fields_of_lunar date) }
 {
@@ -143,7 +143,7 @@ fn is_in_month(date: HinduLunar, sought: HinduLunar) -> bool
 }
 
 /// Whether a date is another.
-#[tactic(auto, unfolding(book_model::specs::HinduLunar::is_day_of))]
+#[tactic(auto, unfolding(book_model::specs::calendars::HinduLunar::is_day_of))]
 fn is_day_of(date: HinduLunar, sought: HinduLunar) -> bool
     ensures same { result ≡ spec.is_day_of sought.year (pos sought.month) (spec.flag sought.leap_month) (pos sought.day) (spec.flag sought.leap_day) (fields_of_lunar date) }
 {
@@ -151,7 +151,7 @@ fn is_day_of(date: HinduLunar, sought: HinduLunar) -> bool
 }
 
 /// Whether a day lies in the month of a date. It stops where the oracle stops.
-#[tactic(auto, using(oracle_core::proofs::Inquiring::asking), unfolding(book_model::specs::HinduLunar::lies_in_month))]
+#[tactic(auto, using(oracle_core::proofs::Inquiring::asking), unfolding(book_model::specs::calendars::HinduLunar::lies_in_month))]
 fn lies_in_month<O: Oracle>(oracle: &mut O, sought: HinduLunar, day: i64) -> Result<bool, Stop>
     requires from { negsuc 29998999 ≤ℤ day }
     requires to { day ≤ℤ pos 29999000 }
@@ -162,7 +162,7 @@ fn lies_in_month<O: Oracle>(oracle: &mut O, sought: HinduLunar, day: i64) -> Res
 }
 
 /// Whether a day has a date. It stops where the oracle stops.
-#[tactic(auto, using(oracle_core::proofs::Inquiring::asking), unfolding(book_model::specs::HinduLunar::has_date))]
+#[tactic(auto, using(oracle_core::proofs::Inquiring::asking), unfolding(book_model::specs::calendars::HinduLunar::has_date))]
 fn has_date<O: Oracle>(oracle: &mut O, sought: HinduLunar, day: i64) -> Result<bool, Stop>
     requires from { negsuc 29998999 ≤ℤ day }
     requires to { day ≤ℤ pos 29999000 }
@@ -173,7 +173,7 @@ fn has_date<O: Oracle>(oracle: &mut O, sought: HinduLunar, day: i64) -> Result<b
 }
 
 /// The day 30 days after another, where it lies in the month, else the other.
-#[tactic(auto, unfolding(book_model::specs::HinduLunar::after_or))]
+#[tactic(auto, unfolding(book_model::specs::calendars::HinduLunar::after_or))]
 fn after_or(about: i64, after: bool) -> i64
     requires from { negsuc 13999999 ≤ℤ about }
     requires to { about ≤ℤ pos 14000100 }
@@ -185,7 +185,7 @@ fn after_or(about: i64, after: bool) -> i64
 }
 
 /// The day 30 days before another, where it lies in the month, else what the one 30 days after leaves.
-#[tactic(auto, using(oracle_core::proofs::Inquiring::asking), unfolding(book_model::specs::HinduLunar::before_or))]
+#[tactic(auto, using(oracle_core::proofs::Inquiring::asking), unfolding(book_model::specs::calendars::HinduLunar::before_or))]
 fn before_or<O: Oracle>(
     oracle: &mut O,
     sought: HinduLunar,
@@ -206,7 +206,7 @@ fn before_or<O: Oracle>(
 }
 
 /// The day itself, where it lies in the month, else what the others leave.
-#[tactic(auto, using(oracle_core::proofs::Inquiring::asking), unfolding(book_model::specs::HinduLunar::itself_or))]
+#[tactic(auto, using(oracle_core::proofs::Inquiring::asking), unfolding(book_model::specs::calendars::HinduLunar::itself_or))]
 fn itself_or<O: Oracle>(
     oracle: &mut O,
     sought: HinduLunar,
@@ -228,7 +228,7 @@ fn itself_or<O: Oracle>(
 
 /// About the middle of a month: the first of a day, that 30 days before and that 30 days after it that lies in the month, else the
 /// day. It stops where the oracle stops.
-#[tactic(auto, using(oracle_core::proofs::Inquiring::asking), unfolding(book_model::specs::HinduLunar::middle_about))]
+#[tactic(auto, using(oracle_core::proofs::Inquiring::asking), unfolding(book_model::specs::calendars::HinduLunar::middle_about))]
 fn middle_about<O: Oracle>(oracle: &mut O, sought: HinduLunar, about: i64) -> Result<i64, Stop>
     requires from { negsuc 13999999 ≤ℤ about }
     requires to { about ≤ℤ pos 14000100 }
@@ -265,7 +265,7 @@ fn first_with_date<O: Oracle>(
 }
 
 /// A day about the middle of a month, by the mean sun.
-#[tactic(auto, unfolding(book_model::specs::HinduLunar::day_by_sun))]
+#[tactic(auto, unfolding(book_model::specs::calendars::HinduLunar::day_by_sun))]
 fn day_by_sun(year: i64, month: i64) -> i64
     requires year_from { pos 1 ≤ℤ year }
     requires year_to { year ≤ℤ pos 4000 }
@@ -304,7 +304,7 @@ fn day_by_tithi(middle: i64, tithi: i64, day: u8) -> i64
 
 /// The first of the five days about the one to which the tithi of the month's middle leads that has the date, else that one. It
 /// stops where the oracle stops.
-#[tactic(auto, using(oracle_core::proofs::Inquiring::asking), unfolding(book_model::specs::HinduLunar::day_from_middle))]
+#[tactic(auto, using(oracle_core::proofs::Inquiring::asking), unfolding(book_model::specs::calendars::HinduLunar::day_from_middle))]
 fn day_from_middle<O: Oracle>(
     oracle: &mut O,
     sought: HinduLunar,
@@ -321,7 +321,7 @@ fn day_from_middle<O: Oracle>(
 }
 
 /// The same, by the middle alone. It stops where the oracle stops.
-#[tactic(auto, using(oracle_core::proofs::Inquiring::asking), unfolding(book_model::specs::HinduLunar::day_by_middle))]
+#[tactic(auto, using(oracle_core::proofs::Inquiring::asking), unfolding(book_model::specs::calendars::HinduLunar::day_by_middle))]
 fn day_by_middle<O: Oracle>(oracle: &mut O, sought: HinduLunar, middle: i64) -> Result<i64, Stop>
     requires low { negsuc 14000999 ≤ℤ middle }
     requires high { middle ≤ℤ pos 14001100 }
@@ -335,7 +335,7 @@ fn day_by_middle<O: Oracle>(oracle: &mut O, sought: HinduLunar, middle: i64) -> 
 /// leads to the month's middle, or to that of the month before or after, and the tithi there to the day, of which two days before
 /// and two after are looked at too. The date needn't be one that the calendar has. It stops where the oracle stops, at one of the
 /// facts that the rules ask.
-#[tactic(auto, using(oracle_core::proofs::Inquiring::asking), unfolding(book_model::specs::HinduLunar::hindu_lunar_day))]
+#[tactic(auto, using(oracle_core::proofs::Inquiring::asking), unfolding(book_model::specs::calendars::HinduLunar::hindu_lunar_day))]
 pub fn to_fixed<O: Oracle>(oracle: &mut O, date: HinduLunar) -> Result<i64, Stop>
     requires from_1858 { pos 1858 ≤ℤ date.year }
     requires to_2105 { date.year ≤ℤ pos 2105 }
@@ -366,7 +366,7 @@ fn fields_of(date: HinduLunar) -> Fields
 }
 
 /// The date with these fields.
-#[tactic(auto, unfolding(book_model::specs::Dates::may_have))]
+#[tactic(auto, unfolding(book_model::specs::calendars::Dates::may_have))]
 fn date_of(fields: &Fields) -> HinduLunar
     requires possible { IsTrue (may_have LunarCalendar fields.now) }
     ensures year { result.year ≡ pos (field_of fields.now 0) }
@@ -385,7 +385,7 @@ fn date_of(fields: &Fields) -> HinduLunar
 }
 
 /// The day (R.D.) that the fields of a date name. It stops where the oracle stops.
-#[tactic(auto, unfolding(book_model::specs::Dates::may_have, book_model::specs::Dates::is_answered, book_model::specs::Dates::year_number))]
+#[tactic(auto, unfolding(book_model::specs::calendars::Dates::may_have, book_model::specs::calendars::Dates::is_answered, book_model::specs::calendars::Dates::year_number))]
 pub fn named_day<O: Oracle>(oracle: &mut O, fields: &Fields) -> Result<i64, Stop>
     requires possible { IsTrue (may_have LunarCalendar fields.now) }
     requires in_reach { IsTrue (is_answered LunarCalendar fields.now) }

@@ -1,8 +1,8 @@
 //! Months by the mean sun.
 ghost use Rattle.std.specs.Prelude.{◌≡◌, ◌≤ℤ◌, ◌+ℤ◌, ◌-ℤ◌, ◌*ℤ◌, pos, negsuc};
-ghost use Rattle.book_model.specs.Fractions.{fraction_of};
-ghost use Rattle.book_model.specs.HinduSolar as spec;
-ghost use Rattle.book_model.specs.Spans.{days_of as days_of_spans, ratio};
+ghost use Rattle.book_model.specs.numbers.Fractions.{fraction_of};
+ghost use Rattle.book_model.specs.calendars.HinduSolar as spec;
+ghost use Rattle.book_model.specs.calendars.Spans.{days_of as days_of_spans, ratio};
 ghost use Rattle.book_model.specs.declared.calendar_tables.TheConstants.{SIDEREAL_YEAR as year_of_days};
 
 use book_model::SIDEREAL_YEAR;
@@ -35,7 +35,7 @@ fn twelfths_to(era: i64, year: i64, month: i64) -> i64
 }
 
 /// The days from the epoch to the beginning of a month of a year of an era.
-#[tactic(auto, unfolding(book_model::specs::HinduSolar::days_to_month))]
+#[tactic(auto, unfolding(book_model::specs::calendars::HinduSolar::days_to_month))]
 pub(crate) fn days_to_month(era: i64, year: i64, month: i64) -> i64
     requires era_from { pos 0 ≤ℤ era }
     requires era_to { era ≤ℤ pos 4000 }

@@ -1,8 +1,8 @@
 //! Hindu solar dates. Days are R.D.
 ghost use Rattle.std.specs.Prelude.{◌≡◌, ◌≤◌, ◌≤ℤ◌, ◌+ℤ◌, ◌-ℤ◌, pos, negsuc, IsTrue};
-ghost use Rattle.book_model.specs.Dates.{field as field_of, may_have, is_answered, is_in_range, day_named, date_on as date_of_day};
-ghost use Rattle.book_model.specs.Facts.{IsFactValue};
-ghost use Rattle.book_model.specs.HinduSolar as spec;
+ghost use Rattle.book_model.specs.calendars.Dates.{field as field_of, may_have, is_answered, is_in_range, day_named, date_on as date_of_day};
+ghost use Rattle.book_model.specs.sky.Facts.{IsFactValue};
+ghost use Rattle.book_model.specs.calendars.HinduSolar as spec;
 ghost use Rattle.book_model.specs.declared.calendar.Calendar.TheVariants.{HinduSolar as SolarCalendar};
 ghost use Rattle.hindu_astro.specs.Dates.{fields_of_solar};
 ghost use Rattle.hindu_astro.specs.Days.{IsNearDay};
@@ -41,7 +41,7 @@ fn year_of(year: i64) -> i64
 }
 
 /// The date of a day by the sign of its sunset, the year of the Kali Yuga and the first day of its month.
-#[tactic(auto, unfolding(book_model::specs::HinduSolar::date_by))]
+#[tactic(auto, unfolding(book_model::specs::calendars::HinduSolar::date_by))]
 fn date_by(day: i64, sign: i64, year: i64, first: i64) -> HinduSolar
     requires from { pos 0 ≤ℤ day }
     requires to { day ≤ℤ pos 1000000 }
@@ -60,7 +60,7 @@ fn date_by(day: i64, sign: i64, year: i64, first: i64) -> HinduSolar
 /// The date of a day (R.D.): its month is the sign in which the sun stands at sunset, and its day counts from the one on which the
 /// sun came into it. A field that its type doesn't hold stands at the nearest end. It stops where the oracle stops, at one of the
 /// three facts that are asked (Reingold and Dershowitz, Calendrical Calculations, chapter 20).
-#[tactic(auto, using(oracle_core::proofs::Inquiring::asking), unfolding(book_model::specs::HinduSolar::hindu_solar_on))]
+#[tactic(auto, using(oracle_core::proofs::Inquiring::asking), unfolding(book_model::specs::calendars::HinduSolar::hindu_solar_on))]
 pub fn from_fixed<O: Oracle>(oracle: &mut O, day: i64) -> Result<HinduSolar, Stop>
     requires from { pos 0 ≤ℤ day }
     requires to { day ≤ℤ pos 1000000 }
@@ -73,7 +73,7 @@ pub fn from_fixed<O: Oracle>(oracle: &mut O, day: i64) -> Result<HinduSolar, Sto
 }
 
 /// A day within a month, late in it.
-#[tactic(auto, unfolding(book_model::specs::HinduSolar::day_within_month))]
+#[tactic(auto, unfolding(book_model::specs::calendars::HinduSolar::day_within_month))]
 fn day_within(year: i64, month: i64) -> i64
     requires year_from { pos 1 ≤ℤ year }
     requires year_to { year ≤ℤ pos 4000 }
@@ -97,7 +97,7 @@ fn day_by(first: i64, day: i64) -> i64
 
 /// The day (R.D.) of a date: the first day of the month in which a day late in it falls, and the day of the month; a rule of this
 /// project's own. The date needn't be one that the calendar has. It stops where the oracle stops, at the one fact that is asked.
-#[tactic(auto, using(oracle_core::proofs::Inquiring::asking), unfolding(book_model::specs::HinduSolar::hindu_solar_day))]
+#[tactic(auto, using(oracle_core::proofs::Inquiring::asking), unfolding(book_model::specs::calendars::HinduSolar::hindu_solar_day))]
 pub fn to_fixed<O: Oracle>(oracle: &mut O, date: HinduSolar) -> Result<i64, Stop>
     requires from_1723 { pos 1723 ≤ℤ date.year }
     requires to_1970 { date.year ≤ℤ pos 1970 }
@@ -123,7 +123,7 @@ fn fields_of(date: HinduSolar) -> Fields
 }
 
 /// The date with these fields.
-#[tactic(auto, unfolding(book_model::specs::Dates::may_have))]
+#[tactic(auto, unfolding(book_model::specs::calendars::Dates::may_have))]
 fn date_of(fields: &Fields) -> HinduSolar
     requires possible { IsTrue (may_have SolarCalendar fields.now) }
     ensures year { result.year ≡ pos (field_of fields.now 0) }
@@ -138,7 +138,7 @@ fn date_of(fields: &Fields) -> HinduSolar
 }
 
 /// The day (R.D.) that the fields of a date name. It stops where the oracle stops.
-#[tactic(auto, unfolding(book_model::specs::Dates::may_have, book_model::specs::Dates::is_answered, book_model::specs::Dates::year_number))]
+#[tactic(auto, unfolding(book_model::specs::calendars::Dates::may_have, book_model::specs::calendars::Dates::is_answered, book_model::specs::calendars::Dates::year_number))]
 pub fn named_day<O: Oracle>(oracle: &mut O, fields: &Fields) -> Result<i64, Stop>
     requires possible { IsTrue (may_have SolarCalendar fields.now) }
     requires in_reach { IsTrue (is_answered SolarCalendar fields.now) }

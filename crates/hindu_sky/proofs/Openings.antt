@@ -4,10 +4,10 @@ use Rattle.exact_math.specs.Interval.{Interval}
 use Rattle.book_model.specs.declared.fail.Fail.{Fail}
 use Rattle.book_model.specs.declared.fail.Fail.TheVariants.{Undecided as undecided_at, Void}
 use Rattle.book_model.specs.declared.site.Site.TheVariants.{Round}
-use Rattle.book_model.specs.Bounds.{Reach, limits_of}
-use Rattle.book_model.specs.Expressions.{integer}
-use Rattle.book_model.specs.Facts.{IsValueDay}
-use Rattle.book_model.specs.Relations.{Narrow}
+use Rattle.book_model.specs.numbers.Bounds.{Reach, limits_of}
+use Rattle.book_model.specs.numbers.Expressions.{integer}
+use Rattle.book_model.specs.sky.Facts.{IsValueDay}
+use Rattle.book_model.specs.numbers.Relations.{Narrow}
 use Rattle.encl_core.specs.Steps.{IsOpenFloor}
 use Rattle.time_scales.specs.Steps.{IsNoEarlyYear, IsYearOpenFor}
 use Rattle.time_scales.proofs.WholeDays.{no_early_year}

@@ -1,15 +1,15 @@
 //! What the Hindu calendars ask of a day, by sunrise and sunset at Ujjain.
 ghost use Rattle.std.specs.Prelude.{◌≡◌, ◌≤◌, ◌+◌, ◌-ℤ◌, ◌+ℤ◌, pos, negsuc, ◌≤ℤ◌, ℤ, Bool, IfOk, IfErr};
 ghost use Rattle.std.specs.Ordering.{int_eq};
-ghost use Rattle.book_model.specs.Depth.{DEPTH};
-ghost use Rattle.book_model.specs.Expressions.{Expression, World};
-ghost use Rattle.book_model.specs.Facts.{IsFactValue, IsValueDay};
-ghost use Rattle.book_model.specs.HinduFacts as spec;
-ghost use Rattle.book_model.specs.Leading.{Exact, Leads};
-ghost use Rattle.book_model.specs.Programs.{AtMost};
-ghost use Rattle.book_model.specs.Relations.{Within};
-ghost use Rattle.book_model.specs.Searches.{first_day_from};
-ghost use Rattle.book_model.proofs.HinduRuns.{IsDegree, IsLunarDay};
+ghost use Rattle.book_model.specs.numbers.Depth.{DEPTH};
+ghost use Rattle.book_model.specs.numbers.Expressions.{Expression, World};
+ghost use Rattle.book_model.specs.sky.Facts.{IsFactValue, IsValueDay};
+ghost use Rattle.book_model.specs.sky.HinduFacts as spec;
+ghost use Rattle.book_model.specs.programs.Leading.{Exact, Leads};
+ghost use Rattle.book_model.specs.programs.Programs.{AtMost};
+ghost use Rattle.book_model.specs.numbers.Relations.{Within};
+ghost use Rattle.book_model.specs.programs.Searches.{first_day_from};
+ghost use Rattle.hindu_sky.specs.Counts.{IsDegree, IsLunarDay};
 ghost use Rattle.time_scales.specs.Steps.{IsNoEarlyYear};
 
 use crate::zodiac::{hindu_year, sign, whole_degrees};
@@ -20,7 +20,7 @@ use moon_core::{moon_before, moon_from, phase};
 use rise_set::{hsunset, sunrise};
 
 /// The sign of the zodiac in which the sun stands at sunset on a day (R.D.): 137 tests at most.
-#[tactic(auto, using(book_model::proofs::Leads::leading), unfolding(book_model::specs::HinduFacts::sign_at_sunset_of))]
+#[tactic(auto, using(book_model::proofs::Leads::leading), unfolding(book_model::specs::sky::HinduFacts::sign_at_sunset_of))]
 fn sign_by_sunset<E: Enclosure>(day: i64, trail: &mut Trail) -> Result<i64, Fail>
     ensures leads { (w : World) → DEPTH ≤ w.depth → Leads w Exact (spec.sign_at_sunset_of day) trail.old.count trail.new.count result }
     ensures from { IfOk result (λ g. pos 1 ≤ℤ g) }
@@ -34,7 +34,7 @@ fn sign_by_sunset<E: Enclosure>(day: i64, trail: &mut Trail) -> Result<i64, Fail
 }
 
 /// The sign of the zodiac in which the sun stands at sunset on a day (R.D.) at Ujjain: 137 tests at most.
-#[tactic(auto, using(book_model::proofs::HinduRuns::sign_at_sunset_few))]
+#[tactic(auto, using(crate::proofs::HinduRuns::sign_at_sunset_few))]
 pub fn sign_at_sunset<E: Enclosure>(day: i64, trail: &mut Trail) -> Result<i64, Fail>
     requires day { IsValueDay day }
     ensures few { AtMost 99999 (spec.sign_at_sunset_of day) }
@@ -45,7 +45,7 @@ pub fn sign_at_sunset<E: Enclosure>(day: i64, trail: &mut Trail) -> Result<i64, 
 }
 
 /// The year of the Kali Yuga at sunset on a day (R.D.).
-#[tactic(auto, using(book_model::proofs::Leads::leading), unfolding(book_model::specs::HinduFacts::year_at_sunset_of))]
+#[tactic(auto, using(book_model::proofs::Leads::leading), unfolding(book_model::specs::sky::HinduFacts::year_at_sunset_of))]
 fn year_by_sunset<E: Enclosure>(day: i64, trail: &mut Trail) -> Result<i64, Fail>
     ensures leads { (w : World) → DEPTH ≤ w.depth → Leads w Exact (spec.year_at_sunset_of day) trail.old.count trail.new.count result }
 {
@@ -56,7 +56,7 @@ fn year_by_sunset<E: Enclosure>(day: i64, trail: &mut Trail) -> Result<i64, Fail
 }
 
 /// The year of the Kali Yuga at sunset on a day (R.D.) at Ujjain: 137 tests at most.
-#[tactic(auto, using(book_model::proofs::HinduRuns::year_at_sunset_few))]
+#[tactic(auto, using(crate::proofs::HinduRuns::year_at_sunset_few))]
 pub fn solar_year<E: Enclosure>(day: i64, trail: &mut Trail) -> Result<i64, Fail>
     requires day { IsValueDay day }
     ensures few { AtMost 99999 (spec.year_at_sunset_of day) }
@@ -84,7 +84,7 @@ impl<E: Enclosure> DayTest<E> for InSign {
 
     ghost most = { 137 };
 
-    #[tactic(auto, using(book_model::proofs::Leads::leading), unfolding(book_model::specs::HinduFacts::has_sign_at))]
+    #[tactic(auto, using(book_model::proofs::Leads::leading), unfolding(book_model::specs::sky::HinduFacts::has_sign_at))]
     fn holds(&self, day: i64, trail: &mut Trail) -> Result<bool, Fail> {
         match sign_by_sunset::<E>(day, trail) {
             Ok(there) => Ok(is_sign(there, self.sign)),
@@ -116,7 +116,7 @@ fn first_in_sign<E: Enclosure>(sign: i64, from: i64, trail: &mut Trail) -> Resul
 }
 
 /// The day (R.D.) on which the sun came into the sign in which it stands at a moment.
-#[tactic(auto, using(book_model::proofs::Leads::leading), unfolding(book_model::specs::HinduFacts::sign_entered_of))]
+#[tactic(auto, using(book_model::proofs::Leads::leading), unfolding(book_model::specs::sky::HinduFacts::sign_entered_of))]
 fn sign_entered<E: Enclosure>(day: i64, t: E, trail: &mut Trail) -> Result<i64, Fail>
     requires day { IsValueDay day }
     ensures leads { (w : World) (x : Expression) → DEPTH ≤ w.depth → Within E.shown w x t → Leads w Exact (spec.sign_entered_of day x) trail.old.count trail.new.count result }
@@ -131,7 +131,7 @@ fn sign_entered<E: Enclosure>(day: i64, t: E, trail: &mut Trail) -> Result<i64, 
 
 /// The first day (R.D.) of the solar month in which a day falls, by whose sunset at Ujjain the sun has come into its sign: 6,444 tests
 /// at most. It is void at `search` where there is none.
-#[tactic(auto, using(book_model::proofs::Leads::leading, book_model::proofs::HinduRuns::sankranti_few), unfolding(book_model::specs::HinduFacts::sankranti_of))]
+#[tactic(auto, using(book_model::proofs::Leads::leading, crate::proofs::HinduRuns::sankranti_few), unfolding(book_model::specs::sky::HinduFacts::sankranti_of))]
 pub fn sankranti<E: Enclosure>(day: i64, trail: &mut Trail) -> Result<i64, Fail>
     requires day { IsValueDay day }
     ensures few { AtMost 99999 (spec.sankranti_of day) }
@@ -145,7 +145,7 @@ pub fn sankranti<E: Enclosure>(day: i64, trail: &mut Trail) -> Result<i64, Fail>
 }
 
 /// The whole lunar days that have passed of a month at a moment.
-#[tactic(auto, using(book_model::proofs::Leads::leading), unfolding(book_model::specs::HinduFacts::lunar_days_passed_of))]
+#[tactic(auto, using(book_model::proofs::Leads::leading), unfolding(book_model::specs::sky::HinduFacts::lunar_days_passed_of))]
 fn whole_lunar_days<E: Enclosure>(t: E, trail: &mut Trail) -> Result<i64, Fail>
     ensures leads { (w : World) (x : Expression) → DEPTH ≤ w.depth → Within E.shown w x t → Leads w Exact (spec.lunar_days_passed_of x) trail.old.count trail.new.count result }
 {
@@ -164,7 +164,7 @@ fn lunar_days_passed<E: Enclosure>(t: E, trail: &mut Trail) -> Result<i64, Fail>
 }
 
 /// The lunar day, from 1 on, at sunrise on a day (R.D.) at Ujjain: 144 tests at most.
-#[tactic(auto, using(book_model::proofs::Leads::leading, book_model::proofs::HinduRuns::tithi_few), unfolding(book_model::specs::HinduFacts::tithi_of))]
+#[tactic(auto, using(book_model::proofs::Leads::leading, crate::proofs::HinduRuns::tithi_few), unfolding(book_model::specs::sky::HinduFacts::tithi_of))]
 pub fn tithi<E: Enclosure>(day: i64, trail: &mut Trail) -> Result<i64, Fail>
     requires day { IsValueDay day }
     ensures few { AtMost 99999 (spec.tithi_of day) }
@@ -179,7 +179,7 @@ pub fn tithi<E: Enclosure>(day: i64, trail: &mut Trail) -> Result<i64, Fail>
 }
 
 /// The sign in which the sun stood at the last new moon before sunrise on a day (R.D.) at Ujjain: 163 tests at most.
-#[tactic(auto, using(book_model::proofs::Leads::leading, book_model::proofs::HinduRuns::sign_before_few), unfolding(book_model::specs::HinduFacts::sign_before_of))]
+#[tactic(auto, using(book_model::proofs::Leads::leading, crate::proofs::HinduRuns::sign_before_few), unfolding(book_model::specs::sky::HinduFacts::sign_before_of))]
 pub fn sign_before<E: Enclosure>(day: i64, trail: &mut Trail) -> Result<i64, Fail>
     requires day { IsValueDay day }
     ensures few { AtMost 99999 (spec.sign_before_of day) }
@@ -194,7 +194,7 @@ pub fn sign_before<E: Enclosure>(day: i64, trail: &mut Trail) -> Result<i64, Fai
 }
 
 /// The sign in which the sun stands at the first new moon from sunrise on on a day (R.D.) at Ujjain: 163 tests at most.
-#[tactic(auto, using(book_model::proofs::Leads::leading, book_model::proofs::HinduRuns::sign_after_few), unfolding(book_model::specs::HinduFacts::sign_after_of))]
+#[tactic(auto, using(book_model::proofs::Leads::leading, crate::proofs::HinduRuns::sign_after_few), unfolding(book_model::specs::sky::HinduFacts::sign_after_of))]
 pub fn sign_after<E: Enclosure>(day: i64, trail: &mut Trail) -> Result<i64, Fail>
     requires day { IsValueDay day }
     ensures few { AtMost 99999 (spec.sign_after_of day) }
@@ -209,7 +209,7 @@ pub fn sign_after<E: Enclosure>(day: i64, trail: &mut Trail) -> Result<i64, Fail
 }
 
 /// The year of the Kali Yuga when a day (R.D.) begins in universal time.
-#[tactic(auto, unfolding(book_model::specs::HinduFacts::calendar_year_of))]
+#[tactic(auto, unfolding(book_model::specs::sky::HinduFacts::calendar_year_of))]
 fn year_of_beginning<E: Enclosure>(day: i64, trail: &mut Trail) -> Result<i64, Fail>
     ensures leads { (w : World) → DEPTH ≤ w.depth → Leads w Exact (spec.calendar_year_of day) trail.old.count trail.new.count result }
     ensures early { 36 ≤ E.BITS → E.BITS ≤ 56 → IsValueDay day → IfErr result IsNoEarlyYear }
@@ -218,7 +218,7 @@ fn year_of_beginning<E: Enclosure>(day: i64, trail: &mut Trail) -> Result<i64, F
 }
 
 /// The year of the Kali Yuga when a day (R.D.) begins in universal time: five tests, of which the two of the year are never open.
-#[tactic(auto, using(book_model::proofs::HinduRuns::calendar_year_few))]
+#[tactic(auto, using(crate::proofs::HinduRuns::calendar_year_few))]
 pub fn calendar_year<E: Enclosure>(day: i64, trail: &mut Trail) -> Result<i64, Fail>
     requires day { IsValueDay day }
     ensures few { AtMost 99999 (spec.calendar_year_of day) }

@@ -5,10 +5,10 @@ use Rattle.std.proofs.lemmas.Int.{ints}
 use Rattle.exact_math.specs.Fraction.{floor_quotient, times, plus, reciprocal}
 use Rattle.exact_math.proofs.Floors.{floor_quotient_is}
 use Rattle.book_model.specs.declared.calendar_tables.TheConstants.{SYNODIC_MONTH}
-use Rattle.book_model.specs.Fractions.{fraction_of}
-use Rattle.book_model.specs.Islamic.{months_before}
-use Rattle.book_model.specs.Facts.{IsFactValue}
-use Rattle.book_model.specs.Spans.{days_of, nearest, months_of_days, ratio}
+use Rattle.book_model.specs.numbers.Fractions.{fraction_of}
+use Rattle.book_model.specs.calendars.Islamic.{months_before}
+use Rattle.book_model.specs.sky.Facts.{IsFactValue}
+use Rattle.book_model.specs.calendars.Spans.{days_of, nearest, months_of_days, ratio}
 use Rattle.calendar_math.proofs.SpanLemmas.{LiesWithin}
 
 -- the days of a count of half months as a quotient of whole numbers

@@ -1,10 +1,10 @@
 //! Islamic dates, and the facts that they are found by. Days are R.D.
 ghost use Rattle.std.specs.Prelude.{◌≡◌, ◌≤◌, ◌≤ℤ◌, ◌+ℤ◌, ◌-ℤ◌, pos, negsuc};
 ghost use Rattle.exact_math.specs.Fraction.{floor_quotient};
-ghost use Rattle.book_model.specs.Facts.{IsFactValue};
-ghost use Rattle.book_model.specs.Inquiries.{to_32_bits as to_32_bits_of};
-ghost use Rattle.book_model.specs.Islamic as spec;
-ghost use Rattle.book_model.specs.Spans.{modulo as modulo_of};
+ghost use Rattle.book_model.specs.sky.Facts.{IsFactValue};
+ghost use Rattle.book_model.specs.calendars.Inquiries.{to_32_bits as to_32_bits_of};
+ghost use Rattle.book_model.specs.calendars.Islamic as spec;
+ghost use Rattle.book_model.specs.calendars.Spans.{modulo as modulo_of};
 ghost use Rattle.islamic_observed.specs.Dates.{fields_of_date};
 ghost use Rattle.islamic_observed.specs.Months.{IsNearMonth};
 ghost use Rattle.oracle_core.specs.Inquiring.{Inquires, map_ok};
@@ -38,7 +38,7 @@ fn month_of(passed: i64) -> u8
 }
 
 /// The date, where so many months have passed.
-#[tactic(auto, unfolding(book_model::specs::Islamic::date_in))]
+#[tactic(auto, unfolding(book_model::specs::calendars::Islamic::date_in))]
 fn date_in(passed: i64, day: i64) -> IslamicDate
     requires near { IsNearMonth passed }
     ensures date { fields_of_date result ≡ spec.date_in passed day }
@@ -73,7 +73,7 @@ fn date_by(day: i64, first: i64) -> IslamicDate
 /// The date of a day (R.D.): the month that begins on the first day which the oracle has for the day, the months counted from the
 /// epoch. A day that its type doesn't hold stands at the nearest end; the other fields always fit. It stops where the oracle
 /// stops, at the one fact that is asked (Reingold and Dershowitz, Calendrical Calculations, chapter 18).
-#[tactic(auto, using(oracle_core::proofs::Inquiring::asking), unfolding(book_model::specs::Islamic::islamic_on))]
+#[tactic(auto, using(oracle_core::proofs::Inquiring::asking), unfolding(book_model::specs::calendars::Islamic::islamic_on))]
 pub fn from_fixed<O: Oracle>(oracle: &mut O, day: i64) -> Result<IslamicDate, Stop>
     requires from { pos 0 ≤ℤ day }
     requires to { day ≤ℤ pos 1000000 }
@@ -96,7 +96,7 @@ fn day_by(first: i64, day: i64) -> i64
 /// The day (R.D.) of a date: the first day of the month which the oracle has, asked of a day about the month's middle, and the day
 /// of the month. The date needn't be one that the calendar has. It stops where the oracle stops, at the one fact that is asked
 /// (Reingold and Dershowitz, Calendrical Calculations, chapter 18).
-#[tactic(auto, using(oracle_core::proofs::Inquiring::asking), unfolding(book_model::specs::Islamic::islamic_day))]
+#[tactic(auto, using(oracle_core::proofs::Inquiring::asking), unfolding(book_model::specs::calendars::Islamic::islamic_day))]
 pub fn to_fixed<O: Oracle>(oracle: &mut O, date: IslamicDate) -> Result<i64, Stop>
     requires from_1216 { pos 1216 ≤ℤ date.year }
     requires to_1471 { date.year ≤ℤ pos 1471 }

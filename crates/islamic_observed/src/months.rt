@@ -1,9 +1,9 @@
 //! The months of the Islamic calendar since its epoch, and the facts of their first days. Days are R.D.
 ghost use Rattle.std.specs.Prelude.{◌≡◌, ◌≤◌, ◌≤ℤ◌, ◌+ℤ◌, pos, negsuc};
-ghost use Rattle.book_model.specs.Facts.{IsFactValue};
-ghost use Rattle.book_model.specs.Fractions.{fraction_of};
-ghost use Rattle.book_model.specs.Islamic as spec;
-ghost use Rattle.book_model.specs.Spans.{days_of as days_of_spans, ratio};
+ghost use Rattle.book_model.specs.sky.Facts.{IsFactValue};
+ghost use Rattle.book_model.specs.numbers.Fractions.{fraction_of};
+ghost use Rattle.book_model.specs.calendars.Islamic as spec;
+ghost use Rattle.book_model.specs.calendars.Spans.{days_of as days_of_spans, ratio};
 ghost use Rattle.book_model.specs.declared.calendar_tables.TheConstants.{SYNODIC_MONTH as MonthOfDays};
 ghost use Rattle.islamic_observed.specs.Months.{IsMonth, IsNearMonth};
 
@@ -29,7 +29,7 @@ pub(crate) fn months_before(first: i64) -> i64
 }
 
 /// Twice the months from the epoch to the middle of a month.
-#[tactic(auto, unfolding(book_model::specs::Islamic::half_months_to))]
+#[tactic(auto, unfolding(book_model::specs::calendars::Islamic::half_months_to))]
 fn half_months_to(year: i64, month: i64) -> i64
     requires month { IsMonth year month }
     ensures halves { result ≡ spec.half_months_to year month }
@@ -51,7 +51,7 @@ fn days_of_halves(halves: i64) -> i64
 }
 
 /// A day about the middle of a month.
-#[tactic(auto, unfolding(book_model::specs::Islamic::day_within_month))]
+#[tactic(auto, unfolding(book_model::specs::calendars::Islamic::day_within_month))]
 fn day_within(year: i64, month: i64) -> i64
     requires month { IsMonth year month }
     ensures day { result ≡ spec.day_within_month year month }

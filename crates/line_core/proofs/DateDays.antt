@@ -2,7 +2,7 @@
 use Rattle.std.specs.Prelude.{◌≡◌, ◌↔◌, ℕ, ℤ, pos, Result, Ok, Err, IsSome, IfSome, IfOk, IsOk, IsTrue}
 use Rattle.std.proofs.Common.{sym}
 use Rattle.std.specs.Result.{result_ok}
-use Rattle.book_model.specs.Calendar.{is_date, fixed_of}
+use Rattle.book_model.specs.calendars.Gregorian.{is_date, fixed_of}
 use Rattle.civil_core.specs.Dates.{has_date, IsDateOfDay}
 use Rattle.civil_core.proofs.Conversions.{ok_exactly}
 use Rattle.civil_core.proofs.Days.{has_date_is}

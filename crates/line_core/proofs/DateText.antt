@@ -6,7 +6,7 @@ use Rattle.std.specs.Prelude.{◌==◌, Some, None, not}
 use Rattle.std.specs.List.{position_or_len, position}
 use Rattle.std.proofs.lemmas.List.{take_rest}
 use Rattle.std.proofs.Math.Nat.{pow-suc}
-use Rattle.book_model.specs.Lines.{parts_of, onto_first}
+use Rattle.book_model.specs.lines.Lines.{parts_of, onto_first}
 
 -- where the first dash stands, or the length
 abbrev pub to_dash : List ℕ → ℕ

@@ -5,9 +5,9 @@ use Rattle.std.specs.Borrow.{Bor}
 use Rattle.std.proofs.lemmas.Bool.Decides.{nat_tests}
 use Rattle.book_model.specs.declared.calendar.Calendar.{Calendar}
 use Rattle.book_model.specs.declared.request.Fields.{Fields}
-use Rattle.book_model.specs.Dates.{row_of, may_have}
-use Rattle.book_model.specs.Lines.{parts_of, number_of}
-use Rattle.book_model.specs.Requests.{fields_of, fields_with, checked, checked_numbers, numbers_of, onto_numbers}
+use Rattle.book_model.specs.calendars.Dates.{row_of, may_have}
+use Rattle.book_model.specs.lines.Lines.{parts_of, number_of}
+use Rattle.book_model.specs.lines.Requests.{fields_of, fields_with, checked, checked_numbers, numbers_of, onto_numbers}
 use Rattle.book_model.proofs.WordTables.{few_fields}
 use Rattle.line_core.proofs.DateText.{parts_exist}
 

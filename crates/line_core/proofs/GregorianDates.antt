@@ -2,8 +2,8 @@
 use Rattle.std.proofs.Common.{◌≡◌, ℕ, ℤ, pos, negsuc, ◌≤ℤ◌, [], ◌∷◌, refl, arith}
 use Rattle.std.proofs.lemmas.Int.{ints}
 use Rattle.book_model.specs.declared.request.Fields.{Fields}
-use Rattle.book_model.specs.Inquiries.{to_32_bits}
-use Rattle.book_model.specs.Dates.{gregorian_fields_on}
+use Rattle.book_model.specs.calendars.Inquiries.{to_32_bits}
+use Rattle.book_model.specs.calendars.Dates.{gregorian_fields_on}
 use Rattle.civil_core.specs.Dates.{IsDateOfDay}
 
 -- a number of 32 bits is its own nearest

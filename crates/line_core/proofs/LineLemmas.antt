@@ -4,7 +4,7 @@ use native.Mathlib.Numerals.{unary_clauses}
 use borrow.Author.Tests.{ltb-true, ltb-false}
 use Rattle.std.specs.Prelude.{◌==◌, Some, None, not}
 use Rattle.std.specs.List.{position_or_len, position}
-use Rattle.book_model.specs.Lines.{raw_lines, onto_first}
+use Rattle.book_model.specs.lines.Lines.{raw_lines, onto_first}
 
 -- where the first line feed stands, or the length
 abbrev pub at_end : List ℕ → ℕ

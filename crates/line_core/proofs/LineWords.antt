@@ -4,7 +4,7 @@ use Rattle.std.specs.Prelude.{Some, None, not}
 use Rattle.std.specs.List.{position_or_len, position}
 use Rattle.std.proofs.lemmas.List.{drop_more, drop_all}
 use Rattle.std.proofs.lemmas.List.Sums.{passes_at_first, prefix_len-le-length}
-use Rattle.book_model.specs.Lines.{is_blank, words_of, onto_first}
+use Rattle.book_model.specs.lines.Lines.{is_blank, words_of, onto_first}
 use Rattle.line_core.proofs.DateText.{found_at, not_found}
 
 -- how many blanks stand in front

@@ -4,8 +4,8 @@ use Rattle.std.specs.Prelude.{◌&&◌, ◌==◌, IsTrue}
 use Rattle.book_model.specs.declared.calendar.Calendar.{Calendar}
 use Rattle.book_model.specs.declared.calendar.Calendar.TheVariants.{Gregorian, Fixed}
 use Rattle.book_model.specs.declared.request.Fields.{Fields}
-use Rattle.book_model.specs.Calendar.{is_date}
-use Rattle.book_model.specs.Dates.{may_have, row_of, field, are_within, is_in_month, has_day_in_range}
+use Rattle.book_model.specs.calendars.Gregorian.{is_date}
+use Rattle.book_model.specs.calendars.Dates.{may_have, row_of, field, are_within, is_in_month, has_day_in_range}
 
 -- nothing is said of their months: the last line is checked for each calendar by itself
 pub other_month : (c : Calendar) (f : Fields) → (c ≡ Gregorian → ⊥) → is_in_month c f ≡ true

@@ -2,9 +2,9 @@
 use Rattle.std.specs.Prelude.{◌≡◌, ℕ, ◌&&◌, nat_le, Bool, true, false, List, [], ◌∷◌, length, Err, refl}
 use Rattle.std.specs.List.{list_all}
 use Rattle.book_model.specs.declared.request.Rule.TheVariants.{Syntax}
-use Rattle.book_model.specs.Lines.{is_plain, words_of}
-use Rattle.book_model.specs.Requests.{request_of, asked_by, with_words}
-use Rattle.book_model.specs.Words.{from_word_of, to_word_of}
+use Rattle.book_model.specs.lines.Lines.{is_plain, words_of}
+use Rattle.book_model.specs.lines.Requests.{request_of, asked_by, with_words}
+use Rattle.book_model.specs.lines.Words.{from_word_of, to_word_of}
 
 -- a line is short and plain
 abbrev pub is_readable : List ℕ → Bool

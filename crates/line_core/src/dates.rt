@@ -1,7 +1,7 @@
 //! Dates of all calendars: which may be asked, the day that a date names, and the date of a day.
 ghost use Rattle.std.specs.Prelude.{◌≡◌, IsTrue, IfOk, MatchOption, true, false};
-ghost use Rattle.book_model.specs.Dates as spec;
-ghost use Rattle.book_model.specs.Requests.{ranged, fields_of};
+ghost use Rattle.book_model.specs.calendars.Dates as spec;
+ghost use Rattle.book_model.specs.lines.Requests.{ranged, fields_of};
 ghost use Rattle.oracle_core.specs.Inquiring.{Inquires};
 
 use crate::fields::{are_within, has_year, spelled_fields};
@@ -31,7 +31,7 @@ fn has_day_in_range(calendar: Calendar, date: &Fields) -> Option<bool>
 
 /// The date of a calendar, where it is one that is answered as far as that can be told without any fact: `Field` where
 /// the calendar can have no such date, `Range` where it is out of range.
-#[tactic(auto, unfolding(book_model::specs::Dates::may_have, book_model::specs::Dates::is_answered))]
+#[tactic(auto, unfolding(book_model::specs::calendars::Dates::may_have, book_model::specs::calendars::Dates::is_answered))]
 pub(crate) fn ranged_date(calendar: Calendar, date: &[u8]) -> Result<Fields, Rule>
     ensures date { result ≡ ranged calendar (fields_of calendar date.now) }
     ensures possible { IfOk result (λ f. IsTrue (spec.may_have calendar f)) }

@@ -1,9 +1,9 @@
 //! The fields of dates: their text, and whether a calendar may have them.
 ghost use Rattle.std.specs.Prelude.{◌≡◌, ◌<◌, ◌≤◌, ◌==◌, ◌^◌, ◌∷◌, [], position, unsigned_abs, IfSome, None, MatchOption};
 ghost use Rattle.book_model.specs.declared.calendar.Calendar.{Calendar as CalendarOf};
-ghost use Rattle.book_model.specs.Dates as dates;
-ghost use Rattle.book_model.specs.Lines as spec;
-ghost use Rattle.book_model.specs.Requests.{fields_of, checked};
+ghost use Rattle.book_model.specs.calendars.Dates as dates;
+ghost use Rattle.book_model.specs.lines.Lines as spec;
+ghost use Rattle.book_model.specs.lines.Requests.{fields_of, checked};
 
 use book_model::{CalendarRow, Fields};
 
@@ -96,7 +96,7 @@ fn weighed(row: &CalendarRow, date: &Fields, index: usize) -> i128
 }
 
 /// The number of the year of a date.
-#[tactic(auto, unfolding(book_model::specs::Dates::year_number))]
+#[tactic(auto, unfolding(book_model::specs::calendars::Dates::year_number))]
 fn year_number(row: &CalendarRow, date: &Fields) -> i128
     ensures number { result ≡ dates.year_number row.now date.now }
 {

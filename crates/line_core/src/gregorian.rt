@@ -1,7 +1,7 @@
 //! Gregorian dates and their days.
 ghost use Rattle.std.specs.Prelude.{◌≡◌, ◌↔◌, IsTrue, IsSome, IfSome};
-ghost use Rattle.book_model.specs.Calendar.{is_date, fixed_of};
-ghost use Rattle.book_model.specs.Dates as dates;
+ghost use Rattle.book_model.specs.calendars.Gregorian.{is_date, fixed_of};
+ghost use Rattle.book_model.specs.calendars.Dates as dates;
 
 use book_model::{FIRST_ANSWERED_DAY, Fields, LAST_ANSWERED_DAY};
 use civil_core::{from_fixed, to_fixed};

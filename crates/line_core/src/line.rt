@@ -1,9 +1,9 @@
 //! What a line asks, or the first rule that it breaks.
 ghost use Rattle.std.specs.Prelude.{◌≡◌, ◌≤◌, ◌↔◌, ◌&&◌, ◌∷◌, [], nat_le, not, length, position, IsTrue, IsSome, IfSome, IfOk, MatchOption};
 ghost use Rattle.std.specs.List.{list_all, position_or_len};
-ghost use Rattle.book_model.specs.Lines as spec;
-ghost use Rattle.book_model.specs.Requests.{request_of, with_words, is_possible, is_in_reach};
-ghost use Rattle.book_model.specs.Words.{from_word_of, to_word_of};
+ghost use Rattle.book_model.specs.lines.Lines as spec;
+ghost use Rattle.book_model.specs.lines.Requests.{request_of, with_words, is_possible, is_in_reach};
+ghost use Rattle.book_model.specs.lines.Words.{from_word_of, to_word_of};
 
 use crate::dates::ranged_date;
 use book_model::{FromWord, Request, Rule, ToWord};

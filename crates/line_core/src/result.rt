@@ -1,9 +1,9 @@
 //! What a request comes to.
 ghost use Rattle.std.specs.Prelude.{◌≡◌, IsTrue};
-ghost use Rattle.book_model.specs.Dates as dates;
-ghost use Rattle.book_model.specs.LineRules as spec;
-ghost use Rattle.book_model.specs.Requests.{is_possible, is_in_reach};
-ghost use Rattle.book_model.specs.Words.{named_by, shown_by};
+ghost use Rattle.book_model.specs.calendars.Dates as dates;
+ghost use Rattle.book_model.specs.lines.LineRules as spec;
+ghost use Rattle.book_model.specs.lines.Requests.{is_possible, is_in_reach};
+ghost use Rattle.book_model.specs.lines.Words.{named_by, shown_by};
 ghost use Rattle.oracle_core.specs.Inquiring.{Inquires};
 
 use crate::dates::{date_on, day_of_gregorian, have_same_fields, named_day, one_field};
@@ -68,7 +68,7 @@ fn resolve_on<O: Oracle>(oracle: &mut O, to: ToWord, day: i64) -> Result<Resolve
 
 /// What a day (R.D.) comes to whose own date is this one: `NoDate`, where that isn't the date of the request. It stops
 /// where the oracle stops.
-#[tactic(auto, using(oracle_core::proofs::Inquiring::asking), unfolding(book_model::specs::LineRules::confirmed))]
+#[tactic(auto, using(oracle_core::proofs::Inquiring::asking), unfolding(book_model::specs::lines::LineRules::confirmed))]
 fn confirm<O: Oracle>(
     oracle: &mut O,
     request: &Request,
@@ -87,7 +87,7 @@ fn confirm<O: Oracle>(
 
 /// What a day (R.D.) within the range comes to that the date of a request names: it is confirmed where the calendar has
 /// dates that no day has. It stops where the oracle stops.
-#[tactic(auto, using(oracle_core::proofs::Inquiring::asking), unfolding(book_model::specs::LineRules::result_within))]
+#[tactic(auto, using(oracle_core::proofs::Inquiring::asking), unfolding(book_model::specs::lines::LineRules::result_within))]
 fn resolve_within<O: Oracle>(oracle: &mut O, request: &Request, day: i64) -> Result<Resolved, Stop>
     requires in_range { IsTrue (dates.is_in_range day) }
     ensures comes { Inquires O.meaning (spec.result_within request.now day) (O.state oracle.old) (O.state oracle.new) result }
@@ -102,7 +102,7 @@ fn resolve_within<O: Oracle>(oracle: &mut O, request: &Request, day: i64) -> Res
 
 /// What a day (R.D.) comes to that the date of a request names: `TooFar` where it isn't in range, and `NoDate` where
 /// the calendar of the request has another date for it. It stops where the oracle stops.
-#[tactic(auto, using(oracle_core::proofs::Inquiring::asking), unfolding(book_model::specs::LineRules::result_of_day))]
+#[tactic(auto, using(oracle_core::proofs::Inquiring::asking), unfolding(book_model::specs::lines::LineRules::result_of_day))]
 fn resolve_day<O: Oracle>(oracle: &mut O, request: &Request, day: i64) -> Result<Resolved, Stop>
     ensures comes { Inquires O.meaning (spec.result_of_day request.now day) (O.state oracle.old) (O.state oracle.new) result }
 {
@@ -114,7 +114,7 @@ fn resolve_day<O: Oracle>(oracle: &mut O, request: &Request, day: i64) -> Result
 }
 
 /// The fact by whose value a word and a Gregorian date name a day.
-#[tactic(auto, using(book_model::proofs::WordTables::day_placed), unfolding(book_model::specs::Dates::is_answered))]
+#[tactic(auto, using(book_model::proofs::WordTables::day_placed), unfolding(book_model::specs::calendars::Dates::is_answered))]
 fn named_fact(from: FromWord, kind: Kind, place: Place, date: &Fields) -> Fact
     requires named { named_by from ≡ Named.Value kind place }
     requires possible { IsTrue (dates.may_have Calendar.Gregorian date.now) }
@@ -144,7 +144,7 @@ fn day_of_request<O: Oracle>(oracle: &mut O, request: &Request) -> Result<i64, S
 /// which the facts that the rule asks are added to the oracle's list. `TooFar` comes exactly where the day that the
 /// date names isn't one of those that a line may name, and `NoDate` exactly where it is and has another date in the
 /// calendar of the request. It stops where the oracle stops, at a fact that the rule asks.
-#[tactic(auto, using(oracle_core::proofs::Inquiring::asking), unfolding(book_model::specs::LineRules::rule_of))]
+#[tactic(auto, using(oracle_core::proofs::Inquiring::asking), unfolding(book_model::specs::lines::LineRules::rule_of))]
 pub fn resolve<O: Oracle>(oracle: &mut O, request: &Request) -> Result<Resolved, Stop>
     requires possible { IsTrue (is_possible request.now) }
     requires in_reach { IsTrue (is_in_reach request.now) }

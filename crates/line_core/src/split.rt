@@ -1,6 +1,6 @@
 //! The lines of an input.
 ghost use Rattle.std.specs.Prelude.{◌≡◌, ◌<◌, ◌≤◌, ◌+◌, ◌∷◌, List, ℕ, ◌==◌, length, map, position, IfOk};
-ghost use Rattle.book_model.specs.Lines as spec;
+ghost use Rattle.book_model.specs.lines.Lines as spec;
 
 use std::alloc::{AllocError, Global};
 

@@ -6,9 +6,9 @@ use Rattle.exact_math.specs.Interval.{Interval}
 use Rattle.book_model.specs.declared.fail.Fail.{Fail}
 use Rattle.book_model.specs.declared.fail.Fail.TheVariants.{Undecided as undecided_at, Void}
 use Rattle.book_model.specs.declared.site.Site.TheVariants.{DayFloor, MoonWrap, PhaseWrap, StepWrap}
-use Rattle.book_model.specs.Expressions.{World}
-use Rattle.book_model.specs.Leading.{Leads}
-use Rattle.book_model.specs.Programs.{Program}
+use Rattle.book_model.specs.numbers.Expressions.{World}
+use Rattle.book_model.specs.programs.Leading.{Leads}
+use Rattle.book_model.specs.programs.Programs.{Program}
 use Rattle.book_model.proofs.Early.{not_of_three}
 use Rattle.encl_core.specs.Steps.{IsOpenFloor, IsOpenWrap}
 use Rattle.time_scales.specs.Steps.{IsYearOpenFor, IsEarlyYearFor, IsNoEarlyYear}

@@ -1,11 +1,11 @@
 -- How wide a longitude of the moon is: the bound of its expression, computed.
 use Rattle.std.proofs.Common.{◌≡◌, refl, true}
-use Rattle.book_model.specs.Bounds.{implies, bound_of, limits_36, integer_bound, constant_bound, sum_bound, difference_bound, scaled_bound, product_bound, power_bound, spanned_bound, sine_spans}
-use Rattle.book_model.specs.Expressions.{argument}
-use Rattle.book_model.specs.Moon.{lunar_angle_of, lunar_term_of, longitude_term_of}
-use Rattle.book_model.specs.Polynomials.{quadratic_of, quadratic_wave_of}
-use Rattle.book_model.specs.Sun.{nutation_of}
-use Rattle.book_model.specs.Terms.{terms_to, terms_of, times_power}
+use Rattle.book_model.specs.numbers.Bounds.{implies, bound_of, limits_36, integer_bound, constant_bound, sum_bound, difference_bound, scaled_bound, product_bound, power_bound, spanned_bound, sine_spans}
+use Rattle.book_model.specs.numbers.Expressions.{argument}
+use Rattle.book_model.specs.sky.Moon.{lunar_angle_of, lunar_term_of, longitude_term_of}
+use Rattle.book_model.specs.numbers.Polynomials.{quadratic_of, quadratic_wave_of}
+use Rattle.book_model.specs.sky.Sun.{nutation_of}
+use Rattle.book_model.specs.numbers.Terms.{terms_to, terms_of, times_power}
 use Rattle.sun_core.specs.Daily.{in_centuries, has_daily, by_centuries, by_days, daily_wave_of}
 use Rattle.sun_core.specs.Widths.{days_of_years}
 use Rattle.moon_core.specs.Daily.{daily_quartic_of, daily_cubic_of, daily_angles_of, computed_terms_of, computed_flattening_of, computed_inequalities_of, computed_longitude_of}

@@ -2,9 +2,9 @@
 use Rattle.std.specs.Prelude.{◌≡◌, ℕ, zero, suc, ◌-◌, ◌≤◌, ℤ, pos, ◌+ℤ◌, if◌then◌else◌, refl}
 use Rattle.std.proofs.Common.{arith}
 use Rattle.book_model.specs.declared.site.Site.TheVariants.{MoonWalk}
-use Rattle.book_model.specs.Expressions.{Expression}
-use Rattle.book_model.specs.Phases.{is_moon_before_of, walk_of}
-use Rattle.book_model.specs.Programs.{answer, void, bind}
+use Rattle.book_model.specs.numbers.Expressions.{Expression}
+use Rattle.book_model.specs.sky.Phases.{is_moon_before_of, walk_of}
+use Rattle.book_model.specs.programs.Programs.{answer, void, bind}
 
 pub walk_none : (x : Expression) (k : ℤ) → walk_of 0 x k ≡ void MoonWalk
 unfolding walk_of

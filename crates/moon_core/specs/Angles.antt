@@ -1,9 +1,9 @@
 -- What the code's angles of the moon say of the definition's.
 use Rattle.exact_math.specs.Interval.{Interval}
-use Rattle.book_model.specs.Bounds.{Limits, Reach}
-use Rattle.book_model.specs.Expressions.{World}
-use Rattle.book_model.specs.Moon.{LunarAngles}
-use Rattle.book_model.specs.Relations.{Within, Narrow}
+use Rattle.book_model.specs.numbers.Bounds.{Limits, Reach}
+use Rattle.book_model.specs.numbers.Expressions.{World}
+use Rattle.book_model.specs.sky.Moon.{LunarAngles}
+use Rattle.book_model.specs.numbers.Relations.{Within, Narrow}
 use Rattle.moon_core.specs.declared.angles.Angles.{Angles}
 
 -- each enclosure holds its angle

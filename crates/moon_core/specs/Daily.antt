@@ -2,13 +2,13 @@
 use Rattle.book_model.specs.declared.moon_tables.TheConstants.{ECCENTRICITY_FACTOR, ELONGATION, FLATTENING, JUPITER_WAVE, LATITUDE_ARGUMENT, LATITUDE_WAVE, MILLIONTH, MOON_ANOMALY, MOON_LONGITUDE, MOON_TERMS, SUN_ANOMALY, VENUS_WAVE}
 use Rattle.book_model.specs.declared.polynomial.Cubic.{Cubic}
 use Rattle.book_model.specs.declared.polynomial.Quartic.{Quartic}
-use Rattle.book_model.specs.Expressions.{Expression, constant, add, subtract, scale, power, sine}
-use Rattle.book_model.specs.Fractions.{fraction_of}
-use Rattle.book_model.specs.Latitude.{latitude_terms_of, venus_by, flattening_by}
-use Rattle.book_model.specs.Moon.{LunarAngles, longitude_term_of, no_term}
-use Rattle.book_model.specs.Polynomials.{quadratic_of}
-use Rattle.book_model.specs.Sun.{nutation_of}
-use Rattle.book_model.specs.Terms.{terms_of}
+use Rattle.book_model.specs.numbers.Expressions.{Expression, constant, add, subtract, scale, power, sine}
+use Rattle.book_model.specs.numbers.Fractions.{fraction_of}
+use Rattle.book_model.specs.sky.Latitude.{latitude_terms_of, venus_by, flattening_by}
+use Rattle.book_model.specs.sky.Moon.{LunarAngles, longitude_term_of, no_term}
+use Rattle.book_model.specs.numbers.Polynomials.{quadratic_of}
+use Rattle.book_model.specs.sky.Sun.{nutation_of}
+use Rattle.book_model.specs.numbers.Terms.{terms_of}
 use Rattle.sun_core.specs.Daily.{in_centuries, by_days, daily_angle_of, daily_wave_of}
 
 -- a quartic, its linear part by the days

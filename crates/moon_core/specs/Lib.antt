@@ -1,3 +1,4 @@
 pub mod Angles
 pub mod Daily
 pub mod Widths
+pub mod PhaseDays

@@ -1,10 +1,10 @@
 //! The angles of which the moon's terms are made.
 ghost use Rattle.std.specs.Prelude.{◌≡◌, ◌≤◌};
-ghost use Rattle.book_model.specs.Bounds.{Reach, limits_of};
-ghost use Rattle.book_model.specs.Expressions.{Expression, World};
-ghost use Rattle.book_model.specs.Moon.{lunar_angles_of};
-ghost use Rattle.book_model.specs.Relations.{Within, Narrow};
-ghost use Rattle.book_model.specs.Polynomials.{quartic_of, cubic_of};
+ghost use Rattle.book_model.specs.numbers.Bounds.{Reach, limits_of};
+ghost use Rattle.book_model.specs.numbers.Expressions.{Expression, World};
+ghost use Rattle.book_model.specs.sky.Moon.{lunar_angles_of};
+ghost use Rattle.book_model.specs.numbers.Relations.{Within, Narrow};
+ghost use Rattle.book_model.specs.numbers.Polynomials.{quartic_of, cubic_of};
 ghost use Rattle.sun_core.specs.Daily.{in_centuries};
 ghost use Rattle.moon_core.specs.Angles.{HoldAngles, KeepAngles};
 ghost use Rattle.moon_core.specs.Daily.{daily_quartic_of, daily_cubic_of, daily_angles_of};
@@ -29,7 +29,7 @@ pub(crate) struct Angles<E> {
 
 /// A quartic of the time, by the days from noon of 1 January 2000, and these in centuries: the linear part by the days.
 #[inline(always)]
-#[tactic(auto, using(time_scales::proofs::Powers::fourths), unfolding(book_model::specs::Polynomials::quartic_of, sun_core::specs::Daily::by_centuries, crate::specs::Daily::daily_quartic_of))]
+#[tactic(auto, using(time_scales::proofs::Powers::fourths), unfolding(book_model::specs::numbers::Polynomials::quartic_of, sun_core::specs::Daily::by_centuries, crate::specs::Daily::daily_quartic_of))]
 pub(crate) fn daily_quartic<E: Enclosure>(angle: &Quartic, days: E, c: E) -> E
     ensures holds { (w : World) (x : Expression) → Within E.shown w x days → Within E.shown w (in_centuries x) c → Within E.shown w (quartic_of angle.now (in_centuries x)) result }
     ensures narrow { (r : Reach) (x : Expression) → Narrow E.shown (limits_of E.BITS) r x days → Narrow E.shown (limits_of E.BITS) r (in_centuries x) c → Narrow E.shown (limits_of E.BITS) r (daily_quartic_of angle.now x) result }
@@ -45,7 +45,7 @@ pub(crate) fn daily_quartic<E: Enclosure>(angle: &Quartic, days: E, c: E) -> E
 
 /// A cubic of the time, in the same way.
 #[inline(always)]
-#[tactic(auto, using(time_scales::proofs::Powers::cubes), unfolding(book_model::specs::Polynomials::cubic_of, sun_core::specs::Daily::by_centuries, crate::specs::Daily::daily_cubic_of))]
+#[tactic(auto, using(time_scales::proofs::Powers::cubes), unfolding(book_model::specs::numbers::Polynomials::cubic_of, sun_core::specs::Daily::by_centuries, crate::specs::Daily::daily_cubic_of))]
 fn daily_cubic<E: Enclosure>(angle: &Cubic, days: E, c: E) -> E
     ensures holds { (w : World) (x : Expression) → Within E.shown w x days → Within E.shown w (in_centuries x) c → Within E.shown w (cubic_of angle.now (in_centuries x)) result }
     ensures narrow { (r : Reach) (x : Expression) → Narrow E.shown (limits_of E.BITS) r x days → Narrow E.shown (limits_of E.BITS) r (in_centuries x) c → Narrow E.shown (limits_of E.BITS) r (daily_cubic_of angle.now x) result }
@@ -58,7 +58,7 @@ fn daily_cubic<E: Enclosure>(angle: &Cubic, days: E, c: E) -> E
 }
 
 /// The angles by the days from noon of 1 January 2000, and these in centuries.
-#[tactic(auto, unfolding(book_model::specs::Moon::lunar_angles_of, crate::specs::Daily::daily_angles_of))]
+#[tactic(auto, unfolding(book_model::specs::sky::Moon::lunar_angles_of, crate::specs::Daily::daily_angles_of))]
 pub(crate) fn angles_at<E: Enclosure>(days: E, c: E) -> Angles<E>
     ensures holds { (w : World) (x : Expression) → Within E.shown w x days → Within E.shown w (in_centuries x) c → HoldAngles E.shown w (lunar_angles_of (in_centuries x)) result }
     ensures narrow { (r : Reach) (x : Expression) → Narrow E.shown (limits_of E.BITS) r x days → Narrow E.shown (limits_of E.BITS) r (in_centuries x) c → KeepAngles E.shown (limits_of E.BITS) r (daily_angles_of x) result }

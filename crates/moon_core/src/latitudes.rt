@@ -1,12 +1,12 @@
 //! The latitude of the moon.
 ghost use Rattle.std.specs.Prelude.{◌≡◌, ◌≤◌, ◌+◌};
-ghost use Rattle.book_model.specs.Bounds.{Reach, limits_of};
-ghost use Rattle.book_model.specs.Depth.{DEPTH};
-ghost use Rattle.book_model.specs.Expressions.{Expression, World};
-ghost use Rattle.book_model.specs.Latitude as spec;
-ghost use Rattle.book_model.specs.Leading.{Leads};
-ghost use Rattle.book_model.specs.Moon.{LunarAngles};
-ghost use Rattle.book_model.specs.Relations.{Within, Narrow};
+ghost use Rattle.book_model.specs.numbers.Bounds.{Reach, limits_of};
+ghost use Rattle.book_model.specs.numbers.Depth.{DEPTH};
+ghost use Rattle.book_model.specs.numbers.Expressions.{Expression, World};
+ghost use Rattle.book_model.specs.sky.Latitude as spec;
+ghost use Rattle.book_model.specs.programs.Leading.{Leads};
+ghost use Rattle.book_model.specs.sky.Moon.{LunarAngles};
+ghost use Rattle.book_model.specs.numbers.Relations.{Within, Narrow};
 ghost use Rattle.moon_core.specs.Angles.{HoldAngles, KeepAngles};
 ghost use Rattle.moon_core.specs.Daily.{computed_millionths_of, computed_latitude_of};
 ghost use Rattle.sun_core.specs.Daily.{in_centuries};
@@ -34,7 +34,7 @@ impl<E: Enclosure> Term<Angles<E>, E> for LatitudeTerm {
 
     ghost computed_of = { λ a term. spec.latitude_term_of a term };
 
-    #[tactic(auto, unfolding(book_model::specs::Latitude::latitude_term_of))]
+    #[tactic(auto, unfolding(book_model::specs::sky::Latitude::latitude_term_of))]
     fn term(&self, given: Angles<E>) -> E {
         lunar_term(
             self.elongation,
@@ -48,7 +48,7 @@ impl<E: Enclosure> Term<Angles<E>, E> for LatitudeTerm {
 }
 
 /// The sum of the latitude's terms, in millionths of a degree.
-#[tactic(auto, unfolding(book_model::specs::Latitude::latitude_terms_of))]
+#[tactic(auto, unfolding(book_model::specs::sky::Latitude::latitude_terms_of))]
 fn latitude_terms<E: Enclosure>(angles: Angles<E>) -> E
     ensures holds { (w : World) (a : LunarAngles) → DEPTH ≤ w.depth → HoldAngles E.shown w a angles → Within E.shown w (spec.latitude_terms_of a) result }
     ensures narrow { (r : Reach) (a : LunarAngles) → KeepAngles E.shown (limits_of E.BITS) r a angles → Narrow E.shown (limits_of E.BITS) r (spec.latitude_terms_of a) result }
@@ -57,7 +57,7 @@ fn latitude_terms<E: Enclosure>(angles: Angles<E>) -> E
 }
 
 /// What Venus adds, by the angle of its wave and the argument of latitude, in millionths of a degree.
-#[tactic(auto, unfolding(book_model::specs::Latitude::venus_by))]
+#[tactic(auto, unfolding(book_model::specs::sky::Latitude::venus_by))]
 fn venus<E: Enclosure>(venus: E, argument: E) -> E
     ensures holds { (w : World) (v f : Expression) → DEPTH ≤ w.depth → Within E.shown w v venus → Within E.shown w f argument → Within E.shown w (spec.venus_by v f) result }
     ensures narrow { (r : Reach) (v f : Expression) → Narrow E.shown (limits_of E.BITS) r v venus → Narrow E.shown (limits_of E.BITS) r f argument → Narrow E.shown (limits_of E.BITS) r (spec.venus_by v f) result }
@@ -68,7 +68,7 @@ fn venus<E: Enclosure>(venus: E, argument: E) -> E
 }
 
 /// What the flattening of the earth adds, by the mean longitude and the anomaly of the moon, in millionths of a degree.
-#[tactic(auto, unfolding(book_model::specs::Latitude::flattening_by))]
+#[tactic(auto, unfolding(book_model::specs::sky::Latitude::flattening_by))]
 fn flattening<E: Enclosure>(longitude: E, anomaly: E) -> E
     ensures holds { (w : World) (l m : Expression) → DEPTH ≤ w.depth → Within E.shown w l longitude → Within E.shown w m anomaly → Within E.shown w (spec.flattening_by l m) result }
     ensures narrow { (r : Reach) (l m : Expression) → Narrow E.shown (limits_of E.BITS) r l longitude → Narrow E.shown (limits_of E.BITS) r m anomaly → Narrow E.shown (limits_of E.BITS) r (spec.flattening_by l m) result }
@@ -80,7 +80,7 @@ fn flattening<E: Enclosure>(longitude: E, anomaly: E) -> E
 }
 
 /// The latitude in millionths of a degree, by the days from noon of 1 January 2000, and these in centuries.
-#[tactic(auto, unfolding(book_model::specs::Latitude::millionths_of, crate::specs::Daily::computed_millionths_of))]
+#[tactic(auto, unfolding(book_model::specs::sky::Latitude::millionths_of, crate::specs::Daily::computed_millionths_of))]
 fn millionths<E: Enclosure>(angles: Angles<E>, days: E, c: E) -> E
     ensures holds { (w : World) (a : LunarAngles) (x : Expression) → DEPTH ≤ w.depth → HoldAngles E.shown w a angles → Within E.shown w x days → Within E.shown w (in_centuries x) c → Within E.shown w (spec.millionths_of a (in_centuries x)) result }
     ensures narrow { (r : Reach) (a : LunarAngles) (x : Expression) → KeepAngles E.shown (limits_of E.BITS) r a angles → Narrow E.shown (limits_of E.BITS) r x days → Narrow E.shown (limits_of E.BITS) r (in_centuries x) c → Narrow E.shown (limits_of E.BITS) r (computed_millionths_of a x) result }
@@ -93,7 +93,7 @@ fn millionths<E: Enclosure>(angles: Angles<E>, days: E, c: E) -> E
 }
 
 /// The latitude by the days from noon of 1 January 2000, and these in centuries.
-#[tactic(auto, unfolding(book_model::specs::Latitude::latitude_at_of, crate::specs::Daily::computed_latitude_of))]
+#[tactic(auto, unfolding(book_model::specs::sky::Latitude::latitude_at_of, crate::specs::Daily::computed_latitude_of))]
 fn latitude_at<E: Enclosure>(days: E, c: E) -> E
     ensures holds { (w : World) (x : Expression) → DEPTH ≤ w.depth → Within E.shown w x days → Within E.shown w (in_centuries x) c → Within E.shown w (spec.latitude_at_of (in_centuries x)) result }
     ensures narrow { (r : Reach) (x : Expression) → Narrow E.shown (limits_of E.BITS) r x days → Narrow E.shown (limits_of E.BITS) r (in_centuries x) c → Narrow E.shown (limits_of E.BITS) r (computed_latitude_of x) result }
@@ -104,7 +104,7 @@ fn latitude_at<E: Enclosure>(days: E, c: E) -> E
 /// The latitude of the moon, from the ecliptic, at a moment of universal time, in degrees (Reingold and Dershowitz, Calendrical
 /// Calculations, chapter 14; Meeus, Astronomical Algorithms, chapter 47). One test, the year's. It is void at `year` in a year
 /// without a correction.
-#[tactic(auto, using(book_model::proofs::Leads::leading), unfolding(book_model::specs::Latitude::latitude_of, book_model::specs::Time::centuries_of, book_model::specs::Time::in_centuries, sun_core::specs::Daily::in_centuries, book_model::specs::Leading::next_turn))]
+#[tactic(auto, using(book_model::proofs::Leads::leading), unfolding(book_model::specs::sky::Latitude::latitude_of, book_model::specs::sky::Time::centuries_of, book_model::specs::sky::Time::in_centuries, sun_core::specs::Daily::in_centuries, book_model::specs::programs::Leading::next_turn))]
 pub fn latitude<E: Enclosure>(t: E, trail: &mut Trail) -> Result<E, Fail>
     ensures leads { (w : World) (x : Expression) → DEPTH ≤ w.depth → Within E.shown w x t → Leads w (Within E.shown w) (spec.latitude_of x) trail.old.count trail.new.count result }
     ensures counted { trail.new.count ≤ trail.old.count + 1 }

@@ -1,10 +1,10 @@
 //! The apparent longitude of the moon.
 ghost use Rattle.std.specs.Prelude.{◌≡◌, ◌≤◌, ◌+◌, ℕ, IfErr};
-ghost use Rattle.book_model.specs.Bounds.{Reach, IsNarrow, limits_of};
-ghost use Rattle.book_model.specs.Expressions.{Expression, World, argument};
-ghost use Rattle.book_model.specs.Leading.{Leads, next_turn};
-ghost use Rattle.book_model.specs.Moon as spec;
-ghost use Rattle.book_model.specs.Relations.{Within, Narrow};
+ghost use Rattle.book_model.specs.numbers.Bounds.{Reach, IsNarrow, limits_of};
+ghost use Rattle.book_model.specs.numbers.Expressions.{Expression, World, argument};
+ghost use Rattle.book_model.specs.programs.Leading.{Leads, next_turn};
+ghost use Rattle.book_model.specs.sky.Moon as spec;
+ghost use Rattle.book_model.specs.numbers.Relations.{Within, Narrow};
 ghost use Rattle.moon_core.specs.Angles.{HoldAngles, KeepAngles};
 ghost use Rattle.moon_core.specs.Daily.{computed_terms_of, computed_flattening_of, computed_inequalities_of, computed_longitude_of};
 ghost use Rattle.moon_core.specs.Widths.{longitude_bound};
@@ -34,7 +34,7 @@ impl<E: Enclosure> Term<Angles<E>, E> for MoonTerm {
 
     ghost computed_of = { λ a term. spec.longitude_term_of a term };
 
-    #[tactic(auto, unfolding(book_model::specs::Moon::longitude_term_of))]
+    #[tactic(auto, unfolding(book_model::specs::sky::Moon::longitude_term_of))]
     fn term(&self, given: Angles<E>) -> E {
         lunar_term(
             self.elongation,
@@ -48,7 +48,7 @@ impl<E: Enclosure> Term<Angles<E>, E> for MoonTerm {
 }
 
 /// The sum of the longitude's terms, in millionths of a degree.
-#[tactic(auto, unfolding(book_model::specs::Moon::longitude_terms_of, crate::specs::Daily::computed_terms_of))]
+#[tactic(auto, unfolding(book_model::specs::sky::Moon::longitude_terms_of, crate::specs::Daily::computed_terms_of))]
 fn longitude_terms<E: Enclosure>(days: E, c: E) -> E
     ensures holds { (w : World) (x : Expression) → Within E.shown w x days → Within E.shown w (in_centuries x) c → Within E.shown w (spec.longitude_terms_of (in_centuries x)) result }
     ensures narrow { (r : Reach) (x : Expression) → Narrow E.shown (limits_of E.BITS) r x days → Narrow E.shown (limits_of E.BITS) r (in_centuries x) c → Narrow E.shown (limits_of E.BITS) r (computed_terms_of x) result }
@@ -57,7 +57,7 @@ fn longitude_terms<E: Enclosure>(days: E, c: E) -> E
 }
 
 /// What the flattening of the earth adds, in millionths of a degree.
-#[tactic(auto, unfolding(book_model::specs::Moon::flattening_of, crate::specs::Daily::computed_flattening_of))]
+#[tactic(auto, unfolding(book_model::specs::sky::Moon::flattening_of, crate::specs::Daily::computed_flattening_of))]
 fn flattening<E: Enclosure>(days: E, c: E) -> E
     ensures holds { (w : World) (x : Expression) → Within E.shown w x days → Within E.shown w (in_centuries x) c → Within E.shown w (spec.flattening_of (in_centuries x)) result }
     ensures narrow { (r : Reach) (x : Expression) → Narrow E.shown (limits_of E.BITS) r x days → Narrow E.shown (limits_of E.BITS) r (in_centuries x) c → Narrow E.shown (limits_of E.BITS) r (computed_flattening_of x) result }
@@ -71,7 +71,7 @@ fn flattening<E: Enclosure>(days: E, c: E) -> E
 }
 
 /// What the moon is ahead of its mean longitude, in millionths of a degree.
-#[tactic(auto, unfolding(book_model::specs::Moon::inequalities_of, crate::specs::Daily::computed_inequalities_of))]
+#[tactic(auto, unfolding(book_model::specs::sky::Moon::inequalities_of, crate::specs::Daily::computed_inequalities_of))]
 fn inequalities<E: Enclosure>(days: E, c: E) -> E
     ensures holds { (w : World) (x : Expression) → Within E.shown w x days → Within E.shown w (in_centuries x) c → Within E.shown w (spec.inequalities_of (in_centuries x)) result }
     ensures narrow { (r : Reach) (x : Expression) → Narrow E.shown (limits_of E.BITS) r x days → Narrow E.shown (limits_of E.BITS) r (in_centuries x) c → Narrow E.shown (limits_of E.BITS) r (computed_inequalities_of x) result }
@@ -83,7 +83,7 @@ fn inequalities<E: Enclosure>(days: E, c: E) -> E
 }
 
 /// The longitude of the moon by the days from noon of 1 January 2000, and these in centuries; not reduced.
-#[tactic(auto, unfolding(book_model::specs::Moon::moon_longitude_of, crate::specs::Daily::computed_longitude_of))]
+#[tactic(auto, unfolding(book_model::specs::sky::Moon::moon_longitude_of, crate::specs::Daily::computed_longitude_of))]
 fn longitude<E: Enclosure>(days: E, c: E) -> E
     ensures holds { (w : World) (x : Expression) → Within E.shown w x days → Within E.shown w (in_centuries x) c → Within E.shown w (spec.moon_longitude_of (in_centuries x)) result }
     ensures narrow { (r : Reach) (x : Expression) → Narrow E.shown (limits_of E.BITS) r x days → Narrow E.shown (limits_of E.BITS) r (in_centuries x) c → Narrow E.shown (limits_of E.BITS) r (computed_longitude_of x) result }
@@ -97,7 +97,7 @@ fn longitude<E: Enclosure>(days: E, c: E) -> E
 /// The apparent longitude of the moon at a moment of universal time, in degrees from 0 up to 360 (Reingold and
 /// Dershowitz, Calendrical Calculations, chapter 14; Meeus, Astronomical Algorithms, chapter 47). Two tests, the year's and
 /// the one at `moon-wrap`. It is void at `year` in a year without a correction.
-#[tactic(auto, using(book_model::proofs::Leads::leading, crate::proofs::Openings::opening), unfolding(book_model::specs::Moon::moon_of, book_model::specs::Time::centuries_of, book_model::specs::Time::in_centuries, sun_core::specs::Daily::in_centuries, book_model::specs::Leading::next_turn))]
+#[tactic(auto, using(book_model::proofs::Leads::leading, crate::proofs::Openings::opening), unfolding(book_model::specs::sky::Moon::moon_of, book_model::specs::sky::Time::centuries_of, book_model::specs::sky::Time::in_centuries, sun_core::specs::Daily::in_centuries, book_model::specs::programs::Leading::next_turn))]
 pub fn moon<E: Enclosure>(t: E, trail: &mut Trail) -> Result<E, Fail>
     ensures leads { (w : World) (x : Expression) → Within E.shown w x t → Leads w (Within E.shown w) (spec.moon_of x) trail.old.count trail.new.count result }
     ensures open { IfErr result (IsYearOpenFor (E.shown t)) }

@@ -1,12 +1,12 @@
 //! The moon's phase, and the number of the new moon about a moment.
 ghost use Rattle.std.specs.Prelude.{◌≡◌, ◌≤◌, ◌+◌, ℤ, pos, negsuc, ◌≤ℤ◌, IfOk, IfErr};
 ghost use Rattle.exact_math.specs.Interval.{Interval};
-ghost use Rattle.book_model.specs.Bounds.{Reach, limits_of};
-ghost use Rattle.book_model.specs.Expressions.{Expression, World};
-ghost use Rattle.book_model.specs.Leading.{Leads, Exact, next_turn};
-ghost use Rattle.book_model.specs.Phases as spec;
-ghost use Rattle.book_model.specs.Ranges.{IsInTable};
-ghost use Rattle.book_model.specs.Relations.{Within, Narrow};
+ghost use Rattle.book_model.specs.numbers.Bounds.{Reach, limits_of};
+ghost use Rattle.book_model.specs.numbers.Expressions.{Expression, World};
+ghost use Rattle.book_model.specs.programs.Leading.{Leads, Exact, next_turn};
+ghost use Rattle.book_model.specs.sky.Phases as spec;
+ghost use Rattle.book_model.specs.numbers.Ranges.{IsInTable};
+ghost use Rattle.book_model.specs.numbers.Relations.{Within, Narrow};
 ghost use Rattle.time_scales.specs.Steps.{IsYearOpenFor, IsEarlyYearFor};
 
 use crate::longitude::moon;
@@ -16,7 +16,7 @@ use new_moons::new_moon;
 use sun_core::sun;
 
 /// An angle, reduced to 0 up to 360 degrees, as one test.
-#[tactic(auto, using(book_model::proofs::Leads::leading, crate::proofs::Openings::opening), unfolding(book_model::specs::Phases::turned_of, book_model::specs::Leading::next_turn))]
+#[tactic(auto, using(book_model::proofs::Leads::leading, crate::proofs::Openings::opening), unfolding(book_model::specs::sky::Phases::turned_of, book_model::specs::programs::Leading::next_turn))]
 fn turned<E: Enclosure>(angle: E, trail: &mut Trail) -> Result<E, Fail>
     ensures leads { (w : World) (x : Expression) → Within E.shown w x angle → Leads w (Within E.shown w) (spec.turned_of x) trail.old.count trail.new.count result }
     ensures elsewhere { (i : Interval) → IfErr result (IsYearOpenFor i) }
@@ -26,7 +26,7 @@ fn turned<E: Enclosure>(angle: E, trail: &mut Trail) -> Result<E, Fail>
 }
 
 /// The longitude of the moon less that of the sun, from 0 up to 360 degrees.
-#[tactic(auto, using(book_model::proofs::Leads::leading), unfolding(book_model::specs::Phases::elongation_of))]
+#[tactic(auto, using(book_model::proofs::Leads::leading), unfolding(book_model::specs::sky::Phases::elongation_of))]
 fn longitudes_apart<E: Enclosure>(t: E, trail: &mut Trail) -> Result<E, Fail>
     ensures leads { (w : World) (x : Expression) → Within E.shown w x t → Leads w (Within E.shown w) (spec.elongation_of x) trail.old.count trail.new.count result }
     ensures open { IfErr result (IsYearOpenFor (E.shown t)) }
@@ -48,7 +48,7 @@ fn elongation<E: Enclosure>(t: E, trail: &mut Trail) -> Result<E, Fail>
 }
 
 /// The synodic months from the new moon of a number to a moment: one test at most.
-#[tactic(auto, using(book_model::proofs::Leads::leading), unfolding(book_model::specs::Phases::months_since, book_model::specs::Phases::months_between, book_model::specs::Leading::next_turn))]
+#[tactic(auto, using(book_model::proofs::Leads::leading), unfolding(book_model::specs::sky::Phases::months_since, book_model::specs::sky::Phases::months_between, book_model::specs::programs::Leading::next_turn))]
 fn months_since<E: Enclosure>(n: i64, t: E, trail: &mut Trail) -> Result<E, Fail>
     requires low { negsuc 39999999 ≤ℤ n }
     requires high { n ≤ℤ pos 40000000 }
@@ -62,7 +62,7 @@ fn months_since<E: Enclosure>(n: i64, t: E, trail: &mut Trail) -> Result<E, Fail
 }
 
 /// The whole number of months that is nearest, as one test.
-#[tactic(auto, using(book_model::proofs::Leads::leading), unfolding(book_model::specs::Phases::nearest_moon_of, book_model::specs::Leading::next_turn))]
+#[tactic(auto, using(book_model::proofs::Leads::leading), unfolding(book_model::specs::sky::Phases::nearest_moon_of, book_model::specs::programs::Leading::next_turn))]
 fn nearest_moon<E: Enclosure>(months: E, trail: &mut Trail) -> Result<i64, Fail>
     ensures leads { (w : World) (m : Expression) → Within E.shown w m months → Leads w Exact (spec.nearest_moon_of m) trail.old.count trail.new.count result }
     ensures counted { trail.new.count ≤ trail.old.count + 1 }
@@ -71,7 +71,7 @@ fn nearest_moon<E: Enclosure>(months: E, trail: &mut Trail) -> Result<i64, Fail>
 }
 
 /// The number of the new moon about a moment, by mean months from the first.
-#[tactic(auto, using(book_model::proofs::Leads::leading), unfolding(book_model::specs::Phases::rough_number_of))]
+#[tactic(auto, using(book_model::proofs::Leads::leading), unfolding(book_model::specs::sky::Phases::rough_number_of))]
 fn number_by_months<E: Enclosure>(t: E, trail: &mut Trail) -> Result<i64, Fail>
     ensures leads { (w : World) (x : Expression) → Within E.shown w x t → Leads w Exact (spec.rough_number_of x) trail.old.count trail.new.count result }
     ensures counted { trail.new.count ≤ trail.old.count + 2 }
@@ -94,7 +94,7 @@ fn rough_number<E: Enclosure>(t: E, trail: &mut Trail) -> Result<i64, Fail>
 }
 
 /// What is left of so many months by whole months, as one test.
-#[tactic(auto, using(book_model::proofs::Leads::leading), unfolding(book_model::specs::Phases::rest_of_month, book_model::specs::Leading::next_turn))]
+#[tactic(auto, using(book_model::proofs::Leads::leading), unfolding(book_model::specs::sky::Phases::rest_of_month, book_model::specs::programs::Leading::next_turn))]
 fn rest_of_month<E: Enclosure>(months: E, trail: &mut Trail) -> Result<E, Fail>
     ensures leads { (w : World) (m : Expression) → Within E.shown w m months → Leads w (Within E.shown w) (spec.rest_of_month m) trail.old.count trail.new.count result }
     ensures counted { trail.new.count ≤ trail.old.count + 1 }
@@ -103,7 +103,7 @@ fn rest_of_month<E: Enclosure>(months: E, trail: &mut Trail) -> Result<E, Fail>
 }
 
 /// The phase by the time since the new moon of a number, from 0 up to 360 degrees: two tests at most.
-#[tactic(auto, using(book_model::proofs::Leads::leading), unfolding(book_model::specs::Phases::phase_by_months_of))]
+#[tactic(auto, using(book_model::proofs::Leads::leading), unfolding(book_model::specs::sky::Phases::phase_by_months_of))]
 fn phase_by_months<E: Enclosure>(n: i64, t: E, trail: &mut Trail) -> Result<E, Fail>
     requires low { negsuc 39999999 ≤ℤ n }
     requires high { n ≤ℤ pos 40000000 }
@@ -126,7 +126,7 @@ fn size<E: Enclosure>(x: E) -> E
 }
 
 /// The second of two phases, where they are apart.
-#[tactic(auto, unfolding(book_model::specs::Phases::chosen))]
+#[tactic(auto, unfolding(book_model::specs::sky::Phases::chosen))]
 fn chosen<E: Enclosure>(apart: bool, by_longitudes: E, by_time: E) -> E
     ensures holds { (w : World) (p q : Expression) → Within E.shown w p by_longitudes → Within E.shown w q by_time → Within E.shown w (spec.chosen apart p q) result }
 {
@@ -134,7 +134,7 @@ fn chosen<E: Enclosure>(apart: bool, by_longitudes: E, by_time: E) -> E
 }
 
 /// The phase by longitudes, or the one by the time where they are more than 180 degrees apart: one test.
-#[tactic(auto, using(book_model::proofs::Leads::leading), unfolding(book_model::specs::Phases::picked_of, book_model::specs::Leading::next_turn))]
+#[tactic(auto, using(book_model::proofs::Leads::leading), unfolding(book_model::specs::sky::Phases::picked_of, book_model::specs::programs::Leading::next_turn))]
 fn picked<E: Enclosure>(by_longitudes: E, by_time: E, trail: &mut Trail) -> Result<E, Fail>
     ensures leads { (w : World) (p q : Expression) → Within E.shown w p by_longitudes → Within E.shown w q by_time → Leads w (Within E.shown w) (spec.picked_of p q) trail.old.count trail.new.count result }
     ensures counted { trail.new.count ≤ trail.old.count + 1 }
@@ -147,7 +147,7 @@ fn picked<E: Enclosure>(by_longitudes: E, by_time: E, trail: &mut Trail) -> Resu
 }
 
 /// The phase by longitudes, or in its place the one by the time since the new moon about the moment: five tests at most.
-#[tactic(auto, using(book_model::proofs::Leads::leading), unfolding(book_model::specs::Phases::corrected_of))]
+#[tactic(auto, using(book_model::proofs::Leads::leading), unfolding(book_model::specs::sky::Phases::corrected_of))]
 fn corrected<E: Enclosure>(by_longitudes: E, t: E, trail: &mut Trail) -> Result<E, Fail>
     requires in_table { IsInTable (E.shown t) }
     ensures leads { (w : World) (x p : Expression) → Within E.shown w x t → Within E.shown w p by_longitudes → Leads w (Within E.shown w) (spec.corrected_of x p) trail.old.count trail.new.count result }
@@ -163,7 +163,7 @@ fn corrected<E: Enclosure>(by_longitudes: E, t: E, trail: &mut Trail) -> Result<
 /// and Dershowitz, Calendrical Calculations, chapter 14). Ten tests: five of the longitudes, two of the number of the new
 /// moon about the moment, two of the time since that, and one that picks. It is void at `year` in a year without a
 /// correction.
-#[tactic(auto, using(book_model::proofs::Leads::leading), unfolding(book_model::specs::Phases::phase_of))]
+#[tactic(auto, using(book_model::proofs::Leads::leading), unfolding(book_model::specs::sky::Phases::phase_of))]
 pub fn phase<E: Enclosure>(t: E, trail: &mut Trail) -> Result<E, Fail>
     ensures leads { (w : World) (x : Expression) → Within E.shown w x t → Leads w (Within E.shown w) (spec.phase_of x) trail.old.count trail.new.count result }
     ensures early { trail.old.count ≡ 0 → IfErr result (IsEarlyYearFor (E.shown t)) }
@@ -176,7 +176,7 @@ pub fn phase<E: Enclosure>(t: E, trail: &mut Trail) -> Result<E, Fail>
 }
 
 /// The number of the last new moon before a moment, or of one next to it.
-#[tactic(auto, using(book_model::proofs::Leads::leading), unfolding(book_model::specs::Phases::number_of_moon))]
+#[tactic(auto, using(book_model::proofs::Leads::leading), unfolding(book_model::specs::sky::Phases::number_of_moon))]
 fn number_by_phase<E: Enclosure>(t: E, trail: &mut Trail) -> Result<i64, Fail>
     ensures leads { (w : World) (x : Expression) → Within E.shown w x t → Leads w Exact (spec.number_of_moon x) trail.old.count trail.new.count result }
     ensures counted { trail.new.count ≤ trail.old.count + 12 }

@@ -1,10 +1,10 @@
 //! The terms of the moon's longitude and latitude.
 ghost use Rattle.std.specs.Prelude.{◌≡◌, ◌≤◌, unsigned_abs};
-ghost use Rattle.book_model.specs.Bounds.{Reach, limits_of};
-ghost use Rattle.book_model.specs.Depth.{DEPTH};
-ghost use Rattle.book_model.specs.Expressions.{World};
-ghost use Rattle.book_model.specs.Moon as spec;
-ghost use Rattle.book_model.specs.Relations.{Within, Narrow};
+ghost use Rattle.book_model.specs.numbers.Bounds.{Reach, limits_of};
+ghost use Rattle.book_model.specs.numbers.Depth.{DEPTH};
+ghost use Rattle.book_model.specs.numbers.Expressions.{World};
+ghost use Rattle.book_model.specs.sky.Moon as spec;
+ghost use Rattle.book_model.specs.numbers.Relations.{Within, Narrow};
 ghost use Rattle.moon_core.specs.Angles.{HoldAngles, KeepAngles};
 
 use crate::angles::Angles;
@@ -14,7 +14,7 @@ use trig_series::sin_deg;
 
 /// The sum of so many times each of the angles.
 #[inline(always)]
-#[tactic(auto, unfolding(book_model::specs::Moon::lunar_angle_of))]
+#[tactic(auto, unfolding(book_model::specs::sky::Moon::lunar_angle_of))]
 fn lunar_angle<E: Enclosure>(
     elongation: i64,
     sun_anomaly: i64,
@@ -43,7 +43,7 @@ fn size_of(multiple: i64) -> u64
 /// A size times the sine of the sum of so many times each of the angles, and times the factor of the eccentricity to the power of
 /// the multiple of the sun's anomaly.
 #[inline(always)]
-#[tactic(auto, unfolding(book_model::specs::Moon::lunar_term_of))]
+#[tactic(auto, unfolding(book_model::specs::sky::Moon::lunar_term_of))]
 pub(crate) fn lunar_term<E: Enclosure>(
     elongation: i64,
     sun_anomaly: i64,

@@ -1,10 +1,10 @@
 //! The new moons before and from a moment, by a walk over their numbers.
 ghost use Rattle.std.specs.Prelude.{◌≡◌, ◌≤◌, ◌+◌, ◌*◌, ℤ, pos, negsuc, ◌≤ℤ◌, ◌+ℤ◌, IfOk};
-ghost use Rattle.book_model.specs.Expressions.{Expression, World};
-ghost use Rattle.book_model.specs.Leading.{Leads, Exact, next_turn};
-ghost use Rattle.book_model.specs.Phases as spec;
-ghost use Rattle.book_model.specs.Relations.{Within};
-ghost use Rattle.book_model.specs.Depth.{DEPTH};
+ghost use Rattle.book_model.specs.numbers.Expressions.{Expression, World};
+ghost use Rattle.book_model.specs.programs.Leading.{Leads, Exact, next_turn};
+ghost use Rattle.book_model.specs.sky.Phases as spec;
+ghost use Rattle.book_model.specs.numbers.Relations.{Within};
+ghost use Rattle.book_model.specs.numbers.Depth.{DEPTH};
 
 use crate::phases::number;
 use book_model::{Fail, Site};
@@ -15,7 +15,7 @@ use new_moons::new_moon;
 const NUMBERS_TRIED: u32 = 6;
 
 /// Whether the new moon of a number is before a moment: two tests at most.
-#[tactic(auto, using(book_model::proofs::Leads::leading), unfolding(book_model::specs::Phases::is_moon_before_of, book_model::specs::Leading::next_turn))]
+#[tactic(auto, using(book_model::proofs::Leads::leading), unfolding(book_model::specs::sky::Phases::is_moon_before_of, book_model::specs::programs::Leading::next_turn))]
 fn is_moon_before<E: Enclosure>(n: i64, t: E, trail: &mut Trail) -> Result<bool, Fail>
     requires low { negsuc 39999999 ≤ℤ n }
     requires high { n ≤ℤ pos 40000000 }
@@ -29,7 +29,7 @@ fn is_moon_before<E: Enclosure>(n: i64, t: E, trail: &mut Trail) -> Result<bool,
 }
 
 /// The first of so many numbers from one on whose new moon isn't before a moment; void at `moon-walk` where there is none.
-#[tactic(auto, using(book_model::proofs::Leads::leading, crate::proofs::WalkSteps::walks), unfolding(book_model::specs::Leading::next_turn))]
+#[tactic(auto, using(book_model::proofs::Leads::leading, crate::proofs::WalkSteps::walks), unfolding(book_model::specs::programs::Leading::next_turn))]
 fn walk<E: Enclosure>(more: u32, t: E, n: i64, trail: &mut Trail) -> Result<i64, Fail>
     requires low { negsuc 39999999 ≤ℤ n }
     requires high { (n +ℤ pos more) ≤ℤ pos 40000000 }
@@ -49,7 +49,7 @@ fn walk<E: Enclosure>(more: u32, t: E, n: i64, trail: &mut Trail) -> Result<i64,
 }
 
 /// The moment of the new moon that comes before the one of a number: one test at most.
-#[tactic(auto, unfolding(book_model::specs::Phases::moon_preceding_of, book_model::specs::Leading::next_turn))]
+#[tactic(auto, unfolding(book_model::specs::sky::Phases::moon_preceding_of, book_model::specs::programs::Leading::next_turn))]
 fn moon_preceding<E: Enclosure>(n: i64, trail: &mut Trail) -> Result<E, Fail>
     requires low { negsuc 39999998 ≤ℤ n }
     requires high { n ≤ℤ pos 40000000 }
@@ -63,7 +63,7 @@ fn moon_preceding<E: Enclosure>(n: i64, trail: &mut Trail) -> Result<E, Fail>
 /// chapter 14): from the number before that of the moment the walk goes to the first new moon that isn't before it, and
 /// takes the one before that anew. At most 25 tests. It is void at `moon-walk` where the walk would take more than
 /// five steps, and at `year` in a year without a correction.
-#[tactic(auto, using(book_model::proofs::Leads::leading), unfolding(book_model::specs::Phases::moon_before_of, book_model::specs::Leading::next_turn))]
+#[tactic(auto, using(book_model::proofs::Leads::leading), unfolding(book_model::specs::sky::Phases::moon_before_of, book_model::specs::programs::Leading::next_turn))]
 pub fn moon_before<E: Enclosure>(t: E, trail: &mut Trail) -> Result<E, Fail>
     ensures leads { (w : World) (x : Expression) → Within E.shown w x t → Leads w (Within E.shown w) (spec.moon_before_of x) trail.old.count trail.new.count result }
     ensures counted { trail.new.count ≤ trail.old.count + 25 }
@@ -79,7 +79,7 @@ pub fn moon_before<E: Enclosure>(t: E, trail: &mut Trail) -> Result<E, Fail>
 /// Calculations, chapter 14): from the number of the moment the walk goes to the first new moon that isn't before it, and
 /// takes that anew. At most 25 tests. It is void at `moon-walk` where the walk would take more than five steps, and
 /// at `year` in a year without a correction.
-#[tactic(auto, using(book_model::proofs::Leads::leading), unfolding(book_model::specs::Phases::moon_from_of, book_model::specs::Leading::next_turn))]
+#[tactic(auto, using(book_model::proofs::Leads::leading), unfolding(book_model::specs::sky::Phases::moon_from_of, book_model::specs::programs::Leading::next_turn))]
 pub fn moon_from<E: Enclosure>(t: E, trail: &mut Trail) -> Result<E, Fail>
     ensures leads { (w : World) (x : Expression) → Within E.shown w x t → Leads w (Within E.shown w) (spec.moon_from_of x) trail.old.count trail.new.count result }
     ensures counted { trail.new.count ≤ trail.old.count + 25 }

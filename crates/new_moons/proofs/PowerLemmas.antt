@@ -3,10 +3,10 @@ use Rattle.std.specs.Prelude.{◌≡◌, ℕ, zero, suc, ◌+◌, ◌≤◌, ref
 use Rattle.std.proofs.Common.{add-one, arith}
 use Rattle.exact_math.specs.Interval.{Interval}
 use Rattle.exact_math.proofs.Intervals.{within_trans}
-use Rattle.book_model.specs.Bounds.{Limits, Reach, bound_of, power_bound}
-use Rattle.book_model.specs.Expressions.{Expression, World, value, multiply, power}
-use Rattle.book_model.specs.Relations.{Within, Narrow, Lies, Keeps}
-use Rattle.book_model.specs.Terms.{times_power}
+use Rattle.book_model.specs.numbers.Bounds.{Limits, Reach, bound_of, power_bound}
+use Rattle.book_model.specs.numbers.Expressions.{Expression, World, value, multiply, power}
+use Rattle.book_model.specs.numbers.Relations.{Within, Narrow, Lies, Keeps}
+use Rattle.book_model.specs.numbers.Terms.{times_power}
 use Rattle.book_model.proofs.Values.{value_proper}
 use Rattle.time_scales.proofs.Powers.{next_power}
 

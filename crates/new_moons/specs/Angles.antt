@@ -3,11 +3,11 @@ use Rattle.exact_math.specs.Fraction.{Fraction}
 use Rattle.exact_math.specs.Interval.{Interval}
 use Rattle.book_model.specs.declared.moon_tables.TheConstants.{ECCENTRICITY_FACTOR}
 use Rattle.book_model.specs.declared.new_moon_tables.TheConstants.{NEW_MOON_ANOMALY, NEW_MOON_LATITUDE_ARGUMENT, NEW_MOON_SUN_ANOMALY}
-use Rattle.book_model.specs.Bounds.{Limits, Reach}
-use Rattle.book_model.specs.Expressions.{World, constant}
-use Rattle.book_model.specs.NewMoons.{NewMoonAngles}
-use Rattle.book_model.specs.Polynomials.{quadratic_of}
-use Rattle.book_model.specs.Relations.{Within, Narrow}
+use Rattle.book_model.specs.numbers.Bounds.{Limits, Reach}
+use Rattle.book_model.specs.numbers.Expressions.{World, constant}
+use Rattle.book_model.specs.sky.NewMoons.{NewMoonAngles}
+use Rattle.book_model.specs.numbers.Polynomials.{quadratic_of}
+use Rattle.book_model.specs.numbers.Relations.{Within, Narrow}
 use Rattle.new_moons.specs.declared.angles.Angles.{Angles}
 use Rattle.time_scales.specs.Horner.{horner_of}
 

@@ -3,10 +3,10 @@ use Rattle.std.specs.Prelude.{ℤ}
 use Rattle.exact_math.specs.Fraction.{Fraction}
 use Rattle.book_model.specs.declared.new_moon_tables.TheConstants.{MEAN_NEW_MOON, NEW_MOON_NODE, NEW_MOON_TERMS, NODE_TERM}
 use Rattle.book_model.specs.declared.time_tables.TheConstants.{NOON_2000}
-use Rattle.book_model.specs.Expressions.{Expression, constant, add, scale, sine}
-use Rattle.book_model.specs.Fractions.{fraction_of}
-use Rattle.book_model.specs.NewMoons.{centuries_of_months, new_moon_term_of, no_new_moon_term, venus_wave_of, planet_terms_of}
-use Rattle.book_model.specs.Terms.{terms_of}
+use Rattle.book_model.specs.numbers.Expressions.{Expression, constant, add, scale, sine}
+use Rattle.book_model.specs.numbers.Fractions.{fraction_of}
+use Rattle.book_model.specs.sky.NewMoons.{centuries_of_months, new_moon_term_of, no_new_moon_term, venus_wave_of, planet_terms_of}
+use Rattle.book_model.specs.numbers.Terms.{terms_of}
 use Rattle.new_moons.specs.Angles.{computed_angles_of}
 use Rattle.time_scales.specs.Horner.{horner_of}
 

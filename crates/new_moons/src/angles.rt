@@ -1,11 +1,11 @@
 //! The angles of which the terms of a new moon are made.
 ghost use Rattle.std.specs.Prelude.{◌≡◌, ◌≤◌};
-ghost use Rattle.book_model.specs.Bounds.{Reach, limits_of};
-ghost use Rattle.book_model.specs.Expressions.{World};
-ghost use Rattle.book_model.specs.Fractions.{fraction_of};
-ghost use Rattle.book_model.specs.NewMoons.{new_moon_angles_of};
+ghost use Rattle.book_model.specs.numbers.Bounds.{Reach, limits_of};
+ghost use Rattle.book_model.specs.numbers.Expressions.{World};
+ghost use Rattle.book_model.specs.numbers.Fractions.{fraction_of};
+ghost use Rattle.book_model.specs.sky.NewMoons.{new_moon_angles_of};
 ghost use Rattle.new_moons.specs.Angles.{HoldAngles, KeepAngles, computed_angles_of};
-ghost use Rattle.book_model.specs.Depth.{DEPTH};
+ghost use Rattle.book_model.specs.numbers.Depth.{DEPTH};
 
 use book_model::{
     ECCENTRICITY_FACTOR, Frac, NEW_MOON_ANOMALY, NEW_MOON_LATITUDE_ARGUMENT, NEW_MOON_SUN_ANOMALY,
@@ -25,7 +25,7 @@ pub(crate) struct Angles<E> {
 
 /// The angles at a time, in centuries.
 #[inline(always)]
-#[tactic(auto, unfolding(book_model::specs::NewMoons::new_moon_angles_of, crate::specs::Angles::computed_angles_of))]
+#[tactic(auto, unfolding(book_model::specs::sky::NewMoons::new_moon_angles_of, crate::specs::Angles::computed_angles_of))]
 pub(crate) fn angles_at<E: Enclosure>(time: Frac) -> Angles<E>
     ensures holds { (w : World) → DEPTH ≤ w.depth → HoldAngles E.shown w (new_moon_angles_of (fraction_of time)) result }
     ensures narrow { (r : Reach) → KeepAngles E.shown (limits_of E.BITS) r (computed_angles_of (fraction_of time)) result }

@@ -1,13 +1,13 @@
 //! The moment of a new moon.
 ghost use Rattle.std.specs.Prelude.{◌≡◌, ◌≤◌, ℤ, pos, negsuc, ◌≤ℤ◌};
-ghost use Rattle.book_model.specs.Bounds.{Reach, limits_of};
-ghost use Rattle.book_model.specs.Expressions.{Expression, World};
-ghost use Rattle.book_model.specs.Fractions.{fraction_of};
-ghost use Rattle.book_model.specs.Leading.{Leads, next_turn};
-ghost use Rattle.book_model.specs.NewMoons as spec;
-ghost use Rattle.book_model.specs.Relations.{Within, Narrow};
+ghost use Rattle.book_model.specs.numbers.Bounds.{Reach, limits_of};
+ghost use Rattle.book_model.specs.numbers.Expressions.{Expression, World};
+ghost use Rattle.book_model.specs.numbers.Fractions.{fraction_of};
+ghost use Rattle.book_model.specs.programs.Leading.{Leads, next_turn};
+ghost use Rattle.book_model.specs.sky.NewMoons as spec;
+ghost use Rattle.book_model.specs.numbers.Relations.{Within, Narrow};
 ghost use Rattle.new_moons.specs.Moons.{computed_mean_of, computed_node_term_of, computed_terms_of, computed_new_moon_of};
-ghost use Rattle.book_model.specs.Depth.{DEPTH};
+ghost use Rattle.book_model.specs.numbers.Depth.{DEPTH};
 
 use crate::angles::{Angles, angles_at};
 use crate::terms::Number;
@@ -31,7 +31,7 @@ fn centuries_of_months(months: i64) -> Frac
 
 /// The mean new moon, in dynamical time.
 #[inline(always)]
-#[tactic(auto, unfolding(book_model::specs::NewMoons::mean_new_moon_of, crate::specs::Moons::computed_mean_of))]
+#[tactic(auto, unfolding(book_model::specs::sky::NewMoons::mean_new_moon_of, crate::specs::Moons::computed_mean_of))]
 fn mean_new_moon<E: Enclosure>(time: Frac) -> E
     ensures holds { (w : World) → DEPTH ≤ w.depth → Within E.shown w (spec.mean_new_moon_of (fraction_of time)) result }
     ensures narrow { (r : Reach) → Narrow E.shown (limits_of E.BITS) r (computed_mean_of (fraction_of time)) result }
@@ -41,7 +41,7 @@ fn mean_new_moon<E: Enclosure>(time: Frac) -> E
 
 /// What the longitude of the moon's node adds, in days.
 #[inline(always)]
-#[tactic(auto, unfolding(book_model::specs::NewMoons::node_term_of, crate::specs::Moons::computed_node_term_of))]
+#[tactic(auto, unfolding(book_model::specs::sky::NewMoons::node_term_of, crate::specs::Moons::computed_node_term_of))]
 fn node_term<E: Enclosure>(time: Frac) -> E
     ensures holds { (w : World) → DEPTH ≤ w.depth → Within E.shown w (spec.node_term_of (fraction_of time)) result }
     ensures narrow { (r : Reach) → Narrow E.shown (limits_of E.BITS) r (computed_node_term_of (fraction_of time)) result }
@@ -50,7 +50,7 @@ fn node_term<E: Enclosure>(time: Frac) -> E
 }
 
 /// The sum of the terms of the three angles, in days.
-#[tactic(auto, unfolding(book_model::specs::NewMoons::new_moon_terms_of, crate::specs::Moons::computed_terms_of))]
+#[tactic(auto, unfolding(book_model::specs::sky::NewMoons::new_moon_terms_of, crate::specs::Moons::computed_terms_of))]
 fn lunar_terms<E: Enclosure>(time: Frac) -> E
     ensures holds { (w : World) → DEPTH ≤ w.depth → Within E.shown w (spec.new_moon_terms_of (fraction_of time)) result }
     ensures narrow { (r : Reach) → Narrow E.shown (limits_of E.BITS) r (computed_terms_of (fraction_of time)) result }
@@ -60,7 +60,7 @@ fn lunar_terms<E: Enclosure>(time: Frac) -> E
 
 /// What Venus adds, in days.
 #[inline(always)]
-#[tactic(auto, unfolding(book_model::specs::Polynomials::quadratic_wave_of, book_model::specs::NewMoons::venus_wave_of))]
+#[tactic(auto, unfolding(book_model::specs::numbers::Polynomials::quadratic_wave_of, book_model::specs::sky::NewMoons::venus_wave_of))]
 fn venus_wave<E: Enclosure>(time: Frac) -> E
     ensures holds { (w : World) → DEPTH ≤ w.depth → Within E.shown w (spec.venus_wave_of (fraction_of time)) result }
     ensures narrow { (r : Reach) → Narrow E.shown (limits_of E.BITS) r (spec.venus_wave_of (fraction_of time)) result }
@@ -69,7 +69,7 @@ fn venus_wave<E: Enclosure>(time: Frac) -> E
 }
 
 /// What the planets add by the number of the new moon, counted from that of January 2000, in days.
-#[tactic(auto, unfolding(book_model::specs::NewMoons::planet_terms_of))]
+#[tactic(auto, unfolding(book_model::specs::sky::NewMoons::planet_terms_of))]
 fn planet_terms<E: Enclosure>(number: i64) -> E
     ensures holds { (w : World) → DEPTH ≤ w.depth → Within E.shown w (spec.planet_terms_of number) result }
     ensures narrow { (r : Reach) → Narrow E.shown (limits_of E.BITS) r (spec.planet_terms_of number) result }
@@ -78,7 +78,7 @@ fn planet_terms<E: Enclosure>(number: i64) -> E
 }
 
 /// The new moon of a number, counted from that of January 2000, in dynamical time.
-#[tactic(auto, unfolding(book_model::specs::NewMoons::dynamical_new_moon_of, crate::specs::Moons::computed_new_moon_of))]
+#[tactic(auto, unfolding(book_model::specs::sky::NewMoons::dynamical_new_moon_of, crate::specs::Moons::computed_new_moon_of))]
 fn dynamical_new_moon<E: Enclosure>(number: i64) -> E
     requires low { negsuc 40049999 ≤ℤ number }
     requires high { number ≤ℤ pos 40050000 }
@@ -96,7 +96,7 @@ fn dynamical_new_moon<E: Enclosure>(number: i64) -> E
 /// The moment of the new moon of a number, counted from that of January of the year 1, in universal time (Reingold and
 /// Dershowitz, Calendrical Calculations, chapter 14; Meeus, Astronomical Algorithms, chapter 49). One test, at `year`; it
 /// is void at `year` in a year without a correction.
-#[tactic(auto, using(book_model::proofs::Leads::leading), unfolding(book_model::specs::NewMoons::new_moon_of))]
+#[tactic(auto, using(book_model::proofs::Leads::leading), unfolding(book_model::specs::sky::NewMoons::new_moon_of))]
 pub fn new_moon<E: Enclosure>(n: i64, trail: &mut Trail) -> Result<E, Fail>
     requires low { negsuc 39999999 ≤ℤ n }
     requires high { n ≤ℤ pos 40000000 }

@@ -1,12 +1,12 @@
 //! The terms of a new moon.
 ghost use Rattle.std.specs.Prelude.{◌≡◌, ◌≤◌, ℤ, pos, ◌+ℤ◌, ◌*ℤ◌};
-ghost use Rattle.book_model.specs.Bounds.{Reach, limits_of};
-ghost use Rattle.book_model.specs.Expressions.{Expression, World};
-ghost use Rattle.book_model.specs.Fractions.{fraction_of};
-ghost use Rattle.book_model.specs.NewMoons as spec;
-ghost use Rattle.book_model.specs.Relations.{Within, Narrow};
+ghost use Rattle.book_model.specs.numbers.Bounds.{Reach, limits_of};
+ghost use Rattle.book_model.specs.numbers.Expressions.{Expression, World};
+ghost use Rattle.book_model.specs.numbers.Fractions.{fraction_of};
+ghost use Rattle.book_model.specs.sky.NewMoons as spec;
+ghost use Rattle.book_model.specs.numbers.Relations.{Within, Narrow};
 ghost use Rattle.new_moons.specs.Angles.{HoldAngles, KeepAngles};
-ghost use Rattle.book_model.specs.Depth.{DEPTH};
+ghost use Rattle.book_model.specs.numbers.Depth.{DEPTH};
 
 use crate::angles::Angles;
 use crate::powers::times_power;
@@ -31,7 +31,7 @@ fn millionths(number: i128) -> Frac
 }
 
 /// The sum of the multiples of the angles.
-#[tactic(auto, unfolding(book_model::specs::NewMoons::angle_of_new_moon_term))]
+#[tactic(auto, unfolding(book_model::specs::sky::NewMoons::angle_of_new_moon_term))]
 fn angle<E: Enclosure>(term: &NewMoonTerm, angles: Angles<E>) -> E
     ensures holds { (w : World) (a : spec.NewMoonAngles) → HoldAngles E.shown w a angles → Within E.shown w (spec.angle_of_new_moon_term a term.now) result }
     ensures narrow { (r : Reach) (a : spec.NewMoonAngles) → KeepAngles E.shown (limits_of E.BITS) r a angles → Narrow E.shown (limits_of E.BITS) r (spec.angle_of_new_moon_term a term.now) result }
@@ -54,7 +54,7 @@ impl<E: Enclosure> Term<Angles<E>, E> for NewMoonTerm {
 
     ghost computed_of = { λ a term. spec.new_moon_term_of a term };
 
-    #[tactic(auto, unfolding(book_model::specs::NewMoons::new_moon_term_of))]
+    #[tactic(auto, unfolding(book_model::specs::sky::NewMoons::new_moon_term_of))]
     fn term(&self, given: Angles<E>) -> E {
         let sine = sin_deg(angle(self, given));
         times_power(given.eccentricity, self.eccentricity, sine).mul_frac(hundred_thousandths(
@@ -71,7 +71,7 @@ fn planet_angle(phase: i64, rate: i64, number: i64) -> i128
 }
 
 /// What a planet adds to a new moon by its number, counted from that of January 2000, in days.
-#[tactic(auto, unfolding(book_model::specs::NewMoons::planet_term_of))]
+#[tactic(auto, unfolding(book_model::specs::sky::NewMoons::planet_term_of))]
 fn planet_term<E: Enclosure>(term: &PlanetTerm, number: i64) -> E
     ensures holds { (w : World) → DEPTH ≤ w.depth → Within E.shown w (spec.planet_term_of number term.now) result }
     ensures narrow { (r : Reach) → Narrow E.shown (limits_of E.BITS) r (spec.planet_term_of number term.now) result }

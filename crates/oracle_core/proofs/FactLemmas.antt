@@ -5,8 +5,8 @@ use Rattle.std.proofs.lemmas.Bool.Decides.{nat_tests}
 use Rattle.std.specs.Ordering.{int_eq}
 use Rattle.std.specs.List.{list_any, position_or_len, position}
 use Rattle.book_model.specs.declared.fact.Fact.{Fact}
-use Rattle.book_model.specs.Inquiries.{fact_eq, with_fact}
-use Rattle.book_model.specs.Names.{kind_number, place_number}
+use Rattle.book_model.specs.calendars.Inquiries.{fact_eq, with_fact}
+use Rattle.book_model.specs.sky.Names.{kind_number, place_number}
 use Rattle.book_model.specs.contracts.fact.FactPartialEq.TheImpl as derived
 use Rattle.book_model.proofs.NameLemmas.{one_kind, one_place}
 

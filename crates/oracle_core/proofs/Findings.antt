@@ -3,9 +3,9 @@ use Rattle.std.proofs.Common.{◌≡◌, ◌∙◌, ℕ, ◌≤◌, Bool, true, 
 use Rattle.std.specs.List.{list_any}
 use Rattle.std.specs.Prelude.{if◌then◌else◌, Result, Ok, Err}
 use Rattle.book_model.specs.declared.fact.Fact.{Fact}
-use Rattle.book_model.specs.Facts.{run_of}
-use Rattle.book_model.specs.Inquiries.{Inquiry, fact_eq, with_fact, with_entry, found, finding, finding_after, AsksAt, asks_here, asks_after}
-use Rattle.book_model.specs.Programs.{valued, outcome}
+use Rattle.book_model.specs.sky.Facts.{run_of}
+use Rattle.book_model.specs.calendars.Inquiries.{Inquiry, fact_eq, with_fact, with_entry, found, finding, finding_after, AsksAt, asks_here, asks_after}
+use Rattle.book_model.specs.programs.Programs.{valued, outcome}
 use Rattle.oracle_core.specs.declared.oracle.Stop.{Stop}
 use Rattle.oracle_core.specs.Inquiring.{State, Tells, ends, goes_on, stops, Inquires}
 use Rattle.oracle_core.specs.Oracles.{by_evaluator}

@@ -4,7 +4,7 @@ use Rattle.std.specs.Prelude.{Result, Ok, Err}
 use Rattle.std.specs.List.{list_any}
 use Rattle.std.proofs.lemmas.Int.{to_z-of_z}
 use Rattle.book_model.specs.declared.fact.Fact.{Fact}
-use Rattle.book_model.specs.Inquiries.{Inquiry, done, ask, ask_once, and_then, fact_eq, with_fact}
+use Rattle.book_model.specs.calendars.Inquiries.{Inquiry, done, ask, ask_once, and_then, fact_eq, with_fact}
 use Rattle.oracle_core.specs.declared.oracle.Stop.{Stop}
 use Rattle.oracle_core.specs.Inquiring.{Meaning, State, Tells, ends, goes_on, stops, Inquires}
 use Rattle.oracle_core.specs.Stops.{IsStopAt}

@@ -6,8 +6,8 @@ use Rattle.std.proofs.Math.Seq.{drop-append_seam, drop-cons}
 use Rattle.std.proofs.lemmas.List.{append_assoc}
 use Rattle.book_model.specs.contracts.fact.FactPartialEq.TheImpl as derived
 use Rattle.book_model.specs.declared.fact.Fact.{Fact}
-use Rattle.book_model.specs.Inquiries.{fact_eq, with_fact}
-use Rattle.book_model.specs.Facts.{IsFactValue}
+use Rattle.book_model.specs.calendars.Inquiries.{fact_eq, with_fact}
+use Rattle.book_model.specs.sky.Facts.{IsFactValue}
 use Rattle.oracle_core.specs.Pairs.{AreFactValues, are_distinct, value_beside, IsFront}
 use Rattle.oracle_core.proofs.FactLemmas.{one_fact, same_any, same_place}
 use Rattle.oracle_core.proofs.Noting.{found_at, there, not_there}

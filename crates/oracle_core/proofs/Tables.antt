@@ -2,7 +2,7 @@
 use Rattle.std.proofs.Common.{◌≡◌, ℤ, List, [], ◌∷◌, ◌++◌, refl, ap}
 use Rattle.std.specs.Prelude.{Ok, Err}
 use Rattle.book_model.specs.declared.fact.Fact.{Fact}
-use Rattle.book_model.specs.Inquiries.{Inquiry, facts_over, with_kept}
+use Rattle.book_model.specs.calendars.Inquiries.{Inquiry, facts_over, with_kept}
 use Rattle.oracle_core.specs.declared.oracle.Stop.{Stop}
 use Rattle.oracle_core.specs.Inquiring.{Meaning, State, Tells, ends, goes_on, stops, Inquires}
 use Rattle.oracle_core.specs.Pairs.{IsFront}

@@ -1,6 +1,6 @@
 -- When an answer is right for a fact.
 use Rattle.book_model.specs.declared.fact.Fact.{Fact}
-use Rattle.book_model.specs.Facts.{IsFactValue, IsTrueWith, IsNear, IsVoidAt}
+use Rattle.book_model.specs.sky.Facts.{IsFactValue, IsTrueWith, IsNear, IsVoidAt}
 use Rattle.oracle_core.specs.declared.evaluator.Answer.{Answer}
 use Rattle.oracle_core.specs.declared.evaluator.Answer.TheVariants.{Value, Undecided, Void}
 

@@ -2,7 +2,7 @@
 use Rattle.std.specs.Prelude.{◌≡◌, false, ℤ, List, Result, Ok, Err}
 use Rattle.std.specs.List.{list_any}
 use Rattle.book_model.specs.declared.fact.Fact.{Fact}
-use Rattle.book_model.specs.Inquiries.{Inquiry, done, ask, fact_eq, with_fact}
+use Rattle.book_model.specs.calendars.Inquiries.{Inquiry, done, ask, fact_eq, with_fact}
 use Rattle.oracle_core.specs.declared.oracle.Stop.{Stop}
 use Rattle.oracle_core.specs.Stops.{IsStopAt}
 

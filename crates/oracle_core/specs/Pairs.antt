@@ -4,9 +4,9 @@ use Rattle.std.specs.List.{list_any}
 use Rattle.std.proofs.Common.{arith}
 use Rattle.book_model.specs.declared.fact.Fact.{Fact}
 use Rattle.book_model.specs.declared.fact.TheConstants.{LEAST_VALUE, GREATEST_VALUE}
-use Rattle.book_model.specs.Facts.{run_of, IsTrueWith}
-use Rattle.book_model.specs.Inquiries.{fact_eq}
-use Rattle.book_model.specs.Programs.{outcome, valued}
+use Rattle.book_model.specs.sky.Facts.{run_of, IsTrueWith}
+use Rattle.book_model.specs.calendars.Inquiries.{fact_eq}
+use Rattle.book_model.specs.programs.Programs.{outcome, valued}
 
 -- the fact is true with the value, which it may have
 pub record StandsWith (f : Fact) (v : ℤ) : Type 0 where

@@ -2,8 +2,8 @@
 use Rattle.std.specs.Prelude.{◌≡◌, false, List}
 use Rattle.std.specs.List.{list_any}
 use Rattle.book_model.specs.declared.fact.Fact.{Fact}
-use Rattle.book_model.specs.Facts.{IsNear, IsVoidAt}
-use Rattle.book_model.specs.Inquiries.{fact_eq}
+use Rattle.book_model.specs.sky.Facts.{IsNear, IsVoidAt}
+use Rattle.book_model.specs.calendars.Inquiries.{fact_eq}
 use Rattle.oracle_core.specs.declared.oracle.Stop.{Stop}
 use Rattle.oracle_core.specs.declared.oracle.Stop.TheVariants.{Undecided, Void, Missing, Memory}
 

@@ -1,7 +1,7 @@
 -- What comes of an inquiry over tables of the values of facts.
 use Rattle.std.specs.Prelude.{◌≡◌, ℤ, List, [], ◌∷◌, ◌++◌}
 use Rattle.book_model.specs.declared.fact.Fact.{Fact}
-use Rattle.book_model.specs.Inquiries.{Inquiry, result_over, facts_over, with_kept}
+use Rattle.book_model.specs.calendars.Inquiries.{Inquiry, result_over, facts_over, with_kept}
 use Rattle.oracle_core.specs.declared.oracle.Stop.{Stop}
 use Rattle.oracle_core.specs.Inquiring.{Meaning, State}
 use Rattle.oracle_core.specs.Pairs.{IsFront}

@@ -2,8 +2,8 @@
 ghost use Rattle.std.specs.Prelude.{IfOk, ◌≡◌, ◌++◌, ℤ, [], ◌∷◌, List, false, OnOk, OnErr};
 ghost use Rattle.book_model.specs.declared.fact.Fact.{Fact};
 ghost use Rattle.std.specs.List.{list_any};
-ghost use Rattle.book_model.specs.Facts.{IsFactValue};
-ghost use Rattle.book_model.specs.Inquiries.{ask_once, fact_eq};
+ghost use Rattle.book_model.specs.sky.Facts.{IsFactValue};
+ghost use Rattle.book_model.specs.calendars.Inquiries.{ask_once, fact_eq};
 ghost use Rattle.oracle_core.specs.Inquiring.{Inquires};
 ghost use Rattle.oracle_core.specs.Oracles.{after_pairs, by_evaluator, one_by_evaluator};
 ghost use Rattle.oracle_core.specs.Pairs.{StandsWith, AllStand, facts_of};

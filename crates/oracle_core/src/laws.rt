@@ -1,6 +1,6 @@
 //! Laws of inquiries, which hold of every oracle. Each function does nothing; its contract is the law.
 ghost use Rattle.std.specs.Prelude.{Ok, Err};
-ghost use Rattle.book_model.specs.Inquiries.{Inquiry};
+ghost use Rattle.book_model.specs.calendars.Inquiries.{Inquiry};
 ghost use Rattle.oracle_core.specs.Inquiring.{State, Inquires};
 ghost use Rattle.oracle_core.specs.Tables.{AnswersOver, StopsOver};
 ghost use Rattle.oracle_core.specs.declared.oracle.Stop.{Stop};

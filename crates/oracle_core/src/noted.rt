@@ -2,7 +2,7 @@
 ghost use Rattle.std.specs.Prelude.{◌≡◌, [], List, false, OnOk, OnErr};
 ghost use Rattle.book_model.specs.declared.fact.Fact.{Fact};
 ghost use Rattle.std.specs.List.{list_any, position};
-ghost use Rattle.book_model.specs.Inquiries.{fact_eq, with_fact};
+ghost use Rattle.book_model.specs.calendars.Inquiries.{fact_eq, with_fact};
 
 use crate::FactList;
 use book_model::Fact;

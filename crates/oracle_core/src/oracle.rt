@@ -1,8 +1,8 @@
 //! Answers facts, and keeps the list of those that it was asked.
 ghost use Rattle.std.specs.Prelude.{◌≡◌, ℤ, IfOk};
 ghost use Rattle.book_model.specs.declared.fact.Fact.{Fact};
-ghost use Rattle.book_model.specs.Facts.{IsFactValue};
-ghost use Rattle.book_model.specs.Inquiries.{ask_once};
+ghost use Rattle.book_model.specs.sky.Facts.{IsFactValue};
+ghost use Rattle.book_model.specs.calendars.Inquiries.{ask_once};
 ghost use Rattle.oracle_core.specs.declared.oracle.Stop.TheVariants.{Memory as memory_stop};
 
 use book_model::{Fact, Site, Undecided};

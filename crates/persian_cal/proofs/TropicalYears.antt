@@ -5,7 +5,7 @@ use Rattle.std.proofs.lemmas.Int.{ints}
 use Rattle.exact_math.specs.Fraction.{floor_quotient, times, plus, reciprocal}
 use Rattle.exact_math.proofs.Floors.{floor_quotient_is}
 use Rattle.calendar_math.proofs.SpanLemmas.{LiesWithin}
-use Rattle.book_model.specs.Spans.{days_of, days_of_years, years_of_days, nearest}
+use Rattle.book_model.specs.calendars.Spans.{days_of, days_of_years, years_of_days, nearest}
 
 -- the days of years as a quotient of whole numbers
 pub days_of_years_is : (years : ℤ) → days_of_years years ≡ floor_quotient (pos 365242189 *ℤ years) 999999

@@ -4,9 +4,9 @@ use Rattle.std.proofs.Common.{arith}
 use Rattle.std.proofs.lemmas.Int.{ints}
 use lib.IntN.{neg_ℤ}
 use Rattle.exact_math.proofs.Floors.{floor_quotient_is}
-use Rattle.book_model.specs.Inquiries.{to_32_bits}
-use Rattle.book_model.specs.Persian.{days_before, month_of}
-use Rattle.book_model.specs.Spans.{ceiling_quotient}
+use Rattle.book_model.specs.calendars.Inquiries.{to_32_bits}
+use Rattle.book_model.specs.calendars.Persian.{days_before, month_of}
+use Rattle.book_model.specs.calendars.Spans.{ceiling_quotient}
 use Rattle.calendar_math.proofs.SpanLemmas.{LiesWithin}
 
 -- a year that a value of a fact begins is its own nearest number of 32 bits

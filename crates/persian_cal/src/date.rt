@@ -1,6 +1,6 @@
 //! Persian dates, and the facts that they are found by.
 ghost use Rattle.std.specs.Prelude.{◌≡◌, ◌≤◌, ◌≤ℤ◌, ◌+ℤ◌, ◌-ℤ◌, pos, negsuc, IfOk};
-ghost use Rattle.book_model.specs.Persian.{nowruz_fact, day_within as day_within_year, days_before as days_of_months_before, year_begun as year_begun_on, date_in as date_of_number, persian_on, persian_day};
+ghost use Rattle.book_model.specs.calendars.Persian.{nowruz_fact, day_within as day_within_year, days_before as days_of_months_before, year_begun as year_begun_on, date_in as date_of_number, persian_on, persian_day};
 ghost use Rattle.oracle_core.specs.Inquiring.{Inquires, map_ok};
 ghost use Rattle.persian_cal.specs.Dates.{fields_of_date};
 
@@ -105,7 +105,7 @@ fn day_by(new_year: i64, month: i64, day: i64) -> i64
 /// month and the day of the month that follow from that year's own first day. A month that its type doesn't hold stands
 /// at the nearest end; year and day always fit. It stops where the oracle stops, at one of the two facts that are
 /// asked (Reingold and Dershowitz, Calendrical Calculations, chapter 15).
-#[tactic(auto, using(oracle_core::proofs::Inquiring::asking), unfolding(book_model::specs::Persian::persian_on))]
+#[tactic(auto, using(oracle_core::proofs::Inquiring::asking), unfolding(book_model::specs::calendars::Persian::persian_on))]
 pub fn from_fixed<O: Oracle>(oracle: &mut O, day: i64) -> Result<PersianDate, Stop>
     requires from { pos 0 ≤ℤ day }
     requires to { day ≤ℤ pos 1000000 }
@@ -120,7 +120,7 @@ pub fn from_fixed<O: Oracle>(oracle: &mut O, day: i64) -> Result<PersianDate, St
 /// The day (R.D.) of a date: the first day of the year which the oracle has, the days of the months before, and the day
 /// of the month. The date needn't be one that the calendar has. It stops where the oracle stops, at the fact of the
 /// year's first day (Reingold and Dershowitz, Calendrical Calculations, chapter 15).
-#[tactic(auto, using(oracle_core::proofs::Inquiring::asking), unfolding(book_model::specs::Persian::persian_day))]
+#[tactic(auto, using(oracle_core::proofs::Inquiring::asking), unfolding(book_model::specs::calendars::Persian::persian_day))]
 pub fn to_fixed<O: Oracle>(oracle: &mut O, date: PersianDate) -> Result<i64, Stop>
     requires from_1180 { pos 1180 ≤ℤ date.year }
     requires to_1427 { date.year ≤ℤ pos 1427 }

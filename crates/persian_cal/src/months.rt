@@ -1,6 +1,6 @@
 //! The months of a Persian year: six of 31 days, and those after them of 30.
 ghost use Rattle.std.specs.Prelude.{◌≡◌, pos, negsuc, ◌≤ℤ◌};
-ghost use Rattle.book_model.specs.Persian.{days_before as days_of_months_before, month_of as month_of_number};
+ghost use Rattle.book_model.specs.calendars.Persian.{days_before as days_of_months_before, month_of as month_of_number};
 
 use calendar_math::quotient_up;
 

@@ -16,10 +16,10 @@ use Rattle.book_model.specs.declared.fail.Fail.{Fail}
 use Rattle.book_model.specs.declared.fail.Fail.TheVariants.{Undecided as undecided_at, Void}
 use Rattle.book_model.specs.declared.fail.Undecided.{Undecided}
 use Rattle.book_model.specs.declared.site.Site.{Site}
-use Rattle.book_model.specs.Expressions.{Expression, World, value, exactly, integer, add}
-use Rattle.book_model.specs.Leading.{at_56, AreNoBounds, AreEnds, bounds, no_bounds, IsOpenCell, between_cells, too_far, Exact, Leads, next_turn}
-use Rattle.book_model.specs.Programs.{answer, cell, integers, cell_of, cell_at, when, AtMost, answer_at_most, cell_at_most}
-use Rattle.book_model.specs.Relations.{Within}
+use Rattle.book_model.specs.numbers.Expressions.{Expression, World, value, exactly, integer, add}
+use Rattle.book_model.specs.programs.Leading.{at_56, AreNoBounds, AreEnds, bounds, no_bounds, IsOpenCell, between_cells, too_far, Exact, Leads, next_turn}
+use Rattle.book_model.specs.programs.Programs.{answer, cell, integers, cell_of, cell_at, when, AtMost, answer_at_most, cell_at_most}
+use Rattle.book_model.specs.numbers.Relations.{Within}
 use Rattle.book_model.proofs.FactRuns.{when_some}
 use Rattle.book_model.proofs.Leads.{leads_cell, leads_open_cell, leads_answer, leads_stop_at, few_tests, lies}
 use Rattle.book_model.proofs.Early.{from_one}

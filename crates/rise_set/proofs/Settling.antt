@@ -4,9 +4,9 @@ use Rattle.std.proofs.Common.{arith}
 use Rattle.book_model.specs.declared.horizon.Location.{Location}
 use Rattle.book_model.specs.declared.horizon.Twilight.{Twilight}
 use Rattle.book_model.specs.declared.site.Site.TheVariants.{Settle}
-use Rattle.book_model.specs.Expressions.{Expression}
-use Rattle.book_model.specs.Horizon.{approximation_of, has_settled_of, settled_of}
-use Rattle.book_model.specs.Programs.{answer, void, bind}
+use Rattle.book_model.specs.numbers.Expressions.{Expression}
+use Rattle.book_model.specs.sky.Horizon.{approximation_of, has_settled_of, settled_of}
+use Rattle.book_model.specs.programs.Programs.{answer, void, bind}
 
 pub settled_none : (p : Location) (k : Twilight) (a x : Expression) → settled_of 0 p k a x ≡ void Settle
 unfolding settled_of

@@ -4,7 +4,7 @@ use Rattle.std.specs.Int.{w64}
 use Rattle.book_model.specs.declared.fail.Fail.{Fail}
 use Rattle.book_model.specs.declared.fail.Fail.TheVariants.{Undecided, Void}
 use Rattle.book_model.specs.declared.site.Site.{Site}
-use Rattle.book_model.specs.Leading.{AreNoBounds}
+use Rattle.book_model.specs.programs.Leading.{AreNoBounds}
 
 -- the ends lo and hi, which count 2^-56, after k is added; or no ends
 pub data AreMoved (k lo hi low high : ℤ) : Type 0 where

@@ -1,10 +1,10 @@
 //! One approximation of dawn or dusk, from a moment near to it.
 ghost use Rattle.std.specs.Prelude.{◌≤◌, ◌+◌, ℤ};
-ghost use Rattle.book_model.specs.Depth.{DEPTH};
-ghost use Rattle.book_model.specs.Expressions.{Expression, World};
-ghost use Rattle.book_model.specs.Horizon as spec;
-ghost use Rattle.book_model.specs.Leading.{Leads};
-ghost use Rattle.book_model.specs.Relations.{Within};
+ghost use Rattle.book_model.specs.numbers.Depth.{DEPTH};
+ghost use Rattle.book_model.specs.numbers.Expressions.{Expression, World};
+ghost use Rattle.book_model.specs.sky.Horizon as spec;
+ghost use Rattle.book_model.specs.programs.Leading.{Leads};
+ghost use Rattle.book_model.specs.numbers.Relations.{Within};
 
 use crate::offsets::near_offset;
 use arc_series::arcsin_deg;
@@ -13,7 +13,7 @@ use encl_core::{Enclosure, Trail, floor_step};
 use sun_core::from_apparent;
 
 /// When the sun rises or sets on a day (R.D.) at the equinox, in apparent time: at 6 or at 18 hours.
-#[tactic(auto, unfolding(book_model::specs::Horizon::quarter_of))]
+#[tactic(auto, unfolding(book_model::specs::sky::Horizon::quarter_of))]
 pub(crate) fn quarter<E: Enclosure>(twilight: Twilight, day: i64) -> E
     ensures holds { (w : World) → DEPTH ≤ w.depth → Within E.shown w (spec.quarter_of twilight day) result }
 {
@@ -31,7 +31,7 @@ fn part_of_day<E: Enclosure>(offset: E) -> E
 }
 
 /// The apparent time of a day (R.D.) at which the sun has a depression, by the offset.
-#[tactic(auto, unfolding(book_model::specs::Horizon::apparent_by))]
+#[tactic(auto, unfolding(book_model::specs::sky::Horizon::apparent_by))]
 fn apparent<E: Enclosure>(twilight: Twilight, day: i64, offset: E) -> E
     ensures holds { (w : World) (s : Expression) → DEPTH ≤ w.depth → Within E.shown w s offset → Within E.shown w (spec.apparent_by twilight day s) result }
 {
@@ -42,7 +42,7 @@ fn apparent<E: Enclosure>(twilight: Twilight, day: i64, offset: E) -> E
 }
 
 /// The moment of a day (R.D.) at which the sun has a depression, from one near to it: nine tests at most.
-#[tactic(auto, using(book_model::proofs::Leads::leading), unfolding(book_model::specs::Horizon::approximation_on, book_model::specs::Leading::next_turn))]
+#[tactic(auto, using(book_model::proofs::Leads::leading), unfolding(book_model::specs::sky::Horizon::approximation_on, book_model::specs::programs::Leading::next_turn))]
 fn approximation_on<E: Enclosure>(
     location: &Location,
     twilight: Twilight,
@@ -63,7 +63,7 @@ fn approximation_on<E: Enclosure>(
 /// The moment at which the sun has a depression, from one near to it, both in local mean time (Reingold and Dershowitz,
 /// Calendrical Calculations, chapter 14): ten tests at most. It is void at `offset` where the sun doesn't come to it, and at `year`
 /// in a year without a correction.
-#[tactic(auto, using(book_model::proofs::Leads::leading), unfolding(book_model::specs::Horizon::approximation_of, book_model::specs::Leading::next_turn))]
+#[tactic(auto, using(book_model::proofs::Leads::leading), unfolding(book_model::specs::sky::Horizon::approximation_of, book_model::specs::programs::Leading::next_turn))]
 pub(crate) fn approximation<E: Enclosure>(
     location: &Location,
     twilight: Twilight,

@@ -1,10 +1,10 @@
 //! Dawn and dusk: approximations until two of them are less than half a minute apart.
 ghost use Rattle.std.specs.Prelude.{◌≡◌, ◌≤◌, ◌+◌, ◌*◌, ℤ, Bool};
-ghost use Rattle.book_model.specs.Depth.{DEPTH};
-ghost use Rattle.book_model.specs.Expressions.{Expression, World};
-ghost use Rattle.book_model.specs.Horizon as spec;
-ghost use Rattle.book_model.specs.Leading.{Exact, Leads};
-ghost use Rattle.book_model.specs.Relations.{Within};
+ghost use Rattle.book_model.specs.numbers.Depth.{DEPTH};
+ghost use Rattle.book_model.specs.numbers.Expressions.{Expression, World};
+ghost use Rattle.book_model.specs.sky.Horizon as spec;
+ghost use Rattle.book_model.specs.programs.Leading.{Exact, Leads};
+ghost use Rattle.book_model.specs.numbers.Relations.{Within};
 
 use crate::approximation::{approximation, quarter};
 use crate::offsets::size;
@@ -15,7 +15,7 @@ use encl_core::{Enclosure, Trail, less_step};
 const APPROXIMATIONS: u32 = 12;
 
 /// Whether two moments are less than half a minute apart: one test.
-#[tactic(auto, using(book_model::proofs::Leads::leading), unfolding(book_model::specs::Horizon::has_settled_of, book_model::specs::Leading::next_turn))]
+#[tactic(auto, using(book_model::proofs::Leads::leading), unfolding(book_model::specs::sky::Horizon::has_settled_of, book_model::specs::programs::Leading::next_turn))]
 fn has_settled<E: Enclosure>(old: E, new: E, trail: &mut Trail) -> Result<bool, Fail>
     ensures leads { (w : World) (x y : Expression) → DEPTH ≤ w.depth → Within E.shown w x old → Within E.shown w y new → Leads w Exact (spec.has_settled_of x y) trail.old.count trail.new.count result }
     ensures counted { trail.new.count ≤ trail.old.count + 1 }
@@ -30,7 +30,7 @@ fn has_settled<E: Enclosure>(old: E, new: E, trail: &mut Trail) -> Result<bool, 
 
 /// Approximations, so many at most, from a moment on until two are less than half a minute apart: eleven tests at most for each.
 /// It is void at `settle` where none are, and where an approximation is.
-#[tactic(auto, using(book_model::proofs::Leads::leading, crate::proofs::Settling::settling), unfolding(book_model::specs::Leading::next_turn))]
+#[tactic(auto, using(book_model::proofs::Leads::leading, crate::proofs::Settling::settling), unfolding(book_model::specs::programs::Leading::next_turn))]
 fn settled<E: Enclosure>(
     more: u32,
     location: &Location,
@@ -54,7 +54,7 @@ fn settled<E: Enclosure>(
 }
 
 /// The local mean time of a day (R.D.) at which the sun has a depression, in degrees: 132 tests at most.
-#[tactic(auto, using(book_model::proofs::Leads::leading), unfolding(book_model::specs::Horizon::depression_of))]
+#[tactic(auto, using(book_model::proofs::Leads::leading), unfolding(book_model::specs::sky::Horizon::depression_of))]
 fn depressed<E: Enclosure>(
     location: &Location,
     twilight: Twilight,
@@ -78,7 +78,7 @@ fn depressed<E: Enclosure>(
 /// Dawn of a day (R.D.), when the sun before rising has a depression, in degrees; in local mean time (Reingold and Dershowitz,
 /// Calendrical Calculations, chapter 14). 132 tests at most. It is void at `offset` where the sun doesn't come to the depression, at
 /// `settle` where twelve approximations don't settle, and at `year` in a year without a correction.
-#[tactic(auto, unfolding(book_model::specs::Horizon::dawn_of))]
+#[tactic(auto, unfolding(book_model::specs::sky::Horizon::dawn_of))]
 pub fn dawn<E: Enclosure>(
     location: &Location,
     depression: E,
@@ -92,7 +92,7 @@ pub fn dawn<E: Enclosure>(
 }
 
 /// Dusk of a day (R.D.), when the sun after setting has a depression, in the same sense.
-#[tactic(auto, unfolding(book_model::specs::Horizon::dusk_of))]
+#[tactic(auto, unfolding(book_model::specs::sky::Horizon::dusk_of))]
 pub fn dusk<E: Enclosure>(
     location: &Location,
     depression: E,

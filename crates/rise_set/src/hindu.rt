@@ -1,11 +1,11 @@
 //! Sunrise and sunset as the Hindu calendars take them, at Ujjain.
 ghost use Rattle.std.specs.Prelude.{◌≡◌, ◌≤◌, ◌+◌, ◌≤ℤ◌, pos, negsuc};
-ghost use Rattle.book_model.specs.Depth.{DEPTH};
-ghost use Rattle.book_model.specs.Expressions.{World, constant};
-ghost use Rattle.book_model.specs.Fractions.{fraction_of};
-ghost use Rattle.book_model.specs.Horizon as spec;
-ghost use Rattle.book_model.specs.Leading.{Leads};
-ghost use Rattle.book_model.specs.Relations.{Within};
+ghost use Rattle.book_model.specs.numbers.Depth.{DEPTH};
+ghost use Rattle.book_model.specs.numbers.Expressions.{World, constant};
+ghost use Rattle.book_model.specs.numbers.Fractions.{fraction_of};
+ghost use Rattle.book_model.specs.sky.Horizon as spec;
+ghost use Rattle.book_model.specs.programs.Leading.{Leads};
+ghost use Rattle.book_model.specs.numbers.Relations.{Within};
 
 use crate::declinations::universal;
 use crate::depression::{dawn, dusk};
@@ -30,7 +30,7 @@ fn days<E: Enclosure>(minutes: i64) -> E
 /// When the sun rises on a day (R.D.) at Ujjain, in universal time: dawn with a depression of 47 minutes of arc, rounded to a
 /// minute of local mean time (Reingold and Dershowitz, Calendrical Calculations, chapter 20). 133 tests at most, those of dawn and
 /// one at `round`. It is void where dawn is.
-#[tactic(auto, using(book_model::proofs::Leads::leading), unfolding(book_model::specs::Horizon::sunrise_of))]
+#[tactic(auto, using(book_model::proofs::Leads::leading), unfolding(book_model::specs::sky::Horizon::sunrise_of))]
 pub fn sunrise<E: Enclosure>(day: i64, trail: &mut Trail) -> Result<E, Fail>
     requires low { negsuc 39999999 ≤ℤ day }
     requires high { day ≤ℤ pos 40000000 }
@@ -46,7 +46,7 @@ pub fn sunrise<E: Enclosure>(day: i64, trail: &mut Trail) -> Result<E, Fail>
 
 /// When the sun's middle sets on a day (R.D.) at Ujjain, the air left out, in universal time (Reingold and Dershowitz, Calendrical
 /// Calculations, chapter 20): 132 tests at most. It is void where dusk is.
-#[tactic(auto, using(book_model::proofs::Leads::leading), unfolding(book_model::specs::Horizon::hindu_sunset_of))]
+#[tactic(auto, using(book_model::proofs::Leads::leading), unfolding(book_model::specs::sky::Horizon::hindu_sunset_of))]
 pub fn hsunset<E: Enclosure>(day: i64, trail: &mut Trail) -> Result<E, Fail>
     ensures leads { (w : World) → DEPTH ≤ w.depth → Leads w (Within E.shown w) (spec.hindu_sunset_of day) trail.old.count trail.new.count result }
     ensures counted { trail.new.count ≤ trail.old.count + 132 }

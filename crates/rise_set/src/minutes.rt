@@ -1,11 +1,11 @@
 //! The floor of a number to which a whole number is added, and moments rounded to minutes.
 ghost use Rattle.std.specs.Prelude.{◌≡◌, ◌≤◌, ◌+◌, ◌*ℤ◌, ◌+ℤ◌, ◌≤ℤ◌, ℤ, pos, negsuc, IfOk, IfErr, IfSome};
-ghost use Rattle.book_model.specs.Depth.{DEPTH};
-ghost use Rattle.book_model.specs.Expressions.{Expression, World, add, integer};
-ghost use Rattle.book_model.specs.Horizon as spec;
-ghost use Rattle.book_model.specs.Leading.{Exact, Leads};
-ghost use Rattle.book_model.specs.Programs.{answer, cell, integers};
-ghost use Rattle.book_model.specs.Relations.{Within};
+ghost use Rattle.book_model.specs.numbers.Depth.{DEPTH};
+ghost use Rattle.book_model.specs.numbers.Expressions.{Expression, World, add, integer};
+ghost use Rattle.book_model.specs.sky.Horizon as spec;
+ghost use Rattle.book_model.specs.programs.Leading.{Exact, Leads};
+ghost use Rattle.book_model.specs.programs.Programs.{answer, cell, integers};
+ghost use Rattle.book_model.specs.numbers.Relations.{Within};
 ghost use Rattle.rise_set.specs.Moved.{AreMoved, AreOf128Bits, IsBeside, IsTooFar};
 
 use book_model::{Fail, HALF, MINUTES, MINUTES_OF_DAY, Site, Undecided};
@@ -70,7 +70,7 @@ fn sum(whole: i64, floor: i64, site: Site, turn: u32) -> Result<i64, Fail>
 }
 
 /// The floor of a whole number and an enclosed one, as one test of both: what is enclosed stays small, so that it is narrow.
-#[tactic(auto, unfolding(book_model::specs::Leading::next_turn))]
+#[tactic(auto, unfolding(book_model::specs::programs::Leading::next_turn))]
 fn floor_beside<E: Enclosure>(whole: i64, x: E, site: Site, trail: &mut Trail) -> Result<i64, Fail>
     ensures leads { (w : World) (e : Expression) → Within E.shown w e x → Leads w Exact (cell site integers (add (integer whole) e) answer) trail.old.count trail.new.count result }
     ensures counted { trail.new.count ≤ trail.old.count + 1 }
@@ -91,7 +91,7 @@ fn minutes_after<E: Enclosure>(day: i64, t: E) -> E
 }
 
 /// The minutes from the day of R.D. 0 to a moment of a day, rounded: one test, at `round`.
-#[tactic(auto, unfolding(book_model::specs::Horizon::rounded_minutes_of))]
+#[tactic(auto, unfolding(book_model::specs::sky::Horizon::rounded_minutes_of))]
 pub(crate) fn rounded_minutes<E: Enclosure>(day: i64, t: E, trail: &mut Trail) -> Result<i64, Fail>
     requires low { negsuc 39999999 ≤ℤ day }
     requires high { day ≤ℤ pos 40000000 }

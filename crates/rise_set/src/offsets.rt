@@ -1,12 +1,12 @@
 //! How far the sun is from the horizon: the sine of the hour angle at which it has a depression, less a quarter of a turn.
 ghost use Rattle.std.specs.Prelude.{◌≡◌, ◌≤◌, ◌+◌, ℤ, Bool};
-ghost use Rattle.book_model.specs.Depth.{DEPTH};
-ghost use Rattle.book_model.specs.Expressions.{Expression, World};
-ghost use Rattle.book_model.specs.Fractions.{fraction_of};
-ghost use Rattle.book_model.specs.Horizon as spec;
-ghost use Rattle.book_model.specs.Leading.{Exact, Leads};
-ghost use Rattle.book_model.specs.Phases.{size_of};
-ghost use Rattle.book_model.specs.Relations.{Within};
+ghost use Rattle.book_model.specs.numbers.Depth.{DEPTH};
+ghost use Rattle.book_model.specs.numbers.Expressions.{Expression, World};
+ghost use Rattle.book_model.specs.numbers.Fractions.{fraction_of};
+ghost use Rattle.book_model.specs.sky.Horizon as spec;
+ghost use Rattle.book_model.specs.programs.Leading.{Exact, Leads};
+ghost use Rattle.book_model.specs.sky.Phases.{size_of};
+ghost use Rattle.book_model.specs.numbers.Relations.{Within};
 
 use crate::declinations::{declination, universal};
 use book_model::{Fail, Frac, Location, Site, Twilight};
@@ -14,7 +14,7 @@ use encl_core::{Enclosure, Trail, less_step};
 use trig_series::{cos_deg, sin_deg, tan_deg};
 
 /// The size of a number.
-#[tactic(auto, unfolding(book_model::specs::Phases::size_of))]
+#[tactic(auto, unfolding(book_model::specs::sky::Phases::size_of))]
 pub(crate) fn size<E: Enclosure>(x: E) -> E
     ensures holds { (w : World) (e : Expression) → Within E.shown w e x → Within E.shown w (size_of e) result }
 {
@@ -36,7 +36,7 @@ fn by_depression<E: Enclosure>(latitude: E, depression: E, declination: E) -> E
 }
 
 /// The offset by the latitude, the depression and the declination, all in degrees.
-#[tactic(auto, unfolding(book_model::specs::Horizon::offset_by))]
+#[tactic(auto, unfolding(book_model::specs::sky::Horizon::offset_by))]
 fn offset_by<E: Enclosure>(latitude: Frac, depression: E, declination: E) -> E
     ensures holds { (w : World) (a d : Expression) → DEPTH ≤ w.depth → Within E.shown w a depression → Within E.shown w d declination → Within E.shown w (spec.offset_by (fraction_of latitude) a d) result }
 {
@@ -47,7 +47,7 @@ fn offset_by<E: Enclosure>(latitude: Frac, depression: E, declination: E) -> E
 /// The sine of the hour angle at which the sun has a depression, in degrees, less a quarter of a turn, by the declination of the
 /// sun at a moment of local mean time (Reingold and Dershowitz, Calendrical Calculations, chapter 14): three tests at most. It is
 /// void at `year` in a year without a correction.
-#[tactic(auto, using(book_model::proofs::Leads::leading), unfolding(book_model::specs::Horizon::offset_of))]
+#[tactic(auto, using(book_model::proofs::Leads::leading), unfolding(book_model::specs::sky::Horizon::offset_of))]
 pub fn offset<E: Enclosure>(
     location: &Location,
     depression: E,
@@ -64,7 +64,7 @@ pub fn offset<E: Enclosure>(
 }
 
 /// Whether an offset is no sine, so that the sun doesn't come to the depression: one test.
-#[tactic(auto, using(book_model::proofs::Leads::leading), unfolding(book_model::specs::Horizon::is_out_of_reach, book_model::specs::Leading::next_turn))]
+#[tactic(auto, using(book_model::proofs::Leads::leading), unfolding(book_model::specs::sky::Horizon::is_out_of_reach, book_model::specs::programs::Leading::next_turn))]
 fn is_out_of_reach<E: Enclosure>(offset: E, trail: &mut Trail) -> Result<bool, Fail>
     ensures leads { (w : World) (s : Expression) → DEPTH ≤ w.depth → Within E.shown w s offset → Leads w Exact (spec.is_out_of_reach s) trail.old.count trail.new.count result }
     ensures counted { trail.new.count ≤ trail.old.count + 1 }
@@ -73,7 +73,7 @@ fn is_out_of_reach<E: Enclosure>(offset: E, trail: &mut Trail) -> Result<bool, F
 }
 
 /// An offset that is reached; void at `offset` where it isn't.
-#[tactic(auto, using(book_model::proofs::Leads::leading), unfolding(book_model::specs::Horizon::if_reached))]
+#[tactic(auto, using(book_model::proofs::Leads::leading), unfolding(book_model::specs::sky::Horizon::if_reached))]
 fn if_reached<E: Enclosure>(offset: E, out: bool, trail: &mut Trail) -> Result<E, Fail>
     ensures leads { (w : World) (s : Expression) → Within E.shown w s offset → Leads w (Within E.shown w) (spec.if_reached s out) trail.old.count trail.new.count result }
     ensures counted { trail.new.count ≡ trail.old.count }
@@ -87,7 +87,7 @@ fn if_reached<E: Enclosure>(offset: E, out: bool, trail: &mut Trail) -> Result<E
 
 /// The offset at a moment of local mean time: four tests at most. It is void at `offset` where the sun doesn't come to the
 /// depression.
-#[tactic(auto, using(book_model::proofs::Leads::leading), unfolding(book_model::specs::Horizon::reached_offset_of))]
+#[tactic(auto, using(book_model::proofs::Leads::leading), unfolding(book_model::specs::sky::Horizon::reached_offset_of))]
 fn reached_offset<E: Enclosure>(
     location: &Location,
     depression: E,
@@ -103,7 +103,7 @@ fn reached_offset<E: Enclosure>(
 }
 
 /// Where the offset is taken anew: as a day (R.D.) begins, for dawn, and as it ends, for dusk.
-#[tactic(auto, unfolding(book_model::specs::Horizon::edge_of))]
+#[tactic(auto, unfolding(book_model::specs::sky::Horizon::edge_of))]
 fn edge<E: Enclosure>(twilight: Twilight, day: i64) -> E
     ensures holds { (w : World) → DEPTH ≤ w.depth → Within E.shown w (spec.edge_of twilight day) result }
 {
@@ -114,7 +114,7 @@ fn edge<E: Enclosure>(twilight: Twilight, day: i64) -> E
 }
 
 /// An offset, or, where the sun doesn't come to the depression, that at the edge of the day: four tests at most.
-#[tactic(auto, using(book_model::proofs::Leads::leading), unfolding(book_model::specs::Horizon::or_at_edge))]
+#[tactic(auto, using(book_model::proofs::Leads::leading), unfolding(book_model::specs::sky::Horizon::or_at_edge))]
 fn or_at_edge<E: Enclosure>(
     location: &Location,
     twilight: Twilight,
@@ -136,7 +136,7 @@ fn or_at_edge<E: Enclosure>(
 
 /// The offset at a moment of local mean time of a day (R.D.), or at the edge of the day where the sun doesn't come to the
 /// depression then: eight tests at most. It is void at `offset` where it doesn't come to it there either.
-#[tactic(auto, using(book_model::proofs::Leads::leading), unfolding(book_model::specs::Horizon::near_offset_of))]
+#[tactic(auto, using(book_model::proofs::Leads::leading), unfolding(book_model::specs::sky::Horizon::near_offset_of))]
 pub(crate) fn near_offset<E: Enclosure>(
     location: &Location,
     twilight: Twilight,

@@ -1,11 +1,11 @@
 //! Sunset, and by how many degrees the sun stands below the horizon then.
 ghost use Rattle.std.specs.Prelude.{◌≡◌, ◌≤◌, ◌+◌, ◌-◌, ℕ, ℤ, pos};
-ghost use Rattle.book_model.specs.Depth.{DEPTH};
-ghost use Rattle.book_model.specs.Expressions.{World, constant, integer};
-ghost use Rattle.book_model.specs.Fractions.{fraction_of};
-ghost use Rattle.book_model.specs.Horizon as spec;
-ghost use Rattle.book_model.specs.Leading.{Leads};
-ghost use Rattle.book_model.specs.Relations.{Within};
+ghost use Rattle.book_model.specs.numbers.Depth.{DEPTH};
+ghost use Rattle.book_model.specs.numbers.Expressions.{World, constant, integer};
+ghost use Rattle.book_model.specs.numbers.Fractions.{fraction_of};
+ghost use Rattle.book_model.specs.sky.Horizon as spec;
+ghost use Rattle.book_model.specs.programs.Leading.{Leads};
+ghost use Rattle.book_model.specs.numbers.Relations.{Within};
 
 use crate::declinations::universal;
 use crate::depression::dusk;
@@ -43,7 +43,7 @@ fn refraction_of_height<E: Enclosure>(height: u16) -> E
 /// By how many degrees the sun stands below the level when its middle is seen to set at a location: what the air lifts it, and
 /// what the height of the location lowers the horizon (Reingold and Dershowitz, Calendrical Calculations, chapter 14). It makes
 /// no test.
-#[tactic(auto, unfolding(book_model::specs::Horizon::refraction_of))]
+#[tactic(auto, unfolding(book_model::specs::sky::Horizon::refraction_of))]
 pub fn refraction<E: Enclosure>(location: &Location) -> E
     ensures holds { (w : World) → DEPTH ≤ w.depth → Within E.shown w (spec.refraction_of location.now) result }
 {
@@ -53,7 +53,7 @@ pub fn refraction<E: Enclosure>(location: &Location) -> E
 }
 
 /// The same when its upper edge is seen to set.
-#[tactic(auto, unfolding(book_model::specs::Horizon::sunset_depression_of))]
+#[tactic(auto, unfolding(book_model::specs::sky::Horizon::sunset_depression_of))]
 pub fn sunset_depression<E: Enclosure>(location: &Location) -> E
     ensures holds { (w : World) → DEPTH ≤ w.depth → Within E.shown w (spec.sunset_depression_of location.now) result }
 {
@@ -62,7 +62,7 @@ pub fn sunset_depression<E: Enclosure>(location: &Location) -> E
 
 /// Sunset on a day (R.D.) at a location, in universal time (Reingold and Dershowitz, Calendrical Calculations, chapter 14): 132
 /// tests at most. It is void where dusk is.
-#[tactic(auto, using(book_model::proofs::Leads::leading), unfolding(book_model::specs::Horizon::sunset_of))]
+#[tactic(auto, using(book_model::proofs::Leads::leading), unfolding(book_model::specs::sky::Horizon::sunset_of))]
 pub fn sunset<E: Enclosure>(location: &Location, day: i64, trail: &mut Trail) -> Result<E, Fail>
     ensures leads { (w : World) → DEPTH ≤ w.depth → Leads w (Within E.shown w) (spec.sunset_of location.now day) trail.old.count trail.new.count result }
     ensures counted { trail.new.count ≤ trail.old.count + 132 }

@@ -6,9 +6,9 @@ use Rattle.book_model.specs.declared.fail.Undecided.{Undecided}
 use Rattle.book_model.specs.declared.site.Site.{Site}
 use Rattle.book_model.specs.declared.request.Request.{Request}
 use Rattle.book_model.specs.declared.request.Resolved.{Resolved}
-use Rattle.book_model.specs.LineRules.{rule_of}
-use Rattle.book_model.specs.Outcomes.{LineOutcome, refused, resolved, undecided, void, IsRightFor}
-use Rattle.book_model.specs.Requests.{request_of}
+use Rattle.book_model.specs.lines.LineRules.{rule_of}
+use Rattle.book_model.specs.lines.Outcomes.{LineOutcome, refused, resolved, undecided, void, IsRightFor}
+use Rattle.book_model.specs.lines.Requests.{request_of}
 use Rattle.oracle_core.specs.declared.oracle.Stop.{Stop}
 use Rattle.oracle_core.specs.declared.oracle.Stop.TheVariants.{Undecided as undecided_stop, Void as void_stop, Missing as missing_stop, Memory as memory_stop}
 use Rattle.oracle_core.specs.Inquiring.{State, Inquires}

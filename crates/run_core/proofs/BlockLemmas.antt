@@ -3,8 +3,8 @@ use Rattle.std.proofs.Common.{◌≡◌, ℕ, ◌+◌, ℤ, Bool, true, false, L
 use Rattle.std.specs.Prelude.{if◌then◌else◌}
 use Rattle.std.specs.List.{list_any}
 use Rattle.book_model.specs.declared.fact.Fact.{Fact}
-use Rattle.book_model.specs.Inquiries.{fact_eq}
-use Rattle.book_model.specs.Text.{fact_text, new_facts_text, with_facts}
+use Rattle.book_model.specs.calendars.Inquiries.{fact_eq}
+use Rattle.book_model.specs.lines.Text.{fact_text, new_facts_text, with_facts}
 use Rattle.cert_text.specs.Text.{fact_texts}
 use Rattle.run_core.specs.Numbering.{new_facts}
 

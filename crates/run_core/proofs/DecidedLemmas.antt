@@ -1,6 +1,6 @@
 -- A line that is decided has a result or breaks a rule.
 use Rattle.std.proofs.Common.{◌≡◌, ◌⊎◌, inl, inr, refl, ℕ, List, true}
-use Rattle.book_model.specs.Outcomes.{LineOutcome, refused, resolved, undecided, void, IsRightFor, is_resolved}
+use Rattle.book_model.specs.lines.Outcomes.{LineOutcome, refused, resolved, undecided, void, IsRightFor, is_resolved}
 use Rattle.run_core.specs.Laws.{HasResultOrRule, IsDecided, IsRefusal}
 
 -- an outcome that is right for a decided line is a result or a refusal, by cases of the outcome

@@ -5,12 +5,12 @@ use Rattle.book_model.specs.declared.fact.Fact.{Fact}
 use Rattle.book_model.specs.declared.request.Request.{Request}
 use Rattle.book_model.specs.declared.request.Resolved.{Resolved}
 use Rattle.book_model.specs.declared.site.Site.{Site}
-use Rattle.book_model.specs.Facts.{run_of, IsVoidAt}
-use Rattle.book_model.specs.Inquiries.{Inquiry, found, stopped, finding, finding_after, with_entry, AsksAt, asks_here, asks_after}
-use Rattle.book_model.specs.LineRules.{rule_of}
-use Rattle.book_model.specs.Outcomes.{LineOutcome, refused, resolved, undecided, void, HasResult, AsksAlways, IsRightFor}
-use Rattle.book_model.specs.Programs.{outcome, void_at}
-use Rattle.book_model.specs.Requests.{request_of}
+use Rattle.book_model.specs.sky.Facts.{run_of, IsVoidAt}
+use Rattle.book_model.specs.calendars.Inquiries.{Inquiry, found, stopped, finding, finding_after, with_entry, AsksAt, asks_here, asks_after}
+use Rattle.book_model.specs.lines.LineRules.{rule_of}
+use Rattle.book_model.specs.lines.Outcomes.{LineOutcome, refused, resolved, undecided, void, HasResult, AsksAlways, IsRightFor}
+use Rattle.book_model.specs.programs.Programs.{outcome, void_at}
+use Rattle.book_model.specs.lines.Requests.{request_of}
 use Rattle.run_core.specs.Laws.{HasOneText}
 use Rattle.run_core.specs.Sampling.{is_undecided}
 

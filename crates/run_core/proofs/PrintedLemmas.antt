@@ -3,8 +3,8 @@ use Rattle.std.proofs.Common.{◌≡◌, ◌∙◌, ℕ, Bool, List, map}
 use Rattle.std.specs.List.{list_all}
 use Rattle.std.specs.declared.option.Option.{Option}
 use Rattle.std.specs.Io.KnownBytes.{Appends}
-use Rattle.book_model.specs.Outcomes.{AreRight, is_result}
-use Rattle.book_model.specs.Text.{text}
+use Rattle.book_model.specs.lines.Outcomes.{AreRight, is_result}
+use Rattle.book_model.specs.lines.Text.{text}
 use Rattle.run_core.specs.declared.outcome.Outcome.{Outcome}
 use Rattle.run_core.specs.Outcomes.{line_outcome}
 use Rattle.run_core.specs.Run.{Printed}

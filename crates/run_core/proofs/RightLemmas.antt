@@ -6,9 +6,9 @@ use Rattle.book_model.specs.declared.fact.Fact.{Fact}
 use Rattle.book_model.specs.declared.request.Request.{Request}
 use Rattle.book_model.specs.declared.request.Resolved.{Resolved}
 use Rattle.book_model.specs.declared.request.Rule.TheVariants.{Syntax}
-use Rattle.book_model.specs.Lines.{words_of}
-use Rattle.book_model.specs.Requests.{asked_by, request_of}
-use Rattle.book_model.specs.Outcomes.{LineOutcome, IsRightFor, AreRight, HasResult, is_result}
+use Rattle.book_model.specs.lines.Lines.{words_of}
+use Rattle.book_model.specs.lines.Requests.{asked_by, request_of}
+use Rattle.book_model.specs.lines.Outcomes.{LineOutcome, IsRightFor, AreRight, HasResult, is_result}
 use Rattle.run_core.specs.declared.outcome.Outcome.{Outcome}
 use Rattle.run_core.specs.declared.outcome.Outcome.TheVariants.{Found}
 use Rattle.run_core.specs.Outcomes.{line_outcome}

@@ -4,7 +4,7 @@ use Rattle.std.specs.List.{list_all}
 use Rattle.std.specs.declared.option.Option.{Option}
 use Rattle.std.specs.Io.KnownBytes.{Appends}
 use Rattle.almanac_lines.specs.Texts.{sample_lines}
-use Rattle.book_model.specs.Outcomes.{AreRight, is_result}
+use Rattle.book_model.specs.lines.Outcomes.{AreRight, is_result}
 use Rattle.run_core.specs.declared.outcome.Outcome.{Outcome}
 use Rattle.run_core.specs.Outcomes.{line_outcome}
 use Rattle.run_core.specs.Sampling.{Sampled, sample_text}

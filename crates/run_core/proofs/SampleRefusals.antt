@@ -20,16 +20,16 @@ use Rattle.book_model.specs.declared.words.Shown.TheVariants.{Date, Value}
 use Rattle.book_model.specs.declared.words.FromWord.TheVariants as from
 use Rattle.book_model.specs.declared.words.ToWord.{ToWord}
 use Rattle.book_model.specs.declared.words.ToWord.TheVariants as to
-use Rattle.book_model.specs.Dates.{row_of, may_have, is_answered, year_number, one_field, date_on}
-use Rattle.book_model.specs.Facts.{run_of}
-use Rattle.book_model.specs.Inquiries.{Inquiry, done, ask, and_then, found, found_at, finding, finding_after, with_entry}
-use Rattle.book_model.specs.LineRules.{rule_of, result_of_day, result_within, shown_on, fact_on}
-use Rattle.book_model.specs.Outcomes.{LineOutcome, refused, resolved, undecided, void, IsRightFor, AreRight, is_shown}
-use Rattle.book_model.specs.Programs.{Outcome, outcome, valued, void_at, open_at}
-use Rattle.book_model.specs.Lines.{is_plain, parts_of, onto_first, number_of, value_from}
-use Rattle.book_model.specs.Requests.{request_of, asked_by, fields_of, fields_with, ranged}
-use Rattle.book_model.specs.Text.{dashed_text}
-use Rattle.book_model.specs.Words.{text_of_to, shown_by}
+use Rattle.book_model.specs.calendars.Dates.{row_of, may_have, is_answered, year_number, one_field, date_on}
+use Rattle.book_model.specs.sky.Facts.{run_of}
+use Rattle.book_model.specs.calendars.Inquiries.{Inquiry, done, ask, and_then, found, found_at, finding, finding_after, with_entry}
+use Rattle.book_model.specs.lines.LineRules.{rule_of, result_of_day, result_within, shown_on, fact_on}
+use Rattle.book_model.specs.lines.Outcomes.{LineOutcome, refused, resolved, undecided, void, IsRightFor, AreRight, is_shown}
+use Rattle.book_model.specs.programs.Programs.{Outcome, outcome, valued, void_at, open_at}
+use Rattle.book_model.specs.lines.Lines.{is_plain, parts_of, onto_first, number_of, value_from}
+use Rattle.book_model.specs.lines.Requests.{request_of, asked_by, fields_of, fields_with, ranged}
+use Rattle.book_model.specs.lines.Text.{dashed_text}
+use Rattle.book_model.specs.lines.Words.{text_of_to, shown_by}
 use Rattle.book_model.proofs.WordTables.{to_found}
 use Rattle.cert_read.specs.Grammar.{is_printable}
 use Rattle.cert_read.specs.Digits.{at_most, natural_of}

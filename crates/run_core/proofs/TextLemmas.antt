@@ -6,8 +6,8 @@ use Rattle.std.specs.Prelude.{Ok, Err, Result, OnOk, OnErr}
 use Rattle.std.specs.Io.KnownBytes.{Appends}
 use Rattle.std.specs.declared.option.Option.{Option}
 use Rattle.book_model.specs.declared.fact.Fact.{Fact}
-use Rattle.book_model.specs.Outcomes.{LineOutcome}
-use Rattle.book_model.specs.Text.{block_text, seen_after, text_from, end_text}
+use Rattle.book_model.specs.lines.Outcomes.{LineOutcome}
+use Rattle.book_model.specs.lines.Text.{block_text, seen_after, text_from, end_text}
 use Rattle.run_core.specs.declared.outcome.Outcome.{Outcome}
 use Rattle.run_core.specs.Outcomes.{line_outcome}
 use Rattle.byte_streams.specs.Stream.{Wrote, AppendsFront}

@@ -4,9 +4,9 @@ use Rattle.book_model.specs.declared.fact.Fact.{Fact}
 use Rattle.book_model.specs.declared.fail.Undecided.{Undecided}
 use Rattle.book_model.specs.declared.request.Rule.{Rule}
 use Rattle.book_model.specs.declared.site.Site.{Site}
-use Rattle.book_model.specs.Facts.{IsNear, IsVoidAt}
-use Rattle.book_model.specs.Outcomes.{LineOutcome, refused, IsRightFor, AreRight, AsksAlways, is_resolved}
-use Rattle.book_model.specs.Requests.{request_of}
+use Rattle.book_model.specs.sky.Facts.{IsNear, IsVoidAt}
+use Rattle.book_model.specs.lines.Outcomes.{LineOutcome, refused, IsRightFor, AreRight, AsksAlways, is_resolved}
+use Rattle.book_model.specs.lines.Requests.{request_of}
 use Rattle.run_core.specs.Sampling.{is_undecided, is_refused}
 use Rattle.almanac_lines.specs.Texts.{sample_lines}
 

@@ -2,7 +2,7 @@
 use Rattle.std.specs.Prelude.{ℤ, if◌then◌else◌, List, [], ◌∷◌, ◌++◌}
 use Rattle.std.specs.List.{list_any}
 use Rattle.book_model.specs.declared.fact.Fact.{Fact}
-use Rattle.book_model.specs.Inquiries.{fact_eq, with_fact}
+use Rattle.book_model.specs.calendars.Inquiries.{fact_eq, with_fact}
 
 -- those of the facts that aren't printed yet, each once, in order of first use
 abbrev pub new_facts : List Fact → List (Fact × ℤ) → List (Fact × ℤ)

@@ -1,15 +1,15 @@
 -- What the code's outcome of a line stands for.
 use Rattle.std.specs.Prelude.{◌≡◌, ℕ, ◌≤◌}
 use Rattle.book_model.specs.declared.request.Request.{Request}
-use Rattle.book_model.specs.Facts.{IsNear, IsVoidAt}
-use Rattle.book_model.specs.Inquiries.{finding, found, AsksAt}
-use Rattle.book_model.specs.LineRules.{rule_of}
-use Rattle.book_model.specs.Outcomes.{LineOutcome, refused, resolved, undecided, void}
+use Rattle.book_model.specs.sky.Facts.{IsNear, IsVoidAt}
+use Rattle.book_model.specs.calendars.Inquiries.{finding, found, AsksAt}
+use Rattle.book_model.specs.lines.LineRules.{rule_of}
+use Rattle.book_model.specs.lines.Outcomes.{LineOutcome, refused, resolved, undecided, void}
 use Rattle.oracle_core.specs.declared.oracle.Stop.{Stop}
 use Rattle.oracle_core.specs.declared.oracle.Stop.TheVariants.{Undecided as undecided_stop, Void as void_stop, Missing as missing_stop, Memory as memory_stop}
 use Rattle.run_core.specs.declared.outcome.Outcome.{Outcome}
 use Rattle.run_core.specs.declared.outcome.Outcome.TheVariants.{Refused, Found, Undecided, Void}
-use Rattle.book_model.specs.Depth.{DEPTH}
+use Rattle.book_model.specs.numbers.Depth.{DEPTH}
 
 -- the outcome that the definitions speak of
 abbrev pub line_outcome : Outcome → LineOutcome

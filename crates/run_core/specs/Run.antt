@@ -3,9 +3,9 @@ use Rattle.std.specs.Prelude.{◌≡◌, ◌<◌, ◌≤◌, ℕ, Bool, true, fa
 use Rattle.std.specs.List.{list_all}
 use Rattle.std.specs.declared.option.Option.{Option}
 use Rattle.std.specs.Io.KnownBytes.{Appends, Consumes, IsAtEnd}
-use Rattle.book_model.specs.Lines.{lines_of}
-use Rattle.book_model.specs.Outcomes.{LineOutcome, AreRight, is_result}
-use Rattle.book_model.specs.Text.{text}
+use Rattle.book_model.specs.lines.Lines.{lines_of}
+use Rattle.book_model.specs.lines.Outcomes.{LineOutcome, AreRight, is_result}
+use Rattle.book_model.specs.lines.Text.{text}
 use Rattle.run_core.specs.Commands.{Input, whole, nothing}
 use Rattle.run_core.specs.Checking.{ChecksText, CheckCutShort}
 use Rattle.run_core.specs.Sampling.{Sampled, SampleCutShort}

@@ -5,8 +5,8 @@ use Rattle.std.specs.declared.option.Option.{Option}
 use Rattle.std.specs.Io.KnownBytes.{Appends}
 use Rattle.almanac_lines.specs.Texts.{sample_lines}
 use Rattle.book_model.specs.declared.fact.Fact.{Fact}
-use Rattle.book_model.specs.Outcomes.{LineOutcome, refused, resolved, undecided, void, AreRight, is_shown, is_result}
-use Rattle.book_model.specs.Text.{seen_after}
+use Rattle.book_model.specs.lines.Outcomes.{LineOutcome, refused, resolved, undecided, void, AreRight, is_shown, is_result}
+use Rattle.book_model.specs.lines.Text.{seen_after}
 use Rattle.byte_streams.specs.Stream.{AppendsFront}
 
 -- whether a fact of the line is undecided

@@ -1,8 +1,8 @@
 //! What is printed for one line of input: its new facts, and then the line.
 ghost use Rattle.std.specs.Prelude.{◌≡◌, ◌≤◌, ◌+◌, ◌^◌, ◌∷◌, [], ℕ, length, IfOk, OnOk};
-ghost use Rattle.book_model.specs.Lines.{words_of};
-ghost use Rattle.book_model.specs.Outcomes.{IsRightFor, resolved as resolved_outcome};
-ghost use Rattle.book_model.specs.Text as model;
+ghost use Rattle.book_model.specs.lines.Lines.{words_of};
+ghost use Rattle.book_model.specs.lines.Outcomes.{IsRightFor, resolved as resolved_outcome};
+ghost use Rattle.book_model.specs.lines.Text as model;
 ghost use Rattle.cert_text.specs.Text as cert;
 ghost use Rattle.run_core.specs.Outcomes.{line_outcome};
 

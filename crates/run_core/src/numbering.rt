@@ -1,8 +1,8 @@
 //! The facts that have been written, numbered in order of first use.
 ghost use Rattle.std.specs.Prelude.{◌≡◌, ◌≤◌, ◌<◌, ◌+◌, ◌^◌, ◌++◌, ◌∷◌, [], length, not, IfOk, OnOk};
 ghost use Rattle.std.specs.List.{list_any, position_or_len};
-ghost use Rattle.book_model.specs.Inquiries.{fact_eq};
-ghost use Rattle.book_model.specs.Text.{with_fact, with_facts, numbers_of};
+ghost use Rattle.book_model.specs.calendars.Inquiries.{fact_eq};
+ghost use Rattle.book_model.specs.lines.Text.{with_fact, with_facts, numbers_of};
 ghost use Rattle.run_core.specs.Numbering.{new_facts};
 
 use book_model::Fact;

@@ -1,7 +1,7 @@
 //! What comes of each line.
 ghost use Rattle.std.specs.Prelude.{◌≡◌, ℕ, List, map, IsTrue, IfOk, OnErr};
-ghost use Rattle.book_model.specs.Outcomes.{IsRightFor, AreRight};
-ghost use Rattle.book_model.specs.Requests.{is_possible, is_in_reach};
+ghost use Rattle.book_model.specs.lines.Outcomes.{IsRightFor, AreRight};
+ghost use Rattle.book_model.specs.lines.Requests.{is_possible, is_in_reach};
 ghost use Rattle.run_core.specs.Outcomes.{line_outcome, IsRightOf, ComesOfStop, HasNoOutcome};
 
 use book_model::{Fact, Request, Resolved, Rule, Site, Undecided};

@@ -3,8 +3,8 @@ ghost use Rattle.std.specs.Prelude.{◌≡◌, ◌≤◌, ◌⊎◌, map, IfOk, 
 ghost use Rattle.std.specs.Io.KnownBytes.{Keeps};
 ghost use Rattle.std.specs.List.{list_all};
 ghost use Rattle.almanac_lines.specs.Texts as texts;
-ghost use Rattle.book_model.specs.Lines.{lines_of};
-ghost use Rattle.book_model.specs.Outcomes.{is_result};
+ghost use Rattle.book_model.specs.lines.Lines.{lines_of};
+ghost use Rattle.book_model.specs.lines.Outcomes.{is_result};
 ghost use Rattle.byte_streams.specs.Stream.{Rose};
 ghost use Rattle.run_core.specs.Outcomes.{line_outcome};
 ghost use Rattle.run_core.specs.Run.{Printed, CutShort};

@@ -1,8 +1,8 @@
 //! Writes what the lines of a sample come to, in one line of counts.
 ghost use Rattle.std.specs.Prelude.{◌≡◌, ◌≤◌, ◌⊎◌, [], length, map, filter, IfOk, OnOk, OnErr, IsErrOf};
 ghost use Rattle.std.specs.Io.KnownBytes.{Appends, Keeps};
-ghost use Rattle.book_model.specs.Outcomes.{is_result};
-ghost use Rattle.book_model.specs.Text.{with_fact, with_facts, seen_after};
+ghost use Rattle.book_model.specs.lines.Outcomes.{is_result};
+ghost use Rattle.book_model.specs.lines.Text.{with_fact, with_facts, seen_after};
 ghost use Rattle.byte_streams.specs.Stream.{Rose, HasCause, AppendsFront};
 ghost use Rattle.run_core.specs.Outcomes.{line_outcome};
 ghost use Rattle.run_core.specs.Sampling as spec;

@@ -1,8 +1,8 @@
 //! Writes the text of lines and their outcomes, block by block.
 ghost use Rattle.std.specs.Prelude.{◌≡◌, ◌≤◌, ◌<◌, ◌+◌, ◌++◌, [], List, ℕ, map, length, OnOk, OnErr, IsErrOf};
 ghost use Rattle.std.specs.Io.KnownBytes.{Appends};
-ghost use Rattle.book_model.specs.Outcomes.{IsRightFor, AreRight};
-ghost use Rattle.book_model.specs.Text as spec;
+ghost use Rattle.book_model.specs.lines.Outcomes.{IsRightFor, AreRight};
+ghost use Rattle.book_model.specs.lines.Text as spec;
 ghost use Rattle.byte_streams.specs.Stream.{Rose, AppendsFront, Wrote};
 ghost use Rattle.run_core.specs.Outcomes.{line_outcome};
 ghost use Rattle.run_core.specs.declared.text.WriteStop.TheVariants.{Fault, Memory};

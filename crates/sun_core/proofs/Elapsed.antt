@@ -2,11 +2,11 @@
 use Rattle.std.proofs.Common.{◌≡◌, ℕ, refl, sym, subst, Result, Ok}
 use Rattle.exact_math.specs.Interval.{Interval}
 use Rattle.book_model.specs.declared.fail.Fail.{Fail}
-use Rattle.book_model.specs.Expressions.{Expression, World}
-use Rattle.book_model.specs.Leading.{Leads}
-use Rattle.book_model.specs.Programs.{Program, bind}
-use Rattle.book_model.specs.Relations.{Within}
-use Rattle.book_model.specs.Time.{dynamical_of, centuries_of, in_centuries}
+use Rattle.book_model.specs.numbers.Expressions.{Expression, World}
+use Rattle.book_model.specs.programs.Leading.{Leads}
+use Rattle.book_model.specs.programs.Programs.{Program, bind}
+use Rattle.book_model.specs.numbers.Relations.{Within}
+use Rattle.book_model.specs.sky.Time.{dynamical_of, centuries_of, in_centuries}
 use Rattle.book_model.proofs.Leads.{leads_bind, leads_answer}
 
 -- an expression is the time in centuries from noon of 1 January 2000 to a moment that an enclosure holds

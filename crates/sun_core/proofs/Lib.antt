@@ -2,3 +2,5 @@ pub mod Scalings
 pub mod Openings
 pub mod Elapsed
 pub mod Reaches
+pub mod FormulaWidths
+pub mod NewYears

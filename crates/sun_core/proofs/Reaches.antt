@@ -1,10 +1,10 @@
 -- How wide a longitude of the sun is: the bound of its expression, computed.
 use Rattle.std.proofs.Common.{◌≡◌, refl, true}
-use Rattle.book_model.specs.Bounds.{implies, bound_of, limits_36, integer_bound, constant_bound, sum_bound, difference_bound, scaled_bound, product_bound, power_bound, spanned_bound, sine_spans, cosine_spans}
-use Rattle.book_model.specs.Expressions.{argument}
-use Rattle.book_model.specs.Polynomials.{quadratic_of, quadratic_wave_of}
-use Rattle.book_model.specs.Sun.{nutation_of}
-use Rattle.book_model.specs.Terms.{terms_to, terms_of}
+use Rattle.book_model.specs.numbers.Bounds.{implies, bound_of, limits_36, integer_bound, constant_bound, sum_bound, difference_bound, scaled_bound, product_bound, power_bound, spanned_bound, sine_spans, cosine_spans}
+use Rattle.book_model.specs.numbers.Expressions.{argument}
+use Rattle.book_model.specs.numbers.Polynomials.{quadratic_of, quadratic_wave_of}
+use Rattle.book_model.specs.sky.Sun.{nutation_of}
+use Rattle.book_model.specs.numbers.Terms.{terms_to, terms_of}
 use Rattle.sun_core.specs.Daily.{in_centuries, has_daily, by_centuries, by_days, daily_wave_of}
 use Rattle.sun_core.specs.Steps.{computed_mean_longitude_of, computed_periodic_of, computed_aberration_of, computed_longitude_of}
 use Rattle.sun_core.specs.Widths.{days_of_years, longitude_bound}

@@ -11,10 +11,10 @@ use Rattle.exact_math.proofs.Same.{same_trans, same_refl, same_sym, times_cong, 
 use Rattle.book_model.specs.declared.frac.Frac.{Frac}
 use Rattle.book_model.specs.declared.sun_tables.TheConstants.{SUN_UNIT_COARSELY, SUN_UNIT_FINELY}
 use Rattle.book_model.specs.declared.time_tables.TheConstants.{DAY_IN_CENTURIES}
-use Rattle.book_model.specs.Expressions.{Expression, World, value, exactly, add, scale}
-use Rattle.book_model.specs.Fractions.{fraction_of, ten_millionths, daily_ten_millionths}
-use Rattle.book_model.specs.Relations.{Within, Lies}
-use Rattle.book_model.specs.Sun.{sun_unit}
+use Rattle.book_model.specs.numbers.Expressions.{Expression, World, value, exactly, add, scale}
+use Rattle.book_model.specs.numbers.Fractions.{fraction_of, ten_millionths, daily_ten_millionths}
+use Rattle.book_model.specs.numbers.Relations.{Within, Lies}
+use Rattle.book_model.specs.sky.Sun.{sun_unit}
 use Rattle.book_model.proofs.Values.{value_proper}
 
 -- a number of the value of a member is a member

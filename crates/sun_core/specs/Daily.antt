@@ -4,10 +4,10 @@ use Rattle.exact_math.specs.Fraction.{whole}
 use Rattle.book_model.specs.declared.frac.Frac.{Frac}
 use Rattle.book_model.specs.declared.polynomial.Wave.{Wave}
 use Rattle.book_model.specs.declared.time_tables.TheConstants.{DAY_IN_CENTURIES}
-use Rattle.book_model.specs.Expressions.{Expression, constant, add, scale, sine}
-use Rattle.book_model.specs.Fractions.{fraction_of, ten_millionths, daily_ten_millionths}
-use Rattle.book_model.specs.Polynomials.{no_wave}
-use Rattle.book_model.specs.Terms.{terms_of}
+use Rattle.book_model.specs.numbers.Expressions.{Expression, constant, add, scale, sine}
+use Rattle.book_model.specs.numbers.Fractions.{fraction_of, ten_millionths, daily_ten_millionths}
+use Rattle.book_model.specs.numbers.Polynomials.{no_wave}
+use Rattle.book_model.specs.numbers.Terms.{terms_of}
 use Rattle.sun_core.specs.declared.daily.TheConstants.{GREATEST}
 
 -- a number of days in centuries

@@ -2,11 +2,11 @@
 use Rattle.std.specs.Prelude.{ℤ}
 use Rattle.book_model.specs.declared.sun_tables.TheConstants.{ABERRATION, MEAN_ABERRATION, SUN_AT_2000, SUN_RATE, SUN_UNIT_COARSELY, SUN_UNIT_FINELY, SUN_WAVES}
 use Rattle.book_model.specs.declared.tables.TheConstants.{HALF}
-use Rattle.book_model.specs.Expressions.{Expression, integer, constant, add, subtract, scale, cosine}
-use Rattle.book_model.specs.Fractions.{fraction_of, ten_millionths}
-use Rattle.book_model.specs.Noon.{reduction_of, centre_of, joint_of}
-use Rattle.book_model.specs.Polynomials.{waves_of}
-use Rattle.book_model.specs.Sun.{nutation_of, sun_unit}
+use Rattle.book_model.specs.numbers.Expressions.{Expression, integer, constant, add, subtract, scale, cosine}
+use Rattle.book_model.specs.numbers.Fractions.{fraction_of, ten_millionths}
+use Rattle.book_model.specs.sky.Noon.{reduction_of, centre_of, joint_of}
+use Rattle.book_model.specs.numbers.Polynomials.{waves_of}
+use Rattle.book_model.specs.sky.Sun.{nutation_of, sun_unit}
 use Rattle.sun_core.specs.Daily.{in_centuries, by_days, daily_angle_of, daily_waves_of}
 
 -- the mean longitude, not reduced

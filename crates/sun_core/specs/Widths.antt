@@ -1,6 +1,6 @@
 -- How wide a longitude of the sun is at the coarse scale, whose unit is 2^-36 degrees.
 use Rattle.std.specs.Prelude.{ℕ, ◌*◌, ◌/◌, ◌^◌, pos, neg_ℤ}
-use Rattle.book_model.specs.Bounds.{Bound, bounded}
+use Rattle.book_model.specs.numbers.Bounds.{Bound, bounded}
 
 -- days of the years 1800 to 2050, counted from noon of 1 January 2000, as far as a moment's width is known
 abbrev pub days_of_years : ℕ → Bound

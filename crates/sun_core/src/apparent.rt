@@ -1,20 +1,20 @@
 //! Apparent time, which sundials show, and true noon at Tehran.
 ghost use Rattle.std.specs.Prelude.{◌≡◌, ◌≤◌, pos, negsuc, ◌≤ℤ◌};
-ghost use Rattle.book_model.specs.Bounds.{Reach, limits_of};
-ghost use Rattle.book_model.specs.Expressions.{Expression, World};
-ghost use Rattle.book_model.specs.Fractions.{fraction_of};
-ghost use Rattle.book_model.specs.Leading.{Leads, next_turn};
-ghost use Rattle.book_model.specs.Noon.{ahead_of, from_apparent_of, noon_of};
-ghost use Rattle.book_model.specs.Relations.{Within, Narrow};
+ghost use Rattle.book_model.specs.numbers.Bounds.{Reach, limits_of};
+ghost use Rattle.book_model.specs.numbers.Expressions.{Expression, World};
+ghost use Rattle.book_model.specs.numbers.Fractions.{fraction_of};
+ghost use Rattle.book_model.specs.programs.Leading.{Leads, next_turn};
+ghost use Rattle.book_model.specs.sky.Noon.{ahead_of, from_apparent_of, noon_of};
+ghost use Rattle.book_model.specs.numbers.Relations.{Within, Narrow};
 ghost use Rattle.sun_core.specs.Steps.{apparent_noon_of};
-ghost use Rattle.book_model.specs.Depth.{DEPTH};
+ghost use Rattle.book_model.specs.numbers.Depth.{DEPTH};
 
 use crate::equation::equation_of_time;
 use book_model::{DEGREE_IN_DAYS, Fail, Frac, HALF, PERSIAN_NOON_LONGITUDE};
 use encl_core::{Enclosure, Trail};
 
 /// What local mean time is ahead of universal time at a longitude, in days.
-#[tactic(auto, unfolding(book_model::specs::Noon::ahead_of))]
+#[tactic(auto, unfolding(book_model::specs::sky::Noon::ahead_of))]
 fn ahead<E: Enclosure>(longitude: Frac) -> E
     ensures holds { (w : World) → DEPTH ≤ w.depth → Within E.shown w (ahead_of (fraction_of longitude)) result }
     ensures narrow { (r : Reach) → Narrow E.shown (limits_of E.BITS) r (ahead_of (fraction_of longitude)) result }
@@ -25,7 +25,7 @@ fn ahead<E: Enclosure>(longitude: Frac) -> E
 /// The local mean time of a moment of apparent time, which sundials show, at a longitude east of Greenwich in degrees
 /// (Reingold and Dershowitz, Calendrical Calculations, chapter 14): the moment less the equation of time at it. One
 /// test, at `year`; it is void at `year` in a year without a correction.
-#[tactic(auto, using(book_model::proofs::Leads::leading), unfolding(book_model::specs::Noon::from_apparent_of))]
+#[tactic(auto, using(book_model::proofs::Leads::leading), unfolding(book_model::specs::sky::Noon::from_apparent_of))]
 pub fn from_apparent<E: Enclosure>(longitude: Frac, t: E, trail: &mut Trail) -> Result<E, Fail>
     ensures leads { (w : World) (x : Expression) → Within E.shown w x t → Leads w (Within E.shown w) (from_apparent_of (fraction_of longitude) x) trail.old.count trail.new.count result }
     ensures counted { trail.new.count ≡ next_turn trail.old.count }
@@ -47,7 +47,7 @@ fn apparent_noon<E: Enclosure>(day: i64) -> E
 
 /// The moment of true noon on a day at Tehran, in universal time (Reingold and Dershowitz, Calendrical Calculations,
 /// chapter 15). One test, at `year`; it is void at `year` in a year without a correction.
-#[tactic(auto, using(book_model::proofs::Leads::leading), unfolding(book_model::specs::Noon::noon_of, crate::specs::Steps::apparent_noon_of))]
+#[tactic(auto, using(book_model::proofs::Leads::leading), unfolding(book_model::specs::sky::Noon::noon_of, crate::specs::Steps::apparent_noon_of))]
 pub fn noon<E: Enclosure>(d: i64, trail: &mut Trail) -> Result<E, Fail>
     requires from { negsuc 39999999 ≤ℤ d }
     requires to { d ≤ℤ pos 40000000 }

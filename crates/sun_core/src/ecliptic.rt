@@ -1,11 +1,11 @@
 //! The obliquity of the ecliptic.
 ghost use Rattle.std.specs.Prelude.{◌≡◌, IfOk};
-ghost use Rattle.book_model.specs.Bounds.{Reach, limits_of};
-ghost use Rattle.book_model.specs.Expressions.{Expression, World};
-ghost use Rattle.book_model.specs.Leading.{Leads};
-ghost use Rattle.book_model.specs.Polynomials.{cubic_of};
-ghost use Rattle.book_model.specs.Relations.{Within, Narrow};
-ghost use Rattle.book_model.specs.Sun.{obliquity_of};
+ghost use Rattle.book_model.specs.numbers.Bounds.{Reach, limits_of};
+ghost use Rattle.book_model.specs.numbers.Expressions.{Expression, World};
+ghost use Rattle.book_model.specs.programs.Leading.{Leads};
+ghost use Rattle.book_model.specs.numbers.Polynomials.{cubic_of};
+ghost use Rattle.book_model.specs.numbers.Relations.{Within, Narrow};
+ghost use Rattle.book_model.specs.sky.Sun.{obliquity_of};
 
 use book_model::{Fail, OBLIQUITY};
 use encl_core::{Enclosure, Trail};
@@ -13,7 +13,7 @@ use time_scales::cubic;
 
 /// The obliquity of the ecliptic by the centuries from noon of 1 January 2000, in degrees (Reingold and Dershowitz,
 /// Calendrical Calculations, chapter 14). It makes no test and never fails.
-#[tactic(auto, using(book_model::proofs::Leads::leading), unfolding(book_model::specs::Sun::obliquity_of))]
+#[tactic(auto, using(book_model::proofs::Leads::leading), unfolding(book_model::specs::sky::Sun::obliquity_of))]
 pub fn obliquity<E: Enclosure>(c: E, trail: &mut Trail) -> Result<E, Fail>
     ensures leads { (w : World) (x : Expression) → Within E.shown w x c → Leads w (Within E.shown w) (obliquity_of x) trail.old.count trail.new.count result }
     ensures narrow { IfOk result (λ y. (r : Reach) (x : Expression) → Narrow E.shown (limits_of E.BITS) r x c → Narrow E.shown (limits_of E.BITS) r (cubic_of OBLIQUITY x) y) }

@@ -1,10 +1,10 @@
 //! The equation of time.
 ghost use Rattle.std.specs.Prelude.{◌≡◌, IfErr};
-ghost use Rattle.book_model.specs.Bounds.{Reach, limits_of};
-ghost use Rattle.book_model.specs.Expressions.{Expression, World};
-ghost use Rattle.book_model.specs.Leading.{Leads, next_turn};
-ghost use Rattle.book_model.specs.Noon.{tilt_of, reduction_of, centre_of, joint_of, second_reduction_of, second_centre_of, radians_of, part_of_day, equation_of, equation_of_time_of};
-ghost use Rattle.book_model.specs.Relations.{Within, Narrow};
+ghost use Rattle.book_model.specs.numbers.Bounds.{Reach, limits_of};
+ghost use Rattle.book_model.specs.numbers.Expressions.{Expression, World};
+ghost use Rattle.book_model.specs.programs.Leading.{Leads, next_turn};
+ghost use Rattle.book_model.specs.sky.Noon.{tilt_of, reduction_of, centre_of, joint_of, second_reduction_of, second_centre_of, radians_of, part_of_day, equation_of, equation_of_time_of};
+ghost use Rattle.book_model.specs.numbers.Relations.{Within, Narrow};
 ghost use Rattle.time_scales.specs.Steps.{IsYearOpenFor};
 ghost use Rattle.sun_core.specs.Steps.{first_radians_of};
 
@@ -17,7 +17,7 @@ use time_scales::{centuries, cubic, quadratic};
 use trig_series::{cos_deg, pi, sin_deg, tan_deg};
 
 /// The square of the tangent of half the obliquity of the ecliptic.
-#[tactic(auto, unfolding(book_model::specs::Noon::tilt_of))]
+#[tactic(auto, unfolding(book_model::specs::sky::Noon::tilt_of))]
 fn tilt<E: Enclosure>(c: E) -> E
     ensures holds { (w : World) (x : Expression) → Within E.shown w x c → Within E.shown w (tilt_of x) result }
     ensures narrow { (r : Reach) (x : Expression) → Narrow E.shown (limits_of E.BITS) r x c → Narrow E.shown (limits_of E.BITS) r (tilt_of x) result }
@@ -26,7 +26,7 @@ fn tilt<E: Enclosure>(c: E) -> E
 }
 
 /// The reduction to the equator.
-#[tactic(auto, unfolding(book_model::specs::Noon::reduction_of))]
+#[tactic(auto, unfolding(book_model::specs::sky::Noon::reduction_of))]
 fn reduction<E: Enclosure>(tilt: E, mean_sun: E) -> E
     ensures holds { (w : World) (y l : Expression) → Within E.shown w y tilt → Within E.shown w l mean_sun → Within E.shown w (reduction_of y l) result }
     ensures narrow { (r : Reach) (y l : Expression) → Narrow E.shown (limits_of E.BITS) r y tilt → Narrow E.shown (limits_of E.BITS) r l mean_sun → Narrow E.shown (limits_of E.BITS) r (reduction_of y l) result }
@@ -35,7 +35,7 @@ fn reduction<E: Enclosure>(tilt: E, mean_sun: E) -> E
 }
 
 /// The equation of the centre.
-#[tactic(auto, unfolding(book_model::specs::Noon::centre_of))]
+#[tactic(auto, unfolding(book_model::specs::sky::Noon::centre_of))]
 fn centre<E: Enclosure>(eccentricity: E, anomaly: E) -> E
     ensures holds { (w : World) (e m : Expression) → Within E.shown w e eccentricity → Within E.shown w m anomaly → Within E.shown w (centre_of e m) result }
     ensures narrow { (r : Reach) (e m : Expression) → Narrow E.shown (limits_of E.BITS) r e eccentricity → Narrow E.shown (limits_of E.BITS) r m anomaly → Narrow E.shown (limits_of E.BITS) r (centre_of e m) result }
@@ -44,7 +44,7 @@ fn centre<E: Enclosure>(eccentricity: E, anomaly: E) -> E
 }
 
 /// What the tilt and the eccentricity bring about together.
-#[tactic(auto, unfolding(book_model::specs::Noon::joint_of))]
+#[tactic(auto, unfolding(book_model::specs::sky::Noon::joint_of))]
 fn joint<E: Enclosure>(tilt: E, eccentricity: E, mean_sun: E, anomaly: E) -> E
     ensures holds { (w : World) (y e l m : Expression) → Within E.shown w y tilt → Within E.shown w e eccentricity → Within E.shown w l mean_sun → Within E.shown w m anomaly → Within E.shown w (joint_of y e l m) result }
     ensures narrow { (r : Reach) (y e l m : Expression) → Narrow E.shown (limits_of E.BITS) r y tilt → Narrow E.shown (limits_of E.BITS) r e eccentricity → Narrow E.shown (limits_of E.BITS) r l mean_sun → Narrow E.shown (limits_of E.BITS) r m anomaly → Narrow E.shown (limits_of E.BITS) r (joint_of y e l m) result }
@@ -57,7 +57,7 @@ fn joint<E: Enclosure>(tilt: E, eccentricity: E, mean_sun: E, anomaly: E) -> E
 }
 
 /// The reduction to the equator, at its second order.
-#[tactic(auto, unfolding(book_model::specs::Noon::second_reduction_of))]
+#[tactic(auto, unfolding(book_model::specs::sky::Noon::second_reduction_of))]
 fn second_reduction<E: Enclosure>(tilt: E, mean_sun: E) -> E
     ensures holds { (w : World) (y l : Expression) → Within E.shown w y tilt → Within E.shown w l mean_sun → Within E.shown w (second_reduction_of y l) result }
     ensures narrow { (r : Reach) (y l : Expression) → Narrow E.shown (limits_of E.BITS) r y tilt → Narrow E.shown (limits_of E.BITS) r l mean_sun → Narrow E.shown (limits_of E.BITS) r (second_reduction_of y l) result }
@@ -68,7 +68,7 @@ fn second_reduction<E: Enclosure>(tilt: E, mean_sun: E) -> E
 }
 
 /// The equation of the centre, at its second order.
-#[tactic(auto, unfolding(book_model::specs::Noon::second_centre_of))]
+#[tactic(auto, unfolding(book_model::specs::sky::Noon::second_centre_of))]
 fn second_centre<E: Enclosure>(eccentricity: E, anomaly: E) -> E
     ensures holds { (w : World) (e m : Expression) → Within E.shown w e eccentricity → Within E.shown w m anomaly → Within E.shown w (second_centre_of e m) result }
     ensures narrow { (r : Reach) (e m : Expression) → Narrow E.shown (limits_of E.BITS) r e eccentricity → Narrow E.shown (limits_of E.BITS) r m anomaly → Narrow E.shown (limits_of E.BITS) r (second_centre_of e m) result }
@@ -91,7 +91,7 @@ fn first_radians<E: Enclosure>(tilt: E, eccentricity: E, mean_sun: E, anomaly: E
 }
 
 /// The equation of time in radians.
-#[tactic(auto, unfolding(book_model::specs::Noon::radians_of, crate::specs::Steps::first_radians_of))]
+#[tactic(auto, unfolding(book_model::specs::sky::Noon::radians_of, crate::specs::Steps::first_radians_of))]
 fn radians<E: Enclosure>(tilt: E, eccentricity: E, mean_sun: E, anomaly: E) -> E
     ensures holds { (w : World) (y e l m : Expression) → Within E.shown w y tilt → Within E.shown w e eccentricity → Within E.shown w l mean_sun → Within E.shown w m anomaly → Within E.shown w (radians_of y e l m) result }
     ensures narrow { (r : Reach) (y e l m : Expression) → Narrow E.shown (limits_of E.BITS) r y tilt → Narrow E.shown (limits_of E.BITS) r e eccentricity → Narrow E.shown (limits_of E.BITS) r l mean_sun → Narrow E.shown (limits_of E.BITS) r m anomaly → Narrow E.shown (limits_of E.BITS) r (radians_of y e l m) result }
@@ -102,7 +102,7 @@ fn radians<E: Enclosure>(tilt: E, eccentricity: E, mean_sun: E, anomaly: E) -> E
 }
 
 /// Radians as a part of a day, and at most half a day.
-#[tactic(auto, unfolding(book_model::specs::Noon::part_of_day))]
+#[tactic(auto, unfolding(book_model::specs::sky::Noon::part_of_day))]
 fn in_days<E: Enclosure>(radians: E) -> E
     ensures holds { (w : World) (x : Expression) → Within E.shown w x radians → Within E.shown w (part_of_day x) result }
     ensures narrow { (r : Reach) (x : Expression) → Narrow E.shown (limits_of E.BITS) r x radians → Narrow E.shown (limits_of E.BITS) r (part_of_day x) result }
@@ -112,7 +112,7 @@ fn in_days<E: Enclosure>(radians: E) -> E
 }
 
 /// The equation of time by the centuries.
-#[tactic(auto, unfolding(book_model::specs::Noon::equation_of))]
+#[tactic(auto, unfolding(book_model::specs::sky::Noon::equation_of))]
 fn equation<E: Enclosure>(c: E) -> E
     ensures holds { (w : World) (x : Expression) → Within E.shown w x c → Within E.shown w (equation_of x) result }
     ensures narrow { (r : Reach) (x : Expression) → Narrow E.shown (limits_of E.BITS) r x c → Narrow E.shown (limits_of E.BITS) r (equation_of x) result }
@@ -126,7 +126,7 @@ fn equation<E: Enclosure>(c: E) -> E
 /// The equation of time at a moment of universal time, in days: what apparent time is ahead of mean time (Reingold and
 /// Dershowitz, Calendrical Calculations, chapter 14). It is at most half a day. One test, at `year`; it is void at
 /// `year` in a year without a correction.
-#[tactic(auto, using(book_model::proofs::Leads::leading), unfolding(book_model::specs::Noon::equation_of_time_of))]
+#[tactic(auto, using(book_model::proofs::Leads::leading), unfolding(book_model::specs::sky::Noon::equation_of_time_of))]
 pub fn equation_of_time<E: Enclosure>(t: E, trail: &mut Trail) -> Result<E, Fail>
     ensures leads { (w : World) (x : Expression) → Within E.shown w x t → Leads w (Within E.shown w) (equation_of_time_of x) trail.old.count trail.new.count result }
     ensures open { IfErr result (IsYearOpenFor (E.shown t)) }

@@ -1,10 +1,10 @@
 //! About when the sun was last at a longitude.
 ghost use Rattle.std.specs.Prelude.{◌≡◌, ◌≤◌, ◌+◌};
-ghost use Rattle.book_model.specs.Bounds.{Reach, limits_of};
-ghost use Rattle.book_model.specs.Expressions.{Expression, World};
-ghost use Rattle.book_model.specs.Leading.{Leads, next_turn};
-ghost use Rattle.book_model.specs.Relations.{Within, Narrow};
-ghost use Rattle.book_model.specs.Sun.{reduced_of, past_of, off_of, back_by, estimate_of};
+ghost use Rattle.book_model.specs.numbers.Bounds.{Reach, limits_of};
+ghost use Rattle.book_model.specs.numbers.Expressions.{Expression, World};
+ghost use Rattle.book_model.specs.programs.Leading.{Leads, next_turn};
+ghost use Rattle.book_model.specs.numbers.Relations.{Within, Narrow};
+ghost use Rattle.book_model.specs.sky.Sun.{reduced_of, past_of, off_of, back_by, estimate_of};
 
 use crate::longitude::sun;
 use book_model::{DEGREE_OF_YEAR, Fail, Site};
@@ -14,7 +14,7 @@ use encl_core::{Enclosure, Trail, wrap_step};
 const HALF_TURN: i64 = 180;
 
 /// An angle, reduced to 0 up to 360 degrees: one test, at `step-wrap`.
-#[tactic(auto, using(book_model::proofs::Leads::leading), unfolding(book_model::specs::Sun::reduced_of))]
+#[tactic(auto, using(book_model::proofs::Leads::leading), unfolding(book_model::specs::sky::Sun::reduced_of))]
 pub(crate) fn reduced<E: Enclosure>(angle: E, trail: &mut Trail) -> Result<E, Fail>
     ensures leads { (w : World) (x : Expression) → Within E.shown w x angle → Leads w (Within E.shown w) (reduced_of x) trail.old.count trail.new.count result }
     ensures counted { trail.new.count ≡ next_turn trail.old.count }
@@ -23,7 +23,7 @@ pub(crate) fn reduced<E: Enclosure>(angle: E, trail: &mut Trail) -> Result<E, Fa
 }
 
 /// How far the sun is past a longitude, from 0 up to 360 degrees.
-#[tactic(auto, using(book_model::proofs::Leads::leading), unfolding(book_model::specs::Sun::past_of, book_model::specs::Leading::next_turn))]
+#[tactic(auto, using(book_model::proofs::Leads::leading), unfolding(book_model::specs::sky::Sun::past_of, book_model::specs::programs::Leading::next_turn))]
 fn past<E: Enclosure>(longitude: E, t: E, trail: &mut Trail) -> Result<E, Fail>
     ensures leads { (w : World) (l x : Expression) → Within E.shown w l longitude → Within E.shown w x t → Leads w (Within E.shown w) (past_of l x) trail.old.count trail.new.count result }
     ensures counted { trail.new.count ≤ trail.old.count + 3 }
@@ -35,7 +35,7 @@ fn past<E: Enclosure>(longitude: E, t: E, trail: &mut Trail) -> Result<E, Fail>
 }
 
 /// How far the sun is past a longitude, from -180 up to 180 degrees.
-#[tactic(auto, using(book_model::proofs::Leads::leading), unfolding(book_model::specs::Sun::off_of, book_model::specs::Leading::next_turn))]
+#[tactic(auto, using(book_model::proofs::Leads::leading), unfolding(book_model::specs::sky::Sun::off_of, book_model::specs::programs::Leading::next_turn))]
 fn off<E: Enclosure>(longitude: E, t: E, trail: &mut Trail) -> Result<E, Fail>
     ensures leads { (w : World) (l x : Expression) → Within E.shown w l longitude → Within E.shown w x t → Leads w (Within E.shown w) (off_of l x) trail.old.count trail.new.count result }
     ensures counted { trail.new.count ≤ trail.old.count + 3 }
@@ -49,7 +49,7 @@ fn off<E: Enclosure>(longitude: E, t: E, trail: &mut Trail) -> Result<E, Fail>
 }
 
 /// A moment less the time in which the mean sun moves on by an angle.
-#[tactic(auto, unfolding(book_model::specs::Sun::back_by))]
+#[tactic(auto, unfolding(book_model::specs::sky::Sun::back_by))]
 fn back<E: Enclosure>(angle: E, t: E) -> E
     ensures holds { (w : World) (p x : Expression) → Within E.shown w p angle → Within E.shown w x t → Within E.shown w (back_by p x) result }
     ensures narrow { (r : Reach) (p x : Expression) → Narrow E.shown (limits_of E.BITS) r p angle → Narrow E.shown (limits_of E.BITS) r x t → Narrow E.shown (limits_of E.BITS) r (back_by p x) result }
@@ -62,7 +62,7 @@ fn back<E: Enclosure>(angle: E, t: E) -> E
 /// longitude, and from there once more by what the sun is still off. Six tests: the sun's two at the moment, one at
 /// `step-wrap`, the sun's two at the moment found first, and one at `step-wrap`. It is void at `year` in a year
 /// without a correction.
-#[tactic(auto, using(book_model::proofs::Leads::leading), unfolding(book_model::specs::Sun::estimate_of))]
+#[tactic(auto, using(book_model::proofs::Leads::leading), unfolding(book_model::specs::sky::Sun::estimate_of))]
 pub fn estimate<E: Enclosure>(l: E, t: E, trail: &mut Trail) -> Result<E, Fail>
     ensures leads { (w : World) (a x : Expression) → Within E.shown w a l → Within E.shown w x t → Leads w (Within E.shown w) (estimate_of a x) trail.old.count trail.new.count result }
     ensures counted { trail.new.count ≤ trail.old.count + 6 }

@@ -1,12 +1,12 @@
 //! The apparent longitude of the sun.
 ghost use Rattle.std.specs.Prelude.{◌≡◌, ◌≤◌, ◌+◌, ℕ, IfErr};
-ghost use Rattle.book_model.specs.Bounds.{Reach, IsNarrow, limits_of};
-ghost use Rattle.book_model.specs.Expressions.{Expression, World, argument, constant, add, scale};
-ghost use Rattle.book_model.specs.Fractions.{fraction_of};
-ghost use Rattle.book_model.specs.Leading.{Leads, next_turn};
-ghost use Rattle.book_model.specs.Polynomials.{waves_of};
-ghost use Rattle.book_model.specs.Relations.{Within, Narrow};
-ghost use Rattle.book_model.specs.Sun.{nutation_of, aberration_of, sun_unit, longitude_of, sun_of};
+ghost use Rattle.book_model.specs.numbers.Bounds.{Reach, IsNarrow, limits_of};
+ghost use Rattle.book_model.specs.numbers.Expressions.{Expression, World, argument, constant, add, scale};
+ghost use Rattle.book_model.specs.numbers.Fractions.{fraction_of};
+ghost use Rattle.book_model.specs.programs.Leading.{Leads, next_turn};
+ghost use Rattle.book_model.specs.numbers.Polynomials.{waves_of};
+ghost use Rattle.book_model.specs.numbers.Relations.{Within, Narrow};
+ghost use Rattle.book_model.specs.sky.Sun.{nutation_of, aberration_of, sun_unit, longitude_of, sun_of};
 ghost use Rattle.time_scales.specs.Steps.{IsYearOpenFor};
 ghost use Rattle.sun_core.specs.Daily.{in_centuries};
 ghost use Rattle.sun_core.specs.Widths.{days_of_years, longitude_bound};
@@ -22,7 +22,7 @@ use encl_core::{Enclosure, Trail, sum_of_terms, wrap_step};
 use time_scales::dynamical;
 
 /// The nutation in longitude, in degrees, by the centuries (Reingold and Dershowitz, Calendrical Calculations, chapter 14).
-#[tactic(auto, unfolding(book_model::specs::Sun::nutation_of))]
+#[tactic(auto, unfolding(book_model::specs::sky::Sun::nutation_of))]
 pub fn nutation<E: Enclosure>(c: E) -> E
     ensures holds { (w : World) (x : Expression) → Within E.shown w x c → Within E.shown w (nutation_of x) result }
     ensures narrow { (r : Reach) (x : Expression) → Narrow E.shown (limits_of E.BITS) r x c → Narrow E.shown (limits_of E.BITS) r (nutation_of x) result }
@@ -31,7 +31,7 @@ pub fn nutation<E: Enclosure>(c: E) -> E
 }
 
 /// The aberration, by the days from noon of 1 January 2000.
-#[tactic(auto, unfolding(book_model::specs::Sun::aberration_of, crate::specs::Steps::computed_aberration_of))]
+#[tactic(auto, unfolding(book_model::specs::sky::Sun::aberration_of, crate::specs::Steps::computed_aberration_of))]
 fn aberration<E: Enclosure>(days: E) -> E
     ensures holds { (w : World) (x : Expression) → Within E.shown w x days → Within E.shown w (aberration_of (in_centuries x)) result }
     ensures narrow { (r : Reach) (x : Expression) → Narrow E.shown (limits_of E.BITS) r x days → Narrow E.shown (limits_of E.BITS) r (computed_aberration_of x) result }
@@ -60,7 +60,7 @@ fn mean_longitude<E: Enclosure>(days: E) -> E
 }
 
 /// The longitude of the sun by the days from noon of 1 January 2000, and these in centuries; not reduced.
-#[tactic(auto, unfolding(book_model::specs::Sun::longitude_of, crate::specs::Steps::computed_longitude_of, crate::specs::Steps::periodic_of, crate::specs::Steps::mean_longitude_of))]
+#[tactic(auto, unfolding(book_model::specs::sky::Sun::longitude_of, crate::specs::Steps::computed_longitude_of, crate::specs::Steps::periodic_of, crate::specs::Steps::mean_longitude_of))]
 fn longitude<E: Enclosure>(days: E, c: E) -> E
     ensures holds { (w : World) (x : Expression) → Within E.shown w x days → Within E.shown w (in_centuries x) c → Within E.shown w (longitude_of (in_centuries x)) result }
     ensures narrow { (r : Reach) (x : Expression) → Narrow E.shown (limits_of E.BITS) r x days → Narrow E.shown (limits_of E.BITS) r (in_centuries x) c → Narrow E.shown (limits_of E.BITS) r (computed_longitude_of x) result }
@@ -75,7 +75,7 @@ fn longitude<E: Enclosure>(days: E, c: E) -> E
 /// The apparent longitude of the sun at a moment of universal time, in degrees from 0 up to 360 (Reingold and
 /// Dershowitz, Calendrical Calculations, chapter 14). Two tests, the year's and the one at `sun-wrap`. It is void at
 /// `year` in a year without a correction.
-#[tactic(auto, using(book_model::proofs::Leads::leading, crate::proofs::Openings::opening), unfolding(book_model::specs::Sun::sun_of, book_model::specs::Time::centuries_of, book_model::specs::Time::in_centuries, crate::specs::Daily::in_centuries, book_model::specs::Leading::next_turn))]
+#[tactic(auto, using(book_model::proofs::Leads::leading, crate::proofs::Openings::opening), unfolding(book_model::specs::sky::Sun::sun_of, book_model::specs::sky::Time::centuries_of, book_model::specs::sky::Time::in_centuries, crate::specs::Daily::in_centuries, book_model::specs::programs::Leading::next_turn))]
 pub fn sun<E: Enclosure>(t: E, trail: &mut Trail) -> Result<E, Fail>
     ensures leads { (w : World) (x : Expression) → Within E.shown w x t → Leads w (Within E.shown w) (sun_of x) trail.old.count trail.new.count result }
     ensures open { IfErr result (IsYearOpenFor (E.shown t)) }

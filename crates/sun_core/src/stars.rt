@@ -1,12 +1,12 @@
 //! Precession, and the longitude of the sun among the stars.
 ghost use Rattle.std.specs.Prelude.{◌≡◌, ◌≤◌, ◌+◌, IfErr};
 ghost use Rattle.exact_math.specs.Interval.{Interval};
-ghost use Rattle.book_model.specs.Bounds.{Reach, limits_of};
-ghost use Rattle.book_model.specs.Depth.{DEPTH};
-ghost use Rattle.book_model.specs.Expressions.{Expression, World};
-ghost use Rattle.book_model.specs.Leading.{Leads};
-ghost use Rattle.book_model.specs.Relations.{Within, Narrow};
-ghost use Rattle.book_model.specs.Sidereal as spec;
+ghost use Rattle.book_model.specs.numbers.Bounds.{Reach, limits_of};
+ghost use Rattle.book_model.specs.numbers.Depth.{DEPTH};
+ghost use Rattle.book_model.specs.numbers.Expressions.{Expression, World};
+ghost use Rattle.book_model.specs.programs.Leading.{Leads};
+ghost use Rattle.book_model.specs.numbers.Relations.{Within, Narrow};
+ghost use Rattle.book_model.specs.sky.Sidereal as spec;
 ghost use Rattle.time_scales.specs.Steps.{IsYearOpenFor};
 
 use crate::longitude::sun;
@@ -17,7 +17,7 @@ use time_scales::{centuries, cubic, quadratic};
 use trig_series::{cos_deg, sin_deg};
 
 /// Precession by the tilt of the ecliptic, where it crosses that of 2000, and the advance of the equinox, in degrees.
-#[tactic(auto, unfolding(book_model::specs::Sidereal::precession_by))]
+#[tactic(auto, unfolding(book_model::specs::sky::Sidereal::precession_by))]
 fn precession_by<E: Enclosure>(tilt: E, crossing: E, advance: E) -> E
     ensures holds { (w : World) (t p a : Expression) → DEPTH ≤ w.depth → Within E.shown w t tilt → Within E.shown w p crossing → Within E.shown w a advance → Within E.shown w (spec.precession_by t p a) result }
     ensures narrow { (r : Reach) (t p a : Expression) → Narrow E.shown (limits_of E.BITS) r t tilt → Narrow E.shown (limits_of E.BITS) r p crossing → Narrow E.shown (limits_of E.BITS) r a advance → Narrow E.shown (limits_of E.BITS) r (spec.precession_by t p a) result }
@@ -27,7 +27,7 @@ fn precession_by<E: Enclosure>(tilt: E, crossing: E, advance: E) -> E
 }
 
 /// Precession by the centuries from noon of 1 January 2000, in degrees, not reduced.
-#[tactic(auto, unfolding(book_model::specs::Sidereal::precession_at_of))]
+#[tactic(auto, unfolding(book_model::specs::sky::Sidereal::precession_at_of))]
 fn precession_at<E: Enclosure>(c: E) -> E
     ensures holds { (w : World) (x : Expression) → DEPTH ≤ w.depth → Within E.shown w x c → Within E.shown w (spec.precession_at_of x) result }
     ensures narrow { (r : Reach) (x : Expression) → Narrow E.shown (limits_of E.BITS) r x c → Narrow E.shown (limits_of E.BITS) r (spec.precession_at_of x) result }
@@ -41,7 +41,7 @@ fn precession_at<E: Enclosure>(c: E) -> E
 
 /// How far the equinox has moved among the stars at a moment of universal time, in degrees, not reduced (Reingold and Dershowitz,
 /// Calendrical Calculations, chapter 14): one test, the year's. It is void at `year` in a year without a correction.
-#[tactic(auto, using(book_model::proofs::Leads::leading), unfolding(book_model::specs::Sidereal::precession_of, book_model::specs::Leading::next_turn))]
+#[tactic(auto, using(book_model::proofs::Leads::leading), unfolding(book_model::specs::sky::Sidereal::precession_of, book_model::specs::programs::Leading::next_turn))]
 pub fn precession<E: Enclosure>(t: E, trail: &mut Trail) -> Result<E, Fail>
     ensures leads { (w : World) (x : Expression) → DEPTH ≤ w.depth → Within E.shown w x t → Leads w (Within E.shown w) (spec.precession_of x) trail.old.count trail.new.count result }
     ensures open { IfErr result (IsYearOpenFor (E.shown t)) }
@@ -54,7 +54,7 @@ pub fn precession<E: Enclosure>(t: E, trail: &mut Trail) -> Result<E, Fail>
 }
 
 /// The longitude of the sun less precession, from where the signs of the zodiac begin, not reduced.
-#[tactic(auto, unfolding(book_model::specs::Sidereal::sidereal_by))]
+#[tactic(auto, unfolding(book_model::specs::sky::Sidereal::sidereal_by))]
 fn sidereal_by<E: Enclosure>(longitude: E, precession: E) -> E
     ensures holds { (w : World) (s p : Expression) → DEPTH ≤ w.depth → Within E.shown w s longitude → Within E.shown w p precession → Within E.shown w (spec.sidereal_by s p) result }
     ensures narrow { (r : Reach) (s p : Expression) → Narrow E.shown (limits_of E.BITS) r s longitude → Narrow E.shown (limits_of E.BITS) r p precession → Narrow E.shown (limits_of E.BITS) r (spec.sidereal_by s p) result }
@@ -63,7 +63,7 @@ fn sidereal_by<E: Enclosure>(longitude: E, precession: E) -> E
 }
 
 /// An angle, reduced to 0 up to 360 degrees: one test, at `sidereal`.
-#[tactic(auto, using(book_model::proofs::Leads::leading, crate::proofs::Openings::opening), unfolding(book_model::specs::Sidereal::starred_of, book_model::specs::Leading::next_turn))]
+#[tactic(auto, using(book_model::proofs::Leads::leading, crate::proofs::Openings::opening), unfolding(book_model::specs::sky::Sidereal::starred_of, book_model::specs::programs::Leading::next_turn))]
 fn starred<E: Enclosure>(angle: E, trail: &mut Trail) -> Result<E, Fail>
     ensures leads { (w : World) (x : Expression) → Within E.shown w x angle → Leads w (Within E.shown w) (spec.starred_of x) trail.old.count trail.new.count result }
     ensures elsewhere { (i : Interval) → IfErr result (IsYearOpenFor i) }
@@ -75,7 +75,7 @@ fn starred<E: Enclosure>(angle: E, trail: &mut Trail) -> Result<E, Fail>
 /// The longitude of the sun among the stars at a moment of universal time, in degrees from 0 up to 360, from where the signs of the
 /// Hindu zodiac begin (Reingold and Dershowitz, Calendrical Calculations, chapters 14 and 20): four tests, the sun's two, the
 /// year's, and one at `sidereal`. It is void at `year` in a year without a correction.
-#[tactic(auto, using(book_model::proofs::Leads::leading), unfolding(book_model::specs::Sidereal::sidereal_sun_of))]
+#[tactic(auto, using(book_model::proofs::Leads::leading), unfolding(book_model::specs::sky::Sidereal::sidereal_sun_of))]
 pub fn sidereal_sun<E: Enclosure>(t: E, trail: &mut Trail) -> Result<E, Fail>
     ensures leads { (w : World) (x : Expression) → DEPTH ≤ w.depth → Within E.shown w x t → Leads w (Within E.shown w) (spec.sidereal_sun_of x) trail.old.count trail.new.count result }
     ensures open { IfErr result (IsYearOpenFor (E.shown t)) }

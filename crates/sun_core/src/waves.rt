@@ -1,11 +1,11 @@
 //! Waves: sizes times sines or cosines of angles that grow with time.
 ghost use Rattle.std.specs.Prelude.{◌≡◌};
 ghost use Rattle.exact_math.specs.Fraction.{whole};
-ghost use Rattle.book_model.specs.Bounds.{Reach, limits_of};
-ghost use Rattle.book_model.specs.Expressions.{Expression, World, scale, cosine};
-ghost use Rattle.book_model.specs.Fractions.{ten_millionths};
-ghost use Rattle.book_model.specs.Polynomials.{angle_of_wave, wave_of, quadratic_wave_of};
-ghost use Rattle.book_model.specs.Relations.{Within, Narrow};
+ghost use Rattle.book_model.specs.numbers.Bounds.{Reach, limits_of};
+ghost use Rattle.book_model.specs.numbers.Expressions.{Expression, World, scale, cosine};
+ghost use Rattle.book_model.specs.numbers.Fractions.{ten_millionths};
+ghost use Rattle.book_model.specs.numbers.Polynomials.{angle_of_wave, wave_of, quadratic_wave_of};
+ghost use Rattle.book_model.specs.numbers.Relations.{Within, Narrow};
 ghost use Rattle.sun_core.specs.Daily.{in_centuries, daily_angle_of, daily_wave_of};
 
 use book_model::{Frac, QuadraticWave, Wave};
@@ -15,7 +15,7 @@ use trig_series::{cos_deg, sin_deg};
 
 /// The size of a wave times the sine of its angle, which is quadratic.
 #[inline(always)]
-#[tactic(auto, unfolding(book_model::specs::Polynomials::quadratic_wave_of))]
+#[tactic(auto, unfolding(book_model::specs::numbers::Polynomials::quadratic_wave_of))]
 pub(crate) fn quadratic_wave<E: Enclosure>(wave: &QuadraticWave, c: E) -> E
     ensures holds { (w : World) (x : Expression) → Within E.shown w x c → Within E.shown w (quadratic_wave_of wave.now x) result }
     ensures narrow { (r : Reach) (x : Expression) → Narrow E.shown (limits_of E.BITS) r x c → Narrow E.shown (limits_of E.BITS) r (quadratic_wave_of wave.now x) result }
@@ -33,7 +33,7 @@ pub fn wave_angle<E: Enclosure>(wave: &Wave, days: E) -> E
 }
 
 /// The size of a wave times the sine of its angle, by the days.
-#[tactic(auto, unfolding(book_model::specs::Polynomials::wave_of, crate::specs::Daily::daily_wave_of))]
+#[tactic(auto, unfolding(book_model::specs::numbers::Polynomials::wave_of, crate::specs::Daily::daily_wave_of))]
 pub fn sine_wave<E: Enclosure>(wave: &Wave, days: E) -> E
     ensures holds { (w : World) (x : Expression) → Within E.shown w x days → Within E.shown w (wave_of (in_centuries x) wave.now) result }
     ensures narrow { (r : Reach) (x : Expression) → Narrow E.shown (limits_of E.BITS) r x days → Narrow E.shown (limits_of E.BITS) r (daily_wave_of x wave.now) result }

@@ -4,11 +4,11 @@ use Rattle.std.proofs.Common.{arith, subst, sym}
 use Rattle.std.proofs.lemmas.Int.{ints}
 use Rattle.book_model.specs.declared.site.Site.TheVariants.{Year}
 use Rattle.book_model.specs.declared.frac.Frac.{Frac}
-use Rattle.book_model.specs.Fractions.{fraction_of}
-use Rattle.book_model.specs.Correction.{is_between}
-use Rattle.book_model.specs.Expressions.{Expression}
-use Rattle.book_model.specs.Programs.{Program, answer, void}
-use Rattle.book_model.specs.Time.{correction_of_year}
+use Rattle.book_model.specs.numbers.Fractions.{fraction_of}
+use Rattle.book_model.specs.sky.Correction.{is_between}
+use Rattle.book_model.specs.numbers.Expressions.{Expression}
+use Rattle.book_model.specs.programs.Programs.{Program, answer, void}
+use Rattle.book_model.specs.sky.Time.{correction_of_year}
 use Rattle.time_scales.specs.declared.dynamical_time.Row.{Row}
 use Rattle.time_scales.specs.declared.dynamical_time.Row.TheVariants.{Ancient, From1800, From1900, From1987, From2006}
 use Rattle.time_scales.specs.Corrections.{row_of, IsInRow, correction_by, computed_by, computed_of}

@@ -3,10 +3,10 @@ use Rattle.std.specs.Prelude.{◌≡◌, ℕ, zero, suc, ◌+◌, ◌-◌, ◌�
 use Rattle.std.proofs.Common.{arith, subst, ◌⊎◌, inl, inr}
 use Rattle.std.proofs.lemmas.Int.{ints, by_lt_z}
 use Rattle.exact_math.specs.Interval.{Interval}
-use Rattle.book_model.specs.Bounds.{Bound, unbounded, Reach, IsNarrow, bound_of, implies, integer_bound, constant_bound, sum_bound, scaled_bound, limits_of}
-use Rattle.book_model.specs.Calendar.{fixed_of, first_day, days_of_months}
-use Rattle.book_model.specs.Correction.{int_power, polynomial_to, polynomial_of, seconds_of}
-use Rattle.book_model.specs.Relations.{Narrow}
+use Rattle.book_model.specs.numbers.Bounds.{Bound, unbounded, Reach, IsNarrow, bound_of, implies, integer_bound, constant_bound, sum_bound, scaled_bound, limits_of}
+use Rattle.book_model.specs.calendars.Gregorian.{fixed_of, first_day, days_of_months}
+use Rattle.book_model.specs.sky.Correction.{int_power, polynomial_to, polynomial_of, seconds_of}
+use Rattle.book_model.specs.numbers.Relations.{Narrow}
 use Rattle.book_model.proofs.Implying.{settled_at}
 use Rattle.time_scales.specs.Corrections.{row_of, computed_by, computed_of, correction_bound}
 use Rattle.time_scales.specs.Horner.{horner_to, horner_of}

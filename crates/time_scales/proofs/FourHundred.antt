@@ -3,7 +3,7 @@ use Rattle.std.proofs.Common.{◌≡◌, ◌∙◌, ℤ, pos, ◌+ℤ◌, ◌-�
 use Rattle.std.proofs.lemmas.Int.{ints}
 use Rattle.std.specs.Int.{int_div_euclid}
 use Rattle.exact_math.proofs.Floors.{IsFloorQuotient, floor_quotient_is}
-use Rattle.book_model.specs.Calendar.{first_day, year_of_day, IsYearOfDay}
+use Rattle.book_model.specs.calendars.Gregorian.{first_day, year_of_day, IsYearOfDay}
 use Rattle.book_model.proofs.Calendars.{year_is, year_unique}
 use Rattle.rounded_quotients.proofs.Quotients.{euclid_is}
 

@@ -7,11 +7,11 @@ use Rattle.exact_math.proofs.Intervals.{within_trans}
 use Rattle.exact_math.proofs.Ring.{at, lit, ◌⊕◌, ◌⊗◌}
 use Rattle.exact_math.proofs.Same.{same_trans, le_of_same, ge_of_same}
 use Rattle.book_model.specs.declared.frac.Frac.{Frac}
-use Rattle.book_model.specs.Correction.{no_fraction}
-use Rattle.book_model.specs.Expressions.{World, value, exactly, integer, constant, add, scale}
-use Rattle.book_model.specs.Fractions.{fraction_of}
-use Rattle.book_model.specs.Polynomials.{polynomial_at_to, polynomial_at}
-use Rattle.book_model.specs.Relations.{Within, Lies}
+use Rattle.book_model.specs.sky.Correction.{no_fraction}
+use Rattle.book_model.specs.numbers.Expressions.{World, value, exactly, integer, constant, add, scale}
+use Rattle.book_model.specs.numbers.Fractions.{fraction_of}
+use Rattle.book_model.specs.numbers.Polynomials.{polynomial_at_to, polynomial_at}
+use Rattle.book_model.specs.numbers.Relations.{Within, Lies}
 use Rattle.book_model.proofs.Exactly.{product_exactly, sum_exactly}
 use Rattle.time_scales.specs.Horner.{horner_to, horner_of}
 

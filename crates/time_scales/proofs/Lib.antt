@@ -6,3 +6,5 @@ pub mod HornerLemmas
 pub mod CorrectionRows
 pub mod CorrectionWidths
 pub mod WholeDays
+pub mod Moments
+pub mod CorrectionValues

@@ -4,9 +4,9 @@ use Rattle.exact_math.specs.Fraction.{Fraction, ◌≤F◌, times, power}
 use Rattle.exact_math.specs.Interval.{Interval, everything, between, IsProper, IsMember, ◌⊆◌, product, power as interval_power}
 use Rattle.exact_math.proofs.Fractions.{turned_above, turned_below}
 use Rattle.exact_math.proofs.Intervals.{power_smallest, power_holds, product_holds, within_trans, within_everything}
-use Rattle.book_model.specs.Bounds.{Limits, Reach, bound_of, power_bound}
-use Rattle.book_model.specs.Expressions.{Expression, World, value, multiply, power as power_of}
-use Rattle.book_model.specs.Relations.{Within, Narrow, Lies, Keeps}
+use Rattle.book_model.specs.numbers.Bounds.{Limits, Reach, bound_of, power_bound}
+use Rattle.book_model.specs.numbers.Expressions.{Expression, World, value, multiply, power as power_of}
+use Rattle.book_model.specs.numbers.Relations.{Within, Narrow, Lies, Keeps}
 use Rattle.book_model.proofs.Values.{value_proper}
 
 -- a product with its factors in the other order is in the same interval

@@ -10,14 +10,14 @@ use Rattle.exact_math.specs.Interval.{Interval, everything, between}
 use Rattle.exact_math.proofs.Floors.{floor_mono, floor_quotient_is}
 use Rattle.book_model.specs.declared.fail.Fail.{Fail}
 use Rattle.book_model.specs.declared.fail.Fail.TheVariants.{Undecided as undecided_at, Void}
-use Rattle.book_model.specs.Bounds.{Reach, IsNarrow, unbounded, bounded, at_32, bound_of, integer_bound, limits_of}
-use Rattle.book_model.specs.Calendar.{year_of_day}
-use Rattle.book_model.specs.Expressions.{integer}
-use Rattle.book_model.specs.Facts.{IsValueDay}
-use Rattle.book_model.specs.Leading.{IsOpenCell, between_cells, too_far}
-use Rattle.book_model.specs.Programs.{years, cell_at, cell_of}
-use Rattle.book_model.specs.Relations.{Narrow, Keeps}
-use Rattle.book_model.proofs.CorrectionValues.{year_from, year_to}
+use Rattle.book_model.specs.numbers.Bounds.{Reach, IsNarrow, unbounded, bounded, at_32, bound_of, integer_bound, limits_of}
+use Rattle.book_model.specs.calendars.Gregorian.{year_of_day}
+use Rattle.book_model.specs.numbers.Expressions.{integer}
+use Rattle.book_model.specs.sky.Facts.{IsValueDay}
+use Rattle.book_model.specs.programs.Leading.{IsOpenCell, between_cells, too_far}
+use Rattle.book_model.specs.programs.Programs.{years, cell_at, cell_of}
+use Rattle.book_model.specs.numbers.Relations.{Narrow, Keeps}
+use Rattle.time_scales.proofs.CorrectionValues.{year_from, year_to}
 use Rattle.book_model.proofs.Implying.{limits_within}
 use Rattle.time_scales.specs.Steps.{IsYearOpenFor, IsEarlyYearFor, IsNoEarlyYear, IsNotOfYear}
 

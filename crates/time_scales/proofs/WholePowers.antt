@@ -3,7 +3,7 @@ use Rattle.std.specs.Prelude.{◌≡◌, ℕ, ◌*◌, ◌^◌, ◌≤◌, ◌<�
 use Rattle.std.proofs.Common.{zero, suc, arith}
 use Rattle.std.specs.Int.{w64}
 use Rattle.std.proofs.lemmas.Int.{fits_signed_mul, to_z-of_z}
-use Rattle.book_model.specs.Correction.{int_power}
+use Rattle.book_model.specs.sky.Correction.{int_power}
 use Rattle.book_model.proofs.Corrections.{polynomial_none, polynomial_more, polynomial_all, power_none, power_more, power_size}
 
 -- the powers of 64 to the ninth fit 64 bits

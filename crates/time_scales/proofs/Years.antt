@@ -9,16 +9,16 @@ use Rattle.exact_math.proofs.Same.{same_of_le, same_trans}
 use Rattle.book_model.specs.declared.fail.Fail.{Fail}
 use Rattle.book_model.specs.declared.fail.Fail.TheVariants.{Undecided as undecided_at, Void}
 use Rattle.book_model.specs.declared.site.Site.TheVariants.{Year}
-use Rattle.book_model.specs.Calendar.{year_of_day}
-use Rattle.book_model.specs.Correction.{year_of}
-use Rattle.book_model.specs.Expressions.{Expression, World}
-use Rattle.book_model.specs.Leading.{at_56, AreEnds, bounds, no_bounds, IsOpenCell, between_cells, too_far, Exact, Leads, next_turn}
-use Rattle.book_model.specs.Relations.{Within}
-use Rattle.book_model.specs.Programs.{Grid, years, cell_of, cell_at, answer}
+use Rattle.book_model.specs.calendars.Gregorian.{year_of_day}
+use Rattle.book_model.specs.sky.Correction.{year_of}
+use Rattle.book_model.specs.numbers.Expressions.{Expression, World}
+use Rattle.book_model.specs.programs.Leading.{at_56, AreEnds, bounds, no_bounds, IsOpenCell, between_cells, too_far, Exact, Leads, next_turn}
+use Rattle.book_model.specs.numbers.Relations.{Within}
+use Rattle.book_model.specs.programs.Programs.{Grid, years, cell_of, cell_at, answer}
 use Rattle.book_model.proofs.Leads.{leads_cell, leads_open_cell, leads_answer, lies}
 use Rattle.book_model.proofs.Nesting.{cell_nested}
 use Rattle.rounded_quotients.proofs.Quotients.{euclid_is}
-use Rattle.encl_core.proofs.Testing.{eq_yes, eq_no}
+use Rattle.scaled_ends.proofs.Testing.{eq_yes, eq_no}
 use Rattle.time_scales.specs.Steps.{IsOpenYear, IsYearOpenFor}
 
 -- the day of a moment that counts 2^-56

@@ -2,12 +2,12 @@
 use Rattle.std.specs.Prelude.{ℕ, ◌-◌, ◌*◌, ◌^◌, if◌then◌else◌, ℤ, pos, negsuc, ◌≤ℤ◌, Option, Some, None}
 use Rattle.book_model.specs.declared.tables.TheConstants.{CORRECTION_1987, CORRECTION_2006, SECOND}
 use Rattle.book_model.specs.declared.time_tables.TheConstants.{CORRECTION_1800, CORRECTION_1900, CORRECTION_ANCIENT}
-use Rattle.book_model.specs.Bounds.{Bound, bounded}
-use Rattle.book_model.specs.Correction.{is_between, seconds_of}
-use Rattle.book_model.specs.Expressions.{Expression, integer, scale}
-use Rattle.book_model.specs.Fractions.{fraction_of}
-use Rattle.book_model.specs.Polynomials.{polynomial_at}
-use Rattle.book_model.specs.Time.{hundreds_of, centuries_to_july}
+use Rattle.book_model.specs.numbers.Bounds.{Bound, bounded}
+use Rattle.book_model.specs.sky.Correction.{is_between, seconds_of}
+use Rattle.book_model.specs.numbers.Expressions.{Expression, integer, scale}
+use Rattle.book_model.specs.numbers.Fractions.{fraction_of}
+use Rattle.book_model.specs.numbers.Polynomials.{polynomial_at}
+use Rattle.book_model.specs.sky.Time.{hundreds_of, centuries_to_july}
 use Rattle.time_scales.specs.declared.dynamical_time.Row.{Row}
 use Rattle.time_scales.specs.declared.dynamical_time.Row.TheVariants.{Ancient, From1800, From1900, From1987, From2006}
 use Rattle.time_scales.specs.Horner.{horner_of}

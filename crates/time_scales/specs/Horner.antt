@@ -2,9 +2,9 @@
 use Rattle.std.specs.Prelude.{ℕ, zero, suc, ◌-◌, pos, List, length, slice_index_or}
 use Rattle.exact_math.specs.Fraction.{Fraction}
 use Rattle.book_model.specs.declared.frac.Frac.{Frac}
-use Rattle.book_model.specs.Correction.{no_fraction}
-use Rattle.book_model.specs.Fractions.{fraction_of}
-use Rattle.book_model.specs.Expressions.{Expression, integer, constant, add, scale}
+use Rattle.book_model.specs.sky.Correction.{no_fraction}
+use Rattle.book_model.specs.numbers.Fractions.{fraction_of}
+use Rattle.book_model.specs.numbers.Expressions.{Expression, integer, constant, add, scale}
 
 -- the last k coefficients in Horner's form
 unfoldable pub horner_to : List Frac → Fraction → ℕ → Expression

@@ -4,8 +4,8 @@ use Rattle.exact_math.specs.Interval.{Interval}
 use Rattle.book_model.specs.declared.site.Site.TheVariants.{Year}
 use Rattle.book_model.specs.declared.fail.Fail.{Fail}
 use Rattle.book_model.specs.declared.fail.Fail.TheVariants.{Undecided, Void}
-use Rattle.book_model.specs.Leading.{IsOpenCell}
-use Rattle.book_model.specs.Programs.{years}
+use Rattle.book_model.specs.programs.Leading.{IsOpenCell}
+use Rattle.book_model.specs.programs.Programs.{years}
 
 -- the year is open for this enclosure, by the test of this number
 abbrev pub IsOpenYear : Interval → ℕ → Fail → Type 0

@@ -1,7 +1,7 @@
 //! The Gregorian calendar: the year of a day, and the first of July. Day numbers are R.D.: day 1 is 1 January of the
 //! year 1.
 ghost use Rattle.std.specs.Prelude.{◌≡◌, ◌^◌, pos, negsuc, neg_ℤ, ◌+ℤ◌, ◌≤ℤ◌, ◌<ℤ◌, unsigned_abs};
-ghost use Rattle.book_model.specs.Calendar.{fixed_of, year_of_day};
+ghost use Rattle.book_model.specs.calendars.Gregorian.{fixed_of, year_of_day};
 ghost use Rattle.jiff.specs.Words.{epoch_day};
 
 use jiff::ToSpan;

@@ -1,15 +1,15 @@
 //! Dynamical time, which flows evenly: what it is ahead of universal time in a year, and its centuries.
 ghost use Rattle.std.specs.Prelude.{◌≡◌, ◌≤◌, ◌+◌, ◌^◌, ℕ, ℤ, pos, ◌≤ℤ◌, length, IfOk, IfErr, IfSome};
-ghost use Rattle.book_model.specs.Bounds.{Reach, limits_of, IsNarrow};
-ghost use Rattle.book_model.specs.Correction.{is_between as lies_between, seconds_of};
-ghost use Rattle.book_model.specs.Expressions.{Expression, World};
-ghost use Rattle.book_model.specs.Fractions.{fraction_of};
-ghost use Rattle.book_model.specs.Leading.{Leads, next_turn};
-ghost use Rattle.book_model.specs.Relations.{Within, Narrow};
-ghost use Rattle.book_model.specs.Time.{hundreds_of, centuries_to_july, correction_of_year, correction_at, dynamical_of, from_dynamical_of, in_centuries, centuries_of};
+ghost use Rattle.book_model.specs.numbers.Bounds.{Reach, limits_of, IsNarrow};
+ghost use Rattle.book_model.specs.sky.Correction.{is_between as lies_between, seconds_of};
+ghost use Rattle.book_model.specs.numbers.Expressions.{Expression, World};
+ghost use Rattle.book_model.specs.numbers.Fractions.{fraction_of};
+ghost use Rattle.book_model.specs.programs.Leading.{Leads, next_turn};
+ghost use Rattle.book_model.specs.numbers.Relations.{Within, Narrow};
+ghost use Rattle.book_model.specs.sky.Time.{hundreds_of, centuries_to_july, correction_of_year, correction_at, dynamical_of, from_dynamical_of, in_centuries, centuries_of};
 ghost use Rattle.time_scales.specs.Steps.{IsYearOpenFor};
 ghost use Rattle.time_scales.specs.Corrections.{row_of, IsInRow, correction_by, computed_by, computed_of, correction_bound};
-ghost use Rattle.book_model.specs.Depth.{DEPTH};
+ghost use Rattle.book_model.specs.numbers.Depth.{DEPTH};
 
 use crate::calendar;
 use crate::moment::year;
@@ -81,7 +81,7 @@ fn july(year: i64) -> Frac
 }
 
 /// A polynomial of seconds in the years from 2000 on, in days.
-#[tactic(auto, unfolding(book_model::specs::Correction::seconds_of))]
+#[tactic(auto, unfolding(book_model::specs::sky::Correction::seconds_of))]
 fn seconds<E: Enclosure>(coefficients: &[Frac], year: i64) -> E
     requires few { length coefficients.now ≤ 8 }
     requires from { pos 1987 ≤ℤ year }
@@ -124,7 +124,7 @@ pub fn correction<E: Enclosure>(year: i64, trail: &mut Trail) -> Result<E, Fail>
 }
 
 /// The correction of the year of a moment: one test, at `year`.
-#[tactic(auto, using(book_model::proofs::Leads::leading, crate::proofs::Years::opening), unfolding(book_model::specs::Time::correction_at))]
+#[tactic(auto, using(book_model::proofs::Leads::leading, crate::proofs::Years::opening), unfolding(book_model::specs::sky::Time::correction_at))]
 fn correction_of_moment<E: Enclosure>(t: E, trail: &mut Trail) -> Result<E, Fail>
     ensures leads { (w : World) (x : Expression) → Within E.shown w x t → Leads w (Within E.shown w) (correction_at x) trail.old.count trail.new.count result }
     ensures open { IfErr result (IsYearOpenFor (E.shown t)) }
@@ -137,7 +137,7 @@ fn correction_of_moment<E: Enclosure>(t: E, trail: &mut Trail) -> Result<E, Fail
 }
 
 /// The dynamical time of a moment of universal time, by the correction of that moment's year.
-#[tactic(auto, using(book_model::proofs::Leads::leading), unfolding(book_model::specs::Time::dynamical_of))]
+#[tactic(auto, using(book_model::proofs::Leads::leading), unfolding(book_model::specs::sky::Time::dynamical_of))]
 pub fn dynamical<E: Enclosure>(t: E, trail: &mut Trail) -> Result<E, Fail>
     ensures leads { (w : World) (x : Expression) → Within E.shown w x t → Leads w (Within E.shown w) (dynamical_of x) trail.old.count trail.new.count result }
     ensures open { IfErr result (IsYearOpenFor (E.shown t)) }
@@ -150,7 +150,7 @@ pub fn dynamical<E: Enclosure>(t: E, trail: &mut Trail) -> Result<E, Fail>
 }
 
 /// The universal time of a moment of dynamical time, by the correction of the year in which that moment lies.
-#[tactic(auto, using(book_model::proofs::Leads::leading), unfolding(book_model::specs::Time::from_dynamical_of))]
+#[tactic(auto, using(book_model::proofs::Leads::leading), unfolding(book_model::specs::sky::Time::from_dynamical_of))]
 pub fn from_dynamical<E: Enclosure>(t: E, trail: &mut Trail) -> Result<E, Fail>
     ensures leads { (w : World) (x : Expression) → Within E.shown w x t → Leads w (Within E.shown w) (from_dynamical_of x) trail.old.count trail.new.count result }
     ensures open { IfErr result (IsYearOpenFor (E.shown t)) }
@@ -163,7 +163,7 @@ pub fn from_dynamical<E: Enclosure>(t: E, trail: &mut Trail) -> Result<E, Fail>
 }
 
 /// A moment, in centuries from noon of 1 January 2000.
-#[tactic(auto, unfolding(book_model::specs::Time::in_centuries))]
+#[tactic(auto, unfolding(book_model::specs::sky::Time::in_centuries))]
 pub(crate) fn to_centuries<E: Enclosure>(t: E) -> E
     ensures holds { (w : World) (x : Expression) → Within E.shown w x t → Within E.shown w (in_centuries x) result }
     ensures narrow { (r : Reach) (x : Expression) → Narrow E.shown (limits_of E.BITS) r x t → Narrow E.shown (limits_of E.BITS) r (in_centuries x) result }
@@ -173,7 +173,7 @@ pub(crate) fn to_centuries<E: Enclosure>(t: E) -> E
 
 /// The centuries of dynamical time from noon of 1 January 2000 to a moment of universal time, by the correction of
 /// the year of universal time.
-#[tactic(auto, using(book_model::proofs::Leads::leading), unfolding(book_model::specs::Time::centuries_of))]
+#[tactic(auto, using(book_model::proofs::Leads::leading), unfolding(book_model::specs::sky::Time::centuries_of))]
 pub fn centuries<E: Enclosure>(t: E, trail: &mut Trail) -> Result<E, Fail>
     ensures leads { (w : World) (x : Expression) → Within E.shown w x t → Leads w (Within E.shown w) (centuries_of x) trail.old.count trail.new.count result }
     ensures open { IfErr result (IsYearOpenFor (E.shown t)) }

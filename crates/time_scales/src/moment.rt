@@ -1,12 +1,12 @@
 //! The Gregorian year of a moment.
 ghost use Rattle.std.specs.Prelude.{◌≡◌, ◌≤◌, ℕ, Some, Ok, IfOk, IfErr};
 ghost use Rattle.exact_math.specs.Interval.{between};
-ghost use Rattle.book_model.specs.Calendar.{year_of_day};
-ghost use Rattle.book_model.specs.Correction.{year_of};
-ghost use Rattle.book_model.specs.Expressions.{Expression, World, integer};
-ghost use Rattle.book_model.specs.Leading.{at_56, Exact, Leads, next_turn};
-ghost use Rattle.book_model.specs.Programs.{years, cell_of, cell_at};
-ghost use Rattle.book_model.specs.Relations.{Within};
+ghost use Rattle.book_model.specs.calendars.Gregorian.{year_of_day};
+ghost use Rattle.book_model.specs.sky.Correction.{year_of};
+ghost use Rattle.book_model.specs.numbers.Expressions.{Expression, World, integer};
+ghost use Rattle.book_model.specs.programs.Leading.{at_56, Exact, Leads, next_turn};
+ghost use Rattle.book_model.specs.programs.Programs.{years, cell_of, cell_at};
+ghost use Rattle.book_model.specs.numbers.Relations.{Within};
 ghost use Rattle.time_scales.specs.Steps.{IsOpenYear};
 
 use crate::calendar;

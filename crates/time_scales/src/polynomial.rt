@@ -1,20 +1,20 @@
 //! Polynomials of enclosures.
 ghost use Rattle.std.specs.Prelude.{ℕ, ◌≤◌, length, unsigned_abs};
-ghost use Rattle.book_model.specs.Bounds.{Reach, limits_of};
-ghost use Rattle.book_model.specs.Correction.{polynomial_of};
-ghost use Rattle.book_model.specs.Expressions.{Expression, World};
-ghost use Rattle.book_model.specs.Fractions.{fraction_of};
-ghost use Rattle.book_model.specs.Polynomials.{quadratic_of, cubic_of, quartic_of, polynomial_at};
-ghost use Rattle.book_model.specs.Relations.{Within, Narrow};
+ghost use Rattle.book_model.specs.numbers.Bounds.{Reach, limits_of};
+ghost use Rattle.book_model.specs.sky.Correction.{polynomial_of};
+ghost use Rattle.book_model.specs.numbers.Expressions.{Expression, World};
+ghost use Rattle.book_model.specs.numbers.Fractions.{fraction_of};
+ghost use Rattle.book_model.specs.numbers.Polynomials.{quadratic_of, cubic_of, quartic_of, polynomial_at};
+ghost use Rattle.book_model.specs.numbers.Relations.{Within, Narrow};
 ghost use Rattle.time_scales.specs.Horner.{horner_of};
-ghost use Rattle.book_model.specs.Depth.{DEPTH};
+ghost use Rattle.book_model.specs.numbers.Depth.{DEPTH};
 
 use book_model::{Cubic, Frac, Quadratic, Quartic};
 use encl_core::Enclosure;
 
 /// The quadratic polynomial with these coefficients.
 #[inline(always)]
-#[tactic(auto, unfolding(book_model::specs::Polynomials::quadratic_of))]
+#[tactic(auto, unfolding(book_model::specs::numbers::Polynomials::quadratic_of))]
 pub fn quadratic<E: Enclosure>(coefficients: &Quadratic, x: E) -> E
     ensures holds { (w : World) (a : Expression) → Within E.shown w a x → Within E.shown w (quadratic_of coefficients.now a) result }
     ensures narrow { (r : Reach) (a : Expression) → Narrow E.shown (limits_of E.BITS) r a x → Narrow E.shown (limits_of E.BITS) r (quadratic_of coefficients.now a) result }
@@ -26,7 +26,7 @@ pub fn quadratic<E: Enclosure>(coefficients: &Quadratic, x: E) -> E
 
 /// The cubic polynomial with these coefficients.
 #[inline(always)]
-#[tactic(auto, using(crate::proofs::Powers::cubes), unfolding(book_model::specs::Polynomials::cubic_of))]
+#[tactic(auto, using(crate::proofs::Powers::cubes), unfolding(book_model::specs::numbers::Polynomials::cubic_of))]
 pub fn cubic<E: Enclosure>(coefficients: &Cubic, x: E) -> E
     ensures holds { (w : World) (a : Expression) → Within E.shown w a x → Within E.shown w (cubic_of coefficients.now a) result }
     ensures narrow { (r : Reach) (a : Expression) → Narrow E.shown (limits_of E.BITS) r a x → Narrow E.shown (limits_of E.BITS) r (cubic_of coefficients.now a) result }
@@ -40,7 +40,7 @@ pub fn cubic<E: Enclosure>(coefficients: &Cubic, x: E) -> E
 
 /// The polynomial of the fourth degree with these coefficients.
 #[inline(always)]
-#[tactic(auto, using(crate::proofs::Powers::fourths), unfolding(book_model::specs::Polynomials::quartic_of))]
+#[tactic(auto, using(crate::proofs::Powers::fourths), unfolding(book_model::specs::numbers::Polynomials::quartic_of))]
 pub fn quartic<E: Enclosure>(coefficients: &Quartic, x: E) -> E
     ensures holds { (w : World) (a : Expression) → Within E.shown w a x → Within E.shown w (quartic_of coefficients.now a) result }
     ensures narrow { (r : Reach) (a : Expression) → Narrow E.shown (limits_of E.BITS) r a x → Narrow E.shown (limits_of E.BITS) r (quartic_of coefficients.now a) result }

@@ -1,11 +1,11 @@
 //! Sidereal time.
 ghost use Rattle.std.specs.Prelude.{◌≡◌, IfOk};
-ghost use Rattle.book_model.specs.Bounds.{Reach, limits_of};
-ghost use Rattle.book_model.specs.Expressions.{Expression, World};
-ghost use Rattle.book_model.specs.Leading.{Leads};
-ghost use Rattle.book_model.specs.Polynomials.{cubic_of};
-ghost use Rattle.book_model.specs.Relations.{Within, Narrow};
-ghost use Rattle.book_model.specs.Time.{in_centuries, sidereal_of};
+ghost use Rattle.book_model.specs.numbers.Bounds.{Reach, limits_of};
+ghost use Rattle.book_model.specs.numbers.Expressions.{Expression, World};
+ghost use Rattle.book_model.specs.programs.Leading.{Leads};
+ghost use Rattle.book_model.specs.numbers.Polynomials.{cubic_of};
+ghost use Rattle.book_model.specs.numbers.Relations.{Within, Narrow};
+ghost use Rattle.book_model.specs.sky.Time.{in_centuries, sidereal_of};
 
 use crate::dynamical_time::to_centuries;
 use crate::polynomial::cubic;
@@ -14,7 +14,7 @@ use encl_core::{Enclosure, Trail};
 
 /// Mean sidereal time at Greenwich at a moment of universal time, in degrees, not reduced (Reingold and Dershowitz,
 /// Calendrical Calculations, chapter 14). It makes no test and never fails.
-#[tactic(auto, using(book_model::proofs::Leads::leading), unfolding(book_model::specs::Time::sidereal_of))]
+#[tactic(auto, using(book_model::proofs::Leads::leading), unfolding(book_model::specs::sky::Time::sidereal_of))]
 pub fn sidereal<E: Enclosure>(t: E, trail: &mut Trail) -> Result<E, Fail>
     ensures leads { (w : World) (x : Expression) → Within E.shown w x t → Leads w (Within E.shown w) (sidereal_of x) trail.old.count trail.new.count result }
     ensures narrow { IfOk result (λ y. (r : Reach) (x : Expression) → Narrow E.shown (limits_of E.BITS) r x t → Narrow E.shown (limits_of E.BITS) r (cubic_of SIDEREAL_TIME (in_centuries x)) y) }

@@ -10,9 +10,9 @@ use Rattle.exact_math.proofs.Intervals.{within_everything, product_holds, least_
 use Rattle.exact_math.proofs.Same.{le_of_same, ge_of_same, same_refl, same_sym, same_trans, plus_cong, times_cong, opposite_cong}
 use Rattle.exact_math.specs.Sums.{one_over}
 use Rattle.exact_math.proofs.Floors.{IsFloorQuotient}
-use Rattle.book_model.specs.Leading.{at_56}
-use Rattle.book_model.specs.Series.{sine_series, cosine_series, pi_at}
-use Rattle.book_model.specs.Octants.{only, radians, short_of, sine_into, octant_of_turn, sine_at, octant_edge}
+use Rattle.book_model.specs.programs.Leading.{at_56}
+use Rattle.book_model.specs.numbers.Series.{sine_series, cosine_series, pi_at}
+use Rattle.book_model.specs.numbers.Octants.{only, radians, short_of, sine_into, octant_of_turn, sine_at, octant_edge}
 use Rattle.book_model.proofs.Pi.{pi_proper}
 use Rattle.book_model.proofs.SeriesNesting.{cosines}
 

@@ -9,7 +9,7 @@ use Rattle.exact_math.proofs.FractionRing.{same_by}
 use Rattle.exact_math.proofs.Certificates.{zero_F}
 use Rattle.exact_math.proofs.Alternating.{lower_is_beneath, upper_is_atop, later_sums_nested}
 use Rattle.exact_math.proofs.Horner.{beneath_is, atop_is}
-use Rattle.book_model.specs.Series.{cosine_term, double}
+use Rattle.book_model.specs.numbers.Series.{cosine_term, double}
 use Rattle.book_model.proofs.Terms.{IsUpTo, square_nonneg, falling, cosine_step_from_first, cosine_one, cosine_halving}
 use Rattle.trig_series.proofs.KernelSteps.{IsHigh, step_near, square_near, angle_fifths}
 use Rattle.trig_series.proofs.SineChain.{Keeps, next, near_same, step_at, nested, flipped, inner_nested}

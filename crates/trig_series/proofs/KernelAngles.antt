@@ -7,9 +7,9 @@ use Rattle.exact_math.specs.Sums.{one_over}
 use Rattle.exact_math.proofs.Fractions.{le_refl, le_trans, smaller_keeps, larger_keeps}
 use Rattle.exact_math.proofs.Intervals.{within_trans, within_refl, product_within, product_proper, least_is, greatest_is}
 use Rattle.exact_math.proofs.Certificates.{zero_F}
-use Rattle.book_model.specs.Series.{sine_series, cosine_series, pi_at, four_fifths}
-use Rattle.book_model.specs.Leading.{at_56}
-use Rattle.book_model.specs.Octants.{only, radians}
+use Rattle.book_model.specs.numbers.Series.{sine_series, cosine_series, pi_at, four_fifths}
+use Rattle.book_model.specs.programs.Leading.{at_56}
+use Rattle.book_model.specs.numbers.Octants.{only, radians}
 use Rattle.book_model.proofs.Pi.{binary, pi_number, pi_proper}
 use Rattle.book_model.proofs.SeriesNesting.{inside_in}
 use Rattle.book_model.proofs.OctantHulls.{radians_proper, radians_inside}

@@ -9,8 +9,8 @@ use Rattle.exact_math.proofs.Intervals.{within_trans, hull_within, negative_with
 use Rattle.exact_math.proofs.Hulls.{hull_holds_first, hull_holds_second}
 use Rattle.exact_math.proofs.Same.{same_of_le, le_of_same, ge_of_same}
 use Rattle.exact_math.proofs.Floors.{IsFloorQuotient, floor_quotient_is}
-use Rattle.book_model.specs.Leading.{at_56}
-use Rattle.book_model.specs.Octants.{octant_edge, sine_at, sine_in, first_octant, last_octant, sine_of_degrees}
+use Rattle.book_model.specs.programs.Leading.{at_56}
+use Rattle.book_model.specs.numbers.Octants.{octant_edge, sine_at, sine_in, first_octant, last_octant, sine_of_degrees}
 use Rattle.book_model.proofs.DegreeSines.{over_least}
 use Rattle.rounded_quotients.proofs.Quotients.{euclid_is}
 

@@ -9,9 +9,9 @@ use Rattle.exact_math.proofs.Certificates.{zero_F, ◌≼◌, ◌≗◌, known, 
 use Rattle.exact_math.proofs.Fractions.{le_trans}
 use Rattle.exact_math.proofs.Intervals.{within_trans}
 use Rattle.exact_math.proofs.Ring.{at, lit, ◌⊕◌, ◌⊖◌}
-use Rattle.book_model.specs.Leading.{at_56}
-use Rattle.book_model.specs.Octants.{radians, octant_of_turn, sine_into, sine_at, sine_in}
-use Rattle.book_model.specs.Series.{sine_series, cosine_series, sine_term, cosine_term, four_fifths}
+use Rattle.book_model.specs.programs.Leading.{at_56}
+use Rattle.book_model.specs.numbers.Octants.{radians, octant_of_turn, sine_into, sine_at, sine_in}
+use Rattle.book_model.specs.numbers.Series.{sine_series, cosine_series, sine_term, cosine_term, four_fifths}
 use Rattle.book_model.proofs.OctantHulls.{radians_proper}
 use Rattle.book_model.proofs.SeriesNesting.{sines, sine_lowers, cosine_uppers, inside_in}
 use Rattle.book_model.proofs.Terms.{IsUpTo, sine_halving, cosine_halving}

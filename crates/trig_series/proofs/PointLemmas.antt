@@ -11,9 +11,9 @@ use Rattle.exact_math.proofs.Intervals.{within_trans, within_refl, product_withi
 use Rattle.exact_math.proofs.Same.{same_refl, same_trans, le_of_same, ge_of_same, same_of_le, times_cong, plus_cong, opposite_cong}
 use Rattle.exact_math.proofs.Certificates.{zero_F}
 use Rattle.exact_math.proofs.Narrowing.{at_least}
-use Rattle.book_model.specs.Leading.{at_56}
-use Rattle.book_model.specs.Octants.{only, radians}
-use Rattle.book_model.specs.Series.{sine_series, cosine_series, sine_term, cosine_term, four_fifths, double, pi_at}
+use Rattle.book_model.specs.programs.Leading.{at_56}
+use Rattle.book_model.specs.numbers.Octants.{only, radians}
+use Rattle.book_model.specs.numbers.Series.{sine_series, cosine_series, sine_term, cosine_term, four_fifths, double, pi_at}
 use Rattle.book_model.proofs.Terms.{IsUpTo, falling}
 use Rattle.book_model.proofs.Pi.{pi_number, pi_proper}
 use Rattle.book_model.proofs.OctantHulls.{radians_proper}

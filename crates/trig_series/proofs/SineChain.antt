@@ -9,7 +9,7 @@ use Rattle.exact_math.proofs.FractionRing.{same_by}
 use Rattle.exact_math.proofs.Certificates.{zero_F}
 use Rattle.exact_math.proofs.Alternating.{lower_is_beneath, upper_is_atop, sums_nested}
 use Rattle.exact_math.proofs.Horner.{beneath_is, atop_is}
-use Rattle.book_model.specs.Series.{sine_term}
+use Rattle.book_model.specs.numbers.Series.{sine_term}
 use Rattle.book_model.proofs.Terms.{IsUpTo, square_nonneg, falling, sine_index, sine_step, sine_first, sine_halving}
 use Rattle.trig_series.proofs.KernelSteps.{IsHigh, step_near, square_near, product_above, product_below, angle_fifths}
 use Rattle.trig_series.specs.Kernel.{IsNear, IsCut, IsAngle, IsSquare, AreSineEnds}

@@ -9,11 +9,11 @@ use Rattle.exact_math.specs.Fraction.{Fraction, ◌≤F◌, whole, plus}
 use Rattle.exact_math.specs.Interval.{Interval, everything, between, IsProper, ◌⊆◌, sum, one, minus_one}
 use Rattle.exact_math.proofs.Fractions.{le_trans, le_refl, plus_mono}
 use Rattle.exact_math.proofs.Intervals.{within_trans, within_refl, sum_within, plus_proper}
-use Rattle.book_model.specs.Bounds.{Bound, unbounded, bounded, Limits, Reach, Spans, IsNarrow, bound_of, limited, range_size, ceil_div, eighth_turn, sine_spans, cosine_spans, spanned_bound}
-use Rattle.book_model.specs.Expressions.{Expression, World, value, divide, sine, cosine, tangent}
-use Rattle.book_model.specs.Leading.{at_56}
-use Rattle.book_model.specs.Octants.{only, sine_of_degrees, cosine_of_degrees, tangent_of_degrees}
-use Rattle.book_model.specs.Relations.{Within, Lies, Narrow, Keeps}
+use Rattle.book_model.specs.numbers.Bounds.{Bound, unbounded, bounded, Limits, Reach, Spans, IsNarrow, bound_of, limited, range_size, ceil_div, eighth_turn, sine_spans, cosine_spans, spanned_bound}
+use Rattle.book_model.specs.numbers.Expressions.{Expression, World, value, divide, sine, cosine, tangent}
+use Rattle.book_model.specs.programs.Leading.{at_56}
+use Rattle.book_model.specs.numbers.Octants.{only, sine_of_degrees, cosine_of_degrees, tangent_of_degrees}
+use Rattle.book_model.specs.numbers.Relations.{Within, Lies, Narrow, Keeps}
 use Rattle.book_model.proofs.Values.{value_proper}
 use Rattle.book_model.proofs.OctantHulls.{all_sines}
 use Rattle.book_model.proofs.DegreeSines.{degree_sines, sine_inside}

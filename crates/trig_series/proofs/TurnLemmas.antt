@@ -4,8 +4,8 @@ use Rattle.std.specs.Int.{int_min, int_max}
 use Rattle.std.proofs.lemmas.Int.{ints, clamps, by_lt_z}
 use Rattle.exact_math.specs.Fraction.{Fraction, ◌≈◌, floor_quotient}
 use Rattle.exact_math.proofs.Floors.{IsFloorQuotient, floor_quotient_is}
-use Rattle.book_model.specs.Leading.{at_56}
-use Rattle.book_model.specs.Octants.{short_of, octant_of_turn}
+use Rattle.book_model.specs.programs.Leading.{at_56}
+use Rattle.book_model.specs.numbers.Octants.{short_of, octant_of_turn}
 use Rattle.trig_series.specs.Points.{IsNearSine, IsNearCosine, IsPoint, edge_of, IsAt}
 use Rattle.trig_series.proofs.AngleLemmas.{short_same}
 

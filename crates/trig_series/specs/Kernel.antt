@@ -3,9 +3,9 @@ use Rattle.std.specs.Prelude.{ℕ, ℤ, pos, ◌-◌, ◌^◌, ◌-ℤ◌, ◌+�
 use Rattle.exact_math.specs.Fraction.{Fraction, ◌≤F◌, times}
 use Rattle.exact_math.specs.Sums.{lower, upper, one_over}
 use Rattle.book_model.specs.declared.tables.TheConstants.{PI_BELOW, PI_ABOVE}
-use Rattle.book_model.specs.Fractions.{fraction_of}
-use Rattle.book_model.specs.Leading.{at_56}
-use Rattle.book_model.specs.Series.{four_fifths, sine_term, cosine_term}
+use Rattle.book_model.specs.numbers.Fractions.{fraction_of}
+use Rattle.book_model.specs.programs.Leading.{at_56}
+use Rattle.book_model.specs.numbers.Series.{four_fifths, sine_term, cosine_term}
 
 -- a number that counts 2^-64
 abbrev pub at_64 : ℤ → Fraction

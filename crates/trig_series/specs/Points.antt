@@ -2,7 +2,7 @@
 use Rattle.std.specs.Prelude.{ℕ, zero, suc, neg_ℤ, ◌-◌, ◌^◌, ℤ, pos, ◌+ℤ◌, ◌-ℤ◌, ◌*ℤ◌, ◌≤ℤ◌, ◌<ℤ◌}
 use Rattle.exact_math.specs.Fraction.{◌≤F◌}
 use Rattle.exact_math.specs.Sums.{lower, upper}
-use Rattle.book_model.specs.Series.{sine_term, cosine_term}
+use Rattle.book_model.specs.numbers.Series.{sine_term, cosine_term}
 use Rattle.trig_series.specs.declared.scale.TheConstants.{OCTANT, QUARTER, ONE}
 use Rattle.trig_series.specs.Kernel.{at_64, in_radians}
 

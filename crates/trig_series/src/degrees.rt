@@ -1,14 +1,14 @@
 //! Sine, cosine and tangent of enclosures of degrees.
 ghost use Rattle.std.specs.Prelude.{◌≡◌, ℕ, ℤ, pos, neg_ℤ, ◌^◌, ◌≤◌, ◌≤ℤ◌};
 ghost use Rattle.exact_math.specs.Interval.{Interval, IsProper, between, ◌⊆◌};
-ghost use Rattle.book_model.specs.Bounds.{Reach, limits_of};
-ghost use Rattle.book_model.specs.Expressions.{Expression, World, sine, cosine, tangent};
-ghost use Rattle.book_model.specs.Leading.{at_56};
-ghost use Rattle.book_model.specs.Octants.{sine_of_degrees, cosine_of_degrees};
-ghost use Rattle.book_model.specs.Relations.{Within, Narrow};
+ghost use Rattle.book_model.specs.numbers.Bounds.{Reach, limits_of};
+ghost use Rattle.book_model.specs.numbers.Expressions.{Expression, World, sine, cosine, tangent};
+ghost use Rattle.book_model.specs.programs.Leading.{at_56};
+ghost use Rattle.book_model.specs.numbers.Octants.{sine_of_degrees, cosine_of_degrees};
+ghost use Rattle.book_model.specs.numbers.Relations.{Within, Narrow};
 ghost use Rattle.trig_series.specs.declared.scale.TheConstants.{ONE};
 ghost use Rattle.trig_series.specs.Points.{IsNarrowSine, IsNarrowCosine};
-ghost use Rattle.book_model.specs.Depth.{DEPTH};
+ghost use Rattle.book_model.specs.numbers.Depth.{DEPTH};
 
 use crate::octants::sine_between;
 use crate::scale::{ONE, QUARTER, TURN};

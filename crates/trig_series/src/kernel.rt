@@ -5,9 +5,9 @@
 ghost use Rattle.std.specs.Prelude.{◌≡◌, ◌≤◌, ◌*◌, ◌/◌, ◌-◌, ◌^◌, ℕ, pos, ◌-ℤ◌, ◌+ℤ◌};
 ghost use Rattle.exact_math.specs.Fraction.{Fraction, ◌≤F◌, plus, opposite, times};
 ghost use Rattle.exact_math.specs.Interval.{zero_fraction, between, ◌⊆◌};
-ghost use Rattle.book_model.specs.Leading.{at_56};
-ghost use Rattle.book_model.specs.Octants.{radians};
-ghost use Rattle.book_model.specs.Series.{sine_series, cosine_series};
+ghost use Rattle.book_model.specs.programs.Leading.{at_56};
+ghost use Rattle.book_model.specs.numbers.Octants.{radians};
+ghost use Rattle.book_model.specs.numbers.Series.{sine_series, cosine_series};
 ghost use Rattle.trig_series.specs.declared.scale.TheConstants.{OCTANT};
 ghost use Rattle.trig_series.specs.Kernel.{at_64, IsNear, IsCut, IsSquare, IsAngle, AreSineEnds, AreCosineEnds, IsInRadians};
 

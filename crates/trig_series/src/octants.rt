@@ -3,11 +3,11 @@ ghost use Rattle.std.specs.Prelude.{◌≡◌, ◌≤◌, ◌⊎◌, ◌^◌, �
 ghost use Rattle.std.specs.Int.{int_div_euclid, int_min, int_max};
 ghost use Rattle.exact_math.specs.Fraction.{Fraction, ◌≈◌};
 ghost use Rattle.exact_math.specs.Interval.{between, ◌⊆◌};
-ghost use Rattle.book_model.specs.Leading.{at_56};
-ghost use Rattle.book_model.specs.Octants.{octant_of_turn, sine_into as into_octant, sine_at as at_degrees, sine_in as in_octant, first_octant, last_octant, sine_of_degrees};
+ghost use Rattle.book_model.specs.programs.Leading.{at_56};
+ghost use Rattle.book_model.specs.numbers.Octants.{octant_of_turn, sine_into as into_octant, sine_at as at_degrees, sine_in as in_octant, first_octant, last_octant, sine_of_degrees};
 ghost use Rattle.trig_series.specs.declared.scale.TheConstants.{OCTANT, QUARTER, ONE};
 ghost use Rattle.trig_series.specs.Points.{IsPoint, edge_of, IsAt, IsSmall, IsAround};
-ghost use Rattle.book_model.specs.Depth.{DEPTH};
+ghost use Rattle.book_model.specs.numbers.Depth.{DEPTH};
 
 use crate::parts::part_of_turn;
 use crate::points::{cosine_point, opposite, sine_point};

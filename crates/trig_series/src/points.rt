@@ -2,12 +2,12 @@
 ghost use Rattle.std.specs.Prelude.{◌≡◌, neg_ℤ, ◌≤◌, ◌*◌, ◌<◌, ◌+◌, ℕ, pos, ◌*ℤ◌, ◌≤ℤ◌, ◌+ℤ◌, ◌-ℤ◌};
 ghost use Rattle.exact_math.specs.Fraction.{Fraction, ◌≈◌};
 ghost use Rattle.exact_math.specs.Interval.{between, ◌⊆◌};
-ghost use Rattle.book_model.specs.Leading.{at_56};
-ghost use Rattle.book_model.specs.Octants.{radians};
-ghost use Rattle.book_model.specs.Series.{sine_series, cosine_series};
+ghost use Rattle.book_model.specs.programs.Leading.{at_56};
+ghost use Rattle.book_model.specs.numbers.Octants.{radians};
+ghost use Rattle.book_model.specs.numbers.Series.{sine_series, cosine_series};
 ghost use Rattle.trig_series.specs.declared.scale.TheConstants.{OCTANT, ONE};
 ghost use Rattle.trig_series.specs.Points.{IsNearSine, IsNearCosine, IsAt, IsSmall};
-ghost use Rattle.book_model.specs.Depth.{DEPTH};
+ghost use Rattle.book_model.specs.numbers.Depth.{DEPTH};
 
 use crate::kernel::{cosine_of, sine_of};
 use crate::scale::{OCTANT, ONE};

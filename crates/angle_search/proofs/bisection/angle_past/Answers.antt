@@ -1,4 +1,4 @@
-use Rattle.book_model.specs.Bisection.{angle_past_of}
+use Rattle.book_model.specs.programs.Bisection.{angle_past_of}
 use Rattle.angle_search.proofs.bisection.angle_past.Goals as goal
 
 pub returns-clause-leads : goal.returns-clause-leads

@@ -1,4 +1,4 @@
-use Rattle.book_model.specs.Bisection.{has_passed_of}
+use Rattle.book_model.specs.programs.Bisection.{has_passed_of}
 use Rattle.book_model.proofs.Leads.{leads_on, leaf_within}
 use Rattle.angle_search.proofs.bisection.has_passed.Goals as goal
 

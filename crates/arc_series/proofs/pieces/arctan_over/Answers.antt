@@ -1,7 +1,7 @@
 use Rattle.std.proofs.Common.{rules, subst, SFits}
 use Rattle.std.specs.Int.{w128}
 use Rattle.std.proofs.lemmas.Int.{to_z-of_z}
-use Rattle.book_model.specs.Leading.{at_56}
+use Rattle.book_model.specs.programs.Leading.{at_56}
 use Rattle.arc_series.specs.Forms.{AreHeld}
 use Rattle.arc_series.proofs.HeldArcs.{all_held}
 use Rattle.book_model.proofs.Arcs.{over_all}

@@ -1,6 +1,6 @@
 use Rattle.std.proofs.Common.{rules, arith, SFits, w64, pos, ◌+ℤ◌, ◌*ℤ◌}
 use Rattle.std.proofs.lemmas.Int.{to_z-of_z, ints}
-use Rattle.book_model.specs.Bahai.{days_to_middle}
+use Rattle.book_model.specs.calendars.Bahai.{days_to_middle}
 use Rattle.bahai_cal.proofs.Counts.{middle_near}
 use Rattle.bahai_cal.proofs.years.days_to_middle.Goals as goal
 

@@ -1,6 +1,6 @@
 use Rattle.std.proofs.Common.{rules, arith, SFits, w64, pos, ◌-ℤ◌}
 use Rattle.std.proofs.lemmas.Int.{to_z-of_z, ints}
-use Rattle.book_model.specs.Bahai.{years_before}
+use Rattle.book_model.specs.calendars.Bahai.{years_before}
 use Rattle.bahai_cal.proofs.Counts.{years_near}
 use Rattle.bahai_cal.proofs.years.years_before.Goals as goal
 

@@ -1,5 +1,5 @@
 use Rattle.std.proofs.Common.{◌≡◌, length, map}
-use Rattle.book_model.specs.Names.{first_named as first_of}
+use Rattle.book_model.specs.sky.Names.{first_named as first_of}
 use Rattle.book_model.proofs.names.first_row_named.Given as goal
 
 -- the rows before these have other names

@@ -1,7 +1,7 @@
 use Rattle.std.proofs.Common.{rules, arith, ◌≤◌, ◌<◌, ◌^◌, ◌∙◌, sym, ap, SFits, w64, pos, negsuc, ◌*ℤ◌, ◌*◌, ◌-◌}
 use Rattle.std.specs.Int.{w128}
 use Rattle.std.proofs.lemmas.Int.{to_z-of_z, ints}
-use Rattle.book_model.specs.Spans.{ratio, spans_of}
+use Rattle.book_model.specs.calendars.Spans.{ratio, spans_of}
 use Rattle.calendar_math.proofs.SpanLemmas.{LiesWithin, spans_as_quotient, sums_lie, sum_fits, product_above}
 use Rattle.calendar_math.proofs.spans.spans_of.Goals as goal
 

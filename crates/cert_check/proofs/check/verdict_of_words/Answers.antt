@@ -1,6 +1,6 @@
 use Rattle.std.proofs.Common.{◌≡◌, ◌∙◌}
 use Rattle.std.specs.Prelude.{Ok, Err}
-use Rattle.book_model.specs.Requests.{request_of}
+use Rattle.book_model.specs.lines.Requests.{request_of}
 use Rattle.cert_check.specs.Verdicts.{verdict_on, words_of_echo}
 use Rattle.cert_check.proofs.check.verdict_of_words.Goals as goal
 

@@ -1,4 +1,4 @@
-use Rattle.book_model.specs.LineRules.{rule_of}
+use Rattle.book_model.specs.lines.LineRules.{rule_of}
 use Rattle.cert_check.proofs.Tracing.{IsFresh, asked_within, traced_verdict, missing_verdict}
 use Rattle.cert_check.proofs.check.verdict_over.Goals as goal
 

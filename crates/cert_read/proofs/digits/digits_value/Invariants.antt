@@ -1,6 +1,6 @@
 use Rattle.std.proofs.Common.{◌≡◌, ◌≤◌, drop}
 use Rattle.cert_read.specs.Digits.{at_most, digits_of}
-use Rattle.book_model.specs.Lines.{value_from}
+use Rattle.book_model.specs.lines.Lines.{value_from}
 use Rattle.cert_read.proofs.digits.digits_value.Given as goal
 
 -- the rest of the digits goes on from the number so far

@@ -1,5 +1,5 @@
 use Rattle.std.proofs.Common.{◌≡◌, length}
-use Rattle.book_model.specs.Lines.{words_of}
+use Rattle.book_model.specs.lines.Lines.{words_of}
 use Rattle.cert_read.specs.Grammar.{counters_of}
 use Rattle.cert_read.proofs.Counters.{with_front}
 use Rattle.cert_read.proofs.found.numbers.Given as goal

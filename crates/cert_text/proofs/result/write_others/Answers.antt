@@ -1,5 +1,5 @@
 use Rattle.std.proofs.Common.{rules, arith, ◌≡◌, get_or, pos, w32, to_z, of_z}
-use Rattle.book_model.specs.Text.{dash_text}
+use Rattle.book_model.specs.lines.Text.{dash_text}
 use Rattle.byte_streams.proofs.Flow.{wrote_part, wrote_part_front, at_any_err}
 use Rattle.cert_text.proofs.result.write_others.Goals as goal
 

@@ -1,6 +1,6 @@
 use Rattle.std.proofs.Common.{◌≤◌, drop}
 use Rattle.std.specs.List.{flat_map}
-use Rattle.book_model.specs.Text.{dash_text}
+use Rattle.book_model.specs.lines.Text.{dash_text}
 use Rattle.byte_streams.specs.Stream.{Wrote}
 use Rattle.cert_text.proofs.result.write_others.Given as goal
 

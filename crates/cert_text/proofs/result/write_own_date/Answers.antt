@@ -1,4 +1,4 @@
-use Rattle.book_model.specs.Text.{no_date_text}
+use Rattle.book_model.specs.lines.Text.{no_date_text}
 use Rattle.byte_streams.proofs.Flow.{failed_first, failed_second, appends_on}
 use Rattle.cert_text.proofs.result.write_own_date.Goals as goal
 

@@ -1,4 +1,4 @@
-use Rattle.book_model.specs.Text.{facts_text}
+use Rattle.book_model.specs.lines.Text.{facts_text}
 use Rattle.byte_streams.proofs.Flow.{failed_first, failed_second, appends_on}
 use Rattle.cert_text.proofs.write.write_list.Goals as goal
 

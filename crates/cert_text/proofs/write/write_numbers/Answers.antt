@@ -1,5 +1,5 @@
 use Rattle.std.proofs.Common.{arith}
-use Rattle.book_model.specs.Text.{number_text}
+use Rattle.book_model.specs.lines.Text.{number_text}
 use Rattle.byte_streams.proofs.Flow.{wrote_part, wrote_part_front, at_any_err}
 use Rattle.cert_text.proofs.write.write_numbers.Goals as goal
 

@@ -1,7 +1,7 @@
 use Rattle.std.proofs.Common.{◌≤◌, drop}
 use Rattle.std.specs.List.{flat_map}
 use Rattle.byte_streams.specs.Stream.{Wrote}
-use Rattle.book_model.specs.Text.{number_text}
+use Rattle.book_model.specs.lines.Text.{number_text}
 use Rattle.cert_text.proofs.write.write_numbers.Given as goal
 
 abbrev pub invariant-loop-number : goal.invariant-loop-number

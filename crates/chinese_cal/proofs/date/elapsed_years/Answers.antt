@@ -1,6 +1,6 @@
 use Rattle.std.proofs.Common.{rules, arith, SFits, w64, pos, negsuc, ◌-ℤ◌}
 use Rattle.std.proofs.lemmas.Int.{to_z-of_z, ints}
-use Rattle.book_model.specs.Chinese.{elapsed_years}
+use Rattle.book_model.specs.calendars.Chinese.{elapsed_years}
 use Rattle.chinese_cal.proofs.Counts.{elapsed_near}
 use Rattle.chinese_cal.proofs.date.elapsed_years.Goals as goal
 

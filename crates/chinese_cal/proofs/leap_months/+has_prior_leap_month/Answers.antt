@@ -1,5 +1,5 @@
 use Rattle.std.proofs.Common.{arith}
-use Rattle.book_model.specs.Chinese.{has_prior_leap_month}
+use Rattle.book_model.specs.calendars.Chinese.{has_prior_leap_month}
 use Rattle.oracle_core.proofs.Inquiring.{asking}
 use Rattle.chinese_cal.proofs.leap_months.+has_prior_leap_month.Goals as goal
 

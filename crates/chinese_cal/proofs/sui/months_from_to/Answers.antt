@@ -1,6 +1,6 @@
 use Rattle.std.proofs.Common.{rules, arith, SFits, w64, ◌-ℤ◌}
 use Rattle.std.proofs.lemmas.Int.{to_z-of_z, ints}
-use Rattle.book_model.specs.Chinese.{months_between}
+use Rattle.book_model.specs.calendars.Chinese.{months_between}
 use Rattle.chinese_cal.proofs.Counts.{months_near}
 use Rattle.chinese_cal.proofs.sui.months_from_to.Goals as goal
 

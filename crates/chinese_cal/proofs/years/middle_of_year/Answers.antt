@@ -1,6 +1,6 @@
 use Rattle.std.proofs.Common.{rules, arith, SFits, w64, pos, negsuc, ◌+ℤ◌, ◌-ℤ◌, ◌*ℤ◌}
 use Rattle.std.proofs.lemmas.Int.{to_z-of_z, ints}
-use Rattle.book_model.specs.Chinese.{middle_of_year}
+use Rattle.book_model.specs.calendars.Chinese.{middle_of_year}
 use Rattle.chinese_cal.proofs.years.middle_of_year.Goals as goal
 
 pub returns-clause-day : goal.returns-clause-day

@@ -1,6 +1,6 @@
 use Rattle.std.proofs.Common.{refl, not}
-use Rattle.book_model.specs.Crescent.{is_lit_of}
-use Rattle.book_model.specs.Programs.{answer}
+use Rattle.book_model.specs.sky.Crescent.{is_lit_of}
+use Rattle.book_model.specs.programs.Programs.{answer}
 use Rattle.book_model.proofs.Leads.{leads_bind_exact, leads_answer}
 use Rattle.crescent.proofs.criterion.is_lit.Goals as goal
 

@@ -1,6 +1,6 @@
 use Rattle.std.proofs.Common.{arith, pos, SFits, w64}
 use Rattle.std.proofs.lemmas.Int.{to_z-of_z}
-use Rattle.book_model.specs.Facts.{at_depth}
+use Rattle.book_model.specs.sky.Facts.{at_depth}
 use Rattle.book_model.proofs.Early.{phase_day_least, three_made}
 use Rattle.moon_core.proofs.Openings.{late_is_not_early}
 use Rattle.crescent.proofs.first_sight.phasis.Goals as goal

@@ -1,7 +1,7 @@
-use Rattle.encl_core.specs.Scales.{coarse}
+use Rattle.scaled_ends.specs.Scales.{coarse}
 use Rattle.std.proofs.Common.{arith}
 use Rattle.std.proofs.lemmas.Int.{ints}
-use Rattle.encl_core.proofs.Testing.{order_below, order_above, order_open, order_first, order_second}
+use Rattle.scaled_ends.proofs.Testing.{order_below, order_above, order_open, order_first, order_second}
 use Rattle.encl_core.proofs.comparing.order_of_ends.Goals as goal
 
 pub returns-in_err-x : goal.returns-in_err-x

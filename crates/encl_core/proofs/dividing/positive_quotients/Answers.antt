@@ -1,9 +1,9 @@
-use Rattle.encl_core.specs.Scales.{coarse}
+use Rattle.scaled_ends.specs.Scales.{coarse}
 use Rattle.std.proofs.Common.{◌≡◌, rules, SFits, w64}
 use Rattle.std.specs.Int.{w128}
 use Rattle.std.proofs.lemmas.Int.{to_z-of_z}
-use Rattle.encl_core.proofs.Divisions.{positive_enclosed}
-use Rattle.encl_core.proofs.Ratios.{quotient_narrow}
+use Rattle.scaled_ends.proofs.Divisions.{positive_enclosed}
+use Rattle.scaled_ends.proofs.Ratios.{quotient_narrow}
 use Rattle.encl_core.proofs.dividing.positive_quotients.Goals as goal
 
 pub ends_of-requires : goal.ends_of-requires

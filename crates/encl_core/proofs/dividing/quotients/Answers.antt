@@ -1,8 +1,8 @@
-use Rattle.encl_core.specs.Scales.{coarse}
+use Rattle.scaled_ends.specs.Scales.{coarse}
 use Rattle.std.proofs.Common.{rules, arith, SFits, pos, ◌*ℤ◌}
 use Rattle.std.specs.Int.{w128}
 use Rattle.std.proofs.lemmas.Int.{ints, to_z-of_z}
-use Rattle.encl_core.proofs.Ratios.{quotients_are, divisor_positive, first_divisor_positive}
+use Rattle.scaled_ends.proofs.Ratios.{quotients_are, divisor_positive, first_divisor_positive}
 use Rattle.encl_core.proofs.dividing.quotients.Goals as goal
 
 pub floor_div-lo-requires : goal.floor_div-lo-requires

@@ -1,10 +1,10 @@
-use Rattle.encl_core.specs.Scales.{coarse}
+use Rattle.scaled_ends.specs.Scales.{coarse}
 use Rattle.std.proofs.Common.{arith, rules, SFits, w64}
 use Rattle.std.specs.Int.{w128}
 use Rattle.std.proofs.lemmas.Int.{ints, clamps, to_z-of_z}
 use Rattle.rounded_quotients.proofs.Quotients.{outward_order}
-use Rattle.encl_core.proofs.Divisions.{square_encloses, squares_order}
-use Rattle.encl_core.proofs.Products.{square_narrow, square_of_all}
+use Rattle.scaled_ends.proofs.Divisions.{square_encloses, squares_order}
+use Rattle.scaled_ends.proofs.Products.{square_narrow, square_of_all}
 use Rattle.encl_core.proofs.dividing.square_ends.Goals as goal
 
 pub ceil_36-requires : goal.ceil_36-requires

@@ -1,8 +1,8 @@
-use Rattle.encl_core.specs.Scales.{coarse}
+use Rattle.scaled_ends.specs.Scales.{coarse}
 use Rattle.std.proofs.Common.{arith}
 use Rattle.std.proofs.lemmas.Int.{ints}
-use Rattle.encl_core.proofs.Keeping.{sum_encloses, sum_narrow, sum_first, sum_second}
-use Rattle.encl_core.proofs.Best.{sum_best, sum_everything_first, sum_everything_second}
+use Rattle.scaled_ends.proofs.Keeping.{sum_encloses, sum_narrow, sum_first, sum_second}
+use Rattle.scaled_ends.proofs.Best.{sum_best, sum_everything_first, sum_everything_second}
 use Rattle.encl_core.proofs.operations.add_ends.Goals as goal
 
 pub returns-clause-holds : goal.returns-clause-holds

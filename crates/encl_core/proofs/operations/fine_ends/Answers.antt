@@ -1,11 +1,11 @@
-use Rattle.encl_core.specs.Scales.{coarse}
+use Rattle.scaled_ends.specs.Scales.{coarse}
 use Rattle.std.proofs.Common.{◌≡◌, refl, rules, arith, SFits, pos, ◌+◌, ◌^◌, ◌*ℤ◌}
 use Rattle.std.specs.Int.{w128}
 use Rattle.std.proofs.lemmas.Int.{ints, to_z-of_z}
-use Rattle.book_model.specs.Fractions.{fraction_of}
+use Rattle.book_model.specs.numbers.Fractions.{fraction_of}
 use Rattle.rounded_quotients.proofs.Quotients.{outward_order, fine_floor, fine_ceiling}
-use Rattle.encl_core.proofs.Scaling.{constant_encloses, constant_narrow}
-use Rattle.encl_core.proofs.Best.{constant_best}
+use Rattle.scaled_ends.proofs.Scaling.{constant_encloses, constant_narrow}
+use Rattle.scaled_ends.proofs.Best.{constant_best}
 use Rattle.encl_core.proofs.operations.fine_ends.Goals as goal
 
 pub ends_of-requires : goal.ends_of-requires

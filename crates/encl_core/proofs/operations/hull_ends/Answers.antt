@@ -1,8 +1,8 @@
-use Rattle.encl_core.specs.Scales.{coarse}
+use Rattle.scaled_ends.specs.Scales.{coarse}
 use Rattle.std.proofs.Common.{rules, SFits, w64}
 use Rattle.std.proofs.lemmas.Int.{to_z-of_z}
-use Rattle.encl_core.proofs.Enclosing.{hull_is, hull_first, hull_second}
-use Rattle.encl_core.proofs.Widenings.{hull_narrow, hull_of_all, hull_with_all}
+use Rattle.scaled_ends.proofs.Enclosing.{hull_is, hull_first, hull_second}
+use Rattle.scaled_ends.proofs.Widenings.{hull_narrow, hull_of_all, hull_with_all}
 use Rattle.encl_core.proofs.operations.hull_ends.Goals as goal
 
 pub returns-in_err-x-clause-tight : goal.returns-in_err-x-clause-tight

@@ -1,8 +1,8 @@
-use Rattle.encl_core.specs.Scales.{coarse}
+use Rattle.scaled_ends.specs.Scales.{coarse}
 use Rattle.std.proofs.Common.{arith}
 use Rattle.std.proofs.lemmas.Int.{ints}
-use Rattle.encl_core.proofs.Keeping.{int_narrow}
-use Rattle.encl_core.proofs.Best.{int_best}
+use Rattle.scaled_ends.proofs.Keeping.{int_narrow}
+use Rattle.scaled_ends.proofs.Best.{int_best}
 use Rattle.encl_core.proofs.operations.int_ends.Goals as goal
 
 pub returns-clause-narrow : goal.returns-clause-narrow

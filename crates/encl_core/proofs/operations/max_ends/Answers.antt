@@ -1,8 +1,8 @@
-use Rattle.encl_core.specs.Scales.{coarse}
+use Rattle.scaled_ends.specs.Scales.{coarse}
 use Rattle.std.proofs.Common.{rules, SFits, w64}
 use Rattle.std.proofs.lemmas.Int.{to_z-of_z}
-use Rattle.encl_core.proofs.Enclosing.{maximum_is, maximum_first, maximum_second, greater_order}
-use Rattle.encl_core.proofs.Widths.{maximum_narrow, maximum_of_all, maximum_with_all}
+use Rattle.scaled_ends.proofs.Enclosing.{maximum_is, maximum_first, maximum_second, greater_order}
+use Rattle.scaled_ends.proofs.Widths.{maximum_narrow, maximum_of_all, maximum_with_all}
 use Rattle.encl_core.proofs.operations.max_ends.Goals as goal
 
 pub returns-in_err-x-clause-tight : goal.returns-in_err-x-clause-tight

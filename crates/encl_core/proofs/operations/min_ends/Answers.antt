@@ -1,8 +1,8 @@
-use Rattle.encl_core.specs.Scales.{coarse}
+use Rattle.scaled_ends.specs.Scales.{coarse}
 use Rattle.std.proofs.Common.{rules, SFits, w64}
 use Rattle.std.proofs.lemmas.Int.{to_z-of_z}
-use Rattle.encl_core.proofs.Enclosing.{minimum_is, minimum_first, minimum_second, lesser_order}
-use Rattle.encl_core.proofs.Widths.{minimum_narrow, minimum_of_all, minimum_with_all}
+use Rattle.scaled_ends.proofs.Enclosing.{minimum_is, minimum_first, minimum_second, lesser_order}
+use Rattle.scaled_ends.proofs.Widths.{minimum_narrow, minimum_of_all, minimum_with_all}
 use Rattle.encl_core.proofs.operations.min_ends.Goals as goal
 
 pub returns-in_err-x-clause-tight : goal.returns-in_err-x-clause-tight

@@ -1,11 +1,11 @@
-use Rattle.encl_core.specs.Scales.{coarse}
+use Rattle.scaled_ends.specs.Scales.{coarse}
 use Rattle.std.proofs.Common.{arith, rules, SFits}
 use Rattle.std.specs.Int.{w128}
 use Rattle.std.proofs.lemmas.Int.{ints, to_z-of_z}
 use Rattle.rounded_quotients.proofs.Quotients.{outward_order}
-use Rattle.encl_core.proofs.Best.{product_best, product_first, product_second}
-use Rattle.encl_core.proofs.Enclosing.{product_encloses, products_order}
-use Rattle.encl_core.proofs.Products.{product_narrow, product_of_all, product_with_all}
+use Rattle.scaled_ends.proofs.Best.{product_best, product_first, product_second}
+use Rattle.scaled_ends.proofs.Enclosing.{product_encloses, products_order}
+use Rattle.scaled_ends.proofs.Products.{product_narrow, product_of_all, product_with_all}
 use Rattle.encl_core.proofs.operations.mul_ends.Goals as goal
 
 pub returns-in_err-x-clause-best : goal.returns-in_err-x-clause-best

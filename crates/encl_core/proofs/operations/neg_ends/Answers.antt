@@ -1,9 +1,9 @@
-use Rattle.encl_core.specs.Scales.{coarse}
+use Rattle.scaled_ends.specs.Scales.{coarse}
 use Rattle.std.proofs.Common.{arith}
 use Rattle.std.proofs.lemmas.Int.{ints}
-use Rattle.encl_core.proofs.Best.{negative_best, negative_first}
-use Rattle.encl_core.proofs.Enclosing.{negative_encloses}
-use Rattle.encl_core.proofs.Widths.{negated_narrow, negated_of_all}
+use Rattle.scaled_ends.proofs.Best.{negative_best, negative_first}
+use Rattle.scaled_ends.proofs.Enclosing.{negative_encloses}
+use Rattle.scaled_ends.proofs.Widths.{negated_narrow, negated_of_all}
 use Rattle.encl_core.proofs.operations.neg_ends.Goals as goal
 
 pub returns-in_err-x-clause-best : goal.returns-in_err-x-clause-best

@@ -1,11 +1,11 @@
-use Rattle.encl_core.specs.Scales.{coarse}
+use Rattle.scaled_ends.specs.Scales.{coarse}
 use Rattle.std.proofs.Common.{rules, arith, SFits, Fits, w64}
 use Rattle.std.specs.Int.{w128}
 use Rattle.std.proofs.lemmas.Int.{ints, to_z-of_z}
-use Rattle.book_model.specs.Fractions.{fraction_of}
+use Rattle.book_model.specs.numbers.Fractions.{fraction_of}
 use Rattle.rounded_quotients.proofs.Quotients.{outward_order}
-use Rattle.encl_core.proofs.Scaling.{constant_encloses, constant_narrow, constant_overflow}
-use Rattle.encl_core.proofs.Best.{constant_best, constant_outside}
+use Rattle.scaled_ends.proofs.Scaling.{constant_encloses, constant_narrow, constant_overflow}
+use Rattle.scaled_ends.proofs.Best.{constant_best, constant_outside}
 use Rattle.encl_core.proofs.operations.raised_ends.Goals as goal
 
 pub ends_of-requires : goal.ends_of-requires

@@ -1,9 +1,9 @@
-use Rattle.encl_core.specs.Scales.{coarse}
+use Rattle.scaled_ends.specs.Scales.{coarse}
 use Rattle.std.proofs.Common.{arith}
 use Rattle.std.proofs.lemmas.Int.{ints}
-use Rattle.encl_core.proofs.Best.{difference_best, difference_first, difference_second}
-use Rattle.encl_core.proofs.Enclosing.{difference_encloses}
-use Rattle.encl_core.proofs.Widths.{difference_narrow, difference_of_all, difference_from_all}
+use Rattle.scaled_ends.proofs.Best.{difference_best, difference_first, difference_second}
+use Rattle.scaled_ends.proofs.Enclosing.{difference_encloses}
+use Rattle.scaled_ends.proofs.Widths.{difference_narrow, difference_of_all, difference_from_all}
 use Rattle.encl_core.proofs.operations.sub_ends.Goals as goal
 
 pub returns-in_err-x-clause-best : goal.returns-in_err-x-clause-best

@@ -1,8 +1,8 @@
-use Rattle.encl_core.specs.Scales.{coarse}
+use Rattle.scaled_ends.specs.Scales.{coarse}
 use Rattle.std.proofs.Common.{rules, SFits, w64}
 use Rattle.std.proofs.lemmas.Int.{to_z-of_z}
-use Rattle.encl_core.specs.Rounding.{too_large}
-use Rattle.encl_core.proofs.Keeping.{keeps_both}
+use Rattle.scaled_ends.specs.Rounding.{too_large}
+use Rattle.scaled_ends.proofs.Keeping.{keeps_both}
 use Rattle.encl_core.proofs.operations.sums.Goals as goal
 
 pub returns-in_err-lo : goal.returns-in_err-lo

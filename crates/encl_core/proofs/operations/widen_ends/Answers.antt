@@ -1,12 +1,12 @@
-use Rattle.encl_core.specs.Scales.{coarse}
+use Rattle.scaled_ends.specs.Scales.{coarse}
 use Rattle.std.proofs.Common.{◌≡◌, arith, rules, SFits, w64}
 use Rattle.std.specs.Int.{w128}
 use Rattle.std.proofs.lemmas.Int.{ints, to_z-of_z}
-use Rattle.book_model.specs.Bounds.{limits_36}
-use Rattle.book_model.specs.Fractions.{fraction_of}
-use Rattle.encl_core.proofs.Best.{widen_best, widen_first, margin_small}
-use Rattle.encl_core.proofs.Enclosing.{widen_encloses, margin_nonneg}
-use Rattle.encl_core.proofs.Widenings.{widen_narrow, widen_of_all, widen_overflow}
+use Rattle.book_model.specs.numbers.Bounds.{limits_36}
+use Rattle.book_model.specs.numbers.Fractions.{fraction_of}
+use Rattle.scaled_ends.proofs.Best.{widen_best, widen_first, margin_small}
+use Rattle.scaled_ends.proofs.Enclosing.{widen_encloses, margin_nonneg}
+use Rattle.scaled_ends.proofs.Widenings.{widen_narrow, widen_of_all, widen_overflow}
 use Rattle.encl_core.proofs.operations.widen_ends.Goals as goal
 
 pub ends_of-requires : goal.ends_of-requires

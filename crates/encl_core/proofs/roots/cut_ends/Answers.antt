@@ -1,8 +1,8 @@
-use Rattle.encl_core.specs.Scales.{coarse}
+use Rattle.scaled_ends.specs.Scales.{coarse}
 use Rattle.std.proofs.Common.{rules, SFits, w64}
 use Rattle.std.proofs.lemmas.Int.{to_z-of_z}
-use Rattle.encl_core.proofs.RootWidths.{clamp_narrow}
-use Rattle.encl_core.proofs.RootEnds.{cut_holds}
+use Rattle.scaled_ends.proofs.RootWidths.{clamp_narrow}
+use Rattle.scaled_ends.proofs.RootEnds.{cut_holds}
 use Rattle.encl_core.proofs.roots.cut_ends.Goals as goal
 
 pub returns : goal.returns

@@ -1,10 +1,10 @@
-use Rattle.encl_core.specs.Scales.{coarse}
+use Rattle.scaled_ends.specs.Scales.{coarse}
 use Rattle.std.proofs.Common.{rules, SFits, w64}
 use Rattle.std.specs.Int.{w128}
 use Rattle.std.proofs.lemmas.Int.{to_z-of_z}
-use Rattle.book_model.specs.Bounds.{limits_36}
-use Rattle.encl_core.proofs.RootWidths.{root_narrow, root_of_all}
-use Rattle.encl_core.proofs.RootEnds.{roots_order, root_holds}
+use Rattle.book_model.specs.numbers.Bounds.{limits_36}
+use Rattle.scaled_ends.proofs.RootWidths.{root_narrow, root_of_all}
+use Rattle.scaled_ends.proofs.RootEnds.{roots_order, root_holds}
 use Rattle.encl_core.proofs.roots.root_ends.Goals as goal
 
 pub ends_of-requires : goal.ends_of-requires

@@ -1,5 +1,5 @@
-use Rattle.encl_core.specs.Scales.{coarse}
-use Rattle.encl_core.proofs.RootEnds.{cut_all}
+use Rattle.scaled_ends.specs.Scales.{coarse}
+use Rattle.scaled_ends.proofs.RootEnds.{cut_all}
 use Rattle.encl_core.proofs.roots.unit_ends.Goals as goal
 
 pub returns : goal.returns

@@ -1,7 +1,7 @@
 use Rattle.std.proofs.Common.{◌-◌, ◌≤◌, ◌+◌, ◌*◌, pos, ◌+ℤ◌}
-use Rattle.book_model.specs.Expressions.{World}
-use Rattle.book_model.specs.Leading.{Exact, Continues}
-use Rattle.book_model.specs.Searches.{first_of_days, first_day_from}
+use Rattle.book_model.specs.numbers.Expressions.{World}
+use Rattle.book_model.specs.programs.Leading.{Exact, Continues}
+use Rattle.book_model.specs.programs.Searches.{first_of_days, first_day_from}
 use Rattle.encl_core.proofs.search.first_day.Given as goal
 
 abbrev pub invariant-loop-later : goal.invariant-loop-later

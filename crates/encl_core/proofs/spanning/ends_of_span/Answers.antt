@@ -1,9 +1,9 @@
-use Rattle.encl_core.specs.Scales.{coarse}
+use Rattle.scaled_ends.specs.Scales.{coarse}
 use Rattle.std.proofs.Common.{rules, arith, SFits}
 use Rattle.std.specs.Int.{w128}
 use Rattle.std.proofs.lemmas.Int.{ints, to_z-of_z}
 use Rattle.rounded_quotients.proofs.Quotients.{outward_order}
-use Rattle.encl_core.proofs.Widths.{span_encloses, spanned_narrow}
+use Rattle.scaled_ends.proofs.Widths.{span_encloses, spanned_narrow}
 use Rattle.encl_core.proofs.spanning.ends_of_span.Goals as goal
 
 pub ends_of-requires : goal.ends_of-requires

@@ -1,6 +1,6 @@
 use Rattle.std.proofs.Common.{rules, refl, SFits, w64}
 use Rattle.std.proofs.lemmas.Int.{to_z-of_z}
-use Rattle.book_model.specs.Programs.{answer, integers}
+use Rattle.book_model.specs.programs.Programs.{answer, integers}
 use Rattle.book_model.proofs.Leads.{leads_cell, leads_open_cell, leads_answer, lies}
 use Rattle.encl_core.proofs.steps.floor_step.Goals as goal
 

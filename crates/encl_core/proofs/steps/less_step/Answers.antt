@@ -1,5 +1,5 @@
 use Rattle.std.proofs.Common.{refl}
-use Rattle.book_model.specs.Programs.{answer}
+use Rattle.book_model.specs.programs.Programs.{answer}
 use Rattle.book_model.proofs.Leads.{leads_compare, leads_open_compare, leads_answer, lies}
 use Rattle.encl_core.proofs.steps.less_step.Goals as goal
 

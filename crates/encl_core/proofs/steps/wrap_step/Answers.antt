@@ -1,7 +1,7 @@
 use Rattle.std.proofs.Common.{◌≡◌, refl, ℤ, Option, Some, None, IsSome}
-use Rattle.book_model.specs.Expressions.{remainder}
-use Rattle.book_model.specs.Leading.{between_cells}
-use Rattle.book_model.specs.Programs.{answer, multiples}
+use Rattle.book_model.specs.numbers.Expressions.{remainder}
+use Rattle.book_model.specs.programs.Leading.{between_cells}
+use Rattle.book_model.specs.programs.Programs.{answer, multiples}
 use Rattle.book_model.proofs.Leads.{leads_cell, leads_open_cell, leads_answer, lies}
 use Rattle.encl_core.proofs.steps.wrap_step.Goals as goal
 

@@ -1,8 +1,8 @@
 use Rattle.std.proofs.Common.{◌≤◌}
-use Rattle.book_model.specs.Bounds.{Reach, limits_of}
-use Rattle.book_model.specs.Expressions.{World}
-use Rattle.book_model.specs.Relations.{Within, Narrow}
-use Rattle.book_model.specs.Terms.{terms_to}
+use Rattle.book_model.specs.numbers.Bounds.{Reach, limits_of}
+use Rattle.book_model.specs.numbers.Expressions.{World}
+use Rattle.book_model.specs.numbers.Relations.{Within, Narrow}
+use Rattle.book_model.specs.numbers.Terms.{terms_to}
 use Rattle.encl_core.proofs.sums.sum_of_terms.Given as goal
 
 abbrev pub invariant-loop-row : goal.invariant-loop-row

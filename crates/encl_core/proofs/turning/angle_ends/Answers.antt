@@ -1,13 +1,13 @@
-use Rattle.encl_core.specs.Scales.{coarse}
+use Rattle.scaled_ends.specs.Scales.{coarse}
 use Rattle.std.proofs.Common.{rules, arith, SFits, w64}
 use Rattle.std.specs.Int.{w128}
 use Rattle.std.proofs.lemmas.Int.{ints, to_z-of_z}
-use Rattle.book_model.specs.Bounds.{constant_bound, scaled_bound, limits_36}
-use Rattle.book_model.specs.Fractions.{ten_millionths, daily_ten_millionths}
+use Rattle.book_model.specs.numbers.Bounds.{constant_bound, scaled_bound, limits_36}
+use Rattle.book_model.specs.numbers.Fractions.{ten_millionths, daily_ten_millionths}
 use Rattle.rounded_quotients.proofs.Quotients.{outward_order, sorted_order}
-use Rattle.encl_core.proofs.Keeping.{sum_second}
-use Rattle.encl_core.proofs.Scaling.{scaled_first}
-use Rattle.encl_core.proofs.WaveAngles.{AreTurned, turned_encloses, turned_narrow}
+use Rattle.scaled_ends.proofs.Keeping.{sum_second}
+use Rattle.scaled_ends.proofs.Scaling.{scaled_first}
+use Rattle.scaled_ends.proofs.WaveAngles.{AreTurned, turned_encloses, turned_narrow}
 use Rattle.encl_core.proofs.turning.angle_ends.Goals as goal
 
 pub returns-in_err-x-clause-narrow : goal.returns-in_err-x-clause-narrow

@@ -1,9 +1,9 @@
-use Rattle.encl_core.specs.Scales.{coarse}
+use Rattle.scaled_ends.specs.Scales.{coarse}
 use Rattle.std.proofs.Common.{◌≡◌, refl, rules, arith, SFits, pos, ◌*ℤ◌}
 use Rattle.std.specs.Int.{w64, w128}
 use Rattle.std.proofs.lemmas.Int.{ints, to_z-of_z}
-use Rattle.encl_core.proofs.Periods.{lower_encloses}
-use Rattle.encl_core.proofs.Widths.{remainder_narrow, remainder_of_all, period_fits}
+use Rattle.scaled_ends.proofs.Periods.{lower_encloses}
+use Rattle.scaled_ends.proofs.Widths.{remainder_narrow, remainder_of_all, period_fits}
 use Rattle.encl_core.proofs.wrapping.lower_ends.Goals as goal
 
 pub ends_of-requires : goal.ends_of-requires

@@ -1,7 +1,7 @@
-use Rattle.encl_core.specs.Scales.{coarse}
+use Rattle.scaled_ends.specs.Scales.{coarse}
 use Rattle.std.proofs.Common.{rules, arith, SFits, w64}
 use Rattle.std.proofs.lemmas.Int.{ints, to_z-of_z}
-use Rattle.encl_core.proofs.Periods.{period_same, period_apart, period_nowhere}
+use Rattle.scaled_ends.proofs.Periods.{period_same, period_apart, period_nowhere}
 use Rattle.encl_core.proofs.wrapping.period_of_ends.Goals as goal
 
 pub returns-in_err-e : goal.returns-in_err-e

@@ -1,8 +1,8 @@
 use Rattle.std.proofs.Common.{rules, SFits, w64}
 use Rattle.std.proofs.lemmas.Int.{to_z-of_z}
 use Rattle.std.proofs.lemmas.Result.{IfErr-weaker}
-use Rattle.book_model.specs.Kinds.{dt_of}
-use Rattle.book_model.specs.Correction.{rounded_of}
+use Rattle.book_model.specs.sky.Kinds.{dt_of}
+use Rattle.book_model.specs.sky.Correction.{rounded_of}
 use Rattle.book_model.proofs.Leads.{leads_on, leads_bind_exact, leads_fail, leaf_within}
 use Rattle.fact_eval.proofs.DayLemmas.{dt_is_value}
 use Rattle.fact_eval.proofs.WidthLemmas.{rounded_narrow, close_round, near_round, void_is_no_test, void_is_close}

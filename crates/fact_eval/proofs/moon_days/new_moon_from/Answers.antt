@@ -1,6 +1,6 @@
 use Rattle.std.proofs.Common.{SFits, w64}
 use Rattle.std.proofs.lemmas.Int.{to_z-of_z}
-use Rattle.book_model.proofs.MoonFacts.{new_moon_from_is_value}
+use Rattle.fact_eval.proofs.MoonFacts.{new_moon_from_is_value}
 use Rattle.fact_eval.proofs.moon_days.new_moon_from.Goals as goal
 
 pub returns-clause-value : goal.returns-clause-value

@@ -1,6 +1,6 @@
 use Rattle.std.proofs.Common.{SFits, w64}
 use Rattle.std.proofs.lemmas.Int.{to_z-of_z}
-use Rattle.book_model.specs.Kinds.{spans_short_of}
+use Rattle.book_model.specs.sky.Kinds.{spans_short_of}
 use Rattle.book_model.proofs.Leads.{leads_on, leaf_within}
 use Rattle.fact_eval.proofs.solar_terms.floor_of_spans.Goals as goal
 

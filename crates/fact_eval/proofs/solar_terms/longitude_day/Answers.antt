@@ -1,6 +1,6 @@
 use Rattle.std.proofs.Common.{SFits, w64}
 use Rattle.std.proofs.lemmas.Int.{to_z-of_z}
-use Rattle.book_model.specs.Kinds.{longitude_day_of}
+use Rattle.book_model.specs.sky.Kinds.{longitude_day_of}
 use Rattle.book_model.proofs.Leads.{leads_on, leaf_within}
 use Rattle.fact_eval.proofs.solar_terms.longitude_day.Goals as goal
 

@@ -1,6 +1,6 @@
 use Rattle.std.proofs.Common.{SFits, w64}
 use Rattle.std.proofs.lemmas.Int.{to_z-of_z}
-use Rattle.book_model.proofs.TermDays.{spans_found}
+use Rattle.fact_eval.proofs.TermDays.{spans_found}
 use Rattle.fact_eval.proofs.solar_terms.spans_short.Goals as goal
 
 pub returns-clause-near : goal.returns-clause-near

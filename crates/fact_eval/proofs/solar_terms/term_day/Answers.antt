@@ -1,6 +1,6 @@
 use Rattle.std.proofs.Common.{SFits, w64}
 use Rattle.std.proofs.lemmas.Int.{to_z-of_z}
-use Rattle.book_model.proofs.TermDays.{term_day_is_value}
+use Rattle.fact_eval.proofs.TermDays.{term_day_is_value}
 use Rattle.fact_eval.proofs.solar_terms.term_day.Goals as goal
 
 pub returns-clause-value : goal.returns-clause-value

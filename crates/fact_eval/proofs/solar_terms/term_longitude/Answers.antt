@@ -1,6 +1,6 @@
 use Rattle.std.proofs.Common.{rules, arith, SFits, w64, pos, ◌-ℤ◌, ◌*ℤ◌}
 use Rattle.std.proofs.lemmas.Int.{to_z-of_z, ints}
-use Rattle.book_model.specs.Kinds.{term_longitude}
+use Rattle.book_model.specs.sky.Kinds.{term_longitude}
 use Rattle.fact_eval.proofs.solar_terms.term_longitude.Goals as goal
 
 pub returns : goal.returns

@@ -1,6 +1,6 @@
 use Rattle.std.proofs.Common.{arith, SFits, w64}
 use Rattle.std.proofs.lemmas.Int.{to_z-of_z}
-use Rattle.book_model.specs.Facts.{at_depth}
+use Rattle.book_model.specs.sky.Facts.{at_depth}
 use Rattle.book_model.proofs.Leads.{leaf_within}
 use Rattle.fact_eval.proofs.Winters.{is_start, begun, ended}
 use Rattle.fact_eval.proofs.solstice.search_start.Goals as goal

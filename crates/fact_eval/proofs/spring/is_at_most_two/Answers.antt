@@ -1,6 +1,6 @@
 use Rattle.std.proofs.Common.{refl, not}
-use Rattle.book_model.specs.Kinds.{is_at_most_two_of}
-use Rattle.book_model.specs.Programs.{answer, bind}
+use Rattle.book_model.specs.sky.Kinds.{is_at_most_two_of}
+use Rattle.book_model.specs.programs.Programs.{answer, bind}
 use Rattle.book_model.proofs.Leads.{leads_bind_exact, leads_fail_exact, leads_answer}
 use Rattle.fact_eval.proofs.spring.is_at_most_two.Goals as goal
 

@@ -1,7 +1,7 @@
 use Rattle.std.proofs.Common.{rules, sym, ◌≡◌, true, false, SFits, w64}
 use Rattle.std.proofs.lemmas.Int.{to_z-of_z}
 use Rattle.book_model.specs.declared.fact.TheConstants.{FIRST_DAY, LAST_DAY}
-use Rattle.book_model.specs.Correction.{is_between}
+use Rattle.book_model.specs.sky.Correction.{is_between}
 use Rattle.book_model.proofs.Leads.{leads_void}
 use Rattle.fact_eval.proofs.Rightness.{program_few, program_inside, program_outside, void_few}
 use Rattle.fact_eval.proofs.staged.evaluate.Goals as goal

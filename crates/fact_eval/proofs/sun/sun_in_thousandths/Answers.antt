@@ -1,7 +1,7 @@
 use Rattle.std.proofs.Common.{SFits, w64}
 use Rattle.std.proofs.lemmas.Int.{to_z-of_z}
 use Rattle.std.proofs.lemmas.Result.{IfErr-weaker}
-use Rattle.book_model.specs.Kinds.{sun_in_thousandths_of}
+use Rattle.book_model.specs.sky.Kinds.{sun_in_thousandths_of}
 use Rattle.book_model.proofs.Leads.{leads_on, leaf_within}
 use Rattle.fact_eval.proofs.DayLemmas.{sun_is_value, sun_not_of_year, round_not_of_year}
 use Rattle.fact_eval.proofs.sun.sun_in_thousandths.Goals as goal

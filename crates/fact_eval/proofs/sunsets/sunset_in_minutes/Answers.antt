@@ -1,6 +1,6 @@
 use Rattle.std.proofs.Common.{SFits, w64}
 use Rattle.std.proofs.lemmas.Int.{to_z-of_z}
-use Rattle.book_model.proofs.Sunsets.{sunset_is_value}
+use Rattle.fact_eval.proofs.SunsetValues.{sunset_is_value}
 use Rattle.fact_eval.proofs.sunsets.sunset_in_minutes.Goals as goal
 
 pub returns-clause-value : goal.returns-clause-value

@@ -1,7 +1,7 @@
-use Rattle.encl_core.specs.Scales.{fine}
+use Rattle.scaled_ends.specs.Scales.{fine}
 use Rattle.std.proofs.Common.{arith}
 use Rattle.std.proofs.lemmas.Int.{ints}
-use Rattle.encl_core.proofs.Testing.{ends_between, ends_everything}
+use Rattle.scaled_ends.proofs.Testing.{ends_between, ends_everything}
 use Rattle.fix_fine.proofs.comparing.open_at.Goals as goal
 
 pub returns-in-Some-clause-ends : goal.returns-in-Some-clause-ends

@@ -1,7 +1,7 @@
-use Rattle.encl_core.specs.Scales.{fine}
+use Rattle.scaled_ends.specs.Scales.{fine}
 use Rattle.std.proofs.Common.{arith}
 use Rattle.std.proofs.lemmas.Int.{ints}
-use Rattle.encl_core.proofs.Ratios.{quotient_none, quotient_of_all, quotient_by_all}
+use Rattle.scaled_ends.proofs.Ratios.{quotient_none, quotient_of_all, quotient_by_all}
 use Rattle.fix_fine.proofs.dividing.div_ends.Goals as goal
 
 pub returns-in_err-x-clause-narrow : goal.returns-in_err-x-clause-narrow

@@ -1,8 +1,8 @@
-use Rattle.encl_core.specs.Scales.{fine}
+use Rattle.scaled_ends.specs.Scales.{fine}
 use Rattle.std.proofs.Common.{arith, rules, SFits}
 use Rattle.std.specs.Int.{w128}
 use Rattle.std.proofs.lemmas.Int.{ints, to_z-of_z}
-use Rattle.encl_core.proofs.Divisions.{negative_enclosed}
+use Rattle.scaled_ends.proofs.Divisions.{negative_enclosed}
 use Rattle.fix_fine.proofs.dividing.negative_quotients.Goals as goal
 
 pub ends_of-requires : goal.ends_of-requires

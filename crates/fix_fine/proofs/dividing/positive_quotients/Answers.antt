@@ -1,9 +1,9 @@
-use Rattle.encl_core.specs.Scales.{fine}
+use Rattle.scaled_ends.specs.Scales.{fine}
 use Rattle.std.proofs.Common.{sym, rules, SFits, true≢false}
 use Rattle.std.specs.Int.{w128}
 use Rattle.std.proofs.lemmas.Int.{to_z-of_z}
-use Rattle.encl_core.proofs.Divisions.{positive_enclosed}
-use Rattle.encl_core.proofs.Ratios.{quotient_narrow}
+use Rattle.scaled_ends.proofs.Divisions.{positive_enclosed}
+use Rattle.scaled_ends.proofs.Ratios.{quotient_narrow}
 use Rattle.fix_fine.proofs.Fitting.{quotient_overflow}
 use Rattle.fix_fine.proofs.dividing.positive_quotients.Goals as goal
 

@@ -1,8 +1,8 @@
-use Rattle.encl_core.specs.Scales.{fine}
+use Rattle.scaled_ends.specs.Scales.{fine}
 use Rattle.std.proofs.Common.{rules, SFits, sym, true≢false}
 use Rattle.std.specs.Int.{w128}
 use Rattle.std.proofs.lemmas.Int.{to_z-of_z}
-use Rattle.encl_core.proofs.Ratios.{quotients_are, divisor_positive, first_divisor_positive}
+use Rattle.scaled_ends.proofs.Ratios.{quotients_are, divisor_positive, first_divisor_positive}
 use Rattle.fix_fine.proofs.Fitting.{first_has, last_has}
 use Rattle.fix_fine.proofs.dividing.quotients.Goals as goal
 

@@ -1,7 +1,7 @@
-use Rattle.encl_core.specs.Scales.{fine}
+use Rattle.scaled_ends.specs.Scales.{fine}
 use Rattle.std.proofs.Common.{arith}
 use Rattle.std.proofs.lemmas.Int.{ints}
-use Rattle.encl_core.proofs.Keeping.{sum_encloses, sum_narrow, sum_first, sum_second}
+use Rattle.scaled_ends.proofs.Keeping.{sum_encloses, sum_narrow, sum_first, sum_second}
 use Rattle.fix_fine.proofs.operations.add_ends.Goals as goal
 
 pub returns-clause-holds : goal.returns-clause-holds

@@ -1,9 +1,9 @@
-use Rattle.encl_core.specs.Scales.{fine}
+use Rattle.scaled_ends.specs.Scales.{fine}
 use Rattle.std.specs.Int.{w128}
 use Rattle.std.proofs.Common.{rules, SFits}
 use Rattle.std.proofs.lemmas.Int.{to_z-of_z}
-use Rattle.encl_core.specs.Rounding.{too_large}
-use Rattle.encl_core.proofs.Keeping.{keeps_both}
+use Rattle.scaled_ends.specs.Rounding.{too_large}
+use Rattle.scaled_ends.proofs.Keeping.{keeps_both}
 use Rattle.fix_fine.proofs.operations.differences.Goals as goal
 
 pub returns-in_err-lo : goal.returns-in_err-lo

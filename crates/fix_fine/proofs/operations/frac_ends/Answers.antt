@@ -1,10 +1,10 @@
-use Rattle.encl_core.specs.Scales.{fine}
+use Rattle.scaled_ends.specs.Scales.{fine}
 use Rattle.std.proofs.Common.{rules, arith, SFits}
 use Rattle.std.specs.Int.{w128}
 use Rattle.std.proofs.lemmas.Int.{ints, to_z-of_z}
-use Rattle.book_model.specs.Fractions.{fraction_of}
+use Rattle.book_model.specs.numbers.Fractions.{fraction_of}
 use Rattle.rounded_quotients.proofs.Quotients.{outward_order}
-use Rattle.encl_core.proofs.Scaling.{constant_encloses, constant_narrow, constant_overflow}
+use Rattle.scaled_ends.proofs.Scaling.{constant_encloses, constant_narrow, constant_overflow}
 use Rattle.fix_fine.proofs.operations.frac_ends.Goals as goal
 
 pub ends_of-requires : goal.ends_of-requires

@@ -1,7 +1,7 @@
-use Rattle.encl_core.specs.Scales.{fine}
+use Rattle.scaled_ends.specs.Scales.{fine}
 use Rattle.std.proofs.Common.{arith}
 use Rattle.std.proofs.lemmas.Int.{ints}
-use Rattle.encl_core.proofs.Keeping.{int_narrow}
+use Rattle.scaled_ends.proofs.Keeping.{int_narrow}
 use Rattle.fix_fine.proofs.operations.int_ends.Goals as goal
 
 pub returns-clause-narrow : goal.returns-clause-narrow

@@ -1,8 +1,8 @@
-use Rattle.encl_core.specs.Scales.{fine}
+use Rattle.scaled_ends.specs.Scales.{fine}
 use Rattle.std.proofs.Common.{arith}
 use Rattle.std.proofs.lemmas.Int.{ints}
-use Rattle.encl_core.proofs.Enclosing.{negative_encloses}
-use Rattle.encl_core.proofs.Widths.{negated_narrow, negated_of_all}
+use Rattle.scaled_ends.proofs.Enclosing.{negative_encloses}
+use Rattle.scaled_ends.proofs.Widths.{negated_narrow, negated_of_all}
 use Rattle.fix_fine.proofs.operations.neg_ends.Goals as goal
 
 pub returns-clause-holds : goal.returns-clause-holds

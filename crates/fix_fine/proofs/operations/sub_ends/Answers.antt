@@ -1,8 +1,8 @@
-use Rattle.encl_core.specs.Scales.{fine}
+use Rattle.scaled_ends.specs.Scales.{fine}
 use Rattle.std.proofs.Common.{arith}
 use Rattle.std.proofs.lemmas.Int.{ints}
-use Rattle.encl_core.proofs.Enclosing.{difference_encloses}
-use Rattle.encl_core.proofs.Widths.{difference_narrow, difference_of_all, difference_from_all}
+use Rattle.scaled_ends.proofs.Enclosing.{difference_encloses}
+use Rattle.scaled_ends.proofs.Widths.{difference_narrow, difference_of_all, difference_from_all}
 use Rattle.fix_fine.proofs.operations.sub_ends.Goals as goal
 
 pub differences-requires : goal.differences-requires

@@ -1,10 +1,10 @@
-use Rattle.encl_core.specs.Scales.{fine, limits_on}
+use Rattle.scaled_ends.specs.Scales.{fine, limits_on}
 use Rattle.std.proofs.Common.{arith, rules, SFits, pos, ◌-ℤ◌}
 use Rattle.std.specs.Int.{w128}
 use Rattle.std.proofs.lemmas.Int.{ints, to_z-of_z}
-use Rattle.book_model.specs.Fractions.{fraction_of}
-use Rattle.encl_core.proofs.Enclosing.{widen_encloses, margin_nonneg}
-use Rattle.encl_core.proofs.Widenings.{widen_narrow, widen_of_all, widen_overflow}
+use Rattle.book_model.specs.numbers.Fractions.{fraction_of}
+use Rattle.scaled_ends.proofs.Enclosing.{widen_encloses, margin_nonneg}
+use Rattle.scaled_ends.proofs.Widenings.{widen_narrow, widen_of_all, widen_overflow}
 use Rattle.fix_fine.proofs.operations.widen_ends.Goals as goal
 
 pub sums-requires : goal.sums-requires

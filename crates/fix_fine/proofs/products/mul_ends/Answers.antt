@@ -1,10 +1,10 @@
-use Rattle.encl_core.specs.Scales.{fine}
+use Rattle.scaled_ends.specs.Scales.{fine}
 use Rattle.std.proofs.Common.{refl, sym, arith, rules, SFits, true≢false}
 use Rattle.std.specs.Int.{w128}
 use Rattle.std.proofs.lemmas.Int.{ints, to_z-of_z}
 use Rattle.rounded_quotients.proofs.Quotients.{outward_order}
-use Rattle.encl_core.proofs.Enclosing.{product_encloses, products_order}
-use Rattle.encl_core.proofs.Products.{product_narrow, product_of_all, product_with_all}
+use Rattle.scaled_ends.proofs.Enclosing.{product_encloses, products_order}
+use Rattle.scaled_ends.proofs.Products.{product_narrow, product_of_all, product_with_all}
 use Rattle.fix_fine.proofs.Fitting.{product_overflow}
 use Rattle.fix_fine.proofs.products.mul_ends.Goals as goal
 

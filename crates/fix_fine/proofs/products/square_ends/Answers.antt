@@ -1,10 +1,10 @@
-use Rattle.encl_core.specs.Scales.{fine}
+use Rattle.scaled_ends.specs.Scales.{fine}
 use Rattle.std.proofs.Common.{refl, arith, rules, SFits}
 use Rattle.std.specs.Int.{w128}
 use Rattle.std.proofs.lemmas.Int.{ints, clamps, to_z-of_z}
 use Rattle.rounded_quotients.proofs.Quotients.{outward_order}
-use Rattle.encl_core.proofs.Divisions.{square_encloses, squares_order}
-use Rattle.encl_core.proofs.Products.{square_narrow, square_of_all}
+use Rattle.scaled_ends.proofs.Divisions.{square_encloses, squares_order}
+use Rattle.scaled_ends.proofs.Products.{square_narrow, square_of_all}
 use Rattle.fix_fine.proofs.Fitting.{square_overflow, roomy_fits}
 use Rattle.fix_fine.proofs.products.square_ends.Goals as goal
 

@@ -1,9 +1,9 @@
-use Rattle.encl_core.specs.Scales.{fine}
+use Rattle.scaled_ends.specs.Scales.{fine}
 use Rattle.std.specs.Int.{w128}
 use Rattle.std.proofs.Common.{rules, SFits}
 use Rattle.std.proofs.lemmas.Int.{to_z-of_z}
-use Rattle.encl_core.proofs.Enclosing.{hull_is, hull_first, hull_second}
-use Rattle.encl_core.proofs.Widenings.{hull_narrow, hull_of_all, hull_with_all}
+use Rattle.scaled_ends.proofs.Enclosing.{hull_is, hull_first, hull_second}
+use Rattle.scaled_ends.proofs.Widenings.{hull_narrow, hull_of_all, hull_with_all}
 use Rattle.fix_fine.proofs.ranges.hull_ends.Goals as goal
 
 pub returns-in_err-x-clause-tight : goal.returns-in_err-x-clause-tight

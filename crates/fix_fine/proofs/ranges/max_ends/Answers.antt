@@ -1,9 +1,9 @@
-use Rattle.encl_core.specs.Scales.{fine}
+use Rattle.scaled_ends.specs.Scales.{fine}
 use Rattle.std.specs.Int.{w128}
 use Rattle.std.proofs.Common.{rules, SFits}
 use Rattle.std.proofs.lemmas.Int.{to_z-of_z}
-use Rattle.encl_core.proofs.Enclosing.{maximum_is, greater_order}
-use Rattle.encl_core.proofs.Widths.{maximum_narrow, maximum_of_all, maximum_with_all}
+use Rattle.scaled_ends.proofs.Enclosing.{maximum_is, greater_order}
+use Rattle.scaled_ends.proofs.Widths.{maximum_narrow, maximum_of_all, maximum_with_all}
 use Rattle.fix_fine.proofs.ranges.max_ends.Goals as goal
 
 pub invariant_of-result : goal.invariant_of-result

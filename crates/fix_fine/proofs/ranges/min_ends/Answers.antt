@@ -1,9 +1,9 @@
-use Rattle.encl_core.specs.Scales.{fine}
+use Rattle.scaled_ends.specs.Scales.{fine}
 use Rattle.std.specs.Int.{w128}
 use Rattle.std.proofs.Common.{rules, SFits}
 use Rattle.std.proofs.lemmas.Int.{to_z-of_z}
-use Rattle.encl_core.proofs.Enclosing.{minimum_is, lesser_order}
-use Rattle.encl_core.proofs.Widths.{minimum_narrow, minimum_of_all, minimum_with_all}
+use Rattle.scaled_ends.proofs.Enclosing.{minimum_is, lesser_order}
+use Rattle.scaled_ends.proofs.Widths.{minimum_narrow, minimum_of_all, minimum_with_all}
 use Rattle.fix_fine.proofs.ranges.min_ends.Goals as goal
 
 pub invariant_of-result : goal.invariant_of-result

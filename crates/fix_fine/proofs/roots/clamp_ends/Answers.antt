@@ -1,4 +1,4 @@
-use Rattle.encl_core.proofs.RootWidths.{clamp_of_all}
+use Rattle.scaled_ends.proofs.RootWidths.{clamp_of_all}
 use Rattle.fix_fine.proofs.roots.clamp_ends.Goals as goal
 
 pub returns-in-None-clause-narrow : goal.returns-in-None-clause-narrow

@@ -1,9 +1,9 @@
-use Rattle.encl_core.specs.Scales.{fine}
+use Rattle.scaled_ends.specs.Scales.{fine}
 use Rattle.std.specs.Int.{w128}
 use Rattle.std.proofs.Common.{rules, SFits}
 use Rattle.std.proofs.lemmas.Int.{to_z-of_z}
-use Rattle.encl_core.proofs.RootWidths.{clamp_narrow}
-use Rattle.encl_core.proofs.RootEnds.{cut_holds}
+use Rattle.scaled_ends.proofs.RootWidths.{clamp_narrow}
+use Rattle.scaled_ends.proofs.RootEnds.{cut_holds}
 use Rattle.fix_fine.proofs.roots.cut_ends.Goals as goal
 
 pub returns : goal.returns

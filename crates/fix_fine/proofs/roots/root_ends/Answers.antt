@@ -1,10 +1,10 @@
-use Rattle.encl_core.specs.Scales.{fine, limits_on}
+use Rattle.scaled_ends.specs.Scales.{fine, limits_on}
 use Rattle.std.proofs.Common.{arith, rules, SFits}
 use Rattle.std.specs.Int.{w128}
 use Rattle.std.proofs.lemmas.Int.{ints, to_z-of_z}
-use Rattle.encl_core.specs.Rounding.{fitting}
-use Rattle.encl_core.proofs.RootWidths.{root_narrow, root_of_all}
-use Rattle.encl_core.proofs.RootEnds.{roots_order, root_holds}
+use Rattle.scaled_ends.specs.Rounding.{fitting}
+use Rattle.scaled_ends.proofs.RootWidths.{root_narrow, root_of_all}
+use Rattle.scaled_ends.proofs.RootEnds.{roots_order, root_holds}
 use Rattle.fix_fine.proofs.Fitting.{root_overflow}
 use Rattle.fix_fine.proofs.roots.root_ends.Goals as goal
 

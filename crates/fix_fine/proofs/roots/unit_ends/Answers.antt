@@ -1,5 +1,5 @@
-use Rattle.encl_core.specs.Scales.{fine}
-use Rattle.encl_core.proofs.RootEnds.{cut_all}
+use Rattle.scaled_ends.specs.Scales.{fine}
+use Rattle.scaled_ends.proofs.RootEnds.{cut_all}
 use Rattle.fix_fine.proofs.roots.unit_ends.Goals as goal
 
 pub returns : goal.returns

@@ -1,5 +1,5 @@
 use Rattle.std.proofs.lemmas.Int.{to_z-of_z}
-use Rattle.encl_core.specs.Rounding.{fitting}
+use Rattle.scaled_ends.specs.Rounding.{fitting}
 use Rattle.fix_fine.proofs.rounding.ends_of.Goals as goal
 
 pub returns : goal.returns

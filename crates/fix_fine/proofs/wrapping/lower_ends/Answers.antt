@@ -1,9 +1,9 @@
-use Rattle.encl_core.specs.Scales.{fine}
+use Rattle.scaled_ends.specs.Scales.{fine}
 use Rattle.std.proofs.Common.{rules, arith, SFits, pos, ◌*ℤ◌}
 use Rattle.std.specs.Int.{w128}
 use Rattle.std.proofs.lemmas.Int.{ints, to_z-of_z}
-use Rattle.encl_core.proofs.Periods.{lower_encloses}
-use Rattle.encl_core.proofs.Widths.{remainder_narrow, remainder_of_all, in_period}
+use Rattle.scaled_ends.proofs.Periods.{lower_encloses}
+use Rattle.scaled_ends.proofs.Widths.{remainder_narrow, remainder_of_all, in_period}
 use Rattle.fix_fine.proofs.wrapping.lower_ends.Goals as goal
 
 pub lowered-requires : goal.lowered-requires

@@ -1,8 +1,8 @@
-use Rattle.encl_core.specs.Scales.{fine}
+use Rattle.scaled_ends.specs.Scales.{fine}
 use Rattle.std.specs.Int.{w128}
 use Rattle.std.proofs.Common.{rules, arith, SFits}
 use Rattle.std.proofs.lemmas.Int.{ints, to_z-of_z}
-use Rattle.encl_core.proofs.Periods.{period_same, period_apart, period_nowhere}
+use Rattle.scaled_ends.proofs.Periods.{period_same, period_apart, period_nowhere}
 use Rattle.fix_fine.proofs.wrapping.period_of_ends.Goals as goal
 
 pub returns-in_err-e : goal.returns-in_err-e

@@ -1,5 +1,5 @@
 use Rattle.std.proofs.Common.{arith}
-use Rattle.book_model.specs.HinduLunar.{first_with_date}
+use Rattle.book_model.specs.calendars.HinduLunar.{first_with_date}
 use Rattle.oracle_core.proofs.Inquiring.{asking}
 use Rattle.hindu_astro.proofs.lunar.+first_with_date.Goals as goal
 

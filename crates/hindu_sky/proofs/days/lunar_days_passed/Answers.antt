@@ -1,5 +1,5 @@
-use Rattle.book_model.proofs.HinduRuns.{lunar_days_found}
-use Rattle.book_model.proofs.PhaseRanges.{within_world}
+use Rattle.hindu_sky.proofs.HinduRuns.{lunar_days_found}
+use Rattle.moon_core.proofs.PhaseRanges.{within_world}
 use Rattle.hindu_sky.proofs.days.lunar_days_passed.Goals as goal
 
 pub returns-clause-near : goal.returns-clause-near

@@ -1,6 +1,6 @@
 use Rattle.std.proofs.Common.{rules, SFits, w64}
 use Rattle.std.proofs.lemmas.Int.{to_z-of_z}
-use Rattle.book_model.specs.HinduFacts.{sign_entered_of}
+use Rattle.book_model.specs.sky.HinduFacts.{sign_entered_of}
 use Rattle.book_model.proofs.Leads.{leads_bind_exact}
 use Rattle.hindu_sky.proofs.days.sign_entered.Goals as goal
 

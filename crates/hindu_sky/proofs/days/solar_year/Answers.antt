@@ -1,6 +1,6 @@
 use Rattle.std.proofs.Common.{SFits, w64}
 use Rattle.std.proofs.lemmas.Int.{to_z-of_z}
-use Rattle.book_model.proofs.HinduRuns.{year_at_sunset_is_value}
+use Rattle.hindu_sky.proofs.HinduRuns.{year_at_sunset_is_value}
 use Rattle.hindu_sky.proofs.days.solar_year.Goals as goal
 
 pub returns-clause-value : goal.returns-clause-value

@@ -1,5 +1,5 @@
-use Rattle.book_model.proofs.HinduRuns.{degrees_found}
-use Rattle.book_model.proofs.PhaseRanges.{within_world}
+use Rattle.hindu_sky.proofs.HinduRuns.{degrees_found}
+use Rattle.moon_core.proofs.PhaseRanges.{within_world}
 use Rattle.hindu_sky.proofs.zodiac.whole_degrees.Goals as goal
 
 pub returns-clause-near : goal.returns-clause-near

@@ -1,6 +1,6 @@
 use Rattle.std.proofs.Common.{rules, arith, SFits, w64, pos, ◌-ℤ◌}
 use Rattle.std.proofs.lemmas.Int.{to_z-of_z, ints}
-use Rattle.book_model.specs.Islamic.{months_before}
+use Rattle.book_model.specs.calendars.Islamic.{months_before}
 use Rattle.islamic_observed.proofs.Counts.{months_near}
 use Rattle.islamic_observed.proofs.months.months_before.Goals as goal
 

@@ -1,5 +1,5 @@
 use Rattle.std.proofs.Common.{◌≡◌, ◌<◌, ◌^◌, drop}
-use Rattle.book_model.specs.Lines.{value_from}
+use Rattle.book_model.specs.lines.Lines.{value_from}
 use Rattle.line_core.proofs.fields.number.Given as goal
 
 -- the rest of the digits goes on from the number so far, which has as many digits as are read

@@ -1,6 +1,6 @@
 use Rattle.std.proofs.Common.{◌≡◌, ◌≤◌, ◌-◌, length}
-use Rattle.book_model.specs.Lines.{parts_of}
-use Rattle.book_model.specs.Requests.{numbers_of}
+use Rattle.book_model.specs.lines.Lines.{parts_of}
+use Rattle.book_model.specs.lines.Requests.{numbers_of}
 use Rattle.line_core.proofs.FieldText.{followed, parts_left, no_values}
 use Rattle.line_core.proofs.fields.spelled_fields.Given as goal
 

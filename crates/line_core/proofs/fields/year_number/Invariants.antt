@@ -1,5 +1,5 @@
 use Rattle.std.proofs.Common.{◌≡◌, ◌≤◌, ◌+◌, ◌*◌, ◌^◌, unsigned_abs}
-use Rattle.book_model.specs.Dates.{counted}
+use Rattle.book_model.specs.calendars.Dates.{counted}
 use Rattle.line_core.proofs.fields.year_number.Given as goal
 
 -- what the fields so far count, which is small

@@ -1,5 +1,5 @@
 use Rattle.std.proofs.Common.{◌≡◌, ◌++◌, map, length}
-use Rattle.book_model.specs.Lines.{lines_of}
+use Rattle.book_model.specs.lines.Lines.{lines_of}
 use Rattle.line_core.proofs.split.split_lines.Given as goal
 
 abbrev pub invariant-loop-rest : goal.invariant-loop-rest

@@ -1,9 +1,9 @@
-use Rattle.book_model.specs.Expressions.{subtract, constant}
-use Rattle.book_model.specs.Fractions.{fraction_of}
+use Rattle.book_model.specs.numbers.Expressions.{subtract, constant}
+use Rattle.book_model.specs.numbers.Fractions.{fraction_of}
 use Rattle.book_model.specs.declared.time_tables.TheConstants.{NOON_2000}
-use Rattle.book_model.specs.Programs.{answer}
-use Rattle.book_model.specs.Latitude.{latitude_of, latitude_at_of}
-use Rattle.book_model.specs.Time.{in_centuries as centuries_from}
+use Rattle.book_model.specs.programs.Programs.{answer}
+use Rattle.book_model.specs.sky.Latitude.{latitude_of, latitude_at_of}
+use Rattle.book_model.specs.sky.Time.{in_centuries as centuries_from}
 use Rattle.book_model.proofs.Leads.{leads_answer}
 use Rattle.sun_core.specs.Daily.{in_centuries}
 use Rattle.sun_core.proofs.Elapsed.{by_dynamical}

@@ -1,4 +1,4 @@
-use Rattle.book_model.specs.Latitude.{no_latitude_term, latitude_terms_of}
+use Rattle.book_model.specs.sky.Latitude.{no_latitude_term, latitude_terms_of}
 use Rattle.moon_core.proofs.latitudes.latitude_terms.Goals as goal
 
 pub returns-clause-holds : goal.returns-clause-holds

@@ -1,4 +1,4 @@
-use Rattle.book_model.specs.Moon.{no_term, lunar_angles_of, longitude_terms_of}
+use Rattle.book_model.specs.sky.Moon.{no_term, lunar_angles_of, longitude_terms_of}
 use Rattle.sun_core.specs.Daily.{in_centuries}
 use Rattle.moon_core.specs.Daily.{daily_angles_of, computed_terms_of}
 use Rattle.moon_core.proofs.longitude.longitude_terms.Goals as goal

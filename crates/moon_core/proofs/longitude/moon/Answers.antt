@@ -1,10 +1,10 @@
-use Rattle.book_model.specs.Expressions.{remainder, subtract, constant}
-use Rattle.book_model.specs.Fractions.{fraction_of}
+use Rattle.book_model.specs.numbers.Expressions.{remainder, subtract, constant}
+use Rattle.book_model.specs.numbers.Fractions.{fraction_of}
 use Rattle.book_model.specs.declared.site.Site.TheVariants.{MoonWrap}
 use Rattle.book_model.specs.declared.time_tables.TheConstants.{NOON_2000}
-use Rattle.book_model.specs.Programs.{answer, cell, multiples}
-use Rattle.book_model.specs.Moon.{moon_of, moon_longitude_of}
-use Rattle.book_model.specs.Time.{in_centuries as centuries_from}
+use Rattle.book_model.specs.programs.Programs.{answer, cell, multiples}
+use Rattle.book_model.specs.sky.Moon.{moon_of, moon_longitude_of}
+use Rattle.book_model.specs.sky.Time.{in_centuries as centuries_from}
 use Rattle.sun_core.specs.Daily.{in_centuries}
 use Rattle.sun_core.proofs.Elapsed.{by_dynamical}
 use Rattle.moon_core.proofs.longitude.moon.Goals as goal

@@ -1,4 +1,4 @@
-use Rattle.book_model.proofs.PhaseRanges.{elongation_found, within_world}
+use Rattle.moon_core.proofs.PhaseRanges.{elongation_found, within_world}
 use Rattle.moon_core.proofs.phases.elongation.Goals as goal
 
 pub returns-clause-in_table : goal.returns-clause-in_table

@@ -1,4 +1,4 @@
-use Rattle.book_model.proofs.PhaseRanges.{number_found, within_world, near_low, near_high}
+use Rattle.moon_core.proofs.PhaseRanges.{number_found, within_world, near_low, near_high}
 use Rattle.moon_core.proofs.phases.number.Goals as goal
 
 pub returns-clause-low : goal.returns-clause-low

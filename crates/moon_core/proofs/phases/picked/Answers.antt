@@ -1,5 +1,5 @@
-use Rattle.book_model.specs.Phases.{chosen, picked_of}
-use Rattle.book_model.specs.Programs.{answer}
+use Rattle.book_model.specs.sky.Phases.{chosen, picked_of}
+use Rattle.book_model.specs.programs.Programs.{answer}
 use Rattle.book_model.proofs.Leads.{leads_bind, leads_answer}
 use Rattle.moon_core.proofs.phases.picked.Goals as goal
 

@@ -1,4 +1,4 @@
-use Rattle.book_model.proofs.PhaseRanges.{rough_found, within_world, near_low, near_high}
+use Rattle.moon_core.proofs.PhaseRanges.{rough_found, within_world, near_low, near_high}
 use Rattle.moon_core.proofs.phases.rough_number.Goals as goal
 
 pub returns-clause-low : goal.returns-clause-low

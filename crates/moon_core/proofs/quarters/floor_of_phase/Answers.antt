@@ -1,6 +1,6 @@
 use Rattle.std.proofs.Common.{SFits, w64}
 use Rattle.std.proofs.lemmas.Int.{to_z-of_z}
-use Rattle.book_model.specs.Phases.{phase_day_of}
+use Rattle.book_model.specs.sky.Phases.{phase_day_of}
 use Rattle.book_model.proofs.Leads.{leads_on, leaf_within}
 use Rattle.time_scales.proofs.WholeDays.{no_early_year}
 use Rattle.moon_core.proofs.quarters.floor_of_phase.Goals as goal

@@ -1,8 +1,8 @@
-use Rattle.book_model.specs.Expressions.{argument}
-use Rattle.book_model.specs.Phases.{phase_before_of}
+use Rattle.book_model.specs.numbers.Expressions.{argument}
+use Rattle.book_model.specs.sky.Phases.{phase_before_of}
 use Rattle.book_model.proofs.Early.{phase_past_least, three_made}
 use Rattle.book_model.proofs.Leads.{leads_on, leaf_within}
-use Rattle.book_model.proofs.PhaseRanges.{world_of_two, within_first, within_second}
+use Rattle.moon_core.proofs.PhaseRanges.{world_of_two, within_first, within_second}
 use Rattle.moon_core.proofs.Openings.{late_failure}
 use Rattle.moon_core.proofs.quarters.phase_before.Goals as goal
 

@@ -1,6 +1,6 @@
 use Rattle.std.proofs.Common.{SFits, w64}
 use Rattle.std.proofs.lemmas.Int.{to_z-of_z}
-use Rattle.book_model.proofs.PhaseDays.{phase_day_found}
+use Rattle.moon_core.proofs.PhaseDays.{phase_day_found}
 use Rattle.moon_core.proofs.quarters.phase_day.Goals as goal
 
 pub returns-clause-near : goal.returns-clause-near

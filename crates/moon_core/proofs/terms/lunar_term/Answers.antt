@@ -1,6 +1,6 @@
 use Rattle.std.proofs.Common.{SFits, w64}
 use Rattle.std.proofs.lemmas.Int.{to_z-of_z}
-use Rattle.book_model.specs.Moon.{lunar_term_of}
+use Rattle.book_model.specs.sky.Moon.{lunar_term_of}
 use Rattle.moon_core.proofs.terms.lunar_term.Goals as goal
 
 pub returns-clause-holds : goal.returns-clause-holds

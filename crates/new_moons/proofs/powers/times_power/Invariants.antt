@@ -1,7 +1,7 @@
 use Rattle.std.proofs.Common.{◌≤◌, ◌-◌}
-use Rattle.book_model.specs.Bounds.{Reach, limits_of}
-use Rattle.book_model.specs.Expressions.{Expression, World, power}
-use Rattle.book_model.specs.Relations.{Within, Narrow}
+use Rattle.book_model.specs.numbers.Bounds.{Reach, limits_of}
+use Rattle.book_model.specs.numbers.Expressions.{Expression, World, power}
+use Rattle.book_model.specs.numbers.Relations.{Within, Narrow}
 use Rattle.new_moons.proofs.powers.times_power.Given as goal
 
 abbrev pub invariant-loop-reached : goal.invariant-loop-reached

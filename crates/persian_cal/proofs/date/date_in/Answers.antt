@@ -1,6 +1,6 @@
 use Rattle.std.proofs.Common.{rules, arith, SFits, w32, w64, ◌-ℤ◌, refl}
 use Rattle.std.proofs.lemmas.Int.{to_z-of_z, ints}
-use Rattle.book_model.specs.Persian.{date_in}
+use Rattle.book_model.specs.calendars.Persian.{date_in}
 use Rattle.persian_cal.proofs.YearDays.{year_stands, day_left}
 use Rattle.persian_cal.proofs.date.date_in.Goals as goal
 

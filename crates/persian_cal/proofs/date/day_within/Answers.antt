@@ -1,6 +1,6 @@
 use Rattle.std.proofs.Common.{rules, arith, SFits, w64, pos, ◌+ℤ◌, ◌-ℤ◌}
 use Rattle.std.proofs.lemmas.Int.{to_z-of_z, ints}
-use Rattle.book_model.specs.Persian.{day_within}
+use Rattle.book_model.specs.calendars.Persian.{day_within}
 use Rattle.persian_cal.proofs.TropicalYears.{days_near}
 use Rattle.persian_cal.proofs.date.day_within.Goals as goal
 

@@ -1,6 +1,6 @@
 use Rattle.std.proofs.Common.{rules, arith, SFits, w64, pos, ◌+ℤ◌, ◌-ℤ◌}
 use Rattle.std.proofs.lemmas.Int.{to_z-of_z, ints}
-use Rattle.book_model.specs.Persian.{year_begun}
+use Rattle.book_model.specs.calendars.Persian.{year_begun}
 use Rattle.persian_cal.proofs.TropicalYears.{years_near}
 use Rattle.persian_cal.proofs.date.year_begun.Goals as goal
 

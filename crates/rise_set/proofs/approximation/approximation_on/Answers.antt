@@ -1,6 +1,6 @@
 use Rattle.std.proofs.Common.{SFits, w64}
 use Rattle.std.proofs.lemmas.Int.{to_z-of_z}
-use Rattle.book_model.specs.Horizon.{approximation_on}
+use Rattle.book_model.specs.sky.Horizon.{approximation_on}
 use Rattle.book_model.proofs.Leads.{leads_on, leads_fail, leaf_within}
 use Rattle.rise_set.proofs.approximation.approximation_on.Goals as goal
 

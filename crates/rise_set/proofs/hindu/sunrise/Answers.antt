@@ -1,6 +1,6 @@
 use Rattle.std.proofs.Common.{rules, SFits, w64}
 use Rattle.std.proofs.lemmas.Int.{to_z-of_z}
-use Rattle.book_model.specs.Horizon.{sunrise_of}
+use Rattle.book_model.specs.sky.Horizon.{sunrise_of}
 use Rattle.book_model.proofs.Leads.{leads_on, leads_bind_exact, leads_answer, leaf_within}
 use Rattle.rise_set.proofs.hindu.sunrise.Goals as goal
 

@@ -1,6 +1,6 @@
 use Rattle.std.proofs.Common.{SFits, w64}
 use Rattle.std.proofs.lemmas.Int.{to_z-of_z}
-use Rattle.book_model.specs.Horizon.{near_offset_of}
+use Rattle.book_model.specs.sky.Horizon.{near_offset_of}
 use Rattle.book_model.proofs.Leads.{leads_on, leads_bind_exact, leaf_within}
 use Rattle.rise_set.proofs.offsets.near_offset.Goals as goal
 

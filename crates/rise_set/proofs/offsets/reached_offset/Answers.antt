@@ -1,4 +1,4 @@
-use Rattle.book_model.specs.Horizon.{reached_offset_of}
+use Rattle.book_model.specs.sky.Horizon.{reached_offset_of}
 use Rattle.book_model.proofs.Leads.{leads_on, leads_bind_exact, leaf_within}
 use Rattle.rise_set.proofs.offsets.reached_offset.Goals as goal
 

@@ -1,5 +1,5 @@
 use Rattle.std.proofs.Common.{◌≡◌, ◌++◌, drop}
-use Rattle.book_model.specs.Text.{with_facts, numbers_of}
+use Rattle.book_model.specs.lines.Text.{with_facts, numbers_of}
 use Rattle.run_core.specs.Numbering.{new_facts}
 use Rattle.run_core.proofs.numbering.number_facts.Given as goal
 

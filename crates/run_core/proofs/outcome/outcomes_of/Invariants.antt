@@ -1,5 +1,5 @@
 use Rattle.std.proofs.Common.{List, ◌++◌, map, drop}
-use Rattle.book_model.specs.Outcomes.{LineOutcome, AreRight}
+use Rattle.book_model.specs.lines.Outcomes.{LineOutcome, AreRight}
 use Rattle.run_core.specs.Outcomes.{line_outcome}
 use Rattle.run_core.proofs.outcome.outcomes_of.Given as goal
 

@@ -1,5 +1,5 @@
 use Rattle.std.proofs.Common.{◌≡◌, drop}
-use Rattle.book_model.specs.Text.{with_facts}
+use Rattle.book_model.specs.lines.Text.{with_facts}
 use Rattle.run_core.proofs.sampling.see_facts.Given as goal
 
 -- with the other facts all are there

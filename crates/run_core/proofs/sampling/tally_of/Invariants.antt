@@ -1,5 +1,5 @@
 use Rattle.std.proofs.Common.{◌≡◌, ◌+◌, ◌≤◌, length, drop, filter, map}
-use Rattle.book_model.specs.Outcomes.{is_result}
+use Rattle.book_model.specs.lines.Outcomes.{is_result}
 use Rattle.run_core.specs.Outcomes.{line_outcome}
 use Rattle.run_core.specs.Sampling.{is_undecided, is_void, is_refused}
 use Rattle.run_core.proofs.sampling.tally_of.Given as goal

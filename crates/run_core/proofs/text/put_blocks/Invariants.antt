@@ -1,5 +1,5 @@
 use Rattle.std.proofs.Common.{◌≤◌, ◌++◌, [], drop, map}
-use Rattle.book_model.specs.Text.{text_from}
+use Rattle.book_model.specs.lines.Text.{text_from}
 use Rattle.byte_streams.specs.Stream.{Wrote}
 use Rattle.run_core.specs.Outcomes.{line_outcome}
 use Rattle.run_core.proofs.text.put_blocks.Given as goal

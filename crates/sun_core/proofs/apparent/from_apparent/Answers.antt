@@ -1,6 +1,6 @@
-use Rattle.book_model.specs.Expressions.{subtract}
-use Rattle.book_model.specs.Noon.{from_apparent_of}
-use Rattle.book_model.specs.Programs.{answer}
+use Rattle.book_model.specs.numbers.Expressions.{subtract}
+use Rattle.book_model.specs.sky.Noon.{from_apparent_of}
+use Rattle.book_model.specs.programs.Programs.{answer}
 use Rattle.book_model.proofs.Leads.{leads_on, leaf_within, leads_answer}
 use Rattle.sun_core.proofs.apparent.from_apparent.Goals as goal
 

@@ -1,4 +1,4 @@
-use Rattle.book_model.specs.Fractions.{fraction_of}
+use Rattle.book_model.specs.numbers.Fractions.{fraction_of}
 use Rattle.book_model.specs.declared.time_tables.TheConstants.{DAY_IN_CENTURIES}
 use Rattle.sun_core.specs.Daily.{in_centuries, by_days, by_centuries}
 use Rattle.sun_core.proofs.Scalings.{both_hold, daily_is}

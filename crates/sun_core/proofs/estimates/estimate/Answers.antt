@@ -1,6 +1,6 @@
-use Rattle.book_model.specs.Expressions.{minimum}
-use Rattle.book_model.specs.Programs.{answer, bind}
-use Rattle.book_model.specs.Sun.{off_of, back_by, estimate_of}
+use Rattle.book_model.specs.numbers.Expressions.{minimum}
+use Rattle.book_model.specs.programs.Programs.{answer, bind}
+use Rattle.book_model.specs.sky.Sun.{off_of, back_by, estimate_of}
 use Rattle.book_model.proofs.Leads.{leads_on, leaf_within, leads_answer}
 use Rattle.sun_core.proofs.estimates.estimate.Goals as goal
 

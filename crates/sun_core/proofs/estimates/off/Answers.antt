@@ -1,7 +1,7 @@
 use Rattle.std.specs.Prelude.{pos}
-use Rattle.book_model.specs.Expressions.{integer, add, subtract}
-use Rattle.book_model.specs.Programs.{answer, bind}
-use Rattle.book_model.specs.Sun.{reduced_of, off_of}
+use Rattle.book_model.specs.numbers.Expressions.{integer, add, subtract}
+use Rattle.book_model.specs.programs.Programs.{answer, bind}
+use Rattle.book_model.specs.sky.Sun.{reduced_of, off_of}
 use Rattle.book_model.proofs.Leads.{leads_on, leaf_within, leads_answer}
 use Rattle.sun_core.proofs.estimates.off.Goals as goal
 

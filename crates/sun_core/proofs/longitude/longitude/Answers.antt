@@ -1,6 +1,6 @@
-use Rattle.book_model.specs.Bounds.{Reach, limits_of}
-use Rattle.book_model.specs.Expressions.{argument}
-use Rattle.book_model.specs.Relations.{Narrow}
+use Rattle.book_model.specs.numbers.Bounds.{Reach, limits_of}
+use Rattle.book_model.specs.numbers.Expressions.{argument}
+use Rattle.book_model.specs.numbers.Relations.{Narrow}
 use Rattle.book_model.proofs.Implying.{settled}
 use Rattle.sun_core.specs.Steps.{computed_longitude_of}
 use Rattle.sun_core.specs.Widths.{days_of_years, longitude_bound}

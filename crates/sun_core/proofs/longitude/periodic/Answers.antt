@@ -1,4 +1,4 @@
-use Rattle.book_model.specs.Polynomials.{no_wave}
+use Rattle.book_model.specs.numbers.Polynomials.{no_wave}
 use Rattle.sun_core.specs.Steps.{periodic_of, computed_periodic_of}
 use Rattle.sun_core.proofs.Scalings.{unit_holds}
 use Rattle.sun_core.proofs.longitude.periodic.Goals as goal

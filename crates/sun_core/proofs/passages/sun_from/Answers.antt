@@ -1,4 +1,4 @@
-use Rattle.book_model.specs.Sun.{sun_from_of}
+use Rattle.book_model.specs.sky.Sun.{sun_from_of}
 use Rattle.book_model.proofs.Leads.{leads_on, leaf_within}
 use Rattle.sun_core.proofs.passages.sun_from.Goals as goal
 

@@ -1,8 +1,8 @@
 use Rattle.std.proofs.Common.{rules, SFits, w64}
 use Rattle.std.proofs.lemmas.Int.{to_z-of_z}
 use Rattle.book_model.specs.declared.time_tables.TheConstants.{DAY_IN_CENTURIES}
-use Rattle.book_model.specs.Expressions.{constant}
-use Rattle.book_model.specs.Fractions.{fraction_of, ten_millionths, daily_ten_millionths}
+use Rattle.book_model.specs.numbers.Expressions.{constant}
+use Rattle.book_model.specs.numbers.Fractions.{fraction_of, ten_millionths, daily_ten_millionths}
 use Rattle.sun_core.specs.Daily.{in_centuries}
 use Rattle.sun_core.proofs.Scalings.{both_hold_in_sum, daily_ten_millionths_are}
 use Rattle.sun_core.proofs.waves.wave_angle.Goals as goal

@@ -1,7 +1,7 @@
 use Rattle.std.proofs.Common.{rules, arith, ◌≡◌, ◌∙◌, ap, SFits, w64, pos, ◌+ℤ◌, ◌-ℤ◌, ◌*ℤ◌}
 use Rattle.std.specs.Int.{w128}
 use Rattle.std.proofs.lemmas.Int.{to_z-of_z, ints}
-use Rattle.book_model.specs.Calendar.{year_of_day}
+use Rattle.book_model.specs.calendars.Gregorian.{year_of_day}
 use Rattle.time_scales.proofs.FourHundred.{year_repeats, division_is}
 use Rattle.time_scales.proofs.calendar.year_of.Goals as goal
 

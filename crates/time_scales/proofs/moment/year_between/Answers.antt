@@ -1,7 +1,7 @@
 use Rattle.std.proofs.Common.{rules, arith, refl, SFits, w64, ◌≡◌}
 use Rattle.std.specs.Int.{w128}
 use Rattle.std.proofs.lemmas.Int.{to_z-of_z, ints}
-use Rattle.book_model.specs.Leading.{between_cells}
+use Rattle.book_model.specs.programs.Leading.{between_cells}
 use Rattle.time_scales.proofs.Years.{year_same, year_apart, own_ends}
 use Rattle.time_scales.proofs.moment.year_between.Goals as goal
 

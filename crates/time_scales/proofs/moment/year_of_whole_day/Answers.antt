@@ -1,7 +1,7 @@
 use Rattle.std.proofs.Common.{rules, ◌∙◌, ap, SFits, w64}
 use Rattle.std.specs.Int.{w128}
 use Rattle.std.proofs.lemmas.Int.{to_z-of_z}
-use Rattle.book_model.specs.Calendar.{year_of_day}
+use Rattle.book_model.specs.calendars.Gregorian.{year_of_day}
 use Rattle.book_model.proofs.Corrections.{leads_year}
 use Rattle.time_scales.proofs.moment.year_of_whole_day.Goals as goal
 

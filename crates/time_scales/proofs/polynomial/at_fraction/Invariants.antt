@@ -1,8 +1,8 @@
 use Rattle.std.proofs.Common.{◌≤◌}
-use Rattle.book_model.specs.Bounds.{Reach, limits_of}
-use Rattle.book_model.specs.Expressions.{World}
-use Rattle.book_model.specs.Fractions.{fraction_of}
-use Rattle.book_model.specs.Relations.{Within, Narrow}
+use Rattle.book_model.specs.numbers.Bounds.{Reach, limits_of}
+use Rattle.book_model.specs.numbers.Expressions.{World}
+use Rattle.book_model.specs.numbers.Fractions.{fraction_of}
+use Rattle.book_model.specs.numbers.Relations.{Within, Narrow}
 use Rattle.time_scales.specs.Horner.{horner_to}
 use Rattle.time_scales.proofs.polynomial.at_fraction.Given as goal
 

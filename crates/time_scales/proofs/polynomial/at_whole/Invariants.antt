@@ -1,8 +1,8 @@
 use Rattle.std.proofs.Common.{◌≡◌, ◌≤◌}
-use Rattle.book_model.specs.Bounds.{Reach, limits_of}
-use Rattle.book_model.specs.Correction.{int_power, polynomial_to}
-use Rattle.book_model.specs.Expressions.{World}
-use Rattle.book_model.specs.Relations.{Within, Narrow}
+use Rattle.book_model.specs.numbers.Bounds.{Reach, limits_of}
+use Rattle.book_model.specs.sky.Correction.{int_power, polynomial_to}
+use Rattle.book_model.specs.numbers.Expressions.{World}
+use Rattle.book_model.specs.numbers.Relations.{Within, Narrow}
 use Rattle.time_scales.proofs.polynomial.at_whole.Given as goal
 
 abbrev pub invariant-loop-coefficient : goal.invariant-loop-coefficient

@@ -1,4 +1,4 @@
-use Rattle.book_model.specs.Time.{zone_of_beijing}
+use Rattle.book_model.specs.sky.Time.{zone_of_beijing}
 use Rattle.book_model.proofs.Leads.{leads_bind_exact, leads_answer}
 use Rattle.time_scales.proofs.zone.zone_beijing.Goals as goal
 

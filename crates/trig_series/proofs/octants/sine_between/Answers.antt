@@ -1,8 +1,8 @@
 use Rattle.std.proofs.Common.{rules, arith, SFits, pos, ◌+ℤ◌, ◌*ℤ◌}
 use Rattle.std.specs.Int.{w128}
 use Rattle.std.proofs.lemmas.Int.{ints, to_z-of_z}
-use Rattle.book_model.specs.Leading.{at_56}
-use Rattle.book_model.specs.Octants.{sine_in as in_octant}
+use Rattle.book_model.specs.programs.Leading.{at_56}
+use Rattle.book_model.specs.numbers.Octants.{sine_in as in_octant}
 use Rattle.trig_series.proofs.OctantLemmas.{division_is, first_alone, over_holds, first_alone_is, last_alone_is, edge_below, edge_above}
 use Rattle.trig_series.proofs.TurnLemmas.{one_narrow}
 use Rattle.trig_series.proofs.octants.sine_between.Goals as goal

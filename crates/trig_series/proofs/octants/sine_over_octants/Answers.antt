@@ -1,8 +1,8 @@
 use Rattle.std.proofs.Common.{arith, SFits, pos, ◌+ℤ◌, to_z, refl}
 use Rattle.std.specs.Int.{w128}
 use Rattle.std.proofs.lemmas.Int.{ints, to_z-of_z}
-use Rattle.book_model.specs.Leading.{at_56}
-use Rattle.book_model.specs.Octants.{sine_in as in_octant}
+use Rattle.book_model.specs.programs.Leading.{at_56}
+use Rattle.book_model.specs.numbers.Octants.{sine_in as in_octant}
 use Rattle.trig_series.proofs.OctantLemmas.{first_alone, next_holds, over_holds}
 use Rattle.trig_series.proofs.Steady.{hull_at_second, hull_around}
 use Rattle.trig_series.proofs.TurnLemmas.{edges_meet, first_narrow, next_narrow, last_narrow}

@@ -1,8 +1,8 @@
 use Rattle.std.proofs.Common.{ℕ, ◌≤◌, neg_ℤ, ℤ, pos, ◌+ℤ◌, ◌-ℤ◌, ◌*ℤ◌, ◌≤ℤ◌, ◌<ℤ◌}
 use Rattle.std.specs.Int.{int_min}
 use Rattle.exact_math.specs.Interval.{between, ◌⊆◌}
-use Rattle.book_model.specs.Leading.{at_56}
-use Rattle.book_model.specs.Octants.{octant_of_turn, sine_in as in_octant}
+use Rattle.book_model.specs.programs.Leading.{at_56}
+use Rattle.book_model.specs.numbers.Octants.{octant_of_turn, sine_in as in_octant}
 use Rattle.trig_series.specs.Points.{edge_of, IsAt, IsAround}
 use Rattle.trig_series.proofs.octants.sine_over_octants.Given as goal
 

@@ -1,7 +1,7 @@
 use Rattle.std.specs.Prelude.{[]}
 use Rattle.std.proofs.Common.{sym, ◌∙◌}
 use Rattle.book_model.specs.declared.fact.TheConstants.{KINDS}
-use Rattle.book_model.specs.Names.{kind_number, kind_name}
+use Rattle.book_model.specs.sky.Names.{kind_number, kind_name}
 use Rattle.book_model.proofs.Rows.{at_place}
 use Rattle.book_model.proofs.fact.Kind.name.Goals as goal
 

@@ -3,8 +3,8 @@ use Rattle.std.proofs.lemmas.Int.{ints}
 use Rattle.book_model.specs.declared.fact.Fact.{Fact}
 use Rattle.book_model.specs.declared.fact.TheConstants.{FIRST_DAY, LAST_DAY}
 use Rattle.book_model.specs.declared.site.Site.TheVariants.{Year}
-use Rattle.book_model.specs.Facts.{program_of, run_of, IsVoidAt}
-use Rattle.book_model.specs.Programs.{run, outcome}
+use Rattle.book_model.specs.sky.Facts.{program_of, run_of, IsVoidAt}
+use Rattle.book_model.specs.programs.Programs.{run, outcome}
 use Rattle.book_model.proofs.Corrections.{below_no}
 use Rattle.cert_check.proofs.tests.EarlyEvaluator.eval.Goals as goal
 

@@ -1,7 +1,7 @@
-use Rattle.encl_core.specs.Scales.{coarse}
+use Rattle.scaled_ends.specs.Scales.{coarse}
 use Rattle.std.proofs.lemmas.Int.{to_z-of_z}
 use Rattle.encl_core.specs.Shown.{shown_coarse}
-use Rattle.encl_core.proofs.Following.{within_angle, narrow_angle}
+use Rattle.scaled_ends.proofs.Following.{within_angle, narrow_angle}
 use Rattle.encl_core.proofs.coarse.CoarseEnclosure.angle.Goals as goal
 
 pub returns : goal.returns

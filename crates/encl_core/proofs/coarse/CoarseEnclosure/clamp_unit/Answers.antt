@@ -1,6 +1,6 @@
 use Rattle.encl_core.specs.Shown.{shown_coarse}
-use Rattle.encl_core.proofs.RootEnds.{within_clamp}
-use Rattle.encl_core.proofs.RootWidths.{narrow_clamp}
+use Rattle.scaled_ends.proofs.RootEnds.{within_clamp}
+use Rattle.scaled_ends.proofs.RootWidths.{narrow_clamp}
 use Rattle.encl_core.proofs.coarse.CoarseEnclosure.clamp_unit.Goals as goal
 
 pub returns : goal.returns

@@ -1,6 +1,6 @@
-use Rattle.encl_core.specs.Scales.{coarse}
+use Rattle.scaled_ends.specs.Scales.{coarse}
 use Rattle.encl_core.specs.Shown.{shown_coarse}
-use Rattle.encl_core.proofs.Following.{within_constant, narrow_constant}
+use Rattle.scaled_ends.proofs.Following.{within_constant, narrow_constant}
 use Rattle.encl_core.proofs.coarse.CoarseEnclosure.from_frac.Goals as goal
 
 pub returns : goal.returns

@@ -1,5 +1,5 @@
-use Rattle.encl_core.specs.Scales.{coarse}
-use Rattle.encl_core.proofs.Following.{narrow_spanned}
+use Rattle.scaled_ends.specs.Scales.{coarse}
+use Rattle.scaled_ends.proofs.Following.{narrow_spanned}
 use Rattle.encl_core.proofs.coarse.CoarseEnclosure.from_span.Goals as goal
 
 pub returns : goal.returns

@@ -1,5 +1,5 @@
 use Rattle.encl_core.specs.Shown.{shown_coarse}
-use Rattle.encl_core.proofs.Following.{within_hull, narrow_hull}
+use Rattle.scaled_ends.proofs.Following.{within_hull, narrow_hull}
 use Rattle.encl_core.proofs.coarse.CoarseEnclosure.hull.Goals as goal
 
 pub returns : goal.returns

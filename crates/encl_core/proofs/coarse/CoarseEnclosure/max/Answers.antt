@@ -1,5 +1,5 @@
 use Rattle.encl_core.specs.Shown.{shown_coarse}
-use Rattle.encl_core.proofs.Following.{within_maximum, narrow_maximum}
+use Rattle.scaled_ends.proofs.Following.{within_maximum, narrow_maximum}
 use Rattle.encl_core.proofs.coarse.CoarseEnclosure.max.Goals as goal
 
 pub returns : goal.returns

@@ -1,5 +1,5 @@
 use Rattle.encl_core.specs.Shown.{shown_coarse}
-use Rattle.encl_core.proofs.Following.{within_minimum, narrow_minimum}
+use Rattle.scaled_ends.proofs.Following.{within_minimum, narrow_minimum}
 use Rattle.encl_core.proofs.coarse.CoarseEnclosure.min.Goals as goal
 
 pub returns : goal.returns

@@ -1,6 +1,6 @@
-use Rattle.encl_core.specs.Scales.{coarse}
+use Rattle.scaled_ends.specs.Scales.{coarse}
 use Rattle.encl_core.specs.Shown.{shown_coarse}
-use Rattle.encl_core.proofs.Following.{within_negate, narrow_negate}
+use Rattle.scaled_ends.proofs.Following.{within_negate, narrow_negate}
 use Rattle.encl_core.proofs.coarse.CoarseEnclosure.neg.Goals as goal
 
 pub returns : goal.returns

@@ -1,7 +1,7 @@
-use Rattle.encl_core.specs.Scales.{coarse}
+use Rattle.scaled_ends.specs.Scales.{coarse}
 use Rattle.encl_core.specs.Shown.{shown_coarse}
-use Rattle.encl_core.proofs.RootEnds.{within_root}
-use Rattle.encl_core.proofs.RootWidths.{narrow_root_at}
+use Rattle.scaled_ends.proofs.RootEnds.{within_root}
+use Rattle.scaled_ends.proofs.RootWidths.{narrow_root_at}
 use Rattle.encl_core.proofs.coarse.CoarseEnclosure.root.Goals as goal
 
 pub returns : goal.returns

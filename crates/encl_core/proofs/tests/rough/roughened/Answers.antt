@@ -1,7 +1,7 @@
 use Rattle.std.proofs.Common.{rules, arith, SFits, w64, pos, ◌*ℤ◌}
 use Rattle.std.specs.Int.{w128}
 use Rattle.std.proofs.lemmas.Int.{ints, to_z-of_z}
-use Rattle.encl_core.proofs.Unpromised.{moved_outwards}
+use Rattle.scaled_ends.proofs.Unpromised.{moved_outwards}
 use Rattle.encl_core.proofs.tests.rough.roughened.Goals as goal
 
 pub returns : goal.returns

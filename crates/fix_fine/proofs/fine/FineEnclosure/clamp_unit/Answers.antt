@@ -1,6 +1,6 @@
 use Rattle.fix_fine.specs.Shown.{shown_fine}
-use Rattle.encl_core.proofs.RootEnds.{within_clamp}
-use Rattle.encl_core.proofs.RootWidths.{narrow_clamp}
+use Rattle.scaled_ends.proofs.RootEnds.{within_clamp}
+use Rattle.scaled_ends.proofs.RootWidths.{narrow_clamp}
 use Rattle.fix_fine.proofs.fine.FineEnclosure.clamp_unit.Goals as goal
 
 pub returns : goal.returns

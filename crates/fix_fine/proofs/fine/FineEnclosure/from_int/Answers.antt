@@ -1,8 +1,8 @@
-use Rattle.encl_core.specs.Scales.{fine}
+use Rattle.scaled_ends.specs.Scales.{fine}
 use Rattle.std.proofs.Common.{SFits, w64}
 use Rattle.std.proofs.lemmas.Int.{to_z-of_z}
 use Rattle.fix_fine.specs.Shown.{shown_fine}
-use Rattle.encl_core.proofs.Following.{within_integer, narrow_integer}
+use Rattle.scaled_ends.proofs.Following.{within_integer, narrow_integer}
 use Rattle.fix_fine.proofs.fine.FineEnclosure.from_int.Goals as goal
 
 pub returns : goal.returns

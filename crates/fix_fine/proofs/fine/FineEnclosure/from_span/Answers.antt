@@ -1,10 +1,10 @@
-use Rattle.encl_core.specs.Scales.{fine}
+use Rattle.scaled_ends.specs.Scales.{fine}
 use Rattle.std.proofs.Common.{arith, rules, SFits}
 use Rattle.std.specs.Int.{w128}
 use Rattle.std.proofs.lemmas.Int.{ints, to_z-of_z}
-use Rattle.encl_core.specs.Rounding.{fitting}
-use Rattle.encl_core.proofs.Following.{narrow_spanned}
-use Rattle.encl_core.proofs.Widths.{span_encloses, spanned_narrow}
+use Rattle.scaled_ends.specs.Rounding.{fitting}
+use Rattle.scaled_ends.proofs.Following.{narrow_spanned}
+use Rattle.scaled_ends.proofs.Widths.{span_encloses, spanned_narrow}
 use Rattle.fix_fine.proofs.fine.FineEnclosure.from_span.Goals as goal
 
 pub returns : goal.returns

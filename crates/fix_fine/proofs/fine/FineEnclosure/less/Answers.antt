@@ -1,5 +1,5 @@
 use Rattle.std.proofs.Common.{◌∙◌, sym}
-use Rattle.encl_core.proofs.Testing.{open_comparison}
+use Rattle.scaled_ends.proofs.Testing.{open_comparison}
 use Rattle.fix_fine.proofs.fine.FineEnclosure.less.Goals as goal
 
 pub returns-in-None-clause-undecided : goal.returns-in-None-clause-undecided

@@ -1,5 +1,5 @@
 use Rattle.fix_fine.specs.Shown.{shown_fine}
-use Rattle.encl_core.proofs.Following.{within_minimum, narrow_minimum}
+use Rattle.scaled_ends.proofs.Following.{within_minimum, narrow_minimum}
 use Rattle.fix_fine.proofs.fine.FineEnclosure.min.Goals as goal
 
 pub returns : goal.returns

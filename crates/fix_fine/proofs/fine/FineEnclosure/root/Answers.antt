@@ -1,7 +1,7 @@
-use Rattle.encl_core.specs.Scales.{fine}
+use Rattle.scaled_ends.specs.Scales.{fine}
 use Rattle.fix_fine.specs.Shown.{shown_fine}
-use Rattle.encl_core.proofs.RootEnds.{within_root}
-use Rattle.encl_core.proofs.RootWidths.{narrow_root_at}
+use Rattle.scaled_ends.proofs.RootEnds.{within_root}
+use Rattle.scaled_ends.proofs.RootWidths.{narrow_root_at}
 use Rattle.fix_fine.proofs.fine.FineEnclosure.root.Goals as goal
 
 pub returns : goal.returns

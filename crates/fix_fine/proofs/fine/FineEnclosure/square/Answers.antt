@@ -1,6 +1,6 @@
-use Rattle.encl_core.specs.Scales.{fine}
+use Rattle.scaled_ends.specs.Scales.{fine}
 use Rattle.fix_fine.specs.Shown.{shown_fine}
-use Rattle.encl_core.proofs.Following.{within_power, narrow_square}
+use Rattle.scaled_ends.proofs.Following.{within_power, narrow_square}
 use Rattle.fix_fine.proofs.fine.FineEnclosure.square.Goals as goal
 
 pub returns : goal.returns

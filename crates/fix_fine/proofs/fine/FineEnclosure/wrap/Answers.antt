@@ -1,10 +1,10 @@
-use Rattle.encl_core.specs.Scales.{fine}
+use Rattle.scaled_ends.specs.Scales.{fine}
 use Rattle.std.proofs.Common.{rules, SFits, sym, ◌∙◌}
 use Rattle.std.specs.Int.{w128}
 use Rattle.std.proofs.lemmas.Int.{to_z-of_z}
 use Rattle.fix_fine.specs.Shown.{shown_fine}
-use Rattle.encl_core.proofs.Following.{within_remainder, narrow_remainder}
-use Rattle.encl_core.proofs.Periods.{known_period}
+use Rattle.scaled_ends.proofs.Following.{within_remainder, narrow_remainder}
+use Rattle.scaled_ends.proofs.Periods.{known_period}
 use Rattle.fix_fine.proofs.fine.FineEnclosure.wrap.Goals as goal
 
 pub returns-in-Some-clause-holds : goal.returns-in-Some-clause-holds

@@ -1,5 +1,5 @@
 use Rattle.std.proofs.Common.{rules, refl, ◌≡◌, to_z, of_z, w64}
-use Rattle.book_model.specs.Inquiries.{fact_eq}
+use Rattle.book_model.specs.calendars.Inquiries.{fact_eq}
 use Rattle.oracle_core.proofs.Inquiring.{asked_value}
 use Rattle.oracle_core.proofs.Keeping.{kept_item, place_within, already_there}
 use Rattle.oracle_core.proofs.Noting.{not_there}

@@ -1,5 +1,5 @@
-use Rattle.encl_core.proofs.Following.{within_add}
-use Rattle.encl_core.proofs.Unpromised.{narrow_add}
+use Rattle.scaled_ends.proofs.Following.{within_add}
+use Rattle.scaled_ends.proofs.Unpromised.{narrow_add}
 use Rattle.encl_core.proofs.tests.rough.RoughEnclosure.add.Goals as goal
 
 pub returns : goal.returns

@@ -1,5 +1,5 @@
-use Rattle.encl_core.proofs.RootEnds.{within_clamp}
-use Rattle.encl_core.proofs.RootWidths.{narrow_clamp}
+use Rattle.scaled_ends.proofs.RootEnds.{within_clamp}
+use Rattle.scaled_ends.proofs.RootWidths.{narrow_clamp}
 use Rattle.encl_core.proofs.tests.rough.RoughEnclosure.clamp_unit.Goals as goal
 
 pub returns : goal.returns

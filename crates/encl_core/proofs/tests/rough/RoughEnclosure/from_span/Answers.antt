@@ -1,5 +1,5 @@
 use Rattle.exact_math.proofs.Intervals.{within_trans}
-use Rattle.encl_core.proofs.Unpromised.{narrow_ends}
+use Rattle.scaled_ends.proofs.Unpromised.{narrow_ends}
 use Rattle.encl_core.proofs.tests.rough.RoughEnclosure.from_span.Goals as goal
 
 pub returns : goal.returns

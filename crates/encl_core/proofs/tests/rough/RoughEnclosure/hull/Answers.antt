@@ -1,4 +1,4 @@
-use Rattle.encl_core.proofs.Following.{within_hull, narrow_hull}
+use Rattle.scaled_ends.proofs.Following.{within_hull, narrow_hull}
 use Rattle.encl_core.proofs.tests.rough.RoughEnclosure.hull.Goals as goal
 
 pub returns : goal.returns

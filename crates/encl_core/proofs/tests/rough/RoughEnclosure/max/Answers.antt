@@ -1,4 +1,4 @@
-use Rattle.encl_core.proofs.Following.{within_maximum, narrow_maximum}
+use Rattle.scaled_ends.proofs.Following.{within_maximum, narrow_maximum}
 use Rattle.encl_core.proofs.tests.rough.RoughEnclosure.max.Goals as goal
 
 pub returns : goal.returns

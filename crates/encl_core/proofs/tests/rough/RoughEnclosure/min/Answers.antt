@@ -1,4 +1,4 @@
-use Rattle.encl_core.proofs.Following.{within_minimum, narrow_minimum}
+use Rattle.scaled_ends.proofs.Following.{within_minimum, narrow_minimum}
 use Rattle.encl_core.proofs.tests.rough.RoughEnclosure.min.Goals as goal
 
 pub returns : goal.returns

@@ -1,5 +1,5 @@
-use Rattle.encl_core.proofs.Following.{within_negate}
-use Rattle.encl_core.proofs.Unpromised.{narrow_negate}
+use Rattle.scaled_ends.proofs.Following.{within_negate}
+use Rattle.scaled_ends.proofs.Unpromised.{narrow_negate}
 use Rattle.encl_core.proofs.tests.rough.RoughEnclosure.neg.Goals as goal
 
 pub returns : goal.returns

@@ -1,6 +1,6 @@
 use Rattle.exact_math.proofs.Intervals.{within_trans}
-use Rattle.encl_core.proofs.RootEnds.{within_root}
-use Rattle.encl_core.proofs.Unpromised.{narrow_root}
+use Rattle.scaled_ends.proofs.RootEnds.{within_root}
+use Rattle.scaled_ends.proofs.Unpromised.{narrow_root}
 use Rattle.encl_core.proofs.tests.rough.RoughEnclosure.root.Goals as goal
 
 pub returns : goal.returns

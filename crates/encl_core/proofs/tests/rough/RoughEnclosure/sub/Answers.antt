@@ -1,5 +1,5 @@
-use Rattle.encl_core.proofs.Following.{within_subtract}
-use Rattle.encl_core.proofs.Unpromised.{narrow_subtract}
+use Rattle.scaled_ends.proofs.Following.{within_subtract}
+use Rattle.scaled_ends.proofs.Unpromised.{narrow_subtract}
 use Rattle.encl_core.proofs.tests.rough.RoughEnclosure.sub.Goals as goal
 
 pub returns : goal.returns

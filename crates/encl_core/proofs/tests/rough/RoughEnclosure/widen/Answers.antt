@@ -1,6 +1,6 @@
 use Rattle.exact_math.proofs.Intervals.{within_trans}
-use Rattle.encl_core.proofs.Following.{within_widen}
-use Rattle.encl_core.proofs.Unpromised.{narrow_widen}
+use Rattle.scaled_ends.proofs.Following.{within_widen}
+use Rattle.scaled_ends.proofs.Unpromised.{narrow_widen}
 use Rattle.encl_core.proofs.tests.rough.RoughEnclosure.widen.Goals as goal
 
 pub returns : goal.returns

@@ -1,0 +1,11 @@
+-- The rules of the calendars, as inquiries.
+pub mod Gregorian
+pub mod Inquiries
+pub mod Spans
+pub mod Persian
+pub mod Bahai
+pub mod Chinese
+pub mod Islamic
+pub mod HinduSolar
+pub mod HinduLunar
+pub mod Dates

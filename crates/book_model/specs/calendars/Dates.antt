@@ -1,0 +1,121 @@
+-- The calendars, by their rows: which dates they may have, the number of a date's year, and which dates are answered as
+-- far as that can be told without any fact; the day that a date names, and the date of a day.
+use Rattle.std.specs.Prelude.{ℕ, zero, suc, ◌&&◌, ◌==◌, nat_le, Bool, true, false, [], ◌∷◌, ℤ, pos, ◌+ℤ◌, ◌*ℤ◌, unsigned_abs, slice_index_or}
+use Rattle.std.specs.Ordering.{int_eq}
+use denote.Enum.Declared.{tag_of}
+use lib.Pointwise.{pointwise}
+use Rattle.book_model.specs.contracts.calendar.Calendar.{the_type}
+use Rattle.book_model.specs.declared.calendar.Calendar.{Calendar}
+use Rattle.book_model.specs.declared.calendar.Calendar.TheVariants.{Gregorian, Fixed, Persian, Bahai, Chinese, Islamic, HinduSolar, HinduLunar}
+use Rattle.book_model.specs.declared.calendar.CalendarRow.{CalendarRow}
+use Rattle.book_model.specs.declared.calendar.TheConstants.{CALENDARS, FIRST_ANSWERED_DAY, LAST_ANSWERED_DAY}
+use Rattle.book_model.specs.declared.request.Fields.{Fields}
+use Rattle.book_model.specs.calendars.Bahai.{bahai_on, bahai_day}
+use Rattle.book_model.specs.calendars.Gregorian.{is_date, fixed_of, year_of_day, month_of_day, day_of_month}
+use Rattle.book_model.specs.calendars.Chinese.{chinese_on, chinese_day}
+use Rattle.book_model.specs.sky.Correction.{is_between}
+use Rattle.book_model.specs.calendars.Inquiries.{Inquiry, done, to_32_bits}
+use Rattle.book_model.specs.calendars.HinduLunar.{hindu_lunar_on, hindu_lunar_day}
+use Rattle.book_model.specs.calendars.HinduSolar.{hindu_solar_on, hindu_solar_day}
+use Rattle.book_model.specs.calendars.Islamic.{islamic_on, islamic_day}
+use Rattle.book_model.specs.calendars.Persian.{persian_on, persian_day}
+
+abbrev pub no_row : CalendarRow
+no_row = record { calendar = Gregorian; count = 0; limits = []; weights = []; offset = pos 0; years = (pos 0, pos 0); is_confirmed = false; is_padded = false }
+
+-- the row of a calendar
+abbrev pub row_of : Calendar → CalendarRow
+row_of c = slice_index_or CALENDARS (tag_of the_type c) no_row
+
+-- a field of a date, from 0
+abbrev pub field : Fields → ℕ → ℕ
+field f k = unsigned_abs (slice_index_or f.values k (pos 0))
+
+-- a field lies within its limits
+abbrev pub is_within : CalendarRow → Fields → ℕ → Bool
+is_within row f k = nat_le (slice_index_or row.limits k (0, 0)).0 (field f k) && nat_le (field f k) (slice_index_or row.limits k (0, 0)).1
+
+-- each field lies within its limits
+abbrev pub are_within : CalendarRow → Fields → Bool
+are_within row f = is_within row f 0 && is_within row f 1 && is_within row f 2 && is_within row f 3 && is_within row f 4
+
+-- months of the Gregorian calendar differ in length from year to year as well, which it tells without any fact
+abbrev pub is_in_month : Calendar → Fields → Bool
+is_in_month Gregorian f = is_date (field f 0) (field f 1) (field f 2)
+is_in_month c f = true
+
+-- a calendar may have a date with these fields
+unfoldable pub may_have : Calendar → Fields → Bool
+may_have c f = (f.count == (row_of c).count) && are_within (row_of c) f && is_in_month c f
+
+-- what a field counts in the number of the year
+abbrev pub weighed : CalendarRow → Fields → ℕ → ℤ
+weighed row f k = slice_index_or row.weights k (pos 0) *ℤ pos (field f k)
+
+-- the offset of the number of the year, and what its first fields count
+abbrev pub counted : CalendarRow → Fields → ℕ → ℤ
+counted row f zero = row.offset
+counted row f (suc k) = counted row f k +ℤ weighed row f k
+
+-- the number of the year of a date
+unfoldable pub year_number : CalendarRow → Fields → ℤ
+year_number row f = counted row f 5
+
+-- the number of the year is one that is answered
+abbrev pub has_year : CalendarRow → Fields → Bool
+has_year row f = is_between row.years.0 row.years.1 (year_number row f)
+
+-- the days that a line may name: 1 January 1802 to 31 December 2048
+abbrev pub is_in_range : ℤ → Bool
+is_in_range day = is_between FIRST_ANSWERED_DAY LAST_ANSWERED_DAY day
+
+-- the day of a Gregorian date, and that of a day number
+abbrev pub gregorian_day : Fields → ℤ
+gregorian_day f = fixed_of (field f 0) (field f 1) (field f 2)
+
+abbrev pub fixed_day : Fields → ℤ
+fixed_day f = pos (field f 0)
+
+-- a day that is known without any fact is one that a line may name
+abbrev pub has_day_in_range : Calendar → Fields → Bool
+has_day_in_range Gregorian f = is_in_range (gregorian_day f)
+has_day_in_range Fixed f = is_in_range (fixed_day f)
+has_day_in_range c f = true
+
+-- the dates that are answered, as far as that can be told without any fact
+unfoldable pub is_answered : Calendar → Fields → Bool
+is_answered c f = has_year (row_of c) f && has_day_in_range c f
+
+-- one number as the only field of a date or of a result
+abbrev pub one_field : ℤ → Fields
+one_field z = record { count = 1; values = to_32_bits z ∷ pos 0 ∷ pos 0 ∷ pos 0 ∷ pos 0 ∷ [] }
+
+-- the Gregorian date of a day: year, month and day
+unfoldable pub gregorian_fields_on : ℤ → Fields
+gregorian_fields_on day = record { count = 3; values = to_32_bits (year_of_day day) ∷ pos (month_of_day day) ∷ pos (day_of_month day) ∷ pos 0 ∷ pos 0 ∷ [] }
+
+-- whether two dates have the same fields
+abbrev pub are_same_fields : Fields → Fields → Bool
+are_same_fields f g = (f.count == g.count) && pointwise int_eq f.values g.values
+
+-- the day (R.D.) that a date names
+abbrev pub day_named : Calendar → Fields → Inquiry ℤ
+day_named Gregorian f = done (gregorian_day f)
+day_named Fixed f = done (fixed_day f)
+day_named Persian f = persian_day (pos (field f 0)) (pos (field f 1)) (pos (field f 2))
+day_named Bahai f = bahai_day (pos (field f 0)) (pos (field f 1)) (pos (field f 2)) (pos (field f 3)) (pos (field f 4))
+day_named Chinese f = chinese_day (pos (field f 0)) (pos (field f 1)) (pos (field f 2)) (pos (field f 3)) (pos (field f 4))
+day_named Islamic f = islamic_day (pos (field f 0)) (pos (field f 1)) (pos (field f 2))
+day_named HinduSolar f = hindu_solar_day (pos (field f 0)) (pos (field f 1)) (pos (field f 2))
+day_named HinduLunar f = hindu_lunar_day (pos (field f 0)) (pos (field f 1)) (pos (field f 2)) (pos (field f 3)) (pos (field f 4))
+
+-- the date of a day (R.D.)
+abbrev pub date_on : Calendar → ℤ → Inquiry Fields
+date_on Gregorian day = done (gregorian_fields_on day)
+date_on Fixed day = done (one_field day)
+date_on Persian day = persian_on day
+date_on Bahai day = bahai_on day
+date_on Chinese day = chinese_on day
+date_on Islamic day = islamic_on day
+date_on HinduSolar day = hindu_solar_on day
+date_on HinduLunar day = hindu_lunar_on day

@@ -1,0 +1,83 @@
+-- What a line asks, and the first rule that it breaks.
+use Rattle.std.specs.Prelude.{ℕ, ◌&&◌, nat_le, if◌then◌else◌, Bool, List, [], ◌∷◌, length, slice_index_or, pos, Some, None, Option, Result, Ok, Err}
+use Rattle.std.specs.List.{list_all}
+use Rattle.book_model.specs.declared.calendar.Calendar.{Calendar}
+use Rattle.book_model.specs.declared.words.FromWord.{FromWord}
+use Rattle.book_model.specs.declared.words.ToWord.{ToWord}
+use Rattle.book_model.specs.declared.request.Fields.{Fields}
+use Rattle.book_model.specs.declared.request.Request.{Request}
+use Rattle.book_model.specs.declared.request.Rule.{Rule}
+use Rattle.book_model.specs.declared.request.Rule.TheVariants as rules
+use Rattle.book_model.specs.declared.request.Rule.TheVariants.{Syntax, Field, Range}
+use Rattle.book_model.specs.calendars.Dates.{may_have, is_answered}
+use Rattle.book_model.specs.lines.Lines.{is_plain, words_of, parts_of, number_of}
+use Rattle.book_model.specs.lines.Words.{from_word_of, to_word_of, calendar_of}
+
+-- the number of a rule
+abbrev pub rule_number : Rule → ℕ
+rule_number Syntax = 1
+rule_number rules.Calendar = 2
+rule_number Field = 3
+rule_number Range = 4
+
+-- a number, and then those that follow, where there are all
+abbrev pub onto_numbers : Option ℕ → Option (List ℕ) → Option (List ℕ)
+onto_numbers None ns = None
+onto_numbers (Some n) None = None
+onto_numbers (Some n) (Some ns) = Some (n ∷ ns)
+
+-- the numbers that the parts of a date are
+abbrev pub numbers_of : List (List ℕ) → Option (List ℕ)
+numbers_of [] = Some []
+numbers_of (part ∷ parts) = onto_numbers (number_of part) (numbers_of parts)
+
+-- numbers as the fields of a date, up to five
+abbrev pub fields_with : List ℕ → Fields
+fields_with ns = record { count = length ns; values = pos (slice_index_or ns 0 0) ∷ pos (slice_index_or ns 1 0) ∷ pos (slice_index_or ns 2 0) ∷ pos (slice_index_or ns 3 0) ∷ pos (slice_index_or ns 4 0) ∷ [] }
+
+-- the fields, where the calendar may have a date with them
+abbrev pub checked : Calendar → Fields → Option Fields
+checked c f = if may_have c f then Some f else None
+
+abbrev pub checked_numbers : Calendar → Option (List ℕ) → Option Fields
+checked_numbers c None = None
+checked_numbers c (Some ns) = checked c (fields_with ns)
+
+-- the fields of a date of a calendar: the numbers between its dashes
+unfoldable pub fields_of : Calendar → List ℕ → Option Fields
+fields_of c date = checked_numbers c (numbers_of (parts_of date))
+
+-- the calendar of a request may have its date
+abbrev pub is_possible : Request → Bool
+is_possible r = may_have (calendar_of r.from) r.date
+
+-- the date of a request is one that is answered, as far as that can be told without any fact
+abbrev pub is_in_reach : Request → Bool
+is_in_reach r = is_answered (calendar_of r.from) r.date
+
+-- the date of a calendar, where it is one that is answered
+abbrev pub ranged : Calendar → Option Fields → Result Fields Rule
+ranged c None = Err Field
+ranged c (Some f) = if is_answered c f then Ok f else Err Range
+
+-- the request for a date
+abbrev pub with_date : FromWord → ToWord → Result Fields Rule → Result Request Rule
+with_date from to (Err rule) = Err rule
+with_date from to (Ok fields) = Ok (record { from = from; date = fields; to = to })
+
+abbrev pub with_words : Option FromWord → List ℕ → Option ToWord → Result Request Rule
+with_words None date to = Err rules.Calendar
+with_words (Some from) date None = Err rules.Calendar
+with_words (Some from) date (Some to) = with_date from to (ranged (calendar_of from) (fields_of (calendar_of from) date))
+
+-- the request of three words
+abbrev pub asked_by : List (List ℕ) → Result Request Rule
+asked_by [] = Err Syntax
+asked_by (from ∷ []) = Err Syntax
+asked_by (from ∷ date ∷ []) = Err Syntax
+asked_by (from ∷ date ∷ to ∷ []) = with_words (from_word_of from) date (to_word_of to)
+asked_by (from ∷ date ∷ to ∷ more ∷ words) = Err Syntax
+
+-- what a line asks, or the first rule that it breaks
+unfoldable pub request_of : List ℕ → Result Request Rule
+request_of line = if nat_le (length line) 200 && list_all is_plain line then asked_by (words_of line) else Err Syntax

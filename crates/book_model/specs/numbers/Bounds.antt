@@ -1,0 +1,295 @@
+-- Bounds of enclosures, computed along expressions: a range of the ends, and a greatest width that is linear in
+-- the width of a moment. An operation that isn't analysed yet promises nothing.
+use Rattle.std.specs.Prelude.{ℕ, zero, suc, ◌+◌, ◌-◌, ◌*◌, ◌/◌, ◌^◌, max, Bool, true, false, cond, ℤ, pos, negsuc, neg_ℤ, unsigned_abs, ◌+ℤ◌, ◌-ℤ◌, ◌*ℤ◌, nat_le, nat_lt, ◌&&◌}
+use Rattle.std.specs.Int.{int_min, int_max}
+use lib.Signed.{le_z}
+use Rattle.exact_math.specs.Fraction.{Fraction, ◌≤F◌, plus, floor_quotient}
+use Rattle.exact_math.specs.Interval.{Interval, everything, between}
+use Rattle.book_model.specs.numbers.Roots.{root_by_digits}
+use Rattle.book_model.specs.numbers.Expressions.{Expression, argument, integer, constant, add, subtract, multiply, divide, negate, scale, power, minimum, maximum, hull, clamp, widen, pi, sine, cosine, tangent, root, arctangent, arcsine, arccosine, arctangent_of_two, remainder}
+
+-- The ends lie from low to high, in 2^-32. The width is at most slope * w + slack, where the width w of a moment
+-- and slack count 2^-64, and slope counts 2^-40.
+pub data Bound : Type 0 where
+  unbounded : Bound
+  bounded : (low high : ℤ) → (slope slack : ℕ) → Bound
+
+-- what the operations of a scale bear: its unit, in 2^-64; the size below which numbers must stay, in 2^-32, and that of products,
+-- of divisors and of what has a root; the size below which the numerators of constants must stay, and that of the products of
+-- numbers, in 2^-32, with the numerators of factors
+pub record Limits : Type 0 where
+  pub unit : ℕ
+  pub sizes : ℕ
+  pub products : ℕ
+  pub constants : ℕ
+  pub factors : ℕ
+
+-- the greatest size of a number from low to high
+abbrev pub range_size : ℤ → ℤ → ℕ
+range_size low high = max (unsigned_abs low) (unsigned_abs high)
+
+-- n / (d + 1), rounded up
+abbrev pub ceil_div : ℕ → ℕ → ℕ
+ceil_div n d = (n + d) / suc d
+
+-- the bound, where a test holds
+abbrev pub limited : Bool → Bound → Bound
+limited true b = b
+limited false b = unbounded
+
+-- a whole number
+unfoldable pub integer_bound : Limits → ℤ → Bound
+integer_bound l n = limited (nat_lt (unsigned_abs n * 2 ^ 32) l.sizes) (bounded (n *ℤ pos (2 ^ 32)) (n *ℤ pos (2 ^ 32)) 0 0)
+
+-- the least and the greatest number in 2^-32 around a fraction
+abbrev pub floor_at_32 : Fraction → ℤ
+floor_at_32 f = floor_quotient (f.num *ℤ pos (2 ^ 32)) f.below
+
+abbrev pub ceil_at_32 : Fraction → ℤ
+ceil_at_32 f = neg_ℤ (floor_quotient (neg_ℤ (f.num *ℤ pos (2 ^ 32))) f.below)
+
+-- a fraction: a unit between its two neighbours
+unfoldable pub constant_bound : Limits → Fraction → Bound
+constant_bound l f =
+    limited (nat_lt (unsigned_abs f.num) l.constants && nat_lt (range_size (floor_at_32 f) (ceil_at_32 f)) l.sizes)
+    (bounded (floor_at_32 f) (ceil_at_32 f) 0 l.unit)
+
+-- a sum: the widths add up
+unfoldable pub sum_bound : Limits → Bound → Bound → Bound
+sum_bound l unbounded y = unbounded
+sum_bound l (bounded a b s k) unbounded = unbounded
+sum_bound l (bounded a b s k) (bounded c d t m) =
+    limited (nat_lt (range_size (a +ℤ c) (b +ℤ d)) l.sizes) (bounded (a +ℤ c) (b +ℤ d) (s + t) (k + m))
+
+-- from -z to z
+abbrev pub around : ℕ → ℕ → ℕ → Bound
+around z s k = bounded (neg_ℤ (pos z)) (pos z) s k
+
+-- n / (d + 1), rounded up, for whole numbers
+abbrev pub ceil_quotient : ℤ → ℕ → ℤ
+ceil_quotient n d = neg_ℤ (floor_quotient (neg_ℤ n) d)
+
+-- times n / (d + 1), for a number from a to b of size A: its two ends, and the width times the size of n, and two units
+abbrev pub scaled_within : Limits → (n : ℤ) (d : ℕ) (a b : ℤ) (A N s k : ℕ) → Bound
+scaled_within l n d a b A N s k =
+    limited
+    (nat_lt (A * N) l.factors
+    && nat_lt (range_size (int_min (floor_quotient (a *ℤ n) d) (floor_quotient (b *ℤ n) d)) (int_max (ceil_quotient (a *ℤ n) d) (ceil_quotient (b *ℤ n) d))) l.sizes)
+    (bounded (int_min (floor_quotient (a *ℤ n) d) (floor_quotient (b *ℤ n) d)) (int_max (ceil_quotient (a *ℤ n) d) (ceil_quotient (b *ℤ n) d)) (ceil_div (s * N) d) (ceil_div (k * N) d + 2 * l.unit))
+
+unfoldable pub scaled_bound : Limits → Fraction → Bound → Bound
+scaled_bound l f unbounded = unbounded
+scaled_bound l f (bounded a b s k) = scaled_within l f.num f.below a b (range_size a b) (unsigned_abs f.num) s k
+
+-- a difference: the widths add up too
+unfoldable pub difference_bound : Limits → Bound → Bound → Bound
+difference_bound l unbounded y = unbounded
+difference_bound l (bounded a b s k) unbounded = unbounded
+difference_bound l (bounded a b s k) (bounded c d t m) =
+    limited (nat_lt (range_size (a -ℤ d) (b -ℤ c)) l.sizes) (bounded (a -ℤ d) (b -ℤ c) (s + t) (k + m))
+
+-- an opposite
+unfoldable pub negated_bound : Limits → Bound → Bound
+negated_bound l unbounded = unbounded
+negated_bound l (bounded a b s k) = limited (nat_lt (range_size (neg_ℤ b) (neg_ℤ a)) l.sizes) (bounded (neg_ℤ b) (neg_ℤ a) s k)
+
+-- the product of numbers of sizes A and B: each width times the other's size, and two units
+abbrev pub product_around : Limits → (A B s k t m : ℕ) → Bound
+product_around l A B s k t m =
+    limited (nat_lt (ceil_div (A * B) (2 ^ 32 - 1)) l.sizes && nat_lt (ceil_div (A * B) (2 ^ 32 - 1)) l.products)
+    (around (ceil_div (A * B) (2 ^ 32 - 1)) (ceil_div (A * t + B * s) (2 ^ 32 - 1)) (ceil_div (A * m + B * k) (2 ^ 32 - 1) + 2 * l.unit))
+
+unfoldable pub product_bound : Limits → Bound → Bound → Bound
+product_bound l unbounded y = unbounded
+product_bound l (bounded a b s k) unbounded = unbounded
+product_bound l (bounded a b s k) (bounded c d t m) = product_around l (range_size a b) (range_size c d) s k t m
+
+-- a power from the second on: the product of the power before it and the number
+unfoldable pub power_bound : Limits → Bound → ℕ → Bound
+power_bound l x zero = unbounded
+power_bound l x (suc zero) = unbounded
+power_bound l x (suc (suc zero)) = product_bound l x x
+power_bound l x (suc (suc (suc k))) = product_bound l (power_bound l x (suc (suc k))) x
+
+-- the quotient of a number of size A by one of size B that is at least g + 1
+abbrev pub quotient_around : Limits → (A B g s k t m : ℕ) → Bound
+quotient_around l A B g s k t m =
+    limited (nat_lt (ceil_div (A * 2 ^ 32) g) l.sizes && nat_lt B l.products)
+    (around (ceil_div (A * 2 ^ 32) g) (ceil_div ((s * suc g + A * t) * 2 ^ 32) (suc g * suc g - 1)) (ceil_div ((k * suc g + A * m) * 2 ^ 32) (suc g * suc g - 1) + 2 * l.unit))
+
+unfoldable pub quotient_bound : Limits → Bound → Bound → Bound
+quotient_bound l unbounded y = unbounded
+quotient_bound l (bounded a b s k) unbounded = unbounded
+quotient_bound l (bounded a b s k) (bounded (pos zero) d t m) = unbounded
+quotient_bound l (bounded a b s k) (bounded (negsuc c) d t m) = unbounded
+quotient_bound l (bounded a b s k) (bounded (pos (suc c)) d t m) = quotient_around l (range_size a b) (range_size (pos (suc c)) d) c s k t m
+
+-- the lesser of two: no wider than the wider of them
+unfoldable pub minimum_bound : Bound → Bound → Bound
+minimum_bound unbounded y = unbounded
+minimum_bound (bounded a b s k) unbounded = unbounded
+minimum_bound (bounded a b s k) (bounded c d t m) = bounded (int_min a c) (int_min b d) (max s t) (max k m)
+
+-- what lies between two: no wider than their range
+unfoldable pub hull_bound : Bound → Bound → Bound
+hull_bound unbounded y = unbounded
+hull_bound (bounded a b s k) unbounded = unbounded
+hull_bound (bounded a b s k) (bounded c d t m) = bounded (int_min a c) (int_max b d) 0 (unsigned_abs (int_max b d -ℤ int_min a c) * 2 ^ 32)
+
+-- the size of a fraction in 2^-32, rounded up, and in 2^-64
+abbrev pub margin_32 : Fraction → ℕ
+margin_32 f = ceil_div (unsigned_abs f.num * 2 ^ 32) f.below
+
+abbrev pub margin_64 : Fraction → ℕ
+margin_64 f = ceil_div (unsigned_abs f.num * 2 ^ 64) f.below
+
+-- moved outwards by the size of a fraction: twice that wider, and two units
+unfoldable pub widen_bound : Limits → Fraction → Bound → Bound
+widen_bound l f unbounded = unbounded
+widen_bound l f (bounded a b s k) =
+    limited (nat_lt (unsigned_abs f.num) l.constants && nat_lt (range_size (a -ℤ pos (margin_32 f)) (b +ℤ pos (margin_32 f))) l.sizes)
+    (bounded (a -ℤ pos (margin_32 f)) (b +ℤ pos (margin_32 f)) s (k + (2 * margin_64 f + 2 * l.unit)))
+
+-- the greater of two
+unfoldable pub maximum_bound : Bound → Bound → Bound
+maximum_bound unbounded y = unbounded
+maximum_bound (bounded a b s k) unbounded = unbounded
+maximum_bound (bounded a b s k) (bounded c d t m) = bounded (int_max a c) (int_max b d) (max s t) (max k m)
+
+-- the root of a number that is at least m, whose root is at least g: a width over twice that, and two units
+abbrev pub root_around : Limits → (g h s k : ℕ) → Bound
+root_around l g h s k =
+    limited (nat_lt 0 g && nat_lt (range_size (pos g) (pos h)) l.sizes) (bounded (pos g) (pos h) (ceil_div (s * 2 ^ 31) (g - 1)) (ceil_div (k * 2 ^ 31) (g - 1) + 2 * l.unit))
+
+-- for numbers of less than 96 bits
+unfoldable pub root_bound : Limits → Bound → Bound
+root_bound l unbounded = unbounded
+root_bound l (bounded (negsuc a) b s k) = unbounded
+root_bound l (bounded (pos a) (negsuc b) s k) = unbounded
+root_bound l (bounded (pos a) (pos b) s k) =
+    limited (nat_lt a l.sizes && nat_lt b l.sizes && nat_lt b l.products) (root_around l (root_by_digits 48 (a * 2 ^ 32)) (suc (root_by_digits 48 (b * 2 ^ 32))) s k)
+
+-- an end, cut to -1..1
+abbrev pub cut_32 : ℤ → ℤ
+cut_32 a = int_max (int_min a (pos (2 ^ 32))) (neg_ℤ (pos (2 ^ 32)))
+
+-- what is cut to -1..1 is no wider
+unfoldable pub clamp_bound : Bound → Bound
+clamp_bound unbounded = unbounded
+clamp_bound (bounded a b s k) = bounded (cut_32 a) (cut_32 b) s k
+
+-- less whole multiples of m
+unfoldable pub remainder_bound : Limits → ℕ → Bound → Bound
+remainder_bound l m unbounded = unbounded
+remainder_bound l m (bounded a b s k) = limited (nat_lt (m * 2 ^ 32) l.sizes) (bounded (pos 0) (pos (m * 2 ^ 32)) s k)
+
+-- ends that count 2^-56, at the scale: two units more
+unfoldable pub spanned_bound : Limits → Bound → Bound
+spanned_bound l unbounded = unbounded
+spanned_bound l (bounded a b s k) = limited (nat_lt (range_size a b) l.sizes) (bounded a b s (k + 2 * l.unit))
+
+-- 45 degrees, in 2^-32
+abbrev pub eighth_turn : ℕ
+eighth_turn = 45 * 2 ^ 32
+
+-- how far the sine of an angle of at most this size is from 0, and its cosine from 1: a 57th of the angle
+abbrev pub sine_size : ℕ → ℕ
+sine_size n = cond (nat_lt n eighth_turn) (ceil_div n 56 + 1) (2 ^ 32)
+
+-- what the cosine of an angle of at most this size is at least
+abbrev pub cosine_least : ℕ → ℤ
+cosine_least n = cond (nat_lt n eighth_turn) (pos (2 ^ 32) -ℤ pos (ceil_div n 56 + 1)) (neg_ℤ (pos (2 ^ 32)))
+
+-- the sine of degrees, as ends that count 2^-56: a 57th of the width, and 36 parts
+unfoldable pub sine_spans : Bound → Bound
+sine_spans unbounded = unbounded
+sine_spans (bounded a b s k) =
+    limited (nat_lt (range_size a b) (2 ^ 95)) (around (sine_size (range_size a b)) (ceil_div s 56) (ceil_div k 56 + 36 * 2 ^ 8))
+
+-- the cosine of degrees
+unfoldable pub cosine_spans : Bound → Bound
+cosine_spans unbounded = unbounded
+cosine_spans (bounded a b s k) =
+    limited (nat_lt (range_size a b) (2 ^ 95)) (bounded (cosine_least (range_size a b)) (pos (2 ^ 32)) (ceil_div s 56) (ceil_div k 56 + 36 * 2 ^ 8))
+
+-- pi between its neighbours that count 2^-56
+abbrev pub pi_spans : Bound
+pi_spans = bounded (pos 13493037704) (pos 13493037705) 0 (2 ^ 8)
+
+-- the width of a moment, and the bounds of the arguments
+pub record Reach : Type 0 where
+  pub width : ℕ
+  pub bounds : ℕ → Bound
+
+unfoldable pub bound_of : Limits → (ℕ → Bound) → Expression → Bound
+bound_of l r (argument k) = r k
+bound_of l r (integer n) = integer_bound l n
+bound_of l r (constant f) = constant_bound l f
+bound_of l r (add x y) = sum_bound l (bound_of l r x) (bound_of l r y)
+bound_of l r (subtract x y) = difference_bound l (bound_of l r x) (bound_of l r y)
+bound_of l r (multiply x y) = product_bound l (bound_of l r x) (bound_of l r y)
+bound_of l r (divide x y) = quotient_bound l (bound_of l r x) (bound_of l r y)
+bound_of l r (negate x) = negated_bound l (bound_of l r x)
+bound_of l r (scale f x) = scaled_bound l f (bound_of l r x)
+bound_of l r (power x k) = power_bound l (bound_of l r x) k
+bound_of l r (minimum x y) = minimum_bound (bound_of l r x) (bound_of l r y)
+bound_of l r (maximum x y) = maximum_bound (bound_of l r x) (bound_of l r y)
+bound_of l r (hull x y) = hull_bound (bound_of l r x) (bound_of l r y)
+bound_of l r (clamp x) = clamp_bound (bound_of l r x)
+bound_of l r (widen f x) = widen_bound l f (bound_of l r x)
+bound_of l r pi = spanned_bound l pi_spans
+bound_of l r (sine x) = spanned_bound l (sine_spans (bound_of l r x))
+bound_of l r (cosine x) = spanned_bound l (cosine_spans (bound_of l r x))
+bound_of l r (tangent x) = quotient_bound l (spanned_bound l (sine_spans (bound_of l r x))) (spanned_bound l (cosine_spans (bound_of l r x)))
+bound_of l r (root x) = root_bound l (bound_of l r x)
+bound_of l r (arctangent x) = unbounded
+bound_of l r (arcsine x) = unbounded
+bound_of l r (arccosine x) = unbounded
+bound_of l r (arctangent_of_two y x) = unbounded
+bound_of l r (remainder m x q) = remainder_bound l m (bound_of l r x)
+
+abbrev pub at_32 : ℤ → Fraction
+at_32 n = record { num = n; below = 2 ^ 32 - 1 }
+
+-- (slope * w + slack * 2^40) / 2^104
+abbrev pub breadth : (w slope slack : ℕ) → Fraction
+breadth w s k = record { num = pos (s * w + k * 2 ^ 40); below = 2 ^ 104 - 1 }
+
+-- two ends that keep a bound, for moments of width w
+pub record Spans (low high : ℤ) (slope slack w : ℕ) (lo hi : Fraction) : Type 0 where
+  pub ordered : lo ≤F hi
+  pub above : at_32 low ≤F lo
+  pub below : hi ≤F at_32 high
+  pub close : hi ≤F plus lo (breadth w slope slack)
+
+-- an interval keeps a bound; no bound says nothing
+unfoldable pub IsNarrow : (w : ℕ) → Bound → Interval → Type 0
+IsNarrow w unbounded i = Unit {0}
+IsNarrow w (bounded a b s k) everything = ⊥
+IsNarrow w (bounded a b s k) (between lo hi) = Spans a b s k w lo hi
+
+-- the limits of ends in 64 bits at scale 2^-36
+abbrev pub limits_36 : Limits
+limits_36 = record { unit = 2 ^ 28; sizes = 2 ^ 58; products = 2 ^ 86; constants = 2 ^ 90; factors = 2 ^ 122 }
+
+-- the limits at scale 2^-bits: those of a finer scale bear shorter numerators
+abbrev pub limits_at : ℕ → Limits
+limits_at bits = record { unit = 2 ^ (64 - bits); sizes = cond (nat_le bits 36) (2 ^ 58) (2 ^ 100); products = 2 ^ (158 - 2 * bits); constants = 2 ^ (126 - bits); factors = 2 ^ (158 - bits) }
+
+-- limits that no operation keeps
+abbrev pub no_limits : Limits
+no_limits = record { unit = 0; sizes = 0; products = 0; constants = 0; factors = 0 }
+
+-- whether something is promised of the scale 2^-bits
+abbrev pub is_scale : ℕ → Bool
+is_scale bits = nat_le 36 bits && nat_le bits 56
+
+-- what the scale 2^-bits bears; nothing is promised of other scales than these
+unfoldable pub limits_of : ℕ → Limits
+limits_of bits = cond (is_scale bits) (limits_at bits) no_limits
+
+-- whether the first bound says at least what the second says
+unfoldable pub implies : Bound → Bound → Bool
+implies y unbounded = true
+implies unbounded (bounded c d t m) = false
+implies (bounded a b s k) (bounded c d t m) = le_z c a && le_z b d && nat_le s t && nat_le k m

@@ -1,0 +1,141 @@
+-- The run of a fact, and when a fact is true, near or void.
+use Rattle.std.specs.Prelude.{◌≡◌, ℕ, ◌^◌, ◌≤◌, ◌⊎◌, if◌then◌else◌, IsTrue, ℤ, pos, ◌-ℤ◌, ◌≤ℤ◌}
+use Rattle.exact_math.specs.Fraction.{◌≤F◌, ◌<F◌}
+use Rattle.exact_math.specs.Interval.{Interval, everything, between, ◌⊆◌}
+use Rattle.book_model.specs.declared.site.Site.{Site}
+use Rattle.book_model.specs.declared.site.Site.TheVariants.{Year}
+use Rattle.book_model.specs.declared.fact.Fact.{Fact}
+use Rattle.book_model.specs.declared.fact.Kind.{Kind}
+use Rattle.book_model.specs.declared.fact.Kind.TheVariants.{Dt, Sun, Nowruz, BahaiYear, Solstice, NewMoonBefore, NewMoonFrom, Major, MajorTerm, MinorTerm, Phasis, Sign, SolarYear, Sankranti, Tithi, SignBefore, SignAfter, CalendarYear, NewMoon, FirstQuarter, FullMoon, LastQuarter, Sunset}
+use Rattle.book_model.specs.declared.fact.Place.{Place}
+use Rattle.book_model.specs.declared.fact.TheConstants.{FIRST_FACT_DAY, LAST_FACT_DAY, FIRST_DAY, LAST_DAY, LEAST_VALUE, GREATEST_VALUE}
+use Rattle.book_model.specs.declared.fail.Undecided.{Undecided}
+use Rattle.book_model.specs.calendars.Gregorian.{year_of_day}
+use Rattle.book_model.specs.sky.Correction.{is_between}
+use Rattle.book_model.specs.numbers.Expressions.{World}
+use Rattle.book_model.specs.sky.Kinds.{dt_of, sun_in_thousandths_of, nowruz_of, bahai_year_of, solstice_of, new_moon_before_of, new_moon_from_of, major_of, term_day_of, location_of, sunset_in_minutes_of}
+use Rattle.book_model.specs.sky.Crescent.{phasis_of}
+use Rattle.book_model.specs.sky.HinduFacts.{sign_at_sunset_of, year_at_sunset_of, sankranti_of, tithi_of, sign_before_of, sign_after_of, calendar_year_of}
+use Rattle.book_model.specs.sky.Phases.{phase_day_of}
+use Rattle.book_model.specs.programs.Leading.{at_56, AreNoBounds}
+use Rattle.book_model.specs.sky.Names.{has_place}
+use Rattle.book_model.specs.programs.Programs.{Grid, threshold, Program, void, Run, run, valued, void_at, outcome, MakesTest, Sides, one_side, two_sides}
+use Rattle.book_model.specs.numbers.Depth.{DEPTH}
+
+-- a day of which a fact may be asked
+abbrev pub IsFactDay : ℤ → Type 0
+IsFactDay day = (FIRST_FACT_DAY ≤ℤ day) × (day ≤ℤ LAST_FACT_DAY)
+
+-- a day of which a fact may have a value
+abbrev pub IsValueDay : ℤ → Type 0
+IsValueDay day = (FIRST_DAY ≤ℤ day) × (day ≤ℤ LAST_DAY)
+
+-- a value that a fact may have
+abbrev pub IsFactValue : ℤ → Type 0
+IsFactValue value = (LEAST_VALUE ≤ℤ value) × (value ≤ℤ GREATEST_VALUE)
+
+-- a kind, a place and a day make a fact
+abbrev pub IsFact : Kind → Place → ℤ → Type 0
+IsFact kind place day = IsTrue (has_place kind place) × IsFactDay day
+
+-- the formula of a kind of fact
+unfoldable pub formula_of : Kind → Place → ℤ → Program ℤ
+formula_of Dt place d = dt_of d
+formula_of Sun place d = sun_in_thousandths_of d
+formula_of Nowruz place d = nowruz_of d
+formula_of BahaiYear place d = bahai_year_of d
+formula_of Solstice place d = solstice_of d
+formula_of NewMoonBefore place d = new_moon_before_of d
+formula_of NewMoonFrom place d = new_moon_from_of d
+formula_of Major place d = major_of d
+formula_of MajorTerm place d = term_day_of (pos 0) d
+formula_of MinorTerm place d = term_day_of (pos 15) d
+formula_of Phasis place d = phasis_of (location_of place) d
+formula_of Sign place d = sign_at_sunset_of d
+formula_of SolarYear place d = year_at_sunset_of d
+formula_of Sankranti place d = sankranti_of d
+formula_of Tithi place d = tithi_of d
+formula_of SignBefore place d = sign_before_of d
+formula_of SignAfter place d = sign_after_of d
+formula_of CalendarYear place d = calendar_year_of d
+formula_of NewMoon place d = phase_day_of (pos 0) d
+formula_of FirstQuarter place d = phase_day_of (pos 90) d
+formula_of FullMoon place d = phase_day_of (pos 180) d
+formula_of LastQuarter place d = phase_day_of (pos 270) d
+formula_of Sunset place d = sunset_in_minutes_of (location_of place) d
+
+-- the formula of a fact; outside 1 July 1800 to 31 December 2049 it is void
+unfoldable pub program_of : Fact → Program ℤ
+program_of f = if is_between FIRST_DAY LAST_DAY f.day then formula_of f.kind f.place f.day else void Year
+
+-- a depth alone: the formula of a fact has no arguments
+abbrev pub at_depth : ℕ → World
+at_depth n = record { depth = n; arguments = λ k. everything; proper = λ k. tt }
+
+-- the run of a fact at a depth
+unfoldable pub run_of : ℕ → Fact → Run ℤ
+run_of n f = run (at_depth n) (program_of f)
+
+-- the fact has the value v at every depth from 40 on
+pub record IsTrueWith (f : Fact) (v : ℤ) : Type 0 where
+  pub at_each_depth : (n : ℕ) → DEPTH ≤ n → outcome (run_of n f) ≡ valued v
+
+-- the fact has no value, for a reason at this site, at every depth from 40 on
+pub record IsVoidAt (f : Fact) (s : Site) : Type 0 where
+  pub at_each_depth : (n : ℕ) → DEPTH ≤ n → outcome (run_of n f) ≡ void_at s
+
+-- an interval lies between two numbers that count 2^-56, which may stand for no bounds
+pub data LiesFrom (lo hi : ℤ) (i : Interval) : Type 0 where
+  from_ends : i ⊆ between (at_56 lo) (at_56 hi) → LiesFrom lo hi i
+  from_nowhere : AreNoBounds lo hi → LiesFrom lo hi i
+
+-- a cell begins above lo and at most at hi
+pub record HasThreshold (g : Grid) (lo hi : ℤ) : Type 0 where
+  pub begun : ℤ
+  pub above : at_56 lo <F threshold g begun
+  pub at_most : threshold g begun ≤F at_56 hi
+
+-- the sides of a test lie from lo to hi, and for a cell test so does a threshold
+pub data AreNear (lo hi : ℤ) : Sides → Type 0 where
+  near_cell : {g : Grid} {i : Interval} → LiesFrom lo hi i → HasThreshold g lo hi → AreNear lo hi (one_side g i)
+  near_comparison : {i j : Interval} → LiesFrom lo hi i → LiesFrom lo hi j → AreNear lo hi (two_sides i j)
+
+-- a run makes the test that is named, near its threshold
+pub record MakesNearTest (r : Run ℤ) (u : Undecided) : Type 0 where
+  pub sides : Sides
+  pub makes : MakesTest r u.turn u.site sides
+  pub near : AreNear u.lo u.hi sides
+
+-- the kinds of which the first or the third test of the year is made on the whole day itself
+abbrev pub HasWholeDays : Kind → Type 0
+HasWholeDays Dt = Unit {0}
+HasWholeDays Sun = Unit {0}
+HasWholeDays Nowruz = ⊥
+HasWholeDays BahaiYear = ⊥
+HasWholeDays Solstice = ⊥
+HasWholeDays NewMoonBefore = ⊥
+HasWholeDays NewMoonFrom = ⊥
+HasWholeDays Major = ⊥
+HasWholeDays MajorTerm = ⊥
+HasWholeDays MinorTerm = ⊥
+HasWholeDays Phasis = Unit {0}
+HasWholeDays Sign = ⊥
+HasWholeDays SolarYear = ⊥
+HasWholeDays Sankranti = ⊥
+HasWholeDays Tithi = ⊥
+HasWholeDays SignBefore = ⊥
+HasWholeDays SignAfter = ⊥
+HasWholeDays CalendarYear = Unit {0}
+HasWholeDays NewMoon = Unit {0}
+HasWholeDays FirstQuarter = Unit {0}
+HasWholeDays FullMoon = Unit {0}
+HasWholeDays LastQuarter = Unit {0}
+HasWholeDays Sunset = ⊥
+
+-- The fact is near at a test: at every depth from 40 on its run makes this test, whose sides lie within the ends.
+-- The year of a whole day is never near. For the years 1987 to 2050 the ends of a dynamical time correction lie
+-- at most 2^-6 apart.
+pub record IsNear (f : Fact) (u : Undecided) : Type 0 where
+  pub at_each_depth : (n : ℕ) → DEPTH ≤ n → MakesNearTest (run_of n f) u
+  pub no_whole_day : u.site ≡ Year → (u.turn ≡ 1) ⊎ (u.turn ≡ 3) → HasWholeDays f.kind → ⊥
+  pub close : f.kind ≡ Dt → pos 1987 ≤ℤ year_of_day f.day → year_of_day f.day ≤ℤ pos 2050 → (u.hi -ℤ u.lo) ≤ℤ pos (2 ^ 50)

@@ -1,0 +1,16 @@
+pub mod Keeping
+pub mod Following
+pub mod Enclosing
+pub mod Best
+pub mod Scaling
+pub mod Testing
+pub mod Unpromised
+pub mod Divisions
+pub mod Periods
+pub mod Widths
+pub mod Products
+pub mod Ratios
+pub mod WaveAngles
+pub mod RootEnds
+pub mod RootWidths
+pub mod Widenings
