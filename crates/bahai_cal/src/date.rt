@@ -93,6 +93,13 @@ fn date_by(day: i64, first: i64, base: i64, next: i64) -> BahaiDate
 /// Ayyám-i-Há. A month or a day that its type doesn't hold stands at the nearest end; the other fields always fit. It stops
 /// where the oracle stops, at one of the three facts that are asked (Reingold and Dershowitz, Calendrical Calculations, chapter
 /// 16).
+///
+/// ```
+/// let evaluator = Staged::new();
+/// let mut oracle = Asking::new(rt.alloc(), &evaluator);
+/// let date = bahai_cal::from_fixed(&mut oracle, 739_695)?;
+/// // BahaiDate { major: 1, cycle: 10, year: 12, month: 1, day: 1 }
+/// ```
 #[tactic(auto, using(oracle_core::proofs::Inquiring::asking), unfolding(book_model::specs::calendars::Bahai::bahai_on))]
 pub fn from_fixed<O: Oracle>(oracle: &mut O, day: i64) -> Result<BahaiDate, Stop>
     requires from { pos 0 ≤ℤ day }
@@ -139,6 +146,13 @@ fn year_number(date: BahaiDate) -> i64
 /// The day (R.D.) of a date: that of its month and day, counted from the first day of its year, or, in the last month, back from
 /// that of the next year. The date needn't be one that the calendar has. It stops where the oracle stops, at the one fact that is
 /// asked (Reingold and Dershowitz, Calendrical Calculations, chapter 16).
+///
+/// ```
+/// let evaluator = Staged::new();
+/// let mut oracle = Asking::new(rt.alloc(), &evaluator);
+/// let date = BahaiDate { major: 1, cycle: 10, year: 12, month: 1, day: 1 };
+/// let day = bahai_cal::to_fixed(&mut oracle, date)?; // 739_695, which is 20 March 2026
+/// ```
 #[tactic(auto, using(oracle_core::proofs::Inquiring::asking), unfolding(book_model::specs::calendars::Bahai::bahai_day))]
 pub fn to_fixed<O: Oracle>(oracle: &mut O, date: BahaiDate) -> Result<i64, Stop>
     requires major_from { pos 0 ≤ℤ date.major }

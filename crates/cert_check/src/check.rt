@@ -156,6 +156,14 @@ pub(crate) fn verdict_of_line(
 /// for the first listed fact that wasn't answered by its listed value; `Missing`; `List`; `Date`. It gets `Yes` where
 /// none does. A file of the grammar meets what is asked of its facts and of the numbers of its lines. The error comes
 /// where memory runs out.
+///
+/// ```
+/// let file = read_file(rt.alloc(), bytes)?;
+/// let answers = check_facts(rt.alloc(), &file, &Staged::new())?;
+/// if file.lines.len() > 0 {
+///     let verdict = check_line(rt.alloc(), &file, &answers, 0)?; // Yes, where the first line is right
+/// }
+/// ```
 pub fn check_line(
     alloc: Global,
     file: &CertFile,

@@ -53,6 +53,12 @@ fn read_lines(alloc: Global, lines: &[&[u8]]) -> Result<CertFile, ReadFail>
 
 /// The file that the bytes are by the grammar. `Bad` comes exactly where they are none, with the first line that
 /// breaks a rule and the first rule that it breaks, and `Memory` where memory runs out.
+///
+/// ```
+/// let none = read_file(rt.alloc(), b"calendrica 1 depth 40\n"); // Err(Bad { line: 2, rule: 6 }): the end line isn't there
+/// let text = b"calendrica 1 depth 40\nfact 1 nowruz - 739145 738965\nend lines 0 facts 1\n";
+/// let file = read_file(rt.alloc(), text)?; // one fact and no line
+/// ```
 #[tactic(auto, unfolding(crate::specs::Reading::grammar_of))]
 pub fn read_file(alloc: Global, bytes: &[u8]) -> Result<CertFile, ReadFail>
     requires { length bytes.now ≤ longest_file }

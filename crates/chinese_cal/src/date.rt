@@ -106,6 +106,13 @@ fn date_in(day: i64, month: ChineseMonth) -> ChineseDate
 /// is a leap month. Cycle and year follow from the mean years since the epoch. A day of the month that its type doesn't hold
 /// stands at the nearest end; the other fields always fit. It stops where the oracle stops, at one of the facts that the rules
 /// ask (Reingold and Dershowitz, Calendrical Calculations, chapter 19).
+///
+/// ```
+/// let evaluator = Staged::new();
+/// let mut oracle = Asking::new(rt.alloc(), &evaluator);
+/// let date = chinese_cal::from_fixed(&mut oracle, 740_018)?;
+/// // ChineseDate { cycle: 78, year: 44, month: 1, leap: false, day: 1 }
+/// ```
 #[tactic(auto, using(oracle_core::proofs::Inquiring::asking), unfolding(book_model::specs::calendars::Chinese::chinese_on))]
 pub fn from_fixed<O: Oracle>(oracle: &mut O, day: i64) -> Result<ChineseDate, Stop>
     requires near { IsNearDay day }

@@ -79,6 +79,13 @@ fn day_of_month(first: i64, day: u8) -> i64
 /// where the first is in another month, and the day of the month. The date needn't be one that the calendar has. It stops
 /// where the oracle stops, at one of the facts that the rules ask (Reingold and Dershowitz, Calendrical Calculations, chapter
 /// 19).
+///
+/// ```
+/// let evaluator = Staged::new();
+/// let mut oracle = Asking::new(rt.alloc(), &evaluator);
+/// let date = ChineseDate { cycle: 78, year: 44, month: 1, leap: false, day: 1 };
+/// let day = chinese_cal::to_fixed(&mut oracle, date)?; // 740_018, which is 6 February 2027
+/// ```
 #[tactic(auto, using(oracle_core::proofs::Inquiring::asking), unfolding(book_model::specs::calendars::Chinese::chinese_day))]
 pub fn to_fixed<O: Oracle>(oracle: &mut O, date: ChineseDate) -> Result<i64, Stop>
     requires from_4438 { pos 4438 ≤ℤ (pos 60 *ℤ (date.cycle -ℤ pos 1) +ℤ pos date.year) }

@@ -126,6 +126,13 @@ fn date_near<O: Oracle>(oracle: &mut O, day: i64) -> Result<HinduLunar, Stop>
 /// none; its day is the tithi at sunrise, and a leap day where the day before has the same. A day or a year that its type doesn't
 /// hold stands at the nearest end; the other fields always fit. It stops where the oracle stops, at one of the five facts that are
 /// asked (Reingold and Dershowitz, Calendrical Calculations, chapter 20).
+///
+/// ```
+/// let evaluator = Staged::new();
+/// let mut oracle = Asking::new(rt.alloc(), &evaluator);
+/// let date = hindu_astro::lunar::from_fixed(&mut oracle, 738_719)?;
+/// // HinduLunar { year: 2080, month: 5, leap_month: true, day: 1, leap_day: false }: the month is an added one
+/// ```
 pub fn from_fixed<O: Oracle>(oracle: &mut O, day: i64) -> Result<HinduLunar, Stop>
     requires from { pos 0 ≤ℤ day }
     requires to { day ≤ℤ pos 1000000 }
@@ -335,6 +342,13 @@ fn day_by_middle<O: Oracle>(oracle: &mut O, sought: HinduLunar, middle: i64) -> 
 /// leads to the month's middle, or to that of the month before or after, and the tithi there to the day, of which two days before
 /// and two after are looked at too. The date needn't be one that the calendar has. It stops where the oracle stops, at one of the
 /// facts that the rules ask.
+///
+/// ```
+/// let evaluator = Staged::new();
+/// let mut oracle = Asking::new(rt.alloc(), &evaluator);
+/// let date = HinduLunar { year: 2080, month: 5, leap_month: true, day: 1, leap_day: false };
+/// let day = hindu_astro::lunar::to_fixed(&mut oracle, date)?; // 738_719, which is 18 July 2023
+/// ```
 #[tactic(auto, using(oracle_core::proofs::Inquiring::asking), unfolding(book_model::specs::calendars::HinduLunar::hindu_lunar_day))]
 pub fn to_fixed<O: Oracle>(oracle: &mut O, date: HinduLunar) -> Result<i64, Stop>
     requires from_1858 { pos 1858 ≤ℤ date.year }

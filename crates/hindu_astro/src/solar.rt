@@ -60,6 +60,12 @@ fn date_by(day: i64, sign: i64, year: i64, first: i64) -> HinduSolar
 /// The date of a day (R.D.): its month is the sign in which the sun stands at sunset, and its day counts from the one on which the
 /// sun came into it. A field that its type doesn't hold stands at the nearest end. It stops where the oracle stops, at one of the
 /// three facts that are asked (Reingold and Dershowitz, Calendrical Calculations, chapter 20).
+///
+/// ```
+/// let evaluator = Staged::new();
+/// let mut oracle = Asking::new(rt.alloc(), &evaluator);
+/// let date = hindu_astro::solar::from_fixed(&mut oracle, 738_990)?; // HinduSolar { year: 1946, month: 1, day: 1 }
+/// ```
 #[tactic(auto, using(oracle_core::proofs::Inquiring::asking), unfolding(book_model::specs::calendars::HinduSolar::hindu_solar_on))]
 pub fn from_fixed<O: Oracle>(oracle: &mut O, day: i64) -> Result<HinduSolar, Stop>
     requires from { pos 0 ≤ℤ day }
@@ -97,6 +103,13 @@ fn day_by(first: i64, day: i64) -> i64
 
 /// The day (R.D.) of a date: the first day of the month in which a day late in it falls, and the day of the month; a rule of this
 /// project's own. The date needn't be one that the calendar has. It stops where the oracle stops, at the one fact that is asked.
+///
+/// ```
+/// let evaluator = Staged::new();
+/// let mut oracle = Asking::new(rt.alloc(), &evaluator);
+/// let date = HinduSolar { year: 1946, month: 1, day: 1 };
+/// let day = hindu_astro::solar::to_fixed(&mut oracle, date)?; // 738_990, which is 14 April 2024
+/// ```
 #[tactic(auto, using(oracle_core::proofs::Inquiring::asking), unfolding(book_model::specs::calendars::HinduSolar::hindu_solar_day))]
 pub fn to_fixed<O: Oracle>(oracle: &mut O, date: HinduSolar) -> Result<i64, Stop>
     requires from_1723 { pos 1723 ≤ℤ date.year }

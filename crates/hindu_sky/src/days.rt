@@ -33,7 +33,14 @@ fn sign_by_sunset<E: Enclosure>(day: i64, trail: &mut Trail) -> Result<i64, Fail
     }
 }
 
-/// The sign of the zodiac in which the sun stands at sunset on a day (R.D.) at Ujjain: 137 tests at most.
+/// The sign of the zodiac, from 1 to 12, in which the sun stands at sunset on a day (R.D.) at Ujjain (Reingold and
+/// Dershowitz, Calendrical Calculations, chapter 20): 137 tests at most. It is void at `year` where a moment that it takes
+/// lies in a year of which there is no correction, at `offset` where the sun doesn't come to the horizon, and at `settle`
+/// where twelve approximations of sunset don't settle.
+///
+/// ```
+/// let sign = hindu_sky::sign_at_sunset::<Fine>(738_990, &mut Trail::new())?; // 1, on 14 April 2024
+/// ```
 #[tactic(auto, using(crate::proofs::HinduRuns::sign_at_sunset_few))]
 pub fn sign_at_sunset<E: Enclosure>(day: i64, trail: &mut Trail) -> Result<i64, Fail>
     requires day { IsValueDay day }
@@ -55,7 +62,12 @@ fn year_by_sunset<E: Enclosure>(day: i64, trail: &mut Trail) -> Result<i64, Fail
     }
 }
 
-/// The year of the Kali Yuga at sunset on a day (R.D.) at Ujjain: 137 tests at most.
+/// The year of the Kali Yuga at sunset on a day (R.D.) at Ujjain (Reingold and Dershowitz, Calendrical Calculations, chapter
+/// 20): 137 tests at most. Void as `sign_at_sunset`.
+///
+/// ```
+/// let year = hindu_sky::solar_year::<Fine>(738_990, &mut Trail::new())?; // 5125, on 14 April 2024
+/// ```
 #[tactic(auto, using(crate::proofs::HinduRuns::year_at_sunset_few))]
 pub fn solar_year<E: Enclosure>(day: i64, trail: &mut Trail) -> Result<i64, Fail>
     requires day { IsValueDay day }
@@ -129,8 +141,13 @@ fn sign_entered<E: Enclosure>(day: i64, t: E, trail: &mut Trail) -> Result<i64, 
     }
 }
 
-/// The first day (R.D.) of the solar month in which a day falls, by whose sunset at Ujjain the sun has come into its sign: 6,444 tests
-/// at most. It is void at `search` where there is none.
+/// The first day (R.D.) of the solar month in which a day falls, by whose sunset at Ujjain the sun has come into its sign
+/// (Reingold and Dershowitz, Calendrical Calculations, chapter 20): 6,444 tests at most. Void as `sign_at_sunset`, of the
+/// day or of one that is tried, and at `search` where none of 46 days is one.
+///
+/// ```
+/// let first = hindu_sky::sankranti::<Fine>(738_990, &mut Trail::new())?; // 738_990: the month begins on 14 April 2024
+/// ```
 #[tactic(auto, using(book_model::proofs::Leads::leading, crate::proofs::HinduRuns::sankranti_few), unfolding(book_model::specs::sky::HinduFacts::sankranti_of))]
 pub fn sankranti<E: Enclosure>(day: i64, trail: &mut Trail) -> Result<i64, Fail>
     requires day { IsValueDay day }
@@ -163,7 +180,14 @@ fn lunar_days_passed<E: Enclosure>(t: E, trail: &mut Trail) -> Result<i64, Fail>
     whole_lunar_days(t, trail)
 }
 
-/// The lunar day, from 1 on, at sunrise on a day (R.D.) at Ujjain: 144 tests at most.
+/// The lunar day, from 1 on, at sunrise on a day (R.D.) at Ujjain (Reingold and Dershowitz, Calendrical Calculations,
+/// chapter 20): 144 tests at most. It is void at `year` where a moment that it takes lies in a year of which there is no
+/// correction, at `offset` where the sun doesn't come to the depression of sunrise, and at `settle` where twelve
+/// approximations of dawn don't settle.
+///
+/// ```
+/// let day = hindu_sky::tithi::<Fine>(738_990, &mut Trail::new())?; // 6, on 14 April 2024
+/// ```
 #[tactic(auto, using(book_model::proofs::Leads::leading, crate::proofs::HinduRuns::tithi_few), unfolding(book_model::specs::sky::HinduFacts::tithi_of))]
 pub fn tithi<E: Enclosure>(day: i64, trail: &mut Trail) -> Result<i64, Fail>
     requires day { IsValueDay day }
@@ -178,7 +202,13 @@ pub fn tithi<E: Enclosure>(day: i64, trail: &mut Trail) -> Result<i64, Fail>
     }
 }
 
-/// The sign in which the sun stood at the last new moon before sunrise on a day (R.D.) at Ujjain: 163 tests at most.
+/// The sign in which the sun stood at the last new moon before sunrise on a day (R.D.) at Ujjain (Reingold and Dershowitz,
+/// Calendrical Calculations, chapter 20): 163 tests at most. Void as `tithi`, and at `moon-walk` where the walk to the new
+/// moon takes more than five steps.
+///
+/// ```
+/// let sign = hindu_sky::sign_before::<Fine>(738_990, &mut Trail::new())?; // 12, on 14 April 2024
+/// ```
 #[tactic(auto, using(book_model::proofs::Leads::leading, crate::proofs::HinduRuns::sign_before_few), unfolding(book_model::specs::sky::HinduFacts::sign_before_of))]
 pub fn sign_before<E: Enclosure>(day: i64, trail: &mut Trail) -> Result<i64, Fail>
     requires day { IsValueDay day }
@@ -193,7 +223,12 @@ pub fn sign_before<E: Enclosure>(day: i64, trail: &mut Trail) -> Result<i64, Fai
     }
 }
 
-/// The sign in which the sun stands at the first new moon from sunrise on on a day (R.D.) at Ujjain: 163 tests at most.
+/// The sign in which the sun stands at the first new moon from sunrise on on a day (R.D.) at Ujjain (Reingold and
+/// Dershowitz, Calendrical Calculations, chapter 20): 163 tests at most. Void as `sign_before`.
+///
+/// ```
+/// let sign = hindu_sky::sign_after::<Fine>(738_990, &mut Trail::new())?; // 1, on 14 April 2024
+/// ```
 #[tactic(auto, using(book_model::proofs::Leads::leading, crate::proofs::HinduRuns::sign_after_few), unfolding(book_model::specs::sky::HinduFacts::sign_after_of))]
 pub fn sign_after<E: Enclosure>(day: i64, trail: &mut Trail) -> Result<i64, Fail>
     requires day { IsValueDay day }
@@ -217,7 +252,13 @@ fn year_of_beginning<E: Enclosure>(day: i64, trail: &mut Trail) -> Result<i64, F
     hindu_year(E::from_int(day), trail)
 }
 
-/// The year of the Kali Yuga when a day (R.D.) begins in universal time: five tests, of which the two of the year are never open.
+/// The year of the Kali Yuga when a day (R.D.) begins in universal time (Reingold and Dershowitz, Calendrical Calculations,
+/// chapter 20): five tests, of which the two of the year are never open. It is void at `year` where there is no correction
+/// for the year of the day.
+///
+/// ```
+/// let year = hindu_sky::calendar_year::<Fine>(739_170, &mut Trail::new())?; // 5125, on 11 October 2024
+/// ```
 #[tactic(auto, using(crate::proofs::HinduRuns::calendar_year_few))]
 pub fn calendar_year<E: Enclosure>(day: i64, trail: &mut Trail) -> Result<i64, Fail>
     requires day { IsValueDay day }

@@ -73,6 +73,12 @@ fn date_by(day: i64, first: i64) -> IslamicDate
 /// The date of a day (R.D.): the month that begins on the first day which the oracle has for the day, the months counted from the
 /// epoch. A day that its type doesn't hold stands at the nearest end; the other fields always fit. It stops where the oracle
 /// stops, at the one fact that is asked (Reingold and Dershowitz, Calendrical Calculations, chapter 18).
+///
+/// ```
+/// let evaluator = Staged::new();
+/// let mut oracle = Asking::new(rt.alloc(), &evaluator);
+/// let date = islamic_observed::from_fixed(&mut oracle, 738_957)?; // IslamicDate { year: 1445, month: 9, day: 1 }
+/// ```
 #[tactic(auto, using(oracle_core::proofs::Inquiring::asking), unfolding(book_model::specs::calendars::Islamic::islamic_on))]
 pub fn from_fixed<O: Oracle>(oracle: &mut O, day: i64) -> Result<IslamicDate, Stop>
     requires from { pos 0 ≤ℤ day }
@@ -96,6 +102,13 @@ fn day_by(first: i64, day: i64) -> i64
 /// The day (R.D.) of a date: the first day of the month which the oracle has, asked of a day about the month's middle, and the day
 /// of the month. The date needn't be one that the calendar has. It stops where the oracle stops, at the one fact that is asked
 /// (Reingold and Dershowitz, Calendrical Calculations, chapter 18).
+///
+/// ```
+/// let evaluator = Staged::new();
+/// let mut oracle = Asking::new(rt.alloc(), &evaluator);
+/// let date = IslamicDate { year: 1445, month: 9, day: 1 };
+/// let day = islamic_observed::to_fixed(&mut oracle, date)?; // 738_957, which is 12 March 2024
+/// ```
 #[tactic(auto, using(oracle_core::proofs::Inquiring::asking), unfolding(book_model::specs::calendars::Islamic::islamic_day))]
 pub fn to_fixed<O: Oracle>(oracle: &mut O, date: IslamicDate) -> Result<i64, Stop>
     requires from_1216 { pos 1216 ≤ℤ date.year }

@@ -144,6 +144,13 @@ fn day_of_request<O: Oracle>(oracle: &mut O, request: &Request) -> Result<i64, S
 /// which the facts that the rule asks are added to the oracle's list. `TooFar` comes exactly where the day that the
 /// date names isn't one of those that a line may name, and `NoDate` exactly where it is and has another date in the
 /// calendar of the request. It stops where the oracle stops, at a fact that the rule asks.
+///
+/// ```
+/// let evaluator = Staged::new();
+/// let mut oracle = Asking::new(rt.alloc(), &evaluator);
+/// let Ok(request) = read_line(b"persian 1402-12-30 fixed") else { return; };
+/// let resolved = resolve(&mut oracle, &request)?; // NoDate: that day is the first of the year 1403
+/// ```
 #[tactic(auto, using(oracle_core::proofs::Inquiring::asking), unfolding(book_model::specs::lines::LineRules::rule_of))]
 pub fn resolve<O: Oracle>(oracle: &mut O, request: &Request) -> Result<Resolved, Stop>
     requires possible { IsTrue (is_possible request.now) }

@@ -15,6 +15,12 @@ pub trait Evaluator {
 
     /// The answer for a fact. A value comes only where the fact is true with it, and lies in -10,000,000 to
     /// 10,000,000; an undecided test only where the fact is near at it; a void only where the fact is void there.
+    ///
+    /// ```
+    /// if let Some(fact) = Fact::new(Kind::Nowruz, Place::None, 739_145) {
+    ///     let answer = Staged::new().eval(fact); // Value(738_965): the Persian year began on 20 March 2024
+    /// }
+    /// ```
     fn eval(&self, fact: Fact) -> Answer
         ensures { IsRightAnswer fact result };
 }

@@ -105,6 +105,12 @@ fn day_by(new_year: i64, month: i64, day: i64) -> i64
 /// month and the day of the month that follow from that year's own first day. A month that its type doesn't hold stands
 /// at the nearest end; year and day always fit. It stops where the oracle stops, at one of the two facts that are
 /// asked (Reingold and Dershowitz, Calendrical Calculations, chapter 15).
+///
+/// ```
+/// let evaluator = Staged::new();
+/// let mut oracle = Asking::new(rt.alloc(), &evaluator);
+/// let date = persian_cal::from_fixed(&mut oracle, 738_965)?; // PersianDate { year: 1403, month: 1, day: 1 }
+/// ```
 #[tactic(auto, using(oracle_core::proofs::Inquiring::asking), unfolding(book_model::specs::calendars::Persian::persian_on))]
 pub fn from_fixed<O: Oracle>(oracle: &mut O, day: i64) -> Result<PersianDate, Stop>
     requires from { pos 0 ≤ℤ day }
@@ -120,6 +126,13 @@ pub fn from_fixed<O: Oracle>(oracle: &mut O, day: i64) -> Result<PersianDate, St
 /// The day (R.D.) of a date: the first day of the year which the oracle has, the days of the months before, and the day
 /// of the month. The date needn't be one that the calendar has. It stops where the oracle stops, at the fact of the
 /// year's first day (Reingold and Dershowitz, Calendrical Calculations, chapter 15).
+///
+/// ```
+/// let evaluator = Staged::new();
+/// let mut oracle = Asking::new(rt.alloc(), &evaluator);
+/// let date = PersianDate { year: 1403, month: 1, day: 1 };
+/// let day = persian_cal::to_fixed(&mut oracle, date)?; // 738_965, which is 20 March 2024
+/// ```
 #[tactic(auto, using(oracle_core::proofs::Inquiring::asking), unfolding(book_model::specs::calendars::Persian::persian_day))]
 pub fn to_fixed<O: Oracle>(oracle: &mut O, date: PersianDate) -> Result<i64, Stop>
     requires from_1180 { pos 1180 ≤ℤ date.year }
