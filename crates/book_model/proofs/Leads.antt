@@ -52,8 +52,8 @@ tells_fail : {A B T U : Type 0} {R : A → T → Type 0} (S : B → U → Type 0
     Tells R r b a (Err z) → Tells S (run_then r f) b a (Err z)
 unfolding run_then
 tells_fail S f (passes h) = passes (tells_fail S f h)
-tells_fail S f (stops e c) = stops e c
-tells_fail S f (stops_early e c) = stops_early e c
+tells_fail S f (stops e d c) = stops e d c
+tells_fail S f (stops_early e d c) = stops_early e d c
 tells_fail S f voids = voids
 
 pub leads_bind : {A B T U : Type 0} {w : World} {R : A → T → Type 0} {S : B → U → Type 0} {p : Program A} {f : A → Program B} {b m a : ℕ} {y : T} {t : Result U Fail} →
@@ -68,7 +68,7 @@ pub leads_answer : {A T : Type 0} {w : World} {R : A → T → Type 0} {v : A} {
 unfolding run
 leads_answer h = record { tells = answers h }
 
-pub leads_void : {A T : Type 0} {w : World} {R : A → T → Type 0} {s : Site} {b a : ℕ} → Leads w R (void s) b a (Err (Void s))
+pub leads_void : {A T : Type 0} {w : World} {R : A → T → Type 0} {s : Site} {b : ℕ} → Leads w R (void s) b b (Err (Void s))
 unfolding run
 leads_void = record { tells = voids }
 
@@ -80,17 +80,17 @@ leads_cell {w = w} s g x j q next i e h =
     let d = cell_nested g (value w x) j q (value_proper w x) i e in
     record { tells = rw d (passes h.tells) }
 
-cell_stop : {A T : Type 0} (R : A → T → Type 0) (g : Grid) (i : Interval) (o : Option ℤ) (n : ℤ → Run A) {b : ℕ} (a : ℕ) (u : Undecided) → u.turn ≡ next_turn b → IsOpen (one_side g i) u.lo u.hi →
+cell_stop : {A T : Type 0} (R : A → T → Type 0) (g : Grid) (i : Interval) (o : Option ℤ) (n : ℤ → Run A) {b : ℕ} (a : ℕ) (u : Undecided) → u.turn ≡ next_turn b → a ≡ next_turn b → IsOpen (one_side g i) u.lo u.hi →
     Tells R (after_cell u.site g i o n) b a (Err (undecided_at u))
 unfolding after_cell
-cell_stop R g i None n a u e c = stops e c
-cell_stop R g i (Some q) n a u e c = stops_early e c
+cell_stop R g i None n a u e d c = stops e d c
+cell_stop R g i (Some q) n a u e d c = stops_early e d c
 
 -- a cell test that the code leaves open
 pub leads_open_cell : {A T : Type 0} {w : World} {R : A → T → Type 0} (g : Grid) (x : Expression) (j : Interval) (next : ℤ → Program A) {b : ℕ} (a : ℕ) (u : Undecided) →
-    value w x ⊆ j → u.turn ≡ next_turn b → IsOpenCell g j u.lo u.hi → Leads w R (cell u.site g x next) b a (Err (undecided_at u))
+    value w x ⊆ j → u.turn ≡ next_turn b → a ≡ next_turn b → IsOpenCell g j u.lo u.hi → Leads w R (cell u.site g x next) b a (Err (undecided_at u))
 unfolding run
-leads_open_cell {w = w} {R = R} g x j next a u i e c = record { tells = cell_stop R g (value w x) (cell_at g (value w x)) (λ q. run w (next q)) a u e (open_cell j i c) }
+leads_open_cell {w = w} {R = R} g x j next a u i e d c = record { tells = cell_stop R g (value w x) (cell_at g (value w x)) (λ q. run w (next q)) a u e d (open_cell j i c) }
 
 -- a comparison that the code decides, at enclosures j and k of the two values
 pub leads_compare : {A T : Type 0} {w : World} {R : A → T → Type 0} (s : Site) (x y : Expression) (j k : Interval) (t : Bool) (next : Bool → Program A) {b a : ℕ} {z : Result T Fail} →
@@ -100,18 +100,18 @@ leads_compare {w = w} s x y j k t next i l e h =
     let d = compare_nested (value w x) (value w y) j k t (value_proper w x) (value_proper w y) i l e in
     record { tells = rw d (passes h.tells) }
 
-compare_stop : {A T : Type 0} (R : A → T → Type 0) (i j : Interval) (o : Option Bool) (n : Bool → Run A) {b : ℕ} (a : ℕ) (u : Undecided) → u.turn ≡ next_turn b → IsOpen (two_sides i j) u.lo u.hi →
+compare_stop : {A T : Type 0} (R : A → T → Type 0) (i j : Interval) (o : Option Bool) (n : Bool → Run A) {b : ℕ} (a : ℕ) (u : Undecided) → u.turn ≡ next_turn b → a ≡ next_turn b → IsOpen (two_sides i j) u.lo u.hi →
     Tells R (after_compare u.site i j o n) b a (Err (undecided_at u))
 unfolding after_compare
-compare_stop R i j None n a u e c = stops e c
-compare_stop R i j (Some t) n a u e c = stops_early e c
+compare_stop R i j None n a u e d c = stops e d c
+compare_stop R i j (Some t) n a u e d c = stops_early e d c
 
 -- a comparison that the code leaves open
 pub leads_open_compare : {A T : Type 0} {w : World} {R : A → T → Type 0} (x y : Expression) (j k : Interval) (next : Bool → Program A) {b : ℕ} (a : ℕ) (u : Undecided) →
-    value w x ⊆ j → value w y ⊆ k → u.turn ≡ next_turn b → IsOpenComparison j k u.lo u.hi → Leads w R (compare u.site x y next) b a (Err (undecided_at u))
+    value w x ⊆ j → value w y ⊆ k → u.turn ≡ next_turn b → a ≡ next_turn b → IsOpenComparison j k u.lo u.hi → Leads w R (compare u.site x y next) b a (Err (undecided_at u))
 unfolding run
-leads_open_compare {w = w} {R = R} x y j k next a u i l e c =
-    record { tells = compare_stop R (value w x) (value w y) (compare_at (value w x) (value w y)) (λ t. run w (next t)) a u e (open_comparison j k i l c) }
+leads_open_compare {w = w} {R = R} x y j k next a u i l e d c =
+    record { tells = compare_stop R (value w x) (value w y) (compare_at (value w x) (value w y)) (λ t. run w (next t)) a u e d (open_comparison j k i l c) }
 
 -- what holds of the value, where an enclosure holds the expression
 pub lies : {E : Type 0} {shown : E → Interval} {w : World} {x : Expression} {e : E} → Within shown w x e → value w x ⊆ shown e
@@ -172,9 +172,9 @@ pub continues_answer : {A T : Type 0} {w : World} {R : A → T → Type 0} {p : 
     Continues w R p b (answer v) m → R v e → Leads w R p b m (Ok e)
 continues_answer {m = m} {e = e} h k = h.rest m (Ok e) (leads_answer k)
 
-pub continues_void : {A T : Type 0} {w : World} {R : A → T → Type 0} {p : Program A} {s : Site} {b m a : ℕ} →
-    Continues w R p b (void s) m → Leads w R p b a (Err (Void s))
-continues_void {s = s} {a = a} h = h.rest a (Err (Void s)) leads_void
+pub continues_void : {A T : Type 0} {w : World} {R : A → T → Type 0} {p : Program A} {s : Site} {b m : ℕ} →
+    Continues w R p b (void s) m → Leads w R p b m (Err (Void s))
+continues_void {s = s} {m = m} h = h.rest m (Err (Void s)) leads_void
 
 -- ---- what results say of outcomes
 tells_value : {A T : Type 0} {R : A → T → Type 0} {r : Run A} {b a : ℕ} {y : T} → Tells R r b a (Ok y) → (v : A) × (outcome r ≡ valued v) × R v y
@@ -214,8 +214,8 @@ pub record StopsAt {A : Type 0} (r : Run A) (b : ℕ) (u : Undecided) : Type 0 w
 tells_stop : {A T : Type 0} {R : A → T → Type 0} {r : Run A} {b a : ℕ} {u : Undecided} → Tells R r b a (Err (undecided_at u)) → StopsAt r b u
 unfolding next_turn
 tells_stop {b = b} (passes h) = let t = tells_stop h in record { number = suc t.number; sides = t.sides; makes = later t.makes; turn = omega (arith, t.turn); open_there = t.open_there }
-tells_stop {b = b} (stops e c) = record { number = 1; sides = _; makes = here_undecided; turn = e; open_there = c }
-tells_stop {b = b} (stops_early e c) = record { number = 1; sides = _; makes = here_decided; turn = e; open_there = c }
+tells_stop {b = b} (stops e d c) = record { number = 1; sides = _; makes = here_undecided; turn = e; open_there = c }
+tells_stop {b = b} (stops_early e d c) = record { number = 1; sides = _; makes = here_decided; turn = e; open_there = c }
 
 pub leads_stop_at : {A T : Type 0} {w : World} {R : A → T → Type 0} {p : Program A} {b a : ℕ} {u : Undecided} → Leads w R p b a (Err (undecided_at u)) → StopsAt (run w p) b u
 leads_stop_at h = tells_stop h.tells

@@ -3,6 +3,7 @@ pub mod Cells
 pub mod Values
 pub mod Nesting
 pub mod Leads
+pub mod Counts
 pub mod Corrections
 pub mod FactRuns
 pub mod Implying
