@@ -2,7 +2,7 @@
 use Rattle.book_model.specs.declared.moon_tables.TheConstants.{ECCENTRICITY_FACTOR, ELONGATION, FLATTENING, JUPITER_WAVE, LATITUDE_ARGUMENT, LATITUDE_WAVE, MILLIONTH, MOON_ANOMALY, MOON_LONGITUDE, MOON_TERMS, SUN_ANOMALY, VENUS_WAVE}
 use Rattle.book_model.specs.declared.polynomial.Cubic.{Cubic}
 use Rattle.book_model.specs.declared.polynomial.Quartic.{Quartic}
-use Rattle.book_model.specs.numbers.Expressions.{Expression, constant, add, subtract, scale, power, sine}
+use Rattle.book_model.specs.numbers.Expressions.{Expression, constant, add, subtract, multiply, scale, power, sine}
 use Rattle.book_model.specs.numbers.Fractions.{fraction_of}
 use Rattle.book_model.specs.sky.Latitude.{latitude_terms_of, venus_by, flattening_by}
 use Rattle.book_model.specs.sky.Moon.{LunarAngles, longitude_term_of, no_term}
@@ -11,10 +11,11 @@ use Rattle.book_model.specs.sky.Sun.{nutation_of}
 use Rattle.book_model.specs.numbers.Terms.{terms_of}
 use Rattle.sun_core.specs.Daily.{in_centuries, by_days, daily_angle_of, daily_wave_of}
 
--- a quartic, its linear part by the days
+-- a quartic, its linear part by the days; a fourth power is too large for an enclosure in early years, and so the cube is
+-- scaled and then multiplied
 unfoldable pub daily_quartic_of : Quartic → Expression → Expression
 daily_quartic_of p x =
-    add (add (add (add (constant (fraction_of p.constant)) (by_days p.linear x)) (scale (fraction_of p.square) (power (in_centuries x) 2))) (scale (fraction_of p.cube) (power (in_centuries x) 3))) (scale (fraction_of p.fourth) (power (in_centuries x) 4))
+    add (add (add (add (constant (fraction_of p.constant)) (by_days p.linear x)) (scale (fraction_of p.square) (power (in_centuries x) 2))) (scale (fraction_of p.cube) (power (in_centuries x) 3))) (multiply (scale (fraction_of p.fourth) (power (in_centuries x) 3)) (in_centuries x))
 
 -- a cubic, its linear part by the days
 unfoldable pub daily_cubic_of : Cubic → Expression → Expression

@@ -40,7 +40,7 @@ pub(crate) fn daily_quartic<E: Enclosure>(angle: &Quartic, days: E, c: E) -> E
         .add(times_rate(days, angle.linear))
         .add(square.mul_frac(angle.square))
         .add(cube.mul_frac(angle.cube))
-        .add(cube.mul(c).mul_frac(angle.fourth))
+        .add(cube.mul_frac(angle.fourth).mul(c))
 }
 
 /// A cubic of the time, in the same way.

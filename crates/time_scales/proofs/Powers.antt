@@ -1,11 +1,12 @@
 -- A power of an interval lies within the product of the next lower power and the interval, which may be wider.
-use Rattle.std.proofs.Common.{ℕ, suc}
-use Rattle.exact_math.specs.Fraction.{Fraction, ◌≤F◌, times, power}
-use Rattle.exact_math.specs.Interval.{Interval, everything, between, IsProper, IsMember, ◌⊆◌, product, power as interval_power}
-use Rattle.exact_math.proofs.Fractions.{turned_above, turned_below}
-use Rattle.exact_math.proofs.Intervals.{power_smallest, power_holds, product_holds, within_trans, within_everything}
+use Rattle.std.proofs.Common.{◌≡◌, ℕ, suc, Bool, true, false, cond, refl}
+use Rattle.exact_math.specs.Fraction.{Fraction, ◌≤F◌, times, power, larger, is_even}
+use Rattle.exact_math.specs.Interval.{Interval, everything, between, IsProper, IsMember, ◌⊆◌, product, least_even, zero_fraction, power as interval_power}
+use Rattle.exact_math.proofs.Fractions.{le_refl, le_trans, times_comm, turned_above, turned_below, larger_keeps}
+use Rattle.exact_math.proofs.Intervals.{least_is, greatest_is, power_smallest, power_holds, product_holds, within_trans, within_everything}
+use Rattle.exact_math.proofs.Same.{le_of_same, ge_of_same, times_assoc}
 use Rattle.book_model.specs.numbers.Bounds.{Limits, Reach, bound_of, power_bound}
-use Rattle.book_model.specs.numbers.Expressions.{Expression, World, value, multiply, power as power_of}
+use Rattle.book_model.specs.numbers.Expressions.{Expression, World, value, multiply, scale, power as power_of}
 use Rattle.book_model.specs.numbers.Relations.{Within, Narrow, Lies, Keeps}
 use Rattle.book_model.proofs.Values.{value_proper}
 
@@ -37,15 +38,58 @@ pub cube_keeps : {E : Type 0} (shown : E → Interval) (l : Limits) (r : Reach) 
 unfolding Keeps bound_of power_bound
 cube_keeps shown l r x e h = record { kept = h.kept }
 
--- an enclosure of the product of a cube and its root holds the fourth power
-pub fourth_holds : {E : Type 0} (shown : E → Interval) (w : World) (x : Expression) (e : E) → Within shown w (multiply (power_of x 3) x) e → Within shown w (power_of x 4) e
-unfolding Lies value
-fourth_holds shown w x e h = record { deep = h.deep; inside = within_trans (next_power 3 (value w x) (value_proper w x)) h.inside }
+-- what holds the multiples of two ends by a fraction holds the multiple of the interval
+scaled_ends : (a b f : Fraction) (j : Interval) → IsMember (times a f) j → IsMember (times b f) j → product (between a b) (between f f) ⊆ j
+unfolding product
+scaled_ends a b f everything h k = within_everything _
+scaled_ends a b f (between c d) h k = record { ends = (least_is c _ _ _ _ h.0 h.0 k.0 k.0, greatest_is d _ _ _ _ h.1 h.1 k.1 k.1) }
 
-pub fourth_keeps : {E : Type 0} (shown : E → Interval) (l : Limits) (r : Reach) (x : Expression) (e : E) → Narrow shown l r (multiply (power_of x 3) x) e → Narrow shown l r (power_of x 4) e
-unfolding Keeps bound_of power_bound
-fourth_keeps shown l r x e h = record { kept = h.kept }
+-- what holds the multiples of each power of a member holds the multiple of the interval of the powers
+scaled_power : (k : ℕ) (a b f : Fraction) (j : Interval) → a ≤F b → ((x : Fraction) → IsMember x (between a b) → IsMember (times (power x k) f) j)
+    → product (interval_power (between a b) k) (between f f) ⊆ j
+unfolding interval_power
+scaled_power k a b f j p h = by_test (is_even k) refl
+  where
+    first : IsMember (times (power a k) f) j
+    first = h a (le_refl a, p)
+
+    last : IsMember (times (power b k) f) j
+    last = h b (p, le_refl b)
+
+    by_test : (t : Bool) → is_even k ≡ t → product (cond t (between (least_even a b k) (larger (power a k) (power b k))) (between (power a k) (power b k))) (between f f) ⊆ j
+    by_test true e =
+        scaled_ends _ _ f j (least_even_keeps k a b (λ z. IsMember (times z f) j) (λ _. first) (λ _. last) (λ u v. h zero_fraction (u, v)))
+        (larger_keeps (λ z. IsMember (times z f) j) (power a k) (power b k) first last)
+    by_test false e = scaled_ends _ _ f j first last
+
+-- a product of three with its last factor in front of the first is in the same interval
+turned_of_three : (i : Interval) (x q f : Fraction) → IsMember (times (times q f) x) i → IsMember (times (times x q) f) i
+turned_of_three everything x q f h = tt
+turned_of_three (between lo hi) x q f h = (
+  le_trans _ _ _ h.0 (le_trans _ _ _ (times_comm (times q f) x) (ge_of_same (times_assoc x q f))),
+  le_trans _ _ _ (le_trans _ _ _ (le_of_same (times_assoc x q f)) (times_comm x (times q f))) h.1,
+)
+
+-- the multiple of the next power of an interval lies within the product of the power's multiple and the interval
+next_scaled_of_ends : (k : ℕ) (a b f : Fraction) → a ≤F b → product (interval_power (between a b) (suc k)) (between f f) ⊆ product (product (interval_power (between a b) k) (between f f)) (between a b)
+unfolding power
+next_scaled_of_ends k a b f p =
+    scaled_power (suc k) a b f (product (product (interval_power (between a b) k) (between f f)) (between a b)) p
+    (λ x m.
+    turned_of_three (product (product (interval_power (between a b) k) (between f f)) (between a b)) x (power x k) f
+    (product_holds (product (interval_power (between a b) k) (between f f)) (between a b) (times (power x k) f) x
+    (product_holds (interval_power (between a b) k) (between f f) (power x k) f (power_holds k (between a b) x m) (le_refl f, le_refl f)) m))
+
+next_scaled : (k : ℕ) (f : Fraction) (i : Interval) → IsProper i → product (interval_power i (suc k)) (between f f) ⊆ product (product (interval_power i k) (between f f)) i
+unfolding interval_power product
+next_scaled k f everything p = within_everything _
+next_scaled k f (between a b) p = next_scaled_of_ends k a b f p
+
+-- an enclosure of the product of a cube's multiple and its root holds the multiple of the fourth power
+pub fourth_holds : {E : Type 0} (shown : E → Interval) (w : World) (a : Fraction) (x : Expression) (e : E) → Within shown w (multiply (scale a (power_of x 3)) x) e → Within shown w (scale a (power_of x 4)) e
+unfolding Lies value
+fourth_holds shown w a x e h = record { deep = h.deep; inside = within_trans (next_scaled 3 a (value w x) (value_proper w x)) h.inside }
 
 pub ruleset cubes = (cube_holds, cube_keeps)
 
-pub ruleset fourths = (cube_holds, cube_keeps, fourth_holds, fourth_keeps)
+pub ruleset fourths = (cube_holds, cube_keeps, fourth_holds)

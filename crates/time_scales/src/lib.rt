@@ -6,7 +6,7 @@
 //! - `correction`: dynamical time less universal time in a year; `dynamical` and `from_dynamical` apply it, and
 //!   `centuries` counts from noon of 1 January 2000;
 //! - `sidereal`; `zone_beijing`, `in_beijing` and `midnight`, the time of Beijing;
-//! - `quadratic`, `cubic` and `quartic`: polynomials of enclosures; `at_fraction`: a polynomial at an exact time; for the
+//! - `quadratic` and `cubic`: polynomials of enclosures; `at_fraction`: a polynomial at an exact time; for the
 //!   formulas of the crates above.
 #![tactic(auto)]
 
@@ -21,6 +21,6 @@ mod zone;
 
 pub use dynamical_time::{centuries, correction, dynamical, from_dynamical};
 pub use moment::{year, year_of_whole_day};
-pub use polynomial::{at_fraction, cubic, quadratic, quartic};
+pub use polynomial::{at_fraction, cubic, quadratic};
 pub use sidereal_time::sidereal;
 pub use zone::{in_beijing, midnight, zone_beijing};

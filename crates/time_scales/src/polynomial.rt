@@ -4,12 +4,12 @@ ghost use Rattle.book_model.specs.numbers.Bounds.{Reach, limits_of};
 ghost use Rattle.book_model.specs.sky.Correction.{polynomial_of};
 ghost use Rattle.book_model.specs.numbers.Expressions.{Expression, World};
 ghost use Rattle.book_model.specs.numbers.Fractions.{fraction_of};
-ghost use Rattle.book_model.specs.numbers.Polynomials.{quadratic_of, cubic_of, quartic_of, polynomial_at};
+ghost use Rattle.book_model.specs.numbers.Polynomials.{quadratic_of, cubic_of, polynomial_at};
 ghost use Rattle.book_model.specs.numbers.Relations.{Within, Narrow};
 ghost use Rattle.time_scales.specs.Horner.{horner_of};
 ghost use Rattle.book_model.specs.numbers.Depth.{DEPTH};
 
-use book_model::{Cubic, Frac, Quadratic, Quartic};
+use book_model::{Cubic, Frac, Quadratic};
 use encl_core::Enclosure;
 
 /// The quadratic polynomial with these coefficients.
@@ -36,22 +36,6 @@ pub fn cubic<E: Enclosure>(coefficients: &Cubic, x: E) -> E
         .add(x.mul_frac(coefficients.linear))
         .add(square.mul_frac(coefficients.square))
         .add(square.mul(x).mul_frac(coefficients.cube))
-}
-
-/// The polynomial of the fourth degree with these coefficients.
-#[inline(always)]
-#[tactic(auto, using(crate::proofs::Powers::fourths), unfolding(book_model::specs::numbers::Polynomials::quartic_of))]
-pub fn quartic<E: Enclosure>(coefficients: &Quartic, x: E) -> E
-    ensures holds { (w : World) (a : Expression) → Within E.shown w a x → Within E.shown w (quartic_of coefficients.now a) result }
-    ensures narrow { (r : Reach) (a : Expression) → Narrow E.shown (limits_of E.BITS) r a x → Narrow E.shown (limits_of E.BITS) r (quartic_of coefficients.now a) result }
-{
-    let square = x.square();
-    let cube = square.mul(x);
-    E::from_frac(coefficients.constant)
-        .add(x.mul_frac(coefficients.linear))
-        .add(square.mul_frac(coefficients.square))
-        .add(cube.mul_frac(coefficients.cube))
-        .add(cube.mul(x).mul_frac(coefficients.fourth))
 }
 
 /// The polynomial with these coefficients at a whole number, its powers taken in whole numbers.

@@ -11,4 +11,4 @@ returns-in-Ok-clause-leads g c = λ w e h.
 
 pub returns-in-Err-clause-leads : goal.returns-in-Err-clause-leads
 returns-in-Err-clause-leads g c = λ w e h.
-    rw (← c.in-Err.ensures.named.0) (leads_open_cell integers e _ answer _ c.in-Err.at (lies h) c.in-Err.ensures.named.1 c.in-Err.ensures.undecided)
+    rw (← c.in-Err.ensures.named.0) (leads_open_cell integers e _ answer _ c.in-Err.at (lies h) c.in-Err.ensures.named.1 c.in-Err.ensures.counted c.in-Err.ensures.undecided)

@@ -18,4 +18,4 @@ returns-in-Ok-clause-leads g c = λ w e h.
 pub returns-in-Err-clause-leads : goal.returns-in-Err-clause-leads
 returns-in-Err-clause-leads g c = λ w e h.
     rw (← c.in-Err.ensures.named.0)
-    (leads_open_cell (multiples c.args.modulus) e _ (λ p. answer (remainder c.args.modulus e p)) _ c.in-Err.at (lies h) c.in-Err.ensures.named.1 (between_cells c.in-Err.ensures.undecided.open_there c.in-Err.ensures.undecided.ends))
+    (leads_open_cell (multiples c.args.modulus) e _ (λ p. answer (remainder c.args.modulus e p)) _ c.in-Err.at (lies h) c.in-Err.ensures.named.1 c.in-Err.ensures.counted (between_cells c.in-Err.ensures.undecided.open_there c.in-Err.ensures.undecided.ends))
