@@ -1,8 +1,8 @@
 -- A power of an interval lies within the product of the next lower power and the interval, which may be wider.
 use Rattle.std.proofs.Common.{◌≡◌, ℕ, suc, Bool, true, false, cond, refl}
-use Rattle.exact_math.specs.Fraction.{Fraction, ◌≤F◌, times, power, larger, is_even}
+use Rattle.exact_math.specs.Fraction.{Fraction, ◌≤F◌, times, power, larger, is_at_most, is_even}
 use Rattle.exact_math.specs.Interval.{Interval, everything, between, IsProper, IsMember, ◌⊆◌, product, least_even, zero_fraction, power as interval_power}
-use Rattle.exact_math.proofs.Fractions.{le_refl, le_trans, times_comm, turned_above, turned_below, larger_keeps}
+use Rattle.exact_math.proofs.Fractions.{le_refl, le_trans, times_comm, turned_above, turned_below, larger_keeps, at_most_false}
 use Rattle.exact_math.proofs.Intervals.{least_is, greatest_is, power_smallest, power_holds, product_holds, within_trans, within_everything}
 use Rattle.exact_math.proofs.Same.{le_of_same, ge_of_same, times_assoc}
 use Rattle.book_model.specs.numbers.Bounds.{Limits, Reach, bound_of, power_bound}
@@ -47,7 +47,7 @@ scaled_ends a b f (between c d) h k = record { ends = (least_is c _ _ _ _ h.0 h.
 -- what holds the multiples of each power of a member holds the multiple of the interval of the powers
 scaled_power : (k : ℕ) (a b f : Fraction) (j : Interval) → a ≤F b → ((x : Fraction) → IsMember x (between a b) → IsMember (times (power x k) f) j)
     → product (interval_power (between a b) k) (between f f) ⊆ j
-unfolding interval_power
+unfolding interval_power least_even
 scaled_power k a b f j p h = by_test (is_even k) refl
   where
     first : IsMember (times (power a k) f) j
@@ -56,9 +56,14 @@ scaled_power k a b f j p h = by_test (is_even k) refl
     last : IsMember (times (power b k) f) j
     last = h b (p, le_refl b)
 
+    least_of : (t : Bool) → is_at_most zero_fraction a ≡ t → (u : Bool) → is_at_most b zero_fraction ≡ u → IsMember (times (cond t (power a k) (cond u (power b k) (power zero_fraction k))) f) j
+    least_of true d u e = first
+    least_of false d true e = last
+    least_of false d false e = h zero_fraction (at_most_false zero_fraction a d, at_most_false b zero_fraction e)
+
     by_test : (t : Bool) → is_even k ≡ t → product (cond t (between (least_even a b k) (larger (power a k) (power b k))) (between (power a k) (power b k))) (between f f) ⊆ j
     by_test true e =
-        scaled_ends _ _ f j (least_even_keeps k a b (λ z. IsMember (times z f) j) (λ _. first) (λ _. last) (λ u v. h zero_fraction (u, v)))
+        scaled_ends _ _ f j (least_of (is_at_most zero_fraction a) refl (is_at_most b zero_fraction) refl)
         (larger_keeps (λ z. IsMember (times z f) j) (power a k) (power b k) first last)
     by_test false e = scaled_ends _ _ f j first last
 

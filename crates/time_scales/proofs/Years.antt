@@ -97,7 +97,7 @@ leads_year {x = x} {e = e} y b a h d n = rw n (leads_cell Year years x _ y answe
 -- a year that the enclosure leaves open
 pub leads_open_year : {E : Type 0} {shown : E → Interval} {w : World} {x : Expression} {e : E} (f : Fail) (b a : ℕ) → Within shown w x e → IsOpenYear (shown e) a f → a ≡ next_turn b → Leads w (Exact {A = ℤ}) (year_of x) b a (Err f)
 unfolding year_of
-leads_open_year {x = x} {e = e} (undecided_at u) b a h o n = rw (← o.1) (leads_open_cell years x _ answer a u (lies h) (o.2 ∙ n) o.0)
+leads_open_year {x = x} {e = e} (undecided_at u) b a h o n = rw (← o.1) (leads_open_cell years x _ answer a u (lies h) (o.2 ∙ n) n o.0)
 leads_open_year {x = x} {e = e} (Void s) b a h o n = absurd o
 
 -- a test of the year, by its result
