@@ -1,5 +1,5 @@
 //! Dates over tables in memory, each compared with an independent implementation.
-ghost use Rattle.std.specs.Prelude.{◌≡◌, ◌≤ℤ◌, pos, length, IsTrue};
+ghost use Rattle.std.specs.Prelude.{◌≡◌, ◌≤◌, ◌≤ℤ◌, pos, length, IsTrue};
 ghost use Rattle.oracle_core.specs.Pairs.{AreFactValues, are_distinct};
 
 use crate::facts::fact_on;
@@ -122,6 +122,81 @@ fn first_of(year: i32, month: u8, leap_month: bool) -> HinduLunar {
     }
 }
 
+/// The day of a lunar date over a table, and the number of facts asked.
+fn lunar_day_over(
+    alloc: Global,
+    facts: &[Fact],
+    values: &[i64],
+    date: HinduLunar,
+) -> (Result<i64, Stop>, usize)
+    requires from_1858 { pos 1858 ≤ℤ date.year }
+    requires to_2105 { date.year ≤ℤ pos 2105 }
+    requires from_first_month { 1 ≤ date.month }
+    requires to_last_month { date.month ≤ 12 }
+    requires same { length facts.now ≡ length values.now }
+    requires distinct { IsTrue (are_distinct facts.now) }
+    requires known { AreFactValues values.now }
+{
+    let mut oracle = Listed::new(alloc, facts, values);
+    let day = lunar::to_fixed(&mut oracle, date);
+    (day, oracle.asked().len())
+}
+
+/// The first of an added month, over a table of its facts.
+fn day_of_whole_month(alloc: Global) -> (Result<i64, Stop>, usize) {
+    let facts = [
+        fact_on(Kind::Tithi, 738_748),
+        fact_on(Kind::Tithi, 738_733),
+        fact_on(Kind::Tithi, 738_732),
+        fact_on(Kind::SignBefore, 738_733),
+        fact_on(Kind::SignAfter, 738_733),
+        fact_on(Kind::CalendarYear, 738_733),
+        fact_on(Kind::Tithi, 738_717),
+        fact_on(Kind::Tithi, 738_716),
+        fact_on(Kind::SignBefore, 738_717),
+        fact_on(Kind::SignAfter, 738_717),
+        fact_on(Kind::CalendarYear, 738_717),
+        fact_on(Kind::Tithi, 738_718),
+        fact_on(Kind::SignBefore, 738_718),
+        fact_on(Kind::SignAfter, 738_718),
+        fact_on(Kind::CalendarYear, 738_718),
+        fact_on(Kind::Tithi, 738_719),
+        fact_on(Kind::SignBefore, 738_719),
+        fact_on(Kind::SignAfter, 738_719),
+        fact_on(Kind::CalendarYear, 738_719),
+    ];
+    let values = [30, 15, 13, 4, 4, 5_124, 29, 28, 3, 4, 5_124, 30, 3, 4, 5_124, 1, 4, 4, 5_124];
+    lunar_day_over(alloc, &facts, &values, first_of(2080, 5, true))
+}
+
+/// The 15th of a common month, over a table of its facts.
+fn day_of_full_moon(alloc: Global) -> (Result<i64, Stop>, usize) {
+    let facts = [
+        fact_on(Kind::Tithi, 738_961),
+        fact_on(Kind::Tithi, 738_969),
+        fact_on(Kind::Tithi, 738_968),
+        fact_on(Kind::SignBefore, 738_969),
+        fact_on(Kind::SignAfter, 738_969),
+        fact_on(Kind::CalendarYear, 738_969),
+        fact_on(Kind::Tithi, 738_967),
+        fact_on(Kind::SignBefore, 738_968),
+        fact_on(Kind::SignAfter, 738_968),
+        fact_on(Kind::CalendarYear, 738_968),
+        fact_on(Kind::Tithi, 738_970),
+        fact_on(Kind::SignBefore, 738_970),
+        fact_on(Kind::SignAfter, 738_970),
+        fact_on(Kind::CalendarYear, 738_970),
+    ];
+    let values = [7, 14, 13, 11, 12, 5_124, 13, 11, 12, 5_124, 15, 11, 12, 5_124];
+    lunar_day_over(alloc, &facts, &values, HinduLunar {
+        year: 2080,
+        month: 12,
+        leap_month: false,
+        day: 15,
+        leap_day: false,
+    })
+}
+
 #[test]
 fn solar_dates_follow_the_tables(rt: HostRuntime) -> Result<(), Fail> {
     let date = HinduSolar {
@@ -144,4 +219,10 @@ fn lunar_dates_follow_the_tables(rt: HostRuntime) -> Result<(), Fail> {
     let missing = Stop::Missing(fact_on(Kind::Tithi, 738_733));
     assert_eq!(rt; day_of_added_month(rt.alloc()), Err(missing));
     Ok(())
+}
+
+#[test]
+fn lunar_days_follow_the_tables(rt: HostRuntime) {
+    assert_eq!(rt; day_of_whole_month(rt.alloc()), (Ok(738_719), 19));
+    assert_eq!(rt; day_of_full_moon(rt.alloc()), (Ok(738_970), 14));
 }

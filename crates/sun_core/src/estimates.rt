@@ -26,7 +26,6 @@ pub(crate) fn reduced<E: Enclosure>(angle: E, trail: &mut Trail) -> Result<E, Fa
 #[tactic(auto, using(book_model::proofs::Leads::leading), unfolding(book_model::specs::sky::Sun::past_of, book_model::specs::programs::Leading::next_turn))]
 fn past<E: Enclosure>(longitude: E, t: E, trail: &mut Trail) -> Result<E, Fail>
     ensures leads { (w : World) (l x : Expression) → Within E.shown w l longitude → Within E.shown w x t → Leads w (Within E.shown w) (past_of l x) trail.old.count trail.new.count result }
-    ensures counted { trail.new.count ≤ trail.old.count + 3 }
 {
     match sun(t, trail) {
         Ok(there) => reduced(there.sub(longitude), trail),
@@ -38,7 +37,6 @@ fn past<E: Enclosure>(longitude: E, t: E, trail: &mut Trail) -> Result<E, Fail>
 #[tactic(auto, using(book_model::proofs::Leads::leading), unfolding(book_model::specs::sky::Sun::off_of, book_model::specs::programs::Leading::next_turn))]
 fn off<E: Enclosure>(longitude: E, t: E, trail: &mut Trail) -> Result<E, Fail>
     ensures leads { (w : World) (l x : Expression) → Within E.shown w l longitude → Within E.shown w x t → Leads w (Within E.shown w) (off_of l x) trail.old.count trail.new.count result }
-    ensures counted { trail.new.count ≤ trail.old.count + 3 }
 {
     let there = sun(t, trail)?;
     let half_turn = E::from_int(HALF_TURN);
