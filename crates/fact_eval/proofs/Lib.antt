@@ -10,3 +10,4 @@ pub mod SunsetValues
 pub mod Solstices
 pub mod TermDays
 pub mod MoonFacts
+pub mod FewTests

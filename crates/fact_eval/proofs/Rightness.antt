@@ -14,19 +14,14 @@ use Rattle.book_model.specs.calendars.Gregorian.{year_of_day}
 use Rattle.book_model.specs.numbers.Expressions.{World}
 use Rattle.book_model.specs.sky.Facts.{IsFactValue, program_of, formula_of, HasWholeDays}
 use Rattle.book_model.specs.programs.Leading.{Exact, Leads}
-use Rattle.book_model.specs.programs.Programs.{void, AtMost, void_at_most}
-use Rattle.book_model.proofs.Corrections.{few_of_two}
+use Rattle.book_model.specs.programs.Programs.{void}
+use Rattle.fact_eval.proofs.FewTests.{program_few}
 use Rattle.fact_eval.proofs.Evaluations.{true_of_leads, void_of_leads, near_of_leads}
 use Rattle.moon_core.specs.PhaseDays.{IsPhaseDay}
 use Rattle.time_scales.specs.Steps.{IsNoEarlyYear}
 use Rattle.oracle_core.specs.Answers.{IsRightAnswer}
 use Rattle.fact_eval.specs.Answers.{answer_of}
 use Rattle.fact_eval.specs.Widths.{IsNearFor}
-
--- the run of a fact makes fewer than 100,000 tests where its formula does
-pub program_few : (f : Fact) → AtMost 99999 (formula_of f.kind f.place f.day) → AtMost 99999 (program_of f)
-unfolding program_of
-program_few f h = few_of_two 99999 (is_between FIRST_DAY LAST_DAY f.day) _ _ h void_at_most
 
 -- the formula of a fact by whether it may have a value
 pub program_inside : (f : Fact) → is_between FIRST_DAY LAST_DAY f.day ≡ true → program_of f ≡ formula_of f.kind f.place f.day
@@ -36,9 +31,6 @@ program_inside f h = rw h refl
 pub program_outside : (f : Fact) → is_between FIRST_DAY LAST_DAY f.day ≡ false → program_of f ≡ void Year
 unfolding program_of
 program_outside f h = rw h refl
-
-pub void_few : AtMost {A = ℤ} 99999 (void Year)
-void_few = void_at_most
 
 -- a kind of which nothing is promised
 nothing_promised : (k : Kind) (y : ℤ) (r : Result ℤ Fail) → (HasWholeDays k → ⊥) → (k ≡ Dt → ⊥) → IfErr r (IsNearFor k y)
@@ -127,11 +119,11 @@ phase_day_is_value (Ok v) h = (omega (arith, ints, h.from), omega (arith, ints, 
 phase_day_is_value (Err f) h = tt
 
 -- what an evaluation that began with no test counted gives is right
-pub right_result : (f : Fact) (t : Result ℤ Fail) (a : ℕ) → ((w : World) → 40 ≤ w.depth → Leads w Exact (program_of f) 0 a t) → IfOk t IsFactValue → IfErr t (IsNearFor f.kind (year_of_day f.day)) → AtMost 99999 (program_of f) → IsRightAnswer f (answer_of t)
-right_result f (Ok v) a h k l few = (true_of_leads f v (program_of f) a refl h, k)
-right_result f (Err (Void s)) a h k l few = void_of_leads f s (program_of f) a refl h
-right_result f (Err (undecided_at u)) a h k l few = record {
-  at_each_depth = near_of_leads f u (program_of f) a refl few h;
+pub right_result : (f : Fact) (t : Result ℤ Fail) (a : ℕ) → ((w : World) → 40 ≤ w.depth → Leads w Exact (program_of f) 0 a t) → IfOk t IsFactValue → IfErr t (IsNearFor f.kind (year_of_day f.day)) → IsRightAnswer f (answer_of t)
+right_result f (Ok v) a h k l = (true_of_leads f v (program_of f) a refl h, k)
+right_result f (Err (Void s)) a h k l = void_of_leads f s (program_of f) a refl h
+right_result f (Err (undecided_at u)) a h k l = record {
+  at_each_depth = near_of_leads f u (program_of f) a refl (program_few f) h;
   no_whole_day = l.no_whole_day;
   close = l.close;
 }

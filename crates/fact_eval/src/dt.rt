@@ -7,7 +7,6 @@ ghost use Rattle.book_model.specs.numbers.Fractions.{fraction_of};
 ghost use Rattle.book_model.specs.sky.Facts.{IsFactValue, IsValueDay};
 ghost use Rattle.book_model.specs.sky.Kinds.{dt_of};
 ghost use Rattle.book_model.specs.declared.fact.Kind.TheVariants.{Dt};
-ghost use Rattle.book_model.specs.programs.Programs.{AtMost};
 ghost use Rattle.book_model.specs.programs.Leading.{Exact, Leads};
 ghost use Rattle.book_model.specs.numbers.Relations.{Within, Narrow};
 ghost use Rattle.fact_eval.specs.Widths.{IsNearFor, IsCloseFor};
@@ -27,12 +26,11 @@ fn milliseconds<E: Enclosure>(days: E) -> E
     days.mul_frac(MILLISECONDS_OF_DAY).add(E::from_frac(HALF))
 }
 
-#[tactic(auto, using(book_model::proofs::Leads::leading, book_model::proofs::FactRuns::dt_few), unfolding(book_model::specs::sky::Kinds::dt_of, book_model::specs::sky::Correction::rounded_of, book_model::specs::programs::Leading::next_turn))]
+#[tactic(auto, using(book_model::proofs::Leads::leading), unfolding(book_model::specs::sky::Kinds::dt_of, book_model::specs::sky::Correction::rounded_of, book_model::specs::programs::Leading::next_turn))]
 /// The dynamical time correction of the year of a day, in milliseconds, rounded: two tests, of which only the second
 /// may be open.
 pub(crate) fn dt<E: Enclosure>(day: i64, trail: &mut Trail) -> Result<i64, Fail>
     requires day { IsValueDay day }
-    ensures few { AtMost 99999 (dt_of day) }
     ensures leads { (w : World) → DEPTH ≤ w.depth → Leads w Exact (dt_of day) trail.old.count trail.new.count result }
     ensures counted { trail.new.count ≤ trail.old.count + 2 }
     ensures value { IfOk result IsFactValue }

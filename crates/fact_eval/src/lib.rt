@@ -3,6 +3,7 @@
 
 mod beijing;
 mod dt;
+pub mod laws;
 mod major;
 mod moon_days;
 mod nowruz;

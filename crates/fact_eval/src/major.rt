@@ -6,7 +6,6 @@ ghost use Rattle.book_model.specs.numbers.Expressions.{World};
 ghost use Rattle.book_model.specs.sky.Facts.{IsFactValue, IsValueDay};
 ghost use Rattle.book_model.specs.sky.Kinds.{terms_passed_of, major_of};
 ghost use Rattle.book_model.specs.programs.Leading.{Exact, Leads};
-ghost use Rattle.book_model.specs.programs.Programs.{AtMost};
 ghost use Rattle.book_model.specs.declared.fact.Kind.TheVariants.{Major};
 ghost use Rattle.fact_eval.specs.Widths.{IsNearFor};
 
@@ -32,10 +31,9 @@ fn terms_passed<E: Enclosure>(day: i64, trail: &mut Trail) -> Result<i64, Fail>
 
 /// The number, from 1 to 12, of the last major solar term at midnight at the beginning of a day (R.D.) in Beijing, that at 330
 /// degrees being the first: three tests at most.
-#[tactic(auto, using(book_model::proofs::Leads::leading, crate::proofs::Solstices::major_few, crate::proofs::Rightness::major_keeps), unfolding(book_model::specs::sky::Kinds::major_of))]
+#[tactic(auto, using(book_model::proofs::Leads::leading, crate::proofs::Rightness::major_keeps), unfolding(book_model::specs::sky::Kinds::major_of))]
 pub(crate) fn major<E: Enclosure>(day: i64, trail: &mut Trail) -> Result<i64, Fail>
     requires day { IsValueDay day }
-    ensures few { AtMost 99999 (major_of day) }
     ensures leads { (w : World) → DEPTH ≤ w.depth → Leads w Exact (major_of day) trail.old.count trail.new.count result }
     ensures value { IfOk result IsFactValue }
     ensures counted { trail.new.count ≤ trail.old.count + 3 }

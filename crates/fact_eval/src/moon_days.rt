@@ -5,7 +5,6 @@ ghost use Rattle.book_model.specs.numbers.Expressions.{World};
 ghost use Rattle.book_model.specs.sky.Facts.{IsFactValue, IsValueDay};
 ghost use Rattle.book_model.specs.sky.Kinds.{new_moon_before_of, new_moon_from_of};
 ghost use Rattle.book_model.specs.programs.Leading.{Exact, Leads};
-ghost use Rattle.book_model.specs.programs.Programs.{AtMost};
 ghost use Rattle.book_model.specs.declared.fact.Kind.TheVariants.{NewMoonBefore, NewMoonFrom};
 ghost use Rattle.fact_eval.specs.Widths.{IsNearFor};
 ghost use Rattle.book_model.specs.numbers.Depth.{DEPTH};
@@ -41,10 +40,9 @@ fn day_of_moon_from<E: Enclosure>(day: i64, trail: &mut Trail) -> Result<i64, Fa
 }
 
 /// The day (R.D.) in Beijing of the last new moon before midnight at the beginning of a day there: 27 tests at most.
-#[tactic(auto, using(crate::proofs::MoonFacts::new_moon_before_few, crate::proofs::Rightness::new_moon_before_keeps))]
+#[tactic(auto, using(crate::proofs::Rightness::new_moon_before_keeps))]
 pub(crate) fn new_moon_before<E: Enclosure>(day: i64, trail: &mut Trail) -> Result<i64, Fail>
     requires day { IsValueDay day }
-    ensures few { AtMost 99999 (new_moon_before_of day) }
     ensures leads { (w : World) → DEPTH ≤ w.depth → Leads w Exact (new_moon_before_of day) trail.old.count trail.new.count result }
     ensures counted { trail.new.count ≤ trail.old.count + 27 }
     ensures value { IfOk result IsFactValue }
@@ -54,10 +52,9 @@ pub(crate) fn new_moon_before<E: Enclosure>(day: i64, trail: &mut Trail) -> Resu
 }
 
 /// The day (R.D.) in Beijing of the first new moon at or after midnight at the beginning of a day there: 27 tests at most.
-#[tactic(auto, using(crate::proofs::MoonFacts::new_moon_from_few, crate::proofs::Rightness::new_moon_from_keeps))]
+#[tactic(auto, using(crate::proofs::Rightness::new_moon_from_keeps))]
 pub(crate) fn new_moon_from<E: Enclosure>(day: i64, trail: &mut Trail) -> Result<i64, Fail>
     requires day { IsValueDay day }
-    ensures few { AtMost 99999 (new_moon_from_of day) }
     ensures leads { (w : World) → DEPTH ≤ w.depth → Leads w Exact (new_moon_from_of day) trail.old.count trail.new.count result }
     ensures counted { trail.new.count ≤ trail.old.count + 27 }
     ensures value { IfOk result IsFactValue }

@@ -7,7 +7,6 @@ ghost use Rattle.book_model.specs.sky.Facts.{IsFactValue, IsValueDay};
 ghost use Rattle.book_model.specs.sky.Kinds.{nowruz_of};
 ghost use Rattle.book_model.specs.programs.Leading.{Exact, Leads};
 ghost use Rattle.book_model.specs.sky.Noon.{noon_of};
-ghost use Rattle.book_model.specs.programs.Programs.{AtMost};
 ghost use Rattle.book_model.specs.declared.fact.Kind.TheVariants.{Nowruz};
 ghost use Rattle.fact_eval.specs.Widths.{IsNearFor};
 
@@ -33,10 +32,9 @@ impl<E: Enclosure> DayMoment<E> for NoonAtTehran {
 
 /// The first day (R.D.) of the Persian year in which a day falls, by true noon at Tehran. It is void at `search` where there is
 /// none.
-#[tactic(auto, using(sun_core::proofs::NewYears::nowruz_few, crate::proofs::Rightness::nowruz_keeps))]
+#[tactic(auto, using(crate::proofs::Rightness::nowruz_keeps))]
 pub(crate) fn nowruz<E: Enclosure>(day: i64, trail: &mut Trail) -> Result<i64, Fail>
     requires day { IsValueDay day }
-    ensures few { AtMost 99999 (nowruz_of day) }
     ensures leads { (w : World) → DEPTH ≤ w.depth → Leads w Exact (nowruz_of day) trail.old.count trail.new.count result }
     ensures value { IfOk result IsFactValue }
     ensures counted { trail.new.count ≤ trail.old.count + 192 }

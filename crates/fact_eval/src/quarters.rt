@@ -7,7 +7,6 @@ ghost use Rattle.book_model.specs.sky.Facts.{IsFactValue, IsValueDay};
 ghost use Rattle.book_model.specs.sky.Kinds.{location_of as location_at};
 ghost use Rattle.book_model.specs.programs.Leading.{Exact, Leads};
 ghost use Rattle.book_model.specs.sky.Phases.{phase_day_of};
-ghost use Rattle.book_model.specs.programs.Programs.{AtMost};
 ghost use Rattle.time_scales.specs.Steps.{IsNoEarlyYear};
 
 use crate::sunsets::location_of;
@@ -16,10 +15,9 @@ use encl_core::{Enclosure, Trail};
 
 /// The day (R.D.) in universal time on which the moon was last at a phase, in degrees, before a day begins or as it begins: 845
 /// tests at most.
-#[tactic(auto, using(moon_core::proofs::PhaseDays::phase_day_few, crate::proofs::Rightness::phase_day_is_value))]
+#[tactic(auto, using(crate::proofs::Rightness::phase_day_is_value))]
 pub(crate) fn phase_day<E: Enclosure>(phase: i64, day: i64, trail: &mut Trail) -> Result<i64, Fail>
     requires day { IsValueDay day }
-    ensures few { AtMost 99999 (phase_day_of phase day) }
     ensures leads { (w : World) → DEPTH ≤ w.depth → Leads w Exact (phase_day_of phase day) trail.old.count trail.new.count result }
     ensures value { IfOk result IsFactValue }
     ensures early { trail.old.count ≡ 0 → 36 ≤ E.BITS → E.BITS ≤ 56 → IfErr result IsNoEarlyYear }
@@ -29,10 +27,8 @@ pub(crate) fn phase_day<E: Enclosure>(phase: i64, day: i64, trail: &mut Trail) -
 
 /// The last day (R.D.) before a day, or the day itself, on whose evening before the crescent was first seen at a place: 7,942
 /// tests at most.
-#[tactic(auto, using(crate::proofs::Crescents::phasis_few))]
 pub(crate) fn phasis<E: Enclosure>(place: Place, day: i64, trail: &mut Trail) -> Result<i64, Fail>
     requires day { IsValueDay day }
-    ensures few { AtMost 99999 (phasis_of (location_at place) day) }
     ensures leads { (w : World) → DEPTH ≤ w.depth → Leads w Exact (phasis_of (location_at place) day) trail.old.count trail.new.count result }
     ensures value { IfOk result IsFactValue }
     ensures early { trail.old.count ≡ 0 → 36 ≤ E.BITS → E.BITS ≤ 56 → IfErr result IsNoEarlyYear }

@@ -5,7 +5,6 @@ ghost use Rattle.book_model.specs.numbers.Expressions.{World};
 ghost use Rattle.book_model.specs.sky.Facts.{IsFactValue, IsValueDay};
 ghost use Rattle.book_model.specs.sky.Kinds as spec;
 ghost use Rattle.book_model.specs.programs.Leading.{Exact, Leads};
-ghost use Rattle.book_model.specs.programs.Programs.{AtMost};
 ghost use Rattle.fact_eval.specs.Spans.{IsSpan};
 
 use crate::beijing::{day_in_beijing, longitude_at_midnight};
@@ -84,12 +83,10 @@ fn next_term_day<E: Enclosure>(first: i64, day: i64, trail: &mut Trail) -> Resul
 
 /// The day (R.D.) in Beijing on which the sun comes to the first of the longitudes of the terms once a day has begun there: those 30
 /// degrees apart, the least of which is `first`, 0 for the major terms and 15 for the minor. 329 tests at most.
-#[tactic(auto, using(crate::proofs::TermDays::term_day_few))]
 pub(crate) fn term_day<E: Enclosure>(first: i64, day: i64, trail: &mut Trail) -> Result<i64, Fail>
     requires from { pos 0 ≤ℤ first }
     requires to { first ≤ℤ pos 15 }
     requires day { IsValueDay day }
-    ensures few { AtMost 99999 (spec.term_day_of first day) }
     ensures leads { (w : World) → DEPTH ≤ w.depth → Leads w Exact (spec.term_day_of first day) trail.old.count trail.new.count result }
     ensures value { IfOk result IsFactValue }
 {

@@ -6,7 +6,6 @@ ghost use Rattle.book_model.specs.numbers.Expressions.{Expression, World};
 ghost use Rattle.book_model.specs.sky.Facts.{IsFactDay, IsFactValue, IsValueDay};
 ghost use Rattle.book_model.specs.sky.Kinds.{is_past_winter_of, has_winter_at_end, last_solstice_of, solstice_start_of, solstice_of};
 ghost use Rattle.book_model.specs.programs.Leading.{Exact, Leads};
-ghost use Rattle.book_model.specs.programs.Programs.{AtMost};
 ghost use Rattle.book_model.specs.numbers.Relations.{Within};
 ghost use Rattle.book_model.specs.declared.fact.Kind.TheVariants.{Solstice};
 ghost use Rattle.fact_eval.specs.Widths.{IsNearFor};
@@ -84,10 +83,9 @@ fn search_start<E: Enclosure>(day: i64, trail: &mut Trail) -> Result<i64, Fail>
 
 /// The day (R.D.) of the last winter solstice in Beijing before a day ends there: the first from the day before the estimated
 /// one on, of 46, at whose end the sun is past the solstice. It is void at `search` where there is none.
-#[tactic(auto, using(book_model::proofs::Leads::leading, crate::proofs::Solstices::solstice_few, crate::proofs::Rightness::solstice_keeps), unfolding(book_model::specs::sky::Kinds::solstice_of))]
+#[tactic(auto, using(book_model::proofs::Leads::leading, crate::proofs::Rightness::solstice_keeps), unfolding(book_model::specs::sky::Kinds::solstice_of))]
 pub(crate) fn solstice<E: Enclosure>(day: i64, trail: &mut Trail) -> Result<i64, Fail>
     requires day { IsValueDay day }
-    ensures few { AtMost 99999 (solstice_of day) }
     ensures leads { (w : World) → DEPTH ≤ w.depth → Leads w Exact (solstice_of day) trail.old.count trail.new.count result }
     ensures value { IfOk result IsFactValue }
     ensures counted { trail.new.count ≤ trail.old.count + 145 }

@@ -6,7 +6,6 @@ ghost use Rattle.book_model.specs.sky.Correction.{is_between};
 ghost use Rattle.book_model.specs.numbers.Expressions.{World};
 ghost use Rattle.book_model.specs.sky.Facts.{IsFactValue, IsValueDay, formula_of, program_of};
 ghost use Rattle.book_model.specs.programs.Leading.{Exact, Leads};
-ghost use Rattle.book_model.specs.programs.Programs.{AtMost};
 ghost use Rattle.oracle_core.specs.Answers.{IsRightAnswer};
 ghost use Rattle.fact_eval.specs.Answers.{answer_of};
 ghost use Rattle.fact_eval.specs.Widths.{IsNearFor};
@@ -44,7 +43,6 @@ impl Staged {
 #[tactic(auto, using(crate::proofs::Rightness::keeping), unfolding(book_model::specs::sky::Facts::formula_of))]
 fn formula<E: Enclosure>(kind: Kind, place: Place, day: i64, trail: &mut Trail) -> Result<i64, Fail>
     requires day { IsValueDay day }
-    ensures few { AtMost 99999 (formula_of kind place day) }
     ensures leads { (w : World) → DEPTH ≤ w.depth → Leads w Exact (formula_of kind place day) trail.old.count trail.new.count result }
     ensures value { IfOk result IsFactValue }
     ensures open { trail.old.count ≡ 0 → 36 ≤ E.BITS → E.BITS ≤ 56 → IfErr result (IsNearFor kind (year_of_day day)) }
@@ -86,7 +84,6 @@ fn may_have_value(day: i64) -> bool
 
 /// The value of a fact by its formula. It fails where a test is open, or where the formula is void.
 pub(crate) fn evaluate<E: Enclosure>(fact: Fact, trail: &mut Trail) -> Result<i64, Fail>
-    ensures few { AtMost 99999 (program_of fact) }
     ensures leads { (w : World) → DEPTH ≤ w.depth → Leads w Exact (program_of fact) trail.old.count trail.new.count result }
     ensures value { IfOk result IsFactValue }
     ensures open { trail.old.count ≡ 0 → 36 ≤ E.BITS → E.BITS ≤ 56 → IfErr result (IsNearFor fact.kind (year_of_day fact.day)) }

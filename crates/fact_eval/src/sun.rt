@@ -5,7 +5,6 @@ ghost use Rattle.book_model.specs.numbers.Expressions.{World};
 ghost use Rattle.book_model.specs.sky.Facts.{IsFactValue, IsValueDay};
 ghost use Rattle.book_model.specs.sky.Kinds.{sun_in_thousandths_of};
 ghost use Rattle.book_model.specs.declared.fact.Kind.TheVariants.{Sun};
-ghost use Rattle.book_model.specs.programs.Programs.{AtMost};
 ghost use Rattle.book_model.specs.programs.Leading.{Exact, Leads};
 ghost use Rattle.fact_eval.specs.Widths.{IsNearFor};
 ghost use Rattle.book_model.specs.numbers.Depth.{DEPTH};
@@ -16,10 +15,9 @@ use sun_core::sun;
 
 /// The longitude of the sun at 0 h universal time of a day, in thousandths of a degree, rounded down: three tests, of
 /// which that of the year is never open.
-#[tactic(auto, using(book_model::proofs::Leads::leading, book_model::proofs::FactRuns::sun_in_thousandths_few), unfolding(book_model::specs::sky::Kinds::sun_in_thousandths_of, book_model::specs::programs::Leading::next_turn))]
+#[tactic(auto, using(book_model::proofs::Leads::leading), unfolding(book_model::specs::sky::Kinds::sun_in_thousandths_of, book_model::specs::programs::Leading::next_turn))]
 pub(crate) fn sun_in_thousandths<E: Enclosure>(day: i64, trail: &mut Trail) -> Result<i64, Fail>
     requires day { IsValueDay day }
-    ensures few { AtMost 99999 (sun_in_thousandths_of day) }
     ensures leads { (w : World) → DEPTH ≤ w.depth → Leads w Exact (sun_in_thousandths_of day) trail.old.count trail.new.count result }
     ensures counted { trail.new.count ≤ trail.old.count + 3 }
     ensures value { IfOk result IsFactValue }

@@ -8,7 +8,6 @@ ghost use Rattle.book_model.specs.sky.Facts.{IsFactValue, IsValueDay};
 ghost use Rattle.book_model.specs.sky.Horizon.{sunset_of};
 ghost use Rattle.book_model.specs.sky.Kinds.{bahai_year_of, location_of as location_at, minutes_of, sunset_in_minutes_of};
 ghost use Rattle.book_model.specs.programs.Leading.{Exact, Leads};
-ghost use Rattle.book_model.specs.programs.Programs.{AtMost};
 ghost use Rattle.book_model.specs.numbers.Relations.{Within};
 ghost use Rattle.book_model.specs.declared.fact.Kind.TheVariants.{BahaiYear, Sunset};
 ghost use Rattle.book_model.specs.declared.location_tables.TheConstants.{TEHRAN as tehran};
@@ -35,10 +34,9 @@ impl<E: Enclosure> DayMoment<E> for SunsetAtTehran {
 
 /// The first day (R.D.) of the Bahá'í year in which a day falls, by sunset at Tehran. It is void at `search` where there is none, and
 /// where a sunset is.
-#[tactic(auto, using(rise_set::proofs::Horizons::bahai_year_few, crate::proofs::Rightness::bahai_year_keeps))]
+#[tactic(auto, using(crate::proofs::Rightness::bahai_year_keeps))]
 pub(crate) fn bahai_year<E: Enclosure>(day: i64, trail: &mut Trail) -> Result<i64, Fail>
     requires day { IsValueDay day }
-    ensures few { AtMost 99999 (bahai_year_of day) }
     ensures leads { (w : World) → DEPTH ≤ w.depth → Leads w Exact (bahai_year_of day) trail.old.count trail.new.count result }
     ensures value { IfOk result IsFactValue }
     ensures counted { trail.new.count ≤ trail.old.count + 6349 }
@@ -95,14 +93,13 @@ fn minutes_of_sunset<E: Enclosure>(
 
 /// Sunset on a day (R.D.) at a place, in minutes of its standard time after midnight, rounded: 133 tests at most. It is void
 /// where sunset is.
-#[tactic(auto, using(rise_set::proofs::Horizons::sunset_in_minutes_few, crate::proofs::Rightness::sunset_keeps))]
+#[tactic(auto, using(crate::proofs::Rightness::sunset_keeps))]
 pub(crate) fn sunset_in_minutes<E: Enclosure>(
     place: Place,
     day: i64,
     trail: &mut Trail,
 ) -> Result<i64, Fail>
     requires day { IsValueDay day }
-    ensures few { AtMost 99999 (sunset_in_minutes_of (location_at place) day) }
     ensures leads { (w : World) → DEPTH ≤ w.depth → Leads w Exact (sunset_in_minutes_of (location_at place) day) trail.old.count trail.new.count result }
     ensures value { IfOk result IsFactValue }
     ensures counted { trail.new.count ≤ trail.old.count + 133 }

@@ -1,5 +1,6 @@
 //! The evaluator against an independent implementation of the formulas.
 mod decided;
+mod fine;
 
 use super::*;
 use book_model::{Fact, Kind, Place, Site};

@@ -6,7 +6,6 @@ ghost use Rattle.book_model.specs.numbers.Expressions.{Expression, World};
 ghost use Rattle.book_model.specs.sky.Facts.{IsFactValue, IsValueDay};
 ghost use Rattle.book_model.specs.sky.HinduFacts as spec;
 ghost use Rattle.book_model.specs.programs.Leading.{Exact, Leads};
-ghost use Rattle.book_model.specs.programs.Programs.{AtMost};
 ghost use Rattle.book_model.specs.numbers.Relations.{Within};
 ghost use Rattle.book_model.specs.programs.Searches.{first_day_from};
 ghost use Rattle.hindu_sky.specs.Counts.{IsDegree, IsLunarDay};
@@ -41,10 +40,8 @@ fn sign_by_sunset<E: Enclosure>(day: i64, trail: &mut Trail) -> Result<i64, Fail
 /// ```
 /// let sign = hindu_sky::sign_at_sunset::<Fine>(738_990, &mut Trail::new())?; // 1, on 14 April 2024
 /// ```
-#[tactic(auto, using(crate::proofs::HinduRuns::sign_at_sunset_few))]
 pub fn sign_at_sunset<E: Enclosure>(day: i64, trail: &mut Trail) -> Result<i64, Fail>
     requires day { IsValueDay day }
-    ensures few { AtMost 99999 (spec.sign_at_sunset_of day) }
     ensures leads { (w : World) → DEPTH ≤ w.depth → Leads w Exact (spec.sign_at_sunset_of day) trail.old.count trail.new.count result }
     ensures value { IfOk result IsFactValue }
 {
@@ -68,10 +65,8 @@ fn year_by_sunset<E: Enclosure>(day: i64, trail: &mut Trail) -> Result<i64, Fail
 /// ```
 /// let year = hindu_sky::solar_year::<Fine>(738_990, &mut Trail::new())?; // 5125, on 14 April 2024
 /// ```
-#[tactic(auto, using(crate::proofs::HinduRuns::year_at_sunset_few))]
 pub fn solar_year<E: Enclosure>(day: i64, trail: &mut Trail) -> Result<i64, Fail>
     requires day { IsValueDay day }
-    ensures few { AtMost 99999 (spec.year_at_sunset_of day) }
     ensures leads { (w : World) → DEPTH ≤ w.depth → Leads w Exact (spec.year_at_sunset_of day) trail.old.count trail.new.count result }
     ensures value { IfOk result IsFactValue }
 {
@@ -148,10 +143,9 @@ fn sign_entered<E: Enclosure>(day: i64, t: E, trail: &mut Trail) -> Result<i64, 
 /// ```
 /// let first = hindu_sky::sankranti::<Fine>(738_990, &mut Trail::new())?; // 738_990: the month begins on 14 April 2024
 /// ```
-#[tactic(auto, using(book_model::proofs::Leads::leading, crate::proofs::HinduRuns::sankranti_few), unfolding(book_model::specs::sky::HinduFacts::sankranti_of))]
+#[tactic(auto, using(book_model::proofs::Leads::leading), unfolding(book_model::specs::sky::HinduFacts::sankranti_of))]
 pub fn sankranti<E: Enclosure>(day: i64, trail: &mut Trail) -> Result<i64, Fail>
     requires day { IsValueDay day }
-    ensures few { AtMost 99999 (spec.sankranti_of day) }
     ensures leads { (w : World) → DEPTH ≤ w.depth → Leads w Exact (spec.sankranti_of day) trail.old.count trail.new.count result }
     ensures value { IfOk result IsFactValue }
 {
@@ -188,10 +182,9 @@ fn lunar_days_passed<E: Enclosure>(t: E, trail: &mut Trail) -> Result<i64, Fail>
 /// ```
 /// let day = hindu_sky::tithi::<Fine>(738_990, &mut Trail::new())?; // 6, on 14 April 2024
 /// ```
-#[tactic(auto, using(book_model::proofs::Leads::leading, crate::proofs::HinduRuns::tithi_few), unfolding(book_model::specs::sky::HinduFacts::tithi_of))]
+#[tactic(auto, using(book_model::proofs::Leads::leading), unfolding(book_model::specs::sky::HinduFacts::tithi_of))]
 pub fn tithi<E: Enclosure>(day: i64, trail: &mut Trail) -> Result<i64, Fail>
     requires day { IsValueDay day }
-    ensures few { AtMost 99999 (spec.tithi_of day) }
     ensures leads { (w : World) → DEPTH ≤ w.depth → Leads w Exact (spec.tithi_of day) trail.old.count trail.new.count result }
     ensures value { IfOk result IsFactValue }
 {
@@ -209,10 +202,9 @@ pub fn tithi<E: Enclosure>(day: i64, trail: &mut Trail) -> Result<i64, Fail>
 /// ```
 /// let sign = hindu_sky::sign_before::<Fine>(738_990, &mut Trail::new())?; // 12, on 14 April 2024
 /// ```
-#[tactic(auto, using(book_model::proofs::Leads::leading, crate::proofs::HinduRuns::sign_before_few), unfolding(book_model::specs::sky::HinduFacts::sign_before_of))]
+#[tactic(auto, using(book_model::proofs::Leads::leading), unfolding(book_model::specs::sky::HinduFacts::sign_before_of))]
 pub fn sign_before<E: Enclosure>(day: i64, trail: &mut Trail) -> Result<i64, Fail>
     requires day { IsValueDay day }
-    ensures few { AtMost 99999 (spec.sign_before_of day) }
     ensures leads { (w : World) → DEPTH ≤ w.depth → Leads w Exact (spec.sign_before_of day) trail.old.count trail.new.count result }
     ensures value { IfOk result IsFactValue }
 {
@@ -229,10 +221,9 @@ pub fn sign_before<E: Enclosure>(day: i64, trail: &mut Trail) -> Result<i64, Fai
 /// ```
 /// let sign = hindu_sky::sign_after::<Fine>(738_990, &mut Trail::new())?; // 1, on 14 April 2024
 /// ```
-#[tactic(auto, using(book_model::proofs::Leads::leading, crate::proofs::HinduRuns::sign_after_few), unfolding(book_model::specs::sky::HinduFacts::sign_after_of))]
+#[tactic(auto, using(book_model::proofs::Leads::leading), unfolding(book_model::specs::sky::HinduFacts::sign_after_of))]
 pub fn sign_after<E: Enclosure>(day: i64, trail: &mut Trail) -> Result<i64, Fail>
     requires day { IsValueDay day }
-    ensures few { AtMost 99999 (spec.sign_after_of day) }
     ensures leads { (w : World) → DEPTH ≤ w.depth → Leads w Exact (spec.sign_after_of day) trail.old.count trail.new.count result }
     ensures value { IfOk result IsFactValue }
 {
@@ -259,10 +250,8 @@ fn year_of_beginning<E: Enclosure>(day: i64, trail: &mut Trail) -> Result<i64, F
 /// ```
 /// let year = hindu_sky::calendar_year::<Fine>(739_170, &mut Trail::new())?; // 5125, on 11 October 2024
 /// ```
-#[tactic(auto, using(crate::proofs::HinduRuns::calendar_year_few))]
 pub fn calendar_year<E: Enclosure>(day: i64, trail: &mut Trail) -> Result<i64, Fail>
     requires day { IsValueDay day }
-    ensures few { AtMost 99999 (spec.calendar_year_of day) }
     ensures leads { (w : World) → DEPTH ≤ w.depth → Leads w Exact (spec.calendar_year_of day) trail.old.count trail.new.count result }
     ensures value { IfOk result IsFactValue }
     ensures early { trail.old.count ≡ 0 → 36 ≤ E.BITS → E.BITS ≤ 56 → IfErr result IsNoEarlyYear }

@@ -3,15 +3,8 @@ use Rattle.std.proofs.lemmas.Int.{to_z-of_z}
 use Rattle.book_model.specs.declared.fact.TheConstants.{FIRST_DAY, LAST_DAY}
 use Rattle.book_model.specs.sky.Correction.{is_between}
 use Rattle.book_model.proofs.Leads.{leads_void}
-use Rattle.fact_eval.proofs.Rightness.{program_few, program_inside, program_outside, void_few}
+use Rattle.fact_eval.proofs.Rightness.{program_inside, program_outside}
 use Rattle.fact_eval.proofs.staged.evaluate.Goals as goal
-
-pub returns-then-not-may_have_value-clause-few : goal.returns-then-not-may_have_value-clause-few
-returns-then-not-may_have_value-clause-few g c =
-    let f : SFits w64 c.day-day.result = search rules in
-    let e = simp to_z-of_z at c.if-not-may_have_value.ensures.same in
-    let outside : is_between FIRST_DAY LAST_DAY c.args.fact.day ≡ false = sym (rw c.day-day.ensures at e) in
-    rw (program_outside c.args.fact outside) void_few
 
 pub returns-then-not-may_have_value-clause-leads : goal.returns-then-not-may_have_value-clause-leads
 returns-then-not-may_have_value-clause-leads g c = λ w d.
@@ -19,12 +12,6 @@ returns-then-not-may_have_value-clause-leads g c = λ w d.
     let e = simp to_z-of_z at c.if-not-may_have_value.ensures.same in
     let outside : is_between FIRST_DAY LAST_DAY c.args.fact.day ≡ false = sym (rw c.day-day.ensures at e) in
     rw (program_outside c.args.fact outside) leads_void
-
-pub returns-clause-few : goal.returns-clause-few
-returns-clause-few g c =
-    let f : SFits w64 c.day-day.result = search rules in
-    let few = simp to_z-of_z at c.formula.ensures.few in
-    program_few c.args.fact (rw (c.kind.ensures, c.place.ensures, c.day-day.ensures) at few)
 
 pub returns-clause-leads : goal.returns-clause-leads
 returns-clause-leads g c = λ w d.

@@ -1,0 +1,60 @@
+-- The run of every fact makes fewer than 100,000 tests.
+use Rattle.std.specs.Prelude.{ℕ, ◌≤◌, ℤ, pos}
+use Rattle.book_model.specs.declared.fact.Fact.{Fact}
+use Rattle.book_model.specs.declared.fact.Kind.{Kind}
+use Rattle.book_model.specs.declared.fact.Kind.TheVariants.{Dt, Sun, Nowruz, BahaiYear, Solstice, NewMoonBefore, NewMoonFrom, Major, MajorTerm, MinorTerm, Phasis, Sign, SolarYear, Sankranti, Tithi, SignBefore, SignAfter, CalendarYear, NewMoon, FirstQuarter, FullMoon, LastQuarter, Sunset}
+use Rattle.book_model.specs.declared.fact.Place.{Place}
+use Rattle.book_model.specs.declared.fact.TheConstants.{FIRST_DAY, LAST_DAY}
+use Rattle.book_model.specs.declared.site.Site.{Site}
+use Rattle.book_model.specs.programs.Programs.{AtMost, MakesTest, Sides, void_at_most}
+use Rattle.book_model.specs.sky.Correction.{is_between}
+use Rattle.book_model.specs.sky.Facts.{at_depth, formula_of, program_of, run_of}
+use Rattle.book_model.specs.sky.Kinds.{location_of}
+use Rattle.book_model.proofs.Corrections.{few_of_two}
+use Rattle.book_model.proofs.FactRuns.{dt_few, sun_in_thousandths_few}
+use Rattle.book_model.proofs.Leads.{few_tests}
+use Rattle.sun_core.proofs.NewYears.{nowruz_few}
+use Rattle.moon_core.proofs.PhaseDays.{phase_day_few}
+use Rattle.rise_set.proofs.Horizons.{bahai_year_few, sunset_in_minutes_few}
+use Rattle.hindu_sky.proofs.HinduRuns.{sign_at_sunset_few, year_at_sunset_few, sankranti_few, tithi_few, sign_before_few, sign_after_few, calendar_year_few}
+use Rattle.fact_eval.proofs.Crescents.{phasis_few}
+use Rattle.fact_eval.proofs.MoonFacts.{new_moon_before_few, new_moon_from_few}
+use Rattle.fact_eval.proofs.Solstices.{solstice_few, major_few}
+use Rattle.fact_eval.proofs.TermDays.{term_day_few}
+
+-- the formula of each kind of fact
+pub formula_few : (kind : Kind) (place : Place) (d : ℤ) → AtMost 99999 (formula_of kind place d)
+unfolding formula_of
+formula_few Dt place d = dt_few d
+formula_few Sun place d = sun_in_thousandths_few d
+formula_few Nowruz place d = nowruz_few d
+formula_few BahaiYear place d = bahai_year_few d
+formula_few Solstice place d = solstice_few d
+formula_few NewMoonBefore place d = new_moon_before_few d
+formula_few NewMoonFrom place d = new_moon_from_few d
+formula_few Major place d = major_few d
+formula_few MajorTerm place d = term_day_few (pos 0) d
+formula_few MinorTerm place d = term_day_few (pos 15) d
+formula_few Phasis place d = phasis_few (location_of place) d
+formula_few Sign place d = sign_at_sunset_few d
+formula_few SolarYear place d = year_at_sunset_few d
+formula_few Sankranti place d = sankranti_few d
+formula_few Tithi place d = tithi_few d
+formula_few SignBefore place d = sign_before_few d
+formula_few SignAfter place d = sign_after_few d
+formula_few CalendarYear place d = calendar_year_few d
+formula_few NewMoon place d = phase_day_few (pos 0) d
+formula_few FirstQuarter place d = phase_day_few (pos 90) d
+formula_few FullMoon place d = phase_day_few (pos 180) d
+formula_few LastQuarter place d = phase_day_few (pos 270) d
+formula_few Sunset place d = sunset_in_minutes_few (location_of place) d
+
+-- and that of each fact, which is void on other days
+pub program_few : (f : Fact) → AtMost 99999 (program_of f)
+unfolding program_of
+program_few f = few_of_two 99999 (is_between FIRST_DAY LAST_DAY f.day) _ _ (formula_few f.kind f.place f.day) void_at_most
+
+-- so no test of its run at a depth has a greater number
+pub run_few : (f : Fact) (n k : ℕ) (s : Site) (i : Sides) → MakesTest (run_of n f) k s i → k ≤ 99999
+unfolding run_of
+run_few f n k s i m = few_tests (at_depth n) 99999 k s i (program_few f) m
