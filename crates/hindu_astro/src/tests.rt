@@ -165,7 +165,9 @@ fn day_of_whole_month(alloc: Global) -> (Result<i64, Stop>, usize) {
         fact_on(Kind::SignAfter, 738_719),
         fact_on(Kind::CalendarYear, 738_719),
     ];
-    let values = [30, 15, 13, 4, 4, 5_124, 29, 28, 3, 4, 5_124, 30, 3, 4, 5_124, 1, 4, 4, 5_124];
+    let values = [
+        30, 15, 13, 4, 4, 5_124, 29, 28, 3, 4, 5_124, 30, 3, 4, 5_124, 1, 4, 4, 5_124,
+    ];
     lunar_day_over(alloc, &facts, &values, first_of(2080, 5, true))
 }
 
@@ -187,14 +189,21 @@ fn day_of_full_moon(alloc: Global) -> (Result<i64, Stop>, usize) {
         fact_on(Kind::SignAfter, 738_970),
         fact_on(Kind::CalendarYear, 738_970),
     ];
-    let values = [7, 14, 13, 11, 12, 5_124, 13, 11, 12, 5_124, 15, 11, 12, 5_124];
-    lunar_day_over(alloc, &facts, &values, HinduLunar {
-        year: 2080,
-        month: 12,
-        leap_month: false,
-        day: 15,
-        leap_day: false,
-    })
+    let values = [
+        7, 14, 13, 11, 12, 5_124, 13, 11, 12, 5_124, 15, 11, 12, 5_124,
+    ];
+    lunar_day_over(
+        alloc,
+        &facts,
+        &values,
+        HinduLunar {
+            year: 2080,
+            month: 12,
+            leap_month: false,
+            day: 15,
+            leap_day: false,
+        },
+    )
 }
 
 #[test]

@@ -9,10 +9,10 @@ pub returns-in-Ok : goal.returns-in-Ok
 unfolding off_of
 returns-in-Ok g c = record {
   leads = λ w l x h k.
-    let half = c.from_int-half_turn.ensures.holds w h.deep in
-    let s = c.in_ok-there.ensures.leads w x k in
-    let p = c.in-Ok.ensures.leads w _ (c.add.ensures.holds w _ _ (c.sub.ensures.holds w _ _ (leaf_within s) h) half) in
-    leads_on (λ s. bind (reduced_of (add (subtract s l) (integer (pos 180)))) λ p. answer (subtract p (integer (pos 180)))) s
-    (leads_on (λ p. answer (subtract p (integer (pos 180)))) p
-    (leads_answer (c.sub-in-Ok.ensures.holds w _ _ (leaf_within p) half)));
+      let half = c.from_int-half_turn.ensures.holds w h.deep in
+      let s = c.in_ok-there.ensures.leads w x k in
+      let p = c.in-Ok.ensures.leads w _ (c.add.ensures.holds w _ _ (c.sub.ensures.holds w _ _ (leaf_within s) h) half) in
+      leads_on (λ s. bind (reduced_of (add (subtract s l) (integer (pos 180)))) λ p. answer (subtract p (integer (pos 180)))) s
+      (leads_on (λ p. answer (subtract p (integer (pos 180)))) p
+      (leads_answer (c.sub-in-Ok.ensures.holds w _ _ (leaf_within p) half)));
 }
