@@ -1,6 +1,5 @@
 -- The lines of a sample, as requests, by a generator: the multiplier and the increment are those of Knuth's MMIX.
 use Rattle.std.specs.Prelude.{ℕ, ◌+◌, ◌*◌, ◌/◌, ◌%◌, ◌^◌, ◌==◌, if◌then◌else◌, [], ◌∷◌}
-use Rattle.almanac_core.specs.declared.sample.TheConstants.{FIRST_DAY, DAYS}
 use Rattle.book_model.specs.declared.request.Request.{Request}
 use Rattle.book_model.specs.declared.words.FromWord.TheVariants as from
 use Rattle.book_model.specs.declared.words.ToWord.{ToWord}
@@ -11,9 +10,10 @@ use Rattle.book_model.specs.lines.Requests.{fields_with}
 unfoldable pub state_after : ℕ → ℕ
 state_after state = (state * 6364136223846793005 + 1442695040888963407) % 2 ^ 64
 
--- the day that a state names: one of the 90,216 that a line may name
+-- the day that a state names: one of the 90,216 from 1 January 1802 to 31 December 2048. They are numbers of a sample's own, which
+-- stay when a line may name more days.
 unfoldable pub day_by : ℕ → ℕ
-day_by state = FIRST_DAY + state / 2 ^ 33 % DAYS
+day_by state = 657802 + state / 2 ^ 33 % 90216
 
 -- what the line of an index, from 0, asks of its day
 unfoldable pub asked_at : ℕ → ToWord

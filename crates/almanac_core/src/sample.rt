@@ -2,7 +2,7 @@
 ghost use Rattle.std.specs.Prelude.{◌≡◌, ◌<◌};
 ghost use Rattle.almanac_core.specs.Sample as spec;
 
-use book_model::{FIRST_ANSWERED_DAY, Fields, FromWord, LAST_ANSWERED_DAY, Request, ToWord};
+use book_model::{Fields, FromWord, Request, ToWord};
 
 /// What a state is multiplied by, what is added then, and of what multiples are left out (Knuth, MMIX).
 const MULTIPLIER: u128 = 6_364_136_223_846_793_005;
@@ -11,10 +11,11 @@ const INCREMENT: u128 = 1_442_695_040_888_963_407;
 
 const MODULUS: u128 = 1 << 64;
 
-/// The first day that a line may name (R.D.), and how many there are.
-const FIRST_DAY: u64 = FIRST_ANSWERED_DAY as u64;
+/// The first day that a line of a sample may name, 1 January 1802 (R.D.), and how many there are from it on. They stay when
+/// more days are answered, so that a sample stays as it is.
+const FIRST_DAY: u64 = 657_802;
 
-const DAYS: u64 = (LAST_ANSWERED_DAY - FIRST_ANSWERED_DAY + 1) as u64;
+const DAYS: u64 = 90_216;
 
 /// The state after another.
 #[tactic(auto, unfolding(crate::specs::Sample::state_after))]

@@ -216,6 +216,50 @@ impl Evaluator for CoarseAlone {
     }
 }
 
+/// What `convert` writes for a line whose fact coarse enclosures leave open. The correction of 1806 is 12493.50514 milliseconds; with
+/// a half, what is rounded down, it lies just above 12494. The ends, which count 2⁻⁵⁶, are about 12493.9962 and 12494.0163: those of
+/// its polynomial in Horner's form, each step rounded outwards to a multiple of 2⁻³⁶.
+const OPEN_TEXT: &str = "calendrica 1 depth 40\n\
+    line 1 undecided round 2 900287302874817363968 900288752426279763968 fact dt - 659263\n\
+    end lines 1 facts 0\n";
+
+/// The same line as it is where the fact is decided.
+const DECIDED_TEXT: &str = "calendrica 1 depth 40\n\
+    fact 1 dt - 659263 12494\n\
+    line 1 fixed 659263 dt 12494 facts 1\n\
+    end lines 1 facts 1\n";
+
+/// What `check` writes for it over coarse enclosures alone.
+const OPEN_VERDICT: &str =
+    "no 1 undecided round 2 900287302874817363968 900288752426279763968 fact dt - 659263\n\
+    end yes 0 no 1 skip 0\n";
+
+#[test]
+fn an_open_fact_leaves_its_line_undecided(rt: HostRuntime) -> Result<(), Fail> {
+    let alloc = rt.alloc();
+    for (word, input, text) in [
+        ("convert", "fixed 659263 dt\n", OPEN_TEXT),
+        ("check", DECIDED_TEXT, OPEN_VERDICT),
+        ("check", OPEN_TEXT, "skip 1\nend yes 0 no 0 skip 1\n"),
+    ] {
+        let words = words_in(alloc, word)?;
+        let mut source = MemorySource::new(input.as_bytes().to_vec(alloc)?, Vec::new(alloc));
+        let mut sink = MemorySink::new(alloc, 200, Vec::new(alloc))?;
+        let got = run(
+            &rt,
+            alloc,
+            &words,
+            &mut source,
+            &mut sink,
+            &CoarseAlone,
+            &OpenGate,
+        );
+        assert_eq!(rt; got, Status::Mixed, "{word}");
+        assert_eq!(rt; sink.written(), text.as_bytes(), "{word}");
+    }
+    Ok(())
+}
+
 /// What `sample 700 1` writes over an evaluator.
 fn sampled_over<R: Threads + Sync, E: Evaluator + Sync>(
     rt: &R,
