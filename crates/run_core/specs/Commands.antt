@@ -1,6 +1,5 @@
 -- What the commands of the program read.
 use Rattle.std.specs.Prelude.{ℕ}
-use Rattle.cert_read.specs.declared.read.TheConstants.{LONGEST_FILE}
 use Rattle.command_words.specs.declared.command.Command.{Command}
 use Rattle.command_words.specs.declared.command.Command.TheVariants.{Convert, Check, Almanac, Sample}
 
@@ -12,7 +11,7 @@ pub data Input : Type 0 where
 -- how many bytes an input of the command may have
 abbrev pub limit_of : Command → ℕ
 limit_of Convert = 4194304
-limit_of Check = LONGEST_FILE
+limit_of Check = 268435456
 limit_of (Almanac year) = 0
 limit_of (Sample count seed) = 0
 
