@@ -1,7 +1,7 @@
 //! The trait of all kinds of enclosures.
 ghost use Rattle.std.specs.Prelude.{◌≡◌, ◌<◌, ℕ, ℤ, ◌≤◌, Some, IfOk, IfErr, IfSome, IsSome, IsNone};
 ghost use Rattle.exact_math.specs.Fraction.{whole as whole_number};
-ghost use Rattle.exact_math.specs.Interval.{Interval, everything, between, ◌⊆◌, IsProper};
+ghost use Rattle.exact_math.specs.Interval.{Interval, everything, between, ◌⊆◌, IsProper, hull as hull_of_intervals};
 ghost use Rattle.book_model.specs.numbers.Fractions.{fraction_of, ten_millionths, daily_ten_millionths};
 ghost use Rattle.book_model.specs.numbers.Expressions.{Expression, World, integer, constant, add as add_of, subtract, multiply, negate, scale, minimum, maximum, hull as hull_of, widen as widen_of, divide, power, root as root_of, clamp as clamp_of, remainder};
 ghost use Rattle.book_model.specs.numbers.Bounds.{Bound, Reach, IsNarrow, spanned_bound, limits_of};
@@ -86,9 +86,10 @@ pub trait Enclosure: Copy + Drop {
         ensures holds { (w : World) (x y : Expression) → Within shown w x self → Within shown w y other → Within shown w (maximum x y) result }
         ensures narrow { (r : Reach) (x y : Expression) → Narrow shown (limits_of BITS) r x self → Narrow shown (limits_of BITS) r y other → Narrow shown (limits_of BITS) r (maximum x y) result };
 
-    /// Every number between members of the two.
+    /// Every number between members of the two, and no others.
     fn hull(self, other: Self) -> Self
         ensures holds { (w : World) (x y : Expression) → Within shown w x self → Within shown w y other → Within shown w (hull_of x y) result }
+        ensures tight { shown result ⊆ hull_of_intervals (shown self) (shown other) }
         ensures narrow { (r : Reach) (x y : Expression) → Narrow shown (limits_of BITS) r x self → Narrow shown (limits_of BITS) r y other → Narrow shown (limits_of BITS) r (hull_of x y) result };
 
     /// The opposites of the members.

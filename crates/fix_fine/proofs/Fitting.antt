@@ -7,7 +7,7 @@ use Rattle.std.proofs.lemmas.Int.{ints}
 use Rattle.std.proofs.lemmas.Bool.{ltb-true}
 use lib.Signed.{≤ℤ_refl}
 use Rattle.exact_math.specs.Interval.{Interval, everything, between}
-use Rattle.book_model.specs.numbers.Bounds.{Bound, unbounded, bounded, range_size, ceil_div, limited, product_bound, power_bound, root_bound, quotient_bound, IsNarrow}
+use Rattle.book_model.specs.numbers.Bounds.{Bound, unbounded, bounded, range_size, ceil_div, limited, product_bound, square_bound, power_bound, root_bound, quotient_bound, IsNarrow}
 use Rattle.fix_fine.specs.Quotients.{HasFineQuotient, HaveFineQuotients}
 use Rattle.fix_fine.specs.Room.{IsRoomy, AreRoomy}
 use Rattle.scaled_ends.specs.Rounding.{IsLeastBy, IsGreatestBy}
@@ -46,21 +46,31 @@ product_overflow w (bounded a b s t) (bounded a' b' s' t') x y c d i o r h k n =
         absurd (n (record { first = at_corner x c (≤ℤ_refl x) o (≤ℤ_refl c) r; second = at_corner x d (≤ℤ_refl x) o r (≤ℤ_refl d); third = at_corner y c o (≤ℤ_refl y) (≤ℤ_refl c) r; fourth = at_corner y d o (≤ℤ_refl y) r (≤ℤ_refl d) }))
 
 pub square_overflow : (w : ℕ) (p : Bound) (x y : ℤ) (i : Interval) → x ≤ℤ y → IsNarrow w p (between (at_scale fine x) (at_scale fine y)) → (AreRoomy x y x y → ⊥) → IsNarrow w (power_bound (limits_on fine) p 2) i
-unfolding power_bound
-square_overflow w p x y i o h n = product_overflow w p p x y x y i o o h h n
+unfolding power_bound IsNarrow
+square_overflow w unbounded x y i o h n = tt
+square_overflow w (bounded a b s t) x y i o h n = by_test _ _ _ refl
+  where
+    by_test : (t r : Bool) (p : Bound) → t ≡ (r && nat_lt (ceil_div (range_size a b * range_size a b) (2 ^ 32 - 1)) (2 ^ 46)) → IsNarrow w (limited t p) i
+    by_test false r p e = tt
+    by_test true r1 p e =
+        let z = sized fine a b s t w x y (kept a b s t w x y h) in
+        let l = ltb-true _ _ (both _ _ (sym e)).1 in
+        let at_corner = λ (p1 l1 : ℤ) (xp : x ≤ℤ p1) (py : p1 ≤ℤ y) (cl : x ≤ℤ l1) (ld : l1 ≤ℤ y). roomy (range_size a b) (range_size a b) _ (p1 *ℤ l1) (corner_sized fine (range_size a b) (range_size a b) x y x y p1 l1 o o z z xp py cl ld) (ceil_above _ (2 ^ 32 - 1)) l in
+        absurd (n (record { first = at_corner x x (≤ℤ_refl x) o (≤ℤ_refl x) o; second = at_corner x y (≤ℤ_refl x) o o (≤ℤ_refl y); third = at_corner y x o (≤ℤ_refl y) (≤ℤ_refl x) o; fourth = at_corner y y o (≤ℤ_refl y) o (≤ℤ_refl y) }))
 
 pub root_overflow : (w : ℕ) (p : Bound) (x y : ℤ) (i : Interval) → IsNarrow w p (between (at_scale fine x) (at_scale fine y)) → ((y <ℤ pos (2 ^ 70)) → ⊥) → IsNarrow w (root_bound (limits_on fine) p) i
 unfolding root_bound IsNarrow
 root_overflow w unbounded x y i h n = tt
 root_overflow w (bounded (negsuc a) b s k) x y i h n = tt
 root_overflow w (bounded (pos a) (negsuc b) s k) x y i h n = tt
-root_overflow w (bounded (pos a) (pos b) s k) x y i h n = by_test _ _ _ refl
+root_overflow w (bounded (pos a) (pos zero) s k) x y i h n = let m = kept (pos a) (pos zero) s k w x y h in absurd (n (omega (arith, ints, m.below)))
+root_overflow w (bounded (pos a) (pos (suc b)) s k) x y i h n = by_test _ _ _ refl
   where
-    by_test : (t r : Bool) (p : Bound) → t ≡ (r && nat_lt b (2 ^ 46)) → IsNarrow w (limited t p) i
+    by_test : (t r : Bool) (p : Bound) → t ≡ (r && nat_lt (suc b) (2 ^ 46)) → IsNarrow w (limited t p) i
     by_test false r p e = tt
     by_test true r p e =
-        let l : b < 2 ^ 46 = ltb-true _ _ (both _ _ (sym e)).1 in
-        let m = kept (pos a) (pos b) s k w x y h in
+        let l : suc b < 2 ^ 46 = ltb-true _ _ (both _ _ (sym e)).1 in
+        let m = kept (pos a) (pos (suc b)) s k w x y h in
         absurd (n (omega (arith, ints, l, m.below)))
 
 -- the quotients by which the least and the greatest are taken have room where all have

@@ -8,6 +8,7 @@ pub mod Unpromised
 pub mod Divisions
 pub mod Periods
 pub mod Widths
+pub mod Corners
 pub mod Products
 pub mod Ratios
 pub mod WaveAngles

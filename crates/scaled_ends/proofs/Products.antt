@@ -7,10 +7,11 @@ use lib.Signed.{≤ℤ_refl}
 use Rattle.exact_math.specs.Interval.{Interval, everything, between}
 use Rattle.exact_math.proofs.Ring.{at, lit, ◌⊕◌, ◌⊖◌, ◌⊗◌}
 use Rattle.exact_math.proofs.Bounds.{◌≼◌, known, ◌⊞◌, ◌⊠◌, times as naturally, le_by, pos_nonneg, square_nonneg}
-use Rattle.book_model.specs.numbers.Bounds.{Bound, unbounded, bounded, range_size, ceil_div, product_bound, power_bound, IsNarrow}
+use Rattle.book_model.specs.numbers.Bounds.{Bound, unbounded, bounded, range_size, ceil_div, least_corner, greatest_corner, least_square, greatest_square, floor_of_product, ceil_of_product, product_bound, square_bound, power_bound, IsNarrow}
 use Rattle.rounded_quotients.specs.Rounding.{IsFloor, IsCeiling, IsAboveEachBelow, IsBelowEachAbove}
 use Rattle.scaled_ends.specs.Rounding.{ShowsEnds, least_square_of}
 use Rattle.scaled_ends.proofs.Keeping.{AreKept, kept_of, limited_narrow, both}
+use Rattle.scaled_ends.proofs.Corners.{LiesIn, corner_below, corner_above, square_below, square_above}
 
 halved : (p q : ℤ) → (pos 2 *ℤ p) ≤ℤ (pos 2 *ℤ q) → p ≤ℤ q
 halved p q h = omega (arith, ints, h)
@@ -68,32 +69,28 @@ slopes fine a b s k t m w p q x y ha hb hw hx hy hp hq =
     (known 1 ⊠ known 3 ⊞ known 0 ⊠ known 4 ⊞ known 2 ⊠ known 5 ⊞ naturally (2 ^ 40) ⊠ known 6) refl (ha, (hb, (hw, (hx, (hy, (hp, (hq, tt)))))))
 
 -- numbers that count 2^-72, as far apart as the factors allow, rounded outwards
-rounded_kept : (scale : Scale) → (A B s k t m w Z S M : ℕ) (x y u g lo hi : ℤ) → lo ≤ℤ hi → IsFloor lo u (unit scale) → IsCeiling hi g (unit scale) → (pos 0 -ℤ ((span scale) *ℤ pos A) *ℤ ((span scale) *ℤ pos B)) ≤ℤ u → g ≤ℤ (((span scale) *ℤ pos A) *ℤ ((span scale) *ℤ pos B))
+rounded_kept : (scale : Scale) → (low high : ℤ) (A B s k t m w S M : ℕ) (x y u g lo hi : ℤ) → lo ≤ℤ hi → IsFloor lo u (unit scale) → IsCeiling hi g (unit scale) → (((low *ℤ pos (2 ^ 32)) *ℤ (span scale)) *ℤ (span scale)) ≤ℤ u → g ≤ℤ (((high *ℤ pos (2 ^ 32)) *ℤ (span scale)) *ℤ (span scale))
     → g ≤ℤ (u +ℤ (((span scale) *ℤ pos A) *ℤ y +ℤ ((span scale) *ℤ pos B) *ℤ x)) → (x *ℤ (grain scale)) ≤ℤ pos (s * w + k * 2 ^ 40) → (y *ℤ (grain scale)) ≤ℤ pos (t * w + m * 2 ^ 40)
-    → A * B ≤ Z * 2 ^ 32 → A * t + B * s ≤ S * 2 ^ 32 → A * m + B * k ≤ M * 2 ^ 32 → AreKept scale (neg_ℤ (pos Z)) (pos Z) S (M + 2 * (slack scale)) w lo hi
-rounded_kept coarse A B s k t m w Z S M x y u g lo hi o f c l h n wx wy hz hs hm =
+    → A * t + B * s ≤ S * 2 ^ 32 → A * m + B * k ≤ M * 2 ^ 32 → AreKept scale low high S (M + 2 * (slack scale)) w lo hi
+rounded_kept coarse low high A B s k t m w S M x y u g lo hi o f c l h n wx wy hs hm =
     let r = slopes coarse (pos A) (pos B) (pos s) (pos k) (pos t) (pos m) (pos w) (pos S) (pos M) x y (pos_nonneg A) (pos_nonneg B) (pos_nonneg w) (omega (arith, ints, wx)) (omega (arith, ints, wy)) (omega (arith, ints, hs)) (omega (arith, ints, hm)) in
     record {
       ordered = o;
-      above = omega (arith, ints, f.close, l, hz);
-      below = omega (arith, ints, c.close, h, hz);
+      above = omega (arith, ints, f.close, l);
+      below = omega (arith, ints, c.close, h);
       close = omega (arith, ints, f.close, c.close, n, r);
     }
-rounded_kept fine A B s k t m w Z S M x y u g lo hi o f c l h n wx wy hz hs hm =
+rounded_kept fine low high A B s k t m w S M x y u g lo hi o f c l h n wx wy hs hm =
     let r = slopes fine (pos A) (pos B) (pos s) (pos k) (pos t) (pos m) (pos w) (pos S) (pos M) x y (pos_nonneg A) (pos_nonneg B) (pos_nonneg w) (omega (arith, ints, wx)) (omega (arith, ints, wy)) (omega (arith, ints, hs)) (omega (arith, ints, hm)) in
     record {
       ordered = o;
-      above = omega (arith, ints, f.close, l, hz);
-      below = omega (arith, ints, c.close, h, hz);
+      above = omega (arith, ints, f.close, l);
+      below = omega (arith, ints, c.close, h);
       close = omega (arith, ints, f.close, c.close, n, r);
     }
 
 pub ceil_above : (n d : ℕ) → n ≤ ceil_div n d * suc d
 ceil_above n d = omega arith
-
-pub around_size : (scale : Scale) → (z : ℕ) → z < (most_size scale) → range_size (neg_ℤ (pos z)) (pos z) < (most_size scale)
-around_size coarse z h = omega (arith, ints)
-around_size fine z h = omega (arith, ints)
 
 -- the sizes of ends that keep a bound
 pub record AreSized (scale : Scale) (A : ℕ) (x y : ℤ) : Type 0 where
@@ -138,6 +135,38 @@ corner_sized coarse A B x y c d p i o r a b xp py ci id =
 corner_sized fine A B x y c d p i o r a b xp py ci id =
     bounded_product p i (pos (2 ^ 24) *ℤ pos A) (pos (2 ^ 24) *ℤ pos B) (omega (arith, ints, a.above, xp)) (omega (arith, ints, a.below, py)) (omega (arith, ints, b.above, ci)) (omega (arith, ints, b.below, id))
 
+pub span_natural : (scale : Scale) → pos 0 ≤ℤ (span scale)
+span_natural coarse = omega (arith, ints)
+span_natural fine = omega (arith, ints)
+
+-- both ends lie in their range
+pub first_in : (scale : Scale) → (a b : ℤ) (s k w : ℕ) (x y : ℤ) → AreKept scale a b s k w x y → LiesIn (span scale) a b x
+first_in scale a b s k w x y h = record { from = h.above; to = omega (arith, ints, h.ordered, h.below) }
+
+pub last_in : (scale : Scale) → (a b : ℤ) (s k w : ℕ) (x y : ℤ) → AreKept scale a b s k w x y → LiesIn (span scale) a b y
+last_in scale a b s k w x y h = record { from = omega (arith, ints, h.ordered, h.above); to = h.below }
+
+-- the least and the greatest product lie in the range of the bounds' product
+product_low : (scale : Scale) → (a b a' b' : ℤ) (s t s' t' w : ℕ) (x y c d u : ℤ) → AreKept scale a b s t w x y → AreKept scale a' b' s' t' w c d → IsAboveEachBelow u (x *ℤ c) (x *ℤ d) (y *ℤ c) (y *ℤ d)
+    → (((floor_of_product (least_corner a b a' b') *ℤ pos (2 ^ 32)) *ℤ (span scale)) *ℤ (span scale)) ≤ℤ u
+product_low scale a b a' b' s t s' t' w x y c d u m n best =
+    let f = first_in scale a b s t w x y m in
+    let g = last_in scale a b s t w x y m in
+    let f' = first_in scale a' b' s' t' w c d n in
+    let g' = last_in scale a' b' s' t' w c d n in
+    let o = span_natural scale in
+    best _ (corner_below (span scale) a b a' b' x c o f f') (corner_below (span scale) a b a' b' x d o f g') (corner_below (span scale) a b a' b' y c o g f') (corner_below (span scale) a b a' b' y d o g g')
+
+product_high : (scale : Scale) → (a b a' b' : ℤ) (s t s' t' w : ℕ) (x y c d u : ℤ) → AreKept scale a b s t w x y → AreKept scale a' b' s' t' w c d → IsBelowEachAbove u (x *ℤ c) (x *ℤ d) (y *ℤ c) (y *ℤ d)
+    → u ≤ℤ (((ceil_of_product (greatest_corner a b a' b') *ℤ pos (2 ^ 32)) *ℤ (span scale)) *ℤ (span scale))
+product_high scale a b a' b' s t s' t' w x y c d u m n best =
+    let f = first_in scale a b s t w x y m in
+    let g = last_in scale a b s t w x y m in
+    let f' = first_in scale a' b' s' t' w c d n in
+    let g' = last_in scale a' b' s' t' w c d n in
+    let o = span_natural scale in
+    best _ (corner_above (span scale) a b a' b' x c o f f') (corner_above (span scale) a b a' b' x d o f g') (corner_above (span scale) a b a' b' y c o g f') (corner_above (span scale) a b a' b' y d o g g')
+
 pub product_narrow : (scale : Scale) → (w : ℕ) (p q : Bound) (x y c d u g lo hi : ℤ) (i : Interval) → x ≤ℤ y → c ≤ℤ d → IsAboveEachBelow u (x *ℤ c) (x *ℤ d) (y *ℤ c) (y *ℤ d) → IsBelowEachAbove g (x *ℤ c) (x *ℤ d) (y *ℤ c) (y *ℤ d)
     → lo ≤ℤ hi → IsFloor lo u (unit scale) → IsCeiling hi g (unit scale) → ShowsEnds scale lo hi i → IsNarrow w p (between (at_scale scale x) (at_scale scale y)) → IsNarrow w q (between (at_scale scale c) (at_scale scale d)) → IsNarrow w (product_bound (limits_on scale) p q) i
 unfolding product_bound IsNarrow
@@ -150,27 +179,17 @@ product_narrow coarse w (bounded a b s t) (bounded a' b' s' t') x y c d u g lo h
     let n = kept_of coarse a' b' s' t' w c d k in
     let A = range_size a b in
     let B = range_size a' b' in
-    let z = sized coarse a b s t w x y m in
-    let z' = sized coarse a' b' s' t' w c d n in
-    let at_corner = λ (p l : ℤ) (xp : x ≤ℤ p) (py : p ≤ℤ y) (cl : c ≤ℤ l) (ld : l ≤ℤ d). corner_sized coarse A B x y c d p l o r z z' xp py cl ld in
-    limited_narrow coarse _ _ _ _ _ w lo hi i (λ l. around_size coarse _ (ltb-true _ _ (both _ _ l).0))
-    (rounded_kept coarse A B s t s' t' w _ _ _ (y -ℤ x) (d -ℤ c) u g lo hi e f j
-    (bl _ (at_corner x c (≤ℤ_refl x) o (≤ℤ_refl c) r).above (at_corner x d (≤ℤ_refl x) o r (≤ℤ_refl d)).above (at_corner y c o (≤ℤ_refl y) (≤ℤ_refl c) r).above (at_corner y d o (≤ℤ_refl y) r (≤ℤ_refl d)).above)
-    (bg _ (at_corner x c (≤ℤ_refl x) o (≤ℤ_refl c) r).below (at_corner x d (≤ℤ_refl x) o r (≤ℤ_refl d)).below (at_corner y c o (≤ℤ_refl y) (≤ℤ_refl c) r).below (at_corner y d o (≤ℤ_refl y) r (≤ℤ_refl d)).below)
-    (products_apart coarse A B x y c d u g o r z z' bl bg) m.close n.close (ceil_above _ (2 ^ 32 - 1)) (ceil_above _ (2 ^ 32 - 1)) (ceil_above _ (2 ^ 32 - 1))) v
+    limited_narrow coarse _ _ _ _ _ w lo hi i (λ l. ltb-true _ _ (both _ _ l).0)
+    (rounded_kept coarse _ _ A B s t s' t' w _ _ (y -ℤ x) (d -ℤ c) u g lo hi e f j (product_low coarse a b a' b' s t s' t' w x y c d u m n bl) (product_high coarse a b a' b' s t s' t' w x y c d g m n bg)
+    (products_apart coarse A B x y c d u g o r (sized coarse a b s t w x y m) (sized coarse a' b' s' t' w c d n) bl bg) m.close n.close (ceil_above _ (2 ^ 32 - 1)) (ceil_above _ (2 ^ 32 - 1))) v
 product_narrow fine w (bounded a b s t) (bounded a' b' s' t') x y c d u g lo hi i o r bl bg e f j v h k =
     let m = kept_of fine a b s t w x y h in
     let n = kept_of fine a' b' s' t' w c d k in
     let A = range_size a b in
     let B = range_size a' b' in
-    let z = sized fine a b s t w x y m in
-    let z' = sized fine a' b' s' t' w c d n in
-    let at_corner = λ (p l : ℤ) (xp : x ≤ℤ p) (py : p ≤ℤ y) (cl : c ≤ℤ l) (ld : l ≤ℤ d). corner_sized fine A B x y c d p l o r z z' xp py cl ld in
-    limited_narrow fine _ _ _ _ _ w lo hi i (λ l. around_size fine _ (ltb-true _ _ (both _ _ l).0))
-    (rounded_kept fine A B s t s' t' w _ _ _ (y -ℤ x) (d -ℤ c) u g lo hi e f j
-    (bl _ (at_corner x c (≤ℤ_refl x) o (≤ℤ_refl c) r).above (at_corner x d (≤ℤ_refl x) o r (≤ℤ_refl d)).above (at_corner y c o (≤ℤ_refl y) (≤ℤ_refl c) r).above (at_corner y d o (≤ℤ_refl y) r (≤ℤ_refl d)).above)
-    (bg _ (at_corner x c (≤ℤ_refl x) o (≤ℤ_refl c) r).below (at_corner x d (≤ℤ_refl x) o r (≤ℤ_refl d)).below (at_corner y c o (≤ℤ_refl y) (≤ℤ_refl c) r).below (at_corner y d o (≤ℤ_refl y) r (≤ℤ_refl d)).below)
-    (products_apart fine A B x y c d u g o r z z' bl bg) m.close n.close (ceil_above _ (2 ^ 32 - 1)) (ceil_above _ (2 ^ 32 - 1)) (ceil_above _ (2 ^ 32 - 1))) v
+    limited_narrow fine _ _ _ _ _ w lo hi i (λ l. ltb-true _ _ (both _ _ l).0)
+    (rounded_kept fine _ _ A B s t s' t' w _ _ (y -ℤ x) (d -ℤ c) u g lo hi e f j (product_low fine a b a' b' s t s' t' w x y c d u m n bl) (product_high fine a b a' b' s t s' t' w x y c d g m n bg)
+    (products_apart fine A B x y c d u g o r (sized fine a b s t w x y m) (sized fine a' b' s' t' w c d n) bl bg) m.close n.close (ceil_above _ (2 ^ 32 - 1)) (ceil_above _ (2 ^ 32 - 1))) v
 
 pub product_of_all : (scale : Scale) → (w : ℕ) (x y : Bound) (i : Interval) → IsNarrow w x everything → IsNarrow w (product_bound (limits_on scale) x y) i
 unfolding product_bound IsNarrow
@@ -233,9 +252,21 @@ by_sign x y a false false e f o l u =
     not_below : (p q : ℤ) → int_le p q ≡ false → q ≤ℤ p
     not_below p q g = omega (arith, ints, g)
 
+-- the least square is at least what each square is at least
+least_of_squares : (x y u z : ℤ) (p q : Bool) → p ≡ int_le (pos 0) x → q ≡ int_le y (pos 0) → x ≤ℤ y → u ≡ cond p (x *ℤ x) (cond q (y *ℤ y) (pos 0)) → ((v : ℤ) → x ≤ℤ v → v ≤ℤ y → z ≤ℤ (v *ℤ v)) → z ≤ℤ u
+least_of_squares x y u z true q e f o h k = rw h (k x (≤ℤ_refl x) o)
+least_of_squares x y u z false true e f o h k = rw h (k y o (≤ℤ_refl y))
+least_of_squares x y u z false false e f o h k = rw h (k (pos 0) (omega (arith, ints, e)) (omega (arith, ints, f)))
+
+-- the least and the greatest square lie in the range of the bound's square
+square_low : (scale : Scale) → (a b : ℤ) (s t w : ℕ) (x y u : ℤ) → AreKept scale a b s t w x y → u ≡ least_square_of x y → (((floor_of_product (least_square a b) *ℤ pos (2 ^ 32)) *ℤ (span scale)) *ℤ (span scale)) ≤ℤ u
+square_low scale a b s t w x y u m e =
+    least_of_squares x y u _ (int_le (pos 0) x) (int_le y (pos 0)) refl refl m.ordered e
+    (λ v l r. square_below (span scale) a b v (span_natural scale) (record { from = omega (arith, ints, m.above, l); to = omega (arith, ints, m.below, r) }))
+
 pub square_narrow : (scale : Scale) → (w : ℕ) (p : Bound) (x y u g lo hi : ℤ) (i : Interval) → x ≤ℤ y → u ≡ least_square_of x y → ((z : ℤ) → (x *ℤ x) ≤ℤ z → (y *ℤ y) ≤ℤ z → g ≤ℤ z)
     → lo ≤ℤ hi → IsFloor lo u (unit scale) → IsCeiling hi g (unit scale) → ShowsEnds scale lo hi i → IsNarrow w p (between (at_scale scale x) (at_scale scale y)) → IsNarrow w (power_bound (limits_on scale) p 2) i
-unfolding power_bound product_bound IsNarrow
+unfolding power_bound IsNarrow
 square_narrow coarse w unbounded x y u g lo hi i o e best r f j v h = tt
 square_narrow fine w unbounded x y u g lo hi i o e best r f j v h = tt
 square_narrow coarse w (bounded a b s t) x y u g lo hi i o e best r f j v h =
@@ -243,29 +274,21 @@ square_narrow coarse w (bounded a b s t) x y u g lo hi i o e best r f j v h =
     let A = range_size a b in
     let z = sized coarse a b s t w x y m in
     let q : AreSquares x y (pos 16 *ℤ pos A) u = rw e (by_sign x y (pos 16 *ℤ pos A) (int_le (pos 0) x) (int_le y (pos 0)) refl refl o z.above z.below) in
-    limited_narrow coarse _ _ _ _ _ w lo hi i (λ l. around_size coarse _ (ltb-true _ _ (both _ _ l).0))
-    (rounded_kept coarse A A s t s t w _ _ _ (y -ℤ x) (y -ℤ x) u g lo hi r f j
-    (below_natural (pos 16 *ℤ pos A) u q.natural)
-    (best _ (corner_sized coarse A A x y x y x x o o z z (≤ℤ_refl x) o (≤ℤ_refl x) o).below (corner_sized coarse A A x y x y y y o o z z o (≤ℤ_refl y) o (≤ℤ_refl y)).below)
-    (best _ q.first q.second) m.close m.close (ceil_above _ (2 ^ 32 - 1)) (ceil_above _ (2 ^ 32 - 1)) (ceil_above _ (2 ^ 32 - 1))) v
-  where
-    below_natural : (n u : ℤ) → pos 0 ≤ℤ u → (pos 0 -ℤ n *ℤ n) ≤ℤ u
-    below_natural n u h = let k = square_nonneg n in omega (arith, ints, h, k)
+    limited_narrow coarse _ _ _ _ _ w lo hi i (λ l. ltb-true _ _ (both _ _ l).0)
+    (rounded_kept coarse _ _ A A s t s t w _ _ (y -ℤ x) (y -ℤ x) u g lo hi r f j (square_low coarse a b s t w x y u m e)
+    (best _ (square_above (span coarse) a b x (span_natural coarse) (first_in coarse a b s t w x y m)) (square_above (span coarse) a b y (span_natural coarse) (last_in coarse a b s t w x y m)))
+    (best _ q.first q.second) m.close m.close (ceil_above _ (2 ^ 32 - 1)) (ceil_above _ (2 ^ 32 - 1))) v
 square_narrow fine w (bounded a b s t) x y u g lo hi i o e best r f j v h =
     let m = kept_of fine a b s t w x y h in
     let A = range_size a b in
     let z = sized fine a b s t w x y m in
     let q : AreSquares x y (pos (2 ^ 24) *ℤ pos A) u = rw e (by_sign x y (pos (2 ^ 24) *ℤ pos A) (int_le (pos 0) x) (int_le y (pos 0)) refl refl o z.above z.below) in
-    limited_narrow fine _ _ _ _ _ w lo hi i (λ l. around_size fine _ (ltb-true _ _ (both _ _ l).0))
-    (rounded_kept fine A A s t s t w _ _ _ (y -ℤ x) (y -ℤ x) u g lo hi r f j
-    (below_natural (pos (2 ^ 24) *ℤ pos A) u q.natural)
-    (best _ (corner_sized fine A A x y x y x x o o z z (≤ℤ_refl x) o (≤ℤ_refl x) o).below (corner_sized fine A A x y x y y y o o z z o (≤ℤ_refl y) o (≤ℤ_refl y)).below)
-    (best _ q.first q.second) m.close m.close (ceil_above _ (2 ^ 32 - 1)) (ceil_above _ (2 ^ 32 - 1)) (ceil_above _ (2 ^ 32 - 1))) v
-  where
-    below_natural : (n u : ℤ) → pos 0 ≤ℤ u → (pos 0 -ℤ n *ℤ n) ≤ℤ u
-    below_natural n u h = let k = square_nonneg n in omega (arith, ints, h, k)
+    limited_narrow fine _ _ _ _ _ w lo hi i (λ l. ltb-true _ _ (both _ _ l).0)
+    (rounded_kept fine _ _ A A s t s t w _ _ (y -ℤ x) (y -ℤ x) u g lo hi r f j (square_low fine a b s t w x y u m e)
+    (best _ (square_above (span fine) a b x (span_natural fine) (first_in fine a b s t w x y m)) (square_above (span fine) a b y (span_natural fine) (last_in fine a b s t w x y m)))
+    (best _ q.first q.second) m.close m.close (ceil_above _ (2 ^ 32 - 1)) (ceil_above _ (2 ^ 32 - 1))) v
 
 pub square_of_all : (scale : Scale) → (w : ℕ) (x : Bound) (i : Interval) → IsNarrow w x everything → IsNarrow w (power_bound (limits_on scale) x 2) i
-unfolding power_bound product_bound IsNarrow
+unfolding power_bound IsNarrow
 square_of_all scale w unbounded i h = tt
 square_of_all scale w (bounded a b s k) i h = absurd h

@@ -1,18 +1,19 @@
 -- Quotients of ends at scale 2^-36 by a divisor above 0: two of them enclose all, and they keep a bound.
 use Rattle.scaled_ends.specs.Scales.{Scale, coarse, fine, at_scale, unit, limits_on, span, grain, slack}
-use Rattle.std.proofs.Common.{◌≡◌, ℕ, zero, suc, ◌+◌, ◌*◌, ◌-◌, ◌^◌, ◌≤◌, refl, arith, neg_ℤ, ℤ, pos, negsuc, ◌+ℤ◌, ◌*ℤ◌, ◌-ℤ◌, ◌≤ℤ◌, ◌<ℤ◌, [], ◌∷◌, inl, inr}
+use Rattle.std.proofs.Common.{◌≡◌, ℕ, zero, suc, ◌+◌, ◌*◌, ◌-◌, ◌^◌, ◌≤◌, ◌<◌, refl, arith, unsigned_abs, ℤ, pos, negsuc, ◌+ℤ◌, ◌*ℤ◌, ◌-ℤ◌, ◌≤ℤ◌, ◌<ℤ◌, [], ◌∷◌, inl, inr}
 use Rattle.std.proofs.lemmas.Int.{ints, by_lt_z}
 use Rattle.std.proofs.lemmas.Bool.{ltb-true}
+use Rattle.std.proofs.Math.Nat.{mul-le-mul_left}
 use Rattle.exact_math.specs.Interval.{Interval, everything, between}
 use Rattle.exact_math.proofs.Ring.{at, lit, ◌⊕◌, ◌⊖◌, ◌⊗◌}
 use Rattle.exact_math.proofs.Bounds.{◌≼◌, known, ◌⊞◌, ◌⊠◌, times as naturally, le_by, le_over, refute, pos_nonneg}
 use lib.Signed.{≤ℤ_refl}
-use Rattle.book_model.specs.numbers.Bounds.{Bound, unbounded, bounded, range_size, ceil_div, quotient_bound, IsNarrow}
+use Rattle.book_model.specs.numbers.Bounds.{Bound, unbounded, bounded, range_size, ceil_div, least_quotient, greatest_quotient, quotient_bound, IsNarrow}
 use Rattle.rounded_quotients.specs.Rounding.{IsFloor, IsCeiling}
 use Rattle.scaled_ends.specs.Rounding.{ShowsEnds, IsLeastBy, IsGreatestBy, AreQuotientsAt}
 use Rattle.scaled_ends.proofs.Keeping.{AreKept, kept_of, limited_narrow, both}
-use Rattle.rounded_quotients.proofs.Quotients.{next_le}
-use Rattle.scaled_ends.proofs.Products.{AreSized, sized, ceil_above, around_size}
+use Rattle.scaled_ends.proofs.Corners.{LiesIn, least_ratio, greatest_ratio, least_quotient_from, greatest_quotient_to}
+use Rattle.scaled_ends.proofs.Products.{AreSized, sized, ceil_above, span_natural, first_in, last_in}
 
 -- ---- the least and the greatest
 -- a quotient below 0 by the lesser divisor is the least, and one that isn't by the greater
@@ -62,26 +63,32 @@ over_all coarse hi b c d q e h l u (inr n) k = greatest_above hi c e (b *ℤ pos
 over_all fine hi b c d q e h l u (inr n) k = greatest_above hi c e (b *ℤ pos (2 ^ 56)) h l (omega (arith, ints, n.0)) (rw n.1 at k)
 
 -- ---- their width and size
--- a quotient is at most a quotient of sizes, and one unit more
-size_above : (scale : Scale) → (hi b q g A Z : ℤ) → pos 0 ≤ℤ q → ((span scale) *ℤ g) ≤ℤ q → b ≤ℤ ((span scale) *ℤ A) → (hi *ℤ q +ℤ pos 1) ≤ℤ (b *ℤ (unit scale) +ℤ q) → (A *ℤ pos (2 ^ 32)) ≤ℤ (Z *ℤ g) → pos 0 ≤ℤ Z → hi ≤ℤ ((span scale) *ℤ Z)
-size_above coarse hi b q g A Z hq hg hb hh hz z =
-    by_lt_z (pos 16 *ℤ Z) hi
+-- a quotient rounded down is at least each number that isn't above the quotient
+floor_greatest : (z q n d : ℤ) → pos 0 ≤ℤ d → (z *ℤ d) ≤ℤ n → n <ℤ (q *ℤ d +ℤ d) → z ≤ℤ q
+floor_greatest z q n d h k l =
+    by_lt_z q z
     (λ m. absurd
-    (refute (hi ∷ b ∷ q ∷ g ∷ A ∷ Z ∷ [])
-    ((lit (pos 0) ≼ at 2) ∷ (lit (pos 16) ⊗ at 3 ≼ at 2) ∷ (at 1 ≼ lit (pos 16) ⊗ at 4) ∷ (at 0 ⊗ at 2 ⊕ lit (pos 1) ≼ at 1 ⊗ lit (pos (2 ^ 36)) ⊕ at 2) ∷ (at 4 ⊗ lit (pos (2 ^ 32)) ≼ at 5 ⊗ at 3) ∷ (lit (pos 0) ≼ at 5)
-    ∷ (lit (pos 16) ⊗ at 5 ⊕ lit (pos 1) ≼ at 0) ∷ [])
-    (known 3 ⊞ naturally (2 ^ 36) ⊠ known 2 ⊞ naturally 256 ⊠ known 4 ⊞ known 6 ⊠ known 0 ⊞ naturally 16 ⊠ known 5 ⊠ known 1) refl
-    (hq, (hg, (hb, (hh, (hz, (z, (omega (arith, ints, m), tt)))))))))
+    (refute (z ∷ q ∷ n ∷ d ∷ []) ((lit (pos 0) ≼ at 3) ∷ (at 0 ⊗ at 3 ≼ at 2) ∷ (at 2 ⊕ lit (pos 1) ≼ at 1 ⊗ at 3 ⊕ at 3) ∷ (at 1 ⊕ lit (pos 1) ≼ at 0) ∷ []) (known 1 ⊞ known 2 ⊞ known 0 ⊠ known 3) refl
+    (h, (k, (omega (arith, ints, l), (omega (arith, ints, m), tt))))))
     (λ m. m)
-size_above fine hi b q g A Z hq hg hb hh hz z =
-    by_lt_z (pos (2 ^ 24) *ℤ Z) hi
+
+-- the same of one rounded up
+ceil_least : (z q n d : ℤ) → pos 0 ≤ℤ d → n ≤ℤ (z *ℤ d) → (q *ℤ d) <ℤ (n +ℤ d) → q ≤ℤ z
+ceil_least z q n d h k l =
+    by_lt_z z q
     (λ m. absurd
-    (refute (hi ∷ b ∷ q ∷ g ∷ A ∷ Z ∷ [])
-    ((lit (pos 0) ≼ at 2) ∷ (lit (pos (2 ^ 24)) ⊗ at 3 ≼ at 2) ∷ (at 1 ≼ lit (pos (2 ^ 24)) ⊗ at 4) ∷ (at 0 ⊗ at 2 ⊕ lit (pos 1) ≼ at 1 ⊗ lit (pos (2 ^ 56)) ⊕ at 2) ∷ (at 4 ⊗ lit (pos (2 ^ 32)) ≼ at 5 ⊗ at 3) ∷ (lit (pos 0) ≼ at 5)
-    ∷ (lit (pos (2 ^ 24)) ⊗ at 5 ⊕ lit (pos 1) ≼ at 0) ∷ [])
-    (known 3 ⊞ naturally (2 ^ 56) ⊠ known 2 ⊞ naturally (2 ^ 48) ⊠ known 4 ⊞ known 6 ⊠ known 0 ⊞ naturally (2 ^ 24) ⊠ known 5 ⊠ known 1) refl
-    (hq, (hg, (hb, (hh, (hz, (z, (omega (arith, ints, m), tt)))))))))
+    (refute (z ∷ q ∷ n ∷ d ∷ []) ((lit (pos 0) ≼ at 3) ∷ (at 2 ≼ at 0 ⊗ at 3) ∷ (at 1 ⊗ at 3 ⊕ lit (pos 1) ≼ at 2 ⊕ at 3) ∷ (at 0 ⊕ lit (pos 1) ≼ at 1) ∷ []) (known 1 ⊞ known 2 ⊞ known 0 ⊠ known 3) refl
+    (h, (k, (omega (arith, ints, l), (omega (arith, ints, m), tt))))))
     (λ m. m)
+
+-- of what holds of both divisors, it holds of the one that is taken
+by_least_divisor : (a c d p z n : ℤ) → IsLeastBy a c d p → (z *ℤ c) ≤ℤ n → (z *ℤ d) ≤ℤ n → (z *ℤ p) ≤ℤ n
+by_least_divisor a c d p z n (inl l) h k = rw l.1 h
+by_least_divisor a c d p z n (inr l) h k = rw l.1 k
+
+by_greatest_divisor : (b c d q z n : ℤ) → IsGreatestBy b c d q → n ≤ℤ (z *ℤ c) → n ≤ℤ (z *ℤ d) → n ≤ℤ (z *ℤ q)
+by_greatest_divisor b c d q z n (inl l) h k = rw l.1 k
+by_greatest_divisor b c d q z n (inr l) h k = rw l.1 h
 
 -- the two quotients' difference, times the divisors
 divided : (scale : Scale) → (a b p q lo hi w v P : ℤ) → pos 0 ≤ℤ p → pos 0 ≤ℤ q → (a *ℤ (unit scale)) ≤ℤ (lo *ℤ p +ℤ p) → (hi *ℤ q) ≤ℤ (b *ℤ (unit scale) +ℤ q) → (b -ℤ a) ≤ℤ w → (p -ℤ q) ≤ℤ v → (q -ℤ p) ≤ℤ v → (pos 0 -ℤ P) ≤ℤ a → a ≤ℤ P
@@ -170,12 +177,6 @@ nonneg_product fine n v h k = le_by (n ∷ v ∷ []) ((lit (pos 0) ≼ at 0) ∷
 halved : (p q : ℤ) → (pos 2 *ℤ p) ≤ℤ (pos 2 *ℤ q) → p ≤ℤ q
 halved p q h = omega (arith, ints, h)
 
-flip_floor : (scale : Scale) → (lo a p : ℤ) → (a *ℤ (unit scale) +ℤ pos 1) ≤ℤ (lo *ℤ p +ℤ p) → ((pos 0 -ℤ lo) *ℤ p +ℤ pos 1) ≤ℤ ((pos 0 -ℤ a) *ℤ (unit scale) +ℤ p)
-flip_floor coarse lo a p h =
-    le_by (lo ∷ a ∷ p ∷ []) ((at 1 ⊗ lit (pos (2 ^ 36)) ⊕ lit (pos 1) ≼ at 0 ⊗ at 2 ⊕ at 2) ∷ []) ((lit (pos 0) ⊖ at 0) ⊗ at 2 ⊕ lit (pos 1)) ((lit (pos 0) ⊖ at 1) ⊗ lit (pos (2 ^ 36)) ⊕ at 2) (known 0) refl (h, tt)
-flip_floor fine lo a p h =
-    le_by (lo ∷ a ∷ p ∷ []) ((at 1 ⊗ lit (pos (2 ^ 56)) ⊕ lit (pos 1) ≼ at 0 ⊗ at 2 ⊕ at 2) ∷ []) ((lit (pos 0) ⊖ at 0) ⊗ at 2 ⊕ lit (pos 1)) ((lit (pos 0) ⊖ at 1) ⊗ lit (pos (2 ^ 56)) ⊕ at 2) (known 0) refl (h, tt)
-
 pub quotients_are : (scale : Scale) → (a b c d p q lo hi : ℤ) → a ≤ℤ b → pos 0 <ℤ c → c ≤ℤ d → IsLeastBy a c d p → IsGreatestBy b c d q → IsFloor lo (a *ℤ (unit scale)) p → IsCeiling hi (b *ℤ (unit scale)) q → AreQuotientsAt scale a b c d lo hi
 quotients_are coarse a b c d p q lo hi o h k l g f t =
     let i = divisor_from a c d p k l in
@@ -192,10 +193,8 @@ quotients_are coarse a b c d p q lo hi o h k l g f t =
           let z = nonneg_product coarse n (d -ℤ c) (omega (arith, ints, na, bn, o)) (omega (arith, ints, k)) in
           by_least coarse ((hi -ℤ lo) -ℤ pos 2) q e (b -ℤ a) (pos (2 ^ 36) *ℤ (n *ℤ (d -ℤ c))) (omega (arith, ints, ec, j.0)) ze z (omega (arith, ints, o))
           (by_lesser (((hi -ℤ lo) -ℤ pos 2) *ℤ q -ℤ pos (2 ^ 36) *ℤ (b -ℤ a)) p e (pos (2 ^ 36) *ℤ (n *ℤ (d -ℤ c))) (omega (arith, ints, ec, i.0)) ze z (halved _ _ s));
-      low = λ y A Z gc na hz z.
-          let s = size_above coarse (pos 0 -ℤ lo) (pos 0 -ℤ a) p y A Z (omega (arith, ints, h, i.0)) (omega (arith, ints, gc, i.0)) (omega (arith, ints, na)) (flip_floor coarse lo a p (next_le _ _ f.close)) hz z in
-          omega (arith, ints, s);
-      high = λ y A Z gc bn hz z. size_above coarse hi b q y A Z (omega (arith, ints, h, j.0)) (omega (arith, ints, gc, j.0)) bn (omega (arith, ints, t.close)) hz z;
+      least = λ z fc fd. floor_greatest z lo (a *ℤ unit coarse) p (omega (arith, ints, h, i.0)) (by_least_divisor a c d p z _ l fc fd) f.close;
+      greatest = λ z fc fd. ceil_least z hi (b *ℤ unit coarse) q (omega (arith, ints, h, j.0)) (by_greatest_divisor b c d q z _ g fc fd) t.close;
     }
 quotients_are fine a b c d p q lo hi o h k l g f t =
     let i = divisor_from a c d p k l in
@@ -212,10 +211,8 @@ quotients_are fine a b c d p q lo hi o h k l g f t =
           let z = nonneg_product fine n (d -ℤ c) (omega (arith, ints, na, bn, o)) (omega (arith, ints, k)) in
           by_least fine ((hi -ℤ lo) -ℤ pos 2) q e (b -ℤ a) (pos (2 ^ 56) *ℤ (n *ℤ (d -ℤ c))) (omega (arith, ints, ec, j.0)) ze z (omega (arith, ints, o))
           (by_lesser (((hi -ℤ lo) -ℤ pos 2) *ℤ q -ℤ pos (2 ^ 56) *ℤ (b -ℤ a)) p e (pos (2 ^ 56) *ℤ (n *ℤ (d -ℤ c))) (omega (arith, ints, ec, i.0)) ze z (halved _ _ s));
-      low = λ y A Z gc na hz z.
-          let s = size_above fine (pos 0 -ℤ lo) (pos 0 -ℤ a) p y A Z (omega (arith, ints, h, i.0)) (omega (arith, ints, gc, i.0)) (omega (arith, ints, na)) (flip_floor fine lo a p (next_le _ _ f.close)) hz z in
-          omega (arith, ints, s);
-      high = λ y A Z gc bn hz z. size_above fine hi b q y A Z (omega (arith, ints, h, j.0)) (omega (arith, ints, gc, j.0)) bn (omega (arith, ints, t.close)) hz z;
+      least = λ z fc fd. floor_greatest z lo (a *ℤ unit fine) p (omega (arith, ints, h, i.0)) (by_least_divisor a c d p z _ l fc fd) f.close;
+      greatest = λ z fc fd. ceil_least z hi (b *ℤ unit fine) q (omega (arith, ints, h, j.0)) (by_greatest_divisor b c d q z _ g fc fd) t.close;
     }
 
 -- ---- the bound
@@ -228,34 +225,69 @@ by_equal n q a b e h = rw e at h
 ceil_square : (n g : ℕ) → n ≤ ceil_div n (suc g * suc g - 1) * (suc g * suc g)
 ceil_square n g = by_equal n (ceil_div n (suc g * suc g - 1)) (suc (suc g * suc g - 1)) (suc g * suc g) (square_above_none g) (ceil_above n (suc g * suc g - 1))
 
-quotient_kept : (scale : Scale) → (A g s k t m w Z S M : ℕ) (x y c d lo hi : ℤ) → AreQuotientsAt scale x y c d lo hi → AreSized scale A x y → ((span scale) *ℤ pos (suc g)) ≤ℤ c → c ≤ℤ d → x ≤ℤ y → ((y -ℤ x) *ℤ (grain scale)) ≤ℤ pos (s * w + k * 2 ^ 40) → ((d -ℤ c) *ℤ (grain scale)) ≤ℤ pos (t * w + m * 2 ^ 40)
-    → A * 2 ^ 32 ≤ Z * suc g → (s * suc g + A * t) * 2 ^ 32 ≤ S * (suc g * suc g) → (k * suc g + A * m) * 2 ^ 32 ≤ M * (suc g * suc g) → AreKept scale (neg_ℤ (pos Z)) (pos Z) S (M + 2 * (slack scale)) w lo hi
-quotient_kept coarse A g s k t m w Z S M x y c d lo hi q z from o r wx wy hz hs hm =
+quotient_kept : (scale : Scale) → (low high : ℤ) (A g s k t m w S M : ℕ) (x y c d lo hi : ℤ) → AreQuotientsAt scale x y c d lo hi → (low *ℤ (span scale)) ≤ℤ lo → hi ≤ℤ (high *ℤ (span scale)) → AreSized scale A x y → ((span scale) *ℤ pos (suc g)) ≤ℤ c
+    → ((y -ℤ x) *ℤ (grain scale)) ≤ℤ pos (s * w + k * 2 ^ 40) → ((d -ℤ c) *ℤ (grain scale)) ≤ℤ pos (t * w + m * 2 ^ 40)
+    → (s * suc g + A * t) * 2 ^ 32 ≤ S * (suc g * suc g) → (k * suc g + A * m) * 2 ^ 32 ≤ M * (suc g * suc g) → AreKept scale low high S (M + 2 * (slack scale)) w lo hi
+quotient_kept coarse low high A g s k t m w S M x y c d lo hi q l u z from wx wy hs hm =
     let n = q.close (pos 16 *ℤ pos A) (pos 16 *ℤ pos (suc g)) z.above z.below (omega (arith, ints)) from in
     let one : pos 1 ≤ℤ (pos (suc g) *ℤ pos (suc g)) = omega (arith, ints) in
     let b = by_bounds coarse ((hi -ℤ lo) -ℤ pos 2) (pos (suc g)) (pos A) (pos s) (pos k) (pos t) (pos m) (pos w) (pos S) (pos M) (y -ℤ x) (d -ℤ c) one (pos_nonneg (suc g)) (pos_nonneg A) (pos_nonneg w) (omega (arith, ints, wx)) (omega (arith, ints, wy)) n
     (omega (arith, ints, hs)) (omega (arith, ints, hm)) in
-    let l = q.low (pos (suc g)) (pos A) (pos Z) from z.above (omega (arith, ints, hz)) (pos_nonneg Z) in
-    let u = q.high (pos (suc g)) (pos A) (pos Z) from z.below (omega (arith, ints, hz)) (pos_nonneg Z) in
-    record {
-      ordered = q.ordered;
-      above = omega (arith, ints, l);
-      below = omega (arith, ints, u);
-      close = omega (arith, ints, b);
-    }
-quotient_kept fine A g s k t m w Z S M x y c d lo hi q z from o r wx wy hz hs hm =
+    record { ordered = q.ordered; above = l; below = u; close = omega (arith, ints, b) }
+quotient_kept fine low high A g s k t m w S M x y c d lo hi q l u z from wx wy hs hm =
     let n = q.close (pos (2 ^ 24) *ℤ pos A) (pos (2 ^ 24) *ℤ pos (suc g)) z.above z.below (omega (arith, ints)) from in
     let one : pos 1 ≤ℤ (pos (suc g) *ℤ pos (suc g)) = omega (arith, ints) in
     let b = by_bounds fine ((hi -ℤ lo) -ℤ pos 2) (pos (suc g)) (pos A) (pos s) (pos k) (pos t) (pos m) (pos w) (pos S) (pos M) (y -ℤ x) (d -ℤ c) one (pos_nonneg (suc g)) (pos_nonneg A) (pos_nonneg w) (omega (arith, ints, wx)) (omega (arith, ints, wy)) n
     (omega (arith, ints, hs)) (omega (arith, ints, hm)) in
-    let l = q.low (pos (suc g)) (pos A) (pos Z) from z.above (omega (arith, ints, hz)) (pos_nonneg Z) in
-    let u = q.high (pos (suc g)) (pos A) (pos Z) from z.below (omega (arith, ints, hz)) (pos_nonneg Z) in
-    record {
-      ordered = q.ordered;
-      above = omega (arith, ints, l);
-      below = omega (arith, ints, u);
-      close = omega (arith, ints, b);
-    }
+    record { ordered = q.ordered; above = l; below = u; close = omega (arith, ints, b) }
+
+-- the divisors lie in their range, whose greater end is above 0
+record HasDivisors (scale : Scale) (g e : ℕ) (b' c d : ℤ) : Type 0 where
+  last : pos (suc e) ≡ b'
+  first_divisor : LiesIn (span scale) (pos (suc g)) (pos (suc e)) c
+  second_divisor : LiesIn (span scale) (pos (suc g)) (pos (suc e)) d
+
+divisors_of : (scale : Scale) → (g : ℕ) (b' : ℤ) (s t w : ℕ) (c d : ℤ) → AreKept scale (pos (suc g)) b' s t w c d → HasDivisors scale g (unsigned_abs b' - 1) b' c d
+divisors_of scale g b' s t w c d n =
+    let e : pos (suc (unsigned_abs b' - 1)) ≡ b' = above_none scale n in
+    record { last = e; first_divisor = rw e (first_in scale (pos (suc g)) b' s t w c d n); second_divisor = rw e (last_in scale (pos (suc g)) b' s t w c d n) }
+  where
+    above_none : (scale : Scale) → AreKept scale (pos (suc g)) b' s t w c d → pos (suc (unsigned_abs b' - 1)) ≡ b'
+    above_none coarse n = omega (arith, ints, n.ordered, n.above, n.below)
+    above_none fine n = omega (arith, ints, n.ordered, n.above, n.below)
+
+quotient_low : (scale : Scale) → (a b : ℤ) (g e s t w : ℕ) (b' x y c d lo hi : ℤ) → AreKept scale a b s t w x y → HasDivisors scale g e b' c d → AreQuotientsAt scale x y c d lo hi → (least_quotient a g e *ℤ (span scale)) ≤ℤ lo
+quotient_low coarse a b g e s t w b' x y c d lo hi m n r = r.least _ (least_ratio (pos 16) a g e c x (span_natural coarse) n.first_divisor m.above) (least_ratio (pos 16) a g e d x (span_natural coarse) n.second_divisor m.above)
+quotient_low fine a b g e s t w b' x y c d lo hi m n r = r.least _ (least_ratio (pos (2 ^ 24)) a g e c x (span_natural fine) n.first_divisor m.above) (least_ratio (pos (2 ^ 24)) a g e d x (span_natural fine) n.second_divisor m.above)
+
+quotient_high : (scale : Scale) → (a b : ℤ) (g e s t w : ℕ) (b' x y c d lo hi : ℤ) → AreKept scale a b s t w x y → HasDivisors scale g e b' c d → AreQuotientsAt scale x y c d lo hi → hi ≤ℤ (greatest_quotient b g e *ℤ (span scale))
+quotient_high coarse a b g e s t w b' x y c d lo hi m n r = r.greatest _ (greatest_ratio (pos 16) b g e c y (span_natural coarse) n.first_divisor m.below) (greatest_ratio (pos 16) b g e d y (span_natural coarse) n.second_divisor m.below)
+quotient_high fine a b g e s t w b' x y c d lo hi m n r = r.greatest _ (greatest_ratio (pos (2 ^ 24)) b g e c y (span_natural fine) n.first_divisor m.below) (greatest_ratio (pos (2 ^ 24)) b g e d y (span_natural fine) n.second_divisor m.below)
+
+-- the size of the range is at most the quotient of the greatest size by the least divisor
+ratio_size : (a b : ℤ) (g e z : ℕ) → least_quotient a g e ≤ℤ greatest_quotient b g e → g ≤ e → range_size a b * 2 ^ 32 ≤ z * suc g → range_size (least_quotient a g e) (greatest_quotient b g e) ≤ z
+ratio_size a b g e z o h k =
+    let l : z * suc g ≤ z * suc e = mul-le-mul_left z (omega (arith, h)) in
+    let i : (pos 0 -ℤ pos z *ℤ pos (suc g)) ≤ℤ (a *ℤ pos (2 ^ 32)) = omega (arith, ints, k) in
+    let j : (pos 0 -ℤ pos z *ℤ pos (suc e)) ≤ℤ (a *ℤ pos (2 ^ 32)) = omega (arith, ints, k, l) in
+    let p : (b *ℤ pos (2 ^ 32)) ≤ℤ (pos z *ℤ pos (suc g)) = omega (arith, ints, k) in
+    let q : (b *ℤ pos (2 ^ 32)) ≤ℤ (pos z *ℤ pos (suc e)) = omega (arith, ints, k, l) in
+    within (least_quotient a g e) (greatest_quotient b g e) o (least_quotient_from (pos z) a g e i j) (greatest_quotient_to (pos z) b g e p q)
+  where
+    within : (x y : ℤ) → x ≤ℤ y → (pos 0 -ℤ pos z) ≤ℤ x → y ≤ℤ pos z → range_size x y ≤ z
+    within x y o h k = omega (arith, ints, o, h, k)
+
+-- the range is in order
+ratio_order : (scale : Scale) → (x y lo hi : ℤ) → lo ≤ℤ hi → (x *ℤ (span scale)) ≤ℤ lo → hi ≤ℤ (y *ℤ (span scale)) → x ≤ℤ y
+ratio_order coarse x y lo hi o h k = omega (arith, ints, o, h, k)
+ratio_order fine x y lo hi o h k = omega (arith, ints, o, h, k)
+
+divisor_order : (scale : Scale) → (g e : ℕ) (c : ℤ) → LiesIn (span scale) (pos (suc g)) (pos (suc e)) c → g ≤ e
+divisor_order coarse g e c h = omega (arith, ints, h.from, h.to)
+divisor_order fine g e c h = omega (arith, ints, h.from, h.to)
+
+size_below : (n z m : ℕ) → n ≤ z → z < m → n < m
+size_below n z m h k = omega (arith, h, k)
 
 pub quotient_narrow : (scale : Scale) → (w : ℕ) (p q : Bound) (x y c d lo hi : ℤ) (i : Interval) → AreQuotientsAt scale x y c d lo hi → ShowsEnds scale lo hi i → IsNarrow w p (between (at_scale scale x) (at_scale scale y)) → IsNarrow w q (between (at_scale scale c) (at_scale scale d)) → IsNarrow w (quotient_bound (limits_on scale) p q) i
 unfolding quotient_bound IsNarrow
@@ -270,17 +302,25 @@ quotient_narrow fine w (bounded a b s t) (bounded (negsuc a') b' s' t') x y c d 
 quotient_narrow coarse w (bounded a b s t) (bounded (pos (suc g)) b' s' t') x y c d lo hi i r v h k =
     let m = kept_of coarse a b s t w x y h in
     let n = kept_of coarse (pos (suc g)) b' s' t' w c d k in
-    limited_narrow coarse _ _ _ _ _ w lo hi i (λ l. around_size coarse _ (ltb-true _ _ (both _ _ l).0))
-    (quotient_kept coarse (range_size a b) g s t s' t' w _ _ _ x y c d lo hi r (sized coarse a b s t w x y m) (omega (arith, ints, n.above)) n.ordered m.ordered m.close n.close
-    (ceil_above (range_size a b * 2 ^ 32) g)
+    let e = unsigned_abs b' - 1 in
+    let f = divisors_of coarse g b' s' t' w c d n in
+    let l = quotient_low coarse a b g e s t w b' x y c d lo hi m f r in
+    let u = quotient_high coarse a b g e s t w b' x y c d lo hi m f r in
+    let z = ratio_size a b g e _ (ratio_order coarse _ _ lo hi r.ordered l u) (divisor_order coarse g e c f.first_divisor) (ceil_above (range_size a b * 2 ^ 32) g) in
+    limited_narrow coarse _ _ _ _ _ w lo hi i (λ l. size_below _ _ _ z (ltb-true _ _ (both _ _ l).0))
+    (quotient_kept coarse _ _ (range_size a b) g s t s' t' w _ _ x y c d lo hi r l u (sized coarse a b s t w x y m) (omega (arith, ints, n.above)) m.close n.close
     (ceil_square ((s * suc g + range_size a b * s') * 2 ^ 32) g)
     (ceil_square ((t * suc g + range_size a b * t') * 2 ^ 32) g)) v
 quotient_narrow fine w (bounded a b s t) (bounded (pos (suc g)) b' s' t') x y c d lo hi i r v h k =
     let m = kept_of fine a b s t w x y h in
     let n = kept_of fine (pos (suc g)) b' s' t' w c d k in
-    limited_narrow fine _ _ _ _ _ w lo hi i (λ l. around_size fine _ (ltb-true _ _ (both _ _ l).0))
-    (quotient_kept fine (range_size a b) g s t s' t' w _ _ _ x y c d lo hi r (sized fine a b s t w x y m) (omega (arith, ints, n.above)) n.ordered m.ordered m.close n.close
-    (ceil_above (range_size a b * 2 ^ 32) g)
+    let e = unsigned_abs b' - 1 in
+    let f = divisors_of fine g b' s' t' w c d n in
+    let l = quotient_low fine a b g e s t w b' x y c d lo hi m f r in
+    let u = quotient_high fine a b g e s t w b' x y c d lo hi m f r in
+    let z = ratio_size a b g e _ (ratio_order fine _ _ lo hi r.ordered l u) (divisor_order fine g e c f.first_divisor) (ceil_above (range_size a b * 2 ^ 32) g) in
+    limited_narrow fine _ _ _ _ _ w lo hi i (λ l. size_below _ _ _ z (ltb-true _ _ (both _ _ l).0))
+    (quotient_kept fine _ _ (range_size a b) g s t s' t' w _ _ x y c d lo hi r l u (sized fine a b s t w x y m) (omega (arith, ints, n.above)) m.close n.close
     (ceil_square ((s * suc g + range_size a b * s') * 2 ^ 32) g)
     (ceil_square ((t * suc g + range_size a b * t') * 2 ^ 32) g)) v
 

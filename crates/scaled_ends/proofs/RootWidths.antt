@@ -197,6 +197,16 @@ bounded_narrow fine w a b s k x y lo hi i p q r v n =
     let e = digits_of b q in
     limited_narrow fine true _ _ _ _ w lo hi i (λ u. ltb-true _ _ c.1) (ends_kept fine a b s k w (root_by_digits 48 (a * 2 ^ 32)) (suc (root_by_digits 48 (b * 2 ^ 32))) x y lo hi n r g d.under e.next) v
 
+-- the root of 0 is 0
+zero_roots : (scale : Scale) → (a s k w : ℕ) (x y lo hi : ℤ) → AreKept scale (pos a) (pos 0) s k w x y → AreRoots scale x y lo hi → AreKept scale (pos 0) (pos 0) 0 0 w lo hi
+zero_roots scale a s k w x y lo (negsuc hi) n r = absurd (omega (arith, ints, r.natural, r.ordered))
+zero_roots coarse a s k w x y lo (pos zero) n r = record { ordered = r.ordered; above = omega (arith, ints, r.natural); below = omega (arith, ints); close = omega (arith, ints, r.natural) }
+zero_roots fine a s k w x y lo (pos zero) n r = record { ordered = r.ordered; above = omega (arith, ints, r.natural); below = omega (arith, ints); close = omega (arith, ints, r.natural) }
+zero_roots coarse a s k w x (negsuc y) lo (pos (suc hi)) n r = absurd (omega (arith, ints, n.ordered, n.above))
+zero_roots fine a s k w x (negsuc y) lo (pos (suc hi)) n r = absurd (omega (arith, ints, n.ordered, n.above))
+zero_roots coarse a s k w x (pos y) lo (pos (suc hi)) n r = let e : y ≡ 0 = omega (arith, ints, n.below) in absurd (omega (arith, one_less coarse y hi (r.below (omega (arith, ints))), e))
+zero_roots fine a s k w x (pos y) lo (pos (suc hi)) n r = let e : y ≡ 0 = omega (arith, ints, n.below) in absurd (omega (arith, one_less fine y hi (r.below (omega (arith, ints))), e))
+
 pub root_narrow : (scale : Scale) → (w : ℕ) (p : Bound) (x y lo hi : ℤ) (i : Interval) → AreRoots scale x y lo hi → ShowsEnds scale lo hi i → IsNarrow w p (between (at_scale scale x) (at_scale scale y)) → IsNarrow w (root_bound (limits_on scale) p) i
 unfolding root_bound IsNarrow
 root_narrow coarse w unbounded x y lo hi i r v h = tt
@@ -205,16 +215,20 @@ root_narrow coarse w (bounded (negsuc a) b s k) x y lo hi i r v h = tt
 root_narrow fine w (bounded (negsuc a) b s k) x y lo hi i r v h = tt
 root_narrow coarse w (bounded (pos a) (negsuc b) s k) x y lo hi i r v h = tt
 root_narrow fine w (bounded (pos a) (negsuc b) s k) x y lo hi i r v h = tt
-root_narrow coarse w (bounded (pos a) (pos b) s k) x y lo hi i r v h =
+root_narrow coarse w (bounded (pos a) (pos zero) s k) x y lo hi i r v h =
+    limited_narrow coarse _ _ _ _ _ w lo hi i (λ l. omega arith) (zero_roots coarse a s k w x y lo hi (kept_of coarse _ _ _ _ _ _ _ h) r) v
+root_narrow fine w (bounded (pos a) (pos zero) s k) x y lo hi i r v h =
+    limited_narrow fine _ _ _ _ _ w lo hi i (λ l. omega arith) (zero_roots fine a s k w x y lo hi (kept_of fine _ _ _ _ _ _ _ h) r) v
+root_narrow coarse w (bounded (pos a) (pos (suc b)) s k) x y lo hi i r v h =
     limited_by _ w _ i λ t.
     let c = both _ _ (both _ _ t).0 in
-    bounded_narrow coarse w a b s k x y lo hi i (ltb-true _ _ c.0) (ltb-true _ _ c.1) r v (kept_of coarse _ _ _ _ _ _ _ h)
-root_narrow fine w (bounded (pos a) (pos b) s k) x y lo hi i r v h =
+    bounded_narrow coarse w a (suc b) s k x y lo hi i (ltb-true _ _ c.0) (ltb-true _ _ c.1) r v (kept_of coarse _ _ _ _ _ _ _ h)
+root_narrow fine w (bounded (pos a) (pos (suc b)) s k) x y lo hi i r v h =
     limited_by _ w _ i λ t.
-    let l : b < 2 ^ 46 = ltb-true _ _ (both _ _ t).1 in
+    let l : suc b < 2 ^ 46 = ltb-true _ _ (both _ _ t).1 in
     let m = kept_of fine _ _ _ _ _ _ _ h in
-    let n : a ≤ b = omega (arith, ints, m.ordered, m.above, m.below) in
-    bounded_narrow fine w a b s k x y lo hi i (omega (arith, l, n)) (omega (arith, l)) r v m
+    let n : a ≤ suc b = omega (arith, ints, m.ordered, m.above, m.below) in
+    bounded_narrow fine w a (suc b) s k x y lo hi i (omega (arith, l, n)) (omega (arith, l)) r v m
 
 pub root_of_all : (w : ℕ) (l : Limits) (x : Bound) (i : Interval) → IsNarrow w x everything → IsNarrow w (root_bound l x) i
 unfolding root_bound IsNarrow

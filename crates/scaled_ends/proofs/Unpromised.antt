@@ -6,7 +6,7 @@ use Rattle.exact_math.specs.Fraction.{Fraction}
 use Rattle.exact_math.specs.Interval.{Interval, between, ◌⊆◌}
 use Rattle.exact_math.proofs.Intervals.{within_trans}
 use Rattle.book_model.specs.numbers.Expressions.{Expression, integer, constant, add, subtract, multiply, divide, power, negate, scale, widen, root, remainder}
-use Rattle.book_model.specs.numbers.Bounds.{Bound, unbounded, bounded, Reach, IsNarrow, bound_of, integer_bound, constant_bound, sum_bound, scaled_bound, difference_bound, product_bound, power_bound, quotient_bound, negated_bound, spanned_bound, widen_bound, root_bound, remainder_bound, limits_of, no_limits}
+use Rattle.book_model.specs.numbers.Bounds.{Bound, unbounded, bounded, Reach, IsNarrow, bound_of, integer_bound, constant_bound, sum_bound, scaled_bound, difference_bound, product_bound, square_bound, power_bound, quotient_bound, negated_bound, spanned_bound, widen_bound, root_bound, remainder_bound, limits_of, no_limits}
 use Rattle.book_model.specs.numbers.Relations.{Narrow, Keeps}
 use Rattle.scaled_ends.specs.Rounding.{at_36, Keeps64}
 use Rattle.scaled_ends.proofs.Keeping.{kept_within}
@@ -57,6 +57,11 @@ product_none w unbounded b i = tt
 product_none w (bounded a c s k) unbounded i = tt
 product_none w (bounded a c s k) (bounded d e t m) i = rw leb-suc-zero tt
 
+square_none : (w : ℕ) (a : Bound) (i : Interval) → IsNarrow w (square_bound no_limits a) i
+unfolding IsNarrow
+square_none w unbounded i = tt
+square_none w (bounded a c s k) i = rw leb-suc-zero tt
+
 quotient_none : (w : ℕ) (a b : Bound) (i : Interval) → IsNarrow w (quotient_bound no_limits a b) i
 unfolding quotient_bound IsNarrow
 quotient_none w unbounded b i = tt
@@ -70,7 +75,8 @@ unfolding root_bound IsNarrow
 root_none w unbounded i = tt
 root_none w (bounded (negsuc a) b s k) i = tt
 root_none w (bounded (pos a) (negsuc b) s k) i = tt
-root_none w (bounded (pos a) (pos b) s k) i = rw leb-suc-zero tt
+root_none w (bounded (pos a) (pos zero) s k) i = rw leb-suc-zero tt
+root_none w (bounded (pos a) (pos (suc b)) s k) i = rw leb-suc-zero tt
 
 remainder_none : (w m : ℕ) (a : Bound) (i : Interval) → IsNarrow w (remainder_bound no_limits m a) i
 unfolding remainder_bound IsNarrow
@@ -117,7 +123,7 @@ narrow_multiply shown r x y e = record { kept = product_none r.width _ _ _ }
 
 pub narrow_square : {E : Type 0} (shown : E → Interval) (r : Reach) (x : Expression) (e : E) → Narrow shown (limits_of 8) r (power x 2) e
 unfolding Keeps bound_of limits_of power_bound
-narrow_square shown r x e = record { kept = product_none r.width _ _ _ }
+narrow_square shown r x e = record { kept = square_none r.width (bound_of (limits_of 8) r.bounds x) (shown e) }
 
 pub narrow_divide : {E : Type 0} (shown : E → Interval) (r : Reach) (x y : Expression) (e : E) → Narrow shown (limits_of 8) r (divide x y) e
 unfolding Keeps bound_of limits_of

@@ -55,8 +55,8 @@ pub record AreQuotientsAt (scale : Scale) (a b c d lo hi : ℤ) : Type 0 where
   pub under : (e : ℤ) → c ≤ℤ e → e ≤ℤ d → (lo *ℤ e) ≤ℤ (a *ℤ unit scale)
   pub over : (e : ℤ) → c ≤ℤ e → e ≤ℤ d → (b *ℤ unit scale) ≤ℤ (hi *ℤ e)
   pub close : (n e : ℤ) → (pos 0 -ℤ n) ≤ℤ a → b ≤ℤ n → pos 0 ≤ℤ e → e ≤ℤ c → (((hi -ℤ lo) -ℤ pos 2) *ℤ (e *ℤ e)) ≤ℤ (unit scale *ℤ ((b -ℤ a) *ℤ e) +ℤ unit scale *ℤ (n *ℤ (d -ℤ c)))
-  pub low : (g A Z : ℤ) → (span scale *ℤ g) ≤ℤ c → (pos 0 -ℤ span scale *ℤ A) ≤ℤ a → (A *ℤ pos (2 ^ 32)) ≤ℤ (Z *ℤ g) → pos 0 ≤ℤ Z → (pos 0 -ℤ span scale *ℤ Z) ≤ℤ lo
-  pub high : (g A Z : ℤ) → (span scale *ℤ g) ≤ℤ c → b ≤ℤ (span scale *ℤ A) → (A *ℤ pos (2 ^ 32)) ≤ℤ (Z *ℤ g) → pos 0 ≤ℤ Z → hi ≤ℤ (span scale *ℤ Z)
+  pub least : (z : ℤ) → (z *ℤ c) ≤ℤ (a *ℤ unit scale) → (z *ℤ d) ≤ℤ (a *ℤ unit scale) → z ≤ℤ lo
+  pub greatest : (z : ℤ) → (b *ℤ unit scale) ≤ℤ (z *ℤ c) → (b *ℤ unit scale) ≤ℤ (z *ℤ d) → hi ≤ℤ z
 
 abbrev pub AreQuotients : (a b c d lo hi : ℤ) → Type 0
 AreQuotients a b c d lo hi = AreQuotientsAt coarse a b c d lo hi

@@ -5,6 +5,7 @@ pub mod SineChain
 pub mod CosineChain
 pub mod KernelAngles
 pub mod Slopes
+pub mod Curves
 pub mod PointLemmas
 pub mod TurnLemmas
 pub mod Steady

@@ -13,16 +13,17 @@ use Rattle.book_model.specs.programs.Leading.{at_56}
 use Rattle.book_model.specs.numbers.Octants.{radians, octant_of_turn, sine_into, sine_at, sine_in}
 use Rattle.book_model.specs.numbers.Series.{sine_series, cosine_series, sine_term, cosine_term, four_fifths}
 use Rattle.book_model.proofs.OctantHulls.{radians_proper}
-use Rattle.book_model.proofs.SeriesNesting.{sines, sine_lowers, cosine_uppers, inside_in}
+use Rattle.book_model.proofs.SeriesNesting.{sines, sine_lowers, cosine_lowers, inside_in}
 use Rattle.book_model.proofs.Terms.{IsUpTo, sine_halving, cosine_halving}
 use Rattle.trig_series.specs.Kernel.{at_64, in_radians, in_radians_above, IsInRadians, AreSineEnds, AreCosineEnds}
-use Rattle.trig_series.specs.Points.{IsAround, IsPart}
+use Rattle.trig_series.specs.Points.{IsAround, IsRising, IsCrest, IsPart, IsInside}
 use Rattle.trig_series.proofs.AngleLemmas.{at_in_turn, cosine_within}
 use Rattle.trig_series.proofs.KernelAngles.{by_lower, by_upper, radians_over, radians_small}
 use Rattle.trig_series.proofs.OctantLemmas.{in_holds}
 use Rattle.trig_series.proofs.PointLemmas.{low_end, high_end, sine_same, cosine_same, sine_zero, cosine_zero, none_in_radians}
-use Rattle.trig_series.proofs.Slopes.{sine_slow, cosine_slow}
-use Rattle.trig_series.proofs.Steady.{in_fifths, in_order}
+use Rattle.trig_series.proofs.Slopes.{sine_slow, cosine_upper_slow}
+use Rattle.trig_series.proofs.Curves.{in_fifths, in_order, sine_above, cosine_above}
+use Rattle.trig_series.proofs.Steady.{more_crest}
 
 -- ---- angles by the upper neighbour of pi
 above_in_order : (d e : ℕ) → d ≤ e → in_radians_above d ≤F in_radians_above e
@@ -43,21 +44,11 @@ joined : (a b : ℤ) → at_56 (a +ℤ b) ≈ plus (at_56 a) (at_56 b)
 unfolding plus
 joined a b = record { cross = omega (arith, ints) }
 
-parted : (a b : ℤ) → at_56 (a -ℤ b) ≈ plus (at_56 a) (opposite (at_56 b))
-unfolding plus opposite
-parted a b = record { cross = omega (arith, ints) }
-
 moved_up : (a b x y : Fraction) (hi m : ℤ) → plus a x ≤F plus b y → b ≤F at_56 hi → y ≤F plus x (at_56 m) → a ≤F at_56 (hi +ℤ m)
 moved_up a b x y hi m p q r =
     le_by (a ∷ b ∷ x ∷ y ∷ at_56 hi ∷ at_56 m ∷ at_56 (hi +ℤ m) ∷ [])
     ((at 0 ⊕ at 2 ≼ at 1 ⊕ at 3) ∷ (at 1 ≼ at 4) ∷ (at 3 ≼ at 2 ⊕ at 5) ∷ (at 6 ≗ at 4 ⊕ at 5) ∷ []) (at 0) (at 6)
     (known 0 ⊞ known 1 ⊞ known 2 ⊞ multiple 3 (lit (negsuc 0))) refl (p, (q, (r, (joined hi m, tt))))
-
-moved_down : (a b x y : Fraction) (lo m : ℤ) → plus a x ≤F plus b y → at_56 lo ≤F a → y ≤F plus x (at_56 m) → at_56 (lo -ℤ m) ≤F b
-moved_down a b x y lo m p q r =
-    le_by (a ∷ b ∷ x ∷ y ∷ at_56 lo ∷ at_56 m ∷ at_56 (lo -ℤ m) ∷ [])
-    ((at 0 ⊕ at 2 ≼ at 1 ⊕ at 3) ∷ (at 4 ≼ at 0) ∷ (at 3 ≼ at 2 ⊕ at 5) ∷ (at 6 ≗ at 4 ⊖ at 5) ∷ []) (at 6) (at 1)
-    (known 0 ⊞ known 1 ⊞ known 2 ⊞ multiple 3 (lit (pos 1))) refl (p, (q, (r, (parted lo m, tt))))
 
 -- ---- from the first angle of a part to a later one
 none_below : (d : ℕ) → zero_F ≤F in_radians d
@@ -77,16 +68,21 @@ sine_from n d e s lo hi m o u w f l r =
       );
     })
 
-cosine_from : (n d e s : ℕ) (lo hi m : ℤ) → d ≤ e → e ≤ 3242591731706757120 → (pos e -ℤ pos d) ≤ℤ (pos 57 *ℤ m) → ((x : Fraction) → IsInRadians d x → AreCosineEnds x s (suc (suc n)))
-    → (lo *ℤ pos 256 +ℤ pos 384) ≤ℤ pos s → pos s ≤ℤ (hi *ℤ pos 256 -ℤ pos 384) → cosine_series (suc (suc n)) (between (in_radians e) (in_radians_above e)) ⊆ between (at_56 (lo -ℤ m)) (at_56 hi)
+-- and from the last angle of a part to an earlier one
+lower_close : (d e : ℕ) (m : ℤ) → d ≤ e → (pos e -ℤ pos d) ≤ℤ (pos 57 *ℤ m) → in_radians e ≤F plus (in_radians d) (at_56 m)
+unfolding plus times
+lower_close d e m o h = record { cross = omega (arith, ints, o, h) }
+
+cosine_from : (n d e s : ℕ) (lo hi m : ℤ) → d ≤ e → e ≤ 3242591731706757120 → (pos e -ℤ pos d) ≤ℤ (pos 57 *ℤ m) → ((x : Fraction) → IsInRadians e x → AreCosineEnds x s (suc (suc n)))
+    → (lo *ℤ pos 256 +ℤ pos 384) ≤ℤ pos s → pos s ≤ℤ (hi *ℤ pos 256 -ℤ pos 384) → cosine_series (suc (suc n)) (between (in_radians d) (in_radians_above d)) ⊆ between (at_56 lo) (at_56 (hi +ℤ m))
 unfolding cosine_series
 cosine_from n d e s lo hi m o u w f l r =
     let v : d ≤ 3242591731706757120 = omega (arith, o, u) in
-    rw (inside_in zero_F four_fifths (in_radians e) (in_radians_above e) (record { above = none_below e; below = radians_small e u }))
+    rw (inside_in zero_F four_fifths (in_radians d) (in_radians_above d) (record { above = none_below d; below = radians_small d v }))
     (record {
       ends = (
-        moved_down _ _ _ _ lo m (cosine_slow n _ _ (above_fifths d v) (above_fifths e u) (above_in_order d e o)) (le_trans _ _ _ (low_end (pos s) (pos 320) lo (omega (arith, ints, l))) (f _ (by_upper d)).low) (above_close d e m o w),
-        le_trans _ _ _ (cosine_uppers (suc n) _ _ (in_fifths d v) (in_fifths e u) (in_order d e o)) (le_trans _ _ _ (f _ (by_lower d)).high (high_end (pos s) (pos 320) hi (omega (arith, ints, r)))),
+        le_trans _ _ _ (low_end (pos s) (pos 320) lo (omega (arith, ints, l))) (le_trans _ _ _ (f _ (by_upper e)).low (cosine_lowers (suc n) _ _ (above_fifths d v) (above_fifths e u) (above_in_order d e o))),
+        moved_up _ _ _ _ hi m (cosine_upper_slow n _ _ (in_fifths d v) (in_fifths e u) (in_order d e o)) (le_trans _ _ _ (f _ (by_lower e)).high (high_end (pos s) (pos 320) hi (omega (arith, ints, r)))) (lower_close d e m o w),
       );
     })
 
@@ -97,20 +93,17 @@ sine_part_holds (suc n) d e s y lo hi m h o u w f l r g =
     sine_same (suc n) e y _ g
     (within_trans (sines.within (suc n) (radians_proper (suc n) (at_56 (pos e))) (radians_over (suc n) e (omega (arith, h)))) (sine_from n d e s lo hi m o u w (λ x t. f (suc n) x (omega (arith, h)) t) l r))
 
-pub cosine_part_holds : (n d e s : ℕ) (y : Fraction) (lo hi m : ℤ) → 40 ≤ n → d ≤ e → e ≤ 3242591731706757120 → (pos e -ℤ pos d) ≤ℤ (pos 57 *ℤ m) → ((k : ℕ) (x : Fraction) → 9 ≤ k → IsInRadians d x → AreCosineEnds x s k)
-    → (lo *ℤ pos 256 +ℤ pos 384) ≤ℤ pos s → pos s ≤ℤ (hi *ℤ pos 256 -ℤ pos 384) → y ≈ at_56 (pos e) → cosine_series n (radians n y) ⊆ between (at_56 (lo -ℤ m)) (at_56 hi)
+pub cosine_part_holds : (n d e s : ℕ) (y : Fraction) (lo hi m : ℤ) → 40 ≤ n → d ≤ e → e ≤ 3242591731706757120 → (pos e -ℤ pos d) ≤ℤ (pos 57 *ℤ m) → ((k : ℕ) (x : Fraction) → 9 ≤ k → IsInRadians e x → AreCosineEnds x s k)
+    → (lo *ℤ pos 256 +ℤ pos 384) ≤ℤ pos s → pos s ≤ℤ (hi *ℤ pos 256 -ℤ pos 384) → y ≈ at_56 (pos d) → cosine_series n (radians n y) ⊆ between (at_56 lo) (at_56 (hi +ℤ m))
 cosine_part_holds zero d e s y lo hi m h o u w f l r g = absurd (omega (arith, h))
 cosine_part_holds (suc zero) d e s y lo hi m h o u w f l r g = absurd (omega (arith, h))
 cosine_part_holds (suc (suc n)) d e s y lo hi m h o u w f l r g =
-    cosine_same (suc (suc n)) e y _ h g
-    (within_trans (cosine_within (suc (suc n)) (omega (arith, h)) (radians_proper (suc (suc n)) (at_56 (pos e))) (radians_over (suc (suc n)) e (omega (arith, h)))) (cosine_from n d e s lo hi m o u w (λ x t. f (suc (suc n)) x (omega (arith, h)) t) l r))
+    cosine_same (suc (suc n)) d y _ h g
+    (within_trans (cosine_within (suc (suc n)) (omega (arith, h)) (radians_proper (suc (suc n)) (at_56 (pos d))) (radians_over (suc (suc n)) d (omega (arith, h)))) (cosine_from n d e s lo hi m o u w (λ x t. f (suc (suc n)) x (omega (arith, h)) t) l r))
 
 -- ---- near 0 degrees the sine is near 0, and the cosine near 1
 no_part : at_56 (pos 0) ≤F zero_F
 no_part = record { cross = omega (arith, ints) }
-
-whole_part : whole (pos 1) ≤F at_56 (pos 72057594037927936)
-whole_part = record { cross = omega (arith, ints) }
 
 -- the sine is at most its angle
 sine_up_to : (d s : ℕ) → d ≤ 3242591731706757120 → AreSineEnds (in_radians d) s 8 → at_64 (pos s -ℤ pos 384) ≤F in_radians d
@@ -123,58 +116,34 @@ sine_up_to d s u h =
     (known 0 ⊞ known 1 ⊞ multiple 2 (lit (negsuc 0))) refl
     (sine_slow 7 _ _ (in_fifths 0 (omega arith)) y (in_order 0 d (omega arith)), (le_trans _ _ _ z.1 no_part, (none_in_radians, tt)))))
 
--- the cosine is at least 1 less its angle
-cosine_down_to : (d s : ℕ) → d ≤ 3242591731706757120 → AreCosineEnds (in_radians d) s 9 → whole (pos 1) ≤F plus (at_64 (pos s +ℤ pos 320)) (in_radians d)
-cosine_down_to d s u h =
-    let y = in_fifths d u in
-    let z = cosine_zero (in_radians 0) none_in_radians in
-    le_by (lower (cosine_term (in_radians 0)) 9 ∷ lower (cosine_term (in_radians d)) 9 ∷ in_radians 0 ∷ in_radians d ∷ at_64 (pos s +ℤ pos 320) ∷ [])
-    ((at 0 ⊕ at 2 ≼ at 1 ⊕ at 3) ∷ (lit (pos 1) ≼ at 0) ∷ (at 1 ≼ at 4) ∷ (at 2 ≗ lit (pos 0)) ∷ []) (lit (pos 1)) (at 4 ⊕ at 3)
-    (known 0 ⊞ known 1 ⊞ known 2 ⊞ multiple 3 (lit (negsuc 0))) refl (
-      cosine_slow 7 _ _ (in_fifths 0 (omega arith)) y (in_order 0 d (omega arith)),
-      (
-        le_trans _ _ _ whole_part z.0,
-        (
-          le_trans _ _ _ (sum_ends_in_order 9 (cosine_term (in_radians d)) ((cosine_halving (in_radians d) y).nonneg 9)) h.high,
-          (none_in_radians, tt),
-        ),
-      ),
-    )
-
 below_angle : (d : ℕ) (a : ℤ) → at_64 a ≤F in_radians d → (pos 57 *ℤ a) ≤ℤ (pos d *ℤ pos 256)
 unfolding times
 below_angle d a h = omega (arith, ints, h.cross)
 
-above_rest : (d : ℕ) (a : ℤ) → whole (pos 1) ≤F plus (at_64 a) (in_radians d) → (pos 57 *ℤ (pos (2 ^ 64) -ℤ a)) ≤ℤ (pos d *ℤ pos 256)
-unfolding plus times
-above_rest d a h = omega (arith, ints, h.cross)
-
-pub sine_part_small : (d e s : ℕ) (lo hi m : ℤ) → d ≤ e → e ≤ 3242591731706757120 → (pos 57 *ℤ m) ≤ℤ ((pos e -ℤ pos d) +ℤ pos 56) → AreSineEnds (in_radians d) s 8
-    → pos s ≤ℤ (lo *ℤ pos 256 +ℤ pos 767) → (hi *ℤ pos 256 -ℤ pos 768) ≤ℤ pos s → IsAround (pos 0) (pos e) lo (hi +ℤ m)
-sine_part_small d e s lo hi m o u w h l r =
+pub sine_part_near : (d e s : ℕ) (lo hi m : ℤ) → d ≤ e → e ≤ 3242591731706757120 → (pos 57 *ℤ m) ≤ℤ ((pos e -ℤ pos d) +ℤ pos 56) → AreSineEnds (in_radians d) s 8
+    → pos s ≤ℤ (lo *ℤ pos 256 +ℤ pos 767) → (hi *ℤ pos 256 -ℤ pos 768) ≤ℤ pos s → IsRising (pos d) (pos e) lo (hi +ℤ m)
+sine_part_near d e s lo hi m o u w h l r =
     let a = below_angle d (pos s -ℤ pos 384) (sine_up_to d s (omega (arith, o, u)) h) in
-    record { up = omega (arith, ints, a, r, w, o); down = omega (arith, ints, l) }
+    let b = sine_above d (pos s +ℤ pos 384) (omega (arith, o, u)) h.high in
+    record { up = omega (arith, ints, a, r, w, o); down = omega (arith, ints, b, l) }
 
-pub cosine_part_crest : (d e s : ℕ) (lo hi m : ℤ) → d ≤ e → e ≤ 3242591731706757120 → (pos 57 *ℤ m) ≤ℤ ((pos e -ℤ pos d) +ℤ pos 56) → s ≤ 2 ^ 64 - 1 → AreCosineEnds (in_radians d) s 9
-    → pos s ≤ℤ (lo *ℤ pos 256 +ℤ pos 767) → (hi *ℤ pos 256 -ℤ pos 768) ≤ℤ pos s → IsAround (pos 72057594037927936) (pos e) (lo -ℤ m) hi
-cosine_part_crest d e s lo hi m o u w b h l r =
-    let a = above_rest d (pos s +ℤ pos 320) (cosine_down_to d s (omega (arith, o, u)) h) in
-    record { up = omega (arith, ints, b, r); down = omega (arith, ints, a, l, w, o) }
+pub cosine_part_near : (e s : ℕ) (lo : ℤ) → e ≤ 3242591731706757120 → AreCosineEnds (in_radians e) s 9 → pos s ≤ℤ (lo *ℤ pos 256 +ℤ pos 767) → IsCrest (pos e) lo
+cosine_part_near e s lo u h l = let a = cosine_above e (pos s +ℤ pos 320) u h.high in record { down = omega (arith, ints, a, l) }
 
 -- ---- the octants of the first half turn
-pub part_0 : (o : ℤ) (f t : ℕ) (lo hi : ℤ) → o ≡ pos 0 → IsAround (pos 0) (pos t) lo hi → IsPart (unsigned_abs o) f t lo hi
+pub part_0 : (o : ℤ) (f t : ℕ) (lo hi : ℤ) → o ≡ pos 0 → IsRising (pos f) (pos t) lo hi → IsPart (unsigned_abs o) f t lo hi
 unfolding IsPart
 part_0 o f t lo hi e h = rw e h
 
-pub part_1 : (o : ℤ) (f t : ℕ) (lo hi : ℤ) → o ≡ pos 1 → IsAround (pos 72057594037927936) (pos (3242591731706757120 - f)) lo hi → IsPart (unsigned_abs o) f t lo hi
+pub part_1 : (o : ℤ) (f t : ℕ) (lo hi : ℤ) → o ≡ pos 1 → IsCrest (pos (3242591731706757120 - f)) lo → IsPart (unsigned_abs o) f t lo hi
 unfolding IsPart
 part_1 o f t lo hi e h = rw e h
 
-pub part_2 : (o : ℤ) (f t : ℕ) (lo hi : ℤ) → o ≡ pos 2 → IsAround (pos 72057594037927936) (pos t) lo hi → IsPart (unsigned_abs o) f t lo hi
+pub part_2 : (o : ℤ) (f t : ℕ) (lo hi : ℤ) → o ≡ pos 2 → IsCrest (pos t) lo → IsPart (unsigned_abs o) f t lo hi
 unfolding IsPart
 part_2 o f t lo hi e h = rw e h
 
-pub part_3 : (o : ℤ) (f t : ℕ) (lo hi : ℤ) → o ≡ pos 3 → IsAround (pos 0) (pos (3242591731706757120 - f)) lo hi → IsPart (unsigned_abs o) f t lo hi
+pub part_3 : (o : ℤ) (f t : ℕ) (lo hi : ℤ) → o ≡ pos 3 → IsRising (pos (3242591731706757120 - t)) (pos (3242591731706757120 - f)) lo hi → IsPart (unsigned_abs o) f t lo hi
 unfolding IsPart
 part_3 o f t lo hi e h = rw e h
 
@@ -221,27 +190,28 @@ record LiesOver (k lo hi a b : ℤ) : Type 0 where
 by_octant : (k m lo hi a b : ℤ) → k ≡ m → LiesOver k lo hi a b → LiesOver m lo hi a b
 by_octant k m lo hi a b e h = rw e at h
 
-more_around : (e v w a b : ℤ) → v ≤ℤ w → IsAround e v a b → IsAround e w a b
-more_around e v w a b l h = record { up = omega (arith, ints, l, h.up); down = omega (arith, ints, l, h.down) }
+rising_around : (f t w a b : ℤ) → pos 0 ≤ℤ f → pos 0 ≤ℤ w → t ≤ℤ w → IsRising f t a b → IsAround (pos 0) w a b
+rising_around f t w a b n z l h = record { up = omega (arith, ints, l, h.up); down = omega (arith, ints, n, z, h.down) }
 
 opposite_around : (w a b : ℤ) → IsAround (pos 0) w (neg_ℤ b) (neg_ℤ a) → IsAround (pos 0) w a b
 opposite_around w a b h = record { up = omega (arith, ints, h.down); down = omega (arith, ints, h.up) }
 
 small_7 : (lo hi a b w : ℤ) → neg_ℤ w ≤ℤ lo → LiesOver (negsuc 0) lo hi a b → IsAround (pos 0) w a b
 unfolding IsPart
-small_7 lo hi a b w l h = opposite_around w a b (more_around (pos 0) _ w _ _ (omega (arith, ints, l, h.from, h.ordered, h.to)) h.part)
+small_7 lo hi a b w l h =
+    opposite_around w a b (rising_around _ _ w _ _ (omega (arith, ints)) (omega (arith, ints, l, h.from, h.ordered, h.to)) (omega (arith, ints, l, h.from, h.ordered, h.to)) h.part)
 
 small_0 : (lo hi a b w : ℤ) → hi ≤ℤ w → LiesOver (pos 0) lo hi a b → IsAround (pos 0) w a b
 unfolding IsPart
-small_0 lo hi a b w u h = more_around (pos 0) _ w _ _ (omega (arith, ints, u, h.from, h.ordered)) h.part
+small_0 lo hi a b w u h = rising_around _ _ w _ _ (omega (arith, ints)) (omega (arith, ints, u, h.from, h.ordered)) (omega (arith, ints, u, h.from, h.ordered)) h.part
 
-crest_1 : (lo hi a b w : ℤ) → (pos 6485183463413514240 -ℤ w) ≤ℤ lo → LiesOver (pos 1) lo hi a b → IsAround (pos 72057594037927936) w a b
+crest_1 : (lo hi a b w : ℤ) → (pos 6485183463413514240 -ℤ w) ≤ℤ lo → LiesOver (pos 1) lo hi a b → IsCrest w a
 unfolding IsPart
-crest_1 lo hi a b w l h = more_around (pos 72057594037927936) _ w _ _ (omega (arith, ints, l, h.from, h.ordered, h.to)) h.part
+crest_1 lo hi a b w l h = more_crest _ w a (omega (arith, ints)) (omega (arith, ints, l, h.from, h.ordered, h.to)) h.part
 
-crest_2 : (lo hi a b w : ℤ) → hi ≤ℤ (pos 6485183463413514240 +ℤ w) → LiesOver (pos 2) lo hi a b → IsAround (pos 72057594037927936) w a b
+crest_2 : (lo hi a b w : ℤ) → hi ≤ℤ (pos 6485183463413514240 +ℤ w) → LiesOver (pos 2) lo hi a b → IsCrest w a
 unfolding IsPart
-crest_2 lo hi a b w u h = more_around (pos 72057594037927936) _ w _ _ (omega (arith, ints, u, h.from, h.ordered)) h.part
+crest_2 lo hi a b w u h = more_crest _ w a (omega (arith, ints)) (omega (arith, ints, u, h.from, h.ordered)) h.part
 
 pub part_small : (k lo hi a b : ℤ) → IsPart (octant_of_turn k) (unsigned_abs (lo -ℤ k *ℤ pos 3242591731706757120)) (unsigned_abs (hi -ℤ k *ℤ pos 3242591731706757120)) a b
     → (k *ℤ pos 3242591731706757120) ≤ℤ lo → lo ≤ℤ hi → hi ≤ℤ (k *ℤ pos 3242591731706757120 +ℤ pos 3242591731706757120)
@@ -254,9 +224,21 @@ part_small k lo hi a b p f o t w l u s =
 
 pub part_crest : (k lo hi a b : ℤ) → IsPart (octant_of_turn k) (unsigned_abs (lo -ℤ k *ℤ pos 3242591731706757120)) (unsigned_abs (hi -ℤ k *ℤ pos 3242591731706757120)) a b
     → (k *ℤ pos 3242591731706757120) ≤ℤ lo → lo ≤ℤ hi → hi ≤ℤ (k *ℤ pos 3242591731706757120 +ℤ pos 3242591731706757120)
-    → (w : ℤ) → (pos 6485183463413514240 -ℤ w) ≤ℤ lo → hi ≤ℤ (pos 6485183463413514240 +ℤ w) → w <ℤ pos 3242591731706757120 → IsAround (pos 72057594037927936) w a b
+    → (w : ℤ) → (pos 6485183463413514240 -ℤ w) ≤ℤ lo → hi ≤ℤ (pos 6485183463413514240 +ℤ w) → w <ℤ pos 3242591731706757120 → IsCrest w a
 part_crest k lo hi a b p f o t w l u s =
     let h : LiesOver k lo hi a b = record { part = p; from = f; ordered = o; to = t } in
     by_lt_z k (pos 2)
     (λ m. crest_1 lo hi a b w l (by_octant k (pos 1) lo hi a b (omega (arith, ints, m, l, o, t, s)) h))
     (λ m. crest_2 lo hi a b w u (by_octant k (pos 2) lo hi a b (omega (arith, ints, m, u, o, f, s)) h))
+
+-- ---- degrees lie inside one octant alone
+pub begun_elsewhere : (k m lo hi : ℤ) → (m *ℤ pos 3242591731706757120) ≤ℤ lo → lo ≤ℤ (m *ℤ pos 3242591731706757120) → lo ≤ℤ hi → IsInside k lo hi → ⊥
+begun_elsewhere k m lo hi h l o i = omega (arith, ints, h, l, o, i.above, i.below)
+
+pub ended_elsewhere : (k m lo hi : ℤ) → lo <ℤ (m *ℤ pos 3242591731706757120 +ℤ pos 3242591731706757120) → (m *ℤ pos 3242591731706757120 +ℤ pos 3242591731706757120) ≤ℤ hi → IsInside k lo hi → ⊥
+ended_elsewhere k m lo hi h l i = omega (arith, ints, h, l, i.above, i.below)
+
+pub by_inside : (k m lo hi a b : ℤ) → (m *ℤ pos 3242591731706757120) ≤ℤ lo → lo <ℤ (m *ℤ pos 3242591731706757120 +ℤ pos 3242591731706757120) → lo ≤ℤ hi → IsInside k lo hi
+    → IsPart (octant_of_turn m) (unsigned_abs (lo -ℤ m *ℤ pos 3242591731706757120)) (unsigned_abs (hi -ℤ m *ℤ pos 3242591731706757120)) a b
+    → IsPart (octant_of_turn k) (unsigned_abs (lo -ℤ k *ℤ pos 3242591731706757120)) (unsigned_abs (hi -ℤ k *ℤ pos 3242591731706757120)) a b
+by_inside k m lo hi a b h l o i p = let e : k ≡ m = omega (arith, ints, h, l, o, i.above, i.below) in rw e p

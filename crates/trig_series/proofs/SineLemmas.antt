@@ -1,23 +1,26 @@
 -- Sine, cosine and tangent as operations of enclosures.
-use Rattle.std.proofs.Common.{◌≡◌, ℕ, suc, ◌+◌, ◌*◌, ◌^◌, ◌≤◌, refl, sym, arith, Bool, true, false, cond, neg_ℤ, ℤ, pos, ◌+ℤ◌, ◌-ℤ◌, ◌*ℤ◌, ◌≤ℤ◌, ◌<ℤ◌, ◌⊎◌, inl, inr}
-use Rattle.std.specs.Prelude.{nat_lt}
+use Rattle.std.proofs.Common.{◌≡◌, ℕ, zero, suc, ◌+◌, ◌*◌, ◌-◌, ◌^◌, ◌≤◌, ◌<◌, unsigned_abs, [], ◌∷◌, refl, sym, arith, Bool, true, false, cond, neg_ℤ, ℤ, pos, ◌+ℤ◌, ◌-ℤ◌, ◌*ℤ◌, ◌≤ℤ◌, ◌<ℤ◌, ◌⊎◌, inl, inr}
+use Rattle.std.specs.Prelude.{nat_lt, ◌&&◌}
 use Rattle.std.specs.Int.{int_max, int_min}
-use Rattle.std.proofs.lemmas.Int.{ints, clamps}
+use Rattle.std.proofs.lemmas.Int.{ints, clamps, by_lt_z}
+use lib.Signed.{lt_z}
+use Rattle.exact_math.proofs.Ring.{at, lit, ◌⊗◌}
+use Rattle.exact_math.proofs.Bounds.{◌≼◌, known, ◌⊞◌, ◌⊠◌, times as naturally, le_by, square_nonneg}
 use Rattle.std.proofs.lemmas.Bool.{ltb-true}
 use Rattle.std.proofs.Math.Nat.{mul-le-mul_right}
 use Rattle.exact_math.specs.Fraction.{Fraction, ◌≤F◌, whole, plus}
 use Rattle.exact_math.specs.Interval.{Interval, everything, between, IsProper, ◌⊆◌, sum, one, minus_one}
 use Rattle.exact_math.proofs.Fractions.{le_trans, le_refl, plus_mono}
 use Rattle.exact_math.proofs.Intervals.{within_trans, within_refl, sum_within, plus_proper}
-use Rattle.book_model.specs.numbers.Bounds.{Bound, unbounded, bounded, Limits, Reach, Spans, IsNarrow, bound_of, limited, range_size, ceil_div, eighth_turn, sine_spans, cosine_spans, spanned_bound}
+use Rattle.book_model.specs.numbers.Bounds.{Bound, unbounded, bounded, Limits, Reach, Spans, IsNarrow, bound_of, limited, range_size, ceil_div, eighth_turn, Extent, opposites, sine_from, sine_to, cosine_from, octant_extent, octant_at, lie_inside, inside_extent, sine_near_none, cosine_near_none, quarter_later, sine_spans, cosine_spans, spanned_bound}
 use Rattle.book_model.specs.numbers.Expressions.{Expression, World, value, divide, sine, cosine, tangent}
 use Rattle.book_model.specs.programs.Leading.{at_56}
-use Rattle.book_model.specs.numbers.Octants.{only, sine_of_degrees, cosine_of_degrees, tangent_of_degrees}
+use Rattle.book_model.specs.numbers.Octants.{only, octant_of_turn, sine_of_degrees, cosine_of_degrees, tangent_of_degrees}
 use Rattle.book_model.specs.numbers.Relations.{Within, Lies, Narrow, Keeps}
 use Rattle.book_model.proofs.Values.{value_proper}
 use Rattle.book_model.proofs.OctantHulls.{all_sines}
 use Rattle.book_model.proofs.DegreeSines.{degree_sines, sine_inside}
-use Rattle.trig_series.specs.Points.{IsAround, IsNarrowSine, IsNarrowCosine}
+use Rattle.trig_series.specs.Points.{IsAround, IsRising, IsCrest, IsPart, IsInside, IsNarrowSine, IsNarrowCosine}
 use Rattle.trig_series.proofs.OctantLemmas.{order_at, by_max, by_min}
 
 -- ---- whatever a sine may be
@@ -59,9 +62,53 @@ cut_around_none : (w lo hi p q p' q' : ℤ) → pos 0 ≤ℤ w → p ≡ int_max
     → IsAround (pos 0) w lo hi → IsAround (pos 0) w q q'
 cut_around_none w lo hi p q p' q' z e f e' f' h = record { up = omega (arith, ints, clamps, z, e', f', h.up); down = omega (arith, ints, clamps, z, e, f, h.down) }
 
-cut_around_one : (w lo hi p q p' q' : ℤ) → pos 0 ≤ℤ w → p ≡ int_max lo (neg_ℤ (pos 72057594037927936)) → q ≡ int_min p (pos 72057594037927936) → p' ≡ int_max hi (neg_ℤ (pos 72057594037927936)) → q' ≡ int_min p' (pos 72057594037927936)
-    → IsAround (pos 72057594037927936) w lo hi → IsAround (pos 72057594037927936) w q q'
-cut_around_one w lo hi p q p' q' z e f e' f' h = record { up = omega (arith, ints, clamps, z, e', f'); down = omega (arith, ints, clamps, z, e, f, h.down) }
+-- what is cut to -1..1 lies no further out, or at an end
+record AreCut (lo hi q q' : ℤ) : Type 0 where
+  low : (lo ≤ℤ q) ⊎ (q ≡ pos 72057594037927936)
+  high : (q' ≤ℤ hi) ⊎ (q' ≡ neg_ℤ (pos 72057594037927936))
+
+cut_of : (lo hi p q p' q' : ℤ) → p ≡ int_max lo (neg_ℤ (pos 72057594037927936)) → q ≡ int_min p (pos 72057594037927936) → p' ≡ int_max hi (neg_ℤ (pos 72057594037927936)) → q' ≡ int_min p' (pos 72057594037927936) → AreCut lo hi q q'
+cut_of lo hi p q p' q' e f e' f' = record {
+  low = by_lt_z lo (pos 72057594037927936) (λ l. inl (omega (arith, ints, clamps, e, f, l))) (λ l. inr (omega (arith, ints, clamps, e, f, l)));
+  high = by_lt_z (neg_ℤ (pos 72057594037927936)) hi (λ l. inl (omega (arith, ints, clamps, e', f', l))) (λ l. inr (omega (arith, ints, clamps, e', f', l)));
+}
+
+cut_crest : (w lo hi q q' : ℤ) → AreCut lo hi q q' → IsCrest w lo → IsCrest w q
+cut_crest w lo hi q q' c h = by_low c.low
+  where
+    by_low : (lo ≤ℤ q) ⊎ (q ≡ pos 72057594037927936) → IsCrest w q
+    by_low (inl l) = record { down = omega (arith, ints, l, h.down) }
+    by_low (inr e) = let n = square_nonneg w in record { down = omega (arith, ints, e, n) }
+
+cut_rising : (f t : ℕ) (lo hi q q' : ℤ) → f ≤ 3242591731706757120 → AreCut lo hi q q' → IsRising (pos f) (pos t) lo hi → IsRising (pos f) (pos t) q q'
+cut_rising f t lo hi q q' u c h = record { up = by_high c.high; down = by_low c.low }
+  where
+    by_high : (q' ≤ℤ hi) ⊎ (q' ≡ neg_ℤ (pos 72057594037927936)) → (pos 57 *ℤ q') ≤ℤ (pos t +ℤ pos 513)
+    by_high (inl l) = omega (arith, ints, l, h.up)
+    by_high (inr e) = omega (arith, ints, e)
+
+    by_low : (lo ≤ℤ q) ⊎ (q ≡ pos 72057594037927936) → (pos 20 *ℤ pos f) ≤ℤ (pos 1279 *ℤ (q +ℤ pos 5))
+    by_low (inl l) = omega (arith, ints, l, h.down)
+    by_low (inr e) = omega (arith, ints, e, u)
+
+turned_cut : (lo hi q q' : ℤ) → AreCut lo hi q q' → AreCut (neg_ℤ hi) (neg_ℤ lo) (neg_ℤ q') (neg_ℤ q)
+turned_cut lo hi q q' c = record { low = by_high c.high; high = by_low c.low }
+  where
+    by_high : (q' ≤ℤ hi) ⊎ (q' ≡ neg_ℤ (pos 72057594037927936)) → (neg_ℤ hi ≤ℤ neg_ℤ q') ⊎ (neg_ℤ q' ≡ pos 72057594037927936)
+    by_high (inl l) = inl (omega (arith, ints, l))
+    by_high (inr e) = inr (omega (arith, ints, e))
+
+    by_low : (lo ≤ℤ q) ⊎ (q ≡ pos 72057594037927936) → (neg_ℤ q ≤ℤ neg_ℤ lo) ⊎ (neg_ℤ q ≡ neg_ℤ (pos 72057594037927936))
+    by_low (inl l) = inl (omega (arith, ints, l))
+    by_low (inr e) = inr (omega (arith, ints, e))
+
+cut_part : (j f t : ℕ) (lo hi q q' : ℤ) → f ≤ 3242591731706757120 → AreCut lo hi q q' → IsPart j f t lo hi → IsPart j f t q q'
+unfolding IsPart
+cut_part zero f t lo hi q q' u c h = cut_rising f t lo hi q q' u c h
+cut_part (suc zero) f t lo hi q q' u c h = cut_crest _ lo hi q q' c h
+cut_part (suc (suc zero)) f t lo hi q q' u c h = cut_crest _ lo hi q q' c h
+cut_part (suc (suc (suc zero))) f t lo hi q q' u c h = cut_rising (3242591731706757120 - t) (3242591731706757120 - f) lo hi q q' (omega arith) c h
+cut_part (suc (suc (suc (suc j)))) f t lo hi q q' u c h = cut_part j f t _ _ _ _ u (turned_cut lo hi q q' c) h
 
 cut_apart : (v lo hi p q p' q' : ℤ) → pos 0 ≤ℤ v → (pos 57 *ℤ (hi -ℤ lo)) ≤ℤ v → p ≡ int_max lo (neg_ℤ (pos 72057594037927936)) → q ≡ int_min p (pos 72057594037927936) → p' ≡ int_max hi (neg_ℤ (pos 72057594037927936))
     → q' ≡ int_min p' (pos 72057594037927936) → (pos 57 *ℤ (q' -ℤ q)) ≤ℤ v
@@ -74,9 +121,11 @@ many from to q q' h l u = omega (arith, ints, h, l, u)
 pub cut_narrow : (from to lo hi p q p' q' : ℤ) → from ≤ℤ to → p ≡ int_max lo (neg_ℤ (pos 72057594037927936)) → q ≡ int_min p (pos 72057594037927936) → p' ≡ int_max hi (neg_ℤ (pos 72057594037927936)) → q' ≡ int_min p' (pos 72057594037927936)
     → (pos 9727775195120271360 ≤ℤ (to -ℤ from)) ⊎ ((pos 57 *ℤ (hi -ℤ lo)) ≤ℤ ((to -ℤ from) +ℤ pos 2052))
     → ((a : ℤ) → neg_ℤ a ≤ℤ from → to ≤ℤ a → a <ℤ pos 3242591731706757120 → IsAround (pos 0) a lo hi)
-    → ((a : ℤ) → (pos 6485183463413514240 -ℤ a) ≤ℤ from → to ≤ℤ (pos 6485183463413514240 +ℤ a) → a <ℤ pos 3242591731706757120 → IsAround (pos 72057594037927936) a lo hi)
+    → ((a : ℤ) → (pos 6485183463413514240 -ℤ a) ≤ℤ from → to ≤ℤ (pos 6485183463413514240 +ℤ a) → a <ℤ pos 3242591731706757120 → IsCrest a lo)
+    → ((k : ℤ) → IsInside k from to → IsPart (octant_of_turn k) (unsigned_abs (from -ℤ k *ℤ pos 3242591731706757120)) (unsigned_abs (to -ℤ k *ℤ pos 3242591731706757120)) lo hi)
     → IsNarrowSine from to q q'
-cut_narrow from to lo hi p q p' q' o e f e' f' n s c =
+cut_narrow from to lo hi p q p' q' o e f e' f' n s c i =
+    let g = cut_of lo hi p q p' q' e f e' f' in
     let l : neg_ℤ (pos 72057594037927936) ≤ℤ q = omega (arith, ints, clamps, e, f) in
     let u : q' ≤ℤ pos 72057594037927936 = omega (arith, ints, clamps, e', f') in
     record {
@@ -84,10 +133,21 @@ cut_narrow from to lo hi p q p' q' o e f e' f' n s c =
       below = u;
       narrow = λ r t. elim n [ inl m ↦ many from to q q' m l u | inr m ↦ cut_apart _ lo hi p q p' q' (omega (arith, ints, o)) m e f e' f' ];
       small = λ a x y z. cut_around_none a lo hi p q p' q' (omega (arith, ints, o, x, y)) e f e' f' (s a x y z);
-      crest = λ a x y z. cut_around_one a lo hi p q p' q' (omega (arith, ints, o, x, y)) e f e' f' (c a x y z);
+      crest = λ a x y z. cut_crest a lo hi q q' g (c a x y z);
+      inside = λ r t k d. cut_part (octant_of_turn k) _ _ lo hi q q' (omega (arith, ints, o, d.above, d.below)) g (i k d);
     }
 
 -- ---- ends that are far from 0 or far apart
+pub apart_sine : (from to lo hi : ℤ) → pos 25940733853654056960 ≤ℤ (to -ℤ from) → lo ≡ neg_ℤ (pos 72057594037927936) → hi ≡ pos 72057594037927936 → IsNarrowSine from to lo hi
+apart_sine from to lo hi h e f = record {
+  above = omega (arith, ints, e);
+  below = omega (arith, ints, f);
+  narrow = λ r t. omega (arith, ints, h, e, f);
+  small = λ a x y z. absurd (omega (arith, ints, h, x, y, z));
+  crest = λ a x y z. absurd (omega (arith, ints, h, x, y, z));
+  inside = λ r t k d. absurd (omega (arith, ints, h, d.above, d.below));
+}
+
 -- ---- 90 degrees more
 quarter_more : (from to a b : ℤ) → a ≡ from +ℤ pos 6485183463413514240 → b ≡ to +ℤ pos 6485183463413514240 → sum (between (at_56 from) (at_56 to)) (only (whole (pos 90))) ⊆ between (at_56 a) (at_56 b)
 unfolding sum plus
@@ -104,6 +164,7 @@ quarter_narrow from to a b lo hi e f h = record {
   below = h.below;
   narrow = λ r t. let n = h.narrow (omega (arith, ints, e, r)) (omega (arith, ints, f, t)) in omega (arith, ints, n, e, f);
   crest = λ c x y z. h.crest c (omega (arith, ints, e, x)) (omega (arith, ints, f, y)) z;
+  inside = λ r t k d. let g = rw (e, f) at h in g.inside (omega (arith, ints, r)) (omega (arith, ints, t)) k d;
 }
 
 pub far_cosine : (from to lo hi : ℤ) → pos (2 ^ 120) <ℤ to → from ≤ℤ to → lo ≡ neg_ℤ (pos 72057594037927936) → hi ≡ pos 72057594037927936 → IsNarrowCosine from to lo hi
@@ -112,6 +173,7 @@ far_cosine from to lo hi h o e f = record {
   below = omega (arith, ints, f);
   narrow = λ r t. absurd (omega (arith, ints, h, t));
   crest = λ a x y z. absurd (omega (arith, ints, h, y, z));
+  inside = λ r t k d. absurd (omega (arith, ints, h, t));
 }
 
 -- ---- the three functions hold
@@ -197,33 +259,107 @@ close_57 s k w from to lo hi h n = by_quotients (ceil_div s 56) (ceil_div k 56) 
     by_quotients : (t m : ℕ) → s ≤ t * 57 → k ≤ m * 57 → ((hi -ℤ lo) *ℤ pos (2 ^ 48)) ≤ℤ (pos (t * w) +ℤ pos ((m + 36 * 2 ^ 8) * 2 ^ 40))
     by_quotients t m p q = omega (arith, ints, h, n, scaled_slope s t w p, q)
 
+in_range : (a b from to : ℤ) → (a *ℤ pos (2 ^ 24)) ≤ℤ from → to ≤ℤ (b *ℤ pos (2 ^ 24)) → from ≤ℤ to → (neg_ℤ (pos (range_size a b * 2 ^ 24)) ≤ℤ from) × (to ≤ℤ pos (range_size a b * 2 ^ 24))
+in_range a b from to l u o = (omega (arith, ints, l), omega (arith, ints, u))
+
+-- the ends lie within what values are
+record LieWithin (e : Extent) (lo hi : ℤ) : Type 0 where
+  above : (e.least *ℤ pos (2 ^ 24)) ≤ℤ lo
+  below : hi ≤ℤ (e.greatest *ℤ pos (2 ^ 24))
+
 -- how far from 0, by the size of the angle
 size_low : (n : ℕ) (from to lo hi : ℤ) (t : Bool) → t ≡ nat_lt n eighth_turn → neg_ℤ (pos (n * 2 ^ 24)) ≤ℤ from → to ≤ℤ pos (n * 2 ^ 24) → IsNarrowSine from to lo hi
-    → (neg_ℤ (pos (cond t (ceil_div n 56 + 1) (2 ^ 32) * 2 ^ 24)) ≤ℤ lo) × (hi ≤ℤ pos (cond t (ceil_div n 56 + 1) (2 ^ 32) * 2 ^ 24))
-size_low n from to lo hi false e l u h = (omega (arith, ints, h.above), omega (arith, ints, h.below))
+    → LieWithin (cond t (record { least = neg_ℤ (sine_to n); greatest = sine_to n }) (record { least = neg_ℤ (pos (2 ^ 32)); greatest = pos (2 ^ 32) })) lo hi
+size_low n from to lo hi false e l u h = record { above = omega (arith, ints, h.above); below = omega (arith, ints, h.below) }
 size_low n from to lo hi true e l u h =
     let m = ltb-true n eighth_turn (sym e) in
     let a = h.small (pos (n * 2 ^ 24)) l u (omega (arith, ints, m)) in
     let c = ceil_above n 56 in
-    (omega (arith, ints, a.down, c), omega (arith, ints, a.up, c))
+    record { above = omega (arith, ints, a.down, c); below = omega (arith, ints, a.up, c) }
 
 -- how far from 1
+crest_low : (v : ℤ) (n : ℕ) (lo : ℤ) → pos 0 ≤ℤ v → v ≤ℤ (pos n *ℤ pos (2 ^ 24)) → IsCrest v lo → (cosine_from n *ℤ pos (2 ^ 24)) ≤ℤ lo
+crest_low v n lo z l h =
+    let s : (v *ℤ v) ≤ℤ ((pos n *ℤ pos n) *ℤ pos (2 ^ 48)) = by_squares v (pos n) z l in
+    let c = ceil_above (n * n) (6561 * 2 ^ 32 - 1) in
+    omega (arith, ints, h.down, s, c)
+  where
+    by_squares : (v n : ℤ) → pos 0 ≤ℤ v → v ≤ℤ (n *ℤ pos (2 ^ 24)) → (v *ℤ v) ≤ℤ ((n *ℤ n) *ℤ pos (2 ^ 48))
+    by_squares v n z l =
+        le_by (v ∷ n ∷ []) ((lit (pos 0) ≼ at 0) ∷ (at 0 ≼ at 1 ⊗ lit (pos (2 ^ 24))) ∷ []) (at 0 ⊗ at 0) ((at 1 ⊗ at 1) ⊗ lit (pos (2 ^ 48))) (known 1 ⊠ (known 1 ⊞ naturally 2 ⊠ known 0)) refl (z, (l, tt))
+
 least_low : (n : ℕ) (from to lo hi : ℤ) (t : Bool) → t ≡ nat_lt n eighth_turn → neg_ℤ (pos (n * 2 ^ 24)) ≤ℤ from → to ≤ℤ pos (n * 2 ^ 24) → IsNarrowCosine from to lo hi
-    → ((cond t (pos (2 ^ 32) -ℤ pos (ceil_div n 56 + 1)) (neg_ℤ (pos (2 ^ 32)))) *ℤ pos (2 ^ 24)) ≤ℤ lo
+    → ((cond t (cosine_from n) (neg_ℤ (pos (2 ^ 32)))) *ℤ pos (2 ^ 24)) ≤ℤ lo
 least_low n from to lo hi false e l u h = omega (arith, ints, h.above)
 least_low n from to lo hi true e l u h =
     let m = ltb-true n eighth_turn (sym e) in
-    let a = h.crest (pos (n * 2 ^ 24)) l u (omega (arith, ints, m)) in
-    let c = ceil_above n 56 in
-    omega (arith, ints, a.down, c)
+    crest_low (pos (n * 2 ^ 24)) n lo (omega (arith, ints)) (omega (arith, ints)) (h.crest (pos (n * 2 ^ 24)) l u (omega (arith, ints, m)))
+
+-- inside an octant
+rising_within : (f t n m : ℕ) (lo hi : ℤ) → n * 2 ^ 24 ≤ f → t ≤ m * 2 ^ 24 → IsRising (pos f) (pos t) lo hi → LieWithin (record { least = sine_from n; greatest = sine_to m }) lo hi
+rising_within f t n m lo hi l u h =
+    let c = ceil_above m 56 in
+    record { above = omega (arith, ints, l, h.down); below = omega (arith, ints, u, h.up, c) }
+
+part_within : (j f t n m : ℕ) (lo hi : ℤ) → n * 2 ^ 24 ≤ f → t ≤ m * 2 ^ 24 → neg_ℤ (pos 72057594037927936) ≤ℤ lo → hi ≤ℤ pos 72057594037927936 → IsPart j f t lo hi → LieWithin (octant_extent j n m) lo hi
+unfolding IsPart
+part_within zero f t n m lo hi l u a b h = rising_within f t n m lo hi l u h
+part_within (suc zero) f t n m lo hi l u a b h = record { above = crest_low _ (eighth_turn - n) lo (omega (arith, ints)) (omega (arith, ints, l)) h; below = omega (arith, ints, b) }
+part_within (suc (suc zero)) f t n m lo hi l u a b h = record { above = crest_low _ m lo (omega (arith, ints)) (omega (arith, ints, u)) h; below = omega (arith, ints, b) }
+part_within (suc (suc (suc zero))) f t n m lo hi l u a b h =
+    rising_within (3242591731706757120 - t) (3242591731706757120 - f) (eighth_turn - m) (eighth_turn - n) lo hi (omega (arith, u)) (omega (arith, l)) h
+part_within (suc (suc (suc (suc j)))) f t n m lo hi l u a b h = turned_within _ lo hi (part_within j f t n m (neg_ℤ hi) (neg_ℤ lo) l u (omega (arith, ints, b)) (omega (arith, ints, a)) h)
+  where
+    turned_within : (e : Extent) (lo hi : ℤ) → LieWithin e (neg_ℤ hi) (neg_ℤ lo) → LieWithin (opposites e) lo hi
+    turned_within e lo hi w = record { above = omega (arith, ints, w.below); below = omega (arith, ints, w.above) }
+
+both : (p q : Bool) → (p && q) ≡ true → (p ≡ true) × (q ≡ true)
+both true q e = (refl, e)
+both false q e = (e, cc)
+
+test_below : (a b : ℤ) → lt_z a b ≡ true → a <ℤ b
+test_below a b e = record { lt = rw e tt }
+
+inside_of : (k a b from to : ℤ) → lie_inside k a b ≡ true → (a *ℤ pos (2 ^ 24)) ≤ℤ from → to ≤ℤ (b *ℤ pos (2 ^ 24)) → IsInside k from to
+inside_of k a b from to e l u =
+    let t = both (lt_z (k *ℤ pos eighth_turn) a) (lt_z b (k *ℤ pos eighth_turn +ℤ pos eighth_turn)) e in
+    let p = test_below (k *ℤ pos eighth_turn) a t.0 in
+    let q = test_below b (k *ℤ pos eighth_turn +ℤ pos eighth_turn) t.1 in
+    record { above = omega (arith, ints, p, l); below = omega (arith, ints, q, u) }
+
+inside_within : (k a b from to lo hi : ℤ) → lie_inside k a b ≡ true → (a *ℤ pos (2 ^ 24)) ≤ℤ from → to ≤ℤ (b *ℤ pos (2 ^ 24)) → from ≤ℤ to → neg_ℤ (pos 72057594037927936) ≤ℤ lo → hi ≤ℤ pos 72057594037927936
+    → IsPart (octant_of_turn k) (unsigned_abs (from -ℤ k *ℤ pos 3242591731706757120)) (unsigned_abs (to -ℤ k *ℤ pos 3242591731706757120)) lo hi → LieWithin (inside_extent k a b) lo hi
+inside_within k a b from to lo hi e l u o x y h =
+    let t = both (lt_z (k *ℤ pos eighth_turn) a) (lt_z b (k *ℤ pos eighth_turn +ℤ pos eighth_turn)) e in
+    let p = test_below (k *ℤ pos eighth_turn) a t.0 in
+    let q = test_below b (k *ℤ pos eighth_turn +ℤ pos eighth_turn) t.1 in
+    let i = inside_of k a b from to e l u in
+    part_within (octant_of_turn k) _ _ (unsigned_abs (a -ℤ k *ℤ pos eighth_turn)) (unsigned_abs (b -ℤ k *ℤ pos eighth_turn)) lo hi (omega (arith, ints, p, l, i.above)) (omega (arith, ints, q, u, i.above, o, p)) x y h
+
+sine_within : (a b from to lo hi : ℤ) (t : Bool) → t ≡ lie_inside (octant_at a) a b → (a *ℤ pos (2 ^ 24)) ≤ℤ from → to ≤ℤ (b *ℤ pos (2 ^ 24)) → from ≤ℤ to → range_size a b < 2 ^ 95 → IsNarrowSine from to lo hi
+    → LieWithin (cond t (inside_extent (octant_at a) a b) (sine_near_none (range_size a b))) lo hi
+sine_within a b from to lo hi false e l u o m h = let r = in_range a b from to l u o in size_low (range_size a b) from to lo hi _ refl r.0 r.1 h
+sine_within a b from to lo hi true e l u o m h =
+    let r = in_range a b from to l u o in
+    inside_within (octant_at a) a b from to lo hi (sym e) l u o h.above h.below (h.inside (omega (arith, ints, m, r.0)) (omega (arith, ints, m, r.1)) (octant_at a) (inside_of (octant_at a) a b from to (sym e) l u))
+
+cosine_within : (a b from to lo hi : ℤ) (t : Bool) → t ≡ lie_inside (octant_at (quarter_later a)) (quarter_later a) (quarter_later b) → (a *ℤ pos (2 ^ 24)) ≤ℤ from → to ≤ℤ (b *ℤ pos (2 ^ 24)) → from ≤ℤ to → range_size a b < 2 ^ 95 → IsNarrowCosine from to lo hi
+    → LieWithin (cond t (inside_extent (octant_at (quarter_later a)) (quarter_later a) (quarter_later b)) (cosine_near_none (range_size a b))) lo hi
+cosine_within a b from to lo hi false e l u o m h =
+    let r = in_range a b from to l u o in
+    record { above = least_low (range_size a b) from to lo hi _ refl r.0 r.1 h; below = omega (arith, ints, h.below) }
+cosine_within a b from to lo hi true e l u o m h =
+    let r = in_range a b from to l u o in
+    let k = octant_at (quarter_later a) in
+    let l' : (quarter_later a *ℤ pos (2 ^ 24)) ≤ℤ (from +ℤ pos 6485183463413514240) = omega (arith, ints, l) in
+    let u' : (to +ℤ pos 6485183463413514240) ≤ℤ (quarter_later b *ℤ pos (2 ^ 24)) = omega (arith, ints, u) in
+    inside_within k (quarter_later a) (quarter_later b) _ _ lo hi (sym e) l' u' (omega (arith, ints, o)) h.above h.below
+    (h.inside (omega (arith, ints, m, r.0)) (omega (arith, ints, m, r.1)) k (inside_of k (quarter_later a) (quarter_later b) _ _ (sym e) l' u'))
 
 limited_keeps : (t : Bool) (a b : ℤ) (s k w : ℕ) (lo hi : ℤ) → (t ≡ true → AreKept a b s k w lo hi) → IsNarrow w (limited t (bounded a b s k)) (between (at_56 lo) (at_56 hi))
 unfolding IsNarrow
 limited_keeps false a b s k w lo hi h = tt
 limited_keeps true a b s k w lo hi h = spans_of a b s k w lo hi (h refl)
-
-in_range : (a b from to : ℤ) → (a *ℤ pos (2 ^ 24)) ≤ℤ from → to ≤ℤ (b *ℤ pos (2 ^ 24)) → from ≤ℤ to → (neg_ℤ (pos (range_size a b * 2 ^ 24)) ≤ℤ from) × (to ≤ℤ pos (range_size a b * 2 ^ 24))
-in_range a b from to l u o = (omega (arith, ints, l), omega (arith, ints, u))
 
 sine_kept : (w : ℕ) (b : Bound) (from to lo hi : ℤ) → lo ≤ℤ hi → IsNarrowSine from to lo hi → IsNarrow w b (between (at_56 from) (at_56 to)) → IsNarrow w (sine_spans b) (between (at_56 lo) (at_56 hi))
 unfolding sine_spans IsNarrow
@@ -231,12 +367,12 @@ sine_kept w unbounded from to lo hi o h k = tt
 sine_kept w (bounded a b s t) from to lo hi o h k =
     let e = kept_of a b s t w from to k in
     let r = in_range a b from to e.low e.high e.order in
-    let z = size_low (range_size a b) from to lo hi _ refl r.0 r.1 h in
     limited_keeps _ _ _ _ _ w lo hi (λ q.
     let m = ltb-true (range_size a b) (2 ^ 95) q in
+    let z = sine_within a b from to lo hi _ refl e.low e.high e.order m h in
     record {
-      low = omega (arith, ints, z.0);
-      high = omega (arith, ints, z.1);
+      low = z.above;
+      high = z.below;
       order = o;
       close = close_57 s t w from to lo hi e.close (h.narrow (omega (arith, ints, m, r.0)) (omega (arith, ints, m, r.1)));
     })
@@ -249,9 +385,10 @@ cosine_kept w (bounded a b s t) from to lo hi o h k =
     let r = in_range a b from to e.low e.high e.order in
     limited_keeps _ _ _ _ _ w lo hi (λ q.
     let m = ltb-true (range_size a b) (2 ^ 95) q in
+    let z = cosine_within a b from to lo hi _ refl e.low e.high e.order m h in
     record {
-      low = least_low (range_size a b) from to lo hi _ refl r.0 r.1 h;
-      high = omega (arith, ints, h.below);
+      low = z.above;
+      high = z.below;
       order = o;
       close = close_57 s t w from to lo hi e.close (h.narrow (omega (arith, ints, m, r.0)) (omega (arith, ints, m, r.1)));
     })

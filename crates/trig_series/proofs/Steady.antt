@@ -1,8 +1,10 @@
 -- Spans at two angles of an octant are hardly further apart than a 57th of what the angles are.
-use Rattle.std.proofs.Common.{◌≡◌, ℕ, zero, suc, ◌-◌, ◌≤◌, refl, arith, neg_ℤ, unsigned_abs, ◌<ℤ◌, ℤ, pos, negsuc, ◌+ℤ◌, ◌-ℤ◌, ◌*ℤ◌, ◌≤ℤ◌}
+use Rattle.std.proofs.Common.{◌≡◌, ℕ, zero, suc, ◌-◌, ◌≤◌, refl, arith, neg_ℤ, unsigned_abs, ◌<ℤ◌, ℤ, pos, negsuc, ◌+ℤ◌, ◌-ℤ◌, ◌*ℤ◌, ◌≤ℤ◌, [], ◌∷◌}
 use Rattle.std.specs.Int.{int_max, int_min}
 use Rattle.std.proofs.lemmas.Int.{ints, clamps, by_lt_z}
 use Rattle.exact_math.specs.Fraction.{◌≤F◌, plus, times}
+use Rattle.exact_math.proofs.Ring.{at, lit, ◌⊗◌}
+use Rattle.exact_math.proofs.Bounds.{◌≼◌, known as certain, ◌⊞◌, ◌⊠◌, times as twice, le_by as le_between}
 use Rattle.exact_math.proofs.Fractions.{le_refl, le_trans, plus_mono}
 use Rattle.exact_math.proofs.Alternating.{sum_ends_in_order}
 use Rattle.book_model.specs.numbers.Octants.{octant_of_turn}
@@ -10,17 +12,10 @@ use Rattle.book_model.specs.numbers.Series.{sine_term, cosine_term}
 use Rattle.book_model.proofs.Terms.{IsUpTo, sine_halving, cosine_halving}
 use Rattle.book_model.proofs.SeriesNesting.{sine_lowers, cosine_uppers}
 use Rattle.trig_series.specs.Kernel.{at_64, in_radians}
-use Rattle.trig_series.specs.Points.{IsNearSine, IsNearCosine, IsPoint, IsAt, AreSteady, IsAround}
+use Rattle.trig_series.specs.Points.{IsNearSine, IsNearCosine, IsPoint, IsAt, AreSteady, IsAround, IsCrest}
 use Rattle.trig_series.proofs.Slopes.{sine_slow, cosine_slow}
-use Rattle.trig_series.proofs.PointLemmas.{near_none, near_full}
-
-pub in_order : (d e : ℕ) → d ≤ e → in_radians d ≤F in_radians e
-unfolding times
-in_order d e h = record { cross = omega (arith, ints, h) }
-
-pub in_fifths : (d : ℕ) → d ≤ 3242591731706757120 → IsUpTo 4 5 (in_radians d)
-unfolding times
-in_fifths d h = record { nonneg = record { cross = omega (arith, ints) }; bound = record { cross = omega (arith, ints, h) } }
+use Rattle.trig_series.proofs.Curves.{in_order, in_fifths, cosine_above}
+use Rattle.trig_series.proofs.PointLemmas.{near_none}
 
 -- from fractions to whole numbers
 by_angles : (d e : ℕ) (a b : ℤ) → plus (at_64 (a *ℤ pos 256 -ℤ pos 1152)) (in_radians d) ≤F plus (at_64 (b *ℤ pos 256 +ℤ pos 1152)) (in_radians e) → d ≤ e → (pos 57 *ℤ (a -ℤ b)) ≤ℤ ((pos e -ℤ pos d) +ℤ pos 513)
@@ -98,14 +93,6 @@ none_7 : IsPoint 7 3242591731706757120 (pos 0) (pos 0)
 unfolding IsPoint
 none_7 = near_none
 
-full_1 : IsPoint 1 3242591731706757120 (pos 72057594037927936) (pos 72057594037927936)
-unfolding IsPoint
-full_1 = near_full
-
-full_2 : IsPoint 2 0 (pos 72057594037927936) (pos 72057594037927936)
-unfolding IsPoint
-full_2 = near_full
-
 -- a point of octant k
 pub record LiesIn (k p a b : ℤ) : Type 0 where
   pub point : IsPoint (octant_of_turn k) (unsigned_abs (p -ℤ k *ℤ pos 3242591731706757120)) a b
@@ -125,17 +112,38 @@ small_point w k p a b l u s h =
     at_start 0 _ (pos 0) w a b none_0 g.point (omega (arith, ints, g.from, g.to)) (omega (arith, ints, u, g.from, g.to)))
 
 -- near 90 degrees it is near 1
-crest_point : (w k p a b : ℤ) → (pos 6485183463413514240 -ℤ w) ≤ℤ p → p ≤ℤ (pos 6485183463413514240 +ℤ w) → w <ℤ pos 3242591731706757120 → LiesIn k p a b → IsAround (pos 72057594037927936) w a b
+square_more : (v w : ℤ) → pos 0 ≤ℤ v → v ≤ℤ w → (v *ℤ v) ≤ℤ (w *ℤ w)
+square_more v w h k = le_between (v ∷ w ∷ []) ((lit (pos 0) ≼ at 0) ∷ (at 0 ≼ at 1) ∷ []) (at 0 ⊗ at 0) (at 1 ⊗ at 1) (certain 1 ⊠ (certain 1 ⊞ twice 2 ⊠ certain 0)) refl (h, (k, tt))
+
+pub more_crest : (v w a : ℤ) → pos 0 ≤ℤ v → v ≤ℤ w → IsCrest v a → IsCrest w a
+more_crest v w a h k c = let l = square_more v w h k in record { down = omega (arith, ints, l, c.down) }
+
+cosine_crest : (d : ℕ) (w a b : ℤ) → d ≤ 3242591731706757120 → pos d ≤ℤ w → IsNearCosine d a b → IsCrest w a
+cosine_crest d w a b l k p =
+    let h = cosine_above d (a *ℤ pos 256 +ℤ pos 1152) l p.low in
+    let q : IsCrest (pos d) a = record { down = omega (arith, ints, h) } in
+    more_crest (pos d) w a (omega (arith, ints)) k q
+
+first_crest : (d : ℕ) (w a b : ℤ) → pos (3242591731706757120 - d) ≤ℤ w → IsPoint 1 d a b → IsCrest w a
+unfolding IsPoint
+first_crest d w a b k p = cosine_crest (3242591731706757120 - d) w a b (omega arith) k p
+
+second_crest : (d : ℕ) (w a b : ℤ) → d ≤ 3242591731706757120 → pos d ≤ℤ w → IsPoint 2 d a b → IsCrest w a
+unfolding IsPoint
+second_crest d w a b l k p = cosine_crest d w a b l k p
+
+crest_point : (w k p a b : ℤ) → (pos 6485183463413514240 -ℤ w) ≤ℤ p → p ≤ℤ (pos 6485183463413514240 +ℤ w) → w <ℤ pos 3242591731706757120 → LiesIn k p a b → IsCrest w a
 crest_point w k p a b l u s h =
     by_lt_z k (pos 2)
-    (λ m. let g = by_octant k (pos 1) p a b (omega (arith, ints, m, l, s, h.to)) h in
-    at_end 1 _ (pos 72057594037927936) w a b full_1 g.point (omega (arith, ints, g.from, g.to)) (omega (arith, ints, l, g.from, g.to)))
-    (λ m. let g = by_octant k (pos 2) p a b (omega (arith, ints, m, u, s, h.from)) h in
-    at_start 2 _ (pos 72057594037927936) w a b full_2 g.point (omega (arith, ints, g.from, g.to)) (omega (arith, ints, u, g.from, g.to)))
+    (λ m. let g = by_octant k (pos 1) p a b (omega (arith, ints, m, l, s, h.to)) h in first_crest _ w a b (omega (arith, ints, l, g.from, g.to)) g.point)
+    (λ m. let g = by_octant k (pos 2) p a b (omega (arith, ints, m, u, s, h.from)) h in second_crest _ w a b (omega (arith, ints, g.from, g.to)) (omega (arith, ints, u, g.from, g.to)) g.point)
 
 -- ---- hulls
 pub hull_around : (e w a b c d lo hi : ℤ) → lo ≡ int_min a c → hi ≡ int_max b d → IsAround e w a b → IsAround e w c d → IsAround e w lo hi
 hull_around e w a b c d lo hi p q h k = record { up = omega (arith, ints, clamps, q, h.up, k.up); down = omega (arith, ints, clamps, p, h.down, k.down) }
+
+pub hull_crest : (w a c lo : ℤ) → lo ≡ int_min a c → IsCrest w a → IsCrest w c → IsCrest w lo
+hull_crest w a c lo p h k = record { down = omega (arith, ints, clamps, p, h.down, k.down) }
 
 pub hull_at_first : (e a b c d lo hi : ℤ) → lo ≡ int_min a c → hi ≡ int_max b d → IsAt e a b → IsAt e lo hi
 hull_at_first e a b c d lo hi p q h = record { above = omega (arith, ints, clamps, p, h.above); below = omega (arith, ints, clamps, q, h.below) }
@@ -166,8 +174,8 @@ in_small k lo hi p q a b c d x y l m n g h e f w r s t =
     hull_around (pos 0) w a b c d x y e f
     (small_point w k p a b (omega (arith, ints, r, l)) (omega (arith, ints, s, m, n)) t g) (small_point w k q c d (omega (arith, ints, r, l, m)) (omega (arith, ints, s, n)) t h)
 
-pub in_crest : (k lo hi p q a b c d x y : ℤ) → lo ≤ℤ p → p ≤ℤ q → q ≤ℤ hi → LiesIn k p a b → LiesIn k q c d → x ≡ int_min a c → y ≡ int_max b d
-    → (w : ℤ) → (pos 6485183463413514240 -ℤ w) ≤ℤ lo → hi ≤ℤ (pos 6485183463413514240 +ℤ w) → w <ℤ pos 3242591731706757120 → IsAround (pos 72057594037927936) w x y
-in_crest k lo hi p q a b c d x y l m n g h e f w r s t =
-    hull_around (pos 72057594037927936) w a b c d x y e f
+pub in_crest : (k lo hi p q a b c d x : ℤ) → lo ≤ℤ p → p ≤ℤ q → q ≤ℤ hi → LiesIn k p a b → LiesIn k q c d → x ≡ int_min a c
+    → (w : ℤ) → (pos 6485183463413514240 -ℤ w) ≤ℤ lo → hi ≤ℤ (pos 6485183463413514240 +ℤ w) → w <ℤ pos 3242591731706757120 → IsCrest w x
+in_crest k lo hi p q a b c d x l m n g h e w r s t =
+    hull_crest w a c x e
     (crest_point w k p a b (omega (arith, ints, r, l)) (omega (arith, ints, s, m, n)) t g) (crest_point w k q c d (omega (arith, ints, r, l, m)) (omega (arith, ints, s, n)) t h)

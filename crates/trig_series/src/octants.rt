@@ -6,7 +6,7 @@ ghost use Rattle.exact_math.specs.Interval.{between, ◌⊆◌};
 ghost use Rattle.book_model.specs.programs.Leading.{at_56};
 ghost use Rattle.book_model.specs.numbers.Octants.{octant_of_turn, sine_into as into_octant, sine_at as at_degrees, sine_in as in_octant, first_octant, last_octant, sine_of_degrees};
 ghost use Rattle.trig_series.specs.declared.scale.TheConstants.{OCTANT, QUARTER, ONE};
-ghost use Rattle.trig_series.specs.Points.{IsPoint, edge_of, IsAt, IsSmall, IsAround};
+ghost use Rattle.trig_series.specs.Points.{IsPoint, edge_of, IsAt, IsSmall, IsAround, IsCrest, IsInside, IsPart};
 ghost use Rattle.book_model.specs.numbers.Depth.{DEPTH};
 
 use crate::parts::part_of_turn;
@@ -109,7 +109,7 @@ fn sine_in(octant: i128, lo: i128, hi: i128) -> Span
     ensures begins { lo ≤ℤ (octant *ℤ pos OCTANT) → IsAt (edge_of (octant_of_turn octant)) result.lo result.hi }
     ensures ends { (octant *ℤ pos OCTANT +ℤ pos OCTANT) ≤ℤ hi → IsAt (edge_of (suc (octant_of_turn octant))) result.lo result.hi }
     ensures small { (a : ℤ) → neg_ℤ a ≤ℤ lo → hi ≤ℤ a → a <ℤ pos OCTANT → IsAround (pos 0) a result.lo result.hi }
-    ensures crest { (a : ℤ) → (QUARTER -ℤ a) ≤ℤ lo → hi ≤ℤ (QUARTER +ℤ a) → a <ℤ pos OCTANT → IsAround (ONE) a result.lo result.hi }
+    ensures crest { (a : ℤ) → (QUARTER -ℤ a) ≤ℤ lo → hi ≤ℤ (QUARTER +ℤ a) → a <ℤ pos OCTANT → IsCrest a result.lo }
 {
     let edge = octant * WIDE_OCTANT;
     let low = sine_at(octant, edge.max(lo));
@@ -183,7 +183,7 @@ fn sine_over_octants(first: i128, last: i128, lo: i128, hi: i128) -> Span
     ensures holds { (n : ℕ) → DEPTH ≤ n → sine_of_degrees n (between (at_56 lo) (at_56 hi)) ⊆ between (at_56 result.lo) (at_56 result.hi) }
     ensures narrow { (pos 57 *ℤ (result.hi -ℤ result.lo)) ≤ℤ ((hi -ℤ lo) +ℤ pos 513 *ℤ ((last -ℤ first) +ℤ pos 1)) }
     ensures small { (a : ℤ) → neg_ℤ a ≤ℤ lo → hi ≤ℤ a → a <ℤ pos OCTANT → IsAround (pos 0) a result.lo result.hi }
-    ensures crest { (a : ℤ) → (QUARTER -ℤ a) ≤ℤ lo → hi ≤ℤ (QUARTER +ℤ a) → a <ℤ pos OCTANT → IsAround (ONE) a result.lo result.hi }
+    ensures crest { (a : ℤ) → (QUARTER -ℤ a) ≤ℤ lo → hi ≤ℤ (QUARTER +ℤ a) → a <ℤ pos OCTANT → IsCrest a result.lo }
 {
     let mut sine = sine_in(first, lo, hi);
     for octant in first + 1..last + 1 {
@@ -203,7 +203,8 @@ fn sine_within(octant: i128, lo: i128, hi: i128) -> Span
     ensures holds { (n : ℕ) → DEPTH ≤ n → in_octant n (at_56 lo) (at_56 hi) octant ⊆ between (at_56 result.lo) (at_56 result.hi) }
     ensures narrow { (pos 57 *ℤ (result.hi -ℤ result.lo)) ≤ℤ ((hi -ℤ lo) +ℤ pos 513) }
     ensures small { (a : ℤ) → neg_ℤ a ≤ℤ lo → hi ≤ℤ a → a <ℤ pos OCTANT → IsAround (pos 0) a result.lo result.hi }
-    ensures crest { (a : ℤ) → (QUARTER -ℤ a) ≤ℤ lo → hi ≤ℤ (QUARTER +ℤ a) → a <ℤ pos OCTANT → IsAround (ONE) a result.lo result.hi }
+    ensures crest { (a : ℤ) → (QUARTER -ℤ a) ≤ℤ lo → hi ≤ℤ (QUARTER +ℤ a) → a <ℤ pos OCTANT → IsCrest a result.lo }
+    ensures near { IsPart (octant_of_turn octant) (unsigned_abs (lo -ℤ octant *ℤ pos OCTANT)) (unsigned_abs (hi -ℤ octant *ℤ pos OCTANT)) result.lo result.hi }
 {
     let edge = octant * WIDE_OCTANT;
     let from = (lo - edge) as u64;
@@ -221,7 +222,7 @@ fn sine_over_edges(lo: i128, hi: i128) -> Span
     ensures holds { (n : ℕ) → DEPTH ≤ n → sine_of_degrees n (between (at_56 lo) (at_56 hi)) ⊆ between (at_56 result.lo) (at_56 result.hi) }
     ensures narrow { ((pos 3 *ℤ pos OCTANT) ≤ℤ (hi -ℤ lo)) ⊎ ((pos 57 *ℤ (result.hi -ℤ result.lo)) ≤ℤ ((hi -ℤ lo) +ℤ pos 2052)) }
     ensures small { (a : ℤ) → neg_ℤ a ≤ℤ lo → hi ≤ℤ a → a <ℤ pos OCTANT → IsAround (pos 0) a result.lo result.hi }
-    ensures crest { (a : ℤ) → (QUARTER -ℤ a) ≤ℤ lo → hi ≤ℤ (QUARTER +ℤ a) → a <ℤ pos OCTANT → IsAround (ONE) a result.lo result.hi }
+    ensures crest { (a : ℤ) → (QUARTER -ℤ a) ≤ℤ lo → hi ≤ℤ (QUARTER +ℤ a) → a <ℤ pos OCTANT → IsCrest a result.lo }
 {
     sine_over_octants(first_met(lo), last_met(hi), lo, hi)
 }
@@ -236,7 +237,8 @@ pub(crate) fn sine_between(lo: i128, hi: i128) -> Span
     ensures holds { (n : ℕ) → DEPTH ≤ n → sine_of_degrees n (between (at_56 lo) (at_56 hi)) ⊆ between (at_56 result.lo) (at_56 result.hi) }
     ensures narrow { ((pos 3 *ℤ pos OCTANT) ≤ℤ (hi -ℤ lo)) ⊎ ((pos 57 *ℤ (result.hi -ℤ result.lo)) ≤ℤ ((hi -ℤ lo) +ℤ pos 2052)) }
     ensures small { (a : ℤ) → neg_ℤ a ≤ℤ lo → hi ≤ℤ a → a <ℤ pos OCTANT → IsAround (pos 0) a result.lo result.hi }
-    ensures crest { (a : ℤ) → (QUARTER -ℤ a) ≤ℤ lo → hi ≤ℤ (QUARTER +ℤ a) → a <ℤ pos OCTANT → IsAround (ONE) a result.lo result.hi }
+    ensures crest { (a : ℤ) → (QUARTER -ℤ a) ≤ℤ lo → hi ≤ℤ (QUARTER +ℤ a) → a <ℤ pos OCTANT → IsCrest a result.lo }
+    ensures inside { (k : ℤ) → IsInside k lo hi → IsPart (octant_of_turn k) (unsigned_abs (lo -ℤ k *ℤ pos OCTANT)) (unsigned_abs (hi -ℤ k *ℤ pos OCTANT)) result.lo result.hi }
 {
     let octant = octants_in(lo);
     let edge = octant * WIDE_OCTANT;

@@ -1,13 +1,13 @@
-//! The sine over a part of one octant: the series at its angle of the fewest radians, and how far the other angles may
-//! lead from there.
+//! The sine over a part of one octant: the series at the angle where it is least, and how far the other angles may lead
+//! from there.
 ghost use Rattle.std.specs.Prelude.{◌≤◌, ℕ, pos, ◌≤ℤ◌, ◌+ℤ◌, ◌-ℤ◌, ◌*ℤ◌, unsigned_abs};
 ghost use Rattle.exact_math.specs.Fraction.{Fraction, ◌≈◌};
 ghost use Rattle.exact_math.specs.Interval.{between, ◌⊆◌};
 ghost use Rattle.book_model.specs.programs.Leading.{at_56};
 ghost use Rattle.book_model.specs.numbers.Octants.{radians, sine_into as into_octant};
 ghost use Rattle.book_model.specs.numbers.Series.{sine_series, cosine_series};
-ghost use Rattle.trig_series.specs.declared.scale.TheConstants.{OCTANT, ONE};
-ghost use Rattle.trig_series.specs.Points.{IsSmall, IsAround, IsPart};
+ghost use Rattle.trig_series.specs.declared.scale.TheConstants.{OCTANT};
+ghost use Rattle.trig_series.specs.Points.{IsSmall, IsRising, IsCrest, IsPart};
 ghost use Rattle.book_model.specs.numbers.Depth.{DEPTH};
 
 use crate::kernel::{cosine_of, sine_of};
@@ -33,7 +33,7 @@ fn sine_part(from: u64, to: u64) -> Span
     ensures holds { (n d : ℕ) (y : Fraction) → DEPTH ≤ n → from ≤ d → d ≤ to → y ≈ at_56 (pos d) → sine_series n (radians n y) ⊆ between (at_56 result.lo) (at_56 result.hi) }
     ensures narrow { (pos 57 *ℤ (result.hi -ℤ result.lo)) ≤ℤ ((pos to -ℤ pos from) +ℤ pos 513) }
     ensures room { IsSmall result.lo result.hi }
-    ensures small { IsAround (pos 0) (pos to) result.lo result.hi }
+    ensures near { IsRising (pos from) (pos to) result.lo result.hi }
 {
     let point = around(sine_of(from));
     Span {
@@ -50,12 +50,12 @@ fn cosine_part(from: u64, to: u64) -> Span
     ensures holds { (n d : ℕ) (y : Fraction) → DEPTH ≤ n → from ≤ d → d ≤ to → y ≈ at_56 (pos d) → cosine_series n (radians n y) ⊆ between (at_56 result.lo) (at_56 result.hi) }
     ensures narrow { (pos 57 *ℤ (result.hi -ℤ result.lo)) ≤ℤ ((pos to -ℤ pos from) +ℤ pos 513) }
     ensures room { IsSmall result.lo result.hi }
-    ensures crest { IsAround (ONE) (pos to) result.lo result.hi }
+    ensures near { IsCrest (pos to) result.lo }
 {
-    let point = around(cosine_of(from));
+    let point = around(cosine_of(to));
     Span {
-        lo: point.lo - most_moved(to - from),
-        hi: point.hi,
+        lo: point.lo,
+        hi: point.hi + most_moved(to - from),
     }
 }
 

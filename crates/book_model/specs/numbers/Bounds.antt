@@ -1,11 +1,12 @@
 -- Bounds of enclosures, computed along expressions: a range of the ends, and a greatest width that is linear in
 -- the width of a moment. An operation that isn't analysed yet promises nothing.
-use Rattle.std.specs.Prelude.{ℕ, zero, suc, ◌+◌, ◌-◌, ◌*◌, ◌/◌, ◌^◌, max, Bool, true, false, cond, ℤ, pos, negsuc, neg_ℤ, unsigned_abs, ◌+ℤ◌, ◌-ℤ◌, ◌*ℤ◌, nat_le, nat_lt, ◌&&◌}
+use Rattle.std.specs.Prelude.{ℕ, zero, suc, ◌+◌, ◌-◌, ◌*◌, ◌/◌, ◌^◌, max, Bool, true, false, cond, ℤ, pos, negsuc, neg_ℤ, unsigned_abs, ◌+ℤ◌, ◌-ℤ◌, ◌*ℤ◌, nat_le, nat_lt, int_le, ◌&&◌}
 use Rattle.std.specs.Int.{int_min, int_max}
-use lib.Signed.{le_z}
+use lib.Signed.{le_z, lt_z}
 use Rattle.exact_math.specs.Fraction.{Fraction, ◌≤F◌, plus, floor_quotient}
 use Rattle.exact_math.specs.Interval.{Interval, everything, between}
 use Rattle.book_model.specs.numbers.Roots.{root_by_digits}
+use Rattle.book_model.specs.numbers.Octants.{octant_of_turn}
 use Rattle.book_model.specs.numbers.Expressions.{Expression, argument, integer, constant, add, subtract, multiply, divide, negate, scale, power, minimum, maximum, hull, clamp, widen, pi, sine, cosine, tangent, root, arctangent, arcsine, arccosine, arctangent_of_two, remainder}
 
 -- The ends lie from low to high, in 2^-32. The width is at most slope * w + slack, where the width w of a moment
@@ -61,10 +62,6 @@ sum_bound l (bounded a b s k) unbounded = unbounded
 sum_bound l (bounded a b s k) (bounded c d t m) =
     limited (nat_lt (range_size (a +ℤ c) (b +ℤ d)) l.sizes) (bounded (a +ℤ c) (b +ℤ d) (s + t) (k + m))
 
--- from -z to z
-abbrev pub around : ℕ → ℕ → ℕ → Bound
-around z s k = bounded (neg_ℤ (pos z)) (pos z) s k
-
 -- n / (d + 1), rounded up, for whole numbers
 abbrev pub ceil_quotient : ℤ → ℕ → ℤ
 ceil_quotient n d = neg_ℤ (floor_quotient (neg_ℤ n) d)
@@ -93,36 +90,72 @@ unfoldable pub negated_bound : Limits → Bound → Bound
 negated_bound l unbounded = unbounded
 negated_bound l (bounded a b s k) = limited (nat_lt (range_size (neg_ℤ b) (neg_ℤ a)) l.sizes) (bounded (neg_ℤ b) (neg_ℤ a) s k)
 
--- the product of numbers of sizes A and B: each width times the other's size, and two units
-abbrev pub product_around : Limits → (A B s k t m : ℕ) → Bound
-product_around l A B s k t m =
-    limited (nat_lt (ceil_div (A * B) (2 ^ 32 - 1)) l.sizes && nat_lt (ceil_div (A * B) (2 ^ 32 - 1)) l.products)
-    (around (ceil_div (A * B) (2 ^ 32 - 1)) (ceil_div (A * t + B * s) (2 ^ 32 - 1)) (ceil_div (A * m + B * k) (2 ^ 32 - 1) + 2 * l.unit))
+-- the least and the greatest product of a number from a to b and one from c to d
+abbrev pub least_corner : (a b c d : ℤ) → ℤ
+least_corner a b c d = int_min (int_min (a *ℤ c) (a *ℤ d)) (int_min (b *ℤ c) (b *ℤ d))
+
+abbrev pub greatest_corner : (a b c d : ℤ) → ℤ
+greatest_corner a b c d = int_max (int_max (a *ℤ c) (a *ℤ d)) (int_max (b *ℤ c) (b *ℤ d))
+
+-- products that count 2^-64, in 2^-32, rounded down and up
+abbrev pub floor_of_product : ℤ → ℤ
+floor_of_product n = floor_quotient n (2 ^ 32 - 1)
+
+abbrev pub ceil_of_product : ℤ → ℤ
+ceil_of_product n = ceil_quotient n (2 ^ 32 - 1)
+
+-- the product, from low to high, of numbers of sizes A and B: each width times the other's size, and two units
+abbrev pub product_within : Limits → (low high : ℤ) (A B s k t m : ℕ) → Bound
+product_within l low high A B s k t m =
+    limited (nat_lt (range_size low high) l.sizes && nat_lt (ceil_div (A * B) (2 ^ 32 - 1)) l.products)
+    (bounded low high (ceil_div (A * t + B * s) (2 ^ 32 - 1)) (ceil_div (A * m + B * k) (2 ^ 32 - 1) + 2 * l.unit))
 
 unfoldable pub product_bound : Limits → Bound → Bound → Bound
 product_bound l unbounded y = unbounded
 product_bound l (bounded a b s k) unbounded = unbounded
-product_bound l (bounded a b s k) (bounded c d t m) = product_around l (range_size a b) (range_size c d) s k t m
+product_bound l (bounded a b s k) (bounded c d t m) =
+    product_within l (floor_of_product (least_corner a b c d)) (ceil_of_product (greatest_corner a b c d)) (range_size a b) (range_size c d) s k t m
 
--- a power from the second on: the product of the power before it and the number
+-- the least and the greatest square of a number from a to b
+abbrev pub least_square : ℤ → ℤ → ℤ
+least_square a b = cond (int_le (pos 0) a) (a *ℤ a) (cond (int_le b (pos 0)) (b *ℤ b) (pos 0))
+
+abbrev pub greatest_square : ℤ → ℤ → ℤ
+greatest_square a b = int_max (a *ℤ a) (b *ℤ b)
+
+-- a square
+abbrev pub square_bound : Limits → Bound → Bound
+square_bound l unbounded = unbounded
+square_bound l (bounded a b s k) =
+    product_within l (floor_of_product (least_square a b)) (ceil_of_product (greatest_square a b)) (range_size a b) (range_size a b) s k s k
+
+-- a power from the second on: the square, and then the product of the power before it and the number
 unfoldable pub power_bound : Limits → Bound → ℕ → Bound
 power_bound l x zero = unbounded
 power_bound l x (suc zero) = unbounded
-power_bound l x (suc (suc zero)) = product_bound l x x
+power_bound l x (suc (suc zero)) = square_bound l x
 power_bound l x (suc (suc (suc k))) = product_bound l (power_bound l x (suc (suc k))) x
 
--- the quotient of a number of size A by one of size B that is at least g + 1
-abbrev pub quotient_around : Limits → (A B g s k t m : ℕ) → Bound
-quotient_around l A B g s k t m =
+-- a / (c + 1) and a / (d + 1) of numbers that count 2^-32: the lesser, rounded down, and the greater, rounded up
+abbrev pub least_quotient : ℤ → (c d : ℕ) → ℤ
+least_quotient a c d = int_min (floor_quotient (a *ℤ pos (2 ^ 32)) c) (floor_quotient (a *ℤ pos (2 ^ 32)) d)
+
+abbrev pub greatest_quotient : ℤ → (c d : ℕ) → ℤ
+greatest_quotient a c d = int_max (ceil_quotient (a *ℤ pos (2 ^ 32)) c) (ceil_quotient (a *ℤ pos (2 ^ 32)) d)
+
+-- the quotient, from low to high, of a number of size A by one of size B that is at least g + 1
+abbrev pub quotient_within : Limits → (low high : ℤ) (A B g s k t m : ℕ) → Bound
+quotient_within l low high A B g s k t m =
     limited (nat_lt (ceil_div (A * 2 ^ 32) g) l.sizes && nat_lt B l.products)
-    (around (ceil_div (A * 2 ^ 32) g) (ceil_div ((s * suc g + A * t) * 2 ^ 32) (suc g * suc g - 1)) (ceil_div ((k * suc g + A * m) * 2 ^ 32) (suc g * suc g - 1) + 2 * l.unit))
+    (bounded low high (ceil_div ((s * suc g + A * t) * 2 ^ 32) (suc g * suc g - 1)) (ceil_div ((k * suc g + A * m) * 2 ^ 32) (suc g * suc g - 1) + 2 * l.unit))
 
 unfoldable pub quotient_bound : Limits → Bound → Bound → Bound
 quotient_bound l unbounded y = unbounded
 quotient_bound l (bounded a b s k) unbounded = unbounded
 quotient_bound l (bounded a b s k) (bounded (pos zero) d t m) = unbounded
 quotient_bound l (bounded a b s k) (bounded (negsuc c) d t m) = unbounded
-quotient_bound l (bounded a b s k) (bounded (pos (suc c)) d t m) = quotient_around l (range_size a b) (range_size (pos (suc c)) d) c s k t m
+quotient_bound l (bounded a b s k) (bounded (pos (suc c)) d t m) =
+    quotient_within l (least_quotient a c (unsigned_abs d - 1)) (greatest_quotient b c (unsigned_abs d - 1)) (range_size a b) (range_size (pos (suc c)) d) c s k t m
 
 -- the lesser of two: no wider than the wider of them
 unfoldable pub minimum_bound : Bound → Bound → Bound
@@ -161,13 +194,14 @@ abbrev pub root_around : Limits → (g h s k : ℕ) → Bound
 root_around l g h s k =
     limited (nat_lt 0 g && nat_lt (range_size (pos g) (pos h)) l.sizes) (bounded (pos g) (pos h) (ceil_div (s * 2 ^ 31) (g - 1)) (ceil_div (k * 2 ^ 31) (g - 1) + 2 * l.unit))
 
--- for numbers of less than 96 bits
+-- for numbers of less than 96 bits; the root of 0 is 0
 unfoldable pub root_bound : Limits → Bound → Bound
 root_bound l unbounded = unbounded
 root_bound l (bounded (negsuc a) b s k) = unbounded
 root_bound l (bounded (pos a) (negsuc b) s k) = unbounded
-root_bound l (bounded (pos a) (pos b) s k) =
-    limited (nat_lt a l.sizes && nat_lt b l.sizes && nat_lt b l.products) (root_around l (root_by_digits 48 (a * 2 ^ 32)) (suc (root_by_digits 48 (b * 2 ^ 32))) s k)
+root_bound l (bounded (pos a) (pos zero) s k) = limited (nat_lt a l.sizes) (bounded (pos 0) (pos 0) 0 0)
+root_bound l (bounded (pos a) (pos (suc b)) s k) =
+    limited (nat_lt a l.sizes && nat_lt (suc b) l.sizes && nat_lt (suc b) l.products) (root_around l (root_by_digits 48 (a * 2 ^ 32)) (suc (root_by_digits 48 (suc b * 2 ^ 32))) s k)
 
 -- an end, cut to -1..1
 abbrev pub cut_32 : ℤ → ℤ
@@ -192,25 +226,80 @@ spanned_bound l (bounded a b s k) = limited (nat_lt (range_size a b) l.sizes) (b
 abbrev pub eighth_turn : ℕ
 eighth_turn = 45 * 2 ^ 32
 
--- how far the sine of an angle of at most this size is from 0, and its cosine from 1: a 57th of the angle
-abbrev pub sine_size : ℕ → ℕ
-sine_size n = cond (nat_lt n eighth_turn) (ceil_div n 56 + 1) (2 ^ 32)
+-- what values are at least and at most, in 2^-32
+pub record Extent : Type 0 where
+  pub least : ℤ
+  pub greatest : ℤ
 
--- what the cosine of an angle of at most this size is at least
-abbrev pub cosine_least : ℕ → ℤ
-cosine_least n = cond (nat_lt n eighth_turn) (pos (2 ^ 32) -ℤ pos (ceil_div n 56 + 1)) (neg_ℤ (pos (2 ^ 32)))
+-- the opposites of such values
+abbrev pub opposites : Extent → Extent
+opposites e = record { least = neg_ℤ e.greatest; greatest = neg_ℤ e.least }
 
--- the sine of degrees, as ends that count 2^-56: a 57th of the width, and 36 parts
+-- in the first octant a sine is at least 20 parts in 1279 of its degrees, a little more than a 64th, and at most a 57th
+abbrev pub sine_from : ℕ → ℤ
+sine_from n = pos (n * 20 / 1279) -ℤ pos 1
+
+abbrev pub sine_to : ℕ → ℤ
+sine_to n = pos (ceil_div n 56 + 1)
+
+-- and a cosine at least 1 less the square of an 81st of its degrees
+abbrev pub cosine_from : ℕ → ℤ
+cosine_from n = pos (2 ^ 32) -ℤ pos (ceil_div (n * n) (6561 * 2 ^ 32 - 1) + 1)
+
+-- the sine from f to t degrees into octant j of a turn
+abbrev pub octant_extent : ℕ → (f t : ℕ) → Extent
+octant_extent zero f t = record { least = sine_from f; greatest = sine_to t }
+octant_extent (suc zero) f t = record { least = cosine_from (eighth_turn - f); greatest = pos (2 ^ 32) }
+octant_extent (suc (suc zero)) f t = record { least = cosine_from t; greatest = pos (2 ^ 32) }
+octant_extent (suc (suc (suc zero))) f t = record { least = sine_from (eighth_turn - t); greatest = sine_to (eighth_turn - f) }
+octant_extent (suc (suc (suc (suc j)))) f t = opposites (octant_extent j f t)
+
+-- which octant a number of degrees lies in
+abbrev pub octant_at : ℤ → ℤ
+octant_at a = floor_quotient a (eighth_turn - 1)
+
+-- whether all degrees from a to b lie inside octant k
+abbrev pub lie_inside : (k a b : ℤ) → Bool
+lie_inside k a b = lt_z (k *ℤ pos eighth_turn) a && lt_z b (k *ℤ pos eighth_turn +ℤ pos eighth_turn)
+
+-- the sine from a to b degrees inside octant k
+abbrev pub inside_extent : (k a b : ℤ) → Extent
+inside_extent k a b = octant_extent (octant_of_turn k) (unsigned_abs (a -ℤ k *ℤ pos eighth_turn)) (unsigned_abs (b -ℤ k *ℤ pos eighth_turn))
+
+-- the sine of degrees of at most this size is no further from 0 than a 57th of them
+abbrev pub sine_near_none : ℕ → Extent
+sine_near_none n = cond (nat_lt n eighth_turn) (record { least = neg_ℤ (sine_to n); greatest = sine_to n }) (record { least = neg_ℤ (pos (2 ^ 32)); greatest = pos (2 ^ 32) })
+
+-- the sine from a to b degrees
+abbrev pub sine_extent : ℤ → ℤ → Extent
+sine_extent a b = cond (lie_inside (octant_at a) a b) (inside_extent (octant_at a) a b) (sine_near_none (range_size a b))
+
+-- the cosine of degrees of at most this size
+abbrev pub cosine_near_none : ℕ → Extent
+cosine_near_none n = record { least = cond (nat_lt n eighth_turn) (cosine_from n) (neg_ℤ (pos (2 ^ 32))); greatest = pos (2 ^ 32) }
+
+-- 90 degrees more
+abbrev pub quarter_later : ℤ → ℤ
+quarter_later a = a +ℤ pos (90 * 2 ^ 32)
+
+-- the cosine from a to b degrees: the sine from 90 degrees more
+abbrev pub cosine_extent : ℤ → ℤ → Extent
+cosine_extent a b =
+    cond (lie_inside (octant_at (quarter_later a)) (quarter_later a) (quarter_later b)) (inside_extent (octant_at (quarter_later a)) (quarter_later a) (quarter_later b)) (cosine_near_none (range_size a b))
+
+-- a sine of these values, as ends that count 2^-56: a 57th of the width, and 36 parts
+abbrev pub spans_over : Extent → (s k : ℕ) → Bound
+spans_over e s k = bounded e.least e.greatest (ceil_div s 56) (ceil_div k 56 + 36 * 2 ^ 8)
+
+-- the sine of degrees
 unfoldable pub sine_spans : Bound → Bound
 sine_spans unbounded = unbounded
-sine_spans (bounded a b s k) =
-    limited (nat_lt (range_size a b) (2 ^ 95)) (around (sine_size (range_size a b)) (ceil_div s 56) (ceil_div k 56 + 36 * 2 ^ 8))
+sine_spans (bounded a b s k) = limited (nat_lt (range_size a b) (2 ^ 95)) (spans_over (sine_extent a b) s k)
 
 -- the cosine of degrees
 unfoldable pub cosine_spans : Bound → Bound
 cosine_spans unbounded = unbounded
-cosine_spans (bounded a b s k) =
-    limited (nat_lt (range_size a b) (2 ^ 95)) (bounded (cosine_least (range_size a b)) (pos (2 ^ 32)) (ceil_div s 56) (ceil_div k 56 + 36 * 2 ^ 8))
+cosine_spans (bounded a b s k) = limited (nat_lt (range_size a b) (2 ^ 95)) (spans_over (cosine_extent a b) s k)
 
 -- pi between its neighbours that count 2^-56
 abbrev pub pi_spans : Bound

@@ -55,4 +55,5 @@ returns-clause-narrow c =
     let n = simp to_z-of_z at c.sine_between-sine.ensures.narrow in
     let s = simp to_z-of_z at c.sine_between-sine.ensures.small in
     let t = simp to_z-of_z at c.sine_between-sine.ensures.crest in
-    simp to_z-of_z (cut_narrow c.args.lo c.args.hi c.sine_between-sine.result.lo c.sine_between-sine.result.hi c.max.result c.min-low.result c.max-2.result c.min-high.result c.requires.ordered e f e' f' n s t)
+    let i = simp to_z-of_z at c.sine_between-sine.ensures.inside in
+    simp to_z-of_z (cut_narrow c.args.lo c.args.hi c.sine_between-sine.result.lo c.sine_between-sine.result.hi c.max.result c.min-low.result c.max-2.result c.min-high.result c.requires.ordered e f e' f' n s t i)

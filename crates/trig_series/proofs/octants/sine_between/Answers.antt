@@ -4,6 +4,7 @@ use Rattle.std.proofs.lemmas.Int.{ints, to_z-of_z}
 use Rattle.book_model.specs.programs.Leading.{at_56}
 use Rattle.book_model.specs.numbers.Octants.{sine_in as in_octant}
 use Rattle.trig_series.proofs.OctantLemmas.{division_is, first_alone, over_holds, first_alone_is, last_alone_is, edge_below, edge_above}
+use Rattle.trig_series.proofs.PartLemmas.{begun_elsewhere, ended_elsewhere, by_inside}
 use Rattle.trig_series.proofs.TurnLemmas.{one_narrow}
 use Rattle.trig_series.proofs.octants.sine_between.Goals as goal
 
@@ -117,3 +118,38 @@ returns-clause-crest c =
     let fp : SFits w128 (c.octants_in-octant.result *ℤ pos 3242591731706757120) = omega (arith, ints, c.requires, q.not_above, q.close) in
     let fn : SFits w128 (c.octants_in-octant.result *ℤ pos 3242591731706757120 +ℤ pos 3242591731706757120) = omega (arith, ints, c.requires, q.not_above, q.close) in
     simp to_z-of_z at c.sine_within.ensures.crest
+
+pub returns-then-lo-edge-clause-inside : goal.returns-then-lo-edge-clause-inside
+returns-then-lo-edge-clause-inside c =
+    let fl = c.ranges.lo in
+    let fh = c.ranges.hi in
+    let fo : SFits w128 c.octants_in-octant.result = search rules in
+    let e = simp to_z-of_z at c.octants_in-octant.ensures.value in
+    let q = division_is c.args.lo c.octants_in-octant.result e in
+    let fp : SFits w128 (c.octants_in-octant.result *ℤ pos 3242591731706757120) = omega (arith, ints, c.requires, q.not_above, q.close) in
+    let l = simp to_z-of_z at c.if-lo-edge.true in
+    λ k i. absurd (begun_elsewhere k c.octants_in-octant.result c.args.lo c.args.hi (omega (arith, ints, q.not_above)) (omega (arith, ints, l)) c.requires.ordered i)
+
+pub returns-then-hi-edge-clause-inside : goal.returns-then-hi-edge-clause-inside
+returns-then-hi-edge-clause-inside c =
+    let fl = c.ranges.lo in
+    let fh = c.ranges.hi in
+    let fo : SFits w128 c.octants_in-octant.result = search rules in
+    let e = simp to_z-of_z at c.octants_in-octant.ensures.value in
+    let q = division_is c.args.lo c.octants_in-octant.result e in
+    let fp : SFits w128 (c.octants_in-octant.result *ℤ pos 3242591731706757120) = omega (arith, ints, c.requires, q.not_above, q.close) in
+    let fn : SFits w128 (c.octants_in-octant.result *ℤ pos 3242591731706757120 +ℤ pos 3242591731706757120) = omega (arith, ints, c.requires, q.not_above, q.close) in
+    let u = simp to_z-of_z at c.if-hi-edge.true in
+    λ k i. absurd (ended_elsewhere k c.octants_in-octant.result c.args.lo c.args.hi (omega (arith, ints, q.close)) (omega (arith, ints, u)) i)
+
+pub returns-clause-inside : goal.returns-clause-inside
+returns-clause-inside c =
+    let fl = c.ranges.lo in
+    let fh = c.ranges.hi in
+    let fo : SFits w128 c.octants_in-octant.result = search rules in
+    let e = simp to_z-of_z at c.octants_in-octant.ensures.value in
+    let q = division_is c.args.lo c.octants_in-octant.result e in
+    let fp : SFits w128 (c.octants_in-octant.result *ℤ pos 3242591731706757120) = omega (arith, ints, c.requires, q.not_above, q.close) in
+    let fn : SFits w128 (c.octants_in-octant.result *ℤ pos 3242591731706757120 +ℤ pos 3242591731706757120) = omega (arith, ints, c.requires, q.not_above, q.close) in
+    let h = simp to_z-of_z at c.sine_within.ensures.near in
+    λ k i. by_inside k c.octants_in-octant.result c.args.lo c.args.hi _ _ (omega (arith, ints, q.not_above)) (omega (arith, ints, q.close)) c.requires.ordered i h

@@ -128,4 +128,4 @@ returns-clause-crest c =
       from = omega (arith, ints, clamps, v, c.requires);
       to = omega (arith, ints, clamps, v);
     } in
-    in_crest c.args.octant c.args.lo c.args.hi c.max.result c.min.result _ _ _ _ _ _ (omega (arith, ints, clamps, u)) (omega (arith, ints, clamps, u, v, c.requires)) (omega (arith, ints, clamps, v)) low high c.hull.ensures.low c.hull.ensures.high
+    in_crest c.args.octant c.args.lo c.args.hi c.max.result c.min.result _ _ _ _ _ (omega (arith, ints, clamps, u)) (omega (arith, ints, clamps, u, v, c.requires)) (omega (arith, ints, clamps, v)) low high c.hull.ensures.low

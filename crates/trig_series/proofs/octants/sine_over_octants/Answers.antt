@@ -4,7 +4,7 @@ use Rattle.std.proofs.lemmas.Int.{ints, to_z-of_z}
 use Rattle.book_model.specs.programs.Leading.{at_56}
 use Rattle.book_model.specs.numbers.Octants.{sine_in as in_octant}
 use Rattle.trig_series.proofs.OctantLemmas.{first_alone, next_holds, over_holds}
-use Rattle.trig_series.proofs.Steady.{hull_at_second, hull_around}
+use Rattle.trig_series.proofs.Steady.{hull_at_second, hull_around, hull_crest}
 use Rattle.trig_series.proofs.TurnLemmas.{edges_meet, first_narrow, next_narrow, last_narrow}
 use Rattle.trig_series.proofs.octants.sine_over_octants.Goals as goal
 
@@ -56,7 +56,7 @@ loop-octant-preserved c =
           );
       reached = simp to_z-of_z (λ u. edges_meet o _ _ (hull_at_second _ _ _ _ _ _ _ c.hull-sine.ensures.low c.hull-sine.ensures.high (e (omega (arith, ints, u)))));
       small = simp to_z-of_z (λ a p q u. hull_around (pos 0) a _ _ _ _ _ _ c.hull-sine.ensures.low c.hull-sine.ensures.high (i.small a p q u) (m a p q u));
-      crest = simp to_z-of_z (λ a p q u. hull_around (pos 72057594037927936) a _ _ _ _ _ _ c.hull-sine.ensures.low c.hull-sine.ensures.high (i.crest a p q u) (r a p q u));
+      crest = simp to_z-of_z (λ a p q u. hull_crest a _ _ _ c.hull-sine.ensures.low (i.crest a p q u) (r a p q u));
     }
 
 pub returns : goal.returns

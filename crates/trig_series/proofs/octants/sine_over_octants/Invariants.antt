@@ -3,7 +3,7 @@ use Rattle.std.specs.Int.{int_min}
 use Rattle.exact_math.specs.Interval.{between, ◌⊆◌}
 use Rattle.book_model.specs.programs.Leading.{at_56}
 use Rattle.book_model.specs.numbers.Octants.{octant_of_turn, sine_in as in_octant}
-use Rattle.trig_series.specs.Points.{edge_of, IsAt, IsAround}
+use Rattle.trig_series.specs.Points.{edge_of, IsAt, IsAround, IsCrest}
 use Rattle.trig_series.proofs.octants.sine_over_octants.Given as goal
 
 abbrev pub invariant-loop-octant : goal.invariant-loop-octant
@@ -14,5 +14,5 @@ invariant-loop-octant l = record {
   narrow : (pos 57 *ℤ (l.sine.hi -ℤ l.sine.lo)) ≤ℤ ((int_min (l.octant *ℤ pos 3242591731706757120) l.hi -ℤ l.lo) +ℤ pos 513 *ℤ (l.octant -ℤ l.first));
   reached : (l.octant *ℤ pos 3242591731706757120) ≤ℤ l.hi → IsAt (edge_of (octant_of_turn l.octant)) l.sine.lo l.sine.hi;
   small : (a : ℤ) → neg_ℤ a ≤ℤ l.lo → l.hi ≤ℤ a → a <ℤ pos 3242591731706757120 → IsAround (pos 0) a l.sine.lo l.sine.hi;
-  crest : (a : ℤ) → (pos 6485183463413514240 -ℤ a) ≤ℤ l.lo → l.hi ≤ℤ (pos 6485183463413514240 +ℤ a) → a <ℤ pos 3242591731706757120 → IsAround (pos 72057594037927936) a l.sine.lo l.sine.hi;
+  crest : (a : ℤ) → (pos 6485183463413514240 -ℤ a) ≤ℤ l.lo → l.hi ≤ℤ (pos 6485183463413514240 +ℤ a) → a <ℤ pos 3242591731706757120 → IsCrest a l.sine.lo;
 }

@@ -29,6 +29,19 @@ returns-clause-narrow c =
     let n = simp to_z-of_z at c.part_of_turn.ensures.narrow in
     omega (arith, ints, n, c.requires.begun, c.requires.ordered)
 
+pub returns-clause-near : goal.returns-clause-near
+returns-clause-near c =
+    let fo = c.ranges.octant in
+    let fl = c.ranges.lo in
+    let fh = c.ranges.hi in
+    let ft : SFits w128 c.octant_in_turn.result = search rules in
+    let fe : SFits w128 (c.args.octant *ℤ pos 3242591731706757120) = omega (arith, ints, c.requires) in
+    let fa : SFits w128 (c.args.lo -ℤ c.args.octant *ℤ pos 3242591731706757120) = omega (arith, ints, c.requires) in
+    let fb : SFits w128 (c.args.hi -ℤ c.args.octant *ℤ pos 3242591731706757120) = omega (arith, ints, c.requires) in
+    let v = simp to_z-of_z at c.octant_in_turn.ensures.value in
+    let p = simp to_z-of_z at c.part_of_turn.ensures.near in
+    turned_part c.args.octant c.octant_in_turn.result _ _ _ _ v p
+
 pub returns-clause-small : goal.returns-clause-small
 returns-clause-small c =
     let fo = c.ranges.octant in

@@ -3,4 +3,4 @@ use Rattle.scaled_ends.proofs.Following.{within_hull, narrow_hull}
 use Rattle.fix_fine.proofs.fine.FineEnclosure.hull.Goals as goal
 
 pub returns : goal.returns
-returns c = record { holds = λ w x y. within_hull shown_fine w x y _ _ _ c.hull_ends.ensures.holds; narrow = λ r x y. narrow_hull shown_fine _ r x y _ _ _ c.hull_ends.ensures.narrow }
+returns c = record { holds = λ w x y. within_hull shown_fine w x y _ _ _ c.hull_ends.ensures.holds; tight = c.hull_ends.ensures.tight; narrow = λ r x y. narrow_hull shown_fine _ r x y _ _ _ c.hull_ends.ensures.narrow }
