@@ -15,3 +15,5 @@ pub mod WaveAngles
 pub mod RootEnds
 pub mod RootWidths
 pub mod Widenings
+pub mod OnEnds
+pub mod Past

@@ -84,8 +84,7 @@ root_all n i e = within_everything _
 
 -- ---- cut to -1..1
 abbrev pub cut_of : (scale : Scale) → ℤ → ℤ
-cut_of coarse a = int_max (int_min a (pos (2 ^ 36))) (neg_ℤ (pos (2 ^ 36)))
-cut_of fine a = int_max (int_min a (pos (2 ^ 56))) (neg_ℤ (pos (2 ^ 56)))
+cut_of scale a = int_max (int_min a (unit scale)) (neg_ℤ (unit scale))
 
 cut_low : (scale : Scale) → (a c : ℤ) → c ≡ cut_of scale a → at_scale scale c ≤F larger minus_one (smaller (at_scale scale a) one)
 cut_low coarse a c e = smaller_keeps (λ z. at_scale coarse c ≤F larger minus_one z) (at_scale coarse a) one (by_split (split c (neg_ℤ (pos (2 ^ 36))))) (le_trans _ _ _ below_one (larger_second minus_one one))

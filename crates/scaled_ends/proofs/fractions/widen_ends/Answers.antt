@@ -1,0 +1,26 @@
+use Rattle.std.proofs.Common.{refl}
+use Rattle.scaled_ends.specs.Scales.{limits_on}
+use Rattle.book_model.specs.numbers.Fractions.{fraction_of}
+use Rattle.std.proofs.Common.{rules, SFits}
+use Rattle.std.specs.Int.{w128}
+use Rattle.std.proofs.lemmas.Int.{to_z-of_z}
+use Rattle.scaled_ends.proofs.Enclosing.{widen_encloses}
+use Rattle.scaled_ends.proofs.Widenings.{widen_narrow, widen_of_all, widen_overflow}
+use Rattle.scaled_ends.proofs.OnEnds.{shows, constants_are}
+use Rattle.scaled_ends.proofs.fractions.widen_ends.Goals as goal
+
+pub returns-in_err-x-clause-narrow : goal.returns-in_err-x-clause-narrow
+returns-in_err-x-clause-narrow g c = λ w a h. widen_of_all (limits_on g.I.Word.scale) w _ a _ (rw c.in_err-x.was at h)
+
+pub returns-in_err-margin-clause-narrow : goal.returns-in_err-margin-clause-narrow
+returns-in_err-margin-clause-narrow g c = λ w a h. widen_overflow g.I.Word.scale w (fraction_of c.args.by) a _ (λ l. let z = c.in_err-margin.ensures.some (rw (constants_are g.I.Word.scale) at l) in absurd (cc))
+
+pub returns-clause-holds : goal.returns-clause-holds
+returns-clause-holds g c = 
+    let fm : SFits w128 c.in_ok-margin.margin = search rules in
+    rw c.in_ok-x.was (widen_encloses g.I.Word.scale (fraction_of c.args.by) _ _ c.in_ok-margin.margin _ _ _ c.in_ok-margin.ensures.value refl refl (shows _ _ _ (simp to_z-of_z at c.moved.ensures.ends)))
+
+pub returns-clause-narrow : goal.returns-clause-narrow
+returns-clause-narrow g c = λ w a h.
+    let fm : SFits w128 c.in_ok-margin.margin = search rules in
+    widen_narrow g.I.Word.scale w (fraction_of c.args.by) a _ _ c.in_ok-margin.margin _ _ _ c.in_ok-margin.ensures.value refl refl (shows _ _ _ (simp to_z-of_z at c.moved.ensures.ends)) (rw c.in_ok-x.was at h)

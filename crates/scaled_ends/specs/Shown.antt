@@ -1,0 +1,20 @@
+-- The intervals that ends of a word show.
+use Rattle.std.specs.Prelude.{◌≡◌, ℤ, Option, Some, None, FitsSigned}
+use Rattle.exact_math.specs.Interval.{Interval, everything, between}
+use Rattle.scaled_ends.specs.Scales.{Scale, at_scale, word}
+use Rattle.scaled_ends.specs.declared.word.Word.{Ghosts}
+use Rattle.scaled_ends.specs.declared.ends.Ends.{Ends}
+
+-- the interval between two ends; everything, where there are none
+abbrev pub shown_ends : {I : Type 0} {g : Ghosts I} → Option (Ends I g) → Interval
+shown_ends None = everything
+shown_ends {g = g} (Some e) = between (at_scale g.scale (g.value e.lo)) (at_scale g.scale (g.value e.hi))
+
+-- these are the ends where the word has room for both, and else there are none
+abbrev pub HasEnds : {I : Type 0} {g : Ghosts I} → ℤ → ℤ → Option (Ends I g) → Type 0
+HasEnds {g = g} lo hi None = FitsSigned (word g.scale) lo → FitsSigned (word g.scale) hi → ⊥
+HasEnds {g = g} lo hi (Some e) = (g.value e.lo ≡ lo) × (g.value e.hi ≡ hi)
+
+-- the interval between two ends
+abbrev pub shown_of : {I : Type 0} {g : Ghosts I} → Ends I g → Interval
+shown_of {g = g} e = between (at_scale g.scale (g.value e.lo)) (at_scale g.scale (g.value e.hi))

@@ -1,0 +1,81 @@
+//! Fractions, and products of ends with fractions, rounded outwards.
+ghost use Rattle.std.specs.Prelude.{◌≡◌, ◌<◌, ◌+◌, ℕ, pos, ◌≤ℤ◌, ◌<ℤ◌, ◌+ℤ◌, ◌-ℤ◌, IfSome, IsSome, unsigned_abs};
+ghost use Rattle.exact_math.specs.Interval.{◌⊆◌, product, widen, between};
+ghost use Rattle.book_model.specs.numbers.Fractions.{fraction_of};
+ghost use Rattle.book_model.specs.numbers.Bounds.{Bound, IsNarrow, constant_bound, scaled_bound, widen_bound};
+ghost use Rattle.scaled_ends.specs.Scales.{limits_on, most_numerator};
+ghost use Rattle.scaled_ends.specs.Rounding.{IsMarginAt};
+ghost use Rattle.scaled_ends.specs.Shown.{shown_ends, HasEnds};
+
+use crate::ends::Ends;
+use crate::sums::ends_of;
+use crate::word::Word;
+use book_model::Frac;
+use rounded_quotients::{ceil_div, floor_div, sorted};
+
+/// The denominator of a fraction; 0, which no fraction has, is read as 1.
+#[inline(always)]
+pub fn denominator(fraction: Frac) -> i128
+    ensures value { result ≡ pos ((fraction_of fraction).below + 1) }
+    ensures positive { pos 0 <ℤ result }
+{
+    i128::from(fraction.den().max(1))
+}
+
+/// The ends around a fraction, whose numerator is raised to the scale first.
+#[inline(always)]
+pub fn raised_ends<I: Word>(value: Frac) -> Option<Ends<I>>
+    ensures holds { between (fraction_of value) (fraction_of value) ⊆ shown_ends result }
+    ensures narrow { (w : ℕ) → IsNarrow w (constant_bound (limits_on I.scale) (fraction_of value)) (shown_ends result) }
+{
+    let raised = value.num().checked_mul(I::units())?;
+    let below = denominator(value);
+    ends_of(floor_div(raised, below), ceil_div(raised, below))
+}
+
+/// The ends around the products with a fraction.
+#[inline(always)]
+pub fn scale_ends<I: Word>(x: Option<Ends<I>>, by: Frac) -> Option<Ends<I>>
+    ensures holds { product (shown_ends x) (between (fraction_of by) (fraction_of by)) ⊆ shown_ends result }
+    ensures narrow { (w : ℕ) (a : Bound) → IsNarrow w a (shown_ends x) → IsNarrow w (scaled_bound (limits_on I.scale) (fraction_of by) a) (shown_ends result) }
+{
+    let x = x?;
+    let factor = by.num();
+    let p = x.lo.times(factor)?;
+    let q = x.hi.times(factor)?;
+    let below = denominator(by);
+    let (least, greatest) = sorted(p, q);
+    ends_of(floor_div(least, below), ceil_div(greatest, below))
+}
+
+/// How many units the size of a fraction has, rounded up; `None` only for a numerator that the scale doesn't bear.
+#[inline(always)]
+fn margin_of<I: Word>(by: Frac) -> Option<i128>
+    ensures value { IfSome result (λ m. IsMarginAt I.scale (fraction_of by) m) }
+    ensures some { unsigned_abs by.num < most_numerator I.scale → IsSome result }
+{
+    let raised = by.num().checked_abs()?.checked_mul(I::units())?;
+    Some(ceil_div(raised, denominator(by)))
+}
+
+/// The ends, each moved outwards by so many units, where both fit.
+#[inline(always)]
+fn moved<I: Word>(x: Ends<I>, margin: i128) -> Option<Ends<I>>
+    requires { pos 0 ≤ℤ margin }
+    ensures ends { HasEnds (I.value x.lo -ℤ margin) (I.value x.hi +ℤ margin) result }
+{
+    let lo = x.lo.lowered(margin)?;
+    let hi = x.hi.raised(margin)?;
+    Some(Ends { lo, hi })
+}
+
+/// The ends, each moved outwards by the size of a fraction.
+#[inline]
+pub fn widen_ends<I: Word>(x: Option<Ends<I>>, by: Frac) -> Option<Ends<I>>
+    ensures holds { widen (fraction_of by) (shown_ends x) ⊆ shown_ends result }
+    ensures narrow { (w : ℕ) (a : Bound) → IsNarrow w a (shown_ends x) → IsNarrow w (widen_bound (limits_on I.scale) (fraction_of by) a) (shown_ends result) }
+{
+    let x = x?;
+    let margin = margin_of::<I>(by)?;
+    moved(x, margin)
+}
