@@ -2,24 +2,22 @@
 ghost use Rattle.std.specs.Prelude.{refl};
 ghost use Rattle.encl_core.specs.Shown.{shown_coarse, coarse_proper};
 
-use crate::comparing::{cell_of_ends, open_at, order_of_ends};
 use crate::dividing::{div_ends, square_ends};
-use crate::ends::Ends;
-use crate::operations::{
-    add_ends, frac_ends, hull_ends, int_ends, max_ends, min_ends, mul_ends, neg_ends, scale_ends,
-    sub_ends, widen_ends,
-};
-use crate::roots::{clamp_ends, root_ends};
-use crate::spanning::{ends_of_span, span_of};
+use crate::operations::{frac_ends, mul_ends};
+use crate::roots::root_ends;
 use crate::turning::angle_ends;
-use crate::wrapping::{lower_ends, period_of_ends};
 use crate::{Enclosure, Span, Trail};
 use book_model::{Frac, Site, Undecided};
+use scaled_ends::{
+    Ends, add_ends, cell_of_ends, clamp_ends, ends_of_span, finer_ends, hull_ends, int_ends,
+    lower_ends, max_ends, min_ends, neg_ends, open_at, order_of_ends, period_of_ends, scale_ends,
+    sub_ends, widen_ends,
+};
 
 /// An enclosure by two ends in 64 bits that count 2⁻³⁶, rounded outwards; every number, where an end doesn't fit.
 #[derive(Clone, Copy, Debug, PartialEq)]
 pub struct Coarse {
-    pub(crate) ends: Option<Ends>,
+    pub(crate) ends: Option<Ends<i64>>,
 }
 
 impl Enclosure for Coarse {
@@ -57,7 +55,7 @@ impl Enclosure for Coarse {
     #[inline(always)]
     fn from_span(span: Span) -> Self {
         Coarse {
-            ends: ends_of_span(span),
+            ends: ends_of_span(span.lo, span.hi),
         }
     }
 
@@ -148,7 +146,8 @@ impl Enclosure for Coarse {
     }
 
     fn span(self) -> Option<Span> {
-        span_of(self.ends)
+        let (lo, hi) = finer_ends(self.ends)?;
+        Some(Span { lo, hi })
     }
 
     fn less(self, other: Self, site: Site, trail: &mut Trail) -> Result<bool, Undecided> {

@@ -2,13 +2,13 @@
 ghost use Rattle.std.specs.Prelude.{◌≡◌, ℕ, pos, ◌^◌, ◌≤ℤ◌, ◌<ℤ◌, neg_ℤ};
 ghost use Rattle.exact_math.specs.Interval.{◌⊆◌, quotient, power, between};
 ghost use Rattle.book_model.specs.numbers.Bounds.{Bound, IsNarrow, power_bound, quotient_bound, limits_36};
-ghost use Rattle.encl_core.specs.Shown.{shown_ends};
+ghost use Rattle.scaled_ends.specs.Shown.{shown_ends};
 ghost use Rattle.scaled_ends.specs.Rounding.{at_36, least_square_of, IsLeastBy, IsGreatestBy, AreQuotients};
 
-use crate::ends::Ends;
 use crate::operations::product_of;
-use crate::rounding::{ceil_36, ends_of, floor_36};
+use crate::rounding::{ceil_36, floor_36};
 use rounded_quotients::{ceil_div, floor_div};
+use scaled_ends::{Ends, ends_of};
 
 /// By which of two divisors above 0, the first the lesser, the quotient of a number is the least.
 fn least_by(a: i128, c: i128, d: i128) -> i128
@@ -39,7 +39,7 @@ fn quotients(a: i128, b: i128, c: i128, d: i128) -> (i128, i128)
 }
 
 /// The ends around the quotients by a divisor above 0.
-fn positive_quotients(x: Ends, y: Ends) -> Option<Ends>
+fn positive_quotients(x: Ends<i64>, y: Ends<i64>) -> Option<Ends<i64>>
     requires { pos 0 <ℤ y.lo }
     ensures holds { quotient (between (at_36 x.lo) (at_36 x.hi)) (between (at_36 y.lo) (at_36 y.hi)) ⊆ shown_ends result }
     ensures narrow { (w : ℕ) (a b : Bound) → IsNarrow w a (between (at_36 x.lo) (at_36 x.hi)) → IsNarrow w b (between (at_36 y.lo) (at_36 y.hi)) → IsNarrow w (quotient_bound limits_36 a b) (shown_ends result) }
@@ -54,7 +54,7 @@ fn positive_quotients(x: Ends, y: Ends) -> Option<Ends>
 }
 
 /// The ends around the quotients by a divisor below 0.
-fn negative_quotients(x: Ends, y: Ends) -> Option<Ends>
+fn negative_quotients(x: Ends<i64>, y: Ends<i64>) -> Option<Ends<i64>>
     requires { y.hi <ℤ pos 0 }
     ensures holds { quotient (between (at_36 x.lo) (at_36 x.hi)) (between (at_36 y.lo) (at_36 y.hi)) ⊆ shown_ends result }
 {
@@ -68,7 +68,7 @@ fn negative_quotients(x: Ends, y: Ends) -> Option<Ends>
 }
 
 /// The ends around the quotients; none, where the divisor may be 0.
-pub(crate) fn div_ends(x: Option<Ends>, y: Option<Ends>) -> Option<Ends>
+pub(crate) fn div_ends(x: Option<Ends<i64>>, y: Option<Ends<i64>>) -> Option<Ends<i64>>
     ensures holds { quotient (shown_ends x) (shown_ends y) ⊆ shown_ends result }
     ensures narrow { (w : ℕ) (a b : Bound) → IsNarrow w a (shown_ends x) → IsNarrow w b (shown_ends y) → IsNarrow w (quotient_bound limits_36 a b) (shown_ends result) }
 {
@@ -97,7 +97,7 @@ fn least_square(lo: i64, hi: i64) -> i128
 }
 
 /// The ends around the squares.
-pub(crate) fn square_ends(x: Option<Ends>) -> Option<Ends>
+pub(crate) fn square_ends(x: Option<Ends<i64>>) -> Option<Ends<i64>>
     ensures holds { power (shown_ends x) 2 ⊆ shown_ends result }
     ensures narrow { (w : ℕ) (a : Bound) → IsNarrow w a (shown_ends x) → IsNarrow w (power_bound limits_36 a 2) (shown_ends result) }
 {

@@ -12,21 +12,17 @@
 
 mod circle;
 mod coarse;
-mod comparing;
 mod dividing;
 mod enclosure;
-mod ends;
 mod operations;
 mod roots;
 mod rounding;
 mod search;
 mod span;
-mod spanning;
 mod steps;
 mod sums;
 mod trail;
 mod turning;
-mod wrapping;
 
 pub use circle::pi;
 pub use coarse::Coarse;

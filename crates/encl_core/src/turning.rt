@@ -3,12 +3,11 @@ ghost use Rattle.std.specs.Prelude.{◌≡◌, ℕ, pos, neg_ℤ, ◌^◌, ◌*�
 ghost use Rattle.exact_math.specs.Interval.{◌⊆◌, sum, product, between};
 ghost use Rattle.book_model.specs.numbers.Bounds.{Bound, IsNarrow, sum_bound, constant_bound, scaled_bound, limits_36};
 ghost use Rattle.book_model.specs.numbers.Fractions.{ten_millionths, daily_ten_millionths};
-ghost use Rattle.encl_core.specs.Shown.{shown_ends};
+ghost use Rattle.scaled_ends.specs.Shown.{shown_ends};
 
-use crate::ends::Ends;
 use crate::operations::product_of;
-use crate::rounding::ends_of;
 use rounded_quotients::{ceil_div, floor_div, sorted};
+use scaled_ends::{Ends, ends_of};
 
 /// What a rate of ten-millionths a century is counted by in a day.
 const DAILY: i128 = 365_250_000_000;
@@ -24,7 +23,7 @@ fn turned(end: i64, phase: i64, rate: i64) -> i128
 /// The ends around a phase of ten-millionths and a rate of so many a century times the members, which are days: one
 /// quotient at each end.
 #[inline(always)]
-pub(crate) fn angle_ends(x: Option<Ends>, phase: i64, rate: i64) -> Option<Ends>
+pub(crate) fn angle_ends(x: Option<Ends<i64>>, phase: i64, rate: i64) -> Option<Ends<i64>>
     ensures holds { sum (between (ten_millionths phase) (ten_millionths phase)) (product (shown_ends x) (between (daily_ten_millionths rate) (daily_ten_millionths rate))) ⊆ shown_ends result }
     ensures narrow { (w : ℕ) (a : Bound) → IsNarrow w a (shown_ends x) → IsNarrow w (sum_bound limits_36 (constant_bound limits_36 (ten_millionths phase)) (scaled_bound limits_36 (daily_ten_millionths rate) a)) (shown_ends result) }
 {

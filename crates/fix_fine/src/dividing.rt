@@ -4,13 +4,13 @@ ghost use Rattle.exact_math.specs.Interval.{◌⊆◌, quotient, between};
 ghost use Rattle.book_model.specs.numbers.Bounds.{Bound, IsNarrow, quotient_bound};
 ghost use Rattle.scaled_ends.specs.Rounding.{IsLeastBy, IsGreatestBy, AreQuotientsAt};
 ghost use Rattle.scaled_ends.specs.Scales.{fine, at_scale, limits_on};
-ghost use Rattle.fix_fine.specs.Shown.{shown_ends};
+ghost use Rattle.scaled_ends.specs.Shown.{shown_ends};
 ghost use Rattle.fix_fine.specs.Quotients.{HasFineQuotient, HaveFineQuotients, HasParts};
 ghost use Rattle.rounded_quotients.specs.Rounding.{IsFloor, IsCeiling};
 
-use crate::ends::FineEnds;
-use crate::rounding::{ONE, ends_of};
+use crate::rounding::ONE;
 use rounded_quotients::{ceil_div, floor_div};
+use scaled_ends::{Ends, ends_of};
 
 /// By which of two divisors above 0, the first the lesser, the quotient of a number is the least.
 fn least_by(a: i128, c: i128, d: i128) -> i128
@@ -80,7 +80,7 @@ fn quotients(a: i128, b: i128, c: i128, d: i128) -> Option<(i128, i128)>
 }
 
 /// The ends around the quotients by a divisor above 0.
-fn positive_quotients(x: FineEnds, y: FineEnds) -> Option<FineEnds>
+fn positive_quotients(x: Ends<i128>, y: Ends<i128>) -> Option<Ends<i128>>
     requires { pos 0 <ℤ y.lo }
     ensures holds { quotient (between (at_scale fine x.lo) (at_scale fine x.hi)) (between (at_scale fine y.lo) (at_scale fine y.hi)) ⊆ shown_ends result }
     ensures narrow { (w : ℕ) (a b : Bound) → IsNarrow w a (between (at_scale fine x.lo) (at_scale fine x.hi)) → IsNarrow w b (between (at_scale fine y.lo) (at_scale fine y.hi)) → IsNarrow w (quotient_bound (limits_on fine) a b) (shown_ends result) }
@@ -90,7 +90,7 @@ fn positive_quotients(x: FineEnds, y: FineEnds) -> Option<FineEnds>
 }
 
 /// The ends around the quotients by a divisor below 0: those of the opposites.
-fn negative_quotients(x: FineEnds, y: FineEnds) -> Option<FineEnds>
+fn negative_quotients(x: Ends<i128>, y: Ends<i128>) -> Option<Ends<i128>>
     requires { y.hi <ℤ pos 0 }
     ensures holds { quotient (between (at_scale fine x.lo) (at_scale fine x.hi)) (between (at_scale fine y.lo) (at_scale fine y.hi)) ⊆ shown_ends result }
 {
@@ -103,7 +103,7 @@ fn negative_quotients(x: FineEnds, y: FineEnds) -> Option<FineEnds>
 }
 
 /// The ends around the quotients; none, where the divisor may be 0.
-pub(crate) fn div_ends(x: Option<FineEnds>, y: Option<FineEnds>) -> Option<FineEnds>
+pub(crate) fn div_ends(x: Option<Ends<i128>>, y: Option<Ends<i128>>) -> Option<Ends<i128>>
     ensures holds { quotient (shown_ends x) (shown_ends y) ⊆ shown_ends result }
     ensures narrow { (w : ℕ) (a b : Bound) → IsNarrow w a (shown_ends x) → IsNarrow w b (shown_ends y) → IsNarrow w (quotient_bound (limits_on fine) a b) (shown_ends result) }
 {

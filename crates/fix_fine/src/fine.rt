@@ -2,23 +2,21 @@
 ghost use Rattle.std.specs.Prelude.{refl};
 ghost use Rattle.fix_fine.specs.Shown.{shown_fine, fine_proper};
 
-use crate::comparing::{cell_of_ends, open_at, order_of_ends};
 use crate::dividing::div_ends;
-use crate::ends::FineEnds;
-use crate::operations::{
-    add_ends, frac_ends, int_ends, neg_ends, scale_ends, sub_ends, widen_ends,
-};
 use crate::products::{mul_ends, square_ends};
-use crate::ranges::{hull_ends, max_ends, min_ends};
-use crate::roots::{clamp_ends, root_ends};
-use crate::wrapping::{lower_ends, period_of_ends};
+use crate::roots::root_ends;
 use book_model::{Frac, Site, Undecided};
 use encl_core::{Enclosure, Span, Trail};
+use scaled_ends::{
+    Ends, add_ends, cell_of_ends, clamp_ends, ends_of_span, finer_ends, hull_ends, int_ends,
+    lower_ends, max_ends, min_ends, neg_ends, open_at, order_of_ends, period_of_ends, raised_ends,
+    scale_ends, sub_ends, widen_ends,
+};
 
 /// An enclosure by two ends in 128 bits that count 2⁻⁵⁶, rounded outwards; every number, where a number doesn't fit.
 #[derive(Clone, Copy, Debug, PartialEq)]
 pub struct Fine {
-    pub(crate) ends: Option<FineEnds>,
+    pub(crate) ends: Option<Ends<i128>>,
 }
 
 impl Enclosure for Fine {
@@ -48,16 +46,13 @@ impl Enclosure for Fine {
 
     fn from_frac(value: Frac) -> Self {
         Fine {
-            ends: frac_ends(value),
+            ends: raised_ends(value),
         }
     }
 
     fn from_span(span: Span) -> Self {
         Fine {
-            ends: Some(FineEnds {
-                lo: span.lo,
-                hi: span.hi,
-            }),
+            ends: ends_of_span(span.lo, span.hi),
         }
     }
 
@@ -140,11 +135,8 @@ impl Enclosure for Fine {
     }
 
     fn span(self) -> Option<Span> {
-        let ends = self.ends?;
-        Some(Span {
-            lo: ends.lo,
-            hi: ends.hi,
-        })
+        let (lo, hi) = finer_ends(self.ends)?;
+        Some(Span { lo, hi })
     }
 
     fn less(self, other: Self, site: Site, trail: &mut Trail) -> Result<bool, Undecided> {
@@ -160,7 +152,7 @@ impl Enclosure for Fine {
         match cell_of_ends(self.ends) {
             Some(cell) => match i64::try_from(cell) {
                 Ok(cell) => Ok(cell),
-                Err(_) => Err(open_at(None, site, turn)),
+                Err(_) => Err(open_at::<i128>(None, site, turn)),
             },
             None => Err(open_at(self.ends, site, turn)),
         }

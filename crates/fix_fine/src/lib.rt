@@ -2,17 +2,12 @@
 //! open. Every operation works on plain numbers of 128 bits; where one doesn't fit, nothing is known of the result.
 #![tactic(auto)]
 
-mod comparing;
 mod dividing;
-mod ends;
 mod fine;
-mod operations;
 mod products;
-mod ranges;
 mod roots;
 mod rounding;
 #[cfg(test)]
 mod tests;
-mod wrapping;
 
 pub use fine::Fine;

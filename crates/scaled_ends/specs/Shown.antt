@@ -1,7 +1,9 @@
 -- The intervals that ends of a word show.
-use Rattle.std.specs.Prelude.{◌≡◌, ℤ, Option, Some, None, FitsSigned}
-use Rattle.exact_math.specs.Interval.{Interval, everything, between}
-use Rattle.scaled_ends.specs.Scales.{Scale, at_scale, word}
+use Rattle.std.specs.Prelude.{◌≡◌, ℤ, ◌≤ℤ◌, Option, Some, None, FitsSigned}
+use Rattle.std.proofs.Common.{arith}
+use Rattle.std.proofs.lemmas.Int.{ints}
+use Rattle.exact_math.specs.Interval.{Interval, everything, between, IsProper}
+use Rattle.scaled_ends.specs.Scales.{Scale, coarse, fine, at_scale, word}
 use Rattle.scaled_ends.specs.declared.word.Word.{Ghosts}
 use Rattle.scaled_ends.specs.declared.ends.Ends.{Ends}
 
@@ -18,3 +20,12 @@ HasEnds {g = g} lo hi (Some e) = (g.value e.lo ≡ lo) × (g.value e.hi ≡ hi)
 -- the interval between two ends
 abbrev pub shown_of : {I : Type 0} {g : Ghosts I} → Ends I g → Interval
 shown_of {g = g} e = between (at_scale g.scale (g.value e.lo)) (at_scale g.scale (g.value e.hi))
+
+-- its ends are in order
+proper_at : (scale : Scale) (a b : ℤ) → a ≤ℤ b → IsProper (between (at_scale scale a) (at_scale scale b))
+proper_at coarse a b h = record { cross = omega (arith, ints, h) }
+proper_at fine a b h = record { cross = omega (arith, ints, h) }
+
+pub ends_proper : {I : Type 0} {g : Ghosts I} (o : Option (Ends I g)) → IsProper (shown_ends o)
+ends_proper None = tt
+ends_proper {g = g} (Some e) = proper_at g.scale _ _ e.ordered

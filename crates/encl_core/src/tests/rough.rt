@@ -2,28 +2,25 @@
 //! proved over the trait leans on one scale.
 ghost use Rattle.std.specs.Prelude.{refl};
 ghost use Rattle.exact_math.specs.Interval.{◌⊆◌};
-ghost use Rattle.encl_core.specs.Shown.{shown_ends, ends_proper};
+ghost use Rattle.scaled_ends.specs.Shown.{shown_ends, ends_proper};
 
-use crate::comparing::{cell_of_ends, open_at, order_of_ends};
 use crate::dividing::{div_ends, square_ends};
-use crate::ends::Ends;
-use crate::operations::{
-    add_ends, frac_ends, hull_ends, int_ends, max_ends, min_ends, mul_ends, neg_ends, scale_ends,
-    sub_ends, widen_ends,
-};
-use crate::roots::{clamp_ends, root_ends};
-use crate::rounding::ends_of;
-use crate::spanning::{ends_of_span, span_of};
-use crate::wrapping::{lower_ends, period_of_ends};
+use crate::operations::{frac_ends, mul_ends};
+use crate::roots::root_ends;
 use crate::{Enclosure, Span, Trail};
 use book_model::{Frac, Site, Undecided};
 use rounded_quotients::{ceil_div, floor_div};
+use scaled_ends::{
+    Ends, add_ends, cell_of_ends, clamp_ends, ends_of, ends_of_span, finer_ends, hull_ends, int_ends,
+    lower_ends, max_ends, min_ends, neg_ends, open_at, order_of_ends, period_of_ends, scale_ends,
+    sub_ends, widen_ends,
+};
 
 /// How many units of 2⁻³⁶ one of 2⁻⁸ has.
 const GRAIN: i128 = 268_435_456;
 
 /// The ends, each moved outwards to a multiple of 2⁻⁸.
-fn roughened(ends: Option<Ends>) -> Option<Ends>
+fn roughened(ends: Option<Ends<i64>>) -> Option<Ends<i64>>
     ensures { shown_ends ends ⊆ shown_ends result }
 {
     let e = ends?;
@@ -35,7 +32,7 @@ fn roughened(ends: Option<Ends>) -> Option<Ends>
 /// An enclosure by two ends that are multiples of 2⁻⁸, rounded outwards; every number, where an end doesn't fit.
 #[derive(Clone, Copy, Debug, PartialEq)]
 pub(crate) struct Rough {
-    ends: Option<Ends>,
+    ends: Option<Ends<i64>>,
 }
 
 impl Enclosure for Rough {
@@ -71,7 +68,7 @@ impl Enclosure for Rough {
 
     fn from_span(span: Span) -> Self {
         Rough {
-            ends: roughened(ends_of_span(span)),
+            ends: roughened(ends_of_span(span.lo, span.hi)),
         }
     }
 
@@ -154,7 +151,8 @@ impl Enclosure for Rough {
     }
 
     fn span(self) -> Option<Span> {
-        span_of(self.ends)
+        let (lo, hi) = finer_ends(self.ends)?;
+        Some(Span { lo, hi })
     }
 
     fn less(self, other: Self, site: Site, trail: &mut Trail) -> Result<bool, Undecided> {

@@ -3,6 +3,7 @@ use Rattle.std.proofs.Common.{◌≡◌, rules, arith, SFits, w64, pos, refl, �
 use Rattle.std.specs.Int.{w128}
 use Rattle.std.proofs.lemmas.Int.{ints, to_z-of_z}
 use Rattle.scaled_ends.proofs.Divisions.{negative_enclosed}
+use Rattle.scaled_ends.proofs.OnEnds.{shows}
 use Rattle.encl_core.proofs.dividing.negative_quotients.Goals as goal
 
 pub ends_of-requires : goal.ends_of-requires
@@ -49,5 +50,5 @@ returns c =
     let e4 : c.from-4.result ≡ c.args.y.lo = simp to_z-of_z at c.from-4.ensures in
     let g4 : SFits w128 (pos 0 -ℤ c.from-4.result) = omega (arith, ints, e4) in
     let q = simp (e1, e2, e3, e4) at (simp to_z-of_z at c.quotients-lo.ensures) in
-    let k = simp to_z-of_z at c.ends_of.ensures.kept in
+    let k = shows _ _ _ (simp to_z-of_z at c.ends_of.ensures.ends) in
     record { holds = negative_enclosed coarse c.args.x.lo c.args.x.hi c.args.y.lo c.args.y.hi _ _ _ _ _ _ _ c.args.x.ordered c.requires c.args.y.ordered refl refl refl refl q k }

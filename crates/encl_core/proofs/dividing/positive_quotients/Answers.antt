@@ -4,6 +4,7 @@ use Rattle.std.specs.Int.{w128}
 use Rattle.std.proofs.lemmas.Int.{to_z-of_z}
 use Rattle.scaled_ends.proofs.Divisions.{positive_enclosed}
 use Rattle.scaled_ends.proofs.Ratios.{quotient_narrow}
+use Rattle.scaled_ends.proofs.OnEnds.{shows}
 use Rattle.encl_core.proofs.dividing.positive_quotients.Goals as goal
 
 pub ends_of-requires : goal.ends_of-requires
@@ -42,7 +43,7 @@ returns c =
     let f4 : SFits w128 c.from-4.result = search rules in
     let e4 : c.from-4.result ≡ c.args.y.hi = simp to_z-of_z at c.from-4.ensures in
     let q = simp (e1, e2, e3, e4) at (simp to_z-of_z at c.quotients-lo.ensures) in
-    let k = simp to_z-of_z at c.ends_of.ensures.kept in
+    let k = shows _ _ _ (simp to_z-of_z at c.ends_of.ensures.ends) in
     record {
       holds = positive_enclosed coarse c.args.x.lo c.args.x.hi c.args.y.lo c.args.y.hi _ _ _ c.args.x.ordered c.requires c.args.y.ordered q k;
       narrow = λ w a b h n. quotient_narrow coarse w a b c.args.x.lo c.args.x.hi c.args.y.lo c.args.y.hi _ _ _ q k h n;

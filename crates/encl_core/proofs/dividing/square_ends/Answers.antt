@@ -5,6 +5,7 @@ use Rattle.std.proofs.lemmas.Int.{ints, clamps, to_z-of_z}
 use Rattle.rounded_quotients.proofs.Quotients.{outward_order}
 use Rattle.scaled_ends.proofs.Divisions.{square_encloses, squares_order}
 use Rattle.scaled_ends.proofs.Products.{square_narrow, square_of_all}
+use Rattle.scaled_ends.proofs.OnEnds.{shows}
 use Rattle.encl_core.proofs.dividing.square_ends.Goals as goal
 
 pub ceil_36-requires : goal.ceil_36-requires
@@ -50,7 +51,7 @@ returns c =
     let fh : SFits w128 c.ceil_36.result = search rules in
     let i = simp to_z-of_z at c.floor_36.ensures.floor in
     let j = simp to_z-of_z at c.ceil_36.ensures.ceiling in
-    let kept = simp to_z-of_z at c.ends_of.ensures.kept in
+    let kept = shows _ _ _ (simp to_z-of_z at c.ends_of.ensures.ends) in
     let o = outward_order _ _ _ _ _ (squares_order c.in_ok-x.x.lo c.in_ok-x.x.hi _ _ n k k') i j (omega (arith, ints)) in
     let v = simp to_z-of_z at c.max-greatest.ensures.value in
     record {

@@ -5,6 +5,7 @@ use Rattle.std.proofs.lemmas.Int.{to_z-of_z}
 use Rattle.book_model.specs.numbers.Bounds.{limits_36}
 use Rattle.scaled_ends.proofs.RootWidths.{root_narrow, root_of_all}
 use Rattle.scaled_ends.proofs.RootEnds.{roots_order, root_holds}
+use Rattle.scaled_ends.proofs.OnEnds.{shows}
 use Rattle.encl_core.proofs.roots.root_ends.Goals as goal
 
 pub ends_of-requires : goal.ends_of-requires
@@ -29,7 +30,7 @@ returns c =
     let q = c.root_up.ensures.natural in
     let h = simp to_z-of_z at c.root_down.ensures.square in
     let k = simp to_z-of_z at c.root_up.ensures.square in
-    let kept = simp to_z-of_z at c.ends_of.ensures.kept in
+    let kept = shows _ _ _ (simp to_z-of_z at c.ends_of.ensures.ends) in
     let u = simp to_z-of_z at c.root_down.ensures.close in
     let v = simp to_z-of_z at c.root_up.ensures.close in
     let o = roots_order coarse c.in_ok-x.x.lo c.in_ok-x.x.hi c.root_down.result c.root_up.result c.in_ok-x.x.ordered p q h k in

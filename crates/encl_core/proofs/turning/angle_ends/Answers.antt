@@ -8,6 +8,7 @@ use Rattle.rounded_quotients.proofs.Quotients.{outward_order, sorted_order}
 use Rattle.scaled_ends.proofs.Keeping.{sum_second}
 use Rattle.scaled_ends.proofs.Scaling.{scaled_first}
 use Rattle.scaled_ends.proofs.WaveAngles.{AreTurned, turned_encloses, turned_narrow}
+use Rattle.scaled_ends.proofs.OnEnds.{shows}
 use Rattle.encl_core.proofs.turning.angle_ends.Goals as goal
 
 pub returns-in_err-x-clause-narrow : goal.returns-in_err-x-clause-narrow
@@ -37,14 +38,14 @@ pub returns-clause-holds : goal.returns-clause-holds
 returns-clause-holds c =
     let fl : SFits w128 c.floor_div.result = search rules in
     let fh : SFits w128 c.ceil_div.result = search rules in
-    let k = simp to_z-of_z at c.ends_of.ensures.kept in
+    let k = shows _ _ _ (simp to_z-of_z at c.ends_of.ensures.ends) in
     rw c.in_ok-x.was (turned_encloses _ _ _ _ _ _ _ _ _ _ _ (turned c) k)
 
 pub returns-clause-narrow : goal.returns-clause-narrow
 returns-clause-narrow c = λ w a h.
     let fl : SFits w128 c.floor_div.result = search rules in
     let fh : SFits w128 c.ceil_div.result = search rules in
-    let k = simp to_z-of_z at c.ends_of.ensures.kept in
+    let k = shows _ _ _ (simp to_z-of_z at c.ends_of.ensures.ends) in
     turned_narrow w a _ _ _ _ _ _ _ _ _ _ _ (turned c) k (rw c.in_ok-x.was at h)
 
 pub ends_of-requires : goal.ends_of-requires

@@ -3,6 +3,7 @@ use Rattle.std.proofs.Common.{arith, rules, SFits}
 use Rattle.std.specs.Int.{w128}
 use Rattle.std.proofs.lemmas.Int.{ints, to_z-of_z}
 use Rattle.scaled_ends.proofs.Divisions.{negative_enclosed}
+use Rattle.scaled_ends.proofs.OnEnds.{shows}
 use Rattle.fix_fine.proofs.dividing.negative_quotients.Goals as goal
 
 pub ends_of-requires : goal.ends_of-requires
@@ -41,5 +42,5 @@ returns c =
     let ec = simp to_z-of_z at c.in_ok-c.ensures in
     let ed = simp to_z-of_z at c.in_ok-d.ensures in
     let q = simp to_z-of_z at c.in_ok-lo.ensures.value in
-    let k = simp to_z-of_z at c.ends_of.ensures.kept in
+    let k = shows _ _ _ (simp to_z-of_z at c.ends_of.ensures.ends) in
     record { holds = negative_enclosed fine c.args.x.lo c.args.x.hi c.args.y.lo c.args.y.hi _ _ _ _ _ _ _ c.args.x.ordered c.requires c.args.y.ordered (omega (arith, ints, ea.1)) (omega (arith, ints, eb.1)) (omega (arith, ints, ec.1)) (omega (arith, ints, ed.1)) q k }

@@ -5,6 +5,7 @@ use Rattle.std.proofs.lemmas.Int.{to_z-of_z}
 use Rattle.scaled_ends.proofs.Divisions.{positive_enclosed}
 use Rattle.scaled_ends.proofs.Ratios.{quotient_narrow}
 use Rattle.fix_fine.proofs.Fitting.{quotient_overflow}
+use Rattle.scaled_ends.proofs.OnEnds.{shows}
 use Rattle.fix_fine.proofs.dividing.positive_quotients.Goals as goal
 
 pub ends_of-requires : goal.ends_of-requires
@@ -27,7 +28,7 @@ returns c =
     let fl : SFits w128 c.in_ok-lo.lo = search rules in
     let fh : SFits w128 c.in_ok-lo.hi = search rules in
     let q = simp to_z-of_z at c.in_ok-lo.ensures.value in
-    let k = simp to_z-of_z at c.ends_of.ensures.kept in
+    let k = shows _ _ _ (simp to_z-of_z at c.ends_of.ensures.ends) in
     record {
       holds = positive_enclosed fine c.args.x.lo c.args.x.hi c.args.y.lo c.args.y.hi _ _ _ c.args.x.ordered c.requires c.args.y.ordered q k;
       narrow = λ w a b h n. quotient_narrow fine w a b c.args.x.lo c.args.x.hi c.args.y.lo c.args.y.hi _ _ _ q k h n;

@@ -6,6 +6,7 @@ use Rattle.rounded_quotients.proofs.Quotients.{outward_order}
 use Rattle.scaled_ends.proofs.Enclosing.{product_encloses, products_order}
 use Rattle.scaled_ends.proofs.Products.{product_narrow, product_of_all, product_with_all}
 use Rattle.fix_fine.proofs.Fitting.{product_overflow}
+use Rattle.scaled_ends.proofs.OnEnds.{shows}
 use Rattle.fix_fine.proofs.products.mul_ends.Goals as goal
 
 pub returns-in_err-least-clause-narrow : goal.returns-in_err-least-clause-narrow
@@ -39,7 +40,7 @@ returns-clause-holds c =
     let g = c.in_ok-least.ensures.greatest in
     let i = simp to_z-of_z at c.floor_56.ensures.floor in
     let j = simp to_z-of_z at c.in_ok-hi.ensures.ceiling in
-    let k = simp to_z-of_z at c.ends_of.ensures.kept in
+    let k = shows _ _ _ (simp to_z-of_z at c.ends_of.ensures.ends) in
     rw (c.in_ok-x.was, c.in_ok-y.was) (product_encloses fine c.in_ok-x.x.lo c.in_ok-x.x.hi c.in_ok-y.y.lo c.in_ok-y.y.hi _ _ _ _ _ c.in_ok-least.ensures.least g i j k)
 
 pub returns-clause-narrow : goal.returns-clause-narrow
@@ -52,7 +53,7 @@ returns-clause-narrow c = λ w a b h m.
     let i = simp to_z-of_z at c.floor_56.ensures.floor in
     let j = simp to_z-of_z at c.in_ok-hi.ensures.ceiling in
     let o = outward_order _ _ _ _ _ (products_order _ _ _ _ _ _ l.least l.greatest) i j (omega (arith, ints)) in
-    let k = simp to_z-of_z at c.ends_of.ensures.kept in
+    let k = shows _ _ _ (simp to_z-of_z at c.ends_of.ensures.ends) in
     product_narrow fine w a b c.in_ok-x.x.lo c.in_ok-x.x.hi c.in_ok-y.y.lo c.in_ok-y.y.hi _ _ _ _ _ c.in_ok-x.x.ordered c.in_ok-y.y.ordered l.best_least l.best_greatest o i j k (rw c.in_ok-x.was at h) (rw c.in_ok-y.was at m)
 
 pub returns-in_err-x-clause-narrow : goal.returns-in_err-x-clause-narrow

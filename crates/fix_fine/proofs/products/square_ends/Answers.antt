@@ -6,6 +6,7 @@ use Rattle.rounded_quotients.proofs.Quotients.{outward_order}
 use Rattle.scaled_ends.proofs.Divisions.{square_encloses, squares_order}
 use Rattle.scaled_ends.proofs.Products.{square_narrow, square_of_all}
 use Rattle.fix_fine.proofs.Fitting.{square_overflow, roomy_fits}
+use Rattle.scaled_ends.proofs.OnEnds.{shows}
 use Rattle.fix_fine.proofs.products.square_ends.Goals as goal
 
 pub returns-in_err-low-clause-narrow : goal.returns-in_err-low-clause-narrow
@@ -72,7 +73,7 @@ returns c =
     let j = simp to_z-of_z at c.in_ok-hi.ensures.ceiling in
     let o = outward_order _ _ _ _ _ (squares_order c.in_ok-x.x.lo c.in_ok-x.x.hi _ _ n k k') i j (omega (arith, ints)) in
     let v = simp to_z-of_z at c.max.ensures.value in
-    let kept = simp to_z-of_z at c.ends_of.ensures.kept in
+    let kept = shows _ _ _ (simp to_z-of_z at c.ends_of.ensures.ends) in
     record {
       holds = rw c.in_ok-x.was (square_encloses fine c.in_ok-x.x.lo c.in_ok-x.x.hi _ _ _ _ _ n k k' i j kept);
       narrow = λ w a h. square_narrow fine w a c.in_ok-x.x.lo c.in_ok-x.x.hi _ _ _ _ _ c.in_ok-x.x.ordered n

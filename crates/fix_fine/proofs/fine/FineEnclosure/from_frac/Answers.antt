@@ -4,4 +4,4 @@ use Rattle.scaled_ends.proofs.Following.{within_constant, narrow_constant}
 use Rattle.fix_fine.proofs.fine.FineEnclosure.from_frac.Goals as goal
 
 pub returns : goal.returns
-returns c = record { holds = λ w d. within_constant shown_fine w _ _ d c.frac_ends.ensures.holds; narrow = λ r. narrow_constant fine shown_fine r _ _ c.frac_ends.ensures.narrow }
+returns c = record { holds = λ w d. within_constant shown_fine w _ _ d c.raised_ends.ensures.holds; narrow = λ r. narrow_constant fine shown_fine r _ _ c.raised_ends.ensures.narrow }

@@ -1,5 +1,5 @@
 use Rattle.scaled_ends.specs.Scales.{fine}
-use Rattle.std.proofs.Common.{rules, SFits, sym, ◌∙◌}
+use Rattle.std.proofs.Common.{rules, SFits, sym}
 use Rattle.std.specs.Int.{w128}
 use Rattle.std.proofs.lemmas.Int.{to_z-of_z}
 use Rattle.fix_fine.specs.Shown.{shown_fine}
@@ -10,11 +10,10 @@ use Rattle.fix_fine.proofs.fine.FineEnclosure.wrap.Goals as goal
 pub returns-in-Some-clause-holds : goal.returns-in-Some-clause-holds
 returns-in-Some-clause-holds c = λ q w x e.
     let f : SFits w128 c.in-Some.period = search rules in
-    let p = known_period c.in-Some.period q _ c.args.modulus (sym c.in-Some.is ∙ c.period_of_ends.ensures.value) e in
+    let p = known_period c.in-Some.period q _ c.args.modulus (sym c.in-Some.ensures.value) e in
     rw p (within_remainder shown_fine w c.args.modulus x c.in-Some.period _ _ (simp to_z-of_z at c.lower_ends.ensures.holds))
 
 pub returns-in-Some-clause-narrow : goal.returns-in-Some-clause-narrow
 returns-in-Some-clause-narrow c = λ q r x h.
     let f : SFits w128 c.in-Some.period = search rules in
-    let n = c.lower_ends.ensures.narrow in
-    narrow_remainder fine shown_fine r c.args.modulus x q _ _ n h
+    narrow_remainder fine shown_fine r c.args.modulus x q _ _ c.lower_ends.ensures.narrow h
