@@ -1,0 +1,3 @@
+pub mod RowLemmas
+pub mod NoteReads
+pub mod StepLemmas

@@ -1,0 +1,70 @@
+//! The rows of facts: one for each kind and each of its places, in the order of the table of kinds.
+ghost use Rattle.std.specs.Prelude.{◌≡◌, ◌<◌, ◌≤◌, length, map};
+ghost use Rattle.shelf_core.specs.Rows as spec;
+
+use book_model::{KINDS, Kind, Place};
+
+/// The number of pairs of a kind and one of its places.
+fn rows_among<T, N>(mut table: &[(T, N, &[Place])]) -> usize
+    requires few { spec.rows_among (map (λ row. row.2.now) table.now) ≤ spec.MOST_ROWS }
+    ensures rows { result ≡ spec.rows_among (map (λ row. row.2.now) table.entry.now) }
+{
+    let mut rows = 0;
+    while let [first, rest @ ..] = table {
+        rows += first.2.len();
+        table = rest;
+    }
+    rows
+}
+
+/// Where a place stands among places, or 0.
+fn column(mut places: &[Place], place: Place) -> usize
+    ensures column { result ≡ spec.column_in places.entry.now place }
+    ensures few { result ≤ length places.entry.now }
+{
+    let mut column = 0;
+    while let [first, rest @ ..] = places {
+        if *first == place {
+            return column;
+        }
+        column += 1;
+        places = rest;
+    }
+    0
+}
+
+/// The row of a place of the kind with a number; of a place that isn't the kind's, the row of its first.
+fn row_in<T, N>(mut table: &[(T, N, &[Place])], mut number: usize, place: Place) -> usize
+    requires places { spec.HavePlaces (map (λ row. row.2.now) table.now) }
+    requires few { spec.rows_among (map (λ row. row.2.now) table.now) ≤ spec.MOST_ROWS }
+    ensures row { result ≡ spec.row_in (map (λ row. row.2.now) table.entry.now) number place }
+{
+    let mut before = 0;
+    while let [first, rest @ ..] = table {
+        if number == 0 {
+            return before + column(first.2, place);
+        }
+        before += first.2.len();
+        number -= 1;
+        table = rest;
+    }
+    before
+}
+
+/// The number of rows.
+#[tactic(auto, unfolding(crate::specs::Rows::fact_rows))]
+pub(crate) fn fact_rows() -> usize
+    ensures rows { result ≡ spec.fact_rows }
+    ensures few { result ≤ spec.MOST_ROWS }
+{
+    rows_among(&KINDS)
+}
+
+/// The row of a kind and a place; of a place that isn't the kind's, the row of its first.
+pub(crate) fn row_of(kind: Kind, place: Place) -> usize
+    ensures row { result ≡ spec.row_of kind place }
+    ensures within { result < spec.fact_rows }
+    ensures few { result ≤ spec.MOST_ROWS }
+{
+    row_in(&KINDS, kind.number(), place)
+}

@@ -1,0 +1,174 @@
+//! The slots, and the passes by which they are read and set.
+ghost use Rattle.std.specs.Prelude.{◌≡◌, ◌<◌, vec_len};
+ghost use Rattle.book_model.specs.sky.Facts.{IsValueDay};
+ghost use Rattle.shelf_core.specs.Slots.{slot_count, block_count};
+
+use crate::Entry;
+use crate::block::{BLOCK, Block};
+use crate::notes::agree;
+use crate::rows::{fact_rows, row_of};
+use book_model::{FIRST_DAY, Fact, LAST_DAY};
+use once_cell::race::{Note, OnceBox};
+use oracle_core::{Answer, Evaluator};
+use std::alloc::{AllocError, Global};
+
+/// The days of a shelf: those of which a fact may have a value.
+const DAYS: usize = (LAST_DAY - FIRST_DAY + 1) as usize;
+
+/// A slot for each kind, place and day of which a fact may have a value. A slot is set once, to an entry, and then stays. It
+/// stands in a block of 256, which is made when the first of its slots is set. Threads share a shelf by `&`, and no call waits.
+#[derive(Drop)]
+pub struct Shelf {
+    pub(crate) blocks: Vec<OnceBox<Block>>,
+    ghost whole: { vec_len blocks ≡ block_count },
+}
+
+/// A fact, and the entry that was seen in its slot, if any. What a pass has seen it sees at each later call.
+#[derive(Drop)]
+pub struct Pass {
+    pub(crate) fact: Fact,
+    pub(crate) block: Note<Block>,
+    pub(crate) entry: Option<Note<Entry>>,
+    ghost in_reach: { IsValueDay fact.day },
+}
+
+/// The number of blocks.
+#[tactic(auto, unfolding(crate::specs::Slots::slot_count, crate::specs::Slots::block_count))]
+fn block_count_of() -> usize
+    ensures count { result ≡ block_count }
+{
+    fact_rows() * DAYS / BLOCK + 1
+}
+
+impl Shelf {
+    ghost use Rattle.std.specs.Prelude.{◌/◌, ◌%◌, ◌↔◌, IfSome, IfNone, IsSome, OnErr, IfOk};
+    ghost use Rattle.std.specs.declared.option.Option.TheVariants.{None, Some};
+    ghost use Rattle.once_cell.specs.Once.{Agrees};
+    ghost use Rattle.oracle_core.specs.Answers.{IsRightAnswer};
+    ghost use Rattle.shelf_core.specs.Slots.{slot_of, BLOCK as SLOTS};
+    ghost use Rattle.shelf_core.specs.Passes.{IsPassOf, seen};
+    ghost use Rattle.shelf_core.specs.Shelves.{IsStep};
+
+    /// A shelf whose slots are empty. It takes a place for each block, and no block. The error comes where memory runs out.
+    pub fn open(alloc: Global) -> Result<Shelf, AllocError> {
+        let mut blocks = Vec::new(alloc);
+        blocks.resize_with(block_count_of(), move || OnceBox::new(alloc))?;
+        Ok(Shelf { blocks })
+    }
+
+    /// The number of a fact's slot.
+    #[tactic(auto, unfolding(crate::specs::Slots::slot_of, crate::specs::Slots::slot_count))]
+    fn slot_number(fact: Fact) -> usize
+        requires in_reach { IsValueDay fact.day }
+        ensures number { result ≡ slot_of fact }
+        ensures within { result < slot_count }
+    {
+        row_of(fact.kind(), fact.place()) * DAYS + (fact.day() - FIRST_DAY) as usize
+    }
+
+    /// The place of a fact's block.
+    #[tactic(auto, unfolding(crate::specs::Slots::block_count))]
+    fn block_number(fact: Fact) -> usize
+        requires in_reach { IsValueDay fact.day }
+        ensures number { result ≡ slot_of fact / SLOTS }
+        ensures within { result < block_count }
+    {
+        Shelf::slot_number(fact) / BLOCK
+    }
+
+    /// The place of a fact's slot in its block.
+    fn place_in_block(fact: Fact) -> usize
+        requires in_reach { IsValueDay fact.day }
+        ensures number { result ≡ slot_of fact % SLOTS }
+        ensures within { result < SLOTS }
+    {
+        Shelf::slot_number(fact) % BLOCK
+    }
+
+    /// A pass of a fact, which has seen nothing; `None` exactly where the fact's day lies outside 1 July 1800 to
+    /// 31 December 2049. It takes no memory.
+    pub fn pass(&self, fact: Fact) -> Option<Pass>
+        ensures some { IsSome result ↔ IsValueDay fact.day }
+        ensures fact { IfSome result (λ p. p.fact ≡ fact) }
+        ensures of_shelf { IfSome result (λ p. IsPassOf self.now p) }
+        ensures unseen { IfSome result (λ p. seen p ≡ None) }
+    {
+        if FIRST_DAY <= fact.day() && fact.day() <= LAST_DAY {
+            let block = self.blocks[Shelf::block_number(fact)].note();
+            Some(Pass {
+                fact,
+                block,
+                entry: None,
+            })
+        } else {
+            None
+        }
+    }
+
+    /// The entry of the fact's slot, which the pass has seen from then on; `None` only where it has seen nothing. The entry's
+    /// answer is right for the entry's own fact, and no clause says that this is the fact of the pass. It takes no memory.
+    pub fn get(&self, pass: &mut Pass) -> Option<Entry>
+        requires of_shelf { IsPassOf self.now pass.old }
+        ensures of_shelf { IsPassOf self.now pass.new }
+        ensures fact { pass.new.fact ≡ pass.old.fact }
+        ensures some { IfSome result (λ e. (seen pass.new ≡ Some e) × Agrees (seen pass.old) e) }
+        ensures none { IfNone result ((seen pass.old ≡ None) × (seen pass.new ≡ None)) }
+    {
+        let block = self.blocks[Shelf::block_number(pass.fact)].get_as(&mut pass.block)?;
+        let (note, entry) = block.look(Shelf::place_in_block(pass.fact), pass.entry.take());
+        pass.entry = Some(note);
+        entry
+    }
+
+    /// Sets the fact's slot, where it is empty, to the entry of the pass's fact and this answer, and gives the slot's entry,
+    /// which the pass has seen from then on. Where memory runs out the slot stays as it was, and the pass has seen what it had
+    /// seen.
+    pub fn fill(&self, alloc: Global, pass: &mut Pass, answer: Answer) -> Result<Entry, AllocError>
+        requires of_shelf { IsPassOf self.now pass.old }
+        requires right { IsRightAnswer pass.old.fact answer }
+        ensures of_shelf { IsPassOf self.now pass.new }
+        ensures fact { pass.new.fact ≡ pass.old.fact }
+        ensures ok { IfOk result (λ e. (seen pass.new ≡ Some e) × Agrees (seen pass.old) e) }
+        ensures step { IfOk result (λ e. IsStep (seen pass.old) (pass.old.fact, answer) e) }
+        ensures err { OnErr result (seen pass.new ≡ seen pass.old) }
+    {
+        let entry = Entry::new(pass.fact, answer);
+        let made = &self.blocks[Shelf::block_number(pass.fact)];
+        let block = made.get_or_try_init_as(move || Block::boxed(alloc), &mut pass.block)?;
+        let place = Shelf::place_in_block(pass.fact);
+        let (note, filled) = block.put(alloc, place, pass.entry.take(), entry);
+        pass.entry = Some(note);
+        filled
+    }
+
+    /// Two passes of one fact that have both seen an entry have seen the same one. It does nothing.
+    pub fn meet(&self, one: &Pass, other: &Pass)
+        requires one_of_shelf { IsPassOf self.now one.now }
+        requires other_of_shelf { IsPassOf self.now other.now }
+        requires fact { one.now.fact ≡ other.now.fact }
+        ensures same { IfSome (seen other.now) (Agrees (seen one.now)) }
+    {
+        if let (Some(first), Some(second)) = (&one.entry, &other.entry) {
+            agree(&one.block, &other.block);
+            agree(first, second);
+        }
+    }
+
+    /// The answer of the fact's slot, where its entry is of the fact; else the evaluator's, which is put there if the slot is
+    /// empty and there is memory. A fact whose day has no slot is evaluated. Whoever set the slot, the answer is right.
+    pub fn answer<E: Evaluator>(&self, alloc: Global, evaluator: &E, fact: Fact) -> Answer
+        ensures right { IsRightAnswer fact result }
+    {
+        let Some(mut pass) = self.pass(fact) else {
+            return evaluator.eval(fact);
+        };
+        if let Some(entry) = self.get(&mut pass) {
+            if entry.fact() == fact {
+                return entry.answer();
+            }
+        }
+        let answer = evaluator.eval(fact);
+        let _ = self.fill(alloc, &mut pass, answer);
+        answer
+    }
+}
