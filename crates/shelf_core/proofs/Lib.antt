@@ -1,3 +1,4 @@
 pub mod RowLemmas
 pub mod NoteReads
 pub mod StepLemmas
+pub mod KnownFacts

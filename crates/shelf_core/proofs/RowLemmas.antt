@@ -1,8 +1,8 @@
 -- The rows of facts lie within their number.
-use Rattle.std.proofs.Common.{◌≡◌, ◌==◌, Bool, true, false, ℕ, suc, zero, ◌+◌, ◌<◌, ◌≤◌, List, [], ◌∷◌, length, arith, if◌then◌else◌}
+use Rattle.std.proofs.Common.{◌==◌, Bool, true, false, ℕ, suc, zero, ◌+◌, ◌<◌, List, [], ◌∷◌, length, arith, if◌then◌else◌}
 use Rattle.book_model.specs.declared.fact.Place.{Place}
 use Rattle.book_model.specs.sky.Names.{place_number}
-use Rattle.shelf_core.specs.Rows.{rows_among, HavePlaces, column_in, column_from, row_in, MOST_ROWS, place_lists, fact_rows}
+use Rattle.shelf_core.specs.Rows.{rows_among, HavePlaces, column_in, column_from, row_in, place_lists}
 
 -- a place stands among these, the first of which has this number
 column_from_within : (at : ℕ) (ps : List Place) (place : Place) → 0 < at + length ps → column_from at ps place < at + length ps

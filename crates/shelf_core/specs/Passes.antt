@@ -1,5 +1,5 @@
 -- Passes: what one has seen, and whose it is.
-use Rattle.std.specs.Prelude.{◌≡◌, ℕ, ◌/◌, ◌%◌, slice_get, Option, Some, None, IfSome, IsSomeAnd}
+use Rattle.std.specs.Prelude.{◌≡◌, ℕ, ◌/◌, ◌%◌, slice_get, Option, IfSome, IsSomeAnd}
 use Rattle.std.specs.Option.{option_map_or, option_and_then}
 use Rattle.once_cell.specs.Once.{cell_name}
 use Rattle.book_model.specs.declared.fact.Fact.{Fact}

@@ -4,13 +4,12 @@ use mir.Syntax.{a_type, named}
 use mir.Val.{Val, vunit, vptr}
 use mir.MapTy.{inst_fn}
 use base.Logic.{SProp}
-use base.Fml.{Lft, Share, Fml, ftrue, fsep, flft}
+use base.Fml.{ftrue, fsep, flft}
 use types.Kit.{‵, raw, ◌⊛◌, ◌$◌, ◌∵◌, !, qed, by, move, keep, split, join, fsplit, fsplit3, fjoin, use1, use2, rewrite, feq_i}
 use types.Run.{of_opd, returns, enter, unit_lit}
 use types.ByLocal.{alloc_all, pass_all, free_all, look_at, sets}
 use contract.Running.{tables}
 use contract.Monad.{fact}
-use contract.BorrowLft.{◌⊑◌}
 use denote.Exit.{yes}
 use denote.RattleType.{RattleType, owns}
 use denote.Signature.{types_at, plain}
@@ -18,7 +17,6 @@ use denote.Steps.{nothing, heard}
 use denote.Memory.{part_at, shared_of}
 use denote.Opens.{shr_open, shr_Shut}
 use denote.Param.{param, layouts}
-use denote.Param.Laws.{param_laws}
 use denote.Builtin.{RefOf}
 use denote.Ref.{shr_vals, shr_Tells}
 use denote.Triple.Walked.{Stays, stay_dropped, walk_of, Goes-dropped}
