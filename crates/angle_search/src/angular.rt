@@ -1,10 +1,10 @@
 //! An angle that grows with time.
+ghost use Rattle.book_model.specs.programs.Calls.{Follows1};
 ghost use Rattle.std.specs.Prelude.{◌≤◌, ◌+◌, ℕ};
-ghost use Rattle.book_model.specs.numbers.Depth.{DEPTH};
-ghost use Rattle.book_model.specs.numbers.Expressions.{Expression, World};
-ghost use Rattle.book_model.specs.programs.Leading.{Leads};
+
+ghost use Rattle.book_model.specs.numbers.Expressions.{Expression};
+
 ghost use Rattle.book_model.specs.programs.Programs.{Program};
-ghost use Rattle.book_model.specs.numbers.Relations.{Within};
 
 use book_model::Fail;
 use encl_core::{Enclosure, Trail};
@@ -19,6 +19,6 @@ pub trait Angular<E: Enclosure> {
 
     /// The angle at a moment, in degrees. It makes the tests of its formula, and fails where that does.
     fn at(&self, x: E, trail: &mut Trail) -> Result<E, Fail>
-        ensures leads { (w : World) (v : Expression) → DEPTH ≤ w.depth → Within E.shown w v x → Leads w (Within E.shown w) (angle_of self.now v) trail.old.count trail.new.count result }
+        ensures leads { Follows1 E.shown (angle_of self.now) x trail.old.count trail.new.count result }
         ensures counted { trail.new.count ≤ trail.old.count + most };
 }

@@ -1,11 +1,7 @@
 //! Bisection: the half is kept in which an angle is passed, until the ends are near.
-ghost use Rattle.std.specs.Prelude.{◌≡◌, ◌≤◌, ◌+◌, ◌*◌, ℕ, Bool};
+ghost use Rattle.book_model.specs.programs.Calls.{Decides2, Follows2, Follows3, Holds2, Narrows2};
+ghost use Rattle.std.specs.Prelude.{◌≤◌, ◌+◌, ◌*◌};
 ghost use Rattle.book_model.specs.programs.Bisection as spec;
-ghost use Rattle.book_model.specs.numbers.Bounds.{Reach, limits_of};
-ghost use Rattle.book_model.specs.numbers.Depth.{DEPTH};
-ghost use Rattle.book_model.specs.numbers.Expressions.{Expression, World};
-ghost use Rattle.book_model.specs.programs.Leading.{Exact, Leads};
-ghost use Rattle.book_model.specs.numbers.Relations.{Within, Narrow};
 
 use crate::Angular;
 use book_model::{Fail, HALF, HUNDRED_THOUSANDTH, Site};
@@ -20,8 +16,8 @@ const HALF_CIRCLE: i64 = 180;
 /// The middle of two numbers.
 #[tactic(auto, unfolding(book_model::specs::programs::Bisection::middle_of))]
 fn middle<E: Enclosure>(low: E, high: E) -> E
-    ensures holds { (w : World) (l u : Expression) → DEPTH ≤ w.depth → Within E.shown w l low → Within E.shown w u high → Within E.shown w (spec.middle_of l u) result }
-    ensures narrow { (r : Reach) (l u : Expression) → Narrow E.shown (limits_of E.BITS) r l low → Narrow E.shown (limits_of E.BITS) r u high → Narrow E.shown (limits_of E.BITS) r (spec.middle_of l u) result }
+    ensures holds { Holds2 E.shown spec.middle_of low high result }
+    ensures narrow { Narrows2 E.shown E.BITS spec.middle_of low high result }
 {
     low.add(high).mul_frac(HALF)
 }
@@ -29,7 +25,7 @@ fn middle<E: Enclosure>(low: E, high: E) -> E
 /// Whether two numbers are less than a hundred-thousandth apart: one test, at `bisect-end`.
 #[tactic(auto, using(book_model::proofs::Leads::leading), unfolding(book_model::specs::programs::Bisection::are_near_of, book_model::specs::programs::Leading::next_turn))]
 fn are_near<E: Enclosure>(low: E, high: E, trail: &mut Trail) -> Result<bool, Fail>
-    ensures leads { (w : World) (l u : Expression) → DEPTH ≤ w.depth → Within E.shown w l low → Within E.shown w u high → Leads w Exact (spec.are_near_of l u) trail.old.count trail.new.count result }
+    ensures leads { Decides2 E.shown spec.are_near_of low high trail.old.count trail.new.count result }
     ensures counted { trail.new.count ≤ trail.old.count + 1 }
 {
     less_step(
@@ -43,7 +39,7 @@ fn are_near<E: Enclosure>(low: E, high: E, trail: &mut Trail) -> Result<bool, Fa
 /// How far an angle is past another, from 0 up to 360 degrees: one test, at `bisect`.
 #[tactic(auto, using(book_model::proofs::Leads::leading), unfolding(book_model::specs::programs::Bisection::angle_past_of, book_model::specs::programs::Leading::next_turn))]
 fn angle_past<E: Enclosure>(angle: E, target: E, trail: &mut Trail) -> Result<E, Fail>
-    ensures leads { (w : World) (v y : Expression) → DEPTH ≤ w.depth → Within E.shown w v angle → Within E.shown w y target → Leads w (Within E.shown w) (spec.angle_past_of v y) trail.old.count trail.new.count result }
+    ensures leads { Follows2 E.shown spec.angle_past_of angle target trail.old.count trail.new.count result }
     ensures counted { trail.new.count ≤ trail.old.count + 1 }
 {
     wrap_step(angle.sub(target), 360, Site::Bisect, trail)
@@ -52,7 +48,7 @@ fn angle_past<E: Enclosure>(angle: E, target: E, trail: &mut Trail) -> Result<E,
 /// Whether an angle has passed another, which it has where it is less than half a turn past it: two tests, at `bisect`.
 #[tactic(auto, using(book_model::proofs::Leads::leading), unfolding(book_model::specs::programs::Bisection::has_passed_of, book_model::specs::programs::Leading::next_turn))]
 fn has_passed<E: Enclosure>(angle: E, target: E, trail: &mut Trail) -> Result<bool, Fail>
-    ensures leads { (w : World) (v y : Expression) → DEPTH ≤ w.depth → Within E.shown w v angle → Within E.shown w y target → Leads w Exact (spec.has_passed_of v y) trail.old.count trail.new.count result }
+    ensures leads { Decides2 E.shown spec.has_passed_of angle target trail.old.count trail.new.count result }
     ensures counted { trail.new.count ≤ trail.old.count + 2 }
 {
     let past = angle_past(angle, target, trail)?;
@@ -67,7 +63,7 @@ fn has_passed_at<E: Enclosure, F: Angular<E>>(
     x: E,
     trail: &mut Trail,
 ) -> Result<bool, Fail>
-    ensures leads { (w : World) (y v : Expression) → DEPTH ≤ w.depth → Within E.shown w y target → Within E.shown w v x → Leads w Exact (spec.has_passed_at (F.angle_of f.now) y v) trail.old.count trail.new.count result }
+    ensures leads { Decides2 E.shown (spec.has_passed_at (F.angle_of f.now)) target x trail.old.count trail.new.count result }
     ensures counted { trail.new.count ≤ trail.old.count + (F.most + 2) }
 {
     let angle = f.at(x, trail)?;
@@ -85,7 +81,7 @@ fn bisected<E: Enclosure, F: Angular<E>>(
     high: E,
     trail: &mut Trail,
 ) -> Result<E, Fail>
-    ensures leads { (w : World) (y l u : Expression) → DEPTH ≤ w.depth → Within E.shown w y target → Within E.shown w l low → Within E.shown w u high → Leads w (Within E.shown w) (spec.bisected_of more (F.angle_of f.now) y l u) trail.old.count trail.new.count result }
+    ensures leads { Follows3 E.shown (spec.bisected_of more (F.angle_of f.now)) target low high trail.old.count trail.new.count result }
     ensures counted { trail.new.count ≤ trail.old.count + (more * (F.most + 3) + 1) }
 {
     if are_near(low, high, trail)? {
@@ -114,7 +110,7 @@ pub fn invert_angular<E: Enclosure, F: Angular<E>>(
     high: E,
     trail: &mut Trail,
 ) -> Result<E, Fail>
-    ensures leads { (w : World) (a l u : Expression) → DEPTH ≤ w.depth → Within E.shown w a y → Within E.shown w l low → Within E.shown w u high → Leads w (Within E.shown w) (spec.invert_of (F.angle_of f.now) a l u) trail.old.count trail.new.count result }
+    ensures leads { Follows3 E.shown (spec.invert_of (F.angle_of f.now)) y low high trail.old.count trail.new.count result }
     ensures counted { trail.new.count ≤ trail.old.count + (64 * (F.most + 3) + 1) }
 {
     bisected(TURNS, f, y, low, high, trail)

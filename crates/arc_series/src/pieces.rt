@@ -1,11 +1,12 @@
 //! Arctangents over the closed pieces of the line.
-ghost use Rattle.std.specs.Prelude.{◌≡◌, ℕ, ◌≤◌, ◌≤ℤ◌, Option};
+ghost use Rattle.book_model.specs.programs.Calls.{Holds1};
+ghost use Rattle.std.specs.Prelude.{◌≡◌, ℕ, ◌≤◌, Option};
 ghost use Rattle.exact_math.specs.Interval.{Interval, between, ◌⊆◌};
 ghost use Rattle.book_model.specs.numbers.Arcs.{arc_over as arc_over_piece, join as join_of, arctangent_of, far_below, below, near as near_piece, above as above_piece, far_above};
-ghost use Rattle.book_model.specs.numbers.Expressions.{Expression, World};
+
 ghost use Rattle.book_model.specs.programs.Leading.{at_56};
 ghost use Rattle.book_model.specs.numbers.Octants.{only};
-ghost use Rattle.book_model.specs.numbers.Relations.{Within};
+
 ghost use Rattle.book_model.specs.numbers.Depth.{DEPTH};
 ghost use Rattle.arc_series.specs.Forms.{above_of, beyond_of, piece_of, arc_in, AreHeld, begin_56, end_56};
 
@@ -31,7 +32,7 @@ pub(crate) enum Piece {
 /// The arctangent of numbers from 1/2 to 3: 45 degrees more than that of (x - 1) / (x + 1).
 #[tactic(auto, unfolding(crate::specs::Forms::above_of))]
 fn above<E: Enclosure>(x: E) -> E
-    ensures holds { (w : World) (a : Expression) → DEPTH ≤ w.depth → Within E.shown w a x → Within E.shown w (above_of a) result }
+    ensures holds { Holds1 E.shown above_of x result }
 {
     let one = E::from_int(1);
     E::from_int(45).add(near(x.sub(one).div(x.add(one))))
@@ -40,7 +41,7 @@ fn above<E: Enclosure>(x: E) -> E
 /// The arctangent of numbers from 3 on: 90 degrees less that of 1 / x.
 #[tactic(auto, unfolding(crate::specs::Forms::beyond_of))]
 fn beyond<E: Enclosure>(x: E) -> E
-    ensures holds { (w : World) (a : Expression) → DEPTH ≤ w.depth → Within E.shown w a x → Within E.shown w (beyond_of a) result }
+    ensures holds { Holds1 E.shown beyond_of x result }
 {
     E::from_int(90).sub(near(E::from_int(1).div(x)))
 }
@@ -48,7 +49,7 @@ fn beyond<E: Enclosure>(x: E) -> E
 /// The arctangent of numbers in a piece; in a negative one it is the opposite of that of the opposites.
 #[tactic(auto, unfolding(crate::specs::Forms::arc_in))]
 fn arc<E: Enclosure>(piece: Piece, x: E) -> E
-    ensures holds { (w : World) (a : Expression) → DEPTH ≤ w.depth → Within E.shown w a x → Within E.shown w (arc_in piece a) result }
+    ensures holds { Holds1 E.shown (arc_in piece) x result }
 {
     match piece {
         Piece::FarBelow => beyond(x.neg()).neg(),

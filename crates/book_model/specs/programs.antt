@@ -4,3 +4,4 @@ pub mod Searches
 pub mod Bisection
 pub mod Leading
 pub mod Nesting
+pub mod Calls

@@ -1,10 +1,9 @@
 //! Where the moon stands: its arc of light and its altitude, by cosine and sine.
-ghost use Rattle.std.specs.Prelude.{◌≤◌};
+
+ghost use Rattle.book_model.specs.programs.Calls.{Holds2, Holds3, Holds4};
 ghost use Rattle.book_model.specs.sky.Crescent as spec;
-ghost use Rattle.book_model.specs.numbers.Depth.{DEPTH};
-ghost use Rattle.book_model.specs.numbers.Expressions.{Expression, World};
+
 ghost use Rattle.book_model.specs.numbers.Fractions.{fraction_of};
-ghost use Rattle.book_model.specs.numbers.Relations.{Within};
 
 use book_model::Frac;
 use encl_core::Enclosure;
@@ -13,7 +12,7 @@ use trig_series::{cos_deg, sin_deg};
 /// The cosine of the arc of light between the moon and the sun, by the moon's latitude and its phase, in degrees.
 #[tactic(auto, unfolding(book_model::specs::sky::Crescent::arc_cosine_of))]
 pub(crate) fn arc_cosine<E: Enclosure>(latitude: E, phase: E) -> E
-    ensures holds { (w : World) (b f : Expression) → DEPTH ≤ w.depth → Within E.shown w b latitude → Within E.shown w f phase → Within E.shown w (spec.arc_cosine_of b f) result }
+    ensures holds { Holds2 E.shown spec.arc_cosine_of latitude phase result }
 {
     cos_deg(latitude).mul(cos_deg(phase))
 }
@@ -21,7 +20,7 @@ pub(crate) fn arc_cosine<E: Enclosure>(latitude: E, phase: E) -> E
 /// The sine of the moon's declination, by the obliquity of the ecliptic and the longitude and the latitude of the moon.
 #[tactic(auto, unfolding(book_model::specs::sky::Crescent::north_of))]
 fn north<E: Enclosure>(obliquity: E, longitude: E, latitude: E) -> E
-    ensures holds { (w : World) (o l b : Expression) → DEPTH ≤ w.depth → Within E.shown w o obliquity → Within E.shown w l longitude → Within E.shown w b latitude → Within E.shown w (spec.north_of o l b) result }
+    ensures holds { Holds3 E.shown spec.north_of obliquity longitude latitude result }
 {
     let level = sin_deg(latitude).mul(cos_deg(obliquity));
     level.add(
@@ -34,7 +33,7 @@ fn north<E: Enclosure>(obliquity: E, longitude: E, latitude: E) -> E
 /// The part of the moon's direction towards the east of the equinox, in the plane of the equator.
 #[tactic(auto, unfolding(book_model::specs::sky::Crescent::east_of))]
 fn east<E: Enclosure>(obliquity: E, longitude: E, latitude: E) -> E
-    ensures holds { (w : World) (o l b : Expression) → DEPTH ≤ w.depth → Within E.shown w o obliquity → Within E.shown w l longitude → Within E.shown w b latitude → Within E.shown w (spec.east_of o l b) result }
+    ensures holds { Holds3 E.shown spec.east_of obliquity longitude latitude result }
 {
     let level = cos_deg(latitude)
         .mul(sin_deg(longitude))
@@ -45,7 +44,7 @@ fn east<E: Enclosure>(obliquity: E, longitude: E, latitude: E) -> E
 /// The part of the moon's direction towards where the equator crosses the meridian, at a local sidereal time.
 #[tactic(auto, unfolding(book_model::specs::sky::Crescent::towards_of))]
 fn towards<E: Enclosure>(sidereal: E, obliquity: E, longitude: E, latitude: E) -> E
-    ensures holds { (w : World) (t o l b : Expression) → DEPTH ≤ w.depth → Within E.shown w t sidereal → Within E.shown w o obliquity → Within E.shown w l longitude → Within E.shown w b latitude → Within E.shown w (spec.towards_of t o l b) result }
+    ensures holds { Holds4 E.shown spec.towards_of sidereal obliquity longitude latitude result }
 {
     let along = cos_deg(sidereal)
         .mul(cos_deg(latitude))
@@ -63,7 +62,7 @@ pub(crate) fn altitude_sine<E: Enclosure>(
     longitude: E,
     latitude: E,
 ) -> E
-    ensures holds { (w : World) (t o l b : Expression) → DEPTH ≤ w.depth → Within E.shown w t sidereal → Within E.shown w o obliquity → Within E.shown w l longitude → Within E.shown w b latitude → Within E.shown w (spec.altitude_sine_of (fraction_of ground) t o l b) result }
+    ensures holds { Holds4 E.shown (spec.altitude_sine_of (fraction_of ground)) sidereal obliquity longitude latitude result }
 {
     let here = E::from_frac(ground);
     let upwards = sin_deg(here).mul(north(obliquity, longitude, latitude));

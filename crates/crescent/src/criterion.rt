@@ -1,5 +1,6 @@
 //! Shaukat's criterion: whether the crescent is seen on an evening.
-ghost use Rattle.std.specs.Prelude.{◌≡◌, ◌≤◌, ◌+◌, ℤ, ◌≤ℤ◌, negsuc, Bool};
+ghost use Rattle.book_model.specs.programs.Calls.{Decides, Decides1, Decides2, Decides3, Follows, Follows1, Holds1};
+ghost use Rattle.std.specs.Prelude.{◌≤◌, ◌+◌, ℤ, ◌≤ℤ◌, negsuc};
 ghost use Rattle.book_model.specs.sky.Crescent as spec;
 ghost use Rattle.book_model.specs.numbers.Depth.{DEPTH};
 ghost use Rattle.book_model.specs.numbers.Expressions.{Expression, World};
@@ -26,7 +27,7 @@ const FIRST_QUARTER: i64 = 90;
 /// Whether the moon is past its new moon: one test.
 #[tactic(auto, using(book_model::proofs::Leads::leading), unfolding(book_model::specs::sky::Crescent::is_past_new_of, book_model::specs::programs::Leading::next_turn))]
 fn is_past_new<E: Enclosure>(phase: E, trail: &mut Trail) -> Result<bool, Fail>
-    ensures leads { (w : World) (f : Expression) → DEPTH ≤ w.depth → Within E.shown w f phase → Leads w Exact (spec.is_past_new_of f) trail.old.count trail.new.count result }
+    ensures leads { Decides1 E.shown spec.is_past_new_of phase trail.old.count trail.new.count result }
     ensures counted { trail.new.count ≤ trail.old.count + 1 }
 {
     less_step(E::from_int(0), phase, Site::Crescent, trail)
@@ -35,7 +36,7 @@ fn is_past_new<E: Enclosure>(phase: E, trail: &mut Trail) -> Result<bool, Fail>
 /// Whether it isn't yet at its first quarter: one test.
 #[tactic(auto, using(book_model::proofs::Leads::leading), unfolding(book_model::specs::sky::Crescent::is_before_quarter_of, book_model::specs::programs::Leading::next_turn))]
 fn is_before_quarter<E: Enclosure>(phase: E, trail: &mut Trail) -> Result<bool, Fail>
-    ensures leads { (w : World) (f : Expression) → DEPTH ≤ w.depth → Within E.shown w f phase → Leads w Exact (spec.is_before_quarter_of f) trail.old.count trail.new.count result }
+    ensures leads { Decides1 E.shown spec.is_before_quarter_of phase trail.old.count trail.new.count result }
     ensures counted { trail.new.count ≤ trail.old.count + 1 }
 {
     less_step(phase, E::from_int(FIRST_QUARTER), Site::Crescent, trail)
@@ -44,7 +45,7 @@ fn is_before_quarter<E: Enclosure>(phase: E, trail: &mut Trail) -> Result<bool, 
 /// Whether the arc of light, by its cosine, is large enough: one test.
 #[tactic(auto, using(book_model::proofs::Leads::leading), unfolding(book_model::specs::sky::Crescent::is_lit_of, book_model::specs::programs::Leading::next_turn))]
 fn is_lit<E: Enclosure>(arc: E, trail: &mut Trail) -> Result<bool, Fail>
-    ensures leads { (w : World) (a : Expression) → DEPTH ≤ w.depth → Within E.shown w a arc → Leads w Exact (spec.is_lit_of a) trail.old.count trail.new.count result }
+    ensures leads { Decides1 E.shown spec.is_lit_of arc trail.old.count trail.new.count result }
     ensures counted { trail.new.count ≤ trail.old.count + 1 }
 {
     let least = cos_deg(E::from_frac(LEAST_ARC_OF_LIGHT));
@@ -57,7 +58,7 @@ fn is_lit<E: Enclosure>(arc: E, trail: &mut Trail) -> Result<bool, Fail>
 /// Whether the arc of light, by its cosine, is at most 90 degrees: one test.
 #[tactic(auto, using(book_model::proofs::Leads::leading), unfolding(book_model::specs::sky::Crescent::is_within_quarter_of, book_model::specs::programs::Leading::next_turn))]
 fn is_within_quarter<E: Enclosure>(arc: E, trail: &mut Trail) -> Result<bool, Fail>
-    ensures leads { (w : World) (a : Expression) → DEPTH ≤ w.depth → Within E.shown w a arc → Leads w Exact (spec.is_within_quarter_of a) trail.old.count trail.new.count result }
+    ensures leads { Decides1 E.shown spec.is_within_quarter_of arc trail.old.count trail.new.count result }
     ensures counted { trail.new.count ≤ trail.old.count + 1 }
 {
     match less_step(arc, E::from_int(0), Site::Crescent, trail) {
@@ -69,7 +70,7 @@ fn is_within_quarter<E: Enclosure>(arc: E, trail: &mut Trail) -> Result<bool, Fa
 /// Whether the moon, by the sine of its altitude, stands high enough: one test.
 #[tactic(auto, using(book_model::proofs::Leads::leading), unfolding(book_model::specs::sky::Crescent::is_high_of, book_model::specs::programs::Leading::next_turn))]
 fn is_high<E: Enclosure>(altitude: E, trail: &mut Trail) -> Result<bool, Fail>
-    ensures leads { (w : World) (h : Expression) → DEPTH ≤ w.depth → Within E.shown w h altitude → Leads w Exact (spec.is_high_of h) trail.old.count trail.new.count result }
+    ensures leads { Decides1 E.shown spec.is_high_of altitude trail.old.count trail.new.count result }
     ensures counted { trail.new.count ≤ trail.old.count + 1 }
 {
     let least = sin_deg(E::from_frac(LEAST_ALTITUDE));
@@ -79,7 +80,7 @@ fn is_high<E: Enclosure>(altitude: E, trail: &mut Trail) -> Result<bool, Fail>
 /// The conditions on the arc of light and on the altitude, in order: three tests at most.
 #[tactic(auto, using(book_model::proofs::Leads::leading), unfolding(book_model::specs::sky::Crescent::is_bright_of, book_model::specs::sky::Crescent::and_also))]
 fn is_bright<E: Enclosure>(arc: E, altitude: E, trail: &mut Trail) -> Result<bool, Fail>
-    ensures leads { (w : World) (a h : Expression) → DEPTH ≤ w.depth → Within E.shown w a arc → Within E.shown w h altitude → Leads w Exact (spec.is_bright_of a h) trail.old.count trail.new.count result }
+    ensures leads { Decides2 E.shown spec.is_bright_of arc altitude trail.old.count trail.new.count result }
     ensures counted { trail.new.count ≤ trail.old.count + 3 }
 {
     Ok(is_lit(arc, trail)? && is_within_quarter(arc, trail)? && is_high(altitude, trail)?)
@@ -88,7 +89,7 @@ fn is_bright<E: Enclosure>(arc: E, altitude: E, trail: &mut Trail) -> Result<boo
 /// All conditions, in order: five tests at most.
 #[tactic(auto, using(book_model::proofs::Leads::leading), unfolding(book_model::specs::sky::Crescent::is_crescent_of, book_model::specs::sky::Crescent::and_also))]
 fn is_crescent<E: Enclosure>(phase: E, arc: E, altitude: E, trail: &mut Trail) -> Result<bool, Fail>
-    ensures leads { (w : World) (f a h : Expression) → DEPTH ≤ w.depth → Within E.shown w f phase → Within E.shown w a arc → Within E.shown w h altitude → Leads w Exact (spec.is_crescent_of f a h) trail.old.count trail.new.count result }
+    ensures leads { Decides3 E.shown spec.is_crescent_of phase arc altitude trail.old.count trail.new.count result }
     ensures counted { trail.new.count ≤ trail.old.count + 5 }
 {
     Ok(
@@ -128,7 +129,7 @@ fn meets_with<E: Enclosure>(
     obliquity: E,
     trail: &mut Trail,
 ) -> Result<bool, Fail>
-    ensures leads { (w : World) (x f o : Expression) → DEPTH ≤ w.depth → Within E.shown w x t → Within E.shown w f phase → Within E.shown w o obliquity → Leads w Exact (spec.meets_with_of location.now x f o) trail.old.count trail.new.count result }
+    ensures leads { Decides3 E.shown (spec.meets_with_of location.now) t phase obliquity trail.old.count trail.new.count result }
     ensures counted { trail.new.count ≤ trail.old.count + 8 }
 {
     let longitude = moon(t, trail)?;
@@ -142,7 +143,7 @@ fn meets_with<E: Enclosure>(
 /// The obliquity of the ecliptic at a moment of universal time: one test at most.
 #[tactic(auto, using(book_model::proofs::Leads::leading), unfolding(book_model::specs::sky::Crescent::obliquity_at_of, book_model::specs::programs::Leading::next_turn))]
 fn obliquity_at<E: Enclosure>(t: E, trail: &mut Trail) -> Result<E, Fail>
-    ensures leads { (w : World) (x : Expression) → DEPTH ≤ w.depth → Within E.shown w x t → Leads w (Within E.shown w) (spec.obliquity_at_of x) trail.old.count trail.new.count result }
+    ensures leads { Follows1 E.shown spec.obliquity_at_of t trail.old.count trail.new.count result }
     ensures counted { trail.new.count ≤ trail.old.count + 1 }
 {
     match centuries(t, trail) {
@@ -154,7 +155,7 @@ fn obliquity_at<E: Enclosure>(t: E, trail: &mut Trail) -> Result<E, Fail>
 /// Whether the moon meets the criterion at a location and a moment of universal time: 19 tests at most.
 #[tactic(auto, using(book_model::proofs::Leads::leading), unfolding(book_model::specs::sky::Crescent::meets_at_of))]
 fn meets_at<E: Enclosure>(location: &Location, t: E, trail: &mut Trail) -> Result<bool, Fail>
-    ensures leads { (w : World) (x : Expression) → DEPTH ≤ w.depth → Within E.shown w x t → Leads w Exact (spec.meets_at_of location.now x) trail.old.count trail.new.count result }
+    ensures leads { Decides1 E.shown (spec.meets_at_of location.now) t trail.old.count trail.new.count result }
     ensures counted { trail.new.count ≤ trail.old.count + 19 }
 {
     let young = phase(t, trail)?;
@@ -165,7 +166,7 @@ fn meets_at<E: Enclosure>(location: &Location, t: E, trail: &mut Trail) -> Resul
 /// The universal time of a moment of local mean time at a longitude east of Greenwich, in degrees.
 #[tactic(auto, unfolding(book_model::specs::sky::Horizon::universal_of, book_model::specs::sky::Noon::ahead_of))]
 fn universal<E: Enclosure>(longitude: Frac, t: E) -> E
-    ensures holds { (w : World) (x : Expression) → DEPTH ≤ w.depth → Within E.shown w x t → Within E.shown w (universal_of (fraction_of longitude) x) result }
+    ensures holds { Holds1 E.shown (universal_of (fraction_of longitude)) t result }
 {
     t.sub(E::from_frac(longitude).mul_frac(DEGREE_IN_DAYS))
 }
@@ -174,7 +175,7 @@ fn universal<E: Enclosure>(longitude: Frac, t: E) -> E
 #[tactic(auto, using(book_model::proofs::Leads::leading), unfolding(book_model::specs::sky::Crescent::evening_of))]
 fn evening<E: Enclosure>(location: &Location, day: i64, trail: &mut Trail) -> Result<E, Fail>
     requires low { negsuc 39999999 ≤ℤ day }
-    ensures leads { (w : World) → DEPTH ≤ w.depth → Leads w (Within E.shown w) (spec.evening_of location.now day) trail.old.count trail.new.count result }
+    ensures leads { Follows E.shown (spec.evening_of location.now day) trail.old.count trail.new.count result }
     ensures counted { trail.new.count ≤ trail.old.count + 132 }
 {
     match dusk(location, E::from_frac(CRESCENT_DEPRESSION), day - 1, trail) {
@@ -192,7 +193,7 @@ fn evening<E: Enclosure>(location: &Location, day: i64, trail: &mut Trail) -> Re
 #[tactic(auto, using(book_model::proofs::Leads::leading), unfolding(book_model::specs::sky::Crescent::visible_of))]
 pub fn visible<E: Enclosure>(location: &Location, day: i64, trail: &mut Trail) -> Result<bool, Fail>
     requires low { negsuc 39999999 ≤ℤ day }
-    ensures leads { (w : World) → DEPTH ≤ w.depth → Leads w Exact (spec.visible_of location.now day) trail.old.count trail.new.count result }
+    ensures leads { Decides (spec.visible_of location.now day) trail.old.count trail.new.count result }
     ensures counted { trail.new.count ≤ trail.old.count + 151 }
 {
     match evening::<E>(location, day, trail) {

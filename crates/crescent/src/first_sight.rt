@@ -1,10 +1,10 @@
 //! The day with whose evening the crescent was first seen.
-ghost use Rattle.std.specs.Prelude.{◌≡◌, ◌≤◌, ◌+◌, ℤ, pos, negsuc, ◌≤ℤ◌, ◌+ℤ◌, ◌-ℤ◌, ◌*◌, Bool, int_le, IfOk, IfErr};
+ghost use Rattle.book_model.specs.programs.Calls.{Decides};
+ghost use Rattle.std.specs.Prelude.{◌≡◌, ◌≤◌, ◌+◌, ℤ, pos, ◌≤ℤ◌, ◌+ℤ◌, ◌-ℤ◌, ◌*◌, int_le, IfOk, IfErr};
 ghost use Rattle.book_model.specs.sky.Crescent as spec;
-ghost use Rattle.book_model.specs.numbers.Depth.{DEPTH};
-ghost use Rattle.book_model.specs.numbers.Expressions.{World};
+
 ghost use Rattle.book_model.specs.sky.Facts.{IsFactDay, IsFactValue, IsValueDay};
-ghost use Rattle.book_model.specs.programs.Leading.{Exact, Leads};
+
 ghost use Rattle.book_model.specs.programs.Searches.{first_day_from};
 ghost use Rattle.moon_core.specs.PhaseDays.{IsPhaseDay};
 ghost use Rattle.time_scales.specs.Steps.{IsNoEarlyYear};
@@ -73,7 +73,7 @@ fn sight_start<E: Enclosure>(
 ) -> Result<i64, Fail>
     requires day { IsFactDay day }
     requires near { IsPhaseDay new_moon }
-    ensures leads { (w : World) → DEPTH ≤ w.depth → Leads w Exact (spec.sight_start_of location.now day new_moon) trail.old.count trail.new.count result }
+    ensures leads { Decides (spec.sight_start_of location.now day new_moon) trail.old.count trail.new.count result }
     ensures near { IfOk result IsSightDay }
     ensures counted { trail.new.count ≤ trail.old.count + 151 }
 {
@@ -90,7 +90,7 @@ fn sight_start<E: Enclosure>(
 #[tactic(auto, using(book_model::proofs::Leads::leading))]
 fn first_sight<E: Enclosure>(location: &Location, from: i64, trail: &mut Trail) -> Result<i64, Fail>
     requires near { IsSightDay from }
-    ensures leads { (w : World) → DEPTH ≤ w.depth → Leads w Exact (first_day_from (spec.visible_of location.now) from) trail.old.count trail.new.count result }
+    ensures leads { Decides (first_day_from (spec.visible_of location.now) from) trail.old.count trail.new.count result }
     ensures from { IfOk result (λ d. from ≤ℤ d) }
     ensures to { IfOk result (λ d. d ≤ℤ (from +ℤ pos 45)) }
     ensures counted { trail.new.count ≤ trail.old.count + 46 * 151 }
@@ -114,7 +114,7 @@ fn sight_after<E: Enclosure>(
 ) -> Result<i64, Fail>
     requires day { IsFactDay day }
     requires near { IsPhaseDay new_moon }
-    ensures leads { (w : World) → DEPTH ≤ w.depth → Leads w Exact (spec.sight_after_of location.now day new_moon) trail.old.count trail.new.count result }
+    ensures leads { Decides (spec.sight_after_of location.now day new_moon) trail.old.count trail.new.count result }
     ensures value { IfOk result IsFactValue }
     ensures counted { trail.new.count ≤ trail.old.count + 47 * 151 }
 {
@@ -131,7 +131,7 @@ fn sight_after<E: Enclosure>(
 #[tactic(auto, using(book_model::proofs::Leads::leading), unfolding(book_model::specs::sky::Crescent::phasis_of))]
 pub fn phasis<E: Enclosure>(location: &Location, day: i64, trail: &mut Trail) -> Result<i64, Fail>
     requires day { IsFactDay day }
-    ensures leads { (w : World) → DEPTH ≤ w.depth → Leads w Exact (spec.phasis_of location.now day) trail.old.count trail.new.count result }
+    ensures leads { Decides (spec.phasis_of location.now day) trail.old.count trail.new.count result }
     ensures value { IfOk result IsFactValue }
     ensures early { trail.old.count ≡ 0 → 36 ≤ E.BITS → E.BITS ≤ 56 → IsValueDay day → IfErr result IsNoEarlyYear }
     ensures counted { trail.new.count ≤ trail.old.count + 7942 }

@@ -1,5 +1,6 @@
 //! The trait of all kinds of enclosures.
-ghost use Rattle.std.specs.Prelude.{◌≡◌, ◌<◌, ℕ, ℤ, ◌≤◌, Some, IfOk, IfErr, IfSome, IsSome, IsNone};
+ghost use Rattle.book_model.specs.programs.Calls.{Holds, Holds1, Holds2, Narrows, Narrows1, Narrows2};
+ghost use Rattle.std.specs.Prelude.{◌≡◌, ◌<◌, ℕ, ℤ, Some, IfOk, IfErr, IfSome, IsSome, IsNone};
 ghost use Rattle.exact_math.specs.Fraction.{whole as whole_number};
 ghost use Rattle.exact_math.specs.Interval.{Interval, everything, between, ◌⊆◌, IsProper, hull as hull_of_intervals};
 ghost use Rattle.book_model.specs.numbers.Fractions.{fraction_of, ten_millionths, daily_ten_millionths};
@@ -48,13 +49,13 @@ pub trait Enclosure: Copy + Drop {
 
     /// The enclosure of a whole number.
     fn from_int(value: i64) -> Self
-        ensures holds { (w : World) → LEAST_DEPTH ≤ w.depth → Within shown w (integer value) result }
-        ensures narrow { (r : Reach) → Narrow shown (limits_of BITS) r (integer value) result };
+        ensures holds { Holds shown (integer value) result }
+        ensures narrow { Narrows shown BITS (integer value) result };
 
     /// The enclosure of a fraction.
     fn from_frac(value: Frac) -> Self
-        ensures holds { (w : World) → LEAST_DEPTH ≤ w.depth → Within shown w (constant (fraction_of value)) result }
-        ensures narrow { (r : Reach) → Narrow shown (limits_of BITS) r (constant (fraction_of value)) result };
+        ensures holds { Holds shown (constant (fraction_of value)) result }
+        ensures narrow { Narrows shown BITS (constant (fraction_of value)) result };
 
     /// The enclosure of what lies between two ends. It is at most two units wider than these are apart.
     fn from_span(span: Span) -> Self
@@ -63,55 +64,55 @@ pub trait Enclosure: Copy + Drop {
 
     /// The sums of the members.
     fn add(self, other: Self) -> Self
-        ensures holds { (w : World) (x y : Expression) → Within shown w x self → Within shown w y other → Within shown w (add_of x y) result }
-        ensures narrow { (r : Reach) (x y : Expression) → Narrow shown (limits_of BITS) r x self → Narrow shown (limits_of BITS) r y other → Narrow shown (limits_of BITS) r (add_of x y) result };
+        ensures holds { Holds2 shown add_of self other result }
+        ensures narrow { Narrows2 shown BITS add_of self other result };
 
     /// The differences of the members.
     fn sub(self, other: Self) -> Self
-        ensures holds { (w : World) (x y : Expression) → Within shown w x self → Within shown w y other → Within shown w (subtract x y) result }
-        ensures narrow { (r : Reach) (x y : Expression) → Narrow shown (limits_of BITS) r x self → Narrow shown (limits_of BITS) r y other → Narrow shown (limits_of BITS) r (subtract x y) result };
+        ensures holds { Holds2 shown subtract self other result }
+        ensures narrow { Narrows2 shown BITS subtract self other result };
 
     /// The products of the members.
     fn mul(self, other: Self) -> Self
-        ensures holds { (w : World) (x y : Expression) → Within shown w x self → Within shown w y other → Within shown w (multiply x y) result }
-        ensures narrow { (r : Reach) (x y : Expression) → Narrow shown (limits_of BITS) r x self → Narrow shown (limits_of BITS) r y other → Narrow shown (limits_of BITS) r (multiply x y) result };
+        ensures holds { Holds2 shown multiply self other result }
+        ensures narrow { Narrows2 shown BITS multiply self other result };
 
     /// The lesser of each two members.
     fn min(self, other: Self) -> Self
-        ensures holds { (w : World) (x y : Expression) → Within shown w x self → Within shown w y other → Within shown w (minimum x y) result }
-        ensures narrow { (r : Reach) (x y : Expression) → Narrow shown (limits_of BITS) r x self → Narrow shown (limits_of BITS) r y other → Narrow shown (limits_of BITS) r (minimum x y) result };
+        ensures holds { Holds2 shown minimum self other result }
+        ensures narrow { Narrows2 shown BITS minimum self other result };
 
     /// The greater of each two members.
     fn max(self, other: Self) -> Self
-        ensures holds { (w : World) (x y : Expression) → Within shown w x self → Within shown w y other → Within shown w (maximum x y) result }
-        ensures narrow { (r : Reach) (x y : Expression) → Narrow shown (limits_of BITS) r x self → Narrow shown (limits_of BITS) r y other → Narrow shown (limits_of BITS) r (maximum x y) result };
+        ensures holds { Holds2 shown maximum self other result }
+        ensures narrow { Narrows2 shown BITS maximum self other result };
 
     /// Every number between members of the two, and no others.
     fn hull(self, other: Self) -> Self
-        ensures holds { (w : World) (x y : Expression) → Within shown w x self → Within shown w y other → Within shown w (hull_of x y) result }
+        ensures holds { Holds2 shown hull_of self other result }
         ensures tight { shown result ⊆ hull_of_intervals (shown self) (shown other) }
-        ensures narrow { (r : Reach) (x y : Expression) → Narrow shown (limits_of BITS) r x self → Narrow shown (limits_of BITS) r y other → Narrow shown (limits_of BITS) r (hull_of x y) result };
+        ensures narrow { Narrows2 shown BITS hull_of self other result };
 
     /// The opposites of the members.
     fn neg(self) -> Self
-        ensures holds { (w : World) (x : Expression) → Within shown w x self → Within shown w (negate x) result }
-        ensures narrow { (r : Reach) (x : Expression) → Narrow shown (limits_of BITS) r x self → Narrow shown (limits_of BITS) r (negate x) result };
+        ensures holds { Holds1 shown negate self result }
+        ensures narrow { Narrows1 shown BITS negate self result };
 
     /// The numbers that are no further from a member than the size of a fraction.
     fn widen(self, by: Frac) -> Self
-        ensures holds { (w : World) (x : Expression) → Within shown w x self → Within shown w (widen_of (fraction_of by) x) result }
-        ensures narrow { (r : Reach) (x : Expression) → Narrow shown (limits_of BITS) r x self → Narrow shown (limits_of BITS) r (widen_of (fraction_of by) x) result };
+        ensures holds { Holds1 shown (widen_of (fraction_of by)) self result }
+        ensures narrow { Narrows1 shown BITS (widen_of (fraction_of by)) self result };
 
     /// The products of the members with a fraction.
     fn mul_frac(self, by: Frac) -> Self
-        ensures holds { (w : World) (x : Expression) → Within shown w x self → Within shown w (scale (fraction_of by) x) result }
-        ensures narrow { (r : Reach) (x : Expression) → Narrow shown (limits_of BITS) r x self → Narrow shown (limits_of BITS) r (scale (fraction_of by) x) result };
+        ensures holds { Holds1 shown (scale (fraction_of by)) self result }
+        ensures narrow { Narrows1 shown BITS (scale (fraction_of by)) self result };
 
     /// The products of the members with a whole number.
     #[inline(always)]
     fn times(self, by: i64) -> Self
-        ensures holds { (w : World) (x : Expression) → Within shown w x self → Within shown w (scale (whole_number by) x) result }
-        ensures narrow { (r : Reach) (x : Expression) → Narrow shown (limits_of BITS) r x self → Narrow shown (limits_of BITS) r (scale (whole_number by) x) result }
+        ensures holds { Holds1 shown (scale (whole_number by)) self result }
+        ensures narrow { Narrows1 shown BITS (scale (whole_number by)) self result }
     {
         self.mul_frac(Frac::whole(by))
     }
@@ -120,8 +121,8 @@ pub trait Enclosure: Copy + Drop {
     /// the rate in ten-millionths a century. So the rounding of centuries isn't multiplied by a rate.
     #[inline(always)]
     fn angle(self, phase: i64, rate: i64) -> Self
-        ensures holds { (w : World) (x : Expression) → Within shown w x self → Within shown w (add_of (constant (ten_millionths phase)) (scale (daily_ten_millionths rate) x)) result }
-        ensures narrow { (r : Reach) (x : Expression) → Narrow shown (limits_of BITS) r x self → Narrow shown (limits_of BITS) r (add_of (constant (ten_millionths phase)) (scale (daily_ten_millionths rate) x)) result }
+        ensures holds { Holds1 shown (λ x. add_of (constant (ten_millionths phase)) (scale (daily_ten_millionths rate) x)) self result }
+        ensures narrow { Narrows1 shown BITS (λ x. add_of (constant (ten_millionths phase)) (scale (daily_ten_millionths rate) x)) self result }
     {
         let turned = self.mul_frac(Frac::daily_ten_millionths(rate));
         Self::from_frac(Frac::ten_millionths(phase)).add(turned)
@@ -129,23 +130,23 @@ pub trait Enclosure: Copy + Drop {
 
     /// The quotients of the members; every number, where the divisor may be 0.
     fn div(self, other: Self) -> Self
-        ensures holds { (w : World) (x y : Expression) → Within shown w x self → Within shown w y other → Within shown w (divide x y) result }
-        ensures narrow { (r : Reach) (x y : Expression) → Narrow shown (limits_of BITS) r x self → Narrow shown (limits_of BITS) r y other → Narrow shown (limits_of BITS) r (divide x y) result };
+        ensures holds { Holds2 shown divide self other result }
+        ensures narrow { Narrows2 shown BITS divide self other result };
 
     /// The squares of the members.
     fn square(self) -> Self
-        ensures holds { (w : World) (x : Expression) → Within shown w x self → Within shown w (power x 2) result }
-        ensures narrow { (r : Reach) (x : Expression) → Narrow shown (limits_of BITS) r x self → Narrow shown (limits_of BITS) r (power x 2) result };
+        ensures holds { Holds1 shown (λ x. power x 2) self result }
+        ensures narrow { Narrows1 shown BITS (λ x. power x 2) self result };
 
     /// The roots of the members. A negative end counts as 0.
     fn root(self) -> Self
-        ensures holds { (w : World) (x : Expression) → Within shown w x self → Within shown w (root_of x) result }
-        ensures narrow { (r : Reach) (x : Expression) → Narrow shown (limits_of BITS) r x self → Narrow shown (limits_of BITS) r (root_of x) result };
+        ensures holds { Holds1 shown root_of self result }
+        ensures narrow { Narrows1 shown BITS root_of self result };
 
     /// The members, each end moved into -1..1; all of -1..1, where nothing is known.
     fn clamp_unit(self) -> Self
-        ensures holds { (w : World) (x : Expression) → Within shown w x self → Within shown w (clamp_of x) result }
-        ensures narrow { (r : Reach) (x : Expression) → Narrow shown (limits_of BITS) r x self → Narrow shown (limits_of BITS) r (clamp_of x) result };
+        ensures holds { Holds1 shown clamp_of self result }
+        ensures narrow { Narrows1 shown BITS clamp_of self result };
 
     /// The ends, at one scale for every kind; `None` for every number.
     fn span(self) -> Option<Span>

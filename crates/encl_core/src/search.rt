@@ -1,10 +1,9 @@
 //! Searches by day.
-ghost use Rattle.std.specs.Prelude.{◌≡◌, ◌≤◌, ◌+◌, ◌*◌, ◌+ℤ◌, pos, negsuc, ◌≤ℤ◌, ℕ, ℤ, Bool, IfOk};
-ghost use Rattle.book_model.specs.numbers.Expressions.{World};
-ghost use Rattle.book_model.specs.programs.Leading.{Leads, Exact};
+ghost use Rattle.book_model.specs.programs.Calls.{Decides};
+ghost use Rattle.std.specs.Prelude.{◌≤◌, ◌+◌, ◌*◌, ◌+ℤ◌, pos, negsuc, ◌≤ℤ◌, ℕ, ℤ, Bool, IfOk};
+
 ghost use Rattle.book_model.specs.programs.Programs.{Program};
 ghost use Rattle.book_model.specs.programs.Searches.{first_day_from};
-ghost use Rattle.book_model.specs.numbers.Depth.{DEPTH};
 
 use crate::{Enclosure, Trail};
 use book_model::{Fail, Site};
@@ -24,7 +23,7 @@ pub trait DayTest<E: Enclosure> {
     fn holds(&self, day: i64, trail: &mut Trail) -> Result<bool, Fail>
         requires low { negsuc 39999999 ≤ℤ day }
         requires high { day ≤ℤ pos 40000000 }
-        ensures leads { (w : World) → DEPTH ≤ w.depth → Leads w Exact (test_of self.now day) trail.old.count trail.new.count result }
+        ensures leads { Decides (test_of self.now day) trail.old.count trail.new.count result }
         ensures counted { trail.new.count ≤ trail.old.count + most };
 }
 
@@ -37,7 +36,7 @@ pub fn first_day<E: Enclosure, T: DayTest<E>>(
 ) -> Result<i64, Fail>
     requires low { negsuc 39999899 ≤ℤ start }
     requires high { start ≤ℤ pos 39999900 }
-    ensures leads { (w : World) → DEPTH ≤ w.depth → Leads w Exact (first_day_from (T.test_of test.now) start) trail.old.count trail.new.count result }
+    ensures leads { Decides (first_day_from (T.test_of test.now) start) trail.old.count trail.new.count result }
     ensures from { IfOk result (λ d. start ≤ℤ d) }
     ensures to { IfOk result (λ d. d ≤ℤ (start +ℤ pos 45)) }
     ensures counted { trail.new.count ≤ trail.old.count + 46 * T.most }

@@ -1,10 +1,11 @@
 //! The tests of enclosures as steps of formulas: each leads to a program of one test.
-ghost use Rattle.std.specs.Prelude.{◌≡◌, ◌≤◌, ◌<◌, ℕ, ℤ, Bool, IfOk, IfErr, IsSome, Some};
+ghost use Rattle.book_model.specs.programs.Calls.{Decides1, Decides2, Follows1};
+ghost use Rattle.std.specs.Prelude.{◌≡◌, ◌<◌, ℤ, IfOk, IfErr, IsSome, Some};
 ghost use Rattle.book_model.specs.numbers.Bounds.{Reach, limits_of};
-ghost use Rattle.book_model.specs.numbers.Expressions.{Expression, World, remainder};
-ghost use Rattle.book_model.specs.programs.Leading.{Leads, Exact, next_turn};
+ghost use Rattle.book_model.specs.numbers.Expressions.{Expression, remainder};
+ghost use Rattle.book_model.specs.programs.Leading.{next_turn};
 ghost use Rattle.book_model.specs.programs.Programs.{answer, cell, compare, integers, multiples, cell_at, compare_at};
-ghost use Rattle.book_model.specs.numbers.Relations.{Within, Narrow};
+ghost use Rattle.book_model.specs.numbers.Relations.{Narrow};
 ghost use Rattle.encl_core.specs.Steps.{IsOpenFloor, IsOpenLess, IsOpenWrap};
 
 use crate::{Enclosure, Trail};
@@ -13,7 +14,7 @@ use book_model::{Fail, Site};
 /// The greatest whole number that is not above an enclosed number, as a test at a site. It fails exactly where the
 /// enclosure leaves the test open, and is never void.
 pub fn floor_step<E: Enclosure>(x: E, site: Site, trail: &mut Trail) -> Result<i64, Fail>
-    ensures leads { (w : World) (e : Expression) → Within E.shown w e x → Leads w Exact (cell site integers e answer) trail.old.count trail.new.count result }
+    ensures leads { Decides1 E.shown (λ e. cell site integers e answer) x trail.old.count trail.new.count result }
     ensures decided { IfOk result (λ q. cell_at integers (E.shown x) ≡ Some q) }
     ensures open { IfErr result (IsOpenFloor (E.shown x) site) }
     ensures counted { trail.new.count ≡ next_turn trail.old.count }
@@ -27,7 +28,7 @@ pub fn floor_step<E: Enclosure>(x: E, site: Site, trail: &mut Trail) -> Result<i
 /// Whether an enclosed number is below another, as a test at a site. It fails exactly where the enclosures leave the
 /// test open, and is never void.
 pub fn less_step<E: Enclosure>(x: E, y: E, site: Site, trail: &mut Trail) -> Result<bool, Fail>
-    ensures leads { (w : World) (e f : Expression) → Within E.shown w e x → Within E.shown w f y → Leads w Exact (compare site e f answer) trail.old.count trail.new.count result }
+    ensures leads { Decides2 E.shown (λ e f. compare site e f answer) x y trail.old.count trail.new.count result }
     ensures decided { IfOk result (λ t. compare_at (E.shown x) (E.shown y) ≡ Some t) }
     ensures open { IfErr result (IsOpenLess (E.shown x) (E.shown y) site) }
     ensures counted { trail.new.count ≡ next_turn trail.old.count }
@@ -42,7 +43,7 @@ pub fn less_step<E: Enclosure>(x: E, y: E, site: Site, trail: &mut Trail) -> Res
 /// fails exactly where the enclosure leaves the test open, and is never void.
 pub fn wrap_step<E: Enclosure>(x: E, modulus: u32, site: Site, trail: &mut Trail) -> Result<E, Fail>
     requires { 0 < modulus }
-    ensures leads { (w : World) (e : Expression) → Within E.shown w e x → Leads w (Within E.shown w) (cell site (multiples modulus) e (λ q. answer (remainder modulus e q))) trail.old.count trail.new.count result }
+    ensures leads { Follows1 E.shown (λ e. cell site (multiples modulus) e (λ q. answer (remainder modulus e q))) x trail.old.count trail.new.count result }
     ensures narrow { IfOk result (λ y. (q : ℤ) (r : Reach) (e : Expression) → Narrow E.shown (limits_of E.BITS) r e x → Narrow E.shown (limits_of E.BITS) r (remainder modulus e q) y) }
     ensures decided { IfOk result (λ y. IsSome (cell_at (multiples modulus) (E.shown x))) }
     ensures open { IfErr result (IsOpenWrap modulus (E.shown x) site) }

@@ -1,16 +1,16 @@
 //! The dynamical time correction of a day, in milliseconds.
-ghost use Rattle.std.specs.Prelude.{◌≡◌, ◌≤◌, ◌+◌, IfOk, IfErr};
+ghost use Rattle.book_model.specs.programs.Calls.{Decides};
+ghost use Rattle.std.specs.Prelude.{◌≤◌, ◌+◌, IfOk, IfErr};
 ghost use Rattle.book_model.specs.numbers.Bounds.{Reach, limits_of};
 ghost use Rattle.book_model.specs.calendars.Gregorian.{year_of_day};
-ghost use Rattle.book_model.specs.numbers.Expressions.{Expression, World, constant, add, scale};
+ghost use Rattle.book_model.specs.numbers.Expressions.{Expression, World};
 ghost use Rattle.book_model.specs.numbers.Fractions.{fraction_of};
 ghost use Rattle.book_model.specs.sky.Facts.{IsFactValue, IsValueDay};
 ghost use Rattle.book_model.specs.sky.Kinds.{dt_of};
 ghost use Rattle.book_model.specs.declared.fact.Kind.TheVariants.{Dt};
-ghost use Rattle.book_model.specs.programs.Leading.{Exact, Leads};
+
 ghost use Rattle.book_model.specs.numbers.Relations.{Within, Narrow};
 ghost use Rattle.fact_eval.specs.Widths.{IsNearFor, IsCloseFor};
-ghost use Rattle.book_model.specs.numbers.Depth.{DEPTH};
 
 use book_model::{Fail, HALF, MILLISECONDS_OF_DAY, Site};
 use encl_core::{Enclosure, Trail, floor_step};
@@ -31,7 +31,7 @@ fn milliseconds<E: Enclosure>(days: E) -> E
 /// may be open.
 pub(crate) fn dt<E: Enclosure>(day: i64, trail: &mut Trail) -> Result<i64, Fail>
     requires day { IsValueDay day }
-    ensures leads { (w : World) → DEPTH ≤ w.depth → Leads w Exact (dt_of day) trail.old.count trail.new.count result }
+    ensures leads { Decides (dt_of day) trail.old.count trail.new.count result }
     ensures counted { trail.new.count ≤ trail.old.count + 2 }
     ensures value { IfOk result IsFactValue }
     ensures open { 36 ≤ E.BITS → E.BITS ≤ 56 → IfErr result (IsNearFor Dt (year_of_day day)) }

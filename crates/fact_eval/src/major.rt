@@ -1,11 +1,11 @@
 //! The major solar term at midnight in Beijing.
-ghost use Rattle.std.specs.Prelude.{◌≡◌, ◌≤◌, ◌+◌, pos, ◌≤ℤ◌, IfOk, IfErr};
+ghost use Rattle.book_model.specs.programs.Calls.{Decides};
+ghost use Rattle.std.specs.Prelude.{◌≤◌, ◌+◌, pos, ◌≤ℤ◌, IfOk, IfErr};
 ghost use Rattle.book_model.specs.calendars.Gregorian.{year_of_day};
-ghost use Rattle.book_model.specs.numbers.Depth.{DEPTH};
-ghost use Rattle.book_model.specs.numbers.Expressions.{World};
+
 ghost use Rattle.book_model.specs.sky.Facts.{IsFactValue, IsValueDay};
 ghost use Rattle.book_model.specs.sky.Kinds.{terms_passed_of, major_of};
-ghost use Rattle.book_model.specs.programs.Leading.{Exact, Leads};
+
 ghost use Rattle.book_model.specs.declared.fact.Kind.TheVariants.{Major};
 ghost use Rattle.fact_eval.specs.Widths.{IsNearFor};
 
@@ -18,7 +18,7 @@ use encl_core::{Enclosure, Trail, floor_step};
 /// Beijing: three tests at most.
 #[tactic(auto, using(book_model::proofs::Leads::leading), unfolding(book_model::specs::sky::Kinds::terms_passed_of, book_model::specs::programs::Leading::next_turn))]
 fn terms_passed<E: Enclosure>(day: i64, trail: &mut Trail) -> Result<i64, Fail>
-    ensures leads { (w : World) → DEPTH ≤ w.depth → Leads w Exact (terms_passed_of day) trail.old.count trail.new.count result }
+    ensures leads { Decides (terms_passed_of day) trail.old.count trail.new.count result }
     ensures from { IfOk result (λ q. pos 0 ≤ℤ q) }
     ensures to { IfOk result (λ q. q ≤ℤ pos 12) }
     ensures counted { trail.new.count ≤ trail.old.count + 3 }
@@ -34,7 +34,7 @@ fn terms_passed<E: Enclosure>(day: i64, trail: &mut Trail) -> Result<i64, Fail>
 #[tactic(auto, using(book_model::proofs::Leads::leading, crate::proofs::Rightness::major_keeps), unfolding(book_model::specs::sky::Kinds::major_of))]
 pub(crate) fn major<E: Enclosure>(day: i64, trail: &mut Trail) -> Result<i64, Fail>
     requires day { IsValueDay day }
-    ensures leads { (w : World) → DEPTH ≤ w.depth → Leads w Exact (major_of day) trail.old.count trail.new.count result }
+    ensures leads { Decides (major_of day) trail.old.count trail.new.count result }
     ensures value { IfOk result IsFactValue }
     ensures counted { trail.new.count ≤ trail.old.count + 3 }
     ensures open { IfErr result (IsNearFor Major (year_of_day day)) }

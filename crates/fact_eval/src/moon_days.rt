@@ -1,13 +1,13 @@
 //! The new moons before and from a day, by the time of Beijing.
-ghost use Rattle.std.specs.Prelude.{◌≡◌, ◌≤◌, ◌+◌, IfOk, IfErr};
+ghost use Rattle.book_model.specs.programs.Calls.{Decides};
+ghost use Rattle.std.specs.Prelude.{◌≤◌, ◌+◌, IfOk, IfErr};
 ghost use Rattle.book_model.specs.calendars.Gregorian.{year_of_day};
-ghost use Rattle.book_model.specs.numbers.Expressions.{World};
+
 ghost use Rattle.book_model.specs.sky.Facts.{IsFactValue, IsValueDay};
 ghost use Rattle.book_model.specs.sky.Kinds.{new_moon_before_of, new_moon_from_of};
-ghost use Rattle.book_model.specs.programs.Leading.{Exact, Leads};
+
 ghost use Rattle.book_model.specs.declared.fact.Kind.TheVariants.{NewMoonBefore, NewMoonFrom};
 ghost use Rattle.fact_eval.specs.Widths.{IsNearFor};
-ghost use Rattle.book_model.specs.numbers.Depth.{DEPTH};
 
 use crate::beijing::day_in_beijing;
 use book_model::Fail;
@@ -18,7 +18,7 @@ use time_scales::midnight;
 /// The day (R.D.) in Beijing of the last new moon before midnight at the beginning of a day there.
 #[tactic(auto, using(book_model::proofs::Leads::leading), unfolding(book_model::specs::sky::Kinds::new_moon_before_of))]
 fn day_of_moon_before<E: Enclosure>(day: i64, trail: &mut Trail) -> Result<i64, Fail>
-    ensures leads { (w : World) → DEPTH ≤ w.depth → Leads w Exact (new_moon_before_of day) trail.old.count trail.new.count result }
+    ensures leads { Decides (new_moon_before_of day) trail.old.count trail.new.count result }
     ensures counted { trail.new.count ≤ trail.old.count + 27 }
 {
     match moon_before(midnight::<E>(day), trail) {
@@ -30,7 +30,7 @@ fn day_of_moon_before<E: Enclosure>(day: i64, trail: &mut Trail) -> Result<i64, 
 /// The day (R.D.) in Beijing of the first new moon at or after midnight at the beginning of a day there.
 #[tactic(auto, using(book_model::proofs::Leads::leading), unfolding(book_model::specs::sky::Kinds::new_moon_from_of))]
 fn day_of_moon_from<E: Enclosure>(day: i64, trail: &mut Trail) -> Result<i64, Fail>
-    ensures leads { (w : World) → DEPTH ≤ w.depth → Leads w Exact (new_moon_from_of day) trail.old.count trail.new.count result }
+    ensures leads { Decides (new_moon_from_of day) trail.old.count trail.new.count result }
     ensures counted { trail.new.count ≤ trail.old.count + 27 }
 {
     match moon_from(midnight::<E>(day), trail) {
@@ -43,7 +43,7 @@ fn day_of_moon_from<E: Enclosure>(day: i64, trail: &mut Trail) -> Result<i64, Fa
 #[tactic(auto, using(crate::proofs::Rightness::new_moon_before_keeps))]
 pub(crate) fn new_moon_before<E: Enclosure>(day: i64, trail: &mut Trail) -> Result<i64, Fail>
     requires day { IsValueDay day }
-    ensures leads { (w : World) → DEPTH ≤ w.depth → Leads w Exact (new_moon_before_of day) trail.old.count trail.new.count result }
+    ensures leads { Decides (new_moon_before_of day) trail.old.count trail.new.count result }
     ensures counted { trail.new.count ≤ trail.old.count + 27 }
     ensures value { IfOk result IsFactValue }
     ensures open { IfErr result (IsNearFor NewMoonBefore (year_of_day day)) }
@@ -55,7 +55,7 @@ pub(crate) fn new_moon_before<E: Enclosure>(day: i64, trail: &mut Trail) -> Resu
 #[tactic(auto, using(crate::proofs::Rightness::new_moon_from_keeps))]
 pub(crate) fn new_moon_from<E: Enclosure>(day: i64, trail: &mut Trail) -> Result<i64, Fail>
     requires day { IsValueDay day }
-    ensures leads { (w : World) → DEPTH ≤ w.depth → Leads w Exact (new_moon_from_of day) trail.old.count trail.new.count result }
+    ensures leads { Decides (new_moon_from_of day) trail.old.count trail.new.count result }
     ensures counted { trail.new.count ≤ trail.old.count + 27 }
     ensures value { IfOk result IsFactValue }
     ensures open { IfErr result (IsNearFor NewMoonFrom (year_of_day day)) }

@@ -1,11 +1,11 @@
 //! The first day of a Persian year.
+ghost use Rattle.book_model.specs.programs.Calls.{Decides};
 ghost use Rattle.std.specs.Prelude.{◌≤◌, ◌+◌, IfOk, IfErr};
 ghost use Rattle.book_model.specs.calendars.Gregorian.{year_of_day};
-ghost use Rattle.book_model.specs.numbers.Depth.{DEPTH};
-ghost use Rattle.book_model.specs.numbers.Expressions.{World};
+
 ghost use Rattle.book_model.specs.sky.Facts.{IsFactValue, IsValueDay};
 ghost use Rattle.book_model.specs.sky.Kinds.{nowruz_of};
-ghost use Rattle.book_model.specs.programs.Leading.{Exact, Leads};
+
 ghost use Rattle.book_model.specs.sky.Noon.{noon_of};
 ghost use Rattle.book_model.specs.declared.fact.Kind.TheVariants.{Nowruz};
 ghost use Rattle.fact_eval.specs.Widths.{IsNearFor};
@@ -35,7 +35,7 @@ impl<E: Enclosure> DayMoment<E> for NoonAtTehran {
 #[tactic(auto, using(crate::proofs::Rightness::nowruz_keeps))]
 pub(crate) fn nowruz<E: Enclosure>(day: i64, trail: &mut Trail) -> Result<i64, Fail>
     requires day { IsValueDay day }
-    ensures leads { (w : World) → DEPTH ≤ w.depth → Leads w Exact (nowruz_of day) trail.old.count trail.new.count result }
+    ensures leads { Decides (nowruz_of day) trail.old.count trail.new.count result }
     ensures value { IfOk result IsFactValue }
     ensures counted { trail.new.count ≤ trail.old.count + 192 }
     ensures open { IfErr result (IsNearFor Nowruz (year_of_day day)) }

@@ -1,11 +1,11 @@
 //! The days of new moon, first quarter, full moon and last quarter, and of the first sight of the crescent.
+ghost use Rattle.book_model.specs.programs.Calls.{Decides};
 ghost use Rattle.std.specs.Prelude.{◌≡◌, ◌≤◌, IfOk, IfErr};
 ghost use Rattle.book_model.specs.sky.Crescent.{phasis_of};
-ghost use Rattle.book_model.specs.numbers.Depth.{DEPTH};
-ghost use Rattle.book_model.specs.numbers.Expressions.{World};
+
 ghost use Rattle.book_model.specs.sky.Facts.{IsFactValue, IsValueDay};
 ghost use Rattle.book_model.specs.sky.Kinds.{location_of as location_at};
-ghost use Rattle.book_model.specs.programs.Leading.{Exact, Leads};
+
 ghost use Rattle.book_model.specs.sky.Phases.{phase_day_of};
 ghost use Rattle.time_scales.specs.Steps.{IsNoEarlyYear};
 
@@ -18,7 +18,7 @@ use encl_core::{Enclosure, Trail};
 #[tactic(auto, using(crate::proofs::Rightness::phase_day_is_value))]
 pub(crate) fn phase_day<E: Enclosure>(phase: i64, day: i64, trail: &mut Trail) -> Result<i64, Fail>
     requires day { IsValueDay day }
-    ensures leads { (w : World) → DEPTH ≤ w.depth → Leads w Exact (phase_day_of phase day) trail.old.count trail.new.count result }
+    ensures leads { Decides (phase_day_of phase day) trail.old.count trail.new.count result }
     ensures value { IfOk result IsFactValue }
     ensures early { trail.old.count ≡ 0 → 36 ≤ E.BITS → E.BITS ≤ 56 → IfErr result IsNoEarlyYear }
 {
@@ -29,7 +29,7 @@ pub(crate) fn phase_day<E: Enclosure>(phase: i64, day: i64, trail: &mut Trail) -
 /// tests at most.
 pub(crate) fn phasis<E: Enclosure>(place: Place, day: i64, trail: &mut Trail) -> Result<i64, Fail>
     requires day { IsValueDay day }
-    ensures leads { (w : World) → DEPTH ≤ w.depth → Leads w Exact (phasis_of (location_at place) day) trail.old.count trail.new.count result }
+    ensures leads { Decides (phasis_of (location_at place) day) trail.old.count trail.new.count result }
     ensures value { IfOk result IsFactValue }
     ensures early { trail.old.count ≡ 0 → 36 ≤ E.BITS → E.BITS ≤ 56 → IfErr result IsNoEarlyYear }
 {

@@ -1,10 +1,10 @@
 //! The days in Beijing of the next major and minor solar terms.
+ghost use Rattle.book_model.specs.programs.Calls.{Decides};
 ghost use Rattle.std.specs.Prelude.{◌≡◌, ◌≤◌, ◌+◌, pos, ◌≤ℤ◌, IfOk};
-ghost use Rattle.book_model.specs.numbers.Depth.{DEPTH};
-ghost use Rattle.book_model.specs.numbers.Expressions.{World};
+
 ghost use Rattle.book_model.specs.sky.Facts.{IsFactValue, IsValueDay};
 ghost use Rattle.book_model.specs.sky.Kinds as spec;
-ghost use Rattle.book_model.specs.programs.Leading.{Exact, Leads};
+
 ghost use Rattle.fact_eval.specs.Spans.{IsSpan};
 
 use crate::beijing::{day_in_beijing, longitude_at_midnight};
@@ -21,7 +21,7 @@ const TERM_DEGREES: i64 = 30;
 /// Beijing: three tests at most.
 #[tactic(auto, using(book_model::proofs::Leads::leading), unfolding(book_model::specs::sky::Kinds::spans_short_of, book_model::specs::programs::Leading::next_turn))]
 fn floor_of_spans<E: Enclosure>(longitude: i64, day: i64, trail: &mut Trail) -> Result<i64, Fail>
-    ensures leads { (w : World) → DEPTH ≤ w.depth → Leads w Exact (spec.spans_short_of longitude day) trail.old.count trail.new.count result }
+    ensures leads { Decides (spec.spans_short_of longitude day) trail.old.count trail.new.count result }
     ensures counted { trail.new.count ≤ trail.old.count + 3 }
 {
     match longitude_at_midnight::<E>(day, trail) {
@@ -37,7 +37,7 @@ fn floor_of_spans<E: Enclosure>(longitude: i64, day: i64, trail: &mut Trail) -> 
 fn spans_short<E: Enclosure>(first: i64, day: i64, trail: &mut Trail) -> Result<i64, Fail>
     requires from { pos 0 ≤ℤ first }
     requires to { first ≤ℤ pos 15 }
-    ensures leads { (w : World) → DEPTH ≤ w.depth → Leads w Exact (spec.spans_short_of first day) trail.old.count trail.new.count result }
+    ensures leads { Decides (spec.spans_short_of first day) trail.old.count trail.new.count result }
     ensures near { IfOk result IsSpan }
     ensures counted { trail.new.count ≤ trail.old.count + 3 }
 {
@@ -58,7 +58,7 @@ fn term_longitude(first: i64, spans: i64) -> i64
 /// The day (R.D.) in Beijing on which the sun is next at a longitude, in degrees, once a day has begun there: 326 tests at most.
 #[tactic(auto, using(book_model::proofs::Leads::leading), unfolding(book_model::specs::sky::Kinds::longitude_day_of))]
 fn longitude_day<E: Enclosure>(longitude: i64, day: i64, trail: &mut Trail) -> Result<i64, Fail>
-    ensures leads { (w : World) → DEPTH ≤ w.depth → Leads w Exact (spec.longitude_day_of longitude day) trail.old.count trail.new.count result }
+    ensures leads { Decides (spec.longitude_day_of longitude day) trail.old.count trail.new.count result }
     ensures counted { trail.new.count ≤ trail.old.count + 326 }
 {
     match sun_from(E::from_int(longitude), midnight::<E>(day), trail) {
@@ -72,7 +72,7 @@ fn longitude_day<E: Enclosure>(longitude: i64, day: i64, trail: &mut Trail) -> R
 fn next_term_day<E: Enclosure>(first: i64, day: i64, trail: &mut Trail) -> Result<i64, Fail>
     requires from { pos 0 ≤ℤ first }
     requires to { first ≤ℤ pos 15 }
-    ensures leads { (w : World) → DEPTH ≤ w.depth → Leads w Exact (spec.term_day_of first day) trail.old.count trail.new.count result }
+    ensures leads { Decides (spec.term_day_of first day) trail.old.count trail.new.count result }
     ensures counted { trail.new.count ≤ trail.old.count + 329 }
 {
     match spans_short::<E>(first, day, trail) {
@@ -87,7 +87,7 @@ pub(crate) fn term_day<E: Enclosure>(first: i64, day: i64, trail: &mut Trail) ->
     requires from { pos 0 ≤ℤ first }
     requires to { first ≤ℤ pos 15 }
     requires day { IsValueDay day }
-    ensures leads { (w : World) → DEPTH ≤ w.depth → Leads w Exact (spec.term_day_of first day) trail.old.count trail.new.count result }
+    ensures leads { Decides (spec.term_day_of first day) trail.old.count trail.new.count result }
     ensures value { IfOk result IsFactValue }
 {
     next_term_day::<E>(first, day, trail)

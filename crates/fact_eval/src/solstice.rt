@@ -1,12 +1,11 @@
 //! The day of the last winter solstice in Beijing.
-ghost use Rattle.std.specs.Prelude.{◌≡◌, ◌≤◌, ◌+◌, pos, ◌≤ℤ◌, ◌+ℤ◌, ◌-ℤ◌, ℤ, IfOk, IfErr};
+ghost use Rattle.book_model.specs.programs.Calls.{Decides, Decides1, Follows};
+ghost use Rattle.std.specs.Prelude.{◌≤◌, ◌+◌, pos, ◌≤ℤ◌, ◌+ℤ◌, ◌-ℤ◌, ℤ, IfOk, IfErr};
 ghost use Rattle.book_model.specs.calendars.Gregorian.{year_of_day};
-ghost use Rattle.book_model.specs.numbers.Depth.{DEPTH};
-ghost use Rattle.book_model.specs.numbers.Expressions.{Expression, World};
+
 ghost use Rattle.book_model.specs.sky.Facts.{IsFactDay, IsFactValue, IsValueDay};
 ghost use Rattle.book_model.specs.sky.Kinds.{is_past_winter_of, has_winter_at_end, last_solstice_of, solstice_start_of, solstice_of};
-ghost use Rattle.book_model.specs.programs.Leading.{Exact, Leads};
-ghost use Rattle.book_model.specs.numbers.Relations.{Within};
+
 ghost use Rattle.book_model.specs.declared.fact.Kind.TheVariants.{Solstice};
 ghost use Rattle.fact_eval.specs.Widths.{IsNearFor};
 
@@ -25,7 +24,7 @@ struct WinterAtEnd;
 /// Whether a longitude is past the winter solstice, as one test.
 #[tactic(auto, using(book_model::proofs::Leads::leading), unfolding(book_model::specs::sky::Kinds::is_past_winter_of, book_model::specs::programs::Leading::next_turn))]
 fn is_past_winter<E: Enclosure>(longitude: E, trail: &mut Trail) -> Result<bool, Fail>
-    ensures leads { (w : World) (x : Expression) → DEPTH ≤ w.depth → Within E.shown w x longitude → Leads w Exact (is_past_winter_of x) trail.old.count trail.new.count result }
+    ensures leads { Decides1 E.shown is_past_winter_of longitude trail.old.count trail.new.count result }
     ensures counted { trail.new.count ≤ trail.old.count + 1 }
 {
     less_step(E::from_int(WINTER), longitude, Site::DayTest, trail)
@@ -35,7 +34,7 @@ fn is_past_winter<E: Enclosure>(longitude: E, trail: &mut Trail) -> Result<bool,
 #[tactic(auto, using(book_model::proofs::Leads::leading), unfolding(book_model::specs::sky::Kinds::has_winter_at_end, book_model::specs::programs::Leading::next_turn))]
 fn has_winter<E: Enclosure>(day: i64, trail: &mut Trail) -> Result<bool, Fail>
     requires day { IsFactDay day }
-    ensures leads { (w : World) → DEPTH ≤ w.depth → Leads w Exact (has_winter_at_end day) trail.old.count trail.new.count result }
+    ensures leads { Decides (has_winter_at_end day) trail.old.count trail.new.count result }
     ensures counted { trail.new.count ≤ trail.old.count + 3 }
 {
     match longitude_at_midnight::<E>(day + 1, trail) {
@@ -59,7 +58,7 @@ impl<E: Enclosure> DayTest<E> for WinterAtEnd {
 #[tactic(auto, using(book_model::proofs::Leads::leading), unfolding(book_model::specs::sky::Kinds::last_solstice_of, book_model::specs::programs::Leading::next_turn))]
 fn last_solstice<E: Enclosure>(day: i64, trail: &mut Trail) -> Result<E, Fail>
     requires day { IsFactDay day }
-    ensures leads { (w : World) → DEPTH ≤ w.depth → Leads w (Within E.shown w) (last_solstice_of day) trail.old.count trail.new.count result }
+    ensures leads { Follows E.shown (last_solstice_of day) trail.old.count trail.new.count result }
     ensures counted { trail.new.count ≤ trail.old.count + 6 }
 {
     estimate(E::from_int(WINTER), midnight::<E>(day + 1), trail)
@@ -70,7 +69,7 @@ fn last_solstice<E: Enclosure>(day: i64, trail: &mut Trail) -> Result<E, Fail>
 #[tactic(auto, using(book_model::proofs::Leads::leading), unfolding(book_model::specs::sky::Kinds::solstice_start_of, book_model::specs::programs::Leading::next_turn))]
 fn search_start<E: Enclosure>(day: i64, trail: &mut Trail) -> Result<i64, Fail>
     requires day { IsValueDay day }
-    ensures leads { (w : World) → DEPTH ≤ w.depth → Leads w Exact (solstice_start_of day) trail.old.count trail.new.count result }
+    ensures leads { Decides (solstice_start_of day) trail.old.count trail.new.count result }
     ensures from { IfOk result (λ q. (day -ℤ pos 600) ≤ℤ q) }
     ensures to { IfOk result (λ q. q ≤ℤ (day +ℤ pos 2)) }
     ensures counted { trail.new.count ≤ trail.old.count + 7 }
@@ -86,7 +85,7 @@ fn search_start<E: Enclosure>(day: i64, trail: &mut Trail) -> Result<i64, Fail>
 #[tactic(auto, using(book_model::proofs::Leads::leading, crate::proofs::Rightness::solstice_keeps), unfolding(book_model::specs::sky::Kinds::solstice_of))]
 pub(crate) fn solstice<E: Enclosure>(day: i64, trail: &mut Trail) -> Result<i64, Fail>
     requires day { IsValueDay day }
-    ensures leads { (w : World) → DEPTH ≤ w.depth → Leads w Exact (solstice_of day) trail.old.count trail.new.count result }
+    ensures leads { Decides (solstice_of day) trail.old.count trail.new.count result }
     ensures value { IfOk result IsFactValue }
     ensures counted { trail.new.count ≤ trail.old.count + 145 }
     ensures open { IfErr result (IsNearFor Solstice (year_of_day day)) }

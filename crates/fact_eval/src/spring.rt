@@ -1,12 +1,12 @@
 //! The day by whose moment, as true noon or sunset at a place, the sun has just passed the spring equinox: the first of a year.
-ghost use Rattle.std.specs.Prelude.{◌≡◌, ◌≤◌, ◌+◌, ◌*◌, pos, negsuc, ◌≤ℤ◌, ◌+ℤ◌, ◌-ℤ◌, ℕ, ℤ, Bool, IfOk};
-ghost use Rattle.book_model.specs.numbers.Depth.{DEPTH};
-ghost use Rattle.book_model.specs.numbers.Expressions.{Expression, World};
+ghost use Rattle.book_model.specs.programs.Calls.{Decides, Decides1, Follows};
+ghost use Rattle.std.specs.Prelude.{◌≤◌, ◌+◌, ◌*◌, pos, negsuc, ◌≤ℤ◌, ℕ, ℤ, IfOk};
+
+ghost use Rattle.book_model.specs.numbers.Expressions.{Expression};
 ghost use Rattle.book_model.specs.sky.Facts.{IsFactDay, IsFactValue, IsValueDay};
 ghost use Rattle.book_model.specs.sky.Kinds.{longitude_at_of, is_at_most_two_of, has_spring_at, last_equinox_of, search_start_of, spring_day_of};
-ghost use Rattle.book_model.specs.programs.Leading.{Exact, Leads};
+
 ghost use Rattle.book_model.specs.programs.Programs.{Program};
-ghost use Rattle.book_model.specs.numbers.Relations.{Within};
 
 use book_model::{Fail, Site};
 use encl_core::{DayTest, Enclosure, Trail, first_day, floor_step, less_step};
@@ -23,7 +23,7 @@ pub(crate) trait DayMoment<E: Enclosure>: Copy {
     /// The moment of a day (R.D.), in universal time. It makes the tests of its formula, and fails where that does.
     fn at(self, day: i64, trail: &mut Trail) -> Result<E, Fail>
         requires day { IsFactDay day }
-        ensures leads { (w : World) → DEPTH ≤ w.depth → Leads w (Within E.shown w) (moment_of day) trail.old.count trail.new.count result }
+        ensures leads { Follows E.shown (moment_of day) trail.old.count trail.new.count result }
         ensures counted { trail.new.count ≤ trail.old.count + most };
 }
 
@@ -42,7 +42,7 @@ fn longitude_at<E: Enclosure, M: DayMoment<E>>(
     trail: &mut Trail,
 ) -> Result<E, Fail>
     requires day { IsFactDay day }
-    ensures leads { (w : World) → DEPTH ≤ w.depth → Leads w (Within E.shown w) (longitude_at_of M.moment_of day) trail.old.count trail.new.count result }
+    ensures leads { Follows E.shown (longitude_at_of M.moment_of day) trail.old.count trail.new.count result }
     ensures counted { trail.new.count ≤ trail.old.count + M.most + 2 }
 {
     match moment.at(day, trail) {
@@ -54,7 +54,7 @@ fn longitude_at<E: Enclosure, M: DayMoment<E>>(
 /// Whether a longitude is at most 2 degrees, as one test.
 #[tactic(auto, using(book_model::proofs::Leads::leading), unfolding(book_model::specs::sky::Kinds::is_at_most_two_of, book_model::specs::programs::Leading::next_turn))]
 fn is_at_most_two<E: Enclosure>(longitude: E, trail: &mut Trail) -> Result<bool, Fail>
-    ensures leads { (w : World) (x : Expression) → DEPTH ≤ w.depth → Within E.shown w x longitude → Leads w Exact (is_at_most_two_of x) trail.old.count trail.new.count result }
+    ensures leads { Decides1 E.shown is_at_most_two_of longitude trail.old.count trail.new.count result }
     ensures counted { trail.new.count ≤ trail.old.count + 1 }
 {
     match less_step(E::from_int(2), longitude, Site::DayTest, trail) {
@@ -71,7 +71,7 @@ fn has_spring<E: Enclosure, M: DayMoment<E>>(
     trail: &mut Trail,
 ) -> Result<bool, Fail>
     requires day { IsFactDay day }
-    ensures leads { (w : World) → DEPTH ≤ w.depth → Leads w Exact (has_spring_at M.moment_of day) trail.old.count trail.new.count result }
+    ensures leads { Decides (has_spring_at M.moment_of day) trail.old.count trail.new.count result }
     ensures counted { trail.new.count ≤ trail.old.count + M.most + 3 }
 {
     match longitude_at::<E, M>(moment, day, trail) {
@@ -98,7 +98,7 @@ fn last_equinox<E: Enclosure, M: DayMoment<E>>(
     trail: &mut Trail,
 ) -> Result<E, Fail>
     requires day { IsFactDay day }
-    ensures leads { (w : World) → DEPTH ≤ w.depth → Leads w (Within E.shown w) (last_equinox_of M.moment_of day) trail.old.count trail.new.count result }
+    ensures leads { Follows E.shown (last_equinox_of M.moment_of day) trail.old.count trail.new.count result }
     ensures counted { trail.new.count ≤ trail.old.count + M.most + 6 }
 {
     match moment.at(day, trail) {
@@ -115,7 +115,7 @@ fn search_start<E: Enclosure, M: DayMoment<E>>(
     trail: &mut Trail,
 ) -> Result<i64, Fail>
     requires day { IsValueDay day }
-    ensures leads { (w : World) → DEPTH ≤ w.depth → Leads w Exact (search_start_of M.moment_of day) trail.old.count trail.new.count result }
+    ensures leads { Decides (search_start_of M.moment_of day) trail.old.count trail.new.count result }
     ensures from { IfOk result (λ q. negsuc 183199 ≤ℤ q) }
     ensures to { IfOk result (λ q. q ≤ℤ pos 748748) }
     ensures counted { trail.new.count ≤ trail.old.count + M.most + 7 }
@@ -136,7 +136,7 @@ pub(crate) fn spring_day<E: Enclosure, M: DayMoment<E>>(
     trail: &mut Trail,
 ) -> Result<i64, Fail>
     requires day { IsValueDay day }
-    ensures leads { (w : World) → DEPTH ≤ w.depth → Leads w Exact (spring_day_of M.moment_of day) trail.old.count trail.new.count result }
+    ensures leads { Decides (spring_day_of M.moment_of day) trail.old.count trail.new.count result }
     ensures value { IfOk result IsFactValue }
     ensures counted { trail.new.count ≤ trail.old.count + 47 * M.most + 145 }
 {

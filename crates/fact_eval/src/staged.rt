@@ -1,15 +1,15 @@
 //! The evaluator of the program: each fact's formula over enclosures.
+ghost use Rattle.book_model.specs.programs.Calls.{Decides};
 ghost use Rattle.std.specs.Prelude.{◌≡◌, ◌≤◌, IfOk, IfErr, IsTrue};
 ghost use Rattle.book_model.specs.declared.fact.TheConstants.{FIRST_DAY as first_day, LAST_DAY as last_day};
 ghost use Rattle.book_model.specs.calendars.Gregorian.{year_of_day};
 ghost use Rattle.book_model.specs.sky.Correction.{is_between};
-ghost use Rattle.book_model.specs.numbers.Expressions.{World};
+
 ghost use Rattle.book_model.specs.sky.Facts.{IsFactValue, IsValueDay, formula_of, program_of};
-ghost use Rattle.book_model.specs.programs.Leading.{Exact, Leads};
+
 ghost use Rattle.oracle_core.specs.Answers.{IsRightAnswer};
 ghost use Rattle.fact_eval.specs.Answers.{answer_of};
 ghost use Rattle.fact_eval.specs.Widths.{IsNearFor};
-ghost use Rattle.book_model.specs.numbers.Depth.{DEPTH};
 
 use crate::dt::dt;
 use crate::major::major;
@@ -43,7 +43,7 @@ impl Staged {
 #[tactic(auto, using(crate::proofs::Rightness::keeping), unfolding(book_model::specs::sky::Facts::formula_of))]
 fn formula<E: Enclosure>(kind: Kind, place: Place, day: i64, trail: &mut Trail) -> Result<i64, Fail>
     requires day { IsValueDay day }
-    ensures leads { (w : World) → DEPTH ≤ w.depth → Leads w Exact (formula_of kind place day) trail.old.count trail.new.count result }
+    ensures leads { Decides (formula_of kind place day) trail.old.count trail.new.count result }
     ensures value { IfOk result IsFactValue }
     ensures open { trail.old.count ≡ 0 → 36 ≤ E.BITS → E.BITS ≤ 56 → IfErr result (IsNearFor kind (year_of_day day)) }
 {
@@ -84,7 +84,7 @@ fn may_have_value(day: i64) -> bool
 
 /// The value of a fact by its formula. It fails where a test is open, or where the formula is void.
 pub(crate) fn evaluate<E: Enclosure>(fact: Fact, trail: &mut Trail) -> Result<i64, Fail>
-    ensures leads { (w : World) → DEPTH ≤ w.depth → Leads w Exact (program_of fact) trail.old.count trail.new.count result }
+    ensures leads { Decides (program_of fact) trail.old.count trail.new.count result }
     ensures value { IfOk result IsFactValue }
     ensures open { trail.old.count ≡ 0 → 36 ≤ E.BITS → E.BITS ≤ 56 → IfErr result (IsNearFor fact.kind (year_of_day fact.day)) }
 {

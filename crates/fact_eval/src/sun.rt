@@ -1,13 +1,13 @@
 //! The longitude of the sun at the beginning of a day.
-ghost use Rattle.std.specs.Prelude.{◌≡◌, ◌≤◌, ◌+◌, IfOk, IfErr};
+ghost use Rattle.book_model.specs.programs.Calls.{Decides};
+ghost use Rattle.std.specs.Prelude.{◌≤◌, ◌+◌, IfOk, IfErr};
 ghost use Rattle.book_model.specs.calendars.Gregorian.{year_of_day};
-ghost use Rattle.book_model.specs.numbers.Expressions.{World};
+
 ghost use Rattle.book_model.specs.sky.Facts.{IsFactValue, IsValueDay};
 ghost use Rattle.book_model.specs.sky.Kinds.{sun_in_thousandths_of};
 ghost use Rattle.book_model.specs.declared.fact.Kind.TheVariants.{Sun};
-ghost use Rattle.book_model.specs.programs.Leading.{Exact, Leads};
+
 ghost use Rattle.fact_eval.specs.Widths.{IsNearFor};
-ghost use Rattle.book_model.specs.numbers.Depth.{DEPTH};
 
 use book_model::{Fail, Site, THOUSANDTHS_OF_DEGREE};
 use encl_core::{Enclosure, Trail, floor_step};
@@ -18,7 +18,7 @@ use sun_core::sun;
 #[tactic(auto, using(book_model::proofs::Leads::leading), unfolding(book_model::specs::sky::Kinds::sun_in_thousandths_of, book_model::specs::programs::Leading::next_turn))]
 pub(crate) fn sun_in_thousandths<E: Enclosure>(day: i64, trail: &mut Trail) -> Result<i64, Fail>
     requires day { IsValueDay day }
-    ensures leads { (w : World) → DEPTH ≤ w.depth → Leads w Exact (sun_in_thousandths_of day) trail.old.count trail.new.count result }
+    ensures leads { Decides (sun_in_thousandths_of day) trail.old.count trail.new.count result }
     ensures counted { trail.new.count ≤ trail.old.count + 3 }
     ensures value { IfOk result IsFactValue }
     ensures open { 36 ≤ E.BITS → E.BITS ≤ 56 → IfErr result (IsNearFor Sun (year_of_day day)) }

@@ -1,14 +1,13 @@
 //! The first day of a Bahá'í year, and sunset in minutes.
-ghost use Rattle.std.specs.Prelude.{◌≡◌, ◌≤◌, ◌+◌, ℤ, IfOk, IfErr};
+ghost use Rattle.book_model.specs.programs.Calls.{Decides, Decides1, Holds1};
+ghost use Rattle.std.specs.Prelude.{◌≡◌, ◌≤◌, ◌+◌, IfOk, IfErr};
 ghost use Rattle.book_model.specs.calendars.Gregorian.{year_of_day};
 ghost use Rattle.book_model.specs.sky.Correction.{rounded_of};
-ghost use Rattle.book_model.specs.numbers.Depth.{DEPTH};
-ghost use Rattle.book_model.specs.numbers.Expressions.{Expression, World};
+
 ghost use Rattle.book_model.specs.sky.Facts.{IsFactValue, IsValueDay};
 ghost use Rattle.book_model.specs.sky.Horizon.{sunset_of};
 ghost use Rattle.book_model.specs.sky.Kinds.{bahai_year_of, location_of as location_at, minutes_of, sunset_in_minutes_of};
-ghost use Rattle.book_model.specs.programs.Leading.{Exact, Leads};
-ghost use Rattle.book_model.specs.numbers.Relations.{Within};
+
 ghost use Rattle.book_model.specs.declared.fact.Kind.TheVariants.{BahaiYear, Sunset};
 ghost use Rattle.book_model.specs.declared.location_tables.TheConstants.{TEHRAN as tehran};
 ghost use Rattle.fact_eval.specs.Widths.{IsNearFor};
@@ -37,7 +36,7 @@ impl<E: Enclosure> DayMoment<E> for SunsetAtTehran {
 #[tactic(auto, using(crate::proofs::Rightness::bahai_year_keeps))]
 pub(crate) fn bahai_year<E: Enclosure>(day: i64, trail: &mut Trail) -> Result<i64, Fail>
     requires day { IsValueDay day }
-    ensures leads { (w : World) → DEPTH ≤ w.depth → Leads w Exact (bahai_year_of day) trail.old.count trail.new.count result }
+    ensures leads { Decides (bahai_year_of day) trail.old.count trail.new.count result }
     ensures value { IfOk result IsFactValue }
     ensures counted { trail.new.count ≤ trail.old.count + 6349 }
     ensures open { IfErr result (IsNearFor BahaiYear (year_of_day day)) }
@@ -59,7 +58,7 @@ pub(crate) fn location_of(place: Place) -> Location
 /// A moment of universal time on a day (R.D.) as minutes of the standard time of a location after midnight.
 #[tactic(auto, unfolding(book_model::specs::sky::Kinds::minutes_of))]
 fn minutes<E: Enclosure>(location: &Location, day: i64, t: E) -> E
-    ensures holds { (w : World) (x : Expression) → DEPTH ≤ w.depth → Within E.shown w x t → Within E.shown w (minutes_of location.now day x) result }
+    ensures holds { Holds1 E.shown (minutes_of location.now day) t result }
 {
     t.add(E::from_frac(location.zone).mul_frac(HOUR))
         .sub(E::from_int(day))
@@ -69,7 +68,7 @@ fn minutes<E: Enclosure>(location: &Location, day: i64, t: E) -> E
 /// A number rounded, the greater of two: one test.
 #[tactic(auto, using(book_model::proofs::Leads::leading), unfolding(book_model::specs::sky::Correction::rounded_of, book_model::specs::programs::Leading::next_turn))]
 fn rounded<E: Enclosure>(number: E, trail: &mut Trail) -> Result<i64, Fail>
-    ensures leads { (w : World) (x : Expression) → DEPTH ≤ w.depth → Within E.shown w x number → Leads w Exact (rounded_of x) trail.old.count trail.new.count result }
+    ensures leads { Decides1 E.shown rounded_of number trail.old.count trail.new.count result }
     ensures counted { trail.new.count ≤ trail.old.count + 1 }
 {
     floor_step(number.add(E::from_frac(HALF)), Site::Round, trail)
@@ -82,7 +81,7 @@ fn minutes_of_sunset<E: Enclosure>(
     day: i64,
     trail: &mut Trail,
 ) -> Result<i64, Fail>
-    ensures leads { (w : World) → DEPTH ≤ w.depth → Leads w Exact (sunset_in_minutes_of location.now day) trail.old.count trail.new.count result }
+    ensures leads { Decides (sunset_in_minutes_of location.now day) trail.old.count trail.new.count result }
     ensures counted { trail.new.count ≤ trail.old.count + 133 }
 {
     match sunset::<E>(location, day, trail) {
@@ -100,7 +99,7 @@ pub(crate) fn sunset_in_minutes<E: Enclosure>(
     trail: &mut Trail,
 ) -> Result<i64, Fail>
     requires day { IsValueDay day }
-    ensures leads { (w : World) → DEPTH ≤ w.depth → Leads w Exact (sunset_in_minutes_of (location_at place) day) trail.old.count trail.new.count result }
+    ensures leads { Decides (sunset_in_minutes_of (location_at place) day) trail.old.count trail.new.count result }
     ensures value { IfOk result IsFactValue }
     ensures counted { trail.new.count ≤ trail.old.count + 133 }
     ensures open { IfErr result (IsNearFor Sunset (year_of_day day)) }

@@ -1,12 +1,11 @@
 //! What the Hindu calendars ask of a day, by sunrise and sunset at Ujjain.
-ghost use Rattle.std.specs.Prelude.{◌≡◌, ◌≤◌, ◌+◌, ◌-ℤ◌, ◌+ℤ◌, pos, negsuc, ◌≤ℤ◌, ℤ, Bool, IfOk, IfErr};
+ghost use Rattle.book_model.specs.programs.Calls.{Decides, Decides1};
+ghost use Rattle.std.specs.Prelude.{◌≡◌, ◌≤◌, ◌+◌, ◌-ℤ◌, pos, ◌≤ℤ◌, ℤ, IfOk, IfErr};
 ghost use Rattle.std.specs.Ordering.{int_eq};
-ghost use Rattle.book_model.specs.numbers.Depth.{DEPTH};
-ghost use Rattle.book_model.specs.numbers.Expressions.{Expression, World};
+
 ghost use Rattle.book_model.specs.sky.Facts.{IsFactValue, IsValueDay};
 ghost use Rattle.book_model.specs.sky.HinduFacts as spec;
-ghost use Rattle.book_model.specs.programs.Leading.{Exact, Leads};
-ghost use Rattle.book_model.specs.numbers.Relations.{Within};
+
 ghost use Rattle.book_model.specs.programs.Searches.{first_day_from};
 ghost use Rattle.hindu_sky.specs.Counts.{IsDegree, IsLunarDay};
 ghost use Rattle.time_scales.specs.Steps.{IsNoEarlyYear};
@@ -21,7 +20,7 @@ use rise_set::{hsunset, sunrise};
 /// The sign of the zodiac in which the sun stands at sunset on a day (R.D.): 137 tests at most.
 #[tactic(auto, using(book_model::proofs::Leads::leading), unfolding(book_model::specs::sky::HinduFacts::sign_at_sunset_of))]
 fn sign_by_sunset<E: Enclosure>(day: i64, trail: &mut Trail) -> Result<i64, Fail>
-    ensures leads { (w : World) → DEPTH ≤ w.depth → Leads w Exact (spec.sign_at_sunset_of day) trail.old.count trail.new.count result }
+    ensures leads { Decides (spec.sign_at_sunset_of day) trail.old.count trail.new.count result }
     ensures from { IfOk result (λ g. pos 1 ≤ℤ g) }
     ensures to { IfOk result (λ g. g ≤ℤ pos 13) }
     ensures counted { trail.new.count ≤ trail.old.count + 137 }
@@ -42,7 +41,7 @@ fn sign_by_sunset<E: Enclosure>(day: i64, trail: &mut Trail) -> Result<i64, Fail
 /// ```
 pub fn sign_at_sunset<E: Enclosure>(day: i64, trail: &mut Trail) -> Result<i64, Fail>
     requires day { IsValueDay day }
-    ensures leads { (w : World) → DEPTH ≤ w.depth → Leads w Exact (spec.sign_at_sunset_of day) trail.old.count trail.new.count result }
+    ensures leads { Decides (spec.sign_at_sunset_of day) trail.old.count trail.new.count result }
     ensures value { IfOk result IsFactValue }
 {
     sign_by_sunset::<E>(day, trail)
@@ -51,7 +50,7 @@ pub fn sign_at_sunset<E: Enclosure>(day: i64, trail: &mut Trail) -> Result<i64, 
 /// The year of the Kali Yuga at sunset on a day (R.D.).
 #[tactic(auto, using(book_model::proofs::Leads::leading), unfolding(book_model::specs::sky::HinduFacts::year_at_sunset_of))]
 fn year_by_sunset<E: Enclosure>(day: i64, trail: &mut Trail) -> Result<i64, Fail>
-    ensures leads { (w : World) → DEPTH ≤ w.depth → Leads w Exact (spec.year_at_sunset_of day) trail.old.count trail.new.count result }
+    ensures leads { Decides (spec.year_at_sunset_of day) trail.old.count trail.new.count result }
 {
     match hsunset::<E>(day, trail) {
         Ok(t) => hindu_year(t, trail),
@@ -67,7 +66,7 @@ fn year_by_sunset<E: Enclosure>(day: i64, trail: &mut Trail) -> Result<i64, Fail
 /// ```
 pub fn solar_year<E: Enclosure>(day: i64, trail: &mut Trail) -> Result<i64, Fail>
     requires day { IsValueDay day }
-    ensures leads { (w : World) → DEPTH ≤ w.depth → Leads w Exact (spec.year_at_sunset_of day) trail.old.count trail.new.count result }
+    ensures leads { Decides (spec.year_at_sunset_of day) trail.old.count trail.new.count result }
     ensures value { IfOk result IsFactValue }
 {
     year_by_sunset::<E>(day, trail)
@@ -116,7 +115,7 @@ fn start(day: i64, degrees: i64) -> i64
 fn first_in_sign<E: Enclosure>(sign: i64, from: i64, trail: &mut Trail) -> Result<i64, Fail>
     requires low { pos 600000 ≤ℤ from }
     requires high { from ≤ℤ pos 800000 }
-    ensures leads { (w : World) → DEPTH ≤ w.depth → Leads w Exact (first_day_from (spec.has_sign_at sign) from) trail.old.count trail.new.count result }
+    ensures leads { Decides (first_day_from (spec.has_sign_at sign) from) trail.old.count trail.new.count result }
     ensures value { IfOk result IsFactValue }
 {
     first_day::<E, InSign>(&InSign { sign }, from, trail)
@@ -126,7 +125,7 @@ fn first_in_sign<E: Enclosure>(sign: i64, from: i64, trail: &mut Trail) -> Resul
 #[tactic(auto, using(book_model::proofs::Leads::leading), unfolding(book_model::specs::sky::HinduFacts::sign_entered_of))]
 fn sign_entered<E: Enclosure>(day: i64, t: E, trail: &mut Trail) -> Result<i64, Fail>
     requires day { IsValueDay day }
-    ensures leads { (w : World) (x : Expression) → DEPTH ≤ w.depth → Within E.shown w x t → Leads w Exact (spec.sign_entered_of day x) trail.old.count trail.new.count result }
+    ensures leads { Decides1 E.shown (spec.sign_entered_of day) t trail.old.count trail.new.count result }
     ensures value { IfOk result IsFactValue }
 {
     let there = sign(t, trail)?;
@@ -146,7 +145,7 @@ fn sign_entered<E: Enclosure>(day: i64, t: E, trail: &mut Trail) -> Result<i64, 
 #[tactic(auto, using(book_model::proofs::Leads::leading), unfolding(book_model::specs::sky::HinduFacts::sankranti_of))]
 pub fn sankranti<E: Enclosure>(day: i64, trail: &mut Trail) -> Result<i64, Fail>
     requires day { IsValueDay day }
-    ensures leads { (w : World) → DEPTH ≤ w.depth → Leads w Exact (spec.sankranti_of day) trail.old.count trail.new.count result }
+    ensures leads { Decides (spec.sankranti_of day) trail.old.count trail.new.count result }
     ensures value { IfOk result IsFactValue }
 {
     match hsunset::<E>(day, trail) {
@@ -158,7 +157,7 @@ pub fn sankranti<E: Enclosure>(day: i64, trail: &mut Trail) -> Result<i64, Fail>
 /// The whole lunar days that have passed of a month at a moment.
 #[tactic(auto, using(book_model::proofs::Leads::leading), unfolding(book_model::specs::sky::HinduFacts::lunar_days_passed_of))]
 fn whole_lunar_days<E: Enclosure>(t: E, trail: &mut Trail) -> Result<i64, Fail>
-    ensures leads { (w : World) (x : Expression) → DEPTH ≤ w.depth → Within E.shown w x t → Leads w Exact (spec.lunar_days_passed_of x) trail.old.count trail.new.count result }
+    ensures leads { Decides1 E.shown spec.lunar_days_passed_of t trail.old.count trail.new.count result }
 {
     match phase(t, trail) {
         Ok(degrees) => floor_step(degrees.mul_frac(DEGREE_IN_LUNAR_DAYS), Site::Round, trail),
@@ -168,7 +167,7 @@ fn whole_lunar_days<E: Enclosure>(t: E, trail: &mut Trail) -> Result<i64, Fail>
 
 /// The same, from 0 to 30.
 fn lunar_days_passed<E: Enclosure>(t: E, trail: &mut Trail) -> Result<i64, Fail>
-    ensures leads { (w : World) (x : Expression) → DEPTH ≤ w.depth → Within E.shown w x t → Leads w Exact (spec.lunar_days_passed_of x) trail.old.count trail.new.count result }
+    ensures leads { Decides1 E.shown spec.lunar_days_passed_of t trail.old.count trail.new.count result }
     ensures near { IfOk result IsLunarDay }
 {
     whole_lunar_days(t, trail)
@@ -185,7 +184,7 @@ fn lunar_days_passed<E: Enclosure>(t: E, trail: &mut Trail) -> Result<i64, Fail>
 #[tactic(auto, using(book_model::proofs::Leads::leading), unfolding(book_model::specs::sky::HinduFacts::tithi_of))]
 pub fn tithi<E: Enclosure>(day: i64, trail: &mut Trail) -> Result<i64, Fail>
     requires day { IsValueDay day }
-    ensures leads { (w : World) → DEPTH ≤ w.depth → Leads w Exact (spec.tithi_of day) trail.old.count trail.new.count result }
+    ensures leads { Decides (spec.tithi_of day) trail.old.count trail.new.count result }
     ensures value { IfOk result IsFactValue }
 {
     let rising = sunrise::<E>(day, trail)?;
@@ -205,7 +204,7 @@ pub fn tithi<E: Enclosure>(day: i64, trail: &mut Trail) -> Result<i64, Fail>
 #[tactic(auto, using(book_model::proofs::Leads::leading), unfolding(book_model::specs::sky::HinduFacts::sign_before_of))]
 pub fn sign_before<E: Enclosure>(day: i64, trail: &mut Trail) -> Result<i64, Fail>
     requires day { IsValueDay day }
-    ensures leads { (w : World) → DEPTH ≤ w.depth → Leads w Exact (spec.sign_before_of day) trail.old.count trail.new.count result }
+    ensures leads { Decides (spec.sign_before_of day) trail.old.count trail.new.count result }
     ensures value { IfOk result IsFactValue }
 {
     let rising = sunrise::<E>(day, trail)?;
@@ -224,7 +223,7 @@ pub fn sign_before<E: Enclosure>(day: i64, trail: &mut Trail) -> Result<i64, Fai
 #[tactic(auto, using(book_model::proofs::Leads::leading), unfolding(book_model::specs::sky::HinduFacts::sign_after_of))]
 pub fn sign_after<E: Enclosure>(day: i64, trail: &mut Trail) -> Result<i64, Fail>
     requires day { IsValueDay day }
-    ensures leads { (w : World) → DEPTH ≤ w.depth → Leads w Exact (spec.sign_after_of day) trail.old.count trail.new.count result }
+    ensures leads { Decides (spec.sign_after_of day) trail.old.count trail.new.count result }
     ensures value { IfOk result IsFactValue }
 {
     let rising = sunrise::<E>(day, trail)?;
@@ -237,7 +236,7 @@ pub fn sign_after<E: Enclosure>(day: i64, trail: &mut Trail) -> Result<i64, Fail
 /// The year of the Kali Yuga when a day (R.D.) begins in universal time.
 #[tactic(auto, unfolding(book_model::specs::sky::HinduFacts::calendar_year_of))]
 fn year_of_beginning<E: Enclosure>(day: i64, trail: &mut Trail) -> Result<i64, Fail>
-    ensures leads { (w : World) → DEPTH ≤ w.depth → Leads w Exact (spec.calendar_year_of day) trail.old.count trail.new.count result }
+    ensures leads { Decides (spec.calendar_year_of day) trail.old.count trail.new.count result }
     ensures early { 36 ≤ E.BITS → E.BITS ≤ 56 → IsValueDay day → IfErr result IsNoEarlyYear }
 {
     hindu_year(E::from_int(day), trail)
@@ -252,7 +251,7 @@ fn year_of_beginning<E: Enclosure>(day: i64, trail: &mut Trail) -> Result<i64, F
 /// ```
 pub fn calendar_year<E: Enclosure>(day: i64, trail: &mut Trail) -> Result<i64, Fail>
     requires day { IsValueDay day }
-    ensures leads { (w : World) → DEPTH ≤ w.depth → Leads w Exact (spec.calendar_year_of day) trail.old.count trail.new.count result }
+    ensures leads { Decides (spec.calendar_year_of day) trail.old.count trail.new.count result }
     ensures value { IfOk result IsFactValue }
     ensures early { trail.old.count ≡ 0 → 36 ≤ E.BITS → E.BITS ≤ 56 → IfErr result IsNoEarlyYear }
 {

@@ -1,10 +1,9 @@
 //! The sign of the zodiac in which the sun stands, and the year of the Kali Yuga, at a moment.
-ghost use Rattle.std.specs.Prelude.{◌≡◌, ◌≤◌, ◌+◌, pos, ◌≤ℤ◌, IfOk, IfErr};
-ghost use Rattle.book_model.specs.numbers.Depth.{DEPTH};
-ghost use Rattle.book_model.specs.numbers.Expressions.{Expression, World};
+ghost use Rattle.book_model.specs.programs.Calls.{Decides1, Holds2};
+ghost use Rattle.std.specs.Prelude.{◌≤◌, ◌+◌, pos, ◌≤ℤ◌, IfOk, IfErr};
+
 ghost use Rattle.book_model.specs.sky.HinduFacts.{whole_degrees_of};
-ghost use Rattle.book_model.specs.programs.Leading.{Exact, Leads};
-ghost use Rattle.book_model.specs.numbers.Relations.{Within};
+
 ghost use Rattle.book_model.specs.sky.Sidereal as spec;
 ghost use Rattle.hindu_sky.specs.Counts.{IsDegree, IsSign};
 ghost use Rattle.time_scales.specs.Steps.{IsYearOpenFor};
@@ -18,7 +17,7 @@ use sun_core::sidereal_sun;
 /// The whole signs that the sun has passed.
 #[tactic(auto, using(book_model::proofs::Leads::leading), unfolding(book_model::specs::sky::Sidereal::signs_passed_of, book_model::specs::programs::Leading::next_turn))]
 fn whole_signs<E: Enclosure>(t: E, trail: &mut Trail) -> Result<i64, Fail>
-    ensures leads { (w : World) (x : Expression) → DEPTH ≤ w.depth → Within E.shown w x t → Leads w Exact (spec.signs_passed_of x) trail.old.count trail.new.count result }
+    ensures leads { Decides1 E.shown spec.signs_passed_of t trail.old.count trail.new.count result }
     ensures counted { trail.new.count ≤ trail.old.count + 5 }
 {
     match sidereal_sun(t, trail) {
@@ -29,7 +28,7 @@ fn whole_signs<E: Enclosure>(t: E, trail: &mut Trail) -> Result<i64, Fail>
 
 /// The same, from 0 to 12.
 fn signs_passed<E: Enclosure>(t: E, trail: &mut Trail) -> Result<i64, Fail>
-    ensures leads { (w : World) (x : Expression) → DEPTH ≤ w.depth → Within E.shown w x t → Leads w Exact (spec.signs_passed_of x) trail.old.count trail.new.count result }
+    ensures leads { Decides1 E.shown spec.signs_passed_of t trail.old.count trail.new.count result }
     ensures near { IfOk result IsSign }
     ensures counted { trail.new.count ≤ trail.old.count + 5 }
 {
@@ -40,7 +39,7 @@ fn signs_passed<E: Enclosure>(t: E, trail: &mut Trail) -> Result<i64, Fail>
 /// Calculations, chapter 20): five tests at most.
 #[tactic(auto, using(book_model::proofs::Leads::leading), unfolding(book_model::specs::sky::Sidereal::sign_of))]
 pub(crate) fn sign<E: Enclosure>(t: E, trail: &mut Trail) -> Result<i64, Fail>
-    ensures leads { (w : World) (x : Expression) → DEPTH ≤ w.depth → Within E.shown w x t → Leads w Exact (spec.sign_of x) trail.old.count trail.new.count result }
+    ensures leads { Decides1 E.shown spec.sign_of t trail.old.count trail.new.count result }
     ensures from { IfOk result (λ g. pos 1 ≤ℤ g) }
     ensures to { IfOk result (λ g. g ≤ℤ pos 13) }
     ensures counted { trail.new.count ≤ trail.old.count + 5 }
@@ -54,7 +53,7 @@ pub(crate) fn sign<E: Enclosure>(t: E, trail: &mut Trail) -> Result<i64, Fail>
 /// The whole degrees of the longitude of the sun among the stars.
 #[tactic(auto, using(book_model::proofs::Leads::leading), unfolding(book_model::specs::sky::HinduFacts::whole_degrees_of, book_model::specs::programs::Leading::next_turn))]
 fn floor_of_longitude<E: Enclosure>(t: E, trail: &mut Trail) -> Result<i64, Fail>
-    ensures leads { (w : World) (x : Expression) → DEPTH ≤ w.depth → Within E.shown w x t → Leads w Exact (whole_degrees_of x) trail.old.count trail.new.count result }
+    ensures leads { Decides1 E.shown whole_degrees_of t trail.old.count trail.new.count result }
     ensures counted { trail.new.count ≤ trail.old.count + 5 }
 {
     match sidereal_sun(t, trail) {
@@ -65,7 +64,7 @@ fn floor_of_longitude<E: Enclosure>(t: E, trail: &mut Trail) -> Result<i64, Fail
 
 /// The same, from 0 to 360: five tests at most.
 pub(crate) fn whole_degrees<E: Enclosure>(t: E, trail: &mut Trail) -> Result<i64, Fail>
-    ensures leads { (w : World) (x : Expression) → DEPTH ≤ w.depth → Within E.shown w x t → Leads w Exact (whole_degrees_of x) trail.old.count trail.new.count result }
+    ensures leads { Decides1 E.shown whole_degrees_of t trail.old.count trail.new.count result }
     ensures near { IfOk result IsDegree }
     ensures counted { trail.new.count ≤ trail.old.count + 5 }
 {
@@ -75,7 +74,7 @@ pub(crate) fn whole_degrees<E: Enclosure>(t: E, trail: &mut Trail) -> Result<i64
 /// The sidereal years from the epoch to a moment, less what the sun has gone of the year.
 #[tactic(auto, unfolding(book_model::specs::sky::Sidereal::years_gone_of))]
 fn years_gone<E: Enclosure>(t: E, longitude: E) -> E
-    ensures holds { (w : World) (x s : Expression) → DEPTH ≤ w.depth → Within E.shown w x t → Within E.shown w s longitude → Within E.shown w (spec.years_gone_of x s) result }
+    ensures holds { Holds2 E.shown spec.years_gone_of t longitude result }
 {
     t.add(E::from_int(-HINDU_EPOCH))
         .mul_frac(DAY_IN_SIDEREAL_YEARS)
@@ -86,7 +85,7 @@ fn years_gone<E: Enclosure>(t: E, longitude: E) -> E
 /// at most.
 #[tactic(auto, using(book_model::proofs::Leads::leading, crate::proofs::Openings::opening), unfolding(book_model::specs::sky::Sidereal::hindu_year_of, book_model::specs::sky::Correction::rounded_of, book_model::specs::programs::Leading::next_turn))]
 pub(crate) fn hindu_year<E: Enclosure>(t: E, trail: &mut Trail) -> Result<i64, Fail>
-    ensures leads { (w : World) (x : Expression) → DEPTH ≤ w.depth → Within E.shown w x t → Leads w Exact (spec.hindu_year_of x) trail.old.count trail.new.count result }
+    ensures leads { Decides1 E.shown spec.hindu_year_of t trail.old.count trail.new.count result }
     ensures open { IfErr result (IsYearOpenFor (E.shown t)) }
     ensures counted { trail.new.count ≤ trail.old.count + 5 }
 {

@@ -1,10 +1,11 @@
 //! The latitude of the moon.
-ghost use Rattle.std.specs.Prelude.{◌≡◌, ◌≤◌, ◌+◌};
+ghost use Rattle.book_model.specs.programs.Calls.{Follows1, Holds2, Narrows2};
+ghost use Rattle.std.specs.Prelude.{◌≤◌, ◌+◌};
 ghost use Rattle.book_model.specs.numbers.Bounds.{Reach, limits_of};
 ghost use Rattle.book_model.specs.numbers.Depth.{DEPTH};
 ghost use Rattle.book_model.specs.numbers.Expressions.{Expression, World};
 ghost use Rattle.book_model.specs.sky.Latitude as spec;
-ghost use Rattle.book_model.specs.programs.Leading.{Leads};
+
 ghost use Rattle.book_model.specs.sky.Moon.{LunarAngles};
 ghost use Rattle.book_model.specs.numbers.Relations.{Within, Narrow};
 ghost use Rattle.moon_core.specs.Angles.{HoldAngles, KeepAngles};
@@ -59,8 +60,8 @@ fn latitude_terms<E: Enclosure>(angles: Angles<E>) -> E
 /// What Venus adds, by the angle of its wave and the argument of latitude, in millionths of a degree.
 #[tactic(auto, unfolding(book_model::specs::sky::Latitude::venus_by))]
 fn venus<E: Enclosure>(venus: E, argument: E) -> E
-    ensures holds { (w : World) (v f : Expression) → DEPTH ≤ w.depth → Within E.shown w v venus → Within E.shown w f argument → Within E.shown w (spec.venus_by v f) result }
-    ensures narrow { (r : Reach) (v f : Expression) → Narrow E.shown (limits_of E.BITS) r v venus → Narrow E.shown (limits_of E.BITS) r f argument → Narrow E.shown (limits_of E.BITS) r (spec.venus_by v f) result }
+    ensures holds { Holds2 E.shown spec.venus_by venus argument result }
+    ensures narrow { Narrows2 E.shown E.BITS spec.venus_by venus argument result }
 {
     sin_deg(venus.add(argument))
         .times(VENUS_IN_LATITUDE)
@@ -70,8 +71,8 @@ fn venus<E: Enclosure>(venus: E, argument: E) -> E
 /// What the flattening of the earth adds, by the mean longitude and the anomaly of the moon, in millionths of a degree.
 #[tactic(auto, unfolding(book_model::specs::sky::Latitude::flattening_by))]
 fn flattening<E: Enclosure>(longitude: E, anomaly: E) -> E
-    ensures holds { (w : World) (l m : Expression) → DEPTH ≤ w.depth → Within E.shown w l longitude → Within E.shown w m anomaly → Within E.shown w (spec.flattening_by l m) result }
-    ensures narrow { (r : Reach) (l m : Expression) → Narrow E.shown (limits_of E.BITS) r l longitude → Narrow E.shown (limits_of E.BITS) r m anomaly → Narrow E.shown (limits_of E.BITS) r (spec.flattening_by l m) result }
+    ensures holds { Holds2 E.shown spec.flattening_by longitude anomaly result }
+    ensures narrow { Narrows2 E.shown E.BITS spec.flattening_by longitude anomaly result }
 {
     sin_deg(longitude)
         .times(FLATTENING_ALONE)
@@ -106,7 +107,7 @@ fn latitude_at<E: Enclosure>(days: E, c: E) -> E
 /// without a correction.
 #[tactic(auto, using(book_model::proofs::Leads::leading), unfolding(book_model::specs::sky::Latitude::latitude_of, book_model::specs::sky::Time::centuries_of, book_model::specs::sky::Time::in_centuries, sun_core::specs::Daily::in_centuries, book_model::specs::programs::Leading::next_turn))]
 pub fn latitude<E: Enclosure>(t: E, trail: &mut Trail) -> Result<E, Fail>
-    ensures leads { (w : World) (x : Expression) → DEPTH ≤ w.depth → Within E.shown w x t → Leads w (Within E.shown w) (spec.latitude_of x) trail.old.count trail.new.count result }
+    ensures leads { Follows1 E.shown spec.latitude_of t trail.old.count trail.new.count result }
     ensures counted { trail.new.count ≤ trail.old.count + 1 }
 {
     match dynamical(t, trail) {

@@ -1,8 +1,9 @@
 //! The apparent longitude of the moon.
+ghost use Rattle.book_model.specs.programs.Calls.{Follows1};
 ghost use Rattle.std.specs.Prelude.{◌≡◌, ◌≤◌, ◌+◌, ℕ, IfErr};
 ghost use Rattle.book_model.specs.numbers.Bounds.{Reach, IsNarrow, limits_of};
 ghost use Rattle.book_model.specs.numbers.Expressions.{Expression, World, argument};
-ghost use Rattle.book_model.specs.programs.Leading.{Leads, next_turn};
+
 ghost use Rattle.book_model.specs.sky.Moon as spec;
 ghost use Rattle.book_model.specs.numbers.Relations.{Within, Narrow};
 ghost use Rattle.moon_core.specs.Angles.{HoldAngles, KeepAngles};
@@ -99,7 +100,7 @@ fn longitude<E: Enclosure>(days: E, c: E) -> E
 /// the one at `moon-wrap`. It is void at `year` in a year without a correction.
 #[tactic(auto, using(book_model::proofs::Leads::leading, crate::proofs::Openings::opening), unfolding(book_model::specs::sky::Moon::moon_of, book_model::specs::sky::Time::centuries_of, book_model::specs::sky::Time::in_centuries, sun_core::specs::Daily::in_centuries, book_model::specs::programs::Leading::next_turn))]
 pub fn moon<E: Enclosure>(t: E, trail: &mut Trail) -> Result<E, Fail>
-    ensures leads { (w : World) (x : Expression) → Within E.shown w x t → Leads w (Within E.shown w) (spec.moon_of x) trail.old.count trail.new.count result }
+    ensures leads { Follows1 E.shown spec.moon_of t trail.old.count trail.new.count result }
     ensures open { IfErr result (IsYearOpenFor (E.shown t)) }
     ensures counted { trail.new.count ≤ trail.old.count + 2 }
 {

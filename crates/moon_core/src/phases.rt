@@ -1,12 +1,11 @@
 //! The moon's phase, and the number of the new moon about a moment.
+ghost use Rattle.book_model.specs.programs.Calls.{Decides1, Follows1, Follows2, Holds1, Holds2, Narrows1};
 ghost use Rattle.std.specs.Prelude.{◌≡◌, ◌≤◌, ◌+◌, ℤ, pos, negsuc, ◌≤ℤ◌, IfOk, IfErr};
 ghost use Rattle.exact_math.specs.Interval.{Interval};
-ghost use Rattle.book_model.specs.numbers.Bounds.{Reach, limits_of};
-ghost use Rattle.book_model.specs.numbers.Expressions.{Expression, World};
-ghost use Rattle.book_model.specs.programs.Leading.{Leads, Exact, next_turn};
+
 ghost use Rattle.book_model.specs.sky.Phases as spec;
 ghost use Rattle.book_model.specs.numbers.Ranges.{IsInTable};
-ghost use Rattle.book_model.specs.numbers.Relations.{Within, Narrow};
+
 ghost use Rattle.time_scales.specs.Steps.{IsYearOpenFor, IsEarlyYearFor};
 
 use crate::longitude::moon;
@@ -18,7 +17,7 @@ use sun_core::sun;
 /// An angle, reduced to 0 up to 360 degrees, as one test.
 #[tactic(auto, using(book_model::proofs::Leads::leading, crate::proofs::Openings::opening), unfolding(book_model::specs::sky::Phases::turned_of, book_model::specs::programs::Leading::next_turn))]
 fn turned<E: Enclosure>(angle: E, trail: &mut Trail) -> Result<E, Fail>
-    ensures leads { (w : World) (x : Expression) → Within E.shown w x angle → Leads w (Within E.shown w) (spec.turned_of x) trail.old.count trail.new.count result }
+    ensures leads { Follows1 E.shown spec.turned_of angle trail.old.count trail.new.count result }
     ensures elsewhere { (i : Interval) → IfErr result (IsYearOpenFor i) }
     ensures counted { trail.new.count ≤ trail.old.count + 1 }
 {
@@ -28,7 +27,7 @@ fn turned<E: Enclosure>(angle: E, trail: &mut Trail) -> Result<E, Fail>
 /// The longitude of the moon less that of the sun, from 0 up to 360 degrees.
 #[tactic(auto, using(book_model::proofs::Leads::leading), unfolding(book_model::specs::sky::Phases::elongation_of))]
 fn longitudes_apart<E: Enclosure>(t: E, trail: &mut Trail) -> Result<E, Fail>
-    ensures leads { (w : World) (x : Expression) → Within E.shown w x t → Leads w (Within E.shown w) (spec.elongation_of x) trail.old.count trail.new.count result }
+    ensures leads { Follows1 E.shown spec.elongation_of t trail.old.count trail.new.count result }
     ensures open { IfErr result (IsYearOpenFor (E.shown t)) }
     ensures counted { trail.new.count ≤ trail.old.count + 5 }
 {
@@ -39,7 +38,7 @@ fn longitudes_apart<E: Enclosure>(t: E, trail: &mut Trail) -> Result<E, Fail>
 
 /// The same, at a moment of the years of which there is a correction: five tests at most.
 fn elongation<E: Enclosure>(t: E, trail: &mut Trail) -> Result<E, Fail>
-    ensures leads { (w : World) (x : Expression) → Within E.shown w x t → Leads w (Within E.shown w) (spec.elongation_of x) trail.old.count trail.new.count result }
+    ensures leads { Follows1 E.shown spec.elongation_of t trail.old.count trail.new.count result }
     ensures open { IfErr result (IsYearOpenFor (E.shown t)) }
     ensures in_table { IfOk result (λ p. IsInTable (E.shown t)) }
     ensures counted { trail.new.count ≤ trail.old.count + 5 }
@@ -52,7 +51,7 @@ fn elongation<E: Enclosure>(t: E, trail: &mut Trail) -> Result<E, Fail>
 fn months_since<E: Enclosure>(n: i64, t: E, trail: &mut Trail) -> Result<E, Fail>
     requires low { negsuc 39999999 ≤ℤ n }
     requires high { n ≤ℤ pos 40000000 }
-    ensures leads { (w : World) (x : Expression) → Within E.shown w x t → Leads w (Within E.shown w) (spec.months_since n x) trail.old.count trail.new.count result }
+    ensures leads { Follows1 E.shown (spec.months_since n) t trail.old.count trail.new.count result }
     ensures counted { trail.new.count ≤ trail.old.count + 1 }
 {
     match new_moon::<E>(n, trail) {
@@ -64,7 +63,7 @@ fn months_since<E: Enclosure>(n: i64, t: E, trail: &mut Trail) -> Result<E, Fail
 /// The whole number of months that is nearest, as one test.
 #[tactic(auto, using(book_model::proofs::Leads::leading), unfolding(book_model::specs::sky::Phases::nearest_moon_of, book_model::specs::programs::Leading::next_turn))]
 fn nearest_moon<E: Enclosure>(months: E, trail: &mut Trail) -> Result<i64, Fail>
-    ensures leads { (w : World) (m : Expression) → Within E.shown w m months → Leads w Exact (spec.nearest_moon_of m) trail.old.count trail.new.count result }
+    ensures leads { Decides1 E.shown spec.nearest_moon_of months trail.old.count trail.new.count result }
     ensures counted { trail.new.count ≤ trail.old.count + 1 }
 {
     floor_step(months.add(E::from_frac(HALF)), Site::MoonNumber, trail)
@@ -73,7 +72,7 @@ fn nearest_moon<E: Enclosure>(months: E, trail: &mut Trail) -> Result<i64, Fail>
 /// The number of the new moon about a moment, by mean months from the first.
 #[tactic(auto, using(book_model::proofs::Leads::leading), unfolding(book_model::specs::sky::Phases::rough_number_of))]
 fn number_by_months<E: Enclosure>(t: E, trail: &mut Trail) -> Result<i64, Fail>
-    ensures leads { (w : World) (x : Expression) → Within E.shown w x t → Leads w Exact (spec.rough_number_of x) trail.old.count trail.new.count result }
+    ensures leads { Decides1 E.shown spec.rough_number_of t trail.old.count trail.new.count result }
     ensures counted { trail.new.count ≤ trail.old.count + 2 }
 {
     match months_since(0, t, trail) {
@@ -85,7 +84,7 @@ fn number_by_months<E: Enclosure>(t: E, trail: &mut Trail) -> Result<i64, Fail>
 /// The same, of a moment of the years of which there is a correction: two tests at most.
 fn rough_number<E: Enclosure>(t: E, trail: &mut Trail) -> Result<i64, Fail>
     requires in_table { IsInTable (E.shown t) }
-    ensures leads { (w : World) (x : Expression) → Within E.shown w x t → Leads w Exact (spec.rough_number_of x) trail.old.count trail.new.count result }
+    ensures leads { Decides1 E.shown spec.rough_number_of t trail.old.count trail.new.count result }
     ensures low { IfOk result (λ n. negsuc 39999 ≤ℤ n) }
     ensures high { IfOk result (λ n. n ≤ℤ pos 40000) }
     ensures counted { trail.new.count ≤ trail.old.count + 2 }
@@ -96,7 +95,7 @@ fn rough_number<E: Enclosure>(t: E, trail: &mut Trail) -> Result<i64, Fail>
 /// What is left of so many months by whole months, as one test.
 #[tactic(auto, using(book_model::proofs::Leads::leading), unfolding(book_model::specs::sky::Phases::rest_of_month, book_model::specs::programs::Leading::next_turn))]
 fn rest_of_month<E: Enclosure>(months: E, trail: &mut Trail) -> Result<E, Fail>
-    ensures leads { (w : World) (m : Expression) → Within E.shown w m months → Leads w (Within E.shown w) (spec.rest_of_month m) trail.old.count trail.new.count result }
+    ensures leads { Follows1 E.shown spec.rest_of_month months trail.old.count trail.new.count result }
     ensures counted { trail.new.count ≤ trail.old.count + 1 }
 {
     wrap_step(months, 1, Site::PhaseWrap, trail)
@@ -107,7 +106,7 @@ fn rest_of_month<E: Enclosure>(months: E, trail: &mut Trail) -> Result<E, Fail>
 fn phase_by_months<E: Enclosure>(n: i64, t: E, trail: &mut Trail) -> Result<E, Fail>
     requires low { negsuc 39999999 ≤ℤ n }
     requires high { n ≤ℤ pos 40000000 }
-    ensures leads { (w : World) (x : Expression) → Within E.shown w x t → Leads w (Within E.shown w) (spec.phase_by_months_of n x) trail.old.count trail.new.count result }
+    ensures leads { Follows1 E.shown (spec.phase_by_months_of n) t trail.old.count trail.new.count result }
     ensures counted { trail.new.count ≤ trail.old.count + 2 }
 {
     let months = months_since(n, t, trail)?;
@@ -119,8 +118,8 @@ fn phase_by_months<E: Enclosure>(n: i64, t: E, trail: &mut Trail) -> Result<E, F
 
 /// The size of a number.
 fn size<E: Enclosure>(x: E) -> E
-    ensures holds { (w : World) (e : Expression) → Within E.shown w e x → Within E.shown w (spec.size_of e) result }
-    ensures narrow { (r : Reach) (e : Expression) → Narrow E.shown (limits_of E.BITS) r e x → Narrow E.shown (limits_of E.BITS) r (spec.size_of e) result }
+    ensures holds { Holds1 E.shown spec.size_of x result }
+    ensures narrow { Narrows1 E.shown E.BITS spec.size_of x result }
 {
     x.max(x.neg())
 }
@@ -128,7 +127,7 @@ fn size<E: Enclosure>(x: E) -> E
 /// The second of two phases, where they are apart.
 #[tactic(auto, unfolding(book_model::specs::sky::Phases::chosen))]
 fn chosen<E: Enclosure>(apart: bool, by_longitudes: E, by_time: E) -> E
-    ensures holds { (w : World) (p q : Expression) → Within E.shown w p by_longitudes → Within E.shown w q by_time → Within E.shown w (spec.chosen apart p q) result }
+    ensures holds { Holds2 E.shown (spec.chosen apart) by_longitudes by_time result }
 {
     if apart { by_time } else { by_longitudes }
 }
@@ -136,7 +135,7 @@ fn chosen<E: Enclosure>(apart: bool, by_longitudes: E, by_time: E) -> E
 /// The phase by longitudes, or the one by the time where they are more than 180 degrees apart: one test.
 #[tactic(auto, using(book_model::proofs::Leads::leading), unfolding(book_model::specs::sky::Phases::picked_of, book_model::specs::programs::Leading::next_turn))]
 fn picked<E: Enclosure>(by_longitudes: E, by_time: E, trail: &mut Trail) -> Result<E, Fail>
-    ensures leads { (w : World) (p q : Expression) → Within E.shown w p by_longitudes → Within E.shown w q by_time → Leads w (Within E.shown w) (spec.picked_of p q) trail.old.count trail.new.count result }
+    ensures leads { Follows2 E.shown spec.picked_of by_longitudes by_time trail.old.count trail.new.count result }
     ensures counted { trail.new.count ≤ trail.old.count + 1 }
 {
     let apart = size(by_longitudes.sub(by_time));
@@ -150,7 +149,7 @@ fn picked<E: Enclosure>(by_longitudes: E, by_time: E, trail: &mut Trail) -> Resu
 #[tactic(auto, using(book_model::proofs::Leads::leading), unfolding(book_model::specs::sky::Phases::corrected_of))]
 fn corrected<E: Enclosure>(by_longitudes: E, t: E, trail: &mut Trail) -> Result<E, Fail>
     requires in_table { IsInTable (E.shown t) }
-    ensures leads { (w : World) (x p : Expression) → Within E.shown w x t → Within E.shown w p by_longitudes → Leads w (Within E.shown w) (spec.corrected_of x p) trail.old.count trail.new.count result }
+    ensures leads { Follows2 E.shown spec.corrected_of t by_longitudes trail.old.count trail.new.count result }
     ensures counted { trail.new.count ≤ trail.old.count + 5 }
 {
     let number = rough_number(t, trail)?;
@@ -165,7 +164,7 @@ fn corrected<E: Enclosure>(by_longitudes: E, t: E, trail: &mut Trail) -> Result<
 /// correction.
 #[tactic(auto, using(book_model::proofs::Leads::leading), unfolding(book_model::specs::sky::Phases::phase_of))]
 pub fn phase<E: Enclosure>(t: E, trail: &mut Trail) -> Result<E, Fail>
-    ensures leads { (w : World) (x : Expression) → Within E.shown w x t → Leads w (Within E.shown w) (spec.phase_of x) trail.old.count trail.new.count result }
+    ensures leads { Follows1 E.shown spec.phase_of t trail.old.count trail.new.count result }
     ensures early { trail.old.count ≡ 0 → IfErr result (IsEarlyYearFor (E.shown t)) }
     ensures counted { trail.new.count ≤ trail.old.count + 10 }
 {
@@ -178,7 +177,7 @@ pub fn phase<E: Enclosure>(t: E, trail: &mut Trail) -> Result<E, Fail>
 /// The number of the last new moon before a moment, or of one next to it.
 #[tactic(auto, using(book_model::proofs::Leads::leading), unfolding(book_model::specs::sky::Phases::number_of_moon))]
 fn number_by_phase<E: Enclosure>(t: E, trail: &mut Trail) -> Result<i64, Fail>
-    ensures leads { (w : World) (x : Expression) → Within E.shown w x t → Leads w Exact (spec.number_of_moon x) trail.old.count trail.new.count result }
+    ensures leads { Decides1 E.shown spec.number_of_moon t trail.old.count trail.new.count result }
     ensures counted { trail.new.count ≤ trail.old.count + 12 }
 {
     let months = months_since(0, t, trail)?;
@@ -188,7 +187,7 @@ fn number_by_phase<E: Enclosure>(t: E, trail: &mut Trail) -> Result<i64, Fail>
 
 /// The same, which lies within 40,000 of 0: twelve tests at most.
 pub(crate) fn number<E: Enclosure>(t: E, trail: &mut Trail) -> Result<i64, Fail>
-    ensures leads { (w : World) (x : Expression) → Within E.shown w x t → Leads w Exact (spec.number_of_moon x) trail.old.count trail.new.count result }
+    ensures leads { Decides1 E.shown spec.number_of_moon t trail.old.count trail.new.count result }
     ensures low { IfOk result (λ n. negsuc 39999 ≤ℤ n) }
     ensures high { IfOk result (λ n. n ≤ℤ pos 40000) }
     ensures counted { trail.new.count ≤ trail.old.count + 12 }

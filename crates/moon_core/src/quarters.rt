@@ -1,13 +1,12 @@
 //! When the moon was last at a phase.
+ghost use Rattle.book_model.specs.programs.Calls.{Decides, Follows1, Follows2, Follows3, Holds2, Narrows2};
 ghost use Rattle.std.specs.Prelude.{◌≡◌, ◌≤◌, ◌+◌, IfOk, IfErr};
 ghost use Rattle.exact_math.specs.Interval.{Interval};
-ghost use Rattle.book_model.specs.numbers.Bounds.{Reach, limits_of};
-ghost use Rattle.book_model.specs.numbers.Depth.{DEPTH};
-ghost use Rattle.book_model.specs.numbers.Expressions.{Expression, World};
+
 ghost use Rattle.book_model.specs.sky.Facts.{IsValueDay};
-ghost use Rattle.book_model.specs.programs.Leading.{Exact, Leads};
+
 ghost use Rattle.book_model.specs.sky.Phases as spec;
-ghost use Rattle.book_model.specs.numbers.Relations.{Within, Narrow};
+
 ghost use Rattle.book_model.specs.sky.Sun.{reduced_of};
 ghost use Rattle.moon_core.specs.PhaseDays.{IsPhaseDay};
 ghost use Rattle.time_scales.specs.Steps.{IsEarlyYearFor, IsNoEarlyYear};
@@ -37,7 +36,7 @@ impl<E: Enclosure> Angular<E> for MoonPhase {
 /// An angle, reduced to 0 up to 360 degrees: one test, at `step-wrap`.
 #[tactic(auto, using(book_model::proofs::Leads::leading, crate::proofs::Openings::opening), unfolding(book_model::specs::sky::Sun::reduced_of, book_model::specs::programs::Leading::next_turn))]
 fn reduced<E: Enclosure>(angle: E, trail: &mut Trail) -> Result<E, Fail>
-    ensures leads { (w : World) (x : Expression) → Within E.shown w x angle → Leads w (Within E.shown w) (reduced_of x) trail.old.count trail.new.count result }
+    ensures leads { Follows1 E.shown reduced_of angle trail.old.count trail.new.count result }
     ensures elsewhere { (i : Interval) → IfErr result (IsEarlyYearFor i) }
     ensures counted { trail.new.count ≤ trail.old.count + 1 }
 {
@@ -47,7 +46,7 @@ fn reduced<E: Enclosure>(angle: E, trail: &mut Trail) -> Result<E, Fail>
 /// How far the moon is past a phase, from 0 up to 360 degrees: eleven tests at most.
 #[tactic(auto, using(book_model::proofs::Leads::leading), unfolding(book_model::specs::sky::Phases::phase_past_of))]
 fn phase_past<E: Enclosure>(phase: E, t: E, trail: &mut Trail) -> Result<E, Fail>
-    ensures leads { (w : World) (f x : Expression) → Within E.shown w f phase → Within E.shown w x t → Leads w (Within E.shown w) (spec.phase_past_of f x) trail.old.count trail.new.count result }
+    ensures leads { Follows2 E.shown spec.phase_past_of phase t trail.old.count trail.new.count result }
     ensures early { trail.old.count ≡ 0 → IfErr result (IsEarlyYearFor (E.shown t)) }
     ensures counted { trail.new.count ≤ trail.old.count + 11 }
 {
@@ -60,8 +59,8 @@ fn phase_past<E: Enclosure>(phase: E, t: E, trail: &mut Trail) -> Result<E, Fail
 /// A moment less the time in which the mean phase moves on by an angle.
 #[tactic(auto, unfolding(book_model::specs::sky::Phases::phase_back_by))]
 fn phase_back<E: Enclosure>(angle: E, t: E) -> E
-    ensures holds { (w : World) (p x : Expression) → Within E.shown w p angle → Within E.shown w x t → Within E.shown w (spec.phase_back_by p x) result }
-    ensures narrow { (r : Reach) (p x : Expression) → Narrow E.shown (limits_of E.BITS) r p angle → Narrow E.shown (limits_of E.BITS) r x t → Narrow E.shown (limits_of E.BITS) r (spec.phase_back_by p x) result }
+    ensures holds { Holds2 E.shown spec.phase_back_by angle t result }
+    ensures narrow { Narrows2 E.shown E.BITS spec.phase_back_by angle t result }
 {
     t.sub(angle.mul_frac(DEGREE_OF_MONTH))
 }
@@ -69,7 +68,7 @@ fn phase_back<E: Enclosure>(angle: E, t: E) -> E
 /// When the moon is at a phase about a moment, but not after the moment `t`: 833 tests at most.
 #[tactic(auto, unfolding(book_model::specs::sky::Phases::phase_about_of))]
 fn phase_about<E: Enclosure>(phase: E, t: E, about: E, trail: &mut Trail) -> Result<E, Fail>
-    ensures leads { (w : World) (f x a : Expression) → DEPTH ≤ w.depth → Within E.shown w f phase → Within E.shown w x t → Within E.shown w a about → Leads w (Within E.shown w) (spec.phase_about_of f x a) trail.old.count trail.new.count result }
+    ensures leads { Follows3 E.shown spec.phase_about_of phase t about trail.old.count trail.new.count result }
     ensures counted { trail.new.count ≤ trail.old.count + 833 }
 {
     let days = E::from_int(DAYS_ABOUT);
@@ -87,7 +86,7 @@ fn phase_about<E: Enclosure>(phase: E, t: E, about: E, trail: &mut Trail) -> Res
 /// the moon is past the phase, and those of the bisection. It is void at `year` in a year without a correction.
 #[tactic(auto, using(book_model::proofs::Leads::leading), unfolding(book_model::specs::sky::Phases::phase_before_of))]
 pub fn phase_before<E: Enclosure>(p: E, t: E, trail: &mut Trail) -> Result<E, Fail>
-    ensures leads { (w : World) (f x : Expression) → DEPTH ≤ w.depth → Within E.shown w f p → Within E.shown w x t → Leads w (Within E.shown w) (spec.phase_before_of f x) trail.old.count trail.new.count result }
+    ensures leads { Follows2 E.shown spec.phase_before_of p t trail.old.count trail.new.count result }
     ensures early { trail.old.count ≡ 0 → IfErr result (IsEarlyYearFor (E.shown t)) }
     ensures counted { trail.new.count ≤ trail.old.count + 844 }
 {
@@ -100,7 +99,7 @@ pub fn phase_before<E: Enclosure>(p: E, t: E, trail: &mut Trail) -> Result<E, Fa
 /// The day (R.D.) in universal time on which the moon was last at a phase, in degrees, before a day begins or as it begins.
 #[tactic(auto, using(book_model::proofs::Leads::leading), unfolding(book_model::specs::sky::Phases::phase_day_of, book_model::specs::programs::Leading::next_turn))]
 fn floor_of_phase<E: Enclosure>(phase: i64, day: i64, trail: &mut Trail) -> Result<i64, Fail>
-    ensures leads { (w : World) → DEPTH ≤ w.depth → Leads w Exact (spec.phase_day_of phase day) trail.old.count trail.new.count result }
+    ensures leads { Decides (spec.phase_day_of phase day) trail.old.count trail.new.count result }
     ensures early { trail.old.count ≡ 0 → 36 ≤ E.BITS → E.BITS ≤ 56 → IsValueDay day → IfErr result IsNoEarlyYear }
     ensures counted { trail.new.count ≤ trail.old.count + 845 }
 {
@@ -113,7 +112,7 @@ fn floor_of_phase<E: Enclosure>(phase: i64, day: i64, trail: &mut Trail) -> Resu
 /// The day (R.D.) in universal time on which the moon was last at a phase, in degrees, before a day begins or as it begins: 845
 /// tests at most. It is void where `phase_before` is. Its first and third tests, of the year of the day itself, are never open.
 pub fn phase_day<E: Enclosure>(phase: i64, day: i64, trail: &mut Trail) -> Result<i64, Fail>
-    ensures leads { (w : World) → DEPTH ≤ w.depth → Leads w Exact (spec.phase_day_of phase day) trail.old.count trail.new.count result }
+    ensures leads { Decides (spec.phase_day_of phase day) trail.old.count trail.new.count result }
     ensures near { IfOk result IsPhaseDay }
     ensures early { trail.old.count ≡ 0 → 36 ≤ E.BITS → E.BITS ≤ 56 → IsValueDay day → IfErr result IsNoEarlyYear }
     ensures counted { trail.new.count ≤ trail.old.count + 845 }

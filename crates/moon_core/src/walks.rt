@@ -1,10 +1,8 @@
 //! The new moons before and from a moment, by a walk over their numbers.
-ghost use Rattle.std.specs.Prelude.{◌≡◌, ◌≤◌, ◌+◌, ◌*◌, ℤ, pos, negsuc, ◌≤ℤ◌, ◌+ℤ◌, IfOk};
-ghost use Rattle.book_model.specs.numbers.Expressions.{Expression, World};
-ghost use Rattle.book_model.specs.programs.Leading.{Leads, Exact, next_turn};
+ghost use Rattle.book_model.specs.programs.Calls.{Decides1, Follows, Follows1};
+ghost use Rattle.std.specs.Prelude.{◌≤◌, ◌+◌, ◌*◌, ℤ, pos, negsuc, ◌≤ℤ◌, ◌+ℤ◌, IfOk};
+
 ghost use Rattle.book_model.specs.sky.Phases as spec;
-ghost use Rattle.book_model.specs.numbers.Relations.{Within};
-ghost use Rattle.book_model.specs.numbers.Depth.{DEPTH};
 
 use crate::phases::number;
 use book_model::{Fail, Site};
@@ -19,7 +17,7 @@ const NUMBERS_TRIED: u32 = 6;
 fn is_moon_before<E: Enclosure>(n: i64, t: E, trail: &mut Trail) -> Result<bool, Fail>
     requires low { negsuc 39999999 ≤ℤ n }
     requires high { n ≤ℤ pos 40000000 }
-    ensures leads { (w : World) (x : Expression) → Within E.shown w x t → Leads w Exact (spec.is_moon_before_of n x) trail.old.count trail.new.count result }
+    ensures leads { Decides1 E.shown (spec.is_moon_before_of n) t trail.old.count trail.new.count result }
     ensures counted { trail.new.count ≤ trail.old.count + 2 }
 {
     match new_moon::<E>(n, trail) {
@@ -33,7 +31,7 @@ fn is_moon_before<E: Enclosure>(n: i64, t: E, trail: &mut Trail) -> Result<bool,
 fn walk<E: Enclosure>(more: u32, t: E, n: i64, trail: &mut Trail) -> Result<i64, Fail>
     requires low { negsuc 39999999 ≤ℤ n }
     requires high { (n +ℤ pos more) ≤ℤ pos 40000000 }
-    ensures leads { (w : World) (x : Expression) → Within E.shown w x t → Leads w Exact (spec.walk_of more x n) trail.old.count trail.new.count result }
+    ensures leads { Decides1 E.shown (λ x. spec.walk_of more x n) t trail.old.count trail.new.count result }
     ensures from { IfOk result (λ k. n ≤ℤ k) }
     ensures to { IfOk result (λ k. k ≤ℤ (n +ℤ pos more)) }
     ensures counted { trail.new.count ≤ trail.old.count + 2 * more }
@@ -53,7 +51,7 @@ fn walk<E: Enclosure>(more: u32, t: E, n: i64, trail: &mut Trail) -> Result<i64,
 fn moon_preceding<E: Enclosure>(n: i64, trail: &mut Trail) -> Result<E, Fail>
     requires low { negsuc 39999998 ≤ℤ n }
     requires high { n ≤ℤ pos 40000000 }
-    ensures leads { (w : World) → DEPTH ≤ w.depth → Leads w (Within E.shown w) (spec.moon_preceding_of n) trail.old.count trail.new.count result }
+    ensures leads { Follows E.shown (spec.moon_preceding_of n) trail.old.count trail.new.count result }
     ensures counted { trail.new.count ≤ trail.old.count + 1 }
 {
     new_moon::<E>(n - 1, trail)
@@ -65,7 +63,7 @@ fn moon_preceding<E: Enclosure>(n: i64, trail: &mut Trail) -> Result<E, Fail>
 /// five steps, and at `year` in a year without a correction.
 #[tactic(auto, using(book_model::proofs::Leads::leading), unfolding(book_model::specs::sky::Phases::moon_before_of, book_model::specs::programs::Leading::next_turn))]
 pub fn moon_before<E: Enclosure>(t: E, trail: &mut Trail) -> Result<E, Fail>
-    ensures leads { (w : World) (x : Expression) → Within E.shown w x t → Leads w (Within E.shown w) (spec.moon_before_of x) trail.old.count trail.new.count result }
+    ensures leads { Follows1 E.shown spec.moon_before_of t trail.old.count trail.new.count result }
     ensures counted { trail.new.count ≤ trail.old.count + 25 }
 {
     let about = number(t, trail)?;
@@ -81,7 +79,7 @@ pub fn moon_before<E: Enclosure>(t: E, trail: &mut Trail) -> Result<E, Fail>
 /// at `year` in a year without a correction.
 #[tactic(auto, using(book_model::proofs::Leads::leading), unfolding(book_model::specs::sky::Phases::moon_from_of, book_model::specs::programs::Leading::next_turn))]
 pub fn moon_from<E: Enclosure>(t: E, trail: &mut Trail) -> Result<E, Fail>
-    ensures leads { (w : World) (x : Expression) → Within E.shown w x t → Leads w (Within E.shown w) (spec.moon_from_of x) trail.old.count trail.new.count result }
+    ensures leads { Follows1 E.shown spec.moon_from_of t trail.old.count trail.new.count result }
     ensures counted { trail.new.count ≤ trail.old.count + 25 }
 {
     let about = number(t, trail)?;

@@ -1,13 +1,12 @@
 //! The moment of a new moon.
-ghost use Rattle.std.specs.Prelude.{◌≡◌, ◌≤◌, ℤ, pos, negsuc, ◌≤ℤ◌};
-ghost use Rattle.book_model.specs.numbers.Bounds.{Reach, limits_of};
-ghost use Rattle.book_model.specs.numbers.Expressions.{Expression, World};
+ghost use Rattle.book_model.specs.programs.Calls.{Follows, Holds, Narrows};
+ghost use Rattle.std.specs.Prelude.{◌≡◌, ℤ, pos, negsuc, ◌≤ℤ◌};
+
 ghost use Rattle.book_model.specs.numbers.Fractions.{fraction_of};
-ghost use Rattle.book_model.specs.programs.Leading.{Leads, next_turn};
+ghost use Rattle.book_model.specs.programs.Leading.{next_turn};
 ghost use Rattle.book_model.specs.sky.NewMoons as spec;
-ghost use Rattle.book_model.specs.numbers.Relations.{Within, Narrow};
+
 ghost use Rattle.new_moons.specs.Moons.{computed_mean_of, computed_node_term_of, computed_terms_of, computed_new_moon_of};
-ghost use Rattle.book_model.specs.numbers.Depth.{DEPTH};
 
 use crate::angles::{Angles, angles_at};
 use crate::terms::Number;
@@ -33,8 +32,8 @@ fn centuries_of_months(months: i64) -> Frac
 #[inline(always)]
 #[tactic(auto, unfolding(book_model::specs::sky::NewMoons::mean_new_moon_of, crate::specs::Moons::computed_mean_of))]
 fn mean_new_moon<E: Enclosure>(time: Frac) -> E
-    ensures holds { (w : World) → DEPTH ≤ w.depth → Within E.shown w (spec.mean_new_moon_of (fraction_of time)) result }
-    ensures narrow { (r : Reach) → Narrow E.shown (limits_of E.BITS) r (computed_mean_of (fraction_of time)) result }
+    ensures holds { Holds E.shown (spec.mean_new_moon_of (fraction_of time)) result }
+    ensures narrow { Narrows E.shown E.BITS (computed_mean_of (fraction_of time)) result }
 {
     E::from_frac(NOON_2000).add(at_fraction::<E>(&MEAN_NEW_MOON, time))
 }
@@ -43,8 +42,8 @@ fn mean_new_moon<E: Enclosure>(time: Frac) -> E
 #[inline(always)]
 #[tactic(auto, unfolding(book_model::specs::sky::NewMoons::node_term_of, crate::specs::Moons::computed_node_term_of))]
 fn node_term<E: Enclosure>(time: Frac) -> E
-    ensures holds { (w : World) → DEPTH ≤ w.depth → Within E.shown w (spec.node_term_of (fraction_of time)) result }
-    ensures narrow { (r : Reach) → Narrow E.shown (limits_of E.BITS) r (computed_node_term_of (fraction_of time)) result }
+    ensures holds { Holds E.shown (spec.node_term_of (fraction_of time)) result }
+    ensures narrow { Narrows E.shown E.BITS (computed_node_term_of (fraction_of time)) result }
 {
     sin_deg(at_fraction::<E>(&NEW_MOON_NODE, time)).mul_frac(NODE_TERM)
 }
@@ -52,8 +51,8 @@ fn node_term<E: Enclosure>(time: Frac) -> E
 /// The sum of the terms of the three angles, in days.
 #[tactic(auto, unfolding(book_model::specs::sky::NewMoons::new_moon_terms_of, crate::specs::Moons::computed_terms_of))]
 fn lunar_terms<E: Enclosure>(time: Frac) -> E
-    ensures holds { (w : World) → DEPTH ≤ w.depth → Within E.shown w (spec.new_moon_terms_of (fraction_of time)) result }
-    ensures narrow { (r : Reach) → Narrow E.shown (limits_of E.BITS) r (computed_terms_of (fraction_of time)) result }
+    ensures holds { Holds E.shown (spec.new_moon_terms_of (fraction_of time)) result }
+    ensures narrow { Narrows E.shown E.BITS (computed_terms_of (fraction_of time)) result }
 {
     sum_of_terms::<Angles<E>, E, NewMoonTerm>(&NEW_MOON_TERMS, angles_at::<E>(time))
 }
@@ -62,8 +61,8 @@ fn lunar_terms<E: Enclosure>(time: Frac) -> E
 #[inline(always)]
 #[tactic(auto, unfolding(book_model::specs::numbers::Polynomials::quadratic_wave_of, book_model::specs::sky::NewMoons::venus_wave_of))]
 fn venus_wave<E: Enclosure>(time: Frac) -> E
-    ensures holds { (w : World) → DEPTH ≤ w.depth → Within E.shown w (spec.venus_wave_of (fraction_of time)) result }
-    ensures narrow { (r : Reach) → Narrow E.shown (limits_of E.BITS) r (spec.venus_wave_of (fraction_of time)) result }
+    ensures holds { Holds E.shown (spec.venus_wave_of (fraction_of time)) result }
+    ensures narrow { Narrows E.shown E.BITS (spec.venus_wave_of (fraction_of time)) result }
 {
     sin_deg(quadratic(&NEW_MOON_WAVE.angle, E::from_frac(time))).mul_frac(NEW_MOON_WAVE.size)
 }
@@ -71,8 +70,8 @@ fn venus_wave<E: Enclosure>(time: Frac) -> E
 /// What the planets add by the number of the new moon, counted from that of January 2000, in days.
 #[tactic(auto, unfolding(book_model::specs::sky::NewMoons::planet_terms_of))]
 fn planet_terms<E: Enclosure>(number: i64) -> E
-    ensures holds { (w : World) → DEPTH ≤ w.depth → Within E.shown w (spec.planet_terms_of number) result }
-    ensures narrow { (r : Reach) → Narrow E.shown (limits_of E.BITS) r (spec.planet_terms_of number) result }
+    ensures holds { Holds E.shown (spec.planet_terms_of number) result }
+    ensures narrow { Narrows E.shown E.BITS (spec.planet_terms_of number) result }
 {
     sum_of_terms::<Number, E, PlanetTerm>(&PLANET_TERMS, Number(number))
 }
@@ -82,8 +81,8 @@ fn planet_terms<E: Enclosure>(number: i64) -> E
 fn dynamical_new_moon<E: Enclosure>(number: i64) -> E
     requires low { negsuc 40049999 ≤ℤ number }
     requires high { number ≤ℤ pos 40050000 }
-    ensures holds { (w : World) → DEPTH ≤ w.depth → Within E.shown w (spec.dynamical_new_moon_of number) result }
-    ensures narrow { (r : Reach) → Narrow E.shown (limits_of E.BITS) r (computed_new_moon_of number) result }
+    ensures holds { Holds E.shown (spec.dynamical_new_moon_of number) result }
+    ensures narrow { Narrows E.shown E.BITS (computed_new_moon_of number) result }
 {
     let time = centuries_of_months(number);
     mean_new_moon::<E>(time)
@@ -100,7 +99,7 @@ fn dynamical_new_moon<E: Enclosure>(number: i64) -> E
 pub fn new_moon<E: Enclosure>(n: i64, trail: &mut Trail) -> Result<E, Fail>
     requires low { negsuc 39999999 ≤ℤ n }
     requires high { n ≤ℤ pos 40000000 }
-    ensures leads { (w : World) → DEPTH ≤ w.depth → Leads w (Within E.shown w) (spec.new_moon_of n) trail.old.count trail.new.count result }
+    ensures leads { Follows E.shown (spec.new_moon_of n) trail.old.count trail.new.count result }
     ensures counted { trail.new.count ≡ next_turn trail.old.count }
 {
     from_dynamical(dynamical_new_moon::<E>(n - NEW_MOON_OF_2000), trail)

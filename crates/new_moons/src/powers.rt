@@ -1,8 +1,6 @@
 //! Powers of a factor.
-ghost use Rattle.std.specs.Prelude.{◌≡◌, ◌≤◌};
-ghost use Rattle.book_model.specs.numbers.Bounds.{Reach, limits_of};
-ghost use Rattle.book_model.specs.numbers.Expressions.{Expression, World};
-ghost use Rattle.book_model.specs.numbers.Relations.{Within, Narrow};
+
+ghost use Rattle.book_model.specs.programs.Calls.{Holds2, Narrows2};
 ghost use Rattle.book_model.specs.numbers.Terms.{times_power as times_power_of};
 
 use encl_core::Enclosure;
@@ -10,8 +8,8 @@ use encl_core::Enclosure;
 /// A term times a power of a factor; at the exponent 0 the term itself.
 #[tactic(auto, using(crate::proofs::PowerLemmas::powers))]
 pub fn times_power<E: Enclosure>(factor: E, exponent: u64, term: E) -> E
-    ensures holds { (w : World) (f x : Expression) → Within E.shown w f factor → Within E.shown w x term → Within E.shown w (times_power_of f exponent x) result }
-    ensures narrow { (r : Reach) (f x : Expression) → Narrow E.shown (limits_of E.BITS) r f factor → Narrow E.shown (limits_of E.BITS) r x term → Narrow E.shown (limits_of E.BITS) r (times_power_of f exponent x) result }
+    ensures holds { Holds2 E.shown (λ f x. times_power_of f exponent x) factor term result }
+    ensures narrow { Narrows2 E.shown E.BITS (λ f x. times_power_of f exponent x) factor term result }
 {
     if exponent == 0 {
         return term;

@@ -1,10 +1,8 @@
 //! One approximation of dawn or dusk, from a moment near to it.
-ghost use Rattle.std.specs.Prelude.{◌≤◌, ◌+◌, ℤ};
-ghost use Rattle.book_model.specs.numbers.Depth.{DEPTH};
-ghost use Rattle.book_model.specs.numbers.Expressions.{Expression, World};
+ghost use Rattle.book_model.specs.programs.Calls.{Follows2, Holds, Holds1};
+ghost use Rattle.std.specs.Prelude.{◌≤◌, ◌+◌};
+
 ghost use Rattle.book_model.specs.sky.Horizon as spec;
-ghost use Rattle.book_model.specs.programs.Leading.{Leads};
-ghost use Rattle.book_model.specs.numbers.Relations.{Within};
 
 use crate::offsets::near_offset;
 use arc_series::arcsin_deg;
@@ -15,7 +13,7 @@ use sun_core::from_apparent;
 /// When the sun rises or sets on a day (R.D.) at the equinox, in apparent time: at 6 or at 18 hours.
 #[tactic(auto, unfolding(book_model::specs::sky::Horizon::quarter_of))]
 pub(crate) fn quarter<E: Enclosure>(twilight: Twilight, day: i64) -> E
-    ensures holds { (w : World) → DEPTH ≤ w.depth → Within E.shown w (spec.quarter_of twilight day) result }
+    ensures holds { Holds E.shown (spec.quarter_of twilight day) result }
 {
     match twilight {
         Twilight::Dawn => E::from_int(day).add(E::from_frac(QUARTER)),
@@ -25,7 +23,7 @@ pub(crate) fn quarter<E: Enclosure>(twilight: Twilight, day: i64) -> E
 
 /// The angle of an offset, as a part of a day.
 fn part_of_day<E: Enclosure>(offset: E) -> E
-    ensures holds { (w : World) (s : Expression) → DEPTH ≤ w.depth → Within E.shown w s offset → Within E.shown w (spec.part_of s) result }
+    ensures holds { Holds1 E.shown spec.part_of offset result }
 {
     arcsin_deg(offset).mul_frac(DEGREE_IN_DAYS)
 }
@@ -33,7 +31,7 @@ fn part_of_day<E: Enclosure>(offset: E) -> E
 /// The apparent time of a day (R.D.) at which the sun has a depression, by the offset.
 #[tactic(auto, unfolding(book_model::specs::sky::Horizon::apparent_by))]
 fn apparent<E: Enclosure>(twilight: Twilight, day: i64, offset: E) -> E
-    ensures holds { (w : World) (s : Expression) → DEPTH ≤ w.depth → Within E.shown w s offset → Within E.shown w (spec.apparent_by twilight day s) result }
+    ensures holds { Holds1 E.shown (spec.apparent_by twilight day) offset result }
 {
     match twilight {
         Twilight::Dawn => quarter::<E>(Twilight::Dawn, day).sub(part_of_day(offset)),
@@ -51,7 +49,7 @@ fn approximation_on<E: Enclosure>(
     day: i64,
     trail: &mut Trail,
 ) -> Result<E, Fail>
-    ensures leads { (w : World) (a x : Expression) → DEPTH ≤ w.depth → Within E.shown w a depression → Within E.shown w x t → Leads w (Within E.shown w) (spec.approximation_on location.now twilight a x day) trail.old.count trail.new.count result }
+    ensures leads { Follows2 E.shown (λ a x. spec.approximation_on location.now twilight a x day) depression t trail.old.count trail.new.count result }
     ensures counted { trail.new.count ≤ trail.old.count + 9 }
 {
     match near_offset(location, twilight, depression, day, t, trail) {
@@ -71,7 +69,7 @@ pub(crate) fn approximation<E: Enclosure>(
     t: E,
     trail: &mut Trail,
 ) -> Result<E, Fail>
-    ensures leads { (w : World) (a x : Expression) → DEPTH ≤ w.depth → Within E.shown w a depression → Within E.shown w x t → Leads w (Within E.shown w) (spec.approximation_of location.now twilight a x) trail.old.count trail.new.count result }
+    ensures leads { Follows2 E.shown (spec.approximation_of location.now twilight) depression t trail.old.count trail.new.count result }
     ensures counted { trail.new.count ≤ trail.old.count + 10 }
 {
     match floor_step(t, Site::DayFloor, trail) {

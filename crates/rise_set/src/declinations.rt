@@ -1,11 +1,9 @@
 //! The declination of the sun.
+ghost use Rattle.book_model.specs.programs.Calls.{Follows1, Holds1, Holds2};
 ghost use Rattle.std.specs.Prelude.{◌≤◌, ◌+◌};
-ghost use Rattle.book_model.specs.numbers.Depth.{DEPTH};
-ghost use Rattle.book_model.specs.numbers.Expressions.{Expression, World};
+
 ghost use Rattle.book_model.specs.numbers.Fractions.{fraction_of};
 ghost use Rattle.book_model.specs.sky.Horizon as spec;
-ghost use Rattle.book_model.specs.programs.Leading.{Leads};
-ghost use Rattle.book_model.specs.numbers.Relations.{Within};
 
 use arc_series::arcsin_deg;
 use book_model::{DEGREE_IN_DAYS, Fail, Frac};
@@ -17,7 +15,7 @@ use trig_series::sin_deg;
 /// The universal time of a moment of local mean time at a longitude east of Greenwich, in degrees.
 #[tactic(auto, unfolding(book_model::specs::sky::Horizon::universal_of, book_model::specs::sky::Noon::ahead_of))]
 pub(crate) fn universal<E: Enclosure>(longitude: Frac, t: E) -> E
-    ensures holds { (w : World) (x : Expression) → DEPTH ≤ w.depth → Within E.shown w x t → Within E.shown w (spec.universal_of (fraction_of longitude) x) result }
+    ensures holds { Holds1 E.shown (spec.universal_of (fraction_of longitude)) t result }
 {
     t.sub(E::from_frac(longitude).mul_frac(DEGREE_IN_DAYS))
 }
@@ -25,7 +23,7 @@ pub(crate) fn universal<E: Enclosure>(longitude: Frac, t: E) -> E
 /// The declination of the sun by the obliquity of the ecliptic and the longitude of the sun, in degrees.
 #[tactic(auto, unfolding(book_model::specs::sky::Horizon::declination_by))]
 fn declination_by<E: Enclosure>(obliquity: E, longitude: E) -> E
-    ensures holds { (w : World) (o s : Expression) → DEPTH ≤ w.depth → Within E.shown w o obliquity → Within E.shown w s longitude → Within E.shown w (spec.declination_by o s) result }
+    ensures holds { Holds2 E.shown spec.declination_by obliquity longitude result }
 {
     arcsin_deg(sin_deg(obliquity).mul(sin_deg(longitude)))
 }
@@ -35,7 +33,7 @@ fn declination_by<E: Enclosure>(obliquity: E, longitude: E) -> E
 /// correction.
 #[tactic(auto, using(book_model::proofs::Leads::leading), unfolding(book_model::specs::sky::Horizon::declination_of, book_model::specs::programs::Leading::next_turn))]
 pub fn declination<E: Enclosure>(t: E, trail: &mut Trail) -> Result<E, Fail>
-    ensures leads { (w : World) (x : Expression) → DEPTH ≤ w.depth → Within E.shown w x t → Leads w (Within E.shown w) (spec.declination_of x) trail.old.count trail.new.count result }
+    ensures leads { Follows1 E.shown spec.declination_of t trail.old.count trail.new.count result }
     ensures counted { trail.new.count ≤ trail.old.count + 3 }
 {
     let c = centuries(t, trail)?;

@@ -1,10 +1,8 @@
 //! Dawn and dusk: approximations until two of them are less than half a minute apart.
-ghost use Rattle.std.specs.Prelude.{◌≡◌, ◌≤◌, ◌+◌, ◌*◌, ℤ, Bool};
-ghost use Rattle.book_model.specs.numbers.Depth.{DEPTH};
-ghost use Rattle.book_model.specs.numbers.Expressions.{Expression, World};
+ghost use Rattle.book_model.specs.programs.Calls.{Decides2, Follows1, Follows2};
+ghost use Rattle.std.specs.Prelude.{◌≤◌, ◌+◌, ◌*◌};
+
 ghost use Rattle.book_model.specs.sky.Horizon as spec;
-ghost use Rattle.book_model.specs.programs.Leading.{Exact, Leads};
-ghost use Rattle.book_model.specs.numbers.Relations.{Within};
 
 use crate::approximation::{approximation, quarter};
 use crate::offsets::size;
@@ -17,7 +15,7 @@ const APPROXIMATIONS: u32 = 12;
 /// Whether two moments are less than half a minute apart: one test.
 #[tactic(auto, using(book_model::proofs::Leads::leading), unfolding(book_model::specs::sky::Horizon::has_settled_of, book_model::specs::programs::Leading::next_turn))]
 fn has_settled<E: Enclosure>(old: E, new: E, trail: &mut Trail) -> Result<bool, Fail>
-    ensures leads { (w : World) (x y : Expression) → DEPTH ≤ w.depth → Within E.shown w x old → Within E.shown w y new → Leads w Exact (spec.has_settled_of x y) trail.old.count trail.new.count result }
+    ensures leads { Decides2 E.shown spec.has_settled_of old new trail.old.count trail.new.count result }
     ensures counted { trail.new.count ≤ trail.old.count + 1 }
 {
     less_step(
@@ -39,7 +37,7 @@ fn settled<E: Enclosure>(
     t: E,
     trail: &mut Trail,
 ) -> Result<E, Fail>
-    ensures leads { (w : World) (a x : Expression) → DEPTH ≤ w.depth → Within E.shown w a depression → Within E.shown w x t → Leads w (Within E.shown w) (spec.settled_of more location.now twilight a x) trail.old.count trail.new.count result }
+    ensures leads { Follows2 E.shown (spec.settled_of more location.now twilight) depression t trail.old.count trail.new.count result }
     ensures counted { trail.new.count ≤ trail.old.count + 11 * more }
 {
     if more == 0 {
@@ -62,7 +60,7 @@ fn depressed<E: Enclosure>(
     day: i64,
     trail: &mut Trail,
 ) -> Result<E, Fail>
-    ensures leads { (w : World) (a : Expression) → DEPTH ≤ w.depth → Within E.shown w a depression → Leads w (Within E.shown w) (spec.depression_of location.now twilight a day) trail.old.count trail.new.count result }
+    ensures leads { Follows1 E.shown (λ a. spec.depression_of location.now twilight a day) depression trail.old.count trail.new.count result }
     ensures counted { trail.new.count ≤ trail.old.count + 132 }
 {
     settled(
@@ -85,7 +83,7 @@ pub fn dawn<E: Enclosure>(
     day: i64,
     trail: &mut Trail,
 ) -> Result<E, Fail>
-    ensures leads { (w : World) (a : Expression) → DEPTH ≤ w.depth → Within E.shown w a depression → Leads w (Within E.shown w) (spec.dawn_of location.now a day) trail.old.count trail.new.count result }
+    ensures leads { Follows1 E.shown (λ a. spec.dawn_of location.now a day) depression trail.old.count trail.new.count result }
     ensures counted { trail.new.count ≤ trail.old.count + 132 }
 {
     depressed(location, Twilight::Dawn, depression, day, trail)
@@ -99,7 +97,7 @@ pub fn dusk<E: Enclosure>(
     day: i64,
     trail: &mut Trail,
 ) -> Result<E, Fail>
-    ensures leads { (w : World) (a : Expression) → DEPTH ≤ w.depth → Within E.shown w a depression → Leads w (Within E.shown w) (spec.dusk_of location.now a day) trail.old.count trail.new.count result }
+    ensures leads { Follows1 E.shown (λ a. spec.dusk_of location.now a day) depression trail.old.count trail.new.count result }
     ensures counted { trail.new.count ≤ trail.old.count + 132 }
 {
     depressed(location, Twilight::Dusk, depression, day, trail)

@@ -1,11 +1,10 @@
 //! Sunrise and sunset as the Hindu calendars take them, at Ujjain.
+ghost use Rattle.book_model.specs.programs.Calls.{Follows, Holds};
 ghost use Rattle.std.specs.Prelude.{◌≡◌, ◌≤◌, ◌+◌, ◌≤ℤ◌, pos, negsuc};
-ghost use Rattle.book_model.specs.numbers.Depth.{DEPTH};
-ghost use Rattle.book_model.specs.numbers.Expressions.{World, constant};
+
+ghost use Rattle.book_model.specs.numbers.Expressions.{constant};
 ghost use Rattle.book_model.specs.numbers.Fractions.{fraction_of};
 ghost use Rattle.book_model.specs.sky.Horizon as spec;
-ghost use Rattle.book_model.specs.programs.Leading.{Leads};
-ghost use Rattle.book_model.specs.numbers.Relations.{Within};
 
 use crate::declinations::universal;
 use crate::depression::{dawn, dusk};
@@ -22,7 +21,7 @@ fn in_days(minutes: i64) -> Frac
 
 /// A number of minutes as an enclosure of days.
 fn days<E: Enclosure>(minutes: i64) -> E
-    ensures holds { (w : World) → DEPTH ≤ w.depth → Within E.shown w (constant (spec.minutes_in_days minutes)) result }
+    ensures holds { Holds E.shown (constant (spec.minutes_in_days minutes)) result }
 {
     E::from_frac(in_days(minutes))
 }
@@ -34,7 +33,7 @@ fn days<E: Enclosure>(minutes: i64) -> E
 pub fn sunrise<E: Enclosure>(day: i64, trail: &mut Trail) -> Result<E, Fail>
     requires low { negsuc 39999999 ≤ℤ day }
     requires high { day ≤ℤ pos 40000000 }
-    ensures leads { (w : World) → DEPTH ≤ w.depth → Leads w (Within E.shown w) (spec.sunrise_of day) trail.old.count trail.new.count result }
+    ensures leads { Follows E.shown (spec.sunrise_of day) trail.old.count trail.new.count result }
     ensures counted { trail.new.count ≤ trail.old.count + 133 }
 {
     let rising = dawn(&UJJAIN, E::from_frac(HINDU_SUNRISE_DEPRESSION), day, trail)?;
@@ -48,7 +47,7 @@ pub fn sunrise<E: Enclosure>(day: i64, trail: &mut Trail) -> Result<E, Fail>
 /// Calculations, chapter 20): 132 tests at most. It is void where dusk is.
 #[tactic(auto, using(book_model::proofs::Leads::leading), unfolding(book_model::specs::sky::Horizon::hindu_sunset_of))]
 pub fn hsunset<E: Enclosure>(day: i64, trail: &mut Trail) -> Result<E, Fail>
-    ensures leads { (w : World) → DEPTH ≤ w.depth → Leads w (Within E.shown w) (spec.hindu_sunset_of day) trail.old.count trail.new.count result }
+    ensures leads { Follows E.shown (spec.hindu_sunset_of day) trail.old.count trail.new.count result }
     ensures counted { trail.new.count ≤ trail.old.count + 132 }
 {
     match dusk(&UJJAIN, E::from_int(0), day, trail) {

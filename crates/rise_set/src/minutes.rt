@@ -1,11 +1,12 @@
 //! The floor of a number to which a whole number is added, and moments rounded to minutes.
+ghost use Rattle.book_model.specs.programs.Calls.{Decides1, Holds1};
 ghost use Rattle.std.specs.Prelude.{◌≡◌, ◌≤◌, ◌+◌, ◌*ℤ◌, ◌+ℤ◌, ◌≤ℤ◌, ℤ, pos, negsuc, IfOk, IfErr, IfSome};
-ghost use Rattle.book_model.specs.numbers.Depth.{DEPTH};
-ghost use Rattle.book_model.specs.numbers.Expressions.{Expression, World, add, integer};
+
+ghost use Rattle.book_model.specs.numbers.Expressions.{add, integer};
 ghost use Rattle.book_model.specs.sky.Horizon as spec;
-ghost use Rattle.book_model.specs.programs.Leading.{Exact, Leads};
+
 ghost use Rattle.book_model.specs.programs.Programs.{answer, cell, integers};
-ghost use Rattle.book_model.specs.numbers.Relations.{Within};
+
 ghost use Rattle.rise_set.specs.Moved.{AreMoved, AreOf128Bits, IsBeside, IsTooFar};
 
 use book_model::{Fail, HALF, MINUTES, MINUTES_OF_DAY, Site, Undecided};
@@ -72,7 +73,7 @@ fn sum(whole: i64, floor: i64, site: Site, turn: u32) -> Result<i64, Fail>
 /// The floor of a whole number and an enclosed one, as one test of both: what is enclosed stays small, so that it is narrow.
 #[tactic(auto, unfolding(book_model::specs::programs::Leading::next_turn))]
 fn floor_beside<E: Enclosure>(whole: i64, x: E, site: Site, trail: &mut Trail) -> Result<i64, Fail>
-    ensures leads { (w : World) (e : Expression) → Within E.shown w e x → Leads w Exact (cell site integers (add (integer whole) e) answer) trail.old.count trail.new.count result }
+    ensures leads { Decides1 E.shown (λ e. cell site integers (add (integer whole) e) answer) x trail.old.count trail.new.count result }
     ensures counted { trail.new.count ≤ trail.old.count + 1 }
 {
     match floor_step(x, site, trail) {
@@ -83,7 +84,7 @@ fn floor_beside<E: Enclosure>(whole: i64, x: E, site: Site, trail: &mut Trail) -
 
 /// The minutes from the beginning of a day (R.D.) to a moment of it, and a half.
 fn minutes_after<E: Enclosure>(day: i64, t: E) -> E
-    ensures holds { (w : World) (x : Expression) → DEPTH ≤ w.depth → Within E.shown w x t → Within E.shown w (spec.minutes_after_of day x) result }
+    ensures holds { Holds1 E.shown (spec.minutes_after_of day) t result }
 {
     t.sub(E::from_int(day))
         .mul_frac(MINUTES_OF_DAY)
@@ -95,7 +96,7 @@ fn minutes_after<E: Enclosure>(day: i64, t: E) -> E
 pub(crate) fn rounded_minutes<E: Enclosure>(day: i64, t: E, trail: &mut Trail) -> Result<i64, Fail>
     requires low { negsuc 39999999 ≤ℤ day }
     requires high { day ≤ℤ pos 40000000 }
-    ensures leads { (w : World) (x : Expression) → DEPTH ≤ w.depth → Within E.shown w x t → Leads w Exact (spec.rounded_minutes_of day x) trail.old.count trail.new.count result }
+    ensures leads { Decides1 E.shown (spec.rounded_minutes_of day) t trail.old.count trail.new.count result }
     ensures counted { trail.new.count ≤ trail.old.count + 1 }
 {
     floor_beside(

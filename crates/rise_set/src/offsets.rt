@@ -1,12 +1,11 @@
 //! How far the sun is from the horizon: the sine of the hour angle at which it has a depression, less a quarter of a turn.
-ghost use Rattle.std.specs.Prelude.{◌≡◌, ◌≤◌, ◌+◌, ℤ, Bool};
-ghost use Rattle.book_model.specs.numbers.Depth.{DEPTH};
-ghost use Rattle.book_model.specs.numbers.Expressions.{Expression, World};
+ghost use Rattle.book_model.specs.programs.Calls.{Decides1, Follows1, Follows2, Holds, Holds1, Holds2, Holds3};
+ghost use Rattle.std.specs.Prelude.{◌≡◌, ◌≤◌, ◌+◌};
+
 ghost use Rattle.book_model.specs.numbers.Fractions.{fraction_of};
 ghost use Rattle.book_model.specs.sky.Horizon as spec;
-ghost use Rattle.book_model.specs.programs.Leading.{Exact, Leads};
+
 ghost use Rattle.book_model.specs.sky.Phases.{size_of};
-ghost use Rattle.book_model.specs.numbers.Relations.{Within};
 
 use crate::declinations::{declination, universal};
 use book_model::{Fail, Frac, Location, Site, Twilight};
@@ -16,21 +15,21 @@ use trig_series::{cos_deg, sin_deg, tan_deg};
 /// The size of a number.
 #[tactic(auto, unfolding(book_model::specs::sky::Phases::size_of))]
 pub(crate) fn size<E: Enclosure>(x: E) -> E
-    ensures holds { (w : World) (e : Expression) → Within E.shown w e x → Within E.shown w (size_of e) result }
+    ensures holds { Holds1 E.shown size_of x result }
 {
     x.max(x.neg())
 }
 
 /// What the latitude and the declination make of the offset.
 fn by_declination<E: Enclosure>(latitude: E, declination: E) -> E
-    ensures holds { (w : World) (l d : Expression) → DEPTH ≤ w.depth → Within E.shown w l latitude → Within E.shown w d declination → Within E.shown w (spec.by_declination l d) result }
+    ensures holds { Holds2 E.shown spec.by_declination latitude declination result }
 {
     tan_deg(latitude).mul(tan_deg(declination))
 }
 
 /// What the depression makes of it.
 fn by_depression<E: Enclosure>(latitude: E, depression: E, declination: E) -> E
-    ensures holds { (w : World) (l a d : Expression) → DEPTH ≤ w.depth → Within E.shown w l latitude → Within E.shown w a depression → Within E.shown w d declination → Within E.shown w (spec.by_depression l a d) result }
+    ensures holds { Holds3 E.shown spec.by_depression latitude depression declination result }
 {
     sin_deg(depression).div(cos_deg(declination).mul(cos_deg(latitude)))
 }
@@ -38,7 +37,7 @@ fn by_depression<E: Enclosure>(latitude: E, depression: E, declination: E) -> E
 /// The offset by the latitude, the depression and the declination, all in degrees.
 #[tactic(auto, unfolding(book_model::specs::sky::Horizon::offset_by))]
 fn offset_by<E: Enclosure>(latitude: Frac, depression: E, declination: E) -> E
-    ensures holds { (w : World) (a d : Expression) → DEPTH ≤ w.depth → Within E.shown w a depression → Within E.shown w d declination → Within E.shown w (spec.offset_by (fraction_of latitude) a d) result }
+    ensures holds { Holds2 E.shown (spec.offset_by (fraction_of latitude)) depression declination result }
 {
     let north = E::from_frac(latitude);
     by_declination(north, declination).add(by_depression(north, depression, declination))
@@ -54,7 +53,7 @@ pub fn offset<E: Enclosure>(
     t: E,
     trail: &mut Trail,
 ) -> Result<E, Fail>
-    ensures leads { (w : World) (a x : Expression) → DEPTH ≤ w.depth → Within E.shown w a depression → Within E.shown w x t → Leads w (Within E.shown w) (spec.offset_of location.now a x) trail.old.count trail.new.count result }
+    ensures leads { Follows2 E.shown (spec.offset_of location.now) depression t trail.old.count trail.new.count result }
     ensures counted { trail.new.count ≤ trail.old.count + 3 }
 {
     match declination(universal(location.longitude, t), trail) {
@@ -66,7 +65,7 @@ pub fn offset<E: Enclosure>(
 /// Whether an offset is no sine, so that the sun doesn't come to the depression: one test.
 #[tactic(auto, using(book_model::proofs::Leads::leading), unfolding(book_model::specs::sky::Horizon::is_out_of_reach, book_model::specs::programs::Leading::next_turn))]
 fn is_out_of_reach<E: Enclosure>(offset: E, trail: &mut Trail) -> Result<bool, Fail>
-    ensures leads { (w : World) (s : Expression) → DEPTH ≤ w.depth → Within E.shown w s offset → Leads w Exact (spec.is_out_of_reach s) trail.old.count trail.new.count result }
+    ensures leads { Decides1 E.shown spec.is_out_of_reach offset trail.old.count trail.new.count result }
     ensures counted { trail.new.count ≤ trail.old.count + 1 }
 {
     less_step(E::from_int(1), size(offset), Site::Offset, trail)
@@ -75,7 +74,7 @@ fn is_out_of_reach<E: Enclosure>(offset: E, trail: &mut Trail) -> Result<bool, F
 /// An offset that is reached; void at `offset` where it isn't.
 #[tactic(auto, using(book_model::proofs::Leads::leading), unfolding(book_model::specs::sky::Horizon::if_reached))]
 fn if_reached<E: Enclosure>(offset: E, out: bool, trail: &mut Trail) -> Result<E, Fail>
-    ensures leads { (w : World) (s : Expression) → Within E.shown w s offset → Leads w (Within E.shown w) (spec.if_reached s out) trail.old.count trail.new.count result }
+    ensures leads { Follows1 E.shown (λ s. spec.if_reached s out) offset trail.old.count trail.new.count result }
     ensures counted { trail.new.count ≡ trail.old.count }
 {
     if out {
@@ -94,7 +93,7 @@ fn reached_offset<E: Enclosure>(
     t: E,
     trail: &mut Trail,
 ) -> Result<E, Fail>
-    ensures leads { (w : World) (a x : Expression) → DEPTH ≤ w.depth → Within E.shown w a depression → Within E.shown w x t → Leads w (Within E.shown w) (spec.reached_offset_of location.now a x) trail.old.count trail.new.count result }
+    ensures leads { Follows2 E.shown (spec.reached_offset_of location.now) depression t trail.old.count trail.new.count result }
     ensures counted { trail.new.count ≤ trail.old.count + 4 }
 {
     let there = offset(location, depression, t, trail)?;
@@ -105,7 +104,7 @@ fn reached_offset<E: Enclosure>(
 /// Where the offset is taken anew: as a day (R.D.) begins, for dawn, and as it ends, for dusk.
 #[tactic(auto, unfolding(book_model::specs::sky::Horizon::edge_of))]
 fn edge<E: Enclosure>(twilight: Twilight, day: i64) -> E
-    ensures holds { (w : World) → DEPTH ≤ w.depth → Within E.shown w (spec.edge_of twilight day) result }
+    ensures holds { Holds E.shown (spec.edge_of twilight day) result }
 {
     match twilight {
         Twilight::Dawn => E::from_int(day),
@@ -124,7 +123,7 @@ fn or_at_edge<E: Enclosure>(
     out: bool,
     trail: &mut Trail,
 ) -> Result<E, Fail>
-    ensures leads { (w : World) (a s : Expression) → DEPTH ≤ w.depth → Within E.shown w a depression → Within E.shown w s offset → Leads w (Within E.shown w) (spec.or_at_edge location.now twilight a day s out) trail.old.count trail.new.count result }
+    ensures leads { Follows2 E.shown (λ a s. spec.or_at_edge location.now twilight a day s out) depression offset trail.old.count trail.new.count result }
     ensures counted { trail.new.count ≤ trail.old.count + 4 }
 {
     if out {
@@ -145,7 +144,7 @@ pub(crate) fn near_offset<E: Enclosure>(
     t: E,
     trail: &mut Trail,
 ) -> Result<E, Fail>
-    ensures leads { (w : World) (a x : Expression) → DEPTH ≤ w.depth → Within E.shown w a depression → Within E.shown w x t → Leads w (Within E.shown w) (spec.near_offset_of location.now twilight a day x) trail.old.count trail.new.count result }
+    ensures leads { Follows2 E.shown (λ a x. spec.near_offset_of location.now twilight a day x) depression t trail.old.count trail.new.count result }
     ensures counted { trail.new.count ≤ trail.old.count + 8 }
 {
     let there = offset(location, depression, t, trail)?;

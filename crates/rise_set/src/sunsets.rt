@@ -1,11 +1,9 @@
 //! Sunset, and by how many degrees the sun stands below the horizon then.
-ghost use Rattle.std.specs.Prelude.{◌≡◌, ◌≤◌, ◌+◌, ◌-◌, ℕ, ℤ, pos};
-ghost use Rattle.book_model.specs.numbers.Depth.{DEPTH};
-ghost use Rattle.book_model.specs.numbers.Expressions.{World, constant, integer};
+ghost use Rattle.book_model.specs.programs.Calls.{Follows, Holds};
+ghost use Rattle.std.specs.Prelude.{◌≡◌, ◌≤◌, ◌+◌};
+
 ghost use Rattle.book_model.specs.numbers.Fractions.{fraction_of};
 ghost use Rattle.book_model.specs.sky.Horizon as spec;
-ghost use Rattle.book_model.specs.programs.Leading.{Leads};
-ghost use Rattle.book_model.specs.numbers.Relations.{Within};
 
 use crate::declinations::universal;
 use crate::depression::dusk;
@@ -26,14 +24,14 @@ fn horizon_cosine(height: u16) -> Frac
 
 /// The angle by which the horizon lies deeper from so many metres of height, in degrees.
 fn dip<E: Enclosure>(height: u16) -> E
-    ensures holds { (w : World) → DEPTH ≤ w.depth → Within E.shown w (spec.dip_of height) result }
+    ensures holds { Holds E.shown (spec.dip_of height) result }
 {
     arccos_deg(E::from_frac(horizon_cosine(height)))
 }
 
 /// What the air lifts the sun besides from so many metres of height, in degrees.
 fn refraction_of_height<E: Enclosure>(height: u16) -> E
-    ensures holds { (w : World) → DEPTH ≤ w.depth → Within E.shown w (spec.refraction_of_height height) result }
+    ensures holds { Holds E.shown (spec.refraction_of_height height) result }
 {
     E::from_int(i64::from(height))
         .root()
@@ -45,7 +43,7 @@ fn refraction_of_height<E: Enclosure>(height: u16) -> E
 /// no test.
 #[tactic(auto, unfolding(book_model::specs::sky::Horizon::refraction_of))]
 pub fn refraction<E: Enclosure>(location: &Location) -> E
-    ensures holds { (w : World) → DEPTH ≤ w.depth → Within E.shown w (spec.refraction_of location.now) result }
+    ensures holds { Holds E.shown (spec.refraction_of location.now) result }
 {
     E::from_frac(REFRACTION)
         .add(dip(location.height))
@@ -55,7 +53,7 @@ pub fn refraction<E: Enclosure>(location: &Location) -> E
 /// The same when its upper edge is seen to set.
 #[tactic(auto, unfolding(book_model::specs::sky::Horizon::sunset_depression_of))]
 pub fn sunset_depression<E: Enclosure>(location: &Location) -> E
-    ensures holds { (w : World) → DEPTH ≤ w.depth → Within E.shown w (spec.sunset_depression_of location.now) result }
+    ensures holds { Holds E.shown (spec.sunset_depression_of location.now) result }
 {
     refraction::<E>(location).add(E::from_frac(HALF_SUN))
 }
@@ -64,7 +62,7 @@ pub fn sunset_depression<E: Enclosure>(location: &Location) -> E
 /// tests at most. It is void where dusk is.
 #[tactic(auto, using(book_model::proofs::Leads::leading), unfolding(book_model::specs::sky::Horizon::sunset_of))]
 pub fn sunset<E: Enclosure>(location: &Location, day: i64, trail: &mut Trail) -> Result<E, Fail>
-    ensures leads { (w : World) → DEPTH ≤ w.depth → Leads w (Within E.shown w) (spec.sunset_of location.now day) trail.old.count trail.new.count result }
+    ensures leads { Follows E.shown (spec.sunset_of location.now day) trail.old.count trail.new.count result }
     ensures counted { trail.new.count ≤ trail.old.count + 132 }
 {
     match dusk(location, sunset_depression::<E>(location), day, trail) {

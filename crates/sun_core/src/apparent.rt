@@ -1,13 +1,12 @@
 //! Apparent time, which sundials show, and true noon at Tehran.
-ghost use Rattle.std.specs.Prelude.{◌≡◌, ◌≤◌, pos, negsuc, ◌≤ℤ◌};
-ghost use Rattle.book_model.specs.numbers.Bounds.{Reach, limits_of};
-ghost use Rattle.book_model.specs.numbers.Expressions.{Expression, World};
+ghost use Rattle.book_model.specs.programs.Calls.{Follows, Follows1, Holds, Narrows};
+ghost use Rattle.std.specs.Prelude.{◌≡◌, pos, negsuc, ◌≤ℤ◌};
+
 ghost use Rattle.book_model.specs.numbers.Fractions.{fraction_of};
-ghost use Rattle.book_model.specs.programs.Leading.{Leads, next_turn};
+ghost use Rattle.book_model.specs.programs.Leading.{next_turn};
 ghost use Rattle.book_model.specs.sky.Noon.{ahead_of, from_apparent_of, noon_of};
-ghost use Rattle.book_model.specs.numbers.Relations.{Within, Narrow};
+
 ghost use Rattle.sun_core.specs.Steps.{apparent_noon_of};
-ghost use Rattle.book_model.specs.numbers.Depth.{DEPTH};
 
 use crate::equation::equation_of_time;
 use book_model::{DEGREE_IN_DAYS, Fail, Frac, HALF, PERSIAN_NOON_LONGITUDE};
@@ -16,8 +15,8 @@ use encl_core::{Enclosure, Trail};
 /// What local mean time is ahead of universal time at a longitude, in days.
 #[tactic(auto, unfolding(book_model::specs::sky::Noon::ahead_of))]
 fn ahead<E: Enclosure>(longitude: Frac) -> E
-    ensures holds { (w : World) → DEPTH ≤ w.depth → Within E.shown w (ahead_of (fraction_of longitude)) result }
-    ensures narrow { (r : Reach) → Narrow E.shown (limits_of E.BITS) r (ahead_of (fraction_of longitude)) result }
+    ensures holds { Holds E.shown (ahead_of (fraction_of longitude)) result }
+    ensures narrow { Narrows E.shown E.BITS (ahead_of (fraction_of longitude)) result }
 {
     E::from_frac(longitude).mul_frac(DEGREE_IN_DAYS)
 }
@@ -27,7 +26,7 @@ fn ahead<E: Enclosure>(longitude: Frac) -> E
 /// test, at `year`; it is void at `year` in a year without a correction.
 #[tactic(auto, using(book_model::proofs::Leads::leading), unfolding(book_model::specs::sky::Noon::from_apparent_of))]
 pub fn from_apparent<E: Enclosure>(longitude: Frac, t: E, trail: &mut Trail) -> Result<E, Fail>
-    ensures leads { (w : World) (x : Expression) → Within E.shown w x t → Leads w (Within E.shown w) (from_apparent_of (fraction_of longitude) x) trail.old.count trail.new.count result }
+    ensures leads { Follows1 E.shown (from_apparent_of (fraction_of longitude)) t trail.old.count trail.new.count result }
     ensures counted { trail.new.count ≡ next_turn trail.old.count }
 {
     match equation_of_time(t.sub(ahead::<E>(longitude)), trail) {
@@ -39,8 +38,8 @@ pub fn from_apparent<E: Enclosure>(longitude: Frac, t: E, trail: &mut Trail) -> 
 /// The middle of a day.
 #[tactic(auto, unfolding(crate::specs::Steps::apparent_noon_of))]
 fn apparent_noon<E: Enclosure>(day: i64) -> E
-    ensures holds { (w : World) → DEPTH ≤ w.depth → Within E.shown w (apparent_noon_of day) result }
-    ensures narrow { (r : Reach) → Narrow E.shown (limits_of E.BITS) r (apparent_noon_of day) result }
+    ensures holds { Holds E.shown (apparent_noon_of day) result }
+    ensures narrow { Narrows E.shown E.BITS (apparent_noon_of day) result }
 {
     E::from_int(day).add(E::from_frac(HALF))
 }
@@ -51,7 +50,7 @@ fn apparent_noon<E: Enclosure>(day: i64) -> E
 pub fn noon<E: Enclosure>(d: i64, trail: &mut Trail) -> Result<E, Fail>
     requires from { negsuc 39999999 ≤ℤ d }
     requires to { d ≤ℤ pos 40000000 }
-    ensures leads { (w : World) → DEPTH ≤ w.depth → Leads w (Within E.shown w) (noon_of d) trail.old.count trail.new.count result }
+    ensures leads { Follows E.shown (noon_of d) trail.old.count trail.new.count result }
     ensures counted { trail.new.count ≡ next_turn trail.old.count }
 {
     match from_apparent(PERSIAN_NOON_LONGITUDE, apparent_noon::<E>(d), trail) {

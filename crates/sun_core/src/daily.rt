@@ -1,9 +1,9 @@
 //! Rates a century times the time, by days, so that the rounding of the centuries isn't multiplied by a rate.
+ghost use Rattle.book_model.specs.programs.Calls.{Holds1, Narrows1};
 ghost use Rattle.std.specs.Prelude.{◌≡◌, ◌*◌, ◌<◌, MatchOption, true, false};
-ghost use Rattle.book_model.specs.numbers.Bounds.{Reach, limits_of};
-ghost use Rattle.book_model.specs.numbers.Expressions.{Expression, World, scale};
+
 ghost use Rattle.book_model.specs.numbers.Fractions.{fraction_of};
-ghost use Rattle.book_model.specs.numbers.Relations.{Within, Narrow};
+
 ghost use Rattle.sun_core.specs.Daily.{has_daily, by_days, by_centuries};
 
 use book_model::{DAY_IN_CENTURIES, Frac};
@@ -28,8 +28,8 @@ fn daily(rate: Frac) -> Option<Frac>
 /// A rate a century times the days from noon of 1 January 2000.
 #[inline(always)]
 pub fn times_rate<E: Enclosure>(days: E, rate: Frac) -> E
-    ensures holds { (w : World) (x : Expression) → Within E.shown w x days → Within E.shown w (by_centuries rate x) result }
-    ensures narrow { (r : Reach) (x : Expression) → Narrow E.shown (limits_of E.BITS) r x days → Narrow E.shown (limits_of E.BITS) r (by_days rate x) result }
+    ensures holds { Holds1 E.shown (by_centuries rate) days result }
+    ensures narrow { Narrows1 E.shown E.BITS (by_days rate) days result }
 {
     match daily(rate) {
         Some(rate) => days.mul_frac(rate),

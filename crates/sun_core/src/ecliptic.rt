@@ -1,10 +1,11 @@
 //! The obliquity of the ecliptic.
+ghost use Rattle.book_model.specs.programs.Calls.{Follows1};
 ghost use Rattle.std.specs.Prelude.{◌≡◌, IfOk};
 ghost use Rattle.book_model.specs.numbers.Bounds.{Reach, limits_of};
-ghost use Rattle.book_model.specs.numbers.Expressions.{Expression, World};
-ghost use Rattle.book_model.specs.programs.Leading.{Leads};
+ghost use Rattle.book_model.specs.numbers.Expressions.{Expression};
+
 ghost use Rattle.book_model.specs.numbers.Polynomials.{cubic_of};
-ghost use Rattle.book_model.specs.numbers.Relations.{Within, Narrow};
+ghost use Rattle.book_model.specs.numbers.Relations.{Narrow};
 ghost use Rattle.book_model.specs.sky.Sun.{obliquity_of};
 
 use book_model::{Fail, OBLIQUITY};
@@ -15,7 +16,7 @@ use time_scales::cubic;
 /// Calendrical Calculations, chapter 14). It makes no test and never fails.
 #[tactic(auto, using(book_model::proofs::Leads::leading), unfolding(book_model::specs::sky::Sun::obliquity_of))]
 pub fn obliquity<E: Enclosure>(c: E, trail: &mut Trail) -> Result<E, Fail>
-    ensures leads { (w : World) (x : Expression) → Within E.shown w x c → Leads w (Within E.shown w) (obliquity_of x) trail.old.count trail.new.count result }
+    ensures leads { Follows1 E.shown obliquity_of c trail.old.count trail.new.count result }
     ensures narrow { IfOk result (λ y. (r : Reach) (x : Expression) → Narrow E.shown (limits_of E.BITS) r x c → Narrow E.shown (limits_of E.BITS) r (cubic_of OBLIQUITY x) y) }
     ensures counted { trail.new.count ≡ trail.old.count }
 {

@@ -1,9 +1,9 @@
 //! About when the sun was last at a longitude.
+ghost use Rattle.book_model.specs.programs.Calls.{Follows1, Follows2, Holds2, Narrows2};
 ghost use Rattle.std.specs.Prelude.{◌≡◌, ◌≤◌, ◌+◌};
-ghost use Rattle.book_model.specs.numbers.Bounds.{Reach, limits_of};
-ghost use Rattle.book_model.specs.numbers.Expressions.{Expression, World};
-ghost use Rattle.book_model.specs.programs.Leading.{Leads, next_turn};
-ghost use Rattle.book_model.specs.numbers.Relations.{Within, Narrow};
+
+ghost use Rattle.book_model.specs.programs.Leading.{next_turn};
+
 ghost use Rattle.book_model.specs.sky.Sun.{reduced_of, past_of, off_of, back_by, estimate_of};
 
 use crate::longitude::sun;
@@ -16,7 +16,7 @@ const HALF_TURN: i64 = 180;
 /// An angle, reduced to 0 up to 360 degrees: one test, at `step-wrap`.
 #[tactic(auto, using(book_model::proofs::Leads::leading), unfolding(book_model::specs::sky::Sun::reduced_of))]
 pub(crate) fn reduced<E: Enclosure>(angle: E, trail: &mut Trail) -> Result<E, Fail>
-    ensures leads { (w : World) (x : Expression) → Within E.shown w x angle → Leads w (Within E.shown w) (reduced_of x) trail.old.count trail.new.count result }
+    ensures leads { Follows1 E.shown reduced_of angle trail.old.count trail.new.count result }
     ensures counted { trail.new.count ≡ next_turn trail.old.count }
 {
     wrap_step(angle, 360, Site::StepWrap, trail)
@@ -25,7 +25,7 @@ pub(crate) fn reduced<E: Enclosure>(angle: E, trail: &mut Trail) -> Result<E, Fa
 /// How far the sun is past a longitude, from 0 up to 360 degrees.
 #[tactic(auto, using(book_model::proofs::Leads::leading), unfolding(book_model::specs::sky::Sun::past_of, book_model::specs::programs::Leading::next_turn))]
 fn past<E: Enclosure>(longitude: E, t: E, trail: &mut Trail) -> Result<E, Fail>
-    ensures leads { (w : World) (l x : Expression) → Within E.shown w l longitude → Within E.shown w x t → Leads w (Within E.shown w) (past_of l x) trail.old.count trail.new.count result }
+    ensures leads { Follows2 E.shown past_of longitude t trail.old.count trail.new.count result }
 {
     match sun(t, trail) {
         Ok(there) => reduced(there.sub(longitude), trail),
@@ -36,7 +36,7 @@ fn past<E: Enclosure>(longitude: E, t: E, trail: &mut Trail) -> Result<E, Fail>
 /// How far the sun is past a longitude, from -180 up to 180 degrees.
 #[tactic(auto, using(book_model::proofs::Leads::leading), unfolding(book_model::specs::sky::Sun::off_of, book_model::specs::programs::Leading::next_turn))]
 fn off<E: Enclosure>(longitude: E, t: E, trail: &mut Trail) -> Result<E, Fail>
-    ensures leads { (w : World) (l x : Expression) → Within E.shown w l longitude → Within E.shown w x t → Leads w (Within E.shown w) (off_of l x) trail.old.count trail.new.count result }
+    ensures leads { Follows2 E.shown off_of longitude t trail.old.count trail.new.count result }
 {
     let there = sun(t, trail)?;
     let half_turn = E::from_int(HALF_TURN);
@@ -49,8 +49,8 @@ fn off<E: Enclosure>(longitude: E, t: E, trail: &mut Trail) -> Result<E, Fail>
 /// A moment less the time in which the mean sun moves on by an angle.
 #[tactic(auto, unfolding(book_model::specs::sky::Sun::back_by))]
 fn back<E: Enclosure>(angle: E, t: E) -> E
-    ensures holds { (w : World) (p x : Expression) → Within E.shown w p angle → Within E.shown w x t → Within E.shown w (back_by p x) result }
-    ensures narrow { (r : Reach) (p x : Expression) → Narrow E.shown (limits_of E.BITS) r p angle → Narrow E.shown (limits_of E.BITS) r x t → Narrow E.shown (limits_of E.BITS) r (back_by p x) result }
+    ensures holds { Holds2 E.shown back_by angle t result }
+    ensures narrow { Narrows2 E.shown E.BITS back_by angle t result }
 {
     t.sub(angle.mul_frac(DEGREE_OF_YEAR))
 }
@@ -62,7 +62,7 @@ fn back<E: Enclosure>(angle: E, t: E) -> E
 /// without a correction.
 #[tactic(auto, using(book_model::proofs::Leads::leading), unfolding(book_model::specs::sky::Sun::estimate_of))]
 pub fn estimate<E: Enclosure>(l: E, t: E, trail: &mut Trail) -> Result<E, Fail>
-    ensures leads { (w : World) (a x : Expression) → Within E.shown w a l → Within E.shown w x t → Leads w (Within E.shown w) (estimate_of a x) trail.old.count trail.new.count result }
+    ensures leads { Follows2 E.shown estimate_of l t trail.old.count trail.new.count result }
     ensures counted { trail.new.count ≤ trail.old.count + 6 }
 {
     let near = back(past(l, t, trail)?, t);

@@ -1,9 +1,10 @@
 //! The apparent longitude of the sun.
+ghost use Rattle.book_model.specs.programs.Calls.{Follows1, Holds1, Narrows1};
 ghost use Rattle.std.specs.Prelude.{◌≡◌, ◌≤◌, ◌+◌, ℕ, IfErr};
 ghost use Rattle.book_model.specs.numbers.Bounds.{Reach, IsNarrow, limits_of};
-ghost use Rattle.book_model.specs.numbers.Expressions.{Expression, World, argument, constant, add, scale};
+ghost use Rattle.book_model.specs.numbers.Expressions.{Expression, World, argument};
 ghost use Rattle.book_model.specs.numbers.Fractions.{fraction_of};
-ghost use Rattle.book_model.specs.programs.Leading.{Leads, next_turn};
+
 ghost use Rattle.book_model.specs.numbers.Polynomials.{waves_of};
 ghost use Rattle.book_model.specs.numbers.Relations.{Within, Narrow};
 ghost use Rattle.book_model.specs.sky.Sun.{nutation_of, aberration_of, sun_unit, longitude_of, sun_of};
@@ -24,8 +25,8 @@ use time_scales::dynamical;
 /// The nutation in longitude, in degrees, by the centuries (Reingold and Dershowitz, Calendrical Calculations, chapter 14).
 #[tactic(auto, unfolding(book_model::specs::sky::Sun::nutation_of))]
 pub fn nutation<E: Enclosure>(c: E) -> E
-    ensures holds { (w : World) (x : Expression) → Within E.shown w x c → Within E.shown w (nutation_of x) result }
-    ensures narrow { (r : Reach) (x : Expression) → Narrow E.shown (limits_of E.BITS) r x c → Narrow E.shown (limits_of E.BITS) r (nutation_of x) result }
+    ensures holds { Holds1 E.shown nutation_of c result }
+    ensures narrow { Narrows1 E.shown E.BITS nutation_of c result }
 {
     quadratic_wave(&NODE_NUTATION, c).add(quadratic_wave(&SOLAR_NUTATION, c))
 }
@@ -33,8 +34,8 @@ pub fn nutation<E: Enclosure>(c: E) -> E
 /// The aberration, by the days from noon of 1 January 2000.
 #[tactic(auto, unfolding(book_model::specs::sky::Sun::aberration_of, crate::specs::Steps::computed_aberration_of))]
 fn aberration<E: Enclosure>(days: E) -> E
-    ensures holds { (w : World) (x : Expression) → Within E.shown w x days → Within E.shown w (aberration_of (in_centuries x)) result }
-    ensures narrow { (r : Reach) (x : Expression) → Narrow E.shown (limits_of E.BITS) r x days → Narrow E.shown (limits_of E.BITS) r (computed_aberration_of x) result }
+    ensures holds { Holds1 E.shown (λ x. aberration_of (in_centuries x)) days result }
+    ensures narrow { Narrows1 E.shown E.BITS computed_aberration_of days result }
 {
     cosine_wave(&ABERRATION, days).sub(E::from_frac(MEAN_ABERRATION))
 }
@@ -42,8 +43,8 @@ fn aberration<E: Enclosure>(days: E) -> E
 /// What the sun is ahead of its mean longitude: the sum of its waves times their unit, which is applied in two steps.
 #[tactic(auto, unfolding(crate::specs::Steps::computed_periodic_of))]
 fn periodic<E: Enclosure>(days: E) -> E
-    ensures holds { (w : World) (x : Expression) → Within E.shown w x days → Within E.shown w (periodic_of (in_centuries x)) result }
-    ensures narrow { (r : Reach) (x : Expression) → Narrow E.shown (limits_of E.BITS) r x days → Narrow E.shown (limits_of E.BITS) r (computed_periodic_of x) result }
+    ensures holds { Holds1 E.shown (λ x. periodic_of (in_centuries x)) days result }
+    ensures narrow { Narrows1 E.shown E.BITS computed_periodic_of days result }
 {
     sum_of_terms::<Days<E>, E, Wave>(&SUN_WAVES, Days(days))
         .mul_frac(SUN_UNIT_COARSELY)
@@ -53,8 +54,8 @@ fn periodic<E: Enclosure>(days: E) -> E
 /// The mean longitude of the sun, not reduced.
 #[tactic(auto, unfolding(crate::specs::Daily::by_centuries, crate::specs::Steps::mean_longitude_of, crate::specs::Steps::computed_mean_longitude_of))]
 fn mean_longitude<E: Enclosure>(days: E) -> E
-    ensures holds { (w : World) (x : Expression) → Within E.shown w x days → Within E.shown w (mean_longitude_of (in_centuries x)) result }
-    ensures narrow { (r : Reach) (x : Expression) → Narrow E.shown (limits_of E.BITS) r x days → Narrow E.shown (limits_of E.BITS) r (computed_mean_longitude_of x) result }
+    ensures holds { Holds1 E.shown (λ x. mean_longitude_of (in_centuries x)) days result }
+    ensures narrow { Narrows1 E.shown E.BITS computed_mean_longitude_of days result }
 {
     E::from_frac(SUN_AT_2000).add(times_rate(days, SUN_RATE))
 }
@@ -77,7 +78,7 @@ fn longitude<E: Enclosure>(days: E, c: E) -> E
 /// `year` in a year without a correction.
 #[tactic(auto, using(book_model::proofs::Leads::leading, crate::proofs::Openings::opening), unfolding(book_model::specs::sky::Sun::sun_of, book_model::specs::sky::Time::centuries_of, book_model::specs::sky::Time::in_centuries, crate::specs::Daily::in_centuries, book_model::specs::programs::Leading::next_turn))]
 pub fn sun<E: Enclosure>(t: E, trail: &mut Trail) -> Result<E, Fail>
-    ensures leads { (w : World) (x : Expression) → Within E.shown w x t → Leads w (Within E.shown w) (sun_of x) trail.old.count trail.new.count result }
+    ensures leads { Follows1 E.shown sun_of t trail.old.count trail.new.count result }
     ensures open { IfErr result (IsYearOpenFor (E.shown t)) }
     ensures counted { trail.new.count ≤ trail.old.count + 2 }
 {

@@ -1,10 +1,7 @@
 //! When the sun is next at a longitude.
-ghost use Rattle.std.specs.Prelude.{◌≡◌, ◌≤◌, ◌+◌};
-ghost use Rattle.book_model.specs.numbers.Bounds.{Reach, limits_of};
-ghost use Rattle.book_model.specs.numbers.Depth.{DEPTH};
-ghost use Rattle.book_model.specs.numbers.Expressions.{Expression, World};
-ghost use Rattle.book_model.specs.programs.Leading.{Leads};
-ghost use Rattle.book_model.specs.numbers.Relations.{Within, Narrow};
+ghost use Rattle.book_model.specs.programs.Calls.{Follows2, Follows3, Holds2, Narrows2};
+ghost use Rattle.std.specs.Prelude.{◌≤◌, ◌+◌};
+
 ghost use Rattle.book_model.specs.sky.Sun as spec;
 
 use crate::estimates::reduced;
@@ -33,7 +30,7 @@ impl<E: Enclosure> Angular<E> for SolarLongitude {
 /// How far the sun is before a longitude, from 0 up to 360 degrees: three tests at most.
 #[tactic(auto, using(book_model::proofs::Leads::leading), unfolding(book_model::specs::sky::Sun::sun_short_of, book_model::specs::programs::Leading::next_turn))]
 fn sun_short<E: Enclosure>(longitude: E, t: E, trail: &mut Trail) -> Result<E, Fail>
-    ensures leads { (w : World) (l x : Expression) → Within E.shown w l longitude → Within E.shown w x t → Leads w (Within E.shown w) (spec.sun_short_of l x) trail.old.count trail.new.count result }
+    ensures leads { Follows2 E.shown spec.sun_short_of longitude t trail.old.count trail.new.count result }
     ensures counted { trail.new.count ≤ trail.old.count + 3 }
 {
     match longitude::sun(t, trail) {
@@ -45,8 +42,8 @@ fn sun_short<E: Enclosure>(longitude: E, t: E, trail: &mut Trail) -> Result<E, F
 /// A moment and the time in which the mean sun moves on by an angle.
 #[tactic(auto, unfolding(book_model::specs::sky::Sun::forward_by))]
 fn forward<E: Enclosure>(angle: E, t: E) -> E
-    ensures holds { (w : World) (p x : Expression) → Within E.shown w p angle → Within E.shown w x t → Within E.shown w (spec.forward_by p x) result }
-    ensures narrow { (r : Reach) (p x : Expression) → Narrow E.shown (limits_of E.BITS) r p angle → Narrow E.shown (limits_of E.BITS) r x t → Narrow E.shown (limits_of E.BITS) r (spec.forward_by p x) result }
+    ensures holds { Holds2 E.shown spec.forward_by angle t result }
+    ensures narrow { Narrows2 E.shown E.BITS spec.forward_by angle t result }
 {
     t.add(angle.mul_frac(DEGREE_OF_YEAR))
 }
@@ -54,7 +51,7 @@ fn forward<E: Enclosure>(angle: E, t: E) -> E
 /// When the sun is at a longitude about a moment, but not before the moment `t`: 321 tests at most.
 #[tactic(auto, unfolding(book_model::specs::sky::Sun::sun_about_of))]
 fn sun_about<E: Enclosure>(longitude: E, t: E, about: E, trail: &mut Trail) -> Result<E, Fail>
-    ensures leads { (w : World) (l x a : Expression) → DEPTH ≤ w.depth → Within E.shown w l longitude → Within E.shown w x t → Within E.shown w a about → Leads w (Within E.shown w) (spec.sun_about_of l x a) trail.old.count trail.new.count result }
+    ensures leads { Follows3 E.shown spec.sun_about_of longitude t about trail.old.count trail.new.count result }
     ensures counted { trail.new.count ≤ trail.old.count + 321 }
 {
     let days = E::from_int(DAYS_ABOUT);
@@ -72,7 +69,7 @@ fn sun_about<E: Enclosure>(longitude: E, t: E, about: E, trail: &mut Trail) -> R
 /// moment, one at `step-wrap`, and those of the bisection. It is void at `year` in a year without a correction.
 #[tactic(auto, using(book_model::proofs::Leads::leading), unfolding(book_model::specs::sky::Sun::sun_from_of))]
 pub fn sun_from<E: Enclosure>(l: E, t: E, trail: &mut Trail) -> Result<E, Fail>
-    ensures leads { (w : World) (a x : Expression) → DEPTH ≤ w.depth → Within E.shown w a l → Within E.shown w x t → Leads w (Within E.shown w) (spec.sun_from_of a x) trail.old.count trail.new.count result }
+    ensures leads { Follows2 E.shown spec.sun_from_of l t trail.old.count trail.new.count result }
     ensures counted { trail.new.count ≤ trail.old.count + 324 }
 {
     match sun_short(l, t, trail) {

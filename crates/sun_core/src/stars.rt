@@ -1,11 +1,8 @@
 //! Precession, and the longitude of the sun among the stars.
-ghost use Rattle.std.specs.Prelude.{◌≡◌, ◌≤◌, ◌+◌, IfErr};
+ghost use Rattle.book_model.specs.programs.Calls.{Follows1, Holds1, Holds2, Holds3, Narrows1, Narrows2, Narrows3};
+ghost use Rattle.std.specs.Prelude.{◌≤◌, ◌+◌, IfErr};
 ghost use Rattle.exact_math.specs.Interval.{Interval};
-ghost use Rattle.book_model.specs.numbers.Bounds.{Reach, limits_of};
-ghost use Rattle.book_model.specs.numbers.Depth.{DEPTH};
-ghost use Rattle.book_model.specs.numbers.Expressions.{Expression, World};
-ghost use Rattle.book_model.specs.programs.Leading.{Leads};
-ghost use Rattle.book_model.specs.numbers.Relations.{Within, Narrow};
+
 ghost use Rattle.book_model.specs.sky.Sidereal as spec;
 ghost use Rattle.time_scales.specs.Steps.{IsYearOpenFor};
 
@@ -19,8 +16,8 @@ use trig_series::{cos_deg, sin_deg};
 /// Precession by the tilt of the ecliptic, where it crosses that of 2000, and the advance of the equinox, in degrees.
 #[tactic(auto, unfolding(book_model::specs::sky::Sidereal::precession_by))]
 fn precession_by<E: Enclosure>(tilt: E, crossing: E, advance: E) -> E
-    ensures holds { (w : World) (t p a : Expression) → DEPTH ≤ w.depth → Within E.shown w t tilt → Within E.shown w p crossing → Within E.shown w a advance → Within E.shown w (spec.precession_by t p a) result }
-    ensures narrow { (r : Reach) (t p a : Expression) → Narrow E.shown (limits_of E.BITS) r t tilt → Narrow E.shown (limits_of E.BITS) r p crossing → Narrow E.shown (limits_of E.BITS) r a advance → Narrow E.shown (limits_of E.BITS) r (spec.precession_by t p a) result }
+    ensures holds { Holds3 E.shown spec.precession_by tilt crossing advance result }
+    ensures narrow { Narrows3 E.shown E.BITS spec.precession_by tilt crossing advance result }
 {
     let turned = arctan2_deg(cos_deg(tilt).mul(sin_deg(crossing)), cos_deg(crossing));
     advance.add(crossing).sub(turned)
@@ -29,8 +26,8 @@ fn precession_by<E: Enclosure>(tilt: E, crossing: E, advance: E) -> E
 /// Precession by the centuries from noon of 1 January 2000, in degrees, not reduced.
 #[tactic(auto, unfolding(book_model::specs::sky::Sidereal::precession_at_of))]
 fn precession_at<E: Enclosure>(c: E) -> E
-    ensures holds { (w : World) (x : Expression) → DEPTH ≤ w.depth → Within E.shown w x c → Within E.shown w (spec.precession_at_of x) result }
-    ensures narrow { (r : Reach) (x : Expression) → Narrow E.shown (limits_of E.BITS) r x c → Narrow E.shown (limits_of E.BITS) r (spec.precession_at_of x) result }
+    ensures holds { Holds1 E.shown spec.precession_at_of c result }
+    ensures narrow { Narrows1 E.shown E.BITS spec.precession_at_of c result }
 {
     precession_by(
         cubic(&ECLIPTIC_TILT, c),
@@ -43,7 +40,7 @@ fn precession_at<E: Enclosure>(c: E) -> E
 /// Calendrical Calculations, chapter 14): one test, the year's. It is void at `year` in a year without a correction.
 #[tactic(auto, using(book_model::proofs::Leads::leading), unfolding(book_model::specs::sky::Sidereal::precession_of, book_model::specs::programs::Leading::next_turn))]
 pub fn precession<E: Enclosure>(t: E, trail: &mut Trail) -> Result<E, Fail>
-    ensures leads { (w : World) (x : Expression) → DEPTH ≤ w.depth → Within E.shown w x t → Leads w (Within E.shown w) (spec.precession_of x) trail.old.count trail.new.count result }
+    ensures leads { Follows1 E.shown spec.precession_of t trail.old.count trail.new.count result }
     ensures open { IfErr result (IsYearOpenFor (E.shown t)) }
     ensures counted { trail.new.count ≤ trail.old.count + 1 }
 {
@@ -56,8 +53,8 @@ pub fn precession<E: Enclosure>(t: E, trail: &mut Trail) -> Result<E, Fail>
 /// The longitude of the sun less precession, from where the signs of the zodiac begin, not reduced.
 #[tactic(auto, unfolding(book_model::specs::sky::Sidereal::sidereal_by))]
 fn sidereal_by<E: Enclosure>(longitude: E, precession: E) -> E
-    ensures holds { (w : World) (s p : Expression) → DEPTH ≤ w.depth → Within E.shown w s longitude → Within E.shown w p precession → Within E.shown w (spec.sidereal_by s p) result }
-    ensures narrow { (r : Reach) (s p : Expression) → Narrow E.shown (limits_of E.BITS) r s longitude → Narrow E.shown (limits_of E.BITS) r p precession → Narrow E.shown (limits_of E.BITS) r (spec.sidereal_by s p) result }
+    ensures holds { Holds2 E.shown spec.sidereal_by longitude precession result }
+    ensures narrow { Narrows2 E.shown E.BITS spec.sidereal_by longitude precession result }
 {
     longitude.sub(precession).add(E::from_frac(SIDEREAL_START))
 }
@@ -65,7 +62,7 @@ fn sidereal_by<E: Enclosure>(longitude: E, precession: E) -> E
 /// An angle, reduced to 0 up to 360 degrees: one test, at `sidereal`.
 #[tactic(auto, using(book_model::proofs::Leads::leading, crate::proofs::Openings::opening), unfolding(book_model::specs::sky::Sidereal::starred_of, book_model::specs::programs::Leading::next_turn))]
 fn starred<E: Enclosure>(angle: E, trail: &mut Trail) -> Result<E, Fail>
-    ensures leads { (w : World) (x : Expression) → Within E.shown w x angle → Leads w (Within E.shown w) (spec.starred_of x) trail.old.count trail.new.count result }
+    ensures leads { Follows1 E.shown spec.starred_of angle trail.old.count trail.new.count result }
     ensures elsewhere { (i : Interval) → IfErr result (IsYearOpenFor i) }
     ensures counted { trail.new.count ≤ trail.old.count + 1 }
 {
@@ -77,7 +74,7 @@ fn starred<E: Enclosure>(angle: E, trail: &mut Trail) -> Result<E, Fail>
 /// year's, and one at `sidereal`. It is void at `year` in a year without a correction.
 #[tactic(auto, using(book_model::proofs::Leads::leading), unfolding(book_model::specs::sky::Sidereal::sidereal_sun_of))]
 pub fn sidereal_sun<E: Enclosure>(t: E, trail: &mut Trail) -> Result<E, Fail>
-    ensures leads { (w : World) (x : Expression) → DEPTH ≤ w.depth → Within E.shown w x t → Leads w (Within E.shown w) (spec.sidereal_sun_of x) trail.old.count trail.new.count result }
+    ensures leads { Follows1 E.shown spec.sidereal_sun_of t trail.old.count trail.new.count result }
     ensures open { IfErr result (IsYearOpenFor (E.shown t)) }
     ensures counted { trail.new.count ≤ trail.old.count + 4 }
 {

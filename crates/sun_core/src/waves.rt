@@ -1,8 +1,9 @@
 //! Waves: sizes times sines or cosines of angles that grow with time.
-ghost use Rattle.std.specs.Prelude.{◌≡◌};
+
+ghost use Rattle.book_model.specs.programs.Calls.{Holds1, Narrows1};
 ghost use Rattle.exact_math.specs.Fraction.{whole};
-ghost use Rattle.book_model.specs.numbers.Bounds.{Reach, limits_of};
-ghost use Rattle.book_model.specs.numbers.Expressions.{Expression, World, scale, cosine};
+ghost use Rattle.book_model.specs.numbers.Bounds.{limits_of};
+ghost use Rattle.book_model.specs.numbers.Expressions.{Expression, scale, cosine};
 ghost use Rattle.book_model.specs.numbers.Fractions.{ten_millionths};
 ghost use Rattle.book_model.specs.numbers.Polynomials.{angle_of_wave, wave_of, quadratic_wave_of};
 ghost use Rattle.book_model.specs.numbers.Relations.{Within, Narrow};
@@ -17,8 +18,8 @@ use trig_series::{cos_deg, sin_deg};
 #[inline(always)]
 #[tactic(auto, unfolding(book_model::specs::numbers::Polynomials::quadratic_wave_of))]
 pub(crate) fn quadratic_wave<E: Enclosure>(wave: &QuadraticWave, c: E) -> E
-    ensures holds { (w : World) (x : Expression) → Within E.shown w x c → Within E.shown w (quadratic_wave_of wave.now x) result }
-    ensures narrow { (r : Reach) (x : Expression) → Narrow E.shown (limits_of E.BITS) r x c → Narrow E.shown (limits_of E.BITS) r (quadratic_wave_of wave.now x) result }
+    ensures holds { Holds1 E.shown (quadratic_wave_of wave.now) c result }
+    ensures narrow { Narrows1 E.shown E.BITS (quadratic_wave_of wave.now) c result }
 {
     sin_deg(quadratic(&wave.angle, c)).mul_frac(wave.size)
 }
@@ -26,8 +27,8 @@ pub(crate) fn quadratic_wave<E: Enclosure>(wave: &QuadraticWave, c: E) -> E
 /// The angle of a wave by the days from noon of 1 January 2000.
 #[inline(always)]
 pub fn wave_angle<E: Enclosure>(wave: &Wave, days: E) -> E
-    ensures holds { (w : World) (x : Expression) → Within E.shown w x days → Within E.shown w (angle_of_wave wave.now (in_centuries x)) result }
-    ensures narrow { (r : Reach) (x : Expression) → Narrow E.shown (limits_of E.BITS) r x days → Narrow E.shown (limits_of E.BITS) r (daily_angle_of wave.now x) result }
+    ensures holds { Holds1 E.shown (λ x. angle_of_wave wave.now (in_centuries x)) days result }
+    ensures narrow { Narrows1 E.shown E.BITS (daily_angle_of wave.now) days result }
 {
     days.angle(wave.phase, wave.rate)
 }
@@ -35,8 +36,8 @@ pub fn wave_angle<E: Enclosure>(wave: &Wave, days: E) -> E
 /// The size of a wave times the sine of its angle, by the days.
 #[tactic(auto, unfolding(book_model::specs::numbers::Polynomials::wave_of, crate::specs::Daily::daily_wave_of))]
 pub fn sine_wave<E: Enclosure>(wave: &Wave, days: E) -> E
-    ensures holds { (w : World) (x : Expression) → Within E.shown w x days → Within E.shown w (wave_of (in_centuries x) wave.now) result }
-    ensures narrow { (r : Reach) (x : Expression) → Narrow E.shown (limits_of E.BITS) r x days → Narrow E.shown (limits_of E.BITS) r (daily_wave_of x wave.now) result }
+    ensures holds { Holds1 E.shown (λ x. wave_of (in_centuries x) wave.now) days result }
+    ensures narrow { Narrows1 E.shown E.BITS (λ x. daily_wave_of x wave.now) days result }
 {
     sin_deg(wave_angle(wave, days)).times(wave.size)
 }
@@ -44,8 +45,8 @@ pub fn sine_wave<E: Enclosure>(wave: &Wave, days: E) -> E
 /// The size of a wave, in ten-millionths, times the cosine of its angle, by the days.
 #[inline(always)]
 pub(crate) fn cosine_wave<E: Enclosure>(wave: &Wave, days: E) -> E
-    ensures holds { (w : World) (x : Expression) → Within E.shown w x days → Within E.shown w (scale (ten_millionths wave.now.size) (cosine (angle_of_wave wave.now (in_centuries x)))) result }
-    ensures narrow { (r : Reach) (x : Expression) → Narrow E.shown (limits_of E.BITS) r x days → Narrow E.shown (limits_of E.BITS) r (scale (ten_millionths wave.now.size) (cosine (daily_angle_of wave.now x))) result }
+    ensures holds { Holds1 E.shown (λ x. scale (ten_millionths wave.now.size) (cosine (angle_of_wave wave.now (in_centuries x)))) days result }
+    ensures narrow { Narrows1 E.shown E.BITS (λ x. scale (ten_millionths wave.now.size) (cosine (daily_angle_of wave.now x))) days result }
 {
     cos_deg(wave_angle(wave, days)).mul_frac(Frac::ten_millionths(wave.size))
 }

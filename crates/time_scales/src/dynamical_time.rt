@@ -1,15 +1,15 @@
 //! Dynamical time, which flows evenly: what it is ahead of universal time in a year, and its centuries.
-ghost use Rattle.std.specs.Prelude.{◌≡◌, ◌≤◌, ◌+◌, ◌^◌, ℕ, ℤ, pos, ◌≤ℤ◌, length, IfOk, IfErr, IfSome};
+ghost use Rattle.book_model.specs.programs.Calls.{Follows, Follows1, Holds, Holds1, Narrows, Narrows1};
+ghost use Rattle.std.specs.Prelude.{◌≡◌, ◌≤◌, ℤ, pos, ◌≤ℤ◌, length, IfOk, IfErr};
 ghost use Rattle.book_model.specs.numbers.Bounds.{Reach, limits_of, IsNarrow};
 ghost use Rattle.book_model.specs.sky.Correction.{is_between as lies_between, seconds_of};
-ghost use Rattle.book_model.specs.numbers.Expressions.{Expression, World};
+
 ghost use Rattle.book_model.specs.numbers.Fractions.{fraction_of};
-ghost use Rattle.book_model.specs.programs.Leading.{Leads, next_turn};
-ghost use Rattle.book_model.specs.numbers.Relations.{Within, Narrow};
+ghost use Rattle.book_model.specs.programs.Leading.{next_turn};
+ghost use Rattle.book_model.specs.numbers.Relations.{Narrow};
 ghost use Rattle.book_model.specs.sky.Time.{hundreds_of, centuries_to_july, correction_of_year, correction_at, dynamical_of, from_dynamical_of, in_centuries, centuries_of};
 ghost use Rattle.time_scales.specs.Steps.{IsYearOpenFor};
 ghost use Rattle.time_scales.specs.Corrections.{row_of, IsInRow, correction_by, computed_by, computed_of, correction_bound};
-ghost use Rattle.book_model.specs.numbers.Depth.{DEPTH};
 
 use crate::calendar;
 use crate::moment::year;
@@ -86,8 +86,8 @@ fn seconds<E: Enclosure>(coefficients: &[Frac], year: i64) -> E
     requires few { length coefficients.now ≤ 8 }
     requires from { pos 1987 ≤ℤ year }
     requires to { year ≤ℤ pos 2050 }
-    ensures holds { (w : World) → DEPTH ≤ w.depth → Within E.shown w (seconds_of coefficients.now year) result }
-    ensures narrow { (r : Reach) → Narrow E.shown (limits_of E.BITS) r (seconds_of coefficients.now year) result }
+    ensures holds { Holds E.shown (seconds_of coefficients.now year) result }
+    ensures narrow { Narrows E.shown E.BITS (seconds_of coefficients.now year) result }
 {
     at_whole::<E>(coefficients, year - 2000).mul_frac(SECOND)
 }
@@ -95,8 +95,8 @@ fn seconds<E: Enclosure>(coefficients: &[Frac], year: i64) -> E
 /// The correction of a year by its row of the table, in days.
 fn correction_in_row<E: Enclosure>(row: Row, year: i64) -> E
     requires row { IsInRow row year }
-    ensures holds { (w : World) → DEPTH ≤ w.depth → Within E.shown w (correction_by row year) result }
-    ensures narrow { (r : Reach) → Narrow E.shown (limits_of E.BITS) r (computed_by row year) result }
+    ensures holds { Holds E.shown (correction_by row year) result }
+    ensures narrow { Narrows E.shown E.BITS (computed_by row year) result }
 {
     match row {
         Row::Ancient => at_fraction::<E>(&CORRECTION_ANCIENT, hundreds(year)).mul_frac(SECOND),
@@ -110,7 +110,7 @@ fn correction_in_row<E: Enclosure>(row: Row, year: i64) -> E
 /// Dynamical time less universal time in a year, in days (Reingold and Dershowitz, Calendrical Calculations, chapter
 /// 14, ephemeris correction). It makes no test, and is void at `year` outside -499 to 499 and 1800 to 2050.
 pub fn correction<E: Enclosure>(year: i64, trail: &mut Trail) -> Result<E, Fail>
-    ensures leads { (w : World) → DEPTH ≤ w.depth → Leads w (Within E.shown w) (correction_of_year year) trail.old.count trail.new.count result }
+    ensures leads { Follows E.shown (correction_of_year year) trail.old.count trail.new.count result }
     ensures narrow { IfOk result (λ e. (r : Reach) → Narrow E.shown (limits_of E.BITS) r (computed_of year) e) }
     ensures close { 36 ≤ E.BITS → E.BITS ≤ 56 → pos 1987 ≤ℤ year → year ≤ℤ pos 2050 → IfOk result (λ e. IsNarrow 0 (correction_bound 4 E.BITS) (E.shown e)) }
     ensures close_before { 36 ≤ E.BITS → E.BITS ≤ 56 → pos 1800 ≤ℤ year → year ≤ℤ pos 1986 → IfOk result (λ e. IsNarrow 0 (correction_bound 33 E.BITS) (E.shown e)) }
@@ -126,7 +126,7 @@ pub fn correction<E: Enclosure>(year: i64, trail: &mut Trail) -> Result<E, Fail>
 /// The correction of the year of a moment: one test, at `year`.
 #[tactic(auto, using(book_model::proofs::Leads::leading, crate::proofs::Years::opening), unfolding(book_model::specs::sky::Time::correction_at))]
 fn correction_of_moment<E: Enclosure>(t: E, trail: &mut Trail) -> Result<E, Fail>
-    ensures leads { (w : World) (x : Expression) → Within E.shown w x t → Leads w (Within E.shown w) (correction_at x) trail.old.count trail.new.count result }
+    ensures leads { Follows1 E.shown correction_at t trail.old.count trail.new.count result }
     ensures open { IfErr result (IsYearOpenFor (E.shown t)) }
     ensures counted { trail.new.count ≡ next_turn trail.old.count }
 {
@@ -139,7 +139,7 @@ fn correction_of_moment<E: Enclosure>(t: E, trail: &mut Trail) -> Result<E, Fail
 /// The dynamical time of a moment of universal time, by the correction of that moment's year.
 #[tactic(auto, using(book_model::proofs::Leads::leading), unfolding(book_model::specs::sky::Time::dynamical_of))]
 pub fn dynamical<E: Enclosure>(t: E, trail: &mut Trail) -> Result<E, Fail>
-    ensures leads { (w : World) (x : Expression) → Within E.shown w x t → Leads w (Within E.shown w) (dynamical_of x) trail.old.count trail.new.count result }
+    ensures leads { Follows1 E.shown dynamical_of t trail.old.count trail.new.count result }
     ensures open { IfErr result (IsYearOpenFor (E.shown t)) }
     ensures counted { trail.new.count ≡ next_turn trail.old.count }
 {
@@ -152,7 +152,7 @@ pub fn dynamical<E: Enclosure>(t: E, trail: &mut Trail) -> Result<E, Fail>
 /// The universal time of a moment of dynamical time, by the correction of the year in which that moment lies.
 #[tactic(auto, using(book_model::proofs::Leads::leading), unfolding(book_model::specs::sky::Time::from_dynamical_of))]
 pub fn from_dynamical<E: Enclosure>(t: E, trail: &mut Trail) -> Result<E, Fail>
-    ensures leads { (w : World) (x : Expression) → Within E.shown w x t → Leads w (Within E.shown w) (from_dynamical_of x) trail.old.count trail.new.count result }
+    ensures leads { Follows1 E.shown from_dynamical_of t trail.old.count trail.new.count result }
     ensures open { IfErr result (IsYearOpenFor (E.shown t)) }
     ensures counted { trail.new.count ≡ next_turn trail.old.count }
 {
@@ -165,8 +165,8 @@ pub fn from_dynamical<E: Enclosure>(t: E, trail: &mut Trail) -> Result<E, Fail>
 /// A moment, in centuries from noon of 1 January 2000.
 #[tactic(auto, unfolding(book_model::specs::sky::Time::in_centuries))]
 pub(crate) fn to_centuries<E: Enclosure>(t: E) -> E
-    ensures holds { (w : World) (x : Expression) → Within E.shown w x t → Within E.shown w (in_centuries x) result }
-    ensures narrow { (r : Reach) (x : Expression) → Narrow E.shown (limits_of E.BITS) r x t → Narrow E.shown (limits_of E.BITS) r (in_centuries x) result }
+    ensures holds { Holds1 E.shown in_centuries t result }
+    ensures narrow { Narrows1 E.shown E.BITS in_centuries t result }
 {
     t.sub(E::from_frac(NOON_2000)).mul_frac(DAY_IN_CENTURIES)
 }
@@ -175,7 +175,7 @@ pub(crate) fn to_centuries<E: Enclosure>(t: E) -> E
 /// the year of universal time.
 #[tactic(auto, using(book_model::proofs::Leads::leading), unfolding(book_model::specs::sky::Time::centuries_of))]
 pub fn centuries<E: Enclosure>(t: E, trail: &mut Trail) -> Result<E, Fail>
-    ensures leads { (w : World) (x : Expression) → Within E.shown w x t → Leads w (Within E.shown w) (centuries_of x) trail.old.count trail.new.count result }
+    ensures leads { Follows1 E.shown centuries_of t trail.old.count trail.new.count result }
     ensures open { IfErr result (IsYearOpenFor (E.shown t)) }
     ensures counted { trail.new.count ≡ next_turn trail.old.count }
 {

@@ -1,12 +1,13 @@
 //! The Gregorian year of a moment.
-ghost use Rattle.std.specs.Prelude.{◌≡◌, ◌≤◌, ℕ, Some, Ok, IfOk, IfErr};
+ghost use Rattle.book_model.specs.programs.Calls.{Decides1};
+ghost use Rattle.std.specs.Prelude.{◌≡◌, Some, Ok, IfOk, IfErr};
 ghost use Rattle.exact_math.specs.Interval.{between};
 ghost use Rattle.book_model.specs.calendars.Gregorian.{year_of_day};
 ghost use Rattle.book_model.specs.sky.Correction.{year_of};
-ghost use Rattle.book_model.specs.numbers.Expressions.{Expression, World, integer};
+ghost use Rattle.book_model.specs.numbers.Expressions.{World, integer};
 ghost use Rattle.book_model.specs.programs.Leading.{at_56, Exact, Leads, next_turn};
 ghost use Rattle.book_model.specs.programs.Programs.{years, cell_of, cell_at};
-ghost use Rattle.book_model.specs.numbers.Relations.{Within};
+
 ghost use Rattle.time_scales.specs.Steps.{IsOpenYear};
 
 use crate::calendar;
@@ -53,7 +54,7 @@ pub fn year_of_whole_day(day: i64, trail: &mut Trail) -> i64
 /// The Gregorian year of a moment (R.D.): one test, at `year`. It is undecided exactly where the ends of the moment
 /// fall in different years, and where nothing is known of the moment.
 pub fn year<E: Enclosure>(t: E, trail: &mut Trail) -> Result<i64, Fail>
-    ensures leads { (w : World) (x : Expression) → Within E.shown w x t → Leads w Exact (year_of x) trail.old.count trail.new.count result }
+    ensures leads { Decides1 E.shown year_of t trail.old.count trail.new.count result }
     ensures decided { IfOk result (λ y. cell_at years (E.shown t) ≡ Some y) }
     ensures open { IfErr result (IsOpenYear (E.shown t) trail.new.count) }
     ensures counted { trail.new.count ≡ next_turn trail.old.count }

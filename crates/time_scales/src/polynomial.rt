@@ -1,13 +1,13 @@
 //! Polynomials of enclosures.
-ghost use Rattle.std.specs.Prelude.{ℕ, ◌≤◌, length, unsigned_abs};
-ghost use Rattle.book_model.specs.numbers.Bounds.{Reach, limits_of};
+ghost use Rattle.book_model.specs.programs.Calls.{Holds, Holds1, Narrows, Narrows1};
+ghost use Rattle.std.specs.Prelude.{◌≤◌, length, unsigned_abs};
+
 ghost use Rattle.book_model.specs.sky.Correction.{polynomial_of};
-ghost use Rattle.book_model.specs.numbers.Expressions.{Expression, World};
+
 ghost use Rattle.book_model.specs.numbers.Fractions.{fraction_of};
 ghost use Rattle.book_model.specs.numbers.Polynomials.{quadratic_of, cubic_of, polynomial_at};
-ghost use Rattle.book_model.specs.numbers.Relations.{Within, Narrow};
+
 ghost use Rattle.time_scales.specs.Horner.{horner_of};
-ghost use Rattle.book_model.specs.numbers.Depth.{DEPTH};
 
 use book_model::{Cubic, Frac, Quadratic};
 use encl_core::Enclosure;
@@ -16,8 +16,8 @@ use encl_core::Enclosure;
 #[inline(always)]
 #[tactic(auto, unfolding(book_model::specs::numbers::Polynomials::quadratic_of))]
 pub fn quadratic<E: Enclosure>(coefficients: &Quadratic, x: E) -> E
-    ensures holds { (w : World) (a : Expression) → Within E.shown w a x → Within E.shown w (quadratic_of coefficients.now a) result }
-    ensures narrow { (r : Reach) (a : Expression) → Narrow E.shown (limits_of E.BITS) r a x → Narrow E.shown (limits_of E.BITS) r (quadratic_of coefficients.now a) result }
+    ensures holds { Holds1 E.shown (quadratic_of coefficients.now) x result }
+    ensures narrow { Narrows1 E.shown E.BITS (quadratic_of coefficients.now) x result }
 {
     E::from_frac(coefficients.constant)
         .add(x.mul_frac(coefficients.linear))
@@ -28,8 +28,8 @@ pub fn quadratic<E: Enclosure>(coefficients: &Quadratic, x: E) -> E
 #[inline(always)]
 #[tactic(auto, using(crate::proofs::Powers::cubes), unfolding(book_model::specs::numbers::Polynomials::cubic_of))]
 pub fn cubic<E: Enclosure>(coefficients: &Cubic, x: E) -> E
-    ensures holds { (w : World) (a : Expression) → Within E.shown w a x → Within E.shown w (cubic_of coefficients.now a) result }
-    ensures narrow { (r : Reach) (a : Expression) → Narrow E.shown (limits_of E.BITS) r a x → Narrow E.shown (limits_of E.BITS) r (cubic_of coefficients.now a) result }
+    ensures holds { Holds1 E.shown (cubic_of coefficients.now) x result }
+    ensures narrow { Narrows1 E.shown E.BITS (cubic_of coefficients.now) x result }
 {
     let square = x.square();
     E::from_frac(coefficients.constant)
@@ -44,8 +44,8 @@ pub fn cubic<E: Enclosure>(coefficients: &Cubic, x: E) -> E
 pub(crate) fn at_whole<E: Enclosure>(coefficients: &[Frac], x: i64) -> E
     requires few { length coefficients.now ≤ 8 }
     requires small { unsigned_abs x ≤ 64 }
-    ensures holds { (w : World) → DEPTH ≤ w.depth → Within E.shown w (polynomial_of coefficients.now x) result }
-    ensures narrow { (r : Reach) → Narrow E.shown (limits_of E.BITS) r (polynomial_of coefficients.now x) result }
+    ensures holds { Holds E.shown (polynomial_of coefficients.now x) result }
+    ensures narrow { Narrows E.shown E.BITS (polynomial_of coefficients.now x) result }
 {
     let mut sum = E::from_int(0);
     let mut power = 1i64;
@@ -61,8 +61,8 @@ pub(crate) fn at_whole<E: Enclosure>(coefficients: &[Frac], x: i64) -> E
 #[inline(always)]
 #[tactic(auto, using(crate::proofs::HornerLemmas::horner))]
 pub fn at_fraction<E: Enclosure>(coefficients: &[Frac], x: Frac) -> E
-    ensures holds { (w : World) → DEPTH ≤ w.depth → Within E.shown w (polynomial_at coefficients.now (fraction_of x)) result }
-    ensures narrow { (r : Reach) → Narrow E.shown (limits_of E.BITS) r (horner_of coefficients.now (fraction_of x)) result }
+    ensures holds { Holds E.shown (polynomial_at coefficients.now (fraction_of x)) result }
+    ensures narrow { Narrows E.shown E.BITS (horner_of coefficients.now (fraction_of x)) result }
 {
     let mut sum = E::from_int(0);
     for count in 0..coefficients.len() {

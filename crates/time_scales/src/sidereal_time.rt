@@ -1,10 +1,11 @@
 //! Sidereal time.
+ghost use Rattle.book_model.specs.programs.Calls.{Follows1};
 ghost use Rattle.std.specs.Prelude.{◌≡◌, IfOk};
 ghost use Rattle.book_model.specs.numbers.Bounds.{Reach, limits_of};
-ghost use Rattle.book_model.specs.numbers.Expressions.{Expression, World};
-ghost use Rattle.book_model.specs.programs.Leading.{Leads};
+ghost use Rattle.book_model.specs.numbers.Expressions.{Expression};
+
 ghost use Rattle.book_model.specs.numbers.Polynomials.{cubic_of};
-ghost use Rattle.book_model.specs.numbers.Relations.{Within, Narrow};
+ghost use Rattle.book_model.specs.numbers.Relations.{Narrow};
 ghost use Rattle.book_model.specs.sky.Time.{in_centuries, sidereal_of};
 
 use crate::dynamical_time::to_centuries;
@@ -16,7 +17,7 @@ use encl_core::{Enclosure, Trail};
 /// Calendrical Calculations, chapter 14). It makes no test and never fails.
 #[tactic(auto, using(book_model::proofs::Leads::leading), unfolding(book_model::specs::sky::Time::sidereal_of))]
 pub fn sidereal<E: Enclosure>(t: E, trail: &mut Trail) -> Result<E, Fail>
-    ensures leads { (w : World) (x : Expression) → Within E.shown w x t → Leads w (Within E.shown w) (sidereal_of x) trail.old.count trail.new.count result }
+    ensures leads { Follows1 E.shown sidereal_of t trail.old.count trail.new.count result }
     ensures narrow { IfOk result (λ y. (r : Reach) (x : Expression) → Narrow E.shown (limits_of E.BITS) r x t → Narrow E.shown (limits_of E.BITS) r (cubic_of SIDEREAL_TIME (in_centuries x)) y) }
     ensures counted { trail.new.count ≡ trail.old.count }
 {

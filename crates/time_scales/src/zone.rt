@@ -1,11 +1,10 @@
 //! The zone of Beijing.
-ghost use Rattle.std.specs.Prelude.{◌≡◌, ◌≤◌, ℕ, pos, int_lt, IfErr};
-ghost use Rattle.book_model.specs.numbers.Bounds.{Reach, limits_of};
-ghost use Rattle.book_model.specs.numbers.Expressions.{Expression, World};
-ghost use Rattle.book_model.specs.programs.Leading.{Leads, next_turn};
-ghost use Rattle.book_model.specs.numbers.Relations.{Within, Narrow};
+ghost use Rattle.book_model.specs.programs.Calls.{Follows1, Holds, Narrows};
+ghost use Rattle.std.specs.Prelude.{◌≡◌, pos, int_lt};
+
+ghost use Rattle.book_model.specs.programs.Leading.{next_turn};
+
 ghost use Rattle.book_model.specs.sky.Time.{beijing_hours, zone_of_beijing, midnight_of, in_beijing_of};
-ghost use Rattle.book_model.specs.numbers.Depth.{DEPTH};
 
 use book_model::{BEIJING_HOURS, Fail, HOUR, Site};
 use encl_core::{Enclosure, Trail, less_step};
@@ -16,8 +15,8 @@ const STANDARD_TIME: i64 = 704_188;
 /// The hours by which the time of Beijing is ahead of universal time, before 1929 and from then on.
 #[tactic(auto, unfolding(book_model::specs::sky::Time::beijing_hours))]
 fn hours<E: Enclosure>(early: bool) -> E
-    ensures holds { (w : World) → DEPTH ≤ w.depth → Within E.shown w (beijing_hours early) result }
-    ensures narrow { (r : Reach) → Narrow E.shown (limits_of E.BITS) r (beijing_hours early) result }
+    ensures holds { Holds E.shown (beijing_hours early) result }
+    ensures narrow { Narrows E.shown E.BITS (beijing_hours early) result }
 {
     if early {
         E::from_frac(BEIJING_HOURS)
@@ -30,7 +29,7 @@ fn hours<E: Enclosure>(early: bool) -> E
 /// 1397/180 hours, before 1929, and 8 hours from then on. One test, at `zone`.
 #[tactic(auto, using(book_model::proofs::Leads::leading), unfolding(book_model::specs::sky::Time::zone_of_beijing))]
 pub fn zone_beijing<E: Enclosure>(t: E, trail: &mut Trail) -> Result<E, Fail>
-    ensures leads { (w : World) (x : Expression) → Within E.shown w x t → Leads w (Within E.shown w) (zone_of_beijing x) trail.old.count trail.new.count result }
+    ensures leads { Follows1 E.shown zone_of_beijing t trail.old.count trail.new.count result }
     ensures counted { trail.new.count ≡ next_turn trail.old.count }
 {
     match less_step(t, E::from_int(STANDARD_TIME), Site::Zone, trail) {
@@ -49,8 +48,8 @@ fn is_early(day: i64) -> bool
 /// Midnight at the beginning of a day (R.D.) in Beijing, in universal time. Its zone goes by the day, so it makes no test.
 #[tactic(auto, unfolding(book_model::specs::sky::Time::midnight_of))]
 pub fn midnight<E: Enclosure>(day: i64) -> E
-    ensures holds { (w : World) → DEPTH ≤ w.depth → Within E.shown w (midnight_of day) result }
-    ensures narrow { (r : Reach) → Narrow E.shown (limits_of E.BITS) r (midnight_of day) result }
+    ensures holds { Holds E.shown (midnight_of day) result }
+    ensures narrow { Narrows E.shown E.BITS (midnight_of day) result }
 {
     E::from_int(day).sub(hours::<E>(is_early(day)).mul_frac(HOUR))
 }
@@ -58,7 +57,7 @@ pub fn midnight<E: Enclosure>(day: i64) -> E
 /// The time of Beijing of a moment of universal time: one test, at `zone`.
 #[tactic(auto, using(book_model::proofs::Leads::leading), unfolding(book_model::specs::sky::Time::in_beijing_of))]
 pub fn in_beijing<E: Enclosure>(t: E, trail: &mut Trail) -> Result<E, Fail>
-    ensures leads { (w : World) (x : Expression) → Within E.shown w x t → Leads w (Within E.shown w) (in_beijing_of x) trail.old.count trail.new.count result }
+    ensures leads { Follows1 E.shown in_beijing_of t trail.old.count trail.new.count result }
     ensures counted { trail.new.count ≡ next_turn trail.old.count }
 {
     match zone_beijing(t, trail) {

@@ -1,11 +1,12 @@
 //! Sine, cosine and tangent of enclosures of degrees.
+ghost use Rattle.book_model.specs.programs.Calls.{Holds1, Narrows1};
 ghost use Rattle.std.specs.Prelude.{◌≡◌, ℕ, ℤ, pos, neg_ℤ, ◌^◌, ◌≤◌, ◌≤ℤ◌};
 ghost use Rattle.exact_math.specs.Interval.{Interval, IsProper, between, ◌⊆◌};
-ghost use Rattle.book_model.specs.numbers.Bounds.{Reach, limits_of};
-ghost use Rattle.book_model.specs.numbers.Expressions.{Expression, World, sine, cosine, tangent};
+
+ghost use Rattle.book_model.specs.numbers.Expressions.{sine, cosine, tangent};
 ghost use Rattle.book_model.specs.programs.Leading.{at_56};
 ghost use Rattle.book_model.specs.numbers.Octants.{sine_of_degrees, cosine_of_degrees};
-ghost use Rattle.book_model.specs.numbers.Relations.{Within, Narrow};
+
 ghost use Rattle.trig_series.specs.declared.scale.TheConstants.{ONE};
 ghost use Rattle.trig_series.specs.Points.{IsNarrowSine, IsNarrowCosine};
 ghost use Rattle.book_model.specs.numbers.Depth.{DEPTH};
@@ -78,8 +79,8 @@ fn cosine_over(degrees: Span) -> Span
 /// are taken at the ends of what they have in common with each octant that they meet. What is left out of a series
 /// widens it. The result is at most a 57th as wide as the degrees, and two units of its scale and 36 parts of 2⁻⁵⁶.
 pub fn sin_deg<E: Enclosure>(x: E) -> E
-    ensures holds { (w : World) (a : Expression) → Within E.shown w a x → Within E.shown w (sine a) result }
-    ensures narrow { (r : Reach) (a : Expression) → Narrow E.shown (limits_of E.BITS) r a x → Narrow E.shown (limits_of E.BITS) r (sine a) result }
+    ensures holds { Holds1 E.shown sine x result }
+    ensures narrow { Narrows1 E.shown E.BITS sine x result }
 {
     match x.span() {
         Some(degrees) => E::from_span(sine_over(degrees)),
@@ -89,8 +90,8 @@ pub fn sin_deg<E: Enclosure>(x: E) -> E
 
 /// The cosine of degrees: the sine of 90 degrees more.
 pub fn cos_deg<E: Enclosure>(x: E) -> E
-    ensures holds { (w : World) (a : Expression) → Within E.shown w a x → Within E.shown w (cosine a) result }
-    ensures narrow { (r : Reach) (a : Expression) → Narrow E.shown (limits_of E.BITS) r a x → Narrow E.shown (limits_of E.BITS) r (cosine a) result }
+    ensures holds { Holds1 E.shown cosine x result }
+    ensures narrow { Narrows1 E.shown E.BITS cosine x result }
 {
     match x.span() {
         Some(degrees) => E::from_span(cosine_over(degrees)),
@@ -100,8 +101,8 @@ pub fn cos_deg<E: Enclosure>(x: E) -> E
 
 /// The tangent of degrees: the quotient of sine and cosine, which is every number where the cosine may be 0.
 pub fn tan_deg<E: Enclosure>(x: E) -> E
-    ensures holds { (w : World) (a : Expression) → Within E.shown w a x → Within E.shown w (tangent a) result }
-    ensures narrow { (r : Reach) (a : Expression) → Narrow E.shown (limits_of E.BITS) r a x → Narrow E.shown (limits_of E.BITS) r (tangent a) result }
+    ensures holds { Holds1 E.shown tangent x result }
+    ensures narrow { Narrows1 E.shown E.BITS tangent x result }
 {
     sin_deg::<E>(x).div(cos_deg::<E>(x))
 }
