@@ -1,9 +1,7 @@
 //! An angle that grows with time.
 ghost use Rattle.book_model.specs.programs.Calls.{Follows1};
 ghost use Rattle.std.specs.Prelude.{◌≤◌, ◌+◌, ℕ};
-
 ghost use Rattle.book_model.specs.numbers.Expressions.{Expression};
-
 ghost use Rattle.book_model.specs.programs.Programs.{Program};
 
 use book_model::Fail;

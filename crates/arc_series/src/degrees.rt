@@ -7,7 +7,6 @@ ghost use Rattle.exact_math.specs.Interval.{Interval, everything, ◌⊆◌};
 ghost use Rattle.book_model.specs.numbers.Arcs.{all_around};
 ghost use Rattle.book_model.specs.numbers.Bounds.{is_scale};
 ghost use Rattle.book_model.specs.numbers.Expressions.{arctangent, arcsine, arccosine, arctangent_of_two};
-
 ghost use Rattle.arc_series.specs.Forms.{half_tangent_of, has_sign};
 
 use crate::pieces::arctan_over;

@@ -3,10 +3,8 @@ ghost use Rattle.book_model.specs.programs.Calls.{Holds1};
 ghost use Rattle.std.specs.Prelude.{◌≡◌, ℕ, ◌≤◌, Option};
 ghost use Rattle.exact_math.specs.Interval.{Interval, between, ◌⊆◌};
 ghost use Rattle.book_model.specs.numbers.Arcs.{arc_over as arc_over_piece, join as join_of, arctangent_of, far_below, below, near as near_piece, above as above_piece, far_above};
-
 ghost use Rattle.book_model.specs.programs.Leading.{at_56};
 ghost use Rattle.book_model.specs.numbers.Octants.{only};
-
 ghost use Rattle.book_model.specs.numbers.Depth.{DEPTH};
 ghost use Rattle.arc_series.specs.Forms.{above_of, beyond_of, piece_of, arc_in, AreHeld, begin_56, end_56};
 

@@ -1,7 +1,6 @@
 //! The series of the arctangent.
 ghost use Rattle.book_model.specs.programs.Calls.{Holds1};
 ghost use Rattle.std.specs.Prelude.{◌≤◌, ◌+◌, ◌*◌};
-
 ghost use Rattle.arc_series.specs.Forms.{horner, near_of};
 
 use book_model::FINEST_PART;

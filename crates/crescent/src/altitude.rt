@@ -2,7 +2,6 @@
 
 ghost use Rattle.book_model.specs.programs.Calls.{Holds2, Holds3, Holds4};
 ghost use Rattle.book_model.specs.sky.Crescent as spec;
-
 ghost use Rattle.book_model.specs.numbers.Fractions.{fraction_of};
 
 use book_model::Frac;

@@ -2,9 +2,7 @@
 ghost use Rattle.book_model.specs.programs.Calls.{Decides};
 ghost use Rattle.std.specs.Prelude.{◌≡◌, ◌≤◌, ◌+◌, ℤ, pos, ◌≤ℤ◌, ◌+ℤ◌, ◌-ℤ◌, ◌*◌, int_le, IfOk, IfErr};
 ghost use Rattle.book_model.specs.sky.Crescent as spec;
-
 ghost use Rattle.book_model.specs.sky.Facts.{IsFactDay, IsFactValue, IsValueDay};
-
 ghost use Rattle.book_model.specs.programs.Searches.{first_day_from};
 ghost use Rattle.moon_core.specs.PhaseDays.{IsPhaseDay};
 ghost use Rattle.time_scales.specs.Steps.{IsNoEarlyYear};

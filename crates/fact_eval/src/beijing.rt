@@ -1,7 +1,6 @@
 //! Days and midnights in Beijing: the day of a moment, and the longitude of the sun as a day begins.
 ghost use Rattle.book_model.specs.programs.Calls.{Decides1, Follows};
 ghost use Rattle.std.specs.Prelude.{◌≤◌, ◌+◌};
-
 ghost use Rattle.book_model.specs.sky.Kinds.{day_in_beijing_of, longitude_at_midnight_of};
 
 use book_model::{Fail, Site};

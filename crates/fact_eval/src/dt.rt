@@ -8,7 +8,6 @@ ghost use Rattle.book_model.specs.numbers.Fractions.{fraction_of};
 ghost use Rattle.book_model.specs.sky.Facts.{IsFactValue, IsValueDay};
 ghost use Rattle.book_model.specs.sky.Kinds.{dt_of};
 ghost use Rattle.book_model.specs.declared.fact.Kind.TheVariants.{Dt};
-
 ghost use Rattle.book_model.specs.numbers.Relations.{Within, Narrow};
 ghost use Rattle.fact_eval.specs.Widths.{IsNearFor, IsCloseFor};
 

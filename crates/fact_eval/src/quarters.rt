@@ -2,10 +2,8 @@
 ghost use Rattle.book_model.specs.programs.Calls.{Decides};
 ghost use Rattle.std.specs.Prelude.{◌≡◌, ◌≤◌, IfOk, IfErr};
 ghost use Rattle.book_model.specs.sky.Crescent.{phasis_of};
-
 ghost use Rattle.book_model.specs.sky.Facts.{IsFactValue, IsValueDay};
 ghost use Rattle.book_model.specs.sky.Kinds.{location_of as location_at};
-
 ghost use Rattle.book_model.specs.sky.Phases.{phase_day_of};
 ghost use Rattle.time_scales.specs.Steps.{IsNoEarlyYear};
 

@@ -1,10 +1,8 @@
 //! The days in Beijing of the next major and minor solar terms.
 ghost use Rattle.book_model.specs.programs.Calls.{Decides};
 ghost use Rattle.std.specs.Prelude.{◌≡◌, ◌≤◌, ◌+◌, pos, ◌≤ℤ◌, IfOk};
-
 ghost use Rattle.book_model.specs.sky.Facts.{IsFactValue, IsValueDay};
 ghost use Rattle.book_model.specs.sky.Kinds as spec;
-
 ghost use Rattle.fact_eval.specs.Spans.{IsSpan};
 
 use crate::beijing::{day_in_beijing, longitude_at_midnight};

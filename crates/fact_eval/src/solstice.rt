@@ -2,10 +2,8 @@
 ghost use Rattle.book_model.specs.programs.Calls.{Decides, Decides1, Follows};
 ghost use Rattle.std.specs.Prelude.{◌≤◌, ◌+◌, pos, ◌≤ℤ◌, ◌+ℤ◌, ◌-ℤ◌, ℤ, IfOk, IfErr};
 ghost use Rattle.book_model.specs.calendars.Gregorian.{year_of_day};
-
 ghost use Rattle.book_model.specs.sky.Facts.{IsFactDay, IsFactValue, IsValueDay};
 ghost use Rattle.book_model.specs.sky.Kinds.{is_past_winter_of, has_winter_at_end, last_solstice_of, solstice_start_of, solstice_of};
-
 ghost use Rattle.book_model.specs.declared.fact.Kind.TheVariants.{Solstice};
 ghost use Rattle.fact_eval.specs.Widths.{IsNearFor};
 

@@ -4,9 +4,7 @@ ghost use Rattle.std.specs.Prelude.{◌≡◌, ◌≤◌, IfOk, IfErr, IsTrue};
 ghost use Rattle.book_model.specs.declared.fact.TheConstants.{FIRST_DAY as first_day, LAST_DAY as last_day};
 ghost use Rattle.book_model.specs.calendars.Gregorian.{year_of_day};
 ghost use Rattle.book_model.specs.sky.Correction.{is_between};
-
 ghost use Rattle.book_model.specs.sky.Facts.{IsFactValue, IsValueDay, formula_of, program_of};
-
 ghost use Rattle.oracle_core.specs.Answers.{IsRightAnswer};
 ghost use Rattle.fact_eval.specs.Answers.{answer_of};
 ghost use Rattle.fact_eval.specs.Widths.{IsNearFor};

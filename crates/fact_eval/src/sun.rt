@@ -2,11 +2,9 @@
 ghost use Rattle.book_model.specs.programs.Calls.{Decides};
 ghost use Rattle.std.specs.Prelude.{◌≤◌, ◌+◌, IfOk, IfErr};
 ghost use Rattle.book_model.specs.calendars.Gregorian.{year_of_day};
-
 ghost use Rattle.book_model.specs.sky.Facts.{IsFactValue, IsValueDay};
 ghost use Rattle.book_model.specs.sky.Kinds.{sun_in_thousandths_of};
 ghost use Rattle.book_model.specs.declared.fact.Kind.TheVariants.{Sun};
-
 ghost use Rattle.fact_eval.specs.Widths.{IsNearFor};
 
 use book_model::{Fail, Site, THOUSANDTHS_OF_DEGREE};

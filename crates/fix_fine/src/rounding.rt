@@ -3,7 +3,6 @@ ghost use Rattle.std.specs.Prelude.{◌^◌, pos, ◌-ℤ◌, IfSome, IsNone, Fi
 ghost use Rattle.std.specs.Int.{w128};
 ghost use Rattle.rounded_quotients.specs.Rounding.{IsFloor, IsCeiling};
 
-
 /// How many units 1 has.
 pub(crate) const ONE: i128 = 72_057_594_037_927_936;
 

@@ -2,10 +2,8 @@
 ghost use Rattle.book_model.specs.programs.Calls.{Decides, Decides1};
 ghost use Rattle.std.specs.Prelude.{◌≡◌, ◌≤◌, ◌+◌, ◌-ℤ◌, pos, ◌≤ℤ◌, ℤ, IfOk, IfErr};
 ghost use Rattle.std.specs.Ordering.{int_eq};
-
 ghost use Rattle.book_model.specs.sky.Facts.{IsFactValue, IsValueDay};
 ghost use Rattle.book_model.specs.sky.HinduFacts as spec;
-
 ghost use Rattle.book_model.specs.programs.Searches.{first_day_from};
 ghost use Rattle.hindu_sky.specs.Counts.{IsDegree, IsLunarDay};
 ghost use Rattle.time_scales.specs.Steps.{IsNoEarlyYear};

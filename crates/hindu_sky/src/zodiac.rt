@@ -1,9 +1,7 @@
 //! The sign of the zodiac in which the sun stands, and the year of the Kali Yuga, at a moment.
 ghost use Rattle.book_model.specs.programs.Calls.{Decides1, Holds2};
 ghost use Rattle.std.specs.Prelude.{◌≤◌, ◌+◌, pos, ◌≤ℤ◌, IfOk, IfErr};
-
 ghost use Rattle.book_model.specs.sky.HinduFacts.{whole_degrees_of};
-
 ghost use Rattle.book_model.specs.sky.Sidereal as spec;
 ghost use Rattle.hindu_sky.specs.Counts.{IsDegree, IsSign};
 ghost use Rattle.time_scales.specs.Steps.{IsYearOpenFor};

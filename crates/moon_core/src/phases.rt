@@ -2,10 +2,8 @@
 ghost use Rattle.book_model.specs.programs.Calls.{Decides1, Follows1, Follows2, Holds1, Holds2, Narrows1};
 ghost use Rattle.std.specs.Prelude.{◌≡◌, ◌≤◌, ◌+◌, ℤ, pos, negsuc, ◌≤ℤ◌, IfOk, IfErr};
 ghost use Rattle.exact_math.specs.Interval.{Interval};
-
 ghost use Rattle.book_model.specs.sky.Phases as spec;
 ghost use Rattle.book_model.specs.numbers.Ranges.{IsInTable};
-
 ghost use Rattle.time_scales.specs.Steps.{IsYearOpenFor, IsEarlyYearFor};
 
 use crate::longitude::moon;

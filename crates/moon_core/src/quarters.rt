@@ -2,11 +2,8 @@
 ghost use Rattle.book_model.specs.programs.Calls.{Decides, Follows1, Follows2, Follows3, Holds2, Narrows2};
 ghost use Rattle.std.specs.Prelude.{◌≡◌, ◌≤◌, ◌+◌, IfOk, IfErr};
 ghost use Rattle.exact_math.specs.Interval.{Interval};
-
 ghost use Rattle.book_model.specs.sky.Facts.{IsValueDay};
-
 ghost use Rattle.book_model.specs.sky.Phases as spec;
-
 ghost use Rattle.book_model.specs.sky.Sun.{reduced_of};
 ghost use Rattle.moon_core.specs.PhaseDays.{IsPhaseDay};
 ghost use Rattle.time_scales.specs.Steps.{IsEarlyYearFor, IsNoEarlyYear};

@@ -1,7 +1,6 @@
 //! The new moons before and from a moment, by a walk over their numbers.
 ghost use Rattle.book_model.specs.programs.Calls.{Decides1, Follows, Follows1};
 ghost use Rattle.std.specs.Prelude.{◌≤◌, ◌+◌, ◌*◌, ℤ, pos, negsuc, ◌≤ℤ◌, ◌+ℤ◌, IfOk};
-
 ghost use Rattle.book_model.specs.sky.Phases as spec;
 
 use crate::phases::number;

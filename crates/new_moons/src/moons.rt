@@ -1,11 +1,9 @@
 //! The moment of a new moon.
 ghost use Rattle.book_model.specs.programs.Calls.{Follows, Holds, Narrows};
 ghost use Rattle.std.specs.Prelude.{◌≡◌, ℤ, pos, negsuc, ◌≤ℤ◌};
-
 ghost use Rattle.book_model.specs.numbers.Fractions.{fraction_of};
 ghost use Rattle.book_model.specs.programs.Leading.{next_turn};
 ghost use Rattle.book_model.specs.sky.NewMoons as spec;
-
 ghost use Rattle.new_moons.specs.Moons.{computed_mean_of, computed_node_term_of, computed_terms_of, computed_new_moon_of};
 
 use crate::angles::{Angles, angles_at};

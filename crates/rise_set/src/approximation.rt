@@ -1,7 +1,6 @@
 //! One approximation of dawn or dusk, from a moment near to it.
 ghost use Rattle.book_model.specs.programs.Calls.{Follows2, Holds, Holds1};
 ghost use Rattle.std.specs.Prelude.{◌≤◌, ◌+◌};
-
 ghost use Rattle.book_model.specs.sky.Horizon as spec;
 
 use crate::offsets::near_offset;

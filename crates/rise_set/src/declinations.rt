@@ -1,7 +1,6 @@
 //! The declination of the sun.
 ghost use Rattle.book_model.specs.programs.Calls.{Follows1, Holds1, Holds2};
 ghost use Rattle.std.specs.Prelude.{◌≤◌, ◌+◌};
-
 ghost use Rattle.book_model.specs.numbers.Fractions.{fraction_of};
 ghost use Rattle.book_model.specs.sky.Horizon as spec;
 

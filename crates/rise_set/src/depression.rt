@@ -1,7 +1,6 @@
 //! Dawn and dusk: approximations until two of them are less than half a minute apart.
 ghost use Rattle.book_model.specs.programs.Calls.{Decides2, Follows1, Follows2};
 ghost use Rattle.std.specs.Prelude.{◌≤◌, ◌+◌, ◌*◌};
-
 ghost use Rattle.book_model.specs.sky.Horizon as spec;
 
 use crate::approximation::{approximation, quarter};

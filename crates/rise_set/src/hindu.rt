@@ -1,7 +1,6 @@
 //! Sunrise and sunset as the Hindu calendars take them, at Ujjain.
 ghost use Rattle.book_model.specs.programs.Calls.{Follows, Holds};
 ghost use Rattle.std.specs.Prelude.{◌≡◌, ◌≤◌, ◌+◌, ◌≤ℤ◌, pos, negsuc};
-
 ghost use Rattle.book_model.specs.numbers.Expressions.{constant};
 ghost use Rattle.book_model.specs.numbers.Fractions.{fraction_of};
 ghost use Rattle.book_model.specs.sky.Horizon as spec;

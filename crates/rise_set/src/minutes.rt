@@ -1,12 +1,9 @@
 //! The floor of a number to which a whole number is added, and moments rounded to minutes.
 ghost use Rattle.book_model.specs.programs.Calls.{Decides1, Holds1};
 ghost use Rattle.std.specs.Prelude.{◌≡◌, ◌≤◌, ◌+◌, ◌*ℤ◌, ◌+ℤ◌, ◌≤ℤ◌, ℤ, pos, negsuc, IfOk, IfErr, IfSome};
-
 ghost use Rattle.book_model.specs.numbers.Expressions.{add, integer};
 ghost use Rattle.book_model.specs.sky.Horizon as spec;
-
 ghost use Rattle.book_model.specs.programs.Programs.{answer, cell, integers};
-
 ghost use Rattle.rise_set.specs.Moved.{AreMoved, AreOf128Bits, IsBeside, IsTooFar};
 
 use book_model::{Fail, HALF, MINUTES, MINUTES_OF_DAY, Site, Undecided};

@@ -1,10 +1,8 @@
 //! How far the sun is from the horizon: the sine of the hour angle at which it has a depression, less a quarter of a turn.
 ghost use Rattle.book_model.specs.programs.Calls.{Decides1, Follows1, Follows2, Holds, Holds1, Holds2, Holds3};
 ghost use Rattle.std.specs.Prelude.{◌≡◌, ◌≤◌, ◌+◌};
-
 ghost use Rattle.book_model.specs.numbers.Fractions.{fraction_of};
 ghost use Rattle.book_model.specs.sky.Horizon as spec;
-
 ghost use Rattle.book_model.specs.sky.Phases.{size_of};
 
 use crate::declinations::{declination, universal};

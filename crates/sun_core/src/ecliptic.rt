@@ -3,7 +3,6 @@ ghost use Rattle.book_model.specs.programs.Calls.{Follows1};
 ghost use Rattle.std.specs.Prelude.{◌≡◌, IfOk};
 ghost use Rattle.book_model.specs.numbers.Bounds.{Reach, limits_of};
 ghost use Rattle.book_model.specs.numbers.Expressions.{Expression};
-
 ghost use Rattle.book_model.specs.numbers.Polynomials.{cubic_of};
 ghost use Rattle.book_model.specs.numbers.Relations.{Narrow};
 ghost use Rattle.book_model.specs.sky.Sun.{obliquity_of};

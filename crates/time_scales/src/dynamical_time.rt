@@ -3,7 +3,6 @@ ghost use Rattle.book_model.specs.programs.Calls.{Follows, Follows1, Holds, Hold
 ghost use Rattle.std.specs.Prelude.{◌≡◌, ◌≤◌, ℤ, pos, ◌≤ℤ◌, length, IfOk, IfErr};
 ghost use Rattle.book_model.specs.numbers.Bounds.{Reach, limits_of, IsNarrow};
 ghost use Rattle.book_model.specs.sky.Correction.{is_between as lies_between, seconds_of};
-
 ghost use Rattle.book_model.specs.numbers.Fractions.{fraction_of};
 ghost use Rattle.book_model.specs.programs.Leading.{next_turn};
 ghost use Rattle.book_model.specs.numbers.Relations.{Narrow};

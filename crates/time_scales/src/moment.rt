@@ -7,7 +7,6 @@ ghost use Rattle.book_model.specs.sky.Correction.{year_of};
 ghost use Rattle.book_model.specs.numbers.Expressions.{World, integer};
 ghost use Rattle.book_model.specs.programs.Leading.{at_56, Exact, Leads, next_turn};
 ghost use Rattle.book_model.specs.programs.Programs.{years, cell_of, cell_at};
-
 ghost use Rattle.time_scales.specs.Steps.{IsOpenYear};
 
 use crate::calendar;

@@ -1,12 +1,9 @@
 //! Polynomials of enclosures.
 ghost use Rattle.book_model.specs.programs.Calls.{Holds, Holds1, Narrows, Narrows1};
 ghost use Rattle.std.specs.Prelude.{◌≤◌, length, unsigned_abs};
-
 ghost use Rattle.book_model.specs.sky.Correction.{polynomial_of};
-
 ghost use Rattle.book_model.specs.numbers.Fractions.{fraction_of};
 ghost use Rattle.book_model.specs.numbers.Polynomials.{quadratic_of, cubic_of, polynomial_at};
-
 ghost use Rattle.time_scales.specs.Horner.{horner_of};
 
 use book_model::{Cubic, Frac, Quadratic};

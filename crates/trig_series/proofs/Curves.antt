@@ -36,7 +36,7 @@ cosine_lower_above d u =
     let w = in_fifths d u in
     let step = beneath_slow 7 _ _ (same_trans (cosine_one o) (same_sym (cosine_one x))) (cosine_falling o x v w (in_order 0 d (omega arith))).rest in
     let moved : plus (lower (cosine_term o) 9) (cosine_term o 1) ≤F plus (lower (cosine_term x) 9) (cosine_term x 1) =
-        rw (lower_is_beneath (cosine_term o) 9 ((cosine_halving o v).nonneg 9), lower_is_beneath (cosine_term x) 9 ((cosine_halving x w).nonneg 9)) step in
+    rw (lower_is_beneath (cosine_term o) 9 ((cosine_halving o v).nonneg 9), lower_is_beneath (cosine_term x) 9 ((cosine_halving x w).nonneg 9)) step in
     le_by (lower (cosine_term o) 9 ∷ lower (cosine_term x) 9 ∷ cosine_term o 1 ∷ cosine_term x 1 ∷ o ∷ x ∷ half ∷ [])
     ((at 0 ⊕ at 2 ≼ at 1 ⊕ at 3) ∷ (lit (pos 1) ≼ at 0) ∷ (at 2 ≗ at 6 ⊗ (at 4 ⊗ at 4)) ∷ (at 4 ≗ lit (pos 0)) ∷ (at 3 ≗ at 6 ⊗ (at 5 ⊗ at 5)) ∷ [])
     (lit (pos 1)) (at 1 ⊕ at 6 ⊗ (at 5 ⊗ at 5))

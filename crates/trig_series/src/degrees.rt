@@ -2,11 +2,9 @@
 ghost use Rattle.book_model.specs.programs.Calls.{Holds1, Narrows1};
 ghost use Rattle.std.specs.Prelude.{◌≡◌, ℕ, ℤ, pos, neg_ℤ, ◌^◌, ◌≤◌, ◌≤ℤ◌};
 ghost use Rattle.exact_math.specs.Interval.{Interval, IsProper, between, ◌⊆◌};
-
 ghost use Rattle.book_model.specs.numbers.Expressions.{sine, cosine, tangent};
 ghost use Rattle.book_model.specs.programs.Leading.{at_56};
 ghost use Rattle.book_model.specs.numbers.Octants.{sine_of_degrees, cosine_of_degrees};
-
 ghost use Rattle.trig_series.specs.declared.scale.TheConstants.{ONE};
 ghost use Rattle.trig_series.specs.Points.{IsNarrowSine, IsNarrowCosine};
 ghost use Rattle.book_model.specs.numbers.Depth.{DEPTH};

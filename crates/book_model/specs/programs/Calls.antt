@@ -72,4 +72,3 @@ Decides3 shown p a b c before after result = (w : World) (x y z : Expression) �
 
 abbrev pub Decides4 : {A E : Type 0} → (E → Interval) → (Expression → Expression → Expression → Expression → Program A) → E → E → E → E → ℕ → ℕ → Result A Fail → Type 0
 Decides4 shown p a b c d before after result = (w : World) (x y z u : Expression) → Within shown w x a → Within shown w y b → Within shown w z c → Within shown w u d → Leads w Exact (p x y z u) before after result
-

@@ -11,9 +11,9 @@ use crate::{Enclosure, Span, Trail};
 use book_model::{Frac, Site, Undecided};
 use rounded_quotients::{ceil_div, floor_div};
 use scaled_ends::{
-    Ends, add_ends, cell_of_ends, clamp_ends, ends_of, ends_of_span, finer_ends, hull_ends, int_ends,
-    lower_ends, max_ends, min_ends, neg_ends, open_at, order_of_ends, period_of_ends, scale_ends,
-    sub_ends, widen_ends,
+    Ends, add_ends, cell_of_ends, clamp_ends, ends_of, ends_of_span, finer_ends, hull_ends,
+    int_ends, lower_ends, max_ends, min_ends, neg_ends, open_at, order_of_ends, period_of_ends,
+    scale_ends, sub_ends, widen_ends,
 };
 
 /// How many units of 2⁻³⁶ one of 2⁻⁸ has.

@@ -5,7 +5,7 @@ use Rattle.scaled_ends.proofs.Testing.{ends_between, ends_everything}
 use Rattle.scaled_ends.proofs.comparing.open_at.Goals as goal
 
 pub returns-in-Some-clause-ends : goal.returns-in-Some-clause-ends
-returns-in-Some-clause-ends g c = 
+returns-in-Some-clause-ends g c =
     let fl : SFits w128 c.finer.result = search rules in
     let fh : SFits w128 c.finer-in-Some.result = search rules in
     rw c.in-Some.is (simp to_z-of_z (ends_between g.I.Word.scale _ _ _ _ c.finer.ensures.value c.finer-in-Some.ensures.value))

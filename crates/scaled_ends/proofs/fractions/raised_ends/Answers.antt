@@ -8,7 +8,7 @@ use Rattle.scaled_ends.proofs.OnEnds.{shows}
 use Rattle.scaled_ends.proofs.fractions.raised_ends.Goals as goal
 
 pub ends_of-requires : goal.ends_of-requires
-ends_of-requires g c = 
+ends_of-requires g c =
     let fn : SFits w128 c.num.result = search rules in
     let fu : SFits w128 c.units.result = search rules in
     let fr : SFits w128 c.in_ok-raised.raised = search rules in
@@ -27,7 +27,7 @@ returns-in_err-raised-clause-narrow g c = λ w.
     rw c.from_residual.ensures (constant_overflow g.I.Word.scale (fraction_of c.args.value) w n)
 
 pub returns-clause-holds : goal.returns-clause-holds
-returns-clause-holds g c = 
+returns-clause-holds g c =
     let fn : SFits w128 c.num.result = search rules in
     let fu : SFits w128 c.units.result = search rules in
     let fr : SFits w128 c.in_ok-raised.raised = search rules in

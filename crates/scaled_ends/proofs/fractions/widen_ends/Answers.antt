@@ -16,7 +16,7 @@ pub returns-in_err-margin-clause-narrow : goal.returns-in_err-margin-clause-narr
 returns-in_err-margin-clause-narrow g c = λ w a h. widen_overflow g.I.Word.scale w (fraction_of c.args.by) a _ (λ l. let z = c.in_err-margin.ensures.some (rw (constants_are g.I.Word.scale) at l) in absurd (cc))
 
 pub returns-clause-holds : goal.returns-clause-holds
-returns-clause-holds g c = 
+returns-clause-holds g c =
     let fm : SFits w128 c.in_ok-margin.margin = search rules in
     rw c.in_ok-x.was (widen_encloses g.I.Word.scale (fraction_of c.args.by) _ _ c.in_ok-margin.margin _ _ _ c.in_ok-margin.ensures.value refl refl (shows _ _ _ (simp to_z-of_z at c.moved.ensures.ends)))
 

@@ -6,7 +6,7 @@ use Rattle.scaled_ends.proofs.OnEnds.{shows}
 use Rattle.scaled_ends.proofs.spans.ends_of_span.Goals as goal
 
 pub returns-clause-holds : goal.returns-clause-holds
-returns-clause-holds g c = 
+returns-clause-holds g c =
     let fa = c.ranges.lo in
     let fb = c.ranges.hi in
     let fl : SFits w128 c.floor_finer-down.result = search rules in

@@ -13,12 +13,12 @@ pub past-requires-clause-begun : goal.past-requires-clause-begun
 past-requires-clause-begun g c = (in_period g.I.Word.scale c.args.modulus (g.I.Word.value c.args.period) (g.I.Word.value c.in_ok-e.e.lo) (g.I.Word.value c.in_ok-e.e.hi) c.requires.positive (rw c.in_ok-e.was at c.requires.known)).from
 
 pub past-requires-clause-not_over : goal.past-requires-clause-not_over
-past-requires-clause-not_over g c = 
+past-requires-clause-not_over g c =
     let i = in_period g.I.Word.scale c.args.modulus (g.I.Word.value c.args.period) (g.I.Word.value c.in_ok-e.e.lo) (g.I.Word.value c.in_ok-e.e.hi) c.requires.positive (rw c.in_ok-e.was at c.requires.known) in
     omega (arith, ints, i.to, c.in_ok-e.e.ordered)
 
 pub past-requires-2-clause-begun : goal.past-requires-2-clause-begun
-past-requires-2-clause-begun g c = 
+past-requires-2-clause-begun g c =
     let i = in_period g.I.Word.scale c.args.modulus (g.I.Word.value c.args.period) (g.I.Word.value c.in_ok-e.e.lo) (g.I.Word.value c.in_ok-e.e.hi) c.requires.positive (rw c.in_ok-e.was at c.requires.known) in
     omega (arith, ints, i.from, c.in_ok-e.e.ordered)
 
