@@ -108,27 +108,6 @@ quotient_overflow w (bounded a b s t) (bounded (pos (suc g)) b' s' t') x y c d i
         let r = by_ratio (range_size a b) _ g c (ceil_above (range_size a b * 2 ^ 32) g) l (omega (arith, ints, u.above)) in
         absurd (n (record { divisor = omega (arith, ints, m, v.below); above = omega (arith, ints, r, z.above); below = omega (arith, ints, r, z.below) }))
 
--- how far an end is above a number z, in units, by the whole number that is not above the end
-pub record AreLowered (z whole end : ℤ) : Type 0 where
-  pub begun : SFits w128 z
-  pub above : SFits w128 (whole -ℤ z)
-  pub raised : SFits w128 ((whole -ℤ z) *ℤ pos (2 ^ 56))
-  pub down : SFits w128 (whole *ℤ pos (2 ^ 56))
-  pub rest : SFits w128 (end -ℤ whole *ℤ pos (2 ^ 56))
-  pub sum : SFits w128 ((whole -ℤ z) *ℤ pos (2 ^ 56) +ℤ (end -ℤ whole *ℤ pos (2 ^ 56)))
-  pub same : ((whole -ℤ z) *ℤ pos (2 ^ 56) +ℤ (end -ℤ whole *ℤ pos (2 ^ 56))) ≡ end -ℤ z *ℤ pos (2 ^ 56)
-
-pub are_lowered : (z whole end : ℤ) (m : ℕ) → SFits w128 end → (whole *ℤ pos (2 ^ 56)) ≤ℤ end → end <ℤ ((whole +ℤ pos 1) *ℤ pos (2 ^ 56)) → (z *ℤ pos (2 ^ 56)) ≤ℤ end → end <ℤ ((z +ℤ pos m) *ℤ pos (2 ^ 56)) → m < 2 ^ 32 → AreLowered z whole end
-are_lowered z whole end m f a b c d l = record {
-  begun = omega (arith, ints, f, a, b, c, d, l);
-  above = omega (arith, ints, f, a, b, c, d, l);
-  raised = omega (arith, ints, f, a, b, c, d, l);
-  down = omega (arith, ints, f, a, b, c, d, l);
-  rest = omega (arith, ints, f, a, b, c, d, l);
-  sum = omega (arith, ints, f, a, b, c, d, l);
-  same = omega (arith, ints);
-}
-
 -- a cell outside 64 bits leaves the test open
 no_bounds_of : (lo hi : ℤ) → AreEnds lo hi everything → AreNoBounds lo hi
 no_bounds_of lo hi (no_bounds n) = n

@@ -1,7 +1,7 @@
 pub mod Keeping
 pub mod Following
 pub mod Enclosing
-pub mod Best
+pub mod Margins
 pub mod Scaling
 pub mod Testing
 pub mod Unpromised

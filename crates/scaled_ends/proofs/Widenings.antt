@@ -16,7 +16,7 @@ use Rattle.rounded_quotients.proofs.Quotients.{next_le}
 use Rattle.scaled_ends.specs.Rounding.{IsMarginAt, ShowsEnds}
 use Rattle.scaled_ends.proofs.Keeping.{AreKept, kept_of, spans_of, limited_narrow, both}
 use Rattle.scaled_ends.proofs.Enclosing.{margin_nonneg}
-use Rattle.scaled_ends.proofs.Best.{margin_least}
+use Rattle.scaled_ends.proofs.Margins.{margin_least}
 use Rattle.scaled_ends.proofs.Products.{ceil_above}
 
 -- ---- hulls

@@ -18,19 +18,9 @@ pub data ShowsEnds (scale : Scale) (lo hi : ℤ) : Interval → Type 0 where
   fitting : ShowsEnds scale lo hi (between (at_scale scale lo) (at_scale scale hi))
   too_large : (FitsSigned (word scale) lo → FitsSigned (word scale) hi → ⊥) → ShowsEnds scale lo hi everything
 
--- the second is the smallest that the scale's bits can say of the first: it lies between all ends that hold the first
-pub record IsBestAt (scale : Scale) (i j : Interval) : Type 0 where
-  pub best : (lo hi : ℤ) → FitsSigned (word scale) lo → FitsSigned (word scale) hi → i ⊆ between (at_scale scale lo) (at_scale scale hi) → j ⊆ between (at_scale scale lo) (at_scale scale hi)
-
 -- the same of ends in 64 bits
-abbrev pub IsMargin : Fraction → ℤ → Type 0
-IsMargin f m = IsMarginAt coarse f m
-
 abbrev pub Keeps64 : (lo hi : ℤ) → Interval → Type 0
 Keeps64 lo hi i = ShowsEnds coarse lo hi i
-
-abbrev pub IsBest : (i j : Interval) → Type 0
-IsBest i j = IsBestAt coarse i j
 
 -- both numbers are above 0, or both below
 abbrev pub IsOneSided : ℤ → ℤ → Type 0
