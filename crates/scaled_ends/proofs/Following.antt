@@ -1,12 +1,12 @@
 -- From the operations on intervals and bounds to those on expressions.
 use Rattle.scaled_ends.specs.Scales.{Scale, coarse, fine, bits_of, limits_on}
-use Rattle.std.proofs.Common.{◌≡◌, ℕ, ◌≤◌, ℤ, pos, ◌*ℤ◌}
+use Rattle.std.proofs.Common.{ℕ, ◌≤◌, ℤ, pos, ◌*ℤ◌}
 use Rattle.exact_math.specs.Fraction.{Fraction, whole}
 use Rattle.exact_math.specs.Interval.{Interval, between, ◌⊆◌, sum, difference, negative, product, minimum as interval_minimum, maximum as interval_maximum, hull as interval_hull, widen as interval_widen, quotient, power as interval_power}
 use Rattle.exact_math.proofs.Fractions.{le_refl}
 use Rattle.exact_math.proofs.Intervals.{within_refl, within_trans, sum_within, difference_within, negative_within, product_within, minimum_within, maximum_within, hull_within, widen_within, quotient_within, power_within}
 use Rattle.book_model.specs.numbers.Expressions.{Expression, World, value, integer, constant, add, subtract, multiply, negate, scale, minimum, maximum, hull, widen, divide, power, remainder}
-use Rattle.book_model.specs.numbers.Bounds.{Bound, unbounded, Limits, Reach, IsNarrow, bound_of, integer_bound, constant_bound, sum_bound, scaled_bound, difference_bound, product_bound, power_bound, quotient_bound, negated_bound, minimum_bound, maximum_bound, hull_bound, widen_bound, remainder_bound, spanned_bound, limits_of}
+use Rattle.book_model.specs.numbers.Bounds.{Bound, Limits, Reach, IsNarrow, bound_of, integer_bound, constant_bound, sum_bound, scaled_bound, difference_bound, product_bound, power_bound, quotient_bound, negated_bound, minimum_bound, maximum_bound, hull_bound, widen_bound, remainder_bound, spanned_bound, limits_of}
 use Rattle.book_model.proofs.Values.{value_proper}
 use Rattle.book_model.specs.numbers.Relations.{Within, Narrow, Lies, Keeps}
 
@@ -120,12 +120,6 @@ unfolding Keeps bound_of limits_of
 -- the bound of a product with a fraction
 narrow_scale coarse shown r f x i k h p = record { kept = h r.width _ p.kept }
 narrow_scale fine shown r f x i k h p = record { kept = h r.width _ p.kept }
-
--- ---- operations of which no width is promised
--- an expression without a bound has its promise kept by every enclosure
-pub narrow_unbounded : {E : Type 0} (shown : E → Interval) (l : Limits) (r : Reach) (x : Expression) (k : E) → bound_of l r.bounds x ≡ unbounded → Narrow shown l r x k
-unfolding Keeps IsNarrow
-narrow_unbounded shown l r x k e = record { kept = rw e tt }
 
 -- the bound of a difference
 pub narrow_subtract : (ends : Scale) → {E : Type 0} (shown : E → Interval) (r : Reach) (x y : Expression) (i j k : E) → ((w : ℕ) (a b : Bound) → IsNarrow w a (shown i) → IsNarrow w b (shown j) → IsNarrow w (difference_bound (limits_on ends) a b) (shown k))

@@ -3,7 +3,7 @@ use Rattle.scaled_ends.specs.Scales.{Scale, coarse, fine, unit}
 use Rattle.std.proofs.Common.{◌≡◌, suc, ◌+◌, ◌^◌, refl, subst, arith, ℤ, pos, ◌+ℤ◌, ◌*ℤ◌, ◌≤ℤ◌, ◌<ℤ◌, [], ◌∷◌}
 use Rattle.std.specs.Prelude.{unsigned_abs}
 use Rattle.std.proofs.lemmas.Int.{ints, by_lt_z}
-use Rattle.exact_math.specs.Fraction.{Fraction, size}
+use Rattle.exact_math.specs.Fraction.{Fraction}
 use Rattle.exact_math.proofs.Ring.{at, lit, ◌⊕◌, ◌⊗◌}
 use Rattle.exact_math.proofs.Bounds.{◌≼◌, known, ◌⊞◌, ◌⊠◌, refute}
 use Rattle.scaled_ends.specs.Rounding.{IsMarginAt}

@@ -8,7 +8,7 @@ use Rattle.std.proofs.lemmas.Int.{ints, clamps}
 use Rattle.exact_math.specs.Fraction.{◌≤F◌, times, smaller, larger}
 use Rattle.exact_math.specs.Interval.{Interval, everything, between, ◌⊆◌, clamp, one, minus_one}
 use Rattle.exact_math.proofs.Fractions.{le_trans, smaller_keeps, larger_keeps, smaller_first, smaller_second, larger_first, larger_second}
-use Rattle.exact_math.proofs.Intervals.{within_trans, within_refl, within_everything, clamp_within}
+use Rattle.exact_math.proofs.Intervals.{within_trans, within_refl, clamp_within}
 use Rattle.exact_math.proofs.Narrowing.{at_least}
 use Rattle.book_model.specs.numbers.Expressions.{Expression, World, value, root, clamp as clamp_of}
 use Rattle.book_model.specs.numbers.Roots.{natural_part, on_grid, root_low, root_high, root_of}
@@ -79,9 +79,6 @@ root_holds fine n a b r s i d o p q h k l =
     within_trans (at_least root_of roots 28 n (omega (arith, d)) (record { cross = omega (arith, ints, o) }) (within_refl (between (at_scale fine a) (at_scale fine b))))
     (within_trans (at_18 fine a b r s p q h k) (kept_within fine r s i l))
 
-pub root_all : (n : ℕ) (i : Interval) → i ≡ everything → root_of n i ⊆ everything
-root_all n i e = within_everything _
-
 -- ---- cut to -1..1
 abbrev pub cut_of : (scale : Scale) → ℤ → ℤ
 cut_of scale a = int_max (int_min a (unit scale)) (neg_ℤ (unit scale))
@@ -127,10 +124,6 @@ cut_high fine a c e = larger_keeps (λ z. z ≤F at_scale fine c) minus_one (sma
     by_split : (pos (2 ^ 56) ≤ℤ c) ⊎ ((c +ℤ pos 1) ≤ℤ pos (2 ^ 56)) → smaller (at_scale fine a) one ≤F at_scale fine c
     by_split (inl l) = le_trans _ one _ (smaller_second (at_scale fine a) one) (record { cross = omega (arith, ints, l) })
     by_split (inr l) = le_trans _ (at_scale fine a) _ (smaller_first (at_scale fine a) one) (record { cross = omega (arith, ints, clamps, e, l) })
-
-pub cut_order : (scale : Scale) → (a b c d : ℤ) → a ≤ℤ b → c ≡ cut_of scale a → d ≡ cut_of scale b → c ≤ℤ d
-cut_order coarse a b c d h e f = omega (arith, ints, clamps, h, e, f)
-cut_order fine a b c d h e f = omega (arith, ints, clamps, h, e, f)
 
 pub cut_holds : (scale : Scale) → (a b c d : ℤ) → c ≡ cut_of scale a → d ≡ cut_of scale b → clamp (between (at_scale scale a) (at_scale scale b)) ⊆ between (at_scale scale c) (at_scale scale d)
 unfolding clamp

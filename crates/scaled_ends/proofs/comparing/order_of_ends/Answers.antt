@@ -1,6 +1,4 @@
-use Rattle.std.proofs.Common.{rules, ◌<ℤ◌, ◌≤ℤ◌}
-use Rattle.std.proofs.Common.{arith}
-use Rattle.std.proofs.lemmas.Int.{ints}
+use Rattle.std.proofs.Common.{rules}
 use Rattle.scaled_ends.proofs.Testing.{order_below, order_above, order_open, order_first, order_second}
 use Rattle.scaled_ends.proofs.comparing.order_of_ends.Goals as goal
 

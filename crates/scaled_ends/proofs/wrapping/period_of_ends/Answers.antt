@@ -1,4 +1,4 @@
-use Rattle.std.proofs.Common.{rules, refl, sym, ◌∙◌, ap}
+use Rattle.std.proofs.Common.{rules, refl, sym}
 use Rattle.scaled_ends.proofs.Periods.{period_same, period_apart, period_nowhere}
 use Rattle.scaled_ends.proofs.wrapping.period_of_ends.Goals as goal
 
