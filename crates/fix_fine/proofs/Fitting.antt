@@ -1,5 +1,5 @@
 -- Where a bound is promised, the products of ends that count 2^-56 fit in 128 bits.
-use Rattle.std.proofs.Common.{◌≡◌, ℕ, zero, suc, ◌*◌, ◌^◌, ◌≤◌, ◌<◌, ◌-◌, arith, refl, sym, Bool, true, false, ◌&&◌, nat_lt, ℤ, pos, negsuc, ◌+ℤ◌, ◌*ℤ◌, ◌-ℤ◌, ◌≤ℤ◌, ◌<ℤ◌, SFits, inl, inr}
+use Rattle.std.proofs.Common.{◌≡◌, ℕ, zero, suc, ◌*◌, ◌^◌, ◌≤◌, ◌<◌, ◌-◌, arith, refl, sym, Bool, true, false, ◌&&◌, nat_lt, ℤ, pos, negsuc, ◌*ℤ◌, ◌≤ℤ◌, ◌<ℤ◌, SFits, inl, inr}
 use Rattle.std.specs.Prelude.{FitsSigned, Some}
 use Rattle.std.specs.Int.{w64, w128}
 use Rattle.std.proofs.Math.Nat.{mul-le-mul_right}
