@@ -11,7 +11,6 @@ use Rattle.cert_text.specs.declared.line.CertLine.{CertLine}
 use Rattle.cert_text.specs.declared.line.CertLine.TheVariants.{Shown, TooFar, NoDate, Refused, Undecided, Void}
 use Rattle.cert_text.specs.declared.line.Echo.{Echo}
 use Rattle.cert_text.specs.declared.line.Block.{Block}
-use Rattle.cert_read.specs.declared.read.TheConstants.{LONGEST_FILE}
 use Rattle.cert_read.specs.Grammar.{is_printable}
 use Rattle.cert_read.specs.Reading.{grammar_of, file, is_new, are_of_facts, listed}
 use Rattle.cert_text.specs.Text.{block_text}
@@ -74,7 +73,7 @@ facts_of blocks = flat_map (λ b. b.facts) blocks
 abbrev pub file_text : List Block → List ℕ
 file_text blocks = header ++ (flat_map block_text blocks ++ end_text (length blocks) (length (facts_of blocks)))
 
--- what is written so is read again, as the same facts and lines
+-- what is written so is read again, as the same facts and lines, up to the length of a file
 abbrev pub AreReadAgain : List Block → Type 0
-AreReadAgain blocks = are_in_order 0 [] blocks ≡ true → length (file_text blocks) ≤ LONGEST_FILE
+AreReadAgain blocks = are_in_order 0 [] blocks ≡ true → length (file_text blocks) ≤ 268435456
     → grammar_of (file_text blocks) ≡ file (record { facts = facts_of blocks; lines = map (λ b. b.line) blocks })

@@ -3,7 +3,7 @@ ghost use Rattle.std.specs.Prelude.{◌≡◌, ◌≤◌, ◌⊎◌, ℕ, true, 
 ghost use Rattle.std.specs.Io.KnownBytes.{Appends, Consumes, Keeps};
 ghost use Rattle.run_core.specs.Checking.{RefusesText};
 ghost use Rattle.command_words.specs.Words.{command_of as named, IsInRange};
-ghost use Rattle.run_core.specs.Commands.{input_of, limit_of};
+ghost use Rattle.run_core.specs.Commands.{input_of, limit_of, nothing};
 ghost use Rattle.run_core.specs.Run.{usage, Finishes, IsCut, IsOfWork, HasRead, CanRead, IsTooLarge, IsPast, ended};
 ghost use Rattle.byte_streams.specs.Stream.{Rose, HasCause, AppendsFront};
 
@@ -49,6 +49,7 @@ fn read_input<S: Source>(
     ensures finished { CanRead (input_of command) (S.left source.old) → ¬ Rose (S.faults source.old) (S.faults source.new) → IsErrOf result ReadStop.Memory ⊎ IsOk result }
     ensures fault { IsErrOf result ReadStop.Fault → Rose (S.faults source.old) (S.faults source.new) }
     ensures later { S.faults source.old ≤ S.faults source.new }
+    ensures unread { input_of command ≡ nothing → source.new ≡ source.old }
 {
     match command {
         Command::Convert | Command::Check => read_all(alloc, source, input_limit(command)),
@@ -141,6 +142,8 @@ pub fn run<R: Threads + Sync, S: Source, K: Sink, E: Evaluator + Sync, G: Gate +
     ensures words_only { result ≡ Status.Words → named (map string_bytes words.now) ≡ None }
     ensures words_refused { named (map string_bytes words.now) ≡ None → (result ≡ Status.Words) ⊎ (result ≡ Status.WriteFault) ⊎ (result ≡ Status.Memory) }
     ensures words_unread { named (map string_bytes words.now) ≡ None → source.new ≡ source.old }
+    // Nothing is read under `almanac` and `sample` either.
+    ensures unread { (c : Command) → named (map string_bytes words.now) ≡ Some c → input_of c ≡ nothing → source.new ≡ source.old }
     // Faults have a cause.
     ensures read_fault { result ≡ Status.ReadFault → Rose (S.faults source.old) (S.faults source.new) }
     ensures write_fault { result ≡ Status.WriteFault → Rose (K.faults sink.old) (K.faults sink.new) }
