@@ -10,6 +10,8 @@ use run_core::{
     Command, Failed, MemorySink, MemorySource, OpenGate, Sink, Source, Status, input_limit, run,
 };
 use std::alloc::Global;
+use std::sync::atomic::AtomicUsize;
+use std::sync::atomic::Ordering::SeqCst;
 use std::test::Fail;
 use std::thread::Threads;
 
@@ -290,6 +292,55 @@ fn two_scales_leave_fewer_lines_of_a_sample_open(rt: HostRuntime) -> Result<(), 
     let staged = sampled_over(&rt, alloc, &Staged::new())?;
     let want = "sample 700 1 decided 700 undecided 0 void 0 refused 0 facts 2563\n";
     assert_eq!(rt; staged.written(), want.as_bytes());
+    Ok(())
+}
+
+/// The evaluator of the program, which counts the facts that it is asked.
+#[derive(Drop)]
+struct Counting {
+    staged: Staged,
+    asked: AtomicUsize,
+}
+
+impl Evaluator for Counting {
+    fn eval(&self, fact: Fact) -> Answer {
+        self.asked.fetch_add(1, SeqCst);
+        self.staged.eval(fact)
+    }
+}
+
+#[test]
+fn a_run_evaluates_each_fact_once(rt: HostRuntime) -> Result<(), Fail> {
+    let alloc = rt.alloc();
+    let twice = "gregorian 2024-02-10 chinese\n\
+        gregorian 2024-02-10 chinese\n\
+        chinese 78-41-1-0-1 gregorian\n";
+    for (line, input, end, asked) in [
+        ("almanac 2024", "", "end lines 104 facts 152\n", 152),
+        ("sample 40 1", "", " refused 0 facts 137\n", 137),
+        ("convert", twice, "end lines 3 facts 8\n", 8),
+        ("check", ROW_TEXT, "end yes 1 no 0 skip 0\n", 1),
+    ] {
+        let evaluator = Counting {
+            staged: Staged::new(),
+            asked: AtomicUsize::new(0),
+        };
+        let words = words_in(alloc, line)?;
+        let mut source = MemorySource::new(input.as_bytes().to_vec(alloc)?, Vec::new(alloc));
+        let mut sink = MemorySink::new(alloc, 20_000, Vec::new(alloc))?;
+        let got = run(
+            &rt,
+            alloc,
+            &words,
+            &mut source,
+            &mut sink,
+            &evaluator,
+            &OpenGate,
+        );
+        assert_eq!(rt; got, Status::Done, "{line}");
+        assert!(rt; sink.written().ends_with(end.as_bytes()), "{line}");
+        assert_eq!(rt; evaluator.asked.load(SeqCst), asked, "{line}");
+    }
     Ok(())
 }
 

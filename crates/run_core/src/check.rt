@@ -14,6 +14,7 @@ use byte_streams::{Failed, Gathered, Sink, write_two_counts};
 use cert_check::{Verdict, check_facts, check_line, write_counts, write_verdict};
 use cert_read::{CertFile, ReadFail, read_file};
 use oracle_core::{Answers, Evaluator};
+use shelf_core::{Shelf, Shelved};
 use std::alloc::{AllocError, Global};
 
 /// What comes of checking bytes: every verdict is yes, or one isn't, or the bytes aren't a printed file.
@@ -176,7 +177,8 @@ fn check_file<K: Sink, E: Evaluator>(
     ensures cause { IsErrOf result WriteStop.Fault → Rose (K.faults sink.old) (K.faults sink.new) }
     ensures later { K.faults sink.old ≤ K.faults sink.new }
 {
-    let answers = check_facts(alloc, file, evaluator)?;
+    let shelf = Shelf::open(alloc)?;
+    let answers = check_facts(alloc, file, &Shelved::new(alloc, &shelf, evaluator))?;
     let verdicts = verdicts_of(alloc, file, &answers)?;
     write_verdicts(alloc, sink, &verdicts)?;
     Ok(all_yes(&verdicts))

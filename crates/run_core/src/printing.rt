@@ -17,6 +17,7 @@ use byte_streams::Sink;
 use cert_text::Word;
 use line_core::split_lines;
 use oracle_core::Evaluator;
+use shelf_core::{Shelf, Shelved};
 use std::alloc::{AllocError, Global};
 
 /// Whether an outcome is a result.
@@ -44,7 +45,7 @@ pub(crate) fn bytes_of(alloc: Global, lines: &[Word]) -> Result<Vec<&[u8]>, Allo
     Ok(bytes)
 }
 
-/// Writes the text of lines, and says whether all have results.
+/// Writes the text of lines, whose facts are evaluated once each, and says whether all have results.
 fn print_lines<K: Sink, E: Evaluator>(
     alloc: Global,
     sink: &mut K,
@@ -58,7 +59,8 @@ fn print_lines<K: Sink, E: Evaluator>(
     ensures cause { IsErrOf result WriteStop.Fault → Rose (K.faults sink.old) (K.faults sink.new) }
     ensures later { K.faults sink.old ≤ K.faults sink.new }
 {
-    let outcomes = outcomes_of(alloc, evaluator, lines)?;
+    let shelf = Shelf::open(alloc)?;
+    let outcomes = outcomes_of(alloc, &Shelved::new(alloc, &shelf, evaluator), lines)?;
     write_text(alloc, sink, lines, &outcomes)?;
     Ok(all_found(&outcomes))
 }

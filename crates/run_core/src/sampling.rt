@@ -16,6 +16,7 @@ use byte_streams::{Failed, Gathered, Sink, decimal, write_all, write_parts};
 use indexmap::IndexSet;
 use itoa::Buffer;
 use oracle_core::{Evaluator, FactValues};
+use shelf_core::{Shelf, Shelved};
 use std::alloc::{AllocError, Global};
 
 /// How many lines have a result, and how many are undecided, void and refused.
@@ -149,7 +150,8 @@ fn sample_text(
     }
 }
 
-/// Writes the counts of what the lines of a sample come to, and says whether all have results.
+/// Writes the counts of what the lines of a sample come to, whose facts are evaluated once each, and says whether all have
+/// results.
 pub(crate) fn sample<K: Sink, E: Evaluator>(
     alloc: Global,
     sink: &mut K,
@@ -165,7 +167,8 @@ pub(crate) fn sample<K: Sink, E: Evaluator>(
 {
     let words = sample_lines(alloc, count, seed)?;
     let lines = bytes_of(alloc, &words)?;
-    let outcomes = outcomes_of(alloc, evaluator, &lines)?;
+    let shelf = Shelf::open(alloc)?;
+    let outcomes = outcomes_of(alloc, &Shelved::new(alloc, &shelf, evaluator), &lines)?;
     let text = sample_text(alloc, count, seed, &outcomes)?;
     write_all(sink, &text)?;
     Ok(all_found(&outcomes))
