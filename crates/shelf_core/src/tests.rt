@@ -4,20 +4,21 @@ use super::*;
 use crate::rows::{fact_rows, row_of};
 use book_model::{FIRST_DAY, Fact, KINDS, Kind, LAST_DAY, Place, Site};
 use oracle_core::{Answer, Evaluator};
-use std::cell::Cell;
 use std::process::Abort;
+use std::sync::atomic::AtomicUsize;
+use std::sync::atomic::Ordering::SeqCst;
 use std::test::Fail;
 
 /// Answers the correction of three days, and facts of early days, and no others. It counts what it is asked.
 #[derive(Drop)]
 struct Counting<'a, A: Abort> {
     abort: &'a A,
-    asked: Cell<u32>,
+    asked: AtomicUsize,
 }
 
 impl<'a, A: Abort> Evaluator for Counting<'a, A> {
     fn eval(&self, fact: Fact) -> Answer {
-        self.asked.set(self.asked.get().saturating_add(1));
+        self.asked.fetch_add(1, SeqCst);
         if fact.day() < FIRST_DAY {
             return Answer::Void(Site::Year);
         }
@@ -44,7 +45,7 @@ fn an_empty_slot_is_set_once(rt: HostRuntime) -> Result<(), Fail> {
     let shelf = Shelf::open(alloc)?;
     let evaluator = Counting {
         abort: &rt,
-        asked: Cell::new(0),
+        asked: AtomicUsize::new(0),
     };
     for (day, value) in [(738_926, 73_871), (738_927, 73_871), (726_592, 56_895)] {
         let fact = correction_on(day)?;
@@ -69,12 +70,12 @@ fn nothing_is_evaluated_twice(rt: HostRuntime) -> Result<(), Fail> {
     let shelf = Shelf::open(alloc)?;
     let evaluator = Counting {
         abort: &rt,
-        asked: Cell::new(0),
+        asked: AtomicUsize::new(0),
     };
     let shelved = Shelved::new(alloc, &shelf, &evaluator);
     // Each day with the answer of its correction, and how many evaluations there were by then. Early days have no slot.
     for (day, answer, asked) in [
-        (738_926, Answer::Value(73_871), 1u32),
+        (738_926, Answer::Value(73_871), 1usize),
         (738_927, Answer::Value(73_871), 2),
         (738_926, Answer::Value(73_871), 2),
         (726_592, Answer::Value(56_895), 3),
@@ -84,7 +85,7 @@ fn nothing_is_evaluated_twice(rt: HostRuntime) -> Result<(), Fail> {
         (657_252, Answer::Void(Site::Year), 5),
     ] {
         assert_eq!(rt; shelved.eval(correction_on(day)?), answer, "on {day}");
-        assert_eq!(rt; evaluator.asked.get(), asked, "on {day}");
+        assert_eq!(rt; evaluator.asked.load(SeqCst), asked, "on {day}");
     }
     Ok(())
 }
