@@ -17,6 +17,7 @@ pub trait Angular<E: Enclosure> {
 
     /// The angle at a moment, in degrees. It makes the tests of its formula, and fails where that does.
     fn at(&self, x: E, trail: &mut Trail) -> Result<E, Fail>
-        ensures leads { Follows1 E.shown (angle_of self.now) x trail.old.count trail.new.count result }
+        ensures leads { Follows1 E.shown (angle_of self.now) x trail.old.count trail.new.count
+            result }
         ensures counted { trail.new.count ≤ trail.old.count + most };
 }

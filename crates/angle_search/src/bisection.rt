@@ -25,7 +25,8 @@ fn middle<E: Enclosure>(low: E, high: E) -> E
 /// Whether two numbers are less than a hundred-thousandth apart: one test, at `bisect-end`.
 #[tactic(auto, using(book_model::proofs::Leads::leading), unfolding(book_model::specs::programs::Bisection::are_near_of, book_model::specs::programs::Leading::next_turn))]
 fn are_near<E: Enclosure>(low: E, high: E, trail: &mut Trail) -> Result<bool, Fail>
-    ensures leads { Decides2 E.shown spec.are_near_of low high trail.old.count trail.new.count result }
+    ensures leads { Decides2 E.shown spec.are_near_of low high trail.old.count trail.new.count
+        result }
     ensures counted { trail.new.count ≤ trail.old.count + 1 }
 {
     less_step(
@@ -39,7 +40,8 @@ fn are_near<E: Enclosure>(low: E, high: E, trail: &mut Trail) -> Result<bool, Fa
 /// How far an angle is past another, from 0 up to 360 degrees: one test, at `bisect`.
 #[tactic(auto, using(book_model::proofs::Leads::leading), unfolding(book_model::specs::programs::Bisection::angle_past_of, book_model::specs::programs::Leading::next_turn))]
 fn angle_past<E: Enclosure>(angle: E, target: E, trail: &mut Trail) -> Result<E, Fail>
-    ensures leads { Follows2 E.shown spec.angle_past_of angle target trail.old.count trail.new.count result }
+    ensures leads { Follows2 E.shown spec.angle_past_of angle target trail.old.count trail.new.count
+        result }
     ensures counted { trail.new.count ≤ trail.old.count + 1 }
 {
     wrap_step(angle.sub(target), 360, Site::Bisect, trail)
@@ -48,7 +50,8 @@ fn angle_past<E: Enclosure>(angle: E, target: E, trail: &mut Trail) -> Result<E,
 /// Whether an angle has passed another, which it has where it is less than half a turn past it: two tests, at `bisect`.
 #[tactic(auto, using(book_model::proofs::Leads::leading), unfolding(book_model::specs::programs::Bisection::has_passed_of, book_model::specs::programs::Leading::next_turn))]
 fn has_passed<E: Enclosure>(angle: E, target: E, trail: &mut Trail) -> Result<bool, Fail>
-    ensures leads { Decides2 E.shown spec.has_passed_of angle target trail.old.count trail.new.count result }
+    ensures leads { Decides2 E.shown spec.has_passed_of angle target trail.old.count trail.new.count
+        result }
     ensures counted { trail.new.count ≤ trail.old.count + 2 }
 {
     let past = angle_past(angle, target, trail)?;
@@ -63,7 +66,8 @@ fn has_passed_at<E: Enclosure, F: Angular<E>>(
     x: E,
     trail: &mut Trail,
 ) -> Result<bool, Fail>
-    ensures leads { Decides2 E.shown (spec.has_passed_at (F.angle_of f.now)) target x trail.old.count trail.new.count result }
+    ensures leads { Decides2 E.shown (spec.has_passed_at (F.angle_of f.now)) target x
+        trail.old.count trail.new.count result }
     ensures counted { trail.new.count ≤ trail.old.count + (F.most + 2) }
 {
     let angle = f.at(x, trail)?;
@@ -81,7 +85,8 @@ fn bisected<E: Enclosure, F: Angular<E>>(
     high: E,
     trail: &mut Trail,
 ) -> Result<E, Fail>
-    ensures leads { Follows3 E.shown (spec.bisected_of more (F.angle_of f.now)) target low high trail.old.count trail.new.count result }
+    ensures leads { Follows3 E.shown (spec.bisected_of more (F.angle_of f.now)) target low high
+        trail.old.count trail.new.count result }
     ensures counted { trail.new.count ≤ trail.old.count + (more * (F.most + 3) + 1) }
 {
     if are_near(low, high, trail)? {
@@ -110,7 +115,8 @@ pub fn invert_angular<E: Enclosure, F: Angular<E>>(
     high: E,
     trail: &mut Trail,
 ) -> Result<E, Fail>
-    ensures leads { Follows3 E.shown (spec.invert_of (F.angle_of f.now)) y low high trail.old.count trail.new.count result }
+    ensures leads { Follows3 E.shown (spec.invert_of (F.angle_of f.now)) y low high trail.old.count
+        trail.new.count result }
     ensures counted { trail.new.count ≤ trail.old.count + (64 * (F.most + 3) + 1) }
 {
     bisected(TURNS, f, y, low, high, trail)

@@ -93,7 +93,8 @@ fn point<E: Enclosure>(at: i128) -> E
 
 /// The arctangents at both ends of what two ends have in common with a piece, if there is such a part.
 fn arc_over<E: Enclosure>(piece: Piece, lo: i128, hi: i128) -> Option<E>
-    ensures holds { (n : ℕ) → DEPTH ≤ n → AreHeld E.shown (arc_over_piece n (at_56 lo) (at_56 hi) (piece_of piece)) result }
+    ensures holds { (n : ℕ) → DEPTH ≤ n → AreHeld E.shown
+        (arc_over_piece n (at_56 lo) (at_56 hi) (piece_of piece)) result }
 {
     let begin = begin_of(piece);
     let end = end_of(piece);
@@ -110,7 +111,8 @@ fn arc_over<E: Enclosure>(piece: Piece, lo: i128, hi: i128) -> Option<E>
 
 /// The hull of what there is.
 fn join<E: Enclosure>(x: Option<E>, y: Option<E>) -> Option<E>
-    ensures holds { (i j : Option Interval) → AreHeld E.shown i x → AreHeld E.shown j y → AreHeld E.shown (join_of i j) result }
+    ensures holds { (i j : Option Interval) → AreHeld E.shown i x → AreHeld E.shown j y
+        → AreHeld E.shown (join_of i j) result }
 {
     match x {
         Some(first) => match y {
@@ -123,7 +125,8 @@ fn join<E: Enclosure>(x: Option<E>, y: Option<E>) -> Option<E>
 
 /// The arctangent over two ends: the hull over the pieces that they meet.
 pub(crate) fn arctan_over<E: Enclosure>(span: Span) -> E
-    ensures holds { (n : ℕ) → DEPTH ≤ n → arctangent_of n (between (at_56 span.lo) (at_56 span.hi)) ⊆ E.shown result }
+    ensures holds { (n : ℕ) → DEPTH ≤ n → arctangent_of n
+        (between (at_56 span.lo) (at_56 span.hi)) ⊆ E.shown result }
 {
     let positive = join(
         arc_over::<E>(Piece::Above, span.lo, span.hi),

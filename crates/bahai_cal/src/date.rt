@@ -104,7 +104,8 @@ fn date_by(day: i64, first: i64, base: i64, next: i64) -> BahaiDate
 pub fn from_fixed<O: Oracle>(oracle: &mut O, day: i64) -> Result<BahaiDate, Stop>
     requires from { pos 0 ≤ℤ day }
     requires to { day ≤ℤ pos 1000000 }
-    ensures date { Inquires O.meaning (spec.bahai_on day) (O.state oracle.old) (O.state oracle.new) (map_ok fields_of_date result) }
+    ensures date { Inquires O.meaning (spec.bahai_on day) (O.state oracle.old) (O.state oracle.new)
+        (map_ok fields_of_date result) }
 {
     let first = oracle.ask(year_fact_on(day))?;
     let next = oracle.ask(next_year_fact(first))?;
@@ -162,7 +163,8 @@ pub fn to_fixed<O: Oracle>(oracle: &mut O, date: BahaiDate) -> Result<i64, Stop>
     requires to_last_month { date.month ≤ 19 }
     requires from_first_day { 1 ≤ date.day }
     requires to_last_day { date.day ≤ 19 }
-    ensures day { Inquires O.meaning (spec.bahai_day date.major (pos date.cycle) (pos date.year) (pos date.month) (pos date.day)) (O.state oracle.old) (O.state oracle.new) result }
+    ensures day { Inquires O.meaning (spec.bahai_day date.major (pos date.cycle) (pos date.year)
+        (pos date.month) (pos date.day)) (O.state oracle.old) (O.state oracle.new) result }
 {
     let number = year_number(date);
     let first = oracle.ask(fact_of_month(number, i64::from(date.month)))?;

@@ -68,7 +68,8 @@ pub fn sums()
 #[tactic(auto, using(crate::proofs::Arcs::roots_nest, crate::proofs::Arcs::arctangents_nest, crate::proofs::Arcs::arcsines_nest, crate::proofs::Arcs::arccosines_nest, crate::proofs::Arcs::arctangents_of_two_nest, crate::proofs::ArcSeries::series_nests))]
 pub fn arcs()
     ensures root { IsNested root_of }
-    ensures series { (x : Fraction) → minus_half ≤F x → x ≤F half → IsNestedByDepth (λ n. arctan_series n x) }
+    ensures series { (x : Fraction) → minus_half ≤F x → x ≤F half
+        → IsNestedByDepth (λ n. arctan_series n x) }
     ensures arctangent { IsNested arctangent_of }
     ensures arcsine { IsNested arcsine_of }
     ensures arccosine { IsNested arccosine_of }
@@ -94,9 +95,13 @@ pub fn intervals()
     ensures maxima { IsSmallestOfTwo larger maximum }
     ensures powers { (k : ℕ) → IsSmallest (λ x. power x k) (λ i. power_of_all i k) }
     ensures hulls { IsSmallestAround hull }
-    ensures quotients { (i : Interval) (c d x y : Fraction) → c ≤F d → excludes_zero c d ≡ true → IsMember x i → IsMember y (between c d) → IsMember (times x (reciprocal y)) (quotient i (between c d)) }
-    ensures clamped { (i : Interval) (x : Fraction) → IsMember x i → IsMember (larger minus_one (smaller x one)) (clamp i) }
-    ensures widened { (e : Fraction) (i : Interval) (x y : Fraction) → IsMember x i → opposite (size e) ≤F y → y ≤F size e → IsMember (plus x y) (widen e i) }
+    ensures quotients { (i : Interval) (c d x y : Fraction) → c ≤F d → excludes_zero c d ≡ true
+        → IsMember x i → IsMember y (between c d) → IsMember (times x (reciprocal y))
+        (quotient i (between c d)) }
+    ensures clamped { (i : Interval) (x : Fraction) → IsMember x i
+        → IsMember (larger minus_one (smaller x one)) (clamp i) }
+    ensures widened { (e : Fraction) (i : Interval) (x y : Fraction) → IsMember x i
+        → opposite (size e) ≤F y → y ≤F size e → IsMember (plus x y) (widen e i) }
 {}
 
 /// The octants over which a sine is a hull are those that the interval meets, and there is one.
@@ -120,8 +125,10 @@ pub fn words()
     ensures to { (w : ToWord) → to_word_of (text_of_to w) ≡ Some w }
     ensures distinct_from { IsTrue (are_distinct_words (map (λ row. row.1) from_words)) }
     ensures distinct_to { IsTrue (are_distinct_words (map (λ row. row.1) to_words)) }
-    ensures named { (w : FromWord) (kind : Kind) (place : Place) → named_by w ≡ Named.Value kind place → IsTrue (has_place kind place) }
-    ensures placed { (w : ToWord) (kind : Kind) (place : Place) → shown_by w ≡ Shown.Value kind place → IsTrue (has_place kind place) }
+    ensures named { (w : FromWord) (kind : Kind) (place : Place)
+        → named_by w ≡ Named.Value kind place → IsTrue (has_place kind place) }
+    ensures placed { (w : ToWord) (kind : Kind) (place : Place)
+        → shown_by w ≡ Shown.Value kind place → IsTrue (has_place kind place) }
 {}
 
 /// The row of a calendar is its own, and a date has at most five fields.

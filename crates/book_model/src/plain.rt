@@ -35,7 +35,8 @@ fn scaled_term(coefficient: Frac, power: i64) -> Option<i128>
 /// The polynomial with these coefficients at a whole number, in 10⁻¹¹; `None` where it isn't such a decimal, or a
 /// part of it is too large.
 pub fn exact_polynomial(coefficients: &[Frac], x: i64) -> Option<i128>
-    ensures { IfSome result (λ n. decimal_11 n ≈ exact_to coefficients.now x (length coefficients.now)) }
+    ensures { IfSome result (λ n. decimal_11 n ≈ exact_to coefficients.now x
+        (length coefficients.now)) }
 {
     let mut sum = 0i128;
     let mut power = 1i64;
@@ -48,8 +49,10 @@ pub fn exact_polynomial(coefficients: &[Frac], x: i64) -> Option<i128>
 
 /// Dynamical time less universal time in a year, in 10⁻¹¹ seconds, exactly; `None` outside 1987 to 2050.
 pub fn exact_correction(year: i64) -> Option<i128>
-    ensures early { pos 1987 ≤ℤ year → year ≤ℤ pos 2005 → IfSome result (λ n. (w : World) → IsNumber (seconds_11 n) (value w (seconds_of CORRECTION_1987 year))) }
-    ensures late { pos 2006 ≤ℤ year → year ≤ℤ pos 2050 → IfSome result (λ n. (w : World) → IsNumber (seconds_11 n) (value w (seconds_of CORRECTION_2006 year))) }
+    ensures early { pos 1987 ≤ℤ year → year ≤ℤ pos 2005 → IfSome result
+        (λ n. (w : World) → IsNumber (seconds_11 n) (value w (seconds_of CORRECTION_1987 year))) }
+    ensures late { pos 2006 ≤ℤ year → year ≤ℤ pos 2050 → IfSome result
+        (λ n. (w : World) → IsNumber (seconds_11 n) (value w (seconds_of CORRECTION_2006 year))) }
 {
     if 1987 <= year && year <= 2005 {
         exact_polynomial(&CORRECTION_1987, year - 2000)

@@ -1,5 +1,5 @@
 -- Faults that have a cause, and bytes of which a front is written.
-use Rattle.std.specs.Prelude.{◌≡◌, ◌≤◌, ◌+◌, ◌-◌, ◌^◌, ℕ, List, ◌++◌, min, Result, OnErr}
+use Rattle.std.specs.Prelude.{◌≡◌, ◌≤◌, ◌+◌, ◌-◌, ◌^◌, ℕ, List, ◌++◌, min, Result, OnOk, OnErr}
 use Rattle.std.specs.declared.option.Option.{Option}
 use Rattle.std.specs.Io.KnownBytes.{Appends}
 
@@ -26,3 +26,11 @@ pub record Wrote (old new : Option (List ℕ)) (bytes rest : List ℕ) : Type 0 
 pub record AppendsFront (old new : Option (List ℕ)) (bytes : List ℕ) : Type 0 where
   pub rest : List ℕ
   pub wrote : Wrote old new bytes rest
+
+-- a call that is to append these bytes has appended them all, unless it failed
+abbrev pub Writes : {S T E : Type 0} → (S → Option (List ℕ)) → (old new : S) → List ℕ → Result T E → Type 0
+Writes written old new bytes result = OnOk result (Appends (written old) (written new) bytes)
+
+-- and where it failed, a front of them
+abbrev pub WritesFront : {S T E : Type 0} → (S → Option (List ℕ)) → (old new : S) → List ℕ → Result T E → Type 0
+WritesFront written old new bytes result = OnErr result (AppendsFront (written old) (written new) bytes)

@@ -52,13 +52,17 @@ impl Source for MemorySource {
 
     fn read(&mut self, into: &mut [u8]) -> Result<usize, Failed>
         ensures bound { ReadsAtMost result into.new }
-        ensures bytes { ReadConsumes (Some (drop self.old.taken self.old.bytes.items)) (Some (drop self.new.taken self.new.bytes.items)) result into.new }
+        ensures bytes { ReadConsumes (Some (drop self.old.taken self.old.bytes.items))
+            (Some (drop self.new.taken self.new.bytes.items)) result into.new }
         ensures cause { HasCause self.old.faults self.new.faults result }
         // Where it doesn't fail it gives as many bytes as are left, or as there is room for.
-        ensures most { IfOk result (λ n. n ≡ min (length into.old) (length (drop self.old.taken self.old.bytes.items))) }
+        ensures most { IfOk result (λ n. n ≡ min (length into.old)
+            (length (drop self.old.taken self.old.bytes.items))) }
         // It fails exactly at the listed calls.
-        ensures exact { IsErr result ↔ IsTrue (is_listed self.old.failing.items (next_count self.old.calls)) }
-        ensures count { self.new.faults ≡ (if is_listed self.old.failing.items (next_count self.old.calls) then next_count self.old.faults else self.old.faults) }
+        ensures exact { IsErr result ↔ IsTrue (is_listed self.old.failing.items
+            (next_count self.old.calls)) }
+        ensures count { self.new.faults ≡ (if is_listed self.old.failing.items
+            (next_count self.old.calls) then next_count self.old.faults else self.old.faults) }
         ensures calls { self.new.calls ≡ next_count self.old.calls }
         ensures failing { self.new.failing ≡ self.old.failing }
     {
@@ -121,17 +125,21 @@ impl Sink for MemorySink {
 
     fn write(&mut self, from: &[u8]) -> Result<usize, Failed>
         ensures bound { IfOk result (λ n. n ≤ length from.now) }
-        ensures bytes { WriteAppends (Some self.old.bytes.items) (Some self.new.bytes.items) result from.now }
+        ensures bytes { WriteAppends (Some self.old.bytes.items)
+            (Some self.new.bytes.items) result from.now }
         ensures progress { IfOk result (λ n. 0 < length from.now → 0 < n) }
         ensures cause { HasCause self.old.faults self.new.faults result }
         // It fails exactly at the listed calls, and at a call with bytes where there is no room.
-        ensures listed { IsTrue (is_listed self.old.failing.items (next_count self.old.calls)) → IsErr result }
+        ensures listed { IsTrue (is_listed self.old.failing.items (next_count self.old.calls))
+            → IsErr result }
         ensures full { 0 < length from.now → vec_len self.old.bytes ≡ self.old.room → IsErr result }
-        ensures only { IsErr result → IsTrue (is_listed self.old.failing.items (next_count self.old.calls))
+        ensures only { IsErr result → IsTrue (is_listed self.old.failing.items
+            (next_count self.old.calls))
             ⊎ (0 < length from.now) × (vec_len self.old.bytes ≡ self.old.room) }
         ensures rises { IsErr result → self.new.faults ≡ next_count self.old.faults }
         ensures stays { IfOk result (λ _. self.new.faults ≡ self.old.faults) }
-        ensures most { IfOk result (λ n. n ≡ min (length from.now) (self.old.room - vec_len self.old.bytes)) }
+        ensures most { IfOk result (λ n. n ≡ min (length from.now)
+            (self.old.room - vec_len self.old.bytes)) }
         ensures room { self.new.room ≡ self.old.room }
         ensures calls { self.new.calls ≡ next_count self.old.calls }
         ensures failing { self.new.failing ≡ self.old.failing }

@@ -1,9 +1,8 @@
 //! Texts that are written part by part.
-ghost use Rattle.std.specs.Prelude.{◌≡◌, OnOk, OnErr};
-ghost use Rattle.std.specs.Io.KnownBytes.{Appends};
+ghost use Rattle.std.specs.Prelude.{◌≡◌};
 ghost use Rattle.std.specs.List.{flat_map};
 ghost use Rattle.byte_streams.specs.Parts.{counts_line};
-ghost use Rattle.byte_streams.specs.Stream.{HasCause, AppendsFront};
+ghost use Rattle.byte_streams.specs.Stream.{HasCause, Writes, WritesFront};
 
 use crate::stream::{Failed, Sink, write_all};
 use itoa::{Buffer, Integer};
@@ -18,8 +17,9 @@ pub fn decimal<'a, I: Integer>(buffer: &'a mut Buffer, number: I) -> &'a [u8]
 /// Writes one part after the other. At an error, which comes only where the count of the sink's faults rose, a front of
 /// them was written.
 pub fn write_parts<K: Sink>(sink: &mut K, parts: &[&[u8]]) -> Result<(), Failed>
-    ensures ok { OnOk result (Appends (K.written sink.old) (K.written sink.new) (flat_map (λ part. part.now) parts.now)) }
-    ensures err { OnErr result (AppendsFront (K.written sink.old) (K.written sink.new) (flat_map (λ part. part.now) parts.now)) }
+    ensures ok { Writes K.written sink.old sink.new (flat_map (λ part. part.now) parts.now) result }
+    ensures err { WritesFront K.written sink.old sink.new
+        (flat_map (λ part. part.now) parts.now) result }
     ensures cause { HasCause (K.faults sink.old) (K.faults sink.new) result }
 {
     for part in parts {
@@ -37,8 +37,10 @@ pub fn write_two_counts<K: Sink>(
     middle: &[u8],
     second: u32,
 ) -> Result<(), Failed>
-    ensures ok { OnOk result (Appends (K.written sink.old) (K.written sink.new) (counts_line head.now first middle.now second)) }
-    ensures err { OnErr result (AppendsFront (K.written sink.old) (K.written sink.new) (counts_line head.now first middle.now second)) }
+    ensures ok { Writes K.written sink.old sink.new (counts_line head.now first middle.now second)
+        result }
+    ensures err { WritesFront K.written sink.old sink.new
+        (counts_line head.now first middle.now second) result }
     ensures cause { HasCause (K.faults sink.old) (K.faults sink.new) result }
 {
     let mut first_buffer = Buffer::new();

@@ -1,10 +1,10 @@
 //! Bytes in and out, with faults that are counted.
-ghost use Rattle.std.specs.Prelude.{◌≡◌, ◌≤◌, ◌<◌, ◌+◌, ◌-◌, ◌^◌, List, ℕ, [], length, IfOk, IfErr, OnOk, OnErr, IsErrOf, Some};
+ghost use Rattle.std.specs.Prelude.{◌≡◌, ◌≤◌, ◌<◌, ◌+◌, ◌-◌, ◌^◌, List, ℕ, [], length, IfOk, IfErr, OnOk, IsErrOf, Some};
 ghost use Rattle.std.specs.declared.option.Option.{Option};
 ghost use Rattle.std.specs.Io.{ReadsAtMost};
-ghost use Rattle.std.specs.Io.KnownBytes.{ReadConsumes, WriteAppends, Appends, Consumes, IsAtEnd};
+ghost use Rattle.std.specs.Io.KnownBytes.{ReadConsumes, WriteAppends, Consumes, IsAtEnd};
 ghost use Rattle.byte_streams.specs.declared.stream.ReadStop.TheVariants.{Fault, Memory, TooLarge};
-ghost use Rattle.byte_streams.specs.Stream.{Rose, HasCause, AppendsFront};
+ghost use Rattle.byte_streams.specs.Stream.{HasCause, Rose, Writes, WritesFront};
 
 use std::alloc::{AllocError, Global};
 
@@ -97,8 +97,8 @@ pub fn read_all<S: Source>(alloc: Global, source: &mut S, limit: usize) -> Resul
 /// faults rose.
 #[tactic(auto, using(crate::proofs::Flow::wrote_take))]
 pub fn write_all<K: Sink>(sink: &mut K, bytes: &[u8]) -> Result<(), Failed>
-    ensures ok { OnOk result (Appends (K.written sink.old) (K.written sink.new) bytes.now) }
-    ensures err { OnErr result (AppendsFront (K.written sink.old) (K.written sink.new) bytes.now) }
+    ensures ok { Writes K.written sink.old sink.new bytes.now result }
+    ensures err { WritesFront K.written sink.old sink.new bytes.now result }
     ensures cause { HasCause (K.faults sink.old) (K.faults sink.new) result }
 {
     let mut rest = bytes;

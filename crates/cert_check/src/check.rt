@@ -60,7 +60,8 @@ fn verdict_over(
     requires few { length facts.now < 2 ^ 32 }
     requires possible { IsTrue (is_possible request.now) }
     requires in_reach { IsTrue (is_in_reach request.now) }
-    ensures verdict { IfOk result (λ v. v ≡ spec.verdict_on_trace facts.now (spec.trace_after facts.now values.now [] (rule_of request.now)) text.now) }
+    ensures verdict { IfOk result (λ v. v ≡ spec.verdict_on_trace facts.now
+        (spec.trace_after facts.now values.now [] (rule_of request.now)) text.now) }
 {
     let mut oracle = Listed::new(alloc, facts, values);
     match resolve(&mut oracle, request) {
@@ -84,7 +85,9 @@ fn verdict_for(
     requires answered { length answers.now ≡ length file.now.facts }
     requires possible { IsTrue (is_possible request.now) }
     requires in_reach { IsTrue (is_in_reach request.now) }
-    ensures verdict { IfOk result (λ v. v ≡ spec.verdict_on_request (Ok request.now) (spec.first_unanswered file.now.facts answers.now numbers.now) (spec.numbered file.now.facts numbers.now) text.now) }
+    ensures verdict { IfOk result (λ v. v ≡ spec.verdict_on_request (Ok request.now)
+        (spec.first_unanswered file.now.facts answers.now numbers.now)
+        (spec.numbered file.now.facts numbers.now) text.now) }
 {
     match first_reason(&file.facts, answers, numbers) {
         Some(reason) => Ok(Verdict::No(reason)),
@@ -109,7 +112,8 @@ fn verdict_of_words(
     requires known { AreFactValues (spec.values_of file.now.facts) }
     requires numbers { IsTrue (are_of_facts (length file.now.facts) [] numbers.now) }
     requires answered { length answers.now ≡ length file.now.facts }
-    ensures verdict { IfOk result (λ v. v ≡ spec.verdict_on file.now.facts answers.now (spec.words_of_echo echo.now) text.now numbers.now) }
+    ensures verdict { IfOk result (λ v. v ≡ spec.verdict_on file.now.facts answers.now
+        (spec.words_of_echo echo.now) text.now numbers.now) }
 {
     let words = spaced(alloc, echo)?;
     match read_line(&words) {
@@ -173,10 +177,13 @@ pub fn check_line(
     requires distinct { IsTrue (are_distinct (facts_of file.now.facts)) }
     requires known { AreFactValues (spec.values_of file.now.facts) }
     requires within { index < length file.now.lines }
-    requires numbers { IsTrue (are_of_facts (length file.now.facts) [] (numbers_of (spec.line_at file.now index))) }
+    requires numbers { IsTrue (are_of_facts (length file.now.facts) []
+        (numbers_of (spec.line_at file.now index))) }
     requires right { spec.AreRightAnswers file.now.facts answers.now }
-    ensures verdict { IfOk result (λ v. v ≡ spec.verdict_of file.now.facts answers.now (spec.line_at file.now index)) }
-    ensures yes { IfOk result (λ v. v ≡ Verdict.Yes → spec.IsCertifiedLine file.now.facts (spec.line_at file.now index)) }
+    ensures verdict { IfOk result (λ v. v ≡ spec.verdict_of file.now.facts answers.now
+        (spec.line_at file.now index)) }
+    ensures yes { IfOk result (λ v. v ≡ Verdict.Yes → spec.IsCertifiedLine file.now.facts
+        (spec.line_at file.now index)) }
 {
     verdict_of_line(alloc, file, answers, file.lines.item(index))
 }

@@ -53,7 +53,8 @@ pub(crate) fn verdict_by_list(
 ) -> Result<Verdict, AllocError>
     requires few { length listed.now < 2 ^ 32 }
     requires within { EndsWithin asked.now listed.now }
-    ensures verdict { IfOk result (λ v. v ≡ spec.verdict_on_list (spec.difference 1 asked.now listed.now) found text.now) }
+    ensures verdict { IfOk result (λ v. v ≡ spec.verdict_on_list
+        (spec.difference 1 asked.now listed.now) found text.now) }
 {
     match first_difference(asked, listed) {
         Some(place) => Ok(Verdict::No(Reason::List { place })),

@@ -12,7 +12,9 @@ ghost use Rattle.cert_check.specs.declared.verdict.Verdict.TheVariants.{Yes};
 /// test.
 #[tactic(auto, using(crate::proofs::CertifiedYes::yes_to_certified))]
 pub fn completeness()
-    ensures yes { (facts : List (Fact × ℤ)) (answers : List Answer) (line : CertLine) → AreRightAnswers facts answers → IsCertifiedLine facts line → AreNearNowhere (numbered facts (listed line)) → verdict_of facts answers line ≡ Yes }
+    ensures yes { (facts : List (Fact × ℤ)) (answers : List Answer) (line : CertLine)
+        → AreRightAnswers facts answers → IsCertifiedLine facts line
+        → AreNearNowhere (numbered facts (listed line)) → verdict_of facts answers line ≡ Yes }
 {}
 
 /// A file of the grammar meets what a check asks of its facts and lists.

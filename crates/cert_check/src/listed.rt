@@ -33,7 +33,8 @@ pub(crate) fn listed_values(
     numbers: &[u32],
 ) -> Result<Vec<i64>, AllocError>
     requires numbers { AreNumbers (length facts.now) numbers.now }
-    ensures values { IfOk result (λ v. v.items ≡ spec.values_of (spec.numbered facts.now numbers.now)) }
+    ensures values { IfOk result (λ v. v.items ≡ spec.values_of
+        (spec.numbered facts.now numbers.now)) }
 {
     let mut listed = Vec::new(alloc);
     for number in numbers {

@@ -33,7 +33,8 @@ pub(crate) fn echo_at(alloc: Global, line: &[u8]) -> Result<(Echo, &[u8]), NoFor
 /// `RESULT facts`: the result, and what follows it.
 #[tactic(auto, unfolding(crate::specs::Grammar::shown_at))]
 fn shown_at(line: &[u8]) -> Option<(&[u8], &[u8])>
-    ensures { Gives (λ p. (Shown p.0.now, words_of p.1.now)) result (spec.shown_at (words_of line.now)) }
+    ensures { Gives (λ p. (Shown p.0.now, words_of p.1.now)) result
+        (spec.shown_at (words_of line.now)) }
 {
     let (word, rest) = word_at(line)?;
     let rest = key_at(rest, b"facts")?;
@@ -43,7 +44,8 @@ fn shown_at(line: &[u8]) -> Option<(&[u8], &[u8])>
 /// `refused 4 DAY facts`: the day (R.D.), and what follows it.
 #[tactic(auto, unfolding(crate::specs::Grammar::too_far_at))]
 fn too_far_at(line: &[u8]) -> Option<(i64, &[u8])>
-    ensures { Gives (λ p. (TooFar p.0, words_of p.1.now)) result (spec.too_far_at (words_of line.now)) }
+    ensures { Gives (λ p. (TooFar p.0, words_of p.1.now)) result
+        (spec.too_far_at (words_of line.now)) }
 {
     let rest = key_at(line, b"refused")?;
     let rest = key_at(rest, b"4")?;
@@ -55,7 +57,8 @@ fn too_far_at(line: &[u8]) -> Option<(i64, &[u8])>
 /// `refused 5 BACK facts`: the date, and what follows it.
 #[tactic(auto, unfolding(crate::specs::Grammar::no_date_at))]
 fn no_date_at(line: &[u8]) -> Option<(&[u8], &[u8])>
-    ensures { Gives (λ p. (NoDate p.0.now, words_of p.1.now)) result (spec.no_date_at (words_of line.now)) }
+    ensures { Gives (λ p. (NoDate p.0.now, words_of p.1.now)) result
+        (spec.no_date_at (words_of line.now)) }
 {
     let rest = key_at(line, b"refused")?;
     let rest = key_at(rest, b"5")?;

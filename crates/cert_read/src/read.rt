@@ -26,7 +26,8 @@ pub enum ReadFail {
 /// Reads the lines below the header.
 fn read_lines(alloc: Global, lines: &[&[u8]]) -> Result<CertFile, ReadFail>
     requires { length lines.now < 2 ^ 31 }
-    ensures { Answers result (reading_from 2 (record { facts = []; lines = [] }) false (map (λ line. line.now) lines.now)) }
+    ensures { Answers result (reading_from 2 (record { facts = []; lines = [] }) false
+        (map (λ line. line.now) lines.now)) }
 {
     let mut reader = Reader::new(alloc);
     for (index, line) in lines.iter().enumerate() {

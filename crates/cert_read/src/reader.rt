@@ -112,8 +112,10 @@ impl Reader {
     #[tactic(auto, unfolding(crate::specs::Reading::broken_by, crate::specs::Reading::with_form))]
     fn take_fact(&mut self, number: u32, fact: Option<Fact>, value: i64) -> Result<(), Stop>
         requires { self.old.seen.keys ≡ map (λ e. e.0) self.old.file.facts }
-        ensures rule { Tells result (spec.broken_by self.old.file self.old.ended (Form.Fact number fact value)) }
-        ensures file { OnOk result (self.new.file ≡ spec.with_form self.old.file (Form.Fact number fact value)) }
+        ensures rule { Tells result (spec.broken_by self.old.file self.old.ended
+            (Form.Fact number fact value)) }
+        ensures file { OnOk result (self.new.file ≡ spec.with_form self.old.file
+            (Form.Fact number fact value)) }
         ensures ended { OnOk result (self.new.ended ≡ false) }
         ensures seen { OnOk result (self.new.seen.keys ≡ map (λ e. e.0) self.new.file.facts) }
     {
@@ -137,8 +139,10 @@ impl Reader {
     #[tactic(auto, unfolding(crate::specs::Reading::broken_by, crate::specs::Reading::with_form))]
     fn take_line(&mut self, alloc: Global, number: u32, line: CertLine) -> Result<(), Stop>
         requires { self.old.seen.keys ≡ map (λ e. e.0) self.old.file.facts }
-        ensures rule { Tells result (spec.broken_by self.old.file self.old.ended (Form.Line number line)) }
-        ensures file { OnOk result (self.new.file ≡ spec.with_form self.old.file (Form.Line number line)) }
+        ensures rule { Tells result (spec.broken_by self.old.file self.old.ended
+            (Form.Line number line)) }
+        ensures file { OnOk result (self.new.file ≡ spec.with_form self.old.file
+            (Form.Line number line)) }
         ensures ended { OnOk result (self.new.ended ≡ false) }
         ensures seen { OnOk result (self.new.seen.keys ≡ map (λ e. e.0) self.new.file.facts) }
     {
@@ -159,8 +163,10 @@ impl Reader {
     #[tactic(auto, unfolding(crate::specs::Reading::broken_by, crate::specs::Reading::with_form))]
     fn take_undecided(&mut self, number: u32, fact: Option<Fact>, at: Undecided) -> Result<(), Stop>
         requires { self.old.seen.keys ≡ map (λ e. e.0) self.old.file.facts }
-        ensures rule { Tells result (spec.broken_by self.old.file self.old.ended (Form.Undecided number fact at)) }
-        ensures file { OnOk result (self.new.file ≡ spec.with_form self.old.file (Form.Undecided number fact at)) }
+        ensures rule { Tells result (spec.broken_by self.old.file self.old.ended
+            (Form.Undecided number fact at)) }
+        ensures file { OnOk result (self.new.file ≡ spec.with_form self.old.file
+            (Form.Undecided number fact at)) }
         ensures ended { OnOk result (self.new.ended ≡ false) }
         ensures seen { OnOk result (self.new.seen.keys ≡ map (λ e. e.0) self.new.file.facts) }
     {
@@ -181,8 +187,10 @@ impl Reader {
     #[tactic(auto, unfolding(crate::specs::Reading::broken_by, crate::specs::Reading::with_form))]
     fn take_void(&mut self, number: u32, fact: Option<Fact>, site: Site) -> Result<(), Stop>
         requires { self.old.seen.keys ≡ map (λ e. e.0) self.old.file.facts }
-        ensures rule { Tells result (spec.broken_by self.old.file self.old.ended (Form.Void number fact site)) }
-        ensures file { OnOk result (self.new.file ≡ spec.with_form self.old.file (Form.Void number fact site)) }
+        ensures rule { Tells result (spec.broken_by self.old.file self.old.ended
+            (Form.Void number fact site)) }
+        ensures file { OnOk result (self.new.file ≡ spec.with_form self.old.file
+            (Form.Void number fact site)) }
         ensures ended { OnOk result (self.new.ended ≡ false) }
         ensures seen { OnOk result (self.new.seen.keys ≡ map (λ e. e.0) self.new.file.facts) }
     {
@@ -203,8 +211,10 @@ impl Reader {
     #[tactic(auto, unfolding(crate::specs::Reading::broken_by, crate::specs::Reading::with_form))]
     fn take_end(&mut self, lines: u32, facts: u32) -> Result<(), Stop>
         requires { self.old.seen.keys ≡ map (λ e. e.0) self.old.file.facts }
-        ensures rule { Tells result (spec.broken_by self.old.file self.old.ended (Form.End lines facts)) }
-        ensures file { OnOk result (self.new.file ≡ spec.with_form self.old.file (Form.End lines facts)) }
+        ensures rule { Tells result (spec.broken_by self.old.file self.old.ended
+            (Form.End lines facts)) }
+        ensures file { OnOk result (self.new.file ≡ spec.with_form self.old.file
+            (Form.End lines facts)) }
         ensures ended { OnOk result (self.new.ended ≡ true) }
         ensures seen { OnOk result (self.new.seen.keys ≡ map (λ e. e.0) self.new.file.facts) }
     {
@@ -238,8 +248,10 @@ impl Reader {
     /// Takes the next line.
     pub(crate) fn take(&mut self, alloc: Global, line: &[u8]) -> Result<(), Stop>
         requires { self.old.seen.keys ≡ map (λ e. e.0) self.old.file.facts }
-        ensures passes { OnOk result (Passes self.old.file self.old.ended (form_of_line line.now) self.new.file self.new.ended) }
-        ensures fails { IfErr result (λ e. Fails e self.old.file self.old.ended (form_of_line line.now)) }
+        ensures passes { OnOk result (Passes self.old.file self.old.ended
+            (form_of_line line.now) self.new.file self.new.ended) }
+        ensures fails { IfErr result (λ e. Fails e self.old.file self.old.ended
+            (form_of_line line.now)) }
         ensures seen { OnOk result (self.new.seen.keys ≡ map (λ e. e.0) self.new.file.facts) }
     {
         match form_of(alloc, line) {

@@ -98,7 +98,8 @@ pub(crate) fn counter_at(line: &[u8]) -> Option<(u32, &[u8])>
 /// A number from low to high, and what follows it.
 #[tactic(auto, unfolding(crate::specs::Grammar::number_at))]
 pub(crate) fn number_at(line: &[u8], low: i64, high: i64) -> Option<(i64, &[u8])>
-    ensures read { Gives (λ p. (p.0, words_of p.1.now)) result (spec.number_at low high (words_of line.now)) }
+    ensures read { Gives (λ p. (p.0, words_of p.1.now)) result
+        (spec.number_at low high (words_of line.now)) }
     ensures low { IfSome result (λ p. low ≤ℤ p.0) }
     ensures high { IfSome result (λ p. p.0 ≤ℤ high) }
 {

@@ -1,10 +1,9 @@
 //! The text of a result.
-ghost use Rattle.std.specs.Prelude.{◌≡◌, ◌≤◌, ◌<◌, ◌-◌, ◌++◌, codes, take, replicate, length, OnOk, OnErr, IfOk};
+ghost use Rattle.std.specs.Prelude.{◌≡◌, ◌≤◌, ◌<◌, ◌-◌, ◌++◌, codes, take, replicate, length, IfOk};
 ghost use Rattle.std.specs.Fmt.{signed_decimal};
-ghost use Rattle.std.specs.Io.KnownBytes.{Appends};
 ghost use Rattle.std.specs.List.{flat_map};
 ghost use Rattle.book_model.specs.lines.Text as spec;
-ghost use Rattle.byte_streams.specs.Stream.{HasCause, AppendsFront};
+ghost use Rattle.byte_streams.specs.Stream.{HasCause, Writes, WritesFront};
 
 use crate::lists::Word;
 use crate::write::{REFUSED_5, write_no_date, write_too_far};
@@ -24,8 +23,8 @@ fn zeros(width: usize, digits: &[u8]) -> &'static [u8]
 /// Writes a Gregorian date: a year of four digits, a month of two and a day of two.
 #[tactic(auto, unfolding(book_model::specs::lines::Text::gregorian_text))]
 fn write_gregorian<K: Sink>(sink: &mut K, date: &Fields) -> Result<(), Failed>
-    ensures ok { OnOk result (Appends (K.written sink.old) (K.written sink.new) (spec.gregorian_text date.now)) }
-    ensures err { OnErr result (AppendsFront (K.written sink.old) (K.written sink.new) (spec.gregorian_text date.now)) }
+    ensures ok { Writes K.written sink.old sink.new (spec.gregorian_text date.now) result }
+    ensures err { WritesFront K.written sink.old sink.new (spec.gregorian_text date.now) result }
     ensures cause { HasCause (K.faults sink.old) (K.faults sink.new) result }
 {
     let mut year_buffer = Buffer::new();
@@ -51,8 +50,8 @@ fn write_gregorian<K: Sink>(sink: &mut K, date: &Fields) -> Result<(), Failed>
 
 /// Writes a number.
 fn write_number<K: Sink>(sink: &mut K, value: i32) -> Result<(), Failed>
-    ensures ok { OnOk result (Appends (K.written sink.old) (K.written sink.new) (signed_decimal value)) }
-    ensures err { OnErr result (AppendsFront (K.written sink.old) (K.written sink.new) (signed_decimal value)) }
+    ensures ok { Writes K.written sink.old sink.new (signed_decimal value) result }
+    ensures err { WritesFront K.written sink.old sink.new (signed_decimal value) result }
     ensures cause { HasCause (K.faults sink.old) (K.faults sink.new) result }
 {
     let mut buffer = Buffer::new();
@@ -61,8 +60,10 @@ fn write_number<K: Sink>(sink: &mut K, value: i32) -> Result<(), Failed>
 
 /// Writes the first value of a result's fields.
 fn write_value<K: Sink>(sink: &mut K, fields: &Fields) -> Result<(), Failed>
-    ensures ok { OnOk result (Appends (K.written sink.old) (K.written sink.new) (signed_decimal (spec.first_value fields.now))) }
-    ensures err { OnErr result (AppendsFront (K.written sink.old) (K.written sink.new) (signed_decimal (spec.first_value fields.now))) }
+    ensures ok { Writes K.written sink.old sink.new (signed_decimal (spec.first_value fields.now))
+        result }
+    ensures err { WritesFront K.written sink.old sink.new
+        (signed_decimal (spec.first_value fields.now)) result }
     ensures cause { HasCause (K.faults sink.old) (K.faults sink.new) result }
 {
     write_number(sink, fields.values[0])
@@ -70,8 +71,8 @@ fn write_value<K: Sink>(sink: &mut K, fields: &Fields) -> Result<(), Failed>
 
 /// Writes a dash, and a number.
 fn write_next<K: Sink>(sink: &mut K, value: i32) -> Result<(), Failed>
-    ensures ok { OnOk result (Appends (K.written sink.old) (K.written sink.new) (spec.dash_text value)) }
-    ensures err { OnErr result (AppendsFront (K.written sink.old) (K.written sink.new) (spec.dash_text value)) }
+    ensures ok { Writes K.written sink.old sink.new (spec.dash_text value) result }
+    ensures err { WritesFront K.written sink.old sink.new (spec.dash_text value) result }
     ensures cause { HasCause (K.faults sink.old) (K.faults sink.new) result }
 {
     let mut buffer = Buffer::new();
@@ -80,8 +81,9 @@ fn write_next<K: Sink>(sink: &mut K, value: i32) -> Result<(), Failed>
 
 /// Writes numbers, a dash before each.
 fn write_others<K: Sink>(sink: &mut K, values: &[i32]) -> Result<(), Failed>
-    ensures ok { OnOk result (Appends (K.written sink.old) (K.written sink.new) (flat_map spec.dash_text values.now)) }
-    ensures err { OnErr result (AppendsFront (K.written sink.old) (K.written sink.new) (flat_map spec.dash_text values.now)) }
+    ensures ok { Writes K.written sink.old sink.new (flat_map spec.dash_text values.now) result }
+    ensures err { WritesFront K.written sink.old sink.new
+        (flat_map spec.dash_text values.now) result }
     ensures cause { HasCause (K.faults sink.old) (K.faults sink.new) result }
 {
     for value in values {
@@ -99,8 +101,10 @@ fn fields_in(date: &Fields) -> &[i32]
 
 /// Writes a number, and others with a dash before each.
 fn write_row<K: Sink>(sink: &mut K, first: i32, others: &[i32]) -> Result<(), Failed>
-    ensures ok { OnOk result (Appends (K.written sink.old) (K.written sink.new) (signed_decimal first ++ flat_map spec.dash_text others.now)) }
-    ensures err { OnErr result (AppendsFront (K.written sink.old) (K.written sink.new) (signed_decimal first ++ flat_map spec.dash_text others.now)) }
+    ensures ok { Writes K.written sink.old sink.new (signed_decimal first
+        ++ flat_map spec.dash_text others.now) result }
+    ensures err { WritesFront K.written sink.old sink.new
+        (signed_decimal first ++ flat_map spec.dash_text others.now) result }
     ensures cause { HasCause (K.faults sink.old) (K.faults sink.new) result }
 {
     write_number(sink, first)?;
@@ -110,8 +114,8 @@ fn write_row<K: Sink>(sink: &mut K, first: i32, others: &[i32]) -> Result<(), Fa
 
 /// Writes numbers with dashes between them.
 fn write_joined<K: Sink>(sink: &mut K, values: &[i32]) -> Result<(), Failed>
-    ensures ok { OnOk result (Appends (K.written sink.old) (K.written sink.new) (spec.dashed values.now)) }
-    ensures err { OnErr result (AppendsFront (K.written sink.old) (K.written sink.new) (spec.dashed values.now)) }
+    ensures ok { Writes K.written sink.old sink.new (spec.dashed values.now) result }
+    ensures err { WritesFront K.written sink.old sink.new (spec.dashed values.now) result }
     ensures cause { HasCause (K.faults sink.old) (K.faults sink.new) result }
 {
     match values.split_first() {
@@ -123,8 +127,8 @@ fn write_joined<K: Sink>(sink: &mut K, values: &[i32]) -> Result<(), Failed>
 /// Writes the fields of a date with dashes between them.
 #[tactic(auto, unfolding(book_model::specs::lines::Text::dashed_text))]
 fn write_dashed<K: Sink>(sink: &mut K, date: &Fields) -> Result<(), Failed>
-    ensures ok { OnOk result (Appends (K.written sink.old) (K.written sink.new) (spec.dashed_text date.now)) }
-    ensures err { OnErr result (AppendsFront (K.written sink.old) (K.written sink.new) (spec.dashed_text date.now)) }
+    ensures ok { Writes K.written sink.old sink.new (spec.dashed_text date.now) result }
+    ensures err { WritesFront K.written sink.old sink.new (spec.dashed_text date.now) result }
     ensures cause { HasCause (K.faults sink.old) (K.faults sink.new) result }
 {
     write_joined(sink, fields_in(date))
@@ -134,8 +138,8 @@ fn write_dashed<K: Sink>(sink: &mut K, date: &Fields) -> Result<(), Failed>
 /// between its fields. At an error, which comes only where the count of the sink's faults rose, a front of it was
 /// written.
 pub fn write_date<K: Sink>(sink: &mut K, calendar: Calendar, date: &Fields) -> Result<(), Failed>
-    ensures ok { OnOk result (Appends (K.written sink.old) (K.written sink.new) (spec.date_text calendar date.now)) }
-    ensures err { OnErr result (AppendsFront (K.written sink.old) (K.written sink.new) (spec.date_text calendar date.now)) }
+    ensures ok { Writes K.written sink.old sink.new (spec.date_text calendar date.now) result }
+    ensures err { WritesFront K.written sink.old sink.new (spec.date_text calendar date.now) result }
     ensures cause { HasCause (K.faults sink.old) (K.faults sink.new) result }
 {
     if calendar.row().is_padded {
@@ -147,8 +151,8 @@ pub fn write_date<K: Sink>(sink: &mut K, calendar: Calendar, date: &Fields) -> R
 
 /// Writes a date of a calendar, or the value of a fact, with a minus sign where it is below 0.
 fn write_shown<K: Sink>(sink: &mut K, to: ToWord, fields: &Fields) -> Result<(), Failed>
-    ensures ok { OnOk result (Appends (K.written sink.old) (K.written sink.new) (spec.shown_as to fields.now)) }
-    ensures err { OnErr result (AppendsFront (K.written sink.old) (K.written sink.new) (spec.shown_as to fields.now)) }
+    ensures ok { Writes K.written sink.old sink.new (spec.shown_as to fields.now) result }
+    ensures err { WritesFront K.written sink.old sink.new (spec.shown_as to fields.now) result }
     ensures cause { HasCause (K.faults sink.old) (K.faults sink.new) result }
 {
     match to.shown() {
@@ -159,8 +163,10 @@ fn write_shown<K: Sink>(sink: &mut K, to: ToWord, fields: &Fields) -> Result<(),
 
 /// Writes the own date of a day that isn't the one given.
 fn write_own_date<K: Sink>(sink: &mut K, back: &Fields) -> Result<(), Failed>
-    ensures ok { OnOk result (Appends (K.written sink.old) (K.written sink.new) (spec.no_date_text (spec.dashed_text back.now))) }
-    ensures err { OnErr result (AppendsFront (K.written sink.old) (K.written sink.new) (spec.no_date_text (spec.dashed_text back.now))) }
+    ensures ok { Writes K.written sink.old sink.new (spec.no_date_text (spec.dashed_text back.now))
+        result }
+    ensures err { WritesFront K.written sink.old sink.new
+        (spec.no_date_text (spec.dashed_text back.now)) result }
     ensures cause { HasCause (K.faults sink.old) (K.faults sink.new) result }
 {
     write_all(sink, REFUSED_5)?;
@@ -172,8 +178,8 @@ fn write_own_date<K: Sink>(sink: &mut K, back: &Fields) -> Result<(), Failed>
 /// the day's own date. At an error, which comes only where the count of the sink's faults rose, a front of the text
 /// was written.
 pub fn write_result<K: Sink>(sink: &mut K, resolved: Resolved) -> Result<(), Failed>
-    ensures ok { OnOk result (Appends (K.written sink.old) (K.written sink.new) (spec.result_text resolved)) }
-    ensures err { OnErr result (AppendsFront (K.written sink.old) (K.written sink.new) (spec.result_text resolved)) }
+    ensures ok { Writes K.written sink.old sink.new (spec.result_text resolved) result }
+    ensures err { WritesFront K.written sink.old sink.new (spec.result_text resolved) result }
     ensures cause { HasCause (K.faults sink.old) (K.faults sink.new) result }
 {
     match resolved {

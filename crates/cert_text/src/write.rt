@@ -1,8 +1,7 @@
 //! Writes the text that stands for one line of input.
-ghost use Rattle.std.specs.Prelude.{◌≡◌, ◌≤◌, ◌<◌, ◌+◌, ◌^◌, ◌++◌, codes, length, OnOk, OnErr};
+ghost use Rattle.std.specs.Prelude.{◌≡◌, ◌≤◌, ◌<◌, ◌+◌, ◌^◌, ◌++◌, codes, length};
 ghost use Rattle.std.specs.List.{flat_map};
-ghost use Rattle.std.specs.Io.KnownBytes.{Appends};
-ghost use Rattle.byte_streams.specs.Stream.{HasCause, AppendsFront, Wrote};
+ghost use Rattle.byte_streams.specs.Stream.{HasCause, Writes, WritesFront, Wrote};
 ghost use Rattle.book_model.specs.lines.Text as model;
 ghost use Rattle.cert_text.specs.Text as spec;
 
@@ -17,8 +16,10 @@ pub(crate) const REFUSED_5: &[u8] = b"refused 5 ";
 /// Writes the line of a fact with its number and its value.
 #[tactic(auto, unfolding(book_model::specs::lines::Text::fact_text))]
 fn write_fact<K: Sink>(sink: &mut K, number: u32, entry: &(Fact, i64)) -> Result<(), Failed>
-    ensures ok { OnOk result (Appends (K.written sink.old) (K.written sink.new) (model.fact_text number entry.now.0 entry.now.1)) }
-    ensures err { OnErr result (AppendsFront (K.written sink.old) (K.written sink.new) (model.fact_text number entry.now.0 entry.now.1)) }
+    ensures ok { Writes K.written sink.old sink.new (model.fact_text number entry.now.0 entry.now.1)
+        result }
+    ensures err { WritesFront K.written sink.old sink.new
+        (model.fact_text number entry.now.0 entry.now.1) result }
     ensures cause { HasCause (K.faults sink.old) (K.faults sink.new) result }
 {
     let mut number_buffer = Buffer::new();
@@ -41,8 +42,8 @@ fn write_fact<K: Sink>(sink: &mut K, number: u32, entry: &(Fact, i64)) -> Result
 /// Writes the lines of facts, of which the first has this number.
 fn write_facts<K: Sink>(sink: &mut K, first: u32, facts: &[(Fact, i64)]) -> Result<(), Failed>
     requires { first + length facts.now ≤ 2 ^ 32 }
-    ensures ok { OnOk result (Appends (K.written sink.old) (K.written sink.new) (spec.fact_texts first facts.now)) }
-    ensures err { OnErr result (AppendsFront (K.written sink.old) (K.written sink.new) (spec.fact_texts first facts.now)) }
+    ensures ok { Writes K.written sink.old sink.new (spec.fact_texts first facts.now) result }
+    ensures err { WritesFront K.written sink.old sink.new (spec.fact_texts first facts.now) result }
     ensures cause { HasCause (K.faults sink.old) (K.faults sink.new) result }
 {
     for (index, entry) in facts.iter().enumerate() {
@@ -54,8 +55,10 @@ fn write_facts<K: Sink>(sink: &mut K, first: u32, facts: &[(Fact, i64)]) -> Resu
 /// Writes the number of a line and its three words.
 #[tactic(auto, unfolding(book_model::specs::lines::Text::echo_text))]
 fn write_echo<K: Sink>(sink: &mut K, number: u32, echo: &Echo) -> Result<(), Failed>
-    ensures ok { OnOk result (Appends (K.written sink.old) (K.written sink.new) (model.echo_text number (spec.words_in echo.now))) }
-    ensures err { OnErr result (AppendsFront (K.written sink.old) (K.written sink.new) (model.echo_text number (spec.words_in echo.now))) }
+    ensures ok { Writes K.written sink.old sink.new (model.echo_text number
+        (spec.words_in echo.now)) result }
+    ensures err { WritesFront K.written sink.old sink.new
+        (model.echo_text number (spec.words_in echo.now)) result }
     ensures cause { HasCause (K.faults sink.old) (K.faults sink.new) result }
 {
     let mut number_buffer = Buffer::new();
@@ -71,8 +74,8 @@ fn write_echo<K: Sink>(sink: &mut K, number: u32, echo: &Echo) -> Result<(), Fai
 
 /// Writes the number of a fact that a line lists.
 fn write_number<K: Sink>(sink: &mut K, number: u32) -> Result<(), Failed>
-    ensures ok { OnOk result (Appends (K.written sink.old) (K.written sink.new) (model.number_text number)) }
-    ensures err { OnErr result (AppendsFront (K.written sink.old) (K.written sink.new) (model.number_text number)) }
+    ensures ok { Writes K.written sink.old sink.new (model.number_text number) result }
+    ensures err { WritesFront K.written sink.old sink.new (model.number_text number) result }
     ensures cause { HasCause (K.faults sink.old) (K.faults sink.new) result }
 {
     let mut buffer = Buffer::new();
@@ -82,8 +85,9 @@ fn write_number<K: Sink>(sink: &mut K, number: u32) -> Result<(), Failed>
 
 /// Writes the numbers of the facts that a line lists.
 fn write_numbers<K: Sink>(sink: &mut K, numbers: &[u32]) -> Result<(), Failed>
-    ensures ok { OnOk result (Appends (K.written sink.old) (K.written sink.new) (flat_map model.number_text numbers.now)) }
-    ensures err { OnErr result (AppendsFront (K.written sink.old) (K.written sink.new) (flat_map model.number_text numbers.now)) }
+    ensures ok { Writes K.written sink.old sink.new (flat_map model.number_text numbers.now) result }
+    ensures err { WritesFront K.written sink.old sink.new
+        (flat_map model.number_text numbers.now) result }
     ensures cause { HasCause (K.faults sink.old) (K.faults sink.new) result }
 {
     for number in numbers {
@@ -95,8 +99,10 @@ fn write_numbers<K: Sink>(sink: &mut K, numbers: &[u32]) -> Result<(), Failed>
 /// Writes the numbers of the facts that a line lists, and the line's end.
 #[tactic(auto, using(byte_streams::proofs::Flow::writing))]
 fn write_numbers_end<K: Sink>(sink: &mut K, numbers: &[u32]) -> Result<(), Failed>
-    ensures ok { OnOk result (Appends (K.written sink.old) (K.written sink.new) (flat_map model.number_text numbers.now ++ codes "\n")) }
-    ensures err { OnErr result (AppendsFront (K.written sink.old) (K.written sink.new) (flat_map model.number_text numbers.now ++ codes "\n")) }
+    ensures ok { Writes K.written sink.old sink.new (flat_map model.number_text numbers.now
+        ++ codes "\n") result }
+    ensures err { WritesFront K.written sink.old sink.new
+        (flat_map model.number_text numbers.now ++ codes "\n") result }
     ensures cause { HasCause (K.faults sink.old) (K.faults sink.new) result }
 {
     write_numbers(sink, numbers)?;
@@ -107,8 +113,8 @@ fn write_numbers_end<K: Sink>(sink: &mut K, numbers: &[u32]) -> Result<(), Faile
 /// Writes the list of facts at the end of a line.
 #[tactic(auto, unfolding(book_model::specs::lines::Text::facts_text))]
 fn write_list<K: Sink>(sink: &mut K, numbers: &[u32]) -> Result<(), Failed>
-    ensures ok { OnOk result (Appends (K.written sink.old) (K.written sink.new) (model.facts_text numbers.now)) }
-    ensures err { OnErr result (AppendsFront (K.written sink.old) (K.written sink.new) (model.facts_text numbers.now)) }
+    ensures ok { Writes K.written sink.old sink.new (model.facts_text numbers.now) result }
+    ensures err { WritesFront K.written sink.old sink.new (model.facts_text numbers.now) result }
     ensures cause { HasCause (K.faults sink.old) (K.faults sink.new) result }
 {
     write_all(sink, b" facts")?;
@@ -119,8 +125,10 @@ fn write_list<K: Sink>(sink: &mut K, numbers: &[u32]) -> Result<(), Failed>
 /// Writes what a line shows, and its list of facts.
 #[tactic(auto, using(byte_streams::proofs::Flow::writing))]
 fn write_shown<K: Sink>(sink: &mut K, shown: &[u8], numbers: &[u32]) -> Result<(), Failed>
-    ensures ok { OnOk result (Appends (K.written sink.old) (K.written sink.new) (shown.now ++ model.facts_text numbers.now)) }
-    ensures err { OnErr result (AppendsFront (K.written sink.old) (K.written sink.new) (shown.now ++ model.facts_text numbers.now)) }
+    ensures ok { Writes K.written sink.old sink.new (shown.now ++ model.facts_text numbers.now)
+        result }
+    ensures err { WritesFront K.written sink.old sink.new
+        (shown.now ++ model.facts_text numbers.now) result }
     ensures cause { HasCause (K.faults sink.old) (K.faults sink.new) result }
 {
     write_all(sink, shown)?;
@@ -131,8 +139,8 @@ fn write_shown<K: Sink>(sink: &mut K, shown: &[u8], numbers: &[u32]) -> Result<(
 /// Writes that a day (R.D.) is out of range.
 #[tactic(auto, unfolding(book_model::specs::lines::Text::too_far_text))]
 pub(crate) fn write_too_far<K: Sink>(sink: &mut K, day: i64) -> Result<(), Failed>
-    ensures ok { OnOk result (Appends (K.written sink.old) (K.written sink.new) (model.too_far_text day)) }
-    ensures err { OnErr result (AppendsFront (K.written sink.old) (K.written sink.new) (model.too_far_text day)) }
+    ensures ok { Writes K.written sink.old sink.new (model.too_far_text day) result }
+    ensures err { WritesFront K.written sink.old sink.new (model.too_far_text day) result }
     ensures cause { HasCause (K.faults sink.old) (K.faults sink.new) result }
 {
     let mut buffer = Buffer::new();
@@ -143,8 +151,8 @@ pub(crate) fn write_too_far<K: Sink>(sink: &mut K, day: i64) -> Result<(), Faile
 /// Writes that a day has another date of its own.
 #[tactic(auto, unfolding(book_model::specs::lines::Text::no_date_text))]
 pub(crate) fn write_no_date<K: Sink>(sink: &mut K, back: &[u8]) -> Result<(), Failed>
-    ensures ok { OnOk result (Appends (K.written sink.old) (K.written sink.new) (model.no_date_text back.now)) }
-    ensures err { OnErr result (AppendsFront (K.written sink.old) (K.written sink.new) (model.no_date_text back.now)) }
+    ensures ok { Writes K.written sink.old sink.new (model.no_date_text back.now) result }
+    ensures err { WritesFront K.written sink.old sink.new (model.no_date_text back.now) result }
     ensures cause { HasCause (K.faults sink.old) (K.faults sink.new) result }
 {
     write_parts(sink, &[REFUSED_5, back])
@@ -153,8 +161,8 @@ pub(crate) fn write_no_date<K: Sink>(sink: &mut K, back: &[u8]) -> Result<(), Fa
 /// Writes the line of a line that breaks a rule.
 #[tactic(auto, unfolding(book_model::specs::lines::Text::refused_text))]
 fn write_refused<K: Sink>(sink: &mut K, number: u32, rule: u8) -> Result<(), Failed>
-    ensures ok { OnOk result (Appends (K.written sink.old) (K.written sink.new) (model.refused_text number rule)) }
-    ensures err { OnErr result (AppendsFront (K.written sink.old) (K.written sink.new) (model.refused_text number rule)) }
+    ensures ok { Writes K.written sink.old sink.new (model.refused_text number rule) result }
+    ensures err { WritesFront K.written sink.old sink.new (model.refused_text number rule) result }
     ensures cause { HasCause (K.faults sink.old) (K.faults sink.new) result }
 {
     write_two_counts(sink, b"line ", number, b" refused ", u32::from(rule))
@@ -163,8 +171,8 @@ fn write_refused<K: Sink>(sink: &mut K, number: u32, rule: u8) -> Result<(), Fai
 /// Writes the number of a line, and that a fact is undecided.
 #[tactic(auto, unfolding(book_model::specs::lines::Text::open_text))]
 fn write_open<K: Sink>(sink: &mut K, number: u32, fact: Fact, at: Undecided) -> Result<(), Failed>
-    ensures ok { OnOk result (Appends (K.written sink.old) (K.written sink.new) (model.open_text number fact at)) }
-    ensures err { OnErr result (AppendsFront (K.written sink.old) (K.written sink.new) (model.open_text number fact at)) }
+    ensures ok { Writes K.written sink.old sink.new (model.open_text number fact at) result }
+    ensures err { WritesFront K.written sink.old sink.new (model.open_text number fact at) result }
     ensures cause { HasCause (K.faults sink.old) (K.faults sink.new) result }
 {
     let mut number_buffer = Buffer::new();
@@ -206,8 +214,8 @@ fn write_open<K: Sink>(sink: &mut K, number: u32, fact: Fact, at: Undecided) -> 
 /// Writes the number of a line, and that a fact is void.
 #[tactic(auto, unfolding(book_model::specs::lines::Text::empty_text))]
 fn write_empty<K: Sink>(sink: &mut K, number: u32, fact: Fact, site: Site) -> Result<(), Failed>
-    ensures ok { OnOk result (Appends (K.written sink.old) (K.written sink.new) (model.empty_text number fact site)) }
-    ensures err { OnErr result (AppendsFront (K.written sink.old) (K.written sink.new) (model.empty_text number fact site)) }
+    ensures ok { Writes K.written sink.old sink.new (model.empty_text number fact site) result }
+    ensures err { WritesFront K.written sink.old sink.new (model.empty_text number fact site) result }
     ensures cause { HasCause (K.faults sink.old) (K.faults sink.new) result }
 {
     let mut number_buffer = Buffer::new();
@@ -235,8 +243,10 @@ pub fn write_undecided<K: Sink>(
     fact: Fact,
     at: Undecided,
 ) -> Result<(), Failed>
-    ensures ok { OnOk result (Appends (K.written sink.old) (K.written sink.new) (model.undecided_text head.now number fact at)) }
-    ensures err { OnErr result (AppendsFront (K.written sink.old) (K.written sink.new) (model.undecided_text head.now number fact at)) }
+    ensures ok { Writes K.written sink.old sink.new (model.undecided_text head.now number fact at)
+        result }
+    ensures err { WritesFront K.written sink.old sink.new
+        (model.undecided_text head.now number fact at) result }
     ensures cause { HasCause (K.faults sink.old) (K.faults sink.new) result }
 {
     write_all(sink, head)?;
@@ -254,8 +264,10 @@ pub fn write_void<K: Sink>(
     fact: Fact,
     site: Site,
 ) -> Result<(), Failed>
-    ensures ok { OnOk result (Appends (K.written sink.old) (K.written sink.new) (model.void_text head.now number fact site)) }
-    ensures err { OnErr result (AppendsFront (K.written sink.old) (K.written sink.new) (model.void_text head.now number fact site)) }
+    ensures ok { Writes K.written sink.old sink.new (model.void_text head.now number fact site)
+        result }
+    ensures err { WritesFront K.written sink.old sink.new
+        (model.void_text head.now number fact site) result }
     ensures cause { HasCause (K.faults sink.old) (K.faults sink.new) result }
 {
     write_all(sink, head)?;
@@ -266,8 +278,10 @@ pub fn write_void<K: Sink>(
 /// Writes that a day is out of range, and the list of facts.
 #[tactic(auto, using(byte_streams::proofs::Flow::writing))]
 fn write_too_far_end<K: Sink>(sink: &mut K, day: i64, numbers: &[u32]) -> Result<(), Failed>
-    ensures ok { OnOk result (Appends (K.written sink.old) (K.written sink.new) (model.too_far_text day ++ model.facts_text numbers.now)) }
-    ensures err { OnErr result (AppendsFront (K.written sink.old) (K.written sink.new) (model.too_far_text day ++ model.facts_text numbers.now)) }
+    ensures ok { Writes K.written sink.old sink.new (model.too_far_text day
+        ++ model.facts_text numbers.now) result }
+    ensures err { WritesFront K.written sink.old sink.new
+        (model.too_far_text day ++ model.facts_text numbers.now) result }
     ensures cause { HasCause (K.faults sink.old) (K.faults sink.new) result }
 {
     write_too_far(sink, day)?;
@@ -278,8 +292,10 @@ fn write_too_far_end<K: Sink>(sink: &mut K, day: i64, numbers: &[u32]) -> Result
 /// Writes a day's own date, and the list of facts.
 #[tactic(auto, using(byte_streams::proofs::Flow::writing))]
 fn write_no_date_end<K: Sink>(sink: &mut K, back: &[u8], numbers: &[u32]) -> Result<(), Failed>
-    ensures ok { OnOk result (Appends (K.written sink.old) (K.written sink.new) (model.no_date_text back.now ++ model.facts_text numbers.now)) }
-    ensures err { OnErr result (AppendsFront (K.written sink.old) (K.written sink.new) (model.no_date_text back.now ++ model.facts_text numbers.now)) }
+    ensures ok { Writes K.written sink.old sink.new (model.no_date_text back.now
+        ++ model.facts_text numbers.now) result }
+    ensures err { WritesFront K.written sink.old sink.new
+        (model.no_date_text back.now ++ model.facts_text numbers.now) result }
     ensures cause { HasCause (K.faults sink.old) (K.faults sink.new) result }
 {
     write_no_date(sink, back)?;
@@ -296,8 +312,10 @@ fn write_listed<K: Sink>(
     shown: &[u8],
     numbers: &[u32],
 ) -> Result<(), Failed>
-    ensures ok { OnOk result (Appends (K.written sink.old) (K.written sink.new) (model.listed_text number (spec.words_in echo.now) shown.now numbers.now)) }
-    ensures err { OnErr result (AppendsFront (K.written sink.old) (K.written sink.new) (model.listed_text number (spec.words_in echo.now) shown.now numbers.now)) }
+    ensures ok { Writes K.written sink.old sink.new (model.listed_text number
+        (spec.words_in echo.now) shown.now numbers.now) result }
+    ensures err { WritesFront K.written sink.old sink.new
+        (model.listed_text number (spec.words_in echo.now) shown.now numbers.now) result }
     ensures cause { HasCause (K.faults sink.old) (K.faults sink.new) result }
 {
     write_echo(sink, number, echo)?;
@@ -314,8 +332,11 @@ fn write_far_line<K: Sink>(
     day: i64,
     numbers: &[u32],
 ) -> Result<(), Failed>
-    ensures ok { OnOk result (Appends (K.written sink.old) (K.written sink.new) (model.listed_text number (spec.words_in echo.now) (model.too_far_text day) numbers.now)) }
-    ensures err { OnErr result (AppendsFront (K.written sink.old) (K.written sink.new) (model.listed_text number (spec.words_in echo.now) (model.too_far_text day) numbers.now)) }
+    ensures ok { Writes K.written sink.old sink.new (model.listed_text number
+        (spec.words_in echo.now) (model.too_far_text day) numbers.now) result }
+    ensures err { WritesFront K.written sink.old sink.new
+        (model.listed_text number (spec.words_in echo.now) (model.too_far_text day) numbers.now)
+        result }
     ensures cause { HasCause (K.faults sink.old) (K.faults sink.new) result }
 {
     write_echo(sink, number, echo)?;
@@ -332,8 +353,11 @@ fn write_back_line<K: Sink>(
     back: &[u8],
     numbers: &[u32],
 ) -> Result<(), Failed>
-    ensures ok { OnOk result (Appends (K.written sink.old) (K.written sink.new) (model.listed_text number (spec.words_in echo.now) (model.no_date_text back.now) numbers.now)) }
-    ensures err { OnErr result (AppendsFront (K.written sink.old) (K.written sink.new) (model.listed_text number (spec.words_in echo.now) (model.no_date_text back.now) numbers.now)) }
+    ensures ok { Writes K.written sink.old sink.new (model.listed_text number
+        (spec.words_in echo.now) (model.no_date_text back.now) numbers.now) result }
+    ensures err { WritesFront K.written sink.old sink.new
+        (model.listed_text number (spec.words_in echo.now) (model.no_date_text back.now)
+        numbers.now) result }
     ensures cause { HasCause (K.faults sink.old) (K.faults sink.new) result }
 {
     write_echo(sink, number, echo)?;
@@ -344,8 +368,8 @@ fn write_back_line<K: Sink>(
 /// Writes a line with its number. At an error, which comes only where the count of the sink's faults rose, a front of the
 /// text was written.
 pub fn write_line<K: Sink>(sink: &mut K, number: u32, line: &CertLine) -> Result<(), Failed>
-    ensures ok { OnOk result (Appends (K.written sink.old) (K.written sink.new) (spec.line_text number line.now)) }
-    ensures err { OnErr result (AppendsFront (K.written sink.old) (K.written sink.new) (spec.line_text number line.now)) }
+    ensures ok { Writes K.written sink.old sink.new (spec.line_text number line.now) result }
+    ensures err { WritesFront K.written sink.old sink.new (spec.line_text number line.now) result }
     ensures cause { HasCause (K.faults sink.old) (K.faults sink.new) result }
 {
     match line {
@@ -371,8 +395,8 @@ pub fn write_line<K: Sink>(sink: &mut K, number: u32, line: &CertLine) -> Result
 #[tactic(auto, using(byte_streams::proofs::Flow::writing))]
 pub fn write_block<K: Sink>(sink: &mut K, block: &Block) -> Result<(), Failed>
     requires { block.now.first + length block.now.facts ≤ 2 ^ 32 }
-    ensures ok { OnOk result (Appends (K.written sink.old) (K.written sink.new) (spec.block_text block.now)) }
-    ensures err { OnErr result (AppendsFront (K.written sink.old) (K.written sink.new) (spec.block_text block.now)) }
+    ensures ok { Writes K.written sink.old sink.new (spec.block_text block.now) result }
+    ensures err { WritesFront K.written sink.old sink.new (spec.block_text block.now) result }
     ensures cause { HasCause (K.faults sink.old) (K.faults sink.new) result }
 {
     write_facts(sink, block.first, block.facts.entries())?;
@@ -382,8 +406,8 @@ pub fn write_block<K: Sink>(sink: &mut K, block: &Block) -> Result<(), Failed>
 
 /// Writes the first line of a text.
 pub fn write_header<K: Sink>(sink: &mut K) -> Result<(), Failed>
-    ensures ok { OnOk result (Appends (K.written sink.old) (K.written sink.new) model.header) }
-    ensures err { OnErr result (AppendsFront (K.written sink.old) (K.written sink.new) model.header) }
+    ensures ok { Writes K.written sink.old sink.new model.header result }
+    ensures err { WritesFront K.written sink.old sink.new model.header result }
     ensures cause { HasCause (K.faults sink.old) (K.faults sink.new) result }
 {
     write_parts(sink, &[HEADER.as_bytes(), b"\n"])
@@ -392,8 +416,8 @@ pub fn write_header<K: Sink>(sink: &mut K) -> Result<(), Failed>
 /// Writes the last line of a text, which counts its lines and facts.
 #[tactic(auto, unfolding(book_model::specs::lines::Text::end_text))]
 pub fn write_end<K: Sink>(sink: &mut K, lines: u32, facts: u32) -> Result<(), Failed>
-    ensures ok { OnOk result (Appends (K.written sink.old) (K.written sink.new) (model.end_text lines facts)) }
-    ensures err { OnErr result (AppendsFront (K.written sink.old) (K.written sink.new) (model.end_text lines facts)) }
+    ensures ok { Writes K.written sink.old sink.new (model.end_text lines facts) result }
+    ensures err { WritesFront K.written sink.old sink.new (model.end_text lines facts) result }
     ensures cause { HasCause (K.faults sink.old) (K.faults sink.new) result }
 {
     write_two_counts(sink, b"end lines ", lines, b" facts ", facts)

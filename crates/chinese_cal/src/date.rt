@@ -116,7 +116,8 @@ fn date_in(day: i64, month: ChineseMonth) -> ChineseDate
 #[tactic(auto, using(oracle_core::proofs::Inquiring::asking), unfolding(book_model::specs::calendars::Chinese::chinese_on))]
 pub fn from_fixed<O: Oracle>(oracle: &mut O, day: i64) -> Result<ChineseDate, Stop>
     requires near { IsNearDay day }
-    ensures date { Inquires O.meaning (chinese_on day) (O.state oracle.old) (O.state oracle.new) (map_ok fields_of_date result) }
+    ensures date { Inquires O.meaning (chinese_on day) (O.state oracle.old) (O.state oracle.new)
+        (map_ok fields_of_date result) }
 {
     let month = month_of(oracle, day)?;
     Ok(date_in(day, month))

@@ -38,7 +38,8 @@ fn or_next_month<O: Oracle>(
     date: ChineseDate,
 ) -> Result<i64, Stop>
     requires value { IsFactValue first }
-    ensures day { Inquires O.meaning (spec.or_next_month (pos month) (spec.flag leap) first (fields_of_date date)) (O.state oracle.old) (O.state oracle.new) result }
+    ensures day { Inquires O.meaning (spec.or_next_month (pos month) (spec.flag leap) first
+        (fields_of_date date)) (O.state oracle.old) (O.state oracle.new) result }
     ensures value { IfOk result IsFactValue }
 {
     if is_in_month(date, month, leap) {
@@ -59,7 +60,8 @@ fn month_beginning<O: Oracle>(
     requires new_year_value { IsFactValue new_year }
     requires from { 1 ≤ month }
     requires to { month ≤ 12 }
-    ensures day { Inquires O.meaning (spec.month_beginning new_year (pos month) (spec.flag leap)) (O.state oracle.old) (O.state oracle.new) result }
+    ensures day { Inquires O.meaning (spec.month_beginning new_year (pos month) (spec.flag leap))
+        (O.state oracle.old) (O.state oracle.new) result }
     ensures value { IfOk result IsFactValue }
 {
     let first = oracle.ask(moon_of_month(new_year, month))?;
@@ -94,7 +96,8 @@ pub fn to_fixed<O: Oracle>(oracle: &mut O, date: ChineseDate) -> Result<i64, Sto
     requires to_last_year { date.year ≤ 60 }
     requires from_first_month { 1 ≤ date.month }
     requires to_last_month { date.month ≤ 12 }
-    ensures day { Inquires O.meaning (spec.chinese_day date.cycle (pos date.year) (pos date.month) (spec.flag date.leap) (pos date.day)) (O.state oracle.old) (O.state oracle.new) result }
+    ensures day { Inquires O.meaning (spec.chinese_day date.cycle (pos date.year) (pos date.month)
+        (spec.flag date.leap) (pos date.day)) (O.state oracle.old) (O.state oracle.new) result }
 {
     let middle = middle_of_year(i64::from(date.cycle), i64::from(date.year));
     let new_year = new_year_by_day(oracle, middle)?;

@@ -51,7 +51,8 @@ fn date_of(fields: &Fields) -> ChineseDate
 pub fn named_day<O: Oracle>(oracle: &mut O, fields: &Fields) -> Result<i64, Stop>
     requires possible { IsTrue (may_have Chinese fields.now) }
     requires in_reach { IsTrue (is_answered Chinese fields.now) }
-    ensures day { Inquires O.meaning (day_named Chinese fields.now) (O.state oracle.old) (O.state oracle.new) result }
+    ensures day { Inquires O.meaning (day_named Chinese fields.now) (O.state oracle.old)
+        (O.state oracle.new) result }
 {
     to_fixed(oracle, date_of(fields))
 }
@@ -59,7 +60,8 @@ pub fn named_day<O: Oracle>(oracle: &mut O, fields: &Fields) -> Result<i64, Stop
 /// The fields of the date of a day (R.D.), from 1 January 1802 to 31 December 2048. It stops where the oracle stops.
 pub fn date_on<O: Oracle>(oracle: &mut O, day: i64) -> Result<Fields, Stop>
     requires in_range { IsTrue (is_in_range day) }
-    ensures date { Inquires O.meaning (date_of_day Chinese day) (O.state oracle.old) (O.state oracle.new) result }
+    ensures date { Inquires O.meaning (date_of_day Chinese day) (O.state oracle.old)
+        (O.state oracle.new) result }
 {
     match from_fixed(oracle, day) {
         Ok(date) => Ok(fields_of(date)),

@@ -24,7 +24,8 @@ fn is_same_term(term: i64, next_term: i64) -> bool
 #[tactic(auto, using(oracle_core::proofs::Inquiring::asking), unfolding(book_model::specs::calendars::Chinese::has_no_major_term))]
 pub(crate) fn has_no_major_term<O: Oracle>(oracle: &mut O, month: i64) -> Result<bool, Stop>
     requires near { IsNearDay month }
-    ensures term { Inquires O.meaning (spec.has_no_major_term month) (O.state oracle.old) (O.state oracle.new) result }
+    ensures term { Inquires O.meaning (spec.has_no_major_term month) (O.state oracle.old)
+        (O.state oracle.new) result }
 {
     let term = oracle.ask(major_term(month))?;
     let next = oracle.ask(moon_after(month))?;
@@ -40,7 +41,8 @@ pub(crate) fn or_no_major_term<O: Oracle>(
     known: bool,
 ) -> Result<bool, Stop>
     requires near { IsNearDay month }
-    ensures either { Inquires O.meaning (spec.or_no_major_term month known) (O.state oracle.old) (O.state oracle.new) result }
+    ensures either { Inquires O.meaning (spec.or_no_major_term month known) (O.state oracle.old)
+        (O.state oracle.new) result }
 {
     if known {
         Ok(true)
@@ -60,7 +62,8 @@ fn has_prior_leap_month<O: Oracle>(
 ) -> Result<bool, Stop>
     requires first_near { IsNearDay first }
     requires near { IsNearDay month }
-    ensures prior { Inquires O.meaning (spec.has_prior_leap_month calls first month) (O.state oracle.old) (O.state oracle.new) result }
+    ensures prior { Inquires O.meaning (spec.has_prior_leap_month calls first month)
+        (O.state oracle.old) (O.state oracle.new) result }
 {
     if calls == 0 {
         return Ok(false);
@@ -77,7 +80,8 @@ fn has_prior_leap_month<O: Oracle>(
 fn has_leap_month_by<O: Oracle>(oracle: &mut O, first: i64, month: i64) -> Result<bool, Stop>
     requires first_near { IsNearDay first }
     requires near { IsNearDay month }
-    ensures prior { Inquires O.meaning (spec.has_leap_month_by first month) (O.state oracle.old) (O.state oracle.new) result }
+    ensures prior { Inquires O.meaning (spec.has_leap_month_by first month) (O.state oracle.old)
+        (O.state oracle.new) result }
 {
     has_prior_leap_month(oracle, MONTHS_LOOKED_AT, first, month)
 }
@@ -93,7 +97,8 @@ pub(crate) fn is_from_leap_month<O: Oracle>(
 ) -> Result<bool, Stop>
     requires first_near { IsNearDay first }
     requires near { IsNearDay month }
-    ensures from { Inquires O.meaning (spec.is_from_leap_month leap_sui first month) (O.state oracle.old) (O.state oracle.new) result }
+    ensures from { Inquires O.meaning (spec.is_from_leap_month leap_sui first month)
+        (O.state oracle.old) (O.state oracle.new) result }
 {
     if leap_sui {
         has_leap_month_by(oracle, first, month)
@@ -107,7 +112,8 @@ pub(crate) fn is_from_leap_month<O: Oracle>(
 fn is_first_without<O: Oracle>(oracle: &mut O, first: i64, month: i64) -> Result<bool, Stop>
     requires first_near { IsNearDay first }
     requires near { IsNearDay month }
-    ensures first { Inquires O.meaning (spec.is_first_without first month) (O.state oracle.old) (O.state oracle.new) result }
+    ensures first { Inquires O.meaning (spec.is_first_without first month) (O.state oracle.old)
+        (O.state oracle.new) result }
 {
     let before = oracle.ask(moon_before(month))?;
     let found = has_leap_month_by(oracle, first, before)?;
@@ -124,7 +130,8 @@ fn and_first_without<O: Oracle>(
 ) -> Result<bool, Stop>
     requires first_near { IsNearDay first }
     requires near { IsNearDay month }
-    ensures first { Inquires O.meaning (spec.and_first_without first month without) (O.state oracle.old) (O.state oracle.new) result }
+    ensures first { Inquires O.meaning (spec.and_first_without first month without)
+        (O.state oracle.old) (O.state oracle.new) result }
 {
     if without {
         is_first_without(oracle, first, month)
@@ -138,7 +145,8 @@ fn and_first_without<O: Oracle>(
 fn is_first_of_sui_without<O: Oracle>(oracle: &mut O, first: i64, month: i64) -> Result<bool, Stop>
     requires first_near { IsNearDay first }
     requires near { IsNearDay month }
-    ensures first { Inquires O.meaning (spec.is_first_of_sui_without first month) (O.state oracle.old) (O.state oracle.new) result }
+    ensures first { Inquires O.meaning (spec.is_first_of_sui_without first month)
+        (O.state oracle.old) (O.state oracle.new) result }
 {
     let without = has_no_major_term(oracle, month)?;
     and_first_without(oracle, first, month, without)
@@ -155,7 +163,8 @@ pub(crate) fn is_leap_month<O: Oracle>(
 ) -> Result<bool, Stop>
     requires first_near { IsNearDay first }
     requires near { IsNearDay month }
-    ensures leap { Inquires O.meaning (spec.is_leap_month leap_sui first month) (O.state oracle.old) (O.state oracle.new) result }
+    ensures leap { Inquires O.meaning (spec.is_leap_month leap_sui first month) (O.state oracle.old)
+        (O.state oracle.new) result }
 {
     if leap_sui {
         is_first_of_sui_without(oracle, first, month)

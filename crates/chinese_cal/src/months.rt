@@ -70,7 +70,8 @@ fn month_in<O: Oracle>(
 ) -> Result<ChineseMonth, Stop>
     requires sui_near { IsNearSui sui }
     requires near { IsFactValue month }
-    ensures month { Inquires O.meaning (month_of_sui sui leap_sui month) (O.state oracle.old) (O.state oracle.new) result }
+    ensures month { Inquires O.meaning (month_of_sui sui leap_sui month) (O.state oracle.old)
+        (O.state oracle.new) result }
     ensures near { IfOk result IsNearMonth }
 {
     let from_leap = is_from_leap_month(oracle, leap_sui, sui.first_month, month)?;
@@ -82,7 +83,8 @@ fn month_in<O: Oracle>(
 #[tactic(auto, using(oracle_core::proofs::Inquiring::asking), unfolding(book_model::specs::calendars::Chinese::month_of))]
 pub(crate) fn month_of<O: Oracle>(oracle: &mut O, day: i64) -> Result<ChineseMonth, Stop>
     requires near { IsNearDay day }
-    ensures month { Inquires O.meaning (month_on day) (O.state oracle.old) (O.state oracle.new) result }
+    ensures month { Inquires O.meaning (month_on day) (O.state oracle.old)
+        (O.state oracle.new) result }
     ensures near { IfOk result IsNearMonth }
 {
     let sui = sui_of(oracle, day)?;

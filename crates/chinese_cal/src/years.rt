@@ -17,7 +17,8 @@ use oracle_core::{Oracle, Stop};
 fn has_early_leap_month<O: Oracle>(oracle: &mut O, first: i64, second: i64) -> Result<bool, Stop>
     requires first_near { IsNearDay first }
     requires second_near { IsNearDay second }
-    ensures early { Inquires O.meaning (spec.has_early_leap_month first second) (O.state oracle.old) (O.state oracle.new) result }
+    ensures early { Inquires O.meaning (spec.has_early_leap_month first second) (O.state oracle.old)
+        (O.state oracle.new) result }
 {
     let without = has_no_major_term(oracle, first)?;
     or_no_major_term(oracle, second, without)
@@ -33,7 +34,8 @@ fn is_leap_at_start<O: Oracle>(
 ) -> Result<bool, Stop>
     requires first_near { IsNearDay first }
     requires second_near { IsNearDay second }
-    ensures early { Inquires O.meaning (spec.is_leap_at_start leap_sui first second) (O.state oracle.old) (O.state oracle.new) result }
+    ensures early { Inquires O.meaning (spec.is_leap_at_start leap_sui first second)
+        (O.state oracle.old) (O.state oracle.new) result }
 {
     if leap_sui {
         has_early_leap_month(oracle, first, second)
@@ -46,7 +48,8 @@ fn is_leap_at_start<O: Oracle>(
 #[tactic(auto, using(oracle_core::proofs::Inquiring::asking), unfolding(book_model::specs::calendars::Chinese::new_year_after))]
 fn new_year_after<O: Oracle>(oracle: &mut O, second: i64, late: bool) -> Result<i64, Stop>
     requires second_value { IsFactValue second }
-    ensures day { Inquires O.meaning (spec.new_year_after second late) (O.state oracle.old) (O.state oracle.new) result }
+    ensures day { Inquires O.meaning (spec.new_year_after second late) (O.state oracle.old)
+        (O.state oracle.new) result }
     ensures value { IfOk result IsFactValue }
 {
     if late {
@@ -61,7 +64,8 @@ fn new_year_after<O: Oracle>(oracle: &mut O, second: i64, late: bool) -> Result<
 fn new_year_by<O: Oracle>(oracle: &mut O, sui: Sui, second: i64) -> Result<i64, Stop>
     requires near { IsNearSui sui }
     requires second_value { IsFactValue second }
-    ensures day { Inquires O.meaning (spec.new_year_by sui second) (O.state oracle.old) (O.state oracle.new) result }
+    ensures day { Inquires O.meaning (spec.new_year_by sui second) (O.state oracle.old)
+        (O.state oracle.new) result }
     ensures value { IfOk result IsFactValue }
 {
     let leap_sui = is_leap_sui(oracle, sui)?;
@@ -73,7 +77,8 @@ fn new_year_by<O: Oracle>(oracle: &mut O, sui: Sui, second: i64) -> Result<i64, 
 #[tactic(auto, using(oracle_core::proofs::Inquiring::asking), unfolding(book_model::specs::calendars::Chinese::new_year_in_sui))]
 fn new_year_in_sui<O: Oracle>(oracle: &mut O, day: i64) -> Result<i64, Stop>
     requires near { IsNearDay day }
-    ensures day { Inquires O.meaning (spec.new_year_in_sui day) (O.state oracle.old) (O.state oracle.new) result }
+    ensures day { Inquires O.meaning (spec.new_year_in_sui day) (O.state oracle.old)
+        (O.state oracle.new) result }
     ensures value { IfOk result IsFactValue }
 {
     let sui = sui_of(oracle, day)?;
@@ -85,7 +90,8 @@ fn new_year_in_sui<O: Oracle>(oracle: &mut O, day: i64) -> Result<i64, Stop>
 fn new_year_before<O: Oracle>(oracle: &mut O, day: i64) -> Result<i64, Stop>
     requires from { pos 0 ≤ℤ day }
     requires to { day ≤ℤ pos 10000000 }
-    ensures day { Inquires O.meaning (spec.new_year_in_sui (day -ℤ pos 180)) (O.state oracle.old) (O.state oracle.new) result }
+    ensures day { Inquires O.meaning (spec.new_year_in_sui (day -ℤ pos 180)) (O.state oracle.old)
+        (O.state oracle.new) result }
     ensures value { IfOk result IsFactValue }
 {
     new_year_in_sui(oracle, day - 180)
@@ -97,7 +103,8 @@ fn or_year_before<O: Oracle>(oracle: &mut O, day: i64, new_year: i64) -> Result<
     requires from { pos 0 ≤ℤ day }
     requires to { day ≤ℤ pos 10000000 }
     requires new_year_value { IsFactValue new_year }
-    ensures day { Inquires O.meaning (spec.or_year_before day new_year) (O.state oracle.old) (O.state oracle.new) result }
+    ensures day { Inquires O.meaning (spec.or_year_before day new_year) (O.state oracle.old)
+        (O.state oracle.new) result }
     ensures value { IfOk result IsFactValue }
 {
     if day < new_year {
@@ -112,7 +119,8 @@ fn or_year_before<O: Oracle>(oracle: &mut O, day: i64, new_year: i64) -> Result<
 pub(crate) fn new_year_by_day<O: Oracle>(oracle: &mut O, day: i64) -> Result<i64, Stop>
     requires from { pos 0 ≤ℤ day }
     requires to { day ≤ℤ pos 10000000 }
-    ensures day { Inquires O.meaning (spec.new_year_by_day day) (O.state oracle.old) (O.state oracle.new) result }
+    ensures day { Inquires O.meaning (spec.new_year_by_day day) (O.state oracle.old)
+        (O.state oracle.new) result }
     ensures value { IfOk result IsFactValue }
 {
     let new_year = new_year_in_sui(oracle, day)?;

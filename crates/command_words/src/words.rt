@@ -49,7 +49,8 @@ fn sample_command(name: &str, count: &str, seed: &str) -> Option<Command>
 
 /// The command that a word names with what stands behind it, by the table.
 fn table(name: &str, first: Option<&str>, second: Option<&str>) -> Option<Command>
-    ensures command { result ≡ spec.table name.now (option_map (λ s. s.now) first.entry) (option_map (λ s. s.now) second.entry) }
+    ensures command { result ≡ spec.table name.now (option_map (λ s. s.now) first.entry)
+        (option_map (λ s. s.now) second.entry) }
 {
     match (first, second) {
         (None, None) => lone_command(name),
@@ -66,7 +67,9 @@ fn told_by(
     first: Option<&str>,
     second: Option<&str>,
 ) -> Option<Command>
-    ensures command { result ≡ spec.told_by (option_map (λ s. s.now) name.entry) (option_map (λ s. s.now) jobs.entry) (option_map (λ s. s.now) first.entry) (option_map (λ s. s.now) second.entry) }
+    ensures command { result ≡ spec.told_by (option_map (λ s. s.now) name.entry)
+        (option_map (λ s. s.now) jobs.entry) (option_map (λ s. s.now) first.entry)
+        (option_map (λ s. s.now) second.entry) }
 {
     let name = name?;
     let jobs = jobs?;
@@ -100,8 +103,10 @@ fn reason(error: &Error) -> NoCommand
 /// What clap finds in the words. `Form` comes where it finds a fault, and `Memory` where memory runs out.
 fn matches_in<'a>(alloc: Global, words: &'a [String]) -> Result<ArgMatches<'a>, NoCommand>
     ensures accepted { IfOk result (λ m. spec.is_accepted (map string_bytes words.entry.now) ≡ true) }
-    ensures matches { IfOk result (λ m. rows_of (found_of m) ≡ matches_of spec.program (map string_bytes words.entry.now)) }
-    ensures form { IsErrOf result NoCommand.Form → spec.is_accepted (map string_bytes words.entry.now) ≡ false }
+    ensures matches { IfOk result (λ m. rows_of (found_of m) ≡ matches_of spec.program
+        (map string_bytes words.entry.now)) }
+    ensures form { IsErrOf result NoCommand.Form → spec.is_accepted
+        (map string_bytes words.entry.now) ≡ false }
 {
     let Ok(command) = program(alloc) else {
         return Err(NoCommand::Memory);
@@ -118,7 +123,8 @@ fn matches_in<'a>(alloc: Global, words: &'a [String]) -> Result<ArgMatches<'a>, 
 /// `Form` comes where the words name no command, and `Memory` where memory ran out before they were read.
 pub fn command_of(alloc: Global, words: &[String]) -> Result<Command, NoCommand>
     ensures command { IfOk result (λ c. spec.command_of (map string_bytes words.now) ≡ Some c) }
-    ensures form { IsErrOf result NoCommand.Form → spec.command_of (map string_bytes words.now) ≡ None }
+    ensures form { IsErrOf result NoCommand.Form → spec.command_of
+        (map string_bytes words.now) ≡ None }
     ensures ranges { IfOk result spec.IsInRange }
 {
     let matches = matches_in(alloc, words)?;

@@ -61,7 +61,8 @@ pub(crate) fn altitude_sine<E: Enclosure>(
     longitude: E,
     latitude: E,
 ) -> E
-    ensures holds { Holds4 E.shown (spec.altitude_sine_of (fraction_of ground)) sidereal obliquity longitude latitude result }
+    ensures holds { Holds4 E.shown (spec.altitude_sine_of (fraction_of ground)) sidereal obliquity
+        longitude latitude result }
 {
     let here = E::from_frac(ground);
     let upwards = sin_deg(here).mul(north(obliquity, longitude, latitude));

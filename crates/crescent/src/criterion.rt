@@ -27,7 +27,8 @@ const FIRST_QUARTER: i64 = 90;
 /// Whether the moon is past its new moon: one test.
 #[tactic(auto, using(book_model::proofs::Leads::leading), unfolding(book_model::specs::sky::Crescent::is_past_new_of, book_model::specs::programs::Leading::next_turn))]
 fn is_past_new<E: Enclosure>(phase: E, trail: &mut Trail) -> Result<bool, Fail>
-    ensures leads { Decides1 E.shown spec.is_past_new_of phase trail.old.count trail.new.count result }
+    ensures leads { Decides1 E.shown spec.is_past_new_of phase trail.old.count trail.new.count
+        result }
     ensures counted { trail.new.count ≤ trail.old.count + 1 }
 {
     less_step(E::from_int(0), phase, Site::Crescent, trail)
@@ -36,7 +37,8 @@ fn is_past_new<E: Enclosure>(phase: E, trail: &mut Trail) -> Result<bool, Fail>
 /// Whether it isn't yet at its first quarter: one test.
 #[tactic(auto, using(book_model::proofs::Leads::leading), unfolding(book_model::specs::sky::Crescent::is_before_quarter_of, book_model::specs::programs::Leading::next_turn))]
 fn is_before_quarter<E: Enclosure>(phase: E, trail: &mut Trail) -> Result<bool, Fail>
-    ensures leads { Decides1 E.shown spec.is_before_quarter_of phase trail.old.count trail.new.count result }
+    ensures leads { Decides1 E.shown spec.is_before_quarter_of phase trail.old.count trail.new.count
+        result }
     ensures counted { trail.new.count ≤ trail.old.count + 1 }
 {
     less_step(phase, E::from_int(FIRST_QUARTER), Site::Crescent, trail)
@@ -58,7 +60,8 @@ fn is_lit<E: Enclosure>(arc: E, trail: &mut Trail) -> Result<bool, Fail>
 /// Whether the arc of light, by its cosine, is at most 90 degrees: one test.
 #[tactic(auto, using(book_model::proofs::Leads::leading), unfolding(book_model::specs::sky::Crescent::is_within_quarter_of, book_model::specs::programs::Leading::next_turn))]
 fn is_within_quarter<E: Enclosure>(arc: E, trail: &mut Trail) -> Result<bool, Fail>
-    ensures leads { Decides1 E.shown spec.is_within_quarter_of arc trail.old.count trail.new.count result }
+    ensures leads { Decides1 E.shown spec.is_within_quarter_of arc trail.old.count trail.new.count
+        result }
     ensures counted { trail.new.count ≤ trail.old.count + 1 }
 {
     match less_step(arc, E::from_int(0), Site::Crescent, trail) {
@@ -80,7 +83,8 @@ fn is_high<E: Enclosure>(altitude: E, trail: &mut Trail) -> Result<bool, Fail>
 /// The conditions on the arc of light and on the altitude, in order: three tests at most.
 #[tactic(auto, using(book_model::proofs::Leads::leading), unfolding(book_model::specs::sky::Crescent::is_bright_of, book_model::specs::sky::Crescent::and_also))]
 fn is_bright<E: Enclosure>(arc: E, altitude: E, trail: &mut Trail) -> Result<bool, Fail>
-    ensures leads { Decides2 E.shown spec.is_bright_of arc altitude trail.old.count trail.new.count result }
+    ensures leads { Decides2 E.shown spec.is_bright_of arc altitude trail.old.count trail.new.count
+        result }
     ensures counted { trail.new.count ≤ trail.old.count + 3 }
 {
     Ok(is_lit(arc, trail)? && is_within_quarter(arc, trail)? && is_high(altitude, trail)?)
@@ -89,7 +93,8 @@ fn is_bright<E: Enclosure>(arc: E, altitude: E, trail: &mut Trail) -> Result<boo
 /// All conditions, in order: five tests at most.
 #[tactic(auto, using(book_model::proofs::Leads::leading), unfolding(book_model::specs::sky::Crescent::is_crescent_of, book_model::specs::sky::Crescent::and_also))]
 fn is_crescent<E: Enclosure>(phase: E, arc: E, altitude: E, trail: &mut Trail) -> Result<bool, Fail>
-    ensures leads { Decides3 E.shown spec.is_crescent_of phase arc altitude trail.old.count trail.new.count result }
+    ensures leads { Decides3 E.shown spec.is_crescent_of phase arc altitude trail.old.count
+        trail.new.count result }
     ensures counted { trail.new.count ≤ trail.old.count + 5 }
 {
     Ok(
@@ -111,7 +116,11 @@ fn meets<E: Enclosure>(
     sidereal: E,
     trail: &mut Trail,
 ) -> Result<bool, Fail>
-    ensures leads { (w : World) (f o l b t : Expression) → DEPTH ≤ w.depth → Within E.shown w f phase → Within E.shown w o obliquity → Within E.shown w l longitude → Within E.shown w b latitude → Within E.shown w t sidereal → Leads w Exact (spec.meets_of location.now f o l b t) trail.old.count trail.new.count result }
+    ensures leads { (w : World) (f o l b t : Expression) → DEPTH ≤ w.depth
+        → Within E.shown w f phase → Within E.shown w o obliquity → Within E.shown w l longitude
+        → Within E.shown w b latitude → Within E.shown w t sidereal
+        → Leads w Exact (spec.meets_of location.now f o l b t) trail.old.count trail.new.count
+        result }
     ensures counted { trail.new.count ≤ trail.old.count + 5 }
 {
     let arc = arc_cosine(latitude, phase);
@@ -129,7 +138,8 @@ fn meets_with<E: Enclosure>(
     obliquity: E,
     trail: &mut Trail,
 ) -> Result<bool, Fail>
-    ensures leads { Decides3 E.shown (spec.meets_with_of location.now) t phase obliquity trail.old.count trail.new.count result }
+    ensures leads { Decides3 E.shown (spec.meets_with_of location.now) t phase obliquity
+        trail.old.count trail.new.count result }
     ensures counted { trail.new.count ≤ trail.old.count + 8 }
 {
     let longitude = moon(t, trail)?;
@@ -155,7 +165,8 @@ fn obliquity_at<E: Enclosure>(t: E, trail: &mut Trail) -> Result<E, Fail>
 /// Whether the moon meets the criterion at a location and a moment of universal time: 19 tests at most.
 #[tactic(auto, using(book_model::proofs::Leads::leading), unfolding(book_model::specs::sky::Crescent::meets_at_of))]
 fn meets_at<E: Enclosure>(location: &Location, t: E, trail: &mut Trail) -> Result<bool, Fail>
-    ensures leads { Decides1 E.shown (spec.meets_at_of location.now) t trail.old.count trail.new.count result }
+    ensures leads { Decides1 E.shown (spec.meets_at_of location.now) t trail.old.count
+        trail.new.count result }
     ensures counted { trail.new.count ≤ trail.old.count + 19 }
 {
     let young = phase(t, trail)?;
@@ -175,7 +186,8 @@ fn universal<E: Enclosure>(longitude: Frac, t: E) -> E
 #[tactic(auto, using(book_model::proofs::Leads::leading), unfolding(book_model::specs::sky::Crescent::evening_of))]
 fn evening<E: Enclosure>(location: &Location, day: i64, trail: &mut Trail) -> Result<E, Fail>
     requires low { negsuc 39999999 ≤ℤ day }
-    ensures leads { Follows E.shown (spec.evening_of location.now day) trail.old.count trail.new.count result }
+    ensures leads { Follows E.shown (spec.evening_of location.now day) trail.old.count
+        trail.new.count result }
     ensures counted { trail.new.count ≤ trail.old.count + 132 }
 {
     match dusk(location, E::from_frac(CRESCENT_DEPRESSION), day - 1, trail) {
@@ -193,7 +205,8 @@ fn evening<E: Enclosure>(location: &Location, day: i64, trail: &mut Trail) -> Re
 #[tactic(auto, using(book_model::proofs::Leads::leading), unfolding(book_model::specs::sky::Crescent::visible_of))]
 pub fn visible<E: Enclosure>(location: &Location, day: i64, trail: &mut Trail) -> Result<bool, Fail>
     requires low { negsuc 39999999 ≤ℤ day }
-    ensures leads { Decides (spec.visible_of location.now day) trail.old.count trail.new.count result }
+    ensures leads { Decides (spec.visible_of location.now day) trail.old.count trail.new.count
+        result }
     ensures counted { trail.new.count ≤ trail.old.count + 151 }
 {
     match evening::<E>(location, day, trail) {

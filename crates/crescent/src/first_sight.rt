@@ -71,7 +71,8 @@ fn sight_start<E: Enclosure>(
 ) -> Result<i64, Fail>
     requires day { IsFactDay day }
     requires near { IsPhaseDay new_moon }
-    ensures leads { Decides (spec.sight_start_of location.now day new_moon) trail.old.count trail.new.count result }
+    ensures leads { Decides (spec.sight_start_of location.now day new_moon) trail.old.count
+        trail.new.count result }
     ensures near { IfOk result IsSightDay }
     ensures counted { trail.new.count ≤ trail.old.count + 151 }
 {
@@ -88,7 +89,8 @@ fn sight_start<E: Enclosure>(
 #[tactic(auto, using(book_model::proofs::Leads::leading))]
 fn first_sight<E: Enclosure>(location: &Location, from: i64, trail: &mut Trail) -> Result<i64, Fail>
     requires near { IsSightDay from }
-    ensures leads { Decides (first_day_from (spec.visible_of location.now) from) trail.old.count trail.new.count result }
+    ensures leads { Decides (first_day_from (spec.visible_of location.now) from) trail.old.count
+        trail.new.count result }
     ensures from { IfOk result (λ d. from ≤ℤ d) }
     ensures to { IfOk result (λ d. d ≤ℤ (from +ℤ pos 45)) }
     ensures counted { trail.new.count ≤ trail.old.count + 46 * 151 }
@@ -112,7 +114,8 @@ fn sight_after<E: Enclosure>(
 ) -> Result<i64, Fail>
     requires day { IsFactDay day }
     requires near { IsPhaseDay new_moon }
-    ensures leads { Decides (spec.sight_after_of location.now day new_moon) trail.old.count trail.new.count result }
+    ensures leads { Decides (spec.sight_after_of location.now day new_moon) trail.old.count
+        trail.new.count result }
     ensures value { IfOk result IsFactValue }
     ensures counted { trail.new.count ≤ trail.old.count + 47 * 151 }
 {
@@ -131,7 +134,8 @@ pub fn phasis<E: Enclosure>(location: &Location, day: i64, trail: &mut Trail) ->
     requires day { IsFactDay day }
     ensures leads { Decides (spec.phasis_of location.now day) trail.old.count trail.new.count result }
     ensures value { IfOk result IsFactValue }
-    ensures early { trail.old.count ≡ 0 → 36 ≤ E.BITS → E.BITS ≤ 56 → IsValueDay day → IfErr result IsNoEarlyYear }
+    ensures early { trail.old.count ≡ 0 → 36 ≤ E.BITS → E.BITS ≤ 56 → IsValueDay day
+        → IfErr result IsNoEarlyYear }
     ensures counted { trail.new.count ≤ trail.old.count + 7942 }
 {
     match phase_day::<E>(NEW_MOON, day, trail) {

@@ -41,8 +41,11 @@ fn quotients(a: i128, b: i128, c: i128, d: i128) -> (i128, i128)
 /// The ends around the quotients by a divisor above 0.
 fn positive_quotients(x: Ends<i64>, y: Ends<i64>) -> Option<Ends<i64>>
     requires { pos 0 <ℤ y.lo }
-    ensures holds { quotient (between (at_36 x.lo) (at_36 x.hi)) (between (at_36 y.lo) (at_36 y.hi)) ⊆ shown_ends result }
-    ensures narrow { (w : ℕ) (a b : Bound) → IsNarrow w a (between (at_36 x.lo) (at_36 x.hi)) → IsNarrow w b (between (at_36 y.lo) (at_36 y.hi)) → IsNarrow w (quotient_bound limits_36 a b) (shown_ends result) }
+    ensures holds { quotient (between (at_36 x.lo) (at_36 x.hi))
+        (between (at_36 y.lo) (at_36 y.hi)) ⊆ shown_ends result }
+    ensures narrow { (w : ℕ) (a b : Bound) → IsNarrow w a (between (at_36 x.lo) (at_36 x.hi))
+        → IsNarrow w b (between (at_36 y.lo) (at_36 y.hi)) → IsNarrow w
+        (quotient_bound limits_36 a b) (shown_ends result) }
 {
     let (lo, hi) = quotients(
         i128::from(x.lo),
@@ -56,7 +59,8 @@ fn positive_quotients(x: Ends<i64>, y: Ends<i64>) -> Option<Ends<i64>>
 /// The ends around the quotients by a divisor below 0.
 fn negative_quotients(x: Ends<i64>, y: Ends<i64>) -> Option<Ends<i64>>
     requires { y.hi <ℤ pos 0 }
-    ensures holds { quotient (between (at_36 x.lo) (at_36 x.hi)) (between (at_36 y.lo) (at_36 y.hi)) ⊆ shown_ends result }
+    ensures holds { quotient (between (at_36 x.lo) (at_36 x.hi))
+        (between (at_36 y.lo) (at_36 y.hi)) ⊆ shown_ends result }
 {
     let (lo, hi) = quotients(
         -i128::from(x.hi),
@@ -70,7 +74,9 @@ fn negative_quotients(x: Ends<i64>, y: Ends<i64>) -> Option<Ends<i64>>
 /// The ends around the quotients; none, where the divisor may be 0.
 pub(crate) fn div_ends(x: Option<Ends<i64>>, y: Option<Ends<i64>>) -> Option<Ends<i64>>
     ensures holds { quotient (shown_ends x) (shown_ends y) ⊆ shown_ends result }
-    ensures narrow { (w : ℕ) (a b : Bound) → IsNarrow w a (shown_ends x) → IsNarrow w b (shown_ends y) → IsNarrow w (quotient_bound limits_36 a b) (shown_ends result) }
+    ensures narrow { (w : ℕ) (a b : Bound) → IsNarrow w a (shown_ends x)
+        → IsNarrow w b (shown_ends y) → IsNarrow w (quotient_bound limits_36 a b)
+        (shown_ends result) }
 {
     let x = x?;
     let y = y?;
@@ -99,7 +105,8 @@ fn least_square(lo: i64, hi: i64) -> i128
 /// The ends around the squares.
 pub(crate) fn square_ends(x: Option<Ends<i64>>) -> Option<Ends<i64>>
     ensures holds { power (shown_ends x) 2 ⊆ shown_ends result }
-    ensures narrow { (w : ℕ) (a : Bound) → IsNarrow w a (shown_ends x) → IsNarrow w (power_bound limits_36 a 2) (shown_ends result) }
+    ensures narrow { (w : ℕ) (a : Bound) → IsNarrow w a (shown_ends x)
+        → IsNarrow w (power_bound limits_36 a 2) (shown_ends result) }
 {
     let x = x?;
     let least = least_square(x.lo, x.hi);

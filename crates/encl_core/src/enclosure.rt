@@ -60,7 +60,9 @@ pub trait Enclosure: Copy + Drop {
     /// The enclosure of what lies between two ends. It is at most two units wider than these are apart.
     fn from_span(span: Span) -> Self
         ensures holds { between (at_56 span.lo) (at_56 span.hi) ⊆ shown result }
-        ensures narrow { (w : ℕ) (b : Bound) → IsNarrow w b (between (at_56 span.lo) (at_56 span.hi)) → IsNarrow w (spanned_bound (limits_of BITS) b) (shown result) };
+        ensures narrow { (w : ℕ) (b : Bound) → IsNarrow w b
+            (between (at_56 span.lo) (at_56 span.hi)) → IsNarrow w
+            (spanned_bound (limits_of BITS) b) (shown result) };
 
     /// The sums of the members.
     fn add(self, other: Self) -> Self
@@ -121,8 +123,10 @@ pub trait Enclosure: Copy + Drop {
     /// the rate in ten-millionths a century. So the rounding of centuries isn't multiplied by a rate.
     #[inline(always)]
     fn angle(self, phase: i64, rate: i64) -> Self
-        ensures holds { Holds1 shown (λ x. add_of (constant (ten_millionths phase)) (scale (daily_ten_millionths rate) x)) self result }
-        ensures narrow { Narrows1 shown BITS (λ x. add_of (constant (ten_millionths phase)) (scale (daily_ten_millionths rate) x)) self result }
+        ensures holds { Holds1 shown (λ x. add_of (constant (ten_millionths phase))
+            (scale (daily_ten_millionths rate) x)) self result }
+        ensures narrow { Narrows1 shown BITS (λ x. add_of (constant (ten_millionths phase))
+            (scale (daily_ten_millionths rate) x)) self result }
     {
         let turned = self.mul_frac(Frac::daily_ten_millionths(rate));
         Self::from_frac(Frac::ten_millionths(phase)).add(turned)
@@ -158,7 +162,8 @@ pub trait Enclosure: Copy + Drop {
     /// trail. `Undecided` comes exactly where it is so of some.
     fn less(self, other: Self, site: Site, trail: &mut Trail) -> Result<bool, Undecided>
         ensures decided { IfOk result (λ t. compare_at (shown self) (shown other) ≡ Some t) }
-        ensures undecided { IfErr result (λ u. IsOpenComparison (shown self) (shown other) u.lo u.hi) }
+        ensures undecided { IfErr result (λ u. IsOpenComparison (shown self)
+            (shown other) u.lo u.hi) }
         ensures named { IfErr result (λ u. (u.site ≡ site) × (u.turn ≡ next_turn trail.old.count)) }
         ensures counted { trail.new.count ≡ next_turn trail.old.count };
 
@@ -176,8 +181,12 @@ pub trait Enclosure: Copy + Drop {
     fn wrap(self, modulus: u32, site: Site, trail: &mut Trail) -> Result<Self, Undecided>
         requires { 0 < modulus }
         ensures decided { IfOk result (λ y. IsSome (cell_at (multiples modulus) (shown self))) }
-        ensures holds { IfOk result (λ y. (q : ℤ) (w : World) (x : Expression) → cell_at (multiples modulus) (shown self) ≡ Some q → Within shown w x self → Within shown w (remainder modulus x q) y) }
-        ensures narrow { IfOk result (λ y. (q : ℤ) (r : Reach) (x : Expression) → Narrow shown (limits_of BITS) r x self → Narrow shown (limits_of BITS) r (remainder modulus x q) y) }
+        ensures holds { IfOk result (λ y. (q : ℤ) (w : World) (x : Expression)
+            → cell_at (multiples modulus) (shown self) ≡ Some q → Within shown w x self
+            → Within shown w (remainder modulus x q) y) }
+        ensures narrow { IfOk result (λ y. (q : ℤ) (r : Reach) (x : Expression)
+            → Narrow shown (limits_of BITS) r x self → Narrow shown (limits_of BITS) r
+            (remainder modulus x q) y) }
         ensures undecided { IfErr result (λ u. IsOpenPeriod modulus (shown self) u.lo u.hi) }
         ensures named { IfErr result (λ u. (u.site ≡ site) × (u.turn ≡ next_turn trail.old.count)) }
         ensures counted { trail.new.count ≡ next_turn trail.old.count };

@@ -29,7 +29,8 @@ fn fine_ends(value: Frac, units: u64) -> Option<Ends<i64>>
     requires some { 0 < units }
     requires denominator { value.den ≡ units * 2 ^ 36 }
     ensures holds { between (fraction_of value) (fraction_of value) ⊆ shown_ends result }
-    ensures narrow { (w : ℕ) → IsNarrow w (constant_bound limits_36 (fraction_of value)) (shown_ends result) }
+    ensures narrow { (w : ℕ) → IsNarrow w (constant_bound limits_36 (fraction_of value))
+        (shown_ends result) }
 {
     let parts = value.num();
     let units = i128::from(units);
@@ -41,7 +42,8 @@ fn fine_ends(value: Frac, units: u64) -> Option<Ends<i64>>
 #[inline(always)]
 pub(crate) fn frac_ends(value: Frac) -> Option<Ends<i64>>
     ensures holds { between (fraction_of value) (fraction_of value) ⊆ shown_ends result }
-    ensures narrow { (w : ℕ) → IsNarrow w (constant_bound limits_36 (fraction_of value)) (shown_ends result) }
+    ensures narrow { (w : ℕ) → IsNarrow w (constant_bound limits_36 (fraction_of value))
+        (shown_ends result) }
 {
     let units = units_of(value.den());
     if units > 0 {
@@ -62,9 +64,12 @@ pub(crate) fn product_of(a: i64, b: i64) -> i128
 /// The least and the greatest of the four products of the ends, which count 2⁻⁷².
 fn all_products(x: Ends<i64>, y: Ends<i64>) -> (i128, i128)
     ensures least { IsBelowFour result.0 (x.lo *ℤ y.lo) (x.lo *ℤ y.hi) (x.hi *ℤ y.lo) (x.hi *ℤ y.hi) }
-    ensures greatest { IsAboveFour result.1 (x.lo *ℤ y.lo) (x.lo *ℤ y.hi) (x.hi *ℤ y.lo) (x.hi *ℤ y.hi) }
-    ensures best_least { IsAboveEachBelow result.0 (x.lo *ℤ y.lo) (x.lo *ℤ y.hi) (x.hi *ℤ y.lo) (x.hi *ℤ y.hi) }
-    ensures best_greatest { IsBelowEachAbove result.1 (x.lo *ℤ y.lo) (x.lo *ℤ y.hi) (x.hi *ℤ y.lo) (x.hi *ℤ y.hi) }
+    ensures greatest { IsAboveFour result.1 (x.lo *ℤ y.lo) (x.lo *ℤ y.hi) (x.hi *ℤ y.lo)
+        (x.hi *ℤ y.hi) }
+    ensures best_least { IsAboveEachBelow result.0 (x.lo *ℤ y.lo) (x.lo *ℤ y.hi) (x.hi *ℤ y.lo)
+        (x.hi *ℤ y.hi) }
+    ensures best_greatest { IsBelowEachAbove result.1 (x.lo *ℤ y.lo) (x.lo *ℤ y.hi) (x.hi *ℤ y.lo)
+        (x.hi *ℤ y.hi) }
     ensures room { neg_ℤ (pos (2 ^ 126)) ≤ℤ result.1 }
 {
     let p = product_of(x.lo, y.lo);
@@ -79,9 +84,12 @@ fn natural_products(x: Ends<i64>, y: Ends<i64>) -> (i128, i128)
     requires first { pos 0 ≤ℤ x.lo }
     requires second { pos 0 ≤ℤ y.lo }
     ensures least { IsBelowFour result.0 (x.lo *ℤ y.lo) (x.lo *ℤ y.hi) (x.hi *ℤ y.lo) (x.hi *ℤ y.hi) }
-    ensures greatest { IsAboveFour result.1 (x.lo *ℤ y.lo) (x.lo *ℤ y.hi) (x.hi *ℤ y.lo) (x.hi *ℤ y.hi) }
-    ensures best_least { IsAboveEachBelow result.0 (x.lo *ℤ y.lo) (x.lo *ℤ y.hi) (x.hi *ℤ y.lo) (x.hi *ℤ y.hi) }
-    ensures best_greatest { IsBelowEachAbove result.1 (x.lo *ℤ y.lo) (x.lo *ℤ y.hi) (x.hi *ℤ y.lo) (x.hi *ℤ y.hi) }
+    ensures greatest { IsAboveFour result.1 (x.lo *ℤ y.lo) (x.lo *ℤ y.hi) (x.hi *ℤ y.lo)
+        (x.hi *ℤ y.hi) }
+    ensures best_least { IsAboveEachBelow result.0 (x.lo *ℤ y.lo) (x.lo *ℤ y.hi) (x.hi *ℤ y.lo)
+        (x.hi *ℤ y.hi) }
+    ensures best_greatest { IsBelowEachAbove result.1 (x.lo *ℤ y.lo) (x.lo *ℤ y.hi) (x.hi *ℤ y.lo)
+        (x.hi *ℤ y.hi) }
     ensures room { neg_ℤ (pos (2 ^ 126)) ≤ℤ result.1 }
 {
     (product_of(x.lo, y.lo), product_of(x.hi, y.hi))
@@ -90,9 +98,12 @@ fn natural_products(x: Ends<i64>, y: Ends<i64>) -> (i128, i128)
 /// The least and the greatest product of the ends, which count 2⁻⁷².
 fn products(x: Ends<i64>, y: Ends<i64>) -> (i128, i128)
     ensures least { IsBelowFour result.0 (x.lo *ℤ y.lo) (x.lo *ℤ y.hi) (x.hi *ℤ y.lo) (x.hi *ℤ y.hi) }
-    ensures greatest { IsAboveFour result.1 (x.lo *ℤ y.lo) (x.lo *ℤ y.hi) (x.hi *ℤ y.lo) (x.hi *ℤ y.hi) }
-    ensures best_least { IsAboveEachBelow result.0 (x.lo *ℤ y.lo) (x.lo *ℤ y.hi) (x.hi *ℤ y.lo) (x.hi *ℤ y.hi) }
-    ensures best_greatest { IsBelowEachAbove result.1 (x.lo *ℤ y.lo) (x.lo *ℤ y.hi) (x.hi *ℤ y.lo) (x.hi *ℤ y.hi) }
+    ensures greatest { IsAboveFour result.1 (x.lo *ℤ y.lo) (x.lo *ℤ y.hi) (x.hi *ℤ y.lo)
+        (x.hi *ℤ y.hi) }
+    ensures best_least { IsAboveEachBelow result.0 (x.lo *ℤ y.lo) (x.lo *ℤ y.hi) (x.hi *ℤ y.lo)
+        (x.hi *ℤ y.hi) }
+    ensures best_greatest { IsBelowEachAbove result.1 (x.lo *ℤ y.lo) (x.lo *ℤ y.hi) (x.hi *ℤ y.lo)
+        (x.hi *ℤ y.hi) }
     ensures room { neg_ℤ (pos (2 ^ 126)) ≤ℤ result.1 }
 {
     if x.lo < 0 {
@@ -107,7 +118,8 @@ fn products(x: Ends<i64>, y: Ends<i64>) -> (i128, i128)
 /// The ends around the products of the members.
 pub(crate) fn mul_ends(x: Option<Ends<i64>>, y: Option<Ends<i64>>) -> Option<Ends<i64>>
     ensures holds { product (shown_ends x) (shown_ends y) ⊆ shown_ends result }
-    ensures narrow { (w : ℕ) (a b : Bound) → IsNarrow w a (shown_ends x) → IsNarrow w b (shown_ends y) → IsNarrow w (product_bound limits_36 a b) (shown_ends result) }
+    ensures narrow { (w : ℕ) (a b : Bound) → IsNarrow w a (shown_ends x)
+        → IsNarrow w b (shown_ends y) → IsNarrow w (product_bound limits_36 a b) (shown_ends result) }
 {
     let x = x?;
     let y = y?;

@@ -12,7 +12,8 @@ use scaled_ends::{Ends, ends_of};
 fn root_down(end: i64) -> i128
     ensures natural { pos 0 ≤ℤ result }
     ensures square { (result *ℤ result) ≤ℤ (pos (natural_part end) *ℤ pos (2 ^ 36)) }
-    ensures close { (pos (natural_part end) *ℤ pos (2 ^ 36)) <ℤ ((result +ℤ pos 1) *ℤ (result +ℤ pos 1)) }
+    ensures close { (pos (natural_part end) *ℤ pos (2 ^ 36)) <ℤ
+        ((result +ℤ pos 1) *ℤ (result +ℤ pos 1)) }
 {
     if end <= 0 {
         return 0;
@@ -24,7 +25,8 @@ fn root_down(end: i64) -> i128
 fn root_up(end: i64) -> i128
     ensures natural { pos 0 ≤ℤ result }
     ensures square { (pos (natural_part end) *ℤ pos (2 ^ 36)) ≤ℤ (result *ℤ result) }
-    ensures close { pos 1 ≤ℤ result → ((result -ℤ pos 1) *ℤ (result -ℤ pos 1)) <ℤ (pos (natural_part end) *ℤ pos (2 ^ 36)) }
+    ensures close { pos 1 ≤ℤ result → ((result -ℤ pos 1) *ℤ (result -ℤ pos 1)) <ℤ
+        (pos (natural_part end) *ℤ pos (2 ^ 36)) }
 {
     if end <= 0 {
         return 0;
@@ -35,7 +37,8 @@ fn root_up(end: i64) -> i128
 /// The ends around the roots.
 pub(crate) fn root_ends(x: Option<Ends<i64>>) -> Option<Ends<i64>>
     ensures holds { (n : ℕ) → DEPTH ≤ n → root_of n (shown_ends x) ⊆ shown_ends result }
-    ensures narrow { (w : ℕ) (a : Bound) → IsNarrow w a (shown_ends x) → IsNarrow w (root_bound limits_36 a) (shown_ends result) }
+    ensures narrow { (w : ℕ) (a : Bound) → IsNarrow w a (shown_ends x)
+        → IsNarrow w (root_bound limits_36 a) (shown_ends result) }
 {
     let x = x?;
     ends_of(root_down(x.lo), root_up(x.hi))

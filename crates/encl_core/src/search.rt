@@ -35,7 +35,8 @@ pub fn first_day<E: Enclosure, T: DayTest<E>>(
 ) -> Result<i64, Fail>
     requires low { negsuc 39999899 ≤ℤ start }
     requires high { start ≤ℤ pos 39999900 }
-    ensures leads { Decides (first_day_from (T.test_of test.now) start) trail.old.count trail.new.count result }
+    ensures leads { Decides (first_day_from (T.test_of test.now) start) trail.old.count
+        trail.new.count result }
     ensures from { IfOk result (λ d. start ≤ℤ d) }
     ensures to { IfOk result (λ d. d ≤ℤ (start +ℤ pos 45)) }
     ensures counted { trail.new.count ≤ trail.old.count + 46 * T.most }

@@ -14,7 +14,8 @@ use book_model::{Fail, Site};
 /// The greatest whole number that is not above an enclosed number, as a test at a site. It fails exactly where the
 /// enclosure leaves the test open, and is never void.
 pub fn floor_step<E: Enclosure>(x: E, site: Site, trail: &mut Trail) -> Result<i64, Fail>
-    ensures leads { Decides1 E.shown (λ e. cell site integers e answer) x trail.old.count trail.new.count result }
+    ensures leads { Decides1 E.shown (λ e. cell site integers e answer) x trail.old.count
+        trail.new.count result }
     ensures decided { IfOk result (λ q. cell_at integers (E.shown x) ≡ Some q) }
     ensures open { IfErr result (IsOpenFloor (E.shown x) site) }
     ensures counted { trail.new.count ≡ next_turn trail.old.count }
@@ -28,7 +29,8 @@ pub fn floor_step<E: Enclosure>(x: E, site: Site, trail: &mut Trail) -> Result<i
 /// Whether an enclosed number is below another, as a test at a site. It fails exactly where the enclosures leave the
 /// test open, and is never void.
 pub fn less_step<E: Enclosure>(x: E, y: E, site: Site, trail: &mut Trail) -> Result<bool, Fail>
-    ensures leads { Decides2 E.shown (λ e f. compare site e f answer) x y trail.old.count trail.new.count result }
+    ensures leads { Decides2 E.shown (λ e f. compare site e f answer) x y trail.old.count
+        trail.new.count result }
     ensures decided { IfOk result (λ t. compare_at (E.shown x) (E.shown y) ≡ Some t) }
     ensures open { IfErr result (IsOpenLess (E.shown x) (E.shown y) site) }
     ensures counted { trail.new.count ≡ next_turn trail.old.count }
@@ -43,8 +45,11 @@ pub fn less_step<E: Enclosure>(x: E, y: E, site: Site, trail: &mut Trail) -> Res
 /// fails exactly where the enclosure leaves the test open, and is never void.
 pub fn wrap_step<E: Enclosure>(x: E, modulus: u32, site: Site, trail: &mut Trail) -> Result<E, Fail>
     requires { 0 < modulus }
-    ensures leads { Follows1 E.shown (λ e. cell site (multiples modulus) e (λ q. answer (remainder modulus e q))) x trail.old.count trail.new.count result }
-    ensures narrow { IfOk result (λ y. (q : ℤ) (r : Reach) (e : Expression) → Narrow E.shown (limits_of E.BITS) r e x → Narrow E.shown (limits_of E.BITS) r (remainder modulus e q) y) }
+    ensures leads { Follows1 E.shown (λ e. cell site (multiples modulus) e
+        (λ q. answer (remainder modulus e q))) x trail.old.count trail.new.count result }
+    ensures narrow { IfOk result (λ y. (q : ℤ) (r : Reach) (e : Expression)
+        → Narrow E.shown (limits_of E.BITS) r e x → Narrow E.shown (limits_of E.BITS) r
+        (remainder modulus e q) y) }
     ensures decided { IfOk result (λ y. IsSome (cell_at (multiples modulus) (E.shown x))) }
     ensures open { IfErr result (IsOpenWrap modulus (E.shown x) site) }
     ensures counted { trail.new.count ≡ next_turn trail.old.count }

@@ -27,15 +27,19 @@ pub trait Term<A: Copy, E: Enclosure> {
 
     /// What the row adds.
     fn term(&self, given: A) -> E
-        ensures held { (w : World) (g : Self.Given) → DEPTH ≤ w.depth → holds w g given → Within E.shown w (term_of g self.now) result }
-        ensures narrow { (r : Reach) (g : Self.Given) → keeps r g given → Narrow E.shown (limits_of E.BITS) r (computed_of g self.now) result };
+        ensures held { (w : World) (g : Self.Given) → DEPTH ≤ w.depth → holds w g given
+            → Within E.shown w (term_of g self.now) result }
+        ensures narrow { (r : Reach) (g : Self.Given) → keeps r g given
+            → Narrow E.shown (limits_of E.BITS) r (computed_of g self.now) result };
 }
 
 /// The sum of what the rows of a table add.
 #[tactic(auto, using(crate::proofs::TermSums::sums))]
 pub fn sum_of_terms<A: Copy, E: Enclosure, T: Term<A, E>>(rows: &[T], given: A) -> E
-    ensures holds { (w : World) (g : T.Given) (none : T) → DEPTH ≤ w.depth → T.holds w g given → Within E.shown w (terms_of (T.term_of g) none rows.now) result }
-    ensures narrow { (r : Reach) (g : T.Given) (none : T) → T.keeps r g given → Narrow E.shown (limits_of E.BITS) r (terms_of (T.computed_of g) none rows.now) result }
+    ensures holds { (w : World) (g : T.Given) (none : T) → DEPTH ≤ w.depth → T.holds w g given
+        → Within E.shown w (terms_of (T.term_of g) none rows.now) result }
+    ensures narrow { (r : Reach) (g : T.Given) (none : T) → T.keeps r g given
+        → Narrow E.shown (limits_of E.BITS) r (terms_of (T.computed_of g) none rows.now) result }
 {
     let mut sum = E::from_int(0);
     for row in rows {

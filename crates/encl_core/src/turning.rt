@@ -24,8 +24,12 @@ fn turned(end: i64, phase: i64, rate: i64) -> i128
 /// quotient at each end.
 #[inline(always)]
 pub(crate) fn angle_ends(x: Option<Ends<i64>>, phase: i64, rate: i64) -> Option<Ends<i64>>
-    ensures holds { sum (between (ten_millionths phase) (ten_millionths phase)) (product (shown_ends x) (between (daily_ten_millionths rate) (daily_ten_millionths rate))) ⊆ shown_ends result }
-    ensures narrow { (w : ℕ) (a : Bound) → IsNarrow w a (shown_ends x) → IsNarrow w (sum_bound limits_36 (constant_bound limits_36 (ten_millionths phase)) (scaled_bound limits_36 (daily_ten_millionths rate) a)) (shown_ends result) }
+    ensures holds { sum (between (ten_millionths phase) (ten_millionths phase))
+        (product (shown_ends x) (between (daily_ten_millionths rate) (daily_ten_millionths rate)))
+        ⊆ shown_ends result }
+    ensures narrow { (w : ℕ) (a : Bound) → IsNarrow w a (shown_ends x)
+        → IsNarrow w (sum_bound limits_36 (constant_bound limits_36 (ten_millionths phase))
+        (scaled_bound limits_36 (daily_ten_millionths rate) a)) (shown_ends result) }
 {
     let x = x?;
     let p = turned(x.lo, phase, rate);

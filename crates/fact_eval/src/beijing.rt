@@ -11,7 +11,8 @@ use time_scales::{in_beijing, midnight};
 /// The longitude of the sun at midnight at the beginning of a day (R.D.) in Beijing: two tests at most.
 #[tactic(auto, using(book_model::proofs::Leads::leading), unfolding(book_model::specs::sky::Kinds::longitude_at_midnight_of))]
 pub(crate) fn longitude_at_midnight<E: Enclosure>(day: i64, trail: &mut Trail) -> Result<E, Fail>
-    ensures leads { Follows E.shown (longitude_at_midnight_of day) trail.old.count trail.new.count result }
+    ensures leads { Follows E.shown (longitude_at_midnight_of day) trail.old.count trail.new.count
+        result }
     ensures counted { trail.new.count ≤ trail.old.count + 2 }
 {
     sun(midnight::<E>(day), trail)

@@ -18,9 +18,11 @@ use time_scales::{correction, year_of_whole_day};
 /// Days as milliseconds, and a half: what is rounded down.
 fn milliseconds<E: Enclosure>(days: E) -> E
     ensures holds { (w : World) (x : Expression) → Within E.shown w x days
-        → Within E.shown w (add (scale (fraction_of MILLISECONDS_OF_DAY) x) (constant (fraction_of HALF))) result }
+        → Within E.shown w (add (scale (fraction_of MILLISECONDS_OF_DAY) x)
+        (constant (fraction_of HALF))) result }
     ensures narrow { (r : Reach) (x : Expression) → Narrow E.shown (limits_of E.BITS) r x days
-        → Narrow E.shown (limits_of E.BITS) r (add (scale (fraction_of MILLISECONDS_OF_DAY) x) (constant (fraction_of HALF))) result }
+        → Narrow E.shown (limits_of E.BITS) r (add (scale (fraction_of MILLISECONDS_OF_DAY) x)
+        (constant (fraction_of HALF))) result }
 {
     days.mul_frac(MILLISECONDS_OF_DAY).add(E::from_frac(HALF))
 }

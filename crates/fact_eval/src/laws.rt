@@ -11,6 +11,8 @@ ghost use Rattle.book_model.specs.sky.Facts.{formula_of, run_of};
 /// answers; so each test of the run of a fact has a number below that.
 #[tactic(auto, using(crate::proofs::FewTests::formula_few, crate::proofs::FewTests::run_few))]
 pub fn counts()
-    ensures formulas { (kind : Kind) (place : Place) (day : ℤ) → AtMost 99999 (formula_of kind place day) }
-    ensures runs { (fact : Fact) (depth number : ℕ) (site : Site) (sides : Sides) → MakesTest (run_of depth fact) number site sides → number ≤ 99999 }
+    ensures formulas { (kind : Kind) (place : Place) (day : ℤ)
+        → AtMost 99999 (formula_of kind place day) }
+    ensures runs { (fact : Fact) (depth number : ℕ) (site : Site) (sides : Sides)
+        → MakesTest (run_of depth fact) number site sides → number ≤ 99999 }
 {}

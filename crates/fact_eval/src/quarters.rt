@@ -27,7 +27,8 @@ pub(crate) fn phase_day<E: Enclosure>(phase: i64, day: i64, trail: &mut Trail) -
 /// tests at most.
 pub(crate) fn phasis<E: Enclosure>(place: Place, day: i64, trail: &mut Trail) -> Result<i64, Fail>
     requires day { IsValueDay day }
-    ensures leads { Decides (phasis_of (location_at place) day) trail.old.count trail.new.count result }
+    ensures leads { Decides (phasis_of (location_at place) day) trail.old.count trail.new.count
+        result }
     ensures value { IfOk result IsFactValue }
     ensures early { trail.old.count ≡ 0 → 36 ≤ E.BITS → E.BITS ≤ 56 → IfErr result IsNoEarlyYear }
 {

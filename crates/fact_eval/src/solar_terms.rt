@@ -19,7 +19,8 @@ const TERM_DEGREES: i64 = 30;
 /// Beijing: three tests at most.
 #[tactic(auto, using(book_model::proofs::Leads::leading), unfolding(book_model::specs::sky::Kinds::spans_short_of, book_model::specs::programs::Leading::next_turn))]
 fn floor_of_spans<E: Enclosure>(longitude: i64, day: i64, trail: &mut Trail) -> Result<i64, Fail>
-    ensures leads { Decides (spec.spans_short_of longitude day) trail.old.count trail.new.count result }
+    ensures leads { Decides (spec.spans_short_of longitude day) trail.old.count trail.new.count
+        result }
     ensures counted { trail.new.count ≤ trail.old.count + 3 }
 {
     match longitude_at_midnight::<E>(day, trail) {
@@ -56,7 +57,8 @@ fn term_longitude(first: i64, spans: i64) -> i64
 /// The day (R.D.) in Beijing on which the sun is next at a longitude, in degrees, once a day has begun there: 326 tests at most.
 #[tactic(auto, using(book_model::proofs::Leads::leading), unfolding(book_model::specs::sky::Kinds::longitude_day_of))]
 fn longitude_day<E: Enclosure>(longitude: i64, day: i64, trail: &mut Trail) -> Result<i64, Fail>
-    ensures leads { Decides (spec.longitude_day_of longitude day) trail.old.count trail.new.count result }
+    ensures leads { Decides (spec.longitude_day_of longitude day) trail.old.count trail.new.count
+        result }
     ensures counted { trail.new.count ≤ trail.old.count + 326 }
 {
     match sun_from(E::from_int(longitude), midnight::<E>(day), trail) {

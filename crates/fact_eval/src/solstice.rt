@@ -22,7 +22,8 @@ struct WinterAtEnd;
 /// Whether a longitude is past the winter solstice, as one test.
 #[tactic(auto, using(book_model::proofs::Leads::leading), unfolding(book_model::specs::sky::Kinds::is_past_winter_of, book_model::specs::programs::Leading::next_turn))]
 fn is_past_winter<E: Enclosure>(longitude: E, trail: &mut Trail) -> Result<bool, Fail>
-    ensures leads { Decides1 E.shown is_past_winter_of longitude trail.old.count trail.new.count result }
+    ensures leads { Decides1 E.shown is_past_winter_of longitude trail.old.count trail.new.count
+        result }
     ensures counted { trail.new.count ≤ trail.old.count + 1 }
 {
     less_step(E::from_int(WINTER), longitude, Site::DayTest, trail)

@@ -40,7 +40,8 @@ fn longitude_at<E: Enclosure, M: DayMoment<E>>(
     trail: &mut Trail,
 ) -> Result<E, Fail>
     requires day { IsFactDay day }
-    ensures leads { Follows E.shown (longitude_at_of M.moment_of day) trail.old.count trail.new.count result }
+    ensures leads { Follows E.shown (longitude_at_of M.moment_of day) trail.old.count
+        trail.new.count result }
     ensures counted { trail.new.count ≤ trail.old.count + M.most + 2 }
 {
     match moment.at(day, trail) {
@@ -52,7 +53,8 @@ fn longitude_at<E: Enclosure, M: DayMoment<E>>(
 /// Whether a longitude is at most 2 degrees, as one test.
 #[tactic(auto, using(book_model::proofs::Leads::leading), unfolding(book_model::specs::sky::Kinds::is_at_most_two_of, book_model::specs::programs::Leading::next_turn))]
 fn is_at_most_two<E: Enclosure>(longitude: E, trail: &mut Trail) -> Result<bool, Fail>
-    ensures leads { Decides1 E.shown is_at_most_two_of longitude trail.old.count trail.new.count result }
+    ensures leads { Decides1 E.shown is_at_most_two_of longitude trail.old.count trail.new.count
+        result }
     ensures counted { trail.new.count ≤ trail.old.count + 1 }
 {
     match less_step(E::from_int(2), longitude, Site::DayTest, trail) {
@@ -96,7 +98,8 @@ fn last_equinox<E: Enclosure, M: DayMoment<E>>(
     trail: &mut Trail,
 ) -> Result<E, Fail>
     requires day { IsFactDay day }
-    ensures leads { Follows E.shown (last_equinox_of M.moment_of day) trail.old.count trail.new.count result }
+    ensures leads { Follows E.shown (last_equinox_of M.moment_of day) trail.old.count
+        trail.new.count result }
     ensures counted { trail.new.count ≤ trail.old.count + M.most + 6 }
 {
     match moment.at(day, trail) {

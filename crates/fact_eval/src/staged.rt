@@ -43,7 +43,8 @@ fn formula<E: Enclosure>(kind: Kind, place: Place, day: i64, trail: &mut Trail) 
     requires day { IsValueDay day }
     ensures leads { Decides (formula_of kind place day) trail.old.count trail.new.count result }
     ensures value { IfOk result IsFactValue }
-    ensures open { trail.old.count ≡ 0 → 36 ≤ E.BITS → E.BITS ≤ 56 → IfErr result (IsNearFor kind (year_of_day day)) }
+    ensures open { trail.old.count ≡ 0 → 36 ≤ E.BITS → E.BITS ≤ 56
+        → IfErr result (IsNearFor kind (year_of_day day)) }
 {
     match kind {
         Kind::Dt => dt::<E>(day, trail),
@@ -84,7 +85,8 @@ fn may_have_value(day: i64) -> bool
 pub(crate) fn evaluate<E: Enclosure>(fact: Fact, trail: &mut Trail) -> Result<i64, Fail>
     ensures leads { Decides (program_of fact) trail.old.count trail.new.count result }
     ensures value { IfOk result IsFactValue }
-    ensures open { trail.old.count ≡ 0 → 36 ≤ E.BITS → E.BITS ≤ 56 → IfErr result (IsNearFor fact.kind (year_of_day fact.day)) }
+    ensures open { trail.old.count ≡ 0 → 36 ≤ E.BITS → E.BITS ≤ 56
+        → IfErr result (IsNearFor fact.kind (year_of_day fact.day)) }
 {
     let day = fact.day();
     if !may_have_value(day) {

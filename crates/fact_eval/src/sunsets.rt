@@ -79,7 +79,8 @@ fn minutes_of_sunset<E: Enclosure>(
     day: i64,
     trail: &mut Trail,
 ) -> Result<i64, Fail>
-    ensures leads { Decides (sunset_in_minutes_of location.now day) trail.old.count trail.new.count result }
+    ensures leads { Decides (sunset_in_minutes_of location.now day) trail.old.count trail.new.count
+        result }
     ensures counted { trail.new.count ≤ trail.old.count + 133 }
 {
     match sunset::<E>(location, day, trail) {
@@ -97,7 +98,8 @@ pub(crate) fn sunset_in_minutes<E: Enclosure>(
     trail: &mut Trail,
 ) -> Result<i64, Fail>
     requires day { IsValueDay day }
-    ensures leads { Decides (sunset_in_minutes_of (location_at place) day) trail.old.count trail.new.count result }
+    ensures leads { Decides (sunset_in_minutes_of (location_at place) day) trail.old.count
+        trail.new.count result }
     ensures value { IfOk result IsFactValue }
     ensures counted { trail.new.count ≤ trail.old.count + 133 }
     ensures open { IfErr result (IsNearFor Sunset (year_of_day day)) }

@@ -102,7 +102,8 @@ fn date_with<O: Oracle>(
 ) -> Result<HinduLunar, Stop>
     requires from { negsuc 29999000 ≤ℤ day }
     requires to { day ≤ℤ pos 29999000 }
-    ensures date { Inquires O.meaning (spec.date_with day tithi earlier) (O.state oracle.old) (O.state oracle.new) (map_ok fields_of_lunar result) }
+    ensures date { Inquires O.meaning (spec.date_with day tithi earlier) (O.state oracle.old)
+        (O.state oracle.new) (map_ok fields_of_lunar result) }
 {
     let before = oracle.ask(fact_on(Kind::SignBefore, day))?;
     let after = oracle.ask(fact_on(Kind::SignAfter, day))?;
@@ -115,7 +116,8 @@ fn date_with<O: Oracle>(
 fn date_near<O: Oracle>(oracle: &mut O, day: i64) -> Result<HinduLunar, Stop>
     requires from { negsuc 29998999 ≤ℤ day }
     requires to { day ≤ℤ pos 29999000 }
-    ensures date { Inquires O.meaning (spec.hindu_lunar_on day) (O.state oracle.old) (O.state oracle.new) (map_ok fields_of_lunar result) }
+    ensures date { Inquires O.meaning (spec.hindu_lunar_on day) (O.state oracle.old)
+        (O.state oracle.new) (map_ok fields_of_lunar result) }
 {
     let tithi = oracle.ask(fact_on(Kind::Tithi, day))?;
     let earlier = oracle.ask(fact_on(Kind::Tithi, day - 1))?;
@@ -136,7 +138,8 @@ fn date_near<O: Oracle>(oracle: &mut O, day: i64) -> Result<HinduLunar, Stop>
 pub fn from_fixed<O: Oracle>(oracle: &mut O, day: i64) -> Result<HinduLunar, Stop>
     requires from { pos 0 ≤ℤ day }
     requires to { day ≤ℤ pos 1000000 }
-    ensures date { Inquires O.meaning (spec.hindu_lunar_on day) (O.state oracle.old) (O.state oracle.new) (map_ok fields_of_lunar result) }
+    ensures date { Inquires O.meaning (spec.hindu_lunar_on day) (O.state oracle.old)
+        (O.state oracle.new) (map_ok fields_of_lunar result) }
 {
     date_near(oracle, day)
 }
@@ -144,7 +147,8 @@ pub fn from_fixed<O: Oracle>(oracle: &mut O, day: i64) -> Result<HinduLunar, Sto
 /// Whether a date lies in the month of another.
 #[tactic(auto, unfolding(book_model::specs::calendars::HinduLunar::is_in_month))]
 fn is_in_month(date: HinduLunar, sought: HinduLunar) -> bool
-    ensures same { result ≡ spec.is_in_month sought.year (pos sought.month) (spec.flag sought.leap_month) (fields_of_lunar date) }
+    ensures same { result ≡ spec.is_in_month sought.year (pos sought.month)
+        (spec.flag sought.leap_month) (fields_of_lunar date) }
 {
     date.year == sought.year && date.month == sought.month && date.leap_month == sought.leap_month
 }
@@ -152,7 +156,9 @@ fn is_in_month(date: HinduLunar, sought: HinduLunar) -> bool
 /// Whether a date is another.
 #[tactic(auto, unfolding(book_model::specs::calendars::HinduLunar::is_day_of))]
 fn is_day_of(date: HinduLunar, sought: HinduLunar) -> bool
-    ensures same { result ≡ spec.is_day_of sought.year (pos sought.month) (spec.flag sought.leap_month) (pos sought.day) (spec.flag sought.leap_day) (fields_of_lunar date) }
+    ensures same { result ≡ spec.is_day_of sought.year (pos sought.month)
+        (spec.flag sought.leap_month) (pos sought.day) (spec.flag sought.leap_day)
+        (fields_of_lunar date) }
 {
     is_in_month(date, sought) && date.day == sought.day && date.leap_day == sought.leap_day
 }
@@ -162,7 +168,8 @@ fn is_day_of(date: HinduLunar, sought: HinduLunar) -> bool
 fn lies_in_month<O: Oracle>(oracle: &mut O, sought: HinduLunar, day: i64) -> Result<bool, Stop>
     requires from { negsuc 29998999 ≤ℤ day }
     requires to { day ≤ℤ pos 29999000 }
-    ensures lies { Inquires O.meaning (spec.lies_in_month sought.year (pos sought.month) (spec.flag sought.leap_month) day) (O.state oracle.old) (O.state oracle.new) result }
+    ensures lies { Inquires O.meaning (spec.lies_in_month sought.year (pos sought.month)
+        (spec.flag sought.leap_month) day) (O.state oracle.old) (O.state oracle.new) result }
 {
     let date = date_near(oracle, day)?;
     Ok(is_in_month(date, sought))
@@ -173,7 +180,9 @@ fn lies_in_month<O: Oracle>(oracle: &mut O, sought: HinduLunar, day: i64) -> Res
 fn has_date<O: Oracle>(oracle: &mut O, sought: HinduLunar, day: i64) -> Result<bool, Stop>
     requires from { negsuc 29998999 ≤ℤ day }
     requires to { day ≤ℤ pos 29999000 }
-    ensures has { Inquires O.meaning (spec.has_date sought.year (pos sought.month) (spec.flag sought.leap_month) (pos sought.day) (spec.flag sought.leap_day) day) (O.state oracle.old) (O.state oracle.new) result }
+    ensures has { Inquires O.meaning (spec.has_date sought.year (pos sought.month)
+        (spec.flag sought.leap_month) (pos sought.day) (spec.flag sought.leap_day) day)
+        (O.state oracle.old) (O.state oracle.new) result }
 {
     let date = date_near(oracle, day)?;
     Ok(is_day_of(date, sought))
@@ -201,7 +210,8 @@ fn before_or<O: Oracle>(
 ) -> Result<i64, Stop>
     requires from { negsuc 13999999 ≤ℤ about }
     requires to { about ≤ℤ pos 14000100 }
-    ensures day { Inquires O.meaning (spec.before_or sought.year (pos sought.month) (spec.flag sought.leap_month) about before) (O.state oracle.old) (O.state oracle.new) result }
+    ensures day { Inquires O.meaning (spec.before_or sought.year (pos sought.month)
+        (spec.flag sought.leap_month) about before) (O.state oracle.old) (O.state oracle.new) result }
     ensures near_from { IfOk result (λ d. negsuc 14000999 ≤ℤ d) }
     ensures near_to { IfOk result (λ d. d ≤ℤ pos 14001100) }
 {
@@ -222,7 +232,8 @@ fn itself_or<O: Oracle>(
 ) -> Result<i64, Stop>
     requires from { negsuc 13999999 ≤ℤ about }
     requires to { about ≤ℤ pos 14000100 }
-    ensures day { Inquires O.meaning (spec.itself_or sought.year (pos sought.month) (spec.flag sought.leap_month) about here) (O.state oracle.old) (O.state oracle.new) result }
+    ensures day { Inquires O.meaning (spec.itself_or sought.year (pos sought.month)
+        (spec.flag sought.leap_month) about here) (O.state oracle.old) (O.state oracle.new) result }
     ensures near_from { IfOk result (λ d. negsuc 14000999 ≤ℤ d) }
     ensures near_to { IfOk result (λ d. d ≤ℤ pos 14001100) }
 {
@@ -239,7 +250,8 @@ fn itself_or<O: Oracle>(
 fn middle_about<O: Oracle>(oracle: &mut O, sought: HinduLunar, about: i64) -> Result<i64, Stop>
     requires from { negsuc 13999999 ≤ℤ about }
     requires to { about ≤ℤ pos 14000100 }
-    ensures day { Inquires O.meaning (spec.middle_about sought.year (pos sought.month) (spec.flag sought.leap_month) about) (O.state oracle.old) (O.state oracle.new) result }
+    ensures day { Inquires O.meaning (spec.middle_about sought.year (pos sought.month)
+        (spec.flag sought.leap_month) about) (O.state oracle.old) (O.state oracle.new) result }
     ensures near_from { IfOk result (λ d. negsuc 14000999 ≤ℤ d) }
     ensures near_to { IfOk result (λ d. d ≤ℤ pos 14001100) }
 {
@@ -259,7 +271,9 @@ fn first_with_date<O: Oracle>(
     requires few { more ≤ 5 }
     requires low { negsuc 29998999 ≤ℤ from }
     requires high { (from +ℤ pos more) ≤ℤ pos 29999000 }
-    ensures day { Inquires O.meaning (spec.first_with_date more sought.year (pos sought.month) (spec.flag sought.leap_month) (pos sought.day) (spec.flag sought.leap_day) from other) (O.state oracle.old) (O.state oracle.new) result }
+    ensures day { Inquires O.meaning (spec.first_with_date more sought.year (pos sought.month)
+        (spec.flag sought.leap_month) (pos sought.day) (spec.flag sought.leap_day) from other)
+        (O.state oracle.old) (O.state oracle.new) result }
 {
     if more == 0 {
         return Ok(other);
@@ -321,7 +335,9 @@ fn day_from_middle<O: Oracle>(
     requires low { negsuc 14000999 ≤ℤ middle }
     requires high { middle ≤ℤ pos 14001100 }
     requires value { IsFactValue tithi }
-    ensures day { Inquires O.meaning (spec.day_from_middle sought.year (pos sought.month) (spec.flag sought.leap_month) (pos sought.day) (spec.flag sought.leap_day) middle tithi) (O.state oracle.old) (O.state oracle.new) result }
+    ensures day { Inquires O.meaning (spec.day_from_middle sought.year (pos sought.month)
+        (spec.flag sought.leap_month) (pos sought.day) (spec.flag sought.leap_day) middle tithi)
+        (O.state oracle.old) (O.state oracle.new) result }
 {
     let other = day_by_tithi(middle, tithi, sought.day);
     first_with_date(oracle, DAYS_TRIED, sought, other - 2, other)
@@ -332,7 +348,9 @@ fn day_from_middle<O: Oracle>(
 fn day_by_middle<O: Oracle>(oracle: &mut O, sought: HinduLunar, middle: i64) -> Result<i64, Stop>
     requires low { negsuc 14000999 ≤ℤ middle }
     requires high { middle ≤ℤ pos 14001100 }
-    ensures day { Inquires O.meaning (spec.day_by_middle sought.year (pos sought.month) (spec.flag sought.leap_month) (pos sought.day) (spec.flag sought.leap_day) middle) (O.state oracle.old) (O.state oracle.new) result }
+    ensures day { Inquires O.meaning (spec.day_by_middle sought.year (pos sought.month)
+        (spec.flag sought.leap_month) (pos sought.day) (spec.flag sought.leap_day) middle)
+        (O.state oracle.old) (O.state oracle.new) result }
 {
     let tithi = oracle.ask(fact_on(Kind::Tithi, middle))?;
     day_from_middle(oracle, sought, middle, tithi)
@@ -355,7 +373,9 @@ pub fn to_fixed<O: Oracle>(oracle: &mut O, date: HinduLunar) -> Result<i64, Stop
     requires to_2105 { date.year ≤ℤ pos 2105 }
     requires from_first_month { 1 ≤ date.month }
     requires to_last_month { date.month ≤ 12 }
-    ensures day { Inquires O.meaning (spec.hindu_lunar_day date.year (pos date.month) (spec.flag date.leap_month) (pos date.day) (spec.flag date.leap_day)) (O.state oracle.old) (O.state oracle.new) result }
+    ensures day { Inquires O.meaning (spec.hindu_lunar_day date.year (pos date.month)
+        (spec.flag date.leap_month) (pos date.day) (spec.flag date.leap_day)) (O.state oracle.old)
+        (O.state oracle.new) result }
 {
     let by_sun = day_by_sun(i64::from(date.year), i64::from(date.month));
     let there = oracle.ask(fact_on(Kind::Tithi, by_sun))?;
@@ -403,7 +423,8 @@ fn date_of(fields: &Fields) -> HinduLunar
 pub fn named_day<O: Oracle>(oracle: &mut O, fields: &Fields) -> Result<i64, Stop>
     requires possible { IsTrue (may_have LunarCalendar fields.now) }
     requires in_reach { IsTrue (is_answered LunarCalendar fields.now) }
-    ensures day { Inquires O.meaning (day_named LunarCalendar fields.now) (O.state oracle.old) (O.state oracle.new) result }
+    ensures day { Inquires O.meaning (day_named LunarCalendar fields.now) (O.state oracle.old)
+        (O.state oracle.new) result }
 {
     to_fixed(oracle, date_of(fields))
 }
@@ -411,7 +432,8 @@ pub fn named_day<O: Oracle>(oracle: &mut O, fields: &Fields) -> Result<i64, Stop
 /// The fields of the date of a day (R.D.), from 1 January 1802 to 31 December 2048. It stops where the oracle stops.
 pub fn date_on<O: Oracle>(oracle: &mut O, day: i64) -> Result<Fields, Stop>
     requires in_range { IsTrue (is_in_range day) }
-    ensures date { Inquires O.meaning (date_of_day LunarCalendar day) (O.state oracle.old) (O.state oracle.new) result }
+    ensures date { Inquires O.meaning (date_of_day LunarCalendar day) (O.state oracle.old)
+        (O.state oracle.new) result }
 {
     match from_fixed(oracle, day) {
         Ok(date) => Ok(fields_of(date)),

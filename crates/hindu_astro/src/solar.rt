@@ -70,7 +70,8 @@ fn date_by(day: i64, sign: i64, year: i64, first: i64) -> HinduSolar
 pub fn from_fixed<O: Oracle>(oracle: &mut O, day: i64) -> Result<HinduSolar, Stop>
     requires from { pos 0 ≤ℤ day }
     requires to { day ≤ℤ pos 1000000 }
-    ensures date { Inquires O.meaning (spec.hindu_solar_on day) (O.state oracle.old) (O.state oracle.new) (map_ok fields_of_solar result) }
+    ensures date { Inquires O.meaning (spec.hindu_solar_on day) (O.state oracle.old)
+        (O.state oracle.new) (map_ok fields_of_solar result) }
 {
     let sign = oracle.ask(fact_on(Kind::Sign, day))?;
     let year = oracle.ask(fact_on(Kind::SolarYear, day))?;
@@ -118,7 +119,8 @@ pub fn to_fixed<O: Oracle>(oracle: &mut O, date: HinduSolar) -> Result<i64, Stop
     requires to_last_month { date.month ≤ 12 }
     requires from_first_day { 1 ≤ date.day }
     requires to_last_day { date.day ≤ 32 }
-    ensures day { Inquires O.meaning (spec.hindu_solar_day date.year (pos date.month) (pos date.day)) (O.state oracle.old) (O.state oracle.new) result }
+    ensures day { Inquires O.meaning (spec.hindu_solar_day date.year (pos date.month)
+        (pos date.day)) (O.state oracle.old) (O.state oracle.new) result }
 {
     let within = day_within(i64::from(date.year), i64::from(date.month));
     let first = oracle.ask(fact_on(Kind::Sankranti, within))?;
@@ -155,7 +157,8 @@ fn date_of(fields: &Fields) -> HinduSolar
 pub fn named_day<O: Oracle>(oracle: &mut O, fields: &Fields) -> Result<i64, Stop>
     requires possible { IsTrue (may_have SolarCalendar fields.now) }
     requires in_reach { IsTrue (is_answered SolarCalendar fields.now) }
-    ensures day { Inquires O.meaning (day_named SolarCalendar fields.now) (O.state oracle.old) (O.state oracle.new) result }
+    ensures day { Inquires O.meaning (day_named SolarCalendar fields.now) (O.state oracle.old)
+        (O.state oracle.new) result }
 {
     to_fixed(oracle, date_of(fields))
 }
@@ -163,7 +166,8 @@ pub fn named_day<O: Oracle>(oracle: &mut O, fields: &Fields) -> Result<i64, Stop
 /// The fields of the date of a day (R.D.), from 1 January 1802 to 31 December 2048. It stops where the oracle stops.
 pub fn date_on<O: Oracle>(oracle: &mut O, day: i64) -> Result<Fields, Stop>
     requires in_range { IsTrue (is_in_range day) }
-    ensures date { Inquires O.meaning (date_of_day SolarCalendar day) (O.state oracle.old) (O.state oracle.new) result }
+    ensures date { Inquires O.meaning (date_of_day SolarCalendar day) (O.state oracle.old)
+        (O.state oracle.new) result }
 {
     match from_fixed(oracle, day) {
         Ok(date) => Ok(fields_of(date)),

@@ -113,7 +113,8 @@ fn start(day: i64, degrees: i64) -> i64
 fn first_in_sign<E: Enclosure>(sign: i64, from: i64, trail: &mut Trail) -> Result<i64, Fail>
     requires low { pos 600000 ≤ℤ from }
     requires high { from ≤ℤ pos 800000 }
-    ensures leads { Decides (first_day_from (spec.has_sign_at sign) from) trail.old.count trail.new.count result }
+    ensures leads { Decides (first_day_from (spec.has_sign_at sign) from) trail.old.count
+        trail.new.count result }
     ensures value { IfOk result IsFactValue }
 {
     first_day::<E, InSign>(&InSign { sign }, from, trail)
@@ -123,7 +124,8 @@ fn first_in_sign<E: Enclosure>(sign: i64, from: i64, trail: &mut Trail) -> Resul
 #[tactic(auto, using(book_model::proofs::Leads::leading), unfolding(book_model::specs::sky::HinduFacts::sign_entered_of))]
 fn sign_entered<E: Enclosure>(day: i64, t: E, trail: &mut Trail) -> Result<i64, Fail>
     requires day { IsValueDay day }
-    ensures leads { Decides1 E.shown (spec.sign_entered_of day) t trail.old.count trail.new.count result }
+    ensures leads { Decides1 E.shown (spec.sign_entered_of day) t trail.old.count trail.new.count
+        result }
     ensures value { IfOk result IsFactValue }
 {
     let there = sign(t, trail)?;
@@ -155,7 +157,8 @@ pub fn sankranti<E: Enclosure>(day: i64, trail: &mut Trail) -> Result<i64, Fail>
 /// The whole lunar days that have passed of a month at a moment.
 #[tactic(auto, using(book_model::proofs::Leads::leading), unfolding(book_model::specs::sky::HinduFacts::lunar_days_passed_of))]
 fn whole_lunar_days<E: Enclosure>(t: E, trail: &mut Trail) -> Result<i64, Fail>
-    ensures leads { Decides1 E.shown spec.lunar_days_passed_of t trail.old.count trail.new.count result }
+    ensures leads { Decides1 E.shown spec.lunar_days_passed_of t trail.old.count trail.new.count
+        result }
 {
     match phase(t, trail) {
         Ok(degrees) => floor_step(degrees.mul_frac(DEGREE_IN_LUNAR_DAYS), Site::Round, trail),
@@ -165,7 +168,8 @@ fn whole_lunar_days<E: Enclosure>(t: E, trail: &mut Trail) -> Result<i64, Fail>
 
 /// The same, from 0 to 30.
 fn lunar_days_passed<E: Enclosure>(t: E, trail: &mut Trail) -> Result<i64, Fail>
-    ensures leads { Decides1 E.shown spec.lunar_days_passed_of t trail.old.count trail.new.count result }
+    ensures leads { Decides1 E.shown spec.lunar_days_passed_of t trail.old.count trail.new.count
+        result }
     ensures near { IfOk result IsLunarDay }
 {
     whole_lunar_days(t, trail)

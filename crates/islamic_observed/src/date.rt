@@ -65,7 +65,8 @@ fn date_by(day: i64, first: i64) -> IslamicDate
     requires from { pos 0 ≤ℤ day }
     requires to { day ≤ℤ pos 1000000 }
     requires value { IsFactValue first }
-    ensures date { fields_of_date result ≡ spec.date_in (spec.months_before first) (day -ℤ first +ℤ pos 1) }
+    ensures date { fields_of_date result ≡ spec.date_in (spec.months_before first)
+        (day -ℤ first +ℤ pos 1) }
 {
     date_in(months_before(first), day_of(day, first))
 }
@@ -83,7 +84,8 @@ fn date_by(day: i64, first: i64) -> IslamicDate
 pub fn from_fixed<O: Oracle>(oracle: &mut O, day: i64) -> Result<IslamicDate, Stop>
     requires from { pos 0 ≤ℤ day }
     requires to { day ≤ℤ pos 1000000 }
-    ensures date { Inquires O.meaning (spec.islamic_on day) (O.state oracle.old) (O.state oracle.new) (map_ok fields_of_date result) }
+    ensures date { Inquires O.meaning (spec.islamic_on day) (O.state oracle.old)
+        (O.state oracle.new) (map_ok fields_of_date result) }
 {
     let first = oracle.ask(month_fact_on(day))?;
     Ok(date_by(day, first))
@@ -117,7 +119,8 @@ pub fn to_fixed<O: Oracle>(oracle: &mut O, date: IslamicDate) -> Result<i64, Sto
     requires to_last_month { date.month ≤ 12 }
     requires from_first_day { 1 ≤ date.day }
     requires to_last_day { date.day ≤ 30 }
-    ensures day { Inquires O.meaning (spec.islamic_day date.year (pos date.month) (pos date.day)) (O.state oracle.old) (O.state oracle.new) result }
+    ensures day { Inquires O.meaning (spec.islamic_day date.year (pos date.month) (pos date.day))
+        (O.state oracle.old) (O.state oracle.new) result }
 {
     let first = oracle.ask(month_fact(i64::from(date.year), i64::from(date.month)))?;
     Ok(day_by(first, i64::from(date.day)))

@@ -20,7 +20,9 @@ fn fixed_day(date: &Fields) -> i64
 /// Whether the day of a date is one that is answered, where it is known without any fact; `None` where the month of the
 /// date hasn't this day.
 fn has_day_in_range(calendar: Calendar, date: &Fields) -> Option<bool>
-    ensures day { MatchOption result (spec.is_in_month calendar date.now ≡ false) (λ near. (spec.is_in_month calendar date.now ≡ true) × (near ≡ spec.has_day_in_range calendar date.now)) }
+    ensures day { MatchOption result (spec.is_in_month calendar date.now ≡ false)
+        (λ near. (spec.is_in_month calendar date.now ≡ true)
+        × (near ≡ spec.has_day_in_range calendar date.now)) }
 {
     match calendar {
         Calendar::Gregorian => Some(is_in_range(gregorian_day(date)?)),
@@ -84,7 +86,8 @@ pub(crate) fn named_day<O: Oracle>(
 ) -> Result<i64, Stop>
     requires possible { IsTrue (spec.may_have calendar date.now) }
     requires in_reach { IsTrue (spec.is_answered calendar date.now) }
-    ensures comes { Inquires O.meaning (spec.day_named calendar date.now) (O.state oracle.old) (O.state oracle.new) result }
+    ensures comes { Inquires O.meaning (spec.day_named calendar date.now) (O.state oracle.old)
+        (O.state oracle.new) result }
 {
     match calendar {
         Calendar::Gregorian => Ok(day_of_gregorian(date)),
@@ -106,7 +109,8 @@ pub(crate) fn date_on<O: Oracle>(
     day: i64,
 ) -> Result<Fields, Stop>
     requires in_range { IsTrue (spec.is_in_range day) }
-    ensures comes { Inquires O.meaning (spec.date_on calendar day) (O.state oracle.old) (O.state oracle.new) result }
+    ensures comes { Inquires O.meaning (spec.date_on calendar day) (O.state oracle.old)
+        (O.state oracle.new) result }
 {
     match calendar {
         Calendar::Gregorian => Ok(gregorian_date(day)),

@@ -16,7 +16,8 @@ fn first_dash(word: &[u8]) -> Option<usize>
 
 /// What stands before the first dash, and what follows it, if there is one.
 fn cut_part(word: &[u8]) -> (&[u8], Option<&[u8]>)
-    ensures cut { MatchOption result.1 (spec.parts_of word.now ≡ result.0.now ∷ []) (λ rest. spec.parts_of word.now ≡ result.0.now ∷ spec.parts_of rest.now) }
+    ensures cut { MatchOption result.1 (spec.parts_of word.now ≡ result.0.now ∷ [])
+        (λ rest. spec.parts_of word.now ≡ result.0.now ∷ spec.parts_of rest.now) }
 {
     match first_dash(word) {
         Some(dash) => (&word[..dash], Some(&word[dash + 1..])),
@@ -45,7 +46,8 @@ fn number(digits: &[u8]) -> Option<u32>
 /// The numbers between the dashes of a date, as its fields; `None` where a part isn't a number of one to seven digits,
 /// or where there are more than five.
 pub(crate) fn spelled_fields(date: &[u8]) -> Option<Fields>
-    ensures fields { MatchOption result ((c : CalendarOf) → fields_of c date.now ≡ None) (λ f. (c : CalendarOf) → fields_of c date.now ≡ checked c f) }
+    ensures fields { MatchOption result ((c : CalendarOf) → fields_of c date.now ≡ None)
+        (λ f. (c : CalendarOf) → fields_of c date.now ≡ checked c f) }
 {
     let mut values = [0; 5];
     let mut count = 0;

@@ -26,7 +26,8 @@ fn date_day(year: u32, month: u32, day: u32) -> Option<i64>
 
 /// The day (R.D.) of a Gregorian date, if the calendar has it.
 pub(crate) fn gregorian_day(date: &Fields) -> Option<i64>
-    ensures some { IsSome result ↔ IsTrue (is_date (dates.field date.now 0) (dates.field date.now 1) (dates.field date.now 2)) }
+    ensures some { IsSome result ↔ IsTrue (is_date (dates.field date.now 0) (dates.field date.now 1)
+        (dates.field date.now 2)) }
     ensures day { IfSome result (λ n. n ≡ dates.gregorian_day date.now) }
 {
     date_day(date.field(0), date.field(1), date.field(2))

@@ -74,7 +74,8 @@ fn word_length(line: &[u8]) -> usize
 
 /// The first word of a line, which blanks end, and what follows it; `None` where the line has no word.
 pub fn cut_word(line: &[u8]) -> Option<(&[u8], &[u8])>
-    ensures cut { MatchOption result (spec.words_of line.now ≡ []) (λ p. spec.words_of line.now ≡ p.0.now ∷ spec.words_of p.1.now) }
+    ensures cut { MatchOption result (spec.words_of line.now ≡ [])
+        (λ p. spec.words_of line.now ≡ p.0.now ∷ spec.words_of p.1.now) }
 {
     match word_start(line) {
         Some(start) => {
@@ -87,7 +88,8 @@ pub fn cut_word(line: &[u8]) -> Option<(&[u8], &[u8])>
 
 /// The three words of a line, which blanks separate; `None` where it has fewer or more.
 pub fn three_words<'a>(line: &'a [u8]) -> Option<Words<'a>>
-    ensures words { IfSome result (λ w. spec.words_of line.now ≡ w.from.now ∷ w.date.now ∷ w.to.now ∷ []) }
+    ensures words { IfSome result (λ w. spec.words_of line.now
+        ≡ w.from.now ∷ w.date.now ∷ w.to.now ∷ []) }
     ensures three { IsSome result ↔ (length (spec.words_of line.now) ≡ 3) }
 {
     let (from, rest) = cut_word(line)?;
@@ -101,7 +103,8 @@ pub fn three_words<'a>(line: &'a [u8]) -> Option<Words<'a>>
 
 /// What three words ask.
 fn asked(words: Words<'_>) -> Result<Request, Rule>
-    ensures asked { result ≡ with_words (from_word_of words.entry.from.now) words.entry.date.now (to_word_of words.entry.to.now) }
+    ensures asked { result ≡ with_words (from_word_of words.entry.from.now) words.entry.date.now
+        (to_word_of words.entry.to.now) }
     ensures possible { IfOk result (λ r. IsTrue (is_possible r)) }
     ensures in_reach { IfOk result (λ r. IsTrue (is_in_reach r)) }
 {

@@ -22,7 +22,8 @@ fn show_date<O: Oracle>(
     day: i64,
 ) -> Result<Resolved, Stop>
     requires in_range { IsTrue (dates.is_in_range day) }
-    ensures comes { Inquires O.meaning (spec.shown_on to (Shown.Date calendar) day) (O.state oracle.old) (O.state oracle.new) result }
+    ensures comes { Inquires O.meaning (spec.shown_on to (Shown.Date calendar) day)
+        (O.state oracle.old) (O.state oracle.new) result }
 {
     let fields = date_on(oracle, calendar, day)?;
     Ok(Resolved::Shown(to, fields))
@@ -49,7 +50,8 @@ fn show_value<O: Oracle>(
 ) -> Result<Resolved, Stop>
     requires shown { shown_by to ≡ Shown.Value kind place }
     requires in_range { IsTrue (dates.is_in_range day) }
-    ensures comes { Inquires O.meaning (spec.shown_on to (Shown.Value kind place) day) (O.state oracle.old) (O.state oracle.new) result }
+    ensures comes { Inquires O.meaning (spec.shown_on to (Shown.Value kind place) day)
+        (O.state oracle.old) (O.state oracle.new) result }
 {
     let value = oracle.ask(fact_on(to, kind, place, day))?;
     Ok(Resolved::Shown(to, one_field(value)))
@@ -58,7 +60,8 @@ fn show_value<O: Oracle>(
 /// What a day (R.D.) comes to. It stops where the oracle stops.
 fn resolve_on<O: Oracle>(oracle: &mut O, to: ToWord, day: i64) -> Result<Resolved, Stop>
     requires in_range { IsTrue (dates.is_in_range day) }
-    ensures comes { Inquires O.meaning (spec.result_on to day) (O.state oracle.old) (O.state oracle.new) result }
+    ensures comes { Inquires O.meaning (spec.result_on to day) (O.state oracle.old)
+        (O.state oracle.new) result }
 {
     match to.shown() {
         Shown::Date(calendar) => show_date(oracle, to, calendar, day),
@@ -76,7 +79,8 @@ fn confirm<O: Oracle>(
     back: Fields,
 ) -> Result<Resolved, Stop>
     requires in_range { IsTrue (dates.is_in_range day) }
-    ensures comes { Inquires O.meaning (spec.confirmed request.now day back) (O.state oracle.old) (O.state oracle.new) result }
+    ensures comes { Inquires O.meaning (spec.confirmed request.now day back) (O.state oracle.old)
+        (O.state oracle.new) result }
 {
     if have_same_fields(&back, &request.date) {
         resolve_on(oracle, request.to, day)
@@ -90,7 +94,8 @@ fn confirm<O: Oracle>(
 #[tactic(auto, using(oracle_core::proofs::Inquiring::asking), unfolding(book_model::specs::lines::LineRules::result_within))]
 fn resolve_within<O: Oracle>(oracle: &mut O, request: &Request, day: i64) -> Result<Resolved, Stop>
     requires in_range { IsTrue (dates.is_in_range day) }
-    ensures comes { Inquires O.meaning (spec.result_within request.now day) (O.state oracle.old) (O.state oracle.new) result }
+    ensures comes { Inquires O.meaning (spec.result_within request.now day) (O.state oracle.old)
+        (O.state oracle.new) result }
 {
     let calendar = request.from.calendar();
     if !calendar.row().is_confirmed {
@@ -104,7 +109,8 @@ fn resolve_within<O: Oracle>(oracle: &mut O, request: &Request, day: i64) -> Res
 /// the calendar of the request has another date for it. It stops where the oracle stops.
 #[tactic(auto, using(oracle_core::proofs::Inquiring::asking), unfolding(book_model::specs::lines::LineRules::result_of_day))]
 fn resolve_day<O: Oracle>(oracle: &mut O, request: &Request, day: i64) -> Result<Resolved, Stop>
-    ensures comes { Inquires O.meaning (spec.result_of_day request.now day) (O.state oracle.old) (O.state oracle.new) result }
+    ensures comes { Inquires O.meaning (spec.result_of_day request.now day) (O.state oracle.old)
+        (O.state oracle.new) result }
 {
     if is_in_range(day) {
         resolve_within(oracle, request, day)
@@ -129,7 +135,8 @@ fn named_fact(from: FromWord, kind: Kind, place: Place, date: &Fields) -> Fact
 fn day_of_request<O: Oracle>(oracle: &mut O, request: &Request) -> Result<i64, Stop>
     requires possible { IsTrue (is_possible request.now) }
     requires in_reach { IsTrue (is_in_reach request.now) }
-    ensures comes { Inquires O.meaning (spec.day_by (named_by request.now.from) request.now.date) (O.state oracle.old) (O.state oracle.new) result }
+    ensures comes { Inquires O.meaning (spec.day_by (named_by request.now.from) request.now.date)
+        (O.state oracle.old) (O.state oracle.new) result }
 {
     match request.from.names() {
         Named::Date(calendar) => named_day(oracle, calendar, &request.date),
@@ -155,7 +162,8 @@ fn day_of_request<O: Oracle>(oracle: &mut O, request: &Request) -> Result<i64, S
 pub fn resolve<O: Oracle>(oracle: &mut O, request: &Request) -> Result<Resolved, Stop>
     requires possible { IsTrue (is_possible request.now) }
     requires in_reach { IsTrue (is_in_reach request.now) }
-    ensures comes { Inquires O.meaning (spec.rule_of request.now) (O.state oracle.old) (O.state oracle.new) result }
+    ensures comes { Inquires O.meaning (spec.rule_of request.now) (O.state oracle.old)
+        (O.state oracle.new) result }
 {
     let day = day_of_request(oracle, request)?;
     resolve_day(oracle, request, day)

@@ -31,8 +31,12 @@ pub(crate) struct Angles<E> {
 #[inline(always)]
 #[tactic(auto, using(time_scales::proofs::Powers::fourths), unfolding(book_model::specs::numbers::Polynomials::quartic_of, sun_core::specs::Daily::by_centuries, crate::specs::Daily::daily_quartic_of))]
 pub(crate) fn daily_quartic<E: Enclosure>(angle: &Quartic, days: E, c: E) -> E
-    ensures holds { (w : World) (x : Expression) → Within E.shown w x days → Within E.shown w (in_centuries x) c → Within E.shown w (quartic_of angle.now (in_centuries x)) result }
-    ensures narrow { (r : Reach) (x : Expression) → Narrow E.shown (limits_of E.BITS) r x days → Narrow E.shown (limits_of E.BITS) r (in_centuries x) c → Narrow E.shown (limits_of E.BITS) r (daily_quartic_of angle.now x) result }
+    ensures holds { (w : World) (x : Expression) → Within E.shown w x days
+        → Within E.shown w (in_centuries x) c → Within E.shown w
+        (quartic_of angle.now (in_centuries x)) result }
+    ensures narrow { (r : Reach) (x : Expression) → Narrow E.shown (limits_of E.BITS) r x days
+        → Narrow E.shown (limits_of E.BITS) r (in_centuries x) c
+        → Narrow E.shown (limits_of E.BITS) r (daily_quartic_of angle.now x) result }
 {
     let square = c.square();
     let cube = square.mul(c);
@@ -47,8 +51,12 @@ pub(crate) fn daily_quartic<E: Enclosure>(angle: &Quartic, days: E, c: E) -> E
 #[inline(always)]
 #[tactic(auto, using(time_scales::proofs::Powers::cubes), unfolding(book_model::specs::numbers::Polynomials::cubic_of, sun_core::specs::Daily::by_centuries, crate::specs::Daily::daily_cubic_of))]
 fn daily_cubic<E: Enclosure>(angle: &Cubic, days: E, c: E) -> E
-    ensures holds { (w : World) (x : Expression) → Within E.shown w x days → Within E.shown w (in_centuries x) c → Within E.shown w (cubic_of angle.now (in_centuries x)) result }
-    ensures narrow { (r : Reach) (x : Expression) → Narrow E.shown (limits_of E.BITS) r x days → Narrow E.shown (limits_of E.BITS) r (in_centuries x) c → Narrow E.shown (limits_of E.BITS) r (daily_cubic_of angle.now x) result }
+    ensures holds { (w : World) (x : Expression) → Within E.shown w x days
+        → Within E.shown w (in_centuries x) c → Within E.shown w
+        (cubic_of angle.now (in_centuries x)) result }
+    ensures narrow { (r : Reach) (x : Expression) → Narrow E.shown (limits_of E.BITS) r x days
+        → Narrow E.shown (limits_of E.BITS) r (in_centuries x) c
+        → Narrow E.shown (limits_of E.BITS) r (daily_cubic_of angle.now x) result }
 {
     let square = c.square();
     E::from_frac(angle.constant)
@@ -60,8 +68,12 @@ fn daily_cubic<E: Enclosure>(angle: &Cubic, days: E, c: E) -> E
 /// The angles by the days from noon of 1 January 2000, and these in centuries.
 #[tactic(auto, unfolding(book_model::specs::sky::Moon::lunar_angles_of, crate::specs::Daily::daily_angles_of))]
 pub(crate) fn angles_at<E: Enclosure>(days: E, c: E) -> Angles<E>
-    ensures holds { (w : World) (x : Expression) → Within E.shown w x days → Within E.shown w (in_centuries x) c → HoldAngles E.shown w (lunar_angles_of (in_centuries x)) result }
-    ensures narrow { (r : Reach) (x : Expression) → Narrow E.shown (limits_of E.BITS) r x days → Narrow E.shown (limits_of E.BITS) r (in_centuries x) c → KeepAngles E.shown (limits_of E.BITS) r (daily_angles_of x) result }
+    ensures holds { (w : World) (x : Expression) → Within E.shown w x days
+        → Within E.shown w (in_centuries x) c → HoldAngles E.shown w
+        (lunar_angles_of (in_centuries x)) result }
+    ensures narrow { (r : Reach) (x : Expression) → Narrow E.shown (limits_of E.BITS) r x days
+        → Narrow E.shown (limits_of E.BITS) r (in_centuries x) c
+        → KeepAngles E.shown (limits_of E.BITS) r (daily_angles_of x) result }
 {
     Angles {
         elongation: daily_quartic(&ELONGATION, days, c),

@@ -50,8 +50,11 @@ impl<E: Enclosure> Term<Angles<E>, E> for LatitudeTerm {
 /// The sum of the latitude's terms, in millionths of a degree.
 #[tactic(auto, unfolding(book_model::specs::sky::Latitude::latitude_terms_of))]
 fn latitude_terms<E: Enclosure>(angles: Angles<E>) -> E
-    ensures holds { (w : World) (a : LunarAngles) → DEPTH ≤ w.depth → HoldAngles E.shown w a angles → Within E.shown w (spec.latitude_terms_of a) result }
-    ensures narrow { (r : Reach) (a : LunarAngles) → KeepAngles E.shown (limits_of E.BITS) r a angles → Narrow E.shown (limits_of E.BITS) r (spec.latitude_terms_of a) result }
+    ensures holds { (w : World) (a : LunarAngles) → DEPTH ≤ w.depth → HoldAngles E.shown w a angles
+        → Within E.shown w (spec.latitude_terms_of a) result }
+    ensures narrow { (r : Reach) (a : LunarAngles) → KeepAngles E.shown
+        (limits_of E.BITS) r a angles → Narrow E.shown (limits_of E.BITS) r
+        (spec.latitude_terms_of a) result }
 {
     sum_of_terms::<Angles<E>, E, LatitudeTerm>(&LATITUDE_TERMS, angles)
 }
@@ -82,8 +85,14 @@ fn flattening<E: Enclosure>(longitude: E, anomaly: E) -> E
 /// The latitude in millionths of a degree, by the days from noon of 1 January 2000, and these in centuries.
 #[tactic(auto, unfolding(book_model::specs::sky::Latitude::millionths_of, crate::specs::Daily::computed_millionths_of))]
 fn millionths<E: Enclosure>(angles: Angles<E>, days: E, c: E) -> E
-    ensures holds { (w : World) (a : LunarAngles) (x : Expression) → DEPTH ≤ w.depth → HoldAngles E.shown w a angles → Within E.shown w x days → Within E.shown w (in_centuries x) c → Within E.shown w (spec.millionths_of a (in_centuries x)) result }
-    ensures narrow { (r : Reach) (a : LunarAngles) (x : Expression) → KeepAngles E.shown (limits_of E.BITS) r a angles → Narrow E.shown (limits_of E.BITS) r x days → Narrow E.shown (limits_of E.BITS) r (in_centuries x) c → Narrow E.shown (limits_of E.BITS) r (computed_millionths_of a x) result }
+    ensures holds { (w : World) (a : LunarAngles) (x : Expression) → DEPTH ≤ w.depth
+        → HoldAngles E.shown w a angles → Within E.shown w x days
+        → Within E.shown w (in_centuries x) c → Within E.shown w
+        (spec.millionths_of a (in_centuries x)) result }
+    ensures narrow { (r : Reach) (a : LunarAngles) (x : Expression)
+        → KeepAngles E.shown (limits_of E.BITS) r a angles → Narrow E.shown
+        (limits_of E.BITS) r x days → Narrow E.shown (limits_of E.BITS) r (in_centuries x) c
+        → Narrow E.shown (limits_of E.BITS) r (computed_millionths_of a x) result }
 {
     let longitude = daily_quartic(&MOON_LONGITUDE, days, c);
     latitude_terms(angles)
@@ -95,8 +104,12 @@ fn millionths<E: Enclosure>(angles: Angles<E>, days: E, c: E) -> E
 /// The latitude by the days from noon of 1 January 2000, and these in centuries.
 #[tactic(auto, unfolding(book_model::specs::sky::Latitude::latitude_at_of, crate::specs::Daily::computed_latitude_of))]
 fn latitude_at<E: Enclosure>(days: E, c: E) -> E
-    ensures holds { (w : World) (x : Expression) → DEPTH ≤ w.depth → Within E.shown w x days → Within E.shown w (in_centuries x) c → Within E.shown w (spec.latitude_at_of (in_centuries x)) result }
-    ensures narrow { (r : Reach) (x : Expression) → Narrow E.shown (limits_of E.BITS) r x days → Narrow E.shown (limits_of E.BITS) r (in_centuries x) c → Narrow E.shown (limits_of E.BITS) r (computed_latitude_of x) result }
+    ensures holds { (w : World) (x : Expression) → DEPTH ≤ w.depth → Within E.shown w x days
+        → Within E.shown w (in_centuries x) c → Within E.shown w
+        (spec.latitude_at_of (in_centuries x)) result }
+    ensures narrow { (r : Reach) (x : Expression) → Narrow E.shown (limits_of E.BITS) r x days
+        → Narrow E.shown (limits_of E.BITS) r (in_centuries x) c
+        → Narrow E.shown (limits_of E.BITS) r (computed_latitude_of x) result }
 {
     millionths(angles_at(days, c), days, c).mul_frac(MILLIONTH)
 }

@@ -50,8 +50,12 @@ impl<E: Enclosure> Term<Angles<E>, E> for MoonTerm {
 /// The sum of the longitude's terms, in millionths of a degree.
 #[tactic(auto, unfolding(book_model::specs::sky::Moon::longitude_terms_of, crate::specs::Daily::computed_terms_of))]
 fn longitude_terms<E: Enclosure>(days: E, c: E) -> E
-    ensures holds { (w : World) (x : Expression) → Within E.shown w x days → Within E.shown w (in_centuries x) c → Within E.shown w (spec.longitude_terms_of (in_centuries x)) result }
-    ensures narrow { (r : Reach) (x : Expression) → Narrow E.shown (limits_of E.BITS) r x days → Narrow E.shown (limits_of E.BITS) r (in_centuries x) c → Narrow E.shown (limits_of E.BITS) r (computed_terms_of x) result }
+    ensures holds { (w : World) (x : Expression) → Within E.shown w x days
+        → Within E.shown w (in_centuries x) c → Within E.shown w
+        (spec.longitude_terms_of (in_centuries x)) result }
+    ensures narrow { (r : Reach) (x : Expression) → Narrow E.shown (limits_of E.BITS) r x days
+        → Narrow E.shown (limits_of E.BITS) r (in_centuries x) c
+        → Narrow E.shown (limits_of E.BITS) r (computed_terms_of x) result }
 {
     sum_of_terms::<Angles<E>, E, MoonTerm>(&MOON_TERMS, angles_at(days, c))
 }
@@ -59,8 +63,12 @@ fn longitude_terms<E: Enclosure>(days: E, c: E) -> E
 /// What the flattening of the earth adds, in millionths of a degree.
 #[tactic(auto, unfolding(book_model::specs::sky::Moon::flattening_of, crate::specs::Daily::computed_flattening_of))]
 fn flattening<E: Enclosure>(days: E, c: E) -> E
-    ensures holds { (w : World) (x : Expression) → Within E.shown w x days → Within E.shown w (in_centuries x) c → Within E.shown w (spec.flattening_of (in_centuries x)) result }
-    ensures narrow { (r : Reach) (x : Expression) → Narrow E.shown (limits_of E.BITS) r x days → Narrow E.shown (limits_of E.BITS) r (in_centuries x) c → Narrow E.shown (limits_of E.BITS) r (computed_flattening_of x) result }
+    ensures holds { (w : World) (x : Expression) → Within E.shown w x days
+        → Within E.shown w (in_centuries x) c → Within E.shown w
+        (spec.flattening_of (in_centuries x)) result }
+    ensures narrow { (r : Reach) (x : Expression) → Narrow E.shown (limits_of E.BITS) r x days
+        → Narrow E.shown (limits_of E.BITS) r (in_centuries x) c
+        → Narrow E.shown (limits_of E.BITS) r (computed_flattening_of x) result }
 {
     let angle = daily_quartic(&MOON_LONGITUDE, days, c).sub(daily_quartic(
         &LATITUDE_ARGUMENT,
@@ -73,8 +81,12 @@ fn flattening<E: Enclosure>(days: E, c: E) -> E
 /// What the moon is ahead of its mean longitude, in millionths of a degree.
 #[tactic(auto, unfolding(book_model::specs::sky::Moon::inequalities_of, crate::specs::Daily::computed_inequalities_of))]
 fn inequalities<E: Enclosure>(days: E, c: E) -> E
-    ensures holds { (w : World) (x : Expression) → Within E.shown w x days → Within E.shown w (in_centuries x) c → Within E.shown w (spec.inequalities_of (in_centuries x)) result }
-    ensures narrow { (r : Reach) (x : Expression) → Narrow E.shown (limits_of E.BITS) r x days → Narrow E.shown (limits_of E.BITS) r (in_centuries x) c → Narrow E.shown (limits_of E.BITS) r (computed_inequalities_of x) result }
+    ensures holds { (w : World) (x : Expression) → Within E.shown w x days
+        → Within E.shown w (in_centuries x) c → Within E.shown w
+        (spec.inequalities_of (in_centuries x)) result }
+    ensures narrow { (r : Reach) (x : Expression) → Narrow E.shown (limits_of E.BITS) r x days
+        → Narrow E.shown (limits_of E.BITS) r (in_centuries x) c
+        → Narrow E.shown (limits_of E.BITS) r (computed_inequalities_of x) result }
 {
     longitude_terms(days, c)
         .add(sine_wave(&VENUS_WAVE, days))
@@ -85,9 +97,16 @@ fn inequalities<E: Enclosure>(days: E, c: E) -> E
 /// The longitude of the moon by the days from noon of 1 January 2000, and these in centuries; not reduced.
 #[tactic(auto, unfolding(book_model::specs::sky::Moon::moon_longitude_of, crate::specs::Daily::computed_longitude_of))]
 fn longitude<E: Enclosure>(days: E, c: E) -> E
-    ensures holds { (w : World) (x : Expression) → Within E.shown w x days → Within E.shown w (in_centuries x) c → Within E.shown w (spec.moon_longitude_of (in_centuries x)) result }
-    ensures narrow { (r : Reach) (x : Expression) → Narrow E.shown (limits_of E.BITS) r x days → Narrow E.shown (limits_of E.BITS) r (in_centuries x) c → Narrow E.shown (limits_of E.BITS) r (computed_longitude_of x) result }
-    ensures close { (w : ℕ) → E.BITS ≡ 36 → Narrow E.shown (limits_of E.BITS) (record { width = w; bounds = days_of_years }) (argument 0) days → Narrow E.shown (limits_of E.BITS) (record { width = w; bounds = days_of_years }) (in_centuries (argument 0)) c → IsNarrow w longitude_bound (E.shown result) }
+    ensures holds { (w : World) (x : Expression) → Within E.shown w x days
+        → Within E.shown w (in_centuries x) c → Within E.shown w
+        (spec.moon_longitude_of (in_centuries x)) result }
+    ensures narrow { (r : Reach) (x : Expression) → Narrow E.shown (limits_of E.BITS) r x days
+        → Narrow E.shown (limits_of E.BITS) r (in_centuries x) c
+        → Narrow E.shown (limits_of E.BITS) r (computed_longitude_of x) result }
+    ensures close { (w : ℕ) → E.BITS ≡ 36 → Narrow E.shown (limits_of E.BITS)
+        (record { width = w; bounds = days_of_years }) (argument 0) days
+        → Narrow E.shown (limits_of E.BITS) (record { width = w; bounds = days_of_years })
+        (in_centuries (argument 0)) c → IsNarrow w longitude_bound (E.shown result) }
 {
     daily_quartic(&MOON_LONGITUDE, days, c)
         .add(inequalities(days, c).mul_frac(MILLIONTH))

@@ -61,7 +61,8 @@ fn months_since<E: Enclosure>(n: i64, t: E, trail: &mut Trail) -> Result<E, Fail
 /// The whole number of months that is nearest, as one test.
 #[tactic(auto, using(book_model::proofs::Leads::leading), unfolding(book_model::specs::sky::Phases::nearest_moon_of, book_model::specs::programs::Leading::next_turn))]
 fn nearest_moon<E: Enclosure>(months: E, trail: &mut Trail) -> Result<i64, Fail>
-    ensures leads { Decides1 E.shown spec.nearest_moon_of months trail.old.count trail.new.count result }
+    ensures leads { Decides1 E.shown spec.nearest_moon_of months trail.old.count trail.new.count
+        result }
     ensures counted { trail.new.count ≤ trail.old.count + 1 }
 {
     floor_step(months.add(E::from_frac(HALF)), Site::MoonNumber, trail)
@@ -93,7 +94,8 @@ fn rough_number<E: Enclosure>(t: E, trail: &mut Trail) -> Result<i64, Fail>
 /// What is left of so many months by whole months, as one test.
 #[tactic(auto, using(book_model::proofs::Leads::leading), unfolding(book_model::specs::sky::Phases::rest_of_month, book_model::specs::programs::Leading::next_turn))]
 fn rest_of_month<E: Enclosure>(months: E, trail: &mut Trail) -> Result<E, Fail>
-    ensures leads { Follows1 E.shown spec.rest_of_month months trail.old.count trail.new.count result }
+    ensures leads { Follows1 E.shown spec.rest_of_month months trail.old.count trail.new.count
+        result }
     ensures counted { trail.new.count ≤ trail.old.count + 1 }
 {
     wrap_step(months, 1, Site::PhaseWrap, trail)
@@ -104,7 +106,8 @@ fn rest_of_month<E: Enclosure>(months: E, trail: &mut Trail) -> Result<E, Fail>
 fn phase_by_months<E: Enclosure>(n: i64, t: E, trail: &mut Trail) -> Result<E, Fail>
     requires low { negsuc 39999999 ≤ℤ n }
     requires high { n ≤ℤ pos 40000000 }
-    ensures leads { Follows1 E.shown (spec.phase_by_months_of n) t trail.old.count trail.new.count result }
+    ensures leads { Follows1 E.shown (spec.phase_by_months_of n) t trail.old.count trail.new.count
+        result }
     ensures counted { trail.new.count ≤ trail.old.count + 2 }
 {
     let months = months_since(n, t, trail)?;
@@ -133,7 +136,8 @@ fn chosen<E: Enclosure>(apart: bool, by_longitudes: E, by_time: E) -> E
 /// The phase by longitudes, or the one by the time where they are more than 180 degrees apart: one test.
 #[tactic(auto, using(book_model::proofs::Leads::leading), unfolding(book_model::specs::sky::Phases::picked_of, book_model::specs::programs::Leading::next_turn))]
 fn picked<E: Enclosure>(by_longitudes: E, by_time: E, trail: &mut Trail) -> Result<E, Fail>
-    ensures leads { Follows2 E.shown spec.picked_of by_longitudes by_time trail.old.count trail.new.count result }
+    ensures leads { Follows2 E.shown spec.picked_of by_longitudes by_time trail.old.count
+        trail.new.count result }
     ensures counted { trail.new.count ≤ trail.old.count + 1 }
 {
     let apart = size(by_longitudes.sub(by_time));
@@ -147,7 +151,8 @@ fn picked<E: Enclosure>(by_longitudes: E, by_time: E, trail: &mut Trail) -> Resu
 #[tactic(auto, using(book_model::proofs::Leads::leading), unfolding(book_model::specs::sky::Phases::corrected_of))]
 fn corrected<E: Enclosure>(by_longitudes: E, t: E, trail: &mut Trail) -> Result<E, Fail>
     requires in_table { IsInTable (E.shown t) }
-    ensures leads { Follows2 E.shown spec.corrected_of t by_longitudes trail.old.count trail.new.count result }
+    ensures leads { Follows2 E.shown spec.corrected_of t by_longitudes trail.old.count
+        trail.new.count result }
     ensures counted { trail.new.count ≤ trail.old.count + 5 }
 {
     let number = rough_number(t, trail)?;

@@ -43,7 +43,8 @@ fn reduced<E: Enclosure>(angle: E, trail: &mut Trail) -> Result<E, Fail>
 /// How far the moon is past a phase, from 0 up to 360 degrees: eleven tests at most.
 #[tactic(auto, using(book_model::proofs::Leads::leading), unfolding(book_model::specs::sky::Phases::phase_past_of))]
 fn phase_past<E: Enclosure>(phase: E, t: E, trail: &mut Trail) -> Result<E, Fail>
-    ensures leads { Follows2 E.shown spec.phase_past_of phase t trail.old.count trail.new.count result }
+    ensures leads { Follows2 E.shown spec.phase_past_of phase t trail.old.count trail.new.count
+        result }
     ensures early { trail.old.count ≡ 0 → IfErr result (IsEarlyYearFor (E.shown t)) }
     ensures counted { trail.new.count ≤ trail.old.count + 11 }
 {
@@ -65,7 +66,8 @@ fn phase_back<E: Enclosure>(angle: E, t: E) -> E
 /// When the moon is at a phase about a moment, but not after the moment `t`: 833 tests at most.
 #[tactic(auto, unfolding(book_model::specs::sky::Phases::phase_about_of))]
 fn phase_about<E: Enclosure>(phase: E, t: E, about: E, trail: &mut Trail) -> Result<E, Fail>
-    ensures leads { Follows3 E.shown spec.phase_about_of phase t about trail.old.count trail.new.count result }
+    ensures leads { Follows3 E.shown spec.phase_about_of phase t about trail.old.count
+        trail.new.count result }
     ensures counted { trail.new.count ≤ trail.old.count + 833 }
 {
     let days = E::from_int(DAYS_ABOUT);
@@ -97,7 +99,8 @@ pub fn phase_before<E: Enclosure>(p: E, t: E, trail: &mut Trail) -> Result<E, Fa
 #[tactic(auto, using(book_model::proofs::Leads::leading), unfolding(book_model::specs::sky::Phases::phase_day_of, book_model::specs::programs::Leading::next_turn))]
 fn floor_of_phase<E: Enclosure>(phase: i64, day: i64, trail: &mut Trail) -> Result<i64, Fail>
     ensures leads { Decides (spec.phase_day_of phase day) trail.old.count trail.new.count result }
-    ensures early { trail.old.count ≡ 0 → 36 ≤ E.BITS → E.BITS ≤ 56 → IsValueDay day → IfErr result IsNoEarlyYear }
+    ensures early { trail.old.count ≡ 0 → 36 ≤ E.BITS → E.BITS ≤ 56 → IsValueDay day
+        → IfErr result IsNoEarlyYear }
     ensures counted { trail.new.count ≤ trail.old.count + 845 }
 {
     match phase_before(E::from_int(phase), E::from_int(day), trail) {
@@ -111,7 +114,8 @@ fn floor_of_phase<E: Enclosure>(phase: i64, day: i64, trail: &mut Trail) -> Resu
 pub fn phase_day<E: Enclosure>(phase: i64, day: i64, trail: &mut Trail) -> Result<i64, Fail>
     ensures leads { Decides (spec.phase_day_of phase day) trail.old.count trail.new.count result }
     ensures near { IfOk result IsPhaseDay }
-    ensures early { trail.old.count ≡ 0 → 36 ≤ E.BITS → E.BITS ≤ 56 → IsValueDay day → IfErr result IsNoEarlyYear }
+    ensures early { trail.old.count ≡ 0 → 36 ≤ E.BITS → E.BITS ≤ 56 → IsValueDay day
+        → IfErr result IsNoEarlyYear }
     ensures counted { trail.new.count ≤ trail.old.count + 845 }
 {
     floor_of_phase::<E>(phase, day, trail)

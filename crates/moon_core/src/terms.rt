@@ -22,8 +22,12 @@ fn lunar_angle<E: Enclosure>(
     latitude_argument: i64,
     angles: Angles<E>,
 ) -> E
-    ensures holds { (w : World) (a : spec.LunarAngles) → HoldAngles E.shown w a angles → Within E.shown w (spec.lunar_angle_of a elongation sun_anomaly moon_anomaly latitude_argument) result }
-    ensures narrow { (r : Reach) (a : spec.LunarAngles) → KeepAngles E.shown (limits_of E.BITS) r a angles → Narrow E.shown (limits_of E.BITS) r (spec.lunar_angle_of a elongation sun_anomaly moon_anomaly latitude_argument) result }
+    ensures holds { (w : World) (a : spec.LunarAngles) → HoldAngles E.shown w a angles
+        → Within E.shown w (spec.lunar_angle_of a elongation sun_anomaly moon_anomaly
+        latitude_argument) result }
+    ensures narrow { (r : Reach) (a : spec.LunarAngles) → KeepAngles E.shown
+        (limits_of E.BITS) r a angles → Narrow E.shown (limits_of E.BITS) r
+        (spec.lunar_angle_of a elongation sun_anomaly moon_anomaly latitude_argument) result }
 {
     angles
         .elongation
@@ -52,8 +56,12 @@ pub(crate) fn lunar_term<E: Enclosure>(
     size: i64,
     angles: Angles<E>,
 ) -> E
-    ensures holds { (w : World) (a : spec.LunarAngles) → DEPTH ≤ w.depth → HoldAngles E.shown w a angles → Within E.shown w (spec.lunar_term_of a elongation sun_anomaly moon_anomaly latitude_argument size) result }
-    ensures narrow { (r : Reach) (a : spec.LunarAngles) → KeepAngles E.shown (limits_of E.BITS) r a angles → Narrow E.shown (limits_of E.BITS) r (spec.lunar_term_of a elongation sun_anomaly moon_anomaly latitude_argument size) result }
+    ensures holds { (w : World) (a : spec.LunarAngles) → DEPTH ≤ w.depth
+        → HoldAngles E.shown w a angles → Within E.shown w (spec.lunar_term_of a elongation
+        sun_anomaly moon_anomaly latitude_argument size) result }
+    ensures narrow { (r : Reach) (a : spec.LunarAngles) → KeepAngles E.shown
+        (limits_of E.BITS) r a angles → Narrow E.shown (limits_of E.BITS) r
+        (spec.lunar_term_of a elongation sun_anomaly moon_anomaly latitude_argument size) result }
 {
     let sine = sin_deg(lunar_angle(
         elongation,

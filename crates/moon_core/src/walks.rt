@@ -16,7 +16,8 @@ const NUMBERS_TRIED: u32 = 6;
 fn is_moon_before<E: Enclosure>(n: i64, t: E, trail: &mut Trail) -> Result<bool, Fail>
     requires low { negsuc 39999999 ≤ℤ n }
     requires high { n ≤ℤ pos 40000000 }
-    ensures leads { Decides1 E.shown (spec.is_moon_before_of n) t trail.old.count trail.new.count result }
+    ensures leads { Decides1 E.shown (spec.is_moon_before_of n) t trail.old.count trail.new.count
+        result }
     ensures counted { trail.new.count ≤ trail.old.count + 2 }
 {
     match new_moon::<E>(n, trail) {
@@ -30,7 +31,8 @@ fn is_moon_before<E: Enclosure>(n: i64, t: E, trail: &mut Trail) -> Result<bool,
 fn walk<E: Enclosure>(more: u32, t: E, n: i64, trail: &mut Trail) -> Result<i64, Fail>
     requires low { negsuc 39999999 ≤ℤ n }
     requires high { (n +ℤ pos more) ≤ℤ pos 40000000 }
-    ensures leads { Decides1 E.shown (λ x. spec.walk_of more x n) t trail.old.count trail.new.count result }
+    ensures leads { Decides1 E.shown (λ x. spec.walk_of more x n) t trail.old.count trail.new.count
+        result }
     ensures from { IfOk result (λ k. n ≤ℤ k) }
     ensures to { IfOk result (λ k. k ≤ℤ (n +ℤ pos more)) }
     ensures counted { trail.new.count ≤ trail.old.count + 2 * more }
@@ -50,7 +52,8 @@ fn walk<E: Enclosure>(more: u32, t: E, n: i64, trail: &mut Trail) -> Result<i64,
 fn moon_preceding<E: Enclosure>(n: i64, trail: &mut Trail) -> Result<E, Fail>
     requires low { negsuc 39999998 ≤ℤ n }
     requires high { n ≤ℤ pos 40000000 }
-    ensures leads { Follows E.shown (spec.moon_preceding_of n) trail.old.count trail.new.count result }
+    ensures leads { Follows E.shown (spec.moon_preceding_of n) trail.old.count trail.new.count
+        result }
     ensures counted { trail.new.count ≤ trail.old.count + 1 }
 {
     new_moon::<E>(n - 1, trail)

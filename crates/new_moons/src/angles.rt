@@ -27,8 +27,10 @@ pub(crate) struct Angles<E> {
 #[inline(always)]
 #[tactic(auto, unfolding(book_model::specs::sky::NewMoons::new_moon_angles_of, crate::specs::Angles::computed_angles_of))]
 pub(crate) fn angles_at<E: Enclosure>(time: Frac) -> Angles<E>
-    ensures holds { (w : World) → DEPTH ≤ w.depth → HoldAngles E.shown w (new_moon_angles_of (fraction_of time)) result }
-    ensures narrow { (r : Reach) → KeepAngles E.shown (limits_of E.BITS) r (computed_angles_of (fraction_of time)) result }
+    ensures holds { (w : World) → DEPTH ≤ w.depth → HoldAngles E.shown w
+        (new_moon_angles_of (fraction_of time)) result }
+    ensures narrow { (r : Reach) → KeepAngles E.shown (limits_of E.BITS) r
+        (computed_angles_of (fraction_of time)) result }
 {
     Angles {
         sun_anomaly: at_fraction::<E>(&NEW_MOON_SUN_ANOMALY, time),

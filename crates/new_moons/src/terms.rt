@@ -33,8 +33,11 @@ fn millionths(number: i128) -> Frac
 /// The sum of the multiples of the angles.
 #[tactic(auto, unfolding(book_model::specs::sky::NewMoons::angle_of_new_moon_term))]
 fn angle<E: Enclosure>(term: &NewMoonTerm, angles: Angles<E>) -> E
-    ensures holds { (w : World) (a : spec.NewMoonAngles) → HoldAngles E.shown w a angles → Within E.shown w (spec.angle_of_new_moon_term a term.now) result }
-    ensures narrow { (r : Reach) (a : spec.NewMoonAngles) → KeepAngles E.shown (limits_of E.BITS) r a angles → Narrow E.shown (limits_of E.BITS) r (spec.angle_of_new_moon_term a term.now) result }
+    ensures holds { (w : World) (a : spec.NewMoonAngles) → HoldAngles E.shown w a angles
+        → Within E.shown w (spec.angle_of_new_moon_term a term.now) result }
+    ensures narrow { (r : Reach) (a : spec.NewMoonAngles)
+        → KeepAngles E.shown (limits_of E.BITS) r a angles → Narrow E.shown (limits_of E.BITS) r
+        (spec.angle_of_new_moon_term a term.now) result }
 {
     angles
         .sun_anomaly

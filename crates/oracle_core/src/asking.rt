@@ -78,7 +78,8 @@ impl<'a, E: Evaluator> Asking<'a, E> {
     /// The value of a fact that isn't kept yet, by the evaluator; then it is kept. A stop changes nothing.
     fn evaluate(&mut self, fact: Fact) -> Result<i64, Stop>
         requires new { list_any (fact_eq fact) (facts_of self.old) ≡ false }
-        ensures asks { Inquires by_evaluator (ask_once fact) (after_pairs self.old) (after_pairs self.new) result }
+        ensures asks { Inquires by_evaluator (ask_once fact) (after_pairs self.old)
+            (after_pairs self.new) result }
         ensures value { IfOk result IsFactValue }
     {
         match self.evaluator.eval(fact) {

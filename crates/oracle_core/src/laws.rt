@@ -11,6 +11,8 @@ use crate::Oracle;
 /// asked the value which the oracle has beside the fact under which it is kept, whatever the table gives others.
 #[tactic(auto, using(crate::proofs::Tables::answers_over, crate::proofs::Tables::stops_over))]
 pub fn tables<T, O: Oracle>()
-    ensures answers { (i : Inquiry T) (old new : State O.Known) (a : T) → Inquires O.meaning i old new (Ok a) → AnswersOver O.meaning i old new a }
-    ensures stops { (i : Inquiry T) (old new : State O.Known) (s : Stop) → Inquires O.meaning i old new (Err s) → StopsOver O.meaning i old new s }
+    ensures answers { (i : Inquiry T) (old new : State O.Known) (a : T)
+        → Inquires O.meaning i old new (Ok a) → AnswersOver O.meaning i old new a }
+    ensures stops { (i : Inquiry T) (old new : State O.Known) (s : Stop)
+        → Inquires O.meaning i old new (Err s) → StopsOver O.meaning i old new s }
 {}

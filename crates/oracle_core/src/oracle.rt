@@ -50,7 +50,8 @@ pub trait Oracle {
     /// list of facts asked, unless it is there. A stop, of which each but want of memory names the fact under
     /// which the fact is kept, leaves that list as it was; it never comes at a fact that is in the list.
     fn ask(&mut self, fact: Fact) -> Result<i64, Stop>
-        ensures asks { Inquires Self.meaning (ask_once fact) (Self.state self.old) (Self.state self.new) result }
+        ensures asks { Inquires Self.meaning (ask_once fact) (Self.state self.old)
+            (Self.state self.new) result }
         ensures value { IfOk result IsFactValue };
 
     /// A fact has at most one value.

@@ -115,7 +115,8 @@ fn day_by(new_year: i64, month: i64, day: i64) -> i64
 pub fn from_fixed<O: Oracle>(oracle: &mut O, day: i64) -> Result<PersianDate, Stop>
     requires from { pos 0 ≤ℤ day }
     requires to { day ≤ℤ pos 1000000 }
-    ensures date { Inquires O.meaning (persian_on day) (O.state oracle.old) (O.state oracle.new) (map_ok fields_of_date result) }
+    ensures date { Inquires O.meaning (persian_on day) (O.state oracle.old) (O.state oracle.new)
+        (map_ok fields_of_date result) }
 {
     let first = oracle.ask(nowruz_fact_on(day))?;
     let year = year_begun(first);
@@ -141,7 +142,8 @@ pub fn to_fixed<O: Oracle>(oracle: &mut O, date: PersianDate) -> Result<i64, Sto
     requires to_last_month { date.month ≤ 12 }
     requires from_first_day { 1 ≤ date.day }
     requires to_last_day { date.day ≤ 31 }
-    ensures day { Inquires O.meaning (persian_day date.year (pos date.month) (pos date.day)) (O.state oracle.old) (O.state oracle.new) result }
+    ensures day { Inquires O.meaning (persian_day date.year (pos date.month) (pos date.day))
+        (O.state oracle.old) (O.state oracle.new) result }
     ensures near_low { IfOk result (λ d. negsuc 19999999 ≤ℤ d) }
     ensures near_high { IfOk result (λ d. d ≤ℤ pos 20000000) }
 {

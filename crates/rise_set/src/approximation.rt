@@ -48,7 +48,8 @@ fn approximation_on<E: Enclosure>(
     day: i64,
     trail: &mut Trail,
 ) -> Result<E, Fail>
-    ensures leads { Follows2 E.shown (λ a x. spec.approximation_on location.now twilight a x day) depression t trail.old.count trail.new.count result }
+    ensures leads { Follows2 E.shown (λ a x. spec.approximation_on location.now twilight a x day)
+        depression t trail.old.count trail.new.count result }
     ensures counted { trail.new.count ≤ trail.old.count + 9 }
 {
     match near_offset(location, twilight, depression, day, t, trail) {
@@ -68,7 +69,8 @@ pub(crate) fn approximation<E: Enclosure>(
     t: E,
     trail: &mut Trail,
 ) -> Result<E, Fail>
-    ensures leads { Follows2 E.shown (spec.approximation_of location.now twilight) depression t trail.old.count trail.new.count result }
+    ensures leads { Follows2 E.shown (spec.approximation_of location.now twilight) depression t
+        trail.old.count trail.new.count result }
     ensures counted { trail.new.count ≤ trail.old.count + 10 }
 {
     match floor_step(t, Site::DayFloor, trail) {

@@ -14,7 +14,8 @@ const APPROXIMATIONS: u32 = 12;
 /// Whether two moments are less than half a minute apart: one test.
 #[tactic(auto, using(book_model::proofs::Leads::leading), unfolding(book_model::specs::sky::Horizon::has_settled_of, book_model::specs::programs::Leading::next_turn))]
 fn has_settled<E: Enclosure>(old: E, new: E, trail: &mut Trail) -> Result<bool, Fail>
-    ensures leads { Decides2 E.shown spec.has_settled_of old new trail.old.count trail.new.count result }
+    ensures leads { Decides2 E.shown spec.has_settled_of old new trail.old.count trail.new.count
+        result }
     ensures counted { trail.new.count ≤ trail.old.count + 1 }
 {
     less_step(
@@ -36,7 +37,8 @@ fn settled<E: Enclosure>(
     t: E,
     trail: &mut Trail,
 ) -> Result<E, Fail>
-    ensures leads { Follows2 E.shown (spec.settled_of more location.now twilight) depression t trail.old.count trail.new.count result }
+    ensures leads { Follows2 E.shown (spec.settled_of more location.now twilight) depression t
+        trail.old.count trail.new.count result }
     ensures counted { trail.new.count ≤ trail.old.count + 11 * more }
 {
     if more == 0 {
@@ -59,7 +61,8 @@ fn depressed<E: Enclosure>(
     day: i64,
     trail: &mut Trail,
 ) -> Result<E, Fail>
-    ensures leads { Follows1 E.shown (λ a. spec.depression_of location.now twilight a day) depression trail.old.count trail.new.count result }
+    ensures leads { Follows1 E.shown (λ a. spec.depression_of location.now twilight a day)
+        depression trail.old.count trail.new.count result }
     ensures counted { trail.new.count ≤ trail.old.count + 132 }
 {
     settled(
@@ -82,7 +85,8 @@ pub fn dawn<E: Enclosure>(
     day: i64,
     trail: &mut Trail,
 ) -> Result<E, Fail>
-    ensures leads { Follows1 E.shown (λ a. spec.dawn_of location.now a day) depression trail.old.count trail.new.count result }
+    ensures leads { Follows1 E.shown (λ a. spec.dawn_of location.now a day) depression
+        trail.old.count trail.new.count result }
     ensures counted { trail.new.count ≤ trail.old.count + 132 }
 {
     depressed(location, Twilight::Dawn, depression, day, trail)
@@ -96,7 +100,8 @@ pub fn dusk<E: Enclosure>(
     day: i64,
     trail: &mut Trail,
 ) -> Result<E, Fail>
-    ensures leads { Follows1 E.shown (λ a. spec.dusk_of location.now a day) depression trail.old.count trail.new.count result }
+    ensures leads { Follows1 E.shown (λ a. spec.dusk_of location.now a day) depression
+        trail.old.count trail.new.count result }
     ensures counted { trail.new.count ≤ trail.old.count + 132 }
 {
     depressed(location, Twilight::Dusk, depression, day, trail)

@@ -46,7 +46,8 @@ pub fn sunrise<E: Enclosure>(day: i64, trail: &mut Trail) -> Result<E, Fail>
 /// Calculations, chapter 20): 132 tests at most. It is void where dusk is.
 #[tactic(auto, using(book_model::proofs::Leads::leading), unfolding(book_model::specs::sky::Horizon::hindu_sunset_of))]
 pub fn hsunset<E: Enclosure>(day: i64, trail: &mut Trail) -> Result<E, Fail>
-    ensures leads { Follows E.shown (spec.hindu_sunset_of day) trail.old.count trail.new.count result }
+    ensures leads { Follows E.shown (spec.hindu_sunset_of day) trail.old.count trail.new.count
+        result }
     ensures counted { trail.new.count ≤ trail.old.count + 132 }
 {
     match dusk(&UJJAIN, E::from_int(0), day, trail) {

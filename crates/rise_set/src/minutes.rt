@@ -70,7 +70,8 @@ fn sum(whole: i64, floor: i64, site: Site, turn: u32) -> Result<i64, Fail>
 /// The floor of a whole number and an enclosed one, as one test of both: what is enclosed stays small, so that it is narrow.
 #[tactic(auto, unfolding(book_model::specs::programs::Leading::next_turn))]
 fn floor_beside<E: Enclosure>(whole: i64, x: E, site: Site, trail: &mut Trail) -> Result<i64, Fail>
-    ensures leads { Decides1 E.shown (λ e. cell site integers (add (integer whole) e) answer) x trail.old.count trail.new.count result }
+    ensures leads { Decides1 E.shown (λ e. cell site integers (add (integer whole) e) answer) x
+        trail.old.count trail.new.count result }
     ensures counted { trail.new.count ≤ trail.old.count + 1 }
 {
     match floor_step(x, site, trail) {
@@ -93,7 +94,8 @@ fn minutes_after<E: Enclosure>(day: i64, t: E) -> E
 pub(crate) fn rounded_minutes<E: Enclosure>(day: i64, t: E, trail: &mut Trail) -> Result<i64, Fail>
     requires low { negsuc 39999999 ≤ℤ day }
     requires high { day ≤ℤ pos 40000000 }
-    ensures leads { Decides1 E.shown (spec.rounded_minutes_of day) t trail.old.count trail.new.count result }
+    ensures leads { Decides1 E.shown (spec.rounded_minutes_of day) t trail.old.count trail.new.count
+        result }
     ensures counted { trail.new.count ≤ trail.old.count + 1 }
 {
     floor_beside(

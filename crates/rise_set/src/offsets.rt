@@ -35,7 +35,8 @@ fn by_depression<E: Enclosure>(latitude: E, depression: E, declination: E) -> E
 /// The offset by the latitude, the depression and the declination, all in degrees.
 #[tactic(auto, unfolding(book_model::specs::sky::Horizon::offset_by))]
 fn offset_by<E: Enclosure>(latitude: Frac, depression: E, declination: E) -> E
-    ensures holds { Holds2 E.shown (spec.offset_by (fraction_of latitude)) depression declination result }
+    ensures holds { Holds2 E.shown (spec.offset_by (fraction_of latitude)) depression declination
+        result }
 {
     let north = E::from_frac(latitude);
     by_declination(north, declination).add(by_depression(north, depression, declination))
@@ -51,7 +52,8 @@ pub fn offset<E: Enclosure>(
     t: E,
     trail: &mut Trail,
 ) -> Result<E, Fail>
-    ensures leads { Follows2 E.shown (spec.offset_of location.now) depression t trail.old.count trail.new.count result }
+    ensures leads { Follows2 E.shown (spec.offset_of location.now) depression t trail.old.count
+        trail.new.count result }
     ensures counted { trail.new.count ≤ trail.old.count + 3 }
 {
     match declination(universal(location.longitude, t), trail) {
@@ -63,7 +65,8 @@ pub fn offset<E: Enclosure>(
 /// Whether an offset is no sine, so that the sun doesn't come to the depression: one test.
 #[tactic(auto, using(book_model::proofs::Leads::leading), unfolding(book_model::specs::sky::Horizon::is_out_of_reach, book_model::specs::programs::Leading::next_turn))]
 fn is_out_of_reach<E: Enclosure>(offset: E, trail: &mut Trail) -> Result<bool, Fail>
-    ensures leads { Decides1 E.shown spec.is_out_of_reach offset trail.old.count trail.new.count result }
+    ensures leads { Decides1 E.shown spec.is_out_of_reach offset trail.old.count trail.new.count
+        result }
     ensures counted { trail.new.count ≤ trail.old.count + 1 }
 {
     less_step(E::from_int(1), size(offset), Site::Offset, trail)
@@ -72,7 +75,8 @@ fn is_out_of_reach<E: Enclosure>(offset: E, trail: &mut Trail) -> Result<bool, F
 /// An offset that is reached; void at `offset` where it isn't.
 #[tactic(auto, using(book_model::proofs::Leads::leading), unfolding(book_model::specs::sky::Horizon::if_reached))]
 fn if_reached<E: Enclosure>(offset: E, out: bool, trail: &mut Trail) -> Result<E, Fail>
-    ensures leads { Follows1 E.shown (λ s. spec.if_reached s out) offset trail.old.count trail.new.count result }
+    ensures leads { Follows1 E.shown (λ s. spec.if_reached s out) offset trail.old.count
+        trail.new.count result }
     ensures counted { trail.new.count ≡ trail.old.count }
 {
     if out {
@@ -91,7 +95,8 @@ fn reached_offset<E: Enclosure>(
     t: E,
     trail: &mut Trail,
 ) -> Result<E, Fail>
-    ensures leads { Follows2 E.shown (spec.reached_offset_of location.now) depression t trail.old.count trail.new.count result }
+    ensures leads { Follows2 E.shown (spec.reached_offset_of location.now) depression t
+        trail.old.count trail.new.count result }
     ensures counted { trail.new.count ≤ trail.old.count + 4 }
 {
     let there = offset(location, depression, t, trail)?;
@@ -121,7 +126,8 @@ fn or_at_edge<E: Enclosure>(
     out: bool,
     trail: &mut Trail,
 ) -> Result<E, Fail>
-    ensures leads { Follows2 E.shown (λ a s. spec.or_at_edge location.now twilight a day s out) depression offset trail.old.count trail.new.count result }
+    ensures leads { Follows2 E.shown (λ a s. spec.or_at_edge location.now twilight a day s out)
+        depression offset trail.old.count trail.new.count result }
     ensures counted { trail.new.count ≤ trail.old.count + 4 }
 {
     if out {
@@ -142,7 +148,8 @@ pub(crate) fn near_offset<E: Enclosure>(
     t: E,
     trail: &mut Trail,
 ) -> Result<E, Fail>
-    ensures leads { Follows2 E.shown (λ a x. spec.near_offset_of location.now twilight a day x) depression t trail.old.count trail.new.count result }
+    ensures leads { Follows2 E.shown (λ a x. spec.near_offset_of location.now twilight a day x)
+        depression t trail.old.count trail.new.count result }
     ensures counted { trail.new.count ≤ trail.old.count + 8 }
 {
     let there = offset(location, depression, t, trail)?;

@@ -61,7 +61,8 @@ pub fn sunset_depression<E: Enclosure>(location: &Location) -> E
 /// tests at most. It is void where dusk is.
 #[tactic(auto, using(book_model::proofs::Leads::leading), unfolding(book_model::specs::sky::Horizon::sunset_of))]
 pub fn sunset<E: Enclosure>(location: &Location, day: i64, trail: &mut Trail) -> Result<E, Fail>
-    ensures leads { Follows E.shown (spec.sunset_of location.now day) trail.old.count trail.new.count result }
+    ensures leads { Follows E.shown (spec.sunset_of location.now day) trail.old.count
+        trail.new.count result }
     ensures counted { trail.new.count ≤ trail.old.count + 132 }
 {
     match dusk(location, sunset_depression::<E>(location), day, trail) {

@@ -45,7 +45,8 @@ fn shown_line(
     facts: Numbers,
 ) -> Result<CertLine, AllocError>
     requires three { length (words_of line.now) ≡ 3 }
-    ensures text { IfOk result (λ l. (number : ℕ) → cert.line_text number l ≡ model.listed_text number (words_of line.now) (model.result_text resolved) facts) }
+    ensures text { IfOk result (λ l. (number : ℕ) → cert.line_text number l
+        ≡ model.listed_text number (words_of line.now) (model.result_text resolved) facts) }
 {
     let echo = echo_of(alloc, line)?;
     match resolved {
@@ -75,7 +76,8 @@ fn found_block(
     facts: &FactValues,
 ) -> Result<Block, AllocError>
     requires three { length (words_of line.now) ≡ 3 }
-    ensures text { IfOk result (λ b. cert.block_text b ≡ model.block_text seen.old.keys number line.now (resolved_outcome resolved facts.now)) }
+    ensures text { IfOk result (λ b. cert.block_text b ≡ model.block_text seen.old.keys number
+        line.now (resolved_outcome resolved facts.now)) }
     ensures few { IfOk result (λ b. b.first + length b.facts ≤ 2 ^ 32) }
     ensures seen { OnOk result (seen.new.keys ≡ model.with_facts seen.old.keys facts.now) }
 {
@@ -102,9 +104,11 @@ pub(crate) fn block_of(
     outcome: &Outcome,
 ) -> Result<Block, AllocError>
     requires right { IsRightFor line.now (line_outcome outcome.now) }
-    ensures text { IfOk result (λ b. cert.block_text b ≡ model.block_text seen.old.keys number line.now (line_outcome outcome.now)) }
+    ensures text { IfOk result (λ b. cert.block_text b ≡ model.block_text seen.old.keys number
+        line.now (line_outcome outcome.now)) }
     ensures few { IfOk result (λ b. b.first + length b.facts ≤ 2 ^ 32) }
-    ensures seen { OnOk result (seen.new.keys ≡ model.seen_after seen.old.keys (line_outcome outcome.now)) }
+    ensures seen { OnOk result (seen.new.keys ≡ model.seen_after seen.old.keys
+        (line_outcome outcome.now)) }
 {
     match outcome {
         Outcome::Refused(rule) => {

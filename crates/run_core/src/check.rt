@@ -1,10 +1,10 @@
 //! Checks a printed file: a verdict for each of its lines, and how many there are of each kind.
-ghost use Rattle.std.specs.Prelude.{◌≡◌, ◌≤◌, ◌<◌, ◌+◌, ◌++◌, ◌⊎◌, [], length, filter, OnOk, OnErr, IfOk, IsErrOf};
+ghost use Rattle.std.specs.Prelude.{◌≡◌, ◌≤◌, ◌<◌, ◌+◌, ◌++◌, ◌⊎◌, [], length, filter, OnOk, IfOk, IsErrOf};
 ghost use Rattle.std.specs.List.{list_all};
-ghost use Rattle.std.specs.Io.KnownBytes.{Appends, Keeps};
+ghost use Rattle.std.specs.Io.KnownBytes.{Keeps};
 ghost use Rattle.cert_check.specs.Verdicts.{AreRightAnswers, IsCheckable};
 ghost use Rattle.cert_read.specs.declared.read.TheConstants.{LONGEST_FILE as longest_file};
-ghost use Rattle.byte_streams.specs.Stream.{Rose, HasCause, AppendsFront, Wrote};
+ghost use Rattle.byte_streams.specs.Stream.{HasCause, Rose, Writes, WritesFront, Wrote};
 ghost use Rattle.run_core.specs.Checking as spec;
 
 use crate::numbering::{count_of, number_after};
@@ -93,8 +93,11 @@ fn put_verdict<K: Sink>(
     count: usize,
     verdict: &Verdict,
 ) -> Result<(), WriteStop>
-    ensures ok { OnOk result (Wrote (K.written sink.old) (K.written sink.new) (pending.old.bytes.items ++ spec.verdict_text (count + 1) verdict.now) pending.new.bytes.items) }
-    ensures err { OnErr result (AppendsFront (K.written sink.old) (K.written sink.new) (pending.old.bytes.items ++ spec.verdict_text (count + 1) verdict.now)) }
+    ensures ok { OnOk result (Wrote (K.written sink.old) (K.written sink.new)
+        (pending.old.bytes.items ++ spec.verdict_text (count + 1) verdict.now)
+        pending.new.bytes.items) }
+    ensures err { WritesFront K.written sink.old sink.new
+        (pending.old.bytes.items ++ spec.verdict_text (count + 1) verdict.now) result }
     ensures fault { IsErrOf result WriteStop.Fault → Rose (K.faults sink.old) (K.faults sink.new) }
     ensures later { K.faults sink.old ≤ K.faults sink.new }
 {
@@ -115,8 +118,10 @@ fn put_counts<K: Sink>(
     pending: &mut Gathered,
     verdicts: &[Verdict],
 ) -> Result<(), WriteStop>
-    ensures ok { OnOk result (Appends (K.written sink.old) (K.written sink.new) (pending.old.bytes.items ++ spec.counts_of verdicts.now)) }
-    ensures err { OnErr result (AppendsFront (K.written sink.old) (K.written sink.new) (pending.old.bytes.items ++ spec.counts_of verdicts.now)) }
+    ensures ok { Writes K.written sink.old sink.new (pending.old.bytes.items
+        ++ spec.counts_of verdicts.now) result }
+    ensures err { WritesFront K.written sink.old sink.new
+        (pending.old.bytes.items ++ spec.counts_of verdicts.now) result }
     ensures fault { IsErrOf result WriteStop.Fault → Rose (K.faults sink.old) (K.faults sink.new) }
     ensures later { K.faults sink.old ≤ K.faults sink.new }
 {
@@ -140,8 +145,8 @@ fn write_verdicts<K: Sink>(
     sink: &mut K,
     verdicts: &[Verdict],
 ) -> Result<(), WriteStop>
-    ensures ok { OnOk result (Appends (K.written sink.old) (K.written sink.new) (spec.verdicts_text verdicts.now)) }
-    ensures err { OnErr result (AppendsFront (K.written sink.old) (K.written sink.new) (spec.verdicts_text verdicts.now)) }
+    ensures ok { Writes K.written sink.old sink.new (spec.verdicts_text verdicts.now) result }
+    ensures err { WritesFront K.written sink.old sink.new (spec.verdicts_text verdicts.now) result }
     ensures fault { IsErrOf result WriteStop.Fault → Rose (K.faults sink.old) (K.faults sink.new) }
     ensures later { K.faults sink.old ≤ K.faults sink.new }
 {
@@ -155,8 +160,8 @@ fn write_verdicts<K: Sink>(
 /// Writes the line that names the first bad line of bytes, and the rule that it breaks.
 #[tactic(auto, unfolding(crate::specs::Checking::bad_text))]
 fn write_bad<K: Sink>(sink: &mut K, line: u32, rule: u8) -> Result<(), Failed>
-    ensures ok { OnOk result (Appends (K.written sink.old) (K.written sink.new) (spec.bad_text line rule)) }
-    ensures err { OnErr result (AppendsFront (K.written sink.old) (K.written sink.new) (spec.bad_text line rule)) }
+    ensures ok { Writes K.written sink.old sink.new (spec.bad_text line rule) result }
+    ensures err { WritesFront K.written sink.old sink.new (spec.bad_text line rule) result }
     ensures cause { HasCause (K.faults sink.old) (K.faults sink.new) result }
 {
     write_two_counts(sink, b"bad ", line, b" ", u32::from(rule))
@@ -170,8 +175,10 @@ fn check_file<K: Sink, E: Evaluator>(
     file: &CertFile,
 ) -> Result<bool, WriteStop>
     requires checkable { IsCheckable file.now }
-    ensures ok { IfOk result (λ all. spec.ChecksFile (K.written sink.old) (K.written sink.new) file.now all) }
-    ensures fault { IsErrOf result WriteStop.Fault → spec.CutsFile (K.written sink.old) (K.written sink.new) file.now }
+    ensures ok { IfOk result (λ all. spec.ChecksFile (K.written sink.old)
+        (K.written sink.new) file.now all) }
+    ensures fault { IsErrOf result WriteStop.Fault → spec.CutsFile (K.written sink.old)
+        (K.written sink.new) file.now }
     ensures memory { IsErrOf result WriteStop.Memory →
         Keeps (K.written sink.old) (K.written sink.new) ⊎ spec.CutsFile (K.written sink.old) (K.written sink.new) file.now }
     ensures cause { IsErrOf result WriteStop.Fault → Rose (K.faults sink.old) (K.faults sink.new) }
@@ -195,7 +202,8 @@ pub(crate) fn check<K: Sink, E: Evaluator>(
 ) -> Result<Checked, WriteStop>
     requires short { length input.now ≤ longest_file }
     ensures ok { IfOk result (λ c. spec.Comes (K.written sink.old) (K.written sink.new) input.now c) }
-    ensures fault { IsErrOf result WriteStop.Fault → spec.CheckCutShort (K.written sink.old) (K.written sink.new) input.now }
+    ensures fault { IsErrOf result WriteStop.Fault → spec.CheckCutShort (K.written sink.old)
+        (K.written sink.new) input.now }
     ensures memory { IsErrOf result WriteStop.Memory →
         Keeps (K.written sink.old) (K.written sink.new) ⊎ spec.CheckCutShort (K.written sink.old) (K.written sink.new) input.now }
     ensures cause { IsErrOf result WriteStop.Fault → Rose (K.faults sink.old) (K.faults sink.new) }

@@ -61,8 +61,10 @@ fn add_fact(
     entry: &(Fact, i64),
 ) -> Result<(), AllocError>
     ensures seen { OnOk result (seen.new.keys ≡ with_fact seen.old.keys entry.now.0) }
-    ensures facts { OnOk result (into.new.facts ≡ into.old.facts ++ new_facts seen.old.keys (entry.now ∷ [])) }
-    ensures numbers { OnOk result (into.new.numbers ≡ into.old.numbers ++ numbers_of seen.old.keys (entry.now ∷ [])) }
+    ensures facts { OnOk result (into.new.facts ≡ into.old.facts ++ new_facts seen.old.keys
+        (entry.now ∷ [])) }
+    ensures numbers { OnOk result (into.new.numbers ≡ into.old.numbers ++ numbers_of seen.old.keys
+        (entry.now ∷ [])) }
 {
     let numbered = number_fact(seen, entry.0)?;
     into.numbers.push(numbered.number)?;

@@ -70,7 +70,8 @@ pub fn outcomes_of<E: Evaluator>(
     evaluator: &E,
     lines: &[&[u8]],
 ) -> Result<Vec<Outcome>, AllocError>
-    ensures { IfOk result (λ outcomes. AreRight (map (λ line. line.now) lines.now) (map line_outcome outcomes.items)) }
+    ensures { IfOk result (λ outcomes. AreRight (map (λ line. line.now) lines.now)
+        (map line_outcome outcomes.items)) }
 {
     let mut outcomes = Vec::new(alloc);
     for line in lines {

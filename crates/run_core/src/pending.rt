@@ -1,6 +1,6 @@
 //! Bytes that wait to be written, so that many blocks make few writes.
-ghost use Rattle.std.specs.Prelude.{◌≡◌, ◌≤◌, length, OnOk, OnErr};
-ghost use Rattle.byte_streams.specs.Stream.{HasCause, AppendsFront, Wrote};
+ghost use Rattle.std.specs.Prelude.{◌≡◌, ◌≤◌, length, OnOk};
+ghost use Rattle.byte_streams.specs.Stream.{HasCause, Writes, WritesFront, Wrote};
 
 use byte_streams::{Failed, Gathered, Sink, write_all};
 
@@ -14,9 +14,10 @@ pub(crate) fn settle<K: Sink>(
     pending: &mut Gathered,
     most: usize,
 ) -> Result<(), Failed>
-    ensures ok { OnOk result (Wrote (K.written sink.old) (K.written sink.new) pending.old.bytes.items pending.new.bytes.items) }
+    ensures ok { OnOk result (Wrote (K.written sink.old) (K.written sink.new)
+        pending.old.bytes.items pending.new.bytes.items) }
     ensures few { OnOk result (length pending.new.bytes.items ≤ most) }
-    ensures err { OnErr result (AppendsFront (K.written sink.old) (K.written sink.new) pending.old.bytes.items) }
+    ensures err { WritesFront K.written sink.old sink.new pending.old.bytes.items result }
     ensures cause { HasCause (K.faults sink.old) (K.faults sink.new) result }
 {
     if pending.bytes().len() > most {

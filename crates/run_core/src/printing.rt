@@ -52,8 +52,10 @@ fn print_lines<K: Sink, E: Evaluator>(
     evaluator: &E,
     lines: &[&[u8]],
 ) -> Result<bool, WriteStop>
-    ensures ok { IfOk result (λ all. Printed (K.written sink.old) (K.written sink.new) (map (λ line. line.now) lines.now) all) }
-    ensures fault { IsErrOf result WriteStop.Fault → CutShort (K.written sink.old) (K.written sink.new) (map (λ line. line.now) lines.now) }
+    ensures ok { IfOk result (λ all. Printed (K.written sink.old) (K.written sink.new)
+        (map (λ line. line.now) lines.now) all) }
+    ensures fault { IsErrOf result WriteStop.Fault → CutShort (K.written sink.old)
+        (K.written sink.new) (map (λ line. line.now) lines.now) }
     ensures memory { IsErrOf result WriteStop.Memory →
         Keeps (K.written sink.old) (K.written sink.new) ⊎ CutShort (K.written sink.old) (K.written sink.new) (map (λ line. line.now) lines.now) }
     ensures cause { IsErrOf result WriteStop.Fault → Rose (K.faults sink.old) (K.faults sink.new) }
@@ -72,8 +74,10 @@ pub(crate) fn convert<K: Sink, E: Evaluator>(
     evaluator: &E,
     input: &[u8],
 ) -> Result<bool, WriteStop>
-    ensures ok { IfOk result (λ all. Printed (K.written sink.old) (K.written sink.new) (lines_of input.now) all) }
-    ensures fault { IsErrOf result WriteStop.Fault → CutShort (K.written sink.old) (K.written sink.new) (lines_of input.now) }
+    ensures ok { IfOk result (λ all. Printed (K.written sink.old) (K.written sink.new)
+        (lines_of input.now) all) }
+    ensures fault { IsErrOf result WriteStop.Fault → CutShort (K.written sink.old)
+        (K.written sink.new) (lines_of input.now) }
     ensures memory { IsErrOf result WriteStop.Memory →
         Keeps (K.written sink.old) (K.written sink.new) ⊎ CutShort (K.written sink.old) (K.written sink.new) (lines_of input.now) }
     ensures cause { IsErrOf result WriteStop.Fault → Rose (K.faults sink.old) (K.faults sink.new) }
@@ -92,8 +96,10 @@ pub(crate) fn almanac<K: Sink, E: Evaluator>(
 ) -> Result<bool, WriteStop>
     requires from { 1803 ≤ year }
     requires to { year ≤ 2047 }
-    ensures ok { IfOk result (λ all. Printed (K.written sink.old) (K.written sink.new) (texts.almanac_lines year) all) }
-    ensures fault { IsErrOf result WriteStop.Fault → CutShort (K.written sink.old) (K.written sink.new) (texts.almanac_lines year) }
+    ensures ok { IfOk result (λ all. Printed (K.written sink.old) (K.written sink.new)
+        (texts.almanac_lines year) all) }
+    ensures fault { IsErrOf result WriteStop.Fault → CutShort (K.written sink.old)
+        (K.written sink.new) (texts.almanac_lines year) }
     ensures memory { IsErrOf result WriteStop.Memory →
         Keeps (K.written sink.old) (K.written sink.new) ⊎ CutShort (K.written sink.old) (K.written sink.new) (texts.almanac_lines year) }
     ensures cause { IsErrOf result WriteStop.Fault → Rose (K.faults sink.old) (K.faults sink.new) }

@@ -42,11 +42,17 @@ fn read_input<S: Source>(
     command: Command,
     source: &mut S,
 ) -> Result<Vec<u8>, ReadStop>
-    ensures ok { IfOk result (λ input. HasRead (input_of command) (S.left source.old) (S.left source.new) input.items) }
+    ensures ok { IfOk result (λ input. HasRead (input_of command) (S.left source.old)
+        (S.left source.new) input.items) }
     ensures short { IfOk result (λ input. length input.items ≤ limit_of command) }
-    ensures too_large { IsErrOf result ReadStop.TooLarge → (taken : List ℕ) × Consumes (S.left source.old) (S.left source.new) taken × IsPast (input_of command) taken }
-    ensures too_large_told { IsTooLarge (input_of command) (S.left source.old) → ¬ Rose (S.faults source.old) (S.faults source.new) → IsErrOf result ReadStop.TooLarge ⊎ IsErrOf result ReadStop.Memory }
-    ensures finished { CanRead (input_of command) (S.left source.old) → ¬ Rose (S.faults source.old) (S.faults source.new) → IsErrOf result ReadStop.Memory ⊎ IsOk result }
+    ensures too_large { IsErrOf result ReadStop.TooLarge → (taken : List ℕ)
+        × Consumes (S.left source.old) (S.left source.new) taken × IsPast (input_of command) taken }
+    ensures too_large_told { IsTooLarge (input_of command) (S.left source.old)
+        → ¬ Rose (S.faults source.old) (S.faults source.new)
+        → IsErrOf result ReadStop.TooLarge ⊎ IsErrOf result ReadStop.Memory }
+    ensures finished { CanRead (input_of command) (S.left source.old)
+        → ¬ Rose (S.faults source.old) (S.faults source.new)
+        → IsErrOf result ReadStop.Memory ⊎ IsOk result }
     ensures fault { IsErrOf result ReadStop.Fault → Rose (S.faults source.old) (S.faults source.new) }
     ensures later { S.faults source.old ≤ S.faults source.new }
     ensures unread { input_of command ≡ nothing → source.new ≡ source.old }
@@ -67,10 +73,14 @@ fn perform<K: Sink, E: Evaluator>(
 ) -> Status
     requires short { length input.now ≤ limit_of command }
     requires ranges { IsInRange command }
-    ensures done { result ≡ Status.Done → Finishes command (K.written sink.old) (K.written sink.new) input.now true }
-    ensures mixed { result ≡ Status.Mixed → Finishes command (K.written sink.old) (K.written sink.new) input.now false }
-    ensures bad_text { result ≡ Status.BadText → (command ≡ Command.Check) × RefusesText (K.written sink.old) (K.written sink.new) input.now }
-    ensures cut { result ≡ Status.WriteFault → IsCut command (K.written sink.old) (K.written sink.new) input.now }
+    ensures done { result ≡ Status.Done → Finishes command (K.written sink.old)
+        (K.written sink.new) input.now true }
+    ensures mixed { result ≡ Status.Mixed → Finishes command (K.written sink.old)
+        (K.written sink.new) input.now false }
+    ensures bad_text { result ≡ Status.BadText → (command ≡ Command.Check)
+        × RefusesText (K.written sink.old) (K.written sink.new) input.now }
+    ensures cut { result ≡ Status.WriteFault → IsCut command (K.written sink.old)
+        (K.written sink.new) input.now }
     ensures memory { result ≡ Status.Memory →
         Keeps (K.written sink.old) (K.written sink.new) ⊎ IsCut command (K.written sink.old) (K.written sink.new) input.now }
     ensures cause { result ≡ Status.WriteFault → Rose (K.faults sink.old) (K.faults sink.new) }
@@ -94,7 +104,8 @@ fn perform<K: Sink, E: Evaluator>(
 /// Writes the usage line.
 fn refuse_words<K: Sink>(sink: &mut K) -> Status
     ensures words { result ≡ Status.Words → Appends (K.written sink.old) (K.written sink.new) usage }
-    ensures cut { result ≡ Status.WriteFault → AppendsFront (K.written sink.old) (K.written sink.new) usage }
+    ensures cut { result ≡ Status.WriteFault → AppendsFront (K.written sink.old)
+        (K.written sink.new) usage }
     ensures either { (result ≡ Status.Words) ⊎ (result ≡ Status.WriteFault) }
     ensures cause { result ≡ Status.WriteFault → Rose (K.faults sink.old) (K.faults sink.new) }
     ensures later { K.faults sink.old ≤ K.faults sink.new }
@@ -125,39 +136,53 @@ pub fn run<R: Threads + Sync, S: Source, K: Sink, E: Evaluator + Sync, G: Gate +
     evaluator: &E,
     gate: &G,
 ) -> Status
-    // At Done and Mixed what the command reads was read to its end, and the whole text stands for it; Done exactly where every
+    // At Done and Mixed what the command reads was read to its end, and the whole text stands for
+    // it; Done exactly where every
     // outcome is a result, under `check` where every verdict is yes.
-    ensures done { result ≡ Status.Done → (c : Command) × (named (map string_bytes words.now) ≡ Some c)
+    ensures done { result ≡ Status.Done → (c : Command) ×
+        (named (map string_bytes words.now) ≡ Some c)
         × (input : List ℕ) × HasRead (input_of c) (S.left source.old) (S.left source.new) input
         × Finishes c (K.written sink.old) (K.written sink.new) input true }
-    ensures mixed { result ≡ Status.Mixed → (c : Command) × (named (map string_bytes words.now) ≡ Some c)
+    ensures mixed { result ≡ Status.Mixed → (c : Command)
+        × (named (map string_bytes words.now) ≡ Some c)
         × (input : List ℕ) × HasRead (input_of c) (S.left source.old) (S.left source.new) input
         × Finishes c (K.written sink.old) (K.written sink.new) input false }
     // BadText comes only under `check`, where the bytes read to their end aren't in the grammar.
-    ensures bad_text { result ≡ Status.BadText → (named (map string_bytes words.now) ≡ Some Command.Check)
+    ensures bad_text { result ≡ Status.BadText → (named (map string_bytes words.now)
+        ≡ Some Command.Check)
         × (input : List ℕ) × HasRead (input_of Command.Check) (S.left source.old) (S.left source.new) input
         × RefusesText (K.written sink.old) (K.written sink.new) input }
-    // Words comes exactly where the words are in no form, unless the usage line can't be written or memory runs out. Nothing is read then.
+    // Words comes exactly where the words are in no form, unless the usage line can't be written
+    // or memory runs out. Nothing is read then.
     ensures words { result ≡ Status.Words → Appends (K.written sink.old) (K.written sink.new) usage }
     ensures words_only { result ≡ Status.Words → named (map string_bytes words.now) ≡ None }
-    ensures words_refused { named (map string_bytes words.now) ≡ None → (result ≡ Status.Words) ⊎ (result ≡ Status.WriteFault) ⊎ (result ≡ Status.Memory) }
+    ensures words_refused { named (map string_bytes words.now) ≡ None
+        → (result ≡ Status.Words) ⊎ (result ≡ Status.WriteFault) ⊎ (result ≡ Status.Memory) }
     ensures words_unread { named (map string_bytes words.now) ≡ None → source.new ≡ source.old }
     // Nothing is read under `almanac` and `sample` either.
-    ensures unread { (c : Command) → named (map string_bytes words.now) ≡ Some c → input_of c ≡ nothing → source.new ≡ source.old }
+    ensures unread { (c : Command) → named (map string_bytes words.now) ≡ Some c
+        → input_of c ≡ nothing → source.new ≡ source.old }
     // Faults have a cause.
-    ensures read_fault { result ≡ Status.ReadFault → Rose (S.faults source.old) (S.faults source.new) }
+    ensures read_fault { result ≡ Status.ReadFault → Rose (S.faults source.old)
+        (S.faults source.new) }
     ensures write_fault { result ≡ Status.WriteFault → Rose (K.faults sink.old) (K.faults sink.new) }
     ensures source_later { S.faults source.old ≤ S.faults source.new }
     ensures sink_later { K.faults sink.old ≤ K.faults sink.new }
-    // TooLarge comes only where the source gave more bytes than the limit; and where it tells more, nothing else comes but a fault or want of memory.
-    ensures too_large { result ≡ Status.TooLarge → (c : Command) × (named (map string_bytes words.now) ≡ Some c)
+    // TooLarge comes only where the source gave more bytes than the limit; and where it tells
+    // more, nothing else comes but a fault or want of memory.
+    ensures too_large { result ≡ Status.TooLarge → (c : Command)
+        × (named (map string_bytes words.now) ≡ Some c)
         × (taken : List ℕ) × Consumes (S.left source.old) (S.left source.new) taken × IsPast (input_of c) taken }
-    ensures too_large_told { (c : Command) → named (map string_bytes words.now) ≡ Some c → IsTooLarge (input_of c) (S.left source.old)
-        → ¬ Rose (S.faults source.old) (S.faults source.new) → (result ≡ Status.TooLarge) ⊎ (result ≡ Status.Memory) }
+    ensures too_large_told { (c : Command) → named (map string_bytes words.now) ≡ Some c
+        → IsTooLarge (input_of c) (S.left source.old)
+        → ¬ Rose (S.faults source.old) (S.faults source.new)
+        → (result ≡ Status.TooLarge) ⊎ (result ≡ Status.Memory) }
     // Nothing is written at a fault of reading and for an input that is too large.
-    ensures unwritten { (result ≡ Status.ReadFault) ⊎ (result ≡ Status.TooLarge) → sink.new ≡ sink.old }
+    ensures unwritten { (result ≡ Status.ReadFault) ⊎ (result ≡ Status.TooLarge)
+        → sink.new ≡ sink.old }
     // What a cut leaves is a front of such a text.
-    ensures cut { result ≡ Status.WriteFault → (c : Command) → named (map string_bytes words.now) ≡ Some c →
+    ensures cut { result ≡ Status.WriteFault → (c : Command)
+        → named (map string_bytes words.now) ≡ Some c →
         (input : List ℕ) × HasRead (input_of c) (S.left source.old) (S.left source.new) input
         × IsCut c (K.written sink.old) (K.written sink.new) input }
     ensures cut_usage { result ≡ Status.WriteFault → named (map string_bytes words.now) ≡ None →
@@ -166,10 +191,14 @@ pub fn run<R: Threads + Sync, S: Source, K: Sink, E: Evaluator + Sync, G: Gate +
         ⊎ (c : Command) × (named (map string_bytes words.now) ≡ Some c)
         × (input : List ℕ) × HasRead (input_of c) (S.left source.old) (S.left source.new) input
         × IsCut c (K.written sink.old) (K.written sink.new) input }
-    // With the words in the form, an input within the limit and no new fault, the run is finished, unless memory runs out.
-    ensures finished { (c : Command) → named (map string_bytes words.now) ≡ Some c → CanRead (input_of c) (S.left source.old)
-        → ¬ Rose (S.faults source.old) (S.faults source.new) → ¬ Rose (K.faults sink.old) (K.faults sink.new)
-        → (result ≡ Status.Done) ⊎ (result ≡ Status.Mixed) ⊎ (result ≡ Status.BadText) ⊎ (result ≡ Status.Memory) }
+    // With the words in the form, an input within the limit and no new fault, the run is finished,
+    // unless memory runs out.
+    ensures finished { (c : Command) → named (map string_bytes words.now) ≡ Some c
+        → CanRead (input_of c) (S.left source.old)
+        → ¬ Rose (S.faults source.old) (S.faults source.new)
+        → ¬ Rose (K.faults sink.old) (K.faults sink.new)
+        → (result ≡ Status.Done) ⊎ (result ≡ Status.Mixed) ⊎ (result ≡ Status.BadText)
+        ⊎ (result ≡ Status.Memory) }
 {
     let command = match command_of(alloc, words) {
         Ok(command) => command,

@@ -1,9 +1,9 @@
 //! Writes what the lines of a sample come to, in one line of counts.
-ghost use Rattle.std.specs.Prelude.{◌≡◌, ◌≤◌, ◌⊎◌, [], length, map, filter, IfOk, OnOk, OnErr, IsErrOf};
-ghost use Rattle.std.specs.Io.KnownBytes.{Appends, Keeps};
+ghost use Rattle.std.specs.Prelude.{◌≡◌, ◌≤◌, ◌⊎◌, [], length, map, filter, IfOk, OnOk, IsErrOf};
+ghost use Rattle.std.specs.Io.KnownBytes.{Keeps};
 ghost use Rattle.book_model.specs.lines.Outcomes.{is_result};
 ghost use Rattle.book_model.specs.lines.Text.{with_fact, with_facts, seen_after};
-ghost use Rattle.byte_streams.specs.Stream.{Rose, HasCause, AppendsFront};
+ghost use Rattle.byte_streams.specs.Stream.{HasCause, Rose, Writes, WritesFront};
 ghost use Rattle.run_core.specs.Outcomes.{line_outcome};
 ghost use Rattle.run_core.specs.Sampling as spec;
 
@@ -31,9 +31,11 @@ struct Tally {
 /// How many outcomes there are of each kind.
 fn tally_of(outcomes: &[Outcome]) -> Tally
     ensures decided { result.decided ≡ length (filter is_result (map line_outcome outcomes.now)) }
-    ensures undecided { result.undecided ≡ length (filter spec.is_undecided (map line_outcome outcomes.now)) }
+    ensures undecided { result.undecided ≡ length (filter spec.is_undecided
+        (map line_outcome outcomes.now)) }
     ensures void { result.void ≡ length (filter spec.is_void (map line_outcome outcomes.now)) }
-    ensures refused { result.refused ≡ length (filter spec.is_refused (map line_outcome outcomes.now)) }
+    ensures refused { result.refused ≡ length (filter spec.is_refused
+        (map line_outcome outcomes.now)) }
 {
     let mut tally = Tally {
         decided: 0,
@@ -100,8 +102,11 @@ fn write_counts<K: Sink>(
     tally: Tally,
     facts: usize,
 ) -> Result<(), Failed>
-    ensures ok { OnOk result (Appends (K.written sink.old) (K.written sink.new) (spec.counts_text count seed tally.decided tally.undecided tally.void tally.refused facts)) }
-    ensures err { OnErr result (AppendsFront (K.written sink.old) (K.written sink.new) (spec.counts_text count seed tally.decided tally.undecided tally.void tally.refused facts)) }
+    ensures ok { Writes K.written sink.old sink.new (spec.counts_text count seed tally.decided
+        tally.undecided tally.void tally.refused facts) result }
+    ensures err { WritesFront K.written sink.old sink.new
+        (spec.counts_text count seed tally.decided tally.undecided tally.void tally.refused facts)
+        result }
     ensures cause { HasCause (K.faults sink.old) (K.faults sink.new) result }
 {
     let mut count_buffer = Buffer::new();
@@ -140,7 +145,8 @@ fn sample_text(
     seed: u64,
     outcomes: &[Outcome],
 ) -> Result<Vec<u8>, AllocError>
-    ensures text { IfOk result (λ text. text.items ≡ spec.sample_text count seed (map line_outcome outcomes.now)) }
+    ensures text { IfOk result (λ text. text.items ≡ spec.sample_text count seed
+        (map line_outcome outcomes.now)) }
 {
     let facts = facts_in(alloc, outcomes)?;
     let mut gathered = Gathered::new(alloc);
@@ -159,9 +165,12 @@ pub(crate) fn sample<K: Sink, E: Evaluator>(
     count: u32,
     seed: u64,
 ) -> Result<bool, WriteStop>
-    ensures ok { IfOk result (λ all. spec.Sampled (K.written sink.old) (K.written sink.new) count seed all) }
-    ensures fault { IsErrOf result WriteStop.Fault → spec.SampleCutShort (K.written sink.old) (K.written sink.new) count seed }
-    ensures memory { IsErrOf result WriteStop.Memory → Keeps (K.written sink.old) (K.written sink.new) }
+    ensures ok { IfOk result (λ all. spec.Sampled (K.written sink.old)
+        (K.written sink.new) count seed all) }
+    ensures fault { IsErrOf result WriteStop.Fault → spec.SampleCutShort (K.written sink.old)
+        (K.written sink.new) count seed }
+    ensures memory { IsErrOf result WriteStop.Memory → Keeps (K.written sink.old)
+        (K.written sink.new) }
     ensures cause { IsErrOf result WriteStop.Fault → Rose (K.faults sink.old) (K.faults sink.new) }
     ensures later { K.faults sink.old ≤ K.faults sink.new }
 {

@@ -1,9 +1,8 @@
 //! Writes the text of lines and their outcomes, block by block.
-ghost use Rattle.std.specs.Prelude.{◌≡◌, ◌≤◌, ◌<◌, ◌+◌, ◌++◌, [], List, ℕ, map, length, OnOk, OnErr, IsErrOf};
-ghost use Rattle.std.specs.Io.KnownBytes.{Appends};
+ghost use Rattle.std.specs.Prelude.{◌≡◌, ◌≤◌, ◌<◌, ◌+◌, ◌++◌, [], List, ℕ, map, length, OnOk, IsErrOf};
 ghost use Rattle.book_model.specs.lines.Outcomes.{IsRightFor, AreRight};
 ghost use Rattle.book_model.specs.lines.Text as spec;
-ghost use Rattle.byte_streams.specs.Stream.{Rose, AppendsFront, Wrote};
+ghost use Rattle.byte_streams.specs.Stream.{Rose, Writes, WritesFront, Wrote};
 ghost use Rattle.run_core.specs.Outcomes.{line_outcome};
 ghost use Rattle.run_core.specs.declared.text.WriteStop.TheVariants.{Fault, Memory};
 
@@ -52,9 +51,14 @@ fn put_block<K: Sink>(
     outcome: &Outcome,
 ) -> Result<(), WriteStop>
     requires { IsRightFor line.now (line_outcome outcome.now) }
-    ensures ok { OnOk result (Wrote (K.written sink.old) (K.written sink.new) (pending.old.bytes.items ++ spec.block_text seen.old.keys (count + 1) line.now (line_outcome outcome.now)) pending.new.bytes.items) }
-    ensures seen { OnOk result (seen.new.keys ≡ spec.seen_after seen.old.keys (line_outcome outcome.now)) }
-    ensures err { OnErr result (AppendsFront (K.written sink.old) (K.written sink.new) (pending.old.bytes.items ++ spec.block_text seen.old.keys (count + 1) line.now (line_outcome outcome.now))) }
+    ensures ok { OnOk result (Wrote (K.written sink.old) (K.written sink.new)
+        (pending.old.bytes.items ++ spec.block_text seen.old.keys (count + 1) line.now
+        (line_outcome outcome.now)) pending.new.bytes.items) }
+    ensures seen { OnOk result (seen.new.keys ≡ spec.seen_after seen.old.keys
+        (line_outcome outcome.now)) }
+    ensures err { WritesFront K.written sink.old sink.new
+        (pending.old.bytes.items ++ spec.block_text seen.old.keys (count + 1) line.now
+        (line_outcome outcome.now)) result }
     ensures fault { IsErrOf result WriteStop.Fault → Rose (K.faults sink.old) (K.faults sink.new) }
     ensures later { K.faults sink.old ≤ K.faults sink.new }
 {
@@ -77,8 +81,10 @@ fn put_end<K: Sink>(
     lines: usize,
     facts: usize,
 ) -> Result<(), WriteStop>
-    ensures ok { OnOk result (Appends (K.written sink.old) (K.written sink.new) (pending.old.bytes.items ++ spec.end_text lines facts)) }
-    ensures err { OnErr result (AppendsFront (K.written sink.old) (K.written sink.new) (pending.old.bytes.items ++ spec.end_text lines facts)) }
+    ensures ok { Writes K.written sink.old sink.new (pending.old.bytes.items
+        ++ spec.end_text lines facts) result }
+    ensures err { WritesFront K.written sink.old sink.new
+        (pending.old.bytes.items ++ spec.end_text lines facts) result }
     ensures fault { IsErrOf result WriteStop.Fault → Rose (K.faults sink.old) (K.faults sink.new) }
     ensures later { K.faults sink.old ≤ K.faults sink.new }
 {
@@ -103,8 +109,11 @@ fn put_blocks<K: Sink>(
 ) -> Result<(), WriteStop>
     requires same { length lines.now ≡ length outcomes.now }
     requires right { AreRight (map (λ line. line.now) lines.now) (map line_outcome outcomes.now) }
-    ensures ok { OnOk result (Appends (K.written sink.old) (K.written sink.new) (pending.old.bytes.items ++ spec.text_from [] 0 (map (λ line. line.now) lines.now) (map line_outcome outcomes.now))) }
-    ensures err { OnErr result (AppendsFront (K.written sink.old) (K.written sink.new) (pending.old.bytes.items ++ spec.text_from [] 0 (map (λ line. line.now) lines.now) (map line_outcome outcomes.now))) }
+    ensures ok { Writes K.written sink.old sink.new (pending.old.bytes.items ++ spec.text_from [] 0
+        (map (λ line. line.now) lines.now) (map line_outcome outcomes.now)) result }
+    ensures err { WritesFront K.written sink.old sink.new
+        (pending.old.bytes.items ++ spec.text_from [] 0 (map (λ line. line.now) lines.now)
+        (map line_outcome outcomes.now)) result }
     ensures fault { IsErrOf result WriteStop.Fault → Rose (K.faults sink.old) (K.faults sink.new) }
     ensures later { K.faults sink.old ≤ K.faults sink.new }
 {
@@ -127,8 +136,10 @@ pub fn write_text<K: Sink>(
 ) -> Result<(), WriteStop>
     requires same { length lines.now ≡ length outcomes.now }
     requires right { AreRight (map (λ line. line.now) lines.now) (map line_outcome outcomes.now) }
-    ensures ok { OnOk result (Appends (K.written sink.old) (K.written sink.new) (spec.text (map (λ line. line.now) lines.now) (map line_outcome outcomes.now))) }
-    ensures err { OnErr result (AppendsFront (K.written sink.old) (K.written sink.new) (spec.text (map (λ line. line.now) lines.now) (map line_outcome outcomes.now))) }
+    ensures ok { Writes K.written sink.old sink.new (spec.text (map (λ line. line.now) lines.now)
+        (map line_outcome outcomes.now)) result }
+    ensures err { WritesFront K.written sink.old sink.new
+        (spec.text (map (λ line. line.now) lines.now) (map line_outcome outcomes.now)) result }
     ensures fault { IsErrOf result WriteStop.Fault → Rose (K.faults sink.old) (K.faults sink.new) }
     ensures later { K.faults sink.old ≤ K.faults sink.new }
 {

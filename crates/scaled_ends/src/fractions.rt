@@ -26,7 +26,8 @@ pub fn denominator(fraction: Frac) -> i128
 #[inline(always)]
 pub fn raised_ends<I: Word>(value: Frac) -> Option<Ends<I>>
     ensures holds { between (fraction_of value) (fraction_of value) ⊆ shown_ends result }
-    ensures narrow { (w : ℕ) → IsNarrow w (constant_bound (limits_on I.scale) (fraction_of value)) (shown_ends result) }
+    ensures narrow { (w : ℕ) → IsNarrow w (constant_bound (limits_on I.scale) (fraction_of value))
+        (shown_ends result) }
 {
     let raised = value.num().checked_mul(I::units())?;
     let below = denominator(value);
@@ -36,8 +37,10 @@ pub fn raised_ends<I: Word>(value: Frac) -> Option<Ends<I>>
 /// The ends around the products with a fraction.
 #[inline(always)]
 pub fn scale_ends<I: Word>(x: Option<Ends<I>>, by: Frac) -> Option<Ends<I>>
-    ensures holds { product (shown_ends x) (between (fraction_of by) (fraction_of by)) ⊆ shown_ends result }
-    ensures narrow { (w : ℕ) (a : Bound) → IsNarrow w a (shown_ends x) → IsNarrow w (scaled_bound (limits_on I.scale) (fraction_of by) a) (shown_ends result) }
+    ensures holds { product (shown_ends x) (between (fraction_of by) (fraction_of by))
+        ⊆ shown_ends result }
+    ensures narrow { (w : ℕ) (a : Bound) → IsNarrow w a (shown_ends x)
+        → IsNarrow w (scaled_bound (limits_on I.scale) (fraction_of by) a) (shown_ends result) }
 {
     let x = x?;
     let factor = by.num();
@@ -73,7 +76,8 @@ fn moved<I: Word>(x: Ends<I>, margin: i128) -> Option<Ends<I>>
 #[inline]
 pub fn widen_ends<I: Word>(x: Option<Ends<I>>, by: Frac) -> Option<Ends<I>>
     ensures holds { widen (fraction_of by) (shown_ends x) ⊆ shown_ends result }
-    ensures narrow { (w : ℕ) (a : Bound) → IsNarrow w a (shown_ends x) → IsNarrow w (widen_bound (limits_on I.scale) (fraction_of by) a) (shown_ends result) }
+    ensures narrow { (w : ℕ) (a : Bound) → IsNarrow w a (shown_ends x)
+        → IsNarrow w (widen_bound (limits_on I.scale) (fraction_of by) a) (shown_ends result) }
 {
     let x = x?;
     let margin = margin_of::<I>(by)?;

@@ -14,7 +14,8 @@ use crate::word::Word;
 pub fn min_ends<I: Word>(x: Option<Ends<I>>, y: Option<Ends<I>>) -> Option<Ends<I>>
     ensures holds { minimum (shown_ends x) (shown_ends y) ⊆ shown_ends result }
     ensures tight { shown_ends result ⊆ minimum (shown_ends x) (shown_ends y) }
-    ensures narrow { (w : ℕ) (a b : Bound) → IsNarrow w a (shown_ends x) → IsNarrow w b (shown_ends y) → IsNarrow w (minimum_bound a b) (shown_ends result) }
+    ensures narrow { (w : ℕ) (a b : Bound) → IsNarrow w a (shown_ends x)
+        → IsNarrow w b (shown_ends y) → IsNarrow w (minimum_bound a b) (shown_ends result) }
 {
     let x = x?;
     let y = y?;
@@ -28,7 +29,8 @@ pub fn min_ends<I: Word>(x: Option<Ends<I>>, y: Option<Ends<I>>) -> Option<Ends<
 pub fn max_ends<I: Word>(x: Option<Ends<I>>, y: Option<Ends<I>>) -> Option<Ends<I>>
     ensures holds { maximum (shown_ends x) (shown_ends y) ⊆ shown_ends result }
     ensures tight { shown_ends result ⊆ maximum (shown_ends x) (shown_ends y) }
-    ensures narrow { (w : ℕ) (a b : Bound) → IsNarrow w a (shown_ends x) → IsNarrow w b (shown_ends y) → IsNarrow w (maximum_bound a b) (shown_ends result) }
+    ensures narrow { (w : ℕ) (a b : Bound) → IsNarrow w a (shown_ends x)
+        → IsNarrow w b (shown_ends y) → IsNarrow w (maximum_bound a b) (shown_ends result) }
 {
     let x = x?;
     let y = y?;
@@ -42,7 +44,8 @@ pub fn max_ends<I: Word>(x: Option<Ends<I>>, y: Option<Ends<I>>) -> Option<Ends<
 pub fn hull_ends<I: Word>(x: Option<Ends<I>>, y: Option<Ends<I>>) -> Option<Ends<I>>
     ensures holds { hull (shown_ends x) (shown_ends y) ⊆ shown_ends result }
     ensures tight { shown_ends result ⊆ hull (shown_ends x) (shown_ends y) }
-    ensures narrow { (w : ℕ) (a b : Bound) → IsNarrow w a (shown_ends x) → IsNarrow w b (shown_ends y) → IsNarrow w (hull_bound a b) (shown_ends result) }
+    ensures narrow { (w : ℕ) (a b : Bound) → IsNarrow w a (shown_ends x)
+        → IsNarrow w b (shown_ends y) → IsNarrow w (hull_bound a b) (shown_ends result) }
 {
     let x = x?;
     let y = y?;
@@ -54,7 +57,8 @@ pub fn hull_ends<I: Word>(x: Option<Ends<I>>, y: Option<Ends<I>>) -> Option<Ends
 /// An end, cut to -1..1.
 #[inline(always)]
 fn cut<I: Word>(end: I) -> I
-    ensures value { I.value result ≡ int_max (int_min (I.value end) (unit I.scale)) (neg_ℤ (unit I.scale)) }
+    ensures value { I.value result ≡ int_max (int_min (I.value end) (unit I.scale))
+        (neg_ℤ (unit I.scale)) }
 {
     end.lesser(I::one()).greater(I::minus_one())
 }
@@ -62,8 +66,10 @@ fn cut<I: Word>(end: I) -> I
 /// Ends that are cut to -1..1.
 #[inline(always)]
 fn cut_ends<I: Word>(x: Ends<I>) -> Ends<I>
-    ensures lo { I.value result.lo ≡ int_max (int_min (I.value x.lo) (unit I.scale)) (neg_ℤ (unit I.scale)) }
-    ensures hi { I.value result.hi ≡ int_max (int_min (I.value x.hi) (unit I.scale)) (neg_ℤ (unit I.scale)) }
+    ensures lo { I.value result.lo ≡ int_max (int_min (I.value x.lo) (unit I.scale))
+        (neg_ℤ (unit I.scale)) }
+    ensures hi { I.value result.hi ≡ int_max (int_min (I.value x.hi) (unit I.scale))
+        (neg_ℤ (unit I.scale)) }
 {
     let lo = cut(x.lo);
     let hi = cut(x.hi);
@@ -84,7 +90,8 @@ fn unit_ends<I: Word>() -> Ends<I>
 #[inline]
 pub fn clamp_ends<I: Word>(x: Option<Ends<I>>) -> Ends<I>
     ensures holds { clamp (shown_ends x) ⊆ shown_of result }
-    ensures narrow { (w : ℕ) (a : Bound) → IsNarrow w a (shown_ends x) → IsNarrow w (clamp_bound a) (shown_of result) }
+    ensures narrow { (w : ℕ) (a : Bound) → IsNarrow w a (shown_ends x)
+        → IsNarrow w (clamp_bound a) (shown_of result) }
 {
     match x {
         Some(ends) => cut_ends(ends),

@@ -15,7 +15,8 @@ use crate::word::Word;
 pub fn ends_of_span<I: Word>(lo: i128, hi: i128) -> Option<Ends<I>>
     requires { lo ≤ℤ hi }
     ensures holds { between (at_56 lo) (at_56 hi) ⊆ shown_ends result }
-    ensures narrow { (w : ℕ) (b : Bound) → IsNarrow w b (between (at_56 lo) (at_56 hi)) → IsNarrow w (spanned_bound (limits_on I.scale) b) (shown_ends result) }
+    ensures narrow { (w : ℕ) (b : Bound) → IsNarrow w b (between (at_56 lo) (at_56 hi))
+        → IsNarrow w (spanned_bound (limits_on I.scale) b) (shown_ends result) }
 {
     let down = I::floor_finer(lo);
     let up = I::ceil_finer(hi);

@@ -24,7 +24,8 @@ pub fn ends_of<I: Word>(lo: i128, hi: i128) -> Option<Ends<I>>
 #[inline]
 pub fn int_ends<I: Word>(value: i64) -> Option<Ends<I>>
     ensures holds { between (whole_number value) (whole_number value) ⊆ shown_ends result }
-    ensures narrow { (w : ℕ) → IsNarrow w (integer_bound (limits_on I.scale) value) (shown_ends result) }
+    ensures narrow { (w : ℕ) → IsNarrow w (integer_bound (limits_on I.scale) value)
+        (shown_ends result) }
 {
     let at = I::whole(value)?;
     Some(Ends { lo: at, hi: at })
@@ -64,8 +65,11 @@ fn opposites<I: Word>(x: Ends<I>) -> Option<Ends<I>>
 #[inline]
 pub fn add_ends<I: Word>(x: Option<Ends<I>>, y: Option<Ends<I>>) -> Option<Ends<I>>
     ensures holds { sum (shown_ends x) (shown_ends y) ⊆ shown_ends result }
-    ensures narrow { (w : ℕ) (a b : Bound) → IsNarrow w a (shown_ends x) → IsNarrow w b (shown_ends y) → IsNarrow w (sum_bound (limits_on I.scale) a b) (shown_ends result) }
-    ensures ends { IfSome x (λ p. IfSome y (λ q. HasEnds (I.value p.lo +ℤ I.value q.lo) (I.value p.hi +ℤ I.value q.hi) result)) }
+    ensures narrow { (w : ℕ) (a b : Bound) → IsNarrow w a (shown_ends x)
+        → IsNarrow w b (shown_ends y) → IsNarrow w (sum_bound (limits_on I.scale) a b)
+        (shown_ends result) }
+    ensures ends { IfSome x (λ p. IfSome y (λ q. HasEnds (I.value p.lo +ℤ I.value q.lo)
+        (I.value p.hi +ℤ I.value q.hi) result)) }
 {
     let x = x?;
     let y = y?;
@@ -76,8 +80,11 @@ pub fn add_ends<I: Word>(x: Option<Ends<I>>, y: Option<Ends<I>>) -> Option<Ends<
 #[inline]
 pub fn sub_ends<I: Word>(x: Option<Ends<I>>, y: Option<Ends<I>>) -> Option<Ends<I>>
     ensures holds { difference (shown_ends x) (shown_ends y) ⊆ shown_ends result }
-    ensures narrow { (w : ℕ) (a b : Bound) → IsNarrow w a (shown_ends x) → IsNarrow w b (shown_ends y) → IsNarrow w (difference_bound (limits_on I.scale) a b) (shown_ends result) }
-    ensures ends { IfSome x (λ p. IfSome y (λ q. HasEnds (I.value p.lo -ℤ I.value q.hi) (I.value p.hi -ℤ I.value q.lo) result)) }
+    ensures narrow { (w : ℕ) (a b : Bound) → IsNarrow w a (shown_ends x)
+        → IsNarrow w b (shown_ends y) → IsNarrow w (difference_bound (limits_on I.scale) a b)
+        (shown_ends result) }
+    ensures ends { IfSome x (λ p. IfSome y (λ q. HasEnds (I.value p.lo -ℤ I.value q.hi)
+        (I.value p.hi -ℤ I.value q.lo) result)) }
 {
     let x = x?;
     let y = y?;
@@ -88,7 +95,8 @@ pub fn sub_ends<I: Word>(x: Option<Ends<I>>, y: Option<Ends<I>>) -> Option<Ends<
 #[inline]
 pub fn neg_ends<I: Word>(x: Option<Ends<I>>) -> Option<Ends<I>>
     ensures holds { negative (shown_ends x) ⊆ shown_ends result }
-    ensures narrow { (w : ℕ) (a : Bound) → IsNarrow w a (shown_ends x) → IsNarrow w (negated_bound (limits_on I.scale) a) (shown_ends result) }
+    ensures narrow { (w : ℕ) (a : Bound) → IsNarrow w a (shown_ends x)
+        → IsNarrow w (negated_bound (limits_on I.scale) a) (shown_ends result) }
     ensures ends { IfSome x (λ p. HasEnds (pos 0 -ℤ I.value p.hi) (pos 0 -ℤ I.value p.lo) result) }
 {
     let x = x?;

@@ -96,9 +96,12 @@ pub trait Word: Copy + Drop {
     fn past(self, modulus: u32, period: Self) -> Option<Self>
         requires positive { 0 < modulus }
         requires begun { ((pos modulus *ℤ value period) *ℤ unit scale) ≤ℤ value self }
-        requires not_over { value self <ℤ ((pos modulus *ℤ value period +ℤ pos modulus) *ℤ unit scale) }
-        ensures value { IfSome result (λ r. value r ≡ value self -ℤ ((pos modulus *ℤ value period) *ℤ unit scale)) }
-        ensures none { IsNone result → ¬ FitsSigned (word scale) (value self -ℤ ((pos modulus *ℤ value period) *ℤ unit scale)) };
+        requires not_over { value self <ℤ ((pos modulus *ℤ value period +ℤ pos modulus)
+            *ℤ unit scale) }
+        ensures value { IfSome result (λ r. value r ≡ value self -ℤ
+            ((pos modulus *ℤ value period) *ℤ unit scale)) }
+        ensures none { IsNone result → ¬ FitsSigned (word scale)
+            (value self -ℤ ((pos modulus *ℤ value period) *ℤ unit scale)) };
 
     /// The same number, which counts 2⁻⁵⁶.
     fn finer(self) -> i128

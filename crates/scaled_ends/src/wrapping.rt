@@ -14,7 +14,8 @@ use crate::word::Word;
 #[inline]
 pub fn period_of_ends<I: Word>(ends: Option<Ends<I>>, modulus: u32) -> Option<I>
     requires { 0 < modulus }
-    ensures value { IfSome result (λ q. cell_at (multiples modulus) (shown_ends ends) ≡ Some (I.value q)) }
+    ensures value { IfSome result (λ q. cell_at (multiples modulus) (shown_ends ends) ≡ Some
+        (I.value q)) }
     ensures none { IsNone result → cell_at (multiples modulus) (shown_ends ends) ≡ None }
 {
     let e = ends?;
@@ -31,8 +32,11 @@ pub fn period_of_ends<I: Word>(ends: Option<Ends<I>>, modulus: u32) -> Option<I>
 pub fn lower_ends<I: Word>(ends: Option<Ends<I>>, modulus: u32, period: I) -> Option<Ends<I>>
     requires positive { 0 < modulus }
     requires known { cell_at (multiples modulus) (shown_ends ends) ≡ Some (I.value period) }
-    ensures holds { difference (shown_ends ends) (between (whole_number (pos modulus *ℤ I.value period)) (whole_number (pos modulus *ℤ I.value period))) ⊆ shown_ends result }
-    ensures narrow { (w : ℕ) (b : Bound) → IsNarrow w b (shown_ends ends) → IsNarrow w (remainder_bound (limits_on I.scale) modulus b) (shown_ends result) }
+    ensures holds { difference (shown_ends ends) (between
+        (whole_number (pos modulus *ℤ I.value period)) (whole_number
+        (pos modulus *ℤ I.value period))) ⊆ shown_ends result }
+    ensures narrow { (w : ℕ) (b : Bound) → IsNarrow w b (shown_ends ends)
+        → IsNarrow w (remainder_bound (limits_on I.scale) modulus b) (shown_ends result) }
 {
     let e = ends?;
     let lo = e.lo.past(modulus, period)?;

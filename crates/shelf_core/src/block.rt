@@ -89,8 +89,10 @@ impl Block {
         requires within { place < SLOTS }
         requires tied { IfSome note (λ n. n.cell ≡ cell_in self.now place) }
         ensures tied { result.0.cell ≡ cell_in self.now place }
-        ensures some { IfSome result.1 (λ e. (result.0.known ≡ Some e) × Agrees (option_and_then (λ n. n.known) note) e) }
-        ensures none { IfNone result.1 ((option_and_then (λ n. n.known) note ≡ None) × (result.0.known ≡ None)) }
+        ensures some { IfSome result.1 (λ e. (result.0.known ≡ Some e)
+            × Agrees (option_and_then (λ n. n.known) note) e) }
+        ensures none { IfNone result.1 ((option_and_then (λ n. n.known) note ≡ None)
+            × (result.0.known ≡ None)) }
     {
         let mut note = self.note_of(place, note);
         let entry = self.get(place, &mut note);
@@ -108,7 +110,8 @@ impl Block {
         requires within { place < SLOTS }
         requires tied { IfSome note (λ n. n.cell ≡ cell_in self.now place) }
         ensures tied { result.0.cell ≡ cell_in self.now place }
-        ensures ok { IfOk result.1 (λ e. (result.0.known ≡ Some e) × Agrees (option_and_then (λ n. n.known) note) e) }
+        ensures ok { IfOk result.1 (λ e. (result.0.known ≡ Some e)
+            × Agrees (option_and_then (λ n. n.known) note) e) }
         ensures err { OnErr result.1 (result.0.known ≡ option_and_then (λ n. n.known) note) }
     {
         let mut note = self.note_of(place, note);

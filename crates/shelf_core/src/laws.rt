@@ -17,16 +17,20 @@ pub fn step()
         → map.get (set_once s slot e) slot ≡ Some (settled (map.get s slot) e) }
     ensures leaves { (s : Slots) (slot other : ℕ) (e : Entry) → ¬ (other ≡ slot)
         → map.get (set_once s slot e) other ≡ map.get s other }
-    ensures keeps { (s : Slots) (slot : ℕ) (e held : Entry) → map.get s slot ≡ Some held → set_once s slot e ≡ s }
-    ensures right { (s : Slots) (slot : ℕ) (e : Entry) → AllRight s → IsRight e → AllRight (set_once s slot e) }
+    ensures keeps { (s : Slots) (slot : ℕ) (e held : Entry) → map.get s slot ≡ Some held
+        → set_once s slot e ≡ s }
+    ensures right { (s : Slots) (slot : ℕ) (e : Entry) → AllRight s → IsRight e
+        → AllRight (set_once s slot e) }
 {}
 
 /// Whatever list of steps any workers make, in any order: where each offers a right entry, every entry is right after
 /// them, if every one was before; and an entry that stood in a slot stands there still.
 #[tactic(auto, using(crate::proofs::StepLemmas::stay_right, crate::proofs::StepLemmas::stays))]
 pub fn steps()
-    ensures right { (s : Slots) (steps : List Step) → AllRight s → OfferRight steps → AllRight (after s steps) }
-    ensures stays { (s : Slots) (steps : List Step) (slot : ℕ) (held : Entry) → map.get s slot ≡ Some held
+    ensures right { (s : Slots) (steps : List Step) → AllRight s → OfferRight steps
+        → AllRight (after s steps) }
+    ensures stays { (s : Slots) (steps : List Step) (slot : ℕ) (held : Entry)
+        → map.get s slot ≡ Some held
         → map.get (after s steps) slot ≡ Some held }
 {}
 

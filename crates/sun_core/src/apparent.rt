@@ -24,7 +24,8 @@ fn ahead<E: Enclosure>(longitude: Frac) -> E
 /// test, at `year`; it is void at `year` in a year without a correction.
 #[tactic(auto, using(book_model::proofs::Leads::leading), unfolding(book_model::specs::sky::Noon::from_apparent_of))]
 pub fn from_apparent<E: Enclosure>(longitude: Frac, t: E, trail: &mut Trail) -> Result<E, Fail>
-    ensures leads { Follows1 E.shown (from_apparent_of (fraction_of longitude)) t trail.old.count trail.new.count result }
+    ensures leads { Follows1 E.shown (from_apparent_of (fraction_of longitude)) t trail.old.count
+        trail.new.count result }
     ensures counted { trail.new.count ≡ next_turn trail.old.count }
 {
     match equation_of_time(t.sub(ahead::<E>(longitude)), trail) {

@@ -14,7 +14,9 @@ const GREATEST: u64 = 500_000_000_000_000;
 #[inline(always)]
 #[tactic(auto, unfolding(crate::specs::Daily::has_daily))]
 fn daily(rate: Frac) -> Option<Frac>
-    ensures daily { MatchOption result (has_daily rate ≡ false) (λ f. (has_daily rate ≡ true) × (0 < rate.den) × (f.num ≡ rate.num) × (f.den ≡ rate.den * 36525)) }
+    ensures daily { MatchOption result (has_daily rate ≡ false)
+        (λ f. (has_daily rate ≡ true) × (0 < rate.den) × (f.num ≡ rate.num)
+        × (f.den ≡ rate.den * 36525)) }
 {
     if 0 < rate.den() && rate.den() <= GREATEST {
         Frac::new(rate.num(), rate.den() * 36_525)

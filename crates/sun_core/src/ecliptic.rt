@@ -16,7 +16,9 @@ use time_scales::cubic;
 #[tactic(auto, using(book_model::proofs::Leads::leading), unfolding(book_model::specs::sky::Sun::obliquity_of))]
 pub fn obliquity<E: Enclosure>(c: E, trail: &mut Trail) -> Result<E, Fail>
     ensures leads { Follows1 E.shown obliquity_of c trail.old.count trail.new.count result }
-    ensures narrow { IfOk result (λ y. (r : Reach) (x : Expression) → Narrow E.shown (limits_of E.BITS) r x c → Narrow E.shown (limits_of E.BITS) r (cubic_of OBLIQUITY x) y) }
+    ensures narrow { IfOk result (λ y. (r : Reach) (x : Expression)
+        → Narrow E.shown (limits_of E.BITS) r x c → Narrow E.shown (limits_of E.BITS) r
+        (cubic_of OBLIQUITY x) y) }
     ensures counted { trail.new.count ≡ trail.old.count }
 {
     Ok(cubic(&OBLIQUITY, c))

@@ -81,7 +81,8 @@ fn second_centre<E: Enclosure>(eccentricity: E, anomaly: E) -> E
 #[tactic(auto, unfolding(crate::specs::Steps::first_radians_of))]
 fn first_radians<E: Enclosure>(tilt: E, eccentricity: E, mean_sun: E, anomaly: E) -> E
     ensures holds { Holds4 E.shown first_radians_of tilt eccentricity mean_sun anomaly result }
-    ensures narrow { Narrows4 E.shown E.BITS first_radians_of tilt eccentricity mean_sun anomaly result }
+    ensures narrow { Narrows4 E.shown E.BITS first_radians_of tilt eccentricity mean_sun anomaly
+        result }
 {
     reduction(tilt, mean_sun)
         .sub(centre(eccentricity, anomaly))

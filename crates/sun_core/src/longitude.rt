@@ -62,9 +62,16 @@ fn mean_longitude<E: Enclosure>(days: E) -> E
 /// The longitude of the sun by the days from noon of 1 January 2000, and these in centuries; not reduced.
 #[tactic(auto, unfolding(book_model::specs::sky::Sun::longitude_of, crate::specs::Steps::computed_longitude_of, crate::specs::Steps::periodic_of, crate::specs::Steps::mean_longitude_of))]
 fn longitude<E: Enclosure>(days: E, c: E) -> E
-    ensures holds { (w : World) (x : Expression) → Within E.shown w x days → Within E.shown w (in_centuries x) c → Within E.shown w (longitude_of (in_centuries x)) result }
-    ensures narrow { (r : Reach) (x : Expression) → Narrow E.shown (limits_of E.BITS) r x days → Narrow E.shown (limits_of E.BITS) r (in_centuries x) c → Narrow E.shown (limits_of E.BITS) r (computed_longitude_of x) result }
-    ensures close { (w : ℕ) → E.BITS ≡ 36 → Narrow E.shown (limits_of E.BITS) (record { width = w; bounds = days_of_years }) (argument 0) days → Narrow E.shown (limits_of E.BITS) (record { width = w; bounds = days_of_years }) (in_centuries (argument 0)) c → IsNarrow w longitude_bound (E.shown result) }
+    ensures holds { (w : World) (x : Expression) → Within E.shown w x days
+        → Within E.shown w (in_centuries x) c → Within E.shown w
+        (longitude_of (in_centuries x)) result }
+    ensures narrow { (r : Reach) (x : Expression) → Narrow E.shown (limits_of E.BITS) r x days
+        → Narrow E.shown (limits_of E.BITS) r (in_centuries x) c
+        → Narrow E.shown (limits_of E.BITS) r (computed_longitude_of x) result }
+    ensures close { (w : ℕ) → E.BITS ≡ 36 → Narrow E.shown (limits_of E.BITS)
+        (record { width = w; bounds = days_of_years }) (argument 0) days
+        → Narrow E.shown (limits_of E.BITS) (record { width = w; bounds = days_of_years })
+        (in_centuries (argument 0)) c → IsNarrow w longitude_bound (E.shown result) }
 {
     mean_longitude(days)
         .add(periodic(days))

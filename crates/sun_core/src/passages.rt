@@ -29,7 +29,8 @@ impl<E: Enclosure> Angular<E> for SolarLongitude {
 /// How far the sun is before a longitude, from 0 up to 360 degrees: three tests at most.
 #[tactic(auto, using(book_model::proofs::Leads::leading), unfolding(book_model::specs::sky::Sun::sun_short_of, book_model::specs::programs::Leading::next_turn))]
 fn sun_short<E: Enclosure>(longitude: E, t: E, trail: &mut Trail) -> Result<E, Fail>
-    ensures leads { Follows2 E.shown spec.sun_short_of longitude t trail.old.count trail.new.count result }
+    ensures leads { Follows2 E.shown spec.sun_short_of longitude t trail.old.count trail.new.count
+        result }
     ensures counted { trail.new.count ≤ trail.old.count + 3 }
 {
     match longitude::sun(t, trail) {
@@ -50,7 +51,8 @@ fn forward<E: Enclosure>(angle: E, t: E) -> E
 /// When the sun is at a longitude about a moment, but not before the moment `t`: 321 tests at most.
 #[tactic(auto, unfolding(book_model::specs::sky::Sun::sun_about_of))]
 fn sun_about<E: Enclosure>(longitude: E, t: E, about: E, trail: &mut Trail) -> Result<E, Fail>
-    ensures leads { Follows3 E.shown spec.sun_about_of longitude t about trail.old.count trail.new.count result }
+    ensures leads { Follows3 E.shown spec.sun_about_of longitude t about trail.old.count
+        trail.new.count result }
     ensures counted { trail.new.count ≤ trail.old.count + 321 }
 {
     let days = E::from_int(DAYS_ABOUT);

@@ -45,8 +45,10 @@ pub fn sine_wave<E: Enclosure>(wave: &Wave, days: E) -> E
 /// The size of a wave, in ten-millionths, times the cosine of its angle, by the days.
 #[inline(always)]
 pub(crate) fn cosine_wave<E: Enclosure>(wave: &Wave, days: E) -> E
-    ensures holds { Holds1 E.shown (λ x. scale (ten_millionths wave.now.size) (cosine (angle_of_wave wave.now (in_centuries x)))) days result }
-    ensures narrow { Narrows1 E.shown E.BITS (λ x. scale (ten_millionths wave.now.size) (cosine (daily_angle_of wave.now x))) days result }
+    ensures holds { Holds1 E.shown (λ x. scale (ten_millionths wave.now.size)
+        (cosine (angle_of_wave wave.now (in_centuries x)))) days result }
+    ensures narrow { Narrows1 E.shown E.BITS (λ x. scale (ten_millionths wave.now.size)
+        (cosine (daily_angle_of wave.now x))) days result }
 {
     cos_deg(wave_angle(wave, days)).mul_frac(Frac::ten_millionths(wave.size))
 }

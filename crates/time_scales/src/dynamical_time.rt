@@ -110,9 +110,12 @@ fn correction_in_row<E: Enclosure>(row: Row, year: i64) -> E
 /// 14, ephemeris correction). It makes no test, and is void at `year` outside -499 to 499 and 1800 to 2050.
 pub fn correction<E: Enclosure>(year: i64, trail: &mut Trail) -> Result<E, Fail>
     ensures leads { Follows E.shown (correction_of_year year) trail.old.count trail.new.count result }
-    ensures narrow { IfOk result (λ e. (r : Reach) → Narrow E.shown (limits_of E.BITS) r (computed_of year) e) }
-    ensures close { 36 ≤ E.BITS → E.BITS ≤ 56 → pos 1987 ≤ℤ year → year ≤ℤ pos 2050 → IfOk result (λ e. IsNarrow 0 (correction_bound 4 E.BITS) (E.shown e)) }
-    ensures close_before { 36 ≤ E.BITS → E.BITS ≤ 56 → pos 1800 ≤ℤ year → year ≤ℤ pos 1986 → IfOk result (λ e. IsNarrow 0 (correction_bound 33 E.BITS) (E.shown e)) }
+    ensures narrow { IfOk result (λ e. (r : Reach) → Narrow E.shown (limits_of E.BITS) r
+        (computed_of year) e) }
+    ensures close { 36 ≤ E.BITS → E.BITS ≤ 56 → pos 1987 ≤ℤ year → year ≤ℤ pos 2050
+        → IfOk result (λ e. IsNarrow 0 (correction_bound 4 E.BITS) (E.shown e)) }
+    ensures close_before { 36 ≤ E.BITS → E.BITS ≤ 56 → pos 1800 ≤ℤ year → year ≤ℤ pos 1986
+        → IfOk result (λ e. IsNarrow 0 (correction_bound 33 E.BITS) (E.shown e)) }
     ensures void { IfErr result (λ f. f ≡ Fail.Void Site.Year) }
     ensures counted { trail.new.count ≡ trail.old.count }
 {

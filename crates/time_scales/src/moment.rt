@@ -25,7 +25,8 @@ fn year_at(moment: i128) -> i64
 
 /// The year in which both ends fall, by the test of the run that has this number.
 fn year_between(span: Span, turn: u32) -> Result<i64, Fail>
-    ensures decided { IfOk result (λ y. cell_at years (between (at_56 span.lo) (at_56 span.hi)) ≡ Some y) }
+    ensures decided { IfOk result (λ y. cell_at years (between (at_56 span.lo) (at_56 span.hi))
+        ≡ Some y) }
     ensures open { IfErr result (IsOpenYear (between (at_56 span.lo) (at_56 span.hi)) turn) }
 {
     let first = year_at(span.lo);
@@ -43,7 +44,8 @@ fn year_between(span: Span, turn: u32) -> Result<i64, Fail>
 /// The Gregorian year of a whole day (R.D.), as a test that is always decided.
 pub fn year_of_whole_day(day: i64, trail: &mut Trail) -> i64
     ensures year { result ≡ year_of_day day }
-    ensures leads { (w : World) → Leads w Exact (year_of (integer day)) trail.old.count trail.new.count (Ok result) }
+    ensures leads { (w : World) → Leads w Exact (year_of (integer day)) trail.old.count
+        trail.new.count (Ok result) }
     ensures counted { trail.new.count ≡ next_turn trail.old.count }
 {
     trail.step();

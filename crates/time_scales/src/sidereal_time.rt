@@ -17,7 +17,9 @@ use encl_core::{Enclosure, Trail};
 #[tactic(auto, using(book_model::proofs::Leads::leading), unfolding(book_model::specs::sky::Time::sidereal_of))]
 pub fn sidereal<E: Enclosure>(t: E, trail: &mut Trail) -> Result<E, Fail>
     ensures leads { Follows1 E.shown sidereal_of t trail.old.count trail.new.count result }
-    ensures narrow { IfOk result (λ y. (r : Reach) (x : Expression) → Narrow E.shown (limits_of E.BITS) r x t → Narrow E.shown (limits_of E.BITS) r (cubic_of SIDEREAL_TIME (in_centuries x)) y) }
+    ensures narrow { IfOk result (λ y. (r : Reach) (x : Expression)
+        → Narrow E.shown (limits_of E.BITS) r x t → Narrow E.shown (limits_of E.BITS) r
+        (cubic_of SIDEREAL_TIME (in_centuries x)) y) }
     ensures counted { trail.new.count ≡ trail.old.count }
 {
     Ok(cubic(&SIDEREAL_TIME, to_centuries(t)))

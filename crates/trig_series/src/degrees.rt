@@ -30,7 +30,8 @@ fn cut_sine(lo: i128, hi: i128) -> Span
     requires ordered { lo ≤ℤ hi }
     requires from { neg_ℤ (pos (2 ^ 120)) ≤ℤ lo }
     requires to { hi ≤ℤ pos (2 ^ 120) }
-    ensures holds { (n : ℕ) → DEPTH ≤ n → sine_of_degrees n (between (at_56 lo) (at_56 hi)) ⊆ between (at_56 result.lo) (at_56 result.hi) }
+    ensures holds { (n : ℕ) → DEPTH ≤ n → sine_of_degrees n
+        (between (at_56 lo) (at_56 hi)) ⊆ between (at_56 result.lo) (at_56 result.hi) }
     ensures narrow { IsNarrowSine lo hi result.lo result.hi }
 {
     let sine = sine_between(lo, hi);
@@ -41,7 +42,9 @@ fn cut_sine(lo: i128, hi: i128) -> Span
 
 /// The sine over ends in degrees; whatever a sine may be, where they are a turn or more apart, or too far from 0.
 fn sine_over(degrees: Span) -> Span
-    ensures holds { (n : ℕ) → DEPTH ≤ n → sine_of_degrees n (between (at_56 degrees.lo) (at_56 degrees.hi)) ⊆ between (at_56 result.lo) (at_56 result.hi) }
+    ensures holds { (n : ℕ) → DEPTH ≤ n → sine_of_degrees n
+        (between (at_56 degrees.lo) (at_56 degrees.hi)) ⊆ between (at_56 result.lo)
+        (at_56 result.hi) }
     ensures narrow { IsNarrowSine degrees.lo degrees.hi result.lo result.hi }
 {
     if degrees.lo < -FAR {
@@ -58,7 +61,9 @@ fn sine_over(degrees: Span) -> Span
 
 /// The cosine over ends in degrees: the sine over 90 degrees more.
 fn cosine_over(degrees: Span) -> Span
-    ensures holds { (n : ℕ) → DEPTH ≤ n → cosine_of_degrees n (between (at_56 degrees.lo) (at_56 degrees.hi)) ⊆ between (at_56 result.lo) (at_56 result.hi) }
+    ensures holds { (n : ℕ) → DEPTH ≤ n → cosine_of_degrees n
+        (between (at_56 degrees.lo) (at_56 degrees.hi)) ⊆ between (at_56 result.lo)
+        (at_56 result.hi) }
     ensures narrow { IsNarrowCosine degrees.lo degrees.hi result.lo result.hi }
 {
     if degrees.hi > FAR {

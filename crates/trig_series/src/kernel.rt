@@ -24,7 +24,8 @@ fn high_half(a: u64, b: u64) -> u64
 fn step(coefficient: u64, square: u64, inner: u64) -> u64
     requires falling { inner ≤ coefficient }
     requires half { 2 * inner ≤ 2 ^ 64 }
-    ensures near { (c u v : Fraction) → zero_fraction ≤F u → IsCut coefficient c → IsSquare square u → IsNear 320 inner v → IsNear 320 result (plus c (opposite (times u v))) }
+    ensures near { (c u v : Fraction) → zero_fraction ≤F u → IsCut coefficient c → IsSquare square u
+        → IsNear 320 inner v → IsNear 320 result (plus c (opposite (times u v))) }
     ensures below { result ≤ coefficient }
 {
     coefficient - high_half(square, inner)
@@ -70,7 +71,8 @@ fn cosine_at(angle: u64) -> u64
 #[inline(always)]
 fn angle(degrees: u64) -> u64
     requires octant { degrees ≤ OCTANT }
-    ensures near { (n : ℕ) → 12 ≤ n → radians n (at_56 (pos degrees)) ⊆ between (at_64 (pos result)) (at_64 (pos result +ℤ pos 68)) }
+    ensures near { (n : ℕ) → 12 ≤ n → radians n (at_56 (pos degrees)) ⊆ between (at_64 (pos result))
+        (at_64 (pos result +ℤ pos 68)) }
     ensures there { (x : Fraction) → IsInRadians degrees x → IsAngle result x }
     ensures small { result ≤ 14757395258967641292 }
 {
@@ -80,7 +82,8 @@ fn angle(degrees: u64) -> u64
 /// The sine of so many degrees of an octant, which count 2⁻⁵⁶, within 384.
 pub(crate) fn sine_of(degrees: u64) -> u64
     requires octant { degrees ≤ OCTANT }
-    ensures near { (n : ℕ) → 12 ≤ n → sine_series n (radians n (at_56 (pos degrees))) ⊆ between (at_64 (pos result -ℤ pos 384)) (at_64 (pos result +ℤ pos 384)) }
+    ensures near { (n : ℕ) → 12 ≤ n → sine_series n (radians n (at_56 (pos degrees))) ⊆ between
+        (at_64 (pos result -ℤ pos 384)) (at_64 (pos result +ℤ pos 384)) }
     ensures ends { (n : ℕ) (x : Fraction) → 8 ≤ n → IsInRadians degrees x → AreSineEnds x result n }
 {
     sine_at(angle(degrees))
@@ -89,7 +92,8 @@ pub(crate) fn sine_of(degrees: u64) -> u64
 /// The cosine of so many degrees of an octant, which count 2⁻⁵⁶, within 320.
 pub(crate) fn cosine_of(degrees: u64) -> u64
     requires octant { degrees ≤ OCTANT }
-    ensures near { (n : ℕ) → 12 ≤ n → cosine_series n (radians n (at_56 (pos degrees))) ⊆ between (at_64 (pos result -ℤ pos 320)) (at_64 (pos result +ℤ pos 320)) }
+    ensures near { (n : ℕ) → 12 ≤ n → cosine_series n (radians n (at_56 (pos degrees))) ⊆ between
+        (at_64 (pos result -ℤ pos 320)) (at_64 (pos result +ℤ pos 320)) }
     ensures ends { (n : ℕ) (x : Fraction) → 9 ≤ n → IsInRadians degrees x → AreCosineEnds x result n }
 {
     cosine_at(angle(degrees))

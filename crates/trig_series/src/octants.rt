@@ -20,7 +20,8 @@ fn sine_into_half(octant: i128, degrees: u64) -> Span
     requires from { pos 0 ≤ℤ octant }
     requires to { octant ≤ℤ pos 3 }
     requires high { degrees ≤ OCTANT }
-    ensures holds { (n : ℕ) (y : Fraction) → DEPTH ≤ n → y ≈ at_56 (pos degrees) → into_octant n (unsigned_abs octant) y ⊆ between (at_56 result.lo) (at_56 result.hi) }
+    ensures holds { (n : ℕ) (y : Fraction) → DEPTH ≤ n → y ≈ at_56 (pos degrees)
+        → into_octant n (unsigned_abs octant) y ⊆ between (at_56 result.lo) (at_56 result.hi) }
     ensures near { IsPoint (unsigned_abs octant) degrees result.lo result.hi }
     ensures room { IsSmall result.lo result.hi }
     ensures begins { degrees ≡ 0 → IsAt (edge_of (unsigned_abs octant)) result.lo result.hi }
@@ -55,7 +56,8 @@ fn sine_into(octant: i128, degrees: u64) -> Span
     requires from { pos 0 ≤ℤ octant }
     requires to { octant ≤ℤ pos 7 }
     requires high { degrees ≤ OCTANT }
-    ensures holds { (n : ℕ) (y : Fraction) → DEPTH ≤ n → y ≈ at_56 (pos degrees) → into_octant n (unsigned_abs octant) y ⊆ between (at_56 result.lo) (at_56 result.hi) }
+    ensures holds { (n : ℕ) (y : Fraction) → DEPTH ≤ n → y ≈ at_56 (pos degrees)
+        → into_octant n (unsigned_abs octant) y ⊆ between (at_56 result.lo) (at_56 result.hi) }
     ensures near { IsPoint (unsigned_abs octant) degrees result.lo result.hi }
     ensures room { IsSmall result.lo result.hi }
     ensures begins { degrees ≡ 0 → IsAt (edge_of (unsigned_abs octant)) result.lo result.hi }
@@ -85,10 +87,14 @@ fn sine_at(octant: i128, degrees: i128) -> Span
     requires to { octant ≤ℤ pos (2 ^ 60) }
     requires low { (octant *ℤ pos OCTANT) ≤ℤ degrees }
     requires high { degrees ≤ℤ (octant *ℤ pos OCTANT +ℤ pos OCTANT) }
-    ensures holds { (n : ℕ) (y : Fraction) → DEPTH ≤ n → y ≈ at_56 degrees → at_degrees n octant y ⊆ between (at_56 result.lo) (at_56 result.hi) }
-    ensures near { IsPoint (octant_of_turn octant) (unsigned_abs (degrees -ℤ octant *ℤ pos OCTANT)) result.lo result.hi }
-    ensures begins { degrees ≡ octant *ℤ pos OCTANT → IsAt (edge_of (octant_of_turn octant)) result.lo result.hi }
-    ensures ends { degrees ≡ octant *ℤ pos OCTANT +ℤ pos OCTANT → IsAt (edge_of (suc (octant_of_turn octant))) result.lo result.hi }
+    ensures holds { (n : ℕ) (y : Fraction) → DEPTH ≤ n → y ≈ at_56 degrees
+        → at_degrees n octant y ⊆ between (at_56 result.lo) (at_56 result.hi) }
+    ensures near { IsPoint (octant_of_turn octant) (unsigned_abs (degrees -ℤ octant *ℤ pos OCTANT))
+        result.lo result.hi }
+    ensures begins { degrees ≡ octant *ℤ pos OCTANT → IsAt
+        (edge_of (octant_of_turn octant)) result.lo result.hi }
+    ensures ends { degrees ≡ octant *ℤ pos OCTANT +ℤ pos OCTANT
+        → IsAt (edge_of (suc (octant_of_turn octant))) result.lo result.hi }
 {
     sine_into(
         octant_in_turn(octant),
@@ -104,12 +110,19 @@ fn sine_in(octant: i128, lo: i128, hi: i128) -> Span
     requires ordered { lo ≤ℤ hi }
     requires begun { (octant *ℤ pos OCTANT) ≤ℤ hi }
     requires ended { lo ≤ℤ (octant *ℤ pos OCTANT +ℤ pos OCTANT) }
-    ensures holds { (n : ℕ) → DEPTH ≤ n → in_octant n (at_56 lo) (at_56 hi) octant ⊆ between (at_56 result.lo) (at_56 result.hi) }
-    ensures narrow { (pos 57 *ℤ (result.hi -ℤ result.lo)) ≤ℤ ((int_min (octant *ℤ pos OCTANT +ℤ pos OCTANT) hi -ℤ int_max (octant *ℤ pos OCTANT) lo) +ℤ pos 513) }
-    ensures begins { lo ≤ℤ (octant *ℤ pos OCTANT) → IsAt (edge_of (octant_of_turn octant)) result.lo result.hi }
-    ensures ends { (octant *ℤ pos OCTANT +ℤ pos OCTANT) ≤ℤ hi → IsAt (edge_of (suc (octant_of_turn octant))) result.lo result.hi }
-    ensures small { (a : ℤ) → neg_ℤ a ≤ℤ lo → hi ≤ℤ a → a <ℤ pos OCTANT → IsAround (pos 0) a result.lo result.hi }
-    ensures crest { (a : ℤ) → (QUARTER -ℤ a) ≤ℤ lo → hi ≤ℤ (QUARTER +ℤ a) → a <ℤ pos OCTANT → IsCrest a result.lo }
+    ensures holds { (n : ℕ) → DEPTH ≤ n → in_octant n (at_56 lo) (at_56 hi) octant ⊆ between
+        (at_56 result.lo) (at_56 result.hi) }
+    ensures narrow { (pos 57 *ℤ (result.hi -ℤ result.lo)) ≤ℤ
+        ((int_min (octant *ℤ pos OCTANT +ℤ pos OCTANT) hi -ℤ int_max (octant *ℤ pos OCTANT) lo)
+        +ℤ pos 513) }
+    ensures begins { lo ≤ℤ (octant *ℤ pos OCTANT) → IsAt (edge_of (octant_of_turn octant)) result.lo
+        result.hi }
+    ensures ends { (octant *ℤ pos OCTANT +ℤ pos OCTANT) ≤ℤ hi
+        → IsAt (edge_of (suc (octant_of_turn octant))) result.lo result.hi }
+    ensures small { (a : ℤ) → neg_ℤ a ≤ℤ lo → hi ≤ℤ a → a <ℤ pos OCTANT
+        → IsAround (pos 0) a result.lo result.hi }
+    ensures crest { (a : ℤ) → (QUARTER -ℤ a) ≤ℤ lo → hi ≤ℤ (QUARTER +ℤ a) → a <ℤ pos OCTANT
+        → IsCrest a result.lo }
 {
     let edge = octant * WIDE_OCTANT;
     let low = sine_at(octant, edge.max(lo));
@@ -180,10 +193,14 @@ fn sine_over_octants(first: i128, last: i128, lo: i128, hi: i128) -> Span
     requires above { neg_ℤ (pos (2 ^ 60)) ≤ℤ first }
     requires below { last <ℤ pos (2 ^ 60) }
     requires several { first <ℤ last }
-    ensures holds { (n : ℕ) → DEPTH ≤ n → sine_of_degrees n (between (at_56 lo) (at_56 hi)) ⊆ between (at_56 result.lo) (at_56 result.hi) }
-    ensures narrow { (pos 57 *ℤ (result.hi -ℤ result.lo)) ≤ℤ ((hi -ℤ lo) +ℤ pos 513 *ℤ ((last -ℤ first) +ℤ pos 1)) }
-    ensures small { (a : ℤ) → neg_ℤ a ≤ℤ lo → hi ≤ℤ a → a <ℤ pos OCTANT → IsAround (pos 0) a result.lo result.hi }
-    ensures crest { (a : ℤ) → (QUARTER -ℤ a) ≤ℤ lo → hi ≤ℤ (QUARTER +ℤ a) → a <ℤ pos OCTANT → IsCrest a result.lo }
+    ensures holds { (n : ℕ) → DEPTH ≤ n → sine_of_degrees n
+        (between (at_56 lo) (at_56 hi)) ⊆ between (at_56 result.lo) (at_56 result.hi) }
+    ensures narrow { (pos 57 *ℤ (result.hi -ℤ result.lo)) ≤ℤ
+        ((hi -ℤ lo) +ℤ pos 513 *ℤ ((last -ℤ first) +ℤ pos 1)) }
+    ensures small { (a : ℤ) → neg_ℤ a ≤ℤ lo → hi ≤ℤ a → a <ℤ pos OCTANT
+        → IsAround (pos 0) a result.lo result.hi }
+    ensures crest { (a : ℤ) → (QUARTER -ℤ a) ≤ℤ lo → hi ≤ℤ (QUARTER +ℤ a) → a <ℤ pos OCTANT
+        → IsCrest a result.lo }
 {
     let mut sine = sine_in(first, lo, hi);
     for octant in first + 1..last + 1 {
@@ -200,11 +217,15 @@ fn sine_within(octant: i128, lo: i128, hi: i128) -> Span
     requires begun { (octant *ℤ pos OCTANT) ≤ℤ lo }
     requires ordered { lo ≤ℤ hi }
     requires ended { hi ≤ℤ (octant *ℤ pos OCTANT +ℤ pos OCTANT) }
-    ensures holds { (n : ℕ) → DEPTH ≤ n → in_octant n (at_56 lo) (at_56 hi) octant ⊆ between (at_56 result.lo) (at_56 result.hi) }
+    ensures holds { (n : ℕ) → DEPTH ≤ n → in_octant n (at_56 lo) (at_56 hi) octant ⊆ between
+        (at_56 result.lo) (at_56 result.hi) }
     ensures narrow { (pos 57 *ℤ (result.hi -ℤ result.lo)) ≤ℤ ((hi -ℤ lo) +ℤ pos 513) }
-    ensures small { (a : ℤ) → neg_ℤ a ≤ℤ lo → hi ≤ℤ a → a <ℤ pos OCTANT → IsAround (pos 0) a result.lo result.hi }
-    ensures crest { (a : ℤ) → (QUARTER -ℤ a) ≤ℤ lo → hi ≤ℤ (QUARTER +ℤ a) → a <ℤ pos OCTANT → IsCrest a result.lo }
-    ensures near { IsPart (octant_of_turn octant) (unsigned_abs (lo -ℤ octant *ℤ pos OCTANT)) (unsigned_abs (hi -ℤ octant *ℤ pos OCTANT)) result.lo result.hi }
+    ensures small { (a : ℤ) → neg_ℤ a ≤ℤ lo → hi ≤ℤ a → a <ℤ pos OCTANT
+        → IsAround (pos 0) a result.lo result.hi }
+    ensures crest { (a : ℤ) → (QUARTER -ℤ a) ≤ℤ lo → hi ≤ℤ (QUARTER +ℤ a) → a <ℤ pos OCTANT
+        → IsCrest a result.lo }
+    ensures near { IsPart (octant_of_turn octant) (unsigned_abs (lo -ℤ octant *ℤ pos OCTANT))
+        (unsigned_abs (hi -ℤ octant *ℤ pos OCTANT)) result.lo result.hi }
 {
     let edge = octant * WIDE_OCTANT;
     let from = (lo - edge) as u64;
@@ -219,10 +240,14 @@ fn sine_over_edges(lo: i128, hi: i128) -> Span
     requires from { neg_ℤ (pos (2 ^ 120)) ≤ℤ lo }
     requires to { hi ≤ℤ pos (2 ^ 120) }
     requires several { first_octant (at_56 lo) <ℤ last_octant (at_56 hi) }
-    ensures holds { (n : ℕ) → DEPTH ≤ n → sine_of_degrees n (between (at_56 lo) (at_56 hi)) ⊆ between (at_56 result.lo) (at_56 result.hi) }
-    ensures narrow { ((pos 3 *ℤ pos OCTANT) ≤ℤ (hi -ℤ lo)) ⊎ ((pos 57 *ℤ (result.hi -ℤ result.lo)) ≤ℤ ((hi -ℤ lo) +ℤ pos 2052)) }
-    ensures small { (a : ℤ) → neg_ℤ a ≤ℤ lo → hi ≤ℤ a → a <ℤ pos OCTANT → IsAround (pos 0) a result.lo result.hi }
-    ensures crest { (a : ℤ) → (QUARTER -ℤ a) ≤ℤ lo → hi ≤ℤ (QUARTER +ℤ a) → a <ℤ pos OCTANT → IsCrest a result.lo }
+    ensures holds { (n : ℕ) → DEPTH ≤ n → sine_of_degrees n
+        (between (at_56 lo) (at_56 hi)) ⊆ between (at_56 result.lo) (at_56 result.hi) }
+    ensures narrow { ((pos 3 *ℤ pos OCTANT) ≤ℤ (hi -ℤ lo))
+        ⊎ ((pos 57 *ℤ (result.hi -ℤ result.lo)) ≤ℤ ((hi -ℤ lo) +ℤ pos 2052)) }
+    ensures small { (a : ℤ) → neg_ℤ a ≤ℤ lo → hi ≤ℤ a → a <ℤ pos OCTANT
+        → IsAround (pos 0) a result.lo result.hi }
+    ensures crest { (a : ℤ) → (QUARTER -ℤ a) ≤ℤ lo → hi ≤ℤ (QUARTER +ℤ a) → a <ℤ pos OCTANT
+        → IsCrest a result.lo }
 {
     sine_over_octants(first_met(lo), last_met(hi), lo, hi)
 }
@@ -234,11 +259,17 @@ pub(crate) fn sine_between(lo: i128, hi: i128) -> Span
     requires ordered { lo ≤ℤ hi }
     requires from { neg_ℤ (pos (2 ^ 120)) ≤ℤ lo }
     requires to { hi ≤ℤ pos (2 ^ 120) }
-    ensures holds { (n : ℕ) → DEPTH ≤ n → sine_of_degrees n (between (at_56 lo) (at_56 hi)) ⊆ between (at_56 result.lo) (at_56 result.hi) }
-    ensures narrow { ((pos 3 *ℤ pos OCTANT) ≤ℤ (hi -ℤ lo)) ⊎ ((pos 57 *ℤ (result.hi -ℤ result.lo)) ≤ℤ ((hi -ℤ lo) +ℤ pos 2052)) }
-    ensures small { (a : ℤ) → neg_ℤ a ≤ℤ lo → hi ≤ℤ a → a <ℤ pos OCTANT → IsAround (pos 0) a result.lo result.hi }
-    ensures crest { (a : ℤ) → (QUARTER -ℤ a) ≤ℤ lo → hi ≤ℤ (QUARTER +ℤ a) → a <ℤ pos OCTANT → IsCrest a result.lo }
-    ensures inside { (k : ℤ) → IsInside k lo hi → IsPart (octant_of_turn k) (unsigned_abs (lo -ℤ k *ℤ pos OCTANT)) (unsigned_abs (hi -ℤ k *ℤ pos OCTANT)) result.lo result.hi }
+    ensures holds { (n : ℕ) → DEPTH ≤ n → sine_of_degrees n
+        (between (at_56 lo) (at_56 hi)) ⊆ between (at_56 result.lo) (at_56 result.hi) }
+    ensures narrow { ((pos 3 *ℤ pos OCTANT) ≤ℤ (hi -ℤ lo))
+        ⊎ ((pos 57 *ℤ (result.hi -ℤ result.lo)) ≤ℤ ((hi -ℤ lo) +ℤ pos 2052)) }
+    ensures small { (a : ℤ) → neg_ℤ a ≤ℤ lo → hi ≤ℤ a → a <ℤ pos OCTANT
+        → IsAround (pos 0) a result.lo result.hi }
+    ensures crest { (a : ℤ) → (QUARTER -ℤ a) ≤ℤ lo → hi ≤ℤ (QUARTER +ℤ a) → a <ℤ pos OCTANT
+        → IsCrest a result.lo }
+    ensures inside { (k : ℤ) → IsInside k lo hi → IsPart (octant_of_turn k)
+        (unsigned_abs (lo -ℤ k *ℤ pos OCTANT)) (unsigned_abs (hi -ℤ k *ℤ pos OCTANT)) result.lo
+        result.hi }
 {
     let octant = octants_in(lo);
     let edge = octant * WIDE_OCTANT;

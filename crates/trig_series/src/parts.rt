@@ -30,7 +30,8 @@ fn most_moved(degrees: u64) -> i128
 fn sine_part(from: u64, to: u64) -> Span
     requires ordered { from ≤ to }
     requires octant { to ≤ OCTANT }
-    ensures holds { (n d : ℕ) (y : Fraction) → DEPTH ≤ n → from ≤ d → d ≤ to → y ≈ at_56 (pos d) → sine_series n (radians n y) ⊆ between (at_56 result.lo) (at_56 result.hi) }
+    ensures holds { (n d : ℕ) (y : Fraction) → DEPTH ≤ n → from ≤ d → d ≤ to → y ≈ at_56 (pos d)
+        → sine_series n (radians n y) ⊆ between (at_56 result.lo) (at_56 result.hi) }
     ensures narrow { (pos 57 *ℤ (result.hi -ℤ result.lo)) ≤ℤ ((pos to -ℤ pos from) +ℤ pos 513) }
     ensures room { IsSmall result.lo result.hi }
     ensures near { IsRising (pos from) (pos to) result.lo result.hi }
@@ -47,7 +48,8 @@ fn sine_part(from: u64, to: u64) -> Span
 fn cosine_part(from: u64, to: u64) -> Span
     requires ordered { from ≤ to }
     requires octant { to ≤ OCTANT }
-    ensures holds { (n d : ℕ) (y : Fraction) → DEPTH ≤ n → from ≤ d → d ≤ to → y ≈ at_56 (pos d) → cosine_series n (radians n y) ⊆ between (at_56 result.lo) (at_56 result.hi) }
+    ensures holds { (n d : ℕ) (y : Fraction) → DEPTH ≤ n → from ≤ d → d ≤ to → y ≈ at_56 (pos d)
+        → cosine_series n (radians n y) ⊆ between (at_56 result.lo) (at_56 result.hi) }
     ensures narrow { (pos 57 *ℤ (result.hi -ℤ result.lo)) ≤ℤ ((pos to -ℤ pos from) +ℤ pos 513) }
     ensures room { IsSmall result.lo result.hi }
     ensures near { IsCrest (pos to) result.lo }
@@ -66,7 +68,8 @@ fn part_of_half(octant: i128, from: u64, to: u64) -> Span
     requires last { octant ≤ℤ pos 3 }
     requires ordered { from ≤ to }
     requires high { to ≤ OCTANT }
-    ensures holds { (n d : ℕ) (y : Fraction) → DEPTH ≤ n → from ≤ d → d ≤ to → y ≈ at_56 (pos d) → into_octant n (unsigned_abs octant) y ⊆ between (at_56 result.lo) (at_56 result.hi) }
+    ensures holds { (n d : ℕ) (y : Fraction) → DEPTH ≤ n → from ≤ d → d ≤ to → y ≈ at_56 (pos d)
+        → into_octant n (unsigned_abs octant) y ⊆ between (at_56 result.lo) (at_56 result.hi) }
     ensures narrow { (pos 57 *ℤ (result.hi -ℤ result.lo)) ≤ℤ ((pos to -ℤ pos from) +ℤ pos 513) }
     ensures room { IsSmall result.lo result.hi }
     ensures near { IsPart (unsigned_abs octant) from to result.lo result.hi }
@@ -90,7 +93,8 @@ pub(crate) fn part_of_turn(octant: i128, from: u64, to: u64) -> Span
     requires last { octant ≤ℤ pos 7 }
     requires ordered { from ≤ to }
     requires high { to ≤ OCTANT }
-    ensures holds { (n d : ℕ) (y : Fraction) → DEPTH ≤ n → from ≤ d → d ≤ to → y ≈ at_56 (pos d) → into_octant n (unsigned_abs octant) y ⊆ between (at_56 result.lo) (at_56 result.hi) }
+    ensures holds { (n d : ℕ) (y : Fraction) → DEPTH ≤ n → from ≤ d → d ≤ to → y ≈ at_56 (pos d)
+        → into_octant n (unsigned_abs octant) y ⊆ between (at_56 result.lo) (at_56 result.hi) }
     ensures narrow { (pos 57 *ℤ (result.hi -ℤ result.lo)) ≤ℤ ((pos to -ℤ pos from) +ℤ pos 513) }
     ensures near { IsPart (unsigned_abs octant) from to result.lo result.hi }
 {

@@ -58,7 +58,8 @@ fn at_octant_end() -> Span
 #[inline(always)]
 pub(crate) fn sine_point(degrees: u64) -> Span
     requires octant { degrees ≤ OCTANT }
-    ensures holds { (n : ℕ) (y : Fraction) → DEPTH ≤ n → y ≈ at_56 (pos degrees) → sine_series n (radians n y) ⊆ between (at_56 result.lo) (at_56 result.hi) }
+    ensures holds { (n : ℕ) (y : Fraction) → DEPTH ≤ n → y ≈ at_56 (pos degrees)
+        → sine_series n (radians n y) ⊆ between (at_56 result.lo) (at_56 result.hi) }
     ensures near { IsNearSine degrees result.lo result.hi }
     ensures room { IsSmall result.lo result.hi }
     ensures begins { degrees ≡ 0 → IsAt (pos 0) result.lo result.hi }
@@ -77,7 +78,8 @@ pub(crate) fn sine_point(degrees: u64) -> Span
 #[inline(always)]
 pub(crate) fn cosine_point(degrees: u64) -> Span
     requires octant { degrees ≤ OCTANT }
-    ensures holds { (n : ℕ) (y : Fraction) → DEPTH ≤ n → y ≈ at_56 (pos degrees) → cosine_series n (radians n y) ⊆ between (at_56 result.lo) (at_56 result.hi) }
+    ensures holds { (n : ℕ) (y : Fraction) → DEPTH ≤ n → y ≈ at_56 (pos degrees)
+        → cosine_series n (radians n y) ⊆ between (at_56 result.lo) (at_56 result.hi) }
     ensures near { IsNearCosine degrees result.lo result.hi }
     ensures room { IsSmall result.lo result.hi }
     ensures begins { degrees ≡ 0 → IsAt (ONE) result.lo result.hi }
