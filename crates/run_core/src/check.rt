@@ -180,7 +180,8 @@ fn check_file<K: Sink, E: Evaluator>(
     ensures fault { IsErrOf result WriteStop.Fault → spec.CutsFile (K.written sink.old)
         (K.written sink.new) file.now }
     ensures memory { IsErrOf result WriteStop.Memory →
-        Keeps (K.written sink.old) (K.written sink.new) ⊎ spec.CutsFile (K.written sink.old) (K.written sink.new) file.now }
+        Keeps (K.written sink.old) (K.written sink.new)
+        ⊎ spec.CutsFile (K.written sink.old) (K.written sink.new) file.now }
     ensures cause { IsErrOf result WriteStop.Fault → Rose (K.faults sink.old) (K.faults sink.new) }
     ensures later { K.faults sink.old ≤ K.faults sink.new }
 {
@@ -205,7 +206,8 @@ pub(crate) fn check<K: Sink, E: Evaluator>(
     ensures fault { IsErrOf result WriteStop.Fault → spec.CheckCutShort (K.written sink.old)
         (K.written sink.new) input.now }
     ensures memory { IsErrOf result WriteStop.Memory →
-        Keeps (K.written sink.old) (K.written sink.new) ⊎ spec.CheckCutShort (K.written sink.old) (K.written sink.new) input.now }
+        Keeps (K.written sink.old) (K.written sink.new)
+        ⊎ spec.CheckCutShort (K.written sink.old) (K.written sink.new) input.now }
     ensures cause { IsErrOf result WriteStop.Fault → Rose (K.faults sink.old) (K.faults sink.new) }
     ensures later { K.faults sink.old ≤ K.faults sink.new }
 {

@@ -57,7 +57,8 @@ fn print_lines<K: Sink, E: Evaluator>(
     ensures fault { IsErrOf result WriteStop.Fault → CutShort (K.written sink.old)
         (K.written sink.new) (map (λ line. line.now) lines.now) }
     ensures memory { IsErrOf result WriteStop.Memory →
-        Keeps (K.written sink.old) (K.written sink.new) ⊎ CutShort (K.written sink.old) (K.written sink.new) (map (λ line. line.now) lines.now) }
+        Keeps (K.written sink.old) (K.written sink.new)
+        ⊎ CutShort (K.written sink.old) (K.written sink.new) (map (λ line. line.now) lines.now) }
     ensures cause { IsErrOf result WriteStop.Fault → Rose (K.faults sink.old) (K.faults sink.new) }
     ensures later { K.faults sink.old ≤ K.faults sink.new }
 {
@@ -79,7 +80,8 @@ pub(crate) fn convert<K: Sink, E: Evaluator>(
     ensures fault { IsErrOf result WriteStop.Fault → CutShort (K.written sink.old)
         (K.written sink.new) (lines_of input.now) }
     ensures memory { IsErrOf result WriteStop.Memory →
-        Keeps (K.written sink.old) (K.written sink.new) ⊎ CutShort (K.written sink.old) (K.written sink.new) (lines_of input.now) }
+        Keeps (K.written sink.old) (K.written sink.new)
+        ⊎ CutShort (K.written sink.old) (K.written sink.new) (lines_of input.now) }
     ensures cause { IsErrOf result WriteStop.Fault → Rose (K.faults sink.old) (K.faults sink.new) }
     ensures later { K.faults sink.old ≤ K.faults sink.new }
 {
@@ -101,7 +103,8 @@ pub(crate) fn almanac<K: Sink, E: Evaluator>(
     ensures fault { IsErrOf result WriteStop.Fault → CutShort (K.written sink.old)
         (K.written sink.new) (texts.almanac_lines year) }
     ensures memory { IsErrOf result WriteStop.Memory →
-        Keeps (K.written sink.old) (K.written sink.new) ⊎ CutShort (K.written sink.old) (K.written sink.new) (texts.almanac_lines year) }
+        Keeps (K.written sink.old) (K.written sink.new)
+        ⊎ CutShort (K.written sink.old) (K.written sink.new) (texts.almanac_lines year) }
     ensures cause { IsErrOf result WriteStop.Fault → Rose (K.faults sink.old) (K.faults sink.new) }
     ensures later { K.faults sink.old ≤ K.faults sink.new }
 {

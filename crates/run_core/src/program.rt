@@ -82,7 +82,8 @@ fn perform<K: Sink, E: Evaluator>(
     ensures cut { result ≡ Status.WriteFault → IsCut command (K.written sink.old)
         (K.written sink.new) input.now }
     ensures memory { result ≡ Status.Memory →
-        Keeps (K.written sink.old) (K.written sink.new) ⊎ IsCut command (K.written sink.old) (K.written sink.new) input.now }
+        Keeps (K.written sink.old) (K.written sink.new)
+        ⊎ IsCut command (K.written sink.old) (K.written sink.new) input.now }
     ensures cause { result ≡ Status.WriteFault → Rose (K.faults sink.old) (K.faults sink.new) }
     ensures later { K.faults sink.old ≤ K.faults sink.new }
     ensures work { IsOfWork result }
