@@ -168,7 +168,14 @@ fn day_of_whole_month(alloc: Global) -> (Result<i64, Stop>, usize) {
     let values = [
         30, 15, 13, 4, 4, 5_124, 29, 28, 3, 4, 5_124, 30, 3, 4, 5_124, 1, 4, 4, 5_124,
     ];
-    lunar_day_over(alloc, &facts, &values, first_of(2080, 5, true))
+    let date = HinduLunar {
+        year: 2080,
+        month: 5,
+        leap_month: true,
+        day: 1,
+        leap_day: false,
+    };
+    lunar_day_over(alloc, &facts, &values, date)
 }
 
 /// The 15th of a common month, over a table of its facts.
