@@ -3,4 +3,4 @@ use Rattle.angle_search.proofs.bisection.angle_past.Goals as goal
 
 pub returns-clause-leads : goal.returns-clause-leads
 unfolding angle_past_of
-returns-clause-leads g c = λ w v y d h k. c.wrap_step.ensures.leads w _ (c.sub.ensures.holds w v y h k)
+returns-clause-leads g c = λ w v y h k. c.wrap_step.ensures.leads w _ (c.sub.ensures.holds w v y h k)

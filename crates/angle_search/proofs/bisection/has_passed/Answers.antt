@@ -4,6 +4,6 @@ use Rattle.angle_search.proofs.bisection.has_passed.Goals as goal
 
 pub returns-clause-leads : goal.returns-clause-leads
 unfolding has_passed_of
-returns-clause-leads g c = λ w v y d h k.
-    let l = c.in_ok-past.ensures.leads w v y d h k in
-    leads_on _ l (c.less_step.ensures.leads w _ _ (leaf_within l) (c.from_int.ensures.holds w d))
+returns-clause-leads g c = λ w v y h k.
+    let l = c.in_ok-past.ensures.leads w v y h k in
+    leads_on _ l (c.less_step.ensures.leads w _ _ (leaf_within l) (c.from_int.ensures.holds w h.deep))

@@ -30,5 +30,5 @@ returns g c =
     let y = simp c.end_of-end.ensures.value at (simp to_z-of_z at c.min.ensures.value) in
     record {
       holds = λ n d.
-          over_held g.E.Enclosure.shown g.E.Enclosure.proper n c.args.piece c.args.lo c.args.hi _ _ _ _ _ d (omega (arith, ints, fl)) (omega (arith, ints, fh)) (rw (← x) (simp to_z-of_z at c.point.ensures.holds)) (rw (← y) (simp to_z-of_z at c.point-2.ensures.holds)) c.arc-low.ensures.holds c.arc-high.ensures.holds c.hull.ensures.holds;
+          over_held g.E.Enclosure.shown g.E.Enclosure.proper n c.args.piece c.args.lo c.args.hi _ _ _ _ _ d (omega (arith, ints, fl)) (omega (arith, ints, fh)) (rw (← x) (simp to_z-of_z at c.point.ensures.holds)) (rw (← y) (simp to_z-of_z at c.point-2.ensures.holds)) (λ w a e h. c.arc-low.ensures.holds w a h) (λ w a e h. c.arc-high.ensures.holds w a h) c.hull.ensures.holds;
     }

@@ -6,4 +6,4 @@ use Rattle.crescent.proofs.criterion.is_within_quarter.Goals as goal
 
 pub returns-in-Ok-clause-leads : goal.returns-in-Ok-clause-leads
 unfolding is_within_quarter_of
-returns-in-Ok-clause-leads g c = λ w a d h. leads_bind_exact (λ less. answer (not less)) (c.in-Ok.ensures.leads w _ _ h (c.from_int.ensures.holds w d)) (leads_answer refl)
+returns-in-Ok-clause-leads g c = λ w a h. leads_bind_exact (λ less. answer (not less)) (c.in-Ok.ensures.leads w _ _ h (c.from_int.ensures.holds w h.deep)) (leads_answer refl)

@@ -6,8 +6,8 @@ use Rattle.fact_eval.proofs.spring.is_at_most_two.Goals as goal
 
 pub returns-in-Ok-clause-leads : goal.returns-in-Ok-clause-leads
 unfolding is_at_most_two_of bind
-returns-in-Ok-clause-leads g c = λ w x d h. leads_bind_exact (λ more. answer (not more)) (c.in-Ok.ensures.leads w _ x (c.from_int.ensures.holds w d) h) (leads_answer refl)
+returns-in-Ok-clause-leads g c = λ w x h. leads_bind_exact (λ more. answer (not more)) (c.in-Ok.ensures.leads w _ x (c.from_int.ensures.holds w h.deep) h) (leads_answer refl)
 
 pub returns-in-Err-clause-leads : goal.returns-in-Err-clause-leads
 unfolding is_at_most_two_of bind
-returns-in-Err-clause-leads g c = λ w x d h. leads_fail_exact (λ more. answer (not more)) (c.in-Err.ensures.leads w _ x (c.from_int.ensures.holds w d) h)
+returns-in-Err-clause-leads g c = λ w x h. leads_fail_exact (λ more. answer (not more)) (c.in-Err.ensures.leads w _ x (c.from_int.ensures.holds w h.deep) h)

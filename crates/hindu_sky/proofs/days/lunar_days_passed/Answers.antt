@@ -7,4 +7,4 @@ returns-clause-near g c =
     let shown = g.E.Enclosure.shown in
     let p = g.E.Enclosure.proper in
     let i = within_world shown p c.args.t in
-    lunar_days_found shown p c.args.t c.whole_lunar_days.result (c.whole_lunar_days.ensures.leads _ _ i.deep i)
+    lunar_days_found shown p c.args.t c.whole_lunar_days.result (c.whole_lunar_days.ensures.leads _ _ i)

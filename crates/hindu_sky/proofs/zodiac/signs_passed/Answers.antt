@@ -7,4 +7,4 @@ returns-clause-near g c =
     let shown = g.E.Enclosure.shown in
     let p = g.E.Enclosure.proper in
     let i = within_world shown p c.args.t in
-    signs_found shown p c.args.t c.whole_signs.result (c.whole_signs.ensures.leads _ _ i.deep i)
+    signs_found shown p c.args.t c.whole_signs.result (c.whole_signs.ensures.leads _ _ i)

@@ -7,4 +7,4 @@ returns-clause-near g c =
     let shown = g.E.Enclosure.shown in
     let p = g.E.Enclosure.proper in
     let i = within_world shown p c.args.t in
-    degrees_found shown p c.args.t c.floor_of_longitude.result (c.floor_of_longitude.ensures.leads _ _ i.deep i)
+    degrees_found shown p c.args.t c.floor_of_longitude.result (c.floor_of_longitude.ensures.leads _ _ i)

@@ -8,9 +8,9 @@ use Rattle.moon_core.proofs.quarters.phase_before.Goals as goal
 
 pub returns-in-Ok-clause-leads : goal.returns-in-Ok-clause-leads
 unfolding phase_before_of
-returns-in-Ok-clause-leads g c = λ w f x d h k.
+returns-in-Ok-clause-leads g c = λ w f x h k.
     let l = c.in-Ok.ensures.leads w f x h k in
-    leads_on _ l (c.phase_about.ensures.leads w f x _ d h k (c.phase_back.ensures.holds w _ x (leaf_within l) k))
+    leads_on _ l (c.phase_about.ensures.leads w f x _ h k (c.phase_back.ensures.holds w _ x (leaf_within l) k))
 
 pub returns-in-Ok-clause-early : goal.returns-in-Ok-clause-early
 returns-in-Ok-clause-early g c = λ z.
@@ -21,4 +21,4 @@ returns-in-Ok-clause-early g c = λ z.
     let second = within_second shown p c.args.t c.args.p in
     let l = c.in-Ok.ensures.leads w (argument 1) (argument 0) second first in
     late_failure (shown c.args.t) c.phase_about.result (three_made w (phase_past_least (argument 1) (argument 0)) z l)
-    (c.phase_about.ensures.leads w (argument 1) (argument 0) _ first.deep second first (c.phase_back.ensures.holds w _ (argument 0) (leaf_within l) first))
+    (c.phase_about.ensures.leads w (argument 1) (argument 0) _ second first (c.phase_back.ensures.holds w _ (argument 0) (leaf_within l) first))

@@ -6,13 +6,13 @@ use Rattle.rise_set.proofs.approximation.approximation_on.Goals as goal
 
 pub returns-in-Ok-clause-leads : goal.returns-in-Ok-clause-leads
 unfolding approximation_on
-returns-in-Ok-clause-leads g c = λ w a x d h k.
+returns-in-Ok-clause-leads g c = λ w a x h k.
     let f : SFits w64 c.args.day = c.ranges.day in
-    let l = simp to_z-of_z at (c.in-Ok.ensures.leads w a x d h k) in
-    leads_on _ l (c.from_apparent.ensures.leads w _ (simp to_z-of_z at (c.apparent.ensures.holds w _ d (leaf_within l))))
+    let l = simp to_z-of_z at (c.in-Ok.ensures.leads w a x h k) in
+    leads_on _ l (c.from_apparent.ensures.leads w _ (simp to_z-of_z at (c.apparent.ensures.holds w _ (leaf_within l))))
 
 pub returns-in-Err-clause-leads : goal.returns-in-Err-clause-leads
 unfolding approximation_on
-returns-in-Err-clause-leads g c = λ w a x d h k.
+returns-in-Err-clause-leads g c = λ w a x h k.
     let f : SFits w64 c.args.day = c.ranges.day in
-    leads_fail _ (simp to_z-of_z at (c.in-Err.ensures.leads w a x d h k))
+    leads_fail _ (simp to_z-of_z at (c.in-Err.ensures.leads w a x h k))

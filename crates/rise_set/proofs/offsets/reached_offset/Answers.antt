@@ -4,7 +4,7 @@ use Rattle.rise_set.proofs.offsets.reached_offset.Goals as goal
 
 pub returns-clause-leads : goal.returns-clause-leads
 unfolding reached_offset_of
-returns-clause-leads g c = λ w a x d h k.
-    let l = c.in_ok-there.ensures.leads w a x d h k in
-    let o = c.in_ok-out.ensures.leads w _ d (leaf_within l) in
+returns-clause-leads g c = λ w a x h k.
+    let l = c.in_ok-there.ensures.leads w a x h k in
+    let o = c.in_ok-out.ensures.leads w _ (leaf_within l) in
     leads_on _ l (leads_bind_exact _ o (c.if_reached.ensures.leads w _ (leaf_within l)))

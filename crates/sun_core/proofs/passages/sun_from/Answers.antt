@@ -4,6 +4,6 @@ use Rattle.sun_core.proofs.passages.sun_from.Goals as goal
 
 pub returns-in-Ok-clause-leads : goal.returns-in-Ok-clause-leads
 unfolding sun_from_of
-returns-in-Ok-clause-leads g c = λ w l x d h k.
+returns-in-Ok-clause-leads g c = λ w l x h k.
     let s = c.in-Ok.ensures.leads w l x h k in
-    leads_on _ s (c.sun_about.ensures.leads w l x _ d h k (c.forward.ensures.holds w _ x (leaf_within s) k))
+    leads_on _ s (c.sun_about.ensures.leads w l x _ h k (c.forward.ensures.holds w _ x (leaf_within s) k))
