@@ -1,3 +1,4 @@
 pub mod Quotients
 pub mod Room
 pub mod Shown
+pub mod Table

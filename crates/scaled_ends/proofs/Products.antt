@@ -21,7 +21,7 @@ pub record IsBounded (p n : ℤ) : Type 0 where
   pub above : (pos 0 -ℤ n) ≤ℤ p
   pub below : p ≤ℤ n
 
-bounded_product : (x y a b : ℤ) → (pos 0 -ℤ a) ≤ℤ x → x ≤ℤ a → (pos 0 -ℤ b) ≤ℤ y → y ≤ℤ b → IsBounded (x *ℤ y) (a *ℤ b)
+pub bounded_product : (x y a b : ℤ) → (pos 0 -ℤ a) ≤ℤ x → x ≤ℤ a → (pos 0 -ℤ b) ≤ℤ y → y ≤ℤ b → IsBounded (x *ℤ y) (a *ℤ b)
 bounded_product x y a b h0 h1 h2 h3 = record {
   above = halved (pos 0 -ℤ a *ℤ b) (x *ℤ y)
       (le_by (x ∷ y ∷ a ∷ b ∷ []) ((lit (pos 0) ⊖ at 2 ≼ at 0) ∷ (at 0 ≼ at 2) ∷ (lit (pos 0) ⊖ at 3 ≼ at 1) ∷ (at 1 ≼ at 3) ∷ []) (lit (pos 2) ⊗ (lit (pos 0) ⊖ at 2 ⊗ at 3)) (lit (pos 2) ⊗ (at 0 ⊗ at 1))
@@ -100,6 +100,21 @@ pub record AreSized (scale : Scale) (A : ℕ) (x y : ℤ) : Type 0 where
 pub sized : (scale : Scale) → (a b : ℤ) (s k w : ℕ) (x y : ℤ) → AreKept scale a b s k w x y → AreSized scale (range_size a b) x y
 sized coarse a b s k w x y h = record { above = omega (arith, ints, h.above); below = omega (arith, ints, h.below) }
 sized fine a b s k w x y h = record { above = omega (arith, ints, h.above); below = omega (arith, ints, h.below) }
+
+-- the least and the greatest product of numbers of sizes a and b
+pub corners_apart : (a b x y c d u g : ℤ) → x ≤ℤ y → c ≤ℤ d → (pos 0 -ℤ a) ≤ℤ x → y ≤ℤ a → (pos 0 -ℤ b) ≤ℤ c → d ≤ℤ b → IsAboveEachBelow u (x *ℤ c) (x *ℤ d) (y *ℤ c) (y *ℤ d) → IsBelowEachAbove g (x *ℤ c) (x *ℤ d) (y *ℤ c) (y *ℤ d)
+    → g ≤ℤ (u +ℤ (a *ℤ (d -ℤ c) +ℤ b *ℤ (y -ℤ x)))
+corners_apart a b x y c d u g o r ax ya bc db bl bg =
+    let w = a *ℤ (d -ℤ c) +ℤ b *ℤ (y -ℤ x) in
+    let t = λ (p i q j : ℤ) (xp : x ≤ℤ p) (py : p ≤ℤ y) (ci : c ≤ℤ i) (id : i ≤ℤ d) (xq : x ≤ℤ q) (qy : q ≤ℤ y) (cj : c ≤ℤ j) (jd : j ≤ℤ d). apart p q x y c d a b xp py xq qy bc db r ax ya i j ci id cj jd in
+    let under = λ (p i : ℤ) (xp : x ≤ℤ p) (py : p ≤ℤ y) (ci : c ≤ℤ i) (id : i ≤ℤ d). over_least p i w (t p i x c xp py ci id (≤ℤ_refl x) o (≤ℤ_refl c) r) (t p i x d xp py ci id (≤ℤ_refl x) o r (≤ℤ_refl d)) (t p i y c xp py ci id o (≤ℤ_refl y) (≤ℤ_refl c) r)
+        (t p i y d xp py ci id o (≤ℤ_refl y) r (≤ℤ_refl d)) in
+    bg _ (under x c (≤ℤ_refl x) o (≤ℤ_refl c) r) (under x d (≤ℤ_refl x) o r (≤ℤ_refl d)) (under y c o (≤ℤ_refl y) (≤ℤ_refl c) r) (under y d o (≤ℤ_refl y) r (≤ℤ_refl d))
+  where
+    over_least : (p i w : ℤ) → (p *ℤ i) ≤ℤ (x *ℤ c +ℤ w) → (p *ℤ i) ≤ℤ (x *ℤ d +ℤ w) → (p *ℤ i) ≤ℤ (y *ℤ c +ℤ w) → (p *ℤ i) ≤ℤ (y *ℤ d +ℤ w) → (p *ℤ i) ≤ℤ (u +ℤ w)
+    over_least p i w h0 h1 h2 h3 =
+        let l = bl (p *ℤ i -ℤ w) (omega (arith, ints, h0)) (omega (arith, ints, h1)) (omega (arith, ints, h2)) (omega (arith, ints, h3)) in
+        omega (arith, ints, l)
 
 -- each product is at most each other and what the widths allow
 corner_apart : (scale : Scale) → (A B : ℕ) (x y c d p q i j : ℤ) → x ≤ℤ y → c ≤ℤ d → AreSized scale A x y → AreSized scale B c d → x ≤ℤ p → p ≤ℤ y → x ≤ℤ q → q ≤ℤ y → c ≤ℤ i → i ≤ℤ d → c ≤ℤ j → j ≤ℤ d
@@ -228,12 +243,12 @@ allowed : (a w : ℤ) → pos 0 ≤ℤ a → pos 0 ≤ℤ w → pos 0 ≤ℤ (a 
 allowed a w h k = le_by (a ∷ w ∷ []) ((lit (pos 0) ≼ at 0) ∷ (lit (pos 0) ≼ at 1) ∷ []) (lit (pos 0)) (at 0 ⊗ at 1 ⊕ at 0 ⊗ at 1) (naturally 2 ⊠ known 0 ⊠ known 1) refl (h, (k, tt))
 
 -- the least square is not below 0, and the squares of the ends are no further above it than the width allows
-record AreSquares (x y a u : ℤ) : Type 0 where
-  natural : pos 0 ≤ℤ u
-  first : (x *ℤ x) ≤ℤ (u +ℤ (a *ℤ (y -ℤ x) +ℤ a *ℤ (y -ℤ x)))
-  second : (y *ℤ y) ≤ℤ (u +ℤ (a *ℤ (y -ℤ x) +ℤ a *ℤ (y -ℤ x)))
+pub record AreSquares (x y a u : ℤ) : Type 0 where
+  pub natural : pos 0 ≤ℤ u
+  pub first : (x *ℤ x) ≤ℤ (u +ℤ (a *ℤ (y -ℤ x) +ℤ a *ℤ (y -ℤ x)))
+  pub second : (y *ℤ y) ≤ℤ (u +ℤ (a *ℤ (y -ℤ x) +ℤ a *ℤ (y -ℤ x)))
 
-by_sign : (x y a : ℤ) (p q : Bool) → p ≡ int_le (pos 0) x → q ≡ int_le y (pos 0) → x ≤ℤ y → (pos 0 -ℤ a) ≤ℤ x → y ≤ℤ a → AreSquares x y a (cond p (x *ℤ x) (cond q (y *ℤ y) (pos 0)))
+pub by_sign : (x y a : ℤ) (p q : Bool) → p ≡ int_le (pos 0) x → q ≡ int_le y (pos 0) → x ≤ℤ y → (pos 0 -ℤ a) ≤ℤ x → y ≤ℤ a → AreSquares x y a (cond p (x *ℤ x) (cond q (y *ℤ y) (pos 0)))
 by_sign x y a true q e f o l u = record {
   natural = square_nonneg x;
   first = self_square _ _ (allowed a (y -ℤ x) (omega (arith, ints, o, l, u)) (omega (arith, ints, o)));

@@ -1,0 +1,354 @@
+-- The table of widths, from the ends that the operations give.
+use Rattle.std.proofs.Common.{◌≡◌, ℕ, zero, suc, ◌*◌, ◌^◌, ◌≤◌, ◌<◌, ◌+◌, arith, refl, sym, Bool, true, false, int_le, max, unsigned_abs, ℤ, pos, negsuc, ◌+ℤ◌, ◌*ℤ◌, ◌-ℤ◌, ◌≤ℤ◌, ◌<ℤ◌, ◌⊎◌, inl, inr, SFits, [], ◌∷◌}
+use Rattle.std.specs.Prelude.{neg_ℤ}
+use Rattle.std.specs.Int.{w128, int_min, int_max}
+use Rattle.std.proofs.Math.Nat.{mul-le-mul_left, mul-le-mul_right}
+use Rattle.std.proofs.lemmas.Int.{ints, clamps, by_lt_z}
+use lib.Signed.{≤ℤ_refl}
+use Rattle.exact_math.specs.Fraction.{Fraction}
+use Rattle.exact_math.specs.Interval.{Interval, everything, between}
+use Rattle.exact_math.proofs.Ring.{at, lit, ◌⊕◌, ◌⊖◌, ◌⊗◌}
+use Rattle.exact_math.proofs.Bounds.{◌≼◌, known, ◌⊞◌, ◌⊠◌, times as naturally, le_by, refute}
+use Rattle.rounded_quotients.specs.Rounding.{IsFloor, IsCeiling, AreSorted, IsAboveEachBelow, IsBelowEachAbove}
+use Rattle.scaled_ends.specs.Scales.{fine, at_scale}
+use Rattle.scaled_ends.specs.Rounding.{ShowsEnds, fitting, too_large, AreQuotientsAt, IsMarginAt, least_square_of}
+use Rattle.scaled_ends.proofs.Products.{IsBounded, bounded_product, corners_apart, AreSquares, by_sign}
+use Rattle.scaled_ends.proofs.RootWidths.{AreRoots}
+use Rattle.book_model.specs.numbers.Roots.{natural_part}
+use Rattle.fix_fine.specs.Quotients.{HaveFineQuotients}
+use Rattle.fix_fine.specs.Room.{IsRoomy, AreRoomy}
+use Rattle.fix_fine.specs.Table.{IsKnown, low_of, high_of, width_of, size_of, IsIntegerRow, IsFractionRow, IsSumRow, IsMovedRow, IsCutRow, IsChoiceRow, IsHullRow, IsProductRow, IsFactorRow, IsSquareRow, IsLeastSize, IsQuotientRow, IsRootRow, IsWidenedRow}
+
+-- the interval of two ends
+abbrev pub ends : ℤ → ℤ → Interval
+ends x y = between (at_scale fine x) (at_scale fine y)
+
+-- ends that fit are known
+shown_known : (lo hi : ℤ) (i : Interval) → ShowsEnds fine lo hi i → SFits w128 lo → SFits w128 hi → IsKnown i
+shown_known lo hi (between a b) h f g = tt
+shown_known lo hi everything (too_large n) f g = absurd (n f g)
+
+-- what holds of the ends' distance holds of the width
+shown_wide : (lo hi : ℤ) (i : Interval) → ShowsEnds fine lo hi i → IsKnown i → width_of i ≡ hi -ℤ lo
+shown_wide lo hi (between a b) fitting k = refl
+shown_wide lo hi everything h k = absurd k
+
+-- ---- whole numbers and fractions
+pub integer_row : (n : ℤ) (i : Interval) → SFits w128 n → ShowsEnds fine n n i → IsIntegerRow i
+integer_row n i f h = let k = shown_known n n i h f f in record { known = k; wide = rw (shown_wide n n i h k) (omega (arith, ints)) }
+
+one_apart : (n d lo hi : ℤ) → pos 0 <ℤ d → IsFloor lo n d → IsCeiling hi n d → (hi -ℤ lo) ≤ℤ pos 1
+one_apart n d lo hi h f c =
+    by_lt_z (lo +ℤ pos 1) hi
+    (λ m. absurd
+    (refute (n ∷ d ∷ lo ∷ hi ∷ []) ((lit (pos 1) ≼ at 1) ∷ (at 0 ⊕ lit (pos 1) ≼ at 2 ⊗ at 1 ⊕ at 1) ∷ (at 3 ⊗ at 1 ⊕ lit (pos 1) ≼ at 0 ⊕ at 1) ∷ (at 2 ⊕ lit (pos 2) ≼ at 3) ∷ []) (known 1 ⊞ known 2 ⊞ known 3 ⊠ (known 0 ⊞ naturally 1) ⊞ naturally 1) refl
+    (omega (arith, ints, h), (omega (arith, ints, f.close), (omega (arith, ints, c.close), (omega (arith, ints, m), tt))))))
+    (λ m. omega (arith, ints, m))
+
+-- a quotient of a raised numerator fits where the fraction's size is below 2^50
+raised_fits : (n d q : ℤ) → pos 0 <ℤ d → (pos 0 -ℤ pos (2 ^ 106) *ℤ d) ≤ℤ n → n ≤ℤ (pos (2 ^ 106) *ℤ d) → IsFloor q n d → (pos 0 -ℤ pos (2 ^ 106)) ≤ℤ q
+raised_fits n d q h l u f =
+    by_lt_z q (pos 0 -ℤ pos (2 ^ 106))
+    (λ m. absurd
+    (refute (n ∷ d ∷ q ∷ []) ((lit (pos 0) ≼ at 1) ∷ (lit (pos 0) ⊖ lit (pos (2 ^ 106)) ⊗ at 1 ≼ at 0) ∷ (at 0 ⊕ lit (pos 1) ≼ at 2 ⊗ at 1 ⊕ at 1) ∷ (at 2 ⊕ lit (pos 1) ≼ lit (pos 0) ⊖ lit (pos (2 ^ 106))) ∷ []) (known 1 ⊞ known 2 ⊞ known 0 ⊠ known 3) refl
+    (omega (arith, ints, h), (l, (omega (arith, ints, f.close), (omega (arith, ints, m), tt))))))
+    (λ m. m)
+
+raised_tops : (n d q : ℤ) → pos 0 <ℤ d → n ≤ℤ (pos (2 ^ 106) *ℤ d) → IsCeiling q n d → q ≤ℤ pos (2 ^ 106)
+raised_tops n d q h u c =
+    by_lt_z (pos (2 ^ 106)) q
+    (λ m. absurd
+    (refute (n ∷ d ∷ q ∷ []) ((lit (pos 0) ≼ at 1) ∷ (at 0 ≼ lit (pos (2 ^ 106)) ⊗ at 1) ∷ (at 2 ⊗ at 1 ⊕ lit (pos 1) ≼ at 0 ⊕ at 1) ∷ (lit (pos (2 ^ 106)) ⊕ lit (pos 1) ≼ at 2) ∷ []) (known 1 ⊞ known 2 ⊞ known 0 ⊠ known 3) refl
+    (omega (arith, ints, h), (u, (omega (arith, ints, c.close), (omega (arith, ints, m), tt))))))
+    (λ m. m)
+
+-- ---- sums
+pub sum_row : (x y x' y' lo hi : ℤ) (i : Interval) → lo ≡ x +ℤ x' → hi ≡ y +ℤ y' → ShowsEnds fine lo hi i → IsSumRow (ends x y) (ends x' y') i
+sum_row x y x' y' lo hi i e f h = record {
+  known = λ p q s t. shown_known lo hi i h (omega (arith, ints, e, s, t)) (omega (arith, ints, f, s, t));
+  wide = λ p q k. rw (shown_wide lo hi i h k) (omega (arith, ints, e, f));
+}
+
+pub difference_row : (x y x' y' lo hi : ℤ) (i : Interval) → lo ≡ x -ℤ y' → hi ≡ y -ℤ x' → ShowsEnds fine lo hi i → IsSumRow (ends x y) (ends x' y') i
+difference_row x y x' y' lo hi i e f h = record {
+  known = λ p q s t. shown_known lo hi i h (omega (arith, ints, e, s, t)) (omega (arith, ints, f, s, t));
+  wide = λ p q k. rw (shown_wide lo hi i h k) (omega (arith, ints, e, f));
+}
+
+pub sum_row_first : (y i : Interval) → IsSumRow everything y i
+sum_row_first y i = record { known = λ p q s t. absurd p; wide = λ p q k. absurd p }
+
+pub sum_row_second : (x i : Interval) → IsSumRow x everything i
+sum_row_second x i = record { known = λ p q s t. absurd q; wide = λ p q k. absurd q }
+
+-- ---- what is moved
+pub moved_row : (x y lo hi : ℤ) (i : Interval) → (max (unsigned_abs x) (unsigned_abs y) < 2 ^ 124 → SFits w128 lo × SFits w128 hi) → hi -ℤ lo ≡ y -ℤ x → ShowsEnds fine lo hi i → IsMovedRow (ends x y) i
+moved_row x y lo hi i f e h = record {
+  known = λ p s. let g = f s in shown_known lo hi i h g.0 g.1;
+  wide = λ p k. rw (shown_wide lo hi i h k) (omega (arith, ints, e));
+}
+
+pub opposite_row : (x y lo hi : ℤ) (i : Interval) → lo ≡ pos 0 -ℤ y → hi ≡ pos 0 -ℤ x → ShowsEnds fine lo hi i → IsMovedRow (ends x y) i
+opposite_row x y lo hi i e f h = moved_row x y lo hi i (λ s. (omega (arith, ints, e, s), omega (arith, ints, f, s))) (omega (arith, ints, e, f)) h
+
+pub moved_row_all : (i : Interval) → IsMovedRow everything i
+moved_row_all i = record { known = λ p s. absurd p; wide = λ p k. absurd p }
+
+-- ---- the lesser and the greater
+pub lesser_row : (x y x' y' : ℤ) → x ≤ℤ y → x' ≤ℤ y' → IsChoiceRow (ends x y) (ends x' y') (ends (int_min x x') (int_min y y'))
+lesser_row x y x' y' o p = record { known = λ a b. tt; wide = λ a b. omega (arith, ints, clamps, o, p) }
+
+pub greater_row : (x y x' y' : ℤ) → x ≤ℤ y → x' ≤ℤ y' → IsChoiceRow (ends x y) (ends x' y') (ends (int_max x x') (int_max y y'))
+greater_row x y x' y' o p = record { known = λ a b. tt; wide = λ a b. omega (arith, ints, clamps, o, p) }
+
+pub choice_row_first : (y i : Interval) → IsChoiceRow everything y i
+choice_row_first y i = record { known = λ p q. absurd p; wide = λ p q. absurd p }
+
+pub choice_row_second : (x i : Interval) → IsChoiceRow x everything i
+choice_row_second x i = record { known = λ p q. absurd q; wide = λ p q. absurd q }
+
+-- ---- products
+-- products of numbers of sizes whose product is below 2^126 have room
+roomy_by : (x y : ℤ) (a b : ℕ) → (pos 0 -ℤ pos a) ≤ℤ x → x ≤ℤ pos a → (pos 0 -ℤ pos b) ≤ℤ y → y ≤ℤ pos b → a * b < 2 ^ 126 → IsRoomy (x *ℤ y)
+roomy_by x y a b h0 h1 h2 h3 l = let p = bounded_product x y (pos a) (pos b) h0 h1 h2 h3 in record { above = omega (arith, ints, p.above, l); below = omega (arith, ints, p.below, l) }
+
+pub roomy_sizes : (x y c d : ℤ) → size_of (ends x y) * size_of (ends c d) < 2 ^ 126 → AreRoomy x y c d
+roomy_sizes x y c d l =
+    let a = max (unsigned_abs x) (unsigned_abs y) in
+    let b = max (unsigned_abs c) (unsigned_abs d) in
+    record {
+      first = roomy_by x c a b (omega (arith, ints)) (omega (arith, ints)) (omega (arith, ints)) (omega (arith, ints)) l;
+      second = roomy_by x d a b (omega (arith, ints)) (omega (arith, ints)) (omega (arith, ints)) (omega (arith, ints)) l;
+      third = roomy_by y c a b (omega (arith, ints)) (omega (arith, ints)) (omega (arith, ints)) (omega (arith, ints)) l;
+      fourth = roomy_by y d a b (omega (arith, ints)) (omega (arith, ints)) (omega (arith, ints)) (omega (arith, ints)) l;
+    }
+
+-- where there is no room for the products, the sizes are larger
+pub product_row_none : (x y c d : ℤ) (i : Interval) → (AreRoomy x y c d → ⊥) → i ≡ everything → IsProductRow (ends x y) (ends c d) i
+product_row_none x y c d i n e = record { known = λ p q l. absurd (n (roomy_sizes x y c d l)); wide = λ p q k. absurd (rw e at k) }
+
+pub product_row : (x y c d u g lo hi : ℤ) → x ≤ℤ y → c ≤ℤ d → IsAboveEachBelow u (x *ℤ c) (x *ℤ d) (y *ℤ c) (y *ℤ d) → IsBelowEachAbove g (x *ℤ c) (x *ℤ d) (y *ℤ c) (y *ℤ d) → IsFloor lo u (pos (2 ^ 56)) → IsCeiling hi g (pos (2 ^ 56)) → IsProductRow (ends x y) (ends c d) (ends lo hi)
+product_row x y c d u g lo hi o r bl bg f t =
+    let a = pos (max (unsigned_abs x) (unsigned_abs y)) in
+    let b = pos (max (unsigned_abs c) (unsigned_abs d)) in
+    let n = corners_apart a b x y c d u g o r (omega (arith, ints)) (omega (arith, ints)) (omega (arith, ints)) (omega (arith, ints)) bl bg in
+    record { known = λ p q l. tt; wide = λ p q k. omega (arith, ints, n, f.close, t.close) }
+
+pub product_row_first : (y i : Interval) → IsProductRow everything y i
+product_row_first y i = record { known = λ p q l. absurd p; wide = λ p q k. absurd p }
+
+pub product_row_second : (x i : Interval) → IsProductRow x everything i
+product_row_second x i = record { known = λ p q l. absurd q; wide = λ p q k. absurd q }
+
+-- ---- squares
+pub square_row_none : (x y : ℤ) (i : Interval) → (AreRoomy x y x y → ⊥) → i ≡ everything → IsSquareRow (ends x y) i
+square_row_none x y i n e = record {
+  known = λ p l. absurd (n (roomy_sizes x y x y (below_square (max (unsigned_abs x) (unsigned_abs y)) l)));
+  wide = λ p k. absurd (rw e at k);
+}
+  where
+    below_square : (a : ℕ) → a < 2 ^ 63 → a * a < 2 ^ 126
+    below_square a l = let m = mul-le-mul_left a l in omega (arith, l, m)
+
+pub square_row : (x y u g lo hi : ℤ) → x ≤ℤ y → u ≡ least_square_of x y → ((z : ℤ) → (x *ℤ x) ≤ℤ z → (y *ℤ y) ≤ℤ z → g ≤ℤ z) → IsFloor lo u (pos (2 ^ 56)) → IsCeiling hi g (pos (2 ^ 56)) → IsSquareRow (ends x y) (ends lo hi)
+square_row x y u g lo hi o e best f t =
+    let a = pos (max (unsigned_abs x) (unsigned_abs y)) in
+    let q : AreSquares x y a u = rw e (by_sign x y a (int_le (pos 0) x) (int_le y (pos 0)) refl refl o (omega (arith, ints)) (omega (arith, ints))) in
+    let n = best _ q.first q.second in
+    record { known = λ p l. tt; wide = λ p k. omega (arith, ints, n, f.close, t.close) }
+
+pub square_row_all : (i : Interval) → IsSquareRow everything i
+square_row_all i = record { known = λ p l. absurd p; wide = λ p k. absurd p }
+
+-- ---- products with a fraction
+factor_apart : (x y n p q m g : ℤ) (N : ℕ) → x ≤ℤ y → N ≡ unsigned_abs n → p ≡ x *ℤ n → q ≡ y *ℤ n → AreSorted m g p q → (g -ℤ m) ≤ℤ ((y -ℤ x) *ℤ pos N)
+factor_apart x y (pos n) p q m g N o e ep eq s =
+    let l : (x *ℤ pos n) ≤ℤ (y *ℤ pos n) = le_by (x ∷ y ∷ pos n ∷ []) ((at 0 ≼ at 1) ∷ (lit (pos 0) ≼ at 2) ∷ []) (at 0 ⊗ at 2) (at 1 ⊗ at 2) (known 0 ⊠ known 1) refl (o, (omega (arith, ints), tt)) in
+    let a = s.best_low (x *ℤ pos n) (omega (arith, ints, ep)) (omega (arith, ints, eq, l)) in
+    let b = s.best_high (y *ℤ pos n) (omega (arith, ints, ep, l)) (omega (arith, ints, eq)) in
+    let c : (y *ℤ pos n -ℤ x *ℤ pos n) ≤ℤ ((y -ℤ x) *ℤ pos n) = le_by (x ∷ y ∷ pos n ∷ []) [] (at 1 ⊗ at 2 ⊖ at 0 ⊗ at 2) ((at 1 ⊖ at 0) ⊗ at 2) (naturally 0) refl tt in
+    rw e (omega (arith, ints, a, b, c))
+factor_apart x y (negsuc n) p q m g N o e ep eq s =
+    let l : (y *ℤ negsuc n) ≤ℤ (x *ℤ negsuc n) = le_by (x ∷ y ∷ negsuc n ∷ []) ((at 0 ≼ at 1) ∷ (at 2 ≼ lit (pos 0)) ∷ []) (at 1 ⊗ at 2) (at 0 ⊗ at 2) (known 0 ⊠ known 1) refl (o, (omega (arith, ints), tt)) in
+    let a = s.best_low (y *ℤ negsuc n) (omega (arith, ints, ep, l)) (omega (arith, ints, eq)) in
+    let b = s.best_high (x *ℤ negsuc n) (omega (arith, ints, ep)) (omega (arith, ints, eq, l)) in
+    let k : negsuc n ≡ pos 0 -ℤ pos (suc n) = omega (arith, ints) in
+    let c : (x *ℤ negsuc n -ℤ y *ℤ negsuc n) ≤ℤ ((y -ℤ x) *ℤ pos (suc n)) = rw k (le_by (x ∷ y ∷ pos (suc n) ∷ []) [] (at 0 ⊗ (lit (pos 0) ⊖ at 2) ⊖ at 1 ⊗ (lit (pos 0) ⊖ at 2)) ((at 1 ⊖ at 0) ⊗ at 2) (naturally 0) refl tt) in
+    rw e (omega (arith, ints, a, b, c))
+
+rounded_apart : (m g d lo hi v : ℤ) → (g -ℤ m) ≤ℤ v → IsFloor lo m d → IsCeiling hi g d → (((hi -ℤ lo) -ℤ pos 2) *ℤ d) ≤ℤ v
+rounded_apart m g d lo hi v h f c =
+    le_by (m ∷ g ∷ d ∷ lo ∷ hi ∷ v ∷ []) ((at 1 ⊖ at 0 ≼ at 5) ∷ (at 0 ≼ at 3 ⊗ at 2 ⊕ at 2) ∷ (at 4 ⊗ at 2 ≼ at 1 ⊕ at 2) ∷ []) (((at 4 ⊖ at 3) ⊖ lit (pos 2)) ⊗ at 2) (at 5) (known 0 ⊞ known 1 ⊞ known 2) refl
+    (h, (omega (arith, ints, f.close), (omega (arith, ints, c.close), tt)))
+
+pub factor_row : (f : Fraction) (x y n p q m g d lo hi : ℤ) → x ≤ℤ y → n ≡ f.num → p ≡ x *ℤ n → q ≡ y *ℤ n → AreSorted m g p q → d ≡ pos (f.below + 1) → IsFloor lo m d → IsCeiling hi g d → IsFactorRow f (ends x y) (ends lo hi)
+factor_row f x y n p q m g d lo hi o e ep eq s ed fl ce =
+    let a = factor_apart x y n p q m g (unsigned_abs f.num) o (rw e refl) ep eq s in
+    let b = rounded_apart m g d lo hi _ a fl ce in
+    record { known = λ k l. tt; wide = λ k r. rw ed at b }
+
+factor_roomy : (n x : ℤ) (a : ℕ) → (pos 0 -ℤ pos a) ≤ℤ x → x ≤ℤ pos a → unsigned_abs n * a < 2 ^ 126 → SFits w128 (x *ℤ n)
+factor_roomy n x a h k l =
+    let p = bounded_product x n (pos a) (pos (unsigned_abs n)) h k (omega (arith, ints)) (omega (arith, ints)) in
+    let c : a * unsigned_abs n ≡ unsigned_abs n * a = omega arith in
+    omega (arith, ints, p.above, p.below, l, c)
+
+pub factor_row_low : (f : Fraction) (x y n : ℤ) (i : Interval) → n ≡ f.num → (SFits w128 (x *ℤ n) → ⊥) → i ≡ everything → IsFactorRow f (ends x y) i
+factor_row_low f x y n i e z k = record {
+  known = λ p l. absurd (z (rw e (factor_roomy f.num x (max (unsigned_abs x) (unsigned_abs y)) (omega (arith, ints)) (omega (arith, ints)) l)));
+  wide = λ p t. absurd (rw k at t);
+}
+
+pub factor_row_high : (f : Fraction) (x y n : ℤ) (i : Interval) → n ≡ f.num → (SFits w128 (y *ℤ n) → ⊥) → i ≡ everything → IsFactorRow f (ends x y) i
+factor_row_high f x y n i e z k = record {
+  known = λ p l. absurd (z (rw e (factor_roomy f.num y (max (unsigned_abs x) (unsigned_abs y)) (omega (arith, ints)) (omega (arith, ints)) l)));
+  wide = λ p t. absurd (rw k at t);
+}
+
+pub factor_row_all : (f : Fraction) (i : Interval) → IsFactorRow f everything i
+factor_row_all f i = record { known = λ p l. absurd p; wide = λ p k. absurd p }
+
+-- ---- quotients
+-- the least size of a divisor above 0 is at most its lower end
+least_above : (m : ℕ) (c d : ℤ) → pos 0 <ℤ c → c ≤ℤ d → 0 < m → IsLeastSize (pos m) (ends c d) → pos m ≤ℤ c
+least_above m c d h o z (inl l) = l
+least_above m c d h o z (inr l) = absurd (omega (arith, ints, h, o, z, l))
+
+least_below : (m : ℕ) (c d : ℤ) → d <ℤ pos 0 → c ≤ℤ d → 0 < m → IsLeastSize (pos m) (ends c d) → pos m ≤ℤ (pos 0 -ℤ d)
+least_below m c d h o z (inl l) = absurd (omega (arith, ints, h, o, z, l))
+least_below m c d h o z (inr l) = omega (arith, ints, l)
+
+-- quotients of numbers of size A by divisors of size B from m on have room
+fine_by : (A B m : ℕ) (a b c d : ℤ) → a ≤ℤ b → c ≤ℤ d → (pos 0 -ℤ pos A) ≤ℤ a → b ≤ℤ pos A → d ≤ℤ pos B → pos m ≤ℤ c → B < 2 ^ 70 → A < 2 ^ 50 * m → HaveFineQuotients a b c d
+fine_by A B m a b c d o r la lb ld lm hb ha = record { divisor = omega (arith, ints, ld, hb); above = omega (arith, ints, la, lm, ha); below = omega (arith, ints, lb, lm, ha) }
+
+pub positive_row_none : (x y c d : ℤ) (i : Interval) → x ≤ℤ y → c ≤ℤ d → pos 0 <ℤ c → (HaveFineQuotients x y c d → ⊥) → i ≡ everything → IsQuotientRow (ends x y) (ends c d) i
+positive_row_none x y c d i o r h n e = record {
+  known = λ p q m z l s t. absurd (n (fine_by (max (unsigned_abs x) (unsigned_abs y)) (max (unsigned_abs c) (unsigned_abs d)) m x y c d o r (omega (arith, ints)) (omega (arith, ints)) (omega (arith, ints)) (least_above m c d h r z l) s t));
+  wide = λ p q k. absurd (rw e at k);
+}
+
+pub positive_row : (x y c d lo hi : ℤ) → x ≤ℤ y → c ≤ℤ d → pos 0 <ℤ c → AreQuotientsAt fine x y c d lo hi → IsQuotientRow (ends x y) (ends c d) (ends lo hi)
+positive_row x y c d lo hi o r h q = record {
+  known = λ p s m z l b a. tt;
+  wide = λ p s k m z l. q.close (pos (max (unsigned_abs x) (unsigned_abs y))) (pos m) (omega (arith, ints)) (omega (arith, ints)) (omega (arith, ints)) (least_above m c d h r z l);
+}
+
+-- by a divisor below 0: the quotients of the opposites
+pub negative_row_none : (x y c d : ℤ) (i : Interval) → x ≤ℤ y → c ≤ℤ d → d <ℤ pos 0 → (HaveFineQuotients (pos 0 -ℤ y) (pos 0 -ℤ x) (pos 0 -ℤ d) (pos 0 -ℤ c) → ⊥) → i ≡ everything → IsQuotientRow (ends x y) (ends c d) i
+negative_row_none x y c d i o r h n e = record {
+  known = λ p q m z l s t.
+      absurd (n (fine_by (max (unsigned_abs x) (unsigned_abs y)) (max (unsigned_abs c) (unsigned_abs d)) m _ _ _ _ (omega (arith, ints, o)) (omega (arith, ints, r)) (omega (arith, ints)) (omega (arith, ints)) (omega (arith, ints)) (least_below m c d h r z l) s t));
+  wide = λ p q k. absurd (rw e at k);
+}
+
+pub negative_row : (x y c d lo hi : ℤ) → x ≤ℤ y → c ≤ℤ d → d <ℤ pos 0 → AreQuotientsAt fine (pos 0 -ℤ y) (pos 0 -ℤ x) (pos 0 -ℤ d) (pos 0 -ℤ c) lo hi → IsQuotientRow (ends x y) (ends c d) (ends lo hi)
+negative_row x y c d lo hi o r h q = record {
+  known = λ p s m z l b a. tt;
+  wide = λ p s k m z l.
+      turned x y c d ((hi -ℤ lo) -ℤ pos 2) (pos m) (pos (max (unsigned_abs x) (unsigned_abs y)))
+      (q.close (pos (max (unsigned_abs x) (unsigned_abs y))) (pos m) (omega (arith, ints)) (omega (arith, ints)) (omega (arith, ints)) (least_below m c d h r z l));
+}
+  where
+    turned : (x y c d w m a : ℤ) → (w *ℤ (m *ℤ m)) ≤ℤ (pos (2 ^ 56) *ℤ (((pos 0 -ℤ x) -ℤ (pos 0 -ℤ y)) *ℤ m) +ℤ pos (2 ^ 56) *ℤ (a *ℤ ((pos 0 -ℤ c) -ℤ (pos 0 -ℤ d)))) → (w *ℤ (m *ℤ m)) ≤ℤ (pos (2 ^ 56) *ℤ ((y -ℤ x) *ℤ m) +ℤ pos (2 ^ 56) *ℤ (a *ℤ (d -ℤ c)))
+    turned x y c d w m a h =
+        le_by (x ∷ y ∷ c ∷ d ∷ w ∷ m ∷ a ∷ [])
+        ((at 4 ⊗ (at 5 ⊗ at 5) ≼ lit (pos (2 ^ 56)) ⊗ (((lit (pos 0) ⊖ at 0) ⊖ (lit (pos 0) ⊖ at 1)) ⊗ at 5) ⊕ lit (pos (2 ^ 56)) ⊗ (at 6 ⊗ ((lit (pos 0) ⊖ at 2) ⊖ (lit (pos 0) ⊖ at 3)))) ∷ [])
+        (at 4 ⊗ (at 5 ⊗ at 5)) (lit (pos (2 ^ 56)) ⊗ ((at 1 ⊖ at 0) ⊗ at 5) ⊕ lit (pos (2 ^ 56)) ⊗ (at 6 ⊗ (at 3 ⊖ at 2))) (known 0) refl (h, tt)
+
+-- a divisor that may be 0 has no least size
+pub mixed_row : (x : Interval) (c d : ℤ) (i : Interval) → c ≤ℤ pos 0 → pos 0 ≤ℤ d → IsQuotientRow x (ends c d) i
+mixed_row x c d i h k = record { known = λ p q m z l s t. absurd (none m z l); wide = λ p q r m z l. absurd (none m z l) }
+  where
+    none : (m : ℕ) → 0 < m → IsLeastSize (pos m) (ends c d) → ⊥
+    none m z (inl l) = omega (arith, ints, h, z, l)
+    none m z (inr l) = omega (arith, ints, k, z, l)
+
+pub quotient_row_first : (y i : Interval) → IsQuotientRow everything y i
+quotient_row_first y i = record { known = λ p q m z l s t. absurd p; wide = λ p q k. absurd p }
+
+pub quotient_row_second : (x i : Interval) → IsQuotientRow x everything i
+quotient_row_second x i = record { known = λ p q m z l s t. absurd q; wide = λ p q k. absurd q }
+
+-- ---- roots
+-- e is the distance of the roots less two, r the lower one, v and z the width and the lower end of the number
+root_wide : (e r v z : ℤ) → pos 0 ≤ℤ e → pos 0 ≤ℤ r → pos 0 ≤ℤ v → (z *ℤ pos (2 ^ 56)) ≤ℤ (r *ℤ r) → (pos 2 *ℤ (e *ℤ r)) ≤ℤ (v *ℤ pos (2 ^ 56)) → (pos 4 *ℤ ((e *ℤ e) *ℤ z)) ≤ℤ ((v *ℤ v) *ℤ pos (2 ^ 56))
+root_wide e r v z he hr hv hz hw = scaled _ _ (
+    le_by (e ∷ r ∷ v ∷ z ∷ [])
+    ((lit (pos 0) ≼ at 0) ∷ (lit (pos 0) ≼ at 1) ∷ (lit (pos 0) ≼ at 2) ∷ (at 3 ⊗ lit (pos (2 ^ 56)) ≼ at 1 ⊗ at 1) ∷ (lit (pos 2) ⊗ (at 0 ⊗ at 1) ≼ at 2 ⊗ lit (pos (2 ^ 56))) ∷ [])
+    ((lit (pos 4) ⊗ ((at 0 ⊗ at 0) ⊗ at 3)) ⊗ lit (pos (2 ^ 56))) (((at 2 ⊗ at 2) ⊗ lit (pos (2 ^ 56))) ⊗ lit (pos (2 ^ 56)))
+    (naturally 4 ⊠ known 0 ⊠ known 0 ⊠ known 3 ⊞ known 4 ⊠ (known 4 ⊞ naturally 4 ⊠ known 0 ⊠ known 1)) refl
+    (he, (hr, (hv, (hz, (hw, tt)))))
+    )
+  where
+    scaled : (p q : ℤ) → (p *ℤ pos (2 ^ 56)) ≤ℤ (q *ℤ pos (2 ^ 56)) → p ≤ℤ q
+    scaled p q h = omega (arith, ints, h)
+
+-- the squares' distance
+root_gap : (e lo hi x y : ℤ) → pos 0 ≤ℤ e → pos 0 ≤ℤ lo → hi -ℤ lo ≡ pos 2 +ℤ e → (x *ℤ pos (2 ^ 56)) <ℤ ((lo +ℤ pos 1) *ℤ (lo +ℤ pos 1)) → ((hi -ℤ pos 1) *ℤ (hi -ℤ pos 1)) <ℤ (y *ℤ pos (2 ^ 56)) → (pos 2 *ℤ (e *ℤ (lo +ℤ pos 1))) ≤ℤ ((y -ℤ x) *ℤ pos (2 ^ 56))
+root_gap e lo hi x y he hl w h k =
+    let s : hi ≡ (lo +ℤ pos 1) +ℤ (e +ℤ pos 1) = omega (arith, ints, w) in
+    let t : (((lo +ℤ pos 1) +ℤ e) *ℤ ((lo +ℤ pos 1) +ℤ e)) ≤ℤ (y *ℤ pos (2 ^ 56)) = same ((lo +ℤ pos 1) +ℤ e) (hi -ℤ pos 1) (omega (arith, ints, s)) (omega (arith, ints, k)) in
+    le_by (e ∷ lo ∷ x ∷ y ∷ [])
+    ((lit (pos 0) ≼ at 0) ∷ (((at 1 ⊕ lit (pos 1)) ⊕ at 0) ⊗ ((at 1 ⊕ lit (pos 1)) ⊕ at 0) ≼ at 3 ⊗ lit (pos (2 ^ 56))) ∷ (at 2 ⊗ lit (pos (2 ^ 56)) ≼ (at 1 ⊕ lit (pos 1)) ⊗ (at 1 ⊕ lit (pos 1))) ∷ [])
+    (lit (pos 2) ⊗ (at 0 ⊗ (at 1 ⊕ lit (pos 1)))) ((at 3 ⊖ at 2) ⊗ lit (pos (2 ^ 56))) (known 1 ⊞ known 2 ⊞ known 0 ⊠ known 0) refl (he, (t, (omega (arith, ints, h), tt)))
+  where
+    same : (p q : ℤ) → p ≡ q → (q *ℤ q) ≤ℤ (y *ℤ pos (2 ^ 56)) → (p *ℤ p) ≤ℤ (y *ℤ pos (2 ^ 56))
+    same p q g l = rw g l
+
+pub root_row : (x y lo hi : ℤ) → x ≤ℤ y → AreRoots fine x y lo hi → IsRootRow (ends x y) (ends lo hi)
+root_row x y lo hi o r = record {
+  known = λ p s. tt;
+  wide = λ p k h e w. by_positive x y h o r e w;
+}
+  where
+    by_positive : (x y : ℤ) → pos 0 <ℤ x → x ≤ℤ y → AreRoots fine x y lo hi → (e : ℕ) → hi -ℤ lo ≡ pos 2 +ℤ pos e → (pos 4 *ℤ ((pos e *ℤ pos e) *ℤ x)) ≤ℤ (((y -ℤ x) *ℤ (y -ℤ x)) *ℤ pos (2 ^ 56))
+    by_positive (negsuc x) y h o r e w = absurd (omega (arith, ints, h))
+    by_positive (pos x) (negsuc y) h o r e w = absurd (omega (arith, ints, o))
+    by_positive (pos x) (pos y) h o r e w =
+        let b = r.below (omega (arith, ints, w, r.natural)) in
+        let g = root_gap (pos e) lo hi (pos x) (pos y) (omega (arith, ints)) r.natural w r.above b in
+        root_wide (pos e) (lo +ℤ pos 1) (pos y -ℤ pos x) (pos x) (omega (arith, ints)) (omega (arith, ints, r.natural)) (omega (arith, ints, o)) (omega (arith, ints, r.above)) g
+
+pub root_row_low : (x y : ℤ) (i : Interval) → x ≤ℤ y → (x <ℤ pos (2 ^ 70) → ⊥) → i ≡ everything → IsRootRow (ends x y) i
+root_row_low x y i o n e = record { known = λ p s. absurd (n (omega (arith, ints, s))); wide = λ p k. absurd (rw e at k) }
+
+pub root_row_high : (x y : ℤ) (i : Interval) → x ≤ℤ y → (y <ℤ pos (2 ^ 70) → ⊥) → i ≡ everything → IsRootRow (ends x y) i
+root_row_high x y i o n e = record { known = λ p s. absurd (n (omega (arith, ints, s))); wide = λ p k. absurd (rw e at k) }
+
+pub root_row_all : (i : Interval) → IsRootRow everything i
+root_row_all i = record { known = λ p l. absurd p; wide = λ p k. absurd p }
+
+-- ---- fractions
+pub fraction_row : (f : Fraction) (n d lo hi : ℤ) → pos 0 <ℤ d → IsFloor lo n d → IsCeiling hi n d → IsFractionRow f (ends lo hi)
+fraction_row f n d lo hi h fl ce = record { known = λ s t. tt; wide = λ k. one_apart n d lo hi h fl ce }
+
+pub fraction_row_none : (f : Fraction) (n : ℤ) (i : Interval) → n ≡ f.num → (SFits w128 (n *ℤ pos (2 ^ 56)) → ⊥) → i ≡ everything → IsFractionRow f i
+fraction_row_none f n i e z k = record { known = λ s t. absurd (z (rw e (omega (arith, ints, t)))); wide = λ r. absurd (rw k at r) }
+
+-- ---- what is moved outwards
+margin_small : (f : Fraction) (m : ℤ) → IsMarginAt fine f m → unsigned_abs f.num < 2 ^ 50 * (f.below + 1) → m ≤ℤ pos (2 ^ 106)
+margin_small f m h l =
+    let c = h.rounded in
+    let n : (pos (unsigned_abs f.num) *ℤ pos (2 ^ 56)) ≤ℤ (pos (2 ^ 106) *ℤ pos (f.below + 1)) = omega (arith, ints, l) in
+    raised_tops (pos (unsigned_abs f.num) *ℤ pos (2 ^ 56)) (pos (f.below + 1)) m (omega (arith, ints)) n c
+
+margin_wide : (n d m : ℤ) → IsCeiling m n d → ((pos 2 *ℤ m -ℤ pos 2) *ℤ d) ≤ℤ (pos 2 *ℤ n)
+margin_wide n d m c =
+    le_by (n ∷ d ∷ m ∷ []) ((at 2 ⊗ at 1 ⊕ lit (pos 1) ≼ at 0 ⊕ at 1) ∷ []) ((lit (pos 2) ⊗ at 2 ⊖ lit (pos 2)) ⊗ at 1) (lit (pos 2) ⊗ at 0) (naturally 2 ⊠ known 0 ⊞ naturally 2) refl (omega (arith, ints, c.close), tt)
+
+pub widened_row : (f : Fraction) (x y m lo hi : ℤ) (i : Interval) → pos 0 ≤ℤ m → IsMarginAt fine f m → lo ≡ x -ℤ m → hi ≡ y +ℤ m → ShowsEnds fine lo hi i → IsWidenedRow f (ends x y) i
+widened_row f x y m lo hi i z g e h k = record {
+  known = λ p s a b. let u = margin_small f m g a in shown_known lo hi i k (omega (arith, ints, e, s, u, z)) (omega (arith, ints, h, s, u, z));
+  wide = λ p r.
+      let w = shown_wide lo hi i k r in
+      let v : ((hi -ℤ lo) -ℤ (y -ℤ x)) -ℤ pos 2 ≡ pos 2 *ℤ m -ℤ pos 2 = omega (arith, ints, e, h) in
+      let c = margin_wide _ _ m g.rounded in
+      rw (w, v) (omega (arith, ints, c));
+}
+
+pub widened_row_none : (f : Fraction) (x : Interval) (i : Interval) → (unsigned_abs f.num < 2 ^ 70 → ⊥) → i ≡ everything → IsWidenedRow f x i
+widened_row_none f x i n e = record { known = λ p s a b. absurd (n b); wide = λ p k. absurd (rw e at k) }
+
+pub widened_row_all : (f : Fraction) (i : Interval) → IsWidenedRow f everything i
+widened_row_all f i = record { known = λ p s a b. absurd p; wide = λ p k. absurd p }
