@@ -1,7 +1,7 @@
 -- The table of widths, from the ends that the operations give.
-use Rattle.std.proofs.Common.{◌≡◌, ℕ, zero, suc, ◌*◌, ◌^◌, ◌≤◌, ◌<◌, ◌+◌, arith, refl, sym, Bool, true, false, int_le, max, unsigned_abs, ℤ, pos, negsuc, ◌+ℤ◌, ◌*ℤ◌, ◌-ℤ◌, ◌≤ℤ◌, ◌<ℤ◌, ◌⊎◌, inl, inr, SFits, [], ◌∷◌}
-use Rattle.std.specs.Prelude.{neg_ℤ}
-use Rattle.std.specs.Int.{w128, int_min, int_max}
+use Rattle.std.proofs.Common.{◌≡◌, ℕ, zero, suc, ◌*◌, ◌^◌, ◌≤◌, ◌<◌, ◌+◌, arith, refl, sym, Bool, true, false, int_le, max, unsigned_abs, ℤ, pos, negsuc, ◌+ℤ◌, ◌*ℤ◌, ◌-ℤ◌, ◌≤ℤ◌, ◌<ℤ◌, ◌⊎◌, inl, inr, SFits, [], ◌∷◌, Option, Some, None}
+use Rattle.std.specs.Prelude.{neg_ℤ, nat_lt, IfSome, ◌-◌}
+use Rattle.std.specs.Int.{w64, w128, int_min, int_max}
 use Rattle.std.proofs.Math.Nat.{mul-le-mul_left, mul-le-mul_right}
 use Rattle.std.proofs.lemmas.Int.{ints, clamps, by_lt_z}
 use lib.Signed.{≤ℤ_refl}
@@ -15,6 +15,18 @@ use Rattle.scaled_ends.specs.Rounding.{ShowsEnds, fitting, too_large, AreQuotien
 use Rattle.scaled_ends.proofs.Products.{IsBounded, bounded_product, corners_apart, AreSquares, by_sign}
 use Rattle.scaled_ends.proofs.RootWidths.{AreRoots}
 use Rattle.book_model.specs.numbers.Roots.{natural_part}
+use Rattle.std.proofs.lemmas.Bool.{lt-ltb}
+use Rattle.exact_math.specs.Fraction.{◌≤F◌, smaller, larger, floor_quotient}
+use Rattle.exact_math.specs.Interval.{◌⊆◌, hull}
+use Rattle.exact_math.proofs.Fractions.{le_trans, smaller_keeps, larger_keeps, smaller_first, smaller_second, larger_first, larger_second}
+use Rattle.book_model.specs.numbers.Bounds.{Bound, bounded, limited, minimum_bound, maximum_bound, clamp_bound, remainder_bound, integer_bound, IsNarrow}
+use Rattle.rounded_quotients.proofs.Quotients.{floor_quotient_floor}
+use Rattle.scaled_ends.specs.Scales.{limits_on}
+use Rattle.scaled_ends.specs.Shown.{shown_ends, shown_of, HasEnds}
+use Rattle.scaled_ends.specs.declared.ends.Ends.{Ends}
+use Rattle.scaled_ends.specs.contracts.word.I128Word.TheImpl.{ghosts}
+use Rattle.scaled_ends.proofs.Keeping.{kept_of, spans_of}
+use Rattle.scaled_ends.proofs.OnEnds.{shows}
 use Rattle.fix_fine.specs.Quotients.{HaveFineQuotients}
 use Rattle.fix_fine.specs.Room.{IsRoomy, AreRoomy}
 use Rattle.fix_fine.specs.Table.{IsKnown, low_of, high_of, width_of, size_of, IsIntegerRow, IsFractionRow, IsSumRow, IsMovedRow, IsCutRow, IsChoiceRow, IsHullRow, IsProductRow, IsFactorRow, IsSquareRow, IsLeastSize, IsQuotientRow, IsRootRow, IsWidenedRow}
@@ -235,26 +247,38 @@ positive_row x y c d lo hi o r h q = record {
 }
 
 -- by a divisor below 0: the quotients of the opposites
-pub negative_row_none : (x y c d : ℤ) (i : Interval) → x ≤ℤ y → c ≤ℤ d → d <ℤ pos 0 → (HaveFineQuotients (pos 0 -ℤ y) (pos 0 -ℤ x) (pos 0 -ℤ d) (pos 0 -ℤ c) → ⊥) → i ≡ everything → IsQuotientRow (ends x y) (ends c d) i
-negative_row_none x y c d i o r h n e = record {
+pub negative_row_none : (x y c d a b e f : ℤ) (i : Interval) → x ≤ℤ y → c ≤ℤ d → d <ℤ pos 0 → a ≡ pos 0 -ℤ y → b ≡ pos 0 -ℤ x → e ≡ pos 0 -ℤ d → f ≡ pos 0 -ℤ c → (HaveFineQuotients a b e f → ⊥) → i ≡ everything → IsQuotientRow (ends x y) (ends c d) i
+negative_row_none x y c d a b e f i o r h ea eb ec ed n k = record {
   known = λ p q m z l s t.
-      absurd (n (fine_by (max (unsigned_abs x) (unsigned_abs y)) (max (unsigned_abs c) (unsigned_abs d)) m _ _ _ _ (omega (arith, ints, o)) (omega (arith, ints, r)) (omega (arith, ints)) (omega (arith, ints)) (omega (arith, ints)) (least_below m c d h r z l) s t));
-  wide = λ p q k. absurd (rw e at k);
+      absurd
+      (n (fine_by (max (unsigned_abs x) (unsigned_abs y)) (max (unsigned_abs c) (unsigned_abs d)) m a b e f (omega (arith, ints, o, ea, eb)) (omega (arith, ints, r, ec, ed)) (omega (arith, ints, ea)) (omega (arith, ints, eb)) (omega (arith, ints, ed))
+      (let g = least_below m c d h r z l in omega (arith, ints, g, ec)) s t));
+  wide = λ p q t. absurd (rw k at t);
 }
 
-pub negative_row : (x y c d lo hi : ℤ) → x ≤ℤ y → c ≤ℤ d → d <ℤ pos 0 → AreQuotientsAt fine (pos 0 -ℤ y) (pos 0 -ℤ x) (pos 0 -ℤ d) (pos 0 -ℤ c) lo hi → IsQuotientRow (ends x y) (ends c d) (ends lo hi)
-negative_row x y c d lo hi o r h q = record {
-  known = λ p s m z l b a. tt;
-  wide = λ p s k m z l.
-      turned x y c d ((hi -ℤ lo) -ℤ pos 2) (pos m) (pos (max (unsigned_abs x) (unsigned_abs y)))
-      (q.close (pos (max (unsigned_abs x) (unsigned_abs y))) (pos m) (omega (arith, ints)) (omega (arith, ints)) (omega (arith, ints)) (least_below m c d h r z l));
+-- where an opposite has no room
+pub unfit_row : (x y c d : ℤ) (i : Interval) → c ≤ℤ d → d <ℤ pos 0 → (size_of (ends x y) < 2 ^ 120 → size_of (ends c d) < 2 ^ 70 → ⊥) → i ≡ everything → IsQuotientRow (ends x y) (ends c d) i
+unfit_row x y c d i r h n k = record {
+  known = λ p q m z l s t. let g = least_below m c d h r z l in absurd (n (omega (arith, ints, s, t, g)) s);
+  wide = λ p q t. absurd (rw k at t);
 }
+
+pub negative_row : (x y c d a b e f lo hi : ℤ) → x ≤ℤ y → c ≤ℤ d → d <ℤ pos 0 → a ≡ pos 0 -ℤ y → b ≡ pos 0 -ℤ x → e ≡ pos 0 -ℤ d → f ≡ pos 0 -ℤ c → AreQuotientsAt fine a b e f lo hi → IsQuotientRow (ends x y) (ends c d) (ends lo hi)
+negative_row x y c d a b e f lo hi o r h ea eb ec ed t = by_opposites (rw (ea, eb, ec, ed) at t)
   where
     turned : (x y c d w m a : ℤ) → (w *ℤ (m *ℤ m)) ≤ℤ (pos (2 ^ 56) *ℤ (((pos 0 -ℤ x) -ℤ (pos 0 -ℤ y)) *ℤ m) +ℤ pos (2 ^ 56) *ℤ (a *ℤ ((pos 0 -ℤ c) -ℤ (pos 0 -ℤ d)))) → (w *ℤ (m *ℤ m)) ≤ℤ (pos (2 ^ 56) *ℤ ((y -ℤ x) *ℤ m) +ℤ pos (2 ^ 56) *ℤ (a *ℤ (d -ℤ c)))
     turned x y c d w m a h =
         le_by (x ∷ y ∷ c ∷ d ∷ w ∷ m ∷ a ∷ [])
         ((at 4 ⊗ (at 5 ⊗ at 5) ≼ lit (pos (2 ^ 56)) ⊗ (((lit (pos 0) ⊖ at 0) ⊖ (lit (pos 0) ⊖ at 1)) ⊗ at 5) ⊕ lit (pos (2 ^ 56)) ⊗ (at 6 ⊗ ((lit (pos 0) ⊖ at 2) ⊖ (lit (pos 0) ⊖ at 3)))) ∷ [])
         (at 4 ⊗ (at 5 ⊗ at 5)) (lit (pos (2 ^ 56)) ⊗ ((at 1 ⊖ at 0) ⊗ at 5) ⊕ lit (pos (2 ^ 56)) ⊗ (at 6 ⊗ (at 3 ⊖ at 2))) (known 0) refl (h, tt)
+
+    by_opposites : AreQuotientsAt fine (pos 0 -ℤ y) (pos 0 -ℤ x) (pos 0 -ℤ d) (pos 0 -ℤ c) lo hi → IsQuotientRow (ends x y) (ends c d) (ends lo hi)
+    by_opposites q = record {
+      known = λ p s m z l b a. tt;
+      wide = λ p s k m z l.
+          turned x y c d ((hi -ℤ lo) -ℤ pos 2) (pos m) (pos (max (unsigned_abs x) (unsigned_abs y)))
+          (q.close (pos (max (unsigned_abs x) (unsigned_abs y))) (pos m) (omega (arith, ints)) (omega (arith, ints)) (omega (arith, ints)) (least_below m c d h r z l));
+    }
 
 -- a divisor that may be 0 has no least size
 pub mixed_row : (x : Interval) (c d : ℤ) (i : Interval) → c ≤ℤ pos 0 → pos 0 ≤ℤ d → IsQuotientRow x (ends c d) i
@@ -352,3 +376,109 @@ widened_row_none f x i n e = record { known = λ p s a b. absurd (n b); wide = �
 
 pub widened_row_all : (f : Fraction) (i : Interval) → IsWidenedRow f everything i
 widened_row_all f i = record { known = λ p s a b. absurd p; wide = λ p k. absurd p }
+
+-- ---- as ends of 128 bits
+abbrev pub FineEnds : Type 0
+FineEnds = Ends ℤ ghosts
+
+pub shown_is : (lo hi : ℤ) (i : Interval) → ShowsEnds fine lo hi i → SFits w128 lo → SFits w128 hi → i ≡ ends lo hi
+shown_is lo hi (between a b) fitting f g = refl
+shown_is lo hi everything (too_large n) f g = absurd (n f g)
+
+pub sum_of_ends : (x y r : Option FineEnds) → IfSome x (λ p. IfSome y (λ q. HasEnds (p.lo +ℤ q.lo) (p.hi +ℤ q.hi) r)) → IsSumRow (shown_ends x) (shown_ends y) (shown_ends r)
+sum_of_ends None y r h = sum_row_first (shown_ends y) (shown_ends r)
+sum_of_ends (Some p) None r h = sum_row_second (shown_ends (Some p)) (shown_ends r)
+sum_of_ends (Some p) (Some q) r h = sum_row p.lo p.hi q.lo q.hi _ _ (shown_ends r) refl refl (shows _ _ r h)
+
+pub difference_of_ends : (x y r : Option FineEnds) → IfSome x (λ p. IfSome y (λ q. HasEnds (p.lo -ℤ q.hi) (p.hi -ℤ q.lo) r)) → IsSumRow (shown_ends x) (shown_ends y) (shown_ends r)
+difference_of_ends None y r h = sum_row_first (shown_ends y) (shown_ends r)
+difference_of_ends (Some p) None r h = sum_row_second (shown_ends (Some p)) (shown_ends r)
+difference_of_ends (Some p) (Some q) r h = difference_row p.lo p.hi q.lo q.hi _ _ (shown_ends r) refl refl (shows _ _ r h)
+
+pub opposite_of_ends : (x r : Option FineEnds) → IfSome x (λ p. HasEnds (pos 0 -ℤ p.hi) (pos 0 -ℤ p.lo) r) → IsMovedRow (shown_ends x) (shown_ends r)
+opposite_of_ends None r h = moved_row_all (shown_ends r)
+opposite_of_ends (Some p) r h = opposite_row p.lo p.hi _ _ (shown_ends r) refl refl (shows _ _ r h)
+
+-- ---- by the bounds that just these ends keep
+abbrev bound_of_ends : ℤ → ℤ → Bound
+bound_of_ends x y = bounded (floor_quotient x (2 ^ 24 - 1)) (neg_ℤ (floor_quotient (neg_ℤ y) (2 ^ 24 - 1))) 0 (unsigned_abs (y -ℤ x) * 2 ^ 8)
+
+ends_narrow : (x y : ℤ) → x ≤ℤ y → IsNarrow 0 (bound_of_ends x y) (ends x y)
+unfolding IsNarrow
+ends_narrow x y o =
+    let f = (floor_quotient_floor x (2 ^ 24 - 1)).not_above in
+    let g = (floor_quotient_floor (neg_ℤ y) (2 ^ 24 - 1)).not_above in
+    spans_of fine _ _ _ _ 0 x y (record { ordered = o; above = omega (arith, ints, f); below = omega (arith, ints, g); close = omega (arith, ints, o) })
+
+pub lesser_of_ends : (x y r : Option FineEnds) → ((w : ℕ) (a b : Bound) → IsNarrow w a (shown_ends x) → IsNarrow w b (shown_ends y) → IsNarrow w (minimum_bound a b) (shown_ends r)) → IsChoiceRow (shown_ends x) (shown_ends y) (shown_ends r)
+unfolding minimum_bound IsNarrow
+lesser_of_ends None y r h = choice_row_first (shown_ends y) (shown_ends r)
+lesser_of_ends (Some p) None r h = choice_row_second (shown_ends (Some p)) (shown_ends r)
+lesser_of_ends (Some p) (Some q) None h = absurd (h 0 (bound_of_ends p.lo p.hi) (bound_of_ends q.lo q.hi) (ends_narrow p.lo p.hi p.ordered) (ends_narrow q.lo q.hi q.ordered))
+lesser_of_ends (Some p) (Some q) (Some e) h =
+    let k = kept_of fine _ _ _ _ 0 e.lo e.hi (h 0 (bound_of_ends p.lo p.hi) (bound_of_ends q.lo q.hi) (ends_narrow p.lo p.hi p.ordered) (ends_narrow q.lo q.hi q.ordered)) in
+    record { known = λ a b. tt; wide = λ a b. omega (arith, ints, clamps, k.close, p.ordered, q.ordered) }
+
+pub greater_of_ends : (x y r : Option FineEnds) → ((w : ℕ) (a b : Bound) → IsNarrow w a (shown_ends x) → IsNarrow w b (shown_ends y) → IsNarrow w (maximum_bound a b) (shown_ends r)) → IsChoiceRow (shown_ends x) (shown_ends y) (shown_ends r)
+unfolding maximum_bound IsNarrow
+greater_of_ends None y r h = choice_row_first (shown_ends y) (shown_ends r)
+greater_of_ends (Some p) None r h = choice_row_second (shown_ends (Some p)) (shown_ends r)
+greater_of_ends (Some p) (Some q) None h = absurd (h 0 (bound_of_ends p.lo p.hi) (bound_of_ends q.lo q.hi) (ends_narrow p.lo p.hi p.ordered) (ends_narrow q.lo q.hi q.ordered))
+greater_of_ends (Some p) (Some q) (Some e) h =
+    let k = kept_of fine _ _ _ _ 0 e.lo e.hi (h 0 (bound_of_ends p.lo p.hi) (bound_of_ends q.lo q.hi) (ends_narrow p.lo p.hi p.ordered) (ends_narrow q.lo q.hi q.ordered)) in
+    record { known = λ a b. tt; wide = λ a b. omega (arith, ints, clamps, k.close, p.ordered, q.ordered) }
+
+-- ---- the hull
+lesser_is : (a c e : ℤ) → smaller (at_scale fine a) (at_scale fine c) ≤F at_scale fine e → at_scale fine e ≤F smaller (at_scale fine a) (at_scale fine c) → e ≡ int_min a c
+lesser_is a c e h k =
+    let l : int_min a c ≤ℤ e = smaller_keeps (λ z. z ≤F at_scale fine e → int_min a c ≤ℤ e) (at_scale fine a) (at_scale fine c) (λ m. omega (arith, ints, clamps, m.cross)) (λ m. omega (arith, ints, clamps, m.cross)) h in
+    let u = le_trans _ _ _ k (smaller_first (at_scale fine a) (at_scale fine c)) in
+    let v = le_trans _ _ _ k (smaller_second (at_scale fine a) (at_scale fine c)) in
+    omega (arith, ints, clamps, l, u.cross, v.cross)
+
+greater_is : (b d e : ℤ) → at_scale fine e ≤F larger (at_scale fine b) (at_scale fine d) → larger (at_scale fine b) (at_scale fine d) ≤F at_scale fine e → e ≡ int_max b d
+greater_is b d e h k =
+    let l : e ≤ℤ int_max b d = larger_keeps (λ z. at_scale fine e ≤F z → e ≤ℤ int_max b d) (at_scale fine b) (at_scale fine d) (λ m. omega (arith, ints, clamps, m.cross)) (λ m. omega (arith, ints, clamps, m.cross)) h in
+    let u = le_trans _ _ _ (larger_first (at_scale fine b) (at_scale fine d)) k in
+    let v = le_trans _ _ _ (larger_second (at_scale fine b) (at_scale fine d)) k in
+    omega (arith, ints, clamps, l, u.cross, v.cross)
+
+pub hull_of_ends : (x y r : Option FineEnds) → hull (shown_ends x) (shown_ends y) ⊆ shown_ends r → shown_ends r ⊆ hull (shown_ends x) (shown_ends y) → IsHullRow (shown_ends x) (shown_ends y) (shown_ends r)
+unfolding hull
+hull_of_ends None y r h k = record { known = λ p q. absurd p; low = λ p q. absurd p; high = λ p q. absurd p }
+hull_of_ends (Some p) None r h k = record { known = λ a b. absurd b; low = λ a b. absurd b; high = λ a b. absurd b }
+hull_of_ends (Some p) (Some q) None h k = absurd k.ends
+hull_of_ends (Some p) (Some q) (Some e) h k = record {
+  known = λ a b. tt;
+  low = λ a b. lesser_is p.lo q.lo e.lo k.ends.0 h.ends.0;
+  high = λ a b. greater_is p.hi q.hi e.hi k.ends.1 h.ends.1;
+}
+
+-- ---- what is cut to -1..1
+pub cut_of_ends : (x : Option FineEnds) (e : FineEnds) → ((w : ℕ) (a : Bound) → IsNarrow w a (shown_ends x) → IsNarrow w (clamp_bound a) (shown_of e)) → IsCutRow (shown_ends x) (shown_of e)
+unfolding clamp_bound IsNarrow
+cut_of_ends None e h = record { known = tt; wide = λ p. absurd p }
+cut_of_ends (Some p) e h =
+    let k = kept_of fine _ _ _ _ 0 e.lo e.hi (h 0 (bound_of_ends p.lo p.hi) (ends_narrow p.lo p.hi p.ordered)) in
+    record { known = tt; wide = λ a. omega (arith, ints, k.close, p.ordered) }
+
+-- ---- a remainder
+limited_holds : (t : Bool) (w : ℕ) (b : Bound) (i : Interval) → t ≡ true → IsNarrow w (limited t b) i → IsNarrow w b i
+limited_holds t w b i e h = rw e at h
+
+pub remainder_of_ends : (x r : Option FineEnds) (m : ℕ) → m < 2 ^ 32 → ((w : ℕ) (b : Bound) → IsNarrow w b (shown_ends x) → IsNarrow w (remainder_bound (limits_on fine) m b) (shown_ends r)) → IsMovedRow (shown_ends x) (shown_ends r)
+unfolding remainder_bound IsNarrow
+remainder_of_ends None r m l h = moved_row_all (shown_ends r)
+remainder_of_ends (Some p) None m l h =
+    absurd (limited_holds (nat_lt (m * 2 ^ 32) (2 ^ 100)) 0 (bounded (pos 0) (pos (m * 2 ^ 32)) 0 (unsigned_abs (p.hi -ℤ p.lo) * 2 ^ 8)) everything (lt-ltb _ _ (omega (arith, l))) (h 0 (bound_of_ends p.lo p.hi) (ends_narrow p.lo p.hi p.ordered)))
+remainder_of_ends (Some p) (Some e) m l h =
+    let k = kept_of fine _ _ _ _ 0 e.lo e.hi (limited_holds (nat_lt (m * 2 ^ 32) (2 ^ 100)) 0 (bounded (pos 0) (pos (m * 2 ^ 32)) 0 (unsigned_abs (p.hi -ℤ p.lo) * 2 ^ 8)) (shown_ends (Some e)) (lt-ltb _ _ (omega (arith, l))) (h 0 (bound_of_ends p.lo p.hi) (ends_narrow p.lo p.hi p.ordered))) in
+    record { known = λ a s. tt; wide = λ a b. omega (arith, ints, k.close, p.ordered) }
+
+-- ---- a whole number
+pub integer_of_ends : (n : ℤ) (r : Option FineEnds) → SFits w64 n → ((w : ℕ) → IsNarrow w (integer_bound (limits_on fine) n) (shown_ends r)) → IsIntegerRow (shown_ends r)
+unfolding integer_bound IsNarrow
+integer_of_ends n None f h = absurd (limited_holds (nat_lt (unsigned_abs n * 2 ^ 32) (2 ^ 100)) 0 (bounded (n *ℤ pos (2 ^ 32)) (n *ℤ pos (2 ^ 32)) 0 0) everything (lt-ltb _ _ (omega (arith, ints, f))) (h 0))
+integer_of_ends n (Some e) f h =
+    let k = kept_of fine _ _ _ _ 0 e.lo e.hi (limited_holds (nat_lt (unsigned_abs n * 2 ^ 32) (2 ^ 100)) 0 (bounded (n *ℤ pos (2 ^ 32)) (n *ℤ pos (2 ^ 32)) 0 0) (shown_ends (Some e)) (lt-ltb _ _ (omega (arith, ints, f))) (h 0)) in
+    record { known = tt; wide = omega (arith, ints, k.close, k.ordered) }

@@ -1,6 +1,15 @@
 //! Enclosures by ends in 128 bits, which count 2⁻⁵⁶.
-ghost use Rattle.std.specs.Prelude.{refl};
+ghost use Rattle.std.specs.Prelude.{refl, ◌≡◌, ◌≤◌, ◌<◌, ℕ, ℤ, Some, IfOk, IfErr, IsSome};
+ghost use Rattle.exact_math.specs.Interval.{◌⊆◌, hull as hull_of_intervals};
+ghost use Rattle.book_model.specs.numbers.Expressions.{Expression, World, integer, add as add_of, subtract, multiply, negate, minimum, maximum, hull as hull_of, divide, power, root as root_of, clamp as clamp_of, remainder};
+ghost use Rattle.book_model.specs.numbers.Bounds.{Reach, limits_of};
+ghost use Rattle.book_model.specs.numbers.Depth.{DEPTH as LEAST_DEPTH};
+ghost use Rattle.book_model.specs.numbers.Relations.{Within, Narrow};
+ghost use Rattle.book_model.specs.programs.Programs.{multiples, cell_at};
+ghost use Rattle.book_model.specs.programs.Leading.{next_turn};
+ghost use Rattle.encl_core.specs.Steps.{IsOpenPeriod};
 ghost use Rattle.fix_fine.specs.Shown.{shown_fine, fine_proper};
+ghost use Rattle.fix_fine.specs.Table.{IsIntegerRow, IsSumRow, IsMovedRow, IsCutRow, IsChoiceRow, IsHullRow, IsProductRow, IsSquareRow, IsQuotientRow, IsRootRow};
 
 use crate::dividing::div_ends;
 use crate::products::{mul_ends, square_ends};
@@ -38,7 +47,11 @@ impl Enclosure for Fine {
         Fine { ends: None }
     }
 
-    fn from_int(value: i64) -> Self {
+    fn from_int(value: i64) -> Self
+        ensures holds { (w : World) → LEAST_DEPTH ≤ w.depth → Within shown_fine w (integer value) result }
+        ensures narrow { (r : Reach) → Narrow shown_fine (limits_of 56) r (integer value) result }
+        ensures table { IsIntegerRow (shown_fine result) }
+    {
         Fine {
             ends: int_ends(value),
         }
@@ -56,43 +69,72 @@ impl Enclosure for Fine {
         }
     }
 
-    fn add(self, other: Self) -> Self {
+    fn add(self, other: Self) -> Self
+        ensures holds { (w : World) (x y : Expression) → Within shown_fine w x self → Within shown_fine w y other → Within shown_fine w (add_of x y) result }
+        ensures narrow { (r : Reach) (x y : Expression) → Narrow shown_fine (limits_of 56) r x self → Narrow shown_fine (limits_of 56) r y other → Narrow shown_fine (limits_of 56) r (add_of x y) result }
+        ensures table { IsSumRow (shown_fine self) (shown_fine other) (shown_fine result) }
+    {
         Fine {
             ends: add_ends(self.ends, other.ends),
         }
     }
 
-    fn sub(self, other: Self) -> Self {
+    fn sub(self, other: Self) -> Self
+        ensures holds { (w : World) (x y : Expression) → Within shown_fine w x self → Within shown_fine w y other → Within shown_fine w (subtract x y) result }
+        ensures narrow { (r : Reach) (x y : Expression) → Narrow shown_fine (limits_of 56) r x self → Narrow shown_fine (limits_of 56) r y other → Narrow shown_fine (limits_of 56) r (subtract x y) result }
+        ensures table { IsSumRow (shown_fine self) (shown_fine other) (shown_fine result) }
+    {
         Fine {
             ends: sub_ends(self.ends, other.ends),
         }
     }
 
-    fn mul(self, other: Self) -> Self {
+    fn mul(self, other: Self) -> Self
+        ensures holds { (w : World) (x y : Expression) → Within shown_fine w x self → Within shown_fine w y other → Within shown_fine w (multiply x y) result }
+        ensures narrow { (r : Reach) (x y : Expression) → Narrow shown_fine (limits_of 56) r x self → Narrow shown_fine (limits_of 56) r y other → Narrow shown_fine (limits_of 56) r (multiply x y) result }
+        ensures table { IsProductRow (shown_fine self) (shown_fine other) (shown_fine result) }
+    {
         Fine {
             ends: mul_ends(self.ends, other.ends),
         }
     }
 
-    fn min(self, other: Self) -> Self {
+    fn min(self, other: Self) -> Self
+        ensures holds { (w : World) (x y : Expression) → Within shown_fine w x self → Within shown_fine w y other → Within shown_fine w (minimum x y) result }
+        ensures narrow { (r : Reach) (x y : Expression) → Narrow shown_fine (limits_of 56) r x self → Narrow shown_fine (limits_of 56) r y other → Narrow shown_fine (limits_of 56) r (minimum x y) result }
+        ensures table { IsChoiceRow (shown_fine self) (shown_fine other) (shown_fine result) }
+    {
         Fine {
             ends: min_ends(self.ends, other.ends),
         }
     }
 
-    fn max(self, other: Self) -> Self {
+    fn max(self, other: Self) -> Self
+        ensures holds { (w : World) (x y : Expression) → Within shown_fine w x self → Within shown_fine w y other → Within shown_fine w (maximum x y) result }
+        ensures narrow { (r : Reach) (x y : Expression) → Narrow shown_fine (limits_of 56) r x self → Narrow shown_fine (limits_of 56) r y other → Narrow shown_fine (limits_of 56) r (maximum x y) result }
+        ensures table { IsChoiceRow (shown_fine self) (shown_fine other) (shown_fine result) }
+    {
         Fine {
             ends: max_ends(self.ends, other.ends),
         }
     }
 
-    fn hull(self, other: Self) -> Self {
+    fn hull(self, other: Self) -> Self
+        ensures holds { (w : World) (x y : Expression) → Within shown_fine w x self → Within shown_fine w y other → Within shown_fine w (hull_of x y) result }
+        ensures tight { shown_fine result ⊆ hull_of_intervals (shown_fine self) (shown_fine other) }
+        ensures narrow { (r : Reach) (x y : Expression) → Narrow shown_fine (limits_of 56) r x self → Narrow shown_fine (limits_of 56) r y other → Narrow shown_fine (limits_of 56) r (hull_of x y) result }
+        ensures table { IsHullRow (shown_fine self) (shown_fine other) (shown_fine result) }
+    {
         Fine {
             ends: hull_ends(self.ends, other.ends),
         }
     }
 
-    fn neg(self) -> Self {
+    fn neg(self) -> Self
+        ensures holds { (w : World) (x : Expression) → Within shown_fine w x self → Within shown_fine w (negate x) result }
+        ensures narrow { (r : Reach) (x : Expression) → Narrow shown_fine (limits_of 56) r x self → Narrow shown_fine (limits_of 56) r (negate x) result }
+        ensures table { IsMovedRow (shown_fine self) (shown_fine result) }
+    {
         Fine {
             ends: neg_ends(self.ends),
         }
@@ -110,25 +152,41 @@ impl Enclosure for Fine {
         }
     }
 
-    fn div(self, other: Self) -> Self {
+    fn div(self, other: Self) -> Self
+        ensures holds { (w : World) (x y : Expression) → Within shown_fine w x self → Within shown_fine w y other → Within shown_fine w (divide x y) result }
+        ensures narrow { (r : Reach) (x y : Expression) → Narrow shown_fine (limits_of 56) r x self → Narrow shown_fine (limits_of 56) r y other → Narrow shown_fine (limits_of 56) r (divide x y) result }
+        ensures table { IsQuotientRow (shown_fine self) (shown_fine other) (shown_fine result) }
+    {
         Fine {
             ends: div_ends(self.ends, other.ends),
         }
     }
 
-    fn square(self) -> Self {
+    fn square(self) -> Self
+        ensures holds { (w : World) (x : Expression) → Within shown_fine w x self → Within shown_fine w (power x 2) result }
+        ensures narrow { (r : Reach) (x : Expression) → Narrow shown_fine (limits_of 56) r x self → Narrow shown_fine (limits_of 56) r (power x 2) result }
+        ensures table { IsSquareRow (shown_fine self) (shown_fine result) }
+    {
         Fine {
             ends: square_ends(self.ends),
         }
     }
 
-    fn root(self) -> Self {
+    fn root(self) -> Self
+        ensures holds { (w : World) (x : Expression) → Within shown_fine w x self → Within shown_fine w (root_of x) result }
+        ensures narrow { (r : Reach) (x : Expression) → Narrow shown_fine (limits_of 56) r x self → Narrow shown_fine (limits_of 56) r (root_of x) result }
+        ensures table { IsRootRow (shown_fine self) (shown_fine result) }
+    {
         Fine {
             ends: root_ends(self.ends),
         }
     }
 
-    fn clamp_unit(self) -> Self {
+    fn clamp_unit(self) -> Self
+        ensures holds { (w : World) (x : Expression) → Within shown_fine w x self → Within shown_fine w (clamp_of x) result }
+        ensures narrow { (r : Reach) (x : Expression) → Narrow shown_fine (limits_of 56) r x self → Narrow shown_fine (limits_of 56) r (clamp_of x) result }
+        ensures table { IsCutRow (shown_fine self) (shown_fine result) }
+    {
         Fine {
             ends: Some(clamp_ends(self.ends)),
         }
@@ -158,7 +216,16 @@ impl Enclosure for Fine {
         }
     }
 
-    fn wrap(self, modulus: u32, site: Site, trail: &mut Trail) -> Result<Self, Undecided> {
+    fn wrap(self, modulus: u32, site: Site, trail: &mut Trail) -> Result<Self, Undecided>
+        requires { 0 < modulus }
+        ensures decided { IfOk result (λ y. IsSome (cell_at (multiples modulus) (shown_fine self))) }
+        ensures holds { IfOk result (λ y. (q : ℤ) (w : World) (x : Expression) → cell_at (multiples modulus) (shown_fine self) ≡ Some q → Within shown_fine w x self → Within shown_fine w (remainder modulus x q) y) }
+        ensures narrow { IfOk result (λ y. (q : ℤ) (r : Reach) (x : Expression) → Narrow shown_fine (limits_of 56) r x self → Narrow shown_fine (limits_of 56) r (remainder modulus x q) y) }
+        ensures undecided { IfErr result (λ u. IsOpenPeriod modulus (shown_fine self) u.lo u.hi) }
+        ensures named { IfErr result (λ u. (u.site ≡ site) × (u.turn ≡ next_turn trail.old.count)) }
+        ensures counted { trail.new.count ≡ next_turn trail.old.count }
+        ensures table { IfOk result (λ y. IsMovedRow (shown_fine self) (shown_fine y)) }
+    {
         let turn = trail.step();
         match period_of_ends(self.ends, modulus) {
             Some(period) => Ok(Fine {

@@ -6,6 +6,7 @@ ghost use Rattle.book_model.specs.numbers.Bounds.{Bound, IsNarrow, root_bound};
 ghost use Rattle.book_model.specs.numbers.Depth.{DEPTH};
 ghost use Rattle.scaled_ends.specs.Scales.{fine, limits_on};
 ghost use Rattle.scaled_ends.specs.Shown.{shown_ends};
+ghost use Rattle.fix_fine.specs.Table.{IsRootRow};
 
 use scaled_ends::Ends;
 
@@ -17,8 +18,7 @@ const UNITS: u128 = 72_057_594_037_927_936;
 fn root_down(end: i128) -> Option<i128>
     ensures natural { IfSome result (λ r. pos 0 ≤ℤ r) }
     ensures square { IfSome result (λ r. (r *ℤ r) ≤ℤ (pos (natural_part end) *ℤ pos (2 ^ 56))) }
-    ensures close { IfSome result (λ r. (pos (natural_part end) *ℤ pos (2 ^ 56)) <ℤ
-        ((r +ℤ pos 1) *ℤ (r +ℤ pos 1))) }
+    ensures close { IfSome result (λ r. (pos (natural_part end) *ℤ pos (2 ^ 56)) <ℤ ((r +ℤ pos 1) *ℤ (r +ℤ pos 1))) }
     ensures some { end <ℤ pos (2 ^ 70) → IsSome result }
 {
     if end <= 0 {
@@ -32,8 +32,7 @@ fn root_down(end: i128) -> Option<i128>
 fn root_up(end: i128) -> Option<i128>
     ensures natural { IfSome result (λ r. pos 0 ≤ℤ r) }
     ensures square { IfSome result (λ r. (pos (natural_part end) *ℤ pos (2 ^ 56)) ≤ℤ (r *ℤ r)) }
-    ensures close { IfSome result (λ r. pos 1 ≤ℤ r → ((r -ℤ pos 1) *ℤ (r -ℤ pos 1)) <ℤ
-        (pos (natural_part end) *ℤ pos (2 ^ 56))) }
+    ensures close { IfSome result (λ r. pos 1 ≤ℤ r → ((r -ℤ pos 1) *ℤ (r -ℤ pos 1)) <ℤ (pos (natural_part end) *ℤ pos (2 ^ 56))) }
     ensures some { end <ℤ pos (2 ^ 70) → IsSome result }
 {
     if end <= 0 {
@@ -45,8 +44,8 @@ fn root_up(end: i128) -> Option<i128>
 /// The ends around the roots.
 pub(crate) fn root_ends(x: Option<Ends<i128>>) -> Option<Ends<i128>>
     ensures holds { (n : ℕ) → DEPTH ≤ n → root_of n (shown_ends x) ⊆ shown_ends result }
-    ensures narrow { (w : ℕ) (a : Bound) → IsNarrow w a (shown_ends x)
-        → IsNarrow w (root_bound (limits_on fine) a) (shown_ends result) }
+    ensures narrow { (w : ℕ) (a : Bound) → IsNarrow w a (shown_ends x) → IsNarrow w (root_bound (limits_on fine) a) (shown_ends result) }
+    ensures row { IsRootRow (shown_ends x) (shown_ends result) }
 {
     let x = x?;
     let lo = root_down(x.lo)?;

@@ -1,11 +1,12 @@
 use Rattle.scaled_ends.specs.Scales.{fine, limits_on}
-use Rattle.std.proofs.Common.{arith, rules, SFits}
+use Rattle.std.proofs.Common.{refl, arith, rules, SFits}
 use Rattle.std.specs.Int.{w128}
 use Rattle.std.proofs.lemmas.Int.{ints, to_z-of_z}
 use Rattle.scaled_ends.specs.Rounding.{fitting}
 use Rattle.scaled_ends.proofs.RootWidths.{root_narrow, root_of_all}
 use Rattle.scaled_ends.proofs.RootEnds.{roots_order, root_holds}
 use Rattle.fix_fine.proofs.Fitting.{root_overflow}
+use Rattle.fix_fine.proofs.Rows.{root_row, root_row_low, root_row_high, root_row_all}
 use Rattle.fix_fine.proofs.roots.root_ends.Goals as goal
 
 pub returns-in_err-lo-clause-narrow : goal.returns-in_err-lo-clause-narrow
@@ -49,7 +50,23 @@ returns c =
     record {
       holds = λ n d. rw c.in_ok-x.was (simp to_z-of_z (root_holds fine n c.in_ok-x.x.lo c.in_ok-x.x.hi c.in_ok-lo.lo c.in_ok-hi.hi _ d c.in_ok-x.x.ordered p q h k fitting));
       narrow = λ w a m. simp to_z-of_z (root_narrow fine w a c.in_ok-x.x.lo c.in_ok-x.x.hi c.in_ok-lo.lo c.in_ok-hi.hi _ (record { ordered = o; natural = p; above = u; below = v }) fitting (rw c.in_ok-x.was at m));
+      row = rw c.in_ok-x.was (simp to_z-of_z (root_row c.in_ok-x.x.lo c.in_ok-x.x.hi c.in_ok-lo.lo c.in_ok-hi.hi c.in_ok-x.x.ordered (record { ordered = o; natural = p; above = u; below = v })));
     }
 
 pub returns-in_err-x-clause-narrow : goal.returns-in_err-x-clause-narrow
 returns-in_err-x-clause-narrow c = λ w a h. root_of_all w (limits_on fine) a _ (rw c.in_err-x.was at h)
+
+pub returns-in_err-lo-clause-row : goal.returns-in_err-lo-clause-row
+returns-in_err-lo-clause-row c =
+    let fa : SFits w128 c.in_ok-x.x.lo = search rules in
+    let n = simp to_z-of_z at c.in_err-lo.ensures.some in
+    rw (c.from_residual-in_err-lo.ensures, c.in_ok-x.was) (root_row_low c.in_ok-x.x.lo c.in_ok-x.x.hi _ c.in_ok-x.x.ordered (λ l. let z = n l in absurd (cc)) refl)
+
+pub returns-in_err-hi-clause-row : goal.returns-in_err-hi-clause-row
+returns-in_err-hi-clause-row c =
+    let fa : SFits w128 c.in_ok-x.x.hi = search rules in
+    let n = simp to_z-of_z at c.in_err-hi.ensures.some in
+    rw (c.from_residual-in_err-hi.ensures, c.in_ok-x.was) (root_row_high c.in_ok-x.x.lo c.in_ok-x.x.hi _ c.in_ok-x.x.ordered (λ l. let z = n l in absurd (cc)) refl)
+
+pub returns-in_err-x-clause-row : goal.returns-in_err-x-clause-row
+returns-in_err-x-clause-row c = rw c.in_err-x.was (root_row_all _)

@@ -4,4 +4,4 @@ use Rattle.scaled_ends.proofs.Following.{within_divide, narrow_divide}
 use Rattle.fix_fine.proofs.fine.FineEnclosure.div.Goals as goal
 
 pub returns : goal.returns
-returns c = record { holds = λ w x y. within_divide shown_fine w x y _ _ _ c.div_ends.ensures.holds; narrow = λ r x y. narrow_divide fine shown_fine r x y _ _ _ c.div_ends.ensures.narrow }
+returns c = record { holds = λ w x y. within_divide shown_fine w x y _ _ _ c.div_ends.ensures.holds; narrow = λ r x y. narrow_divide fine shown_fine r x y _ _ _ c.div_ends.ensures.narrow; table = c.div_ends.ensures.row }

@@ -5,4 +5,4 @@ use Rattle.scaled_ends.proofs.RootWidths.{narrow_root_at}
 use Rattle.fix_fine.proofs.fine.FineEnclosure.root.Goals as goal
 
 pub returns : goal.returns
-returns c = record { holds = λ w x. within_root shown_fine w x _ _ c.root_ends.ensures.holds; narrow = λ r x. narrow_root_at fine shown_fine r x _ _ c.root_ends.ensures.narrow }
+returns c = record { holds = λ w x. within_root shown_fine w x _ _ c.root_ends.ensures.holds; narrow = λ r x. narrow_root_at fine shown_fine r x _ _ c.root_ends.ensures.narrow; table = c.root_ends.ensures.row }

@@ -4,4 +4,4 @@ use Rattle.scaled_ends.proofs.Following.{within_power, narrow_square}
 use Rattle.fix_fine.proofs.fine.FineEnclosure.square.Goals as goal
 
 pub returns : goal.returns
-returns c = record { holds = λ w x. within_power shown_fine w x 2 _ _ c.square_ends.ensures.holds; narrow = λ r x. narrow_square fine shown_fine r x _ _ c.square_ends.ensures.narrow }
+returns c = record { holds = λ w x. within_power shown_fine w x 2 _ _ c.square_ends.ensures.holds; narrow = λ r x. narrow_square fine shown_fine r x _ _ c.square_ends.ensures.narrow; table = c.square_ends.ensures.row }

@@ -1,10 +1,11 @@
 use Rattle.scaled_ends.specs.Scales.{fine}
-use Rattle.std.proofs.Common.{rules, SFits, sym}
+use Rattle.std.proofs.Common.{rules, arith, SFits, sym}
 use Rattle.std.specs.Int.{w128}
 use Rattle.std.proofs.lemmas.Int.{to_z-of_z}
 use Rattle.fix_fine.specs.Shown.{shown_fine}
 use Rattle.scaled_ends.proofs.Following.{within_remainder, narrow_remainder}
 use Rattle.scaled_ends.proofs.Periods.{known_period}
+use Rattle.fix_fine.proofs.Rows.{remainder_of_ends}
 use Rattle.fix_fine.proofs.fine.FineEnclosure.wrap.Goals as goal
 
 pub returns-in-Some-clause-holds : goal.returns-in-Some-clause-holds
@@ -17,3 +18,6 @@ pub returns-in-Some-clause-narrow : goal.returns-in-Some-clause-narrow
 returns-in-Some-clause-narrow c = λ q r x h.
     let f : SFits w128 c.in-Some.period = search rules in
     narrow_remainder fine shown_fine r c.args.modulus x q _ _ c.lower_ends.ensures.narrow h
+
+pub returns-in-Some-clause-table : goal.returns-in-Some-clause-table
+returns-in-Some-clause-table c = remainder_of_ends c.args.self.ends c.lower_ends.result c.args.modulus (omega (arith, c.ranges.modulus)) c.lower_ends.ensures.narrow
