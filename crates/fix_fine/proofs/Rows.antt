@@ -1,6 +1,6 @@
 -- The table of widths, from the ends that the operations give.
 use Rattle.std.proofs.Common.{◌≡◌, ℕ, zero, suc, ◌*◌, ◌^◌, ◌≤◌, ◌<◌, ◌+◌, arith, refl, sym, Bool, true, false, int_le, max, unsigned_abs, ℤ, pos, negsuc, ◌+ℤ◌, ◌*ℤ◌, ◌-ℤ◌, ◌≤ℤ◌, ◌<ℤ◌, ◌⊎◌, inl, inr, SFits, [], ◌∷◌, Option, Some, None}
-use Rattle.std.specs.Prelude.{neg_ℤ, nat_lt, IfSome, ◌-◌}
+use Rattle.std.specs.Prelude.{neg_ℤ, nat_lt, IfSome, IsSome, ◌-◌, ◌/◌, ◌&&◌}
 use Rattle.std.specs.Int.{w64, w128, int_min, int_max}
 use Rattle.std.proofs.Math.Nat.{mul-le-mul_left, mul-le-mul_right}
 use Rattle.std.proofs.lemmas.Int.{ints, clamps, by_lt_z}
@@ -19,7 +19,7 @@ use Rattle.std.proofs.lemmas.Bool.{lt-ltb}
 use Rattle.exact_math.specs.Fraction.{◌≤F◌, smaller, larger, floor_quotient}
 use Rattle.exact_math.specs.Interval.{◌⊆◌, hull}
 use Rattle.exact_math.proofs.Fractions.{le_trans, smaller_keeps, larger_keeps, smaller_first, smaller_second, larger_first, larger_second}
-use Rattle.book_model.specs.numbers.Bounds.{Bound, bounded, limited, minimum_bound, maximum_bound, clamp_bound, remainder_bound, integer_bound, IsNarrow}
+use Rattle.book_model.specs.numbers.Bounds.{Bound, bounded, limited, minimum_bound, maximum_bound, clamp_bound, remainder_bound, integer_bound, IsNarrow, constant_bound, widen_bound, floor_at_32, ceil_at_32, margin_32, range_size}
 use Rattle.rounded_quotients.proofs.Quotients.{floor_quotient_floor}
 use Rattle.scaled_ends.specs.Scales.{limits_on}
 use Rattle.scaled_ends.specs.Shown.{shown_ends, shown_of, HasEnds}
@@ -48,31 +48,6 @@ shown_wide lo hi everything h k = absurd k
 -- ---- whole numbers and fractions
 pub integer_row : (n : ℤ) (i : Interval) → SFits w128 n → ShowsEnds fine n n i → IsIntegerRow i
 integer_row n i f h = let k = shown_known n n i h f f in record { known = k; wide = rw (shown_wide n n i h k) (omega (arith, ints)) }
-
-one_apart : (n d lo hi : ℤ) → pos 0 <ℤ d → IsFloor lo n d → IsCeiling hi n d → (hi -ℤ lo) ≤ℤ pos 1
-one_apart n d lo hi h f c =
-    by_lt_z (lo +ℤ pos 1) hi
-    (λ m. absurd
-    (refute (n ∷ d ∷ lo ∷ hi ∷ []) ((lit (pos 1) ≼ at 1) ∷ (at 0 ⊕ lit (pos 1) ≼ at 2 ⊗ at 1 ⊕ at 1) ∷ (at 3 ⊗ at 1 ⊕ lit (pos 1) ≼ at 0 ⊕ at 1) ∷ (at 2 ⊕ lit (pos 2) ≼ at 3) ∷ []) (known 1 ⊞ known 2 ⊞ known 3 ⊠ (known 0 ⊞ naturally 1) ⊞ naturally 1) refl
-    (omega (arith, ints, h), (omega (arith, ints, f.close), (omega (arith, ints, c.close), (omega (arith, ints, m), tt))))))
-    (λ m. omega (arith, ints, m))
-
--- a quotient of a raised numerator fits where the fraction's size is below 2^50
-raised_fits : (n d q : ℤ) → pos 0 <ℤ d → (pos 0 -ℤ pos (2 ^ 106) *ℤ d) ≤ℤ n → n ≤ℤ (pos (2 ^ 106) *ℤ d) → IsFloor q n d → (pos 0 -ℤ pos (2 ^ 106)) ≤ℤ q
-raised_fits n d q h l u f =
-    by_lt_z q (pos 0 -ℤ pos (2 ^ 106))
-    (λ m. absurd
-    (refute (n ∷ d ∷ q ∷ []) ((lit (pos 0) ≼ at 1) ∷ (lit (pos 0) ⊖ lit (pos (2 ^ 106)) ⊗ at 1 ≼ at 0) ∷ (at 0 ⊕ lit (pos 1) ≼ at 2 ⊗ at 1 ⊕ at 1) ∷ (at 2 ⊕ lit (pos 1) ≼ lit (pos 0) ⊖ lit (pos (2 ^ 106))) ∷ []) (known 1 ⊞ known 2 ⊞ known 0 ⊠ known 3) refl
-    (omega (arith, ints, h), (l, (omega (arith, ints, f.close), (omega (arith, ints, m), tt))))))
-    (λ m. m)
-
-raised_tops : (n d q : ℤ) → pos 0 <ℤ d → n ≤ℤ (pos (2 ^ 106) *ℤ d) → IsCeiling q n d → q ≤ℤ pos (2 ^ 106)
-raised_tops n d q h u c =
-    by_lt_z (pos (2 ^ 106)) q
-    (λ m. absurd
-    (refute (n ∷ d ∷ q ∷ []) ((lit (pos 0) ≼ at 1) ∷ (at 0 ≼ lit (pos (2 ^ 106)) ⊗ at 1) ∷ (at 2 ⊗ at 1 ⊕ lit (pos 1) ≼ at 0 ⊕ at 1) ∷ (lit (pos (2 ^ 106)) ⊕ lit (pos 1) ≼ at 2) ∷ []) (known 1 ⊞ known 2 ⊞ known 0 ⊠ known 3) refl
-    (omega (arith, ints, h), (u, (omega (arith, ints, c.close), (omega (arith, ints, m), tt))))))
-    (λ m. m)
 
 -- ---- sums
 pub sum_row : (x y x' y' lo hi : ℤ) (i : Interval) → lo ≡ x +ℤ x' → hi ≡ y +ℤ y' → ShowsEnds fine lo hi i → IsSumRow (ends x y) (ends x' y') i
@@ -173,53 +148,6 @@ pub square_row_all : (i : Interval) → IsSquareRow everything i
 square_row_all i = record { known = λ p l. absurd p; wide = λ p k. absurd p }
 
 -- ---- products with a fraction
-factor_apart : (x y n p q m g : ℤ) (N : ℕ) → x ≤ℤ y → N ≡ unsigned_abs n → p ≡ x *ℤ n → q ≡ y *ℤ n → AreSorted m g p q → (g -ℤ m) ≤ℤ ((y -ℤ x) *ℤ pos N)
-factor_apart x y (pos n) p q m g N o e ep eq s =
-    let l : (x *ℤ pos n) ≤ℤ (y *ℤ pos n) = le_by (x ∷ y ∷ pos n ∷ []) ((at 0 ≼ at 1) ∷ (lit (pos 0) ≼ at 2) ∷ []) (at 0 ⊗ at 2) (at 1 ⊗ at 2) (known 0 ⊠ known 1) refl (o, (omega (arith, ints), tt)) in
-    let a = s.best_low (x *ℤ pos n) (omega (arith, ints, ep)) (omega (arith, ints, eq, l)) in
-    let b = s.best_high (y *ℤ pos n) (omega (arith, ints, ep, l)) (omega (arith, ints, eq)) in
-    let c : (y *ℤ pos n -ℤ x *ℤ pos n) ≤ℤ ((y -ℤ x) *ℤ pos n) = le_by (x ∷ y ∷ pos n ∷ []) [] (at 1 ⊗ at 2 ⊖ at 0 ⊗ at 2) ((at 1 ⊖ at 0) ⊗ at 2) (naturally 0) refl tt in
-    rw e (omega (arith, ints, a, b, c))
-factor_apart x y (negsuc n) p q m g N o e ep eq s =
-    let l : (y *ℤ negsuc n) ≤ℤ (x *ℤ negsuc n) = le_by (x ∷ y ∷ negsuc n ∷ []) ((at 0 ≼ at 1) ∷ (at 2 ≼ lit (pos 0)) ∷ []) (at 1 ⊗ at 2) (at 0 ⊗ at 2) (known 0 ⊠ known 1) refl (o, (omega (arith, ints), tt)) in
-    let a = s.best_low (y *ℤ negsuc n) (omega (arith, ints, ep, l)) (omega (arith, ints, eq)) in
-    let b = s.best_high (x *ℤ negsuc n) (omega (arith, ints, ep)) (omega (arith, ints, eq, l)) in
-    let k : negsuc n ≡ pos 0 -ℤ pos (suc n) = omega (arith, ints) in
-    let c : (x *ℤ negsuc n -ℤ y *ℤ negsuc n) ≤ℤ ((y -ℤ x) *ℤ pos (suc n)) = rw k (le_by (x ∷ y ∷ pos (suc n) ∷ []) [] (at 0 ⊗ (lit (pos 0) ⊖ at 2) ⊖ at 1 ⊗ (lit (pos 0) ⊖ at 2)) ((at 1 ⊖ at 0) ⊗ at 2) (naturally 0) refl tt) in
-    rw e (omega (arith, ints, a, b, c))
-
-rounded_apart : (m g d lo hi v : ℤ) → (g -ℤ m) ≤ℤ v → IsFloor lo m d → IsCeiling hi g d → (((hi -ℤ lo) -ℤ pos 2) *ℤ d) ≤ℤ v
-rounded_apart m g d lo hi v h f c =
-    le_by (m ∷ g ∷ d ∷ lo ∷ hi ∷ v ∷ []) ((at 1 ⊖ at 0 ≼ at 5) ∷ (at 0 ≼ at 3 ⊗ at 2 ⊕ at 2) ∷ (at 4 ⊗ at 2 ≼ at 1 ⊕ at 2) ∷ []) (((at 4 ⊖ at 3) ⊖ lit (pos 2)) ⊗ at 2) (at 5) (known 0 ⊞ known 1 ⊞ known 2) refl
-    (h, (omega (arith, ints, f.close), (omega (arith, ints, c.close), tt)))
-
-pub factor_row : (f : Fraction) (x y n p q m g d lo hi : ℤ) → x ≤ℤ y → n ≡ f.num → p ≡ x *ℤ n → q ≡ y *ℤ n → AreSorted m g p q → d ≡ pos (f.below + 1) → IsFloor lo m d → IsCeiling hi g d → IsFactorRow f (ends x y) (ends lo hi)
-factor_row f x y n p q m g d lo hi o e ep eq s ed fl ce =
-    let a = factor_apart x y n p q m g (unsigned_abs f.num) o (rw e refl) ep eq s in
-    let b = rounded_apart m g d lo hi _ a fl ce in
-    record { known = λ k l. tt; wide = λ k r. rw ed at b }
-
-factor_roomy : (n x : ℤ) (a : ℕ) → (pos 0 -ℤ pos a) ≤ℤ x → x ≤ℤ pos a → unsigned_abs n * a < 2 ^ 126 → SFits w128 (x *ℤ n)
-factor_roomy n x a h k l =
-    let p = bounded_product x n (pos a) (pos (unsigned_abs n)) h k (omega (arith, ints)) (omega (arith, ints)) in
-    let c : a * unsigned_abs n ≡ unsigned_abs n * a = omega arith in
-    omega (arith, ints, p.above, p.below, l, c)
-
-pub factor_row_low : (f : Fraction) (x y n : ℤ) (i : Interval) → n ≡ f.num → (SFits w128 (x *ℤ n) → ⊥) → i ≡ everything → IsFactorRow f (ends x y) i
-factor_row_low f x y n i e z k = record {
-  known = λ p l. absurd (z (rw e (factor_roomy f.num x (max (unsigned_abs x) (unsigned_abs y)) (omega (arith, ints)) (omega (arith, ints)) l)));
-  wide = λ p t. absurd (rw k at t);
-}
-
-pub factor_row_high : (f : Fraction) (x y n : ℤ) (i : Interval) → n ≡ f.num → (SFits w128 (y *ℤ n) → ⊥) → i ≡ everything → IsFactorRow f (ends x y) i
-factor_row_high f x y n i e z k = record {
-  known = λ p l. absurd (z (rw e (factor_roomy f.num y (max (unsigned_abs x) (unsigned_abs y)) (omega (arith, ints)) (omega (arith, ints)) l)));
-  wide = λ p t. absurd (rw k at t);
-}
-
-pub factor_row_all : (f : Fraction) (i : Interval) → IsFactorRow f everything i
-factor_row_all f i = record { known = λ p l. absurd p; wide = λ p k. absurd p }
-
 -- ---- quotients
 -- the least size of a divisor above 0 is at most its lower end
 least_above : (m : ℕ) (c d : ℤ) → pos 0 <ℤ c → c ≤ℤ d → 0 < m → IsLeastSize (pos m) (ends c d) → pos m ≤ℤ c
@@ -343,40 +271,6 @@ root_row_high x y i o n e = record { known = λ p s. absurd (n (omega (arith, in
 pub root_row_all : (i : Interval) → IsRootRow everything i
 root_row_all i = record { known = λ p l. absurd p; wide = λ p k. absurd p }
 
--- ---- fractions
-pub fraction_row : (f : Fraction) (n d lo hi : ℤ) → pos 0 <ℤ d → IsFloor lo n d → IsCeiling hi n d → IsFractionRow f (ends lo hi)
-fraction_row f n d lo hi h fl ce = record { known = λ s t. tt; wide = λ k. one_apart n d lo hi h fl ce }
-
-pub fraction_row_none : (f : Fraction) (n : ℤ) (i : Interval) → n ≡ f.num → (SFits w128 (n *ℤ pos (2 ^ 56)) → ⊥) → i ≡ everything → IsFractionRow f i
-fraction_row_none f n i e z k = record { known = λ s t. absurd (z (rw e (omega (arith, ints, t)))); wide = λ r. absurd (rw k at r) }
-
--- ---- what is moved outwards
-margin_small : (f : Fraction) (m : ℤ) → IsMarginAt fine f m → unsigned_abs f.num < 2 ^ 50 * (f.below + 1) → m ≤ℤ pos (2 ^ 106)
-margin_small f m h l =
-    let c = h.rounded in
-    let n : (pos (unsigned_abs f.num) *ℤ pos (2 ^ 56)) ≤ℤ (pos (2 ^ 106) *ℤ pos (f.below + 1)) = omega (arith, ints, l) in
-    raised_tops (pos (unsigned_abs f.num) *ℤ pos (2 ^ 56)) (pos (f.below + 1)) m (omega (arith, ints)) n c
-
-margin_wide : (n d m : ℤ) → IsCeiling m n d → ((pos 2 *ℤ m -ℤ pos 2) *ℤ d) ≤ℤ (pos 2 *ℤ n)
-margin_wide n d m c =
-    le_by (n ∷ d ∷ m ∷ []) ((at 2 ⊗ at 1 ⊕ lit (pos 1) ≼ at 0 ⊕ at 1) ∷ []) ((lit (pos 2) ⊗ at 2 ⊖ lit (pos 2)) ⊗ at 1) (lit (pos 2) ⊗ at 0) (naturally 2 ⊠ known 0 ⊞ naturally 2) refl (omega (arith, ints, c.close), tt)
-
-pub widened_row : (f : Fraction) (x y m lo hi : ℤ) (i : Interval) → pos 0 ≤ℤ m → IsMarginAt fine f m → lo ≡ x -ℤ m → hi ≡ y +ℤ m → ShowsEnds fine lo hi i → IsWidenedRow f (ends x y) i
-widened_row f x y m lo hi i z g e h k = record {
-  known = λ p s a b. let u = margin_small f m g a in shown_known lo hi i k (omega (arith, ints, e, s, u, z)) (omega (arith, ints, h, s, u, z));
-  wide = λ p r.
-      let w = shown_wide lo hi i k r in
-      let v : ((hi -ℤ lo) -ℤ (y -ℤ x)) -ℤ pos 2 ≡ pos 2 *ℤ m -ℤ pos 2 = omega (arith, ints, e, h) in
-      let c = margin_wide _ _ m g.rounded in
-      rw (w, v) (omega (arith, ints, c));
-}
-
-pub widened_row_none : (f : Fraction) (x : Interval) (i : Interval) → (unsigned_abs f.num < 2 ^ 70 → ⊥) → i ≡ everything → IsWidenedRow f x i
-widened_row_none f x i n e = record { known = λ p s a b. absurd (n b); wide = λ p k. absurd (rw e at k) }
-
-pub widened_row_all : (f : Fraction) (i : Interval) → IsWidenedRow f everything i
-widened_row_all f i = record { known = λ p s a b. absurd p; wide = λ p k. absurd p }
-
 -- ---- as ends of 128 bits
 abbrev pub FineEnds : Type 0
 FineEnds = Ends ℤ ghosts
@@ -482,3 +376,91 @@ integer_of_ends n None f h = absurd (limited_holds (nat_lt (unsigned_abs n * 2 ^
 integer_of_ends n (Some e) f h =
     let k = kept_of fine _ _ _ _ 0 e.lo e.hi (limited_holds (nat_lt (unsigned_abs n * 2 ^ 32) (2 ^ 100)) 0 (bounded (n *ℤ pos (2 ^ 32)) (n *ℤ pos (2 ^ 32)) 0 0) (shown_ends (Some e)) (lt-ltb _ _ (omega (arith, ints, f))) (h 0)) in
     record { known = tt; wide = omega (arith, ints, k.close, k.ordered) }
+
+-- ---- fractions
+pub fraction_of_ends : (f : Fraction) (r : Option FineEnds) → ((w : ℕ) → IsNarrow w (constant_bound (limits_on fine) f) (shown_ends r)) → IfSome r (λ e. (e.hi -ℤ e.lo) ≤ℤ pos 1) → IsFractionRow f (shown_ends r)
+unfolding constant_bound IsNarrow
+fraction_of_ends f (Some e) n c = record { known = λ s t. tt; wide = λ k. c }
+fraction_of_ends f None n c = record { known = λ s t. absurd (limited_holds _ 0 (bounded (floor_at_32 f) (ceil_at_32 f) 0 (2 ^ 8)) everything (both_hold _ _ (lt-ltb _ _ t) (lt-ltb _ _ (size_32 f s))) (n 0)); wide = λ k. absurd k }
+  where
+    both_hold : (p q : Bool) → p ≡ true → q ≡ true → (p && q) ≡ true
+    both_hold p q e h = rw (e, h) refl
+
+    size_32 : (f : Fraction) → unsigned_abs f.num < 2 ^ 50 * (f.below + 1) → range_size (floor_at_32 f) (ceil_at_32 f) < 2 ^ 100
+    size_32 f s =
+        let i = floor_quotient_floor (f.num *ℤ pos (2 ^ 32)) f.below in
+        let j = floor_quotient_floor (neg_ℤ (f.num *ℤ pos (2 ^ 32))) f.below in
+        let h : pos (unsigned_abs f.num) ≤ℤ (pos (2 ^ 50) *ℤ pos (suc f.below)) = omega (arith, ints, s) in
+        let l = floor_low (f.num *ℤ pos (2 ^ 32)) (pos (suc f.below)) (floor_quotient (f.num *ℤ pos (2 ^ 32)) f.below) (omega (arith, ints)) (omega (arith, ints, h)) (omega (arith, ints, i.close)) in
+        let k = floor_low (neg_ℤ (f.num *ℤ pos (2 ^ 32))) (pos (suc f.below)) (floor_quotient (neg_ℤ (f.num *ℤ pos (2 ^ 32))) f.below) (omega (arith, ints)) (omega (arith, ints, h)) (omega (arith, ints, j.close)) in
+        let u = floor_high (f.num *ℤ pos (2 ^ 32)) (pos (suc f.below)) (floor_quotient (f.num *ℤ pos (2 ^ 32)) f.below) (omega (arith, ints)) (omega (arith, ints, h)) i.not_above in
+        let v = floor_high (neg_ℤ (f.num *ℤ pos (2 ^ 32))) (pos (suc f.below)) (floor_quotient (neg_ℤ (f.num *ℤ pos (2 ^ 32))) f.below) (omega (arith, ints)) (omega (arith, ints, h)) j.not_above in
+        omega (arith, ints, l, k, u, v)
+      where
+        floor_low : (n d q : ℤ) → pos 1 ≤ℤ d → (pos 0 -ℤ pos (2 ^ 82) *ℤ d) ≤ℤ n → (n +ℤ pos 1) ≤ℤ (q *ℤ d +ℤ d) → (pos 0 -ℤ pos (2 ^ 82)) ≤ℤ q
+        floor_low n d q h l f =
+            by_lt_z q (pos 0 -ℤ pos (2 ^ 82))
+            (λ m. absurd
+            (refute (n ∷ d ∷ q ∷ []) ((lit (pos 0) ≼ at 1) ∷ (lit (pos 0) ⊖ lit (pos (2 ^ 82)) ⊗ at 1 ≼ at 0) ∷ (at 0 ⊕ lit (pos 1) ≼ at 2 ⊗ at 1 ⊕ at 1) ∷ (at 2 ⊕ lit (pos 1) ≼ lit (pos 0) ⊖ lit (pos (2 ^ 82))) ∷ []) (known 1 ⊞ known 2 ⊞ known 0 ⊠ known 3) refl
+            (omega (arith, ints, h), (l, (f, (omega (arith, ints, m), tt))))))
+            (λ m. m)
+
+        floor_high : (n d q : ℤ) → pos 1 ≤ℤ d → n ≤ℤ (pos (2 ^ 82) *ℤ d) → (q *ℤ d) ≤ℤ n → q ≤ℤ pos (2 ^ 82)
+        floor_high n d q h l f =
+            by_lt_z (pos (2 ^ 82)) q
+            (λ m. absurd
+            (refute (n ∷ d ∷ q ∷ []) ((lit (pos 1) ≼ at 1) ∷ (at 0 ≼ lit (pos (2 ^ 82)) ⊗ at 1) ∷ (at 2 ⊗ at 1 ≼ at 0) ∷ (lit (pos (2 ^ 82)) ⊕ lit (pos 1) ≼ at 2) ∷ [])
+            (known 1 ⊞ known 2 ⊞ known 3 ⊠ (known 0 ⊞ naturally 1) ⊞ known 0) refl (h, (l, (f, (omega (arith, ints, m), tt))))))
+            (λ m. m)
+
+-- ---- products with a fraction
+factor_roomy : (n x : ℤ) (a : ℕ) → (pos 0 -ℤ pos a) ≤ℤ x → x ≤ℤ pos a → unsigned_abs n * a < 2 ^ 126 → SFits w128 (x *ℤ n)
+factor_roomy n x a h k l =
+    let p = bounded_product x n (pos a) (pos (unsigned_abs n)) h k (omega (arith, ints)) (omega (arith, ints)) in
+    let c : a * unsigned_abs n ≡ unsigned_abs n * a = omega arith in
+    omega (arith, ints, p.above, p.below, l, c)
+
+pub factor_of_ends : (f : Fraction) (x r : Option FineEnds) → IfSome x (λ p. IfSome r (λ e. (((e.hi -ℤ e.lo) -ℤ pos 2) *ℤ pos (f.below + 1)) ≤ℤ ((p.hi -ℤ p.lo) *ℤ pos (unsigned_abs f.num)))) → IfSome x (λ p. w128 ≡ w128 → SFits w128 (p.lo *ℤ f.num) → SFits w128 (p.hi *ℤ f.num) → IsSome r) → IsFactorRow f (shown_ends x) (shown_ends r)
+factor_of_ends f None r c s = record { known = λ p l. absurd p; wide = λ p k. absurd p }
+factor_of_ends f (Some p) (Some e) c s = record { known = λ a l. tt; wide = λ a k. c }
+factor_of_ends f (Some p) None c s = record {
+  known = λ a l.
+      let z = s refl (factor_roomy f.num p.lo (max (unsigned_abs p.lo) (unsigned_abs p.hi)) (omega (arith, ints)) (omega (arith, ints)) l)
+          (factor_roomy f.num p.hi (max (unsigned_abs p.lo) (unsigned_abs p.hi)) (omega (arith, ints)) (omega (arith, ints)) l) in
+      absurd (cc);
+  wide = λ a k. absurd k;
+}
+
+-- ---- what is moved outwards
+pub widened_of_ends : (f : Fraction) (x r : Option FineEnds) → ((w : ℕ) (a : Bound) → IsNarrow w a (shown_ends x) → IsNarrow w (widen_bound (limits_on fine) f a) (shown_ends r))
+    → IfSome x (λ p. IfSome r (λ e. ((((e.hi -ℤ e.lo) -ℤ (p.hi -ℤ p.lo)) -ℤ pos 2) *ℤ pos (f.below + 1)) ≤ℤ (pos 2 *ℤ (pos (unsigned_abs f.num) *ℤ pos (2 ^ 56))))) → IsWidenedRow f (shown_ends x) (shown_ends r)
+unfolding widen_bound IsNarrow
+widened_of_ends f None r n c = record { known = λ p s a b. absurd p; wide = λ p k. absurd p }
+widened_of_ends f (Some p) (Some e) n c = record { known = λ a s t u. tt; wide = λ a k. omega (arith, ints, c) }
+widened_of_ends f (Some p) None n c = record { known = λ a s t u. absurd (limited_holds _ 0 _ everything (both_hold _ _ (lt-ltb _ _ u) (lt-ltb _ _ (size_32 s (margin_size t)))) (n 0 (bound_of_ends p.lo p.hi) (ends_narrow p.lo p.hi p.ordered))); wide = λ a k. absurd k }
+  where
+    both_hold : (p q : Bool) → p ≡ true → q ≡ true → (p && q) ≡ true
+    both_hold p q e h = rw (e, h) refl
+
+    margin_size : unsigned_abs f.num < 2 ^ 50 * (f.below + 1) → margin_32 f ≤ 2 ^ 82
+    margin_size t = by_quotient (unsigned_abs f.num * 2 ^ 32 + f.below) f.below (omega (arith, t))
+      where
+        by_quotient : (n d : ℕ) → n < (2 ^ 82 + 1) * suc d → n / suc d ≤ 2 ^ 82
+        by_quotient n d h = by_split (split (n / suc d) (2 ^ 82))
+          where
+            split : (j k : ℕ) → (j ≤ k) ⊎ (suc k ≤ j)
+            split j k = grind arith
+
+            by_split : (n / suc d ≤ 2 ^ 82) ⊎ (suc (2 ^ 82) ≤ n / suc d) → n / suc d ≤ 2 ^ 82
+            by_split (inl l) = l
+            by_split (inr l) =
+                let m : suc d * suc (2 ^ 82) ≤ suc d * (n / suc d) = mul-le-mul_left (suc d) l in
+                let q : suc d * (n / suc d) ≤ n = omega arith in
+                absurd (omega (arith, h, m, q))
+
+    size_32 : max (unsigned_abs p.lo) (unsigned_abs p.hi) < 2 ^ 106 → margin_32 f ≤ 2 ^ 82
+        → range_size (floor_quotient p.lo (2 ^ 24 - 1) -ℤ pos (margin_32 f)) (neg_ℤ (floor_quotient (neg_ℤ p.hi) (2 ^ 24 - 1)) +ℤ pos (margin_32 f)) < 2 ^ 100
+    size_32 s m =
+        let i = floor_quotient_floor p.lo (2 ^ 24 - 1) in
+        let j = floor_quotient_floor (neg_ℤ p.hi) (2 ^ 24 - 1) in
+        omega (arith, ints, s, m, i.not_above, i.close, j.not_above, j.close)

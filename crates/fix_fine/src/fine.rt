@@ -1,7 +1,8 @@
 //! Enclosures by ends in 128 bits, which count 2⁻⁵⁶.
 ghost use Rattle.std.specs.Prelude.{refl, ◌≡◌, ◌≤◌, ◌<◌, ℕ, ℤ, Some, IfOk, IfErr, IsSome};
 ghost use Rattle.exact_math.specs.Interval.{◌⊆◌, hull as hull_of_intervals};
-ghost use Rattle.book_model.specs.numbers.Expressions.{Expression, World, integer, add as add_of, subtract, multiply, negate, minimum, maximum, hull as hull_of, divide, power, root as root_of, clamp as clamp_of, remainder};
+ghost use Rattle.book_model.specs.numbers.Fractions.{fraction_of};
+ghost use Rattle.book_model.specs.numbers.Expressions.{Expression, World, integer, constant, scale, widen as widen_of, add as add_of, subtract, multiply, negate, minimum, maximum, hull as hull_of, divide, power, root as root_of, clamp as clamp_of, remainder};
 ghost use Rattle.book_model.specs.numbers.Bounds.{Reach, limits_of};
 ghost use Rattle.book_model.specs.numbers.Depth.{DEPTH as LEAST_DEPTH};
 ghost use Rattle.book_model.specs.numbers.Relations.{Within, Narrow};
@@ -9,7 +10,7 @@ ghost use Rattle.book_model.specs.programs.Programs.{multiples, cell_at};
 ghost use Rattle.book_model.specs.programs.Leading.{next_turn};
 ghost use Rattle.encl_core.specs.Steps.{IsOpenPeriod};
 ghost use Rattle.fix_fine.specs.Shown.{shown_fine, fine_proper};
-ghost use Rattle.fix_fine.specs.Table.{IsIntegerRow, IsSumRow, IsMovedRow, IsCutRow, IsChoiceRow, IsHullRow, IsProductRow, IsSquareRow, IsQuotientRow, IsRootRow};
+ghost use Rattle.fix_fine.specs.Table.{IsIntegerRow, IsFractionRow, IsFactorRow, IsWidenedRow, IsSumRow, IsMovedRow, IsCutRow, IsChoiceRow, IsHullRow, IsProductRow, IsSquareRow, IsQuotientRow, IsRootRow};
 
 use crate::dividing::div_ends;
 use crate::products::{mul_ends, square_ends};
@@ -57,7 +58,11 @@ impl Enclosure for Fine {
         }
     }
 
-    fn from_frac(value: Frac) -> Self {
+    fn from_frac(value: Frac) -> Self
+        ensures holds { (w : World) → LEAST_DEPTH ≤ w.depth → Within shown_fine w (constant (fraction_of value)) result }
+        ensures narrow { (r : Reach) → Narrow shown_fine (limits_of 56) r (constant (fraction_of value)) result }
+        ensures table { IsFractionRow (fraction_of value) (shown_fine result) }
+    {
         Fine {
             ends: raised_ends(value),
         }
@@ -140,13 +145,21 @@ impl Enclosure for Fine {
         }
     }
 
-    fn widen(self, by: Frac) -> Self {
+    fn widen(self, by: Frac) -> Self
+        ensures holds { (w : World) (x : Expression) → Within shown_fine w x self → Within shown_fine w (widen_of (fraction_of by) x) result }
+        ensures narrow { (r : Reach) (x : Expression) → Narrow shown_fine (limits_of 56) r x self → Narrow shown_fine (limits_of 56) r (widen_of (fraction_of by) x) result }
+        ensures table { IsWidenedRow (fraction_of by) (shown_fine self) (shown_fine result) }
+    {
         Fine {
             ends: widen_ends(self.ends, by),
         }
     }
 
-    fn mul_frac(self, by: Frac) -> Self {
+    fn mul_frac(self, by: Frac) -> Self
+        ensures holds { (w : World) (x : Expression) → Within shown_fine w x self → Within shown_fine w (scale (fraction_of by) x) result }
+        ensures narrow { (r : Reach) (x : Expression) → Narrow shown_fine (limits_of 56) r x self → Narrow shown_fine (limits_of 56) r (scale (fraction_of by) x) result }
+        ensures table { IsFactorRow (fraction_of by) (shown_fine self) (shown_fine result) }
+    {
         Fine {
             ends: scale_ends(self.ends, by),
         }

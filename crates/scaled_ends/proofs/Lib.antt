@@ -3,6 +3,7 @@ pub mod Following
 pub mod Enclosing
 pub mod Margins
 pub mod Scaling
+pub mod Rounded
 pub mod Testing
 pub mod Unpromised
 pub mod Divisions

@@ -1,10 +1,11 @@
-use Rattle.std.proofs.Common.{refl, rules, SFits}
+use Rattle.std.proofs.Common.{refl, rules, SFits, unsigned_abs, ◌+◌, pos, ◌-ℤ◌, ◌*ℤ◌, ◌≤ℤ◌}
 use Rattle.std.specs.Int.{w128}
 use Rattle.std.proofs.lemmas.Int.{to_z-of_z}
 use Rattle.book_model.specs.numbers.Fractions.{fraction_of}
 use Rattle.rounded_quotients.proofs.Quotients.{outward_order, sorted_order}
 use Rattle.scaled_ends.proofs.Scaling.{AreScaled, scale_encloses, scaled_narrow, scaled_first, scaled_overflow}
-use Rattle.scaled_ends.proofs.OnEnds.{shows}
+use Rattle.scaled_ends.proofs.OnEnds.{shows, when_there, is_there}
+use Rattle.scaled_ends.proofs.Rounded.{scaled_apart}
 use Rattle.scaled_ends.proofs.fractions.scale_ends.Goals as goal
 
 pub returns-in_err-x-clause-narrow : goal.returns-in_err-x-clause-narrow
@@ -63,3 +64,31 @@ returns-clause-narrow g c = λ w a h.
     let fh : SFits w128 c.ceil_div.result = search rules in
     let k = simp to_z-of_z at c.ends_of.ensures.ends in
     scaled_narrow g.I.Word.scale w a (fraction_of c.args.by) _ _ _ _ _ _ _ _ _ _ _ (scaled g c) (shows _ _ _ k) (rw c.in_ok-x.was at h)
+
+pub returns-clause-close : goal.returns-clause-close
+returns-clause-close g c =
+    let fl : SFits w128 c.floor_div.result = search rules in
+    let fh : SFits w128 c.ceil_div.result = search rules in
+    let k = simp to_z-of_z at c.ends_of.ensures.ends in
+    rw c.in_ok-x.was
+    (when_there _ _ _ (λ z. ((z -ℤ pos 2) *ℤ pos ((fraction_of c.args.by).below + 1)) ≤ℤ ((g.I.Word.value c.in_ok-x.x.hi -ℤ g.I.Word.value c.in_ok-x.x.lo) *ℤ pos (unsigned_abs (fraction_of c.args.by).num))) k
+    (scaled_apart (fraction_of c.args.by) _ _ _ _ _ _ _ _ _ _ c.in_ok-x.x.ordered (scaled g c)))
+
+pub returns-clause-some : goal.returns-clause-some
+returns-clause-some g c =
+    let fl : SFits w128 c.floor_div.result = search rules in
+    let fh : SFits w128 c.ceil_div.result = search rules in
+    let k = simp to_z-of_z at c.ends_of.ensures.ends in
+    rw c.in_ok-x.was (λ e s t. is_there _ _ _ k e fl fh)
+
+pub returns-in_err-p-clause-some : goal.returns-in_err-p-clause-some
+returns-in_err-p-clause-some g c =
+    let fn : SFits w128 c.num-factor.result = search rules in
+    let n = simp c.num-factor.ensures at (simp to_z-of_z at c.in_err-p.ensures.none) in
+    rw c.in_ok-x.was (λ e s t. absurd (n refl s))
+
+pub returns-in_err-q-clause-some : goal.returns-in_err-q-clause-some
+returns-in_err-q-clause-some g c =
+    let fn : SFits w128 c.num-factor.result = search rules in
+    let n = simp c.num-factor.ensures at (simp to_z-of_z at c.in_err-q.ensures.none) in
+    rw c.in_ok-x.was (λ e s t. absurd (n refl t))

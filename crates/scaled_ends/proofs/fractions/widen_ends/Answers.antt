@@ -1,12 +1,14 @@
 use Rattle.std.proofs.Common.{refl}
-use Rattle.scaled_ends.specs.Scales.{limits_on}
+use Rattle.scaled_ends.specs.Scales.{limits_on, unit}
 use Rattle.book_model.specs.numbers.Fractions.{fraction_of}
 use Rattle.std.proofs.Common.{rules, SFits}
 use Rattle.std.specs.Int.{w128}
 use Rattle.std.proofs.lemmas.Int.{to_z-of_z}
 use Rattle.scaled_ends.proofs.Enclosing.{widen_encloses}
 use Rattle.scaled_ends.proofs.Widenings.{widen_narrow, widen_of_all, widen_overflow}
-use Rattle.scaled_ends.proofs.OnEnds.{shows, constants_are}
+use Rattle.scaled_ends.proofs.OnEnds.{shows, constants_are, when_there}
+use Rattle.scaled_ends.proofs.Rounded.{margin_apart}
+use Rattle.std.proofs.Common.{unsigned_abs, ◌+◌, pos, ◌-ℤ◌, ◌*ℤ◌, ◌≤ℤ◌}
 use Rattle.scaled_ends.proofs.fractions.widen_ends.Goals as goal
 
 pub returns-in_err-x-clause-narrow : goal.returns-in_err-x-clause-narrow
@@ -24,3 +26,11 @@ pub returns-clause-narrow : goal.returns-clause-narrow
 returns-clause-narrow g c = λ w a h.
     let fm : SFits w128 c.in_ok-margin.margin = search rules in
     widen_narrow g.I.Word.scale w (fraction_of c.args.by) a _ _ c.in_ok-margin.margin _ _ _ c.in_ok-margin.ensures.value refl refl (shows _ _ _ (simp to_z-of_z at c.moved.ensures.ends)) (rw c.in_ok-x.was at h)
+
+pub returns-clause-close : goal.returns-clause-close
+returns-clause-close g c =
+    let fm : SFits w128 c.in_ok-margin.margin = search rules in
+    let w = g.I.Word.value c.in_ok-x.x.hi -ℤ g.I.Word.value c.in_ok-x.x.lo in
+    rw c.in_ok-x.was
+    (when_there _ _ _ (λ z. (((z -ℤ w) -ℤ pos 2) *ℤ pos ((fraction_of c.args.by).below + 1)) ≤ℤ (pos 2 *ℤ (pos (unsigned_abs (fraction_of c.args.by).num) *ℤ unit g.I.Word.scale))) (simp to_z-of_z at c.moved.ensures.ends)
+    (margin_apart g.I.Word.scale (fraction_of c.args.by) _ _ c.in_ok-margin.margin _ _ c.in_ok-margin.ensures.value refl refl))
