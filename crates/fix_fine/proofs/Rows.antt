@@ -426,7 +426,7 @@ factor_of_ends f (Some p) (Some e) c s = record { known = λ a l. tt; wide = λ 
 factor_of_ends f (Some p) None c s = record {
   known = λ a l.
       let z = s refl (factor_roomy f.num p.lo (max (unsigned_abs p.lo) (unsigned_abs p.hi)) (omega (arith, ints)) (omega (arith, ints)) l)
-          (factor_roomy f.num p.hi (max (unsigned_abs p.lo) (unsigned_abs p.hi)) (omega (arith, ints)) (omega (arith, ints)) l) in
+      (factor_roomy f.num p.hi (max (unsigned_abs p.lo) (unsigned_abs p.hi)) (omega (arith, ints)) (omega (arith, ints)) l) in
       absurd (cc);
   wide = λ a k. absurd k;
 }

@@ -108,7 +108,7 @@ corners_apart a b x y c d u g o r ax ya bc db bl bg =
     let w = a *ℤ (d -ℤ c) +ℤ b *ℤ (y -ℤ x) in
     let t = λ (p i q j : ℤ) (xp : x ≤ℤ p) (py : p ≤ℤ y) (ci : c ≤ℤ i) (id : i ≤ℤ d) (xq : x ≤ℤ q) (qy : q ≤ℤ y) (cj : c ≤ℤ j) (jd : j ≤ℤ d). apart p q x y c d a b xp py xq qy bc db r ax ya i j ci id cj jd in
     let under = λ (p i : ℤ) (xp : x ≤ℤ p) (py : p ≤ℤ y) (ci : c ≤ℤ i) (id : i ≤ℤ d). over_least p i w (t p i x c xp py ci id (≤ℤ_refl x) o (≤ℤ_refl c) r) (t p i x d xp py ci id (≤ℤ_refl x) o r (≤ℤ_refl d)) (t p i y c xp py ci id o (≤ℤ_refl y) (≤ℤ_refl c) r)
-        (t p i y d xp py ci id o (≤ℤ_refl y) r (≤ℤ_refl d)) in
+    (t p i y d xp py ci id o (≤ℤ_refl y) r (≤ℤ_refl d)) in
     bg _ (under x c (≤ℤ_refl x) o (≤ℤ_refl c) r) (under x d (≤ℤ_refl x) o r (≤ℤ_refl d)) (under y c o (≤ℤ_refl y) (≤ℤ_refl c) r) (under y d o (≤ℤ_refl y) r (≤ℤ_refl d))
   where
     over_least : (p i w : ℤ) → (p *ℤ i) ≤ℤ (x *ℤ c +ℤ w) → (p *ℤ i) ≤ℤ (x *ℤ d +ℤ w) → (p *ℤ i) ≤ℤ (y *ℤ c +ℤ w) → (p *ℤ i) ≤ℤ (y *ℤ d +ℤ w) → (p *ℤ i) ≤ℤ (u +ℤ w)
