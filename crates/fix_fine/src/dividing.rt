@@ -83,9 +83,14 @@ fn quotients(a: i128, b: i128, c: i128, d: i128) -> Option<(i128, i128)>
 /// The ends around the quotients by a divisor above 0.
 fn positive_quotients(x: Ends<i128>, y: Ends<i128>) -> Option<Ends<i128>>
     requires { pos 0 <ℤ y.lo }
-    ensures holds { quotient (between (at_scale fine x.lo) (at_scale fine x.hi)) (between (at_scale fine y.lo) (at_scale fine y.hi)) ⊆ shown_ends result }
-    ensures narrow { (w : ℕ) (a b : Bound) → IsNarrow w a (between (at_scale fine x.lo) (at_scale fine x.hi)) → IsNarrow w b (between (at_scale fine y.lo) (at_scale fine y.hi)) → IsNarrow w (quotient_bound (limits_on fine) a b) (shown_ends result) }
-    ensures row { IsQuotientRow (between (at_scale fine x.lo) (at_scale fine x.hi)) (between (at_scale fine y.lo) (at_scale fine y.hi)) (shown_ends result) }
+    ensures holds { quotient (between (at_scale fine x.lo) (at_scale fine x.hi))
+        (between (at_scale fine y.lo) (at_scale fine y.hi)) ⊆ shown_ends result }
+    ensures narrow { (w : ℕ) (a b : Bound) → IsNarrow w a
+        (between (at_scale fine x.lo) (at_scale fine x.hi))
+        → IsNarrow w b (between (at_scale fine y.lo) (at_scale fine y.hi))
+        → IsNarrow w (quotient_bound (limits_on fine) a b) (shown_ends result) }
+    ensures row { IsQuotientRow (between (at_scale fine x.lo) (at_scale fine x.hi))
+        (between (at_scale fine y.lo) (at_scale fine y.hi)) (shown_ends result) }
 {
     let (lo, hi) = quotients(x.lo, x.hi, y.lo, y.hi)?;
     ends_of(lo, hi)
@@ -94,8 +99,10 @@ fn positive_quotients(x: Ends<i128>, y: Ends<i128>) -> Option<Ends<i128>>
 /// The ends around the quotients by a divisor below 0: those of the opposites.
 fn negative_quotients(x: Ends<i128>, y: Ends<i128>) -> Option<Ends<i128>>
     requires { y.hi <ℤ pos 0 }
-    ensures holds { quotient (between (at_scale fine x.lo) (at_scale fine x.hi)) (between (at_scale fine y.lo) (at_scale fine y.hi)) ⊆ shown_ends result }
-    ensures row { IsQuotientRow (between (at_scale fine x.lo) (at_scale fine x.hi)) (between (at_scale fine y.lo) (at_scale fine y.hi)) (shown_ends result) }
+    ensures holds { quotient (between (at_scale fine x.lo) (at_scale fine x.hi))
+        (between (at_scale fine y.lo) (at_scale fine y.hi)) ⊆ shown_ends result }
+    ensures row { IsQuotientRow (between (at_scale fine x.lo) (at_scale fine x.hi))
+        (between (at_scale fine y.lo) (at_scale fine y.hi)) (shown_ends result) }
 {
     let a = x.hi.checked_neg()?;
     let b = x.lo.checked_neg()?;
@@ -108,7 +115,9 @@ fn negative_quotients(x: Ends<i128>, y: Ends<i128>) -> Option<Ends<i128>>
 /// The ends around the quotients; none, where the divisor may be 0.
 pub(crate) fn div_ends(x: Option<Ends<i128>>, y: Option<Ends<i128>>) -> Option<Ends<i128>>
     ensures holds { quotient (shown_ends x) (shown_ends y) ⊆ shown_ends result }
-    ensures narrow { (w : ℕ) (a b : Bound) → IsNarrow w a (shown_ends x) → IsNarrow w b (shown_ends y) → IsNarrow w (quotient_bound (limits_on fine) a b) (shown_ends result) }
+    ensures narrow { (w : ℕ) (a b : Bound) → IsNarrow w a (shown_ends x)
+        → IsNarrow w b (shown_ends y) → IsNarrow w (quotient_bound (limits_on fine) a b)
+        (shown_ends result) }
     ensures row { IsQuotientRow (shown_ends x) (shown_ends y) (shown_ends result) }
 {
     let x = x?;

@@ -1,5 +1,6 @@
 //! Enclosures by ends in 128 bits, which count 2⁻⁵⁶.
-ghost use Rattle.std.specs.Prelude.{refl, ◌≡◌, ◌≤◌, ◌<◌, ℕ, ℤ, Some, IfOk, IfErr, IsSome};
+ghost use Rattle.book_model.specs.programs.Calls.{Narrows, Narrows1, Narrows2};
+ghost use Rattle.std.specs.Prelude.{refl, ◌≡◌, ◌≤◌, ◌<◌, ℤ, Some, IfOk, IfErr, IsSome};
 ghost use Rattle.exact_math.specs.Interval.{◌⊆◌, hull as hull_of_intervals};
 ghost use Rattle.book_model.specs.numbers.Fractions.{fraction_of};
 ghost use Rattle.book_model.specs.numbers.Expressions.{Expression, World, integer, constant, scale, widen as widen_of, add as add_of, subtract, multiply, negate, minimum, maximum, hull as hull_of, divide, power, root as root_of, clamp as clamp_of, remainder};
@@ -49,8 +50,9 @@ impl Enclosure for Fine {
     }
 
     fn from_int(value: i64) -> Self
-        ensures holds { (w : World) → LEAST_DEPTH ≤ w.depth → Within shown_fine w (integer value) result }
-        ensures narrow { (r : Reach) → Narrow shown_fine (limits_of 56) r (integer value) result }
+        ensures holds { (w : World) → LEAST_DEPTH ≤ w.depth
+            → Within shown_fine w (integer value) result }
+        ensures narrow { Narrows shown_fine 56 (integer value) result }
         ensures table { IsIntegerRow (shown_fine result) }
     {
         Fine {
@@ -59,8 +61,9 @@ impl Enclosure for Fine {
     }
 
     fn from_frac(value: Frac) -> Self
-        ensures holds { (w : World) → LEAST_DEPTH ≤ w.depth → Within shown_fine w (constant (fraction_of value)) result }
-        ensures narrow { (r : Reach) → Narrow shown_fine (limits_of 56) r (constant (fraction_of value)) result }
+        ensures holds { (w : World) → LEAST_DEPTH ≤ w.depth
+            → Within shown_fine w (constant (fraction_of value)) result }
+        ensures narrow { Narrows shown_fine 56 (constant (fraction_of value)) result }
         ensures table { IsFractionRow (fraction_of value) (shown_fine result) }
     {
         Fine {
@@ -75,8 +78,9 @@ impl Enclosure for Fine {
     }
 
     fn add(self, other: Self) -> Self
-        ensures holds { (w : World) (x y : Expression) → Within shown_fine w x self → Within shown_fine w y other → Within shown_fine w (add_of x y) result }
-        ensures narrow { (r : Reach) (x y : Expression) → Narrow shown_fine (limits_of 56) r x self → Narrow shown_fine (limits_of 56) r y other → Narrow shown_fine (limits_of 56) r (add_of x y) result }
+        ensures holds { (w : World) (x y : Expression) → Within shown_fine w x self
+            → Within shown_fine w y other → Within shown_fine w (add_of x y) result }
+        ensures narrow { Narrows2 shown_fine 56 add_of self other result }
         ensures table { IsSumRow (shown_fine self) (shown_fine other) (shown_fine result) }
     {
         Fine {
@@ -85,8 +89,9 @@ impl Enclosure for Fine {
     }
 
     fn sub(self, other: Self) -> Self
-        ensures holds { (w : World) (x y : Expression) → Within shown_fine w x self → Within shown_fine w y other → Within shown_fine w (subtract x y) result }
-        ensures narrow { (r : Reach) (x y : Expression) → Narrow shown_fine (limits_of 56) r x self → Narrow shown_fine (limits_of 56) r y other → Narrow shown_fine (limits_of 56) r (subtract x y) result }
+        ensures holds { (w : World) (x y : Expression) → Within shown_fine w x self
+            → Within shown_fine w y other → Within shown_fine w (subtract x y) result }
+        ensures narrow { Narrows2 shown_fine 56 subtract self other result }
         ensures table { IsSumRow (shown_fine self) (shown_fine other) (shown_fine result) }
     {
         Fine {
@@ -95,8 +100,9 @@ impl Enclosure for Fine {
     }
 
     fn mul(self, other: Self) -> Self
-        ensures holds { (w : World) (x y : Expression) → Within shown_fine w x self → Within shown_fine w y other → Within shown_fine w (multiply x y) result }
-        ensures narrow { (r : Reach) (x y : Expression) → Narrow shown_fine (limits_of 56) r x self → Narrow shown_fine (limits_of 56) r y other → Narrow shown_fine (limits_of 56) r (multiply x y) result }
+        ensures holds { (w : World) (x y : Expression) → Within shown_fine w x self
+            → Within shown_fine w y other → Within shown_fine w (multiply x y) result }
+        ensures narrow { Narrows2 shown_fine 56 multiply self other result }
         ensures table { IsProductRow (shown_fine self) (shown_fine other) (shown_fine result) }
     {
         Fine {
@@ -105,8 +111,9 @@ impl Enclosure for Fine {
     }
 
     fn min(self, other: Self) -> Self
-        ensures holds { (w : World) (x y : Expression) → Within shown_fine w x self → Within shown_fine w y other → Within shown_fine w (minimum x y) result }
-        ensures narrow { (r : Reach) (x y : Expression) → Narrow shown_fine (limits_of 56) r x self → Narrow shown_fine (limits_of 56) r y other → Narrow shown_fine (limits_of 56) r (minimum x y) result }
+        ensures holds { (w : World) (x y : Expression) → Within shown_fine w x self
+            → Within shown_fine w y other → Within shown_fine w (minimum x y) result }
+        ensures narrow { Narrows2 shown_fine 56 minimum self other result }
         ensures table { IsChoiceRow (shown_fine self) (shown_fine other) (shown_fine result) }
     {
         Fine {
@@ -115,8 +122,9 @@ impl Enclosure for Fine {
     }
 
     fn max(self, other: Self) -> Self
-        ensures holds { (w : World) (x y : Expression) → Within shown_fine w x self → Within shown_fine w y other → Within shown_fine w (maximum x y) result }
-        ensures narrow { (r : Reach) (x y : Expression) → Narrow shown_fine (limits_of 56) r x self → Narrow shown_fine (limits_of 56) r y other → Narrow shown_fine (limits_of 56) r (maximum x y) result }
+        ensures holds { (w : World) (x y : Expression) → Within shown_fine w x self
+            → Within shown_fine w y other → Within shown_fine w (maximum x y) result }
+        ensures narrow { Narrows2 shown_fine 56 maximum self other result }
         ensures table { IsChoiceRow (shown_fine self) (shown_fine other) (shown_fine result) }
     {
         Fine {
@@ -125,9 +133,10 @@ impl Enclosure for Fine {
     }
 
     fn hull(self, other: Self) -> Self
-        ensures holds { (w : World) (x y : Expression) → Within shown_fine w x self → Within shown_fine w y other → Within shown_fine w (hull_of x y) result }
+        ensures holds { (w : World) (x y : Expression) → Within shown_fine w x self
+            → Within shown_fine w y other → Within shown_fine w (hull_of x y) result }
         ensures tight { shown_fine result ⊆ hull_of_intervals (shown_fine self) (shown_fine other) }
-        ensures narrow { (r : Reach) (x y : Expression) → Narrow shown_fine (limits_of 56) r x self → Narrow shown_fine (limits_of 56) r y other → Narrow shown_fine (limits_of 56) r (hull_of x y) result }
+        ensures narrow { Narrows2 shown_fine 56 hull_of self other result }
         ensures table { IsHullRow (shown_fine self) (shown_fine other) (shown_fine result) }
     {
         Fine {
@@ -136,8 +145,9 @@ impl Enclosure for Fine {
     }
 
     fn neg(self) -> Self
-        ensures holds { (w : World) (x : Expression) → Within shown_fine w x self → Within shown_fine w (negate x) result }
-        ensures narrow { (r : Reach) (x : Expression) → Narrow shown_fine (limits_of 56) r x self → Narrow shown_fine (limits_of 56) r (negate x) result }
+        ensures holds { (w : World) (x : Expression) → Within shown_fine w x self
+            → Within shown_fine w (negate x) result }
+        ensures narrow { Narrows1 shown_fine 56 negate self result }
         ensures table { IsMovedRow (shown_fine self) (shown_fine result) }
     {
         Fine {
@@ -146,8 +156,9 @@ impl Enclosure for Fine {
     }
 
     fn widen(self, by: Frac) -> Self
-        ensures holds { (w : World) (x : Expression) → Within shown_fine w x self → Within shown_fine w (widen_of (fraction_of by) x) result }
-        ensures narrow { (r : Reach) (x : Expression) → Narrow shown_fine (limits_of 56) r x self → Narrow shown_fine (limits_of 56) r (widen_of (fraction_of by) x) result }
+        ensures holds { (w : World) (x : Expression) → Within shown_fine w x self
+            → Within shown_fine w (widen_of (fraction_of by) x) result }
+        ensures narrow { Narrows1 shown_fine 56 (widen_of (fraction_of by)) self result }
         ensures table { IsWidenedRow (fraction_of by) (shown_fine self) (shown_fine result) }
     {
         Fine {
@@ -156,8 +167,9 @@ impl Enclosure for Fine {
     }
 
     fn mul_frac(self, by: Frac) -> Self
-        ensures holds { (w : World) (x : Expression) → Within shown_fine w x self → Within shown_fine w (scale (fraction_of by) x) result }
-        ensures narrow { (r : Reach) (x : Expression) → Narrow shown_fine (limits_of 56) r x self → Narrow shown_fine (limits_of 56) r (scale (fraction_of by) x) result }
+        ensures holds { (w : World) (x : Expression) → Within shown_fine w x self
+            → Within shown_fine w (scale (fraction_of by) x) result }
+        ensures narrow { Narrows1 shown_fine 56 (scale (fraction_of by)) self result }
         ensures table { IsFactorRow (fraction_of by) (shown_fine self) (shown_fine result) }
     {
         Fine {
@@ -166,8 +178,9 @@ impl Enclosure for Fine {
     }
 
     fn div(self, other: Self) -> Self
-        ensures holds { (w : World) (x y : Expression) → Within shown_fine w x self → Within shown_fine w y other → Within shown_fine w (divide x y) result }
-        ensures narrow { (r : Reach) (x y : Expression) → Narrow shown_fine (limits_of 56) r x self → Narrow shown_fine (limits_of 56) r y other → Narrow shown_fine (limits_of 56) r (divide x y) result }
+        ensures holds { (w : World) (x y : Expression) → Within shown_fine w x self
+            → Within shown_fine w y other → Within shown_fine w (divide x y) result }
+        ensures narrow { Narrows2 shown_fine 56 divide self other result }
         ensures table { IsQuotientRow (shown_fine self) (shown_fine other) (shown_fine result) }
     {
         Fine {
@@ -176,8 +189,9 @@ impl Enclosure for Fine {
     }
 
     fn square(self) -> Self
-        ensures holds { (w : World) (x : Expression) → Within shown_fine w x self → Within shown_fine w (power x 2) result }
-        ensures narrow { (r : Reach) (x : Expression) → Narrow shown_fine (limits_of 56) r x self → Narrow shown_fine (limits_of 56) r (power x 2) result }
+        ensures holds { (w : World) (x : Expression) → Within shown_fine w x self
+            → Within shown_fine w (power x 2) result }
+        ensures narrow { Narrows1 shown_fine 56 (λ x. power x 2) self result }
         ensures table { IsSquareRow (shown_fine self) (shown_fine result) }
     {
         Fine {
@@ -186,8 +200,9 @@ impl Enclosure for Fine {
     }
 
     fn root(self) -> Self
-        ensures holds { (w : World) (x : Expression) → Within shown_fine w x self → Within shown_fine w (root_of x) result }
-        ensures narrow { (r : Reach) (x : Expression) → Narrow shown_fine (limits_of 56) r x self → Narrow shown_fine (limits_of 56) r (root_of x) result }
+        ensures holds { (w : World) (x : Expression) → Within shown_fine w x self
+            → Within shown_fine w (root_of x) result }
+        ensures narrow { Narrows1 shown_fine 56 root_of self result }
         ensures table { IsRootRow (shown_fine self) (shown_fine result) }
     {
         Fine {
@@ -196,8 +211,9 @@ impl Enclosure for Fine {
     }
 
     fn clamp_unit(self) -> Self
-        ensures holds { (w : World) (x : Expression) → Within shown_fine w x self → Within shown_fine w (clamp_of x) result }
-        ensures narrow { (r : Reach) (x : Expression) → Narrow shown_fine (limits_of 56) r x self → Narrow shown_fine (limits_of 56) r (clamp_of x) result }
+        ensures holds { (w : World) (x : Expression) → Within shown_fine w x self
+            → Within shown_fine w (clamp_of x) result }
+        ensures narrow { Narrows1 shown_fine 56 clamp_of self result }
         ensures table { IsCutRow (shown_fine self) (shown_fine result) }
     {
         Fine {
@@ -232,8 +248,12 @@ impl Enclosure for Fine {
     fn wrap(self, modulus: u32, site: Site, trail: &mut Trail) -> Result<Self, Undecided>
         requires { 0 < modulus }
         ensures decided { IfOk result (λ y. IsSome (cell_at (multiples modulus) (shown_fine self))) }
-        ensures holds { IfOk result (λ y. (q : ℤ) (w : World) (x : Expression) → cell_at (multiples modulus) (shown_fine self) ≡ Some q → Within shown_fine w x self → Within shown_fine w (remainder modulus x q) y) }
-        ensures narrow { IfOk result (λ y. (q : ℤ) (r : Reach) (x : Expression) → Narrow shown_fine (limits_of 56) r x self → Narrow shown_fine (limits_of 56) r (remainder modulus x q) y) }
+        ensures holds { IfOk result (λ y. (q : ℤ) (w : World) (x : Expression)
+            → cell_at (multiples modulus) (shown_fine self) ≡ Some q → Within shown_fine w x self
+            → Within shown_fine w (remainder modulus x q) y) }
+        ensures narrow { IfOk result (λ y. (q : ℤ) (r : Reach) (x : Expression)
+            → Narrow shown_fine (limits_of 56) r x self → Narrow shown_fine (limits_of 56) r
+            (remainder modulus x q) y) }
         ensures undecided { IfErr result (λ u. IsOpenPeriod modulus (shown_fine self) u.lo u.hi) }
         ensures named { IfErr result (λ u. (u.site ≡ site) × (u.turn ≡ next_turn trail.old.count)) }
         ensures counted { trail.new.count ≡ next_turn trail.old.count }

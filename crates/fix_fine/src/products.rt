@@ -16,10 +16,14 @@ use scaled_ends::{Ends, ends_of};
 
 /// The least and the greatest product of the ends, which count 2⁻¹¹². `None` only where a product is above 2¹²⁶ in size.
 fn products(x: Ends<i128>, y: Ends<i128>) -> Option<(i128, i128)>
-    ensures least { IfSome result (λ m. IsBelowFour m.0 (x.lo *ℤ y.lo) (x.lo *ℤ y.hi) (x.hi *ℤ y.lo) (x.hi *ℤ y.hi)) }
-    ensures greatest { IfSome result (λ m. IsAboveFour m.1 (x.lo *ℤ y.lo) (x.lo *ℤ y.hi) (x.hi *ℤ y.lo) (x.hi *ℤ y.hi)) }
-    ensures best_least { IfSome result (λ m. IsAboveEachBelow m.0 (x.lo *ℤ y.lo) (x.lo *ℤ y.hi) (x.hi *ℤ y.lo) (x.hi *ℤ y.hi)) }
-    ensures best_greatest { IfSome result (λ m. IsBelowEachAbove m.1 (x.lo *ℤ y.lo) (x.lo *ℤ y.hi) (x.hi *ℤ y.lo) (x.hi *ℤ y.hi)) }
+    ensures least { IfSome result (λ m. IsBelowFour m.0 (x.lo *ℤ y.lo) (x.lo *ℤ y.hi) (x.hi *ℤ y.lo)
+        (x.hi *ℤ y.hi)) }
+    ensures greatest { IfSome result (λ m. IsAboveFour m.1 (x.lo *ℤ y.lo) (x.lo *ℤ y.hi)
+        (x.hi *ℤ y.lo) (x.hi *ℤ y.hi)) }
+    ensures best_least { IfSome result (λ m. IsAboveEachBelow m.0 (x.lo *ℤ y.lo) (x.lo *ℤ y.hi)
+        (x.hi *ℤ y.lo) (x.hi *ℤ y.hi)) }
+    ensures best_greatest { IfSome result (λ m. IsBelowEachAbove m.1 (x.lo *ℤ y.lo) (x.lo *ℤ y.hi)
+        (x.hi *ℤ y.lo) (x.hi *ℤ y.hi)) }
     ensures some { AreRoomy x.lo x.hi y.lo y.hi → IsSome result }
 {
     let p = x.lo.checked_mul(y.lo)?;
@@ -32,7 +36,9 @@ fn products(x: Ends<i128>, y: Ends<i128>) -> Option<(i128, i128)>
 /// The ends around the products of the members.
 pub(crate) fn mul_ends(x: Option<Ends<i128>>, y: Option<Ends<i128>>) -> Option<Ends<i128>>
     ensures holds { product (shown_ends x) (shown_ends y) ⊆ shown_ends result }
-    ensures narrow { (w : ℕ) (a b : Bound) → IsNarrow w a (shown_ends x) → IsNarrow w b (shown_ends y) → IsNarrow w (product_bound (limits_on fine) a b) (shown_ends result) }
+    ensures narrow { (w : ℕ) (a b : Bound) → IsNarrow w a (shown_ends x)
+        → IsNarrow w b (shown_ends y) → IsNarrow w (product_bound (limits_on fine) a b)
+        (shown_ends result) }
     ensures row { IsProductRow (shown_ends x) (shown_ends y) (shown_ends result) }
 {
     let x = x?;
@@ -60,7 +66,8 @@ fn least_square(lo: i128, hi: i128, low_square: i128, high_square: i128) -> i128
 /// The ends around the squares.
 pub(crate) fn square_ends(x: Option<Ends<i128>>) -> Option<Ends<i128>>
     ensures holds { power (shown_ends x) 2 ⊆ shown_ends result }
-    ensures narrow { (w : ℕ) (a : Bound) → IsNarrow w a (shown_ends x) → IsNarrow w (power_bound (limits_on fine) a 2) (shown_ends result) }
+    ensures narrow { (w : ℕ) (a : Bound) → IsNarrow w a (shown_ends x)
+        → IsNarrow w (power_bound (limits_on fine) a 2) (shown_ends result) }
     ensures row { IsSquareRow (shown_ends x) (shown_ends result) }
 {
     let x = x?;

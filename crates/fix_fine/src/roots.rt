@@ -18,7 +18,8 @@ const UNITS: u128 = 72_057_594_037_927_936;
 fn root_down(end: i128) -> Option<i128>
     ensures natural { IfSome result (λ r. pos 0 ≤ℤ r) }
     ensures square { IfSome result (λ r. (r *ℤ r) ≤ℤ (pos (natural_part end) *ℤ pos (2 ^ 56))) }
-    ensures close { IfSome result (λ r. (pos (natural_part end) *ℤ pos (2 ^ 56)) <ℤ ((r +ℤ pos 1) *ℤ (r +ℤ pos 1))) }
+    ensures close { IfSome result (λ r. (pos (natural_part end) *ℤ pos (2 ^ 56)) <ℤ
+        ((r +ℤ pos 1) *ℤ (r +ℤ pos 1))) }
     ensures some { end <ℤ pos (2 ^ 70) → IsSome result }
 {
     if end <= 0 {
@@ -32,7 +33,8 @@ fn root_down(end: i128) -> Option<i128>
 fn root_up(end: i128) -> Option<i128>
     ensures natural { IfSome result (λ r. pos 0 ≤ℤ r) }
     ensures square { IfSome result (λ r. (pos (natural_part end) *ℤ pos (2 ^ 56)) ≤ℤ (r *ℤ r)) }
-    ensures close { IfSome result (λ r. pos 1 ≤ℤ r → ((r -ℤ pos 1) *ℤ (r -ℤ pos 1)) <ℤ (pos (natural_part end) *ℤ pos (2 ^ 56))) }
+    ensures close { IfSome result (λ r. pos 1 ≤ℤ r → ((r -ℤ pos 1) *ℤ (r -ℤ pos 1)) <ℤ
+        (pos (natural_part end) *ℤ pos (2 ^ 56))) }
     ensures some { end <ℤ pos (2 ^ 70) → IsSome result }
 {
     if end <= 0 {
@@ -44,7 +46,8 @@ fn root_up(end: i128) -> Option<i128>
 /// The ends around the roots.
 pub(crate) fn root_ends(x: Option<Ends<i128>>) -> Option<Ends<i128>>
     ensures holds { (n : ℕ) → DEPTH ≤ n → root_of n (shown_ends x) ⊆ shown_ends result }
-    ensures narrow { (w : ℕ) (a : Bound) → IsNarrow w a (shown_ends x) → IsNarrow w (root_bound (limits_on fine) a) (shown_ends result) }
+    ensures narrow { (w : ℕ) (a : Bound) → IsNarrow w a (shown_ends x)
+        → IsNarrow w (root_bound (limits_on fine) a) (shown_ends result) }
     ensures row { IsRootRow (shown_ends x) (shown_ends result) }
 {
     let x = x?;

@@ -28,7 +28,8 @@ pub fn denominator(fraction: Frac) -> i128
 #[inline(always)]
 pub fn raised_ends<I: Word>(value: Frac) -> Option<Ends<I>>
     ensures holds { between (fraction_of value) (fraction_of value) ⊆ shown_ends result }
-    ensures narrow { (w : ℕ) → IsNarrow w (constant_bound (limits_on I.scale) (fraction_of value)) (shown_ends result) }
+    ensures narrow { (w : ℕ) → IsNarrow w (constant_bound (limits_on I.scale) (fraction_of value))
+        (shown_ends result) }
     ensures close { IfSome result (λ e. (I.value e.hi -ℤ I.value e.lo) ≤ℤ pos 1) }
 {
     let raised = value.num().checked_mul(I::units())?;
@@ -39,10 +40,16 @@ pub fn raised_ends<I: Word>(value: Frac) -> Option<Ends<I>>
 /// The ends around the products with a fraction.
 #[inline(always)]
 pub fn scale_ends<I: Word>(x: Option<Ends<I>>, by: Frac) -> Option<Ends<I>>
-    ensures holds { product (shown_ends x) (between (fraction_of by) (fraction_of by)) ⊆ shown_ends result }
-    ensures narrow { (w : ℕ) (a : Bound) → IsNarrow w a (shown_ends x) → IsNarrow w (scaled_bound (limits_on I.scale) (fraction_of by) a) (shown_ends result) }
-    ensures close { IfSome x (λ p. IfSome result (λ e. (((I.value e.hi -ℤ I.value e.lo) -ℤ pos 2) *ℤ pos ((fraction_of by).below + 1)) ≤ℤ ((I.value p.hi -ℤ I.value p.lo) *ℤ pos (unsigned_abs (fraction_of by).num)))) }
-    ensures some { IfSome x (λ p. word I.scale ≡ w128 → SFits w128 (I.value p.lo *ℤ (fraction_of by).num) → SFits w128 (I.value p.hi *ℤ (fraction_of by).num) → IsSome result) }
+    ensures holds { product (shown_ends x) (between (fraction_of by) (fraction_of by))
+        ⊆ shown_ends result }
+    ensures narrow { (w : ℕ) (a : Bound) → IsNarrow w a (shown_ends x)
+        → IsNarrow w (scaled_bound (limits_on I.scale) (fraction_of by) a) (shown_ends result) }
+    ensures close { IfSome x (λ p. IfSome result (λ e. (((I.value e.hi -ℤ I.value e.lo) -ℤ pos 2)
+        *ℤ pos ((fraction_of by).below + 1)) ≤ℤ ((I.value p.hi -ℤ I.value p.lo) *ℤ pos
+        (unsigned_abs (fraction_of by).num)))) }
+    ensures some { IfSome x (λ p. word I.scale ≡ w128 → SFits w128
+        (I.value p.lo *ℤ (fraction_of by).num) → SFits w128 (I.value p.hi *ℤ (fraction_of by).num)
+        → IsSome result) }
 {
     let x = x?;
     let factor = by.num();
@@ -78,8 +85,11 @@ fn moved<I: Word>(x: Ends<I>, margin: i128) -> Option<Ends<I>>
 #[inline]
 pub fn widen_ends<I: Word>(x: Option<Ends<I>>, by: Frac) -> Option<Ends<I>>
     ensures holds { widen (fraction_of by) (shown_ends x) ⊆ shown_ends result }
-    ensures narrow { (w : ℕ) (a : Bound) → IsNarrow w a (shown_ends x) → IsNarrow w (widen_bound (limits_on I.scale) (fraction_of by) a) (shown_ends result) }
-    ensures close { IfSome x (λ p. IfSome result (λ e. ((((I.value e.hi -ℤ I.value e.lo) -ℤ (I.value p.hi -ℤ I.value p.lo)) -ℤ pos 2) *ℤ pos ((fraction_of by).below + 1)) ≤ℤ (pos 2 *ℤ (pos (unsigned_abs (fraction_of by).num) *ℤ unit I.scale)))) }
+    ensures narrow { (w : ℕ) (a : Bound) → IsNarrow w a (shown_ends x)
+        → IsNarrow w (widen_bound (limits_on I.scale) (fraction_of by) a) (shown_ends result) }
+    ensures close { IfSome x (λ p. IfSome result (λ e. ((((I.value e.hi -ℤ I.value e.lo) -ℤ
+        (I.value p.hi -ℤ I.value p.lo)) -ℤ pos 2) *ℤ pos ((fraction_of by).below + 1)) ≤ℤ
+        (pos 2 *ℤ (pos (unsigned_abs (fraction_of by).num) *ℤ unit I.scale)))) }
 {
     let x = x?;
     let margin = margin_of::<I>(by)?;
