@@ -1,11 +1,10 @@
 //! Enclosures by ends in 128 bits, which count 2⁻⁵⁶.
-ghost use Rattle.book_model.specs.programs.Calls.{Narrows, Narrows1, Narrows2};
-ghost use Rattle.std.specs.Prelude.{refl, ◌≡◌, ◌≤◌, ◌<◌, ℤ, Some, IfOk, IfErr, IsSome};
+ghost use Rattle.book_model.specs.programs.Calls.{Holds, Holds1, Holds2, Narrows, Narrows1, Narrows2};
+ghost use Rattle.std.specs.Prelude.{refl, ◌≡◌, ◌<◌, ℤ, Some, IfOk, IfErr, IsSome};
 ghost use Rattle.exact_math.specs.Interval.{◌⊆◌, hull as hull_of_intervals};
 ghost use Rattle.book_model.specs.numbers.Fractions.{fraction_of};
 ghost use Rattle.book_model.specs.numbers.Expressions.{Expression, World, integer, constant, scale, widen as widen_of, add as add_of, subtract, multiply, negate, minimum, maximum, hull as hull_of, divide, power, root as root_of, clamp as clamp_of, remainder};
 ghost use Rattle.book_model.specs.numbers.Bounds.{Reach, limits_of};
-ghost use Rattle.book_model.specs.numbers.Depth.{DEPTH as LEAST_DEPTH};
 ghost use Rattle.book_model.specs.numbers.Relations.{Within, Narrow};
 ghost use Rattle.book_model.specs.programs.Programs.{multiples, cell_at};
 ghost use Rattle.book_model.specs.programs.Leading.{next_turn};
@@ -50,8 +49,7 @@ impl Enclosure for Fine {
     }
 
     fn from_int(value: i64) -> Self
-        ensures holds { (w : World) → LEAST_DEPTH ≤ w.depth
-            → Within shown_fine w (integer value) result }
+        ensures holds { Holds shown_fine (integer value) result }
         ensures narrow { Narrows shown_fine 56 (integer value) result }
         ensures table { IsIntegerRow (shown_fine result) }
     {
@@ -61,8 +59,7 @@ impl Enclosure for Fine {
     }
 
     fn from_frac(value: Frac) -> Self
-        ensures holds { (w : World) → LEAST_DEPTH ≤ w.depth
-            → Within shown_fine w (constant (fraction_of value)) result }
+        ensures holds { Holds shown_fine (constant (fraction_of value)) result }
         ensures narrow { Narrows shown_fine 56 (constant (fraction_of value)) result }
         ensures table { IsFractionRow (fraction_of value) (shown_fine result) }
     {
@@ -78,8 +75,7 @@ impl Enclosure for Fine {
     }
 
     fn add(self, other: Self) -> Self
-        ensures holds { (w : World) (x y : Expression) → Within shown_fine w x self
-            → Within shown_fine w y other → Within shown_fine w (add_of x y) result }
+        ensures holds { Holds2 shown_fine add_of self other result }
         ensures narrow { Narrows2 shown_fine 56 add_of self other result }
         ensures table { IsSumRow (shown_fine self) (shown_fine other) (shown_fine result) }
     {
@@ -89,8 +85,7 @@ impl Enclosure for Fine {
     }
 
     fn sub(self, other: Self) -> Self
-        ensures holds { (w : World) (x y : Expression) → Within shown_fine w x self
-            → Within shown_fine w y other → Within shown_fine w (subtract x y) result }
+        ensures holds { Holds2 shown_fine subtract self other result }
         ensures narrow { Narrows2 shown_fine 56 subtract self other result }
         ensures table { IsSumRow (shown_fine self) (shown_fine other) (shown_fine result) }
     {
@@ -100,8 +95,7 @@ impl Enclosure for Fine {
     }
 
     fn mul(self, other: Self) -> Self
-        ensures holds { (w : World) (x y : Expression) → Within shown_fine w x self
-            → Within shown_fine w y other → Within shown_fine w (multiply x y) result }
+        ensures holds { Holds2 shown_fine multiply self other result }
         ensures narrow { Narrows2 shown_fine 56 multiply self other result }
         ensures table { IsProductRow (shown_fine self) (shown_fine other) (shown_fine result) }
     {
@@ -111,8 +105,7 @@ impl Enclosure for Fine {
     }
 
     fn min(self, other: Self) -> Self
-        ensures holds { (w : World) (x y : Expression) → Within shown_fine w x self
-            → Within shown_fine w y other → Within shown_fine w (minimum x y) result }
+        ensures holds { Holds2 shown_fine minimum self other result }
         ensures narrow { Narrows2 shown_fine 56 minimum self other result }
         ensures table { IsChoiceRow (shown_fine self) (shown_fine other) (shown_fine result) }
     {
@@ -122,8 +115,7 @@ impl Enclosure for Fine {
     }
 
     fn max(self, other: Self) -> Self
-        ensures holds { (w : World) (x y : Expression) → Within shown_fine w x self
-            → Within shown_fine w y other → Within shown_fine w (maximum x y) result }
+        ensures holds { Holds2 shown_fine maximum self other result }
         ensures narrow { Narrows2 shown_fine 56 maximum self other result }
         ensures table { IsChoiceRow (shown_fine self) (shown_fine other) (shown_fine result) }
     {
@@ -133,8 +125,7 @@ impl Enclosure for Fine {
     }
 
     fn hull(self, other: Self) -> Self
-        ensures holds { (w : World) (x y : Expression) → Within shown_fine w x self
-            → Within shown_fine w y other → Within shown_fine w (hull_of x y) result }
+        ensures holds { Holds2 shown_fine hull_of self other result }
         ensures tight { shown_fine result ⊆ hull_of_intervals (shown_fine self) (shown_fine other) }
         ensures narrow { Narrows2 shown_fine 56 hull_of self other result }
         ensures table { IsHullRow (shown_fine self) (shown_fine other) (shown_fine result) }
@@ -145,8 +136,7 @@ impl Enclosure for Fine {
     }
 
     fn neg(self) -> Self
-        ensures holds { (w : World) (x : Expression) → Within shown_fine w x self
-            → Within shown_fine w (negate x) result }
+        ensures holds { Holds1 shown_fine negate self result }
         ensures narrow { Narrows1 shown_fine 56 negate self result }
         ensures table { IsMovedRow (shown_fine self) (shown_fine result) }
     {
@@ -156,8 +146,7 @@ impl Enclosure for Fine {
     }
 
     fn widen(self, by: Frac) -> Self
-        ensures holds { (w : World) (x : Expression) → Within shown_fine w x self
-            → Within shown_fine w (widen_of (fraction_of by) x) result }
+        ensures holds { Holds1 shown_fine (widen_of (fraction_of by)) self result }
         ensures narrow { Narrows1 shown_fine 56 (widen_of (fraction_of by)) self result }
         ensures table { IsWidenedRow (fraction_of by) (shown_fine self) (shown_fine result) }
     {
@@ -167,8 +156,7 @@ impl Enclosure for Fine {
     }
 
     fn mul_frac(self, by: Frac) -> Self
-        ensures holds { (w : World) (x : Expression) → Within shown_fine w x self
-            → Within shown_fine w (scale (fraction_of by) x) result }
+        ensures holds { Holds1 shown_fine (scale (fraction_of by)) self result }
         ensures narrow { Narrows1 shown_fine 56 (scale (fraction_of by)) self result }
         ensures table { IsFactorRow (fraction_of by) (shown_fine self) (shown_fine result) }
     {
@@ -178,8 +166,7 @@ impl Enclosure for Fine {
     }
 
     fn div(self, other: Self) -> Self
-        ensures holds { (w : World) (x y : Expression) → Within shown_fine w x self
-            → Within shown_fine w y other → Within shown_fine w (divide x y) result }
+        ensures holds { Holds2 shown_fine divide self other result }
         ensures narrow { Narrows2 shown_fine 56 divide self other result }
         ensures table { IsQuotientRow (shown_fine self) (shown_fine other) (shown_fine result) }
     {
@@ -189,8 +176,7 @@ impl Enclosure for Fine {
     }
 
     fn square(self) -> Self
-        ensures holds { (w : World) (x : Expression) → Within shown_fine w x self
-            → Within shown_fine w (power x 2) result }
+        ensures holds { Holds1 shown_fine (λ x. power x 2) self result }
         ensures narrow { Narrows1 shown_fine 56 (λ x. power x 2) self result }
         ensures table { IsSquareRow (shown_fine self) (shown_fine result) }
     {
@@ -200,8 +186,7 @@ impl Enclosure for Fine {
     }
 
     fn root(self) -> Self
-        ensures holds { (w : World) (x : Expression) → Within shown_fine w x self
-            → Within shown_fine w (root_of x) result }
+        ensures holds { Holds1 shown_fine root_of self result }
         ensures narrow { Narrows1 shown_fine 56 root_of self result }
         ensures table { IsRootRow (shown_fine self) (shown_fine result) }
     {
@@ -211,8 +196,7 @@ impl Enclosure for Fine {
     }
 
     fn clamp_unit(self) -> Self
-        ensures holds { (w : World) (x : Expression) → Within shown_fine w x self
-            → Within shown_fine w (clamp_of x) result }
+        ensures holds { Holds1 shown_fine clamp_of self result }
         ensures narrow { Narrows1 shown_fine 56 clamp_of self result }
         ensures table { IsCutRow (shown_fine self) (shown_fine result) }
     {
