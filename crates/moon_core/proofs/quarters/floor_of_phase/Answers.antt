@@ -12,7 +12,7 @@ returns-in-Ok-clause-leads g c = λ w d.
     let e : SFits w64 c.args.day = c.ranges.day in
     let i = simp to_z-of_z at (c.from_int.ensures.holds w d) in
     let j = simp to_z-of_z at (c.from_int-2.ensures.holds w d) in
-    let l = c.in-Ok.ensures.leads w _ _ d i j in
+    let l = c.in-Ok.ensures.leads w _ _ i j in
     leads_on _ l (c.floor_step.ensures.leads w _ (leaf_within l))
 
 pub returns-in-Err-clause-early : goal.returns-in-Err-clause-early
