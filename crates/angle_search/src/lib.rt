@@ -6,8 +6,6 @@
 
 mod angular;
 mod bisection;
-#[cfg(test)]
-mod tests;
 
 pub use angular::Angular;
 pub use bisection::invert_angular;

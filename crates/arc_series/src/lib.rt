@@ -12,6 +12,3 @@ mod pieces;
 mod series;
 
 pub use degrees::{arccos_deg, arcsin_deg, arctan_deg, arctan2_deg};
-
-#[cfg(test)]
-mod tests;

@@ -10,7 +10,7 @@ use trig_series::{cos_deg, sin_deg};
 
 /// The cosine of the arc of light between the moon and the sun, by the moon's latitude and its phase, in degrees.
 #[tactic(auto, unfolding(book_model::specs::sky::Crescent::arc_cosine_of))]
-pub(crate) fn arc_cosine<E: Enclosure>(latitude: E, phase: E) -> E
+pub fn arc_cosine<E: Enclosure>(latitude: E, phase: E) -> E
     ensures holds { Holds2 E.shown spec.arc_cosine_of latitude phase result }
 {
     cos_deg(latitude).mul(cos_deg(phase))
@@ -54,7 +54,7 @@ fn towards<E: Enclosure>(sidereal: E, obliquity: E, longitude: E, latitude: E) -
 /// The sine of the moon's altitude at a latitude of the ground, by the local sidereal time, the obliquity of the ecliptic and the
 /// moon's longitude and latitude, all in degrees (Reingold and Dershowitz, Calendrical Calculations, chapter 14).
 #[tactic(auto, unfolding(book_model::specs::sky::Crescent::altitude_sine_of))]
-pub(crate) fn altitude_sine<E: Enclosure>(
+pub fn altitude_sine<E: Enclosure>(
     ground: Frac,
     sidereal: E,
     obliquity: E,

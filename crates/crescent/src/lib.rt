@@ -1,6 +1,7 @@
 //! The first sight of the crescent by Shaukat's criterion: whether it is seen on an evening at a location, and the day with whose
 //! evening it was first seen. Each call makes the tests of its formula.
 //!
+//! - `arc_cosine`, `altitude_sine`: the moon's arc of light and its altitude;
 //! - `visible`: the criterion, by the moon's phase, its arc of light and its altitude at dusk;
 //! - `phasis`: the search for the day of the first sight.
 #![tactic(auto)]
@@ -8,8 +9,7 @@
 mod altitude;
 mod criterion;
 mod first_sight;
-#[cfg(test)]
-mod tests;
 
+pub use altitude::{altitude_sine, arc_cosine};
 pub use criterion::visible;
 pub use first_sight::phasis;

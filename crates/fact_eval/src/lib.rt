@@ -14,7 +14,5 @@ mod spring;
 mod staged;
 mod sun;
 mod sunsets;
-#[cfg(test)]
-mod tests;
 
 pub use staged::{Staged, answer_over};

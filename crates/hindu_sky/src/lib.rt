@@ -6,8 +6,6 @@
 #![tactic(auto)]
 
 mod days;
-#[cfg(test)]
-mod tests;
 mod zodiac;
 
 pub use days::{

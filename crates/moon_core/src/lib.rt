@@ -15,8 +15,6 @@ mod longitude;
 mod phases;
 mod quarters;
 mod terms;
-#[cfg(test)]
-mod tests;
 mod walks;
 
 pub use latitudes::latitude;

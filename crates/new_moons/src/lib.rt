@@ -10,8 +10,6 @@ mod angles;
 mod moons;
 mod powers;
 mod terms;
-#[cfg(test)]
-mod tests;
 
 pub use moons::new_moon;
 pub use powers::times_power;

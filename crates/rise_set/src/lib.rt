@@ -14,8 +14,6 @@ mod hindu;
 mod minutes;
 mod offsets;
 mod sunsets;
-#[cfg(test)]
-mod tests;
 
 pub use declinations::declination;
 pub use depression::{dawn, dusk};

@@ -20,8 +20,6 @@ mod estimates;
 mod longitude;
 mod passages;
 mod stars;
-#[cfg(test)]
-mod tests;
 mod waves;
 
 pub use apparent::{from_apparent, noon};

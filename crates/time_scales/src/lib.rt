@@ -15,8 +15,6 @@ mod dynamical_time;
 mod moment;
 mod polynomial;
 mod sidereal_time;
-#[cfg(test)]
-mod tests;
 mod zone;
 
 pub use dynamical_time::{centuries, correction, dynamical, from_dynamical};

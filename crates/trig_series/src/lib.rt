@@ -14,6 +14,3 @@ mod scale;
 
 pub use degrees::{cos_deg, sin_deg, tan_deg};
 pub use encl_core::pi;
-
-#[cfg(test)]
-mod tests;

@@ -1,5 +1,6 @@
 //! Formulas over fine enclosures: each holds the value of an independent implementation and is narrow, also in the years from -499
 //! to 499, in which no fact is asked.
+use super::measures::is_fine;
 use book_model::{CAIRO, Fail as FormulaFail, Frac, Location, TEHRAN, UJJAIN};
 use encl_core::{Enclosure, Trail};
 use fix_fine::Fine;
@@ -113,53 +114,36 @@ const SUNSETS: [(&Location, i64, i128); 6] = [
     (&UJJAIN, 748_017, 53_900_342_464_580_806_560_881),
 ];
 
-/// Whether an enclosure holds a number, given as its floor at 2⁻⁵⁶, and is at most so wide.
-fn is_near(found: Result<Fine, FormulaFail>, value: i128, most: i128) -> bool {
-    let Ok(found) = found else {
-        return false;
-    };
-    let Some(span) = found.span() else {
-        return false;
-    };
-    if span.lo > value || value > span.hi {
-        return false;
-    }
-    match span.hi.checked_sub(span.lo) {
-        Some(width) => width <= most,
-        None => false,
-    }
-}
-
 #[test]
 fn fine_values_are_those_of_the_reference(rt: HostRuntime) -> Result<(), Fail> {
     for row in ROWS {
         let t = Fine::from_frac(Frac::new(row.moment, 4).ok_or("a denominator of 0")?);
         let at = row.moment;
         let found = sun(t, &mut Trail::new());
-        assert!(rt; is_near(found, row.sun, WIDEST_SUN), "the sun at {at} / 4");
+        assert!(rt; is_fine(found, row.sun, WIDEST_SUN), "the sun at {at} / 4");
         let found = moon(t, &mut Trail::new());
         assert!(rt;
-            is_near(found, row.moon, WIDEST_MOON),
+            is_fine(found, row.moon, WIDEST_MOON),
             "the moon at {at} / 4"
         );
         let found = phase(t, &mut Trail::new());
         assert!(rt;
-            is_near(found, row.phase, WIDEST_PHASE),
+            is_fine(found, row.phase, WIDEST_PHASE),
             "the phase at {at} / 4"
         );
         let found = latitude(t, &mut Trail::new());
         assert!(rt;
-            is_near(found, row.latitude, WIDEST_LATITUDE),
+            is_fine(found, row.latitude, WIDEST_LATITUDE),
             "the latitude at {at} / 4"
         );
         let found = equation_of_time(t, &mut Trail::new());
         assert!(rt;
-            is_near(found, row.equation, WIDEST_EQUATION),
+            is_fine(found, row.equation, WIDEST_EQUATION),
             "the equation of time at {at} / 4"
         );
         let found = moon_before(t, &mut Trail::new());
         assert!(rt;
-            is_near(found, row.new_moon, WIDEST_NEW_MOON),
+            is_fine(found, row.new_moon, WIDEST_NEW_MOON),
             "the new moon before {at} / 4"
         );
     }
@@ -170,6 +154,6 @@ fn fine_values_are_those_of_the_reference(rt: HostRuntime) -> Result<(), Fail> {
 fn fine_sunsets_are_those_of_the_reference(rt: HostRuntime) {
     for (location, day, value) in SUNSETS {
         let found = sunset::<Fine>(location, day, &mut Trail::new());
-        assert!(rt; is_near(found, value, WIDEST_SUNSET), "sunset on {day}");
+        assert!(rt; is_fine(found, value, WIDEST_SUNSET), "sunset on {day}");
     }
 }

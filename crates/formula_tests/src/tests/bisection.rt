@@ -1,8 +1,9 @@
-//! What no clause says: the middle of the last ends, and after how many tests.
+//! Bisection: the middle of the last ends, and after how many tests.
 ghost use Rattle.book_model.specs.programs.Programs.{answer};
 
-use super::*;
-use book_model::{Fail as FormulaFail, Frac};
+use super::measures::fraction;
+use angle_search::{Angular, invert_angular};
+use book_model::Fail as FormulaFail;
 use encl_core::{Coarse, Enclosure, Trail};
 use std::test::Fail;
 
@@ -18,10 +19,6 @@ impl<E: Enclosure> Angular<E> for Identity {
     fn at(&self, x: E, trail: &mut Trail) -> Result<E, FormulaFail> {
         Ok(x)
     }
-}
-
-fn fraction(num: i128, den: u64) -> Result<Coarse, Fail> {
-    Ok(Coarse::from_frac(Frac::new(num, den).ok_or("a denominator of 0")?))
 }
 
 #[test]

@@ -1,9 +1,9 @@
 //! The decided table: each kind of fact at each of its places, on the first days of the months of 2024, 300 facts. Each has
 //! the value that an independent implementation gives. Coarse enclosures alone decide them all; that what these leave open
 //! elsewhere is decided by fine ones is the second test.
-use super::super::*;
 use book_model::{Fact, Kind, Place};
 use encl_core::Coarse;
+use fact_eval::{Staged, answer_over};
 use oracle_core::{Answer, Evaluator};
 use std::test::Fail;
 

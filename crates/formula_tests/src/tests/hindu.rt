@@ -1,9 +1,11 @@
-//! What no clause says: values of an independent implementation of the formulas, with the tests that they make.
+//! The facts of the Hindu calendars: values of an independent implementation of the formulas, with the tests that they make.
 ghost use Rattle.std.specs.Prelude.{pos, ◌≤ℤ◌};
 
-use super::*;
 use book_model::Fail as FormulaFail;
 use encl_core::{Coarse, Trail};
+use hindu_sky::{
+    calendar_year, sankranti, sign_after, sign_at_sunset, sign_before, solar_year, tithi,
+};
 
 /// The values of a day (R.D.), in the order of the facts.
 fn values(day: i64, trail: &mut Trail) -> Result<[i64; 7], FormulaFail>

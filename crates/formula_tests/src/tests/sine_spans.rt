@@ -1,7 +1,7 @@
 //! Sines of spans of degrees.
-use super::from_to;
-use crate::sin_deg;
+use super::measures::{UNIT, from_to};
 use encl_core::{Coarse, Enclosure, Span};
+use trig_series::sin_deg;
 
 /// The next of a sequence of numbers that look random.
 fn after(state: u64) -> u64 {
@@ -66,7 +66,7 @@ fn is_around(found: Coarse, a: i128, b: i128, degrees: i64) -> bool {
     let Some(span) = found.span() else {
         return false;
     };
-    let most = i128::from(degrees) * 72_057_594_037_927_936 / 57 + 9 * super::UNIT;
+    let most = i128::from(degrees) * 72_057_594_037_927_936 / 57 + 9 * UNIT;
     match span.hi.checked_sub(span.lo) {
         Some(width) => span.lo <= a.min(b) && a.max(b) < span.hi && width <= most,
         None => false,

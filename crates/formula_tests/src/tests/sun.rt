@@ -1,39 +1,13 @@
-//! What no clause says: values from an independent implementation of the formulas, and how narrow the answers are.
-use crate::{
-    equation_of_time, estimate, from_apparent, noon, obliquity, precession, sidereal_sun, sun,
-    sun_from,
-};
+//! The sun: values from an independent implementation of the formulas, and how narrow the answers are.
+use super::measures::{UNIT, fraction, holds};
 use book_model::{Fail as FormulaFail, Frac, Site};
 use encl_core::{Coarse, Enclosure, Trail};
 use std::test::Fail;
+use sun_core::{
+    equation_of_time, estimate, from_apparent, noon, obliquity, precession, sidereal_sun, sun,
+    sun_from,
+};
 use time_scales::centuries;
-
-/// A unit of `Coarse`, which counts 2⁻⁵⁶.
-const UNIT: i128 = 1_048_576;
-
-/// Whether an enclosure holds a number, given as its floor at 2⁻⁵⁶, and is at most so many units wide.
-fn is_near(found: Result<Coarse, FormulaFail>, value: i128, most: i128) -> bool {
-    let Ok(found) = found else {
-        return false;
-    };
-    let Some(span) = found.span() else {
-        return false;
-    };
-    if span.lo > value {
-        return false;
-    }
-    if value > span.hi {
-        return false;
-    }
-    match span.hi.checked_sub(span.lo) {
-        Some(width) => width / UNIT <= most,
-        None => false,
-    }
-}
-
-fn fraction(num: i128, den: u64) -> Result<Coarse, Fail> {
-    Ok(Coarse::from_frac(Frac::new(num, den).ok_or("a denominator of 0")?))
-}
 
 #[test]
 fn longitudes_are_those_of_the_reference(rt: HostRuntime) -> Result<(), Fail> {
@@ -57,7 +31,7 @@ fn longitudes_are_those_of_the_reference(rt: HostRuntime) -> Result<(), Fail> {
     ] {
         let mut trail = Trail::new();
         let found = sun(fraction(num, den)?, &mut trail);
-        assert!(rt; is_near(found, degrees, most), "the sun at {num} / {den}");
+        assert!(rt; holds(found, degrees, most), "the sun at {num} / {den}");
         assert_eq!(rt; trail.count(), 2);
     }
     Ok(())
@@ -119,10 +93,7 @@ fn obliquities_are_those_of_the_reference(rt: HostRuntime) -> Result<(), Fail> {
     ] {
         let mut trail = Trail::new();
         let found = obliquity(fraction(num, den)?, &mut trail);
-        assert!(rt;
-            is_near(found, degrees, 9),
-            "the obliquity at {num} / {den}"
-        );
+        assert!(rt; holds(found, degrees, 9), "the obliquity at {num} / {den}");
         assert_eq!(rt; trail.count(), 0);
     }
     for (num, den, degrees) in [
@@ -141,7 +112,7 @@ fn obliquities_are_those_of_the_reference(rt: HostRuntime) -> Result<(), Fail> {
         let passed = centuries(fraction(num, den)?, &mut trail).map_err(|_| "no correction")?;
         let found = obliquity(passed, &mut trail);
         assert!(rt;
-            is_near(found, degrees, 7),
+            holds(found, degrees, 7),
             "the obliquity at the moment {num} / {den}"
         );
     }
@@ -170,7 +141,7 @@ fn equations_of_time_are_those_of_the_reference(rt: HostRuntime) -> Result<(), F
     ] {
         let mut trail = Trail::new();
         let found = equation_of_time(fraction(num, den)?, &mut trail);
-        assert!(rt; is_near(found, days, 50), "the equation at {num} / {den}");
+        assert!(rt; holds(found, days, 50), "the equation at {num} / {den}");
         assert_eq!(rt; trail.count(), 1);
     }
     let mut trail = Trail::new();
@@ -188,7 +159,7 @@ fn noons_are_those_of_the_reference(rt: HostRuntime) -> Result<(), Fail> {
         let longitude = Frac::new(num, den).ok_or("a denominator of 0")?;
         let mut trail = Trail::new();
         let found = from_apparent(longitude, fraction(1_477_931, 2)?, &mut trail);
-        assert!(rt; is_near(found, moment, 53), "noon at {num} / {den}");
+        assert!(rt; holds(found, moment, 53), "noon at {num} / {den}");
         assert_eq!(rt; trail.count(), 1);
     }
     for (day, moment) in [
@@ -209,7 +180,7 @@ fn noons_are_those_of_the_reference(rt: HostRuntime) -> Result<(), Fail> {
     ] {
         let mut trail = Trail::new();
         let found = noon::<Coarse>(day, &mut trail);
-        assert!(rt; is_near(found, moment, 53), "noon on {day}");
+        assert!(rt; holds(found, moment, 53), "noon on {day}");
         assert_eq!(rt; trail.count(), 1);
     }
     Ok(())
@@ -238,7 +209,7 @@ fn estimates_are_those_of_the_reference(rt: HostRuntime) -> Result<(), Fail> {
         let mut trail = Trail::new();
         let found = estimate(Coarse::from_int(longitude), fraction(num, den)?, &mut trail);
         assert!(rt;
-            is_near(found, moment, most),
+            holds(found, moment, most),
             "{longitude} before {num} / {den}"
         );
         assert_eq!(rt; trail.count(), 6);
@@ -264,10 +235,7 @@ fn passages_are_those_of_the_reference(rt: HostRuntime) -> Result<(), Fail> {
             fraction(num, den)?,
             &mut Trail::new(),
         );
-        assert!(rt;
-            is_near(found, moment, 400),
-            "{longitude} from {num} / {den}"
-        );
+        assert!(rt; holds(found, moment, 400), "{longitude} from {num} / {den}");
     }
     let late = sun_from(
         Coarse::from_int(0),
@@ -325,13 +293,13 @@ fn longitudes_among_the_stars_are_those_of_the_reference(rt: HostRuntime) {
         let t = Coarse::from_int(day);
         let mut trail = Trail::new();
         assert!(rt;
-            is_near(precession(t, &mut trail), moved, 800),
+            holds(precession(t, &mut trail), moved, 800),
             "precession on {day}"
         );
         assert_eq!(rt; trail.count(), 1);
         let mut trail = Trail::new();
         assert!(rt;
-            is_near(sidereal_sun(t, &mut trail), longitude, 900),
+            holds(sidereal_sun(t, &mut trail), longitude, 900),
             "the sun on {day}"
         );
         assert_eq!(rt; trail.count(), 4);

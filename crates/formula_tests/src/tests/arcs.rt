@@ -1,36 +1,8 @@
-//! What no clause says: values from outside, and how narrow the answers are.
-use crate::{arccos_deg, arcsin_deg, arctan_deg, arctan2_deg};
-use book_model::Frac;
+//! Arcs: values from outside, and how narrow the answers are.
+use super::measures::{fraction, from_to, is_near};
+use arc_series::{arccos_deg, arcsin_deg, arctan_deg, arctan2_deg};
 use encl_core::{Coarse, Enclosure};
 use std::test::Fail;
-
-/// A unit of `Coarse`, which counts 2⁻⁵⁶.
-const UNIT: i128 = 1_048_576;
-
-fn number(num: i128, den: u64) -> Result<Coarse, Fail> {
-    Ok(Coarse::from_frac(Frac::new(num, den).ok_or("a denominator of 0")?))
-}
-
-fn from_to(low: i64, high: i64) -> Coarse {
-    Coarse::from_int(low).hull(Coarse::from_int(high))
-}
-
-/// Whether an enclosure holds a number, given as its floor at 2⁻⁵⁶, and is at most so many units wide.
-fn is_near(found: Coarse, value: i128, most: i128) -> bool {
-    let Some(span) = found.span() else {
-        return false;
-    };
-    if span.lo > value {
-        return false;
-    }
-    if value > span.hi {
-        return false;
-    }
-    match span.hi.checked_sub(span.lo) {
-        Some(width) => width / UNIT <= most,
-        None => false,
-    }
-}
 
 #[test]
 fn arctangents_are_those_of_a_table(rt: HostRuntime) -> Result<(), Fail> {
@@ -51,7 +23,7 @@ fn arctangents_are_those_of_a_table(rt: HostRuntime) -> Result<(), Fail> {
         (100, 1, 6_443_898_879_327_218_488),
         (-1_000_000, 1, -6_485_179_334_817_494_002),
     ] {
-        let arc = arctan_deg(number(num, den)?);
+        let arc = arctan_deg(fraction(num, den)?);
         assert!(rt; is_near(arc, value, 600), "the arctangent of {num} / {den}");
     }
     Ok(())
@@ -99,7 +71,7 @@ fn arcsines_and_arccosines_are_those_of_a_table(rt: HostRuntime) -> Result<(), F
             12_970_366_926_827_028_480,
         ),
     ] {
-        let x = number(num, den)?;
+        let x = fraction(num, den)?;
         assert!(rt;
             is_near(arcsin_deg(x), sine, 2000),
             "the arcsine of {num} / {den}"

@@ -1,9 +1,6 @@
 //! The evaluator against an independent implementation of the formulas.
-mod decided;
-mod fine;
-
-use super::*;
 use book_model::{Fact, Kind, Place, Site};
+use fact_eval::Staged;
 use oracle_core::{Answer, Asking, Evaluator, Oracle, Stop};
 use std::test::Fail;
 

@@ -1,38 +1,8 @@
-//! What no clause says: values from outside, and how narrow the answers are.
-use crate::{cos_deg, pi, sin_deg, tan_deg};
-use book_model::Frac;
+//! Sines, cosines and tangents: values from outside, and how narrow the answers are.
+use super::measures::{fraction, from_to, is_near};
 use encl_core::{Coarse, Enclosure};
 use std::test::Fail;
-
-mod spans;
-
-/// A unit of `Coarse`, which counts 2⁻⁵⁶.
-const UNIT: i128 = 1_048_576;
-
-fn degrees(num: i128, den: u64) -> Result<Coarse, Fail> {
-    Ok(Coarse::from_frac(Frac::new(num, den).ok_or("a denominator of 0")?))
-}
-
-fn from_to(low: i64, high: i64) -> Coarse {
-    Coarse::from_int(low).hull(Coarse::from_int(high))
-}
-
-/// Whether an enclosure holds a number, given as its floor at 2⁻⁵⁶, and is at most so many units wide.
-fn is_near(found: Coarse, value: i128, most: i128) -> bool {
-    let Some(span) = found.span() else {
-        return false;
-    };
-    if span.lo > value {
-        return false;
-    }
-    if value > span.hi {
-        return false;
-    }
-    match span.hi.checked_sub(span.lo) {
-        Some(width) => width / UNIT <= most,
-        None => false,
-    }
-}
+use trig_series::{cos_deg, pi, sin_deg, tan_deg};
 
 #[test]
 fn sines_and_cosines_are_those_of_a_table(rt: HostRuntime) -> Result<(), Fail> {
@@ -52,7 +22,7 @@ fn sines_and_cosines_are_those_of_a_table(rt: HostRuntime) -> Result<(), Fail> {
         (-400, 1, -46_317_728_631_402_726, 55_199_319_497_277_897),
         (72_001, 2, 628_813_152_299_396, 72_054_850_305_543_782),
     ] {
-        let x = degrees(num, den)?;
+        let x = fraction(num, den)?;
         assert!(rt; is_near(sin_deg(x), sine, 9), "the sine of {num} / {den}");
         assert!(rt;
             is_near(cos_deg(x), cosine, 9),
@@ -78,14 +48,14 @@ fn tangents_are_those_of_a_table(rt: HostRuntime) -> Result<(), Fail> {
         (-400, 1, -60_463_500_580_747_503, 21),
         (72_001, 2, 628_837_096_489_165, 6),
     ] {
-        let x = degrees(num, den)?;
+        let x = fraction(num, den)?;
         assert!(rt;
             is_near(tan_deg(x), tangent, most),
             "the tangent of {num} / {den}"
         );
     }
-    assert_eq!(rt; tan_deg(degrees(90, 1)?), Coarse::whole());
-    assert_eq!(rt; tan_deg(degrees(270, 1)?), Coarse::whole());
+    assert_eq!(rt; tan_deg(Coarse::from_int(90)), Coarse::whole());
+    assert_eq!(rt; tan_deg(Coarse::from_int(270)), Coarse::whole());
     Ok(())
 }
 

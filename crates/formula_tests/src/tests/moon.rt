@@ -1,11 +1,9 @@
-//! What no clause says: values from an independent implementation of the formulas, and how narrow the answers are.
-use crate::{latitude, moon, moon_before, moon_from, phase, phase_before};
-use book_model::{Fail as FormulaFail, Frac, Site};
+//! The moon: values from an independent implementation of the formulas, and how narrow the answers are.
+use super::measures::{fraction, holds};
+use book_model::{Fail as FormulaFail, Site};
 use encl_core::{Coarse, Enclosure, Trail};
+use moon_core::{latitude, moon, moon_before, moon_from, phase, phase_before};
 use std::test::Fail;
-
-/// A unit of `Coarse`, which counts 2⁻⁵⁶.
-const UNIT: i128 = 1_048_576;
 
 /// The greatest widths of a longitude or a phase, in degrees, and of a new moon, in days, each in units.
 const WIDEST_ANGLE: i128 = 1_500;
@@ -73,42 +71,20 @@ const PHASES: [(i64, i128, i128); 10] = [
     (748_017, 53_898_478_358_491_202_990_553, 53_899_532_653_072_499_681_304),
 ];
 
-/// Whether an enclosure holds a number, given as its floor at 2⁻⁵⁶, and is at most so many units wide.
-fn is_near(found: Result<Coarse, FormulaFail>, value: i128, most: i128) -> bool {
-    let Ok(found) = found else {
-        return false;
-    };
-    let Some(span) = found.span() else {
-        return false;
-    };
-    if span.lo > value || value > span.hi {
-        return false;
-    }
-    match span.hi.checked_sub(span.lo) {
-        Some(width) => width / UNIT <= most,
-        None => false,
-    }
-}
-
-/// A moment that counts quarters of a day (R.D.).
-fn quarters(number: i128) -> Result<Coarse, Fail> {
-    Ok(Coarse::from_frac(Frac::new(number, 4).ok_or("a denominator of 0")?))
-}
-
 #[test]
 fn longitudes_and_phases_are_those_of_the_reference(rt: HostRuntime) -> Result<(), Fail> {
     for (moment, longitude, degrees) in ANGLES {
         let mut trail = Trail::new();
-        let found = moon(quarters(moment)?, &mut trail);
+        let found = moon(fraction(moment, 4)?, &mut trail);
         assert!(rt;
-            is_near(found, longitude, WIDEST_ANGLE),
+            holds(found, longitude, WIDEST_ANGLE),
             "the moon at {moment} / 4"
         );
         assert_eq!(rt; trail.count(), 2);
         let mut trail = Trail::new();
-        let found = phase(quarters(moment)?, &mut trail);
+        let found = phase(fraction(moment, 4)?, &mut trail);
         assert!(rt;
-            is_near(found, degrees, WIDEST_ANGLE),
+            holds(found, degrees, WIDEST_ANGLE),
             "the phase at {moment} / 4"
         );
         assert_eq!(rt; trail.count(), 10);
@@ -119,20 +95,17 @@ fn longitudes_and_phases_are_those_of_the_reference(rt: HostRuntime) -> Result<(
 #[test]
 fn new_moons_about_a_moment_are_those_of_the_reference(rt: HostRuntime) -> Result<(), Fail> {
     for (moment, before, from) in NEW_MOONS {
-        let found = moon_before(quarters(moment)?, &mut Trail::new());
-        assert!(rt;
-            is_near(found, before, WIDEST_MOMENT),
-            "before {moment} / 4"
-        );
-        let found = moon_from(quarters(moment)?, &mut Trail::new());
-        assert!(rt; is_near(found, from, WIDEST_MOMENT), "from {moment} / 4");
+        let found = moon_before(fraction(moment, 4)?, &mut Trail::new());
+        assert!(rt; holds(found, before, WIDEST_MOMENT), "before {moment} / 4");
+        let found = moon_from(fraction(moment, 4)?, &mut Trail::new());
+        assert!(rt; holds(found, from, WIDEST_MOMENT), "from {moment} / 4");
     }
     Ok(())
 }
 
 #[test]
 fn a_moment_of_a_year_without_a_correction_is_void(rt: HostRuntime) -> Result<(), Fail> {
-    let found = phase(quarters(4_000_000)?, &mut Trail::new());
+    let found = phase(fraction(4_000_000, 4)?, &mut Trail::new());
     assert!(rt; matches!(found, Err(FormulaFail::Void(Site::Year))));
     Ok(())
 }
@@ -141,8 +114,8 @@ fn a_moment_of_a_year_without_a_correction_is_void(rt: HostRuntime) -> Result<()
 fn latitudes_are_those_of_the_reference(rt: HostRuntime) -> Result<(), Fail> {
     for (moment, there) in LATITUDES {
         let mut trail = Trail::new();
-        let found = latitude(quarters(moment)?, &mut trail);
-        assert!(rt; is_near(found, there, WIDEST_ANGLE), "at {moment} / 4");
+        let found = latitude(fraction(moment, 4)?, &mut trail);
+        assert!(rt; holds(found, there, WIDEST_ANGLE), "at {moment} / 4");
         assert_eq!(rt; trail.count(), 1);
     }
     Ok(())
@@ -155,7 +128,7 @@ fn new_and_full_moons_are_those_of_the_reference(rt: HostRuntime) {
             let mut trail = Trail::new();
             let found = phase_before(Coarse::from_int(angle), Coarse::from_int(day), &mut trail);
             assert!(rt;
-                is_near(found, moment, WIDEST_MOMENT),
+                holds(found, moment, WIDEST_MOMENT),
                 "{angle} degrees before {day}"
             );
         }

@@ -1,15 +1,12 @@
-//! What no clause says: evenings and first sights of an independent implementation of the formulas, with the tests that they make.
-use super::*;
-use crate::altitude::{altitude_sine, arc_cosine};
-use book_model::{CAIRO, Frac};
+//! The crescent: evenings and first sights of an independent implementation of the formulas, with the tests that they make.
+use super::measures::{fraction, is_near};
+use book_model::CAIRO;
+use crescent::{altitude_sine, arc_cosine, phasis, visible};
 use encl_core::{Coarse, Enclosure, Trail};
 use moon_core::{latitude, moon, phase};
 use std::test::Fail;
 use sun_core::obliquity;
 use time_scales::{centuries, sidereal};
-
-/// A unit of `Coarse`, which counts 2⁻⁵⁶.
-const UNIT: i128 = 1_048_576;
 
 /// The greatest width of the cosine of an arc of light, and that of the sine of an altitude, which takes the sidereal time: this is
 /// wide over coarse enclosures. In units.
@@ -28,25 +25,11 @@ const CRESCENTS: [(i128, i128, i128); 6] = [
     (2_992_067, 35_929_333_599_461_440, -70_191_728_954_324_883),
 ];
 
-/// Whether an enclosure holds a number, given as its floor at 2⁻⁵⁶, and is at most so many units wide.
-fn is_near(found: Coarse, value: i128, most: i128) -> bool {
-    let Some(span) = found.span() else {
-        return false;
-    };
-    if span.lo > value || value > span.hi {
-        return false;
-    }
-    match span.hi.checked_sub(span.lo) {
-        Some(width) => width / UNIT <= most,
-        None => false,
-    }
-}
-
 #[test]
 fn the_moon_stands_where_the_reference_has_it(rt: HostRuntime) -> Result<(), Fail> {
     let trail = &mut Trail::new();
     for (moment, arc, altitude) in CRESCENTS {
-        let t = Coarse::from_frac(Frac::new(moment, 4).ok_or("a denominator of 0")?);
+        let t = fraction(moment, 4)?;
         let north = latitude(t, trail).ok().ok_or("no latitude")?;
         let found = arc_cosine(north, phase(t, trail).ok().ok_or("no phase")?);
         assert!(rt;

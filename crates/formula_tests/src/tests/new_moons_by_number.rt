@@ -1,33 +1,14 @@
-//! What no clause says: values from an independent implementation of the formula, and how narrow the answers are.
-use crate::new_moon;
+//! New moons: values from an independent implementation of the formula, and how narrow the answers are.
+use super::measures::holds;
 use book_model::{Fail as FormulaFail, Site};
-use encl_core::{Coarse, Enclosure, Trail};
+use encl_core::{Coarse, Trail};
+use new_moons::new_moon;
 use std::test::Fail;
-
-/// A unit of `Coarse`, which counts 2⁻⁵⁶.
-const UNIT: i128 = 1_048_576;
 
 /// The greatest width of a new moon of the years 1800 to 2050, in units, and that of the first, 24,724 months before 2000.
 const WIDEST: i128 = 110;
 
 const WIDEST_OF_THE_FIRST: i128 = 180_000;
-
-/// Whether an enclosure holds a number, given as its floor at 2⁻⁵⁶, and is at most so many units wide.
-fn is_near(found: Result<Coarse, FormulaFail>, value: i128, most: i128) -> bool {
-    let Ok(found) = found else {
-        return false;
-    };
-    let Some(span) = found.span() else {
-        return false;
-    };
-    if span.lo > value || value > span.hi {
-        return false;
-    }
-    match span.hi.checked_sub(span.lo) {
-        Some(width) => width / UNIT <= most,
-        None => false,
-    }
-}
 
 #[test]
 fn new_moons_are_those_of_the_reference(rt: HostRuntime) -> Result<(), Fail> {
@@ -51,7 +32,7 @@ fn new_moons_are_those_of_the_reference(rt: HostRuntime) -> Result<(), Fail> {
         } else {
             WIDEST
         };
-        assert!(rt; is_near(found, moment, widest), "new moon {number}");
+        assert!(rt; holds(found, moment, widest), "new moon {number}");
         assert_eq!(rt; trail.count(), 1);
     }
     Ok(())

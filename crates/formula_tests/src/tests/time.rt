@@ -1,35 +1,9 @@
-//! What no clause says: values from an independent implementation of the formulas, and how narrow the answers are.
-use crate::{centuries, correction, dynamical, from_dynamical, sidereal, year, zone_beijing};
-use book_model::{Fail as FormulaFail, Frac, Site, Undecided};
+//! Time: values from an independent implementation of the formulas, and how narrow the answers are.
+use super::measures::{fraction, holds};
+use book_model::{Fail as FormulaFail, Site, Undecided};
 use encl_core::{Coarse, Enclosure, Trail};
 use std::test::Fail;
-
-/// A unit of `Coarse`, which counts 2⁻⁵⁶.
-const UNIT: i128 = 1_048_576;
-
-/// Whether an enclosure holds a number, given as its floor at 2⁻⁵⁶, and is at most so many units wide.
-fn is_near(found: Result<Coarse, FormulaFail>, value: i128, most: i128) -> bool {
-    let Ok(found) = found else {
-        return false;
-    };
-    let Some(span) = found.span() else {
-        return false;
-    };
-    if span.lo > value {
-        return false;
-    }
-    if value > span.hi {
-        return false;
-    }
-    match span.hi.checked_sub(span.lo) {
-        Some(width) => width / UNIT <= most,
-        None => false,
-    }
-}
-
-fn days(num: i128, den: u64) -> Result<Coarse, Fail> {
-    Ok(Coarse::from_frac(Frac::new(num, den).ok_or("a denominator of 0")?))
-}
+use time_scales::{centuries, correction, dynamical, from_dynamical, sidereal, year, zone_beijing};
 
 #[test]
 fn corrections_are_those_of_the_reference(rt: HostRuntime) -> Result<(), Fail> {
@@ -60,7 +34,7 @@ fn corrections_are_those_of_the_reference(rt: HostRuntime) -> Result<(), Fail> {
     ] {
         let mut trail = Trail::new();
         let found = correction::<Coarse>(year, &mut trail);
-        assert!(rt; is_near(found, days, most), "year {year}");
+        assert!(rt; holds(found, days, most), "year {year}");
     }
     for year in [-500, 500, 1799, 2051] {
         let mut trail = Trail::new();
@@ -138,8 +112,8 @@ fn dynamical_moments_are_those_of_the_reference(rt: HostRuntime) -> Result<(), F
         (11_968_287, 16, 53_900_372_949_574_999_306_829, 4),
     ] {
         let mut trail = Trail::new();
-        let found = dynamical(days(num, den)?, &mut trail);
-        assert!(rt; is_near(found, moment, most), "dynamical {num} / {den}");
+        let found = dynamical(fraction(num, den)?, &mut trail);
+        assert!(rt; holds(found, moment, most), "dynamical {num} / {den}");
         assert_eq!(rt; trail.count(), 1);
     }
     Ok(())
@@ -163,8 +137,8 @@ fn universal_moments_are_those_of_the_reference(rt: HostRuntime) -> Result<(), F
         (11_968_287, 16, 53_900_372_797_351_303_613_874, 4),
     ] {
         let mut trail = Trail::new();
-        let found = from_dynamical(days(num, den)?, &mut trail);
-        assert!(rt; is_near(found, moment, most), "universal {num} / {den}");
+        let found = from_dynamical(fraction(num, den)?, &mut trail);
+        assert!(rt; holds(found, moment, most), "universal {num} / {den}");
         assert_eq!(rt; trail.count(), 1);
     }
     Ok(())
@@ -188,8 +162,8 @@ fn centuries_are_those_of_the_reference(rt: HostRuntime) -> Result<(), Fail> {
         (11_968_287, 16, 35_308_593_067_927_055),
     ] {
         let mut trail = Trail::new();
-        let found = centuries(days(num, den)?, &mut trail);
-        assert!(rt; is_near(found, passed, 2), "centuries {num} / {den}");
+        let found = centuries(fraction(num, den)?, &mut trail);
+        assert!(rt; holds(found, passed, 2), "centuries {num} / {den}");
         assert_eq!(rt; trail.count(), 1);
     }
     Ok(())
@@ -213,8 +187,8 @@ fn sidereal_times_are_those_of_the_reference(rt: HostRuntime) -> Result<(), Fail
         (11_968_287, 16, 465_564_008_638_941_481_374_421),
     ] {
         let mut trail = Trail::new();
-        let found = sidereal(days(num, den)?, &mut trail);
-        assert!(rt; is_near(found, degrees, 26_370_369), "moment {num} / {den}");
+        let found = sidereal(fraction(num, den)?, &mut trail);
+        assert!(rt; holds(found, degrees, 26_370_369), "moment {num} / {den}");
         assert_eq!(rt; trail.count(), 0);
     }
     Ok(())
@@ -224,8 +198,8 @@ fn sidereal_times_are_those_of_the_reference(rt: HostRuntime) -> Result<(), Fail
 fn standard_time_begins_in_1929(rt: HostRuntime) -> Result<(), Fail> {
     let mut trail = Trail::new();
     let before = zone_beijing(Coarse::from_int(704_187), &mut trail);
-    assert!(rt; is_near(before, 559_246_993_727_696_258, 1));
+    assert!(rt; holds(before, 559_246_993_727_696_258, 1));
     let after = zone_beijing(Coarse::from_int(704_188), &mut trail);
-    assert!(rt; is_near(after, 576_460_752_303_423_488, 0));
+    assert!(rt; holds(after, 576_460_752_303_423_488, 0));
     Ok(())
 }

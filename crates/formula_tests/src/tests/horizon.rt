@@ -1,40 +1,9 @@
-//! What no clause says: moments of an independent implementation of the formulas, and how narrow the answers are.
-use super::*;
+//! The horizon: moments of an independent implementation of the formulas, and how narrow the answers are.
+use super::measures::{fraction, holds, is_near};
 use book_model::{CAIRO, Fail as FormulaFail, Frac, Location, Site, TEHRAN, UJJAIN};
-use encl_core::{Coarse, Enclosure, Trail};
+use encl_core::{Coarse, Trail};
+use rise_set::{dawn, dusk, hsunset, offset, refraction, sunrise, sunset};
 use std::test::Fail;
-
-/// A unit of `Coarse`, which counts 2⁻⁵⁶.
-const UNIT: i128 = 1_048_576;
-
-/// Whether an enclosure holds a number, given as its floor at 2⁻⁵⁶, and is at most so many units wide.
-fn is_near(found: Coarse, value: i128, most: i128) -> bool {
-    let Some(span) = found.span() else {
-        return false;
-    };
-    if span.lo > value {
-        return false;
-    }
-    if value > span.hi {
-        return false;
-    }
-    match span.hi.checked_sub(span.lo) {
-        Some(width) => width / UNIT <= most,
-        None => false,
-    }
-}
-
-/// The same of a call that may fail.
-fn holds(found: Result<Coarse, FormulaFail>, value: i128, most: i128) -> bool {
-    match found {
-        Ok(found) => is_near(found, value, most),
-        Err(_) => false,
-    }
-}
-
-fn fraction(num: i128, den: u64) -> Result<Coarse, Fail> {
-    Ok(Coarse::from_frac(Frac::new(num, den).ok_or("a denominator of 0")?))
-}
 
 #[test]
 fn sunsets_are_those_of_the_reference(rt: HostRuntime) {
