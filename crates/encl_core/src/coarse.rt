@@ -2,9 +2,7 @@
 ghost use Rattle.std.specs.Prelude.{refl};
 ghost use Rattle.encl_core.specs.Shown.{shown_coarse, coarse_proper};
 
-use crate::dividing::{div_ends, square_ends};
-use crate::operations::{frac_ends, mul_ends};
-use crate::roots::root_ends;
+use crate::fractions::frac_ends;
 use crate::turning::angle_ends;
 use crate::{Enclosure, Span, Trail};
 use book_model::{Frac, Site, Undecided};
@@ -13,6 +11,7 @@ use scaled_ends::{
     lower_ends, max_ends, min_ends, neg_ends, open_at, order_of_ends, period_of_ends, scale_ends,
     sub_ends, widen_ends,
 };
+use scaled_products::{div_ends, mul_ends, root_ends, square_ends};
 
 /// An enclosure by two ends in 64 bits that count 2⁻³⁶, rounded outwards; every number, where an end doesn't fit.
 #[derive(Clone, Copy, Debug, PartialEq)]

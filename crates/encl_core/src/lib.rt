@@ -12,11 +12,8 @@
 
 mod circle;
 mod coarse;
-mod dividing;
 mod enclosure;
-mod operations;
-mod roots;
-mod rounding;
+mod fractions;
 mod search;
 mod span;
 mod steps;

@@ -5,12 +5,20 @@ ghost use Rattle.book_model.specs.numbers.Bounds.{Bound, IsNarrow, sum_bound, co
 ghost use Rattle.book_model.specs.numbers.Fractions.{ten_millionths, daily_ten_millionths};
 ghost use Rattle.scaled_ends.specs.Shown.{shown_ends};
 
-use crate::operations::product_of;
 use rounded_quotients::{ceil_div, floor_div, sorted};
 use scaled_ends::{Ends, ends_of};
 
 /// What a rate of ten-millionths a century is counted by in a day.
 const DAILY: i128 = 365_250_000_000;
+
+/// The product of an end and a rate.
+#[inline(always)]
+fn product_of(a: i64, b: i64) -> i128
+    ensures value { result ≡ a *ℤ b }
+    ensures room { neg_ℤ (pos (2 ^ 126)) ≤ℤ result }
+{
+    i128::from(a) * i128::from(b)
+}
 
 /// A phase of ten-millionths and the rate times an end, by that number.
 #[inline(always)]

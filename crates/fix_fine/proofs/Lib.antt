@@ -1,3 +1,2 @@
-pub mod Fitting
-pub mod Stepping
+pub mod FarCells
 pub mod Rows

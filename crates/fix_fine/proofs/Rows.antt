@@ -1,20 +1,16 @@
 -- The table of widths, from the ends that the operations give.
-use Rattle.std.proofs.Common.{◌≡◌, ℕ, zero, suc, ◌*◌, ◌^◌, ◌≤◌, ◌<◌, ◌+◌, arith, refl, sym, Bool, true, false, int_le, max, unsigned_abs, ℤ, pos, negsuc, ◌+ℤ◌, ◌*ℤ◌, ◌-ℤ◌, ◌≤ℤ◌, ◌<ℤ◌, ◌⊎◌, inl, inr, SFits, [], ◌∷◌, Option, Some, None}
+use Rattle.std.proofs.Common.{◌≡◌, ℕ, suc, ◌*◌, ◌^◌, ◌≤◌, ◌<◌, ◌+◌, arith, refl, Bool, true, max, unsigned_abs, ℤ, pos, ◌+ℤ◌, ◌*ℤ◌, ◌-ℤ◌, ◌≤ℤ◌, ◌⊎◌, inl, inr, SFits, [], ◌∷◌, Option, Some, None}
 use Rattle.std.specs.Prelude.{neg_ℤ, nat_lt, IfSome, IsSome, ◌-◌, ◌/◌, ◌&&◌}
 use Rattle.std.specs.Int.{w64, w128, int_min, int_max}
-use Rattle.std.proofs.Math.Nat.{mul-le-mul_left, mul-le-mul_right}
+use Rattle.std.proofs.Math.Nat.{mul-le-mul_left}
 use Rattle.std.proofs.lemmas.Int.{ints, clamps, by_lt_z}
-use lib.Signed.{≤ℤ_refl}
 use Rattle.exact_math.specs.Fraction.{Fraction}
 use Rattle.exact_math.specs.Interval.{Interval, everything, between}
 use Rattle.exact_math.proofs.Ring.{at, lit, ◌⊕◌, ◌⊖◌, ◌⊗◌}
-use Rattle.exact_math.proofs.Bounds.{◌≼◌, known, ◌⊞◌, ◌⊠◌, times as naturally, le_by, refute}
-use Rattle.rounded_quotients.specs.Rounding.{IsFloor, IsCeiling, AreSorted, IsAboveEachBelow, IsBelowEachAbove}
+use Rattle.exact_math.proofs.Bounds.{◌≼◌, known, ◌⊞◌, ◌⊠◌, times as naturally, refute}
 use Rattle.scaled_ends.specs.Scales.{fine, at_scale}
-use Rattle.scaled_ends.specs.Rounding.{ShowsEnds, fitting, too_large, AreQuotientsAt, IsMarginAt, least_square_of}
-use Rattle.scaled_ends.proofs.Products.{IsBounded, bounded_product, corners_apart, AreSquares, by_sign}
-use Rattle.scaled_ends.proofs.RootWidths.{AreRoots}
-use Rattle.book_model.specs.numbers.Roots.{natural_part}
+use Rattle.scaled_ends.specs.Rounding.{ShowsEnds, fitting, too_large}
+use Rattle.scaled_ends.proofs.Products.{bounded_product}
 use Rattle.std.proofs.lemmas.Bool.{lt-ltb}
 use Rattle.exact_math.specs.Fraction.{◌≤F◌, smaller, larger, floor_quotient}
 use Rattle.exact_math.specs.Interval.{◌⊆◌, hull}
@@ -27,9 +23,9 @@ use Rattle.scaled_ends.specs.declared.ends.Ends.{Ends}
 use Rattle.scaled_ends.specs.contracts.word.I128Word.TheImpl.{ghosts}
 use Rattle.scaled_ends.proofs.Keeping.{kept_of, spans_of}
 use Rattle.scaled_ends.proofs.OnEnds.{shows}
-use Rattle.fix_fine.specs.Quotients.{HaveFineQuotients}
-use Rattle.fix_fine.specs.Room.{IsRoomy, AreRoomy}
-use Rattle.fix_fine.specs.Table.{IsKnown, low_of, high_of, width_of, size_of, IsIntegerRow, IsFractionRow, IsSumRow, IsMovedRow, IsCutRow, IsChoiceRow, IsHullRow, IsProductRow, IsFactorRow, IsSquareRow, IsLeastSize, IsQuotientRow, IsRootRow, IsWidenedRow}
+use Rattle.scaled_products.specs.Room.{HaveProducts, HaveFineQuotients, HaveQuotientsBy, HasRoot}
+use Rattle.scaled_products.specs.Close.{IsCloseProduct, IsCloseSquare, IsCloseQuotient, IsCloseRoot, OfOne, OfTwo, ThereOfOne, ThereOfTwo}
+use Rattle.fix_fine.specs.Table.{IsKnown, width_of, size_of, IsIntegerRow, IsFractionRow, IsSumRow, IsMovedRow, IsCutRow, IsChoiceRow, IsHullRow, IsProductRow, IsFactorRow, IsSquareRow, IsLeastSize, IsQuotientRow, IsRootRow, IsWidenedRow}
 
 -- the interval of two ends
 abbrev pub ends : ℤ → ℤ → Interval
@@ -96,10 +92,10 @@ choice_row_second x i = record { known = λ p q. absurd q; wide = λ p q. absurd
 
 -- ---- products
 -- products of numbers of sizes whose product is below 2^126 have room
-roomy_by : (x y : ℤ) (a b : ℕ) → (pos 0 -ℤ pos a) ≤ℤ x → x ≤ℤ pos a → (pos 0 -ℤ pos b) ≤ℤ y → y ≤ℤ pos b → a * b < 2 ^ 126 → IsRoomy (x *ℤ y)
-roomy_by x y a b h0 h1 h2 h3 l = let p = bounded_product x y (pos a) (pos b) h0 h1 h2 h3 in record { above = omega (arith, ints, p.above, l); below = omega (arith, ints, p.below, l) }
+roomy_by : (x y : ℤ) (a b : ℕ) → (pos 0 -ℤ pos a) ≤ℤ x → x ≤ℤ pos a → (pos 0 -ℤ pos b) ≤ℤ y → y ≤ℤ pos b → a * b < 2 ^ 126 → SFits w128 (x *ℤ y)
+roomy_by x y a b h0 h1 h2 h3 l = let p = bounded_product x y (pos a) (pos b) h0 h1 h2 h3 in omega (arith, ints, p.above, p.below, l)
 
-pub roomy_sizes : (x y c d : ℤ) → size_of (ends x y) * size_of (ends c d) < 2 ^ 126 → AreRoomy x y c d
+roomy_sizes : (x y c d : ℤ) → size_of (ends x y) * size_of (ends c d) < 2 ^ 126 → HaveProducts fine x y c d
 roomy_sizes x y c d l =
     let a = max (unsigned_abs x) (unsigned_abs y) in
     let b = max (unsigned_abs c) (unsigned_abs d) in
@@ -110,174 +106,30 @@ roomy_sizes x y c d l =
       fourth = roomy_by y d a b (omega (arith, ints)) (omega (arith, ints)) (omega (arith, ints)) (omega (arith, ints)) l;
     }
 
--- where there is no room for the products, the sizes are larger
-pub product_row_none : (x y c d : ℤ) (i : Interval) → (AreRoomy x y c d → ⊥) → i ≡ everything → IsProductRow (ends x y) (ends c d) i
-product_row_none x y c d i n e = record { known = λ p q l. absurd (n (roomy_sizes x y c d l)); wide = λ p q k. absurd (rw e at k) }
+below_square : (a : ℕ) → a < 2 ^ 63 → a * a < 2 ^ 126
+below_square a l = let m = mul-le-mul_left a l in omega (arith, l, m)
 
-pub product_row : (x y c d u g lo hi : ℤ) → x ≤ℤ y → c ≤ℤ d → IsAboveEachBelow u (x *ℤ c) (x *ℤ d) (y *ℤ c) (y *ℤ d) → IsBelowEachAbove g (x *ℤ c) (x *ℤ d) (y *ℤ c) (y *ℤ d) → IsFloor lo u (pos (2 ^ 56)) → IsCeiling hi g (pos (2 ^ 56)) → IsProductRow (ends x y) (ends c d) (ends lo hi)
-product_row x y c d u g lo hi o r bl bg f t =
-    let a = pos (max (unsigned_abs x) (unsigned_abs y)) in
-    let b = pos (max (unsigned_abs c) (unsigned_abs d)) in
-    let n = corners_apart a b x y c d u g o r (omega (arith, ints)) (omega (arith, ints)) (omega (arith, ints)) (omega (arith, ints)) bl bg in
-    record { known = λ p q l. tt; wide = λ p q k. omega (arith, ints, n, f.close, t.close) }
-
-pub product_row_first : (y i : Interval) → IsProductRow everything y i
-product_row_first y i = record { known = λ p q l. absurd p; wide = λ p q k. absurd p }
-
-pub product_row_second : (x i : Interval) → IsProductRow x everything i
-product_row_second x i = record { known = λ p q l. absurd q; wide = λ p q k. absurd q }
-
--- ---- squares
-pub square_row_none : (x y : ℤ) (i : Interval) → (AreRoomy x y x y → ⊥) → i ≡ everything → IsSquareRow (ends x y) i
-square_row_none x y i n e = record {
-  known = λ p l. absurd (n (roomy_sizes x y x y (below_square (max (unsigned_abs x) (unsigned_abs y)) l)));
-  wide = λ p k. absurd (rw e at k);
-}
-  where
-    below_square : (a : ℕ) → a < 2 ^ 63 → a * a < 2 ^ 126
-    below_square a l = let m = mul-le-mul_left a l in omega (arith, l, m)
-
-pub square_row : (x y u g lo hi : ℤ) → x ≤ℤ y → u ≡ least_square_of x y → ((z : ℤ) → (x *ℤ x) ≤ℤ z → (y *ℤ y) ≤ℤ z → g ≤ℤ z) → IsFloor lo u (pos (2 ^ 56)) → IsCeiling hi g (pos (2 ^ 56)) → IsSquareRow (ends x y) (ends lo hi)
-square_row x y u g lo hi o e best f t =
-    let a = pos (max (unsigned_abs x) (unsigned_abs y)) in
-    let q : AreSquares x y a u = rw e (by_sign x y a (int_le (pos 0) x) (int_le y (pos 0)) refl refl o (omega (arith, ints)) (omega (arith, ints))) in
-    let n = best _ q.first q.second in
-    record { known = λ p l. tt; wide = λ p k. omega (arith, ints, n, f.close, t.close) }
-
-pub square_row_all : (i : Interval) → IsSquareRow everything i
-square_row_all i = record { known = λ p l. absurd p; wide = λ p k. absurd p }
-
--- ---- products with a fraction
 -- ---- quotients
--- the least size of a divisor above 0 is at most its lower end
-least_above : (m : ℕ) (c d : ℤ) → pos 0 <ℤ c → c ≤ℤ d → 0 < m → IsLeastSize (pos m) (ends c d) → pos m ≤ℤ c
-least_above m c d h o z (inl l) = l
-least_above m c d h o z (inr l) = absurd (omega (arith, ints, h, o, z, l))
-
-least_below : (m : ℕ) (c d : ℤ) → d <ℤ pos 0 → c ≤ℤ d → 0 < m → IsLeastSize (pos m) (ends c d) → pos m ≤ℤ (pos 0 -ℤ d)
-least_below m c d h o z (inl l) = absurd (omega (arith, ints, h, o, z, l))
-least_below m c d h o z (inr l) = omega (arith, ints, l)
-
 -- quotients of numbers of size A by divisors of size B from m on have room
 fine_by : (A B m : ℕ) (a b c d : ℤ) → a ≤ℤ b → c ≤ℤ d → (pos 0 -ℤ pos A) ≤ℤ a → b ≤ℤ pos A → d ≤ℤ pos B → pos m ≤ℤ c → B < 2 ^ 70 → A < 2 ^ 50 * m → HaveFineQuotients a b c d
 fine_by A B m a b c d o r la lb ld lm hb ha = record { divisor = omega (arith, ints, ld, hb); above = omega (arith, ints, la, lm, ha); below = omega (arith, ints, lb, lm, ha) }
 
-pub positive_row_none : (x y c d : ℤ) (i : Interval) → x ≤ℤ y → c ≤ℤ d → pos 0 <ℤ c → (HaveFineQuotients x y c d → ⊥) → i ≡ everything → IsQuotientRow (ends x y) (ends c d) i
-positive_row_none x y c d i o r h n e = record {
-  known = λ p q m z l s t. absurd (n (fine_by (max (unsigned_abs x) (unsigned_abs y)) (max (unsigned_abs c) (unsigned_abs d)) m x y c d o r (omega (arith, ints)) (omega (arith, ints)) (omega (arith, ints)) (least_above m c d h r z l) s t));
-  wide = λ p q k. absurd (rw e at k);
-}
-
-pub positive_row : (x y c d lo hi : ℤ) → x ≤ℤ y → c ≤ℤ d → pos 0 <ℤ c → AreQuotientsAt fine x y c d lo hi → IsQuotientRow (ends x y) (ends c d) (ends lo hi)
-positive_row x y c d lo hi o r h q = record {
-  known = λ p s m z l b a. tt;
-  wide = λ p s k m z l. q.close (pos (max (unsigned_abs x) (unsigned_abs y))) (pos m) (omega (arith, ints)) (omega (arith, ints)) (omega (arith, ints)) (least_above m c d h r z l);
-}
-
--- by a divisor below 0: the quotients of the opposites
-pub negative_row_none : (x y c d a b e f : ℤ) (i : Interval) → x ≤ℤ y → c ≤ℤ d → d <ℤ pos 0 → a ≡ pos 0 -ℤ y → b ≡ pos 0 -ℤ x → e ≡ pos 0 -ℤ d → f ≡ pos 0 -ℤ c → (HaveFineQuotients a b e f → ⊥) → i ≡ everything → IsQuotientRow (ends x y) (ends c d) i
-negative_row_none x y c d a b e f i o r h ea eb ec ed n k = record {
-  known = λ p q m z l s t.
-      absurd
-      (n (fine_by (max (unsigned_abs x) (unsigned_abs y)) (max (unsigned_abs c) (unsigned_abs d)) m a b e f (omega (arith, ints, o, ea, eb)) (omega (arith, ints, r, ec, ed)) (omega (arith, ints, ea)) (omega (arith, ints, eb)) (omega (arith, ints, ed))
-      (let g = least_below m c d h r z l in omega (arith, ints, g, ec)) s t));
-  wide = λ p q t. absurd (rw k at t);
-}
-
--- where an opposite has no room
-pub unfit_row : (x y c d : ℤ) (i : Interval) → c ≤ℤ d → d <ℤ pos 0 → (size_of (ends x y) < 2 ^ 120 → size_of (ends c d) < 2 ^ 70 → ⊥) → i ≡ everything → IsQuotientRow (ends x y) (ends c d) i
-unfit_row x y c d i r h n k = record {
-  known = λ p q m z l s t. let g = least_below m c d h r z l in absurd (n (omega (arith, ints, s, t, g)) s);
-  wide = λ p q t. absurd (rw k at t);
-}
-
-pub negative_row : (x y c d a b e f lo hi : ℤ) → x ≤ℤ y → c ≤ℤ d → d <ℤ pos 0 → a ≡ pos 0 -ℤ y → b ≡ pos 0 -ℤ x → e ≡ pos 0 -ℤ d → f ≡ pos 0 -ℤ c → AreQuotientsAt fine a b e f lo hi → IsQuotientRow (ends x y) (ends c d) (ends lo hi)
-negative_row x y c d a b e f lo hi o r h ea eb ec ed t = by_opposites (rw (ea, eb, ec, ed) at t)
-  where
-    turned : (x y c d w m a : ℤ) → (w *ℤ (m *ℤ m)) ≤ℤ (pos (2 ^ 56) *ℤ (((pos 0 -ℤ x) -ℤ (pos 0 -ℤ y)) *ℤ m) +ℤ pos (2 ^ 56) *ℤ (a *ℤ ((pos 0 -ℤ c) -ℤ (pos 0 -ℤ d)))) → (w *ℤ (m *ℤ m)) ≤ℤ (pos (2 ^ 56) *ℤ ((y -ℤ x) *ℤ m) +ℤ pos (2 ^ 56) *ℤ (a *ℤ (d -ℤ c)))
-    turned x y c d w m a h =
-        le_by (x ∷ y ∷ c ∷ d ∷ w ∷ m ∷ a ∷ [])
-        ((at 4 ⊗ (at 5 ⊗ at 5) ≼ lit (pos (2 ^ 56)) ⊗ (((lit (pos 0) ⊖ at 0) ⊖ (lit (pos 0) ⊖ at 1)) ⊗ at 5) ⊕ lit (pos (2 ^ 56)) ⊗ (at 6 ⊗ ((lit (pos 0) ⊖ at 2) ⊖ (lit (pos 0) ⊖ at 3)))) ∷ [])
-        (at 4 ⊗ (at 5 ⊗ at 5)) (lit (pos (2 ^ 56)) ⊗ ((at 1 ⊖ at 0) ⊗ at 5) ⊕ lit (pos (2 ^ 56)) ⊗ (at 6 ⊗ (at 3 ⊖ at 2))) (known 0) refl (h, tt)
-
-    by_opposites : AreQuotientsAt fine (pos 0 -ℤ y) (pos 0 -ℤ x) (pos 0 -ℤ d) (pos 0 -ℤ c) lo hi → IsQuotientRow (ends x y) (ends c d) (ends lo hi)
-    by_opposites q = record {
-      known = λ p s m z l b a. tt;
-      wide = λ p s k m z l.
-          turned x y c d ((hi -ℤ lo) -ℤ pos 2) (pos m) (pos (max (unsigned_abs x) (unsigned_abs y)))
-          (q.close (pos (max (unsigned_abs x) (unsigned_abs y))) (pos m) (omega (arith, ints)) (omega (arith, ints)) (omega (arith, ints)) (least_below m c d h r z l));
-    }
-
--- a divisor that may be 0 has no least size
-pub mixed_row : (x : Interval) (c d : ℤ) (i : Interval) → c ≤ℤ pos 0 → pos 0 ≤ℤ d → IsQuotientRow x (ends c d) i
-mixed_row x c d i h k = record { known = λ p q m z l s t. absurd (none m z l); wide = λ p q r m z l. absurd (none m z l) }
-  where
-    none : (m : ℕ) → 0 < m → IsLeastSize (pos m) (ends c d) → ⊥
-    none m z (inl l) = omega (arith, ints, h, z, l)
-    none m z (inr l) = omega (arith, ints, k, z, l)
-
-pub quotient_row_first : (y i : Interval) → IsQuotientRow everything y i
-quotient_row_first y i = record { known = λ p q m z l s t. absurd p; wide = λ p q k. absurd p }
-
-pub quotient_row_second : (x i : Interval) → IsQuotientRow x everything i
-quotient_row_second x i = record { known = λ p q m z l s t. absurd q; wide = λ p q k. absurd q }
-
--- ---- roots
--- e is the distance of the roots less two, r the lower one, v and z the width and the lower end of the number
-root_wide : (e r v z : ℤ) → pos 0 ≤ℤ e → pos 0 ≤ℤ r → pos 0 ≤ℤ v → (z *ℤ pos (2 ^ 56)) ≤ℤ (r *ℤ r) → (pos 2 *ℤ (e *ℤ r)) ≤ℤ (v *ℤ pos (2 ^ 56)) → (pos 4 *ℤ ((e *ℤ e) *ℤ z)) ≤ℤ ((v *ℤ v) *ℤ pos (2 ^ 56))
-root_wide e r v z he hr hv hz hw = scaled _ _ (
-    le_by (e ∷ r ∷ v ∷ z ∷ [])
-    ((lit (pos 0) ≼ at 0) ∷ (lit (pos 0) ≼ at 1) ∷ (lit (pos 0) ≼ at 2) ∷ (at 3 ⊗ lit (pos (2 ^ 56)) ≼ at 1 ⊗ at 1) ∷ (lit (pos 2) ⊗ (at 0 ⊗ at 1) ≼ at 2 ⊗ lit (pos (2 ^ 56))) ∷ [])
-    ((lit (pos 4) ⊗ ((at 0 ⊗ at 0) ⊗ at 3)) ⊗ lit (pos (2 ^ 56))) (((at 2 ⊗ at 2) ⊗ lit (pos (2 ^ 56))) ⊗ lit (pos (2 ^ 56)))
-    (naturally 4 ⊠ known 0 ⊠ known 0 ⊠ known 3 ⊞ known 4 ⊠ (known 4 ⊞ naturally 4 ⊠ known 0 ⊠ known 1)) refl
-    (he, (hr, (hv, (hz, (hw, tt)))))
+-- a divisor from m on, and one of the opposites
+quotients_fit : (x y c d : ℤ) (m : ℕ) → x ≤ℤ y → c ≤ℤ d → 0 < m → IsLeastSize (pos m) (ends c d) → size_of (ends c d) < 2 ^ 70 → size_of (ends x y) < 2 ^ 50 * m → HaveQuotientsBy fine x y c d
+quotients_fit x y c d m o r z (inl l) s t =
+    inl (omega (arith, ints, z, l), fine_by (max (unsigned_abs x) (unsigned_abs y)) (max (unsigned_abs c) (unsigned_abs d)) m x y c d o r (omega (arith, ints)) (omega (arith, ints)) (omega (arith, ints)) l s t)
+quotients_fit x y c d m o r z (inr l) s t =
+    inr (
+      omega (arith, ints, z, l),
+      (
+        record { first = omega (arith, ints, s, t, l); second = omega (arith, ints, s, t, l); third = omega (arith, ints, s); fourth = omega (arith, ints, s) },
+        fine_by (max (unsigned_abs x) (unsigned_abs y)) (max (unsigned_abs c) (unsigned_abs d)) m (pos 0 -ℤ y) (pos 0 -ℤ x) (pos 0 -ℤ d) (pos 0 -ℤ c) (omega (arith, ints, o)) (omega (arith, ints, r)) (omega (arith, ints)) (omega (arith, ints)) (omega (arith, ints)) (omega (arith, ints, l)) s t,
+      ),
     )
-  where
-    scaled : (p q : ℤ) → (p *ℤ pos (2 ^ 56)) ≤ℤ (q *ℤ pos (2 ^ 56)) → p ≤ℤ q
-    scaled p q h = omega (arith, ints, h)
-
--- the squares' distance
-root_gap : (e lo hi x y : ℤ) → pos 0 ≤ℤ e → pos 0 ≤ℤ lo → hi -ℤ lo ≡ pos 2 +ℤ e → (x *ℤ pos (2 ^ 56)) <ℤ ((lo +ℤ pos 1) *ℤ (lo +ℤ pos 1)) → ((hi -ℤ pos 1) *ℤ (hi -ℤ pos 1)) <ℤ (y *ℤ pos (2 ^ 56)) → (pos 2 *ℤ (e *ℤ (lo +ℤ pos 1))) ≤ℤ ((y -ℤ x) *ℤ pos (2 ^ 56))
-root_gap e lo hi x y he hl w h k =
-    let s : hi ≡ (lo +ℤ pos 1) +ℤ (e +ℤ pos 1) = omega (arith, ints, w) in
-    let t : (((lo +ℤ pos 1) +ℤ e) *ℤ ((lo +ℤ pos 1) +ℤ e)) ≤ℤ (y *ℤ pos (2 ^ 56)) = same ((lo +ℤ pos 1) +ℤ e) (hi -ℤ pos 1) (omega (arith, ints, s)) (omega (arith, ints, k)) in
-    le_by (e ∷ lo ∷ x ∷ y ∷ [])
-    ((lit (pos 0) ≼ at 0) ∷ (((at 1 ⊕ lit (pos 1)) ⊕ at 0) ⊗ ((at 1 ⊕ lit (pos 1)) ⊕ at 0) ≼ at 3 ⊗ lit (pos (2 ^ 56))) ∷ (at 2 ⊗ lit (pos (2 ^ 56)) ≼ (at 1 ⊕ lit (pos 1)) ⊗ (at 1 ⊕ lit (pos 1))) ∷ [])
-    (lit (pos 2) ⊗ (at 0 ⊗ (at 1 ⊕ lit (pos 1)))) ((at 3 ⊖ at 2) ⊗ lit (pos (2 ^ 56))) (known 1 ⊞ known 2 ⊞ known 0 ⊠ known 0) refl (he, (t, (omega (arith, ints, h), tt)))
-  where
-    same : (p q : ℤ) → p ≡ q → (q *ℤ q) ≤ℤ (y *ℤ pos (2 ^ 56)) → (p *ℤ p) ≤ℤ (y *ℤ pos (2 ^ 56))
-    same p q g l = rw g l
-
-pub root_row : (x y lo hi : ℤ) → x ≤ℤ y → AreRoots fine x y lo hi → IsRootRow (ends x y) (ends lo hi)
-root_row x y lo hi o r = record {
-  known = λ p s. tt;
-  wide = λ p k h e w. by_positive x y h o r e w;
-}
-  where
-    by_positive : (x y : ℤ) → pos 0 <ℤ x → x ≤ℤ y → AreRoots fine x y lo hi → (e : ℕ) → hi -ℤ lo ≡ pos 2 +ℤ pos e → (pos 4 *ℤ ((pos e *ℤ pos e) *ℤ x)) ≤ℤ (((y -ℤ x) *ℤ (y -ℤ x)) *ℤ pos (2 ^ 56))
-    by_positive (negsuc x) y h o r e w = absurd (omega (arith, ints, h))
-    by_positive (pos x) (negsuc y) h o r e w = absurd (omega (arith, ints, o))
-    by_positive (pos x) (pos y) h o r e w =
-        let b = r.below (omega (arith, ints, w, r.natural)) in
-        let g = root_gap (pos e) lo hi (pos x) (pos y) (omega (arith, ints)) r.natural w r.above b in
-        root_wide (pos e) (lo +ℤ pos 1) (pos y -ℤ pos x) (pos x) (omega (arith, ints)) (omega (arith, ints, r.natural)) (omega (arith, ints, o)) (omega (arith, ints, r.above)) g
-
-pub root_row_low : (x y : ℤ) (i : Interval) → x ≤ℤ y → (x <ℤ pos (2 ^ 70) → ⊥) → i ≡ everything → IsRootRow (ends x y) i
-root_row_low x y i o n e = record { known = λ p s. absurd (n (omega (arith, ints, s))); wide = λ p k. absurd (rw e at k) }
-
-pub root_row_high : (x y : ℤ) (i : Interval) → x ≤ℤ y → (y <ℤ pos (2 ^ 70) → ⊥) → i ≡ everything → IsRootRow (ends x y) i
-root_row_high x y i o n e = record { known = λ p s. absurd (n (omega (arith, ints, s))); wide = λ p k. absurd (rw e at k) }
-
-pub root_row_all : (i : Interval) → IsRootRow everything i
-root_row_all i = record { known = λ p l. absurd p; wide = λ p k. absurd p }
 
 -- ---- as ends of 128 bits
 abbrev pub FineEnds : Type 0
 FineEnds = Ends ℤ ghosts
-
-pub shown_is : (lo hi : ℤ) (i : Interval) → ShowsEnds fine lo hi i → SFits w128 lo → SFits w128 hi → i ≡ ends lo hi
-shown_is lo hi (between a b) fitting f g = refl
-shown_is lo hi everything (too_large n) f g = absurd (n f g)
 
 pub sum_of_ends : (x y r : Option FineEnds) → IfSome x (λ p. IfSome y (λ q. HasEnds (p.lo +ℤ q.lo) (p.hi +ℤ q.hi) r)) → IsSumRow (shown_ends x) (shown_ends y) (shown_ends r)
 sum_of_ends None y r h = sum_row_first (shown_ends y) (shown_ends r)
@@ -292,6 +144,35 @@ difference_of_ends (Some p) (Some q) r h = difference_row p.lo p.hi q.lo q.hi _ 
 pub opposite_of_ends : (x r : Option FineEnds) → IfSome x (λ p. HasEnds (pos 0 -ℤ p.hi) (pos 0 -ℤ p.lo) r) → IsMovedRow (shown_ends x) (shown_ends r)
 opposite_of_ends None r h = moved_row_all (shown_ends r)
 opposite_of_ends (Some p) r h = opposite_row p.lo p.hi _ _ (shown_ends r) refl refl (shows _ _ r h)
+
+-- ---- products, squares, quotients and roots, by what their operations say of the ends
+pub product_of_ends : (x y r : Option FineEnds) → OfTwo (IsCloseProduct fine) x y r → ThereOfTwo (HaveProducts fine) x y r → IsProductRow (shown_ends x) (shown_ends y) (shown_ends r)
+product_of_ends None y r c s = record { known = λ p q l. absurd p; wide = λ p q k. absurd p }
+product_of_ends (Some p) None r c s = record { known = λ a b l. absurd b; wide = λ a b k. absurd b }
+product_of_ends (Some p) (Some q) (Some e) c s = record { known = λ a b l. tt; wide = λ a b k. c }
+product_of_ends (Some p) (Some q) None c s = record { known = λ a b l. let z = s refl (roomy_sizes p.lo p.hi q.lo q.hi l) in absurd (cc); wide = λ a b k. absurd k }
+
+pub square_of_ends : (x r : Option FineEnds) → OfOne (IsCloseSquare fine) x r → ThereOfOne (λ lo hi. HaveProducts fine lo hi lo hi) x r → IsSquareRow (shown_ends x) (shown_ends r)
+square_of_ends None r c s = record { known = λ p l. absurd p; wide = λ p k. absurd p }
+square_of_ends (Some p) (Some e) c s = record { known = λ a l. tt; wide = λ a k. c }
+square_of_ends (Some p) None c s = record {
+  known = λ a l. let z = s refl (roomy_sizes p.lo p.hi p.lo p.hi (below_square (max (unsigned_abs p.lo) (unsigned_abs p.hi)) l)) in absurd (cc);
+  wide = λ a k. absurd k;
+}
+
+pub quotient_of_ends : (x y r : Option FineEnds) → OfTwo (IsCloseQuotient fine) x y r → ThereOfTwo (HaveQuotientsBy fine) x y r → IsQuotientRow (shown_ends x) (shown_ends y) (shown_ends r)
+quotient_of_ends None y r c s = record { known = λ p q m z l a b. absurd p; wide = λ p q k. absurd p }
+quotient_of_ends (Some p) None r c s = record { known = λ a b m z l t u. absurd b; wide = λ a b k. absurd b }
+quotient_of_ends (Some p) (Some q) (Some e) c s = record { known = λ a b m z l t u. tt; wide = λ a b k m z l. c m z l }
+quotient_of_ends (Some p) (Some q) None c s = record {
+  known = λ a b m z l t u. let v = s refl (quotients_fit p.lo p.hi q.lo q.hi m p.ordered q.ordered z l t u) in absurd (cc);
+  wide = λ a b k. absurd k;
+}
+
+pub root_of_ends : (x r : Option FineEnds) → OfOne (IsCloseRoot fine) x r → ThereOfOne (λ lo hi. HasRoot fine hi) x r → IsRootRow (shown_ends x) (shown_ends r)
+root_of_ends None r c s = record { known = λ p l. absurd p; wide = λ p k. absurd p }
+root_of_ends (Some p) (Some e) c s = record { known = λ a l. tt; wide = λ a k. c }
+root_of_ends (Some p) None c s = record { known = λ a l. let z = s refl (omega (arith, ints, l)) in absurd (cc); wide = λ a k. absurd k }
 
 -- ---- by the bounds that just these ends keep
 abbrev bound_of_ends : ℤ → ℤ → Bound

@@ -1,4 +1,2 @@
-pub mod Quotients
-pub mod Room
 pub mod Shown
 pub mod Table

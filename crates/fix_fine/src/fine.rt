@@ -12,9 +12,6 @@ ghost use Rattle.encl_core.specs.Steps.{IsOpenPeriod};
 ghost use Rattle.fix_fine.specs.Shown.{shown_fine, fine_proper};
 ghost use Rattle.fix_fine.specs.Table.{IsIntegerRow, IsFractionRow, IsFactorRow, IsWidenedRow, IsSumRow, IsMovedRow, IsCutRow, IsChoiceRow, IsHullRow, IsProductRow, IsSquareRow, IsQuotientRow, IsRootRow};
 
-use crate::dividing::div_ends;
-use crate::products::{mul_ends, square_ends};
-use crate::roots::root_ends;
 use book_model::{Frac, Site, Undecided};
 use encl_core::{Enclosure, Span, Trail};
 use scaled_ends::{
@@ -22,6 +19,7 @@ use scaled_ends::{
     lower_ends, max_ends, min_ends, neg_ends, open_at, order_of_ends, period_of_ends, raised_ends,
     scale_ends, sub_ends, widen_ends,
 };
+use scaled_products::{div_ends, mul_ends, root_ends, square_ends};
 
 /// An enclosure by two ends in 128 bits that count 2⁻⁵⁶, rounded outwards; every number, where a number doesn't fit.
 #[derive(Clone, Copy, Debug, PartialEq)]

@@ -2,11 +2,7 @@
 //! open. Every operation works on plain numbers of 128 bits; where one doesn't fit, nothing is known of the result.
 #![tactic(auto)]
 
-mod dividing;
 mod fine;
-mod products;
-mod roots;
-mod rounding;
 #[cfg(test)]
 mod tests;
 

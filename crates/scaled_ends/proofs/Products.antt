@@ -1,13 +1,13 @@
 -- Ends at scale 2^-36 that keep the bounds of products and squares.
-use Rattle.scaled_ends.specs.Scales.{Scale, coarse, fine, at_scale, unit, limits_on, span, grain, slack, most_size}
-use Rattle.std.proofs.Common.{◌≡◌, ℕ, suc, ◌+◌, ◌*◌, ◌-◌, ◌^◌, ◌≤◌, ◌<◌, refl, sym, arith, Bool, true, false, cond, int_le, neg_ℤ, ℤ, pos, ◌+ℤ◌, ◌*ℤ◌, ◌-ℤ◌, ◌≤ℤ◌, [], ◌∷◌}
+use Rattle.scaled_ends.specs.Scales.{Scale, coarse, fine, at_scale, unit, limits_on, span, grain, slack}
+use Rattle.std.proofs.Common.{◌≡◌, ℕ, suc, ◌+◌, ◌*◌, ◌-◌, ◌^◌, ◌≤◌, refl, sym, arith, Bool, true, false, cond, int_le, ℤ, pos, ◌+ℤ◌, ◌*ℤ◌, ◌-ℤ◌, ◌≤ℤ◌, [], ◌∷◌}
 use Rattle.std.proofs.lemmas.Int.{ints}
 use Rattle.std.proofs.lemmas.Bool.{ltb-true}
 use lib.Signed.{≤ℤ_refl}
 use Rattle.exact_math.specs.Interval.{Interval, everything, between}
 use Rattle.exact_math.proofs.Ring.{at, lit, ◌⊕◌, ◌⊖◌, ◌⊗◌}
 use Rattle.exact_math.proofs.Bounds.{◌≼◌, known, ◌⊞◌, ◌⊠◌, times as naturally, le_by, pos_nonneg, square_nonneg}
-use Rattle.book_model.specs.numbers.Bounds.{Bound, unbounded, bounded, range_size, ceil_div, least_corner, greatest_corner, least_square, greatest_square, floor_of_product, ceil_of_product, product_bound, square_bound, power_bound, IsNarrow}
+use Rattle.book_model.specs.numbers.Bounds.{Bound, unbounded, bounded, range_size, ceil_div, least_corner, greatest_corner, least_square, floor_of_product, ceil_of_product, product_bound, power_bound, IsNarrow}
 use Rattle.rounded_quotients.specs.Rounding.{IsFloor, IsCeiling, IsAboveEachBelow, IsBelowEachAbove}
 use Rattle.scaled_ends.specs.Rounding.{ShowsEnds, least_square_of}
 use Rattle.scaled_ends.proofs.Keeping.{AreKept, kept_of, limited_narrow, both}

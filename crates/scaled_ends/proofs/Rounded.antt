@@ -1,11 +1,11 @@
 -- How far apart ends are that are rounded outwards.
-use Rattle.std.proofs.Common.{◌≡◌, ℕ, suc, ◌+◌, ◌*◌, ◌≤◌, refl, arith, unsigned_abs, ℤ, pos, negsuc, ◌+ℤ◌, ◌*ℤ◌, ◌-ℤ◌, ◌≤ℤ◌, ◌<ℤ◌, [], ◌∷◌}
+use Rattle.std.proofs.Common.{◌≡◌, ℕ, suc, ◌+◌, refl, arith, unsigned_abs, ℤ, pos, negsuc, ◌+ℤ◌, ◌*ℤ◌, ◌-ℤ◌, ◌≤ℤ◌, ◌<ℤ◌, [], ◌∷◌}
 use Rattle.std.proofs.lemmas.Int.{ints, by_lt_z}
 use Rattle.exact_math.proofs.Ring.{at, lit, ◌⊕◌, ◌⊖◌, ◌⊗◌}
 use Rattle.exact_math.proofs.Bounds.{◌≼◌, known, ◌⊞◌, ◌⊠◌, times as naturally, le_by, refute}
 use Rattle.exact_math.specs.Fraction.{Fraction}
 use Rattle.rounded_quotients.specs.Rounding.{IsFloor, IsCeiling, AreSorted}
-use Rattle.scaled_ends.specs.Scales.{Scale, coarse, fine, unit}
+use Rattle.scaled_ends.specs.Scales.{Scale, unit}
 use Rattle.scaled_ends.specs.Rounding.{IsMarginAt}
 use Rattle.scaled_ends.proofs.Scaling.{AreScaled}
 

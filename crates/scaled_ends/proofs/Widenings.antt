@@ -9,9 +9,7 @@ use Rattle.exact_math.specs.Fraction.{Fraction}
 use Rattle.exact_math.specs.Interval.{Interval, everything, between}
 use Rattle.exact_math.proofs.Ring.{at, lit, ◌⊕◌, ◌⊗◌}
 use Rattle.exact_math.proofs.Bounds.{◌≼◌, known, ◌⊞◌, ◌⊠◌, times as naturally, le_over}
-use Rattle.book_model.specs.numbers.Expressions.{Expression, widen}
-use Rattle.book_model.specs.numbers.Relations.{Narrow, Keeps}
-use Rattle.book_model.specs.numbers.Bounds.{Bound, Limits, Reach, bound_of, unbounded, bounded, limited, margin_32, margin_64, hull_bound, widen_bound, IsNarrow}
+use Rattle.book_model.specs.numbers.Bounds.{Bound, Limits, unbounded, bounded, limited, margin_32, margin_64, hull_bound, widen_bound, IsNarrow}
 use Rattle.rounded_quotients.proofs.Quotients.{next_le}
 use Rattle.scaled_ends.specs.Rounding.{IsMarginAt, ShowsEnds}
 use Rattle.scaled_ends.proofs.Keeping.{AreKept, kept_of, spans_of, limited_narrow, both}
@@ -102,11 +100,6 @@ pub widen_of_all : (l : Limits) (w : ℕ) (f : Fraction) (x : Bound) (i : Interv
 unfolding widen_bound IsNarrow
 widen_of_all l w f unbounded i h = tt
 widen_of_all l w f (bounded a b s k) i h = absurd h
-
--- as an expression
-pub narrow_widening : {E : Type 0} (shown : E → Interval) (l : Limits) (r : Reach) (f : Fraction) (x : Expression) (i k : E) → ((w : ℕ) (a : Bound) → IsNarrow w a (shown i) → IsNarrow w (widen_bound l f a) (shown k)) → Narrow shown l r x i → Narrow shown l r (widen f x) k
-unfolding Keeps bound_of
-narrow_widening shown l r f x i k h p = record { kept = h r.width _ p.kept }
 
 -- where the numerator is too great, no bound is promised
 pub widen_overflow : (scale : Scale) (w : ℕ) (f : Fraction) (p : Bound) (i : Interval) → ((unsigned_abs f.num < (limits_on scale).constants) → ⊥) → IsNarrow w (widen_bound (limits_on scale) f p) i

@@ -1,8 +1,8 @@
 -- Ends at scale 2^-36 that keep the bounds of differences, opposites, the lesser and the greater, remainders, and
 -- of ends that count 2^-56.
 use Rattle.scaled_ends.specs.Scales.{Scale, coarse, fine, at_scale, unit, limits_on, slack, finer_units, most_size}
-use Rattle.std.proofs.Common.{◌≡◌, ℕ, suc, ◌+◌, ◌*◌, ◌-◌, ◌^◌, ◌≤◌, ◌<◌, max, refl, sym, arith, Bool, true, false, neg_ℤ, ℤ, pos, ◌+ℤ◌, ◌*ℤ◌, ◌-ℤ◌, ◌≤ℤ◌, ◌<ℤ◌, int_eq, Some, SFits}
-use Rattle.std.specs.Int.{w64, w128, int_max, int_min}
+use Rattle.std.proofs.Common.{◌≡◌, ℕ, suc, ◌+◌, ◌*◌, ◌-◌, ◌^◌, ◌≤◌, ◌<◌, max, refl, sym, arith, Bool, true, false, neg_ℤ, ℤ, pos, ◌+ℤ◌, ◌*ℤ◌, ◌-ℤ◌, ◌≤ℤ◌, ◌<ℤ◌, int_eq, Some}
+use Rattle.std.specs.Int.{int_max, int_min}
 use Rattle.std.proofs.lemmas.Int.{ints, clamps, by_lt_z}
 use Rattle.std.proofs.lemmas.Bool.{ltb-true}
 use Rattle.std.proofs.Math.Nat.{mul-le-mul_right}
@@ -247,14 +247,3 @@ pub remainder_of_all : (scale : Scale) → (w m : ℕ) (x : Bound) (i : Interval
 unfolding remainder_bound IsNarrow
 remainder_of_all scale w m unbounded i h = tt
 remainder_of_all scale w m (bounded a b s k) i h = absurd h
-
--- what is taken away fits in 128 bits, and so does what is left
-pub record FitPeriod (m : ℕ) (q x y : ℤ) : Type 0 where
-  pub taken : SFits w128 ((pos m *ℤ q) *ℤ pos (2 ^ 36))
-  pub low : SFits w128 (x -ℤ ((pos m *ℤ q) *ℤ pos (2 ^ 36)))
-  pub high : SFits w128 (y -ℤ ((pos m *ℤ q) *ℤ pos (2 ^ 36)))
-
-pub period_fits : (m : ℕ) (q x y : ℤ) → 0 < m → m < 2 ^ 32 → SFits w64 x → SFits w64 y → x ≤ℤ y → cell_at (multiples m) (between (at_scale coarse x) (at_scale coarse y)) ≡ Some q → FitPeriod m q x y
-period_fits m q x y p l fx fy o c =
-    let i = in_period coarse m q x y p c in
-    record { taken = omega (arith, ints, i.from, i.to, l, o, fx, fy); low = omega (arith, ints, i.from, i.to, l, o, fx, fy); high = omega (arith, ints, i.from, i.to, l, o, fx, fy) }

@@ -27,11 +27,6 @@ abbrev pub below : Scale → ℕ
 below coarse = 2 ^ 36 - 1
 below fine = 2 ^ 56 - 1
 
--- the same of products of ends
-abbrev pub below_square : Scale → ℕ
-below_square coarse = 2 ^ 72 - 1
-below_square fine = 2 ^ 112 - 1
-
 -- a number that counts the scale's units
 abbrev pub at_scale : Scale → ℤ → Fraction
 at_scale coarse n = record { num = n; below = 2 ^ 36 - 1 }

@@ -4,9 +4,7 @@ ghost use Rattle.std.specs.Prelude.{refl};
 ghost use Rattle.exact_math.specs.Interval.{◌⊆◌};
 ghost use Rattle.scaled_ends.specs.Shown.{shown_ends, ends_proper};
 
-use crate::dividing::{div_ends, square_ends};
-use crate::operations::{frac_ends, mul_ends};
-use crate::roots::root_ends;
+use crate::fractions::frac_ends;
 use crate::{Enclosure, Span, Trail};
 use book_model::{Frac, Site, Undecided};
 use rounded_quotients::{ceil_div, floor_div};
@@ -15,6 +13,7 @@ use scaled_ends::{
     int_ends, lower_ends, max_ends, min_ends, neg_ends, open_at, order_of_ends, period_of_ends,
     scale_ends, sub_ends, widen_ends,
 };
+use scaled_products::{div_ends, mul_ends, root_ends, square_ends};
 
 /// How many units of 2⁻³⁶ one of 2⁻⁸ has.
 const GRAIN: i128 = 268_435_456;

@@ -1,7 +1,7 @@
 use Rattle.std.proofs.Common.{rules, SFits, sym}
 use Rattle.std.specs.Int.{w128}
 use Rattle.std.proofs.lemmas.Int.{to_z-of_z}
-use Rattle.fix_fine.proofs.Fitting.{far_open}
+use Rattle.fix_fine.proofs.FarCells.{far_open}
 use Rattle.fix_fine.proofs.fine.FineEnclosure.floor.Goals as goal
 
 pub returns-in-Err-clause-undecided : goal.returns-in-Err-clause-undecided
