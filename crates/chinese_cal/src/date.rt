@@ -1,9 +1,8 @@
 //! Chinese dates, and the date of a day. Days are R.D.
 ghost use Rattle.std.specs.Prelude.{◌≡◌, ◌≤ℤ◌, ◌+ℤ◌, ◌-ℤ◌, pos, negsuc};
-ghost use Rattle.exact_math.specs.Fraction.{floor_quotient};
 ghost use Rattle.book_model.specs.calendars.Chinese.{elapsed_years as years_elapsed, fields_by, date_in_month as date_of_month, chinese_on};
 ghost use Rattle.book_model.specs.calendars.Inquiries.{to_32_bits as to_32_bits_of, to_8_bits as to_8_bits_of};
-ghost use Rattle.book_model.specs.calendars.Spans.{amod as amod_of};
+ghost use Rattle.book_model.specs.calendars.Spans.{quotient_down, amod as amod_of};
 ghost use Rattle.chinese_cal.specs.Dates.{fields_of_date};
 ghost use Rattle.chinese_cal.specs.Days.{IsNearDay, IsNearMonth};
 ghost use Rattle.chinese_cal.specs.Keeping.{Keeps};
@@ -45,7 +44,7 @@ fn elapsed_years(day: i64, month: i64) -> i64
 fn cycle_of(years: i64) -> i32
     requires low { negsuc 99999 ≤ℤ years }
     requires high { years ≤ℤ pos 100000 }
-    ensures cycle { result ≡ to_32_bits_of (floor_quotient (years -ℤ pos 1) 59 +ℤ pos 1) }
+    ensures cycle { result ≡ to_32_bits_of (quotient_down (years -ℤ pos 1) 60 +ℤ pos 1) }
 {
     to_32_bits(quotient_before(years, CYCLE) + 1)
 }
@@ -54,7 +53,7 @@ fn cycle_of(years: i64) -> i32
 fn year_in_cycle(years: i64) -> u8
     requires low { negsuc 99999 ≤ℤ years }
     requires high { years ≤ℤ pos 100000 }
-    ensures year { pos result ≡ amod_of years 59 }
+    ensures year { pos result ≡ amod_of years 60 }
 {
     amod(years, CYCLE) as u8
 }

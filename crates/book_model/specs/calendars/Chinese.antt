@@ -1,11 +1,10 @@
 -- The Chinese calendar by the sky of Beijing: a month begins on the day of a new moon, the month of the winter solstice is
--- the eleventh, and where twelve months lie between two of these, the first that has no major solar term is a leap month.
+-- the eleventh, and where twelve months lie between two of these, the first that is bare, with no major solar term, is a leap month.
 -- Reingold and Dershowitz, Calendrical Calculations, chapter 19; Aslaksen, The Mathematics of the Chinese Calendar.
 -- The fields of a result that their types don't hold stand at the nearest ends, so that the rules have an answer over every
 -- table.
 use Rattle.std.specs.Prelude.{ℕ, zero, suc, ◌&&◌, if◌then◌else◌, Bool, true, false, not, [], ◌∷◌, ℤ, pos, ◌+ℤ◌, ◌-ℤ◌, ◌*ℤ◌, int_lt, slice_index_or}
 use Rattle.std.specs.Ordering.{int_eq}
-use Rattle.exact_math.specs.Fraction.{floor_quotient}
 use Rattle.book_model.specs.declared.calendar_tables.TheConstants.{CHINESE_EPOCH, TROPICAL_YEAR}
 use Rattle.book_model.specs.declared.chinese.ChineseMonth.{ChineseMonth}
 use Rattle.book_model.specs.declared.chinese.Sui.{Sui}
@@ -16,7 +15,7 @@ use Rattle.book_model.specs.declared.fact.Place.TheVariants.{Beijing}
 use Rattle.book_model.specs.declared.request.Fields.{Fields}
 use Rattle.book_model.specs.numbers.Fractions.{fraction_of}
 use Rattle.book_model.specs.calendars.Inquiries.{Inquiry, done, ask, and_then, to_32_bits, to_8_bits}
-use Rattle.book_model.specs.calendars.Spans.{amod, ratio, days_of, months_of_days, spans_of}
+use Rattle.book_model.specs.calendars.Spans.{amod, quotient_down, ratio, days_of, months_of_days, spans_of}
 
 -- ---- what is asked of the sky
 -- a fact of a day in Beijing
@@ -78,7 +77,8 @@ prior (suc calls) first month =
     and_then (prior calls first before) λ found.
     if found then done true else bare month)
 
--- whether a month of a sui is its leap month or comes after it, given whether the sui has one; a sui has thirteen months at most
+-- whether a month of a sui is its leap month or comes after it, given whether the sui has one: of fifteen months, since a sui
+-- has thirteen at most
 unfoldable pub is_from_leap_month : Bool → ℤ → ℤ → Inquiry Bool
 is_from_leap_month leap_sui first month = if leap_sui then prior 15 first month else done false
 
@@ -100,7 +100,7 @@ flag b = if b then pos 1 else pos 0
 -- the number of a month, from the first of its sui and whether it comes after the leap month or is it: the first of a sui is the
 -- twelfth of a year
 unfoldable pub month_number : ℤ → ℤ → Bool → ℤ
-month_number first month from_leap = amod (months_between first month -ℤ flag from_leap) 11
+month_number first month from_leap = amod (months_between first month -ℤ flag from_leap) 12
 
 -- a month by the first of its sui, whether it comes after the leap month or is it, and whether it is it
 unfoldable pub month_by : ℤ → ℤ → Bool → Bool → ChineseMonth
@@ -123,12 +123,12 @@ month_holding day =
 
 -- the years since the epoch, counted from 1, in which a day of a month falls
 unfoldable pub elapsed_years : ℤ → ℤ → ℤ
-elapsed_years day month = spans_of (fraction_of TROPICAL_YEAR) (day -ℤ CHINESE_EPOCH) (ratio (pos 18 -ℤ month) 11)
+elapsed_years day month = spans_of (fraction_of TROPICAL_YEAR) (day -ℤ CHINESE_EPOCH) (ratio (pos 18 -ℤ month) 12)
 
 -- cycle, year, month, leap month and day
 abbrev pub fields_by : ℤ → ChineseMonth → ℤ → Fields
 fields_by day month years =
-    record { count = 5; values = to_32_bits (floor_quotient (years -ℤ pos 1) 59 +ℤ pos 1) ∷ amod years 59 ∷ month.number ∷ flag month.is_leap ∷ to_8_bits (day -ℤ month.first_day +ℤ pos 1) ∷ [] }
+    record { count = 5; values = to_32_bits (quotient_down (years -ℤ pos 1) 60 +ℤ pos 1) ∷ amod years 60 ∷ month.number ∷ flag month.is_leap ∷ to_8_bits (day -ℤ month.first_day +ℤ pos 1) ∷ [] }
 
 -- the date of a day by its month
 unfoldable pub date_in_month : ℤ → ChineseMonth → Fields
@@ -164,7 +164,7 @@ new_year_by_day day =
 
 -- the days from the epoch to the middle of a year, which counts from 1
 unfoldable pub days_to_middle : ℤ → ℤ
-days_to_middle number = days_of (fraction_of TROPICAL_YEAR) (ratio (pos 2 *ℤ number -ℤ pos 1) 1)
+days_to_middle number = days_of (fraction_of TROPICAL_YEAR) (ratio (pos 2 *ℤ number -ℤ pos 1) 2)
 
 -- a day in the middle of a year of a cycle
 unfoldable pub middle_of_year : ℤ → ℤ → ℤ
