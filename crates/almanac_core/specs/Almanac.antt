@@ -38,7 +38,7 @@ festival_of year index =
 
 -- the mean synodic months from the Islamic epoch to the beginning of a year, rounded down
 unfoldable pub months_to : ℕ → ℕ
-months_to year = unsigned_abs (spans_of (fraction_of SYNODIC_MONTH) (fixed_of year 1 1 -ℤ ISLAMIC_EPOCH) (ratio (pos 0) 0))
+months_to year = unsigned_abs (spans_of (fraction_of SYNODIC_MONTH) (fixed_of year 1 1 -ℤ ISLAMIC_EPOCH) (ratio (pos 0) 1))
 
 -- the first day of the Islamic month before which so many months have passed
 unfoldable pub islamic_month_after : ℕ → Request

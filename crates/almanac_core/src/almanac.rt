@@ -92,7 +92,7 @@ fn first_of_january(year: u32) -> i64
 fn months_in(days: i64) -> i64
     requires from { pos 300000 ≤ℤ days }
     requires to { days ≤ℤ pos 600000 }
-    ensures months { result ≡ spans_in (fraction_of SYNODIC) days (ratio (pos 0) 0) }
+    ensures months { result ≡ spans_in (fraction_of SYNODIC) days (ratio (pos 0) 1) }
     ensures near_from { pos 0 ≤ℤ result }
     ensures near_to { result ≤ℤ pos 21000 }
 {

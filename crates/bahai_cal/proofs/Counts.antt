@@ -6,7 +6,7 @@ use Rattle.exact_math.specs.Fraction.{floor_quotient, times, plus, reciprocal}
 use Rattle.exact_math.proofs.Floors.{floor_quotient_is}
 use Rattle.book_model.specs.calendars.Bahai.{days_to_middle, years_before}
 use Rattle.book_model.specs.sky.Facts.{IsFactValue}
-use Rattle.book_model.specs.calendars.Spans.{days_of, nearest, years_of_days}
+use Rattle.book_model.specs.calendars.Spans.{days_of, nearest, quotient_down, years_of_days}
 use Rattle.calendar_math.proofs.SpanLemmas.{LiesWithin}
 use Rattle.bahai_cal.specs.Years.{IsNearYear}
 
@@ -33,7 +33,7 @@ years_near first h =
     record { from = omega (arith, ints, h.0, h.1, e, f.not_above, f.close); to = omega (arith, ints, h.0, h.1, e, f.not_above, f.close) }
 
 -- a month of a day, by its quotient
-pub month_near : (day first : ℤ) → pos 0 ≤ℤ day → day ≤ℤ pos 1000000 → IsFactValue first → LiesWithin (negsuc 899999) (pos 900000) (floor_quotient (day -ℤ first) 18)
+pub month_near : (day first : ℤ) → pos 0 ≤ℤ day → day ≤ℤ pos 1000000 → IsFactValue first → LiesWithin (negsuc 899999) (pos 900000) (quotient_down (day -ℤ first) 19)
 month_near day first h k p =
     let f = floor_quotient_is (day -ℤ first) 18 in
     record { from = omega (arith, ints, h, k, p.0, p.1, f.not_above, f.close); to = omega (arith, ints, h, k, p.0, p.1, f.not_above, f.close) }

@@ -1,10 +1,9 @@
 //! Bahá'í dates, and the facts that they are found by. Days are R.D.
 ghost use Rattle.std.specs.Prelude.{◌≡◌, ◌≤◌, ◌≤ℤ◌, ◌+ℤ◌, ◌-ℤ◌, ◌*ℤ◌, pos, negsuc};
-ghost use Rattle.exact_math.specs.Fraction.{floor_quotient};
 ghost use Rattle.book_model.specs.calendars.Bahai as spec;
 ghost use Rattle.book_model.specs.sky.Facts.{IsFactValue};
 ghost use Rattle.book_model.specs.calendars.Inquiries.{to_32_bits as to_32_bits_of};
-ghost use Rattle.book_model.specs.calendars.Spans.{modulo as modulo_of};
+ghost use Rattle.book_model.specs.calendars.Spans.{quotient_down, modulo as modulo_of};
 ghost use Rattle.bahai_cal.specs.Dates.{fields_of_date};
 ghost use Rattle.bahai_cal.specs.Years.{IsNearMonth, IsNearYear};
 ghost use Rattle.oracle_core.specs.Inquiring.{Inquires, map_ok};
@@ -29,7 +28,7 @@ pub struct BahaiDate {
 /// The major cycle, where so many years have passed.
 fn major_of(passed: i64) -> i32
     requires near { IsNearYear passed }
-    ensures major { result ≡ to_32_bits_of (floor_quotient passed 360 +ℤ pos 1) }
+    ensures major { result ≡ to_32_bits_of (quotient_down passed 361 +ℤ pos 1) }
 {
     to_32_bits(quotient(passed, 361) + 1)
 }
@@ -38,7 +37,7 @@ fn major_of(passed: i64) -> i32
 fn cycle_of(left: i64) -> u8
     requires from { pos 0 ≤ℤ left }
     requires to { left ≤ℤ pos 360 }
-    ensures cycle { pos result ≡ floor_quotient left 18 +ℤ pos 1 }
+    ensures cycle { pos result ≡ quotient_down left 19 +ℤ pos 1 }
 {
     (quotient(left, 19) + 1) as u8
 }
@@ -46,7 +45,7 @@ fn cycle_of(left: i64) -> u8
 /// The cycle, where so many years have passed.
 fn cycle_after(passed: i64) -> u8
     requires near { IsNearYear passed }
-    ensures cycle { pos result ≡ floor_quotient (modulo_of passed 360) 18 +ℤ pos 1 }
+    ensures cycle { pos result ≡ quotient_down (modulo_of passed 361) 19 +ℤ pos 1 }
 {
     cycle_of(modulo(passed, 361))
 }
@@ -54,7 +53,7 @@ fn cycle_after(passed: i64) -> u8
 /// The year of its cycle, where so many years have passed.
 fn year_after(passed: i64) -> u8
     requires near { IsNearYear passed }
-    ensures year { pos result ≡ modulo_of passed 18 +ℤ pos 1 }
+    ensures year { pos result ≡ modulo_of passed 19 +ℤ pos 1 }
 {
     (modulo(passed, 19) + 1) as u8
 }

@@ -1,8 +1,8 @@
 //! The months of a Bahá'í year: nineteen of 19 days, and before the last the days of Ayyám-i-Há, which count as month 0.
 //! Days are R.D.
 ghost use Rattle.std.specs.Prelude.{◌≡◌, ◌≤ℤ◌, ◌+ℤ◌, ◌-ℤ◌, ◌*ℤ◌, pos, negsuc, int_le};
-ghost use Rattle.exact_math.specs.Fraction.{floor_quotient};
 ghost use Rattle.book_model.specs.calendars.Bahai as spec;
+ghost use Rattle.book_model.specs.calendars.Spans.{quotient_down};
 ghost use Rattle.book_model.specs.sky.Facts.{IsFactValue};
 ghost use Rattle.bahai_cal.specs.Years.{IsNearMonth};
 
@@ -32,7 +32,7 @@ fn month_by_days(day: i64, first: i64) -> i64
     requires from { pos 0 ≤ℤ day }
     requires to { day ≤ℤ pos 1000000 }
     requires value { IsFactValue first }
-    ensures month { result ≡ floor_quotient (day -ℤ first) 18 +ℤ pos 1 }
+    ensures month { result ≡ quotient_down (day -ℤ first) 19 +ℤ pos 1 }
     ensures near { IsNearMonth result }
 {
     quotient(day - first, 19) + 1

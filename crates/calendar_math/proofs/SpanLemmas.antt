@@ -36,13 +36,13 @@ sum_is days n s t d =
     rw (a, b, c) (ap (λ x. x +ℤ n *ℤ pos (suc s)) (mul_assoc days (pos (suc t)) (pos (suc d))))
 
 -- the days of a count as a quotient of whole numbers
-pub days_as_quotient : (s n : ℤ) (t d : ℕ) → 0 < t → 0 < d → days_of (ratio s (t - 1)) (ratio n (d - 1)) ≡ floor_quotient (s *ℤ n) (t * d - 1)
+pub days_as_quotient : (s n : ℤ) (t d : ℕ) → 0 < t → 0 < d → days_of (ratio s t) (ratio n d) ≡ floor_quotient (s *ℤ n) (t * d - 1)
 unfolding days_of times
 days_as_quotient s n zero d h k = absurd (omega arith)
 days_as_quotient s n (suc t) zero h k = absurd (omega arith)
 days_as_quotient s n (suc t) (suc d) h k = ap (floor_quotient (s *ℤ n)) (over_is t d)
 
-pub spans_as_quotient : (days n : ℤ) (s t d : ℕ) → 0 < s → 0 < t → 0 < d → spans_of (ratio (pos s) (t - 1)) days (ratio n (d - 1)) ≡ floor_quotient (days *ℤ pos (t * d) +ℤ n *ℤ pos s) (s * d - 1)
+pub spans_as_quotient : (days n : ℤ) (s t d : ℕ) → 0 < s → 0 < t → 0 < d → spans_of (ratio (pos s) t) days (ratio n d) ≡ floor_quotient (days *ℤ pos (t * d) +ℤ n *ℤ pos s) (s * d - 1)
 unfolding spans_of times plus reciprocal
 spans_as_quotient days n zero t d h k l = absurd (omega arith)
 spans_as_quotient days n (suc s) zero d h k l = absurd (omega arith)
@@ -50,15 +50,15 @@ spans_as_quotient days n (suc s) (suc t) zero h k l = absurd (omega arith)
 spans_as_quotient days n (suc s) (suc t) (suc d) h k l =
     ap (λ x. floor_quotient x ((0 * s + 0 + s) * (suc d - 1) + (0 * s + 0 + s) + (suc d - 1))) (sum_is days n s t d) ∙ ap (floor_quotient (days *ℤ pos (suc t * suc d) +ℤ n *ℤ pos (suc s))) (first_is s d)
 
-pub years_are_spans : (days : ℤ) → years_of_days days ≡ spans_of (ratio (pos 365242189) 999999) days (ratio (pos 1) 1)
+pub years_are_spans : (days : ℤ) → years_of_days days ≡ spans_of (ratio (pos 365242189) 1000000) days (ratio (pos 1) 2)
 unfolding years_of_days nearest spans_of
 years_are_spans days = refl
 
-pub months_are_spans : (days : ℤ) → months_of_days days ≡ spans_of (ratio (pos 29530588861) 999999999) days (ratio (pos 1) 1)
+pub months_are_spans : (days : ℤ) → months_of_days days ≡ spans_of (ratio (pos 29530588861) 1000000000) days (ratio (pos 1) 2)
 unfolding months_of_days nearest spans_of
 months_are_spans days = refl
 
-pub years_have_days : (years : ℤ) → days_of_years years ≡ days_of (ratio (pos 365242189) 999999) (ratio years 0)
+pub years_have_days : (years : ℤ) → days_of_years years ≡ days_of (ratio (pos 365242189) 1000000) (ratio years 1)
 unfolding days_of_years
 years_have_days years = refl
 
@@ -122,7 +122,7 @@ product_above s d h k = grind arith
 
 -- what is left of a number by the quotient of the one before it, and how large it is
 pub record IsLeft (n q : ℤ) (d : ℕ) : Type 0 where
-  pub same : n -ℤ q *ℤ pos d ≡ amod n (d - 1)
+  pub same : n -ℤ q *ℤ pos d ≡ amod n d
   pub from : pos 1 ≤ℤ (n -ℤ q *ℤ pos d)
   pub to : (n -ℤ q *ℤ pos d) ≤ℤ pos d
 
@@ -136,7 +136,7 @@ left_lies n q (suc d) h k =
 
 -- the same, of the quotient of the number itself
 pub record IsRest (n q : ℤ) (d : ℕ) : Type 0 where
-  pub same : n -ℤ q *ℤ pos d ≡ modulo n (d - 1)
+  pub same : n -ℤ q *ℤ pos d ≡ modulo n d
   pub from : pos 0 ≤ℤ (n -ℤ q *ℤ pos d)
   pub to : (n -ℤ q *ℤ pos d) <ℤ pos d
 

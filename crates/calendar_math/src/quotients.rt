@@ -1,12 +1,11 @@
 //! Quotients of whole numbers, rounded down and up.
-ghost use Rattle.std.specs.Prelude.{◌≡◌, ◌<◌, ◌-◌, pos, negsuc, ◌≤ℤ◌, ◌<ℤ◌, ◌-ℤ◌, ◌*ℤ◌};
-ghost use Rattle.exact_math.specs.Fraction.{floor_quotient};
-ghost use Rattle.book_model.specs.calendars.Spans.{ceiling_quotient, amod as amod_of, modulo as modulo_of};
+ghost use Rattle.std.specs.Prelude.{◌≡◌, ◌<◌, pos, negsuc, ◌≤ℤ◌, ◌<ℤ◌, ◌-ℤ◌, ◌*ℤ◌};
+ghost use Rattle.book_model.specs.calendars.Spans.{quotient_down, quotient_up as quotient_up_of, amod as amod_of, modulo as modulo_of};
 
 /// The greatest whole number that isn't above the quotient.
-fn quotient_down(number: i128, divisor: u64) -> i128
+fn wide_quotient(number: i128, divisor: u64) -> i128
     requires positive { 0 < divisor }
-    ensures quotient { result ≡ floor_quotient number (divisor - 1) }
+    ensures quotient { result ≡ quotient_down number divisor }
 {
     number.div_euclid(i128::from(divisor))
 }
@@ -16,9 +15,9 @@ pub(crate) fn quotient_within(number: i128, divisor: u64) -> i64
     requires positive { 0 < divisor }
     requires low { (negsuc 99999999999 *ℤ pos divisor) ≤ℤ number }
     requires high { number ≤ℤ (pos 100000000000 *ℤ pos divisor) }
-    ensures quotient { result ≡ floor_quotient number (divisor - 1) }
+    ensures quotient { result ≡ quotient_down number divisor }
 {
-    quotient_down(number, divisor) as i64
+    wide_quotient(number, divisor) as i64
 }
 
 /// The least whole number that isn't below the quotient.
@@ -26,7 +25,7 @@ pub fn quotient_up(number: i64, divisor: u8) -> i64
     requires positive { 0 < divisor }
     requires from { negsuc 49999999 ≤ℤ number }
     requires to { number ≤ℤ pos 50000000 }
-    ensures quotient { result ≡ ceiling_quotient number (divisor - 1) }
+    ensures quotient { result ≡ quotient_up_of number divisor }
 {
     -(-number).div_euclid(i64::from(divisor))
 }
@@ -36,7 +35,7 @@ pub fn quotient(number: i64, divisor: u16) -> i64
     requires positive { 0 < divisor }
     requires from { negsuc 49999999 ≤ℤ number }
     requires to { number ≤ℤ pos 50000000 }
-    ensures quotient { result ≡ floor_quotient number (divisor - 1) }
+    ensures quotient { result ≡ quotient_down number divisor }
 {
     number.div_euclid(i64::from(divisor))
 }
@@ -57,7 +56,7 @@ pub fn modulo(number: i64, divisor: u16) -> i64
     requires positive { 0 < divisor }
     requires from { negsuc 49999999 ≤ℤ number }
     requires to { number ≤ℤ pos 50000000 }
-    ensures number { result ≡ modulo_of number (divisor - 1) }
+    ensures number { result ≡ modulo_of number divisor }
     ensures from { pos 0 ≤ℤ result }
     ensures to { result <ℤ pos divisor }
 {
@@ -81,7 +80,7 @@ pub fn quotient_before(number: i64, divisor: u8) -> i64
     requires positive { 0 < divisor }
     requires from { negsuc 49999999 ≤ℤ number }
     requires to { number ≤ℤ pos 50000000 }
-    ensures quotient { result ≡ floor_quotient (number -ℤ pos 1) (divisor - 1) }
+    ensures quotient { result ≡ quotient_down (number -ℤ pos 1) divisor }
 {
     (number - 1).div_euclid(i64::from(divisor))
 }
@@ -91,7 +90,7 @@ pub fn amod(number: i64, divisor: u8) -> i64
     requires positive { 0 < divisor }
     requires from { negsuc 49999999 ≤ℤ number }
     requires to { number ≤ℤ pos 50000000 }
-    ensures number { result ≡ amod_of number (divisor - 1) }
+    ensures number { result ≡ amod_of number divisor }
     ensures from { pos 1 ≤ℤ result }
     ensures to { result ≤ℤ pos divisor }
 {

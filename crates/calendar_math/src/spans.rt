@@ -1,5 +1,5 @@
 //! Spans, as a year or a month, and their days. A span's length is an exact fraction, from one day to a thousand.
-ghost use Rattle.std.specs.Prelude.{◌≡◌, ◌<◌, ◌≤◌, ◌-◌, ◌^◌, pos, negsuc, ◌≤ℤ◌, ◌*ℤ◌};
+ghost use Rattle.std.specs.Prelude.{◌≡◌, ◌<◌, ◌≤◌, ◌^◌, pos, negsuc, ◌≤ℤ◌, ◌*ℤ◌};
 ghost use Rattle.book_model.specs.numbers.Fractions.{fraction_of};
 ghost use Rattle.book_model.specs.calendars.Spans.{ratio, days_of as days_of_spans, spans_of as spans_of_days, days_of_years as days_of_tropical_years, months_of_days as synodic_months_of, years_of_days as tropical_years_of};
 
@@ -37,7 +37,7 @@ pub fn days_of(span: Frac, num: i64, den: u16) -> i64
     requires from { negsuc 99999999 ≤ℤ num }
     requires to { num ≤ℤ pos 100000000 }
     requires over { 0 < den }
-    ensures days { result ≡ days_of_spans (fraction_of span) (ratio num (den - 1)) }
+    ensures days { result ≡ days_of_spans (fraction_of span) (ratio num den) }
 {
     quotient_within(product(num, parts_of(span)), span.den() * u64::from(den))
 }
@@ -53,7 +53,7 @@ pub fn spans_of(span: Frac, days: i64, num: i64, den: u16) -> i64
     requires from { negsuc 99999999 ≤ℤ num }
     requires to { num ≤ℤ pos 100000000 }
     requires over { 0 < den }
-    ensures spans { result ≡ spans_of_days (fraction_of span) days (ratio num (den - 1)) }
+    ensures spans { result ≡ spans_of_days (fraction_of span) days (ratio num den) }
 {
     let parts = parts_of(span);
     let whole = product(days, span.den() * u64::from(den));

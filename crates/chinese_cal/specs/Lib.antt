@@ -1,2 +1,4 @@
 pub mod Dates
 pub mod Days
+pub mod Keeping
+pub mod Walks

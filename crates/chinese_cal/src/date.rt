@@ -1,14 +1,15 @@
 //! Chinese dates, and the date of a day. Days are R.D.
 ghost use Rattle.std.specs.Prelude.{◌≡◌, ◌≤ℤ◌, ◌+ℤ◌, ◌-ℤ◌, pos, negsuc};
-ghost use Rattle.exact_math.specs.Fraction.{floor_quotient};
-ghost use Rattle.book_model.specs.calendars.Chinese.{elapsed_years as years_elapsed, fields_by, date_in as date_of_month, chinese_on};
+ghost use Rattle.book_model.specs.calendars.Chinese.{elapsed_years as years_elapsed, fields_by, date_in_month as date_of_month, chinese_on};
 ghost use Rattle.book_model.specs.calendars.Inquiries.{to_32_bits as to_32_bits_of, to_8_bits as to_8_bits_of};
-ghost use Rattle.book_model.specs.calendars.Spans.{amod as amod_of};
+ghost use Rattle.book_model.specs.calendars.Spans.{quotient_down, amod as amod_of};
 ghost use Rattle.chinese_cal.specs.Dates.{fields_of_date};
 ghost use Rattle.chinese_cal.specs.Days.{IsNearDay, IsNearMonth};
+ghost use Rattle.chinese_cal.specs.Keeping.{Keeps};
 ghost use Rattle.oracle_core.specs.Inquiring.{Inquires, map_ok};
 
-use crate::months::month_of;
+use crate::kept::Kept;
+use crate::months::month_holding;
 use book_model::{CHINESE_EPOCH, ChineseMonth, TROPICAL_YEAR};
 use calendar_math::{amod, quotient_before, spans_of, to_8_bits, to_32_bits};
 use oracle_core::{Oracle, Stop};
@@ -43,7 +44,7 @@ fn elapsed_years(day: i64, month: i64) -> i64
 fn cycle_of(years: i64) -> i32
     requires low { negsuc 99999 ≤ℤ years }
     requires high { years ≤ℤ pos 100000 }
-    ensures cycle { result ≡ to_32_bits_of (floor_quotient (years -ℤ pos 1) 59 +ℤ pos 1) }
+    ensures cycle { result ≡ to_32_bits_of (quotient_down (years -ℤ pos 1) 60 +ℤ pos 1) }
 {
     to_32_bits(quotient_before(years, CYCLE) + 1)
 }
@@ -52,7 +53,7 @@ fn cycle_of(years: i64) -> i32
 fn year_in_cycle(years: i64) -> u8
     requires low { negsuc 99999 ≤ℤ years }
     requires high { years ≤ℤ pos 100000 }
-    ensures year { pos result ≡ amod_of years 59 }
+    ensures year { pos result ≡ amod_of years 60 }
 {
     amod(years, CYCLE) as u8
 }
@@ -92,13 +93,30 @@ fn date_by(day: i64, month: ChineseMonth, years: i64) -> ChineseDate
 }
 
 /// The date of a day by its month.
-#[tactic(auto, unfolding(book_model::specs::calendars::Chinese::date_in))]
-fn date_in(day: i64, month: ChineseMonth) -> ChineseDate
+#[tactic(auto, unfolding(book_model::specs::calendars::Chinese::date_in_month))]
+fn date_in_month(day: i64, month: ChineseMonth) -> ChineseDate
     requires near { IsNearDay day }
     requires month_near { IsNearMonth month }
     ensures date { fields_of_date result ≡ date_of_month day month }
 {
     date_by(day, month, elapsed_years(day, month.number))
+}
+
+/// The date of a day, beside what is kept. It stops where the oracle stops.
+#[tactic(auto, using(oracle_core::proofs::Inquiring::asking), unfolding(book_model::specs::calendars::Chinese::chinese_on))]
+pub(crate) fn date_beside<O: Oracle>(
+    oracle: &mut O,
+    kept: &mut Kept,
+    day: i64,
+) -> Result<ChineseDate, Stop>
+    requires kept { Keeps O.meaning (O.state oracle.old) kept.old }
+    requires near { IsNearDay day }
+    ensures date { Inquires O.meaning (chinese_on day) (O.state oracle.old) (O.state oracle.new)
+        (map_ok fields_of_date result) }
+    ensures kept { Keeps O.meaning (O.state oracle.new) kept.new }
+{
+    let month = month_holding(oracle, kept, day)?;
+    Ok(date_in_month(day, month))
 }
 
 /// The date of a day (R.D.): the month that begins with the last new moon before the day ends in Beijing, numbered from the
@@ -113,12 +131,11 @@ fn date_in(day: i64, month: ChineseMonth) -> ChineseDate
 /// let date = chinese_cal::from_fixed(&mut oracle, 740_018)?;
 /// // ChineseDate { cycle: 78, year: 44, month: 1, leap: false, day: 1 }
 /// ```
-#[tactic(auto, using(oracle_core::proofs::Inquiring::asking), unfolding(book_model::specs::calendars::Chinese::chinese_on))]
+#[tactic(auto, using(crate::proofs::KeptLemmas::empty_kept))]
 pub fn from_fixed<O: Oracle>(oracle: &mut O, day: i64) -> Result<ChineseDate, Stop>
     requires near { IsNearDay day }
     ensures date { Inquires O.meaning (chinese_on day) (O.state oracle.old) (O.state oracle.new)
         (map_ok fields_of_date result) }
 {
-    let month = month_of(oracle, day)?;
-    Ok(date_in(day, month))
+    date_beside(oracle, &mut Kept::new(), day)
 }

@@ -3,10 +3,13 @@ ghost use Rattle.std.specs.Prelude.{◌≡◌, ◌≤◌, ◌≤ℤ◌, ◌+ℤ�
 ghost use Rattle.book_model.specs.calendars.Chinese as spec;
 ghost use Rattle.book_model.specs.sky.Facts.{IsFactValue};
 ghost use Rattle.chinese_cal.specs.Dates.{fields_of_date};
+ghost use Rattle.chinese_cal.specs.Keeping.{Keeps};
 ghost use Rattle.oracle_core.specs.Inquiring.{Inquires};
 
-use crate::date::{ChineseDate, from_fixed};
+use crate::asks::ask_kept;
+use crate::date::{ChineseDate, date_beside};
 use crate::facts::{moon_after, moon_from};
+use crate::kept::Kept;
 use crate::years::{middle_of_year, new_year_by_day};
 use book_model::Fact;
 use oracle_core::{Oracle, Stop};
@@ -21,52 +24,38 @@ fn moon_of_month(new_year: i64, month: u8) -> Fact
     moon_from(new_year + 29 * (i64::from(month) - 1))
 }
 
-/// Whether a date is in a month of this number, which is a leap month or isn't.
-fn is_in_month(date: ChineseDate, month: u8, leap: bool) -> bool
-    ensures same { result ≡ spec.is_in_month (pos month) (spec.flag leap) (fields_of_date date) }
+/// Whether a date has this month, which is a leap month or isn't.
+fn has_month(date: ChineseDate, month: u8, leap: bool) -> bool
+    ensures same { result ≡ spec.has_month (pos month) (spec.flag leap) (fields_of_date date) }
 {
     date.month == month && date.leap == leap
-}
-
-/// The first day of a month, which is this one or the next after it, given the date of this one. It stops where the oracle stops.
-#[tactic(auto, using(oracle_core::proofs::Inquiring::asking), unfolding(book_model::specs::calendars::Chinese::or_next_month))]
-fn or_next_month<O: Oracle>(
-    oracle: &mut O,
-    month: u8,
-    leap: bool,
-    first: i64,
-    date: ChineseDate,
-) -> Result<i64, Stop>
-    requires value { IsFactValue first }
-    ensures day { Inquires O.meaning (spec.or_next_month (pos month) (spec.flag leap) first
-        (fields_of_date date)) (O.state oracle.old) (O.state oracle.new) result }
-    ensures value { IfOk result IsFactValue }
-{
-    if is_in_month(date, month, leap) {
-        Ok(first)
-    } else {
-        oracle.ask(moon_after(first))
-    }
 }
 
 /// The first day of a month of a year. It stops where the oracle stops.
 #[tactic(auto, using(oracle_core::proofs::Inquiring::asking), unfolding(book_model::specs::calendars::Chinese::month_beginning))]
 fn month_beginning<O: Oracle>(
     oracle: &mut O,
+    kept: &mut Kept,
     new_year: i64,
     month: u8,
     leap: bool,
 ) -> Result<i64, Stop>
+    requires kept { Keeps O.meaning (O.state oracle.old) kept.old }
     requires new_year_value { IsFactValue new_year }
     requires from { 1 ≤ month }
     requires to { month ≤ 12 }
     ensures day { Inquires O.meaning (spec.month_beginning new_year (pos month) (spec.flag leap))
         (O.state oracle.old) (O.state oracle.new) result }
     ensures value { IfOk result IsFactValue }
+    ensures kept { Keeps O.meaning (O.state oracle.new) kept.new }
 {
-    let first = oracle.ask(moon_of_month(new_year, month))?;
-    let date = from_fixed(oracle, first)?;
-    or_next_month(oracle, month, leap, first, date)
+    let first = ask_kept(oracle, kept, moon_of_month(new_year, month))?;
+    let date = date_beside(oracle, kept, first)?;
+    if has_month(date, month, leap) {
+        Ok(first)
+    } else {
+        ask_kept(oracle, kept, moon_after(first))
+    }
 }
 
 /// A day of the month that begins on a day.
@@ -88,7 +77,7 @@ fn day_of_month(first: i64, day: u8) -> i64
 /// let date = ChineseDate { cycle: 78, year: 44, month: 1, leap: false, day: 1 };
 /// let day = chinese_cal::to_fixed(&mut oracle, date)?; // 740_018, which is 6 February 2027
 /// ```
-#[tactic(auto, using(oracle_core::proofs::Inquiring::asking), unfolding(book_model::specs::calendars::Chinese::chinese_day))]
+#[tactic(auto, using(oracle_core::proofs::Inquiring::asking, crate::proofs::KeptLemmas::empty_kept), unfolding(book_model::specs::calendars::Chinese::chinese_day))]
 pub fn to_fixed<O: Oracle>(oracle: &mut O, date: ChineseDate) -> Result<i64, Stop>
     requires from_4438 { pos 4438 ≤ℤ (pos 60 *ℤ (date.cycle -ℤ pos 1) +ℤ pos date.year) }
     requires to_4685 { (pos 60 *ℤ (date.cycle -ℤ pos 1) +ℤ pos date.year) ≤ℤ pos 4685 }
@@ -99,8 +88,9 @@ pub fn to_fixed<O: Oracle>(oracle: &mut O, date: ChineseDate) -> Result<i64, Sto
     ensures day { Inquires O.meaning (spec.chinese_day date.cycle (pos date.year) (pos date.month)
         (spec.flag date.leap) (pos date.day)) (O.state oracle.old) (O.state oracle.new) result }
 {
+    let mut kept = Kept::new();
     let middle = middle_of_year(i64::from(date.cycle), i64::from(date.year));
-    let new_year = new_year_by_day(oracle, middle)?;
-    let first = month_beginning(oracle, new_year, date.month, date.leap)?;
+    let new_year = new_year_by_day(oracle, &mut kept, middle)?;
+    let first = month_beginning(oracle, &mut kept, new_year, date.month, date.leap)?;
     Ok(day_of_month(first, date.day))
 }

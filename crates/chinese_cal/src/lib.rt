@@ -5,15 +5,19 @@
 //! the first day of a year, `day` the day of a date; `fields` has dates as the fields of a line.
 #![tactic(auto)]
 
+mod asks;
 mod date;
 mod day;
 mod facts;
 mod fields;
+mod kept;
 mod leap_months;
 mod months;
+mod months_back;
 mod sui;
 #[cfg(test)]
 mod tests;
+mod walk;
 mod years;
 
 pub use date::{ChineseDate, from_fixed};

@@ -1,11 +1,14 @@
 //! The month in which a day falls. Days are R.D.
 ghost use Rattle.std.specs.Prelude.{◌≡◌, ◌≤ℤ◌, ◌-ℤ◌, pos, negsuc, IfOk};
-ghost use Rattle.book_model.specs.calendars.Chinese.{flag, months_between, month_number as number_of_month, month_by as month_with, month_in as month_of_sui, month_of as month_on};
+ghost use Rattle.book_model.specs.calendars.Chinese.{flag, months_between, month_number as number_of_month, month_by as month_with, month_in as month_of_sui, month_holding as month_on};
 ghost use Rattle.book_model.specs.sky.Facts.{IsFactValue};
 ghost use Rattle.chinese_cal.specs.Days.{IsNearDay, IsNearMonth, IsNearSui};
+ghost use Rattle.chinese_cal.specs.Keeping.{Keeps};
 ghost use Rattle.oracle_core.specs.Inquiring.{Inquires};
 
+use crate::asks::ask_kept;
 use crate::facts::moon_until;
+use crate::kept::Kept;
 use crate::leap_months::{is_from_leap_month, is_leap_month};
 use crate::sui::{is_leap_sui, months_from_to, sui_of};
 use book_model::{ChineseMonth, Sui};
@@ -64,31 +67,40 @@ fn month_by(first: i64, month: i64, from_leap: bool, is_leap: bool) -> ChineseMo
 #[tactic(auto, using(oracle_core::proofs::Inquiring::asking), unfolding(book_model::specs::calendars::Chinese::month_in))]
 fn month_in<O: Oracle>(
     oracle: &mut O,
+    kept: &mut Kept,
     sui: Sui,
     leap_sui: bool,
     month: i64,
 ) -> Result<ChineseMonth, Stop>
+    requires kept { Keeps O.meaning (O.state oracle.old) kept.old }
     requires sui_near { IsNearSui sui }
     requires near { IsFactValue month }
     ensures month { Inquires O.meaning (month_of_sui sui leap_sui month) (O.state oracle.old)
         (O.state oracle.new) result }
     ensures near { IfOk result IsNearMonth }
+    ensures kept { Keeps O.meaning (O.state oracle.new) kept.new }
 {
-    let from_leap = is_from_leap_month(oracle, leap_sui, sui.first_month, month)?;
-    let is_leap = is_leap_month(oracle, leap_sui, sui.first_month, month)?;
+    let from_leap = is_from_leap_month(oracle, kept, leap_sui, sui.first_month, month)?;
+    let is_leap = is_leap_month(oracle, kept, leap_sui, sui.first_month, month)?;
     Ok(month_by(sui.first_month, month, from_leap, is_leap))
 }
 
 /// The month in which a day falls. It stops where the oracle stops.
-#[tactic(auto, using(oracle_core::proofs::Inquiring::asking), unfolding(book_model::specs::calendars::Chinese::month_of))]
-pub(crate) fn month_of<O: Oracle>(oracle: &mut O, day: i64) -> Result<ChineseMonth, Stop>
+#[tactic(auto, using(oracle_core::proofs::Inquiring::asking), unfolding(book_model::specs::calendars::Chinese::month_holding))]
+pub(crate) fn month_holding<O: Oracle>(
+    oracle: &mut O,
+    kept: &mut Kept,
+    day: i64,
+) -> Result<ChineseMonth, Stop>
+    requires kept { Keeps O.meaning (O.state oracle.old) kept.old }
     requires near { IsNearDay day }
     ensures month { Inquires O.meaning (month_on day) (O.state oracle.old)
         (O.state oracle.new) result }
     ensures near { IfOk result IsNearMonth }
+    ensures kept { Keeps O.meaning (O.state oracle.new) kept.new }
 {
-    let sui = sui_of(oracle, day)?;
-    let leap_sui = is_leap_sui(oracle, sui)?;
-    let month = oracle.ask(moon_until(day))?;
-    month_in(oracle, sui, leap_sui, month)
+    let sui = sui_of(oracle, kept, day)?;
+    let leap_sui = is_leap_sui(oracle, kept, sui)?;
+    let month = ask_kept(oracle, kept, moon_until(day))?;
+    month_in(oracle, kept, sui, leap_sui, month)
 }

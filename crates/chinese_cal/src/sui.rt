@@ -3,9 +3,12 @@ ghost use Rattle.std.specs.Prelude.{◌≡◌, ◌≤ℤ◌, pos, negsuc, IfOk};
 ghost use Rattle.std.specs.Ordering.{int_eq};
 ghost use Rattle.book_model.specs.calendars.Chinese.{months_between, sui_of as sui_on, is_leap_sui as is_leap};
 ghost use Rattle.chinese_cal.specs.Days.{IsNearDay, IsNearSui};
+ghost use Rattle.chinese_cal.specs.Keeping.{Keeps};
 ghost use Rattle.oracle_core.specs.Inquiring.{Inquires};
 
+use crate::asks::ask_kept;
 use crate::facts::{moon_after, moon_until, next_solstice, solstice_on};
+use crate::kept::Kept;
 use book_model::Sui;
 use calendar_math::months_of_days;
 use oracle_core::{Oracle, Stop};
@@ -34,14 +37,16 @@ fn are_twelve_apart(from: i64, to: i64) -> bool
 /// The sui in which a day falls. It stops where the oracle stops, at one of the two solstices or at the new moon after the
 /// first.
 #[tactic(auto, using(oracle_core::proofs::Inquiring::asking), unfolding(book_model::specs::calendars::Chinese::sui_of))]
-pub(crate) fn sui_of<O: Oracle>(oracle: &mut O, day: i64) -> Result<Sui, Stop>
+pub(crate) fn sui_of<O: Oracle>(oracle: &mut O, kept: &mut Kept, day: i64) -> Result<Sui, Stop>
+    requires kept { Keeps O.meaning (O.state oracle.old) kept.old }
     requires near { IsNearDay day }
     ensures sui { Inquires O.meaning (sui_on day) (O.state oracle.old) (O.state oracle.new) result }
     ensures near { IfOk result IsNearSui }
+    ensures kept { Keeps O.meaning (O.state oracle.new) kept.new }
 {
-    let solstice = oracle.ask(solstice_on(day))?;
-    let next = oracle.ask(next_solstice(solstice))?;
-    let first = oracle.ask(moon_after(solstice))?;
+    let solstice = ask_kept(oracle, kept, solstice_on(day))?;
+    let next = ask_kept(oracle, kept, next_solstice(solstice))?;
+    let first = ask_kept(oracle, kept, moon_after(solstice))?;
     Ok(Sui {
         first_month: first,
         next_solstice: next,
@@ -51,10 +56,16 @@ pub(crate) fn sui_of<O: Oracle>(oracle: &mut O, day: i64) -> Result<Sui, Stop>
 /// Whether a sui has thirteen months, the two of its solstices counted as one. It stops where the oracle stops, at the month
 /// of the second solstice.
 #[tactic(auto, using(oracle_core::proofs::Inquiring::asking), unfolding(book_model::specs::calendars::Chinese::is_leap_sui))]
-pub(crate) fn is_leap_sui<O: Oracle>(oracle: &mut O, sui: Sui) -> Result<bool, Stop>
+pub(crate) fn is_leap_sui<O: Oracle>(
+    oracle: &mut O,
+    kept: &mut Kept,
+    sui: Sui,
+) -> Result<bool, Stop>
+    requires kept { Keeps O.meaning (O.state oracle.old) kept.old }
     requires near { IsNearSui sui }
     ensures leap { Inquires O.meaning (is_leap sui) (O.state oracle.old) (O.state oracle.new) result }
+    ensures kept { Keeps O.meaning (O.state oracle.new) kept.new }
 {
-    let eleventh = oracle.ask(moon_until(sui.next_solstice))?;
+    let eleventh = ask_kept(oracle, kept, moon_until(sui.next_solstice))?;
     Ok(are_twelve_apart(sui.first_month, eleventh))
 }

@@ -3,128 +3,98 @@ ghost use Rattle.std.specs.Prelude.{◌≡◌, ◌≤ℤ◌, ◌+ℤ◌, ◌-ℤ
 ghost use Rattle.book_model.specs.calendars.Chinese as spec;
 ghost use Rattle.book_model.specs.sky.Facts.{IsFactValue};
 ghost use Rattle.chinese_cal.specs.Days.{IsNearDay, IsNearSui};
+ghost use Rattle.chinese_cal.specs.Keeping.{Keeps};
 ghost use Rattle.oracle_core.specs.Inquiring.{Inquires};
 
+use crate::asks::ask_kept;
 use crate::facts::moon_after;
-use crate::leap_months::{has_no_major_term, or_no_major_term};
+use crate::kept::Kept;
 use crate::sui::{is_leap_sui, sui_of};
+use crate::walk::is_bare;
 use book_model::{CHINESE_EPOCH, Sui, TROPICAL_YEAR};
 use calendar_math::days_of;
 use oracle_core::{Oracle, Stop};
-
-/// Whether one of the first two months of a sui has no major solar term. It stops where the oracle stops.
-#[tactic(auto, using(oracle_core::proofs::Inquiring::asking), unfolding(book_model::specs::calendars::Chinese::has_early_leap_month))]
-fn has_early_leap_month<O: Oracle>(oracle: &mut O, first: i64, second: i64) -> Result<bool, Stop>
-    requires first_near { IsNearDay first }
-    requires second_near { IsNearDay second }
-    ensures early { Inquires O.meaning (spec.has_early_leap_month first second) (O.state oracle.old)
-        (O.state oracle.new) result }
-{
-    let without = has_no_major_term(oracle, first)?;
-    or_no_major_term(oracle, second, without)
-}
 
 /// Whether the leap month of a sui is one of its first two, given whether it has one. It stops where the oracle stops.
 #[tactic(auto, using(oracle_core::proofs::Inquiring::asking), unfolding(book_model::specs::calendars::Chinese::is_leap_at_start))]
 fn is_leap_at_start<O: Oracle>(
     oracle: &mut O,
+    kept: &mut Kept,
     leap_sui: bool,
     first: i64,
     second: i64,
 ) -> Result<bool, Stop>
+    requires kept { Keeps O.meaning (O.state oracle.old) kept.old }
     requires first_near { IsNearDay first }
     requires second_near { IsNearDay second }
     ensures early { Inquires O.meaning (spec.is_leap_at_start leap_sui first second)
         (O.state oracle.old) (O.state oracle.new) result }
+    ensures kept { Keeps O.meaning (O.state oracle.new) kept.new }
 {
-    if leap_sui {
-        has_early_leap_month(oracle, first, second)
-    } else {
-        Ok(false)
+    if !leap_sui {
+        return Ok(false);
     }
+    if is_bare(oracle, kept, first)? {
+        return Ok(true);
+    }
+    is_bare(oracle, kept, second)
 }
 
-/// The second month of a sui, or the one after it. It stops where the oracle stops.
-#[tactic(auto, using(oracle_core::proofs::Inquiring::asking), unfolding(book_model::specs::calendars::Chinese::new_year_after))]
-fn new_year_after<O: Oracle>(oracle: &mut O, second: i64, late: bool) -> Result<i64, Stop>
-    requires second_value { IsFactValue second }
-    ensures day { Inquires O.meaning (spec.new_year_after second late) (O.state oracle.old)
+/// The first day of the year that begins in the sui of a day: its second month, or the one after where the leap month is one of
+/// the first two. It stops where the oracle stops.
+#[tactic(auto, using(oracle_core::proofs::Inquiring::asking), unfolding(book_model::specs::calendars::Chinese::new_year_in_sui))]
+fn new_year_in_sui<O: Oracle>(oracle: &mut O, kept: &mut Kept, day: i64) -> Result<i64, Stop>
+    requires kept { Keeps O.meaning (O.state oracle.old) kept.old }
+    requires near { IsNearDay day }
+    ensures day { Inquires O.meaning (spec.new_year_in_sui day) (O.state oracle.old)
         (O.state oracle.new) result }
     ensures value { IfOk result IsFactValue }
+    ensures kept { Keeps O.meaning (O.state oracle.new) kept.new }
 {
-    if late {
-        oracle.ask(moon_after(second))
+    let sui = sui_of(oracle, kept, day)?;
+    let second = ask_kept(oracle, kept, moon_after(sui.first_month))?;
+    let leap_sui = is_leap_sui(oracle, kept, sui)?;
+    if is_leap_at_start(oracle, kept, leap_sui, sui.first_month, second)? {
+        ask_kept(oracle, kept, moon_after(second))
     } else {
         Ok(second)
     }
 }
 
-/// The first day of the year that begins in a sui, given its second month. It stops where the oracle stops.
-#[tactic(auto, using(oracle_core::proofs::Inquiring::asking), unfolding(book_model::specs::calendars::Chinese::new_year_by))]
-fn new_year_by<O: Oracle>(oracle: &mut O, sui: Sui, second: i64) -> Result<i64, Stop>
-    requires near { IsNearSui sui }
-    requires second_value { IsFactValue second }
-    ensures day { Inquires O.meaning (spec.new_year_by sui second) (O.state oracle.old)
-        (O.state oracle.new) result }
-    ensures value { IfOk result IsFactValue }
-{
-    let leap_sui = is_leap_sui(oracle, sui)?;
-    let late = is_leap_at_start(oracle, leap_sui, sui.first_month, second)?;
-    new_year_after(oracle, second, late)
-}
-
-/// The first day of the year that begins in the sui of a day. It stops where the oracle stops.
-#[tactic(auto, using(oracle_core::proofs::Inquiring::asking), unfolding(book_model::specs::calendars::Chinese::new_year_in_sui))]
-fn new_year_in_sui<O: Oracle>(oracle: &mut O, day: i64) -> Result<i64, Stop>
-    requires near { IsNearDay day }
-    ensures day { Inquires O.meaning (spec.new_year_in_sui day) (O.state oracle.old)
-        (O.state oracle.new) result }
-    ensures value { IfOk result IsFactValue }
-{
-    let sui = sui_of(oracle, day)?;
-    let second = oracle.ask(moon_after(sui.first_month))?;
-    new_year_by(oracle, sui, second)
-}
-
 /// The same, half a year before a day.
-fn new_year_before<O: Oracle>(oracle: &mut O, day: i64) -> Result<i64, Stop>
+fn new_year_before<O: Oracle>(oracle: &mut O, kept: &mut Kept, day: i64) -> Result<i64, Stop>
+    requires kept { Keeps O.meaning (O.state oracle.old) kept.old }
     requires from { pos 0 ≤ℤ day }
     requires to { day ≤ℤ pos 10000000 }
     ensures day { Inquires O.meaning (spec.new_year_in_sui (day -ℤ pos 180)) (O.state oracle.old)
         (O.state oracle.new) result }
     ensures value { IfOk result IsFactValue }
+    ensures kept { Keeps O.meaning (O.state oracle.new) kept.new }
 {
-    new_year_in_sui(oracle, day - 180)
-}
-
-/// A first day of a year, or the one before where it comes after a day. It stops where the oracle stops.
-#[tactic(auto, using(oracle_core::proofs::Inquiring::asking), unfolding(book_model::specs::calendars::Chinese::or_year_before))]
-fn or_year_before<O: Oracle>(oracle: &mut O, day: i64, new_year: i64) -> Result<i64, Stop>
-    requires from { pos 0 ≤ℤ day }
-    requires to { day ≤ℤ pos 10000000 }
-    requires new_year_value { IsFactValue new_year }
-    ensures day { Inquires O.meaning (spec.or_year_before day new_year) (O.state oracle.old)
-        (O.state oracle.new) result }
-    ensures value { IfOk result IsFactValue }
-{
-    if day < new_year {
-        new_year_before(oracle, day)
-    } else {
-        Ok(new_year)
-    }
+    new_year_in_sui(oracle, kept, day - 180)
 }
 
 /// The first day of the year in which a day falls. It stops where the oracle stops.
 #[tactic(auto, using(oracle_core::proofs::Inquiring::asking), unfolding(book_model::specs::calendars::Chinese::new_year_by_day))]
-pub(crate) fn new_year_by_day<O: Oracle>(oracle: &mut O, day: i64) -> Result<i64, Stop>
+pub(crate) fn new_year_by_day<O: Oracle>(
+    oracle: &mut O,
+    kept: &mut Kept,
+    day: i64,
+) -> Result<i64, Stop>
+    requires kept { Keeps O.meaning (O.state oracle.old) kept.old }
     requires from { pos 0 ≤ℤ day }
     requires to { day ≤ℤ pos 10000000 }
     ensures day { Inquires O.meaning (spec.new_year_by_day day) (O.state oracle.old)
         (O.state oracle.new) result }
     ensures value { IfOk result IsFactValue }
+    ensures kept { Keeps O.meaning (O.state oracle.new) kept.new }
 {
-    let new_year = new_year_in_sui(oracle, day)?;
-    or_year_before(oracle, day, new_year)
+    let new_year = new_year_in_sui(oracle, kept, day)?;
+    if day < new_year {
+        new_year_before(oracle, kept, day)
+    } else {
+        Ok(new_year)
+    }
 }
 
 /// The days from the epoch to the middle of a year, which counts from 1.

@@ -9,11 +9,11 @@ use Rattle.book_model.specs.numbers.Fractions.{fraction_of}
 use Rattle.book_model.specs.calendars.Spans.{days_of, ratio}
 use Rattle.calendar_math.proofs.SpanLemmas.{LiesWithin}
 
-days_are : (twelfths : ℤ) → days_of (fraction_of SIDEREAL_YEAR) (ratio twelfths 11) ≡ floor_quotient (pos 36525636 *ℤ twelfths) 1199999
+days_are : (twelfths : ℤ) → days_of (fraction_of SIDEREAL_YEAR) (ratio twelfths 12) ≡ floor_quotient (pos 36525636 *ℤ twelfths) 1199999
 unfolding days_of times
 days_are twelfths = refl
 
-pub days_near : (twelfths : ℤ) → pos 0 ≤ℤ twelfths → twelfths ≤ℤ pos 100000 → LiesWithin (pos 0) (pos 5000000) (days_of (fraction_of SIDEREAL_YEAR) (ratio twelfths 11))
+pub days_near : (twelfths : ℤ) → pos 0 ≤ℤ twelfths → twelfths ≤ℤ pos 100000 → LiesWithin (pos 0) (pos 5000000) (days_of (fraction_of SIDEREAL_YEAR) (ratio twelfths 12))
 days_near twelfths h k =
     let f = floor_quotient_is (pos 36525636 *ℤ twelfths) 1199999 in
     let e = days_are twelfths in

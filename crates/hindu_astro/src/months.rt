@@ -12,7 +12,7 @@ use calendar_math::days_of;
 fn days_of_twelfths(twelfths: i64) -> i64
     requires low { pos 0 ≤ℤ twelfths }
     requires high { twelfths ≤ℤ pos 100000 }
-    ensures days { result ≡ days_of_spans (fraction_of year_of_days) (ratio twelfths 11) }
+    ensures days { result ≡ days_of_spans (fraction_of year_of_days) (ratio twelfths 12) }
     ensures from { pos 0 ≤ℤ result }
     ensures to { result ≤ℤ pos 5000000 }
 {

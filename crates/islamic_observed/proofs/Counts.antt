@@ -12,11 +12,11 @@ use Rattle.book_model.specs.calendars.Spans.{days_of, nearest, months_of_days, r
 use Rattle.calendar_math.proofs.SpanLemmas.{LiesWithin}
 
 -- the days of a count of half months as a quotient of whole numbers
-days_are : (halves : ℤ) → days_of (fraction_of SYNODIC_MONTH) (ratio halves 1) ≡ floor_quotient (pos 29530588861 *ℤ halves) 1999999999
+days_are : (halves : ℤ) → days_of (fraction_of SYNODIC_MONTH) (ratio halves 2) ≡ floor_quotient (pos 29530588861 *ℤ halves) 1999999999
 unfolding days_of times
 days_are halves = refl
 
-pub days_near : (halves : ℤ) → pos 1 ≤ℤ halves → halves ≤ℤ pos 40000 → LiesWithin (pos 0) (pos 1000000) (days_of (fraction_of SYNODIC_MONTH) (ratio halves 1))
+pub days_near : (halves : ℤ) → pos 1 ≤ℤ halves → halves ≤ℤ pos 40000 → LiesWithin (pos 0) (pos 1000000) (days_of (fraction_of SYNODIC_MONTH) (ratio halves 2))
 days_near halves h k =
     let f = floor_quotient_is (pos 29530588861 *ℤ halves) 1999999999 in
     let e = days_are halves in

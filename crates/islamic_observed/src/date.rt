@@ -1,10 +1,9 @@
 //! Islamic dates, and the facts that they are found by. Days are R.D.
 ghost use Rattle.std.specs.Prelude.{◌≡◌, ◌≤◌, ◌≤ℤ◌, ◌+ℤ◌, ◌-ℤ◌, pos, negsuc};
-ghost use Rattle.exact_math.specs.Fraction.{floor_quotient};
 ghost use Rattle.book_model.specs.sky.Facts.{IsFactValue};
 ghost use Rattle.book_model.specs.calendars.Inquiries.{to_32_bits as to_32_bits_of};
 ghost use Rattle.book_model.specs.calendars.Islamic as spec;
-ghost use Rattle.book_model.specs.calendars.Spans.{modulo as modulo_of};
+ghost use Rattle.book_model.specs.calendars.Spans.{quotient_down, modulo as modulo_of};
 ghost use Rattle.islamic_observed.specs.Dates.{fields_of_date};
 ghost use Rattle.islamic_observed.specs.Months.{IsNearMonth};
 ghost use Rattle.oracle_core.specs.Inquiring.{Inquires, map_ok};
@@ -24,7 +23,7 @@ pub struct IslamicDate {
 /// The year, where so many months have passed.
 fn year_of(passed: i64) -> i32
     requires near { IsNearMonth passed }
-    ensures year { result ≡ to_32_bits_of (floor_quotient passed 11 +ℤ pos 1) }
+    ensures year { result ≡ to_32_bits_of (quotient_down passed 12 +ℤ pos 1) }
 {
     to_32_bits(quotient(passed, 12) + 1)
 }
@@ -32,7 +31,7 @@ fn year_of(passed: i64) -> i32
 /// The month of its year, where so many months have passed.
 fn month_of(passed: i64) -> u8
     requires near { IsNearMonth passed }
-    ensures month { pos result ≡ modulo_of passed 11 +ℤ pos 1 }
+    ensures month { pos result ≡ modulo_of passed 12 +ℤ pos 1 }
 {
     (modulo(passed, 12) + 1) as u8
 }

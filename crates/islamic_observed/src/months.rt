@@ -43,7 +43,7 @@ fn half_months_to(year: i64, month: i64) -> i64
 fn days_of_halves(halves: i64) -> i64
     requires low { pos 1 ≤ℤ halves }
     requires high { halves ≤ℤ pos 40000 }
-    ensures days { result ≡ days_of_spans (fraction_of MonthOfDays) (ratio halves 1) }
+    ensures days { result ≡ days_of_spans (fraction_of MonthOfDays) (ratio halves 2) }
     ensures from { pos 0 ≤ℤ result }
     ensures to { result ≤ℤ pos 1000000 }
 {

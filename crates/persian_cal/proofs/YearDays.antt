@@ -6,7 +6,7 @@ use lib.IntN.{neg_ℤ}
 use Rattle.exact_math.proofs.Floors.{floor_quotient_is}
 use Rattle.book_model.specs.calendars.Inquiries.{to_32_bits}
 use Rattle.book_model.specs.calendars.Persian.{days_before, month_of}
-use Rattle.book_model.specs.calendars.Spans.{ceiling_quotient}
+use Rattle.book_model.specs.calendars.Spans.{quotient_up}
 use Rattle.calendar_math.proofs.SpanLemmas.{LiesWithin}
 
 -- a year that a value of a fact begins is its own nearest number of 32 bits
@@ -18,17 +18,17 @@ pub twelve_months : (month : ℤ) → LiesWithin (pos 1) (pos 12) month → Lies
 twelve_months month h = record { from = grind (arith, ints, h.from, h.to); to = grind (arith, ints, h.from, h.to) }
 
 -- a day of the month is one of at most 31
-left_early : (number : ℤ) → number ≤ℤ pos 186 → LiesWithin (pos 1) (pos 31) (number -ℤ days_before (ceiling_quotient number 30))
+left_early : (number : ℤ) → number ≤ℤ pos 186 → LiesWithin (pos 1) (pos 31) (number -ℤ days_before (quotient_up number 31))
 left_early number h =
     let f = floor_quotient_is (neg_ℤ number) 30 in
     record { from = grind (arith, ints, f.not_above, f.close); to = grind (arith, ints, f.not_above, f.close) }
 
-left_late : (number : ℤ) → pos 187 ≤ℤ number → LiesWithin (pos 1) (pos 31) (number -ℤ days_before (ceiling_quotient (number -ℤ pos 6) 29))
+left_late : (number : ℤ) → pos 187 ≤ℤ number → LiesWithin (pos 1) (pos 31) (number -ℤ days_before (quotient_up (number -ℤ pos 6) 30))
 left_late number h =
     let f = floor_quotient_is (neg_ℤ (number -ℤ pos 6)) 29 in
     record { from = grind (arith, ints, f.not_above, f.close); to = grind (arith, ints, f.not_above, f.close) }
 
-left_as : (number : ℤ) (b : Bool) → int_le number (pos 186) ≡ b → LiesWithin (pos 1) (pos 31) (number -ℤ days_before (if b then ceiling_quotient number 30 else ceiling_quotient (number -ℤ pos 6) 29))
+left_as : (number : ℤ) (b : Bool) → int_le number (pos 186) ≡ b → LiesWithin (pos 1) (pos 31) (number -ℤ days_before (if b then quotient_up number 31 else quotient_up (number -ℤ pos 6) 30))
 left_as number true e = left_early number (grind (arith, ints))
 left_as number false e = left_late number (grind (arith, ints))
 

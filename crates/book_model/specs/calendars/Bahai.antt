@@ -4,7 +4,6 @@
 -- that their types don't hold stand at the nearest ends, so that the rules have an answer over every table.
 use Rattle.std.specs.Prelude.{if◌then◌else◌, [], ◌∷◌, ℤ, pos, ◌+ℤ◌, ◌-ℤ◌, ◌*ℤ◌, int_le}
 use Rattle.std.specs.Ordering.{int_eq}
-use Rattle.exact_math.specs.Fraction.{floor_quotient}
 use Rattle.book_model.specs.declared.calendar_tables.TheConstants.{BAHAI_EPOCH, TROPICAL_YEAR}
 use Rattle.book_model.specs.declared.fact.Fact.{Fact}
 use Rattle.book_model.specs.declared.fact.Kind.TheVariants.{BahaiYear}
@@ -12,7 +11,7 @@ use Rattle.book_model.specs.declared.fact.Place.TheVariants.{None as Nowhere}
 use Rattle.book_model.specs.declared.request.Fields.{Fields}
 use Rattle.book_model.specs.numbers.Fractions.{fraction_of}
 use Rattle.book_model.specs.calendars.Inquiries.{Inquiry, done, ask, to_32_bits, to_8_bits}
-use Rattle.book_model.specs.calendars.Spans.{days_of, modulo, ratio, years_of_days}
+use Rattle.book_model.specs.calendars.Spans.{days_of, modulo, quotient_down, ratio, years_of_days}
 
 -- the fact of the first day of the Bahá'í year that a day falls in
 abbrev pub bahai_fact : ℤ → Fact
@@ -20,7 +19,7 @@ bahai_fact day = record { kind = BahaiYear; place = Nowhere; day = day }
 
 -- the days from the epoch to the middle of the year before which so many have passed
 unfoldable pub days_to_middle : ℤ → ℤ
-days_to_middle passed = days_of (fraction_of TROPICAL_YEAR) (ratio (pos 2 *ℤ passed +ℤ pos 1) 1)
+days_to_middle passed = days_of (fraction_of TROPICAL_YEAR) (ratio (pos 2 *ℤ passed +ℤ pos 1) 2)
 
 -- a day in the middle of that year
 unfoldable pub middle_after : ℤ → ℤ
@@ -34,7 +33,7 @@ years_before first = years_of_days (first -ℤ BAHAI_EPOCH)
 -- its year and that of the next
 unfoldable pub month_of : (day first base next : ℤ) → ℤ
 month_of day first base next =
-    if int_le (next -ℤ pos 19) day then pos 19 else (if int_le (base +ℤ pos 342) day then pos 0 else floor_quotient (day -ℤ first) 18 +ℤ pos 1)
+    if int_le (next -ℤ pos 19) day then pos 19 else (if int_le (base +ℤ pos 342) day then pos 0 else quotient_down (day -ℤ first) 19 +ℤ pos 1)
 
 -- the day of the month
 unfoldable pub day_of : (day base next month : ℤ) → ℤ
@@ -44,7 +43,7 @@ day_of day base next month =
 -- major cycle, cycle, year, month and day, where so many years have passed since the epoch
 unfoldable pub date_in : (passed month day : ℤ) → Fields
 date_in passed month day =
-    record { count = 5; values = to_32_bits (floor_quotient passed 360 +ℤ pos 1) ∷ (floor_quotient (modulo passed 360) 18 +ℤ pos 1) ∷ (modulo passed 18 +ℤ pos 1) ∷ to_8_bits month ∷ to_8_bits day ∷ [] }
+    record { count = 5; values = to_32_bits (quotient_down passed 361 +ℤ pos 1) ∷ (quotient_down (modulo passed 361) 19 +ℤ pos 1) ∷ (modulo passed 19 +ℤ pos 1) ∷ to_8_bits month ∷ to_8_bits day ∷ [] }
 
 -- the date of a day by the first day that was asked of it, that of its year and that of the next
 unfoldable pub date_by : (day first base next : ℤ) → Fields

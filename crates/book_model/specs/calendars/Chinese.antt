@@ -1,11 +1,10 @@
 -- The Chinese calendar by the sky of Beijing: a month begins on the day of a new moon, the month of the winter solstice is
--- the eleventh, and where twelve months lie between two of these, the first that has no major solar term is a leap month.
+-- the eleventh, and where twelve months lie between two of these, the first that is bare, with no major solar term, is a leap month.
 -- Reingold and Dershowitz, Calendrical Calculations, chapter 19; Aslaksen, The Mathematics of the Chinese Calendar.
 -- The fields of a result that their types don't hold stand at the nearest ends, so that the rules have an answer over every
 -- table.
 use Rattle.std.specs.Prelude.{ℕ, zero, suc, ◌&&◌, if◌then◌else◌, Bool, true, false, not, [], ◌∷◌, ℤ, pos, ◌+ℤ◌, ◌-ℤ◌, ◌*ℤ◌, int_lt, slice_index_or}
 use Rattle.std.specs.Ordering.{int_eq}
-use Rattle.exact_math.specs.Fraction.{floor_quotient}
 use Rattle.book_model.specs.declared.calendar_tables.TheConstants.{CHINESE_EPOCH, TROPICAL_YEAR}
 use Rattle.book_model.specs.declared.chinese.ChineseMonth.{ChineseMonth}
 use Rattle.book_model.specs.declared.chinese.Sui.{Sui}
@@ -16,7 +15,7 @@ use Rattle.book_model.specs.declared.fact.Place.TheVariants.{Beijing}
 use Rattle.book_model.specs.declared.request.Fields.{Fields}
 use Rattle.book_model.specs.numbers.Fractions.{fraction_of}
 use Rattle.book_model.specs.calendars.Inquiries.{Inquiry, done, ask, and_then, to_32_bits, to_8_bits}
-use Rattle.book_model.specs.calendars.Spans.{amod, ratio, days_of, months_of_days, spans_of}
+use Rattle.book_model.specs.calendars.Spans.{amod, quotient_down, ratio, days_of, months_of_days, spans_of}
 
 -- ---- what is asked of the sky
 -- a fact of a day in Beijing
@@ -59,52 +58,39 @@ is_leap_sui sui =
     done (int_eq (months_between sui.first_month eleventh) (pos 12))
 
 -- ---- leap months
--- whether a month, by the day on which it begins, has no major solar term: the sun is at the same one when the next begins
-unfoldable pub has_no_major_term : ℤ → Inquiry Bool
-has_no_major_term month =
+-- whether a month, by the day on which it begins, is bare: no major solar term falls in it, so that the last one when it
+-- begins is still the last when the next month begins
+unfoldable pub bare : ℤ → Inquiry Bool
+bare month =
     ask (major_fact month) λ term.
     ask (moon_from_fact (month +ℤ pos 1)) λ next.
     ask (major_fact next) λ next_term.
     done (int_eq term next_term)
 
--- what is known already, or else whether the month has no major solar term
-unfoldable pub or_no_major_term : ℤ → Bool → Inquiry Bool
-or_no_major_term month known = if known then done true else has_no_major_term month
-
--- Whether a month, or one before it as far as the first month of a sui, has no major solar term. So many months are looked
--- at, and what lies further back counts as having one.
-unfoldable pub has_prior_leap_month : ℕ → ℤ → ℤ → Inquiry Bool
-has_prior_leap_month zero first month = done false
-has_prior_leap_month (suc calls) first month =
+-- Whether a month, or one before it as far as the first of its sui, is bare: those before it are asked first, and it itself
+-- only where none of them is. So many calls are made, and one more answers no.
+unfoldable pub prior : ℕ → ℤ → ℤ → Inquiry Bool
+prior zero first month = done false
+prior (suc calls) first month =
     if int_lt month first then done false else (
     ask (moon_before_fact month) λ before.
-    and_then (has_prior_leap_month calls first before) (or_no_major_term month))
+    and_then (prior calls first before) λ found.
+    if found then done true else bare month)
 
--- the same, of fifteen months: a sui has thirteen at most
-abbrev pub has_leap_month_by : ℤ → ℤ → Inquiry Bool
-has_leap_month_by first month = has_prior_leap_month 15 first month
-
--- whether a month of a sui is its leap month or comes after it, given whether the sui has one
+-- whether a month of a sui is its leap month or comes after it, given whether the sui has one: of fifteen months, since a sui
+-- has thirteen at most
 unfoldable pub is_from_leap_month : Bool → ℤ → ℤ → Inquiry Bool
-is_from_leap_month leap_sui first month = if leap_sui then has_leap_month_by first month else done false
+is_from_leap_month leap_sui first month = if leap_sui then prior 15 first month else done false
 
--- whether none of the months before a month of a sui has no major solar term
-unfoldable pub is_first_without : ℤ → ℤ → Inquiry Bool
-is_first_without first month =
-    ask (moon_before_fact month) λ before.
-    and_then (has_leap_month_by first before) λ found.
-    done (not found)
-
-unfoldable pub and_first_without : ℤ → ℤ → Bool → Inquiry Bool
-and_first_without first month without = if without then is_first_without first month else done false
-
--- whether a month is the first of a sui that has no major solar term
-unfoldable pub is_first_of_sui_without : ℤ → ℤ → Inquiry Bool
-is_first_of_sui_without first month = and_then (has_no_major_term month) (and_first_without first month)
-
--- whether a month of a sui is its leap month, given whether the sui has one: the first that has no major solar term
+-- whether a month of a sui is its leap month, given whether the sui has one: it is bare, and none before it is
 unfoldable pub is_leap_month : Bool → ℤ → ℤ → Inquiry Bool
-is_leap_month leap_sui first month = if leap_sui then is_first_of_sui_without first month else done false
+is_leap_month leap_sui first month =
+    if not leap_sui then done false else (
+    and_then (bare month) λ is_bare.
+    if not is_bare then done false else (
+    ask (moon_before_fact month) λ before.
+    and_then (prior 15 first before) λ found.
+    done (not found)))
 
 -- ---- dates
 -- a truth value as a number
@@ -114,7 +100,7 @@ flag b = if b then pos 1 else pos 0
 -- the number of a month, from the first of its sui and whether it comes after the leap month or is it: the first of a sui is the
 -- twelfth of a year
 unfoldable pub month_number : ℤ → ℤ → Bool → ℤ
-month_number first month from_leap = amod (months_between first month -ℤ flag from_leap) 11
+month_number first month from_leap = amod (months_between first month -ℤ flag from_leap) 12
 
 -- a month by the first of its sui, whether it comes after the leap month or is it, and whether it is it
 unfoldable pub month_by : ℤ → ℤ → Bool → Bool → ChineseMonth
@@ -128,8 +114,8 @@ month_in sui leap_sui month =
     done (month_by sui.first_month month from_leap is_leap)
 
 -- the month in which a day falls
-unfoldable pub month_of : ℤ → Inquiry ChineseMonth
-month_of day =
+unfoldable pub month_holding : ℤ → Inquiry ChineseMonth
+month_holding day =
     and_then (sui_of day) λ sui.
     and_then (is_leap_sui sui) λ leap_sui.
     ask (moon_before_fact (day +ℤ pos 1)) λ month.
@@ -137,74 +123,63 @@ month_of day =
 
 -- the years since the epoch, counted from 1, in which a day of a month falls
 unfoldable pub elapsed_years : ℤ → ℤ → ℤ
-elapsed_years day month = spans_of (fraction_of TROPICAL_YEAR) (day -ℤ CHINESE_EPOCH) (ratio (pos 18 -ℤ month) 11)
+elapsed_years day month = spans_of (fraction_of TROPICAL_YEAR) (day -ℤ CHINESE_EPOCH) (ratio (pos 18 -ℤ month) 12)
 
 -- cycle, year, month, leap month and day
 abbrev pub fields_by : ℤ → ChineseMonth → ℤ → Fields
 fields_by day month years =
-    record { count = 5; values = to_32_bits (floor_quotient (years -ℤ pos 1) 59 +ℤ pos 1) ∷ amod years 59 ∷ month.number ∷ flag month.is_leap ∷ to_8_bits (day -ℤ month.first_day +ℤ pos 1) ∷ [] }
+    record { count = 5; values = to_32_bits (quotient_down (years -ℤ pos 1) 60 +ℤ pos 1) ∷ amod years 60 ∷ month.number ∷ flag month.is_leap ∷ to_8_bits (day -ℤ month.first_day +ℤ pos 1) ∷ [] }
 
 -- the date of a day by its month
-unfoldable pub date_in : ℤ → ChineseMonth → Fields
-date_in day month = fields_by day month (elapsed_years day month.number)
+unfoldable pub date_in_month : ℤ → ChineseMonth → Fields
+date_in_month day month = fields_by day month (elapsed_years day month.number)
 
 -- the Chinese date of a day (R.D.)
 unfoldable pub chinese_on : ℤ → Inquiry Fields
-chinese_on day = and_then (month_of day) λ month. done (date_in day month)
+chinese_on day = and_then (month_holding day) λ month. done (date_in_month day month)
 
 -- ---- days
--- whether one of the first two months of a sui has no major solar term
-unfoldable pub has_early_leap_month : ℤ → ℤ → Inquiry Bool
-has_early_leap_month first second = and_then (has_no_major_term first) (or_no_major_term second)
-
 -- whether the leap month of a sui is one of its first two, given whether it has one
 unfoldable pub is_leap_at_start : Bool → ℤ → ℤ → Inquiry Bool
-is_leap_at_start leap_sui first second = if leap_sui then has_early_leap_month first second else done false
+is_leap_at_start leap_sui first second =
+    if not leap_sui then done false else (
+    and_then (bare first) λ found.
+    if found then done true else bare second)
 
--- the day of the new year, the month after the leap month where that is one of the first two
-unfoldable pub new_year_after : ℤ → Bool → Inquiry ℤ
-new_year_after second late = if late then ask (moon_from_fact (second +ℤ pos 1)) done else done second
-
-unfoldable pub new_year_by : Sui → ℤ → Inquiry ℤ
-new_year_by sui second =
-    and_then (is_leap_sui sui) λ leap_sui.
-    and_then (is_leap_at_start leap_sui sui.first_month second) λ late.
-    new_year_after second late
-
--- the first day of the year that begins in the sui of a day
+-- the first day of the year that begins in the sui of a day: its second month, or the one after where the leap month is one of
+-- the first two
 unfoldable pub new_year_in_sui : ℤ → Inquiry ℤ
 new_year_in_sui day =
     and_then (sui_of day) λ sui.
     ask (moon_from_fact (sui.first_month +ℤ pos 1)) λ second.
-    new_year_by sui second
-
-unfoldable pub or_year_before : ℤ → ℤ → Inquiry ℤ
-or_year_before day new_year = if int_lt day new_year then new_year_in_sui (day -ℤ pos 180) else done new_year
+    and_then (is_leap_sui sui) λ leap_sui.
+    and_then (is_leap_at_start leap_sui sui.first_month second) λ late.
+    if late then ask (moon_from_fact (second +ℤ pos 1)) done else done second
 
 -- the first day of the year in which a day falls
 unfoldable pub new_year_by_day : ℤ → Inquiry ℤ
-new_year_by_day day = and_then (new_year_in_sui day) (or_year_before day)
+new_year_by_day day =
+    and_then (new_year_in_sui day) λ new_year.
+    if int_lt day new_year then new_year_in_sui (day -ℤ pos 180) else done new_year
 
 -- the days from the epoch to the middle of a year, which counts from 1
 unfoldable pub days_to_middle : ℤ → ℤ
-days_to_middle number = days_of (fraction_of TROPICAL_YEAR) (ratio (pos 2 *ℤ number -ℤ pos 1) 1)
+days_to_middle number = days_of (fraction_of TROPICAL_YEAR) (ratio (pos 2 *ℤ number -ℤ pos 1) 2)
 
 -- a day in the middle of a year of a cycle
 unfoldable pub middle_of_year : ℤ → ℤ → ℤ
 middle_of_year cycle year = CHINESE_EPOCH +ℤ days_to_middle (pos 60 *ℤ (cycle -ℤ pos 1) +ℤ year)
 
--- a date is in the month of this number, which is a leap month or isn't
-abbrev pub is_in_month : ℤ → ℤ → Fields → Bool
-is_in_month month leap date = int_eq (slice_index_or date.values 2 (pos 0)) month && int_eq (slice_index_or date.values 3 (pos 0)) leap
+-- a date has this month, which is a leap month or isn't
+abbrev pub has_month : ℤ → ℤ → Fields → Bool
+has_month month leap date = int_eq (slice_index_or date.values 2 (pos 0)) month && int_eq (slice_index_or date.values 3 (pos 0)) leap
 
--- the first day of the month, which is this one or the next
-unfoldable pub or_next_month : ℤ → ℤ → ℤ → Fields → Inquiry ℤ
-or_next_month month leap first date = if is_in_month month leap date then done first else ask (moon_from_fact (first +ℤ pos 1)) done
-
+-- the first day of a month of a year: a new moon, or the next one where the date of the first isn't of this month
 unfoldable pub month_beginning : ℤ → ℤ → ℤ → Inquiry ℤ
 month_beginning new_year month leap =
     ask (moon_from_fact (new_year +ℤ pos 29 *ℤ (month -ℤ pos 1))) λ first.
-    and_then (chinese_on first) (or_next_month month leap first)
+    and_then (chinese_on first) λ date.
+    if has_month month leap date then done first else ask (moon_from_fact (first +ℤ pos 1)) done
 
 -- the day (R.D.) of a cycle, a year, a month, whether it is a leap month, and a day
 unfoldable pub chinese_day : (cycle year month leap day : ℤ) → Inquiry ℤ

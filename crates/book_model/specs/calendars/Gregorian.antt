@@ -1,11 +1,11 @@
 -- The Gregorian calendar, for all years: day numbers of the book (R.D.), where day 1 is 1 January of the year 1.
 -- Reingold and Dershowitz, Calendrical Calculations, chapter 2.
 use Rattle.std.specs.Prelude.{ℕ, zero, suc, ◌+◌, ◌-◌, ◌%◌, ◌==◌, ◌&&◌, ◌||◌, not, nat_lt, nat_le, Bool, if◌then◌else◌, ℤ, pos, ◌+ℤ◌, ◌-ℤ◌, ◌*ℤ◌, ◌≤ℤ◌, ◌<ℤ◌, int_lt, unsigned_abs}
-use Rattle.exact_math.specs.Fraction.{floor_quotient}
+use Rattle.book_model.specs.calendars.Spans.{quotient_down}
 
 -- how many leap days the years 1 to n have: every fourth year, but of the centuries only every fourth
 abbrev pub leap_days : ℤ → ℤ
-leap_days n = floor_quotient n 3 -ℤ floor_quotient n 99 +ℤ floor_quotient n 399
+leap_days n = quotient_down n 4 -ℤ quotient_down n 100 +ℤ quotient_down n 400
 
 -- 1 January of the year y
 unfoldable pub first_day : ℤ → ℤ
@@ -14,7 +14,7 @@ first_day y = pos 365 *ℤ (y -ℤ pos 1) +ℤ leap_days (y -ℤ pos 1) +ℤ pos
 -- the year in which the day falls: that of 400 years of 146097 days that it is near, or the next
 unfoldable pub year_of_day : ℤ → ℤ
 year_of_day d =
-    let near = floor_quotient (pos 400 *ℤ (d +ℤ pos 1)) 146096 in
+    let near = quotient_down (pos 400 *ℤ (d +ℤ pos 1)) 146097 in
     if int_lt d (first_day (near +ℤ pos 1)) then near else near +ℤ pos 1
 
 -- the year in which the day falls begins at or before it, and the next year after it

@@ -14,7 +14,7 @@ use Rattle.book_model.specs.calendars.Spans.{amod}
 
 -- the number of a month, by the sign of the sun at the new moon with which it begins
 abbrev pub month_after : ℤ → ℤ
-month_after sign = amod (sign +ℤ pos 1) 11
+month_after sign = amod (sign +ℤ pos 1) 12
 
 -- the day of whose year a month is: in the first two months a day half a year on, as the year begins with the first
 unfoldable pub day_of_year : (day month : ℤ) → ℤ

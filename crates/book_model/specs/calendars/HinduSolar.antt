@@ -31,7 +31,7 @@ hindu_solar_on day =
 
 -- the days from the epoch to the beginning of a month by the mean sun, its years in twelfths
 unfoldable pub days_to_month : (era year month : ℤ) → ℤ
-days_to_month era year month = days_of (fraction_of SIDEREAL_YEAR) (ratio (pos 12 *ℤ (year +ℤ era) +ℤ month -ℤ pos 1) 11)
+days_to_month era year month = days_of (fraction_of SIDEREAL_YEAR) (ratio (pos 12 *ℤ (year +ℤ era) +ℤ month -ℤ pos 1) 12)
 
 -- a day within a month, late in it
 unfoldable pub day_within_month : (year month : ℤ) → ℤ

@@ -2,7 +2,6 @@
 -- Shaukat's criterion. The fields of a result that their types don't hold stand at the nearest ends, so that the rules have an
 -- answer over every table. Reingold and Dershowitz, Calendrical Calculations, chapter 18.
 use Rattle.std.specs.Prelude.{[], ◌∷◌, ℤ, pos, ◌+ℤ◌, ◌-ℤ◌, ◌*ℤ◌}
-use Rattle.exact_math.specs.Fraction.{floor_quotient}
 use Rattle.book_model.specs.declared.calendar_tables.TheConstants.{ISLAMIC_EPOCH, SYNODIC_MONTH}
 use Rattle.book_model.specs.declared.fact.Fact.{Fact}
 use Rattle.book_model.specs.declared.fact.Kind.TheVariants.{Phasis}
@@ -10,7 +9,7 @@ use Rattle.book_model.specs.declared.fact.Place.TheVariants.{Cairo}
 use Rattle.book_model.specs.declared.request.Fields.{Fields}
 use Rattle.book_model.specs.numbers.Fractions.{fraction_of}
 use Rattle.book_model.specs.calendars.Inquiries.{Inquiry, done, ask, to_32_bits, to_8_bits}
-use Rattle.book_model.specs.calendars.Spans.{days_of, modulo, months_of_days, ratio}
+use Rattle.book_model.specs.calendars.Spans.{days_of, modulo, months_of_days, quotient_down, ratio}
 
 -- the fact of the first day of the month that a day falls in
 abbrev pub phasis_fact : ℤ → Fact
@@ -23,7 +22,7 @@ months_before first = months_of_days (first -ℤ ISLAMIC_EPOCH)
 -- year, month and day, by the months that have passed
 unfoldable pub date_in : (passed day : ℤ) → Fields
 date_in passed day =
-    record { count = 3; values = to_32_bits (floor_quotient passed 11 +ℤ pos 1) ∷ (modulo passed 11 +ℤ pos 1) ∷ to_8_bits day ∷ pos 0 ∷ pos 0 ∷ [] }
+    record { count = 3; values = to_32_bits (quotient_down passed 12 +ℤ pos 1) ∷ (modulo passed 12 +ℤ pos 1) ∷ to_8_bits day ∷ pos 0 ∷ pos 0 ∷ [] }
 
 -- the Islamic date of a day (R.D.)
 unfoldable pub islamic_on : ℤ → Inquiry Fields
@@ -35,7 +34,7 @@ half_months_to year month = pos 2 *ℤ (pos 12 *ℤ (year -ℤ pos 1) +ℤ month
 
 -- a day about the middle of a month
 unfoldable pub day_within_month : (year month : ℤ) → ℤ
-day_within_month year month = ISLAMIC_EPOCH +ℤ days_of (fraction_of SYNODIC_MONTH) (ratio (half_months_to year month) 1)
+day_within_month year month = ISLAMIC_EPOCH +ℤ days_of (fraction_of SYNODIC_MONTH) (ratio (half_months_to year month) 2)
 
 -- the day (R.D.) of a year, a month and a day
 unfoldable pub islamic_day : (year month day : ℤ) → Inquiry ℤ

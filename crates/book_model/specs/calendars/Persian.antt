@@ -8,7 +8,7 @@ use Rattle.book_model.specs.declared.fact.Kind.TheVariants.{Nowruz}
 use Rattle.book_model.specs.declared.fact.Place.TheVariants.{None as Nowhere}
 use Rattle.book_model.specs.declared.request.Fields.{Fields}
 use Rattle.book_model.specs.calendars.Inquiries.{Inquiry, done, ask, to_32_bits, to_8_bits}
-use Rattle.book_model.specs.calendars.Spans.{ceiling_quotient, days_of_years, years_of_days}
+use Rattle.book_model.specs.calendars.Spans.{days_of_years, quotient_up, years_of_days}
 
 -- the fact of the first day of the Persian year that a day falls in
 abbrev pub nowruz_fact : ℤ → Fact
@@ -28,7 +28,7 @@ days_before month = if int_le month (pos 7) then pos 31 *ℤ (month -ℤ pos 1) 
 
 -- the month of a day of the year, which counts from 1
 abbrev pub month_of : ℤ → ℤ
-month_of number = if int_le number (pos 186) then ceiling_quotient number 30 else ceiling_quotient (number -ℤ pos 6) 29
+month_of number = if int_le number (pos 186) then quotient_up number 31 else quotient_up (number -ℤ pos 6) 30
 
 -- year, month and day of a day of the year
 unfoldable pub date_in : ℤ → ℤ → Fields

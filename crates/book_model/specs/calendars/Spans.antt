@@ -1,6 +1,6 @@
 -- Whole numbers of days and of spans, as years and months are, exact: what the rules of dates count with. Nothing here is a
 -- test.
-use Rattle.std.specs.Prelude.{ℕ, suc, ℤ, pos, ◌-ℤ◌, ◌*ℤ◌}
+use Rattle.std.specs.Prelude.{ℕ, ◌-◌, ℤ, pos, ◌-ℤ◌, ◌*ℤ◌}
 use lib.IntN.{neg_ℤ}
 use Rattle.exact_math.specs.Fraction.{Fraction, whole, plus, times, reciprocal, floor, floor_quotient}
 use Rattle.book_model.specs.declared.calendar_tables.TheConstants.{SYNODIC_MONTH, TROPICAL_YEAR}
@@ -11,21 +11,25 @@ use Rattle.book_model.specs.numbers.Fractions.{fraction_of}
 unfoldable pub nearest : Fraction → ℤ
 nearest a = floor (plus a (fraction_of HALF))
 
--- the least whole number that is not below n / (d + 1)
-abbrev pub ceiling_quotient : ℤ → ℕ → ℤ
-ceiling_quotient n d = neg_ℤ (floor_quotient (neg_ℤ n) d)
-
--- the number from 1 to d + 1 that differs from n by a multiple of d + 1
-abbrev pub amod : ℤ → ℕ → ℤ
-amod n d = n -ℤ floor_quotient (n -ℤ pos 1) d *ℤ pos (suc d)
-
--- what is left of n by multiples of d + 1, from 0 to d
-abbrev pub modulo : ℤ → ℕ → ℤ
-modulo n d = n -ℤ floor_quotient n d *ℤ pos (suc d)
-
--- n / (d + 1)
+-- n / d; a divisor of 0 is read as 1
 abbrev pub ratio : ℤ → ℕ → Fraction
-ratio n d = record { num = n; below = d }
+ratio n d = record { num = n; below = d - 1 }
+
+-- the greatest whole number that is not above n / d
+abbrev pub quotient_down : ℤ → ℕ → ℤ
+quotient_down n d = floor_quotient n (d - 1)
+
+-- the least whole number that is not below n / d
+abbrev pub quotient_up : ℤ → ℕ → ℤ
+quotient_up n d = neg_ℤ (quotient_down (neg_ℤ n) d)
+
+-- what is left of n by multiples of d, from 0 to less than d; by 0 all of it
+abbrev pub modulo : ℤ → ℕ → ℤ
+modulo n d = n -ℤ quotient_down n d *ℤ pos d
+
+-- the number from 1 to d that differs from n by a multiple of d; by 0 n itself
+abbrev pub amod : ℤ → ℕ → ℤ
+amod n d = n -ℤ quotient_down (n -ℤ pos 1) d *ℤ pos d
 
 -- the whole days of a count of spans, rounded down
 unfoldable pub days_of : Fraction → Fraction → ℤ

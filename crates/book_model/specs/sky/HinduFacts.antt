@@ -31,7 +31,7 @@ whole_degrees_of x = bind (sidereal_sun_of x) λ s. cell Sidereal integers s ans
 
 -- the day three days before the one that is as many days before a day as the sun has gone degrees of its sign
 abbrev pub before_sign : (d degrees : ℤ) → ℤ
-before_sign d degrees = d -ℤ pos 3 -ℤ modulo degrees 29
+before_sign d degrees = d -ℤ pos 3 -ℤ modulo degrees 30
 
 -- the first day from there on whose sunset the sun stands in the sign in which it stands at the moment x
 unfoldable pub sign_entered_of : (d : ℤ) (x : Expression) → Program ℤ

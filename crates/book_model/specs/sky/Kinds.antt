@@ -135,7 +135,7 @@ terms_passed_of d =
 
 -- the number, from 1 to 12, of the last major solar term when a day begins in Beijing: that at 330 degrees is the first
 unfoldable pub major_of : ℤ → Program ℤ
-major_of d = bind (terms_passed_of d) λ q. answer (amod (pos 2 +ℤ q) 11)
+major_of d = bind (terms_passed_of d) λ q. answer (amod (pos 2 +ℤ q) 12)
 
 -- the whole spans of 30 degrees, rounded down, from the sun's longitude when a day begins in Beijing to a longitude r
 unfoldable pub spans_short_of : (r d : ℤ) → Program ℤ
@@ -145,7 +145,7 @@ spans_short_of r d =
 
 -- the longitude of the next solar term: the one so many spans of 30 degrees before r, from 0 to 359
 unfoldable pub term_longitude : (r spans : ℤ) → ℤ
-term_longitude r spans = modulo (r -ℤ pos 30 *ℤ spans) 359
+term_longitude r spans = modulo (r -ℤ pos 30 *ℤ spans) 360
 
 -- the day in Beijing on which the sun is next at a longitude, once the day d has begun there
 unfoldable pub longitude_day_of : (l d : ℤ) → Program ℤ

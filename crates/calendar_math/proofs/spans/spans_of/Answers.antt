@@ -63,4 +63,4 @@ returns c =
     let second = simp to_z-of_z at c.product-more.ensures.product in
     let quotient = rw (c.from-2.ensures, first, second) at (simp to_z-of_z at c.quotient_within.ensures.quotient) in
     let span = spans_as_quotient c.args.days c.args.num c.parts_of-parts.result c.args.span.den c.args.den some c.requires.positive c.requires.over in
-    record { spans = simp to_z-of_z (quotient ∙ sym span ∙ ap (λ x. spans_of (ratio x (c.args.span.den - 1)) c.args.days (ratio c.args.num (c.args.den - 1))) c.parts_of-parts.ensures.parts) }
+    record { spans = simp to_z-of_z (quotient ∙ sym span ∙ ap (λ x. spans_of (ratio x c.args.span.den) c.args.days (ratio c.args.num c.args.den)) c.parts_of-parts.ensures.parts) }
