@@ -3,7 +3,7 @@
 -- Reingold and Dershowitz, Calendrical Calculations, chapter 19; Aslaksen, The Mathematics of the Chinese Calendar.
 -- The fields of a result that their types don't hold stand at the nearest ends, so that the rules have an answer over every
 -- table.
-use Rattle.std.specs.Prelude.{ℕ, zero, suc, ◌&&◌, if◌then◌else◌, Bool, true, false, not, [], ◌∷◌, ℤ, pos, ◌+ℤ◌, ◌-ℤ◌, ◌*ℤ◌, int_lt, slice_index_or}
+use Rattle.std.specs.Prelude.{ℕ, zero, suc, ◌&&◌, if◌then◌else◌, Bool, true, false, not, [], ◌∷◌, ℤ, pos, ◌+ℤ◌, ◌-ℤ◌, ◌*ℤ◌, int_lt}
 use Rattle.std.specs.Ordering.{int_eq}
 use Rattle.book_model.specs.declared.calendar_tables.TheConstants.{CHINESE_EPOCH, TROPICAL_YEAR}
 use Rattle.book_model.specs.declared.chinese.ChineseMonth.{ChineseMonth}
@@ -14,7 +14,7 @@ use Rattle.book_model.specs.declared.fact.Kind.TheVariants.{Solstice, NewMoonBef
 use Rattle.book_model.specs.declared.fact.Place.TheVariants.{Beijing}
 use Rattle.book_model.specs.declared.request.Fields.{Fields}
 use Rattle.book_model.specs.numbers.Fractions.{fraction_of}
-use Rattle.book_model.specs.calendars.Inquiries.{Inquiry, done, ask, and_then, to_32_bits, to_8_bits}
+use Rattle.book_model.specs.calendars.Inquiries.{Inquiry, done, ask, and_then, field_at, flag, to_32_bits, to_8_bits}
 use Rattle.book_model.specs.calendars.Spans.{amod, quotient_down, ratio, days_of, months_of_days, spans_of}
 
 -- ---- what is asked of the sky
@@ -93,10 +93,6 @@ is_leap_month leap_sui first month =
     done (not found)))
 
 -- ---- dates
--- a truth value as a number
-abbrev pub flag : Bool → ℤ
-flag b = if b then pos 1 else pos 0
-
 -- the number of a month, from the first of its sui and whether it comes after the leap month or is it: the first of a sui is the
 -- twelfth of a year
 unfoldable pub month_number : ℤ → ℤ → Bool → ℤ
@@ -172,7 +168,7 @@ middle_of_year cycle year = CHINESE_EPOCH +ℤ days_to_middle (pos 60 *ℤ (cycl
 
 -- a date has this month, which is a leap month or isn't
 abbrev pub has_month : ℤ → ℤ → Fields → Bool
-has_month month leap date = int_eq (slice_index_or date.values 2 (pos 0)) month && int_eq (slice_index_or date.values 3 (pos 0)) leap
+has_month month leap date = int_eq (field_at date 2) month && int_eq (field_at date 3) leap
 
 -- the first day of a month of a year: a new moon, or the next one where the date of the first isn't of this month
 unfoldable pub month_beginning : ℤ → ℤ → ℤ → Inquiry ℤ
