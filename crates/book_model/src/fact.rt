@@ -2,7 +2,8 @@
 ghost use Rattle.std.specs.Prelude.{◌≡◌, ◌↔◌, ◌<◌, ℤ, ◌≤ℤ◌, length, map, IfSome, IsSome};
 ghost use Rattle.book_model.specs.declared.fact.TheConstants.{KINDS, PLACES};
 
-use crate::names::{first_named, first_row_named, list_at, name_at};
+use crate::names::{first_row_named, list_at, name_at};
+use crate::{CAIRO, Location, TEHRAN, UJJAIN};
 
 /// A kind of astronomical fact.
 #[derive(Clone, Copy, Debug, PartialEq, Eq, Hash)]
@@ -78,14 +79,15 @@ pub const KINDS: [(Kind, &str, &[Place]); 23] = [
     (Kind::Sunset, "sunset", &[Place::Tehran, Place::Cairo, Place::Ujjain]),
 ];
 
-/// Each place with its printed name, in the order of the variants.
+/// Each place with its printed name and the location from which its horizon is looked at, if it has one, in the order of the
+/// variants.
 #[rattlefmt::skip]
-pub const PLACES: [(Place, &str); 5] = [
-    (Place::None, "-"),
-    (Place::Beijing, "beijing"),
-    (Place::Cairo, "cairo"),
-    (Place::Tehran, "tehran"),
-    (Place::Ujjain, "ujjain"),
+pub const PLACES: [(Place, &str, Option<Location>); 5] = [
+    (Place::None, "-", None),
+    (Place::Beijing, "beijing", None),
+    (Place::Cairo, "cairo", Some(CAIRO)),
+    (Place::Tehran, "tehran", Some(TEHRAN)),
+    (Place::Ujjain, "ujjain", Some(UJJAIN)),
 ];
 
 /// The first and the last day of which a fact may be asked (R.D.).
@@ -145,7 +147,7 @@ impl Kind {
 }
 
 impl Place {
-    ghost use Rattle.book_model.specs.sky.Names.{place_number, place_name, place_named};
+    ghost use Rattle.book_model.specs.sky.Names.{place_number, place_name, place_named, location_of};
 
     /// The number of the place, from 0: its place among the places.
     pub fn number(self) -> usize
@@ -168,7 +170,15 @@ impl Place {
     pub fn named(word: &[u8]) -> Option<Place>
         ensures { result ≡ place_named word.now }
     {
-        first_named(&PLACES, word)
+        first_row_named(&PLACES, word)
+    }
+
+    /// The location from which the horizon of the place is looked at, if it has one.
+    #[tactic(auto, unfolding(crate::specs::sky::Names::location_of))]
+    pub fn location(self) -> Option<Location>
+        ensures { result ≡ location_of self }
+    {
+        PLACES[self.number()].2
     }
 }
 

@@ -13,12 +13,12 @@ use Rattle.book_model.specs.declared.fail.Undecided.{Undecided}
 use Rattle.book_model.specs.calendars.Gregorian.{year_of_day}
 use Rattle.book_model.specs.sky.Correction.{is_between}
 use Rattle.book_model.specs.numbers.Expressions.{World}
-use Rattle.book_model.specs.sky.Kinds.{dt_of, sun_in_thousandths_of, nowruz_of, bahai_year_of, solstice_of, new_moon_before_of, new_moon_from_of, major_of, term_day_of, location_of, sunset_in_minutes_of}
+use Rattle.book_model.specs.sky.Kinds.{dt_of, sun_in_thousandths_of, nowruz_of, bahai_year_of, solstice_of, new_moon_before_of, new_moon_from_of, major_of, term_day_of, located, sunset_in_minutes_of}
 use Rattle.book_model.specs.sky.Crescent.{phasis_of}
 use Rattle.book_model.specs.sky.HinduFacts.{sign_at_sunset_of, year_at_sunset_of, sankranti_of, tithi_of, sign_before_of, sign_after_of, calendar_year_of}
 use Rattle.book_model.specs.sky.Phases.{phase_day_of}
 use Rattle.book_model.specs.programs.Leading.{at_56, AreNoBounds}
-use Rattle.book_model.specs.sky.Names.{has_place}
+use Rattle.book_model.specs.sky.Names.{has_place, location_of}
 use Rattle.book_model.specs.programs.Programs.{Grid, threshold, Program, void, Run, run, valued, void_at, outcome, MakesTest, Sides, one_side, two_sides}
 use Rattle.book_model.specs.numbers.Depth.{DEPTH}
 
@@ -50,7 +50,7 @@ formula_of NewMoonFrom place d = new_moon_from_of d
 formula_of Major place d = major_of d
 formula_of MajorTerm place d = term_day_of (pos 0) d
 formula_of MinorTerm place d = term_day_of (pos 15) d
-formula_of Phasis place d = phasis_of (location_of place) d
+formula_of Phasis place d = located (location_of place) λ l. phasis_of l d
 formula_of Sign place d = sign_at_sunset_of d
 formula_of SolarYear place d = year_at_sunset_of d
 formula_of Sankranti place d = sankranti_of d
@@ -62,7 +62,7 @@ formula_of NewMoon place d = phase_day_of (pos 0) d
 formula_of FirstQuarter place d = phase_day_of (pos 90) d
 formula_of FullMoon place d = phase_day_of (pos 180) d
 formula_of LastQuarter place d = phase_day_of (pos 270) d
-formula_of Sunset place d = sunset_in_minutes_of (location_of place) d
+formula_of Sunset place d = located (location_of place) λ l. sunset_in_minutes_of l d
 
 -- the formula of a fact; outside 1 July 1800 to 31 December 2049 it is void
 unfoldable pub program_of : Fact → Program ℤ
