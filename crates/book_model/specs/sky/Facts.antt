@@ -18,7 +18,7 @@ use Rattle.book_model.specs.sky.Crescent.{phasis_of}
 use Rattle.book_model.specs.sky.HinduFacts.{sign_at_sunset_of, year_at_sunset_of, sankranti_of, tithi_of, sign_before_of, sign_after_of, calendar_year_of}
 use Rattle.book_model.specs.sky.Phases.{phase_day_of}
 use Rattle.book_model.specs.programs.Leading.{at_56, AreNoBounds}
-use Rattle.book_model.specs.sky.Names.{has_place, location_of}
+use Rattle.book_model.specs.sky.Names.{has_place, location_of, begins_with_day}
 use Rattle.book_model.specs.programs.Programs.{Grid, threshold, Program, void, Run, run, valued, void_at, outcome, MakesTest, Sides, one_side, two_sides}
 use Rattle.book_model.specs.numbers.Depth.{DEPTH}
 
@@ -106,31 +106,9 @@ pub record MakesNearTest (r : Run ℤ) (u : Undecided) : Type 0 where
   pub makes : MakesTest r u.turn u.site sides
   pub near : AreNear u.lo u.hi sides
 
--- the kinds of which the first or the third test of the year is made on the whole day itself
+-- the kinds whose first test and third, where they are of a year, are of that of the whole day itself
 abbrev pub HasWholeDays : Kind → Type 0
-HasWholeDays Dt = Unit {0}
-HasWholeDays Sun = Unit {0}
-HasWholeDays Nowruz = ⊥
-HasWholeDays BahaiYear = ⊥
-HasWholeDays Solstice = ⊥
-HasWholeDays NewMoonBefore = ⊥
-HasWholeDays NewMoonFrom = ⊥
-HasWholeDays Major = ⊥
-HasWholeDays MajorTerm = ⊥
-HasWholeDays MinorTerm = ⊥
-HasWholeDays Phasis = Unit {0}
-HasWholeDays Sign = ⊥
-HasWholeDays SolarYear = ⊥
-HasWholeDays Sankranti = ⊥
-HasWholeDays Tithi = ⊥
-HasWholeDays SignBefore = ⊥
-HasWholeDays SignAfter = ⊥
-HasWholeDays CalendarYear = Unit {0}
-HasWholeDays NewMoon = Unit {0}
-HasWholeDays FirstQuarter = Unit {0}
-HasWholeDays FullMoon = Unit {0}
-HasWholeDays LastQuarter = Unit {0}
-HasWholeDays Sunset = ⊥
+HasWholeDays kind = IsTrue (begins_with_day kind)
 
 -- The fact is near at a test: at every depth from 40 on its run makes this test, whose sides lie within the ends.
 -- The year of a whole day is never near. For the years 1987 to 2050 the ends of a dynamical time correction lie

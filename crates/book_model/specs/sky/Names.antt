@@ -1,6 +1,6 @@
 -- The numbers and the printed names of sites, kinds of facts and places, the places of a kind, and the location of a place, by
 -- their tables.
-use Rattle.std.specs.Prelude.{ℕ, ◌+◌, ◌==◌, nat_eq, Bool, List, [], ◌∷◌, Option, Some, None, if◌then◌else◌, map, slice_get}
+use Rattle.std.specs.Prelude.{ℕ, ◌+◌, ◌==◌, nat_eq, Bool, false, List, [], ◌∷◌, Option, Some, None, if◌then◌else◌, map, slice_get}
 use Rattle.std.specs.List.{list_any}
 use Rattle.std.specs.Option.{option_map_or}
 use lib.Pointwise.{pointwise}
@@ -33,7 +33,11 @@ kind_name kind = option_map_or (λ row. row.1.now) (slice_get KINDS (kind_number
 
 -- the places of which a kind of fact is asked
 abbrev pub places_of : Kind → List Place
-places_of kind = option_map_or (λ row. row.2.now) (slice_get KINDS (kind_number kind)) []
+places_of kind = option_map_or (λ row. row.2.0.now) (slice_get KINDS (kind_number kind)) []
+
+-- whether a kind of fact begins with a whole day
+abbrev pub begins_with_day : Kind → Bool
+begins_with_day kind = option_map_or (λ row. row.2.1) (slice_get KINDS (kind_number kind)) false
 
 -- whether a place is one of a kind's places
 abbrev pub has_place : Kind → Place → Bool
