@@ -17,7 +17,6 @@ use time_scales::midnight;
 #[tactic(auto, using(book_model::proofs::Leads::leading), unfolding(book_model::specs::sky::Kinds::new_moon_before_of))]
 fn day_of_moon_before<E: Enclosure>(day: i64, trail: &mut Trail) -> Result<i64, Fail>
     ensures leads { Decides (new_moon_before_of day) trail.old.count trail.new.count result }
-    ensures counted { trail.new.count ≤ trail.old.count + 27 }
 {
     match moon_before(midnight::<E>(day), trail) {
         Ok(moment) => day_in_beijing(moment, trail),
@@ -29,7 +28,6 @@ fn day_of_moon_before<E: Enclosure>(day: i64, trail: &mut Trail) -> Result<i64, 
 #[tactic(auto, using(book_model::proofs::Leads::leading), unfolding(book_model::specs::sky::Kinds::new_moon_from_of))]
 fn day_of_moon_from<E: Enclosure>(day: i64, trail: &mut Trail) -> Result<i64, Fail>
     ensures leads { Decides (new_moon_from_of day) trail.old.count trail.new.count result }
-    ensures counted { trail.new.count ≤ trail.old.count + 27 }
 {
     match moon_from(midnight::<E>(day), trail) {
         Ok(moment) => day_in_beijing(moment, trail),
@@ -42,7 +40,6 @@ fn day_of_moon_from<E: Enclosure>(day: i64, trail: &mut Trail) -> Result<i64, Fa
 pub(crate) fn new_moon_before<E: Enclosure>(day: i64, trail: &mut Trail) -> Result<i64, Fail>
     requires day { IsValueDay day }
     ensures leads { Decides (new_moon_before_of day) trail.old.count trail.new.count result }
-    ensures counted { trail.new.count ≤ trail.old.count + 27 }
     ensures value { IfOk result IsFactValue }
     ensures open { IfErr result (IsNearFor NewMoonBefore (year_of_day day)) }
 {
@@ -54,7 +51,6 @@ pub(crate) fn new_moon_before<E: Enclosure>(day: i64, trail: &mut Trail) -> Resu
 pub(crate) fn new_moon_from<E: Enclosure>(day: i64, trail: &mut Trail) -> Result<i64, Fail>
     requires day { IsValueDay day }
     ensures leads { Decides (new_moon_from_of day) trail.old.count trail.new.count result }
-    ensures counted { trail.new.count ≤ trail.old.count + 27 }
     ensures value { IfOk result IsFactValue }
     ensures open { IfErr result (IsNearFor NewMoonFrom (year_of_day day)) }
 {

@@ -10,6 +10,7 @@ ghost use Rattle.book_model.specs.sky.Names.{location_of};
 ghost use Rattle.book_model.specs.declared.fact.Kind.TheVariants.{BahaiYear, Sunset};
 ghost use Rattle.book_model.specs.declared.location_tables.TheConstants.{TEHRAN as tehran};
 ghost use Rattle.fact_eval.specs.Widths.{IsNearFor};
+ghost use Rattle.rise_set.proofs.Horizons.{sunset_few};
 
 use crate::spring::{DayMoment, spring_day};
 use book_model::{Fail, HALF, HOUR, Location, MINUTES_OF_DAY, Place, Site, TEHRAN};
@@ -25,6 +26,8 @@ impl<E: Enclosure> DayMoment<E> for SunsetAtTehran {
 
     ghost most = { 132 };
 
+    ghost few = { sunset_few tehran };
+
     fn at(self, day: i64, trail: &mut Trail) -> Result<E, Fail> {
         sunset::<E>(&TEHRAN, day, trail)
     }
@@ -37,7 +40,6 @@ pub(crate) fn bahai_year<E: Enclosure>(day: i64, trail: &mut Trail) -> Result<i6
     requires day { IsValueDay day }
     ensures leads { Decides (bahai_year_of day) trail.old.count trail.new.count result }
     ensures value { IfOk result IsFactValue }
-    ensures counted { trail.new.count ≤ trail.old.count + 6349 }
     ensures open { IfErr result (IsNearFor BahaiYear (year_of_day day)) }
 {
     spring_day::<E, SunsetAtTehran>(SunsetAtTehran, day, trail)
@@ -57,7 +59,6 @@ fn minutes<E: Enclosure>(location: &Location, day: i64, t: E) -> E
 #[tactic(auto, using(book_model::proofs::Leads::leading), unfolding(book_model::specs::sky::Correction::rounded_of, book_model::specs::programs::Leading::next_turn))]
 fn rounded<E: Enclosure>(number: E, trail: &mut Trail) -> Result<i64, Fail>
     ensures leads { Decides1 E.shown rounded_of number trail.old.count trail.new.count result }
-    ensures counted { trail.new.count ≤ trail.old.count + 1 }
 {
     floor_step(number.add(E::from_frac(HALF)), Site::Round, trail)
 }
@@ -71,7 +72,6 @@ fn minutes_of_sunset<E: Enclosure>(
 ) -> Result<i64, Fail>
     ensures leads { Decides (sunset_in_minutes_of location.now day) trail.old.count trail.new.count
         result }
-    ensures counted { trail.new.count ≤ trail.old.count + 133 }
 {
     match sunset::<E>(location, day, trail) {
         Ok(t) => rounded(minutes(location, day, t), trail),
@@ -91,7 +91,6 @@ pub(crate) fn sunset_in_minutes<E: Enclosure>(
     ensures leads { Decides (located (location_of place) (λ l. sunset_in_minutes_of l day))
         trail.old.count trail.new.count result }
     ensures value { IfOk result IsFactValue }
-    ensures counted { trail.new.count ≤ trail.old.count + 133 }
     ensures open { IfErr result (IsNearFor Sunset (year_of_day day)) }
 {
     match place.location() {

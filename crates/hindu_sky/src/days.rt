@@ -21,7 +21,6 @@ fn sign_by_sunset<E: Enclosure>(day: i64, trail: &mut Trail) -> Result<i64, Fail
     ensures leads { Decides (spec.sign_at_sunset_of day) trail.old.count trail.new.count result }
     ensures from { IfOk result (λ g. pos 1 ≤ℤ g) }
     ensures to { IfOk result (λ g. g ≤ℤ pos 13) }
-    ensures counted { trail.new.count ≤ trail.old.count + 137 }
 {
     match hsunset::<E>(day, trail) {
         Ok(t) => sign(t, trail),
@@ -77,6 +76,17 @@ fn is_sign(one: i64, other: i64) -> bool
     one == other
 }
 
+/// Whether the sun stands in a sign at the sunset of a day (R.D.).
+#[tactic(auto, using(book_model::proofs::Leads::leading), unfolding(book_model::specs::sky::HinduFacts::has_sign_at))]
+fn has_sign<E: Enclosure>(sign: i64, day: i64, trail: &mut Trail) -> Result<bool, Fail>
+    ensures leads { Decides (spec.has_sign_at sign day) trail.old.count trail.new.count result }
+{
+    match sign_by_sunset::<E>(day, trail) {
+        Ok(there) => Ok(is_sign(there, sign)),
+        Err(fail) => Err(fail),
+    }
+}
+
 /// Whether the sun stands in a sign at the sunset of a day.
 #[derive(Drop)]
 struct InSign {
@@ -88,12 +98,8 @@ impl<E: Enclosure> DayTest<E> for InSign {
 
     ghost most = { 137 };
 
-    #[tactic(auto, using(book_model::proofs::Leads::leading), unfolding(book_model::specs::sky::HinduFacts::has_sign_at))]
     fn holds(&self, day: i64, trail: &mut Trail) -> Result<bool, Fail> {
-        match sign_by_sunset::<E>(day, trail) {
-            Ok(there) => Ok(is_sign(there, self.sign)),
-            Err(fail) => Err(fail),
-        }
+        has_sign::<E>(self.sign, day, trail)
     }
 }
 

@@ -16,7 +16,6 @@ use sun_core::sidereal_sun;
 #[tactic(auto, using(book_model::proofs::Leads::leading), unfolding(book_model::specs::sky::Sidereal::signs_passed_of, book_model::specs::programs::Leading::next_turn))]
 fn whole_signs<E: Enclosure>(t: E, trail: &mut Trail) -> Result<i64, Fail>
     ensures leads { Decides1 E.shown spec.signs_passed_of t trail.old.count trail.new.count result }
-    ensures counted { trail.new.count ≤ trail.old.count + 5 }
 {
     match sidereal_sun(t, trail) {
         Ok(longitude) => floor_step(longitude.mul_frac(DEGREE_IN_SIGNS), Site::Sidereal, trail),
@@ -28,7 +27,6 @@ fn whole_signs<E: Enclosure>(t: E, trail: &mut Trail) -> Result<i64, Fail>
 fn signs_passed<E: Enclosure>(t: E, trail: &mut Trail) -> Result<i64, Fail>
     ensures leads { Decides1 E.shown spec.signs_passed_of t trail.old.count trail.new.count result }
     ensures near { IfOk result IsSign }
-    ensures counted { trail.new.count ≤ trail.old.count + 5 }
 {
     whole_signs(t, trail)
 }
@@ -40,7 +38,6 @@ pub(crate) fn sign<E: Enclosure>(t: E, trail: &mut Trail) -> Result<i64, Fail>
     ensures leads { Decides1 E.shown spec.sign_of t trail.old.count trail.new.count result }
     ensures from { IfOk result (λ g. pos 1 ≤ℤ g) }
     ensures to { IfOk result (λ g. g ≤ℤ pos 13) }
-    ensures counted { trail.new.count ≤ trail.old.count + 5 }
 {
     match signs_passed(t, trail) {
         Ok(passed) => Ok(passed + 1),
@@ -52,7 +49,6 @@ pub(crate) fn sign<E: Enclosure>(t: E, trail: &mut Trail) -> Result<i64, Fail>
 #[tactic(auto, using(book_model::proofs::Leads::leading), unfolding(book_model::specs::sky::HinduFacts::whole_degrees_of, book_model::specs::programs::Leading::next_turn))]
 fn floor_of_longitude<E: Enclosure>(t: E, trail: &mut Trail) -> Result<i64, Fail>
     ensures leads { Decides1 E.shown whole_degrees_of t trail.old.count trail.new.count result }
-    ensures counted { trail.new.count ≤ trail.old.count + 5 }
 {
     match sidereal_sun(t, trail) {
         Ok(longitude) => floor_step(longitude, Site::Sidereal, trail),
@@ -64,7 +60,6 @@ fn floor_of_longitude<E: Enclosure>(t: E, trail: &mut Trail) -> Result<i64, Fail
 pub(crate) fn whole_degrees<E: Enclosure>(t: E, trail: &mut Trail) -> Result<i64, Fail>
     ensures leads { Decides1 E.shown whole_degrees_of t trail.old.count trail.new.count result }
     ensures near { IfOk result IsDegree }
-    ensures counted { trail.new.count ≤ trail.old.count + 5 }
 {
     floor_of_longitude(t, trail)
 }
@@ -85,7 +80,6 @@ fn years_gone<E: Enclosure>(t: E, longitude: E) -> E
 pub(crate) fn hindu_year<E: Enclosure>(t: E, trail: &mut Trail) -> Result<i64, Fail>
     ensures leads { Decides1 E.shown spec.hindu_year_of t trail.old.count trail.new.count result }
     ensures open { IfErr result (IsYearOpenFor (E.shown t)) }
-    ensures counted { trail.new.count ≤ trail.old.count + 5 }
 {
     match sidereal_sun(t, trail) {
         Ok(longitude) => floor_step(
