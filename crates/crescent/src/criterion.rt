@@ -146,10 +146,8 @@ fn meets_with<E: Enclosure>(
 fn obliquity_at<E: Enclosure>(t: E, trail: &mut Trail) -> Result<E, Fail>
     ensures leads { Follows1 E.shown spec.obliquity_at_of t trail.old.count trail.new.count result }
 {
-    match centuries(t, trail) {
-        Ok(c) => obliquity(c, trail),
-        Err(fail) => Err(fail),
-    }
+    let c = centuries(t, trail)?;
+    obliquity(c, trail)
 }
 
 /// Whether the moon meets the criterion at a location and a moment of universal time: 19 tests at most.
@@ -178,10 +176,8 @@ fn evening<E: Enclosure>(location: &Location, day: i64, trail: &mut Trail) -> Re
     ensures leads { Follows E.shown (spec.evening_of location.now day) trail.old.count
         trail.new.count result }
 {
-    match dusk(location, E::from_frac(CRESCENT_DEPRESSION), day - 1, trail) {
-        Ok(t) => Ok(universal(location.longitude, t)),
-        Err(fail) => Err(fail),
-    }
+    let t = dusk(location, E::from_frac(CRESCENT_DEPRESSION), day - 1, trail)?;
+    Ok(universal(location.longitude, t))
 }
 
 /// Whether the crescent is seen at a location on the evening with which a day (R.D.) begins, by Shaukat's criterion (Reingold and
@@ -196,8 +192,6 @@ pub fn visible<E: Enclosure>(location: &Location, day: i64, trail: &mut Trail) -
     ensures leads { Decides (spec.visible_of location.now day) trail.old.count trail.new.count
         result }
 {
-    match evening::<E>(location, day, trail) {
-        Ok(t) => meets_at(location, t, trail),
-        Err(fail) => Err(fail),
-    }
+    let t = evening::<E>(location, day, trail)?;
+    meets_at(location, t, trail)
 }

@@ -78,10 +78,8 @@ fn sight_start<E: Enclosure>(
     if !is_soon(day, new_moon) {
         return Ok(new_moon);
     }
-    match visible::<E>(location, day, trail) {
-        Ok(is_seen) => Ok(start(new_moon, is_seen)),
-        Err(fail) => Err(fail),
-    }
+    let is_seen = visible::<E>(location, day, trail)?;
+    Ok(start(new_moon, is_seen))
 }
 
 /// The first day (R.D.) from a day on on whose evening before the crescent is seen.
@@ -116,10 +114,8 @@ fn sight_after<E: Enclosure>(
         trail.new.count result }
     ensures value { IfOk result IsFactValue }
 {
-    match sight_start::<E>(location, day, new_moon, trail) {
-        Ok(from) => first_sight::<E>(location, from, trail),
-        Err(fail) => Err(fail),
-    }
+    let from = sight_start::<E>(location, day, new_moon, trail)?;
+    first_sight::<E>(location, from, trail)
 }
 
 /// The last day (R.D.) before a day, or the day itself, on whose evening before the crescent was first seen at a location by

@@ -22,8 +22,6 @@ pub(crate) fn longitude_at_midnight<E: Enclosure>(day: i64, trail: &mut Trail) -
 pub(crate) fn day_in_beijing<E: Enclosure>(t: E, trail: &mut Trail) -> Result<i64, Fail>
     ensures leads { Decides1 E.shown day_in_beijing_of t trail.old.count trail.new.count result }
 {
-    match in_beijing(t, trail) {
-        Ok(moment) => floor_step(moment, Site::DayFloor, trail),
-        Err(fail) => Err(fail),
-    }
+    let moment = in_beijing(t, trail)?;
+    floor_step(moment, Site::DayFloor, trail)
 }

@@ -35,8 +35,6 @@ pub(crate) fn major<E: Enclosure>(day: i64, trail: &mut Trail) -> Result<i64, Fa
     ensures value { IfOk result IsFactValue }
     ensures open { IfErr result (IsNearFor Major (year_of_day day)) }
 {
-    match terms_passed::<E>(day, trail) {
-        Ok(passed) => Ok(amod(2 + passed, 12)),
-        Err(fail) => Err(fail),
-    }
+    let passed = terms_passed::<E>(day, trail)?;
+    Ok(amod(2 + passed, 12))
 }

@@ -18,10 +18,8 @@ use time_scales::midnight;
 fn day_of_moon_before<E: Enclosure>(day: i64, trail: &mut Trail) -> Result<i64, Fail>
     ensures leads { Decides (new_moon_before_of day) trail.old.count trail.new.count result }
 {
-    match moon_before(midnight::<E>(day), trail) {
-        Ok(moment) => day_in_beijing(moment, trail),
-        Err(fail) => Err(fail),
-    }
+    let moment = moon_before(midnight::<E>(day), trail)?;
+    day_in_beijing(moment, trail)
 }
 
 /// The day (R.D.) in Beijing of the first new moon at or after midnight at the beginning of a day there.
@@ -29,10 +27,8 @@ fn day_of_moon_before<E: Enclosure>(day: i64, trail: &mut Trail) -> Result<i64, 
 fn day_of_moon_from<E: Enclosure>(day: i64, trail: &mut Trail) -> Result<i64, Fail>
     ensures leads { Decides (new_moon_from_of day) trail.old.count trail.new.count result }
 {
-    match moon_from(midnight::<E>(day), trail) {
-        Ok(moment) => day_in_beijing(moment, trail),
-        Err(fail) => Err(fail),
-    }
+    let moment = moon_from(midnight::<E>(day), trail)?;
+    day_in_beijing(moment, trail)
 }
 
 /// The day (R.D.) in Beijing of the last new moon before midnight at the beginning of a day there: 27 tests at most.

@@ -71,10 +71,8 @@ fn next_term_day<E: Enclosure>(first: i64, day: i64, trail: &mut Trail) -> Resul
     requires to { first ≤ℤ pos 15 }
     ensures leads { Decides (spec.term_day_of first day) trail.old.count trail.new.count result }
 {
-    match spans_short::<E>(first, day, trail) {
-        Ok(spans) => longitude_day::<E>(term_longitude(first, spans), day, trail),
-        Err(fail) => Err(fail),
-    }
+    let spans = spans_short::<E>(first, day, trail)?;
+    longitude_day::<E>(term_longitude(first, spans), day, trail)
 }
 
 /// The day (R.D.) in Beijing on which the sun comes to the first of the longitudes of the terms once a day has begun there: those 30

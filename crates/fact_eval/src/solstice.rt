@@ -34,10 +34,8 @@ fn has_winter<E: Enclosure>(day: i64, trail: &mut Trail) -> Result<bool, Fail>
     requires day { IsFactDay day }
     ensures leads { Decides (has_winter_at_end day) trail.old.count trail.new.count result }
 {
-    match longitude_at_midnight::<E>(day + 1, trail) {
-        Ok(longitude) => is_past_winter(longitude, trail),
-        Err(fail) => Err(fail),
-    }
+    let longitude = longitude_at_midnight::<E>(day + 1, trail)?;
+    is_past_winter(longitude, trail)
 }
 
 impl<E: Enclosure> DayTest<E> for WinterAtEnd {
@@ -84,8 +82,6 @@ pub(crate) fn solstice<E: Enclosure>(day: i64, trail: &mut Trail) -> Result<i64,
     ensures value { IfOk result IsFactValue }
     ensures open { IfErr result (IsNearFor Solstice (year_of_day day)) }
 {
-    match search_start::<E>(day, trail) {
-        Ok(start) => first_day::<E, WinterAtEnd>(&WinterAtEnd, start - 1, trail),
-        Err(fail) => Err(fail),
-    }
+    let start = search_start::<E>(day, trail)?;
+    first_day::<E, WinterAtEnd>(&WinterAtEnd, start - 1, trail)
 }

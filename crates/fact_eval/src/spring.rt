@@ -44,10 +44,8 @@ fn longitude_at<E: Enclosure, M: DayMoment<E>>(
     ensures leads { Follows E.shown (longitude_at_of M.moment_of day) trail.old.count
         trail.new.count result }
 {
-    match moment.at(day, trail) {
-        Ok(there) => sun(there, trail),
-        Err(fail) => Err(fail),
-    }
+    let there = moment.at(day, trail)?;
+    sun(there, trail)
 }
 
 /// Whether a longitude is at most 2 degrees, as one test.
@@ -72,10 +70,8 @@ fn has_spring<E: Enclosure, M: DayMoment<E>>(
     requires day { IsFactDay day }
     ensures leads { Decides (has_spring_at M.moment_of day) trail.old.count trail.new.count result }
 {
-    match longitude_at::<E, M>(moment, day, trail) {
-        Ok(longitude) => is_at_most_two(longitude, trail),
-        Err(fail) => Err(fail),
-    }
+    let longitude = longitude_at::<E, M>(moment, day, trail)?;
+    is_at_most_two(longitude, trail)
 }
 
 impl<E: Enclosure, M: DayMoment<E>> DayTest<E> for SpringAt<M> {
@@ -99,10 +95,8 @@ fn last_equinox<E: Enclosure, M: DayMoment<E>>(
     ensures leads { Follows E.shown (last_equinox_of M.moment_of day) trail.old.count
         trail.new.count result }
 {
-    match moment.at(day, trail) {
-        Ok(there) => estimate(E::from_int(0), there, trail),
-        Err(fail) => Err(fail),
-    }
+    let there = moment.at(day, trail)?;
+    estimate(E::from_int(0), there, trail)
 }
 
 /// The day (R.D.) of the moment at which the sun was last at the equinox before a moment of a day, as it is estimated.
@@ -136,8 +130,6 @@ pub(crate) fn spring_day<E: Enclosure, M: DayMoment<E>>(
     ensures leads { Decides (spring_day_of M.moment_of day) trail.old.count trail.new.count result }
     ensures value { IfOk result IsFactValue }
 {
-    match search_start::<E, M>(moment, day, trail) {
-        Ok(start) => first_day::<E, SpringAt<M>>(&SpringAt { moment }, start - 1, trail),
-        Err(fail) => Err(fail),
-    }
+    let start = search_start::<E, M>(moment, day, trail)?;
+    first_day::<E, SpringAt<M>>(&SpringAt { moment }, start - 1, trail)
 }

@@ -73,10 +73,8 @@ fn minutes_of_sunset<E: Enclosure>(
     ensures leads { Decides (sunset_in_minutes_of location.now day) trail.old.count trail.new.count
         result }
 {
-    match sunset::<E>(location, day, trail) {
-        Ok(t) => rounded(minutes(location, day, t), trail),
-        Err(fail) => Err(fail),
-    }
+    let t = sunset::<E>(location, day, trail)?;
+    rounded(minutes(location, day, t), trail)
 }
 
 /// Sunset on a day (R.D.) at a place, in minutes of its standard time after midnight, rounded: 133 tests at most. It is void

@@ -17,10 +17,8 @@ use sun_core::sidereal_sun;
 fn whole_signs<E: Enclosure>(t: E, trail: &mut Trail) -> Result<i64, Fail>
     ensures leads { Decides1 E.shown spec.signs_passed_of t trail.old.count trail.new.count result }
 {
-    match sidereal_sun(t, trail) {
-        Ok(longitude) => floor_step(longitude.mul_frac(DEGREE_IN_SIGNS), Site::Sidereal, trail),
-        Err(fail) => Err(fail),
-    }
+    let longitude = sidereal_sun(t, trail)?;
+    floor_step(longitude.mul_frac(DEGREE_IN_SIGNS), Site::Sidereal, trail)
 }
 
 /// The same, from 0 to 12.
@@ -39,10 +37,8 @@ pub(crate) fn sign<E: Enclosure>(t: E, trail: &mut Trail) -> Result<i64, Fail>
     ensures from { IfOk result (λ g. pos 1 ≤ℤ g) }
     ensures to { IfOk result (λ g. g ≤ℤ pos 13) }
 {
-    match signs_passed(t, trail) {
-        Ok(passed) => Ok(passed + 1),
-        Err(fail) => Err(fail),
-    }
+    let passed = signs_passed(t, trail)?;
+    Ok(passed + 1)
 }
 
 /// The whole degrees of the longitude of the sun among the stars.
@@ -50,10 +46,8 @@ pub(crate) fn sign<E: Enclosure>(t: E, trail: &mut Trail) -> Result<i64, Fail>
 fn floor_of_longitude<E: Enclosure>(t: E, trail: &mut Trail) -> Result<i64, Fail>
     ensures leads { Decides1 E.shown whole_degrees_of t trail.old.count trail.new.count result }
 {
-    match sidereal_sun(t, trail) {
-        Ok(longitude) => floor_step(longitude, Site::Sidereal, trail),
-        Err(fail) => Err(fail),
-    }
+    let longitude = sidereal_sun(t, trail)?;
+    floor_step(longitude, Site::Sidereal, trail)
 }
 
 /// The same, from 0 to 360: five tests at most.
@@ -81,12 +75,10 @@ pub(crate) fn hindu_year<E: Enclosure>(t: E, trail: &mut Trail) -> Result<i64, F
     ensures leads { Decides1 E.shown spec.hindu_year_of t trail.old.count trail.new.count result }
     ensures open { IfErr result (IsYearOpenFor (E.shown t)) }
 {
-    match sidereal_sun(t, trail) {
-        Ok(longitude) => floor_step(
-            years_gone(t, longitude).add(E::from_frac(HALF)),
-            Site::Round,
-            trail,
-        ),
-        Err(fail) => Err(fail),
-    }
+    let longitude = sidereal_sun(t, trail)?;
+    floor_step(
+        years_gone(t, longitude).add(E::from_frac(HALF)),
+        Site::Round,
+        trail,
+    )
 }

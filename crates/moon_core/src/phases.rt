@@ -48,10 +48,8 @@ fn months_since<E: Enclosure>(n: i64, t: E, trail: &mut Trail) -> Result<E, Fail
     requires high { n ≤ℤ pos 40000000 }
     ensures leads { Follows1 E.shown (spec.months_since n) t trail.old.count trail.new.count result }
 {
-    match new_moon::<E>(n, trail) {
-        Ok(moment) => Ok(t.sub(moment).mul_frac(DAY_IN_MONTHS)),
-        Err(fail) => Err(fail),
-    }
+    let moment = new_moon::<E>(n, trail)?;
+    Ok(t.sub(moment).mul_frac(DAY_IN_MONTHS))
 }
 
 /// The whole number of months that is nearest, as one test.
@@ -68,10 +66,8 @@ fn nearest_moon<E: Enclosure>(months: E, trail: &mut Trail) -> Result<i64, Fail>
 fn number_by_months<E: Enclosure>(t: E, trail: &mut Trail) -> Result<i64, Fail>
     ensures leads { Decides1 E.shown spec.rough_number_of t trail.old.count trail.new.count result }
 {
-    match months_since(0, t, trail) {
-        Ok(months) => nearest_moon(months, trail),
-        Err(fail) => Err(fail),
-    }
+    let months = months_since(0, t, trail)?;
+    nearest_moon(months, trail)
 }
 
 /// The same, of a moment of the years of which there is a correction: two tests at most.
@@ -102,10 +98,8 @@ fn phase_by_months<E: Enclosure>(n: i64, t: E, trail: &mut Trail) -> Result<E, F
         result }
 {
     let months = months_since(n, t, trail)?;
-    match rest_of_month(months, trail) {
-        Ok(rest) => Ok(rest.mul_frac(TURN)),
-        Err(fail) => Err(fail),
-    }
+    let rest = rest_of_month(months, trail)?;
+    Ok(rest.mul_frac(TURN))
 }
 
 /// The size of a number.

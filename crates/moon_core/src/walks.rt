@@ -19,10 +19,8 @@ fn is_moon_before<E: Enclosure>(n: i64, t: E, trail: &mut Trail) -> Result<bool,
     ensures leads { Decides1 E.shown (spec.is_moon_before_of n) t trail.old.count trail.new.count
         result }
 {
-    match new_moon::<E>(n, trail) {
-        Ok(moment) => less_step(moment, t, Site::MoonWalk, trail),
-        Err(fail) => Err(fail),
-    }
+    let moment = new_moon::<E>(n, trail)?;
+    less_step(moment, t, Site::MoonWalk, trail)
 }
 
 /// The first of so many numbers from one on whose new moon isn't before a moment; void at `moon-walk` where there is none.
@@ -65,10 +63,8 @@ pub fn moon_before<E: Enclosure>(t: E, trail: &mut Trail) -> Result<E, Fail>
     ensures leads { Follows1 E.shown spec.moon_before_of t trail.old.count trail.new.count result }
 {
     let about = number(t, trail)?;
-    match walk(NUMBERS_TRIED, t, about - 1, trail) {
-        Ok(next) => moon_preceding::<E>(next, trail),
-        Err(fail) => Err(fail),
-    }
+    let next = walk(NUMBERS_TRIED, t, about - 1, trail)?;
+    moon_preceding::<E>(next, trail)
 }
 
 /// The moment of the first new moon at or after a moment of universal time (Reingold and Dershowitz, Calendrical
@@ -80,8 +76,6 @@ pub fn moon_from<E: Enclosure>(t: E, trail: &mut Trail) -> Result<E, Fail>
     ensures leads { Follows1 E.shown spec.moon_from_of t trail.old.count trail.new.count result }
 {
     let about = number(t, trail)?;
-    match walk(NUMBERS_TRIED, t, about, trail) {
-        Ok(next) => new_moon::<E>(next, trail),
-        Err(fail) => Err(fail),
-    }
+    let next = walk(NUMBERS_TRIED, t, about, trail)?;
+    new_moon::<E>(next, trail)
 }

@@ -36,8 +36,6 @@ pub fn declination<E: Enclosure>(t: E, trail: &mut Trail) -> Result<E, Fail>
 {
     let c = centuries(t, trail)?;
     let tilt = obliquity(c, trail)?;
-    match sun(t, trail) {
-        Ok(longitude) => Ok(declination_by(tilt, longitude)),
-        Err(fail) => Err(fail),
-    }
+    let longitude = sun(t, trail)?;
+    Ok(declination_by(tilt, longitude))
 }

@@ -48,8 +48,6 @@ pub fn hsunset<E: Enclosure>(day: i64, trail: &mut Trail) -> Result<E, Fail>
     ensures leads { Follows E.shown (spec.hindu_sunset_of day) trail.old.count trail.new.count
         result }
 {
-    match dusk(&UJJAIN, E::from_int(0), day, trail) {
-        Ok(t) => Ok(universal(UJJAIN.longitude, t)),
-        Err(fail) => Err(fail),
-    }
+    let t = dusk(&UJJAIN, E::from_int(0), day, trail)?;
+    Ok(universal(UJJAIN.longitude, t))
 }

@@ -55,10 +55,8 @@ pub fn offset<E: Enclosure>(
     ensures leads { Follows2 E.shown (spec.offset_of location.now) depression t trail.old.count
         trail.new.count result }
 {
-    match declination(universal(location.longitude, t), trail) {
-        Ok(angle) => Ok(offset_by(location.latitude, depression, angle)),
-        Err(fail) => Err(fail),
-    }
+    let angle = declination(universal(location.longitude, t), trail)?;
+    Ok(offset_by(location.latitude, depression, angle))
 }
 
 /// Whether an offset is no sine, so that the sun doesn't come to the depression: one test.

@@ -64,8 +64,6 @@ pub fn sunset<E: Enclosure>(location: &Location, day: i64, trail: &mut Trail) ->
     ensures leads { Follows E.shown (spec.sunset_of location.now day) trail.old.count
         trail.new.count result }
 {
-    match dusk(location, sunset_depression::<E>(location), day, trail) {
-        Ok(t) => Ok(universal(location.longitude, t)),
-        Err(fail) => Err(fail),
-    }
+    let t = dusk(location, sunset_depression::<E>(location), day, trail)?;
+    Ok(universal(location.longitude, t))
 }

@@ -6,7 +6,7 @@ use Rattle.book_model.proofs.Counts.{counted_of_none}
 use Rattle.std.specs.Prelude.{◌+◌}
 use Rattle.book_model.proofs.Leads.{at_most_more}
 use Rattle.sun_core.proofs.NewYears.{spring_few}
-use Rattle.fact_eval.proofs.spring.SpringAt.holds.Goals as goal
+use Rattle.fact_eval.proofs.spring.SpringAtDayTest.holds.Goals as goal
 
 pub returns-clause-counted : goal.returns-clause-counted
 returns-clause-counted g c =
