@@ -1,6 +1,5 @@
 //! An angle that grows with time.
 ghost use Rattle.book_model.specs.programs.Calls.{Follows1};
-ghost use Rattle.std.specs.Prelude.{◌≤◌, ◌+◌, ℕ};
 ghost use Rattle.book_model.specs.numbers.Expressions.{Expression};
 ghost use Rattle.book_model.specs.programs.Programs.{Program};
 
@@ -12,12 +11,8 @@ pub trait Angular<E: Enclosure> {
     /// The angle at a moment, as a formula.
     ghost angle_of: { Self → Expression → Program Expression };
 
-    /// How many tests the angle of a moment makes at most.
-    ghost most: { ℕ };
-
     /// The angle at a moment, in degrees. It makes the tests of its formula, and fails where that does.
     fn at(&self, x: E, trail: &mut Trail) -> Result<E, Fail>
         ensures leads { Follows1 E.shown (angle_of self.now) x trail.old.count trail.new.count
-            result }
-        ensures counted { trail.new.count ≤ trail.old.count + most };
+            result };
 }

@@ -27,7 +27,6 @@ fn middle<E: Enclosure>(low: E, high: E) -> E
 fn are_near<E: Enclosure>(low: E, high: E, trail: &mut Trail) -> Result<bool, Fail>
     ensures leads { Decides2 E.shown spec.are_near_of low high trail.old.count trail.new.count
         result }
-    ensures counted { trail.new.count ≤ trail.old.count + 1 }
 {
     less_step(
         high.sub(low),
@@ -42,7 +41,6 @@ fn are_near<E: Enclosure>(low: E, high: E, trail: &mut Trail) -> Result<bool, Fa
 fn angle_past<E: Enclosure>(angle: E, target: E, trail: &mut Trail) -> Result<E, Fail>
     ensures leads { Follows2 E.shown spec.angle_past_of angle target trail.old.count trail.new.count
         result }
-    ensures counted { trail.new.count ≤ trail.old.count + 1 }
 {
     wrap_step(angle.sub(target), 360, Site::Bisect, trail)
 }
@@ -52,7 +50,6 @@ fn angle_past<E: Enclosure>(angle: E, target: E, trail: &mut Trail) -> Result<E,
 fn has_passed<E: Enclosure>(angle: E, target: E, trail: &mut Trail) -> Result<bool, Fail>
     ensures leads { Decides2 E.shown spec.has_passed_of angle target trail.old.count trail.new.count
         result }
-    ensures counted { trail.new.count ≤ trail.old.count + 2 }
 {
     let past = angle_past(angle, target, trail)?;
     less_step(past, E::from_int(HALF_CIRCLE), Site::Bisect, trail)
@@ -68,7 +65,6 @@ fn has_passed_at<E: Enclosure, F: Angular<E>>(
 ) -> Result<bool, Fail>
     ensures leads { Decides2 E.shown (spec.has_passed_at (F.angle_of f.now)) target x
         trail.old.count trail.new.count result }
-    ensures counted { trail.new.count ≤ trail.old.count + (F.most + 2) }
 {
     let angle = f.at(x, trail)?;
     has_passed(angle, target, trail)
@@ -87,7 +83,6 @@ fn bisected<E: Enclosure, F: Angular<E>>(
 ) -> Result<E, Fail>
     ensures leads { Follows3 E.shown (spec.bisected_of more (F.angle_of f.now)) target low high
         trail.old.count trail.new.count result }
-    ensures counted { trail.new.count ≤ trail.old.count + (more * (F.most + 3) + 1) }
 {
     if are_near(low, high, trail)? {
         return Ok(middle(low, high));
@@ -117,7 +112,6 @@ pub fn invert_angular<E: Enclosure, F: Angular<E>>(
 ) -> Result<E, Fail>
     ensures leads { Follows3 E.shown (spec.invert_of (F.angle_of f.now)) y low high trail.old.count
         trail.new.count result }
-    ensures counted { trail.new.count ≤ trail.old.count + (64 * (F.most + 3) + 1) }
 {
     bisected(TURNS, f, y, low, high, trail)
 }

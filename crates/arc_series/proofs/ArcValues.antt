@@ -16,7 +16,7 @@ use Rattle.book_model.specs.numbers.Fractions.{fraction_of}
 use Rattle.book_model.specs.numbers.Expressions.{Expression, World, value, integer, add, subtract, divide, negate, power}
 use Rattle.book_model.specs.numbers.Octants.{only}
 use Rattle.book_model.specs.numbers.Series.{arctan_term, arctan_at, double}
-use Rattle.book_model.specs.numbers.Arcs.{half, arctan_series, radian_at, arc_near, arc_above, arc_beyond, arc_at}
+use Rattle.book_model.specs.numbers.Arcs.{half, arctan_series, radian_at, arc_near, arc_above, arc_beyond}
 use Rattle.book_model.proofs.Terms.{IsUpTo, arctan_halving, arctan_rising}
 use Rattle.book_model.proofs.ArcSeries.{InHalf, positive_near, negative_near, series_nests, series_proper, degrees_proper}
 use Rattle.book_model.proofs.ArcPieces.{InPiece, InAbove, turned, turned_in, recip_in, opposite_three, opposite_above}
@@ -202,8 +202,8 @@ opposite_in : (w : World) (a : Expression) (x : Fraction) → only x ⊆ value w
 unfolding value
 opposite_in w a x h = only_in _ _ (negative_holds _ _ (member_of x (value w a) h))
 
-pub arc_value : (w : World) (p : Piece) (a : Expression) (x : Fraction) → 40 ≤ w.depth → InPiece (piece_of p) x → only x ⊆ value w a → arc_at w.depth (piece_of p) x ⊆ value w (arc_in p a)
-unfolding value arc_in arc_at
+pub arc_value : (w : World) (p : Piece) (a : Expression) (x : Fraction) → 40 ≤ w.depth → InPiece (piece_of p) x → only x ⊆ value w a → (piece_of p).arc w.depth x ⊆ value w (arc_in p a)
+unfolding value arc_in
 arc_value w FarBelow a x d i h = negative_within (beyond_value w (negate a) (opposite x) d (opposite_three x i.to) (opposite_in w a x h))
 arc_value w Below a x d i h = negative_within (above_value w (negate a) (opposite x) d (opposite_above x i.from i.to) (opposite_in w a x h))
 arc_value w Near a x d i h = near_value w a x d (record { above = i.from; below = i.to }) h

@@ -1,5 +1,6 @@
 -- From enclosures of points to those of what two ends have in common with the pieces.
-use Rattle.std.proofs.Common.{◌≡◌, ℕ, zero, suc, ◌≤◌, ◌-◌, ◌^◌, refl, arith, Bool, true, false, cond, ℤ, pos, negsuc, ◌+ℤ◌, ◌≤ℤ◌, ◌<ℤ◌, ◌⊎◌, inl, inr, Option, Some, None}
+use Rattle.std.proofs.Common.{◌≡◌, ℕ, zero, suc, ◌≤◌, ◌-◌, ◌^◌, refl, arith, Bool, true, false, cond, ℤ, pos, negsuc, ◌+ℤ◌, ◌≤ℤ◌, ◌<ℤ◌, ◌⊎◌, inl, inr, Option, Some, None, List, [], ◌∷◌, ◌++◌, map}
+use Rattle.std.specs.List.{filter}
 use Rattle.std.specs.Int.{int_min, int_max}
 use Rattle.std.proofs.lemmas.Int.{ints, clamps}
 use Rattle.exact_math.specs.Fraction.{Fraction, ◌≤F◌, whole, smaller, larger}
@@ -11,9 +12,9 @@ use Rattle.book_model.specs.numbers.Expressions.{Expression, World, value, argum
 use Rattle.book_model.specs.numbers.Relations.{Within, Lies}
 use Rattle.book_model.specs.programs.Leading.{at_56}
 use Rattle.book_model.specs.numbers.Octants.{only}
-use Rattle.book_model.specs.numbers.Arcs.{half, minus_half, arc_at, begin_of, end_of, arc_over, join, found, arctangent_of}
-use Rattle.book_model.proofs.ArcPieces.{InPiece, IsFrom, IsTo}
-use Rattle.book_model.proofs.Arcs.{met_out, low_in, high_in, low_of, high_of, over_all, all_there, IsThere}
+use Rattle.book_model.specs.numbers.Arcs.{half, minus_half, Piece as ArcPiece, pieces, meets, arc_of_part, arcs_over, arctangent_of}
+use Rattle.book_model.proofs.ArcPieces.{InPiece, IsFrom, IsTo, IsArc, far_below_arc, below_arc, near_arc, above_arc, far_above_arc}
+use Rattle.book_model.proofs.Arcs.{met_out, low_in, high_in, low_of, high_of, Each, all_least, arcs_there}
 use Rattle.arc_series.specs.declared.pieces.Piece.{Piece}
 use Rattle.arc_series.specs.declared.pieces.Piece.TheVariants.{FarBelow, Below, Near, Above, FarAbove}
 use Rattle.arc_series.specs.Forms.{piece_of, arc_in, AreHeld, begin_56, end_56}
@@ -24,7 +25,7 @@ abbrev point_world : ℕ → Fraction → World
 point_world n x = record { depth = n; arguments = λ k. only x; proper = λ k. le_refl x }
 
 pub arc_held : {E : Type 0} (shown : E → Interval) (n : ℕ) (p : Piece) (x : Fraction) (e r : E) → 40 ≤ n → InPiece (piece_of p) x → only x ⊆ shown e
-    → ((w : World) (a : Expression) → 40 ≤ w.depth → Within shown w a e → Within shown w (arc_in p a) r) → arc_at n (piece_of p) x ⊆ shown r
+    → ((w : World) (a : Expression) → 40 ≤ w.depth → Within shown w a e → Within shown w (arc_in p a) r) → (piece_of p).arc n x ⊆ shown r
 unfolding Lies value
 arc_held shown n p x e r d i h f =
     let k = f (point_world n x) (argument 0) d (record { deep = d; inside = h }) in
@@ -93,14 +94,14 @@ high_only Near x h = smaller_at half (end_56 Near) x (record { cross = omega (ar
 high_only Above x h = smaller_at (whole (pos 3)) (end_56 Above) x (record { cross = omega (arith, ints) }) (record { cross = omega (arith, ints) })
 high_only FarAbove x h = record { ends = (record { cross = omega (arith, ints, clamps, h) }, record { cross = omega (arith, ints, clamps, h) }) }
 
-begun_says : (p : Piece) (x : ℤ) → negsuc (2 ^ 127 - 1) ≤ℤ x → IsFrom (begin_of (piece_of p)) (at_56 x) → begin_56 p ≤ℤ x
+begun_says : (p : Piece) (x : ℤ) → negsuc (2 ^ 127 - 1) ≤ℤ x → IsFrom ((piece_of p).begin) (at_56 x) → begin_56 p ≤ℤ x
 begun_says FarBelow x h f = h
 begun_says Below x h f = omega (arith, ints, f.cross)
 begun_says Near x h f = omega (arith, ints, f.cross)
 begun_says Above x h f = omega (arith, ints, f.cross)
 begun_says FarAbove x h f = omega (arith, ints, f.cross)
 
-ended_says : (p : Piece) (x : ℤ) → x ≤ℤ pos (2 ^ 127 - 1) → IsTo (end_of (piece_of p)) (at_56 x) → x ≤ℤ end_56 p
+ended_says : (p : Piece) (x : ℤ) → x ≤ℤ pos (2 ^ 127 - 1) → IsTo ((piece_of p).end) (at_56 x) → x ≤ℤ end_56 p
 ended_says FarBelow x h f = omega (arith, ints, f.cross)
 ended_says Below x h f = omega (arith, ints, f.cross)
 ended_says Near x h f = omega (arith, ints, f.cross)
@@ -108,71 +109,95 @@ ended_says Above x h f = omega (arith, ints, f.cross)
 ended_says FarAbove x h f = h
 
 -- ---- the part in a piece
-none_by : {E : Type 0} (shown : E → Interval) (s : Bool) (i : Interval) (y : Option E) → (s ≡ true → ⊥) → AreHeld shown (cond s (Some i) None) y
-none_by shown true i y h = absurd (h refl)
-none_by shown false i y h = tt
+piece_arc : (p : Piece) → IsArc (piece_of p)
+piece_arc FarBelow = far_below_arc
+piece_arc Below = below_arc
+piece_arc Near = near_arc
+piece_arc Above = above_arc
+piece_arc FarAbove = far_above_arc
 
-some_by : {E : Type 0} (shown : E → Interval) (s : Bool) (i : Interval) (r : E) → (s ≡ true → i ⊆ shown r) → AreHeld shown (cond s (Some i) None) (Some r)
-some_by shown true i r h = h refl
-some_by shown false i r h = tt
+none_by : {E : Type 0} (shown : E → Interval) (g : ArcPiece → Interval) (p : ArcPiece) (t : Bool) (y : Option E) → (t ≡ true → ⊥) → AreHeld shown (map g (cond t (p ∷ []) [])) y
+none_by shown g p true y h = absurd (h refl)
+none_by shown g p false y h = tt
 
-pub unbegun_held : {E : Type 0} (shown : E → Interval) (n : ℕ) (p : Piece) (lo hi : ℤ) (y : Option E) → negsuc (2 ^ 127 - 1) ≤ℤ hi → hi <ℤ begin_56 p → AreHeld shown (arc_over n (at_56 lo) (at_56 hi) (piece_of p)) y
-unfolding arc_over
-unbegun_held shown n p lo hi y h k = none_by shown _ _ y λ t. let m = met_out (piece_of p) (at_56 lo) (at_56 hi) t in let l = begun_says p hi h m.begun in omega (arith, ints, l, k)
+some_by : {E : Type 0} (shown : E → Interval) (g : ArcPiece → Interval) (p : ArcPiece) (t : Bool) (r : E) → (t ≡ true → g p ⊆ shown r) → AreHeld shown (map g (cond t (p ∷ []) [])) (Some r)
+some_by shown g p true r h = (h refl, tt)
+some_by shown g p false r h = tt
 
-pub ended_held : {E : Type 0} (shown : E → Interval) (n : ℕ) (p : Piece) (lo hi : ℤ) (y : Option E) → lo ≤ℤ pos (2 ^ 127 - 1) → end_56 p <ℤ lo → AreHeld shown (arc_over n (at_56 lo) (at_56 hi) (piece_of p)) y
-unfolding arc_over
-ended_held shown n p lo hi y h k = none_by shown _ _ y λ t. let m = met_out (piece_of p) (at_56 lo) (at_56 hi) t in let l = ended_says p lo h m.ended in omega (arith, ints, l, k)
+pub unbegun_held : {E : Type 0} (shown : E → Interval) (n : ℕ) (p : Piece) (lo hi : ℤ) (y : Option E) → negsuc (2 ^ 127 - 1) ≤ℤ hi → hi <ℤ begin_56 p → AreHeld shown (arcs_over n (at_56 lo) (at_56 hi) (piece_of p ∷ [])) y
+unbegun_held shown n p lo hi y h k =
+    none_by shown (arc_of_part n (at_56 lo) (at_56 hi)) (piece_of p) (meets (at_56 lo) (at_56 hi) (piece_of p)) y λ t.
+    let m = met_out (piece_of p) (at_56 lo) (at_56 hi) t in
+    let l = begun_says p hi h m.begun in
+    omega (arith, ints, l, k)
+
+pub ended_held : {E : Type 0} (shown : E → Interval) (n : ℕ) (p : Piece) (lo hi : ℤ) (y : Option E) → lo ≤ℤ pos (2 ^ 127 - 1) → end_56 p <ℤ lo → AreHeld shown (arcs_over n (at_56 lo) (at_56 hi) (piece_of p ∷ [])) y
+ended_held shown n p lo hi y h k =
+    none_by shown (arc_of_part n (at_56 lo) (at_56 hi)) (piece_of p) (meets (at_56 lo) (at_56 hi) (piece_of p)) y λ t.
+    let m = met_out (piece_of p) (at_56 lo) (at_56 hi) t in
+    let l = ended_says p lo h m.ended in
+    omega (arith, ints, l, k)
 
 pub over_held : {E : Type 0} (shown : E → Interval) (proper : (e : E) → IsProper (shown e)) (n : ℕ) (p : Piece) (lo hi : ℤ) (x y low high r : E) → 40 ≤ n → negsuc (2 ^ 127 - 1) ≤ℤ lo → hi ≤ℤ pos (2 ^ 127 - 1)
     → only (at_56 (int_max (begin_56 p) lo)) ⊆ shown x → only (at_56 (int_min (end_56 p) hi)) ⊆ shown y
     → ((w : World) (a : Expression) → 40 ≤ w.depth → Within shown w a x → Within shown w (arc_in p a) low)
     → ((w : World) (a : Expression) → 40 ≤ w.depth → Within shown w a y → Within shown w (arc_in p a) high)
     → ((w : World) (a b : Expression) → Within shown w a low → Within shown w b high → Within shown w (hull_of a b) r)
-    → AreHeld shown (arc_over n (at_56 lo) (at_56 hi) (piece_of p)) (Some r)
-unfolding arc_over
+    → AreHeld shown (arcs_over n (at_56 lo) (at_56 hi) (piece_of p ∷ [])) (Some r)
+unfolding arc_of_part
 over_held shown proper n p lo hi x y low high r d hl hh hx hy fx fy fh =
-    some_by shown _ _ r λ t.
+    some_by shown (arc_of_part n (at_56 lo) (at_56 hi)) (piece_of p) (meets (at_56 lo) (at_56 hi) (piece_of p)) r λ t.
     let m = met_out (piece_of p) (at_56 lo) (at_56 hi) t in
+    let q = (piece_arc p).order in
     hull_held shown _ _ low high r (proper low) (proper high)
-    (arc_held shown n p (low_of (piece_of p) (at_56 lo)) x low d (low_in (piece_of p) (at_56 lo) (at_56 hi) m) (within_trans (low_only p lo hl) hx) fx)
-    (arc_held shown n p (high_of (piece_of p) (at_56 hi)) y high d (high_in (piece_of p) (at_56 lo) (at_56 hi) m) (within_trans (high_only p hi hh) hy) fy)
+    (arc_held shown n p (low_of (piece_of p) (at_56 lo)) x low d (low_in (piece_of p) (at_56 lo) (at_56 hi) q m) (within_trans (low_only p lo hl) hx) fx)
+    (arc_held shown n p (high_of (piece_of p) (at_56 hi)) y high d (high_in (piece_of p) (at_56 lo) (at_56 hi) q m) (within_trans (high_only p hi hh) hy) fy)
     fh
 
 -- ---- what there is of two
-hull_first : {E : Type 0} (shown : E → Interval) (i : Interval) (x y r : E) → IsProper (shown x) → IsProper (shown y) → i ⊆ shown x
-    → ((w : World) (a b : Expression) → Within shown w a x → Within shown w b y → Within shown w (hull_of a b) r) → i ⊆ shown r
-hull_first shown i x y r p q h f = within_trans (within_trans h (hull_holds_first (shown x) (shown y))) (hull_held shown (shown x) (shown y) x y r p q (within_refl _) (within_refl _) f)
+hull_first : {E : Type 0} (shown : E → Interval) (x y r : E) → IsProper (shown x) → IsProper (shown y)
+    → ((w : World) (a b : Expression) → Within shown w a x → Within shown w b y → Within shown w (hull_of a b) r) → (i : Interval) → i ⊆ shown x → i ⊆ shown r
+hull_first shown x y r p q f i h = within_trans (within_trans h (hull_holds_first (shown x) (shown y))) (hull_held shown (shown x) (shown y) x y r p q (within_refl _) (within_refl _) f)
 
-hull_second : {E : Type 0} (shown : E → Interval) (i : Interval) (x y r : E) → IsProper (shown x) → IsProper (shown y) → i ⊆ shown y
-    → ((w : World) (a b : Expression) → Within shown w a x → Within shown w b y → Within shown w (hull_of a b) r) → i ⊆ shown r
-hull_second shown i x y r p q h f = within_trans (within_trans h (hull_holds_second (shown x) (shown y))) (hull_held shown (shown x) (shown y) x y r p q (within_refl _) (within_refl _) f)
+hull_second : {E : Type 0} (shown : E → Interval) (x y r : E) → IsProper (shown x) → IsProper (shown y)
+    → ((w : World) (a b : Expression) → Within shown w a x → Within shown w b y → Within shown w (hull_of a b) r) → (i : Interval) → i ⊆ shown y → i ⊆ shown r
+hull_second shown x y r p q f i h = within_trans (within_trans h (hull_holds_second (shown x) (shown y))) (hull_held shown (shown x) (shown y) x y r p q (within_refl _) (within_refl _) f)
 
-pub join_both : {E : Type 0} (shown : E → Interval) (proper : (e : E) → IsProper (shown e)) (i j : Option Interval) (x y r : E) → AreHeld shown i (Some x) → AreHeld shown j (Some y)
-    → ((w : World) (a b : Expression) → Within shown w a x → Within shown w b y → Within shown w (hull_of a b) r) → AreHeld shown (join i j) (Some r)
-unfolding join
-join_both shown proper None None x y r h k f = tt
-join_both shown proper None (Some j) x y r h k f = hull_second shown j x y r (proper x) (proper y) k f
-join_both shown proper (Some i) None x y r h k f = hull_first shown i x y r (proper x) (proper y) h f
-join_both shown proper (Some i) (Some j) x y r h k f = hull_held shown i j x y r (proper x) (proper y) h k f
+both_held : {E : Type 0} (shown : E → Interval) (is js : List Interval) (x y r : E) → ((i : Interval) → i ⊆ shown x → i ⊆ shown r) → ((j : Interval) → j ⊆ shown y → j ⊆ shown r)
+    → AreHeld shown is (Some x) → AreHeld shown js (Some y) → AreHeld shown (is ++ js) (Some r)
+both_held shown [] [] x y r f g h k = tt
+both_held shown [] (j ∷ js) x y r f g h k = (g j k.0, both_held shown [] js x y r f g h k.1)
+both_held shown (i ∷ is) js x y r f g h k = (f i h.0, both_held shown is js x y r f g h.1 k)
 
-pub join_first : {E : Type 0} (shown : E → Interval) (i j : Option Interval) (x : E) → AreHeld shown i (Some x) → AreHeld shown j None → AreHeld shown (join i j) (Some x)
-unfolding join
-join_first shown None None x h k = tt
-join_first shown None (Some j) x h k = absurd k
-join_first shown (Some i) None x h k = h
-join_first shown (Some i) (Some j) x h k = absurd k
+pub join_both : {E : Type 0} (shown : E → Interval) (proper : (e : E) → IsProper (shown e)) (is js : List Interval) (x y r : E) → AreHeld shown is (Some x) → AreHeld shown js (Some y)
+    → ((w : World) (a b : Expression) → Within shown w a x → Within shown w b y → Within shown w (hull_of a b) r) → AreHeld shown (is ++ js) (Some r)
+join_both shown proper is js x y r h k f = both_held shown is js x y r (hull_first shown x y r (proper x) (proper y) f) (hull_second shown x y r (proper x) (proper y) f) h k
 
-pub join_second : {E : Type 0} (shown : E → Interval) (i j : Option Interval) (y : Option E) → AreHeld shown i None → AreHeld shown j y → AreHeld shown (join i j) y
-unfolding join
-join_second shown None j y h k = k
-join_second shown (Some i) j y h k = absurd h
+pub join_first : {E : Type 0} (shown : E → Interval) (is js : List Interval) (x : E) → AreHeld shown is (Some x) → AreHeld shown js None → AreHeld shown (is ++ js) (Some x)
+join_first shown [] [] x h k = tt
+join_first shown [] (j ∷ js) x h k = absurd k
+join_first shown (i ∷ is) js x h k = (h.0, join_first shown is js x h.1 k)
+
+pub join_second : {E : Type 0} (shown : E → Interval) (is js : List Interval) (y : Option E) → AreHeld shown is None → AreHeld shown js y → AreHeld shown (is ++ js) y
+join_second shown [] js y h k = k
+join_second shown (i ∷ is) js y h k = absurd h
 
 -- ---- all pieces
-found_held : {E : Type 0} (shown : E → Interval) (x : Option Interval) (e : E) → IsThere x → AreHeld shown x (Some e) → found x ⊆ shown e
-found_held shown None e t h = absurd t
-found_held shown (Some i) e t h = h
+more_by : {E : Type 0} (shown : E → Interval) (g : ArcPiece → Interval) (p : ArcPiece) (ps : List ArcPiece) (t : Bool) (y : Option E)
+    → AreHeld shown (map g (cond t (p ∷ []) []) ++ map g ps) y → AreHeld shown (map g (cond t (p ∷ ps) ps)) y
+more_by shown g p ps true y h = h
+more_by shown g p ps false y h = h
 
-pub all_held : {E : Type 0} (shown : E → Interval) (n : ℕ) (lo hi : ℤ) (e : E) → lo ≤ℤ hi → AreHeld shown (over_all n (at_56 lo) (at_56 hi)) (Some e) → arctangent_of n (between (at_56 lo) (at_56 hi)) ⊆ shown e
+-- one piece more
+pub more_held : {E : Type 0} (shown : E → Interval) (n : ℕ) (a b : Fraction) (p : ArcPiece) (ps : List ArcPiece) (y : Option E)
+    → AreHeld shown (arcs_over n a b (p ∷ []) ++ arcs_over n a b ps) y → AreHeld shown (arcs_over n a b (p ∷ ps)) y
+more_held shown n a b p ps y h = more_by shown (arc_of_part n a b) p (filter (meets a b) ps) (meets a b p) y h
+
+each_held : {E : Type 0} (shown : E → Interval) (is : List Interval) (e : E) → AreHeld shown is (Some e) → Each (λ i. i ⊆ shown e) is
+each_held shown [] e h = tt
+each_held shown (i ∷ is) e h = (h.0, each_held shown is e h.1)
+
+pub all_held : {E : Type 0} (shown : E → Interval) (n : ℕ) (lo hi : ℤ) (e : E) → lo ≤ℤ hi → AreHeld shown (arcs_over n (at_56 lo) (at_56 hi) pieces) (Some e) → arctangent_of n (between (at_56 lo) (at_56 hi)) ⊆ shown e
 unfolding arctangent_of
-all_held shown n lo hi e o h = found_held shown (over_all n (at_56 lo) (at_56 hi)) e (all_there n (at_56 lo) (at_56 hi) (record { cross = omega (arith, ints, o) })) h
+all_held shown n lo hi e o h =
+    all_least (arcs_over n (at_56 lo) (at_56 hi) pieces) (shown e) (arcs_there n (at_56 lo) (at_56 hi) (record { cross = omega (arith, ints, o) })) (each_held shown _ e h)

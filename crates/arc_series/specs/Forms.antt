@@ -1,5 +1,5 @@
 -- The forms in which arctangents are computed, as expressions.
-use Rattle.std.specs.Prelude.{ℕ, zero, suc, ◌+◌, ◌-◌, ◌*◌, ◌^◌, ℤ, pos, negsuc, neg_ℤ, Option, Some, None, Bool, false, ◌||◌}
+use Rattle.std.specs.Prelude.{ℕ, zero, suc, ◌+◌, ◌-◌, ◌*◌, ◌^◌, ℤ, pos, negsuc, neg_ℤ, Option, Some, None, List, [], ◌∷◌, Bool, false, ◌||◌}
 use Rattle.exact_math.specs.Interval.{Interval, everything, between, ◌⊆◌}
 use lib.Signed.{lt_z}
 use Rattle.book_model.specs.numbers.Arcs.{Piece as ArcPiece, far_below, below, near, above, far_above}
@@ -42,11 +42,11 @@ arc_in Near a = near_of a
 arc_in Above a = above_of a
 arc_in FarAbove a = beyond_of a
 
--- what there is of an enclosure holds what there is of an interval
-abbrev pub AreHeld : {E : Type 0} → (E → Interval) → Option Interval → Option E → Type 0
-AreHeld shown None y = Unit {0}
-AreHeld shown (Some i) None = ⊥
-AreHeld shown (Some i) (Some e) = i ⊆ shown e
+-- what there is of an enclosure holds each of some intervals
+abbrev pub AreHeld : {E : Type 0} → (E → Interval) → List Interval → Option E → Type 0
+AreHeld shown [] y = Unit {0}
+AreHeld shown (i ∷ is) None = ⊥
+AreHeld shown (i ∷ is) (Some e) = (i ⊆ shown e) × AreHeld shown is (Some e)
 
 -- the ends of a piece at scale 2^-56; where it doesn't begin or end, the least and the greatest number of 128 bits
 abbrev pub begin_56 : Piece → ℤ

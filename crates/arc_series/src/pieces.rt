@@ -1,8 +1,8 @@
 //! Arctangents over the closed pieces of the line.
 ghost use Rattle.book_model.specs.programs.Calls.{Holds1};
-ghost use Rattle.std.specs.Prelude.{◌≡◌, ℕ, ◌≤◌, Option};
+ghost use Rattle.std.specs.Prelude.{◌≡◌, ℕ, ◌≤◌, List, [], ◌∷◌, ◌++◌};
 ghost use Rattle.exact_math.specs.Interval.{Interval, between, ◌⊆◌};
-ghost use Rattle.book_model.specs.numbers.Arcs.{arc_over as arc_over_piece, join as join_of, arctangent_of, far_below, below, near as near_piece, above as above_piece, far_above};
+ghost use Rattle.book_model.specs.numbers.Arcs.{arcs_over, arctangent_of, far_below, below, near as near_piece, above as above_piece, far_above};
 ghost use Rattle.book_model.specs.programs.Leading.{at_56};
 ghost use Rattle.book_model.specs.numbers.Octants.{only};
 ghost use Rattle.book_model.specs.numbers.Depth.{DEPTH};
@@ -94,7 +94,7 @@ fn point<E: Enclosure>(at: i128) -> E
 /// The arctangents at both ends of what two ends have in common with a piece, if there is such a part.
 fn arc_over<E: Enclosure>(piece: Piece, lo: i128, hi: i128) -> Option<E>
     ensures holds { (n : ℕ) → DEPTH ≤ n → AreHeld E.shown
-        (arc_over_piece n (at_56 lo) (at_56 hi) (piece_of piece)) result }
+        (arcs_over n (at_56 lo) (at_56 hi) (piece_of piece ∷ [])) result }
 {
     let begin = begin_of(piece);
     let end = end_of(piece);
@@ -111,8 +111,8 @@ fn arc_over<E: Enclosure>(piece: Piece, lo: i128, hi: i128) -> Option<E>
 
 /// The hull of what there is.
 fn join<E: Enclosure>(x: Option<E>, y: Option<E>) -> Option<E>
-    ensures holds { (i j : Option Interval) → AreHeld E.shown i x → AreHeld E.shown j y
-        → AreHeld E.shown (join_of i j) result }
+    ensures holds { (is js : List Interval) → AreHeld E.shown is x → AreHeld E.shown js y
+        → AreHeld E.shown (is ++ js) result }
 {
     match x {
         Some(first) => match y {

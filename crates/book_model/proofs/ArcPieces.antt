@@ -8,7 +8,7 @@ use Rattle.exact_math.proofs.Fractions.{le_refl, opposite_mono, plus_mono, IsPos
 use Rattle.exact_math.proofs.Intervals.{within_trans, within_refl, negative_within, negative_proper, sum_within, plus_proper}
 use Rattle.exact_math.proofs.Certificates.{zero_F, ◌≼◌, ◌≗◌, known, multiple, ◌⊞◌, ◌⊠◌, natural, le_by, le_over}
 use Rattle.book_model.specs.numbers.Octants.{only}
-use Rattle.book_model.specs.numbers.Arcs.{half, minus_half, arc_above, arc_beyond, arc_at, Piece, far_below, below, near, above, far_above, begin_of, end_of}
+use Rattle.book_model.specs.numbers.Arcs.{half, minus_half, arc_above, arc_beyond, Piece, far_below, below, near, above, far_above}
 use Rattle.book_model.proofs.SeriesNesting.{Precedes, preceding}
 use Rattle.book_model.proofs.ArcSeries.{InHalf, near_rises, near_deeper, near_proper, near_inside, near_nonneg}
 
@@ -174,8 +174,8 @@ IsTo None x = Unit {0}
 IsTo (Some e) x = x ≤F e
 
 pub record InPiece (p : Piece) (x : Fraction) : Type 0 where
-  pub from : IsFrom (begin_of p) x
-  pub to : IsTo (end_of p) x
+  pub from : IsFrom p.begin x
+  pub to : IsTo p.end x
 
 -- below -3 the opposite is from 3 on
 pub opposite_three : (x : Fraction) → x ≤F whole (negsuc 2) → whole (pos 3) ≤F opposite x
@@ -185,34 +185,60 @@ pub opposite_above : (x : Fraction) → whole (negsuc 2) ≤F x → x ≤F minus
 unfolding opposite
 opposite_above x h k = record { from = record { cross = omega (arith, ints, k.cross) }; to = record { cross = omega (arith, ints, h.cross) } }
 
-pub arc_rises : (n : ℕ) (p : Piece) (x y : Fraction) → InPiece p x → InPiece p y → x ≤F y → Precedes (arc_at n p x) (arc_at n p y)
-unfolding arc_at
-arc_rises n far_below x y w v h = opposites_fall (beyond_rises n (opposite y) (opposite x) (opposite_three y v.to) (opposite_three x w.to) (opposite_mono x y h))
-arc_rises n below x y w v h = opposites_fall (above_rises n (opposite y) (opposite x) (opposite_above y v.from v.to) (opposite_above x w.from w.to) (opposite_mono x y h))
-arc_rises n near x y w v h = near_rises n x y (record { above = w.from; below = w.to }) (record { above = v.from; below = v.to }) h
-arc_rises n above x y w v h = above_rises n x y (record { from = w.from; to = w.to }) (record { from = v.from; to = v.to }) h
-arc_rises n far_above x y w v h = beyond_rises n x y w.from v.from h
+abbrev pub AreInOrder : Option Fraction → Option Fraction → Type 0
+AreInOrder None t = Unit {0}
+AreInOrder (Some e) None = Unit {0}
+AreInOrder (Some e) (Some f) = e ≤F f
 
-pub arc_deeper : (n : ℕ) (p : Piece) (x : Fraction) → InPiece p x → arc_at (suc n) p x ⊆ arc_at n p x
-unfolding arc_at
-arc_deeper n far_below x w = negative_within (beyond_deeper n (opposite x) (opposite_three x w.to))
-arc_deeper n below x w = negative_within (above_deeper n (opposite x) (opposite_above x w.from w.to))
-arc_deeper n near x w = near_deeper n x (record { above = w.from; below = w.to })
-arc_deeper n above x w = above_deeper n x (record { from = w.from; to = w.to })
-arc_deeper n far_above x w = beyond_deeper n x w.from
+-- in a piece the arctangent rises, its enclosures nest, and it lies from -90 to 90
+pub record IsArc (p : Piece) : Type 0 where
+  pub order : AreInOrder p.begin p.end
+  pub rises : (n : ℕ) (x y : Fraction) → InPiece p x → InPiece p y → x ≤F y → Precedes (p.arc n x) (p.arc n y)
+  pub deeper : (n : ℕ) (x : Fraction) → InPiece p x → p.arc (suc n) x ⊆ p.arc n x
+  pub proper : (n : ℕ) (x : Fraction) → InPiece p x → IsProper (p.arc n x)
+  pub inside : (n : ℕ) (x : Fraction) → InPiece p x → p.arc n x ⊆ quarters
 
-pub arc_proper : (n : ℕ) (p : Piece) (x : Fraction) → InPiece p x → IsProper (arc_at n p x)
-unfolding arc_at
-arc_proper n far_below x w = negative_proper _ (beyond_proper n (opposite x) (opposite_three x w.to))
-arc_proper n below x w = negative_proper _ (above_proper n (opposite x) (opposite_above x w.from w.to))
-arc_proper n near x w = near_proper n x (record { above = w.from; below = w.to })
-arc_proper n above x w = above_proper n x (record { from = w.from; to = w.to })
-arc_proper n far_above x w = beyond_proper n x w.from
+pub far_below_arc : IsArc far_below
+far_below_arc = record {
+  order = tt;
+  rises = λ n x y w v h. opposites_fall (beyond_rises n (opposite y) (opposite x) (opposite_three y v.to) (opposite_three x w.to) (opposite_mono x y h));
+  deeper = λ n x w. negative_within (beyond_deeper n (opposite x) (opposite_three x w.to));
+  proper = λ n x w. negative_proper _ (beyond_proper n (opposite x) (opposite_three x w.to));
+  inside = λ n x w. within_trans (negative_within (beyond_inside n (opposite x) (opposite_three x w.to))) opposite_quarters;
+}
 
-pub arc_inside : (n : ℕ) (p : Piece) (x : Fraction) → InPiece p x → arc_at n p x ⊆ quarters
-unfolding arc_at
-arc_inside n far_below x w = within_trans (negative_within (beyond_inside n (opposite x) (opposite_three x w.to))) opposite_quarters
-arc_inside n below x w = within_trans (negative_within (above_inside n (opposite x) (opposite_above x w.from w.to))) opposite_quarters
-arc_inside n near x w = within_trans (near_inside n x (record { above = w.from; below = w.to })) near_quarters
-arc_inside n above x w = above_inside n x (record { from = w.from; to = w.to })
-arc_inside n far_above x w = beyond_inside n x w.from
+pub below_arc : IsArc below
+below_arc = record {
+  order = record { cross = record { le = tt } };
+  rises = λ n x y w v h. opposites_fall (above_rises n (opposite y) (opposite x) (opposite_above y v.from v.to) (opposite_above x w.from w.to) (opposite_mono x y h));
+  deeper = λ n x w. negative_within (above_deeper n (opposite x) (opposite_above x w.from w.to));
+  proper = λ n x w. negative_proper _ (above_proper n (opposite x) (opposite_above x w.from w.to));
+  inside = λ n x w. within_trans (negative_within (above_inside n (opposite x) (opposite_above x w.from w.to))) opposite_quarters;
+}
+
+pub near_arc : IsArc near
+near_arc = record {
+  order = record { cross = record { le = tt } };
+  rises = λ n x y w v h. near_rises n x y (record { above = w.from; below = w.to }) (record { above = v.from; below = v.to }) h;
+  deeper = λ n x w. near_deeper n x (record { above = w.from; below = w.to });
+  proper = λ n x w. near_proper n x (record { above = w.from; below = w.to });
+  inside = λ n x w. within_trans (near_inside n x (record { above = w.from; below = w.to })) near_quarters;
+}
+
+pub above_arc : IsArc above
+above_arc = record {
+  order = record { cross = record { le = tt } };
+  rises = λ n x y w v h. above_rises n x y (record { from = w.from; to = w.to }) (record { from = v.from; to = v.to }) h;
+  deeper = λ n x w. above_deeper n x (record { from = w.from; to = w.to });
+  proper = λ n x w. above_proper n x (record { from = w.from; to = w.to });
+  inside = λ n x w. above_inside n x (record { from = w.from; to = w.to });
+}
+
+pub far_above_arc : IsArc far_above
+far_above_arc = record {
+  order = tt;
+  rises = λ n x y w v h. beyond_rises n x y w.from v.from h;
+  deeper = λ n x w. beyond_deeper n x w.from;
+  proper = λ n x w. beyond_proper n x w.from;
+  inside = λ n x w. beyond_inside n x w.from;
+}

@@ -1,81 +1,102 @@
 -- Arctangents of intervals nest, and so do arcsines, arccosines and the arctangents of two numbers.
-use Rattle.std.proofs.Common.{◌≡◌, ℕ, suc, ◌≤◌, refl, sym, arith, Bool, true, false, cond, pos, negsuc, Option, Some, None, inl, inr}
+use Rattle.std.proofs.Common.{◌≡◌, ℕ, suc, ◌≤◌, refl, sym, arith, Bool, true, false, cond, pos, negsuc, Option, Some, None, List, [], ◌∷◌, map, inl, inr}
 use Rattle.std.specs.Prelude.{◌&&◌}
+use Rattle.std.specs.List.{filter}
 use Rattle.std.proofs.lemmas.Int.{ints}
 use lib.Signed.{lt_z}
 use Rattle.exact_math.specs.Fraction.{Fraction, ◌≤F◌, whole, plus, opposite, smaller}
-use Rattle.exact_math.specs.Interval.{Interval, everything, between, IsProper, AreWithin, ◌⊆◌, sum, difference, negative, product, quotient, power, clamp, one, excludes_zero}
+use Rattle.exact_math.specs.Interval.{Interval, everything, between, IsProper, AreWithin, ◌⊆◌, hull, sum, difference, negative, product, quotient, power, clamp, one, excludes_zero}
 use Rattle.exact_math.proofs.Fractions.{le_refl, le_trans, le_total, at_most_true, positive_above, negative_below, larger_keeps, smaller_keeps, larger_first, smaller_first}
 use Rattle.exact_math.proofs.Intervals.{within_trans, within_refl, smaller_mono, larger_mono, difference_within, difference_proper, hull_within, hull_proper, clamp_within, clamp_proper, power_within, power_proper, quotient_within, quotient_proper}
 use Rattle.exact_math.proofs.Hulls.{true_at_most, hull_holds_first, hull_holds_second, hull_least}
 use Rattle.exact_math.proofs.Narrowing.{Narrowing, at_least, compose, argument, steady, sums, products, quotients}
 use Rattle.book_model.specs.numbers.Octants.{only}
-use Rattle.book_model.specs.numbers.Arcs.{half, minus_half, Piece, far_below, below, near, above, far_above, begin_of, end_of, begins_by, ends_from, low_from, high_to, arc_over, join, found, arctangent_of, all_around, arctangent_of_two, other_side, arcsine_of, arccosine_of}
+use Rattle.book_model.specs.numbers.Arcs.{half, minus_half, Piece, far_below, below, near, above, far_above, pieces, begins_by, ends_from, low_from, high_to, meets, arc_of_part, arcs_over, hull_with, hull_of_all, arctangent_of, all_around, arctangent_of_two, other_side, arcsine_of, arccosine_of}
 use Rattle.book_model.specs.numbers.Roots.{root_of}
 use Rattle.book_model.specs.programs.Nesting.{IsNested, IsNestedOfTwo}
 use Rattle.book_model.proofs.Roots.{roots}
 use Rattle.book_model.proofs.DegreeSines.{nested_by}
 use Rattle.book_model.proofs.ArcSeries.{amid}
-use Rattle.book_model.proofs.ArcPieces.{quarters, IsFrom, IsTo, InPiece, arc_rises, arc_deeper, arc_proper, arc_inside}
+use Rattle.book_model.proofs.ArcPieces.{quarters, IsFrom, IsTo, InPiece, AreInOrder, IsArc, far_below_arc, below_arc, near_arc, above_arc, far_above_arc}
 
--- ---- what there is of several intervals
-abbrev pub AreBelow : Option Interval → Option Interval → Type 0
-AreBelow None y = Unit {0}
-AreBelow (Some i) None = ⊥
-AreBelow (Some i) (Some j) = i ⊆ j
+-- ---- the hull of several intervals
+abbrev pub Each : {A : Type 0} → (A → Type 0) → List A → Type 0
+Each P [] = Unit {0}
+Each P (x ∷ xs) = P x × Each P xs
 
-abbrev pub IsThere : Option Interval → Type 0
-IsThere None = ⊥
-IsThere (Some i) = Unit {0}
+each_by : {A : Type 0} (P Q R : A → Type 0) (xs : List A) → ((x : A) → P x → Q x → R x) → Each P xs → Each Q xs → Each R xs
+each_by P Q R [] f h k = tt
+each_by P Q R (x ∷ xs) f h k = (f x h.0 k.0, each_by P Q R xs f h.1 k.1)
 
-abbrev IsProperIfThere : Option Interval → Type 0
-IsProperIfThere None = Unit {0}
-IsProperIfThere (Some i) = IsProper i
+each : {A : Type 0} (P Q : A → Type 0) (xs : List A) → ((x : A) → P x → Q x) → Each P xs → Each Q xs
+each P Q xs f h = each_by P P Q xs (λ x p q. f x p) h h
 
-join_below : (x x' y y' : Option Interval) → AreBelow x x' → AreBelow y y' → AreBelow (join x y) (join x' y')
-unfolding join
-join_below None None y y' h g = g
-join_below None (Some i') None y' h g = tt
-join_below None (Some i') (Some j) None h g = absurd g
-join_below None (Some i') (Some j) (Some j') h g = within_trans g (hull_holds_second i' j')
-join_below (Some i) None y y' h g = absurd h
-join_below (Some i) (Some i') None None h g = h
-join_below (Some i) (Some i') None (Some j') h g = within_trans h (hull_holds_first i' j')
-join_below (Some i) (Some i') (Some j) None h g = absurd g
-join_below (Some i) (Some i') (Some j) (Some j') h g = hull_within h g
+abbrev pub AreSome : {A : Type 0} → List A → Type 0
+AreSome [] = ⊥
+AreSome (x ∷ xs) = Unit {0}
 
-join_least : (x y : Option Interval) (k : Interval) → AreBelow x (Some k) → AreBelow y (Some k) → AreBelow (join x y) (Some k)
-unfolding join
-join_least None y k h g = g
-join_least (Some i) None k h g = h
-join_least (Some i) (Some j) k h g = hull_least h g
+with_least : (i k : Interval) (is : List Interval) → i ⊆ k → Each (λ j. j ⊆ k) is → hull_with i is ⊆ k
+unfolding hull_with
+with_least i k [] h g = h
+with_least i k (j ∷ is) h g = hull_least h (with_least j k is g.0 g.1)
 
-join_first : (x y : Option Interval) → IsThere x → IsThere (join x y)
-unfolding join
-join_first None y h = absurd h
-join_first (Some i) None h = tt
-join_first (Some i) (Some j) h = tt
+-- what holds each of some intervals holds their hull
+pub all_least : (is : List Interval) (k : Interval) → AreSome is → Each (λ i. i ⊆ k) is → hull_of_all is ⊆ k
+unfolding hull_of_all
+all_least [] k s h = absurd s
+all_least (i ∷ is) k s h = with_least i k is h.0 h.1
 
-join_second : (x y : Option Interval) → IsThere y → IsThere (join x y)
-unfolding join
-join_second None y h = h
-join_second (Some i) None h = tt
-join_second (Some i) (Some j) h = tt
+with_holds : (i : Interval) (is : List Interval) → Each (λ j. j ⊆ hull_with i is) (i ∷ is)
+unfolding hull_with
+with_holds i [] = (within_refl i, tt)
+with_holds i (j ∷ is) =
+    (hull_holds_first i (hull_with j is), each (λ k. k ⊆ hull_with j is) (λ k. k ⊆ hull i (hull_with j is)) (j ∷ is) (λ k h. within_trans h (hull_holds_second i (hull_with j is))) (with_holds j is))
 
-join_proper : (x y : Option Interval) → IsProperIfThere x → IsProperIfThere y → IsProperIfThere (join x y)
-unfolding join
-join_proper None y p q = q
-join_proper (Some i) None p q = p
-join_proper (Some i) (Some j) p q = hull_proper i j p q
+all_hold : (is : List Interval) → Each (λ i. i ⊆ hull_of_all is) is
+unfolding hull_of_all
+all_hold [] = tt
+all_hold (i ∷ is) = with_holds i is
 
-pub found_below : (x y : Option Interval) → IsThere x → AreBelow x y → found x ⊆ found y
-found_below None y f h = absurd f
-found_below (Some i) None f h = absurd h
-found_below (Some i) (Some j) f h = h
+with_proper : (i : Interval) (is : List Interval) → IsProper i → Each IsProper is → IsProper (hull_with i is)
+unfolding hull_with
+with_proper i [] p q = p
+with_proper i (j ∷ is) p q = hull_proper i (hull_with j is) p (with_proper j is q.0 q.1)
 
-found_proper : (x : Option Interval) → IsProperIfThere x → IsProper (found x)
-found_proper None p = tt
-found_proper (Some i) p = p
+all_proper : (is : List Interval) → Each IsProper is → IsProper (hull_of_all is)
+unfolding hull_of_all
+all_proper [] q = tt
+all_proper (i ∷ is) q = with_proper i is q.0 q.1
+
+-- ---- what pieces that pass a test give
+into_if : (g : Piece → Interval) (Q : Interval → Type 0) (p : Piece) (ps : List Piece) (t : Bool) → (t ≡ true → Q (g p)) → Each Q (map g ps) → Each Q (map g (cond t (p ∷ ps) ps))
+into_if g Q p ps true h r = (h refl, r)
+into_if g Q p ps false h r = r
+
+into_each : (m : Piece → Bool) (g : Piece → Interval) (Q : Interval → Type 0) (ps : List Piece) → Each (λ p. m p ≡ true → Q (g p)) ps → Each Q (map g (filter m ps))
+into_each m g Q [] h = tt
+into_each m g Q (p ∷ ps) h = into_if g Q p (filter m ps) (m p) h.0 (into_each m g Q ps h.1)
+
+out_if : (g : Piece → Interval) (Q : Interval → Type 0) (p : Piece) (ps : List Piece) (t : Bool) → Each Q (map g (cond t (p ∷ ps) ps)) → (t ≡ true → Q (g p)) × Each Q (map g ps)
+out_if g Q p ps true h = (λ e. h.0, h.1)
+out_if g Q p ps false h = (λ e. absurd (cc), h)
+
+out_each : (m : Piece → Bool) (g : Piece → Interval) (Q : Interval → Type 0) (ps : List Piece) → Each Q (map g (filter m ps)) → Each (λ p. m p ≡ true → Q (g p)) ps
+out_each m g Q [] h = tt
+out_each m g Q (p ∷ ps) h = let o = out_if g Q p (filter m ps) (m p) h in (o.0, out_each m g Q ps o.1)
+
+some_if : (g : Piece → Interval) (p : Piece) (ps : List Piece) (t : Bool) → t ≡ true → AreSome (map g (cond t (p ∷ ps) ps))
+some_if g p ps true e = tt
+some_if g p ps false e = absurd (cc)
+
+still_some : (g : Piece → Interval) (p : Piece) (ps : List Piece) (t : Bool) → AreSome (map g ps) → AreSome (map g (cond t (p ∷ ps) ps))
+still_some g p ps true h = tt
+still_some g p ps false h = h
+
+some_first : (m : Piece → Bool) (g : Piece → Interval) (p : Piece) (ps : List Piece) → m p ≡ true → AreSome (map g (filter m (p ∷ ps)))
+some_first m g p ps e = some_if g p (filter m ps) (m p) e
+
+some_later : (m : Piece → Bool) (g : Piece → Interval) (p : Piece) (ps : List Piece) → AreSome (map g (filter m ps)) → AreSome (map g (filter m (p ∷ ps)))
+some_later m g p ps h = still_some g p (filter m ps) (m p) h
 
 -- ---- the part of an interval in a piece
 begins_out : (o : Option Fraction) (b : Fraction) → begins_by o b ≡ true → IsFrom o b
@@ -104,20 +125,8 @@ to_below (Some e) x y h f = le_trans x y e h f
 
 -- an interval meets a piece
 pub record AreMet (p : Piece) (a b : Fraction) : Type 0 where
-  pub begun : IsFrom (begin_of p) b
-  pub ended : IsTo (end_of p) a
-
-abbrev AreInOrder : Option Fraction → Option Fraction → Type 0
-AreInOrder None t = Unit {0}
-AreInOrder (Some e) None = Unit {0}
-AreInOrder (Some e) (Some f) = e ≤F f
-
-piece_order : (p : Piece) → AreInOrder (begin_of p) (end_of p)
-piece_order far_below = tt
-piece_order below = record { cross = record { le = tt } }
-piece_order near = record { cross = record { le = tt } }
-piece_order above = record { cross = record { le = tt } }
-piece_order far_above = tt
+  pub begun : IsFrom p.begin b
+  pub ended : IsTo p.end a
 
 low_begun : (o : Option Fraction) (a : Fraction) → IsFrom o (low_from o a)
 low_begun None a = tt
@@ -152,16 +161,16 @@ high_mono None b d h = h
 high_mono (Some f) b d h = smaller_mono f f b d (le_refl f) h
 
 abbrev pub low_of : Piece → Fraction → Fraction
-low_of p a = low_from (begin_of p) a
+low_of p a = low_from p.begin a
 
 abbrev pub high_of : Piece → Fraction → Fraction
-high_of p b = high_to (end_of p) b
+high_of p b = high_to p.end b
 
-pub low_in : (p : Piece) (a b : Fraction) → AreMet p a b → InPiece p (low_of p a)
-low_in p a b m = record { from = low_begun (begin_of p) a; to = low_ended (begin_of p) (end_of p) a (piece_order p) m.ended }
+pub low_in : (p : Piece) (a b : Fraction) → AreInOrder p.begin p.end → AreMet p a b → InPiece p (low_of p a)
+low_in p a b q m = record { from = low_begun p.begin a; to = low_ended p.begin p.end a q m.ended }
 
-pub high_in : (p : Piece) (a b : Fraction) → AreMet p a b → InPiece p (high_of p b)
-high_in p a b m = record { from = high_begun (begin_of p) (end_of p) b (piece_order p) m.begun; to = high_ended (end_of p) b }
+pub high_in : (p : Piece) (a b : Fraction) → AreInOrder p.begin p.end → AreMet p a b → InPiece p (high_of p b)
+high_in p a b q m = record { from = high_begun p.begin p.end b q m.begun; to = high_ended p.end b }
 
 both_out : (s t : Bool) → (s && t) ≡ true → (s ≡ true) × (t ≡ true)
 both_out true true e = (refl, refl)
@@ -173,140 +182,105 @@ both_in true true e f = refl
 both_in true false e f = f
 both_in false t e f = e
 
-pub met_out : (p : Piece) (a b : Fraction) → (begins_by (begin_of p) b && ends_from (end_of p) a) ≡ true → AreMet p a b
-met_out p a b e = let s = both_out _ _ e in record { begun = begins_out (begin_of p) b s.0; ended = ends_out (end_of p) a s.1 }
+pub met_out : (p : Piece) (a b : Fraction) → meets a b p ≡ true → AreMet p a b
+met_out p a b e = let s = both_out _ _ e in record { begun = begins_out p.begin b s.0; ended = ends_out p.end a s.1 }
 
-pub met_in : (p : Piece) (a b : Fraction) → AreMet p a b → (begins_by (begin_of p) b && ends_from (end_of p) a) ≡ true
-met_in p a b m = both_in _ _ (begins_in (begin_of p) b m.begun) (ends_in (end_of p) a m.ended)
-
-by_tests : (s t : Bool) (i j : Interval) → (s ≡ true → (t ≡ true) × (i ⊆ j)) → AreBelow (cond s (Some i) None) (cond t (Some j) None)
-by_tests false t i j h = tt
-by_tests true true i j h = (h refl).1
-by_tests true false i j h = absurd (let e = (h refl).0 in cc)
+met_in : (p : Piece) (a b : Fraction) → AreMet p a b → meets a b p ≡ true
+met_in p a b m = both_in _ _ (begins_in p.begin b m.begun) (ends_in p.end a m.ended)
 
 met_outside : (p : Piece) (a b c d : Fraction) → c ≤F a → b ≤F d → AreMet p a b → AreMet p c d
-met_outside p a b c d h k m = record { begun = from_above (begin_of p) b d k m.begun; ended = to_below (end_of p) c a h m.ended }
+met_outside p a b c d h k m = record { begun = from_above p.begin b d k m.begun; ended = to_below p.end c a h m.ended }
 
-over_within : (n : ℕ) (p : Piece) (a b c d : Fraction) → a ≤F b → c ≤F a → b ≤F d → AreBelow (arc_over n a b p) (arc_over n c d p)
-unfolding arc_over
-over_within n p a b c d o h k =
-    by_tests _ _ _ _ λ t.
-    let m = met_out p a b t in
+part_within : (n : ℕ) (p : Piece) (a b c d : Fraction) → IsArc p → a ≤F b → c ≤F a → b ≤F d → AreMet p a b → arc_of_part n a b p ⊆ arc_of_part n c d p
+unfolding arc_of_part
+part_within n p a b c d r o h k m =
     let w = met_outside p a b c d h k m in
-    let lo = low_mono (begin_of p) c a h in
-    let hi = high_mono (end_of p) b d k in
-    let mid = low_high (begin_of p) (end_of p) a b (piece_order p) o m.begun m.ended in
-    let x = low_in p a b m in
-    let y = high_in p a b m in
-    let u = low_in p c d w in
-    let v = high_in p c d w in (
-      met_in p c d w,
-      hull_least
-          (amid (arc_rises n p (low_of p c) (low_of p a) u x lo) (arc_rises n p (low_of p a) (high_of p d) x v (le_trans _ _ _ mid hi)))
-          (amid (arc_rises n p (low_of p c) (high_of p b) u y (le_trans _ _ _ lo mid)) (arc_rises n p (high_of p b) (high_of p d) y v hi)),
-    )
+    let lo = low_mono p.begin c a h in
+    let hi = high_mono p.end b d k in
+    let mid = low_high p.begin p.end a b r.order o m.begun m.ended in
+    let x = low_in p a b r.order m in
+    let y = high_in p a b r.order m in
+    let u = low_in p c d r.order w in
+    let v = high_in p c d r.order w in
+    hull_least
+    (amid (r.rises n (low_of p c) (low_of p a) u x lo) (r.rises n (low_of p a) (high_of p d) x v (le_trans _ _ _ mid hi)))
+    (amid (r.rises n (low_of p c) (high_of p b) u y (le_trans _ _ _ lo mid)) (r.rises n (high_of p b) (high_of p d) y v hi))
 
-over_deeper : (n : ℕ) (p : Piece) (a b : Fraction) → AreBelow (arc_over (suc n) a b p) (arc_over n a b p)
-unfolding arc_over
-over_deeper n p a b =
-    by_tests _ _ _ _ λ t.
-    let m = met_out p a b t in
-    (t, hull_within (arc_deeper n p (low_of p a) (low_in p a b m)) (arc_deeper n p (high_of p b) (high_in p a b m)))
+part_deeper : (n : ℕ) (p : Piece) (a b : Fraction) → IsArc p → AreMet p a b → arc_of_part (suc n) a b p ⊆ arc_of_part n a b p
+unfolding arc_of_part
+part_deeper n p a b r m = hull_within (r.deeper n (low_of p a) (low_in p a b r.order m)) (r.deeper n (high_of p b) (high_in p a b r.order m))
 
-proper_by : (s : Bool) (i : Interval) → (s ≡ true → IsProper i) → IsProperIfThere (cond s (Some i) None)
-proper_by true i h = h refl
-proper_by false i h = tt
+part_proper : (n : ℕ) (p : Piece) (a b : Fraction) → IsArc p → AreMet p a b → IsProper (arc_of_part n a b p)
+unfolding arc_of_part
+part_proper n p a b r m = hull_proper _ _ (r.proper n (low_of p a) (low_in p a b r.order m)) (r.proper n (high_of p b) (high_in p a b r.order m))
 
-over_proper : (n : ℕ) (p : Piece) (a b : Fraction) → IsProperIfThere (arc_over n a b p)
-unfolding arc_over
-over_proper n p a b =
-    proper_by _ _ λ t.
-    let m = met_out p a b t in
-    hull_proper _ _ (arc_proper n p (low_of p a) (low_in p a b m)) (arc_proper n p (high_of p b) (high_in p a b m))
-
-inside_by : (s : Bool) (i k : Interval) → (s ≡ true → i ⊆ k) → AreBelow (cond s (Some i) None) (Some k)
-inside_by true i k h = h refl
-inside_by false i k h = tt
-
-over_inside : (n : ℕ) (p : Piece) (a b : Fraction) → AreBelow (arc_over n a b p) (Some quarters)
-unfolding arc_over
-over_inside n p a b =
-    inside_by _ _ quarters λ t.
-    let m = met_out p a b t in
-    hull_least (arc_inside n p (low_of p a) (low_in p a b m)) (arc_inside n p (high_of p b) (high_in p a b m))
-
-there_by : (s : Bool) (i : Interval) → s ≡ true → IsThere (cond s (Some i) None)
-there_by true i e = tt
-there_by false i e = absurd (cc)
-
-over_there : (n : ℕ) (p : Piece) (a b : Fraction) → AreMet p a b → IsThere (arc_over n a b p)
-unfolding arc_over
-over_there n p a b m = there_by _ _ (met_in p a b m)
+part_inside : (n : ℕ) (p : Piece) (a b : Fraction) → IsArc p → AreMet p a b → arc_of_part n a b p ⊆ quarters
+unfolding arc_of_part
+part_inside n p a b r m = hull_least (r.inside n (low_of p a) (low_in p a b r.order m)) (r.inside n (high_of p b) (high_in p a b r.order m))
 
 -- ---- all pieces
-abbrev pub over_all : ℕ → Fraction → Fraction → Option Interval
-over_all n a b = join (arc_over n a b far_below) (join (arc_over n a b below) (join (arc_over n a b near) (join (arc_over n a b above) (arc_over n a b far_above))))
+all_arcs : Each IsArc pieces
+all_arcs = (far_below_arc, (below_arc, (near_arc, (above_arc, (far_above_arc, tt)))))
+
+-- what holds of the arctangents of the part in each piece that is met
+arcs_each : (n : ℕ) (a b : Fraction) (Q : Interval → Type 0) → ((p : Piece) → IsArc p → AreMet p a b → Q (arc_of_part n a b p)) → Each Q (arcs_over n a b pieces)
+arcs_each n a b Q f =
+    into_each (meets a b) (arc_of_part n a b) Q pieces
+    (each IsArc (λ p. meets a b p ≡ true → Q (arc_of_part n a b p)) pieces (λ p r t. f p r (met_out p a b t)) all_arcs)
 
 -- some piece is met
-pub all_there : (n : ℕ) (a b : Fraction) → a ≤F b → IsThere (over_all n a b)
-all_there n a b o =
+pub arcs_there : (n : ℕ) (a b : Fraction) → a ≤F b → AreSome (arcs_over n a b pieces)
+arcs_there n a b o =
+    let m = meets a b in
+    let g = arc_of_part n a b in
     elim (le_total a (whole (negsuc 2))) [
-      | inl h ↦ join_first _ _ (over_there n far_below a b (record { begun = tt; ended = h }))
-      | inr h ↦ join_second _ _ (elim (le_total a minus_half) [
-        | inl g ↦ join_first _ _ (over_there n below a b (record { begun = le_trans _ a b h o; ended = g }))
-        | inr g ↦ join_second _ _ (elim (le_total a half) [
-          | inl f ↦ join_first _ _ (over_there n near a b (record { begun = le_trans _ a b g o; ended = f }))
-          | inr f ↦ join_second _ _ (elim (le_total a (whole (pos 3))) [
-            | inl e ↦ join_first _ _ (over_there n above a b (record { begun = le_trans _ a b f o; ended = e }))
-            | inr e ↦ join_second _ _ (over_there n far_above a b (record { begun = le_trans _ a b e o; ended = tt }))
+      | inl h ↦ some_first m g far_below (below ∷ near ∷ above ∷ far_above ∷ []) (met_in far_below a b (record { begun = tt; ended = h }))
+      | inr h ↦ some_later m g far_below (below ∷ near ∷ above ∷ far_above ∷ []) (elim (le_total a minus_half) [
+        | inl k ↦ some_first m g below (near ∷ above ∷ far_above ∷ []) (met_in below a b (record { begun = le_trans _ a b h o; ended = k }))
+        | inr k ↦ some_later m g below (near ∷ above ∷ far_above ∷ []) (elim (le_total a half) [
+          | inl f ↦ some_first m g near (above ∷ far_above ∷ []) (met_in near a b (record { begun = le_trans _ a b k o; ended = f }))
+          | inr f ↦ some_later m g near (above ∷ far_above ∷ []) (elim (le_total a (whole (pos 3))) [
+            | inl e ↦ some_first m g above (far_above ∷ []) (met_in above a b (record { begun = le_trans _ a b f o; ended = e }))
+            | inr e ↦ some_later m g above (far_above ∷ []) (some_first m g far_above [] (met_in far_above a b (record { begun = le_trans _ a b e o; ended = tt })))
           ])
         ])
       ])
     ]
 
-all_within : (n : ℕ) (a b c d : Fraction) → a ≤F b → c ≤F a → b ≤F d → AreBelow (over_all n a b) (over_all n c d)
-all_within n a b c d o h k =
-    join_below _ _ _ _ (over_within n far_below a b c d o h k)
-    (join_below _ _ _ _ (over_within n below a b c d o h k)
-    (join_below _ _ _ _ (over_within n near a b c d o h k)
-    (join_below _ _ _ _ (over_within n above a b c d o h k) (over_within n far_above a b c d o h k))))
-
-all_deeper : (n : ℕ) (a b : Fraction) → AreBelow (over_all (suc n) a b) (over_all n a b)
-all_deeper n a b =
-    join_below _ _ _ _ (over_deeper n far_below a b)
-    (join_below _ _ _ _ (over_deeper n below a b)
-    (join_below _ _ _ _ (over_deeper n near a b)
-    (join_below _ _ _ _ (over_deeper n above a b) (over_deeper n far_above a b))))
-
-all_proper : (n : ℕ) (a b : Fraction) → IsProperIfThere (over_all n a b)
-all_proper n a b = join_proper _ _ (over_proper n far_below a b) (join_proper _ _ (over_proper n below a b) (join_proper _ _ (over_proper n near a b) (join_proper _ _ (over_proper n above a b) (over_proper n far_above a b))))
-
-all_inside : (n : ℕ) (a b : Fraction) → AreBelow (over_all n a b) (Some quarters)
-all_inside n a b = join_least _ _ quarters (over_inside n far_below a b) (join_least _ _ quarters (over_inside n below a b) (join_least _ _ quarters (over_inside n near a b) (join_least _ _ quarters (over_inside n above a b) (over_inside n far_above a b))))
+-- the hull over a .. b lies within that over c .. d, where in each piece that it meets it does
+arcs_within : (n m : ℕ) (a b c d : Fraction) → a ≤F b → ((p : Piece) → IsArc p → AreMet p a b → AreMet p c d × (arc_of_part m a b p ⊆ arc_of_part n c d p))
+    → hull_of_all (arcs_over m a b pieces) ⊆ hull_of_all (arcs_over n c d pieces)
+arcs_within n m a b c d o f =
+    let k = hull_of_all (arcs_over n c d pieces) in
+    let held = out_each (meets c d) (arc_of_part n c d) (λ i. i ⊆ k) pieces (all_hold (arcs_over n c d pieces)) in
+    all_least (arcs_over m a b pieces) k (arcs_there m a b o)
+    (into_each (meets a b) (arc_of_part m a b) (λ i. i ⊆ k) pieces
+    (each_by IsArc (λ p. meets c d p ≡ true → arc_of_part n c d p ⊆ k) (λ p. meets a b p ≡ true → arc_of_part m a b p ⊆ k) pieces
+    (λ p r h t. let s = f p r (met_out p a b t) in within_trans s.1 (h (met_in p c d s.0))) all_arcs held))
 
 -- ---- the arctangent
 arctangent_proper : (n : ℕ) (i : Interval) → IsProper i → IsProper (arctangent_of n i)
 unfolding arctangent_of
 arctangent_proper n everything p = tt
-arctangent_proper n (between a b) p = found_proper (over_all n a b) (all_proper n a b)
+arctangent_proper n (between a b) p = all_proper (arcs_over n a b pieces) (arcs_each n a b IsProper (λ q r m. part_proper n q a b r m))
 
 pub arctangent_ends : (n : ℕ) (i j : Interval) → IsProper i → AreWithin i j → arctangent_of n i ⊆ arctangent_of n j
 unfolding arctangent_of
 arctangent_ends n i everything p h = record { ends = tt }
 arctangent_ends n everything (between c d) p h = absurd h
-arctangent_ends n (between a b) (between c d) p h = found_below (over_all n a b) (over_all n c d) (all_there n a b p) (all_within n a b c d p h.0 h.1)
+arctangent_ends n (between a b) (between c d) p h = arcs_within n n a b c d p (λ q r m. (met_outside q a b c d h.0 h.1 m, part_within n q a b c d r p h.0 h.1 m))
 
 arctangent_deeper : (n : ℕ) (i : Interval) → IsProper i → arctangent_of (suc n) i ⊆ arctangent_of n i
 unfolding arctangent_of
 arctangent_deeper n everything p = record { ends = tt }
-arctangent_deeper n (between a b) p = found_below (over_all (suc n) a b) (over_all n a b) (all_there (suc n) a b p) (all_deeper n a b)
+arctangent_deeper n (between a b) p = arcs_within n (suc n) a b a b p (λ q r m. (m, part_deeper n q a b r m))
 
 pub arctangents : Narrowing arctangent_of
 arctangents = record { proper = arctangent_proper; within = λ n {i} {j} p h. arctangent_ends n i j p h.ends; deeper = arctangent_deeper }
 
 pub arctangent_inside : (n : ℕ) (a b : Fraction) → a ≤F b → arctangent_of n (between a b) ⊆ quarters
 unfolding arctangent_of
-arctangent_inside n a b p = found_below (over_all n a b) (Some quarters) (all_there n a b p) (all_inside n a b)
+arctangent_inside n a b p = all_least (arcs_over n a b pieces) quarters (arcs_there n a b p) (arcs_each n a b (λ i. i ⊆ quarters) (λ q r m. part_inside n q a b r m))
 
 -- ---- the arcsine
 pub clamps : Narrowing (λ n i. clamp i)

@@ -8,7 +8,7 @@ use Rattle.book_model.specs.declared.site.Site.{Site}
 use Rattle.book_model.specs.numbers.Depth.{DEPTH}
 use Rattle.book_model.specs.numbers.Expressions.{Expression, World, argument, value}
 use Rattle.book_model.specs.numbers.Relations.{Within, Lies}
-use Rattle.book_model.specs.programs.Leading.{next_turn, Tells, passes, answers, stops, stops_early, voids, Leads}
+use Rattle.book_model.specs.programs.Leading.{next_turn, Reports, passes, answers, stops, stops_early, voids, Leads}
 use Rattle.book_model.specs.programs.Programs.{Grid, cell_at, compare_at, Program, cell, compare, Sides, Reply, Run, answered, voided, undecided, decided, after_cell, after_compare, run, AtMost, answer_at_most, void_at_most, cell_at_most, compare_at_most}
 
 -- the run makes at most this many tests
@@ -41,16 +41,16 @@ turn_after : (b : ℕ) → next_turn b ≤ b + 1
 unfolding next_turn
 turn_after b = omega arith
 
-tells_counted : {A T : Type 0} {R : A → T → Type 0} {r : Run A} {b a n : ℕ} {t : Result T Fail} → Tells R r b a t → IsShort n r → a ≤ b + n
-tells_counted (answers h) k = omega arith
-tells_counted voids k = omega arith
-tells_counted {b = b} (stops e d c) short_undecided = omega (arith, d, turn_after b)
-tells_counted {b = b} (stops_early e d c) (short_decided k) = omega (arith, d, turn_after b)
-tells_counted {b = b} (passes h) (short_decided k) = omega (arith, tells_counted h k, turn_after b)
+reports_counted : {A T : Type 0} {R : A → T → Type 0} {r : Run A} {b a n : ℕ} {t : Result T Fail} → Reports R r b a t → IsShort n r → a ≤ b + n
+reports_counted (answers h) k = omega arith
+reports_counted voids k = omega arith
+reports_counted {b = b} (stops e d c) short_undecided = omega (arith, d, turn_after b)
+reports_counted {b = b} (stops_early e d c) (short_decided k) = omega (arith, d, turn_after b)
+reports_counted {b = b} (passes h) (short_decided k) = omega (arith, reports_counted h k, turn_after b)
 
 -- a call whose result tells of a program adds no more tests than the program makes at most
 pub counted : {A T : Type 0} {w : World} {R : A → T → Type 0} {p : Program A} {b a n : ℕ} {t : Result T Fail} → Leads w R p b a t → AtMost n p → a ≤ b + n
-counted {w = w} h k = tells_counted h.tells (short_run w k)
+counted {w = w} h k = reports_counted h.reports (short_run w k)
 
 -- a world without arguments
 abbrev empty_world : World

@@ -6,7 +6,7 @@ use Rattle.book_model.specs.declared.fail.Fail.TheVariants.{Undecided as undecid
 use Rattle.book_model.specs.declared.fail.Undecided.{Undecided}
 use Rattle.book_model.specs.declared.site.Site.{Site}
 use Rattle.book_model.specs.numbers.Expressions.{Expression, World, value, subtract}
-use Rattle.book_model.specs.programs.Leading.{next_turn, Tells, passes, answers, Leads}
+use Rattle.book_model.specs.programs.Leading.{next_turn, Reports, passes, answers, Leads}
 use Rattle.book_model.specs.sky.Moon.{moon_of}
 use Rattle.book_model.specs.sky.Phases.{turned_of, elongation_of, phase_of, phase_past_of, phase_before_of, phase_day_of}
 use Rattle.book_model.specs.programs.Programs.{Grid, Program, answer, void, cell, compare, bind, Run, run, after_cell, after_compare, cell_at, compare_at, MakesTest, here_decided, here_undecided, later, Sides}
@@ -78,24 +78,24 @@ unfolding phase_day_of phase_before_of
 phase_day_least f d = least_first _ (least_first _ (phase_past_least _ _))
 
 -- ---- what that says of calls
-not_before : {A T : Type 0} {R : A → T → Type 0} {r : Run A} {b a : ℕ} {y : T} → Tells R r b a (Ok y) → min b (2 ^ 32 - 1) ≤ a
+not_before : {A T : Type 0} {R : A → T → Type 0} {r : Run A} {b a : ℕ} {y : T} → Reports R r b a (Ok y) → min b (2 ^ 32 - 1) ≤ a
 unfolding next_turn
 not_before (passes h) = let z = not_before h in omega (arith, z)
 not_before (answers h) = omega arith
 
 least_of_cell : {A T : Type 0} {R : A → T → Type 0} (n : ℕ) (s : Site) (g : Grid) (i : Interval) (o : Option ℤ) (next : ℤ → Run A) {b a : ℕ} {y : T}
-    → ((q : ℤ) (c : ℕ) → Tells R (next q) c a (Ok y) → min (c + n) (2 ^ 32 - 1) ≤ a) → Tells R (after_cell s g i o next) b a (Ok y) → min (b + suc n) (2 ^ 32 - 1) ≤ a
+    → ((q : ℤ) (c : ℕ) → Reports R (next q) c a (Ok y) → min (c + n) (2 ^ 32 - 1) ≤ a) → Reports R (after_cell s g i o next) b a (Ok y) → min (b + suc n) (2 ^ 32 - 1) ≤ a
 unfolding after_cell next_turn
 least_of_cell n s g i None next k t = elim t [ ]
 least_of_cell n s g i (Some q) next k (passes t) = let z = k q _ t in omega (arith, z)
 
 least_of_compare : {A T : Type 0} {R : A → T → Type 0} (n : ℕ) (s : Site) (i j : Interval) (o : Option Bool) (next : Bool → Run A) {b a : ℕ} {y : T}
-    → ((q : Bool) (c : ℕ) → Tells R (next q) c a (Ok y) → min (c + n) (2 ^ 32 - 1) ≤ a) → Tells R (after_compare s i j o next) b a (Ok y) → min (b + suc n) (2 ^ 32 - 1) ≤ a
+    → ((q : Bool) (c : ℕ) → Reports R (next q) c a (Ok y) → min (c + n) (2 ^ 32 - 1) ≤ a) → Reports R (after_compare s i j o next) b a (Ok y) → min (b + suc n) (2 ^ 32 - 1) ≤ a
 unfolding after_compare next_turn
 least_of_compare n s i j None next k t = elim t [ ]
 least_of_compare n s i j (Some q) next k (passes t) = let z = k q _ t in omega (arith, z)
 
-least_told : {A T : Type 0} {R : A → T → Type 0} {n : ℕ} {p : Program A} (w : World) {b a : ℕ} {y : T} → AtLeast n p → Tells R (run w p) b a (Ok y) → min (b + n) (2 ^ 32 - 1) ≤ a
+least_told : {A T : Type 0} {R : A → T → Type 0} {n : ℕ} {p : Program A} (w : World) {b a : ℕ} {y : T} → AtLeast n p → Reports R (run w p) b a (Ok y) → min (b + n) (2 ^ 32 - 1) ≤ a
 unfolding run
 least_told w any_at_least t = let z = not_before t in omega (arith, z)
 least_told w void_at_least t = elim t [ ]
@@ -106,7 +106,7 @@ least_told w (compare_at_least {n = n} {s = s} {x = x} {y = y} {next = next} k) 
 
 -- where a program that makes at least three tests has an answer, three have been made
 pub three_made : {A T : Type 0} {R : A → T → Type 0} {p : Program A} (w : World) {b a : ℕ} {y : T} → AtLeast 3 p → b ≡ 0 → Leads w R p b a (Ok y) → 3 ≤ a
-three_made w h e l = let z = least_told w h l.tells in omega (arith, z, e)
+three_made w h e l = let z = least_told w h l.reports in omega (arith, z, e)
 
 pub from_one : {A : Type 0} {r : Run A} {k : ℕ} {s : Site} {i : Sides} → MakesTest r k s i → 1 ≤ k
 from_one here_decided = omega arith

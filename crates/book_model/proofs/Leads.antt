@@ -8,7 +8,7 @@ use Rattle.book_model.specs.declared.fail.Undecided.{Undecided}
 use Rattle.book_model.specs.declared.fail.Fail.{Fail}
 use Rattle.book_model.specs.declared.fail.Fail.TheVariants.{Undecided as undecided_at, Void}
 use Rattle.book_model.specs.numbers.Expressions.{Expression, World, value}
-use Rattle.book_model.specs.programs.Leading.{IsOpenCell, IsOpenComparison, IsOpen, open_cell, open_comparison, Exact, next_turn, Tells, passes, answers, stops, stops_early, voids, Leads, Continues, leaf_of, leaf}
+use Rattle.book_model.specs.programs.Leading.{IsOpenCell, IsOpenComparison, IsOpen, open_cell, open_comparison, Exact, next_turn, Reports, passes, answers, stops, stops_early, voids, Leads, Continues, leaf_of, leaf}
 use Rattle.book_model.specs.programs.Programs.{Grid, cell_at, compare_at, Program, answer, void, cell, compare, bind, Sides, one_side, two_sides, in_cell, is_less, Run, answered, voided, undecided, decided, after_cell, after_compare, run, valued, void_at, outcome, MakesTest, here_decided, here_undecided, later, AtMost, answer_at_most, void_at_most, cell_at_most, compare_at_most}
 use Rattle.book_model.specs.numbers.Relations.{Within, Lies}
 use Rattle.book_model.proofs.Nesting.{cell_nested, compare_nested}
@@ -42,35 +42,35 @@ run_bind w (cell s g x next) f =
 run_bind w (compare s x y next) f =
     then_compare s (value w x) (value w y) (compare_at (value w x) (value w y)) (λ t. run w (next t)) (λ t. run w (bind (next t) f)) (λ v. run w (f v)) (λ t. run_bind w (next t) f)
 
-tells_then : {A B T U : Type 0} {R : A → T → Type 0} {S : B → U → Type 0} {r : Run A} {b m a : ℕ} {y : T} {t : Result U Fail} (f : A → Run B) →
-    Tells R r b m (Ok y) → ((v : A) → R v y → Tells S (f v) m a t) → Tells S (run_then r f) b a t
+reports_then : {A B T U : Type 0} {R : A → T → Type 0} {S : B → U → Type 0} {r : Run A} {b m a : ℕ} {y : T} {t : Result U Fail} (f : A → Run B) →
+    Reports R r b m (Ok y) → ((v : A) → R v y → Reports S (f v) m a t) → Reports S (run_then r f) b a t
 unfolding run_then
-tells_then f (passes h) k = passes (tells_then f h k)
-tells_then f (answers h) k = k _ h
+reports_then f (passes h) k = passes (reports_then f h k)
+reports_then f (answers h) k = k _ h
 
-tells_fail : {A B T U : Type 0} {R : A → T → Type 0} (S : B → U → Type 0) {r : Run A} {b a : ℕ} {z : Fail} (f : A → Run B) →
-    Tells R r b a (Err z) → Tells S (run_then r f) b a (Err z)
+reports_fail : {A B T U : Type 0} {R : A → T → Type 0} (S : B → U → Type 0) {r : Run A} {b a : ℕ} {z : Fail} (f : A → Run B) →
+    Reports R r b a (Err z) → Reports S (run_then r f) b a (Err z)
 unfolding run_then
-tells_fail S f (passes h) = passes (tells_fail S f h)
-tells_fail S f (stops e d c) = stops e d c
-tells_fail S f (stops_early e d c) = stops_early e d c
-tells_fail S f voids = voids
+reports_fail S f (passes h) = passes (reports_fail S f h)
+reports_fail S f (stops e d c) = stops e d c
+reports_fail S f (stops_early e d c) = stops_early e d c
+reports_fail S f voids = voids
 
 pub leads_bind : {A B T U : Type 0} {w : World} {R : A → T → Type 0} {S : B → U → Type 0} {p : Program A} {f : A → Program B} {b m a : ℕ} {y : T} {t : Result U Fail} →
     Leads w R p b m (Ok y) → ((v : A) → R v y → Leads w S (f v) m a t) → Leads w S (bind p f) b a t
-leads_bind {w = w} {p = p} {f = f} h k = record { tells = rw (run_bind w p f) (tells_then (λ v. run w (f v)) h.tells (λ v r. (k v r).tells)) }
+leads_bind {w = w} {p = p} {f = f} h k = record { reports = rw (run_bind w p f) (reports_then (λ v. run w (f v)) h.reports (λ v r. (k v r).reports)) }
 
 pub leads_fail : {A B T U : Type 0} {w : World} {R : A → T → Type 0} {S : B → U → Type 0} {p : Program A} (f : A → Program B) {b a : ℕ} {z : Fail} →
     Leads w R p b a (Err z) → Leads w S (bind p f) b a (Err z)
-leads_fail {w = w} {S = S} {p = p} f h = record { tells = rw (run_bind w p f) (tells_fail S (λ v. run w (f v)) h.tells) }
+leads_fail {w = w} {S = S} {p = p} f h = record { reports = rw (run_bind w p f) (reports_fail S (λ v. run w (f v)) h.reports) }
 
 pub leads_answer : {A T : Type 0} {w : World} {R : A → T → Type 0} {v : A} {b : ℕ} {e : T} → R v e → Leads w R (answer v) b b (Ok e)
 unfolding run
-leads_answer h = record { tells = answers h }
+leads_answer h = record { reports = answers h }
 
 pub leads_void : {A T : Type 0} {w : World} {R : A → T → Type 0} {s : Site} {b : ℕ} → Leads w R (void s) b b (Err (Void s))
 unfolding run
-leads_void = record { tells = voids }
+leads_void = record { reports = voids }
 
 -- a cell test that the code decides, at an enclosure j of the expression's value
 pub leads_cell : {A T : Type 0} {w : World} {R : A → T → Type 0} (s : Site) (g : Grid) (x : Expression) (j : Interval) (q : ℤ) (next : ℤ → Program A) {b a : ℕ} {t : Result T Fail} →
@@ -78,10 +78,10 @@ pub leads_cell : {A T : Type 0} {w : World} {R : A → T → Type 0} (s : Site) 
 unfolding run after_cell
 leads_cell {w = w} s g x j q next i e h =
     let d = cell_nested g (value w x) j q (value_proper w x) i e in
-    record { tells = rw d (passes h.tells) }
+    record { reports = rw d (passes h.reports) }
 
 cell_stop : {A T : Type 0} (R : A → T → Type 0) (g : Grid) (i : Interval) (o : Option ℤ) (n : ℤ → Run A) {b : ℕ} (a : ℕ) (u : Undecided) → u.turn ≡ next_turn b → a ≡ next_turn b → IsOpen (one_side g i) u.lo u.hi →
-    Tells R (after_cell u.site g i o n) b a (Err (undecided_at u))
+    Reports R (after_cell u.site g i o n) b a (Err (undecided_at u))
 unfolding after_cell
 cell_stop R g i None n a u e d c = stops e d c
 cell_stop R g i (Some q) n a u e d c = stops_early e d c
@@ -90,7 +90,7 @@ cell_stop R g i (Some q) n a u e d c = stops_early e d c
 pub leads_open_cell : {A T : Type 0} {w : World} {R : A → T → Type 0} (g : Grid) (x : Expression) (j : Interval) (next : ℤ → Program A) {b : ℕ} (a : ℕ) (u : Undecided) →
     value w x ⊆ j → u.turn ≡ next_turn b → a ≡ next_turn b → IsOpenCell g j u.lo u.hi → Leads w R (cell u.site g x next) b a (Err (undecided_at u))
 unfolding run
-leads_open_cell {w = w} {R = R} g x j next a u i e d c = record { tells = cell_stop R g (value w x) (cell_at g (value w x)) (λ q. run w (next q)) a u e d (open_cell j i c) }
+leads_open_cell {w = w} {R = R} g x j next a u i e d c = record { reports = cell_stop R g (value w x) (cell_at g (value w x)) (λ q. run w (next q)) a u e d (open_cell j i c) }
 
 -- a comparison that the code decides, at enclosures j and k of the two values
 pub leads_compare : {A T : Type 0} {w : World} {R : A → T → Type 0} (s : Site) (x y : Expression) (j k : Interval) (t : Bool) (next : Bool → Program A) {b a : ℕ} {z : Result T Fail} →
@@ -98,10 +98,10 @@ pub leads_compare : {A T : Type 0} {w : World} {R : A → T → Type 0} (s : Sit
 unfolding run after_compare
 leads_compare {w = w} s x y j k t next i l e h =
     let d = compare_nested (value w x) (value w y) j k t (value_proper w x) (value_proper w y) i l e in
-    record { tells = rw d (passes h.tells) }
+    record { reports = rw d (passes h.reports) }
 
 compare_stop : {A T : Type 0} (R : A → T → Type 0) (i j : Interval) (o : Option Bool) (n : Bool → Run A) {b : ℕ} (a : ℕ) (u : Undecided) → u.turn ≡ next_turn b → a ≡ next_turn b → IsOpen (two_sides i j) u.lo u.hi →
-    Tells R (after_compare u.site i j o n) b a (Err (undecided_at u))
+    Reports R (after_compare u.site i j o n) b a (Err (undecided_at u))
 unfolding after_compare
 compare_stop R i j None n a u e d c = stops e d c
 compare_stop R i j (Some t) n a u e d c = stops_early e d c
@@ -111,7 +111,7 @@ pub leads_open_compare : {A T : Type 0} {w : World} {R : A → T → Type 0} (x 
     value w x ⊆ j → value w y ⊆ k → u.turn ≡ next_turn b → a ≡ next_turn b → IsOpenComparison j k u.lo u.hi → Leads w R (compare u.site x y next) b a (Err (undecided_at u))
 unfolding run
 leads_open_compare {w = w} {R = R} x y j k next a u i l e d c =
-    record { tells = compare_stop R (value w x) (value w y) (compare_at (value w x) (value w y)) (λ t. run w (next t)) a u e d (open_comparison j k i l c) }
+    record { reports = compare_stop R (value w x) (value w y) (compare_at (value w x) (value w y)) (λ t. run w (next t)) a u e d (open_comparison j k i l c) }
 
 -- what holds of the value, where an enclosure holds the expression
 pub lies : {E : Type 0} {shown : E → Interval} {w : World} {x : Expression} {e : E} → Within shown w x e → value w x ⊆ shown e
@@ -131,26 +131,26 @@ pub leads_fail_same : {A T : Type 0} {w : World} {R : A → T → Type 0} {p : P
 leads_fail_same f h = leads_fail f h
 
 -- ---- the leaf of a run
-tells_leaf : {A T : Type 0} {R : A → T → Type 0} {r : Run A} {b m : ℕ} {y : T} (d : A) → Tells R r b m (Ok y) → R (leaf_of d r) y
+reports_leaf : {A T : Type 0} {R : A → T → Type 0} {r : Run A} {b m : ℕ} {y : T} (d : A) → Reports R r b m (Ok y) → R (leaf_of d r) y
 unfolding leaf_of
-tells_leaf d (passes h) = tells_leaf d h
-tells_leaf d (answers h) = h
+reports_leaf d (passes h) = reports_leaf d h
+reports_leaf d (answers h) = h
 
-tells_then_leaf : {A B T U : Type 0} {R : A → T → Type 0} (S : B → U → Type 0) {r : Run A} {b m a : ℕ} {y : T} {t : Result U Fail} (d : A) (f : A → Run B) →
-    Tells R r b m (Ok y) → Tells S (f (leaf_of d r)) m a t → Tells S (run_then r f) b a t
+reports_then_leaf : {A B T U : Type 0} {R : A → T → Type 0} (S : B → U → Type 0) {r : Run A} {b m a : ℕ} {y : T} {t : Result U Fail} (d : A) (f : A → Run B) →
+    Reports R r b m (Ok y) → Reports S (f (leaf_of d r)) m a t → Reports S (run_then r f) b a t
 unfolding leaf_of run_then
-tells_then_leaf S d f (passes h) k = passes (tells_then_leaf S d f h k)
-tells_then_leaf S d f (answers h) k = k
+reports_then_leaf S d f (passes h) k = passes (reports_then_leaf S d f h k)
+reports_then_leaf S d f (answers h) k = k
 
 pub leaf_within : {E : Type 0} {shown : E → Interval} {w : World} {p : Program Expression} {b m : ℕ} {y : E} →
     Leads w (Within shown w) p b m (Ok y) → Within shown w (leaf w p) y
 unfolding leaf
-leaf_within h = tells_leaf _ h.tells
+leaf_within h = reports_leaf _ h.reports
 
 pub leads_on : {E B U : Type 0} {shown : E → Interval} {w : World} {S : B → U → Type 0} {p : Program Expression} (f : Expression → Program B) {b m a : ℕ} {y : E} {t : Result U Fail} →
     Leads w (Within shown w) p b m (Ok y) → Leads w S (f (leaf w p)) m a t → Leads w S (bind p f) b a t
 unfolding leaf
-leads_on {w = w} {S = S} {p = p} f h k = record { tells = rw (run_bind w p f) (tells_then_leaf S _ (λ v. run w (f v)) h.tells k.tells) }
+leads_on {w = w} {S = S} {p = p} f h k = record { reports = rw (run_bind w p f) (reports_then_leaf S _ (λ v. run w (f v)) h.reports k.reports) }
 
 -- ---- what is left of a program, for loops
 pub continues_here : {A T : Type 0} {w : World} {R : A → T → Type 0} {p : Program A} {b : ℕ} → Continues w R p b p b
@@ -177,31 +177,31 @@ pub continues_void : {A T : Type 0} {w : World} {R : A → T → Type 0} {p : Pr
 continues_void {s = s} {m = m} h = h.rest m (Err (Void s)) leads_void
 
 -- ---- what results say of outcomes
-tells_value : {A T : Type 0} {R : A → T → Type 0} {r : Run A} {b a : ℕ} {y : T} → Tells R r b a (Ok y) → (v : A) × (outcome r ≡ valued v) × R v y
+reports_value : {A T : Type 0} {R : A → T → Type 0} {r : Run A} {b a : ℕ} {y : T} → Reports R r b a (Ok y) → (v : A) × (outcome r ≡ valued v) × R v y
 unfolding outcome
-tells_value (passes h) = tells_value h
-tells_value (answers {v = v} h) = (v, refl, h)
+reports_value (passes h) = reports_value h
+reports_value (answers {v = v} h) = (v, refl, h)
 
 pub leads_value : {T : Type 0} {w : World} {p : Program T} {b a : ℕ} {y : T} → Leads w Exact p b a (Ok y) → outcome (run w p) ≡ valued y
-leads_value {w = w} {p = p} h = let t = tells_value h.tells in t.1 ∙ ap valued t.2
+leads_value {w = w} {p = p} h = let t = reports_value h.reports in t.1 ∙ ap valued t.2
 
-tells_leaf_value : {A T : Type 0} {R : A → T → Type 0} {r : Run A} {b m : ℕ} {y : T} (d : A) → Tells R r b m (Ok y) → outcome r ≡ valued (leaf_of d r)
+reports_leaf_value : {A T : Type 0} {R : A → T → Type 0} {r : Run A} {b m : ℕ} {y : T} (d : A) → Reports R r b m (Ok y) → outcome r ≡ valued (leaf_of d r)
 unfolding outcome leaf_of
-tells_leaf_value d (passes h) = tells_leaf_value d h
-tells_leaf_value d (answers h) = refl
+reports_leaf_value d (passes h) = reports_leaf_value d h
+reports_leaf_value d (answers h) = refl
 
 -- the expression that a run ends in is its outcome
 pub leads_leaf : {T : Type 0} {w : World} {R : Expression → T → Type 0} {p : Program Expression} {b m : ℕ} {y : T} → Leads w R p b m (Ok y) → outcome (run w p) ≡ valued (leaf w p)
 unfolding leaf
-leads_leaf h = tells_leaf_value _ h.tells
+leads_leaf h = reports_leaf_value _ h.reports
 
-tells_void : {A T : Type 0} {R : A → T → Type 0} {r : Run A} {b a : ℕ} {s : Site} → Tells R r b a (Err (Void s)) → outcome r ≡ void_at s
+reports_void : {A T : Type 0} {R : A → T → Type 0} {r : Run A} {b a : ℕ} {s : Site} → Reports R r b a (Err (Void s)) → outcome r ≡ void_at s
 unfolding outcome
-tells_void (passes h) = tells_void h
-tells_void voids = refl
+reports_void (passes h) = reports_void h
+reports_void voids = refl
 
 pub leads_void_at : {A T : Type 0} {w : World} {R : A → T → Type 0} {p : Program A} {b a : ℕ} {s : Site} → Leads w R p b a (Err (Void s)) → outcome (run w p) ≡ void_at s
-leads_void_at h = tells_void h.tells
+leads_void_at h = reports_void h.reports
 
 -- the run makes the test of an undecided result, counted from turn b, and it is open at these ends
 pub record StopsAt {A : Type 0} (r : Run A) (b : ℕ) (u : Undecided) : Type 0 where
@@ -211,14 +211,14 @@ pub record StopsAt {A : Type 0} (r : Run A) (b : ℕ) (u : Undecided) : Type 0 w
   pub turn : u.turn ≡ min (b + number) (2 ^ 32 - 1)
   pub open_there : IsOpen sides u.lo u.hi
 
-tells_stop : {A T : Type 0} {R : A → T → Type 0} {r : Run A} {b a : ℕ} {u : Undecided} → Tells R r b a (Err (undecided_at u)) → StopsAt r b u
+reports_stop : {A T : Type 0} {R : A → T → Type 0} {r : Run A} {b a : ℕ} {u : Undecided} → Reports R r b a (Err (undecided_at u)) → StopsAt r b u
 unfolding next_turn
-tells_stop {b = b} (passes h) = let t = tells_stop h in record { number = suc t.number; sides = t.sides; makes = later t.makes; turn = omega (arith, t.turn); open_there = t.open_there }
-tells_stop {b = b} (stops e d c) = record { number = 1; sides = _; makes = here_undecided; turn = e; open_there = c }
-tells_stop {b = b} (stops_early e d c) = record { number = 1; sides = _; makes = here_decided; turn = e; open_there = c }
+reports_stop {b = b} (passes h) = let t = reports_stop h in record { number = suc t.number; sides = t.sides; makes = later t.makes; turn = omega (arith, t.turn); open_there = t.open_there }
+reports_stop {b = b} (stops e d c) = record { number = 1; sides = _; makes = here_undecided; turn = e; open_there = c }
+reports_stop {b = b} (stops_early e d c) = record { number = 1; sides = _; makes = here_decided; turn = e; open_there = c }
 
 pub leads_stop_at : {A T : Type 0} {w : World} {R : A → T → Type 0} {p : Program A} {b a : ℕ} {u : Undecided} → Leads w R p b a (Err (undecided_at u)) → StopsAt (run w p) b u
-leads_stop_at h = tells_stop h.tells
+leads_stop_at h = reports_stop h.reports
 
 -- ---- how many tests a program makes
 pub at_most_more : {A : Type 0} {p : Program A} (n m : ℕ) → n ≤ m → AtMost n p → AtMost m p

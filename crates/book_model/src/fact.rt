@@ -2,7 +2,8 @@
 ghost use Rattle.std.specs.Prelude.{◌≡◌, ◌↔◌, ◌<◌, ℤ, ◌≤ℤ◌, length, map, IfSome, IsSome};
 ghost use Rattle.book_model.specs.declared.fact.TheConstants.{KINDS, PLACES};
 
-use crate::names::{first_named, first_row_named, list_at, name_at};
+use crate::names::{first_row_named, list_at, name_at};
+use crate::{CAIRO, Location, TEHRAN, UJJAIN};
 
 /// A kind of astronomical fact.
 #[derive(Clone, Copy, Debug, PartialEq, Eq, Hash)]
@@ -50,42 +51,45 @@ pub struct Fact {
     pub(crate) day: i64,
 }
 
-/// Each kind of fact with its printed name and the places that it is asked of, in the order of the variants.
+/// Each kind of fact with its printed name, the places that it is asked of, and whether it begins with a whole day, in the
+/// order of the variants. It begins with one where the first test of its formula and the third, if they are of a year, are of
+/// that of the day itself.
 #[rattlefmt::skip]
-pub const KINDS: [(Kind, &str, &[Place]); 23] = [
-    (Kind::Dt, "dt", &[Place::None]),
-    (Kind::Sun, "sun", &[Place::None]),
-    (Kind::Nowruz, "nowruz", &[Place::None]),
-    (Kind::BahaiYear, "bahai-year", &[Place::None]),
-    (Kind::Solstice, "solstice", &[Place::Beijing]),
-    (Kind::NewMoonBefore, "new-moon-before", &[Place::Beijing]),
-    (Kind::NewMoonFrom, "new-moon-from", &[Place::Beijing]),
-    (Kind::Major, "major", &[Place::Beijing]),
-    (Kind::MajorTerm, "major-term", &[Place::Beijing]),
-    (Kind::MinorTerm, "minor-term", &[Place::Beijing]),
-    (Kind::Phasis, "phasis", &[Place::Cairo]),
-    (Kind::Sign, "sign", &[Place::None]),
-    (Kind::SolarYear, "solar-year", &[Place::None]),
-    (Kind::Sankranti, "sankranti", &[Place::None]),
-    (Kind::Tithi, "tithi", &[Place::None]),
-    (Kind::SignBefore, "sign-before", &[Place::None]),
-    (Kind::SignAfter, "sign-after", &[Place::None]),
-    (Kind::CalendarYear, "calendar-year", &[Place::None]),
-    (Kind::NewMoon, "new-moon", &[Place::None]),
-    (Kind::FirstQuarter, "first-quarter", &[Place::None]),
-    (Kind::FullMoon, "full-moon", &[Place::None]),
-    (Kind::LastQuarter, "last-quarter", &[Place::None]),
-    (Kind::Sunset, "sunset", &[Place::Tehran, Place::Cairo, Place::Ujjain]),
+pub const KINDS: [(Kind, &str, (&[Place], bool)); 23] = [
+    (Kind::Dt, "dt", (&[Place::None], true)),
+    (Kind::Sun, "sun", (&[Place::None], true)),
+    (Kind::Nowruz, "nowruz", (&[Place::None], false)),
+    (Kind::BahaiYear, "bahai-year", (&[Place::None], false)),
+    (Kind::Solstice, "solstice", (&[Place::Beijing], false)),
+    (Kind::NewMoonBefore, "new-moon-before", (&[Place::Beijing], false)),
+    (Kind::NewMoonFrom, "new-moon-from", (&[Place::Beijing], false)),
+    (Kind::Major, "major", (&[Place::Beijing], false)),
+    (Kind::MajorTerm, "major-term", (&[Place::Beijing], false)),
+    (Kind::MinorTerm, "minor-term", (&[Place::Beijing], false)),
+    (Kind::Phasis, "phasis", (&[Place::Cairo], true)),
+    (Kind::Sign, "sign", (&[Place::None], false)),
+    (Kind::SolarYear, "solar-year", (&[Place::None], false)),
+    (Kind::Sankranti, "sankranti", (&[Place::None], false)),
+    (Kind::Tithi, "tithi", (&[Place::None], false)),
+    (Kind::SignBefore, "sign-before", (&[Place::None], false)),
+    (Kind::SignAfter, "sign-after", (&[Place::None], false)),
+    (Kind::CalendarYear, "calendar-year", (&[Place::None], true)),
+    (Kind::NewMoon, "new-moon", (&[Place::None], true)),
+    (Kind::FirstQuarter, "first-quarter", (&[Place::None], true)),
+    (Kind::FullMoon, "full-moon", (&[Place::None], true)),
+    (Kind::LastQuarter, "last-quarter", (&[Place::None], true)),
+    (Kind::Sunset, "sunset", (&[Place::Tehran, Place::Cairo, Place::Ujjain], false)),
 ];
 
-/// Each place with its printed name, in the order of the variants.
+/// Each place with its printed name and the location from which its horizon is looked at, if it has one, in the order of the
+/// variants.
 #[rattlefmt::skip]
-pub const PLACES: [(Place, &str); 5] = [
-    (Place::None, "-"),
-    (Place::Beijing, "beijing"),
-    (Place::Cairo, "cairo"),
-    (Place::Tehran, "tehran"),
-    (Place::Ujjain, "ujjain"),
+pub const PLACES: [(Place, &str, Option<Location>); 5] = [
+    (Place::None, "-", None),
+    (Place::Beijing, "beijing", None),
+    (Place::Cairo, "cairo", Some(CAIRO)),
+    (Place::Tehran, "tehran", Some(TEHRAN)),
+    (Place::Ujjain, "ujjain", Some(UJJAIN)),
 ];
 
 /// The first and the last day of which a fact may be asked (R.D.).
@@ -145,7 +149,7 @@ impl Kind {
 }
 
 impl Place {
-    ghost use Rattle.book_model.specs.sky.Names.{place_number, place_name, place_named};
+    ghost use Rattle.book_model.specs.sky.Names.{place_number, place_name, place_named, location_of};
 
     /// The number of the place, from 0: its place among the places.
     pub fn number(self) -> usize
@@ -168,7 +172,15 @@ impl Place {
     pub fn named(word: &[u8]) -> Option<Place>
         ensures { result ≡ place_named word.now }
     {
-        first_named(&PLACES, word)
+        first_row_named(&PLACES, word)
+    }
+
+    /// The location from which the horizon of the place is looked at, if it has one.
+    #[tactic(auto, unfolding(crate::specs::sky::Names::location_of))]
+    pub fn location(self) -> Option<Location>
+        ensures { result ≡ location_of self }
+    {
+        PLACES[self.number()].2
     }
 }
 

@@ -37,9 +37,12 @@ pub(crate) fn name_at<T, W>(rows: &[(T, &'static str, W)], place: usize) -> &'st
 }
 
 /// The list in the row at a place.
-pub(crate) fn list_at<T, N, U>(rows: &[(T, N, &'static [U])], place: usize) -> &'static [U]
+pub(crate) fn list_at<T, N, U, V>(
+    rows: &[(T, N, (&'static [U], V))],
+    place: usize,
+) -> &'static [U]
     requires within { place < length rows.now }
-    ensures { result.now ≡ slice_index_or (map (λ row. row.2.now) rows.now) place [] }
+    ensures { result.now ≡ slice_index_or (map (λ row. row.2.0.now) rows.now) place [] }
 {
-    rows[place].2
+    rows[place].2.0
 }

@@ -7,10 +7,10 @@ use Rattle.cert_read.specs.declared.reader.Stop.TheVariants.{Rule, Memory}
 use Rattle.cert_read.specs.Reading.{Reading, bad, after_form}
 
 -- a form breaks no rule, or this one, unless memory ran out
-abbrev pub Tells : {X : Type 0} → Result X Stop → Option ℕ → Type 0
-Tells (Ok x) broken = broken ≡ None
-Tells (Err (Rule rule)) broken = broken ≡ Some rule
-Tells (Err Memory) broken = Unit {0}
+abbrev pub Breaks : {X : Type 0} → Result X Stop → Option ℕ → Type 0
+Breaks (Ok x) broken = broken ≡ None
+Breaks (Err (Rule rule)) broken = broken ≡ Some rule
+Breaks (Err Memory) broken = Unit {0}
 
 -- after a line of this form the reading goes on with this file
 pub record Passes (before : CertFile) (ended : Bool) (form : Option Form) (after : CertFile) (end : Bool) : Type 0 where

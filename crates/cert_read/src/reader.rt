@@ -5,7 +5,7 @@ ghost use Rattle.book_model.specs.calendars.Inquiries.{fact_eq};
 ghost use Rattle.book_model.specs.lines.Text.{with_fact};
 ghost use Rattle.cert_read.specs.Grammar.{form_of as form_of_line};
 ghost use Rattle.cert_read.specs.Reading as spec;
-ghost use Rattle.cert_read.specs.Steps.{Tells, Passes, Fails};
+ghost use Rattle.cert_read.specs.Steps.{Breaks, Passes, Fails};
 ghost use Rattle.cert_read.specs.declared.reader.Stop.TheVariants.{Memory as memory_stop};
 
 use crate::form::{Form, form_of};
@@ -112,7 +112,7 @@ impl Reader {
     #[tactic(auto, unfolding(crate::specs::Reading::broken_by, crate::specs::Reading::with_form))]
     fn take_fact(&mut self, number: u32, fact: Option<Fact>, value: i64) -> Result<(), Stop>
         requires { self.old.seen.keys ≡ map (λ e. e.0) self.old.file.facts }
-        ensures rule { Tells result (spec.broken_by self.old.file self.old.ended
+        ensures rule { Breaks result (spec.broken_by self.old.file self.old.ended
             (Form.Fact number fact value)) }
         ensures file { OnOk result (self.new.file ≡ spec.with_form self.old.file
             (Form.Fact number fact value)) }
@@ -139,7 +139,7 @@ impl Reader {
     #[tactic(auto, unfolding(crate::specs::Reading::broken_by, crate::specs::Reading::with_form))]
     fn take_line(&mut self, alloc: Global, number: u32, line: CertLine) -> Result<(), Stop>
         requires { self.old.seen.keys ≡ map (λ e. e.0) self.old.file.facts }
-        ensures rule { Tells result (spec.broken_by self.old.file self.old.ended
+        ensures rule { Breaks result (spec.broken_by self.old.file self.old.ended
             (Form.Line number line)) }
         ensures file { OnOk result (self.new.file ≡ spec.with_form self.old.file
             (Form.Line number line)) }
@@ -163,7 +163,7 @@ impl Reader {
     #[tactic(auto, unfolding(crate::specs::Reading::broken_by, crate::specs::Reading::with_form))]
     fn take_undecided(&mut self, number: u32, fact: Option<Fact>, at: Undecided) -> Result<(), Stop>
         requires { self.old.seen.keys ≡ map (λ e. e.0) self.old.file.facts }
-        ensures rule { Tells result (spec.broken_by self.old.file self.old.ended
+        ensures rule { Breaks result (spec.broken_by self.old.file self.old.ended
             (Form.Undecided number fact at)) }
         ensures file { OnOk result (self.new.file ≡ spec.with_form self.old.file
             (Form.Undecided number fact at)) }
@@ -187,7 +187,7 @@ impl Reader {
     #[tactic(auto, unfolding(crate::specs::Reading::broken_by, crate::specs::Reading::with_form))]
     fn take_void(&mut self, number: u32, fact: Option<Fact>, site: Site) -> Result<(), Stop>
         requires { self.old.seen.keys ≡ map (λ e. e.0) self.old.file.facts }
-        ensures rule { Tells result (spec.broken_by self.old.file self.old.ended
+        ensures rule { Breaks result (spec.broken_by self.old.file self.old.ended
             (Form.Void number fact site)) }
         ensures file { OnOk result (self.new.file ≡ spec.with_form self.old.file
             (Form.Void number fact site)) }
@@ -211,7 +211,7 @@ impl Reader {
     #[tactic(auto, unfolding(crate::specs::Reading::broken_by, crate::specs::Reading::with_form))]
     fn take_end(&mut self, lines: u32, facts: u32) -> Result<(), Stop>
         requires { self.old.seen.keys ≡ map (λ e. e.0) self.old.file.facts }
-        ensures rule { Tells result (spec.broken_by self.old.file self.old.ended
+        ensures rule { Breaks result (spec.broken_by self.old.file self.old.ended
             (Form.End lines facts)) }
         ensures file { OnOk result (self.new.file ≡ spec.with_form self.old.file
             (Form.End lines facts)) }
@@ -231,7 +231,7 @@ impl Reader {
     /// Takes a form.
     fn take_form(&mut self, alloc: Global, form: Form) -> Result<(), Stop>
         requires { self.old.seen.keys ≡ map (λ e. e.0) self.old.file.facts }
-        ensures rule { Tells result (spec.broken_by self.old.file self.old.ended form) }
+        ensures rule { Breaks result (spec.broken_by self.old.file self.old.ended form) }
         ensures file { OnOk result (self.new.file ≡ spec.with_form self.old.file form) }
         ensures ended { OnOk result (self.new.ended ≡ spec.is_end form) }
         ensures seen { OnOk result (self.new.seen.keys ≡ map (λ e. e.0) self.new.file.facts) }

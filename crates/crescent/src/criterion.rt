@@ -29,7 +29,6 @@ const FIRST_QUARTER: i64 = 90;
 fn is_past_new<E: Enclosure>(phase: E, trail: &mut Trail) -> Result<bool, Fail>
     ensures leads { Decides1 E.shown spec.is_past_new_of phase trail.old.count trail.new.count
         result }
-    ensures counted { trail.new.count ≤ trail.old.count + 1 }
 {
     less_step(E::from_int(0), phase, Site::Crescent, trail)
 }
@@ -39,7 +38,6 @@ fn is_past_new<E: Enclosure>(phase: E, trail: &mut Trail) -> Result<bool, Fail>
 fn is_before_quarter<E: Enclosure>(phase: E, trail: &mut Trail) -> Result<bool, Fail>
     ensures leads { Decides1 E.shown spec.is_before_quarter_of phase trail.old.count trail.new.count
         result }
-    ensures counted { trail.new.count ≤ trail.old.count + 1 }
 {
     less_step(phase, E::from_int(FIRST_QUARTER), Site::Crescent, trail)
 }
@@ -48,7 +46,6 @@ fn is_before_quarter<E: Enclosure>(phase: E, trail: &mut Trail) -> Result<bool, 
 #[tactic(auto, using(book_model::proofs::Leads::leading), unfolding(book_model::specs::sky::Crescent::is_lit_of, book_model::specs::programs::Leading::next_turn))]
 fn is_lit<E: Enclosure>(arc: E, trail: &mut Trail) -> Result<bool, Fail>
     ensures leads { Decides1 E.shown spec.is_lit_of arc trail.old.count trail.new.count result }
-    ensures counted { trail.new.count ≤ trail.old.count + 1 }
 {
     let least = cos_deg(E::from_frac(LEAST_ARC_OF_LIGHT));
     match less_step(least, arc, Site::Crescent, trail) {
@@ -62,7 +59,6 @@ fn is_lit<E: Enclosure>(arc: E, trail: &mut Trail) -> Result<bool, Fail>
 fn is_within_quarter<E: Enclosure>(arc: E, trail: &mut Trail) -> Result<bool, Fail>
     ensures leads { Decides1 E.shown spec.is_within_quarter_of arc trail.old.count trail.new.count
         result }
-    ensures counted { trail.new.count ≤ trail.old.count + 1 }
 {
     match less_step(arc, E::from_int(0), Site::Crescent, trail) {
         Ok(less) => Ok(!less),
@@ -74,7 +70,6 @@ fn is_within_quarter<E: Enclosure>(arc: E, trail: &mut Trail) -> Result<bool, Fa
 #[tactic(auto, using(book_model::proofs::Leads::leading), unfolding(book_model::specs::sky::Crescent::is_high_of, book_model::specs::programs::Leading::next_turn))]
 fn is_high<E: Enclosure>(altitude: E, trail: &mut Trail) -> Result<bool, Fail>
     ensures leads { Decides1 E.shown spec.is_high_of altitude trail.old.count trail.new.count result }
-    ensures counted { trail.new.count ≤ trail.old.count + 1 }
 {
     let least = sin_deg(E::from_frac(LEAST_ALTITUDE));
     less_step(least, altitude, Site::Crescent, trail)
@@ -85,7 +80,6 @@ fn is_high<E: Enclosure>(altitude: E, trail: &mut Trail) -> Result<bool, Fail>
 fn is_bright<E: Enclosure>(arc: E, altitude: E, trail: &mut Trail) -> Result<bool, Fail>
     ensures leads { Decides2 E.shown spec.is_bright_of arc altitude trail.old.count trail.new.count
         result }
-    ensures counted { trail.new.count ≤ trail.old.count + 3 }
 {
     Ok(is_lit(arc, trail)? && is_within_quarter(arc, trail)? && is_high(altitude, trail)?)
 }
@@ -95,7 +89,6 @@ fn is_bright<E: Enclosure>(arc: E, altitude: E, trail: &mut Trail) -> Result<boo
 fn is_crescent<E: Enclosure>(phase: E, arc: E, altitude: E, trail: &mut Trail) -> Result<bool, Fail>
     ensures leads { Decides3 E.shown spec.is_crescent_of phase arc altitude trail.old.count
         trail.new.count result }
-    ensures counted { trail.new.count ≤ trail.old.count + 5 }
 {
     Ok(
         is_past_new(phase, trail)?
@@ -121,7 +114,6 @@ fn meets<E: Enclosure>(
         → Within E.shown w b latitude → Within E.shown w t sidereal
         → Leads w Exact (spec.meets_of location.now f o l b t) trail.old.count trail.new.count
         result }
-    ensures counted { trail.new.count ≤ trail.old.count + 5 }
 {
     let arc = arc_cosine(latitude, phase);
     let here = sidereal.add(E::from_frac(location.longitude));
@@ -140,7 +132,6 @@ fn meets_with<E: Enclosure>(
 ) -> Result<bool, Fail>
     ensures leads { Decides3 E.shown (spec.meets_with_of location.now) t phase obliquity
         trail.old.count trail.new.count result }
-    ensures counted { trail.new.count ≤ trail.old.count + 8 }
 {
     let longitude = moon(t, trail)?;
     let north = latitude(t, trail)?;
@@ -154,12 +145,9 @@ fn meets_with<E: Enclosure>(
 #[tactic(auto, using(book_model::proofs::Leads::leading), unfolding(book_model::specs::sky::Crescent::obliquity_at_of, book_model::specs::programs::Leading::next_turn))]
 fn obliquity_at<E: Enclosure>(t: E, trail: &mut Trail) -> Result<E, Fail>
     ensures leads { Follows1 E.shown spec.obliquity_at_of t trail.old.count trail.new.count result }
-    ensures counted { trail.new.count ≤ trail.old.count + 1 }
 {
-    match centuries(t, trail) {
-        Ok(c) => obliquity(c, trail),
-        Err(fail) => Err(fail),
-    }
+    let c = centuries(t, trail)?;
+    obliquity(c, trail)
 }
 
 /// Whether the moon meets the criterion at a location and a moment of universal time: 19 tests at most.
@@ -167,7 +155,6 @@ fn obliquity_at<E: Enclosure>(t: E, trail: &mut Trail) -> Result<E, Fail>
 fn meets_at<E: Enclosure>(location: &Location, t: E, trail: &mut Trail) -> Result<bool, Fail>
     ensures leads { Decides1 E.shown (spec.meets_at_of location.now) t trail.old.count
         trail.new.count result }
-    ensures counted { trail.new.count ≤ trail.old.count + 19 }
 {
     let young = phase(t, trail)?;
     let tilt = obliquity_at(t, trail)?;
@@ -188,12 +175,9 @@ fn evening<E: Enclosure>(location: &Location, day: i64, trail: &mut Trail) -> Re
     requires low { negsuc 39999999 ≤ℤ day }
     ensures leads { Follows E.shown (spec.evening_of location.now day) trail.old.count
         trail.new.count result }
-    ensures counted { trail.new.count ≤ trail.old.count + 132 }
 {
-    match dusk(location, E::from_frac(CRESCENT_DEPRESSION), day - 1, trail) {
-        Ok(t) => Ok(universal(location.longitude, t)),
-        Err(fail) => Err(fail),
-    }
+    let t = dusk(location, E::from_frac(CRESCENT_DEPRESSION), day - 1, trail)?;
+    Ok(universal(location.longitude, t))
 }
 
 /// Whether the crescent is seen at a location on the evening with which a day (R.D.) begins, by Shaukat's criterion (Reingold and
@@ -207,10 +191,7 @@ pub fn visible<E: Enclosure>(location: &Location, day: i64, trail: &mut Trail) -
     requires low { negsuc 39999999 ≤ℤ day }
     ensures leads { Decides (spec.visible_of location.now day) trail.old.count trail.new.count
         result }
-    ensures counted { trail.new.count ≤ trail.old.count + 151 }
 {
-    match evening::<E>(location, day, trail) {
-        Ok(t) => meets_at(location, t, trail),
-        Err(fail) => Err(fail),
-    }
+    let t = evening::<E>(location, day, trail)?;
+    meets_at(location, t, trail)
 }

@@ -74,15 +74,12 @@ fn sight_start<E: Enclosure>(
     ensures leads { Decides (spec.sight_start_of location.now day new_moon) trail.old.count
         trail.new.count result }
     ensures near { IfOk result IsSightDay }
-    ensures counted { trail.new.count ≤ trail.old.count + 151 }
 {
     if !is_soon(day, new_moon) {
         return Ok(new_moon);
     }
-    match visible::<E>(location, day, trail) {
-        Ok(is_seen) => Ok(start(new_moon, is_seen)),
-        Err(fail) => Err(fail),
-    }
+    let is_seen = visible::<E>(location, day, trail)?;
+    Ok(start(new_moon, is_seen))
 }
 
 /// The first day (R.D.) from a day on on whose evening before the crescent is seen.
@@ -93,7 +90,6 @@ fn first_sight<E: Enclosure>(location: &Location, from: i64, trail: &mut Trail) 
         trail.new.count result }
     ensures from { IfOk result (λ d. from ≤ℤ d) }
     ensures to { IfOk result (λ d. d ≤ℤ (from +ℤ pos 45)) }
-    ensures counted { trail.new.count ≤ trail.old.count + 46 * 151 }
 {
     first_day::<E, SeenAt>(
         &SeenAt {
@@ -117,12 +113,9 @@ fn sight_after<E: Enclosure>(
     ensures leads { Decides (spec.sight_after_of location.now day new_moon) trail.old.count
         trail.new.count result }
     ensures value { IfOk result IsFactValue }
-    ensures counted { trail.new.count ≤ trail.old.count + 47 * 151 }
 {
-    match sight_start::<E>(location, day, new_moon, trail) {
-        Ok(from) => first_sight::<E>(location, from, trail),
-        Err(fail) => Err(fail),
-    }
+    let from = sight_start::<E>(location, day, new_moon, trail)?;
+    first_sight::<E>(location, from, trail)
 }
 
 /// The last day (R.D.) before a day, or the day itself, on whose evening before the crescent was first seen at a location by
@@ -136,7 +129,6 @@ pub fn phasis<E: Enclosure>(location: &Location, day: i64, trail: &mut Trail) ->
     ensures value { IfOk result IsFactValue }
     ensures early { trail.old.count ≡ 0 → 36 ≤ E.BITS → E.BITS ≤ 56 → IsValueDay day
         → IfErr result IsNoEarlyYear }
-    ensures counted { trail.new.count ≤ trail.old.count + 7942 }
 {
     match phase_day::<E>(NEW_MOON, day, trail) {
         Ok(new_moon) => sight_after::<E>(location, day, new_moon, trail),

@@ -1,15 +1,18 @@
 -- The run of every fact makes fewer than 100,000 tests.
-use Rattle.std.specs.Prelude.{ℕ, ◌≤◌, ℤ, pos}
+use Rattle.std.specs.Prelude.{ℕ, ◌≤◌, ℤ, pos, Option, Some, None}
 use Rattle.book_model.specs.declared.fact.Fact.{Fact}
 use Rattle.book_model.specs.declared.fact.Kind.{Kind}
 use Rattle.book_model.specs.declared.fact.Kind.TheVariants.{Dt, Sun, Nowruz, BahaiYear, Solstice, NewMoonBefore, NewMoonFrom, Major, MajorTerm, MinorTerm, Phasis, Sign, SolarYear, Sankranti, Tithi, SignBefore, SignAfter, CalendarYear, NewMoon, FirstQuarter, FullMoon, LastQuarter, Sunset}
 use Rattle.book_model.specs.declared.fact.Place.{Place}
 use Rattle.book_model.specs.declared.fact.TheConstants.{FIRST_DAY, LAST_DAY}
 use Rattle.book_model.specs.declared.site.Site.{Site}
-use Rattle.book_model.specs.programs.Programs.{AtMost, MakesTest, Sides, void_at_most}
+use Rattle.book_model.specs.programs.Programs.{AtMost, MakesTest, Program, Sides, void_at_most}
 use Rattle.book_model.specs.sky.Correction.{is_between}
 use Rattle.book_model.specs.sky.Facts.{at_depth, formula_of, program_of, run_of}
-use Rattle.book_model.specs.sky.Kinds.{location_of}
+use Rattle.book_model.specs.declared.horizon.Location.{Location}
+use Rattle.book_model.specs.sky.Kinds.{located, sunset_in_minutes_of}
+use Rattle.book_model.specs.sky.Crescent.{phasis_of}
+use Rattle.book_model.specs.sky.Names.{location_of}
 use Rattle.book_model.proofs.Corrections.{few_of_two}
 use Rattle.book_model.proofs.FactRuns.{dt_few, sun_in_thousandths_few}
 use Rattle.book_model.proofs.Leads.{few_tests}
@@ -17,10 +20,16 @@ use Rattle.sun_core.proofs.NewYears.{nowruz_few}
 use Rattle.moon_core.proofs.PhaseDays.{phase_day_few}
 use Rattle.rise_set.proofs.Horizons.{bahai_year_few, sunset_in_minutes_few}
 use Rattle.hindu_sky.proofs.HinduRuns.{sign_at_sunset_few, year_at_sunset_few, sankranti_few, tithi_few, sign_before_few, sign_after_few, calendar_year_few}
-use Rattle.fact_eval.proofs.Crescents.{phasis_few}
+use Rattle.crescent.proofs.Crescents.{phasis_few}
 use Rattle.fact_eval.proofs.MoonFacts.{new_moon_before_few, new_moon_from_few}
 use Rattle.fact_eval.proofs.Solstices.{solstice_few, major_few}
 use Rattle.fact_eval.proofs.TermDays.{term_day_few}
+
+-- a formula at the location of a place, if it has one
+located_few : (o : Option Location) (formula : Location → Program ℤ) → ((l : Location) → AtMost 99999 (formula l)) → AtMost 99999 (located o formula)
+unfolding located
+located_few None formula few = void_at_most
+located_few (Some l) formula few = few l
 
 -- the formula of each kind of fact
 pub formula_few : (kind : Kind) (place : Place) (d : ℤ) → AtMost 99999 (formula_of kind place d)
@@ -35,7 +44,7 @@ formula_few NewMoonFrom place d = new_moon_from_few d
 formula_few Major place d = major_few d
 formula_few MajorTerm place d = term_day_few (pos 0) d
 formula_few MinorTerm place d = term_day_few (pos 15) d
-formula_few Phasis place d = phasis_few (location_of place) d
+formula_few Phasis place d = located_few (location_of place) (λ l. phasis_of l d) (λ l. phasis_few l d)
 formula_few Sign place d = sign_at_sunset_few d
 formula_few SolarYear place d = year_at_sunset_few d
 formula_few Sankranti place d = sankranti_few d
@@ -47,7 +56,7 @@ formula_few NewMoon place d = phase_day_few (pos 0) d
 formula_few FirstQuarter place d = phase_day_few (pos 90) d
 formula_few FullMoon place d = phase_day_few (pos 180) d
 formula_few LastQuarter place d = phase_day_few (pos 270) d
-formula_few Sunset place d = sunset_in_minutes_few (location_of place) d
+formula_few Sunset place d = located_few (location_of place) (λ l. sunset_in_minutes_of l d) (λ l. sunset_in_minutes_few l d)
 
 -- and that of each fact, which is void on other days
 pub program_few : (f : Fact) → AtMost 99999 (program_of f)

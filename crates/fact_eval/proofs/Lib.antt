@@ -5,7 +5,6 @@ pub mod NewYears
 pub mod Winters
 pub mod Evaluations
 pub mod Nearness
-pub mod Crescents
 pub mod SunsetValues
 pub mod Solstices
 pub mod TermDays

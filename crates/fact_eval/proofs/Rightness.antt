@@ -1,6 +1,6 @@
 -- The answer that an evaluation gives is right for its fact.
 use Rattle.std.specs.Prelude.{◌≡◌, ℕ, ◌≤◌, ℤ, Result, Ok, Err, IfOk, IfErr, refl, true, false}
-use Rattle.std.proofs.Common.{arith, ◌⊎◌, inl, inr}
+use Rattle.std.proofs.Common.{arith, ◌⊎◌, inl, inr, sym, ◌∙◌}
 use Rattle.std.proofs.lemmas.Int.{ints}
 use Rattle.book_model.specs.declared.fact.Fact.{Fact}
 use Rattle.book_model.specs.declared.fact.Kind.{Kind}
@@ -12,7 +12,8 @@ use Rattle.book_model.specs.declared.fail.Fail.TheVariants.{Undecided as undecid
 use Rattle.book_model.specs.sky.Correction.{is_between}
 use Rattle.book_model.specs.calendars.Gregorian.{year_of_day}
 use Rattle.book_model.specs.numbers.Expressions.{World}
-use Rattle.book_model.specs.sky.Facts.{IsFactValue, program_of, formula_of, HasWholeDays}
+use Rattle.book_model.specs.sky.Facts.{IsFactValue, program_of, formula_of}
+use Rattle.book_model.specs.sky.Names.{begins_with_day}
 use Rattle.book_model.specs.programs.Leading.{Exact, Leads}
 use Rattle.book_model.specs.programs.Programs.{void}
 use Rattle.fact_eval.proofs.FewTests.{program_few}
@@ -33,55 +34,55 @@ unfolding program_of
 program_outside f h = rw h refl
 
 -- a kind of which nothing is promised
-nothing_promised : (k : Kind) (y : ℤ) (r : Result ℤ Fail) → (HasWholeDays k → ⊥) → (k ≡ Dt → ⊥) → IfErr r (IsNearFor k y)
+nothing_promised : (k : Kind) (y : ℤ) (r : Result ℤ Fail) → begins_with_day k ≡ false → (k ≡ Dt → ⊥) → IfErr r (IsNearFor k y)
 nothing_promised k y (Ok v) h d = tt
-nothing_promised k y (Err (undecided_at u)) h d = record { no_whole_day = λ e t w. h w; close = λ e a b. absurd (d e) }
+nothing_promised k y (Err (undecided_at u)) h d = record { no_whole_day = λ e t w. let no : true ≡ false = sym w ∙ h in cc; close = λ e a b. absurd (d e) }
 nothing_promised k y (Err (Void s)) h d = tt
 
 pub nowruz_keeps : (y : ℤ) (r : Result ℤ Fail) → IfErr r (IsNearFor Nowruz y)
-nowruz_keeps y r = nothing_promised Nowruz y r (λ w. w) (λ e. absurd (cc))
+nowruz_keeps y r = nothing_promised Nowruz y r refl (λ e. absurd (cc))
 
 pub bahai_year_keeps : (y : ℤ) (r : Result ℤ Fail) → IfErr r (IsNearFor BahaiYear y)
-bahai_year_keeps y r = nothing_promised BahaiYear y r (λ w. w) (λ e. absurd (cc))
+bahai_year_keeps y r = nothing_promised BahaiYear y r refl (λ e. absurd (cc))
 
 pub solstice_keeps : (y : ℤ) (r : Result ℤ Fail) → IfErr r (IsNearFor Solstice y)
-solstice_keeps y r = nothing_promised Solstice y r (λ w. w) (λ e. absurd (cc))
+solstice_keeps y r = nothing_promised Solstice y r refl (λ e. absurd (cc))
 
 pub new_moon_before_keeps : (y : ℤ) (r : Result ℤ Fail) → IfErr r (IsNearFor NewMoonBefore y)
-new_moon_before_keeps y r = nothing_promised NewMoonBefore y r (λ w. w) (λ e. absurd (cc))
+new_moon_before_keeps y r = nothing_promised NewMoonBefore y r refl (λ e. absurd (cc))
 
 pub new_moon_from_keeps : (y : ℤ) (r : Result ℤ Fail) → IfErr r (IsNearFor NewMoonFrom y)
-new_moon_from_keeps y r = nothing_promised NewMoonFrom y r (λ w. w) (λ e. absurd (cc))
+new_moon_from_keeps y r = nothing_promised NewMoonFrom y r refl (λ e. absurd (cc))
 
 pub major_keeps : (y : ℤ) (r : Result ℤ Fail) → IfErr r (IsNearFor Major y)
-major_keeps y r = nothing_promised Major y r (λ w. w) (λ e. absurd (cc))
+major_keeps y r = nothing_promised Major y r refl (λ e. absurd (cc))
 
 pub major_term_keeps : (y : ℤ) (r : Result ℤ Fail) → IfErr r (IsNearFor MajorTerm y)
-major_term_keeps y r = nothing_promised MajorTerm y r (λ w. w) (λ e. absurd (cc))
+major_term_keeps y r = nothing_promised MajorTerm y r refl (λ e. absurd (cc))
 
 pub minor_term_keeps : (y : ℤ) (r : Result ℤ Fail) → IfErr r (IsNearFor MinorTerm y)
-minor_term_keeps y r = nothing_promised MinorTerm y r (λ w. w) (λ e. absurd (cc))
+minor_term_keeps y r = nothing_promised MinorTerm y r refl (λ e. absurd (cc))
 
 pub sunset_keeps : (y : ℤ) (r : Result ℤ Fail) → IfErr r (IsNearFor Sunset y)
-sunset_keeps y r = nothing_promised Sunset y r (λ w. w) (λ e. absurd (cc))
+sunset_keeps y r = nothing_promised Sunset y r refl (λ e. absurd (cc))
 
 pub sign_keeps : (y : ℤ) (r : Result ℤ Fail) → IfErr r (IsNearFor Sign y)
-sign_keeps y r = nothing_promised Sign y r (λ w. w) (λ e. absurd (cc))
+sign_keeps y r = nothing_promised Sign y r refl (λ e. absurd (cc))
 
 pub solar_year_keeps : (y : ℤ) (r : Result ℤ Fail) → IfErr r (IsNearFor SolarYear y)
-solar_year_keeps y r = nothing_promised SolarYear y r (λ w. w) (λ e. absurd (cc))
+solar_year_keeps y r = nothing_promised SolarYear y r refl (λ e. absurd (cc))
 
 pub sankranti_keeps : (y : ℤ) (r : Result ℤ Fail) → IfErr r (IsNearFor Sankranti y)
-sankranti_keeps y r = nothing_promised Sankranti y r (λ w. w) (λ e. absurd (cc))
+sankranti_keeps y r = nothing_promised Sankranti y r refl (λ e. absurd (cc))
 
 pub tithi_keeps : (y : ℤ) (r : Result ℤ Fail) → IfErr r (IsNearFor Tithi y)
-tithi_keeps y r = nothing_promised Tithi y r (λ w. w) (λ e. absurd (cc))
+tithi_keeps y r = nothing_promised Tithi y r refl (λ e. absurd (cc))
 
 pub sign_before_keeps : (y : ℤ) (r : Result ℤ Fail) → IfErr r (IsNearFor SignBefore y)
-sign_before_keeps y r = nothing_promised SignBefore y r (λ w. w) (λ e. absurd (cc))
+sign_before_keeps y r = nothing_promised SignBefore y r refl (λ e. absurd (cc))
 
 pub sign_after_keeps : (y : ℤ) (r : Result ℤ Fail) → IfErr r (IsNearFor SignAfter y)
-sign_after_keeps y r = nothing_promised SignAfter y r (λ w. w) (λ e. absurd (cc))
+sign_after_keeps y r = nothing_promised SignAfter y r refl (λ e. absurd (cc))
 
 -- the kinds of which the first and the third test of the year are made on the day itself, and never open
 of_whole_days : (k : Kind) (y : ℤ) (r : Result ℤ Fail) → (k ≡ Dt → ⊥) → IfErr r IsNoEarlyYear → IfErr r (IsNearFor k y)

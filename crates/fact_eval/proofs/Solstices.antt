@@ -23,7 +23,7 @@ use Rattle.sun_core.proofs.NewYears.{days_few}
 use Rattle.book_model.proofs.Values.{value_proper}
 
 -- ---- how many tests
-winter_few : (d : ℤ) → AtMost 3 (has_winter_at_end d)
+pub winter_few : (d : ℤ) → AtMost 3 (has_winter_at_end d)
 unfolding has_winter_at_end longitude_at_midnight_of is_past_winter_of
 winter_few d = at_most_bind 2 1 (sun_few _) (λ s. compare_at_most (λ past. answer_at_most))
 

@@ -1,5 +1,5 @@
 -- From where to where dusk and sunset lie, and a sunset in minutes.
-use Rattle.std.specs.Prelude.{◌≡◌, ℕ, zero, suc, ◌*◌, ◌≤◌, Bool, true, false, if◌then◌else◌, ℤ, pos, negsuc, ◌+ℤ◌, ◌-ℤ◌, Result, Ok, Err, IfOk}
+use Rattle.std.specs.Prelude.{◌≡◌, ℕ, zero, suc, ◌*◌, ◌≤◌, Bool, true, false, if◌then◌else◌, ℤ, pos, negsuc, ◌+ℤ◌, ◌-ℤ◌, Result, Ok, Err, IfOk, Option, Some, None, IfSome}
 use Rattle.std.proofs.Common.{arith, sym}
 use Rattle.std.proofs.lemmas.Int.{ints}
 use lib.Signed.{lt_z}
@@ -23,8 +23,9 @@ use Rattle.book_model.specs.numbers.Expressions.{Expression, World, value, exact
 use Rattle.book_model.specs.sky.Facts.{IsFactValue, at_depth}
 use Rattle.book_model.specs.numbers.Fractions.{fraction_of}
 use Rattle.book_model.specs.sky.Horizon.{universal_of, near_offset_of, part_of, quarter_of, apparent_by, approximation_on, approximation_of, has_settled_of, settled_of, depression_of, dusk_of, sunset_depression_of, sunset_of}
-use Rattle.book_model.specs.sky.Kinds.{location_of, minutes_of, sunset_in_minutes_of}
-use Rattle.book_model.specs.programs.Leading.{Leads, Exact}
+use Rattle.book_model.specs.sky.Kinds.{located, minutes_of, sunset_in_minutes_of}
+use Rattle.book_model.specs.sky.Names.{location_of}
+use Rattle.book_model.specs.programs.Calls.{Decides}
 use Rattle.book_model.specs.sky.Noon.{ahead_of}
 use Rattle.book_model.specs.numbers.Octants.{only}
 use Rattle.book_model.specs.programs.Programs.{answer, cell, integers, run, valued, outcome}
@@ -136,11 +137,13 @@ pub record IsEast (p : Location) : Type 0 where
   pub ahead : (w : World) → IsBetween (pos 0) (pos 1) (value w (ahead_of (fraction_of p.longitude)))
   pub zone : (w : World) → IsBetween (pos 0) (pos 1) (value w (scale (fraction_of HOUR) (constant (fraction_of p.zone))))
 
-east : (c : Place) → IsEast (location_of c)
-unfolding ahead_of value product least greatest smaller larger times is_at_most
+east : (place : Place) → IfSome (location_of place) IsEast
+unfolding location_of ahead_of value product least greatest smaller larger times is_at_most
+east places.None = tt
+east places.Beijing = tt
 east places.Cairo = record { ahead = λ w. (record { cross = omega (arith, ints) }, record { cross = omega (arith, ints) }); zone = λ w. (record { cross = omega (arith, ints) }, record { cross = omega (arith, ints) }) }
+east places.Tehran = record { ahead = λ w. (record { cross = omega (arith, ints) }, record { cross = omega (arith, ints) }); zone = λ w. (record { cross = omega (arith, ints) }, record { cross = omega (arith, ints) }) }
 east places.Ujjain = record { ahead = λ w. (record { cross = omega (arith, ints) }, record { cross = omega (arith, ints) }); zone = λ w. (record { cross = omega (arith, ints) }, record { cross = omega (arith, ints) }) }
-east _ = record { ahead = λ w. (record { cross = omega (arith, ints) }, record { cross = omega (arith, ints) }); zone = λ w. (record { cross = omega (arith, ints) }, record { cross = omega (arith, ints) }) }
 
 sunset_between : (w : World) (p : Location) (d : ℤ) (y : Expression) → IsEast p → outcome (run w (sunset_of p d)) ≡ valued y → IsBetween (d -ℤ pos 37) (d +ℤ pos 37) (value w y)
 unfolding sunset_of dusk_of depression_of universal_of value
@@ -189,6 +192,11 @@ minutes_value w p d v e h =
     (omega (arith, ints, f.0), omega (arith, ints, f.1))
 
 -- a sunset in minutes is a value that a fact may have
-pub sunset_is_value : (c : Place) (d : ℤ) (r : Result ℤ Fail) (b a : ℕ) → ((w : World) → 40 ≤ w.depth → Leads w Exact (sunset_in_minutes_of (location_of c) d) b a r) → IfOk r IsFactValue
-sunset_is_value c d (Ok v) b a h = minutes_value (at_depth 40) (location_of c) d v (east c) (leads_value (h (at_depth 40) (omega arith)))
-sunset_is_value c d (Err f) b a h = tt
+sunset_at_value : (o : Option Location) (d v : ℤ) → IfSome o IsEast → outcome (run (at_depth 40) (located o (λ l. sunset_in_minutes_of l d))) ≡ valued v → IsFactValue v
+unfolding located run outcome
+sunset_at_value None d v e h = absurd (cc)
+sunset_at_value (Some l) d v e h = minutes_value (at_depth 40) l d v e h
+
+pub sunset_is_value : (place : Place) (d : ℤ) (r : Result ℤ Fail) (b a : ℕ) → Decides (located (location_of place) (λ l. sunset_in_minutes_of l d)) b a r → IfOk r IsFactValue
+sunset_is_value place d (Ok v) b a h = sunset_at_value (location_of place) d v (east place) (leads_value (h (at_depth 40) (omega arith)))
+sunset_is_value place d (Err f) b a h = tt

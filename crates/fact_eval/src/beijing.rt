@@ -13,7 +13,6 @@ use time_scales::{in_beijing, midnight};
 pub(crate) fn longitude_at_midnight<E: Enclosure>(day: i64, trail: &mut Trail) -> Result<E, Fail>
     ensures leads { Follows E.shown (longitude_at_midnight_of day) trail.old.count trail.new.count
         result }
-    ensures counted { trail.new.count ≤ trail.old.count + 2 }
 {
     sun(midnight::<E>(day), trail)
 }
@@ -22,10 +21,7 @@ pub(crate) fn longitude_at_midnight<E: Enclosure>(day: i64, trail: &mut Trail) -
 #[tactic(auto, using(book_model::proofs::Leads::leading), unfolding(book_model::specs::sky::Kinds::day_in_beijing_of, book_model::specs::programs::Leading::next_turn))]
 pub(crate) fn day_in_beijing<E: Enclosure>(t: E, trail: &mut Trail) -> Result<i64, Fail>
     ensures leads { Decides1 E.shown day_in_beijing_of t trail.old.count trail.new.count result }
-    ensures counted { trail.new.count ≤ trail.old.count + 2 }
 {
-    match in_beijing(t, trail) {
-        Ok(moment) => floor_step(moment, Site::DayFloor, trail),
-        Err(fail) => Err(fail),
-    }
+    let moment = in_beijing(t, trail)?;
+    floor_step(moment, Site::DayFloor, trail)
 }

@@ -33,7 +33,6 @@ fn milliseconds<E: Enclosure>(days: E) -> E
 pub(crate) fn dt<E: Enclosure>(day: i64, trail: &mut Trail) -> Result<i64, Fail>
     requires day { IsValueDay day }
     ensures leads { Decides (dt_of day) trail.old.count trail.new.count result }
-    ensures counted { trail.new.count ≤ trail.old.count + 2 }
     ensures value { IfOk result IsFactValue }
     ensures open { 36 ≤ E.BITS → E.BITS ≤ 56 → IfErr result (IsNearFor Dt (year_of_day day)) }
     ensures close { 36 ≤ E.BITS → E.BITS ≤ 56 → IfErr result (IsCloseFor E.BITS (year_of_day day)) }

@@ -19,7 +19,6 @@ fn terms_passed<E: Enclosure>(day: i64, trail: &mut Trail) -> Result<i64, Fail>
     ensures leads { Decides (terms_passed_of day) trail.old.count trail.new.count result }
     ensures from { IfOk result (λ q. pos 0 ≤ℤ q) }
     ensures to { IfOk result (λ q. q ≤ℤ pos 12) }
-    ensures counted { trail.new.count ≤ trail.old.count + 3 }
 {
     match longitude_at_midnight::<E>(day, trail) {
         Ok(longitude) => floor_step(longitude.mul_frac(DEGREE_IN_TERMS), Site::TermFloor, trail),
@@ -34,11 +33,8 @@ pub(crate) fn major<E: Enclosure>(day: i64, trail: &mut Trail) -> Result<i64, Fa
     requires day { IsValueDay day }
     ensures leads { Decides (major_of day) trail.old.count trail.new.count result }
     ensures value { IfOk result IsFactValue }
-    ensures counted { trail.new.count ≤ trail.old.count + 3 }
     ensures open { IfErr result (IsNearFor Major (year_of_day day)) }
 {
-    match terms_passed::<E>(day, trail) {
-        Ok(passed) => Ok(amod(2 + passed, 12)),
-        Err(fail) => Err(fail),
-    }
+    let passed = terms_passed::<E>(day, trail)?;
+    Ok(amod(2 + passed, 12))
 }

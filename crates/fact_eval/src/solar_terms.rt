@@ -21,7 +21,6 @@ const TERM_DEGREES: i64 = 30;
 fn floor_of_spans<E: Enclosure>(longitude: i64, day: i64, trail: &mut Trail) -> Result<i64, Fail>
     ensures leads { Decides (spec.spans_short_of longitude day) trail.old.count trail.new.count
         result }
-    ensures counted { trail.new.count ≤ trail.old.count + 3 }
 {
     match longitude_at_midnight::<E>(day, trail) {
         Ok(there) => {
@@ -38,7 +37,6 @@ fn spans_short<E: Enclosure>(first: i64, day: i64, trail: &mut Trail) -> Result<
     requires to { first ≤ℤ pos 15 }
     ensures leads { Decides (spec.spans_short_of first day) trail.old.count trail.new.count result }
     ensures near { IfOk result IsSpan }
-    ensures counted { trail.new.count ≤ trail.old.count + 3 }
 {
     floor_of_spans::<E>(first, day, trail)
 }
@@ -59,7 +57,6 @@ fn term_longitude(first: i64, spans: i64) -> i64
 fn longitude_day<E: Enclosure>(longitude: i64, day: i64, trail: &mut Trail) -> Result<i64, Fail>
     ensures leads { Decides (spec.longitude_day_of longitude day) trail.old.count trail.new.count
         result }
-    ensures counted { trail.new.count ≤ trail.old.count + 326 }
 {
     match sun_from(E::from_int(longitude), midnight::<E>(day), trail) {
         Ok(moment) => day_in_beijing(moment, trail),
@@ -73,12 +70,9 @@ fn next_term_day<E: Enclosure>(first: i64, day: i64, trail: &mut Trail) -> Resul
     requires from { pos 0 ≤ℤ first }
     requires to { first ≤ℤ pos 15 }
     ensures leads { Decides (spec.term_day_of first day) trail.old.count trail.new.count result }
-    ensures counted { trail.new.count ≤ trail.old.count + 329 }
 {
-    match spans_short::<E>(first, day, trail) {
-        Ok(spans) => longitude_day::<E>(term_longitude(first, spans), day, trail),
-        Err(fail) => Err(fail),
-    }
+    let spans = spans_short::<E>(first, day, trail)?;
+    longitude_day::<E>(term_longitude(first, spans), day, trail)
 }
 
 /// The day (R.D.) in Beijing on which the sun comes to the first of the longitudes of the terms once a day has begun there: those 30

@@ -24,7 +24,6 @@ struct WinterAtEnd;
 fn is_past_winter<E: Enclosure>(longitude: E, trail: &mut Trail) -> Result<bool, Fail>
     ensures leads { Decides1 E.shown is_past_winter_of longitude trail.old.count trail.new.count
         result }
-    ensures counted { trail.new.count ≤ trail.old.count + 1 }
 {
     less_step(E::from_int(WINTER), longitude, Site::DayTest, trail)
 }
@@ -34,12 +33,9 @@ fn is_past_winter<E: Enclosure>(longitude: E, trail: &mut Trail) -> Result<bool,
 fn has_winter<E: Enclosure>(day: i64, trail: &mut Trail) -> Result<bool, Fail>
     requires day { IsFactDay day }
     ensures leads { Decides (has_winter_at_end day) trail.old.count trail.new.count result }
-    ensures counted { trail.new.count ≤ trail.old.count + 3 }
 {
-    match longitude_at_midnight::<E>(day + 1, trail) {
-        Ok(longitude) => is_past_winter(longitude, trail),
-        Err(fail) => Err(fail),
-    }
+    let longitude = longitude_at_midnight::<E>(day + 1, trail)?;
+    is_past_winter(longitude, trail)
 }
 
 impl<E: Enclosure> DayTest<E> for WinterAtEnd {
@@ -58,7 +54,6 @@ impl<E: Enclosure> DayTest<E> for WinterAtEnd {
 fn last_solstice<E: Enclosure>(day: i64, trail: &mut Trail) -> Result<E, Fail>
     requires day { IsFactDay day }
     ensures leads { Follows E.shown (last_solstice_of day) trail.old.count trail.new.count result }
-    ensures counted { trail.new.count ≤ trail.old.count + 6 }
 {
     estimate(E::from_int(WINTER), midnight::<E>(day + 1), trail)
 }
@@ -71,7 +66,6 @@ fn search_start<E: Enclosure>(day: i64, trail: &mut Trail) -> Result<i64, Fail>
     ensures leads { Decides (solstice_start_of day) trail.old.count trail.new.count result }
     ensures from { IfOk result (λ q. (day -ℤ pos 600) ≤ℤ q) }
     ensures to { IfOk result (λ q. q ≤ℤ (day +ℤ pos 2)) }
-    ensures counted { trail.new.count ≤ trail.old.count + 7 }
 {
     match last_solstice::<E>(day, trail) {
         Ok(moment) => floor_step(moment, Site::StartFloor, trail),
@@ -86,11 +80,8 @@ pub(crate) fn solstice<E: Enclosure>(day: i64, trail: &mut Trail) -> Result<i64,
     requires day { IsValueDay day }
     ensures leads { Decides (solstice_of day) trail.old.count trail.new.count result }
     ensures value { IfOk result IsFactValue }
-    ensures counted { trail.new.count ≤ trail.old.count + 145 }
     ensures open { IfErr result (IsNearFor Solstice (year_of_day day)) }
 {
-    match search_start::<E>(day, trail) {
-        Ok(start) => first_day::<E, WinterAtEnd>(&WinterAtEnd, start - 1, trail),
-        Err(fail) => Err(fail),
-    }
+    let start = search_start::<E>(day, trail)?;
+    first_day::<E, WinterAtEnd>(&WinterAtEnd, start - 1, trail)
 }

@@ -4,7 +4,7 @@ ghost use Rattle.std.specs.Prelude.{◌≤◌, ◌+◌, ◌*◌, pos, negsuc, �
 ghost use Rattle.book_model.specs.numbers.Expressions.{Expression};
 ghost use Rattle.book_model.specs.sky.Facts.{IsFactDay, IsFactValue, IsValueDay};
 ghost use Rattle.book_model.specs.sky.Kinds.{longitude_at_of, is_at_most_two_of, has_spring_at, last_equinox_of, search_start_of, spring_day_of};
-ghost use Rattle.book_model.specs.programs.Programs.{Program};
+ghost use Rattle.book_model.specs.programs.Programs.{AtMost, Program};
 
 use book_model::{Fail, Site};
 use encl_core::{DayTest, Enclosure, Trail, first_day, floor_step, less_step};
@@ -15,14 +15,15 @@ pub(crate) trait DayMoment<E: Enclosure>: Copy {
     /// The moment of a day, as a formula.
     ghost moment_of: { ℤ → Program Expression };
 
-    /// How many tests it makes at most.
+    /// How many tests the formula makes at most, and that it does.
     ghost most: { ℕ };
+
+    ghost few: { (day : ℤ) → AtMost most (moment_of day) };
 
     /// The moment of a day (R.D.), in universal time. It makes the tests of its formula, and fails where that does.
     fn at(self, day: i64, trail: &mut Trail) -> Result<E, Fail>
         requires day { IsFactDay day }
-        ensures leads { Follows E.shown (moment_of day) trail.old.count trail.new.count result }
-        ensures counted { trail.new.count ≤ trail.old.count + most };
+        ensures leads { Follows E.shown (moment_of day) trail.old.count trail.new.count result };
 }
 
 /// Whether the longitude of the sun at a moment of a day is at most 2 degrees. The search for it begins before the equinox,
@@ -42,12 +43,9 @@ fn longitude_at<E: Enclosure, M: DayMoment<E>>(
     requires day { IsFactDay day }
     ensures leads { Follows E.shown (longitude_at_of M.moment_of day) trail.old.count
         trail.new.count result }
-    ensures counted { trail.new.count ≤ trail.old.count + M.most + 2 }
 {
-    match moment.at(day, trail) {
-        Ok(there) => sun(there, trail),
-        Err(fail) => Err(fail),
-    }
+    let there = moment.at(day, trail)?;
+    sun(there, trail)
 }
 
 /// Whether a longitude is at most 2 degrees, as one test.
@@ -55,7 +53,6 @@ fn longitude_at<E: Enclosure, M: DayMoment<E>>(
 fn is_at_most_two<E: Enclosure>(longitude: E, trail: &mut Trail) -> Result<bool, Fail>
     ensures leads { Decides1 E.shown is_at_most_two_of longitude trail.old.count trail.new.count
         result }
-    ensures counted { trail.new.count ≤ trail.old.count + 1 }
 {
     match less_step(E::from_int(2), longitude, Site::DayTest, trail) {
         Ok(is_more) => Ok(!is_more),
@@ -72,12 +69,9 @@ fn has_spring<E: Enclosure, M: DayMoment<E>>(
 ) -> Result<bool, Fail>
     requires day { IsFactDay day }
     ensures leads { Decides (has_spring_at M.moment_of day) trail.old.count trail.new.count result }
-    ensures counted { trail.new.count ≤ trail.old.count + M.most + 3 }
 {
-    match longitude_at::<E, M>(moment, day, trail) {
-        Ok(longitude) => is_at_most_two(longitude, trail),
-        Err(fail) => Err(fail),
-    }
+    let longitude = longitude_at::<E, M>(moment, day, trail)?;
+    is_at_most_two(longitude, trail)
 }
 
 impl<E: Enclosure, M: DayMoment<E>> DayTest<E> for SpringAt<M> {
@@ -100,12 +94,9 @@ fn last_equinox<E: Enclosure, M: DayMoment<E>>(
     requires day { IsFactDay day }
     ensures leads { Follows E.shown (last_equinox_of M.moment_of day) trail.old.count
         trail.new.count result }
-    ensures counted { trail.new.count ≤ trail.old.count + M.most + 6 }
 {
-    match moment.at(day, trail) {
-        Ok(there) => estimate(E::from_int(0), there, trail),
-        Err(fail) => Err(fail),
-    }
+    let there = moment.at(day, trail)?;
+    estimate(E::from_int(0), there, trail)
 }
 
 /// The day (R.D.) of the moment at which the sun was last at the equinox before a moment of a day, as it is estimated.
@@ -119,7 +110,6 @@ fn search_start<E: Enclosure, M: DayMoment<E>>(
     ensures leads { Decides (search_start_of M.moment_of day) trail.old.count trail.new.count result }
     ensures from { IfOk result (λ q. negsuc 183199 ≤ℤ q) }
     ensures to { IfOk result (λ q. q ≤ℤ pos 748748) }
-    ensures counted { trail.new.count ≤ trail.old.count + M.most + 7 }
 {
     match last_equinox::<E, M>(moment, day, trail) {
         Ok(equinox) => floor_step(equinox, Site::StartFloor, trail),
@@ -139,10 +129,7 @@ pub(crate) fn spring_day<E: Enclosure, M: DayMoment<E>>(
     requires day { IsValueDay day }
     ensures leads { Decides (spring_day_of M.moment_of day) trail.old.count trail.new.count result }
     ensures value { IfOk result IsFactValue }
-    ensures counted { trail.new.count ≤ trail.old.count + 47 * M.most + 145 }
 {
-    match search_start::<E, M>(moment, day, trail) {
-        Ok(start) => first_day::<E, SpringAt<M>>(&SpringAt { moment }, start - 1, trail),
-        Err(fail) => Err(fail),
-    }
+    let start = search_start::<E, M>(moment, day, trail)?;
+    first_day::<E, SpringAt<M>>(&SpringAt { moment }, start - 1, trail)
 }

@@ -17,7 +17,6 @@ use sun_core::sun;
 pub(crate) fn sun_in_thousandths<E: Enclosure>(day: i64, trail: &mut Trail) -> Result<i64, Fail>
     requires day { IsValueDay day }
     ensures leads { Decides (sun_in_thousandths_of day) trail.old.count trail.new.count result }
-    ensures counted { trail.new.count ≤ trail.old.count + 3 }
     ensures value { IfOk result IsFactValue }
     ensures open { 36 ≤ E.BITS → E.BITS ≤ 56 → IfErr result (IsNearFor Sun (year_of_day day)) }
 {

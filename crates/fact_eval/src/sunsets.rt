@@ -5,13 +5,15 @@ ghost use Rattle.book_model.specs.calendars.Gregorian.{year_of_day};
 ghost use Rattle.book_model.specs.sky.Correction.{rounded_of};
 ghost use Rattle.book_model.specs.sky.Facts.{IsFactValue, IsValueDay};
 ghost use Rattle.book_model.specs.sky.Horizon.{sunset_of};
-ghost use Rattle.book_model.specs.sky.Kinds.{bahai_year_of, location_of as location_at, minutes_of, sunset_in_minutes_of};
+ghost use Rattle.book_model.specs.sky.Kinds.{bahai_year_of, located, minutes_of, sunset_in_minutes_of};
+ghost use Rattle.book_model.specs.sky.Names.{location_of};
 ghost use Rattle.book_model.specs.declared.fact.Kind.TheVariants.{BahaiYear, Sunset};
 ghost use Rattle.book_model.specs.declared.location_tables.TheConstants.{TEHRAN as tehran};
 ghost use Rattle.fact_eval.specs.Widths.{IsNearFor};
+ghost use Rattle.rise_set.proofs.Horizons.{sunset_few};
 
 use crate::spring::{DayMoment, spring_day};
-use book_model::{CAIRO, Fail, HALF, HOUR, Location, MINUTES_OF_DAY, Place, Site, TEHRAN, UJJAIN};
+use book_model::{Fail, HALF, HOUR, Location, MINUTES_OF_DAY, Place, Site, TEHRAN};
 use encl_core::{Enclosure, Trail, floor_step};
 use rise_set::sunset;
 
@@ -23,6 +25,8 @@ impl<E: Enclosure> DayMoment<E> for SunsetAtTehran {
     ghost moment_of = { sunset_of tehran };
 
     ghost most = { 132 };
+
+    ghost few = { sunset_few tehran };
 
     fn at(self, day: i64, trail: &mut Trail) -> Result<E, Fail> {
         sunset::<E>(&TEHRAN, day, trail)
@@ -36,21 +40,9 @@ pub(crate) fn bahai_year<E: Enclosure>(day: i64, trail: &mut Trail) -> Result<i6
     requires day { IsValueDay day }
     ensures leads { Decides (bahai_year_of day) trail.old.count trail.new.count result }
     ensures value { IfOk result IsFactValue }
-    ensures counted { trail.new.count ≤ trail.old.count + 6349 }
     ensures open { IfErr result (IsNearFor BahaiYear (year_of_day day)) }
 {
     spring_day::<E, SunsetAtTehran>(SunsetAtTehran, day, trail)
-}
-
-/// The location of a place.
-pub(crate) fn location_of(place: Place) -> Location
-    ensures location { result ≡ location_at place }
-{
-    match place {
-        Place::Cairo => CAIRO,
-        Place::Ujjain => UJJAIN,
-        _ => TEHRAN,
-    }
 }
 
 /// A moment of universal time on a day (R.D.) as minutes of the standard time of a location after midnight.
@@ -67,7 +59,6 @@ fn minutes<E: Enclosure>(location: &Location, day: i64, t: E) -> E
 #[tactic(auto, using(book_model::proofs::Leads::leading), unfolding(book_model::specs::sky::Correction::rounded_of, book_model::specs::programs::Leading::next_turn))]
 fn rounded<E: Enclosure>(number: E, trail: &mut Trail) -> Result<i64, Fail>
     ensures leads { Decides1 E.shown rounded_of number trail.old.count trail.new.count result }
-    ensures counted { trail.new.count ≤ trail.old.count + 1 }
 {
     floor_step(number.add(E::from_frac(HALF)), Site::Round, trail)
 }
@@ -81,28 +72,27 @@ fn minutes_of_sunset<E: Enclosure>(
 ) -> Result<i64, Fail>
     ensures leads { Decides (sunset_in_minutes_of location.now day) trail.old.count trail.new.count
         result }
-    ensures counted { trail.new.count ≤ trail.old.count + 133 }
 {
-    match sunset::<E>(location, day, trail) {
-        Ok(t) => rounded(minutes(location, day, t), trail),
-        Err(fail) => Err(fail),
-    }
+    let t = sunset::<E>(location, day, trail)?;
+    rounded(minutes(location, day, t), trail)
 }
 
 /// Sunset on a day (R.D.) at a place, in minutes of its standard time after midnight, rounded: 133 tests at most. It is void
-/// where sunset is.
-#[tactic(auto, using(crate::proofs::Rightness::sunset_keeps))]
+/// where sunset is, and at `year` where the place has no location.
+#[tactic(auto, using(crate::proofs::Rightness::sunset_keeps, book_model::proofs::Leads::leading), unfolding(book_model::specs::sky::Kinds::located))]
 pub(crate) fn sunset_in_minutes<E: Enclosure>(
     place: Place,
     day: i64,
     trail: &mut Trail,
 ) -> Result<i64, Fail>
     requires day { IsValueDay day }
-    ensures leads { Decides (sunset_in_minutes_of (location_at place) day) trail.old.count
-        trail.new.count result }
+    ensures leads { Decides (located (location_of place) (λ l. sunset_in_minutes_of l day))
+        trail.old.count trail.new.count result }
     ensures value { IfOk result IsFactValue }
-    ensures counted { trail.new.count ≤ trail.old.count + 133 }
     ensures open { IfErr result (IsNearFor Sunset (year_of_day day)) }
 {
-    minutes_of_sunset::<E>(&location_of(place), day, trail)
+    match place.location() {
+        Some(location) => minutes_of_sunset::<E>(&location, day, trail),
+        None => Err(Fail::Void(Site::Year)),
+    }
 }

@@ -70,7 +70,7 @@ pub year_at_sunset_few : (d : ℤ) → AtMost 99999 (year_at_sunset_of d)
 unfolding year_at_sunset_of
 year_at_sunset_few d = at_most_more 137 99999 (omega arith) (at_most_bind 132 5 (sunset_few d) year_few)
 
-has_sign_few : (g d : ℤ) → AtMost 137 (has_sign_at g d)
+pub has_sign_few : (g d : ℤ) → AtMost 137 (has_sign_at g d)
 unfolding has_sign_at
 has_sign_few g d = at_most_bind 137 0 (sign_at_few d) (λ k. answer_at_most)
 

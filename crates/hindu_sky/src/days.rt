@@ -21,12 +21,9 @@ fn sign_by_sunset<E: Enclosure>(day: i64, trail: &mut Trail) -> Result<i64, Fail
     ensures leads { Decides (spec.sign_at_sunset_of day) trail.old.count trail.new.count result }
     ensures from { IfOk result (λ g. pos 1 ≤ℤ g) }
     ensures to { IfOk result (λ g. g ≤ℤ pos 13) }
-    ensures counted { trail.new.count ≤ trail.old.count + 137 }
 {
-    match hsunset::<E>(day, trail) {
-        Ok(t) => sign(t, trail),
-        Err(fail) => Err(fail),
-    }
+    let t = hsunset::<E>(day, trail)?;
+    sign(t, trail)
 }
 
 /// The sign of the zodiac, from 1 to 12, in which the sun stands at sunset on a day (R.D.) at Ujjain (Reingold and
@@ -50,10 +47,8 @@ pub fn sign_at_sunset<E: Enclosure>(day: i64, trail: &mut Trail) -> Result<i64, 
 fn year_by_sunset<E: Enclosure>(day: i64, trail: &mut Trail) -> Result<i64, Fail>
     ensures leads { Decides (spec.year_at_sunset_of day) trail.old.count trail.new.count result }
 {
-    match hsunset::<E>(day, trail) {
-        Ok(t) => hindu_year(t, trail),
-        Err(fail) => Err(fail),
-    }
+    let t = hsunset::<E>(day, trail)?;
+    hindu_year(t, trail)
 }
 
 /// The year of the Kali Yuga at sunset on a day (R.D.) at Ujjain (Reingold and Dershowitz, Calendrical Calculations, chapter
@@ -77,6 +72,15 @@ fn is_sign(one: i64, other: i64) -> bool
     one == other
 }
 
+/// Whether the sun stands in a sign at the sunset of a day (R.D.).
+#[tactic(auto, using(book_model::proofs::Leads::leading), unfolding(book_model::specs::sky::HinduFacts::has_sign_at))]
+fn has_sign<E: Enclosure>(sign: i64, day: i64, trail: &mut Trail) -> Result<bool, Fail>
+    ensures leads { Decides (spec.has_sign_at sign day) trail.old.count trail.new.count result }
+{
+    let there = sign_by_sunset::<E>(day, trail)?;
+    Ok(is_sign(there, sign))
+}
+
 /// Whether the sun stands in a sign at the sunset of a day.
 #[derive(Drop)]
 struct InSign {
@@ -88,12 +92,8 @@ impl<E: Enclosure> DayTest<E> for InSign {
 
     ghost most = { 137 };
 
-    #[tactic(auto, using(book_model::proofs::Leads::leading), unfolding(book_model::specs::sky::HinduFacts::has_sign_at))]
     fn holds(&self, day: i64, trail: &mut Trail) -> Result<bool, Fail> {
-        match sign_by_sunset::<E>(day, trail) {
-            Ok(there) => Ok(is_sign(there, self.sign)),
-            Err(fail) => Err(fail),
-        }
+        has_sign::<E>(self.sign, day, trail)
     }
 }
 
@@ -148,10 +148,8 @@ pub fn sankranti<E: Enclosure>(day: i64, trail: &mut Trail) -> Result<i64, Fail>
     ensures leads { Decides (spec.sankranti_of day) trail.old.count trail.new.count result }
     ensures value { IfOk result IsFactValue }
 {
-    match hsunset::<E>(day, trail) {
-        Ok(t) => sign_entered(day, t, trail),
-        Err(fail) => Err(fail),
-    }
+    let t = hsunset::<E>(day, trail)?;
+    sign_entered(day, t, trail)
 }
 
 /// The whole lunar days that have passed of a month at a moment.
@@ -160,10 +158,8 @@ fn whole_lunar_days<E: Enclosure>(t: E, trail: &mut Trail) -> Result<i64, Fail>
     ensures leads { Decides1 E.shown spec.lunar_days_passed_of t trail.old.count trail.new.count
         result }
 {
-    match phase(t, trail) {
-        Ok(degrees) => floor_step(degrees.mul_frac(DEGREE_IN_LUNAR_DAYS), Site::Round, trail),
-        Err(fail) => Err(fail),
-    }
+    let degrees = phase(t, trail)?;
+    floor_step(degrees.mul_frac(DEGREE_IN_LUNAR_DAYS), Site::Round, trail)
 }
 
 /// The same, from 0 to 30.
@@ -190,10 +186,8 @@ pub fn tithi<E: Enclosure>(day: i64, trail: &mut Trail) -> Result<i64, Fail>
     ensures value { IfOk result IsFactValue }
 {
     let rising = sunrise::<E>(day, trail)?;
-    match lunar_days_passed(rising, trail) {
-        Ok(passed) => Ok(passed + 1),
-        Err(fail) => Err(fail),
-    }
+    let passed = lunar_days_passed(rising, trail)?;
+    Ok(passed + 1)
 }
 
 /// The sign in which the sun stood at the last new moon before sunrise on a day (R.D.) at Ujjain (Reingold and Dershowitz,
@@ -210,10 +204,8 @@ pub fn sign_before<E: Enclosure>(day: i64, trail: &mut Trail) -> Result<i64, Fai
     ensures value { IfOk result IsFactValue }
 {
     let rising = sunrise::<E>(day, trail)?;
-    match moon_before(rising, trail) {
-        Ok(t) => sign(t, trail),
-        Err(fail) => Err(fail),
-    }
+    let t = moon_before(rising, trail)?;
+    sign(t, trail)
 }
 
 /// The sign in which the sun stands at the first new moon from sunrise on on a day (R.D.) at Ujjain (Reingold and
@@ -229,10 +221,8 @@ pub fn sign_after<E: Enclosure>(day: i64, trail: &mut Trail) -> Result<i64, Fail
     ensures value { IfOk result IsFactValue }
 {
     let rising = sunrise::<E>(day, trail)?;
-    match moon_from(rising, trail) {
-        Ok(t) => sign(t, trail),
-        Err(fail) => Err(fail),
-    }
+    let t = moon_from(rising, trail)?;
+    sign(t, trail)
 }
 
 /// The year of the Kali Yuga when a day (R.D.) begins in universal time.

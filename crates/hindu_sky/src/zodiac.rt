@@ -16,19 +16,15 @@ use sun_core::sidereal_sun;
 #[tactic(auto, using(book_model::proofs::Leads::leading), unfolding(book_model::specs::sky::Sidereal::signs_passed_of, book_model::specs::programs::Leading::next_turn))]
 fn whole_signs<E: Enclosure>(t: E, trail: &mut Trail) -> Result<i64, Fail>
     ensures leads { Decides1 E.shown spec.signs_passed_of t trail.old.count trail.new.count result }
-    ensures counted { trail.new.count ≤ trail.old.count + 5 }
 {
-    match sidereal_sun(t, trail) {
-        Ok(longitude) => floor_step(longitude.mul_frac(DEGREE_IN_SIGNS), Site::Sidereal, trail),
-        Err(fail) => Err(fail),
-    }
+    let longitude = sidereal_sun(t, trail)?;
+    floor_step(longitude.mul_frac(DEGREE_IN_SIGNS), Site::Sidereal, trail)
 }
 
 /// The same, from 0 to 12.
 fn signs_passed<E: Enclosure>(t: E, trail: &mut Trail) -> Result<i64, Fail>
     ensures leads { Decides1 E.shown spec.signs_passed_of t trail.old.count trail.new.count result }
     ensures near { IfOk result IsSign }
-    ensures counted { trail.new.count ≤ trail.old.count + 5 }
 {
     whole_signs(t, trail)
 }
@@ -40,31 +36,24 @@ pub(crate) fn sign<E: Enclosure>(t: E, trail: &mut Trail) -> Result<i64, Fail>
     ensures leads { Decides1 E.shown spec.sign_of t trail.old.count trail.new.count result }
     ensures from { IfOk result (λ g. pos 1 ≤ℤ g) }
     ensures to { IfOk result (λ g. g ≤ℤ pos 13) }
-    ensures counted { trail.new.count ≤ trail.old.count + 5 }
 {
-    match signs_passed(t, trail) {
-        Ok(passed) => Ok(passed + 1),
-        Err(fail) => Err(fail),
-    }
+    let passed = signs_passed(t, trail)?;
+    Ok(passed + 1)
 }
 
 /// The whole degrees of the longitude of the sun among the stars.
 #[tactic(auto, using(book_model::proofs::Leads::leading), unfolding(book_model::specs::sky::HinduFacts::whole_degrees_of, book_model::specs::programs::Leading::next_turn))]
 fn floor_of_longitude<E: Enclosure>(t: E, trail: &mut Trail) -> Result<i64, Fail>
     ensures leads { Decides1 E.shown whole_degrees_of t trail.old.count trail.new.count result }
-    ensures counted { trail.new.count ≤ trail.old.count + 5 }
 {
-    match sidereal_sun(t, trail) {
-        Ok(longitude) => floor_step(longitude, Site::Sidereal, trail),
-        Err(fail) => Err(fail),
-    }
+    let longitude = sidereal_sun(t, trail)?;
+    floor_step(longitude, Site::Sidereal, trail)
 }
 
 /// The same, from 0 to 360: five tests at most.
 pub(crate) fn whole_degrees<E: Enclosure>(t: E, trail: &mut Trail) -> Result<i64, Fail>
     ensures leads { Decides1 E.shown whole_degrees_of t trail.old.count trail.new.count result }
     ensures near { IfOk result IsDegree }
-    ensures counted { trail.new.count ≤ trail.old.count + 5 }
 {
     floor_of_longitude(t, trail)
 }
@@ -85,14 +74,11 @@ fn years_gone<E: Enclosure>(t: E, longitude: E) -> E
 pub(crate) fn hindu_year<E: Enclosure>(t: E, trail: &mut Trail) -> Result<i64, Fail>
     ensures leads { Decides1 E.shown spec.hindu_year_of t trail.old.count trail.new.count result }
     ensures open { IfErr result (IsYearOpenFor (E.shown t)) }
-    ensures counted { trail.new.count ≤ trail.old.count + 5 }
 {
-    match sidereal_sun(t, trail) {
-        Ok(longitude) => floor_step(
-            years_gone(t, longitude).add(E::from_frac(HALF)),
-            Site::Round,
-            trail,
-        ),
-        Err(fail) => Err(fail),
-    }
+    let longitude = sidereal_sun(t, trail)?;
+    floor_step(
+        years_gone(t, longitude).add(E::from_frac(HALF)),
+        Site::Round,
+        trail,
+    )
 }

@@ -120,7 +120,6 @@ fn latitude_at<E: Enclosure>(days: E, c: E) -> E
 #[tactic(auto, using(book_model::proofs::Leads::leading), unfolding(book_model::specs::sky::Latitude::latitude_of, book_model::specs::sky::Time::centuries_of, book_model::specs::sky::Time::in_centuries, sun_core::specs::Daily::in_centuries, book_model::specs::programs::Leading::next_turn))]
 pub fn latitude<E: Enclosure>(t: E, trail: &mut Trail) -> Result<E, Fail>
     ensures leads { Follows1 E.shown spec.latitude_of t trail.old.count trail.new.count result }
-    ensures counted { trail.new.count ≤ trail.old.count + 1 }
 {
     match dynamical(t, trail) {
         Ok(moment) => {

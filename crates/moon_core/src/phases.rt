@@ -17,7 +17,6 @@ use sun_core::sun;
 fn turned<E: Enclosure>(angle: E, trail: &mut Trail) -> Result<E, Fail>
     ensures leads { Follows1 E.shown spec.turned_of angle trail.old.count trail.new.count result }
     ensures elsewhere { (i : Interval) → IfErr result (IsYearOpenFor i) }
-    ensures counted { trail.new.count ≤ trail.old.count + 1 }
 {
     wrap_step(angle, 360, Site::PhaseWrap, trail)
 }
@@ -27,7 +26,6 @@ fn turned<E: Enclosure>(angle: E, trail: &mut Trail) -> Result<E, Fail>
 fn longitudes_apart<E: Enclosure>(t: E, trail: &mut Trail) -> Result<E, Fail>
     ensures leads { Follows1 E.shown spec.elongation_of t trail.old.count trail.new.count result }
     ensures open { IfErr result (IsYearOpenFor (E.shown t)) }
-    ensures counted { trail.new.count ≤ trail.old.count + 5 }
 {
     let there = moon(t, trail)?;
     let longitude = sun(t, trail)?;
@@ -39,7 +37,6 @@ fn elongation<E: Enclosure>(t: E, trail: &mut Trail) -> Result<E, Fail>
     ensures leads { Follows1 E.shown spec.elongation_of t trail.old.count trail.new.count result }
     ensures open { IfErr result (IsYearOpenFor (E.shown t)) }
     ensures in_table { IfOk result (λ p. IsInTable (E.shown t)) }
-    ensures counted { trail.new.count ≤ trail.old.count + 5 }
 {
     longitudes_apart(t, trail)
 }
@@ -50,12 +47,9 @@ fn months_since<E: Enclosure>(n: i64, t: E, trail: &mut Trail) -> Result<E, Fail
     requires low { negsuc 39999999 ≤ℤ n }
     requires high { n ≤ℤ pos 40000000 }
     ensures leads { Follows1 E.shown (spec.months_since n) t trail.old.count trail.new.count result }
-    ensures counted { trail.new.count ≤ trail.old.count + 1 }
 {
-    match new_moon::<E>(n, trail) {
-        Ok(moment) => Ok(t.sub(moment).mul_frac(DAY_IN_MONTHS)),
-        Err(fail) => Err(fail),
-    }
+    let moment = new_moon::<E>(n, trail)?;
+    Ok(t.sub(moment).mul_frac(DAY_IN_MONTHS))
 }
 
 /// The whole number of months that is nearest, as one test.
@@ -63,7 +57,6 @@ fn months_since<E: Enclosure>(n: i64, t: E, trail: &mut Trail) -> Result<E, Fail
 fn nearest_moon<E: Enclosure>(months: E, trail: &mut Trail) -> Result<i64, Fail>
     ensures leads { Decides1 E.shown spec.nearest_moon_of months trail.old.count trail.new.count
         result }
-    ensures counted { trail.new.count ≤ trail.old.count + 1 }
 {
     floor_step(months.add(E::from_frac(HALF)), Site::MoonNumber, trail)
 }
@@ -72,12 +65,9 @@ fn nearest_moon<E: Enclosure>(months: E, trail: &mut Trail) -> Result<i64, Fail>
 #[tactic(auto, using(book_model::proofs::Leads::leading), unfolding(book_model::specs::sky::Phases::rough_number_of))]
 fn number_by_months<E: Enclosure>(t: E, trail: &mut Trail) -> Result<i64, Fail>
     ensures leads { Decides1 E.shown spec.rough_number_of t trail.old.count trail.new.count result }
-    ensures counted { trail.new.count ≤ trail.old.count + 2 }
 {
-    match months_since(0, t, trail) {
-        Ok(months) => nearest_moon(months, trail),
-        Err(fail) => Err(fail),
-    }
+    let months = months_since(0, t, trail)?;
+    nearest_moon(months, trail)
 }
 
 /// The same, of a moment of the years of which there is a correction: two tests at most.
@@ -86,7 +76,6 @@ fn rough_number<E: Enclosure>(t: E, trail: &mut Trail) -> Result<i64, Fail>
     ensures leads { Decides1 E.shown spec.rough_number_of t trail.old.count trail.new.count result }
     ensures low { IfOk result (λ n. negsuc 39999 ≤ℤ n) }
     ensures high { IfOk result (λ n. n ≤ℤ pos 40000) }
-    ensures counted { trail.new.count ≤ trail.old.count + 2 }
 {
     number_by_months(t, trail)
 }
@@ -96,7 +85,6 @@ fn rough_number<E: Enclosure>(t: E, trail: &mut Trail) -> Result<i64, Fail>
 fn rest_of_month<E: Enclosure>(months: E, trail: &mut Trail) -> Result<E, Fail>
     ensures leads { Follows1 E.shown spec.rest_of_month months trail.old.count trail.new.count
         result }
-    ensures counted { trail.new.count ≤ trail.old.count + 1 }
 {
     wrap_step(months, 1, Site::PhaseWrap, trail)
 }
@@ -108,13 +96,10 @@ fn phase_by_months<E: Enclosure>(n: i64, t: E, trail: &mut Trail) -> Result<E, F
     requires high { n ≤ℤ pos 40000000 }
     ensures leads { Follows1 E.shown (spec.phase_by_months_of n) t trail.old.count trail.new.count
         result }
-    ensures counted { trail.new.count ≤ trail.old.count + 2 }
 {
     let months = months_since(n, t, trail)?;
-    match rest_of_month(months, trail) {
-        Ok(rest) => Ok(rest.mul_frac(TURN)),
-        Err(fail) => Err(fail),
-    }
+    let rest = rest_of_month(months, trail)?;
+    Ok(rest.mul_frac(TURN))
 }
 
 /// The size of a number.
@@ -138,7 +123,6 @@ fn chosen<E: Enclosure>(apart: bool, by_longitudes: E, by_time: E) -> E
 fn picked<E: Enclosure>(by_longitudes: E, by_time: E, trail: &mut Trail) -> Result<E, Fail>
     ensures leads { Follows2 E.shown spec.picked_of by_longitudes by_time trail.old.count
         trail.new.count result }
-    ensures counted { trail.new.count ≤ trail.old.count + 1 }
 {
     let apart = size(by_longitudes.sub(by_time));
     match less_step(E::from_int(180), apart, Site::PhasePick, trail) {
@@ -153,7 +137,6 @@ fn corrected<E: Enclosure>(by_longitudes: E, t: E, trail: &mut Trail) -> Result<
     requires in_table { IsInTable (E.shown t) }
     ensures leads { Follows2 E.shown spec.corrected_of t by_longitudes trail.old.count
         trail.new.count result }
-    ensures counted { trail.new.count ≤ trail.old.count + 5 }
 {
     let number = rough_number(t, trail)?;
     let by_time = phase_by_months(number, t, trail)?;
@@ -169,7 +152,6 @@ fn corrected<E: Enclosure>(by_longitudes: E, t: E, trail: &mut Trail) -> Result<
 pub fn phase<E: Enclosure>(t: E, trail: &mut Trail) -> Result<E, Fail>
     ensures leads { Follows1 E.shown spec.phase_of t trail.old.count trail.new.count result }
     ensures early { trail.old.count ≡ 0 → IfErr result (IsEarlyYearFor (E.shown t)) }
-    ensures counted { trail.new.count ≤ trail.old.count + 10 }
 {
     match elongation(t, trail) {
         Ok(by_longitudes) => corrected(by_longitudes, t, trail),
@@ -181,7 +163,6 @@ pub fn phase<E: Enclosure>(t: E, trail: &mut Trail) -> Result<E, Fail>
 #[tactic(auto, using(book_model::proofs::Leads::leading), unfolding(book_model::specs::sky::Phases::number_of_moon))]
 fn number_by_phase<E: Enclosure>(t: E, trail: &mut Trail) -> Result<i64, Fail>
     ensures leads { Decides1 E.shown spec.number_of_moon t trail.old.count trail.new.count result }
-    ensures counted { trail.new.count ≤ trail.old.count + 12 }
 {
     let months = months_since(0, t, trail)?;
     let degrees = phase(t, trail)?;
@@ -193,7 +174,6 @@ pub(crate) fn number<E: Enclosure>(t: E, trail: &mut Trail) -> Result<i64, Fail>
     ensures leads { Decides1 E.shown spec.number_of_moon t trail.old.count trail.new.count result }
     ensures low { IfOk result (λ n. negsuc 39999 ≤ℤ n) }
     ensures high { IfOk result (λ n. n ≤ℤ pos 40000) }
-    ensures counted { trail.new.count ≤ trail.old.count + 12 }
 {
     number_by_phase(t, trail)
 }

@@ -23,8 +23,6 @@ struct MoonPhase;
 impl<E: Enclosure> Angular<E> for MoonPhase {
     ghost angle_of = { λ s x. spec.phase_of x };
 
-    ghost most = { 10 };
-
     fn at(&self, x: E, trail: &mut Trail) -> Result<E, Fail> {
         phases::phase(x, trail)
     }
@@ -35,7 +33,6 @@ impl<E: Enclosure> Angular<E> for MoonPhase {
 fn reduced<E: Enclosure>(angle: E, trail: &mut Trail) -> Result<E, Fail>
     ensures leads { Follows1 E.shown reduced_of angle trail.old.count trail.new.count result }
     ensures elsewhere { (i : Interval) → IfErr result (IsEarlyYearFor i) }
-    ensures counted { trail.new.count ≤ trail.old.count + 1 }
 {
     wrap_step(angle, 360, Site::StepWrap, trail)
 }
@@ -46,7 +43,6 @@ fn phase_past<E: Enclosure>(phase: E, t: E, trail: &mut Trail) -> Result<E, Fail
     ensures leads { Follows2 E.shown spec.phase_past_of phase t trail.old.count trail.new.count
         result }
     ensures early { trail.old.count ≡ 0 → IfErr result (IsEarlyYearFor (E.shown t)) }
-    ensures counted { trail.new.count ≤ trail.old.count + 11 }
 {
     match phases::phase(t, trail) {
         Ok(there) => reduced(there.sub(phase), trail),
@@ -68,7 +64,6 @@ fn phase_back<E: Enclosure>(angle: E, t: E) -> E
 fn phase_about<E: Enclosure>(phase: E, t: E, about: E, trail: &mut Trail) -> Result<E, Fail>
     ensures leads { Follows3 E.shown spec.phase_about_of phase t about trail.old.count
         trail.new.count result }
-    ensures counted { trail.new.count ≤ trail.old.count + 833 }
 {
     let days = E::from_int(DAYS_ABOUT);
     invert_angular::<E, MoonPhase>(
@@ -87,7 +82,6 @@ fn phase_about<E: Enclosure>(phase: E, t: E, about: E, trail: &mut Trail) -> Res
 pub fn phase_before<E: Enclosure>(p: E, t: E, trail: &mut Trail) -> Result<E, Fail>
     ensures leads { Follows2 E.shown spec.phase_before_of p t trail.old.count trail.new.count result }
     ensures early { trail.old.count ≡ 0 → IfErr result (IsEarlyYearFor (E.shown t)) }
-    ensures counted { trail.new.count ≤ trail.old.count + 844 }
 {
     match phase_past(p, t, trail) {
         Ok(past) => phase_about(p, t, phase_back(past, t), trail),
@@ -101,7 +95,6 @@ fn floor_of_phase<E: Enclosure>(phase: i64, day: i64, trail: &mut Trail) -> Resu
     ensures leads { Decides (spec.phase_day_of phase day) trail.old.count trail.new.count result }
     ensures early { trail.old.count ≡ 0 → 36 ≤ E.BITS → E.BITS ≤ 56 → IsValueDay day
         → IfErr result IsNoEarlyYear }
-    ensures counted { trail.new.count ≤ trail.old.count + 845 }
 {
     match phase_before(E::from_int(phase), E::from_int(day), trail) {
         Ok(moment) => floor_step(moment, Site::DayFloor, trail),
@@ -116,7 +109,6 @@ pub fn phase_day<E: Enclosure>(phase: i64, day: i64, trail: &mut Trail) -> Resul
     ensures near { IfOk result IsPhaseDay }
     ensures early { trail.old.count ≡ 0 → 36 ≤ E.BITS → E.BITS ≤ 56 → IsValueDay day
         → IfErr result IsNoEarlyYear }
-    ensures counted { trail.new.count ≤ trail.old.count + 845 }
 {
     floor_of_phase::<E>(phase, day, trail)
 }

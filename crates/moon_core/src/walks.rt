@@ -18,12 +18,9 @@ fn is_moon_before<E: Enclosure>(n: i64, t: E, trail: &mut Trail) -> Result<bool,
     requires high { n ≤ℤ pos 40000000 }
     ensures leads { Decides1 E.shown (spec.is_moon_before_of n) t trail.old.count trail.new.count
         result }
-    ensures counted { trail.new.count ≤ trail.old.count + 2 }
 {
-    match new_moon::<E>(n, trail) {
-        Ok(moment) => less_step(moment, t, Site::MoonWalk, trail),
-        Err(fail) => Err(fail),
-    }
+    let moment = new_moon::<E>(n, trail)?;
+    less_step(moment, t, Site::MoonWalk, trail)
 }
 
 /// The first of so many numbers from one on whose new moon isn't before a moment; void at `moon-walk` where there is none.
@@ -35,7 +32,6 @@ fn walk<E: Enclosure>(more: u32, t: E, n: i64, trail: &mut Trail) -> Result<i64,
         result }
     ensures from { IfOk result (λ k. n ≤ℤ k) }
     ensures to { IfOk result (λ k. k ≤ℤ (n +ℤ pos more)) }
-    ensures counted { trail.new.count ≤ trail.old.count + 2 * more }
 {
     if more == 0 {
         return Err(Fail::Void(Site::MoonWalk));
@@ -54,7 +50,6 @@ fn moon_preceding<E: Enclosure>(n: i64, trail: &mut Trail) -> Result<E, Fail>
     requires high { n ≤ℤ pos 40000000 }
     ensures leads { Follows E.shown (spec.moon_preceding_of n) trail.old.count trail.new.count
         result }
-    ensures counted { trail.new.count ≤ trail.old.count + 1 }
 {
     new_moon::<E>(n - 1, trail)
 }
@@ -66,13 +61,10 @@ fn moon_preceding<E: Enclosure>(n: i64, trail: &mut Trail) -> Result<E, Fail>
 #[tactic(auto, using(book_model::proofs::Leads::leading), unfolding(book_model::specs::sky::Phases::moon_before_of, book_model::specs::programs::Leading::next_turn))]
 pub fn moon_before<E: Enclosure>(t: E, trail: &mut Trail) -> Result<E, Fail>
     ensures leads { Follows1 E.shown spec.moon_before_of t trail.old.count trail.new.count result }
-    ensures counted { trail.new.count ≤ trail.old.count + 25 }
 {
     let about = number(t, trail)?;
-    match walk(NUMBERS_TRIED, t, about - 1, trail) {
-        Ok(next) => moon_preceding::<E>(next, trail),
-        Err(fail) => Err(fail),
-    }
+    let next = walk(NUMBERS_TRIED, t, about - 1, trail)?;
+    moon_preceding::<E>(next, trail)
 }
 
 /// The moment of the first new moon at or after a moment of universal time (Reingold and Dershowitz, Calendrical
@@ -82,11 +74,8 @@ pub fn moon_before<E: Enclosure>(t: E, trail: &mut Trail) -> Result<E, Fail>
 #[tactic(auto, using(book_model::proofs::Leads::leading), unfolding(book_model::specs::sky::Phases::moon_from_of, book_model::specs::programs::Leading::next_turn))]
 pub fn moon_from<E: Enclosure>(t: E, trail: &mut Trail) -> Result<E, Fail>
     ensures leads { Follows1 E.shown spec.moon_from_of t trail.old.count trail.new.count result }
-    ensures counted { trail.new.count ≤ trail.old.count + 25 }
 {
     let about = number(t, trail)?;
-    match walk(NUMBERS_TRIED, t, about, trail) {
-        Ok(next) => new_moon::<E>(next, trail),
-        Err(fail) => Err(fail),
-    }
+    let next = walk(NUMBERS_TRIED, t, about, trail)?;
+    new_moon::<E>(next, trail)
 }

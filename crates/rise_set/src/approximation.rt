@@ -50,7 +50,6 @@ fn approximation_on<E: Enclosure>(
 ) -> Result<E, Fail>
     ensures leads { Follows2 E.shown (λ a x. spec.approximation_on location.now twilight a x day)
         depression t trail.old.count trail.new.count result }
-    ensures counted { trail.new.count ≤ trail.old.count + 9 }
 {
     match near_offset(location, twilight, depression, day, t, trail) {
         Ok(offset) => { from_apparent(location.longitude, apparent(twilight, day, offset), trail) }
@@ -71,7 +70,6 @@ pub(crate) fn approximation<E: Enclosure>(
 ) -> Result<E, Fail>
     ensures leads { Follows2 E.shown (spec.approximation_of location.now twilight) depression t
         trail.old.count trail.new.count result }
-    ensures counted { trail.new.count ≤ trail.old.count + 10 }
 {
     match floor_step(t, Site::DayFloor, trail) {
         Ok(day) => approximation_on(location, twilight, depression, t, day, trail),

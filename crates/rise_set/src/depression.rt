@@ -16,7 +16,6 @@ const APPROXIMATIONS: u32 = 12;
 fn has_settled<E: Enclosure>(old: E, new: E, trail: &mut Trail) -> Result<bool, Fail>
     ensures leads { Decides2 E.shown spec.has_settled_of old new trail.old.count trail.new.count
         result }
-    ensures counted { trail.new.count ≤ trail.old.count + 1 }
 {
     less_step(
         size(new.sub(old)),
@@ -39,7 +38,6 @@ fn settled<E: Enclosure>(
 ) -> Result<E, Fail>
     ensures leads { Follows2 E.shown (spec.settled_of more location.now twilight) depression t
         trail.old.count trail.new.count result }
-    ensures counted { trail.new.count ≤ trail.old.count + 11 * more }
 {
     if more == 0 {
         return Err(Fail::Void(Site::Settle));
@@ -63,7 +61,6 @@ fn depressed<E: Enclosure>(
 ) -> Result<E, Fail>
     ensures leads { Follows1 E.shown (λ a. spec.depression_of location.now twilight a day)
         depression trail.old.count trail.new.count result }
-    ensures counted { trail.new.count ≤ trail.old.count + 132 }
 {
     settled(
         APPROXIMATIONS,
@@ -87,7 +84,6 @@ pub fn dawn<E: Enclosure>(
 ) -> Result<E, Fail>
     ensures leads { Follows1 E.shown (λ a. spec.dawn_of location.now a day) depression
         trail.old.count trail.new.count result }
-    ensures counted { trail.new.count ≤ trail.old.count + 132 }
 {
     depressed(location, Twilight::Dawn, depression, day, trail)
 }
@@ -102,7 +98,6 @@ pub fn dusk<E: Enclosure>(
 ) -> Result<E, Fail>
     ensures leads { Follows1 E.shown (λ a. spec.dusk_of location.now a day) depression
         trail.old.count trail.new.count result }
-    ensures counted { trail.new.count ≤ trail.old.count + 132 }
 {
     depressed(location, Twilight::Dusk, depression, day, trail)
 }

@@ -33,7 +33,6 @@ pub fn sunrise<E: Enclosure>(day: i64, trail: &mut Trail) -> Result<E, Fail>
     requires low { negsuc 39999999 ≤ℤ day }
     requires high { day ≤ℤ pos 40000000 }
     ensures leads { Follows E.shown (spec.sunrise_of day) trail.old.count trail.new.count result }
-    ensures counted { trail.new.count ≤ trail.old.count + 133 }
 {
     let rising = dawn(&UJJAIN, E::from_frac(HINDU_SUNRISE_DEPRESSION), day, trail)?;
     match rounded_minutes(day, rising, trail) {
@@ -48,10 +47,7 @@ pub fn sunrise<E: Enclosure>(day: i64, trail: &mut Trail) -> Result<E, Fail>
 pub fn hsunset<E: Enclosure>(day: i64, trail: &mut Trail) -> Result<E, Fail>
     ensures leads { Follows E.shown (spec.hindu_sunset_of day) trail.old.count trail.new.count
         result }
-    ensures counted { trail.new.count ≤ trail.old.count + 132 }
 {
-    match dusk(&UJJAIN, E::from_int(0), day, trail) {
-        Ok(t) => Ok(universal(UJJAIN.longitude, t)),
-        Err(fail) => Err(fail),
-    }
+    let t = dusk(&UJJAIN, E::from_int(0), day, trail)?;
+    Ok(universal(UJJAIN.longitude, t))
 }

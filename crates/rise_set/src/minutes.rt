@@ -72,7 +72,6 @@ fn sum(whole: i64, floor: i64, site: Site, turn: u32) -> Result<i64, Fail>
 fn floor_beside<E: Enclosure>(whole: i64, x: E, site: Site, trail: &mut Trail) -> Result<i64, Fail>
     ensures leads { Decides1 E.shown (λ e. cell site integers (add (integer whole) e) answer) x
         trail.old.count trail.new.count result }
-    ensures counted { trail.new.count ≤ trail.old.count + 1 }
 {
     match floor_step(x, site, trail) {
         Ok(floor) => sum(whole, floor, site, trail.count()),
@@ -96,7 +95,6 @@ pub(crate) fn rounded_minutes<E: Enclosure>(day: i64, t: E, trail: &mut Trail) -
     requires high { day ≤ℤ pos 40000000 }
     ensures leads { Decides1 E.shown (spec.rounded_minutes_of day) t trail.old.count trail.new.count
         result }
-    ensures counted { trail.new.count ≤ trail.old.count + 1 }
 {
     floor_beside(
         i64::from(MINUTES) * day,

@@ -54,12 +54,9 @@ pub fn offset<E: Enclosure>(
 ) -> Result<E, Fail>
     ensures leads { Follows2 E.shown (spec.offset_of location.now) depression t trail.old.count
         trail.new.count result }
-    ensures counted { trail.new.count ≤ trail.old.count + 3 }
 {
-    match declination(universal(location.longitude, t), trail) {
-        Ok(angle) => Ok(offset_by(location.latitude, depression, angle)),
-        Err(fail) => Err(fail),
-    }
+    let angle = declination(universal(location.longitude, t), trail)?;
+    Ok(offset_by(location.latitude, depression, angle))
 }
 
 /// Whether an offset is no sine, so that the sun doesn't come to the depression: one test.
@@ -67,7 +64,6 @@ pub fn offset<E: Enclosure>(
 fn is_out_of_reach<E: Enclosure>(offset: E, trail: &mut Trail) -> Result<bool, Fail>
     ensures leads { Decides1 E.shown spec.is_out_of_reach offset trail.old.count trail.new.count
         result }
-    ensures counted { trail.new.count ≤ trail.old.count + 1 }
 {
     less_step(E::from_int(1), size(offset), Site::Offset, trail)
 }
@@ -97,7 +93,6 @@ fn reached_offset<E: Enclosure>(
 ) -> Result<E, Fail>
     ensures leads { Follows2 E.shown (spec.reached_offset_of location.now) depression t
         trail.old.count trail.new.count result }
-    ensures counted { trail.new.count ≤ trail.old.count + 4 }
 {
     let there = offset(location, depression, t, trail)?;
     let out = is_out_of_reach(there, trail)?;
@@ -128,7 +123,6 @@ fn or_at_edge<E: Enclosure>(
 ) -> Result<E, Fail>
     ensures leads { Follows2 E.shown (λ a s. spec.or_at_edge location.now twilight a day s out)
         depression offset trail.old.count trail.new.count result }
-    ensures counted { trail.new.count ≤ trail.old.count + 4 }
 {
     if out {
         reached_offset(location, depression, edge(twilight, day), trail)
@@ -150,7 +144,6 @@ pub(crate) fn near_offset<E: Enclosure>(
 ) -> Result<E, Fail>
     ensures leads { Follows2 E.shown (λ a x. spec.near_offset_of location.now twilight a day x)
         depression t trail.old.count trail.new.count result }
-    ensures counted { trail.new.count ≤ trail.old.count + 8 }
 {
     let there = offset(location, depression, t, trail)?;
     let out = is_out_of_reach(there, trail)?;

@@ -63,10 +63,7 @@ pub fn sunset_depression<E: Enclosure>(location: &Location) -> E
 pub fn sunset<E: Enclosure>(location: &Location, day: i64, trail: &mut Trail) -> Result<E, Fail>
     ensures leads { Follows E.shown (spec.sunset_of location.now day) trail.old.count
         trail.new.count result }
-    ensures counted { trail.new.count ≤ trail.old.count + 132 }
 {
-    match dusk(location, sunset_depression::<E>(location), day, trail) {
-        Ok(t) => Ok(universal(location.longitude, t)),
-        Err(fail) => Err(fail),
-    }
+    let t = dusk(location, sunset_depression::<E>(location), day, trail)?;
+    Ok(universal(location.longitude, t))
 }

@@ -64,7 +64,7 @@ places_of_row g (x ∷ rows) (suc n) = places_of_row g rows n
 
 -- a kind's place stands in the list of its number
 stands : (kind : Kind) (place : Place) → IsTrue (has_place kind place) → among place (places_at place_lists (kind_number kind)) ≡ true
-stands kind place has = rw (places_of_row (λ row. row.2.now) KINDS (kind_number kind)) (grind (rules, has))
+stands kind place has = rw (places_of_row (λ row. row.2.0.now) KINDS (kind_number kind)) (grind (rules, has))
 
 -- rows that are one are of one kind and one place
 one_kind_and_place : (f g : Fact) → IsTrue (has_place f.kind f.place) → IsTrue (has_place g.kind g.place) → row_of f.kind f.place ≡ row_of g.kind g.place → (f.kind ≡ g.kind) × (f.place ≡ g.place)

@@ -11,7 +11,7 @@ MOST_ROWS = 1000
 
 -- the places of each kind
 abbrev pub place_lists : List (List Place)
-place_lists = map (λ row. row.2.now) KINDS
+place_lists = map (λ row. row.2.0.now) KINDS
 
 -- how many places stand in lists
 abbrev pub rows_among : List (List Place) → ℕ

@@ -5,13 +5,13 @@ ghost use Rattle.shelf_core.specs.Rows as spec;
 use book_model::{KINDS, Kind, Place};
 
 /// The number of pairs of a kind and one of its places.
-fn rows_among<T, N>(mut table: &[(T, N, &[Place])]) -> usize
-    requires few { spec.rows_among (map (λ row. row.2.now) table.now) ≤ spec.MOST_ROWS }
-    ensures rows { result ≡ spec.rows_among (map (λ row. row.2.now) table.entry.now) }
+fn rows_among<T, N, W>(mut table: &[(T, N, (&[Place], W))]) -> usize
+    requires few { spec.rows_among (map (λ row. row.2.0.now) table.now) ≤ spec.MOST_ROWS }
+    ensures rows { result ≡ spec.rows_among (map (λ row. row.2.0.now) table.entry.now) }
 {
     let mut rows = 0;
     while let [first, rest @ ..] = table {
-        rows += first.2.len();
+        rows += first.2.0.len();
         table = rest;
     }
     rows
@@ -34,17 +34,17 @@ fn column(mut places: &[Place], place: Place) -> usize
 }
 
 /// The row of a place of the kind with a number; of a place that isn't the kind's, the row of its first.
-fn row_in<T, N>(mut table: &[(T, N, &[Place])], mut number: usize, place: Place) -> usize
-    requires places { spec.HavePlaces (map (λ row. row.2.now) table.now) }
-    requires few { spec.rows_among (map (λ row. row.2.now) table.now) ≤ spec.MOST_ROWS }
-    ensures row { result ≡ spec.row_in (map (λ row. row.2.now) table.entry.now) number place }
+fn row_in<T, N, W>(mut table: &[(T, N, (&[Place], W))], mut number: usize, place: Place) -> usize
+    requires places { spec.HavePlaces (map (λ row. row.2.0.now) table.now) }
+    requires few { spec.rows_among (map (λ row. row.2.0.now) table.now) ≤ spec.MOST_ROWS }
+    ensures row { result ≡ spec.row_in (map (λ row. row.2.0.now) table.entry.now) number place }
 {
     let mut before = 0;
     while let [first, rest @ ..] = table {
         if number == 0 {
-            return before + column(first.2, place);
+            return before + column(first.2.0, place);
         }
-        before += first.2.len();
+        before += first.2.0.len();
         number -= 1;
         table = rest;
     }

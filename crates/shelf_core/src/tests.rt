@@ -110,7 +110,7 @@ fn passes_end_with_the_days(rt: HostRuntime) -> Result<(), Fail> {
 #[test]
 fn rows_follow_the_table_of_kinds(rt: HostRuntime) -> Result<(), Fail> {
     let mut row = 0usize;
-    for (kind, name, places) in &KINDS {
+    for (kind, name, (places, _)) in &KINDS {
         for place in *places {
             assert_eq!(rt; row_of(*kind, *place), row, "{name}");
             row = row.saturating_add(1);

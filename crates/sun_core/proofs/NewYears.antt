@@ -26,7 +26,7 @@ days_few n (suc more) test day h = at_most_more (n + more * n) (suc more * n) (o
     next false rest = rest
 
 -- where the formula of a moment makes so many tests, the search for a day of spring makes few
-spring_few : (n : ℕ) (moment : ℤ → Program Expression) → ((d : ℤ) → AtMost n (moment d)) → (d : ℤ) → AtMost (n + 2 + 1) (has_spring_at moment d)
+pub spring_few : (n : ℕ) (moment : ℤ → Program Expression) → ((d : ℤ) → AtMost n (moment d)) → (d : ℤ) → AtMost (n + 2 + 1) (has_spring_at moment d)
 unfolding has_spring_at longitude_at_of is_at_most_two_of
 spring_few n moment h d = at_most_bind (n + 2) 1 (at_most_bind n 2 (h d) sun_few) (λ s. compare_at_most (λ more. answer_at_most))
 

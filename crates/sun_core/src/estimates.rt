@@ -61,7 +61,6 @@ fn back<E: Enclosure>(angle: E, t: E) -> E
 #[tactic(auto, using(book_model::proofs::Leads::leading), unfolding(book_model::specs::sky::Sun::estimate_of))]
 pub fn estimate<E: Enclosure>(l: E, t: E, trail: &mut Trail) -> Result<E, Fail>
     ensures leads { Follows2 E.shown estimate_of l t trail.old.count trail.new.count result }
-    ensures counted { trail.new.count ≤ trail.old.count + 6 }
 {
     let near = back(past(l, t, trail)?, t);
     match off(l, near, trail) {

@@ -86,7 +86,6 @@ fn longitude<E: Enclosure>(days: E, c: E) -> E
 pub fn sun<E: Enclosure>(t: E, trail: &mut Trail) -> Result<E, Fail>
     ensures leads { Follows1 E.shown sun_of t trail.old.count trail.new.count result }
     ensures open { IfErr result (IsYearOpenFor (E.shown t)) }
-    ensures counted { trail.new.count ≤ trail.old.count + 2 }
 {
     match dynamical(t, trail) {
         Ok(moment) => {

@@ -19,8 +19,6 @@ struct SolarLongitude;
 impl<E: Enclosure> Angular<E> for SolarLongitude {
     ghost angle_of = { λ s x. spec.sun_of x };
 
-    ghost most = { 2 };
-
     fn at(&self, x: E, trail: &mut Trail) -> Result<E, Fail> {
         longitude::sun(x, trail)
     }
@@ -31,7 +29,6 @@ impl<E: Enclosure> Angular<E> for SolarLongitude {
 fn sun_short<E: Enclosure>(longitude: E, t: E, trail: &mut Trail) -> Result<E, Fail>
     ensures leads { Follows2 E.shown spec.sun_short_of longitude t trail.old.count trail.new.count
         result }
-    ensures counted { trail.new.count ≤ trail.old.count + 3 }
 {
     match longitude::sun(t, trail) {
         Ok(there) => reduced(longitude.sub(there), trail),
@@ -53,7 +50,6 @@ fn forward<E: Enclosure>(angle: E, t: E) -> E
 fn sun_about<E: Enclosure>(longitude: E, t: E, about: E, trail: &mut Trail) -> Result<E, Fail>
     ensures leads { Follows3 E.shown spec.sun_about_of longitude t about trail.old.count
         trail.new.count result }
-    ensures counted { trail.new.count ≤ trail.old.count + 321 }
 {
     let days = E::from_int(DAYS_ABOUT);
     invert_angular::<E, SolarLongitude>(
@@ -71,7 +67,6 @@ fn sun_about<E: Enclosure>(longitude: E, t: E, about: E, trail: &mut Trail) -> R
 #[tactic(auto, using(book_model::proofs::Leads::leading), unfolding(book_model::specs::sky::Sun::sun_from_of))]
 pub fn sun_from<E: Enclosure>(l: E, t: E, trail: &mut Trail) -> Result<E, Fail>
     ensures leads { Follows2 E.shown spec.sun_from_of l t trail.old.count trail.new.count result }
-    ensures counted { trail.new.count ≤ trail.old.count + 324 }
 {
     match sun_short(l, t, trail) {
         Ok(short) => sun_about(l, t, forward(short, t), trail),

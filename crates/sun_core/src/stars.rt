@@ -41,7 +41,6 @@ fn precession_at<E: Enclosure>(c: E) -> E
 pub fn precession<E: Enclosure>(t: E, trail: &mut Trail) -> Result<E, Fail>
     ensures leads { Follows1 E.shown spec.precession_of t trail.old.count trail.new.count result }
     ensures open { IfErr result (IsYearOpenFor (E.shown t)) }
-    ensures counted { trail.new.count ≤ trail.old.count + 1 }
 {
     match centuries(t, trail) {
         Ok(c) => Ok(precession_at(c)),
@@ -63,7 +62,6 @@ fn sidereal_by<E: Enclosure>(longitude: E, precession: E) -> E
 fn starred<E: Enclosure>(angle: E, trail: &mut Trail) -> Result<E, Fail>
     ensures leads { Follows1 E.shown spec.starred_of angle trail.old.count trail.new.count result }
     ensures elsewhere { (i : Interval) → IfErr result (IsYearOpenFor i) }
-    ensures counted { trail.new.count ≤ trail.old.count + 1 }
 {
     wrap_step(angle, 360, Site::Sidereal, trail)
 }
@@ -75,7 +73,6 @@ fn starred<E: Enclosure>(angle: E, trail: &mut Trail) -> Result<E, Fail>
 pub fn sidereal_sun<E: Enclosure>(t: E, trail: &mut Trail) -> Result<E, Fail>
     ensures leads { Follows1 E.shown spec.sidereal_sun_of t trail.old.count trail.new.count result }
     ensures open { IfErr result (IsYearOpenFor (E.shown t)) }
-    ensures counted { trail.new.count ≤ trail.old.count + 4 }
 {
     let longitude = sun(t, trail)?;
     let moved = precession(t, trail)?;

@@ -9,7 +9,7 @@ ghost use Rattle.trig_series.specs.declared.scale.TheConstants.{ONE};
 ghost use Rattle.trig_series.specs.Points.{IsNarrowSine, IsNarrowCosine};
 ghost use Rattle.book_model.specs.numbers.Depth.{DEPTH};
 
-use crate::octants::sine_between;
+use crate::octants::sine_over_degrees;
 use crate::scale::{ONE, QUARTER, TURN};
 use encl_core::{Enclosure, Span};
 
@@ -26,7 +26,7 @@ fn all_sines() -> Span
 
 /// The sine over ends that are not too far from 0 and less than a turn apart, cut to -1..1.
 #[inline(always)]
-fn cut_sine(lo: i128, hi: i128) -> Span
+fn cut_sine_over_degrees(lo: i128, hi: i128) -> Span
     requires ordered { lo ≤ℤ hi }
     requires from { neg_ℤ (pos (2 ^ 120)) ≤ℤ lo }
     requires to { hi ≤ℤ pos (2 ^ 120) }
@@ -34,14 +34,14 @@ fn cut_sine(lo: i128, hi: i128) -> Span
         (between (at_56 lo) (at_56 hi)) ⊆ between (at_56 result.lo) (at_56 result.hi) }
     ensures narrow { IsNarrowSine lo hi result.lo result.hi }
 {
-    let sine = sine_between(lo, hi);
+    let sine = sine_over_degrees(lo, hi);
     let low = sine.lo.max(-ONE).min(ONE);
     let high = sine.hi.max(-ONE).min(ONE);
     Span { lo: low, hi: high }
 }
 
 /// The sine over ends in degrees; whatever a sine may be, where they are a turn or more apart, or too far from 0.
-fn sine_over(degrees: Span) -> Span
+fn sine_over_span(degrees: Span) -> Span
     ensures holds { (n : ℕ) → DEPTH ≤ n → sine_of_degrees n
         (between (at_56 degrees.lo) (at_56 degrees.hi)) ⊆ between (at_56 result.lo)
         (at_56 result.hi) }
@@ -56,11 +56,11 @@ fn sine_over(degrees: Span) -> Span
     if degrees.hi - degrees.lo >= TURN {
         return all_sines();
     }
-    cut_sine(degrees.lo, degrees.hi)
+    cut_sine_over_degrees(degrees.lo, degrees.hi)
 }
 
 /// The cosine over ends in degrees: the sine over 90 degrees more.
-fn cosine_over(degrees: Span) -> Span
+fn cosine_over_span(degrees: Span) -> Span
     ensures holds { (n : ℕ) → DEPTH ≤ n → cosine_of_degrees n
         (between (at_56 degrees.lo) (at_56 degrees.hi)) ⊆ between (at_56 result.lo)
         (at_56 result.hi) }
@@ -69,7 +69,7 @@ fn cosine_over(degrees: Span) -> Span
     if degrees.hi > FAR {
         return all_sines();
     }
-    sine_over(Span {
+    sine_over_span(Span {
         lo: degrees.lo + QUARTER,
         hi: degrees.hi + QUARTER,
     })
@@ -86,7 +86,7 @@ pub fn sin_deg<E: Enclosure>(x: E) -> E
     ensures narrow { Narrows1 E.shown E.BITS sine x result }
 {
     match x.span() {
-        Some(degrees) => E::from_span(sine_over(degrees)),
+        Some(degrees) => E::from_span(sine_over_span(degrees)),
         None => E::from_span(all_sines()),
     }
 }
@@ -97,7 +97,7 @@ pub fn cos_deg<E: Enclosure>(x: E) -> E
     ensures narrow { Narrows1 E.shown E.BITS cosine x result }
 {
     match x.span() {
-        Some(degrees) => E::from_span(cosine_over(degrees)),
+        Some(degrees) => E::from_span(cosine_over_span(degrees)),
         None => E::from_span(all_sines()),
     }
 }

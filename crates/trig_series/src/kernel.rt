@@ -33,7 +33,7 @@ fn step(coefficient: u64, square: u64, inner: u64) -> u64
 
 /// The sine of an angle from 0 to 4/5: within 384 for each angle that is at most 68 greater.
 #[inline(always)]
-fn sine_at(angle: u64) -> u64
+fn sine_of_angle_64(angle: u64) -> u64
     requires small { angle ≤ 14757395258967641292 }
     ensures near { (n : ℕ) (x : Fraction) → 8 ≤ n → IsAngle angle x → AreSineEnds x result n }
 {
@@ -51,7 +51,7 @@ fn sine_at(angle: u64) -> u64
 
 /// The cosine of an angle from 0 to 4/5: within 320 for each angle that is at most 68 greater.
 #[inline(always)]
-fn cosine_at(angle: u64) -> u64
+fn cosine_of_angle_64(angle: u64) -> u64
     requires small { angle ≤ 14757395258967641292 }
     ensures near { (n : ℕ) (x : Fraction) → 9 ≤ n → IsAngle angle x → AreCosineEnds x result n }
 {
@@ -80,21 +80,21 @@ fn angle(degrees: u64) -> u64
 }
 
 /// The sine of so many degrees of an octant, which count 2⁻⁵⁶, within 384.
-pub(crate) fn sine_of(degrees: u64) -> u64
+pub(crate) fn sine_of_degrees_56(degrees: u64) -> u64
     requires octant { degrees ≤ OCTANT }
     ensures near { (n : ℕ) → 12 ≤ n → sine_series n (radians n (at_56 (pos degrees))) ⊆ between
         (at_64 (pos result -ℤ pos 384)) (at_64 (pos result +ℤ pos 384)) }
     ensures ends { (n : ℕ) (x : Fraction) → 8 ≤ n → IsInRadians degrees x → AreSineEnds x result n }
 {
-    sine_at(angle(degrees))
+    sine_of_angle_64(angle(degrees))
 }
 
 /// The cosine of so many degrees of an octant, which count 2⁻⁵⁶, within 320.
-pub(crate) fn cosine_of(degrees: u64) -> u64
+pub(crate) fn cosine_of_degrees_56(degrees: u64) -> u64
     requires octant { degrees ≤ OCTANT }
     ensures near { (n : ℕ) → 12 ≤ n → cosine_series n (radians n (at_56 (pos degrees))) ⊆ between
         (at_64 (pos result -ℤ pos 320)) (at_64 (pos result +ℤ pos 320)) }
     ensures ends { (n : ℕ) (x : Fraction) → 9 ≤ n → IsInRadians degrees x → AreCosineEnds x result n }
 {
-    cosine_at(angle(degrees))
+    cosine_of_angle_64(angle(degrees))
 }

@@ -10,13 +10,13 @@ ghost use Rattle.trig_series.specs.Points.{IsPoint, edge_of, IsAt, IsSmall, IsAr
 ghost use Rattle.book_model.specs.numbers.Depth.{DEPTH};
 
 use crate::parts::part_of_turn;
-use crate::points::{cosine_point, opposite, sine_point};
+use crate::points::{cosine_ends_at_degrees, opposite, sine_ends_at_degrees};
 use crate::scale::{OCTANT, WIDE_OCTANT};
 use encl_core::Span;
 
 /// The sine at so many degrees into an octant of the first half turn.
 #[inline(always)]
-fn sine_into_half(octant: i128, degrees: u64) -> Span
+fn sine_into_octant_of_half_turn(octant: i128, degrees: u64) -> Span
     requires from { pos 0 ≤ℤ octant }
     requires to { octant ≤ℤ pos 3 }
     requires high { degrees ≤ OCTANT }
@@ -28,15 +28,15 @@ fn sine_into_half(octant: i128, degrees: u64) -> Span
     ensures ends { degrees ≡ OCTANT → IsAt (edge_of (suc (unsigned_abs octant))) result.lo result.hi }
 {
     if octant == 0 {
-        return sine_point(degrees);
+        return sine_ends_at_degrees(degrees);
     }
     if octant == 1 {
-        return cosine_point(OCTANT - degrees);
+        return cosine_ends_at_degrees(OCTANT - degrees);
     }
     if octant == 2 {
-        return cosine_point(degrees);
+        return cosine_ends_at_degrees(degrees);
     }
-    sine_point(OCTANT - degrees)
+    sine_ends_at_degrees(OCTANT - degrees)
 }
 
 /// From the lesser lower to the greater upper end.
@@ -52,7 +52,7 @@ fn hull(first: Span, second: Span) -> Span
 
 /// The sine at so many degrees into an octant of a turn.
 #[inline(always)]
-fn sine_into(octant: i128, degrees: u64) -> Span
+fn sine_into_octant_of_turn(octant: i128, degrees: u64) -> Span
     requires from { pos 0 ≤ℤ octant }
     requires to { octant ≤ℤ pos 7 }
     requires high { degrees ≤ OCTANT }
@@ -64,9 +64,9 @@ fn sine_into(octant: i128, degrees: u64) -> Span
     ensures ends { degrees ≡ OCTANT → IsAt (edge_of (suc (unsigned_abs octant))) result.lo result.hi }
 {
     if octant >= 4 {
-        return opposite(sine_into_half(octant - 4, degrees));
+        return opposite(sine_into_octant_of_half_turn(octant - 4, degrees));
     }
-    sine_into_half(octant, degrees)
+    sine_into_octant_of_half_turn(octant, degrees)
 }
 
 /// Which octant of its turn an octant is.
@@ -82,7 +82,7 @@ fn octant_in_turn(octant: i128) -> i128
 
 /// The sine at a number of degrees in an octant.
 #[inline(always)]
-fn sine_at(octant: i128, degrees: i128) -> Span
+fn sine_at_degrees_in_octant(octant: i128, degrees: i128) -> Span
     requires from { neg_ℤ (pos (2 ^ 60)) ≤ℤ octant }
     requires to { octant ≤ℤ pos (2 ^ 60) }
     requires low { (octant *ℤ pos OCTANT) ≤ℤ degrees }
@@ -96,7 +96,7 @@ fn sine_at(octant: i128, degrees: i128) -> Span
     ensures ends { degrees ≡ octant *ℤ pos OCTANT +ℤ pos OCTANT
         → IsAt (edge_of (suc (octant_of_turn octant))) result.lo result.hi }
 {
-    sine_into(
+    sine_into_octant_of_turn(
         octant_in_turn(octant),
         (degrees - octant * WIDE_OCTANT) as u64,
     )
@@ -104,7 +104,7 @@ fn sine_at(octant: i128, degrees: i128) -> Span
 
 /// The sine over the part of two ends, which count 2⁻⁵⁶, in an octant that they meet.
 #[inline(always)]
-fn sine_in(octant: i128, lo: i128, hi: i128) -> Span
+fn sine_over_degrees_in_octant(octant: i128, lo: i128, hi: i128) -> Span
     requires from { neg_ℤ (pos (2 ^ 60)) ≤ℤ octant }
     requires to { octant ≤ℤ pos (2 ^ 60) }
     requires ordered { lo ≤ℤ hi }
@@ -125,8 +125,8 @@ fn sine_in(octant: i128, lo: i128, hi: i128) -> Span
         → IsCrest a result.lo }
 {
     let edge = octant * WIDE_OCTANT;
-    let low = sine_at(octant, edge.max(lo));
-    let high = sine_at(octant, (edge + WIDE_OCTANT).min(hi));
+    let low = sine_at_degrees_in_octant(octant, edge.max(lo));
+    let high = sine_at_degrees_in_octant(octant, (edge + WIDE_OCTANT).min(hi));
     hull(low, high)
 }
 
@@ -202,16 +202,16 @@ fn sine_over_octants(first: i128, last: i128, lo: i128, hi: i128) -> Span
     ensures crest { (a : ℤ) → (QUARTER -ℤ a) ≤ℤ lo → hi ≤ℤ (QUARTER +ℤ a) → a <ℤ pos OCTANT
         → IsCrest a result.lo }
 {
-    let mut sine = sine_in(first, lo, hi);
+    let mut sine = sine_over_degrees_in_octant(first, lo, hi);
     for octant in first + 1..last + 1 {
-        sine = hull(sine, sine_in(octant, lo, hi));
+        sine = hull(sine, sine_over_degrees_in_octant(octant, lo, hi));
     }
     sine
 }
 
 /// The sine over ends, which count 2⁻⁵⁶, that lie in one octant.
 #[inline(always)]
-fn sine_within(octant: i128, lo: i128, hi: i128) -> Span
+fn sine_within_octant(octant: i128, lo: i128, hi: i128) -> Span
     requires from { neg_ℤ (pos (2 ^ 60)) ≤ℤ octant }
     requires to { octant ≤ℤ pos (2 ^ 60) }
     requires begun { (octant *ℤ pos OCTANT) ≤ℤ lo }
@@ -255,7 +255,7 @@ fn sine_over_edges(lo: i128, hi: i128) -> Span
 /// The sine from one number of degrees to another, which count 2⁻⁵⁶. Its width is at most a 57th of theirs, and 36
 /// parts, unless they are three octants or more apart.
 #[inline(always)]
-pub(crate) fn sine_between(lo: i128, hi: i128) -> Span
+pub(crate) fn sine_over_degrees(lo: i128, hi: i128) -> Span
     requires ordered { lo ≤ℤ hi }
     requires from { neg_ℤ (pos (2 ^ 120)) ≤ℤ lo }
     requires to { hi ≤ℤ pos (2 ^ 120) }
@@ -279,5 +279,5 @@ pub(crate) fn sine_between(lo: i128, hi: i128) -> Span
     if hi >= edge + WIDE_OCTANT {
         return sine_over_edges(lo, hi);
     }
-    sine_within(octant, lo, hi)
+    sine_within_octant(octant, lo, hi)
 }

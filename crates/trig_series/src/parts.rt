@@ -10,7 +10,7 @@ ghost use Rattle.trig_series.specs.declared.scale.TheConstants.{OCTANT};
 ghost use Rattle.trig_series.specs.Points.{IsSmall, IsRising, IsCrest, IsPart};
 ghost use Rattle.book_model.specs.numbers.Depth.{DEPTH};
 
-use crate::kernel::{cosine_of, sine_of};
+use crate::kernel::{cosine_of_degrees_56, sine_of_degrees_56};
 use crate::points::{around, opposite};
 use crate::scale::OCTANT;
 use encl_core::Span;
@@ -27,7 +27,7 @@ fn most_moved(degrees: u64) -> i128
 
 /// The sine from so many degrees of an octant to as many more, which count 2⁻⁵⁶. It rises.
 #[inline(always)]
-fn sine_part(from: u64, to: u64) -> Span
+fn sine_ends_over_degrees(from: u64, to: u64) -> Span
     requires ordered { from ≤ to }
     requires octant { to ≤ OCTANT }
     ensures holds { (n d : ℕ) (y : Fraction) → DEPTH ≤ n → from ≤ d → d ≤ to → y ≈ at_56 (pos d)
@@ -36,7 +36,7 @@ fn sine_part(from: u64, to: u64) -> Span
     ensures room { IsSmall result.lo result.hi }
     ensures near { IsRising (pos from) (pos to) result.lo result.hi }
 {
-    let point = around(sine_of(from));
+    let point = around(sine_of_degrees_56(from));
     Span {
         lo: point.lo,
         hi: point.hi + most_moved(to - from),
@@ -45,7 +45,7 @@ fn sine_part(from: u64, to: u64) -> Span
 
 /// The cosine from so many degrees of an octant to as many more, which count 2⁻⁵⁶. It falls.
 #[inline(always)]
-fn cosine_part(from: u64, to: u64) -> Span
+fn cosine_ends_over_degrees(from: u64, to: u64) -> Span
     requires ordered { from ≤ to }
     requires octant { to ≤ OCTANT }
     ensures holds { (n d : ℕ) (y : Fraction) → DEPTH ≤ n → from ≤ d → d ≤ to → y ≈ at_56 (pos d)
@@ -54,7 +54,7 @@ fn cosine_part(from: u64, to: u64) -> Span
     ensures room { IsSmall result.lo result.hi }
     ensures near { IsCrest (pos to) result.lo }
 {
-    let point = around(cosine_of(to));
+    let point = around(cosine_of_degrees_56(to));
     Span {
         lo: point.lo,
         hi: point.hi + most_moved(to - from),
@@ -75,15 +75,15 @@ fn part_of_half(octant: i128, from: u64, to: u64) -> Span
     ensures near { IsPart (unsigned_abs octant) from to result.lo result.hi }
 {
     if octant == 0 {
-        return sine_part(from, to);
+        return sine_ends_over_degrees(from, to);
     }
     if octant == 1 {
-        return cosine_part(OCTANT - to, OCTANT - from);
+        return cosine_ends_over_degrees(OCTANT - to, OCTANT - from);
     }
     if octant == 2 {
-        return cosine_part(from, to);
+        return cosine_ends_over_degrees(from, to);
     }
-    sine_part(OCTANT - to, OCTANT - from)
+    sine_ends_over_degrees(OCTANT - to, OCTANT - from)
 }
 
 /// The sine from so many degrees into an octant of a turn to as many more.

@@ -9,7 +9,7 @@ ghost use Rattle.trig_series.specs.declared.scale.TheConstants.{OCTANT, ONE};
 ghost use Rattle.trig_series.specs.Points.{IsNearSine, IsNearCosine, IsAt, IsSmall};
 ghost use Rattle.book_model.specs.numbers.Depth.{DEPTH};
 
-use crate::kernel::{cosine_of, sine_of};
+use crate::kernel::{cosine_of_degrees_56, sine_of_degrees_56};
 use crate::scale::{OCTANT, ONE};
 use encl_core::Span;
 
@@ -56,7 +56,7 @@ fn at_octant_end() -> Span
 
 /// The sine of so many degrees of an octant, which count 2⁻⁵⁶; exact at 0.
 #[inline(always)]
-pub(crate) fn sine_point(degrees: u64) -> Span
+pub(crate) fn sine_ends_at_degrees(degrees: u64) -> Span
     requires octant { degrees ≤ OCTANT }
     ensures holds { (n : ℕ) (y : Fraction) → DEPTH ≤ n → y ≈ at_56 (pos degrees)
         → sine_series n (radians n y) ⊆ between (at_56 result.lo) (at_56 result.hi) }
@@ -71,12 +71,12 @@ pub(crate) fn sine_point(degrees: u64) -> Span
     if degrees == OCTANT {
         return at_octant_end();
     }
-    around(sine_of(degrees))
+    around(sine_of_degrees_56(degrees))
 }
 
 /// The cosine of so many degrees of an octant, which count 2⁻⁵⁶; exact at 0.
 #[inline(always)]
-pub(crate) fn cosine_point(degrees: u64) -> Span
+pub(crate) fn cosine_ends_at_degrees(degrees: u64) -> Span
     requires octant { degrees ≤ OCTANT }
     ensures holds { (n : ℕ) (y : Fraction) → DEPTH ≤ n → y ≈ at_56 (pos degrees)
         → cosine_series n (radians n y) ⊆ between (at_56 result.lo) (at_56 result.hi) }
@@ -91,5 +91,5 @@ pub(crate) fn cosine_point(degrees: u64) -> Span
     if degrees == OCTANT {
         return at_octant_end();
     }
-    around(cosine_of(degrees))
+    around(cosine_of_degrees_56(degrees))
 }

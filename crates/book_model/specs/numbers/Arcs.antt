@@ -1,5 +1,6 @@
 -- Arctangents in degrees, over closed pieces of the line, and by them arcsine, arccosine and the arctangent of two numbers.
-use Rattle.std.specs.Prelude.{ℕ, Bool, true, cond, ◌&&◌, pos, negsuc, Option, Some, None}
+use Rattle.std.specs.Prelude.{ℕ, Bool, true, cond, ◌&&◌, pos, negsuc, Option, Some, None, List, [], ◌∷◌, map}
+use Rattle.std.specs.List.{filter}
 use lib.Signed.{lt_z}
 use Rattle.exact_math.specs.Fraction.{Fraction, whole, plus, opposite, times, reciprocal, is_at_most, smaller, larger}
 use Rattle.exact_math.specs.Interval.{Interval, everything, between, zero_fraction, one, minus_one, sum, difference, negative, product, quotient, power, hull, clamp}
@@ -27,39 +28,40 @@ arc_above n x = sum (only (whole (pos 45))) (arc_near n (times (plus x minus_one
 unfoldable pub arc_beyond : ℕ → Fraction → Interval
 arc_beyond n x = difference (only (whole (pos 90))) (arc_near n (reciprocal x))
 
--- the closed pieces: up to -3, from there to -1/2, to 1/2, to 3, and from 3 on
-pub data Piece : Type 0 where
-  far_below below near above far_above : Piece
-
 abbrev pub half : Fraction
 half = record { num = pos 1; below = 1 }
 
 abbrev pub minus_half : Fraction
 minus_half = record { num = negsuc 0; below = 1 }
 
--- where a piece begins, if it does
-abbrev pub begin_of : Piece → Option Fraction
-begin_of far_below = None
-begin_of below = Some (whole (negsuc 2))
-begin_of near = Some minus_half
-begin_of above = Some half
-begin_of far_above = Some (whole (pos 3))
+-- the negatives of the arctangents of the opposites
+abbrev pub mirrored : (ℕ → Fraction → Interval) → ℕ → Fraction → Interval
+mirrored arc n x = negative (arc n (opposite x))
 
--- where a piece ends, if it does
-abbrev pub end_of : Piece → Option Fraction
-end_of far_below = Some (whole (negsuc 2))
-end_of below = Some minus_half
-end_of near = Some half
-end_of above = Some (whole (pos 3))
-end_of far_above = None
+-- a closed piece of the line: where it begins and where it ends, if it does, and the arctangents of the fractions in it
+pub record Piece : Type 0 where
+  pub begin : Option Fraction
+  pub end : Option Fraction
+  pub arc : ℕ → Fraction → Interval
 
--- the arctangent of a fraction in a piece; in a negative one it is the negative of that of the opposite
-unfoldable pub arc_at : ℕ → Piece → Fraction → Interval
-arc_at n far_below x = negative (arc_beyond n (opposite x))
-arc_at n below x = negative (arc_above n (opposite x))
-arc_at n near x = arc_near n x
-arc_at n above x = arc_above n x
-arc_at n far_above x = arc_beyond n x
+abbrev pub far_below : Piece
+far_below = record { begin = None; end = Some (whole (negsuc 2)); arc = mirrored arc_beyond }
+
+abbrev pub below : Piece
+below = record { begin = Some (whole (negsuc 2)); end = Some minus_half; arc = mirrored arc_above }
+
+abbrev pub near : Piece
+near = record { begin = Some minus_half; end = Some half; arc = arc_near }
+
+abbrev pub above : Piece
+above = record { begin = Some half; end = Some (whole (pos 3)); arc = arc_above }
+
+abbrev pub far_above : Piece
+far_above = record { begin = Some (whole (pos 3)); end = None; arc = arc_beyond }
+
+-- the pieces of which the line is made
+abbrev pub pieces : List Piece
+pieces = far_below ∷ below ∷ near ∷ above ∷ far_above ∷ []
 
 -- what begins there, if anywhere, begins at or below b
 abbrev pub begins_by : Option Fraction → Fraction → Bool
@@ -81,27 +83,32 @@ abbrev pub high_to : Option Fraction → Fraction → Fraction
 high_to None b = b
 high_to (Some e) b = smaller e b
 
--- the arctangents at the two ends of the part of a .. b in a piece, if they have a point in common
-unfoldable pub arc_over : ℕ → Fraction → Fraction → Piece → Option Interval
-arc_over n a b p =
-    cond (begins_by (begin_of p) b && ends_from (end_of p) a)
-    (Some (hull (arc_at n p (low_from (begin_of p) a)) (arc_at n p (high_to (end_of p) b)))) None
+-- whether a .. b meets a piece
+abbrev pub meets : (a b : Fraction) → Piece → Bool
+meets a b p = begins_by p.begin b && ends_from p.end a
 
--- the hull of what there is
-unfoldable pub join : Option Interval → Option Interval → Option Interval
-join None y = y
-join (Some i) None = Some i
-join (Some i) (Some j) = Some (hull i j)
+-- the arctangents at the two ends of the part of a .. b in a piece
+unfoldable pub arc_of_part : ℕ → (a b : Fraction) → Piece → Interval
+arc_of_part n a b p = hull (p.arc n (low_from p.begin a)) (p.arc n (high_to p.end b))
 
-abbrev pub found : Option Interval → Interval
-found None = everything
-found (Some i) = i
+-- the same in each piece that it meets
+abbrev pub arcs_over : ℕ → (a b : Fraction) → List Piece → List Interval
+arcs_over n a b ps = map (arc_of_part n a b) (filter (meets a b) ps)
 
--- the arctangent of an interval in degrees: the hull over the pieces that it meets
+-- the hull of an interval and others
+unfoldable pub hull_with : Interval → List Interval → Interval
+hull_with i [] = i
+hull_with i (j ∷ is) = hull i (hull_with j is)
+
+-- the hull of intervals, and of none everything
+unfoldable pub hull_of_all : List Interval → Interval
+hull_of_all [] = everything
+hull_of_all (i ∷ is) = hull_with i is
+
+-- the arctangent of an interval in degrees: the hull over the pieces that it meets, each at the two ends of its part
 unfoldable pub arctangent_of : ℕ → Interval → Interval
 arctangent_of n everything = everything
-arctangent_of n (between a b) =
-    found (join (arc_over n a b far_below) (join (arc_over n a b below) (join (arc_over n a b near) (join (arc_over n a b above) (arc_over n a b far_above)))))
+arctangent_of n (between a b) = hull_of_all (arcs_over n a b pieces)
 
 -- from -180 to 180 degrees
 abbrev pub all_around : Interval

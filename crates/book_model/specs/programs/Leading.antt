@@ -51,16 +51,16 @@ next_turn b = min (b + 1) (2 ^ 32 - 1)
 -- What a result says of a run, where the count of tests was b at its beginning and is a at the end: an answer is
 -- the leaf of the same tests with the same answers, an undecided test is one that the run makes, with its number
 -- and within its ends, and a void is the run's. The count has grown by the tests that were made.
-pub data Tells {A T : Type 0} (R : A → T → Type 0) : Run A → ℕ → ℕ → Result T Fail → Type 0 where
-  passes : {s : Site} {i : Sides} {r : Reply} {rest : Run A} {b a : ℕ} {t : Result T Fail} → Tells R rest (next_turn b) a t → Tells R (decided s i r rest) b a t
-  answers : {v : A} {e : T} {b : ℕ} → R v e → Tells R (answered v) b b (Ok e)
-  stops : {i : Sides} {b a : ℕ} {u : Undecided} → u.turn ≡ next_turn b → a ≡ next_turn b → IsOpen i u.lo u.hi → Tells R (undecided u.site i) b a (Err (undecided_at u))
-  stops_early : {i : Sides} {r : Reply} {rest : Run A} {b a : ℕ} {u : Undecided} → u.turn ≡ next_turn b → a ≡ next_turn b → IsOpen i u.lo u.hi → Tells R (decided u.site i r rest) b a (Err (undecided_at u))
-  voids : {s : Site} {b : ℕ} → Tells R (voided s) b b (Err (Void s))
+pub data Reports {A T : Type 0} (R : A → T → Type 0) : Run A → ℕ → ℕ → Result T Fail → Type 0 where
+  passes : {s : Site} {i : Sides} {r : Reply} {rest : Run A} {b a : ℕ} {t : Result T Fail} → Reports R rest (next_turn b) a t → Reports R (decided s i r rest) b a t
+  answers : {v : A} {e : T} {b : ℕ} → R v e → Reports R (answered v) b b (Ok e)
+  stops : {i : Sides} {b a : ℕ} {u : Undecided} → u.turn ≡ next_turn b → a ≡ next_turn b → IsOpen i u.lo u.hi → Reports R (undecided u.site i) b a (Err (undecided_at u))
+  stops_early : {i : Sides} {r : Reply} {rest : Run A} {b a : ℕ} {u : Undecided} → u.turn ≡ next_turn b → a ≡ next_turn b → IsOpen i u.lo u.hi → Reports R (decided u.site i r rest) b a (Err (undecided_at u))
+  voids : {s : Site} {b : ℕ} → Reports R (voided s) b b (Err (Void s))
 
 -- what the result of a call says of its program, in a world
 pub record Leads {A T : Type 0} (w : World) (R : A → T → Type 0) (p : Program A) (b a : ℕ) (t : Result T Fail) : Type 0 where
-  pub tells : Tells R (run w p) b a t
+  pub reports : Reports R (run w p) b a t
 
 -- what is left of a program that began at turn b is q, at turn m
 pub record Continues {A T : Type 0} (w : World) (R : A → T → Type 0) (p : Program A) (b : ℕ) (q : Program A) (m : ℕ) : Type 0 where

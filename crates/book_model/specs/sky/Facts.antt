@@ -13,12 +13,12 @@ use Rattle.book_model.specs.declared.fail.Undecided.{Undecided}
 use Rattle.book_model.specs.calendars.Gregorian.{year_of_day}
 use Rattle.book_model.specs.sky.Correction.{is_between}
 use Rattle.book_model.specs.numbers.Expressions.{World}
-use Rattle.book_model.specs.sky.Kinds.{dt_of, sun_in_thousandths_of, nowruz_of, bahai_year_of, solstice_of, new_moon_before_of, new_moon_from_of, major_of, term_day_of, location_of, sunset_in_minutes_of}
+use Rattle.book_model.specs.sky.Kinds.{dt_of, sun_in_thousandths_of, nowruz_of, bahai_year_of, solstice_of, new_moon_before_of, new_moon_from_of, major_of, term_day_of, located, sunset_in_minutes_of}
 use Rattle.book_model.specs.sky.Crescent.{phasis_of}
 use Rattle.book_model.specs.sky.HinduFacts.{sign_at_sunset_of, year_at_sunset_of, sankranti_of, tithi_of, sign_before_of, sign_after_of, calendar_year_of}
 use Rattle.book_model.specs.sky.Phases.{phase_day_of}
 use Rattle.book_model.specs.programs.Leading.{at_56, AreNoBounds}
-use Rattle.book_model.specs.sky.Names.{has_place}
+use Rattle.book_model.specs.sky.Names.{has_place, location_of, begins_with_day}
 use Rattle.book_model.specs.programs.Programs.{Grid, threshold, Program, void, Run, run, valued, void_at, outcome, MakesTest, Sides, one_side, two_sides}
 use Rattle.book_model.specs.numbers.Depth.{DEPTH}
 
@@ -50,7 +50,7 @@ formula_of NewMoonFrom place d = new_moon_from_of d
 formula_of Major place d = major_of d
 formula_of MajorTerm place d = term_day_of (pos 0) d
 formula_of MinorTerm place d = term_day_of (pos 15) d
-formula_of Phasis place d = phasis_of (location_of place) d
+formula_of Phasis place d = located (location_of place) λ l. phasis_of l d
 formula_of Sign place d = sign_at_sunset_of d
 formula_of SolarYear place d = year_at_sunset_of d
 formula_of Sankranti place d = sankranti_of d
@@ -62,7 +62,7 @@ formula_of NewMoon place d = phase_day_of (pos 0) d
 formula_of FirstQuarter place d = phase_day_of (pos 90) d
 formula_of FullMoon place d = phase_day_of (pos 180) d
 formula_of LastQuarter place d = phase_day_of (pos 270) d
-formula_of Sunset place d = sunset_in_minutes_of (location_of place) d
+formula_of Sunset place d = located (location_of place) λ l. sunset_in_minutes_of l d
 
 -- the formula of a fact; outside 1 July 1800 to 31 December 2049 it is void
 unfoldable pub program_of : Fact → Program ℤ
@@ -106,31 +106,9 @@ pub record MakesNearTest (r : Run ℤ) (u : Undecided) : Type 0 where
   pub makes : MakesTest r u.turn u.site sides
   pub near : AreNear u.lo u.hi sides
 
--- the kinds of which the first or the third test of the year is made on the whole day itself
+-- the kinds whose first test and third, where they are of a year, are of that of the whole day itself
 abbrev pub HasWholeDays : Kind → Type 0
-HasWholeDays Dt = Unit {0}
-HasWholeDays Sun = Unit {0}
-HasWholeDays Nowruz = ⊥
-HasWholeDays BahaiYear = ⊥
-HasWholeDays Solstice = ⊥
-HasWholeDays NewMoonBefore = ⊥
-HasWholeDays NewMoonFrom = ⊥
-HasWholeDays Major = ⊥
-HasWholeDays MajorTerm = ⊥
-HasWholeDays MinorTerm = ⊥
-HasWholeDays Phasis = Unit {0}
-HasWholeDays Sign = ⊥
-HasWholeDays SolarYear = ⊥
-HasWholeDays Sankranti = ⊥
-HasWholeDays Tithi = ⊥
-HasWholeDays SignBefore = ⊥
-HasWholeDays SignAfter = ⊥
-HasWholeDays CalendarYear = Unit {0}
-HasWholeDays NewMoon = Unit {0}
-HasWholeDays FirstQuarter = Unit {0}
-HasWholeDays FullMoon = Unit {0}
-HasWholeDays LastQuarter = Unit {0}
-HasWholeDays Sunset = ⊥
+HasWholeDays kind = IsTrue (begins_with_day kind)
 
 -- The fact is near at a test: at every depth from 40 on its run makes this test, whose sides lie within the ends.
 -- The year of a whole day is never near. For the years 1987 to 2050 the ends of a dynamical time correction lie

@@ -1,10 +1,8 @@
 -- The formulas of the kinds of facts, each for a day (R.D.).
-use Rattle.std.specs.Prelude.{ℤ, pos, ◌+ℤ◌, ◌-ℤ◌, ◌*ℤ◌, Bool, not}
-use Rattle.book_model.specs.declared.site.Site.TheVariants.{Round, StartFloor, DayFloor, DayTest, TermFloor}
-use Rattle.book_model.specs.declared.fact.Place.{Place}
-use Rattle.book_model.specs.declared.fact.Place.TheVariants.{Cairo, Ujjain}
+use Rattle.std.specs.Prelude.{ℤ, pos, ◌+ℤ◌, ◌-ℤ◌, ◌*ℤ◌, Bool, not, Option, Some, None}
+use Rattle.book_model.specs.declared.site.Site.TheVariants.{Year, Round, StartFloor, DayFloor, DayTest, TermFloor}
 use Rattle.book_model.specs.declared.horizon.Location.{Location}
-use Rattle.book_model.specs.declared.location_tables.TheConstants.{TEHRAN, CAIRO, UJJAIN, MINUTES_OF_DAY}
+use Rattle.book_model.specs.declared.location_tables.TheConstants.{TEHRAN, MINUTES_OF_DAY}
 use Rattle.book_model.specs.declared.sun_tables.TheConstants.{DEGREE_IN_TERMS}
 use Rattle.book_model.specs.declared.tables.TheConstants.{MILLISECONDS_OF_DAY, THOUSANDTHS_OF_DEGREE}
 use Rattle.book_model.specs.declared.time_tables.TheConstants.{HOUR}
@@ -13,7 +11,7 @@ use Rattle.book_model.specs.numbers.Expressions.{Expression, integer, constant, 
 use Rattle.book_model.specs.numbers.Fractions.{fraction_of}
 use Rattle.book_model.specs.sky.Horizon.{sunset_of}
 use Rattle.book_model.specs.sky.Noon.{noon_of}
-use Rattle.book_model.specs.programs.Programs.{Program, answer, cell, compare, bind, integers}
+use Rattle.book_model.specs.programs.Programs.{Program, answer, void, cell, compare, bind, integers}
 use Rattle.book_model.specs.programs.Searches.{first_day_from}
 use Rattle.book_model.specs.calendars.Spans.{amod, modulo}
 use Rattle.book_model.specs.sky.Sun.{sun_of, estimate_of, sun_from_of}
@@ -70,11 +68,10 @@ nowruz_of d = spring_day_of noon_of d
 abbrev pub bahai_year_of : ℤ → Program ℤ
 bahai_year_of d = spring_day_of (sunset_of TEHRAN) d
 
--- the location of a place; of other places no horizon is asked
-abbrev pub location_of : Place → Location
-location_of Cairo = CAIRO
-location_of Ujjain = UJJAIN
-location_of place = TEHRAN
+-- a formula at the location of a place; where the place has none, it has no value
+unfoldable pub located : Option Location → (Location → Program ℤ) → Program ℤ
+located None formula = void Year
+located (Some location) formula = formula location
 
 -- sunset on a day at a location, in minutes of its standard time after midnight, not rounded
 unfoldable pub minutes_of : Location → ℤ → Expression → Expression

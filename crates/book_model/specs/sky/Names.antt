@@ -1,5 +1,6 @@
--- The numbers and the printed names of sites, kinds of facts and places, and the places of a kind, by their tables.
-use Rattle.std.specs.Prelude.{ℕ, ◌+◌, ◌==◌, nat_eq, Bool, List, [], ◌∷◌, Option, Some, None, if◌then◌else◌, map, slice_get}
+-- The numbers and the printed names of sites, kinds of facts and places, the places of a kind, and the location of a place, by
+-- their tables.
+use Rattle.std.specs.Prelude.{ℕ, ◌+◌, ◌==◌, nat_eq, Bool, false, List, [], ◌∷◌, Option, Some, None, if◌then◌else◌, map, slice_get}
 use Rattle.std.specs.List.{list_any}
 use Rattle.std.specs.Option.{option_map_or}
 use lib.Pointwise.{pointwise}
@@ -10,6 +11,7 @@ use Rattle.book_model.specs.contracts.site.Site.{the_type as site_type}
 use Rattle.book_model.specs.declared.fact.Kind.{Kind}
 use Rattle.book_model.specs.declared.fact.Place.{Place}
 use Rattle.book_model.specs.declared.fact.TheConstants.{KINDS, PLACES}
+use Rattle.book_model.specs.declared.horizon.Location.{Location}
 use Rattle.book_model.specs.declared.site.Site.{Site}
 use Rattle.book_model.specs.declared.site.TheConstants.{SITES}
 
@@ -31,7 +33,11 @@ kind_name kind = option_map_or (λ row. row.1.now) (slice_get KINDS (kind_number
 
 -- the places of which a kind of fact is asked
 abbrev pub places_of : Kind → List Place
-places_of kind = option_map_or (λ row. row.2.now) (slice_get KINDS (kind_number kind)) []
+places_of kind = option_map_or (λ row. row.2.0.now) (slice_get KINDS (kind_number kind)) []
+
+-- whether a kind of fact begins with a whole day
+abbrev pub begins_with_day : Kind → Bool
+begins_with_day kind = option_map_or (λ row. row.2.1) (slice_get KINDS (kind_number kind)) false
 
 -- whether a place is one of a kind's places
 abbrev pub has_place : Kind → Place → Bool
@@ -40,6 +46,10 @@ has_place kind place = list_any (λ p. place_number p == place_number place) (pl
 -- the word for a place, a dash for none
 unfoldable pub place_name : Place → List ℕ
 place_name place = option_map_or (λ row. row.1.now) (slice_get PLACES (place_number place)) []
+
+-- the location from which the horizon of a place is looked at, if it has one
+unfoldable pub location_of : Place → Option Location
+location_of place = option_map_or (λ row. row.2) (slice_get PLACES (place_number place)) None
 
 -- the word for a site
 unfoldable pub site_name : Site → List ℕ

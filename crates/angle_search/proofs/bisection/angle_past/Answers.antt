@@ -1,6 +1,6 @@
 use Rattle.book_model.specs.programs.Bisection.{angle_past_of}
 use Rattle.angle_search.proofs.bisection.angle_past.Goals as goal
 
-pub returns-clause-leads : goal.returns-clause-leads
+pub returns : goal.returns
 unfolding angle_past_of
-returns-clause-leads g c = λ w v y h k. c.wrap_step.ensures.leads w _ (c.sub.ensures.holds w v y h k)
+returns g c = record { leads = λ w v y h k. c.wrap_step.ensures.leads w _ (c.sub.ensures.holds w v y h k) }

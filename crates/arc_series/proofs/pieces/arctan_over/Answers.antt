@@ -1,10 +1,10 @@
-use Rattle.std.proofs.Common.{rules, subst, SFits}
+use Rattle.std.proofs.Common.{rules, subst, SFits, [], ◌∷◌}
 use Rattle.std.specs.Int.{w128}
 use Rattle.std.proofs.lemmas.Int.{to_z-of_z}
 use Rattle.book_model.specs.programs.Leading.{at_56}
 use Rattle.arc_series.specs.Forms.{AreHeld}
-use Rattle.arc_series.proofs.HeldArcs.{all_held}
-use Rattle.book_model.proofs.Arcs.{over_all}
+use Rattle.arc_series.proofs.HeldArcs.{all_held, more_held}
+use Rattle.book_model.specs.numbers.Arcs.{far_below, below, near, above, far_above, pieces, arcs_over}
 use Rattle.arc_series.proofs.pieces.arctan_over.Goals as goal
 
 pub returns-in-Some : goal.returns-in-Some
@@ -18,9 +18,12 @@ returns-in-Some g c =
           let r = simp to_z-of_z at (c.arc_over-3.ensures.holds n d) in
           let s = simp to_z-of_z at (c.arc_over-4.ensures.holds n d) in
           let t = simp to_z-of_z at (c.arc_over-5.ensures.holds n d) in
-          let above = c.join-positive.ensures.holds _ _ p q in
-          let later = c.join-later.ensures.holds _ _ r above in
-          let most = c.join-most.ensures.holds _ _ s later in
-          let all = c.join-all.ensures.holds _ _ t most in
-          all_held g.E.Enclosure.shown n c.args.span.lo c.args.span.hi _ c.args.span.ordered (subst (λ z. AreHeld g.E.Enclosure.shown (over_all n (at_56 c.args.span.lo) (at_56 c.args.span.hi)) z) c.in-Some.is all);
+          let from = at_56 c.args.span.lo in
+          let to = at_56 c.args.span.hi in
+          let shown = g.E.Enclosure.shown in
+          let positive = more_held shown n from to above (far_above ∷ []) _ (c.join-positive.ensures.holds _ _ p q) in
+          let later = more_held shown n from to near (above ∷ far_above ∷ []) _ (c.join-later.ensures.holds _ _ r positive) in
+          let most = more_held shown n from to below (near ∷ above ∷ far_above ∷ []) _ (c.join-most.ensures.holds _ _ s later) in
+          let all = more_held shown n from to far_below (below ∷ near ∷ above ∷ far_above ∷ []) _ (c.join-all.ensures.holds _ _ t most) in
+          all_held shown n c.args.span.lo c.args.span.hi _ c.args.span.ordered (subst (λ z. AreHeld shown (arcs_over n from to pieces) z) c.in-Some.is all);
     }

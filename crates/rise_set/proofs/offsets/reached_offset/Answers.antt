@@ -2,9 +2,9 @@ use Rattle.book_model.specs.sky.Horizon.{reached_offset_of}
 use Rattle.book_model.proofs.Leads.{leads_on, leads_bind_exact, leaf_within}
 use Rattle.rise_set.proofs.offsets.reached_offset.Goals as goal
 
-pub returns-clause-leads : goal.returns-clause-leads
+pub returns : goal.returns
 unfolding reached_offset_of
-returns-clause-leads g c = λ w a x h k.
+returns g c = record { leads = λ w a x h k.
     let l = c.in_ok-there.ensures.leads w a x h k in
     let o = c.in_ok-out.ensures.leads w _ (leaf_within l) in
-    leads_on _ l (leads_bind_exact _ o (c.if_reached.ensures.leads w _ (leaf_within l)))
+    leads_on _ l (leads_bind_exact _ o (c.if_reached.ensures.leads w _ (leaf_within l))) }

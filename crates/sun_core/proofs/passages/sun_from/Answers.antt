@@ -2,8 +2,8 @@ use Rattle.book_model.specs.sky.Sun.{sun_from_of}
 use Rattle.book_model.proofs.Leads.{leads_on, leaf_within}
 use Rattle.sun_core.proofs.passages.sun_from.Goals as goal
 
-pub returns-in-Ok-clause-leads : goal.returns-in-Ok-clause-leads
+pub returns-in-Ok : goal.returns-in-Ok
 unfolding sun_from_of
-returns-in-Ok-clause-leads g c = λ w l x h k.
+returns-in-Ok g c = record { leads = λ w l x h k.
     let s = c.in-Ok.ensures.leads w l x h k in
-    leads_on _ s (c.sun_about.ensures.leads w l x _ h k (c.forward.ensures.holds w _ x (leaf_within s) k))
+    leads_on _ s (c.sun_about.ensures.leads w l x _ h k (c.forward.ensures.holds w _ x (leaf_within s) k)) }

@@ -1,0 +1,12 @@
+-- The count of tests is that of the formula.
+use Rattle.std.proofs.Common.{rules, arith, SFits, w64}
+use Rattle.std.proofs.lemmas.Int.{to_z-of_z}
+use Rattle.book_model.specs.programs.Leading.{Exact}
+use Rattle.book_model.proofs.Counts.{counted_of_none}
+use Rattle.crescent.proofs.Crescents.{visible_few}
+use Rattle.crescent.proofs.first_sight.SeenAtDayTest.holds.Goals as goal
+
+pub returns-clause-counted : goal.returns-clause-counted
+returns-clause-counted g c =
+    let f : SFits w64 c.args.day = c.ranges.day in
+    counted_of_none (λ w. Exact) _ (λ w d. simp to_z-of_z at (c.visible.ensures.leads w d)) (visible_few _ _)

@@ -1,8 +1,0 @@
-use Rattle.trig_series.proofs.KernelAngles.{cosine_there}
-use Rattle.trig_series.proofs.kernel.cosine_of.Goals as goal
-
-pub returns : goal.returns
-returns c = record {
-  near = λ n m. cosine_there n c.args.degrees c.angle.result c.cosine_at.result m c.requires.octant (c.angle.ensures.near n m) (λ x l t. c.cosine_at.ensures.near n x l t);
-  ends = λ n x l t. c.cosine_at.ensures.near n x l (c.angle.ensures.there x t);
-}

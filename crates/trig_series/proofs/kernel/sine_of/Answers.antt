@@ -1,8 +1,0 @@
-use Rattle.trig_series.proofs.KernelAngles.{sine_there}
-use Rattle.trig_series.proofs.kernel.sine_of.Goals as goal
-
-pub returns : goal.returns
-returns c = record {
-  near = λ n m. sine_there n c.args.degrees c.angle.result c.sine_at.result m c.requires.octant (c.angle.ensures.near n m) (λ x l t. c.sine_at.ensures.near n x l t);
-  ends = λ n x l t. c.sine_at.ensures.near n x l (c.angle.ensures.there x t);
-}
