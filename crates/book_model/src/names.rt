@@ -37,10 +37,7 @@ pub(crate) fn name_at<T, W>(rows: &[(T, &'static str, W)], place: usize) -> &'st
 }
 
 /// The list in the row at a place.
-pub(crate) fn list_at<T, N, U, V>(
-    rows: &[(T, N, (&'static [U], V))],
-    place: usize,
-) -> &'static [U]
+pub(crate) fn list_at<T, N, U, V>(rows: &[(T, N, (&'static [U], V))], place: usize) -> &'static [U]
     requires within { place < length rows.now }
     ensures { result.now ≡ slice_index_or (map (λ row. row.2.0.now) rows.now) place [] }
 {

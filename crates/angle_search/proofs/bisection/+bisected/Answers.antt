@@ -4,23 +4,29 @@ use Rattle.angle_search.proofs.Turns.{turn_is, when_near, next_turn}
 use Rattle.angle_search.proofs.bisection.+bisected.Goals as goal
 
 pub returns-then-branch : goal.returns-then-branch
-returns-then-branch g t c = record { leads = λ w y l u k m n.
-    let f = g.F.Angular.angle_of c.args.f.now in
-    let e = rw c.if-branch.true at (c.in_ok-are_near.ensures.leads w l u m n) in
-    rw (turn_is c.args.more f y l u) (leads_bind_exact _ e (rw (when_near c.args.more f y l u) (leads_answer (c.middle.ensures.holds w l u m n)))) }
+returns-then-branch g t c = record {
+  leads = λ w y l u k m n.
+      let f = g.F.Angular.angle_of c.args.f.now in
+      let e = rw c.if-branch.true at (c.in_ok-are_near.ensures.leads w l u m n) in
+      rw (turn_is c.args.more f y l u) (leads_bind_exact _ e (rw (when_near c.args.more f y l u) (leads_answer (c.middle.ensures.holds w l u m n))));
+}
 
 pub returns-in-Ok-true : goal.returns-in-Ok-true
-returns-in-Ok-true g t c = record { leads = λ w y l u k m n.
-    let f = g.F.Angular.angle_of c.args.f.now in
-    let e = rw c.if-branch.false at (c.in_ok-are_near.ensures.leads w l u m n) in
-    let x = c.middle-center.ensures.holds w l u m n in
-    let p = rw c.in-Ok-true.field-0-test at (c.in-Ok-true.ensures.leads w y _ k x) in
-    rw (turn_is c.args.more f y l u) (leads_bind_exact _ e (rw (next_turn c.args.more f y l u (omega (arith, c.if-more-eq0.false))) (leads_bind_exact _ p (c.bisected.ensures.leads w y l _ k m x)))) }
+returns-in-Ok-true g t c = record {
+  leads = λ w y l u k m n.
+      let f = g.F.Angular.angle_of c.args.f.now in
+      let e = rw c.if-branch.false at (c.in_ok-are_near.ensures.leads w l u m n) in
+      let x = c.middle-center.ensures.holds w l u m n in
+      let p = rw c.in-Ok-true.field-0-test at (c.in-Ok-true.ensures.leads w y _ k x) in
+      rw (turn_is c.args.more f y l u) (leads_bind_exact _ e (rw (next_turn c.args.more f y l u (omega (arith, c.if-more-eq0.false))) (leads_bind_exact _ p (c.bisected.ensures.leads w y l _ k m x))));
+}
 
 pub returns-in-Ok-false : goal.returns-in-Ok-false
-returns-in-Ok-false g t c = record { leads = λ w y l u k m n.
-    let f = g.F.Angular.angle_of c.args.f.now in
-    let e = rw c.if-branch.false at (c.in_ok-are_near.ensures.leads w l u m n) in
-    let x = c.middle-center.ensures.holds w l u m n in
-    let p = rw c.in-Ok-false.field-0-test at (c.in-Ok-false.ensures.leads w y _ k x) in
-    rw (turn_is c.args.more f y l u) (leads_bind_exact _ e (rw (next_turn c.args.more f y l u (omega (arith, c.if-more-eq0.false))) (leads_bind_exact _ p (c.bisected-in-Ok-false.ensures.leads w y _ u k x n)))) }
+returns-in-Ok-false g t c = record {
+  leads = λ w y l u k m n.
+      let f = g.F.Angular.angle_of c.args.f.now in
+      let e = rw c.if-branch.false at (c.in_ok-are_near.ensures.leads w l u m n) in
+      let x = c.middle-center.ensures.holds w l u m n in
+      let p = rw c.in-Ok-false.field-0-test at (c.in-Ok-false.ensures.leads w y _ k x) in
+      rw (turn_is c.args.more f y l u) (leads_bind_exact _ e (rw (next_turn c.args.more f y l u (omega (arith, c.if-more-eq0.false))) (leads_bind_exact _ p (c.bisected-in-Ok-false.ensures.leads w y _ u k x n))));
+}

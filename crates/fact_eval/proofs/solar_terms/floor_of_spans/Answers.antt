@@ -6,9 +6,11 @@ use Rattle.fact_eval.proofs.solar_terms.floor_of_spans.Goals as goal
 
 pub returns-in-Ok : goal.returns-in-Ok
 unfolding spans_short_of
-returns-in-Ok g c = record { leads = λ w d.
-    let f : SFits w64 c.args.longitude = c.ranges.longitude in
-    let e : SFits w64 c.args.day = c.ranges.day in
-    let i = simp to_z-of_z at (c.from_int.ensures.holds w d) in
-    let l = simp to_z-of_z at (c.in-Ok.ensures.leads w d) in
-    leads_on _ l (c.floor_step.ensures.leads w _ (c.mul_frac-spans.ensures.holds w _ (c.sub.ensures.holds w _ _ i (leaf_within l)))) }
+returns-in-Ok g c = record {
+  leads = λ w d.
+      let f : SFits w64 c.args.longitude = c.ranges.longitude in
+      let e : SFits w64 c.args.day = c.ranges.day in
+      let i = simp to_z-of_z at (c.from_int.ensures.holds w d) in
+      let l = simp to_z-of_z at (c.in-Ok.ensures.leads w d) in
+      leads_on _ l (c.floor_step.ensures.leads w _ (c.mul_frac-spans.ensures.holds w _ (c.sub.ensures.holds w _ _ i (leaf_within l))));
+}

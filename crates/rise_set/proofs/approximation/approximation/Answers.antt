@@ -6,6 +6,8 @@ use Rattle.rise_set.proofs.approximation.approximation.Goals as goal
 
 pub returns-in-Ok : goal.returns-in-Ok
 unfolding approximation_of
-returns-in-Ok g c = record { leads = λ w a x h k.
-    let f : SFits w64 c.in-Ok.day = search rules in
-    leads_bind_exact _ (c.in-Ok.ensures.leads w x k) (simp to_z-of_z at (c.approximation_on.ensures.leads w a x h k)) }
+returns-in-Ok g c = record {
+  leads = λ w a x h k.
+      let f : SFits w64 c.in-Ok.day = search rules in
+      leads_bind_exact _ (c.in-Ok.ensures.leads w x k) (simp to_z-of_z at (c.approximation_on.ensures.leads w a x h k));
+}

@@ -4,15 +4,19 @@ use Rattle.rise_set.proofs.Beside.{leads_sum, leads_failing}
 use Rattle.rise_set.proofs.minutes.floor_beside.Goals as goal
 
 pub returns-in-Ok : goal.returns-in-Ok
-returns-in-Ok g c = record { leads = λ w e h.
-    let f : SFits w64 c.args.whole = c.ranges.whole in
-    let q : SFits w64 c.in-Ok.floor = search rules in
-    let d = simp to_z-of_z at c.sum.ensures.decided in
-    let z = simp to_z-of_z at c.sum.ensures.far in
-    leads_sum c.args.whole c.args.site c.in-Ok.floor c.sum.result _ _ _ h c.in-Ok.ensures.decided c.in-Ok.ensures.counted c.count.ensures.value d z }
+returns-in-Ok g c = record {
+  leads = λ w e h.
+      let f : SFits w64 c.args.whole = c.ranges.whole in
+      let q : SFits w64 c.in-Ok.floor = search rules in
+      let d = simp to_z-of_z at c.sum.ensures.decided in
+      let z = simp to_z-of_z at c.sum.ensures.far in
+      leads_sum c.args.whole c.args.site c.in-Ok.floor c.sum.result _ _ _ h c.in-Ok.ensures.decided c.in-Ok.ensures.counted c.count.ensures.value d z;
+}
 
 pub returns-in-Err : goal.returns-in-Err
-returns-in-Err g c = record { leads = λ w e h.
-    let f : SFits w64 c.args.whole = c.ranges.whole in
-    let m = simp to_z-of_z at c.failing_beside.ensures.beside in
-    leads_failing c.args.whole c.args.site c.in-Err.fail c.failing_beside.result _ _ h (c.in-Err.ensures.leads w e h) c.in-Err.ensures.counted c.in-Err.ensures.open m c.failing_beside.ensures.bits }
+returns-in-Err g c = record {
+  leads = λ w e h.
+      let f : SFits w64 c.args.whole = c.ranges.whole in
+      let m = simp to_z-of_z at c.failing_beside.ensures.beside in
+      leads_failing c.args.whole c.args.site c.in-Err.fail c.failing_beside.result _ _ h (c.in-Err.ensures.leads w e h) c.in-Err.ensures.counted c.in-Err.ensures.open m c.failing_beside.ensures.bits;
+}

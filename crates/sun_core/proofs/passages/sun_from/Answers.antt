@@ -4,6 +4,8 @@ use Rattle.sun_core.proofs.passages.sun_from.Goals as goal
 
 pub returns-in-Ok : goal.returns-in-Ok
 unfolding sun_from_of
-returns-in-Ok g c = record { leads = λ w l x h k.
-    let s = c.in-Ok.ensures.leads w l x h k in
-    leads_on _ s (c.sun_about.ensures.leads w l x _ h k (c.forward.ensures.holds w _ x (leaf_within s) k)) }
+returns-in-Ok g c = record {
+  leads = λ w l x h k.
+      let s = c.in-Ok.ensures.leads w l x h k in
+      leads_on _ s (c.sun_about.ensures.leads w l x _ h k (c.forward.ensures.holds w _ x (leaf_within s) k));
+}
