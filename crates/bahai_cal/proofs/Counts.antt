@@ -4,18 +4,18 @@ use Rattle.std.proofs.Common.{arith}
 use Rattle.std.proofs.lemmas.Int.{ints}
 use Rattle.exact_math.specs.Fraction.{floor_quotient, times, plus, reciprocal}
 use Rattle.exact_math.proofs.Floors.{floor_quotient_is}
-use Rattle.book_model.specs.calendars.Bahai.{days_to_middle, years_before}
+use Rattle.book_model.specs.calendars.Bahai.{days_to_mid_year, years_before}
 use Rattle.book_model.specs.sky.Facts.{IsFactValue}
 use Rattle.book_model.specs.calendars.Spans.{days_of, nearest, quotient_down, years_of_days}
 use Rattle.calendar_math.proofs.SpanLemmas.{LiesWithin}
 use Rattle.bahai_cal.specs.Years.{IsNearYear}
 
 -- the days to the middle of a year as a quotient of whole numbers
-middle_is : (passed : ℤ) → days_to_middle passed ≡ floor_quotient (pos 365242189 *ℤ (pos 2 *ℤ passed +ℤ pos 1)) 1999999
-unfolding days_to_middle days_of times
+middle_is : (passed : ℤ) → days_to_mid_year passed ≡ floor_quotient (pos 365242189 *ℤ (pos 2 *ℤ passed +ℤ pos 1)) 1999999
+unfolding days_to_mid_year days_of times
 middle_is passed = refl
 
-pub middle_near : (passed : ℤ) → IsNearYear passed → LiesWithin (negsuc 19999999) (pos 20000000) (days_to_middle passed)
+pub middle_near : (passed : ℤ) → IsNearYear passed → LiesWithin (negsuc 19999999) (pos 20000000) (days_to_mid_year passed)
 middle_near passed h =
     let f = floor_quotient_is (pos 365242189 *ℤ (pos 2 *ℤ passed +ℤ pos 1)) 1999999 in
     let e = middle_is passed in

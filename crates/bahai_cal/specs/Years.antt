@@ -1,10 +1,24 @@
 -- From where to where the numbers lie that the rules go by.
 use Rattle.std.specs.Prelude.{ℤ, pos, negsuc, ◌≤ℤ◌}
+use Rattle.book_model.specs.declared.bahai.BahaiMonth.{BahaiMonth}
+use Rattle.book_model.specs.declared.bahai.MonthStart.{MonthStart}
 
 -- the years before one that a value of a fact begins, or so
 abbrev pub IsNearYear : ℤ → Type 0
 IsNearYear passed = (negsuc 39999 ≤ℤ passed) × (passed ≤ℤ pos 40000)
 
+-- the number of a month by values of facts
+abbrev pub IsNearNumber : ℤ → Type 0
+IsNearNumber number = (negsuc 999999 ≤ℤ number) × (number ≤ℤ pos 1000000)
+
+-- a day to which values of facts lead
+abbrev pub IsNearDay : ℤ → Type 0
+IsNearDay day = (negsuc 39999999 ≤ℤ day) × (day ≤ℤ pos 40000000)
+
 -- a month by values of facts
-abbrev pub IsNearMonth : ℤ → Type 0
-IsNearMonth month = (negsuc 999999 ≤ℤ month) × (month ≤ℤ pos 1000000)
+abbrev pub IsNearMonth : BahaiMonth → Type 0
+IsNearMonth month = IsNearNumber month.number × IsNearDay month.first_day
+
+-- from where a month of a year is counted that is answered
+abbrev pub IsMonthStart : MonthStart → Type 0
+IsMonthStart start = (negsuc 42 ≤ℤ start.passed) × (start.passed ≤ℤ pos 205) × (negsuc 18 ≤ℤ start.days) × (start.days ≤ℤ pos 342)

@@ -5,12 +5,12 @@ ghost use Rattle.book_model.specs.sky.Facts.{IsFactValue};
 ghost use Rattle.book_model.specs.calendars.Inquiries.{to_32_bits as to_32_bits_of};
 ghost use Rattle.book_model.specs.calendars.Spans.{quotient_down, modulo as modulo_of};
 ghost use Rattle.bahai_cal.specs.Dates.{fields_of_date};
-ghost use Rattle.bahai_cal.specs.Years.{IsNearMonth, IsNearYear};
+ghost use Rattle.bahai_cal.specs.Years.{IsMonthStart, IsNearDay, IsNearMonth, IsNearYear};
 ghost use Rattle.oracle_core.specs.Inquiring.{Inquires, map_ok};
 
-use crate::months::{day_from, day_of, month_of, passed_before};
+use crate::months::{month_on, month_start};
 use crate::years::{next_year_fact, same_year_fact, year_fact_after, year_fact_on, years_before};
-use book_model::Fact;
+use book_model::{BahaiMonth, MonthStart};
 use calendar_math::{modulo, quotient, to_8_bits, to_32_bits};
 use oracle_core::{Oracle, Stop};
 
@@ -58,33 +58,45 @@ fn year_after(passed: i64) -> u8
     (modulo(passed, 19) + 1) as u8
 }
 
-/// The date, where so many years have passed.
-#[tactic(auto, unfolding(book_model::specs::calendars::Bahai::date_in))]
-fn date_in(passed: i64, month: i64, day: i64) -> BahaiDate
+/// The day of a month, by the day on which the month begins.
+fn day_of_month(day: i64, first_day: i64) -> i64
+    requires from { pos 0 ≤ℤ day }
+    requires to { day ≤ℤ pos 1000000 }
+    requires near { IsNearDay first_day }
+    ensures day { result ≡ day -ℤ first_day +ℤ pos 1 }
+{
+    day - first_day + 1
+}
+
+/// The date of a day of a month, where so many years have passed.
+#[tactic(auto, unfolding(book_model::specs::calendars::Bahai::bahai_fields))]
+fn date_in(day: i64, passed: i64, month: BahaiMonth) -> BahaiDate
+    requires from { pos 0 ≤ℤ day }
+    requires to { day ≤ℤ pos 1000000 }
     requires near { IsNearYear passed }
-    ensures date { fields_of_date result ≡ spec.date_in passed month day }
+    requires month_near { IsNearMonth month }
+    ensures date { fields_of_date result ≡ spec.bahai_fields day passed month }
 {
     BahaiDate {
         major: major_of(passed),
         cycle: cycle_after(passed),
         year: year_after(passed),
-        month: to_8_bits(month),
-        day: to_8_bits(day),
+        month: to_8_bits(month.number),
+        day: to_8_bits(day_of_month(day, month.first_day)),
     }
 }
 
 /// The date of a day by the first day that was asked of it, that of its year and that of the next.
-#[tactic(auto, unfolding(book_model::specs::calendars::Bahai::date_by))]
 fn date_by(day: i64, first: i64, base: i64, next: i64) -> BahaiDate
     requires from { pos 0 ≤ℤ day }
     requires to { day ≤ℤ pos 1000000 }
     requires first_value { IsFactValue first }
     requires base_value { IsFactValue base }
     requires next_value { IsFactValue next }
-    ensures date { fields_of_date result ≡ spec.date_by day first base next }
+    ensures date { fields_of_date result ≡ spec.bahai_fields day (spec.years_before first)
+        (spec.bahai_month day first base next) }
 {
-    let month = month_of(day, first, base, next);
-    date_in(years_before(first), month, day_of(day, base, next, month))
+    date_in(day, years_before(first), month_on(day, first, base, next))
 }
 
 /// The date of a day (R.D.): the year that begins nearest to the first day which the oracle has for the day. The last month is
@@ -112,15 +124,6 @@ pub fn from_fixed<O: Oracle>(oracle: &mut O, day: i64) -> Result<BahaiDate, Stop
     Ok(date_by(day, first, base, next))
 }
 
-/// The fact of the first day of the year from which a month is counted.
-fn fact_of_month(number: i64, month: i64) -> Fact
-    requires from { negsuc 41 ≤ℤ number }
-    requires to { number ≤ℤ pos 205 }
-    ensures fact { result ≡ spec.bahai_fact (spec.middle_after (spec.passed_before number month)) }
-{
-    year_fact_after(passed_before(number, month))
-}
-
 /// The years of the major cycles and the cycles before these.
 fn years_of_cycles(major: i64, cycle: i64) -> i64
     requires major_from { pos 0 ≤ℤ major }
@@ -138,9 +141,34 @@ fn years_of_cycles(major: i64, cycle: i64) -> i64
 fn year_number(date: BahaiDate) -> i64
     requires major_from { pos 0 ≤ℤ date.major }
     requires major_to { date.major ≤ℤ pos 9 }
-    ensures number { result ≡ spec.year_number date.major (pos date.cycle) (pos date.year) }
+    ensures number { result ≡ spec.bahai_year date.major (pos date.cycle) (pos date.year) }
 {
     years_of_cycles(i64::from(date.major), i64::from(date.cycle)) + i64::from(date.year)
+}
+
+/// A day of a month, by the first day of the year from which the month is counted, and the days from that to the month.
+fn day_from(first: i64, days: i64, day: i64) -> i64
+    requires value { IsFactValue first }
+    requires days_from { negsuc 18 ≤ℤ days }
+    requires days_to { days ≤ℤ pos 342 }
+    requires from_first_day { pos 1 ≤ℤ day }
+    requires to_last_day { day ≤ℤ pos 19 }
+    ensures day { result ≡ first +ℤ days +ℤ day -ℤ pos 1 }
+{
+    first + days + day - 1
+}
+
+/// The day (R.D.) of a day of a month, by where the month is counted from. It stops where the oracle stops.
+#[tactic(auto, using(oracle_core::proofs::Inquiring::asking), unfolding(book_model::specs::calendars::Bahai::day_counted_from))]
+fn day_counted_from<O: Oracle>(oracle: &mut O, start: MonthStart, day: i64) -> Result<i64, Stop>
+    requires near { IsMonthStart start }
+    requires from_first_day { pos 1 ≤ℤ day }
+    requires to_last_day { day ≤ℤ pos 19 }
+    ensures day { Inquires O.meaning (spec.day_counted_from start day) (O.state oracle.old)
+        (O.state oracle.new) result }
+{
+    let first = oracle.ask(year_fact_after(start.passed))?;
+    Ok(day_from(first, start.days, day))
 }
 
 /// The day (R.D.) of a date: that of its month and day, counted from the first day of its year, or, in the last month, back from
@@ -157,15 +185,14 @@ fn year_number(date: BahaiDate) -> i64
 pub fn to_fixed<O: Oracle>(oracle: &mut O, date: BahaiDate) -> Result<i64, Stop>
     requires major_from { pos 0 ≤ℤ date.major }
     requires major_to { date.major ≤ℤ pos 9 }
-    requires year_from { negsuc 41 ≤ℤ spec.year_number date.major (pos date.cycle) (pos date.year) }
-    requires year_to { spec.year_number date.major (pos date.cycle) (pos date.year) ≤ℤ pos 205 }
+    requires year_from { negsuc 41 ≤ℤ spec.bahai_year date.major (pos date.cycle) (pos date.year) }
+    requires year_to { spec.bahai_year date.major (pos date.cycle) (pos date.year) ≤ℤ pos 205 }
     requires to_last_month { date.month ≤ 19 }
     requires from_first_day { 1 ≤ date.day }
     requires to_last_day { date.day ≤ 19 }
     ensures day { Inquires O.meaning (spec.bahai_day date.major (pos date.cycle) (pos date.year)
         (pos date.month) (pos date.day)) (O.state oracle.old) (O.state oracle.new) result }
 {
-    let number = year_number(date);
-    let first = oracle.ask(fact_of_month(number, i64::from(date.month)))?;
-    Ok(day_from(first, i64::from(date.month), i64::from(date.day)))
+    let start = month_start(year_number(date), i64::from(date.month));
+    day_counted_from(oracle, start, i64::from(date.day))
 }

@@ -27,9 +27,9 @@ pub(crate) fn years_before(first: i64) -> i64
 }
 
 /// The days from the epoch to the middle of the year before which so many have passed.
-fn days_to_middle(passed: i64) -> i64
+fn days_to_mid_year(passed: i64) -> i64
     requires near { IsNearYear passed }
-    ensures days { result ≡ spec.days_to_middle passed }
+    ensures days { result ≡ spec.days_to_mid_year passed }
     ensures low { negsuc 19999999 ≤ℤ result }
     ensures high { result ≤ℤ pos 20000000 }
 {
@@ -37,28 +37,28 @@ fn days_to_middle(passed: i64) -> i64
 }
 
 /// A day in the middle of the year before which so many have passed since the epoch.
-#[tactic(auto, unfolding(book_model::specs::calendars::Bahai::middle_after))]
-fn middle_after(passed: i64) -> i64
+#[tactic(auto, unfolding(book_model::specs::calendars::Bahai::mid_year_after))]
+fn mid_year_after(passed: i64) -> i64
     requires near { IsNearYear passed }
-    ensures day { result ≡ spec.middle_after passed }
+    ensures day { result ≡ spec.mid_year_after passed }
     ensures low { negsuc 39999999 ≤ℤ result }
     ensures high { result ≤ℤ pos 40000000 }
 {
-    BAHAI_EPOCH + days_to_middle(passed)
+    BAHAI_EPOCH + days_to_mid_year(passed)
 }
 
 /// The fact of the first day of the year before which so many have passed.
 pub(crate) fn year_fact_after(passed: i64) -> Fact
     requires near { IsNearYear passed }
-    ensures fact { result ≡ spec.bahai_fact (spec.middle_after passed) }
+    ensures fact { result ≡ spec.bahai_fact (spec.mid_year_after passed) }
 {
-    year_fact_on(middle_after(passed))
+    year_fact_on(mid_year_after(passed))
 }
 
 /// The fact of the first day of the year after the one that begins on a day.
 pub(crate) fn next_year_fact(first: i64) -> Fact
     requires value { IsFactValue first }
-    ensures fact { result ≡ spec.bahai_fact (spec.middle_after (spec.years_before first +ℤ pos 1)) }
+    ensures fact { result ≡ spec.bahai_fact (spec.mid_year_after (spec.years_before first +ℤ pos 1)) }
 {
     year_fact_after(years_before(first) + 1)
 }
@@ -66,7 +66,7 @@ pub(crate) fn next_year_fact(first: i64) -> Fact
 /// The fact of the first day of the year that begins on a day, asked of a day in its middle.
 pub(crate) fn same_year_fact(first: i64) -> Fact
     requires value { IsFactValue first }
-    ensures fact { result ≡ spec.bahai_fact (spec.middle_after (spec.years_before first)) }
+    ensures fact { result ≡ spec.bahai_fact (spec.mid_year_after (spec.years_before first)) }
 {
     year_fact_after(years_before(first))
 }

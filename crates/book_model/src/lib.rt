@@ -2,6 +2,7 @@
 //! `specs/` the definitions themselves: expressions, programs of tests, runs, facts, lines and texts.
 #![tactic(auto)]
 
+mod bahai;
 mod calendar;
 mod calendar_tables;
 mod chinese;
@@ -28,6 +29,8 @@ mod tests;
 mod time_tables;
 mod words;
 
+pub use bahai::BahaiMonth;
+pub use bahai::MonthStart;
 pub use calendar::CALENDARS;
 pub use calendar::Calendar;
 pub use calendar::CalendarRow;

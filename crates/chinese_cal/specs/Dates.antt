@@ -1,7 +1,7 @@
 -- Dates of the Chinese calendar as the fields of a result.
 use Rattle.std.specs.Prelude.{[], ◌∷◌, pos}
 use Rattle.book_model.specs.declared.request.Fields.{Fields}
-use Rattle.book_model.specs.calendars.Chinese.{flag}
+use Rattle.book_model.specs.calendars.Inquiries.{flag}
 use Rattle.chinese_cal.specs.declared.date.ChineseDate.{ChineseDate}
 
 -- cycle, year, month, leap month and day

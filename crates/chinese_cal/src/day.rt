@@ -1,6 +1,7 @@
 //! The day of a Chinese date. Days are R.D.
 ghost use Rattle.std.specs.Prelude.{◌≡◌, ◌≤◌, ◌≤ℤ◌, ◌+ℤ◌, ◌-ℤ◌, ◌*ℤ◌, pos, IfOk};
 ghost use Rattle.book_model.specs.calendars.Chinese as spec;
+ghost use Rattle.book_model.specs.calendars.Inquiries.{flag};
 ghost use Rattle.book_model.specs.sky.Facts.{IsFactValue};
 ghost use Rattle.chinese_cal.specs.Dates.{fields_of_date};
 ghost use Rattle.chinese_cal.specs.Keeping.{Keeps};
@@ -10,7 +11,7 @@ use crate::asks::ask_kept;
 use crate::date::{ChineseDate, date_beside};
 use crate::facts::{moon_after, moon_from};
 use crate::kept::Kept;
-use crate::years::{middle_of_year, new_year_by_day};
+use crate::years::{mid_year_day, new_year_by_day};
 use book_model::Fact;
 use oracle_core::{Oracle, Stop};
 
@@ -26,7 +27,7 @@ fn moon_of_month(new_year: i64, month: u8) -> Fact
 
 /// Whether a date has this month, which is a leap month or isn't.
 fn has_month(date: ChineseDate, month: u8, leap: bool) -> bool
-    ensures same { result ≡ spec.has_month (pos month) (spec.flag leap) (fields_of_date date) }
+    ensures same { result ≡ spec.has_month (pos month) (flag leap) (fields_of_date date) }
 {
     date.month == month && date.leap == leap
 }
@@ -44,7 +45,7 @@ fn month_beginning<O: Oracle>(
     requires new_year_value { IsFactValue new_year }
     requires from { 1 ≤ month }
     requires to { month ≤ 12 }
-    ensures day { Inquires O.meaning (spec.month_beginning new_year (pos month) (spec.flag leap))
+    ensures day { Inquires O.meaning (spec.month_beginning new_year (pos month) (flag leap))
         (O.state oracle.old) (O.state oracle.new) result }
     ensures value { IfOk result IsFactValue }
     ensures kept { Keeps O.meaning (O.state oracle.new) kept.new }
@@ -86,10 +87,10 @@ pub fn to_fixed<O: Oracle>(oracle: &mut O, date: ChineseDate) -> Result<i64, Sto
     requires from_first_month { 1 ≤ date.month }
     requires to_last_month { date.month ≤ 12 }
     ensures day { Inquires O.meaning (spec.chinese_day date.cycle (pos date.year) (pos date.month)
-        (spec.flag date.leap) (pos date.day)) (O.state oracle.old) (O.state oracle.new) result }
+        (flag date.leap) (pos date.day)) (O.state oracle.old) (O.state oracle.new) result }
 {
     let mut kept = Kept::new();
-    let middle = middle_of_year(i64::from(date.cycle), i64::from(date.year));
+    let middle = mid_year_day(i64::from(date.cycle), i64::from(date.year));
     let new_year = new_year_by_day(oracle, &mut kept, middle)?;
     let first = month_beginning(oracle, &mut kept, new_year, date.month, date.leap)?;
     Ok(day_of_month(first, date.day))

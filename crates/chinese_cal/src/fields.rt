@@ -1,6 +1,6 @@
 //! Chinese dates as the fields of lines.
 ghost use Rattle.std.specs.Prelude.{◌≡◌, pos, IsTrue};
-ghost use Rattle.book_model.specs.calendars.Chinese.{flag};
+ghost use Rattle.book_model.specs.calendars.Inquiries.{flag};
 ghost use Rattle.book_model.specs.calendars.Dates.{field as field_of, may_have, is_answered, is_in_range, day_named, date_on as date_of_day};
 ghost use Rattle.book_model.specs.declared.calendar.Calendar.TheVariants.{Chinese};
 ghost use Rattle.oracle_core.specs.Inquiring.{Inquires, map_ok};

@@ -1,7 +1,8 @@
 -- Dates of the Hindu calendars as the fields of a result.
 use Rattle.std.specs.Prelude.{[], ◌∷◌, pos}
 use Rattle.book_model.specs.declared.request.Fields.{Fields}
-use Rattle.book_model.specs.calendars.HinduLunar.{flag}
+use Rattle.book_model.specs.calendars.HinduLunar.{lunar_date}
+use Rattle.book_model.specs.calendars.Inquiries.{flag}
 use Rattle.hindu_astro.specs.declared.lunar.HinduLunar.{HinduLunar}
 use Rattle.hindu_astro.specs.declared.solar.HinduSolar.{HinduSolar}
 
@@ -11,4 +12,4 @@ fields_of_solar date = record { count = 3; values = date.year ∷ pos date.month
 
 -- year, month, leap month, day and leap day
 abbrev pub fields_of_lunar : HinduLunar → Fields
-fields_of_lunar date = record { count = 5; values = date.year ∷ pos date.month ∷ flag date.leap_month ∷ pos date.day ∷ flag date.leap_day ∷ [] }
+fields_of_lunar date = lunar_date date.year (pos date.month) (flag date.leap_month) (pos date.day) (flag date.leap_day)

@@ -4,11 +4,13 @@ ghost use Rattle.std.specs.Ordering.{int_eq};
 ghost use Rattle.book_model.specs.calendars.Dates.{field as field_of, may_have, is_answered, is_in_range, day_named, date_on as date_of_day};
 ghost use Rattle.book_model.specs.sky.Facts.{IsFactValue};
 ghost use Rattle.book_model.specs.calendars.HinduLunar as spec;
+ghost use Rattle.book_model.specs.calendars.Inquiries.{flag, first_of as first_of_days};
 ghost use Rattle.book_model.specs.calendars.HinduSolar.{hindu_fact};
 ghost use Rattle.book_model.specs.declared.calendar.Calendar.TheVariants.{HinduLunar as LunarCalendar};
 ghost use Rattle.book_model.specs.declared.fact.Kind.TheVariants.{CalendarYear};
 ghost use Rattle.hindu_astro.specs.Dates.{fields_of_lunar};
-ghost use Rattle.hindu_astro.specs.Days.{IsNearDay};
+ghost use Rattle.hindu_astro.specs.Days.{AreAbout, IsAbout, IsNearDay};
+ghost use Rattle.hindu_astro.specs.Searches.{inquiry_of};
 ghost use Rattle.oracle_core.specs.Inquiring.{Inquires, map_ok};
 
 use crate::facts::fact_on;
@@ -28,23 +30,29 @@ pub struct HinduLunar {
     pub leap_day: bool,
 }
 
-/// How many days are tried about the one to which the tithi leads.
-const DAYS_TRIED: u32 = 5;
+/// What a day is sought for.
+#[derive(Clone, Copy, Debug)]
+enum Search {
+    /// That it lies in the month of a date.
+    Month(HinduLunar),
+    /// That it has a date.
+    Day(HinduLunar),
+}
 
 /// The number of a month, by the sign of the sun at the new moon with which it begins.
-fn month_after(sign: i64) -> u8
+fn month_by_sign(sign: i64) -> u8
     requires value { IsFactValue sign }
-    ensures month { pos result ≡ spec.month_after sign }
+    ensures month { pos result ≡ spec.month_by_sign sign }
 {
     amod(sign + 1, 12) as u8
 }
 
-/// The day of whose year a month is.
-#[tactic(auto, unfolding(book_model::specs::calendars::HinduLunar::day_of_year))]
-fn day_of_year(day: i64, month: u8) -> i64
+/// The day of which the year of a month is asked.
+#[tactic(auto, unfolding(book_model::specs::calendars::HinduLunar::year_asked_of))]
+fn year_asked_of(day: i64, month: u8) -> i64
     requires from { negsuc 29999000 ≤ℤ day }
     requires to { day ≤ℤ pos 29999000 }
-    ensures day { result ≡ spec.day_of_year day (pos month) }
+    ensures day { result ≡ spec.year_asked_of day (pos month) }
     ensures near { IsNearDay result }
 {
     if month <= 2 { day + 180 } else { day }
@@ -55,9 +63,12 @@ fn year_fact(day: i64, before: i64) -> Fact
     requires from { negsuc 29999000 ≤ℤ day }
     requires to { day ≤ℤ pos 29999000 }
     requires value { IsFactValue before }
-    ensures fact { result ≡ hindu_fact CalendarYear (spec.day_of_year day (spec.month_after before)) }
+    ensures fact { result ≡ hindu_fact CalendarYear (spec.year_asked_of day (spec.month_by_sign before)) }
 {
-    fact_on(Kind::CalendarYear, day_of_year(day, month_after(before)))
+    fact_on(
+        Kind::CalendarYear,
+        year_asked_of(day, month_by_sign(before)),
+    )
 }
 
 /// The year of the Vikrama era.
@@ -77,15 +88,15 @@ fn is_same(one: i64, other: i64) -> bool
 
 /// The date by the tithis of the day and of the day before, the signs at the new moons before and after, and the year of the Kali
 /// Yuga.
-#[tactic(auto, unfolding(book_model::specs::calendars::HinduLunar::date_by))]
+#[tactic(auto, unfolding(book_model::specs::calendars::HinduLunar::lunar_fields))]
 fn date_by(tithi: i64, earlier: i64, before: i64, after: i64, year: i64) -> HinduLunar
     requires before_value { IsFactValue before }
     requires year_value { IsFactValue year }
-    ensures date { fields_of_lunar result ≡ spec.date_by tithi earlier before after year }
+    ensures date { fields_of_lunar result ≡ spec.lunar_fields tithi earlier before after year }
 {
     HinduLunar {
         year: to_32_bits(year_of(year)),
-        month: month_after(before),
+        month: month_by_sign(before),
         leap_month: is_same(after, before),
         day: to_8_bits(tithi),
         leap_day: is_same(earlier, tithi),
@@ -93,8 +104,8 @@ fn date_by(tithi: i64, earlier: i64, before: i64, after: i64, year: i64) -> Hind
 }
 
 /// The date of a day by its tithi and that of the day before.
-#[tactic(auto, using(oracle_core::proofs::Inquiring::asking), unfolding(book_model::specs::calendars::HinduLunar::date_with))]
-fn date_with<O: Oracle>(
+#[tactic(auto, using(oracle_core::proofs::Inquiring::asking), unfolding(book_model::specs::calendars::HinduLunar::lunar_date_by))]
+fn date_by_tithis<O: Oracle>(
     oracle: &mut O,
     day: i64,
     tithi: i64,
@@ -102,7 +113,7 @@ fn date_with<O: Oracle>(
 ) -> Result<HinduLunar, Stop>
     requires from { negsuc 29999000 ≤ℤ day }
     requires to { day ≤ℤ pos 29999000 }
-    ensures date { Inquires O.meaning (spec.date_with day tithi earlier) (O.state oracle.old)
+    ensures date { Inquires O.meaning (spec.lunar_date_by day tithi earlier) (O.state oracle.old)
         (O.state oracle.new) (map_ok fields_of_lunar result) }
 {
     let before = oracle.ask(fact_on(Kind::SignBefore, day))?;
@@ -121,7 +132,7 @@ fn date_near<O: Oracle>(oracle: &mut O, day: i64) -> Result<HinduLunar, Stop>
 {
     let tithi = oracle.ask(fact_on(Kind::Tithi, day))?;
     let earlier = oracle.ask(fact_on(Kind::Tithi, day - 1))?;
-    date_with(oracle, day, tithi, earlier)
+    date_by_tithis(oracle, day, tithi, earlier)
 }
 
 /// The date of a day (R.D.): its month has the number of the sign that the sun enters in it, and is an added one where it enters
@@ -144,23 +155,20 @@ pub fn from_fixed<O: Oracle>(oracle: &mut O, day: i64) -> Result<HinduLunar, Sto
     date_near(oracle, day)
 }
 
-/// Whether a date lies in the month of another.
-#[tactic(auto, unfolding(book_model::specs::calendars::HinduLunar::is_in_month))]
-fn is_in_month(date: HinduLunar, sought: HinduLunar) -> bool
-    ensures same { result ≡ spec.is_in_month sought.year (pos sought.month)
-        (spec.flag sought.leap_month) (fields_of_lunar date) }
+/// Whether a date lies in the month of the one that is sought.
+#[tactic(auto, unfolding(book_model::specs::calendars::HinduLunar::is_of_month))]
+fn is_of_month(sought: HinduLunar, date: HinduLunar) -> bool
+    ensures same { result ≡ spec.is_of_month (fields_of_lunar sought) (fields_of_lunar date) }
 {
     date.year == sought.year && date.month == sought.month && date.leap_month == sought.leap_month
 }
 
-/// Whether a date is another.
-#[tactic(auto, unfolding(book_model::specs::calendars::HinduLunar::is_day_of))]
-fn is_day_of(date: HinduLunar, sought: HinduLunar) -> bool
-    ensures same { result ≡ spec.is_day_of sought.year (pos sought.month)
-        (spec.flag sought.leap_month) (pos sought.day) (spec.flag sought.leap_day)
-        (fields_of_lunar date) }
+/// Whether a date is the one that is sought.
+#[tactic(auto, unfolding(book_model::specs::calendars::HinduLunar::is_sought_date))]
+fn is_sought_date(sought: HinduLunar, date: HinduLunar) -> bool
+    ensures same { result ≡ spec.is_sought_date (fields_of_lunar sought) (fields_of_lunar date) }
 {
-    is_in_month(date, sought) && date.day == sought.day && date.leap_day == sought.leap_day
+    is_of_month(sought, date) && date.day == sought.day && date.leap_day == sought.leap_day
 }
 
 /// Whether a day lies in the month of a date. It stops where the oracle stops.
@@ -168,11 +176,11 @@ fn is_day_of(date: HinduLunar, sought: HinduLunar) -> bool
 fn lies_in_month<O: Oracle>(oracle: &mut O, sought: HinduLunar, day: i64) -> Result<bool, Stop>
     requires from { negsuc 29998999 ≤ℤ day }
     requires to { day ≤ℤ pos 29999000 }
-    ensures lies { Inquires O.meaning (spec.lies_in_month sought.year (pos sought.month)
-        (spec.flag sought.leap_month) day) (O.state oracle.old) (O.state oracle.new) result }
+    ensures lies { Inquires O.meaning (spec.lies_in_month (fields_of_lunar sought) day)
+        (O.state oracle.old) (O.state oracle.new) result }
 {
     let date = date_near(oracle, day)?;
-    Ok(is_in_month(date, sought))
+    Ok(is_of_month(sought, date))
 }
 
 /// Whether a day has a date. It stops where the oracle stops.
@@ -180,109 +188,99 @@ fn lies_in_month<O: Oracle>(oracle: &mut O, sought: HinduLunar, day: i64) -> Res
 fn has_date<O: Oracle>(oracle: &mut O, sought: HinduLunar, day: i64) -> Result<bool, Stop>
     requires from { negsuc 29998999 ≤ℤ day }
     requires to { day ≤ℤ pos 29999000 }
-    ensures has { Inquires O.meaning (spec.has_date sought.year (pos sought.month)
-        (spec.flag sought.leap_month) (pos sought.day) (spec.flag sought.leap_day) day)
+    ensures has { Inquires O.meaning (spec.has_date (fields_of_lunar sought) day)
         (O.state oracle.old) (O.state oracle.new) result }
 {
     let date = date_near(oracle, day)?;
-    Ok(is_day_of(date, sought))
+    Ok(is_sought_date(sought, date))
 }
 
-/// The day 30 days after another, where it lies in the month, else the other.
-#[tactic(auto, unfolding(book_model::specs::calendars::HinduLunar::after_or))]
-fn after_or(about: i64, after: bool) -> i64
-    requires from { negsuc 13999999 ≤ℤ about }
-    requires to { about ≤ℤ pos 14000100 }
-    ensures day { result ≡ spec.after_or about after }
-    ensures near_from { negsuc 14000999 ≤ℤ result }
-    ensures near_to { result ≤ℤ pos 14001100 }
+/// Whether a day is one that is sought. It stops where the oracle stops.
+#[tactic(auto, using(oracle_core::proofs::Inquiring::asking), unfolding(crate::specs::Searches::inquiry_of))]
+fn is_sought<O: Oracle>(oracle: &mut O, search: Search, day: i64) -> Result<bool, Stop>
+    requires from { negsuc 29998999 ≤ℤ day }
+    requires to { day ≤ℤ pos 29999000 }
+    ensures sought { Inquires O.meaning (inquiry_of search day) (O.state oracle.old)
+        (O.state oracle.new) result }
 {
-    if after { about + 30 } else { about }
-}
-
-/// The day 30 days before another, where it lies in the month, else what the one 30 days after leaves.
-#[tactic(auto, using(oracle_core::proofs::Inquiring::asking), unfolding(book_model::specs::calendars::HinduLunar::before_or))]
-fn before_or<O: Oracle>(
-    oracle: &mut O,
-    sought: HinduLunar,
-    about: i64,
-    before: bool,
-) -> Result<i64, Stop>
-    requires from { negsuc 13999999 ≤ℤ about }
-    requires to { about ≤ℤ pos 14000100 }
-    ensures day { Inquires O.meaning (spec.before_or sought.year (pos sought.month)
-        (spec.flag sought.leap_month) about before) (O.state oracle.old) (O.state oracle.new) result }
-    ensures near_from { IfOk result (λ d. negsuc 14000999 ≤ℤ d) }
-    ensures near_to { IfOk result (λ d. d ≤ℤ pos 14001100) }
-{
-    if before {
-        return Ok(about - 30);
+    match search {
+        Search::Month(date) => lies_in_month(oracle, date, day),
+        Search::Day(date) => has_date(oracle, date, day),
     }
-    let after = lies_in_month(oracle, sought, about + 30)?;
-    Ok(after_or(about, after))
 }
 
-/// The day itself, where it lies in the month, else what the others leave.
-#[tactic(auto, using(oracle_core::proofs::Inquiring::asking), unfolding(book_model::specs::calendars::HinduLunar::itself_or))]
-fn itself_or<O: Oracle>(
+/// The first of some days about one that is sought, else that one. It stops where the oracle stops.
+#[tactic(auto, using(oracle_core::proofs::Inquiring::asking), unfolding(book_model::specs::calendars::Inquiries::first_of))]
+fn first_of<O: Oracle>(
     oracle: &mut O,
-    sought: HinduLunar,
+    days: &[i64],
+    search: Search,
     about: i64,
-    here: bool,
 ) -> Result<i64, Stop>
-    requires from { negsuc 13999999 ≤ℤ about }
-    requires to { about ≤ℤ pos 14000100 }
-    ensures day { Inquires O.meaning (spec.itself_or sought.year (pos sought.month)
-        (spec.flag sought.leap_month) about here) (O.state oracle.old) (O.state oracle.new) result }
-    ensures near_from { IfOk result (λ d. negsuc 14000999 ≤ℤ d) }
-    ensures near_to { IfOk result (λ d. d ≤ℤ pos 14001100) }
+    requires near { AreAbout about days.now }
+    requires low { negsuc 29998899 ≤ℤ about }
+    requires high { about ≤ℤ pos 29998900 }
+    ensures day { Inquires O.meaning (first_of_days days.now (inquiry_of search) about)
+        (O.state oracle.old) (O.state oracle.new) result }
+    ensures about { IfOk result (IsAbout about) }
 {
-    if here {
+    let Some((day, rest)) = days.split_first() else {
         return Ok(about);
+    };
+    let here = is_sought(oracle, search, *day)?;
+    if here {
+        return Ok(*day);
     }
-    let before = lies_in_month(oracle, sought, about - 30)?;
-    before_or(oracle, sought, about, before)
+    first_of(oracle, rest, search, about)
+}
+
+/// A day, that 30 days before and that 30 days after it.
+#[tactic(auto, unfolding(book_model::specs::calendars::HinduLunar::month_candidates))]
+fn month_candidates(day: i64) -> [i64; 3]
+    requires low { negsuc 29998899 ≤ℤ day }
+    requires high { day ≤ℤ pos 29998900 }
+    ensures days { result ≡ spec.month_candidates day }
+    ensures about { AreAbout day result }
+{
+    [day, day - 30, day + 30]
+}
+
+/// The days from two before a day to two after it.
+#[tactic(auto, unfolding(book_model::specs::calendars::HinduLunar::day_candidates))]
+fn day_candidates(day: i64) -> [i64; 5]
+    requires low { negsuc 29998899 ≤ℤ day }
+    requires high { day ≤ℤ pos 29998900 }
+    ensures days { result ≡ spec.day_candidates day }
+    ensures about { AreAbout day result }
+{
+    [day - 2, day - 1, day, day + 1, day + 2]
 }
 
 /// About the middle of a month: the first of a day, that 30 days before and that 30 days after it that lies in the month, else the
 /// day. It stops where the oracle stops.
-#[tactic(auto, using(oracle_core::proofs::Inquiring::asking), unfolding(book_model::specs::calendars::HinduLunar::middle_about))]
-fn middle_about<O: Oracle>(oracle: &mut O, sought: HinduLunar, about: i64) -> Result<i64, Stop>
-    requires from { negsuc 13999999 ≤ℤ about }
-    requires to { about ≤ℤ pos 14000100 }
-    ensures day { Inquires O.meaning (spec.middle_about sought.year (pos sought.month)
-        (spec.flag sought.leap_month) about) (O.state oracle.old) (O.state oracle.new) result }
-    ensures near_from { IfOk result (λ d. negsuc 14000999 ≤ℤ d) }
-    ensures near_to { IfOk result (λ d. d ≤ℤ pos 14001100) }
+#[tactic(auto, using(oracle_core::proofs::Inquiring::asking), unfolding(book_model::specs::calendars::HinduLunar::middle_about, crate::specs::Searches::inquiry_of))]
+fn middle_about<O: Oracle>(oracle: &mut O, sought: HinduLunar, day: i64) -> Result<i64, Stop>
+    requires low { negsuc 13999999 ≤ℤ day }
+    requires high { day ≤ℤ pos 14000100 }
+    ensures day { Inquires O.meaning (spec.middle_about (fields_of_lunar sought) day)
+        (O.state oracle.old) (O.state oracle.new) result }
+    ensures about { IfOk result (IsAbout day) }
 {
-    let here = lies_in_month(oracle, sought, about)?;
-    itself_or(oracle, sought, about, here)
+    let days = month_candidates(day);
+    first_of(oracle, &days, Search::Month(sought), day)
 }
 
-/// The first of so many days from a day on that has a date, else another day. It stops where the oracle stops.
-#[tactic(auto, using(oracle_core::proofs::Inquiring::asking))]
-fn first_with_date<O: Oracle>(
-    oracle: &mut O,
-    more: u32,
-    sought: HinduLunar,
-    from: i64,
-    other: i64,
-) -> Result<i64, Stop>
-    requires few { more ≤ 5 }
-    requires low { negsuc 29998999 ≤ℤ from }
-    requires high { (from +ℤ pos more) ≤ℤ pos 29999000 }
-    ensures day { Inquires O.meaning (spec.first_with_date more sought.year (pos sought.month)
-        (spec.flag sought.leap_month) (pos sought.day) (spec.flag sought.leap_day) from other)
+/// The first of a day, the two before and the two after it, in order, that has a date, else the day. It stops where the oracle
+/// stops.
+#[tactic(auto, using(oracle_core::proofs::Inquiring::asking), unfolding(book_model::specs::calendars::HinduLunar::day_about, crate::specs::Searches::inquiry_of))]
+fn day_about<O: Oracle>(oracle: &mut O, sought: HinduLunar, day: i64) -> Result<i64, Stop>
+    requires low { negsuc 29998899 ≤ℤ day }
+    requires high { day ≤ℤ pos 29998900 }
+    ensures day { Inquires O.meaning (spec.day_about (fields_of_lunar sought) day)
         (O.state oracle.old) (O.state oracle.new) result }
 {
-    if more == 0 {
-        return Ok(other);
-    }
-    let here = has_date(oracle, sought, from)?;
-    if here {
-        return Ok(from);
-    }
-    first_with_date(oracle, more - 1, sought, from + 1, other)
+    let days = day_candidates(day);
+    first_of(oracle, &days, Search::Day(sought), day)
 }
 
 /// A day about the middle of a month, by the mean sun.
@@ -323,37 +321,30 @@ fn day_by_tithi(middle: i64, tithi: i64, day: u8) -> i64
     middle - tithi + i64::from(day)
 }
 
-/// The first of the five days about the one to which the tithi of the month's middle leads that has the date, else that one. It
-/// stops where the oracle stops.
-#[tactic(auto, using(oracle_core::proofs::Inquiring::asking), unfolding(book_model::specs::calendars::HinduLunar::day_from_middle))]
-fn day_from_middle<O: Oracle>(
-    oracle: &mut O,
-    sought: HinduLunar,
-    middle: i64,
-    tithi: i64,
-) -> Result<i64, Stop>
-    requires low { negsuc 14000999 ≤ℤ middle }
-    requires high { middle ≤ℤ pos 14001100 }
-    requires value { IsFactValue tithi }
-    ensures day { Inquires O.meaning (spec.day_from_middle sought.year (pos sought.month)
-        (spec.flag sought.leap_month) (pos sought.day) (spec.flag sought.leap_day) middle tithi)
-        (O.state oracle.old) (O.state oracle.new) result }
-{
-    let other = day_by_tithi(middle, tithi, sought.day);
-    first_with_date(oracle, DAYS_TRIED, sought, other - 2, other)
-}
-
-/// The same, by the middle alone. It stops where the oracle stops.
+/// The day of a date by the middle of its month, whose tithi leads to it or near it. It stops where the oracle stops.
 #[tactic(auto, using(oracle_core::proofs::Inquiring::asking), unfolding(book_model::specs::calendars::HinduLunar::day_by_middle))]
 fn day_by_middle<O: Oracle>(oracle: &mut O, sought: HinduLunar, middle: i64) -> Result<i64, Stop>
     requires low { negsuc 14000999 ≤ℤ middle }
     requires high { middle ≤ℤ pos 14001100 }
-    ensures day { Inquires O.meaning (spec.day_by_middle sought.year (pos sought.month)
-        (spec.flag sought.leap_month) (pos sought.day) (spec.flag sought.leap_day) middle)
+    ensures day { Inquires O.meaning (spec.day_by_middle (fields_of_lunar sought) middle)
         (O.state oracle.old) (O.state oracle.new) result }
 {
     let tithi = oracle.ask(fact_on(Kind::Tithi, middle))?;
-    day_from_middle(oracle, sought, middle, tithi)
+    day_about(oracle, sought, day_by_tithi(middle, tithi, sought.day))
+}
+
+/// The day of a date by a day about the middle of its month, whose tithi leads to the middle of a month. It stops where the oracle
+/// stops.
+#[tactic(auto, using(oracle_core::proofs::Inquiring::asking), unfolding(book_model::specs::calendars::HinduLunar::day_by_month))]
+fn day_by_month<O: Oracle>(oracle: &mut O, sought: HinduLunar, day: i64) -> Result<i64, Stop>
+    requires low { negsuc 1999999 ≤ℤ day }
+    requires high { day ≤ℤ pos 3999999 }
+    ensures day { Inquires O.meaning (spec.day_by_month (fields_of_lunar sought) day)
+        (O.state oracle.old) (O.state oracle.new) result }
+{
+    let tithi = oracle.ask(fact_on(Kind::Tithi, day))?;
+    let middle = middle_about(oracle, sought, middle_by(day, tithi))?;
+    day_by_middle(oracle, sought, middle)
 }
 
 /// The day (R.D.) of a date, by a rule of this project's own: from a day about the middle of the month by the mean sun its tithi
@@ -374,13 +365,11 @@ pub fn to_fixed<O: Oracle>(oracle: &mut O, date: HinduLunar) -> Result<i64, Stop
     requires from_first_month { 1 ≤ date.month }
     requires to_last_month { date.month ≤ 12 }
     ensures day { Inquires O.meaning (spec.hindu_lunar_day date.year (pos date.month)
-        (spec.flag date.leap_month) (pos date.day) (spec.flag date.leap_day)) (O.state oracle.old)
+        (flag date.leap_month) (pos date.day) (flag date.leap_day)) (O.state oracle.old)
         (O.state oracle.new) result }
 {
     let by_sun = day_by_sun(i64::from(date.year), i64::from(date.month));
-    let there = oracle.ask(fact_on(Kind::Tithi, by_sun))?;
-    let middle = middle_about(oracle, date, middle_by(by_sun, there))?;
-    day_by_middle(oracle, date, middle)
+    day_by_month(oracle, date, by_sun)
 }
 
 /// The fields of a date: year, month, 1 for a leap month, day, and 1 for a leap day.
@@ -405,9 +394,9 @@ fn date_of(fields: &Fields) -> HinduLunar
     requires possible { IsTrue (may_have LunarCalendar fields.now) }
     ensures year { result.year ≡ pos (field_of fields.now 0) }
     ensures month { result.month ≡ field_of fields.now 1 }
-    ensures leap_month { spec.flag result.leap_month ≡ pos (field_of fields.now 2) }
+    ensures leap_month { flag result.leap_month ≡ pos (field_of fields.now 2) }
     ensures day { result.day ≡ field_of fields.now 3 }
-    ensures leap_day { spec.flag result.leap_day ≡ pos (field_of fields.now 4) }
+    ensures leap_day { flag result.leap_day ≡ pos (field_of fields.now 4) }
 {
     HinduLunar {
         year: fields.field(0) as i32,

@@ -41,14 +41,14 @@ fn year_of(year: i64) -> i64
 }
 
 /// The date of a day by the sign of its sunset, the year of the Kali Yuga and the first day of its month.
-#[tactic(auto, unfolding(book_model::specs::calendars::HinduSolar::date_by))]
+#[tactic(auto, unfolding(book_model::specs::calendars::HinduSolar::solar_fields))]
 fn date_by(day: i64, sign: i64, year: i64, first: i64) -> HinduSolar
     requires from { pos 0 ≤ℤ day }
     requires to { day ≤ℤ pos 1000000 }
     requires sign_value { IsFactValue sign }
     requires year_value { IsFactValue year }
     requires first_value { IsFactValue first }
-    ensures date { fields_of_solar result ≡ spec.date_by day sign year first }
+    ensures date { fields_of_solar result ≡ spec.solar_fields day sign year first }
 {
     HinduSolar {
         year: to_32_bits(year_of(year)),
@@ -80,13 +80,13 @@ pub fn from_fixed<O: Oracle>(oracle: &mut O, day: i64) -> Result<HinduSolar, Sto
 }
 
 /// A day within a month, late in it.
-#[tactic(auto, unfolding(book_model::specs::calendars::HinduSolar::day_within_month))]
-fn day_within(year: i64, month: i64) -> i64
+#[tactic(auto, unfolding(book_model::specs::calendars::HinduSolar::day_late_in_month))]
+fn day_late_in_month(year: i64, month: i64) -> i64
     requires year_from { pos 1 ≤ℤ year }
     requires year_to { year ≤ℤ pos 4000 }
     requires from_first_month { pos 1 ≤ℤ month }
     requires to_last_month { month ≤ℤ pos 12 }
-    ensures day { result ≡ spec.day_within_month year month }
+    ensures day { result ≡ spec.day_late_in_month year month }
     ensures near { IsNearDay result }
 {
     HINDU_EPOCH + days_to_month(SAKA_ERA, year, month) + 25
@@ -122,7 +122,7 @@ pub fn to_fixed<O: Oracle>(oracle: &mut O, date: HinduSolar) -> Result<i64, Stop
     ensures day { Inquires O.meaning (spec.hindu_solar_day date.year (pos date.month)
         (pos date.day)) (O.state oracle.old) (O.state oracle.new) result }
 {
-    let within = day_within(i64::from(date.year), i64::from(date.month));
+    let within = day_late_in_month(i64::from(date.year), i64::from(date.month));
     let first = oracle.ask(fact_on(Kind::Sankranti, within))?;
     Ok(day_by(first, i64::from(date.day)))
 }

@@ -37,10 +37,10 @@ fn month_of(passed: i64) -> u8
 }
 
 /// The date, where so many months have passed.
-#[tactic(auto, unfolding(book_model::specs::calendars::Islamic::date_in))]
+#[tactic(auto, unfolding(book_model::specs::calendars::Islamic::islamic_fields))]
 fn date_in(passed: i64, day: i64) -> IslamicDate
     requires near { IsNearMonth passed }
-    ensures date { fields_of_date result ≡ spec.date_in passed day }
+    ensures date { fields_of_date result ≡ spec.islamic_fields passed day }
 {
     IslamicDate {
         year: year_of(passed),
@@ -64,7 +64,7 @@ fn date_by(day: i64, first: i64) -> IslamicDate
     requires from { pos 0 ≤ℤ day }
     requires to { day ≤ℤ pos 1000000 }
     requires value { IsFactValue first }
-    ensures date { fields_of_date result ≡ spec.date_in (spec.months_before first)
+    ensures date { fields_of_date result ≡ spec.islamic_fields (spec.months_before first)
         (day -ℤ first +ℤ pos 1) }
 {
     date_in(months_before(first), day_of(day, first))

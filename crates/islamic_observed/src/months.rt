@@ -51,10 +51,10 @@ fn days_of_halves(halves: i64) -> i64
 }
 
 /// A day about the middle of a month.
-#[tactic(auto, unfolding(book_model::specs::calendars::Islamic::day_within_month))]
-fn day_within(year: i64, month: i64) -> i64
+#[tactic(auto, unfolding(book_model::specs::calendars::Islamic::mid_month_day))]
+fn mid_month_day(year: i64, month: i64) -> i64
     requires month { IsMonth year month }
-    ensures day { result ≡ spec.day_within_month year month }
+    ensures day { result ≡ spec.mid_month_day year month }
     ensures low { negsuc 39999999 ≤ℤ result }
     ensures high { result ≤ℤ pos 40000000 }
 {
@@ -64,7 +64,7 @@ fn day_within(year: i64, month: i64) -> i64
 /// The fact of the first day of a month, asked of a day about its middle.
 pub(crate) fn month_fact(year: i64, month: i64) -> Fact
     requires month { IsMonth year month }
-    ensures fact { result ≡ spec.phasis_fact (spec.day_within_month year month) }
+    ensures fact { result ≡ spec.phasis_fact (spec.mid_month_day year month) }
 {
-    month_fact_on(day_within(year, month))
+    month_fact_on(mid_month_day(year, month))
 }

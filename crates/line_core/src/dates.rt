@@ -20,8 +20,8 @@ fn fixed_day(date: &Fields) -> i64
 /// Whether the day of a date is one that is answered, where it is known without any fact; `None` where the month of the
 /// date hasn't this day.
 fn has_day_in_range(calendar: Calendar, date: &Fields) -> Option<bool>
-    ensures day { MatchOption result (spec.is_in_month calendar date.now ≡ false)
-        (λ near. (spec.is_in_month calendar date.now ≡ true)
+    ensures day { MatchOption result (spec.has_day_of_month calendar date.now ≡ false)
+        (λ near. (spec.has_day_of_month calendar date.now ≡ true)
         × (near ≡ spec.has_day_in_range calendar date.now)) }
 {
     match calendar {

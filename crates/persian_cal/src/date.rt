@@ -1,10 +1,10 @@
 //! Persian dates, and the facts that they are found by.
 ghost use Rattle.std.specs.Prelude.{◌≡◌, ◌≤◌, ◌≤ℤ◌, ◌+ℤ◌, ◌-ℤ◌, pos, negsuc, IfOk};
-ghost use Rattle.book_model.specs.calendars.Persian.{nowruz_fact, day_within as day_within_year, days_before as days_of_months_before, year_begun as year_begun_on, date_in as date_of_number, persian_on, persian_day};
+ghost use Rattle.book_model.specs.calendars.Persian.{nowruz_fact, mid_year_day as day_in_mid_year, days_before_month, year_begun as year_begun_on, persian_fields, persian_on, persian_day};
 ghost use Rattle.oracle_core.specs.Inquiring.{Inquires, map_ok};
 ghost use Rattle.persian_cal.specs.Dates.{fields_of_date};
 
-use crate::months::{days_before, month_of};
+use crate::months::{days_before, month_of_number};
 use book_model::{Fact, Kind, PERSIAN_EPOCH, Place};
 use calendar_math::{days_of_years, to_8_bits, years_of_days};
 use oracle_core::{Oracle, Stop};
@@ -27,10 +27,10 @@ pub(crate) fn nowruz_fact_on(day: i64) -> Fact
 }
 
 /// A day (R.D.) about the middle of a year.
-fn day_within(year: i64) -> i64
+fn mid_year_day(year: i64) -> i64
     requires from { negsuc 29999 ≤ℤ year }
     requires to { year ≤ℤ pos 30000 }
-    ensures day { result ≡ day_within_year year }
+    ensures day { result ≡ day_in_mid_year year }
     ensures low { negsuc 39999999 ≤ℤ result }
     ensures high { result ≤ℤ pos 40000000 }
 {
@@ -41,9 +41,9 @@ fn day_within(year: i64) -> i64
 fn new_year_fact(year: i64) -> Fact
     requires from { negsuc 29999 ≤ℤ year }
     requires to { year ≤ℤ pos 30000 }
-    ensures fact { result ≡ nowruz_fact (day_within_year year) }
+    ensures fact { result ≡ nowruz_fact (day_in_mid_year year) }
 {
-    nowruz_fact_on(day_within(year))
+    nowruz_fact_on(mid_year_day(year))
 }
 
 /// The year that begins on a day (R.D.).
@@ -57,15 +57,15 @@ fn year_begun(first: i64) -> i64
     1 + years_of_days(first - PERSIAN_EPOCH)
 }
 
-/// Year, month and day of a day of the year, which counts from 1.
+/// Year, month and day, by the year and the day's number in it, which counts from 1.
 fn date_in(year: i64, number: i64) -> PersianDate
     requires from { negsuc 29999 ≤ℤ year }
     requires to { year ≤ℤ pos 30000 }
     requires low { negsuc 19999999 ≤ℤ number }
     requires high { number ≤ℤ pos 20000000 }
-    ensures date { fields_of_date result ≡ date_of_number year number }
+    ensures date { fields_of_date result ≡ persian_fields year number }
 {
-    let month = month_of(number);
+    let month = month_of_number(number);
     PersianDate {
         year: year as i32,
         month: to_8_bits(month),
@@ -81,7 +81,7 @@ fn date_by(year: i64, new_year: i64, day: i64) -> PersianDate
     requires high { new_year ≤ℤ pos 10000000 }
     requires first { pos 0 ≤ℤ day }
     requires last { day ≤ℤ pos 1000000 }
-    ensures date { fields_of_date result ≡ date_of_number year (day -ℤ new_year +ℤ pos 1) }
+    ensures date { fields_of_date result ≡ persian_fields year (day -ℤ new_year +ℤ pos 1) }
 {
     date_in(year, day - new_year + 1)
 }
@@ -94,7 +94,7 @@ fn day_by(new_year: i64, month: i64, day: i64) -> i64
     requires to_last_month { month ≤ℤ pos 12 }
     requires from_first_day { pos 1 ≤ℤ day }
     requires to_last_day { day ≤ℤ pos 31 }
-    ensures day { result ≡ new_year +ℤ days_of_months_before month +ℤ day -ℤ pos 1 }
+    ensures day { result ≡ new_year +ℤ days_before_month month +ℤ day -ℤ pos 1 }
     ensures low { negsuc 19999999 ≤ℤ result }
     ensures high { result ≤ℤ pos 20000000 }
 {

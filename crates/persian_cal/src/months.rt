@@ -1,6 +1,6 @@
 //! The months of a Persian year: six of 31 days, and those after them of 30.
 ghost use Rattle.std.specs.Prelude.{◌≡◌, pos, negsuc, ◌≤ℤ◌};
-ghost use Rattle.book_model.specs.calendars.Persian.{days_before as days_of_months_before, month_of as month_of_number};
+ghost use Rattle.book_model.specs.calendars.Persian.{days_before_month, month_of_number as number_of_month};
 
 use calendar_math::quotient_up;
 
@@ -11,7 +11,7 @@ const DAYS_OF_SIX_MONTHS: i64 = 186;
 pub(crate) fn days_before(month: i64) -> i64
     requires from { negsuc 9999999 ≤ℤ month }
     requires to { month ≤ℤ pos 10000000 }
-    ensures days { result ≡ days_of_months_before month }
+    ensures days { result ≡ days_before_month month }
 {
     if month <= 7 {
         31 * (month - 1)
@@ -20,11 +20,11 @@ pub(crate) fn days_before(month: i64) -> i64
     }
 }
 
-/// The month of a day of the year, which counts from 1.
-pub(crate) fn month_of(number: i64) -> i64
+/// The month of a day by its number in the year, which counts from 1.
+pub(crate) fn month_of_number(number: i64) -> i64
     requires from { negsuc 19999999 ≤ℤ number }
     requires to { number ≤ℤ pos 20000000 }
-    ensures month { result ≡ month_of_number number }
+    ensures month { result ≡ number_of_month number }
 {
     if number <= DAYS_OF_SIX_MONTHS {
         quotient_up(number, 31)

@@ -3,7 +3,7 @@
 -- Reingold and Dershowitz, Calendrical Calculations, chapter 19; Aslaksen, The Mathematics of the Chinese Calendar.
 -- The fields of a result that their types don't hold stand at the nearest ends, so that the rules have an answer over every
 -- table.
-use Rattle.std.specs.Prelude.{ℕ, zero, suc, ◌&&◌, if◌then◌else◌, Bool, true, false, not, [], ◌∷◌, ℤ, pos, ◌+ℤ◌, ◌-ℤ◌, ◌*ℤ◌, int_lt, slice_index_or}
+use Rattle.std.specs.Prelude.{ℕ, zero, suc, ◌&&◌, if◌then◌else◌, Bool, true, false, not, [], ◌∷◌, ℤ, pos, ◌+ℤ◌, ◌-ℤ◌, ◌*ℤ◌, int_lt}
 use Rattle.std.specs.Ordering.{int_eq}
 use Rattle.book_model.specs.declared.calendar_tables.TheConstants.{CHINESE_EPOCH, TROPICAL_YEAR}
 use Rattle.book_model.specs.declared.chinese.ChineseMonth.{ChineseMonth}
@@ -14,7 +14,7 @@ use Rattle.book_model.specs.declared.fact.Kind.TheVariants.{Solstice, NewMoonBef
 use Rattle.book_model.specs.declared.fact.Place.TheVariants.{Beijing}
 use Rattle.book_model.specs.declared.request.Fields.{Fields}
 use Rattle.book_model.specs.numbers.Fractions.{fraction_of}
-use Rattle.book_model.specs.calendars.Inquiries.{Inquiry, done, ask, and_then, to_32_bits, to_8_bits}
+use Rattle.book_model.specs.calendars.Inquiries.{Inquiry, done, ask, and_then, field_at, flag, to_32_bits, to_8_bits}
 use Rattle.book_model.specs.calendars.Spans.{amod, quotient_down, ratio, days_of, months_of_days, spans_of}
 
 -- ---- what is asked of the sky
@@ -93,10 +93,6 @@ is_leap_month leap_sui first month =
     done (not found)))
 
 -- ---- dates
--- a truth value as a number
-abbrev pub flag : Bool → ℤ
-flag b = if b then pos 1 else pos 0
-
 -- the number of a month, from the first of its sui and whether it comes after the leap month or is it: the first of a sui is the
 -- twelfth of a year
 unfoldable pub month_number : ℤ → ℤ → Bool → ℤ
@@ -114,8 +110,8 @@ month_in sui leap_sui month =
     done (month_by sui.first_month month from_leap is_leap)
 
 -- the month in which a day falls
-unfoldable pub month_holding : ℤ → Inquiry ChineseMonth
-month_holding day =
+unfoldable pub chinese_month : ℤ → Inquiry ChineseMonth
+chinese_month day =
     and_then (sui_of day) λ sui.
     and_then (is_leap_sui sui) λ leap_sui.
     ask (moon_before_fact (day +ℤ pos 1)) λ month.
@@ -125,18 +121,14 @@ month_holding day =
 unfoldable pub elapsed_years : ℤ → ℤ → ℤ
 elapsed_years day month = spans_of (fraction_of TROPICAL_YEAR) (day -ℤ CHINESE_EPOCH) (ratio (pos 18 -ℤ month) 12)
 
--- cycle, year, month, leap month and day
-abbrev pub fields_by : ℤ → ChineseMonth → ℤ → Fields
-fields_by day month years =
+-- cycle, year, month, leap month and day, by the month in which a day falls and the years since the epoch
+abbrev pub chinese_fields : ℤ → ChineseMonth → ℤ → Fields
+chinese_fields day month years =
     record { count = 5; values = to_32_bits (quotient_down (years -ℤ pos 1) 60 +ℤ pos 1) ∷ amod years 60 ∷ month.number ∷ flag month.is_leap ∷ to_8_bits (day -ℤ month.first_day +ℤ pos 1) ∷ [] }
-
--- the date of a day by its month
-unfoldable pub date_in_month : ℤ → ChineseMonth → Fields
-date_in_month day month = fields_by day month (elapsed_years day month.number)
 
 -- the Chinese date of a day (R.D.)
 unfoldable pub chinese_on : ℤ → Inquiry Fields
-chinese_on day = and_then (month_holding day) λ month. done (date_in_month day month)
+chinese_on day = and_then (chinese_month day) λ month. done (chinese_fields day month (elapsed_years day month.number))
 
 -- ---- days
 -- whether the leap month of a sui is one of its first two, given whether it has one
@@ -163,16 +155,16 @@ new_year_by_day day =
     if int_lt day new_year then new_year_in_sui (day -ℤ pos 180) else done new_year
 
 -- the days from the epoch to the middle of a year, which counts from 1
-unfoldable pub days_to_middle : ℤ → ℤ
-days_to_middle number = days_of (fraction_of TROPICAL_YEAR) (ratio (pos 2 *ℤ number -ℤ pos 1) 2)
+unfoldable pub days_to_mid_year : ℤ → ℤ
+days_to_mid_year number = days_of (fraction_of TROPICAL_YEAR) (ratio (pos 2 *ℤ number -ℤ pos 1) 2)
 
 -- a day in the middle of a year of a cycle
-unfoldable pub middle_of_year : ℤ → ℤ → ℤ
-middle_of_year cycle year = CHINESE_EPOCH +ℤ days_to_middle (pos 60 *ℤ (cycle -ℤ pos 1) +ℤ year)
+unfoldable pub mid_year_day : ℤ → ℤ → ℤ
+mid_year_day cycle year = CHINESE_EPOCH +ℤ days_to_mid_year (pos 60 *ℤ (cycle -ℤ pos 1) +ℤ year)
 
 -- a date has this month, which is a leap month or isn't
 abbrev pub has_month : ℤ → ℤ → Fields → Bool
-has_month month leap date = int_eq (slice_index_or date.values 2 (pos 0)) month && int_eq (slice_index_or date.values 3 (pos 0)) leap
+has_month month leap date = int_eq (field_at date 2) month && int_eq (field_at date 3) leap
 
 -- the first day of a month of a year: a new moon, or the next one where the date of the first isn't of this month
 unfoldable pub month_beginning : ℤ → ℤ → ℤ → Inquiry ℤ
@@ -184,6 +176,6 @@ month_beginning new_year month leap =
 -- the day (R.D.) of a cycle, a year, a month, whether it is a leap month, and a day
 unfoldable pub chinese_day : (cycle year month leap day : ℤ) → Inquiry ℤ
 chinese_day cycle year month leap day =
-    and_then (new_year_by_day (middle_of_year cycle year)) λ new_year.
+    and_then (new_year_by_day (mid_year_day cycle year)) λ new_year.
     and_then (month_beginning new_year month leap) λ first.
     done (first +ℤ day -ℤ pos 1)

@@ -14,7 +14,7 @@ use Rattle.book_model.specs.calendars.Bahai.{bahai_on, bahai_day}
 use Rattle.book_model.specs.calendars.Gregorian.{is_date, fixed_of, year_of_day, month_of_day, day_of_month}
 use Rattle.book_model.specs.calendars.Chinese.{chinese_on, chinese_day}
 use Rattle.book_model.specs.sky.Correction.{is_between}
-use Rattle.book_model.specs.calendars.Inquiries.{Inquiry, done, to_32_bits}
+use Rattle.book_model.specs.calendars.Inquiries.{Inquiry, done, field_at, to_32_bits}
 use Rattle.book_model.specs.calendars.HinduLunar.{hindu_lunar_on, hindu_lunar_day}
 use Rattle.book_model.specs.calendars.HinduSolar.{hindu_solar_on, hindu_solar_day}
 use Rattle.book_model.specs.calendars.Islamic.{islamic_on, islamic_day}
@@ -27,9 +27,9 @@ no_row = record { calendar = Gregorian; count = 0; limits = []; weights = []; of
 abbrev pub row_of : Calendar → CalendarRow
 row_of c = slice_index_or CALENDARS (tag_of the_type c) no_row
 
--- a field of a date, from 0
+-- a field of a date, from 0, less its sign
 abbrev pub field : Fields → ℕ → ℕ
-field f k = unsigned_abs (slice_index_or f.values k (pos 0))
+field f k = unsigned_abs (field_at f k)
 
 -- a field lies within its limits
 abbrev pub is_within : CalendarRow → Fields → ℕ → Bool
@@ -39,14 +39,14 @@ is_within row f k = nat_le (slice_index_or row.limits k (0, 0)).0 (field f k) &&
 abbrev pub are_within : CalendarRow → Fields → Bool
 are_within row f = is_within row f 0 && is_within row f 1 && is_within row f 2 && is_within row f 3 && is_within row f 4
 
--- months of the Gregorian calendar differ in length from year to year as well, which it tells without any fact
-abbrev pub is_in_month : Calendar → Fields → Bool
-is_in_month Gregorian f = is_date (field f 0) (field f 1) (field f 2)
-is_in_month c f = true
+-- the month has the day: those of the Gregorian calendar differ in length from year to year as well, which it tells without any fact
+abbrev pub has_day_of_month : Calendar → Fields → Bool
+has_day_of_month Gregorian f = is_date (field f 0) (field f 1) (field f 2)
+has_day_of_month c f = true
 
 -- a calendar may have a date with these fields
 unfoldable pub may_have : Calendar → Fields → Bool
-may_have c f = (f.count == (row_of c).count) && are_within (row_of c) f && is_in_month c f
+may_have c f = (f.count == (row_of c).count) && are_within (row_of c) f && has_day_of_month c f
 
 -- what a field counts in the number of the year
 abbrev pub weighed : CalendarRow → Fields → ℕ → ℤ

@@ -1,8 +1,9 @@
 -- Inquiries: the facts that a rule asks, in order, and its result over their values.
-use Rattle.std.specs.Prelude.{◌≡◌, ℕ, ◌-◌, ◌^◌, ◌&&◌, ◌==◌, if◌then◌else◌, Bool, List, [], ◌∷◌, ◌++◌, ℤ, pos, negsuc, int_le}
+use Rattle.std.specs.Prelude.{◌≡◌, ℕ, ◌-◌, ◌^◌, ◌&&◌, ◌==◌, if◌then◌else◌, Bool, List, [], ◌∷◌, ◌++◌, ℤ, pos, negsuc, int_le, slice_index_or}
 use Rattle.std.specs.Ordering.{int_eq}
 use Rattle.std.specs.List.{list_any}
 use Rattle.book_model.specs.declared.fact.Fact.{Fact}
+use Rattle.book_model.specs.declared.request.Fields.{Fields}
 use Rattle.book_model.specs.sky.Facts.{run_of}
 use Rattle.book_model.specs.sky.Names.{kind_number, place_number}
 use Rattle.book_model.specs.programs.Programs.{Outcome, valued, void_at, open_at, outcome}
@@ -20,6 +21,21 @@ and_then (ask f more) next = ask f (λ v. and_then (more v) next)
 -- the inquiry for the value of one fact
 unfoldable pub ask_once : Fact → Inquiry ℤ
 ask_once f = ask f done
+
+-- the first of some days of which an inquiry answers yes, else another day
+unfoldable pub first_of : List ℤ → (ℤ → Inquiry Bool) → ℤ → Inquiry ℤ
+first_of [] holds other = done other
+first_of (day ∷ days) holds other =
+    and_then (holds day) λ here.
+    if here then done day else first_of days holds other
+
+-- a field of a date, from 0
+abbrev pub field_at : Fields → ℕ → ℤ
+field_at date k = slice_index_or date.values k (pos 0)
+
+-- 1 where something is so, else 0
+abbrev pub flag : Bool → ℤ
+flag b = if b then pos 1 else pos 0
 
 -- the nearest number of 32 bits
 abbrev pub to_32_bits : ℤ → ℤ

@@ -19,23 +19,23 @@ phasis_fact day = record { kind = Phasis; place = Cairo; day = day }
 unfoldable pub months_before : ℤ → ℤ
 months_before first = months_of_days (first -ℤ ISLAMIC_EPOCH)
 
--- year, month and day, by the months that have passed
-unfoldable pub date_in : (passed day : ℤ) → Fields
-date_in passed day =
+-- year, month and day, where so many months have passed
+unfoldable pub islamic_fields : (passed day : ℤ) → Fields
+islamic_fields passed day =
     record { count = 3; values = to_32_bits (quotient_down passed 12 +ℤ pos 1) ∷ (modulo passed 12 +ℤ pos 1) ∷ to_8_bits day ∷ pos 0 ∷ pos 0 ∷ [] }
 
 -- the Islamic date of a day (R.D.)
 unfoldable pub islamic_on : ℤ → Inquiry Fields
-islamic_on day = ask (phasis_fact day) λ first. done (date_in (months_before first) (day -ℤ first +ℤ pos 1))
+islamic_on day = ask (phasis_fact day) λ first. done (islamic_fields (months_before first) (day -ℤ first +ℤ pos 1))
 
 -- twice the months from the epoch to the middle of a month
 unfoldable pub half_months_to : (year month : ℤ) → ℤ
 half_months_to year month = pos 2 *ℤ (pos 12 *ℤ (year -ℤ pos 1) +ℤ month) -ℤ pos 1
 
 -- a day about the middle of a month
-unfoldable pub day_within_month : (year month : ℤ) → ℤ
-day_within_month year month = ISLAMIC_EPOCH +ℤ days_of (fraction_of SYNODIC_MONTH) (ratio (half_months_to year month) 2)
+unfoldable pub mid_month_day : (year month : ℤ) → ℤ
+mid_month_day year month = ISLAMIC_EPOCH +ℤ days_of (fraction_of SYNODIC_MONTH) (ratio (half_months_to year month) 2)
 
 -- the day (R.D.) of a year, a month and a day
 unfoldable pub islamic_day : (year month day : ℤ) → Inquiry ℤ
-islamic_day year month day = ask (phasis_fact (day_within_month year month)) λ first. done (first +ℤ day -ℤ pos 1)
+islamic_day year month day = ask (phasis_fact (mid_month_day year month)) λ first. done (first +ℤ day -ℤ pos 1)

@@ -15,35 +15,35 @@ abbrev pub nowruz_fact : ℤ → Fact
 nowruz_fact day = record { kind = Nowruz; place = Nowhere; day = day }
 
 -- a day about the middle of a year
-unfoldable pub day_within : ℤ → ℤ
-day_within year = PERSIAN_EPOCH +ℤ pos 180 +ℤ days_of_years (year -ℤ pos 1)
+unfoldable pub mid_year_day : ℤ → ℤ
+mid_year_day year = PERSIAN_EPOCH +ℤ pos 180 +ℤ days_of_years (year -ℤ pos 1)
 
 -- the year that begins on a day
 unfoldable pub year_begun : ℤ → ℤ
 year_begun first = pos 1 +ℤ years_of_days (first -ℤ PERSIAN_EPOCH)
 
 -- the days of a year before a month: six months have 31 days each, and those after them 30
-abbrev pub days_before : ℤ → ℤ
-days_before month = if int_le month (pos 7) then pos 31 *ℤ (month -ℤ pos 1) else pos 30 *ℤ (month -ℤ pos 1) +ℤ pos 6
+abbrev pub days_before_month : ℤ → ℤ
+days_before_month month = if int_le month (pos 7) then pos 31 *ℤ (month -ℤ pos 1) else pos 30 *ℤ (month -ℤ pos 1) +ℤ pos 6
 
--- the month of a day of the year, which counts from 1
-abbrev pub month_of : ℤ → ℤ
-month_of number = if int_le number (pos 186) then quotient_up number 31 else quotient_up (number -ℤ pos 6) 30
+-- the month of a day by its number in the year, which counts from 1
+abbrev pub month_of_number : ℤ → ℤ
+month_of_number number = if int_le number (pos 186) then quotient_up number 31 else quotient_up (number -ℤ pos 6) 30
 
--- year, month and day of a day of the year
-unfoldable pub date_in : ℤ → ℤ → Fields
-date_in year number =
-    record { count = 3; values = to_32_bits year ∷ to_8_bits (month_of number) ∷ to_8_bits (number -ℤ days_before (month_of number)) ∷ pos 0 ∷ pos 0 ∷ [] }
+-- year, month and day, by the year and the day's number in it
+unfoldable pub persian_fields : (year number : ℤ) → Fields
+persian_fields year number =
+    record { count = 3; values = to_32_bits year ∷ to_8_bits (month_of_number number) ∷ to_8_bits (number -ℤ days_before_month (month_of_number number)) ∷ pos 0 ∷ pos 0 ∷ [] }
 
 -- the Persian date of a day (R.D.)
 unfoldable pub persian_on : ℤ → Inquiry Fields
 persian_on day =
     ask (nowruz_fact day) λ first.
-    ask (nowruz_fact (day_within (year_begun first))) λ new_year.
-    done (date_in (year_begun first) (day -ℤ new_year +ℤ pos 1))
+    ask (nowruz_fact (mid_year_day (year_begun first))) λ new_year.
+    done (persian_fields (year_begun first) (day -ℤ new_year +ℤ pos 1))
 
 -- the day (R.D.) of a year, a month and a day
-unfoldable pub persian_day : ℤ → ℤ → ℤ → Inquiry ℤ
+unfoldable pub persian_day : (year month day : ℤ) → Inquiry ℤ
 persian_day year month day =
-    ask (nowruz_fact (day_within year)) λ new_year.
-    done (new_year +ℤ days_before month +ℤ day -ℤ pos 1)
+    ask (nowruz_fact (mid_year_day year)) λ new_year.
+    done (new_year +ℤ days_before_month month +ℤ day -ℤ pos 1)

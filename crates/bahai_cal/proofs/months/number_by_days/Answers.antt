@@ -1,7 +1,7 @@
 use Rattle.std.proofs.Common.{rules, arith, SFits, w64, pos, ◌+ℤ◌, ◌-ℤ◌}
 use Rattle.std.proofs.lemmas.Int.{to_z-of_z, ints}
 use Rattle.bahai_cal.proofs.Counts.{month_near}
-use Rattle.bahai_cal.proofs.months.month_by_days.Goals as goal
+use Rattle.bahai_cal.proofs.months.number_by_days.Goals as goal
 
 pub overflow_add-result : goal.overflow_add-result
 overflow_add-result c =
@@ -22,4 +22,4 @@ returns c =
     let e = simp to_z-of_z at c.quotient.ensures.quotient in
     let n = month_near c.args.day c.args.first c.requires.from c.requires.to c.requires.value in
     let ft : SFits w64 (c.quotient.result +ℤ pos 1) = omega (arith, ints, e, n.from, n.to) in
-    simp to_z-of_z (record { month = omega (arith, ints, e); near = (omega (arith, ints, e, n.from), omega (arith, ints, e, n.to)) })
+    simp to_z-of_z (record { number = omega (arith, ints, e); near = (omega (arith, ints, e, n.from), omega (arith, ints, e, n.to)) })

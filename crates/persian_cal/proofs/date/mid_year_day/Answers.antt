@@ -1,8 +1,8 @@
 use Rattle.std.proofs.Common.{rules, arith, SFits, w64, pos, ◌+ℤ◌, ◌-ℤ◌}
 use Rattle.std.proofs.lemmas.Int.{to_z-of_z, ints}
-use Rattle.book_model.specs.calendars.Persian.{day_within}
+use Rattle.book_model.specs.calendars.Persian.{mid_year_day}
 use Rattle.persian_cal.proofs.TropicalYears.{days_near}
-use Rattle.persian_cal.proofs.date.day_within.Goals as goal
+use Rattle.persian_cal.proofs.date.mid_year_day.Goals as goal
 
 pub overflow_add-result-2 : goal.overflow_add-result-2
 overflow_add-result-2 c =
@@ -14,7 +14,7 @@ overflow_add-result-2 c =
     simp to_z-of_z (omega (arith, ints, e, n.from, n.to))
 
 pub returns : goal.returns
-unfolding day_within
+unfolding mid_year_day
 returns c =
     let fy = c.ranges.year in
     let fr : SFits w64 c.days_of_years.result = search rules in
