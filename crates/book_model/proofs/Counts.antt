@@ -1,5 +1,5 @@
 -- The count of tests follows from what a call says of its program, and from how many tests that makes at most.
-use Rattle.std.specs.Prelude.{◌≡◌, ℕ, zero, ℤ, ◌+◌, ◌-◌, ◌^◌, ◌≤◌, min, Bool, Option, Some, None, Result, Ok, Err, refl}
+use Rattle.std.specs.Prelude.{ℕ, zero, ℤ, ◌+◌, ◌≤◌, Bool, Option, Some, None, Result}
 use Rattle.std.proofs.Common.{suc, arith}
 use Rattle.exact_math.specs.Interval.{Interval, everything, IsProper}
 use Rattle.exact_math.proofs.Intervals.{within_refl}
@@ -9,7 +9,7 @@ use Rattle.book_model.specs.numbers.Depth.{DEPTH}
 use Rattle.book_model.specs.numbers.Expressions.{Expression, World, argument, value}
 use Rattle.book_model.specs.numbers.Relations.{Within, Lies}
 use Rattle.book_model.specs.programs.Leading.{next_turn, Reports, passes, answers, stops, stops_early, voids, Leads}
-use Rattle.book_model.specs.programs.Programs.{Grid, cell_at, compare_at, Program, cell, compare, Sides, Reply, Run, answered, voided, undecided, decided, after_cell, after_compare, run, AtMost, answer_at_most, void_at_most, cell_at_most, compare_at_most}
+use Rattle.book_model.specs.programs.Programs.{Grid, cell_at, compare_at, Program, Sides, Reply, Run, answered, voided, undecided, decided, after_cell, after_compare, run, AtMost, answer_at_most, void_at_most, cell_at_most, compare_at_most}
 
 -- the run makes at most this many tests
 data IsShort {A : Type 0} : ℕ → Run A → Type 0 where

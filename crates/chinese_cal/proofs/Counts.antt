@@ -4,7 +4,7 @@ use Rattle.std.proofs.Common.{arith}
 use Rattle.std.proofs.lemmas.Int.{ints}
 use Rattle.exact_math.specs.Fraction.{floor_quotient, times, plus, reciprocal}
 use Rattle.exact_math.proofs.Floors.{floor_quotient_is}
-use Rattle.book_model.specs.calendars.Chinese.{months_between, elapsed_years, days_to_middle}
+use Rattle.book_model.specs.calendars.Chinese.{months_between, elapsed_years, days_to_mid_year}
 use Rattle.book_model.specs.calendars.Spans.{days_of, months_of_days, nearest, spans_of}
 use Rattle.calendar_math.proofs.SpanLemmas.{LiesWithin}
 use Rattle.chinese_cal.specs.Days.{IsNearDay}
@@ -32,11 +32,11 @@ elapsed_near day month h p q =
     record { from = omega (arith, ints, h.0, h.1, p, q, e, f.not_above, f.close); to = omega (arith, ints, h.0, h.1, p, q, e, f.not_above, f.close) }
 
 -- the days to the middle of a year as a quotient of whole numbers
-middle_is : (number : ℤ) → days_to_middle number ≡ floor_quotient (pos 365242189 *ℤ (pos 2 *ℤ number -ℤ pos 1)) 1999999
-unfolding days_to_middle days_of times
+middle_is : (number : ℤ) → days_to_mid_year number ≡ floor_quotient (pos 365242189 *ℤ (pos 2 *ℤ number -ℤ pos 1)) 1999999
+unfolding days_to_mid_year days_of times
 middle_is number = refl
 
-pub middle_near : (number : ℤ) → pos 4438 ≤ℤ number → number ≤ℤ pos 4685 → LiesWithin (pos 1000000) (pos 2000000) (days_to_middle number)
+pub middle_near : (number : ℤ) → pos 4438 ≤ℤ number → number ≤ℤ pos 4685 → LiesWithin (pos 1000000) (pos 2000000) (days_to_mid_year number)
 middle_near number p q =
     let f = floor_quotient_is (pos 365242189 *ℤ (pos 2 *ℤ number -ℤ pos 1)) 1999999 in
     let e = middle_is number in

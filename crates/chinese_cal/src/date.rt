@@ -1,6 +1,6 @@
 //! Chinese dates, and the date of a day. Days are R.D.
 ghost use Rattle.std.specs.Prelude.{◌≡◌, ◌≤ℤ◌, ◌+ℤ◌, ◌-ℤ◌, pos, negsuc};
-ghost use Rattle.book_model.specs.calendars.Chinese.{elapsed_years as years_elapsed, fields_by, date_in_month as date_of_month, chinese_on};
+ghost use Rattle.book_model.specs.calendars.Chinese.{elapsed_years as years_elapsed, chinese_fields, chinese_on};
 ghost use Rattle.book_model.specs.calendars.Inquiries.{to_32_bits as to_32_bits_of, to_8_bits as to_8_bits_of};
 ghost use Rattle.book_model.specs.calendars.Spans.{quotient_down, amod as amod_of};
 ghost use Rattle.chinese_cal.specs.Dates.{fields_of_date};
@@ -9,7 +9,7 @@ ghost use Rattle.chinese_cal.specs.Keeping.{Keeps};
 ghost use Rattle.oracle_core.specs.Inquiring.{Inquires, map_ok};
 
 use crate::kept::Kept;
-use crate::months::month_holding;
+use crate::months::chinese_month;
 use book_model::{CHINESE_EPOCH, ChineseMonth, TROPICAL_YEAR};
 use calendar_math::{amod, quotient_before, spans_of, to_8_bits, to_32_bits};
 use oracle_core::{Oracle, Stop};
@@ -81,7 +81,7 @@ fn date_by(day: i64, month: ChineseMonth, years: i64) -> ChineseDate
     requires month_near { IsNearMonth month }
     requires low { negsuc 99999 ≤ℤ years }
     requires high { years ≤ℤ pos 100000 }
-    ensures date { fields_of_date result ≡ fields_by day month years }
+    ensures date { fields_of_date result ≡ chinese_fields day month years }
 {
     ChineseDate {
         cycle: cycle_of(years),
@@ -90,16 +90,6 @@ fn date_by(day: i64, month: ChineseMonth, years: i64) -> ChineseDate
         leap: month.is_leap,
         day: day_of_month(day, month.first_day),
     }
-}
-
-/// The date of a day by its month.
-#[tactic(auto, unfolding(book_model::specs::calendars::Chinese::date_in_month))]
-fn date_in_month(day: i64, month: ChineseMonth) -> ChineseDate
-    requires near { IsNearDay day }
-    requires month_near { IsNearMonth month }
-    ensures date { fields_of_date result ≡ date_of_month day month }
-{
-    date_by(day, month, elapsed_years(day, month.number))
 }
 
 /// The date of a day, beside what is kept. It stops where the oracle stops.
@@ -115,8 +105,9 @@ pub(crate) fn date_beside<O: Oracle>(
         (map_ok fields_of_date result) }
     ensures kept { Keeps O.meaning (O.state oracle.new) kept.new }
 {
-    let month = month_holding(oracle, kept, day)?;
-    Ok(date_in_month(day, month))
+    let month = chinese_month(oracle, kept, day)?;
+    let years = elapsed_years(day, month.number);
+    Ok(date_by(day, month, years))
 }
 
 /// The date of a day (R.D.): the month that begins with the last new moon before the day ends in Beijing, numbered from the

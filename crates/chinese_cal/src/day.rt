@@ -11,7 +11,7 @@ use crate::asks::ask_kept;
 use crate::date::{ChineseDate, date_beside};
 use crate::facts::{moon_after, moon_from};
 use crate::kept::Kept;
-use crate::years::{middle_of_year, new_year_by_day};
+use crate::years::{mid_year_day, new_year_by_day};
 use book_model::Fact;
 use oracle_core::{Oracle, Stop};
 
@@ -90,7 +90,7 @@ pub fn to_fixed<O: Oracle>(oracle: &mut O, date: ChineseDate) -> Result<i64, Sto
         (flag date.leap) (pos date.day)) (O.state oracle.old) (O.state oracle.new) result }
 {
     let mut kept = Kept::new();
-    let middle = middle_of_year(i64::from(date.cycle), i64::from(date.year));
+    let middle = mid_year_day(i64::from(date.cycle), i64::from(date.year));
     let new_year = new_year_by_day(oracle, &mut kept, middle)?;
     let first = month_beginning(oracle, &mut kept, new_year, date.month, date.leap)?;
     Ok(day_of_month(first, date.day))

@@ -1,6 +1,6 @@
 //! The month in which a day falls. Days are R.D.
 ghost use Rattle.std.specs.Prelude.{◌≡◌, ◌≤ℤ◌, ◌-ℤ◌, pos, negsuc, IfOk};
-ghost use Rattle.book_model.specs.calendars.Chinese.{months_between, month_number as number_of_month, month_by as month_with, month_in as month_of_sui, month_holding as month_on};
+ghost use Rattle.book_model.specs.calendars.Chinese.{months_between, month_number as number_of_month, month_by as month_with, month_in as month_of_sui, chinese_month as month_on};
 ghost use Rattle.book_model.specs.calendars.Inquiries.{flag};
 ghost use Rattle.book_model.specs.sky.Facts.{IsFactValue};
 ghost use Rattle.chinese_cal.specs.Days.{IsNearDay, IsNearMonth, IsNearSui};
@@ -87,8 +87,8 @@ fn month_in<O: Oracle>(
 }
 
 /// The month in which a day falls. It stops where the oracle stops.
-#[tactic(auto, using(oracle_core::proofs::Inquiring::asking), unfolding(book_model::specs::calendars::Chinese::month_holding))]
-pub(crate) fn month_holding<O: Oracle>(
+#[tactic(auto, using(oracle_core::proofs::Inquiring::asking), unfolding(book_model::specs::calendars::Chinese::chinese_month))]
+pub(crate) fn chinese_month<O: Oracle>(
     oracle: &mut O,
     kept: &mut Kept,
     day: i64,

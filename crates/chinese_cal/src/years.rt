@@ -98,10 +98,10 @@ pub(crate) fn new_year_by_day<O: Oracle>(
 }
 
 /// The days from the epoch to the middle of a year, which counts from 1.
-fn days_to_middle(number: i64) -> i64
+fn days_to_mid_year(number: i64) -> i64
     requires from_4438 { pos 4438 ≤ℤ number }
     requires to_4685 { number ≤ℤ pos 4685 }
-    ensures days { result ≡ spec.days_to_middle number }
+    ensures days { result ≡ spec.days_to_mid_year number }
     ensures from { pos 1000000 ≤ℤ result }
     ensures to { result ≤ℤ pos 2000000 }
 {
@@ -109,15 +109,15 @@ fn days_to_middle(number: i64) -> i64
 }
 
 /// A day in the middle of a year of a cycle.
-#[tactic(auto, unfolding(book_model::specs::calendars::Chinese::middle_of_year))]
-pub(crate) fn middle_of_year(cycle: i64, year: i64) -> i64
+#[tactic(auto, unfolding(book_model::specs::calendars::Chinese::mid_year_day))]
+pub(crate) fn mid_year_day(cycle: i64, year: i64) -> i64
     requires from_4438 { pos 4438 ≤ℤ (pos 60 *ℤ (cycle -ℤ pos 1) +ℤ year) }
     requires to_4685 { (pos 60 *ℤ (cycle -ℤ pos 1) +ℤ year) ≤ℤ pos 4685 }
     requires from_year { pos 1 ≤ℤ year }
     requires to_year { year ≤ℤ pos 60 }
-    ensures day { result ≡ spec.middle_of_year cycle year }
+    ensures day { result ≡ spec.mid_year_day cycle year }
     ensures from { pos 0 ≤ℤ result }
     ensures to { result ≤ℤ pos 10000000 }
 {
-    CHINESE_EPOCH + days_to_middle(60 * (cycle - 1) + year)
+    CHINESE_EPOCH + days_to_mid_year(60 * (cycle - 1) + year)
 }

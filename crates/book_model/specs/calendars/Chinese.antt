@@ -110,8 +110,8 @@ month_in sui leap_sui month =
     done (month_by sui.first_month month from_leap is_leap)
 
 -- the month in which a day falls
-unfoldable pub month_holding : ℤ → Inquiry ChineseMonth
-month_holding day =
+unfoldable pub chinese_month : ℤ → Inquiry ChineseMonth
+chinese_month day =
     and_then (sui_of day) λ sui.
     and_then (is_leap_sui sui) λ leap_sui.
     ask (moon_before_fact (day +ℤ pos 1)) λ month.
@@ -121,18 +121,14 @@ month_holding day =
 unfoldable pub elapsed_years : ℤ → ℤ → ℤ
 elapsed_years day month = spans_of (fraction_of TROPICAL_YEAR) (day -ℤ CHINESE_EPOCH) (ratio (pos 18 -ℤ month) 12)
 
--- cycle, year, month, leap month and day
-abbrev pub fields_by : ℤ → ChineseMonth → ℤ → Fields
-fields_by day month years =
+-- cycle, year, month, leap month and day, by the month in which a day falls and the years since the epoch
+abbrev pub chinese_fields : ℤ → ChineseMonth → ℤ → Fields
+chinese_fields day month years =
     record { count = 5; values = to_32_bits (quotient_down (years -ℤ pos 1) 60 +ℤ pos 1) ∷ amod years 60 ∷ month.number ∷ flag month.is_leap ∷ to_8_bits (day -ℤ month.first_day +ℤ pos 1) ∷ [] }
-
--- the date of a day by its month
-unfoldable pub date_in_month : ℤ → ChineseMonth → Fields
-date_in_month day month = fields_by day month (elapsed_years day month.number)
 
 -- the Chinese date of a day (R.D.)
 unfoldable pub chinese_on : ℤ → Inquiry Fields
-chinese_on day = and_then (month_holding day) λ month. done (date_in_month day month)
+chinese_on day = and_then (chinese_month day) λ month. done (chinese_fields day month (elapsed_years day month.number))
 
 -- ---- days
 -- whether the leap month of a sui is one of its first two, given whether it has one
@@ -159,12 +155,12 @@ new_year_by_day day =
     if int_lt day new_year then new_year_in_sui (day -ℤ pos 180) else done new_year
 
 -- the days from the epoch to the middle of a year, which counts from 1
-unfoldable pub days_to_middle : ℤ → ℤ
-days_to_middle number = days_of (fraction_of TROPICAL_YEAR) (ratio (pos 2 *ℤ number -ℤ pos 1) 2)
+unfoldable pub days_to_mid_year : ℤ → ℤ
+days_to_mid_year number = days_of (fraction_of TROPICAL_YEAR) (ratio (pos 2 *ℤ number -ℤ pos 1) 2)
 
 -- a day in the middle of a year of a cycle
-unfoldable pub middle_of_year : ℤ → ℤ → ℤ
-middle_of_year cycle year = CHINESE_EPOCH +ℤ days_to_middle (pos 60 *ℤ (cycle -ℤ pos 1) +ℤ year)
+unfoldable pub mid_year_day : ℤ → ℤ → ℤ
+mid_year_day cycle year = CHINESE_EPOCH +ℤ days_to_mid_year (pos 60 *ℤ (cycle -ℤ pos 1) +ℤ year)
 
 -- a date has this month, which is a leap month or isn't
 abbrev pub has_month : ℤ → ℤ → Fields → Bool
@@ -180,6 +176,6 @@ month_beginning new_year month leap =
 -- the day (R.D.) of a cycle, a year, a month, whether it is a leap month, and a day
 unfoldable pub chinese_day : (cycle year month leap day : ℤ) → Inquiry ℤ
 chinese_day cycle year month leap day =
-    and_then (new_year_by_day (middle_of_year cycle year)) λ new_year.
+    and_then (new_year_by_day (mid_year_day cycle year)) λ new_year.
     and_then (month_beginning new_year month leap) λ first.
     done (first +ℤ day -ℤ pos 1)

@@ -1,11 +1,11 @@
 use Rattle.std.proofs.Common.{rules, arith, SFits, w64, pos, ◌-ℤ◌, ◌*ℤ◌}
 use Rattle.std.proofs.lemmas.Int.{to_z-of_z, ints}
-use Rattle.book_model.specs.calendars.Chinese.{days_to_middle}
+use Rattle.book_model.specs.calendars.Chinese.{days_to_mid_year}
 use Rattle.chinese_cal.proofs.Counts.{middle_near}
-use Rattle.chinese_cal.proofs.years.days_to_middle.Goals as goal
+use Rattle.chinese_cal.proofs.years.days_to_mid_year.Goals as goal
 
 pub returns : goal.returns
-unfolding days_to_middle
+unfolding days_to_mid_year
 returns c =
     let fn = c.ranges.number in
     let fr : SFits w64 c.days_of.result = search rules in
