@@ -1,6 +1,6 @@
 -- From where to where dusk and sunset lie, and a sunset in minutes.
 use Rattle.std.specs.Prelude.{◌≡◌, ℕ, zero, suc, ◌*◌, ◌≤◌, Bool, true, false, if◌then◌else◌, ℤ, pos, negsuc, ◌+ℤ◌, ◌-ℤ◌, Result, Ok, Err, IfOk, Option, Some, None, IfSome}
-use Rattle.std.proofs.Common.{arith, sym}
+use Rattle.std.proofs.Common.{arith, subst, sym}
 use Rattle.std.proofs.lemmas.Int.{ints}
 use lib.Signed.{lt_z}
 use Rattle.exact_math.specs.Fraction.{Fraction, whole, plus, times, smaller, larger, is_at_most}
@@ -23,7 +23,7 @@ use Rattle.book_model.specs.numbers.Expressions.{Expression, World, value, exact
 use Rattle.book_model.specs.sky.Facts.{IsFactValue, at_depth}
 use Rattle.book_model.specs.numbers.Fractions.{fraction_of}
 use Rattle.book_model.specs.sky.Horizon.{universal_of, near_offset_of, part_of, quarter_of, apparent_by, approximation_on, approximation_of, has_settled_of, settled_of, depression_of, dusk_of, sunset_depression_of, sunset_of}
-use Rattle.book_model.specs.sky.Kinds.{located, minutes_of, sunset_in_minutes_of}
+use Rattle.book_model.specs.sky.Kinds.{minutes_of, sunset_in_minutes_of}
 use Rattle.book_model.specs.sky.Names.{location_of}
 use Rattle.book_model.specs.programs.Calls.{Decides}
 use Rattle.book_model.specs.sky.Noon.{ahead_of}
@@ -192,11 +192,6 @@ minutes_value w p d v e h =
     (omega (arith, ints, f.0), omega (arith, ints, f.1))
 
 -- a sunset in minutes is a value that a fact may have
-sunset_at_value : (o : Option Location) (d v : ℤ) → IfSome o IsEast → outcome (run (at_depth 40) (located o (λ l. sunset_in_minutes_of l d))) ≡ valued v → IsFactValue v
-unfolding located run outcome
-sunset_at_value None d v e h = absurd (cc)
-sunset_at_value (Some l) d v e h = minutes_value (at_depth 40) l d v e h
-
-pub sunset_is_value : (place : Place) (d : ℤ) (r : Result ℤ Fail) (b a : ℕ) → Decides (located (location_of place) (λ l. sunset_in_minutes_of l d)) b a r → IfOk r IsFactValue
-sunset_is_value place d (Ok v) b a h = sunset_at_value (location_of place) d v (east place) (leads_value (h (at_depth 40) (omega arith)))
-sunset_is_value place d (Err f) b a h = tt
+pub sunset_is_value : (place : Place) (l : Location) (d : ℤ) (r : Result ℤ Fail) (b a : ℕ) → Some l ≡ location_of place → Decides (sunset_in_minutes_of l d) b a r → IfOk r IsFactValue
+sunset_is_value place l d (Ok v) b a e h = minutes_value (at_depth 40) l d v (subst (λ o. IfSome o IsEast) (sym e) (east place)) (leads_value (h (at_depth 40) (omega arith)))
+sunset_is_value place l d (Err f) b a e h = tt

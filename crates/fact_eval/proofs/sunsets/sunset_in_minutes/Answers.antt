@@ -3,7 +3,7 @@ use Rattle.std.proofs.lemmas.Int.{to_z-of_z}
 use Rattle.fact_eval.proofs.SunsetValues.{sunset_is_value}
 use Rattle.fact_eval.proofs.sunsets.sunset_in_minutes.Goals as goal
 
-pub returns-clause-value : goal.returns-clause-value
-returns-clause-value g c =
+pub returns-in-Some-clause-value : goal.returns-in-Some-clause-value
+returns-in-Some-clause-value g c =
     let f : SFits w64 c.args.day = c.ranges.day in
-    sunset_is_value c.args.place c.args.day _ _ _ (λ w d. rw c.location_of.ensures.location at (simp to_z-of_z at (c.minutes_of_sunset.ensures.leads w d)))
+    sunset_is_value c.args.place c.in-Some.location c.args.day _ _ _ c.in-Some.ensures (λ w d. simp to_z-of_z at (c.minutes_of_sunset.ensures.leads w d))
