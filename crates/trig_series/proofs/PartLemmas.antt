@@ -1,9 +1,9 @@
 -- The series over a part of an octant, from their ends at its first angle.
 use Rattle.std.proofs.Common.{◌≡◌, ℕ, zero, suc, ◌-◌, ◌≤◌, ◌^◌, refl, arith, neg_ℤ, unsigned_abs, ℤ, pos, negsuc, ◌+ℤ◌, ◌-ℤ◌, ◌*ℤ◌, ◌≤ℤ◌, ◌<ℤ◌, [], ◌∷◌}
 use Rattle.std.proofs.lemmas.Int.{ints, clamps, by_lt_z}
-use Rattle.exact_math.specs.Fraction.{Fraction, ◌≤F◌, ◌≈◌, whole, plus, opposite, times}
+use Rattle.exact_math.specs.Fraction.{Fraction, ◌≤F◌, ◌≈◌, plus, times}
 use Rattle.exact_math.specs.Interval.{between, ◌⊆◌}
-use Rattle.exact_math.specs.Sums.{lower, upper}
+use Rattle.exact_math.specs.Sums.{upper}
 use Rattle.exact_math.proofs.Alternating.{sum_ends_in_order}
 use Rattle.exact_math.proofs.Certificates.{zero_F, ◌≼◌, ◌≗◌, known, multiple, ◌⊞◌, le_by}
 use Rattle.exact_math.proofs.Fractions.{le_trans}
@@ -11,16 +11,16 @@ use Rattle.exact_math.proofs.Intervals.{within_trans}
 use Rattle.exact_math.proofs.Ring.{at, lit, ◌⊕◌, ◌⊖◌}
 use Rattle.book_model.specs.programs.Leading.{at_56}
 use Rattle.book_model.specs.numbers.Octants.{radians, octant_of_turn, sine_into, sine_at, sine_in}
-use Rattle.book_model.specs.numbers.Series.{sine_series, cosine_series, sine_term, cosine_term, four_fifths}
+use Rattle.book_model.specs.numbers.Series.{sine_series, cosine_series, sine_term, four_fifths}
 use Rattle.book_model.proofs.OctantHulls.{radians_proper}
 use Rattle.book_model.proofs.SeriesNesting.{sines, sine_lowers, cosine_lowers, inside_in}
-use Rattle.book_model.proofs.Terms.{IsUpTo, sine_halving, cosine_halving}
+use Rattle.book_model.proofs.Terms.{IsUpTo, sine_halving}
 use Rattle.trig_series.specs.Kernel.{at_64, in_radians, in_radians_above, IsInRadians, AreSineEnds, AreCosineEnds}
 use Rattle.trig_series.specs.Points.{IsAround, IsRising, IsCrest, IsPart, IsInside}
 use Rattle.trig_series.proofs.AngleLemmas.{at_in_turn, cosine_within}
 use Rattle.trig_series.proofs.KernelAngles.{by_lower, by_upper, radians_over, radians_small}
 use Rattle.trig_series.proofs.OctantLemmas.{in_holds}
-use Rattle.trig_series.proofs.PointLemmas.{low_end, high_end, sine_same, cosine_same, sine_zero, cosine_zero, none_in_radians}
+use Rattle.trig_series.proofs.PointLemmas.{low_end, high_end, sine_same, cosine_same, sine_zero, none_in_radians}
 use Rattle.trig_series.proofs.Slopes.{sine_slow, cosine_upper_slow}
 use Rattle.trig_series.proofs.Curves.{in_fifths, in_order, sine_above, cosine_above}
 use Rattle.trig_series.proofs.Steady.{more_crest}

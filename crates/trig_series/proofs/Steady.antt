@@ -9,7 +9,7 @@ use Rattle.exact_math.proofs.Fractions.{le_refl, le_trans, plus_mono}
 use Rattle.exact_math.proofs.Alternating.{sum_ends_in_order}
 use Rattle.book_model.specs.numbers.Octants.{octant_of_turn}
 use Rattle.book_model.specs.numbers.Series.{sine_term, cosine_term}
-use Rattle.book_model.proofs.Terms.{IsUpTo, sine_halving, cosine_halving}
+use Rattle.book_model.proofs.Terms.{sine_halving, cosine_halving}
 use Rattle.book_model.proofs.SeriesNesting.{sine_lowers, cosine_uppers}
 use Rattle.trig_series.specs.Kernel.{at_64, in_radians}
 use Rattle.trig_series.specs.Points.{IsNearSine, IsNearCosine, IsPoint, IsAt, AreSteady, IsAround, IsCrest}

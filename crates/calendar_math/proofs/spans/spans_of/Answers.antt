@@ -1,4 +1,4 @@
-use Rattle.std.proofs.Common.{rules, arith, ◌≤◌, ◌<◌, ◌^◌, ◌∙◌, sym, ap, SFits, w64, pos, negsuc, ◌*ℤ◌, ◌*◌, ◌-◌}
+use Rattle.std.proofs.Common.{rules, arith, ◌≤◌, ◌<◌, ◌^◌, ◌∙◌, sym, ap, SFits, w64, pos, negsuc, ◌*ℤ◌, ◌*◌}
 use Rattle.std.specs.Int.{w128}
 use Rattle.std.proofs.lemmas.Int.{to_z-of_z, ints}
 use Rattle.book_model.specs.calendars.Spans.{ratio, spans_of}

@@ -1,10 +1,7 @@
 use Rattle.book_model.specs.numbers.Expressions.{minimum}
 use Rattle.book_model.specs.programs.Programs.{answer, bind}
 use Rattle.book_model.specs.sky.Sun.{off_of, back_by, estimate_of}
-use Rattle.book_model.specs.numbers.Relations.{Within}
-use Rattle.book_model.proofs.Counts.{counted_of_two}
-use Rattle.book_model.proofs.Estimates.{estimate_few}
-use Rattle.book_model.proofs.Leads.{leads_on, leaf_within, leads_answer, leads_fail_same}
+use Rattle.book_model.proofs.Leads.{leads_on, leaf_within, leads_answer}
 use Rattle.sun_core.proofs.estimates.estimate.Goals as goal
 
 pub returns-in-Ok : goal.returns-in-Ok

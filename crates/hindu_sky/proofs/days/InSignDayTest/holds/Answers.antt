@@ -1,5 +1,5 @@
 -- The count of tests is that of the formula.
-use Rattle.std.proofs.Common.{rules, arith, SFits, w64}
+use Rattle.std.proofs.Common.{SFits, w64}
 use Rattle.std.proofs.lemmas.Int.{to_z-of_z}
 use Rattle.book_model.specs.programs.Leading.{Exact}
 use Rattle.book_model.proofs.Counts.{counted_of_none}
