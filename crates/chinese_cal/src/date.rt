@@ -114,7 +114,7 @@ pub(crate) fn date_beside<O: Oracle>(
 /// winter solstice of its sui, whose month is the eleventh; in a sui with thirteen months the first without a major solar term
 /// is a leap month. Cycle and year follow from the mean years since the epoch. A day of the month that its type doesn't hold
 /// stands at the nearest end; the other fields always fit. It stops where the oracle stops, at one of the facts that the rules
-/// ask (Reingold and Dershowitz, Calendrical Calculations, chapter 19).
+/// ask, of which it asks none twice (Reingold and Dershowitz, Calendrical Calculations, chapter 19).
 ///
 /// ```
 /// let evaluator = Staged::new();

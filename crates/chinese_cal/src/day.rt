@@ -69,8 +69,8 @@ fn day_of_month(first: i64, day: u8) -> i64
 
 /// The day (R.D.) of a date: the first new moon 29 days for each month before it after the new year, or the one after that
 /// where the first is in another month, and the day of the month. The date needn't be one that the calendar has. It stops
-/// where the oracle stops, at one of the facts that the rules ask (Reingold and Dershowitz, Calendrical Calculations, chapter
-/// 19).
+/// where the oracle stops, at one of the facts that the rules ask, of which it asks none twice (Reingold and Dershowitz,
+/// Calendrical Calculations, chapter 19).
 ///
 /// ```
 /// let evaluator = Staged::new();
