@@ -3,6 +3,7 @@
 //! `write_result` writes what a line comes to.
 #![tactic(auto)]
 
+pub mod laws;
 mod line;
 mod lists;
 mod result;

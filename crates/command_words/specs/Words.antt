@@ -71,23 +71,36 @@ table name (Some year) None = year_command name year
 table name (Some count) (Some seed) = sample_command name count seed
 table name None (Some seed) = None
 
--- the word is the number 1
-abbrev pub is_one : List ℕ → Bool
-is_one word = is_some (between 1 1 (number_word word))
+-- the number of jobs that a word asks for, from 1 to 64
+abbrev pub jobs_in : List ℕ → Option ℕ
+jobs_in word = between 1 64 (number_word word)
 
--- what the values of COMMAND, --jobs, A and B tell, where that of --jobs is the number 1
+-- what the values of COMMAND, --jobs, A and B tell, where that of --jobs asks for a number of jobs
 abbrev pub told_by : Option (List ℕ) → Option (List ℕ) → Option (List ℕ) → Option (List ℕ) → Option Command
 told_by None value a b = None
 told_by (Some name) None a b = None
-told_by (Some name) (Some value) a b = if is_one value then table name a b else None
+told_by (Some name) (Some value) a b = if is_some (jobs_in value) then table name a b else None
 
 -- what the first values that clap's reading found tell
 abbrev pub told : List Row → Option Command
 told rows = told_by (first_of (codes "command") rows) (first_of (codes "jobs") rows) (first_of (codes "a") rows) (first_of (codes "b") rows)
 
+-- the jobs that the value of --jobs asks for
+abbrev pub jobs_told : Option (List ℕ) → Option ℕ
+jobs_told None = None
+jobs_told (Some value) = jobs_in value
+
+-- the jobs that the first value of --jobs that clap's reading found asks for
+abbrev pub told_jobs : List Row → Option ℕ
+told_jobs rows = jobs_told (first_of (codes "jobs") rows)
+
 -- what the words tell: words that clap accepts, by the table
 abbrev pub command_of : List (List ℕ) → Option Command
 command_of words = if is_accepted words then told (matches_of program words) else None
+
+-- how many jobs the words ask for, where clap accepts them
+abbrev pub jobs_of : List (List ℕ) → Option ℕ
+jobs_of words = if is_accepted words then told_jobs (matches_of program words) else None
 
 -- the numbers of a command are in their ranges
 abbrev pub IsInRange : Command → Type 0

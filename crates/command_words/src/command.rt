@@ -12,6 +12,13 @@ pub enum Command {
     Sample { count: u32, seed: u64 },
 }
 
+/// What the program is told to do, and by how many workers, from 1 to 64.
+#[derive(Clone, Copy, Debug, PartialEq, Eq)]
+pub struct Task {
+    pub command: Command,
+    pub jobs: usize,
+}
+
 /// Why words name no command: they aren't in the form, or memory ran out before they were read.
 #[derive(Clone, Copy, Debug, PartialEq, Eq)]
 pub enum NoCommand {

@@ -1,6 +1,6 @@
-//! What the program is told to do. `command_of` reads the program's words, which come without the program's own name,
+//! What the program is told to do. `task_of` reads the program's words, which come without the program's own name,
 //! by one simple command of clap's and a table: `convert`, `check`, `almanac YEAR` or `sample COUNT SEED`, each with an
-//! optional `--jobs 1`. Words that are in no such form are refused.
+//! optional `--jobs N`. Words that are in no such form are refused.
 #![tactic(auto)]
 
 mod command;
@@ -8,8 +8,8 @@ mod number;
 mod program;
 mod words;
 
-pub use command::{Command, NoCommand};
-pub use words::command_of;
+pub use command::{Command, NoCommand, Task};
+pub use words::task_of;
 
 #[cfg(test)]
 mod tests;

@@ -4,12 +4,12 @@ use std::alloc::Global;
 use std::test::Fail;
 
 /// What the parts of a line tell, as they stand between single spaces.
-fn told_by(alloc: Global, line: &str) -> Result<Result<Command, NoCommand>, Fail> {
+fn told_by(alloc: Global, line: &str) -> Result<Result<Task, NoCommand>, Fail> {
     let mut words = Vec::new(alloc);
     for part in line.split(' ') {
         words.push(String::from_str(alloc, part)?)?;
     }
-    Ok(command_of(alloc, words.as_slice()))
+    Ok(task_of(alloc, words.as_slice()))
 }
 
 #[test]
@@ -41,13 +41,30 @@ fn words_in_the_form_tell_a_command(rt: HostRuntime) -> Result<(), Fail> {
         ("convert --", Command::Convert),
         ("-- convert", Command::Convert),
     ] {
-        assert_eq!(rt; told_by(rt.alloc(), line)?, Ok(command), "{line}");
+        let task = Task { command, jobs: 1 };
+        assert_eq!(rt; told_by(rt.alloc(), line)?, Ok(task), "{line}");
+    }
+    Ok(())
+}
+
+#[test]
+fn words_in_the_form_tell_the_jobs(rt: HostRuntime) -> Result<(), Fail> {
+    for (words, jobs) in [
+        ("convert --jobs 2", 2usize),
+        ("convert --jobs=64", 64),
+        ("--jobs 008 convert", 8),
+    ] {
+        let task = Task {
+            command: Command::Convert,
+            jobs,
+        };
+        assert_eq!(rt; told_by(rt.alloc(), words)?, Ok(task), "{words}");
     }
     Ok(())
 }
 
 /// Words that name no command.
-const NO_FORMS: [&str; 46] = [
+const NO_FORMS: [&str; 49] = [
     "",
     "almanac",
     "almanac 2024x",
@@ -73,7 +90,10 @@ const NO_FORMS: [&str; 46] = [
     "convert ",
     "convert --jobs",
     "convert --jobs 0",
-    "convert --jobs 2",
+    "convert --jobs 65",
+    "convert --jobs 100",
+    "convert --jobs +2",
+    "convert --jobs 18446744073709551617",
     "convert --jobs x",
     "convert --jobs ",
     "convert --jobs=",
@@ -107,5 +127,5 @@ fn other_words_are_no_form(rt: HostRuntime) -> Result<(), Fail> {
 #[test]
 fn no_words_are_no_form(rt: HostRuntime) {
     let words: &[String] = &[];
-    assert_eq!(rt; command_of(rt.alloc(), words), Err(NoCommand::Form));
+    assert_eq!(rt; task_of(rt.alloc(), words), Err(NoCommand::Form));
 }

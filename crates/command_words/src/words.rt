@@ -1,9 +1,9 @@
 //! The reading of the program's words.
-ghost use Rattle.std.specs.Prelude.{◌≡◌, IfOk, IsErrOf, map, option_map, string_bytes, None, Some, true, false};
+ghost use Rattle.std.specs.Prelude.{◌≡◌, ◌≤◌, IfOk, IfSome, IsErrOf, map, option_map, string_bytes, None, Some, true, false};
 ghost use Rattle.clap.specs.Words.{found_of, kind_of, matches_of, rows_of};
 ghost use Rattle.command_words.specs.Words as spec;
 
-use crate::command::{Command, NoCommand};
+use crate::command::{Command, NoCommand, Task};
 use crate::number::number_between;
 use crate::program::program;
 use clap::error::ErrorKind;
@@ -60,28 +60,40 @@ fn table(name: &str, first: Option<&str>, second: Option<&str>) -> Option<Comman
     }
 }
 
+/// How many jobs a word asks for, from 1 to 64.
+fn jobs_in(word: &str) -> Option<usize>
+    ensures jobs { result ≡ spec.jobs_in word.now }
+    ensures range { IfSome result (λ n. (1 ≤ n) × (n ≤ 64)) }
+{
+    let jobs = number_between(word, 1, 64)?;
+    Some(jobs as usize)
+}
+
 /// What the values of the arguments tell.
 fn told_by(
     name: Option<&str>,
     jobs: Option<&str>,
     first: Option<&str>,
     second: Option<&str>,
-) -> Option<Command>
-    ensures command { result ≡ spec.told_by (option_map (λ s. s.now) name.entry)
+) -> Option<Task>
+    ensures command { option_map (λ t. t.command) result
+        ≡ spec.told_by (option_map (λ s. s.now) name.entry)
         (option_map (λ s. s.now) jobs.entry) (option_map (λ s. s.now) first.entry)
         (option_map (λ s. s.now) second.entry) }
+    ensures jobs { IfSome result (λ t. spec.jobs_told (option_map (λ s. s.now) jobs.entry) ≡ Some t.jobs) }
+    ensures range { IfSome result (λ t. (1 ≤ t.jobs) × (t.jobs ≤ 64)) }
 {
     let name = name?;
-    let jobs = jobs?;
-    if number_between(jobs, 1, 1).is_none() {
-        return None;
-    }
-    table(name, first, second)
+    let jobs = jobs_in(jobs?)?;
+    let command = table(name, first, second)?;
+    Some(Task { command, jobs })
 }
 
 /// What clap's reading of the words tells.
-fn told(matches: &ArgMatches) -> Option<Command>
-    ensures command { result ≡ spec.told (rows_of (found_of matches.now)) }
+fn told(matches: &ArgMatches) -> Option<Task>
+    ensures command { option_map (λ t. t.command) result ≡ spec.told (rows_of (found_of matches.now)) }
+    ensures jobs { IfSome result (λ t. spec.told_jobs (rows_of (found_of matches.now)) ≡ Some t.jobs) }
+    ensures range { IfSome result (λ t. (1 ≤ t.jobs) × (t.jobs ≤ 64)) }
 {
     let name = matches.get_str("command");
     let jobs = matches.get_str("jobs");
@@ -117,15 +129,18 @@ fn matches_in<'a>(alloc: Global, words: &'a [String]) -> Result<ArgMatches<'a>, 
     }
 }
 
-/// The command that the words name: `convert`, `check`, `almanac YEAR` or `sample COUNT SEED`, with `--jobs 1` or without
-/// it. The words come without the program's own name.
+/// What the words tell: the command that they name, `convert`, `check`, `almanac YEAR` or `sample COUNT SEED`, and the jobs of
+/// `--jobs N`, 1 to 64, which are 1 where the option isn't given. The words come without the program's own name.
 ///
 /// `Form` comes where the words name no command, and `Memory` where memory ran out before they were read.
-pub fn command_of(alloc: Global, words: &[String]) -> Result<Command, NoCommand>
-    ensures command { IfOk result (λ c. spec.command_of (map string_bytes words.now) ≡ Some c) }
+pub fn task_of(alloc: Global, words: &[String]) -> Result<Task, NoCommand>
+    ensures command { IfOk result (λ t. spec.command_of (map string_bytes words.now) ≡ Some t.command) }
+    ensures jobs { IfOk result (λ t. spec.jobs_of (map string_bytes words.now) ≡ Some t.jobs) }
     ensures form { IsErrOf result NoCommand.Form → spec.command_of
         (map string_bytes words.now) ≡ None }
-    ensures ranges { IfOk result spec.IsInRange }
+    ensures ranges { IfOk result (λ t. spec.IsInRange t.command) }
+    ensures some { IfOk result (λ t. 1 ≤ t.jobs) }
+    ensures few { IfOk result (λ t. t.jobs ≤ 64) }
 {
     let matches = matches_in(alloc, words)?;
     told(&matches).ok_or(NoCommand::Form)

@@ -1,9 +1,11 @@
 -- Verdicts, one further.
-use Rattle.std.proofs.Common.{◌≡◌, ◌⊎◌, inl, inr, ℕ, ◌+◌, ◌<◌, ◌≤◌, Bool, List, [], ◌∷◌, ◌++◌, length, drop, get_or, map, append_assoc, append-nil, refl, arith}
+use Rattle.std.proofs.Common.{◌≡◌, ◌⊎◌, inl, inr, ℕ, ℤ, ◌+◌, ◌<◌, ◌≤◌, Bool, List, [], ◌∷◌, ◌++◌, length, drop, get_or, map, append_assoc, append-nil, refl, arith}
 use Rattle.std.proofs.lemmas.Grind.{common_steps}
 use Rattle.std.proofs.lemmas.List.{drop_more}
 use Rattle.std.specs.Prelude.{Err, IsErrOf}
-use Rattle.std.specs.List.{list_all}
+use Rattle.std.specs.List.{list_all, AllZip}
+use Rattle.book_model.specs.declared.fact.Fact.{Fact}
+use Rattle.oracle_core.specs.Answers.{IsRightAnswer}
 use Rattle.std.specs.declared.option.Option.{Option}
 use Rattle.std.specs.Io.KnownBytes.{Appends, Keeps}
 use Rattle.oracle_core.specs.declared.evaluator.Answer.{Answer}
@@ -54,6 +56,13 @@ pub verdicts_end : (a b : Option (List ℕ)) (t w : List ℕ) (i : ℕ) (vs : Li
 verdicts_end a b t w i vs counts h old =
     let over : drop i vs ≡ [] = grind (arith, common_steps) in
     rw over at old
+
+-- answers that are right for the facts of pairs, in order
+pub right_answers : (es : List (Fact × ℤ)) (answers : List Answer) → AllZip IsRightAnswer (map (λ pair. pair.0) es) answers → AreRightAnswers es answers
+right_answers [] [] h = tt
+right_answers [] (a ∷ rest) h = absurd h
+right_answers (e ∷ es) [] h = absurd h
+right_answers (e ∷ es) (a ∷ rest) h = (h.0, right_answers es rest h.1)
 
 -- the verdicts of the lines of a file are written, and what a line with a yes shows is certified
 pub checks_file : (old new : Option (List ℕ)) (f : CertFile) (answers : List Answer) (all : Bool) → IsCheckable f → AreRightAnswers f.facts answers → Appends old new (verdicts_text (verdicts_of f answers))

@@ -1,9 +1,9 @@
 pub mod TextLemmas
 pub mod BlockLemmas
 pub mod RightLemmas
-pub mod AnswerLemmas
 pub mod DecidedLemmas
-pub mod OneText
+pub mod Counting
+pub mod OneSample
 pub mod SampleRefusals
 pub mod PrintedLemmas
 pub mod SampleLemmas

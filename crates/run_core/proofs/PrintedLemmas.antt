@@ -5,8 +5,8 @@ use Rattle.std.specs.declared.option.Option.{Option}
 use Rattle.std.specs.Io.KnownBytes.{Appends}
 use Rattle.book_model.specs.lines.Outcomes.{AreRight, is_result}
 use Rattle.book_model.specs.lines.Text.{text}
-use Rattle.run_core.specs.declared.outcome.Outcome.{Outcome}
-use Rattle.run_core.specs.Outcomes.{line_outcome}
+use Rattle.jobs_core.specs.declared.outcome.Outcome.{Outcome}
+use Rattle.jobs_core.specs.Outcomes.{line_outcome}
 use Rattle.run_core.specs.Run.{Printed}
 use Rattle.run_core.proofs.RightLemmas.{all_results}
 

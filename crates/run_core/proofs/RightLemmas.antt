@@ -9,9 +9,9 @@ use Rattle.book_model.specs.declared.request.Rule.TheVariants.{Syntax}
 use Rattle.book_model.specs.lines.Lines.{words_of}
 use Rattle.book_model.specs.lines.Requests.{asked_by, request_of}
 use Rattle.book_model.specs.lines.Outcomes.{LineOutcome, IsRightFor, AreRight, HasResult, is_result}
-use Rattle.run_core.specs.declared.outcome.Outcome.{Outcome}
-use Rattle.run_core.specs.declared.outcome.Outcome.TheVariants.{Found}
-use Rattle.run_core.specs.Outcomes.{line_outcome}
+use Rattle.jobs_core.specs.declared.outcome.Outcome.{Outcome}
+use Rattle.jobs_core.specs.declared.outcome.Outcome.TheVariants.{Found}
+use Rattle.jobs_core.specs.Outcomes.{line_outcome}
 
 -- there are as many outcomes as lines
 pub right_length : (lines : List (List ℕ)) (os : List LineOutcome) → AreRight lines os → length lines ≡ length os

@@ -8,8 +8,8 @@ use Rattle.std.specs.declared.option.Option.{Option}
 use Rattle.book_model.specs.declared.fact.Fact.{Fact}
 use Rattle.book_model.specs.lines.Outcomes.{LineOutcome}
 use Rattle.book_model.specs.lines.Text.{block_text, seen_after, text_from, end_text}
-use Rattle.run_core.specs.declared.outcome.Outcome.{Outcome}
-use Rattle.run_core.specs.Outcomes.{line_outcome}
+use Rattle.jobs_core.specs.declared.outcome.Outcome.{Outcome}
+use Rattle.jobs_core.specs.Outcomes.{line_outcome}
 use Rattle.byte_streams.specs.Stream.{Wrote, AppendsFront}
 use Rattle.byte_streams.proofs.Flow.{buffered_on, buffered_front, wrote_flushed, front_then}
 

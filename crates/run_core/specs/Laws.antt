@@ -7,7 +7,8 @@ use Rattle.book_model.specs.declared.site.Site.{Site}
 use Rattle.book_model.specs.sky.Facts.{IsNear, IsVoidAt}
 use Rattle.book_model.specs.lines.Outcomes.{LineOutcome, refused, IsRightFor, AreRight, AsksAlways, is_resolved}
 use Rattle.book_model.specs.lines.Requests.{request_of}
-use Rattle.run_core.specs.Sampling.{is_undecided, is_refused}
+use Rattle.cert_text.specs.Laws.{HasNoneUndecided}
+use Rattle.run_core.specs.Sampling.{is_refused, sample_text}
 use Rattle.almanac_lines.specs.Texts.{sample_lines}
 
 -- no fact that the line asks is near at a test or void
@@ -26,9 +27,9 @@ pub record IsRefusal (line : List ℕ) (o : LineOutcome) : Type 0 where
 abbrev pub HasResultOrRule : List ℕ → Type 0
 HasResultOrRule line = IsDecided line → (o : LineOutcome) → IsRightFor line o → (is_resolved o ≡ true) ⊎ IsRefusal line o
 
--- outcomes that are right for lines, none of them undecided, are settled by the lines
-abbrev pub HasOneText : List (List ℕ) → Type 0
-HasOneText lines = (os ps : List LineOutcome) → AreRight lines os → AreRight lines ps → length (filter is_undecided os) ≡ 0 → length (filter is_undecided ps) ≡ 0 → os ≡ ps
+-- two lines of counts of a sample, none of whose lines is undecided, are equal
+abbrev pub HasOneCount : (count seed : ℕ) → Type 0
+HasOneCount count seed = (os ps : List LineOutcome) → AreRight (sample_lines count seed) os → AreRight (sample_lines count seed) ps → HasNoneUndecided os → HasNoneUndecided ps → sample_text count seed os ≡ sample_text count seed ps
 
 -- no line of a sample is refused, by itself or by computing
 abbrev pub HasNoRefusal : (count seed : ℕ) → Type 0

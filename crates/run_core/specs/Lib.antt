@@ -1,4 +1,3 @@
-pub mod Outcomes
 pub mod Run
 pub mod Laws
 pub mod Numbering

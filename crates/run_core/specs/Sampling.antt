@@ -8,13 +8,9 @@ use Rattle.book_model.specs.declared.fact.Fact.{Fact}
 use Rattle.book_model.specs.lines.Outcomes.{LineOutcome, refused, resolved, undecided, void, AreRight, is_shown, is_result}
 use Rattle.book_model.specs.lines.Text.{seen_after}
 use Rattle.byte_streams.specs.Stream.{AppendsFront}
-
--- whether a fact of the line is undecided
-abbrev pub is_undecided : LineOutcome → Bool
-is_undecided (refused rule) = false
-is_undecided (resolved x facts) = false
-is_undecided (undecided f u) = true
-is_undecided (void f s) = false
+use Rattle.cert_text.specs.Laws.{is_undecided}
+use Rattle.run_core.specs.declared.sampling.Kind.{Kind}
+use Rattle.run_core.specs.declared.sampling.Kind.TheVariants.{Decided, Undecided, Void, Refused}
 
 -- whether a fact of the line is void
 abbrev pub is_void : LineOutcome → Bool
@@ -29,6 +25,13 @@ is_refused (refused rule) = true
 is_refused (resolved x facts) = not (is_shown x)
 is_refused (undecided f u) = false
 is_refused (void f s) = false
+
+-- whether what a line comes to is of the kind
+abbrev pub is_of : Kind → LineOutcome → Bool
+is_of Decided = is_result
+is_of Undecided = is_undecided
+is_of Void = is_void
+is_of Refused = is_refused
 
 -- the facts printed after these lines
 abbrev pub seen_after_all : List Fact → List LineOutcome → List Fact

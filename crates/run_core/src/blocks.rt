@@ -4,13 +4,13 @@ ghost use Rattle.book_model.specs.lines.Lines.{words_of};
 ghost use Rattle.book_model.specs.lines.Outcomes.{IsRightFor, resolved as resolved_outcome};
 ghost use Rattle.book_model.specs.lines.Text as model;
 ghost use Rattle.cert_text.specs.Text as cert;
-ghost use Rattle.run_core.specs.Outcomes.{line_outcome};
+ghost use Rattle.jobs_core.specs.Outcomes.{line_outcome};
 
 use crate::numbering::{count_of, number_after, number_facts};
-use crate::outcome::Outcome;
 use book_model::{Fact, Resolved};
 use cert_text::{Block, CertLine, Echo, Numbers, date_word, result_word};
 use indexmap::IndexSet;
+use jobs_core::Outcome;
 use line_core::three_words;
 use oracle_core::FactValues;
 use std::alloc::{AllocError, Global};

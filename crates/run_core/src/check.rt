@@ -1,5 +1,5 @@
 //! Checks a printed file: a verdict for each of its lines, and how many there are of each kind.
-ghost use Rattle.std.specs.Prelude.{◌≡◌, ◌≤◌, ◌<◌, ◌+◌, ◌++◌, ◌⊎◌, [], length, filter, OnOk, IfOk, IsErrOf};
+ghost use Rattle.std.specs.Prelude.{◌≡◌, ◌≤◌, ◌<◌, ◌+◌, ◌++◌, ◌⊎◌, [], length, map, filter, OnOk, IfOk, IsErrOf};
 ghost use Rattle.std.specs.List.{list_all};
 ghost use Rattle.std.specs.Io.KnownBytes.{Keeps};
 ghost use Rattle.cert_check.specs.Verdicts.{AreRightAnswers, IsCheckable};
@@ -10,12 +10,15 @@ ghost use Rattle.run_core.specs.Checking as spec;
 use crate::numbering::{count_of, number_after};
 use crate::pending::{MANY, settle};
 use crate::text::WriteStop;
+use book_model::Fact;
 use byte_streams::{Failed, Gathered, Sink, write_two_counts};
-use cert_check::{Verdict, check_facts, check_line, write_counts, write_verdict};
+use cert_check::{Verdict, check_line, write_counts, write_verdict};
 use cert_read::{CertFile, ReadFail, read_file};
+use jobs_core::{Gate, map_facts};
 use oracle_core::{Answers, Evaluator};
-use shelf_core::{Shelf, Shelved};
+use shelf_core::Shelf;
 use std::alloc::{AllocError, Global};
+use std::thread::Threads;
 
 /// What comes of checking bytes: every verdict is yes, or one isn't, or the bytes aren't a printed file.
 #[derive(Clone, Copy, Debug, PartialEq, Eq)]
@@ -66,6 +69,35 @@ fn counts_of(verdicts: &[Verdict]) -> Counts
         }
     }
     counts
+}
+
+/// The facts of pairs, in order. The error comes where memory runs out.
+fn facts_among(alloc: Global, pairs: &[(Fact, i64)]) -> Result<Vec<Fact>, AllocError>
+    ensures facts { IfOk result (λ facts. facts.items ≡ map (λ pair. pair.0) pairs.now) }
+{
+    let mut facts = Vec::with_capacity(alloc, pairs.len())?;
+    for pair in pairs {
+        facts.push(pair.0)?;
+    }
+    Ok(facts)
+}
+
+/// An answer for each fact of a file, in order, computed by so many jobs. The error comes where memory runs out.
+fn answers_of<R: Threads + Sync, E: Evaluator + Sync, G: Gate + Sync>(
+    rt: &R,
+    alloc: Global,
+    file: &CertFile,
+    shelf: &Shelf,
+    evaluator: &E,
+    jobs: usize,
+    gate: &G,
+) -> Result<Answers, AllocError>
+    requires some { 1 ≤ jobs }
+    requires few { jobs ≤ 64 }
+    ensures right { IfOk result (λ answers. AreRightAnswers file.now.facts answers) }
+{
+    let facts = facts_among(alloc, file.facts.entries())?;
+    map_facts(rt, alloc, &facts, shelf, evaluator, jobs, gate)
 }
 
 /// The verdicts of the lines of a file, in order. The error comes where memory runs out.
@@ -168,12 +200,17 @@ fn write_bad<K: Sink>(sink: &mut K, line: u32, rule: u8) -> Result<(), Failed>
 }
 
 /// Writes the verdicts of the lines of a file, and says whether all are yes.
-fn check_file<K: Sink, E: Evaluator>(
+fn check_file<R: Threads + Sync, K: Sink, E: Evaluator + Sync, G: Gate + Sync>(
+    rt: &R,
     alloc: Global,
     sink: &mut K,
     evaluator: &E,
     file: &CertFile,
+    jobs: usize,
+    gate: &G,
 ) -> Result<bool, WriteStop>
+    requires some { 1 ≤ jobs }
+    requires few { jobs ≤ 64 }
     requires checkable { IsCheckable file.now }
     ensures ok { IfOk result (λ all. spec.ChecksFile (K.written sink.old)
         (K.written sink.new) file.now all) }
@@ -186,7 +223,7 @@ fn check_file<K: Sink, E: Evaluator>(
     ensures later { K.faults sink.old ≤ K.faults sink.new }
 {
     let shelf = Shelf::open(alloc)?;
-    let answers = check_facts(alloc, file, &Shelved::new(alloc, &shelf, evaluator))?;
+    let answers = answers_of(rt, alloc, file, &shelf, evaluator, jobs, gate)?;
     let verdicts = verdicts_of(alloc, file, &answers)?;
     write_verdicts(alloc, sink, &verdicts)?;
     Ok(all_yes(&verdicts))
@@ -195,12 +232,17 @@ fn check_file<K: Sink, E: Evaluator>(
 #[tactic(auto, using(cert_check::proofs::FilesRead::read_checkable))]
 /// Checks bytes, whoever made them: writes the verdicts of the lines of a printed file, or the line that says why they
 /// are none.
-pub(crate) fn check<K: Sink, E: Evaluator>(
+pub(crate) fn check<R: Threads + Sync, K: Sink, E: Evaluator + Sync, G: Gate + Sync>(
+    rt: &R,
     alloc: Global,
     sink: &mut K,
     evaluator: &E,
     input: &[u8],
+    jobs: usize,
+    gate: &G,
 ) -> Result<Checked, WriteStop>
+    requires some { 1 ≤ jobs }
+    requires few { jobs ≤ 64 }
     requires short { length input.now ≤ longest_file }
     ensures ok { IfOk result (λ c. spec.Comes (K.written sink.old) (K.written sink.new) input.now c) }
     ensures fault { IsErrOf result WriteStop.Fault → spec.CheckCutShort (K.written sink.old)
@@ -212,7 +254,7 @@ pub(crate) fn check<K: Sink, E: Evaluator>(
     ensures later { K.faults sink.old ≤ K.faults sink.new }
 {
     match read_file(alloc, input) {
-        Ok(file) => match check_file(alloc, sink, evaluator, &file) {
+        Ok(file) => match check_file(rt, alloc, sink, evaluator, &file, jobs, gate) {
             Ok(true) => Ok(Checked::AllYes),
             Ok(false) => Ok(Checked::NotAll),
             Err(stop) => Err(stop),

@@ -1,81 +1,30 @@
 //! What comes of each line.
-ghost use Rattle.std.specs.Prelude.{◌≡◌, ℕ, List, map, IsTrue, IfOk, OnErr};
-ghost use Rattle.book_model.specs.lines.Outcomes.{IsRightFor, AreRight};
-ghost use Rattle.book_model.specs.lines.Requests.{is_possible, is_in_reach};
-ghost use Rattle.run_core.specs.Outcomes.{line_outcome, IsRightOf, ComesOfStop, HasNoOutcome};
+ghost use Rattle.std.specs.Prelude.{◌≤◌, map, IfOk};
+ghost use Rattle.book_model.specs.lines.Outcomes.{AreRight};
+ghost use Rattle.jobs_core.specs.Outcomes.{line_outcome};
 
-use book_model::{Fact, Request, Resolved, Rule, Site, Undecided};
-use line_core::{read_line, resolve};
-use oracle_core::{Asking, Evaluator, FactValues, Stop};
+use jobs_core::{Gate, Outcomes, map_lines, rows_of};
+use oracle_core::Evaluator;
+use shelf_core::Shelf;
 use std::alloc::{AllocError, Global};
+use std::thread::Threads;
 
-/// What comes of a line: it breaks a rule; it has a result, which rests on facts with their values; or a fact that
-/// it asks is undecided or void.
-#[derive(Drop)]
-pub enum Outcome {
-    Refused(Rule),
-    Found(Resolved, FactValues),
-    Undecided(Fact, Undecided),
-    Void(Fact, Site),
-}
-
-/// What comes of a line whose facts are asked up to this stop of an oracle over an evaluator. The error comes where
-/// memory ran out, and at a missing fact, of which such an oracle has none.
-fn outcome_at(stop: Stop) -> Result<Outcome, AllocError>
-    ensures stopped { IfOk result (λ outcome. ComesOfStop stop (line_outcome outcome)) }
-    ensures error { OnErr result (HasNoOutcome stop) }
-{
-    match stop {
-        Stop::Undecided(fact, at) => Ok(Outcome::Undecided(fact, at)),
-        Stop::Void(fact, site) => Ok(Outcome::Void(fact, site)),
-        Stop::Missing(_) | Stop::Memory => Err(AllocError),
-    }
-}
-
-/// What comes of a request that breaks no rule by itself. The error comes where memory runs out.
-fn outcome_of_request<E: Evaluator>(
+/// What comes of each line, in order, computed by so many jobs. What the lines ask is dropped at the end, before anything is
+/// written. The error comes where memory runs out.
+pub fn outcomes_of<R: Threads + Sync, E: Evaluator + Sync, G: Gate + Sync>(
+    rt: &R,
     alloc: Global,
-    evaluator: &E,
-    request: &Request,
-) -> Result<Outcome, AllocError>
-    requires possible { IsTrue (is_possible request.now) }
-    requires in_reach { IsTrue (is_in_reach request.now) }
-    ensures right { IfOk result (λ outcome. IsRightOf request.now (line_outcome outcome)) }
-{
-    let mut asking = Asking::new(alloc, evaluator);
-    match resolve(&mut asking, request) {
-        Ok(resolved) => Ok(Outcome::Found(resolved, asking.finish())),
-        Err(stop) => outcome_at(stop),
-    }
-}
-
-/// What comes of one line, by the answers of the evaluator for the facts that it asks. The error comes where memory
-/// runs out.
-pub fn outcome_of<E: Evaluator>(
-    alloc: Global,
-    evaluator: &E,
-    line: &[u8],
-) -> Result<Outcome, AllocError>
-    ensures right { IfOk result (λ outcome. IsRightFor line.now (line_outcome outcome)) }
-{
-    match read_line(line) {
-        Ok(request) => outcome_of_request(alloc, evaluator, &request),
-        Err(rule) => Ok(Outcome::Refused(rule)),
-    }
-}
-
-/// What comes of each line, in order. The error comes where memory runs out.
-pub fn outcomes_of<E: Evaluator>(
-    alloc: Global,
-    evaluator: &E,
     lines: &[&[u8]],
-) -> Result<Vec<Outcome>, AllocError>
+    shelf: &Shelf,
+    evaluator: &E,
+    jobs: usize,
+    gate: &G,
+) -> Result<Outcomes, AllocError>
+    requires some { 1 ≤ jobs }
+    requires few { jobs ≤ 64 }
     ensures { IfOk result (λ outcomes. AreRight (map (λ line. line.now) lines.now)
         (map line_outcome outcomes.items)) }
 {
-    let mut outcomes = Vec::new(alloc);
-    for line in lines {
-        outcomes.push(outcome_of(alloc, evaluator, *line)?)?;
-    }
-    Ok(outcomes)
+    let rows = rows_of(alloc, lines)?;
+    map_lines(rt, alloc, &rows, shelf, evaluator, jobs, gate)
 }

@@ -6,22 +6,24 @@ ghost use Rattle.almanac_lines.specs.Texts as texts;
 ghost use Rattle.book_model.specs.lines.Lines.{lines_of};
 ghost use Rattle.book_model.specs.lines.Outcomes.{is_result};
 ghost use Rattle.byte_streams.specs.Stream.{Rose};
-ghost use Rattle.run_core.specs.Outcomes.{line_outcome};
+ghost use Rattle.jobs_core.specs.Outcomes.{line_outcome};
 ghost use Rattle.run_core.specs.Run.{Printed, CutShort};
 
-use crate::outcome::{Outcome, outcomes_of};
+use crate::outcome::outcomes_of;
 use crate::text::{WriteStop, write_text};
 use almanac_lines::almanac_lines;
 use book_model::Resolved;
 use byte_streams::Sink;
 use cert_text::Word;
+use jobs_core::{Gate, Outcome};
 use line_core::split_lines;
 use oracle_core::Evaluator;
-use shelf_core::{Shelf, Shelved};
+use shelf_core::Shelf;
 use std::alloc::{AllocError, Global};
+use std::thread::Threads;
 
 /// Whether an outcome is a result.
-fn is_found(outcome: &Outcome) -> bool
+pub(crate) fn is_found(outcome: &Outcome) -> bool
     ensures { result ≡ is_result (line_outcome outcome.now) }
 {
     matches!(outcome, Outcome::Found(Resolved::Shown(_, _), _))
@@ -45,13 +47,19 @@ pub(crate) fn bytes_of(alloc: Global, lines: &[Word]) -> Result<Vec<&[u8]>, Allo
     Ok(bytes)
 }
 
-/// Writes the text of lines, whose facts are evaluated once each, and says whether all have results.
-fn print_lines<K: Sink, E: Evaluator>(
+/// Writes the text of lines, whose outcomes so many jobs compute, and says whether all have results. Each fact is evaluated
+/// once, or a few times where threads ask it at the same time.
+fn print_lines<R: Threads + Sync, K: Sink, E: Evaluator + Sync, G: Gate + Sync>(
+    rt: &R,
     alloc: Global,
     sink: &mut K,
     evaluator: &E,
     lines: &[&[u8]],
+    jobs: usize,
+    gate: &G,
 ) -> Result<bool, WriteStop>
+    requires some { 1 ≤ jobs }
+    requires few { jobs ≤ 64 }
     ensures ok { IfOk result (λ all. Printed (K.written sink.old) (K.written sink.new)
         (map (λ line. line.now) lines.now) all) }
     ensures fault { IsErrOf result WriteStop.Fault → CutShort (K.written sink.old)
@@ -63,18 +71,23 @@ fn print_lines<K: Sink, E: Evaluator>(
     ensures later { K.faults sink.old ≤ K.faults sink.new }
 {
     let shelf = Shelf::open(alloc)?;
-    let outcomes = outcomes_of(alloc, &Shelved::new(alloc, &shelf, evaluator), lines)?;
+    let outcomes = outcomes_of(rt, alloc, lines, &shelf, evaluator, jobs, gate)?;
     write_text(alloc, sink, lines, &outcomes)?;
     Ok(all_found(&outcomes))
 }
 
 /// Writes the text of the lines of an input, and says whether all have results.
-pub(crate) fn convert<K: Sink, E: Evaluator>(
+pub(crate) fn convert<R: Threads + Sync, K: Sink, E: Evaluator + Sync, G: Gate + Sync>(
+    rt: &R,
     alloc: Global,
     sink: &mut K,
     evaluator: &E,
     input: &[u8],
+    jobs: usize,
+    gate: &G,
 ) -> Result<bool, WriteStop>
+    requires some { 1 ≤ jobs }
+    requires few { jobs ≤ 64 }
     ensures ok { IfOk result (λ all. Printed (K.written sink.old) (K.written sink.new)
         (lines_of input.now) all) }
     ensures fault { IsErrOf result WriteStop.Fault → CutShort (K.written sink.old)
@@ -86,16 +99,21 @@ pub(crate) fn convert<K: Sink, E: Evaluator>(
     ensures later { K.faults sink.old ≤ K.faults sink.new }
 {
     let lines = split_lines(alloc, input)?;
-    print_lines(alloc, sink, evaluator, &lines)
+    print_lines(rt, alloc, sink, evaluator, &lines, jobs, gate)
 }
 
 /// Writes the text of the lines of the almanac of a year, and says whether all have results.
-pub(crate) fn almanac<K: Sink, E: Evaluator>(
+pub(crate) fn almanac<R: Threads + Sync, K: Sink, E: Evaluator + Sync, G: Gate + Sync>(
+    rt: &R,
     alloc: Global,
     sink: &mut K,
     evaluator: &E,
     year: u32,
+    jobs: usize,
+    gate: &G,
 ) -> Result<bool, WriteStop>
+    requires some { 1 ≤ jobs }
+    requires few { jobs ≤ 64 }
     requires from { 1803 ≤ year }
     requires to { year ≤ 2047 }
     ensures ok { IfOk result (λ all. Printed (K.written sink.old) (K.written sink.new)
@@ -110,5 +128,5 @@ pub(crate) fn almanac<K: Sink, E: Evaluator>(
 {
     let words = almanac_lines(alloc, year)?;
     let lines = bytes_of(alloc, &words)?;
-    print_lines(alloc, sink, evaluator, &lines)
+    print_lines(rt, alloc, sink, evaluator, &lines, jobs, gate)
 }

@@ -8,14 +8,14 @@ ghost use Rattle.run_core.specs.Run.{usage, Finishes, IsCut, IsOfWork, HasRead, 
 ghost use Rattle.byte_streams.specs.Stream.{Rose, HasCause, AppendsFront};
 
 use crate::check::{Checked, check};
-use crate::gate::Gate;
 use crate::limits::input_limit;
 use crate::printing::{almanac, convert};
 use crate::sampling::sample;
 use crate::status::Status;
 use crate::text::WriteStop;
 use byte_streams::{ReadStop, Sink, Source, read_all, write_all};
-use command_words::{Command, NoCommand, command_of};
+use command_words::{Command, NoCommand, task_of};
+use jobs_core::Gate;
 use oracle_core::Evaluator;
 use std::alloc::Global;
 use std::thread::Threads;
@@ -64,13 +64,18 @@ fn read_input<S: Source>(
 }
 
 /// Does what a command says with an input that was read whole.
-fn perform<K: Sink, E: Evaluator>(
+fn perform<R: Threads + Sync, K: Sink, E: Evaluator + Sync, G: Gate + Sync>(
+    rt: &R,
     alloc: Global,
     command: Command,
     sink: &mut K,
     evaluator: &E,
     input: &[u8],
+    jobs: usize,
+    gate: &G,
 ) -> Status
+    requires some { 1 ≤ jobs }
+    requires few { jobs ≤ 64 }
     requires short { length input.now ≤ limit_of command }
     requires ranges { IsInRange command }
     ensures done { result ≡ Status.Done → Finishes command (K.written sink.old)
@@ -89,10 +94,14 @@ fn perform<K: Sink, E: Evaluator>(
     ensures work { IsOfWork result }
 {
     match command {
-        Command::Convert => status_of(convert(alloc, sink, evaluator, input)),
-        Command::Almanac { year } => status_of(almanac(alloc, sink, evaluator, year)),
-        Command::Sample { count, seed } => status_of(sample(alloc, sink, evaluator, count, seed)),
-        Command::Check => match check(alloc, sink, evaluator, input) {
+        Command::Convert => status_of(convert(rt, alloc, sink, evaluator, input, jobs, gate)),
+        Command::Almanac { year } => status_of(almanac(
+            rt, alloc, sink, evaluator, year, jobs, gate,
+        )),
+        Command::Sample { count, seed } => status_of(sample(
+            rt, alloc, sink, evaluator, count, seed, jobs, gate,
+        )),
+        Command::Check => match check(rt, alloc, sink, evaluator, input, jobs, gate) {
             Ok(Checked::AllYes) => Status::Done,
             Ok(Checked::NotAll) => Status::Mixed,
             Ok(Checked::BadText) => Status::BadText,
@@ -126,8 +135,12 @@ fn refuse_words<K: Sink>(sink: &mut K) -> Status
 /// `Done` says that each line has a result, or that each verdict is yes, `Mixed` that some line or verdict isn't so,
 /// `Words` that the words are in no form and the usage line is written, `ReadFault` and `WriteFault` that a read or a
 /// write failed, `Memory` that memory ran out, `TooLarge` that the input has more bytes than the limit (4,194,304, or
-/// 268,435,456 under `check`), and `BadText` that the bytes to check aren't in the grammar, and a line says why. The
-/// handle of threads and the gate aren't used yet.
+/// 268,435,456 under `check`), and `BadText` that the bytes to check aren't in the grammar, and a line says why.
+///
+/// What lines, or the facts of a printed file, come to is computed in as many pieces as the words give by `--jobs`, 1 to 64, or
+/// in one. Each piece is worked in a thread of its own where one can be had, and `gate` is told as it begins; verdicts,
+/// text and writing are the work of one thread. The contract holds under every schedule: `run` starts its threads itself, and
+/// each clause speaks of whatever it returns, and names neither an order of threads nor the number of jobs.
 pub fn run<R: Threads + Sync, S: Source, K: Sink, E: Evaluator + Sync, G: Gate + Sync>(
     rt: &R,
     alloc: Global,
@@ -201,16 +214,17 @@ pub fn run<R: Threads + Sync, S: Source, K: Sink, E: Evaluator + Sync, G: Gate +
         → (result ≡ Status.Done) ⊎ (result ≡ Status.Mixed) ⊎ (result ≡ Status.BadText)
         ⊎ (result ≡ Status.Memory) }
 {
-    let command = match command_of(alloc, words) {
-        Ok(command) => command,
+    let task = match task_of(alloc, words) {
+        Ok(task) => task,
         Err(NoCommand::Form) => return refuse_words(sink),
         Err(NoCommand::Memory) => return Status::Memory,
     };
+    let command = task.command;
     let input = match read_input(alloc, command, source) {
         Ok(input) => input,
         Err(ReadStop::Fault) => return Status::ReadFault,
         Err(ReadStop::Memory) => return Status::Memory,
         Err(ReadStop::TooLarge) => return Status::TooLarge,
     };
-    perform(alloc, command, sink, evaluator, &input)
+    perform(rt, alloc, command, sink, evaluator, &input, task.jobs, gate)
 }

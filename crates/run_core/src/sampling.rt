@@ -1,23 +1,76 @@
 //! Writes what the lines of a sample come to, in one line of counts.
-ghost use Rattle.std.specs.Prelude.{◌≡◌, ◌≤◌, ◌⊎◌, [], length, map, filter, IfOk, OnOk, IsErrOf};
+ghost use Rattle.std.specs.Prelude.{◌≡◌, ◌≤◌, ◌<◌, ◌^◌, ◌⊎◌, if◌then◌else◌, [], length, map, filter, IfOk, OnOk, IsErrOf};
 ghost use Rattle.std.specs.Io.KnownBytes.{Keeps};
 ghost use Rattle.book_model.specs.lines.Outcomes.{is_result};
 ghost use Rattle.book_model.specs.lines.Text.{with_fact, with_facts, seen_after};
 ghost use Rattle.byte_streams.specs.Stream.{HasCause, Rose, Writes, WritesFront};
-ghost use Rattle.run_core.specs.Outcomes.{line_outcome};
+ghost use Rattle.cert_text.specs.Laws.{is_undecided};
+ghost use Rattle.jobs_core.specs.Outcomes.{line_outcome};
 ghost use Rattle.run_core.specs.Sampling as spec;
 
-use crate::outcome::{Outcome, outcomes_of};
-use crate::printing::{all_found, bytes_of};
+use crate::outcome::outcomes_of;
+use crate::printing::{all_found, bytes_of, is_found};
 use crate::text::WriteStop;
 use almanac_lines::sample_lines;
 use book_model::{Fact, Resolved};
 use byte_streams::{Failed, Gathered, Sink, decimal, write_all, write_parts};
 use indexmap::IndexSet;
 use itoa::Buffer;
+use jobs_core::{Gate, Outcome};
 use oracle_core::{Evaluator, FactValues};
-use shelf_core::{Shelf, Shelved};
+use rayon::prelude::*;
+use shelf_core::Shelf;
 use std::alloc::{AllocError, Global};
+use std::thread::Threads;
+
+/// What a line of a sample comes to: a result, an open test, a void, or a refusal, by itself or by computing.
+#[derive(Clone, Copy, Debug, PartialEq, Eq)]
+enum Kind {
+    Decided,
+    Undecided,
+    Void,
+    Refused,
+}
+
+/// Whether an outcome is a refusal, by the line itself or by computing.
+fn is_refused(outcome: &Outcome) -> bool
+    ensures refused { result ≡ spec.is_refused (line_outcome outcome.now) }
+{
+    match outcome {
+        Outcome::Refused(_) => true,
+        Outcome::Found(Resolved::Shown(_, _), _) => false,
+        Outcome::Found(_, _) => true,
+        Outcome::Undecided(_, _) | Outcome::Void(_, _) => false,
+    }
+}
+
+/// Whether an outcome is of a kind.
+fn is_of(kind: Kind, outcome: &Outcome) -> bool
+    ensures of { result ≡ spec.is_of kind (line_outcome outcome.now) }
+{
+    match kind {
+        Kind::Decided => is_found(outcome),
+        Kind::Undecided => matches!(outcome, Outcome::Undecided(_, _)),
+        Kind::Void => matches!(outcome, Outcome::Void(_, _)),
+        Kind::Refused => is_refused(outcome),
+    }
+}
+
+/// How many outcomes are of a kind. No piece of the list is shorter than `piece`.
+fn count_in<R: Threads + Sync>(rt: &R, outcomes: &[Outcome], piece: usize, kind: Kind) -> usize
+    requires few { length outcomes.now < 2 ^ 64 }
+    ensures count { result ≡ length (filter (spec.is_of kind) (map line_outcome outcomes.now)) }
+{
+    outcomes
+        .par_iter()
+        .with_min_len(piece)
+        .map(
+            |outcome: &Outcome| -> usize
+                ensures { result ≡ (if spec.is_of kind (line_outcome outcome.now) then 1 else 0) }
+            { usize::from(is_of(kind, outcome)) },
+        )
+        .sum(rt)
+}
 
 /// How many lines have a result, and how many are undecided, void and refused.
 #[derive(Clone, Copy, Debug, PartialEq, Eq)]
@@ -28,30 +81,26 @@ struct Tally {
     refused: usize,
 }
 
-/// How many outcomes there are of each kind.
-fn tally_of(outcomes: &[Outcome]) -> Tally
+/// The shortest piece of a list that is counted by a thread of its own.
+const SHORTEST_PIECE: usize = 1024;
+
+/// How many outcomes there are of each kind. One job counts them on one thread.
+fn tally_of<R: Threads + Sync>(rt: &R, outcomes: &[Outcome], jobs: usize) -> Tally
+    requires some { 1 ≤ jobs }
     ensures decided { result.decided ≡ length (filter is_result (map line_outcome outcomes.now)) }
-    ensures undecided { result.undecided ≡ length (filter spec.is_undecided
+    ensures undecided { result.undecided ≡ length (filter is_undecided
         (map line_outcome outcomes.now)) }
     ensures void { result.void ≡ length (filter spec.is_void (map line_outcome outcomes.now)) }
     ensures refused { result.refused ≡ length (filter spec.is_refused
         (map line_outcome outcomes.now)) }
 {
-    let mut tally = Tally {
-        decided: 0,
-        undecided: 0,
-        void: 0,
-        refused: 0,
-    };
-    for outcome in outcomes.iter() {
-        match outcome {
-            Outcome::Found(Resolved::Shown(_, _), _) => tally.decided += 1,
-            Outcome::Undecided(_, _) => tally.undecided += 1,
-            Outcome::Void(_, _) => tally.void += 1,
-            Outcome::Found(_, _) | Outcome::Refused(_) => tally.refused += 1,
-        }
+    let piece = (outcomes.len() / jobs).max(SHORTEST_PIECE);
+    Tally {
+        decided: count_in(rt, outcomes, piece, Kind::Decided),
+        undecided: count_in(rt, outcomes, piece, Kind::Undecided),
+        void: count_in(rt, outcomes, piece, Kind::Void),
+        refused: count_in(rt, outcomes, piece, Kind::Refused),
     }
-    tally
 }
 
 /// Adds a fact where it is new. The error comes where memory runs out.
@@ -139,32 +188,40 @@ fn write_counts<K: Sink>(
 }
 
 /// The line of a sample whose lines come to this. The error comes where memory runs out.
-fn sample_text(
+fn sample_text<R: Threads + Sync>(
+    rt: &R,
     alloc: Global,
     count: u32,
     seed: u64,
     outcomes: &[Outcome],
+    jobs: usize,
 ) -> Result<Vec<u8>, AllocError>
+    requires some { 1 ≤ jobs }
     ensures text { IfOk result (λ text. text.items ≡ spec.sample_text count seed
         (map line_outcome outcomes.now)) }
 {
     let facts = facts_in(alloc, outcomes)?;
     let mut gathered = Gathered::new(alloc);
-    match write_counts(&mut gathered, count, seed, tally_of(outcomes), facts) {
+    let tally = tally_of(rt, outcomes, jobs);
+    match write_counts(&mut gathered, count, seed, tally, facts) {
         Ok(()) => Ok(gathered.into_bytes()),
         Err(Failed) => Err(AllocError),
     }
 }
 
-/// Writes the counts of what the lines of a sample come to, whose facts are evaluated once each, and says whether all have
-/// results.
-pub(crate) fn sample<K: Sink, E: Evaluator>(
+/// Writes the counts of what the lines of a sample come to, which so many jobs compute, and says whether all have results.
+pub(crate) fn sample<R: Threads + Sync, K: Sink, E: Evaluator + Sync, G: Gate + Sync>(
+    rt: &R,
     alloc: Global,
     sink: &mut K,
     evaluator: &E,
     count: u32,
     seed: u64,
+    jobs: usize,
+    gate: &G,
 ) -> Result<bool, WriteStop>
+    requires some { 1 ≤ jobs }
+    requires few { jobs ≤ 64 }
     ensures ok { IfOk result (λ all. spec.Sampled (K.written sink.old)
         (K.written sink.new) count seed all) }
     ensures fault { IsErrOf result WriteStop.Fault → spec.SampleCutShort (K.written sink.old)
@@ -177,8 +234,8 @@ pub(crate) fn sample<K: Sink, E: Evaluator>(
     let words = sample_lines(alloc, count, seed)?;
     let lines = bytes_of(alloc, &words)?;
     let shelf = Shelf::open(alloc)?;
-    let outcomes = outcomes_of(alloc, &Shelved::new(alloc, &shelf, evaluator), &lines)?;
-    let text = sample_text(alloc, count, seed, &outcomes)?;
+    let outcomes = outcomes_of(rt, alloc, &lines, &shelf, evaluator, jobs, gate)?;
+    let text = sample_text(rt, alloc, count, seed, &outcomes, jobs)?;
     write_all(sink, &text)?;
     Ok(all_found(&outcomes))
 }

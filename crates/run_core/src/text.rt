@@ -3,17 +3,17 @@ ghost use Rattle.std.specs.Prelude.{◌≡◌, ◌≤◌, ◌<◌, ◌+◌, ◌+
 ghost use Rattle.book_model.specs.lines.Outcomes.{IsRightFor, AreRight};
 ghost use Rattle.book_model.specs.lines.Text as spec;
 ghost use Rattle.byte_streams.specs.Stream.{Rose, Writes, WritesFront, Wrote};
-ghost use Rattle.run_core.specs.Outcomes.{line_outcome};
+ghost use Rattle.jobs_core.specs.Outcomes.{line_outcome};
 ghost use Rattle.run_core.specs.declared.text.WriteStop.TheVariants.{Fault, Memory};
 
 use crate::blocks::block_of;
 use crate::numbering::{count_of, number_after};
-use crate::outcome::Outcome;
 use crate::pending::{MANY, settle};
 use book_model::Fact;
 use byte_streams::{Failed, Gathered, Sink};
 use cert_text::{write_block, write_end, write_header};
 use indexmap::IndexSet;
+use jobs_core::Outcome;
 use std::alloc::{AllocError, Global};
 
 /// Why a text wasn't written whole: a write failed, or memory ran out.

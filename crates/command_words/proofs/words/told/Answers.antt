@@ -11,4 +11,8 @@ returns c =
     let jobs = c.get_str-jobs.ensures ∙ first_value-rows found (codes "jobs") in
     let first = c.get_str-first.ensures ∙ first_value-rows found (codes "a") in
     let second = c.get_str-second.ensures ∙ first_value-rows found (codes "b") in
-    record { command = c.told_by.ensures.command ∙ (λ i. spec.told_by (name i) (jobs i) (first i) (second i)) }
+    record {
+      command = c.told_by.ensures.command ∙ (λ i. spec.told_by (name i) (jobs i) (first i) (second i));
+      jobs = rw jobs at c.told_by.ensures.jobs;
+      range = c.told_by.ensures.range;
+    }

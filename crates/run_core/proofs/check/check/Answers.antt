@@ -3,8 +3,8 @@ use Rattle.run_core.specs.Checking.{cut_verdicts, cut_bad}
 use Rattle.run_core.proofs.CheckLemmas.{kept_or_cut, same_stop}
 use Rattle.run_core.proofs.check.check.Goals as goal
 
-pub check_file-requires : goal.check_file-requires
-check_file-requires g c = record { checkable = read_checkable c.args.input.now c.in-Ok.file c.in-Ok.ensures }
+pub check_file-requires-clause-checkable : goal.check_file-requires-clause-checkable
+check_file-requires-clause-checkable g c κs within = read_checkable c.args.input.now c.in-Ok.file c.in-Ok.ensures
 
 pub returns-in-Ok-clause-fault : goal.returns-in-Ok-clause-fault
 returns-in-Ok-clause-fault g c e = cut_verdicts c.in-Ok.file c.in-Ok.ensures (c.in-Err.ensures.fault (same_stop c.in-Err.stop _ e))

@@ -1,6 +1,6 @@
 use Rattle.std.proofs.Common.{arith}
 use Rattle.std.proofs.lemmas.List.{length-map}
-use Rattle.run_core.specs.Outcomes.{line_outcome}
+use Rattle.jobs_core.specs.Outcomes.{line_outcome}
 use Rattle.run_core.proofs.PrintedLemmas.{printed}
 use Rattle.run_core.proofs.RightLemmas.{right_length}
 use Rattle.run_core.proofs.printing.print_lines.Goals as goal

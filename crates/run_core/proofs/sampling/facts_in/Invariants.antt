@@ -1,5 +1,5 @@
 use Rattle.std.proofs.Common.{◌≡◌, [], drop, map}
-use Rattle.run_core.specs.Outcomes.{line_outcome}
+use Rattle.jobs_core.specs.Outcomes.{line_outcome}
 use Rattle.run_core.specs.Sampling.{seen_after_all}
 use Rattle.run_core.proofs.sampling.facts_in.Given as goal
 

@@ -1,7 +1,7 @@
 use Rattle.std.proofs.Common.{◌≤◌, ◌++◌, [], drop, map}
 use Rattle.book_model.specs.lines.Text.{text_from}
 use Rattle.byte_streams.specs.Stream.{Wrote}
-use Rattle.run_core.specs.Outcomes.{line_outcome}
+use Rattle.jobs_core.specs.Outcomes.{line_outcome}
 use Rattle.run_core.proofs.text.put_blocks.Given as goal
 
 abbrev pub invariant-loop-index : goal.invariant-loop-index

@@ -1,0 +1,4 @@
+pub mod PieceLemmas
+pub mod Fairness
+pub mod AnswerLemmas
+pub mod RowLemmas

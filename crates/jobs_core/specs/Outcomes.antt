@@ -1,0 +1,56 @@
+-- What the code's outcome of a row stands for, and when it is right.
+use Rattle.std.specs.Prelude.{◌≡◌, ℕ, ◌≤◌, List, Result, Ok, Err, IfOk, IsTrue}
+use Rattle.std.specs.List.{AllZip}
+use Rattle.book_model.specs.declared.request.Request.{Request}
+use Rattle.book_model.specs.declared.request.Rule.{Rule}
+use Rattle.book_model.specs.sky.Facts.{IsNear, IsVoidAt}
+use Rattle.book_model.specs.calendars.Inquiries.{finding, found, AsksAt}
+use Rattle.book_model.specs.lines.LineRules.{rule_of}
+use Rattle.book_model.specs.lines.Requests.{is_possible, is_in_reach}
+use Rattle.book_model.specs.lines.Outcomes.{LineOutcome, refused, resolved, undecided, void}
+use Rattle.oracle_core.specs.declared.oracle.Stop.{Stop}
+use Rattle.oracle_core.specs.declared.oracle.Stop.TheVariants.{Undecided as undecided_stop, Void as void_stop, Missing as missing_stop, Memory as memory_stop}
+use Rattle.jobs_core.specs.declared.outcome.Outcome.{Outcome}
+use Rattle.jobs_core.specs.declared.outcome.Outcome.TheVariants.{Refused, Found, Undecided, Void}
+use Rattle.book_model.specs.numbers.Depth.{DEPTH}
+
+-- the outcome that the definitions speak of
+abbrev pub line_outcome : Outcome → LineOutcome
+line_outcome (Refused rule) = refused rule
+line_outcome (Found x facts) = resolved x facts
+line_outcome (Undecided fact at) = undecided fact at
+line_outcome (Void fact site) = void fact site
+
+-- the date of a request, where the row is one, is possible and in reach
+abbrev pub CanResolve : Result Request Rule → Type 0
+CanResolve row = IfOk row (λ r. IsTrue (is_possible r)) × IfOk row (λ r. IsTrue (is_in_reach r))
+
+-- an outcome is right for a request
+abbrev pub IsRightOf : Request → LineOutcome → Type 0
+IsRightOf r (refused rule) = ⊥
+IsRightOf r (resolved x facts) = (n : ℕ) → DEPTH ≤ n → finding n (rule_of r) ≡ found x facts
+IsRightOf r (undecided f u) = ((n : ℕ) → DEPTH ≤ n → AsksAt n (rule_of r) f) × IsNear f u
+IsRightOf r (void f s) = ((n : ℕ) → DEPTH ≤ n → AsksAt n (rule_of r) f) × IsVoidAt f s
+
+-- an outcome is right for a row: the refusal by its rule, or what is right for its request
+abbrev pub IsRightForRow : Result Request Rule → LineOutcome → Type 0
+IsRightForRow (Err rule) o = o ≡ refused rule
+IsRightForRow (Ok r) o = IsRightOf r o
+
+-- one outcome for each row, in the order of the rows, each right for its row
+abbrev pub AreRightForRows : List (Result Request Rule) → List Outcome → Type 0
+AreRightForRows rows outcomes = AllZip (λ row o. IsRightForRow row (line_outcome o)) rows outcomes
+
+-- a stop that says nothing of a line
+abbrev pub HasNoOutcome : Stop → Type 0
+HasNoOutcome (undecided_stop f u) = ⊥
+HasNoOutcome (void_stop f s) = ⊥
+HasNoOutcome (missing_stop f) = Unit {0}
+HasNoOutcome memory_stop = Unit {0}
+
+-- an outcome is what comes of a stop, at an open test or a void
+abbrev pub ComesOfStop : Stop → LineOutcome → Type 0
+ComesOfStop (undecided_stop f u) o = o ≡ undecided f u
+ComesOfStop (void_stop f s) o = o ≡ void f s
+ComesOfStop (missing_stop f) o = ⊥
+ComesOfStop memory_stop o = ⊥

@@ -1,0 +1,15 @@
+//! A gate that is passed at the start of each piece of the work.
+
+/// Is told of each piece of the work as it begins, and promises nothing.
+pub trait Gate {
+    /// The piece of this number, from 0, begins.
+    fn at(&self, piece: usize);
+}
+
+/// A gate that is always open.
+#[derive(Clone, Copy, Debug, PartialEq, Eq)]
+pub struct OpenGate;
+
+impl Gate for OpenGate {
+    fn at(&self, _piece: usize) {}
+}

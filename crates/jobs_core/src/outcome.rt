@@ -1,0 +1,69 @@
+//! What comes of a row.
+ghost use Rattle.std.specs.Prelude.{◌≡◌, IsTrue, IfOk, OnErr};
+ghost use Rattle.book_model.specs.lines.Requests.{is_possible, is_in_reach};
+ghost use Rattle.jobs_core.specs.Outcomes.{line_outcome, CanResolve, IsRightOf, IsRightForRow, ComesOfStop, HasNoOutcome};
+
+use crate::Row;
+use book_model::{Fact, Request, Resolved, Rule, Site, Undecided};
+use line_core::resolve;
+use oracle_core::{Asking, Evaluator, FactValues, Stop};
+use std::alloc::{AllocError, Global};
+
+/// What comes of a line: it breaks a rule; it has a result, which rests on facts with their values; or a fact that
+/// it asks is undecided or void.
+#[derive(Drop)]
+pub enum Outcome {
+    Refused(Rule),
+    Found(Resolved, FactValues),
+    Undecided(Fact, Undecided),
+    Void(Fact, Site),
+}
+
+/// Outcomes, in the order of the rows.
+pub type Outcomes = Vec<Outcome>;
+
+/// What comes of a line whose facts are asked up to this stop of an oracle over an evaluator. The error comes where
+/// memory ran out, and at a missing fact, of which such an oracle has none.
+fn outcome_at(stop: Stop) -> Result<Outcome, AllocError>
+    ensures stopped { IfOk result (λ outcome. ComesOfStop stop (line_outcome outcome)) }
+    ensures error { OnErr result (HasNoOutcome stop) }
+{
+    match stop {
+        Stop::Undecided(fact, at) => Ok(Outcome::Undecided(fact, at)),
+        Stop::Void(fact, site) => Ok(Outcome::Void(fact, site)),
+        Stop::Missing(_) | Stop::Memory => Err(AllocError),
+    }
+}
+
+/// What comes of a request that breaks no rule by itself. The error comes where memory runs out.
+fn outcome_of_request<E: Evaluator>(
+    alloc: Global,
+    evaluator: &E,
+    request: &Request,
+) -> Result<Outcome, AllocError>
+    requires possible { IsTrue (is_possible request.now) }
+    requires in_reach { IsTrue (is_in_reach request.now) }
+    ensures right { IfOk result (λ outcome. IsRightOf request.now (line_outcome outcome)) }
+{
+    let mut asking = Asking::new(alloc, evaluator);
+    match resolve(&mut asking, request) {
+        Ok(resolved) => Ok(Outcome::Found(resolved, asking.finish())),
+        Err(stop) => outcome_at(stop),
+    }
+}
+
+/// What comes of a row, by the answers of the evaluator for the facts that it asks. The error comes where memory runs
+/// out.
+pub fn outcome_of<E: Evaluator>(
+    alloc: Global,
+    evaluator: &E,
+    row: &Row,
+) -> Result<Outcome, AllocError>
+    requires resolvable { CanResolve row.now }
+    ensures right { IfOk result (λ outcome. IsRightForRow row.now (line_outcome outcome)) }
+{
+    match row {
+        Ok(request) => outcome_of_request(alloc, evaluator, request),
+        Err(rule) => Ok(Outcome::Refused(*rule)),
+    }
+}
