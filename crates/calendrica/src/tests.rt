@@ -2,6 +2,8 @@
 //! fails, the rows under `tests/rows` show on the built program.
 ghost use Rattle.std.specs.Prelude.{None};
 
+mod jobs;
+
 use book_model::Fact;
 use encl_core::Coarse;
 use fact_eval::{Staged, answer_over};

@@ -1,0 +1,171 @@
+//! Several jobs: that their pieces are worked at the same time, which no clause says, and what they write.
+use super::{run_with_room, words_in};
+use book_model::{Fact, Kind, Place};
+use cert_check::check_facts;
+use cert_read::{CertFile, read_file};
+use fact_eval::Staged;
+use jobs_core::{Gate, map_facts, map_lines, rows_of};
+use oracle_core::Answer;
+use run_core::{MemorySink, MemorySource, Status, run};
+use shelf_core::Shelf;
+use std::alloc::Global;
+use std::sync::atomic::AtomicBool;
+use std::sync::atomic::Ordering::SeqCst;
+use std::test::Fail;
+use std::thread;
+use std::thread::Threads;
+
+/// How often a piece looks for the other's flag.
+const LOOKS: u32 = 200_000_000;
+
+/// What `convert` writes for `gregorian 2024-03-20 persian`.
+const PERSIAN_TEXT: &str = "calendrica 1 depth 40\n\
+    fact 1 nowruz - 738965 738965\n\
+    fact 2 nowruz - 739145 738965\n\
+    line 1 gregorian 2024-03-20 persian 1403-1-1 facts 1 2\n\
+    end lines 1 facts 2\n";
+
+const TWO_LINES: &str = "gregorian 2024-02-10 dt\ngregorian 2024-02-10 mayan\n";
+
+const TWO_LINES_TEXT: &str = "calendrica 1 depth 40\n\
+    fact 1 dt - 738926 73871\n\
+    line 1 gregorian 2024-02-10 dt 73871 facts 1\n\
+    line 2 refused 2\n\
+    end lines 2 facts 1\n";
+
+/// Two pieces meet here: each raises its own flag, and looks for the other's.
+#[derive(Drop)]
+struct Meeting {
+    flags: [AtomicBool; 2],
+    gave_up: AtomicBool,
+}
+
+impl Meeting {
+    fn new() -> Meeting {
+        Meeting {
+            flags: [AtomicBool::new(false), AtomicBool::new(false)],
+            gave_up: AtomicBool::new(false),
+        }
+    }
+
+    /// Whether both came, and neither gave up.
+    fn was_held(&self) -> bool {
+        self.flags[0].load(SeqCst) && self.flags[1].load(SeqCst) && !self.gave_up.load(SeqCst)
+    }
+}
+
+impl Gate for Meeting {
+    fn at(&self, piece: usize) {
+        let own = piece % 2;
+        self.flags[own].store(true, SeqCst);
+        for look in 0..LOOKS {
+            if self.flags[1 - own].load(SeqCst) {
+                return;
+            }
+            if look % 4096 == 4095 {
+                thread::yield_now();
+            }
+        }
+        self.gave_up.store(true, SeqCst);
+    }
+}
+
+/// Whether two rows are worked at the same time.
+fn rows_meet<R: Threads + Sync>(rt: &R, alloc: Global) -> Result<bool, Fail> {
+    let lines: [&[u8]; 2] = [b"gregorian 2024-02-10 dt", b"gregorian 2024-02-10 mayan"];
+    let rows = rows_of(alloc, &lines)?;
+    let shelf = Shelf::open(alloc)?;
+    let gate = Meeting::new();
+    let outcomes = map_lines(rt, alloc, &rows, &shelf, &Staged::new(), 2, &gate)?;
+    Ok(gate.was_held() && outcomes.len() == 2)
+}
+
+/// Whether two facts are worked at the same time.
+fn facts_meet<R: Threads + Sync>(rt: &R, alloc: Global) -> Result<bool, Fail> {
+    let first = Fact::new(Kind::Nowruz, Place::None, 738_965).ok_or("no fact")?;
+    let second = Fact::new(Kind::Nowruz, Place::None, 739_145).ok_or("no fact")?;
+    let shelf = Shelf::open(alloc)?;
+    let gate = Meeting::new();
+    let answers = map_facts(
+        rt,
+        alloc,
+        &[first, second],
+        &shelf,
+        &Staged::new(),
+        2,
+        &gate,
+    )?;
+    Ok(gate.was_held() && answers.len() == 2)
+}
+
+/// Whether a run over an input works two pieces at the same time and writes this text.
+fn run_meets<R: Threads + Sync>(
+    rt: &R,
+    alloc: Global,
+    line: &str,
+    input: &str,
+    text: &str,
+) -> Result<bool, Fail> {
+    let words = words_in(alloc, line)?;
+    let mut source = MemorySource::new(input.as_bytes().to_vec(alloc)?, Vec::new(alloc));
+    let mut sink = MemorySink::new(alloc, 1000, Vec::new(alloc))?;
+    let gate = Meeting::new();
+    run(
+        rt,
+        alloc,
+        &words,
+        &mut source,
+        &mut sink,
+        &Staged::new(),
+        &gate,
+    );
+    Ok(gate.was_held() && sink.written() == text.as_bytes())
+}
+
+#[test]
+fn two_pieces_are_worked_at_the_same_time(rt: HostRuntime) -> Result<(), Fail> {
+    let alloc = rt.alloc();
+    assert!(rt; rows_meet(&rt, alloc)?, "map_lines");
+    assert!(rt; facts_meet(&rt, alloc)?, "map_facts");
+    for (line, input, text) in [
+        ("convert --jobs 2", TWO_LINES, TWO_LINES_TEXT),
+        (
+            "check --jobs 2",
+            PERSIAN_TEXT,
+            "yes 1\nend yes 1 no 0 skip 0\n",
+        ),
+    ] {
+        assert!(rt; run_meets(&rt, alloc, line, input, text)?, "{line}");
+    }
+    Ok(())
+}
+
+// The counts by one job stand in `two_scales_leave_fewer_lines_of_a_sample_open`.
+#[test]
+fn eight_jobs_leave_the_counts_of_a_sample(rt: HostRuntime) -> Result<(), Fail> {
+    let line = "sample 700 1 --jobs 8";
+    let (status, sink) = run_with_room(&rt, rt.alloc(), line, "", 100)?;
+    let want = "sample 700 1 decided 700 undecided 0 void 0 refused 0 facts 2563\n";
+    assert_eq!(rt; status, Status::Done);
+    assert_eq!(rt; sink.written(), want.as_bytes());
+    Ok(())
+}
+
+/// The printed file that bytes are.
+fn file_of(alloc: Global, text: &str) -> Result<CertFile, Fail> {
+    match read_file(alloc, text.as_bytes()) {
+        Ok(file) => Ok(file),
+        Err(_) => Err("no file")?,
+    }
+}
+
+#[test]
+fn the_facts_of_a_file_are_answered(rt: HostRuntime) -> Result<(), Fail> {
+    let alloc = rt.alloc();
+    let file = file_of(alloc, PERSIAN_TEXT)?;
+    let answers = check_facts(alloc, &file, &Staged::new())?;
+    assert_eq!(rt; answers.len(), 2);
+    assert_eq!(rt; *answers.item(0), Answer::Value(738_965));
+    assert_eq!(rt; *answers.item(1), Answer::Value(738_965));
+    Ok(())
+}
