@@ -2,6 +2,7 @@
 //! fails, the rows under `tests/rows` show on the built program.
 ghost use Rattle.std.specs.Prelude.{None};
 
+mod faults;
 mod jobs;
 
 use book_model::Fact;
@@ -154,7 +155,22 @@ fn a_failing_read_leaves_nothing_written(rt: HostRuntime) -> Result<(), Fail> {
     Ok(())
 }
 
-/// Runs a command over an input, with room in the sink for so many bytes.
+/// Runs a command over bytes, with room in the sink for so many.
+fn run_on<R: Threads + Sync>(
+    rt: &R,
+    alloc: Global,
+    line: &str,
+    input: &[u8],
+    room: usize,
+) -> Result<(Status, MemorySink), Fail> {
+    let words = words_in(alloc, line)?;
+    let mut source = MemorySource::new(input.to_vec(alloc)?, Vec::new(alloc));
+    let mut sink = MemorySink::new(alloc, room, Vec::new(alloc))?;
+    let status = run_over(rt, alloc, &words, &mut source, &mut sink);
+    Ok((status, sink))
+}
+
+/// The same over a text.
 fn run_with_room<R: Threads + Sync>(
     rt: &R,
     alloc: Global,
@@ -162,11 +178,7 @@ fn run_with_room<R: Threads + Sync>(
     input: &str,
     room: usize,
 ) -> Result<(Status, MemorySink), Fail> {
-    let words = words_in(alloc, line)?;
-    let mut source = MemorySource::new(input.as_bytes().to_vec(alloc)?, Vec::new(alloc));
-    let mut sink = MemorySink::new(alloc, room, Vec::new(alloc))?;
-    let status = run_over(rt, alloc, &words, &mut source, &mut sink);
-    Ok((status, sink))
+    run_on(rt, alloc, line, input.as_bytes(), room)
 }
 
 #[test]

@@ -19,13 +19,13 @@ use std::thread::Threads;
 const LOOKS: u32 = 200_000_000;
 
 /// What `convert` writes for `gregorian 2024-03-20 persian`.
-const PERSIAN_TEXT: &str = "calendrica 1 depth 40\n\
+pub const PERSIAN_TEXT: &str = "calendrica 1 depth 40\n\
     fact 1 nowruz - 738965 738965\n\
     fact 2 nowruz - 739145 738965\n\
     line 1 gregorian 2024-03-20 persian 1403-1-1 facts 1 2\n\
     end lines 1 facts 2\n";
 
-const TWO_LINES: &str = "gregorian 2024-02-10 dt\ngregorian 2024-02-10 mayan\n";
+pub const TWO_LINES: &str = "gregorian 2024-02-10 dt\ngregorian 2024-02-10 mayan\n";
 
 const TWO_LINES_TEXT: &str = "calendrica 1 depth 40\n\
     fact 1 dt - 738926 73871\n\
