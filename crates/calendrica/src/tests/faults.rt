@@ -60,12 +60,17 @@ fn damage_is_named(rt: HostRuntime) -> Result<(), Fail> {
 fn a_front_of_a_file_is_no_file(rt: HostRuntime) -> Result<(), Fail> {
     let alloc = rt.alloc();
     let file = PERSIAN_TEXT.as_bytes();
-    // The last byte is a line feed, without which the file is one still.
-    for (index, _) in file.iter().enumerate().skip(1) {
+    for (end, _) in file.iter().enumerate() {
+        // The last byte is a line feed, without which it is a file still.
+        let is_file = end.saturating_add(1) == file.len();
         for line in ["check --jobs 1", "check --jobs 8"] {
-            let (got, sink) = run_on(&rt, alloc, line, &file[..index - 1], 100)?;
-            assert_eq!(rt; got, Status::BadText, "{line}: {index}");
-            assert!(rt; sink.written().starts_with(b"bad "), "{line}: {index}");
+            let (got, sink) = run_on(&rt, alloc, line, &file[..end], 100)?;
+            assert_eq!(rt; got == Status::BadText, !is_file, "{line}: {end}");
+            assert_eq!(rt;
+                sink.written().starts_with(b"bad "),
+                !is_file,
+                "{line}: {end}"
+            );
         }
     }
     Ok(())
@@ -104,7 +109,7 @@ fn a_read_that_fails_leaves_nothing_written(rt: HostRuntime) -> Result<(), Fail>
     let alloc = rt.alloc();
     for (line, input, reads) in COMMANDS {
         for call in 0..=reads {
-            let (status, sink) = run_failing(&rt, alloc, line, input, call + 1, 0)?;
+            let (status, sink) = run_failing(&rt, alloc, line, input, call.saturating_add(1), 0)?;
             assert_eq!(rt; status == Status::ReadFault, call < reads, "{line}: {call}");
             assert_eq!(rt; sink.written().is_empty(), call < reads, "{line}: {call}");
         }
