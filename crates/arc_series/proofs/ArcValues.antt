@@ -1,211 +1,318 @@
--- The forms hold the arctangents of the model, at single numbers.
-use Rattle.std.proofs.Common.{◌≡◌, ℕ, zero, suc, ◌+◌, ◌≤◌, refl, sym, ◌∙◌, subst, ap, arith, Bool, true, false, cond, pos, negsuc, [], ◌∷◌}
+-- The kernel holds the arctangents of the model in degrees, at single numbers from -1/2 to 1/2.
+use Rattle.std.proofs.Common.{◌≡◌, ℕ, zero, suc, ◌+◌, ◌*◌, ◌/◌, ◌-◌, ◌^◌, ◌≤◌, refl, ◌∙◌, sym, subst, ap, arith, Bool, true, false, ℤ, pos, negsuc, ◌+ℤ◌, ◌-ℤ◌, ◌*ℤ◌, ◌≤ℤ◌, [], ◌∷◌}
 use Rattle.std.proofs.lemmas.Int.{ints}
-use Rattle.exact_math.specs.Fraction.{Fraction, ◌≤F◌, ◌≈◌, whole, plus, opposite, times, size, reciprocal, power as fraction_power, is_at_most}
-use Rattle.exact_math.specs.Interval.{Interval, everything, between, IsProper, IsMember, ◌⊆◌, negative, product, quotient, widen as interval_widen, excludes_zero, one}
+use lib.IntN.{neg_ℤ}
+use Rattle.exact_math.specs.Fraction.{Fraction, ◌≤F◌, ◌≈◌, whole, plus, opposite, times, size, reciprocal, power, is_at_most, smaller, larger}
+use Rattle.exact_math.specs.Interval.{Interval, between, ◌⊆◌, sum, negative, product, quotient, least, greatest}
 use Rattle.exact_math.specs.Sums.{one_over, twice, alternating, lower, upper}
 use Rattle.exact_math.proofs.Ring.{at, lit, ◌⊕◌, ◌⊖◌, ◌⊗◌, minus}
-use Rattle.exact_math.proofs.Fractions.{le_refl, le_trans}
-use Rattle.exact_math.proofs.Same.{le_of_same, ge_of_same, one_times}
-use Rattle.exact_math.proofs.Intervals.{within_trans, within_refl, negative_within, sum_within, product_within, widen_within, sum_holds, negative_holds, product_holds, quotient_holds, power_holds}
-use Rattle.exact_math.proofs.FractionRing.{same_by}
+use Rattle.exact_math.proofs.Fractions.{le_refl, le_trans, at_most_true}
+use Rattle.exact_math.proofs.Same.{same_refl, le_of_same, ge_of_same}
+use Rattle.exact_math.proofs.Hulls.{true_at_most}
+use Rattle.exact_math.proofs.Intervals.{within_trans, within_refl, negative_within, product_within, quotient_within, least_is, greatest_is}
 use Rattle.exact_math.proofs.Certificates.{zero_F, ◌≼◌, ◌≗◌, known, multiple, ◌⊞◌, ◌⊠◌, natural, le_by, same_given}
 use Rattle.exact_math.proofs.Alternating.{size_same}
-use Rattle.book_model.specs.declared.tables.TheConstants.{FINEST_PART}
-use Rattle.book_model.specs.numbers.Fractions.{fraction_of}
-use Rattle.book_model.specs.numbers.Expressions.{Expression, World, value, integer, add, subtract, divide, negate, power}
+use Rattle.book_model.specs.programs.Leading.{at_56}
 use Rattle.book_model.specs.numbers.Octants.{only}
-use Rattle.book_model.specs.numbers.Series.{arctan_term, arctan_at, double}
-use Rattle.book_model.specs.numbers.Arcs.{half, arctan_series, radian_at, arc_near, arc_above, arc_beyond}
+use Rattle.book_model.specs.numbers.Series.{arctan_term, arctan_at, double, scaled, pi_at}
+use Rattle.book_model.specs.numbers.Arcs.{half, minus_half, arctan_series, radian_at, arc_near}
 use Rattle.book_model.proofs.Terms.{IsUpTo, arctan_halving, arctan_rising}
-use Rattle.book_model.proofs.ArcSeries.{InHalf, positive_near, negative_near, series_nests, series_proper, degrees_proper}
-use Rattle.book_model.proofs.ArcPieces.{InPiece, InAbove, turned, turned_in, recip_in, opposite_three, opposite_above}
-use Rattle.book_model.proofs.Values.{value_proper}
-use Rattle.arc_series.specs.declared.pieces.Piece.{Piece}
-use Rattle.arc_series.specs.declared.pieces.Piece.TheVariants.{FarBelow, Below, Near, Above, FarAbove}
-use Rattle.arc_series.specs.Forms.{horner, near_of, above_of, beyond_of, piece_of, arc_in}
-
--- ---- members
-pub only_in : (x : Fraction) (i : Interval) → IsMember x i → only x ⊆ i
-only_in x everything h = record { ends = tt }
-only_in x (between a b) h = record { ends = (h.0, h.1) }
-
-pub member_of : (x : Fraction) (i : Interval) → only x ⊆ i → IsMember x i
-member_of x everything h = tt
-member_of x (between a b) h = (h.ends.0, h.ends.1)
-
-same_member : (x y : Fraction) (i : Interval) → x ≈ y → IsMember x i → IsMember y i
-same_member x y everything e h = tt
-same_member x y (between a b) e h = (le_trans a x y h.0 (le_of_same e), le_trans y x b (ge_of_same e) h.1)
-
--- a quotient of members; that by an interval that may hold 0 is everything
-quotient_member : (i j : Interval) (x y : Fraction) → IsProper j → IsMember x i → IsMember y j → IsMember (times x (reciprocal y)) (quotient i j)
-unfolding quotient
-quotient_member everything j x y p h k = tt
-quotient_member (between a b) everything x y p h k = tt
-quotient_member (between a b) (between c d) x y p h k = by_test (excludes_zero c d) refl
-  where
-    by_test : (t : Bool) → excludes_zero c d ≡ t → IsMember (times x (reciprocal y)) (cond t (product (between a b) (between (reciprocal d) (reciprocal c))) everything)
-    by_test false e = tt
-    by_test true e = subst (λ t. IsMember (times x (reciprocal y)) (cond t (product (between a b) (between (reciprocal d) (reciprocal c))) everything)) e (quotient_holds (between a b) c d x y p e h k)
+use Rattle.book_model.proofs.Pi.{pi_at_least, pi_proper}
+use Rattle.book_model.proofs.ArcSeries.{InHalf, series_nests, series_proper, degrees_proper}
+use Rattle.arc_series.specs.Kernel.{at_64, IsNear, IsNumber, IsSquare, nested}
+use Rattle.arc_series.proofs.KernelSteps.{unit, unit_nonneg, at_more, at_less, IsHigh, high_is, high_small, product_is, high_below, high_above, count_nonneg, count_whole, square_near, product_above, product_below}
 
 -- ---- Horner's form
--- 1 / (d + 1), as a quotient
-abbrev coefficient : ℕ → Fraction
-coefficient d = times one (reciprocal (whole (pos (suc d))))
-
-coefficient_same : (d : ℕ) → coefficient d ≈ one_over d
-unfolding reciprocal
-coefficient_same d = one_times (one_over d)
-
-nested_form : Fraction → ℕ → ℕ → Fraction
-nested_form u d zero = coefficient d
-nested_form u d (suc m) = plus (coefficient d) (opposite (times u (nested_form u (suc (suc d)) m)))
-
-coefficient_member : (w : World) (odd d : ℕ) → odd ≡ suc d → IsMember (coefficient d) (value w (divide (integer (pos 1)) (integer (pos odd))))
-unfolding value
-coefficient_member w odd d e =
-    subst (λ z. IsMember (coefficient d) (quotient (only (whole (pos 1))) (only (whole (pos z))))) (sym e)
-    (quotient_member (only (whole (pos 1))) (only (whole (pos (suc d)))) one (whole (pos (suc d))) (le_refl _) (le_refl _, le_refl _) (le_refl _, le_refl _))
-
-horner_member : (w : World) (e : Expression) (u : Fraction) (odd d m : ℕ) → odd ≡ suc d → IsMember u (value w e) → IsMember (nested_form u d m) (value w (horner e odd m))
-unfolding horner value nested_form
-horner_member w e u odd d zero f h = coefficient_member w odd d f
-horner_member w e u odd d (suc m) f h =
-    let i = horner_member w e u (odd + 2) (suc (suc d)) m (omega (arith, f)) h in
-    let p = product_holds (value w e) (value w (horner e (odd + 2) m)) u (nested_form u (suc (suc d)) m) h i in
-    sum_holds _ _ _ _ (coefficient_member w odd d f) (negative_holds _ _ p)
-
 -- the sum of the terms is what Horner's form gives, times the first power
-alternating_form : (x u : Fraction) → u ≈ times x x → (m k : ℕ) (t : ℕ → Fraction) → ((j : ℕ) → t j ≡ arctan_term x (j + k)) → alternating t m ≈ times (fraction_power x (suc (double k))) (nested_form u (double k) m)
-unfolding alternating nested_form arctan_term fraction_power
-alternating_form x u s zero k t h =
+alternating_form : (x : Fraction) → (m k : ℕ) (t : ℕ → Fraction) → ((j : ℕ) → t j ≡ arctan_term x (j + k)) → alternating t m ≈ times (power x (suc (double k))) (nested (times x x) (double k) m)
+unfolding alternating nested arctan_term power
+alternating_form x zero k t h =
     let e : t 0 ≡ arctan_term x k = h 0 ∙ ap (arctan_term x) (omega arith) in
-    subst (λ z. z ≈ times (fraction_power x (suc (double k))) (coefficient (double k))) (sym e)
-    (same_given (fraction_power x (suc (double k)) ∷ one_over (double k) ∷ coefficient (double k) ∷ []) ((at 2 ≗ at 1) ∷ []) (at 0 ⊗ at 1) (at 0 ⊗ at 2) ((0, at 0 ⊗ lit (negsuc 0)) ∷ []) refl (coefficient_same (double k), tt))
-alternating_form x u s (suc m) k t h =
+    subst (λ z. z ≈ times (power x (suc (double k))) (one_over (double k))) (sym e) (same_refl _)
+alternating_form x (suc m) k t h =
     let e : t 0 ≡ arctan_term x k = h 0 ∙ ap (arctan_term x) (omega arith) in
-    let i = alternating_form x u s m (suc k) (λ j. t (suc j)) (λ j. h (suc j) ∙ ap (arctan_term x) (omega arith)) in
-    subst (λ z. plus z (opposite (alternating (λ j. t (suc j)) m)) ≈ times (fraction_power x (suc (double k))) (plus (coefficient (double k)) (opposite (times u (nested_form u (suc (suc (double k))) m))))) (sym e)
+    let i = alternating_form x m (suc k) (λ j. t (suc j)) (λ j. h (suc j) ∙ ap (arctan_term x) (omega arith)) in
+    subst (λ z. plus z (opposite (alternating (λ j. t (suc j)) m)) ≈ times (power x (suc (double k))) (plus (one_over (double k)) (opposite (times (times x x) (nested (times x x) (suc (suc (double k))) m))))) (sym e)
     (same_given
-    (x ∷ u ∷ fraction_power x (suc (double k)) ∷ one_over (double k) ∷ coefficient (double k) ∷ alternating (λ j. t (suc j)) m ∷ nested_form u (suc (suc (double k))) m ∷ [])
-    ((at 4 ≗ at 3) ∷ (at 1 ≗ at 0 ⊗ at 0) ∷ (at 5 ≗ (at 0 ⊗ (at 0 ⊗ at 2)) ⊗ at 6) ∷ [])
-    (at 2 ⊗ at 3 ⊖ at 5) (at 2 ⊗ (at 4 ⊖ at 1 ⊗ at 6))
-    ((0, at 2 ⊗ lit (negsuc 0)) ∷ (1, at 2 ⊗ at 6) ∷ (2, lit (negsuc 0)) ∷ []) refl
-    (coefficient_same (double k), (s, (i, tt))))
+    (x ∷ power x (suc (double k)) ∷ one_over (double k) ∷ alternating (λ j. t (suc j)) m ∷ nested (times x x) (suc (suc (double k))) m ∷ [])
+    ((at 3 ≗ (at 0 ⊗ (at 0 ⊗ at 1)) ⊗ at 4) ∷ [])
+    (at 1 ⊗ at 2 ⊖ at 3) (at 1 ⊗ (at 2 ⊖ (at 0 ⊗ at 0) ⊗ at 4))
+    ((0, lit (negsuc 0)) ∷ []) refl (i, tt))
+
+sum_form : (x : Fraction) → alternating (arctan_term x) 28 ≈ times (power x 1) (nested (times x x) 0 28)
+sum_form x = alternating_form x 28 0 (arctan_term x) (λ j. ap (arctan_term x) (omega arith))
 
 -- ---- what the terms leave out
-abbrev part : Fraction
-part = fraction_of FINEST_PART
-
 half_up_to : IsUpTo 1 2 half
 unfolding times
 half_up_to = record { nonneg = record { cross = record { le = tt } }; bound = record { cross = record { le = tt } } }
 
-at_half : twice (arctan_term half 26) ≤F size part
-unfolding arctan_term fraction_power times size
+at_half : twice (arctan_term half 29) ≤F times (whole (pos 2)) unit
+unfolding arctan_term power times unit
 at_half = record { cross = record { le = tt } }
 
 below_half : (x : Fraction) → times (whole (pos 2)) x ≤F whole (pos 1) → x ≤F half
 unfolding times
 below_half x h = record { cross = omega (arith, ints, h.cross) }
 
-left_out : (x : Fraction) → IsUpTo 1 2 x → twice (size (arctan_term x 26)) ≤F size part
+left_out : (x : Fraction) → IsUpTo 1 2 x → twice (size (arctan_term x 29)) ≤F times (whole (pos 2)) unit
 left_out x w =
-    let r = (arctan_rising x half w half_up_to (below_half x w.bound)).above 26 in
-    rw (size_same (arctan_term x 26) ((arctan_halving x w).nonneg 26))
-    (le_trans _ _ _ (le_by (arctan_term x 26 ∷ arctan_term half 26 ∷ []) ((at 0 ≼ at 1) ∷ []) (lit (pos 2) ⊗ at 0) (lit (pos 2) ⊗ at 1) (natural 2 ⊠ known 0) refl (r, tt)) at_half)
+    let r = (arctan_rising x half w half_up_to (below_half x w.bound)).above 29 in
+    rw (size_same (arctan_term x 29) ((arctan_halving x w).nonneg 29))
+    (le_trans _ _ _ (le_by (arctan_term x 29 ∷ arctan_term half 29 ∷ []) ((at 0 ≼ at 1) ∷ []) (lit (pos 2) ⊗ at 0) (lit (pos 2) ⊗ at 1) (natural 2 ⊠ known 0) refl (r, tt)) at_half)
 
--- the sum of 26 terms
-abbrev summed : Fraction → Fraction
-summed x = times x (nested_form (fraction_power x 2) 0 25)
+-- ---- the series at a number
+-- what lies from 4 below s to 6 above it
+abbrev around : ℕ → Interval
+around s = between (at_64 (pos s -ℤ pos 4)) (at_64 (pos s +ℤ pos 6))
 
-square_same : (x : Fraction) → fraction_power x 2 ≈ times x x
-unfolding fraction_power
-square_same x = same_by (x ∷ []) (at 0 ⊗ (at 0 ⊗ lit (pos 1))) (at 0 ⊗ at 0) refl
-
-square_opposite : (x : Fraction) → fraction_power x 2 ≈ times (opposite x) (opposite x)
-unfolding fraction_power
-square_opposite x = same_by (x ∷ []) (at 0 ⊗ (at 0 ⊗ lit (pos 1))) (minus (at 0) ⊗ minus (at 0)) refl
-
-sum_positive : (x : Fraction) → alternating (arctan_term x) 25 ≈ times (fraction_power x 1) (nested_form (fraction_power x 2) 0 25)
-sum_positive x = alternating_form x (fraction_power x 2) (square_same x) 25 0 (arctan_term x) (λ j. ap (arctan_term x) (omega arith))
-
-sum_negative : (x : Fraction) → alternating (arctan_term (opposite x)) 25 ≈ times (fraction_power (opposite x) 1) (nested_form (fraction_power x 2) 0 25)
-sum_negative x = alternating_form (opposite x) (fraction_power x 2) (square_opposite x) 25 0 (arctan_term (opposite x)) (λ j. ap (arctan_term (opposite x)) (omega arith))
-
-positive_held : (x : Fraction) → IsUpTo 1 2 x → arctan_at 25 x ⊆ interval_widen part (only (summed x))
-unfolding lower upper interval_widen fraction_power
-positive_held x w =
-    let ρ = x ∷ nested_form (fraction_power x 2) 0 25 ∷ alternating (arctan_term x) 25 ∷ size (arctan_term x 26) ∷ size part ∷ [] in
-    let cs = (at 2 ≗ (at 0 ⊗ lit (pos 1)) ⊗ at 1) ∷ (lit (pos 2) ⊗ at 3 ≼ at 4) ∷ [] in
+ends_near : (q t s : ℕ) (x : Fraction) → IsUpTo 1 2 x → t ≤ 2 ^ 64 → IsHigh s q t → IsNumber q x → IsNear 4 t (nested (times x x) 0 28) → arctan_at 28 x ⊆ around s
+unfolding lower upper power
+ends_near q t s x w l p g n =
+    let ρ = x ∷ nested (times x x) 0 28 ∷ alternating (arctan_term x) 28 ∷ size (arctan_term x 29) ∷ unit ∷ whole (pos s) ∷ [] in
+    let c = at 2 ≗ (at 0 ⊗ lit (pos 1)) ⊗ at 1 in
+    let d = lit (pos 2) ⊗ at 3 ≼ lit (pos 2) ⊗ at 4 in
     record {
       ends = (
-        le_by ρ cs (at 0 ⊗ at 1 ⊖ at 4) (at 2 ⊖ lit (pos 2) ⊗ at 3) (known 1 ⊞ multiple 0 (lit (negsuc 0))) refl (sum_positive x, (left_out x w, tt)),
-        le_by ρ cs (at 2 ⊕ lit (pos 2) ⊗ at 3) (at 0 ⊗ at 1 ⊕ at 4) (known 1 ⊞ multiple 0 (lit (pos 1))) refl (sum_positive x, (left_out x w, tt)),
+        le_trans _ _ _ (le_of_same (at_less (pos s) (pos 4)))
+            (le_by ρ (c ∷ ((at 5 ⊖ lit (pos 2)) ⊗ at 4 ≼ at 0 ⊗ at 1) ∷ d ∷ []) ((at 5 ⊖ lit (pos 4)) ⊗ at 4) (at 2 ⊖ lit (pos 2) ⊗ at 3) (known 1 ⊞ known 2 ⊞ multiple 0 (lit (negsuc 0))) refl
+            (sum_form x, (product_above s q t x _ p g n, (left_out x w, tt)))),
+        le_trans _ _ _
+            (le_by ρ (c ∷ (at 0 ⊗ at 1 ≼ (at 5 ⊕ lit (pos 4)) ⊗ at 4) ∷ d ∷ []) (at 2 ⊕ lit (pos 2) ⊗ at 3) ((at 5 ⊕ lit (pos 6)) ⊗ at 4) (known 1 ⊞ known 2 ⊞ multiple 0 (lit (pos 1))) refl
+            (sum_form x, (product_below s q t x _ l p g n, (left_out x w, tt))))
+            (ge_of_same (at_more (pos s) (pos 6))),
       );
     }
 
-negative_held : (x : Fraction) → IsUpTo 1 2 (opposite x) → negative (arctan_at 25 (opposite x)) ⊆ interval_widen part (only (summed x))
-unfolding lower upper interval_widen negative fraction_power
-negative_held x w =
-    let ρ = x ∷ nested_form (fraction_power x 2) 0 25 ∷ alternating (arctan_term (opposite x)) 25 ∷ size (arctan_term (opposite x) 26) ∷ size part ∷ [] in
-    let cs = (at 2 ≗ (minus (at 0) ⊗ lit (pos 1)) ⊗ at 1) ∷ (lit (pos 2) ⊗ at 3 ≼ at 4) ∷ [] in
-    record {
-      ends = (
-        le_by ρ cs (at 0 ⊗ at 1 ⊖ at 4) (minus (at 2 ⊕ lit (pos 2) ⊗ at 3)) (known 1 ⊞ multiple 0 (lit (pos 1))) refl (sum_negative x, (left_out (opposite x) w, tt)),
-        le_by ρ cs (minus (at 2 ⊖ lit (pos 2) ⊗ at 3)) (at 0 ⊗ at 1 ⊕ at 4) (known 1 ⊞ multiple 0 (lit (negsuc 0))) refl (sum_negative x, (left_out (opposite x) w, tt)),
-      );
-    }
+-- what the code has of a number: its square w, the sum t, and the radians s
+pub record IsComputed (q w t s : ℕ) : Type 0 where
+  pub small : q ≤ 2 ^ 63
+  pub square : w ≡ q * q / 2 ^ 64
+  pub sum : (u : Fraction) → IsSquare w u → IsNear 4 t (nested u 0 28)
+  pub below : t ≤ 18446744073709551615
+  pub radians : s ≡ q * t / 2 ^ 64
 
-at_25 : (x : Fraction) → InHalf x → arctan_series 25 x ⊆ interval_widen part (only (summed x))
+number_up_to : (q : ℕ) (x : Fraction) → IsNumber q x → IsUpTo 1 2 x
+unfolding times
+number_up_to q x g = record { nonneg = le_trans zero_F (at_64 (pos q)) x (record { cross = omega (arith, ints) }) g.not_above; bound = record { cross = omega (arith, ints, g.small.cross) } }
+
+computed_near : (q w t s : ℕ) (x : Fraction) → IsComputed q w t s → IsNumber q x → arctan_at 28 x ⊆ around s
+computed_near q w t s x c g =
+    ends_near q t s x (number_up_to q x g) (omega (arith, c.below)) (high_is s q t c.radians) g (c.sum (times x x) (square_near w q x (omega (arith, c.small)) (high_is w q q c.square) g))
+
+above_minus_half : (x : Fraction) → zero_F ≤F x → minus_half ≤F x
+above_minus_half x h = record { cross = omega (arith, ints, h.cross) }
+
+number_in : (q : ℕ) (x : Fraction) → IsNumber q x → InHalf x
+number_in q x g = record { above = above_minus_half x (number_up_to q x g).nonneg; below = g.small }
+
+series_positive : (x : Fraction) → zero_F ≤F x → arctan_series 28 x ≡ arctan_at 28 x
 unfolding arctan_series
-at_25 x w = by_sign (is_at_most zero_F x) refl
+series_positive x h = rw (true_at_most zero_F x h) refl
+
+series_held : (n q w t s : ℕ) (x : Fraction) → 40 ≤ n → IsComputed q w t s → IsNumber q x → arctan_series n x ⊆ around s
+series_held n q w t s x d c g =
+    let i = number_in q x g in
+    within_trans ((series_nests x i.above i.below).within 28 n (omega (arith, d))) (rw (series_positive x (number_up_to q x g).nonneg) (computed_near q w t s x c g))
+
+-- ---- the same of the opposite
+opposite_in : (q : ℕ) (x : Fraction) → IsNumber q (opposite x) → InHalf x
+unfolding opposite
+opposite_in q x g =
+    let p = number_up_to q (opposite x) g in
+    record { above = record { cross = omega (arith, ints, g.small.cross) }; below = record { cross = omega (arith, ints, p.nonneg.cross) } }
+
+not_nonneg : (q : ℕ) (x : Fraction) → 1 ≤ q → at_64 (pos q) ≤F opposite x → zero_F ≤F x → ⊥
+unfolding opposite
+not_nonneg q x l h k = let a = h.cross in let b = k.cross in absurd (omega (arith, ints, l, a, b))
+
+below_zero : (q : ℕ) (x : Fraction) → 1 ≤ q → at_64 (pos q) ≤F opposite x → is_at_most zero_F x ≡ false
+below_zero q x l h = by_test (is_at_most zero_F x) refl
   where
-    by_sign : (t : Bool) → is_at_most zero_F x ≡ t → cond t (arctan_at 25 x) (negative (arctan_at 25 (opposite x))) ⊆ interval_widen part (only (summed x))
-    by_sign true e = positive_held x (positive_near x w e)
-    by_sign false e = negative_held x (negative_near x w e)
+    by_test : (t : Bool) → is_at_most zero_F x ≡ t → t ≡ false
+    by_test true e = absurd (not_nonneg q x l h (at_most_true zero_F x e))
+    by_test false e = refl
 
-series_held : (n : ℕ) (x : Fraction) → 40 ≤ n → InHalf x → arctan_series n x ⊆ interval_widen part (only (summed x))
-series_held n x d w = within_trans ((series_nests x w.above w.below).within 25 n (omega (arith, d))) (at_25 x w)
+series_negative : (q : ℕ) (x : Fraction) → 1 ≤ q → at_64 (pos q) ≤F opposite x → arctan_series 28 x ≡ negative (arctan_at 28 (opposite x))
+unfolding arctan_series
+series_negative q x l h = rw (below_zero q x l h) refl
 
--- ---- the forms
-near_value : (w : World) (a : Expression) (x : Fraction) → 40 ≤ w.depth → InHalf x → only x ⊆ value w a → arc_near w.depth x ⊆ value w (near_of a)
-unfolding value near_of arc_near radian_at
-near_value w a x d i h =
-    let m = member_of x (value w a) h in
-    let k = horner_member w (power a 2) (fraction_power x 2) 1 0 25 refl (power_holds 2 (value w a) x m) in
-    product_within (series_proper w.depth x i) (degrees_proper w.depth)
-    (within_trans (series_held w.depth x d i) (widen_within part (only_in _ _ (product_holds _ _ x (nested_form (fraction_power x 2) 0 25) m k))))
-    (within_refl _)
+series_mirrored : (n q w t s : ℕ) (x : Fraction) → 40 ≤ n → 1 ≤ q → IsComputed q w t s → IsNumber q (opposite x) → arctan_series n x ⊆ negative (around s)
+series_mirrored n q w t s x d l c g =
+    let i = opposite_in q x g in
+    within_trans ((series_nests x i.above i.below).within 28 n (omega (arith, d))) (rw (series_negative q x l g.not_above) (negative_within (computed_near q w t s (opposite x) c g)))
 
-above_value : (w : World) (a : Expression) (x : Fraction) → 40 ≤ w.depth → InAbove x → only x ⊆ value w a → arc_above w.depth x ⊆ value w (above_of a)
-unfolding value above_of arc_above opposite
-above_value w a x d i h =
-    let m = member_of x (value w a) h in
-    let r : IsMember one (only (whole (pos 1))) = (le_refl one, le_refl one) in
-    sum_within (within_refl _)
-    (near_value w (divide (subtract a (integer (pos 1))) (add a (integer (pos 1)))) (turned x) d (turned_in x i)
-    (only_in _ _ (quotient_member _ _ _ _ (value_proper w (add a (integer (pos 1)))) (sum_holds _ _ _ _ m (negative_holds _ _ r)) (sum_holds _ _ _ _ m r))))
+-- ---- the degrees of a radian
+-- a number that counts 2^-72
+abbrev at_72 : ℕ → Fraction
+at_72 n = record { num = pos n; below = 2 ^ 72 - 1 }
 
-beyond_value : (w : World) (a : Expression) (x : Fraction) → 40 ≤ w.depth → whole (pos 3) ≤F x → only x ⊆ value w a → arc_beyond w.depth x ⊆ value w (beyond_of a)
-unfolding value beyond_of arc_beyond
-beyond_value w a x d i h =
-    let m = member_of x (value w a) h in
-    let r : IsMember one (only (whole (pos 1))) = (le_refl one, le_refl one) in
-    sum_within (within_refl _)
-    (negative_within
-    (near_value w (divide (integer (pos 1)) a) (reciprocal x) d (recip_in x i)
-    (only_in _ _ (same_member _ _ _ (one_times (reciprocal x)) (quotient_member _ _ _ _ (value_proper w a) r m)))))
+pi_at_16 : pi_at 16 ⊆ between (at_72 14835751850141947581203) (at_72 14835751850141947581204)
+unfolding pi_at sum scaled negative lower upper alternating size arctan_term power plus times opposite
+pi_at_16 = record { ends = (record { cross = record { le = tt } }, record { cross = record { le = tt } }) }
 
-opposite_in : (w : World) (a : Expression) (x : Fraction) → only x ⊆ value w a → only (opposite x) ⊆ value w (negate a)
-unfolding value
-opposite_in w a x h = only_in _ _ (negative_holds _ _ (member_of x (value w a) h))
+-- a number that counts 2^-58
+abbrev pub at_58 : ℤ → Fraction
+at_58 n = record { num = n; below = 2 ^ 58 - 1 }
 
-pub arc_value : (w : World) (p : Piece) (a : Expression) (x : Fraction) → 40 ≤ w.depth → InPiece (piece_of p) x → only x ⊆ value w a → (piece_of p).arc w.depth x ⊆ value w (arc_in p a)
-unfolding value arc_in
-arc_value w FarBelow a x d i h = negative_within (beyond_value w (negate a) (opposite x) d (opposite_three x i.to) (opposite_in w a x h))
-arc_value w Below a x d i h = negative_within (above_value w (negate a) (opposite x) d (opposite_above x i.from i.to) (opposite_in w a x h))
-arc_value w Near a x d i h = near_value w a x d (record { above = i.from; below = i.to }) h
-arc_value w Above a x d i h = above_value w a x d (record { from = i.from; to = i.to }) h
-arc_value w FarAbove a x d i h = beyond_value w a x d i.from h
+abbrev radian : Interval
+radian = between (at_58 (pos 16514384080961256899)) (at_58 (pos 16514384080961256900))
+
+by_pi : quotient (only (whole (pos 180))) (between (at_72 14835751850141947581203) (at_72 14835751850141947581204)) ⊆ radian
+unfolding quotient reciprocal product least greatest smaller larger is_at_most times
+by_pi = record { ends = (record { cross = record { le = tt } }, record { cross = record { le = tt } }) }
+
+radian_near : (n : ℕ) → 40 ≤ n → radian_at n ⊆ radian
+unfolding radian_at
+radian_near n d =
+    within_trans (quotient_within (le_refl (whole (pos 180))) (pi_proper n) (within_refl (only (whole (pos 180)))) (within_trans (pi_at_least 16 n (omega (arith, d))) pi_at_16)) by_pi
+
+-- ---- the product of both
+fine : Fraction
+fine = at_58 (pos 1)
+
+fine_nonneg : zero_F ≤F fine
+unfolding fine
+fine_nonneg = record { cross = omega (arith, ints) }
+
+at_58_is : (k : ℕ) → at_58 (pos k) ≈ times (whole (pos k)) fine
+unfolding fine times
+at_58_is k = record { cross = omega (arith, ints) }
+
+at_58_more : (k : ℕ) → at_58 (pos (suc k)) ≈ times (plus (whole (pos k)) (whole (pos 1))) fine
+unfolding fine times plus
+at_58_more k = record { cross = omega (arith, ints) }
+
+low_end : (lo : ℤ) (d : ℕ) → (lo *ℤ pos 4 +ℤ pos 4) ≤ℤ pos d → at_56 lo ≤F times (plus (whole (pos d)) (opposite (whole (pos 4)))) fine
+unfolding fine times plus opposite
+low_end lo d h = record { cross = omega (arith, ints, h) }
+
+high_end : (hi : ℤ) (d : ℕ) → (pos d +ℤ pos 9) ≤ℤ (hi *ℤ pos 4) → times (plus (whole (pos d)) (whole (pos 9))) fine ≤F at_56 hi
+unfolding fine times plus
+high_end hi d h = record { cross = omega (arith, ints, h) }
+
+abbrev factor : ℕ
+factor = 16514384080961256899
+
+factor_small : times (plus (whole (pos factor)) (whole (pos 1))) unit ≤F whole (pos 1)
+unfolding unit times plus
+factor_small = record { cross = record { le = tt } }
+
+-- a number of radians near s, and a number of degrees of a radian
+pub record IsCorner (s : ℕ) (S R : Fraction) : Type 0 where
+  pub low : at_64 (pos s -ℤ pos 4) ≤F S
+  pub high : S ≤F at_64 (pos s +ℤ pos 6)
+  pub from : at_58 (pos factor) ≤F R
+  pub to : R ≤F at_58 (pos (suc factor))
+
+corner_nonneg : (r : Fraction) → at_58 (pos factor) ≤F r → zero_F ≤F r
+corner_nonneg r h = le_trans zero_F _ r (record { cross = record { le = tt } }) h
+
+corner_low : (s d : ℕ) (S R : Fraction) → IsHigh d s factor → IsCorner s S R → times (plus (whole (pos d)) (opposite (whole (pos 4)))) fine ≤F times S R
+corner_low s d S R p k =
+    le_by (S ∷ R ∷ whole (pos s) ∷ whole (pos factor) ∷ whole (pos d) ∷ whole (pos (s * factor)) ∷ unit ∷ fine ∷ [])
+    (((at 2 ⊖ lit (pos 4)) ⊗ at 6 ≼ at 0) ∷ (lit (pos 0) ≼ at 2 ⊗ at 6) ∷ (at 3 ⊗ at 7 ≼ at 1) ∷ (at 1 ≼ (at 3 ⊕ lit (pos 1)) ⊗ at 7) ∷ (lit (pos 0) ≼ at 1) ∷ (lit (pos 0) ≼ at 6)
+    ∷ (lit (pos 0) ≼ at 7) ∷ (at 4 ≼ at 5 ⊗ at 6) ∷ (at 5 ≗ at 2 ⊗ at 3) ∷ ((at 3 ⊕ lit (pos 1)) ⊗ at 6 ≼ lit (pos 1)) ∷ [])
+    ((at 4 ⊖ lit (pos 4)) ⊗ at 7) (at 0 ⊗ at 1)
+    (known 4 ⊠ known 0 ⊞ known 1 ⊠ known 2 ⊞ known 6 ⊠ known 7 ⊞ multiple 8 (at 6 ⊗ at 7) ⊞ natural 4 ⊠ known 5 ⊠ known 3 ⊞ natural 4 ⊠ known 6 ⊠ known 9) refl (
+      le_trans _ _ _ (ge_of_same (at_less (pos s) (pos 4))) k.low,
+      (
+        count_nonneg s,
+        (
+          le_trans _ _ _ (ge_of_same (at_58_is factor)) k.from,
+          (
+            le_trans _ _ _ k.to (le_of_same (at_58_more factor)),
+            (corner_nonneg R k.from, (unit_nonneg, (fine_nonneg, (high_below d (s * factor) p.not_above, (product_is s factor, (factor_small, tt)))))),
+          ),
+        ),
+      ),
+    )
+
+corner_high : (s d : ℕ) (S R : Fraction) → s ≤ 2 ^ 64 → IsHigh d s factor → IsCorner s S R → times S R ≤F times (plus (whole (pos d)) (whole (pos 9))) fine
+corner_high s d S R l p k =
+    le_by (S ∷ R ∷ whole (pos s) ∷ whole (pos factor) ∷ whole (pos d) ∷ whole (pos (s * factor)) ∷ unit ∷ fine ∷ [])
+    ((at 0 ≼ (at 2 ⊕ lit (pos 6)) ⊗ at 6) ∷ (lit (pos 0) ≼ at 2 ⊗ at 6) ∷ (at 1 ≼ (at 3 ⊕ lit (pos 1)) ⊗ at 7) ∷ (lit (pos 0) ≼ at 1) ∷ (lit (pos 0) ≼ at 6)
+    ∷ (lit (pos 0) ≼ at 7) ∷ (at 5 ⊗ at 6 ≼ at 4 ⊕ lit (pos 1)) ∷ (at 5 ≗ at 2 ⊗ at 3) ∷ ((at 3 ⊕ lit (pos 1)) ⊗ at 6 ≼ lit (pos 1)) ∷ (at 2 ⊗ at 6 ≼ lit (pos 1)) ∷ [])
+    (at 0 ⊗ at 1) ((at 4 ⊕ lit (pos 9)) ⊗ at 7)
+    (known 3 ⊠ known 0 ⊞ known 1 ⊠ known 2 ⊞ known 5 ⊠ known 6 ⊞ multiple 7 (lit (negsuc 0) ⊗ (at 6 ⊗ at 7)) ⊞ known 5 ⊠ known 9 ⊞ natural 6 ⊠ known 4 ⊠ known 2 ⊞ natural 6 ⊠ known 5 ⊠ known 8 ⊞ known 5) refl (
+      le_trans _ _ _ k.high (le_of_same (at_more (pos s) (pos 6))),
+      (
+        count_nonneg s,
+        (
+          le_trans _ _ _ k.to (le_of_same (at_58_more factor)),
+          (
+            corner_nonneg R k.from,
+            (unit_nonneg, (fine_nonneg, (high_above d (s * factor) p.close, (product_is s factor, (factor_small, (count_whole s l, tt)))))),
+          ),
+        ),
+      ),
+    )
+
+-- what the code has of the degrees: their count d, and two ends around it
+pub record AreDegrees (s d : ℕ) (lo hi : ℤ) : Type 0 where
+  pub degrees : d ≡ s * factor / 2 ^ 64
+  pub low : (lo *ℤ pos 4 +ℤ pos 4) ≤ℤ pos d
+  pub high : (pos d +ℤ pos 9) ≤ℤ (hi *ℤ pos 4)
+
+corner : (s d : ℕ) (lo hi : ℤ) (S R : Fraction) → s ≤ 2 ^ 64 → AreDegrees s d lo hi → IsCorner s S R → (at_56 lo ≤F times S R) × (times S R ≤F at_56 hi)
+corner s d lo hi S R l a k = let p = high_is d s factor a.degrees in (le_trans _ _ _ (low_end lo d a.low) (corner_low s d S R p k), le_trans _ _ _ (corner_high s d S R l p k) (high_end hi d a.high))
+
+neg_is : (n : ℤ) → at_56 (neg_ℤ n) ≈ opposite (at_56 n)
+unfolding opposite
+neg_is n = record { cross = refl }
+
+opposite_corner : (s d : ℕ) (lo hi : ℤ) (S R : Fraction) → s ≤ 2 ^ 64 → AreDegrees s d lo hi → IsCorner s S R → (at_56 (neg_ℤ hi) ≤F times (opposite S) R) × (times (opposite S) R ≤F at_56 (neg_ℤ lo))
+opposite_corner s d lo hi S R l a k =
+    let b = corner s d lo hi S R l a k in (
+      le_trans _ _ _ (le_of_same (neg_is hi)) (le_by (S ∷ R ∷ at_56 hi ∷ []) ((at 0 ⊗ at 1 ≼ at 2) ∷ []) (minus (at 2)) (minus (at 0) ⊗ at 1) (known 0) refl (b.1, tt)),
+      le_trans _ _ _ (le_by (S ∷ R ∷ at_56 lo ∷ []) ((at 2 ≼ at 0 ⊗ at 1) ∷ []) (minus (at 0) ⊗ at 1) (minus (at 2)) (known 0) refl (b.0, tt)) (ge_of_same (neg_is lo)),
+    )
+
+between_mono : (a b : ℤ) → a ≤ℤ b → at_64 a ≤F at_64 b
+between_mono a b h = record { cross = omega (arith, ints, h) }
+
+fine_mono : at_58 (pos factor) ≤F at_58 (pos (suc factor))
+fine_mono = record { cross = record { le = tt } }
+
+four : (s : ℕ) → IsCorner s (at_64 (pos s -ℤ pos 4)) (at_58 (pos factor)) × (IsCorner s (at_64 (pos s -ℤ pos 4)) (at_58 (pos (suc factor))) × (IsCorner s (at_64 (pos s +ℤ pos 6)) (at_58 (pos factor)) × IsCorner s (at_64 (pos s +ℤ pos 6)) (at_58 (pos (suc factor)))))
+four s =
+    let m = between_mono (pos s -ℤ pos 4) (pos s +ℤ pos 6) (omega (arith, ints)) in
+    let a = le_refl (at_64 (pos s -ℤ pos 4)) in
+    let b = le_refl (at_64 (pos s +ℤ pos 6)) in
+    let c = le_refl (at_58 (pos factor)) in
+    let d = le_refl (at_58 (pos (suc factor))) in
+    (record { low = a; high = m; from = c; to = fine_mono }, (record { low = a; high = m; from = fine_mono; to = d }, (record { low = m; high = b; from = c; to = fine_mono }, record { low = m; high = b; from = fine_mono; to = d })))
+
+product_held : (s d : ℕ) (lo hi : ℤ) → s ≤ 2 ^ 64 → AreDegrees s d lo hi → product (around s) radian ⊆ between (at_56 lo) (at_56 hi)
+unfolding product
+product_held s d lo hi l a =
+    let k = four s in
+    let c = corner s d lo hi _ _ l a k.0 in
+    let e = corner s d lo hi _ _ l a k.1.0 in
+    let f = corner s d lo hi _ _ l a k.1.1.0 in
+    let g = corner s d lo hi _ _ l a k.1.1.1 in
+    record { ends = (least_is _ _ _ _ _ c.0 e.0 f.0 g.0, greatest_is _ _ _ _ _ c.1 e.1 f.1 g.1) }
+
+opposite_product_held : (s d : ℕ) (lo hi : ℤ) → s ≤ 2 ^ 64 → AreDegrees s d lo hi → product (negative (around s)) radian ⊆ between (at_56 (neg_ℤ hi)) (at_56 (neg_ℤ lo))
+unfolding product negative
+opposite_product_held s d lo hi l a =
+    let k = four s in
+    let c = opposite_corner s d lo hi _ _ l a k.0 in
+    let e = opposite_corner s d lo hi _ _ l a k.1.0 in
+    let f = opposite_corner s d lo hi _ _ l a k.1.1.0 in
+    let g = opposite_corner s d lo hi _ _ l a k.1.1.1 in
+    record { ends = (least_is _ _ _ _ _ f.0 g.0 c.0 e.0, greatest_is _ _ _ _ _ f.1 g.1 c.1 e.1) }
+
+-- ---- in degrees
+radians_small : (q w t s : ℕ) → IsComputed q w t s → s ≤ 2 ^ 64
+radians_small q w t s c = omega (arith, high_small s q t (high_is s q t c.radians) (omega (arith, c.small)), c.below)
+
+pub near_held : (n q w t s d : ℕ) (lo hi : ℤ) (x : Fraction) → 40 ≤ n → IsComputed q w t s → AreDegrees s d lo hi → IsNumber q x → arc_near n x ⊆ between (at_56 lo) (at_56 hi)
+unfolding arc_near
+near_held n q w t s d lo hi x l c a g =
+    within_trans (product_within (series_proper n x (number_in q x g)) (degrees_proper n) (series_held n q w t s x l c g) (radian_near n l)) (product_held s d lo hi (radians_small q w t s c) a)
+
+pub near_mirrored : (n q w t s d : ℕ) (lo hi : ℤ) (x : Fraction) → 40 ≤ n → 1 ≤ q → IsComputed q w t s → AreDegrees s d lo hi → IsNumber q (opposite x) → arc_near n x ⊆ between (at_56 (neg_ℤ hi)) (at_56 (neg_ℤ lo))
+unfolding arc_near
+near_mirrored n q w t s d lo hi x l m c a g =
+    within_trans (product_within (series_proper n x (opposite_in q x g)) (degrees_proper n) (series_mirrored n q w t s x l m c g) (radian_near n l)) (opposite_product_held s d lo hi (radians_small q w t s c) a)

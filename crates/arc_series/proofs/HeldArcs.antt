@@ -1,55 +1,33 @@
--- From enclosures of points to those of what two ends have in common with the pieces.
-use Rattle.std.proofs.Common.{◌≡◌, ℕ, zero, suc, ◌≤◌, ◌-◌, ◌^◌, refl, arith, Bool, true, false, cond, ℤ, pos, negsuc, ◌+ℤ◌, ◌≤ℤ◌, ◌<ℤ◌, ◌⊎◌, inl, inr, Option, Some, None, List, [], ◌∷◌, ◌++◌, map}
+-- From spans at single numbers to those of what two ends have in common with the pieces.
+use Rattle.std.proofs.Common.{◌≡◌, ℕ, ◌≤◌, ◌-◌, ◌^◌, refl, arith, Bool, true, false, cond, ℤ, pos, negsuc, ◌+ℤ◌, ◌≤ℤ◌, ◌<ℤ◌, ◌⊎◌, inl, inr, Option, Some, None, List, [], ◌∷◌, ◌++◌, map}
+use Rattle.std.specs.Prelude.{IfSome}
 use Rattle.std.specs.List.{filter}
 use Rattle.std.specs.Int.{int_min, int_max}
 use Rattle.std.proofs.lemmas.Int.{ints, clamps}
-use Rattle.exact_math.specs.Fraction.{Fraction, ◌≤F◌, whole, smaller, larger}
-use Rattle.exact_math.specs.Interval.{Interval, between, IsProper, ◌⊆◌, hull}
-use Rattle.exact_math.proofs.Fractions.{le_refl, le_trans, smaller_keeps, larger_keeps, smaller_first, smaller_second, larger_first, larger_second}
-use Rattle.exact_math.proofs.Intervals.{within_trans, within_refl, hull_within}
-use Rattle.exact_math.proofs.Hulls.{hull_holds_first, hull_holds_second}
-use Rattle.book_model.specs.numbers.Expressions.{Expression, World, value, argument, hull as hull_of}
-use Rattle.book_model.specs.numbers.Relations.{Within, Lies}
+use Rattle.exact_math.specs.Fraction.{Fraction, ◌≤F◌, ◌≈◌, whole, smaller, larger}
+use Rattle.exact_math.specs.Interval.{Interval, between, ◌⊆◌}
+use Rattle.exact_math.proofs.Same.{same_of_le}
+use Rattle.exact_math.proofs.Fractions.{le_trans, smaller_keeps, larger_keeps, smaller_first, smaller_second, larger_first, larger_second}
+use Rattle.exact_math.proofs.Intervals.{within_trans}
+use Rattle.exact_math.proofs.Hulls.{hull_least}
 use Rattle.book_model.specs.programs.Leading.{at_56}
 use Rattle.book_model.specs.numbers.Octants.{only}
 use Rattle.book_model.specs.numbers.Arcs.{half, minus_half, Piece as ArcPiece, pieces, meets, arc_of_part, arcs_over, arctangent_of}
-use Rattle.book_model.proofs.ArcPieces.{InPiece, IsFrom, IsTo, IsArc, far_below_arc, below_arc, near_arc, above_arc, far_above_arc}
-use Rattle.book_model.proofs.Arcs.{met_out, low_in, high_in, low_of, high_of, Each, all_least, arcs_there}
+use Rattle.book_model.proofs.ArcPieces.{IsFrom, IsTo}
+use Rattle.book_model.proofs.Arcs.{met_out, low_of, high_of, Each, all_least, arcs_there}
 use Rattle.arc_series.specs.declared.pieces.Piece.{Piece}
 use Rattle.arc_series.specs.declared.pieces.Piece.TheVariants.{FarBelow, Below, Near, Above, FarAbove}
-use Rattle.arc_series.specs.Forms.{piece_of, arc_in, AreHeld, begin_56, end_56}
-use Rattle.arc_series.proofs.ArcValues.{arc_value}
+use Rattle.arc_series.specs.Forms.{piece_of, AreHeld, begin_56, end_56}
 
--- ---- enclosures of one and of two
-abbrev point_world : ℕ → Fraction → World
-point_world n x = record { depth = n; arguments = λ k. only x; proper = λ k. le_refl x }
+-- ---- one number and two
+only_same : (x y : Fraction) → only x ⊆ only y → x ≈ y
+only_same x y h = same_of_le h.ends.1 h.ends.0
 
-pub arc_held : {E : Type 0} (shown : E → Interval) (n : ℕ) (p : Piece) (x : Fraction) (e r : E) → 40 ≤ n → InPiece (piece_of p) x → only x ⊆ shown e
-    → ((w : World) (a : Expression) → 40 ≤ w.depth → Within shown w a e → Within shown w (arc_in p a) r) → (piece_of p).arc n x ⊆ shown r
-unfolding Lies value
-arc_held shown n p x e r d i h f =
-    let k = f (point_world n x) (argument 0) d (record { deep = d; inside = h }) in
-    let l : value (point_world n x) (arc_in p (argument 0)) ⊆ shown r = k.inside in
-    within_trans (arc_value (point_world n x) p (argument 0) x d i (within_refl (only x))) l
+pub hull_first : (a b c d lo hi : ℤ) → lo ≡ int_min a c → hi ≡ int_max b d → (i : Interval) → i ⊆ between (at_56 a) (at_56 b) → i ⊆ between (at_56 lo) (at_56 hi)
+hull_first a b c d lo hi e f i h = within_trans h (record { ends = (record { cross = omega (arith, ints, clamps, e) }, record { cross = omega (arith, ints, clamps, f) }) })
 
-abbrev two : Interval → Interval → ℕ → Interval
-two i j zero = i
-two i j (suc k) = j
-
-two_proper : (i j : Interval) (k : ℕ) → IsProper i → IsProper j → IsProper (two i j k)
-two_proper i j zero p q = p
-two_proper i j (suc k) p q = q
-
-abbrev pair_world : (i j : Interval) → IsProper i → IsProper j → World
-pair_world i j p q = record { depth = 40; arguments = two i j; proper = λ k. two_proper i j k p q }
-
-pub hull_held : {E : Type 0} (shown : E → Interval) (i j : Interval) (x y r : E) → IsProper (shown x) → IsProper (shown y) → i ⊆ shown x → j ⊆ shown y
-    → ((w : World) (a b : Expression) → Within shown w a x → Within shown w b y → Within shown w (hull_of a b) r) → hull i j ⊆ shown r
-unfolding Lies value
-hull_held shown i j x y r p q h k f =
-    let l = f (pair_world (shown x) (shown y) p q) (argument 0) (argument 1) (record { deep = omega arith; inside = within_refl (shown x) }) (record { deep = omega arith; inside = within_refl (shown y) }) in
-    let m : hull (shown x) (shown y) ⊆ shown r = l.inside in
-    within_trans (hull_within h k) m
+pub hull_second : (a b c d lo hi : ℤ) → lo ≡ int_min a c → hi ≡ int_max b d → (i : Interval) → i ⊆ between (at_56 c) (at_56 d) → i ⊆ between (at_56 lo) (at_56 hi)
+hull_second a b c d lo hi e f i h = within_trans h (record { ends = (record { cross = omega (arith, ints, clamps, e) }, record { cross = omega (arith, ints, clamps, f) }) })
 
 -- ---- the ends of parts
 split : (j k : ℤ) → (j ≤ℤ k) ⊎ ((k +ℤ pos 1) ≤ℤ j)
@@ -109,13 +87,6 @@ ended_says Above x h f = omega (arith, ints, f.cross)
 ended_says FarAbove x h f = h
 
 -- ---- the part in a piece
-piece_arc : (p : Piece) → IsArc (piece_of p)
-piece_arc FarBelow = far_below_arc
-piece_arc Below = below_arc
-piece_arc Near = near_arc
-piece_arc Above = above_arc
-piece_arc FarAbove = far_above_arc
-
 none_by : {E : Type 0} (shown : E → Interval) (g : ArcPiece → Interval) (p : ArcPiece) (t : Bool) (y : Option E) → (t ≡ true → ⊥) → AreHeld shown (map g (cond t (p ∷ []) [])) y
 none_by shown g p true y h = absurd (h refl)
 none_by shown g p false y h = tt
@@ -138,40 +109,45 @@ ended_held shown n p lo hi y h k =
     let l = ended_says p lo h m.ended in
     omega (arith, ints, l, k)
 
-pub over_held : {E : Type 0} (shown : E → Interval) (proper : (e : E) → IsProper (shown e)) (n : ℕ) (p : Piece) (lo hi : ℤ) (x y low high r : E) → 40 ≤ n → negsuc (2 ^ 127 - 1) ≤ℤ lo → hi ≤ℤ pos (2 ^ 127 - 1)
-    → only (at_56 (int_max (begin_56 p) lo)) ⊆ shown x → only (at_56 (int_min (end_56 p) hi)) ⊆ shown y
-    → ((w : World) (a : Expression) → 40 ≤ w.depth → Within shown w a x → Within shown w (arc_in p a) low)
-    → ((w : World) (a : Expression) → 40 ≤ w.depth → Within shown w a y → Within shown w (arc_in p a) high)
-    → ((w : World) (a b : Expression) → Within shown w a low → Within shown w b high → Within shown w (hull_of a b) r)
+-- an interval holds the arctangents of a number in a piece
+abbrev pub Holds_arcs : Piece → ℤ → Interval → Type 0
+Holds_arcs p k i = (n : ℕ) (x : Fraction) → 40 ≤ n → x ≈ at_56 k → (piece_of p).arc n x ⊆ i
+
+pub over_held : {E : Type 0} (shown : E → Interval) (n : ℕ) (p : Piece) (lo hi k m : ℤ) (low high : Interval) (r : E) → 40 ≤ n → negsuc (2 ^ 127 - 1) ≤ℤ lo → hi ≤ℤ pos (2 ^ 127 - 1)
+    → k ≡ int_max (begin_56 p) lo → m ≡ int_min (end_56 p) hi → Holds_arcs p k low → Holds_arcs p m high → ((i : Interval) → i ⊆ low → i ⊆ shown r) → ((i : Interval) → i ⊆ high → i ⊆ shown r)
     → AreHeld shown (arcs_over n (at_56 lo) (at_56 hi) (piece_of p ∷ [])) (Some r)
 unfolding arc_of_part
-over_held shown proper n p lo hi x y low high r d hl hh hx hy fx fy fh =
+over_held shown n p lo hi k m low high r d hl hh ek em fl fh gl gh =
     some_by shown (arc_of_part n (at_56 lo) (at_56 hi)) (piece_of p) (meets (at_56 lo) (at_56 hi) (piece_of p)) r λ t.
-    let m = met_out (piece_of p) (at_56 lo) (at_56 hi) t in
-    let q = (piece_arc p).order in
-    hull_held shown _ _ low high r (proper low) (proper high)
-    (arc_held shown n p (low_of (piece_of p) (at_56 lo)) x low d (low_in (piece_of p) (at_56 lo) (at_56 hi) q m) (within_trans (low_only p lo hl) hx) fx)
-    (arc_held shown n p (high_of (piece_of p) (at_56 hi)) y high d (high_in (piece_of p) (at_56 lo) (at_56 hi) q m) (within_trans (high_only p hi hh) hy) fy)
-    fh
+    let a = only_same (low_of (piece_of p) (at_56 lo)) (at_56 k) (rw ek (low_only p lo hl)) in
+    let b = only_same (high_of (piece_of p) (at_56 hi)) (at_56 m) (rw em (high_only p hi hh)) in
+    hull_least (gl _ (fl n _ d a)) (gh _ (fh n _ d b))
+
+-- a part begins and ends in its piece
+pub part_from : (p : Piece) (lo hi k : ℤ) → k ≡ int_max (begin_56 p) lo → lo ≤ℤ end_56 p → (begin_56 p ≤ℤ k) × (k ≤ℤ end_56 p)
+part_from FarBelow lo hi k e h = (omega (arith, ints, clamps, e), omega (arith, ints, clamps, e, h))
+part_from Below lo hi k e h = (omega (arith, ints, clamps, e), omega (arith, ints, clamps, e, h))
+part_from Near lo hi k e h = (omega (arith, ints, clamps, e), omega (arith, ints, clamps, e, h))
+part_from Above lo hi k e h = (omega (arith, ints, clamps, e), omega (arith, ints, clamps, e, h))
+part_from FarAbove lo hi k e h = (omega (arith, ints, clamps, e), omega (arith, ints, clamps, e, h))
+
+pub part_to : (p : Piece) (lo hi k : ℤ) → k ≡ int_min (end_56 p) hi → begin_56 p ≤ℤ hi → (begin_56 p ≤ℤ k) × (k ≤ℤ end_56 p)
+part_to FarBelow lo hi k e h = (omega (arith, ints, clamps, e, h), omega (arith, ints, clamps, e))
+part_to Below lo hi k e h = (omega (arith, ints, clamps, e, h), omega (arith, ints, clamps, e))
+part_to Near lo hi k e h = (omega (arith, ints, clamps, e, h), omega (arith, ints, clamps, e))
+part_to Above lo hi k e h = (omega (arith, ints, clamps, e, h), omega (arith, ints, clamps, e))
+part_to FarAbove lo hi k e h = (omega (arith, ints, clamps, e, h), omega (arith, ints, clamps, e))
 
 -- ---- what there is of two
-hull_first : {E : Type 0} (shown : E → Interval) (x y r : E) → IsProper (shown x) → IsProper (shown y)
-    → ((w : World) (a b : Expression) → Within shown w a x → Within shown w b y → Within shown w (hull_of a b) r) → (i : Interval) → i ⊆ shown x → i ⊆ shown r
-hull_first shown x y r p q f i h = within_trans (within_trans h (hull_holds_first (shown x) (shown y))) (hull_held shown (shown x) (shown y) x y r p q (within_refl _) (within_refl _) f)
-
-hull_second : {E : Type 0} (shown : E → Interval) (x y r : E) → IsProper (shown x) → IsProper (shown y)
-    → ((w : World) (a b : Expression) → Within shown w a x → Within shown w b y → Within shown w (hull_of a b) r) → (i : Interval) → i ⊆ shown y → i ⊆ shown r
-hull_second shown x y r p q f i h = within_trans (within_trans h (hull_holds_second (shown x) (shown y))) (hull_held shown (shown x) (shown y) x y r p q (within_refl _) (within_refl _) f)
-
 both_held : {E : Type 0} (shown : E → Interval) (is js : List Interval) (x y r : E) → ((i : Interval) → i ⊆ shown x → i ⊆ shown r) → ((j : Interval) → j ⊆ shown y → j ⊆ shown r)
     → AreHeld shown is (Some x) → AreHeld shown js (Some y) → AreHeld shown (is ++ js) (Some r)
 both_held shown [] [] x y r f g h k = tt
 both_held shown [] (j ∷ js) x y r f g h k = (g j k.0, both_held shown [] js x y r f g h k.1)
 both_held shown (i ∷ is) js x y r f g h k = (f i h.0, both_held shown is js x y r f g h.1 k)
 
-pub join_both : {E : Type 0} (shown : E → Interval) (proper : (e : E) → IsProper (shown e)) (is js : List Interval) (x y r : E) → AreHeld shown is (Some x) → AreHeld shown js (Some y)
-    → ((w : World) (a b : Expression) → Within shown w a x → Within shown w b y → Within shown w (hull_of a b) r) → AreHeld shown (is ++ js) (Some r)
-join_both shown proper is js x y r h k f = both_held shown is js x y r (hull_first shown x y r (proper x) (proper y) f) (hull_second shown x y r (proper x) (proper y) f) h k
+pub join_both : {E : Type 0} (shown : E → Interval) (is js : List Interval) (x y r : E) → AreHeld shown is (Some x) → AreHeld shown js (Some y)
+    → ((i : Interval) → i ⊆ shown x → i ⊆ shown r) → ((j : Interval) → j ⊆ shown y → j ⊆ shown r) → AreHeld shown (is ++ js) (Some r)
+join_both shown is js x y r h k f g = both_held shown is js x y r f g h k
 
 pub join_first : {E : Type 0} (shown : E → Interval) (is js : List Interval) (x : E) → AreHeld shown is (Some x) → AreHeld shown js None → AreHeld shown (is ++ js) (Some x)
 join_first shown [] [] x h k = tt
@@ -201,3 +177,8 @@ pub all_held : {E : Type 0} (shown : E → Interval) (n : ℕ) (lo hi : ℤ) (e 
 unfolding arctangent_of
 all_held shown n lo hi e o h =
     all_least (arcs_over n (at_56 lo) (at_56 hi) pieces) (shown e) (arcs_there n (at_56 lo) (at_56 hi) (record { cross = omega (arith, ints, o) })) (each_held shown _ e h)
+
+pub some_held : {E : Type 0} (shown : E → Interval) (lo hi : ℤ) (y : Option E) → lo ≤ℤ hi → ((n : ℕ) → 40 ≤ n → AreHeld shown (arcs_over n (at_56 lo) (at_56 hi) pieces) y)
+    → IfSome y (λ e. (n : ℕ) → 40 ≤ n → arctangent_of n (between (at_56 lo) (at_56 hi)) ⊆ shown e)
+some_held shown lo hi None o h = tt
+some_held shown lo hi (Some e) o h = λ n d. all_held shown n lo hi e o (h n d)

@@ -1,4 +1,7 @@
-pub mod FormLemmas
+pub mod Coefficients
+pub mod KernelSteps
 pub mod ArcValues
+pub mod QuotientLemmas
+pub mod PieceArcs
 pub mod HeldArcs
 pub mod ArcLemmas

@@ -1,30 +1,13 @@
--- The forms in which arctangents are computed, as expressions.
-use Rattle.std.specs.Prelude.{ℕ, zero, suc, ◌+◌, ◌-◌, ◌*◌, ◌^◌, ℤ, pos, negsuc, neg_ℤ, Option, Some, None, List, [], ◌∷◌, Bool, false, ◌||◌}
+-- The pieces of the line as the code names them, what spans hold, and the form of an arcsine.
+use Rattle.std.specs.Prelude.{◌-◌, ◌*◌, ◌^◌, ℤ, pos, negsuc, neg_ℤ, Option, Some, None, List, [], ◌∷◌, Bool, false, ◌||◌}
 use Rattle.exact_math.specs.Interval.{Interval, everything, between, ◌⊆◌}
 use lib.Signed.{lt_z}
+use Rattle.book_model.specs.programs.Leading.{at_56}
 use Rattle.book_model.specs.numbers.Arcs.{Piece as ArcPiece, far_below, below, near, above, far_above}
+use Rattle.encl_core.specs.declared.span.Span.{Span}
 use Rattle.arc_series.specs.declared.pieces.Piece.{Piece}
 use Rattle.arc_series.specs.declared.pieces.Piece.TheVariants.{FarBelow, Below, Near, Above, FarAbove}
-use Rattle.book_model.specs.declared.tables.TheConstants.{FINEST_PART}
-use Rattle.book_model.specs.numbers.Fractions.{fraction_of}
-use Rattle.book_model.specs.numbers.Expressions.{Expression, integer, add, subtract, multiply, divide, negate, power, clamp, root, widen, pi}
-
--- 1 / odd - u (1 / (odd + 2) - u (..)), to the term after m more
-unfoldable pub horner : Expression → ℕ → ℕ → Expression
-horner u odd zero = divide (integer (pos 1)) (integer (pos odd))
-horner u odd (suc m) = subtract (divide (integer (pos 1)) (integer (pos odd))) (multiply u (horner u (odd + 2) m))
-
--- the arctangent in degrees from -1/2 to 1/2
-unfoldable pub near_of : Expression → Expression
-near_of a = multiply (widen (fraction_of FINEST_PART) (multiply a (horner (power a 2) 1 25))) (divide (integer (pos 180)) pi)
-
--- from 1/2 to 3
-unfoldable pub above_of : Expression → Expression
-above_of a = add (integer (pos 45)) (near_of (divide (subtract a (integer (pos 1))) (add a (integer (pos 1)))))
-
--- from 3 on
-unfoldable pub beyond_of : Expression → Expression
-beyond_of a = subtract (integer (pos 90)) (near_of (divide (integer (pos 1)) a))
+use Rattle.book_model.specs.numbers.Expressions.{Expression, integer, add, subtract, divide, power, clamp, root}
 
 -- a piece of the line, as the code names it
 abbrev pub piece_of : Piece → ArcPiece
@@ -34,15 +17,11 @@ piece_of Near = near
 piece_of Above = above
 piece_of FarAbove = far_above
 
--- the arctangent of a number in a piece
-unfoldable pub arc_in : Piece → Expression → Expression
-arc_in FarBelow a = negate (beyond_of (negate a))
-arc_in Below a = negate (above_of (negate a))
-arc_in Near a = near_of a
-arc_in Above a = above_of a
-arc_in FarAbove a = beyond_of a
+-- what lies between the ends of a span
+abbrev pub of_span : Span → Interval
+of_span s = between (at_56 s.lo) (at_56 s.hi)
 
--- what there is of an enclosure holds each of some intervals
+-- what there is holds each of some intervals
 abbrev pub AreHeld : {E : Type 0} → (E → Interval) → List Interval → Option E → Type 0
 AreHeld shown [] y = Unit {0}
 AreHeld shown (i ∷ is) None = ⊥

@@ -24,7 +24,10 @@ pub fn arctan_deg<E: Enclosure>(x: E) -> E
     ensures narrow { Narrows1 E.shown E.BITS arctangent x result }
 {
     match x.span() {
-        Some(span) => arctan_over(span),
+        Some(span) => match arctan_over(span) {
+            Some(arc) => E::from_span(arc),
+            None => E::whole(),
+        },
         None => E::whole(),
     }
 }

@@ -8,7 +8,9 @@
 #![tactic(auto)]
 
 mod degrees;
+mod kernel;
 mod pieces;
-mod series;
+mod quotients;
+mod spans;
 
 pub use degrees::{arccos_deg, arcsin_deg, arctan_deg, arctan2_deg};

@@ -1,21 +1,33 @@
-//! Arctangents over the closed pieces of the line.
-ghost use Rattle.book_model.specs.programs.Calls.{Holds1};
-ghost use Rattle.std.specs.Prelude.{◌≡◌, ℕ, ◌≤◌, List, [], ◌∷◌, ◌++◌};
+//! Arctangents over the closed pieces of the line. All numbers and degrees count 2⁻⁵⁶.
+ghost use Rattle.std.specs.Prelude.{◌≡◌, ℕ, ◌≤◌, pos, neg_ℤ, ◌≤ℤ◌, List, [], ◌∷◌, ◌++◌, IfSome};
+ghost use Rattle.exact_math.specs.Fraction.{Fraction, ◌≈◌, opposite as opposite_of};
 ghost use Rattle.exact_math.specs.Interval.{Interval, between, ◌⊆◌};
-ghost use Rattle.book_model.specs.numbers.Arcs.{arcs_over, arctangent_of, far_below, below, near as near_piece, above as above_piece, far_above};
+ghost use Rattle.book_model.specs.numbers.Arcs.{arcs_over, arctangent_of, arc_near, arc_above, arc_beyond};
 ghost use Rattle.book_model.specs.programs.Leading.{at_56};
-ghost use Rattle.book_model.specs.numbers.Octants.{only};
 ghost use Rattle.book_model.specs.numbers.Depth.{DEPTH};
-ghost use Rattle.arc_series.specs.Forms.{above_of, beyond_of, piece_of, arc_in, AreHeld, begin_56, end_56};
+ghost use Rattle.arc_series.specs.declared.pieces.TheConstants.{HALF, THREE};
+ghost use Rattle.arc_series.specs.Forms.{piece_of, of_span, AreHeld, begin_56, end_56};
+ghost use Rattle.arc_series.specs.Kernel.{IsSmall};
 
-use crate::series::near;
-use encl_core::{Enclosure, Span};
+use crate::kernel::arc_of_number_64;
+use crate::quotients::quotient_64;
+use crate::spans::{hull, less, more, opposite};
+use encl_core::Span;
 
-/// A half, which counts 2⁻⁵⁶.
+/// A half.
 const HALF: i128 = 36_028_797_018_963_968;
 
-/// 3, which counts 2⁻⁵⁶.
+/// One.
+const ONE: u64 = 72_057_594_037_927_936;
+
+/// 3.
 const THREE: i128 = 216_172_782_113_783_808;
+
+/// 45 degrees.
+const EIGHTH_TURN: i128 = 3_242_591_731_706_757_120;
+
+/// 90 degrees.
+const QUARTER_TURN: i128 = 6_485_183_463_413_514_240;
 
 /// A closed piece of the line: up to -3, from there to -1/2, to 1/2, to 3, and from 3 on.
 #[derive(Clone, Copy, Debug, PartialEq)]
@@ -27,34 +39,77 @@ pub(crate) enum Piece {
     FarAbove,
 }
 
-/// The arctangent of numbers from 1/2 to 3: 45 degrees more than that of (x - 1) / (x + 1).
-#[tactic(auto, unfolding(crate::specs::Forms::above_of))]
-fn above<E: Enclosure>(x: E) -> E
-    ensures holds { Holds1 E.shown above_of x result }
+/// The arctangent of a number from 0 to 1/2.
+#[inline(always)]
+fn near(number: u64) -> Span
+    requires half { pos number ≤ℤ HALF }
+    ensures holds { (n : ℕ) (x : Fraction) → DEPTH ≤ n → x ≈ at_56 (pos number)
+        → arc_near n x ⊆ of_span result }
+    ensures mirrored { (n : ℕ) (x : Fraction) → DEPTH ≤ n → 1 ≤ number → opposite_of x ≈ at_56 (pos number)
+        → arc_near n x ⊆ between (at_56 (neg_ℤ result.hi)) (at_56 (neg_ℤ result.lo)) }
+    ensures room { IsSmall result.lo result.hi }
 {
-    let one = E::from_int(1);
-    E::from_int(45).add(near(x.sub(one).div(x.add(one))))
+    arc_of_number_64(number * 256)
 }
 
-/// The arctangent of numbers from 3 on: 90 degrees less that of 1 / x.
-#[tactic(auto, unfolding(crate::specs::Forms::beyond_of))]
-fn beyond<E: Enclosure>(x: E) -> E
-    ensures holds { Holds1 E.shown beyond_of x result }
+/// The arctangent of a number from 1/2 to 3: 45 degrees more than that of (x - 1) / (x + 1).
+#[inline(always)]
+fn above(number: u64) -> Span
+    requires from { HALF ≤ℤ pos number }
+    requires to { pos number ≤ℤ THREE }
+    ensures holds { (n : ℕ) (x : Fraction) → DEPTH ≤ n → x ≈ at_56 (pos number)
+        → arc_above n x ⊆ of_span result }
+    ensures room { IsSmall result.lo result.hi }
 {
-    E::from_int(90).sub(near(E::from_int(1).div(x)))
+    let sum = u128::from(ONE + number);
+    if number < ONE {
+        return less(
+            EIGHTH_TURN,
+            arc_of_number_64(quotient_64(ONE - number, sum)),
+        );
+    }
+    more(
+        EIGHTH_TURN,
+        arc_of_number_64(quotient_64(number - ONE, sum)),
+    )
 }
 
-/// The arctangent of numbers in a piece; in a negative one it is the opposite of that of the opposites.
-#[tactic(auto, unfolding(crate::specs::Forms::arc_in))]
-fn arc<E: Enclosure>(piece: Piece, x: E) -> E
-    ensures holds { Holds1 E.shown (arc_in piece) x result }
+/// The arctangent of a number from 3 on: 90 degrees less that of 1 / x.
+#[inline(always)]
+fn beyond(number: u128) -> Span
+    requires from { THREE ≤ℤ pos number }
+    ensures holds { (n : ℕ) (x : Fraction) → DEPTH ≤ n → x ≈ at_56 (pos number)
+        → arc_beyond n x ⊆ of_span result }
+    ensures room { IsSmall result.lo result.hi }
+{
+    less(QUARTER_TURN, arc_of_number_64(quotient_64(ONE, number)))
+}
+
+/// The arctangent of a number from -1/2 to 1/2.
+fn near_zero(number: i128) -> Span
+    requires from { neg_ℤ HALF ≤ℤ number }
+    requires to { number ≤ℤ HALF }
+    ensures holds { (n : ℕ) (x : Fraction) → DEPTH ≤ n → x ≈ at_56 number → arc_near n x ⊆ of_span result }
+{
+    let size = number.unsigned_abs() as u64;
+    if number < 0 {
+        return opposite(near(size));
+    }
+    near(size)
+}
+
+/// The arctangent of a number in a piece; in a negative one it is the opposite of that of the opposite.
+fn arc(piece: Piece, number: i128) -> Span
+    requires from { begin_56 piece ≤ℤ number }
+    requires to { number ≤ℤ end_56 piece }
+    ensures holds { (n : ℕ) (x : Fraction) → DEPTH ≤ n → x ≈ at_56 number → (piece_of piece).arc n x ⊆ of_span result }
 {
     match piece {
-        Piece::FarBelow => beyond(x.neg()).neg(),
-        Piece::Below => above(x.neg()).neg(),
-        Piece::Near => near(x),
-        Piece::Above => above(x),
-        Piece::FarAbove => beyond(x),
+        Piece::FarBelow => opposite(beyond(number.unsigned_abs())),
+        Piece::Below => opposite(above(number.unsigned_abs() as u64)),
+        Piece::Near => near_zero(number),
+        Piece::Above => above(number.unsigned_abs() as u64),
+        Piece::FarAbove => beyond(number.unsigned_abs()),
     }
 }
 
@@ -84,16 +139,10 @@ fn end_of(piece: Piece) -> i128
     }
 }
 
-/// The enclosure of a number that counts 2⁻⁵⁶.
-fn point<E: Enclosure>(at: i128) -> E
-    ensures holds { only (at_56 at) ⊆ E.shown result }
-{
-    E::from_span(Span { lo: at, hi: at })
-}
-
 /// The arctangents at both ends of what two ends have in common with a piece, if there is such a part.
-fn arc_over<E: Enclosure>(piece: Piece, lo: i128, hi: i128) -> Option<E>
-    ensures holds { (n : ℕ) → DEPTH ≤ n → AreHeld E.shown
+fn arc_over(piece: Piece, lo: i128, hi: i128) -> Option<Span>
+    requires ordered { lo ≤ℤ hi }
+    ensures holds { (n : ℕ) → DEPTH ≤ n → AreHeld of_span
         (arcs_over n (at_56 lo) (at_56 hi) (piece_of piece ∷ [])) result }
 {
     let begin = begin_of(piece);
@@ -104,39 +153,35 @@ fn arc_over<E: Enclosure>(piece: Piece, lo: i128, hi: i128) -> Option<E>
     if lo > end {
         return None;
     }
-    let low = arc(piece, point::<E>(begin.max(lo)));
-    let high = arc(piece, point::<E>(end.min(hi)));
-    Some(low.hull(high))
+    let low = arc(piece, begin.max(lo));
+    let high = arc(piece, end.min(hi));
+    Some(hull(low, high))
 }
 
 /// The hull of what there is.
-fn join<E: Enclosure>(x: Option<E>, y: Option<E>) -> Option<E>
-    ensures holds { (is js : List Interval) → AreHeld E.shown is x → AreHeld E.shown js y
-        → AreHeld E.shown (is ++ js) result }
+fn join(x: Option<Span>, y: Option<Span>) -> Option<Span>
+    ensures holds { (is js : List Interval) → AreHeld of_span is x → AreHeld of_span js y
+        → AreHeld of_span (is ++ js) result }
 {
     match x {
         Some(first) => match y {
-            Some(second) => Some(first.hull(second)),
+            Some(second) => Some(hull(first, second)),
             None => Some(first),
         },
         None => y,
     }
 }
 
-/// The arctangent over two ends: the hull over the pieces that they meet.
-pub(crate) fn arctan_over<E: Enclosure>(span: Span) -> E
-    ensures holds { (n : ℕ) → DEPTH ≤ n → arctangent_of n
-        (between (at_56 span.lo) (at_56 span.hi)) ⊆ E.shown result }
+/// The arctangent over two ends: the hull over the pieces that they meet. They meet one.
+pub(crate) fn arctan_over(span: Span) -> Option<Span>
+    ensures holds { IfSome result (λ arc. (n : ℕ) → DEPTH ≤ n → arctangent_of n
+        (between (at_56 span.lo) (at_56 span.hi)) ⊆ of_span arc) }
 {
     let positive = join(
-        arc_over::<E>(Piece::Above, span.lo, span.hi),
+        arc_over(Piece::Above, span.lo, span.hi),
         arc_over(Piece::FarAbove, span.lo, span.hi),
     );
     let later = join(arc_over(Piece::Near, span.lo, span.hi), positive);
     let most = join(arc_over(Piece::Below, span.lo, span.hi), later);
-    let all = join(arc_over(Piece::FarBelow, span.lo, span.hi), most);
-    match all {
-        Some(arc) => arc,
-        None => E::whole(),
-    }
+    join(arc_over(Piece::FarBelow, span.lo, span.hi), most)
 }

@@ -1,4 +1,5 @@
 //! What no clause says of the formulas, one file for each crate, and for what several show together.
+mod arc_spans;
 mod arcs;
 mod bisection;
 mod decided;

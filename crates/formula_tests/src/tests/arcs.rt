@@ -24,7 +24,7 @@ fn arctangents_are_those_of_a_table(rt: HostRuntime) -> Result<(), Fail> {
         (-1_000_000, 1, -6_485_179_334_817_494_002),
     ] {
         let arc = arctan_deg(fraction(num, den)?);
-        assert!(rt; is_near(arc, value, 600), "the arctangent of {num} / {den}");
+        assert!(rt; is_near(arc, value, 60), "the arctangent of {num} / {den}");
     }
     Ok(())
 }
@@ -73,11 +73,11 @@ fn arcsines_and_arccosines_are_those_of_a_table(rt: HostRuntime) -> Result<(), F
     ] {
         let x = fraction(num, den)?;
         assert!(rt;
-            is_near(arcsin_deg(x), sine, 2000),
+            is_near(arcsin_deg(x), sine, 1000),
             "the arcsine of {num} / {den}"
         );
         assert!(rt;
-            is_near(arccos_deg(x), cosine, 2000),
+            is_near(arccos_deg(x), cosine, 1000),
             "the arccosine of {num} / {den}"
         );
     }
@@ -100,7 +100,7 @@ fn an_angle_is_that_of_the_direction(rt: HostRuntime) {
         (1, -1_000_000, 12_970_362_798_231_008_241),
     ] {
         let angle = arctan2_deg(Coarse::from_int(y), Coarse::from_int(x));
-        assert!(rt; is_near(angle, value, 600), "the angle of {y} and {x}");
+        assert!(rt; is_near(angle, value, 180), "the angle of {y} and {x}");
     }
     let around = from_to(-180, 180);
     assert_eq!(rt; arctan2_deg(from_to(0, 1), Coarse::from_int(1)), around);

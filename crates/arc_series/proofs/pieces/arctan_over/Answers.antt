@@ -1,18 +1,19 @@
-use Rattle.std.proofs.Common.{rules, subst, SFits, [], ◌∷◌}
+use Rattle.std.proofs.Common.{rules, SFits, [], ◌∷◌}
 use Rattle.std.specs.Int.{w128}
 use Rattle.std.proofs.lemmas.Int.{to_z-of_z}
 use Rattle.book_model.specs.programs.Leading.{at_56}
-use Rattle.arc_series.specs.Forms.{AreHeld}
-use Rattle.arc_series.proofs.HeldArcs.{all_held, more_held}
-use Rattle.book_model.specs.numbers.Arcs.{far_below, below, near, above, far_above, pieces, arcs_over}
+use Rattle.book_model.specs.numbers.Arcs.{far_below, below, near, above, far_above}
+use Rattle.arc_series.specs.Forms.{of_span}
+use Rattle.arc_series.proofs.HeldArcs.{some_held, more_held}
 use Rattle.arc_series.proofs.pieces.arctan_over.Goals as goal
 
-pub returns-in-Some : goal.returns-in-Some
-returns-in-Some g c =
+pub returns : goal.returns
+returns c =
     let fl : SFits w128 c.args.span.lo = search rules in
     let fh : SFits w128 c.args.span.hi = search rules in
     record {
-      holds = λ n d.
+      holds =
+          some_held of_span c.args.span.lo c.args.span.hi _ c.args.span.ordered (λ n d.
           let p = simp to_z-of_z at (c.arc_over.ensures.holds n d) in
           let q = simp to_z-of_z at (c.arc_over-2.ensures.holds n d) in
           let r = simp to_z-of_z at (c.arc_over-3.ensures.holds n d) in
@@ -20,10 +21,8 @@ returns-in-Some g c =
           let t = simp to_z-of_z at (c.arc_over-5.ensures.holds n d) in
           let from = at_56 c.args.span.lo in
           let to = at_56 c.args.span.hi in
-          let shown = g.E.Enclosure.shown in
-          let positive = more_held shown n from to above (far_above ∷ []) _ (c.join-positive.ensures.holds _ _ p q) in
-          let later = more_held shown n from to near (above ∷ far_above ∷ []) _ (c.join-later.ensures.holds _ _ r positive) in
-          let most = more_held shown n from to below (near ∷ above ∷ far_above ∷ []) _ (c.join-most.ensures.holds _ _ s later) in
-          let all = more_held shown n from to far_below (below ∷ near ∷ above ∷ far_above ∷ []) _ (c.join-all.ensures.holds _ _ t most) in
-          all_held shown n c.args.span.lo c.args.span.hi _ c.args.span.ordered (subst (λ z. AreHeld shown (arcs_over n from to pieces) z) c.in-Some.is all);
+          let positive = more_held of_span n from to above (far_above ∷ []) _ (c.join-positive.ensures.holds _ _ p q) in
+          let later = more_held of_span n from to near (above ∷ far_above ∷ []) _ (c.join-later.ensures.holds _ _ r positive) in
+          let most = more_held of_span n from to below (near ∷ above ∷ far_above ∷ []) _ (c.join-most.ensures.holds _ _ s later) in
+          more_held of_span n from to far_below (below ∷ near ∷ above ∷ far_above ∷ []) _ (c.join.ensures.holds _ _ t most));
     }
