@@ -32,7 +32,7 @@ fn width(state: u64, turn: u64) -> u64 {
 /// Where a span begins, within 256 of 0; one in three so that an edge lies in the middle of the span.
 fn begin(state: u64, turn: u64, width: u64) -> i128 {
     if turn % 3 == 0 {
-        edge(turn) - i128::from(width / 2)
+        edge(turn).saturating_sub(i128::from(width / 2))
     } else {
         i128::from(state >> (turn % 11)) - i128::from(u64::MAX >> (turn % 11) >> 1)
     }
