@@ -70,9 +70,9 @@ fn an_arctangent_is_hardly_wider_than_its_degrees_a_radian(rt: HostRuntime) {
         let width = width(state, turn);
         state = after(state);
         let lo = begin(state, turn, width);
-        let hi = lo + i128::from(width);
+        let hi = lo.saturating_add(i128::from(width));
         assert!(rt;
-            is_narrow(Span { lo, hi }, lo + i128::from(width / 2)),
+            is_narrow(Span { lo, hi }, lo.saturating_add(i128::from(width / 2))),
             "from {lo} to {hi}"
         );
     }
