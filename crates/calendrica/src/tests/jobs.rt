@@ -153,7 +153,11 @@ fn eight_jobs_leave_the_counts_of_a_sample(rt: HostRuntime) -> Result<(), Fail> 
 
 /// The printed file that bytes are.
 fn file_of(alloc: Global, text: &str) -> Result<CertFile, Fail> {
-    match read_file(alloc, text.as_bytes()) {
+    let bytes = text.as_bytes();
+    if bytes.len() > 1000 {
+        return Err("too long a text")?;
+    }
+    match read_file(alloc, bytes) {
         Ok(file) => Ok(file),
         Err(_) => Err("no file")?,
     }

@@ -32,7 +32,7 @@ fn width(state: u64, turn: u64) -> u64 {
 /// Where a span begins, within 256 of 0; one in three so that an edge lies in the middle of the span.
 fn begin(state: u64, turn: u64, width: u64) -> i128 {
     if turn % 3 == 0 {
-        edge(turn) - i128::from(width / 2)
+        edge(turn).saturating_sub(i128::from(width / 2))
     } else {
         i128::from(state >> (turn % 11)) - i128::from(u64::MAX >> (turn % 11) >> 1)
     }
@@ -70,9 +70,9 @@ fn an_arctangent_is_hardly_wider_than_its_degrees_a_radian(rt: HostRuntime) {
         let width = width(state, turn);
         state = after(state);
         let lo = begin(state, turn, width);
-        let hi = lo + i128::from(width);
+        let hi = lo.saturating_add(i128::from(width));
         assert!(rt;
-            is_narrow(Span { lo, hi }, lo + i128::from(width / 2)),
+            is_narrow(Span { lo, hi }, lo.saturating_add(i128::from(width / 2))),
             "from {lo} to {hi}"
         );
     }
