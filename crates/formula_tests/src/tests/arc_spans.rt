@@ -1,5 +1,5 @@
 //! Arctangents of spans of numbers.
-use super::measures::UNIT;
+use super::measures::{UNIT, from_to};
 use arc_series::arctan_deg;
 use encl_core::{Coarse, Enclosure, Span};
 
@@ -71,9 +71,59 @@ fn an_arctangent_is_hardly_wider_than_its_degrees_a_radian(rt: HostRuntime) {
         state = after(state);
         let lo = begin(state, turn, width);
         let hi = lo.saturating_add(i128::from(width));
+        let middle = lo.saturating_add(i128::from(width / 2));
+        if lo <= hi {
+            assert!(rt; is_narrow(Span { lo, hi }, middle), "from {lo} to {hi}");
+        }
+    }
+}
+
+/// Whether an enclosure goes from below a number, given as its floor at 2⁻⁵⁶, to above a greater one, and by less than
+/// three units further at both ends together.
+fn is_from_to(found: Coarse, low: i128, high: i128) -> bool {
+    let Some(span) = found.span() else {
+        return false;
+    };
+    match (span.hi.checked_sub(span.lo), high.checked_sub(low)) {
+        (Some(width), Some(least)) => {
+            span.lo <= low && high < span.hi && width < least.saturating_add(3 * UNIT)
+        }
+        _ => false,
+    }
+}
+
+#[test]
+fn the_arctangents_of_both_ends_lie_in_that_of_a_span(rt: HostRuntime) {
+    for (from, to, low, high) in [
+        (0, 1, 0, 3_242_591_731_706_757_120),
+        (1, 2, 3_242_591_731_706_757_120, 4_570_969_790_098_848_816),
+        (2, 4, 4_570_969_790_098_848_816, 5_473_765_529_784_150_280),
+        (3, 5, 5_156_805_405_021_422_543, 5_670_216_940_604_187_782),
+        (-1, 0, -3_242_591_731_706_757_120, 0),
+        (
+            -4,
+            -2,
+            -5_473_765_529_784_150_281,
+            -4_570_969_790_098_848_817,
+        ),
+        (
+            -10,
+            10,
+            -6_073_691_861_395_787_814,
+            6_073_691_861_395_787_813,
+        ),
+        (
+            100,
+            1_000,
+            6_443_898_879_327_218_488,
+            6_481_054_868_769_471_773,
+        ),
+        (-1, 5, -3_242_591_731_706_757_120, 5_670_216_940_604_187_782),
+    ] {
+        let arc = arctan_deg(from_to(from, to));
         assert!(rt;
-            is_narrow(Span { lo, hi }, lo.saturating_add(i128::from(width / 2))),
-            "from {lo} to {hi}"
+            is_from_to(arc, low, high),
+            "the arctangent from {from} to {to}"
         );
     }
 }

@@ -73,11 +73,11 @@ fn arcsines_and_arccosines_are_those_of_a_table(rt: HostRuntime) -> Result<(), F
     ] {
         let x = fraction(num, den)?;
         assert!(rt;
-            is_near(arcsin_deg(x), sine, 1000),
+            is_near(arcsin_deg(x), sine, 750),
             "the arcsine of {num} / {den}"
         );
         assert!(rt;
-            is_near(arccos_deg(x), cosine, 1000),
+            is_near(arccos_deg(x), cosine, 750),
             "the arccosine of {num} / {den}"
         );
     }
@@ -100,7 +100,7 @@ fn an_angle_is_that_of_the_direction(rt: HostRuntime) {
         (1, -1_000_000, 12_970_362_798_231_008_241),
     ] {
         let angle = arctan2_deg(Coarse::from_int(y), Coarse::from_int(x));
-        assert!(rt; is_near(angle, value, 180), "the angle of {y} and {x}");
+        assert!(rt; is_near(angle, value, 25), "the angle of {y} and {x}");
     }
     let around = from_to(-180, 180);
     assert_eq!(rt; arctan2_deg(from_to(0, 1), Coarse::from_int(1)), around);
