@@ -3,7 +3,7 @@
 use Rattle.std.specs.Prelude.{ℕ, zero, suc, ◌+◌, ◌-◌, ◌*◌, ◌/◌, ◌^◌, max, Bool, true, false, cond, ℤ, pos, negsuc, neg_ℤ, unsigned_abs, ◌+ℤ◌, ◌-ℤ◌, ◌*ℤ◌, nat_le, nat_lt, int_le, ◌&&◌}
 use Rattle.std.specs.Int.{int_min, int_max}
 use lib.Signed.{le_z, lt_z}
-use Rattle.exact_math.specs.Fraction.{Fraction, ◌≤F◌, plus, floor_quotient}
+use Rattle.exact_math.specs.Fraction.{Fraction, ◌≤F◌, whole, plus, floor_quotient}
 use Rattle.exact_math.specs.Interval.{Interval, everything, between}
 use Rattle.book_model.specs.numbers.Roots.{root_by_digits}
 use Rattle.book_model.specs.numbers.Octants.{octant_of_turn}
@@ -305,6 +305,41 @@ cosine_spans (bounded a b s k) = limited (nat_lt (range_size a b) (2 ^ 95)) (spa
 abbrev pub pi_spans : Bound
 pi_spans = bounded (pos 13493037704) (pos 13493037705) 0 (2 ^ 8)
 
+-- 57.3 times a number, rounded down; a radian has fewer degrees
+abbrev pub at_radians : ℤ → ℤ
+at_radians n = floor_quotient (n *ℤ pos 573) 9
+
+-- where the arctangent of x is v degrees, that of a number from a on is at least v degrees, less 57.3 times what a lacks of x
+abbrev pub arc_from : (v x a : ℤ) → ℤ
+arc_from v x a = v *ℤ pos (2 ^ 32) +ℤ int_min (pos 0) (at_radians (a -ℤ x *ℤ pos (2 ^ 32)))
+
+-- the arctangent of a number from a on is at least -90, and what follows from those of -1, 0 and 1
+abbrev pub least_arc : ℤ → ℤ
+least_arc a = int_max (int_max (neg_ℤ (pos (90 * 2 ^ 32))) (arc_from (negsuc 44) (negsuc 0) a)) (int_max (arc_from (pos 0) (pos 0) a) (arc_from (pos 45) (pos 1) a)) -ℤ pos 1
+
+-- that of a number up to b is the opposite of that of its opposite
+abbrev pub greatest_arc : ℤ → ℤ
+greatest_arc b = neg_ℤ (least_arc (neg_ℤ b))
+
+-- an arctangent, as ends that count 2^-56: 57.3 times the width, and 64 parts
+unfoldable pub arc_spans : Bound → Bound
+arc_spans unbounded = unbounded
+arc_spans (bounded a b s k) = bounded (least_arc a) (greatest_arc b) (ceil_div (s * 573) 9) (ceil_div (k * 573) 9 + 64 * 2 ^ 8)
+
+unfoldable pub arctangent_bound : Limits → Bound → Bound
+arctangent_bound l x = spanned_bound l (arc_spans x)
+
+-- the tangent of half an arcsine: x / (1 + root (1 - x^2)), of what is cut to -1..1
+unfoldable pub half_tangent_bound : Limits → Bound → Bound
+half_tangent_bound l x = quotient_bound l (clamp_bound x) (sum_bound l (integer_bound l (pos 1)) (root_bound l (difference_bound l (integer_bound l (pos 1)) (power_bound l (clamp_bound x) 2))))
+
+-- twice the arctangent of that, and what it is off 90 degrees
+unfoldable pub arcsine_bound : Limits → Bound → Bound
+arcsine_bound l x = scaled_bound l (whole (pos 2)) (arctangent_bound l (half_tangent_bound l x))
+
+unfoldable pub arccosine_bound : Limits → Bound → Bound
+arccosine_bound l x = difference_bound l (integer_bound l (pos 90)) (arcsine_bound l x)
+
 -- the width of a moment, and the bounds of the arguments
 pub record Reach : Type 0 where
   pub width : ℕ
@@ -331,9 +366,9 @@ bound_of l r (sine x) = spanned_bound l (sine_spans (bound_of l r x))
 bound_of l r (cosine x) = spanned_bound l (cosine_spans (bound_of l r x))
 bound_of l r (tangent x) = quotient_bound l (spanned_bound l (sine_spans (bound_of l r x))) (spanned_bound l (cosine_spans (bound_of l r x)))
 bound_of l r (root x) = root_bound l (bound_of l r x)
-bound_of l r (arctangent x) = unbounded
-bound_of l r (arcsine x) = unbounded
-bound_of l r (arccosine x) = unbounded
+bound_of l r (arctangent x) = arctangent_bound l (bound_of l r x)
+bound_of l r (arcsine x) = arcsine_bound l (bound_of l r x)
+bound_of l r (arccosine x) = arccosine_bound l (bound_of l r x)
 bound_of l r (arctangent_of_two y x) = unbounded
 bound_of l r (remainder m x q) = remainder_bound l m (bound_of l r x)
 
