@@ -16,7 +16,7 @@ use Rattle.book_model.specs.numbers.Expressions.{Expression, World, value, integ
 use Rattle.book_model.specs.numbers.Relations.{Within, Narrow, Lies, Keeps}
 use Rattle.book_model.specs.numbers.Arcs.{arctangent_of, arcsine_of, arccosine_of, arctangent_of_two as two_arctangent, all_around}
 use Rattle.book_model.specs.numbers.Octants.{only}
-use Rattle.book_model.specs.numbers.Bounds.{limited, bound_of, IsNarrow, Bound, bounded, spanned_bound, limits_of, limits_at, no_limits, is_scale}
+use Rattle.book_model.specs.numbers.Bounds.{limited, bound_of, IsNarrow, Bound, bounded, spanned_bound, arcsine_bound, half_tangent_bound, arccosine_bound, limits_of, limits_at, no_limits, is_scale}
 use Rattle.book_model.proofs.Values.{value_proper}
 use Rattle.book_model.proofs.Arcs.{arctangents, two_inside, not_positive}
 use Rattle.arc_series.specs.Forms.{half_tangent_of, has_sign}
@@ -40,19 +40,16 @@ pub as_arccosine : {E : Type 0} (shown : E → Interval) (w : World) (a : Expres
 unfolding Lies value arccosine_of
 as_arccosine shown w a r p = record { deep = p.deep; inside = p.inside }
 
--- ---- no width is promised
-pub narrow_arctangent : {E : Type 0} (shown : E → Interval) (l : Limits) (r : Reach) (a : Expression) (e : E) → Narrow shown l r (arctangent a) e
-unfolding Keeps bound_of IsNarrow
-narrow_arctangent shown l r a e = record { kept = tt }
+-- ---- their bounds
+pub narrow_arcsine : {E : Type 0} (shown : E → Interval) (l : Limits) (r : Reach) (a : Expression) (e : E) → Narrow shown l r (scale (whole (pos 2)) (arctangent (half_tangent_of a))) e → Narrow shown l r (arcsine a) e
+unfolding Keeps bound_of half_tangent_of arcsine_bound half_tangent_bound
+narrow_arcsine shown l r a e k = record { kept = k.kept }
 
-pub narrow_arcsine : {E : Type 0} (shown : E → Interval) (l : Limits) (r : Reach) (a : Expression) (e : E) → Narrow shown l r (arcsine a) e
-unfolding Keeps bound_of IsNarrow
-narrow_arcsine shown l r a e = record { kept = tt }
+pub narrow_arccosine : {E : Type 0} (shown : E → Interval) (l : Limits) (r : Reach) (a : Expression) (e : E) → Narrow shown l r (subtract (integer (pos 90)) (arcsine a)) e → Narrow shown l r (arccosine a) e
+unfolding Keeps bound_of arccosine_bound
+narrow_arccosine shown l r a e k = record { kept = k.kept }
 
-pub narrow_arccosine : {E : Type 0} (shown : E → Interval) (l : Limits) (r : Reach) (a : Expression) (e : E) → Narrow shown l r (arccosine a) e
-unfolding Keeps bound_of IsNarrow
-narrow_arccosine shown l r a e = record { kept = tt }
-
+-- no width is promised of the arctangent of two
 pub narrow_two : {E : Type 0} (shown : E → Interval) (l : Limits) (r : Reach) (a b : Expression) (e : E) → Narrow shown l r (arctangent_of_two a b) e
 unfolding Keeps bound_of IsNarrow
 narrow_two shown l r a b e = record { kept = tt }

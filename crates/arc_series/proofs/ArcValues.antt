@@ -155,14 +155,14 @@ pi_at_16 = record { ends = (record { cross = record { le = tt } }, record { cros
 abbrev pub at_58 : ℤ → Fraction
 at_58 n = record { num = n; below = 2 ^ 58 - 1 }
 
-abbrev radian : Interval
+abbrev pub radian : Interval
 radian = between (at_58 (pos 16514384080961256899)) (at_58 (pos 16514384080961256900))
 
 by_pi : quotient (only (whole (pos 180))) (between (at_72 14835751850141947581203) (at_72 14835751850141947581204)) ⊆ radian
 unfolding quotient reciprocal product least greatest smaller larger is_at_most times
 by_pi = record { ends = (record { cross = record { le = tt } }, record { cross = record { le = tt } }) }
 
-radian_near : (n : ℕ) → 40 ≤ n → radian_at n ⊆ radian
+pub radian_near : (n : ℕ) → 40 ≤ n → radian_at n ⊆ radian
 unfolding radian_at
 radian_near n d =
     within_trans (quotient_within (le_refl (whole (pos 180))) (pi_proper n) (within_refl (only (whole (pos 180)))) (within_trans (pi_at_least 16 n (omega (arith, d))) pi_at_16)) by_pi
@@ -191,7 +191,7 @@ high_end : (hi : ℤ) (d : ℕ) → (pos d +ℤ pos 9) ≤ℤ (hi *ℤ pos 4) �
 unfolding fine times plus
 high_end hi d h = record { cross = omega (arith, ints, h) }
 
-abbrev factor : ℕ
+abbrev pub factor : ℕ
 factor = 16514384080961256899
 
 factor_small : times (plus (whole (pos factor)) (whole (pos 1))) unit ≤F whole (pos 1)

@@ -2,6 +2,9 @@ pub mod Coefficients
 pub mod KernelSteps
 pub mod ArcValues
 pub mod Slopes
+pub mod ArcSlopes
+pub mod ArcAnchors
+pub mod ArcRanges
 pub mod QuotientLemmas
 pub mod PieceArcs
 pub mod HeldArcs
