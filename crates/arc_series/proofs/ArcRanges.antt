@@ -23,7 +23,7 @@ split : (j k : ℤ) → (j ≤ℤ k) ⊎ ((k +ℤ pos 1) ≤ℤ j)
 split j k = grind (arith, ints)
 
 -- ---- numbers of pieces
-in_piece : (p : Piece) (k : ℤ) → begin_56 p ≤ℤ k → k ≤ℤ end_56 p → InPiece (piece_of p) (at_56 k)
+pub in_piece : (p : Piece) (k : ℤ) → begin_56 p ≤ℤ k → k ≤ℤ end_56 p → InPiece (piece_of p) (at_56 k)
 in_piece FarBelow k h l = record { from = tt; to = record { cross = omega (arith, ints, l) } }
 in_piece Below k h l = record { from = record { cross = omega (arith, ints, h) }; to = record { cross = omega (arith, ints, l) } }
 in_piece Near k h l = record { from = record { cross = omega (arith, ints, h) }; to = record { cross = omega (arith, ints, l) } }
@@ -32,7 +32,7 @@ in_piece FarAbove k h l = record { from = record { cross = omega (arith, ints, h
 
 -- ---- what an arctangent is off those at the edges, and at -1, 0 and 1
 -- ends that hold the arctangent of k in a piece
-abbrev Holds : Piece → (k lo hi : ℤ) → Type 0
+abbrev pub Holds : Piece → (k lo hi : ℤ) → Type 0
 Holds p k lo hi = (piece_of p).arc 40 (at_56 k) ⊆ between (at_56 lo) (at_56 hi)
 
 near_from_none : (k lo hi : ℤ) → InPiece (piece_of Near) (at_56 k) → pos 0 ≤ℤ k → Holds Near k lo hi → AreApart (k -ℤ (pos 0)) (pos 0) (pos 0) lo hi
@@ -92,9 +92,9 @@ unfolding plus
 far_to_three k lo hi w h i = apart FarBelow (at_56 k) (whole (negsuc 2)) _ lo hi _ _ w (record { from = tt; to = record { cross = record { le = tt } } }) (record { cross = omega (arith, ints, h) }) (record { cross = omega (arith, ints) }) i far_below_three
 
 -- ---- where the arctangent of a number in a piece lies
-record IsRanged (k lo hi : ℤ) : Type 0 where
-  above : IsFrom k lo
-  below : IsUpTo k hi
+pub record IsRanged (k lo hi : ℤ) : Type 0 where
+  pub above : IsFrom k lo
+  pub below : IsUpTo k hi
 
 near_ranged : (k lo hi : ℤ) → begin_56 Near ≤ℤ k → k ≤ℤ end_56 Near → IsThin lo hi → Holds Near k lo hi → IsRanged k lo hi
 near_ranged k lo hi g l t h = by_sign (split (pos 0) k)
@@ -233,7 +233,7 @@ twice k = omega (arith, ints)
 turned_from : (k z : ℤ) → IsUpTo (neg_ℤ k) (neg_ℤ z) → IsFrom k z
 turned_from k z h = subst (λ y. IsFrom y z) (twice k) (subst (λ y. IsFrom (neg_ℤ (neg_ℤ k)) y) (twice z) h)
 
-ranged : (p : Piece) (k lo hi : ℤ) → begin_56 p ≤ℤ k → k ≤ℤ end_56 p → IsThin lo hi → Holds p k lo hi → IsRanged k lo hi
+pub ranged : (p : Piece) (k lo hi : ℤ) → begin_56 p ≤ℤ k → k ≤ℤ end_56 p → IsThin lo hi → Holds p k lo hi → IsRanged k lo hi
 ranged FarBelow k lo hi g l t h = let a = far_known k lo hi g l t h in record { above = turned_from k lo (beyond_to _ _ _ a); below = beyond_from _ _ _ a }
 ranged Below k lo hi g l t h = let a = below_known k lo hi g l t h in record { above = turned_from k lo (above_to _ _ _ a); below = above_from _ _ _ a }
 ranged Near k lo hi g l t h = near_ranged k lo hi g l t h
@@ -241,7 +241,7 @@ ranged Above k lo hi g l t h = let a = above_known k lo hi g l t h in record { a
 ranged FarAbove k lo hi g l t h = let a = beyond_known k lo hi g l t h in record { above = beyond_from k lo hi a; below = beyond_to k lo hi a }
 
 -- ---- from fewer numbers on, and of the lesser of two
-from_lower : (j k z : ℤ) → j ≤ℤ k → IsFrom k z → IsFrom j z
+pub from_lower : (j k z : ℤ) → j ≤ℤ k → IsFrom k z → IsFrom j z
 from_lower j k z h f = record {
   quarter = f.quarter;
   minus_one = omega (arith, ints, clamps, h, f.minus_one);
@@ -249,12 +249,12 @@ from_lower j k z h f = record {
   one = omega (arith, ints, clamps, h, f.one);
 }
 
-from_lesser : (k y z m : ℤ) → m ≡ int_min y z → IsFrom k y → IsFrom k z → IsFrom k m
+pub from_lesser : (k y z m : ℤ) → m ≡ int_min y z → IsFrom k y → IsFrom k z → IsFrom k m
 from_lesser k y z m e f g = by_split (split y z)
   where
     by_split : (y ≤ℤ z) ⊎ ((z +ℤ pos 1) ≤ℤ y) → IsFrom k m
     by_split (inl l) = let d : y ≡ m = omega (arith, ints, clamps, e, l) in subst (λ x. IsFrom k x) d f
     by_split (inr l) = let d : z ≡ m = omega (arith, ints, clamps, e, l) in subst (λ x. IsFrom k x) d g
 
-up_to_greater : (k y z m : ℤ) → m ≡ int_max y z → IsUpTo k y → IsUpTo k z → IsUpTo k m
+pub up_to_greater : (k y z m : ℤ) → m ≡ int_max y z → IsUpTo k y → IsUpTo k z → IsUpTo k m
 up_to_greater k y z m e f g = from_lesser (neg_ℤ k) (neg_ℤ y) (neg_ℤ z) (neg_ℤ m) (omega (arith, ints, clamps, e)) f g

@@ -5,6 +5,8 @@ pub mod Slopes
 pub mod ArcSlopes
 pub mod ArcAnchors
 pub mod ArcRanges
+pub mod ArcParts
+pub mod ArcWidths
 pub mod QuotientLemmas
 pub mod PieceArcs
 pub mod HeldArcs

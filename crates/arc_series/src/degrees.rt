@@ -36,6 +36,7 @@ pub fn arctan_deg<E: Enclosure>(x: E) -> E
 #[tactic(auto, unfolding(crate::specs::Forms::half_tangent_of))]
 fn half_tangent<E: Enclosure>(x: E) -> E
     ensures holds { Holds1 E.shown half_tangent_of x result }
+    ensures narrow { Narrows1 E.shown E.BITS half_tangent_of x result }
 {
     let sine = x.clamp_unit();
     let one = E::from_int(1);

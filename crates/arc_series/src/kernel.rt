@@ -10,6 +10,7 @@ ghost use Rattle.book_model.specs.programs.Leading.{at_56};
 ghost use Rattle.book_model.specs.numbers.Arcs.{arc_near};
 ghost use Rattle.book_model.specs.numbers.Depth.{DEPTH};
 ghost use Rattle.arc_series.specs.Kernel.{IsNear, IsCut, IsSquare, IsNumber, IsArc, IsSmall, nested};
+ghost use Rattle.arc_series.specs.Widths.{IsThin};
 
 use encl_core::Span;
 
@@ -87,6 +88,7 @@ fn around(count: u64) -> Span
     ensures low { (result.lo *ℤ pos 4 +ℤ pos 4) ≤ℤ pos count }
     ensures high { (pos count +ℤ pos 9) ≤ℤ (result.hi *ℤ pos 4) }
     ensures tight { IsArc result.lo result.hi }
+    ensures thin { IsThin result.lo result.hi }
     ensures room { IsSmall result.lo result.hi }
 {
     let floor = i128::from(count >> 2);
@@ -106,6 +108,7 @@ pub(crate) fn arc_of_number_64(number: u64) -> Span
     ensures mirrored { (n : ℕ) (x : Fraction) → DEPTH ≤ n → 1 ≤ number → IsNumber number (opposite x)
         → arc_near n x ⊆ between (at_56 (neg_ℤ result.hi)) (at_56 (neg_ℤ result.lo)) }
     ensures tight { IsArc result.lo result.hi }
+    ensures thin { IsThin result.lo result.hi }
     ensures room { IsSmall result.lo result.hi }
 {
     let sum = terms(high_half(number, number));

@@ -1,5 +1,5 @@
 //! Arctangents over the closed pieces of the line. All numbers and degrees count 2⁻⁵⁶.
-ghost use Rattle.std.specs.Prelude.{◌≡◌, ℕ, ◌≤◌, pos, neg_ℤ, ◌≤ℤ◌, List, [], ◌∷◌, ◌++◌, IfSome};
+ghost use Rattle.std.specs.Prelude.{◌≡◌, ℕ, ◌≤◌, ◌+◌, pos, neg_ℤ, ◌≤ℤ◌, ℤ, List, [], ◌∷◌, ◌++◌, IfSome};
 ghost use Rattle.exact_math.specs.Fraction.{Fraction, ◌≈◌, opposite as opposite_of};
 ghost use Rattle.exact_math.specs.Interval.{Interval, between, ◌⊆◌};
 ghost use Rattle.book_model.specs.numbers.Arcs.{arcs_over, arctangent_of, arc_near, arc_above, arc_beyond};
@@ -8,6 +8,7 @@ ghost use Rattle.book_model.specs.numbers.Depth.{DEPTH};
 ghost use Rattle.arc_series.specs.declared.pieces.TheConstants.{HALF, THREE};
 ghost use Rattle.arc_series.specs.Forms.{piece_of, of_span, AreHeld, begin_56, end_56};
 ghost use Rattle.arc_series.specs.Kernel.{IsSmall};
+ghost use Rattle.arc_series.specs.Widths.{IsThin, Edge, first_edge, last_edge, Reaches, AreOver};
 
 use crate::kernel::arc_of_number_64;
 use crate::quotients::quotient_64;
@@ -48,6 +49,7 @@ fn near(number: u64) -> Span
     ensures mirrored { (n : ℕ) (x : Fraction) → DEPTH ≤ n → 1 ≤ number → opposite_of x ≈ at_56 (pos number)
         → arc_near n x ⊆ between (at_56 (neg_ℤ result.hi)) (at_56 (neg_ℤ result.lo)) }
     ensures room { IsSmall result.lo result.hi }
+    ensures thin { IsThin result.lo result.hi }
 {
     arc_of_number_64(number * 256)
 }
@@ -60,6 +62,7 @@ fn above(number: u64) -> Span
     ensures holds { (n : ℕ) (x : Fraction) → DEPTH ≤ n → x ≈ at_56 (pos number)
         → arc_above n x ⊆ of_span result }
     ensures room { IsSmall result.lo result.hi }
+    ensures thin { IsThin result.lo result.hi }
 {
     let sum = u128::from(ONE + number);
     if number < ONE {
@@ -81,6 +84,7 @@ fn beyond(number: u128) -> Span
     ensures holds { (n : ℕ) (x : Fraction) → DEPTH ≤ n → x ≈ at_56 (pos number)
         → arc_beyond n x ⊆ of_span result }
     ensures room { IsSmall result.lo result.hi }
+    ensures thin { IsThin result.lo result.hi }
 {
     less(QUARTER_TURN, arc_of_number_64(quotient_64(ONE, number)))
 }
@@ -90,6 +94,7 @@ fn near_zero(number: i128) -> Span
     requires from { neg_ℤ HALF ≤ℤ number }
     requires to { number ≤ℤ HALF }
     ensures holds { (n : ℕ) (x : Fraction) → DEPTH ≤ n → x ≈ at_56 number → arc_near n x ⊆ of_span result }
+    ensures thin { IsThin result.lo result.hi }
 {
     let size = number.unsigned_abs() as u64;
     if number < 0 {
@@ -103,6 +108,7 @@ fn arc(piece: Piece, number: i128) -> Span
     requires from { begin_56 piece ≤ℤ number }
     requires to { number ≤ℤ end_56 piece }
     ensures holds { (n : ℕ) (x : Fraction) → DEPTH ≤ n → x ≈ at_56 number → (piece_of piece).arc n x ⊆ of_span result }
+    ensures thin { IsThin result.lo result.hi }
 {
     match piece {
         Piece::FarBelow => opposite(beyond(number.unsigned_abs())),
@@ -144,6 +150,7 @@ fn arc_over(piece: Piece, lo: i128, hi: i128) -> Option<Span>
     requires ordered { lo ≤ℤ hi }
     ensures holds { (n : ℕ) → DEPTH ≤ n → AreHeld of_span
         (arcs_over n (at_56 lo) (at_56 hi) (piece_of piece ∷ [])) result }
+    ensures narrow { Reaches (first_edge piece) (last_edge piece) 80 lo hi result }
 {
     let begin = begin_of(piece);
     let end = end_of(piece);
@@ -162,6 +169,9 @@ fn arc_over(piece: Piece, lo: i128, hi: i128) -> Option<Span>
 fn join(x: Option<Span>, y: Option<Span>) -> Option<Span>
     ensures holds { (is js : List Interval) → AreHeld of_span is x → AreHeld of_span js y
         → AreHeld of_span (is ++ js) result }
+    ensures narrow { (first edge last : Edge) (j k : ℕ) (lo hi : ℤ) → lo ≤ℤ hi
+        → first.place ≤ℤ edge.place → edge.place ≤ℤ last.place → Reaches first edge j lo hi x
+        → Reaches edge last k lo hi y → Reaches first last (j + k + 40) lo hi result }
 {
     match x {
         Some(first) => match y {
@@ -176,6 +186,7 @@ fn join(x: Option<Span>, y: Option<Span>) -> Option<Span>
 pub(crate) fn arctan_over(span: Span) -> Option<Span>
     ensures holds { IfSome result (λ arc. (n : ℕ) → DEPTH ≤ n → arctangent_of n
         (between (at_56 span.lo) (at_56 span.hi)) ⊆ of_span arc) }
+    ensures narrow { AreOver span.lo span.hi result }
 {
     let positive = join(
         arc_over(Piece::Above, span.lo, span.hi),

@@ -2,6 +2,7 @@
 ghost use Rattle.std.specs.Prelude.{◌≡◌, neg_ℤ, pos, ◌^◌, ◌≤ℤ◌, ◌+ℤ◌, ◌-ℤ◌};
 ghost use Rattle.std.specs.Int.{int_min, int_max};
 ghost use Rattle.arc_series.specs.Kernel.{IsArc, IsSmall};
+ghost use Rattle.arc_series.specs.Widths.{IsThin};
 
 use encl_core::Span;
 
@@ -11,6 +12,7 @@ pub(crate) fn opposite(span: Span) -> Span
     requires room { IsSmall span.lo span.hi }
     ensures low { result.lo ≡ neg_ℤ span.hi }
     ensures high { result.hi ≡ neg_ℤ span.lo }
+    ensures thin { IsThin span.lo span.hi → IsThin result.lo result.hi }
 {
     Span {
         lo: -span.hi,
@@ -26,6 +28,7 @@ pub(crate) fn more(number: i128, span: Span) -> Span
     requires tight { IsArc span.lo span.hi }
     ensures low { result.lo ≡ number +ℤ span.lo }
     ensures high { result.hi ≡ number +ℤ span.hi }
+    ensures thin { IsThin span.lo span.hi → IsThin result.lo result.hi }
     ensures room { IsSmall result.lo result.hi }
 {
     Span {
@@ -42,6 +45,7 @@ pub(crate) fn less(number: i128, span: Span) -> Span
     requires tight { IsArc span.lo span.hi }
     ensures low { result.lo ≡ number -ℤ span.hi }
     ensures high { result.hi ≡ number -ℤ span.lo }
+    ensures thin { IsThin span.lo span.hi → IsThin result.lo result.hi }
     ensures room { IsSmall result.lo result.hi }
 {
     Span {

@@ -13,4 +13,5 @@ returns-then-number-lt0 c =
       holds = λ n x d e.
           opposite_span _ _ _ _ _ c.opposite.ensures.low c.opposite.ensures.high
           (c.near.ensures.mirrored n x d (omega (arith, ints, s, t)) (opposite_same x c.args.number c.unsigned_abs-size.result e s));
+      thin = c.opposite.ensures.thin c.near.ensures.thin;
     }
