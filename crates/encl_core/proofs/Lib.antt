@@ -1,3 +1,4 @@
+pub mod Keeping
 pub mod PiEnds
 pub mod Searching
 pub mod TermSums

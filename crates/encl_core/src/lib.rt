@@ -4,7 +4,7 @@
 //! the enclosures decide it; where they don't, it says which test that was and what the enclosures were.
 //!
 //! - `Enclosure`: the trait, with the clauses that formulas are proved from;
-//! - `Trail`: the count of the tests of a run;
+//! - `Trail`: the count of the tests of a run, and what it keeps of what it may ask again;
 //! - `Coarse`: the first kind, by ends in 64 bits that count 2⁻³⁶;
 //! - `floor_step`, `less_step` and `wrap_step`: the tests as steps of a formula's program;
 //! - `first_day`: the search for the first day of which a `DayTest` is true.
@@ -14,6 +14,8 @@ mod circle;
 mod coarse;
 mod enclosure;
 mod fractions;
+mod kept_correction;
+mod kept_moon;
 mod search;
 mod span;
 mod steps;

@@ -1,19 +1,48 @@
-//! The count of the tests of a run.
-ghost use Rattle.std.specs.Prelude.{◌≡◌};
+//! The trail of a run: the count of its tests, and what it has evaluated and may ask again.
+ghost use Rattle.std.specs.Prelude.{◌≡◌, IfSome};
 ghost use Rattle.book_model.specs.programs.Leading.{next_turn};
+ghost use Rattle.book_model.specs.sky.NewMoons.{new_moon_of};
+ghost use Rattle.book_model.specs.sky.Time.{correction_of_year};
+ghost use Rattle.encl_core.specs.Kept.{IsKept};
 
-/// How many tests a run has made. The count stops at the greatest `u32`.
+use crate::Span;
+use crate::kept_correction::KeptCorrection;
+use crate::kept_moon::KeptMoon;
+
+/// How many tests a run has made, and what it keeps: the new moon of number 0, the last other new moon, and the correction of
+/// the last year. The count stops at the greatest `u32`. What is kept is only ever what the run would evaluate anew, so
+/// it changes no answer; and it is taken only by enclosures of the scale at which it was evaluated.
 #[derive(Debug, PartialEq, Drop)]
 pub struct Trail {
     count: u32,
+    first_moon: Option<KeptMoon>,
+    last_moon: Option<KeptMoon>,
+    correction: Option<KeptCorrection>,
 }
 
 impl Trail {
-    /// The trail of a run that has made no test.
+    /// The trail of a run that has made no test, and keeps nothing.
     pub fn new() -> Self
         ensures empty { result.count ≡ 0 }
     {
-        Trail { count: 0 }
+        Trail {
+            count: 0,
+            first_moon: None,
+            last_moon: None,
+            correction: None,
+        }
+    }
+
+    /// The trail of another run, which has made no test, and keeps what this one does.
+    pub fn anew(&self) -> Self
+        ensures empty { result.count ≡ 0 }
+    {
+        Trail {
+            count: 0,
+            first_moon: self.first_moon,
+            last_moon: self.last_moon,
+            correction: self.correction,
+        }
     }
 
     /// How many tests have been made.
@@ -31,5 +60,49 @@ impl Trail {
     {
         self.count = self.count.saturating_add(1);
         self.count
+    }
+
+    /// The ends of the new moon of a number, if they are kept at scale 2 to the power of minus `bits`. Who takes them counts
+    /// the test that they were evaluated by.
+    pub fn new_moon(&self, number: i64, bits: u32) -> Option<Span>
+        ensures evaluated { IfSome result (IsKept 1 (new_moon_of number)) }
+    {
+        if number == 0 {
+            return self.first_moon?.at(number, bits);
+        }
+        self.last_moon?.at(number, bits)
+    }
+
+    /// Keeps the ends of the new moon of a number, as enclosures at scale 2 to the power of minus `bits` gave them, if they did.
+    pub fn keep_new_moon(&mut self, number: i64, bits: u32, moment: Option<Span>)
+        requires evaluated { IfSome moment (IsKept 1 (new_moon_of number)) }
+        ensures counted { self.new.count ≡ self.old.count }
+    {
+        let Some(moment) = moment else {
+            return;
+        };
+        let kept = Some(KeptMoon::new(number, bits, moment));
+        if number == 0 {
+            self.first_moon = kept;
+        } else {
+            self.last_moon = kept;
+        }
+    }
+
+    /// The ends of the correction of a year, if they are kept at scale 2 to the power of minus `bits`.
+    pub fn correction(&self, year: i64, bits: u32) -> Option<Span>
+        ensures evaluated { IfSome result (IsKept 0 (correction_of_year year)) }
+    {
+        self.correction?.at(year, bits)
+    }
+
+    /// Keeps the ends of the correction of a year, as enclosures at scale 2 to the power of minus `bits` gave them, if they did.
+    pub fn keep_correction(&mut self, year: i64, bits: u32, days: Option<Span>)
+        requires evaluated { IfSome days (IsKept 0 (correction_of_year year)) }
+        ensures counted { self.new.count ≡ self.old.count }
+    {
+        if let Some(days) = days {
+            self.correction = Some(KeptCorrection::new(year, bits, days));
+        }
     }
 }

@@ -90,15 +90,47 @@ fn dynamical_new_moon<E: Enclosure>(number: i64) -> E
         .add(planet_terms::<E>(number))
 }
 
-/// The moment of the new moon of a number, counted from that of January of the year 1, in universal time (Reingold and
-/// Dershowitz, Calendrical Calculations, chapter 14; Meeus, Astronomical Algorithms, chapter 49). One test, at `year`; it
-/// is void at `year` in a year without a correction.
+/// The moment of the new moon of a number, counted from that of January of the year 1, in universal time: one test.
 #[tactic(auto, using(book_model::proofs::Leads::leading), unfolding(book_model::specs::sky::NewMoons::new_moon_of))]
-pub fn new_moon<E: Enclosure>(n: i64, trail: &mut Trail) -> Result<E, Fail>
+fn evaluated_moon<E: Enclosure>(n: i64, trail: &mut Trail) -> Result<E, Fail>
     requires low { negsuc 39999999 ≤ℤ n }
     requires high { n ≤ℤ pos 40000000 }
     ensures leads { Follows E.shown (spec.new_moon_of n) trail.old.count trail.new.count result }
     ensures counted { trail.new.count ≡ next_turn trail.old.count }
 {
     from_dynamical(dynamical_new_moon::<E>(n - NEW_MOON_OF_2000), trail)
+}
+
+/// The same, which the trail keeps from then on.
+fn kept_moon<E: Enclosure>(n: i64, trail: &mut Trail) -> Result<E, Fail>
+    requires low { negsuc 39999999 ≤ℤ n }
+    requires high { n ≤ℤ pos 40000000 }
+    ensures leads { Follows E.shown (spec.new_moon_of n) trail.old.count trail.new.count result }
+    ensures counted { trail.new.count ≡ next_turn trail.old.count }
+{
+    match evaluated_moon::<E>(n, trail) {
+        Ok(moment) => {
+            trail.keep_new_moon(n, E::BITS, moment.span());
+            Ok(moment)
+        }
+        Err(fail) => Err(fail),
+    }
+}
+
+/// The moment of the new moon of a number, counted from that of January of the year 1, in universal time (Reingold and
+/// Dershowitz, Calendrical Calculations, chapter 14; Meeus, Astronomical Algorithms, chapter 49). One test, at `year`; it
+/// is void at `year` in a year without a correction. Where the trail keeps the moment, it is taken, and its test counted.
+pub fn new_moon<E: Enclosure>(n: i64, trail: &mut Trail) -> Result<E, Fail>
+    requires low { negsuc 39999999 ≤ℤ n }
+    requires high { n ≤ℤ pos 40000000 }
+    ensures leads { Follows E.shown (spec.new_moon_of n) trail.old.count trail.new.count result }
+    ensures counted { trail.new.count ≡ next_turn trail.old.count }
+{
+    match trail.new_moon(n, E::BITS) {
+        Some(moment) => {
+            trail.step();
+            Ok(E::from_span(moment))
+        }
+        None => kept_moon::<E>(n, trail),
+    }
 }

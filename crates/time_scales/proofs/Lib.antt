@@ -8,3 +8,4 @@ pub mod CorrectionWidths
 pub mod WholeDays
 pub mod Moments
 pub mod CorrectionValues
+pub mod KeptCorrections

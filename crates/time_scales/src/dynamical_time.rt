@@ -125,6 +125,33 @@ pub fn correction<E: Enclosure>(year: i64, trail: &mut Trail) -> Result<E, Fail>
     }
 }
 
+/// The correction of a year, which the trail keeps from then on.
+fn kept_correction<E: Enclosure>(year: i64, trail: &mut Trail) -> Result<E, Fail>
+    ensures leads { Follows E.shown (correction_of_year year) trail.old.count trail.new.count result }
+    ensures void { IfErr result (λ f. f ≡ Fail.Void Site.Year) }
+    ensures counted { trail.new.count ≡ trail.old.count }
+{
+    match correction::<E>(year, trail) {
+        Ok(days) => {
+            trail.keep_correction(year, E::BITS, days.span());
+            Ok(days)
+        }
+        Err(fail) => Err(fail),
+    }
+}
+
+/// The correction of a year, evaluated where the trail doesn't keep it.
+fn correction_once<E: Enclosure>(year: i64, trail: &mut Trail) -> Result<E, Fail>
+    ensures leads { Follows E.shown (correction_of_year year) trail.old.count trail.new.count result }
+    ensures void { IfErr result (λ f. f ≡ Fail.Void Site.Year) }
+    ensures counted { trail.new.count ≡ trail.old.count }
+{
+    match trail.correction(year, E::BITS) {
+        Some(days) => Ok(E::from_span(days)),
+        None => kept_correction::<E>(year, trail),
+    }
+}
+
 /// The correction of the year of a moment: one test, at `year`.
 #[tactic(auto, using(book_model::proofs::Leads::leading, crate::proofs::Years::opening), unfolding(book_model::specs::sky::Time::correction_at))]
 fn correction_of_moment<E: Enclosure>(t: E, trail: &mut Trail) -> Result<E, Fail>
@@ -133,7 +160,7 @@ fn correction_of_moment<E: Enclosure>(t: E, trail: &mut Trail) -> Result<E, Fail
     ensures counted { trail.new.count ≡ next_turn trail.old.count }
 {
     match year(t, trail) {
-        Ok(year) => correction::<E>(year, trail),
+        Ok(year) => correction_once::<E>(year, trail),
         Err(fail) => Err(fail),
     }
 }

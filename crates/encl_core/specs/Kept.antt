@@ -1,0 +1,43 @@
+-- What a trail keeps of its run.
+use denote.Struct.Props as facts
+use Rattle.std.specs.Coded.{Unit-prop}
+use Rattle.std.specs.Prelude.{◌≡◌, ℕ, zero, suc, ◌≤◌, Bool, true, false}
+use Rattle.exact_math.specs.Interval.{Interval, everything, between, ◌⊆◌, AreWithin}
+use Rattle.book_model.specs.numbers.Depth.{DEPTH}
+use Rattle.book_model.specs.numbers.Expressions.{Expression, World, value}
+use Rattle.book_model.specs.programs.Leading.{at_56, leaf}
+use Rattle.book_model.specs.programs.Programs.{Program, Run, answered, voided, undecided, decided, run}
+use Rattle.encl_core.specs.declared.span.Span.{Span}
+
+-- the interval between the ends of a span
+abbrev pub shown_span : Span → Interval
+shown_span s = between (at_56 s.lo) (at_56 s.hi)
+
+-- whether a run makes so many tests, decides them all, and answers
+unfoldable pub answers_after : {A : Type 0} → ℕ → Run A → Bool
+answers_after zero (answered v) = true
+answers_after zero (voided s) = false
+answers_after zero (undecided s i) = false
+answers_after zero (decided s i r rest) = false
+answers_after (suc n) (answered v) = false
+answers_after (suc n) (voided s) = false
+answers_after (suc n) (undecided s i) = false
+answers_after (suc n) (decided s i r rest) = answers_after n rest
+
+-- at every depth from the least on, a program makes so many tests, decides them all, and ends in a value that a span holds
+pub record IsKept (n : ℕ) (p : Program Expression) (s : Span) : Type 0 where
+  pub answers : (w : World) → DEPTH ≤ w.depth → answers_after n (run w p) ≡ true
+  pub holds : (w : World) → DEPTH ≤ w.depth → value w (leaf w p) ⊆ shown_span s
+
+-- ---- a span is kept in one way at most, so it may be a ghost field
+ends_prop : (i j : Interval) → IsProp (AreWithin i j)
+ends_prop everything everything = Unit-prop
+ends_prop (between a b) everything = Unit-prop
+ends_prop everything (between c d) = λ x y. absurd x
+ends_prop (between a b) (between c d) = Prim.hlevel facts.props
+
+within_prop : (i j : Interval) → IsProp (i ⊆ j)
+within_prop i j = Prim.hlevel ends_prop
+
+pub IsKept-prop : (n : ℕ) (p : Program Expression) (s : Span) → IsProp (IsKept n p s)
+IsKept-prop n p s = Prim.hlevel (within_prop, facts.props)
