@@ -1,3 +1,4 @@
 pub mod PiEnds
 pub mod Searching
 pub mod TermSums
+pub mod StepWidths

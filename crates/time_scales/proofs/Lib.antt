@@ -8,3 +8,5 @@ pub mod CorrectionWidths
 pub mod WholeDays
 pub mod Moments
 pub mod CorrectionValues
+pub mod TableWidths
+pub mod Measured
