@@ -1,7 +1,6 @@
 -- Moments that are measured: the year, sums with a correction, centuries and sidereal time.
-use Rattle.std.specs.Prelude.{◌≡◌, ℕ, ◌+◌, ◌-◌, ◌*◌, ◌/◌, ◌^◌, ◌≤◌, ℤ, pos, neg_ℤ, ◌-ℤ◌, ◌*ℤ◌, ◌≤ℤ◌, true, Result, Ok, Err, IfOk, IfErr, refl, if◌then◌else◌, ◌==◌}
+use Rattle.std.specs.Prelude.{◌≡◌, ℕ, ◌+◌, ◌*◌, ◌/◌, ◌^◌, ◌≤◌, ℤ, pos, neg_ℤ, ◌-ℤ◌, ◌*ℤ◌, ◌≤ℤ◌, true, Result, Ok, Err, IfOk, IfErr, refl, if◌then◌else◌, ◌==◌}
 use Rattle.std.proofs.Common.{arith}
-use Rattle.std.proofs.lemmas.Int.{ints}
 use Rattle.exact_math.specs.Interval.{Interval, IsProper, between, ◌⊆◌}
 use Rattle.exact_math.proofs.Intervals.{within_refl}
 use Rattle.book_model.specs.declared.site.Site.TheVariants.{Year}
@@ -14,7 +13,7 @@ use Rattle.book_model.specs.numbers.Polynomials.{cubic_of}
 use Rattle.book_model.specs.numbers.Ranges.{IsInTable}
 use Rattle.book_model.specs.numbers.Relations.{Within, Lies, Narrow, Keeps}
 use Rattle.book_model.specs.programs.Leading.{Leads, leaf, at_56}
-use Rattle.book_model.specs.programs.Widths.{IsWithin, IsAbout, IsClose, IsMoment}
+use Rattle.book_model.specs.programs.Widths.{IsAbout, IsClose, IsMoment}
 use Rattle.book_model.specs.sky.Time.{correction_at, in_centuries}
 use Rattle.book_model.proofs.Leads.{leads_leaf}
 use Rattle.width_laws.proofs.Measuring.{remeasured, measured, measured_argument, drawn}

@@ -10,7 +10,7 @@ use Rattle.book_model.specs.numbers.Expressions.{Expression, argument}
 use Rattle.book_model.specs.numbers.Ranges.{IsBetween}
 use Rattle.book_model.specs.numbers.Relations.{Narrow, Keeps}
 use Rattle.book_model.proofs.Implying.{settled_at, limits_within}
-use Rattle.book_model.specs.programs.Widths.{IsWithin}
+use Rattle.book_model.specs.programs.Widths.{IsWithin, IsAbout, IsMoment}
 
 grains_below : (p q : ℕ) → p ≤ q → (record { num = pos p; below = 2 ^ 104 - 1 }) ≤F (record { num = pos q; below = 2 ^ 104 - 1 })
 grains_below p q h = record { cross = omega (arith, ints) }
@@ -67,3 +67,7 @@ looser a b c d v u (between x y) h k l n = record {
     close = le_trans _ _ _ n.kept.close (plus_mono x x _ _ (le_refl x) (grains_below _ _ (omega arith)));
   };
 }
+
+-- a moment is a number that a floor can have
+pub moment_about : (v : ℕ) (i : Interval) → IsMoment v i → IsAbout (2 ^ 90) v i
+moment_about v i h = looser _ _ _ _ v v i (omega (arith, ints)) (omega (arith, ints)) (omega arith) h
