@@ -5,3 +5,4 @@ pub mod Bisection
 pub mod Leading
 pub mod Nesting
 pub mod Calls
+pub mod Widths

@@ -1,6 +1,6 @@
 //! The day with whose evening the crescent was first seen.
 ghost use Rattle.book_model.specs.programs.Calls.{Decides};
-ghost use Rattle.std.specs.Prelude.{◌≡◌, ◌≤◌, ◌+◌, ℤ, pos, ◌≤ℤ◌, ◌+ℤ◌, ◌-ℤ◌, ◌*◌, int_le, IfOk, IfErr};
+ghost use Rattle.std.specs.Prelude.{◌≡◌, ◌≤◌, ◌+◌, ℤ, pos, ◌≤ℤ◌, ◌+ℤ◌, ◌-ℤ◌, ◌*◌, int_le, IfOk, IfErr, false};
 ghost use Rattle.book_model.specs.sky.Crescent as spec;
 ghost use Rattle.book_model.specs.sky.Facts.{IsFactDay, IsFactValue, IsValueDay};
 ghost use Rattle.book_model.specs.programs.Searches.{first_day_from};
@@ -32,6 +32,8 @@ impl<E: Enclosure> DayTest<E> for SeenAt {
     ghost test_of = { λ s d. spec.visible_of s.location d };
 
     ghost most = { 151 };
+
+    ghost near = { false };
 
     fn holds(&self, day: i64, trail: &mut Trail) -> Result<bool, Fail> {
         visible::<E>(&self.location, day, trail)

@@ -2,3 +2,4 @@ pub mod Keeping
 pub mod PiEnds
 pub mod Searching
 pub mod TermSums
+pub mod StepWidths

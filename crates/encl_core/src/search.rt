@@ -1,6 +1,7 @@
 //! Searches by day.
 ghost use Rattle.book_model.specs.programs.Calls.{Decides};
-ghost use Rattle.std.specs.Prelude.{◌≤◌, ◌+◌, ◌*◌, ◌+ℤ◌, pos, negsuc, ◌≤ℤ◌, ℕ, ℤ, Bool, IfOk};
+ghost use Rattle.book_model.specs.programs.Widths.{IsClose};
+ghost use Rattle.std.specs.Prelude.{◌≡◌, ◌≤◌, ◌+◌, ◌*◌, ◌+ℤ◌, pos, negsuc, ◌≤ℤ◌, ℕ, ℤ, Bool, true, IfOk, IfErr};
 ghost use Rattle.book_model.specs.programs.Programs.{Program};
 ghost use Rattle.book_model.specs.programs.Searches.{first_day_from};
 
@@ -18,11 +19,15 @@ pub trait DayTest<E: Enclosure> {
     /// How many tests the test of a day makes at most.
     ghost most: { ℕ };
 
+    /// Whether its failures are known to be close at the scale 2⁻⁵⁶.
+    ghost near: { Bool };
+
     /// Whether the test is true of a day (R.D.). It makes the tests of its formula, and fails where that does.
     fn holds(&self, day: i64, trail: &mut Trail) -> Result<bool, Fail>
         requires low { negsuc 39999999 ≤ℤ day }
         requires high { day ≤ℤ pos 40000000 }
         ensures leads { Decides (test_of self.now day) trail.old.count trail.new.count result }
+        ensures close { near ≡ true → E.BITS ≡ 56 → IfErr result IsClose }
         ensures counted { trail.new.count ≤ trail.old.count + most };
 }
 
@@ -37,6 +42,7 @@ pub fn first_day<E: Enclosure, T: DayTest<E>>(
     requires high { start ≤ℤ pos 39999900 }
     ensures leads { Decides (first_day_from (T.test_of test.now) start) trail.old.count
         trail.new.count result }
+    ensures close { T.near ≡ true → E.BITS ≡ 56 → IfErr result IsClose }
     ensures from { IfOk result (λ d. start ≤ℤ d) }
     ensures to { IfOk result (λ d. d ≤ℤ (start +ℤ pos 45)) }
     ensures counted { trail.new.count ≤ trail.old.count + 46 * T.most }

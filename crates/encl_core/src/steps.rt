@@ -1,6 +1,7 @@
 //! The tests of enclosures as steps of formulas: each leads to a program of one test.
 ghost use Rattle.book_model.specs.programs.Calls.{Decides1, Decides2, Follows1};
-ghost use Rattle.std.specs.Prelude.{◌≡◌, ◌<◌, ℤ, IfOk, IfErr, IsSome, Some};
+ghost use Rattle.book_model.specs.programs.Widths.{IsAbout, IsUpTo, IsClose, Measured1, most_apart};
+ghost use Rattle.std.specs.Prelude.{◌≡◌, ◌<◌, ◌≤◌, ◌+◌, ◌^◌, ℕ, ℤ, IfOk, IfErr, IsSome, Some};
 ghost use Rattle.book_model.specs.numbers.Bounds.{Reach, limits_of};
 ghost use Rattle.book_model.specs.numbers.Expressions.{Expression, remainder};
 ghost use Rattle.book_model.specs.programs.Leading.{next_turn};
@@ -18,6 +19,8 @@ pub fn floor_step<E: Enclosure>(x: E, site: Site, trail: &mut Trail) -> Result<i
         trail.new.count result }
     ensures decided { IfOk result (λ q. cell_at integers (E.shown x) ≡ Some q) }
     ensures open { IfErr result (IsOpenFloor (E.shown x) site) }
+    ensures close { (v : ℕ) → v ≤ most_apart site → IsAbout (2 ^ 90) v (E.shown x)
+        → IfErr result IsClose }
     ensures counted { trail.new.count ≡ next_turn trail.old.count }
 {
     match x.floor(site, trail) {
@@ -33,6 +36,8 @@ pub fn less_step<E: Enclosure>(x: E, y: E, site: Site, trail: &mut Trail) -> Res
         trail.new.count result }
     ensures decided { IfOk result (λ t. compare_at (E.shown x) (E.shown y) ≡ Some t) }
     ensures open { IfErr result (IsOpenLess (E.shown x) (E.shown y) site) }
+    ensures close { (v u : ℕ) → v + u ≤ most_apart site → IsAbout (2 ^ 90) v (E.shown x)
+        → IsAbout (2 ^ 90) u (E.shown y) → IfErr result IsClose }
     ensures counted { trail.new.count ≡ next_turn trail.old.count }
 {
     match x.less(y, site, trail) {
@@ -52,6 +57,8 @@ pub fn wrap_step<E: Enclosure>(x: E, modulus: u32, site: Site, trail: &mut Trail
         (remainder modulus e q) y) }
     ensures decided { IfOk result (λ y. IsSome (cell_at (multiples modulus) (E.shown x))) }
     ensures open { IfErr result (IsOpenWrap modulus (E.shown x) site) }
+    ensures measured { Measured1 E.BITS E.shown (most_apart site) (IsAbout (2 ^ 90)) (IsUpTo modulus)
+        x result }
     ensures counted { trail.new.count ≡ next_turn trail.old.count }
 {
     match x.wrap(modulus, site, trail) {

@@ -1,6 +1,6 @@
 //! The day of the last winter solstice in Beijing.
 ghost use Rattle.book_model.specs.programs.Calls.{Decides, Decides1, Follows};
-ghost use Rattle.std.specs.Prelude.{◌≤◌, ◌+◌, pos, ◌≤ℤ◌, ◌+ℤ◌, ◌-ℤ◌, ℤ, IfOk, IfErr};
+ghost use Rattle.std.specs.Prelude.{◌≤◌, ◌+◌, pos, ◌≤ℤ◌, ◌+ℤ◌, ◌-ℤ◌, ℤ, IfOk, IfErr, false};
 ghost use Rattle.book_model.specs.calendars.Gregorian.{year_of_day};
 ghost use Rattle.book_model.specs.sky.Facts.{IsFactDay, IsFactValue, IsValueDay};
 ghost use Rattle.book_model.specs.sky.Kinds.{is_past_winter_of, has_winter_at_end, last_solstice_of, solstice_start_of, solstice_of};
@@ -42,6 +42,8 @@ impl<E: Enclosure> DayTest<E> for WinterAtEnd {
     ghost test_of = { λ s d. has_winter_at_end d };
 
     ghost most = { 3 };
+
+    ghost near = { false };
 
     fn holds(&self, day: i64, trail: &mut Trail) -> Result<bool, Fail> {
         has_winter::<E>(day, trail)

@@ -1,6 +1,6 @@
 //! The day by whose moment, as true noon or sunset at a place, the sun has just passed the spring equinox: the first of a year.
 ghost use Rattle.book_model.specs.programs.Calls.{Decides, Decides1, Follows};
-ghost use Rattle.std.specs.Prelude.{◌≤◌, ◌+◌, ◌*◌, pos, negsuc, ◌≤ℤ◌, ℕ, ℤ, IfOk};
+ghost use Rattle.std.specs.Prelude.{◌≤◌, ◌+◌, ◌*◌, pos, negsuc, ◌≤ℤ◌, ℕ, ℤ, IfOk, false};
 ghost use Rattle.book_model.specs.numbers.Expressions.{Expression};
 ghost use Rattle.book_model.specs.sky.Facts.{IsFactDay, IsFactValue, IsValueDay};
 ghost use Rattle.book_model.specs.sky.Kinds.{longitude_at_of, is_at_most_two_of, has_spring_at, last_equinox_of, search_start_of, spring_day_of};
@@ -78,6 +78,8 @@ impl<E: Enclosure, M: DayMoment<E>> DayTest<E> for SpringAt<M> {
     ghost test_of = { λ s d. has_spring_at M.moment_of d };
 
     ghost most = { M.most + 3 };
+
+    ghost near = { false };
 
     fn holds(&self, day: i64, trail: &mut Trail) -> Result<bool, Fail> {
         has_spring::<E, M>(self.moment, day, trail)

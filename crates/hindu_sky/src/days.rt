@@ -1,6 +1,6 @@
 //! What the Hindu calendars ask of a day, by sunrise and sunset at Ujjain.
 ghost use Rattle.book_model.specs.programs.Calls.{Decides, Decides1};
-ghost use Rattle.std.specs.Prelude.{◌≡◌, ◌≤◌, ◌+◌, ◌-ℤ◌, pos, ◌≤ℤ◌, ℤ, IfOk, IfErr};
+ghost use Rattle.std.specs.Prelude.{◌≡◌, ◌≤◌, ◌+◌, ◌-ℤ◌, pos, ◌≤ℤ◌, ℤ, IfOk, IfErr, false};
 ghost use Rattle.std.specs.Ordering.{int_eq};
 ghost use Rattle.book_model.specs.sky.Facts.{IsFactValue, IsValueDay};
 ghost use Rattle.book_model.specs.sky.HinduFacts as spec;
@@ -91,6 +91,8 @@ impl<E: Enclosure> DayTest<E> for InSign {
     ghost test_of = { λ s d. spec.has_sign_at s.sign d };
 
     ghost most = { 137 };
+
+    ghost near = { false };
 
     fn holds(&self, day: i64, trail: &mut Trail) -> Result<bool, Fail> {
         has_sign::<E>(self.sign, day, trail)

@@ -13,11 +13,11 @@ use Rattle.time_scales.specs.Horner.{horner_to, horner_of}
 use Rattle.time_scales.proofs.CorrectionRows.{both}
 
 -- no argument is promised anything
-abbrev no_bound : ℕ → Bound
+abbrev pub no_bound : ℕ → Bound
 no_bound k = unbounded
 
 -- whether a test holds of the n numbers from y on
-unfoldable holds_from : (ℤ → Bool) → ℤ → ℕ → Bool
+unfoldable pub holds_from : (ℤ → Bool) → ℤ → ℕ → Bool
 holds_from f y zero = true
 holds_from f y (suc n) = f y && holds_from f (y +ℤ pos 1) n
 
@@ -45,7 +45,7 @@ earlier_close = refl
 same_or_later : (y z : ℤ) → y ≤ℤ z → (y ≡ z) ⊎ ((y +ℤ pos 1) ≤ℤ z)
 same_or_later y z h = by_lt_z y z (λ l. inr (omega (arith, ints))) (λ l. inl (omega (arith, ints)))
 
-holds_at : (f : ℤ → Bool) (n : ℕ) (y z : ℤ) → holds_from f y n ≡ true → y ≤ℤ z → z <ℤ (y +ℤ pos n) → f z ≡ true
+pub holds_at : (f : ℤ → Bool) (n : ℕ) (y z : ℤ) → holds_from f y n ≡ true → y ≤ℤ z → z <ℤ (y +ℤ pos n) → f z ≡ true
 unfolding holds_from
 holds_at f zero y z e h k = absurd (omega (arith, ints))
 holds_at f (suc n) y z e h k =

@@ -9,3 +9,5 @@ pub mod WholeDays
 pub mod Moments
 pub mod CorrectionValues
 pub mod KeptCorrections
+pub mod TableWidths
+pub mod Measured

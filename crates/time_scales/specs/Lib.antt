@@ -1,3 +1,4 @@
 pub mod Steps
 pub mod Horner
 pub mod Corrections
+pub mod Widths

@@ -1,13 +1,16 @@
 //! Dynamical time, which flows evenly: what it is ahead of universal time in a year, and its centuries.
 ghost use Rattle.book_model.specs.programs.Calls.{Follows, Follows1, Holds, Holds1, Narrows, Narrows1};
-ghost use Rattle.std.specs.Prelude.{◌≡◌, ◌≤◌, ℤ, pos, ◌≤ℤ◌, length, IfOk, IfErr};
+ghost use Rattle.book_model.specs.programs.Widths.{IsMoment, Measured, Measured1};
+ghost use Rattle.std.specs.Prelude.{◌≡◌, ◌≤◌, ◌+◌, ◌/◌, ◌^◌, ℕ, ℤ, pos, ◌≤ℤ◌, length, IfOk, IfErr};
 ghost use Rattle.book_model.specs.numbers.Bounds.{Reach, limits_of, IsNarrow};
 ghost use Rattle.book_model.specs.sky.Correction.{is_between as lies_between, seconds_of};
 ghost use Rattle.book_model.specs.numbers.Fractions.{fraction_of};
 ghost use Rattle.book_model.specs.programs.Leading.{next_turn};
+ghost use Rattle.book_model.specs.numbers.Ranges.{IsInTable};
 ghost use Rattle.book_model.specs.numbers.Relations.{Narrow};
 ghost use Rattle.book_model.specs.sky.Time.{hundreds_of, centuries_to_july, correction_of_year, correction_at, dynamical_of, from_dynamical_of, in_centuries, centuries_of};
 ghost use Rattle.time_scales.specs.Steps.{IsYearOpenFor};
+ghost use Rattle.time_scales.specs.Widths.{IsCorrection, IsNearlyDated, AreCenturies};
 ghost use Rattle.time_scales.specs.Corrections.{row_of, IsInRow, correction_by, computed_by, computed_of, correction_bound};
 
 use crate::calendar;
@@ -116,6 +119,7 @@ pub fn correction<E: Enclosure>(year: i64, trail: &mut Trail) -> Result<E, Fail>
         → IfOk result (λ e. IsNarrow 0 (correction_bound 4 E.BITS) (E.shown e)) }
     ensures close_before { 36 ≤ E.BITS → E.BITS ≤ 56 → pos 1800 ≤ℤ year → year ≤ℤ pos 1986
         → IfOk result (λ e. IsNarrow 0 (correction_bound 33 E.BITS) (E.shown e)) }
+    ensures measured { Measured E.BITS E.shown IsCorrection result }
     ensures void { IfErr result (λ f. f ≡ Fail.Void Site.Year) }
     ensures counted { trail.new.count ≡ trail.old.count }
 {
@@ -156,6 +160,8 @@ fn correction_once<E: Enclosure>(year: i64, trail: &mut Trail) -> Result<E, Fail
 #[tactic(auto, using(book_model::proofs::Leads::leading, crate::proofs::Years::opening), unfolding(book_model::specs::sky::Time::correction_at))]
 fn correction_of_moment<E: Enclosure>(t: E, trail: &mut Trail) -> Result<E, Fail>
     ensures leads { Follows1 E.shown correction_at t trail.old.count trail.new.count result }
+    ensures in_table { IfOk result (λ e. IsInTable (E.shown t)) }
+    ensures measured { Measured1 E.BITS E.shown (2 ^ 44) IsMoment (λ v. IsCorrection) t result }
     ensures open { IfErr result (IsYearOpenFor (E.shown t)) }
     ensures counted { trail.new.count ≡ next_turn trail.old.count }
 {
@@ -166,9 +172,11 @@ fn correction_of_moment<E: Enclosure>(t: E, trail: &mut Trail) -> Result<E, Fail
 }
 
 /// The dynamical time of a moment of universal time, by the correction of that moment's year.
-#[tactic(auto, using(book_model::proofs::Leads::leading), unfolding(book_model::specs::sky::Time::dynamical_of))]
+#[tactic(auto, using(book_model::proofs::Leads::leading, crate::proofs::Measured::measuring), unfolding(book_model::specs::sky::Time::dynamical_of))]
 pub fn dynamical<E: Enclosure>(t: E, trail: &mut Trail) -> Result<E, Fail>
     ensures leads { Follows1 E.shown dynamical_of t trail.old.count trail.new.count result }
+    ensures in_table { IfOk result (λ e. IsInTable (E.shown t)) }
+    ensures measured { Measured1 E.BITS E.shown (2 ^ 44) IsMoment (λ v. IsNearlyDated (v + 2 ^ 17)) t result }
     ensures open { IfErr result (IsYearOpenFor (E.shown t)) }
     ensures counted { trail.new.count ≡ next_turn trail.old.count }
 {
@@ -179,9 +187,10 @@ pub fn dynamical<E: Enclosure>(t: E, trail: &mut Trail) -> Result<E, Fail>
 }
 
 /// The universal time of a moment of dynamical time, by the correction of the year in which that moment lies.
-#[tactic(auto, using(book_model::proofs::Leads::leading), unfolding(book_model::specs::sky::Time::from_dynamical_of))]
+#[tactic(auto, using(book_model::proofs::Leads::leading, crate::proofs::Measured::measuring), unfolding(book_model::specs::sky::Time::from_dynamical_of))]
 pub fn from_dynamical<E: Enclosure>(t: E, trail: &mut Trail) -> Result<E, Fail>
     ensures leads { Follows1 E.shown from_dynamical_of t trail.old.count trail.new.count result }
+    ensures measured { Measured1 E.BITS E.shown (2 ^ 44) IsMoment (λ v. IsNearlyDated (v + 2 ^ 17)) t result }
     ensures open { IfErr result (IsYearOpenFor (E.shown t)) }
     ensures counted { trail.new.count ≡ next_turn trail.old.count }
 {
@@ -202,9 +211,11 @@ pub(crate) fn to_centuries<E: Enclosure>(t: E) -> E
 
 /// The centuries of dynamical time from noon of 1 January 2000 to a moment of universal time, by the correction of
 /// the year of universal time.
-#[tactic(auto, using(book_model::proofs::Leads::leading), unfolding(book_model::specs::sky::Time::centuries_of))]
+#[tactic(auto, using(book_model::proofs::Leads::leading, crate::proofs::Measured::measuring), unfolding(book_model::specs::sky::Time::centuries_of))]
 pub fn centuries<E: Enclosure>(t: E, trail: &mut Trail) -> Result<E, Fail>
     ensures leads { Follows1 E.shown centuries_of t trail.old.count trail.new.count result }
+    ensures in_table { IfOk result (λ e. IsInTable (E.shown t)) }
+    ensures measured { Measured1 E.BITS E.shown (2 ^ 44) IsMoment (λ v. AreCenturies (v / 36525 + 2 ^ 12)) t result }
     ensures open { IfErr result (IsYearOpenFor (E.shown t)) }
     ensures counted { trail.new.count ≡ next_turn trail.old.count }
 {

@@ -1,6 +1,7 @@
 //! The Gregorian year of a moment.
 ghost use Rattle.book_model.specs.programs.Calls.{Decides1};
-ghost use Rattle.std.specs.Prelude.{◌≡◌, Some, Ok, IfOk, IfErr};
+ghost use Rattle.book_model.specs.programs.Widths.{IsAbout, IsClose};
+ghost use Rattle.std.specs.Prelude.{◌≡◌, ◌≤◌, ◌^◌, ℕ, Some, Ok, IfOk, IfErr};
 ghost use Rattle.exact_math.specs.Interval.{between};
 ghost use Rattle.book_model.specs.calendars.Gregorian.{year_of_day};
 ghost use Rattle.book_model.specs.sky.Correction.{year_of};
@@ -8,6 +9,7 @@ ghost use Rattle.book_model.specs.numbers.Expressions.{World, integer};
 ghost use Rattle.book_model.specs.programs.Leading.{at_56, Exact, Leads, next_turn};
 ghost use Rattle.book_model.specs.programs.Programs.{years, cell_of, cell_at};
 ghost use Rattle.time_scales.specs.Steps.{IsOpenYear};
+ghost use Rattle.time_scales.specs.Widths.{HasYearEnds};
 
 use crate::calendar;
 use book_model::{Fail, Site, Undecided};
@@ -28,6 +30,7 @@ fn year_between(span: Span, turn: u32) -> Result<i64, Fail>
     ensures decided { IfOk result (λ y. cell_at years (between (at_56 span.lo) (at_56 span.hi))
         ≡ Some y) }
     ensures open { IfErr result (IsOpenYear (between (at_56 span.lo) (at_56 span.hi)) turn) }
+    ensures ends { IfErr result (HasYearEnds span.lo span.hi) }
 {
     let first = year_at(span.lo);
     if first == year_at(span.hi) {
@@ -58,6 +61,7 @@ pub fn year<E: Enclosure>(t: E, trail: &mut Trail) -> Result<i64, Fail>
     ensures leads { Decides1 E.shown year_of t trail.old.count trail.new.count result }
     ensures decided { IfOk result (λ y. cell_at years (E.shown t) ≡ Some y) }
     ensures open { IfErr result (IsOpenYear (E.shown t) trail.new.count) }
+    ensures close { (v : ℕ) → v ≤ 2 ^ 44 → IsAbout (2 ^ 90) v (E.shown t) → IfErr result IsClose }
     ensures counted { trail.new.count ≡ next_turn trail.old.count }
 {
     let turn = trail.step();

@@ -1,11 +1,13 @@
 //! Sidereal time.
 ghost use Rattle.book_model.specs.programs.Calls.{Follows1};
-ghost use Rattle.std.specs.Prelude.{◌≡◌, IfOk};
+ghost use Rattle.book_model.specs.programs.Widths.{IsAbout, Measured1};
+ghost use Rattle.std.specs.Prelude.{◌≡◌, ◌+◌, ◌*◌, ◌^◌, IfOk};
 ghost use Rattle.book_model.specs.numbers.Bounds.{Reach, limits_of};
 ghost use Rattle.book_model.specs.numbers.Expressions.{Expression};
 ghost use Rattle.book_model.specs.numbers.Polynomials.{cubic_of};
 ghost use Rattle.book_model.specs.numbers.Relations.{Narrow};
 ghost use Rattle.book_model.specs.sky.Time.{in_centuries, sidereal_of};
+ghost use Rattle.time_scales.specs.Widths.{IsDated};
 
 use crate::dynamical_time::to_centuries;
 use crate::polynomial::cubic;
@@ -14,12 +16,14 @@ use encl_core::{Enclosure, Trail};
 
 /// Mean sidereal time at Greenwich at a moment of universal time, in degrees, not reduced (Reingold and Dershowitz,
 /// Calendrical Calculations, chapter 14). It makes no test and never fails.
-#[tactic(auto, using(book_model::proofs::Leads::leading), unfolding(book_model::specs::sky::Time::sidereal_of))]
+#[tactic(auto, using(book_model::proofs::Leads::leading, crate::proofs::Measured::measuring), unfolding(book_model::specs::sky::Time::sidereal_of))]
 pub fn sidereal<E: Enclosure>(t: E, trail: &mut Trail) -> Result<E, Fail>
     ensures leads { Follows1 E.shown sidereal_of t trail.old.count trail.new.count result }
     ensures narrow { IfOk result (λ y. (r : Reach) (x : Expression)
         → Narrow E.shown (limits_of E.BITS) r x t → Narrow E.shown (limits_of E.BITS) r
         (cubic_of SIDEREAL_TIME (in_centuries x)) y) }
+    ensures measured { Measured1 E.BITS E.shown (2 ^ 44) IsDated (λ v. IsAbout (2 ^ 61) (362 * v + 2 ^ 37))
+        t result }
     ensures counted { trail.new.count ≡ trail.old.count }
 {
     Ok(cubic(&SIDEREAL_TIME, to_centuries(t)))

@@ -1,4 +1,5 @@
 use Rattle.std.proofs.Common.{rules, ◌≡◌, ◌+ℤ◌, pos, w64, to_z, of_z, arith, refl}
+use Rattle.book_model.specs.programs.Widths.{close_void}
 use Rattle.encl_core.proofs.Searching.{search_hit, search_miss, search_fails, search_ends, first_is}
 use Rattle.encl_core.proofs.search.first_day.Goals as goal
 
@@ -38,3 +39,6 @@ pub returns-clause-leads : goal.returns-clause-leads
 returns-clause-leads g c =
     let start : to_z w64 (of_z w64 c.args.start) ≡ c.args.start = search rules in
     λ w deep. search_ends _ (c.args.start +ℤ pos c.loop-later.later) 46 c.loop-later.later (omega (arith, c.loop-later-test.false)) (rw start at (c.loop-later.invariant.0 w deep))
+
+pub returns-clause-close : goal.returns-clause-close
+returns-clause-close g c = λ n e. close_void

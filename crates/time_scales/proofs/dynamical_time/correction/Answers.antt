@@ -3,6 +3,8 @@ use Rattle.std.proofs.lemmas.Int.{to_z-of_z}
 use Rattle.book_model.proofs.Leads.{leads_answer, leads_void}
 use Rattle.time_scales.proofs.CorrectionRows.{correction_is, row_has, computed_is}
 use Rattle.time_scales.proofs.CorrectionWidths.{recent_is_close, earlier_is_close}
+use Rattle.book_model.specs.programs.Widths.{close_void}
+use Rattle.time_scales.proofs.TableWidths.{correction_within}
 use Rattle.time_scales.proofs.dynamical_time.correction.Goals as goal
 
 pub correction_in_row-requires : goal.correction_in_row-requires
@@ -44,3 +46,13 @@ returns-in-None-clause-leads g c = λ w d.
     let f = c.ranges.year in
     let e = simp to_z-of_z at c.in-None.ensures.row in
     rw (correction_is c.args.year, ← e) leads_void
+
+pub returns-in-Some-clause-measured : goal.returns-in-Some-clause-measured
+returns-in-Some-clause-measured g c = λ p.
+    let f = c.ranges.year in
+    let e = simp to_z-of_z at c.in-Some.ensures.row in
+    let h = simp to_z-of_z at c.correction_in_row.ensures.narrow in
+    correction_within g.E.Enclosure.shown _ c.in-Some.row c.args.year _ p (row_has c.args.year c.in-Some.row (sym e)) (λ r. rw (computed_is c.args.year c.in-Some.row (sym e)) (h r))
+
+pub returns-in-None-clause-measured : goal.returns-in-None-clause-measured
+returns-in-None-clause-measured g c = λ p. close_void

@@ -1,6 +1,8 @@
 use Rattle.std.proofs.Common.{refl}
 use Rattle.std.proofs.lemmas.Result.{IfOk-weaker, IfErr-weaker}
 use Rattle.time_scales.proofs.Years.{year_shared, open_shared, open_everywhere, leads_year_test, leads_open_year}
+use Rattle.width_laws.proofs.Closing.{not_all}
+use Rattle.time_scales.proofs.Measured.{year_close}
 use Rattle.time_scales.proofs.moment.year.Goals as goal
 
 pub returns-in-Some-clause-leads : goal.returns-in-Some-clause-leads
@@ -26,3 +28,11 @@ returns-in-None-clause-leads g c = λ w x h. leads_open_year _ _ _ h (open_every
 
 pub returns-in-None-clause-open : goal.returns-in-None-clause-open
 returns-in-None-clause-open g c = (open_everywhere _ (c.in-None.ensures.none refl), refl, c.step-turn.ensures.number)
+
+pub returns-in-Some-clause-close : goal.returns-in-Some-clause-close
+returns-in-Some-clause-close g c = λ v b h.
+    let s = c.in-Some.span in
+    year_close v s.lo s.hi _ c.year_between.result b h c.in-Some.ensures.tight c.year_between.ensures.ends
+
+pub returns-in-None-clause-close : goal.returns-in-None-clause-close
+returns-in-None-clause-close g c = λ v b h. absurd (not_all _ _ v _ (c.in-None.ensures.none refl) h)

@@ -1,0 +1,111 @@
+-- Moments that are measured: the year, sums with a correction, centuries and sidereal time.
+use Rattle.std.specs.Prelude.{◌≡◌, ℕ, ◌+◌, ◌*◌, ◌/◌, ◌^◌, ◌≤◌, ℤ, pos, neg_ℤ, ◌-ℤ◌, ◌*ℤ◌, ◌≤ℤ◌, true, Result, Ok, Err, IfOk, IfErr, refl, if◌then◌else◌, ◌==◌}
+use Rattle.std.proofs.Common.{arith}
+use Rattle.exact_math.specs.Interval.{Interval, IsProper, between, ◌⊆◌}
+use Rattle.exact_math.proofs.Intervals.{within_refl}
+use Rattle.book_model.specs.declared.site.Site.TheVariants.{Year}
+use Rattle.book_model.specs.declared.fail.Fail.{Fail}
+use Rattle.book_model.specs.declared.fail.Fail.TheVariants.{Undecided as undecided_at, Void}
+use Rattle.book_model.specs.declared.time_tables.TheConstants.{SIDEREAL_TIME}
+use Rattle.book_model.specs.numbers.Bounds.{Bound, bounded, Limits, Reach, bound_of, implies, limits_at, limits_of, sum_bound, difference_bound, scaled_bound, constant_bound, product_bound, power_bound}
+use Rattle.book_model.specs.numbers.Expressions.{Expression, World, value, argument, add, subtract}
+use Rattle.book_model.specs.numbers.Polynomials.{cubic_of}
+use Rattle.book_model.specs.numbers.Ranges.{IsInTable}
+use Rattle.book_model.specs.numbers.Relations.{Within, Lies, Narrow, Keeps}
+use Rattle.book_model.specs.programs.Leading.{Leads, leaf, at_56}
+use Rattle.book_model.specs.programs.Widths.{IsAbout, IsClose, IsMoment}
+use Rattle.book_model.specs.sky.Time.{correction_at, in_centuries}
+use Rattle.book_model.proofs.Leads.{leads_leaf}
+use Rattle.width_laws.proofs.Measuring.{remeasured, measured, measured_argument, drawn}
+use Rattle.width_laws.proofs.Closing.{inner_apart, close_ends}
+use Rattle.time_scales.specs.Widths.{HasYearEnds, IsCorrection, IsDated, IsNearlyDated, AreCenturies}
+use Rattle.time_scales.proofs.Moments.{corrected_in_table}
+
+-- ---- the year
+year_at : (v : ℕ) (lo hi : ℤ) (f : Fail) → v ≤ 2 ^ 44 → ((hi -ℤ lo) *ℤ pos 256) ≤ℤ pos v → HasYearEnds lo hi f → IsClose f
+year_at v lo hi (undecided_at u) h k e = close_ends u Year v e.2 h (rw (e.0, e.1) k)
+year_at v lo hi (Void s) h k e = absurd e
+
+-- an open year is as close as the moment is wide
+pub year_close : (v : ℕ) (lo hi : ℤ) (i : Interval) (r : Result ℤ Fail) → v ≤ 2 ^ 44 → IsAbout (2 ^ 90) v i → between (at_56 lo) (at_56 hi) ⊆ i → IfErr r (HasYearEnds lo hi) → IfErr r IsClose
+year_close v lo hi i (Ok y) b h k o = tt
+year_close v lo hi i (Err f) b h k o = year_at v lo hi f b (inner_apart _ _ v lo hi i h k) o
+
+-- ---- a moment whose correction is found lies in the table
+unfoldable moment_world : (i : Interval) → IsProper i → World
+moment_world i p = record { depth = 40; arguments = λ k. i; proper = λ k. p }
+
+within_moment : {E : Type 0} (shown : E → Interval) (p : (e : E) → IsProper (shown e)) (e : E) → Within shown (moment_world (shown e) (p e)) (argument 0) e
+unfolding Lies value moment_world
+within_moment shown p e = record { deep = omega arith; inside = within_refl _ }
+
+found_in_table : {E T : Type 0} {R : Expression → T → Type 0} (shown : E → Interval) (p : (e : E) → IsProper (shown e)) (t : E) {b a : ℕ} (r : Result T Fail) →
+    Leads (moment_world (shown t) (p t)) R (correction_at (argument 0)) b a r → IfOk r (λ v. IsInTable (shown t))
+unfolding value moment_world
+found_in_table shown p t (Ok v) h = (corrected_in_table (moment_world (shown t) (p t)) (argument 0) (leaf (moment_world (shown t) (p t)) (correction_at (argument 0))) (leads_leaf h)).0
+found_in_table shown p t (Err f) h = tt
+
+pub moment_in_table : {E T : Type 0} (R : World → Expression → T → Type 0) (shown : E → Interval) (p : (e : E) → IsProper (shown e)) (t : E) {b a : ℕ} (r : Result T Fail) →
+    ((w : World) (x : Expression) → Within shown w x t → Leads w (R w) (correction_at x) b a r) → IfOk r (λ v. IsInTable (shown t))
+moment_in_table R shown p t r h = found_in_table shown p t r (h (moment_world (shown t) (p t)) (argument 0) (within_moment shown p t))
+
+-- ---- a moment of the table and its correction
+abbrev moment_bounds : ℕ → Bound
+moment_bounds k = if k == 0 then bounded (neg_ℤ (pos (182621 * 2 ^ 32))) (pos (748748 * 2 ^ 32)) (2 ^ 40) 0 else bounded (neg_ℤ (pos (2 ^ 30))) (pos (2 ^ 30)) 0 (2 ^ 17)
+
+first_kept : {E : Type 0} (shown : E → Interval) (l : Limits) (v : ℕ) (t : E) → IsDated v (shown t) → Narrow shown l (record { width = v; bounds = moment_bounds }) (argument 0) t
+unfolding Keeps bound_of
+first_kept shown l v t h = record { kept = remeasured _ _ 0 0 v v (2 ^ 40) 0 (shown t) (omega arith) h.kept }
+
+second_kept : {E : Type 0} (shown : E → Interval) (l : Limits) (v : ℕ) (c : E) → IsCorrection (shown c) → Narrow shown l (record { width = v; bounds = moment_bounds }) (argument 1) c
+unfolding Keeps bound_of
+second_kept shown l v c h = record { kept = remeasured _ _ 0 0 (2 ^ 17) v 0 (2 ^ 17) (shown c) (omega arith) h.kept }
+
+sum_reach : implies (bound_of (limits_at 56) moment_bounds (add (argument 0) (argument 1))) (bounded (neg_ℤ (pos (182622 * 2 ^ 32))) (pos (748749 * 2 ^ 32)) (2 ^ 40) (2 ^ 17)) ≡ true
+unfolding implies bound_of sum_bound
+sum_reach = refl
+
+difference_reach : implies (bound_of (limits_at 56) moment_bounds (subtract (argument 0) (argument 1))) (bounded (neg_ℤ (pos (182622 * 2 ^ 32))) (pos (748749 * 2 ^ 32)) (2 ^ 40) (2 ^ 17)) ≡ true
+unfolding implies bound_of difference_bound
+difference_reach = refl
+
+module _ {E : Type 0} (shown : E → Interval) (n v : ℕ) (t c d : E) (p : n ≡ 56) (i : IsInTable (shown t)) (h : IsMoment v (shown t)) (k : IsCorrection (shown c)) where
+  -- a moment of the table and its correction
+  pub sum_within : ((r : Reach) (x y : Expression) → Narrow shown (limits_of n) r x t → Narrow shown (limits_of n) r y c → Narrow shown (limits_of n) r (add x y) d) → IsNearlyDated (v + 2 ^ 17) (shown d)
+  sum_within f =
+      measured shown n v moment_bounds (add (argument 0) (argument 1)) _ _ (2 ^ 40) (2 ^ 17) (v + 2 ^ 17) d p sum_reach (omega arith)
+      (f (record { width = v; bounds = moment_bounds }) (argument 0) (argument 1) (first_kept shown (limits_of n) v t (drawn _ _ _ _ v (shown t) i h)) (second_kept shown (limits_of n) v c k))
+
+  -- a moment of the table less its correction
+  pub difference_within : ((r : Reach) (x y : Expression) → Narrow shown (limits_of n) r x t → Narrow shown (limits_of n) r y c → Narrow shown (limits_of n) r (subtract x y) d) → IsNearlyDated (v + 2 ^ 17) (shown d)
+  difference_within f =
+      measured shown n v moment_bounds (subtract (argument 0) (argument 1)) _ _ (2 ^ 40) (2 ^ 17) (v + 2 ^ 17) d p difference_reach (omega arith)
+      (f (record { width = v; bounds = moment_bounds }) (argument 0) (argument 1) (first_kept shown (limits_of n) v t (drawn _ _ _ _ v (shown t) i h)) (second_kept shown (limits_of n) v c k))
+
+-- ---- centuries of a moment of the table
+abbrev days_bounds : ℕ → Bound
+days_bounds k = bounded (neg_ℤ (pos (182622 * 2 ^ 32))) (pos (748749 * 2 ^ 32)) (2 ^ 40) 0
+
+centuries_reach : implies (bound_of (limits_at 56) days_bounds (in_centuries (argument 0))) (bounded (neg_ℤ (pos (25 * 2 ^ 32))) (pos (2 ^ 32)) 30102988 1000) ≡ true
+unfolding implies bound_of difference_bound scaled_bound constant_bound in_centuries
+centuries_reach = refl
+
+pub centuries_within : {E : Type 0} (shown : E → Interval) (n v : ℕ) (t c : E) → n ≡ 56 → v ≤ 2 ^ 44 → IsNearlyDated (v + 2 ^ 17) (shown t)
+    → ((r : Reach) (x : Expression) → Narrow shown (limits_of n) r x t → Narrow shown (limits_of n) r (in_centuries x) c) → AreCenturies (v / 36525 + 2 ^ 12) (shown c)
+centuries_within shown n v t c p b h f =
+    measured shown n (v + 2 ^ 17) days_bounds (in_centuries (argument 0)) _ _ 30102988 1000 (v / 36525 + 2 ^ 12) c p centuries_reach (omega arith)
+    (f (record { width = v + 2 ^ 17; bounds = days_bounds }) (argument 0) (measured_argument shown (limits_of n) _ _ (v + 2 ^ 17) 0 t h))
+
+-- ---- sidereal time of a moment of the table
+sidereal_reach : implies (bound_of (limits_at 56) (λ k. bounded (neg_ℤ (pos (182621 * 2 ^ 32))) (pos (748748 * 2 ^ 32)) (2 ^ 40) 0) (cubic_of SIDEREAL_TIME (in_centuries (argument 0)))) (bounded (neg_ℤ (pos (2 ^ 61))) (pos (2 ^ 61)) (362 * 2 ^ 40) (2 ^ 37)) ≡ true
+unfolding implies bound_of constant_bound sum_bound difference_bound scaled_bound product_bound power_bound in_centuries cubic_of
+sidereal_reach = refl
+
+pub sidereal_within : {E : Type 0} (shown : E → Interval) (n v : ℕ) (t y : E) → n ≡ 56 → IsDated v (shown t)
+    → ((r : Reach) (x : Expression) → Narrow shown (limits_of n) r x t → Narrow shown (limits_of n) r (cubic_of SIDEREAL_TIME (in_centuries x)) y) → IsAbout (2 ^ 61) (362 * v + 2 ^ 37) (shown y)
+sidereal_within shown n v t y e h f =
+    let b : ℕ → Bound = λ k. bounded (neg_ℤ (pos (182621 * 2 ^ 32))) (pos (748748 * 2 ^ 32)) (2 ^ 40) 0 in
+    measured shown n v b (cubic_of SIDEREAL_TIME (in_centuries (argument 0))) _ _ (362 * 2 ^ 40) (2 ^ 37) (362 * v + 2 ^ 37) y e sidereal_reach (omega arith)
+    (f (record { width = v; bounds = b }) (argument 0) (measured_argument shown (limits_of n) _ _ v 0 t h))
+
+pub ruleset measuring = (sum_within, difference_within, centuries_within, sidereal_within)
