@@ -158,7 +158,6 @@ pub use sun_tables::SUN_WAVES;
 pub use sun_tables::TWO;
 pub use tables::CORRECTION_1987;
 pub use tables::CORRECTION_2006;
-pub use tables::FINEST_PART;
 pub use tables::HALF;
 pub use tables::HUNDRED_THOUSANDTH;
 pub use tables::MILLISECONDS_OF_DAY;

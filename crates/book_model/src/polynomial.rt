@@ -2,7 +2,7 @@
 use crate::Frac;
 
 /// The coefficients of a quadratic polynomial.
-#[derive(Clone, Copy, Debug, PartialEq, Eq)]
+#[derive(Clone, Copy, Debug)]
 pub struct Quadratic {
     pub constant: Frac,
     pub linear: Frac,
@@ -10,7 +10,7 @@ pub struct Quadratic {
 }
 
 /// The coefficients of a cubic polynomial.
-#[derive(Clone, Copy, Debug, PartialEq, Eq)]
+#[derive(Clone, Copy, Debug)]
 pub struct Cubic {
     pub constant: Frac,
     pub linear: Frac,
@@ -20,7 +20,7 @@ pub struct Cubic {
 
 /// A wave in time: its size times the sine of its phase and its rate times the time. The phase is in ten-millionths of a
 /// degree, the rate in the same a century, and the size in a unit of its table.
-#[derive(Clone, Copy, Debug, PartialEq, Eq)]
+#[derive(Clone, Copy, Debug)]
 pub struct Wave {
     pub size: i64,
     pub phase: i64,
@@ -28,14 +28,14 @@ pub struct Wave {
 }
 
 /// A wave whose angle is quadratic in time: its size times the sine of the angle, in degrees.
-#[derive(Clone, Copy, Debug, PartialEq, Eq)]
+#[derive(Clone, Copy, Debug)]
 pub struct QuadraticWave {
     pub size: Frac,
     pub angle: Quadratic,
 }
 
 /// The coefficients of a polynomial of the fourth degree.
-#[derive(Clone, Copy, Debug, PartialEq, Eq)]
+#[derive(Clone, Copy, Debug)]
 pub struct Quartic {
     pub constant: Frac,
     pub linear: Frac,

@@ -41,10 +41,6 @@ pub const HUNDRED_THOUSANDTH: Frac = Frac {
 /// A half.
 pub const HALF: Frac = Frac { num: 1, den: 2 };
 
-/// What the ends of enclosures count, at the one scale of all kinds: 2⁻⁵⁶.
-#[rattlefmt::skip]
-pub const FINEST_PART: Frac = Frac { num: 1, den: 72_057_594_037_927_936 };
-
 /// The fraction of 2⁵⁶ next below pi.
 #[rattlefmt::skip]
 pub const PI_BELOW: Frac = Frac { num: 226_375_608_064_910_088, den: 72_057_594_037_927_936 };
