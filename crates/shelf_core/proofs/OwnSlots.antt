@@ -1,10 +1,9 @@
 -- Two facts of a kind's places and of days that have slots have two slots.
-use Rattle.std.proofs.Common.{◌≡◌, ◌==◌, ◌||◌, Bool, true, false, ℕ, suc, zero, ◌+◌, ◌*◌, ◌<◌, ◌≤◌, List, [], ◌∷◌, map, refl, arith, if◌then◌else◌, ℤ, pos, negsuc, ◌-ℤ◌, ◌≤ℤ◌, rules}
+use Rattle.std.proofs.Common.{◌≡◌, ◌==◌, ◌||◌, Bool, true, false, ℕ, suc, zero, ◌+◌, ◌*◌, ◌<◌, ◌≤◌, List, [], ◌∷◌, refl, arith, if◌then◌else◌, ℤ, pos, negsuc, ◌-ℤ◌, ◌≤ℤ◌, rules}
 use Rattle.std.proofs.lemmas.Int.{ints}
 use Rattle.std.proofs.lemmas.Bool.Decides.{nat_tests}
-use Rattle.std.specs.Prelude.{slice_get, IsTrue}
+use Rattle.std.specs.Prelude.{IsTrue}
 use Rattle.std.specs.List.{list_any}
-use Rattle.std.specs.Option.{option_map_or}
 use Rattle.book_model.specs.declared.fact.Fact.{Fact}
 use Rattle.book_model.specs.declared.fact.Kind.{Kind}
 use Rattle.book_model.specs.declared.fact.Place.{Place}
@@ -14,7 +13,7 @@ use Rattle.book_model.specs.sky.Names.{kind_number, place_number, has_place}
 use Rattle.book_model.proofs.NameLemmas.{one_kind, one_place}
 use Rattle.shelf_core.specs.Rows.{HavePlaces, column_from, row_in, row_of, place_lists}
 use Rattle.shelf_core.specs.Slots.{slot_of, natural}
-use Rattle.shelf_core.proofs.RowLemmas.{column_within, kinds_have_places}
+use Rattle.shelf_core.proofs.RowLemmas.{column_within, kinds_have_places, places_at, places_of_row}
 
 -- whether a place is one of these
 abbrev among : Place → List Place → Bool
@@ -40,12 +39,6 @@ one_column at (x ∷ ps) p q hp hq same = by (place_number x == place_number p) 
     by false a true b hp hq same rest = absurd (let least = column_from_least (at + 1) ps p hp in omega (arith, least, same))
     by false a false b hp hq same rest = rest hp hq same
 
--- the list with a number
-abbrev places_at : List (List Place) → ℕ → List Place
-places_at [] n = []
-places_at (ps ∷ pss) zero = ps
-places_at (ps ∷ pss) (suc n) = places_at pss n
-
 -- rows that are one are of one list and one place
 one_row : (pss : List (List Place)) (n m : ℕ) (p q : Place) → HavePlaces pss → among p (places_at pss n) ≡ true → among q (places_at pss m) ≡ true → row_in pss n p ≡ row_in pss m q → (n ≡ m) × (place_number p ≡ place_number q)
 one_row [] n m p q have hp hq same = cc
@@ -55,12 +48,6 @@ one_row (ps ∷ pss) (suc n) zero p q have hp hq same = absurd (let w = column_w
 one_row (ps ∷ pss) (suc n) (suc m) p q have hp hq same =
     let r = one_row pss n m p q have.1 hp hq (omega (arith, same)) in
     (omega (arith, r.0), r.1)
-
--- the places of a row of a table
-places_of_row : {X : Type 0} (g : X → List Place) (rows : List X) (n : ℕ) → places_at (map g rows) n ≡ option_map_or g (slice_get rows n) []
-places_of_row g [] n = refl
-places_of_row g (x ∷ rows) zero = refl
-places_of_row g (x ∷ rows) (suc n) = places_of_row g rows n
 
 -- a kind's place stands in the list of its number
 stands : (kind : Kind) (place : Place) → IsTrue (has_place kind place) → among place (places_at place_lists (kind_number kind)) ≡ true

@@ -1,7 +1,11 @@
--- The rows of facts lie within their number.
-use Rattle.std.proofs.Common.{◌==◌, Bool, true, false, ℕ, suc, zero, ◌+◌, ◌<◌, List, [], ◌∷◌, length, arith, if◌then◌else◌}
+-- The rows of facts: by the first row of each kind, and within their number.
+use Rattle.std.proofs.Common.{◌≡◌, ◌==◌, Bool, true, false, ℕ, suc, zero, ◌+◌, ◌<◌, List, [], ◌∷◌, length, map, refl, arith, if◌then◌else◌}
+use Rattle.std.specs.Prelude.{slice_get, slice_index_or}
+use Rattle.std.specs.Option.{option_map_or}
 use Rattle.book_model.specs.declared.fact.Place.{Place}
+use Rattle.book_model.specs.declared.fact.TheConstants.{KINDS}
 use Rattle.book_model.specs.sky.Names.{place_number}
+use Rattle.shelf_core.specs.declared.rows.TheConstants.{FIRST_ROWS}
 use Rattle.shelf_core.specs.Rows.{rows_among, HavePlaces, column_in, column_from, row_in, place_lists}
 
 -- a place stands among these, the first of which has this number
@@ -25,3 +29,34 @@ row_within (ps ∷ pss) (suc number) place asked less = let r = row_within pss n
 -- each kind has a place
 pub kinds_have_places : HavePlaces place_lists
 kinds_have_places = search arith
+
+-- the list with a number
+abbrev pub places_at : List (List Place) → ℕ → List Place
+places_at [] n = []
+places_at (ps ∷ pss) zero = ps
+places_at (ps ∷ pss) (suc n) = places_at pss n
+
+-- the places of a row of a table
+pub places_of_row : {X : Type 0} (g : X → List Place) (rows : List X) (n : ℕ) → places_at (map g rows) n ≡ option_map_or g (slice_get rows n) []
+places_of_row g [] n = refl
+places_of_row g (x ∷ rows) zero = refl
+places_of_row g (x ∷ rows) (suc n) = places_of_row g rows n
+
+-- the first row of each list, where so many rows are before them
+abbrev pub first_rows : ℕ → List (List Place) → List ℕ
+first_rows before [] = []
+first_rows before (ps ∷ pss) = before ∷ first_rows (before + length ps) pss
+
+-- a row is that many behind the first of its list as its place stands behind the first there
+pub row_from_first : (before : ℕ) (pss : List (List Place)) (n : ℕ) (place : Place) (d : ℕ) → n < length pss
+    → slice_index_or (first_rows before pss) n d + column_in (places_at pss n) place ≡ before + row_in pss n place
+row_from_first before [] n place d less = absurd (omega (arith, less))
+row_from_first before (ps ∷ pss) zero place d less = refl
+row_from_first before (ps ∷ pss) (suc n) place d less = let r = row_from_first (before + length ps) pss n place d (omega (arith, less)) in omega (arith, r)
+
+-- the table of first rows holds these, and tells the row
+pub row_by_table : (n : ℕ) (place : Place) (d : ℕ) → n < length place_lists
+    → slice_index_or FIRST_ROWS n d + column_in (option_map_or (λ row. row.2.0.now) (slice_get KINDS n) []) place ≡ row_in place_lists n place
+row_by_table n place d less =
+    let row = rw (places_of_row (λ row. row.2.0.now) KINDS n) at (row_from_first 0 place_lists n place d less) in
+    omega (arith, row)
