@@ -1,5 +1,5 @@
 -- How wide the span of a part in one piece is, and that of parts side by side.
-use Rattle.std.proofs.Common.{◌≡◌, ◌≤◌, ◌+◌, ◌*◌, ◌-◌, ◌^◌, arith, ℕ, ℤ, pos, negsuc, ◌+ℤ◌, ◌-ℤ◌, ◌*ℤ◌, ◌≤ℤ◌, ◌<ℤ◌, ◌⊎◌, inl, inr, Option, Some, None}
+use Rattle.std.proofs.Common.{◌≡◌, ◌+◌, ◌-◌, ◌^◌, arith, ℕ, ℤ, pos, negsuc, ◌+ℤ◌, ◌-ℤ◌, ◌*ℤ◌, ◌≤ℤ◌, ◌<ℤ◌, ◌⊎◌, inl, inr, Option, Some, None}
 use Rattle.std.specs.Int.{int_min, int_max}
 use Rattle.std.proofs.lemmas.Int.{ints, clamps}
 use lib.IntN.{neg_ℤ}
@@ -12,8 +12,8 @@ use Rattle.book_model.proofs.ArcPieces.{InPiece}
 use Rattle.encl_core.specs.declared.span.Span.{Span}
 use Rattle.arc_series.specs.declared.pieces.Piece.{Piece}
 use Rattle.arc_series.specs.declared.pieces.Piece.TheVariants.{FarBelow, Below, Near, Above, FarAbove}
-use Rattle.arc_series.specs.Forms.{piece_of, begin_56, end_56, of_span}
-use Rattle.arc_series.specs.Widths.{IsThin, Edge, first_edge, last_edge, IsFrom, IsUpTo, IsAt, IsReach, Reaches, IsOver, AreOver, no_begin, no_end}
+use Rattle.arc_series.specs.Forms.{piece_of, begin_56, end_56}
+use Rattle.arc_series.specs.Widths.{IsThin, Edge, first_edge, last_edge, IsFrom, IsUpTo, IsReach, Reaches, AreOver, no_begin, no_end}
 use Rattle.arc_series.proofs.HeldArcs.{Holds_arcs}
 use Rattle.arc_series.proofs.ArcSlopes.{piece_arc}
 use Rattle.arc_series.proofs.ArcAnchors.{near_half, near_minus_half, above_half, above_three, beyond_three, below_half, below_three, far_below_three, AreApart, apart, AreMeeting, meeting}

@@ -1,23 +1,19 @@
 -- Where the arctangents of a part of a piece lie and how far apart they are, and the same of parts side by side.
-use Rattle.std.proofs.Common.{◌≡◌, ◌≤◌, ◌+◌, ◌*◌, ◌-◌, ◌^◌, refl, sym, subst, arith, ℕ, ℤ, pos, negsuc, ◌+ℤ◌, ◌-ℤ◌, ◌*ℤ◌, ◌≤ℤ◌, ◌<ℤ◌, ◌⊎◌, inl, inr, Option, Some, None}
+use Rattle.std.proofs.Common.{◌≡◌, ◌*◌, ◌^◌, subst, arith, ℤ, pos, negsuc, ◌+ℤ◌, ◌-ℤ◌, ◌*ℤ◌, ◌≤ℤ◌, ◌⊎◌, inl, inr}
 use Rattle.std.specs.Int.{int_min, int_max}
 use Rattle.std.proofs.lemmas.Int.{ints, clamps}
 use lib.IntN.{neg_ℤ}
-use Rattle.exact_math.specs.Fraction.{Fraction, ◌≤F◌, ◌≈◌, whole, plus}
-use Rattle.exact_math.specs.Interval.{Interval, between, ◌⊆◌, one, minus_one}
+use Rattle.exact_math.specs.Fraction.{whole, plus}
+use Rattle.exact_math.specs.Interval.{between, ◌⊆◌, one, minus_one}
 use Rattle.exact_math.proofs.Certificates.{zero_F}
-use Rattle.exact_math.proofs.Same.{same_refl}
 use Rattle.book_model.specs.programs.Leading.{at_56}
 use Rattle.book_model.specs.numbers.Arcs.{half, minus_half}
 use Rattle.book_model.proofs.ArcPieces.{InPiece}
-use Rattle.encl_core.specs.declared.span.Span.{Span}
 use Rattle.arc_series.specs.declared.pieces.Piece.{Piece}
 use Rattle.arc_series.specs.declared.pieces.Piece.TheVariants.{FarBelow, Below, Near, Above, FarAbove}
 use Rattle.arc_series.specs.Forms.{piece_of, begin_56, end_56}
-use Rattle.arc_series.specs.Widths.{IsThin, Edge, first_edge, last_edge, IsFrom, IsUpTo, IsAt, IsReach, Reaches, IsOver, AreOver, no_begin, no_end}
-use Rattle.arc_series.proofs.HeldArcs.{Holds_arcs}
-use Rattle.arc_series.proofs.ArcSlopes.{piece_arc}
-use Rattle.arc_series.proofs.ArcAnchors.{near_half, near_minus_half, near_none, above_half, above_one, above_three, beyond_three, below_half, below_one, below_three, far_below_three, AreApart, apart, AreMeeting, meeting, in_quarters}
+use Rattle.arc_series.specs.Widths.{IsThin, IsFrom, IsUpTo}
+use Rattle.arc_series.proofs.ArcAnchors.{near_half, near_minus_half, near_none, above_half, above_one, above_three, beyond_three, below_half, below_one, below_three, far_below_three, AreApart, apart, in_quarters}
 
 split : (j k : ℤ) → (j ≤ℤ k) ⊎ ((k +ℤ pos 1) ≤ℤ j)
 split j k = grind (arith, ints)

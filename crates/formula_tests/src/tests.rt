@@ -1,5 +1,6 @@
 //! What no clause says of the formulas, one file for each crate, and for what several show together.
 mod arc_spans;
+mod arc_widths;
 mod arcs;
 mod bisection;
 mod decided;
