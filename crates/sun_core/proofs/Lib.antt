@@ -4,3 +4,4 @@ pub mod Elapsed
 pub mod Reaches
 pub mod FormulaWidths
 pub mod NewYears
+pub mod Measured

@@ -1,6 +1,11 @@
--- How wide a longitude of the sun is at the coarse scale, whose unit is 2^-36 degrees.
-use Rattle.std.specs.Prelude.{ℕ, ◌*◌, ◌/◌, ◌^◌, pos, neg_ℤ}
-use Rattle.book_model.specs.numbers.Bounds.{Bound, bounded}
+-- How wide a longitude of the sun is at the coarse scale, whose unit is 2^-36 degrees; ranges of moments at the scale 2^-56.
+use Rattle.std.specs.Prelude.{◌≡◌, ℕ, ◌+◌, ◌-◌, ◌*◌, ◌/◌, ◌^◌, pos, neg_ℤ, true}
+use Rattle.exact_math.specs.Interval.{Interval}
+use Rattle.book_model.specs.declared.frac.Frac.{Frac}
+use Rattle.book_model.specs.numbers.Bounds.{Bound, unbounded, bounded, bound_of, implies, limits_at}
+use Rattle.book_model.specs.numbers.Fractions.{fraction_of}
+use Rattle.book_model.specs.programs.Widths.{IsWithin, IsAbout}
+use Rattle.book_model.specs.sky.Noon.{ahead_of}
 
 -- days of the years 1800 to 2050, counted from noon of 1 January 2000, as far as a moment's width is known
 abbrev pub days_of_years : ℕ → Bound
@@ -9,3 +14,19 @@ days_of_years k = bounded (neg_ℤ (pos (73050 * 2 ^ 32))) (pos (18263 * 2 ^ 32)
 -- at most 1.031 times as wide as the days, and 24 units
 abbrev pub longitude_bound : Bound
 longitude_bound = bounded (neg_ℤ (pos (71724 * 2 ^ 32))) (pos (18289 * 2 ^ 32)) (1031 * 2 ^ 40 / 1000) (24 * 2 ^ 28)
+
+-- a moment of local time: within 2^26 days of day 0, less four, and at most so wide
+abbrev pub IsLocalMoment : ℕ → Interval → Type 0
+IsLocalMoment v i = IsAbout (2 ^ 58 - 2 ^ 34) v i
+
+-- a moment within 2^20 days of day 0, and at most so wide
+abbrev pub IsNearMoment : ℕ → Interval → Type 0
+IsNearMoment v i = IsAbout (2 ^ 52) v i
+
+-- the obliquity of the ecliptic by centuries of this width: from 23 to 24 degrees, a 64th as wide and 2^-52 degrees
+abbrev pub IsObliquity : ℕ → Interval → Type 0
+IsObliquity v i = IsWithin (pos (23 * 2 ^ 32)) (pos (24 * 2 ^ 32)) (v / 64 + 2 ^ 12) i
+
+-- what local time is ahead at a longitude is narrow at the scale 2^-56: at most four units wide
+pub record IsNarrowPlace (longitude : Frac) : Type 0 where
+  pub narrow : implies (bound_of (limits_at 56) (λ k. unbounded) (ahead_of (fraction_of longitude))) (bounded (neg_ℤ (pos (2 ^ 32))) (pos (2 ^ 32)) 0 (2 ^ 10)) ≡ true

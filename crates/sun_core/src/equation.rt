@@ -1,6 +1,8 @@
 //! The equation of time.
 ghost use Rattle.book_model.specs.programs.Calls.{Follows1, Holds1, Holds2, Holds4, Narrows1, Narrows2, Narrows4};
-ghost use Rattle.std.specs.Prelude.{◌≡◌, IfErr};
+ghost use Rattle.book_model.specs.programs.Widths.{IsAbout, IsMoment, Measured1};
+ghost use Rattle.book_model.specs.numbers.Ranges.{IsInTable};
+ghost use Rattle.std.specs.Prelude.{◌≡◌, ◌+◌, ◌/◌, ◌^◌, IfOk, IfErr};
 ghost use Rattle.book_model.specs.programs.Leading.{next_turn};
 ghost use Rattle.book_model.specs.sky.Noon.{tilt_of, reduction_of, centre_of, joint_of, second_reduction_of, second_centre_of, radians_of, part_of_day, equation_of, equation_of_time_of};
 ghost use Rattle.time_scales.specs.Steps.{IsYearOpenFor};
@@ -125,9 +127,12 @@ fn equation<E: Enclosure>(c: E) -> E
 /// The equation of time at a moment of universal time, in days: what apparent time is ahead of mean time (Reingold and
 /// Dershowitz, Calendrical Calculations, chapter 14). It is at most half a day. One test, at `year`; it is void at
 /// `year` in a year without a correction.
-#[tactic(auto, using(book_model::proofs::Leads::leading), unfolding(book_model::specs::sky::Noon::equation_of_time_of))]
+#[tactic(auto, using(book_model::proofs::Leads::leading, crate::proofs::Measured::equation_within), unfolding(book_model::specs::sky::Noon::equation_of_time_of))]
 pub fn equation_of_time<E: Enclosure>(t: E, trail: &mut Trail) -> Result<E, Fail>
     ensures leads { Follows1 E.shown equation_of_time_of t trail.old.count trail.new.count result }
+    ensures in_table { IfOk result (λ e. IsInTable (E.shown t)) }
+    ensures measured { Measured1 E.BITS E.shown (2 ^ 42) IsMoment
+        (λ v. IsAbout (2 ^ 31) (v / 100 + 2 ^ 30)) t result }
     ensures open { IfErr result (IsYearOpenFor (E.shown t)) }
     ensures counted { trail.new.count ≡ next_turn trail.old.count }
 {

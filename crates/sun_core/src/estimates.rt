@@ -1,6 +1,8 @@
 //! About when the sun was last at a longitude.
 ghost use Rattle.book_model.specs.programs.Calls.{Follows1, Follows2, Holds2, Narrows2};
-ghost use Rattle.std.specs.Prelude.{◌≡◌, ◌≤◌, ◌+◌};
+ghost use Rattle.book_model.specs.programs.Widths.{IsAbout, IsMoment, IsUpTo, Measured1, Measured2};
+ghost use Rattle.book_model.specs.numbers.Ranges.{IsInTable};
+ghost use Rattle.std.specs.Prelude.{◌≡◌, ◌≤◌, ◌+◌, ◌*◌, ◌^◌, IfOk};
 ghost use Rattle.book_model.specs.programs.Leading.{next_turn};
 ghost use Rattle.book_model.specs.sky.Sun.{reduced_of, past_of, off_of, back_by, estimate_of};
 
@@ -15,6 +17,7 @@ const HALF_TURN: i64 = 180;
 #[tactic(auto, using(book_model::proofs::Leads::leading), unfolding(book_model::specs::sky::Sun::reduced_of))]
 pub(crate) fn reduced<E: Enclosure>(angle: E, trail: &mut Trail) -> Result<E, Fail>
     ensures leads { Follows1 E.shown reduced_of angle trail.old.count trail.new.count result }
+    ensures measured { Measured1 E.BITS E.shown (2 ^ 44) (IsAbout (2 ^ 90)) (IsUpTo 360) angle result }
     ensures counted { trail.new.count ≡ next_turn trail.old.count }
 {
     wrap_step(angle, 360, Site::StepWrap, trail)
@@ -24,6 +27,9 @@ pub(crate) fn reduced<E: Enclosure>(angle: E, trail: &mut Trail) -> Result<E, Fa
 #[tactic(auto, using(book_model::proofs::Leads::leading), unfolding(book_model::specs::sky::Sun::past_of, book_model::specs::programs::Leading::next_turn))]
 fn past<E: Enclosure>(longitude: E, t: E, trail: &mut Trail) -> Result<E, Fail>
     ensures leads { Follows2 E.shown past_of longitude t trail.old.count trail.new.count result }
+    ensures in_table { IfOk result (λ p. IsInTable (E.shown t)) }
+    ensures measured { Measured2 E.BITS E.shown (2 ^ 42) (λ v. IsMoment 0) IsMoment
+        (λ v. IsUpTo 360 (2 * v + 2 ^ 32)) longitude t result }
 {
     match sun(t, trail) {
         Ok(there) => reduced(there.sub(longitude), trail),
@@ -35,6 +41,8 @@ fn past<E: Enclosure>(longitude: E, t: E, trail: &mut Trail) -> Result<E, Fail>
 #[tactic(auto, using(book_model::proofs::Leads::leading), unfolding(book_model::specs::sky::Sun::off_of, book_model::specs::programs::Leading::next_turn))]
 fn off<E: Enclosure>(longitude: E, t: E, trail: &mut Trail) -> Result<E, Fail>
     ensures leads { Follows2 E.shown off_of longitude t trail.old.count trail.new.count result }
+    ensures measured { Measured2 E.BITS E.shown (2 ^ 42) (λ v. IsMoment 0) IsMoment
+        (λ v. IsAbout (180 * 2 ^ 32) (2 * v + 2 ^ 32)) longitude t result }
 {
     let there = sun(t, trail)?;
     let half_turn = E::from_int(HALF_TURN);
@@ -61,6 +69,8 @@ fn back<E: Enclosure>(angle: E, t: E) -> E
 #[tactic(auto, using(book_model::proofs::Leads::leading), unfolding(book_model::specs::sky::Sun::estimate_of))]
 pub fn estimate<E: Enclosure>(l: E, t: E, trail: &mut Trail) -> Result<E, Fail>
     ensures leads { Follows2 E.shown estimate_of l t trail.old.count trail.new.count result }
+    ensures measured { Measured2 E.BITS E.shown (2 ^ 40) (λ v. IsMoment 0) IsMoment
+        (λ v. IsMoment (10 * v + 2 ^ 35)) l t result }
 {
     let near = back(past(l, t, trail)?, t);
     match off(l, near, trail) {

@@ -1,6 +1,8 @@
 //! The apparent longitude of the sun.
 ghost use Rattle.book_model.specs.programs.Calls.{Follows1, Holds1, Narrows1};
-ghost use Rattle.std.specs.Prelude.{◌≡◌, ◌≤◌, ◌+◌, ℕ, IfErr};
+ghost use Rattle.book_model.specs.programs.Widths.{IsMoment, IsUpTo, Measured1};
+ghost use Rattle.book_model.specs.numbers.Ranges.{IsInTable};
+ghost use Rattle.std.specs.Prelude.{◌≡◌, ◌≤◌, ◌+◌, ◌*◌, ◌^◌, ℕ, IfOk, IfErr};
 ghost use Rattle.book_model.specs.numbers.Bounds.{Reach, IsNarrow, limits_of};
 ghost use Rattle.book_model.specs.numbers.Expressions.{Expression, World, argument};
 ghost use Rattle.book_model.specs.numbers.Fractions.{fraction_of};
@@ -85,6 +87,9 @@ fn longitude<E: Enclosure>(days: E, c: E) -> E
 #[tactic(auto, using(book_model::proofs::Leads::leading, crate::proofs::Openings::opening), unfolding(book_model::specs::sky::Sun::sun_of, book_model::specs::sky::Time::centuries_of, book_model::specs::sky::Time::in_centuries, crate::specs::Daily::in_centuries, book_model::specs::programs::Leading::next_turn))]
 pub fn sun<E: Enclosure>(t: E, trail: &mut Trail) -> Result<E, Fail>
     ensures leads { Follows1 E.shown sun_of t trail.old.count trail.new.count result }
+    ensures in_table { IfOk result (λ s. IsInTable (E.shown t)) }
+    ensures measured { Measured1 E.BITS E.shown (2 ^ 42) IsMoment (λ v. IsUpTo 360 (2 * v + 2 ^ 32)) t
+        result }
     ensures open { IfErr result (IsYearOpenFor (E.shown t)) }
 {
     match dynamical(t, trail) {

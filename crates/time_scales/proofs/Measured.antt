@@ -16,7 +16,7 @@ use Rattle.book_model.specs.programs.Leading.{Leads, leaf, at_56}
 use Rattle.book_model.specs.programs.Widths.{IsAbout, IsClose, IsMoment}
 use Rattle.book_model.specs.sky.Time.{correction_at, in_centuries}
 use Rattle.book_model.proofs.Leads.{leads_leaf}
-use Rattle.width_laws.proofs.Measuring.{remeasured, measured, measured_argument, drawn}
+use Rattle.width_laws.proofs.Measuring.{measured, measured_argument, sloped, drawn}
 use Rattle.width_laws.proofs.Closing.{inner_apart, close_ends}
 use Rattle.time_scales.specs.Widths.{HasYearEnds, IsCorrection, IsDated, IsNearlyDated, AreCenturies}
 use Rattle.time_scales.proofs.Moments.{corrected_in_table}
@@ -53,14 +53,6 @@ moment_in_table R shown p t r h = found_in_table shown p t r (h (moment_world (s
 abbrev moment_bounds : ℕ → Bound
 moment_bounds k = if k == 0 then bounded (neg_ℤ (pos (182621 * 2 ^ 32))) (pos (748748 * 2 ^ 32)) (2 ^ 40) 0 else bounded (neg_ℤ (pos (2 ^ 30))) (pos (2 ^ 30)) 0 (2 ^ 17)
 
-first_kept : {E : Type 0} (shown : E → Interval) (l : Limits) (v : ℕ) (t : E) → IsDated v (shown t) → Narrow shown l (record { width = v; bounds = moment_bounds }) (argument 0) t
-unfolding Keeps bound_of
-first_kept shown l v t h = record { kept = remeasured _ _ 0 0 v v (2 ^ 40) 0 (shown t) (omega arith) h.kept }
-
-second_kept : {E : Type 0} (shown : E → Interval) (l : Limits) (v : ℕ) (c : E) → IsCorrection (shown c) → Narrow shown l (record { width = v; bounds = moment_bounds }) (argument 1) c
-unfolding Keeps bound_of
-second_kept shown l v c h = record { kept = remeasured _ _ 0 0 (2 ^ 17) v 0 (2 ^ 17) (shown c) (omega arith) h.kept }
-
 sum_reach : implies (bound_of (limits_at 56) moment_bounds (add (argument 0) (argument 1))) (bounded (neg_ℤ (pos (182622 * 2 ^ 32))) (pos (748749 * 2 ^ 32)) (2 ^ 40) (2 ^ 17)) ≡ true
 unfolding implies bound_of sum_bound
 sum_reach = refl
@@ -70,17 +62,23 @@ unfolding implies bound_of difference_bound
 difference_reach = refl
 
 module _ {E : Type 0} (shown : E → Interval) (n v : ℕ) (t c d : E) (p : n ≡ 56) (i : IsInTable (shown t)) (h : IsMoment v (shown t)) (k : IsCorrection (shown c)) where
+  moment_kept : Narrow shown (limits_of n) (record { width = v; bounds = moment_bounds }) (argument 0) t
+  moment_kept = sloped shown (limits_of n) v v moment_bounds 0 (neg_ℤ (pos (182621 * 2 ^ 32))) (pos (748748 * 2 ^ 32)) (2 ^ 40) 0 t refl (omega arith) (drawn _ _ _ _ v (shown t) i h)
+
+  correction_kept : Narrow shown (limits_of n) (record { width = v; bounds = moment_bounds }) (argument 1) c
+  correction_kept = sloped shown (limits_of n) v (2 ^ 17) moment_bounds 1 (neg_ℤ (pos (2 ^ 30))) (pos (2 ^ 30)) 0 (2 ^ 17) c refl (omega arith) k
+
   -- a moment of the table and its correction
   pub sum_within : ((r : Reach) (x y : Expression) → Narrow shown (limits_of n) r x t → Narrow shown (limits_of n) r y c → Narrow shown (limits_of n) r (add x y) d) → IsNearlyDated (v + 2 ^ 17) (shown d)
   sum_within f =
       measured shown n v moment_bounds (add (argument 0) (argument 1)) _ _ (2 ^ 40) (2 ^ 17) (v + 2 ^ 17) d p sum_reach (omega arith)
-      (f (record { width = v; bounds = moment_bounds }) (argument 0) (argument 1) (first_kept shown (limits_of n) v t (drawn _ _ _ _ v (shown t) i h)) (second_kept shown (limits_of n) v c k))
+      (f (record { width = v; bounds = moment_bounds }) (argument 0) (argument 1) moment_kept correction_kept)
 
   -- a moment of the table less its correction
   pub difference_within : ((r : Reach) (x y : Expression) → Narrow shown (limits_of n) r x t → Narrow shown (limits_of n) r y c → Narrow shown (limits_of n) r (subtract x y) d) → IsNearlyDated (v + 2 ^ 17) (shown d)
   difference_within f =
       measured shown n v moment_bounds (subtract (argument 0) (argument 1)) _ _ (2 ^ 40) (2 ^ 17) (v + 2 ^ 17) d p difference_reach (omega arith)
-      (f (record { width = v; bounds = moment_bounds }) (argument 0) (argument 1) (first_kept shown (limits_of n) v t (drawn _ _ _ _ v (shown t) i h)) (second_kept shown (limits_of n) v c k))
+      (f (record { width = v; bounds = moment_bounds }) (argument 0) (argument 1) moment_kept correction_kept)
 
 -- ---- centuries of a moment of the table
 abbrev days_bounds : ℕ → Bound

@@ -71,3 +71,9 @@ looser a b c d v u (between x y) h k l n = record {
 -- a moment is a number that a floor can have
 pub moment_about : (v : ℕ) (i : Interval) → IsMoment v i → IsAbout (2 ^ 90) v i
 moment_about v i h = looser _ _ _ _ v v i (omega (arith, ints)) (omega (arith, ints)) (omega arith) h
+
+-- an argument whose width is linear in that from which widths count
+pub sloped : {E : Type 0} (shown : E → Interval) (l : Limits) (v u : ℕ) (bounds : ℕ → Bound) (k : ℕ) (a b : ℤ) (s m : ℕ) (x : E) → bounds k ≡ bounded a b s m → u * 2 ^ 40 ≤ s * v + m * 2 ^ 40 → IsWithin a b u (shown x)
+    → Narrow shown l (record { width = v; bounds = bounds }) (argument k) x
+unfolding Keeps bound_of
+sloped shown l v u bounds k a b s m x e h i = record { kept = rw e (remeasured a b 0 0 u v s m (shown x) (omega (arith, h)) i.kept) }

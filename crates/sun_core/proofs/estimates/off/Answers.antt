@@ -3,16 +3,29 @@ use Rattle.book_model.specs.numbers.Expressions.{integer, add, subtract}
 use Rattle.book_model.specs.programs.Programs.{answer, bind}
 use Rattle.book_model.specs.sky.Sun.{reduced_of, off_of}
 use Rattle.book_model.proofs.Leads.{leads_on, leaf_within, leads_answer}
+use Rattle.std.proofs.Common.{arith, ◌+◌, ◌*◌, ◌^◌}
+use Rattle.sun_core.proofs.Measured.{off_within, half_off}
 use Rattle.sun_core.proofs.estimates.off.Goals as goal
 
-pub returns-in-Ok : goal.returns-in-Ok
+pub returns-in-Ok-clause-leads : goal.returns-in-Ok-clause-leads
 unfolding off_of
-returns-in-Ok g c = record {
-  leads = λ w l x h k.
-      let half = c.from_int-half_turn.ensures.holds w h.deep in
-      let s = c.in_ok-there.ensures.leads w x k in
-      let p = c.in-Ok.ensures.leads w _ (c.add.ensures.holds w _ _ (c.sub.ensures.holds w _ _ (leaf_within s) h) half) in
-      leads_on (λ s. bind (reduced_of (add (subtract s l) (integer (pos 180)))) λ p. answer (subtract p (integer (pos 180)))) s
-      (leads_on (λ p. answer (subtract p (integer (pos 180)))) p
-      (leads_answer (c.sub-in-Ok.ensures.holds w _ _ (leaf_within p) half)));
-}
+returns-in-Ok-clause-leads g c = λ w l x h k.
+    let half = c.from_int-half_turn.ensures.holds w h.deep in
+    let s = c.in_ok-there.ensures.leads w x k in
+    let p = c.in-Ok.ensures.leads w _ (c.add.ensures.holds w _ _ (c.sub.ensures.holds w _ _ (leaf_within s) h) half) in
+    leads_on (λ s. bind (reduced_of (add (subtract s l) (integer (pos 180)))) λ p. answer (subtract p (integer (pos 180)))) s
+    (leads_on (λ p. answer (subtract p (integer (pos 180)))) p
+    (leads_answer (c.sub-in-Ok.ensures.holds w _ _ (leaf_within p) half)))
+
+pub returns-in-Ok-clause-measured : goal.returns-in-Ok-clause-measured
+returns-in-Ok-clause-measured g c = λ v e b h k.
+    let shown = g.E.Enclosure.shown in
+    let z = off_within shown _ v c.in_ok-there.there c.args.longitude c.sub.result e (c.in_ok-there.ensures.measured v e b k) h (λ r p q. c.sub.ensures.narrow r p q) c.from_int-half_turn.result c.add.result (λ r. c.from_int-half_turn.ensures.narrow r) (λ r p q. c.add.ensures.narrow r p q) in
+    let p = c.in-Ok.ensures.measured (2 * v + 2 ^ 32) e (omega (arith, b)) z in
+    half_off shown _ (2 * v + 2 ^ 32) c.in-Ok.angle c.from_int-half_turn.result c.sub-in-Ok.result e p (λ r. c.from_int-half_turn.ensures.narrow r) (λ r p q. c.sub-in-Ok.ensures.narrow r p q)
+
+pub returns-in-Err-clause-measured : goal.returns-in-Err-clause-measured
+returns-in-Err-clause-measured g c = λ v e b h k.
+    let shown = g.E.Enclosure.shown in
+    let z = off_within shown _ v c.in_ok-there.there c.args.longitude c.sub.result e (c.in_ok-there.ensures.measured v e b k) h (λ r p q. c.sub.ensures.narrow r p q) c.from_int-half_turn.result c.add.result (λ r. c.from_int-half_turn.ensures.narrow r) (λ r p q. c.add.ensures.narrow r p q) in
+    c.in-Err.ensures.measured (2 * v + 2 ^ 32) e (omega (arith, b)) z

@@ -1,4 +1,4 @@
-use Rattle.book_model.specs.numbers.Expressions.{remainder, subtract, constant}
+use Rattle.book_model.specs.numbers.Expressions.{argument, remainder, subtract, constant}
 use Rattle.book_model.specs.numbers.Fractions.{fraction_of}
 use Rattle.book_model.specs.declared.site.Site.TheVariants.{SunWrap}
 use Rattle.book_model.specs.declared.time_tables.TheConstants.{NOON_2000}
@@ -7,6 +7,10 @@ use Rattle.book_model.specs.sky.Sun.{sun_of, longitude_of}
 use Rattle.book_model.specs.sky.Time.{in_centuries as centuries_from}
 use Rattle.sun_core.specs.Daily.{in_centuries}
 use Rattle.sun_core.proofs.Elapsed.{by_dynamical}
+use Rattle.std.proofs.Common.{arith, ◌+◌, ◌*◌, ◌^◌}
+use Rattle.book_model.specs.numbers.Bounds.{Reach}
+use Rattle.width_laws.proofs.Measuring.{measured_argument}
+use Rattle.sun_core.proofs.Measured.{tabled, days_of, longitude_within}
 use Rattle.sun_core.proofs.longitude.sun.Goals as goal
 
 pub returns-in-Ok-clause-leads : goal.returns-in-Ok-clause-leads
@@ -17,3 +21,13 @@ returns-in-Ok-clause-leads g c = λ w x h.
     let days = c.sub-days.ensures.holds w d (constant (fraction_of NOON_2000)) r (c.from_frac.ensures.holds w r.deep) in
     c.wrap_step.ensures.leads w (longitude_of (in_centuries (subtract d (constant (fraction_of NOON_2000)))))
     (c.longitude.ensures.holds w (subtract d (constant (fraction_of NOON_2000))) days (c.mul_frac-c.ensures.holds w _ days)))
+
+pub returns-in-Ok-clause-measured : goal.returns-in-Ok-clause-measured
+unfolding in_centuries
+returns-in-Ok-clause-measured g c = λ v e b h.
+    let shown = g.E.Enclosure.shown in
+    let r : Reach = record { width = v + 2 ^ 17; bounds = tabled } in
+    let m = c.in-Ok.ensures.measured v e (omega (arith, b)) h in
+    let days = c.sub-days.ensures.narrow r (argument 0) (constant (fraction_of NOON_2000)) (measured_argument shown _ _ _ (v + 2 ^ 17) 0 c.in-Ok.moment m) (c.from_frac.ensures.narrow r) in
+    let y = c.longitude.ensures.narrow r days_of days (c.mul_frac-c.ensures.narrow r days_of days) in
+    c.wrap_step.ensures.measured (2 * v + 2 ^ 32) e (omega (arith, b)) (longitude_within shown _ v c.longitude.result e b y)
