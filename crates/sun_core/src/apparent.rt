@@ -26,12 +26,9 @@ fn ahead<E: Enclosure>(longitude: Frac) -> E
 pub fn from_apparent<E: Enclosure>(longitude: Frac, t: E, trail: &mut Trail) -> Result<E, Fail>
     ensures leads { Follows1 E.shown (from_apparent_of (fraction_of longitude)) t trail.old.count
         trail.new.count result }
-    ensures counted { trail.new.count ≡ next_turn trail.old.count }
 {
-    match equation_of_time(t.sub(ahead::<E>(longitude)), trail) {
-        Ok(equation) => Ok(t.sub(equation)),
-        Err(fail) => Err(fail),
-    }
+    let equation = equation_of_time(t.sub(ahead::<E>(longitude)), trail)?;
+    Ok(t.sub(equation))
 }
 
 /// The middle of a day.
@@ -50,10 +47,7 @@ pub fn noon<E: Enclosure>(d: i64, trail: &mut Trail) -> Result<E, Fail>
     requires from { negsuc 39999999 ≤ℤ d }
     requires to { d ≤ℤ pos 40000000 }
     ensures leads { Follows E.shown (noon_of d) trail.old.count trail.new.count result }
-    ensures counted { trail.new.count ≡ next_turn trail.old.count }
 {
-    match from_apparent(PERSIAN_NOON_LONGITUDE, apparent_noon::<E>(d), trail) {
-        Ok(local) => Ok(local.sub(ahead::<E>(PERSIAN_NOON_LONGITUDE))),
-        Err(fail) => Err(fail),
-    }
+    let local = from_apparent(PERSIAN_NOON_LONGITUDE, apparent_noon::<E>(d), trail)?;
+    Ok(local.sub(ahead::<E>(PERSIAN_NOON_LONGITUDE)))
 }

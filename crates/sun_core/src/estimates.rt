@@ -15,33 +15,28 @@ const HALF_TURN: i64 = 180;
 #[tactic(auto, using(book_model::proofs::Leads::leading), unfolding(book_model::specs::sky::Sun::reduced_of))]
 pub(crate) fn reduced<E: Enclosure>(angle: E, trail: &mut Trail) -> Result<E, Fail>
     ensures leads { Follows1 E.shown reduced_of angle trail.old.count trail.new.count result }
-    ensures counted { trail.new.count ≡ next_turn trail.old.count }
 {
     wrap_step(angle, 360, Site::StepWrap, trail)
 }
 
 /// How far the sun is past a longitude, from 0 up to 360 degrees.
-#[tactic(auto, using(book_model::proofs::Leads::leading), unfolding(book_model::specs::sky::Sun::past_of, book_model::specs::programs::Leading::next_turn))]
+#[tactic(auto, using(book_model::proofs::Leads::leading), unfolding(book_model::specs::sky::Sun::past_of))]
 fn past<E: Enclosure>(longitude: E, t: E, trail: &mut Trail) -> Result<E, Fail>
     ensures leads { Follows2 E.shown past_of longitude t trail.old.count trail.new.count result }
 {
-    match sun(t, trail) {
-        Ok(there) => reduced(there.sub(longitude), trail),
-        Err(fail) => Err(fail),
-    }
+    let there = sun(t, trail)?;
+    reduced(there.sub(longitude), trail)
 }
 
 /// How far the sun is past a longitude, from -180 up to 180 degrees.
-#[tactic(auto, using(book_model::proofs::Leads::leading), unfolding(book_model::specs::sky::Sun::off_of, book_model::specs::programs::Leading::next_turn))]
+#[tactic(auto, using(book_model::proofs::Leads::leading), unfolding(book_model::specs::sky::Sun::off_of))]
 fn off<E: Enclosure>(longitude: E, t: E, trail: &mut Trail) -> Result<E, Fail>
     ensures leads { Follows2 E.shown off_of longitude t trail.old.count trail.new.count result }
 {
     let there = sun(t, trail)?;
     let half_turn = E::from_int(HALF_TURN);
-    match reduced(there.sub(longitude).add(half_turn), trail) {
-        Ok(angle) => Ok(angle.sub(half_turn)),
-        Err(fail) => Err(fail),
-    }
+    let angle = reduced(there.sub(longitude).add(half_turn), trail)?;
+    Ok(angle.sub(half_turn))
 }
 
 /// A moment less the time in which the mean sun moves on by an angle.
@@ -63,8 +58,6 @@ pub fn estimate<E: Enclosure>(l: E, t: E, trail: &mut Trail) -> Result<E, Fail>
     ensures leads { Follows2 E.shown estimate_of l t trail.old.count trail.new.count result }
 {
     let near = back(past(l, t, trail)?, t);
-    match off(l, near, trail) {
-        Ok(rest) => Ok(t.min(back(rest, near))),
-        Err(fail) => Err(fail),
-    }
+    let rest = off(l, near, trail)?;
+    Ok(t.min(back(rest, near)))
 }

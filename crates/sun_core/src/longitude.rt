@@ -82,17 +82,13 @@ fn longitude<E: Enclosure>(days: E, c: E) -> E
 /// The apparent longitude of the sun at a moment of universal time, in degrees from 0 up to 360 (Reingold and
 /// Dershowitz, Calendrical Calculations, chapter 14). Two tests, the year's and the one at `sun-wrap`. It is void at
 /// `year` in a year without a correction.
-#[tactic(auto, using(book_model::proofs::Leads::leading, crate::proofs::Openings::opening), unfolding(book_model::specs::sky::Sun::sun_of, book_model::specs::sky::Time::centuries_of, book_model::specs::sky::Time::in_centuries, crate::specs::Daily::in_centuries, book_model::specs::programs::Leading::next_turn))]
+#[tactic(auto, using(book_model::proofs::Leads::leading, crate::proofs::Openings::opening), unfolding(book_model::specs::sky::Sun::sun_of, book_model::specs::sky::Time::centuries_of, book_model::specs::sky::Time::in_centuries, crate::specs::Daily::in_centuries))]
 pub fn sun<E: Enclosure>(t: E, trail: &mut Trail) -> Result<E, Fail>
     ensures leads { Follows1 E.shown sun_of t trail.old.count trail.new.count result }
     ensures open { IfErr result (IsYearOpenFor (E.shown t)) }
 {
-    match dynamical(t, trail) {
-        Ok(moment) => {
-            let days = moment.sub(E::from_frac(NOON_2000));
-            let c = days.mul_frac(DAY_IN_CENTURIES);
-            wrap_step(longitude(days, c), 360, Site::SunWrap, trail)
-        }
-        Err(fail) => Err(fail),
-    }
+    let moment = dynamical(t, trail)?;
+    let days = moment.sub(E::from_frac(NOON_2000));
+    let c = days.mul_frac(DAY_IN_CENTURIES);
+    wrap_step(longitude(days, c), 360, Site::SunWrap, trail)
 }

@@ -20,7 +20,6 @@ pub fn sidereal<E: Enclosure>(t: E, trail: &mut Trail) -> Result<E, Fail>
     ensures narrow { IfOk result (λ y. (r : Reach) (x : Expression)
         → Narrow E.shown (limits_of E.BITS) r x t → Narrow E.shown (limits_of E.BITS) r
         (cubic_of SIDEREAL_TIME (in_centuries x)) y) }
-    ensures counted { trail.new.count ≡ trail.old.count }
 {
     Ok(cubic(&SIDEREAL_TIME, to_centuries(t)))
 }

@@ -4,8 +4,10 @@ use Rattle.book_model.specs.programs.Programs.{answer}
 use Rattle.book_model.proofs.Leads.{leads_on, leaf_within, leads_answer}
 use Rattle.sun_core.proofs.apparent.from_apparent.Goals as goal
 
-pub returns-in-Ok-clause-leads : goal.returns-in-Ok-clause-leads
+pub returns : goal.returns
 unfolding from_apparent_of
-returns-in-Ok-clause-leads g c = λ w x h.
-    let e = c.in-Ok.ensures.leads w _ (c.sub.ensures.holds w _ _ h (c.ahead.ensures.holds w h.deep)) in
-    leads_on (λ e. answer (subtract x e)) e (leads_answer (c.sub-in-Ok.ensures.holds w _ _ h (leaf_within e)))
+returns g c = record {
+  leads = λ w x h.
+      let e = c.in_ok-equation.ensures.leads w _ (c.sub.ensures.holds w _ _ h (c.ahead.ensures.holds w h.deep)) in
+      leads_on (λ e. answer (subtract x e)) e (leads_answer (c.sub-2.ensures.holds w _ _ h (leaf_within e)));
+}
