@@ -1,6 +1,5 @@
 //! Bisection: the half is kept in which an angle is passed, until the ends are near.
 ghost use Rattle.book_model.specs.programs.Calls.{Decides2, Follows2, Follows3, Holds2, Narrows2};
-ghost use Rattle.std.specs.Prelude.{◌≤◌, ◌+◌, ◌*◌};
 ghost use Rattle.book_model.specs.programs.Bisection as spec;
 
 use crate::Angular;

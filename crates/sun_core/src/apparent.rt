@@ -1,8 +1,7 @@
 //! Apparent time, which sundials show, and true noon at Tehran.
 ghost use Rattle.book_model.specs.programs.Calls.{Follows, Follows1, Holds, Narrows};
-ghost use Rattle.std.specs.Prelude.{◌≡◌, pos, negsuc, ◌≤ℤ◌};
+ghost use Rattle.std.specs.Prelude.{pos, negsuc, ◌≤ℤ◌};
 ghost use Rattle.book_model.specs.numbers.Fractions.{fraction_of};
-ghost use Rattle.book_model.specs.programs.Leading.{next_turn};
 ghost use Rattle.book_model.specs.sky.Noon.{ahead_of, from_apparent_of, noon_of};
 ghost use Rattle.sun_core.specs.Steps.{apparent_noon_of};
 

@@ -1,7 +1,6 @@
 //! The equation of time.
 ghost use Rattle.book_model.specs.programs.Calls.{Follows1, Holds1, Holds2, Holds4, Narrows1, Narrows2, Narrows4};
-ghost use Rattle.std.specs.Prelude.{◌≡◌, IfErr};
-ghost use Rattle.book_model.specs.programs.Leading.{next_turn};
+ghost use Rattle.std.specs.Prelude.{IfErr};
 ghost use Rattle.book_model.specs.sky.Noon.{tilt_of, reduction_of, centre_of, joint_of, second_reduction_of, second_centre_of, radians_of, part_of_day, equation_of, equation_of_time_of};
 ghost use Rattle.time_scales.specs.Steps.{IsYearOpenFor};
 ghost use Rattle.sun_core.specs.Steps.{first_radians_of};

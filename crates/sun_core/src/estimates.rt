@@ -1,7 +1,5 @@
 //! About when the sun was last at a longitude.
 ghost use Rattle.book_model.specs.programs.Calls.{Follows1, Follows2, Holds2, Narrows2};
-ghost use Rattle.std.specs.Prelude.{◌≡◌, ◌≤◌, ◌+◌};
-ghost use Rattle.book_model.specs.programs.Leading.{next_turn};
 ghost use Rattle.book_model.specs.sky.Sun.{reduced_of, past_of, off_of, back_by, estimate_of};
 
 use crate::longitude::sun;

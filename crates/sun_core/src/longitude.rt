@@ -1,12 +1,10 @@
 //! The apparent longitude of the sun.
 ghost use Rattle.book_model.specs.programs.Calls.{Follows1, Holds1, Narrows1};
-ghost use Rattle.std.specs.Prelude.{◌≡◌, ◌≤◌, ◌+◌, ℕ, IfErr};
+ghost use Rattle.std.specs.Prelude.{◌≡◌, ℕ, IfErr};
 ghost use Rattle.book_model.specs.numbers.Bounds.{Reach, IsNarrow, limits_of};
 ghost use Rattle.book_model.specs.numbers.Expressions.{Expression, World, argument};
-ghost use Rattle.book_model.specs.numbers.Fractions.{fraction_of};
-ghost use Rattle.book_model.specs.numbers.Polynomials.{waves_of};
 ghost use Rattle.book_model.specs.numbers.Relations.{Within, Narrow};
-ghost use Rattle.book_model.specs.sky.Sun.{nutation_of, aberration_of, sun_unit, longitude_of, sun_of};
+ghost use Rattle.book_model.specs.sky.Sun.{nutation_of, aberration_of, longitude_of, sun_of};
 ghost use Rattle.time_scales.specs.Steps.{IsYearOpenFor};
 ghost use Rattle.sun_core.specs.Daily.{in_centuries};
 ghost use Rattle.sun_core.specs.Widths.{days_of_years, longitude_bound};

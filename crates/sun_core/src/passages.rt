@@ -1,6 +1,5 @@
 //! When the sun is next at a longitude.
 ghost use Rattle.book_model.specs.programs.Calls.{Follows2, Follows3, Holds2, Narrows2};
-ghost use Rattle.std.specs.Prelude.{◌≤◌, ◌+◌};
 ghost use Rattle.book_model.specs.sky.Sun as spec;
 
 use crate::estimates::reduced;

@@ -1,6 +1,6 @@
 //! Precession, and the longitude of the sun among the stars.
 ghost use Rattle.book_model.specs.programs.Calls.{Follows1, Holds1, Holds2, Holds3, Narrows1, Narrows2, Narrows3};
-ghost use Rattle.std.specs.Prelude.{◌≤◌, ◌+◌, IfErr};
+ghost use Rattle.std.specs.Prelude.{IfErr};
 ghost use Rattle.exact_math.specs.Interval.{Interval};
 ghost use Rattle.book_model.specs.sky.Sidereal as spec;
 ghost use Rattle.time_scales.specs.Steps.{IsYearOpenFor};

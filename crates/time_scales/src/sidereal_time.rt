@@ -1,6 +1,6 @@
 //! Sidereal time.
 ghost use Rattle.book_model.specs.programs.Calls.{Follows1};
-ghost use Rattle.std.specs.Prelude.{◌≡◌, IfOk};
+ghost use Rattle.std.specs.Prelude.{IfOk};
 ghost use Rattle.book_model.specs.numbers.Bounds.{Reach, limits_of};
 ghost use Rattle.book_model.specs.numbers.Expressions.{Expression};
 ghost use Rattle.book_model.specs.numbers.Polynomials.{cubic_of};

@@ -1,7 +1,6 @@
 //! The zone of Beijing.
 ghost use Rattle.book_model.specs.programs.Calls.{Follows1, Holds, Narrows};
 ghost use Rattle.std.specs.Prelude.{◌≡◌, pos, int_lt};
-ghost use Rattle.book_model.specs.programs.Leading.{next_turn};
 ghost use Rattle.book_model.specs.sky.Time.{beijing_hours, zone_of_beijing, midnight_of, in_beijing_of};
 
 use book_model::{BEIJING_HOURS, Fail, HOUR, Site};
