@@ -1,6 +1,5 @@
 //! Bisection: the half is kept in which an angle is passed, until the ends are near.
 ghost use Rattle.book_model.specs.programs.Calls.{Decides2, Follows2, Follows3, Holds2, Narrows2};
-ghost use Rattle.std.specs.Prelude.{◌≤◌, ◌+◌, ◌*◌};
 ghost use Rattle.book_model.specs.programs.Bisection as spec;
 
 use crate::Angular;
@@ -23,7 +22,7 @@ fn middle<E: Enclosure>(low: E, high: E) -> E
 }
 
 /// Whether two numbers are less than a hundred-thousandth apart: one test, at `bisect-end`.
-#[tactic(auto, using(book_model::proofs::Leads::leading), unfolding(book_model::specs::programs::Bisection::are_near_of, book_model::specs::programs::Leading::next_turn))]
+#[tactic(auto, using(book_model::proofs::Leads::leading), unfolding(book_model::specs::programs::Bisection::are_near_of))]
 fn are_near<E: Enclosure>(low: E, high: E, trail: &mut Trail) -> Result<bool, Fail>
     ensures leads { Decides2 E.shown spec.are_near_of low high trail.old.count trail.new.count
         result }
@@ -37,7 +36,7 @@ fn are_near<E: Enclosure>(low: E, high: E, trail: &mut Trail) -> Result<bool, Fa
 }
 
 /// How far an angle is past another, from 0 up to 360 degrees: one test, at `bisect`.
-#[tactic(auto, using(book_model::proofs::Leads::leading), unfolding(book_model::specs::programs::Bisection::angle_past_of, book_model::specs::programs::Leading::next_turn))]
+#[tactic(auto, using(book_model::proofs::Leads::leading), unfolding(book_model::specs::programs::Bisection::angle_past_of))]
 fn angle_past<E: Enclosure>(angle: E, target: E, trail: &mut Trail) -> Result<E, Fail>
     ensures leads { Follows2 E.shown spec.angle_past_of angle target trail.old.count trail.new.count
         result }
@@ -46,7 +45,7 @@ fn angle_past<E: Enclosure>(angle: E, target: E, trail: &mut Trail) -> Result<E,
 }
 
 /// Whether an angle has passed another, which it has where it is less than half a turn past it: two tests, at `bisect`.
-#[tactic(auto, using(book_model::proofs::Leads::leading), unfolding(book_model::specs::programs::Bisection::has_passed_of, book_model::specs::programs::Leading::next_turn))]
+#[tactic(auto, using(book_model::proofs::Leads::leading), unfolding(book_model::specs::programs::Bisection::has_passed_of))]
 fn has_passed<E: Enclosure>(angle: E, target: E, trail: &mut Trail) -> Result<bool, Fail>
     ensures leads { Decides2 E.shown spec.has_passed_of angle target trail.old.count trail.new.count
         result }
@@ -72,7 +71,7 @@ fn has_passed_at<E: Enclosure, F: Angular<E>>(
 
 /// Bisection by so many turns at most. It is void at `bisect-end` where the ends aren't near then, and fails where the function
 /// does.
-#[tactic(auto, using(book_model::proofs::Leads::leading, crate::proofs::Turns::turning), unfolding(book_model::specs::programs::Leading::next_turn))]
+#[tactic(auto, using(book_model::proofs::Leads::leading, crate::proofs::Turns::turning))]
 fn bisected<E: Enclosure, F: Angular<E>>(
     more: u32,
     f: &F,
@@ -91,10 +90,10 @@ fn bisected<E: Enclosure, F: Angular<E>>(
         return Err(Fail::Void(Site::BisectEnd));
     }
     let center = middle(low, high);
-    match has_passed_at(f, target, center, trail) {
-        Ok(true) => bisected(more - 1, f, target, low, center, trail),
-        Ok(false) => bisected(more - 1, f, target, center, high, trail),
-        Err(fail) => Err(fail),
+    if has_passed_at(f, target, center, trail)? {
+        bisected(more - 1, f, target, low, center, trail)
+    } else {
+        bisected(more - 1, f, target, center, high, trail)
     }
 }
 

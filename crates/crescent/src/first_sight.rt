@@ -31,8 +31,6 @@ struct SeenAt {
 impl<E: Enclosure> DayTest<E> for SeenAt {
     ghost test_of = { λ s d. spec.visible_of s.location d };
 
-    ghost most = { 151 };
-
     ghost near = { false };
 
     fn holds(&self, day: i64, trail: &mut Trail) -> Result<bool, Fail> {

@@ -1,7 +1,7 @@
 //! Searches by day.
 ghost use Rattle.book_model.specs.programs.Calls.{Decides};
 ghost use Rattle.book_model.specs.programs.Widths.{IsClose};
-ghost use Rattle.std.specs.Prelude.{◌≡◌, ◌≤◌, ◌+◌, ◌*◌, ◌+ℤ◌, pos, negsuc, ◌≤ℤ◌, ℕ, ℤ, Bool, true, IfOk, IfErr};
+ghost use Rattle.std.specs.Prelude.{◌≡◌, ◌+ℤ◌, pos, negsuc, ◌≤ℤ◌, ℤ, Bool, true, IfOk, IfErr};
 ghost use Rattle.book_model.specs.programs.Programs.{Program};
 ghost use Rattle.book_model.specs.programs.Searches.{first_day_from};
 
@@ -16,9 +16,6 @@ pub trait DayTest<E: Enclosure> {
     /// The test of a day, as a formula.
     ghost test_of: { Self → ℤ → Program Bool };
 
-    /// How many tests the test of a day makes at most.
-    ghost most: { ℕ };
-
     /// Whether its failures are known to be close at the scale 2⁻⁵⁶.
     ghost near: { Bool };
 
@@ -27,8 +24,7 @@ pub trait DayTest<E: Enclosure> {
         requires low { negsuc 39999999 ≤ℤ day }
         requires high { day ≤ℤ pos 40000000 }
         ensures leads { Decides (test_of self.now day) trail.old.count trail.new.count result }
-        ensures close { near ≡ true → E.BITS ≡ 56 → IfErr result IsClose }
-        ensures counted { trail.new.count ≤ trail.old.count + most };
+        ensures close { near ≡ true → E.BITS ≡ 56 → IfErr result IsClose };
 }
 
 /// The first day (R.D.) of which a test is true, of the start and the 45 days after it. It fails where the test does,
@@ -45,14 +41,11 @@ pub fn first_day<E: Enclosure, T: DayTest<E>>(
     ensures close { T.near ≡ true → E.BITS ≡ 56 → IfErr result IsClose }
     ensures from { IfOk result (λ d. start ≤ℤ d) }
     ensures to { IfOk result (λ d. d ≤ℤ (start +ℤ pos 45)) }
-    ensures counted { trail.new.count ≤ trail.old.count + 46 * T.most }
 {
     for later in 0..DAYS_TRIED {
         let day = start + i64::from(later);
-        match test.holds(day, trail) {
-            Ok(true) => return Ok(day),
-            Ok(false) => {}
-            Err(fail) => return Err(fail),
+        if test.holds(day, trail)? {
+            return Ok(day);
         }
     }
     Err(Fail::Void(Site::Search))

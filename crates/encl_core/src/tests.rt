@@ -15,10 +15,8 @@ use rough::Rough;
 use std::test::Fail;
 
 /// Whether a day comes after another, as one test.
-#[tactic(auto, unfolding(book_model::specs::programs::Leading::next_turn))]
 fn is_after<E: Enclosure>(day: i64, earlier: i64, trail: &mut Trail) -> Result<bool, FormulaFail>
     ensures leads { (w : World) → DEPTH ≤ w.depth → Leads w Exact (compare AtDayTest (integer earlier) (integer day) answer) trail.old.count trail.new.count result }
-    ensures counted { trail.new.count ≤ trail.old.count + 1 }
 {
     less_step(E::from_int(earlier), E::from_int(day), Site::DayTest, trail)
 }
@@ -31,8 +29,6 @@ struct After {
 
 impl<E: Enclosure> DayTest<E> for After {
     ghost test_of = { λ s d. compare AtDayTest (integer s.day) (integer d) answer };
-
-    ghost most = { 1 };
 
     ghost near = { false };
 

@@ -41,8 +41,6 @@ fn has_winter<E: Enclosure>(day: i64, trail: &mut Trail) -> Result<bool, Fail>
 impl<E: Enclosure> DayTest<E> for WinterAtEnd {
     ghost test_of = { λ s d. has_winter_at_end d };
 
-    ghost most = { 3 };
-
     ghost near = { false };
 
     fn holds(&self, day: i64, trail: &mut Trail) -> Result<bool, Fail> {

@@ -77,8 +77,6 @@ fn has_spring<E: Enclosure, M: DayMoment<E>>(
 impl<E: Enclosure, M: DayMoment<E>> DayTest<E> for SpringAt<M> {
     ghost test_of = { λ s d. has_spring_at M.moment_of d };
 
-    ghost most = { M.most + 3 };
-
     ghost near = { false };
 
     fn holds(&self, day: i64, trail: &mut Trail) -> Result<bool, Fail> {

@@ -90,8 +90,6 @@ struct InSign {
 impl<E: Enclosure> DayTest<E> for InSign {
     ghost test_of = { λ s d. spec.has_sign_at s.sign d };
 
-    ghost most = { 137 };
-
     ghost near = { false };
 
     fn holds(&self, day: i64, trail: &mut Trail) -> Result<bool, Fail> {

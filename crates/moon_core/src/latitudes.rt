@@ -1,6 +1,6 @@
 //! The latitude of the moon.
 ghost use Rattle.book_model.specs.programs.Calls.{Follows1, Holds2, Narrows2};
-ghost use Rattle.std.specs.Prelude.{◌≤◌, ◌+◌};
+ghost use Rattle.std.specs.Prelude.{◌≤◌};
 ghost use Rattle.book_model.specs.numbers.Bounds.{Reach, limits_of};
 ghost use Rattle.book_model.specs.numbers.Depth.{DEPTH};
 ghost use Rattle.book_model.specs.numbers.Expressions.{Expression, World};
@@ -117,16 +117,12 @@ fn latitude_at<E: Enclosure>(days: E, c: E) -> E
 /// The latitude of the moon, from the ecliptic, at a moment of universal time, in degrees (Reingold and Dershowitz, Calendrical
 /// Calculations, chapter 14; Meeus, Astronomical Algorithms, chapter 47). One test, the year's. It is void at `year` in a year
 /// without a correction.
-#[tactic(auto, using(book_model::proofs::Leads::leading), unfolding(book_model::specs::sky::Latitude::latitude_of, book_model::specs::sky::Time::centuries_of, book_model::specs::sky::Time::in_centuries, sun_core::specs::Daily::in_centuries, book_model::specs::programs::Leading::next_turn))]
+#[tactic(auto, using(book_model::proofs::Leads::leading), unfolding(book_model::specs::sky::Latitude::latitude_of, book_model::specs::sky::Time::centuries_of, book_model::specs::sky::Time::in_centuries, sun_core::specs::Daily::in_centuries))]
 pub fn latitude<E: Enclosure>(t: E, trail: &mut Trail) -> Result<E, Fail>
     ensures leads { Follows1 E.shown spec.latitude_of t trail.old.count trail.new.count result }
 {
-    match dynamical(t, trail) {
-        Ok(moment) => {
-            let days = moment.sub(E::from_frac(NOON_2000));
-            let c = days.mul_frac(DAY_IN_CENTURIES);
-            Ok(latitude_at(days, c))
-        }
-        Err(fail) => Err(fail),
-    }
+    let moment = dynamical(t, trail)?;
+    let days = moment.sub(E::from_frac(NOON_2000));
+    let c = days.mul_frac(DAY_IN_CENTURIES);
+    Ok(latitude_at(days, c))
 }

@@ -1,6 +1,6 @@
 //! The apparent longitude of the moon.
 ghost use Rattle.book_model.specs.programs.Calls.{Follows1};
-ghost use Rattle.std.specs.Prelude.{◌≡◌, ◌≤◌, ◌+◌, ℕ, IfErr};
+ghost use Rattle.std.specs.Prelude.{◌≡◌, ℕ, IfErr};
 ghost use Rattle.book_model.specs.numbers.Bounds.{Reach, IsNarrow, limits_of};
 ghost use Rattle.book_model.specs.numbers.Expressions.{Expression, World, argument};
 ghost use Rattle.book_model.specs.sky.Moon as spec;
@@ -116,17 +116,13 @@ fn longitude<E: Enclosure>(days: E, c: E) -> E
 /// The apparent longitude of the moon at a moment of universal time, in degrees from 0 up to 360 (Reingold and
 /// Dershowitz, Calendrical Calculations, chapter 14; Meeus, Astronomical Algorithms, chapter 47). Two tests, the year's and
 /// the one at `moon-wrap`. It is void at `year` in a year without a correction.
-#[tactic(auto, using(book_model::proofs::Leads::leading, crate::proofs::Openings::opening), unfolding(book_model::specs::sky::Moon::moon_of, book_model::specs::sky::Time::centuries_of, book_model::specs::sky::Time::in_centuries, sun_core::specs::Daily::in_centuries, book_model::specs::programs::Leading::next_turn))]
+#[tactic(auto, using(book_model::proofs::Leads::leading, crate::proofs::Openings::opening), unfolding(book_model::specs::sky::Moon::moon_of, book_model::specs::sky::Time::centuries_of, book_model::specs::sky::Time::in_centuries, sun_core::specs::Daily::in_centuries))]
 pub fn moon<E: Enclosure>(t: E, trail: &mut Trail) -> Result<E, Fail>
     ensures leads { Follows1 E.shown spec.moon_of t trail.old.count trail.new.count result }
     ensures open { IfErr result (IsYearOpenFor (E.shown t)) }
 {
-    match dynamical(t, trail) {
-        Ok(moment) => {
-            let days = moment.sub(E::from_frac(NOON_2000));
-            let c = days.mul_frac(DAY_IN_CENTURIES);
-            wrap_step(longitude(days, c), 360, Site::MoonWrap, trail)
-        }
-        Err(fail) => Err(fail),
-    }
+    let moment = dynamical(t, trail)?;
+    let days = moment.sub(E::from_frac(NOON_2000));
+    let c = days.mul_frac(DAY_IN_CENTURIES);
+    wrap_step(longitude(days, c), 360, Site::MoonWrap, trail)
 }

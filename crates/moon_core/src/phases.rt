@@ -1,6 +1,6 @@
 //! The moon's phase, and the number of the new moon about a moment.
 ghost use Rattle.book_model.specs.programs.Calls.{Decides1, Follows1, Follows2, Holds1, Holds2, Narrows1};
-ghost use Rattle.std.specs.Prelude.{◌≡◌, ◌≤◌, ◌+◌, ℤ, pos, negsuc, ◌≤ℤ◌, IfOk, IfErr};
+ghost use Rattle.std.specs.Prelude.{◌≡◌, pos, negsuc, ◌≤ℤ◌, IfOk, IfErr};
 ghost use Rattle.exact_math.specs.Interval.{Interval};
 ghost use Rattle.book_model.specs.sky.Phases as spec;
 ghost use Rattle.book_model.specs.numbers.Ranges.{IsInTable};
@@ -13,7 +13,7 @@ use new_moons::new_moon;
 use sun_core::sun;
 
 /// An angle, reduced to 0 up to 360 degrees, as one test.
-#[tactic(auto, using(book_model::proofs::Leads::leading, crate::proofs::Openings::opening), unfolding(book_model::specs::sky::Phases::turned_of, book_model::specs::programs::Leading::next_turn))]
+#[tactic(auto, using(book_model::proofs::Leads::leading, crate::proofs::Openings::opening), unfolding(book_model::specs::sky::Phases::turned_of))]
 fn turned<E: Enclosure>(angle: E, trail: &mut Trail) -> Result<E, Fail>
     ensures leads { Follows1 E.shown spec.turned_of angle trail.old.count trail.new.count result }
     ensures elsewhere { (i : Interval) → IfErr result (IsYearOpenFor i) }
@@ -21,28 +21,21 @@ fn turned<E: Enclosure>(angle: E, trail: &mut Trail) -> Result<E, Fail>
     wrap_step(angle, 360, Site::PhaseWrap, trail)
 }
 
-/// The longitude of the moon less that of the sun, from 0 up to 360 degrees.
+/// The longitude of the moon less that of the sun, from 0 up to 360 degrees, at a moment of the years of which there is a
+/// correction: five tests at most.
 #[tactic(auto, using(book_model::proofs::Leads::leading), unfolding(book_model::specs::sky::Phases::elongation_of))]
-fn longitudes_apart<E: Enclosure>(t: E, trail: &mut Trail) -> Result<E, Fail>
+fn elongation<E: Enclosure>(t: E, trail: &mut Trail) -> Result<E, Fail>
     ensures leads { Follows1 E.shown spec.elongation_of t trail.old.count trail.new.count result }
     ensures open { IfErr result (IsYearOpenFor (E.shown t)) }
+    ensures in_table { IfOk result (λ p. IsInTable (E.shown t)) }
 {
     let there = moon(t, trail)?;
     let longitude = sun(t, trail)?;
     turned(there.sub(longitude), trail)
 }
 
-/// The same, at a moment of the years of which there is a correction: five tests at most.
-fn elongation<E: Enclosure>(t: E, trail: &mut Trail) -> Result<E, Fail>
-    ensures leads { Follows1 E.shown spec.elongation_of t trail.old.count trail.new.count result }
-    ensures open { IfErr result (IsYearOpenFor (E.shown t)) }
-    ensures in_table { IfOk result (λ p. IsInTable (E.shown t)) }
-{
-    longitudes_apart(t, trail)
-}
-
 /// The synodic months from the new moon of a number to a moment: one test at most.
-#[tactic(auto, using(book_model::proofs::Leads::leading), unfolding(book_model::specs::sky::Phases::months_since, book_model::specs::sky::Phases::months_between, book_model::specs::programs::Leading::next_turn))]
+#[tactic(auto, using(book_model::proofs::Leads::leading), unfolding(book_model::specs::sky::Phases::months_since, book_model::specs::sky::Phases::months_between))]
 fn months_since<E: Enclosure>(n: i64, t: E, trail: &mut Trail) -> Result<E, Fail>
     requires low { negsuc 39999999 ≤ℤ n }
     requires high { n ≤ℤ pos 40000000 }
@@ -53,7 +46,7 @@ fn months_since<E: Enclosure>(n: i64, t: E, trail: &mut Trail) -> Result<E, Fail
 }
 
 /// The whole number of months that is nearest, as one test.
-#[tactic(auto, using(book_model::proofs::Leads::leading), unfolding(book_model::specs::sky::Phases::nearest_moon_of, book_model::specs::programs::Leading::next_turn))]
+#[tactic(auto, using(book_model::proofs::Leads::leading), unfolding(book_model::specs::sky::Phases::nearest_moon_of))]
 fn nearest_moon<E: Enclosure>(months: E, trail: &mut Trail) -> Result<i64, Fail>
     ensures leads { Decides1 E.shown spec.nearest_moon_of months trail.old.count trail.new.count
         result }
@@ -61,27 +54,21 @@ fn nearest_moon<E: Enclosure>(months: E, trail: &mut Trail) -> Result<i64, Fail>
     floor_step(months.add(E::from_frac(HALF)), Site::MoonNumber, trail)
 }
 
-/// The number of the new moon about a moment, by mean months from the first.
+/// The number of the new moon about a moment of the years of which there is a correction, by mean months from the first: two
+/// tests at most.
 #[tactic(auto, using(book_model::proofs::Leads::leading), unfolding(book_model::specs::sky::Phases::rough_number_of))]
-fn number_by_months<E: Enclosure>(t: E, trail: &mut Trail) -> Result<i64, Fail>
-    ensures leads { Decides1 E.shown spec.rough_number_of t trail.old.count trail.new.count result }
-{
-    let months = months_since(0, t, trail)?;
-    nearest_moon(months, trail)
-}
-
-/// The same, of a moment of the years of which there is a correction: two tests at most.
 fn rough_number<E: Enclosure>(t: E, trail: &mut Trail) -> Result<i64, Fail>
     requires in_table { IsInTable (E.shown t) }
     ensures leads { Decides1 E.shown spec.rough_number_of t trail.old.count trail.new.count result }
     ensures low { IfOk result (λ n. negsuc 39999 ≤ℤ n) }
     ensures high { IfOk result (λ n. n ≤ℤ pos 40000) }
 {
-    number_by_months(t, trail)
+    let months = months_since(0, t, trail)?;
+    nearest_moon(months, trail)
 }
 
 /// What is left of so many months by whole months, as one test.
-#[tactic(auto, using(book_model::proofs::Leads::leading), unfolding(book_model::specs::sky::Phases::rest_of_month, book_model::specs::programs::Leading::next_turn))]
+#[tactic(auto, using(book_model::proofs::Leads::leading), unfolding(book_model::specs::sky::Phases::rest_of_month))]
 fn rest_of_month<E: Enclosure>(months: E, trail: &mut Trail) -> Result<E, Fail>
     ensures leads { Follows1 E.shown spec.rest_of_month months trail.old.count trail.new.count
         result }
@@ -119,16 +106,14 @@ fn chosen<E: Enclosure>(apart: bool, by_longitudes: E, by_time: E) -> E
 }
 
 /// The phase by longitudes, or the one by the time where they are more than 180 degrees apart: one test.
-#[tactic(auto, using(book_model::proofs::Leads::leading), unfolding(book_model::specs::sky::Phases::picked_of, book_model::specs::programs::Leading::next_turn))]
+#[tactic(auto, using(book_model::proofs::Leads::leading), unfolding(book_model::specs::sky::Phases::picked_of))]
 fn picked<E: Enclosure>(by_longitudes: E, by_time: E, trail: &mut Trail) -> Result<E, Fail>
     ensures leads { Follows2 E.shown spec.picked_of by_longitudes by_time trail.old.count
         trail.new.count result }
 {
     let apart = size(by_longitudes.sub(by_time));
-    match less_step(E::from_int(180), apart, Site::PhasePick, trail) {
-        Ok(is_apart) => Ok(chosen(is_apart, by_longitudes, by_time)),
-        Err(fail) => Err(fail),
-    }
+    let is_apart = less_step(E::from_int(180), apart, Site::PhasePick, trail)?;
+    Ok(chosen(is_apart, by_longitudes, by_time))
 }
 
 /// The phase by longitudes, or in its place the one by the time since the new moon about the moment: five tests at most.
@@ -153,27 +138,18 @@ pub fn phase<E: Enclosure>(t: E, trail: &mut Trail) -> Result<E, Fail>
     ensures leads { Follows1 E.shown spec.phase_of t trail.old.count trail.new.count result }
     ensures early { trail.old.count ≡ 0 → IfErr result (IsEarlyYearFor (E.shown t)) }
 {
-    match elongation(t, trail) {
-        Ok(by_longitudes) => corrected(by_longitudes, t, trail),
-        Err(fail) => Err(fail),
-    }
+    let by_longitudes = elongation(t, trail)?;
+    corrected(by_longitudes, t, trail)
 }
 
-/// The number of the last new moon before a moment, or of one next to it.
+/// The number of the last new moon before a moment, or of one next to it, which lies within 40,000 of 0: twelve tests at most.
 #[tactic(auto, using(book_model::proofs::Leads::leading), unfolding(book_model::specs::sky::Phases::number_of_moon))]
-fn number_by_phase<E: Enclosure>(t: E, trail: &mut Trail) -> Result<i64, Fail>
-    ensures leads { Decides1 E.shown spec.number_of_moon t trail.old.count trail.new.count result }
-{
-    let months = months_since(0, t, trail)?;
-    let degrees = phase(t, trail)?;
-    nearest_moon(months.sub(degrees.mul_frac(DEGREE_IN_MONTHS)), trail)
-}
-
-/// The same, which lies within 40,000 of 0: twelve tests at most.
 pub(crate) fn number<E: Enclosure>(t: E, trail: &mut Trail) -> Result<i64, Fail>
     ensures leads { Decides1 E.shown spec.number_of_moon t trail.old.count trail.new.count result }
     ensures low { IfOk result (λ n. negsuc 39999 ≤ℤ n) }
     ensures high { IfOk result (λ n. n ≤ℤ pos 40000) }
 {
-    number_by_phase(t, trail)
+    let months = months_since(0, t, trail)?;
+    let degrees = phase(t, trail)?;
+    nearest_moon(months.sub(degrees.mul_frac(DEGREE_IN_MONTHS)), trail)
 }

@@ -1,6 +1,6 @@
 //! When the moon was last at a phase.
 ghost use Rattle.book_model.specs.programs.Calls.{Decides, Follows1, Follows2, Follows3, Holds2, Narrows2};
-ghost use Rattle.std.specs.Prelude.{◌≡◌, ◌≤◌, ◌+◌, IfOk, IfErr};
+ghost use Rattle.std.specs.Prelude.{◌≡◌, ◌≤◌, IfOk, IfErr};
 ghost use Rattle.exact_math.specs.Interval.{Interval};
 ghost use Rattle.book_model.specs.sky.Facts.{IsValueDay};
 ghost use Rattle.book_model.specs.sky.Phases as spec;
@@ -29,7 +29,7 @@ impl<E: Enclosure> Angular<E> for MoonPhase {
 }
 
 /// An angle, reduced to 0 up to 360 degrees: one test, at `step-wrap`.
-#[tactic(auto, using(book_model::proofs::Leads::leading, crate::proofs::Openings::opening), unfolding(book_model::specs::sky::Sun::reduced_of, book_model::specs::programs::Leading::next_turn))]
+#[tactic(auto, using(book_model::proofs::Leads::leading, crate::proofs::Openings::opening), unfolding(book_model::specs::sky::Sun::reduced_of))]
 fn reduced<E: Enclosure>(angle: E, trail: &mut Trail) -> Result<E, Fail>
     ensures leads { Follows1 E.shown reduced_of angle trail.old.count trail.new.count result }
     ensures elsewhere { (i : Interval) → IfErr result (IsEarlyYearFor i) }
@@ -44,10 +44,8 @@ fn phase_past<E: Enclosure>(phase: E, t: E, trail: &mut Trail) -> Result<E, Fail
         result }
     ensures early { trail.old.count ≡ 0 → IfErr result (IsEarlyYearFor (E.shown t)) }
 {
-    match phases::phase(t, trail) {
-        Ok(there) => reduced(there.sub(phase), trail),
-        Err(fail) => Err(fail),
-    }
+    let there = phases::phase(t, trail)?;
+    reduced(there.sub(phase), trail)
 }
 
 /// A moment less the time in which the mean phase moves on by an angle.
@@ -83,32 +81,19 @@ pub fn phase_before<E: Enclosure>(p: E, t: E, trail: &mut Trail) -> Result<E, Fa
     ensures leads { Follows2 E.shown spec.phase_before_of p t trail.old.count trail.new.count result }
     ensures early { trail.old.count ≡ 0 → IfErr result (IsEarlyYearFor (E.shown t)) }
 {
-    match phase_past(p, t, trail) {
-        Ok(past) => phase_about(p, t, phase_back(past, t), trail),
-        Err(fail) => Err(fail),
-    }
-}
-
-/// The day (R.D.) in universal time on which the moon was last at a phase, in degrees, before a day begins or as it begins.
-#[tactic(auto, using(book_model::proofs::Leads::leading), unfolding(book_model::specs::sky::Phases::phase_day_of, book_model::specs::programs::Leading::next_turn))]
-fn floor_of_phase<E: Enclosure>(phase: i64, day: i64, trail: &mut Trail) -> Result<i64, Fail>
-    ensures leads { Decides (spec.phase_day_of phase day) trail.old.count trail.new.count result }
-    ensures early { trail.old.count ≡ 0 → 36 ≤ E.BITS → E.BITS ≤ 56 → IsValueDay day
-        → IfErr result IsNoEarlyYear }
-{
-    match phase_before(E::from_int(phase), E::from_int(day), trail) {
-        Ok(moment) => floor_step(moment, Site::DayFloor, trail),
-        Err(fail) => Err(fail),
-    }
+    let past = phase_past(p, t, trail)?;
+    phase_about(p, t, phase_back(past, t), trail)
 }
 
 /// The day (R.D.) in universal time on which the moon was last at a phase, in degrees, before a day begins or as it begins: 845
 /// tests at most. It is void where `phase_before` is. Its first and third tests, of the year of the day itself, are never open.
+#[tactic(auto, using(book_model::proofs::Leads::leading), unfolding(book_model::specs::sky::Phases::phase_day_of))]
 pub fn phase_day<E: Enclosure>(phase: i64, day: i64, trail: &mut Trail) -> Result<i64, Fail>
     ensures leads { Decides (spec.phase_day_of phase day) trail.old.count trail.new.count result }
     ensures near { IfOk result IsPhaseDay }
     ensures early { trail.old.count ≡ 0 → 36 ≤ E.BITS → E.BITS ≤ 56 → IsValueDay day
         → IfErr result IsNoEarlyYear }
 {
-    floor_of_phase::<E>(phase, day, trail)
+    let moment = phase_before(E::from_int(phase), E::from_int(day), trail)?;
+    floor_step(moment, Site::DayFloor, trail)
 }

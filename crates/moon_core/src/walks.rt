@@ -1,6 +1,6 @@
 //! The new moons before and from a moment, by a walk over their numbers.
 ghost use Rattle.book_model.specs.programs.Calls.{Decides1, Follows, Follows1};
-ghost use Rattle.std.specs.Prelude.{◌≤◌, ◌+◌, ◌*◌, ℤ, pos, negsuc, ◌≤ℤ◌, ◌+ℤ◌, IfOk};
+ghost use Rattle.std.specs.Prelude.{◌+◌, pos, negsuc, ◌≤ℤ◌, ◌+ℤ◌, IfOk};
 ghost use Rattle.book_model.specs.sky.Phases as spec;
 
 use crate::phases::number;
@@ -12,7 +12,7 @@ use new_moons::new_moon;
 const NUMBERS_TRIED: u32 = 6;
 
 /// Whether the new moon of a number is before a moment: two tests at most.
-#[tactic(auto, using(book_model::proofs::Leads::leading), unfolding(book_model::specs::sky::Phases::is_moon_before_of, book_model::specs::programs::Leading::next_turn))]
+#[tactic(auto, using(book_model::proofs::Leads::leading), unfolding(book_model::specs::sky::Phases::is_moon_before_of))]
 fn is_moon_before<E: Enclosure>(n: i64, t: E, trail: &mut Trail) -> Result<bool, Fail>
     requires low { negsuc 39999999 ≤ℤ n }
     requires high { n ≤ℤ pos 40000000 }
@@ -24,7 +24,7 @@ fn is_moon_before<E: Enclosure>(n: i64, t: E, trail: &mut Trail) -> Result<bool,
 }
 
 /// The first of so many numbers from one on whose new moon isn't before a moment; void at `moon-walk` where there is none.
-#[tactic(auto, using(book_model::proofs::Leads::leading, crate::proofs::WalkSteps::walks), unfolding(book_model::specs::programs::Leading::next_turn))]
+#[tactic(auto, using(book_model::proofs::Leads::leading, crate::proofs::WalkSteps::walks))]
 fn walk<E: Enclosure>(more: u32, t: E, n: i64, trail: &mut Trail) -> Result<i64, Fail>
     requires low { negsuc 39999999 ≤ℤ n }
     requires high { (n +ℤ pos more) ≤ℤ pos 40000000 }
@@ -36,15 +36,15 @@ fn walk<E: Enclosure>(more: u32, t: E, n: i64, trail: &mut Trail) -> Result<i64,
     if more == 0 {
         return Err(Fail::Void(Site::MoonWalk));
     }
-    match is_moon_before(n, t, trail) {
-        Ok(true) => walk(more - 1, t, n + 1, trail),
-        Ok(false) => Ok(n),
-        Err(fail) => Err(fail),
+    if is_moon_before(n, t, trail)? {
+        walk(more - 1, t, n + 1, trail)
+    } else {
+        Ok(n)
     }
 }
 
 /// The moment of the new moon that comes before the one of a number: one test at most.
-#[tactic(auto, unfolding(book_model::specs::sky::Phases::moon_preceding_of, book_model::specs::programs::Leading::next_turn))]
+#[tactic(auto, unfolding(book_model::specs::sky::Phases::moon_preceding_of))]
 fn moon_preceding<E: Enclosure>(n: i64, trail: &mut Trail) -> Result<E, Fail>
     requires low { negsuc 39999998 ≤ℤ n }
     requires high { n ≤ℤ pos 40000000 }
@@ -58,7 +58,7 @@ fn moon_preceding<E: Enclosure>(n: i64, trail: &mut Trail) -> Result<E, Fail>
 /// chapter 14): from the number before that of the moment the walk goes to the first new moon that isn't before it, and
 /// takes the one before that anew. At most 25 tests. It is void at `moon-walk` where the walk would take more than
 /// five steps, and at `year` in a year without a correction.
-#[tactic(auto, using(book_model::proofs::Leads::leading), unfolding(book_model::specs::sky::Phases::moon_before_of, book_model::specs::programs::Leading::next_turn))]
+#[tactic(auto, using(book_model::proofs::Leads::leading), unfolding(book_model::specs::sky::Phases::moon_before_of))]
 pub fn moon_before<E: Enclosure>(t: E, trail: &mut Trail) -> Result<E, Fail>
     ensures leads { Follows1 E.shown spec.moon_before_of t trail.old.count trail.new.count result }
 {
@@ -71,7 +71,7 @@ pub fn moon_before<E: Enclosure>(t: E, trail: &mut Trail) -> Result<E, Fail>
 /// Calculations, chapter 14): from the number of the moment the walk goes to the first new moon that isn't before it, and
 /// takes that anew. At most 25 tests. It is void at `moon-walk` where the walk would take more than five steps, and
 /// at `year` in a year without a correction.
-#[tactic(auto, using(book_model::proofs::Leads::leading), unfolding(book_model::specs::sky::Phases::moon_from_of, book_model::specs::programs::Leading::next_turn))]
+#[tactic(auto, using(book_model::proofs::Leads::leading), unfolding(book_model::specs::sky::Phases::moon_from_of))]
 pub fn moon_from<E: Enclosure>(t: E, trail: &mut Trail) -> Result<E, Fail>
     ensures leads { Follows1 E.shown spec.moon_from_of t trail.old.count trail.new.count result }
 {

@@ -3,7 +3,6 @@ ghost use Rattle.book_model.specs.programs.Calls.{Follows, Follows1, Holds, Narr
 ghost use Rattle.book_model.specs.programs.Widths.{IsAbout, IsMoment, Measured, Measured1};
 ghost use Rattle.std.specs.Prelude.{◌≡◌, ◌+◌, ◌-◌, ◌*◌, ◌/◌, ◌^◌, pos, negsuc, ◌≤ℤ◌};
 ghost use Rattle.book_model.specs.numbers.Fractions.{fraction_of};
-ghost use Rattle.book_model.specs.programs.Leading.{next_turn};
 ghost use Rattle.book_model.specs.sky.Noon.{ahead_of, from_apparent_of, noon_of};
 ghost use Rattle.sun_core.specs.Steps.{apparent_noon_of};
 ghost use Rattle.sun_core.specs.Widths.{IsLocalMoment, IsNarrowPlace};
@@ -30,7 +29,6 @@ pub fn from_apparent<E: Enclosure>(longitude: Frac, t: E, trail: &mut Trail) -> 
         trail.new.count result }
     ensures measured { IsNarrowPlace longitude → Measured1 E.BITS E.shown (2 ^ 41) IsLocalMoment
         (λ v. IsAbout (2 ^ 58 - 2 ^ 33) (v + v / 100 + 3 * 2 ^ 29)) t result }
-    ensures counted { trail.new.count ≡ next_turn trail.old.count }
 {
     match equation_of_time(t.sub(ahead::<E>(longitude)), trail) {
         Ok(equation) => Ok(t.sub(equation)),
@@ -55,10 +53,7 @@ pub fn noon<E: Enclosure>(d: i64, trail: &mut Trail) -> Result<E, Fail>
     requires to { d ≤ℤ pos 40000000 }
     ensures leads { Follows E.shown (noon_of d) trail.old.count trail.new.count result }
     ensures measured { Measured E.BITS E.shown (IsMoment (2 ^ 31)) result }
-    ensures counted { trail.new.count ≡ next_turn trail.old.count }
 {
-    match from_apparent(PERSIAN_NOON_LONGITUDE, apparent_noon::<E>(d), trail) {
-        Ok(local) => Ok(local.sub(ahead::<E>(PERSIAN_NOON_LONGITUDE))),
-        Err(fail) => Err(fail),
-    }
+    let local = from_apparent(PERSIAN_NOON_LONGITUDE, apparent_noon::<E>(d), trail)?;
+    Ok(local.sub(ahead::<E>(PERSIAN_NOON_LONGITUDE)))
 }

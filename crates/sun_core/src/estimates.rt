@@ -18,27 +18,24 @@ const HALF_TURN: i64 = 180;
 pub(crate) fn reduced<E: Enclosure>(angle: E, trail: &mut Trail) -> Result<E, Fail>
     ensures leads { Follows1 E.shown reduced_of angle trail.old.count trail.new.count result }
     ensures measured { Measured1 E.BITS E.shown (2 ^ 44) (IsAbout (2 ^ 90)) (IsUpTo 360) angle result }
-    ensures counted { trail.new.count ≡ next_turn trail.old.count }
 {
     wrap_step(angle, 360, Site::StepWrap, trail)
 }
 
 /// How far the sun is past a longitude, from 0 up to 360 degrees.
-#[tactic(auto, using(book_model::proofs::Leads::leading), unfolding(book_model::specs::sky::Sun::past_of, book_model::specs::programs::Leading::next_turn))]
+#[tactic(auto, using(book_model::proofs::Leads::leading), unfolding(book_model::specs::sky::Sun::past_of))]
 fn past<E: Enclosure>(longitude: E, t: E, trail: &mut Trail) -> Result<E, Fail>
     ensures leads { Follows2 E.shown past_of longitude t trail.old.count trail.new.count result }
     ensures in_table { IfOk result (λ p. IsInTable (E.shown t)) }
     ensures measured { Measured2 E.BITS E.shown (2 ^ 42) (λ v. IsMoment 0) IsMoment
         (λ v. IsUpTo 360 (2 * v + 2 ^ 32)) longitude t result }
 {
-    match sun(t, trail) {
-        Ok(there) => reduced(there.sub(longitude), trail),
-        Err(fail) => Err(fail),
-    }
+    let there = sun(t, trail)?;
+    reduced(there.sub(longitude), trail)
 }
 
 /// How far the sun is past a longitude, from -180 up to 180 degrees.
-#[tactic(auto, using(book_model::proofs::Leads::leading), unfolding(book_model::specs::sky::Sun::off_of, book_model::specs::programs::Leading::next_turn))]
+#[tactic(auto, using(book_model::proofs::Leads::leading), unfolding(book_model::specs::sky::Sun::off_of))]
 fn off<E: Enclosure>(longitude: E, t: E, trail: &mut Trail) -> Result<E, Fail>
     ensures leads { Follows2 E.shown off_of longitude t trail.old.count trail.new.count result }
     ensures measured { Measured2 E.BITS E.shown (2 ^ 42) (λ v. IsMoment 0) IsMoment

@@ -5,10 +5,8 @@ ghost use Rattle.book_model.specs.numbers.Ranges.{IsInTable};
 ghost use Rattle.std.specs.Prelude.{◌≡◌, ◌≤◌, ◌+◌, ◌*◌, ◌^◌, ℕ, IfOk, IfErr};
 ghost use Rattle.book_model.specs.numbers.Bounds.{Reach, IsNarrow, limits_of};
 ghost use Rattle.book_model.specs.numbers.Expressions.{Expression, World, argument};
-ghost use Rattle.book_model.specs.numbers.Fractions.{fraction_of};
-ghost use Rattle.book_model.specs.numbers.Polynomials.{waves_of};
 ghost use Rattle.book_model.specs.numbers.Relations.{Within, Narrow};
-ghost use Rattle.book_model.specs.sky.Sun.{nutation_of, aberration_of, sun_unit, longitude_of, sun_of};
+ghost use Rattle.book_model.specs.sky.Sun.{nutation_of, aberration_of, longitude_of, sun_of};
 ghost use Rattle.time_scales.specs.Steps.{IsYearOpenFor};
 ghost use Rattle.sun_core.specs.Daily.{in_centuries};
 ghost use Rattle.sun_core.specs.Widths.{days_of_years, longitude_bound};
@@ -84,7 +82,7 @@ fn longitude<E: Enclosure>(days: E, c: E) -> E
 /// The apparent longitude of the sun at a moment of universal time, in degrees from 0 up to 360 (Reingold and
 /// Dershowitz, Calendrical Calculations, chapter 14). Two tests, the year's and the one at `sun-wrap`. It is void at
 /// `year` in a year without a correction.
-#[tactic(auto, using(book_model::proofs::Leads::leading, crate::proofs::Openings::opening), unfolding(book_model::specs::sky::Sun::sun_of, book_model::specs::sky::Time::centuries_of, book_model::specs::sky::Time::in_centuries, crate::specs::Daily::in_centuries, book_model::specs::programs::Leading::next_turn))]
+#[tactic(auto, using(book_model::proofs::Leads::leading, crate::proofs::Openings::opening), unfolding(book_model::specs::sky::Sun::sun_of, book_model::specs::sky::Time::centuries_of, book_model::specs::sky::Time::in_centuries, crate::specs::Daily::in_centuries))]
 pub fn sun<E: Enclosure>(t: E, trail: &mut Trail) -> Result<E, Fail>
     ensures leads { Follows1 E.shown sun_of t trail.old.count trail.new.count result }
     ensures in_table { IfOk result (λ s. IsInTable (E.shown t)) }
@@ -92,12 +90,8 @@ pub fn sun<E: Enclosure>(t: E, trail: &mut Trail) -> Result<E, Fail>
         result }
     ensures open { IfErr result (IsYearOpenFor (E.shown t)) }
 {
-    match dynamical(t, trail) {
-        Ok(moment) => {
-            let days = moment.sub(E::from_frac(NOON_2000));
-            let c = days.mul_frac(DAY_IN_CENTURIES);
-            wrap_step(longitude(days, c), 360, Site::SunWrap, trail)
-        }
-        Err(fail) => Err(fail),
-    }
+    let moment = dynamical(t, trail)?;
+    let days = moment.sub(E::from_frac(NOON_2000));
+    let c = days.mul_frac(DAY_IN_CENTURIES);
+    wrap_step(longitude(days, c), 360, Site::SunWrap, trail)
 }

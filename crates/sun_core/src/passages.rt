@@ -1,6 +1,5 @@
 //! When the sun is next at a longitude.
 ghost use Rattle.book_model.specs.programs.Calls.{Follows2, Follows3, Holds2, Narrows2};
-ghost use Rattle.std.specs.Prelude.{◌≤◌, ◌+◌};
 ghost use Rattle.book_model.specs.sky.Sun as spec;
 
 use crate::estimates::reduced;
@@ -25,15 +24,13 @@ impl<E: Enclosure> Angular<E> for SolarLongitude {
 }
 
 /// How far the sun is before a longitude, from 0 up to 360 degrees: three tests at most.
-#[tactic(auto, using(book_model::proofs::Leads::leading), unfolding(book_model::specs::sky::Sun::sun_short_of, book_model::specs::programs::Leading::next_turn))]
+#[tactic(auto, using(book_model::proofs::Leads::leading), unfolding(book_model::specs::sky::Sun::sun_short_of))]
 fn sun_short<E: Enclosure>(longitude: E, t: E, trail: &mut Trail) -> Result<E, Fail>
     ensures leads { Follows2 E.shown spec.sun_short_of longitude t trail.old.count trail.new.count
         result }
 {
-    match longitude::sun(t, trail) {
-        Ok(there) => reduced(longitude.sub(there), trail),
-        Err(fail) => Err(fail),
-    }
+    let there = longitude::sun(t, trail)?;
+    reduced(longitude.sub(there), trail)
 }
 
 /// A moment and the time in which the mean sun moves on by an angle.
@@ -68,8 +65,6 @@ fn sun_about<E: Enclosure>(longitude: E, t: E, about: E, trail: &mut Trail) -> R
 pub fn sun_from<E: Enclosure>(l: E, t: E, trail: &mut Trail) -> Result<E, Fail>
     ensures leads { Follows2 E.shown spec.sun_from_of l t trail.old.count trail.new.count result }
 {
-    match sun_short(l, t, trail) {
-        Ok(short) => sun_about(l, t, forward(short, t), trail),
-        Err(fail) => Err(fail),
-    }
+    let short = sun_short(l, t, trail)?;
+    sun_about(l, t, forward(short, t), trail)
 }

@@ -1,6 +1,6 @@
 //! Precession, and the longitude of the sun among the stars.
 ghost use Rattle.book_model.specs.programs.Calls.{Follows1, Holds1, Holds2, Holds3, Narrows1, Narrows2, Narrows3};
-ghost use Rattle.std.specs.Prelude.{◌≤◌, ◌+◌, IfErr};
+ghost use Rattle.std.specs.Prelude.{IfErr};
 ghost use Rattle.exact_math.specs.Interval.{Interval};
 ghost use Rattle.book_model.specs.sky.Sidereal as spec;
 ghost use Rattle.time_scales.specs.Steps.{IsYearOpenFor};
@@ -37,15 +37,13 @@ fn precession_at<E: Enclosure>(c: E) -> E
 
 /// How far the equinox has moved among the stars at a moment of universal time, in degrees, not reduced (Reingold and Dershowitz,
 /// Calendrical Calculations, chapter 14): one test, the year's. It is void at `year` in a year without a correction.
-#[tactic(auto, using(book_model::proofs::Leads::leading), unfolding(book_model::specs::sky::Sidereal::precession_of, book_model::specs::programs::Leading::next_turn))]
+#[tactic(auto, using(book_model::proofs::Leads::leading), unfolding(book_model::specs::sky::Sidereal::precession_of))]
 pub fn precession<E: Enclosure>(t: E, trail: &mut Trail) -> Result<E, Fail>
     ensures leads { Follows1 E.shown spec.precession_of t trail.old.count trail.new.count result }
     ensures open { IfErr result (IsYearOpenFor (E.shown t)) }
 {
-    match centuries(t, trail) {
-        Ok(c) => Ok(precession_at(c)),
-        Err(fail) => Err(fail),
-    }
+    let c = centuries(t, trail)?;
+    Ok(precession_at(c))
 }
 
 /// The longitude of the sun less precession, from where the signs of the zodiac begin, not reduced.
@@ -58,7 +56,7 @@ fn sidereal_by<E: Enclosure>(longitude: E, precession: E) -> E
 }
 
 /// An angle, reduced to 0 up to 360 degrees: one test, at `sidereal`.
-#[tactic(auto, using(book_model::proofs::Leads::leading, crate::proofs::Openings::opening), unfolding(book_model::specs::sky::Sidereal::starred_of, book_model::specs::programs::Leading::next_turn))]
+#[tactic(auto, using(book_model::proofs::Leads::leading, crate::proofs::Openings::opening), unfolding(book_model::specs::sky::Sidereal::starred_of))]
 fn starred<E: Enclosure>(angle: E, trail: &mut Trail) -> Result<E, Fail>
     ensures leads { Follows1 E.shown spec.starred_of angle trail.old.count trail.new.count result }
     ensures elsewhere { (i : Interval) → IfErr result (IsYearOpenFor i) }

@@ -1,7 +1,6 @@
 //! Waves: sizes times sines or cosines of angles that grow with time.
 
 ghost use Rattle.book_model.specs.programs.Calls.{Holds1, Narrows1};
-ghost use Rattle.exact_math.specs.Fraction.{whole};
 ghost use Rattle.book_model.specs.numbers.Bounds.{limits_of};
 ghost use Rattle.book_model.specs.numbers.Expressions.{Expression, scale, cosine};
 ghost use Rattle.book_model.specs.numbers.Fractions.{ten_millionths};

@@ -24,7 +24,6 @@ pub fn sidereal<E: Enclosure>(t: E, trail: &mut Trail) -> Result<E, Fail>
         (cubic_of SIDEREAL_TIME (in_centuries x)) y) }
     ensures measured { Measured1 E.BITS E.shown (2 ^ 44) IsDated (λ v. IsAbout (2 ^ 61) (362 * v + 2 ^ 37))
         t result }
-    ensures counted { trail.new.count ≡ trail.old.count }
 {
     Ok(cubic(&SIDEREAL_TIME, to_centuries(t)))
 }

@@ -1,7 +1,6 @@
 //! The zone of Beijing.
 ghost use Rattle.book_model.specs.programs.Calls.{Follows1, Holds, Narrows};
 ghost use Rattle.std.specs.Prelude.{◌≡◌, pos, int_lt};
-ghost use Rattle.book_model.specs.programs.Leading.{next_turn};
 ghost use Rattle.book_model.specs.sky.Time.{beijing_hours, zone_of_beijing, midnight_of, in_beijing_of};
 
 use book_model::{BEIJING_HOURS, Fail, HOUR, Site};
@@ -28,12 +27,9 @@ fn hours<E: Enclosure>(early: bool) -> E
 #[tactic(auto, using(book_model::proofs::Leads::leading), unfolding(book_model::specs::sky::Time::zone_of_beijing))]
 pub fn zone_beijing<E: Enclosure>(t: E, trail: &mut Trail) -> Result<E, Fail>
     ensures leads { Follows1 E.shown zone_of_beijing t trail.old.count trail.new.count result }
-    ensures counted { trail.new.count ≡ next_turn trail.old.count }
 {
-    match less_step(t, E::from_int(STANDARD_TIME), Site::Zone, trail) {
-        Ok(early) => Ok(hours::<E>(early)),
-        Err(fail) => Err(fail),
-    }
+    let early = less_step(t, E::from_int(STANDARD_TIME), Site::Zone, trail)?;
+    Ok(hours::<E>(early))
 }
 
 /// Whether a day (R.D.) comes before standard time began in Beijing.
@@ -56,10 +52,7 @@ pub fn midnight<E: Enclosure>(day: i64) -> E
 #[tactic(auto, using(book_model::proofs::Leads::leading), unfolding(book_model::specs::sky::Time::in_beijing_of))]
 pub fn in_beijing<E: Enclosure>(t: E, trail: &mut Trail) -> Result<E, Fail>
     ensures leads { Follows1 E.shown in_beijing_of t trail.old.count trail.new.count result }
-    ensures counted { trail.new.count ≡ next_turn trail.old.count }
 {
-    match zone_beijing(t, trail) {
-        Ok(hours) => Ok(t.add(hours.mul_frac(HOUR))),
-        Err(fail) => Err(fail),
-    }
+    let hours = zone_beijing(t, trail)?;
+    Ok(t.add(hours.mul_frac(HOUR)))
 }

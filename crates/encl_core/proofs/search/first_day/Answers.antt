@@ -1,4 +1,5 @@
 use Rattle.std.proofs.Common.{rules, ◌≡◌, ◌+ℤ◌, pos, w64, to_z, of_z, arith, refl}
+use Rattle.std.proofs.lemmas.Result.{err_from_is_err_and}
 use Rattle.book_model.specs.programs.Widths.{close_void}
 use Rattle.encl_core.proofs.Searching.{search_hit, search_miss, search_fails, search_ends, first_is}
 use Rattle.encl_core.proofs.search.first_day.Goals as goal
@@ -6,39 +7,36 @@ use Rattle.encl_core.proofs.search.first_day.Goals as goal
 pub loop-later-init : goal.loop-later-init
 loop-later-init g c =
     let start : to_z w64 (of_z w64 c.args.start) ≡ c.args.start = search rules in
-    (λ w deep. rw start (first_is _ c.args.start), omega arith)
+    λ w deep. rw start (first_is _ c.args.start)
 
-pub returns-in-Ok-true-clause-leads : goal.returns-in-Ok-true-clause-leads
-returns-in-Ok-true-clause-leads g c =
+pub returns-then-branch-clause-leads : goal.returns-then-branch-clause-leads
+returns-then-branch-clause-leads g c =
     let start : to_z w64 (of_z w64 c.args.start) ≡ c.args.start = search rules in
     let later : to_z w64 (of_z w64 c.from.result) ≡ pos c.loop-later.later = search rules in
     let day : to_z w64 (of_z w64 (c.args.start +ℤ pos c.loop-later.later)) ≡ c.args.start +ℤ pos c.loop-later.later = search rules in
     λ w deep. rw (start, later, day)
-    (search_hit _ c.args.start _ 46 c.loop-later.later c.loop-later-test.true refl (rw start at (c.loop-later.invariant.0 w deep)) (rw (start, later, day, c.in-Ok-true.field-0-test) at (c.in-Ok-true.ensures.leads w deep)))
+    (search_hit _ c.args.start _ 46 c.loop-later.later c.loop-later-test.true refl (rw start at (c.loop-later.invariant w deep)) (rw (start, later, day, c.if-branch.true) at (c.in_ok-holds.ensures.leads w deep)))
 
-pub returns-in-Err-clause-leads : goal.returns-in-Err-clause-leads
-returns-in-Err-clause-leads g c =
+pub returns-in_err-holds-clause-leads : goal.returns-in_err-holds-clause-leads
+returns-in_err-holds-clause-leads g c =
     let start : to_z w64 (of_z w64 c.args.start) ≡ c.args.start = search rules in
     let later : to_z w64 (of_z w64 c.from.result) ≡ pos c.loop-later.later = search rules in
     let day : to_z w64 (of_z w64 (c.args.start +ℤ pos c.loop-later.later)) ≡ c.args.start +ℤ pos c.loop-later.later = search rules in
-    λ w deep. search_fails _ c.args.start _ 46 c.loop-later.later c.loop-later-test.true refl (rw start at (c.loop-later.invariant.0 w deep)) (rw (start, later, day) at (c.in-Err.ensures.leads w deep))
+    let fails = err_from_is_err_and c.from_residual.result c.from_residual.ensures.1 in
+    λ w deep. rw (fails.1, fails.2) (search_fails _ c.args.start _ 46 c.loop-later.later c.loop-later-test.true refl (rw start at (c.loop-later.invariant w deep)) (rw (start, later, day) at (c.in_err-holds.ensures.leads w deep)))
 
 pub loop-later-preserved : goal.loop-later-preserved
 loop-later-preserved g c =
     let start : to_z w64 (of_z w64 c.args.start) ≡ c.args.start = search rules in
     let later : to_z w64 (of_z w64 c.from.result) ≡ pos c.loop-later.later = search rules in
     let day : to_z w64 (of_z w64 (c.args.start +ℤ pos c.loop-later.later)) ≡ c.args.start +ℤ pos c.loop-later.later = search rules in
-    let few = c.in-Ok-false.ensures.counted in
-    let fewer = c.loop-later.invariant.1 in (
-      λ w deep. rw start
-          (search_miss _ c.args.start _ 46 c.loop-later.later c.loop-later-test.true refl (rw start at (c.loop-later.invariant.0 w deep)) (rw (start, later, day, c.in-Ok-false.field-0-test) at (c.in-Ok-false.ensures.leads w deep))),
-      omega arith,
-    )
+    λ w deep. rw start
+    (search_miss _ c.args.start _ 46 c.loop-later.later c.loop-later-test.true refl (rw start at (c.loop-later.invariant w deep)) (rw (start, later, day, c.if-branch.false) at (c.in_ok-holds.ensures.leads w deep)))
 
 pub returns-clause-leads : goal.returns-clause-leads
 returns-clause-leads g c =
     let start : to_z w64 (of_z w64 c.args.start) ≡ c.args.start = search rules in
-    λ w deep. search_ends _ (c.args.start +ℤ pos c.loop-later.later) 46 c.loop-later.later (omega (arith, c.loop-later-test.false)) (rw start at (c.loop-later.invariant.0 w deep))
+    λ w deep. search_ends _ (c.args.start +ℤ pos c.loop-later.later) 46 c.loop-later.later (omega (arith, c.loop-later-test.false)) (rw start at (c.loop-later.invariant w deep))
 
 pub returns-clause-close : goal.returns-clause-close
 returns-clause-close g c = λ n e. close_void

@@ -9,11 +9,11 @@ use Rattle.sun_core.specs.Daily.{in_centuries}
 use Rattle.sun_core.proofs.Elapsed.{by_dynamical}
 use Rattle.moon_core.proofs.latitudes.latitude.Goals as goal
 
-pub returns-in-Ok : goal.returns-in-Ok
+pub returns : goal.returns
 unfolding latitude_of centuries_from in_centuries
-returns-in-Ok g c = record {
+returns g c = record {
   leads = λ w x k.
-      by_dynamical x (λ v. answer (latitude_at_of v)) (c.in-Ok.ensures.leads w x k)
+      by_dynamical x (λ v. answer (latitude_at_of v)) (c.in_ok-moment.ensures.leads w x k)
       (λ d r.
       let days = c.sub-days.ensures.holds w d (constant (fraction_of NOON_2000)) r (c.from_frac.ensures.holds w r.deep) in
       leads_answer (c.latitude_at.ensures.holds w (subtract d (constant (fraction_of NOON_2000))) k.deep days (c.mul_frac-c.ensures.holds w _ days)));

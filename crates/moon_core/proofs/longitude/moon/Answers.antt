@@ -9,10 +9,10 @@ use Rattle.sun_core.specs.Daily.{in_centuries}
 use Rattle.sun_core.proofs.Elapsed.{by_dynamical}
 use Rattle.moon_core.proofs.longitude.moon.Goals as goal
 
-pub returns-in-Ok-clause-leads : goal.returns-in-Ok-clause-leads
+pub returns-clause-leads : goal.returns-clause-leads
 unfolding moon_of centuries_from in_centuries
-returns-in-Ok-clause-leads g c = λ w x h.
-    by_dynamical x (λ v. cell MoonWrap (multiples 360) (moon_longitude_of v) (λ q. answer (remainder 360 (moon_longitude_of v) q))) (c.in-Ok.ensures.leads w x h)
+returns-clause-leads g c = λ w x h.
+    by_dynamical x (λ v. cell MoonWrap (multiples 360) (moon_longitude_of v) (λ q. answer (remainder 360 (moon_longitude_of v) q))) (c.in_ok-moment.ensures.leads w x h)
     (λ d r.
     let days = c.sub-days.ensures.holds w d (constant (fraction_of NOON_2000)) r (c.from_frac.ensures.holds w r.deep) in
     c.wrap_step.ensures.leads w (moon_longitude_of (in_centuries (subtract d (constant (fraction_of NOON_2000)))))

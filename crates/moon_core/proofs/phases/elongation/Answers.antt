@@ -1,8 +1,20 @@
+use Rattle.book_model.specs.sky.Phases.{elongation_of}
+use Rattle.book_model.proofs.Leads.{leads_on, leaf_within}
 use Rattle.moon_core.proofs.PhaseRanges.{elongation_found, within_world}
 use Rattle.moon_core.proofs.phases.elongation.Goals as goal
+
+pub returns-clause-leads : goal.returns-clause-leads
+unfolding elongation_of
+returns-clause-leads g c = λ w x h.
+    let m = c.in_ok-there.ensures.leads w x h in
+    let s = c.in_ok-longitude.ensures.leads w x h in
+    leads_on _ m (leads_on _ s (c.turned.ensures.leads w _ (c.sub.ensures.holds w _ _ (leaf_within m) (leaf_within s))))
+
+pub returns-clause-open : goal.returns-clause-open
+returns-clause-open g c = c.turned.ensures.elsewhere _
 
 pub returns-clause-in_table : goal.returns-clause-in_table
 returns-clause-in_table g c =
     let shown = g.E.Enclosure.shown in
     let p = g.E.Enclosure.proper in
-    elongation_found shown p c.args.t c.longitudes_apart.result (c.longitudes_apart.ensures.leads _ _ (within_world shown p c.args.t))
+    elongation_found shown p c.args.t c.turned.result (returns-clause-leads g c _ _ (within_world shown p c.args.t))

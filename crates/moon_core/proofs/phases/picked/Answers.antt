@@ -3,10 +3,10 @@ use Rattle.book_model.specs.programs.Programs.{answer}
 use Rattle.book_model.proofs.Leads.{leads_bind, leads_answer}
 use Rattle.moon_core.proofs.phases.picked.Goals as goal
 
-pub returns-in-Ok : goal.returns-in-Ok
+pub returns : goal.returns
 unfolding picked_of
-returns-in-Ok g c = record {
+returns g c = record {
   leads = λ w p q h k.
-      let t = c.in-Ok.ensures.leads w _ _ (c.from_int.ensures.holds w h.deep) (c.size-apart.ensures.holds w _ (c.sub.ensures.holds w _ _ h k)) in
+      let t = c.in_ok-is_apart.ensures.leads w _ _ (c.from_int.ensures.holds w h.deep) (c.size-apart.ensures.holds w _ (c.sub.ensures.holds w _ _ h k)) in
       leads_bind {f = λ apart. answer (chosen apart p q)} t (λ b e. rw e (leads_answer (c.chosen.ensures.holds w p q h k)));
 }

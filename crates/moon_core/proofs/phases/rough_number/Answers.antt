@@ -1,14 +1,22 @@
+use Rattle.book_model.specs.sky.Phases.{rough_number_of}
+use Rattle.book_model.proofs.Leads.{leads_on, leaf_within}
 use Rattle.moon_core.proofs.PhaseRanges.{rough_found, within_world, near_low, near_high}
 use Rattle.moon_core.proofs.phases.rough_number.Goals as goal
+
+pub returns-clause-leads : goal.returns-clause-leads
+unfolding rough_number_of
+returns-clause-leads g c = λ w x h.
+    let m = c.in_ok-months.ensures.leads w x h in
+    leads_on _ m (c.nearest_moon.ensures.leads w _ (leaf_within m))
 
 pub returns-clause-low : goal.returns-clause-low
 returns-clause-low g c =
     let shown = g.E.Enclosure.shown in
     let p = g.E.Enclosure.proper in
-    near_low _ (rough_found shown p c.args.t c.number_by_months.result c.requires.in_table (c.number_by_months.ensures.leads _ _ (within_world shown p c.args.t)))
+    near_low _ (rough_found shown p c.args.t c.nearest_moon.result c.requires.in_table (returns-clause-leads g c _ _ (within_world shown p c.args.t)))
 
 pub returns-clause-high : goal.returns-clause-high
 returns-clause-high g c =
     let shown = g.E.Enclosure.shown in
     let p = g.E.Enclosure.proper in
-    near_high _ (rough_found shown p c.args.t c.number_by_months.result c.requires.in_table (c.number_by_months.ensures.leads _ _ (within_world shown p c.args.t)))
+    near_high _ (rough_found shown p c.args.t c.nearest_moon.result c.requires.in_table (returns-clause-leads g c _ _ (within_world shown p c.args.t)))

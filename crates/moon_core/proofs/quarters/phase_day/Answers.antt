@@ -1,11 +1,28 @@
+use Rattle.std.proofs.lemmas.Result.{err_from_is_err_and}
 use Rattle.std.proofs.Common.{SFits, w64}
 use Rattle.std.proofs.lemmas.Int.{to_z-of_z}
+use Rattle.book_model.specs.sky.Phases.{phase_day_of}
+use Rattle.book_model.proofs.Leads.{leads_on, leaf_within}
+use Rattle.time_scales.proofs.WholeDays.{no_early_year}
 use Rattle.moon_core.proofs.PhaseDays.{phase_day_found}
 use Rattle.moon_core.proofs.quarters.phase_day.Goals as goal
 
-pub returns-clause-near : goal.returns-clause-near
-returns-clause-near g c =
+pub returns-clause-leads : goal.returns-clause-leads
+unfolding phase_day_of
+returns-clause-leads g c = λ w d.
     let f : SFits w64 c.args.phase = c.ranges.phase in
     let e : SFits w64 c.args.day = c.ranges.day in
-    let l = simp to_z-of_z at c.floor_of_phase.ensures.leads in
-    phase_day_found c.args.phase c.args.day _ _ _ l
+    let i = simp to_z-of_z at (c.from_int.ensures.holds w d) in
+    let j = simp to_z-of_z at (c.from_int-2.ensures.holds w d) in
+    let l = c.in_ok-moment.ensures.leads w _ _ i j in
+    leads_on _ l (c.floor_step.ensures.leads w _ (leaf_within l))
+
+pub returns-in_err-moment-clause-early : goal.returns-in_err-moment-clause-early
+returns-in_err-moment-clause-early g c = λ z p q h.
+    let e : SFits w64 c.args.day = c.ranges.day in
+    let n = simp to_z-of_z at c.from_int-2.ensures.narrow in
+    let fails = err_from_is_err_and c.from_residual.result c.from_residual.ensures.1 in
+    rw (fails.1, fails.2) (no_early_year g.E.Enclosure.shown _ c.args.day c.from_int-2.result _ p q h n (c.in_err-moment.ensures.early z))
+
+pub returns-clause-near : goal.returns-clause-near
+returns-clause-near g c = phase_day_found c.args.phase c.args.day _ _ _ (returns-clause-leads g c)
