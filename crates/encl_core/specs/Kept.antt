@@ -1,11 +1,13 @@
 -- What a trail keeps of its run.
 use denote.Struct.Props as facts
 use Rattle.std.specs.Coded.{Unit-prop}
-use Rattle.std.specs.Prelude.{◌≡◌, ℕ, zero, suc, ◌≤◌, Bool, true, false}
+use Rattle.std.specs.Prelude.{◌≡◌, ℕ, zero, suc, ◌≤◌, ℤ, Bool, true, false}
 use Rattle.exact_math.specs.Interval.{Interval, everything, between, ◌⊆◌, AreWithin}
+use Rattle.book_model.specs.numbers.Bounds.{bounded, IsNarrow, Spans}
 use Rattle.book_model.specs.numbers.Depth.{DEPTH}
 use Rattle.book_model.specs.numbers.Expressions.{Expression, World, value}
 use Rattle.book_model.specs.programs.Leading.{at_56, leaf}
+use Rattle.book_model.specs.programs.Widths.{IsWithin, IsAbout}
 use Rattle.book_model.specs.programs.Programs.{Program, Run, answered, voided, undecided, decided, run}
 use Rattle.encl_core.specs.declared.span.Span.{Span}
 
@@ -29,6 +31,10 @@ pub record IsKept (n : ℕ) (p : Program Expression) (s : Span) : Type 0 where
   pub answers : (w : World) → DEPTH ≤ w.depth → answers_after n (run w p) ≡ true
   pub holds : (w : World) → DEPTH ≤ w.depth → value w (leaf w p) ⊆ shown_span s
 
+-- at the scale 2^-56 a span lies within so many times 2^-32 of 0, and is at most so wide
+pub record IsKeptAbout (size width bits : ℕ) (s : Span) : Type 0 where
+  pub about : bits ≡ 56 → IsAbout size width (shown_span s)
+
 -- ---- a span is kept in one way at most, so it may be a ghost field
 ends_prop : (i j : Interval) → IsProp (AreWithin i j)
 ends_prop everything everything = Unit-prop
@@ -41,3 +47,13 @@ within_prop i j = Prim.hlevel ends_prop
 
 pub IsKept-prop : (n : ℕ) (p : Program Expression) (s : Span) → IsProp (IsKept n p s)
 IsKept-prop n p s = Prim.hlevel (within_prop, facts.props)
+
+spans_prop : (low high : ℤ) (width : ℕ) (s : Span) → IsProp (IsNarrow 0 (bounded low high 0 width) (shown_span s))
+unfolding IsNarrow
+spans_prop low high width s = Prim.hlevel facts.props
+
+about_prop : (low high : ℤ) (width : ℕ) (s : Span) → IsProp (IsWithin low high width (shown_span s))
+about_prop low high width s = Prim.hlevel spans_prop
+
+pub IsKeptAbout-prop : (size width bits : ℕ) (s : Span) → IsProp (IsKeptAbout size width bits s)
+IsKeptAbout-prop size width bits s = Prim.hlevel (about_prop, facts.props)

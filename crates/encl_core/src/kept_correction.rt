@@ -1,6 +1,7 @@
 //! The correction of a year that a run has evaluated.
+ghost use Rattle.std.specs.Prelude.{◌^◌};
 ghost use Rattle.book_model.specs.sky.Time.{correction_of_year};
-ghost use Rattle.encl_core.specs.Kept.{IsKept, IsKept-prop};
+ghost use Rattle.encl_core.specs.Kept.{IsKept, IsKept-prop, IsKeptAbout, IsKeptAbout-prop};
 
 use crate::Span;
 use std::alloc::AllocError;
@@ -12,6 +13,7 @@ pub struct KeptCorrection {
     bits: u32,
     days: Span,
     ghost evaluated: { IsKept 0 (correction_of_year year) days } by { IsKept-prop 0 (correction_of_year year) days },
+    ghost measured: { IsKeptAbout (2 ^ 30) (2 ^ 14) bits days } by { IsKeptAbout-prop (2 ^ 30) (2 ^ 14) bits days },
 }
 
 impl Clone for KeptCorrection {
@@ -32,6 +34,7 @@ impl KeptCorrection {
     /// The correction of a year, where an enclosure at scale 2 to the power of minus `bits` gave these ends.
     pub(crate) fn new(year: i64, bits: u32, days: Span) -> Self
         requires evaluated { IsKept 0 (correction_of_year year) days }
+        requires measured { IsKeptAbout (2 ^ 30) (2 ^ 14) bits days }
     {
         KeptCorrection { year, bits, days }
     }
@@ -39,6 +42,7 @@ impl KeptCorrection {
     /// Its ends, if it is the correction of this year at this scale.
     pub(crate) fn at(self, year: i64, bits: u32) -> Option<Span>
         ensures evaluated { IfSome result (IsKept 0 (correction_of_year year)) }
+        ensures measured { IfSome result (IsKeptAbout (2 ^ 30) (2 ^ 14) bits) }
     {
         if self.year == year {
             return self.at_scale(bits);
@@ -49,6 +53,7 @@ impl KeptCorrection {
     /// Its ends, if it is at this scale.
     fn at_scale(self, bits: u32) -> Option<Span>
         ensures evaluated { IfSome result (IsKept 0 (correction_of_year self.year)) }
+        ensures measured { IfSome result (IsKeptAbout (2 ^ 30) (2 ^ 14) bits) }
     {
         if self.bits == bits {
             return Some(self.days);

@@ -1,9 +1,9 @@
 //! The trail of a run: the count of its tests, and what it has evaluated and may ask again.
-ghost use Rattle.std.specs.Prelude.{◌≡◌, IfSome};
+ghost use Rattle.std.specs.Prelude.{◌≡◌, ◌^◌, IfSome};
 ghost use Rattle.book_model.specs.programs.Leading.{next_turn};
 ghost use Rattle.book_model.specs.sky.NewMoons.{new_moon_of};
 ghost use Rattle.book_model.specs.sky.Time.{correction_of_year};
-ghost use Rattle.encl_core.specs.Kept.{IsKept};
+ghost use Rattle.encl_core.specs.Kept.{IsKept, IsKeptAbout};
 
 use crate::Span;
 use crate::kept_correction::KeptCorrection;
@@ -92,6 +92,7 @@ impl Trail {
     /// The ends of the correction of a year, if they are kept at scale 2 to the power of minus `bits`.
     pub fn correction(&self, year: i64, bits: u32) -> Option<Span>
         ensures evaluated { IfSome result (IsKept 0 (correction_of_year year)) }
+        ensures measured { IfSome result (IsKeptAbout (2 ^ 30) (2 ^ 14) bits) }
     {
         self.correction?.at(year, bits)
     }
@@ -99,6 +100,7 @@ impl Trail {
     /// Keeps the ends of the correction of a year, as enclosures at scale 2 to the power of minus `bits` gave them, if they did.
     pub fn keep_correction(&mut self, year: i64, bits: u32, days: Option<Span>)
         requires evaluated { IfSome days (IsKept 0 (correction_of_year year)) }
+        requires measured { IfSome days (IsKeptAbout (2 ^ 30) (2 ^ 14) bits) }
         ensures counted { self.new.count ≡ self.old.count }
     {
         if let Some(days) = days {
