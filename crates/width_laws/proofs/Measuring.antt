@@ -3,7 +3,7 @@ use Rattle.std.specs.Prelude.{◌≡◌, ℕ, ◌+◌, ◌*◌, ◌-◌, ◌^◌
 use Rattle.std.proofs.Common.{arith}
 use Rattle.std.proofs.lemmas.Int.{ints}
 use Rattle.exact_math.specs.Fraction.{◌≤F◌}
-use Rattle.exact_math.specs.Interval.{Interval, everything, between}
+use Rattle.exact_math.specs.Interval.{Interval, everything, between, ◌⊆◌}
 use Rattle.exact_math.proofs.Fractions.{le_refl, le_trans, plus_mono}
 use Rattle.book_model.specs.numbers.Bounds.{Bound, bounded, Limits, IsNarrow, at_32, bound_of, implies, limits_at, limits_of}
 use Rattle.book_model.specs.numbers.Expressions.{Expression, argument}
@@ -65,6 +65,20 @@ looser a b c d v u (between x y) h k l n = record {
     above = le_trans _ _ _ (at_mono c a h) n.kept.above;
     below = le_trans _ _ _ n.kept.below (at_mono b d k);
     close = le_trans _ _ _ n.kept.close (plus_mono x x _ _ (le_refl x) (grains_below _ _ (omega arith)));
+  };
+}
+
+-- what is as long as something measured
+pub narrower : (a b : ℤ) (v : ℕ) (i j : Interval) → i ⊆ j → j ⊆ i → IsWithin a b v j → IsWithin a b v i
+unfolding IsNarrow
+narrower a b v i everything h k n = absurd n.kept
+narrower a b v everything (between x y) h k n = absurd h.ends
+narrower a b v (between u t) (between x y) h k n = record {
+  kept = record {
+    ordered = le_trans _ _ _ k.ends.0 (le_trans _ _ _ n.kept.ordered k.ends.1);
+    above = le_trans _ _ _ n.kept.above h.ends.0;
+    below = le_trans _ _ _ h.ends.1 n.kept.below;
+    close = le_trans _ _ _ h.ends.1 (le_trans _ _ _ n.kept.close (plus_mono x u _ _ h.ends.0 (le_refl _)));
   };
 }
 
