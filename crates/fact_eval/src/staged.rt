@@ -24,17 +24,32 @@ use fix_fine::Fine;
 use hindu_sky::{
     calendar_year, sankranti, sign_after, sign_at_sunset, sign_before, solar_year, tithi,
 };
+use new_moons::new_moon;
 use oracle_core::{Answer, Evaluator};
 
-/// Evaluates each fact over coarse enclosures, and over fine ones where these leave a test open.
-#[derive(Clone, Copy, Debug, PartialEq, Eq)]
-pub struct Staged;
+/// Evaluates each fact over coarse enclosures, and over fine ones where these leave a test open. What most facts of the moon
+/// ask it has evaluated once, over both: the new moon of number 0.
+#[derive(Debug, PartialEq, Drop)]
+pub struct Staged {
+    coarse: Trail,
+    fine: Trail,
+}
 
 impl Staged {
-    /// The evaluator. It holds nothing and takes no memory.
+    /// The evaluator. It takes no memory.
     pub fn new() -> Staged {
-        Staged
+        Staged {
+            coarse: beginning::<Coarse>(),
+            fine: beginning::<Fine>(),
+        }
     }
+}
+
+/// The trail of a run over enclosures of one kind that has made no test, and keeps the new moon of number 0.
+fn beginning<E: Enclosure>() -> Trail {
+    let mut trail = Trail::new();
+    let _moment = new_moon::<E>(0, &mut trail);
+    trail
 }
 
 /// The value that the formula of a kind of fact gives at a place on a day (R.D.): one line for each kind.
@@ -106,20 +121,29 @@ fn answer(outcome: Result<i64, Fail>) -> Answer
     }
 }
 
+/// The answer for a fact by enclosures of one kind, in a run that keeps what another has.
+fn answer_from<E: Enclosure>(other: &Trail, fact: Fact) -> Answer
+    requires least { 36 ≤ E.BITS }
+    requires most { E.BITS ≤ 56 }
+    ensures { IsRightAnswer fact result }
+{
+    let mut trail = other.anew();
+    answer(evaluate::<E>(fact, &mut trail))
+}
+
 /// The answer for a fact by enclosures of one kind, with a scale from 2⁻³⁶ to 2⁻⁵⁶.
 pub fn answer_over<E: Enclosure>(fact: Fact) -> Answer
     requires least { 36 ≤ E.BITS }
     requires most { E.BITS ≤ 56 }
     ensures { IsRightAnswer fact result }
 {
-    let mut trail = Trail::new();
-    answer(evaluate::<E>(fact, &mut trail))
+    answer_from::<E>(&Trail::new(), fact)
 }
 
 impl Evaluator for Staged {
     fn eval(&self, fact: Fact) -> Answer {
-        match answer_over::<Coarse>(fact) {
-            Answer::Undecided(_) => answer_over::<Fine>(fact),
+        match answer_from::<Coarse>(&self.coarse, fact) {
+            Answer::Undecided(_) => answer_from::<Fine>(&self.fine, fact),
             decided => decided,
         }
     }
