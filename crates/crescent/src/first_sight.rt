@@ -1,6 +1,6 @@
 //! The day with whose evening the crescent was first seen.
 ghost use Rattle.book_model.specs.programs.Calls.{Decides};
-ghost use Rattle.std.specs.Prelude.{◌≡◌, ◌≤◌, ◌+◌, ℤ, pos, ◌≤ℤ◌, ◌+ℤ◌, ◌-ℤ◌, ◌*◌, int_le, IfOk, IfErr};
+ghost use Rattle.std.specs.Prelude.{◌≡◌, ◌≤◌, pos, ◌≤ℤ◌, ◌+ℤ◌, ◌-ℤ◌, int_le, IfOk, IfErr};
 ghost use Rattle.book_model.specs.sky.Crescent as spec;
 ghost use Rattle.book_model.specs.sky.Facts.{IsFactDay, IsFactValue, IsValueDay};
 ghost use Rattle.book_model.specs.programs.Searches.{first_day_from};
@@ -30,8 +30,6 @@ struct SeenAt {
 
 impl<E: Enclosure> DayTest<E> for SeenAt {
     ghost test_of = { λ s d. spec.visible_of s.location d };
-
-    ghost most = { 151 };
 
     fn holds(&self, day: i64, trail: &mut Trail) -> Result<bool, Fail> {
         visible::<E>(&self.location, day, trail)
@@ -130,8 +128,6 @@ pub fn phasis<E: Enclosure>(location: &Location, day: i64, trail: &mut Trail) ->
     ensures early { trail.old.count ≡ 0 → 36 ≤ E.BITS → E.BITS ≤ 56 → IsValueDay day
         → IfErr result IsNoEarlyYear }
 {
-    match phase_day::<E>(NEW_MOON, day, trail) {
-        Ok(new_moon) => sight_after::<E>(location, day, new_moon, trail),
-        Err(fail) => Err(fail),
-    }
+    let new_moon = phase_day::<E>(NEW_MOON, day, trail)?;
+    sight_after::<E>(location, day, new_moon, trail)
 }
