@@ -1,6 +1,6 @@
 //! Shaukat's criterion: whether the crescent is seen on an evening.
 ghost use Rattle.book_model.specs.programs.Calls.{Decides, Decides1, Decides2, Decides3, Follows, Follows1, Holds1};
-ghost use Rattle.std.specs.Prelude.{◌≤◌, ◌+◌, ℤ, ◌≤ℤ◌, negsuc};
+ghost use Rattle.std.specs.Prelude.{◌≤◌, ◌≤ℤ◌, negsuc};
 ghost use Rattle.book_model.specs.sky.Crescent as spec;
 ghost use Rattle.book_model.specs.numbers.Depth.{DEPTH};
 ghost use Rattle.book_model.specs.numbers.Expressions.{Expression, World};
@@ -25,7 +25,7 @@ use trig_series::{cos_deg, sin_deg};
 const FIRST_QUARTER: i64 = 90;
 
 /// Whether the moon is past its new moon: one test.
-#[tactic(auto, using(book_model::proofs::Leads::leading), unfolding(book_model::specs::sky::Crescent::is_past_new_of, book_model::specs::programs::Leading::next_turn))]
+#[tactic(auto, using(book_model::proofs::Leads::leading), unfolding(book_model::specs::sky::Crescent::is_past_new_of))]
 fn is_past_new<E: Enclosure>(phase: E, trail: &mut Trail) -> Result<bool, Fail>
     ensures leads { Decides1 E.shown spec.is_past_new_of phase trail.old.count trail.new.count
         result }
@@ -34,7 +34,7 @@ fn is_past_new<E: Enclosure>(phase: E, trail: &mut Trail) -> Result<bool, Fail>
 }
 
 /// Whether it isn't yet at its first quarter: one test.
-#[tactic(auto, using(book_model::proofs::Leads::leading), unfolding(book_model::specs::sky::Crescent::is_before_quarter_of, book_model::specs::programs::Leading::next_turn))]
+#[tactic(auto, using(book_model::proofs::Leads::leading), unfolding(book_model::specs::sky::Crescent::is_before_quarter_of))]
 fn is_before_quarter<E: Enclosure>(phase: E, trail: &mut Trail) -> Result<bool, Fail>
     ensures leads { Decides1 E.shown spec.is_before_quarter_of phase trail.old.count trail.new.count
         result }
@@ -43,31 +43,27 @@ fn is_before_quarter<E: Enclosure>(phase: E, trail: &mut Trail) -> Result<bool, 
 }
 
 /// Whether the arc of light, by its cosine, is large enough: one test.
-#[tactic(auto, using(book_model::proofs::Leads::leading), unfolding(book_model::specs::sky::Crescent::is_lit_of, book_model::specs::programs::Leading::next_turn))]
+#[tactic(auto, using(book_model::proofs::Leads::leading), unfolding(book_model::specs::sky::Crescent::is_lit_of))]
 fn is_lit<E: Enclosure>(arc: E, trail: &mut Trail) -> Result<bool, Fail>
     ensures leads { Decides1 E.shown spec.is_lit_of arc trail.old.count trail.new.count result }
 {
     let least = cos_deg(E::from_frac(LEAST_ARC_OF_LIGHT));
-    match less_step(least, arc, Site::Crescent, trail) {
-        Ok(more) => Ok(!more),
-        Err(fail) => Err(fail),
-    }
+    let more = less_step(least, arc, Site::Crescent, trail)?;
+    Ok(!more)
 }
 
 /// Whether the arc of light, by its cosine, is at most 90 degrees: one test.
-#[tactic(auto, using(book_model::proofs::Leads::leading), unfolding(book_model::specs::sky::Crescent::is_within_quarter_of, book_model::specs::programs::Leading::next_turn))]
+#[tactic(auto, using(book_model::proofs::Leads::leading), unfolding(book_model::specs::sky::Crescent::is_within_quarter_of))]
 fn is_within_quarter<E: Enclosure>(arc: E, trail: &mut Trail) -> Result<bool, Fail>
     ensures leads { Decides1 E.shown spec.is_within_quarter_of arc trail.old.count trail.new.count
         result }
 {
-    match less_step(arc, E::from_int(0), Site::Crescent, trail) {
-        Ok(less) => Ok(!less),
-        Err(fail) => Err(fail),
-    }
+    let less = less_step(arc, E::from_int(0), Site::Crescent, trail)?;
+    Ok(!less)
 }
 
 /// Whether the moon, by the sine of its altitude, stands high enough: one test.
-#[tactic(auto, using(book_model::proofs::Leads::leading), unfolding(book_model::specs::sky::Crescent::is_high_of, book_model::specs::programs::Leading::next_turn))]
+#[tactic(auto, using(book_model::proofs::Leads::leading), unfolding(book_model::specs::sky::Crescent::is_high_of))]
 fn is_high<E: Enclosure>(altitude: E, trail: &mut Trail) -> Result<bool, Fail>
     ensures leads { Decides1 E.shown spec.is_high_of altitude trail.old.count trail.new.count result }
 {
@@ -142,7 +138,7 @@ fn meets_with<E: Enclosure>(
 }
 
 /// The obliquity of the ecliptic at a moment of universal time: one test at most.
-#[tactic(auto, using(book_model::proofs::Leads::leading), unfolding(book_model::specs::sky::Crescent::obliquity_at_of, book_model::specs::programs::Leading::next_turn))]
+#[tactic(auto, using(book_model::proofs::Leads::leading), unfolding(book_model::specs::sky::Crescent::obliquity_at_of))]
 fn obliquity_at<E: Enclosure>(t: E, trail: &mut Trail) -> Result<E, Fail>
     ensures leads { Follows1 E.shown spec.obliquity_at_of t trail.old.count trail.new.count result }
 {

@@ -1,6 +1,6 @@
 //! What the Hindu calendars ask of a day, by sunrise and sunset at Ujjain.
 ghost use Rattle.book_model.specs.programs.Calls.{Decides, Decides1};
-ghost use Rattle.std.specs.Prelude.{◌≡◌, ◌≤◌, ◌+◌, ◌-ℤ◌, pos, ◌≤ℤ◌, ℤ, IfOk, IfErr, false};
+ghost use Rattle.std.specs.Prelude.{◌≡◌, ◌≤◌, ◌+◌, ◌-ℤ◌, pos, ◌≤ℤ◌, IfOk, IfErr, false};
 ghost use Rattle.std.specs.Ordering.{int_eq};
 ghost use Rattle.book_model.specs.sky.Facts.{IsFactValue, IsValueDay};
 ghost use Rattle.book_model.specs.sky.HinduFacts as spec;
@@ -15,17 +15,6 @@ use encl_core::{DayTest, Enclosure, Trail, first_day, floor_step};
 use moon_core::{moon_before, moon_from, phase};
 use rise_set::{hsunset, sunrise};
 
-/// The sign of the zodiac in which the sun stands at sunset on a day (R.D.): 137 tests at most.
-#[tactic(auto, using(book_model::proofs::Leads::leading), unfolding(book_model::specs::sky::HinduFacts::sign_at_sunset_of))]
-fn sign_by_sunset<E: Enclosure>(day: i64, trail: &mut Trail) -> Result<i64, Fail>
-    ensures leads { Decides (spec.sign_at_sunset_of day) trail.old.count trail.new.count result }
-    ensures from { IfOk result (λ g. pos 1 ≤ℤ g) }
-    ensures to { IfOk result (λ g. g ≤ℤ pos 13) }
-{
-    let t = hsunset::<E>(day, trail)?;
-    sign(t, trail)
-}
-
 /// The sign of the zodiac, from 1 to 12, in which the sun stands at sunset on a day (R.D.) at Ujjain (Reingold and
 /// Dershowitz, Calendrical Calculations, chapter 20): 137 tests at most. It is void at `year` where a moment that it takes
 /// lies in a year of which there is no correction, at `offset` where the sun doesn't come to the horizon, and at `settle`
@@ -34,21 +23,13 @@ fn sign_by_sunset<E: Enclosure>(day: i64, trail: &mut Trail) -> Result<i64, Fail
 /// ```
 /// let sign = hindu_sky::sign_at_sunset::<Fine>(738_990, &mut Trail::new())?; // 1, on 14 April 2024
 /// ```
+#[tactic(auto, using(book_model::proofs::Leads::leading), unfolding(book_model::specs::sky::HinduFacts::sign_at_sunset_of))]
 pub fn sign_at_sunset<E: Enclosure>(day: i64, trail: &mut Trail) -> Result<i64, Fail>
-    requires day { IsValueDay day }
     ensures leads { Decides (spec.sign_at_sunset_of day) trail.old.count trail.new.count result }
     ensures value { IfOk result IsFactValue }
 {
-    sign_by_sunset::<E>(day, trail)
-}
-
-/// The year of the Kali Yuga at sunset on a day (R.D.).
-#[tactic(auto, using(book_model::proofs::Leads::leading), unfolding(book_model::specs::sky::HinduFacts::year_at_sunset_of))]
-fn year_by_sunset<E: Enclosure>(day: i64, trail: &mut Trail) -> Result<i64, Fail>
-    ensures leads { Decides (spec.year_at_sunset_of day) trail.old.count trail.new.count result }
-{
     let t = hsunset::<E>(day, trail)?;
-    hindu_year(t, trail)
+    sign(t, trail)
 }
 
 /// The year of the Kali Yuga at sunset on a day (R.D.) at Ujjain (Reingold and Dershowitz, Calendrical Calculations, chapter
@@ -57,12 +38,14 @@ fn year_by_sunset<E: Enclosure>(day: i64, trail: &mut Trail) -> Result<i64, Fail
 /// ```
 /// let year = hindu_sky::solar_year::<Fine>(738_990, &mut Trail::new())?; // 5125, on 14 April 2024
 /// ```
+#[tactic(auto, using(book_model::proofs::Leads::leading), unfolding(book_model::specs::sky::HinduFacts::year_at_sunset_of))]
 pub fn solar_year<E: Enclosure>(day: i64, trail: &mut Trail) -> Result<i64, Fail>
     requires day { IsValueDay day }
     ensures leads { Decides (spec.year_at_sunset_of day) trail.old.count trail.new.count result }
     ensures value { IfOk result IsFactValue }
 {
-    year_by_sunset::<E>(day, trail)
+    let t = hsunset::<E>(day, trail)?;
+    hindu_year(t, trail)
 }
 
 /// Whether two signs are the same.
@@ -77,7 +60,7 @@ fn is_sign(one: i64, other: i64) -> bool
 fn has_sign<E: Enclosure>(sign: i64, day: i64, trail: &mut Trail) -> Result<bool, Fail>
     ensures leads { Decides (spec.has_sign_at sign day) trail.old.count trail.new.count result }
 {
-    let there = sign_by_sunset::<E>(day, trail)?;
+    let there = sign_at_sunset::<E>(day, trail)?;
     Ok(is_sign(there, sign))
 }
 
@@ -129,10 +112,8 @@ fn sign_entered<E: Enclosure>(day: i64, t: E, trail: &mut Trail) -> Result<i64, 
     ensures value { IfOk result IsFactValue }
 {
     let there = sign(t, trail)?;
-    match whole_degrees(t, trail) {
-        Ok(degrees) => first_in_sign::<E>(there, start(day, degrees), trail),
-        Err(fail) => Err(fail),
-    }
+    let degrees = whole_degrees(t, trail)?;
+    first_in_sign::<E>(there, start(day, degrees), trail)
 }
 
 /// The first day (R.D.) of the solar month in which a day falls, by whose sunset at Ujjain the sun has come into its sign
@@ -152,23 +133,15 @@ pub fn sankranti<E: Enclosure>(day: i64, trail: &mut Trail) -> Result<i64, Fail>
     sign_entered(day, t, trail)
 }
 
-/// The whole lunar days that have passed of a month at a moment.
+/// The whole lunar days that have passed of a month at a moment, from 0 to 30.
 #[tactic(auto, using(book_model::proofs::Leads::leading), unfolding(book_model::specs::sky::HinduFacts::lunar_days_passed_of))]
-fn whole_lunar_days<E: Enclosure>(t: E, trail: &mut Trail) -> Result<i64, Fail>
-    ensures leads { Decides1 E.shown spec.lunar_days_passed_of t trail.old.count trail.new.count
-        result }
-{
-    let degrees = phase(t, trail)?;
-    floor_step(degrees.mul_frac(DEGREE_IN_LUNAR_DAYS), Site::Round, trail)
-}
-
-/// The same, from 0 to 30.
 fn lunar_days_passed<E: Enclosure>(t: E, trail: &mut Trail) -> Result<i64, Fail>
     ensures leads { Decides1 E.shown spec.lunar_days_passed_of t trail.old.count trail.new.count
         result }
     ensures near { IfOk result IsLunarDay }
 {
-    whole_lunar_days(t, trail)
+    let degrees = phase(t, trail)?;
+    floor_step(degrees.mul_frac(DEGREE_IN_LUNAR_DAYS), Site::Round, trail)
 }
 
 /// The lunar day, from 1 on, at sunrise on a day (R.D.) at Ujjain (Reingold and Dershowitz, Calendrical Calculations,
@@ -225,15 +198,6 @@ pub fn sign_after<E: Enclosure>(day: i64, trail: &mut Trail) -> Result<i64, Fail
     sign(t, trail)
 }
 
-/// The year of the Kali Yuga when a day (R.D.) begins in universal time.
-#[tactic(auto, unfolding(book_model::specs::sky::HinduFacts::calendar_year_of))]
-fn year_of_beginning<E: Enclosure>(day: i64, trail: &mut Trail) -> Result<i64, Fail>
-    ensures leads { Decides (spec.calendar_year_of day) trail.old.count trail.new.count result }
-    ensures early { 36 ≤ E.BITS → E.BITS ≤ 56 → IsValueDay day → IfErr result IsNoEarlyYear }
-{
-    hindu_year(E::from_int(day), trail)
-}
-
 /// The year of the Kali Yuga when a day (R.D.) begins in universal time (Reingold and Dershowitz, Calendrical Calculations,
 /// chapter 20): five tests, of which the two of the year are never open. It is void at `year` where there is no correction
 /// for the year of the day.
@@ -241,11 +205,12 @@ fn year_of_beginning<E: Enclosure>(day: i64, trail: &mut Trail) -> Result<i64, F
 /// ```
 /// let year = hindu_sky::calendar_year::<Fine>(739_170, &mut Trail::new())?; // 5125, on 11 October 2024
 /// ```
+#[tactic(auto, unfolding(book_model::specs::sky::HinduFacts::calendar_year_of))]
 pub fn calendar_year<E: Enclosure>(day: i64, trail: &mut Trail) -> Result<i64, Fail>
     requires day { IsValueDay day }
     ensures leads { Decides (spec.calendar_year_of day) trail.old.count trail.new.count result }
     ensures value { IfOk result IsFactValue }
     ensures early { trail.old.count ≡ 0 → 36 ≤ E.BITS → E.BITS ≤ 56 → IfErr result IsNoEarlyYear }
 {
-    year_of_beginning::<E>(day, trail)
+    hindu_year(E::from_int(day), trail)
 }

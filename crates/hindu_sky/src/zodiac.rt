@@ -1,6 +1,6 @@
 //! The sign of the zodiac in which the sun stands, and the year of the Kali Yuga, at a moment.
 ghost use Rattle.book_model.specs.programs.Calls.{Decides1, Holds2};
-ghost use Rattle.std.specs.Prelude.{◌≤◌, ◌+◌, pos, ◌≤ℤ◌, IfOk, IfErr};
+ghost use Rattle.std.specs.Prelude.{◌+◌, pos, ◌≤ℤ◌, IfOk, IfErr};
 ghost use Rattle.book_model.specs.sky.HinduFacts.{whole_degrees_of};
 ghost use Rattle.book_model.specs.sky.Sidereal as spec;
 ghost use Rattle.hindu_sky.specs.Counts.{IsDegree, IsSign};
@@ -12,21 +12,14 @@ use book_model::{
 use encl_core::{Enclosure, Trail, floor_step};
 use sun_core::sidereal_sun;
 
-/// The whole signs that the sun has passed.
-#[tactic(auto, using(book_model::proofs::Leads::leading), unfolding(book_model::specs::sky::Sidereal::signs_passed_of, book_model::specs::programs::Leading::next_turn))]
-fn whole_signs<E: Enclosure>(t: E, trail: &mut Trail) -> Result<i64, Fail>
-    ensures leads { Decides1 E.shown spec.signs_passed_of t trail.old.count trail.new.count result }
-{
-    let longitude = sidereal_sun(t, trail)?;
-    floor_step(longitude.mul_frac(DEGREE_IN_SIGNS), Site::Sidereal, trail)
-}
-
-/// The same, from 0 to 12.
+/// The whole signs that the sun has passed, from 0 to 12.
+#[tactic(auto, using(book_model::proofs::Leads::leading), unfolding(book_model::specs::sky::Sidereal::signs_passed_of))]
 fn signs_passed<E: Enclosure>(t: E, trail: &mut Trail) -> Result<i64, Fail>
     ensures leads { Decides1 E.shown spec.signs_passed_of t trail.old.count trail.new.count result }
     ensures near { IfOk result IsSign }
 {
-    whole_signs(t, trail)
+    let longitude = sidereal_sun(t, trail)?;
+    floor_step(longitude.mul_frac(DEGREE_IN_SIGNS), Site::Sidereal, trail)
 }
 
 /// The sign of the zodiac, from 1 on, in which the sun stands at a moment of universal time (Reingold and Dershowitz, Calendrical
@@ -41,21 +34,14 @@ pub(crate) fn sign<E: Enclosure>(t: E, trail: &mut Trail) -> Result<i64, Fail>
     Ok(passed + 1)
 }
 
-/// The whole degrees of the longitude of the sun among the stars.
-#[tactic(auto, using(book_model::proofs::Leads::leading), unfolding(book_model::specs::sky::HinduFacts::whole_degrees_of, book_model::specs::programs::Leading::next_turn))]
-fn floor_of_longitude<E: Enclosure>(t: E, trail: &mut Trail) -> Result<i64, Fail>
-    ensures leads { Decides1 E.shown whole_degrees_of t trail.old.count trail.new.count result }
-{
-    let longitude = sidereal_sun(t, trail)?;
-    floor_step(longitude, Site::Sidereal, trail)
-}
-
-/// The same, from 0 to 360: five tests at most.
+/// The whole degrees of the longitude of the sun among the stars, from 0 to 360: five tests at most.
+#[tactic(auto, using(book_model::proofs::Leads::leading), unfolding(book_model::specs::sky::HinduFacts::whole_degrees_of))]
 pub(crate) fn whole_degrees<E: Enclosure>(t: E, trail: &mut Trail) -> Result<i64, Fail>
     ensures leads { Decides1 E.shown whole_degrees_of t trail.old.count trail.new.count result }
     ensures near { IfOk result IsDegree }
 {
-    floor_of_longitude(t, trail)
+    let longitude = sidereal_sun(t, trail)?;
+    floor_step(longitude, Site::Sidereal, trail)
 }
 
 /// The sidereal years from the epoch to a moment, less what the sun has gone of the year.
@@ -70,7 +56,7 @@ fn years_gone<E: Enclosure>(t: E, longitude: E) -> E
 
 /// The year of the Kali Yuga at a moment of universal time (Reingold and Dershowitz, Calendrical Calculations, chapter 20): five tests
 /// at most.
-#[tactic(auto, using(book_model::proofs::Leads::leading, crate::proofs::Openings::opening), unfolding(book_model::specs::sky::Sidereal::hindu_year_of, book_model::specs::sky::Correction::rounded_of, book_model::specs::programs::Leading::next_turn))]
+#[tactic(auto, using(book_model::proofs::Leads::leading, crate::proofs::Openings::opening), unfolding(book_model::specs::sky::Sidereal::hindu_year_of, book_model::specs::sky::Correction::rounded_of))]
 pub(crate) fn hindu_year<E: Enclosure>(t: E, trail: &mut Trail) -> Result<i64, Fail>
     ensures leads { Decides1 E.shown spec.hindu_year_of t trail.old.count trail.new.count result }
     ensures open { IfErr result (IsYearOpenFor (E.shown t)) }

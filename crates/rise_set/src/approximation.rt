@@ -1,6 +1,5 @@
 //! One approximation of dawn or dusk, from a moment near to it.
 ghost use Rattle.book_model.specs.programs.Calls.{Follows2, Holds, Holds1};
-ghost use Rattle.std.specs.Prelude.{◌≤◌, ◌+◌};
 ghost use Rattle.book_model.specs.sky.Horizon as spec;
 
 use crate::offsets::near_offset;
@@ -39,7 +38,7 @@ fn apparent<E: Enclosure>(twilight: Twilight, day: i64, offset: E) -> E
 }
 
 /// The moment of a day (R.D.) at which the sun has a depression, from one near to it: nine tests at most.
-#[tactic(auto, using(book_model::proofs::Leads::leading), unfolding(book_model::specs::sky::Horizon::approximation_on, book_model::specs::programs::Leading::next_turn))]
+#[tactic(auto, using(book_model::proofs::Leads::leading), unfolding(book_model::specs::sky::Horizon::approximation_on))]
 fn approximation_on<E: Enclosure>(
     location: &Location,
     twilight: Twilight,
@@ -51,16 +50,14 @@ fn approximation_on<E: Enclosure>(
     ensures leads { Follows2 E.shown (λ a x. spec.approximation_on location.now twilight a x day)
         depression t trail.old.count trail.new.count result }
 {
-    match near_offset(location, twilight, depression, day, t, trail) {
-        Ok(offset) => { from_apparent(location.longitude, apparent(twilight, day, offset), trail) }
-        Err(fail) => Err(fail),
-    }
+    let offset = near_offset(location, twilight, depression, day, t, trail)?;
+    from_apparent(location.longitude, apparent(twilight, day, offset), trail)
 }
 
 /// The moment at which the sun has a depression, from one near to it, both in local mean time (Reingold and Dershowitz,
 /// Calendrical Calculations, chapter 14): ten tests at most. It is void at `offset` where the sun doesn't come to it, and at `year`
 /// in a year without a correction.
-#[tactic(auto, using(book_model::proofs::Leads::leading), unfolding(book_model::specs::sky::Horizon::approximation_of, book_model::specs::programs::Leading::next_turn))]
+#[tactic(auto, using(book_model::proofs::Leads::leading), unfolding(book_model::specs::sky::Horizon::approximation_of))]
 pub(crate) fn approximation<E: Enclosure>(
     location: &Location,
     twilight: Twilight,
@@ -71,8 +68,6 @@ pub(crate) fn approximation<E: Enclosure>(
     ensures leads { Follows2 E.shown (spec.approximation_of location.now twilight) depression t
         trail.old.count trail.new.count result }
 {
-    match floor_step(t, Site::DayFloor, trail) {
-        Ok(day) => approximation_on(location, twilight, depression, t, day, trail),
-        Err(fail) => Err(fail),
-    }
+    let day = floor_step(t, Site::DayFloor, trail)?;
+    approximation_on(location, twilight, depression, t, day, trail)
 }

@@ -1,6 +1,5 @@
 //! The declination of the sun.
 ghost use Rattle.book_model.specs.programs.Calls.{Follows1, Holds1, Holds2};
-ghost use Rattle.std.specs.Prelude.{◌≤◌, ◌+◌};
 ghost use Rattle.book_model.specs.numbers.Fractions.{fraction_of};
 ghost use Rattle.book_model.specs.sky.Horizon as spec;
 
@@ -30,7 +29,7 @@ fn declination_by<E: Enclosure>(obliquity: E, longitude: E) -> E
 /// The declination of the sun at a moment of universal time, in degrees (Reingold and Dershowitz, Calendrical Calculations,
 /// chapter 14): three tests at most, at `year` and those of the sun's longitude. It is void at `year` in a year without a
 /// correction.
-#[tactic(auto, using(book_model::proofs::Leads::leading), unfolding(book_model::specs::sky::Horizon::declination_of, book_model::specs::programs::Leading::next_turn))]
+#[tactic(auto, using(book_model::proofs::Leads::leading), unfolding(book_model::specs::sky::Horizon::declination_of))]
 pub fn declination<E: Enclosure>(t: E, trail: &mut Trail) -> Result<E, Fail>
     ensures leads { Follows1 E.shown spec.declination_of t trail.old.count trail.new.count result }
 {

@@ -1,6 +1,6 @@
 //! Sunrise and sunset as the Hindu calendars take them, at Ujjain.
 ghost use Rattle.book_model.specs.programs.Calls.{Follows, Holds};
-ghost use Rattle.std.specs.Prelude.{◌≡◌, ◌≤◌, ◌+◌, ◌≤ℤ◌, pos, negsuc};
+ghost use Rattle.std.specs.Prelude.{◌≡◌, ◌≤ℤ◌, pos, negsuc};
 ghost use Rattle.book_model.specs.numbers.Expressions.{constant};
 ghost use Rattle.book_model.specs.numbers.Fractions.{fraction_of};
 ghost use Rattle.book_model.specs.sky.Horizon as spec;
@@ -35,10 +35,8 @@ pub fn sunrise<E: Enclosure>(day: i64, trail: &mut Trail) -> Result<E, Fail>
     ensures leads { Follows E.shown (spec.sunrise_of day) trail.old.count trail.new.count result }
 {
     let rising = dawn(&UJJAIN, E::from_frac(HINDU_SUNRISE_DEPRESSION), day, trail)?;
-    match rounded_minutes(day, rising, trail) {
-        Ok(minutes) => Ok(universal(UJJAIN.longitude, days::<E>(minutes))),
-        Err(fail) => Err(fail),
-    }
+    let minutes = rounded_minutes(day, rising, trail)?;
+    Ok(universal(UJJAIN.longitude, days::<E>(minutes)))
 }
 
 /// When the sun's middle sets on a day (R.D.) at Ujjain, the air left out, in universal time (Reingold and Dershowitz, Calendrical

@@ -1,6 +1,6 @@
 //! The floor of a number to which a whole number is added, and moments rounded to minutes.
 ghost use Rattle.book_model.specs.programs.Calls.{Decides1, Holds1};
-ghost use Rattle.std.specs.Prelude.{◌≡◌, ◌≤◌, ◌+◌, ◌*ℤ◌, ◌+ℤ◌, ◌≤ℤ◌, ℤ, pos, negsuc, IfOk, IfErr, IfSome};
+ghost use Rattle.std.specs.Prelude.{◌≡◌, ◌*ℤ◌, ◌+ℤ◌, ◌≤ℤ◌, pos, negsuc, IfOk, IfErr, IfSome};
 ghost use Rattle.book_model.specs.numbers.Expressions.{add, integer};
 ghost use Rattle.book_model.specs.sky.Horizon as spec;
 ghost use Rattle.book_model.specs.programs.Programs.{answer, cell, integers};
@@ -68,7 +68,7 @@ fn sum(whole: i64, floor: i64, site: Site, turn: u32) -> Result<i64, Fail>
 }
 
 /// The floor of a whole number and an enclosed one, as one test of both: what is enclosed stays small, so that it is narrow.
-#[tactic(auto, unfolding(book_model::specs::programs::Leading::next_turn))]
+#[tactic(auto)]
 fn floor_beside<E: Enclosure>(whole: i64, x: E, site: Site, trail: &mut Trail) -> Result<i64, Fail>
     ensures leads { Decides1 E.shown (λ e. cell site integers (add (integer whole) e) answer) x
         trail.old.count trail.new.count result }

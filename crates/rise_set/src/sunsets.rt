@@ -1,6 +1,6 @@
 //! Sunset, and by how many degrees the sun stands below the horizon then.
 ghost use Rattle.book_model.specs.programs.Calls.{Follows, Holds};
-ghost use Rattle.std.specs.Prelude.{◌≡◌, ◌≤◌, ◌+◌};
+ghost use Rattle.std.specs.Prelude.{◌≡◌, ◌+◌};
 ghost use Rattle.book_model.specs.numbers.Fractions.{fraction_of};
 ghost use Rattle.book_model.specs.sky.Horizon as spec;
 

@@ -1,10 +1,17 @@
+use Rattle.book_model.specs.sky.HinduFacts.{lunar_days_passed_of}
+use Rattle.book_model.proofs.Leads.{leads_on, leaf_within}
 use Rattle.hindu_sky.proofs.HinduRuns.{lunar_days_found}
 use Rattle.moon_core.proofs.PhaseRanges.{within_world}
 use Rattle.hindu_sky.proofs.days.lunar_days_passed.Goals as goal
+
+pub returns-clause-leads : goal.returns-clause-leads
+unfolding lunar_days_passed_of
+returns-clause-leads g c = λ w x h.
+    let l = c.in_ok-degrees.ensures.leads w x h in
+    leads_on _ l (c.floor_step.ensures.leads w _ (c.mul_frac.ensures.holds w _ (leaf_within l)))
 
 pub returns-clause-near : goal.returns-clause-near
 returns-clause-near g c =
     let shown = g.E.Enclosure.shown in
     let p = g.E.Enclosure.proper in
-    let i = within_world shown p c.args.t in
-    lunar_days_found shown p c.args.t c.whole_lunar_days.result (c.whole_lunar_days.ensures.leads _ _ i)
+    lunar_days_found shown p c.args.t c.floor_step.result (returns-clause-leads g c _ _ (within_world shown p c.args.t))
