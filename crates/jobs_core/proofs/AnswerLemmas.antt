@@ -1,5 +1,5 @@
 -- What an oracle over an evaluator answers makes a right outcome.
-use Rattle.std.proofs.Common.{◌≡◌, ℕ, ℤ, sym, arith, List, []}
+use Rattle.std.proofs.Common.{◌≡◌, ℤ, arith, List, []}
 use Rattle.std.specs.Prelude.{Ok, Err}
 use Rattle.book_model.specs.declared.fact.Fact.{Fact}
 use Rattle.book_model.specs.declared.fail.Undecided.{Undecided}

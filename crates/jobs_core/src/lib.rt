@@ -16,7 +16,7 @@ mod row;
 
 pub use gate::{Gate, OpenGate};
 pub use maps::{map_facts, map_lines};
-pub use outcome::{Outcome, Outcomes, outcome_of};
+pub use outcome::{Finding, Halt, Outcome, Outcomes, outcome_of};
 pub use pieces::map_places;
 pub use row::{Row, rows_of};
 

@@ -1,7 +1,7 @@
 //! What comes of a row.
 ghost use Rattle.std.specs.Prelude.{◌≡◌, IsTrue, IfOk, OnErr};
 ghost use Rattle.book_model.specs.lines.Requests.{is_possible, is_in_reach};
-ghost use Rattle.jobs_core.specs.Outcomes.{line_outcome, CanResolve, IsRightOf, IsRightForRow, ComesOfStop, HasNoOutcome};
+ghost use Rattle.jobs_core.specs.Outcomes.{line_outcome, halt_outcome, CanResolve, IsRightOf, IsRightForRow, ComesOfStop, HasNoOutcome};
 
 use crate::Row;
 use book_model::{Fact, Request, Resolved, Rule, Site, Undecided};
@@ -9,28 +9,41 @@ use line_core::resolve;
 use oracle_core::{Asking, Evaluator, FactValues, Stop};
 use std::alloc::{AllocError, Global};
 
-/// What comes of a line: it breaks a rule; it has a result, which rests on facts with their values; or a fact that
-/// it asks is undecided or void.
+/// The result of a line, and the facts with their values on which it rests, in order of first use.
+#[derive(Drop)]
+pub struct Finding {
+    pub resolved: Resolved,
+    pub facts: FactValues,
+}
+
+/// Why a line that breaks no rule has no result: a fact that it asks is undecided or void.
+#[derive(Clone, Copy)]
+pub enum Halt {
+    Undecided(Fact, Undecided),
+    Void(Fact, Site),
+}
+
+/// What comes of a line: it breaks a rule; it has a result; or it has none. What belongs to it stands in a box, so that an
+/// outcome is two words long.
 #[derive(Drop)]
 pub enum Outcome {
     Refused(Rule),
-    Found(Resolved, FactValues),
-    Undecided(Fact, Undecided),
-    Void(Fact, Site),
+    Found(Box<Finding>),
+    Halted(Box<Halt>),
 }
 
 /// Outcomes, in the order of the rows.
 pub type Outcomes = Vec<Outcome>;
 
-/// What comes of a line whose facts are asked up to this stop of an oracle over an evaluator. The error comes where
+/// Why a line has no result whose facts are asked up to this stop of an oracle over an evaluator. The error comes where
 /// memory ran out, and at a missing fact, of which such an oracle has none.
-fn outcome_at(stop: Stop) -> Result<Outcome, AllocError>
-    ensures stopped { IfOk result (λ outcome. ComesOfStop stop (line_outcome outcome)) }
+fn halt_at(stop: Stop) -> Result<Halt, AllocError>
+    ensures stopped { IfOk result (λ halt. ComesOfStop stop (halt_outcome halt)) }
     ensures error { OnErr result (HasNoOutcome stop) }
 {
     match stop {
-        Stop::Undecided(fact, at) => Ok(Outcome::Undecided(fact, at)),
-        Stop::Void(fact, site) => Ok(Outcome::Void(fact, site)),
+        Stop::Undecided(fact, at) => Ok(Halt::Undecided(fact, at)),
+        Stop::Void(fact, site) => Ok(Halt::Void(fact, site)),
         Stop::Missing(_) | Stop::Memory => Err(AllocError),
     }
 }
@@ -47,8 +60,11 @@ fn outcome_of_request<E: Evaluator>(
 {
     let mut asking = Asking::new(alloc, evaluator);
     match resolve(&mut asking, request) {
-        Ok(resolved) => Ok(Outcome::Found(resolved, asking.finish())),
-        Err(stop) => outcome_at(stop),
+        Ok(resolved) => {
+            let facts = asking.finish();
+            Ok(Outcome::Found(Box::new(alloc, Finding { resolved, facts })?))
+        }
+        Err(stop) => Ok(Outcome::Halted(Box::new(alloc, halt_at(stop)?)?)),
     }
 }
 

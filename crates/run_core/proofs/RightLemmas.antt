@@ -8,9 +8,8 @@ use Rattle.book_model.specs.declared.request.Resolved.{Resolved}
 use Rattle.book_model.specs.declared.request.Rule.TheVariants.{Syntax}
 use Rattle.book_model.specs.lines.Lines.{words_of}
 use Rattle.book_model.specs.lines.Requests.{asked_by, request_of}
-use Rattle.book_model.specs.lines.Outcomes.{LineOutcome, IsRightFor, AreRight, HasResult, is_result}
+use Rattle.book_model.specs.lines.Outcomes.{LineOutcome, resolved, IsRightFor, AreRight, HasResult, is_result}
 use Rattle.jobs_core.specs.declared.outcome.Outcome.{Outcome}
-use Rattle.jobs_core.specs.declared.outcome.Outcome.TheVariants.{Found}
 use Rattle.jobs_core.specs.Outcomes.{line_outcome}
 
 -- there are as many outcomes as lines
@@ -53,7 +52,7 @@ unfolding request_of
 three_words_asked line r h = three_where _ (words_of line) r h
 
 -- a line whose outcome is a result has three words
-pub three_words_found : (line : List ℕ) (o : Outcome) (x : Resolved) (facts : List (Fact × ℤ)) → o ≡ Found x facts → IsRightFor line (line_outcome o) → length (words_of line) ≡ 3
+pub three_words_found : (line : List ℕ) (o : LineOutcome) (x : Resolved) (facts : List (Fact × ℤ)) → o ≡ resolved x facts → IsRightFor line o → length (words_of line) ≡ 3
 three_words_found line o x facts e h = let k : HasResult line x facts = rw e at h in three_words_asked line k.request k.asked
 
 -- all are results, by either list of outcomes

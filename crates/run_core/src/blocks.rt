@@ -1,16 +1,17 @@
 //! What is printed for one line of input: its new facts, and then the line.
-ghost use Rattle.std.specs.Prelude.{◌≡◌, ◌≤◌, ◌+◌, ◌^◌, ◌∷◌, [], ℕ, length, IfOk, OnOk};
+ghost use Rattle.std.specs.Prelude.{◌≡◌, ◌≤◌, ◌+◌, ◌^◌, ◌∷◌, [], ℕ, List, length, IfOk, OnOk};
+ghost use Rattle.book_model.specs.declared.fact.Fact.{Fact as FactOf};
 ghost use Rattle.book_model.specs.lines.Lines.{words_of};
 ghost use Rattle.book_model.specs.lines.Outcomes.{IsRightFor, resolved as resolved_outcome};
 ghost use Rattle.book_model.specs.lines.Text as model;
 ghost use Rattle.cert_text.specs.Text as cert;
-ghost use Rattle.jobs_core.specs.Outcomes.{line_outcome};
+ghost use Rattle.jobs_core.specs.Outcomes.{halt_outcome, line_outcome};
 
 use crate::numbering::{count_of, number_after, number_facts};
 use book_model::{Fact, Resolved};
 use cert_text::{Block, CertLine, Echo, Numbers, date_word, result_word};
 use indexmap::IndexSet;
-use jobs_core::Outcome;
+use jobs_core::{Halt, Outcome};
 use line_core::three_words;
 use oracle_core::FactValues;
 use std::alloc::{AllocError, Global};
@@ -94,6 +95,18 @@ fn found_block(
     })
 }
 
+/// The block of a line without a result, which prints no facts.
+fn halted_block(alloc: Global, number: u32, halt: &Halt) -> Block
+    ensures text { (seen : List FactOf) → (line : List ℕ) → cert.block_text result
+        ≡ model.block_text seen number line (halt_outcome halt.now) }
+    ensures few { result.first + length result.facts ≤ 2 ^ 32 }
+{
+    match *halt {
+        Halt::Undecided(fact, at) => bare_block(alloc, number, CertLine::Undecided { fact, at }),
+        Halt::Void(fact, site) => bare_block(alloc, number, CertLine::Void { fact, site }),
+    }
+}
+
 /// The block of a line: its new facts, which are added to those that were seen, and the line. The error comes where
 /// memory runs out, or where a fact's number has more than 32 bits.
 pub(crate) fn block_of(
@@ -115,23 +128,10 @@ pub(crate) fn block_of(
             let line = CertLine::Refused(rule.number());
             Ok(bare_block(alloc, number, line))
         }
-        Outcome::Found(resolved, facts) => {
-            found_block(alloc, seen, number, line, *resolved, facts)
+        Outcome::Found(finding) => {
+            found_block(alloc, seen, number, line, finding.resolved, &finding.facts)
         }
-        Outcome::Undecided(fact, at) => {
-            let line = CertLine::Undecided {
-                fact: *fact,
-                at: *at,
-            };
-            Ok(bare_block(alloc, number, line))
-        }
-        Outcome::Void(fact, site) => {
-            let line = CertLine::Void {
-                fact: *fact,
-                site: *site,
-            };
-            Ok(bare_block(alloc, number, line))
-        }
+        Outcome::Halted(halt) => Ok(halted_block(alloc, number, halt)),
     }
 }
 

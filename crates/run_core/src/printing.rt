@@ -4,7 +4,7 @@ ghost use Rattle.std.specs.Io.KnownBytes.{Keeps};
 ghost use Rattle.std.specs.List.{list_all};
 ghost use Rattle.almanac_lines.specs.Texts as texts;
 ghost use Rattle.book_model.specs.lines.Lines.{lines_of};
-ghost use Rattle.book_model.specs.lines.Outcomes.{is_result};
+ghost use Rattle.book_model.specs.lines.Outcomes.{is_result, is_shown as shown_in};
 ghost use Rattle.byte_streams.specs.Stream.{Rose};
 ghost use Rattle.jobs_core.specs.Outcomes.{line_outcome};
 ghost use Rattle.run_core.specs.Run.{Printed, CutShort};
@@ -22,11 +22,21 @@ use shelf_core::Shelf;
 use std::alloc::{AllocError, Global};
 use std::thread::Threads;
 
+/// Whether a line comes to what it asks for, and isn't refused by computing.
+pub(crate) fn is_shown(resolved: &Resolved) -> bool
+    ensures shown { result ≡ shown_in resolved.now }
+{
+    matches!(resolved, Resolved::Shown(_, _))
+}
+
 /// Whether an outcome is a result.
 pub(crate) fn is_found(outcome: &Outcome) -> bool
     ensures { result ≡ is_result (line_outcome outcome.now) }
 {
-    matches!(outcome, Outcome::Found(Resolved::Shown(_, _), _))
+    match outcome {
+        Outcome::Found(finding) => is_shown(&finding.resolved),
+        Outcome::Refused(_) | Outcome::Halted(_) => false,
+    }
 }
 
 /// Whether all outcomes are results.

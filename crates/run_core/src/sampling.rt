@@ -1,22 +1,22 @@
 //! Writes what the lines of a sample come to, in one line of counts.
-ghost use Rattle.std.specs.Prelude.{◌≡◌, ◌≤◌, ◌<◌, ◌^◌, ◌⊎◌, if◌then◌else◌, [], length, map, filter, IfOk, OnOk, IsErrOf};
+ghost use Rattle.std.specs.Prelude.{◌≡◌, ◌≤◌, ◌<◌, ◌^◌, ◌⊎◌, if◌then◌else◌, not, [], length, map, filter, IfOk, OnOk, IsErrOf};
 ghost use Rattle.std.specs.Io.KnownBytes.{Keeps};
 ghost use Rattle.book_model.specs.lines.Outcomes.{is_result};
 ghost use Rattle.book_model.specs.lines.Text.{with_fact, with_facts, seen_after};
 ghost use Rattle.byte_streams.specs.Stream.{HasCause, Rose, Writes, WritesFront};
 ghost use Rattle.cert_text.specs.Laws.{is_undecided};
-ghost use Rattle.jobs_core.specs.Outcomes.{line_outcome};
+ghost use Rattle.jobs_core.specs.Outcomes.{halt_outcome, line_outcome};
 ghost use Rattle.run_core.specs.Sampling as spec;
 
 use crate::outcome::outcomes_of;
-use crate::printing::{all_found, bytes_of, is_found};
+use crate::printing::{all_found, bytes_of, is_found, is_shown};
 use crate::text::WriteStop;
 use almanac_lines::sample_lines;
-use book_model::{Fact, Resolved};
+use book_model::Fact;
 use byte_streams::{Failed, Gathered, Sink, decimal, write_all, write_parts};
 use indexmap::IndexSet;
 use itoa::Buffer;
-use jobs_core::{Gate, Outcome};
+use jobs_core::{Gate, Halt, Outcome};
 use oracle_core::{Evaluator, FactValues};
 use rayon::prelude::*;
 use shelf_core::Shelf;
@@ -38,9 +38,36 @@ fn is_refused(outcome: &Outcome) -> bool
 {
     match outcome {
         Outcome::Refused(_) => true,
-        Outcome::Found(Resolved::Shown(_, _), _) => false,
-        Outcome::Found(_, _) => true,
-        Outcome::Undecided(_, _) | Outcome::Void(_, _) => false,
+        Outcome::Found(finding) => !is_shown(&finding.resolved),
+        Outcome::Halted(_) => false,
+    }
+}
+
+/// Whether a line without a result has an open test, and not a void.
+fn is_open(halt: &Halt) -> bool
+    ensures open { result ≡ is_undecided (halt_outcome halt.now) }
+    ensures void { not result ≡ spec.is_void (halt_outcome halt.now) }
+{
+    matches!(halt, Halt::Undecided(_, _))
+}
+
+/// Whether an outcome is an open test.
+fn is_undecided_line(outcome: &Outcome) -> bool
+    ensures undecided { result ≡ is_undecided (line_outcome outcome.now) }
+{
+    match outcome {
+        Outcome::Halted(halt) => is_open(halt),
+        Outcome::Refused(_) | Outcome::Found(_) => false,
+    }
+}
+
+/// Whether an outcome is a void.
+fn is_void_line(outcome: &Outcome) -> bool
+    ensures void { result ≡ spec.is_void (line_outcome outcome.now) }
+{
+    match outcome {
+        Outcome::Halted(halt) => !is_open(halt),
+        Outcome::Refused(_) | Outcome::Found(_) => false,
     }
 }
 
@@ -50,8 +77,8 @@ fn is_of(kind: Kind, outcome: &Outcome) -> bool
 {
     match kind {
         Kind::Decided => is_found(outcome),
-        Kind::Undecided => matches!(outcome, Outcome::Undecided(_, _)),
-        Kind::Void => matches!(outcome, Outcome::Void(_, _)),
+        Kind::Undecided => is_undecided_line(outcome),
+        Kind::Void => is_void_line(outcome),
         Kind::Refused => is_refused(outcome),
     }
 }
@@ -126,8 +153,8 @@ fn see_line(seen: &mut IndexSet<Fact>, outcome: &Outcome) -> Result<(), AllocErr
     ensures seen { OnOk result (seen.new.keys ≡ seen_after seen.old.keys (line_outcome outcome.now)) }
 {
     match outcome {
-        Outcome::Found(_, facts) => see_facts(seen, facts),
-        Outcome::Refused(_) | Outcome::Undecided(_, _) | Outcome::Void(_, _) => Ok(()),
+        Outcome::Found(finding) => see_facts(seen, &finding.facts),
+        Outcome::Refused(_) | Outcome::Halted(_) => Ok(()),
     }
 }
 

@@ -1,13 +1,14 @@
 use Rattle.std.proofs.Common.{refl}
-use Rattle.std.proofs.lemmas.Result.{IfOk-weaker}
-use Rattle.jobs_core.specs.Outcomes.{line_outcome}
 use Rattle.jobs_core.proofs.AnswerLemmas.{right_result, right_stop}
+use Rattle.jobs_core.specs.Outcomes.{halt_outcome}
 use Rattle.jobs_core.proofs.outcome.outcome_of_request.Goals as goal
 
-pub returns-in-Ok : goal.returns-in-Ok
-returns-in-Ok g c = record { right = rw c.finish.ensures.pairs (right_result c.args.request.now c.in-Ok.resolved _ _ _ c.finish.ensures.stand (rw c.new-asking.ensures.empty refl) refl c.in-Ok.ensures.comes) }
+pub returns-in_ok-new-in-Ok : goal.returns-in_ok-new-in-Ok
+returns-in_ok-new-in-Ok g c =
+    let right = right_result c.args.request.now c.in-Ok.resolved _ _ _ c.finish-facts.ensures.stand (rw c.new-asking.ensures.empty refl) refl c.in-Ok.ensures.comes in
+    record { right = rw c.in_ok-new-in-Ok.ensures.ok (rw c.finish-facts.ensures.pairs right) }
 
-pub returns-in-Err : goal.returns-in-Err
-returns-in-Err g c = record {
-  right = IfOk-weaker c.outcome_at.result _ _ (λ o h. right_stop c.args.request.now c.in-Err.stop _ _ (line_outcome o) c.in-Err.ensures.comes h) c.outcome_at.ensures.stopped;
-}
+pub returns-in_ok-new-in-Err : goal.returns-in_ok-new-in-Err
+returns-in_ok-new-in-Err g c =
+    let right = right_stop c.args.request.now c.in-Err.stop _ _ (halt_outcome c.in_ok-halt_at-in-Err.field-0) c.in-Err.ensures.comes c.in_ok-halt_at-in-Err.ensures.stopped in
+    record { right = rw c.in_ok-new-in-Err.ensures.ok right }
