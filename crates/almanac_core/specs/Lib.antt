@@ -1,2 +1,3 @@
 pub mod Almanac
 pub mod Sample
+pub mod Years

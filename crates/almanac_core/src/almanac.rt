@@ -5,6 +5,7 @@ ghost use Rattle.book_model.specs.numbers.Fractions.{fraction_of};
 ghost use Rattle.book_model.specs.calendars.Spans.{ratio, spans_of as spans_in};
 ghost use Rattle.book_model.specs.declared.calendar_tables.TheConstants.{SYNODIC_MONTH as SYNODIC};
 ghost use Rattle.almanac_core.specs.Almanac as spec;
+ghost use Rattle.almanac_core.specs.Years.{IsAlmanacYear};
 
 use crate::numbers::{date_of_five, date_of_three, three_fields};
 use book_model::{FromWord, ISLAMIC_EPOCH, Request, SYNODIC_MONTH, ToWord};
@@ -14,8 +15,7 @@ use civil_core::to_fixed;
 /// The line of the day of the Chinese year that begins in a Gregorian year.
 #[tactic(auto, unfolding(crate::specs::Almanac::chinese_day_of))]
 fn chinese_day(year: u32, month: u32, day: u32) -> Request
-    requires from { 1803 ≤ year }
-    requires to { year ≤ 2047 }
+    requires year { IsAlmanacYear year }
     requires month { month < 13 }
     requires day { day < 31 }
     ensures request { result ≡ spec.chinese_day_of year month day }
@@ -34,8 +34,7 @@ fn chinese_day(year: u32, month: u32, day: u32) -> Request
 /// The line of the first day of the Bahá'í year that begins in a Gregorian year.
 #[tactic(auto, unfolding(crate::specs::Almanac::bahai_new_year_of))]
 fn bahai_new_year(year: u32) -> Request
-    requires from { 1803 ≤ year }
-    requires to { year ≤ 2047 }
+    requires year { IsAlmanacYear year }
     ensures request { result ≡ spec.bahai_new_year_of year }
 {
     let passed = year - 1483;
@@ -53,8 +52,7 @@ fn bahai_new_year(year: u32) -> Request
 /// Persian, the Bahá'í, the Hindu solar and the Hindu lunar new year.
 #[tactic(auto, unfolding(crate::specs::Almanac::festival_of))]
 fn festival(year: u32, index: u32) -> Request
-    requires from { 1803 ≤ year }
-    requires to { year ≤ 2047 }
+    requires year { IsAlmanacYear year }
     ensures request { result ≡ spec.festival_of year index }
 {
     match index {
@@ -70,8 +68,7 @@ fn festival(year: u32, index: u32) -> Request
 
 /// The first of January of a year (R.D.).
 fn january(year: u32) -> i64
-    requires from { 1803 ≤ year }
-    requires to { year ≤ 2047 }
+    requires year { IsAlmanacYear year }
     ensures day { result ≡ fixed_of year 1 1 }
 {
     to_fixed(year as i32, 1, 1).unwrap()
@@ -79,8 +76,7 @@ fn january(year: u32) -> i64
 
 /// The same, and from where to where it lies.
 fn first_of_january(year: u32) -> i64
-    requires from { 1803 ≤ year }
-    requires to { year ≤ 2047 }
+    requires year { IsAlmanacYear year }
     ensures day { result ≡ fixed_of year 1 1 }
     ensures near_from { pos 600000 ≤ℤ result }
     ensures near_to { result ≤ℤ pos 800000 }
@@ -102,8 +98,7 @@ fn months_in(days: i64) -> i64
 /// The mean synodic months from the Islamic epoch to the beginning of a year, rounded down.
 #[tactic(auto, unfolding(crate::specs::Almanac::months_to))]
 fn months_to(year: u32) -> u32
-    requires from { 1803 ≤ year }
-    requires to { year ≤ 2047 }
+    requires year { IsAlmanacYear year }
     ensures months { result ≡ spec.months_to year }
     ensures few { result ≤ 21000 }
 {
@@ -176,8 +171,7 @@ fn month_sunset(year: u32, month: u32) -> Request
 /// from 93 sunset at Cairo on the first of each month. It takes no memory.
 #[tactic(auto, unfolding(crate::specs::Almanac::almanac_line_of))]
 pub fn almanac_line(year: u32, index: u32) -> Request
-    requires year_from { 1803 ≤ year }
-    requires year_to { year ≤ 2047 }
+    requires year { IsAlmanacYear year }
     requires index_from { 1 ≤ index }
     requires index_to { index ≤ 104 }
     ensures request { result ≡ spec.almanac_line_of year index }

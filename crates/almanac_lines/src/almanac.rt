@@ -1,5 +1,6 @@
 //! The lines of an almanac.
-ghost use Rattle.std.specs.Prelude.{◌≡◌, ◌≤◌, IfOk};
+ghost use Rattle.std.specs.Prelude.{◌≡◌, IfOk};
+ghost use Rattle.almanac_core.specs.Years.{IsAlmanacYear};
 ghost use Rattle.almanac_lines.specs.Texts as spec;
 
 use crate::line::line_of;
@@ -12,8 +13,7 @@ const LINES: u32 = 104;
 
 /// The 104 lines of the almanac of a Gregorian year, 1803 to 2047. The error comes where memory runs out.
 pub fn almanac_lines(alloc: Global, year: u32) -> Result<Vec<Word>, AllocError>
-    requires from { 1803 ≤ year }
-    requires to { year ≤ 2047 }
+    requires year { IsAlmanacYear year }
     ensures lines { IfOk result (λ lines. lines.items ≡ spec.almanac_lines year) }
 {
     let mut lines = Vec::new(alloc);

@@ -1,8 +1,6 @@
 //! The text of one line.
-ghost use Rattle.std.specs.Prelude.{◌≡◌, codes, OnOk, IfOk};
-ghost use Rattle.std.specs.Io.KnownBytes.{Appends};
+ghost use Rattle.std.specs.Prelude.{◌≡◌, IfOk};
 ghost use Rattle.almanac_lines.specs.Texts as spec;
-ghost use Rattle.byte_streams.specs.Stream.{HasCause, AppendsFront};
 ghost use Rattle.book_model.specs.lines.Text.{date_text};
 ghost use Rattle.book_model.specs.lines.Words.{calendar_of};
 

@@ -2,6 +2,7 @@
 use Rattle.std.specs.Prelude.{ℤ, pos, negsuc, ◌≤ℤ◌}
 use Rattle.book_model.specs.declared.bahai.BahaiMonth.{BahaiMonth}
 use Rattle.book_model.specs.declared.bahai.MonthStart.{MonthStart}
+use Rattle.book_model.specs.sky.Facts.{IsFactDay}
 
 -- the years before one that a value of a fact begins, or so
 abbrev pub IsNearYear : ℤ → Type 0
@@ -11,13 +12,9 @@ IsNearYear passed = (negsuc 39999 ≤ℤ passed) × (passed ≤ℤ pos 40000)
 abbrev pub IsNearNumber : ℤ → Type 0
 IsNearNumber number = (negsuc 999999 ≤ℤ number) × (number ≤ℤ pos 1000000)
 
--- a day to which values of facts lead
-abbrev pub IsNearDay : ℤ → Type 0
-IsNearDay day = (negsuc 39999999 ≤ℤ day) × (day ≤ℤ pos 40000000)
-
 -- a month by values of facts
 abbrev pub IsNearMonth : BahaiMonth → Type 0
-IsNearMonth month = IsNearNumber month.number × IsNearDay month.first_day
+IsNearMonth month = IsNearNumber month.number × IsFactDay month.first_day
 
 -- from where a month of a year is counted that is answered
 abbrev pub IsMonthStart : MonthStart → Type 0

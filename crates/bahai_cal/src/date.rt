@@ -1,12 +1,13 @@
 //! Bahá'í dates, and the facts that they are found by. Days are R.D.
 ghost use Rattle.std.specs.Prelude.{◌≡◌, ◌≤◌, ◌≤ℤ◌, ◌+ℤ◌, ◌-ℤ◌, ◌*ℤ◌, pos, negsuc};
 ghost use Rattle.book_model.specs.calendars.Bahai as spec;
-ghost use Rattle.book_model.specs.sky.Facts.{IsFactValue};
+ghost use Rattle.book_model.specs.sky.Facts.{IsFactDay, IsFactValue};
 ghost use Rattle.book_model.specs.calendars.Inquiries.{to_32_bits as to_32_bits_of};
 ghost use Rattle.book_model.specs.calendars.Spans.{quotient_down, modulo as modulo_of};
 ghost use Rattle.bahai_cal.specs.Dates.{fields_of_date};
-ghost use Rattle.bahai_cal.specs.Years.{IsMonthStart, IsNearDay, IsNearMonth, IsNearYear};
-ghost use Rattle.oracle_core.specs.Inquiring.{Inquires, map_ok};
+ghost use Rattle.bahai_cal.specs.Years.{IsMonthStart, IsNearMonth, IsNearYear};
+ghost use Rattle.oracle_core.specs.Asking.{Asks, AsksAs};
+ghost use Rattle.calendar_math.specs.Days.{IsCalendarDay};
 
 use crate::months::{month_on, month_start};
 use crate::years::{next_year_fact, same_year_fact, year_fact_after, year_fact_on, years_before};
@@ -26,7 +27,7 @@ pub struct BahaiDate {
 }
 
 /// The major cycle, where so many years have passed.
-fn major_of(passed: i64) -> i32
+fn major_after(passed: i64) -> i32
     requires near { IsNearYear passed }
     ensures major { result ≡ to_32_bits_of (quotient_down passed 361 +ℤ pos 1) }
 {
@@ -60,9 +61,8 @@ fn year_after(passed: i64) -> u8
 
 /// The day of a month, by the day on which the month begins.
 fn day_of_month(day: i64, first_day: i64) -> i64
-    requires from { pos 0 ≤ℤ day }
-    requires to { day ≤ℤ pos 1000000 }
-    requires near { IsNearDay first_day }
+    requires day { IsCalendarDay day }
+    requires near { IsFactDay first_day }
     ensures day { result ≡ day -ℤ first_day +ℤ pos 1 }
 {
     day - first_day + 1
@@ -71,14 +71,13 @@ fn day_of_month(day: i64, first_day: i64) -> i64
 /// The date of a day of a month, where so many years have passed.
 #[tactic(auto, unfolding(book_model::specs::calendars::Bahai::bahai_fields))]
 fn date_in(day: i64, passed: i64, month: BahaiMonth) -> BahaiDate
-    requires from { pos 0 ≤ℤ day }
-    requires to { day ≤ℤ pos 1000000 }
+    requires day { IsCalendarDay day }
     requires near { IsNearYear passed }
     requires month_near { IsNearMonth month }
     ensures date { fields_of_date result ≡ spec.bahai_fields day passed month }
 {
     BahaiDate {
-        major: major_of(passed),
+        major: major_after(passed),
         cycle: cycle_after(passed),
         year: year_after(passed),
         month: to_8_bits(month.number),
@@ -88,8 +87,7 @@ fn date_in(day: i64, passed: i64, month: BahaiMonth) -> BahaiDate
 
 /// The date of a day by the first day that was asked of it, that of its year and that of the next.
 fn date_by(day: i64, first: i64, base: i64, next: i64) -> BahaiDate
-    requires from { pos 0 ≤ℤ day }
-    requires to { day ≤ℤ pos 1000000 }
+    requires day { IsCalendarDay day }
     requires first_value { IsFactValue first }
     requires base_value { IsFactValue base }
     requires next_value { IsFactValue next }
@@ -113,10 +111,8 @@ fn date_by(day: i64, first: i64, base: i64, next: i64) -> BahaiDate
 /// ```
 #[tactic(auto, using(oracle_core::proofs::Inquiring::asking), unfolding(book_model::specs::calendars::Bahai::bahai_on))]
 pub fn from_fixed<O: Oracle>(oracle: &mut O, day: i64) -> Result<BahaiDate, Stop>
-    requires from { pos 0 ≤ℤ day }
-    requires to { day ≤ℤ pos 1000000 }
-    ensures date { Inquires O.meaning (spec.bahai_on day) (O.state oracle.old) (O.state oracle.new)
-        (map_ok fields_of_date result) }
+    requires day { IsCalendarDay day }
+    ensures date { AsksAs fields_of_date O.Oracle (spec.bahai_on day) oracle.old oracle.new result }
 {
     let first = oracle.ask(year_fact_on(day))?;
     let next = oracle.ask(next_year_fact(first))?;
@@ -147,7 +143,7 @@ fn year_number(date: BahaiDate) -> i64
 }
 
 /// A day of a month, by the first day of the year from which the month is counted, and the days from that to the month.
-fn day_from(first: i64, days: i64, day: i64) -> i64
+fn day_by(first: i64, days: i64, day: i64) -> i64
     requires value { IsFactValue first }
     requires days_from { negsuc 18 ≤ℤ days }
     requires days_to { days ≤ℤ pos 342 }
@@ -164,11 +160,10 @@ fn day_counted_from<O: Oracle>(oracle: &mut O, start: MonthStart, day: i64) -> R
     requires near { IsMonthStart start }
     requires from_first_day { pos 1 ≤ℤ day }
     requires to_last_day { day ≤ℤ pos 19 }
-    ensures day { Inquires O.meaning (spec.day_counted_from start day) (O.state oracle.old)
-        (O.state oracle.new) result }
+    ensures day { Asks O.Oracle (spec.day_counted_from start day) oracle.old oracle.new result }
 {
     let first = oracle.ask(year_fact_after(start.passed))?;
-    Ok(day_from(first, start.days, day))
+    Ok(day_by(first, start.days, day))
 }
 
 /// The day (R.D.) of a date: that of its month and day, counted from the first day of its year, or, in the last month, back from
@@ -190,8 +185,8 @@ pub fn to_fixed<O: Oracle>(oracle: &mut O, date: BahaiDate) -> Result<i64, Stop>
     requires to_last_month { date.month ≤ 19 }
     requires from_first_day { 1 ≤ date.day }
     requires to_last_day { date.day ≤ 19 }
-    ensures day { Inquires O.meaning (spec.bahai_day date.major (pos date.cycle) (pos date.year)
-        (pos date.month) (pos date.day)) (O.state oracle.old) (O.state oracle.new) result }
+    ensures day { Asks O.Oracle (spec.bahai_day date.major (pos date.cycle) (pos date.year)
+        (pos date.month) (pos date.day)) oracle.old oracle.new result }
 {
     let start = month_start(year_number(date), i64::from(date.month));
     day_counted_from(oracle, start, i64::from(date.day))

@@ -5,6 +5,7 @@ ghost use Rattle.book_model.specs.calendars.Bahai as spec;
 ghost use Rattle.book_model.specs.calendars.Spans.{quotient_down};
 ghost use Rattle.book_model.specs.sky.Facts.{IsFactValue};
 ghost use Rattle.bahai_cal.specs.Years.{IsMonthStart, IsNearMonth, IsNearNumber};
+ghost use Rattle.calendar_math.specs.Days.{IsCalendarDay};
 
 use book_model::{BahaiMonth, MonthStart};
 use calendar_math::quotient;
@@ -30,8 +31,7 @@ fn is_past_months(day: i64, base: i64) -> bool
 
 /// The number of the month of 19 days in which a day falls, by the first day that was asked of it.
 fn number_by_days(day: i64, first: i64) -> i64
-    requires from { pos 0 ≤ℤ day }
-    requires to { day ≤ℤ pos 1000000 }
+    requires day { IsCalendarDay day }
     requires value { IsFactValue first }
     ensures number { result ≡ quotient_down (day -ℤ first) 19 +ℤ pos 1 }
     ensures near { IsNearNumber result }
@@ -63,8 +63,7 @@ fn month_of_19_days(base: i64, number: i64) -> BahaiMonth
 /// The month of a day, by the first day that was asked of the day, that of its year and that of the next.
 #[tactic(auto, unfolding(book_model::specs::calendars::Bahai::bahai_month))]
 pub(crate) fn month_on(day: i64, first: i64, base: i64, next: i64) -> BahaiMonth
-    requires from { pos 0 ≤ℤ day }
-    requires to { day ≤ℤ pos 1000000 }
+    requires day { IsCalendarDay day }
     requires first_value { IsFactValue first }
     requires base_value { IsFactValue base }
     requires next_value { IsFactValue next }

@@ -1,7 +1,7 @@
 //! The years of the Bahá'í calendar since its epoch, and the facts of their first days. Days are R.D.
-ghost use Rattle.std.specs.Prelude.{◌≡◌, ◌≤◌, ◌≤ℤ◌, ◌+ℤ◌, pos, negsuc};
+ghost use Rattle.std.specs.Prelude.{◌≡◌, ◌≤ℤ◌, ◌+ℤ◌, pos, negsuc};
 ghost use Rattle.book_model.specs.calendars.Bahai as spec;
-ghost use Rattle.book_model.specs.sky.Facts.{IsFactValue};
+ghost use Rattle.book_model.specs.sky.Facts.{IsFactDay, IsFactValue};
 ghost use Rattle.bahai_cal.specs.Years.{IsNearYear};
 
 use book_model::{BAHAI_EPOCH, Fact, Kind, Place, TROPICAL_YEAR};
@@ -9,8 +9,7 @@ use calendar_math::{days_of, years_of_days};
 
 /// The fact of the first day of the Bahá'í year that a day falls in.
 pub(crate) fn year_fact_on(day: i64) -> Fact
-    requires low { negsuc 39999999 ≤ℤ day }
-    requires high { day ≤ℤ pos 40000000 }
+    requires day { IsFactDay day }
     ensures fact { result ≡ spec.bahai_fact day }
 {
     Fact::new(Kind::BahaiYear, Place::None, day).unwrap()
@@ -41,8 +40,7 @@ fn days_to_mid_year(passed: i64) -> i64
 fn mid_year_after(passed: i64) -> i64
     requires near { IsNearYear passed }
     ensures day { result ≡ spec.mid_year_after passed }
-    ensures low { negsuc 39999999 ≤ℤ result }
-    ensures high { result ≤ℤ pos 40000000 }
+    ensures near { IsFactDay result }
 {
     BAHAI_EPOCH + days_to_mid_year(passed)
 }
@@ -58,7 +56,8 @@ pub(crate) fn year_fact_after(passed: i64) -> Fact
 /// The fact of the first day of the year after the one that begins on a day.
 pub(crate) fn next_year_fact(first: i64) -> Fact
     requires value { IsFactValue first }
-    ensures fact { result ≡ spec.bahai_fact (spec.mid_year_after (spec.years_before first +ℤ pos 1)) }
+    ensures fact { result ≡ spec.bahai_fact
+        (spec.mid_year_after (spec.years_before first +ℤ pos 1)) }
 {
     year_fact_after(years_before(first) + 1)
 }

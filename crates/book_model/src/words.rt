@@ -149,8 +149,8 @@ impl ToWord {
     }
 
     /// What the word shows of a day.
-    pub fn shown(self) -> Shown
-        ensures shown { result ≡ shown_by self }
+    pub fn shows(self) -> Shown
+        ensures shows { result ≡ shown_by self }
     {
         TO_WORDS[self as usize].2
     }

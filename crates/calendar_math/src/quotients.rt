@@ -1,6 +1,7 @@
 //! Quotients of whole numbers, rounded down and up.
 ghost use Rattle.std.specs.Prelude.{◌≡◌, ◌<◌, pos, negsuc, ◌≤ℤ◌, ◌<ℤ◌, ◌-ℤ◌, ◌*ℤ◌};
 ghost use Rattle.book_model.specs.calendars.Spans.{quotient_down, quotient_up as quotient_up_of, amod as amod_of, modulo as modulo_of};
+ghost use Rattle.calendar_math.specs.Days.{IsCount};
 
 /// The greatest whole number that isn't above the quotient.
 fn wide_quotient(number: i128, divisor: u64) -> i128
@@ -23,8 +24,7 @@ pub(crate) fn quotient_within(number: i128, divisor: u64) -> i64
 /// The least whole number that isn't below the quotient.
 pub fn quotient_up(number: i64, divisor: u8) -> i64
     requires positive { 0 < divisor }
-    requires from { negsuc 49999999 ≤ℤ number }
-    requires to { number ≤ℤ pos 50000000 }
+    requires number { IsCount number }
     ensures quotient { result ≡ quotient_up_of number divisor }
 {
     -(-number).div_euclid(i64::from(divisor))
@@ -33,8 +33,7 @@ pub fn quotient_up(number: i64, divisor: u8) -> i64
 /// The greatest whole number that isn't above the quotient.
 pub fn quotient(number: i64, divisor: u16) -> i64
     requires positive { 0 < divisor }
-    requires from { negsuc 49999999 ≤ℤ number }
-    requires to { number ≤ℤ pos 50000000 }
+    requires number { IsCount number }
     ensures quotient { result ≡ quotient_down number divisor }
 {
     number.div_euclid(i64::from(divisor))
@@ -44,8 +43,7 @@ pub fn quotient(number: i64, divisor: u16) -> i64
 fn left_below(number: i64, whole: i64, divisor: u16) -> i64
     requires from { pos 0 ≤ℤ (number -ℤ whole *ℤ pos divisor) }
     requires to { (number -ℤ whole *ℤ pos divisor) <ℤ pos divisor }
-    requires low { negsuc 49999999 ≤ℤ number }
-    requires high { number ≤ℤ pos 50000000 }
+    requires number { IsCount number }
     ensures left { result ≡ number -ℤ whole *ℤ pos divisor }
 {
     number - whole * i64::from(divisor)
@@ -54,8 +52,7 @@ fn left_below(number: i64, whole: i64, divisor: u16) -> i64
 /// What is left of a number by multiples of the divisor, from 0 to less than the divisor.
 pub fn modulo(number: i64, divisor: u16) -> i64
     requires positive { 0 < divisor }
-    requires from { negsuc 49999999 ≤ℤ number }
-    requires to { number ≤ℤ pos 50000000 }
+    requires number { IsCount number }
     ensures number { result ≡ modulo_of number divisor }
     ensures from { pos 0 ≤ℤ result }
     ensures to { result <ℤ pos divisor }
@@ -67,8 +64,7 @@ pub fn modulo(number: i64, divisor: u16) -> i64
 fn left_of(number: i64, whole: i64, divisor: u8) -> i64
     requires from { pos 1 ≤ℤ (number -ℤ whole *ℤ pos divisor) }
     requires to { (number -ℤ whole *ℤ pos divisor) ≤ℤ pos divisor }
-    requires low { negsuc 49999999 ≤ℤ number }
-    requires high { number ≤ℤ pos 50000000 }
+    requires number { IsCount number }
     ensures left { result ≡ number -ℤ whole *ℤ pos divisor }
 {
     number - whole * i64::from(divisor)
@@ -78,8 +74,7 @@ fn left_of(number: i64, whole: i64, divisor: u8) -> i64
 /// divisor's size come before the group in which the number falls, where numbers and groups count from 1.
 pub fn quotient_before(number: i64, divisor: u8) -> i64
     requires positive { 0 < divisor }
-    requires from { negsuc 49999999 ≤ℤ number }
-    requires to { number ≤ℤ pos 50000000 }
+    requires number { IsCount number }
     ensures quotient { result ≡ quotient_down (number -ℤ pos 1) divisor }
 {
     (number - 1).div_euclid(i64::from(divisor))
@@ -88,8 +83,7 @@ pub fn quotient_before(number: i64, divisor: u8) -> i64
 /// The number from 1 to the divisor that differs from this one by a multiple of it.
 pub fn amod(number: i64, divisor: u8) -> i64
     requires positive { 0 < divisor }
-    requires from { negsuc 49999999 ≤ℤ number }
-    requires to { number ≤ℤ pos 50000000 }
+    requires number { IsCount number }
     ensures number { result ≡ amod_of number divisor }
     ensures from { pos 1 ≤ℤ result }
     ensures to { result ≤ℤ pos divisor }

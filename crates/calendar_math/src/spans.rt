@@ -2,15 +2,14 @@
 ghost use Rattle.std.specs.Prelude.{◌≡◌, ◌<◌, ◌≤◌, ◌^◌, pos, negsuc, ◌≤ℤ◌, ◌*ℤ◌};
 ghost use Rattle.book_model.specs.numbers.Fractions.{fraction_of};
 ghost use Rattle.book_model.specs.calendars.Spans.{ratio, days_of as days_of_spans, spans_of as spans_of_days, days_of_years as days_of_tropical_years, months_of_days as synodic_months_of, years_of_days as tropical_years_of};
+ghost use Rattle.calendar_math.specs.Days.{IsCount, IsSpan, IsSpanCount};
 
 use crate::quotients::quotient_within;
 use book_model::{Frac, SYNODIC_MONTH, TROPICAL_YEAR};
 
 /// The numerator of a span.
 fn parts_of(span: Frac) -> u64
-    requires positive { 0 < span.den }
-    requires at_least_a_day { pos span.den ≤ℤ span.num }
-    requires few_parts { span.num ≤ℤ pos (2 ^ 35) }
+    requires span { IsSpan span }
     ensures parts { pos result ≡ span.num }
 {
     span.num() as u64
@@ -18,8 +17,7 @@ fn parts_of(span: Frac) -> u64
 
 /// A count times a number of parts.
 fn product(count: i64, parts: u64) -> i128
-    requires from { negsuc 99999999 ≤ℤ count }
-    requires to { count ≤ℤ pos 100000000 }
+    requires count { IsSpanCount count }
     requires few_parts { parts ≤ 2 ^ 60 }
     ensures product { result ≡ count *ℤ pos parts }
     ensures low { (negsuc 99999999 *ℤ pos parts) ≤ℤ result }
@@ -30,12 +28,9 @@ fn product(count: i64, parts: u64) -> i128
 
 /// The whole days of a count of spans, rounded down. The count is `num / den`.
 pub fn days_of(span: Frac, num: i64, den: u16) -> i64
-    requires positive { 0 < span.den }
-    requires at_least_a_day { pos span.den ≤ℤ span.num }
+    requires span { IsSpan span }
     requires at_most_1000_days { span.num ≤ℤ (pos 1000 *ℤ pos span.den) }
-    requires few_parts { span.num ≤ℤ pos (2 ^ 35) }
-    requires from { negsuc 99999999 ≤ℤ num }
-    requires to { num ≤ℤ pos 100000000 }
+    requires num { IsSpanCount num }
     requires over { 0 < den }
     ensures days { result ≡ days_of_spans (fraction_of span) (ratio num den) }
 {
@@ -45,13 +40,9 @@ pub fn days_of(span: Frac, num: i64, den: u16) -> i64
 /// How many spans so many days are, and `num / den` more, rounded down. With a half more it is the number of spans that is
 /// nearest, the greater of two.
 pub fn spans_of(span: Frac, days: i64, num: i64, den: u16) -> i64
-    requires positive { 0 < span.den }
-    requires at_least_a_day { pos span.den ≤ℤ span.num }
-    requires few_parts { span.num ≤ℤ pos (2 ^ 35) }
-    requires from_day { negsuc 99999999 ≤ℤ days }
-    requires to_day { days ≤ℤ pos 100000000 }
-    requires from { negsuc 99999999 ≤ℤ num }
-    requires to { num ≤ℤ pos 100000000 }
+    requires span { IsSpan span }
+    requires days { IsSpanCount days }
+    requires num { IsSpanCount num }
     requires over { 0 < den }
     ensures spans { result ≡ spans_of_days (fraction_of span) days (ratio num den) }
 {
@@ -63,8 +54,7 @@ pub fn spans_of(span: Frac, days: i64, num: i64, den: u16) -> i64
 
 /// The whole days of so many mean tropical years, rounded down.
 pub fn days_of_years(years: i64) -> i64
-    requires from { negsuc 49999999 ≤ℤ years }
-    requires to { years ≤ℤ pos 50000000 }
+    requires years { IsCount years }
     ensures days { result ≡ days_of_tropical_years years }
 {
     days_of(TROPICAL_YEAR, years, 1)
@@ -72,8 +62,7 @@ pub fn days_of_years(years: i64) -> i64
 
 /// The number of mean synodic months that is nearest to so many days, the greater of two.
 pub fn months_of_days(days: i64) -> i64
-    requires from { negsuc 49999999 ≤ℤ days }
-    requires to { days ≤ℤ pos 50000000 }
+    requires days { IsCount days }
     ensures months { result ≡ synodic_months_of days }
 {
     spans_of(SYNODIC_MONTH, days, 1, 2)
@@ -81,8 +70,7 @@ pub fn months_of_days(days: i64) -> i64
 
 /// The number of mean tropical years that is nearest to so many days, the greater of two.
 pub fn years_of_days(days: i64) -> i64
-    requires from { negsuc 49999999 ≤ℤ days }
-    requires to { days ≤ℤ pos 50000000 }
+    requires days { IsCount days }
     ensures years { result ≡ tropical_years_of days }
 {
     spans_of(TROPICAL_YEAR, days, 1, 2)

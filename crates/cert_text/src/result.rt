@@ -155,7 +155,7 @@ fn write_shown<K: Sink>(sink: &mut K, to: ToWord, fields: &Fields) -> Result<(),
     ensures err { WritesFront K.written sink.old sink.new (spec.shown_as to fields.now) result }
     ensures cause { HasCause (K.faults sink.old) (K.faults sink.new) result }
 {
-    match to.shown() {
+    match to.shows() {
         Shown::Date(calendar) => write_date(sink, calendar, fields),
         Shown::Value(_, _) => write_value(sink, fields),
     }

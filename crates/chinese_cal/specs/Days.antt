@@ -15,3 +15,7 @@ IsNearSui sui = IsFactValue sui.first_month × IsFactValue sui.next_solstice
 -- a month that begins on a value of a fact
 abbrev pub IsNearMonth : ChineseMonth → Type 0
 IsNearMonth month = IsFactValue month.first_day × (pos 1 ≤ℤ month.number) × (month.number ≤ℤ pos 12)
+
+-- years since the epoch, by values of facts
+abbrev pub AreNearYears : ℤ → Type 0
+AreNearYears years = (negsuc 99999 ≤ℤ years) × (years ≤ℤ pos 100000)

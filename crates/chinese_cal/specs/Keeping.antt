@@ -5,6 +5,7 @@ use Rattle.book_model.specs.declared.fact.Fact.{Fact}
 use Rattle.book_model.specs.sky.Facts.{IsFactValue}
 use Rattle.book_model.specs.calendars.Inquiries.{fact_eq}
 use Rattle.chinese_cal.specs.declared.kept.Kept.{Kept}
+use Rattle.oracle_core.specs.declared.oracle.Oracle.{Ghosts}
 use Rattle.oracle_core.specs.Inquiring.{Meaning, State}
 
 -- the value is known of the fact, and the fact is among those asked
@@ -19,9 +20,9 @@ AllKept m s [] = Unit {0}
 AllKept m s (None ∷ es) = AllKept m s es
 AllKept m s (Some e ∷ es) = IsKept m s e.0 e.1 × AllKept m s es
 
--- so it is of all that is kept
-abbrev pub Keeps : {Known : Type 0} → Meaning Known → State Known → Kept → Type 0
-Keeps m s kept = AllKept m s kept.places
+-- so it is of all that is kept beside an oracle
+abbrev pub Keeps : {O : Type 0} → Ghosts O → O → Kept → Type 0
+Keeps g oracle kept = AllKept g.meaning (g.state oracle) kept.places
 
 -- the places hold nothing
 abbrev pub AreEmpty : List (Option (Fact × ℤ)) → Type 0

@@ -3,7 +3,7 @@ ghost use Rattle.std.specs.Prelude.{IfOk};
 ghost use Rattle.book_model.specs.calendars.Inquiries.{ask_once};
 ghost use Rattle.book_model.specs.sky.Facts.{IsFactValue};
 ghost use Rattle.chinese_cal.specs.Keeping.{Keeps};
-ghost use Rattle.oracle_core.specs.Inquiring.{Inquires};
+ghost use Rattle.oracle_core.specs.Asking.{Asks};
 
 use crate::kept::Kept;
 use book_model::Fact;
@@ -12,9 +12,9 @@ use oracle_core::{Oracle, Stop};
 /// The value of a fact: the kept one, or else the oracle's, which is then kept. Where there is no room to keep it, the oracle
 /// is asked each time. It stops where the oracle stops.
 pub(crate) fn ask_kept<O: Oracle>(oracle: &mut O, kept: &mut Kept, fact: Fact) -> Result<i64, Stop>
-    requires kept { Keeps O.meaning (O.state oracle.old) kept.old }
-    ensures asks { Inquires O.meaning (ask_once fact) (O.state oracle.old) (O.state oracle.new) result }
-    ensures kept { Keeps O.meaning (O.state oracle.new) kept.new }
+    requires kept { Keeps O.Oracle oracle.old kept.old }
+    ensures asks { Asks O.Oracle (ask_once fact) oracle.old oracle.new result }
+    ensures kept { Keeps O.Oracle oracle.new kept.new }
     ensures value { IfOk result IsFactValue }
 {
     if let Some(value) = kept.find(fact) {

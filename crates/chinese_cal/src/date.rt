@@ -4,9 +4,9 @@ ghost use Rattle.book_model.specs.calendars.Chinese.{elapsed_years as years_elap
 ghost use Rattle.book_model.specs.calendars.Inquiries.{to_32_bits as to_32_bits_of, to_8_bits as to_8_bits_of};
 ghost use Rattle.book_model.specs.calendars.Spans.{quotient_down, amod as amod_of};
 ghost use Rattle.chinese_cal.specs.Dates.{fields_of_date};
-ghost use Rattle.chinese_cal.specs.Days.{IsNearDay, IsNearMonth};
+ghost use Rattle.chinese_cal.specs.Days.{AreNearYears, IsNearDay, IsNearMonth};
 ghost use Rattle.chinese_cal.specs.Keeping.{Keeps};
-ghost use Rattle.oracle_core.specs.Inquiring.{Inquires, map_ok};
+ghost use Rattle.oracle_core.specs.Asking.{AsksAs};
 
 use crate::kept::Kept;
 use crate::months::chinese_month;
@@ -42,8 +42,7 @@ fn elapsed_years(day: i64, month: i64) -> i64
 
 /// The cycle of a year, which counts from 1.
 fn cycle_of(years: i64) -> i32
-    requires low { negsuc 99999 ≤ℤ years }
-    requires high { years ≤ℤ pos 100000 }
+    requires years { AreNearYears years }
     ensures cycle { result ≡ to_32_bits_of (quotient_down (years -ℤ pos 1) 60 +ℤ pos 1) }
 {
     to_32_bits(quotient_before(years, CYCLE) + 1)
@@ -51,8 +50,7 @@ fn cycle_of(years: i64) -> i32
 
 /// The number of a year in its cycle.
 fn year_in_cycle(years: i64) -> u8
-    requires low { negsuc 99999 ≤ℤ years }
-    requires high { years ≤ℤ pos 100000 }
+    requires years { AreNearYears years }
     ensures year { pos result ≡ amod_of years 60 }
 {
     amod(years, CYCLE) as u8
@@ -79,8 +77,7 @@ fn day_of_month(day: i64, first: i64) -> u8
 fn date_by(day: i64, month: ChineseMonth, years: i64) -> ChineseDate
     requires near { IsNearDay day }
     requires month_near { IsNearMonth month }
-    requires low { negsuc 99999 ≤ℤ years }
-    requires high { years ≤ℤ pos 100000 }
+    requires years { AreNearYears years }
     ensures date { fields_of_date result ≡ chinese_fields day month years }
 {
     ChineseDate {
@@ -99,11 +96,10 @@ pub(crate) fn date_beside<O: Oracle>(
     kept: &mut Kept,
     day: i64,
 ) -> Result<ChineseDate, Stop>
-    requires kept { Keeps O.meaning (O.state oracle.old) kept.old }
+    requires kept { Keeps O.Oracle oracle.old kept.old }
     requires near { IsNearDay day }
-    ensures date { Inquires O.meaning (chinese_on day) (O.state oracle.old) (O.state oracle.new)
-        (map_ok fields_of_date result) }
-    ensures kept { Keeps O.meaning (O.state oracle.new) kept.new }
+    ensures date { AsksAs fields_of_date O.Oracle (chinese_on day) oracle.old oracle.new result }
+    ensures kept { Keeps O.Oracle oracle.new kept.new }
 {
     let month = chinese_month(oracle, kept, day)?;
     let years = elapsed_years(day, month.number);
@@ -125,8 +121,7 @@ pub(crate) fn date_beside<O: Oracle>(
 #[tactic(auto, using(crate::proofs::KeptLemmas::empty_kept))]
 pub fn from_fixed<O: Oracle>(oracle: &mut O, day: i64) -> Result<ChineseDate, Stop>
     requires near { IsNearDay day }
-    ensures date { Inquires O.meaning (chinese_on day) (O.state oracle.old) (O.state oracle.new)
-        (map_ok fields_of_date result) }
+    ensures date { AsksAs fields_of_date O.Oracle (chinese_on day) oracle.old oracle.new result }
 {
     date_beside(oracle, &mut Kept::new(), day)
 }

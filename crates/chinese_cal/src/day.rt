@@ -5,7 +5,7 @@ ghost use Rattle.book_model.specs.calendars.Inquiries.{flag};
 ghost use Rattle.book_model.specs.sky.Facts.{IsFactValue};
 ghost use Rattle.chinese_cal.specs.Dates.{fields_of_date};
 ghost use Rattle.chinese_cal.specs.Keeping.{Keeps};
-ghost use Rattle.oracle_core.specs.Inquiring.{Inquires};
+ghost use Rattle.oracle_core.specs.Asking.{Asks};
 
 use crate::asks::ask_kept;
 use crate::date::{ChineseDate, date_beside};
@@ -41,14 +41,14 @@ fn month_beginning<O: Oracle>(
     month: u8,
     leap: bool,
 ) -> Result<i64, Stop>
-    requires kept { Keeps O.meaning (O.state oracle.old) kept.old }
+    requires kept { Keeps O.Oracle oracle.old kept.old }
     requires new_year_value { IsFactValue new_year }
     requires from { 1 ≤ month }
     requires to { month ≤ 12 }
-    ensures day { Inquires O.meaning (spec.month_beginning new_year (pos month) (flag leap))
-        (O.state oracle.old) (O.state oracle.new) result }
+    ensures day { Asks O.Oracle (spec.month_beginning new_year (pos month) (flag leap))
+        oracle.old oracle.new result }
     ensures value { IfOk result IsFactValue }
-    ensures kept { Keeps O.meaning (O.state oracle.new) kept.new }
+    ensures kept { Keeps O.Oracle oracle.new kept.new }
 {
     let first = ask_kept(oracle, kept, moon_of_month(new_year, month))?;
     let date = date_beside(oracle, kept, first)?;
@@ -60,7 +60,7 @@ fn month_beginning<O: Oracle>(
 }
 
 /// A day of the month that begins on a day.
-fn day_of_month(first: i64, day: u8) -> i64
+fn day_by(first: i64, day: u8) -> i64
     requires value { IsFactValue first }
     ensures day { result ≡ first +ℤ pos day -ℤ pos 1 }
 {
@@ -86,12 +86,12 @@ pub fn to_fixed<O: Oracle>(oracle: &mut O, date: ChineseDate) -> Result<i64, Sto
     requires to_last_year { date.year ≤ 60 }
     requires from_first_month { 1 ≤ date.month }
     requires to_last_month { date.month ≤ 12 }
-    ensures day { Inquires O.meaning (spec.chinese_day date.cycle (pos date.year) (pos date.month)
-        (flag date.leap) (pos date.day)) (O.state oracle.old) (O.state oracle.new) result }
+    ensures day { Asks O.Oracle (spec.chinese_day date.cycle (pos date.year) (pos date.month)
+        (flag date.leap) (pos date.day)) oracle.old oracle.new result }
 {
     let mut kept = Kept::new();
     let middle = mid_year_day(i64::from(date.cycle), i64::from(date.year));
     let new_year = new_year_by_day(oracle, &mut kept, middle)?;
     let first = month_beginning(oracle, &mut kept, new_year, date.month, date.leap)?;
-    Ok(day_of_month(first, date.day))
+    Ok(day_by(first, date.day))
 }

@@ -1,5 +1,5 @@
 //! The facts that the rules ask of the sky of Beijing. Days are R.D.
-ghost use Rattle.std.specs.Prelude.{◌≡◌, ◌+ℤ◌, ◌≤ℤ◌, pos, negsuc};
+ghost use Rattle.std.specs.Prelude.{◌≡◌, ◌+ℤ◌, pos};
 ghost use Rattle.book_model.specs.calendars.Chinese.{solstice_fact, moon_before_fact, moon_from_fact, major_fact};
 ghost use Rattle.chinese_cal.specs.Days.{IsNearDay};
 

@@ -3,7 +3,7 @@ ghost use Rattle.std.specs.Prelude.{◌≡◌, pos, IsTrue};
 ghost use Rattle.book_model.specs.calendars.Inquiries.{flag};
 ghost use Rattle.book_model.specs.calendars.Dates.{field as field_of, may_have, is_answered, is_in_range, day_named, date_on as date_of_day};
 ghost use Rattle.book_model.specs.declared.calendar.Calendar.TheVariants.{Chinese};
-ghost use Rattle.oracle_core.specs.Inquiring.{Inquires, map_ok};
+ghost use Rattle.oracle_core.specs.Asking.{Asks};
 ghost use Rattle.chinese_cal.specs.Dates.{fields_of_date};
 
 use crate::date::{ChineseDate, from_fixed};
@@ -51,8 +51,7 @@ fn date_of(fields: &Fields) -> ChineseDate
 pub fn named_day<O: Oracle>(oracle: &mut O, fields: &Fields) -> Result<i64, Stop>
     requires possible { IsTrue (may_have Chinese fields.now) }
     requires in_reach { IsTrue (is_answered Chinese fields.now) }
-    ensures day { Inquires O.meaning (day_named Chinese fields.now) (O.state oracle.old)
-        (O.state oracle.new) result }
+    ensures day { Asks O.Oracle (day_named Chinese fields.now) oracle.old oracle.new result }
 {
     to_fixed(oracle, date_of(fields))
 }
@@ -60,11 +59,7 @@ pub fn named_day<O: Oracle>(oracle: &mut O, fields: &Fields) -> Result<i64, Stop
 /// The fields of the date of a day (R.D.), from 1 January 1802 to 31 December 2048. It stops where the oracle stops.
 pub fn date_on<O: Oracle>(oracle: &mut O, day: i64) -> Result<Fields, Stop>
     requires in_range { IsTrue (is_in_range day) }
-    ensures date { Inquires O.meaning (date_of_day Chinese day) (O.state oracle.old)
-        (O.state oracle.new) result }
+    ensures date { Asks O.Oracle (date_of_day Chinese day) oracle.old oracle.new result }
 {
-    match from_fixed(oracle, day) {
-        Ok(date) => Ok(fields_of(date)),
-        Err(stop) => Err(stop),
-    }
+    Ok(fields_of(from_fixed(oracle, day)?))
 }

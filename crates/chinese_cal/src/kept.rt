@@ -50,7 +50,8 @@ impl Kept {
 
     /// Keeps a fact with its value, where there is room.
     pub(crate) fn keep(&mut self, fact: Fact, value: i64)
-        ensures kept { (self.new.places ≡ slice_set self.old.places self.old.count (Some (fact, value)))
+        ensures kept { (self.new.places ≡
+            slice_set self.old.places self.old.count (Some (fact, value)))
             ⊎ (self.new.places ≡ self.old.places) }
     {
         if self.count < MOST {

@@ -2,7 +2,7 @@
 ghost use Rattle.book_model.specs.calendars.Chinese as spec;
 ghost use Rattle.chinese_cal.specs.Days.{IsNearDay};
 ghost use Rattle.chinese_cal.specs.Keeping.{Keeps};
-ghost use Rattle.oracle_core.specs.Inquiring.{Inquires};
+ghost use Rattle.oracle_core.specs.Asking.{Asks};
 
 use crate::asks::ask_kept;
 use crate::facts::moon_before;
@@ -20,12 +20,12 @@ pub(crate) fn is_from_leap_month<O: Oracle>(
     first: i64,
     month: i64,
 ) -> Result<bool, Stop>
-    requires kept { Keeps O.meaning (O.state oracle.old) kept.old }
+    requires kept { Keeps O.Oracle oracle.old kept.old }
     requires first_near { IsNearDay first }
     requires near { IsNearDay month }
-    ensures from { Inquires O.meaning (spec.is_from_leap_month leap_sui first month)
-        (O.state oracle.old) (O.state oracle.new) result }
-    ensures kept { Keeps O.meaning (O.state oracle.new) kept.new }
+    ensures from { Asks O.Oracle (spec.is_from_leap_month leap_sui first month)
+        oracle.old oracle.new result }
+    ensures kept { Keeps O.Oracle oracle.new kept.new }
 {
     if leap_sui {
         prior(oracle, kept, first, month)
@@ -44,12 +44,12 @@ pub(crate) fn is_leap_month<O: Oracle>(
     first: i64,
     month: i64,
 ) -> Result<bool, Stop>
-    requires kept { Keeps O.meaning (O.state oracle.old) kept.old }
+    requires kept { Keeps O.Oracle oracle.old kept.old }
     requires first_near { IsNearDay first }
     requires near { IsNearDay month }
-    ensures leap { Inquires O.meaning (spec.is_leap_month leap_sui first month) (O.state oracle.old)
-        (O.state oracle.new) result }
-    ensures kept { Keeps O.meaning (O.state oracle.new) kept.new }
+    ensures leap { Asks O.Oracle (spec.is_leap_month leap_sui first month)
+        oracle.old oracle.new result }
+    ensures kept { Keeps O.Oracle oracle.new kept.new }
 {
     if !leap_sui {
         return Ok(false);

@@ -5,7 +5,7 @@ ghost use Rattle.book_model.specs.calendars.Inquiries.{flag};
 ghost use Rattle.book_model.specs.sky.Facts.{IsFactValue};
 ghost use Rattle.chinese_cal.specs.Days.{IsNearDay, IsNearMonth, IsNearSui};
 ghost use Rattle.chinese_cal.specs.Keeping.{Keeps};
-ghost use Rattle.oracle_core.specs.Inquiring.{Inquires};
+ghost use Rattle.oracle_core.specs.Asking.{Asks};
 
 use crate::asks::ask_kept;
 use crate::facts::moon_until;
@@ -73,13 +73,12 @@ fn month_in<O: Oracle>(
     leap_sui: bool,
     month: i64,
 ) -> Result<ChineseMonth, Stop>
-    requires kept { Keeps O.meaning (O.state oracle.old) kept.old }
+    requires kept { Keeps O.Oracle oracle.old kept.old }
     requires sui_near { IsNearSui sui }
     requires near { IsFactValue month }
-    ensures month { Inquires O.meaning (month_of_sui sui leap_sui month) (O.state oracle.old)
-        (O.state oracle.new) result }
+    ensures month { Asks O.Oracle (month_of_sui sui leap_sui month) oracle.old oracle.new result }
     ensures near { IfOk result IsNearMonth }
-    ensures kept { Keeps O.meaning (O.state oracle.new) kept.new }
+    ensures kept { Keeps O.Oracle oracle.new kept.new }
 {
     let from_leap = is_from_leap_month(oracle, kept, leap_sui, sui.first_month, month)?;
     let is_leap = is_leap_month(oracle, kept, leap_sui, sui.first_month, month)?;
@@ -93,12 +92,11 @@ pub(crate) fn chinese_month<O: Oracle>(
     kept: &mut Kept,
     day: i64,
 ) -> Result<ChineseMonth, Stop>
-    requires kept { Keeps O.meaning (O.state oracle.old) kept.old }
+    requires kept { Keeps O.Oracle oracle.old kept.old }
     requires near { IsNearDay day }
-    ensures month { Inquires O.meaning (month_on day) (O.state oracle.old)
-        (O.state oracle.new) result }
+    ensures month { Asks O.Oracle (month_on day) oracle.old oracle.new result }
     ensures near { IfOk result IsNearMonth }
-    ensures kept { Keeps O.meaning (O.state oracle.new) kept.new }
+    ensures kept { Keeps O.Oracle oracle.new kept.new }
 {
     let sui = sui_of(oracle, kept, day)?;
     let leap_sui = is_leap_sui(oracle, kept, sui)?;

@@ -4,7 +4,7 @@ ghost use Rattle.std.specs.Ordering.{int_eq};
 ghost use Rattle.book_model.specs.calendars.Chinese.{months_between, sui_of as sui_on, is_leap_sui as is_leap};
 ghost use Rattle.chinese_cal.specs.Days.{IsNearDay, IsNearSui};
 ghost use Rattle.chinese_cal.specs.Keeping.{Keeps};
-ghost use Rattle.oracle_core.specs.Inquiring.{Inquires};
+ghost use Rattle.oracle_core.specs.Asking.{Asks};
 
 use crate::asks::ask_kept;
 use crate::facts::{moon_after, moon_until, next_solstice, solstice_on};
@@ -38,11 +38,11 @@ fn are_twelve_apart(from: i64, to: i64) -> bool
 /// first.
 #[tactic(auto, using(oracle_core::proofs::Inquiring::asking), unfolding(book_model::specs::calendars::Chinese::sui_of))]
 pub(crate) fn sui_of<O: Oracle>(oracle: &mut O, kept: &mut Kept, day: i64) -> Result<Sui, Stop>
-    requires kept { Keeps O.meaning (O.state oracle.old) kept.old }
+    requires kept { Keeps O.Oracle oracle.old kept.old }
     requires near { IsNearDay day }
-    ensures sui { Inquires O.meaning (sui_on day) (O.state oracle.old) (O.state oracle.new) result }
+    ensures sui { Asks O.Oracle (sui_on day) oracle.old oracle.new result }
     ensures near { IfOk result IsNearSui }
-    ensures kept { Keeps O.meaning (O.state oracle.new) kept.new }
+    ensures kept { Keeps O.Oracle oracle.new kept.new }
 {
     let solstice = ask_kept(oracle, kept, solstice_on(day))?;
     let next = ask_kept(oracle, kept, next_solstice(solstice))?;
@@ -61,10 +61,10 @@ pub(crate) fn is_leap_sui<O: Oracle>(
     kept: &mut Kept,
     sui: Sui,
 ) -> Result<bool, Stop>
-    requires kept { Keeps O.meaning (O.state oracle.old) kept.old }
+    requires kept { Keeps O.Oracle oracle.old kept.old }
     requires near { IsNearSui sui }
-    ensures leap { Inquires O.meaning (is_leap sui) (O.state oracle.old) (O.state oracle.new) result }
-    ensures kept { Keeps O.meaning (O.state oracle.new) kept.new }
+    ensures leap { Asks O.Oracle (is_leap sui) oracle.old oracle.new result }
+    ensures kept { Keeps O.Oracle oracle.new kept.new }
 {
     let eleventh = ask_kept(oracle, kept, moon_until(sui.next_solstice))?;
     Ok(are_twelve_apart(sui.first_month, eleventh))

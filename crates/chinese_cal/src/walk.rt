@@ -6,7 +6,7 @@ ghost use Rattle.book_model.specs.calendars.Chinese as spec;
 ghost use Rattle.chinese_cal.specs.Days.{IsNearDay};
 ghost use Rattle.chinese_cal.specs.Keeping.{Keeps};
 ghost use Rattle.chinese_cal.specs.Walks.{months_back, one_bare};
-ghost use Rattle.oracle_core.specs.Inquiring.{Inquires};
+ghost use Rattle.oracle_core.specs.Asking.{Asks};
 
 use crate::asks::ask_kept;
 use crate::facts::{major_term, moon_after, moon_before};
@@ -25,10 +25,10 @@ fn is_same_term(term: i64, next_term: i64) -> bool
 /// stops where the oracle stops, at one of the two terms or at the next month.
 #[tactic(auto, using(oracle_core::proofs::Inquiring::asking), unfolding(book_model::specs::calendars::Chinese::bare))]
 pub(crate) fn is_bare<O: Oracle>(oracle: &mut O, kept: &mut Kept, month: i64) -> Result<bool, Stop>
-    requires kept { Keeps O.meaning (O.state oracle.old) kept.old }
+    requires kept { Keeps O.Oracle oracle.old kept.old }
     requires near { IsNearDay month }
-    ensures bare { Inquires O.meaning (spec.bare month) (O.state oracle.old) (O.state oracle.new) result }
-    ensures kept { Keeps O.meaning (O.state oracle.new) kept.new }
+    ensures bare { Asks O.Oracle (spec.bare month) oracle.old oracle.new result }
+    ensures kept { Keeps O.Oracle oracle.new kept.new }
 {
     let term = ask_kept(oracle, kept, major_term(month))?;
     let next = ask_kept(oracle, kept, moon_after(month))?;
@@ -47,13 +47,13 @@ fn walk_back<O: Oracle>(
     month: i64,
     later: Months,
 ) -> Result<Months, Stop>
-    requires kept { Keeps O.meaning (O.state oracle.old) kept.old }
+    requires kept { Keeps O.Oracle oracle.old kept.old }
     requires first_near { IsNearDay first }
     requires near { IsNearDay month }
     requires room { calls + length later ≤ 15 }
-    ensures back { Inquires O.meaning (months_back calls first month later) (O.state oracle.old)
-        (O.state oracle.new) result }
-    ensures kept { Keeps O.meaning (O.state oracle.new) kept.new }
+    ensures back { Asks O.Oracle (months_back calls first month later)
+        oracle.old oracle.new result }
+    ensures kept { Keeps O.Oracle oracle.new kept.new }
 {
     if calls == 0 {
         return Ok(later);
@@ -76,10 +76,10 @@ fn walk_back<O: Oracle>(
 /// stops.
 #[tactic(auto, using(oracle_core::proofs::Inquiring::asking), unfolding(crate::specs::Walks::one_bare))]
 fn is_one_bare<O: Oracle>(oracle: &mut O, kept: &mut Kept, months: &[i64]) -> Result<bool, Stop>
-    requires kept { Keeps O.meaning (O.state oracle.old) kept.old }
+    requires kept { Keeps O.Oracle oracle.old kept.old }
     requires near { All IsNearDay months.now }
-    ensures bare { Inquires O.meaning (one_bare months.now) (O.state oracle.old) (O.state oracle.new) result }
-    ensures kept { Keeps O.meaning (O.state oracle.new) kept.new }
+    ensures bare { Asks O.Oracle (one_bare months.now) oracle.old oracle.new result }
+    ensures kept { Keeps O.Oracle oracle.new kept.new }
 {
     match months {
         [] => Ok(false),
@@ -100,12 +100,11 @@ pub(crate) fn prior<O: Oracle>(
     first: i64,
     month: i64,
 ) -> Result<bool, Stop>
-    requires kept { Keeps O.meaning (O.state oracle.old) kept.old }
+    requires kept { Keeps O.Oracle oracle.old kept.old }
     requires first_near { IsNearDay first }
     requires near { IsNearDay month }
-    ensures prior { Inquires O.meaning (spec.prior 15 first month) (O.state oracle.old)
-        (O.state oracle.new) result }
-    ensures kept { Keeps O.meaning (O.state oracle.new) kept.new }
+    ensures prior { Asks O.Oracle (spec.prior 15 first month) oracle.old oracle.new result }
+    ensures kept { Keeps O.Oracle oracle.new kept.new }
 {
     let months = walk_back(
         oracle,

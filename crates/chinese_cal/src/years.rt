@@ -2,9 +2,9 @@
 ghost use Rattle.std.specs.Prelude.{◌≡◌, ◌≤ℤ◌, ◌+ℤ◌, ◌-ℤ◌, ◌*ℤ◌, pos, IfOk};
 ghost use Rattle.book_model.specs.calendars.Chinese as spec;
 ghost use Rattle.book_model.specs.sky.Facts.{IsFactValue};
-ghost use Rattle.chinese_cal.specs.Days.{IsNearDay, IsNearSui};
+ghost use Rattle.chinese_cal.specs.Days.{IsNearDay};
 ghost use Rattle.chinese_cal.specs.Keeping.{Keeps};
-ghost use Rattle.oracle_core.specs.Inquiring.{Inquires};
+ghost use Rattle.oracle_core.specs.Asking.{Asks};
 
 use crate::asks::ask_kept;
 use crate::facts::moon_after;
@@ -24,12 +24,12 @@ fn is_leap_at_start<O: Oracle>(
     first: i64,
     second: i64,
 ) -> Result<bool, Stop>
-    requires kept { Keeps O.meaning (O.state oracle.old) kept.old }
+    requires kept { Keeps O.Oracle oracle.old kept.old }
     requires first_near { IsNearDay first }
     requires second_near { IsNearDay second }
-    ensures early { Inquires O.meaning (spec.is_leap_at_start leap_sui first second)
-        (O.state oracle.old) (O.state oracle.new) result }
-    ensures kept { Keeps O.meaning (O.state oracle.new) kept.new }
+    ensures early { Asks O.Oracle (spec.is_leap_at_start leap_sui first second)
+        oracle.old oracle.new result }
+    ensures kept { Keeps O.Oracle oracle.new kept.new }
 {
     if !leap_sui {
         return Ok(false);
@@ -44,12 +44,11 @@ fn is_leap_at_start<O: Oracle>(
 /// the first two. It stops where the oracle stops.
 #[tactic(auto, using(oracle_core::proofs::Inquiring::asking), unfolding(book_model::specs::calendars::Chinese::new_year_in_sui))]
 fn new_year_in_sui<O: Oracle>(oracle: &mut O, kept: &mut Kept, day: i64) -> Result<i64, Stop>
-    requires kept { Keeps O.meaning (O.state oracle.old) kept.old }
+    requires kept { Keeps O.Oracle oracle.old kept.old }
     requires near { IsNearDay day }
-    ensures day { Inquires O.meaning (spec.new_year_in_sui day) (O.state oracle.old)
-        (O.state oracle.new) result }
+    ensures day { Asks O.Oracle (spec.new_year_in_sui day) oracle.old oracle.new result }
     ensures value { IfOk result IsFactValue }
-    ensures kept { Keeps O.meaning (O.state oracle.new) kept.new }
+    ensures kept { Keeps O.Oracle oracle.new kept.new }
 {
     let sui = sui_of(oracle, kept, day)?;
     let second = ask_kept(oracle, kept, moon_after(sui.first_month))?;
@@ -63,13 +62,12 @@ fn new_year_in_sui<O: Oracle>(oracle: &mut O, kept: &mut Kept, day: i64) -> Resu
 
 /// The same, half a year before a day.
 fn new_year_before<O: Oracle>(oracle: &mut O, kept: &mut Kept, day: i64) -> Result<i64, Stop>
-    requires kept { Keeps O.meaning (O.state oracle.old) kept.old }
-    requires from { pos 0 ≤ℤ day }
-    requires to { day ≤ℤ pos 10000000 }
-    ensures day { Inquires O.meaning (spec.new_year_in_sui (day -ℤ pos 180)) (O.state oracle.old)
-        (O.state oracle.new) result }
+    requires kept { Keeps O.Oracle oracle.old kept.old }
+    requires day { IsFactValue day }
+    ensures day { Asks O.Oracle (spec.new_year_in_sui (day -ℤ pos 180))
+        oracle.old oracle.new result }
     ensures value { IfOk result IsFactValue }
-    ensures kept { Keeps O.meaning (O.state oracle.new) kept.new }
+    ensures kept { Keeps O.Oracle oracle.new kept.new }
 {
     new_year_in_sui(oracle, kept, day - 180)
 }
@@ -81,13 +79,11 @@ pub(crate) fn new_year_by_day<O: Oracle>(
     kept: &mut Kept,
     day: i64,
 ) -> Result<i64, Stop>
-    requires kept { Keeps O.meaning (O.state oracle.old) kept.old }
-    requires from { pos 0 ≤ℤ day }
-    requires to { day ≤ℤ pos 10000000 }
-    ensures day { Inquires O.meaning (spec.new_year_by_day day) (O.state oracle.old)
-        (O.state oracle.new) result }
+    requires kept { Keeps O.Oracle oracle.old kept.old }
+    requires day { IsFactValue day }
+    ensures day { Asks O.Oracle (spec.new_year_by_day day) oracle.old oracle.new result }
     ensures value { IfOk result IsFactValue }
-    ensures kept { Keeps O.meaning (O.state oracle.new) kept.new }
+    ensures kept { Keeps O.Oracle oracle.new kept.new }
 {
     let new_year = new_year_in_sui(oracle, kept, day)?;
     if day < new_year {

@@ -1,5 +1,5 @@
 //! Hindu lunar dates. Days are R.D.
-ghost use Rattle.std.specs.Prelude.{◌≡◌, ◌≤◌, ◌≤ℤ◌, ◌+ℤ◌, ◌-ℤ◌, pos, negsuc, IsTrue, IfOk, Bool};
+ghost use Rattle.std.specs.Prelude.{◌≡◌, ◌≤◌, ◌≤ℤ◌, ◌+ℤ◌, ◌-ℤ◌, pos, negsuc, IsTrue, IfOk};
 ghost use Rattle.std.specs.Ordering.{int_eq};
 ghost use Rattle.book_model.specs.calendars.Dates.{field as field_of, may_have, is_answered, is_in_range, day_named, date_on as date_of_day};
 ghost use Rattle.book_model.specs.sky.Facts.{IsFactValue};
@@ -9,9 +9,10 @@ ghost use Rattle.book_model.specs.calendars.HinduSolar.{hindu_fact};
 ghost use Rattle.book_model.specs.declared.calendar.Calendar.TheVariants.{HinduLunar as LunarCalendar};
 ghost use Rattle.book_model.specs.declared.fact.Kind.TheVariants.{CalendarYear};
 ghost use Rattle.hindu_astro.specs.Dates.{fields_of_lunar};
-ghost use Rattle.hindu_astro.specs.Days.{AreAbout, IsAbout, IsNearDay};
+ghost use Rattle.hindu_astro.specs.Days.{AreAbout, IsAbout, IsAskedDay, IsDatedDay, IsSearchedDay, IsSunMonth};
 ghost use Rattle.hindu_astro.specs.Searches.{inquiry_of};
-ghost use Rattle.oracle_core.specs.Inquiring.{Inquires, map_ok};
+ghost use Rattle.oracle_core.specs.Asking.{Asks, AsksAs};
+ghost use Rattle.calendar_math.specs.Days.{IsCalendarDay};
 
 use crate::facts::fact_on;
 use crate::months::days_to_month;
@@ -50,20 +51,19 @@ fn month_by_sign(sign: i64) -> u8
 /// The day of which the year of a month is asked.
 #[tactic(auto, unfolding(book_model::specs::calendars::HinduLunar::year_asked_of))]
 fn year_asked_of(day: i64, month: u8) -> i64
-    requires from { negsuc 29999000 ≤ℤ day }
-    requires to { day ≤ℤ pos 29999000 }
+    requires day { IsDatedDay day }
     ensures day { result ≡ spec.year_asked_of day (pos month) }
-    ensures near { IsNearDay result }
+    ensures near { IsAskedDay result }
 {
     if month <= 2 { day + 180 } else { day }
 }
 
 /// The fact of the year of a day's month, by the sign at the new moon before.
 fn year_fact(day: i64, before: i64) -> Fact
-    requires from { negsuc 29999000 ≤ℤ day }
-    requires to { day ≤ℤ pos 29999000 }
+    requires day { IsDatedDay day }
     requires value { IsFactValue before }
-    ensures fact { result ≡ hindu_fact CalendarYear (spec.year_asked_of day (spec.month_by_sign before)) }
+    ensures fact { result ≡ hindu_fact CalendarYear
+        (spec.year_asked_of day (spec.month_by_sign before)) }
 {
     fact_on(
         Kind::CalendarYear,
@@ -111,10 +111,9 @@ fn date_by_tithis<O: Oracle>(
     tithi: i64,
     earlier: i64,
 ) -> Result<HinduLunar, Stop>
-    requires from { negsuc 29999000 ≤ℤ day }
-    requires to { day ≤ℤ pos 29999000 }
-    ensures date { Inquires O.meaning (spec.lunar_date_by day tithi earlier) (O.state oracle.old)
-        (O.state oracle.new) (map_ok fields_of_lunar result) }
+    requires day { IsDatedDay day }
+    ensures date { AsksAs fields_of_lunar O.Oracle (spec.lunar_date_by day tithi earlier)
+        oracle.old oracle.new result }
 {
     let before = oracle.ask(fact_on(Kind::SignBefore, day))?;
     let after = oracle.ask(fact_on(Kind::SignAfter, day))?;
@@ -125,10 +124,9 @@ fn date_by_tithis<O: Oracle>(
 /// The date of a day (R.D.) to which values of facts lead.
 #[tactic(auto, using(oracle_core::proofs::Inquiring::asking), unfolding(book_model::specs::calendars::HinduLunar::hindu_lunar_on))]
 fn date_near<O: Oracle>(oracle: &mut O, day: i64) -> Result<HinduLunar, Stop>
-    requires from { negsuc 29998999 ≤ℤ day }
-    requires to { day ≤ℤ pos 29999000 }
-    ensures date { Inquires O.meaning (spec.hindu_lunar_on day) (O.state oracle.old)
-        (O.state oracle.new) (map_ok fields_of_lunar result) }
+    requires day { IsDatedDay day }
+    ensures date { AsksAs fields_of_lunar O.Oracle (spec.hindu_lunar_on day)
+        oracle.old oracle.new result }
 {
     let tithi = oracle.ask(fact_on(Kind::Tithi, day))?;
     let earlier = oracle.ask(fact_on(Kind::Tithi, day - 1))?;
@@ -147,10 +145,9 @@ fn date_near<O: Oracle>(oracle: &mut O, day: i64) -> Result<HinduLunar, Stop>
 /// // HinduLunar { year: 2080, month: 5, leap_month: true, day: 1, leap_day: false }: the month is an added one
 /// ```
 pub fn from_fixed<O: Oracle>(oracle: &mut O, day: i64) -> Result<HinduLunar, Stop>
-    requires from { pos 0 ≤ℤ day }
-    requires to { day ≤ℤ pos 1000000 }
-    ensures date { Inquires O.meaning (spec.hindu_lunar_on day) (O.state oracle.old)
-        (O.state oracle.new) (map_ok fields_of_lunar result) }
+    requires day { IsCalendarDay day }
+    ensures date { AsksAs fields_of_lunar O.Oracle (spec.hindu_lunar_on day)
+        oracle.old oracle.new result }
 {
     date_near(oracle, day)
 }
@@ -174,10 +171,9 @@ fn is_sought_date(sought: HinduLunar, date: HinduLunar) -> bool
 /// Whether a day lies in the month of a date. It stops where the oracle stops.
 #[tactic(auto, using(oracle_core::proofs::Inquiring::asking), unfolding(book_model::specs::calendars::HinduLunar::lies_in_month))]
 fn lies_in_month<O: Oracle>(oracle: &mut O, sought: HinduLunar, day: i64) -> Result<bool, Stop>
-    requires from { negsuc 29998999 ≤ℤ day }
-    requires to { day ≤ℤ pos 29999000 }
-    ensures lies { Inquires O.meaning (spec.lies_in_month (fields_of_lunar sought) day)
-        (O.state oracle.old) (O.state oracle.new) result }
+    requires day { IsDatedDay day }
+    ensures lies { Asks O.Oracle (spec.lies_in_month (fields_of_lunar sought) day)
+        oracle.old oracle.new result }
 {
     let date = date_near(oracle, day)?;
     Ok(is_of_month(sought, date))
@@ -186,10 +182,9 @@ fn lies_in_month<O: Oracle>(oracle: &mut O, sought: HinduLunar, day: i64) -> Res
 /// Whether a day has a date. It stops where the oracle stops.
 #[tactic(auto, using(oracle_core::proofs::Inquiring::asking), unfolding(book_model::specs::calendars::HinduLunar::has_date))]
 fn has_date<O: Oracle>(oracle: &mut O, sought: HinduLunar, day: i64) -> Result<bool, Stop>
-    requires from { negsuc 29998999 ≤ℤ day }
-    requires to { day ≤ℤ pos 29999000 }
-    ensures has { Inquires O.meaning (spec.has_date (fields_of_lunar sought) day)
-        (O.state oracle.old) (O.state oracle.new) result }
+    requires day { IsDatedDay day }
+    ensures has { Asks O.Oracle (spec.has_date (fields_of_lunar sought) day)
+        oracle.old oracle.new result }
 {
     let date = date_near(oracle, day)?;
     Ok(is_sought_date(sought, date))
@@ -198,10 +193,8 @@ fn has_date<O: Oracle>(oracle: &mut O, sought: HinduLunar, day: i64) -> Result<b
 /// Whether a day is one that is sought. It stops where the oracle stops.
 #[tactic(auto, using(oracle_core::proofs::Inquiring::asking), unfolding(crate::specs::Searches::inquiry_of))]
 fn is_sought<O: Oracle>(oracle: &mut O, search: Search, day: i64) -> Result<bool, Stop>
-    requires from { negsuc 29998999 ≤ℤ day }
-    requires to { day ≤ℤ pos 29999000 }
-    ensures sought { Inquires O.meaning (inquiry_of search day) (O.state oracle.old)
-        (O.state oracle.new) result }
+    requires day { IsDatedDay day }
+    ensures sought { Asks O.Oracle (inquiry_of search day) oracle.old oracle.new result }
 {
     match search {
         Search::Month(date) => lies_in_month(oracle, date, day),
@@ -218,10 +211,9 @@ fn first_of<O: Oracle>(
     about: i64,
 ) -> Result<i64, Stop>
     requires near { AreAbout about days.now }
-    requires low { negsuc 29998899 ≤ℤ about }
-    requires high { about ≤ℤ pos 29998900 }
-    ensures day { Inquires O.meaning (first_of_days days.now (inquiry_of search) about)
-        (O.state oracle.old) (O.state oracle.new) result }
+    requires about { IsSearchedDay about }
+    ensures day { Asks O.Oracle (first_of_days days.now (inquiry_of search) about)
+        oracle.old oracle.new result }
     ensures about { IfOk result (IsAbout about) }
 {
     let Some((day, rest)) = days.split_first() else {
@@ -237,8 +229,7 @@ fn first_of<O: Oracle>(
 /// A day, that 30 days before and that 30 days after it.
 #[tactic(auto, unfolding(book_model::specs::calendars::HinduLunar::month_candidates))]
 fn month_candidates(day: i64) -> [i64; 3]
-    requires low { negsuc 29998899 ≤ℤ day }
-    requires high { day ≤ℤ pos 29998900 }
+    requires day { IsSearchedDay day }
     ensures days { result ≡ spec.month_candidates day }
     ensures about { AreAbout day result }
 {
@@ -248,8 +239,7 @@ fn month_candidates(day: i64) -> [i64; 3]
 /// The days from two before a day to two after it.
 #[tactic(auto, unfolding(book_model::specs::calendars::HinduLunar::day_candidates))]
 fn day_candidates(day: i64) -> [i64; 5]
-    requires low { negsuc 29998899 ≤ℤ day }
-    requires high { day ≤ℤ pos 29998900 }
+    requires day { IsSearchedDay day }
     ensures days { result ≡ spec.day_candidates day }
     ensures about { AreAbout day result }
 {
@@ -262,8 +252,8 @@ fn day_candidates(day: i64) -> [i64; 5]
 fn middle_about<O: Oracle>(oracle: &mut O, sought: HinduLunar, day: i64) -> Result<i64, Stop>
     requires low { negsuc 13999999 ≤ℤ day }
     requires high { day ≤ℤ pos 14000100 }
-    ensures day { Inquires O.meaning (spec.middle_about (fields_of_lunar sought) day)
-        (O.state oracle.old) (O.state oracle.new) result }
+    ensures day { Asks O.Oracle (spec.middle_about (fields_of_lunar sought) day)
+        oracle.old oracle.new result }
     ensures about { IfOk result (IsAbout day) }
 {
     let days = month_candidates(day);
@@ -274,10 +264,9 @@ fn middle_about<O: Oracle>(oracle: &mut O, sought: HinduLunar, day: i64) -> Resu
 /// stops.
 #[tactic(auto, using(oracle_core::proofs::Inquiring::asking), unfolding(book_model::specs::calendars::HinduLunar::day_about, crate::specs::Searches::inquiry_of))]
 fn day_about<O: Oracle>(oracle: &mut O, sought: HinduLunar, day: i64) -> Result<i64, Stop>
-    requires low { negsuc 29998899 ≤ℤ day }
-    requires high { day ≤ℤ pos 29998900 }
-    ensures day { Inquires O.meaning (spec.day_about (fields_of_lunar sought) day)
-        (O.state oracle.old) (O.state oracle.new) result }
+    requires day { IsSearchedDay day }
+    ensures day { Asks O.Oracle (spec.day_about (fields_of_lunar sought) day)
+        oracle.old oracle.new result }
 {
     let days = day_candidates(day);
     first_of(oracle, &days, Search::Day(sought), day)
@@ -286,10 +275,7 @@ fn day_about<O: Oracle>(oracle: &mut O, sought: HinduLunar, day: i64) -> Result<
 /// A day about the middle of a month, by the mean sun.
 #[tactic(auto, unfolding(book_model::specs::calendars::HinduLunar::day_by_sun))]
 fn day_by_sun(year: i64, month: i64) -> i64
-    requires year_from { pos 1 ≤ℤ year }
-    requires year_to { year ≤ℤ pos 4000 }
-    requires from_first_month { pos 1 ≤ℤ month }
-    requires to_last_month { month ≤ℤ pos 12 }
+    requires month { IsSunMonth year month }
     ensures day { result ≡ spec.day_by_sun year month }
     ensures low { negsuc 1999999 ≤ℤ result }
     ensures high { result ≤ℤ pos 3999999 }
@@ -326,8 +312,8 @@ fn day_by_tithi(middle: i64, tithi: i64, day: u8) -> i64
 fn day_by_middle<O: Oracle>(oracle: &mut O, sought: HinduLunar, middle: i64) -> Result<i64, Stop>
     requires low { negsuc 14000999 ≤ℤ middle }
     requires high { middle ≤ℤ pos 14001100 }
-    ensures day { Inquires O.meaning (spec.day_by_middle (fields_of_lunar sought) middle)
-        (O.state oracle.old) (O.state oracle.new) result }
+    ensures day { Asks O.Oracle (spec.day_by_middle (fields_of_lunar sought) middle)
+        oracle.old oracle.new result }
 {
     let tithi = oracle.ask(fact_on(Kind::Tithi, middle))?;
     day_about(oracle, sought, day_by_tithi(middle, tithi, sought.day))
@@ -339,8 +325,8 @@ fn day_by_middle<O: Oracle>(oracle: &mut O, sought: HinduLunar, middle: i64) -> 
 fn day_by_month<O: Oracle>(oracle: &mut O, sought: HinduLunar, day: i64) -> Result<i64, Stop>
     requires low { negsuc 1999999 ≤ℤ day }
     requires high { day ≤ℤ pos 3999999 }
-    ensures day { Inquires O.meaning (spec.day_by_month (fields_of_lunar sought) day)
-        (O.state oracle.old) (O.state oracle.new) result }
+    ensures day { Asks O.Oracle (spec.day_by_month (fields_of_lunar sought) day)
+        oracle.old oracle.new result }
 {
     let tithi = oracle.ask(fact_on(Kind::Tithi, day))?;
     let middle = middle_about(oracle, sought, middle_by(day, tithi))?;
@@ -364,9 +350,8 @@ pub fn to_fixed<O: Oracle>(oracle: &mut O, date: HinduLunar) -> Result<i64, Stop
     requires to_2105 { date.year ≤ℤ pos 2105 }
     requires from_first_month { 1 ≤ date.month }
     requires to_last_month { date.month ≤ 12 }
-    ensures day { Inquires O.meaning (spec.hindu_lunar_day date.year (pos date.month)
-        (flag date.leap_month) (pos date.day) (flag date.leap_day)) (O.state oracle.old)
-        (O.state oracle.new) result }
+    ensures day { Asks O.Oracle (spec.hindu_lunar_day date.year (pos date.month)
+        (flag date.leap_month) (pos date.day) (flag date.leap_day)) oracle.old oracle.new result }
 {
     let by_sun = day_by_sun(i64::from(date.year), i64::from(date.month));
     day_by_month(oracle, date, by_sun)
@@ -412,8 +397,7 @@ fn date_of(fields: &Fields) -> HinduLunar
 pub fn named_day<O: Oracle>(oracle: &mut O, fields: &Fields) -> Result<i64, Stop>
     requires possible { IsTrue (may_have LunarCalendar fields.now) }
     requires in_reach { IsTrue (is_answered LunarCalendar fields.now) }
-    ensures day { Inquires O.meaning (day_named LunarCalendar fields.now) (O.state oracle.old)
-        (O.state oracle.new) result }
+    ensures day { Asks O.Oracle (day_named LunarCalendar fields.now) oracle.old oracle.new result }
 {
     to_fixed(oracle, date_of(fields))
 }
@@ -421,11 +405,7 @@ pub fn named_day<O: Oracle>(oracle: &mut O, fields: &Fields) -> Result<i64, Stop
 /// The fields of the date of a day (R.D.), from 1 January 1802 to 31 December 2048. It stops where the oracle stops.
 pub fn date_on<O: Oracle>(oracle: &mut O, day: i64) -> Result<Fields, Stop>
     requires in_range { IsTrue (is_in_range day) }
-    ensures date { Inquires O.meaning (date_of_day LunarCalendar day) (O.state oracle.old)
-        (O.state oracle.new) result }
+    ensures date { Asks O.Oracle (date_of_day LunarCalendar day) oracle.old oracle.new result }
 {
-    match from_fixed(oracle, day) {
-        Ok(date) => Ok(fields_of(date)),
-        Err(stop) => Err(stop),
-    }
+    Ok(fields_of(from_fixed(oracle, day)?))
 }

@@ -1,9 +1,10 @@
 //! Months by the mean sun.
-ghost use Rattle.std.specs.Prelude.{◌≡◌, ◌≤ℤ◌, ◌+ℤ◌, ◌-ℤ◌, ◌*ℤ◌, pos, negsuc};
+ghost use Rattle.std.specs.Prelude.{◌≡◌, ◌≤ℤ◌, ◌+ℤ◌, ◌-ℤ◌, ◌*ℤ◌, pos};
 ghost use Rattle.book_model.specs.numbers.Fractions.{fraction_of};
 ghost use Rattle.book_model.specs.calendars.HinduSolar as spec;
 ghost use Rattle.book_model.specs.calendars.Spans.{days_of as days_of_spans, ratio};
 ghost use Rattle.book_model.specs.declared.calendar_tables.TheConstants.{SIDEREAL_YEAR as year_of_days};
+ghost use Rattle.hindu_astro.specs.Days.{IsSunMonth};
 
 use book_model::SIDEREAL_YEAR;
 use calendar_math::days_of;
@@ -23,10 +24,7 @@ fn days_of_twelfths(twelfths: i64) -> i64
 fn twelfths_to(era: i64, year: i64, month: i64) -> i64
     requires era_from { pos 0 ≤ℤ era }
     requires era_to { era ≤ℤ pos 4000 }
-    requires year_from { pos 1 ≤ℤ year }
-    requires year_to { year ≤ℤ pos 4000 }
-    requires from_first_month { pos 1 ≤ℤ month }
-    requires to_last_month { month ≤ℤ pos 12 }
+    requires month { IsSunMonth year month }
     ensures twelfths { result ≡ pos 12 *ℤ (year +ℤ era) +ℤ month -ℤ pos 1 }
     ensures low { pos 0 ≤ℤ result }
     ensures high { result ≤ℤ pos 100000 }
@@ -39,10 +37,7 @@ fn twelfths_to(era: i64, year: i64, month: i64) -> i64
 pub(crate) fn days_to_month(era: i64, year: i64, month: i64) -> i64
     requires era_from { pos 0 ≤ℤ era }
     requires era_to { era ≤ℤ pos 4000 }
-    requires year_from { pos 1 ≤ℤ year }
-    requires year_to { year ≤ℤ pos 4000 }
-    requires from_first_month { pos 1 ≤ℤ month }
-    requires to_last_month { month ≤ℤ pos 12 }
+    requires month { IsSunMonth year month }
     ensures days { result ≡ spec.days_to_month era year month }
     ensures from { pos 0 ≤ℤ result }
     ensures to { result ≤ℤ pos 5000000 }

@@ -1,12 +1,13 @@
 //! Hindu solar dates. Days are R.D.
-ghost use Rattle.std.specs.Prelude.{◌≡◌, ◌≤◌, ◌≤ℤ◌, ◌+ℤ◌, ◌-ℤ◌, pos, negsuc, IsTrue};
+ghost use Rattle.std.specs.Prelude.{◌≡◌, ◌≤◌, ◌≤ℤ◌, ◌+ℤ◌, ◌-ℤ◌, pos, IsTrue};
 ghost use Rattle.book_model.specs.calendars.Dates.{field as field_of, may_have, is_answered, is_in_range, day_named, date_on as date_of_day};
 ghost use Rattle.book_model.specs.sky.Facts.{IsFactValue};
 ghost use Rattle.book_model.specs.calendars.HinduSolar as spec;
 ghost use Rattle.book_model.specs.declared.calendar.Calendar.TheVariants.{HinduSolar as SolarCalendar};
 ghost use Rattle.hindu_astro.specs.Dates.{fields_of_solar};
-ghost use Rattle.hindu_astro.specs.Days.{IsNearDay};
-ghost use Rattle.oracle_core.specs.Inquiring.{Inquires, map_ok};
+ghost use Rattle.hindu_astro.specs.Days.{IsAskedDay, IsSunMonth};
+ghost use Rattle.oracle_core.specs.Asking.{Asks, AsksAs};
+ghost use Rattle.calendar_math.specs.Days.{IsCalendarDay};
 
 use crate::facts::fact_on;
 use crate::months::days_to_month;
@@ -24,8 +25,7 @@ pub struct HinduSolar {
 
 /// The day of a month by its first day.
 fn day_of(day: i64, first: i64) -> i64
-    requires from { pos 0 ≤ℤ day }
-    requires to { day ≤ℤ pos 1000000 }
+    requires day { IsCalendarDay day }
     requires value { IsFactValue first }
     ensures day { result ≡ day -ℤ first +ℤ pos 1 }
 {
@@ -43,8 +43,7 @@ fn year_of(year: i64) -> i64
 /// The date of a day by the sign of its sunset, the year of the Kali Yuga and the first day of its month.
 #[tactic(auto, unfolding(book_model::specs::calendars::HinduSolar::solar_fields))]
 fn date_by(day: i64, sign: i64, year: i64, first: i64) -> HinduSolar
-    requires from { pos 0 ≤ℤ day }
-    requires to { day ≤ℤ pos 1000000 }
+    requires day { IsCalendarDay day }
     requires sign_value { IsFactValue sign }
     requires year_value { IsFactValue year }
     requires first_value { IsFactValue first }
@@ -68,10 +67,9 @@ fn date_by(day: i64, sign: i64, year: i64, first: i64) -> HinduSolar
 /// ```
 #[tactic(auto, using(oracle_core::proofs::Inquiring::asking), unfolding(book_model::specs::calendars::HinduSolar::hindu_solar_on))]
 pub fn from_fixed<O: Oracle>(oracle: &mut O, day: i64) -> Result<HinduSolar, Stop>
-    requires from { pos 0 ≤ℤ day }
-    requires to { day ≤ℤ pos 1000000 }
-    ensures date { Inquires O.meaning (spec.hindu_solar_on day) (O.state oracle.old)
-        (O.state oracle.new) (map_ok fields_of_solar result) }
+    requires day { IsCalendarDay day }
+    ensures date { AsksAs fields_of_solar O.Oracle (spec.hindu_solar_on day)
+        oracle.old oracle.new result }
 {
     let sign = oracle.ask(fact_on(Kind::Sign, day))?;
     let year = oracle.ask(fact_on(Kind::SolarYear, day))?;
@@ -82,12 +80,9 @@ pub fn from_fixed<O: Oracle>(oracle: &mut O, day: i64) -> Result<HinduSolar, Sto
 /// A day within a month, late in it.
 #[tactic(auto, unfolding(book_model::specs::calendars::HinduSolar::day_late_in_month))]
 fn day_late_in_month(year: i64, month: i64) -> i64
-    requires year_from { pos 1 ≤ℤ year }
-    requires year_to { year ≤ℤ pos 4000 }
-    requires from_first_month { pos 1 ≤ℤ month }
-    requires to_last_month { month ≤ℤ pos 12 }
+    requires month { IsSunMonth year month }
     ensures day { result ≡ spec.day_late_in_month year month }
-    ensures near { IsNearDay result }
+    ensures near { IsAskedDay result }
 {
     HINDU_EPOCH + days_to_month(SAKA_ERA, year, month) + 25
 }
@@ -119,8 +114,8 @@ pub fn to_fixed<O: Oracle>(oracle: &mut O, date: HinduSolar) -> Result<i64, Stop
     requires to_last_month { date.month ≤ 12 }
     requires from_first_day { 1 ≤ date.day }
     requires to_last_day { date.day ≤ 32 }
-    ensures day { Inquires O.meaning (spec.hindu_solar_day date.year (pos date.month)
-        (pos date.day)) (O.state oracle.old) (O.state oracle.new) result }
+    ensures day { Asks O.Oracle (spec.hindu_solar_day date.year (pos date.month) (pos date.day))
+        oracle.old oracle.new result }
 {
     let within = day_late_in_month(i64::from(date.year), i64::from(date.month));
     let first = oracle.ask(fact_on(Kind::Sankranti, within))?;
@@ -157,8 +152,7 @@ fn date_of(fields: &Fields) -> HinduSolar
 pub fn named_day<O: Oracle>(oracle: &mut O, fields: &Fields) -> Result<i64, Stop>
     requires possible { IsTrue (may_have SolarCalendar fields.now) }
     requires in_reach { IsTrue (is_answered SolarCalendar fields.now) }
-    ensures day { Inquires O.meaning (day_named SolarCalendar fields.now) (O.state oracle.old)
-        (O.state oracle.new) result }
+    ensures day { Asks O.Oracle (day_named SolarCalendar fields.now) oracle.old oracle.new result }
 {
     to_fixed(oracle, date_of(fields))
 }
@@ -166,11 +160,7 @@ pub fn named_day<O: Oracle>(oracle: &mut O, fields: &Fields) -> Result<i64, Stop
 /// The fields of the date of a day (R.D.), from 1 January 1802 to 31 December 2048. It stops where the oracle stops.
 pub fn date_on<O: Oracle>(oracle: &mut O, day: i64) -> Result<Fields, Stop>
     requires in_range { IsTrue (is_in_range day) }
-    ensures date { Inquires O.meaning (date_of_day SolarCalendar day) (O.state oracle.old)
-        (O.state oracle.new) result }
+    ensures date { Asks O.Oracle (date_of_day SolarCalendar day) oracle.old oracle.new result }
 {
-    match from_fixed(oracle, day) {
-        Ok(date) => Ok(fields_of(date)),
-        Err(stop) => Err(stop),
-    }
+    Ok(fields_of(from_fixed(oracle, day)?))
 }

@@ -1,12 +1,13 @@
 //! Islamic dates, and the facts that they are found by. Days are R.D.
-ghost use Rattle.std.specs.Prelude.{◌≡◌, ◌≤◌, ◌≤ℤ◌, ◌+ℤ◌, ◌-ℤ◌, pos, negsuc};
+ghost use Rattle.std.specs.Prelude.{◌≡◌, ◌≤◌, ◌≤ℤ◌, ◌+ℤ◌, ◌-ℤ◌, pos};
 ghost use Rattle.book_model.specs.sky.Facts.{IsFactValue};
 ghost use Rattle.book_model.specs.calendars.Inquiries.{to_32_bits as to_32_bits_of};
 ghost use Rattle.book_model.specs.calendars.Islamic as spec;
 ghost use Rattle.book_model.specs.calendars.Spans.{quotient_down, modulo as modulo_of};
 ghost use Rattle.islamic_observed.specs.Dates.{fields_of_date};
 ghost use Rattle.islamic_observed.specs.Months.{IsNearMonth};
-ghost use Rattle.oracle_core.specs.Inquiring.{Inquires, map_ok};
+ghost use Rattle.oracle_core.specs.Asking.{Asks, AsksAs};
+ghost use Rattle.calendar_math.specs.Days.{IsCalendarDay};
 
 use crate::months::{month_fact, month_fact_on, months_before};
 use calendar_math::{modulo, quotient, to_8_bits, to_32_bits};
@@ -21,7 +22,7 @@ pub struct IslamicDate {
 }
 
 /// The year, where so many months have passed.
-fn year_of(passed: i64) -> i32
+fn year_after(passed: i64) -> i32
     requires near { IsNearMonth passed }
     ensures year { result ≡ to_32_bits_of (quotient_down passed 12 +ℤ pos 1) }
 {
@@ -29,7 +30,7 @@ fn year_of(passed: i64) -> i32
 }
 
 /// The month of its year, where so many months have passed.
-fn month_of(passed: i64) -> u8
+fn month_after(passed: i64) -> u8
     requires near { IsNearMonth passed }
     ensures month { pos result ≡ modulo_of passed 12 +ℤ pos 1 }
 {
@@ -43,16 +44,15 @@ fn date_in(passed: i64, day: i64) -> IslamicDate
     ensures date { fields_of_date result ≡ spec.islamic_fields passed day }
 {
     IslamicDate {
-        year: year_of(passed),
-        month: month_of(passed),
+        year: year_after(passed),
+        month: month_after(passed),
         day: to_8_bits(day),
     }
 }
 
 /// The day of the month, by the first day of it.
-fn day_of(day: i64, first: i64) -> i64
-    requires from { pos 0 ≤ℤ day }
-    requires to { day ≤ℤ pos 1000000 }
+fn day_of_month(day: i64, first: i64) -> i64
+    requires day { IsCalendarDay day }
     requires value { IsFactValue first }
     ensures day { result ≡ day -ℤ first +ℤ pos 1 }
 {
@@ -61,13 +61,12 @@ fn day_of(day: i64, first: i64) -> i64
 
 /// The date of a day by the first day of its month.
 fn date_by(day: i64, first: i64) -> IslamicDate
-    requires from { pos 0 ≤ℤ day }
-    requires to { day ≤ℤ pos 1000000 }
+    requires day { IsCalendarDay day }
     requires value { IsFactValue first }
     ensures date { fields_of_date result ≡ spec.islamic_fields (spec.months_before first)
         (day -ℤ first +ℤ pos 1) }
 {
-    date_in(months_before(first), day_of(day, first))
+    date_in(months_before(first), day_of_month(day, first))
 }
 
 /// The date of a day (R.D.): the month that begins on the first day which the oracle has for the day, the months counted from the
@@ -81,10 +80,9 @@ fn date_by(day: i64, first: i64) -> IslamicDate
 /// ```
 #[tactic(auto, using(oracle_core::proofs::Inquiring::asking), unfolding(book_model::specs::calendars::Islamic::islamic_on))]
 pub fn from_fixed<O: Oracle>(oracle: &mut O, day: i64) -> Result<IslamicDate, Stop>
-    requires from { pos 0 ≤ℤ day }
-    requires to { day ≤ℤ pos 1000000 }
-    ensures date { Inquires O.meaning (spec.islamic_on day) (O.state oracle.old)
-        (O.state oracle.new) (map_ok fields_of_date result) }
+    requires day { IsCalendarDay day }
+    ensures date { AsksAs fields_of_date O.Oracle (spec.islamic_on day)
+        oracle.old oracle.new result }
 {
     let first = oracle.ask(month_fact_on(day))?;
     Ok(date_by(day, first))
@@ -118,8 +116,8 @@ pub fn to_fixed<O: Oracle>(oracle: &mut O, date: IslamicDate) -> Result<i64, Sto
     requires to_last_month { date.month ≤ 12 }
     requires from_first_day { 1 ≤ date.day }
     requires to_last_day { date.day ≤ 30 }
-    ensures day { Inquires O.meaning (spec.islamic_day date.year (pos date.month) (pos date.day))
-        (O.state oracle.old) (O.state oracle.new) result }
+    ensures day { Asks O.Oracle (spec.islamic_day date.year (pos date.month) (pos date.day))
+        oracle.old oracle.new result }
 {
     let first = oracle.ask(month_fact(i64::from(date.year), i64::from(date.month)))?;
     Ok(day_by(first, i64::from(date.day)))

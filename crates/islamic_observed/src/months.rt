@@ -1,6 +1,6 @@
 //! The months of the Islamic calendar since its epoch, and the facts of their first days. Days are R.D.
-ghost use Rattle.std.specs.Prelude.{◌≡◌, ◌≤◌, ◌≤ℤ◌, ◌+ℤ◌, pos, negsuc};
-ghost use Rattle.book_model.specs.sky.Facts.{IsFactValue};
+ghost use Rattle.std.specs.Prelude.{◌≡◌, ◌≤ℤ◌, pos};
+ghost use Rattle.book_model.specs.sky.Facts.{IsFactDay, IsFactValue};
 ghost use Rattle.book_model.specs.numbers.Fractions.{fraction_of};
 ghost use Rattle.book_model.specs.calendars.Islamic as spec;
 ghost use Rattle.book_model.specs.calendars.Spans.{days_of as days_of_spans, ratio};
@@ -12,8 +12,7 @@ use calendar_math::{days_of, months_of_days};
 
 /// The fact of the first day of the month that a day falls in.
 pub(crate) fn month_fact_on(day: i64) -> Fact
-    requires low { negsuc 39999999 ≤ℤ day }
-    requires high { day ≤ℤ pos 40000000 }
+    requires day { IsFactDay day }
     ensures fact { result ≡ spec.phasis_fact day }
 {
     Fact::new(Kind::Phasis, Place::Cairo, day).unwrap()
@@ -55,8 +54,7 @@ fn days_of_halves(halves: i64) -> i64
 fn mid_month_day(year: i64, month: i64) -> i64
     requires month { IsMonth year month }
     ensures day { result ≡ spec.mid_month_day year month }
-    ensures low { negsuc 39999999 ≤ℤ result }
-    ensures high { result ≤ℤ pos 40000000 }
+    ensures near { IsFactDay result }
 {
     ISLAMIC_EPOCH + days_of_halves(half_months_to(year, month))
 }

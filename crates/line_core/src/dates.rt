@@ -2,7 +2,7 @@
 ghost use Rattle.std.specs.Prelude.{◌≡◌, IsTrue, IfOk, MatchOption, true, false};
 ghost use Rattle.book_model.specs.calendars.Dates as spec;
 ghost use Rattle.book_model.specs.lines.Requests.{ranged, fields_of};
-ghost use Rattle.oracle_core.specs.Inquiring.{Inquires};
+ghost use Rattle.oracle_core.specs.Asking.{Asks};
 
 use crate::fields::{are_within, has_year, spelled_fields};
 use crate::gregorian::{gregorian_date, gregorian_day, is_in_range};
@@ -86,8 +86,7 @@ pub(crate) fn named_day<O: Oracle>(
 ) -> Result<i64, Stop>
     requires possible { IsTrue (spec.may_have calendar date.now) }
     requires in_reach { IsTrue (spec.is_answered calendar date.now) }
-    ensures comes { Inquires O.meaning (spec.day_named calendar date.now) (O.state oracle.old)
-        (O.state oracle.new) result }
+    ensures comes { Asks O.Oracle (spec.day_named calendar date.now) oracle.old oracle.new result }
 {
     match calendar {
         Calendar::Gregorian => Ok(day_of_gregorian(date)),
@@ -109,8 +108,7 @@ pub(crate) fn date_on<O: Oracle>(
     day: i64,
 ) -> Result<Fields, Stop>
     requires in_range { IsTrue (spec.is_in_range day) }
-    ensures comes { Inquires O.meaning (spec.date_on calendar day) (O.state oracle.old)
-        (O.state oracle.new) result }
+    ensures comes { Asks O.Oracle (spec.date_on calendar day) oracle.old oracle.new result }
 {
     match calendar {
         Calendar::Gregorian => Ok(gregorian_date(day)),

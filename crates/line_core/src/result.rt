@@ -4,7 +4,7 @@ ghost use Rattle.book_model.specs.calendars.Dates as dates;
 ghost use Rattle.book_model.specs.lines.LineRules as spec;
 ghost use Rattle.book_model.specs.lines.Requests.{is_possible, is_in_reach};
 ghost use Rattle.book_model.specs.lines.Words.{named_by, shown_by};
-ghost use Rattle.oracle_core.specs.Inquiring.{Inquires};
+ghost use Rattle.oracle_core.specs.Asking.{Asks};
 
 use crate::dates::{date_on, day_of_gregorian, have_same_fields, named_day, one_field};
 use crate::gregorian::is_in_range;
@@ -22,8 +22,8 @@ fn show_date<O: Oracle>(
     day: i64,
 ) -> Result<Resolved, Stop>
     requires in_range { IsTrue (dates.is_in_range day) }
-    ensures comes { Inquires O.meaning (spec.shown_on to (Shown.Date calendar) day)
-        (O.state oracle.old) (O.state oracle.new) result }
+    ensures comes { Asks O.Oracle (spec.shown_on to (Shown.Date calendar) day)
+        oracle.old oracle.new result }
 {
     let fields = date_on(oracle, calendar, day)?;
     Ok(Resolved::Shown(to, fields))
@@ -50,8 +50,8 @@ fn show_value<O: Oracle>(
 ) -> Result<Resolved, Stop>
     requires shown { shown_by to ≡ Shown.Value kind place }
     requires in_range { IsTrue (dates.is_in_range day) }
-    ensures comes { Inquires O.meaning (spec.shown_on to (Shown.Value kind place) day)
-        (O.state oracle.old) (O.state oracle.new) result }
+    ensures comes { Asks O.Oracle (spec.shown_on to (Shown.Value kind place) day)
+        oracle.old oracle.new result }
 {
     let value = oracle.ask(fact_on(to, kind, place, day))?;
     Ok(Resolved::Shown(to, one_field(value)))
@@ -60,10 +60,9 @@ fn show_value<O: Oracle>(
 /// What a day (R.D.) comes to. It stops where the oracle stops.
 fn resolve_on<O: Oracle>(oracle: &mut O, to: ToWord, day: i64) -> Result<Resolved, Stop>
     requires in_range { IsTrue (dates.is_in_range day) }
-    ensures comes { Inquires O.meaning (spec.result_on to day) (O.state oracle.old)
-        (O.state oracle.new) result }
+    ensures comes { Asks O.Oracle (spec.result_on to day) oracle.old oracle.new result }
 {
-    match to.shown() {
+    match to.shows() {
         Shown::Date(calendar) => show_date(oracle, to, calendar, day),
         Shown::Value(kind, place) => show_value(oracle, to, kind, place, day),
     }
@@ -79,8 +78,8 @@ fn confirm<O: Oracle>(
     back: Fields,
 ) -> Result<Resolved, Stop>
     requires in_range { IsTrue (dates.is_in_range day) }
-    ensures comes { Inquires O.meaning (spec.confirmed request.now day back) (O.state oracle.old)
-        (O.state oracle.new) result }
+    ensures comes { Asks O.Oracle (spec.confirmed request.now day back)
+        oracle.old oracle.new result }
 {
     if have_same_fields(&back, &request.date) {
         resolve_on(oracle, request.to, day)
@@ -94,8 +93,8 @@ fn confirm<O: Oracle>(
 #[tactic(auto, using(oracle_core::proofs::Inquiring::asking), unfolding(book_model::specs::lines::LineRules::result_within))]
 fn resolve_within<O: Oracle>(oracle: &mut O, request: &Request, day: i64) -> Result<Resolved, Stop>
     requires in_range { IsTrue (dates.is_in_range day) }
-    ensures comes { Inquires O.meaning (spec.result_within request.now day) (O.state oracle.old)
-        (O.state oracle.new) result }
+    ensures comes { Asks O.Oracle (spec.result_within request.now day)
+        oracle.old oracle.new result }
 {
     let calendar = request.from.calendar();
     if !calendar.row().is_confirmed {
@@ -109,8 +108,8 @@ fn resolve_within<O: Oracle>(oracle: &mut O, request: &Request, day: i64) -> Res
 /// the calendar of the request has another date for it. It stops where the oracle stops.
 #[tactic(auto, using(oracle_core::proofs::Inquiring::asking), unfolding(book_model::specs::lines::LineRules::result_of_day))]
 fn resolve_day<O: Oracle>(oracle: &mut O, request: &Request, day: i64) -> Result<Resolved, Stop>
-    ensures comes { Inquires O.meaning (spec.result_of_day request.now day) (O.state oracle.old)
-        (O.state oracle.new) result }
+    ensures comes { Asks O.Oracle (spec.result_of_day request.now day)
+        oracle.old oracle.new result }
 {
     if is_in_range(day) {
         resolve_within(oracle, request, day)
@@ -135,8 +134,8 @@ fn named_fact(from: FromWord, kind: Kind, place: Place, date: &Fields) -> Fact
 fn day_of_request<O: Oracle>(oracle: &mut O, request: &Request) -> Result<i64, Stop>
     requires possible { IsTrue (is_possible request.now) }
     requires in_reach { IsTrue (is_in_reach request.now) }
-    ensures comes { Inquires O.meaning (spec.day_by (named_by request.now.from) request.now.date)
-        (O.state oracle.old) (O.state oracle.new) result }
+    ensures comes { Asks O.Oracle (spec.day_by (named_by request.now.from) request.now.date)
+        oracle.old oracle.new result }
 {
     match request.from.names() {
         Named::Date(calendar) => named_day(oracle, calendar, &request.date),
@@ -162,8 +161,7 @@ fn day_of_request<O: Oracle>(oracle: &mut O, request: &Request) -> Result<i64, S
 pub fn resolve<O: Oracle>(oracle: &mut O, request: &Request) -> Result<Resolved, Stop>
     requires possible { IsTrue (is_possible request.now) }
     requires in_reach { IsTrue (is_in_reach request.now) }
-    ensures comes { Inquires O.meaning (spec.rule_of request.now) (O.state oracle.old)
-        (O.state oracle.new) result }
+    ensures comes { Asks O.Oracle (spec.rule_of request.now) oracle.old oracle.new result }
 {
     let day = day_of_request(oracle, request)?;
     resolve_day(oracle, request, day)

@@ -4,7 +4,7 @@ use book_model::{Fact, Fields, Kind, Place, Resolved, ToWord};
 use oracle_core::{Listed, Oracle, Stop};
 use std::test::Fail;
 
-fn shown(to: ToWord, count: u8, values: [i32; 5]) -> Resolved {
+fn resolved(to: ToWord, count: u8, values: [i32; 5]) -> Resolved {
     Resolved::Shown(to, Fields { count, values })
 }
 
@@ -13,11 +13,11 @@ fn days_and_dates_ask_no_facts(rt: HostRuntime) -> Result<(), Fail> {
     for (line, want) in [
         (
             "fixed 738926 gregorian",
-            shown(ToWord::Gregorian, 3, [2024, 2, 10, 0, 0]),
+            resolved(ToWord::Gregorian, 3, [2024, 2, 10, 0, 0]),
         ),
         (
             "gregorian 2000-2-29 fixed",
-            shown(ToWord::Fixed, 1, [730_179, 0, 0, 0, 0]),
+            resolved(ToWord::Fixed, 1, [730_179, 0, 0, 0, 0]),
         ),
     ] {
         let mut oracle = Listed::new(rt.alloc(), &[], &[]);
@@ -37,7 +37,7 @@ fn corrections_are_asked(rt: HostRuntime) -> Result<(), Fail> {
     let request = read_line(b"gregorian 2024-02-10 dt").map_err(|_| "a line is refused")?;
     assert_eq!(rt;
         resolve(&mut oracle, &request),
-        Ok(shown(ToWord::Dt, 1, [73_871, 0, 0, 0, 0]))
+        Ok(resolved(ToWord::Dt, 1, [73_871, 0, 0, 0, 0]))
     );
     assert_eq!(rt; oracle.asked().len(), 1);
     assert_eq!(rt; *oracle.asked().item(0), fact);

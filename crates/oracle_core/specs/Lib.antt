@@ -1,4 +1,5 @@
 pub mod Answers
+pub mod Asking
 pub mod Pairs
 pub mod Stops
 pub mod Inquiring

@@ -1,8 +1,11 @@
 //! Persian dates, and the facts that they are found by.
-ghost use Rattle.std.specs.Prelude.{◌≡◌, ◌≤◌, ◌≤ℤ◌, ◌+ℤ◌, ◌-ℤ◌, pos, negsuc, IfOk};
+ghost use Rattle.std.specs.Prelude.{◌≡◌, ◌≤◌, ◌≤ℤ◌, ◌+ℤ◌, ◌-ℤ◌, pos, IfOk};
 ghost use Rattle.book_model.specs.calendars.Persian.{nowruz_fact, mid_year_day as day_in_mid_year, days_before_month, year_begun as year_begun_on, persian_fields, persian_on, persian_day};
-ghost use Rattle.oracle_core.specs.Inquiring.{Inquires, map_ok};
+ghost use Rattle.oracle_core.specs.Asking.{Asks, AsksAs};
 ghost use Rattle.persian_cal.specs.Dates.{fields_of_date};
+ghost use Rattle.book_model.specs.sky.Facts.{IsFactDay, IsFactValue};
+ghost use Rattle.persian_cal.specs.Days.{IsDayNumber, IsNearYear};
+ghost use Rattle.calendar_math.specs.Days.{IsCalendarDay};
 
 use crate::months::{days_before, month_of_number};
 use book_model::{Fact, Kind, PERSIAN_EPOCH, Place};
@@ -19,8 +22,7 @@ pub struct PersianDate {
 
 /// The fact of the first day of the Persian year that a day (R.D.) falls in.
 pub(crate) fn nowruz_fact_on(day: i64) -> Fact
-    requires low { negsuc 39999999 ≤ℤ day }
-    requires high { day ≤ℤ pos 40000000 }
+    requires day { IsFactDay day }
     ensures fact { result ≡ nowruz_fact day }
 {
     Fact::new(Kind::Nowruz, Place::None, day).unwrap()
@@ -28,19 +30,16 @@ pub(crate) fn nowruz_fact_on(day: i64) -> Fact
 
 /// A day (R.D.) about the middle of a year.
 fn mid_year_day(year: i64) -> i64
-    requires from { negsuc 29999 ≤ℤ year }
-    requires to { year ≤ℤ pos 30000 }
+    requires year { IsNearYear year }
     ensures day { result ≡ day_in_mid_year year }
-    ensures low { negsuc 39999999 ≤ℤ result }
-    ensures high { result ≤ℤ pos 40000000 }
+    ensures near { IsFactDay result }
 {
     PERSIAN_EPOCH + 180 + days_of_years(year - 1)
 }
 
 /// The fact of the first day of a year.
 fn new_year_fact(year: i64) -> Fact
-    requires from { negsuc 29999 ≤ℤ year }
-    requires to { year ≤ℤ pos 30000 }
+    requires year { IsNearYear year }
     ensures fact { result ≡ nowruz_fact (day_in_mid_year year) }
 {
     nowruz_fact_on(mid_year_day(year))
@@ -48,21 +47,17 @@ fn new_year_fact(year: i64) -> Fact
 
 /// The year that begins on a day (R.D.).
 fn year_begun(first: i64) -> i64
-    requires low { negsuc 9999999 ≤ℤ first }
-    requires high { first ≤ℤ pos 10000000 }
+    requires first { IsFactValue first }
     ensures year { result ≡ year_begun_on first }
-    ensures from { negsuc 29999 ≤ℤ result }
-    ensures to { result ≤ℤ pos 30000 }
+    ensures near { IsNearYear result }
 {
     1 + years_of_days(first - PERSIAN_EPOCH)
 }
 
 /// Year, month and day, by the year and the day's number in it, which counts from 1.
 fn date_in(year: i64, number: i64) -> PersianDate
-    requires from { negsuc 29999 ≤ℤ year }
-    requires to { year ≤ℤ pos 30000 }
-    requires low { negsuc 19999999 ≤ℤ number }
-    requires high { number ≤ℤ pos 20000000 }
+    requires year { IsNearYear year }
+    requires number { IsDayNumber number }
     ensures date { fields_of_date result ≡ persian_fields year number }
 {
     let month = month_of_number(number);
@@ -75,12 +70,9 @@ fn date_in(year: i64, number: i64) -> PersianDate
 
 /// The date of a day (R.D.) by the first day of its year.
 fn date_by(year: i64, new_year: i64, day: i64) -> PersianDate
-    requires from { negsuc 29999 ≤ℤ year }
-    requires to { year ≤ℤ pos 30000 }
-    requires low { negsuc 9999999 ≤ℤ new_year }
-    requires high { new_year ≤ℤ pos 10000000 }
-    requires first { pos 0 ≤ℤ day }
-    requires last { day ≤ℤ pos 1000000 }
+    requires year { IsNearYear year }
+    requires new_year { IsFactValue new_year }
+    requires day { IsCalendarDay day }
     ensures date { fields_of_date result ≡ persian_fields year (day -ℤ new_year +ℤ pos 1) }
 {
     date_in(year, day - new_year + 1)
@@ -88,15 +80,13 @@ fn date_by(year: i64, new_year: i64, day: i64) -> PersianDate
 
 /// The day (R.D.) of a month and a day by the first day of their year.
 fn day_by(new_year: i64, month: i64, day: i64) -> i64
-    requires low { negsuc 9999999 ≤ℤ new_year }
-    requires high { new_year ≤ℤ pos 10000000 }
+    requires new_year { IsFactValue new_year }
     requires from_first_month { pos 1 ≤ℤ month }
     requires to_last_month { month ≤ℤ pos 12 }
     requires from_first_day { pos 1 ≤ℤ day }
     requires to_last_day { day ≤ℤ pos 31 }
     ensures day { result ≡ new_year +ℤ days_before_month month +ℤ day -ℤ pos 1 }
-    ensures low { negsuc 19999999 ≤ℤ result }
-    ensures high { result ≤ℤ pos 20000000 }
+    ensures near { IsDayNumber result }
 {
     new_year + days_before(month) + day - 1
 }
@@ -113,10 +103,8 @@ fn day_by(new_year: i64, month: i64, day: i64) -> i64
 /// ```
 #[tactic(auto, using(oracle_core::proofs::Inquiring::asking), unfolding(book_model::specs::calendars::Persian::persian_on))]
 pub fn from_fixed<O: Oracle>(oracle: &mut O, day: i64) -> Result<PersianDate, Stop>
-    requires from { pos 0 ≤ℤ day }
-    requires to { day ≤ℤ pos 1000000 }
-    ensures date { Inquires O.meaning (persian_on day) (O.state oracle.old) (O.state oracle.new)
-        (map_ok fields_of_date result) }
+    requires day { IsCalendarDay day }
+    ensures date { AsksAs fields_of_date O.Oracle (persian_on day) oracle.old oracle.new result }
 {
     let first = oracle.ask(nowruz_fact_on(day))?;
     let year = year_begun(first);
@@ -142,10 +130,9 @@ pub fn to_fixed<O: Oracle>(oracle: &mut O, date: PersianDate) -> Result<i64, Sto
     requires to_last_month { date.month ≤ 12 }
     requires from_first_day { 1 ≤ date.day }
     requires to_last_day { date.day ≤ 31 }
-    ensures day { Inquires O.meaning (persian_day date.year (pos date.month) (pos date.day))
-        (O.state oracle.old) (O.state oracle.new) result }
-    ensures near_low { IfOk result (λ d. negsuc 19999999 ≤ℤ d) }
-    ensures near_high { IfOk result (λ d. d ≤ℤ pos 20000000) }
+    ensures day { Asks O.Oracle (persian_day date.year (pos date.month) (pos date.day))
+        oracle.old oracle.new result }
+    ensures near { IfOk result IsDayNumber }
 {
     let new_year = oracle.ask(new_year_fact(i64::from(date.year)))?;
     let day = day_by(new_year, i64::from(date.month), i64::from(date.day));

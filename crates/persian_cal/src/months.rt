@@ -1,6 +1,8 @@
 //! The months of a Persian year: six of 31 days, and those after them of 30.
-ghost use Rattle.std.specs.Prelude.{◌≡◌, pos, negsuc, ◌≤ℤ◌};
+ghost use Rattle.std.specs.Prelude.{◌≡◌};
 ghost use Rattle.book_model.specs.calendars.Persian.{days_before_month, month_of_number as number_of_month};
+ghost use Rattle.book_model.specs.sky.Facts.{IsFactValue};
+ghost use Rattle.persian_cal.specs.Days.{IsDayNumber};
 
 use calendar_math::quotient_up;
 
@@ -9,8 +11,7 @@ const DAYS_OF_SIX_MONTHS: i64 = 186;
 
 /// The days of a year before a month.
 pub(crate) fn days_before(month: i64) -> i64
-    requires from { negsuc 9999999 ≤ℤ month }
-    requires to { month ≤ℤ pos 10000000 }
+    requires month { IsFactValue month }
     ensures days { result ≡ days_before_month month }
 {
     if month <= 7 {
@@ -22,8 +23,7 @@ pub(crate) fn days_before(month: i64) -> i64
 
 /// The month of a day by its number in the year, which counts from 1.
 pub(crate) fn month_of_number(number: i64) -> i64
-    requires from { negsuc 19999999 ≤ℤ number }
-    requires to { number ≤ℤ pos 20000000 }
+    requires number { IsDayNumber number }
     ensures month { result ≡ number_of_month number }
 {
     if number <= DAYS_OF_SIX_MONTHS {

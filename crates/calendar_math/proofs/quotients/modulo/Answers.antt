@@ -9,7 +9,7 @@ left_below-requires c =
     let fq : SFits w64 c.quotient.result = search rules in
     let e = simp to_z-of_z at c.quotient.ensures.quotient in
     let near = rest_lies c.args.number c.quotient.result c.args.divisor c.requires.positive e in
-    simp to_z-of_z (record { from = near.from; to = near.to; low = c.requires.from; high = c.requires.to })
+    simp to_z-of_z (record { from = near.from; to = near.to; number = c.requires.number })
 
 pub returns : goal.returns
 returns c =

@@ -25,4 +25,4 @@ returns c =
     let product = simp to_z-of_z at c.product.ensures.product in
     let number : c.product.result ≡ c.args.span.num *ℤ c.args.num = product ∙ mul_comm c.args.num _ ∙ ap (λ x. x *ℤ c.args.num) c.parts_of.ensures.parts in
     let quotient = rw (c.den.ensures, c.from.ensures) at (simp to_z-of_z at c.quotient_within.ensures.quotient) in
-    record { days = simp to_z-of_z (rw number at quotient ∙ sym (days_as_quotient c.args.span.num c.args.num c.args.span.den c.args.den c.requires.positive c.requires.over)) }
+    record { days = simp to_z-of_z (rw number at quotient ∙ sym (days_as_quotient c.args.span.num c.args.num c.args.span.den c.args.den c.requires.span.0 c.requires.over)) }

@@ -7,8 +7,8 @@ use Rattle.calendar_math.proofs.spans.product.Goals as goal
 pub returns : goal.returns
 returns c =
     let fc = c.ranges.count in
-    let near = product_lies c.args.count c.args.parts c.requires.from c.requires.to in
-    let fw : SFits w128 c.args.count = omega (arith, ints, c.requires.from, c.requires.to) in
+    let near = product_lies c.args.count c.args.parts c.requires.count.0 c.requires.count.1 in
+    let fw : SFits w128 c.args.count = omega (arith, ints, c.requires.count.0, c.requires.count.1) in
     let fp : SFits w128 (pos c.args.parts) = omega (arith, ints, c.requires.few_parts) in
     let few = c.requires.few_parts in
     let fr : SFits w128 (c.args.count *ℤ pos c.args.parts) = omega (arith, ints, near.from, near.to, few) in

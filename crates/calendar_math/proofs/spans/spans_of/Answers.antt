@@ -7,8 +7,8 @@ use Rattle.calendar_math.proofs.spans.spans_of.Goals as goal
 
 pub overflow_add-whole : goal.overflow_add-whole
 overflow_add-whole c =
-    let small : c.args.span.den ≤ c.parts_of-parts.result = omega (arith, ints, c.parts_of-parts.ensures.parts, c.requires.at_least_a_day) in
-    let few : c.parts_of-parts.result ≤ 2 ^ 35 = omega (arith, ints, c.parts_of-parts.ensures.parts, c.requires.few_parts) in
+    let small : c.args.span.den ≤ c.parts_of-parts.result = omega (arith, ints, c.parts_of-parts.ensures.parts, c.requires.span.1) in
+    let few : c.parts_of-parts.result ≤ 2 ^ 35 = omega (arith, ints, c.parts_of-parts.ensures.parts, c.requires.span.2) in
     let whole : LiesWithin (negsuc 99999999 *ℤ pos (c.args.span.den * c.args.den)) (pos 100000000 *ℤ pos (c.args.span.den * c.args.den)) c.product-whole.result = rw (c.den.ensures, c.from.ensures) at (let near : LiesWithin (negsuc 99999999 *ℤ pos (c.den.result * c.from.result)) (pos 100000000 *ℤ pos (c.den.result * c.from.result)) c.product-whole.result = record { from = c.product-whole.ensures.low; to = c.product-whole.ensures.high } in near) in
     let near = sums_lie c.product-whole.result c.product-more.result c.parts_of-parts.result c.args.span.den c.args.den whole (record { from = c.product-more.ensures.low; to = c.product-more.ensures.high }) small c.requires.over in
     let fw : SFits w128 c.product-whole.result = search rules in
@@ -18,13 +18,13 @@ overflow_add-whole c =
 
 pub quotient_within-requires-clause-positive : goal.quotient_within-requires-clause-positive
 quotient_within-requires-clause-positive c =
-    let some : 0 < c.parts_of-parts.result = omega (arith, ints, c.parts_of-parts.ensures.parts, c.requires.at_least_a_day, c.requires.positive) in
+    let some : 0 < c.parts_of-parts.result = omega (arith, ints, c.parts_of-parts.ensures.parts, c.requires.span.1, c.requires.span.0) in
     rw c.from-2.ensures (product_above c.parts_of-parts.result c.args.den some c.requires.over)
 
 pub quotient_within-requires-clause-low : goal.quotient_within-requires-clause-low
 quotient_within-requires-clause-low c =
-    let small : c.args.span.den ≤ c.parts_of-parts.result = omega (arith, ints, c.parts_of-parts.ensures.parts, c.requires.at_least_a_day) in
-    let few : c.parts_of-parts.result ≤ 2 ^ 35 = omega (arith, ints, c.parts_of-parts.ensures.parts, c.requires.few_parts) in
+    let small : c.args.span.den ≤ c.parts_of-parts.result = omega (arith, ints, c.parts_of-parts.ensures.parts, c.requires.span.1) in
+    let few : c.parts_of-parts.result ≤ 2 ^ 35 = omega (arith, ints, c.parts_of-parts.ensures.parts, c.requires.span.2) in
     let whole : LiesWithin (negsuc 99999999 *ℤ pos (c.args.span.den * c.args.den)) (pos 100000000 *ℤ pos (c.args.span.den * c.args.den)) c.product-whole.result = rw (c.den.ensures, c.from.ensures) at (let near : LiesWithin (negsuc 99999999 *ℤ pos (c.den.result * c.from.result)) (pos 100000000 *ℤ pos (c.den.result * c.from.result)) c.product-whole.result = record { from = c.product-whole.ensures.low; to = c.product-whole.ensures.high } in near) in
     let near = sums_lie c.product-whole.result c.product-more.result c.parts_of-parts.result c.args.span.den c.args.den whole (record { from = c.product-more.ensures.low; to = c.product-more.ensures.high }) small c.requires.over in
     let fw : SFits w128 c.product-whole.result = search rules in
@@ -35,8 +35,8 @@ quotient_within-requires-clause-low c =
 
 pub quotient_within-requires-clause-high : goal.quotient_within-requires-clause-high
 quotient_within-requires-clause-high c =
-    let small : c.args.span.den ≤ c.parts_of-parts.result = omega (arith, ints, c.parts_of-parts.ensures.parts, c.requires.at_least_a_day) in
-    let few : c.parts_of-parts.result ≤ 2 ^ 35 = omega (arith, ints, c.parts_of-parts.ensures.parts, c.requires.few_parts) in
+    let small : c.args.span.den ≤ c.parts_of-parts.result = omega (arith, ints, c.parts_of-parts.ensures.parts, c.requires.span.1) in
+    let few : c.parts_of-parts.result ≤ 2 ^ 35 = omega (arith, ints, c.parts_of-parts.ensures.parts, c.requires.span.2) in
     let whole : LiesWithin (negsuc 99999999 *ℤ pos (c.args.span.den * c.args.den)) (pos 100000000 *ℤ pos (c.args.span.den * c.args.den)) c.product-whole.result = rw (c.den.ensures, c.from.ensures) at (let near : LiesWithin (negsuc 99999999 *ℤ pos (c.den.result * c.from.result)) (pos 100000000 *ℤ pos (c.den.result * c.from.result)) c.product-whole.result = record { from = c.product-whole.ensures.low; to = c.product-whole.ensures.high } in near) in
     let near = sums_lie c.product-whole.result c.product-more.result c.parts_of-parts.result c.args.span.den c.args.den whole (record { from = c.product-more.ensures.low; to = c.product-more.ensures.high }) small c.requires.over in
     let fw : SFits w128 c.product-whole.result = search rules in
@@ -47,8 +47,8 @@ quotient_within-requires-clause-high c =
 
 pub returns : goal.returns
 returns c =
-    let small : c.args.span.den ≤ c.parts_of-parts.result = omega (arith, ints, c.parts_of-parts.ensures.parts, c.requires.at_least_a_day) in
-    let few : c.parts_of-parts.result ≤ 2 ^ 35 = omega (arith, ints, c.parts_of-parts.ensures.parts, c.requires.few_parts) in
+    let small : c.args.span.den ≤ c.parts_of-parts.result = omega (arith, ints, c.parts_of-parts.ensures.parts, c.requires.span.1) in
+    let few : c.parts_of-parts.result ≤ 2 ^ 35 = omega (arith, ints, c.parts_of-parts.ensures.parts, c.requires.span.2) in
     let whole : LiesWithin (negsuc 99999999 *ℤ pos (c.args.span.den * c.args.den)) (pos 100000000 *ℤ pos (c.args.span.den * c.args.den)) c.product-whole.result = rw (c.den.ensures, c.from.ensures) at (let near : LiesWithin (negsuc 99999999 *ℤ pos (c.den.result * c.from.result)) (pos 100000000 *ℤ pos (c.den.result * c.from.result)) c.product-whole.result = record { from = c.product-whole.ensures.low; to = c.product-whole.ensures.high } in near) in
     let near = sums_lie c.product-whole.result c.product-more.result c.parts_of-parts.result c.args.span.den c.args.den whole (record { from = c.product-more.ensures.low; to = c.product-more.ensures.high }) small c.requires.over in
     let fw : SFits w128 c.product-whole.result = search rules in
@@ -58,9 +58,9 @@ returns c =
     let fy = c.ranges.days in
     let fn = c.ranges.num in
     let fq : SFits w64 c.quotient_within.result = search rules in
-    let some : 0 < c.parts_of-parts.result = omega (arith, ints, c.parts_of-parts.ensures.parts, c.requires.at_least_a_day, c.requires.positive) in
+    let some : 0 < c.parts_of-parts.result = omega (arith, ints, c.parts_of-parts.ensures.parts, c.requires.span.1, c.requires.span.0) in
     let first = rw (c.den.ensures, c.from.ensures) at (simp to_z-of_z at c.product-whole.ensures.product) in
     let second = simp to_z-of_z at c.product-more.ensures.product in
     let quotient = rw (c.from-2.ensures, first, second) at (simp to_z-of_z at c.quotient_within.ensures.quotient) in
-    let span = spans_as_quotient c.args.days c.args.num c.parts_of-parts.result c.args.span.den c.args.den some c.requires.positive c.requires.over in
+    let span = spans_as_quotient c.args.days c.args.num c.parts_of-parts.result c.args.span.den c.args.den some c.requires.span.0 c.requires.over in
     record { spans = simp to_z-of_z (quotient ∙ sym span ∙ ap (λ x. spans_of (ratio x c.args.span.den) c.args.days (ratio c.args.num c.args.den)) c.parts_of-parts.ensures.parts) }

@@ -9,7 +9,7 @@ unfolding persian_fields
 returns c =
     let fy = c.ranges.year in
     let fn = c.ranges.number in
-    let f2 : SFits w32 c.args.year = omega (arith, ints, c.requires.from, c.requires.to) in
+    let f2 : SFits w32 c.args.year = omega (arith, ints, c.requires.year.0, c.requires.year.1) in
     let fm : SFits w64 c.month_of_number-month.result = search rules in
     let fb : SFits w64 c.days_before.result = search rules in
     let month = simp to_z-of_z at c.month_of_number-month.ensures.month in
@@ -18,5 +18,5 @@ returns c =
     let fs : SFits w64 (c.args.number -ℤ c.days_before.result) = rw before (omega (arith, ints, left.from, left.to)) in
     let m = rw month at (simp to_z-of_z at c.to_8_bits.ensures.number) in
     let d = rw before at (simp to_z-of_z at c.to_8_bits-2.ensures.number) in
-    let y = year_stands c.args.year (record { from = c.requires.from; to = c.requires.to }) in
+    let y = year_stands c.args.year (record { from = c.requires.year.0; to = c.requires.year.1 }) in
     record { date = simp to_z-of_z (rw (y, m, d) refl) }
