@@ -1,11 +1,11 @@
 -- Bytes that are read or written in pieces.
-use Rattle.std.proofs.Common.{◌≡◌, ◌∙◌, ℕ, List, [], ◌++◌, ap, sym, refl, append_assoc, append-nil, take, drop, get_or, length, ◌<◌, ◌+◌}
+use Rattle.std.proofs.Common.{arith, ◌≡◌, ◌∙◌, ℕ, List, [], ◌++◌, ap, sym, refl, append_assoc, append-nil, take, drop, get_or, length, ◌<◌, ◌+◌}
 use Rattle.std.proofs.lemmas.List.{take-append-drop, drop_more}
-use Rattle.std.specs.Prelude.{None, Some, Ok, Err, Result, OnErr}
+use Rattle.std.specs.Prelude.{None, Some, Ok, Err, Result, OnErr, IsErr, ◌≤◌}
 use Rattle.std.specs.List.{flat_map}
 use Rattle.std.specs.declared.option.Option.{Option}
 use Rattle.std.specs.Io.KnownBytes.{Appends, Consumes, Keeps}
-use Rattle.byte_streams.specs.Stream.{Wrote, AppendsFront}
+use Rattle.byte_streams.specs.Stream.{Wrote, AppendsFront, HasCause, Writes}
 
 -- nothing was taken
 pub consumes_none : (a : Option (List ℕ)) → Consumes a a []
@@ -159,6 +159,33 @@ wrote_part f a b c t xs i d h old new = wrote_on a b c t (f (get_or xs i d)) (fl
 pub wrote_part_front : {X : Type 0} (f : X → List ℕ) (a b c : Option (List ℕ)) (t : List ℕ) (xs : List X) (i : ℕ) (d : X) → i < length xs
     → Wrote a b t (flat_map f (drop i xs)) → AppendsFront b c (f (get_or xs i d)) → AppendsFront a c t
 wrote_part_front f a b c t xs i d h old new = wrote_front a b c t (f (get_or xs i d)) (flat_map f (drop (i + 1) xs)) (rw (drop_more xs i d h) at old) new
+
+-- a call failed, as one within it did, and a front of its text is written
+pub writes_failed : {S T U E F : Type 0} {w : S → Option (List ℕ)} {f : S → ℕ} {a c : S} {count : ℕ} {t : List ℕ} {e : E} {r : Result U F}
+    → IsErr r → AppendsFront (w a) (w c) t → f a ≤ count → HasCause {T = T} {E = E} count (f c) (Err e) → Writes w f a c t r
+writes_failed {r = Ok y} n front later cause = absurd (cc)
+writes_failed {r = Err d} n front later cause =
+    record { ok = tt; err = front; cause = record { later = omega (arith, cause.later); failed = omega (arith, cause.failed) } }
+
+-- the first of two texts failed, and a front of it is written
+pub writes_first : {S T U E F : Type 0} {w : S → Option (List ℕ)} {f : S → ℕ} {a b : S} {p : List ℕ} {e : E} {r : Result U F} (q : List ℕ)
+    → IsErr r → Writes {S = S} {T = T} {E = E} w f a b p (Err e) → Writes w f a b (p ++ q) r
+writes_first {w = w} {f = f} {a = a} {b = b} {p = p} q n h = writes_failed n (front_first (w a) (w b) p q h.err) (omega arith) h.cause
+
+-- the first of two texts was written, and then the second, or a front of it
+pub writes_then : {S T U E F : Type 0} {w : S → Option (List ℕ)} {f : S → ℕ} {a b c : S} {p q : List ℕ} {x : T} {r : Result U F}
+    → Writes {S = S} {T = T} {E = E} w f a b p (Ok x) → Writes w f b c q r → Writes w f a c (p ++ q) r
+writes_then {w = w} {f = f} {a = a} {b = b} {c = c} {p = p} {q = q} {r = Ok y} h k =
+    record { ok = appends_on (w a) (w b) (w c) p q h.ok k.ok; err = tt; cause = record { later = omega (arith, h.cause.later, k.cause.later); failed = tt } }
+writes_then {w = w} {f = f} {a = a} {b = b} {c = c} {p = p} {q = q} {r = Err e} h k =
+    writes_failed refl (front_second (w a) (w b) (w c) p q h.ok k.err) h.cause.later k.cause
+
+-- a text was written up to one of its parts, of which a front is written
+pub writes_up_to : {X S T U E F : Type 0} {w : S → Option (List ℕ)} {f : S → ℕ} {a b c : S} {t : List ℕ} {e : E} {r : Result U F} (g : X → List ℕ) (xs : List X) (i : ℕ) (d : X)
+    → IsErr r → i < length xs → Wrote (w a) (w b) t (flat_map g (drop i xs)) → f a ≤ f b
+    → Writes {S = S} {T = T} {E = E} w f b c (g (get_or xs i d)) (Err e) → Writes w f a c t r
+writes_up_to {w = w} {f = f} {a = a} {b = b} {c = c} {t = t} g xs i d n h old later new =
+    writes_failed n (wrote_part_front g (w a) (w b) (w c) t xs i d h old new.err) later new.cause
 
 -- a call failed at the first of two parts, at the second, or before any
 pub failed_first : {T E : Type 0} (r : Result T E) (a b : Option (List ℕ)) (p q : List ℕ) → AppendsFront a b p → OnErr r (AppendsFront a b (p ++ q))

@@ -27,10 +27,8 @@ pub record AppendsFront (old new : Option (List ℕ)) (bytes : List ℕ) : Type 
   pub rest : List ℕ
   pub wrote : Wrote old new bytes rest
 
--- a call that is to append these bytes has appended them all, unless it failed
-abbrev pub Writes : {S T E : Type 0} → (S → Option (List ℕ)) → (old new : S) → List ℕ → Result T E → Type 0
-Writes written old new bytes result = OnOk result (Appends (written old) (written new) bytes)
-
--- and where it failed, a front of them
-abbrev pub WritesFront : {S T E : Type 0} → (S → Option (List ℕ)) → (old new : S) → List ℕ → Result T E → Type 0
-WritesFront written old new bytes result = OnErr result (AppendsFront (written old) (written new) bytes)
+-- a call that is to write these bytes has appended them all, or failed, which has its cause, and appended a front of them
+pub record Writes {S T E : Type 0} (written : S → Option (List ℕ)) (faults : S → ℕ) (old new : S) (bytes : List ℕ) (result : Result T E) : Type 0 where
+  pub ok : OnOk result (Appends (written old) (written new) bytes)
+  pub err : OnErr result (AppendsFront (written old) (written new) bytes)
+  pub cause : HasCause (faults old) (faults new) result

@@ -2,7 +2,7 @@
 ghost use Rattle.std.specs.Prelude.{◌≡◌};
 ghost use Rattle.std.specs.List.{flat_map};
 ghost use Rattle.byte_streams.specs.Parts.{counts_line};
-ghost use Rattle.byte_streams.specs.Stream.{HasCause, Writes, WritesFront};
+ghost use Rattle.byte_streams.specs.Stream.{Writes};
 
 use crate::stream::{Failed, Sink, write_all};
 use itoa::{Buffer, Integer};
@@ -17,10 +17,7 @@ pub fn decimal<'a, I: Integer>(buffer: &'a mut Buffer, number: I) -> &'a [u8]
 /// Writes one part after the other. At an error, which comes only where the count of the sink's faults rose, a front of
 /// them was written.
 pub fn write_parts<K: Sink>(sink: &mut K, parts: &[&[u8]]) -> Result<(), Failed>
-    ensures ok { Writes K.written sink.old sink.new (flat_map (λ part. part.now) parts.now) result }
-    ensures err { WritesFront K.written sink.old sink.new
-        (flat_map (λ part. part.now) parts.now) result }
-    ensures cause { HasCause (K.faults sink.old) (K.faults sink.new) result }
+    ensures { Writes K.written K.faults sink.old sink.new (flat_map (λ part. part.now) parts.now) result }
 {
     for part in parts {
         write_all(sink, *part)?;
@@ -37,11 +34,7 @@ pub fn write_two_counts<K: Sink>(
     middle: &[u8],
     second: u32,
 ) -> Result<(), Failed>
-    ensures ok { Writes K.written sink.old sink.new (counts_line head.now first middle.now second)
-        result }
-    ensures err { WritesFront K.written sink.old sink.new
-        (counts_line head.now first middle.now second) result }
-    ensures cause { HasCause (K.faults sink.old) (K.faults sink.new) result }
+    ensures { Writes K.written K.faults sink.old sink.new (counts_line head.now first middle.now second) result }
 {
     let mut first_buffer = Buffer::new();
     let mut second_buffer = Buffer::new();

@@ -4,7 +4,7 @@ ghost use Rattle.std.specs.declared.option.Option.{Option};
 ghost use Rattle.std.specs.Io.{ReadsAtMost};
 ghost use Rattle.std.specs.Io.KnownBytes.{ReadConsumes, WriteAppends, Consumes, IsAtEnd};
 ghost use Rattle.byte_streams.specs.declared.stream.ReadStop.TheVariants.{Fault, Memory, TooLarge};
-ghost use Rattle.byte_streams.specs.Stream.{HasCause, Rose, Writes, WritesFront};
+ghost use Rattle.byte_streams.specs.Stream.{HasCause, Rose, Writes};
 
 use std::alloc::{AllocError, Global};
 
@@ -97,9 +97,7 @@ pub fn read_all<S: Source>(alloc: Global, source: &mut S, limit: usize) -> Resul
 /// faults rose.
 #[tactic(auto, using(crate::proofs::Flow::wrote_take))]
 pub fn write_all<K: Sink>(sink: &mut K, bytes: &[u8]) -> Result<(), Failed>
-    ensures ok { Writes K.written sink.old sink.new bytes.now result }
-    ensures err { WritesFront K.written sink.old sink.new bytes.now result }
-    ensures cause { HasCause (K.faults sink.old) (K.faults sink.new) result }
+    ensures { Writes K.written K.faults sink.old sink.new bytes.now result }
 {
     let mut rest = bytes;
     while !rest.is_empty() {

@@ -1,7 +1,7 @@
 //! Writes verdicts, and how many there are of each kind.
 ghost use Rattle.std.specs.Prelude.{◌≡◌, ◌++◌, codes};
 ghost use Rattle.book_model.specs.lines.Text.{result_text};
-ghost use Rattle.byte_streams.specs.Stream.{HasCause, Writes, WritesFront};
+ghost use Rattle.byte_streams.specs.Stream.{Writes};
 ghost use Rattle.cert_check.specs.Text as spec;
 
 use crate::verdict::{Reason, Verdict};
@@ -13,9 +13,7 @@ use itoa::Buffer;
 /// Writes that a line stands.
 #[tactic(auto, unfolding(crate::specs::Text::yes_text))]
 fn write_yes<K: Sink>(sink: &mut K, number: u32) -> Result<(), Failed>
-    ensures ok { Writes K.written sink.old sink.new (spec.yes_text number) result }
-    ensures err { WritesFront K.written sink.old sink.new (spec.yes_text number) result }
-    ensures cause { HasCause (K.faults sink.old) (K.faults sink.new) result }
+    ensures { Writes K.written K.faults sink.old sink.new (spec.yes_text number) result }
 {
     let mut buffer = Buffer::new();
     let number = decimal(&mut buffer, number);
@@ -25,9 +23,7 @@ fn write_yes<K: Sink>(sink: &mut K, number: u32) -> Result<(), Failed>
 /// Writes that a line shows no result.
 #[tactic(auto, unfolding(crate::specs::Text::skip_text))]
 fn write_skip<K: Sink>(sink: &mut K, number: u32) -> Result<(), Failed>
-    ensures ok { Writes K.written sink.old sink.new (spec.skip_text number) result }
-    ensures err { WritesFront K.written sink.old sink.new (spec.skip_text number) result }
-    ensures cause { HasCause (K.faults sink.old) (K.faults sink.new) result }
+    ensures { Writes K.written K.faults sink.old sink.new (spec.skip_text number) result }
 {
     let mut buffer = Buffer::new();
     let number = decimal(&mut buffer, number);
@@ -37,9 +33,7 @@ fn write_skip<K: Sink>(sink: &mut K, number: u32) -> Result<(), Failed>
 /// Writes that a line's words break a rule.
 #[tactic(auto, unfolding(crate::specs::Text::form_text))]
 fn write_form<K: Sink>(sink: &mut K, number: u32, rule: u8) -> Result<(), Failed>
-    ensures ok { Writes K.written sink.old sink.new (spec.form_text number rule) result }
-    ensures err { WritesFront K.written sink.old sink.new (spec.form_text number rule) result }
-    ensures cause { HasCause (K.faults sink.old) (K.faults sink.new) result }
+    ensures { Writes K.written K.faults sink.old sink.new (spec.form_text number rule) result }
 {
     write_two_counts(sink, b"no ", number, b" form ", u32::from(rule))
 }
@@ -53,11 +47,8 @@ fn write_value<K: Sink>(
     listed: i64,
     found: i64,
 ) -> Result<(), Failed>
-    ensures ok { Writes K.written sink.old sink.new (spec.value_text number fact listed found)
-        result }
-    ensures err { WritesFront K.written sink.old sink.new
+    ensures { Writes K.written K.faults sink.old sink.new
         (spec.value_text number fact listed found) result }
-    ensures cause { HasCause (K.faults sink.old) (K.faults sink.new) result }
 {
     let mut number_buffer = Buffer::new();
     let mut fact_buffer = Buffer::new();
@@ -78,9 +69,7 @@ fn write_value<K: Sink>(
 /// Writes that a fact isn't listed.
 #[tactic(auto, unfolding(crate::specs::Text::missing_text))]
 fn write_missing<K: Sink>(sink: &mut K, number: u32, fact: Fact) -> Result<(), Failed>
-    ensures ok { Writes K.written sink.old sink.new (spec.missing_text number fact) result }
-    ensures err { WritesFront K.written sink.old sink.new (spec.missing_text number fact) result }
-    ensures cause { HasCause (K.faults sink.old) (K.faults sink.new) result }
+    ensures { Writes K.written K.faults sink.old sink.new (spec.missing_text number fact) result }
 {
     let mut number_buffer = Buffer::new();
     let mut day_buffer = Buffer::new();
@@ -107,9 +96,7 @@ fn write_missing<K: Sink>(sink: &mut K, number: u32, fact: Fact) -> Result<(), F
 /// Writes that a list differs from the facts that are asked.
 #[tactic(auto, unfolding(crate::specs::Text::list_text))]
 fn write_place<K: Sink>(sink: &mut K, number: u32, place: u32) -> Result<(), Failed>
-    ensures ok { Writes K.written sink.old sink.new (spec.list_text number place) result }
-    ensures err { WritesFront K.written sink.old sink.new (spec.list_text number place) result }
-    ensures cause { HasCause (K.faults sink.old) (K.faults sink.new) result }
+    ensures { Writes K.written K.faults sink.old sink.new (spec.list_text number place) result }
 {
     write_two_counts(sink, b"no ", number, b" list ", place)
 }
@@ -117,9 +104,7 @@ fn write_place<K: Sink>(sink: &mut K, number: u32, place: u32) -> Result<(), Fai
 /// Writes the front of a line on a result, up to the result.
 #[tactic(auto, unfolding(crate::specs::Text::date_head_text))]
 fn write_date_head<K: Sink>(sink: &mut K, number: u32) -> Result<(), Failed>
-    ensures ok { Writes K.written sink.old sink.new (spec.date_head_text number) result }
-    ensures err { WritesFront K.written sink.old sink.new (spec.date_head_text number) result }
-    ensures cause { HasCause (K.faults sink.old) (K.faults sink.new) result }
+    ensures { Writes K.written K.faults sink.old sink.new (spec.date_head_text number) result }
 {
     let mut buffer = Buffer::new();
     let number = decimal(&mut buffer, number);
@@ -127,35 +112,25 @@ fn write_date_head<K: Sink>(sink: &mut K, number: u32) -> Result<(), Failed>
 }
 
 /// Writes a result and the line's end.
-#[tactic(auto, using(byte_streams::proofs::Flow::writing))]
 fn write_found<K: Sink>(sink: &mut K, found: Resolved) -> Result<(), Failed>
-    ensures ok { Writes K.written sink.old sink.new (result_text found ++ codes "\n") result }
-    ensures err { WritesFront K.written sink.old sink.new (result_text found ++ codes "\n") result }
-    ensures cause { HasCause (K.faults sink.old) (K.faults sink.new) result }
+    ensures { Writes K.written K.faults sink.old sink.new (result_text found ++ codes "\n") result }
 {
     write_result(sink, found)?;
-    write_all(sink, b"\n")?;
-    Ok(())
+    write_all(sink, b"\n")
 }
 
 /// Writes that a result has another text.
-#[tactic(auto, using(byte_streams::proofs::Flow::writing))]
 fn write_date<K: Sink>(sink: &mut K, number: u32, found: Resolved) -> Result<(), Failed>
-    ensures ok { Writes K.written sink.old sink.new (spec.date_text number found) result }
-    ensures err { WritesFront K.written sink.old sink.new (spec.date_text number found) result }
-    ensures cause { HasCause (K.faults sink.old) (K.faults sink.new) result }
+    ensures { Writes K.written K.faults sink.old sink.new (spec.date_text number found) result }
 {
     write_date_head(sink, number)?;
-    write_found(sink, found)?;
-    Ok(())
+    write_found(sink, found)
 }
 
 /// Writes the reason against a line.
 fn write_reason<K: Sink>(sink: &mut K, number: u32, reason: &Reason) -> Result<(), Failed>
-    ensures ok { Writes K.written sink.old sink.new (spec.reason_text number reason.now) result }
-    ensures err { WritesFront K.written sink.old sink.new
+    ensures { Writes K.written K.faults sink.old sink.new
         (spec.reason_text number reason.now) result }
-    ensures cause { HasCause (K.faults sink.old) (K.faults sink.new) result }
 {
     match *reason {
         Reason::Form(rule) => write_form(sink, number, rule),
@@ -175,10 +150,8 @@ fn write_reason<K: Sink>(sink: &mut K, number: u32, reason: &Reason) -> Result<(
 /// Writes the verdict of the line of this number: `yes N`, `skip N`, or `no N` and the reason. At an error, which comes
 /// only where the count of the sink's faults rose, a front of the text was written.
 pub fn write_verdict<K: Sink>(sink: &mut K, number: u32, verdict: &Verdict) -> Result<(), Failed>
-    ensures ok { Writes K.written sink.old sink.new (spec.verdict_text number verdict.now) result }
-    ensures err { WritesFront K.written sink.old sink.new
+    ensures { Writes K.written K.faults sink.old sink.new
         (spec.verdict_text number verdict.now) result }
-    ensures cause { HasCause (K.faults sink.old) (K.faults sink.new) result }
 {
     match verdict {
         Verdict::Yes => write_yes(sink, number),
@@ -191,9 +164,7 @@ pub fn write_verdict<K: Sink>(sink: &mut K, number: u32, verdict: &Verdict) -> R
 /// count of the sink's faults rose, a front of the text was written.
 #[tactic(auto, unfolding(crate::specs::Text::counts_text))]
 pub fn write_counts<K: Sink>(sink: &mut K, yes: u32, no: u32, skip: u32) -> Result<(), Failed>
-    ensures ok { Writes K.written sink.old sink.new (spec.counts_text yes no skip) result }
-    ensures err { WritesFront K.written sink.old sink.new (spec.counts_text yes no skip) result }
-    ensures cause { HasCause (K.faults sink.old) (K.faults sink.new) result }
+    ensures { Writes K.written K.faults sink.old sink.new (spec.counts_text yes no skip) result }
 {
     let mut yes_buffer = Buffer::new();
     let mut no_buffer = Buffer::new();

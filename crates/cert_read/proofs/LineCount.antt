@@ -1,5 +1,5 @@
 -- How many lines bytes have.
-use Rattle.std.proofs.Common.{◌≡◌, ℕ, suc, ◌≤◌, Bool, true, false, List, [], ◌∷◌, length, map, arith}
+use Rattle.std.proofs.Common.{ℕ, suc, ◌≤◌, Bool, true, false, List, [], ◌∷◌, length, arith}
 use Rattle.std.proofs.lemmas.List.{length-map}
 use Rattle.std.specs.Prelude.{◌==◌, if◌then◌else◌}
 use Rattle.book_model.specs.lines.Lines.{raw_lines, onto_first, lines_of, without_return}
@@ -19,7 +19,3 @@ raw_count (b ∷ bs) = step (b == 10) (raw_count bs)
 -- bytes have at most as many lines as they are
 pub line_count : (bytes : List ℕ) → length (lines_of bytes) ≤ length bytes
 line_count bytes = omega (arith, raw_count bytes, length-map (raw_lines bytes) without_return)
-
--- and so has what they were cut into
-pub cut_count : {X : Type 0} (f : X → List ℕ) (xs : List X) (bytes : List ℕ) → map f xs ≡ lines_of bytes → length xs ≤ length bytes
-cut_count f xs bytes e = let c : length (map f xs) ≤ length bytes = rw e (line_count bytes) in omega (arith, c, length-map xs f)

@@ -1,12 +1,13 @@
 //! Reads a printed file.
-ghost use Rattle.std.specs.Prelude.{false, ◌≡◌, ◌<◌, ◌≤◌, ◌^◌, [], map, length};
+ghost use Rattle.std.specs.Prelude.{false, ◌≡◌, ◌<◌, ◌≤◌, ◌^◌, [], length};
+ghost use Rattle.book_model.specs.lines.Lines.{lines_of};
 ghost use Rattle.cert_read.specs.Reading.{Answers, grammar_of, reading_from};
 ghost use Rattle.cert_read.specs.declared.read.TheConstants.{LONGEST_FILE as longest_file};
 
 use crate::lines::CertFile;
 use crate::reader::{Reader, Stop};
 use book_model::HEADER;
-use line_core::split_lines;
+use line_core::cut_line;
 use std::alloc::Global;
 use thiserror::Error;
 
@@ -23,30 +24,29 @@ pub enum ReadFail {
     Memory,
 }
 
-/// Reads the lines below the header.
-fn read_lines(alloc: Global, lines: &[&[u8]]) -> Result<CertFile, ReadFail>
-    requires { length lines.now < 2 ^ 31 }
+/// Reads the lines below the header, each as it is cut off, so that they take no memory of their own.
+fn read_lines(alloc: Global, bytes: &[u8]) -> Result<CertFile, ReadFail>
+    requires { length (lines_of bytes.now) < 2 ^ 31 }
     ensures { Answers result (reading_from 2 (record { facts = []; lines = [] }) false
-        (map (λ line. line.now) lines.now)) }
+        (lines_of bytes.now)) }
 {
     let mut reader = Reader::new(alloc);
-    for (index, line) in lines.iter().enumerate() {
-        match reader.take(alloc, *line) {
+    let mut number = 2;
+    let mut rest = bytes;
+    while let Some((line, more)) = cut_line(rest) {
+        match reader.take(alloc, line) {
             Ok(()) => {}
-            Err(Stop::Rule(rule)) => {
-                return Err(ReadFail::Bad {
-                    line: (index + 2) as u32,
-                    rule,
-                });
-            }
+            Err(Stop::Rule(rule)) => return Err(ReadFail::Bad { line: number, rule }),
             Err(Stop::Memory) => return Err(ReadFail::Memory),
         }
+        number += 1;
+        rest = more;
     }
     if reader.ended {
         Ok(reader.file)
     } else {
         Err(ReadFail::Bad {
-            line: (lines.len() + 2) as u32,
+            line: number,
             rule: 6,
         })
     }
@@ -65,13 +65,10 @@ pub fn read_file(alloc: Global, bytes: &[u8]) -> Result<CertFile, ReadFail>
     requires { length bytes.now ≤ longest_file }
     ensures { Answers result (grammar_of bytes.now) }
 {
-    let Ok(lines) = split_lines(alloc, bytes) else {
-        return Err(ReadFail::Memory);
-    };
-    let Some((first, rest)) = lines.split_first() else {
+    let Some((first, rest)) = cut_line(bytes) else {
         return Err(ReadFail::Bad { line: 1, rule: 1 });
     };
-    if *first == HEADER.as_bytes() {
+    if first == HEADER.as_bytes() {
         read_lines(alloc, rest)
     } else {
         Err(ReadFail::Bad { line: 1, rule: 1 })

@@ -3,7 +3,7 @@ ghost use Rattle.std.specs.Prelude.{◌≡◌, ◌≤◌, ◌<◌, ◌-◌, ◌+
 ghost use Rattle.std.specs.Fmt.{signed_decimal};
 ghost use Rattle.std.specs.List.{flat_map};
 ghost use Rattle.book_model.specs.lines.Text as spec;
-ghost use Rattle.byte_streams.specs.Stream.{HasCause, Writes, WritesFront};
+ghost use Rattle.byte_streams.specs.Stream.{Writes};
 
 use crate::lists::Word;
 use crate::write::{REFUSED_5, write_no_date, write_too_far};
@@ -23,9 +23,7 @@ fn zeros(width: usize, digits: &[u8]) -> &'static [u8]
 /// Writes a Gregorian date: a year of four digits, a month of two and a day of two.
 #[tactic(auto, unfolding(book_model::specs::lines::Text::gregorian_text))]
 fn write_gregorian<K: Sink>(sink: &mut K, date: &Fields) -> Result<(), Failed>
-    ensures ok { Writes K.written sink.old sink.new (spec.gregorian_text date.now) result }
-    ensures err { WritesFront K.written sink.old sink.new (spec.gregorian_text date.now) result }
-    ensures cause { HasCause (K.faults sink.old) (K.faults sink.new) result }
+    ensures { Writes K.written K.faults sink.old sink.new (spec.gregorian_text date.now) result }
 {
     let mut year_buffer = Buffer::new();
     let mut month_buffer = Buffer::new();
@@ -50,9 +48,7 @@ fn write_gregorian<K: Sink>(sink: &mut K, date: &Fields) -> Result<(), Failed>
 
 /// Writes a number.
 fn write_number<K: Sink>(sink: &mut K, value: i32) -> Result<(), Failed>
-    ensures ok { Writes K.written sink.old sink.new (signed_decimal value) result }
-    ensures err { WritesFront K.written sink.old sink.new (signed_decimal value) result }
-    ensures cause { HasCause (K.faults sink.old) (K.faults sink.new) result }
+    ensures { Writes K.written K.faults sink.old sink.new (signed_decimal value) result }
 {
     let mut buffer = Buffer::new();
     write_all(sink, decimal(&mut buffer, value))
@@ -60,20 +56,15 @@ fn write_number<K: Sink>(sink: &mut K, value: i32) -> Result<(), Failed>
 
 /// Writes the first value of a result's fields.
 fn write_value<K: Sink>(sink: &mut K, fields: &Fields) -> Result<(), Failed>
-    ensures ok { Writes K.written sink.old sink.new (signed_decimal (spec.first_value fields.now))
-        result }
-    ensures err { WritesFront K.written sink.old sink.new
+    ensures { Writes K.written K.faults sink.old sink.new
         (signed_decimal (spec.first_value fields.now)) result }
-    ensures cause { HasCause (K.faults sink.old) (K.faults sink.new) result }
 {
     write_number(sink, fields.values[0])
 }
 
 /// Writes a dash, and a number.
 fn write_next<K: Sink>(sink: &mut K, value: i32) -> Result<(), Failed>
-    ensures ok { Writes K.written sink.old sink.new (spec.dash_text value) result }
-    ensures err { WritesFront K.written sink.old sink.new (spec.dash_text value) result }
-    ensures cause { HasCause (K.faults sink.old) (K.faults sink.new) result }
+    ensures { Writes K.written K.faults sink.old sink.new (spec.dash_text value) result }
 {
     let mut buffer = Buffer::new();
     write_parts(sink, &[b"-", decimal(&mut buffer, value)])
@@ -81,10 +72,8 @@ fn write_next<K: Sink>(sink: &mut K, value: i32) -> Result<(), Failed>
 
 /// Writes numbers, a dash before each.
 fn write_others<K: Sink>(sink: &mut K, values: &[i32]) -> Result<(), Failed>
-    ensures ok { Writes K.written sink.old sink.new (flat_map spec.dash_text values.now) result }
-    ensures err { WritesFront K.written sink.old sink.new
+    ensures { Writes K.written K.faults sink.old sink.new
         (flat_map spec.dash_text values.now) result }
-    ensures cause { HasCause (K.faults sink.old) (K.faults sink.new) result }
 {
     for value in values {
         write_next(sink, *value)?;
@@ -101,22 +90,16 @@ fn fields_in(date: &Fields) -> &[i32]
 
 /// Writes a number, and others with a dash before each.
 fn write_row<K: Sink>(sink: &mut K, first: i32, others: &[i32]) -> Result<(), Failed>
-    ensures ok { Writes K.written sink.old sink.new (signed_decimal first
-        ++ flat_map spec.dash_text others.now) result }
-    ensures err { WritesFront K.written sink.old sink.new
+    ensures { Writes K.written K.faults sink.old sink.new
         (signed_decimal first ++ flat_map spec.dash_text others.now) result }
-    ensures cause { HasCause (K.faults sink.old) (K.faults sink.new) result }
 {
     write_number(sink, first)?;
-    write_others(sink, others)?;
-    Ok(())
+    write_others(sink, others)
 }
 
 /// Writes numbers with dashes between them.
 fn write_joined<K: Sink>(sink: &mut K, values: &[i32]) -> Result<(), Failed>
-    ensures ok { Writes K.written sink.old sink.new (spec.dashed values.now) result }
-    ensures err { WritesFront K.written sink.old sink.new (spec.dashed values.now) result }
-    ensures cause { HasCause (K.faults sink.old) (K.faults sink.new) result }
+    ensures { Writes K.written K.faults sink.old sink.new (spec.dashed values.now) result }
 {
     match values.split_first() {
         Some((first, others)) => write_row(sink, *first, others),
@@ -127,9 +110,7 @@ fn write_joined<K: Sink>(sink: &mut K, values: &[i32]) -> Result<(), Failed>
 /// Writes the fields of a date with dashes between them.
 #[tactic(auto, unfolding(book_model::specs::lines::Text::dashed_text))]
 fn write_dashed<K: Sink>(sink: &mut K, date: &Fields) -> Result<(), Failed>
-    ensures ok { Writes K.written sink.old sink.new (spec.dashed_text date.now) result }
-    ensures err { WritesFront K.written sink.old sink.new (spec.dashed_text date.now) result }
-    ensures cause { HasCause (K.faults sink.old) (K.faults sink.new) result }
+    ensures { Writes K.written K.faults sink.old sink.new (spec.dashed_text date.now) result }
 {
     write_joined(sink, fields_in(date))
 }
@@ -138,9 +119,8 @@ fn write_dashed<K: Sink>(sink: &mut K, date: &Fields) -> Result<(), Failed>
 /// between its fields. At an error, which comes only where the count of the sink's faults rose, a front of it was
 /// written.
 pub fn write_date<K: Sink>(sink: &mut K, calendar: Calendar, date: &Fields) -> Result<(), Failed>
-    ensures ok { Writes K.written sink.old sink.new (spec.date_text calendar date.now) result }
-    ensures err { WritesFront K.written sink.old sink.new (spec.date_text calendar date.now) result }
-    ensures cause { HasCause (K.faults sink.old) (K.faults sink.new) result }
+    ensures { Writes K.written K.faults sink.old sink.new
+        (spec.date_text calendar date.now) result }
 {
     if calendar.row().is_padded {
         write_gregorian(sink, date)
@@ -151,9 +131,7 @@ pub fn write_date<K: Sink>(sink: &mut K, calendar: Calendar, date: &Fields) -> R
 
 /// Writes a date of a calendar, or the value of a fact, with a minus sign where it is below 0.
 fn write_shown<K: Sink>(sink: &mut K, to: ToWord, fields: &Fields) -> Result<(), Failed>
-    ensures ok { Writes K.written sink.old sink.new (spec.shown_as to fields.now) result }
-    ensures err { WritesFront K.written sink.old sink.new (spec.shown_as to fields.now) result }
-    ensures cause { HasCause (K.faults sink.old) (K.faults sink.new) result }
+    ensures { Writes K.written K.faults sink.old sink.new (spec.shown_as to fields.now) result }
 {
     match to.shows() {
         Shown::Date(calendar) => write_date(sink, calendar, fields),
@@ -163,24 +141,18 @@ fn write_shown<K: Sink>(sink: &mut K, to: ToWord, fields: &Fields) -> Result<(),
 
 /// Writes the own date of a day that isn't the one given.
 fn write_own_date<K: Sink>(sink: &mut K, back: &Fields) -> Result<(), Failed>
-    ensures ok { Writes K.written sink.old sink.new (spec.no_date_text (spec.dashed_text back.now))
-        result }
-    ensures err { WritesFront K.written sink.old sink.new
+    ensures { Writes K.written K.faults sink.old sink.new
         (spec.no_date_text (spec.dashed_text back.now)) result }
-    ensures cause { HasCause (K.faults sink.old) (K.faults sink.new) result }
 {
     write_all(sink, REFUSED_5)?;
-    write_dashed(sink, back)?;
-    Ok(())
+    write_dashed(sink, back)
 }
 
 /// Writes the text of what a line comes to: a date or a number, or the refusal with the day that is out of range or
 /// the day's own date. At an error, which comes only where the count of the sink's faults rose, a front of the text
 /// was written.
 pub fn write_result<K: Sink>(sink: &mut K, resolved: Resolved) -> Result<(), Failed>
-    ensures ok { Writes K.written sink.old sink.new (spec.result_text resolved) result }
-    ensures err { WritesFront K.written sink.old sink.new (spec.result_text resolved) result }
-    ensures cause { HasCause (K.faults sink.old) (K.faults sink.new) result }
+    ensures { Writes K.written K.faults sink.old sink.new (spec.result_text resolved) result }
 {
     match resolved {
         Resolved::Shown(to, fields) => write_shown(sink, to, &fields),

@@ -1,7 +1,7 @@
 //! Writes the text that stands for one line of input.
 ghost use Rattle.std.specs.Prelude.{◌≡◌, ◌≤◌, ◌<◌, ◌+◌, ◌^◌, ◌++◌, codes, length};
 ghost use Rattle.std.specs.List.{flat_map};
-ghost use Rattle.byte_streams.specs.Stream.{HasCause, Writes, WritesFront, Wrote};
+ghost use Rattle.byte_streams.specs.Stream.{Writes};
 ghost use Rattle.book_model.specs.lines.Text as model;
 ghost use Rattle.cert_text.specs.Text as spec;
 
@@ -16,11 +16,8 @@ pub(crate) const REFUSED_5: &[u8] = b"refused 5 ";
 /// Writes the line of a fact with its number and its value.
 #[tactic(auto, unfolding(book_model::specs::lines::Text::fact_text))]
 fn write_fact<K: Sink>(sink: &mut K, number: u32, entry: &(Fact, i64)) -> Result<(), Failed>
-    ensures ok { Writes K.written sink.old sink.new (model.fact_text number entry.now.0 entry.now.1)
-        result }
-    ensures err { WritesFront K.written sink.old sink.new
+    ensures { Writes K.written K.faults sink.old sink.new
         (model.fact_text number entry.now.0 entry.now.1) result }
-    ensures cause { HasCause (K.faults sink.old) (K.faults sink.new) result }
 {
     let mut number_buffer = Buffer::new();
     let mut day_buffer = Buffer::new();
@@ -42,9 +39,7 @@ fn write_fact<K: Sink>(sink: &mut K, number: u32, entry: &(Fact, i64)) -> Result
 /// Writes the lines of facts, of which the first has this number.
 fn write_facts<K: Sink>(sink: &mut K, first: u32, facts: &[(Fact, i64)]) -> Result<(), Failed>
     requires { first + length facts.now ≤ 2 ^ 32 }
-    ensures ok { Writes K.written sink.old sink.new (spec.fact_texts first facts.now) result }
-    ensures err { WritesFront K.written sink.old sink.new (spec.fact_texts first facts.now) result }
-    ensures cause { HasCause (K.faults sink.old) (K.faults sink.new) result }
+    ensures { Writes K.written K.faults sink.old sink.new (spec.fact_texts first facts.now) result }
 {
     for (index, entry) in facts.iter().enumerate() {
         write_fact(sink, first + index as u32, entry)?;
@@ -55,11 +50,8 @@ fn write_facts<K: Sink>(sink: &mut K, first: u32, facts: &[(Fact, i64)]) -> Resu
 /// Writes the number of a line and its three words.
 #[tactic(auto, unfolding(book_model::specs::lines::Text::echo_text))]
 fn write_echo<K: Sink>(sink: &mut K, number: u32, echo: &Echo) -> Result<(), Failed>
-    ensures ok { Writes K.written sink.old sink.new (model.echo_text number
-        (spec.words_in echo.now)) result }
-    ensures err { WritesFront K.written sink.old sink.new
+    ensures { Writes K.written K.faults sink.old sink.new
         (model.echo_text number (spec.words_in echo.now)) result }
-    ensures cause { HasCause (K.faults sink.old) (K.faults sink.new) result }
 {
     let mut number_buffer = Buffer::new();
     let number = decimal(&mut number_buffer, number);
@@ -74,9 +66,7 @@ fn write_echo<K: Sink>(sink: &mut K, number: u32, echo: &Echo) -> Result<(), Fai
 
 /// Writes the number of a fact that a line lists.
 fn write_number<K: Sink>(sink: &mut K, number: u32) -> Result<(), Failed>
-    ensures ok { Writes K.written sink.old sink.new (model.number_text number) result }
-    ensures err { WritesFront K.written sink.old sink.new (model.number_text number) result }
-    ensures cause { HasCause (K.faults sink.old) (K.faults sink.new) result }
+    ensures { Writes K.written K.faults sink.old sink.new (model.number_text number) result }
 {
     let mut buffer = Buffer::new();
     let number = decimal(&mut buffer, number);
@@ -85,10 +75,8 @@ fn write_number<K: Sink>(sink: &mut K, number: u32) -> Result<(), Failed>
 
 /// Writes the numbers of the facts that a line lists.
 fn write_numbers<K: Sink>(sink: &mut K, numbers: &[u32]) -> Result<(), Failed>
-    ensures ok { Writes K.written sink.old sink.new (flat_map model.number_text numbers.now) result }
-    ensures err { WritesFront K.written sink.old sink.new
+    ensures { Writes K.written K.faults sink.old sink.new
         (flat_map model.number_text numbers.now) result }
-    ensures cause { HasCause (K.faults sink.old) (K.faults sink.new) result }
 {
     for number in numbers {
         write_number(sink, *number)?;
@@ -96,52 +84,20 @@ fn write_numbers<K: Sink>(sink: &mut K, numbers: &[u32]) -> Result<(), Failed>
     Ok(())
 }
 
-/// Writes the numbers of the facts that a line lists, and the line's end.
-#[tactic(auto, using(byte_streams::proofs::Flow::writing))]
-fn write_numbers_end<K: Sink>(sink: &mut K, numbers: &[u32]) -> Result<(), Failed>
-    ensures ok { Writes K.written sink.old sink.new (flat_map model.number_text numbers.now
-        ++ codes "\n") result }
-    ensures err { WritesFront K.written sink.old sink.new
-        (flat_map model.number_text numbers.now ++ codes "\n") result }
-    ensures cause { HasCause (K.faults sink.old) (K.faults sink.new) result }
-{
-    write_numbers(sink, numbers)?;
-    write_all(sink, b"\n")?;
-    Ok(())
-}
-
 /// Writes the list of facts at the end of a line.
 #[tactic(auto, unfolding(book_model::specs::lines::Text::facts_text))]
 fn write_list<K: Sink>(sink: &mut K, numbers: &[u32]) -> Result<(), Failed>
-    ensures ok { Writes K.written sink.old sink.new (model.facts_text numbers.now) result }
-    ensures err { WritesFront K.written sink.old sink.new (model.facts_text numbers.now) result }
-    ensures cause { HasCause (K.faults sink.old) (K.faults sink.new) result }
+    ensures { Writes K.written K.faults sink.old sink.new (model.facts_text numbers.now) result }
 {
     write_all(sink, b" facts")?;
-    write_numbers_end(sink, numbers)?;
-    Ok(())
-}
-
-/// Writes what a line shows, and its list of facts.
-#[tactic(auto, using(byte_streams::proofs::Flow::writing))]
-fn write_shown<K: Sink>(sink: &mut K, shown: &[u8], numbers: &[u32]) -> Result<(), Failed>
-    ensures ok { Writes K.written sink.old sink.new (shown.now ++ model.facts_text numbers.now)
-        result }
-    ensures err { WritesFront K.written sink.old sink.new
-        (shown.now ++ model.facts_text numbers.now) result }
-    ensures cause { HasCause (K.faults sink.old) (K.faults sink.new) result }
-{
-    write_all(sink, shown)?;
-    write_list(sink, numbers)?;
-    Ok(())
+    write_numbers(sink, numbers)?;
+    write_all(sink, b"\n")
 }
 
 /// Writes that a day (R.D.) is out of range.
 #[tactic(auto, unfolding(book_model::specs::lines::Text::too_far_text))]
 pub(crate) fn write_too_far<K: Sink>(sink: &mut K, day: i64) -> Result<(), Failed>
-    ensures ok { Writes K.written sink.old sink.new (model.too_far_text day) result }
-    ensures err { WritesFront K.written sink.old sink.new (model.too_far_text day) result }
-    ensures cause { HasCause (K.faults sink.old) (K.faults sink.new) result }
+    ensures { Writes K.written K.faults sink.old sink.new (model.too_far_text day) result }
 {
     let mut buffer = Buffer::new();
     let day = decimal(&mut buffer, day);
@@ -151,9 +107,7 @@ pub(crate) fn write_too_far<K: Sink>(sink: &mut K, day: i64) -> Result<(), Faile
 /// Writes that a day has another date of its own.
 #[tactic(auto, unfolding(book_model::specs::lines::Text::no_date_text))]
 pub(crate) fn write_no_date<K: Sink>(sink: &mut K, back: &[u8]) -> Result<(), Failed>
-    ensures ok { Writes K.written sink.old sink.new (model.no_date_text back.now) result }
-    ensures err { WritesFront K.written sink.old sink.new (model.no_date_text back.now) result }
-    ensures cause { HasCause (K.faults sink.old) (K.faults sink.new) result }
+    ensures { Writes K.written K.faults sink.old sink.new (model.no_date_text back.now) result }
 {
     write_parts(sink, &[REFUSED_5, back])
 }
@@ -161,9 +115,7 @@ pub(crate) fn write_no_date<K: Sink>(sink: &mut K, back: &[u8]) -> Result<(), Fa
 /// Writes the line of a line that breaks a rule.
 #[tactic(auto, unfolding(book_model::specs::lines::Text::refused_text))]
 fn write_refused<K: Sink>(sink: &mut K, number: u32, rule: u8) -> Result<(), Failed>
-    ensures ok { Writes K.written sink.old sink.new (model.refused_text number rule) result }
-    ensures err { WritesFront K.written sink.old sink.new (model.refused_text number rule) result }
-    ensures cause { HasCause (K.faults sink.old) (K.faults sink.new) result }
+    ensures { Writes K.written K.faults sink.old sink.new (model.refused_text number rule) result }
 {
     write_two_counts(sink, b"line ", number, b" refused ", u32::from(rule))
 }
@@ -171,9 +123,7 @@ fn write_refused<K: Sink>(sink: &mut K, number: u32, rule: u8) -> Result<(), Fai
 /// Writes the number of a line, and that a fact is undecided.
 #[tactic(auto, unfolding(book_model::specs::lines::Text::open_text))]
 fn write_open<K: Sink>(sink: &mut K, number: u32, fact: Fact, at: Undecided) -> Result<(), Failed>
-    ensures ok { Writes K.written sink.old sink.new (model.open_text number fact at) result }
-    ensures err { WritesFront K.written sink.old sink.new (model.open_text number fact at) result }
-    ensures cause { HasCause (K.faults sink.old) (K.faults sink.new) result }
+    ensures { Writes K.written K.faults sink.old sink.new (model.open_text number fact at) result }
 {
     let mut number_buffer = Buffer::new();
     let mut turn_buffer = Buffer::new();
@@ -214,9 +164,8 @@ fn write_open<K: Sink>(sink: &mut K, number: u32, fact: Fact, at: Undecided) -> 
 /// Writes the number of a line, and that a fact is void.
 #[tactic(auto, unfolding(book_model::specs::lines::Text::empty_text))]
 fn write_empty<K: Sink>(sink: &mut K, number: u32, fact: Fact, site: Site) -> Result<(), Failed>
-    ensures ok { Writes K.written sink.old sink.new (model.empty_text number fact site) result }
-    ensures err { WritesFront K.written sink.old sink.new (model.empty_text number fact site) result }
-    ensures cause { HasCause (K.faults sink.old) (K.faults sink.new) result }
+    ensures { Writes K.written K.faults sink.old sink.new
+        (model.empty_text number fact site) result }
 {
     let mut number_buffer = Buffer::new();
     let mut day_buffer = Buffer::new();
@@ -235,7 +184,6 @@ fn write_empty<K: Sink>(sink: &mut K, number: u32, fact: Fact, site: Site) -> Re
 
 /// Writes a line that names an undecided fact, behind a head. At an error, which comes only where the count of the
 /// sink's faults rose, a front of the text was written.
-#[tactic(auto, using(byte_streams::proofs::Flow::writing))]
 pub fn write_undecided<K: Sink>(
     sink: &mut K,
     head: &[u8],
@@ -243,20 +191,15 @@ pub fn write_undecided<K: Sink>(
     fact: Fact,
     at: Undecided,
 ) -> Result<(), Failed>
-    ensures ok { Writes K.written sink.old sink.new (model.undecided_text head.now number fact at)
-        result }
-    ensures err { WritesFront K.written sink.old sink.new
+    ensures { Writes K.written K.faults sink.old sink.new
         (model.undecided_text head.now number fact at) result }
-    ensures cause { HasCause (K.faults sink.old) (K.faults sink.new) result }
 {
     write_all(sink, head)?;
-    write_open(sink, number, fact, at)?;
-    Ok(())
+    write_open(sink, number, fact, at)
 }
 
 /// Writes a line that names a void fact, behind a head. At an error, which comes only where the count of the sink's
 /// faults rose, a front of the text was written.
-#[tactic(auto, using(byte_streams::proofs::Flow::writing))]
 pub fn write_void<K: Sink>(
     sink: &mut K,
     head: &[u8],
@@ -264,47 +207,14 @@ pub fn write_void<K: Sink>(
     fact: Fact,
     site: Site,
 ) -> Result<(), Failed>
-    ensures ok { Writes K.written sink.old sink.new (model.void_text head.now number fact site)
-        result }
-    ensures err { WritesFront K.written sink.old sink.new
+    ensures { Writes K.written K.faults sink.old sink.new
         (model.void_text head.now number fact site) result }
-    ensures cause { HasCause (K.faults sink.old) (K.faults sink.new) result }
 {
     write_all(sink, head)?;
-    write_empty(sink, number, fact, site)?;
-    Ok(())
-}
-
-/// Writes that a day is out of range, and the list of facts.
-#[tactic(auto, using(byte_streams::proofs::Flow::writing))]
-fn write_too_far_end<K: Sink>(sink: &mut K, day: i64, numbers: &[u32]) -> Result<(), Failed>
-    ensures ok { Writes K.written sink.old sink.new (model.too_far_text day
-        ++ model.facts_text numbers.now) result }
-    ensures err { WritesFront K.written sink.old sink.new
-        (model.too_far_text day ++ model.facts_text numbers.now) result }
-    ensures cause { HasCause (K.faults sink.old) (K.faults sink.new) result }
-{
-    write_too_far(sink, day)?;
-    write_list(sink, numbers)?;
-    Ok(())
-}
-
-/// Writes a day's own date, and the list of facts.
-#[tactic(auto, using(byte_streams::proofs::Flow::writing))]
-fn write_no_date_end<K: Sink>(sink: &mut K, back: &[u8], numbers: &[u32]) -> Result<(), Failed>
-    ensures ok { Writes K.written sink.old sink.new (model.no_date_text back.now
-        ++ model.facts_text numbers.now) result }
-    ensures err { WritesFront K.written sink.old sink.new
-        (model.no_date_text back.now ++ model.facts_text numbers.now) result }
-    ensures cause { HasCause (K.faults sink.old) (K.faults sink.new) result }
-{
-    write_no_date(sink, back)?;
-    write_list(sink, numbers)?;
-    Ok(())
+    write_empty(sink, number, fact, site)
 }
 
 /// Writes a line with a result.
-#[tactic(auto, using(byte_streams::proofs::Flow::writing))]
 fn write_listed<K: Sink>(
     sink: &mut K,
     number: u32,
@@ -312,19 +222,15 @@ fn write_listed<K: Sink>(
     shown: &[u8],
     numbers: &[u32],
 ) -> Result<(), Failed>
-    ensures ok { Writes K.written sink.old sink.new (model.listed_text number
-        (spec.words_in echo.now) shown.now numbers.now) result }
-    ensures err { WritesFront K.written sink.old sink.new
+    ensures { Writes K.written K.faults sink.old sink.new
         (model.listed_text number (spec.words_in echo.now) shown.now numbers.now) result }
-    ensures cause { HasCause (K.faults sink.old) (K.faults sink.new) result }
 {
     write_echo(sink, number, echo)?;
-    write_shown(sink, shown, numbers)?;
-    Ok(())
+    write_all(sink, shown)?;
+    write_list(sink, numbers)
 }
 
 /// Writes a line whose computed day is out of range.
-#[tactic(auto, using(byte_streams::proofs::Flow::writing))]
 fn write_far_line<K: Sink>(
     sink: &mut K,
     number: u32,
@@ -332,20 +238,15 @@ fn write_far_line<K: Sink>(
     day: i64,
     numbers: &[u32],
 ) -> Result<(), Failed>
-    ensures ok { Writes K.written sink.old sink.new (model.listed_text number
-        (spec.words_in echo.now) (model.too_far_text day) numbers.now) result }
-    ensures err { WritesFront K.written sink.old sink.new
-        (model.listed_text number (spec.words_in echo.now) (model.too_far_text day) numbers.now)
-        result }
-    ensures cause { HasCause (K.faults sink.old) (K.faults sink.new) result }
+    ensures { Writes K.written K.faults sink.old sink.new
+        (model.listed_text number (spec.words_in echo.now) (model.too_far_text day) numbers.now) result }
 {
     write_echo(sink, number, echo)?;
-    write_too_far_end(sink, day, numbers)?;
-    Ok(())
+    write_too_far(sink, day)?;
+    write_list(sink, numbers)
 }
 
 /// Writes a line whose day has another date.
-#[tactic(auto, using(byte_streams::proofs::Flow::writing))]
 fn write_back_line<K: Sink>(
     sink: &mut K,
     number: u32,
@@ -353,24 +254,18 @@ fn write_back_line<K: Sink>(
     back: &[u8],
     numbers: &[u32],
 ) -> Result<(), Failed>
-    ensures ok { Writes K.written sink.old sink.new (model.listed_text number
-        (spec.words_in echo.now) (model.no_date_text back.now) numbers.now) result }
-    ensures err { WritesFront K.written sink.old sink.new
-        (model.listed_text number (spec.words_in echo.now) (model.no_date_text back.now)
-        numbers.now) result }
-    ensures cause { HasCause (K.faults sink.old) (K.faults sink.new) result }
+    ensures { Writes K.written K.faults sink.old sink.new
+        (model.listed_text number (spec.words_in echo.now) (model.no_date_text back.now) numbers.now) result }
 {
     write_echo(sink, number, echo)?;
-    write_no_date_end(sink, back, numbers)?;
-    Ok(())
+    write_no_date(sink, back)?;
+    write_list(sink, numbers)
 }
 
 /// Writes a line with its number. At an error, which comes only where the count of the sink's faults rose, a front of the
 /// text was written.
 pub fn write_line<K: Sink>(sink: &mut K, number: u32, line: &CertLine) -> Result<(), Failed>
-    ensures ok { Writes K.written sink.old sink.new (spec.line_text number line.now) result }
-    ensures err { WritesFront K.written sink.old sink.new (spec.line_text number line.now) result }
-    ensures cause { HasCause (K.faults sink.old) (K.faults sink.new) result }
+    ensures { Writes K.written K.faults sink.old sink.new (spec.line_text number line.now) result }
 {
     match line {
         CertLine::Shown {
@@ -392,23 +287,17 @@ pub fn write_line<K: Sink>(sink: &mut K, number: u32, line: &CertLine) -> Result
 
 /// Writes the text of a block: its facts, numbered from its first, and then its line with its number. At an error,
 /// which comes only where the count of the sink's faults rose, a front of the text was written.
-#[tactic(auto, using(byte_streams::proofs::Flow::writing))]
 pub fn write_block<K: Sink>(sink: &mut K, block: &Block) -> Result<(), Failed>
     requires { block.now.first + length block.now.facts ≤ 2 ^ 32 }
-    ensures ok { Writes K.written sink.old sink.new (spec.block_text block.now) result }
-    ensures err { WritesFront K.written sink.old sink.new (spec.block_text block.now) result }
-    ensures cause { HasCause (K.faults sink.old) (K.faults sink.new) result }
+    ensures { Writes K.written K.faults sink.old sink.new (spec.block_text block.now) result }
 {
     write_facts(sink, block.first, block.facts.entries())?;
-    write_line(sink, block.number, &block.line)?;
-    Ok(())
+    write_line(sink, block.number, &block.line)
 }
 
 /// Writes the first line of a text.
 pub fn write_header<K: Sink>(sink: &mut K) -> Result<(), Failed>
-    ensures ok { Writes K.written sink.old sink.new model.header result }
-    ensures err { WritesFront K.written sink.old sink.new model.header result }
-    ensures cause { HasCause (K.faults sink.old) (K.faults sink.new) result }
+    ensures { Writes K.written K.faults sink.old sink.new model.header result }
 {
     write_parts(sink, &[HEADER.as_bytes(), b"\n"])
 }
@@ -416,9 +305,7 @@ pub fn write_header<K: Sink>(sink: &mut K) -> Result<(), Failed>
 /// Writes the last line of a text, which counts its lines and facts.
 #[tactic(auto, unfolding(book_model::specs::lines::Text::end_text))]
 pub fn write_end<K: Sink>(sink: &mut K, lines: u32, facts: u32) -> Result<(), Failed>
-    ensures ok { Writes K.written sink.old sink.new (model.end_text lines facts) result }
-    ensures err { WritesFront K.written sink.old sink.new (model.end_text lines facts) result }
-    ensures cause { HasCause (K.faults sink.old) (K.faults sink.new) result }
+    ensures { Writes K.written K.faults sink.old sink.new (model.end_text lines facts) result }
 {
     write_two_counts(sink, b"end lines ", lines, b" facts ", facts)
 }

@@ -12,4 +12,4 @@ mod tests;
 
 pub use line::{Words, cut_word, read_line, three_words};
 pub use result::resolve;
-pub use split::split_lines;
+pub use split::{cut_line, split_lines};

@@ -1,5 +1,5 @@
 //! The lines of an input.
-ghost use Rattle.std.specs.Prelude.{◌≡◌, ◌<◌, ◌+◌, ◌∷◌, ◌==◌, length, map, position, IfOk};
+ghost use Rattle.std.specs.Prelude.{◌≡◌, ◌<◌, ◌≤◌, ◌+◌, [], ◌∷◌, List, ℕ, ◌==◌, length, map, position, IfOk, MatchOption};
 ghost use Rattle.book_model.specs.lines.Lines as spec;
 
 use std::alloc::{AllocError, Global};
@@ -32,6 +32,19 @@ fn without_return(line: &[u8]) -> &[u8]
     } else {
         line
     }
+}
+
+/// The first line of bytes, without its line feed and without one carriage return at its end, and what follows it; `None`
+/// where there are no bytes.
+pub fn cut_line(bytes: &[u8]) -> Option<(&[u8], &[u8])>
+    ensures cut { MatchOption result (spec.lines_of bytes.now ≡ [])
+        (λ p. spec.lines_of bytes.now ≡ p.0.now ∷ spec.lines_of p.1.now) }
+{
+    if bytes.is_empty() {
+        return None;
+    }
+    let (line, rest) = cut(bytes);
+    Some((without_return(line), rest))
 }
 
 /// The lines of an input, without their line feeds and without one carriage return at the end of each. A last

@@ -4,3 +4,4 @@ pub mod Numbering
 pub mod Commands
 pub mod Sampling
 pub mod Checking
+pub mod Writing

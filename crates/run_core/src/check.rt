@@ -4,7 +4,8 @@ ghost use Rattle.std.specs.List.{list_all};
 ghost use Rattle.std.specs.Io.KnownBytes.{Keeps};
 ghost use Rattle.cert_check.specs.Verdicts.{AreRightAnswers, IsCheckable};
 ghost use Rattle.cert_read.specs.declared.read.TheConstants.{LONGEST_FILE as longest_file};
-ghost use Rattle.byte_streams.specs.Stream.{HasCause, Rose, Writes, WritesFront, Wrote};
+ghost use Rattle.byte_streams.specs.Stream.{Rose, Writes, Wrote};
+ghost use Rattle.run_core.specs.Writing.{WritesAll, WritesFront};
 ghost use Rattle.run_core.specs.Checking as spec;
 
 use crate::numbering::{count_of, number_after};
@@ -150,7 +151,7 @@ fn put_counts<K: Sink>(
     pending: &mut Gathered,
     verdicts: &[Verdict],
 ) -> Result<(), WriteStop>
-    ensures ok { Writes K.written sink.old sink.new (pending.old.bytes.items
+    ensures ok { WritesAll K.written sink.old sink.new (pending.old.bytes.items
         ++ spec.counts_of verdicts.now) result }
     ensures err { WritesFront K.written sink.old sink.new
         (pending.old.bytes.items ++ spec.counts_of verdicts.now) result }
@@ -177,7 +178,7 @@ fn write_verdicts<K: Sink>(
     sink: &mut K,
     verdicts: &[Verdict],
 ) -> Result<(), WriteStop>
-    ensures ok { Writes K.written sink.old sink.new (spec.verdicts_text verdicts.now) result }
+    ensures ok { WritesAll K.written sink.old sink.new (spec.verdicts_text verdicts.now) result }
     ensures err { WritesFront K.written sink.old sink.new (spec.verdicts_text verdicts.now) result }
     ensures fault { IsErrOf result WriteStop.Fault → Rose (K.faults sink.old) (K.faults sink.new) }
     ensures later { K.faults sink.old ≤ K.faults sink.new }
@@ -192,9 +193,7 @@ fn write_verdicts<K: Sink>(
 /// Writes the line that names the first bad line of bytes, and the rule that it breaks.
 #[tactic(auto, unfolding(crate::specs::Checking::bad_text))]
 fn write_bad<K: Sink>(sink: &mut K, line: u32, rule: u8) -> Result<(), Failed>
-    ensures ok { Writes K.written sink.old sink.new (spec.bad_text line rule) result }
-    ensures err { WritesFront K.written sink.old sink.new (spec.bad_text line rule) result }
-    ensures cause { HasCause (K.faults sink.old) (K.faults sink.new) result }
+    ensures { Writes K.written K.faults sink.old sink.new (spec.bad_text line rule) result }
 {
     write_two_counts(sink, b"bad ", line, b" ", u32::from(rule))
 }

@@ -1,6 +1,7 @@
 //! Bytes that wait to be written, so that many blocks make few writes.
 ghost use Rattle.std.specs.Prelude.{◌≡◌, ◌≤◌, length, OnOk};
-ghost use Rattle.byte_streams.specs.Stream.{HasCause, Writes, WritesFront, Wrote};
+ghost use Rattle.byte_streams.specs.Stream.{HasCause, Wrote};
+ghost use Rattle.run_core.specs.Writing.{WritesFront};
 
 use byte_streams::{Failed, Gathered, Sink, write_all};
 

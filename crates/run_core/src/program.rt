@@ -5,7 +5,7 @@ ghost use Rattle.run_core.specs.Checking.{RefusesText};
 ghost use Rattle.command_words.specs.Words.{command_of as named, IsInRange};
 ghost use Rattle.run_core.specs.Commands.{input_of, limit_of, nothing};
 ghost use Rattle.run_core.specs.Run.{usage, Finishes, IsCut, IsOfWork, HasRead, CanRead, IsTooLarge, IsPast, ended};
-ghost use Rattle.byte_streams.specs.Stream.{Rose, HasCause, AppendsFront};
+ghost use Rattle.byte_streams.specs.Stream.{Rose, AppendsFront};
 
 use crate::check::{Checked, check};
 use crate::limits::input_limit;

@@ -3,7 +3,7 @@ ghost use Rattle.std.specs.Prelude.{◌≡◌, ◌≤◌, ◌<◌, ◌^◌, ◌�
 ghost use Rattle.std.specs.Io.KnownBytes.{Keeps};
 ghost use Rattle.book_model.specs.lines.Outcomes.{is_result};
 ghost use Rattle.book_model.specs.lines.Text.{with_fact, with_facts, seen_after};
-ghost use Rattle.byte_streams.specs.Stream.{HasCause, Rose, Writes, WritesFront};
+ghost use Rattle.byte_streams.specs.Stream.{Rose, Writes};
 ghost use Rattle.cert_text.specs.Laws.{is_undecided};
 ghost use Rattle.jobs_core.specs.Outcomes.{halt_outcome, line_outcome};
 ghost use Rattle.run_core.specs.Sampling as spec;
@@ -178,12 +178,8 @@ fn write_counts<K: Sink>(
     tally: Tally,
     facts: usize,
 ) -> Result<(), Failed>
-    ensures ok { Writes K.written sink.old sink.new (spec.counts_text count seed tally.decided
-        tally.undecided tally.void tally.refused facts) result }
-    ensures err { WritesFront K.written sink.old sink.new
-        (spec.counts_text count seed tally.decided tally.undecided tally.void tally.refused facts)
-        result }
-    ensures cause { HasCause (K.faults sink.old) (K.faults sink.new) result }
+    ensures { Writes K.written K.faults sink.old sink.new
+        (spec.counts_text count seed tally.decided tally.undecided tally.void tally.refused facts) result }
 {
     let mut count_buffer = Buffer::new();
     let mut seed_buffer = Buffer::new();

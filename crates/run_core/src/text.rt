@@ -2,7 +2,8 @@
 ghost use Rattle.std.specs.Prelude.{◌≡◌, ◌≤◌, ◌<◌, ◌+◌, ◌++◌, [], List, ℕ, map, length, OnOk, IsErrOf};
 ghost use Rattle.book_model.specs.lines.Outcomes.{IsRightFor, AreRight};
 ghost use Rattle.book_model.specs.lines.Text as spec;
-ghost use Rattle.byte_streams.specs.Stream.{Rose, Writes, WritesFront, Wrote};
+ghost use Rattle.byte_streams.specs.Stream.{Rose, Wrote};
+ghost use Rattle.run_core.specs.Writing.{WritesAll, WritesFront};
 ghost use Rattle.jobs_core.specs.Outcomes.{line_outcome};
 ghost use Rattle.run_core.specs.declared.text.WriteStop.TheVariants.{Fault, Memory};
 
@@ -81,7 +82,7 @@ fn put_end<K: Sink>(
     lines: usize,
     facts: usize,
 ) -> Result<(), WriteStop>
-    ensures ok { Writes K.written sink.old sink.new (pending.old.bytes.items
+    ensures ok { WritesAll K.written sink.old sink.new (pending.old.bytes.items
         ++ spec.end_text lines facts) result }
     ensures err { WritesFront K.written sink.old sink.new
         (pending.old.bytes.items ++ spec.end_text lines facts) result }
@@ -109,7 +110,7 @@ fn put_blocks<K: Sink>(
 ) -> Result<(), WriteStop>
     requires same { length lines.now ≡ length outcomes.now }
     requires right { AreRight (map (λ line. line.now) lines.now) (map line_outcome outcomes.now) }
-    ensures ok { Writes K.written sink.old sink.new (pending.old.bytes.items ++ spec.text_from [] 0
+    ensures ok { WritesAll K.written sink.old sink.new (pending.old.bytes.items ++ spec.text_from [] 0
         (map (λ line. line.now) lines.now) (map line_outcome outcomes.now)) result }
     ensures err { WritesFront K.written sink.old sink.new
         (pending.old.bytes.items ++ spec.text_from [] 0 (map (λ line. line.now) lines.now)
@@ -136,7 +137,7 @@ pub fn write_text<K: Sink>(
 ) -> Result<(), WriteStop>
     requires same { length lines.now ≡ length outcomes.now }
     requires right { AreRight (map (λ line. line.now) lines.now) (map line_outcome outcomes.now) }
-    ensures ok { Writes K.written sink.old sink.new (spec.text (map (λ line. line.now) lines.now)
+    ensures ok { WritesAll K.written sink.old sink.new (spec.text (map (λ line. line.now) lines.now)
         (map line_outcome outcomes.now)) result }
     ensures err { WritesFront K.written sink.old sink.new
         (spec.text (map (λ line. line.now) lines.now) (map line_outcome outcomes.now)) result }

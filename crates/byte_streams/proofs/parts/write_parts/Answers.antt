@@ -1,5 +1,5 @@
 use Rattle.std.proofs.Common.{arith}
-use Rattle.byte_streams.proofs.Flow.{wrote_part, wrote_part_front, at_any_err}
+use Rattle.byte_streams.proofs.Flow.{wrote_part, writes_up_to}
 use Rattle.byte_streams.proofs.parts.write_parts.Goals as goal
 
 pub loop-part-preserved : goal.loop-part-preserved
@@ -8,6 +8,7 @@ loop-part-preserved g c = record {
   later = omega (arith, c.in_ok-write_all.ensures.cause.later);
 }
 
-pub returns-in_err-write_all-clause-err : goal.returns-in_err-write_all-clause-err
-returns-in_err-write_all-clause-err g c =
-    at_any_err _ (wrote_part_front (λ part. part.now) _ _ _ _ c.args.parts.now c.loop-part.part-index _ c.loop-part-test.true c.loop-part.invariant.wrote c.in_err-write_all.ensures.err)
+pub returns-in_err-write_all : goal.returns-in_err-write_all
+returns-in_err-write_all g c =
+    writes_up_to (λ part. part.now) c.args.parts.now c.loop-part.part-index _ c.from_residual.ensures.0 c.loop-part-test.true c.loop-part.invariant.wrote c.loop-part.invariant.later
+    c.in_err-write_all.ensures

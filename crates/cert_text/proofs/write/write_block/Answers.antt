@@ -1,11 +1,8 @@
-use Rattle.byte_streams.proofs.Flow.{front_first, front_second, appends_on, at_any_err}
+use Rattle.byte_streams.proofs.Flow.{writes_first, writes_then}
 use Rattle.cert_text.proofs.write.write_block.Goals as goal
 
-pub returns-in_err-write_facts-clause-err : goal.returns-in_err-write_facts-clause-err
-returns-in_err-write_facts-clause-err g c = at_any_err _ (front_first _ _ _ _ (rw c.entries.ensures.entries at c.in_err-write_facts.ensures.err))
+pub returns-in_err-write_facts : goal.returns-in_err-write_facts
+returns-in_err-write_facts g c = writes_first _ c.from_residual.ensures.0 (rw c.entries.ensures.entries at c.in_err-write_facts.ensures)
 
-pub returns-in_err-write_line-clause-err : goal.returns-in_err-write_line-clause-err
-returns-in_err-write_line-clause-err g c = at_any_err _ (front_second _ _ _ _ _ (rw c.entries.ensures.entries at c.in_ok-write_facts.ensures.ok) c.in_err-write_line.ensures.err)
-
-pub returns-clause-ok : goal.returns-clause-ok
-returns-clause-ok g c = appends_on _ _ _ _ _ (rw c.entries.ensures.entries at c.in_ok-write_facts.ensures.ok) c.in_ok-write_line.ensures.ok
+pub returns : goal.returns
+returns g c = writes_then (rw c.entries.ensures.entries at c.in_ok-write_facts.ensures) c.write_line.ensures

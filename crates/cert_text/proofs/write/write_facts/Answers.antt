@@ -1,6 +1,5 @@
 use Rattle.std.proofs.Common.{arith}
-use Rattle.byte_streams.proofs.Flow.{at_any_err}
-use Rattle.cert_text.proofs.Writing.{wrote_fact, wrote_fact_front}
+use Rattle.cert_text.proofs.Writing.{wrote_fact, writes_up_to_fact}
 use Rattle.cert_text.proofs.write.write_facts.Goals as goal
 
 pub loop-index-preserved : goal.loop-index-preserved
@@ -9,6 +8,7 @@ loop-index-preserved g c = record {
   later = omega (arith, c.in_ok-write_fact.ensures.cause.later);
 }
 
-pub returns-in_err-write_fact-clause-err : goal.returns-in_err-write_fact-clause-err
-returns-in_err-write_fact-clause-err g c =
-    at_any_err _ (wrote_fact_front _ _ _ _ c.args.first c.args.facts.now c.loop-index.index _ c.loop-index-test.true c.loop-index.invariant.wrote c.in_err-write_fact.ensures.err)
+pub returns-in_err-write_fact : goal.returns-in_err-write_fact
+returns-in_err-write_fact g c =
+    writes_up_to_fact c.args.first c.args.facts.now c.loop-index.index _ c.from_residual.ensures.0 c.loop-index-test.true c.loop-index.invariant.wrote c.loop-index.invariant.later
+    c.in_err-write_fact.ensures

@@ -1,15 +1,15 @@
 use Rattle.book_model.specs.lines.Text.{facts_text}
-use Rattle.byte_streams.proofs.Flow.{failed_first, failed_second, appends_on}
+use Rattle.byte_streams.proofs.Flow.{writes_first, writes_then}
 use Rattle.cert_text.proofs.write.write_list.Goals as goal
 
-pub returns-in_err-write_all-clause-err : goal.returns-in_err-write_all-clause-err
+pub returns-in_err-write_all : goal.returns-in_err-write_all
 unfolding facts_text
-returns-in_err-write_all-clause-err g c = failed_first _ _ _ _ _ c.in_err-write_all.ensures.err
+returns-in_err-write_all g c = writes_first _ c.from_residual.ensures.0 c.in_err-write_all.ensures
 
-pub returns-in_err-write_numbers_end-clause-err : goal.returns-in_err-write_numbers_end-clause-err
+pub returns-in_err-write_numbers : goal.returns-in_err-write_numbers
 unfolding facts_text
-returns-in_err-write_numbers_end-clause-err g c = failed_second _ _ _ _ _ _ c.in_ok-write_all.ensures.ok c.in_err-write_numbers_end.ensures.err
+returns-in_err-write_numbers g c = writes_then c.in_ok-write_all.ensures (writes_first _ c.from_residual-in_err-write_numbers.ensures.0 c.in_err-write_numbers.ensures)
 
-pub returns-clause-ok : goal.returns-clause-ok
+pub returns : goal.returns
 unfolding facts_text
-returns-clause-ok g c = appends_on _ _ _ _ _ c.in_ok-write_all.ensures.ok c.in_ok-write_numbers_end.ensures.ok
+returns g c = writes_then c.in_ok-write_all.ensures (writes_then c.in_ok-write_numbers.ensures c.write_all-2.ensures)

@@ -1,6 +1,6 @@
 use Rattle.std.proofs.Common.{arith}
 use Rattle.book_model.specs.lines.Text.{number_text}
-use Rattle.byte_streams.proofs.Flow.{wrote_part, wrote_part_front, at_any_err}
+use Rattle.byte_streams.proofs.Flow.{wrote_part, writes_up_to}
 use Rattle.cert_text.proofs.write.write_numbers.Goals as goal
 
 pub loop-number-preserved : goal.loop-number-preserved
@@ -9,6 +9,7 @@ loop-number-preserved g c = record {
   later = omega (arith, c.in_ok-write_number.ensures.cause.later);
 }
 
-pub returns-in_err-write_number-clause-err : goal.returns-in_err-write_number-clause-err
-returns-in_err-write_number-clause-err g c =
-    at_any_err _ (wrote_part_front number_text _ _ _ _ c.args.numbers.now c.loop-number.number-index _ c.loop-number-test.true c.loop-number.invariant.wrote c.in_err-write_number.ensures.err)
+pub returns-in_err-write_number : goal.returns-in_err-write_number
+returns-in_err-write_number g c =
+    writes_up_to number_text c.args.numbers.now c.loop-number.number-index _ c.from_residual.ensures.0 c.loop-number-test.true c.loop-number.invariant.wrote c.loop-number.invariant.later
+    c.in_err-write_number.ensures
