@@ -1,5 +1,5 @@
 //! Bisection: the half is kept in which an angle is passed, until the ends are near.
-ghost use Rattle.book_model.specs.programs.Calls.{Decides2, Follows2, Follows3, Holds2, Narrows2};
+ghost use Rattle.book_model.specs.programs.Calls.{Decides2, Encloses2, Follows2, Follows3};
 ghost use Rattle.book_model.specs.programs.Bisection as spec;
 
 use crate::Angular;
@@ -15,8 +15,7 @@ const HALF_CIRCLE: i64 = 180;
 /// The middle of two numbers.
 #[tactic(auto, unfolding(book_model::specs::programs::Bisection::middle_of))]
 fn middle<E: Enclosure>(low: E, high: E) -> E
-    ensures holds { Holds2 E.shown spec.middle_of low high result }
-    ensures narrow { Narrows2 E.shown E.BITS spec.middle_of low high result }
+    ensures encloses { Encloses2 E.shown E.BITS spec.middle_of low high result }
 {
     low.add(high).mul_frac(HALF)
 }

@@ -1,5 +1,5 @@
 //! Arctangents, arcsines and arccosines of enclosures, in degrees.
-ghost use Rattle.book_model.specs.programs.Calls.{Holds1, Holds2, Narrows1, Narrows2};
+ghost use Rattle.book_model.specs.programs.Calls.{Encloses1, Encloses2};
 ghost use Rattle.std.specs.Prelude.{◌≡◌, IsTrue, false, neg_ℤ};
 ghost use Rattle.std.specs.Int.{int_min, int_max};
 ghost use Rattle.arc_series.specs.declared.degrees.TheConstants.{HALF_TURN};
@@ -20,8 +20,7 @@ const HALF_TURN: i128 = 12_970_366_926_827_028_480;
 /// It is taken over the closed pieces of the line that the enclosure meets, by the series of a number from -1/2 to 1/2 at
 /// both ends of each part. Source: Reingold and Dershowitz, Calendrical Calculations, chapter 14.
 pub fn arctan_deg<E: Enclosure>(x: E) -> E
-    ensures holds { Holds1 E.shown arctangent x result }
-    ensures narrow { Narrows1 E.shown E.BITS arctangent x result }
+    ensures encloses { Encloses1 E.shown E.BITS arctangent x result }
 {
     match x.span() {
         Some(span) => match arctan_over(span) {
@@ -35,8 +34,7 @@ pub fn arctan_deg<E: Enclosure>(x: E) -> E
 /// The tangent of half the arcsine of what is cut to -1..1.
 #[tactic(auto, unfolding(crate::specs::Forms::half_tangent_of))]
 fn half_tangent<E: Enclosure>(x: E) -> E
-    ensures holds { Holds1 E.shown half_tangent_of x result }
-    ensures narrow { Narrows1 E.shown E.BITS half_tangent_of x result }
+    ensures encloses { Encloses1 E.shown E.BITS half_tangent_of x result }
 {
     let sine = x.clamp_unit();
     let one = E::from_int(1);
@@ -47,16 +45,14 @@ fn half_tangent<E: Enclosure>(x: E) -> E
 /// The arcsine in degrees, of what is cut to -1..1 first: twice the arctangent of x / (1 + √(1 - x²)). Source: Reingold and
 /// Dershowitz, Calendrical Calculations, chapter 14.
 pub fn arcsin_deg<E: Enclosure>(x: E) -> E
-    ensures holds { Holds1 E.shown arcsine x result }
-    ensures narrow { Narrows1 E.shown E.BITS arcsine x result }
+    ensures encloses { Encloses1 E.shown E.BITS arcsine x result }
 {
     arctan_deg(half_tangent(x)).times(2)
 }
 
 /// The arccosine in degrees: 90 less the arcsine. Source: Reingold and Dershowitz, Calendrical Calculations, chapter 14.
 pub fn arccos_deg<E: Enclosure>(x: E) -> E
-    ensures holds { Holds1 E.shown arccosine x result }
-    ensures narrow { Narrows1 E.shown E.BITS arccosine x result }
+    ensures encloses { Encloses1 E.shown E.BITS arccosine x result }
 {
     E::from_int(90).sub(arcsin_deg(x))
 }
@@ -98,8 +94,7 @@ fn kept_around<E: Enclosure>(x: E) -> E
 /// -90 - arctan (x / y) where it is negative. It lies in -180..180, and is all of this where y has no sure sign. Source:
 /// Reingold and Dershowitz, Calendrical Calculations, chapter 14.
 pub fn arctan2_deg<E: Enclosure>(y: E, x: E) -> E
-    ensures holds { Holds2 E.shown arctangent_of_two y x result }
-    ensures narrow { Narrows2 E.shown E.BITS arctangent_of_two y x result }
+    ensures encloses { Encloses2 E.shown E.BITS arctangent_of_two y x result }
     ensures inside { IsTrue (is_scale E.BITS) → E.shown result ⊆ all_around }
     ensures unsure { has_sign (E.shown y) ≡ false → all_around ⊆ E.shown result }
 {

@@ -1,6 +1,6 @@
 //! The number pi.
 
-ghost use Rattle.book_model.specs.programs.Calls.{Holds, Narrows};
+ghost use Rattle.book_model.specs.programs.Calls.{Encloses};
 ghost use Rattle.book_model.specs.numbers.Expressions.{pi as pi_number};
 
 use crate::{Enclosure, Span};
@@ -9,8 +9,7 @@ use book_model::{PI_ABOVE, PI_BELOW};
 /// Pi, between two neighbours that count 2⁻⁵⁶.
 #[tactic(auto, using(crate::proofs::PiEnds::within_pi, crate::proofs::PiEnds::narrow_pi))]
 pub fn pi<E: Enclosure>() -> E
-    ensures holds { Holds E.shown pi_number result }
-    ensures narrow { Narrows E.shown E.BITS pi_number result }
+    ensures encloses { Encloses E.shown E.BITS pi_number result }
 {
     E::from_span(Span {
         lo: PI_BELOW.num(),

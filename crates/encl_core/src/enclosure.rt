@@ -1,5 +1,5 @@
 //! The trait of all kinds of enclosures.
-ghost use Rattle.book_model.specs.programs.Calls.{Holds, Holds1, Holds2, Narrows, Narrows1, Narrows2};
+ghost use Rattle.book_model.specs.programs.Calls.{Encloses, Encloses1, Encloses2};
 ghost use Rattle.std.specs.Prelude.{◌≡◌, ◌<◌, ℕ, ℤ, Some, IfOk, IfErr, IfSome, IsSome, IsNone};
 ghost use Rattle.exact_math.specs.Fraction.{whole as whole_number};
 ghost use Rattle.exact_math.specs.Interval.{Interval, everything, between, ◌⊆◌, IsProper, hull as hull_of_intervals};
@@ -49,13 +49,11 @@ pub trait Enclosure: Copy + Drop {
 
     /// The enclosure of a whole number.
     fn from_int(value: i64) -> Self
-        ensures holds { Holds shown (integer value) result }
-        ensures narrow { Narrows shown BITS (integer value) result };
+        ensures encloses { Encloses shown BITS (integer value) result };
 
     /// The enclosure of a fraction.
     fn from_frac(value: Frac) -> Self
-        ensures holds { Holds shown (constant (fraction_of value)) result }
-        ensures narrow { Narrows shown BITS (constant (fraction_of value)) result };
+        ensures encloses { Encloses shown BITS (constant (fraction_of value)) result };
 
     /// The enclosure of what lies between two ends. It is at most two units wider than these are apart.
     fn from_span(span: Span) -> Self
@@ -66,55 +64,45 @@ pub trait Enclosure: Copy + Drop {
 
     /// The sums of the members.
     fn add(self, other: Self) -> Self
-        ensures holds { Holds2 shown add_of self other result }
-        ensures narrow { Narrows2 shown BITS add_of self other result };
+        ensures encloses { Encloses2 shown BITS add_of self other result };
 
     /// The differences of the members.
     fn sub(self, other: Self) -> Self
-        ensures holds { Holds2 shown subtract self other result }
-        ensures narrow { Narrows2 shown BITS subtract self other result };
+        ensures encloses { Encloses2 shown BITS subtract self other result };
 
     /// The products of the members.
     fn mul(self, other: Self) -> Self
-        ensures holds { Holds2 shown multiply self other result }
-        ensures narrow { Narrows2 shown BITS multiply self other result };
+        ensures encloses { Encloses2 shown BITS multiply self other result };
 
     /// The lesser of each two members.
     fn min(self, other: Self) -> Self
-        ensures holds { Holds2 shown minimum self other result }
-        ensures narrow { Narrows2 shown BITS minimum self other result };
+        ensures encloses { Encloses2 shown BITS minimum self other result };
 
     /// The greater of each two members.
     fn max(self, other: Self) -> Self
-        ensures holds { Holds2 shown maximum self other result }
-        ensures narrow { Narrows2 shown BITS maximum self other result };
+        ensures encloses { Encloses2 shown BITS maximum self other result };
 
     /// Every number between members of the two, and no others.
     fn hull(self, other: Self) -> Self
-        ensures holds { Holds2 shown hull_of self other result }
-        ensures tight { shown result ⊆ hull_of_intervals (shown self) (shown other) }
-        ensures narrow { Narrows2 shown BITS hull_of self other result };
+        ensures encloses { Encloses2 shown BITS hull_of self other result }
+        ensures tight { shown result ⊆ hull_of_intervals (shown self) (shown other) };
 
     /// The opposites of the members.
     fn neg(self) -> Self
-        ensures holds { Holds1 shown negate self result }
-        ensures narrow { Narrows1 shown BITS negate self result };
+        ensures encloses { Encloses1 shown BITS negate self result };
 
     /// The numbers that are no further from a member than the size of a fraction.
     fn widen(self, by: Frac) -> Self
-        ensures holds { Holds1 shown (widen_of (fraction_of by)) self result }
-        ensures narrow { Narrows1 shown BITS (widen_of (fraction_of by)) self result };
+        ensures encloses { Encloses1 shown BITS (widen_of (fraction_of by)) self result };
 
     /// The products of the members with a fraction.
     fn mul_frac(self, by: Frac) -> Self
-        ensures holds { Holds1 shown (scale (fraction_of by)) self result }
-        ensures narrow { Narrows1 shown BITS (scale (fraction_of by)) self result };
+        ensures encloses { Encloses1 shown BITS (scale (fraction_of by)) self result };
 
     /// The products of the members with a whole number.
     #[inline(always)]
     fn times(self, by: i64) -> Self
-        ensures holds { Holds1 shown (scale (whole_number by)) self result }
-        ensures narrow { Narrows1 shown BITS (scale (whole_number by)) self result }
+        ensures encloses { Encloses1 shown BITS (scale (whole_number by)) self result }
     {
         self.mul_frac(Frac::whole(by))
     }
@@ -123,9 +111,7 @@ pub trait Enclosure: Copy + Drop {
     /// the rate in ten-millionths a century. So the rounding of centuries isn't multiplied by a rate.
     #[inline(always)]
     fn angle(self, phase: i64, rate: i64) -> Self
-        ensures holds { Holds1 shown (λ x. add_of (constant (ten_millionths phase))
-            (scale (daily_ten_millionths rate) x)) self result }
-        ensures narrow { Narrows1 shown BITS (λ x. add_of (constant (ten_millionths phase))
+        ensures encloses { Encloses1 shown BITS (λ x. add_of (constant (ten_millionths phase))
             (scale (daily_ten_millionths rate) x)) self result }
     {
         let turned = self.mul_frac(Frac::daily_ten_millionths(rate));
@@ -134,23 +120,19 @@ pub trait Enclosure: Copy + Drop {
 
     /// The quotients of the members; every number, where the divisor may be 0.
     fn div(self, other: Self) -> Self
-        ensures holds { Holds2 shown divide self other result }
-        ensures narrow { Narrows2 shown BITS divide self other result };
+        ensures encloses { Encloses2 shown BITS divide self other result };
 
     /// The squares of the members.
     fn square(self) -> Self
-        ensures holds { Holds1 shown (λ x. power x 2) self result }
-        ensures narrow { Narrows1 shown BITS (λ x. power x 2) self result };
+        ensures encloses { Encloses1 shown BITS (λ x. power x 2) self result };
 
     /// The roots of the members. A negative end counts as 0.
     fn root(self) -> Self
-        ensures holds { Holds1 shown root_of self result }
-        ensures narrow { Narrows1 shown BITS root_of self result };
+        ensures encloses { Encloses1 shown BITS root_of self result };
 
     /// The members, each end moved into -1..1; all of -1..1, where nothing is known.
     fn clamp_unit(self) -> Self
-        ensures holds { Holds1 shown clamp_of self result }
-        ensures narrow { Narrows1 shown BITS clamp_of self result };
+        ensures encloses { Encloses1 shown BITS clamp_of self result };
 
     /// The ends, at one scale for every kind; `None` for every number.
     fn span(self) -> Option<Span>

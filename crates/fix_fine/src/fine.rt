@@ -1,5 +1,5 @@
 //! Enclosures by ends in 128 bits, which count 2⁻⁵⁶.
-ghost use Rattle.book_model.specs.programs.Calls.{Holds, Holds1, Holds2, Narrows, Narrows1, Narrows2};
+ghost use Rattle.book_model.specs.programs.Calls.{Encloses, Encloses1, Encloses2};
 ghost use Rattle.std.specs.Prelude.{refl, ◌≡◌, ◌<◌, ℤ, Some, IfOk, IfErr, IsSome};
 ghost use Rattle.exact_math.specs.Interval.{◌⊆◌, hull as hull_of_intervals};
 ghost use Rattle.book_model.specs.numbers.Fractions.{fraction_of};
@@ -47,8 +47,7 @@ impl Enclosure for Fine {
     }
 
     fn from_int(value: i64) -> Self
-        ensures holds { Holds shown_fine (integer value) result }
-        ensures narrow { Narrows shown_fine 56 (integer value) result }
+        ensures encloses { Encloses shown_fine 56 (integer value) result }
         ensures table { IsIntegerRow (shown_fine result) }
     {
         Fine {
@@ -57,8 +56,7 @@ impl Enclosure for Fine {
     }
 
     fn from_frac(value: Frac) -> Self
-        ensures holds { Holds shown_fine (constant (fraction_of value)) result }
-        ensures narrow { Narrows shown_fine 56 (constant (fraction_of value)) result }
+        ensures encloses { Encloses shown_fine 56 (constant (fraction_of value)) result }
         ensures table { IsFractionRow (fraction_of value) (shown_fine result) }
     {
         Fine {
@@ -73,8 +71,7 @@ impl Enclosure for Fine {
     }
 
     fn add(self, other: Self) -> Self
-        ensures holds { Holds2 shown_fine add_of self other result }
-        ensures narrow { Narrows2 shown_fine 56 add_of self other result }
+        ensures encloses { Encloses2 shown_fine 56 add_of self other result }
         ensures table { IsSumRow (shown_fine self) (shown_fine other) (shown_fine result) }
     {
         Fine {
@@ -83,8 +80,7 @@ impl Enclosure for Fine {
     }
 
     fn sub(self, other: Self) -> Self
-        ensures holds { Holds2 shown_fine subtract self other result }
-        ensures narrow { Narrows2 shown_fine 56 subtract self other result }
+        ensures encloses { Encloses2 shown_fine 56 subtract self other result }
         ensures table { IsSumRow (shown_fine self) (shown_fine other) (shown_fine result) }
     {
         Fine {
@@ -93,8 +89,7 @@ impl Enclosure for Fine {
     }
 
     fn mul(self, other: Self) -> Self
-        ensures holds { Holds2 shown_fine multiply self other result }
-        ensures narrow { Narrows2 shown_fine 56 multiply self other result }
+        ensures encloses { Encloses2 shown_fine 56 multiply self other result }
         ensures table { IsProductRow (shown_fine self) (shown_fine other) (shown_fine result) }
     {
         Fine {
@@ -103,8 +98,7 @@ impl Enclosure for Fine {
     }
 
     fn min(self, other: Self) -> Self
-        ensures holds { Holds2 shown_fine minimum self other result }
-        ensures narrow { Narrows2 shown_fine 56 minimum self other result }
+        ensures encloses { Encloses2 shown_fine 56 minimum self other result }
         ensures table { IsChoiceRow (shown_fine self) (shown_fine other) (shown_fine result) }
     {
         Fine {
@@ -113,8 +107,7 @@ impl Enclosure for Fine {
     }
 
     fn max(self, other: Self) -> Self
-        ensures holds { Holds2 shown_fine maximum self other result }
-        ensures narrow { Narrows2 shown_fine 56 maximum self other result }
+        ensures encloses { Encloses2 shown_fine 56 maximum self other result }
         ensures table { IsChoiceRow (shown_fine self) (shown_fine other) (shown_fine result) }
     {
         Fine {
@@ -123,9 +116,8 @@ impl Enclosure for Fine {
     }
 
     fn hull(self, other: Self) -> Self
-        ensures holds { Holds2 shown_fine hull_of self other result }
+        ensures encloses { Encloses2 shown_fine 56 hull_of self other result }
         ensures tight { shown_fine result ⊆ hull_of_intervals (shown_fine self) (shown_fine other) }
-        ensures narrow { Narrows2 shown_fine 56 hull_of self other result }
         ensures table { IsHullRow (shown_fine self) (shown_fine other) (shown_fine result) }
     {
         Fine {
@@ -134,8 +126,7 @@ impl Enclosure for Fine {
     }
 
     fn neg(self) -> Self
-        ensures holds { Holds1 shown_fine negate self result }
-        ensures narrow { Narrows1 shown_fine 56 negate self result }
+        ensures encloses { Encloses1 shown_fine 56 negate self result }
         ensures table { IsMovedRow (shown_fine self) (shown_fine result) }
     {
         Fine {
@@ -144,8 +135,7 @@ impl Enclosure for Fine {
     }
 
     fn widen(self, by: Frac) -> Self
-        ensures holds { Holds1 shown_fine (widen_of (fraction_of by)) self result }
-        ensures narrow { Narrows1 shown_fine 56 (widen_of (fraction_of by)) self result }
+        ensures encloses { Encloses1 shown_fine 56 (widen_of (fraction_of by)) self result }
         ensures table { IsWidenedRow (fraction_of by) (shown_fine self) (shown_fine result) }
     {
         Fine {
@@ -154,8 +144,7 @@ impl Enclosure for Fine {
     }
 
     fn mul_frac(self, by: Frac) -> Self
-        ensures holds { Holds1 shown_fine (scale (fraction_of by)) self result }
-        ensures narrow { Narrows1 shown_fine 56 (scale (fraction_of by)) self result }
+        ensures encloses { Encloses1 shown_fine 56 (scale (fraction_of by)) self result }
         ensures table { IsFactorRow (fraction_of by) (shown_fine self) (shown_fine result) }
     {
         Fine {
@@ -164,8 +153,7 @@ impl Enclosure for Fine {
     }
 
     fn div(self, other: Self) -> Self
-        ensures holds { Holds2 shown_fine divide self other result }
-        ensures narrow { Narrows2 shown_fine 56 divide self other result }
+        ensures encloses { Encloses2 shown_fine 56 divide self other result }
         ensures table { IsQuotientRow (shown_fine self) (shown_fine other) (shown_fine result) }
     {
         Fine {
@@ -174,8 +162,7 @@ impl Enclosure for Fine {
     }
 
     fn square(self) -> Self
-        ensures holds { Holds1 shown_fine (λ x. power x 2) self result }
-        ensures narrow { Narrows1 shown_fine 56 (λ x. power x 2) self result }
+        ensures encloses { Encloses1 shown_fine 56 (λ x. power x 2) self result }
         ensures table { IsSquareRow (shown_fine self) (shown_fine result) }
     {
         Fine {
@@ -184,8 +171,7 @@ impl Enclosure for Fine {
     }
 
     fn root(self) -> Self
-        ensures holds { Holds1 shown_fine root_of self result }
-        ensures narrow { Narrows1 shown_fine 56 root_of self result }
+        ensures encloses { Encloses1 shown_fine 56 root_of self result }
         ensures table { IsRootRow (shown_fine self) (shown_fine result) }
     {
         Fine {
@@ -194,8 +180,7 @@ impl Enclosure for Fine {
     }
 
     fn clamp_unit(self) -> Self
-        ensures holds { Holds1 shown_fine clamp_of self result }
-        ensures narrow { Narrows1 shown_fine 56 clamp_of self result }
+        ensures encloses { Encloses1 shown_fine 56 clamp_of self result }
         ensures table { IsCutRow (shown_fine self) (shown_fine result) }
     {
         Fine {

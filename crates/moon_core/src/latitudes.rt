@@ -1,5 +1,5 @@
 //! The latitude of the moon.
-ghost use Rattle.book_model.specs.programs.Calls.{Follows1, Holds2, Narrows2};
+ghost use Rattle.book_model.specs.programs.Calls.{Encloses2, Follows1};
 ghost use Rattle.std.specs.Prelude.{◌≤◌};
 ghost use Rattle.book_model.specs.numbers.Bounds.{Reach, limits_of};
 ghost use Rattle.book_model.specs.numbers.Depth.{DEPTH};
@@ -62,8 +62,7 @@ fn latitude_terms<E: Enclosure>(angles: Angles<E>) -> E
 /// What Venus adds, by the angle of its wave and the argument of latitude, in millionths of a degree.
 #[tactic(auto, unfolding(book_model::specs::sky::Latitude::venus_by))]
 fn venus<E: Enclosure>(venus: E, argument: E) -> E
-    ensures holds { Holds2 E.shown spec.venus_by venus argument result }
-    ensures narrow { Narrows2 E.shown E.BITS spec.venus_by venus argument result }
+    ensures encloses { Encloses2 E.shown E.BITS spec.venus_by venus argument result }
 {
     sin_deg(venus.add(argument))
         .times(VENUS_IN_LATITUDE)
@@ -73,8 +72,7 @@ fn venus<E: Enclosure>(venus: E, argument: E) -> E
 /// What the flattening of the earth adds, by the mean longitude and the anomaly of the moon, in millionths of a degree.
 #[tactic(auto, unfolding(book_model::specs::sky::Latitude::flattening_by))]
 fn flattening<E: Enclosure>(longitude: E, anomaly: E) -> E
-    ensures holds { Holds2 E.shown spec.flattening_by longitude anomaly result }
-    ensures narrow { Narrows2 E.shown E.BITS spec.flattening_by longitude anomaly result }
+    ensures encloses { Encloses2 E.shown E.BITS spec.flattening_by longitude anomaly result }
 {
     sin_deg(longitude)
         .times(FLATTENING_ALONE)

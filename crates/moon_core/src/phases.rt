@@ -1,5 +1,5 @@
 //! The moon's phase, and the number of the new moon about a moment.
-ghost use Rattle.book_model.specs.programs.Calls.{Decides1, Follows1, Follows2, Holds1, Holds2, Narrows1};
+ghost use Rattle.book_model.specs.programs.Calls.{Decides1, Encloses1, Follows1, Follows2, Holds2};
 ghost use Rattle.std.specs.Prelude.{◌≡◌, pos, negsuc, ◌≤ℤ◌, IfOk, IfErr};
 ghost use Rattle.exact_math.specs.Interval.{Interval};
 ghost use Rattle.book_model.specs.sky.Phases as spec;
@@ -91,8 +91,7 @@ fn phase_by_months<E: Enclosure>(n: i64, t: E, trail: &mut Trail) -> Result<E, F
 
 /// The size of a number.
 fn size<E: Enclosure>(x: E) -> E
-    ensures holds { Holds1 E.shown spec.size_of x result }
-    ensures narrow { Narrows1 E.shown E.BITS spec.size_of x result }
+    ensures encloses { Encloses1 E.shown E.BITS spec.size_of x result }
 {
     x.max(x.neg())
 }

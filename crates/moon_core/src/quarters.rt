@@ -1,5 +1,5 @@
 //! When the moon was last at a phase.
-ghost use Rattle.book_model.specs.programs.Calls.{Decides, Follows1, Follows2, Follows3, Holds2, Narrows2};
+ghost use Rattle.book_model.specs.programs.Calls.{Decides, Encloses2, Follows1, Follows2, Follows3};
 ghost use Rattle.std.specs.Prelude.{◌≡◌, ◌≤◌, IfOk, IfErr};
 ghost use Rattle.exact_math.specs.Interval.{Interval};
 ghost use Rattle.book_model.specs.sky.Facts.{IsValueDay};
@@ -51,8 +51,7 @@ fn phase_past<E: Enclosure>(phase: E, t: E, trail: &mut Trail) -> Result<E, Fail
 /// A moment less the time in which the mean phase moves on by an angle.
 #[tactic(auto, unfolding(book_model::specs::sky::Phases::phase_back_by))]
 fn phase_back<E: Enclosure>(angle: E, t: E) -> E
-    ensures holds { Holds2 E.shown spec.phase_back_by angle t result }
-    ensures narrow { Narrows2 E.shown E.BITS spec.phase_back_by angle t result }
+    ensures encloses { Encloses2 E.shown E.BITS spec.phase_back_by angle t result }
 {
     t.sub(angle.mul_frac(DEGREE_OF_MONTH))
 }

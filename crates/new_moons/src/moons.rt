@@ -1,5 +1,5 @@
 //! The moment of a new moon.
-ghost use Rattle.book_model.specs.programs.Calls.{Follows, Holds, Narrows};
+ghost use Rattle.book_model.specs.programs.Calls.{Encloses, Follows, Holds, Narrows};
 ghost use Rattle.std.specs.Prelude.{◌≡◌, ℤ, pos, negsuc, ◌≤ℤ◌};
 ghost use Rattle.book_model.specs.numbers.Fractions.{fraction_of};
 ghost use Rattle.book_model.specs.programs.Leading.{next_turn};
@@ -59,8 +59,7 @@ fn lunar_terms<E: Enclosure>(time: Frac) -> E
 #[inline(always)]
 #[tactic(auto, unfolding(book_model::specs::numbers::Polynomials::quadratic_wave_of, book_model::specs::sky::NewMoons::venus_wave_of))]
 fn venus_wave<E: Enclosure>(time: Frac) -> E
-    ensures holds { Holds E.shown (spec.venus_wave_of (fraction_of time)) result }
-    ensures narrow { Narrows E.shown E.BITS (spec.venus_wave_of (fraction_of time)) result }
+    ensures encloses { Encloses E.shown E.BITS (spec.venus_wave_of (fraction_of time)) result }
 {
     sin_deg(quadratic(&NEW_MOON_WAVE.angle, E::from_frac(time))).mul_frac(NEW_MOON_WAVE.size)
 }
@@ -68,8 +67,7 @@ fn venus_wave<E: Enclosure>(time: Frac) -> E
 /// What the planets add by the number of the new moon, counted from that of January 2000, in days.
 #[tactic(auto, unfolding(book_model::specs::sky::NewMoons::planet_terms_of))]
 fn planet_terms<E: Enclosure>(number: i64) -> E
-    ensures holds { Holds E.shown (spec.planet_terms_of number) result }
-    ensures narrow { Narrows E.shown E.BITS (spec.planet_terms_of number) result }
+    ensures encloses { Encloses E.shown E.BITS (spec.planet_terms_of number) result }
 {
     sum_of_terms::<Number, E, PlanetTerm>(&PLANET_TERMS, Number(number))
 }

@@ -1,6 +1,6 @@
 //! Powers of a factor.
 
-ghost use Rattle.book_model.specs.programs.Calls.{Holds2, Narrows2};
+ghost use Rattle.book_model.specs.programs.Calls.{Encloses2};
 ghost use Rattle.book_model.specs.numbers.Terms.{times_power as times_power_of};
 
 use encl_core::Enclosure;
@@ -8,8 +8,8 @@ use encl_core::Enclosure;
 /// A term times a power of a factor; at the exponent 0 the term itself.
 #[tactic(auto, using(crate::proofs::PowerLemmas::powers))]
 pub fn times_power<E: Enclosure>(factor: E, exponent: u64, term: E) -> E
-    ensures holds { Holds2 E.shown (λ f x. times_power_of f exponent x) factor term result }
-    ensures narrow { Narrows2 E.shown E.BITS (λ f x. times_power_of f exponent x) factor term result }
+    ensures encloses { Encloses2 E.shown E.BITS (λ f x. times_power_of f exponent x) factor term
+        result }
 {
     if exponent == 0 {
         return term;

@@ -1,5 +1,5 @@
 //! Apparent time, which sundials show, and true noon at Tehran.
-ghost use Rattle.book_model.specs.programs.Calls.{Follows, Follows1, Holds, Narrows};
+ghost use Rattle.book_model.specs.programs.Calls.{Encloses, Follows, Follows1};
 ghost use Rattle.book_model.specs.programs.Widths.{IsAbout, IsMoment, Measured, Measured1};
 ghost use Rattle.std.specs.Prelude.{◌≡◌, ◌+◌, ◌-◌, ◌*◌, ◌/◌, ◌^◌, pos, negsuc, ◌≤ℤ◌};
 ghost use Rattle.book_model.specs.numbers.Fractions.{fraction_of};
@@ -14,8 +14,7 @@ use encl_core::{Enclosure, Trail};
 /// What local mean time is ahead of universal time at a longitude, in days.
 #[tactic(auto, unfolding(book_model::specs::sky::Noon::ahead_of))]
 fn ahead<E: Enclosure>(longitude: Frac) -> E
-    ensures holds { Holds E.shown (ahead_of (fraction_of longitude)) result }
-    ensures narrow { Narrows E.shown E.BITS (ahead_of (fraction_of longitude)) result }
+    ensures encloses { Encloses E.shown E.BITS (ahead_of (fraction_of longitude)) result }
 {
     E::from_frac(longitude).mul_frac(DEGREE_IN_DAYS)
 }
@@ -39,8 +38,7 @@ pub fn from_apparent<E: Enclosure>(longitude: Frac, t: E, trail: &mut Trail) -> 
 /// The middle of a day.
 #[tactic(auto, unfolding(crate::specs::Steps::apparent_noon_of))]
 fn apparent_noon<E: Enclosure>(day: i64) -> E
-    ensures holds { Holds E.shown (apparent_noon_of day) result }
-    ensures narrow { Narrows E.shown E.BITS (apparent_noon_of day) result }
+    ensures encloses { Encloses E.shown E.BITS (apparent_noon_of day) result }
 {
     E::from_int(day).add(E::from_frac(HALF))
 }

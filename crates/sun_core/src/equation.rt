@@ -1,5 +1,5 @@
 //! The equation of time.
-ghost use Rattle.book_model.specs.programs.Calls.{Follows1, Holds1, Holds2, Holds4, Narrows1, Narrows2, Narrows4};
+ghost use Rattle.book_model.specs.programs.Calls.{Encloses1, Encloses2, Encloses4, Follows1};
 ghost use Rattle.book_model.specs.programs.Widths.{IsAbout, IsMoment, Measured1};
 ghost use Rattle.book_model.specs.numbers.Ranges.{IsInTable};
 ghost use Rattle.std.specs.Prelude.{◌≡◌, ◌+◌, ◌/◌, ◌^◌, IfOk, IfErr};
@@ -19,8 +19,7 @@ use trig_series::{cos_deg, pi, sin_deg, tan_deg};
 /// The square of the tangent of half the obliquity of the ecliptic.
 #[tactic(auto, unfolding(book_model::specs::sky::Noon::tilt_of))]
 fn tilt<E: Enclosure>(c: E) -> E
-    ensures holds { Holds1 E.shown tilt_of c result }
-    ensures narrow { Narrows1 E.shown E.BITS tilt_of c result }
+    ensures encloses { Encloses1 E.shown E.BITS tilt_of c result }
 {
     tan_deg(cubic(&OBLIQUITY, c).mul_frac(HALF)).square()
 }
@@ -28,8 +27,7 @@ fn tilt<E: Enclosure>(c: E) -> E
 /// The reduction to the equator.
 #[tactic(auto, unfolding(book_model::specs::sky::Noon::reduction_of))]
 fn reduction<E: Enclosure>(tilt: E, mean_sun: E) -> E
-    ensures holds { Holds2 E.shown reduction_of tilt mean_sun result }
-    ensures narrow { Narrows2 E.shown E.BITS reduction_of tilt mean_sun result }
+    ensures encloses { Encloses2 E.shown E.BITS reduction_of tilt mean_sun result }
 {
     tilt.mul(sin_deg(mean_sun.mul_frac(TWO)))
 }
@@ -37,8 +35,7 @@ fn reduction<E: Enclosure>(tilt: E, mean_sun: E) -> E
 /// The equation of the centre.
 #[tactic(auto, unfolding(book_model::specs::sky::Noon::centre_of))]
 fn centre<E: Enclosure>(eccentricity: E, anomaly: E) -> E
-    ensures holds { Holds2 E.shown centre_of eccentricity anomaly result }
-    ensures narrow { Narrows2 E.shown E.BITS centre_of eccentricity anomaly result }
+    ensures encloses { Encloses2 E.shown E.BITS centre_of eccentricity anomaly result }
 {
     eccentricity.mul(sin_deg(anomaly)).mul_frac(TWO)
 }
@@ -46,8 +43,8 @@ fn centre<E: Enclosure>(eccentricity: E, anomaly: E) -> E
 /// What the tilt and the eccentricity bring about together.
 #[tactic(auto, unfolding(book_model::specs::sky::Noon::joint_of))]
 fn joint<E: Enclosure>(tilt: E, eccentricity: E, mean_sun: E, anomaly: E) -> E
-    ensures holds { Holds4 E.shown joint_of tilt eccentricity mean_sun anomaly result }
-    ensures narrow { Narrows4 E.shown E.BITS joint_of tilt eccentricity mean_sun anomaly result }
+    ensures encloses { Encloses4 E.shown E.BITS joint_of tilt eccentricity mean_sun anomaly
+        result }
 {
     eccentricity
         .mul(tilt)
@@ -59,8 +56,7 @@ fn joint<E: Enclosure>(tilt: E, eccentricity: E, mean_sun: E, anomaly: E) -> E
 /// The reduction to the equator, at its second order.
 #[tactic(auto, unfolding(book_model::specs::sky::Noon::second_reduction_of))]
 fn second_reduction<E: Enclosure>(tilt: E, mean_sun: E) -> E
-    ensures holds { Holds2 E.shown second_reduction_of tilt mean_sun result }
-    ensures narrow { Narrows2 E.shown E.BITS second_reduction_of tilt mean_sun result }
+    ensures encloses { Encloses2 E.shown E.BITS second_reduction_of tilt mean_sun result }
 {
     tilt.square()
         .mul(sin_deg(mean_sun.mul_frac(FOUR)))
@@ -70,8 +66,7 @@ fn second_reduction<E: Enclosure>(tilt: E, mean_sun: E) -> E
 /// The equation of the centre, at its second order.
 #[tactic(auto, unfolding(book_model::specs::sky::Noon::second_centre_of))]
 fn second_centre<E: Enclosure>(eccentricity: E, anomaly: E) -> E
-    ensures holds { Holds2 E.shown second_centre_of eccentricity anomaly result }
-    ensures narrow { Narrows2 E.shown E.BITS second_centre_of eccentricity anomaly result }
+    ensures encloses { Encloses2 E.shown E.BITS second_centre_of eccentricity anomaly result }
 {
     eccentricity
         .square()
@@ -82,9 +77,8 @@ fn second_centre<E: Enclosure>(eccentricity: E, anomaly: E) -> E
 /// The first three terms of the equation of time, in radians.
 #[tactic(auto, unfolding(crate::specs::Steps::first_radians_of))]
 fn first_radians<E: Enclosure>(tilt: E, eccentricity: E, mean_sun: E, anomaly: E) -> E
-    ensures holds { Holds4 E.shown first_radians_of tilt eccentricity mean_sun anomaly result }
-    ensures narrow { Narrows4 E.shown E.BITS first_radians_of tilt eccentricity mean_sun anomaly
-        result }
+    ensures encloses { Encloses4 E.shown E.BITS first_radians_of tilt eccentricity mean_sun
+        anomaly result }
 {
     reduction(tilt, mean_sun)
         .sub(centre(eccentricity, anomaly))
@@ -94,8 +88,8 @@ fn first_radians<E: Enclosure>(tilt: E, eccentricity: E, mean_sun: E, anomaly: E
 /// The equation of time in radians.
 #[tactic(auto, unfolding(book_model::specs::sky::Noon::radians_of, crate::specs::Steps::first_radians_of))]
 fn radians<E: Enclosure>(tilt: E, eccentricity: E, mean_sun: E, anomaly: E) -> E
-    ensures holds { Holds4 E.shown radians_of tilt eccentricity mean_sun anomaly result }
-    ensures narrow { Narrows4 E.shown E.BITS radians_of tilt eccentricity mean_sun anomaly result }
+    ensures encloses { Encloses4 E.shown E.BITS radians_of tilt eccentricity mean_sun anomaly
+        result }
 {
     first_radians(tilt, eccentricity, mean_sun, anomaly)
         .sub(second_reduction(tilt, mean_sun))
@@ -105,8 +99,7 @@ fn radians<E: Enclosure>(tilt: E, eccentricity: E, mean_sun: E, anomaly: E) -> E
 /// Radians as a part of a day, and at most half a day.
 #[tactic(auto, unfolding(book_model::specs::sky::Noon::part_of_day))]
 fn in_days<E: Enclosure>(radians: E) -> E
-    ensures holds { Holds1 E.shown part_of_day radians result }
-    ensures narrow { Narrows1 E.shown E.BITS part_of_day radians result }
+    ensures encloses { Encloses1 E.shown E.BITS part_of_day radians result }
 {
     let days = radians.div(pi::<E>().mul_frac(TWO));
     E::from_frac(MINUS_HALF).max(E::from_frac(HALF).min(days))
@@ -115,8 +108,7 @@ fn in_days<E: Enclosure>(radians: E) -> E
 /// The equation of time by the centuries.
 #[tactic(auto, unfolding(book_model::specs::sky::Noon::equation_of))]
 fn equation<E: Enclosure>(c: E) -> E
-    ensures holds { Holds1 E.shown equation_of c result }
-    ensures narrow { Narrows1 E.shown E.BITS equation_of c result }
+    ensures encloses { Encloses1 E.shown E.BITS equation_of c result }
 {
     let eccentricity = quadratic(&ECCENTRICITY, c);
     let mean_sun = quadratic(&MEAN_SUN, c);

@@ -1,5 +1,5 @@
 //! About when the sun was last at a longitude.
-ghost use Rattle.book_model.specs.programs.Calls.{Follows1, Follows2, Holds2, Narrows2};
+ghost use Rattle.book_model.specs.programs.Calls.{Encloses2, Follows1, Follows2};
 ghost use Rattle.book_model.specs.programs.Widths.{IsAbout, IsMoment, IsUpTo, Measured1, Measured2};
 ghost use Rattle.book_model.specs.numbers.Ranges.{IsInTable};
 ghost use Rattle.std.specs.Prelude.{◌≡◌, ◌≤◌, ◌+◌, ◌*◌, ◌^◌, IfOk};
@@ -52,8 +52,7 @@ fn off<E: Enclosure>(longitude: E, t: E, trail: &mut Trail) -> Result<E, Fail>
 /// A moment less the time in which the mean sun moves on by an angle.
 #[tactic(auto, unfolding(book_model::specs::sky::Sun::back_by))]
 fn back<E: Enclosure>(angle: E, t: E) -> E
-    ensures holds { Holds2 E.shown back_by angle t result }
-    ensures narrow { Narrows2 E.shown E.BITS back_by angle t result }
+    ensures encloses { Encloses2 E.shown E.BITS back_by angle t result }
 {
     t.sub(angle.mul_frac(DEGREE_OF_YEAR))
 }

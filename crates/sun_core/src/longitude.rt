@@ -1,5 +1,5 @@
 //! The apparent longitude of the sun.
-ghost use Rattle.book_model.specs.programs.Calls.{Follows1, Holds1, Narrows1};
+ghost use Rattle.book_model.specs.programs.Calls.{Encloses1, Follows1, Holds1, Narrows1};
 ghost use Rattle.book_model.specs.programs.Widths.{IsMoment, IsUpTo, Measured1};
 ghost use Rattle.book_model.specs.numbers.Ranges.{IsInTable};
 ghost use Rattle.std.specs.Prelude.{◌≡◌, ◌≤◌, ◌+◌, ◌*◌, ◌^◌, ℕ, IfOk, IfErr};
@@ -24,8 +24,7 @@ use time_scales::dynamical;
 /// The nutation in longitude, in degrees, by the centuries (Reingold and Dershowitz, Calendrical Calculations, chapter 14).
 #[tactic(auto, unfolding(book_model::specs::sky::Sun::nutation_of))]
 pub fn nutation<E: Enclosure>(c: E) -> E
-    ensures holds { Holds1 E.shown nutation_of c result }
-    ensures narrow { Narrows1 E.shown E.BITS nutation_of c result }
+    ensures encloses { Encloses1 E.shown E.BITS nutation_of c result }
 {
     quadratic_wave(&NODE_NUTATION, c).add(quadratic_wave(&SOLAR_NUTATION, c))
 }

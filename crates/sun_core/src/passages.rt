@@ -1,5 +1,5 @@
 //! When the sun is next at a longitude.
-ghost use Rattle.book_model.specs.programs.Calls.{Follows2, Follows3, Holds2, Narrows2};
+ghost use Rattle.book_model.specs.programs.Calls.{Encloses2, Follows2, Follows3};
 ghost use Rattle.book_model.specs.sky.Sun as spec;
 
 use crate::estimates::reduced;
@@ -36,8 +36,7 @@ fn sun_short<E: Enclosure>(longitude: E, t: E, trail: &mut Trail) -> Result<E, F
 /// A moment and the time in which the mean sun moves on by an angle.
 #[tactic(auto, unfolding(book_model::specs::sky::Sun::forward_by))]
 fn forward<E: Enclosure>(angle: E, t: E) -> E
-    ensures holds { Holds2 E.shown spec.forward_by angle t result }
-    ensures narrow { Narrows2 E.shown E.BITS spec.forward_by angle t result }
+    ensures encloses { Encloses2 E.shown E.BITS spec.forward_by angle t result }
 {
     t.add(angle.mul_frac(DEGREE_OF_YEAR))
 }

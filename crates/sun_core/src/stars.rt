@@ -1,5 +1,5 @@
 //! Precession, and the longitude of the sun among the stars.
-ghost use Rattle.book_model.specs.programs.Calls.{Follows1, Holds1, Holds2, Holds3, Narrows1, Narrows2, Narrows3};
+ghost use Rattle.book_model.specs.programs.Calls.{Encloses1, Encloses2, Encloses3, Follows1};
 ghost use Rattle.std.specs.Prelude.{IfErr};
 ghost use Rattle.exact_math.specs.Interval.{Interval};
 ghost use Rattle.book_model.specs.sky.Sidereal as spec;
@@ -15,8 +15,7 @@ use trig_series::{cos_deg, sin_deg};
 /// Precession by the tilt of the ecliptic, where it crosses that of 2000, and the advance of the equinox, in degrees.
 #[tactic(auto, unfolding(book_model::specs::sky::Sidereal::precession_by))]
 fn precession_by<E: Enclosure>(tilt: E, crossing: E, advance: E) -> E
-    ensures holds { Holds3 E.shown spec.precession_by tilt crossing advance result }
-    ensures narrow { Narrows3 E.shown E.BITS spec.precession_by tilt crossing advance result }
+    ensures encloses { Encloses3 E.shown E.BITS spec.precession_by tilt crossing advance result }
 {
     let turned = arctan2_deg(cos_deg(tilt).mul(sin_deg(crossing)), cos_deg(crossing));
     advance.add(crossing).sub(turned)
@@ -25,8 +24,7 @@ fn precession_by<E: Enclosure>(tilt: E, crossing: E, advance: E) -> E
 /// Precession by the centuries from noon of 1 January 2000, in degrees, not reduced.
 #[tactic(auto, unfolding(book_model::specs::sky::Sidereal::precession_at_of))]
 fn precession_at<E: Enclosure>(c: E) -> E
-    ensures holds { Holds1 E.shown spec.precession_at_of c result }
-    ensures narrow { Narrows1 E.shown E.BITS spec.precession_at_of c result }
+    ensures encloses { Encloses1 E.shown E.BITS spec.precession_at_of c result }
 {
     precession_by(
         cubic(&ECLIPTIC_TILT, c),
@@ -49,8 +47,7 @@ pub fn precession<E: Enclosure>(t: E, trail: &mut Trail) -> Result<E, Fail>
 /// The longitude of the sun less precession, from where the signs of the zodiac begin, not reduced.
 #[tactic(auto, unfolding(book_model::specs::sky::Sidereal::sidereal_by))]
 fn sidereal_by<E: Enclosure>(longitude: E, precession: E) -> E
-    ensures holds { Holds2 E.shown spec.sidereal_by longitude precession result }
-    ensures narrow { Narrows2 E.shown E.BITS spec.sidereal_by longitude precession result }
+    ensures encloses { Encloses2 E.shown E.BITS spec.sidereal_by longitude precession result }
 {
     longitude.sub(precession).add(E::from_frac(SIDEREAL_START))
 }

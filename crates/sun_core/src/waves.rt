@@ -1,6 +1,6 @@
 //! Waves: sizes times sines or cosines of angles that grow with time.
 
-ghost use Rattle.book_model.specs.programs.Calls.{Holds1, Narrows1};
+ghost use Rattle.book_model.specs.programs.Calls.{Encloses1, Holds1, Narrows1};
 ghost use Rattle.book_model.specs.numbers.Bounds.{limits_of};
 ghost use Rattle.book_model.specs.numbers.Expressions.{Expression, scale, cosine};
 ghost use Rattle.book_model.specs.numbers.Fractions.{ten_millionths};
@@ -17,8 +17,7 @@ use trig_series::{cos_deg, sin_deg};
 #[inline(always)]
 #[tactic(auto, unfolding(book_model::specs::numbers::Polynomials::quadratic_wave_of))]
 pub(crate) fn quadratic_wave<E: Enclosure>(wave: &QuadraticWave, c: E) -> E
-    ensures holds { Holds1 E.shown (quadratic_wave_of wave.now) c result }
-    ensures narrow { Narrows1 E.shown E.BITS (quadratic_wave_of wave.now) c result }
+    ensures encloses { Encloses1 E.shown E.BITS (quadratic_wave_of wave.now) c result }
 {
     sin_deg(quadratic(&wave.angle, c)).mul_frac(wave.size)
 }

@@ -1,5 +1,5 @@
 //! Dynamical time, which flows evenly: what it is ahead of universal time in a year, and its centuries.
-ghost use Rattle.book_model.specs.programs.Calls.{Follows, Follows1, Holds, Holds1, Narrows, Narrows1};
+ghost use Rattle.book_model.specs.programs.Calls.{Encloses, Encloses1, Follows, Follows1, Holds, Narrows};
 ghost use Rattle.book_model.specs.programs.Widths.{IsMoment, Measured, Measured1};
 ghost use Rattle.std.specs.Prelude.{◌≡◌, ◌≤◌, ◌+◌, ◌/◌, ◌^◌, ℕ, ℤ, pos, ◌≤ℤ◌, length, IfOk, IfErr};
 ghost use Rattle.book_model.specs.numbers.Bounds.{Reach, limits_of, IsNarrow};
@@ -88,8 +88,7 @@ fn seconds<E: Enclosure>(coefficients: &[Frac], year: i64) -> E
     requires few { length coefficients.now ≤ 8 }
     requires from { pos 1987 ≤ℤ year }
     requires to { year ≤ℤ pos 2050 }
-    ensures holds { Holds E.shown (seconds_of coefficients.now year) result }
-    ensures narrow { Narrows E.shown E.BITS (seconds_of coefficients.now year) result }
+    ensures encloses { Encloses E.shown E.BITS (seconds_of coefficients.now year) result }
 {
     at_whole::<E>(coefficients, year - 2000).mul_frac(SECOND)
 }
@@ -203,8 +202,7 @@ pub fn from_dynamical<E: Enclosure>(t: E, trail: &mut Trail) -> Result<E, Fail>
 /// A moment, in centuries from noon of 1 January 2000.
 #[tactic(auto, unfolding(book_model::specs::sky::Time::in_centuries))]
 pub(crate) fn to_centuries<E: Enclosure>(t: E) -> E
-    ensures holds { Holds1 E.shown in_centuries t result }
-    ensures narrow { Narrows1 E.shown E.BITS in_centuries t result }
+    ensures encloses { Encloses1 E.shown E.BITS in_centuries t result }
 {
     t.sub(E::from_frac(NOON_2000)).mul_frac(DAY_IN_CENTURIES)
 }

@@ -1,5 +1,5 @@
 //! Polynomials of enclosures.
-ghost use Rattle.book_model.specs.programs.Calls.{Holds, Holds1, Narrows, Narrows1};
+ghost use Rattle.book_model.specs.programs.Calls.{Encloses, Encloses1, Holds, Narrows};
 ghost use Rattle.std.specs.Prelude.{◌≤◌, length, unsigned_abs};
 ghost use Rattle.book_model.specs.sky.Correction.{polynomial_of};
 ghost use Rattle.book_model.specs.numbers.Fractions.{fraction_of};
@@ -13,8 +13,7 @@ use encl_core::Enclosure;
 #[inline(always)]
 #[tactic(auto, unfolding(book_model::specs::numbers::Polynomials::quadratic_of))]
 pub fn quadratic<E: Enclosure>(coefficients: &Quadratic, x: E) -> E
-    ensures holds { Holds1 E.shown (quadratic_of coefficients.now) x result }
-    ensures narrow { Narrows1 E.shown E.BITS (quadratic_of coefficients.now) x result }
+    ensures encloses { Encloses1 E.shown E.BITS (quadratic_of coefficients.now) x result }
 {
     E::from_frac(coefficients.constant)
         .add(x.mul_frac(coefficients.linear))
@@ -25,8 +24,7 @@ pub fn quadratic<E: Enclosure>(coefficients: &Quadratic, x: E) -> E
 #[inline(always)]
 #[tactic(auto, using(crate::proofs::Powers::cubes), unfolding(book_model::specs::numbers::Polynomials::cubic_of))]
 pub fn cubic<E: Enclosure>(coefficients: &Cubic, x: E) -> E
-    ensures holds { Holds1 E.shown (cubic_of coefficients.now) x result }
-    ensures narrow { Narrows1 E.shown E.BITS (cubic_of coefficients.now) x result }
+    ensures encloses { Encloses1 E.shown E.BITS (cubic_of coefficients.now) x result }
 {
     let square = x.square();
     E::from_frac(coefficients.constant)
@@ -41,8 +39,7 @@ pub fn cubic<E: Enclosure>(coefficients: &Cubic, x: E) -> E
 pub(crate) fn at_whole<E: Enclosure>(coefficients: &[Frac], x: i64) -> E
     requires few { length coefficients.now ≤ 8 }
     requires small { unsigned_abs x ≤ 64 }
-    ensures holds { Holds E.shown (polynomial_of coefficients.now x) result }
-    ensures narrow { Narrows E.shown E.BITS (polynomial_of coefficients.now x) result }
+    ensures encloses { Encloses E.shown E.BITS (polynomial_of coefficients.now x) result }
 {
     let mut sum = E::from_int(0);
     let mut power = 1i64;

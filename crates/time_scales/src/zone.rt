@@ -1,5 +1,5 @@
 //! The zone of Beijing.
-ghost use Rattle.book_model.specs.programs.Calls.{Follows1, Holds, Narrows};
+ghost use Rattle.book_model.specs.programs.Calls.{Encloses, Follows1};
 ghost use Rattle.std.specs.Prelude.{◌≡◌, pos, int_lt};
 ghost use Rattle.book_model.specs.sky.Time.{beijing_hours, zone_of_beijing, midnight_of, in_beijing_of};
 
@@ -12,8 +12,7 @@ const STANDARD_TIME: i64 = 704_188;
 /// The hours by which the time of Beijing is ahead of universal time, before 1929 and from then on.
 #[tactic(auto, unfolding(book_model::specs::sky::Time::beijing_hours))]
 fn hours<E: Enclosure>(early: bool) -> E
-    ensures holds { Holds E.shown (beijing_hours early) result }
-    ensures narrow { Narrows E.shown E.BITS (beijing_hours early) result }
+    ensures encloses { Encloses E.shown E.BITS (beijing_hours early) result }
 {
     if early {
         E::from_frac(BEIJING_HOURS)
@@ -42,8 +41,7 @@ fn is_early(day: i64) -> bool
 /// Midnight at the beginning of a day (R.D.) in Beijing, in universal time. Its zone goes by the day, so it makes no test.
 #[tactic(auto, unfolding(book_model::specs::sky::Time::midnight_of))]
 pub fn midnight<E: Enclosure>(day: i64) -> E
-    ensures holds { Holds E.shown (midnight_of day) result }
-    ensures narrow { Narrows E.shown E.BITS (midnight_of day) result }
+    ensures encloses { Encloses E.shown E.BITS (midnight_of day) result }
 {
     E::from_int(day).sub(hours::<E>(is_early(day)).mul_frac(HOUR))
 }

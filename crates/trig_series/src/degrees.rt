@@ -1,5 +1,5 @@
 //! Sine, cosine and tangent of enclosures of degrees.
-ghost use Rattle.book_model.specs.programs.Calls.{Holds1, Narrows1};
+ghost use Rattle.book_model.specs.programs.Calls.{Encloses1};
 ghost use Rattle.std.specs.Prelude.{◌≡◌, ℕ, ℤ, pos, neg_ℤ, ◌^◌, ◌≤◌, ◌≤ℤ◌};
 ghost use Rattle.exact_math.specs.Interval.{Interval, IsProper, between, ◌⊆◌};
 ghost use Rattle.book_model.specs.numbers.Expressions.{sine, cosine, tangent};
@@ -82,8 +82,7 @@ fn cosine_over_span(degrees: Span) -> Span
 /// are taken at the ends of what they have in common with each octant that they meet. What is left out of a series
 /// widens it. The result is at most a 57th as wide as the degrees, and two units of its scale and 36 parts of 2⁻⁵⁶.
 pub fn sin_deg<E: Enclosure>(x: E) -> E
-    ensures holds { Holds1 E.shown sine x result }
-    ensures narrow { Narrows1 E.shown E.BITS sine x result }
+    ensures encloses { Encloses1 E.shown E.BITS sine x result }
 {
     match x.span() {
         Some(degrees) => E::from_span(sine_over_span(degrees)),
@@ -93,8 +92,7 @@ pub fn sin_deg<E: Enclosure>(x: E) -> E
 
 /// The cosine of degrees: the sine of 90 degrees more.
 pub fn cos_deg<E: Enclosure>(x: E) -> E
-    ensures holds { Holds1 E.shown cosine x result }
-    ensures narrow { Narrows1 E.shown E.BITS cosine x result }
+    ensures encloses { Encloses1 E.shown E.BITS cosine x result }
 {
     match x.span() {
         Some(degrees) => E::from_span(cosine_over_span(degrees)),
@@ -104,8 +102,7 @@ pub fn cos_deg<E: Enclosure>(x: E) -> E
 
 /// The tangent of degrees: the quotient of sine and cosine, which is every number where the cosine may be 0.
 pub fn tan_deg<E: Enclosure>(x: E) -> E
-    ensures holds { Holds1 E.shown tangent x result }
-    ensures narrow { Narrows1 E.shown E.BITS tangent x result }
+    ensures encloses { Encloses1 E.shown E.BITS tangent x result }
 {
     sin_deg::<E>(x).div(cos_deg::<E>(x))
 }

@@ -41,6 +41,27 @@ Narrows3 shown bits f a b c e = (r : Reach) (x y z : Expression) → Narrow show
 abbrev pub Narrows4 : {E : Type 0} → (E → Interval) → ℕ → (Expression → Expression → Expression → Expression → Expression) → E → E → E → E → E → Type 0
 Narrows4 shown bits f a b c d e = (r : Reach) (x y z u : Expression) → Narrow shown (limits_of bits) r x a → Narrow shown (limits_of bits) r y b → Narrow shown (limits_of bits) r z c → Narrow shown (limits_of bits) r u d → Narrow shown (limits_of bits) r (f x y z u) e
 
+-- the result holds an expression of the numbers that the arguments enclose, and keeps its bound
+pub record Encloses {E : Type 0} (shown : E → Interval) (bits : ℕ) (f : Expression) (e : E) : Type 0 where
+  pub holds : Holds shown f e
+  pub narrow : Narrows shown bits f e
+
+pub record Encloses1 {E : Type 0} (shown : E → Interval) (bits : ℕ) (f : Expression → Expression) (a e : E) : Type 0 where
+  pub holds : Holds1 shown f a e
+  pub narrow : Narrows1 shown bits f a e
+
+pub record Encloses2 {E : Type 0} (shown : E → Interval) (bits : ℕ) (f : Expression → Expression → Expression) (a b e : E) : Type 0 where
+  pub holds : Holds2 shown f a b e
+  pub narrow : Narrows2 shown bits f a b e
+
+pub record Encloses3 {E : Type 0} (shown : E → Interval) (bits : ℕ) (f : Expression → Expression → Expression → Expression) (a b c e : E) : Type 0 where
+  pub holds : Holds3 shown f a b c e
+  pub narrow : Narrows3 shown bits f a b c e
+
+pub record Encloses4 {E : Type 0} (shown : E → Interval) (bits : ℕ) (f : Expression → Expression → Expression → Expression → Expression) (a b c d e : E) : Type 0 where
+  pub holds : Holds4 shown f a b c d e
+  pub narrow : Narrows4 shown bits f a b c d e
+
 -- the call makes the tests of a program of the enclosed numbers, and its answer holds the program's
 abbrev pub Follows : {E : Type 0} → (E → Interval) → (Program Expression) → ℕ → ℕ → Result E Fail → Type 0
 Follows shown p before after result = (w : World) → DEPTH ≤ w.depth → Leads w (Within shown w) p before after result

@@ -3,4 +3,4 @@ use Rattle.angle_search.proofs.bisection.angle_past.Goals as goal
 
 pub returns : goal.returns
 unfolding angle_past_of
-returns g c = record { leads = λ w v y h k. c.wrap_step.ensures.leads w _ (c.sub.ensures.holds w v y h k) }
+returns g c = record { leads = λ w v y h k. c.wrap_step.ensures.leads w _ (c.sub.ensures.encloses.holds w v y h k) }

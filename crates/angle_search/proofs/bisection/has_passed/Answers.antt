@@ -7,5 +7,5 @@ unfolding has_passed_of
 returns g c = record {
   leads = λ w v y h k.
       let l = c.in_ok-past.ensures.leads w v y h k in
-      leads_on _ l (c.less_step.ensures.leads w _ _ (leaf_within l) (c.from_int.ensures.holds w h.deep));
+      leads_on _ l (c.less_step.ensures.leads w _ _ (leaf_within l) (c.from_int.ensures.encloses.holds w h.deep));
 }

@@ -4,23 +4,22 @@ use Rattle.std.proofs.lemmas.Int.{ints, to_z-of_z}
 use Rattle.arc_series.proofs.ArcLemmas.{upper_held, lower_held, somewhere_held, narrow_two, sure_above, sure_below}
 use Rattle.arc_series.proofs.degrees.arctan2_deg.Goals as goal
 
-pub returns-in_default-clause-holds : goal.returns-in_default-clause-holds
-returns-in_default-clause-holds g c = λ w a b h k. somewhere_held g.E.Enclosure.shown w a b _ _ c.around.ensures.holds h
+pub returns-in_default-clause-encloses : goal.returns-in_default-clause-encloses
+returns-in_default-clause-encloses g c = record {
+  holds = λ w a b h k. somewhere_held g.E.Enclosure.shown w a b _ _ c.around.ensures.holds h;
+  narrow = λ r a b h k. narrow_two g.E.Enclosure.shown _ r a b _;
+}
 
-pub returns-in_default-clause-narrow : goal.returns-in_default-clause-narrow
-returns-in_default-clause-narrow g c = λ r a b h k. narrow_two g.E.Enclosure.shown _ r a b _
-
-pub returns-then-span-gt0-clause-holds : goal.returns-then-span-gt0-clause-holds
-returns-then-span-gt0-clause-holds g c =
-    let fl : SFits w128 c.in-Some.span.lo = search rules in
-    let s = simp to_z-of_z at c.if-span-gt0.true in
-    λ w a b h k.
-    upper_held g.E.Enclosure.shown w a b _ c.sub.result _ c.in-Some.span.lo c.in-Some.span.hi (omega (arith, ints, s)) c.in-Some.ensures.holds h
-    (c.sub.ensures.holds w _ _ (c.from_int.ensures.holds w h.deep) (c.arctan_deg.ensures.holds w _ (c.div.ensures.holds w b a k h)))
-    (record { holds = c.kept_around.ensures.holds; all = c.kept_around.ensures.all })
-
-pub returns-then-span-gt0-clause-narrow : goal.returns-then-span-gt0-clause-narrow
-returns-then-span-gt0-clause-narrow g c = λ r a b h k. narrow_two g.E.Enclosure.shown _ r a b _
+pub returns-then-span-gt0-clause-encloses : goal.returns-then-span-gt0-clause-encloses
+returns-then-span-gt0-clause-encloses g c = record {
+  holds = let fl : SFits w128 c.in-Some.span.lo = search rules in
+      let s = simp to_z-of_z at c.if-span-gt0.true in
+      λ w a b h k.
+      upper_held g.E.Enclosure.shown w a b _ c.sub.result _ c.in-Some.span.lo c.in-Some.span.hi (omega (arith, ints, s)) c.in-Some.ensures.holds h
+      (c.sub.ensures.encloses.holds w _ _ (c.from_int.ensures.encloses.holds w h.deep) (c.arctan_deg.ensures.encloses.holds w _ (c.div.ensures.encloses.holds w b a k h)))
+      (record { holds = c.kept_around.ensures.holds; all = c.kept_around.ensures.all });
+  narrow = λ r a b h k. narrow_two g.E.Enclosure.shown _ r a b _;
+}
 
 pub returns-then-span-gt0-clause-unsure : goal.returns-then-span-gt0-clause-unsure
 returns-then-span-gt0-clause-unsure g c =
@@ -28,17 +27,16 @@ returns-then-span-gt0-clause-unsure g c =
     let s = simp to_z-of_z at c.if-span-gt0.true in
     sure_above _ _ c.in-Some.span.lo c.in-Some.span.hi c.in-Some.ensures.holds (omega (arith, ints, s))
 
-pub returns-then-span-lt0-clause-holds : goal.returns-then-span-lt0-clause-holds
-returns-then-span-lt0-clause-holds g c =
-    let fh : SFits w128 c.in-Some.span.hi = search rules in
-    let s = simp to_z-of_z at c.if-span-lt0.true in
-    λ w a b h k.
-    lower_held g.E.Enclosure.shown w a b _ c.sub-then-span-lt0.result _ c.in-Some.span.lo c.in-Some.span.hi (omega (arith, ints, s)) c.in-Some.ensures.holds h
-    (c.sub-then-span-lt0.ensures.holds w _ _ (c.from_int-then-span-lt0.ensures.holds w h.deep) (c.arctan_deg-then-span-lt0.ensures.holds w _ (c.div-then-span-lt0.ensures.holds w b a k h)))
-    (record { holds = c.kept_around-then-span-lt0.ensures.holds; all = c.kept_around-then-span-lt0.ensures.all })
-
-pub returns-then-span-lt0-clause-narrow : goal.returns-then-span-lt0-clause-narrow
-returns-then-span-lt0-clause-narrow g c = λ r a b h k. narrow_two g.E.Enclosure.shown _ r a b _
+pub returns-then-span-lt0-clause-encloses : goal.returns-then-span-lt0-clause-encloses
+returns-then-span-lt0-clause-encloses g c = record {
+  holds = let fh : SFits w128 c.in-Some.span.hi = search rules in
+      let s = simp to_z-of_z at c.if-span-lt0.true in
+      λ w a b h k.
+      lower_held g.E.Enclosure.shown w a b _ c.sub-then-span-lt0.result _ c.in-Some.span.lo c.in-Some.span.hi (omega (arith, ints, s)) c.in-Some.ensures.holds h
+      (c.sub-then-span-lt0.ensures.encloses.holds w _ _ (c.from_int-then-span-lt0.ensures.encloses.holds w h.deep) (c.arctan_deg-then-span-lt0.ensures.encloses.holds w _ (c.div-then-span-lt0.ensures.encloses.holds w b a k h)))
+      (record { holds = c.kept_around-then-span-lt0.ensures.holds; all = c.kept_around-then-span-lt0.ensures.all });
+  narrow = λ r a b h k. narrow_two g.E.Enclosure.shown _ r a b _;
+}
 
 pub returns-then-span-lt0-clause-unsure : goal.returns-then-span-lt0-clause-unsure
 returns-then-span-lt0-clause-unsure g c =
@@ -46,8 +44,8 @@ returns-then-span-lt0-clause-unsure g c =
     let s = simp to_z-of_z at c.if-span-lt0.true in
     sure_below _ _ c.in-Some.span.lo c.in-Some.span.hi c.in-Some.ensures.holds (omega (arith, ints, s))
 
-pub returns-clause-holds : goal.returns-clause-holds
-returns-clause-holds g c = λ w a b h k. somewhere_held g.E.Enclosure.shown w a b _ _ c.around-2.ensures.holds h
-
-pub returns-clause-narrow : goal.returns-clause-narrow
-returns-clause-narrow g c = λ r a b h k. narrow_two g.E.Enclosure.shown _ r a b _
+pub returns-clause-encloses : goal.returns-clause-encloses
+returns-clause-encloses g c = record {
+  holds = λ w a b h k. somewhere_held g.E.Enclosure.shown w a b _ _ c.around-2.ensures.holds h;
+  narrow = λ r a b h k. narrow_two g.E.Enclosure.shown _ r a b _;
+}

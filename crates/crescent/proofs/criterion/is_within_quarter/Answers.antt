@@ -6,4 +6,4 @@ use Rattle.crescent.proofs.criterion.is_within_quarter.Goals as goal
 
 pub returns : goal.returns
 unfolding is_within_quarter_of
-returns g c = record { leads = λ w a h. leads_bind_exact (λ less. answer (not less)) (c.in_ok-less.ensures.leads w _ _ h (c.from_int.ensures.holds w h.deep)) (leads_answer refl) }
+returns g c = record { leads = λ w a h. leads_bind_exact (λ less. answer (not less)) (c.in_ok-less.ensures.leads w _ _ h (c.from_int.ensures.encloses.holds w h.deep)) (leads_answer refl) }

@@ -10,8 +10,8 @@ returns-in-Ok g c = record {
   leads = λ w d.
       let f : SFits w64 c.args.longitude = c.ranges.longitude in
       let e : SFits w64 c.args.day = c.ranges.day in
-      let i = simp to_z-of_z at (c.from_int.ensures.holds w d) in
-      let m = simp to_z-of_z at (c.midnight.ensures.holds w d) in
+      let i = simp to_z-of_z at (c.from_int.ensures.encloses.holds w d) in
+      let m = simp to_z-of_z at (c.midnight.ensures.encloses.holds w d) in
       let l = c.in-Ok.ensures.leads w _ _ i m in
       leads_on _ l (c.day_in_beijing.ensures.leads w _ (leaf_within l));
 }

@@ -10,9 +10,9 @@ pub returns-in-Ok-clause-leads : goal.returns-in-Ok-clause-leads
 unfolding sun_in_thousandths_of
 returns-in-Ok-clause-leads g c = λ w d.
     let f : SFits w64 c.args.day = c.ranges.day in
-    let i = simp to_z-of_z at (c.from_int.ensures.holds w d) in
+    let i = simp to_z-of_z at (c.from_int.ensures.encloses.holds w d) in
     let l = c.in-Ok.ensures.leads w _ i in
-    leads_on _ l (c.floor_step.ensures.leads w _ (c.mul_frac.ensures.holds w _ (leaf_within l)))
+    leads_on _ l (c.floor_step.ensures.leads w _ (c.mul_frac.ensures.encloses.holds w _ (leaf_within l)))
 
 pub returns-in-Ok-clause-value : goal.returns-in-Ok-clause-value
 returns-in-Ok-clause-value g c = sun_is_value c.args.day _ _ _ (returns-in-Ok-clause-leads g c)
@@ -23,5 +23,5 @@ returns-in-Ok-clause-open g c = λ p q. IfErr-weaker c.floor_step.result _ _ (λ
 pub returns-in-Err-clause-open : goal.returns-in-Err-clause-open
 returns-in-Err-clause-open g c = λ p q.
     let f : SFits w64 c.args.day = c.ranges.day in
-    let n = simp to_z-of_z at c.from_int.ensures.narrow in
+    let n = simp to_z-of_z at c.from_int.ensures.encloses.narrow in
     sun_not_of_year g.E.Enclosure.shown _ c.args.day c.from_int.result _ p q c.requires.day n c.in-Err.ensures.open

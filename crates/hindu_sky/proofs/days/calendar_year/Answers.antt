@@ -9,7 +9,7 @@ pub returns-clause-leads : goal.returns-clause-leads
 unfolding calendar_year_of
 returns-clause-leads g c = λ w d.
     let f : SFits w64 c.args.day = c.ranges.day in
-    c.hindu_year.ensures.leads w _ (simp to_z-of_z at (c.from_int.ensures.holds w d))
+    c.hindu_year.ensures.leads w _ (simp to_z-of_z at (c.from_int.ensures.encloses.holds w d))
 
 pub returns-clause-value : goal.returns-clause-value
 returns-clause-value g c = calendar_year_is_value c.args.day _ _ _ (returns-clause-leads g c)
@@ -17,5 +17,5 @@ returns-clause-value g c = calendar_year_is_value c.args.day _ _ _ (returns-clau
 pub returns-clause-early : goal.returns-clause-early
 returns-clause-early g c = λ z p q.
     let f : SFits w64 c.args.day = c.ranges.day in
-    let n = simp to_z-of_z at c.from_int.ensures.narrow in
+    let n = simp to_z-of_z at c.from_int.ensures.encloses.narrow in
     whole_day_year g.E.Enclosure.shown _ c.args.day c.from_int.result c.hindu_year.result p q c.requires.day n c.hindu_year.ensures.open

@@ -8,7 +8,7 @@ pub returns-clause-leads : goal.returns-clause-leads
 unfolding signs_passed_of
 returns-clause-leads g c = λ w x h.
     let l = c.in_ok-longitude.ensures.leads w x h in
-    leads_on _ l (c.floor_step.ensures.leads w _ (c.mul_frac.ensures.holds w _ (leaf_within l)))
+    leads_on _ l (c.floor_step.ensures.leads w _ (c.mul_frac.ensures.encloses.holds w _ (leaf_within l)))
 
 pub returns-clause-near : goal.returns-clause-near
 returns-clause-near g c =

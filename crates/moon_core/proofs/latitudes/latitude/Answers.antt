@@ -15,6 +15,6 @@ returns g c = record {
   leads = λ w x k.
       by_dynamical x (λ v. answer (latitude_at_of v)) (c.in_ok-moment.ensures.leads w x k)
       (λ d r.
-      let days = c.sub-days.ensures.holds w d (constant (fraction_of NOON_2000)) r (c.from_frac.ensures.holds w r.deep) in
-      leads_answer (c.latitude_at.ensures.holds w (subtract d (constant (fraction_of NOON_2000))) k.deep days (c.mul_frac-c.ensures.holds w _ days)));
+      let days = c.sub-days.ensures.encloses.holds w d (constant (fraction_of NOON_2000)) r (c.from_frac.ensures.encloses.holds w r.deep) in
+      leads_answer (c.latitude_at.ensures.holds w (subtract d (constant (fraction_of NOON_2000))) k.deep days (c.mul_frac-c.ensures.encloses.holds w _ days)));
 }

@@ -14,6 +14,6 @@ unfolding moon_of centuries_from in_centuries
 returns-clause-leads g c = λ w x h.
     by_dynamical x (λ v. cell MoonWrap (multiples 360) (moon_longitude_of v) (λ q. answer (remainder 360 (moon_longitude_of v) q))) (c.in_ok-moment.ensures.leads w x h)
     (λ d r.
-    let days = c.sub-days.ensures.holds w d (constant (fraction_of NOON_2000)) r (c.from_frac.ensures.holds w r.deep) in
+    let days = c.sub-days.ensures.encloses.holds w d (constant (fraction_of NOON_2000)) r (c.from_frac.ensures.encloses.holds w r.deep) in
     c.wrap_step.ensures.leads w (moon_longitude_of (in_centuries (subtract d (constant (fraction_of NOON_2000)))))
-    (c.longitude.ensures.holds w (subtract d (constant (fraction_of NOON_2000))) days (c.mul_frac-c.ensures.holds w _ days)))
+    (c.longitude.ensures.holds w (subtract d (constant (fraction_of NOON_2000))) days (c.mul_frac-c.ensures.encloses.holds w _ days)))

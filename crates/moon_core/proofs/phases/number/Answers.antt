@@ -8,7 +8,7 @@ unfolding number_of_moon
 returns-clause-leads g c = λ w x h.
     let m = c.in_ok-months.ensures.leads w x h in
     let d = c.in_ok-degrees.ensures.leads w x h in
-    leads_on _ m (leads_on _ d (c.nearest_moon.ensures.leads w _ (c.sub.ensures.holds w _ _ (leaf_within m) (c.mul_frac.ensures.holds w _ (leaf_within d)))))
+    leads_on _ m (leads_on _ d (c.nearest_moon.ensures.leads w _ (c.sub.ensures.encloses.holds w _ _ (leaf_within m) (c.mul_frac.ensures.encloses.holds w _ (leaf_within d)))))
 
 pub returns-clause-low : goal.returns-clause-low
 returns-clause-low g c =

@@ -7,6 +7,6 @@ pub returns : goal.returns
 unfolding picked_of
 returns g c = record {
   leads = λ w p q h k.
-      let t = c.in_ok-is_apart.ensures.leads w _ _ (c.from_int.ensures.holds w h.deep) (c.size-apart.ensures.holds w _ (c.sub.ensures.holds w _ _ h k)) in
+      let t = c.in_ok-is_apart.ensures.leads w _ _ (c.from_int.ensures.encloses.holds w h.deep) (c.size-apart.ensures.encloses.holds w _ (c.sub.ensures.encloses.holds w _ _ h k)) in
       leads_bind {f = λ apart. answer (chosen apart p q)} t (λ b e. rw e (leads_answer (c.chosen.ensures.holds w p q h k)));
 }

@@ -10,7 +10,7 @@ pub returns-clause-leads : goal.returns-clause-leads
 unfolding phase_before_of
 returns-clause-leads g c = λ w f x h k.
     let l = c.in_ok-past.ensures.leads w f x h k in
-    leads_on _ l (c.phase_about.ensures.leads w f x _ h k (c.phase_back.ensures.holds w _ x (leaf_within l) k))
+    leads_on _ l (c.phase_about.ensures.leads w f x _ h k (c.phase_back.ensures.encloses.holds w _ x (leaf_within l) k))
 
 pub returns-clause-early : goal.returns-clause-early
 returns-clause-early g c = λ z.
@@ -21,4 +21,4 @@ returns-clause-early g c = λ z.
     let second = within_second shown p c.args.t c.args.p in
     let l = c.in_ok-past.ensures.leads w (argument 1) (argument 0) second first in
     late_failure (shown c.args.t) c.phase_about.result (three_made w (phase_past_least (argument 1) (argument 0)) z l)
-    (c.phase_about.ensures.leads w (argument 1) (argument 0) _ second first (c.phase_back.ensures.holds w _ (argument 0) (leaf_within l) first))
+    (c.phase_about.ensures.leads w (argument 1) (argument 0) _ second first (c.phase_back.ensures.encloses.holds w _ (argument 0) (leaf_within l) first))

@@ -12,15 +12,15 @@ unfolding phase_day_of
 returns-clause-leads g c = λ w d.
     let f : SFits w64 c.args.phase = c.ranges.phase in
     let e : SFits w64 c.args.day = c.ranges.day in
-    let i = simp to_z-of_z at (c.from_int.ensures.holds w d) in
-    let j = simp to_z-of_z at (c.from_int-2.ensures.holds w d) in
+    let i = simp to_z-of_z at (c.from_int.ensures.encloses.holds w d) in
+    let j = simp to_z-of_z at (c.from_int-2.ensures.encloses.holds w d) in
     let l = c.in_ok-moment.ensures.leads w _ _ i j in
     leads_on _ l (c.floor_step.ensures.leads w _ (leaf_within l))
 
 pub returns-in_err-moment-clause-early : goal.returns-in_err-moment-clause-early
 returns-in_err-moment-clause-early g c = λ z p q h.
     let e : SFits w64 c.args.day = c.ranges.day in
-    let n = simp to_z-of_z at c.from_int-2.ensures.narrow in
+    let n = simp to_z-of_z at c.from_int-2.ensures.encloses.narrow in
     let fails = err_from_is_err_and c.from_residual.result c.from_residual.ensures.1 in
     rw (fails.1, fails.2) (no_early_year g.E.Enclosure.shown _ c.args.day c.from_int-2.result _ p q h n (c.in_err-moment.ensures.early z))
 

@@ -7,13 +7,13 @@ pub returns-in-Ok-clause-measured : goal.returns-in-Ok-clause-measured
 returns-in-Ok-clause-measured g c = λ e.
     let shown = g.E.Enclosure.shown in
     let f : SFits w64 c.args.d = c.ranges.d in
-    let k = simp to_z-of_z at c.apparent_noon.ensures.narrow in
+    let k = simp to_z-of_z at c.apparent_noon.ensures.encloses.narrow in
     let x = noon_within shown _ c.args.d c.apparent_noon.result e c.requires.from c.requires.to k in
     let m = c.in-Ok.ensures.measured tehran_is_narrow (2 ^ 8) e (omega arith) x in
-    noon_found shown _ c.in-Ok.local c.ahead.result c.sub.result e m (ahead_within shown _ _ c.ahead.result e tehran_is_narrow (λ r. c.ahead.ensures.narrow r)) (λ r p q. c.sub.ensures.narrow r p q)
+    noon_found shown _ c.in-Ok.local c.ahead.result c.sub.result e m (ahead_within shown _ _ c.ahead.result e tehran_is_narrow (λ r. c.ahead.ensures.encloses.narrow r)) (λ r p q. c.sub.ensures.encloses.narrow r p q)
 
 pub returns-in-Err-clause-measured : goal.returns-in-Err-clause-measured
 returns-in-Err-clause-measured g c = λ e.
     let f : SFits w64 c.args.d = c.ranges.d in
-    let k = simp to_z-of_z at c.apparent_noon.ensures.narrow in
+    let k = simp to_z-of_z at c.apparent_noon.ensures.encloses.narrow in
     c.in-Err.ensures.measured tehran_is_narrow (2 ^ 8) e (omega arith) (noon_within g.E.Enclosure.shown _ c.args.d c.apparent_noon.result e c.requires.from c.requires.to k)

@@ -10,23 +10,23 @@ pub returns-in-Ok-clause-leads : goal.returns-in-Ok-clause-leads
 unfolding estimate_of
 returns-in-Ok-clause-leads g c = λ w a x h k.
     let p = c.in_ok-past.ensures.leads w a x h k in
-    let near = c.back-near.ensures.holds w _ _ (leaf_within p) k in
+    let near = c.back-near.ensures.encloses.holds w _ _ (leaf_within p) k in
     let o = c.in-Ok.ensures.leads w a _ h near in
     leads_on (λ p. bind (off_of a (back_by p x)) λ o. answer (minimum x (back_by o (back_by p x)))) p
     (leads_on (λ o. answer (minimum x (back_by o (back_by _ x)))) o
-    (leads_answer (c.min.ensures.holds w _ _ k (c.back.ensures.holds w _ _ (leaf_within o) near))))
+    (leads_answer (c.min.ensures.encloses.holds w _ _ k (c.back.ensures.encloses.holds w _ _ (leaf_within o) near))))
 
 pub returns-in-Ok-clause-measured : goal.returns-in-Ok-clause-measured
 returns-in-Ok-clause-measured g c = λ v e b h k.
     let shown = g.E.Enclosure.shown in
     let i = c.in_ok-past.ensures.in_table in
     let p = c.in_ok-past.ensures.measured v e (omega (arith, b)) h k in
-    let near = back_within shown _ v c.args.t e i k c.in_ok-past.field-0 c.back-near.result p (λ r a b. c.back-near.ensures.narrow r a b) in
+    let near = back_within shown _ v c.args.t e i k c.in_ok-past.field-0 c.back-near.result p (λ r a b. c.back-near.ensures.encloses.narrow r a b) in
     let o = c.in-Ok.ensures.measured (3 * v + v / 4 + 2 ^ 33) e (omega (arith, b)) h (near_moment (3 * v + v / 4 + 2 ^ 33) _ near) in
-    estimate_within shown _ v c.args.t e i k c.back-near.result c.in-Ok.rest c.back.result c.min.result near o (λ r a b. c.back.ensures.narrow r a b) (λ r a b. c.min.ensures.narrow r a b)
+    estimate_within shown _ v c.args.t e i k c.back-near.result c.in-Ok.rest c.back.result c.min.result near o (λ r a b. c.back.ensures.encloses.narrow r a b) (λ r a b. c.min.ensures.encloses.narrow r a b)
 
 pub returns-in-Err-clause-measured : goal.returns-in-Err-clause-measured
 returns-in-Err-clause-measured g c = λ v e b h k.
     let p = c.in_ok-past.ensures.measured v e (omega (arith, b)) h k in
-    let near = back_within g.E.Enclosure.shown _ v c.args.t e c.in_ok-past.ensures.in_table k c.in_ok-past.field-0 c.back-near.result p (λ r a b. c.back-near.ensures.narrow r a b) in
+    let near = back_within g.E.Enclosure.shown _ v c.args.t e c.in_ok-past.ensures.in_table k c.in_ok-past.field-0 c.back-near.result p (λ r a b. c.back-near.ensures.encloses.narrow r a b) in
     c.in-Err.ensures.measured (3 * v + v / 4 + 2 ^ 33) e (omega (arith, b)) h (near_moment (3 * v + v / 4 + 2 ^ 33) _ near)

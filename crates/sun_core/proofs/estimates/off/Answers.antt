@@ -10,22 +10,22 @@ use Rattle.sun_core.proofs.estimates.off.Goals as goal
 pub returns-in-Ok-clause-leads : goal.returns-in-Ok-clause-leads
 unfolding off_of
 returns-in-Ok-clause-leads g c = λ w l x h k.
-    let half = c.from_int-half_turn.ensures.holds w h.deep in
+    let half = c.from_int-half_turn.ensures.encloses.holds w h.deep in
     let s = c.in_ok-there.ensures.leads w x k in
-    let p = c.in-Ok.ensures.leads w _ (c.add.ensures.holds w _ _ (c.sub.ensures.holds w _ _ (leaf_within s) h) half) in
+    let p = c.in-Ok.ensures.leads w _ (c.add.ensures.encloses.holds w _ _ (c.sub.ensures.encloses.holds w _ _ (leaf_within s) h) half) in
     leads_on (λ s. bind (reduced_of (add (subtract s l) (integer (pos 180)))) λ p. answer (subtract p (integer (pos 180)))) s
     (leads_on (λ p. answer (subtract p (integer (pos 180)))) p
-    (leads_answer (c.sub-in-Ok.ensures.holds w _ _ (leaf_within p) half)))
+    (leads_answer (c.sub-in-Ok.ensures.encloses.holds w _ _ (leaf_within p) half)))
 
 pub returns-in-Ok-clause-measured : goal.returns-in-Ok-clause-measured
 returns-in-Ok-clause-measured g c = λ v e b h k.
     let shown = g.E.Enclosure.shown in
-    let z = off_within shown _ v c.in_ok-there.there c.args.longitude c.sub.result e (c.in_ok-there.ensures.measured v e b k) h (λ r p q. c.sub.ensures.narrow r p q) c.from_int-half_turn.result c.add.result (λ r. c.from_int-half_turn.ensures.narrow r) (λ r p q. c.add.ensures.narrow r p q) in
+    let z = off_within shown _ v c.in_ok-there.there c.args.longitude c.sub.result e (c.in_ok-there.ensures.measured v e b k) h (λ r p q. c.sub.ensures.encloses.narrow r p q) c.from_int-half_turn.result c.add.result (λ r. c.from_int-half_turn.ensures.encloses.narrow r) (λ r p q. c.add.ensures.encloses.narrow r p q) in
     let p = c.in-Ok.ensures.measured (2 * v + 2 ^ 32) e (omega (arith, b)) z in
-    half_off shown _ (2 * v + 2 ^ 32) c.in-Ok.angle c.from_int-half_turn.result c.sub-in-Ok.result e p (λ r. c.from_int-half_turn.ensures.narrow r) (λ r p q. c.sub-in-Ok.ensures.narrow r p q)
+    half_off shown _ (2 * v + 2 ^ 32) c.in-Ok.angle c.from_int-half_turn.result c.sub-in-Ok.result e p (λ r. c.from_int-half_turn.ensures.encloses.narrow r) (λ r p q. c.sub-in-Ok.ensures.encloses.narrow r p q)
 
 pub returns-in-Err-clause-measured : goal.returns-in-Err-clause-measured
 returns-in-Err-clause-measured g c = λ v e b h k.
     let shown = g.E.Enclosure.shown in
-    let z = off_within shown _ v c.in_ok-there.there c.args.longitude c.sub.result e (c.in_ok-there.ensures.measured v e b k) h (λ r p q. c.sub.ensures.narrow r p q) c.from_int-half_turn.result c.add.result (λ r. c.from_int-half_turn.ensures.narrow r) (λ r p q. c.add.ensures.narrow r p q) in
+    let z = off_within shown _ v c.in_ok-there.there c.args.longitude c.sub.result e (c.in_ok-there.ensures.measured v e b k) h (λ r p q. c.sub.ensures.encloses.narrow r p q) c.from_int-half_turn.result c.add.result (λ r. c.from_int-half_turn.ensures.encloses.narrow r) (λ r p q. c.add.ensures.encloses.narrow r p q) in
     c.in-Err.ensures.measured (2 * v + 2 ^ 32) e (omega (arith, b)) z

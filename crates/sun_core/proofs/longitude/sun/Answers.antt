@@ -18,9 +18,9 @@ unfolding sun_of centuries_from in_centuries
 returns-clause-leads g c = λ w x h.
     by_dynamical x (λ v. cell SunWrap (multiples 360) (longitude_of v) (λ q. answer (remainder 360 (longitude_of v) q))) (c.in_ok-moment.ensures.leads w x h)
     (λ d r.
-    let days = c.sub-days.ensures.holds w d (constant (fraction_of NOON_2000)) r (c.from_frac.ensures.holds w r.deep) in
+    let days = c.sub-days.ensures.encloses.holds w d (constant (fraction_of NOON_2000)) r (c.from_frac.ensures.encloses.holds w r.deep) in
     c.wrap_step.ensures.leads w (longitude_of (in_centuries (subtract d (constant (fraction_of NOON_2000)))))
-    (c.longitude.ensures.holds w (subtract d (constant (fraction_of NOON_2000))) days (c.mul_frac-c.ensures.holds w _ days)))
+    (c.longitude.ensures.holds w (subtract d (constant (fraction_of NOON_2000))) days (c.mul_frac-c.ensures.encloses.holds w _ days)))
 
 pub returns-in-Ok-clause-measured : goal.returns-in-Ok-clause-measured
 unfolding in_centuries
@@ -28,6 +28,6 @@ returns-in-Ok-clause-measured g c = λ v e b h.
     let shown = g.E.Enclosure.shown in
     let r : Reach = record { width = v + 2 ^ 17; bounds = tabled } in
     let m = c.in-Ok.ensures.measured v e (omega (arith, b)) h in
-    let days = c.sub-days.ensures.narrow r (argument 0) (constant (fraction_of NOON_2000)) (measured_argument shown _ _ _ (v + 2 ^ 17) 0 c.in-Ok.moment m) (c.from_frac.ensures.narrow r) in
-    let y = c.longitude.ensures.narrow r days_of days (c.mul_frac-c.ensures.narrow r days_of days) in
+    let days = c.sub-days.ensures.encloses.narrow r (argument 0) (constant (fraction_of NOON_2000)) (measured_argument shown _ _ _ (v + 2 ^ 17) 0 c.in-Ok.moment m) (c.from_frac.ensures.encloses.narrow r) in
+    let y = c.longitude.ensures.narrow r days_of days (c.mul_frac-c.ensures.encloses.narrow r days_of days) in
     c.wrap_step.ensures.measured (2 * v + 2 ^ 32) e (omega (arith, b)) (longitude_within shown _ v c.longitude.result e b y)

@@ -7,5 +7,5 @@ unfolding sun_from_of
 returns g c = record {
   leads = λ w l x h k.
       let s = c.in_ok-short.ensures.leads w l x h k in
-      leads_on _ s (c.sun_about.ensures.leads w l x _ h k (c.forward.ensures.holds w _ x (leaf_within s) k));
+      leads_on _ s (c.sun_about.ensures.leads w l x _ h k (c.forward.ensures.encloses.holds w _ x (leaf_within s) k));
 }

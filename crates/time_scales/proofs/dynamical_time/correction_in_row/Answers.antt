@@ -7,7 +7,7 @@ unfolding correction_by
 returns-in-Ancient-clause-holds g c = λ w d.
     let f = c.ranges.year in
     let h = simp to_z-of_z at c.hundreds.ensures.value in
-    rw c.in-Ancient.is (c.mul_frac.ensures.holds w _ (rw h at (c.at_fraction.ensures.holds w d)))
+    rw c.in-Ancient.is (c.mul_frac.ensures.encloses.holds w _ (rw h at (c.at_fraction.ensures.holds w d)))
 
 pub returns-in-From1800-clause-holds : goal.returns-in-From1800-clause-holds
 unfolding correction_by
@@ -27,14 +27,14 @@ pub returns-in-From1987-clause-holds : goal.returns-in-From1987-clause-holds
 unfolding correction_by
 returns-in-From1987-clause-holds g c = λ w d.
     let f = c.ranges.year in
-    let h = simp to_z-of_z at c.seconds.ensures.holds in
+    let h = simp to_z-of_z at c.seconds.ensures.encloses.holds in
     rw c.in-From1987.is (h w d)
 
 pub returns-in-From2006-clause-holds : goal.returns-in-From2006-clause-holds
 unfolding correction_by
 returns-in-From2006-clause-holds g c = λ w d.
     let f = c.ranges.year in
-    let h = simp to_z-of_z at c.seconds-in-From2006.ensures.holds in
+    let h = simp to_z-of_z at c.seconds-in-From2006.ensures.encloses.holds in
     rw c.in-From2006.is (h w d)
 
 pub returns-in-Ancient-clause-narrow : goal.returns-in-Ancient-clause-narrow
@@ -42,7 +42,7 @@ unfolding computed_by
 returns-in-Ancient-clause-narrow g c = λ r.
     let f = c.ranges.year in
     let h = simp to_z-of_z at c.hundreds.ensures.value in
-    rw c.in-Ancient.is (c.mul_frac.ensures.narrow r _ (rw h at (c.at_fraction.ensures.narrow r)))
+    rw c.in-Ancient.is (c.mul_frac.ensures.encloses.narrow r _ (rw h at (c.at_fraction.ensures.narrow r)))
 
 pub returns-in-From1800-clause-narrow : goal.returns-in-From1800-clause-narrow
 unfolding computed_by
@@ -62,12 +62,12 @@ pub returns-in-From1987-clause-narrow : goal.returns-in-From1987-clause-narrow
 unfolding computed_by
 returns-in-From1987-clause-narrow g c = λ r.
     let f = c.ranges.year in
-    let h = simp to_z-of_z at c.seconds.ensures.narrow in
+    let h = simp to_z-of_z at c.seconds.ensures.encloses.narrow in
     rw c.in-From1987.is (h r)
 
 pub returns-in-From2006-clause-narrow : goal.returns-in-From2006-clause-narrow
 unfolding computed_by
 returns-in-From2006-clause-narrow g c = λ r.
     let f = c.ranges.year in
-    let h = simp to_z-of_z at c.seconds-in-From2006.ensures.narrow in
+    let h = simp to_z-of_z at c.seconds-in-From2006.ensures.encloses.narrow in
     rw c.in-From2006.is (h r)

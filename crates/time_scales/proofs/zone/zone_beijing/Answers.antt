@@ -6,5 +6,5 @@ pub returns : goal.returns
 unfolding zone_of_beijing
 returns g c = record {
   leads = λ w x h.
-      leads_bind_exact _ (c.in_ok-early.ensures.leads w x _ h (c.from_int.ensures.holds w h.deep)) (leads_answer (c.hours.ensures.holds w h.deep));
+      leads_bind_exact _ (c.in_ok-early.ensures.leads w x _ h (c.from_int.ensures.encloses.holds w h.deep)) (leads_answer (c.hours.ensures.encloses.holds w h.deep));
 }

@@ -10,4 +10,4 @@ returns c =
     let fr = c.ranges.rate in
     let h = simp to_z-of_z at c.angle_ends.ensures.holds in
     let n = simp to_z-of_z at c.angle_ends.ensures.narrow in
-    record { holds = λ w x. within_angle shown_coarse w _ _ x c.args.self _ h; narrow = λ r x. narrow_angle coarse shown_coarse r _ _ x c.args.self _ n }
+    record { encloses = record { holds = λ w x. within_angle shown_coarse w _ _ x c.args.self _ h; narrow = λ r x. narrow_angle coarse shown_coarse r _ _ x c.args.self _ n } }

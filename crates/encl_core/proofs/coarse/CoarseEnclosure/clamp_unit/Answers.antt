@@ -4,4 +4,4 @@ use Rattle.scaled_ends.proofs.RootWidths.{narrow_clamp}
 use Rattle.encl_core.proofs.coarse.CoarseEnclosure.clamp_unit.Goals as goal
 
 pub returns : goal.returns
-returns c = record { holds = λ w x. within_clamp shown_coarse w x _ _ c.clamp_ends.ensures.holds; narrow = λ r x. narrow_clamp shown_coarse _ r x _ _ c.clamp_ends.ensures.narrow }
+returns c = record { encloses = record { holds = λ w x. within_clamp shown_coarse w x _ _ c.clamp_ends.ensures.holds; narrow = λ r x. narrow_clamp shown_coarse _ r x _ _ c.clamp_ends.ensures.narrow } }

@@ -4,4 +4,4 @@ use Rattle.scaled_ends.proofs.Following.{within_widen, narrow_widen}
 use Rattle.encl_core.proofs.coarse.CoarseEnclosure.widen.Goals as goal
 
 pub returns : goal.returns
-returns c = record { holds = λ w x. within_widen shown_coarse w _ x _ _ c.widen_ends.ensures.holds; narrow = λ r x. narrow_widen coarse shown_coarse r _ x _ _ c.widen_ends.ensures.narrow }
+returns c = record { encloses = record { holds = λ w x. within_widen shown_coarse w _ x _ _ c.widen_ends.ensures.holds; narrow = λ r x. narrow_widen coarse shown_coarse r _ x _ _ c.widen_ends.ensures.narrow } }

@@ -5,4 +5,4 @@ use Rattle.fix_fine.proofs.Rows.{sum_of_ends}
 use Rattle.fix_fine.proofs.fine.FineEnclosure.add.Goals as goal
 
 pub returns : goal.returns
-returns c = record { holds = λ w x y. within_add shown_fine w x y _ _ _ c.add_ends.ensures.holds; narrow = λ r x y. narrow_add fine shown_fine r x y _ _ _ c.add_ends.ensures.narrow; table = sum_of_ends _ _ _ c.add_ends.ensures.ends }
+returns c = record { encloses = record { holds = λ w x y. within_add shown_fine w x y _ _ _ c.add_ends.ensures.holds; narrow = λ r x y. narrow_add fine shown_fine r x y _ _ _ c.add_ends.ensures.narrow }; table = sum_of_ends _ _ _ c.add_ends.ensures.ends }

@@ -5,4 +5,4 @@ use Rattle.fix_fine.proofs.Rows.{cut_of_ends}
 use Rattle.fix_fine.proofs.fine.FineEnclosure.clamp_unit.Goals as goal
 
 pub returns : goal.returns
-returns c = record { holds = λ w x. within_clamp shown_fine w x _ _ c.clamp_ends.ensures.holds; narrow = λ r x. narrow_clamp shown_fine _ r x _ _ c.clamp_ends.ensures.narrow; table = cut_of_ends c.args.self.ends c.clamp_ends.result c.clamp_ends.ensures.narrow }
+returns c = record { encloses = record { holds = λ w x. within_clamp shown_fine w x _ _ c.clamp_ends.ensures.holds; narrow = λ r x. narrow_clamp shown_fine _ r x _ _ c.clamp_ends.ensures.narrow }; table = cut_of_ends c.args.self.ends c.clamp_ends.result c.clamp_ends.ensures.narrow }

@@ -5,4 +5,4 @@ use Rattle.fix_fine.proofs.Rows.{fraction_of_ends}
 use Rattle.fix_fine.proofs.fine.FineEnclosure.from_frac.Goals as goal
 
 pub returns : goal.returns
-returns c = record { holds = λ w d. within_constant shown_fine w _ _ d c.raised_ends.ensures.holds; narrow = λ r. narrow_constant fine shown_fine r _ _ c.raised_ends.ensures.narrow; table = fraction_of_ends _ c.raised_ends.result c.raised_ends.ensures.narrow c.raised_ends.ensures.close }
+returns c = record { encloses = record { holds = λ w d. within_constant shown_fine w _ _ d c.raised_ends.ensures.holds; narrow = λ r. narrow_constant fine shown_fine r _ _ c.raised_ends.ensures.narrow }; table = fraction_of_ends _ c.raised_ends.result c.raised_ends.ensures.narrow c.raised_ends.ensures.close }

@@ -11,4 +11,4 @@ returns c =
     let f : SFits w64 c.args.value = c.ranges.value in
     let h = simp to_z-of_z at c.int_ends.ensures.holds in
     let n = simp to_z-of_z at c.int_ends.ensures.narrow in
-    record { holds = λ w d. within_integer shown_fine w _ _ d h; narrow = λ r. narrow_integer fine shown_fine r _ _ n; table = integer_of_ends c.args.value c.int_ends.result f n }
+    record { encloses = record { holds = λ w d. within_integer shown_fine w _ _ d h; narrow = λ r. narrow_integer fine shown_fine r _ _ n }; table = integer_of_ends c.args.value c.int_ends.result f n }

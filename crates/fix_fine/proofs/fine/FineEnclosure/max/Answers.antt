@@ -4,4 +4,4 @@ use Rattle.fix_fine.proofs.Rows.{greater_of_ends}
 use Rattle.fix_fine.proofs.fine.FineEnclosure.max.Goals as goal
 
 pub returns : goal.returns
-returns c = record { holds = λ w x y. within_maximum shown_fine w x y _ _ _ c.max_ends.ensures.holds; narrow = λ r x y. narrow_maximum shown_fine _ r x y _ _ _ c.max_ends.ensures.narrow; table = greater_of_ends c.args.self.ends c.args.other.ends c.max_ends.result c.max_ends.ensures.narrow }
+returns c = record { encloses = record { holds = λ w x y. within_maximum shown_fine w x y _ _ _ c.max_ends.ensures.holds; narrow = λ r x y. narrow_maximum shown_fine _ r x y _ _ _ c.max_ends.ensures.narrow }; table = greater_of_ends c.args.self.ends c.args.other.ends c.max_ends.result c.max_ends.ensures.narrow }

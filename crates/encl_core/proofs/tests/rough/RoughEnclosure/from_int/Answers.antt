@@ -8,4 +8,4 @@ pub returns : goal.returns
 returns c =
     let f : SFits w64 c.args.value = c.ranges.value in
     let h = simp to_z-of_z at c.int_ends.ensures.holds in
-    record { holds = λ w d. within_integer _ w _ _ d h; narrow = λ r. narrow_integer _ r _ _ }
+    record { encloses = record { holds = λ w d. within_integer _ w _ _ d h; narrow = λ r. narrow_integer _ r _ _ } }

@@ -3,4 +3,4 @@ use Rattle.scaled_ends.proofs.Unpromised.{narrow_negate}
 use Rattle.encl_core.proofs.tests.rough.RoughEnclosure.neg.Goals as goal
 
 pub returns : goal.returns
-returns c = record { holds = λ w x. within_negate _ w x _ _ c.neg_ends.ensures.holds; narrow = λ r x h. narrow_negate _ r x _ }
+returns c = record { encloses = record { holds = λ w x. within_negate _ w x _ _ c.neg_ends.ensures.holds; narrow = λ r x h. narrow_negate _ r x _ } }

@@ -4,4 +4,4 @@ use Rattle.scaled_ends.proofs.Unpromised.{narrow_square}
 use Rattle.encl_core.proofs.tests.rough.RoughEnclosure.square.Goals as goal
 
 pub returns : goal.returns
-returns c = record { holds = λ w x. within_power _ w x 2 _ _ (within_trans c.square_ends.ensures.holds c.roughened.ensures); narrow = λ r x h. narrow_square _ r x _ }
+returns c = record { encloses = record { holds = λ w x. within_power _ w x 2 _ _ (within_trans c.square_ends.ensures.holds c.roughened.ensures); narrow = λ r x h. narrow_square _ r x _ } }
