@@ -1,6 +1,5 @@
 //! Days and midnights in Beijing: the day of a moment, and the longitude of the sun as a day begins.
 ghost use Rattle.book_model.specs.programs.Calls.{Decides1, Follows};
-ghost use Rattle.std.specs.Prelude.{◌≤◌, ◌+◌};
 ghost use Rattle.book_model.specs.sky.Kinds.{day_in_beijing_of, longitude_at_midnight_of};
 
 use book_model::{Fail, Site};
@@ -18,7 +17,7 @@ pub(crate) fn longitude_at_midnight<E: Enclosure>(day: i64, trail: &mut Trail) -
 }
 
 /// The day (R.D.) of a moment of universal time in Beijing: two tests at most.
-#[tactic(auto, using(book_model::proofs::Leads::leading), unfolding(book_model::specs::sky::Kinds::day_in_beijing_of, book_model::specs::programs::Leading::next_turn))]
+#[tactic(auto, using(book_model::proofs::Leads::leading), unfolding(book_model::specs::sky::Kinds::day_in_beijing_of))]
 pub(crate) fn day_in_beijing<E: Enclosure>(t: E, trail: &mut Trail) -> Result<i64, Fail>
     ensures leads { Decides1 E.shown day_in_beijing_of t trail.old.count trail.new.count result }
 {

@@ -1,6 +1,6 @@
 //! The dynamical time correction of a day, in milliseconds.
 ghost use Rattle.book_model.specs.programs.Calls.{Decides};
-ghost use Rattle.std.specs.Prelude.{◌≤◌, ◌+◌, IfOk, IfErr};
+ghost use Rattle.std.specs.Prelude.{◌≤◌, IfOk, IfErr};
 ghost use Rattle.book_model.specs.numbers.Bounds.{Reach, limits_of};
 ghost use Rattle.book_model.specs.calendars.Gregorian.{year_of_day};
 ghost use Rattle.book_model.specs.numbers.Expressions.{Expression, World, add, constant, scale};
@@ -27,9 +27,9 @@ fn milliseconds<E: Enclosure>(days: E) -> E
     days.mul_frac(MILLISECONDS_OF_DAY).add(E::from_frac(HALF))
 }
 
-#[tactic(auto, using(book_model::proofs::Leads::leading), unfolding(book_model::specs::sky::Kinds::dt_of, book_model::specs::sky::Correction::rounded_of, book_model::specs::programs::Leading::next_turn))]
 /// The dynamical time correction of the year of a day, in milliseconds, rounded: two tests, of which only the second
 /// may be open.
+#[tactic(auto, using(book_model::proofs::Leads::leading), unfolding(book_model::specs::sky::Kinds::dt_of, book_model::specs::sky::Correction::rounded_of))]
 pub(crate) fn dt<E: Enclosure>(day: i64, trail: &mut Trail) -> Result<i64, Fail>
     requires day { IsValueDay day }
     ensures leads { Decides (dt_of day) trail.old.count trail.new.count result }
@@ -38,8 +38,6 @@ pub(crate) fn dt<E: Enclosure>(day: i64, trail: &mut Trail) -> Result<i64, Fail>
     ensures close { 36 ≤ E.BITS → E.BITS ≤ 56 → IfErr result (IsCloseFor E.BITS (year_of_day day)) }
 {
     let year = year_of_whole_day(day, trail);
-    match correction::<E>(year, trail) {
-        Ok(days) => floor_step(milliseconds(days), Site::Round, trail),
-        Err(fail) => Err(fail),
-    }
+    let days = correction::<E>(year, trail)?;
+    floor_step(milliseconds(days), Site::Round, trail)
 }

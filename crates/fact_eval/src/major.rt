@@ -1,6 +1,6 @@
 //! The major solar term at midnight in Beijing.
 ghost use Rattle.book_model.specs.programs.Calls.{Decides};
-ghost use Rattle.std.specs.Prelude.{◌≤◌, ◌+◌, pos, ◌≤ℤ◌, IfOk, IfErr};
+ghost use Rattle.std.specs.Prelude.{◌+◌, pos, ◌≤ℤ◌, IfOk, IfErr};
 ghost use Rattle.book_model.specs.calendars.Gregorian.{year_of_day};
 ghost use Rattle.book_model.specs.sky.Facts.{IsFactValue, IsValueDay};
 ghost use Rattle.book_model.specs.sky.Kinds.{terms_passed_of, major_of};
@@ -14,16 +14,14 @@ use encl_core::{Enclosure, Trail, floor_step};
 
 /// How many major solar terms the sun has passed since the spring equinox at midnight at the beginning of a day (R.D.) in
 /// Beijing: three tests at most.
-#[tactic(auto, using(book_model::proofs::Leads::leading), unfolding(book_model::specs::sky::Kinds::terms_passed_of, book_model::specs::programs::Leading::next_turn))]
+#[tactic(auto, using(book_model::proofs::Leads::leading), unfolding(book_model::specs::sky::Kinds::terms_passed_of))]
 fn terms_passed<E: Enclosure>(day: i64, trail: &mut Trail) -> Result<i64, Fail>
     ensures leads { Decides (terms_passed_of day) trail.old.count trail.new.count result }
     ensures from { IfOk result (λ q. pos 0 ≤ℤ q) }
     ensures to { IfOk result (λ q. q ≤ℤ pos 12) }
 {
-    match longitude_at_midnight::<E>(day, trail) {
-        Ok(longitude) => floor_step(longitude.mul_frac(DEGREE_IN_TERMS), Site::TermFloor, trail),
-        Err(fail) => Err(fail),
-    }
+    let longitude = longitude_at_midnight::<E>(day, trail)?;
+    floor_step(longitude.mul_frac(DEGREE_IN_TERMS), Site::TermFloor, trail)
 }
 
 /// The number, from 1 to 12, of the last major solar term at midnight at the beginning of a day (R.D.) in Beijing, that at 330

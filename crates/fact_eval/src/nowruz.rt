@@ -1,12 +1,11 @@
 //! The first day of a Persian year.
 ghost use Rattle.book_model.specs.programs.Calls.{Decides};
-ghost use Rattle.std.specs.Prelude.{◌≤◌, ◌+◌, IfOk, IfErr};
+ghost use Rattle.std.specs.Prelude.{IfOk, IfErr};
 ghost use Rattle.book_model.specs.calendars.Gregorian.{year_of_day};
 ghost use Rattle.book_model.specs.sky.Facts.{IsFactValue, IsValueDay};
 ghost use Rattle.book_model.specs.sky.Kinds.{nowruz_of};
 ghost use Rattle.book_model.specs.sky.Noon.{noon_of};
 ghost use Rattle.book_model.specs.declared.fact.Kind.TheVariants.{Nowruz};
-ghost use Rattle.book_model.proofs.Estimates.{noon_few};
 ghost use Rattle.fact_eval.specs.Widths.{IsNearFor};
 
 use crate::spring::{DayMoment, spring_day};
@@ -21,11 +20,7 @@ struct NoonAtTehran;
 impl<E: Enclosure> DayMoment<E> for NoonAtTehran {
     ghost moment_of = { noon_of };
 
-    ghost most = { 1 };
-
-    ghost few = { noon_few };
-
-    #[tactic(auto, unfolding(book_model::specs::programs::Leading::next_turn))]
+    #[tactic(auto)]
     fn at(self, day: i64, trail: &mut Trail) -> Result<E, Fail> {
         noon::<E>(day, trail)
     }

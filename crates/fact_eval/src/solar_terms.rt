@@ -1,6 +1,6 @@
 //! The days in Beijing of the next major and minor solar terms.
 ghost use Rattle.book_model.specs.programs.Calls.{Decides};
-ghost use Rattle.std.specs.Prelude.{◌≡◌, ◌≤◌, ◌+◌, pos, ◌≤ℤ◌, IfOk};
+ghost use Rattle.std.specs.Prelude.{◌≡◌, pos, ◌≤ℤ◌, IfOk};
 ghost use Rattle.book_model.specs.sky.Facts.{IsFactValue, IsValueDay};
 ghost use Rattle.book_model.specs.sky.Kinds as spec;
 ghost use Rattle.fact_eval.specs.Spans.{IsSpan};
@@ -15,30 +15,18 @@ use time_scales::midnight;
 /// How many degrees the sun moves from one major solar term to the next, and from one minor term to the next.
 const TERM_DEGREES: i64 = 30;
 
-/// The whole spans of 30 degrees, rounded down, from the sun to a longitude in degrees, at midnight at the beginning of a day (R.D.) in
-/// Beijing: three tests at most.
-#[tactic(auto, using(book_model::proofs::Leads::leading), unfolding(book_model::specs::sky::Kinds::spans_short_of, book_model::specs::programs::Leading::next_turn))]
-fn floor_of_spans<E: Enclosure>(longitude: i64, day: i64, trail: &mut Trail) -> Result<i64, Fail>
-    ensures leads { Decides (spec.spans_short_of longitude day) trail.old.count trail.new.count
-        result }
-{
-    match longitude_at_midnight::<E>(day, trail) {
-        Ok(there) => {
-            let spans = E::from_int(longitude).sub(there).mul_frac(DEGREE_IN_TERMS);
-            floor_step(spans, Site::TermFloor, trail)
-        }
-        Err(fail) => Err(fail),
-    }
-}
-
-/// The whole spans of 30 degrees, rounded down, from the sun to the first longitude of the terms, in degrees: from -12 to 12.
+/// The whole spans of 30 degrees, rounded down, from the sun to the first longitude of the terms, in degrees, at midnight at the
+/// beginning of a day (R.D.) in Beijing: from -12 to 12. Three tests at most.
+#[tactic(auto, using(book_model::proofs::Leads::leading), unfolding(book_model::specs::sky::Kinds::spans_short_of))]
 fn spans_short<E: Enclosure>(first: i64, day: i64, trail: &mut Trail) -> Result<i64, Fail>
     requires from { pos 0 ≤ℤ first }
     requires to { first ≤ℤ pos 15 }
     ensures leads { Decides (spec.spans_short_of first day) trail.old.count trail.new.count result }
     ensures near { IfOk result IsSpan }
 {
-    floor_of_spans::<E>(first, day, trail)
+    let there = longitude_at_midnight::<E>(day, trail)?;
+    let spans = E::from_int(first).sub(there).mul_frac(DEGREE_IN_TERMS);
+    floor_step(spans, Site::TermFloor, trail)
 }
 
 /// The longitude, from 0 to 359 degrees, that lies so many spans of 30 degrees before the first.
@@ -58,25 +46,13 @@ fn longitude_day<E: Enclosure>(longitude: i64, day: i64, trail: &mut Trail) -> R
     ensures leads { Decides (spec.longitude_day_of longitude day) trail.old.count trail.new.count
         result }
 {
-    match sun_from(E::from_int(longitude), midnight::<E>(day), trail) {
-        Ok(moment) => day_in_beijing(moment, trail),
-        Err(fail) => Err(fail),
-    }
-}
-
-/// The day of the next term, whose longitude is a multiple of 30 degrees past the first.
-#[tactic(auto, using(book_model::proofs::Leads::leading), unfolding(book_model::specs::sky::Kinds::term_day_of))]
-fn next_term_day<E: Enclosure>(first: i64, day: i64, trail: &mut Trail) -> Result<i64, Fail>
-    requires from { pos 0 ≤ℤ first }
-    requires to { first ≤ℤ pos 15 }
-    ensures leads { Decides (spec.term_day_of first day) trail.old.count trail.new.count result }
-{
-    let spans = spans_short::<E>(first, day, trail)?;
-    longitude_day::<E>(term_longitude(first, spans), day, trail)
+    let moment = sun_from(E::from_int(longitude), midnight::<E>(day), trail)?;
+    day_in_beijing(moment, trail)
 }
 
 /// The day (R.D.) in Beijing on which the sun comes to the first of the longitudes of the terms once a day has begun there: those 30
 /// degrees apart, the least of which is `first`, 0 for the major terms and 15 for the minor. 329 tests at most.
+#[tactic(auto, using(book_model::proofs::Leads::leading), unfolding(book_model::specs::sky::Kinds::term_day_of))]
 pub(crate) fn term_day<E: Enclosure>(first: i64, day: i64, trail: &mut Trail) -> Result<i64, Fail>
     requires from { pos 0 ≤ℤ first }
     requires to { first ≤ℤ pos 15 }
@@ -84,5 +60,6 @@ pub(crate) fn term_day<E: Enclosure>(first: i64, day: i64, trail: &mut Trail) ->
     ensures leads { Decides (spec.term_day_of first day) trail.old.count trail.new.count result }
     ensures value { IfOk result IsFactValue }
 {
-    next_term_day::<E>(first, day, trail)
+    let spans = spans_short::<E>(first, day, trail)?;
+    longitude_day::<E>(term_longitude(first, spans), day, trail)
 }

@@ -1,6 +1,6 @@
 //! The day of the last winter solstice in Beijing.
 ghost use Rattle.book_model.specs.programs.Calls.{Decides, Decides1, Follows};
-ghost use Rattle.std.specs.Prelude.{◌≤◌, ◌+◌, pos, ◌≤ℤ◌, ◌+ℤ◌, ◌-ℤ◌, ℤ, IfOk, IfErr, false};
+ghost use Rattle.std.specs.Prelude.{◌+◌, pos, ◌≤ℤ◌, ◌+ℤ◌, ◌-ℤ◌, IfOk, IfErr, false};
 ghost use Rattle.book_model.specs.calendars.Gregorian.{year_of_day};
 ghost use Rattle.book_model.specs.sky.Facts.{IsFactDay, IsFactValue, IsValueDay};
 ghost use Rattle.book_model.specs.sky.Kinds.{is_past_winter_of, has_winter_at_end, last_solstice_of, solstice_start_of, solstice_of};
@@ -20,7 +20,7 @@ const WINTER: i64 = 270;
 struct WinterAtEnd;
 
 /// Whether a longitude is past the winter solstice, as one test.
-#[tactic(auto, using(book_model::proofs::Leads::leading), unfolding(book_model::specs::sky::Kinds::is_past_winter_of, book_model::specs::programs::Leading::next_turn))]
+#[tactic(auto, using(book_model::proofs::Leads::leading), unfolding(book_model::specs::sky::Kinds::is_past_winter_of))]
 fn is_past_winter<E: Enclosure>(longitude: E, trail: &mut Trail) -> Result<bool, Fail>
     ensures leads { Decides1 E.shown is_past_winter_of longitude trail.old.count trail.new.count
         result }
@@ -29,7 +29,7 @@ fn is_past_winter<E: Enclosure>(longitude: E, trail: &mut Trail) -> Result<bool,
 }
 
 /// The test of a day (R.D.): three tests at most.
-#[tactic(auto, using(book_model::proofs::Leads::leading), unfolding(book_model::specs::sky::Kinds::has_winter_at_end, book_model::specs::programs::Leading::next_turn))]
+#[tactic(auto, using(book_model::proofs::Leads::leading), unfolding(book_model::specs::sky::Kinds::has_winter_at_end))]
 fn has_winter<E: Enclosure>(day: i64, trail: &mut Trail) -> Result<bool, Fail>
     requires day { IsFactDay day }
     ensures leads { Decides (has_winter_at_end day) trail.old.count trail.new.count result }
@@ -50,7 +50,7 @@ impl<E: Enclosure> DayTest<E> for WinterAtEnd {
 
 /// The moment at which, as is estimated, the sun was last at the winter solstice before a day (R.D.) ends in Beijing: six tests
 /// at most.
-#[tactic(auto, using(book_model::proofs::Leads::leading), unfolding(book_model::specs::sky::Kinds::last_solstice_of, book_model::specs::programs::Leading::next_turn))]
+#[tactic(auto, using(book_model::proofs::Leads::leading), unfolding(book_model::specs::sky::Kinds::last_solstice_of))]
 fn last_solstice<E: Enclosure>(day: i64, trail: &mut Trail) -> Result<E, Fail>
     requires day { IsFactDay day }
     ensures leads { Follows E.shown (last_solstice_of day) trail.old.count trail.new.count result }
@@ -60,17 +60,15 @@ fn last_solstice<E: Enclosure>(day: i64, trail: &mut Trail) -> Result<E, Fail>
 
 /// The day (R.D.) of the moment at which, as is estimated, the sun was last at the winter solstice before a day ends in
 /// Beijing: seven tests at most.
-#[tactic(auto, using(book_model::proofs::Leads::leading), unfolding(book_model::specs::sky::Kinds::solstice_start_of, book_model::specs::programs::Leading::next_turn))]
+#[tactic(auto, using(book_model::proofs::Leads::leading), unfolding(book_model::specs::sky::Kinds::solstice_start_of))]
 fn search_start<E: Enclosure>(day: i64, trail: &mut Trail) -> Result<i64, Fail>
     requires day { IsValueDay day }
     ensures leads { Decides (solstice_start_of day) trail.old.count trail.new.count result }
     ensures from { IfOk result (λ q. (day -ℤ pos 600) ≤ℤ q) }
     ensures to { IfOk result (λ q. q ≤ℤ (day +ℤ pos 2)) }
 {
-    match last_solstice::<E>(day, trail) {
-        Ok(moment) => floor_step(moment, Site::StartFloor, trail),
-        Err(fail) => Err(fail),
-    }
+    let moment = last_solstice::<E>(day, trail)?;
+    floor_step(moment, Site::StartFloor, trail)
 }
 
 /// The day (R.D.) of the last winter solstice in Beijing before a day ends there: the first from the day before the estimated

@@ -1,10 +1,10 @@
 //! The day by whose moment, as true noon or sunset at a place, the sun has just passed the spring equinox: the first of a year.
 ghost use Rattle.book_model.specs.programs.Calls.{Decides, Decides1, Follows};
-ghost use Rattle.std.specs.Prelude.{◌≤◌, ◌+◌, ◌*◌, pos, negsuc, ◌≤ℤ◌, ℕ, ℤ, IfOk, false};
+ghost use Rattle.std.specs.Prelude.{pos, negsuc, ◌≤ℤ◌, ℤ, IfOk, false};
 ghost use Rattle.book_model.specs.numbers.Expressions.{Expression};
 ghost use Rattle.book_model.specs.sky.Facts.{IsFactDay, IsFactValue, IsValueDay};
 ghost use Rattle.book_model.specs.sky.Kinds.{longitude_at_of, is_at_most_two_of, has_spring_at, last_equinox_of, search_start_of, spring_day_of};
-ghost use Rattle.book_model.specs.programs.Programs.{AtMost, Program};
+ghost use Rattle.book_model.specs.programs.Programs.{Program};
 
 use book_model::{Fail, Site};
 use encl_core::{DayTest, Enclosure, Trail, first_day, floor_step, less_step};
@@ -14,11 +14,6 @@ use sun_core::{estimate, sun};
 pub(crate) trait DayMoment<E: Enclosure>: Copy {
     /// The moment of a day, as a formula.
     ghost moment_of: { ℤ → Program Expression };
-
-    /// How many tests the formula makes at most, and that it does.
-    ghost most: { ℕ };
-
-    ghost few: { (day : ℤ) → AtMost most (moment_of day) };
 
     /// The moment of a day (R.D.), in universal time. It makes the tests of its formula, and fails where that does.
     fn at(self, day: i64, trail: &mut Trail) -> Result<E, Fail>
@@ -34,7 +29,7 @@ struct SpringAt<M> {
 }
 
 /// The longitude of the sun at a moment of a day (R.D.).
-#[tactic(auto, using(book_model::proofs::Leads::leading), unfolding(book_model::specs::sky::Kinds::longitude_at_of, book_model::specs::programs::Leading::next_turn))]
+#[tactic(auto, using(book_model::proofs::Leads::leading), unfolding(book_model::specs::sky::Kinds::longitude_at_of))]
 fn longitude_at<E: Enclosure, M: DayMoment<E>>(
     moment: M,
     day: i64,
@@ -49,19 +44,17 @@ fn longitude_at<E: Enclosure, M: DayMoment<E>>(
 }
 
 /// Whether a longitude is at most 2 degrees, as one test.
-#[tactic(auto, using(book_model::proofs::Leads::leading), unfolding(book_model::specs::sky::Kinds::is_at_most_two_of, book_model::specs::programs::Leading::next_turn))]
+#[tactic(auto, using(book_model::proofs::Leads::leading), unfolding(book_model::specs::sky::Kinds::is_at_most_two_of))]
 fn is_at_most_two<E: Enclosure>(longitude: E, trail: &mut Trail) -> Result<bool, Fail>
     ensures leads { Decides1 E.shown is_at_most_two_of longitude trail.old.count trail.new.count
         result }
 {
-    match less_step(E::from_int(2), longitude, Site::DayTest, trail) {
-        Ok(is_more) => Ok(!is_more),
-        Err(fail) => Err(fail),
-    }
+    let is_more = less_step(E::from_int(2), longitude, Site::DayTest, trail)?;
+    Ok(!is_more)
 }
 
 /// The test of a day (R.D.).
-#[tactic(auto, using(book_model::proofs::Leads::leading), unfolding(book_model::specs::sky::Kinds::has_spring_at, book_model::specs::programs::Leading::next_turn))]
+#[tactic(auto, using(book_model::proofs::Leads::leading), unfolding(book_model::specs::sky::Kinds::has_spring_at))]
 fn has_spring<E: Enclosure, M: DayMoment<E>>(
     moment: M,
     day: i64,
@@ -85,7 +78,7 @@ impl<E: Enclosure, M: DayMoment<E>> DayTest<E> for SpringAt<M> {
 }
 
 /// The moment at which, as is estimated, the sun was last at the spring equinox before a moment of a day (R.D.).
-#[tactic(auto, using(book_model::proofs::Leads::leading), unfolding(book_model::specs::sky::Kinds::last_equinox_of, book_model::specs::programs::Leading::next_turn))]
+#[tactic(auto, using(book_model::proofs::Leads::leading), unfolding(book_model::specs::sky::Kinds::last_equinox_of))]
 fn last_equinox<E: Enclosure, M: DayMoment<E>>(
     moment: M,
     day: i64,
@@ -100,7 +93,7 @@ fn last_equinox<E: Enclosure, M: DayMoment<E>>(
 }
 
 /// The day (R.D.) of the moment at which the sun was last at the equinox before a moment of a day, as it is estimated.
-#[tactic(auto, using(book_model::proofs::Leads::leading), unfolding(book_model::specs::sky::Kinds::search_start_of, book_model::specs::programs::Leading::next_turn))]
+#[tactic(auto, using(book_model::proofs::Leads::leading), unfolding(book_model::specs::sky::Kinds::search_start_of))]
 fn search_start<E: Enclosure, M: DayMoment<E>>(
     moment: M,
     day: i64,
@@ -111,10 +104,8 @@ fn search_start<E: Enclosure, M: DayMoment<E>>(
     ensures from { IfOk result (λ q. negsuc 183199 ≤ℤ q) }
     ensures to { IfOk result (λ q. q ≤ℤ pos 748748) }
 {
-    match last_equinox::<E, M>(moment, day, trail) {
-        Ok(equinox) => floor_step(equinox, Site::StartFloor, trail),
-        Err(fail) => Err(fail),
-    }
+    let equinox = last_equinox::<E, M>(moment, day, trail)?;
+    floor_step(equinox, Site::StartFloor, trail)
 }
 
 /// The day (R.D.) by whose moment the sun has just passed the spring equinox, the last until a day: the first from the day

@@ -1,6 +1,6 @@
 //! The first day of a Bahá'í year, and sunset in minutes.
 ghost use Rattle.book_model.specs.programs.Calls.{Decides, Decides1, Holds1};
-ghost use Rattle.std.specs.Prelude.{◌≡◌, ◌≤◌, ◌+◌, IfOk, IfErr};
+ghost use Rattle.std.specs.Prelude.{IfOk, IfErr};
 ghost use Rattle.book_model.specs.calendars.Gregorian.{year_of_day};
 ghost use Rattle.book_model.specs.sky.Correction.{rounded_of};
 ghost use Rattle.book_model.specs.sky.Facts.{IsFactValue, IsValueDay};
@@ -10,7 +10,6 @@ ghost use Rattle.book_model.specs.sky.Names.{location_of};
 ghost use Rattle.book_model.specs.declared.fact.Kind.TheVariants.{BahaiYear, Sunset};
 ghost use Rattle.book_model.specs.declared.location_tables.TheConstants.{TEHRAN as tehran};
 ghost use Rattle.fact_eval.specs.Widths.{IsNearFor};
-ghost use Rattle.rise_set.proofs.Horizons.{sunset_few};
 
 use crate::spring::{DayMoment, spring_day};
 use book_model::{Fail, HALF, HOUR, Location, MINUTES_OF_DAY, Place, Site, TEHRAN};
@@ -23,10 +22,6 @@ struct SunsetAtTehran;
 
 impl<E: Enclosure> DayMoment<E> for SunsetAtTehran {
     ghost moment_of = { sunset_of tehran };
-
-    ghost most = { 132 };
-
-    ghost few = { sunset_few tehran };
 
     fn at(self, day: i64, trail: &mut Trail) -> Result<E, Fail> {
         sunset::<E>(&TEHRAN, day, trail)
@@ -56,7 +51,7 @@ fn minutes<E: Enclosure>(location: &Location, day: i64, t: E) -> E
 }
 
 /// A number rounded, the greater of two: one test.
-#[tactic(auto, using(book_model::proofs::Leads::leading), unfolding(book_model::specs::sky::Correction::rounded_of, book_model::specs::programs::Leading::next_turn))]
+#[tactic(auto, using(book_model::proofs::Leads::leading), unfolding(book_model::specs::sky::Correction::rounded_of))]
 fn rounded<E: Enclosure>(number: E, trail: &mut Trail) -> Result<i64, Fail>
     ensures leads { Decides1 E.shown rounded_of number trail.old.count trail.new.count result }
 {

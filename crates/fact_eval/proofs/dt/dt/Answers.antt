@@ -1,3 +1,4 @@
+use Rattle.std.proofs.lemmas.Result.{err_from_is_err_and}
 use Rattle.std.proofs.Common.{rules, SFits, w64}
 use Rattle.std.proofs.lemmas.Int.{to_z-of_z}
 use Rattle.std.proofs.lemmas.Result.{IfErr-weaker}
@@ -8,47 +9,52 @@ use Rattle.fact_eval.proofs.DayLemmas.{dt_is_value}
 use Rattle.fact_eval.proofs.WidthLemmas.{rounded_narrow, close_round, near_round, void_is_no_test, void_is_close}
 use Rattle.fact_eval.proofs.dt.dt.Goals as goal
 
-pub returns-in-Ok-clause-leads : goal.returns-in-Ok-clause-leads
+pub returns-clause-leads : goal.returns-clause-leads
 unfolding dt_of rounded_of
-returns-in-Ok-clause-leads g c = λ w d.
+returns-clause-leads g c = λ w d.
     let f : SFits w64 c.args.day = c.ranges.day in
     let y : SFits w64 c.year_of_whole_day-year.result = search rules in
-    let l = simp to_z-of_z at (c.in-Ok.ensures.leads w d) in
+    let l = simp to_z-of_z at (c.in_ok-days.ensures.leads w d) in
     let k = simp to_z-of_z at (c.year_of_whole_day-year.ensures.leads w) in
     leads_bind_exact _ k (leads_on _ l (c.floor_step.ensures.leads w _ (c.milliseconds.ensures.holds w _ (leaf_within l))))
 
-pub returns-in-Ok-clause-value : goal.returns-in-Ok-clause-value
-returns-in-Ok-clause-value g c = dt_is_value c.args.day _ _ _ c.requires.day (returns-in-Ok-clause-leads g c)
+pub returns-clause-value : goal.returns-clause-value
+returns-clause-value g c = dt_is_value c.args.day _ _ _ c.requires.day (returns-clause-leads g c)
 
-pub returns-in-Ok-clause-close : goal.returns-in-Ok-clause-close
-returns-in-Ok-clause-close g c = λ p q.
+pub returns-clause-close : goal.returns-clause-close
+returns-clause-close g c = λ p q.
     let f : SFits w64 c.args.day = c.ranges.day in
     let y : SFits w64 c.year_of_whole_day-year.result = search rules in
     let e = simp to_z-of_z at c.year_of_whole_day-year.ensures.year in
-    let n = simp to_z-of_z at (c.in-Ok.ensures.close p q) in
+    let n = simp to_z-of_z at (c.in_ok-days.ensures.close p q) in
     rw (← e)
     (IfErr-weaker c.floor_step.result _ _ (λ o k. close_round _ _ c.year_of_whole_day-year.result o (λ a b. rounded_narrow g.E.Enclosure.shown _ _ c.milliseconds.result p q (n a b) c.milliseconds.ensures.narrow) k) c.floor_step.ensures.open)
 
-pub returns-in-Ok-clause-open : goal.returns-in-Ok-clause-open
-returns-in-Ok-clause-open g c = λ p q.
+pub returns-clause-open : goal.returns-clause-open
+returns-clause-open g c = λ p q.
     let f : SFits w64 c.args.day = c.ranges.day in
     let y : SFits w64 c.year_of_whole_day-year.result = search rules in
     let e = simp to_z-of_z at c.year_of_whole_day-year.ensures.year in
-    let n = simp to_z-of_z at (c.in-Ok.ensures.close p q) in
+    let n = simp to_z-of_z at (c.in_ok-days.ensures.close p q) in
     rw (← e)
     (IfErr-weaker c.floor_step.result _ _ (λ o k. near_round _ _ c.year_of_whole_day-year.result o p q k (close_round _ _ c.year_of_whole_day-year.result o (λ a b. rounded_narrow g.E.Enclosure.shown _ _ c.milliseconds.result p q (n a b) c.milliseconds.ensures.narrow) k)) c.floor_step.ensures.open)
 
-pub returns-in-Err-clause-leads : goal.returns-in-Err-clause-leads
+pub returns-in_err-days-clause-leads : goal.returns-in_err-days-clause-leads
 unfolding dt_of rounded_of
-returns-in-Err-clause-leads g c = λ w d.
+returns-in_err-days-clause-leads g c = λ w d.
     let f : SFits w64 c.args.day = c.ranges.day in
     let y : SFits w64 c.year_of_whole_day-year.result = search rules in
-    let l = simp to_z-of_z at (c.in-Err.ensures.leads w d) in
+    let l = simp to_z-of_z at (c.in_err-days.ensures.leads w d) in
     let k = simp to_z-of_z at (c.year_of_whole_day-year.ensures.leads w) in
-    leads_bind_exact _ k (leads_fail _ l)
+    let fails = err_from_is_err_and c.from_residual.result c.from_residual.ensures.1 in
+    rw (fails.1, fails.2) (leads_bind_exact _ k (leads_fail _ l))
 
-pub returns-in-Err-clause-open : goal.returns-in-Err-clause-open
-returns-in-Err-clause-open g c = λ p q. void_is_no_test _ _ c.in-Err.ensures.void
+pub returns-in_err-days-clause-open : goal.returns-in_err-days-clause-open
+returns-in_err-days-clause-open g c = λ p q.
+    let fails = err_from_is_err_and c.from_residual.result c.from_residual.ensures.1 in
+    rw (fails.1, fails.2) (void_is_no_test _ _ c.in_err-days.ensures.void)
 
-pub returns-in-Err-clause-close : goal.returns-in-Err-clause-close
-returns-in-Err-clause-close g c = λ p q. void_is_close _ _ _ c.in-Err.ensures.void
+pub returns-in_err-days-clause-close : goal.returns-in_err-days-clause-close
+returns-in_err-days-clause-close g c = λ p q.
+    let fails = err_from_is_err_and c.from_residual.result c.from_residual.ensures.1 in
+    rw (fails.1, fails.2) (void_is_close _ _ _ c.in_err-days.ensures.void)

@@ -1,10 +1,21 @@
-use Rattle.std.proofs.Common.{SFits, w64}
+use Rattle.std.proofs.Common.{rules, SFits, w64}
 use Rattle.std.proofs.lemmas.Int.{to_z-of_z}
+use Rattle.book_model.specs.sky.Kinds.{term_day_of}
+use Rattle.book_model.proofs.Leads.{leads_bind_exact}
 use Rattle.fact_eval.proofs.TermDays.{term_day_is_value}
 use Rattle.fact_eval.proofs.solar_terms.term_day.Goals as goal
 
-pub returns-clause-value : goal.returns-clause-value
-returns-clause-value g c =
+pub returns-clause-leads : goal.returns-clause-leads
+unfolding term_day_of
+returns-clause-leads g c = λ w d.
     let e : SFits w64 c.args.first = c.ranges.first in
     let f : SFits w64 c.args.day = c.ranges.day in
-    term_day_is_value c.args.first c.args.day _ _ _ (λ w d. simp to_z-of_z at (c.next_term_day.ensures.leads w d))
+    let n : SFits w64 c.in_ok-spans.spans = search rules in
+    let q : SFits w64 c.term_longitude.result = search rules in
+    let k = simp to_z-of_z at c.term_longitude.ensures.longitude in
+    let s = simp to_z-of_z at (c.in_ok-spans.ensures.leads w d) in
+    let l = simp to_z-of_z at (c.longitude_day.ensures.leads w d) in
+    leads_bind_exact _ s (rw k at l)
+
+pub returns-clause-value : goal.returns-clause-value
+returns-clause-value g c = term_day_is_value c.args.first c.args.day _ _ _ (returns-clause-leads g c)

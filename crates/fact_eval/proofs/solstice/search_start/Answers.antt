@@ -5,14 +5,14 @@ use Rattle.book_model.proofs.Leads.{leaf_within}
 use Rattle.fact_eval.proofs.Winters.{is_start, begun, ended}
 use Rattle.fact_eval.proofs.solstice.search_start.Goals as goal
 
-pub returns-in-Ok-clause-from : goal.returns-in-Ok-clause-from
-returns-in-Ok-clause-from g c =
+pub returns-clause-from : goal.returns-clause-from
+returns-clause-from g c =
     let f : SFits w64 c.args.day = c.ranges.day in
-    let l = simp to_z-of_z at (c.in-Ok.ensures.leads (at_depth 40) (omega arith)) in
+    let l = simp to_z-of_z at (c.in_ok-moment.ensures.leads (at_depth 40) (omega arith)) in
     begun c.args.day _ (is_start (at_depth 40) _ c.args.day _ l (c.floor_step.ensures.leads (at_depth 40) _ (leaf_within l)))
 
-pub returns-in-Ok-clause-to : goal.returns-in-Ok-clause-to
-returns-in-Ok-clause-to g c =
+pub returns-clause-to : goal.returns-clause-to
+returns-clause-to g c =
     let f : SFits w64 c.args.day = c.ranges.day in
-    let l = simp to_z-of_z at (c.in-Ok.ensures.leads (at_depth 40) (omega arith)) in
+    let l = simp to_z-of_z at (c.in_ok-moment.ensures.leads (at_depth 40) (omega arith)) in
     ended c.args.day _ (is_start (at_depth 40) _ c.args.day _ l (c.floor_step.ensures.leads (at_depth 40) _ (leaf_within l)))

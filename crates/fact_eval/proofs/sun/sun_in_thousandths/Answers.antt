@@ -1,3 +1,4 @@
+use Rattle.std.proofs.lemmas.Result.{err_from_is_err_and}
 use Rattle.std.proofs.Common.{SFits, w64}
 use Rattle.std.proofs.lemmas.Int.{to_z-of_z}
 use Rattle.std.proofs.lemmas.Result.{IfErr-weaker}
@@ -6,22 +7,23 @@ use Rattle.book_model.proofs.Leads.{leads_on, leaf_within}
 use Rattle.fact_eval.proofs.DayLemmas.{sun_is_value, sun_not_of_year, round_not_of_year}
 use Rattle.fact_eval.proofs.sun.sun_in_thousandths.Goals as goal
 
-pub returns-in-Ok-clause-leads : goal.returns-in-Ok-clause-leads
+pub returns-clause-leads : goal.returns-clause-leads
 unfolding sun_in_thousandths_of
-returns-in-Ok-clause-leads g c = λ w d.
+returns-clause-leads g c = λ w d.
     let f : SFits w64 c.args.day = c.ranges.day in
     let i = simp to_z-of_z at (c.from_int.ensures.encloses.holds w d) in
-    let l = c.in-Ok.ensures.leads w _ i in
+    let l = c.in_ok-degrees.ensures.leads w _ i in
     leads_on _ l (c.floor_step.ensures.leads w _ (c.mul_frac.ensures.encloses.holds w _ (leaf_within l)))
 
-pub returns-in-Ok-clause-value : goal.returns-in-Ok-clause-value
-returns-in-Ok-clause-value g c = sun_is_value c.args.day _ _ _ (returns-in-Ok-clause-leads g c)
+pub returns-clause-value : goal.returns-clause-value
+returns-clause-value g c = sun_is_value c.args.day _ _ _ (returns-clause-leads g c)
 
-pub returns-in-Ok-clause-open : goal.returns-in-Ok-clause-open
-returns-in-Ok-clause-open g c = λ p q. IfErr-weaker c.floor_step.result _ _ (λ f o. round_not_of_year _ _ f o) c.floor_step.ensures.open
+pub returns-clause-open : goal.returns-clause-open
+returns-clause-open g c = λ p q. IfErr-weaker c.floor_step.result _ _ (λ f o. round_not_of_year _ _ f o) c.floor_step.ensures.open
 
-pub returns-in-Err-clause-open : goal.returns-in-Err-clause-open
-returns-in-Err-clause-open g c = λ p q.
+pub returns-in_err-degrees-clause-open : goal.returns-in_err-degrees-clause-open
+returns-in_err-degrees-clause-open g c = λ p q.
     let f : SFits w64 c.args.day = c.ranges.day in
     let n = simp to_z-of_z at c.from_int.ensures.encloses.narrow in
-    sun_not_of_year g.E.Enclosure.shown _ c.args.day c.from_int.result _ p q c.requires.day n c.in-Err.ensures.open
+    let fails = err_from_is_err_and c.from_residual.result c.from_residual.ensures.1 in
+    rw (fails.1, fails.2) (sun_not_of_year g.E.Enclosure.shown _ c.args.day c.from_int.result _ p q c.requires.day n c.in_err-degrees.ensures.open)
