@@ -9,4 +9,5 @@ pub mod WholeDays
 pub mod Moments
 pub mod CorrectionValues
 pub mod TableWidths
+pub mod HornerWidths
 pub mod Measured
