@@ -10,4 +10,5 @@ pub mod Moments
 pub mod CorrectionValues
 pub mod KeptCorrections
 pub mod TableWidths
+pub mod HornerWidths
 pub mod Measured

@@ -1,22 +1,23 @@
 -- Moments that are measured: the year, sums with a correction, centuries and sidereal time.
 use Rattle.std.specs.Prelude.{◌≡◌, ℕ, ◌+◌, ◌*◌, ◌/◌, ◌^◌, ◌≤◌, ℤ, pos, neg_ℤ, ◌-ℤ◌, ◌*ℤ◌, ◌≤ℤ◌, true, Result, Ok, Err, IfOk, IfErr, refl, if◌then◌else◌, ◌==◌}
 use Rattle.std.proofs.Common.{arith}
+use Rattle.std.proofs.lemmas.Int.{ints}
 use Rattle.exact_math.specs.Interval.{Interval, IsProper, between, ◌⊆◌}
 use Rattle.exact_math.proofs.Intervals.{within_refl}
 use Rattle.book_model.specs.declared.site.Site.TheVariants.{Year}
 use Rattle.book_model.specs.declared.fail.Fail.{Fail}
 use Rattle.book_model.specs.declared.fail.Fail.TheVariants.{Undecided as undecided_at, Void}
 use Rattle.book_model.specs.declared.time_tables.TheConstants.{SIDEREAL_TIME}
-use Rattle.book_model.specs.numbers.Bounds.{Bound, bounded, Limits, Reach, bound_of, implies, limits_at, limits_of, sum_bound, difference_bound, scaled_bound, constant_bound, product_bound, power_bound}
+use Rattle.book_model.specs.numbers.Bounds.{Bound, bounded, Reach, bound_of, implies, limits_at, limits_of, sum_bound, difference_bound, scaled_bound, constant_bound, product_bound, power_bound}
 use Rattle.book_model.specs.numbers.Expressions.{Expression, World, value, argument, add, subtract}
 use Rattle.book_model.specs.numbers.Polynomials.{cubic_of}
 use Rattle.book_model.specs.numbers.Ranges.{IsInTable}
-use Rattle.book_model.specs.numbers.Relations.{Within, Lies, Narrow, Keeps}
+use Rattle.book_model.specs.numbers.Relations.{Within, Lies, Narrow}
 use Rattle.book_model.specs.programs.Leading.{Leads, leaf, at_56}
-use Rattle.book_model.specs.programs.Widths.{IsAbout, IsClose, IsMoment}
+use Rattle.book_model.specs.programs.Widths.{IsAbout, IsClose, IsMoment, Measures}
 use Rattle.book_model.specs.sky.Time.{correction_at, in_centuries}
 use Rattle.book_model.proofs.Leads.{leads_leaf}
-use Rattle.width_laws.proofs.Measuring.{measured, measured_argument, sloped, drawn}
+use Rattle.width_laws.proofs.Measuring.{measured, measured_argument, sloped, looser, drawn}
 use Rattle.width_laws.proofs.Closing.{inner_apart, close_ends}
 use Rattle.time_scales.specs.Widths.{HasYearEnds, IsCorrection, IsDated, IsNearlyDated, AreCenturies}
 use Rattle.time_scales.proofs.Moments.{corrected_in_table}
@@ -50,6 +51,11 @@ pub moment_in_table : {E T : Type 0} (R : World → Expression → T → Type 0)
 moment_in_table R shown p t r h = found_in_table shown p t r (h (moment_world (shown t) (p t)) (argument 0) (within_moment shown p t))
 
 -- ---- a moment of the table and its correction
+-- the correction of a year is narrow enough
+pub correction_looser : {E : Type 0} (shown : E → Interval) (r : Result E Fail) → Measures (λ y. IsCorrection (2 ^ 14) (shown y)) r → Measures (λ y. IsCorrection (2 ^ 17) (shown y)) r
+correction_looser shown (Ok y) h = looser _ _ _ _ (2 ^ 14) (2 ^ 17) (shown y) (omega (arith, ints)) (omega (arith, ints)) (omega arith) h
+correction_looser shown (Err f) h = h
+
 abbrev moment_bounds : ℕ → Bound
 moment_bounds k = if k == 0 then bounded (neg_ℤ (pos (182621 * 2 ^ 32))) (pos (748748 * 2 ^ 32)) (2 ^ 40) 0 else bounded (neg_ℤ (pos (2 ^ 30))) (pos (2 ^ 30)) 0 (2 ^ 17)
 
@@ -61,7 +67,7 @@ difference_reach : implies (bound_of (limits_at 56) moment_bounds (subtract (arg
 unfolding implies bound_of difference_bound
 difference_reach = refl
 
-module _ {E : Type 0} (shown : E → Interval) (n v : ℕ) (t c d : E) (p : n ≡ 56) (i : IsInTable (shown t)) (h : IsMoment v (shown t)) (k : IsCorrection (shown c)) where
+module _ {E : Type 0} (shown : E → Interval) (n v : ℕ) (t c d : E) (p : n ≡ 56) (i : IsInTable (shown t)) (h : IsMoment v (shown t)) (k : IsCorrection (2 ^ 17) (shown c)) where
   moment_kept : Narrow shown (limits_of n) (record { width = v; bounds = moment_bounds }) (argument 0) t
   moment_kept = sloped shown (limits_of n) v v moment_bounds 0 (neg_ℤ (pos (182621 * 2 ^ 32))) (pos (748748 * 2 ^ 32)) (2 ^ 40) 0 t refl (omega arith) (drawn _ _ _ _ v (shown t) i h)
 

@@ -15,9 +15,9 @@ use Rattle.time_scales.specs.Horner.{horner_to, horner_of}
 use Rattle.time_scales.specs.Widths.{IsCorrection}
 use Rattle.time_scales.proofs.CorrectionWidths.{no_bound, holds_from, holds_at}
 
--- the correction of a year lies within a fourth of a day of 0, and is at most 2^-47 days wide
+-- the correction of a year lies within a fourth of a day of 0, and is at most 2^-50 days wide
 unfoldable is_tabled : ℤ → Bool
-is_tabled y = implies (bound_of (limits_at 56) no_bound (computed_of y)) (bounded (neg_ℤ (pos (2 ^ 30))) (pos (2 ^ 30)) 0 (2 ^ 17))
+is_tabled y = implies (bound_of (limits_at 56) no_bound (computed_of y)) (bounded (neg_ℤ (pos (2 ^ 30))) (pos (2 ^ 30)) 0 (2 ^ 14))
 
 ancient_tabled : holds_from is_tabled (negsuc 498) 999 ≡ true
 unfolding holds_from is_tabled implies bound_of integer_bound constant_bound sum_bound scaled_bound computed_of row_of computed_by horner_of horner_to
@@ -39,7 +39,7 @@ row_tabled From1987 y h = holds_at is_tabled 64 (pos 1987) y recent_tabled h.0 (
 row_tabled From2006 y h = holds_at is_tabled 64 (pos 1987) y recent_tabled (omega (arith, ints, h.0)) (omega (arith, ints, h.1))
 
 -- a correction that keeps its computed bound
-pub correction_within : {E : Type 0} (shown : E → Interval) (n : ℕ) (r : Row) (y : ℤ) (e : E) → n ≡ 56 → IsInRow r y → ((r : Reach) → Narrow shown (limits_of n) r (computed_of y) e) → IsCorrection (shown e)
+pub correction_within : {E : Type 0} (shown : E → Interval) (n : ℕ) (r : Row) (y : ℤ) (e : E) → n ≡ 56 → IsInRow r y → ((r : Reach) → Narrow shown (limits_of n) r (computed_of y) e) → IsCorrection (2 ^ 14) (shown e)
 unfolding is_tabled
 correction_within shown n r y e p h f =
-    measured shown n 0 no_bound (computed_of y) (neg_ℤ (pos (2 ^ 30))) (pos (2 ^ 30)) 0 (2 ^ 17) (2 ^ 17) e p (row_tabled r y h) (omega arith) (f (record { width = 0; bounds = no_bound }))
+    measured shown n 0 no_bound (computed_of y) (neg_ℤ (pos (2 ^ 30))) (pos (2 ^ 30)) 0 (2 ^ 14) (2 ^ 14) e p (row_tabled r y h) (omega arith) (f (record { width = 0; bounds = no_bound }))

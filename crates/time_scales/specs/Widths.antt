@@ -11,9 +11,9 @@ abbrev pub HasYearEnds : (lo hi : ℤ) → Fail → Type 0
 HasYearEnds lo hi (Undecided u) = (u.lo ≡ lo) × (u.hi ≡ hi) × (u.site ≡ Year)
 HasYearEnds lo hi (Void s) = ⊥
 
--- a correction: within a fourth of a day of 0, and at most 2^-47 days wide
-abbrev pub IsCorrection : Interval → Type 0
-IsCorrection i = IsAbout (2 ^ 30) (2 ^ 17) i
+-- a correction: within a fourth of a day of 0, and at most so wide
+abbrev pub IsCorrection : ℕ → Interval → Type 0
+IsCorrection v i = IsAbout (2 ^ 30) v i
 
 -- a moment of the years -499 to 2050, of which there are corrections
 abbrev pub IsDated : ℕ → Interval → Type 0

@@ -118,7 +118,7 @@ pub fn correction<E: Enclosure>(year: i64, trail: &mut Trail) -> Result<E, Fail>
         → IfOk result (λ e. IsNarrow 0 (correction_bound 4 E.BITS) (E.shown e)) }
     ensures close_before { 36 ≤ E.BITS → E.BITS ≤ 56 → pos 1800 ≤ℤ year → year ≤ℤ pos 1986
         → IfOk result (λ e. IsNarrow 0 (correction_bound 33 E.BITS) (E.shown e)) }
-    ensures measured { Measured E.BITS E.shown IsCorrection result }
+    ensures measured { Measured E.BITS E.shown (IsCorrection (2 ^ 14)) result }
     ensures void { IfErr result (λ f. f ≡ Fail.Void Site.Year) }
     ensures counted { trail.new.count ≡ trail.old.count }
 {
@@ -160,7 +160,7 @@ fn correction_once<E: Enclosure>(year: i64, trail: &mut Trail) -> Result<E, Fail
 fn correction_of_moment<E: Enclosure>(t: E, trail: &mut Trail) -> Result<E, Fail>
     ensures leads { Follows1 E.shown correction_at t trail.old.count trail.new.count result }
     ensures in_table { IfOk result (λ e. IsInTable (E.shown t)) }
-    ensures measured { Measured1 E.BITS E.shown (2 ^ 44) IsMoment (λ v. IsCorrection) t result }
+    ensures measured { Measured1 E.BITS E.shown (2 ^ 44) IsMoment (λ v. IsCorrection (2 ^ 17)) t result }
     ensures open { IfErr result (IsYearOpenFor (E.shown t)) }
     ensures counted { trail.new.count ≡ next_turn trail.old.count }
 {

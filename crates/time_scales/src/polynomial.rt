@@ -1,10 +1,12 @@
 //! Polynomials of enclosures.
 ghost use Rattle.book_model.specs.programs.Calls.{Encloses, Encloses1, Holds, Narrows};
-ghost use Rattle.std.specs.Prelude.{◌≤◌, length, unsigned_abs};
+ghost use Rattle.book_model.specs.programs.Widths.{IsAbout};
+ghost use Rattle.std.specs.Prelude.{◌≡◌, ◌≤◌, ℕ, true, length, unsigned_abs};
 ghost use Rattle.book_model.specs.sky.Correction.{polynomial_of};
 ghost use Rattle.book_model.specs.numbers.Fractions.{fraction_of};
 ghost use Rattle.book_model.specs.numbers.Polynomials.{quadratic_of, cubic_of, polynomial_at};
-ghost use Rattle.time_scales.specs.Horner.{horner_of};
+ghost use Rattle.width_laws.specs.Sizes.{HasSize};
+ghost use Rattle.time_scales.specs.Horner.{horner_of, horner_size, horner_width, horner_fits};
 
 use book_model::{Cubic, Frac, Quadratic};
 use encl_core::Enclosure;
@@ -50,11 +52,10 @@ pub(crate) fn at_whole<E: Enclosure>(coefficients: &[Frac], x: i64) -> E
     sum
 }
 
-/// The polynomial with these coefficients at a fraction, in Horner's form: at one fraction every order of its terms
-/// gives the same number.
+/// The polynomial with these coefficients at a fraction, from the inside out.
 #[inline(always)]
 #[tactic(auto, using(crate::proofs::HornerLemmas::horner))]
-pub fn at_fraction<E: Enclosure>(coefficients: &[Frac], x: Frac) -> E
+fn nested<E: Enclosure>(coefficients: &[Frac], x: Frac) -> E
     ensures holds { Holds E.shown (polynomial_at coefficients.now (fraction_of x)) result }
     ensures narrow { Narrows E.shown E.BITS (horner_of coefficients.now (fraction_of x)) result }
 {
@@ -64,4 +65,18 @@ pub fn at_fraction<E: Enclosure>(coefficients: &[Frac], x: Frac) -> E
         sum = sum.mul_frac(x).add(E::from_frac(coefficient));
     }
     sum
+}
+
+/// The polynomial with these coefficients at a fraction, in Horner's form: at one fraction every order of its terms
+/// gives the same number. How wide it is at a fraction of at most some size is computed of the coefficients.
+#[inline(always)]
+pub fn at_fraction<E: Enclosure>(coefficients: &[Frac], x: Frac) -> E
+    ensures holds { Holds E.shown (polynomial_at coefficients.now (fraction_of x)) result }
+    ensures narrow { Narrows E.shown E.BITS (horner_of coefficients.now (fraction_of x)) result }
+    ensures measured { (size : ℕ) → E.BITS ≡ 56 → HasSize size (fraction_of x)
+        → horner_fits coefficients.now size (length coefficients.now) ≡ true
+        → IsAbout (horner_size coefficients.now size (length coefficients.now))
+        (horner_width size (length coefficients.now)) (E.shown result) }
+{
+    nested::<E>(coefficients, x)
 }

@@ -3,7 +3,7 @@ use Rattle.std.proofs.lemmas.Int.{to_z-of_z}
 use Rattle.book_model.specs.sky.Time.{correction_at, correction_of_year}
 use Rattle.book_model.proofs.Leads.{leads_bind_exact}
 use Rattle.width_laws.proofs.Measuring.{moment_about}
-use Rattle.time_scales.proofs.Measured.{moment_in_table}
+use Rattle.time_scales.proofs.Measured.{moment_in_table, correction_looser}
 use Rattle.time_scales.proofs.dynamical_time.correction_of_moment.Goals as goal
 
 pub returns-in-Ok-clause-in_table : goal.returns-in-Ok-clause-in_table
@@ -16,3 +16,6 @@ returns-in-Ok-clause-in_table g c =
 
 pub returns-in-Err-clause-measured : goal.returns-in-Err-clause-measured
 returns-in-Err-clause-measured g c = λ v e b h. c.in-Err.ensures.close v b (moment_about v _ h)
+
+pub returns-in-Ok-clause-measured : goal.returns-in-Ok-clause-measured
+returns-in-Ok-clause-measured g c = λ v e b h. correction_looser g.E.Enclosure.shown c.correction.result (c.correction.ensures.measured e)

@@ -4,7 +4,7 @@ use Rattle.book_model.specs.numbers.Expressions.{World}
 use Rattle.book_model.specs.numbers.Fractions.{fraction_of}
 use Rattle.book_model.specs.numbers.Relations.{Within, Narrow}
 use Rattle.time_scales.specs.Horner.{horner_to}
-use Rattle.time_scales.proofs.polynomial.at_fraction.Given as goal
+use Rattle.time_scales.proofs.polynomial.nested.Given as goal
 
 abbrev pub invariant-loop-count : goal.invariant-loop-count
 invariant-loop-count g l =
