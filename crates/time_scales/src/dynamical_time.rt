@@ -131,6 +131,7 @@ pub fn correction<E: Enclosure>(year: i64, trail: &mut Trail) -> Result<E, Fail>
 /// The correction of a year, which the trail keeps from then on.
 fn kept_correction<E: Enclosure>(year: i64, trail: &mut Trail) -> Result<E, Fail>
     ensures leads { Follows E.shown (correction_of_year year) trail.old.count trail.new.count result }
+    ensures measured { Measured E.BITS E.shown (IsCorrection (2 ^ 14)) result }
     ensures void { IfErr result (λ f. f ≡ Fail.Void Site.Year) }
     ensures counted { trail.new.count ≡ trail.old.count }
 {
@@ -146,6 +147,7 @@ fn kept_correction<E: Enclosure>(year: i64, trail: &mut Trail) -> Result<E, Fail
 /// The correction of a year, evaluated where the trail doesn't keep it.
 fn correction_once<E: Enclosure>(year: i64, trail: &mut Trail) -> Result<E, Fail>
     ensures leads { Follows E.shown (correction_of_year year) trail.old.count trail.new.count result }
+    ensures measured { Measured E.BITS E.shown (IsCorrection (2 ^ 17)) result }
     ensures void { IfErr result (λ f. f ≡ Fail.Void Site.Year) }
     ensures counted { trail.new.count ≡ trail.old.count }
 {

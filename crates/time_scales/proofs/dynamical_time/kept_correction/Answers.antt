@@ -1,6 +1,9 @@
 use Rattle.encl_core.proofs.Keeping.{kept_without_test}
-use Rattle.time_scales.proofs.KeptCorrections.{correction_few}
+use Rattle.time_scales.proofs.KeptCorrections.{correction_few, kept_about}
 use Rattle.time_scales.proofs.dynamical_time.kept_correction.Goals as goal
 
 pub keep_correction-requires : goal.keep_correction-requires
-keep_correction-requires g c = record { evaluated = kept_without_test c.span.result (correction_few _) c.in-Ok.ensures.leads c.span.ensures.holds }
+keep_correction-requires g c = record {
+  evaluated = kept_without_test c.span.result (correction_few _) c.in-Ok.ensures.leads c.span.ensures.holds;
+  measured = kept_about g.E.Enclosure.shown _ c.span.result _ (λ p. c.in-Ok.ensures.measured (rw c.BITS.ensures at p)) c.span.ensures.holds c.span.ensures.tight;
+}
