@@ -1,7 +1,7 @@
 -- What a trail keeps of its run.
 use denote.Struct.Props as facts
 use Rattle.std.specs.Coded.{Unit-prop}
-use Rattle.std.specs.Prelude.{◌≡◌, ℕ, zero, suc, ◌≤◌, ℤ, Bool, true, false}
+use Rattle.std.specs.Prelude.{◌≡◌, ℕ, zero, suc, ◌≤◌, ◌+◌, ◌*◌, ◌^◌, ℤ, pos, negsuc, neg_ℤ, ◌≤ℤ◌, Bool, true, false}
 use Rattle.exact_math.specs.Interval.{Interval, everything, between, ◌⊆◌, AreWithin}
 use Rattle.book_model.specs.numbers.Bounds.{bounded, IsNarrow, Spans}
 use Rattle.book_model.specs.numbers.Depth.{DEPTH}
@@ -35,6 +35,10 @@ pub record IsKept (n : ℕ) (p : Program Expression) (s : Span) : Type 0 where
 pub record IsKeptAbout (size width bits : ℕ) (s : Span) : Type 0 where
   pub about : bits ≡ 56 → IsAbout size width (shown_span s)
 
+-- the new moon of such a number is at most so wide, where its year has a correction: half of 2^-34 and a little more, over the years -509 to 2050
+pub record IsMoonWithin (number : ℤ) (bits : ℕ) (s : Span) : Type 0 where
+  pub about : negsuc 6299 ≤ℤ number → number ≤ℤ pos 55724 → bits ≡ 56 → IsWithin (neg_ℤ (pos (182622 * 2 ^ 32))) (pos (748749 * 2 ^ 32)) (2 ^ 29 + 2 ^ 24 + 2 ^ 17) (shown_span s)
+
 -- ---- a span is kept in one way at most, so it may be a ghost field
 ends_prop : (i j : Interval) → IsProp (AreWithin i j)
 ends_prop everything everything = Unit-prop
@@ -57,3 +61,6 @@ about_prop low high width s = Prim.hlevel spans_prop
 
 pub IsKeptAbout-prop : (size width bits : ℕ) (s : Span) → IsProp (IsKeptAbout size width bits s)
 IsKeptAbout-prop size width bits s = Prim.hlevel (about_prop, facts.props)
+
+pub IsMoonWithin-prop : (number : ℤ) (bits : ℕ) (s : Span) → IsProp (IsMoonWithin number bits s)
+IsMoonWithin-prop number bits s = Prim.hlevel (about_prop, facts.props)

@@ -1,6 +1,6 @@
 //! A new moon that a run has evaluated.
 ghost use Rattle.book_model.specs.sky.NewMoons.{new_moon_of};
-ghost use Rattle.encl_core.specs.Kept.{IsKept, IsKept-prop};
+ghost use Rattle.encl_core.specs.Kept.{IsKept, IsKept-prop, IsMoonWithin, IsMoonWithin-prop};
 
 use crate::Span;
 use std::alloc::AllocError;
@@ -12,6 +12,7 @@ pub struct KeptMoon {
     bits: u32,
     moment: Span,
     ghost evaluated: { IsKept 1 (new_moon_of number) moment } by { IsKept-prop 1 (new_moon_of number) moment },
+    ghost measured: { IsMoonWithin number bits moment } by { IsMoonWithin-prop number bits moment },
 }
 
 impl Clone for KeptMoon {
@@ -32,6 +33,7 @@ impl KeptMoon {
     /// The new moon of a number, where an enclosure at scale 2 to the power of minus `bits` gave these ends.
     pub(crate) fn new(number: i64, bits: u32, moment: Span) -> Self
         requires evaluated { IsKept 1 (new_moon_of number) moment }
+        requires measured { IsMoonWithin number bits moment }
     {
         KeptMoon {
             number,
@@ -43,6 +45,7 @@ impl KeptMoon {
     /// The ends of its moment, if it is the new moon of this number at this scale.
     pub(crate) fn at(self, number: i64, bits: u32) -> Option<Span>
         ensures evaluated { IfSome result (IsKept 1 (new_moon_of number)) }
+        ensures measured { IfSome result (IsMoonWithin number bits) }
     {
         if self.number == number {
             return self.at_scale(bits);
@@ -53,6 +56,7 @@ impl KeptMoon {
     /// The ends of its moment, if it is at this scale.
     fn at_scale(self, bits: u32) -> Option<Span>
         ensures evaluated { IfSome result (IsKept 1 (new_moon_of self.number)) }
+        ensures measured { IfSome result (IsMoonWithin self.number bits) }
     {
         if self.bits == bits {
             return Some(self.moment);

@@ -3,7 +3,7 @@ ghost use Rattle.std.specs.Prelude.{◌≡◌, ◌^◌, IfSome};
 ghost use Rattle.book_model.specs.programs.Leading.{next_turn};
 ghost use Rattle.book_model.specs.sky.NewMoons.{new_moon_of};
 ghost use Rattle.book_model.specs.sky.Time.{correction_of_year};
-ghost use Rattle.encl_core.specs.Kept.{IsKept, IsKeptAbout};
+ghost use Rattle.encl_core.specs.Kept.{IsKept, IsKeptAbout, IsMoonWithin};
 
 use crate::Span;
 use crate::kept_correction::KeptCorrection;
@@ -66,6 +66,7 @@ impl Trail {
     /// the test that they were evaluated by.
     pub fn new_moon(&self, number: i64, bits: u32) -> Option<Span>
         ensures evaluated { IfSome result (IsKept 1 (new_moon_of number)) }
+        ensures measured { IfSome result (IsMoonWithin number bits) }
     {
         if number == 0 {
             return self.first_moon?.at(number, bits);
@@ -76,6 +77,7 @@ impl Trail {
     /// Keeps the ends of the new moon of a number, as enclosures at scale 2 to the power of minus `bits` gave them, if they did.
     pub fn keep_new_moon(&mut self, number: i64, bits: u32, moment: Option<Span>)
         requires evaluated { IfSome moment (IsKept 1 (new_moon_of number)) }
+        requires measured { IfSome moment (IsMoonWithin number bits) }
         ensures counted { self.new.count ≡ self.old.count }
     {
         let Some(moment) = moment else {

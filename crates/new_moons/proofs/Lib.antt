@@ -1,2 +1,3 @@
 pub mod PowerLemmas
 pub mod KeptMoons
+pub mod Measured

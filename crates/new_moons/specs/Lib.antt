@@ -1,2 +1,3 @@
 pub mod Angles
 pub mod Moons
+pub mod Widths

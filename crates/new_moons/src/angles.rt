@@ -4,6 +4,7 @@ ghost use Rattle.book_model.specs.numbers.Bounds.{Reach, limits_of};
 ghost use Rattle.book_model.specs.numbers.Expressions.{World};
 ghost use Rattle.book_model.specs.numbers.Fractions.{fraction_of};
 ghost use Rattle.book_model.specs.sky.NewMoons.{new_moon_angles_of};
+ghost use Rattle.new_moons.specs.Widths.{IsNearTime, AreNearAngles};
 ghost use Rattle.new_moons.specs.Angles.{HoldAngles, KeepAngles, computed_angles_of};
 ghost use Rattle.book_model.specs.numbers.Depth.{DEPTH};
 
@@ -31,6 +32,7 @@ pub(crate) fn angles_at<E: Enclosure>(time: Frac) -> Angles<E>
         (new_moon_angles_of (fraction_of time)) result }
     ensures narrow { (r : Reach) → KeepAngles E.shown (limits_of E.BITS) r
         (computed_angles_of (fraction_of time)) result }
+    ensures measured { E.BITS ≡ 56 → IsNearTime (fraction_of time) → AreNearAngles E.shown result }
 {
     Angles {
         sun_anomaly: at_fraction::<E>(&NEW_MOON_SUN_ANOMALY, time),

@@ -1,9 +1,12 @@
 //! The moment of a new moon.
 ghost use Rattle.book_model.specs.programs.Calls.{Encloses, Follows, Holds, Narrows};
-ghost use Rattle.std.specs.Prelude.{◌≡◌, ℤ, pos, negsuc, ◌≤ℤ◌};
+ghost use Rattle.book_model.specs.programs.Widths.{IsAbout, IsMoment, Measured};
+ghost use Rattle.std.specs.Prelude.{◌≡◌, ◌+◌, ◌^◌, ℤ, pos, negsuc, ◌≤ℤ◌};
 ghost use Rattle.book_model.specs.numbers.Fractions.{fraction_of};
 ghost use Rattle.book_model.specs.programs.Leading.{next_turn};
 ghost use Rattle.book_model.specs.sky.NewMoons as spec;
+ghost use Rattle.time_scales.specs.Widths.{IsNearlyDated};
+ghost use Rattle.new_moons.specs.Widths.{IsNearTime};
 ghost use Rattle.new_moons.specs.Moons.{computed_mean_of, computed_node_term_of, computed_terms_of, computed_new_moon_of};
 
 use crate::angles::{Angles, angles_at};
@@ -32,6 +35,8 @@ fn centuries_of_months(months: i64) -> Frac
 fn mean_new_moon<E: Enclosure>(time: Frac) -> E
     ensures holds { Holds E.shown (spec.mean_new_moon_of (fraction_of time)) result }
     ensures narrow { Narrows E.shown E.BITS (computed_mean_of (fraction_of time)) result }
+    ensures measured { E.BITS ≡ 56 → IsNearTime (fraction_of time)
+        → IsAbout (2 ^ 54) (2 ^ 29) (E.shown result) }
 {
     E::from_frac(NOON_2000).add(at_fraction::<E>(&MEAN_NEW_MOON, time))
 }
@@ -42,6 +47,8 @@ fn mean_new_moon<E: Enclosure>(time: Frac) -> E
 fn node_term<E: Enclosure>(time: Frac) -> E
     ensures holds { Holds E.shown (spec.node_term_of (fraction_of time)) result }
     ensures narrow { Narrows E.shown E.BITS (computed_node_term_of (fraction_of time)) result }
+    ensures measured { E.BITS ≡ 56 → IsNearTime (fraction_of time)
+        → IsAbout (2 ^ 32) (2 ^ 12) (E.shown result) }
 {
     sin_deg(at_fraction::<E>(&NEW_MOON_NODE, time)).mul_frac(NODE_TERM)
 }
@@ -51,6 +58,8 @@ fn node_term<E: Enclosure>(time: Frac) -> E
 fn lunar_terms<E: Enclosure>(time: Frac) -> E
     ensures holds { Holds E.shown (spec.new_moon_terms_of (fraction_of time)) result }
     ensures narrow { Narrows E.shown E.BITS (computed_terms_of (fraction_of time)) result }
+    ensures measured { E.BITS ≡ 56 → IsNearTime (fraction_of time)
+        → IsAbout (2 ^ 33) (2 ^ 23) (E.shown result) }
 {
     sum_of_terms::<Angles<E>, E, NewMoonTerm>(&NEW_MOON_TERMS, angles_at::<E>(time))
 }
@@ -60,6 +69,8 @@ fn lunar_terms<E: Enclosure>(time: Frac) -> E
 #[tactic(auto, unfolding(book_model::specs::numbers::Polynomials::quadratic_wave_of, book_model::specs::sky::NewMoons::venus_wave_of))]
 fn venus_wave<E: Enclosure>(time: Frac) -> E
     ensures encloses { Encloses E.shown E.BITS (spec.venus_wave_of (fraction_of time)) result }
+    ensures measured { E.BITS ≡ 56 → IsNearTime (fraction_of time)
+        → IsAbout (2 ^ 32) (2 ^ 12) (E.shown result) }
 {
     sin_deg(quadratic(&NEW_MOON_WAVE.angle, E::from_frac(time))).mul_frac(NEW_MOON_WAVE.size)
 }
@@ -68,6 +79,8 @@ fn venus_wave<E: Enclosure>(time: Frac) -> E
 #[tactic(auto, unfolding(book_model::specs::sky::NewMoons::planet_terms_of))]
 fn planet_terms<E: Enclosure>(number: i64) -> E
     ensures encloses { Encloses E.shown E.BITS (spec.planet_terms_of number) result }
+    ensures measured { E.BITS ≡ 56 → negsuc 31023 ≤ℤ number → number ≤ℤ pos 31024
+        → IsAbout (2 ^ 40) (2 ^ 18) (E.shown result) }
 {
     sum_of_terms::<Number, E, PlanetTerm>(&PLANET_TERMS, Number(number))
 }
@@ -79,6 +92,8 @@ fn dynamical_new_moon<E: Enclosure>(number: i64) -> E
     requires high { number ≤ℤ pos 40050000 }
     ensures holds { Holds E.shown (spec.dynamical_new_moon_of number) result }
     ensures narrow { Narrows E.shown E.BITS (computed_new_moon_of number) result }
+    ensures measured { E.BITS ≡ 56 → negsuc 31023 ≤ℤ number → number ≤ℤ pos 31024
+        → IsMoment (2 ^ 29 + 2 ^ 24) (E.shown result) }
 {
     let time = centuries_of_months(number);
     mean_new_moon::<E>(time)
@@ -94,6 +109,8 @@ fn evaluated_moon<E: Enclosure>(n: i64, trail: &mut Trail) -> Result<E, Fail>
     requires low { negsuc 39999999 ≤ℤ n }
     requires high { n ≤ℤ pos 40000000 }
     ensures leads { Follows E.shown (spec.new_moon_of n) trail.old.count trail.new.count result }
+    ensures measured { negsuc 6299 ≤ℤ n → n ≤ℤ pos 55724
+        → Measured E.BITS E.shown (IsNearlyDated (2 ^ 29 + 2 ^ 24 + 2 ^ 17)) result }
     ensures counted { trail.new.count ≡ next_turn trail.old.count }
 {
     from_dynamical(dynamical_new_moon::<E>(n - NEW_MOON_OF_2000), trail)
@@ -104,6 +121,8 @@ fn kept_moon<E: Enclosure>(n: i64, trail: &mut Trail) -> Result<E, Fail>
     requires low { negsuc 39999999 ≤ℤ n }
     requires high { n ≤ℤ pos 40000000 }
     ensures leads { Follows E.shown (spec.new_moon_of n) trail.old.count trail.new.count result }
+    ensures measured { negsuc 6299 ≤ℤ n → n ≤ℤ pos 55724
+        → Measured E.BITS E.shown (IsNearlyDated (2 ^ 29 + 2 ^ 24 + 2 ^ 17)) result }
     ensures counted { trail.new.count ≡ next_turn trail.old.count }
 {
     match evaluated_moon::<E>(n, trail) {
@@ -122,6 +141,8 @@ pub fn new_moon<E: Enclosure>(n: i64, trail: &mut Trail) -> Result<E, Fail>
     requires low { negsuc 39999999 ≤ℤ n }
     requires high { n ≤ℤ pos 40000000 }
     ensures leads { Follows E.shown (spec.new_moon_of n) trail.old.count trail.new.count result }
+    ensures measured { negsuc 6299 ≤ℤ n → n ≤ℤ pos 55724
+        → Measured E.BITS E.shown (IsNearlyDated (2 ^ 30)) result }
     ensures counted { trail.new.count ≡ next_turn trail.old.count }
 {
     match trail.new_moon(n, E::BITS) {

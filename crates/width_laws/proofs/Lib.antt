@@ -1,3 +1,4 @@
 pub mod Measuring
 pub mod Closing
 pub mod Covering
+pub mod WaveCovers
