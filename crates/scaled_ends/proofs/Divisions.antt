@@ -1,4 +1,4 @@
--- Quotients and squares of ends at scale 2^-36, rounded outwards.
+-- Quotients and squares of ends at a scale, rounded outwards.
 use Rattle.scaled_ends.specs.Scales.{Scale, coarse, fine, at_scale, at_square, unit}
 use Rattle.std.proofs.Common.{◌≡◌, ℕ, zero, suc, ◌^◌, ◌-◌, refl, sym, ap, subst, arith, Bool, true, false, cond, ℤ, pos, negsuc, ◌*ℤ◌, ◌-ℤ◌, ◌≤ℤ◌, ◌<ℤ◌, [], ◌∷◌, inl, inr}
 use Rattle.std.proofs.lemmas.Int.{ints}

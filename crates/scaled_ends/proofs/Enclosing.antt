@@ -1,4 +1,4 @@
--- What the operations on ends at scale 2^-36 hold.
+-- What the operations on ends at a scale hold.
 use Rattle.scaled_ends.specs.Scales.{Scale, coarse, fine, at_scale, at_square, unit}
 use Rattle.std.proofs.Common.{◌≡◌, suc, ◌+◌, ◌^◌, ◌-◌, refl, arith, ℤ, pos, negsuc, ◌+ℤ◌, ◌*ℤ◌, ◌-ℤ◌, ◌≤ℤ◌, [], ◌∷◌, ◌⊎◌, inl, inr}
 use lib.IntN.{neg_ℤ}

@@ -1,4 +1,4 @@
--- Ends at scale 2^-36 that hold the operations, and that keep a bound.
+-- Ends at a scale that hold the operations, and that keep a bound.
 use Rattle.scaled_ends.specs.Scales.{Scale, coarse, fine, at_scale, unit, limits_on, span, grain, word, most_size}
 use Rattle.std.proofs.Common.{◌≡◌, ℕ, ◌+◌, ◌*◌, ◌^◌, ◌<◌, refl, arith, Bool, true, false, ◌&&◌, ℤ, pos, ◌+ℤ◌, ◌*ℤ◌, ◌-ℤ◌, ◌≤ℤ◌, SFits}
 use Rattle.std.proofs.lemmas.Int.{ints}

@@ -1,4 +1,4 @@
--- The periods of ends at scale 2^-36.
+-- The periods of ends at a scale.
 use Rattle.scaled_ends.specs.Scales.{Scale, coarse, fine, at_scale, unit, below}
 use Rattle.std.proofs.Common.{◌≡◌, ℕ, ◌^◌, ◌-◌, refl, sym, ◌∙◌, arith, ℤ, ◌*ℤ◌, ◌-ℤ◌, Some, None}
 use Rattle.std.proofs.lemmas.Int.{ints}

@@ -1,4 +1,4 @@
--- Ends at scale 2^-36 that keep the bounds of products and squares.
+-- Ends at a scale that keep the bounds of products and squares.
 use Rattle.scaled_ends.specs.Scales.{Scale, coarse, fine, at_scale, unit, limits_on, span, grain, slack}
 use Rattle.std.proofs.Common.{◌≡◌, ℕ, suc, ◌+◌, ◌*◌, ◌-◌, ◌^◌, ◌≤◌, refl, sym, arith, Bool, true, false, cond, int_le, ℤ, pos, ◌+ℤ◌, ◌*ℤ◌, ◌-ℤ◌, ◌≤ℤ◌, [], ◌∷◌}
 use Rattle.std.proofs.lemmas.Int.{ints}

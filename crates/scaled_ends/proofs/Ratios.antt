@@ -1,4 +1,4 @@
--- Quotients of ends at scale 2^-36 by a divisor above 0: two of them enclose all, and they keep a bound.
+-- Quotients of ends at a scale by a divisor above 0: two of them enclose all, and they keep a bound.
 use Rattle.scaled_ends.specs.Scales.{Scale, coarse, fine, at_scale, unit, limits_on, span, grain, slack}
 use Rattle.std.proofs.Common.{◌≡◌, ℕ, zero, suc, ◌+◌, ◌*◌, ◌-◌, ◌^◌, ◌≤◌, ◌<◌, refl, arith, unsigned_abs, ℤ, pos, negsuc, ◌+ℤ◌, ◌*ℤ◌, ◌-ℤ◌, ◌≤ℤ◌, ◌<ℤ◌, [], ◌∷◌, inl, inr}
 use Rattle.std.proofs.lemmas.Int.{ints, by_lt_z}

@@ -20,7 +20,7 @@ split j k = grind arith
 squares : (j k : ℕ) → j ≤ k → j * j ≤ k * k
 squares j k h = let a = mul-le-mul_left j h in let b = mul-le-mul_left k h in omega (arith, a, b)
 
--- ---- whole numbers: X and Y are roots' arguments in 2^-36, a and b their range in 2^-32
+-- ---- whole numbers: X and Y are roots' arguments in units of the scale, a and b their range in 2^-32
 low_kept : (scale : Scale) → (a X r g : ℕ) → a * (spans scale) ≤ X → X * (units scale) < suc r * suc r → g * g ≤ a * 2 ^ 32 → g * (spans scale) ≤ r
 low_kept coarse a X r g h k l = by_split (split (g * 16) r)
   where

@@ -1,4 +1,4 @@
--- Fractions, and products with fractions, at scale 2^-36: ends rounded outwards hold them and keep a bound.
+-- Fractions, and products with fractions, at a scale: ends rounded outwards hold them and keep a bound.
 use Rattle.scaled_ends.specs.Scales.{Scale, coarse, fine, at_scale, unit, limits_on, span, spans, grain, slack, most_numerator, most_product}
 use Rattle.std.proofs.Common.{◌≡◌, ℕ, suc, ◌+◌, ◌*◌, ◌^◌, ◌-◌, ◌≤◌, ◌<◌, refl, sym, arith, Bool, true, false, ◌&&◌, ℤ, pos, ◌+ℤ◌, ◌*ℤ◌, ◌-ℤ◌, ◌≤ℤ◌, ◌<ℤ◌, [], ◌∷◌, SFits}
 use Rattle.std.specs.Int.{w128}

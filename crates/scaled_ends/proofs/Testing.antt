@@ -1,4 +1,4 @@
--- The tests at ends of scale 2^-36.
+-- The tests at ends of a scale.
 use Rattle.scaled_ends.specs.Scales.{Scale, coarse, fine, at_scale, below, finer_units}
 use Rattle.std.proofs.Common.{◌≡◌, ◌^◌, ◌-◌, refl, sym, ◌∙◌, arith, Bool, true, false, ℤ, pos, negsuc, ◌*ℤ◌, ◌≤ℤ◌, ◌<ℤ◌, Some, None}
 use Rattle.std.specs.Ordering.{int_eq}

@@ -1,4 +1,4 @@
--- Ends at scale 2^-36 that keep the bounds of differences, opposites, the lesser and the greater, remainders, and
+-- Ends at a scale that keep the bounds of differences, opposites, the lesser and the greater, remainders, and
 -- of ends that count 2^-56.
 use Rattle.scaled_ends.specs.Scales.{Scale, coarse, fine, at_scale, unit, limits_on, slack, finer_units, most_size}
 use Rattle.std.proofs.Common.{◌≡◌, ℕ, suc, ◌+◌, ◌*◌, ◌-◌, ◌^◌, ◌≤◌, ◌<◌, max, refl, sym, arith, Bool, true, false, neg_ℤ, ℤ, pos, ◌+ℤ◌, ◌*ℤ◌, ◌-ℤ◌, ◌≤ℤ◌, ◌<ℤ◌, int_eq, Some}
