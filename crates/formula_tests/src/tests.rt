@@ -9,6 +9,7 @@ mod fine;
 mod first_crescents;
 mod hindu;
 mod horizon;
+mod kept;
 mod measures;
 mod moon;
 mod new_moons_by_number;
