@@ -9,7 +9,7 @@ pub returns-clause-leads : goal.returns-clause-leads
 unfolding new_moon_from_of
 returns-clause-leads g c = λ w d.
     let f : SFits w64 c.args.day = c.ranges.day in
-    let m = simp to_z-of_z at (c.midnight.ensures.holds w d) in
+    let m = simp to_z-of_z at (c.midnight.ensures.encloses.holds w d) in
     let l = c.in_ok-moment.ensures.leads w _ m in
     leads_on _ l (c.day_in_beijing.ensures.leads w _ (leaf_within l))
 

@@ -10,9 +10,9 @@ unfolding spans_short_of
 returns-clause-leads g c = λ w d.
     let f : SFits w64 c.args.first = c.ranges.first in
     let e : SFits w64 c.args.day = c.ranges.day in
-    let i = simp to_z-of_z at (c.from_int.ensures.holds w d) in
+    let i = simp to_z-of_z at (c.from_int.ensures.encloses.holds w d) in
     let l = simp to_z-of_z at (c.in_ok-there.ensures.leads w d) in
-    leads_on _ l (c.floor_step.ensures.leads w _ (c.mul_frac-spans.ensures.holds w _ (c.sub.ensures.holds w _ _ i (leaf_within l))))
+    leads_on _ l (c.floor_step.ensures.leads w _ (c.mul_frac-spans.ensures.encloses.holds w _ (c.sub.ensures.encloses.holds w _ _ i (leaf_within l))))
 
 pub returns-clause-near : goal.returns-clause-near
 returns-clause-near g c = spans_found c.args.first c.args.day _ _ _ c.requires.from c.requires.to (returns-clause-leads g c)

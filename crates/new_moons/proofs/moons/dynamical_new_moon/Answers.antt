@@ -13,4 +13,4 @@ returns-clause-measured g c = λ e l h.
     let p = simp to_z-of_z at c.planet_terms.ensures.measured in
     parts_within g.E.Enclosure.shown _ c.mean_new_moon.result c.node_term.result c.lunar_terms.result c.venus_wave.result c.planet_terms.result c.add.result c.add-2.result c.add-3.result c.add-4.result e
     (c.mean_new_moon.ensures.measured e t) (c.node_term.ensures.measured e t) (c.lunar_terms.ensures.measured e t) (c.venus_wave.ensures.measured e t) (p e l h)
-    (λ r x y. c.add.ensures.narrow r x y) (λ r x y. c.add-2.ensures.narrow r x y) (λ r x y. c.add-3.ensures.narrow r x y) (λ r x y. c.add-4.ensures.narrow r x y)
+    (λ r x y. c.add.ensures.encloses.narrow r x y) (λ r x y. c.add-2.ensures.encloses.narrow r x y) (λ r x y. c.add-3.ensures.encloses.narrow r x y) (λ r x y. c.add-4.ensures.encloses.narrow r x y)
