@@ -1,5 +1,5 @@
 //! The terms of a new moon.
-ghost use Rattle.book_model.specs.programs.Calls.{Encloses};
+ghost use Rattle.book_model.specs.programs.Calls.{Holds, Narrows};
 ghost use Rattle.std.specs.Prelude.{◌≡◌, ℤ, pos, ◌+ℤ◌, ◌*ℤ◌};
 ghost use Rattle.book_model.specs.numbers.Bounds.{Reach, limits_of};
 ghost use Rattle.book_model.specs.numbers.Expressions.{World};
@@ -76,7 +76,8 @@ fn planet_angle(phase: i64, rate: i64, number: i64) -> i128
 /// What a planet adds to a new moon by its number, counted from that of January 2000, in days.
 #[tactic(auto, unfolding(book_model::specs::sky::NewMoons::planet_term_of))]
 fn planet_term<E: Enclosure>(term: &PlanetTerm, number: i64) -> E
-    ensures encloses { Encloses E.shown E.BITS (spec.planet_term_of number term.now) result }
+    ensures holds { Holds E.shown (spec.planet_term_of number term.now) result }
+    ensures narrow { Narrows E.shown E.BITS (spec.planet_term_of number term.now) result }
 {
     let angle = E::from_frac(millionths(planet_angle(term.phase, term.rate, number)));
     sin_deg(angle).mul_frac(millionths(i128::from(term.size)))
