@@ -22,12 +22,12 @@ returns-clause-leads g c = λ w x h.
     c.wrap_step.ensures.leads w (longitude_of (in_centuries (subtract d (constant (fraction_of NOON_2000)))))
     (c.longitude.ensures.holds w (subtract d (constant (fraction_of NOON_2000))) days (c.mul_frac-c.ensures.encloses.holds w _ days)))
 
-pub returns-in-Ok-clause-measured : goal.returns-in-Ok-clause-measured
+pub returns-clause-measured : goal.returns-clause-measured
 unfolding in_centuries
-returns-in-Ok-clause-measured g c = λ v e b h.
+returns-clause-measured g c = λ v e b h.
     let shown = g.E.Enclosure.shown in
     let r : Reach = record { width = v + 2 ^ 17; bounds = tabled } in
-    let m = c.in-Ok.ensures.measured v e (omega (arith, b)) h in
-    let days = c.sub-days.ensures.encloses.narrow r (argument 0) (constant (fraction_of NOON_2000)) (measured_argument shown _ _ _ (v + 2 ^ 17) 0 c.in-Ok.moment m) (c.from_frac.ensures.encloses.narrow r) in
+    let m = c.in_ok-moment.ensures.measured v e (omega (arith, b)) h in
+    let days = c.sub-days.ensures.encloses.narrow r (argument 0) (constant (fraction_of NOON_2000)) (measured_argument shown _ _ _ (v + 2 ^ 17) 0 c.in_ok-moment.moment m) (c.from_frac.ensures.encloses.narrow r) in
     let y = c.longitude.ensures.narrow r days_of days (c.mul_frac-c.ensures.encloses.narrow r days_of days) in
     c.wrap_step.ensures.measured (2 * v + 2 ^ 32) e (omega (arith, b)) (longitude_within shown _ v c.longitude.result e b y)
