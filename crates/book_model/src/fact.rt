@@ -55,7 +55,7 @@ pub struct Fact {
 /// order of the variants. It begins with one where the first test of its formula and the third, if they are of a year, are of
 /// that of the day itself.
 #[rattlefmt::skip]
-pub const KINDS: [(Kind, &str, (&[Place], bool)); 23] = [
+pub static KINDS: [(Kind, &str, (&[Place], bool)); 23] = [
     (Kind::Dt, "dt", (&[Place::None], true)),
     (Kind::Sun, "sun", (&[Place::None], true)),
     (Kind::Nowruz, "nowruz", (&[Place::None], false)),
@@ -84,7 +84,7 @@ pub const KINDS: [(Kind, &str, (&[Place], bool)); 23] = [
 /// Each place with its printed name and the location from which its horizon is looked at, if it has one, in the order of the
 /// variants.
 #[rattlefmt::skip]
-pub const PLACES: [(Place, &str, Option<Location>); 5] = [
+pub static PLACES: [(Place, &str, Option<Location>); 5] = [
     (Place::None, "-", None),
     (Place::Beijing, "beijing", None),
     (Place::Cairo, "cairo", Some(CAIRO)),

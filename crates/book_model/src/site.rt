@@ -31,7 +31,7 @@ pub enum Site {
 
 /// Each site with its printed name, in the order of the variants.
 #[rattlefmt::skip]
-pub const SITES: [(Site, &str); 21] = [
+pub static SITES: [(Site, &str); 21] = [
     (Site::Year, "year"),
     (Site::Zone, "zone"),
     (Site::SunWrap, "sun-wrap"),

@@ -61,7 +61,7 @@ pub enum Shown {
 
 /// The words that stand before a date, in the order of their values, with what they name by the date.
 #[rattlefmt::skip]
-pub const FROM_WORDS: [(FromWord, &str, Named); 14] = [
+pub static FROM_WORDS: [(FromWord, &str, Named); 14] = [
     (FromWord::Gregorian, "gregorian", Named::Date(Calendar::Gregorian)),
     (FromWord::Fixed, "fixed", Named::Date(Calendar::Fixed)),
     (FromWord::Persian, "persian", Named::Date(Calendar::Persian)),
@@ -80,7 +80,7 @@ pub const FROM_WORDS: [(FromWord, &str, Named); 14] = [
 
 /// The words for what a line asks, in the order of their values, with what they show of a day.
 #[rattlefmt::skip]
-pub const TO_WORDS: [(ToWord, &str, Shown); 13] = [
+pub static TO_WORDS: [(ToWord, &str, Shown); 13] = [
     (ToWord::Gregorian, "gregorian", Shown::Date(Calendar::Gregorian)),
     (ToWord::Fixed, "fixed", Shown::Date(Calendar::Fixed)),
     (ToWord::Persian, "persian", Shown::Date(Calendar::Persian)),

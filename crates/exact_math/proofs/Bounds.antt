@@ -56,34 +56,34 @@ gap [] i = lit (pos 0)
 gap ((p ≼ q) ∷ cs) zero = q ⊖ p
 gap ((p ≼ q) ∷ cs) (suc i) = gap cs i
 
-abbrev pub shown : List Claim → Cert → Poly
-shown cs (known i) = gap cs i
-shown cs (c ⊞ d) = shown cs c ⊕ shown cs d
-shown cs (c ⊠ d) = shown cs c ⊗ shown cs d
-shown cs (square p) = p ⊗ p
-shown cs (times n) = lit (pos n)
+abbrev pub reached : List Claim → Cert → Poly
+reached cs (known i) = gap cs i
+reached cs (c ⊞ d) = reached cs c ⊕ reached cs d
+reached cs (c ⊠ d) = reached cs c ⊗ reached cs d
+reached cs (square p) = p ⊗ p
+reached cs (times n) = lit (pos n)
 
 gap_nonneg : (ρ : List ℤ) (cs : List Claim) (i : ℕ) → Holds ρ cs → pos 0 ≤ℤ value ρ (gap cs i)
 gap_nonneg ρ [] i h = pos_nonneg 0
 gap_nonneg ρ ((p ≼ q) ∷ cs) zero h = sub_nonneg (value ρ p) (value ρ q) h.0
 gap_nonneg ρ ((p ≼ q) ∷ cs) (suc i) h = gap_nonneg ρ cs i h.1
 
-shown_nonneg : (ρ : List ℤ) (cs : List Claim) (c : Cert) → Holds ρ cs → pos 0 ≤ℤ value ρ (shown cs c)
-shown_nonneg ρ cs (known i) h = gap_nonneg ρ cs i h
-shown_nonneg ρ cs (c ⊞ d) h = add_nonneg (value ρ (shown cs c)) (value ρ (shown cs d)) (shown_nonneg ρ cs c h) (shown_nonneg ρ cs d h)
-shown_nonneg ρ cs (c ⊠ d) h = mul_nonneg (value ρ (shown cs c)) (value ρ (shown cs d)) (shown_nonneg ρ cs c h) (shown_nonneg ρ cs d h)
-shown_nonneg ρ cs (square p) h = square_nonneg (value ρ p)
-shown_nonneg ρ cs (times n) h = pos_nonneg n
+reached_nonneg : (ρ : List ℤ) (cs : List Claim) (c : Cert) → Holds ρ cs → pos 0 ≤ℤ value ρ (reached cs c)
+reached_nonneg ρ cs (known i) h = gap_nonneg ρ cs i h
+reached_nonneg ρ cs (c ⊞ d) h = add_nonneg (value ρ (reached cs c)) (value ρ (reached cs d)) (reached_nonneg ρ cs c h) (reached_nonneg ρ cs d h)
+reached_nonneg ρ cs (c ⊠ d) h = mul_nonneg (value ρ (reached cs c)) (value ρ (reached cs d)) (reached_nonneg ρ cs c h) (reached_nonneg ρ cs d h)
+reached_nonneg ρ cs (square p) h = square_nonneg (value ρ p)
+reached_nonneg ρ cs (times n) h = pos_nonneg n
 
 -- p ≤ q, where q - p is what the certificate shows not to be negative
-pub le_by : (ρ : List ℤ) (cs : List Claim) (p q : Poly) (c : Cert) → normal (q ⊖ p) ≡ normal (shown cs c) → Holds ρ cs → value ρ p ≤ℤ value ρ q
-le_by ρ cs p q c e h = from_sub (value ρ p) (value ρ q) (subst (λ x. pos 0 ≤ℤ x) (sym (ring ρ (q ⊖ p) (shown cs c) e)) (shown_nonneg ρ cs c h))
+pub le_by : (ρ : List ℤ) (cs : List Claim) (p q : Poly) (c : Cert) → normal (q ⊖ p) ≡ normal (reached cs c) → Holds ρ cs → value ρ p ≤ℤ value ρ q
+le_by ρ cs p q c e h = from_sub (value ρ p) (value ρ q) (subst (λ x. pos 0 ≤ℤ x) (sym (ring ρ (q ⊖ p) (reached cs c) e)) (reached_nonneg ρ cs c h))
 
 -- the same, where a positive s times q - p is shown
-pub le_over : (ρ : List ℤ) (cs : List Claim) (s p q : Poly) (c : Cert) → normal (s ⊗ (q ⊖ p)) ≡ normal (shown cs c) → pos 1 ≤ℤ value ρ s → Holds ρ cs → value ρ p ≤ℤ value ρ q
+pub le_over : (ρ : List ℤ) (cs : List Claim) (s p q : Poly) (c : Cert) → normal (s ⊗ (q ⊖ p)) ≡ normal (reached cs c) → pos 1 ≤ℤ value ρ s → Holds ρ cs → value ρ p ≤ℤ value ρ q
 le_over ρ cs s p q c e k h =
-    from_sub (value ρ p) (value ρ q) (over (value ρ s) (value ρ (q ⊖ p)) k (subst (λ x. pos 0 ≤ℤ x) (sym (ring ρ (s ⊗ (q ⊖ p)) (shown cs c) e)) (shown_nonneg ρ cs c h)))
+    from_sub (value ρ p) (value ρ q) (over (value ρ s) (value ρ (q ⊖ p)) k (subst (λ x. pos 0 ≤ℤ x) (sym (ring ρ (s ⊗ (q ⊖ p)) (reached cs c) e)) (reached_nonneg ρ cs c h)))
 
 -- the claims cannot all hold, where -1 is shown not to be negative
-pub refute : (ρ : List ℤ) (cs : List Claim) (c : Cert) → normal (lit (negsuc 0)) ≡ normal (shown cs c) → Holds ρ cs → ⊥
-refute ρ cs c e h = negative 0 (subst (λ x. pos 0 ≤ℤ x) (sym (ring ρ (lit (negsuc 0)) (shown cs c) e)) (shown_nonneg ρ cs c h))
+pub refute : (ρ : List ℤ) (cs : List Claim) (c : Cert) → normal (lit (negsuc 0)) ≡ normal (reached cs c) → Holds ρ cs → ⊥
+refute ρ cs c e h = negative 0 (subst (λ x. pos 0 ≤ℤ x) (sym (ring ρ (lit (negsuc 0)) (reached cs c) e)) (reached_nonneg ρ cs c h))

@@ -93,13 +93,13 @@ null ((p ≼ q) ∷ cs) zero = lit (pos 0)
 null ((p ≗ q) ∷ cs) zero = q ⊖ p
 null (c ∷ cs) (suc i) = null cs i
 
-abbrev pub shown : List Claim → Cert → Poly
-shown cs (known i) = gap cs i
-shown cs (multiple i p) = null cs i ⊗ p
-shown cs (c ⊞ d) = shown cs c ⊕ shown cs d
-shown cs (c ⊠ d) = shown cs c ⊗ shown cs d
-shown cs (square p) = p ⊗ p
-shown cs (natural n) = lit (pos n)
+abbrev pub reached : List Claim → Cert → Poly
+reached cs (known i) = gap cs i
+reached cs (multiple i p) = null cs i ⊗ p
+reached cs (c ⊞ d) = reached cs c ⊕ reached cs d
+reached cs (c ⊠ d) = reached cs c ⊗ reached cs d
+reached cs (square p) = p ⊗ p
+reached cs (natural n) = lit (pos n)
 
 gap_nonneg : (ρ : List Fraction) (cs : List Claim) (i : ℕ) → Holds ρ cs → zero_F ≤F value ρ (gap cs i)
 gap_nonneg ρ [] i h = natural_nonneg 0
@@ -118,25 +118,25 @@ null_zero ρ ((p ≗ q) ∷ cs) (suc i) h = null_zero ρ cs i h.1
 zero_factor : (a b : Fraction) → a ≈ zero_F → zero_F ≤F times a b
 zero_factor a b e = ge_of_same (same_trans (times_cong e (same_refl b)) (same_by (b ∷ []) (lit (pos 0) ⊗ at 0) (lit (pos 0)) refl))
 
-shown_nonneg : (ρ : List Fraction) (cs : List Claim) (c : Cert) → Holds ρ cs → zero_F ≤F value ρ (shown cs c)
-shown_nonneg ρ cs (known i) h = gap_nonneg ρ cs i h
-shown_nonneg ρ cs (multiple i p) h = zero_factor (value ρ (null cs i)) (value ρ p) (null_zero ρ cs i h)
-shown_nonneg ρ cs (c ⊞ d) h = add_nonneg (value ρ (shown cs c)) (value ρ (shown cs d)) (shown_nonneg ρ cs c h) (shown_nonneg ρ cs d h)
-shown_nonneg ρ cs (c ⊠ d) h = mul_nonneg (value ρ (shown cs c)) (value ρ (shown cs d)) (shown_nonneg ρ cs c h) (shown_nonneg ρ cs d h)
-shown_nonneg ρ cs (square p) h = square_nonneg (value ρ p)
-shown_nonneg ρ cs (natural n) h = natural_nonneg n
+reached_nonneg : (ρ : List Fraction) (cs : List Claim) (c : Cert) → Holds ρ cs → zero_F ≤F value ρ (reached cs c)
+reached_nonneg ρ cs (known i) h = gap_nonneg ρ cs i h
+reached_nonneg ρ cs (multiple i p) h = zero_factor (value ρ (null cs i)) (value ρ p) (null_zero ρ cs i h)
+reached_nonneg ρ cs (c ⊞ d) h = add_nonneg (value ρ (reached cs c)) (value ρ (reached cs d)) (reached_nonneg ρ cs c h) (reached_nonneg ρ cs d h)
+reached_nonneg ρ cs (c ⊠ d) h = mul_nonneg (value ρ (reached cs c)) (value ρ (reached cs d)) (reached_nonneg ρ cs c h) (reached_nonneg ρ cs d h)
+reached_nonneg ρ cs (square p) h = square_nonneg (value ρ p)
+reached_nonneg ρ cs (natural n) h = natural_nonneg n
 
 -- p ≤ q, where q - p, or s + 1 times that, is what the certificate shows not to be negative
-pub le_by : (ρ : List Fraction) (cs : List Claim) (p q : Poly) (c : Cert) → normal (q ⊖ p) ≡ normal (shown cs c) → Holds ρ cs → value ρ p ≤F value ρ q
+pub le_by : (ρ : List Fraction) (cs : List Claim) (p q : Poly) (c : Cert) → normal (q ⊖ p) ≡ normal (reached cs c) → Holds ρ cs → value ρ p ≤F value ρ q
 le_by ρ cs p q c e h =
     from_sub (value ρ p) (value ρ q)
-    (le_trans zero_F (value ρ (shown cs c)) (value ρ (q ⊖ p)) (shown_nonneg ρ cs c h) (ge_of_same (same_by ρ (q ⊖ p) (shown cs c) e)))
+    (le_trans zero_F (value ρ (reached cs c)) (value ρ (q ⊖ p)) (reached_nonneg ρ cs c h) (ge_of_same (same_by ρ (q ⊖ p) (reached cs c) e)))
 
-pub le_over : (s : ℕ) (ρ : List Fraction) (cs : List Claim) (p q : Poly) (c : Cert) → normal (lit (pos (suc s)) ⊗ (q ⊖ p)) ≡ normal (shown cs c) → Holds ρ cs → value ρ p ≤F value ρ q
+pub le_over : (s : ℕ) (ρ : List Fraction) (cs : List Claim) (p q : Poly) (c : Cert) → normal (lit (pos (suc s)) ⊗ (q ⊖ p)) ≡ normal (reached cs c) → Holds ρ cs → value ρ p ≤F value ρ q
 le_over s ρ cs p q c e h =
     from_sub (value ρ p) (value ρ q)
     (over_natural s (value ρ (q ⊖ p))
-    (le_trans zero_F (value ρ (shown cs c)) (value ρ (lit (pos (suc s)) ⊗ (q ⊖ p))) (shown_nonneg ρ cs c h) (ge_of_same (same_by ρ (lit (pos (suc s)) ⊗ (q ⊖ p)) (shown cs c) e))))
+    (le_trans zero_F (value ρ (reached cs c)) (value ρ (lit (pos (suc s)) ⊗ (q ⊖ p))) (reached_nonneg ρ cs c h) (ge_of_same (same_by ρ (lit (pos (suc s)) ⊗ (q ⊖ p)) (reached cs c) e))))
 
 -- ---- further forms
 pub record IsPositive (a : Fraction) : Type 0 where
@@ -146,8 +146,8 @@ not_negative : (n : ℕ) → zero_F ≤F whole (negsuc n) → ⊥
 not_negative n h = omega (arith, ints, h.cross)
 
 -- claims that show a negative number not to be negative
-pub refute : (n : ℕ) (ρ : List Fraction) (cs : List Claim) (c : Cert) → normal (lit (negsuc n)) ≡ normal (shown cs c) → Holds ρ cs → ⊥
-refute n ρ cs c e h = not_negative n (le_trans zero_F (value ρ (shown cs c)) (whole (negsuc n)) (shown_nonneg ρ cs c h) (ge_of_same (same_by ρ (lit (negsuc n)) (shown cs c) e)))
+pub refute : (n : ℕ) (ρ : List Fraction) (cs : List Claim) (c : Cert) → normal (lit (negsuc n)) ≡ normal (reached cs c) → Holds ρ cs → ⊥
+refute n ρ cs c e h = not_negative n (le_trans zero_F (value ρ (reached cs c)) (whole (negsuc n)) (reached_nonneg ρ cs c h) (ge_of_same (same_by ρ (lit (negsuc n)) (reached cs c) e)))
 
 -- p and q are of one value: q - p is the sum of these multiples of known equations
 abbrev pub combined : List Claim → List (ℕ × Poly) → Poly

@@ -31,6 +31,22 @@ IsAbout size width i = IsWithin (neg_ℤ (pos size)) (pos size) width i
 abbrev pub IsMoment : ℕ → Interval → Type 0
 IsMoment v i = IsAbout (2 ^ 58) v i
 
+-- a correction: within a fourth of a day of 0, and at most so wide
+abbrev pub IsCorrection : ℕ → Interval → Type 0
+IsCorrection v i = IsAbout (2 ^ 30) v i
+
+-- a moment of the years -499 to 2050, of which there are corrections
+abbrev pub IsDated : ℕ → Interval → Type 0
+IsDated v i = IsWithin (neg_ℤ (pos (182621 * 2 ^ 32))) (pos (748748 * 2 ^ 32)) v i
+
+-- such a moment, moved by at most a day
+abbrev pub IsNearlyDated : ℕ → Interval → Type 0
+IsNearlyDated v i = IsWithin (neg_ℤ (pos (182622 * 2 ^ 32))) (pos (748749 * 2 ^ 32)) v i
+
+-- centuries from noon of 1 January 2000 to such a moment
+abbrev pub AreCenturies : ℕ → Interval → Type 0
+AreCenturies v i = IsWithin (neg_ℤ (pos (25 * 2 ^ 32))) (pos (2 ^ 32)) v i
+
 -- an interval lies from 0 to m, and is at most so wide
 abbrev pub IsUpTo : (m width : ℕ) → Interval → Type 0
 IsUpTo m width i = IsWithin (pos 0) (pos (m * 2 ^ 32)) width i

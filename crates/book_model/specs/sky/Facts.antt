@@ -1,5 +1,5 @@
 -- The run of a fact, and when a fact is true, near or void.
-use Rattle.std.specs.Prelude.{◌≡◌, ℕ, ◌^◌, ◌≤◌, ◌⊎◌, if◌then◌else◌, IsTrue, ℤ, pos, ◌-ℤ◌, ◌≤ℤ◌}
+use Rattle.std.specs.Prelude.{◌≡◌, ℕ, ◌^◌, ◌≤◌, ◌⊎◌, if◌then◌else◌, IsTrue, ℤ, pos, ◌-ℤ◌, ◌*ℤ◌, ◌≤ℤ◌}
 use Rattle.exact_math.specs.Fraction.{◌≤F◌, ◌<F◌}
 use Rattle.exact_math.specs.Interval.{Interval, everything, between, ◌⊆◌}
 use Rattle.book_model.specs.declared.site.Site.{Site}
@@ -10,14 +10,14 @@ use Rattle.book_model.specs.declared.fact.Kind.TheVariants.{Dt, Sun, Nowruz, Bah
 use Rattle.book_model.specs.declared.fact.Place.{Place}
 use Rattle.book_model.specs.declared.fact.TheConstants.{FIRST_FACT_DAY, LAST_FACT_DAY, FIRST_DAY, LAST_DAY, LEAST_VALUE, GREATEST_VALUE}
 use Rattle.book_model.specs.declared.fail.Undecided.{Undecided}
-use Rattle.book_model.specs.calendars.Gregorian.{year_of_day}
 use Rattle.book_model.specs.sky.Correction.{is_between}
 use Rattle.book_model.specs.numbers.Expressions.{World}
 use Rattle.book_model.specs.sky.Kinds.{dt_of, sun_in_thousandths_of, nowruz_of, bahai_year_of, solstice_of, new_moon_before_of, new_moon_from_of, major_of, term_day_of, located, sunset_in_minutes_of}
 use Rattle.book_model.specs.sky.Crescent.{phasis_of}
 use Rattle.book_model.specs.sky.HinduFacts.{sign_at_sunset_of, year_at_sunset_of, sankranti_of, tithi_of, sign_before_of, sign_after_of, calendar_year_of}
 use Rattle.book_model.specs.sky.Phases.{phase_day_of}
-use Rattle.book_model.specs.programs.Leading.{at_56, AreNoBounds}
+use Rattle.book_model.specs.programs.Leading.{at_56}
+use Rattle.book_model.specs.programs.Widths.{most_apart}
 use Rattle.book_model.specs.sky.Names.{has_place, location_of, begins_with_day}
 use Rattle.book_model.specs.programs.Programs.{Grid, threshold, Program, void, Run, run, valued, void_at, outcome, MakesTest, Sides, one_side, two_sides}
 use Rattle.book_model.specs.numbers.Depth.{DEPTH}
@@ -84,10 +84,9 @@ pub record IsTrueWith (f : Fact) (v : ℤ) : Type 0 where
 pub record IsVoidAt (f : Fact) (s : Site) : Type 0 where
   pub at_each_depth : (n : ℕ) → DEPTH ≤ n → outcome (run_of n f) ≡ void_at s
 
--- an interval lies between two numbers that count 2^-56, which may stand for no bounds
-pub data LiesFrom (lo hi : ℤ) (i : Interval) : Type 0 where
-  from_ends : i ⊆ between (at_56 lo) (at_56 hi) → LiesFrom lo hi i
-  from_nowhere : AreNoBounds lo hi → LiesFrom lo hi i
+-- an interval lies between two numbers that count 2^-56
+abbrev pub LiesFrom : (lo hi : ℤ) → Interval → Type 0
+LiesFrom lo hi i = i ⊆ between (at_56 lo) (at_56 hi)
 
 -- a cell begins above lo and at most at hi
 pub record HasThreshold (g : Grid) (lo hi : ℤ) : Type 0 where
@@ -110,10 +109,13 @@ pub record MakesNearTest (r : Run ℤ) (u : Undecided) : Type 0 where
 abbrev pub HasWholeDays : Kind → Type 0
 HasWholeDays kind = IsTrue (begins_with_day kind)
 
--- The fact is near at a test: at every depth from 40 on its run makes this test, whose sides lie within the ends.
--- The year of a whole day is never near. For the years 1987 to 2050 the ends of a dynamical time correction lie
--- at most 2^-6 apart.
+-- the ends of an open test, which count 2^-56, are at most as far apart as its site allows, in 2^-64
+abbrev pub AreClose : Undecided → Type 0
+AreClose u = ((u.hi -ℤ u.lo) *ℤ pos 256) ≤ℤ pos (most_apart u.site)
+
+-- The fact is near at a test: at every depth from 40 on its run makes this test, whose sides lie within the ends, and the
+-- ends are at most a 2^20th apart, or a 2^24th at a test of a bisection. The year of a whole day is never near.
 pub record IsNear (f : Fact) (u : Undecided) : Type 0 where
   pub at_each_depth : (n : ℕ) → DEPTH ≤ n → MakesNearTest (run_of n f) u
   pub no_whole_day : u.site ≡ Year → (u.turn ≡ 1) ⊎ (u.turn ≡ 3) → HasWholeDays f.kind → ⊥
-  pub close : f.kind ≡ Dt → pos 1987 ≤ℤ year_of_day f.day → year_of_day f.day ≤ℤ pos 2050 → (u.hi -ℤ u.lo) ≤ℤ pos (2 ^ 50)
+  pub close : AreClose u
