@@ -1,15 +1,14 @@
 -- What a run has evaluated, and takes again: a program with no test, or with one, answers from every turn on as it did from one.
-use Rattle.std.proofs.Common.{◌≡◌, ℕ, zero, suc, ℤ, ◌≤◌, Bool, true, false, Option, Some, None, Result, Ok, IfSome, refl}
+use Rattle.std.proofs.Common.{◌≡◌, ℕ, ℤ, ◌≤◌, true, Option, Some, None, Ok, IfSome, refl}
 use Rattle.exact_math.specs.Interval.{Interval, ◌⊆◌}
 use Rattle.exact_math.proofs.Intervals.{within_trans}
 use Rattle.book_model.specs.declared.site.Site.{Site}
-use Rattle.book_model.specs.declared.fail.Fail.{Fail}
 use Rattle.book_model.specs.numbers.Expressions.{Expression, World, value}
 use Rattle.book_model.specs.numbers.Depth.{DEPTH}
 use Rattle.book_model.specs.numbers.Relations.{Within, Lies}
 use Rattle.book_model.specs.programs.Calls.{Follows}
-use Rattle.book_model.specs.programs.Leading.{next_turn, Reports, passes, answers, Leads, leaf_of, leaf}
-use Rattle.book_model.specs.programs.Programs.{Grid, cell_at, Program, cell, Run, answered, voided, undecided, decided, after_cell, run, AtMost, answer_at_most, void_at_most, cell_at_most}
+use Rattle.book_model.specs.programs.Leading.{next_turn, Reports, passes, answers, leaf_of, leaf}
+use Rattle.book_model.specs.programs.Programs.{Grid, cell_at, Program, cell, Run, answered, voided, undecided, decided, after_cell, run, AtMost, answer_at_most, void_at_most}
 use Rattle.book_model.proofs.Leads.{leaf_within, lies}
 use Rattle.encl_core.specs.declared.span.Span.{Span}
 use Rattle.encl_core.specs.Kept.{shown_span, answers_after, IsKept}

@@ -1,7 +1,7 @@
 //! Searches by day.
 ghost use Rattle.book_model.specs.programs.Calls.{Decides};
 ghost use Rattle.book_model.specs.programs.Widths.{IsClose};
-ghost use Rattle.std.specs.Prelude.{◌≡◌, ◌+ℤ◌, pos, negsuc, ◌≤ℤ◌, ℤ, Bool, true, IfOk, IfErr};
+ghost use Rattle.std.specs.Prelude.{◌≡◌, ◌+ℤ◌, pos, negsuc, ◌≤ℤ◌, ℤ, Bool, IfOk, IfErr};
 ghost use Rattle.book_model.specs.programs.Programs.{Program};
 ghost use Rattle.book_model.specs.programs.Searches.{first_day_from};
 
@@ -16,15 +16,15 @@ pub trait DayTest<E: Enclosure> {
     /// The test of a day, as a formula.
     ghost test_of: { Self → ℤ → Program Bool };
 
-    /// Whether its failures are known to be close at the scale 2⁻⁵⁶.
-    ghost near: { Bool };
+    /// Of which test and day its failures are known to be close at the scale 2⁻⁵⁶.
+    ghost near_on: { Self → ℤ → Type 0 };
 
     /// Whether the test is true of a day (R.D.). It makes the tests of its formula, and fails where that does.
     fn holds(&self, day: i64, trail: &mut Trail) -> Result<bool, Fail>
         requires low { negsuc 39999999 ≤ℤ day }
         requires high { day ≤ℤ pos 40000000 }
         ensures leads { Decides (test_of self.now day) trail.old.count trail.new.count result }
-        ensures close { near ≡ true → E.BITS ≡ 56 → IfErr result IsClose };
+        ensures close { near_on self.now day → E.BITS ≡ 56 → IfErr result IsClose };
 }
 
 /// The first day (R.D.) of which a test is true, of the start and the 45 days after it. It fails where the test does,
@@ -38,7 +38,8 @@ pub fn first_day<E: Enclosure, T: DayTest<E>>(
     requires high { start ≤ℤ pos 39999900 }
     ensures leads { Decides (first_day_from (T.test_of test.now) start) trail.old.count
         trail.new.count result }
-    ensures close { T.near ≡ true → E.BITS ≡ 56 → IfErr result IsClose }
+    ensures close { ((d : ℤ) → start ≤ℤ d → d ≤ℤ (start +ℤ pos 45) → T.near_on test.now d)
+        → E.BITS ≡ 56 → IfErr result IsClose }
     ensures from { IfOk result (λ d. start ≤ℤ d) }
     ensures to { IfOk result (λ d. d ≤ℤ (start +ℤ pos 45)) }
 {

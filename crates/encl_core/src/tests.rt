@@ -2,7 +2,7 @@
 //! rough scale.
 mod rough;
 
-ghost use Rattle.std.specs.Prelude.{◌≤◌, ◌+◌, false};
+ghost use Rattle.std.specs.Prelude.{◌≤◌, ◌+◌};
 ghost use Rattle.book_model.specs.declared.site.Site.TheVariants.{DayTest as AtDayTest};
 ghost use Rattle.book_model.specs.numbers.Expressions.{World, integer};
 ghost use Rattle.book_model.specs.programs.Leading.{Exact, Leads};
@@ -30,7 +30,7 @@ struct After {
 impl<E: Enclosure> DayTest<E> for After {
     ghost test_of = { λ s d. compare AtDayTest (integer s.day) (integer d) answer };
 
-    ghost near = { false };
+    ghost near_on = { λ s d. ⊥ };
 
     fn holds(&self, day: i64, trail: &mut Trail) -> Result<bool, FormulaFail> {
         is_after::<E>(day, self.day, trail)

@@ -1,4 +1,5 @@
 use Rattle.std.proofs.Common.{rules, ◌≡◌, ◌+ℤ◌, pos, w64, to_z, of_z, arith, refl}
+use Rattle.std.proofs.lemmas.Int.{ints}
 use Rattle.std.proofs.lemmas.Result.{err_from_is_err_and}
 use Rattle.book_model.specs.programs.Widths.{close_void}
 use Rattle.encl_core.proofs.Searching.{search_hit, search_miss, search_fails, search_ends, first_is}
@@ -40,3 +41,12 @@ returns-clause-leads g c =
 
 pub returns-clause-close : goal.returns-clause-close
 returns-clause-close g c = λ n e. close_void
+
+pub returns-in_err-holds-clause-close : goal.returns-in_err-holds-clause-close
+returns-in_err-holds-clause-close g c = λ n e.
+    let start : to_z w64 (of_z w64 c.args.start) ≡ c.args.start = search rules in
+    let later : to_z w64 (of_z w64 c.from.result) ≡ pos c.loop-later.later = search rules in
+    let day : to_z w64 (of_z w64 (c.args.start +ℤ pos c.loop-later.later)) ≡ c.args.start +ℤ pos c.loop-later.later = search rules in
+    let fails = err_from_is_err_and c.from_residual.result c.from_residual.ensures.1 in
+    let m = rw (start, later, day) at c.in_err-holds.ensures.close in
+    rw (fails.1, fails.2) (m (n (c.args.start +ℤ pos c.loop-later.later) (omega (arith, ints)) (omega (arith, ints, c.loop-later-test.true))) e)
