@@ -11,3 +11,4 @@ pub mod TurnLemmas
 pub mod Steady
 pub mod SineLemmas
 pub mod PartLemmas
+pub mod Measured

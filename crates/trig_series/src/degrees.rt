@@ -1,6 +1,9 @@
 //! Sine, cosine and tangent of enclosures of degrees.
 ghost use Rattle.book_model.specs.programs.Calls.{Encloses1};
+ghost use Rattle.book_model.specs.programs.Widths.{IsAbout};
 ghost use Rattle.std.specs.Prelude.{◌≡◌, ℕ, ℤ, pos, neg_ℤ, ◌^◌, ◌≤◌, ◌≤ℤ◌};
+ghost use Rattle.width_laws.specs.declared.table.TheConstants.{SINE};
+ghost use Rattle.width_laws.specs.Table.{greatest_of};
 ghost use Rattle.exact_math.specs.Interval.{Interval, IsProper, between, ◌⊆◌};
 ghost use Rattle.book_model.specs.numbers.Expressions.{sine, cosine, tangent};
 ghost use Rattle.book_model.specs.programs.Leading.{at_56};
@@ -83,6 +86,8 @@ fn cosine_over_span(degrees: Span) -> Span
 /// widens it. The result is at most a 57th as wide as the degrees, and two units of its scale and 36 parts of 2⁻⁵⁶.
 pub fn sin_deg<E: Enclosure>(x: E) -> E
     ensures encloses { Encloses1 E.shown E.BITS sine x result }
+    ensures measured { (v : ℕ) → E.BITS ≡ 56 → IsAbout (2 ^ 94) v (E.shown x)
+        → IsAbout (2 ^ 32) (greatest_of SINE v) (E.shown result) }
 {
     match x.span() {
         Some(degrees) => E::from_span(sine_over_span(degrees)),
@@ -93,6 +98,8 @@ pub fn sin_deg<E: Enclosure>(x: E) -> E
 /// The cosine of degrees: the sine of 90 degrees more.
 pub fn cos_deg<E: Enclosure>(x: E) -> E
     ensures encloses { Encloses1 E.shown E.BITS cosine x result }
+    ensures measured { (v : ℕ) → E.BITS ≡ 56 → IsAbout (2 ^ 94) v (E.shown x)
+        → IsAbout (2 ^ 32) (greatest_of SINE v) (E.shown result) }
 {
     match x.span() {
         Some(degrees) => E::from_span(cosine_over_span(degrees)),
