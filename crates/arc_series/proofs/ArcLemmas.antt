@@ -55,7 +55,7 @@ unfolding Keeps bound_of IsNarrow
 narrow_two shown l r a b e = record { kept = tt }
 
 -- ---- from -180 to 180
-abbrev half_turn : ℤ
+abbrev pub half_turn : ℤ
 half_turn = pos 12970366926827028480
 
 pub around_held : {E : Type 0} (shown : E → Interval) (r : E) → between (at_56 (neg_ℤ half_turn)) (at_56 half_turn) ⊆ shown r → all_around ⊆ shown r
@@ -103,7 +103,7 @@ pub around_inside : {E : Type 0} (shown : E → Interval) (bits : ℕ) (r : E) �
 around_inside shown bits r f s = span_inside shown bits (neg_ℤ half_turn) half_turn r (omega (arith, ints)) (omega (arith, ints)) (omega (arith, ints)) f s
 
 -- ends that are moved there
-abbrev moved : ℤ → ℤ
+abbrev pub moved : ℤ → ℤ
 moved x = int_max (int_min x half_turn) (neg_ℤ half_turn)
 
 pub moved_inside : {E : Type 0} (shown : E → Interval) (bits : ℕ) (lo hi low high : ℤ) (r : E) → lo ≤ℤ hi → low ≡ moved lo → high ≡ moved hi

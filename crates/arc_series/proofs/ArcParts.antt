@@ -1,7 +1,8 @@
 -- How wide the span of a part in one piece is, and that of parts side by side.
-use Rattle.std.proofs.Common.{◌≡◌, ◌+◌, ◌-◌, ◌^◌, arith, ℕ, ℤ, pos, negsuc, ◌+ℤ◌, ◌-ℤ◌, ◌*ℤ◌, ◌≤ℤ◌, ◌<ℤ◌, ◌⊎◌, inl, inr, Option, Some, None}
+use Rattle.std.proofs.Common.{◌≡◌, ◌+◌, ◌-◌, ◌*◌, ◌^◌, ◌≤◌, arith, ℕ, ℤ, pos, negsuc, ◌+ℤ◌, ◌-ℤ◌, ◌*ℤ◌, ◌≤ℤ◌, ◌<ℤ◌, ◌⊎◌, inl, inr, Option, Some, None}
 use Rattle.std.specs.Int.{int_min, int_max}
 use Rattle.std.proofs.lemmas.Int.{ints, clamps}
+use Rattle.std.proofs.Math.Nat.{mul-le-mul_right}
 use lib.IntN.{neg_ℤ}
 use Rattle.exact_math.specs.Fraction.{Fraction, ◌≈◌, whole, plus}
 use Rattle.exact_math.specs.Interval.{between, ◌⊆◌}
@@ -13,10 +14,11 @@ use Rattle.encl_core.specs.declared.span.Span.{Span}
 use Rattle.arc_series.specs.declared.pieces.Piece.{Piece}
 use Rattle.arc_series.specs.declared.pieces.Piece.TheVariants.{FarBelow, Below, Near, Above, FarAbove}
 use Rattle.arc_series.specs.Forms.{piece_of, begin_56, end_56}
-use Rattle.arc_series.specs.Widths.{IsThin, Edge, first_edge, last_edge, IsFrom, IsUpTo, IsReach, Reaches, AreOver, no_begin, no_end}
+use Rattle.arc_series.specs.Widths.{IsThin, IsRate, Edge, first_edge, last_edge, IsFrom, IsUpTo, IsReach, Reaches, AreOver, no_begin, no_end}
 use Rattle.arc_series.proofs.HeldArcs.{Holds_arcs}
 use Rattle.arc_series.proofs.ArcSlopes.{piece_arc}
 use Rattle.arc_series.proofs.ArcAnchors.{near_half, near_minus_half, above_half, above_three, beyond_three, below_half, below_three, far_below_three, AreApart, apart, AreMeeting, meeting}
+use Rattle.arc_series.proofs.ArcRates.{ends_rated}
 use Rattle.arc_series.proofs.ArcRanges.{in_piece, ranged, from_lower, from_lesser, up_to_greater}
 
 -- ---- the ends of a part
@@ -43,6 +45,23 @@ pub record IsHull (a b c d lo hi : ℤ) : Type 0 where
 
 part_narrow : (k m a b c d lo hi : ℤ) → k ≤ℤ m → IsThin a b → IsThin c d → AreApart (m -ℤ k) a b c d → IsHull a b c d lo hi → ((hi -ℤ lo) *ℤ pos 10) ≤ℤ ((m -ℤ k) *ℤ pos 573 +ℤ pos 80)
 part_narrow k m a b c d lo hi o t u n h = omega (arith, ints, clamps, o, t.thin, u.thin, n.climb, n.rise, h.low, h.high)
+
+-- at a rate: the numbers times it are in order
+part_slow : (km ms a b c d lo hi : ℤ) → km ≤ℤ ms → IsThin a b → IsThin c d → a ≤ℤ d → (c *ℤ pos (10 * 2 ^ 60)) ≤ℤ (b *ℤ pos (10 * 2 ^ 60) +ℤ (ms -ℤ km) *ℤ pos 573) → IsHull a b c d lo hi
+    → ((hi -ℤ lo) *ℤ pos (10 * 2 ^ 60)) ≤ℤ ((ms -ℤ km) *ℤ pos 573 +ℤ pos (80 * 2 ^ 60))
+part_slow km ms a b c d lo hi o t u l n h = omega (arith, ints, clamps, o, t.thin, u.thin, l, n, h.low, h.high)
+
+in_order : (k m : ℤ) (s : ℕ) → k ≤ℤ m → (k *ℤ pos s) ≤ℤ (m *ℤ pos s)
+in_order (pos k) (pos m) s h = let g : k ≤ m = omega (arith, ints) in omega (arith, ints, mul-le-mul_right s g)
+in_order (pos k) (negsuc m) s h = absurd (omega (arith, ints))
+in_order (negsuc k) (pos m) s h = omega (arith, ints)
+in_order (negsuc k) (negsuc m) s h = let g : m ≤ k = omega (arith, ints) in omega (arith, ints, mul-le-mul_right s g)
+
+part_rated : (p : Piece) (s : ℕ) (top k m a b c d lo hi : ℤ) → IsRate s top → m ≤ℤ top → IsPart p k m a b c d → IsHull a b c d lo hi → ((hi -ℤ lo) *ℤ pos (10 * 2 ^ 60)) ≤ℤ ((m *ℤ pos s -ℤ k *ℤ pos s) *ℤ pos 573 +ℤ pos (80 * 2 ^ 60))
+part_rated p s top k m a b c d lo hi r l h g =
+    part_slow (k *ℤ pos s) (m *ℤ pos s) a b c d lo hi (in_order k m s h.order) h.low_thin h.high_thin (part_apart p k m a b c d h).rise
+    (ends_rated p s top k m a b c d (in_piece p k h.from (omega (arith, ints, h.order, h.to))) (in_piece p m (omega (arith, ints, h.order, h.from)) h.to) r h.order l
+    (h.low_held 40 (at_56 k) (omega arith) (same_refl (at_56 k))) (h.high_held 40 (at_56 m) (omega arith) (same_refl (at_56 m)))) g
 
 part_above : (p : Piece) (k m a b c d j lo hi : ℤ) → j ≤ℤ k → IsPart p k m a b c d → IsHull a b c d lo hi → IsFrom j lo
 part_above p k m a b c d j lo hi l h g =
@@ -200,6 +219,7 @@ part_reaches p lo hi k m a b c d r s h g =
       from = w.from;
       to = w.to;
       narrow = rw (w.begin, w.end) (part_narrow k m a b c d r.lo r.hi h.order h.low_thin h.high_thin (part_apart p k m a b c d h) g);
+      slow = λ z q. rw (w.begin, w.end) (part_rated p z hi k m a b c d r.lo r.hi q u h g);
       at_first = λ e.
           let f = at_first_edge p k a b (w.begins e) (omega (arith, ints, l, s.least)) h.low_held in
           record { low = joined_low (first_edge p).arc a c r.lo g.low f.0; high = joined_high (first_edge p).arc b d r.hi g.high f.1 };
@@ -223,6 +243,17 @@ join_narrow f e l v lo hi a b c d low high j k p q x y fe el al vb cl vd m n h =
     by_ends : (from to : ℤ) → ((b -ℤ a) *ℤ pos 10) ≤ℤ ((e -ℤ from) *ℤ pos 573 +ℤ pos j) → ((d -ℤ c) *ℤ pos 10) ≤ℤ ((to -ℤ e) *ℤ pos 573 +ℤ pos k) → ((high -ℤ low) *ℤ pos 10) ≤ℤ ((to -ℤ from) *ℤ pos 573 +ℤ pos (j + k + 40))
     by_ends from to m n = omega (arith, ints, clamps, x, y, al, vb, cl, vd, m, n, h.low, h.high)
 
+join_slow : (e v lo hi a b c d low high fs ls : ℤ) (s j k : ℕ) → lo ≤ℤ e → e ≤ℤ hi → a ≤ℤ b → c ≤ℤ d → a ≤ℤ (v +ℤ pos 2) → v ≤ℤ (b +ℤ pos 2) → c ≤ℤ (v +ℤ pos 2) → v ≤ℤ (d +ℤ pos 2)
+    → ((b -ℤ a) *ℤ pos (10 * 2 ^ 60)) ≤ℤ ((int_min e hi *ℤ pos s -ℤ fs) *ℤ pos 573 +ℤ pos (j * 2 ^ 60)) → ((d -ℤ c) *ℤ pos (10 * 2 ^ 60)) ≤ℤ ((ls -ℤ int_max e lo *ℤ pos s) *ℤ pos 573 +ℤ pos (k * 2 ^ 60)) → IsHull a b c d low high
+    → ((high -ℤ low) *ℤ pos (10 * 2 ^ 60)) ≤ℤ ((ls -ℤ fs) *ℤ pos 573 +ℤ pos ((j + k + 40) * 2 ^ 60))
+join_slow e v lo hi a b c d low high fs ls s j k p q x y al vb cl vd m n h =
+    let g : int_min e hi ≡ e = omega (arith, ints, clamps, q) in
+    let t : int_max e lo ≡ e = omega (arith, ints, clamps, p) in
+    by_ends (e *ℤ pos s) (rw g at m) (rw t at n)
+  where
+    by_ends : (es : ℤ) → ((b -ℤ a) *ℤ pos (10 * 2 ^ 60)) ≤ℤ ((es -ℤ fs) *ℤ pos 573 +ℤ pos (j * 2 ^ 60)) → ((d -ℤ c) *ℤ pos (10 * 2 ^ 60)) ≤ℤ ((ls -ℤ es) *ℤ pos 573 +ℤ pos (k * 2 ^ 60)) → ((high -ℤ low) *ℤ pos (10 * 2 ^ 60)) ≤ℤ ((ls -ℤ fs) *ℤ pos 573 +ℤ pos ((j + k + 40) * 2 ^ 60))
+    by_ends es m n = omega (arith, ints, clamps, x, y, al, vb, cl, vd, m, n, h.low, h.high)
+
 pub both_reach : (f e l : Edge) (j k : ℕ) (lo hi : ℤ) (x y r : Span) → f.place ≤ℤ e.place → e.place ≤ℤ l.place → IsReach f e j lo hi x → IsReach e l k lo hi y → IsHull x.lo x.hi y.lo y.hi r.lo r.hi → IsReach f l (j + k + 40) lo hi r
 both_reach f e l j k lo hi x y r fe el p q h =
     let u = p.at_last q.from in
@@ -231,6 +262,7 @@ both_reach f e l j k lo hi x y r fe el p q h =
       from = p.from;
       to = q.to;
       narrow = join_narrow f.place e.place l.place e.arc lo hi x.lo x.hi y.lo y.hi r.lo r.hi j k p.to q.from x.ordered y.ordered fe el u.low u.high v.low v.high p.narrow q.narrow h;
+      slow = λ z i. join_slow e.place e.arc lo hi x.lo x.hi y.lo y.hi r.lo r.hi (int_max f.place lo *ℤ pos z) (int_min l.place hi *ℤ pos z) z j k p.to q.from x.ordered y.ordered u.low u.high v.low v.high (p.slow z i) (q.slow z i) h;
       at_first = λ s. let t = p.at_first s in record { low = joined_low f.arc x.lo y.lo r.lo h.low t.low; high = joined_high f.arc x.hi y.hi r.hi h.high t.high };
       at_last = λ s. let t = q.at_last s in record { low = joined_low_second l.arc x.lo y.lo r.lo h.low t.low; high = joined_high_second l.arc x.hi y.hi r.hi h.high t.high };
       above = from_lesser lo x.lo y.lo r.lo h.low p.above q.above;
@@ -243,6 +275,12 @@ wider n lo j k h = omega (arith, ints, h)
 wider_second : (n lo : ℤ) (j k : ℕ) → n ≤ℤ (lo +ℤ pos k) → n ≤ℤ (lo +ℤ pos (j + k + 40))
 wider_second n lo j k h = omega (arith, ints, h)
 
+wider_slow : (n lo : ℤ) (j k : ℕ) → n ≤ℤ (lo +ℤ pos (j * 2 ^ 60)) → n ≤ℤ (lo +ℤ pos ((j + k + 40) * 2 ^ 60))
+wider_slow n lo j k h = omega (arith, ints, h)
+
+wider_slow_second : (n lo : ℤ) (j k : ℕ) → n ≤ℤ (lo +ℤ pos (k * 2 ^ 60)) → n ≤ℤ (lo +ℤ pos ((j + k + 40) * 2 ^ 60))
+wider_slow_second n lo j k h = omega (arith, ints, h)
+
 pub first_reaches : (f e l : Edge) (j k : ℕ) (lo hi : ℤ) (x : Span) → lo ≤ℤ hi → f.place ≤ℤ e.place → e.place ≤ℤ l.place → IsReach f e j lo hi x → Reaches e l k lo hi None → IsReach f l (j + k + 40) lo hi x
 first_reaches f e l j k lo hi x o fe el p (inr q) = absurd (omega (arith, ints, p.to, el, q))
 first_reaches f e l j k lo hi x o fe el p (inl q) =
@@ -252,6 +290,7 @@ first_reaches f e l j k lo hi x o fe el p (inl q) =
       from = p.from;
       to = omega (arith, ints, p.to, el);
       narrow = rw t (wider _ _ j k (rw s at p.narrow));
+      slow = λ z i. rw t (wider_slow _ _ j k (rw s at (p.slow z i)));
       at_first = p.at_first;
       at_last = λ h. absurd (omega (arith, ints, q, el, h));
       above = p.above;
@@ -267,6 +306,7 @@ second_reaches f e l j k lo hi y o fe el (inr p) q =
       from = omega (arith, ints, q.from, fe);
       to = q.to;
       narrow = rw t (wider_second _ _ j k (rw s at q.narrow));
+      slow = λ z i. rw t (wider_slow_second _ _ j k (rw s at (q.slow z i)));
       at_first = λ h. absurd (omega (arith, ints, p, fe, h));
       at_last = q.at_last;
       above = q.above;
@@ -304,4 +344,4 @@ all_over lo hi None o l u (inr h) = absurd (omega (arith, ints, o, u, h))
 all_over lo hi (Some r) o l u h =
     let s : int_max no_begin.place lo ≡ lo = omega (arith, ints, clamps, l) in
     let t : int_min no_end.place hi ≡ hi = omega (arith, ints, clamps, u) in
-    record { narrow = rw (s, t) at h.narrow; above = h.above; below = h.below }
+    record { narrow = rw (s, t) at h.narrow; slow = λ z i. rw (s, t) at (h.slow z i); above = h.above; below = h.below }

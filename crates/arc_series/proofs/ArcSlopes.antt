@@ -110,16 +110,16 @@ product_climbs e i j (between p q) n o h (slow {a = a} {b = b} {c = c} {d = d} k
 step_nonneg : (x y e : Fraction) → x ≤F y → y ≤F plus x e → zero_F ≤F e
 step_nonneg x y e h k = le_by (x ∷ y ∷ e ∷ []) ((at 0 ≼ at 1) ∷ (at 1 ≼ at 0 ⊕ at 2) ∷ []) (lit (pos 0)) (at 2) (known 0 ⊞ known 1) refl (h, (k, tt))
 
-near_climbs : (x y e : Fraction) → InHalf x → InHalf y → x ≤F y → y ≤F plus x e → Climbs e (arc_near 40 x) (arc_near 40 y)
+pub near_climbs : (x y e : Fraction) → InHalf x → InHalf y → x ≤F y → y ≤F plus x e → Climbs e (arc_near 40 x) (arc_near 40 y)
 unfolding arc_near
 near_climbs x y e w v h k = product_climbs e _ _ (radian_at 40) (step_nonneg x y e h k) (degrees_proper 40) (radian_near 40 (omega arith)) (series_slow x y e w v h k)
 
 -- ---- sums and opposites
-sums_climb : (k e : Fraction) {i j : Interval} → Climbs e i j → Climbs e (sum (only k) i) (sum (only k) j)
+pub sums_climb : (k e : Fraction) {i j : Interval} → Climbs e i j → Climbs e (sum (only k) i) (sum (only k) j)
 unfolding sum
 sums_climb k e (climbing {b = b} {c = c} h) = climbing (le_by (k ∷ b ∷ c ∷ times rate e ∷ []) ((at 2 ≼ at 1 ⊕ at 3) ∷ []) (at 0 ⊕ at 2) (at 0 ⊕ at 1 ⊕ at 3) (known 0) refl (h, tt))
 
-opposites_climb : (e : Fraction) {i j : Interval} → Climbs e i j → Climbs e (negative j) (negative i)
+pub opposites_climb : (e : Fraction) {i j : Interval} → Climbs e i j → Climbs e (negative j) (negative i)
 unfolding negative
 opposites_climb e (climbing {b = b} {c = c} h) = climbing (le_by (b ∷ c ∷ times rate e ∷ []) ((at 1 ≼ at 0 ⊕ at 2) ∷ []) (minus (at 0)) (minus (at 1) ⊕ at 2) (known 0) refl (h, tt))
 
@@ -147,7 +147,7 @@ turned_step x y e w v h k =
     (natural 9 ⊠ known 1 ⊞ known 0 ⊞ natural 4 ⊠ known 0 ⊠ known 3 ⊞ natural 6 ⊠ known 0 ⊠ known 2 ⊠ known 4 ⊞ multiple 5 (lit (pos 18) ⊗ at 4 ⊖ lit (pos 9)) ⊞ multiple 6 (lit (pos 9) ⊖ lit (pos 18) ⊗ at 3)) refl
     (h, (k, (recip_nonneg _ p, (two_thirds x w, (two_thirds y v, (recip_one _ p, (recip_one _ q, tt)))))))
 
-turned_rises : (x y : Fraction) → half ≤F x → half ≤F y → x ≤F y → turned x ≤F turned y
+pub turned_rises : (x y : Fraction) → half ≤F x → half ≤F y → x ≤F y → turned x ≤F turned y
 turned_rises x y w v h =
     let p = sum_positive x w in
     let q = sum_positive y v in

@@ -3,6 +3,7 @@ pub mod KernelSteps
 pub mod ArcValues
 pub mod Slopes
 pub mod ArcSlopes
+pub mod ArcRates
 pub mod ArcAnchors
 pub mod ArcRanges
 pub mod ArcParts
@@ -11,3 +12,6 @@ pub mod QuotientLemmas
 pub mod PieceArcs
 pub mod HeldArcs
 pub mod ArcLemmas
+pub mod SlowArcs
+pub mod BoxQuotients
+pub mod Directions

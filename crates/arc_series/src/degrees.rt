@@ -1,13 +1,15 @@
 //! Arctangents, arcsines and arccosines of enclosures, in degrees.
 ghost use Rattle.book_model.specs.programs.Calls.{Encloses1, Encloses2};
-ghost use Rattle.std.specs.Prelude.{◌≡◌, IsTrue, false, neg_ℤ};
+ghost use Rattle.std.specs.Prelude.{◌≡◌, ◌≤◌, ◌+◌, ◌*◌, ◌^◌, ℕ, ℤ, pos, IsTrue, false, neg_ℤ};
 ghost use Rattle.std.specs.Int.{int_min, int_max};
 ghost use Rattle.arc_series.specs.declared.degrees.TheConstants.{HALF_TURN};
 ghost use Rattle.exact_math.specs.Interval.{Interval, everything, ◌⊆◌};
 ghost use Rattle.book_model.specs.numbers.Arcs.{all_around};
 ghost use Rattle.book_model.specs.numbers.Bounds.{is_scale};
 ghost use Rattle.book_model.specs.numbers.Expressions.{arctangent, arcsine, arccosine, arctangent_of_two};
+ghost use Rattle.book_model.specs.programs.Widths.{IsAbout, IsWithin};
 ghost use Rattle.arc_series.specs.Forms.{half_tangent_of, has_sign};
+ghost use Rattle.arc_series.specs.Widths.{IsRateFrom, slow_width};
 
 use crate::pieces::arctan_over;
 use encl_core::{Enclosure, Span};
@@ -21,6 +23,9 @@ const HALF_TURN: i128 = 12_970_366_926_827_028_480;
 /// both ends of each part. Source: Reingold and Dershowitz, Calendrical Calculations, chapter 14.
 pub fn arctan_deg<E: Enclosure>(x: E) -> E
     ensures encloses { Encloses1 E.shown E.BITS arctangent x result }
+    ensures slow { (low : ℤ) (p s w : ℕ) → E.BITS ≡ 56 → IsRateFrom s p
+        → IsWithin low (neg_ℤ (pos p)) w (E.shown x)
+        → IsAbout (91 * 2 ^ 32) (slow_width s w) (E.shown result) }
 {
     match x.span() {
         Some(span) => match arctan_over(span) {
@@ -80,6 +85,9 @@ fn kept_around<E: Enclosure>(x: E) -> E
     ensures holds { (i : Interval) → i ⊆ E.shown x → i ⊆ all_around → i ⊆ E.shown result }
     ensures all { everything ⊆ E.shown x → all_around ⊆ E.shown result }
     ensures inside { IsTrue (is_scale E.BITS) → E.shown result ⊆ all_around }
+    ensures narrow { (high : ℤ) (v : ℕ) → E.BITS ≡ 56 → IsWithin (pos (90 * 2 ^ 32)) high v
+        (E.shown x) → IsWithin (pos (90 * 2 ^ 32)) (pos (180 * 2 ^ 32)) (v + 2 ^ 9)
+        (E.shown result) }
 {
     match x.span() {
         Some(span) => E::from_span(Span {
@@ -91,12 +99,17 @@ fn kept_around<E: Enclosure>(x: E) -> E
 }
 
 /// The angle in degrees of the direction that goes y up and x to the right: 90 - arctan (x / y) where y is positive,
-/// -90 - arctan (x / y) where it is negative. It lies in -180..180, and is all of this where y has no sure sign. Source:
-/// Reingold and Dershowitz, Calendrical Calculations, chapter 14.
+/// -90 - arctan (x / y) where it is negative. It lies in -180..180, and is all of this where y has no sure sign. Of x from -2 to
+/// -1/2 and y from 1/16 to 2 it is at most 230 times as wide as the wider of them, and 2⁻⁴⁴ degrees. Source: Reingold and
+/// Dershowitz, Calendrical Calculations, chapter 14.
 pub fn arctan2_deg<E: Enclosure>(y: E, x: E) -> E
     ensures encloses { Encloses2 E.shown E.BITS arctangent_of_two y x result }
     ensures inside { IsTrue (is_scale E.BITS) → E.shown result ⊆ all_around }
     ensures unsure { has_sign (E.shown y) ≡ false → all_around ⊆ E.shown result }
+    ensures measured { (v : ℕ) → E.BITS ≡ 56 → v ≤ 2 ^ 44
+        → IsWithin (pos (2 ^ 28)) (pos (2 * 2 ^ 32)) v (E.shown y)
+        → IsWithin (neg_ℤ (pos (2 * 2 ^ 32))) (neg_ℤ (pos (2 ^ 31))) v (E.shown x)
+        → IsWithin (pos (90 * 2 ^ 32)) (pos (180 * 2 ^ 32)) (230 * v + 2 ^ 20) (E.shown result) }
 {
     let Some(span) = y.span() else {
         return around();
