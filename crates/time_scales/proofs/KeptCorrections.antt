@@ -4,12 +4,11 @@ use Rattle.std.proofs.Common.{arith}
 use Rattle.std.proofs.lemmas.Int.{ints}
 use Rattle.exact_math.specs.Interval.{Interval, ◌⊆◌}
 use Rattle.book_model.specs.numbers.Bounds.{Bound, bounded, IsNarrow, spanned_bound, limits_of}
-use Rattle.book_model.specs.programs.Widths.{Measured}
+use Rattle.book_model.specs.programs.Widths.{Measured, IsCorrection}
 use Rattle.book_model.proofs.Implying.{limits_within}
 use Rattle.width_laws.proofs.Measuring.{looser, narrower}
 use Rattle.encl_core.specs.declared.span.Span.{Span}
 use Rattle.encl_core.specs.Kept.{shown_span, IsKeptAbout}
-use Rattle.time_scales.specs.Widths.{IsCorrection}
 use Rattle.book_model.specs.sky.Correction.{is_between}
 use Rattle.book_model.specs.sky.Time.{correction_of_year}
 use Rattle.book_model.specs.programs.Programs.{AtMost, answer_at_most, void_at_most}

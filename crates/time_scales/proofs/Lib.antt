@@ -12,3 +12,4 @@ pub mod KeptCorrections
 pub mod TableWidths
 pub mod HornerWidths
 pub mod Measured
+pub mod ZoneWidths

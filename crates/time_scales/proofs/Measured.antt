@@ -2,24 +2,27 @@
 use Rattle.std.specs.Prelude.{◌≡◌, ℕ, ◌+◌, ◌*◌, ◌/◌, ◌^◌, ◌≤◌, ℤ, pos, neg_ℤ, ◌-ℤ◌, ◌*ℤ◌, ◌≤ℤ◌, true, Result, Ok, Err, IfOk, IfErr, refl, if◌then◌else◌, ◌==◌}
 use Rattle.std.proofs.Common.{arith}
 use Rattle.std.proofs.lemmas.Int.{ints}
-use Rattle.exact_math.specs.Interval.{Interval, IsProper, between, ◌⊆◌}
+use Rattle.exact_math.specs.Interval.{Interval, everything, IsProper, between, ◌⊆◌}
 use Rattle.exact_math.proofs.Intervals.{within_refl}
 use Rattle.book_model.specs.declared.site.Site.TheVariants.{Year}
 use Rattle.book_model.specs.declared.fail.Fail.{Fail}
 use Rattle.book_model.specs.declared.fail.Fail.TheVariants.{Undecided as undecided_at, Void}
 use Rattle.book_model.specs.declared.time_tables.TheConstants.{SIDEREAL_TIME}
-use Rattle.book_model.specs.numbers.Bounds.{Bound, bounded, Reach, bound_of, implies, limits_at, limits_of, sum_bound, difference_bound, scaled_bound, constant_bound, product_bound, power_bound}
+use Rattle.book_model.specs.numbers.Bounds.{Bound, bounded, Reach, bound_of, implies, limits_at, limits_of, IsNarrow, sum_bound, difference_bound, scaled_bound, constant_bound, product_bound, power_bound}
 use Rattle.book_model.specs.numbers.Expressions.{Expression, World, value, argument, add, subtract}
 use Rattle.book_model.specs.numbers.Polynomials.{cubic_of}
 use Rattle.book_model.specs.numbers.Ranges.{IsInTable}
 use Rattle.book_model.specs.numbers.Relations.{Within, Lies, Narrow}
 use Rattle.book_model.specs.programs.Leading.{Leads, leaf, at_56}
-use Rattle.book_model.specs.programs.Widths.{IsAbout, IsClose, IsMoment, Measures}
+use Rattle.book_model.specs.programs.Widths.{IsAbout, IsClose, IsMoment, Measures, IsCorrection, IsDated, IsNearlyDated, AreCenturies, IsWithin}
 use Rattle.book_model.specs.sky.Time.{correction_at, in_centuries}
 use Rattle.book_model.proofs.Leads.{leads_leaf}
+use Rattle.width_laws.specs.declared.table.TheConstants.{CORRECTION}
+use Rattle.width_laws.specs.Table.{greatest_of}
 use Rattle.width_laws.proofs.Measuring.{measured, measured_argument, sloped, looser, drawn}
 use Rattle.width_laws.proofs.Closing.{inner_apart, close_ends}
-use Rattle.time_scales.specs.Widths.{HasYearEnds, IsCorrection, IsDated, IsNearlyDated, AreCenturies}
+use Rattle.encl_core.specs.Kept.{IsRecentlyDated}
+use Rattle.time_scales.specs.Widths.{HasYearEnds, IsRecent, IsLater, IsNearlyRecent, AreRecentCenturies}
 use Rattle.time_scales.proofs.Moments.{corrected_in_table}
 
 -- ---- the year
@@ -51,8 +54,8 @@ pub moment_in_table : {E T : Type 0} (R : World → Expression → T → Type 0)
 moment_in_table R shown p t r h = found_in_table shown p t r (h (moment_world (shown t) (p t)) (argument 0) (within_moment shown p t))
 
 -- ---- a moment of the table and its correction
--- the correction of a year is narrow enough
-pub correction_looser : {E : Type 0} (shown : E → Interval) (r : Result E Fail) → Measures (λ y. IsCorrection (2 ^ 14) (shown y)) r → Measures (λ y. IsCorrection (2 ^ 17) (shown y)) r
+-- the correction of a year is narrower than the table says
+pub correction_looser : {E : Type 0} (shown : E → Interval) (r : Result E Fail) → Measures (λ y. IsCorrection (2 ^ 14) (shown y)) r → Measures (λ y. IsCorrection (greatest_of CORRECTION 0) (shown y)) r
 correction_looser shown (Ok y) h = looser _ _ _ _ (2 ^ 14) (2 ^ 17) (shown y) (omega (arith, ints)) (omega (arith, ints)) (omega arith) h
 correction_looser shown (Err f) h = h
 
@@ -99,6 +102,58 @@ pub centuries_within : {E : Type 0} (shown : E → Interval) (n v : ℕ) (t c : 
 centuries_within shown n v t c p b h f =
     measured shown n (v + 2 ^ 17) days_bounds (in_centuries (argument 0)) _ _ 30102988 1000 (v / 36525 + 2 ^ 12) c p centuries_reach (omega arith)
     (f (record { width = v + 2 ^ 17; bounds = days_bounds }) (argument 0) (measured_argument shown (limits_of n) _ _ (v + 2 ^ 17) 0 t h))
+
+-- ---- recent moments
+pub recent_moment : (v : ℕ) (i : Interval) → IsRecent v i → IsMoment v i
+recent_moment v i h = looser _ _ _ _ v v i (omega (arith, ints)) (omega (arith, ints)) (omega arith) h
+
+pub later_moment : (v : ℕ) (i : Interval) → IsLater v i → IsMoment v i
+later_moment v i h = looser _ _ _ _ v v i (omega (arith, ints)) (omega (arith, ints)) (omega arith) h
+
+-- a moment of the table that lies from some day on lies from that day to the last year of the table
+dated_from : (low high : ℤ) (v : ℕ) (i : Interval) → IsInTable i → IsWithin low high v i → IsWithin low (pos (748748 * 2 ^ 32)) v i
+unfolding IsNarrow
+dated_from low high v everything b h = absurd h.kept
+dated_from low high v (between x y) b h = record { kept = record { ordered = h.kept.ordered; above = h.kept.above; below = (drawn _ _ _ _ v (between x y) b h).kept.below; close = h.kept.close } }
+
+-- such a moment and a correction
+abbrev bounds_from : (low : ℕ) → ℕ → Bound
+bounds_from low k = if k == 0 then bounded (pos (low * 2 ^ 32)) (pos (748748 * 2 ^ 32)) (2 ^ 40) 0 else bounded (neg_ℤ (pos (2 ^ 30))) (pos (2 ^ 30)) 0 (2 ^ 17)
+
+recent_sum_reach : implies (bound_of (limits_at 56) (bounds_from 600000) (add (argument 0) (argument 1))) (bounded (pos (599999 * 2 ^ 32)) (pos (748749 * 2 ^ 32)) (2 ^ 40) (2 ^ 17)) ≡ true
+unfolding implies bound_of sum_bound
+recent_sum_reach = refl
+
+later_difference_reach : implies (bound_of (limits_at 56) (bounds_from 600001) (subtract (argument 0) (argument 1))) (bounded (pos (600000 * 2 ^ 32)) (pos (748749 * 2 ^ 32)) (2 ^ 40) (2 ^ 17)) ≡ true
+unfolding implies bound_of difference_bound
+later_difference_reach = refl
+
+pub recent_sum_within : {E : Type 0} (shown : E → Interval) (n v : ℕ) (t c d : E) → n ≡ 56 → IsInTable (shown t) → IsRecent v (shown t) → IsCorrection (2 ^ 17) (shown c)
+    → ((r : Reach) (x y : Expression) → Narrow shown (limits_of n) r x t → Narrow shown (limits_of n) r y c → Narrow shown (limits_of n) r (add x y) d) → IsNearlyRecent (v + 2 ^ 17) (shown d)
+recent_sum_within shown n v t c d p i h k f =
+    measured shown n v (bounds_from 600000) (add (argument 0) (argument 1)) _ _ (2 ^ 40) (2 ^ 17) (v + 2 ^ 17) d p recent_sum_reach (omega arith)
+    (f (record { width = v; bounds = bounds_from 600000 }) (argument 0) (argument 1) (sloped shown (limits_of n) v v (bounds_from 600000) 0 _ _ (2 ^ 40) 0 t refl (omega arith) (dated_from _ _ v (shown t) i h))
+    (sloped shown (limits_of n) v (2 ^ 17) (bounds_from 600000) 1 _ _ 0 (2 ^ 17) c refl (omega arith) k))
+
+pub later_difference_within : {E : Type 0} (shown : E → Interval) (n v : ℕ) (t c d : E) → n ≡ 56 → IsInTable (shown t) → IsLater v (shown t) → IsCorrection (2 ^ 17) (shown c)
+    → ((r : Reach) (x y : Expression) → Narrow shown (limits_of n) r x t → Narrow shown (limits_of n) r y c → Narrow shown (limits_of n) r (subtract x y) d) → IsRecentlyDated (v + 2 ^ 17) (shown d)
+later_difference_within shown n v t c d p i h k f =
+    measured shown n v (bounds_from 600001) (subtract (argument 0) (argument 1)) _ _ (2 ^ 40) (2 ^ 17) (v + 2 ^ 17) d p later_difference_reach (omega arith)
+    (f (record { width = v; bounds = bounds_from 600001 }) (argument 0) (argument 1) (sloped shown (limits_of n) v v (bounds_from 600001) 0 _ _ (2 ^ 40) 0 t refl (omega arith) (dated_from _ _ v (shown t) i h))
+    (sloped shown (limits_of n) v (2 ^ 17) (bounds_from 600001) 1 _ _ 0 (2 ^ 17) c refl (omega arith) k))
+
+abbrev recent_days : ℕ → Bound
+recent_days k = bounded (pos (599999 * 2 ^ 32)) (pos (748749 * 2 ^ 32)) (2 ^ 40) 0
+
+recent_centuries_reach : implies (bound_of (limits_at 56) recent_days (in_centuries (argument 0))) (bounded (neg_ℤ (pos (4 * 2 ^ 32))) (pos (2 ^ 32)) 30102988 1000) ≡ true
+unfolding implies bound_of difference_bound scaled_bound constant_bound in_centuries
+recent_centuries_reach = refl
+
+pub recent_centuries_within : {E : Type 0} (shown : E → Interval) (n v : ℕ) (t c : E) → n ≡ 56 → v ≤ 2 ^ 44 → IsNearlyRecent (v + 2 ^ 17) (shown t)
+    → ((r : Reach) (x : Expression) → Narrow shown (limits_of n) r x t → Narrow shown (limits_of n) r (in_centuries x) c) → AreRecentCenturies (v / 36525 + 2 ^ 12) (shown c)
+recent_centuries_within shown n v t c p b h f =
+    measured shown n (v + 2 ^ 17) recent_days (in_centuries (argument 0)) _ _ 30102988 1000 (v / 36525 + 2 ^ 12) c p recent_centuries_reach (omega arith)
+    (f (record { width = v + 2 ^ 17; bounds = recent_days }) (argument 0) (measured_argument shown (limits_of n) _ _ (v + 2 ^ 17) 0 t h))
 
 -- ---- sidereal time of a moment of the table
 sidereal_reach : implies (bound_of (limits_at 56) (λ k. bounded (neg_ℤ (pos (182621 * 2 ^ 32))) (pos (748748 * 2 ^ 32)) (2 ^ 40) 0) (cubic_of SIDEREAL_TIME (in_centuries (argument 0)))) (bounded (neg_ℤ (pos (2 ^ 61))) (pos (2 ^ 61)) (362 * 2 ^ 40) (2 ^ 37)) ≡ true

@@ -12,7 +12,7 @@ use Rattle.time_scales.specs.Corrections.{row_of, computed_by, computed_of, IsIn
 use Rattle.time_scales.specs.declared.dynamical_time.Row.{Row}
 use Rattle.time_scales.specs.declared.dynamical_time.Row.TheVariants.{Ancient, From1800, From1900, From1987, From2006}
 use Rattle.time_scales.specs.Horner.{horner_to, horner_of}
-use Rattle.time_scales.specs.Widths.{IsCorrection}
+use Rattle.book_model.specs.programs.Widths.{IsCorrection}
 use Rattle.time_scales.proofs.CorrectionWidths.{no_bound, holds_from, holds_at}
 
 -- the correction of a year lies within a fourth of a day of 0, and is at most 2^-50 days wide

@@ -1,6 +1,6 @@
 //! Dynamical time, which flows evenly: what it is ahead of universal time in a year, and its centuries.
 ghost use Rattle.book_model.specs.programs.Calls.{Encloses, Encloses1, Follows, Follows1, Holds, Narrows};
-ghost use Rattle.book_model.specs.programs.Widths.{IsMoment, Measured, Measured1};
+ghost use Rattle.book_model.specs.programs.Widths.{IsMoment, Measured, Measured1, IsCorrection, IsNearlyDated, AreCenturies};
 ghost use Rattle.std.specs.Prelude.{◌≡◌, ◌≤◌, ◌+◌, ◌/◌, ◌^◌, ℕ, ℤ, pos, ◌≤ℤ◌, length, IfOk, IfErr};
 ghost use Rattle.book_model.specs.numbers.Bounds.{Reach, limits_of, IsNarrow};
 ghost use Rattle.book_model.specs.sky.Correction.{is_between as lies_between, seconds_of};
@@ -9,11 +9,14 @@ ghost use Rattle.book_model.specs.programs.Leading.{next_turn};
 ghost use Rattle.book_model.specs.numbers.Ranges.{IsInTable};
 ghost use Rattle.book_model.specs.numbers.Relations.{Narrow};
 ghost use Rattle.book_model.specs.sky.Time.{hundreds_of, centuries_to_july, correction_of_year, correction_at, dynamical_of, from_dynamical_of, in_centuries, centuries_of};
+ghost use Rattle.width_laws.specs.declared.table.TheConstants.{CORRECTION, CENTURIES};
+ghost use Rattle.width_laws.specs.Table.{greatest_of};
 ghost use Rattle.time_scales.specs.Steps.{IsYearOpenFor};
-ghost use Rattle.time_scales.specs.Widths.{IsCorrection, IsNearlyDated, AreCenturies};
+ghost use Rattle.encl_core.specs.Kept.{IsRecentlyDated};
+ghost use Rattle.time_scales.specs.Widths.{IsRecent, IsLater, IsNearlyRecent, AreRecentCenturies};
 ghost use Rattle.time_scales.specs.Corrections.{row_of, IsInRow, correction_by, computed_by, computed_of, correction_bound};
 
-use crate::calendar;
+use crate::gregorian;
 use crate::moment::year;
 use crate::polynomial::{at_fraction, at_whole};
 use book_model::{
@@ -76,7 +79,7 @@ fn july(year: i64) -> Frac
     ensures value { fraction_of result ≡ centuries_to_july year }
 {
     Frac::new(
-        i128::from(calendar::first_of_july(year) - LAST_DAY_OF_1899),
+        i128::from(gregorian::first_of_july(year) - LAST_DAY_OF_1899),
         36_525,
     )
     .unwrap()
@@ -135,19 +138,15 @@ fn kept_correction<E: Enclosure>(year: i64, trail: &mut Trail) -> Result<E, Fail
     ensures void { IfErr result (λ f. f ≡ Fail.Void Site.Year) }
     ensures counted { trail.new.count ≡ trail.old.count }
 {
-    match correction::<E>(year, trail) {
-        Ok(days) => {
-            trail.keep_correction(year, E::BITS, days.span());
-            Ok(days)
-        }
-        Err(fail) => Err(fail),
-    }
+    let days = correction::<E>(year, trail)?;
+    trail.keep_correction(year, E::BITS, days.span());
+    Ok(days)
 }
 
 /// The correction of a year, evaluated where the trail doesn't keep it.
 fn correction_once<E: Enclosure>(year: i64, trail: &mut Trail) -> Result<E, Fail>
     ensures leads { Follows E.shown (correction_of_year year) trail.old.count trail.new.count result }
-    ensures measured { Measured E.BITS E.shown (IsCorrection (2 ^ 17)) result }
+    ensures measured { Measured E.BITS E.shown (IsCorrection (greatest_of CORRECTION 0)) result }
     ensures void { IfErr result (λ f. f ≡ Fail.Void Site.Year) }
     ensures counted { trail.new.count ≡ trail.old.count }
 {
@@ -162,14 +161,12 @@ fn correction_once<E: Enclosure>(year: i64, trail: &mut Trail) -> Result<E, Fail
 fn correction_of_moment<E: Enclosure>(t: E, trail: &mut Trail) -> Result<E, Fail>
     ensures leads { Follows1 E.shown correction_at t trail.old.count trail.new.count result }
     ensures in_table { IfOk result (λ e. IsInTable (E.shown t)) }
-    ensures measured { Measured1 E.BITS E.shown (2 ^ 44) IsMoment (λ v. IsCorrection (2 ^ 17)) t result }
+    ensures measured { Measured1 E.BITS E.shown (2 ^ 44) IsMoment (λ v. IsCorrection (greatest_of CORRECTION 0)) t result }
     ensures open { IfErr result (IsYearOpenFor (E.shown t)) }
     ensures counted { trail.new.count ≡ next_turn trail.old.count }
 {
-    match year(t, trail) {
-        Ok(year) => correction_once::<E>(year, trail),
-        Err(fail) => Err(fail),
-    }
+    let year = year(t, trail)?;
+    correction_once::<E>(year, trail)
 }
 
 /// The dynamical time of a moment of universal time, by the correction of that moment's year.
@@ -178,27 +175,26 @@ pub fn dynamical<E: Enclosure>(t: E, trail: &mut Trail) -> Result<E, Fail>
     ensures leads { Follows1 E.shown dynamical_of t trail.old.count trail.new.count result }
     ensures in_table { IfOk result (λ e. IsInTable (E.shown t)) }
     ensures measured { Measured1 E.BITS E.shown (2 ^ 44) IsMoment (λ v. IsNearlyDated (v + 2 ^ 17)) t result }
+    ensures recent { Measured1 E.BITS E.shown (2 ^ 44) IsRecent (λ v. IsNearlyRecent (v + 2 ^ 17)) t result }
     ensures open { IfErr result (IsYearOpenFor (E.shown t)) }
     ensures counted { trail.new.count ≡ next_turn trail.old.count }
 {
-    match correction_of_moment(t, trail) {
-        Ok(correction) => Ok(t.add(correction)),
-        Err(fail) => Err(fail),
-    }
+    let correction = correction_of_moment(t, trail)?;
+    Ok(t.add(correction))
 }
 
 /// The universal time of a moment of dynamical time, by the correction of the year in which that moment lies.
 #[tactic(auto, using(book_model::proofs::Leads::leading, crate::proofs::Measured::measuring), unfolding(book_model::specs::sky::Time::from_dynamical_of))]
 pub fn from_dynamical<E: Enclosure>(t: E, trail: &mut Trail) -> Result<E, Fail>
     ensures leads { Follows1 E.shown from_dynamical_of t trail.old.count trail.new.count result }
-    ensures measured { Measured1 E.BITS E.shown (2 ^ 44) IsMoment (λ v. IsNearlyDated (v + 2 ^ 17)) t result }
+    ensures measured { Measured1 E.BITS E.shown (2 ^ 44) IsMoment (λ v. IsNearlyDated (v + greatest_of CORRECTION 0)) t result }
+    ensures recent { Measured1 E.BITS E.shown (2 ^ 44) IsLater
+        (λ v. IsRecentlyDated (v + greatest_of CORRECTION 0)) t result }
     ensures open { IfErr result (IsYearOpenFor (E.shown t)) }
     ensures counted { trail.new.count ≡ next_turn trail.old.count }
 {
-    match correction_of_moment(t, trail) {
-        Ok(correction) => Ok(t.sub(correction)),
-        Err(fail) => Err(fail),
-    }
+    let correction = correction_of_moment(t, trail)?;
+    Ok(t.sub(correction))
 }
 
 /// A moment, in centuries from noon of 1 January 2000.
@@ -215,12 +211,12 @@ pub(crate) fn to_centuries<E: Enclosure>(t: E) -> E
 pub fn centuries<E: Enclosure>(t: E, trail: &mut Trail) -> Result<E, Fail>
     ensures leads { Follows1 E.shown centuries_of t trail.old.count trail.new.count result }
     ensures in_table { IfOk result (λ e. IsInTable (E.shown t)) }
-    ensures measured { Measured1 E.BITS E.shown (2 ^ 44) IsMoment (λ v. AreCenturies (v / 36525 + 2 ^ 12)) t result }
+    ensures measured { Measured1 E.BITS E.shown (2 ^ 44) IsMoment (λ v. AreCenturies (greatest_of CENTURIES v)) t result }
+    ensures recent { Measured1 E.BITS E.shown (2 ^ 44) IsRecent
+        (λ v. AreRecentCenturies (greatest_of CENTURIES v)) t result }
     ensures open { IfErr result (IsYearOpenFor (E.shown t)) }
     ensures counted { trail.new.count ≡ next_turn trail.old.count }
 {
-    match dynamical(t, trail) {
-        Ok(moment) => Ok(to_centuries(moment)),
-        Err(fail) => Err(fail),
-    }
+    let moment = dynamical(t, trail)?;
+    Ok(to_centuries(moment))
 }

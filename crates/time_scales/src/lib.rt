@@ -10,8 +10,8 @@
 //!   formulas of the crates above.
 #![tactic(auto)]
 
-mod calendar;
 mod dynamical_time;
+mod gregorian;
 mod moment;
 mod polynomial;
 mod sidereal_time;

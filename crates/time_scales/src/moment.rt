@@ -11,7 +11,7 @@ ghost use Rattle.book_model.specs.programs.Programs.{years, cell_of, cell_at};
 ghost use Rattle.time_scales.specs.Steps.{IsOpenYear};
 ghost use Rattle.time_scales.specs.Widths.{HasYearEnds};
 
-use crate::calendar;
+use crate::gregorian;
 use book_model::{Fail, Site, Undecided};
 use encl_core::{Enclosure, Span, Trail};
 
@@ -22,7 +22,7 @@ const DAY: i128 = 72_057_594_037_927_936;
 fn year_at(moment: i128) -> i64
     ensures year { result ≡ cell_of years (at_56 moment) }
 {
-    calendar::year_of(moment.div_euclid(DAY))
+    gregorian::year_of(moment.div_euclid(DAY))
 }
 
 /// The year in which both ends fall, by the test of the run that has this number.
@@ -52,7 +52,7 @@ pub fn year_of_whole_day(day: i64, trail: &mut Trail) -> i64
     ensures counted { trail.new.count ≡ next_turn trail.old.count }
 {
     trail.step();
-    calendar::year_of(i128::from(day))
+    gregorian::year_of(i128::from(day))
 }
 
 /// The Gregorian year of a moment (R.D.): one test, at `year`. It is undecided exactly where the ends of the moment

@@ -1,6 +1,7 @@
 //! The zone of Beijing.
 ghost use Rattle.book_model.specs.programs.Calls.{Encloses, Follows1};
-ghost use Rattle.std.specs.Prelude.{◌≡◌, pos, int_lt};
+ghost use Rattle.book_model.specs.programs.Widths.{IsAbout, IsMoment, IsUpTo, Measured1};
+ghost use Rattle.std.specs.Prelude.{◌≡◌, ◌+◌, ◌*◌, ◌^◌, pos, negsuc, ◌≤ℤ◌, int_lt};
 ghost use Rattle.book_model.specs.sky.Time.{beijing_hours, zone_of_beijing, midnight_of, in_beijing_of};
 
 use book_model::{BEIJING_HOURS, Fail, HOUR, Site};
@@ -26,6 +27,7 @@ fn hours<E: Enclosure>(early: bool) -> E
 #[tactic(auto, using(book_model::proofs::Leads::leading), unfolding(book_model::specs::sky::Time::zone_of_beijing))]
 pub fn zone_beijing<E: Enclosure>(t: E, trail: &mut Trail) -> Result<E, Fail>
     ensures leads { Follows1 E.shown zone_of_beijing t trail.old.count trail.new.count result }
+    ensures measured { Measured1 E.BITS E.shown (2 ^ 44) IsMoment (λ v. IsUpTo 8 (2 ^ 8)) t result }
 {
     let early = less_step(t, E::from_int(STANDARD_TIME), Site::Zone, trail)?;
     Ok(hours::<E>(early))
@@ -42,6 +44,8 @@ fn is_early(day: i64) -> bool
 #[tactic(auto, unfolding(book_model::specs::sky::Time::midnight_of))]
 pub fn midnight<E: Enclosure>(day: i64) -> E
     ensures encloses { Encloses E.shown E.BITS (midnight_of day) result }
+    ensures measured { E.BITS ≡ 56 → negsuc 39999999 ≤ℤ day → day ≤ℤ pos 40000000
+        → IsMoment (3 * 2 ^ 8) (E.shown result) }
 {
     E::from_int(day).sub(hours::<E>(is_early(day)).mul_frac(HOUR))
 }
@@ -50,6 +54,8 @@ pub fn midnight<E: Enclosure>(day: i64) -> E
 #[tactic(auto, using(book_model::proofs::Leads::leading), unfolding(book_model::specs::sky::Time::in_beijing_of))]
 pub fn in_beijing<E: Enclosure>(t: E, trail: &mut Trail) -> Result<E, Fail>
     ensures leads { Follows1 E.shown in_beijing_of t trail.old.count trail.new.count result }
+    ensures measured { Measured1 E.BITS E.shown (2 ^ 44) IsMoment (λ v. IsAbout (2 ^ 59) (v + 3 * 2 ^ 8))
+        t result }
 {
     let hours = zone_beijing(t, trail)?;
     Ok(t.add(hours.mul_frac(HOUR)))

@@ -1,3 +1,4 @@
+use Rattle.std.proofs.lemmas.Result.{err_from_is_err_and}
 use Rattle.std.proofs.Common.{rules, SFits, w64}
 use Rattle.std.proofs.lemmas.Int.{to_z-of_z}
 use Rattle.book_model.specs.sky.Time.{correction_at, correction_of_year}
@@ -6,16 +7,15 @@ use Rattle.width_laws.proofs.Measuring.{moment_about}
 use Rattle.time_scales.proofs.Measured.{moment_in_table}
 use Rattle.time_scales.proofs.dynamical_time.correction_of_moment.Goals as goal
 
-pub returns-in-Ok-clause-in_table : goal.returns-in-Ok-clause-in_table
+pub returns-clause-in_table : goal.returns-clause-in_table
 unfolding correction_at
-returns-in-Ok-clause-in_table g c =
-    let f : SFits w64 c.in-Ok.year = search rules in
+returns-clause-in_table g c =
+    let f : SFits w64 c.in_ok-year.year = search rules in
     let k = simp to_z-of_z at c.correction_once.ensures.leads in
     moment_in_table _ g.E.Enclosure.shown g.E.Enclosure.proper c.args.t c.correction_once.result
-    (λ w x h. leads_bind_exact (λ y. correction_of_year y) (c.in-Ok.ensures.leads w x h) (k w h.deep))
+    (λ w x h. leads_bind_exact (λ y. correction_of_year y) (c.in_ok-year.ensures.leads w x h) (k w h.deep))
 
-pub returns-in-Err-clause-measured : goal.returns-in-Err-clause-measured
-returns-in-Err-clause-measured g c = λ v e b h. c.in-Err.ensures.close v b (moment_about v _ h)
-
-pub returns-in-Ok-clause-measured : goal.returns-in-Ok-clause-measured
-returns-in-Ok-clause-measured g c = λ v e b h. c.correction_once.ensures.measured e
+pub returns-in_err-year-clause-measured : goal.returns-in_err-year-clause-measured
+returns-in_err-year-clause-measured g c = λ v e b h.
+    let fails = err_from_is_err_and c.from_residual.result c.from_residual.ensures.1 in
+    rw (fails.1, fails.2) (c.in_err-year.ensures.close v b (moment_about v _ h))

@@ -3,7 +3,7 @@ use Rattle.std.specs.Int.{w128}
 use Rattle.std.proofs.lemmas.Int.{to_z-of_z, ints}
 use Rattle.book_model.specs.calendars.Gregorian.{year_of_day}
 use Rattle.time_scales.proofs.FourHundred.{year_repeats, division_is}
-use Rattle.time_scales.proofs.calendar.year_of.Goals as goal
+use Rattle.time_scales.proofs.gregorian.year_of.Goals as goal
 
 pub overflow_add-result : goal.overflow_add-result
 overflow_add-result c =

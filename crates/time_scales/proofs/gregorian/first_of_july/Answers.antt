@@ -4,7 +4,7 @@ use Rattle.std.proofs.lemmas.Int.{to_z-of_z, ints}
 use Rattle.jiff.specs.Words.{epoch_day}
 use Rattle.jiff.proofs.SpanFacts.{signed_arith}
 use Rattle.civil_core.proofs.JiffCalendar.{day_agrees}
-use Rattle.time_scales.proofs.calendar.first_of_july.Goals as goal
+use Rattle.time_scales.proofs.gregorian.first_of_july.Goals as goal
 
 pub returns : goal.returns
 returns c =

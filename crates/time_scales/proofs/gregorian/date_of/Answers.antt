@@ -2,7 +2,7 @@ use Rattle.std.proofs.Common.{arith, pos, ◌-ℤ◌, FitsSigned, w64, ◌∙◌
 use Rattle.std.proofs.lemmas.Int.{to_z-of_z}
 use Rattle.jiff.proofs.SpanFacts.{signed_arith, date_add-days, can_add-days}
 use Rattle.civil_core.proofs.JiffCalendar.{day_one}
-use Rattle.time_scales.proofs.calendar.date_of.Goals as goal
+use Rattle.time_scales.proofs.gregorian.date_of.Goals as goal
 
 pub unwrap-requires : goal.unwrap-requires
 unwrap-requires c =
