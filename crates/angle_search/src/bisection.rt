@@ -1,6 +1,10 @@
 //! Bisection: the half is kept in which an angle is passed, until the ends are near.
+ghost use Rattle.std.specs.Prelude.{◌≡◌, ◌≤◌, ◌+◌, ◌*◌, ◌^◌, ℕ, IfErr};
 ghost use Rattle.book_model.specs.programs.Calls.{Decides2, Encloses2, Follows2, Follows3};
+ghost use Rattle.book_model.specs.programs.Widths.{IsAbout, IsMoment, IsUpTo, IsClose, Measures};
 ghost use Rattle.book_model.specs.programs.Bisection as spec;
+ghost use Rattle.width_laws.specs.declared.table.TheConstants.{BISECTION};
+ghost use Rattle.width_laws.specs.Table.{greatest_of};
 
 use crate::Angular;
 use book_model::{Fail, HALF, HUNDRED_THOUSANDTH, Site};
@@ -25,6 +29,8 @@ fn middle<E: Enclosure>(low: E, high: E) -> E
 fn are_near<E: Enclosure>(low: E, high: E, trail: &mut Trail) -> Result<bool, Fail>
     ensures leads { Decides2 E.shown spec.are_near_of low high trail.old.count trail.new.count
         result }
+    ensures close { (v : ℕ) → E.BITS ≡ 56 → v + v + 2 ^ 8 ≤ 2 ^ 40 → IsMoment v (E.shown low)
+        → IsMoment v (E.shown high) → IfErr result IsClose }
 {
     less_step(
         high.sub(low),
@@ -39,6 +45,9 @@ fn are_near<E: Enclosure>(low: E, high: E, trail: &mut Trail) -> Result<bool, Fa
 fn angle_past<E: Enclosure>(angle: E, target: E, trail: &mut Trail) -> Result<E, Fail>
     ensures leads { Follows2 E.shown spec.angle_past_of angle target trail.old.count trail.new.count
         result }
+    ensures measured { (v u : ℕ) → E.BITS ≡ 56 → v + u ≤ 2 ^ 40
+        → IsAbout (2 ^ 58) v (E.shown angle) → IsAbout (2 ^ 58) u (E.shown target)
+        → Measures (λ p. IsUpTo 360 (v + u) (E.shown p)) result }
 {
     wrap_step(angle.sub(target), 360, Site::Bisect, trail)
 }
@@ -48,6 +57,8 @@ fn angle_past<E: Enclosure>(angle: E, target: E, trail: &mut Trail) -> Result<E,
 fn has_passed<E: Enclosure>(angle: E, target: E, trail: &mut Trail) -> Result<bool, Fail>
     ensures leads { Decides2 E.shown spec.has_passed_of angle target trail.old.count trail.new.count
         result }
+    ensures close { (v u : ℕ) → E.BITS ≡ 56 → v + u ≤ 2 ^ 40 → IsAbout (2 ^ 58) v (E.shown angle)
+        → IsAbout (2 ^ 58) u (E.shown target) → IfErr result IsClose }
 {
     let past = angle_past(angle, target, trail)?;
     less_step(past, E::from_int(HALF_CIRCLE), Site::Bisect, trail)
@@ -63,13 +74,16 @@ fn has_passed_at<E: Enclosure, F: Angular<E>>(
 ) -> Result<bool, Fail>
     ensures leads { Decides2 E.shown (spec.has_passed_at (F.angle_of f.now)) target x
         trail.old.count trail.new.count result }
+    ensures close { (v u : ℕ) → E.BITS ≡ 56 → v ≤ 3 * 2 ^ 37 → F.spread v + u ≤ 2 ^ 40
+        → IsMoment v (E.shown x) → IsAbout (2 ^ 58) u (E.shown target) → IfErr result IsClose }
 {
     let angle = f.at(x, trail)?;
     has_passed(angle, target, trail)
 }
 
 /// Bisection by so many turns at most. It is void at `bisect-end` where the ends aren't near then, and fails where the function
-/// does.
+/// does. With `m` for the greatest width of all middles, the widths that the turns meet need not be followed: each
+/// middle is at most two units wider than the wider end.
 #[tactic(auto, using(book_model::proofs::Leads::leading, crate::proofs::Turns::turning))]
 fn bisected<E: Enclosure, F: Angular<E>>(
     more: u32,
@@ -81,6 +95,9 @@ fn bisected<E: Enclosure, F: Angular<E>>(
 ) -> Result<E, Fail>
     ensures leads { Follows3 E.shown (spec.bisected_of more (F.angle_of f.now)) target low high
         trail.old.count trail.new.count result }
+    ensures measured { (v m u : ℕ) → E.BITS ≡ 56 → v + more * 2 ^ 9 ≤ m → m ≤ 2 ^ 38
+        → F.spread m + u ≤ 2 ^ 40 → IsAbout (2 ^ 58) u (E.shown target) → IsMoment v (E.shown low)
+        → IsMoment v (E.shown high) → Measures (λ x. IsMoment (m + 2 ^ 9) (E.shown x)) result }
 {
     if are_near(low, high, trail)? {
         return Ok(middle(low, high));
@@ -99,7 +116,8 @@ fn bisected<E: Enclosure, F: Angular<E>>(
 /// The number between `low` and `high` at which an angle passes `y`, in degrees, by bisection until the ends are less than a
 /// hundred-thousandth apart: the middle of the last ends, and not the number to full precision (Reingold and Dershowitz,
 /// Calendrical Calculations, chapter 1). Each of 64 turns at most makes one test at `bisect-end`, those of the angle, and two at
-/// `bisect`; where more turns would be made it is void at `bisect-end`.
+/// `bisect`; where more turns would be made it is void at `bisect-end`. Of ends that are moments it is at most 2⁻⁴⁰
+/// wider than the wider of them.
 #[tactic(auto, unfolding(book_model::specs::programs::Bisection::invert_of))]
 pub fn invert_angular<E: Enclosure, F: Angular<E>>(
     f: &F,
@@ -110,6 +128,9 @@ pub fn invert_angular<E: Enclosure, F: Angular<E>>(
 ) -> Result<E, Fail>
     ensures leads { Follows3 E.shown (spec.invert_of (F.angle_of f.now)) y low high trail.old.count
         trail.new.count result }
+    ensures measured { (v u : ℕ) → E.BITS ≡ 56 → v ≤ 2 ^ 37 → F.spread (v + 2 ^ 15) + u ≤ 2 ^ 40
+        → IsAbout (2 ^ 58) u (E.shown y) → IsMoment v (E.shown low) → IsMoment v (E.shown high)
+        → Measures (λ x. IsMoment (greatest_of BISECTION v) (E.shown x)) result }
 {
     bisected(TURNS, f, y, low, high, trail)
 }
