@@ -1,4 +1,5 @@
--- How wide a new moon is at the scale 2^-56: its parts by the sizes of their coefficients, which hold at each time within 26 centuries.
+-- How wide a new moon is at the scale 2^-56: its parts by the sizes of their coefficients, which hold at each time within 26 centuries;
+-- and that one within 3 centuries is recent.
 use Rattle.std.specs.Prelude.{◌≡◌, ℕ, zero, suc, ◌+◌, ◌-◌, ◌*◌, ◌^◌, ◌≤◌, Bool, true, false, ◌&&◌, nat_le, unsigned_abs, ℤ, pos, negsuc, neg_ℤ, ◌≤ℤ◌, List, length, slice_index_or, refl, if◌then◌else◌, ◌==◌, Result, Ok, Err}
 use Rattle.std.proofs.Common.{arith}
 use Rattle.std.proofs.lemmas.Int.{ints}
@@ -24,10 +25,10 @@ use Rattle.width_laws.specs.Sizes.{HasSize}
 use Rattle.width_laws.proofs.Covering.{IsCovered, wider_covered, scaled_covered, within_covered}
 use Rattle.width_laws.proofs.Measuring.{measured, sloped, looser}
 use Rattle.width_laws.proofs.WaveCovers.{constant_covered, constant_sine_covered, terms_covered}
-use Rattle.time_scales.specs.Widths.{IsNearlyDated}
 use Rattle.time_scales.specs.Horner.{horner_size, horner_width, horner_fits}
+use Rattle.time_scales.specs.Widths.{IsLater}
 use Rattle.new_moons.specs.Angles.{KeepAngles}
-use Rattle.new_moons.specs.Widths.{IsNearTime, AreNearAngles}
+use Rattle.new_moons.specs.Widths.{IsNearTime, IsRecentTime, IsRecentMean, AreNearAngles}
 use Rattle.new_moons.specs.declared.angles.Angles.{Angles}
 
 three : (p q r : Bool) → (p && (q && r)) ≡ true → (p ≡ true) × (q ≡ true) × (r ≡ true)
@@ -36,36 +37,40 @@ three true true false e = absurd (cc)
 three true false r e = absurd (cc)
 three false q r e = absurd (cc)
 
--- ---- polynomials within 26 centuries
-unfoldable pub is_small_polynomial : List Frac → (size width : ℕ) → Bool
-is_small_polynomial cs S u = horner_fits cs 26 (length cs) && (nat_le (horner_size cs 26 (length cs)) S && nat_le (horner_width 26 (length cs)) u)
+-- ---- polynomials within some centuries of 2000
+unfoldable pub is_small_polynomial : List Frac → (F size width : ℕ) → Bool
+is_small_polynomial cs F S u = horner_fits cs F (length cs) && (nat_le (horner_size cs F (length cs)) S && nat_le (horner_width F (length cs)) u)
 
-pub polynomial_within : {E : Type 0} (shown : E → Interval) (n : ℕ) (cs : List Frac) (c : Fraction) (S u : ℕ) (e : E) → n ≡ 56 → IsNearTime c → is_small_polynomial cs S u ≡ true
+pub polynomial_within : {E : Type 0} (shown : E → Interval) (n : ℕ) (cs : List Frac) (c : Fraction) (F S u : ℕ) (e : E) → n ≡ 56 → HasSize F c → is_small_polynomial cs F S u ≡ true
     → ((F : ℕ) → n ≡ 56 → HasSize F c → horner_fits cs F (length cs) ≡ true → IsAbout (horner_size cs F (length cs)) (horner_width F (length cs)) (shown e)) → IsAbout S u (shown e)
 unfolding is_small_polynomial
-polynomial_within shown n cs c S u e p i t f =
-    let b = three (horner_fits cs 26 (length cs)) (nat_le (horner_size cs 26 (length cs)) S) (nat_le (horner_width 26 (length cs)) u) t in
-    let l : horner_size cs 26 (length cs) ≤ S = leb-true _ _ b.1 in
-    let w : horner_width 26 (length cs) ≤ u = leb-true _ _ b.2 in
-    looser (neg_ℤ (pos (horner_size cs 26 (length cs)))) (pos (horner_size cs 26 (length cs))) (neg_ℤ (pos S)) (pos S) (horner_width 26 (length cs)) u (shown e) (omega (arith, ints, l)) (omega (arith, ints, l)) w (f 26 p i b.0)
+polynomial_within shown n cs c F S u e p i t f =
+    let b = three (horner_fits cs F (length cs)) (nat_le (horner_size cs F (length cs)) S) (nat_le (horner_width F (length cs)) u) t in
+    let l : horner_size cs F (length cs) ≤ S = leb-true _ _ b.1 in
+    let w : horner_width F (length cs) ≤ u = leb-true _ _ b.2 in
+    looser (neg_ℤ (pos (horner_size cs F (length cs)))) (pos (horner_size cs F (length cs))) (neg_ℤ (pos S)) (pos S) (horner_width F (length cs)) u (shown e) (omega (arith, ints, l)) (omega (arith, ints, l)) w (f F p i b.0)
 
-pub mean_small : is_small_polynomial MEAN_NEW_MOON (2 ^ 53) (2 ^ 29 - 2 ^ 20) ≡ true
+pub recent_mean_small : is_small_polynomial MEAN_NEW_MOON 3 (109580 * 2 ^ 32) (2 ^ 29 - 2 ^ 20) ≡ true
+unfolding is_small_polynomial horner_fits horner_size horner_width
+recent_mean_small = refl
+
+pub mean_small : is_small_polynomial MEAN_NEW_MOON 26 (2 ^ 53) (2 ^ 29 - 2 ^ 20) ≡ true
 unfolding is_small_polynomial horner_fits horner_size horner_width
 mean_small = refl
 
-pub node_small : is_small_polynomial NEW_MOON_NODE (2 ^ 50) (2 ^ 24) ≡ true
+pub node_small : is_small_polynomial NEW_MOON_NODE 26 (2 ^ 50) (2 ^ 24) ≡ true
 unfolding is_small_polynomial horner_fits horner_size horner_width
 node_small = refl
 
-pub sun_small : is_small_polynomial NEW_MOON_SUN_ANOMALY (2 ^ 52) (2 ^ 24) ≡ true
+pub sun_small : is_small_polynomial NEW_MOON_SUN_ANOMALY 26 (2 ^ 52) (2 ^ 24) ≡ true
 unfolding is_small_polynomial horner_fits horner_size horner_width
 sun_small = refl
 
-pub moon_small : is_small_polynomial NEW_MOON_ANOMALY (2 ^ 56) (2 ^ 29) ≡ true
+pub moon_small : is_small_polynomial NEW_MOON_ANOMALY 26 (2 ^ 56) (2 ^ 29) ≡ true
 unfolding is_small_polynomial horner_fits horner_size horner_width
 moon_small = refl
 
-pub latitude_small : is_small_polynomial NEW_MOON_LATITUDE_ARGUMENT (2 ^ 56) (2 ^ 29) ≡ true
+pub latitude_small : is_small_polynomial NEW_MOON_LATITUDE_ARGUMENT 26 (2 ^ 56) (2 ^ 29) ≡ true
 unfolding is_small_polynomial horner_fits horner_size horner_width
 latitude_small = refl
 
@@ -99,19 +104,30 @@ module _ {E : Type 0} (shown : E → Interval) (n : ℕ) (e y : E) (p : n ≡ 56
   venus_within f = measured shown n 0 time_bounds (quadratic_wave_of NEW_MOON_WAVE (argument 0)) _ _ 0 (2 ^ 12) (2 ^ 12) y p venus_reach (omega arith) (f (record { width = 0; bounds = time_bounds }) (argument 0) time_kept)
 
 -- ---- the mean new moon and the node
-abbrev mean_bounds : ℕ → Bound
-mean_bounds k = bounded (neg_ℤ (pos (2 ^ 53))) (pos (2 ^ 53)) 0 (2 ^ 29 - 2 ^ 20)
+abbrev mean_bounds : (size : ℕ) → ℕ → Bound
+mean_bounds size k = bounded (neg_ℤ (pos size)) (pos size) 0 (2 ^ 29 - 2 ^ 20)
 
-mean_reach : implies (bound_of (limits_at 56) mean_bounds (add (constant (fraction_of NOON_2000)) (argument 0))) (bounded (neg_ℤ (pos (2 ^ 54))) (pos (2 ^ 54)) 0 (2 ^ 29)) ≡ true
+mean_reach : implies (bound_of (limits_at 56) (mean_bounds (2 ^ 53)) (add (constant (fraction_of NOON_2000)) (argument 0))) (bounded (neg_ℤ (pos (2 ^ 54))) (pos (2 ^ 54)) 0 (2 ^ 29)) ≡ true
 unfolding implies bound_of constant_bound sum_bound
 mean_reach = refl
 
-pub mean_within : {E : Type 0} (shown : E → Interval) (n : ℕ) (noon q m : E) → n ≡ 56 → IsAbout (2 ^ 53) (2 ^ 29 - 2 ^ 20) (shown q) → ((r : Reach) → Narrow shown (limits_of n) r (constant (fraction_of NOON_2000)) noon)
-    → ((r : Reach) (x y : Expression) → Narrow shown (limits_of n) r x noon → Narrow shown (limits_of n) r y q → Narrow shown (limits_of n) r (add x y) m) → IsAbout (2 ^ 54) (2 ^ 29) (shown m)
-mean_within shown n noon q m p h i f =
-    let r : Reach = record { width = 0; bounds = mean_bounds } in
-    measured shown n 0 mean_bounds (add (constant (fraction_of NOON_2000)) (argument 0)) _ _ 0 (2 ^ 29) (2 ^ 29) m p mean_reach (omega arith)
-    (f r _ (argument 0) (i r) (sloped shown (limits_of n) 0 (2 ^ 29 - 2 ^ 20) mean_bounds 0 (neg_ℤ (pos (2 ^ 53))) (pos (2 ^ 53)) 0 (2 ^ 29 - 2 ^ 20) q refl (omega arith) h))
+recent_mean_reach : implies (bound_of (limits_at 56) (mean_bounds (109580 * 2 ^ 32)) (add (constant (fraction_of NOON_2000)) (argument 0))) (bounded (pos (620540 * 2 ^ 32)) (pos (839702 * 2 ^ 32)) 0 (2 ^ 29)) ≡ true
+unfolding implies bound_of constant_bound sum_bound
+recent_mean_reach = refl
+
+module _ {E : Type 0} (shown : E → Interval) (n : ℕ) (noon q m : E) (p : n ≡ 56) (i : (r : Reach) → Narrow shown (limits_of n) r (constant (fraction_of NOON_2000)) noon)
+    (f : (r : Reach) (x y : Expression) → Narrow shown (limits_of n) r x noon → Narrow shown (limits_of n) r y q → Narrow shown (limits_of n) r (add x y) m) where
+  mean_kept : (size : ℕ) → IsAbout size (2 ^ 29 - 2 ^ 20) (shown q) → Narrow shown (limits_of n) (record { width = 0; bounds = mean_bounds size }) (add (constant (fraction_of NOON_2000)) (argument 0)) m
+  mean_kept size h =
+      let r : Reach = record { width = 0; bounds = mean_bounds size } in
+      f r _ (argument 0) (i r) (sloped shown (limits_of n) 0 (2 ^ 29 - 2 ^ 20) (mean_bounds size) 0 (neg_ℤ (pos size)) (pos size) 0 (2 ^ 29 - 2 ^ 20) q refl (omega arith) h)
+
+  pub mean_within : IsAbout (2 ^ 53) (2 ^ 29 - 2 ^ 20) (shown q) → IsAbout (2 ^ 54) (2 ^ 29) (shown m)
+  mean_within h = measured shown n 0 (mean_bounds (2 ^ 53)) (add (constant (fraction_of NOON_2000)) (argument 0)) _ _ 0 (2 ^ 29) (2 ^ 29) m p mean_reach (omega arith) (mean_kept (2 ^ 53) h)
+
+  pub recent_mean_within : IsAbout (109580 * 2 ^ 32) (2 ^ 29 - 2 ^ 20) (shown q) → IsRecentMean (2 ^ 29) (shown m)
+  recent_mean_within h =
+      measured shown n 0 (mean_bounds (109580 * 2 ^ 32)) (add (constant (fraction_of NOON_2000)) (argument 0)) _ _ 0 (2 ^ 29) (2 ^ 29) m p recent_mean_reach (omega arith) (mean_kept (109580 * 2 ^ 32) h)
 
 abbrev node_bounds : ℕ → Bound
 node_bounds k = bounded (neg_ℤ (pos (2 ^ 50))) (pos (2 ^ 50)) 0 (2 ^ 24)
@@ -201,9 +217,10 @@ planets_within shown n k y p l h f =
     looser _ _ _ _ (13 * 2 ^ 14) (2 ^ 18) (shown y) (omega (arith, ints)) (omega (arith, ints)) (omega arith) (within_covered _ _ _ (shown y) (planets_covered k l h) (rw (b, p) at z.kept))
 
 -- ---- all together
-abbrev part_bounds : ℕ → Bound
-part_bounds k =
-    if k == 0 then bounded (neg_ℤ (pos (2 ^ 54))) (pos (2 ^ 54)) 0 (2 ^ 29)
+-- the mean new moon lies from low to high
+abbrev part_bounds : (low high : ℤ) → ℕ → Bound
+part_bounds low high k =
+    if k == 0 then bounded low high 0 (2 ^ 29)
     else (if k == 1 then bounded (neg_ℤ (pos (2 ^ 32))) (pos (2 ^ 32)) 0 (2 ^ 12)
     else (if k == 2 then bounded (neg_ℤ (pos (2 ^ 33))) (pos (2 ^ 33)) 0 (2 ^ 23)
     else (if k == 3 then bounded (neg_ℤ (pos (2 ^ 32))) (pos (2 ^ 32)) 0 (2 ^ 12)
@@ -212,30 +229,46 @@ part_bounds k =
 abbrev sum_of_parts : Expression
 sum_of_parts = add (add (add (add (argument 0) (argument 1)) (argument 2)) (argument 3)) (argument 4)
 
-parts_reach : implies (bound_of (limits_at 56) part_bounds sum_of_parts) (bounded (neg_ℤ (pos (2 ^ 58))) (pos (2 ^ 58)) 0 (2 ^ 29 + 2 ^ 24)) ≡ true
+parts_reach : implies (bound_of (limits_at 56) (part_bounds (neg_ℤ (pos (2 ^ 54))) (pos (2 ^ 54))) sum_of_parts) (bounded (neg_ℤ (pos (2 ^ 58))) (pos (2 ^ 58)) 0 (2 ^ 29 + 2 ^ 24)) ≡ true
 unfolding implies bound_of sum_bound
 parts_reach = refl
 
-pub parts_within : {E : Type 0} (shown : E → Interval) (n : ℕ) (a b c d z y1 y2 y3 y4 : E) → n ≡ 56 → IsAbout (2 ^ 54) (2 ^ 29) (shown a) → IsAbout (2 ^ 32) (2 ^ 12) (shown b) → IsAbout (2 ^ 33) (2 ^ 23) (shown c) → IsAbout (2 ^ 32) (2 ^ 12) (shown d) → IsAbout (2 ^ 40) (2 ^ 18) (shown z)
-    → ((r : Reach) (x y : Expression) → Narrow shown (limits_of n) r x a → Narrow shown (limits_of n) r y b → Narrow shown (limits_of n) r (add x y) y1)
-    → ((r : Reach) (x y : Expression) → Narrow shown (limits_of n) r x y1 → Narrow shown (limits_of n) r y c → Narrow shown (limits_of n) r (add x y) y2)
-    → ((r : Reach) (x y : Expression) → Narrow shown (limits_of n) r x y2 → Narrow shown (limits_of n) r y d → Narrow shown (limits_of n) r (add x y) y3)
-    → ((r : Reach) (x y : Expression) → Narrow shown (limits_of n) r x y3 → Narrow shown (limits_of n) r y z → Narrow shown (limits_of n) r (add x y) y4) → IsMoment (2 ^ 29 + 2 ^ 24) (shown y4)
-parts_within shown n a b c d z y1 y2 y3 y4 p ha hb hc hd hz f1 f2 f3 f4 =
-    let r : Reach = record { width = 0; bounds = part_bounds } in
-    let l = limits_of n in
-    measured shown n 0 part_bounds sum_of_parts _ _ 0 (2 ^ 29 + 2 ^ 24) (2 ^ 29 + 2 ^ 24) y4 p parts_reach (omega arith)
-    (f4 r _ _ (f3 r _ _ (f2 r _ _ (f1 r _ _
-    (sloped shown l 0 (2 ^ 29) part_bounds 0 (neg_ℤ (pos (2 ^ 54))) (pos (2 ^ 54)) 0 (2 ^ 29) a refl (omega arith) ha)
-    (sloped shown l 0 (2 ^ 12) part_bounds 1 (neg_ℤ (pos (2 ^ 32))) (pos (2 ^ 32)) 0 (2 ^ 12) b refl (omega arith) hb))
-    (sloped shown l 0 (2 ^ 23) part_bounds 2 (neg_ℤ (pos (2 ^ 33))) (pos (2 ^ 33)) 0 (2 ^ 23) c refl (omega arith) hc))
-    (sloped shown l 0 (2 ^ 12) part_bounds 3 (neg_ℤ (pos (2 ^ 32))) (pos (2 ^ 32)) 0 (2 ^ 12) d refl (omega arith) hd))
-    (sloped shown l 0 (2 ^ 18) part_bounds 4 (neg_ℤ (pos (2 ^ 40))) (pos (2 ^ 40)) 0 (2 ^ 18) z refl (omega arith) hz))
+recent_parts_reach : implies (bound_of (limits_at 56) (part_bounds (pos (620540 * 2 ^ 32)) (pos (839702 * 2 ^ 32))) sum_of_parts) (bounded (pos (600001 * 2 ^ 32)) (pos (2 ^ 58)) 0 (2 ^ 29 + 2 ^ 24)) ≡ true
+unfolding implies bound_of sum_bound
+recent_parts_reach = refl
 
--- a number of months within 26 centuries
+module _ {E : Type 0} (shown : E → Interval) (n : ℕ) (a b c d z y1 y2 y3 y4 : E) (p : n ≡ 56)
+    (hb : IsAbout (2 ^ 32) (2 ^ 12) (shown b)) (hc : IsAbout (2 ^ 33) (2 ^ 23) (shown c)) (hd : IsAbout (2 ^ 32) (2 ^ 12) (shown d)) (hz : IsAbout (2 ^ 40) (2 ^ 18) (shown z))
+    (f1 : (r : Reach) (x y : Expression) → Narrow shown (limits_of n) r x a → Narrow shown (limits_of n) r y b → Narrow shown (limits_of n) r (add x y) y1)
+    (f2 : (r : Reach) (x y : Expression) → Narrow shown (limits_of n) r x y1 → Narrow shown (limits_of n) r y c → Narrow shown (limits_of n) r (add x y) y2)
+    (f3 : (r : Reach) (x y : Expression) → Narrow shown (limits_of n) r x y2 → Narrow shown (limits_of n) r y d → Narrow shown (limits_of n) r (add x y) y3)
+    (f4 : (r : Reach) (x y : Expression) → Narrow shown (limits_of n) r x y3 → Narrow shown (limits_of n) r y z → Narrow shown (limits_of n) r (add x y) y4) where
+  parts_kept : (low high : ℤ) → IsWithin low high (2 ^ 29) (shown a) → Narrow shown (limits_of n) (record { width = 0; bounds = part_bounds low high }) sum_of_parts y4
+  parts_kept low high ha =
+      let r : Reach = record { width = 0; bounds = part_bounds low high } in
+      let l = limits_of n in
+      f4 r _ _ (f3 r _ _ (f2 r _ _ (f1 r _ _
+      (sloped shown l 0 (2 ^ 29) (part_bounds low high) 0 low high 0 (2 ^ 29) a refl (omega arith) ha)
+      (sloped shown l 0 (2 ^ 12) (part_bounds low high) 1 (neg_ℤ (pos (2 ^ 32))) (pos (2 ^ 32)) 0 (2 ^ 12) b refl (omega arith) hb))
+      (sloped shown l 0 (2 ^ 23) (part_bounds low high) 2 (neg_ℤ (pos (2 ^ 33))) (pos (2 ^ 33)) 0 (2 ^ 23) c refl (omega arith) hc))
+      (sloped shown l 0 (2 ^ 12) (part_bounds low high) 3 (neg_ℤ (pos (2 ^ 32))) (pos (2 ^ 32)) 0 (2 ^ 12) d refl (omega arith) hd))
+      (sloped shown l 0 (2 ^ 18) (part_bounds low high) 4 (neg_ℤ (pos (2 ^ 40))) (pos (2 ^ 40)) 0 (2 ^ 18) z refl (omega arith) hz)
+
+  pub parts_within : IsAbout (2 ^ 54) (2 ^ 29) (shown a) → IsMoment (2 ^ 29 + 2 ^ 24) (shown y4)
+  parts_within ha = measured shown n 0 (part_bounds (neg_ℤ (pos (2 ^ 54))) (pos (2 ^ 54))) sum_of_parts _ _ 0 (2 ^ 29 + 2 ^ 24) (2 ^ 29 + 2 ^ 24) y4 p parts_reach (omega arith) (parts_kept _ _ ha)
+
+  pub recent_parts_within : IsRecentMean (2 ^ 29) (shown a) → IsLater (2 ^ 29 + 2 ^ 24) (shown y4)
+  recent_parts_within ha =
+      measured shown n 0 (part_bounds (pos (620540 * 2 ^ 32)) (pos (839702 * 2 ^ 32))) sum_of_parts _ _ 0 (2 ^ 29 + 2 ^ 24) (2 ^ 29 + 2 ^ 24) y4 p recent_parts_reach (omega arith) (parts_kept _ _ ha)
+
+-- a number of months within 26 centuries, and one within 3
 pub months_near : (k : ℤ) → negsuc 31023 ≤ℤ k → k ≤ℤ pos 31024 → IsNearTime (centuries_of_months k)
 months_near k h i = record { size = omega (arith, ints); numerator = omega (arith, ints) }
 
-pub found_within : {E : Type 0} (shown : E → Interval) (r : Result E Fail) → Measures (λ y. IsNearlyDated (2 ^ 29 + 2 ^ 24 + 2 ^ 17) (shown y)) r → Measures (λ y. IsNearlyDated (2 ^ 30) (shown y)) r
-found_within shown (Ok y) h = looser _ _ _ _ (2 ^ 29 + 2 ^ 24 + 2 ^ 17) (2 ^ 30) (shown y) (omega (arith, ints)) (omega (arith, ints)) (omega arith) h
-found_within shown (Err f) h = h
+pub months_recent : (k : ℤ) → negsuc 3623 ≤ℤ k → k ≤ℤ pos 1076 → IsRecentTime (centuries_of_months k)
+months_recent k h i = record { size = omega (arith, ints); numerator = omega (arith, ints) }
+
+-- what is taken again is wider than what was found
+pub found_within : {E : Type 0} (low high : ℤ) (shown : E → Interval) (r : Result E Fail) → Measures (λ y. IsWithin low high (2 ^ 29 + 2 ^ 24 + 2 ^ 17) (shown y)) r → Measures (λ y. IsWithin low high (2 ^ 30) (shown y)) r
+found_within low high shown (Ok y) h = looser low high low high (2 ^ 29 + 2 ^ 24 + 2 ^ 17) (2 ^ 30) (shown y) (omega (arith, ints)) (omega (arith, ints)) (omega arith) h
+found_within low high shown (Err f) h = h

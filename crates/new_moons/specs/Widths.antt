@@ -1,5 +1,5 @@
 -- How wide the parts of a new moon are at the scale 2^-56, within 26 centuries of 2000.
-use Rattle.std.specs.Prelude.{◌*◌, ◌^◌, pos}
+use Rattle.std.specs.Prelude.{ℕ, ◌*◌, ◌^◌, pos}
 use Rattle.exact_math.specs.Fraction.{Fraction}
 use Rattle.exact_math.specs.Interval.{Interval}
 use Rattle.book_model.specs.programs.Widths.{IsWithin, IsAbout}
@@ -9,6 +9,14 @@ use Rattle.new_moons.specs.declared.angles.Angles.{Angles}
 -- a time within 26 centuries of 2000
 abbrev pub IsNearTime : Fraction → Type 0
 IsNearTime c = HasSize 26 c
+
+-- a time within 3 centuries of 2000
+abbrev pub IsRecentTime : Fraction → Type 0
+IsRecentTime c = HasSize 3 c
+
+-- a mean new moon at such a time: 109,580 days on both sides of noon of 1 January 2000, whose R.D. is 730,120.5, and at most so wide
+abbrev pub IsRecentMean : ℕ → Interval → Type 0
+IsRecentMean v i = IsWithin (pos (620540 * 2 ^ 32)) (pos (839702 * 2 ^ 32)) v i
 
 -- the angles at such a time
 pub record AreNearAngles {E : Type 0} (shown : E → Interval) (b : Angles E) : Type 0 where

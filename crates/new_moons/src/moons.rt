@@ -1,12 +1,15 @@
 //! The moment of a new moon.
 ghost use Rattle.book_model.specs.programs.Calls.{Encloses, Follows, Holds, Narrows};
-ghost use Rattle.book_model.specs.programs.Widths.{IsAbout, IsMoment, Measured};
+ghost use Rattle.book_model.specs.programs.Widths.{IsAbout, IsMoment, Measured, IsNearlyDated};
 ghost use Rattle.std.specs.Prelude.{◌≡◌, ◌+◌, ◌^◌, ℤ, pos, negsuc, ◌≤ℤ◌};
 ghost use Rattle.book_model.specs.numbers.Fractions.{fraction_of};
 ghost use Rattle.book_model.specs.programs.Leading.{next_turn};
 ghost use Rattle.book_model.specs.sky.NewMoons as spec;
-ghost use Rattle.time_scales.specs.Widths.{IsNearlyDated};
-ghost use Rattle.new_moons.specs.Widths.{IsNearTime};
+ghost use Rattle.width_laws.specs.declared.table.TheConstants.{NEW_MOON};
+ghost use Rattle.width_laws.specs.Table.{greatest_of};
+ghost use Rattle.encl_core.specs.Kept.{IsRecentlyDated};
+ghost use Rattle.time_scales.specs.Widths.{IsLater};
+ghost use Rattle.new_moons.specs.Widths.{IsNearTime, IsRecentTime, IsRecentMean};
 ghost use Rattle.new_moons.specs.Moons.{computed_mean_of, computed_node_term_of, computed_terms_of, computed_new_moon_of};
 
 use crate::angles::{Angles, angles_at};
@@ -37,6 +40,8 @@ fn mean_new_moon<E: Enclosure>(time: Frac) -> E
     ensures narrow { Narrows E.shown E.BITS (computed_mean_of (fraction_of time)) result }
     ensures measured { E.BITS ≡ 56 → IsNearTime (fraction_of time)
         → IsAbout (2 ^ 54) (2 ^ 29) (E.shown result) }
+    ensures recent { E.BITS ≡ 56 → IsRecentTime (fraction_of time)
+        → IsRecentMean (2 ^ 29) (E.shown result) }
 {
     E::from_frac(NOON_2000).add(at_fraction::<E>(&MEAN_NEW_MOON, time))
 }
@@ -94,6 +99,8 @@ fn dynamical_new_moon<E: Enclosure>(number: i64) -> E
     ensures narrow { Narrows E.shown E.BITS (computed_new_moon_of number) result }
     ensures measured { E.BITS ≡ 56 → negsuc 31023 ≤ℤ number → number ≤ℤ pos 31024
         → IsMoment (2 ^ 29 + 2 ^ 24) (E.shown result) }
+    ensures recent { E.BITS ≡ 56 → negsuc 3623 ≤ℤ number → number ≤ℤ pos 1076
+        → IsLater (2 ^ 29 + 2 ^ 24) (E.shown result) }
 {
     let time = centuries_of_months(number);
     mean_new_moon::<E>(time)
@@ -111,6 +118,8 @@ fn evaluated_moon<E: Enclosure>(n: i64, trail: &mut Trail) -> Result<E, Fail>
     ensures leads { Follows E.shown (spec.new_moon_of n) trail.old.count trail.new.count result }
     ensures measured { negsuc 6299 ≤ℤ n → n ≤ℤ pos 55724
         → Measured E.BITS E.shown (IsNearlyDated (2 ^ 29 + 2 ^ 24 + 2 ^ 17)) result }
+    ensures recent { pos 21100 ≤ℤ n → n ≤ℤ pos 25800
+        → Measured E.BITS E.shown (IsRecentlyDated (2 ^ 29 + 2 ^ 24 + 2 ^ 17)) result }
     ensures counted { trail.new.count ≡ next_turn trail.old.count }
 {
     from_dynamical(dynamical_new_moon::<E>(n - NEW_MOON_OF_2000), trail)
@@ -123,6 +132,8 @@ fn kept_moon<E: Enclosure>(n: i64, trail: &mut Trail) -> Result<E, Fail>
     ensures leads { Follows E.shown (spec.new_moon_of n) trail.old.count trail.new.count result }
     ensures measured { negsuc 6299 ≤ℤ n → n ≤ℤ pos 55724
         → Measured E.BITS E.shown (IsNearlyDated (2 ^ 29 + 2 ^ 24 + 2 ^ 17)) result }
+    ensures recent { pos 21100 ≤ℤ n → n ≤ℤ pos 25800
+        → Measured E.BITS E.shown (IsRecentlyDated (2 ^ 29 + 2 ^ 24 + 2 ^ 17)) result }
     ensures counted { trail.new.count ≡ next_turn trail.old.count }
 {
     match evaluated_moon::<E>(n, trail) {
@@ -142,7 +153,9 @@ pub fn new_moon<E: Enclosure>(n: i64, trail: &mut Trail) -> Result<E, Fail>
     requires high { n ≤ℤ pos 40000000 }
     ensures leads { Follows E.shown (spec.new_moon_of n) trail.old.count trail.new.count result }
     ensures measured { negsuc 6299 ≤ℤ n → n ≤ℤ pos 55724
-        → Measured E.BITS E.shown (IsNearlyDated (2 ^ 30)) result }
+        → Measured E.BITS E.shown (IsNearlyDated (greatest_of NEW_MOON 0)) result }
+    ensures recent { pos 21100 ≤ℤ n → n ≤ℤ pos 25800
+        → Measured E.BITS E.shown (IsRecentlyDated (greatest_of NEW_MOON 0)) result }
     ensures counted { trail.new.count ≡ next_turn trail.old.count }
 {
     match trail.new_moon(n, E::BITS) {

@@ -5,3 +5,5 @@ pub mod Reaches
 pub mod FormulaWidths
 pub mod NewYears
 pub mod Measured
+pub mod PassageWidths
+pub mod StarWidths

@@ -14,12 +14,11 @@ use Rattle.book_model.specs.numbers.Polynomials.{quadratic_of, cubic_of, quadrat
 use Rattle.book_model.specs.numbers.Ranges.{IsInTable}
 use Rattle.book_model.specs.numbers.Relations.{Narrow, Keeps}
 use Rattle.book_model.specs.numbers.Terms.{terms_to, terms_of}
-use Rattle.book_model.specs.programs.Widths.{IsAbout, IsMoment, IsUpTo}
+use Rattle.book_model.specs.programs.Widths.{IsAbout, IsMoment, IsUpTo, AreCenturies}
 use Rattle.book_model.specs.sky.Noon.{tilt_of, reduction_of, centre_of, joint_of, second_reduction_of, second_centre_of, radians_of, part_of_day, equation_of, ahead_of}
 use Rattle.book_model.specs.sky.Sun.{nutation_of, back_by}
 use Rattle.book_model.proofs.Implying.{limits_within}
 use Rattle.width_laws.proofs.Measuring.{measured, measured_argument, sloped, looser, drawn}
-use Rattle.time_scales.specs.Widths.{AreCenturies}
 use Rattle.sun_core.specs.Daily.{in_centuries, has_daily, by_centuries, by_days, daily_wave_of}
 use Rattle.sun_core.specs.Steps.{apparent_noon_of, computed_mean_longitude_of, computed_periodic_of, computed_aberration_of, computed_longitude_of}
 use Rattle.sun_core.specs.Widths.{IsObliquity, IsNarrowPlace, IsLocalMoment, IsNearMoment}

@@ -30,3 +30,14 @@ IsObliquity v i = IsWithin (pos (23 * 2 ^ 32)) (pos (24 * 2 ^ 32)) (v / 64 + 2 ^
 -- what local time is ahead at a longitude is narrow at the scale 2^-56: at most four units wide
 pub record IsNarrowPlace (longitude : Frac) : Type 0 where
   pub narrow : implies (bound_of (limits_at 56) (λ k. unbounded) (ahead_of (fraction_of longitude))) (bounded (neg_ℤ (pos (2 ^ 32))) (pos (2 ^ 32)) 0 (2 ^ 10)) ≡ true
+
+-- the angles of which precession is made, of recent moments and at most so wide: the tilt of the ecliptic, where it crosses that
+-- of 2000, from 174.5 to 176 degrees, and the advance of the equinox
+abbrev pub IsTilt : ℕ → Interval → Type 0
+IsTilt v i = IsAbout (2 ^ 28) v i
+
+abbrev pub IsCrossing : ℕ → Interval → Type 0
+IsCrossing v i = IsWithin (pos (349 * 2 ^ 31)) (pos (176 * 2 ^ 32)) v i
+
+abbrev pub IsAdvance : ℕ → Interval → Type 0
+IsAdvance v i = IsAbout (6 * 2 ^ 32) v i

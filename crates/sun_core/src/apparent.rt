@@ -29,10 +29,8 @@ pub fn from_apparent<E: Enclosure>(longitude: Frac, t: E, trail: &mut Trail) -> 
     ensures measured { IsNarrowPlace longitude → Measured1 E.BITS E.shown (2 ^ 41) IsLocalMoment
         (λ v. IsAbout (2 ^ 58 - 2 ^ 33) (v + v / 100 + 3 * 2 ^ 29)) t result }
 {
-    match equation_of_time(t.sub(ahead::<E>(longitude)), trail) {
-        Ok(equation) => Ok(t.sub(equation)),
-        Err(fail) => Err(fail),
-    }
+    let equation = equation_of_time(t.sub(ahead::<E>(longitude)), trail)?;
+    Ok(t.sub(equation))
 }
 
 /// The middle of a day.

@@ -1,13 +1,12 @@
 //! The obliquity of the ecliptic.
 ghost use Rattle.book_model.specs.programs.Calls.{Follows1};
-ghost use Rattle.book_model.specs.programs.Widths.{Measured1};
+ghost use Rattle.book_model.specs.programs.Widths.{Measured1, AreCenturies};
 ghost use Rattle.std.specs.Prelude.{◌≡◌, ◌^◌, IfOk};
 ghost use Rattle.book_model.specs.numbers.Bounds.{Reach, limits_of};
 ghost use Rattle.book_model.specs.numbers.Expressions.{Expression};
 ghost use Rattle.book_model.specs.numbers.Polynomials.{cubic_of};
 ghost use Rattle.book_model.specs.numbers.Relations.{Narrow};
 ghost use Rattle.book_model.specs.sky.Sun.{obliquity_of};
-ghost use Rattle.time_scales.specs.Widths.{AreCenturies};
 ghost use Rattle.sun_core.specs.Widths.{IsObliquity};
 
 use book_model::{Fail, OBLIQUITY};

@@ -2,9 +2,11 @@
 ghost use Rattle.book_model.specs.programs.Calls.{Encloses1, Encloses2, Encloses4, Follows1};
 ghost use Rattle.book_model.specs.programs.Widths.{IsAbout, IsMoment, Measured1};
 ghost use Rattle.book_model.specs.numbers.Ranges.{IsInTable};
-ghost use Rattle.std.specs.Prelude.{◌≡◌, ◌+◌, ◌/◌, ◌^◌, IfOk, IfErr};
+ghost use Rattle.std.specs.Prelude.{◌≡◌, ◌^◌, IfOk, IfErr};
 ghost use Rattle.book_model.specs.programs.Leading.{next_turn};
 ghost use Rattle.book_model.specs.sky.Noon.{tilt_of, reduction_of, centre_of, joint_of, second_reduction_of, second_centre_of, radians_of, part_of_day, equation_of, equation_of_time_of};
+ghost use Rattle.width_laws.specs.declared.table.TheConstants.{EQUATION_OF_TIME};
+ghost use Rattle.width_laws.specs.Table.{greatest_of};
 ghost use Rattle.time_scales.specs.Steps.{IsYearOpenFor};
 ghost use Rattle.sun_core.specs.Steps.{first_radians_of};
 
@@ -124,7 +126,7 @@ pub fn equation_of_time<E: Enclosure>(t: E, trail: &mut Trail) -> Result<E, Fail
     ensures leads { Follows1 E.shown equation_of_time_of t trail.old.count trail.new.count result }
     ensures in_table { IfOk result (λ e. IsInTable (E.shown t)) }
     ensures measured { Measured1 E.BITS E.shown (2 ^ 42) IsMoment
-        (λ v. IsAbout (2 ^ 31) (v / 100 + 2 ^ 30)) t result }
+        (λ v. IsAbout (2 ^ 31) (greatest_of EQUATION_OF_TIME v)) t result }
     ensures open { IfErr result (IsYearOpenFor (E.shown t)) }
 {
     let c = centuries(t, trail)?;

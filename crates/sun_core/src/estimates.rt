@@ -5,6 +5,8 @@ ghost use Rattle.book_model.specs.numbers.Ranges.{IsInTable};
 ghost use Rattle.std.specs.Prelude.{◌≡◌, ◌≤◌, ◌+◌, ◌*◌, ◌^◌, IfOk};
 ghost use Rattle.book_model.specs.programs.Leading.{next_turn};
 ghost use Rattle.book_model.specs.sky.Sun.{reduced_of, past_of, off_of, back_by, estimate_of};
+ghost use Rattle.width_laws.specs.declared.table.TheConstants.{SUN};
+ghost use Rattle.width_laws.specs.Table.{greatest_of};
 
 use crate::longitude::sun;
 use book_model::{DEGREE_OF_YEAR, Fail, Site};
@@ -28,7 +30,7 @@ fn past<E: Enclosure>(longitude: E, t: E, trail: &mut Trail) -> Result<E, Fail>
     ensures leads { Follows2 E.shown past_of longitude t trail.old.count trail.new.count result }
     ensures in_table { IfOk result (λ p. IsInTable (E.shown t)) }
     ensures measured { Measured2 E.BITS E.shown (2 ^ 42) (λ v. IsMoment 0) IsMoment
-        (λ v. IsUpTo 360 (2 * v + 2 ^ 32)) longitude t result }
+        (λ v. IsUpTo 360 (greatest_of SUN v)) longitude t result }
 {
     let there = sun(t, trail)?;
     reduced(there.sub(longitude), trail)
@@ -39,14 +41,12 @@ fn past<E: Enclosure>(longitude: E, t: E, trail: &mut Trail) -> Result<E, Fail>
 fn off<E: Enclosure>(longitude: E, t: E, trail: &mut Trail) -> Result<E, Fail>
     ensures leads { Follows2 E.shown off_of longitude t trail.old.count trail.new.count result }
     ensures measured { Measured2 E.BITS E.shown (2 ^ 42) (λ v. IsMoment 0) IsMoment
-        (λ v. IsAbout (180 * 2 ^ 32) (2 * v + 2 ^ 32)) longitude t result }
+        (λ v. IsAbout (180 * 2 ^ 32) (greatest_of SUN v)) longitude t result }
 {
     let there = sun(t, trail)?;
     let half_turn = E::from_int(HALF_TURN);
-    match reduced(there.sub(longitude).add(half_turn), trail) {
-        Ok(angle) => Ok(angle.sub(half_turn)),
-        Err(fail) => Err(fail),
-    }
+    let angle = reduced(there.sub(longitude).add(half_turn), trail)?;
+    Ok(angle.sub(half_turn))
 }
 
 /// A moment less the time in which the mean sun moves on by an angle.
@@ -69,8 +69,6 @@ pub fn estimate<E: Enclosure>(l: E, t: E, trail: &mut Trail) -> Result<E, Fail>
         (λ v. IsMoment (10 * v + 2 ^ 35)) l t result }
 {
     let near = back(past(l, t, trail)?, t);
-    match off(l, near, trail) {
-        Ok(rest) => Ok(t.min(back(rest, near))),
-        Err(fail) => Err(fail),
-    }
+    let rest = off(l, near, trail)?;
+    Ok(t.min(back(rest, near)))
 }

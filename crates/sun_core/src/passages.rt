@@ -1,6 +1,12 @@
 //! When the sun is next at a longitude.
+ghost use Rattle.std.specs.Prelude.{◌≡◌, ◌≤◌, ◌+◌, ◌*◌, ◌^◌, ℕ, IfOk};
 ghost use Rattle.book_model.specs.programs.Calls.{Encloses2, Follows2, Follows3};
+ghost use Rattle.book_model.specs.programs.Widths.{IsMoment, IsUpTo, Measured2, Measures};
+ghost use Rattle.book_model.specs.numbers.Ranges.{IsInTable};
 ghost use Rattle.book_model.specs.sky.Sun as spec;
+ghost use Rattle.width_laws.specs.declared.table.TheConstants.{SUN};
+ghost use Rattle.width_laws.specs.Table.{greatest_of};
+ghost use Rattle.sun_core.specs.Widths.{IsNearMoment};
 
 use crate::estimates::reduced;
 use crate::longitude;
@@ -18,6 +24,9 @@ struct SolarLongitude;
 impl<E: Enclosure> Angular<E> for SolarLongitude {
     ghost angle_of = { λ s x. spec.sun_of x };
 
+    ghost spread = { λ v. greatest_of SUN v };
+
+    #[tactic(auto, using(angle_search::proofs::Measured::turn_measured))]
     fn at(&self, x: E, trail: &mut Trail) -> Result<E, Fail> {
         longitude::sun(x, trail)
     }
@@ -28,6 +37,9 @@ impl<E: Enclosure> Angular<E> for SolarLongitude {
 fn sun_short<E: Enclosure>(longitude: E, t: E, trail: &mut Trail) -> Result<E, Fail>
     ensures leads { Follows2 E.shown spec.sun_short_of longitude t trail.old.count trail.new.count
         result }
+    ensures in_table { IfOk result (λ p. IsInTable (E.shown t)) }
+    ensures measured { Measured2 E.BITS E.shown (2 ^ 42) (λ v. IsMoment 0) IsMoment
+        (λ v. IsUpTo 360 (greatest_of SUN v)) longitude t result }
 {
     let there = longitude::sun(t, trail)?;
     reduced(longitude.sub(there), trail)
@@ -46,6 +58,9 @@ fn forward<E: Enclosure>(angle: E, t: E) -> E
 fn sun_about<E: Enclosure>(longitude: E, t: E, about: E, trail: &mut Trail) -> Result<E, Fail>
     ensures leads { Follows3 E.shown spec.sun_about_of longitude t about trail.old.count
         trail.new.count result }
+    ensures measured { (v : ℕ) → E.BITS ≡ 56 → v ≤ 2 ^ 37 → IsMoment 0 (E.shown longitude)
+        → IsMoment v (E.shown t) → IsNearMoment v (E.shown about)
+        → Measures (λ x. IsMoment (v + 2 ^ 24) (E.shown x)) result }
 {
     let days = E::from_int(DAYS_ABOUT);
     invert_angular::<E, SolarLongitude>(
@@ -63,6 +78,8 @@ fn sun_about<E: Enclosure>(longitude: E, t: E, about: E, trail: &mut Trail) -> R
 #[tactic(auto, using(book_model::proofs::Leads::leading), unfolding(book_model::specs::sky::Sun::sun_from_of))]
 pub fn sun_from<E: Enclosure>(l: E, t: E, trail: &mut Trail) -> Result<E, Fail>
     ensures leads { Follows2 E.shown spec.sun_from_of l t trail.old.count trail.new.count result }
+    ensures measured { Measured2 E.BITS E.shown (2 ^ 34) (λ v. IsMoment 0) IsMoment
+        (λ v. IsMoment (4 * v + 2 ^ 33)) l t result }
 {
     let short = sun_short(l, t, trail)?;
     sun_about(l, t, forward(short, t), trail)

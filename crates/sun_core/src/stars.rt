@@ -1,9 +1,12 @@
 //! Precession, and the longitude of the sun among the stars.
 ghost use Rattle.book_model.specs.programs.Calls.{Encloses1, Encloses2, Encloses3, Follows1};
-ghost use Rattle.std.specs.Prelude.{IfErr};
+ghost use Rattle.book_model.specs.programs.Widths.{IsAbout, IsUpTo, Measured1};
+ghost use Rattle.std.specs.Prelude.{◌≡◌, ◌≤◌, ◌+◌, ◌*◌, ◌/◌, ◌^◌, ℕ, IfErr};
 ghost use Rattle.exact_math.specs.Interval.{Interval};
 ghost use Rattle.book_model.specs.sky.Sidereal as spec;
 ghost use Rattle.time_scales.specs.Steps.{IsYearOpenFor};
+ghost use Rattle.time_scales.specs.Widths.{IsRecent, AreRecentCenturies};
+ghost use Rattle.sun_core.specs.Widths.{IsTilt, IsCrossing, IsAdvance};
 
 use crate::longitude::sun;
 use arc_series::arctan2_deg;
@@ -16,6 +19,9 @@ use trig_series::{cos_deg, sin_deg};
 #[tactic(auto, unfolding(book_model::specs::sky::Sidereal::precession_by))]
 fn precession_by<E: Enclosure>(tilt: E, crossing: E, advance: E) -> E
     ensures encloses { Encloses3 E.shown E.BITS spec.precession_by tilt crossing advance result }
+    ensures measured { (v : ℕ) → E.BITS ≡ 56 → v ≤ 2 ^ 40 → IsTilt v (E.shown tilt)
+        → IsCrossing v (E.shown crossing) → IsAdvance v (E.shown advance)
+        → IsAbout (2 ^ 39) (7 * v + 2 ^ 23) (E.shown result) }
 {
     let turned = arctan2_deg(cos_deg(tilt).mul(sin_deg(crossing)), cos_deg(crossing));
     advance.add(crossing).sub(turned)
@@ -25,6 +31,8 @@ fn precession_by<E: Enclosure>(tilt: E, crossing: E, advance: E) -> E
 #[tactic(auto, unfolding(book_model::specs::sky::Sidereal::precession_at_of))]
 fn precession_at<E: Enclosure>(c: E) -> E
     ensures encloses { Encloses1 E.shown E.BITS spec.precession_at_of c result }
+    ensures measured { (v : ℕ) → E.BITS ≡ 56 → v ≤ 2 ^ 38 → AreRecentCenturies v (E.shown c)
+        → IsAbout (2 ^ 39) (14 * v + 2 ^ 24) (E.shown result) }
 {
     precession_by(
         cubic(&ECLIPTIC_TILT, c),
@@ -34,10 +42,13 @@ fn precession_at<E: Enclosure>(c: E) -> E
 }
 
 /// How far the equinox has moved among the stars at a moment of universal time, in degrees, not reduced (Reingold and Dershowitz,
-/// Calendrical Calculations, chapter 14): one test, the year's. It is void at `year` in a year without a correction.
+/// Calendrical Calculations, chapter 14): one test, the year's. It is void at `year` in a year without a correction. From
+/// R.D. 600,000 on, of the year 1643, it is at most a thousandth as wide as the moment, and 2⁻³¹ degrees.
 #[tactic(auto, using(book_model::proofs::Leads::leading), unfolding(book_model::specs::sky::Sidereal::precession_of))]
 pub fn precession<E: Enclosure>(t: E, trail: &mut Trail) -> Result<E, Fail>
     ensures leads { Follows1 E.shown spec.precession_of t trail.old.count trail.new.count result }
+    ensures measured { Measured1 E.BITS E.shown (2 ^ 42) IsRecent
+        (λ v. IsAbout (2 ^ 39) (v / 1000 + 2 ^ 33)) t result }
     ensures open { IfErr result (IsYearOpenFor (E.shown t)) }
 {
     let c = centuries(t, trail)?;
@@ -56,6 +67,7 @@ fn sidereal_by<E: Enclosure>(longitude: E, precession: E) -> E
 #[tactic(auto, using(book_model::proofs::Leads::leading, crate::proofs::Openings::opening), unfolding(book_model::specs::sky::Sidereal::starred_of))]
 fn starred<E: Enclosure>(angle: E, trail: &mut Trail) -> Result<E, Fail>
     ensures leads { Follows1 E.shown spec.starred_of angle trail.old.count trail.new.count result }
+    ensures measured { Measured1 E.BITS E.shown (2 ^ 44) (IsAbout (2 ^ 90)) (IsUpTo 360) angle result }
     ensures elsewhere { (i : Interval) → IfErr result (IsYearOpenFor i) }
 {
     wrap_step(angle, 360, Site::Sidereal, trail)
@@ -67,6 +79,8 @@ fn starred<E: Enclosure>(angle: E, trail: &mut Trail) -> Result<E, Fail>
 #[tactic(auto, using(book_model::proofs::Leads::leading), unfolding(book_model::specs::sky::Sidereal::sidereal_sun_of))]
 pub fn sidereal_sun<E: Enclosure>(t: E, trail: &mut Trail) -> Result<E, Fail>
     ensures leads { Follows1 E.shown spec.sidereal_sun_of t trail.old.count trail.new.count result }
+    ensures measured { Measured1 E.BITS E.shown (2 ^ 42) IsRecent
+        (λ v. IsUpTo 360 (3 * v + 2 ^ 34)) t result }
     ensures open { IfErr result (IsYearOpenFor (E.shown t)) }
 {
     let longitude = sun(t, trail)?;

@@ -1,11 +1,19 @@
+use Rattle.std.proofs.Common.{arith, ◌+◌, ◌-◌, ◌*◌, ◌^◌}
 use Rattle.book_model.specs.sky.Sun.{sun_from_of}
 use Rattle.book_model.proofs.Leads.{leads_on, leaf_within}
+use Rattle.angle_search.proofs.Measured.{moment_wider}
+use Rattle.sun_core.proofs.PassageWidths.{forward_within, passage_measured}
 use Rattle.sun_core.proofs.passages.sun_from.Goals as goal
 
-pub returns : goal.returns
+pub returns-clause-leads : goal.returns-clause-leads
 unfolding sun_from_of
-returns g c = record {
-  leads = λ w l x h k.
-      let s = c.in_ok-short.ensures.leads w l x h k in
-      leads_on _ s (c.sun_about.ensures.leads w l x _ h k (c.forward.ensures.encloses.holds w _ x (leaf_within s) k));
-}
+returns-clause-leads g c = λ w l x h k.
+    let s = c.in_ok-short.ensures.leads w l x h k in
+    leads_on _ s (c.sun_about.ensures.leads w l x _ h k (c.forward.ensures.encloses.holds w _ x (leaf_within s) k))
+
+pub returns-clause-measured : goal.returns-clause-measured
+returns-clause-measured g c = λ v e b h k.
+    let shown = g.E.Enclosure.shown in
+    let s = c.in_ok-short.ensures.measured v e (omega (arith, b)) h k in
+    let a = forward_within shown _ v c.args.t c.in_ok-short.short c.forward.result e c.in_ok-short.ensures.in_table k s (λ r p q. c.forward.ensures.encloses.narrow r p q) in
+    passage_measured shown v c.sun_about.result (c.sun_about.ensures.measured (4 * v + (2 ^ 33 - 2 ^ 24)) e (omega (arith, b)) h (moment_wider v (4 * v + (2 ^ 33 - 2 ^ 24)) _ (omega arith) k) a)
