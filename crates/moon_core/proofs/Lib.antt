@@ -1,6 +1,10 @@
 pub mod WalkSteps
 pub mod Reaches
 pub mod Openings
+pub mod Sums
+pub mod FirstMoon
 pub mod PhaseRanges
 pub mod Bisections
 pub mod PhaseDays
+pub mod Measured
+pub mod QuarterWidths

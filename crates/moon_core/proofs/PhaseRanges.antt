@@ -13,6 +13,7 @@ use Rattle.book_model.specs.declared.new_moon_tables.TheConstants.{DAY_IN_MONTHS
 use Rattle.book_model.specs.declared.site.Site.TheVariants.{PhaseWrap, MoonNumber, PhasePick}
 use Rattle.book_model.specs.declared.tables.TheConstants.{HALF}
 use Rattle.book_model.specs.declared.fail.Fail.{Fail}
+use Rattle.book_model.specs.numbers.Bounds.{IsNarrow}
 use Rattle.book_model.specs.numbers.Expressions.{Expression, argument, World, value, exactly, integer, constant, add, subtract, scale, remainder}
 use Rattle.book_model.specs.numbers.Fractions.{fraction_of}
 use Rattle.book_model.specs.sky.Moon.{moon_of}
@@ -30,6 +31,9 @@ use Rattle.book_model.proofs.FactRuns.{centuries_few, correction_at_few, sun_few
 use Rattle.book_model.proofs.Leads.{at_most_bind, at_most_more, leads_leaf, leads_value}
 use Rattle.time_scales.proofs.Moments.{dated_in_table, universal_between}
 use Rattle.book_model.proofs.Values.{value_proper}
+use Rattle.moon_core.specs.Widths.{IsLate}
+use Rattle.moon_core.proofs.FirstMoon.{first_moon_between}
+pub use Rattle.moon_core.proofs.Sums.{sum_between}
 
 -- ---- how many tests
 pub new_moon_few : (n : ℤ) → AtMost 1 (new_moon_of n)
@@ -116,32 +120,26 @@ unfolding product
 scaled_between lo hi l h f everything p q k = tt
 scaled_between lo hi l h f (between a b) p q k = between_of_within l h _ (within_trans (product_within {i = between a b} {i' = between (whole lo) (whole hi)} q (le_refl f) (record { ends = k }) (within_refl (exactly f))) p)
 
-whole_plus : (m n : ℤ) → whole (m +ℤ n) ≤F plus (whole m) (whole n)
-unfolding plus
-whole_plus m n = record { cross = omega (arith, ints) }
+-- the days of a moment after the first new moon, in months: at most so many from the first of them on
+abbrev HaveMonths : (lo l : ℤ) → Type 0
+HaveMonths lo l = product (between (whole (lo -ℤ pos 300)) (whole (pos 749048))) (exactly (fraction_of DAY_IN_MONTHS)) ⊆ between (whole l) (whole (pos 25366))
 
-plus_whole : (m n : ℤ) → plus (whole m) (whole n) ≤F whole (m +ℤ n)
-unfolding plus
-plus_whole m n = record { cross = omega (arith, ints) }
-
-pub sum_between : (a b c d : ℤ) (i j : Interval) → IsBetween a b i → IsBetween c d j → IsBetween (a +ℤ c) (b +ℤ d) (sum i j)
-unfolding sum
-sum_between a b c d everything j h k = tt
-sum_between a b c d (between p q) everything h k = tt
-sum_between a b c d (between p q) (between r s) h k = (le_trans _ _ _ (whole_plus a c) (plus_mono _ _ _ _ h.0 k.0), le_trans _ _ _ (plus_mono _ _ _ _ h.1 k.1) (plus_whole b d))
-
-months_of_days : product (between (whole (negsuc 931568)) (whole (pos 931569))) (exactly (fraction_of DAY_IN_MONTHS)) ⊆ between (whole (negsuc 31599)) (whole (pos 31600))
+months_of_days : HaveMonths (negsuc 182620) (negsuc 6194)
 unfolding product least greatest smaller larger times is_at_most
 months_of_days = record { ends = (record { cross = omega (arith, ints) }, record { cross = omega (arith, ints) }) }
 
--- the months from a new moon to a moment
-months_since_between : (w : World) (n : ℤ) (x m : Expression) → IsInTable (value w x) → outcome (run w (months_since n x)) ≡ valued m → IsBetween (negsuc 31599) (pos 31600) (value w m)
+months_of_late_days : HaveMonths (pos 650000) (pos 22000)
+unfolding product least greatest smaller larger times is_at_most
+months_of_late_days = record { ends = (record { cross = omega (arith, ints) }, record { cross = omega (arith, ints) }) }
+
+-- the months from the first new moon to a moment, by the day from which on it lies
+months_since_between : (w : World) (x m : Expression) (lo l : ℤ) → HaveMonths lo l → IsBetween lo (pos 748748) (value w x) → outcome (run w (months_since (pos 0) x)) ≡ valued m → IsBetween l (pos 25366) (value w m)
 unfolding months_since months_between value
-months_since_between w n x m h e =
-    let z = parts w (new_moon_of n) _ m e in
-    let d = difference_between (negsuc 182620) (pos 748748) (negsuc 182820) (pos 748948) _ _ h (new_moon_between w n z.part z.first) in
-    let b = wider _ _ (negsuc 931568) (pos 931569) _ (omega (arith, ints)) (omega (arith, ints)) d in
-    rw (← valued_same w (months_between z.part x) m z.then) (scaled_between (negsuc 931568) (pos 931569) (negsuc 31599) (pos 31600) (fraction_of DAY_IN_MONTHS) _ months_of_days (value_proper w (subtract x z.part)) b)
+months_since_between w x m lo l f h e =
+    let z = parts w (new_moon_of (pos 0)) _ m e in
+    let d = difference_between lo (pos 748748) (negsuc 299) (pos 300) _ _ h (first_moon_between w z.part z.first) in
+    let b = wider _ _ (lo -ℤ pos 300) (pos 749048) _ (omega (arith, ints)) (omega (arith, ints)) d in
+    rw (← valued_same w (months_between z.part x) m z.then) (scaled_between (lo -ℤ pos 300) (pos 749048) l (pos 25366) (fraction_of DAY_IN_MONTHS) _ f (value_proper w (subtract x z.part)) b)
 
 pub half_between : IsBetween (pos 0) (pos 1) (exactly (fraction_of HALF))
 half_between = (record { cross = omega (arith, ints) }, record { cross = omega (arith, ints) })
@@ -155,12 +153,16 @@ nearest_between w lo hi n m h e =
     let r : (lo ≤ℤ d.cell_there) × (d.cell_there ≤ℤ (hi +ℤ pos 1)) = (omega (arith, ints, f.0), omega (arith, ints, f.1)) in
     rw d.leads_to at r
 
--- the number that is found by mean months lies within 40,000 of 0
-pub rough_near : (w : World) (x : Expression) (n : ℤ) → IsInTable (value w x) → outcome (run w (rough_number_of x)) ≡ valued n → (negsuc 39999 ≤ℤ n) × (n ≤ℤ pos 40000)
+-- the number of a new moon about a moment of the years of which there is a correction
+abbrev pub IsDatedNumber : ℤ → Type 0
+IsDatedNumber n = (negsuc 6199 ≤ℤ n) × (n ≤ℤ pos 25500)
+
+-- the number that is found by mean months is such a number
+pub rough_near : (w : World) (x : Expression) (n : ℤ) → IsInTable (value w x) → outcome (run w (rough_number_of x)) ≡ valued n → IsDatedNumber n
 unfolding rough_number_of
 rough_near w x n h e =
     let m = parts w (months_since (pos 0) x) nearest_moon_of n e in
-    let b = nearest_between w (negsuc 31599) (pos 31600) n m.part (months_since_between w (pos 0) x m.part h m.first) m.then in
+    let b = nearest_between w (negsuc 6194) (pos 25366) n m.part (months_since_between w x m.part (negsuc 182620) (negsuc 6194) months_of_days h m.first) m.then in
     (omega (arith, ints, b.0), omega (arith, ints, b.1))
 
 -- ---- phases
@@ -244,17 +246,29 @@ part_of_month : product (between (whole (pos 0)) (whole (pos 360))) (exactly (fr
 unfolding product least greatest smaller larger times is_at_most
 part_of_month = record { ends = (record { cross = omega (arith, ints) }, record { cross = omega (arith, ints) }) }
 
--- the number of a moment's new moon lies within 40,000 of 0
-pub number_near : (w : World) (x : Expression) (n : ℤ) → outcome (run w (number_of_moon x)) ≡ valued n → (negsuc 39999 ≤ℤ n) × (n ≤ℤ pos 40000)
+-- the number of a moment's new moon, by the day from which on the moment lies
+number_between : (w : World) (x : Expression) (n lo l : ℤ) → HaveMonths lo l → (IsInTable (value w x) → IsBetween lo (pos 748748) (value w x)) → outcome (run w (number_of_moon x)) ≡ valued n → ((l -ℤ pos 1) ≤ℤ n) × (n ≤ℤ pos 25367)
 unfolding number_of_moon value
-number_near w x n e =
+number_between w x n lo l f h e =
     let m = parts w (months_since (pos 0) x) _ n e in
     let p = parts w (phase_of x) _ n m.then in
-    let b = months_since_between w (pos 0) x m.part (phase_in_table w x p.part p.first) m.first in
+    let b = months_since_between w x m.part lo l f (h (phase_in_table w x p.part p.first)) m.first in
     let s = scaled_between (pos 0) (pos 360) (pos 0) (pos 1) (fraction_of DEGREE_IN_MONTHS) _ part_of_month (value_proper w p.part) (phase_between w x p.part p.first) in
-    let d = difference_between (negsuc 31599) (pos 31600) (pos 0) (pos 1) _ _ b s in
-    let f = nearest_between w (negsuc 31599 -ℤ pos 1) (pos 31600 -ℤ pos 0) n _ d p.then in
+    let d = difference_between l (pos 25366) (pos 0) (pos 1) _ _ b s in
+    let g = nearest_between w (l -ℤ pos 1) (pos 25366 -ℤ pos 0) n _ d p.then in
+    (omega (arith, ints, g.0), omega (arith, ints, g.1))
+
+-- it is one of the years of which there is a correction
+pub number_near : (w : World) (x : Expression) (n : ℤ) → outcome (run w (number_of_moon x)) ≡ valued n → IsDatedNumber n
+number_near w x n e =
+    let f = number_between w x n (negsuc 182620) (negsuc 6194) months_of_days (λ h. h) e in
     (omega (arith, ints, f.0), omega (arith, ints, f.1))
+
+-- and a late one of a late moment
+late_between : (v : ℕ) (i : Interval) → IsLate v i → IsInTable i → IsBetween (pos 650000) (pos 748748) i
+unfolding IsNarrow
+late_between v everything h t = tt
+late_between v (between a b) h t = (le_trans _ _ _ (record { cross = omega (arith, ints) }) h.kept.above, t.1)
 
 -- ---- from the calls that compute them
 -- the world in which an argument is an interval
@@ -288,25 +302,36 @@ unfolding value world_of
 elongation_found shown p t (Ok v) h = elongation_in_table (world_of (shown t) (p t)) (argument 0) (leaf (world_of (shown t) (p t)) (elongation_of (argument 0))) (leads_leaf h)
 elongation_found shown p t (Err f) h = tt
 
--- a number that lies within 40,000 of 0
-abbrev pub IsNearNumber : ℤ → Type 0
-IsNearNumber n = (negsuc 39999 ≤ℤ n) × (n ≤ℤ pos 40000)
-
 pub rough_found : {E : Type 0} (shown : E → Interval) (p : (e : E) → IsProper (shown e)) (t : E) {b a : ℕ} (r : Result ℤ Fail) → IsInTable (shown t) →
-    Leads (world_of (shown t) (p t)) Exact (rough_number_of (argument 0)) b a r → IfOk r IsNearNumber
+    Leads (world_of (shown t) (p t)) Exact (rough_number_of (argument 0)) b a r → IfOk r IsDatedNumber
 unfolding value world_of
 rough_found shown p t (Ok n) h k = rough_near (world_of (shown t) (p t)) (argument 0) n h (leads_value k)
 rough_found shown p t (Err f) h k = tt
 
 pub number_found : {E : Type 0} (shown : E → Interval) (p : (e : E) → IsProper (shown e)) (t : E) {b a : ℕ} (r : Result ℤ Fail) →
-    Leads (world_of (shown t) (p t)) Exact (number_of_moon (argument 0)) b a r → IfOk r IsNearNumber
+    Leads (world_of (shown t) (p t)) Exact (number_of_moon (argument 0)) b a r → IfOk r IsDatedNumber
 number_found shown p t (Ok n) k = number_near (world_of (shown t) (p t)) (argument 0) n (leads_value k)
 number_found shown p t (Err f) k = tt
 
-pub near_low : (r : Result ℤ Fail) → IfOk r IsNearNumber → IfOk r (λ n. negsuc 39999 ≤ℤ n)
-near_low (Ok n) h = h.0
+pub late_found : {E : Type 0} (shown : E → Interval) (p : (e : E) → IsProper (shown e)) (t : E) {b a : ℕ} (v : ℕ) (r : Result ℤ Fail) → IsLate v (shown t) →
+    Leads (world_of (shown t) (p t)) Exact (number_of_moon (argument 0)) b a r → IfOk r (λ n. pos 21900 ≤ℤ n)
+unfolding value world_of
+late_found shown p t v (Ok n) h k = let f = number_between (world_of (shown t) (p t)) (argument 0) n (pos 650000) (pos 22000) months_of_late_days (late_between v (shown t) h) (leads_value k) in omega (arith, ints, f.0)
+late_found shown p t v (Err f) h k = tt
+
+pub dated_from : (r : Result ℤ Fail) → IfOk r IsDatedNumber → IfOk r (λ n. negsuc 6199 ≤ℤ n)
+dated_from (Ok n) h = h.0
+dated_from (Err f) h = tt
+
+pub dated_to : (r : Result ℤ Fail) → IfOk r IsDatedNumber → IfOk r (λ n. n ≤ℤ pos 25500)
+dated_to (Ok n) h = h.1
+dated_to (Err f) h = tt
+
+-- such a number lies within 40,000 of 0
+pub near_low : (r : Result ℤ Fail) → IfOk r IsDatedNumber → IfOk r (λ n. negsuc 39999 ≤ℤ n)
+near_low (Ok n) h = omega (arith, ints, h.0)
 near_low (Err f) h = tt
 
-pub near_high : (r : Result ℤ Fail) → IfOk r IsNearNumber → IfOk r (λ n. n ≤ℤ pos 40000)
-near_high (Ok n) h = h.1
+pub near_high : (r : Result ℤ Fail) → IfOk r IsDatedNumber → IfOk r (λ n. n ≤ℤ pos 40000)
+near_high (Ok n) h = omega (arith, ints, h.1)
 near_high (Err f) h = tt

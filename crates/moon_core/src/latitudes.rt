@@ -1,6 +1,7 @@
 //! The latitude of the moon.
 ghost use Rattle.book_model.specs.programs.Calls.{Encloses2, Follows1};
-ghost use Rattle.std.specs.Prelude.{◌≤◌};
+ghost use Rattle.book_model.specs.programs.Widths.{IsAbout, IsMoment, Measured1};
+ghost use Rattle.std.specs.Prelude.{◌≡◌, ◌≤◌, ◌*◌, ◌^◌};
 ghost use Rattle.book_model.specs.numbers.Bounds.{Reach, limits_of};
 ghost use Rattle.book_model.specs.numbers.Depth.{DEPTH};
 ghost use Rattle.book_model.specs.numbers.Expressions.{Expression, World};
@@ -10,6 +11,8 @@ ghost use Rattle.book_model.specs.numbers.Relations.{Within, Narrow};
 ghost use Rattle.moon_core.specs.Angles.{HoldAngles, KeepAngles};
 ghost use Rattle.moon_core.specs.Daily.{computed_millionths_of, computed_latitude_of};
 ghost use Rattle.sun_core.specs.Daily.{in_centuries};
+ghost use Rattle.width_laws.specs.declared.table.TheConstants.{LATITUDE};
+ghost use Rattle.width_laws.specs.Table.{greatest_of};
 
 use crate::angles::{Angles, angles_at, daily_quartic};
 use crate::terms::lunar_term;
@@ -118,6 +121,8 @@ fn latitude_at<E: Enclosure>(days: E, c: E) -> E
 #[tactic(auto, using(book_model::proofs::Leads::leading), unfolding(book_model::specs::sky::Latitude::latitude_of, book_model::specs::sky::Time::centuries_of, book_model::specs::sky::Time::in_centuries, sun_core::specs::Daily::in_centuries))]
 pub fn latitude<E: Enclosure>(t: E, trail: &mut Trail) -> Result<E, Fail>
     ensures leads { Follows1 E.shown spec.latitude_of t trail.old.count trail.new.count result }
+    ensures measured { Measured1 E.BITS E.shown (2 ^ 44) IsMoment
+        (λ v. IsAbout (7 * 2 ^ 32) (greatest_of LATITUDE v)) t result }
 {
     let moment = dynamical(t, trail)?;
     let days = moment.sub(E::from_frac(NOON_2000));

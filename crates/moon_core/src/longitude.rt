@@ -1,16 +1,19 @@
 //! The apparent longitude of the moon.
 ghost use Rattle.book_model.specs.programs.Calls.{Follows1};
-ghost use Rattle.std.specs.Prelude.{◌≡◌, ℕ, IfErr};
+ghost use Rattle.book_model.specs.programs.Widths.{IsMoment, IsUpTo, Measured1};
+ghost use Rattle.std.specs.Prelude.{◌≡◌, ℕ, ◌^◌, IfErr};
 ghost use Rattle.book_model.specs.numbers.Bounds.{Reach, IsNarrow, limits_of};
 ghost use Rattle.book_model.specs.numbers.Expressions.{Expression, World, argument};
 ghost use Rattle.book_model.specs.sky.Moon as spec;
 ghost use Rattle.book_model.specs.numbers.Relations.{Within, Narrow};
 ghost use Rattle.moon_core.specs.Angles.{HoldAngles, KeepAngles};
 ghost use Rattle.moon_core.specs.Daily.{computed_terms_of, computed_flattening_of, computed_inequalities_of, computed_longitude_of};
-ghost use Rattle.moon_core.specs.Widths.{longitude_bound};
+ghost use Rattle.moon_core.specs.Widths.{Answers1, longitude_bound};
 ghost use Rattle.sun_core.specs.Daily.{in_centuries};
 ghost use Rattle.sun_core.specs.Widths.{days_of_years};
 ghost use Rattle.time_scales.specs.Steps.{IsYearOpenFor};
+ghost use Rattle.width_laws.specs.declared.table.TheConstants.{MOON};
+ghost use Rattle.width_laws.specs.Table.{greatest_of};
 
 use crate::angles::{Angles, angles_at, daily_quartic};
 use crate::terms::lunar_term;
@@ -119,6 +122,10 @@ fn longitude<E: Enclosure>(days: E, c: E) -> E
 #[tactic(auto, using(book_model::proofs::Leads::leading, crate::proofs::Openings::opening), unfolding(book_model::specs::sky::Moon::moon_of, book_model::specs::sky::Time::centuries_of, book_model::specs::sky::Time::in_centuries, sun_core::specs::Daily::in_centuries))]
 pub fn moon<E: Enclosure>(t: E, trail: &mut Trail) -> Result<E, Fail>
     ensures leads { Follows1 E.shown spec.moon_of t trail.old.count trail.new.count result }
+    ensures measured { Measured1 E.BITS E.shown (2 ^ 39) IsMoment
+        (λ v. IsUpTo 360 (greatest_of MOON v)) t result }
+    ensures wide { Answers1 E.BITS E.shown (2 ^ 40) IsMoment (λ v. IsUpTo 360 (greatest_of MOON v)) t
+        result }
     ensures open { IfErr result (IsYearOpenFor (E.shown t)) }
 {
     let moment = dynamical(t, trail)?;

@@ -1,10 +1,14 @@
 //! The moon's phase, and the number of the new moon about a moment.
 ghost use Rattle.book_model.specs.programs.Calls.{Decides1, Encloses1, Follows1, Follows2, Holds2};
-ghost use Rattle.std.specs.Prelude.{◌≡◌, pos, negsuc, ◌≤ℤ◌, IfOk, IfErr};
+ghost use Rattle.book_model.specs.programs.Widths.{IsAbout, IsMoment, IsUpTo, IsWithin, Measured1, Measured2};
+ghost use Rattle.std.specs.Prelude.{◌≡◌, ℕ, ◌≤◌, ◌+◌, ◌*◌, ◌/◌, ◌^◌, ℤ, pos, negsuc, ◌≤ℤ◌, IfOk, IfErr};
 ghost use Rattle.exact_math.specs.Interval.{Interval};
 ghost use Rattle.book_model.specs.sky.Phases as spec;
 ghost use Rattle.book_model.specs.numbers.Ranges.{IsInTable};
+ghost use Rattle.moon_core.specs.Widths.{Answers1, Answers2, Closes1, IsLate};
 ghost use Rattle.time_scales.specs.Steps.{IsYearOpenFor, IsEarlyYearFor};
+ghost use Rattle.width_laws.specs.declared.table.TheConstants.{PHASE};
+ghost use Rattle.width_laws.specs.Table.{greatest_of};
 
 use crate::longitude::moon;
 use book_model::{DAY_IN_MONTHS, DEGREE_IN_MONTHS, Fail, HALF, Site, TURN};
@@ -16,6 +20,8 @@ use sun_core::sun;
 #[tactic(auto, using(book_model::proofs::Leads::leading, crate::proofs::Openings::opening), unfolding(book_model::specs::sky::Phases::turned_of))]
 fn turned<E: Enclosure>(angle: E, trail: &mut Trail) -> Result<E, Fail>
     ensures leads { Follows1 E.shown spec.turned_of angle trail.old.count trail.new.count result }
+    ensures measured { Measured1 E.BITS E.shown (2 ^ 44) (IsAbout (2 ^ 90)) (IsUpTo 360) angle result }
+    ensures wide { Answers1 E.BITS E.shown (2 ^ 46) (IsAbout (2 ^ 90)) (IsUpTo 360) angle result }
     ensures elsewhere { (i : Interval) → IfErr result (IsYearOpenFor i) }
 {
     wrap_step(angle, 360, Site::PhaseWrap, trail)
@@ -26,6 +32,10 @@ fn turned<E: Enclosure>(angle: E, trail: &mut Trail) -> Result<E, Fail>
 #[tactic(auto, using(book_model::proofs::Leads::leading), unfolding(book_model::specs::sky::Phases::elongation_of))]
 fn elongation<E: Enclosure>(t: E, trail: &mut Trail) -> Result<E, Fail>
     ensures leads { Follows1 E.shown spec.elongation_of t trail.old.count trail.new.count result }
+    ensures measured { Measured1 E.BITS E.shown (2 ^ 39) IsMoment
+        (λ v. IsUpTo 360 (22 * v + 17 * 2 ^ 32)) t result }
+    ensures wide { Answers1 E.BITS E.shown (2 ^ 40) IsMoment
+        (λ v. IsUpTo 360 (22 * v + 17 * 2 ^ 32)) t result }
     ensures open { IfErr result (IsYearOpenFor (E.shown t)) }
     ensures in_table { IfOk result (λ p. IsInTable (E.shown t)) }
 {
@@ -40,6 +50,8 @@ fn months_since<E: Enclosure>(n: i64, t: E, trail: &mut Trail) -> Result<E, Fail
     requires low { negsuc 39999999 ≤ℤ n }
     requires high { n ≤ℤ pos 40000000 }
     ensures leads { Follows1 E.shown (spec.months_since n) t trail.old.count trail.new.count result }
+    ensures measured { negsuc 6299 ≤ℤ n → n ≤ℤ pos 55724 → Measured1 E.BITS E.shown (2 ^ 44)
+        IsMoment (λ v. IsAbout (2 ^ 54) (v / 29 + 2 ^ 26)) t result }
 {
     let moment = new_moon::<E>(n, trail)?;
     Ok(t.sub(moment).mul_frac(DAY_IN_MONTHS))
@@ -50,6 +62,7 @@ fn months_since<E: Enclosure>(n: i64, t: E, trail: &mut Trail) -> Result<E, Fail
 fn nearest_moon<E: Enclosure>(months: E, trail: &mut Trail) -> Result<i64, Fail>
     ensures leads { Decides1 E.shown spec.nearest_moon_of months trail.old.count trail.new.count
         result }
+    ensures close { Closes1 E.BITS E.shown (2 ^ 43) (IsAbout (2 ^ 89)) months result }
 {
     floor_step(months.add(E::from_frac(HALF)), Site::MoonNumber, trail)
 }
@@ -62,6 +75,9 @@ fn rough_number<E: Enclosure>(t: E, trail: &mut Trail) -> Result<i64, Fail>
     ensures leads { Decides1 E.shown spec.rough_number_of t trail.old.count trail.new.count result }
     ensures low { IfOk result (λ n. negsuc 39999 ≤ℤ n) }
     ensures high { IfOk result (λ n. n ≤ℤ pos 40000) }
+    ensures from { IfOk result (λ n. negsuc 6199 ≤ℤ n) }
+    ensures to { IfOk result (λ n. n ≤ℤ pos 25500) }
+    ensures close { Closes1 E.BITS E.shown (2 ^ 44) IsMoment t result }
 {
     let months = months_since(0, t, trail)?;
     nearest_moon(months, trail)
@@ -72,6 +88,7 @@ fn rough_number<E: Enclosure>(t: E, trail: &mut Trail) -> Result<i64, Fail>
 fn rest_of_month<E: Enclosure>(months: E, trail: &mut Trail) -> Result<E, Fail>
     ensures leads { Follows1 E.shown spec.rest_of_month months trail.old.count trail.new.count
         result }
+    ensures measured { Measured1 E.BITS E.shown (2 ^ 44) (IsAbout (2 ^ 90)) (IsUpTo 1) months result }
 {
     wrap_step(months, 1, Site::PhaseWrap, trail)
 }
@@ -83,6 +100,8 @@ fn phase_by_months<E: Enclosure>(n: i64, t: E, trail: &mut Trail) -> Result<E, F
     requires high { n ≤ℤ pos 40000000 }
     ensures leads { Follows1 E.shown (spec.phase_by_months_of n) t trail.old.count trail.new.count
         result }
+    ensures measured { negsuc 6299 ≤ℤ n → n ≤ℤ pos 55724 → Measured1 E.BITS E.shown (2 ^ 44)
+        IsMoment (λ v. IsUpTo 360 (13 * v + 2 ^ 35)) t result }
 {
     let months = months_since(n, t, trail)?;
     let rest = rest_of_month(months, trail)?;
@@ -97,9 +116,11 @@ fn size<E: Enclosure>(x: E) -> E
 }
 
 /// The second of two phases, where they are apart.
-#[tactic(auto, unfolding(book_model::specs::sky::Phases::chosen))]
+#[tactic(auto, using(crate::proofs::Measured::wider_turn), unfolding(book_model::specs::sky::Phases::chosen))]
 fn chosen<E: Enclosure>(apart: bool, by_longitudes: E, by_time: E) -> E
     ensures holds { Holds2 E.shown (spec.chosen apart) by_longitudes by_time result }
+    ensures measured { (v u w : ℕ) → v ≤ w → u ≤ w → IsUpTo 360 v (E.shown by_longitudes)
+        → IsUpTo 360 u (E.shown by_time) → IsUpTo 360 w (E.shown result) }
 {
     if apart { by_time } else { by_longitudes }
 }
@@ -109,6 +130,12 @@ fn chosen<E: Enclosure>(apart: bool, by_longitudes: E, by_time: E) -> E
 fn picked<E: Enclosure>(by_longitudes: E, by_time: E, trail: &mut Trail) -> Result<E, Fail>
     ensures leads { Follows2 E.shown spec.picked_of by_longitudes by_time trail.old.count
         trail.new.count result }
+    ensures measured { Measured2 E.BITS E.shown (3 * 2 ^ 37) (λ v. IsUpTo 360 (22 * v + 17 * 2 ^ 32))
+        (λ v. IsUpTo 360 (13 * v + 2 ^ 35)) (λ v. IsUpTo 360 (24 * v + 2 ^ 37)) by_longitudes by_time
+        result }
+    ensures wide { Answers2 E.BITS E.shown (2 ^ 40) (λ v. IsUpTo 360 (22 * v + 17 * 2 ^ 32))
+        (λ v. IsUpTo 360 (13 * v + 2 ^ 35)) (λ v. IsUpTo 360 (24 * v + 2 ^ 37)) by_longitudes by_time
+        result }
 {
     let apart = size(by_longitudes.sub(by_time));
     let is_apart = less_step(E::from_int(180), apart, Site::PhasePick, trail)?;
@@ -121,6 +148,10 @@ fn corrected<E: Enclosure>(by_longitudes: E, t: E, trail: &mut Trail) -> Result<
     requires in_table { IsInTable (E.shown t) }
     ensures leads { Follows2 E.shown spec.corrected_of t by_longitudes trail.old.count
         trail.new.count result }
+    ensures measured { Measured2 E.BITS E.shown (3 * 2 ^ 37) (λ v. IsUpTo 360 (22 * v + 17 * 2 ^ 32))
+        IsMoment (λ v. IsUpTo 360 (24 * v + 2 ^ 37)) by_longitudes t result }
+    ensures wide { Answers2 E.BITS E.shown (2 ^ 40) (λ v. IsUpTo 360 (22 * v + 17 * 2 ^ 32)) IsMoment
+        (λ v. IsUpTo 360 (24 * v + 2 ^ 37)) by_longitudes t result }
 {
     let number = rough_number(t, trail)?;
     let by_time = phase_by_months(number, t, trail)?;
@@ -135,6 +166,11 @@ fn corrected<E: Enclosure>(by_longitudes: E, t: E, trail: &mut Trail) -> Result<
 #[tactic(auto, using(book_model::proofs::Leads::leading), unfolding(book_model::specs::sky::Phases::phase_of))]
 pub fn phase<E: Enclosure>(t: E, trail: &mut Trail) -> Result<E, Fail>
     ensures leads { Follows1 E.shown spec.phase_of t trail.old.count trail.new.count result }
+    ensures measured { Measured1 E.BITS E.shown (3 * 2 ^ 37) IsMoment
+        (λ v. IsUpTo 360 (greatest_of PHASE v)) t result }
+    ensures wide { Answers1 E.BITS E.shown (2 ^ 40) IsMoment (λ v. IsUpTo 360 (greatest_of PHASE v)) t
+        result }
+    ensures in_table { IfOk result (λ p. IsInTable (E.shown t)) }
     ensures early { trail.old.count ≡ 0 → IfErr result (IsEarlyYearFor (E.shown t)) }
 {
     let by_longitudes = elongation(t, trail)?;
@@ -147,6 +183,10 @@ pub(crate) fn number<E: Enclosure>(t: E, trail: &mut Trail) -> Result<i64, Fail>
     ensures leads { Decides1 E.shown spec.number_of_moon t trail.old.count trail.new.count result }
     ensures low { IfOk result (λ n. negsuc 39999 ≤ℤ n) }
     ensures high { IfOk result (λ n. n ≤ℤ pos 40000) }
+    ensures from { IfOk result (λ n. negsuc 6199 ≤ℤ n) }
+    ensures to { IfOk result (λ n. n ≤ℤ pos 25500) }
+    ensures late { (v : ℕ) → IsLate v (E.shown t) → IfOk result (λ n. pos 21900 ≤ℤ n) }
+    ensures close { Closes1 E.BITS E.shown (3 * 2 ^ 37) IsMoment t result }
 {
     let months = months_since(0, t, trail)?;
     let degrees = phase(t, trail)?;

@@ -1,10 +1,15 @@
 //! When the moon was last at a phase.
 ghost use Rattle.book_model.specs.programs.Calls.{Decides, Encloses2, Follows1, Follows2, Follows3};
-ghost use Rattle.std.specs.Prelude.{◌≡◌, ◌≤◌, IfOk, IfErr};
+ghost use Rattle.book_model.specs.programs.Widths.{IsAbout, IsClose, IsMoment, IsUpTo, Measured1, Measured2, Measures};
+ghost use Rattle.std.specs.Prelude.{◌≡◌, ◌≤◌, ◌+◌, ◌*◌, ◌^◌, ℕ, pos, negsuc, ◌≤ℤ◌, IfOk, IfErr};
+ghost use Rattle.book_model.specs.numbers.Ranges.{IsInTable};
+ghost use Rattle.sun_core.specs.Widths.{IsNearMoment};
 ghost use Rattle.exact_math.specs.Interval.{Interval};
 ghost use Rattle.book_model.specs.sky.Facts.{IsValueDay};
 ghost use Rattle.book_model.specs.sky.Phases as spec;
 ghost use Rattle.book_model.specs.sky.Sun.{reduced_of};
+ghost use Rattle.width_laws.specs.declared.table.TheConstants.{PHASE};
+ghost use Rattle.width_laws.specs.Table.{greatest_of};
 ghost use Rattle.moon_core.specs.PhaseDays.{IsPhaseDay};
 ghost use Rattle.time_scales.specs.Steps.{IsEarlyYearFor, IsNoEarlyYear};
 
@@ -23,6 +28,9 @@ struct MoonPhase;
 impl<E: Enclosure> Angular<E> for MoonPhase {
     ghost angle_of = { λ s x. spec.phase_of x };
 
+    ghost spread = { λ v. greatest_of PHASE v };
+
+    #[tactic(auto, using(angle_search::proofs::Measured::turn_measured))]
     fn at(&self, x: E, trail: &mut Trail) -> Result<E, Fail> {
         phases::phase(x, trail)
     }
@@ -32,6 +40,7 @@ impl<E: Enclosure> Angular<E> for MoonPhase {
 #[tactic(auto, using(book_model::proofs::Leads::leading, crate::proofs::Openings::opening), unfolding(book_model::specs::sky::Sun::reduced_of))]
 fn reduced<E: Enclosure>(angle: E, trail: &mut Trail) -> Result<E, Fail>
     ensures leads { Follows1 E.shown reduced_of angle trail.old.count trail.new.count result }
+    ensures measured { Measured1 E.BITS E.shown (2 ^ 44) (IsAbout (2 ^ 90)) (IsUpTo 360) angle result }
     ensures elsewhere { (i : Interval) → IfErr result (IsEarlyYearFor i) }
 {
     wrap_step(angle, 360, Site::StepWrap, trail)
@@ -42,6 +51,9 @@ fn reduced<E: Enclosure>(angle: E, trail: &mut Trail) -> Result<E, Fail>
 fn phase_past<E: Enclosure>(phase: E, t: E, trail: &mut Trail) -> Result<E, Fail>
     ensures leads { Follows2 E.shown spec.phase_past_of phase t trail.old.count trail.new.count
         result }
+    ensures in_table { IfOk result (λ p. IsInTable (E.shown t)) }
+    ensures measured { Measured2 E.BITS E.shown (3 * 2 ^ 37) (λ v. IsMoment 0) IsMoment
+        (λ v. IsUpTo 360 (24 * v + 2 ^ 37)) phase t result }
     ensures early { trail.old.count ≡ 0 → IfErr result (IsEarlyYearFor (E.shown t)) }
 {
     let there = phases::phase(t, trail)?;
@@ -61,6 +73,9 @@ fn phase_back<E: Enclosure>(angle: E, t: E) -> E
 fn phase_about<E: Enclosure>(phase: E, t: E, about: E, trail: &mut Trail) -> Result<E, Fail>
     ensures leads { Follows3 E.shown spec.phase_about_of phase t about trail.old.count
         trail.new.count result }
+    ensures measured { (v : ℕ) → E.BITS ≡ 56 → v ≤ 2 ^ 35 → IsMoment 0 (E.shown phase)
+        → IsMoment v (E.shown t) → IsNearMoment v (E.shown about)
+        → Measures (λ x. IsMoment (v + 2 ^ 24) (E.shown x)) result }
 {
     let days = E::from_int(DAYS_ABOUT);
     invert_angular::<E, MoonPhase>(
@@ -78,6 +93,8 @@ fn phase_about<E: Enclosure>(phase: E, t: E, about: E, trail: &mut Trail) -> Res
 #[tactic(auto, using(book_model::proofs::Leads::leading), unfolding(book_model::specs::sky::Phases::phase_before_of))]
 pub fn phase_before<E: Enclosure>(p: E, t: E, trail: &mut Trail) -> Result<E, Fail>
     ensures leads { Follows2 E.shown spec.phase_before_of p t trail.old.count trail.new.count result }
+    ensures measured { Measured2 E.BITS E.shown (2 ^ 32) (λ v. IsMoment 0) IsMoment
+        (λ v. IsMoment (3 * v + 2 ^ 34)) p t result }
     ensures early { trail.old.count ≡ 0 → IfErr result (IsEarlyYearFor (E.shown t)) }
 {
     let past = phase_past(p, t, trail)?;
@@ -90,6 +107,8 @@ pub fn phase_before<E: Enclosure>(p: E, t: E, trail: &mut Trail) -> Result<E, Fa
 pub fn phase_day<E: Enclosure>(phase: i64, day: i64, trail: &mut Trail) -> Result<i64, Fail>
     ensures leads { Decides (spec.phase_day_of phase day) trail.old.count trail.new.count result }
     ensures near { IfOk result IsPhaseDay }
+    ensures close { E.BITS ≡ 56 → negsuc 39999999 ≤ℤ phase → phase ≤ℤ pos 40000000
+        → negsuc 39999999 ≤ℤ day → day ≤ℤ pos 40000000 → IfErr result IsClose }
     ensures early { trail.old.count ≡ 0 → 36 ≤ E.BITS → E.BITS ≤ 56 → IsValueDay day
         → IfErr result IsNoEarlyYear }
 {

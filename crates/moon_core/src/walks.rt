@@ -1,7 +1,12 @@
 //! The new moons before and from a moment, by a walk over their numbers.
 ghost use Rattle.book_model.specs.programs.Calls.{Decides1, Follows, Follows1};
-ghost use Rattle.std.specs.Prelude.{◌+◌, pos, negsuc, ◌≤ℤ◌, ◌+ℤ◌, IfOk};
+ghost use Rattle.book_model.specs.programs.Widths.{IsMoment, IsNearlyDated, Measured, Measured1};
+ghost use Rattle.std.specs.Prelude.{◌≡◌, ◌+◌, ◌*◌, ◌^◌, pos, negsuc, ◌≤ℤ◌, ◌+ℤ◌, IfOk};
 ghost use Rattle.book_model.specs.sky.Phases as spec;
+ghost use Rattle.encl_core.specs.Kept.{IsRecentlyDated};
+ghost use Rattle.moon_core.specs.Widths.{Closes1, IsLate};
+ghost use Rattle.width_laws.specs.declared.table.TheConstants.{NEW_MOON};
+ghost use Rattle.width_laws.specs.Table.{greatest_of};
 
 use crate::phases::number;
 use book_model::{Fail, Site};
@@ -18,6 +23,8 @@ fn is_moon_before<E: Enclosure>(n: i64, t: E, trail: &mut Trail) -> Result<bool,
     requires high { n ≤ℤ pos 40000000 }
     ensures leads { Decides1 E.shown (spec.is_moon_before_of n) t trail.old.count trail.new.count
         result }
+    ensures close { negsuc 6299 ≤ℤ n → n ≤ℤ pos 55724 → Closes1 E.BITS E.shown (2 ^ 43) IsMoment t
+        result }
 {
     let moment = new_moon::<E>(n, trail)?;
     less_step(moment, t, Site::MoonWalk, trail)
@@ -32,6 +39,8 @@ fn walk<E: Enclosure>(more: u32, t: E, n: i64, trail: &mut Trail) -> Result<i64,
         result }
     ensures from { IfOk result (λ k. n ≤ℤ k) }
     ensures to { IfOk result (λ k. k ≤ℤ (n +ℤ pos more)) }
+    ensures close { negsuc 6299 ≤ℤ n → (n +ℤ pos more) ≤ℤ pos 55724
+        → Closes1 E.BITS E.shown (2 ^ 43) IsMoment t result }
 {
     if more == 0 {
         return Err(Fail::Void(Site::MoonWalk));
@@ -50,6 +59,10 @@ fn moon_preceding<E: Enclosure>(n: i64, trail: &mut Trail) -> Result<E, Fail>
     requires high { n ≤ℤ pos 40000000 }
     ensures leads { Follows E.shown (spec.moon_preceding_of n) trail.old.count trail.new.count
         result }
+    ensures measured { negsuc 6298 ≤ℤ n → n ≤ℤ pos 55724
+        → Measured E.BITS E.shown (IsNearlyDated (greatest_of NEW_MOON 0)) result }
+    ensures recent { pos 21101 ≤ℤ n → n ≤ℤ pos 25801
+        → Measured E.BITS E.shown (IsRecentlyDated (greatest_of NEW_MOON 0)) result }
 {
     new_moon::<E>(n - 1, trail)
 }
@@ -61,6 +74,10 @@ fn moon_preceding<E: Enclosure>(n: i64, trail: &mut Trail) -> Result<E, Fail>
 #[tactic(auto, using(book_model::proofs::Leads::leading), unfolding(book_model::specs::sky::Phases::moon_before_of))]
 pub fn moon_before<E: Enclosure>(t: E, trail: &mut Trail) -> Result<E, Fail>
     ensures leads { Follows1 E.shown spec.moon_before_of t trail.old.count trail.new.count result }
+    ensures measured { Measured1 E.BITS E.shown (3 * 2 ^ 37) IsMoment
+        (λ v. IsNearlyDated (greatest_of NEW_MOON 0)) t result }
+    ensures recent { Measured1 E.BITS E.shown (3 * 2 ^ 37) IsLate
+        (λ v. IsRecentlyDated (greatest_of NEW_MOON 0)) t result }
 {
     let about = number(t, trail)?;
     let next = walk(NUMBERS_TRIED, t, about - 1, trail)?;
@@ -74,6 +91,10 @@ pub fn moon_before<E: Enclosure>(t: E, trail: &mut Trail) -> Result<E, Fail>
 #[tactic(auto, using(book_model::proofs::Leads::leading), unfolding(book_model::specs::sky::Phases::moon_from_of))]
 pub fn moon_from<E: Enclosure>(t: E, trail: &mut Trail) -> Result<E, Fail>
     ensures leads { Follows1 E.shown spec.moon_from_of t trail.old.count trail.new.count result }
+    ensures measured { Measured1 E.BITS E.shown (3 * 2 ^ 37) IsMoment
+        (λ v. IsNearlyDated (greatest_of NEW_MOON 0)) t result }
+    ensures recent { Measured1 E.BITS E.shown (3 * 2 ^ 37) IsLate
+        (λ v. IsRecentlyDated (greatest_of NEW_MOON 0)) t result }
 {
     let about = number(t, trail)?;
     let next = walk(NUMBERS_TRIED, t, about, trail)?;

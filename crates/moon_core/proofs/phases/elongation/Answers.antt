@@ -1,5 +1,7 @@
+use Rattle.std.proofs.Common.{arith, ◌+◌, ◌*◌, ◌^◌}
 use Rattle.book_model.specs.sky.Phases.{elongation_of}
 use Rattle.book_model.proofs.Leads.{leads_on, leaf_within}
+use Rattle.moon_core.proofs.Measured.{elongation_within}
 use Rattle.moon_core.proofs.PhaseRanges.{elongation_found, within_world}
 use Rattle.moon_core.proofs.phases.elongation.Goals as goal
 
@@ -18,3 +20,15 @@ returns-clause-in_table g c =
     let shown = g.E.Enclosure.shown in
     let p = g.E.Enclosure.proper in
     elongation_found shown p c.args.t c.turned.result (returns-clause-leads g c _ _ (within_world shown p c.args.t))
+
+pub returns-clause-measured : goal.returns-clause-measured
+returns-clause-measured g c = λ v e b h.
+    let m = c.in_ok-there.ensures.measured v e b h in
+    let s = c.in_ok-longitude.ensures.measured v e (omega (arith, b)) h in
+    c.turned.ensures.measured (22 * v + 17 * 2 ^ 32) e (omega (arith, b)) (elongation_within g.E.Enclosure.shown _ v c.in_ok-there.there c.in_ok-longitude.longitude c.sub.result e m s (λ r p q. c.sub.ensures.encloses.narrow r p q))
+
+pub returns-clause-wide : goal.returns-clause-wide
+returns-clause-wide g c = λ v e b h.
+    let m = c.in_ok-there.ensures.wide v e b h in
+    let s = c.in_ok-longitude.ensures.measured v e (omega (arith, b)) h in
+    c.turned.ensures.wide (22 * v + 17 * 2 ^ 32) e (omega (arith, b)) (elongation_within g.E.Enclosure.shown _ v c.in_ok-there.there c.in_ok-longitude.longitude c.sub.result e m s (λ r p q. c.sub.ensures.encloses.narrow r p q))

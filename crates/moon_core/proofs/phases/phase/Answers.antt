@@ -1,3 +1,4 @@
+use Rattle.std.proofs.Common.{arith}
 use Rattle.std.proofs.lemmas.Result.{err_from_is_err_and}
 use Rattle.book_model.specs.numbers.Expressions.{argument}
 use Rattle.book_model.proofs.Early.{elongation_least, three_made}
@@ -18,3 +19,9 @@ pub returns-in_err-by_longitudes-clause-early : goal.returns-in_err-by_longitude
 returns-in_err-by_longitudes-clause-early g c = λ z.
     let fails = err_from_is_err_and c.from_residual.result c.from_residual.ensures.1 in
     rw (fails.1, fails.2) (open_is_early _ _ c.in_err-by_longitudes.ensures.open)
+
+pub returns-clause-measured : goal.returns-clause-measured
+returns-clause-measured g c = λ v e b h. c.corrected.ensures.measured v e b (c.in_ok-by_longitudes.ensures.measured v e (omega (arith, b)) h) h
+
+pub returns-clause-wide : goal.returns-clause-wide
+returns-clause-wide g c = λ v e b h. c.corrected.ensures.wide v e b (c.in_ok-by_longitudes.ensures.wide v e b h) h

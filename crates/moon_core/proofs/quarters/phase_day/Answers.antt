@@ -5,6 +5,9 @@ use Rattle.book_model.specs.sky.Phases.{phase_day_of}
 use Rattle.book_model.proofs.Leads.{leads_on, leaf_within}
 use Rattle.time_scales.proofs.WholeDays.{no_early_year}
 use Rattle.moon_core.proofs.PhaseDays.{phase_day_found}
+use Rattle.std.proofs.Common.{arith, ◌+◌, ◌*◌, ◌^◌}
+use Rattle.width_laws.proofs.Measuring.{moment_about}
+use Rattle.moon_core.proofs.QuarterWidths.{whole_moment}
 use Rattle.moon_core.proofs.quarters.phase_day.Goals as goal
 
 pub returns-clause-leads : goal.returns-clause-leads
@@ -26,3 +29,22 @@ returns-in_err-moment-clause-early g c = λ z p q h.
 
 pub returns-clause-near : goal.returns-clause-near
 returns-clause-near g c = phase_day_found c.args.phase c.args.day _ _ _ (returns-clause-leads g c)
+
+pub returns-clause-close : goal.returns-clause-close
+returns-clause-close g c = λ e a b k l.
+    let shown = g.E.Enclosure.shown in
+    let f : SFits w64 c.args.phase = c.ranges.phase in
+    let d : SFits w64 c.args.day = c.ranges.day in
+    let p = whole_moment shown _ c.args.phase c.from_int.result e a b (simp to_z-of_z at c.from_int.ensures.encloses.narrow) in
+    let t = whole_moment shown _ c.args.day c.from_int-2.result e k l (simp to_z-of_z at c.from_int-2.ensures.encloses.narrow) in
+    c.floor_step.ensures.close (3 * 0 + 2 ^ 34) (omega arith) (moment_about _ _ (c.in_ok-moment.ensures.measured 0 e (omega arith) p t))
+
+pub returns-in_err-moment-clause-close : goal.returns-in_err-moment-clause-close
+returns-in_err-moment-clause-close g c = λ e a b k l.
+    let shown = g.E.Enclosure.shown in
+    let f : SFits w64 c.args.phase = c.ranges.phase in
+    let d : SFits w64 c.args.day = c.ranges.day in
+    let p = whole_moment shown _ c.args.phase c.from_int.result e a b (simp to_z-of_z at c.from_int.ensures.encloses.narrow) in
+    let t = whole_moment shown _ c.args.day c.from_int-2.result e k l (simp to_z-of_z at c.from_int-2.ensures.encloses.narrow) in
+    let fails = err_from_is_err_and c.from_residual.result c.from_residual.ensures.1 in
+    rw (fails.1, fails.2) (c.in_err-moment.ensures.measured 0 e (omega arith) p t)
