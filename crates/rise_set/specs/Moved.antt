@@ -1,6 +1,6 @@
 -- The ends of an open test, where a whole number is added to what is tested.
 use Rattle.std.specs.Prelude.{◌≡◌, ℕ, ◌-◌, ◌^◌, ℤ, pos, negsuc, ◌+ℤ◌, ◌*ℤ◌, ◌≤ℤ◌, FitsSigned}
-use Rattle.std.specs.Int.{w64}
+use Rattle.std.specs.Int.{w64, w128}
 use Rattle.book_model.specs.declared.fail.Fail.{Fail}
 use Rattle.book_model.specs.declared.fail.Fail.TheVariants.{Undecided, Void}
 use Rattle.book_model.specs.declared.site.Site.{Site}
@@ -26,3 +26,8 @@ IsTooFar s n q (Void t) = ⊥
 abbrev pub AreOf128Bits : Fail → Type 0
 AreOf128Bits (Undecided u) = (negsuc (2 ^ 127 - 1) ≤ℤ u.lo) × (u.hi ≤ℤ pos (2 ^ 127 - 1))
 AreOf128Bits (Void s) = Unit {0}
+
+-- the ends of an open test, if it is one, have 128 bits after k is added
+abbrev pub HasRoom : ℤ → Fail → Type 0
+HasRoom k (Undecided u) = FitsSigned w128 (u.lo +ℤ k *ℤ pos 72057594037927936) × FitsSigned w128 (u.hi +ℤ k *ℤ pos 72057594037927936)
+HasRoom k (Void s) = Unit {0}

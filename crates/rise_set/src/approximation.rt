@@ -1,17 +1,26 @@
 //! One approximation of dawn or dusk, from a moment near to it.
-ghost use Rattle.book_model.specs.programs.Calls.{Follows2, Holds, Holds1};
+ghost use Rattle.book_model.specs.programs.Calls.{Encloses, Encloses1, Holds1};
+ghost use Rattle.book_model.specs.programs.Programs.{cell_at, integers};
+ghost use Rattle.book_model.specs.programs.Widths.{IsAbout, Measured1};
+ghost use Rattle.std.specs.Prelude.{◌≡◌, ◌+◌, ◌*◌, ◌/◌, ◌^◌, ◌≤ℤ◌, ℕ, pos, negsuc, Some};
+ghost use Rattle.sun_core.specs.Widths.{IsLocalMoment};
+ghost use Rattle.rise_set.specs.Widths.{IsMeanMoment, IsNarrowHorizon, IsOffset};
+ghost use Rattle.rise_set.specs.Horizons.{FollowsHorizon};
 ghost use Rattle.book_model.specs.sky.Horizon as spec;
 
 use crate::offsets::near_offset;
+use crate::skyline::Horizon;
 use arc_series::arcsin_deg;
-use book_model::{DEGREE_IN_DAYS, Fail, Location, QUARTER, Site, THREE_QUARTERS, Twilight};
+use book_model::{DEGREE_IN_DAYS, Fail, QUARTER, Site, THREE_QUARTERS, Twilight};
 use encl_core::{Enclosure, Trail, floor_step};
 use sun_core::from_apparent;
 
 /// When the sun rises or sets on a day (R.D.) at the equinox, in apparent time: at 6 or at 18 hours.
 #[tactic(auto, unfolding(book_model::specs::sky::Horizon::quarter_of))]
 pub(crate) fn quarter<E: Enclosure>(twilight: Twilight, day: i64) -> E
-    ensures holds { Holds E.shown (spec.quarter_of twilight day) result }
+    ensures encloses { Encloses E.shown E.BITS (spec.quarter_of twilight day) result }
+    ensures measured { E.BITS ≡ 56 → negsuc 39999999 ≤ℤ day → day ≤ℤ pos 40000000
+        → IsAbout (40000001 * 2 ^ 32) (2 ^ 8) (E.shown result) }
 {
     match twilight {
         Twilight::Dawn => E::from_int(day).add(E::from_frac(QUARTER)),
@@ -21,7 +30,7 @@ pub(crate) fn quarter<E: Enclosure>(twilight: Twilight, day: i64) -> E
 
 /// The angle of an offset, as a part of a day.
 fn part_of_day<E: Enclosure>(offset: E) -> E
-    ensures holds { Holds1 E.shown spec.part_of offset result }
+    ensures encloses { Encloses1 E.shown E.BITS spec.part_of offset result }
 {
     arcsin_deg(offset).mul_frac(DEGREE_IN_DAYS)
 }
@@ -30,6 +39,8 @@ fn part_of_day<E: Enclosure>(offset: E) -> E
 #[tactic(auto, unfolding(book_model::specs::sky::Horizon::apparent_by))]
 fn apparent<E: Enclosure>(twilight: Twilight, day: i64, offset: E) -> E
     ensures holds { Holds1 E.shown (spec.apparent_by twilight day) offset result }
+    ensures measured { (v : ℕ) → E.BITS ≡ 56 → negsuc 39999999 ≤ℤ day → day ≤ℤ pos 40000000
+        → IsOffset v (E.shown offset) → IsLocalMoment (v / 5 + 2 ^ 11) (E.shown result) }
 {
     match twilight {
         Twilight::Dawn => quarter::<E>(Twilight::Dawn, day).sub(part_of_day(offset)),
@@ -40,18 +51,25 @@ fn apparent<E: Enclosure>(twilight: Twilight, day: i64, offset: E) -> E
 /// The moment of a day (R.D.) at which the sun has a depression, from one near to it: nine tests at most.
 #[tactic(auto, using(book_model::proofs::Leads::leading), unfolding(book_model::specs::sky::Horizon::approximation_on))]
 fn approximation_on<E: Enclosure>(
-    location: &Location,
+    horizon: &Horizon<E>,
     twilight: Twilight,
-    depression: E,
     t: E,
     day: i64,
     trail: &mut Trail,
 ) -> Result<E, Fail>
-    ensures leads { Follows2 E.shown (λ a x. spec.approximation_on location.now twilight a x day)
-        depression t trail.old.count trail.new.count result }
+    ensures leads { FollowsHorizon E.shown
+        (λ a x. spec.approximation_on horizon.now.location twilight a x day) horizon.now t
+        trail.old.count trail.new.count result }
+    ensures measured { IsNarrowHorizon E.shown horizon.now → cell_at integers (E.shown t) ≡ Some day
+        → Measured1 E.BITS E.shown (2 ^ 41) IsMeanMoment (λ v. IsMeanMoment (v / 20 + 2 ^ 32)) t
+        result }
 {
-    let offset = near_offset(location, twilight, depression, day, t, trail)?;
-    from_apparent(location.longitude, apparent(twilight, day, offset), trail)
+    let offset = near_offset(horizon, twilight, day, t, trail)?;
+    from_apparent(
+        horizon.location.longitude,
+        apparent(twilight, day, offset),
+        trail,
+    )
 }
 
 /// The moment at which the sun has a depression, from one near to it, both in local mean time (Reingold and Dershowitz,
@@ -59,15 +77,16 @@ fn approximation_on<E: Enclosure>(
 /// in a year without a correction.
 #[tactic(auto, using(book_model::proofs::Leads::leading), unfolding(book_model::specs::sky::Horizon::approximation_of))]
 pub(crate) fn approximation<E: Enclosure>(
-    location: &Location,
+    horizon: &Horizon<E>,
     twilight: Twilight,
-    depression: E,
     t: E,
     trail: &mut Trail,
 ) -> Result<E, Fail>
-    ensures leads { Follows2 E.shown (spec.approximation_of location.now twilight) depression t
-        trail.old.count trail.new.count result }
+    ensures leads { FollowsHorizon E.shown (spec.approximation_of horizon.now.location twilight)
+        horizon.now t trail.old.count trail.new.count result }
+    ensures measured { IsNarrowHorizon E.shown horizon.now → Measured1 E.BITS E.shown (2 ^ 41)
+        IsMeanMoment (λ v. IsMeanMoment (v / 20 + 2 ^ 32)) t result }
 {
     let day = floor_step(t, Site::DayFloor, trail)?;
-    approximation_on(location, twilight, depression, t, day, trail)
+    approximation_on(horizon, twilight, t, day, trail)
 }

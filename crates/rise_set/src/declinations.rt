@@ -1,7 +1,12 @@
 //! The declination of the sun.
-ghost use Rattle.book_model.specs.programs.Calls.{Follows1, Holds1, Holds2};
+ghost use Rattle.book_model.specs.programs.Calls.{Encloses2, Follows1, Holds1};
+ghost use Rattle.book_model.specs.programs.Widths.{IsAbout, IsMoment, Measured1};
+ghost use Rattle.std.specs.Prelude.{◌≡◌, ◌≤◌, ◌+◌, ◌-◌, ◌^◌, ℕ, IfOk};
 ghost use Rattle.book_model.specs.numbers.Fractions.{fraction_of};
+ghost use Rattle.book_model.specs.numbers.Ranges.{IsInTable};
 ghost use Rattle.book_model.specs.sky.Horizon as spec;
+ghost use Rattle.sun_core.specs.Widths.{IsNarrowPlace};
+ghost use Rattle.rise_set.specs.Widths.{IsDeclination, IsMeanDated};
 
 use arc_series::arcsin_deg;
 use book_model::{DEGREE_IN_DAYS, Fail, Frac};
@@ -14,6 +19,10 @@ use trig_series::sin_deg;
 #[tactic(auto, unfolding(book_model::specs::sky::Horizon::universal_of, book_model::specs::sky::Noon::ahead_of))]
 pub(crate) fn universal<E: Enclosure>(longitude: Frac, t: E) -> E
     ensures holds { Holds1 E.shown (spec.universal_of (fraction_of longitude)) t result }
+    ensures measured { IsNarrowPlace longitude → (v : ℕ) → E.BITS ≡ 56
+        → IsAbout (2 ^ 58 - 2 ^ 32) v (E.shown t) → IsMoment (v + 2 ^ 10) (E.shown result) }
+    ensures dated { IsNarrowPlace longitude → (v : ℕ) → E.BITS ≡ 56
+        → IsMoment v (E.shown result) → IsInTable (E.shown result) → IsMeanDated (E.shown t) }
 {
     t.sub(E::from_frac(longitude).mul_frac(DEGREE_IN_DAYS))
 }
@@ -21,7 +30,7 @@ pub(crate) fn universal<E: Enclosure>(longitude: Frac, t: E) -> E
 /// The declination of the sun by the obliquity of the ecliptic and the longitude of the sun, in degrees.
 #[tactic(auto, unfolding(book_model::specs::sky::Horizon::declination_by))]
 fn declination_by<E: Enclosure>(obliquity: E, longitude: E) -> E
-    ensures holds { Holds2 E.shown spec.declination_by obliquity longitude result }
+    ensures encloses { Encloses2 E.shown E.BITS spec.declination_by obliquity longitude result }
 {
     arcsin_deg(sin_deg(obliquity).mul(sin_deg(longitude)))
 }
@@ -32,6 +41,9 @@ fn declination_by<E: Enclosure>(obliquity: E, longitude: E) -> E
 #[tactic(auto, using(book_model::proofs::Leads::leading), unfolding(book_model::specs::sky::Horizon::declination_of))]
 pub fn declination<E: Enclosure>(t: E, trail: &mut Trail) -> Result<E, Fail>
     ensures leads { Follows1 E.shown spec.declination_of t trail.old.count trail.new.count result }
+    ensures in_table { IfOk result (λ d. IsInTable (E.shown t)) }
+    ensures measured { Measured1 E.BITS E.shown (2 ^ 42) IsMoment (λ v. IsDeclination (v + 2 ^ 32)) t
+        result }
 {
     let c = centuries(t, trail)?;
     let tilt = obliquity(c, trail)?;

@@ -1,10 +1,14 @@
 //! Dawn and dusk: approximations until two of them are less than half a minute apart.
-ghost use Rattle.book_model.specs.programs.Calls.{Decides2, Follows1, Follows2};
-ghost use Rattle.std.specs.Prelude.{◌≤◌, ◌+◌, ◌*◌};
+ghost use Rattle.book_model.specs.programs.Calls.{Decides2, Follows1};
+ghost use Rattle.rise_set.specs.Horizons.{FollowsHorizon};
+ghost use Rattle.book_model.specs.programs.Widths.{IsClose, Measured};
+ghost use Rattle.rise_set.specs.Widths.{IsDepression, IsNarrowHorizon, IsNarrowLocation, IsSettled};
+ghost use Rattle.std.specs.Prelude.{◌≡◌, ◌≤◌, ◌+◌, ◌*◌, ◌≤ℤ◌, pos, negsuc, IfErr};
 ghost use Rattle.book_model.specs.sky.Horizon as spec;
 
 use crate::approximation::{approximation, quarter};
 use crate::offsets::size;
+use crate::skyline::{Horizon, horizon_at};
 use book_model::{Fail, HALF_MINUTE, Location, Site, Twilight};
 use encl_core::{Enclosure, Trail, less_step};
 
@@ -16,6 +20,8 @@ const APPROXIMATIONS: u32 = 12;
 fn has_settled<E: Enclosure>(old: E, new: E, trail: &mut Trail) -> Result<bool, Fail>
     ensures leads { Decides2 E.shown spec.has_settled_of old new trail.old.count trail.new.count
         result }
+    ensures close { E.BITS ≡ 56 → IsSettled (E.shown old) → IsSettled (E.shown new)
+        → IfErr result IsClose }
 {
     less_step(
         size(new.sub(old)),
@@ -30,22 +36,23 @@ fn has_settled<E: Enclosure>(old: E, new: E, trail: &mut Trail) -> Result<bool, 
 #[tactic(auto, using(book_model::proofs::Leads::leading, crate::proofs::Settling::settling), unfolding(book_model::specs::programs::Leading::next_turn))]
 fn settled<E: Enclosure>(
     more: u32,
-    location: &Location,
+    horizon: &Horizon<E>,
     twilight: Twilight,
-    depression: E,
     t: E,
     trail: &mut Trail,
 ) -> Result<E, Fail>
-    ensures leads { Follows2 E.shown (spec.settled_of more location.now twilight) depression t
-        trail.old.count trail.new.count result }
+    ensures leads { FollowsHorizon E.shown (spec.settled_of more horizon.now.location twilight)
+        horizon.now t trail.old.count trail.new.count result }
+    ensures measured { IsNarrowHorizon E.shown horizon.now → IsSettled (E.shown t)
+        → Measured E.BITS E.shown IsSettled result }
 {
     if more == 0 {
         return Err(Fail::Void(Site::Settle));
     }
-    let new = approximation(location, twilight, depression, t, trail)?;
+    let new = approximation(horizon, twilight, t, trail)?;
     match has_settled(t, new, trail) {
         Ok(true) => Ok(new),
-        Ok(false) => settled(more - 1, location, twilight, depression, new, trail),
+        Ok(false) => settled(more - 1, horizon, twilight, new, trail),
         Err(fail) => Err(fail),
     }
 }
@@ -61,12 +68,14 @@ fn depressed<E: Enclosure>(
 ) -> Result<E, Fail>
     ensures leads { Follows1 E.shown (λ a. spec.depression_of location.now twilight a day)
         depression trail.old.count trail.new.count result }
+    ensures measured { IsNarrowLocation location.now → IsDepression (E.shown depression)
+        → negsuc 39999999 ≤ℤ day → day ≤ℤ pos 40000000 → Measured E.BITS E.shown IsSettled result }
 {
+    let horizon = horizon_at(location, depression);
     settled(
         APPROXIMATIONS,
-        location,
+        &horizon,
         twilight,
-        depression,
         quarter(twilight, day),
         trail,
     )
@@ -84,6 +93,8 @@ pub fn dawn<E: Enclosure>(
 ) -> Result<E, Fail>
     ensures leads { Follows1 E.shown (λ a. spec.dawn_of location.now a day) depression
         trail.old.count trail.new.count result }
+    ensures measured { IsNarrowLocation location.now → IsDepression (E.shown depression)
+        → negsuc 39999999 ≤ℤ day → day ≤ℤ pos 40000000 → Measured E.BITS E.shown IsSettled result }
 {
     depressed(location, Twilight::Dawn, depression, day, trail)
 }
@@ -98,6 +109,8 @@ pub fn dusk<E: Enclosure>(
 ) -> Result<E, Fail>
     ensures leads { Follows1 E.shown (λ a. spec.dusk_of location.now a day) depression
         trail.old.count trail.new.count result }
+    ensures measured { IsNarrowLocation location.now → IsDepression (E.shown depression)
+        → negsuc 39999999 ≤ℤ day → day ≤ℤ pos 40000000 → Measured E.BITS E.shown IsSettled result }
 {
     depressed(location, Twilight::Dusk, depression, day, trail)
 }

@@ -1,9 +1,11 @@
 //! Sunrise and sunset as the Hindu calendars take them, at Ujjain.
-ghost use Rattle.book_model.specs.programs.Calls.{Follows, Holds};
-ghost use Rattle.std.specs.Prelude.{◌≡◌, ◌≤ℤ◌, pos, negsuc};
+ghost use Rattle.book_model.specs.programs.Calls.{Encloses, Follows};
+ghost use Rattle.book_model.specs.programs.Widths.{IsMoment, Measured};
+ghost use Rattle.std.specs.Prelude.{◌≡◌, ◌*◌, ◌^◌, ◌≤ℤ◌, pos, negsuc};
 ghost use Rattle.book_model.specs.numbers.Expressions.{constant};
 ghost use Rattle.book_model.specs.numbers.Fractions.{fraction_of};
 ghost use Rattle.book_model.specs.sky.Horizon as spec;
+ghost use Rattle.time_scales.specs.Widths.{IsRecent};
 
 use crate::declinations::universal;
 use crate::depression::{dawn, dusk};
@@ -20,7 +22,7 @@ fn in_days(minutes: i64) -> Frac
 
 /// A number of minutes as an enclosure of days.
 fn days<E: Enclosure>(minutes: i64) -> E
-    ensures holds { Holds E.shown (constant (spec.minutes_in_days minutes)) result }
+    ensures encloses { Encloses E.shown E.BITS (constant (spec.minutes_in_days minutes)) result }
 {
     E::from_frac(in_days(minutes))
 }
@@ -33,6 +35,8 @@ pub fn sunrise<E: Enclosure>(day: i64, trail: &mut Trail) -> Result<E, Fail>
     requires low { negsuc 39999999 ≤ℤ day }
     requires high { day ≤ℤ pos 40000000 }
     ensures leads { Follows E.shown (spec.sunrise_of day) trail.old.count trail.new.count result }
+    ensures measured { Measured E.BITS E.shown (IsMoment (5 * 2 ^ 8)) result }
+    ensures recent { pos 620600 ≤ℤ day → Measured E.BITS E.shown (IsRecent (5 * 2 ^ 8)) result }
 {
     let rising = dawn(&UJJAIN, E::from_frac(HINDU_SUNRISE_DEPRESSION), day, trail)?;
     let minutes = rounded_minutes(day, rising, trail)?;
@@ -45,6 +49,10 @@ pub fn sunrise<E: Enclosure>(day: i64, trail: &mut Trail) -> Result<E, Fail>
 pub fn hsunset<E: Enclosure>(day: i64, trail: &mut Trail) -> Result<E, Fail>
     ensures leads { Follows E.shown (spec.hindu_sunset_of day) trail.old.count trail.new.count
         result }
+    ensures measured { negsuc 39999999 ≤ℤ day → day ≤ℤ pos 40000000
+        → Measured E.BITS E.shown (IsMoment (9 * 2 ^ 29)) result }
+    ensures recent { pos 620600 ≤ℤ day → day ≤ℤ pos 40000000
+        → Measured E.BITS E.shown (IsRecent (9 * 2 ^ 29)) result }
 {
     let t = dusk(&UJJAIN, E::from_int(0), day, trail)?;
     Ok(universal(UJJAIN.longitude, t))

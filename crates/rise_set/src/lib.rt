@@ -13,6 +13,7 @@ mod depression;
 mod hindu;
 mod minutes;
 mod offsets;
+mod skyline;
 mod sunsets;
 
 pub use declinations::declination;

@@ -1,10 +1,13 @@
 //! The floor of a number to which a whole number is added, and moments rounded to minutes.
 ghost use Rattle.book_model.specs.programs.Calls.{Decides1, Holds1};
-ghost use Rattle.std.specs.Prelude.{◌≡◌, ◌*ℤ◌, ◌+ℤ◌, ◌≤ℤ◌, pos, negsuc, IfOk, IfErr, IfSome};
+ghost use Rattle.book_model.specs.programs.Widths.{IsAbout, IsClose, most_apart};
+ghost use Rattle.std.specs.Int.{w128};
+ghost use Rattle.std.specs.Prelude.{◌≡◌, ◌≤◌, ◌^◌, ◌*ℤ◌, ◌+ℤ◌, ◌-ℤ◌, ◌≤ℤ◌, ℕ, pos, negsuc, neg_ℤ, FitsSigned, IfOk, IfErr, IfSome, IsSome};
 ghost use Rattle.book_model.specs.numbers.Expressions.{add, integer};
 ghost use Rattle.book_model.specs.sky.Horizon as spec;
 ghost use Rattle.book_model.specs.programs.Programs.{answer, cell, integers};
-ghost use Rattle.rise_set.specs.Moved.{AreMoved, AreOf128Bits, IsBeside, IsTooFar};
+ghost use Rattle.rise_set.specs.Moved.{AreMoved, AreOf128Bits, HasRoom, IsBeside, IsTooFar};
+ghost use Rattle.rise_set.specs.Widths.{IsSettled};
 
 use book_model::{Fail, HALF, MINUTES, MINUTES_OF_DAY, Site, Undecided};
 use encl_core::{Enclosure, Trail, floor_step};
@@ -15,6 +18,7 @@ const PARTS_OF_ONE: i128 = 72_057_594_037_927_936;
 /// A number that counts 2⁻⁵⁶ with a whole number added, where it has 128 bits.
 fn end_beside(end: i128, whole: i64) -> Option<i128>
     ensures end { IfSome result (λ e. e ≡ end +ℤ whole *ℤ pos 72057594037927936) }
+    ensures found { FitsSigned w128 (end +ℤ whole *ℤ pos 72057594037927936) → IsSome result }
 {
     end.checked_add(i128::from(whole) * PARTS_OF_ONE)
 }
@@ -24,6 +28,8 @@ fn beside(at: Undecided, whole: i64) -> Undecided
     ensures turn { result.turn ≡ at.turn }
     ensures site { result.site ≡ at.site }
     ensures moved { AreMoved whole at.lo at.hi result.lo result.hi }
+    ensures apart { HasRoom whole (Fail.Undecided at)
+        → (result.hi -ℤ result.lo) ≡ at.hi -ℤ at.lo }
 {
     let mut moved = Undecided {
         turn: at.turn,
@@ -44,6 +50,7 @@ fn beside(at: Undecided, whole: i64) -> Undecided
 fn failing_beside(fail: Fail, whole: i64) -> Fail
     ensures beside { IsBeside whole fail result }
     ensures bits { AreOf128Bits result }
+    ensures close { HasRoom whole fail → IsClose fail → IsClose result }
 {
     match fail {
         Fail::Undecided(at) => Fail::Undecided(beside(at, whole)),
@@ -72,6 +79,8 @@ fn sum(whole: i64, floor: i64, site: Site, turn: u32) -> Result<i64, Fail>
 fn floor_beside<E: Enclosure>(whole: i64, x: E, site: Site, trail: &mut Trail) -> Result<i64, Fail>
     ensures leads { Decides1 E.shown (λ e. cell site integers (add (integer whole) e) answer) x
         trail.old.count trail.new.count result }
+    ensures close { (v : ℕ) → v ≤ most_apart site → IsAbout (2 ^ 90) v (E.shown x)
+        → neg_ℤ (pos (2 ^ 40)) ≤ℤ whole → whole ≤ℤ pos (2 ^ 40) → IfErr result IsClose }
 {
     match floor_step(x, site, trail) {
         Ok(floor) => sum(whole, floor, site, trail.count()),
@@ -82,6 +91,8 @@ fn floor_beside<E: Enclosure>(whole: i64, x: E, site: Site, trail: &mut Trail) -
 /// The minutes from the beginning of a day (R.D.) to a moment of it, and a half.
 fn minutes_after<E: Enclosure>(day: i64, t: E) -> E
     ensures holds { Holds1 E.shown (spec.minutes_after_of day) t result }
+    ensures measured { E.BITS ≡ 56 → negsuc 39999999 ≤ℤ day → day ≤ℤ pos 40000000
+        → IsSettled (E.shown t) → IsAbout (2 ^ 90) (2 ^ 43) (E.shown result) }
 {
     t.sub(E::from_int(day))
         .mul_frac(MINUTES_OF_DAY)
@@ -95,6 +106,7 @@ pub(crate) fn rounded_minutes<E: Enclosure>(day: i64, t: E, trail: &mut Trail) -
     requires high { day ≤ℤ pos 40000000 }
     ensures leads { Decides1 E.shown (spec.rounded_minutes_of day) t trail.old.count trail.new.count
         result }
+    ensures close { E.BITS ≡ 56 → IsSettled (E.shown t) → IfErr result IsClose }
 {
     floor_beside(
         i64::from(MINUTES) * day,

@@ -1,51 +1,77 @@
 //! How far the sun is from the horizon: the sine of the hour angle at which it has a depression, less a quarter of a turn.
-ghost use Rattle.book_model.specs.programs.Calls.{Decides1, Follows1, Follows2, Holds, Holds1, Holds2, Holds3};
-ghost use Rattle.std.specs.Prelude.{◌≡◌, ◌≤◌, ◌+◌};
+ghost use Rattle.book_model.specs.programs.Calls.{Decides1, Encloses1, Encloses2, Encloses3, Follows1, Follows2, Holds, Narrows4};
+ghost use Rattle.book_model.specs.programs.Widths.{Measured1, Measures};
+ghost use Rattle.std.specs.Prelude.{◌≡◌, ◌≤◌, ◌+◌, ◌/◌, ◌^◌, ℕ, false, IfOk};
+ghost use Rattle.book_model.specs.numbers.Expressions.{Expression, World};
 ghost use Rattle.book_model.specs.numbers.Fractions.{fraction_of};
 ghost use Rattle.book_model.specs.sky.Horizon as spec;
 ghost use Rattle.book_model.specs.sky.Phases.{size_of};
+ghost use Rattle.book_model.specs.numbers.Relations.{Within};
+ghost use Rattle.sun_core.specs.Widths.{IsNarrowPlace};
+ghost use Rattle.rise_set.specs.Widths.{IsDepression, IsMeanDated, IsMeanMoment, IsNarrowHorizon, IsNarrowLocation, IsOffset};
+ghost use Rattle.rise_set.specs.Horizons.{FollowsHorizon, IsHorizon, by_tangent, by_sine, offset_by_parts};
 
 use crate::declinations::{declination, universal};
-use book_model::{Fail, Frac, Location, Site, Twilight};
+use crate::skyline::{Horizon, horizon_at};
+use book_model::{Fail, Location, Site, Twilight};
 use encl_core::{Enclosure, Trail, less_step};
-use trig_series::{cos_deg, sin_deg, tan_deg};
+use trig_series::{cos_deg, tan_deg};
 
 /// The size of a number.
 #[tactic(auto, unfolding(book_model::specs::sky::Phases::size_of))]
 pub(crate) fn size<E: Enclosure>(x: E) -> E
-    ensures holds { Holds1 E.shown size_of x result }
+    ensures encloses { Encloses1 E.shown E.BITS size_of x result }
 {
     x.max(x.neg())
 }
 
-/// What the latitude and the declination make of the offset.
-fn by_declination<E: Enclosure>(latitude: E, declination: E) -> E
-    ensures holds { Holds2 E.shown spec.by_declination latitude declination result }
+/// What the tangent of the latitude and the declination make of the offset.
+fn by_declination<E: Enclosure>(tangent: E, declination: E) -> E
+    ensures encloses { Encloses2 E.shown E.BITS by_tangent tangent declination result }
 {
-    tan_deg(latitude).mul(tan_deg(declination))
+    tangent.mul(tan_deg(declination))
 }
 
-/// What the depression makes of it.
-fn by_depression<E: Enclosure>(latitude: E, depression: E, declination: E) -> E
-    ensures holds { Holds3 E.shown spec.by_depression latitude depression declination result }
+/// What the sine of the depression, the cosine of the latitude and the declination make of it.
+fn by_depression<E: Enclosure>(sine: E, cosine: E, declination: E) -> E
+    ensures encloses { Encloses3 E.shown E.BITS by_sine sine cosine declination result }
 {
-    sin_deg(depression).div(cos_deg(declination).mul(cos_deg(latitude)))
+    sine.div(cos_deg(declination).mul(cosine))
 }
 
-/// The offset by the latitude, the depression and the declination, all in degrees.
-#[tactic(auto, unfolding(book_model::specs::sky::Horizon::offset_by))]
-fn offset_by<E: Enclosure>(latitude: Frac, depression: E, declination: E) -> E
-    ensures holds { Holds2 E.shown (spec.offset_by (fraction_of latitude)) depression declination
-        result }
+/// The offset at a horizon by the declination, in degrees.
+#[tactic(auto, unfolding(book_model::specs::sky::Horizon::offset_by, crate::specs::Horizons::offset_by_parts))]
+fn offset_by<E: Enclosure>(horizon: &Horizon<E>, declination: E) -> E
+    ensures holds { (w : World) (a d : Expression) → IsHorizon E.shown w a horizon.now
+        → Within E.shown w d declination → Within E.shown w
+        (spec.offset_by (fraction_of horizon.now.location.latitude) a d) result }
+    ensures narrow { Narrows4 E.shown E.BITS offset_by_parts horizon.now.tangent horizon.now.cosine
+        horizon.now.sine declination result }
 {
-    let north = E::from_frac(latitude);
-    by_declination(north, declination).add(by_depression(north, depression, declination))
+    by_declination(horizon.tangent, declination).add(by_depression(
+        horizon.sine,
+        horizon.cosine,
+        declination,
+    ))
+}
+
+/// The offset at a horizon at a moment of local mean time: three tests at most.
+#[tactic(auto, using(book_model::proofs::Leads::leading), unfolding(book_model::specs::sky::Horizon::offset_of))]
+fn offset_at<E: Enclosure>(horizon: &Horizon<E>, t: E, trail: &mut Trail) -> Result<E, Fail>
+    ensures leads { FollowsHorizon E.shown (spec.offset_of horizon.now.location) horizon.now t
+        trail.old.count trail.new.count result }
+    ensures dated { IfOk result (λ s. IsNarrowPlace horizon.now.location.longitude → (v : ℕ)
+        → E.BITS ≡ 56 → IsMeanMoment v (E.shown t) → IsMeanDated (E.shown t)) }
+    ensures measured { IsNarrowHorizon E.shown horizon.now → Measured1 E.BITS E.shown (2 ^ 41)
+        IsMeanMoment (λ v. IsOffset (v / 16 + 2 ^ 28)) t result }
+{
+    let angle = declination(universal(horizon.location.longitude, t), trail)?;
+    Ok(offset_by(horizon, angle))
 }
 
 /// The sine of the hour angle at which the sun has a depression, in degrees, less a quarter of a turn, by the declination of the
 /// sun at a moment of local mean time (Reingold and Dershowitz, Calendrical Calculations, chapter 14): three tests at most. It is
 /// void at `year` in a year without a correction.
-#[tactic(auto, using(book_model::proofs::Leads::leading), unfolding(book_model::specs::sky::Horizon::offset_of))]
 pub fn offset<E: Enclosure>(
     location: &Location,
     depression: E,
@@ -54,9 +80,11 @@ pub fn offset<E: Enclosure>(
 ) -> Result<E, Fail>
     ensures leads { Follows2 E.shown (spec.offset_of location.now) depression t trail.old.count
         trail.new.count result }
+    ensures measured { IsNarrowLocation location.now → IsDepression (E.shown depression)
+        → Measured1 E.BITS E.shown (2 ^ 41) IsMeanMoment (λ v. IsOffset (v / 16 + 2 ^ 28)) t result }
 {
-    let angle = declination(universal(location.longitude, t), trail)?;
-    Ok(offset_by(location.latitude, depression, angle))
+    let horizon = horizon_at(location, depression);
+    offset_at(&horizon, t, trail)
 }
 
 /// Whether an offset is no sine, so that the sun doesn't come to the depression: one test.
@@ -64,6 +92,8 @@ pub fn offset<E: Enclosure>(
 fn is_out_of_reach<E: Enclosure>(offset: E, trail: &mut Trail) -> Result<bool, Fail>
     ensures leads { Decides1 E.shown spec.is_out_of_reach offset trail.old.count trail.new.count
         result }
+    ensures measured { (v : ℕ) → E.BITS ≡ 56 → IsOffset v (E.shown offset)
+        → Measures (λ out. out ≡ false) result }
 {
     less_step(E::from_int(1), size(offset), Site::Offset, trail)
 }
@@ -85,16 +115,11 @@ fn if_reached<E: Enclosure>(offset: E, out: bool, trail: &mut Trail) -> Result<E
 /// The offset at a moment of local mean time: four tests at most. It is void at `offset` where the sun doesn't come to the
 /// depression.
 #[tactic(auto, using(book_model::proofs::Leads::leading), unfolding(book_model::specs::sky::Horizon::reached_offset_of))]
-fn reached_offset<E: Enclosure>(
-    location: &Location,
-    depression: E,
-    t: E,
-    trail: &mut Trail,
-) -> Result<E, Fail>
-    ensures leads { Follows2 E.shown (spec.reached_offset_of location.now) depression t
+fn reached_offset<E: Enclosure>(horizon: &Horizon<E>, t: E, trail: &mut Trail) -> Result<E, Fail>
+    ensures leads { FollowsHorizon E.shown (spec.reached_offset_of horizon.now.location) horizon.now t
         trail.old.count trail.new.count result }
 {
-    let there = offset(location, depression, t, trail)?;
+    let there = offset_at(horizon, t, trail)?;
     let out = is_out_of_reach(there, trail)?;
     if_reached(there, out, trail)
 }
@@ -113,19 +138,20 @@ fn edge<E: Enclosure>(twilight: Twilight, day: i64) -> E
 /// An offset, or, where the sun doesn't come to the depression, that at the edge of the day: four tests at most.
 #[tactic(auto, using(book_model::proofs::Leads::leading), unfolding(book_model::specs::sky::Horizon::or_at_edge))]
 fn or_at_edge<E: Enclosure>(
-    location: &Location,
+    horizon: &Horizon<E>,
     twilight: Twilight,
-    depression: E,
     day: i64,
     offset: E,
     out: bool,
     trail: &mut Trail,
 ) -> Result<E, Fail>
-    ensures leads { Follows2 E.shown (λ a s. spec.or_at_edge location.now twilight a day s out)
-        depression offset trail.old.count trail.new.count result }
+    ensures leads { FollowsHorizon E.shown
+        (λ a s. spec.or_at_edge horizon.now.location twilight a day s out) horizon.now offset
+        trail.old.count trail.new.count result }
+    ensures inside { out ≡ false → result ≡ Ok offset }
 {
     if out {
-        reached_offset(location, depression, edge(twilight, day), trail)
+        reached_offset(horizon, edge(twilight, day), trail)
     } else {
         Ok(offset)
     }
@@ -135,17 +161,21 @@ fn or_at_edge<E: Enclosure>(
 /// depression then: eight tests at most. It is void at `offset` where it doesn't come to it there either.
 #[tactic(auto, using(book_model::proofs::Leads::leading), unfolding(book_model::specs::sky::Horizon::near_offset_of))]
 pub(crate) fn near_offset<E: Enclosure>(
-    location: &Location,
+    horizon: &Horizon<E>,
     twilight: Twilight,
-    depression: E,
     day: i64,
     t: E,
     trail: &mut Trail,
 ) -> Result<E, Fail>
-    ensures leads { Follows2 E.shown (λ a x. spec.near_offset_of location.now twilight a day x)
-        depression t trail.old.count trail.new.count result }
+    ensures leads { FollowsHorizon E.shown
+        (λ a x. spec.near_offset_of horizon.now.location twilight a day x) horizon.now t
+        trail.old.count trail.new.count result }
+    ensures measured { IsNarrowHorizon E.shown horizon.now → Measured1 E.BITS E.shown (2 ^ 41)
+        IsMeanMoment (λ v. IsOffset (v / 16 + 2 ^ 28)) t result }
+    ensures dated { IsNarrowHorizon E.shown horizon.now → (v : ℕ) → E.BITS ≡ 56 → v ≤ 2 ^ 41
+        → IsMeanMoment v (E.shown t) → IfOk result (λ s. IsMeanDated (E.shown t)) }
 {
-    let there = offset(location, depression, t, trail)?;
+    let there = offset_at(horizon, t, trail)?;
     let out = is_out_of_reach(there, trail)?;
-    or_at_edge(location, twilight, depression, day, there, out, trail)
+    or_at_edge(horizon, twilight, day, there, out, trail)
 }

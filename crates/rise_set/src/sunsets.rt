@@ -1,6 +1,8 @@
 //! Sunset, and by how many degrees the sun stands below the horizon then.
-ghost use Rattle.book_model.specs.programs.Calls.{Follows, Holds};
-ghost use Rattle.std.specs.Prelude.{◌≡◌, ◌+◌};
+ghost use Rattle.book_model.specs.programs.Calls.{Encloses, Follows, Holds, Narrows};
+ghost use Rattle.book_model.specs.programs.Widths.{IsMoment, IsWithin, Measured};
+ghost use Rattle.std.specs.Prelude.{◌≡◌, ◌+◌, ◌*◌, ◌^◌, ◌≤ℤ◌, pos, negsuc};
+ghost use Rattle.rise_set.specs.Widths.{IsDepression, IsNarrowLocation};
 ghost use Rattle.book_model.specs.numbers.Fractions.{fraction_of};
 ghost use Rattle.book_model.specs.sky.Horizon as spec;
 
@@ -23,14 +25,14 @@ fn horizon_cosine(height: u16) -> Frac
 
 /// The angle by which the horizon lies deeper from so many metres of height, in degrees.
 fn dip<E: Enclosure>(height: u16) -> E
-    ensures holds { Holds E.shown (spec.dip_of height) result }
+    ensures encloses { Encloses E.shown E.BITS (spec.dip_of height) result }
 {
     arccos_deg(E::from_frac(horizon_cosine(height)))
 }
 
 /// What the air lifts the sun besides from so many metres of height, in degrees.
 fn refraction_of_height<E: Enclosure>(height: u16) -> E
-    ensures holds { Holds E.shown (spec.refraction_of_height height) result }
+    ensures encloses { Encloses E.shown E.BITS (spec.refraction_of_height height) result }
 {
     E::from_int(i64::from(height))
         .root()
@@ -43,6 +45,9 @@ fn refraction_of_height<E: Enclosure>(height: u16) -> E
 #[tactic(auto, unfolding(book_model::specs::sky::Horizon::refraction_of))]
 pub fn refraction<E: Enclosure>(location: &Location) -> E
     ensures holds { Holds E.shown (spec.refraction_of location.now) result }
+    ensures narrow { Narrows E.shown E.BITS (spec.refraction_of location.now) result }
+    ensures measured { E.BITS ≡ 56 → IsNarrowLocation location.now → IsWithin (pos 0)
+        (pos (4 * 2 ^ 32)) (2 ^ 23) (E.shown result) }
 {
     E::from_frac(REFRACTION)
         .add(dip(location.height))
@@ -53,6 +58,7 @@ pub fn refraction<E: Enclosure>(location: &Location) -> E
 #[tactic(auto, unfolding(book_model::specs::sky::Horizon::sunset_depression_of))]
 pub fn sunset_depression<E: Enclosure>(location: &Location) -> E
     ensures holds { Holds E.shown (spec.sunset_depression_of location.now) result }
+    ensures measured { E.BITS ≡ 56 → IsNarrowLocation location.now → IsDepression (E.shown result) }
 {
     refraction::<E>(location).add(E::from_frac(HALF_SUN))
 }
@@ -63,6 +69,8 @@ pub fn sunset_depression<E: Enclosure>(location: &Location) -> E
 pub fn sunset<E: Enclosure>(location: &Location, day: i64, trail: &mut Trail) -> Result<E, Fail>
     ensures leads { Follows E.shown (spec.sunset_of location.now day) trail.old.count
         trail.new.count result }
+    ensures measured { IsNarrowLocation location.now → negsuc 39999999 ≤ℤ day → day ≤ℤ pos 40000000
+        → Measured E.BITS E.shown (IsMoment (9 * 2 ^ 29)) result }
 {
     let t = dusk(location, sunset_depression::<E>(location), day, trail)?;
     Ok(universal(location.longitude, t))
