@@ -1,6 +1,12 @@
 //! Shaukat's criterion: whether the crescent is seen on an evening.
 ghost use Rattle.book_model.specs.programs.Calls.{Decides, Decides1, Decides2, Decides3, Follows, Follows1, Holds1};
-ghost use Rattle.std.specs.Prelude.{◌≤◌, ◌≤ℤ◌, negsuc};
+ghost use Rattle.std.specs.Prelude.{◌≡◌, ◌≤◌, ◌*◌, ◌^◌, ◌≤ℤ◌, pos, negsuc, IfOk, IfErr};
+ghost use Rattle.book_model.specs.programs.Widths.{IsAbout, IsClose, Measured};
+ghost use Rattle.book_model.specs.numbers.Ranges.{IsInTable};
+ghost use Rattle.moon_core.specs.Widths.{Closes1};
+ghost use Rattle.sun_core.specs.Widths.{IsNarrowPlace};
+ghost use Rattle.rise_set.specs.Widths.{IsNarrowLocation, IsSettled};
+ghost use Rattle.crescent.specs.Widths.{IsAltitudeSine, IsArcCosine, IsDatedEvening, IsEvening, IsMoonAngle, IsMoonLatitude, IsSiderealTime, IsTilt};
 ghost use Rattle.book_model.specs.sky.Crescent as spec;
 ghost use Rattle.book_model.specs.numbers.Depth.{DEPTH};
 ghost use Rattle.book_model.specs.numbers.Expressions.{Expression, World};
@@ -29,6 +35,7 @@ const FIRST_QUARTER: i64 = 90;
 fn is_past_new<E: Enclosure>(phase: E, trail: &mut Trail) -> Result<bool, Fail>
     ensures leads { Decides1 E.shown spec.is_past_new_of phase trail.old.count trail.new.count
         result }
+    ensures close { Closes1 E.BITS E.shown (2 ^ 43) (IsAbout (2 ^ 90)) phase result }
 {
     less_step(E::from_int(0), phase, Site::Crescent, trail)
 }
@@ -38,6 +45,7 @@ fn is_past_new<E: Enclosure>(phase: E, trail: &mut Trail) -> Result<bool, Fail>
 fn is_before_quarter<E: Enclosure>(phase: E, trail: &mut Trail) -> Result<bool, Fail>
     ensures leads { Decides1 E.shown spec.is_before_quarter_of phase trail.old.count trail.new.count
         result }
+    ensures close { Closes1 E.BITS E.shown (2 ^ 43) (IsAbout (2 ^ 90)) phase result }
 {
     less_step(phase, E::from_int(FIRST_QUARTER), Site::Crescent, trail)
 }
@@ -46,6 +54,7 @@ fn is_before_quarter<E: Enclosure>(phase: E, trail: &mut Trail) -> Result<bool, 
 #[tactic(auto, using(book_model::proofs::Leads::leading), unfolding(book_model::specs::sky::Crescent::is_lit_of))]
 fn is_lit<E: Enclosure>(arc: E, trail: &mut Trail) -> Result<bool, Fail>
     ensures leads { Decides1 E.shown spec.is_lit_of arc trail.old.count trail.new.count result }
+    ensures close { Closes1 E.BITS E.shown (2 ^ 43) (IsAbout (2 ^ 90)) arc result }
 {
     let least = cos_deg(E::from_frac(LEAST_ARC_OF_LIGHT));
     let more = less_step(least, arc, Site::Crescent, trail)?;
@@ -57,6 +66,7 @@ fn is_lit<E: Enclosure>(arc: E, trail: &mut Trail) -> Result<bool, Fail>
 fn is_within_quarter<E: Enclosure>(arc: E, trail: &mut Trail) -> Result<bool, Fail>
     ensures leads { Decides1 E.shown spec.is_within_quarter_of arc trail.old.count trail.new.count
         result }
+    ensures close { Closes1 E.BITS E.shown (2 ^ 43) (IsAbout (2 ^ 90)) arc result }
 {
     let less = less_step(arc, E::from_int(0), Site::Crescent, trail)?;
     Ok(!less)
@@ -66,6 +76,7 @@ fn is_within_quarter<E: Enclosure>(arc: E, trail: &mut Trail) -> Result<bool, Fa
 #[tactic(auto, using(book_model::proofs::Leads::leading), unfolding(book_model::specs::sky::Crescent::is_high_of))]
 fn is_high<E: Enclosure>(altitude: E, trail: &mut Trail) -> Result<bool, Fail>
     ensures leads { Decides1 E.shown spec.is_high_of altitude trail.old.count trail.new.count result }
+    ensures close { Closes1 E.BITS E.shown (2 ^ 43) (IsAbout (2 ^ 90)) altitude result }
 {
     let least = sin_deg(E::from_frac(LEAST_ALTITUDE));
     less_step(least, altitude, Site::Crescent, trail)
@@ -76,6 +87,8 @@ fn is_high<E: Enclosure>(altitude: E, trail: &mut Trail) -> Result<bool, Fail>
 fn is_bright<E: Enclosure>(arc: E, altitude: E, trail: &mut Trail) -> Result<bool, Fail>
     ensures leads { Decides2 E.shown spec.is_bright_of arc altitude trail.old.count trail.new.count
         result }
+    ensures close { E.BITS ≡ 56 → IsArcCosine (E.shown arc) → IsAltitudeSine (E.shown altitude)
+        → IfErr result IsClose }
 {
     Ok(is_lit(arc, trail)? && is_within_quarter(arc, trail)? && is_high(altitude, trail)?)
 }
@@ -85,6 +98,8 @@ fn is_bright<E: Enclosure>(arc: E, altitude: E, trail: &mut Trail) -> Result<boo
 fn is_crescent<E: Enclosure>(phase: E, arc: E, altitude: E, trail: &mut Trail) -> Result<bool, Fail>
     ensures leads { Decides3 E.shown spec.is_crescent_of phase arc altitude trail.old.count
         trail.new.count result }
+    ensures close { E.BITS ≡ 56 → IsMoonAngle (E.shown phase) → IsArcCosine (E.shown arc)
+        → IsAltitudeSine (E.shown altitude) → IfErr result IsClose }
 {
     Ok(
         is_past_new(phase, trail)?
@@ -110,6 +125,10 @@ fn meets<E: Enclosure>(
         → Within E.shown w b latitude → Within E.shown w t sidereal
         → Leads w Exact (spec.meets_of location.now f o l b t) trail.old.count trail.new.count
         result }
+    ensures close { E.BITS ≡ 56 → IsNarrowLocation location.now → IsMoonAngle (E.shown phase)
+        → IsTilt (E.shown obliquity) → IsMoonAngle (E.shown longitude)
+        → IsMoonLatitude (E.shown latitude) → IsSiderealTime (E.shown sidereal)
+        → IfErr result IsClose }
 {
     let arc = arc_cosine(latitude, phase);
     let here = sidereal.add(E::from_frac(location.longitude));
@@ -128,6 +147,8 @@ fn meets_with<E: Enclosure>(
 ) -> Result<bool, Fail>
     ensures leads { Decides3 E.shown (spec.meets_with_of location.now) t phase obliquity
         trail.old.count trail.new.count result }
+    ensures close { E.BITS ≡ 56 → IsNarrowLocation location.now → IsDatedEvening (E.shown t)
+        → IsMoonAngle (E.shown phase) → IsTilt (E.shown obliquity) → IfErr result IsClose }
 {
     let longitude = moon(t, trail)?;
     let north = latitude(t, trail)?;
@@ -141,6 +162,8 @@ fn meets_with<E: Enclosure>(
 #[tactic(auto, using(book_model::proofs::Leads::leading), unfolding(book_model::specs::sky::Crescent::obliquity_at_of))]
 fn obliquity_at<E: Enclosure>(t: E, trail: &mut Trail) -> Result<E, Fail>
     ensures leads { Follows1 E.shown spec.obliquity_at_of t trail.old.count trail.new.count result }
+    ensures in_table { IfOk result (λ o. IsInTable (E.shown t)) }
+    ensures measured { IsEvening (E.shown t) → Measured E.BITS E.shown IsTilt result }
 {
     let c = centuries(t, trail)?;
     obliquity(c, trail)
@@ -151,6 +174,8 @@ fn obliquity_at<E: Enclosure>(t: E, trail: &mut Trail) -> Result<E, Fail>
 fn meets_at<E: Enclosure>(location: &Location, t: E, trail: &mut Trail) -> Result<bool, Fail>
     ensures leads { Decides1 E.shown (spec.meets_at_of location.now) t trail.old.count
         trail.new.count result }
+    ensures close { E.BITS ≡ 56 → IsNarrowLocation location.now → IsEvening (E.shown t)
+        → IfErr result IsClose }
 {
     let young = phase(t, trail)?;
     let tilt = obliquity_at(t, trail)?;
@@ -161,6 +186,8 @@ fn meets_at<E: Enclosure>(location: &Location, t: E, trail: &mut Trail) -> Resul
 #[tactic(auto, unfolding(book_model::specs::sky::Horizon::universal_of, book_model::specs::sky::Noon::ahead_of))]
 fn universal<E: Enclosure>(longitude: Frac, t: E) -> E
     ensures holds { Holds1 E.shown (universal_of (fraction_of longitude)) t result }
+    ensures measured { E.BITS ≡ 56 → IsNarrowPlace longitude → IsSettled (E.shown t)
+        → IsEvening (E.shown result) }
 {
     t.sub(E::from_frac(longitude).mul_frac(DEGREE_IN_DAYS))
 }
@@ -171,6 +198,8 @@ fn evening<E: Enclosure>(location: &Location, day: i64, trail: &mut Trail) -> Re
     requires low { negsuc 39999999 ≤ℤ day }
     ensures leads { Follows E.shown (spec.evening_of location.now day) trail.old.count
         trail.new.count result }
+    ensures measured { IsNarrowLocation location.now → negsuc 39999998 ≤ℤ day
+        → day ≤ℤ pos 40000001 → Measured E.BITS E.shown IsEvening result }
 {
     let t = dusk(location, E::from_frac(CRESCENT_DEPRESSION), day - 1, trail)?;
     Ok(universal(location.longitude, t))
@@ -187,6 +216,8 @@ pub fn visible<E: Enclosure>(location: &Location, day: i64, trail: &mut Trail) -
     requires low { negsuc 39999999 ≤ℤ day }
     ensures leads { Decides (spec.visible_of location.now day) trail.old.count trail.new.count
         result }
+    ensures close { E.BITS ≡ 56 → IsNarrowLocation location.now → negsuc 39999998 ≤ℤ day
+        → day ≤ℤ pos 40000001 → IfErr result IsClose }
 {
     let t = evening::<E>(location, day, trail)?;
     meets_at(location, t, trail)

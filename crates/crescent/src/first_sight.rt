@@ -1,9 +1,11 @@
 //! The day with whose evening the crescent was first seen.
 ghost use Rattle.book_model.specs.programs.Calls.{Decides};
-ghost use Rattle.std.specs.Prelude.{◌≡◌, ◌≤◌, pos, ◌≤ℤ◌, ◌+ℤ◌, ◌-ℤ◌, int_le, IfOk, IfErr, false};
+ghost use Rattle.std.specs.Prelude.{◌≡◌, ◌≤◌, pos, negsuc, ◌≤ℤ◌, ◌+ℤ◌, ◌-ℤ◌, int_le, IfOk, IfErr};
 ghost use Rattle.book_model.specs.sky.Crescent as spec;
 ghost use Rattle.book_model.specs.sky.Facts.{IsFactDay, IsFactValue, IsValueDay};
 ghost use Rattle.book_model.specs.programs.Searches.{first_day_from};
+ghost use Rattle.book_model.specs.programs.Widths.{IsClose};
+ghost use Rattle.rise_set.specs.Widths.{IsNarrowLocation};
 ghost use Rattle.moon_core.specs.PhaseDays.{IsPhaseDay};
 ghost use Rattle.time_scales.specs.Steps.{IsNoEarlyYear};
 ghost use Rattle.crescent.specs.Sights.{IsSightDay};
@@ -31,7 +33,7 @@ struct SeenAt {
 impl<E: Enclosure> DayTest<E> for SeenAt {
     ghost test_of = { λ s d. spec.visible_of s.location d };
 
-    ghost near = { false };
+    ghost near_on = { λ s d. IsNarrowLocation s.location × (negsuc 39999998 ≤ℤ d) × (d ≤ℤ pos 40000001) };
 
     fn holds(&self, day: i64, trail: &mut Trail) -> Result<bool, Fail> {
         visible::<E>(&self.location, day, trail)
@@ -74,6 +76,8 @@ fn sight_start<E: Enclosure>(
     ensures leads { Decides (spec.sight_start_of location.now day new_moon) trail.old.count
         trail.new.count result }
     ensures near { IfOk result IsSightDay }
+    ensures close { E.BITS ≡ 56 → IsNarrowLocation location.now → negsuc 39999998 ≤ℤ day
+        → IfErr result IsClose }
 {
     if !is_soon(day, new_moon) {
         return Ok(new_moon);
@@ -90,6 +94,7 @@ fn first_sight<E: Enclosure>(location: &Location, from: i64, trail: &mut Trail) 
         trail.new.count result }
     ensures from { IfOk result (λ d. from ≤ℤ d) }
     ensures to { IfOk result (λ d. d ≤ℤ (from +ℤ pos 45)) }
+    ensures close { E.BITS ≡ 56 → IsNarrowLocation location.now → IfErr result IsClose }
 {
     first_day::<E, SeenAt>(
         &SeenAt {
@@ -113,6 +118,8 @@ fn sight_after<E: Enclosure>(
     ensures leads { Decides (spec.sight_after_of location.now day new_moon) trail.old.count
         trail.new.count result }
     ensures value { IfOk result IsFactValue }
+    ensures close { E.BITS ≡ 56 → IsNarrowLocation location.now → negsuc 39999998 ≤ℤ day
+        → IfErr result IsClose }
 {
     let from = sight_start::<E>(location, day, new_moon, trail)?;
     first_sight::<E>(location, from, trail)
@@ -129,6 +136,7 @@ pub fn phasis<E: Enclosure>(location: &Location, day: i64, trail: &mut Trail) ->
     ensures value { IfOk result IsFactValue }
     ensures early { trail.old.count ≡ 0 → 36 ≤ E.BITS → E.BITS ≤ 56 → IsValueDay day
         → IfErr result IsNoEarlyYear }
+    ensures close { E.BITS ≡ 56 → IsNarrowLocation location.now → IfErr result IsClose }
 {
     let new_moon = phase_day::<E>(NEW_MOON, day, trail)?;
     sight_after::<E>(location, day, new_moon, trail)

@@ -1,2 +1,4 @@
 pub mod Openings
 pub mod HinduRuns
+pub mod Measured
+pub mod Moons

@@ -1,12 +1,15 @@
 //! What the Hindu calendars ask of a day, by sunrise and sunset at Ujjain.
 ghost use Rattle.book_model.specs.programs.Calls.{Decides, Decides1};
-ghost use Rattle.std.specs.Prelude.{◌≡◌, ◌≤◌, ◌+◌, ◌-ℤ◌, pos, ◌≤ℤ◌, IfOk, IfErr, false};
+ghost use Rattle.std.specs.Prelude.{◌≡◌, ◌≤◌, ◌+◌, ◌^◌, ◌-ℤ◌, pos, ◌≤ℤ◌, IfOk, IfErr};
 ghost use Rattle.std.specs.Ordering.{int_eq};
 ghost use Rattle.book_model.specs.sky.Facts.{IsFactValue, IsValueDay};
 ghost use Rattle.book_model.specs.sky.HinduFacts as spec;
 ghost use Rattle.book_model.specs.programs.Searches.{first_day_from};
 ghost use Rattle.hindu_sky.specs.Counts.{IsDegree, IsLunarDay};
+ghost use Rattle.book_model.specs.programs.Widths.{IsClose, IsMoment};
+ghost use Rattle.moon_core.specs.Widths.{Closes1};
 ghost use Rattle.time_scales.specs.Steps.{IsNoEarlyYear};
+ghost use Rattle.time_scales.specs.Widths.{IsRecent};
 
 use crate::zodiac::{hindu_year, sign, whole_degrees};
 use book_model::{DEGREE_IN_LUNAR_DAYS, Fail, Site};
@@ -27,6 +30,7 @@ use rise_set::{hsunset, sunrise};
 pub fn sign_at_sunset<E: Enclosure>(day: i64, trail: &mut Trail) -> Result<i64, Fail>
     ensures leads { Decides (spec.sign_at_sunset_of day) trail.old.count trail.new.count result }
     ensures value { IfOk result IsFactValue }
+    ensures close { pos 620600 ≤ℤ day → day ≤ℤ pos 40000000 → E.BITS ≡ 56 → IfErr result IsClose }
 {
     let t = hsunset::<E>(day, trail)?;
     sign(t, trail)
@@ -43,6 +47,7 @@ pub fn solar_year<E: Enclosure>(day: i64, trail: &mut Trail) -> Result<i64, Fail
     requires day { IsValueDay day }
     ensures leads { Decides (spec.year_at_sunset_of day) trail.old.count trail.new.count result }
     ensures value { IfOk result IsFactValue }
+    ensures close { E.BITS ≡ 56 → IfErr result IsClose }
 {
     let t = hsunset::<E>(day, trail)?;
     hindu_year(t, trail)
@@ -59,6 +64,7 @@ fn is_sign(one: i64, other: i64) -> bool
 #[tactic(auto, using(book_model::proofs::Leads::leading), unfolding(book_model::specs::sky::HinduFacts::has_sign_at))]
 fn has_sign<E: Enclosure>(sign: i64, day: i64, trail: &mut Trail) -> Result<bool, Fail>
     ensures leads { Decides (spec.has_sign_at sign day) trail.old.count trail.new.count result }
+    ensures close { pos 620600 ≤ℤ day → day ≤ℤ pos 40000000 → E.BITS ≡ 56 → IfErr result IsClose }
 {
     let there = sign_at_sunset::<E>(day, trail)?;
     Ok(is_sign(there, sign))
@@ -73,7 +79,7 @@ struct InSign {
 impl<E: Enclosure> DayTest<E> for InSign {
     ghost test_of = { λ s d. spec.has_sign_at s.sign d };
 
-    ghost near = { false };
+    ghost near_on = { λ s d. (pos 620600 ≤ℤ d) × (d ≤ℤ pos 40000000) };
 
     fn holds(&self, day: i64, trail: &mut Trail) -> Result<bool, Fail> {
         has_sign::<E>(self.sign, day, trail)
@@ -99,6 +105,7 @@ fn first_in_sign<E: Enclosure>(sign: i64, from: i64, trail: &mut Trail) -> Resul
     ensures leads { Decides (first_day_from (spec.has_sign_at sign) from) trail.old.count
         trail.new.count result }
     ensures value { IfOk result IsFactValue }
+    ensures close { pos 620600 ≤ℤ from → E.BITS ≡ 56 → IfErr result IsClose }
 {
     first_day::<E, InSign>(&InSign { sign }, from, trail)
 }
@@ -110,6 +117,7 @@ fn sign_entered<E: Enclosure>(day: i64, t: E, trail: &mut Trail) -> Result<i64, 
     ensures leads { Decides1 E.shown (spec.sign_entered_of day) t trail.old.count trail.new.count
         result }
     ensures value { IfOk result IsFactValue }
+    ensures close { Closes1 E.BITS E.shown (2 ^ 41) IsRecent t result }
 {
     let there = sign(t, trail)?;
     let degrees = whole_degrees(t, trail)?;
@@ -128,6 +136,7 @@ pub fn sankranti<E: Enclosure>(day: i64, trail: &mut Trail) -> Result<i64, Fail>
     requires day { IsValueDay day }
     ensures leads { Decides (spec.sankranti_of day) trail.old.count trail.new.count result }
     ensures value { IfOk result IsFactValue }
+    ensures close { E.BITS ≡ 56 → IfErr result IsClose }
 {
     let t = hsunset::<E>(day, trail)?;
     sign_entered(day, t, trail)
@@ -139,6 +148,7 @@ fn lunar_days_passed<E: Enclosure>(t: E, trail: &mut Trail) -> Result<i64, Fail>
     ensures leads { Decides1 E.shown spec.lunar_days_passed_of t trail.old.count trail.new.count
         result }
     ensures near { IfOk result IsLunarDay }
+    ensures close { Closes1 E.BITS E.shown (2 ^ 38) IsMoment t result }
 {
     let degrees = phase(t, trail)?;
     floor_step(degrees.mul_frac(DEGREE_IN_LUNAR_DAYS), Site::Round, trail)
@@ -157,6 +167,7 @@ pub fn tithi<E: Enclosure>(day: i64, trail: &mut Trail) -> Result<i64, Fail>
     requires day { IsValueDay day }
     ensures leads { Decides (spec.tithi_of day) trail.old.count trail.new.count result }
     ensures value { IfOk result IsFactValue }
+    ensures close { E.BITS ≡ 56 → IfErr result IsClose }
 {
     let rising = sunrise::<E>(day, trail)?;
     let passed = lunar_days_passed(rising, trail)?;
@@ -175,6 +186,7 @@ pub fn sign_before<E: Enclosure>(day: i64, trail: &mut Trail) -> Result<i64, Fai
     requires day { IsValueDay day }
     ensures leads { Decides (spec.sign_before_of day) trail.old.count trail.new.count result }
     ensures value { IfOk result IsFactValue }
+    ensures close { E.BITS ≡ 56 → IfErr result IsClose }
 {
     let rising = sunrise::<E>(day, trail)?;
     let t = moon_before(rising, trail)?;
@@ -192,6 +204,7 @@ pub fn sign_after<E: Enclosure>(day: i64, trail: &mut Trail) -> Result<i64, Fail
     requires day { IsValueDay day }
     ensures leads { Decides (spec.sign_after_of day) trail.old.count trail.new.count result }
     ensures value { IfOk result IsFactValue }
+    ensures close { E.BITS ≡ 56 → IfErr result IsClose }
 {
     let rising = sunrise::<E>(day, trail)?;
     let t = moon_from(rising, trail)?;
@@ -210,6 +223,7 @@ pub fn calendar_year<E: Enclosure>(day: i64, trail: &mut Trail) -> Result<i64, F
     requires day { IsValueDay day }
     ensures leads { Decides (spec.calendar_year_of day) trail.old.count trail.new.count result }
     ensures value { IfOk result IsFactValue }
+    ensures close { E.BITS ≡ 56 → IfErr result IsClose }
     ensures early { trail.old.count ≡ 0 → 36 ≤ E.BITS → E.BITS ≤ 56 → IfErr result IsNoEarlyYear }
 {
     hindu_year(E::from_int(day), trail)

@@ -1,10 +1,12 @@
 //! The sign of the zodiac in which the sun stands, and the year of the Kali Yuga, at a moment.
-ghost use Rattle.book_model.specs.programs.Calls.{Decides1, Holds2};
-ghost use Rattle.std.specs.Prelude.{◌+◌, pos, ◌≤ℤ◌, IfOk, IfErr};
+ghost use Rattle.book_model.specs.programs.Calls.{Decides1, Encloses2};
+ghost use Rattle.std.specs.Prelude.{◌≡◌, ◌≤◌, ◌+◌, ◌^◌, pos, ◌≤ℤ◌, IfOk, IfErr};
 ghost use Rattle.book_model.specs.sky.HinduFacts.{whole_degrees_of};
 ghost use Rattle.book_model.specs.sky.Sidereal as spec;
 ghost use Rattle.hindu_sky.specs.Counts.{IsDegree, IsSign};
 ghost use Rattle.time_scales.specs.Steps.{IsYearOpenFor};
+ghost use Rattle.time_scales.specs.Widths.{IsRecent};
+ghost use Rattle.moon_core.specs.Widths.{Closes1};
 
 use book_model::{
     DAY_IN_SIDEREAL_YEARS, DEGREE_IN_SIGNS, DEGREE_IN_TURNS, Fail, HALF, HINDU_EPOCH, Site,
@@ -17,6 +19,7 @@ use sun_core::sidereal_sun;
 fn signs_passed<E: Enclosure>(t: E, trail: &mut Trail) -> Result<i64, Fail>
     ensures leads { Decides1 E.shown spec.signs_passed_of t trail.old.count trail.new.count result }
     ensures near { IfOk result IsSign }
+    ensures close { Closes1 E.BITS E.shown (2 ^ 41) IsRecent t result }
 {
     let longitude = sidereal_sun(t, trail)?;
     floor_step(longitude.mul_frac(DEGREE_IN_SIGNS), Site::Sidereal, trail)
@@ -29,6 +32,7 @@ pub(crate) fn sign<E: Enclosure>(t: E, trail: &mut Trail) -> Result<i64, Fail>
     ensures leads { Decides1 E.shown spec.sign_of t trail.old.count trail.new.count result }
     ensures from { IfOk result (λ g. pos 1 ≤ℤ g) }
     ensures to { IfOk result (λ g. g ≤ℤ pos 13) }
+    ensures close { Closes1 E.BITS E.shown (2 ^ 41) IsRecent t result }
 {
     let passed = signs_passed(t, trail)?;
     Ok(passed + 1)
@@ -39,6 +43,7 @@ pub(crate) fn sign<E: Enclosure>(t: E, trail: &mut Trail) -> Result<i64, Fail>
 pub(crate) fn whole_degrees<E: Enclosure>(t: E, trail: &mut Trail) -> Result<i64, Fail>
     ensures leads { Decides1 E.shown whole_degrees_of t trail.old.count trail.new.count result }
     ensures near { IfOk result IsDegree }
+    ensures close { Closes1 E.BITS E.shown (2 ^ 41) IsRecent t result }
 {
     let longitude = sidereal_sun(t, trail)?;
     floor_step(longitude, Site::Sidereal, trail)
@@ -47,7 +52,7 @@ pub(crate) fn whole_degrees<E: Enclosure>(t: E, trail: &mut Trail) -> Result<i64
 /// The sidereal years from the epoch to a moment, less what the sun has gone of the year.
 #[tactic(auto, unfolding(book_model::specs::sky::Sidereal::years_gone_of))]
 fn years_gone<E: Enclosure>(t: E, longitude: E) -> E
-    ensures holds { Holds2 E.shown spec.years_gone_of t longitude result }
+    ensures encloses { Encloses2 E.shown E.BITS spec.years_gone_of t longitude result }
 {
     t.add(E::from_int(-HINDU_EPOCH))
         .mul_frac(DAY_IN_SIDEREAL_YEARS)
@@ -60,6 +65,7 @@ fn years_gone<E: Enclosure>(t: E, longitude: E) -> E
 pub(crate) fn hindu_year<E: Enclosure>(t: E, trail: &mut Trail) -> Result<i64, Fail>
     ensures leads { Decides1 E.shown spec.hindu_year_of t trail.old.count trail.new.count result }
     ensures open { IfErr result (IsYearOpenFor (E.shown t)) }
+    ensures close { Closes1 E.BITS E.shown (2 ^ 41) IsRecent t result }
 {
     let longitude = sidereal_sun(t, trail)?;
     floor_step(
