@@ -1,12 +1,11 @@
 -- What the year of a whole day says of the sun's longitude, and the values of facts.
-use Rattle.std.specs.Prelude.{ℕ, ◌≤◌, ℤ, Result, Ok, Err, IfOk}
+use Rattle.std.specs.Prelude.{◌≡◌, ℕ, ◌≤◌, ℤ, Result, Ok, Err, IfOk}
 use Rattle.std.proofs.Common.{arith}
 use Rattle.std.proofs.lemmas.Int.{ints}
 use Rattle.exact_math.specs.Interval.{Interval}
 use Rattle.book_model.specs.declared.fail.Fail.{Fail}
 use Rattle.book_model.specs.declared.fail.Fail.TheVariants.{Undecided as undecided_at, Void}
-use Rattle.book_model.specs.declared.site.Site.TheVariants.{Round}
-use Rattle.book_model.specs.declared.fact.Kind.TheVariants.{Sun}
+use Rattle.book_model.specs.declared.site.Site.TheVariants.{Round, Year}
 use Rattle.book_model.specs.numbers.Bounds.{Reach, limits_of}
 use Rattle.book_model.specs.calendars.Gregorian.{year_of_day}
 use Rattle.book_model.specs.numbers.Expressions.{World, integer}
@@ -18,27 +17,29 @@ use Rattle.time_scales.proofs.CorrectionValues.{dt_value, year_from, year_to}
 use Rattle.book_model.proofs.FactRuns.{sun_value}
 use Rattle.book_model.proofs.Leads.{leads_value}
 use Rattle.encl_core.specs.Steps.{IsOpenFloor}
-use Rattle.time_scales.specs.Steps.{IsYearOpenFor, IsNotOfYear}
+use Rattle.time_scales.specs.Steps.{IsYearOpenFor, IsNotOfYear, IsNoEarlyYear}
 use Rattle.time_scales.proofs.WholeDays.{closed_year, year_enclosed}
-use Rattle.fact_eval.specs.Widths.{IsNearFor}
 
--- a failure that isn't at the year is one of the sun's longitude
-sun_keeps : (y : ℤ) (f : Fail) → IsNotOfYear f → IsNearFor Sun y f
-sun_keeps y (undecided_at u) h = record { no_whole_day = λ e t d. h e; close = λ k a b. absurd (cc) }
-sun_keeps y (Void s) h = tt
+-- a failure that isn't at the year is none at it by the first tests
+none_early : (f : Fail) → IsNotOfYear f → IsNoEarlyYear f
+none_early (undecided_at u) h = λ e t. h e
+none_early (Void s) h = tt
 
 -- a failure of the sun at a whole day is not at the year
 pub sun_not_of_year : {E : Type 0} (shown : E → Interval) (bits : ℕ) (d : ℤ) (e : E) (f : Fail) → 36 ≤ bits → bits ≤ 56 → IsValueDay d → ((r : Reach) → Narrow shown (limits_of bits) r (integer d) e)
-    → IsYearOpenFor (shown e) f → IsNearFor Sun (year_of_day d) f
+    → IsYearOpenFor (shown e) f → IsNoEarlyYear f
 sun_not_of_year shown bits d e f p q h n o =
     let a = year_from d h.0 in
     let b = year_to d h.1 in
-    sun_keeps (year_of_day d) f (closed_year (shown e) (year_of_day d) f (year_enclosed shown bits d e p q h (n _)) (omega (arith, ints)) o)
+    none_early f (closed_year (shown e) (year_of_day d) f (year_enclosed shown bits d e p q h (n _)) (omega (arith, ints)) o)
 
--- nor is an open rounding
-pub round_not_of_year : (i : Interval) (y : ℤ) (f : Fail) → IsOpenFloor i Round f → IsNearFor Sun y f
-round_not_of_year i y (undecided_at u) o = sun_keeps y (undecided_at u) (λ e. let r = o.1 in absurd (cc))
-round_not_of_year i y (Void s) o = tt
+-- nor is an open rounding, or a void
+pub round_not_of_year : (i : Interval) (f : Fail) → IsOpenFloor i Round f → IsNoEarlyYear f
+round_not_of_year i (undecided_at u) o = λ e t. let r = o.1 in absurd (cc)
+round_not_of_year i (Void s) o = tt
+
+pub void_not_of_year : (f : Fail) → f ≡ Void Year → IsNoEarlyYear f
+void_not_of_year f e = rw e tt
 
 -- a value of the sun's longitude is one that an answer may have
 pub sun_is_value : (d : ℤ) (r : Result ℤ Fail) (b a : ℕ) → ((w : World) → 40 ≤ w.depth → Leads w Exact (sun_in_thousandths_of d) b a r) → IfOk r IsFactValue

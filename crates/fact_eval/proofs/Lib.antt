@@ -10,3 +10,5 @@ pub mod Solstices
 pub mod TermDays
 pub mod MoonFacts
 pub mod FewTests
+pub mod Measured
+mod SunsetWidths

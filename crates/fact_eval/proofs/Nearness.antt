@@ -1,5 +1,5 @@
 -- A test that the code leaves open is near: its sides lie within the ends, and so does a threshold.
-use Rattle.std.specs.Prelude.{◌≡◌, ℕ, suc, ◌-◌, ℤ, pos, ◌+ℤ◌, ◌*ℤ◌, ◌≤ℤ◌, Option, Some, None, Bool, true, false, refl}
+use Rattle.std.specs.Prelude.{◌≡◌, ℕ, suc, ◌-◌, ◌^◌, ◌≤◌, ◌-ℤ◌, ℤ, pos, ◌+ℤ◌, ◌*ℤ◌, ◌≤ℤ◌, Option, Some, None, Bool, true, false, refl}
 use Rattle.std.proofs.Common.{[], ◌∷◌, arith}
 use Rattle.std.proofs.lemmas.Int.{ints, by_lt_z}
 use Rattle.std.specs.Ordering.{int_eq}
@@ -12,9 +12,11 @@ use Rattle.exact_math.proofs.Ring.{at, lit, ◌⊗◌}
 use Rattle.exact_math.proofs.Intervals.{within_trans, within_everything}
 use Rattle.exact_math.proofs.Same.{le_of_same, ge_of_same}
 use Rattle.book_model.specs.declared.site.Site.{Site}
+use Rattle.book_model.specs.declared.site.Site.TheVariants.{Year, Zone, SunWrap, MoonWrap, PhaseWrap, PhasePick, MoonNumber, MoonWalk, StepWrap, StartFloor, DayTest, DayFloor, TermFloor, Search, BisectEnd, Bisect, Offset, Settle, Round, Crescent, Sidereal}
 use Rattle.book_model.specs.calendars.Gregorian.{first_day}
 use Rattle.book_model.specs.numbers.Expressions.{World, value}
-use Rattle.book_model.specs.sky.Facts.{LiesFrom, from_ends, from_nowhere, HasThreshold, AreNear, near_cell, near_comparison}
+use Rattle.book_model.specs.sky.Facts.{LiesFrom, HasThreshold, AreNear, near_cell, near_comparison}
+use Rattle.book_model.specs.programs.Widths.{most_apart}
 use Rattle.book_model.specs.programs.Leading.{at_56, AreNoBounds, AreEnds, bounds, no_bounds, IsOpenCell, between_cells, too_far, IsOpen, open_cell, open_comparison}
 use Rattle.book_model.specs.programs.Programs.{Grid, integers, multiples, years, cell_of, threshold, when, cell_at, Program, answer, void, cell, compare, Sides, one_side, two_sides, Run, after_cell, after_compare, run, compare_at, MakesTest, here_decided, here_undecided, later}
 use Rattle.book_model.proofs.Calendars.{first_day_rises}
@@ -82,11 +84,9 @@ threshold_between g a b lo hi p e l h = record {
         by_lt_z (cell_of g a) (cell_of g b) (λ l. omega (arith, ints)) (λ l. let z : cell_of g a ≡ cell_of g b = omega (arith, ints) in absurd (apart _ refl e z))
 
 -- without bounds there is a threshold
-threshold_somewhere : (g : Grid) (lo hi : ℤ) → AreNoBounds lo hi → HasThreshold g lo hi
-unfolding threshold first_day
-threshold_somewhere integers lo hi n = record { begun = pos 0; above = record { strict = omega (arith, ints, n.least) }; at_most = record { cross = omega (arith, ints, n.greatest) } }
-threshold_somewhere (multiples m) lo hi n = record { begun = pos 0; above = record { strict = omega (arith, ints, n.least) }; at_most = record { cross = omega (arith, ints, n.greatest) } }
-threshold_somewhere years lo hi n = record { begun = pos 1; above = record { strict = omega (arith, ints, n.least) }; at_most = record { cross = omega (arith, ints, n.greatest) } }
+-- ---- the ends that stand for no bounds are too far apart to be near
+far_apart : (lo hi : ℤ) (m : ℕ) → m ≤ 2 ^ 44 → ((hi -ℤ lo) *ℤ pos 256) ≤ℤ pos m → AreNoBounds lo hi → ⊥
+far_apart lo hi m s h n = omega (arith, ints, n.least, n.greatest)
 
 -- ---- sides
 within_ends : (i : Interval) (a b : Fraction) (lo hi : ℤ) → i ⊆ between a b → at_56 lo ≈ a → at_56 hi ≈ b → i ⊆ between (at_56 lo) (at_56 hi)
@@ -96,15 +96,19 @@ proper_outside : (i : Interval) (a b : Fraction) → IsProper i → AreWithin i 
 proper_outside everything a b p h = absurd h
 proper_outside (between c d) a b p h = le_trans _ _ _ h.0 (le_trans _ _ _ p h.1)
 
-lies_from : (i j : Interval) (lo hi : ℤ) → i ⊆ j → AreEnds lo hi j → LiesFrom lo hi i
-lies_from i j lo hi h (bounds {a = a} {b = b} l r) = from_ends (within_ends i a b lo hi h l r)
-lies_from i j lo hi h (no_bounds n) = from_nowhere n
+-- ends that are so near
+abbrev pub AreNearBy : ℕ → (lo hi : ℤ) → Type 0
+AreNearBy m lo hi = (m ≤ 2 ^ 44) × (((hi -ℤ lo) *ℤ pos 256) ≤ℤ pos m)
 
-near_open_cell : (g : Grid) (i j : Interval) (lo hi : ℤ) → IsProper i → i ⊆ j → IsOpenCell g j lo hi → AreNear lo hi (one_side g i)
-near_open_cell g i j lo hi p h (too_far q e z n) = near_cell (from_nowhere n) (threshold_somewhere g lo hi n)
-near_open_cell g i j lo hi p h (between_cells e (no_bounds n)) = near_cell (from_nowhere n) (threshold_somewhere g lo hi n)
-near_open_cell g i j lo hi p h (between_cells e (bounds {a = a} {b = b} l r)) =
-    near_cell (from_ends (within_ends i a b lo hi h l r)) (threshold_between g a b lo hi (proper_outside i a b p h.ends) e l r)
+lies_from : (i j : Interval) (lo hi : ℤ) {m : ℕ} → AreNearBy m lo hi → i ⊆ j → AreEnds lo hi j → LiesFrom lo hi i
+lies_from i j lo hi c h (bounds {a = a} {b = b} l r) = within_ends i a b lo hi h l r
+lies_from i j lo hi c h (no_bounds n) = absurd (far_apart lo hi _ c.0 c.1 n)
+
+near_open_cell : (g : Grid) (i j : Interval) (lo hi : ℤ) {m : ℕ} → AreNearBy m lo hi → IsProper i → i ⊆ j → IsOpenCell g j lo hi → AreNear lo hi (one_side g i)
+near_open_cell g i j lo hi c p h (too_far q e z n) = absurd (far_apart lo hi _ c.0 c.1 n)
+near_open_cell g i j lo hi c p h (between_cells e (no_bounds n)) = absurd (far_apart lo hi _ c.0 c.1 n)
+near_open_cell g i j lo hi c p h (between_cells e (bounds {a = a} {b = b} l r)) =
+    near_cell (within_ends i a b lo hi h l r) (threshold_between g a b lo hi (proper_outside i a b p h.ends) e l r)
 
 hull_holds_first : (i j : Interval) → i ⊆ hull i j
 unfolding hull
@@ -118,8 +122,32 @@ hull_holds_second everything j = within_everything _
 hull_holds_second (between a b) everything = within_everything _
 hull_holds_second (between a b) (between c d) = record { ends = (smaller_second a c, larger_second b d) }
 
--- the sides of an open test are near
-pub near_open : (lo hi : ℤ) (s : Sides) → AreProper s → IsOpen s lo hi → AreNear lo hi s
-near_open lo hi (one_side g i) p (open_cell j h k) = near_open_cell g i j lo hi p h k
-near_open lo hi (two_sides i j) p (open_comparison k l h m o) =
-    near_comparison (lies_from i (hull k l) lo hi (within_trans h (hull_holds_first k l)) o.ends) (lies_from j (hull k l) lo hi (within_trans m (hull_holds_second k l)) o.ends)
+-- no test may be left open over ends further apart than a 2^20th
+pub site_allows : (s : Site) → most_apart s ≤ 2 ^ 44
+site_allows Year = omega arith
+site_allows Zone = omega arith
+site_allows SunWrap = omega arith
+site_allows MoonWrap = omega arith
+site_allows PhaseWrap = omega arith
+site_allows PhasePick = omega arith
+site_allows MoonNumber = omega arith
+site_allows MoonWalk = omega arith
+site_allows StepWrap = omega arith
+site_allows StartFloor = omega arith
+site_allows DayTest = omega arith
+site_allows DayFloor = omega arith
+site_allows TermFloor = omega arith
+site_allows Search = omega arith
+site_allows BisectEnd = omega arith
+site_allows Bisect = omega arith
+site_allows Offset = omega arith
+site_allows Settle = omega arith
+site_allows Round = omega arith
+site_allows Crescent = omega arith
+site_allows Sidereal = omega arith
+
+-- the sides of an open test whose ends are close are near
+pub near_open : (lo hi : ℤ) (s : Sides) {m : ℕ} → AreNearBy m lo hi → AreProper s → IsOpen s lo hi → AreNear lo hi s
+near_open lo hi (one_side g i) c p (open_cell j h k) = near_open_cell g i j lo hi c p h k
+near_open lo hi (two_sides i j) c p (open_comparison k l h m o) =
+    near_comparison (lies_from i (hull k l) lo hi c (within_trans h (hull_holds_first k l)) o.ends) (lies_from j (hull k l) lo hi c (within_trans m (hull_holds_second k l)) o.ends)

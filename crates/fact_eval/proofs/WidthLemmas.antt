@@ -1,7 +1,6 @@
 -- The bound of a correction that is about to be rounded, computed for each scale, and what it says of an open test
 -- and of a value.
-use Rattle.std.specs.Prelude.{◌≡◌, ℕ, ◌+◌, ◌-◌, ◌*◌, ◌^◌, ◌≤◌, ℤ, pos, negsuc, ◌-ℤ◌, ◌*ℤ◌, ◌≤ℤ◌, Bool, true, false, ◌&&◌, nat_le, Some, FitsSigned, refl}
-use Rattle.std.proofs.lemmas.Bool.{leb-true}
+use Rattle.std.specs.Prelude.{◌≡◌, ℕ, ◌+◌, ◌-◌, ◌*◌, ◌^◌, ◌≤◌, ℤ, pos, negsuc, ◌-ℤ◌, ◌*ℤ◌, ◌≤ℤ◌, Bool, true, false, Some, FitsSigned, refl}
 use Rattle.std.proofs.Common.{arith, subst}
 use Rattle.book_model.proofs.Implying.{settled_at}
 use Rattle.std.proofs.lemmas.Int.{ints}
@@ -14,7 +13,6 @@ use Rattle.exact_math.proofs.Same.{le_of_same, ge_of_same}
 use Rattle.book_model.specs.declared.fail.Fail.{Fail}
 use Rattle.book_model.specs.declared.fail.Fail.TheVariants.{Undecided as undecided_at, Void}
 use Rattle.book_model.specs.declared.site.Site.TheVariants.{Round, Year}
-use Rattle.book_model.specs.declared.fact.Kind.TheVariants.{Dt}
 use Rattle.encl_core.specs.Steps.{IsOpenFloor}
 use Rattle.book_model.specs.numbers.Bounds.{Bound, bounded, Reach, IsNarrow, breadth, at_32, bound_of, implies, constant_bound, sum_bound, scaled_bound, limits_of}
 use Rattle.book_model.specs.sky.Facts.{IsFactValue}
@@ -24,7 +22,7 @@ use Rattle.book_model.specs.numbers.Expressions.{Expression, argument}
 use Rattle.book_model.specs.numbers.Relations.{Narrow, Keeps}
 use Rattle.time_scales.specs.Corrections.{correction_bound}
 use Rattle.time_scales.proofs.CorrectionWidths.{holds_below, holds_of}
-use Rattle.fact_eval.specs.Widths.{rounded_expression, IsNearFor, IsCloseFor}
+use Rattle.fact_eval.specs.Widths.{rounded_expression, IsCloseFor}
 
 -- within 10,000,000 of 0, and at most 345,600,003 units of 2^-bits wide
 abbrev pub rounded_bound : ℕ → Bound
@@ -33,33 +31,25 @@ rounded_bound bits = bounded (negsuc (10000000 * 2 ^ 32 - 1)) (pos (10000000 * 2
 abbrev narrow_correction : ℕ → ℕ → Bound
 narrow_correction bits k = correction_bound 4 bits
 
--- what is rounded keeps the bound at the scale k bits finer than 2^-36, and its units are 2^-6 at most
+-- what is rounded keeps the bound at the scale k bits finer than 2^-36
 unfoldable is_rounded_well : ℕ → Bool
-is_rounded_well k = implies (bound_of (limits_of (36 + k)) (narrow_correction (36 + k)) (rounded_expression (argument 0))) (rounded_bound (36 + k)) && nat_le (345600003 * 2 ^ (64 - (36 + k))) (2 ^ 58)
+is_rounded_well k = implies (bound_of (limits_of (36 + k)) (narrow_correction (36 + k)) (rounded_expression (argument 0))) (rounded_bound (36 + k))
 
 scales_fit : holds_below is_rounded_well 21 ≡ true
 unfolding holds_below is_rounded_well implies bound_of limits_of constant_bound sum_bound scaled_bound
 scales_fit = refl
 
-both : (p q : Bool) → (p && q) ≡ true → (p ≡ true) × (q ≡ true)
-both true true e = (refl, refl)
-both true false e = absurd (cc)
-both false q e = absurd (cc)
-
 abbrev FitsScale : ℕ → Type 0
-FitsScale n = (implies (bound_of (limits_of n) (narrow_correction n) (rounded_expression (argument 0))) (rounded_bound n) ≡ true) × (nat_le (345600003 * 2 ^ (64 - n)) (2 ^ 58) ≡ true)
+FitsScale n = implies (bound_of (limits_of n) (narrow_correction n) (rounded_expression (argument 0))) (rounded_bound n) ≡ true
 
 fits_finer : (k : ℕ) → is_rounded_well k ≡ true → FitsScale (36 + k)
 unfolding is_rounded_well
-fits_finer k e = both _ _ e
+fits_finer k e = e
 
 scale_fits : (n : ℕ) → 36 ≤ n → n ≤ 56 → FitsScale n
 scale_fits n a b =
     let p : 36 + (n - 36) ≡ n = omega (arith, a) in
     subst FitsScale p (fits_finer (n - 36) (holds_of is_rounded_well 21 (n - 36) scales_fit (omega (arith, a, b))))
-
-units_small : (n : ℕ) → 36 ≤ n → n ≤ 56 → 345600003 * 2 ^ (64 - n) ≤ 2 ^ 58
-units_small n a b = leb-true _ _ (scale_fits n a b).1
 
 -- what is rounded for a correction of at most 4 units keeps the bound
 pub rounded_narrow : {E : Type 0} (shown : E → Interval) (n : ℕ) (d e : E) → 36 ≤ n → n ≤ 56 → IsNarrow 0 (correction_bound 4 n) (shown d)
@@ -67,7 +57,7 @@ pub rounded_narrow : {E : Type 0} (shown : E → Interval) (n : ℕ) (d e : E) �
 unfolding Keeps bound_of
 rounded_narrow shown n d e a b h f =
     let r : Reach = record { width = 0; bounds = narrow_correction n } in
-    settled_at shown n 0 (narrow_correction n) (rounded_expression (argument 0)) (rounded_bound n) e (scale_fits n a b).0 (f r (argument 0) (record { kept = h }))
+    settled_at shown n 0 (narrow_correction n) (rounded_expression (argument 0)) (rounded_bound n) e (scale_fits n a b) (f r (argument 0) (record { kept = h }))
 
 -- the floor of a number that keeps the bound is a value of a fact
 floor_low : floor (at_32 (negsuc (10000000 * 2 ^ 32 - 1))) ≡ negsuc 9999999
@@ -115,17 +105,6 @@ pub close_round : (n : ℕ) (i : Interval) (y : ℤ) (f : Fail) → (pos 1987 �
 close_round n i y (undecided_at u) h o = λ a b. open_floor_close n i u.lo u.hi (h a b) o.0
 close_round n i y (Void s) h o = tt
 
--- and it is a near rounding
-near_units : (n : ℕ) (z : ℤ) → 36 ≤ n → n ≤ 56 → (z *ℤ pos 256) ≤ℤ pos (345600003 * 2 ^ (64 - n)) → z ≤ℤ pos (2 ^ 50)
-near_units n z a b h = omega (arith, ints, h, units_small n a b)
-
-pub near_round : (n : ℕ) (i : Interval) (y : ℤ) (f : Fail) → 36 ≤ n → n ≤ 56 → IsOpenFloor i Round f → IsCloseFor n y f → IsNearFor Dt y f
-near_round n i y (undecided_at u) p q o c = record { no_whole_day = λ e t d. let r = o.1 in absurd (cc); close = λ k a b. near_units n (u.hi -ℤ u.lo) p q (c a b) }
-near_round n i y (Void s) p q o c = tt
-
 -- a void is no open test
-pub void_is_no_test : (y : ℤ) (f : Fail) → f ≡ Void Year → IsNearFor Dt y f
-void_is_no_test y f e = rw e tt
-
 pub void_is_close : (n : ℕ) (y : ℤ) (f : Fail) → f ≡ Void Year → IsCloseFor n y f
 void_is_close n y f e = rw e tt

@@ -1,13 +1,14 @@
--- What is rounded for a correction, and what an open test of a fact keeps.
-use Rattle.std.specs.Prelude.{◌≡◌, ℕ, ◌-◌, ◌*◌, ◌^◌, ◌⊎◌, ℤ, pos, ◌-ℤ◌, ◌*ℤ◌, ◌≤ℤ◌}
+-- What is rounded for a correction, and what an open test of a fact is not.
+use Rattle.std.specs.Prelude.{◌≡◌, true, neg_ℤ, ℕ, ◌-◌, ◌*◌, ◌^◌, ◌⊎◌, ℤ, pos, ◌-ℤ◌, ◌*ℤ◌, ◌≤ℤ◌}
 use Rattle.book_model.specs.declared.site.Site.TheVariants.{Year}
 use Rattle.book_model.specs.declared.fact.Kind.{Kind}
-use Rattle.book_model.specs.declared.fact.Kind.TheVariants.{Dt}
 use Rattle.book_model.specs.declared.fail.Fail.{Fail}
-use Rattle.book_model.specs.declared.fail.Undecided.{Undecided as OpenTest}
 use Rattle.book_model.specs.declared.fail.Fail.TheVariants.{Undecided, Void}
 use Rattle.book_model.specs.declared.tables.TheConstants.{HALF, MILLISECONDS_OF_DAY}
 use Rattle.book_model.specs.numbers.Expressions.{Expression, constant, add, scale}
+use Rattle.book_model.specs.declared.horizon.Location.{Location}
+use Rattle.book_model.specs.declared.time_tables.TheConstants.{HOUR}
+use Rattle.book_model.specs.numbers.Bounds.{unbounded, bounded, implies, bound_of, limits_at}
 use Rattle.book_model.specs.sky.Facts.{HasWholeDays}
 use Rattle.book_model.specs.numbers.Fractions.{fraction_of}
 
@@ -21,12 +22,11 @@ abbrev pub IsCloseFor : ℕ → ℤ → Fail → Type 0
 IsCloseFor bits year (Undecided u) = pos 1987 ≤ℤ year → year ≤ℤ pos 2050 → ((u.hi -ℤ u.lo) *ℤ pos 256) ≤ℤ pos (345600003 * 2 ^ (64 - bits))
 IsCloseFor bits year (Void s) = Unit {0}
 
--- what an open test of a fact of this kind keeps, by the year of its day: it isn't that of a whole day, and from 1987 to
--- 2050 the ends of a correction lie at most 2^-6 apart
-pub record KeepsNear (kind : Kind) (year : ℤ) (u : OpenTest) : Type 0 where
-  pub no_whole_day : u.site ≡ Year → (u.turn ≡ 1) ⊎ (u.turn ≡ 3) → HasWholeDays kind → ⊥
-  pub close : kind ≡ Dt → pos 1987 ≤ℤ year → year ≤ℤ pos 2050 → (u.hi -ℤ u.lo) ≤ℤ pos (2 ^ 50)
+-- a failure of a fact of this kind is none at the year of the whole day itself
+abbrev pub IsNoWholeDay : Kind → Fail → Type 0
+IsNoWholeDay kind (Undecided u) = u.site ≡ Year → (u.turn ≡ 1) ⊎ (u.turn ≡ 3) → HasWholeDays kind → ⊥
+IsNoWholeDay kind (Void s) = Unit {0}
 
-abbrev pub IsNearFor : Kind → ℤ → Fail → Type 0
-IsNearFor kind year (Undecided u) = KeepsNear kind year u
-IsNearFor kind year (Void s) = Unit {0}
+-- a location whose standard time is within a day of universal time, by a narrow number of hours
+pub record IsNarrowZone (p : Location) : Type 0 where
+  pub narrow : implies (bound_of (limits_at 56) (λ k. unbounded) (scale (fraction_of HOUR) (constant (fraction_of p.zone)))) (bounded (neg_ℤ (pos (2 ^ 32))) (pos (2 ^ 32)) 0 (2 ^ 10)) ≡ true

@@ -1,15 +1,16 @@
 //! The dynamical time correction of a day, in milliseconds.
 ghost use Rattle.book_model.specs.programs.Calls.{Decides};
-ghost use Rattle.std.specs.Prelude.{◌≤◌, IfOk, IfErr};
+ghost use Rattle.book_model.specs.programs.Widths.{IsClose};
+ghost use Rattle.std.specs.Prelude.{◌≡◌, ◌≤◌, IfOk, IfErr};
 ghost use Rattle.book_model.specs.numbers.Bounds.{Reach, limits_of};
 ghost use Rattle.book_model.specs.calendars.Gregorian.{year_of_day};
 ghost use Rattle.book_model.specs.numbers.Expressions.{Expression, World, add, constant, scale};
 ghost use Rattle.book_model.specs.numbers.Fractions.{fraction_of};
 ghost use Rattle.book_model.specs.sky.Facts.{IsFactValue, IsValueDay};
 ghost use Rattle.book_model.specs.sky.Kinds.{dt_of};
-ghost use Rattle.book_model.specs.declared.fact.Kind.TheVariants.{Dt};
 ghost use Rattle.book_model.specs.numbers.Relations.{Within, Narrow};
-ghost use Rattle.fact_eval.specs.Widths.{IsNearFor, IsCloseFor};
+ghost use Rattle.fact_eval.specs.Widths.{IsCloseFor};
+ghost use Rattle.time_scales.specs.Steps.{IsNoEarlyYear};
 
 use book_model::{Fail, HALF, MILLISECONDS_OF_DAY, Site};
 use encl_core::{Enclosure, Trail, floor_step};
@@ -34,8 +35,9 @@ pub(crate) fn dt<E: Enclosure>(day: i64, trail: &mut Trail) -> Result<i64, Fail>
     requires day { IsValueDay day }
     ensures leads { Decides (dt_of day) trail.old.count trail.new.count result }
     ensures value { IfOk result IsFactValue }
-    ensures open { 36 ≤ E.BITS → E.BITS ≤ 56 → IfErr result (IsNearFor Dt (year_of_day day)) }
-    ensures close { 36 ≤ E.BITS → E.BITS ≤ 56 → IfErr result (IsCloseFor E.BITS (year_of_day day)) }
+    ensures early { 36 ≤ E.BITS → E.BITS ≤ 56 → IfErr result IsNoEarlyYear }
+    ensures units { 36 ≤ E.BITS → E.BITS ≤ 56 → IfErr result (IsCloseFor E.BITS (year_of_day day)) }
+    ensures close { E.BITS ≡ 56 → IfErr result IsClose }
 {
     let year = year_of_whole_day(day, trail);
     let days = correction::<E>(year, trail)?;

@@ -15,4 +15,4 @@ mod staged;
 mod sun;
 mod sunsets;
 
-pub use staged::{Staged, answer_over};
+pub use staged::{Staged, answer_over, evaluate, is_close};

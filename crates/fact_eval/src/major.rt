@@ -1,11 +1,9 @@
 //! The major solar term at midnight in Beijing.
 ghost use Rattle.book_model.specs.programs.Calls.{Decides};
-ghost use Rattle.std.specs.Prelude.{◌+◌, pos, ◌≤ℤ◌, IfOk, IfErr};
-ghost use Rattle.book_model.specs.calendars.Gregorian.{year_of_day};
+ghost use Rattle.book_model.specs.programs.Widths.{IsClose};
+ghost use Rattle.std.specs.Prelude.{◌≡◌, ◌+◌, pos, ◌≤ℤ◌, IfOk, IfErr};
 ghost use Rattle.book_model.specs.sky.Facts.{IsFactValue, IsValueDay};
 ghost use Rattle.book_model.specs.sky.Kinds.{terms_passed_of, major_of};
-ghost use Rattle.book_model.specs.declared.fact.Kind.TheVariants.{Major};
-ghost use Rattle.fact_eval.specs.Widths.{IsNearFor};
 
 use crate::beijing::longitude_at_midnight;
 use book_model::{DEGREE_IN_TERMS, Fail, Site};
@@ -19,6 +17,7 @@ fn terms_passed<E: Enclosure>(day: i64, trail: &mut Trail) -> Result<i64, Fail>
     ensures leads { Decides (terms_passed_of day) trail.old.count trail.new.count result }
     ensures from { IfOk result (λ q. pos 0 ≤ℤ q) }
     ensures to { IfOk result (λ q. q ≤ℤ pos 12) }
+    ensures close { E.BITS ≡ 56 → IsValueDay day → IfErr result IsClose }
 {
     let longitude = longitude_at_midnight::<E>(day, trail)?;
     floor_step(longitude.mul_frac(DEGREE_IN_TERMS), Site::TermFloor, trail)
@@ -26,12 +25,12 @@ fn terms_passed<E: Enclosure>(day: i64, trail: &mut Trail) -> Result<i64, Fail>
 
 /// The number, from 1 to 12, of the last major solar term at midnight at the beginning of a day (R.D.) in Beijing, that at 330
 /// degrees being the first: three tests at most.
-#[tactic(auto, using(book_model::proofs::Leads::leading, crate::proofs::Rightness::major_keeps), unfolding(book_model::specs::sky::Kinds::major_of))]
+#[tactic(auto, using(book_model::proofs::Leads::leading), unfolding(book_model::specs::sky::Kinds::major_of))]
 pub(crate) fn major<E: Enclosure>(day: i64, trail: &mut Trail) -> Result<i64, Fail>
     requires day { IsValueDay day }
     ensures leads { Decides (major_of day) trail.old.count trail.new.count result }
     ensures value { IfOk result IsFactValue }
-    ensures open { IfErr result (IsNearFor Major (year_of_day day)) }
+    ensures close { E.BITS ≡ 56 → IfErr result IsClose }
 {
     let passed = terms_passed::<E>(day, trail)?;
     Ok(amod(2 + passed, 12))

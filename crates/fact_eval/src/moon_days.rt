@@ -1,11 +1,9 @@
 //! The new moons before and from a day, by the time of Beijing.
 ghost use Rattle.book_model.specs.programs.Calls.{Decides};
-ghost use Rattle.std.specs.Prelude.{IfOk, IfErr};
-ghost use Rattle.book_model.specs.calendars.Gregorian.{year_of_day};
+ghost use Rattle.book_model.specs.programs.Widths.{IsClose};
+ghost use Rattle.std.specs.Prelude.{◌≡◌, IfOk, IfErr};
 ghost use Rattle.book_model.specs.sky.Facts.{IsFactValue, IsValueDay};
 ghost use Rattle.book_model.specs.sky.Kinds.{new_moon_before_of, new_moon_from_of};
-ghost use Rattle.book_model.specs.declared.fact.Kind.TheVariants.{NewMoonBefore, NewMoonFrom};
-ghost use Rattle.fact_eval.specs.Widths.{IsNearFor};
 
 use crate::beijing::day_in_beijing;
 use book_model::Fail;
@@ -14,24 +12,24 @@ use moon_core::{moon_before, moon_from};
 use time_scales::midnight;
 
 /// The day (R.D.) in Beijing of the last new moon before midnight at the beginning of a day there: 27 tests at most.
-#[tactic(auto, using(book_model::proofs::Leads::leading, crate::proofs::Rightness::new_moon_before_keeps), unfolding(book_model::specs::sky::Kinds::new_moon_before_of))]
+#[tactic(auto, using(book_model::proofs::Leads::leading), unfolding(book_model::specs::sky::Kinds::new_moon_before_of))]
 pub(crate) fn new_moon_before<E: Enclosure>(day: i64, trail: &mut Trail) -> Result<i64, Fail>
     requires day { IsValueDay day }
     ensures leads { Decides (new_moon_before_of day) trail.old.count trail.new.count result }
     ensures value { IfOk result IsFactValue }
-    ensures open { IfErr result (IsNearFor NewMoonBefore (year_of_day day)) }
+    ensures close { E.BITS ≡ 56 → IfErr result IsClose }
 {
     let moment = moon_before(midnight::<E>(day), trail)?;
     day_in_beijing(moment, trail)
 }
 
 /// The day (R.D.) in Beijing of the first new moon at or after midnight at the beginning of a day there: 27 tests at most.
-#[tactic(auto, using(book_model::proofs::Leads::leading, crate::proofs::Rightness::new_moon_from_keeps), unfolding(book_model::specs::sky::Kinds::new_moon_from_of))]
+#[tactic(auto, using(book_model::proofs::Leads::leading), unfolding(book_model::specs::sky::Kinds::new_moon_from_of))]
 pub(crate) fn new_moon_from<E: Enclosure>(day: i64, trail: &mut Trail) -> Result<i64, Fail>
     requires day { IsValueDay day }
     ensures leads { Decides (new_moon_from_of day) trail.old.count trail.new.count result }
     ensures value { IfOk result IsFactValue }
-    ensures open { IfErr result (IsNearFor NewMoonFrom (year_of_day day)) }
+    ensures close { E.BITS ≡ 56 → IfErr result IsClose }
 {
     let moment = moon_from(midnight::<E>(day), trail)?;
     day_in_beijing(moment, trail)

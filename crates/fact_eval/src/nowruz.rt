@@ -1,12 +1,10 @@
 //! The first day of a Persian year.
 ghost use Rattle.book_model.specs.programs.Calls.{Decides};
-ghost use Rattle.std.specs.Prelude.{IfOk, IfErr};
-ghost use Rattle.book_model.specs.calendars.Gregorian.{year_of_day};
+ghost use Rattle.book_model.specs.programs.Widths.{IsClose};
+ghost use Rattle.std.specs.Prelude.{◌≡◌, IfOk, IfErr};
 ghost use Rattle.book_model.specs.sky.Facts.{IsFactValue, IsValueDay};
 ghost use Rattle.book_model.specs.sky.Kinds.{nowruz_of};
 ghost use Rattle.book_model.specs.sky.Noon.{noon_of};
-ghost use Rattle.book_model.specs.declared.fact.Kind.TheVariants.{Nowruz};
-ghost use Rattle.fact_eval.specs.Widths.{IsNearFor};
 
 use crate::spring::{DayMoment, spring_day};
 use book_model::Fail;
@@ -28,12 +26,11 @@ impl<E: Enclosure> DayMoment<E> for NoonAtTehran {
 
 /// The first day (R.D.) of the Persian year in which a day falls, by true noon at Tehran. It is void at `search` where there is
 /// none.
-#[tactic(auto, using(crate::proofs::Rightness::nowruz_keeps))]
 pub(crate) fn nowruz<E: Enclosure>(day: i64, trail: &mut Trail) -> Result<i64, Fail>
     requires day { IsValueDay day }
     ensures leads { Decides (nowruz_of day) trail.old.count trail.new.count result }
     ensures value { IfOk result IsFactValue }
-    ensures open { IfErr result (IsNearFor Nowruz (year_of_day day)) }
+    ensures close { E.BITS ≡ 56 → IfErr result IsClose }
 {
     spring_day::<E, NoonAtTehran>(NoonAtTehran, day, trail)
 }

@@ -1,6 +1,7 @@
 //! The days of new moon, first quarter, full moon and last quarter, and of the first sight of the crescent.
 ghost use Rattle.book_model.specs.programs.Calls.{Decides};
-ghost use Rattle.std.specs.Prelude.{◌≡◌, ◌≤◌, IfOk, IfErr};
+ghost use Rattle.book_model.specs.programs.Widths.{IsClose};
+ghost use Rattle.std.specs.Prelude.{◌≡◌, ◌≤◌, pos, negsuc, ◌≤ℤ◌, IfOk, IfErr};
 ghost use Rattle.book_model.specs.sky.Crescent.{phasis_of};
 ghost use Rattle.book_model.specs.sky.Facts.{IsFactValue, IsValueDay};
 ghost use Rattle.book_model.specs.sky.Kinds.{located};
@@ -19,6 +20,8 @@ pub(crate) fn phase_day<E: Enclosure>(phase: i64, day: i64, trail: &mut Trail) -
     ensures leads { Decides (phase_day_of phase day) trail.old.count trail.new.count result }
     ensures value { IfOk result IsFactValue }
     ensures early { trail.old.count ≡ 0 → 36 ≤ E.BITS → E.BITS ≤ 56 → IfErr result IsNoEarlyYear }
+    ensures close { E.BITS ≡ 56 → negsuc 39999999 ≤ℤ phase → phase ≤ℤ pos 40000000
+        → IfErr result IsClose }
 {
     moon_core::phase_day::<E>(phase, day, trail)
 }
@@ -32,6 +35,7 @@ pub(crate) fn phasis<E: Enclosure>(place: Place, day: i64, trail: &mut Trail) ->
         trail.new.count result }
     ensures value { IfOk result IsFactValue }
     ensures early { trail.old.count ≡ 0 → 36 ≤ E.BITS → E.BITS ≤ 56 → IfErr result IsNoEarlyYear }
+    ensures close { E.BITS ≡ 56 → IfErr result IsClose }
 {
     match place.location() {
         Some(location) => crescent::phasis::<E>(&location, day, trail),

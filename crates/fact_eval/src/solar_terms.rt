@@ -1,6 +1,7 @@
 //! The days in Beijing of the next major and minor solar terms.
 ghost use Rattle.book_model.specs.programs.Calls.{Decides};
-ghost use Rattle.std.specs.Prelude.{◌≡◌, pos, ◌≤ℤ◌, IfOk};
+ghost use Rattle.book_model.specs.programs.Widths.{IsClose};
+ghost use Rattle.std.specs.Prelude.{◌≡◌, pos, negsuc, ◌≤ℤ◌, IfOk, IfErr};
 ghost use Rattle.book_model.specs.sky.Facts.{IsFactValue, IsValueDay};
 ghost use Rattle.book_model.specs.sky.Kinds as spec;
 ghost use Rattle.fact_eval.specs.Spans.{IsSpan};
@@ -23,6 +24,7 @@ fn spans_short<E: Enclosure>(first: i64, day: i64, trail: &mut Trail) -> Result<
     requires to { first ≤ℤ pos 15 }
     ensures leads { Decides (spec.spans_short_of first day) trail.old.count trail.new.count result }
     ensures near { IfOk result IsSpan }
+    ensures close { E.BITS ≡ 56 → IsValueDay day → IfErr result IsClose }
 {
     let there = longitude_at_midnight::<E>(day, trail)?;
     let spans = E::from_int(first).sub(there).mul_frac(DEGREE_IN_TERMS);
@@ -36,6 +38,8 @@ fn term_longitude(first: i64, spans: i64) -> i64
     requires to { first ≤ℤ pos 15 }
     requires span { IsSpan spans }
     ensures longitude { result ≡ spec.term_longitude first spans }
+    ensures from { pos 0 ≤ℤ result }
+    ensures to { result ≤ℤ pos 359 }
 {
     modulo(first - TERM_DEGREES * spans, 360)
 }
@@ -45,6 +49,8 @@ fn term_longitude(first: i64, spans: i64) -> i64
 fn longitude_day<E: Enclosure>(longitude: i64, day: i64, trail: &mut Trail) -> Result<i64, Fail>
     ensures leads { Decides (spec.longitude_day_of longitude day) trail.old.count trail.new.count
         result }
+    ensures close { E.BITS ≡ 56 → negsuc 39999999 ≤ℤ longitude → longitude ≤ℤ pos 40000000
+        → IsValueDay day → IfErr result IsClose }
 {
     let moment = sun_from(E::from_int(longitude), midnight::<E>(day), trail)?;
     day_in_beijing(moment, trail)
@@ -59,6 +65,7 @@ pub(crate) fn term_day<E: Enclosure>(first: i64, day: i64, trail: &mut Trail) ->
     requires day { IsValueDay day }
     ensures leads { Decides (spec.term_day_of first day) trail.old.count trail.new.count result }
     ensures value { IfOk result IsFactValue }
+    ensures close { E.BITS ≡ 56 → IfErr result IsClose }
 {
     let spans = spans_short::<E>(first, day, trail)?;
     longitude_day::<E>(term_longitude(first, spans), day, trail)

@@ -1,11 +1,10 @@
 //! The day of the last winter solstice in Beijing.
 ghost use Rattle.book_model.specs.programs.Calls.{Decides, Decides1, Follows};
-ghost use Rattle.std.specs.Prelude.{◌+◌, pos, ◌≤ℤ◌, ◌+ℤ◌, ◌-ℤ◌, IfOk, IfErr, false};
-ghost use Rattle.book_model.specs.calendars.Gregorian.{year_of_day};
+ghost use Rattle.std.specs.Prelude.{◌+◌, pos, ◌≤ℤ◌, ◌+ℤ◌, ◌-ℤ◌, ◌≡◌, ◌*◌, ◌^◌, IfOk, IfErr};
+ghost use Rattle.book_model.specs.programs.Widths.{IsClose, IsMoment, IsUpTo, Measured};
+ghost use Rattle.moon_core.specs.Widths.{Closes1};
 ghost use Rattle.book_model.specs.sky.Facts.{IsFactDay, IsFactValue, IsValueDay};
 ghost use Rattle.book_model.specs.sky.Kinds.{is_past_winter_of, has_winter_at_end, last_solstice_of, solstice_start_of, solstice_of};
-ghost use Rattle.book_model.specs.declared.fact.Kind.TheVariants.{Solstice};
-ghost use Rattle.fact_eval.specs.Widths.{IsNearFor};
 
 use crate::beijing::longitude_at_midnight;
 use book_model::{Fail, Site};
@@ -24,6 +23,7 @@ struct WinterAtEnd;
 fn is_past_winter<E: Enclosure>(longitude: E, trail: &mut Trail) -> Result<bool, Fail>
     ensures leads { Decides1 E.shown is_past_winter_of longitude trail.old.count trail.new.count
         result }
+    ensures close { Closes1 E.BITS E.shown (2 ^ 44) (IsUpTo 360) longitude result }
 {
     less_step(E::from_int(WINTER), longitude, Site::DayTest, trail)
 }
@@ -33,6 +33,7 @@ fn is_past_winter<E: Enclosure>(longitude: E, trail: &mut Trail) -> Result<bool,
 fn has_winter<E: Enclosure>(day: i64, trail: &mut Trail) -> Result<bool, Fail>
     requires day { IsFactDay day }
     ensures leads { Decides (has_winter_at_end day) trail.old.count trail.new.count result }
+    ensures close { E.BITS ≡ 56 → IfErr result IsClose }
 {
     let longitude = longitude_at_midnight::<E>(day + 1, trail)?;
     is_past_winter(longitude, trail)
@@ -41,7 +42,7 @@ fn has_winter<E: Enclosure>(day: i64, trail: &mut Trail) -> Result<bool, Fail>
 impl<E: Enclosure> DayTest<E> for WinterAtEnd {
     ghost test_of = { λ s d. has_winter_at_end d };
 
-    ghost near = { false };
+    ghost near_on = { λ s d. Unit {0} };
 
     fn holds(&self, day: i64, trail: &mut Trail) -> Result<bool, Fail> {
         has_winter::<E>(day, trail)
@@ -54,6 +55,7 @@ impl<E: Enclosure> DayTest<E> for WinterAtEnd {
 fn last_solstice<E: Enclosure>(day: i64, trail: &mut Trail) -> Result<E, Fail>
     requires day { IsFactDay day }
     ensures leads { Follows E.shown (last_solstice_of day) trail.old.count trail.new.count result }
+    ensures measured { IsValueDay day → Measured E.BITS E.shown (IsMoment (2 ^ 35 + 15 * 2 ^ 9)) result }
 {
     estimate(E::from_int(WINTER), midnight::<E>(day + 1), trail)
 }
@@ -66,6 +68,7 @@ fn search_start<E: Enclosure>(day: i64, trail: &mut Trail) -> Result<i64, Fail>
     ensures leads { Decides (solstice_start_of day) trail.old.count trail.new.count result }
     ensures from { IfOk result (λ q. (day -ℤ pos 600) ≤ℤ q) }
     ensures to { IfOk result (λ q. q ≤ℤ (day +ℤ pos 2)) }
+    ensures close { E.BITS ≡ 56 → IfErr result IsClose }
 {
     let moment = last_solstice::<E>(day, trail)?;
     floor_step(moment, Site::StartFloor, trail)
@@ -73,12 +76,12 @@ fn search_start<E: Enclosure>(day: i64, trail: &mut Trail) -> Result<i64, Fail>
 
 /// The day (R.D.) of the last winter solstice in Beijing before a day ends there: the first from the day before the estimated
 /// one on, of 46, at whose end the sun is past the solstice. It is void at `search` where there is none.
-#[tactic(auto, using(book_model::proofs::Leads::leading, crate::proofs::Rightness::solstice_keeps), unfolding(book_model::specs::sky::Kinds::solstice_of))]
+#[tactic(auto, using(book_model::proofs::Leads::leading), unfolding(book_model::specs::sky::Kinds::solstice_of))]
 pub(crate) fn solstice<E: Enclosure>(day: i64, trail: &mut Trail) -> Result<i64, Fail>
     requires day { IsValueDay day }
     ensures leads { Decides (solstice_of day) trail.old.count trail.new.count result }
     ensures value { IfOk result IsFactValue }
-    ensures open { IfErr result (IsNearFor Solstice (year_of_day day)) }
+    ensures close { E.BITS ≡ 56 → IfErr result IsClose }
 {
     let start = search_start::<E>(day, trail)?;
     first_day::<E, WinterAtEnd>(&WinterAtEnd, start - 1, trail)

@@ -1,6 +1,8 @@
 //! The day by whose moment, as true noon or sunset at a place, the sun has just passed the spring equinox: the first of a year.
 ghost use Rattle.book_model.specs.programs.Calls.{Decides, Decides1, Follows};
-ghost use Rattle.std.specs.Prelude.{pos, negsuc, ◌≤ℤ◌, ℤ, IfOk, false};
+ghost use Rattle.book_model.specs.programs.Widths.{IsClose, IsMoment, IsUpTo, Measured};
+ghost use Rattle.std.specs.Prelude.{◌≡◌, ◌+◌, ◌*◌, ◌^◌, pos, negsuc, ◌≤ℤ◌, ℤ, IfOk, IfErr};
+ghost use Rattle.moon_core.specs.Widths.{Closes1};
 ghost use Rattle.book_model.specs.numbers.Expressions.{Expression};
 ghost use Rattle.book_model.specs.sky.Facts.{IsFactDay, IsFactValue, IsValueDay};
 ghost use Rattle.book_model.specs.sky.Kinds.{longitude_at_of, is_at_most_two_of, has_spring_at, last_equinox_of, search_start_of, spring_day_of};
@@ -18,7 +20,8 @@ pub(crate) trait DayMoment<E: Enclosure>: Copy {
     /// The moment of a day (R.D.), in universal time. It makes the tests of its formula, and fails where that does.
     fn at(self, day: i64, trail: &mut Trail) -> Result<E, Fail>
         requires day { IsFactDay day }
-        ensures leads { Follows E.shown (moment_of day) trail.old.count trail.new.count result };
+        ensures leads { Follows E.shown (moment_of day) trail.old.count trail.new.count result }
+        ensures measured { Measured E.BITS E.shown (IsMoment (2 ^ 33)) result };
 }
 
 /// Whether the longitude of the sun at a moment of a day is at most 2 degrees. The search for it begins before the equinox,
@@ -38,6 +41,7 @@ fn longitude_at<E: Enclosure, M: DayMoment<E>>(
     requires day { IsFactDay day }
     ensures leads { Follows E.shown (longitude_at_of M.moment_of day) trail.old.count
         trail.new.count result }
+    ensures measured { Measured E.BITS E.shown (IsUpTo 360 (5 * 2 ^ 32)) result }
 {
     let there = moment.at(day, trail)?;
     sun(there, trail)
@@ -48,6 +52,7 @@ fn longitude_at<E: Enclosure, M: DayMoment<E>>(
 fn is_at_most_two<E: Enclosure>(longitude: E, trail: &mut Trail) -> Result<bool, Fail>
     ensures leads { Decides1 E.shown is_at_most_two_of longitude trail.old.count trail.new.count
         result }
+    ensures close { Closes1 E.BITS E.shown (2 ^ 44) (IsUpTo 360) longitude result }
 {
     let is_more = less_step(E::from_int(2), longitude, Site::DayTest, trail)?;
     Ok(!is_more)
@@ -62,6 +67,7 @@ fn has_spring<E: Enclosure, M: DayMoment<E>>(
 ) -> Result<bool, Fail>
     requires day { IsFactDay day }
     ensures leads { Decides (has_spring_at M.moment_of day) trail.old.count trail.new.count result }
+    ensures close { E.BITS ≡ 56 → IfErr result IsClose }
 {
     let longitude = longitude_at::<E, M>(moment, day, trail)?;
     is_at_most_two(longitude, trail)
@@ -70,7 +76,7 @@ fn has_spring<E: Enclosure, M: DayMoment<E>>(
 impl<E: Enclosure, M: DayMoment<E>> DayTest<E> for SpringAt<M> {
     ghost test_of = { λ s d. has_spring_at M.moment_of d };
 
-    ghost near = { false };
+    ghost near_on = { λ s d. Unit {0} };
 
     fn holds(&self, day: i64, trail: &mut Trail) -> Result<bool, Fail> {
         has_spring::<E, M>(self.moment, day, trail)
@@ -87,6 +93,7 @@ fn last_equinox<E: Enclosure, M: DayMoment<E>>(
     requires day { IsFactDay day }
     ensures leads { Follows E.shown (last_equinox_of M.moment_of day) trail.old.count
         trail.new.count result }
+    ensures measured { Measured E.BITS E.shown (IsMoment (7 * 2 ^ 34)) result }
 {
     let there = moment.at(day, trail)?;
     estimate(E::from_int(0), there, trail)
@@ -103,6 +110,7 @@ fn search_start<E: Enclosure, M: DayMoment<E>>(
     ensures leads { Decides (search_start_of M.moment_of day) trail.old.count trail.new.count result }
     ensures from { IfOk result (λ q. negsuc 183199 ≤ℤ q) }
     ensures to { IfOk result (λ q. q ≤ℤ pos 748748) }
+    ensures close { E.BITS ≡ 56 → IfErr result IsClose }
 {
     let equinox = last_equinox::<E, M>(moment, day, trail)?;
     floor_step(equinox, Site::StartFloor, trail)
@@ -120,6 +128,7 @@ pub(crate) fn spring_day<E: Enclosure, M: DayMoment<E>>(
     requires day { IsValueDay day }
     ensures leads { Decides (spring_day_of M.moment_of day) trail.old.count trail.new.count result }
     ensures value { IfOk result IsFactValue }
+    ensures close { E.BITS ≡ 56 → IfErr result IsClose }
 {
     let start = search_start::<E, M>(moment, day, trail)?;
     first_day::<E, SpringAt<M>>(&SpringAt { moment }, start - 1, trail)

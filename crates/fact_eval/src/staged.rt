@@ -2,12 +2,12 @@
 ghost use Rattle.book_model.specs.programs.Calls.{Decides};
 ghost use Rattle.std.specs.Prelude.{◌≡◌, ◌≤◌, IfOk, IfErr, IsTrue};
 ghost use Rattle.book_model.specs.declared.fact.TheConstants.{FIRST_DAY as first_day, LAST_DAY as last_day};
-ghost use Rattle.book_model.specs.calendars.Gregorian.{year_of_day};
 ghost use Rattle.book_model.specs.sky.Correction.{is_between};
-ghost use Rattle.book_model.specs.sky.Facts.{IsFactValue, IsValueDay, formula_of, program_of};
+ghost use Rattle.book_model.specs.sky.Facts.{AreClose, IsFactValue, IsValueDay, formula_of, program_of};
 ghost use Rattle.oracle_core.specs.Answers.{IsRightAnswer};
-ghost use Rattle.fact_eval.specs.Answers.{answer_of};
-ghost use Rattle.fact_eval.specs.Widths.{IsNearFor};
+ghost use Rattle.book_model.specs.programs.Widths.{IsClose};
+ghost use Rattle.fact_eval.specs.Answers.{answer_of, IsCloseAnswer};
+ghost use Rattle.fact_eval.specs.Widths.{IsNoWholeDay};
 
 use crate::dt::dt;
 use crate::major::major;
@@ -18,7 +18,7 @@ use crate::solar_terms::term_day;
 use crate::solstice::solstice;
 use crate::sun::sun_in_thousandths;
 use crate::sunsets::{bahai_year, sunset_in_minutes};
-use book_model::{FIRST_DAY, Fact, Fail, Kind, LAST_DAY, Place, Site};
+use book_model::{FIRST_DAY, Fact, Fail, Kind, LAST_DAY, Place, Site, Undecided};
 use encl_core::{Coarse, Enclosure, Trail};
 use fix_fine::Fine;
 use hindu_sky::{
@@ -58,8 +58,9 @@ fn formula<E: Enclosure>(kind: Kind, place: Place, day: i64, trail: &mut Trail) 
     requires day { IsValueDay day }
     ensures leads { Decides (formula_of kind place day) trail.old.count trail.new.count result }
     ensures value { IfOk result IsFactValue }
-    ensures open { trail.old.count ≡ 0 → 36 ≤ E.BITS → E.BITS ≤ 56
-        → IfErr result (IsNearFor kind (year_of_day day)) }
+    ensures early { trail.old.count ≡ 0 → 36 ≤ E.BITS → E.BITS ≤ 56
+        → IfErr result (IsNoWholeDay kind) }
+    ensures close { E.BITS ≡ 56 → IfErr result IsClose }
 {
     match kind {
         Kind::Dt => dt::<E>(day, trail),
@@ -96,12 +97,14 @@ fn may_have_value(day: i64) -> bool
     FIRST_DAY <= day && day <= LAST_DAY
 }
 
-/// The value of a fact by its formula. It fails where a test is open, or where the formula is void.
-pub(crate) fn evaluate<E: Enclosure>(fact: Fact, trail: &mut Trail) -> Result<i64, Fail>
+/// The value of a fact by its formula over enclosures of one kind. It fails where a test is open, and over enclosures of the scale
+/// 2⁻⁵⁶ the ends of that test are close then; or where the formula is void, as it is outside 1 July 1800 to 31 December 2049.
+pub fn evaluate<E: Enclosure>(fact: Fact, trail: &mut Trail) -> Result<i64, Fail>
     ensures leads { Decides (program_of fact) trail.old.count trail.new.count result }
     ensures value { IfOk result IsFactValue }
-    ensures open { trail.old.count ≡ 0 → 36 ≤ E.BITS → E.BITS ≤ 56
-        → IfErr result (IsNearFor fact.kind (year_of_day fact.day)) }
+    ensures early { trail.old.count ≡ 0 → 36 ≤ E.BITS → E.BITS ≤ 56
+        → IfErr result (IsNoWholeDay fact.kind) }
+    ensures close { E.BITS ≡ 56 → IfErr result IsClose }
 {
     let day = fact.day();
     if !may_have_value(day) {
@@ -111,10 +114,10 @@ pub(crate) fn evaluate<E: Enclosure>(fact: Fact, trail: &mut Trail) -> Result<i6
 }
 
 /// The answer that a result is.
-fn answer(outcome: Result<i64, Fail>) -> Answer
-    ensures { result ≡ answer_of outcome }
+fn answer(found: Result<i64, Fail>) -> Answer
+    ensures { result ≡ answer_of found }
 {
-    match outcome {
+    match found {
         Ok(value) => Answer::Value(value),
         Err(Fail::Undecided(at)) => Answer::Undecided(at),
         Err(Fail::Void(site)) => Answer::Void(site),
@@ -125,19 +128,47 @@ fn answer(outcome: Result<i64, Fail>) -> Answer
 fn answer_from<E: Enclosure>(other: &Trail, fact: Fact) -> Answer
     requires least { 36 ≤ E.BITS }
     requires most { E.BITS ≤ 56 }
-    ensures { IsRightAnswer fact result }
+    ensures right { IsCloseAnswer result → IsRightAnswer fact result }
+    ensures close { E.BITS ≡ 56 → IsCloseAnswer result }
 {
     let mut trail = other.anew();
     answer(evaluate::<E>(fact, &mut trail))
 }
 
-/// The answer for a fact by enclosures of one kind, with a scale from 2⁻³⁶ to 2⁻⁵⁶.
+/// The answer for a fact by enclosures of one kind, with a scale from 2⁻³⁶ to 2⁻⁵⁶. A value and a void are right, and an open
+/// test is wherever its ends are no further apart than its site allows: a 2²⁰th, and a 2²⁴th at the tests of a bisection. At the
+/// scale 2⁻⁵⁶ they never are further apart.
 pub fn answer_over<E: Enclosure>(fact: Fact) -> Answer
     requires least { 36 ≤ E.BITS }
     requires most { E.BITS ≤ 56 }
-    ensures { IsRightAnswer fact result }
+    ensures right { IsCloseAnswer result → IsRightAnswer fact result }
+    ensures close { E.BITS ≡ 56 → IsCloseAnswer result }
 {
     answer_from::<E>(&Trail::new(), fact)
+}
+
+/// How far apart the ends of an open test may lie at every site, in 2⁻⁵⁶: a 2²⁴th.
+const CLOSE: i128 = 1 << 32;
+
+/// Whether the ends of an open test are no further apart than every site allows.
+fn are_close(at: &Undecided) -> bool
+    ensures close { IsTrue result → AreClose at.now }
+{
+    match at.hi.checked_sub(at.lo) {
+        Some(apart) => apart <= CLOSE,
+        None => false,
+    }
+}
+
+/// Whether an answer is no open test, or one whose ends are no further apart than a 2²⁴th, as every site allows.
+pub fn is_close(answer: &Answer) -> bool
+    ensures close { IsTrue result → IsCloseAnswer answer.now }
+{
+    match answer {
+        Answer::Value(_) => true,
+        Answer::Undecided(at) => are_close(at),
+        Answer::Void(_) => true,
+    }
 }
 
 impl Evaluator for Staged {

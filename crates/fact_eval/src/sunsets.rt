@@ -1,15 +1,16 @@
 //! The first day of a Bahá'í year, and sunset in minutes.
 ghost use Rattle.book_model.specs.programs.Calls.{Decides, Decides1, Holds1};
-ghost use Rattle.std.specs.Prelude.{IfOk, IfErr};
-ghost use Rattle.book_model.specs.calendars.Gregorian.{year_of_day};
+ghost use Rattle.book_model.specs.programs.Widths.{IsAbout, IsClose, IsMoment};
+ghost use Rattle.std.specs.Prelude.{◌≡◌, ℕ, ◌+◌, ◌*◌, ◌^◌, ◌≤◌, pos, negsuc, ◌≤ℤ◌, IfOk, IfErr};
 ghost use Rattle.book_model.specs.sky.Correction.{rounded_of};
 ghost use Rattle.book_model.specs.sky.Facts.{IsFactValue, IsValueDay};
 ghost use Rattle.book_model.specs.sky.Horizon.{sunset_of};
 ghost use Rattle.book_model.specs.sky.Kinds.{bahai_year_of, located, minutes_of, sunset_in_minutes_of};
 ghost use Rattle.book_model.specs.sky.Names.{location_of};
-ghost use Rattle.book_model.specs.declared.fact.Kind.TheVariants.{BahaiYear, Sunset};
 ghost use Rattle.book_model.specs.declared.location_tables.TheConstants.{TEHRAN as tehran};
-ghost use Rattle.fact_eval.specs.Widths.{IsNearFor};
+ghost use Rattle.moon_core.specs.Widths.{Closes1};
+ghost use Rattle.rise_set.specs.Widths.{IsNarrowLocation};
+ghost use Rattle.fact_eval.specs.Widths.{IsNarrowZone};
 
 use crate::spring::{DayMoment, spring_day};
 use book_model::{Fail, HALF, HOUR, Location, MINUTES_OF_DAY, Place, Site, TEHRAN};
@@ -30,12 +31,11 @@ impl<E: Enclosure> DayMoment<E> for SunsetAtTehran {
 
 /// The first day (R.D.) of the Bahá'í year in which a day falls, by sunset at Tehran. It is void at `search` where there is none, and
 /// where a sunset is.
-#[tactic(auto, using(crate::proofs::Rightness::bahai_year_keeps))]
 pub(crate) fn bahai_year<E: Enclosure>(day: i64, trail: &mut Trail) -> Result<i64, Fail>
     requires day { IsValueDay day }
     ensures leads { Decides (bahai_year_of day) trail.old.count trail.new.count result }
     ensures value { IfOk result IsFactValue }
-    ensures open { IfErr result (IsNearFor BahaiYear (year_of_day day)) }
+    ensures close { E.BITS ≡ 56 → IfErr result IsClose }
 {
     spring_day::<E, SunsetAtTehran>(SunsetAtTehran, day, trail)
 }
@@ -44,6 +44,9 @@ pub(crate) fn bahai_year<E: Enclosure>(day: i64, trail: &mut Trail) -> Result<i6
 #[tactic(auto, unfolding(book_model::specs::sky::Kinds::minutes_of))]
 fn minutes<E: Enclosure>(location: &Location, day: i64, t: E) -> E
     ensures holds { Holds1 E.shown (minutes_of location.now day) t result }
+    ensures measured { (v : ℕ) → E.BITS ≡ 56 → v ≤ 2 ^ 33 → IsNarrowZone location.now
+        → negsuc 39999999 ≤ℤ day → day ≤ℤ pos 40000000 → IsMoment v (E.shown t)
+        → IsAbout (2 ^ 89) (1440 * v + 2 ^ 22) (E.shown result) }
 {
     t.add(E::from_frac(location.zone).mul_frac(HOUR))
         .sub(E::from_int(day))
@@ -54,6 +57,7 @@ fn minutes<E: Enclosure>(location: &Location, day: i64, t: E) -> E
 #[tactic(auto, using(book_model::proofs::Leads::leading), unfolding(book_model::specs::sky::Correction::rounded_of))]
 fn rounded<E: Enclosure>(number: E, trail: &mut Trail) -> Result<i64, Fail>
     ensures leads { Decides1 E.shown rounded_of number trail.old.count trail.new.count result }
+    ensures close { Closes1 E.BITS E.shown (2 ^ 43) (IsAbout (2 ^ 89)) number result }
 {
     floor_step(number.add(E::from_frac(HALF)), Site::Round, trail)
 }
@@ -67,6 +71,8 @@ fn minutes_of_sunset<E: Enclosure>(
 ) -> Result<i64, Fail>
     ensures leads { Decides (sunset_in_minutes_of location.now day) trail.old.count trail.new.count
         result }
+    ensures close { E.BITS ≡ 56 → IsNarrowLocation location.now → IsNarrowZone location.now
+        → IsValueDay day → IfErr result IsClose }
 {
     let t = sunset::<E>(location, day, trail)?;
     rounded(minutes(location, day, t), trail)
@@ -74,7 +80,7 @@ fn minutes_of_sunset<E: Enclosure>(
 
 /// Sunset on a day (R.D.) at a place, in minutes of its standard time after midnight, rounded: 133 tests at most. It is void
 /// where sunset is, and at `year` where the place has no location.
-#[tactic(auto, using(crate::proofs::Rightness::sunset_keeps, book_model::proofs::Leads::leading), unfolding(book_model::specs::sky::Kinds::located))]
+#[tactic(auto, using(book_model::proofs::Leads::leading), unfolding(book_model::specs::sky::Kinds::located))]
 pub(crate) fn sunset_in_minutes<E: Enclosure>(
     place: Place,
     day: i64,
@@ -84,7 +90,7 @@ pub(crate) fn sunset_in_minutes<E: Enclosure>(
     ensures leads { Decides (located (location_of place) (λ l. sunset_in_minutes_of l day))
         trail.old.count trail.new.count result }
     ensures value { IfOk result IsFactValue }
-    ensures open { IfErr result (IsNearFor Sunset (year_of_day day)) }
+    ensures close { E.BITS ≡ 56 → IfErr result IsClose }
 {
     match place.location() {
         Some(location) => minutes_of_sunset::<E>(&location, day, trail),

@@ -1,8 +1,9 @@
-use Rattle.std.proofs.Common.{rules, SFits, w64}
-use Rattle.std.proofs.lemmas.Int.{to_z-of_z}
+use Rattle.std.proofs.Common.{rules, SFits, w64, arith}
+use Rattle.std.proofs.lemmas.Int.{to_z-of_z, ints}
 use Rattle.book_model.specs.sky.Kinds.{term_day_of}
 use Rattle.book_model.proofs.Leads.{leads_bind_exact}
 use Rattle.fact_eval.proofs.TermDays.{term_day_is_value}
+use Rattle.std.proofs.lemmas.Result.{err_from_is_err_and}
 use Rattle.fact_eval.proofs.solar_terms.term_day.Goals as goal
 
 pub returns-clause-leads : goal.returns-clause-leads
@@ -19,3 +20,17 @@ returns-clause-leads g c = λ w d.
 
 pub returns-clause-value : goal.returns-clause-value
 returns-clause-value g c = term_day_is_value c.args.first c.args.day _ _ _ (returns-clause-leads g c)
+
+pub returns-clause-close : goal.returns-clause-close
+returns-clause-close g c = λ e.
+    let f : SFits w64 c.args.day = c.ranges.day in
+    let q : SFits w64 c.term_longitude.result = search rules in
+    let m = simp to_z-of_z at c.longitude_day.ensures.close in
+    m e (omega (arith, ints, c.term_longitude.ensures.from)) (omega (arith, ints, c.term_longitude.ensures.to)) c.requires.day
+
+pub returns-in_err-spans-clause-close : goal.returns-in_err-spans-clause-close
+returns-in_err-spans-clause-close g c = λ e.
+    let f : SFits w64 c.args.day = c.ranges.day in
+    let fails = err_from_is_err_and c.from_residual.result c.from_residual.ensures.1 in
+    let m = simp to_z-of_z at c.in_err-spans.ensures.close in
+    rw (fails.1, fails.2) (m e c.requires.day)

@@ -11,4 +11,4 @@ returns c =
     let p : SFits w64 (pos 30 *ℤ c.args.spans) = omega (arith, ints, c.requires.span.from, c.requires.span.to) in
     let q : SFits w64 (c.args.first -ℤ pos 30 *ℤ c.args.spans) = omega (arith, ints, c.requires.from, c.requires.to, c.requires.span.from, c.requires.span.to) in
     let r : SFits w64 c.modulo.result = search rules in
-    simp to_z-of_z (record { longitude = simp to_z-of_z at c.modulo.ensures.number })
+    simp to_z-of_z (record { longitude = simp to_z-of_z at c.modulo.ensures.number; from = c.modulo.ensures.from; to = omega (arith, ints, c.modulo.ensures.to) })

@@ -1,18 +1,24 @@
 use Rattle.std.proofs.lemmas.Result.{err_from_is_err_and}
-use Rattle.std.proofs.Common.{refl, not}
+use Rattle.std.proofs.Common.{refl, not, arith, pos, ◌^◌}
 use Rattle.book_model.specs.sky.Kinds.{is_at_most_two_of}
 use Rattle.book_model.specs.programs.Programs.{answer, bind}
 use Rattle.book_model.proofs.Leads.{leads_bind_exact, leads_fail_exact, leads_answer}
+use Rattle.std.proofs.lemmas.Int.{ints}
+use Rattle.fact_eval.proofs.Measured.{turn_about, whole_about}
 use Rattle.fact_eval.proofs.spring.is_at_most_two.Goals as goal
 
-pub returns : goal.returns
+pub returns-clause-leads : goal.returns-clause-leads
 unfolding is_at_most_two_of bind
-returns g c = record { leads = λ w x h. leads_bind_exact (λ more. answer (not more)) (c.in_ok-is_more.ensures.leads w _ x (c.from_int.ensures.encloses.holds w h.deep) h) (leads_answer refl) }
+returns-clause-leads g c = λ w x h. leads_bind_exact (λ more. answer (not more)) (c.in_ok-is_more.ensures.leads w _ x (c.from_int.ensures.encloses.holds w h.deep) h) (leads_answer refl)
 
-pub returns-in_err-is_more : goal.returns-in_err-is_more
+pub returns-in_err-is_more-clause-leads : goal.returns-in_err-is_more-clause-leads
 unfolding is_at_most_two_of bind
-returns-in_err-is_more g c = record {
-  leads = λ w x h.
-      let fails = err_from_is_err_and c.from_residual.result c.from_residual.ensures.1 in
-      rw (fails.1, fails.2) (leads_fail_exact (λ more. answer (not more)) (c.in_err-is_more.ensures.leads w _ x (c.from_int.ensures.encloses.holds w h.deep) h));
-}
+returns-in_err-is_more-clause-leads g c = λ w x h.
+    let fails = err_from_is_err_and c.from_residual.result c.from_residual.ensures.1 in
+    rw (fails.1, fails.2) (leads_fail_exact (λ more. answer (not more)) (c.in_err-is_more.ensures.leads w _ x (c.from_int.ensures.encloses.holds w h.deep) h))
+
+pub returns-in_err-is_more-clause-close : goal.returns-in_err-is_more-clause-close
+returns-in_err-is_more-clause-close g c = λ v e b h.
+    let n = whole_about g.E.Enclosure.shown _ (pos 2) c.from_int.result e (omega (arith, ints)) (omega (arith, ints)) (λ r. c.from_int.ensures.encloses.narrow r) in
+    let fails = err_from_is_err_and c.from_residual.result c.from_residual.ensures.1 in
+    rw (fails.1, fails.2) (c.in_err-is_more.ensures.close 0 v (omega (arith, b)) n (turn_about v _ h))

@@ -1,8 +1,10 @@
-use Rattle.std.proofs.Common.{arith, SFits, w64}
+use Rattle.std.proofs.Common.{arith, SFits, w64, ◌*◌, ◌^◌}
 use Rattle.std.proofs.lemmas.Int.{to_z-of_z}
 use Rattle.book_model.specs.sky.Facts.{at_depth}
 use Rattle.book_model.proofs.Leads.{leaf_within}
 use Rattle.fact_eval.proofs.NewYears.{is_estimate, begun, ended}
+use Rattle.std.proofs.lemmas.Result.{err_from_is_err_and}
+use Rattle.width_laws.proofs.Measuring.{moment_about}
 use Rattle.fact_eval.proofs.spring.search_start.Goals as goal
 
 pub returns-clause-from : goal.returns-clause-from
@@ -16,3 +18,6 @@ returns-clause-to g c =
     let f : SFits w64 c.args.day = c.ranges.day in
     let l = simp to_z-of_z at (c.in_ok-equinox.ensures.leads (at_depth 40) (omega arith)) in
     ended _ (is_estimate (at_depth 40) _ g.M.DayMoment.moment_of c.args.day _ l (c.floor_step.ensures.leads (at_depth 40) _ (leaf_within l)))
+
+pub returns-clause-close : goal.returns-clause-close
+returns-clause-close g c = λ e. c.floor_step.ensures.close (7 * 2 ^ 34) (omega arith) (moment_about _ _ (c.in_ok-equinox.ensures.measured e))

@@ -1,3 +1,4 @@
+use Rattle.book_model.specs.programs.Widths.{close_void}
 use Rattle.std.proofs.Common.{rules, sym, ◌≡◌, true, false, SFits, w64}
 use Rattle.std.proofs.lemmas.Int.{to_z-of_z}
 use Rattle.book_model.specs.declared.fact.TheConstants.{FIRST_DAY, LAST_DAY}
@@ -20,3 +21,6 @@ returns-clause-leads g c = λ w d.
     let inside : is_between FIRST_DAY LAST_DAY c.args.fact.day ≡ true = sym (rw c.day-day.ensures at e) in
     let leads = simp to_z-of_z at (c.formula.ensures.leads w d) in
     rw (program_inside c.args.fact inside) (rw (c.kind.ensures, c.place.ensures, c.day-day.ensures) at leads)
+
+pub returns-then-not-may_have_value-clause-close : goal.returns-then-not-may_have_value-clause-close
+returns-then-not-may_have_value-clause-close g c = λ e. close_void

@@ -1,0 +1,111 @@
+-- How wide the numbers are whose tests kinds of facts make, at the scale 2^-56.
+use Rattle.std.specs.Prelude.{◌≡◌, ℕ, ◌+◌, ◌*◌, ◌^◌, ◌≤◌, Bool, true, false, ℤ, pos, negsuc, neg_ℤ, ◌≤ℤ◌, int_le, refl, if◌then◌else◌, ◌==◌, Result, Ok, Err}
+use Rattle.std.proofs.Common.{arith, subst}
+use Rattle.std.proofs.lemmas.Int.{ints}
+use Rattle.exact_math.specs.Interval.{Interval}
+use Rattle.book_model.specs.declared.fail.Fail.{Fail}
+use Rattle.book_model.specs.declared.sun_tables.TheConstants.{DEGREE_IN_TERMS}
+use Rattle.book_model.specs.declared.tables.TheConstants.{HALF, MILLISECONDS_OF_DAY, THOUSANDTHS_OF_DEGREE}
+use Rattle.book_model.specs.declared.time_tables.TheConstants.{BEIJING_HOURS, HOUR}
+use Rattle.book_model.specs.numbers.Bounds.{Bound, unbounded, bounded, Reach, implies, bound_of, limits_at, limits_of, integer_bound, constant_bound, sum_bound, difference_bound, scaled_bound}
+use Rattle.book_model.specs.numbers.Expressions.{Expression, argument, integer, subtract, scale}
+use Rattle.book_model.specs.numbers.Fractions.{fraction_of}
+use Rattle.book_model.specs.numbers.Relations.{Narrow}
+use Rattle.book_model.specs.programs.Widths.{IsAbout, IsCorrection, IsMoment, IsNearlyDated, IsUpTo, Measures}
+use Rattle.book_model.specs.sky.Facts.{IsValueDay}
+use Rattle.book_model.specs.sky.Time.{midnight_of, beijing_hours}
+use Rattle.width_laws.proofs.Measuring.{measured, sloped, looser, moment_about}
+use Rattle.moon_core.proofs.QuarterWidths.{whole_moment}
+use Rattle.fact_eval.specs.Widths.{rounded_expression}
+
+-- ---- days
+pub day_from : (d : ℤ) → IsValueDay d → negsuc 39999999 ≤ℤ d
+day_from d h = omega (arith, ints, h.0)
+
+pub day_to : (d : ℤ) → IsValueDay d → d ≤ℤ pos 40000000
+day_to d h = omega (arith, ints, h.1)
+
+-- ---- midnight in Beijing, of the day after the last of which a fact may be asked, too
+late_reach : implies (bound_of (limits_at 56) (λ k. unbounded) (midnight_of (pos 40000001))) (bounded (neg_ℤ (pos (2 ^ 58))) (pos (2 ^ 58)) 0 (3 * 2 ^ 8)) ≡ true
+unfolding implies bound_of integer_bound constant_bound difference_bound scaled_bound midnight_of beijing_hours
+late_reach = refl
+
+late_midnight : {E : Type 0} (shown : E → Interval) (n : ℕ) (x : E) → n ≡ 56 → ((r : Reach) → Narrow shown (limits_of n) r (midnight_of (pos 40000001)) x) → IsMoment (3 * 2 ^ 8) (shown x)
+late_midnight shown n x e f = measured shown n 0 (λ k. unbounded) (midnight_of (pos 40000001)) _ _ 0 (3 * 2 ^ 8) (3 * 2 ^ 8) x e late_reach (omega arith) (f (record { width = 0; bounds = λ k. unbounded }))
+
+until_midnight : {E : Type 0} (shown : E → Interval) (n : ℕ) (d : ℤ) (x : E) → n ≡ 56 → negsuc 39999999 ≤ℤ d → d ≤ℤ pos 40000001 → (n ≡ 56 → negsuc 39999999 ≤ℤ d → d ≤ℤ pos 40000000 → IsMoment (3 * 2 ^ 8) (shown x))
+    → ((r : Reach) → Narrow shown (limits_of n) r (midnight_of d) x) → (b : Bool) → int_le d (pos 40000000) ≡ b → IsMoment (3 * 2 ^ 8) (shown x)
+until_midnight shown n d x e h k m f true b = m e h (omega (arith, ints, b))
+until_midnight shown n d x e h k m f false b =
+    let p : d ≡ pos 40000001 = omega (arith, ints, k, b) in
+    late_midnight shown n x e (subst (λ z. (r : Reach) → Narrow shown (limits_of n) r (midnight_of z) x) p f)
+
+pub midnight_within : {E : Type 0} (shown : E → Interval) (n : ℕ) (d : ℤ) (x : E) → n ≡ 56 → negsuc 39999999 ≤ℤ d → d ≤ℤ pos 40000001 → (n ≡ 56 → negsuc 39999999 ≤ℤ d → d ≤ℤ pos 40000000 → IsMoment (3 * 2 ^ 8) (shown x))
+    → ((r : Reach) → Narrow shown (limits_of n) r (midnight_of d) x) → IsMoment (3 * 2 ^ 8) (shown x)
+midnight_within shown n d x e h k m f = until_midnight shown n d x e h k m f (int_le d (pos 40000000)) refl
+
+-- ---- what is said of a nearer range, or of less width
+pub later_about : (v : ℕ) (i : Interval) → IsAbout (2 ^ 59) v i → IsAbout (2 ^ 90) v i
+later_about v i h = looser _ _ _ _ v v i (omega (arith, ints)) (omega (arith, ints)) (omega arith) h
+
+pub dated_moment : (v : ℕ) (i : Interval) → IsNearlyDated v i → IsMoment v i
+dated_moment v i h = looser _ _ _ _ v v i (omega (arith, ints)) (omega (arith, ints)) (omega arith) h
+
+pub moments_looser : {E : Type 0} (shown : E → Interval) (v u : ℕ) (r : Result E Fail) → v ≤ u → Measures (λ t. IsMoment v (shown t)) r → Measures (λ t. IsMoment u (shown t)) r
+moments_looser shown v u (Ok t) h m = looser _ _ _ _ v u (shown t) (omega (arith, ints)) (omega (arith, ints)) h m
+moments_looser shown v u (Err f) h m = m
+
+pub turn_about : (v : ℕ) (i : Interval) → IsUpTo 360 v i → IsAbout (2 ^ 90) v i
+turn_about v i h = looser _ _ _ _ v v i (omega (arith, ints)) (omega (arith, ints)) (omega arith) h
+
+-- a whole number with which an enclosure is compared
+pub whole_about : {E : Type 0} (shown : E → Interval) (n : ℕ) (d : ℤ) (x : E) → n ≡ 56 → negsuc 39999999 ≤ℤ d → d ≤ℤ pos 40000000 → ((r : Reach) → Narrow shown (limits_of n) r (integer d) x) → IsAbout (2 ^ 90) 0 (shown x)
+whole_about shown n d x e h k f = moment_about 0 (shown x) (whole_moment shown n d x e h k f)
+
+-- ---- thousandths of a degree, spans of 30 degrees, milliseconds
+abbrev turn_bounds : ℕ → Bound
+turn_bounds k = if k == 0 then bounded (pos 0) (pos (360 * 2 ^ 32)) (2 ^ 40) 0 else bounded (neg_ℤ (pos (2 ^ 58))) (pos (2 ^ 58)) 0 0
+
+thousandths_reach : implies (bound_of (limits_at 56) turn_bounds (scale (fraction_of THOUSANDTHS_OF_DEGREE) (argument 0))) (bounded (neg_ℤ (pos (2 ^ 90))) (pos (2 ^ 90)) (1000 * 2 ^ 40) (2 ^ 9)) ≡ true
+unfolding implies bound_of scaled_bound
+thousandths_reach = refl
+
+terms_reach : implies (bound_of (limits_at 56) turn_bounds (scale (fraction_of DEGREE_IN_TERMS) (argument 0))) (bounded (neg_ℤ (pos (2 ^ 90))) (pos (2 ^ 90)) (2 ^ 40) (2 ^ 9)) ≡ true
+unfolding implies bound_of scaled_bound
+terms_reach = refl
+
+spans_reach : implies (bound_of (limits_at 56) turn_bounds (scale (fraction_of DEGREE_IN_TERMS) (subtract (argument 1) (argument 0)))) (bounded (neg_ℤ (pos (2 ^ 90))) (pos (2 ^ 90)) (2 ^ 40) (2 ^ 9)) ≡ true
+unfolding implies bound_of difference_bound scaled_bound
+spans_reach = refl
+
+module _ {E : Type 0} (shown : E → Interval) (n v : ℕ) (s : E) (e : n ≡ 56) (h : IsUpTo 360 v (shown s)) where
+  longitude_kept : Narrow shown (limits_of n) (record { width = v; bounds = turn_bounds }) (argument 0) s
+  longitude_kept = sloped shown (limits_of n) v v turn_bounds 0 (pos 0) (pos (360 * 2 ^ 32)) (2 ^ 40) 0 s refl (omega arith) h
+
+  pub thousandths_within : (y : E) → ((r : Reach) (p : Expression) → Narrow shown (limits_of n) r p s → Narrow shown (limits_of n) r (scale (fraction_of THOUSANDTHS_OF_DEGREE) p) y) → IsAbout (2 ^ 90) (1000 * v + 2 ^ 9) (shown y)
+  thousandths_within y f =
+      measured shown n v turn_bounds (scale (fraction_of THOUSANDTHS_OF_DEGREE) (argument 0)) _ _ (1000 * 2 ^ 40) (2 ^ 9) (1000 * v + 2 ^ 9) y e thousandths_reach (omega arith) (f (record { width = v; bounds = turn_bounds }) (argument 0) longitude_kept)
+
+  pub terms_within : (y : E) → ((r : Reach) (p : Expression) → Narrow shown (limits_of n) r p s → Narrow shown (limits_of n) r (scale (fraction_of DEGREE_IN_TERMS) p) y) → IsAbout (2 ^ 90) (v + 2 ^ 9) (shown y)
+  terms_within y f = measured shown n v turn_bounds (scale (fraction_of DEGREE_IN_TERMS) (argument 0)) _ _ (2 ^ 40) (2 ^ 9) (v + 2 ^ 9) y e terms_reach (omega arith) (f (record { width = v; bounds = turn_bounds }) (argument 0) longitude_kept)
+
+  pub spans_within : (l d y : E) → IsMoment 0 (shown l) → ((r : Reach) (p q : Expression) → Narrow shown (limits_of n) r p l → Narrow shown (limits_of n) r q s → Narrow shown (limits_of n) r (subtract p q) d)
+      → ((r : Reach) (p : Expression) → Narrow shown (limits_of n) r p d → Narrow shown (limits_of n) r (scale (fraction_of DEGREE_IN_TERMS) p) y) → IsAbout (2 ^ 90) (v + 2 ^ 9) (shown y)
+  spans_within l d y k f g =
+      let r : Reach = record { width = v; bounds = turn_bounds } in
+      measured shown n v turn_bounds (scale (fraction_of DEGREE_IN_TERMS) (subtract (argument 1) (argument 0))) _ _ (2 ^ 40) (2 ^ 9) (v + 2 ^ 9) y e spans_reach (omega arith)
+      (g r _ (f r (argument 1) (argument 0) (sloped shown (limits_of n) v 0 turn_bounds 1 (neg_ℤ (pos (2 ^ 58))) (pos (2 ^ 58)) 0 0 l refl (omega arith) k) longitude_kept))
+
+abbrev correction_bounds : ℕ → Bound
+correction_bounds k = bounded (neg_ℤ (pos (2 ^ 30))) (pos (2 ^ 30)) (2 ^ 40) 0
+
+milliseconds_reach : implies (bound_of (limits_at 56) correction_bounds (rounded_expression (argument 0))) (bounded (neg_ℤ (pos (2 ^ 90))) (pos (2 ^ 90)) (86400000 * 2 ^ 40) (2 ^ 10)) ≡ true
+unfolding implies bound_of constant_bound sum_bound scaled_bound
+milliseconds_reach = refl
+
+-- a correction in milliseconds, and a half
+pub milliseconds_within : {E : Type 0} (shown : E → Interval) (n v : ℕ) (d y : E) → n ≡ 56 → IsCorrection v (shown d) → ((r : Reach) (x : Expression) → Narrow shown (limits_of n) r x d → Narrow shown (limits_of n) r (rounded_expression x) y)
+    → IsAbout (2 ^ 90) (86400000 * v + 2 ^ 10) (shown y)
+milliseconds_within shown n v d y e h f =
+    measured shown n v correction_bounds (rounded_expression (argument 0)) _ _ (86400000 * 2 ^ 40) (2 ^ 10) (86400000 * v + 2 ^ 10) y e milliseconds_reach (omega arith)
+    (f (record { width = v; bounds = correction_bounds }) (argument 0) (sloped shown (limits_of n) v v correction_bounds 0 (neg_ℤ (pos (2 ^ 30))) (pos (2 ^ 30)) (2 ^ 40) 0 d refl (omega arith) h))

@@ -1,0 +1,94 @@
+-- How wide a sunset in minutes is at the scale 2^-56, and that the places of the facts are narrow.
+use Rattle.std.specs.Prelude.{◌≡◌, ℕ, ◌+◌, ◌*◌, ◌^◌, ◌≤◌, true, pos, neg_ℤ, Option, Some, None, IfSome, refl, if◌then◌else◌, ◌==◌}
+use Rattle.std.proofs.Common.{arith}
+use Rattle.exact_math.specs.Interval.{Interval}
+use Rattle.book_model.specs.declared.fact.Place.{Place}
+use Rattle.book_model.specs.declared.fact.Place.TheVariants.{None as no_place, Beijing, Cairo, Tehran, Ujjain}
+use Rattle.book_model.specs.declared.horizon.Location.{Location}
+use Rattle.book_model.specs.declared.location_tables.TheConstants.{TEHRAN, CAIRO, UJJAIN, MINUTES_OF_DAY}
+use Rattle.book_model.specs.declared.tables.TheConstants.{HALF}
+use Rattle.book_model.specs.declared.time_tables.TheConstants.{HOUR}
+use Rattle.book_model.specs.numbers.Bounds.{Bound, unbounded, bounded, Reach, implies, bound_of, limits_at, limits_of, constant_bound, sum_bound, difference_bound, scaled_bound}
+use Rattle.book_model.specs.numbers.Expressions.{Expression, argument, constant, add, subtract, scale}
+use Rattle.book_model.specs.numbers.Fractions.{fraction_of}
+use Rattle.book_model.specs.numbers.Relations.{Narrow}
+use Rattle.book_model.specs.programs.Widths.{IsAbout, IsMoment}
+use Rattle.book_model.specs.sky.Names.{location_of}
+use Rattle.width_laws.proofs.Measuring.{measured, sloped}
+use Rattle.rise_set.specs.Widths.{IsNarrowLocation}
+use Rattle.rise_set.proofs.Places.{tehran_is_narrow, cairo_is_narrow, ujjain_is_narrow}
+use Rattle.fact_eval.specs.Widths.{IsNarrowZone}
+
+-- ---- the standard times of the places
+tehran_hours : implies (bound_of (limits_at 56) (λ k. unbounded) (scale (fraction_of HOUR) (constant (fraction_of TEHRAN.zone)))) (bounded (neg_ℤ (pos (2 ^ 32))) (pos (2 ^ 32)) 0 (2 ^ 10)) ≡ true
+unfolding implies bound_of constant_bound scaled_bound
+tehran_hours = refl
+
+cairo_hours : implies (bound_of (limits_at 56) (λ k. unbounded) (scale (fraction_of HOUR) (constant (fraction_of CAIRO.zone)))) (bounded (neg_ℤ (pos (2 ^ 32))) (pos (2 ^ 32)) 0 (2 ^ 10)) ≡ true
+unfolding implies bound_of constant_bound scaled_bound
+cairo_hours = refl
+
+ujjain_hours : implies (bound_of (limits_at 56) (λ k. unbounded) (scale (fraction_of HOUR) (constant (fraction_of UJJAIN.zone)))) (bounded (neg_ℤ (pos (2 ^ 32))) (pos (2 ^ 32)) 0 (2 ^ 10)) ≡ true
+unfolding implies bound_of constant_bound scaled_bound
+ujjain_hours = refl
+
+-- the location of a place, if it has one, is narrow, and so is its standard time
+pub places_are_narrow : (p : Place) → IfSome (location_of p) (λ l. IsNarrowLocation l × IsNarrowZone l)
+unfolding location_of
+places_are_narrow no_place = tt
+places_are_narrow Beijing = tt
+places_are_narrow Cairo = (cairo_is_narrow, record { narrow = cairo_hours })
+places_are_narrow Tehran = (tehran_is_narrow, record { narrow = tehran_hours })
+places_are_narrow Ujjain = (ujjain_is_narrow, record { narrow = ujjain_hours })
+
+located_is_narrow : (o : Option Location) (l : Location) → Some l ≡ o → IfSome o (λ l. IsNarrowLocation l × IsNarrowZone l) → IsNarrowLocation l × IsNarrowZone l
+located_is_narrow (Some m) l e h = let q : l ≡ m = cc in rw q h
+located_is_narrow None l e h = absurd (cc)
+
+pub found_is_narrow : (p : Place) (l : Location) → Some l ≡ location_of p → IsNarrowLocation l × IsNarrowZone l
+found_is_narrow p l e = located_is_narrow (location_of p) l e (places_are_narrow p)
+
+-- ---- minutes
+abbrev clock_bounds : ℕ → Bound
+clock_bounds k = if k == 1 then bounded (neg_ℤ (pos (2 ^ 32))) (pos (2 ^ 32)) 0 (2 ^ 10) else (if k == 2 then bounded (neg_ℤ (pos (2 ^ 58))) (pos (2 ^ 58)) 0 0 else bounded (neg_ℤ (pos (2 ^ 58))) (pos (2 ^ 58)) (2 ^ 40) 0)
+
+minutes_reach : implies (bound_of (limits_at 56) clock_bounds (scale (fraction_of MINUTES_OF_DAY) (subtract (add (argument 0) (argument 1)) (argument 2)))) (bounded (neg_ℤ (pos (2 ^ 89))) (pos (2 ^ 89)) (1440 * 2 ^ 40) (2 ^ 22)) ≡ true
+unfolding implies bound_of sum_bound difference_bound scaled_bound
+minutes_reach = refl
+
+zone_kept : {E : Type 0} (shown : E → Interval) (n : ℕ) (p : Location) (z h : E) → n ≡ 56 → IsNarrowZone p → ((r : Reach) → Narrow shown (limits_of n) r (constant (fraction_of p.zone)) z)
+    → ((r : Reach) (x : Expression) → Narrow shown (limits_of n) r x z → Narrow shown (limits_of n) r (scale (fraction_of HOUR) x) h) → IsAbout (2 ^ 32) (2 ^ 10) (shown h)
+zone_kept shown n p z h e k f g =
+    let r : Reach = record { width = 0; bounds = λ k. unbounded } in
+    measured shown n 0 (λ k. unbounded) (scale (fraction_of HOUR) (constant (fraction_of p.zone))) _ _ 0 (2 ^ 10) (2 ^ 10) h e k.narrow (omega arith) (g r _ (f r))
+
+pub minutes_within : {E : Type 0} (shown : E → Interval) (n v : ℕ) (p : Location) (t z h a d s m : E) → n ≡ 56 → IsNarrowZone p → IsMoment v (shown t) → IsMoment 0 (shown d)
+    → ((r : Reach) → Narrow shown (limits_of n) r (constant (fraction_of p.zone)) z)
+    → ((r : Reach) (x : Expression) → Narrow shown (limits_of n) r x z → Narrow shown (limits_of n) r (scale (fraction_of HOUR) x) h)
+    → ((r : Reach) (x y : Expression) → Narrow shown (limits_of n) r x t → Narrow shown (limits_of n) r y h → Narrow shown (limits_of n) r (add x y) a)
+    → ((r : Reach) (x y : Expression) → Narrow shown (limits_of n) r x a → Narrow shown (limits_of n) r y d → Narrow shown (limits_of n) r (subtract x y) s)
+    → ((r : Reach) (x : Expression) → Narrow shown (limits_of n) r x s → Narrow shown (limits_of n) r (scale (fraction_of MINUTES_OF_DAY) x) m)
+    → IsAbout (2 ^ 89) (1440 * v + 2 ^ 22) (shown m)
+minutes_within shown n v p t z h a d s m e k i j f1 f2 f3 f4 f5 =
+    let r : Reach = record { width = v; bounds = clock_bounds } in
+    let o = zone_kept shown n p z h e k f1 f2 in
+    measured shown n v clock_bounds (scale (fraction_of MINUTES_OF_DAY) (subtract (add (argument 0) (argument 1)) (argument 2))) _ _ (1440 * 2 ^ 40) (2 ^ 22) (1440 * v + 2 ^ 22) m e minutes_reach (omega arith)
+    (f5 r _ (f4 r _ _ (f3 r _ _
+    (sloped shown (limits_of n) v v clock_bounds 0 (neg_ℤ (pos (2 ^ 58))) (pos (2 ^ 58)) (2 ^ 40) 0 t refl (omega arith) i)
+    (sloped shown (limits_of n) v (2 ^ 10) clock_bounds 1 (neg_ℤ (pos (2 ^ 32))) (pos (2 ^ 32)) 0 (2 ^ 10) h refl (omega arith) o))
+    (sloped shown (limits_of n) v 0 clock_bounds 2 (neg_ℤ (pos (2 ^ 58))) (pos (2 ^ 58)) 0 0 d refl (omega arith) j)))
+
+-- and a half
+abbrev minute_bounds : ℕ → Bound
+minute_bounds k = bounded (neg_ℤ (pos (2 ^ 89))) (pos (2 ^ 89)) (2 ^ 40) 0
+
+half_reach : implies (bound_of (limits_at 56) minute_bounds (add (argument 0) (constant (fraction_of HALF)))) (bounded (neg_ℤ (pos (2 ^ 90))) (pos (2 ^ 90)) (2 ^ 40) (2 ^ 9)) ≡ true
+unfolding implies bound_of constant_bound sum_bound
+half_reach = refl
+
+pub rounded_within : {E : Type 0} (shown : E → Interval) (n v : ℕ) (x c y : E) → n ≡ 56 → IsAbout (2 ^ 89) v (shown x) → ((r : Reach) → Narrow shown (limits_of n) r (constant (fraction_of HALF)) c)
+    → ((r : Reach) (p q : Expression) → Narrow shown (limits_of n) r p x → Narrow shown (limits_of n) r q c → Narrow shown (limits_of n) r (add p q) y) → IsAbout (2 ^ 90) (v + 2 ^ 9) (shown y)
+rounded_within shown n v x c y e h f g =
+    let r : Reach = record { width = v; bounds = minute_bounds } in
+    measured shown n v minute_bounds (add (argument 0) (constant (fraction_of HALF))) _ _ (2 ^ 40) (2 ^ 9) (v + 2 ^ 9) y e half_reach (omega arith)
+    (g r (argument 0) _ (sloped shown (limits_of n) v v minute_bounds 0 (neg_ℤ (pos (2 ^ 89))) (pos (2 ^ 89)) (2 ^ 40) 0 x refl (omega arith) h) (f r))

@@ -1,0 +1,6 @@
+use Rattle.std.proofs.Common.{arith, ◌^◌}
+use Rattle.std.proofs.lemmas.Result.{err_from_is_err_and}
+use Rattle.fact_eval.proofs.spring.longitude_at.Goals as goal
+
+pub returns-clause-measured : goal.returns-clause-measured
+returns-clause-measured g c = λ e. c.sun.ensures.measured (2 ^ 33) e (omega arith) (c.in_ok-there.ensures.measured e)
