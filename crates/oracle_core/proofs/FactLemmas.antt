@@ -1,11 +1,11 @@
 -- The equality of facts that sets of facts use is that of the definitions.
-use Rattle.std.proofs.Common.{◌≡◌, Bool, true, false, ◌&&◌, refl, sym, ◌∙◌, List, [], ◌∷◌, ◌++◌, ◌==◌, arith, ℤ}
+use Rattle.std.proofs.Common.{◌≡◌, Bool, true, false, ◌&&◌, refl, List, [], ◌∷◌, ◌==◌, arith, ℤ}
 use Rattle.std.proofs.lemmas.Int.{ints}
 use Rattle.std.proofs.lemmas.Bool.Decides.{nat_tests}
 use Rattle.std.specs.Ordering.{int_eq}
 use Rattle.std.specs.List.{list_any, position_or_len, position}
 use Rattle.book_model.specs.declared.fact.Fact.{Fact}
-use Rattle.book_model.specs.calendars.Inquiries.{fact_eq, with_fact}
+use Rattle.book_model.specs.calendars.Inquiries.{fact_eq}
 use Rattle.book_model.specs.sky.Names.{kind_number, place_number}
 use Rattle.book_model.specs.contracts.fact.FactPartialEq.TheImpl as derived
 use Rattle.book_model.proofs.NameLemmas.{one_kind, one_place}
@@ -23,10 +23,6 @@ same_fact_eq f g = regroup (kind_number f.kind == kind_number g.kind) (place_num
 pub same_any : (f : Fact) (seen : List Fact) → list_any (derived.eq-value.it f) seen ≡ list_any (fact_eq f) seen
 same_any f [] = refl
 same_any f (g ∷ seen) = rw (same_fact_eq f g, same_any f seen) refl
-
--- a fact that is not among facts is added at the end
-pub added : (f : Fact) (keys seen : List Fact) → keys ≡ seen → false ≡ list_any (derived.eq-value.it f) keys → seen ++ f ∷ [] ≡ with_fact seen f
-added f keys seen h d = let e = rw h at d in let n : list_any (fact_eq f) seen ≡ false = sym (e ∙ same_any f seen) in rw n refl
 
 -- a fact has one place among facts by either test
 pub same_position : (f : Fact) (seen : List Fact) → position_or_len (derived.eq-value.it f) seen ≡ position_or_len (fact_eq f) seen

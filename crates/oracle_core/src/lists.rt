@@ -54,11 +54,11 @@ impl FactList {
         &self.facts[index]
     }
 
-    /// Takes the last item away, if there is one.
-    pub(crate) fn forget_last(&mut self)
-        ensures front { self.new ≡ take (length self.old - 1) self.old }
+    /// The facts, in order.
+    pub(crate) fn facts(&self) -> &[Fact]
+        ensures facts { result.now ≡ self.now }
     {
-        self.facts.pop();
+        &self.facts
     }
 }
 

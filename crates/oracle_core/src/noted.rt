@@ -6,23 +6,20 @@ ghost use Rattle.book_model.specs.calendars.Inquiries.{fact_eq, with_fact};
 
 use crate::FactList;
 use book_model::Fact;
-use indexmap::IndexSet;
 use std::alloc::{AllocError, Global};
 use std::marker::Model;
 
-/// Facts, each once, in order of first use.
+/// Facts, each once, in order of first use. A request asks some dozens of facts at most, so they are looked up one after the
+/// other: that takes no memory, and less time than to hash them.
 #[derive(Drop)]
 pub(crate) struct Noted {
     list: FactList,
-    places: IndexSet<Fact>,
 }
 
 impl Model for Noted {
     ghost Value = { List Fact };
 
     ghost view = { λ n. n.list };
-
-    ghost invariant = { λ n. n.places.keys ≡ n.list };
 }
 
 impl Noted {
@@ -32,7 +29,6 @@ impl Noted {
     {
         Noted {
             list: FactList::new(alloc),
-            places: IndexSet::new(alloc),
         }
     }
 
@@ -47,7 +43,7 @@ impl Noted {
     pub(crate) fn place(&self, fact: Fact) -> Option<usize>
         ensures place { result ≡ position (fact_eq fact) self.now }
     {
-        self.places.get_index_of(&fact)
+        self.list.facts().iter().position(|kept| fact == *kept)
     }
 
     /// Adds the fact at the end, unless it is there. Where memory runs out the facts stay as they were; none is wanted
@@ -57,14 +53,9 @@ impl Noted {
         ensures err { OnErr result (self.new ≡ self.old) }
         ensures new { OnErr result (list_any (fact_eq fact) self.old ≡ false) }
     {
-        if self.places.contains(&fact) {
-            return Ok(());
+        match self.place(fact) {
+            Some(_) => Ok(()),
+            None => self.list.push(fact),
         }
-        self.list.push(fact)?;
-        if self.places.insert(fact).is_err() {
-            self.list.forget_last();
-            return Err(AllocError);
-        }
-        Ok(())
     }
 }
