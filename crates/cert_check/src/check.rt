@@ -138,9 +138,9 @@ pub(crate) fn verdict_of_line(
     match line {
         CertLine::Shown {
             echo,
-            result: shown,
+            result: text,
             facts,
-        } => verdict_of_words(alloc, file, answers, echo, shown.bytes(), facts.numbers()),
+        } => verdict_of_words(alloc, file, answers, echo, text.bytes(), facts.numbers()),
         CertLine::TooFar { echo, day, facts } => {
             let text = too_far_word(alloc, *day)?;
             verdict_of_words(alloc, file, answers, echo, text.bytes(), facts.numbers())

@@ -219,14 +219,14 @@ fn write_listed<K: Sink>(
     sink: &mut K,
     number: u32,
     echo: &Echo,
-    shown: &[u8],
+    text: &[u8],
     numbers: &[u32],
 ) -> Result<(), Failed>
     ensures { Writes K.written K.faults sink.old sink.new
-        (model.listed_text number (spec.words_in echo.now) shown.now numbers.now) result }
+        (model.listed_text number (spec.words_in echo.now) text.now numbers.now) result }
 {
     write_echo(sink, number, echo)?;
-    write_all(sink, shown)?;
+    write_all(sink, text)?;
     write_list(sink, numbers)
 }
 
@@ -270,9 +270,9 @@ pub fn write_line<K: Sink>(sink: &mut K, number: u32, line: &CertLine) -> Result
     match line {
         CertLine::Shown {
             echo,
-            result: shown,
+            result: text,
             facts,
-        } => write_listed(sink, number, echo, shown.bytes(), facts.numbers()),
+        } => write_listed(sink, number, echo, text.bytes(), facts.numbers()),
         CertLine::TooFar { echo, day, facts } => {
             write_far_line(sink, number, echo, *day, facts.numbers())
         }

@@ -136,7 +136,7 @@ pub(crate) fn almanac<R: Threads + Sync, K: Sink, E: Evaluator + Sync, G: Gate +
     ensures cause { IsErrOf result WriteStop.Fault → Rose (K.faults sink.old) (K.faults sink.new) }
     ensures later { K.faults sink.old ≤ K.faults sink.new }
 {
-    let words = almanac_lines(alloc, year)?;
-    let lines = bytes_of(alloc, &words)?;
+    let texts = almanac_lines(alloc, year)?;
+    let lines = bytes_of(alloc, &texts)?;
     print_lines(rt, alloc, sink, evaluator, &lines, jobs, gate)
 }

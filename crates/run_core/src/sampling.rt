@@ -254,8 +254,8 @@ pub(crate) fn sample<R: Threads + Sync, K: Sink, E: Evaluator + Sync, G: Gate + 
     ensures cause { IsErrOf result WriteStop.Fault → Rose (K.faults sink.old) (K.faults sink.new) }
     ensures later { K.faults sink.old ≤ K.faults sink.new }
 {
-    let words = sample_lines(alloc, count, seed)?;
-    let lines = bytes_of(alloc, &words)?;
+    let texts = sample_lines(alloc, count, seed)?;
+    let lines = bytes_of(alloc, &texts)?;
     let shelf = Shelf::open(alloc)?;
     let outcomes = outcomes_of(rt, alloc, &lines, &shelf, evaluator, jobs, gate)?;
     let text = sample_text(rt, alloc, count, seed, &outcomes, jobs)?;

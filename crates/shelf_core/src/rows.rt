@@ -44,7 +44,7 @@ pub(crate) fn fact_rows() -> usize
 
 /// The first row of each kind: how many rows the kinds before it have. That it is so is proved of the table of kinds, so a
 /// kind or a place more there wants its row here.
-const FIRST_ROWS: [usize; 23] = [
+static FIRST_ROWS: [usize; 23] = [
     0, 1, 2, 3, 4, 5, 6, 7, 8, 9, 10, 11, 12, 13, 14, 15, 16, 17, 18, 19, 20, 21, 22,
 ];
 
