@@ -7,6 +7,7 @@ mod decided;
 mod facts;
 mod fine;
 mod first_crescents;
+mod greatest_widths;
 mod hindu;
 mod horizon;
 mod kept;

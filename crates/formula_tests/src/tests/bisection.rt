@@ -13,6 +13,8 @@ struct Identity;
 impl<E: Enclosure> Angular<E> for Identity {
     ghost angle_of = { λ s x. answer x };
 
+    ghost spread = { λ v. v };
+
     #[tactic(auto, using(book_model::proofs::Leads::leading))]
     fn at(&self, x: E, trail: &mut Trail) -> Result<E, FormulaFail> {
         Ok(x)

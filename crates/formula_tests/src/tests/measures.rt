@@ -1,4 +1,4 @@
-//! How near an enclosure comes to a number from outside.
+//! How near an enclosure comes to a number from outside; the first days of years.
 use book_model::{Fail as FormulaFail, Frac};
 use encl_core::{Coarse, Enclosure};
 use fix_fine::Fine;
@@ -51,4 +51,16 @@ pub fn is_fine(found: Result<Fine, FormulaFail>, value: i128, most: i128) -> boo
         Some(width) => width <= most,
         None => false,
     }
+}
+
+/// 1 January of a year from 1 on (R.D.).
+pub fn new_year(year: i64) -> i64 {
+    let before = year.saturating_sub(1);
+    let leap_days = (before / 4)
+        .saturating_sub(before / 100)
+        .saturating_add(before / 400);
+    before
+        .saturating_mul(365)
+        .saturating_add(leap_days)
+        .saturating_add(1)
 }

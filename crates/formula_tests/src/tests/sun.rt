@@ -1,5 +1,5 @@
 //! The sun: values from an independent implementation of the formulas, and how narrow the answers are.
-use super::measures::{UNIT, fraction, holds};
+use super::measures::{UNIT, fraction, holds, new_year};
 use book_model::{Fail as FormulaFail, Frac, Site};
 use encl_core::{Coarse, Enclosure, Trail};
 use std::test::Fail;
@@ -41,18 +41,6 @@ fn longitudes_are_those_of_the_reference(rt: HostRuntime) -> Result<(), Fail> {
 fn width(found: Result<Coarse, FormulaFail>) -> Option<i128> {
     let span = found.ok()?.span()?;
     Some(span.hi.checked_sub(span.lo)? / UNIT)
-}
-
-/// 1 January of a year (R.D.).
-fn new_year(year: i64) -> i64 {
-    let before = year.saturating_sub(1);
-    let leap_days = (before / 4)
-        .saturating_sub(before / 100)
-        .saturating_add(before / 400);
-    before
-        .saturating_mul(365)
-        .saturating_add(leap_days)
-        .saturating_add(1)
 }
 
 #[test]
