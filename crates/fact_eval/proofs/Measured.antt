@@ -5,8 +5,7 @@ use Rattle.std.proofs.lemmas.Int.{ints}
 use Rattle.exact_math.specs.Interval.{Interval}
 use Rattle.book_model.specs.declared.fail.Fail.{Fail}
 use Rattle.book_model.specs.declared.sun_tables.TheConstants.{DEGREE_IN_TERMS}
-use Rattle.book_model.specs.declared.tables.TheConstants.{HALF, MILLISECONDS_OF_DAY, THOUSANDTHS_OF_DEGREE}
-use Rattle.book_model.specs.declared.time_tables.TheConstants.{BEIJING_HOURS, HOUR}
+use Rattle.book_model.specs.declared.tables.TheConstants.{THOUSANDTHS_OF_DEGREE}
 use Rattle.book_model.specs.numbers.Bounds.{Bound, unbounded, bounded, Reach, implies, bound_of, limits_at, limits_of, integer_bound, constant_bound, sum_bound, difference_bound, scaled_bound}
 use Rattle.book_model.specs.numbers.Expressions.{Expression, argument, integer, subtract, scale}
 use Rattle.book_model.specs.numbers.Fractions.{fraction_of}

@@ -13,7 +13,6 @@ use Rattle.exact_math.proofs.Intervals.{within_trans, within_everything}
 use Rattle.exact_math.proofs.Same.{le_of_same, ge_of_same}
 use Rattle.book_model.specs.declared.site.Site.{Site}
 use Rattle.book_model.specs.declared.site.Site.TheVariants.{Year, Zone, SunWrap, MoonWrap, PhaseWrap, PhasePick, MoonNumber, MoonWalk, StepWrap, StartFloor, DayTest, DayFloor, TermFloor, Search, BisectEnd, Bisect, Offset, Settle, Round, Crescent, Sidereal}
-use Rattle.book_model.specs.calendars.Gregorian.{first_day}
 use Rattle.book_model.specs.numbers.Expressions.{World, value}
 use Rattle.book_model.specs.sky.Facts.{LiesFrom, HasThreshold, AreNear, near_cell, near_comparison}
 use Rattle.book_model.specs.programs.Widths.{most_apart}

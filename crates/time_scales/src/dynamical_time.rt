@@ -161,7 +161,8 @@ fn correction_once<E: Enclosure>(year: i64, trail: &mut Trail) -> Result<E, Fail
 fn correction_of_moment<E: Enclosure>(t: E, trail: &mut Trail) -> Result<E, Fail>
     ensures leads { Follows1 E.shown correction_at t trail.old.count trail.new.count result }
     ensures in_table { IfOk result (λ e. IsInTable (E.shown t)) }
-    ensures measured { Measured1 E.BITS E.shown (2 ^ 44) IsMoment (λ v. IsCorrection (greatest_of CORRECTION 0)) t result }
+    ensures measured { Measured1 E.BITS E.shown (2 ^ 44) IsMoment
+        (λ v. IsCorrection (greatest_of CORRECTION 0)) t result }
     ensures open { IfErr result (IsYearOpenFor (E.shown t)) }
     ensures counted { trail.new.count ≡ next_turn trail.old.count }
 {
@@ -187,7 +188,8 @@ pub fn dynamical<E: Enclosure>(t: E, trail: &mut Trail) -> Result<E, Fail>
 #[tactic(auto, using(book_model::proofs::Leads::leading, crate::proofs::Measured::measuring), unfolding(book_model::specs::sky::Time::from_dynamical_of))]
 pub fn from_dynamical<E: Enclosure>(t: E, trail: &mut Trail) -> Result<E, Fail>
     ensures leads { Follows1 E.shown from_dynamical_of t trail.old.count trail.new.count result }
-    ensures measured { Measured1 E.BITS E.shown (2 ^ 44) IsMoment (λ v. IsNearlyDated (v + greatest_of CORRECTION 0)) t result }
+    ensures measured { Measured1 E.BITS E.shown (2 ^ 44) IsMoment
+        (λ v. IsNearlyDated (v + greatest_of CORRECTION 0)) t result }
     ensures recent { Measured1 E.BITS E.shown (2 ^ 44) IsLater
         (λ v. IsRecentlyDated (v + greatest_of CORRECTION 0)) t result }
     ensures open { IfErr result (IsYearOpenFor (E.shown t)) }
@@ -211,7 +213,8 @@ pub(crate) fn to_centuries<E: Enclosure>(t: E) -> E
 pub fn centuries<E: Enclosure>(t: E, trail: &mut Trail) -> Result<E, Fail>
     ensures leads { Follows1 E.shown centuries_of t trail.old.count trail.new.count result }
     ensures in_table { IfOk result (λ e. IsInTable (E.shown t)) }
-    ensures measured { Measured1 E.BITS E.shown (2 ^ 44) IsMoment (λ v. AreCenturies (greatest_of CENTURIES v)) t result }
+    ensures measured { Measured1 E.BITS E.shown (2 ^ 44) IsMoment
+        (λ v. AreCenturies (greatest_of CENTURIES v)) t result }
     ensures recent { Measured1 E.BITS E.shown (2 ^ 44) IsRecent
         (λ v. AreRecentCenturies (greatest_of CENTURIES v)) t result }
     ensures open { IfErr result (IsYearOpenFor (E.shown t)) }

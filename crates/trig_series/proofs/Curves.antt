@@ -1,5 +1,5 @@
 -- The sine lies between two chords of the first octant, and the cosine above 1 less half its angle's square.
-use Rattle.std.proofs.Common.{◌≡◌, ℕ, suc, ◌^◌, ◌*◌, ◌≤◌, refl, arith, ℤ, pos, negsuc, ◌+ℤ◌, ◌-ℤ◌, ◌*ℤ◌, ◌≤ℤ◌, [], ◌∷◌}
+use Rattle.std.proofs.Common.{ℕ, suc, ◌^◌, ◌*◌, ◌≤◌, refl, arith, ℤ, pos, negsuc, ◌-ℤ◌, ◌*ℤ◌, ◌≤ℤ◌, [], ◌∷◌}
 use Rattle.std.proofs.lemmas.Int.{ints}
 use Rattle.exact_math.specs.Fraction.{Fraction, ◌≤F◌, ◌≈◌, whole, plus, times, power}
 use Rattle.exact_math.specs.Sums.{lower, upper, one_over}

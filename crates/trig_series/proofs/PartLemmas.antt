@@ -1,5 +1,5 @@
 -- The series over a part of an octant, from their ends at its first angle.
-use Rattle.std.proofs.Common.{◌≡◌, ℕ, zero, suc, ◌-◌, ◌≤◌, ◌^◌, refl, arith, neg_ℤ, unsigned_abs, ℤ, pos, negsuc, ◌+ℤ◌, ◌-ℤ◌, ◌*ℤ◌, ◌≤ℤ◌, ◌<ℤ◌, [], ◌∷◌}
+use Rattle.std.proofs.Common.{◌≡◌, ℕ, zero, suc, ◌-◌, ◌≤◌, refl, arith, neg_ℤ, unsigned_abs, ℤ, pos, negsuc, ◌+ℤ◌, ◌-ℤ◌, ◌*ℤ◌, ◌≤ℤ◌, ◌<ℤ◌, [], ◌∷◌}
 use Rattle.std.proofs.lemmas.Int.{ints, clamps, by_lt_z}
 use Rattle.exact_math.specs.Fraction.{Fraction, ◌≤F◌, ◌≈◌, plus, times}
 use Rattle.exact_math.specs.Interval.{between, ◌⊆◌}
@@ -8,7 +8,7 @@ use Rattle.exact_math.proofs.Alternating.{sum_ends_in_order}
 use Rattle.exact_math.proofs.Certificates.{zero_F, ◌≼◌, ◌≗◌, known, multiple, ◌⊞◌, le_by}
 use Rattle.exact_math.proofs.Fractions.{le_trans}
 use Rattle.exact_math.proofs.Intervals.{within_trans}
-use Rattle.exact_math.proofs.Ring.{at, lit, ◌⊕◌, ◌⊖◌}
+use Rattle.exact_math.proofs.Ring.{at, lit, ◌⊕◌}
 use Rattle.book_model.specs.programs.Leading.{at_56}
 use Rattle.book_model.specs.numbers.Octants.{radians, octant_of_turn, sine_into, sine_at, sine_in}
 use Rattle.book_model.specs.numbers.Series.{sine_series, cosine_series, sine_term, four_fifths}

@@ -1,4 +1,4 @@
-use Rattle.std.proofs.Common.{arith, pos, ◌^◌}
+use Rattle.std.proofs.Common.{arith, pos}
 use Rattle.std.proofs.lemmas.Int.{ints}
 use Rattle.fact_eval.proofs.Measured.{turn_about, whole_about}
 use Rattle.fact_eval.proofs.solstice.is_past_winter.Goals as goal

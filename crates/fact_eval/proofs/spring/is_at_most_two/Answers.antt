@@ -1,5 +1,5 @@
 use Rattle.std.proofs.lemmas.Result.{err_from_is_err_and}
-use Rattle.std.proofs.Common.{refl, not, arith, pos, ◌^◌}
+use Rattle.std.proofs.Common.{refl, not, arith, pos}
 use Rattle.book_model.specs.sky.Kinds.{is_at_most_two_of}
 use Rattle.book_model.specs.programs.Programs.{answer, bind}
 use Rattle.book_model.proofs.Leads.{leads_bind_exact, leads_fail_exact, leads_answer}

@@ -1,5 +1,4 @@
 use Rattle.std.proofs.Common.{arith, ◌^◌}
-use Rattle.std.proofs.lemmas.Result.{err_from_is_err_and}
 use Rattle.fact_eval.proofs.spring.longitude_at.Goals as goal
 
 pub returns-clause-measured : goal.returns-clause-measured

@@ -3,7 +3,6 @@ use Rattle.std.proofs.lemmas.Int.{to_z-of_z}
 use Rattle.book_model.specs.sky.Facts.{at_depth}
 use Rattle.book_model.proofs.Leads.{leaf_within}
 use Rattle.fact_eval.proofs.NewYears.{is_estimate, begun, ended}
-use Rattle.std.proofs.lemmas.Result.{err_from_is_err_and}
 use Rattle.width_laws.proofs.Measuring.{moment_about}
 use Rattle.fact_eval.proofs.spring.search_start.Goals as goal
 

@@ -1,5 +1,3 @@
-use Rattle.std.proofs.Common.{SFits, w64}
-use Rattle.std.proofs.lemmas.Int.{to_z-of_z}
 use Rattle.fact_eval.proofs.staged.formula.Goals as goal
 
 pub returns-in-SignBefore-clause-close : goal.returns-in-SignBefore-clause-close

@@ -1,4 +1,4 @@
-use Rattle.std.proofs.Common.{arith, pos, ◌-ℤ◌, SFits, w64}
+use Rattle.std.proofs.Common.{arith, SFits, w64}
 use Rattle.std.proofs.lemmas.Int.{ints, to_z-of_z}
 use Rattle.std.proofs.lemmas.Result.{err_from_is_err_and}
 use Rattle.moon_core.proofs.Measured.{late_moment}
