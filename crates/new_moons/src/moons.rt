@@ -136,13 +136,9 @@ fn kept_moon<E: Enclosure>(n: i64, trail: &mut Trail) -> Result<E, Fail>
         → Measured E.BITS E.shown (IsRecentlyDated (2 ^ 29 + 2 ^ 24 + 2 ^ 17)) result }
     ensures counted { trail.new.count ≡ next_turn trail.old.count }
 {
-    match evaluated_moon::<E>(n, trail) {
-        Ok(moment) => {
-            trail.keep_new_moon(n, E::BITS, moment.span());
-            Ok(moment)
-        }
-        Err(fail) => Err(fail),
-    }
+    let moment = evaluated_moon::<E>(n, trail)?;
+    trail.keep_new_moon(n, E::BITS, moment.span());
+    Ok(moment)
 }
 
 /// The moment of the new moon of a number, counted from that of January of the year 1, in universal time (Reingold and
