@@ -7,8 +7,6 @@
 mod almanac;
 mod numbers;
 mod sample;
-#[cfg(test)]
-mod tests;
 
 pub use almanac::almanac_line;
 pub use sample::sample_line;

@@ -7,8 +7,6 @@
 mod almanac;
 mod line;
 mod sample;
-#[cfg(test)]
-mod tests;
 
 pub use almanac::almanac_lines;
 pub use sample::sample_lines;

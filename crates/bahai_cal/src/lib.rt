@@ -7,8 +7,6 @@
 mod date;
 mod fields;
 mod months;
-#[cfg(test)]
-mod tests;
 mod years;
 
 pub use date::{BahaiDate, from_fixed, to_fixed};

@@ -15,6 +15,3 @@ pub use memory::{MemorySink, MemorySource};
 pub use parts::{decimal, write_parts, write_two_counts};
 pub use standard::{StdSink, StdSource};
 pub use stream::{Failed, ReadStop, Sink, Source, read_all, write_all};
-
-#[cfg(test)]
-mod tests;

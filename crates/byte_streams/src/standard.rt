@@ -70,6 +70,3 @@ impl<T: Write + Drop> Sink for StdSink<T> {
         }
     }
 }
-
-#[cfg(test)]
-mod tests;

@@ -6,8 +6,6 @@
 mod ends;
 mod quotients;
 mod spans;
-#[cfg(test)]
-mod tests;
 
 pub use ends::{to_8_bits, to_32_bits};
 pub use quotients::{amod, modulo, quotient, quotient_before, quotient_up};

@@ -8,8 +8,6 @@ mod check;
 mod compare;
 mod laws;
 mod listed;
-#[cfg(test)]
-mod tests;
 mod verdict;
 mod write;
 

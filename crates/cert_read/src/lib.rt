@@ -15,6 +15,3 @@ mod words;
 
 pub use lines::{CertFile, Lines};
 pub use read::{LONGEST_FILE, ReadFail, read_file};
-
-#[cfg(test)]
-mod tests;

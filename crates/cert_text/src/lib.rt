@@ -13,6 +13,3 @@ pub use line::{Block, CertLine, Echo};
 pub use lists::{Numbers, Word};
 pub use result::{date_word, no_date_word, result_word, too_far_word, write_date, write_result};
 pub use write::{write_block, write_end, write_header, write_line, write_undecided, write_void};
-
-#[cfg(test)]
-mod tests;

@@ -17,8 +17,6 @@ mod leap_months;
 mod months;
 mod months_back;
 mod sui;
-#[cfg(test)]
-mod tests;
 mod walk;
 mod years;
 

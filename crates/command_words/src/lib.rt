@@ -10,6 +10,3 @@ mod words;
 
 pub use command::{Command, NoCommand, Task};
 pub use words::task_of;
-
-#[cfg(test)]
-mod tests;

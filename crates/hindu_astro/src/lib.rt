@@ -7,5 +7,3 @@ mod facts;
 pub mod lunar;
 mod months;
 pub mod solar;
-#[cfg(test)]
-mod tests;

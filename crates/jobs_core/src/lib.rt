@@ -19,6 +19,3 @@ pub use maps::{map_facts, map_lines};
 pub use outcome::{Finding, Halt, Outcome, Outcomes, outcome_of};
 pub use pieces::map_places;
 pub use row::{Row, rows_of};
-
-#[cfg(test)]
-mod tests;

@@ -7,8 +7,6 @@ mod gregorian;
 mod line;
 mod result;
 mod split;
-#[cfg(test)]
-mod tests;
 
 pub use line::{Words, cut_word, read_line, three_words};
 pub use result::resolve;

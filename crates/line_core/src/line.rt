@@ -130,6 +130,3 @@ pub fn read_line(bytes: &[u8]) -> Result<Request, Rule>
         None => Err(Rule::Syntax),
     }
 }
-
-#[cfg(test)]
-mod tests;

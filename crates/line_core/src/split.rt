@@ -61,6 +61,3 @@ pub fn split_lines(alloc: Global, bytes: &[u8]) -> Result<Vec<&[u8]>, AllocError
     }
     Ok(lines)
 }
-
-#[cfg(test)]
-mod tests;

@@ -9,8 +9,6 @@ mod listed;
 mod lists;
 mod noted;
 mod oracle;
-#[cfg(test)]
-mod tests;
 
 pub use asking::Asking;
 pub use evaluator::{Answer, Evaluator};

@@ -6,8 +6,6 @@
 mod date;
 mod fields;
 mod months;
-#[cfg(test)]
-mod tests;
 
 pub use date::{PersianDate, from_fixed, to_fixed};
 pub use fields::{date_on, named_day};

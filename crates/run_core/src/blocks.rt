@@ -134,6 +134,3 @@ pub(crate) fn block_of(
         Outcome::Halted(halt) => Ok(halted_block(alloc, number, halt)),
     }
 }
-
-#[cfg(test)]
-mod tests;

@@ -26,6 +26,3 @@ pub use outcome::outcomes_of;
 pub use program::run;
 pub use status::Status;
 pub use text::{WriteStop, write_text};
-
-#[cfg(test)]
-mod tests;

@@ -1,5 +1,4 @@
 pub mod RowLemmas
 pub mod NoteReads
 pub mod StepLemmas
-pub mod KnownFacts
 pub mod OwnSlots

@@ -14,8 +14,6 @@ mod notes;
 mod rows;
 mod shelf;
 mod shelved;
-#[cfg(test)]
-mod tests;
 
 pub use entry::Entry;
 pub use shelf::{Pass, Shelf};

@@ -1,4 +1,0 @@
-use Rattle.cert_check.proofs.tests.file_of.Goals as goal
-
-pub returns : goal.returns
-returns c = record { checkable = c.checkable.ensures.files c.as_bytes.result.now c.in-Ok.file c.in-Ok.ensures }

@@ -1,0 +1,41 @@
+//! Lines of an almanac as they are given elsewhere.
+use almanac_core::almanac_line;
+use book_model::{Fields, FromWord, Request, ToWord};
+use std::test::Fail;
+
+fn request(from: FromWord, count: u8, values: [i32; 5], to: ToWord) -> Request {
+    Request {
+        from,
+        date: Fields { count, values },
+        to,
+    }
+}
+
+#[test]
+fn the_almanac_of_2024(rt: HostRuntime) -> Result<(), Fail> {
+    let day = ToWord::Gregorian;
+    for (index, from, count, values, to) in [
+        (1, FromWord::Chinese, 5, [78, 41, 1, 0, 1], day),
+        (2, FromWord::Chinese, 5, [78, 41, 5, 0, 5], day),
+        (5, FromWord::Bahai, 5, [1, 10, 10, 1, 1], day),
+        (7, FromWord::HinduLunar, 5, [2081, 1, 0, 1, 0], day),
+        (8, FromWord::Islamic, 3, [1445, 6, 1, 0, 0], day),
+        (20, FromWord::Islamic, 3, [1446, 6, 1, 0, 0], day),
+        (44, FromWord::MajorTerm, 3, [2024, 12, 15, 0, 0], day),
+        (92, FromWord::LastQuarter, 3, [2024, 12, 28, 0, 0], day),
+        (
+            104,
+            FromWord::Gregorian,
+            3,
+            [2024, 12, 1, 0, 0],
+            ToWord::SunsetCairo,
+        ),
+    ] {
+        assert_eq!(rt;
+            almanac_line(2024, index),
+            request(from, count, values, to),
+            "line {index}"
+        );
+    }
+    Ok(())
+}

@@ -1,0 +1,6 @@
+//! Tests by value of the crates that read and write texts: streams, printed files, verdicts, words, shelves, pieces of work,
+//! runs. They stand here, above all of these crates, so that each of those is proved once; there is no code.
+#![tactic(auto)]
+
+#[cfg(test)]
+mod tests;

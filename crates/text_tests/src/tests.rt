@@ -1,0 +1,11 @@
+//! What no clause says of streams and texts, one file for each crate; and an evaluator that several use.
+mod almanacs;
+mod files;
+mod known;
+mod pieces;
+mod runs;
+mod shelves;
+mod streams;
+mod texts;
+mod verdicts;
+mod words;

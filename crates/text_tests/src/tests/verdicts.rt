@@ -1,0 +1,248 @@
+//! Verdicts of small files, and the text of each.
+ghost use Rattle.std.specs.Prelude.{IfOk};
+ghost use Rattle.cert_check.specs.Verdicts.{IsCheckable};
+
+use super::known::{Known, correction_on};
+use book_model::{Fields, Resolved, Site, ToWord, Undecided};
+use byte_streams::Gathered;
+use cert_check::{
+    Reason, Verdict, check_facts, check_line, checkable, completeness, write_counts, write_verdict,
+};
+use cert_read::{CertFile, LONGEST_FILE, read_file};
+use oracle_core::Answer;
+use std::alloc::Global;
+use std::process::Abort;
+use std::test::Fail;
+
+/// The file that a text is.
+fn file_of(alloc: Global, text: &str) -> Result<CertFile, Fail>
+    ensures checkable { IfOk result IsCheckable }
+{
+    if text.len() > LONGEST_FILE {
+        return Err("too long")?;
+    }
+    checkable();
+    let Ok(file) = read_file(alloc, text.as_bytes()) else {
+        return Err("no file of the grammar")?;
+    };
+    Ok(file)
+}
+
+/// The text of the verdict of a file's first line.
+fn told(rt: &impl Abort, alloc: Global, text: &str) -> Result<String, Fail> {
+    let file = file_of(alloc, text)?;
+    let answers = check_facts(alloc, &file, &Known::new(rt))?;
+    if file.lines.len() == 0 {
+        return Err("no line")?;
+    }
+    let verdict = check_line(alloc, &file, &answers, 0)?;
+    text_of(alloc, 1, &verdict)
+}
+
+/// The text of a verdict with its number.
+fn text_of(alloc: Global, number: u32, verdict: &Verdict) -> Result<String, Fail> {
+    let mut sink = Gathered::new(alloc);
+    write_verdict(&mut sink, number, verdict).map_err(|_| "no memory")?;
+    Ok(String::from_utf8(sink.into_bytes()).map_err(|_| "no text")?)
+}
+
+#[test]
+fn changes_of_a_file_are_told(rt: HostRuntime) -> Result<(), Fail> {
+    let alloc = rt.alloc();
+    for (what, text, want) in [
+        (
+            "no change",
+            "calendrica 1 depth 40\nfact 1 dt - 738926 73871\nline 1 gregorian 2024-02-10 dt 73871 facts 1\nend lines 1 facts 1\n",
+            "yes 1\n",
+        ),
+        (
+            "another value",
+            "calendrica 1 depth 40\nfact 1 dt - 738926 73872\nline 1 gregorian 2024-02-10 dt 73871 facts 1\nend lines 1 facts 1\n",
+            "no 1 value 1 73872 73871\n",
+        ),
+        (
+            "an empty list",
+            "calendrica 1 depth 40\nfact 1 dt - 738926 73871\nline 1 gregorian 2024-02-10 dt 73871 facts\nend lines 1 facts 1\n",
+            "no 1 missing dt - 738926\n",
+        ),
+        (
+            "another result",
+            "calendrica 1 depth 40\nfact 1 dt - 738926 73871\nline 1 gregorian 2024-02-10 dt 73870 facts 1\nend lines 1 facts 1\n",
+            "no 1 date 73871\n",
+        ),
+        (
+            "a fact that isn't asked",
+            "calendrica 1 depth 40\nfact 1 dt - 738926 73871\nline 1 gregorian 2024-02-10 fixed 738926 facts 1\nend lines 1 facts 1\n",
+            "no 1 list 1\n",
+        ),
+        (
+            "an unknown calendar",
+            "calendrica 1 depth 40\nfact 1 dt - 738926 73871\nline 1 mayan 2024-02-10 dt 73871 facts 1\nend lines 1 facts 1\n",
+            "no 1 form 2\n",
+        ),
+    ] {
+        let line = told(&rt, alloc, text)?;
+        assert_eq!(rt; line.as_str(), want, "{what}");
+    }
+    Ok(())
+}
+
+#[test]
+fn lines_without_a_list_are_skipped(rt: HostRuntime) -> Result<(), Fail> {
+    let alloc = rt.alloc();
+    for (what, text, want) in [
+        (
+            "a refused line",
+            "calendrica 1 depth 40\nfact 1 dt - 738926 73871\nline 1 refused 2\nend lines 1 facts 1\n",
+            "skip 1\n",
+        ),
+        (
+            "an undecided line",
+            "calendrica 1 depth 40\nfact 1 dt - 738926 73871\nline 1 undecided round 2 -5 7 fact dt - 738926\nend lines 1 facts 1\n",
+            "skip 1\n",
+        ),
+        (
+            "a void line",
+            "calendrica 1 depth 40\nfact 1 dt - 738926 73871\nline 1 void year fact dt - 1\nend lines 1 facts 1\n",
+            "skip 1\n",
+        ),
+    ] {
+        let line = told(&rt, alloc, text)?;
+        assert_eq!(rt; line.as_str(), want, "{what}");
+    }
+    Ok(())
+}
+
+#[test]
+fn found_results_are_compared(rt: HostRuntime) -> Result<(), Fail> {
+    let alloc = rt.alloc();
+    for (what, text, want) in [
+        (
+            "a day out of range",
+            "calendrica 1 depth 40\nfact 1 dt - 738926 73871\nline 1 gregorian 2024-02-10 gregorian refused 4 748018 facts\nend lines 1 facts 1\n",
+            "no 1 date 2024-02-10\n",
+        ),
+        (
+            "another date of the day",
+            "calendrica 1 depth 40\nfact 1 dt - 738926 73871\nline 1 fixed 738926 gregorian refused 5 2024-02-10 facts\nend lines 1 facts 1\n",
+            "no 1 date 2024-02-10\n",
+        ),
+        (
+            "a spelling of the line's own",
+            "calendrica 1 depth 40\nfact 1 dt - 738926 73871\nline 1 gregorian 2024-2-010 fixed 738926 facts\nend lines 1 facts 1\n",
+            "yes 1\n",
+        ),
+        (
+            "a result with a zero in front",
+            "calendrica 1 depth 40\nfact 1 dt - 738926 73871\nline 1 gregorian 2024-02-10 fixed 0738926 facts\nend lines 1 facts 1\n",
+            "no 1 date 738926\n",
+        ),
+    ] {
+        let line = told(&rt, alloc, text)?;
+        assert_eq!(rt; line.as_str(), want, "{what}");
+    }
+    Ok(())
+}
+
+#[test]
+fn the_first_reason_is_told(rt: HostRuntime) -> Result<(), Fail> {
+    let alloc = rt.alloc();
+    for (what, text, want) in [
+        (
+            "a void before another value",
+            "calendrica 1 depth 40\nfact 1 dt - 738926 1\nfact 2 dt - 657252 5\nline 1 gregorian 2024-02-10 dt 1 facts 2 1\nend lines 1 facts 2\n",
+            "no 1 void year fact dt - 657252\n",
+        ),
+        (
+            "another value before a void",
+            "calendrica 1 depth 40\nfact 1 dt - 657252 5\nfact 2 dt - 738926 1\nline 1 gregorian 2024-02-10 dt 1 facts 2 1\nend lines 1 facts 2\n",
+            "no 1 value 2 1 73871\n",
+        ),
+        (
+            "another value of the second",
+            "calendrica 1 depth 40\nfact 1 dt - 738926 -1\nfact 2 dt - 738927 73871\nline 1 gregorian 2024-02-10 dt 1 facts 2 1\nend lines 1 facts 2\n",
+            "no 1 value 1 -1 73871\n",
+        ),
+        (
+            "a fact more in front",
+            "calendrica 1 depth 40\nfact 1 dt - 738926 73871\nfact 2 dt - 738927 73871\nline 1 gregorian 2024-02-10 dt 1 facts 2 1\nend lines 1 facts 2\n",
+            "no 1 list 1\n",
+        ),
+        (
+            "a fact more at the end",
+            "calendrica 1 depth 40\nfact 1 dt - 738926 73871\nfact 2 dt - 738927 73871\nline 1 gregorian 2024-02-10 dt 73871 facts 1 2\nend lines 1 facts 2\n",
+            "no 1 list 2\n",
+        ),
+    ] {
+        let line = told(&rt, alloc, text)?;
+        assert_eq!(rt; line.as_str(), want, "{what}");
+    }
+    Ok(())
+}
+
+#[test]
+fn facts_are_evaluated(rt: HostRuntime) -> Result<(), Fail> {
+    let alloc = rt.alloc();
+    let text =
+        "calendrica 1 depth 40\nfact 1 dt - 657252 5\nline 1 refused 2\nline 2 gregorian 2024-02-10 fixed 738926 facts\nline 3 gregorian 2024-02-10 fixed 738926 facts 1\nend lines 3 facts 1\n";
+    let file = file_of(alloc, text)?;
+    let answers = check_facts(alloc, &file, &Known::new(&rt))?;
+    assert_eq!(rt; answers.len(), 1);
+    assert_eq!(rt; *answers.item(0), Answer::Void(Site::Year));
+    let fact = correction_on(657_252)?;
+    let wanted = [
+        Verdict::Skip,
+        Verdict::Yes,
+        Verdict::No(Reason::Void(fact, Site::Year)),
+    ];
+    if file.lines.len() != 3 {
+        return Err("no three lines")?;
+    }
+    for index in 0..3 {
+        assert_eq!(rt;
+            check_line(alloc, &file, &answers, index)?,
+            wanted[index],
+            "line {index}"
+        );
+    }
+    Ok(())
+}
+
+#[test]
+fn counts_are_told(rt: HostRuntime) -> Result<(), Fail> {
+    let mut sink = Gathered::new(rt.alloc());
+    write_counts(&mut sink, 1, 20, 300).map_err(|_| "no memory")?;
+    assert_eq!(rt; sink.bytes(), b"end yes 1 no 20 skip 300\n".as_slice());
+    completeness();
+    Ok(())
+}
+
+#[test]
+fn results_are_told(rt: HostRuntime) -> Result<(), Fail> {
+    let fields = Fields {
+        count: 3,
+        values: [1802, 1, 1, 0, 0],
+    };
+    let found = Resolved::Shown(ToWord::Gregorian, fields);
+    let verdict = Verdict::No(Reason::Date { found });
+    let line = text_of(rt.alloc(), 4_294_967_295, &verdict)?;
+    assert_eq!(rt; line.as_str(), "no 4294967295 date 1802-01-01\n");
+    Ok(())
+}
+
+#[test]
+fn open_tests_are_told(rt: HostRuntime) -> Result<(), Fail> {
+    let at = Undecided {
+        turn: 2,
+        site: Site::Round,
+        lo: -5,
+        hi: 7,
+    };
+    let verdict = Verdict::No(Reason::Undecided(correction_on(738_927)?, at));
+    let line = text_of(rt.alloc(), 1, &verdict)?;
+    assert_eq!(rt;
+        line.as_str(),
+        "no 1 undecided round 2 -5 7 fact dt - 738927\n"
+    );
+    Ok(())
+}

@@ -1,0 +1,131 @@
+//! Words at spaces, and what they tell.
+use command_words::{Command, NoCommand, Task, task_of};
+use std::alloc::Global;
+use std::test::Fail;
+
+/// What the parts of a line tell, as they stand between single spaces.
+fn told_by(alloc: Global, line: &str) -> Result<Result<Task, NoCommand>, Fail> {
+    let mut words = Vec::new(alloc);
+    for part in line.split(' ') {
+        words.push(String::from_str(alloc, part)?)?;
+    }
+    Ok(task_of(alloc, words.as_slice()))
+}
+
+#[test]
+fn words_in_the_form_tell_a_command(rt: HostRuntime) -> Result<(), Fail> {
+    for (line, command) in [
+        ("convert", Command::Convert),
+        ("check", Command::Check),
+        ("almanac 1803", Command::Almanac { year: 1803 }),
+        ("almanac 02024", Command::Almanac { year: 2024 }),
+        ("almanac 2047", Command::Almanac { year: 2047 }),
+        (
+            "almanac 00000000000000002024",
+            Command::Almanac { year: 2024 },
+        ),
+        ("almanac --jobs 1 2024", Command::Almanac { year: 2024 }),
+        ("sample 0001 007", Command::Sample { count: 1, seed: 7 }),
+        ("sample 5 0 --jobs=1", Command::Sample { count: 5, seed: 0 }),
+        (
+            "sample 100000 18446744073709551615",
+            Command::Sample {
+                count: 100_000,
+                seed: 18_446_744_073_709_551_615,
+            },
+        ),
+        ("convert --jobs 1", Command::Convert),
+        ("convert --jobs=1", Command::Convert),
+        ("convert --jobs 01", Command::Convert),
+        ("--jobs 1 convert", Command::Convert),
+        ("convert --", Command::Convert),
+        ("-- convert", Command::Convert),
+    ] {
+        let task = Task { command, jobs: 1 };
+        assert_eq!(rt; told_by(rt.alloc(), line)?, Ok(task), "{line}");
+    }
+    Ok(())
+}
+
+#[test]
+fn words_in_the_form_tell_the_jobs(rt: HostRuntime) -> Result<(), Fail> {
+    for (words, jobs) in [
+        ("convert --jobs 2", 2usize),
+        ("convert --jobs=64", 64),
+        ("--jobs 008 convert", 8),
+    ] {
+        let task = Task {
+            command: Command::Convert,
+            jobs,
+        };
+        assert_eq!(rt; told_by(rt.alloc(), words)?, Ok(task), "{words}");
+    }
+    Ok(())
+}
+
+/// Words that name no command.
+const NO_FORMS: [&str; 49] = [
+    "",
+    "almanac",
+    "almanac 2024x",
+    "almanac 2024 1",
+    "almanac 1802",
+    "almanac 2048",
+    "almanac +2024",
+    "almanac -2024",
+    "almanac 000000000000000002024",
+    "almanac ",
+    "sample",
+    "sample 1",
+    "sample 5",
+    "sample 0 1",
+    "sample 100001 1",
+    "sample +1 1",
+    "sample 1 +1",
+    "sample 1 000000000000000000001",
+    "sample 1 18446744073709551616",
+    "sample 1 99999999999999999999",
+    "sample 1 1 1",
+    "convert extra",
+    "convert ",
+    "convert --jobs",
+    "convert --jobs 0",
+    "convert --jobs 65",
+    "convert --jobs 100",
+    "convert --jobs +2",
+    "convert --jobs 18446744073709551617",
+    "convert --jobs x",
+    "convert --jobs ",
+    "convert --jobs=",
+    "convert --jobs 1 --jobs 1",
+    "convert --job 1",
+    "convert -j 1",
+    "convert -- --jobs 1",
+    "--jobs 1",
+    "--help",
+    "--version",
+    "-h",
+    "-V",
+    "help",
+    "help convert",
+    "--",
+    "-- ",
+    "-",
+    "mayan",
+    "Convert",
+    " convert",
+];
+
+#[test]
+fn other_words_are_no_form(rt: HostRuntime) -> Result<(), Fail> {
+    for line in NO_FORMS {
+        assert_eq!(rt; told_by(rt.alloc(), line)?, Err(NoCommand::Form), "{line}");
+    }
+    Ok(())
+}
+
+#[test]
+fn no_words_are_no_form(rt: HostRuntime) {
+    let words: &[String] = &[];
+    assert_eq!(rt; task_of(rt.alloc(), words), Err(NoCommand::Form));
+}
