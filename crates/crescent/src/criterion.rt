@@ -1,28 +1,22 @@
 //! Shaukat's criterion: whether the crescent is seen on an evening.
-ghost use Rattle.book_model.specs.programs.Calls.{Decides, Decides1, Decides2, Decides3, Follows, Follows1, Holds1};
+ghost use Rattle.book_model.specs.programs.Calls.{Decides, Decides1, Decides2, Decides3, Follows1};
 ghost use Rattle.std.specs.Prelude.{◌≡◌, ◌≤◌, ◌*◌, ◌^◌, ◌≤ℤ◌, pos, negsuc, IfOk, IfErr};
 ghost use Rattle.book_model.specs.programs.Widths.{IsAbout, IsClose, Measured};
 ghost use Rattle.book_model.specs.numbers.Ranges.{IsInTable};
 ghost use Rattle.moon_core.specs.Widths.{Closes1};
-ghost use Rattle.sun_core.specs.Widths.{IsNarrowPlace};
-ghost use Rattle.rise_set.specs.Widths.{IsNarrowLocation, IsSettled};
+ghost use Rattle.rise_set.specs.Widths.{IsNarrowLocation};
 ghost use Rattle.crescent.specs.Widths.{IsAltitudeSine, IsArcCosine, IsDatedEvening, IsEvening, IsMoonAngle, IsMoonLatitude, IsSiderealTime, IsTilt};
 ghost use Rattle.book_model.specs.sky.Crescent as spec;
 ghost use Rattle.book_model.specs.numbers.Depth.{DEPTH};
 ghost use Rattle.book_model.specs.numbers.Expressions.{Expression, World};
-ghost use Rattle.book_model.specs.numbers.Fractions.{fraction_of};
-ghost use Rattle.book_model.specs.sky.Horizon.{universal_of};
 ghost use Rattle.book_model.specs.programs.Leading.{Exact, Leads};
 ghost use Rattle.book_model.specs.numbers.Relations.{Within};
 
 use crate::altitude::{altitude_sine, arc_cosine};
-use book_model::{
-    CRESCENT_DEPRESSION, DEGREE_IN_DAYS, Fail, Frac, LEAST_ALTITUDE, LEAST_ARC_OF_LIGHT, Location,
-    Site,
-};
+use crate::evening::Evenings;
+use book_model::{Fail, LEAST_ALTITUDE, LEAST_ARC_OF_LIGHT, Location, Site};
 use encl_core::{Enclosure, Trail, less_step};
 use moon_core::{latitude, moon, phase};
-use rise_set::dusk;
 use sun_core::obliquity;
 use time_scales::{centuries, sidereal};
 use trig_series::{cos_deg, sin_deg};
@@ -182,27 +176,21 @@ fn meets_at<E: Enclosure>(location: &Location, t: E, trail: &mut Trail) -> Resul
     meets_with(location, t, young, tilt, trail)
 }
 
-/// The universal time of a moment of local mean time at a longitude east of Greenwich, in degrees.
-#[tactic(auto, unfolding(book_model::specs::sky::Horizon::universal_of, book_model::specs::sky::Noon::ahead_of))]
-fn universal<E: Enclosure>(longitude: Frac, t: E) -> E
-    ensures holds { Holds1 E.shown (universal_of (fraction_of longitude)) t result }
-    ensures measured { E.BITS ≡ 56 → IsNarrowPlace longitude → IsSettled (E.shown t)
-        → IsEvening (E.shown result) }
-{
-    t.sub(E::from_frac(longitude).mul_frac(DEGREE_IN_DAYS))
-}
-
-/// When the crescent is looked for on the evening with which a day (R.D.) begins, in universal time: 132 tests at most.
-#[tactic(auto, using(book_model::proofs::Leads::leading), unfolding(book_model::specs::sky::Crescent::evening_of))]
-fn evening<E: Enclosure>(location: &Location, day: i64, trail: &mut Trail) -> Result<E, Fail>
+/// Whether the crescent is seen on the evening with which a day (R.D.) begins: 151 tests at most, those of `visible`.
+#[tactic(auto, using(book_model::proofs::Leads::leading), unfolding(book_model::specs::sky::Crescent::visible_of))]
+pub(crate) fn visible_on<E: Enclosure>(
+    evenings: &Evenings<E>,
+    day: i64,
+    trail: &mut Trail,
+) -> Result<bool, Fail>
     requires low { negsuc 39999999 ≤ℤ day }
-    ensures leads { Follows E.shown (spec.evening_of location.now day) trail.old.count
-        trail.new.count result }
-    ensures measured { IsNarrowLocation location.now → negsuc 39999998 ≤ℤ day
-        → day ≤ℤ pos 40000001 → Measured E.BITS E.shown IsEvening result }
+    ensures leads { Decides (spec.visible_of evenings.now day) trail.old.count trail.new.count
+        result }
+    ensures close { E.BITS ≡ 56 → IsNarrowLocation evenings.now → negsuc 39999998 ≤ℤ day
+        → day ≤ℤ pos 40000001 → IfErr result IsClose }
 {
-    let t = dusk(location, E::from_frac(CRESCENT_DEPRESSION), day - 1, trail)?;
-    Ok(universal(location.longitude, t))
+    let t = evenings.on(day, trail)?;
+    meets_at(&evenings.location(), t, trail)
 }
 
 /// Whether the crescent is seen at a location on the evening with which a day (R.D.) begins, by Shaukat's criterion (Reingold and
@@ -211,7 +199,6 @@ fn evening<E: Enclosure>(location: &Location, day: i64, trail: &mut Trail) -> Re
 /// above 4.1. 151 tests at most: those of dusk, of the phase, the obliquity, the longitude and the latitude of the moon, and then
 /// those of the conditions in this order, at `crescent`, until one doesn't hold. It is void where dusk is, and at `year` in a year
 /// without a correction.
-#[tactic(auto, using(book_model::proofs::Leads::leading), unfolding(book_model::specs::sky::Crescent::visible_of))]
 pub fn visible<E: Enclosure>(location: &Location, day: i64, trail: &mut Trail) -> Result<bool, Fail>
     requires low { negsuc 39999999 ≤ℤ day }
     ensures leads { Decides (spec.visible_of location.now day) trail.old.count trail.new.count
@@ -219,6 +206,6 @@ pub fn visible<E: Enclosure>(location: &Location, day: i64, trail: &mut Trail) -
     ensures close { E.BITS ≡ 56 → IsNarrowLocation location.now → negsuc 39999998 ≤ℤ day
         → day ≤ℤ pos 40000001 → IfErr result IsClose }
 {
-    let t = evening::<E>(location, day, trail)?;
-    meets_at(location, t, trail)
+    let evenings = Evenings::<E>::new(location);
+    visible_on(&evenings, day, trail)
 }

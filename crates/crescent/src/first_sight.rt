@@ -10,7 +10,8 @@ ghost use Rattle.moon_core.specs.PhaseDays.{IsPhaseDay};
 ghost use Rattle.time_scales.specs.Steps.{IsNoEarlyYear};
 ghost use Rattle.crescent.specs.Sights.{IsSightDay};
 
-use crate::criterion::visible;
+use crate::criterion::visible_on;
+use crate::evening::Evenings;
 use book_model::{Fail, Location};
 use encl_core::{DayTest, Enclosure, Trail, first_day};
 use moon_core::phase_day;
@@ -24,19 +25,14 @@ const UNSEEN_DAYS: i64 = 3;
 /// How far back the search begins then.
 const DAYS_BACK: i64 = 30;
 
-/// Whether the crescent is seen on the evening with which a day begins.
-#[derive(Drop)]
-struct SeenAt {
-    location: Location,
-}
+/// The test of a day: whether the crescent is seen on the evening with which it begins.
+impl<E: Enclosure> DayTest<E> for Evenings<E> {
+    ghost test_of = { λ l d. spec.visible_of l d };
 
-impl<E: Enclosure> DayTest<E> for SeenAt {
-    ghost test_of = { λ s d. spec.visible_of s.location d };
-
-    ghost near_on = { λ s d. IsNarrowLocation s.location × (negsuc 39999998 ≤ℤ d) × (d ≤ℤ pos 40000001) };
+    ghost near_on = { λ l d. IsNarrowLocation l × (negsuc 39999998 ≤ℤ d) × (d ≤ℤ pos 40000001) };
 
     fn holds(&self, day: i64, trail: &mut Trail) -> Result<bool, Fail> {
-        visible::<E>(&self.location, day, trail)
+        visible_on(self, day, trail)
     }
 }
 
@@ -66,63 +62,61 @@ fn start(new_moon: i64, is_seen: bool) -> i64
 /// The same, where the day may come before the crescent of the last new moon: 151 tests at most.
 #[tactic(auto, using(book_model::proofs::Leads::leading), unfolding(book_model::specs::sky::Crescent::sight_start_of))]
 fn sight_start<E: Enclosure>(
-    location: &Location,
+    evenings: &Evenings<E>,
     day: i64,
     new_moon: i64,
     trail: &mut Trail,
 ) -> Result<i64, Fail>
     requires day { IsFactDay day }
     requires near { IsPhaseDay new_moon }
-    ensures leads { Decides (spec.sight_start_of location.now day new_moon) trail.old.count
+    ensures leads { Decides (spec.sight_start_of evenings.now day new_moon) trail.old.count
         trail.new.count result }
     ensures near { IfOk result IsSightDay }
-    ensures close { E.BITS ≡ 56 → IsNarrowLocation location.now → negsuc 39999998 ≤ℤ day
+    ensures close { E.BITS ≡ 56 → IsNarrowLocation evenings.now → negsuc 39999998 ≤ℤ day
         → IfErr result IsClose }
 {
     if !is_soon(day, new_moon) {
         return Ok(new_moon);
     }
-    let is_seen = visible::<E>(location, day, trail)?;
+    let is_seen = visible_on(evenings, day, trail)?;
     Ok(start(new_moon, is_seen))
 }
 
 /// The first day (R.D.) from a day on on whose evening before the crescent is seen.
 #[tactic(auto, using(book_model::proofs::Leads::leading))]
-fn first_sight<E: Enclosure>(location: &Location, from: i64, trail: &mut Trail) -> Result<i64, Fail>
+fn first_sight<E: Enclosure>(
+    evenings: &Evenings<E>,
+    from: i64,
+    trail: &mut Trail,
+) -> Result<i64, Fail>
     requires near { IsSightDay from }
-    ensures leads { Decides (first_day_from (spec.visible_of location.now) from) trail.old.count
+    ensures leads { Decides (first_day_from (spec.visible_of evenings.now) from) trail.old.count
         trail.new.count result }
     ensures from { IfOk result (λ d. from ≤ℤ d) }
     ensures to { IfOk result (λ d. d ≤ℤ (from +ℤ pos 45)) }
-    ensures close { E.BITS ≡ 56 → IsNarrowLocation location.now → IfErr result IsClose }
+    ensures close { E.BITS ≡ 56 → IsNarrowLocation evenings.now → IfErr result IsClose }
 {
-    first_day::<E, SeenAt>(
-        &SeenAt {
-            location: *location,
-        },
-        from,
-        trail,
-    )
+    first_day::<E, Evenings<E>>(evenings, from, trail)
 }
 
 /// The same, from where the new moon of a day tells.
 #[tactic(auto, using(book_model::proofs::Leads::leading), unfolding(book_model::specs::sky::Crescent::sight_after_of))]
 fn sight_after<E: Enclosure>(
-    location: &Location,
+    evenings: &Evenings<E>,
     day: i64,
     new_moon: i64,
     trail: &mut Trail,
 ) -> Result<i64, Fail>
     requires day { IsFactDay day }
     requires near { IsPhaseDay new_moon }
-    ensures leads { Decides (spec.sight_after_of location.now day new_moon) trail.old.count
+    ensures leads { Decides (spec.sight_after_of evenings.now day new_moon) trail.old.count
         trail.new.count result }
     ensures value { IfOk result IsFactValue }
-    ensures close { E.BITS ≡ 56 → IsNarrowLocation location.now → negsuc 39999998 ≤ℤ day
+    ensures close { E.BITS ≡ 56 → IsNarrowLocation evenings.now → negsuc 39999998 ≤ℤ day
         → IfErr result IsClose }
 {
-    let from = sight_start::<E>(location, day, new_moon, trail)?;
-    first_sight::<E>(location, from, trail)
+    let from = sight_start(evenings, day, new_moon, trail)?;
+    first_sight(evenings, from, trail)
 }
 
 /// The last day (R.D.) before a day, or the day itself, on whose evening before the crescent was first seen at a location by
@@ -139,5 +133,6 @@ pub fn phasis<E: Enclosure>(location: &Location, day: i64, trail: &mut Trail) ->
     ensures close { E.BITS ≡ 56 → IsNarrowLocation location.now → IfErr result IsClose }
 {
     let new_moon = phase_day::<E>(NEW_MOON, day, trail)?;
-    sight_after::<E>(location, day, new_moon, trail)
+    let evenings = Evenings::<E>::new(location);
+    sight_after(&evenings, day, new_moon, trail)
 }

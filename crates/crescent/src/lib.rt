@@ -8,6 +8,7 @@
 
 mod altitude;
 mod criterion;
+mod evening;
 mod first_sight;
 
 pub use altitude::{altitude_sine, arc_cosine};

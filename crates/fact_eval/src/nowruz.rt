@@ -12,14 +12,14 @@ use encl_core::{Enclosure, Trail};
 use sun_core::noon;
 
 /// True noon of a day at Tehran.
-#[derive(Clone, Copy)]
+#[derive(Drop)]
 struct NoonAtTehran;
 
 impl<E: Enclosure> DayMoment<E> for NoonAtTehran {
     ghost moment_of = { noon_of };
 
     #[tactic(auto)]
-    fn at(self, day: i64, trail: &mut Trail) -> Result<E, Fail> {
+    fn at(&self, day: i64, trail: &mut Trail) -> Result<E, Fail> {
         noon::<E>(day, trail)
     }
 }

@@ -13,12 +13,12 @@ use encl_core::{DayTest, Enclosure, Trail, first_day, floor_step, less_step};
 use sun_core::{estimate, sun};
 
 /// A moment of each day, as true noon or sunset at a place.
-pub(crate) trait DayMoment<E: Enclosure>: Copy {
+pub(crate) trait DayMoment<E: Enclosure>: Drop {
     /// The moment of a day, as a formula.
     ghost moment_of: { ℤ → Program Expression };
 
     /// The moment of a day (R.D.), in universal time. It makes the tests of its formula, and fails where that does.
-    fn at(self, day: i64, trail: &mut Trail) -> Result<E, Fail>
+    fn at(&self, day: i64, trail: &mut Trail) -> Result<E, Fail>
         requires day { IsFactDay day }
         ensures leads { Follows E.shown (moment_of day) trail.old.count trail.new.count result }
         ensures measured { Measured E.BITS E.shown (IsMoment (2 ^ 33)) result };
@@ -34,7 +34,7 @@ struct SpringAt<M> {
 /// The longitude of the sun at a moment of a day (R.D.).
 #[tactic(auto, using(book_model::proofs::Leads::leading), unfolding(book_model::specs::sky::Kinds::longitude_at_of))]
 fn longitude_at<E: Enclosure, M: DayMoment<E>>(
-    moment: M,
+    moment: &M,
     day: i64,
     trail: &mut Trail,
 ) -> Result<E, Fail>
@@ -61,7 +61,7 @@ fn is_at_most_two<E: Enclosure>(longitude: E, trail: &mut Trail) -> Result<bool,
 /// The test of a day (R.D.).
 #[tactic(auto, using(book_model::proofs::Leads::leading), unfolding(book_model::specs::sky::Kinds::has_spring_at))]
 fn has_spring<E: Enclosure, M: DayMoment<E>>(
-    moment: M,
+    moment: &M,
     day: i64,
     trail: &mut Trail,
 ) -> Result<bool, Fail>
@@ -79,14 +79,14 @@ impl<E: Enclosure, M: DayMoment<E>> DayTest<E> for SpringAt<M> {
     ghost near_on = { λ s d. Unit {0} };
 
     fn holds(&self, day: i64, trail: &mut Trail) -> Result<bool, Fail> {
-        has_spring::<E, M>(self.moment, day, trail)
+        has_spring::<E, M>(&self.moment, day, trail)
     }
 }
 
 /// The moment at which, as is estimated, the sun was last at the spring equinox before a moment of a day (R.D.).
 #[tactic(auto, using(book_model::proofs::Leads::leading), unfolding(book_model::specs::sky::Kinds::last_equinox_of))]
 fn last_equinox<E: Enclosure, M: DayMoment<E>>(
-    moment: M,
+    moment: &M,
     day: i64,
     trail: &mut Trail,
 ) -> Result<E, Fail>
@@ -102,7 +102,7 @@ fn last_equinox<E: Enclosure, M: DayMoment<E>>(
 /// The day (R.D.) of the moment at which the sun was last at the equinox before a moment of a day, as it is estimated.
 #[tactic(auto, using(book_model::proofs::Leads::leading), unfolding(book_model::specs::sky::Kinds::search_start_of))]
 fn search_start<E: Enclosure, M: DayMoment<E>>(
-    moment: M,
+    moment: &M,
     day: i64,
     trail: &mut Trail,
 ) -> Result<i64, Fail>
@@ -130,6 +130,6 @@ pub(crate) fn spring_day<E: Enclosure, M: DayMoment<E>>(
     ensures value { IfOk result IsFactValue }
     ensures close { E.BITS ≡ 56 → IfErr result IsClose }
 {
-    let start = search_start::<E, M>(moment, day, trail)?;
+    let start = search_start::<E, M>(&moment, day, trail)?;
     first_day::<E, SpringAt<M>>(&SpringAt { moment }, start - 1, trail)
 }

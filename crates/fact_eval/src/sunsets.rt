@@ -15,17 +15,40 @@ ghost use Rattle.fact_eval.specs.Widths.{IsNarrowZone};
 use crate::spring::{DayMoment, spring_day};
 use book_model::{Fail, HALF, HOUR, Location, MINUTES_OF_DAY, Place, Site, TEHRAN};
 use encl_core::{Enclosure, Trail, floor_step};
-use rise_set::sunset;
+use rise_set::{Sunsets, sunset};
+use std::marker::Model;
 
-/// Sunset on a day at Tehran.
-#[derive(Clone, Copy)]
-struct SunsetAtTehran;
+/// Sunset on a day at Tehran: the sunsets there, which share what the location asks for. Contracts see nothing of it.
+#[derive(Drop)]
+struct SunsetAtTehran<E: Enclosure> {
+    sunsets: Sunsets<E>,
+}
 
-impl<E: Enclosure> DayMoment<E> for SunsetAtTehran {
+impl<E: Enclosure> Model for SunsetAtTehran<E> {
+    ghost use Rattle.std.specs.Prelude.{◌≡◌};
+    ghost use Rattle.book_model.specs.declared.location_tables.TheConstants.{TEHRAN as tehran};
+
+    ghost Value = { Unit {0} };
+
+    ghost view = { λ s. tt };
+
+    ghost invariant = { λ s. s.sunsets ≡ tehran };
+}
+
+impl<E: Enclosure> SunsetAtTehran<E> {
+    /// Sunset at Tehran.
+    fn new() -> Self {
+        SunsetAtTehran {
+            sunsets: Sunsets::<E>::new(&TEHRAN),
+        }
+    }
+}
+
+impl<E: Enclosure> DayMoment<E> for SunsetAtTehran<E> {
     ghost moment_of = { sunset_of tehran };
 
-    fn at(self, day: i64, trail: &mut Trail) -> Result<E, Fail> {
-        sunset::<E>(&TEHRAN, day, trail)
+    fn at(&self, day: i64, trail: &mut Trail) -> Result<E, Fail> {
+        self.sunsets.on(day, trail)
     }
 }
 
@@ -37,7 +60,7 @@ pub(crate) fn bahai_year<E: Enclosure>(day: i64, trail: &mut Trail) -> Result<i6
     ensures value { IfOk result IsFactValue }
     ensures close { E.BITS ≡ 56 → IfErr result IsClose }
 {
-    spring_day::<E, SunsetAtTehran>(SunsetAtTehran, day, trail)
+    spring_day::<E, SunsetAtTehran<E>>(SunsetAtTehran::<E>::new(), day, trail)
 }
 
 /// A moment of universal time on a day (R.D.) as minutes of the standard time of a location after midnight.

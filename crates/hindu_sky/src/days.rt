@@ -16,7 +16,22 @@ use book_model::{DEGREE_IN_LUNAR_DAYS, Fail, Site};
 use calendar_math::modulo;
 use encl_core::{DayTest, Enclosure, Trail, first_day, floor_step};
 use moon_core::{moon_before, moon_from, phase};
-use rise_set::{hsunset, sunrise};
+use rise_set::{HinduSunsets, hsunset, sunrise};
+
+/// The sign of the zodiac in which the sun stands at sunset on a day (R.D.): 137 tests at most, those of `sign_at_sunset`.
+#[tactic(auto, using(book_model::proofs::Leads::leading), unfolding(book_model::specs::sky::HinduFacts::sign_at_sunset_of))]
+fn sign_on<E: Enclosure>(
+    sunsets: &HinduSunsets<E>,
+    day: i64,
+    trail: &mut Trail,
+) -> Result<i64, Fail>
+    ensures leads { Decides (spec.sign_at_sunset_of day) trail.old.count trail.new.count result }
+    ensures value { IfOk result IsFactValue }
+    ensures close { pos 620600 ≤ℤ day → day ≤ℤ pos 40000000 → E.BITS ≡ 56 → IfErr result IsClose }
+{
+    let t = sunsets.on(day, trail)?;
+    sign(t, trail)
+}
 
 /// The sign of the zodiac, from 1 to 12, in which the sun stands at sunset on a day (R.D.) at Ujjain (Reingold and
 /// Dershowitz, Calendrical Calculations, chapter 20): 137 tests at most. It is void at `year` where a moment that it takes
@@ -26,14 +41,14 @@ use rise_set::{hsunset, sunrise};
 /// ```
 /// let sign = hindu_sky::sign_at_sunset::<Fine>(738_990, &mut Trail::new())?; // 1, on 14 April 2024
 /// ```
-#[tactic(auto, using(book_model::proofs::Leads::leading), unfolding(book_model::specs::sky::HinduFacts::sign_at_sunset_of))]
+#[tactic(auto, using(book_model::proofs::Leads::leading))]
 pub fn sign_at_sunset<E: Enclosure>(day: i64, trail: &mut Trail) -> Result<i64, Fail>
     ensures leads { Decides (spec.sign_at_sunset_of day) trail.old.count trail.new.count result }
     ensures value { IfOk result IsFactValue }
     ensures close { pos 620600 ≤ℤ day → day ≤ℤ pos 40000000 → E.BITS ≡ 56 → IfErr result IsClose }
 {
-    let t = hsunset::<E>(day, trail)?;
-    sign(t, trail)
+    let sunsets = HinduSunsets::<E>::new();
+    sign_on(&sunsets, day, trail)
 }
 
 /// The year of the Kali Yuga at sunset on a day (R.D.) at Ujjain (Reingold and Dershowitz, Calendrical Calculations, chapter
@@ -62,27 +77,33 @@ fn is_sign(one: i64, other: i64) -> bool
 
 /// Whether the sun stands in a sign at the sunset of a day (R.D.).
 #[tactic(auto, using(book_model::proofs::Leads::leading), unfolding(book_model::specs::sky::HinduFacts::has_sign_at))]
-fn has_sign<E: Enclosure>(sign: i64, day: i64, trail: &mut Trail) -> Result<bool, Fail>
+fn has_sign<E: Enclosure>(
+    sunsets: &HinduSunsets<E>,
+    sign: i64,
+    day: i64,
+    trail: &mut Trail,
+) -> Result<bool, Fail>
     ensures leads { Decides (spec.has_sign_at sign day) trail.old.count trail.new.count result }
     ensures close { pos 620600 ≤ℤ day → day ≤ℤ pos 40000000 → E.BITS ≡ 56 → IfErr result IsClose }
 {
-    let there = sign_at_sunset::<E>(day, trail)?;
+    let there = sign_on(sunsets, day, trail)?;
     Ok(is_sign(there, sign))
 }
 
 /// Whether the sun stands in a sign at the sunset of a day.
 #[derive(Drop)]
-struct InSign {
+struct InSign<E: Enclosure> {
     sign: i64,
+    sunsets: HinduSunsets<E>,
 }
 
-impl<E: Enclosure> DayTest<E> for InSign {
+impl<E: Enclosure> DayTest<E> for InSign<E> {
     ghost test_of = { λ s d. spec.has_sign_at s.sign d };
 
     ghost near_on = { λ s d. (pos 620600 ≤ℤ d) × (d ≤ℤ pos 40000000) };
 
     fn holds(&self, day: i64, trail: &mut Trail) -> Result<bool, Fail> {
-        has_sign::<E>(self.sign, day, trail)
+        has_sign(&self.sunsets, self.sign, day, trail)
     }
 }
 
@@ -99,7 +120,12 @@ fn start(day: i64, degrees: i64) -> i64
 
 /// The first day (R.D.) from a day on on whose sunset the sun stands in a sign.
 #[tactic(auto, using(book_model::proofs::Leads::leading))]
-fn first_in_sign<E: Enclosure>(sign: i64, from: i64, trail: &mut Trail) -> Result<i64, Fail>
+fn first_in_sign<E: Enclosure>(
+    sunsets: HinduSunsets<E>,
+    sign: i64,
+    from: i64,
+    trail: &mut Trail,
+) -> Result<i64, Fail>
     requires low { pos 600000 ≤ℤ from }
     requires high { from ≤ℤ pos 800000 }
     ensures leads { Decides (first_day_from (spec.has_sign_at sign) from) trail.old.count
@@ -107,12 +133,17 @@ fn first_in_sign<E: Enclosure>(sign: i64, from: i64, trail: &mut Trail) -> Resul
     ensures value { IfOk result IsFactValue }
     ensures close { pos 620600 ≤ℤ from → E.BITS ≡ 56 → IfErr result IsClose }
 {
-    first_day::<E, InSign>(&InSign { sign }, from, trail)
+    first_day::<E, InSign<E>>(&InSign { sign, sunsets }, from, trail)
 }
 
 /// The day (R.D.) on which the sun came into the sign in which it stands at a moment.
 #[tactic(auto, using(book_model::proofs::Leads::leading), unfolding(book_model::specs::sky::HinduFacts::sign_entered_of))]
-fn sign_entered<E: Enclosure>(day: i64, t: E, trail: &mut Trail) -> Result<i64, Fail>
+fn sign_entered<E: Enclosure>(
+    sunsets: HinduSunsets<E>,
+    day: i64,
+    t: E,
+    trail: &mut Trail,
+) -> Result<i64, Fail>
     requires day { IsValueDay day }
     ensures leads { Decides1 E.shown (spec.sign_entered_of day) t trail.old.count trail.new.count
         result }
@@ -121,7 +152,7 @@ fn sign_entered<E: Enclosure>(day: i64, t: E, trail: &mut Trail) -> Result<i64, 
 {
     let there = sign(t, trail)?;
     let degrees = whole_degrees(t, trail)?;
-    first_in_sign::<E>(there, start(day, degrees), trail)
+    first_in_sign(sunsets, there, start(day, degrees), trail)
 }
 
 /// The first day (R.D.) of the solar month in which a day falls, by whose sunset at Ujjain the sun has come into its sign
@@ -138,8 +169,9 @@ pub fn sankranti<E: Enclosure>(day: i64, trail: &mut Trail) -> Result<i64, Fail>
     ensures value { IfOk result IsFactValue }
     ensures close { E.BITS ≡ 56 → IfErr result IsClose }
 {
-    let t = hsunset::<E>(day, trail)?;
-    sign_entered(day, t, trail)
+    let sunsets = HinduSunsets::<E>::new();
+    let t = sunsets.on(day, trail)?;
+    sign_entered(sunsets, day, t, trail)
 }
 
 /// The whole lunar days that have passed of a month at a moment, from 0 to 30.

@@ -1,6 +1,6 @@
 //! Dawn and dusk: approximations until two of them are less than half a minute apart.
 ghost use Rattle.book_model.specs.programs.Calls.{Decides2, Follows1};
-ghost use Rattle.rise_set.specs.Horizons.{FollowsHorizon};
+ghost use Rattle.rise_set.specs.Horizons.{FollowsAt, FollowsHorizon};
 ghost use Rattle.book_model.specs.programs.Widths.{IsClose, Measured};
 ghost use Rattle.rise_set.specs.Widths.{IsDepression, IsNarrowHorizon, IsNarrowLocation, IsSettled};
 ghost use Rattle.std.specs.Prelude.{◌≡◌, ◌≤◌, ◌+◌, ◌*◌, ◌≤ℤ◌, pos, negsuc, IfErr};
@@ -57,24 +57,23 @@ fn settled<E: Enclosure>(
     }
 }
 
-/// The local mean time of a day (R.D.) at which the sun has a depression, in degrees: 132 tests at most.
+/// The local mean time of a day (R.D.) at which the sun has the depression of a horizon: 132 tests at most.
 #[tactic(auto, using(book_model::proofs::Leads::leading), unfolding(book_model::specs::sky::Horizon::depression_of))]
 fn depressed<E: Enclosure>(
-    location: &Location,
+    horizon: &Horizon<E>,
     twilight: Twilight,
-    depression: E,
     day: i64,
     trail: &mut Trail,
 ) -> Result<E, Fail>
-    ensures leads { Follows1 E.shown (λ a. spec.depression_of location.now twilight a day)
-        depression trail.old.count trail.new.count result }
-    ensures measured { IsNarrowLocation location.now → IsDepression (E.shown depression)
-        → negsuc 39999999 ≤ℤ day → day ≤ℤ pos 40000000 → Measured E.BITS E.shown IsSettled result }
+    ensures leads { FollowsAt E.shown
+        (λ a. spec.depression_of horizon.now.location twilight a day) horizon.now trail.old.count
+        trail.new.count result }
+    ensures measured { IsNarrowHorizon E.shown horizon.now → negsuc 39999999 ≤ℤ day
+        → day ≤ℤ pos 40000000 → Measured E.BITS E.shown IsSettled result }
 {
-    let horizon = horizon_at(location, depression);
     settled(
         APPROXIMATIONS,
-        &horizon,
+        horizon,
         twilight,
         quarter(twilight, day),
         trail,
@@ -96,11 +95,22 @@ pub fn dawn<E: Enclosure>(
     ensures measured { IsNarrowLocation location.now → IsDepression (E.shown depression)
         → negsuc 39999999 ≤ℤ day → day ≤ℤ pos 40000000 → Measured E.BITS E.shown IsSettled result }
 {
-    depressed(location, Twilight::Dawn, depression, day, trail)
+    let horizon = horizon_at(location, depression);
+    depressed(&horizon, Twilight::Dawn, day, trail)
 }
 
-/// Dusk of a day (R.D.), when the sun after setting has a depression, in the same sense.
+/// Dusk of a day (R.D.) at a horizon, when the sun after setting has its depression, in the same sense.
 #[tactic(auto, unfolding(book_model::specs::sky::Horizon::dusk_of))]
+pub fn dusk_at<E: Enclosure>(horizon: &Horizon<E>, day: i64, trail: &mut Trail) -> Result<E, Fail>
+    ensures leads { FollowsAt E.shown (λ a. spec.dusk_of horizon.now.location a day) horizon.now
+        trail.old.count trail.new.count result }
+    ensures measured { IsNarrowHorizon E.shown horizon.now → negsuc 39999999 ≤ℤ day
+        → day ≤ℤ pos 40000000 → Measured E.BITS E.shown IsSettled result }
+{
+    depressed(horizon, Twilight::Dusk, day, trail)
+}
+
+/// Dusk of a day (R.D.) at a location, when the sun has a depression, in degrees: that at the horizon of the two.
 pub fn dusk<E: Enclosure>(
     location: &Location,
     depression: E,
@@ -112,5 +122,6 @@ pub fn dusk<E: Enclosure>(
     ensures measured { IsNarrowLocation location.now → IsDepression (E.shown depression)
         → negsuc 39999999 ≤ℤ day → day ≤ℤ pos 40000000 → Measured E.BITS E.shown IsSettled result }
 {
-    depressed(location, Twilight::Dusk, depression, day, trail)
+    let horizon = horizon_at(location, depression);
+    dusk_at(&horizon, day, trail)
 }

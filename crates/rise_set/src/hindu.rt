@@ -8,10 +8,12 @@ ghost use Rattle.book_model.specs.sky.Horizon as spec;
 ghost use Rattle.time_scales.specs.Widths.{IsRecent};
 
 use crate::declinations::universal;
-use crate::depression::{dawn, dusk};
+use crate::depression::{dawn, dusk_at};
 use crate::minutes::rounded_minutes;
+use crate::skyline::{Horizon, horizon_at};
 use book_model::{Fail, Frac, HINDU_SUNRISE_DEPRESSION, MINUTES, UJJAIN};
 use encl_core::{Enclosure, Trail};
+use std::marker::Model;
 
 /// A number of minutes, in days.
 fn in_days(minutes: i64) -> Frac
@@ -43,9 +45,51 @@ pub fn sunrise<E: Enclosure>(day: i64, trail: &mut Trail) -> Result<E, Fail>
     Ok(universal(UJJAIN.longitude, days::<E>(minutes)))
 }
 
+/// The sunsets of the Hindu calendars: the horizon of Ujjain, which is the same on each day. Contracts see nothing of it.
+#[derive(Drop)]
+pub struct HinduSunsets<E: Enclosure> {
+    horizon: Horizon<E>,
+}
+
+impl<E: Enclosure> Model for HinduSunsets<E> {
+    ghost use Rattle.std.specs.Prelude.{◌≡◌, pos};
+    ghost use Rattle.book_model.specs.declared.location_tables.TheConstants.{UJJAIN as ujjain};
+    ghost use Rattle.book_model.specs.numbers.Expressions.{integer};
+    ghost use Rattle.rise_set.specs.Horizons.{IsHorizonOf};
+
+    ghost Value = { Unit {0} };
+
+    ghost view = { λ s. tt };
+
+    ghost invariant = { λ s. (s.horizon.location ≡ ujjain) × IsHorizonOf E.shown E.BITS
+        (integer (pos 0)) s.horizon };
+}
+
+impl<E: Enclosure> HinduSunsets<E> {
+    /// The sunsets of the Hindu calendars. It makes no test.
+    pub fn new() -> Self {
+        HinduSunsets {
+            horizon: horizon_at(&UJJAIN, E::from_int(0)),
+        }
+    }
+
+    /// When the sun's middle sets on a day (R.D.), in universal time: 132 tests at most. It is void where dusk is.
+    #[tactic(auto, using(book_model::proofs::Leads::leading), unfolding(book_model::specs::sky::Horizon::hindu_sunset_of))]
+    pub fn on(&self, day: i64, trail: &mut Trail) -> Result<E, Fail>
+        ensures leads { Follows E.shown (spec.hindu_sunset_of day) trail.old.count trail.new.count
+            result }
+        ensures measured { negsuc 39999999 ≤ℤ day → day ≤ℤ pos 40000000
+            → Measured E.BITS E.shown (IsMoment (9 * 2 ^ 29)) result }
+        ensures recent { pos 620600 ≤ℤ day → day ≤ℤ pos 40000000
+            → Measured E.BITS E.shown (IsRecent (9 * 2 ^ 29)) result }
+    {
+        let t = dusk_at(&self.horizon, day, trail)?;
+        Ok(universal(self.horizon.location.longitude, t))
+    }
+}
+
 /// When the sun's middle sets on a day (R.D.) at Ujjain, the air left out, in universal time (Reingold and Dershowitz, Calendrical
 /// Calculations, chapter 20): 132 tests at most. It is void where dusk is.
-#[tactic(auto, using(book_model::proofs::Leads::leading), unfolding(book_model::specs::sky::Horizon::hindu_sunset_of))]
 pub fn hsunset<E: Enclosure>(day: i64, trail: &mut Trail) -> Result<E, Fail>
     ensures leads { Follows E.shown (spec.hindu_sunset_of day) trail.old.count trail.new.count
         result }
@@ -54,6 +98,6 @@ pub fn hsunset<E: Enclosure>(day: i64, trail: &mut Trail) -> Result<E, Fail>
     ensures recent { pos 620600 ≤ℤ day → day ≤ℤ pos 40000000
         → Measured E.BITS E.shown (IsRecent (9 * 2 ^ 29)) result }
 {
-    let t = dusk(&UJJAIN, E::from_int(0), day, trail)?;
-    Ok(universal(UJJAIN.longitude, t))
+    let sunsets = HinduSunsets::<E>::new();
+    sunsets.on(day, trail)
 }

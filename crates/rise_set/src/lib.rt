@@ -4,7 +4,8 @@
 //! - `declination` and `offset`: how far the sun is from the horizon;
 //! - `dawn` and `dusk`: approximations until two are less than half a minute apart;
 //! - `refraction`, `sunset`: the depression of the sun's upper edge, and when it sets;
-//! - `sunrise`, `hsunset`: sunrise and sunset at Ujjain as the Hindu calendars take them.
+//! - `sunrise`, `hsunset`: sunrise and sunset at Ujjain as the Hindu calendars take them;
+//! - `Horizon` with `dusk_at`, `Sunsets`, `HinduSunsets`: the same of many days, with what a location asks for computed once.
 #![tactic(auto)]
 
 mod approximation;
@@ -17,7 +18,8 @@ mod skyline;
 mod sunsets;
 
 pub use declinations::declination;
-pub use depression::{dawn, dusk};
-pub use hindu::{hsunset, sunrise};
+pub use depression::{dawn, dusk, dusk_at};
+pub use hindu::{HinduSunsets, hsunset, sunrise};
 pub use offsets::offset;
-pub use sunsets::{refraction, sunset, sunset_depression};
+pub use skyline::{Horizon, horizon_at};
+pub use sunsets::{Sunsets, refraction, sunset, sunset_depression};

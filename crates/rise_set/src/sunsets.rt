@@ -7,10 +7,12 @@ ghost use Rattle.book_model.specs.numbers.Fractions.{fraction_of};
 ghost use Rattle.book_model.specs.sky.Horizon as spec;
 
 use crate::declinations::universal;
-use crate::depression::dusk;
+use crate::depression::dusk_at;
+use crate::skyline::{Horizon, horizon_at};
 use arc_series::arccos_deg;
 use book_model::{EARTH_RADIUS, Fail, Frac, HALF_SUN, Location, REFRACTION, REFRACTION_OF_HEIGHT};
 use encl_core::{Enclosure, Trail};
+use std::marker::Model;
 
 /// The cosine of the angle by which the horizon lies deeper from so many metres of height.
 fn horizon_cosine(height: u16) -> Frac
@@ -63,15 +65,57 @@ pub fn sunset_depression<E: Enclosure>(location: &Location) -> E
     refraction::<E>(location).add(E::from_frac(HALF_SUN))
 }
 
+/// The sunsets at a location: its horizon, which is the same on each day. Contracts see the location.
+#[derive(Drop)]
+pub struct Sunsets<E: Enclosure> {
+    horizon: Horizon<E>,
+}
+
+impl<E: Enclosure> Model for Sunsets<E> {
+    ghost use Rattle.book_model.specs.declared.horizon.Location.{Location};
+    ghost use Rattle.book_model.specs.sky.Horizon.{sunset_depression_of};
+    ghost use Rattle.rise_set.specs.Horizons.{IsHorizonOf};
+
+    ghost Value = { Location };
+
+    ghost view = { λ s. s.horizon.location };
+
+    ghost invariant = { λ s. IsHorizonOf E.shown E.BITS (sunset_depression_of s.horizon.location)
+        s.horizon };
+}
+
+impl<E: Enclosure> Sunsets<E> {
+    /// The sunsets at a location. It makes no test.
+    pub fn new(location: &Location) -> Self
+        ensures location { result ≡ location.now }
+    {
+        let depression = sunset_depression::<E>(location);
+        Sunsets {
+            horizon: horizon_at(location, depression),
+        }
+    }
+
+    /// Sunset on a day (R.D.) there, in universal time: 132 tests at most. It is void where dusk is.
+    #[tactic(auto, using(book_model::proofs::Leads::leading), unfolding(book_model::specs::sky::Horizon::sunset_of))]
+    pub fn on(&self, day: i64, trail: &mut Trail) -> Result<E, Fail>
+        ensures leads { Follows E.shown (spec.sunset_of self.now day) trail.old.count
+            trail.new.count result }
+        ensures measured { IsNarrowLocation self.now → negsuc 39999999 ≤ℤ day
+            → day ≤ℤ pos 40000000 → Measured E.BITS E.shown (IsMoment (9 * 2 ^ 29)) result }
+    {
+        let t = dusk_at(&self.horizon, day, trail)?;
+        Ok(universal(self.horizon.location.longitude, t))
+    }
+}
+
 /// Sunset on a day (R.D.) at a location, in universal time (Reingold and Dershowitz, Calendrical Calculations, chapter 14): 132
 /// tests at most. It is void where dusk is.
-#[tactic(auto, using(book_model::proofs::Leads::leading), unfolding(book_model::specs::sky::Horizon::sunset_of))]
 pub fn sunset<E: Enclosure>(location: &Location, day: i64, trail: &mut Trail) -> Result<E, Fail>
     ensures leads { Follows E.shown (spec.sunset_of location.now day) trail.old.count
         trail.new.count result }
     ensures measured { IsNarrowLocation location.now → negsuc 39999999 ≤ℤ day → day ≤ℤ pos 40000000
         → Measured E.BITS E.shown (IsMoment (9 * 2 ^ 29)) result }
 {
-    let t = dusk(location, sunset_depression::<E>(location), day, trail)?;
-    Ok(universal(location.longitude, t))
+    let sunsets = Sunsets::<E>::new(location);
+    sunsets.on(day, trail)
 }

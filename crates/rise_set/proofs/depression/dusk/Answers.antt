@@ -2,7 +2,14 @@ use Rattle.std.proofs.Common.{SFits, w64}
 use Rattle.std.proofs.lemmas.Int.{to_z-of_z}
 use Rattle.rise_set.proofs.depression.dusk.Goals as goal
 
-pub returns-clause-measured : goal.returns-clause-measured
-returns-clause-measured g c =
+pub returns-clause-leads : goal.returns-clause-leads
+returns-clause-leads g c = λ w a h.
     let f : SFits w64 c.args.day = c.ranges.day in
-    simp to_z-of_z at c.depressed.ensures.measured
+    let l = simp to_z-of_z at c.dusk_at.ensures.leads in
+    rw c.horizon_at-horizon.ensures.location at (l w a (c.horizon_at-horizon.ensures.holds w a h))
+
+pub returns-clause-measured : goal.returns-clause-measured
+returns-clause-measured g c = λ p d h k e.
+    let f : SFits w64 c.args.day = c.ranges.day in
+    let m = simp to_z-of_z at c.dusk_at.ensures.measured in
+    m (c.horizon_at-horizon.ensures.measured e p d) h k e

@@ -11,3 +11,14 @@ returns-clause-measured g c = λ e p d.
       cosine = cosine_within shown _ c.from_frac-latitude.result c.cos_deg.result e x (λ r q. c.cos_deg.ensures.encloses.narrow r q);
       sine = sine_within shown _ c.args.depression c.sin_deg.result e d (λ r q. c.sin_deg.ensures.encloses.narrow r q);
     }
+
+pub returns-clause-holds : goal.returns-clause-holds
+returns-clause-holds g c = λ w a h.
+    let x = c.from_frac-latitude.ensures.encloses.holds w h.deep in
+    record { tangent = c.tan_deg.ensures.encloses.holds w _ x; cosine = c.cos_deg.ensures.encloses.holds w _ x; sine = c.sin_deg.ensures.encloses.holds w a h }
+
+pub returns-clause-whole : goal.returns-clause-whole
+returns-clause-whole g c = λ a h n. record {
+  holds = λ w d. returns-clause-holds g c w a (h w d);
+  narrow = λ e p. returns-clause-measured g c e p (n e p);
+}

@@ -2,7 +2,7 @@ use Rattle.std.proofs.Common.{◌*◌, ◌^◌}
 use Rattle.book_model.specs.sky.Noon.{ahead_of}
 use Rattle.rise_set.proofs.Measured.{universal_within}
 use Rattle.crescent.proofs.Evenings.{evening_within}
-use Rattle.crescent.proofs.criterion.universal.Goals as goal
+use Rattle.crescent.proofs.evening.universal.Goals as goal
 
 pub returns-clause-measured : goal.returns-clause-measured
 unfolding ahead_of
