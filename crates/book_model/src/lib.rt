@@ -24,8 +24,6 @@ mod request;
 mod site;
 mod sun_tables;
 mod tables;
-#[cfg(test)]
-mod tests;
 mod time_tables;
 mod words;
 

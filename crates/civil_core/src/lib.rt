@@ -7,7 +7,5 @@
 
 mod civil;
 mod jiff_date;
-#[cfg(test)]
-mod tests;
 
 pub use civil::{Civil, NoSuchDay, from_fixed, to_fixed};

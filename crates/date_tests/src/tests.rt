@@ -2,6 +2,7 @@
 mod almanac;
 mod bahai;
 mod chinese;
+mod civil;
 mod facts;
 mod hindu;
 mod islamic;

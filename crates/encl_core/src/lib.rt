@@ -31,6 +31,3 @@ pub use span::Span;
 pub use steps::{floor_step, less_step, wrap_step};
 pub use sums::{Term, sum_of_terms};
 pub use trail::Trail;
-
-#[cfg(test)]
-mod tests;

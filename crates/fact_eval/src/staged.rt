@@ -6,7 +6,7 @@ ghost use Rattle.book_model.specs.sky.Correction.{is_between};
 ghost use Rattle.book_model.specs.sky.Facts.{AreClose, IsFactValue, IsValueDay, formula_of, program_of};
 ghost use Rattle.oracle_core.specs.Answers.{IsRightAnswer};
 ghost use Rattle.book_model.specs.programs.Widths.{IsClose};
-ghost use Rattle.fact_eval.specs.Answers.{answer_of, IsCloseAnswer};
+ghost use Rattle.fact_eval.specs.Answers.{answer_of, AreCloseAnywhere, IsCloseAnswer, IsCloseAnywhere};
 ghost use Rattle.fact_eval.specs.Widths.{IsNoWholeDay};
 
 use crate::dt::dt;
@@ -153,16 +153,18 @@ const CLOSE: i128 = 1 << 32;
 /// Whether the ends of an open test are no further apart than every site allows.
 fn are_close(at: &Undecided) -> bool
     ensures close { IsTrue result → AreClose at.now }
+    ensures told { AreCloseAnywhere at.now → IsTrue result }
 {
     match at.hi.checked_sub(at.lo) {
         Some(apart) => apart <= CLOSE,
-        None => false,
+        None => at.hi < at.lo,
     }
 }
 
 /// Whether an answer is no open test, or one whose ends are no further apart than a 2²⁴th, as every site allows.
 pub fn is_close(answer: &Answer) -> bool
     ensures close { IsTrue result → IsCloseAnswer answer.now }
+    ensures told { IsCloseAnywhere answer.now → IsTrue result }
 {
     match answer {
         Answer::Value(_) => true,

@@ -3,7 +3,5 @@
 #![tactic(auto)]
 
 mod fine;
-#[cfg(test)]
-mod tests;
 
 pub use fine::Fine;

@@ -50,11 +50,10 @@ fn settled<E: Enclosure>(
         return Err(Fail::Void(Site::Settle));
     }
     let new = approximation(horizon, twilight, t, trail)?;
-    match has_settled(t, new, trail) {
-        Ok(true) => Ok(new),
-        Ok(false) => settled(more - 1, horizon, twilight, new, trail),
-        Err(fail) => Err(fail),
+    if has_settled(t, new, trail)? {
+        return Ok(new);
     }
+    settled(more - 1, horizon, twilight, new, trail)
 }
 
 /// The local mean time of a day (R.D.) at which the sun has the depression of a horizon: 132 tests at most.

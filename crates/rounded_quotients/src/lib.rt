@@ -10,6 +10,3 @@ mod order;
 
 pub use floors::{ceil_div, floor_64, floor_div};
 pub use order::{greatest_of, least_of, sorted};
-
-#[cfg(test)]
-mod tests;

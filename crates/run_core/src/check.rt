@@ -253,11 +253,14 @@ pub(crate) fn check<R: Threads + Sync, K: Sink, E: Evaluator + Sync, G: Gate + S
     ensures later { K.faults sink.old ≤ K.faults sink.new }
 {
     match read_file(alloc, input) {
-        Ok(file) => match check_file(rt, alloc, sink, evaluator, &file, jobs, gate) {
-            Ok(true) => Ok(Checked::AllYes),
-            Ok(false) => Ok(Checked::NotAll),
-            Err(stop) => Err(stop),
-        },
+        Ok(file) => {
+            let is_right = check_file(rt, alloc, sink, evaluator, &file, jobs, gate)?;
+            Ok(if is_right {
+                Checked::AllYes
+            } else {
+                Checked::NotAll
+            })
+        }
         Err(ReadFail::Bad { line, rule }) => match write_bad(sink, line, rule) {
             Ok(()) => Ok(Checked::BadText),
             Err(Failed) => Err(WriteStop::Fault),

@@ -6,31 +6,32 @@ use Rattle.rise_set.proofs.Measured.{turn_settles}
 use Rattle.rise_set.proofs.Settling.{settled_more}
 use Rattle.rise_set.proofs.depression.+settled.Goals as goal
 
-pub returns-in-Ok-true-clause-leads : goal.returns-in-Ok-true-clause-leads
-returns-in-Ok-true-clause-leads g r c = λ w a x h k.
+pub returns-then-branch-clause-leads : goal.returns-then-branch-clause-leads
+returns-then-branch-clause-leads g r c = λ w a x h k.
     let l = c.in_ok-new.ensures.leads w a x h k in
-    let s = rw c.in-Ok-true.field-0-test at (c.in-Ok-true.ensures.leads w x _ k (leaf_within l)) in
+    let s = rw c.if-branch.true at (c.in_ok-has_settled.ensures.leads w x _ k (leaf_within l)) in
     rw (settled_more c.args.more _ _ a x (omega (arith, c.if-more-eq0.false))) (leads_on _ l (leads_bind_exact _ s (leads_answer (leaf_within l))))
 
-pub returns-in-Ok-true-clause-measured : goal.returns-in-Ok-true-clause-measured
-returns-in-Ok-true-clause-measured g r c = λ p h e.
+pub returns-then-branch-clause-measured : goal.returns-then-branch-clause-measured
+returns-then-branch-clause-measured g r c = λ p h e.
     turn_settles (17 * 2 ^ 28 / 20 + 2 ^ 32) _ (omega arith) (c.in_ok-new.ensures.measured p (17 * 2 ^ 28) e (omega arith) h)
 
-pub returns-in-Ok-false-clause-leads : goal.returns-in-Ok-false-clause-leads
-returns-in-Ok-false-clause-leads g r c = λ w a x h k.
+pub returns-clause-leads : goal.returns-clause-leads
+returns-clause-leads g r c = λ w a x h k.
     let l = c.in_ok-new.ensures.leads w a x h k in
-    let s = rw c.in-Ok-false.field-0-test at (c.in-Ok-false.ensures.leads w x _ k (leaf_within l)) in
+    let s = rw c.if-branch.false at (c.in_ok-has_settled.ensures.leads w x _ k (leaf_within l)) in
     rw (settled_more c.args.more _ _ a x (omega (arith, c.if-more-eq0.false))) (leads_on _ l (leads_bind_exact _ s (c.settled.ensures.leads w a _ h (leaf_within l))))
 
-pub returns-in-Ok-false-clause-measured : goal.returns-in-Ok-false-clause-measured
-returns-in-Ok-false-clause-measured g r c = λ p h e.
+pub returns-clause-measured : goal.returns-clause-measured
+returns-clause-measured g r c = λ p h e.
     let new = turn_settles (17 * 2 ^ 28 / 20 + 2 ^ 32) _ (omega arith) (c.in_ok-new.ensures.measured p (17 * 2 ^ 28) e (omega arith) h) in
     c.settled.ensures.measured p new e
 
-pub returns-in-Err-clause-measured : goal.returns-in-Err-clause-measured
-returns-in-Err-clause-measured g r c = λ p h e.
+pub returns-in_err-has_settled-clause-measured : goal.returns-in_err-has_settled-clause-measured
+returns-in_err-has_settled-clause-measured g r c = λ p h e.
     let new = turn_settles (17 * 2 ^ 28 / 20 + 2 ^ 32) _ (omega arith) (c.in_ok-new.ensures.measured p (17 * 2 ^ 28) e (omega arith) h) in
-    c.in-Err.ensures.close e h new
+    let fails = err_from_is_err_and c.from_residual-in_err-has_settled.result c.from_residual-in_err-has_settled.ensures.1 in
+    rw (fails.1, fails.2) (c.in_err-has_settled.ensures.close e h new)
 
 pub returns-in_err-new-clause-measured : goal.returns-in_err-new-clause-measured
 returns-in_err-new-clause-measured g r c = λ p h e.

@@ -1,5 +1,5 @@
 //! The values of the definitions' types, each call once.
-use super::*;
+use book_model::{Fact, Frac, Kind, Place, Site, plain};
 use std::test::Fail;
 
 #[test]

@@ -1,7 +1,7 @@
-//! What no clause says: one happy path of each operation, and the ends that open tests name.
-use crate::Fine;
+//! Fine enclosures: one happy path of each operation, and the ends that open tests name.
 use book_model::{Frac, Site, Undecided};
-use encl_core::{Coarse, Enclosure, Span, Trail};
+use encl_core::{Coarse, Enclosure, Trail};
+use fix_fine::Fine;
 use std::test::Fail;
 
 fn fraction(num: i128, den: u64) -> Result<Frac, Fail> {
@@ -15,7 +15,7 @@ fn range(low: i64, high: i64) -> Fine {
 
 /// The ends of an enclosure, which count 2⁻⁵⁶.
 fn ends_of(x: Fine) -> Result<(i128, i128), Fail> {
-    let ends = x.ends.ok_or("whole")?;
+    let ends = x.span().ok_or("whole")?;
     Ok((ends.lo, ends.hi))
 }
 
@@ -118,7 +118,7 @@ fn ranges_keep_their_ends(rt: HostRuntime) -> Result<(), Fail> {
 
 #[test]
 fn what_does_not_fit_is_whole(rt: HostRuntime) -> Result<(), Fail> {
-    assert_eq!(rt; Fine::from_int(i64::MIN).ends.is_some(), true);
+    assert!(rt; Fine::from_int(i64::MIN).span().is_some());
     assert_eq!(rt; Fine::from_frac(fraction(i128::MAX, 1)?), Fine::whole());
     assert_eq!(rt;
         Fine::from_int(i64::MAX).mul(Fine::from_int(2)),

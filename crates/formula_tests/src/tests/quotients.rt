@@ -1,5 +1,5 @@
-//! What no clause says: that a quotient of any size is the same, whichever way it takes.
-use crate::{ceil_div, floor_div};
+//! That a quotient of any size is the same, whichever way it takes.
+use rounded_quotients::{ceil_div, floor_div};
 
 /// Wide numbers, divisors, and the quotients rounded down and up.
 #[rattlefmt::skip]

@@ -1,7 +1,4 @@
-//! What no clause says: one happy path of each operation, the ends that open tests name, and another kind of enclosures, at a
-//! rough scale.
-mod rough;
-
+//! Coarse enclosures and the steps over them: one happy path of each operation, and the ends that open tests name.
 ghost use Rattle.std.specs.Prelude.{◌≤◌, ◌+◌};
 ghost use Rattle.book_model.specs.declared.site.Site.TheVariants.{DayTest as AtDayTest};
 ghost use Rattle.book_model.specs.numbers.Expressions.{World, integer};
@@ -9,9 +6,11 @@ ghost use Rattle.book_model.specs.programs.Leading.{Exact, Leads};
 ghost use Rattle.book_model.specs.programs.Programs.{answer, compare};
 ghost use Rattle.book_model.specs.numbers.Depth.{DEPTH};
 
-use crate::{Coarse, DayTest, Enclosure, Trail, first_day, floor_step, less_step, pi, wrap_step};
 use book_model::{Fail as FormulaFail, Frac, Site, Undecided};
-use rough::Rough;
+use encl_core::{
+    Coarse, DayTest, Enclosure, Trail, first_day, floor_step, less_step, pi, wrap_step,
+};
+use fix_fine::Fine;
 use std::test::Fail;
 
 /// Whether a day comes after another, as one test.
@@ -39,6 +38,12 @@ impl<E: Enclosure> DayTest<E> for After {
 
 fn fraction(num: i128, den: u64) -> Result<Frac, Fail> {
     Ok(Frac::new(num, den).ok_or("a denominator of 0")?)
+}
+
+/// The ends of an enclosure, which count 2⁻⁵⁶.
+fn ends_of(x: Coarse) -> Result<(i128, i128), Fail> {
+    let ends = x.span().ok_or("whole")?;
+    Ok((ends.lo, ends.hi))
 }
 
 /// From the one whole number to the other.
@@ -73,50 +78,50 @@ fn fractions_are_rounded_outwards(rt: HostRuntime) -> Result<(), Fail> {
         Coarse::from_int(7).mul_frac(half),
         Coarse::from_frac(fraction(7, 2)?)
     );
-    let ends = Coarse::from_frac(third).ends.ok_or("whole")?;
-    assert_eq!(rt; ends.lo, -22_906_492_246);
-    assert_eq!(rt; ends.hi, -22_906_492_245);
-    let ends = range::<Coarse>(1, 2).mul_frac(third).ends.ok_or("whole")?;
-    assert_eq!(rt; ends.lo, -45_812_984_491);
-    assert_eq!(rt; ends.hi, -22_906_492_245);
-    let ends = Coarse::from_frac(third)
-        .mul(Coarse::from_frac(half))
-        .ends
-        .ok_or("whole")?;
-    assert_eq!(rt; ends.lo, -11_453_246_123);
-    assert_eq!(rt; ends.hi, -11_453_246_122);
+    assert_eq!(rt;
+        ends_of(Coarse::from_frac(third))?,
+        (-24_019_198_013_341_696, -24_019_198_012_293_120)
+    );
+    assert_eq!(rt;
+        ends_of(range::<Coarse>(1, 2).mul_frac(third))?,
+        (-48_038_396_025_634_816, -24_019_198_012_293_120)
+    );
+    assert_eq!(rt;
+        ends_of(Coarse::from_frac(third).mul(Coarse::from_frac(half)))?,
+        (-12_009_599_006_670_848, -12_009_599_005_622_272)
+    );
     Ok(())
 }
 
 #[test]
 fn fractions_of_fine_denominators_are_rounded_outwards(rt: HostRuntime) -> Result<(), Fail> {
     for (num, den, lo, hi) in [
-        (1, 68_719_476_736, 1, 1),
-        (3, 137_438_953_472, 1, 2),
-        (-3, 137_438_953_472, -2, -1),
-        (-4, 137_438_953_472, -2, -2),
-        (1, 137_438_953_473, 0, 1),
-        (5, 68_719_476_735, 5, 6),
+        (1, 68_719_476_736, 1_048_576, 1_048_576),
+        (3, 137_438_953_472, 1_048_576, 2_097_152),
+        (-3, 137_438_953_472, -2_097_152, -1_048_576),
+        (-4, 137_438_953_472, -2_097_152, -2_097_152),
+        (1, 137_438_953_473, 0, 1_048_576),
+        (5, 68_719_476_735, 5_242_880, 6_291_456),
         (
             3_242_591_731_706_757_120,
             12_970_366_926_827_028_480,
-            17_179_869_184,
-            17_179_869_184,
+            18_014_398_509_481_984,
+            18_014_398_509_481_984,
         ),
         (
             -3_242_591_731_706_757_121,
             12_970_366_926_827_028_480,
-            -17_179_869_185,
-            -17_179_869_184,
+            -18_014_398_510_530_560,
+            -18_014_398_509_481_984,
         ),
         (
             1_237_940_039_285_380_274_899_124_224,
             9_223_372_036_854_775_808,
-            9_223_372_036_854_775_807,
+            1,
             0,
         ),
     ] {
-        match Coarse::from_frac(fraction(num, den)?).ends {
+        match Coarse::from_frac(fraction(num, den)?).span() {
             Some(ends) => assert_eq!(rt; (ends.lo, ends.hi), (lo, hi), "{num} / {den}"),
             None => assert!(rt; hi < lo, "{num} / {den} is whole"),
         }
@@ -157,7 +162,7 @@ fn ranges_keep_their_ends(rt: HostRuntime) -> Result<(), Fail> {
         range(0, 5)
     );
     assert_eq!(rt;
-        mixed(range::<Rough>(1, 3), range(2, 4), fraction(1, 2)?),
+        mixed(range::<Fine>(1, 3), range(2, 4), fraction(1, 2)?),
         range(0, 5)
     );
     Ok(())
@@ -170,15 +175,12 @@ fn roots_are_rounded_outwards(rt: HostRuntime) -> Result<(), Fail> {
     assert_eq!(rt; range::<Coarse>(-4, -1).root(), range(0, 0));
     assert_eq!(rt; Coarse::whole().root(), Coarse::whole());
     for (num, den, lo, hi) in [
-        (2, 1, 97_184_015_999, 97_184_016_000),
-        (1, 2, 48_592_007_999, 48_592_008_000),
-        (1, 68_719_476_736, 262_144, 262_144),
+        (2, 1, 101_904_826_760_167_424, 101_904_826_761_216_000),
+        (1, 2, 50_952_413_379_559_424, 50_952_413_380_608_000),
+        (1, 68_719_476_736, 274_877_906_944, 274_877_906_944),
     ] {
-        let ends = Coarse::from_frac(fraction(num, den)?)
-            .root()
-            .ends
-            .ok_or("whole")?;
-        assert_eq!(rt; (ends.lo, ends.hi), (lo, hi), "{num} / {den}");
+        let root = Coarse::from_frac(fraction(num, den)?).root();
+        assert_eq!(rt; ends_of(root)?, (lo, hi), "{num} / {den}");
     }
     Ok(())
 }
@@ -196,7 +198,7 @@ fn a_clamped_enclosure_lies_from_minus_1_to_1(rt: HostRuntime) -> Result<(), Fai
 #[test]
 fn what_does_not_fit_is_whole(rt: HostRuntime) -> Result<(), Fail> {
     assert_eq!(rt; Coarse::from_int(134_217_728), Coarse::whole());
-    assert_eq!(rt; Coarse::from_int(-134_217_728).ends.is_some(), true);
+    assert!(rt; Coarse::from_int(-134_217_728).span().is_some());
     assert_eq!(rt; Coarse::from_frac(fraction(i128::MAX, 1)?), Coarse::whole());
     assert_eq!(rt;
         Coarse::from_int(100_000_000).mul(Coarse::from_int(2)),
@@ -279,7 +281,7 @@ fn steps_carry_the_test_that_is_open(rt: HostRuntime) {
         hi: i128::MAX,
     };
     assert_eq!(rt;
-        less_step(Rough::whole(), Rough::whole(), Site::Search, &mut trail),
+        less_step(Fine::whole(), Fine::whole(), Site::Search, &mut trail),
         Err(open.into())
     );
     assert_eq!(rt; trail.count(), 3);
@@ -313,12 +315,10 @@ fn squares_are_never_below_zero(rt: HostRuntime) -> Result<(), Fail> {
     assert_eq!(rt; range::<Coarse>(-3, 2).square(), range(0, 9));
     assert_eq!(rt; range::<Coarse>(-3, -2).square(), range(4, 9));
     assert_eq!(rt; range::<Coarse>(2, 3).square(), range(4, 9));
-    let ends = Coarse::from_frac(fraction(-1, 3)?)
-        .square()
-        .ends
-        .ok_or("whole")?;
-    assert_eq!(rt; ends.lo, 7_635_497_414);
-    assert_eq!(rt; ends.hi, 7_635_497_416);
+    assert_eq!(rt;
+        ends_of(Coarse::from_frac(fraction(-1, 3)?).square())?,
+        (8_006_399_336_382_464, 8_006_399_338_479_616)
+    );
     assert_eq!(rt; Coarse::from_int(100_000).square(), Coarse::whole());
     Ok(())
 }
@@ -364,7 +364,7 @@ fn a_wrap_is_open_where_the_periods_differ(rt: HostRuntime) -> Result<(), Fail> 
         hi: i128::MAX,
     };
     assert_eq!(rt;
-        wrap_step(Rough::whole(), 360, Site::Round, &mut trail),
+        wrap_step(Fine::whole(), 360, Site::Round, &mut trail),
         Err(nowhere.into())
     );
     assert_eq!(rt; trail.count(), 5);
@@ -373,38 +373,10 @@ fn a_wrap_is_open_where_the_periods_differ(rt: HostRuntime) -> Result<(), Fail> 
 
 #[test]
 fn pi_lies_between_neighbours(rt: HostRuntime) -> Result<(), Fail> {
-    let ends = pi::<Coarse>().ends.ok_or("whole")?;
-    assert_eq!(rt; ends.lo, 215_888_603_272);
-    assert_eq!(rt; ends.hi, 215_888_603_273);
-    Ok(())
-}
-
-#[test]
-fn rough_ends_are_multiples_of_a_256th(rt: HostRuntime) -> Result<(), Fail> {
-    let third = Rough::from_frac(fraction(-1, 3)?);
-    let two = Rough::from_int(2);
-    for (found, low, high) in [
-        (third, -86, -85),
-        (third.neg().add(two), 597, 598),
-        (third.mul_frac(fraction(1, 2)?), -43, -42),
-        (third.square(), 28, 29),
-        (two.root(), 362, 363),
-        (two.div(Rough::from_int(7)), 73, 74),
-        (two.widen(fraction(1, 3)?), 426, 598),
-        (range::<Rough>(0, 3).clamp_unit(), 0, 256),
-    ] {
-        let (low, high) = (fraction(low, 256)?, fraction(high, 256)?);
-        assert_eq!(rt; found, Rough::from_frac(low).hull(Rough::from_frac(high)));
-    }
-    let mut trail = Trail::new();
     assert_eq!(rt;
-        third.wrap(360, Site::Round, &mut trail),
-        Ok(third.add(Rough::from_int(360)))
+        ends_of(pi::<Coarse>())?,
+        (226_375_608_064_540_672, 226_375_608_065_589_248)
     );
-    assert_eq!(rt; third.less(two, Site::Search, &mut trail), Ok(true));
-    assert_eq!(rt; third.floor(Site::Search, &mut trail), Ok(-1));
-    let span = two.span().ok_or("whole")?;
-    assert_eq!(rt; Rough::from_span(span), two);
     Ok(())
 }
 
@@ -433,9 +405,9 @@ fn a_search_answers_the_first_day(rt: HostRuntime) {
             "after {day}"
         );
         assert_eq!(rt;
-            first_after::<Rough>(day),
+            first_after::<Fine>(day),
             (Ok(found), tests),
-            "roughly after {day}"
+            "finely after {day}"
         );
     }
 }
@@ -455,5 +427,5 @@ fn a_search_fails_where_its_test_does(rt: HostRuntime) {
         lo: i128::MIN,
         hi: i128::MAX,
     };
-    assert_eq!(rt; first_after::<Rough>(200_000_000), (Err(open.into()), 1));
+    assert_eq!(rt; first_after::<Coarse>(200_000_000), (Err(open.into()), 1));
 }

@@ -1,5 +1,5 @@
-//! Dates and days of an independent implementation, and the dates and days that there aren't.
-use super::*;
+//! Gregorian dates and days of an independent implementation, and the dates and days that there aren't.
+use civil_core::{Civil, NoSuchDay, from_fixed, to_fixed};
 use std::test::Fail;
 
 #[test]

@@ -1,6 +1,0 @@
-use Rattle.scaled_ends.proofs.Following.{within_negate}
-use Rattle.scaled_ends.proofs.Unpromised.{narrow_negate}
-use Rattle.encl_core.proofs.tests.rough.RoughEnclosure.neg.Goals as goal
-
-pub returns : goal.returns
-returns c = record { encloses = record { holds = λ w x. within_negate _ w x _ _ c.neg_ends.ensures.holds; narrow = λ r x h. narrow_negate _ r x _ } }
