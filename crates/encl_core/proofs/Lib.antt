@@ -1,3 +1,5 @@
+pub mod Parted
+pub mod Between
 pub mod Keeping
 pub mod PiEnds
 pub mod Searching

@@ -7,7 +7,8 @@
 //! - `Trail`: the count of the tests of a run, and what it keeps of what it may ask again;
 //! - `Coarse`: the first kind, by ends in 64 bits that count 2⁻³⁶;
 //! - `floor_step`, `less_step` and `wrap_step`: the tests as steps of a formula's program;
-//! - `first_day`: the search for the first day of which a `DayTest` is true.
+//! - `first_day`: the search for the first day of which a `DayTest` is true;
+//! - `lies_within`: whether an enclosure lies within another.
 #![tactic(auto)]
 
 mod circle;
@@ -22,6 +23,7 @@ mod steps;
 mod sums;
 mod trail;
 mod turning;
+mod within;
 
 pub use circle::pi;
 pub use coarse::Coarse;
@@ -31,3 +33,4 @@ pub use span::Span;
 pub use steps::{floor_step, less_step, wrap_step};
 pub use sums::{Term, sum_of_terms};
 pub use trail::Trail;
+pub use within::lies_within;

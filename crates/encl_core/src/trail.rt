@@ -62,6 +62,13 @@ impl Trail {
         self.count
     }
 
+    /// Sets the count back to what it was: the tests made since then were a try, and another is made in its place.
+    pub fn back_to(&mut self, count: u32)
+        ensures counted { self.new.count ≡ count }
+    {
+        self.count = count;
+    }
+
     /// The ends of the new moon of a number, if they are kept at scale 2 to the power of minus `bits`. Who takes them counts
     /// the test that they were evaluated by.
     pub fn new_moon(&self, number: i64, bits: u32) -> Option<Span>

@@ -1,0 +1,36 @@
+//! Whether an enclosure lies within another.
+ghost use Rattle.std.specs.Prelude.{◌≡◌, IsTrue};
+ghost use Rattle.exact_math.specs.Interval.{◌⊆◌};
+ghost use Rattle.encl_core.specs.Kept.{shown_span};
+
+use crate::{Enclosure, Span};
+
+/// Whether two ends lie between two others.
+#[tactic(auto, using(crate::proofs::Between::span_within))]
+fn are_between(inner: Span, outer: Span) -> bool
+    ensures within { IsTrue result → shown_span inner ⊆ shown_span outer }
+{
+    outer.lo <= inner.lo && inner.hi <= outer.hi
+}
+
+/// Whether two ends lie within an enclosure.
+#[tactic(auto, using(crate::proofs::Between::then_within, crate::proofs::Between::within_all))]
+fn ends_within<E: Enclosure>(inner: Span, outer: E) -> bool
+    ensures within { IsTrue result → shown_span inner ⊆ E.shown outer }
+{
+    match outer.span() {
+        Some(ends) => are_between(inner, ends),
+        None => true,
+    }
+}
+
+/// Whether an enclosure lies within another; not, where nothing is known of it.
+#[tactic(auto, using(crate::proofs::Between::first_within))]
+pub fn lies_within<E: Enclosure>(inner: E, outer: E) -> bool
+    ensures within { IsTrue result → E.shown inner ⊆ E.shown outer }
+{
+    match inner.span() {
+        Some(ends) => ends_within(ends, outer),
+        None => false,
+    }
+}
