@@ -7,6 +7,8 @@ ghost use Rattle.width_laws.specs.declared.table.TheConstants.{BISECTION};
 ghost use Rattle.width_laws.specs.Table.{greatest_of};
 
 use crate::Angular;
+use crate::known::Known;
+use crate::tries::turned;
 use book_model::{Fail, HALF, HUNDRED_THOUSANDTH, Site};
 use encl_core::{Enclosure, Trail, less_step, wrap_step};
 
@@ -54,7 +56,7 @@ fn angle_past<E: Enclosure>(angle: E, target: E, trail: &mut Trail) -> Result<E,
 
 /// Whether an angle has passed another, which it has where it is less than half a turn past it: two tests, at `bisect`.
 #[tactic(auto, using(book_model::proofs::Leads::leading), unfolding(book_model::specs::programs::Bisection::has_passed_of))]
-fn has_passed<E: Enclosure>(angle: E, target: E, trail: &mut Trail) -> Result<bool, Fail>
+pub(crate) fn has_passed<E: Enclosure>(angle: E, target: E, trail: &mut Trail) -> Result<bool, Fail>
     ensures leads { Decides2 E.shown spec.has_passed_of angle target trail.old.count trail.new.count
         result }
     ensures close { (v u : ℕ) → E.BITS ≡ 56 → v + u ≤ 2 ^ 40 → IsAbout (2 ^ 58) v (E.shown angle)
@@ -66,13 +68,13 @@ fn has_passed<E: Enclosure>(angle: E, target: E, trail: &mut Trail) -> Result<bo
 
 /// Whether a function has passed an angle at a number.
 #[tactic(auto, using(book_model::proofs::Leads::leading), unfolding(book_model::specs::programs::Bisection::has_passed_at))]
-fn has_passed_at<E: Enclosure, F: Angular<E>>(
+pub(crate) fn has_passed_at<E: Enclosure, F: Angular<E>>(
     f: &F,
     target: E,
     x: E,
     trail: &mut Trail,
 ) -> Result<bool, Fail>
-    ensures leads { Decides2 E.shown (spec.has_passed_at (F.angle_of f.now)) target x
+    ensures leads { Decides2 E.shown (spec.has_passed_at F.angle_of) target x
         trail.old.count trail.new.count result }
     ensures close { (v u : ℕ) → E.BITS ≡ 56 → v ≤ 3 * 2 ^ 37 → F.spread v + u ≤ 2 ^ 40
         → IsMoment v (E.shown x) → IsAbout (2 ^ 58) u (E.shown target) → IfErr result IsClose }
@@ -88,12 +90,13 @@ fn has_passed_at<E: Enclosure, F: Angular<E>>(
 fn bisected<E: Enclosure, F: Angular<E>>(
     more: u32,
     f: &F,
+    known: &mut Known<F>,
     target: E,
     low: E,
     high: E,
     trail: &mut Trail,
 ) -> Result<E, Fail>
-    ensures leads { Follows3 E.shown (spec.bisected_of more (F.angle_of f.now)) target low high
+    ensures leads { Follows3 E.shown (spec.bisected_of more F.angle_of) target low high
         trail.old.count trail.new.count result }
     ensures measured { (v m u : ℕ) → E.BITS ≡ 56 → v + more * 2 ^ 9 ≤ m → m ≤ 2 ^ 38
         → F.spread m + u ≤ 2 ^ 40 → IsAbout (2 ^ 58) u (E.shown target) → IsMoment v (E.shown low)
@@ -106,10 +109,10 @@ fn bisected<E: Enclosure, F: Angular<E>>(
         return Err(Fail::Void(Site::BisectEnd));
     }
     let center = middle(low, high);
-    if has_passed_at(f, target, center, trail)? {
-        bisected(more - 1, f, target, low, center, trail)
+    if turned(f, known, target, center, trail)? {
+        bisected(more - 1, f, known, target, low, center, trail)
     } else {
-        bisected(more - 1, f, target, center, high, trail)
+        bisected(more - 1, f, known, target, center, high, trail)
     }
 }
 
@@ -117,7 +120,8 @@ fn bisected<E: Enclosure, F: Angular<E>>(
 /// hundred-thousandth apart: the middle of the last ends, and not the number to full precision (Reingold and Dershowitz,
 /// Calendrical Calculations, chapter 1). Each of 64 turns at most makes one test at `bisect-end`, those of the angle, and two at
 /// `bisect`; where more turns would be made it is void at `bisect-end`. Of ends that are moments it is at most 2⁻⁴⁰
-/// wider than the wider of them.
+/// wider than the wider of them. A turn takes the angle by a course where that decides it, and at the middle itself where not;
+/// the answer and the tests are the same.
 #[tactic(auto, unfolding(book_model::specs::programs::Bisection::invert_of))]
 pub fn invert_angular<E: Enclosure, F: Angular<E>>(
     f: &F,
@@ -126,11 +130,12 @@ pub fn invert_angular<E: Enclosure, F: Angular<E>>(
     high: E,
     trail: &mut Trail,
 ) -> Result<E, Fail>
-    ensures leads { Follows3 E.shown (spec.invert_of (F.angle_of f.now)) y low high trail.old.count
+    ensures leads { Follows3 E.shown (spec.invert_of F.angle_of) y low high trail.old.count
         trail.new.count result }
     ensures measured { (v u : ℕ) → E.BITS ≡ 56 → v ≤ 2 ^ 37 → F.spread (v + 2 ^ 15) + u ≤ 2 ^ 40
         → IsAbout (2 ^ 58) u (E.shown y) → IsMoment v (E.shown low) → IsMoment v (E.shown high)
         → Measures (λ x. IsMoment (greatest_of BISECTION v) (E.shown x)) result }
 {
-    bisected(TURNS, f, y, low, high, trail)
+    let mut known = Known::<F>::new();
+    bisected(TURNS, f, &mut known, y, low, high, trail)
 }

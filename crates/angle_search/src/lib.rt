@@ -1,11 +1,14 @@
 //! Bisection over any angle that grows with time: the moment at which it passes a given angle. Angles are in degrees.
 //!
-//! - `Angular`: such an angle, as a formula and as a call;
-//! - `invert_angular`: the bisection.
+//! - `Angular`: such an angle, as a formula and as calls: at a moment, and by its course over a stretch of time;
+//! - `invert_angular`: the bisection, which tries each turn by a course first.
 #![tactic(auto)]
 
 mod angular;
 mod bisection;
+mod known;
+mod stretches;
+mod tries;
 
 pub use angular::Angular;
 pub use bisection::invert_angular;

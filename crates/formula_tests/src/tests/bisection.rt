@@ -3,21 +3,34 @@ ghost use Rattle.book_model.specs.programs.Programs.{answer};
 
 use super::measures::fraction;
 use angle_search::{Angular, invert_angular};
-use book_model::Fail as FormulaFail;
+use book_model::{Fail as FormulaFail, Site};
 use encl_core::{Coarse, Enclosure, Trail};
 use std::test::Fail;
 
-/// The number itself as an angle.
+/// The number itself as an angle of which no course is known.
+#[derive(Drop)]
 struct Identity;
 
 impl<E: Enclosure> Angular<E> for Identity {
-    ghost angle_of = { λ s x. answer x };
+    ghost angle_of = { λ x. answer x };
 
     ghost spread = { λ v. v };
 
     #[tactic(auto, using(book_model::proofs::Leads::leading))]
     fn at(&self, x: E, trail: &mut Trail) -> Result<E, FormulaFail> {
         Ok(x)
+    }
+
+    fn near(&self, _x: E, _trail: &mut Trail) -> Result<E, FormulaFail> {
+        Err(FormulaFail::Void(Site::Bisect))
+    }
+
+    fn over(&self, _stretch: E, _trail: &Trail) -> Option<Self> {
+        None
+    }
+
+    fn time_of(&self, degrees: E) -> E {
+        degrees
     }
 }
 

@@ -8,24 +8,24 @@ use Rattle.angle_search.proofs.bisection.+bisected.Goals as goal
 
 pub returns-then-branch-clause-leads : goal.returns-then-branch-clause-leads
 returns-then-branch-clause-leads g t c = λ w y l u k m n.
-    let f = g.F.Angular.angle_of c.args.f.now in
+    let f = g.F.Angular.angle_of in
     let e = rw c.if-branch.true at (c.in_ok-are_near.ensures.leads w l u m n) in
     rw (turn_is c.args.more f y l u) (leads_bind_exact _ e (rw (when_near c.args.more f y l u) (leads_answer (c.middle.ensures.encloses.holds w l u m n))))
 
 pub returns-then-branch-2-clause-leads : goal.returns-then-branch-2-clause-leads
 returns-then-branch-2-clause-leads g t c = λ w y l u k m n.
-    let f = g.F.Angular.angle_of c.args.f.now in
+    let f = g.F.Angular.angle_of in
     let e = rw c.if-branch.false at (c.in_ok-are_near.ensures.leads w l u m n) in
     let x = c.middle-center.ensures.encloses.holds w l u m n in
-    let p = rw c.if-branch-2.true at (c.in_ok-has_passed_at.ensures.leads w y _ k x) in
+    let p = rw c.if-branch-2.true at (c.in_ok-turned.ensures.leads w y _ k x) in
     rw (turn_is c.args.more f y l u) (leads_bind_exact _ e (rw (next_turn c.args.more f y l u (omega (arith, c.if-more-eq0.false))) (leads_bind_exact _ p (c.bisected.ensures.leads w y l _ k m x))))
 
 pub returns-else-branch-2-clause-leads : goal.returns-else-branch-2-clause-leads
 returns-else-branch-2-clause-leads g t c = λ w y l u k m n.
-    let f = g.F.Angular.angle_of c.args.f.now in
+    let f = g.F.Angular.angle_of in
     let e = rw c.if-branch.false at (c.in_ok-are_near.ensures.leads w l u m n) in
     let x = c.middle-center.ensures.encloses.holds w l u m n in
-    let p = rw c.if-branch-2.false at (c.in_ok-has_passed_at.ensures.leads w y _ k x) in
+    let p = rw c.if-branch-2.false at (c.in_ok-turned.ensures.leads w y _ k x) in
     rw (turn_is c.args.more f y l u) (leads_bind_exact _ e (rw (next_turn c.args.more f y l u (omega (arith, c.if-more-eq0.false))) (leads_bind_exact _ p (c.bisected-else-branch-2.ensures.leads w y _ u k x n))))
 
 pub returns-then-branch-clause-measured : goal.returns-then-branch-clause-measured
@@ -45,8 +45,8 @@ returns-else-branch-2-clause-measured g t c = λ v m u e a b d h k l.
 pub returns-then-more-eq0-clause-measured : goal.returns-then-more-eq0-clause-measured
 returns-then-more-eq0-clause-measured g t c = λ v m u e a b d h k l. close_void
 
-pub returns-in_err-has_passed_at-clause-measured : goal.returns-in_err-has_passed_at-clause-measured
-returns-in_err-has_passed_at-clause-measured g t c = λ v m u e a b d h k l.
+pub returns-in_err-turned-clause-measured : goal.returns-in_err-turned-clause-measured
+returns-in_err-turned-clause-measured g t c = λ v m u e a b d h k l.
     let x = middle_within g.E.Enclosure.shown _ v c.args.low c.args.high c.middle-center.result e k l (λ r p q. c.middle-center.ensures.encloses.narrow r p q) in
-    let fails = err_from_is_err_and c.from_residual-in_err-has_passed_at.result c.from_residual-in_err-has_passed_at.ensures.1 in
-    rw (fails.1, fails.2) (c.in_err-has_passed_at.ensures.close m u e (omega (arith, b)) d (moment_wider (v + 2 ^ 9) m _ (omega (arith, a, c.if-more-eq0.false)) x) h)
+    let fails = err_from_is_err_and c.from_residual-in_err-turned.result c.from_residual-in_err-turned.ensures.1 in
+    rw (fails.1, fails.2) (c.in_err-turned.ensures.close m u e (omega (arith, b)) d (moment_wider (v + 2 ^ 9) m _ (omega (arith, a, c.if-more-eq0.false)) x) h)

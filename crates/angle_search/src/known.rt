@@ -1,0 +1,34 @@
+//! What a bisection has learned of its angle.
+
+/// An angle by its courses over the last stretch of time at which a bisection took one, and over the one before. Both are kept: a
+/// turn whose moment doesn't lie in the last stretch mostly lies in the one before.
+#[derive(Drop)]
+pub(crate) struct Known<F: Drop> {
+    last: Option<F>,
+    before: Option<F>,
+}
+
+impl<F: Drop> Known<F> {
+    /// No course.
+    pub(crate) fn new() -> Self {
+        Known {
+            last: None,
+            before: None,
+        }
+    }
+
+    /// The angle by the last course, or by another where there is none.
+    pub(crate) fn last_or<'a>(&'a self, other: &'a F) -> &'a F {
+        self.last.as_ref().unwrap_or(other)
+    }
+
+    /// The angle by the course before the last, or by another where there is none.
+    pub(crate) fn before_or<'a>(&'a self, other: &'a F) -> &'a F {
+        self.before.as_ref().unwrap_or(other)
+    }
+
+    /// Keeps a course in place of the last, and that in place of the one before.
+    pub(crate) fn learn(&mut self, course: F) {
+        self.before = self.last.replace(course);
+    }
+}
