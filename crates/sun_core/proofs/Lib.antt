@@ -1,3 +1,4 @@
+pub mod OnCourse
 pub mod Scalings
 pub mod Openings
 pub mod Elapsed

@@ -4,15 +4,18 @@
 //! what the definition gives, at every depth from `DEPTH` on.
 //!
 //! - `sun`: the longitude at a moment, with nutation and aberration;
+//! - `SunCourse`: what is known of the longitude over a stretch of time; `sun_by`: the longitude at a moment of it, as wide as it may
+//!   be there; `days_over`: the days of a stretch;
 //! - `obliquity`: of the ecliptic, by the centuries; `nutation`, `sine_wave`, `wave_angle` and `times_rate`, of which longitudes are made;
 //! - `equation_of_time`: what apparent time, which sundials show, is ahead of mean time;
 //! - `from_apparent`: from apparent to local mean time;
 //! - `noon`: true noon at Tehran, which decides the first day of a Persian year;
-//! - `estimate`: about when the sun was last at a longitude; `sun_from`: when it is next at one;
+//! - `estimate`: about when the sun was last at a longitude; `sun_from`: when it is next at one; `sun_from_by`: the same by a course;
 //! - `precession`: how far the equinox has moved among the stars; `sidereal_sun`: the longitude of the sun among them.
 #![tactic(auto)]
 
 mod apparent;
+mod courses;
 mod daily;
 mod ecliptic;
 mod equation;
@@ -23,11 +26,12 @@ mod stars;
 mod waves;
 
 pub use apparent::{from_apparent, noon};
+pub use courses::{SunCourse, days_over, sun_by};
 pub use daily::times_rate;
 pub use ecliptic::obliquity;
 pub use equation::equation_of_time;
 pub use estimates::estimate;
 pub use longitude::{nutation, sun};
-pub use passages::sun_from;
-pub use stars::{precession, sidereal_sun};
+pub use passages::{sun_from, sun_from_by};
+pub use stars::{precession, sidereal_sun, sidereal_sun_by};
 pub use waves::{sine_wave, wave_angle};

@@ -33,7 +33,7 @@ pub fn nutation<E: Enclosure>(c: E) -> E
 
 /// The aberration, by the days from noon of 1 January 2000.
 #[tactic(auto, unfolding(book_model::specs::sky::Sun::aberration_of, crate::specs::Steps::computed_aberration_of))]
-fn aberration<E: Enclosure>(days: E) -> E
+pub(crate) fn aberration<E: Enclosure>(days: E) -> E
     ensures holds { Holds1 E.shown (λ x. aberration_of (in_centuries x)) days result }
     ensures narrow { Narrows1 E.shown E.BITS computed_aberration_of days result }
 {
@@ -53,7 +53,7 @@ fn periodic<E: Enclosure>(days: E) -> E
 
 /// The mean longitude of the sun, not reduced.
 #[tactic(auto, unfolding(crate::specs::Daily::by_centuries, crate::specs::Steps::mean_longitude_of, crate::specs::Steps::computed_mean_longitude_of))]
-fn mean_longitude<E: Enclosure>(days: E) -> E
+pub(crate) fn mean_longitude<E: Enclosure>(days: E) -> E
     ensures holds { Holds1 E.shown (λ x. mean_longitude_of (in_centuries x)) days result }
     ensures narrow { Narrows1 E.shown E.BITS computed_mean_longitude_of days result }
 {

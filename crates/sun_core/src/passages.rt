@@ -8,6 +8,7 @@ ghost use Rattle.width_laws.specs.declared.table.TheConstants.{SUN};
 ghost use Rattle.width_laws.specs.Table.{greatest_of};
 ghost use Rattle.sun_core.specs.Widths.{IsNearMoment};
 
+use crate::courses::{SunCourse, days_over, sun_by};
 use crate::estimates::reduced;
 use crate::longitude;
 use angle_search::{Angular, invert_angular};
@@ -17,18 +18,28 @@ use encl_core::{Enclosure, Trail};
 /// How many days before and after the moment by the mean sun the sun is sought.
 const DAYS_ABOUT: i64 = 5;
 
-/// The longitude of the sun, which grows with time.
-#[derive(Clone, Copy)]
-struct SolarLongitude;
-
-impl<E: Enclosure> Angular<E> for SolarLongitude {
-    ghost angle_of = { λ s x. spec.sun_of x };
+/// The longitude of the sun, as an angle that grows with time.
+impl<E: Enclosure> Angular<E> for SunCourse<E> {
+    ghost angle_of = { spec.sun_of };
 
     ghost spread = { λ v. greatest_of SUN v };
 
     #[tactic(auto, using(angle_search::proofs::Measured::turn_measured))]
     fn at(&self, x: E, trail: &mut Trail) -> Result<E, Fail> {
         longitude::sun(x, trail)
+    }
+
+    fn near(&self, x: E, trail: &mut Trail) -> Result<E, Fail> {
+        sun_by(self, x, trail)
+    }
+
+    fn over(&self, stretch: E, trail: &Trail) -> Option<Self> {
+        let days = days_over(stretch, trail)?;
+        Some(SunCourse::<E>::of(days))
+    }
+
+    fn time_of(&self, degrees: E) -> E {
+        degrees.mul_frac(DEGREE_OF_YEAR)
     }
 }
 
@@ -53,9 +64,15 @@ fn forward<E: Enclosure>(angle: E, t: E) -> E
     t.add(angle.mul_frac(DEGREE_OF_YEAR))
 }
 
-/// When the sun is at a longitude about a moment, but not before the moment `t`: 321 tests at most.
+/// When the sun is at a longitude about a moment, but not before the moment `t`.
 #[tactic(auto, unfolding(book_model::specs::sky::Sun::sun_about_of))]
-fn sun_about<E: Enclosure>(longitude: E, t: E, about: E, trail: &mut Trail) -> Result<E, Fail>
+fn sun_about<E: Enclosure>(
+    course: &SunCourse<E>,
+    longitude: E,
+    t: E,
+    about: E,
+    trail: &mut Trail,
+) -> Result<E, Fail>
     ensures leads { Follows3 E.shown spec.sun_about_of longitude t about trail.old.count
         trail.new.count result }
     ensures measured { (v : ℕ) → E.BITS ≡ 56 → v ≤ 2 ^ 37 → IsMoment 0 (E.shown longitude)
@@ -63,8 +80,8 @@ fn sun_about<E: Enclosure>(longitude: E, t: E, about: E, trail: &mut Trail) -> R
         → Measures (λ x. IsMoment (v + 2 ^ 24) (E.shown x)) result }
 {
     let days = E::from_int(DAYS_ABOUT);
-    invert_angular::<E, SolarLongitude>(
-        &SolarLongitude,
+    invert_angular::<E, SunCourse<E>>(
+        course,
         longitude,
         t.max(about.sub(days)),
         about.add(days),
@@ -72,15 +89,30 @@ fn sun_about<E: Enclosure>(longitude: E, t: E, about: E, trail: &mut Trail) -> R
     )
 }
 
-/// When the sun is next at a longitude, in degrees, at or after a moment of universal time: by bisection about the moment to which
-/// the mean sun leads (Reingold and Dershowitz, Calendrical Calculations, chapter 14). 324 tests at most: the sun's two at the
-/// moment, one at `step-wrap`, and those of the bisection. It is void at `year` in a year without a correction.
+/// `sun_from`, where the course of the sun is known, over all days or over those about the moment.
 #[tactic(auto, using(book_model::proofs::Leads::leading), unfolding(book_model::specs::sky::Sun::sun_from_of))]
-pub fn sun_from<E: Enclosure>(l: E, t: E, trail: &mut Trail) -> Result<E, Fail>
+pub fn sun_from_by<E: Enclosure>(
+    course: &SunCourse<E>,
+    l: E,
+    t: E,
+    trail: &mut Trail,
+) -> Result<E, Fail>
     ensures leads { Follows2 E.shown spec.sun_from_of l t trail.old.count trail.new.count result }
     ensures measured { Measured2 E.BITS E.shown (2 ^ 34) (λ v. IsMoment 0) IsMoment
         (λ v. IsMoment (4 * v + 2 ^ 33)) l t result }
 {
     let short = sun_short(l, t, trail)?;
-    sun_about(l, t, forward(short, t), trail)
+    sun_about(course, l, t, forward(short, t), trail)
+}
+
+/// When the sun is next at a longitude, in degrees, at or after a moment of universal time: by bisection about the moment to which
+/// the mean sun leads (Reingold and Dershowitz, Calendrical Calculations, chapter 14). 324 tests at most: the sun's two at the
+/// moment, one at `step-wrap`, and those of the bisection. It is void at `year` in a year without a correction.
+pub fn sun_from<E: Enclosure>(l: E, t: E, trail: &mut Trail) -> Result<E, Fail>
+    ensures leads { Follows2 E.shown spec.sun_from_of l t trail.old.count trail.new.count result }
+    ensures measured { Measured2 E.BITS E.shown (2 ^ 34) (λ v. IsMoment 0) IsMoment
+        (λ v. IsMoment (4 * v + 2 ^ 33)) l t result }
+{
+    let course = SunCourse::<E>::always();
+    sun_from_by(&course, l, t, trail)
 }

@@ -1,13 +1,14 @@
 //! Precession, and the longitude of the sun among the stars.
 ghost use Rattle.book_model.specs.programs.Calls.{Encloses1, Encloses2, Encloses3, Follows1};
 ghost use Rattle.book_model.specs.programs.Widths.{IsAbout, IsUpTo, Measured1};
-ghost use Rattle.std.specs.Prelude.{◌≡◌, ◌≤◌, ◌+◌, ◌*◌, ◌/◌, ◌^◌, ℕ, IfErr};
+ghost use Rattle.std.specs.Prelude.{◌≡◌, ◌≤◌, ◌+◌, ◌*◌, ◌/◌, ◌^◌, ℕ, Ok, IfOk, IfErr};
 ghost use Rattle.exact_math.specs.Interval.{Interval};
 ghost use Rattle.book_model.specs.sky.Sidereal as spec;
 ghost use Rattle.time_scales.specs.Steps.{IsYearOpenFor};
 ghost use Rattle.time_scales.specs.Widths.{IsRecent, AreRecentCenturies};
 ghost use Rattle.sun_core.specs.Widths.{IsTilt, IsCrossing, IsAdvance};
 
+use crate::courses::{SunCourse, sun_by};
 use crate::longitude::sun;
 use arc_series::arctan2_deg;
 use book_model::{ECLIPTIC_CROSSING, ECLIPTIC_TILT, EQUINOX_ADVANCE, Fail, SIDEREAL_START, Site};
@@ -84,6 +85,21 @@ pub fn sidereal_sun<E: Enclosure>(t: E, trail: &mut Trail) -> Result<E, Fail>
     ensures open { IfErr result (IsYearOpenFor (E.shown t)) }
 {
     let longitude = sun(t, trail)?;
+    let moved = precession(t, trail)?;
+    starred(sidereal_by(longitude, moved), trail)
+}
+
+/// `sidereal_sun` by a course of the sun, as wide as it may be over its stretch. Where it answers it has made the tests of
+/// `sidereal_sun`. A failure says nothing of `sidereal_sun`: it is void where the moment isn't one of the course.
+pub fn sidereal_sun_by<E: Enclosure>(
+    course: &SunCourse<E>,
+    t: E,
+    trail: &mut Trail,
+) -> Result<E, Fail>
+    ensures leads { IfOk result (λ s. Follows1 E.shown spec.sidereal_sun_of t trail.old.count
+        trail.new.count (Ok s)) }
+{
+    let longitude = sun_by(course, t, trail)?;
     let moved = precession(t, trail)?;
     starred(sidereal_by(longitude, moved), trail)
 }

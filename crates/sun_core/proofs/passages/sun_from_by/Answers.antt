@@ -3,7 +3,7 @@ use Rattle.book_model.specs.sky.Sun.{sun_from_of}
 use Rattle.book_model.proofs.Leads.{leads_on, leaf_within}
 use Rattle.angle_search.proofs.Measured.{moment_wider}
 use Rattle.sun_core.proofs.PassageWidths.{forward_within, passage_measured}
-use Rattle.sun_core.proofs.passages.sun_from.Goals as goal
+use Rattle.sun_core.proofs.passages.sun_from_by.Goals as goal
 
 pub returns-clause-leads : goal.returns-clause-leads
 unfolding sun_from_of

@@ -1,0 +1,47 @@
+-- A number within a stretch; what calls that answer say of their programs.
+use Rattle.std.specs.Prelude.{◌≡◌, ℕ, ◌≤◌, Result, Ok, Err, IfOk, length, slice_range, ◌++◌, refl}
+use Rattle.exact_math.specs.Interval.{Interval, everything, ◌⊆◌}
+use Rattle.exact_math.proofs.Intervals.{within_trans, within_everything}
+use Rattle.book_model.specs.declared.fail.Fail.{Fail}
+use Rattle.book_model.specs.declared.sun_tables.TheConstants.{SUN_WAVES}
+use Rattle.book_model.specs.numbers.Depth.{DEPTH}
+use Rattle.book_model.specs.numbers.Expressions.{Expression, World, add, value}
+use Rattle.book_model.specs.numbers.Polynomials.{wave_of, waves_of, no_wave}
+use Rattle.book_model.specs.numbers.Relations.{Within, Lies}
+use Rattle.book_model.specs.programs.Calls.{Decides, Decides1, Follows1}
+use Rattle.book_model.specs.programs.Programs.{Program}
+use Rattle.encl_core.proofs.Parted.{parted}
+use Rattle.sun_core.specs.Courses.{greatest_waves_of, other_waves_of}
+use Rattle.sun_core.specs.Daily.{in_centuries}
+use Rattle.sun_core.specs.declared.courses.TheConstants.{GREATEST_WAVES}
+
+-- what holds a number holds it in a wider stretch
+pub stretched : {E : Type 0} {shown : E → Interval} {w : World} {x : Expression} {a b : E} → shown a ⊆ shown b → Within shown w x a → Within shown w x b
+unfolding Lies
+stretched k h = record { deep = h.deep; inside = within_trans h.inside k }
+
+-- an enclosure of every number holds all
+pub anywhere : {E : Type 0} {shown : E → Interval} {w : World} {x : Expression} {e : E} → shown e ≡ everything → DEPTH ≤ w.depth → Within shown w x e
+unfolding Lies
+anywhere {w = w} {x = x} k d = record { deep = d; inside = rw k (within_everything (value w x)) }
+
+-- where a call answers, what it says it says of its answer
+pub answer_decided : {A : Type 0} (p : Program A) (m n : ℕ) (r : Result A Fail) → Decides p m n r → IfOk r (λ t. Decides p m n (Ok t))
+answer_decided p m n (Ok t) h = h
+answer_decided p m n (Err z) h = tt
+
+pub answer_decided_at : {A E : Type 0} (shown : E → Interval) (p : Expression → Program A) (a : E) (m n : ℕ) (r : Result A Fail) → Decides1 shown p a m n r → IfOk r (λ t. Decides1 shown p a m n (Ok t))
+answer_decided_at shown p a m n (Ok t) h = h
+answer_decided_at shown p a m n (Err z) h = tt
+
+pub answer_follows : {E : Type 0} (shown : E → Interval) (p : Expression → Program Expression) (a : E) (m n : ℕ) (r : Result E Fail) → Follows1 shown p a m n r → IfOk r (λ e. Follows1 shown p a m n (Ok e))
+answer_follows shown p a m n (Ok e) h = h
+answer_follows shown p a m n (Err z) h = tt
+
+-- the greatest waves and the others are all
+waves_parted : slice_range SUN_WAVES 0 GREATEST_WAVES ++ slice_range SUN_WAVES GREATEST_WAVES (length SUN_WAVES) ≡ SUN_WAVES
+waves_parted = refl
+
+pub all_waves : {E : Type 0} {shown : E → Interval} {w : World} {e : E} (x : Expression) → Within shown w (add (greatest_waves_of x) (other_waves_of x)) e → Within shown w (waves_of SUN_WAVES (in_centuries x)) e
+unfolding greatest_waves_of other_waves_of
+all_waves x h = rw waves_parted at (parted (wave_of (in_centuries x)) no_wave (slice_range SUN_WAVES 0 GREATEST_WAVES) (slice_range SUN_WAVES GREATEST_WAVES (length SUN_WAVES)) h)

@@ -1,0 +1,136 @@
+//! The course of the sun over a stretch of days: what it is ahead of its mean longitude by all but the greatest of its waves, as wide
+//! as that may be at one of them. The longitude at a moment of the stretch takes the greatest waves of the moment, and the others of
+//! the course.
+//!
+//! That it holds at each moment needs no law of its own: an enclosure that is computed of a stretch holds the value at every moment
+//! that the stretch holds.
+ghost use Rattle.std.specs.Prelude.{◌≡◌, Ok, IfOk, IsTrue};
+ghost use Rattle.exact_math.specs.Interval.{everything, ◌⊆◌};
+ghost use Rattle.book_model.specs.numbers.Ranges.{IsInTable};
+ghost use Rattle.book_model.specs.programs.Calls.{Follows1, Holds1};
+ghost use Rattle.book_model.specs.sky.Sun.{longitude_of, sun_of};
+ghost use Rattle.sun_core.specs.Courses.{greatest_waves_of, other_waves_of};
+ghost use Rattle.sun_core.specs.Daily.{in_centuries};
+ghost use Rattle.sun_core.specs.Steps.{periodic_of};
+
+use crate::longitude::{aberration, mean_longitude, nutation};
+use crate::waves::Days;
+use book_model::{
+    DAY_IN_CENTURIES, Fail, NOON_2000, SUN_UNIT_COARSELY, SUN_UNIT_FINELY, SUN_WAVES, Site, Wave,
+};
+use encl_core::{Enclosure, Trail, lies_within, sum_of_terms, wrap_step};
+use std::marker::Model;
+use time_scales::dynamical;
+
+/// How many waves, the first of the table, are the greatest. Tried with two, four, eight and sixteen: with four a bisection for a
+/// solar term evaluates the fewest waves in all.
+pub(crate) const GREATEST_WAVES: usize = 4;
+
+/// The sum of the greatest waves.
+fn greatest_waves<E: Enclosure>(days: E) -> E
+    ensures holds { Holds1 E.shown greatest_waves_of days result }
+{
+    sum_of_terms::<Days<E>, E, Wave>(&SUN_WAVES[..GREATEST_WAVES], Days(days))
+}
+
+/// The sum of the other waves.
+fn other_waves<E: Enclosure>(days: E) -> E
+    ensures holds { Holds1 E.shown other_waves_of days result }
+{
+    sum_of_terms::<Days<E>, E, Wave>(&SUN_WAVES[GREATEST_WAVES..], Days(days))
+}
+
+/// The days of dynamical time, counted from noon of 1 January 2000, of a stretch of universal time; none where it isn't decided of
+/// the stretch in which year it lies, as where it leaves a year. The tests are no part of a run.
+pub fn days_over<E: Enclosure>(stretch: E, trail: &Trail) -> Option<E> {
+    let mut own = trail.anew();
+    match dynamical(stretch, &mut own) {
+        Ok(moment) => Some(moment.sub(E::from_frac(NOON_2000))),
+        Err(_) => None,
+    }
+}
+
+/// The course of the sun over a stretch of days, counted from noon of 1 January 2000 in dynamical time. Contracts see the days.
+#[derive(Drop)]
+pub struct SunCourse<E: Enclosure> {
+    days: E,
+    waves: E,
+    aberration: E,
+    nutation: E,
+}
+
+impl<E: Enclosure> Model for SunCourse<E> {
+    ghost use Rattle.sun_core.specs.Courses.{IsSunCourse};
+
+    ghost Value = { E };
+
+    ghost view = { λ s. s.days };
+
+    ghost invariant = { λ s. IsSunCourse E.shown s.days s.waves s.aberration s.nutation };
+}
+
+impl<E: Enclosure> SunCourse<E> {
+    /// The course over days counted from noon of 1 January 2000 in dynamical time.
+    pub fn of(days: E) -> Self
+        ensures days { result ≡ days }
+    {
+        SunCourse {
+            days,
+            waves: other_waves(days),
+            aberration: aberration(days),
+            nutation: nutation(days.mul_frac(DAY_IN_CENTURIES)),
+        }
+    }
+
+    /// The course over all days.
+    pub fn always() -> Self
+        ensures all { E.shown result ≡ everything }
+    {
+        SunCourse::<E>::of(E::whole())
+    }
+
+    /// Whether days lie within those of the course.
+    fn covers(&self, days: E) -> bool
+        ensures there { IsTrue result → E.shown days ⊆ E.shown self.now }
+    {
+        lies_within(days, self.days)
+    }
+
+    /// What the sun is ahead of its mean longitude by days of the course.
+    fn periodic(&self, days: E) -> E
+        requires there { E.shown days ⊆ E.shown self.now }
+        ensures holds { Holds1 E.shown (λ x. periodic_of (in_centuries x)) days result }
+    {
+        greatest_waves(days)
+            .add(self.waves)
+            .mul_frac(SUN_UNIT_COARSELY)
+            .mul_frac(SUN_UNIT_FINELY)
+    }
+
+    /// The longitude of the sun by days of the course, not reduced.
+    fn longitude(&self, days: E) -> E
+        requires there { E.shown days ⊆ E.shown self.now }
+        ensures holds { Holds1 E.shown (λ x. longitude_of (in_centuries x)) days result }
+    {
+        mean_longitude(days)
+            .add(self.periodic(days))
+            .add(self.aberration)
+            .add(self.nutation)
+    }
+}
+
+/// The apparent longitude of the sun at a moment of universal time by a course, in degrees from 0 up to 360, as wide as it may be
+/// over the stretch of the course. Where it answers it has made the tests of `sun`. A failure says nothing of `sun`: it is void at
+/// `sun-wrap` where the moment isn't one of the course.
+pub fn sun_by<E: Enclosure>(course: &SunCourse<E>, t: E, trail: &mut Trail) -> Result<E, Fail>
+    ensures leads { IfOk result (λ s. Follows1 E.shown sun_of t trail.old.count trail.new.count
+        (Ok s)) }
+    ensures in_table { IfOk result (λ s. IsInTable (E.shown t)) }
+{
+    let moment = dynamical(t, trail)?;
+    let days = moment.sub(E::from_frac(NOON_2000));
+    if !course.covers(days) {
+        return Err(Fail::Void(Site::SunWrap));
+    }
+    wrap_step(course.longitude(days), 360, Site::SunWrap, trail)
+}
