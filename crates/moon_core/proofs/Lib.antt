@@ -1,3 +1,4 @@
+pub mod OnCourse
 pub mod WalkSteps
 pub mod Reaches
 pub mod Openings

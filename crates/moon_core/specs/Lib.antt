@@ -1,4 +1,5 @@
 pub mod Angles
+pub mod Courses
 pub mod Daily
 pub mod Widths
 pub mod PhaseDays

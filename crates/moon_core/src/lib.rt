@@ -1,17 +1,21 @@
 //! The moon: its apparent longitude and latitude, its phase, the new moons before and from a moment, and when it was last at a
-//! phase. Angles are in degrees,
-//! moments in days (R.D., with a fraction) of universal time, all as enclosures. Each formula makes the tests of its
-//! definition in the same order, and its answer holds what the definition gives, at every depth from `DEPTH` on.
+//! phase. Angles are in degrees, moments in days (R.D., with a fraction) of universal time, all as enclosures. Each formula makes the
+//! tests of its definition in the same order, and its answer holds what the definition gives, at every depth from `DEPTH` on.
 //!
 //! - `moon`: the longitude at a moment; `latitude`: the latitude;
 //! - `phase`: the longitude less the sun's, which is 0 at a new moon and 180 at a full moon;
 //! - `moon_before`: the last new moon before a moment; `moon_from`: the first at or after it;
-//! - `phase_before`: when the moon was last at a phase; `phase_day`: the day of that.
+//! - `phase_before`: when the moon was last at a phase; `phase_day`: the day of that;
+//! - `PhaseCourse`: what is known of the phase over a stretch of time, by which `moon_before_by`, `moon_from_by` and `phase_before_by`
+//!   are the calls above.
 #![tactic(auto)]
 
 mod angles;
+mod courses;
 mod latitudes;
 mod longitude;
+mod numbers;
+mod phase_courses;
 mod phases;
 mod quarters;
 mod terms;
@@ -19,6 +23,7 @@ mod walks;
 
 pub use latitudes::latitude;
 pub use longitude::moon;
+pub use phase_courses::PhaseCourse;
 pub use phases::phase;
-pub use quarters::{phase_before, phase_day};
-pub use walks::{moon_before, moon_from};
+pub use quarters::{phase_before, phase_before_by, phase_day};
+pub use walks::{moon_before, moon_before_by, moon_from, moon_from_by};

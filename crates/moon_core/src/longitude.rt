@@ -65,7 +65,7 @@ fn longitude_terms<E: Enclosure>(days: E, c: E) -> E
 
 /// What the flattening of the earth adds, in millionths of a degree.
 #[tactic(auto, unfolding(book_model::specs::sky::Moon::flattening_of, crate::specs::Daily::computed_flattening_of))]
-fn flattening<E: Enclosure>(days: E, c: E) -> E
+pub(crate) fn flattening<E: Enclosure>(days: E, c: E) -> E
     ensures holds { (w : World) (x : Expression) → Within E.shown w x days
         → Within E.shown w (in_centuries x) c → Within E.shown w
         (spec.flattening_of (in_centuries x)) result }

@@ -1,24 +1,24 @@
-//! The moon's phase, and the number of the new moon about a moment.
+//! The moon's phase, and the number of the new moon about a moment, roughly.
 ghost use Rattle.book_model.specs.programs.Calls.{Decides1, Encloses1, Follows1, Follows2, Holds2};
 ghost use Rattle.book_model.specs.programs.Widths.{IsAbout, IsMoment, IsUpTo, IsWithin, Measured1, Measured2};
 ghost use Rattle.std.specs.Prelude.{◌≡◌, ℕ, ◌≤◌, ◌+◌, ◌*◌, ◌/◌, ◌^◌, ℤ, pos, negsuc, ◌≤ℤ◌, IfOk, IfErr};
 ghost use Rattle.exact_math.specs.Interval.{Interval};
 ghost use Rattle.book_model.specs.sky.Phases as spec;
 ghost use Rattle.book_model.specs.numbers.Ranges.{IsInTable};
-ghost use Rattle.moon_core.specs.Widths.{Answers1, Answers2, Closes1, IsLate};
+ghost use Rattle.moon_core.specs.Widths.{Answers1, Answers2, Closes1};
 ghost use Rattle.time_scales.specs.Steps.{IsYearOpenFor, IsEarlyYearFor};
 ghost use Rattle.width_laws.specs.declared.table.TheConstants.{PHASE};
 ghost use Rattle.width_laws.specs.Table.{greatest_of};
 
 use crate::longitude::moon;
-use book_model::{DAY_IN_MONTHS, DEGREE_IN_MONTHS, Fail, HALF, Site, TURN};
+use book_model::{DAY_IN_MONTHS, Fail, HALF, Site, TURN};
 use encl_core::{Enclosure, Trail, floor_step, less_step, wrap_step};
 use new_moons::new_moon;
 use sun_core::sun;
 
 /// An angle, reduced to 0 up to 360 degrees, as one test.
 #[tactic(auto, using(book_model::proofs::Leads::leading, crate::proofs::Openings::opening), unfolding(book_model::specs::sky::Phases::turned_of))]
-fn turned<E: Enclosure>(angle: E, trail: &mut Trail) -> Result<E, Fail>
+pub(crate) fn turned<E: Enclosure>(angle: E, trail: &mut Trail) -> Result<E, Fail>
     ensures leads { Follows1 E.shown spec.turned_of angle trail.old.count trail.new.count result }
     ensures measured { Measured1 E.BITS E.shown (2 ^ 44) (IsAbout (2 ^ 90)) (IsUpTo 360) angle result }
     ensures wide { Answers1 E.BITS E.shown (2 ^ 46) (IsAbout (2 ^ 90)) (IsUpTo 360) angle result }
@@ -46,7 +46,7 @@ fn elongation<E: Enclosure>(t: E, trail: &mut Trail) -> Result<E, Fail>
 
 /// The synodic months from the new moon of a number to a moment: one test at most.
 #[tactic(auto, using(book_model::proofs::Leads::leading), unfolding(book_model::specs::sky::Phases::months_since, book_model::specs::sky::Phases::months_between))]
-fn months_since<E: Enclosure>(n: i64, t: E, trail: &mut Trail) -> Result<E, Fail>
+pub(crate) fn months_since<E: Enclosure>(n: i64, t: E, trail: &mut Trail) -> Result<E, Fail>
     requires low { negsuc 39999999 ≤ℤ n }
     requires high { n ≤ℤ pos 40000000 }
     ensures leads { Follows1 E.shown (spec.months_since n) t trail.old.count trail.new.count result }
@@ -59,7 +59,7 @@ fn months_since<E: Enclosure>(n: i64, t: E, trail: &mut Trail) -> Result<E, Fail
 
 /// The whole number of months that is nearest, as one test.
 #[tactic(auto, using(book_model::proofs::Leads::leading), unfolding(book_model::specs::sky::Phases::nearest_moon_of))]
-fn nearest_moon<E: Enclosure>(months: E, trail: &mut Trail) -> Result<i64, Fail>
+pub(crate) fn nearest_moon<E: Enclosure>(months: E, trail: &mut Trail) -> Result<i64, Fail>
     ensures leads { Decides1 E.shown spec.nearest_moon_of months trail.old.count trail.new.count
         result }
     ensures close { Closes1 E.BITS E.shown (2 ^ 43) (IsAbout (2 ^ 89)) months result }
@@ -144,7 +144,7 @@ fn picked<E: Enclosure>(by_longitudes: E, by_time: E, trail: &mut Trail) -> Resu
 
 /// The phase by longitudes, or in its place the one by the time since the new moon about the moment: five tests at most.
 #[tactic(auto, using(book_model::proofs::Leads::leading), unfolding(book_model::specs::sky::Phases::corrected_of))]
-fn corrected<E: Enclosure>(by_longitudes: E, t: E, trail: &mut Trail) -> Result<E, Fail>
+pub(crate) fn corrected<E: Enclosure>(by_longitudes: E, t: E, trail: &mut Trail) -> Result<E, Fail>
     requires in_table { IsInTable (E.shown t) }
     ensures leads { Follows2 E.shown spec.corrected_of t by_longitudes trail.old.count
         trail.new.count result }
@@ -175,20 +175,4 @@ pub fn phase<E: Enclosure>(t: E, trail: &mut Trail) -> Result<E, Fail>
 {
     let by_longitudes = elongation(t, trail)?;
     corrected(by_longitudes, t, trail)
-}
-
-/// The number of the last new moon before a moment, or of one next to it, which lies within 40,000 of 0: twelve tests at most.
-#[tactic(auto, using(book_model::proofs::Leads::leading), unfolding(book_model::specs::sky::Phases::number_of_moon))]
-pub(crate) fn number<E: Enclosure>(t: E, trail: &mut Trail) -> Result<i64, Fail>
-    ensures leads { Decides1 E.shown spec.number_of_moon t trail.old.count trail.new.count result }
-    ensures low { IfOk result (λ n. negsuc 39999 ≤ℤ n) }
-    ensures high { IfOk result (λ n. n ≤ℤ pos 40000) }
-    ensures from { IfOk result (λ n. negsuc 6199 ≤ℤ n) }
-    ensures to { IfOk result (λ n. n ≤ℤ pos 25500) }
-    ensures late { (v : ℕ) → IsLate v (E.shown t) → IfOk result (λ n. pos 21900 ≤ℤ n) }
-    ensures close { Closes1 E.BITS E.shown (3 * 2 ^ 37) IsMoment t result }
-{
-    let months = months_since(0, t, trail)?;
-    let degrees = phase(t, trail)?;
-    nearest_moon(months.sub(degrees.mul_frac(DEGREE_IN_MONTHS)), trail)
 }

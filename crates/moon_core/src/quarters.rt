@@ -13,26 +13,38 @@ ghost use Rattle.width_laws.specs.Table.{greatest_of};
 ghost use Rattle.moon_core.specs.PhaseDays.{IsPhaseDay};
 ghost use Rattle.time_scales.specs.Steps.{IsEarlyYearFor, IsNoEarlyYear};
 
+use crate::phase_courses::{PhaseCourse, phase_by};
 use crate::phases;
 use angle_search::{Angular, invert_angular};
 use book_model::{DEGREE_OF_MONTH, Fail, Site};
 use encl_core::{Enclosure, Trail, floor_step, wrap_step};
+use sun_core::days_over;
 
 /// How many days before and after the moment by the mean phase the moon is sought.
 const DAYS_ABOUT: i64 = 2;
 
-/// The phase of the moon, which grows with time.
-#[derive(Clone, Copy)]
-struct MoonPhase;
-
-impl<E: Enclosure> Angular<E> for MoonPhase {
-    ghost angle_of = { λ s x. spec.phase_of x };
+/// The phase of the moon, as an angle that grows with time.
+impl<E: Enclosure> Angular<E> for PhaseCourse<E> {
+    ghost angle_of = { spec.phase_of };
 
     ghost spread = { λ v. greatest_of PHASE v };
 
     #[tactic(auto, using(angle_search::proofs::Measured::turn_measured))]
     fn at(&self, x: E, trail: &mut Trail) -> Result<E, Fail> {
         phases::phase(x, trail)
+    }
+
+    fn near(&self, x: E, trail: &mut Trail) -> Result<E, Fail> {
+        phase_by(self, x, trail)
+    }
+
+    fn over(&self, stretch: E, trail: &Trail) -> Option<Self> {
+        let days = days_over(stretch, trail)?;
+        Some(PhaseCourse::<E>::of(days))
+    }
+
+    fn time_of(&self, degrees: E) -> E {
+        degrees.mul_frac(DEGREE_OF_MONTH)
     }
 }
 
@@ -68,9 +80,15 @@ fn phase_back<E: Enclosure>(angle: E, t: E) -> E
     t.sub(angle.mul_frac(DEGREE_OF_MONTH))
 }
 
-/// When the moon is at a phase about a moment, but not after the moment `t`: 833 tests at most.
+/// When the moon is at a phase about a moment, but not after the moment `t`.
 #[tactic(auto, unfolding(book_model::specs::sky::Phases::phase_about_of))]
-fn phase_about<E: Enclosure>(phase: E, t: E, about: E, trail: &mut Trail) -> Result<E, Fail>
+fn phase_about<E: Enclosure>(
+    course: &PhaseCourse<E>,
+    phase: E,
+    t: E,
+    about: E,
+    trail: &mut Trail,
+) -> Result<E, Fail>
     ensures leads { Follows3 E.shown spec.phase_about_of phase t about trail.old.count
         trail.new.count result }
     ensures measured { (v : ℕ) → E.BITS ≡ 56 → v ≤ 2 ^ 35 → IsMoment 0 (E.shown phase)
@@ -78,8 +96,8 @@ fn phase_about<E: Enclosure>(phase: E, t: E, about: E, trail: &mut Trail) -> Res
         → Measures (λ x. IsMoment (v + 2 ^ 24) (E.shown x)) result }
 {
     let days = E::from_int(DAYS_ABOUT);
-    invert_angular::<E, MoonPhase>(
-        &MoonPhase,
+    invert_angular::<E, PhaseCourse<E>>(
+        course,
         phase,
         about.sub(days),
         t.min(about.add(days)),
@@ -87,24 +105,46 @@ fn phase_about<E: Enclosure>(phase: E, t: E, about: E, trail: &mut Trail) -> Res
     )
 }
 
-/// When the moon was last at a phase, in degrees, at or before a moment of universal time: by bisection about the moment to which
-/// the mean phase leads back (Reingold and Dershowitz, Calendrical Calculations, chapter 14). 844 tests at most: eleven of how far
-/// the moon is past the phase, and those of the bisection. It is void at `year` in a year without a correction.
+/// `phase_before`, where the courses of the moon and the sun are known, over the usual days or over those about the moment.
 #[tactic(auto, using(book_model::proofs::Leads::leading), unfolding(book_model::specs::sky::Phases::phase_before_of))]
-pub fn phase_before<E: Enclosure>(p: E, t: E, trail: &mut Trail) -> Result<E, Fail>
+pub fn phase_before_by<E: Enclosure>(
+    course: &PhaseCourse<E>,
+    p: E,
+    t: E,
+    trail: &mut Trail,
+) -> Result<E, Fail>
     ensures leads { Follows2 E.shown spec.phase_before_of p t trail.old.count trail.new.count result }
     ensures measured { Measured2 E.BITS E.shown (2 ^ 32) (λ v. IsMoment 0) IsMoment
         (λ v. IsMoment (3 * v + 2 ^ 34)) p t result }
     ensures early { trail.old.count ≡ 0 → IfErr result (IsEarlyYearFor (E.shown t)) }
 {
     let past = phase_past(p, t, trail)?;
-    phase_about(p, t, phase_back(past, t), trail)
+    phase_about(course, p, t, phase_back(past, t), trail)
 }
 
-/// The day (R.D.) in universal time on which the moon was last at a phase, in degrees, before a day begins or as it begins: 845
-/// tests at most. It is void where `phase_before` is. Its first and third tests, of the year of the day itself, are never open.
+/// When the moon was last at a phase, in degrees, at or before a moment of universal time: by bisection about the moment to which
+/// the mean phase leads back (Reingold and Dershowitz, Calendrical Calculations, chapter 14). 844 tests at most: eleven of how far
+/// the moon is past the phase, and those of the bisection. It is void at `year` in a year without a correction.
+pub fn phase_before<E: Enclosure>(p: E, t: E, trail: &mut Trail) -> Result<E, Fail>
+    ensures leads { Follows2 E.shown spec.phase_before_of p t trail.old.count trail.new.count result }
+    ensures measured { Measured2 E.BITS E.shown (2 ^ 32) (λ v. IsMoment 0) IsMoment
+        (λ v. IsMoment (3 * v + 2 ^ 34)) p t result }
+    ensures early { trail.old.count ≡ 0 → IfErr result (IsEarlyYearFor (E.shown t)) }
+{
+    let course = PhaseCourse::<E>::usual();
+    phase_before_by(&course, p, t, trail)
+}
+
+/// The day (R.D.) in universal time on which the moon was last at a phase, in degrees, before a day begins or as it begins, by the
+/// courses of the moon and the sun: 845 tests at most. It is void where `phase_before` is. Its first and third tests, of the year of
+/// the day itself, are never open.
 #[tactic(auto, using(book_model::proofs::Leads::leading), unfolding(book_model::specs::sky::Phases::phase_day_of))]
-pub fn phase_day<E: Enclosure>(phase: i64, day: i64, trail: &mut Trail) -> Result<i64, Fail>
+pub fn phase_day<E: Enclosure>(
+    course: &PhaseCourse<E>,
+    phase: i64,
+    day: i64,
+    trail: &mut Trail,
+) -> Result<i64, Fail>
     ensures leads { Decides (spec.phase_day_of phase day) trail.old.count trail.new.count result }
     ensures near { IfOk result IsPhaseDay }
     ensures close { E.BITS ≡ 56 → negsuc 39999999 ≤ℤ phase → phase ≤ℤ pos 40000000
@@ -112,6 +152,6 @@ pub fn phase_day<E: Enclosure>(phase: i64, day: i64, trail: &mut Trail) -> Resul
     ensures early { trail.old.count ≡ 0 → 36 ≤ E.BITS → E.BITS ≤ 56 → IsValueDay day
         → IfErr result IsNoEarlyYear }
 {
-    let moment = phase_before(E::from_int(phase), E::from_int(day), trail)?;
+    let moment = phase_before_by(course, E::from_int(phase), E::from_int(day), trail)?;
     floor_step(moment, Site::DayFloor, trail)
 }

@@ -8,7 +8,8 @@ ghost use Rattle.moon_core.specs.Widths.{Closes1, IsLate};
 ghost use Rattle.width_laws.specs.declared.table.TheConstants.{NEW_MOON};
 ghost use Rattle.width_laws.specs.Table.{greatest_of};
 
-use crate::phases::number;
+use crate::numbers::number;
+use crate::phase_courses::PhaseCourse;
 use book_model::{Fail, Site};
 use encl_core::{Enclosure, Trail, less_step};
 use new_moons::new_moon;
@@ -67,11 +68,28 @@ fn moon_preceding<E: Enclosure>(n: i64, trail: &mut Trail) -> Result<E, Fail>
     new_moon::<E>(n - 1, trail)
 }
 
+/// `moon_before`, where the courses of the moon and the sun are known over the usual days.
+#[tactic(auto, using(book_model::proofs::Leads::leading), unfolding(book_model::specs::sky::Phases::moon_before_of))]
+pub fn moon_before_by<E: Enclosure>(
+    course: &PhaseCourse<E>,
+    t: E,
+    trail: &mut Trail,
+) -> Result<E, Fail>
+    ensures leads { Follows1 E.shown spec.moon_before_of t trail.old.count trail.new.count result }
+    ensures measured { Measured1 E.BITS E.shown (3 * 2 ^ 37) IsMoment
+        (λ v. IsNearlyDated (greatest_of NEW_MOON 0)) t result }
+    ensures recent { Measured1 E.BITS E.shown (3 * 2 ^ 37) IsLate
+        (λ v. IsRecentlyDated (greatest_of NEW_MOON 0)) t result }
+{
+    let about = number(course, t, trail)?;
+    let next = walk(NUMBERS_TRIED, t, about - 1, trail)?;
+    moon_preceding::<E>(next, trail)
+}
+
 /// The moment of the last new moon before a moment of universal time (Reingold and Dershowitz, Calendrical Calculations,
 /// chapter 14): from the number before that of the moment the walk goes to the first new moon that isn't before it, and
 /// takes the one before that anew. At most 25 tests. It is void at `moon-walk` where the walk would take more than
 /// five steps, and at `year` in a year without a correction.
-#[tactic(auto, using(book_model::proofs::Leads::leading), unfolding(book_model::specs::sky::Phases::moon_before_of))]
 pub fn moon_before<E: Enclosure>(t: E, trail: &mut Trail) -> Result<E, Fail>
     ensures leads { Follows1 E.shown spec.moon_before_of t trail.old.count trail.new.count result }
     ensures measured { Measured1 E.BITS E.shown (3 * 2 ^ 37) IsMoment
@@ -79,16 +97,32 @@ pub fn moon_before<E: Enclosure>(t: E, trail: &mut Trail) -> Result<E, Fail>
     ensures recent { Measured1 E.BITS E.shown (3 * 2 ^ 37) IsLate
         (λ v. IsRecentlyDated (greatest_of NEW_MOON 0)) t result }
 {
-    let about = number(t, trail)?;
-    let next = walk(NUMBERS_TRIED, t, about - 1, trail)?;
-    moon_preceding::<E>(next, trail)
+    let course = PhaseCourse::<E>::usual();
+    moon_before_by(&course, t, trail)
+}
+
+/// `moon_from`, where the courses of the moon and the sun are known over the usual days.
+#[tactic(auto, using(book_model::proofs::Leads::leading), unfolding(book_model::specs::sky::Phases::moon_from_of))]
+pub fn moon_from_by<E: Enclosure>(
+    course: &PhaseCourse<E>,
+    t: E,
+    trail: &mut Trail,
+) -> Result<E, Fail>
+    ensures leads { Follows1 E.shown spec.moon_from_of t trail.old.count trail.new.count result }
+    ensures measured { Measured1 E.BITS E.shown (3 * 2 ^ 37) IsMoment
+        (λ v. IsNearlyDated (greatest_of NEW_MOON 0)) t result }
+    ensures recent { Measured1 E.BITS E.shown (3 * 2 ^ 37) IsLate
+        (λ v. IsRecentlyDated (greatest_of NEW_MOON 0)) t result }
+{
+    let about = number(course, t, trail)?;
+    let next = walk(NUMBERS_TRIED, t, about, trail)?;
+    new_moon::<E>(next, trail)
 }
 
 /// The moment of the first new moon at or after a moment of universal time (Reingold and Dershowitz, Calendrical
 /// Calculations, chapter 14): from the number of the moment the walk goes to the first new moon that isn't before it, and
 /// takes that anew. At most 25 tests. It is void at `moon-walk` where the walk would take more than five steps, and
 /// at `year` in a year without a correction.
-#[tactic(auto, using(book_model::proofs::Leads::leading), unfolding(book_model::specs::sky::Phases::moon_from_of))]
 pub fn moon_from<E: Enclosure>(t: E, trail: &mut Trail) -> Result<E, Fail>
     ensures leads { Follows1 E.shown spec.moon_from_of t trail.old.count trail.new.count result }
     ensures measured { Measured1 E.BITS E.shown (3 * 2 ^ 37) IsMoment
@@ -96,7 +130,6 @@ pub fn moon_from<E: Enclosure>(t: E, trail: &mut Trail) -> Result<E, Fail>
     ensures recent { Measured1 E.BITS E.shown (3 * 2 ^ 37) IsLate
         (λ v. IsRecentlyDated (greatest_of NEW_MOON 0)) t result }
 {
-    let about = number(t, trail)?;
-    let next = walk(NUMBERS_TRIED, t, about, trail)?;
-    new_moon::<E>(next, trail)
+    let course = PhaseCourse::<E>::usual();
+    moon_from_by(&course, t, trail)
 }

@@ -8,7 +8,7 @@ use Rattle.moon_core.proofs.Openings.{late_failure}
 use Rattle.std.proofs.Common.{arith, ◌+◌, ◌-◌, ◌*◌, ◌^◌}
 use Rattle.angle_search.proofs.Measured.{moment_wider}
 use Rattle.moon_core.proofs.QuarterWidths.{back_within, passage_measured}
-use Rattle.moon_core.proofs.quarters.phase_before.Goals as goal
+use Rattle.moon_core.proofs.quarters.phase_before_by.Goals as goal
 
 pub returns-clause-leads : goal.returns-clause-leads
 unfolding phase_before_of

@@ -2,7 +2,7 @@ use Rattle.std.proofs.Common.{arith, SFits, w64}
 use Rattle.std.proofs.lemmas.Int.{ints, to_z-of_z}
 use Rattle.std.proofs.lemmas.Result.{err_from_is_err_and}
 use Rattle.moon_core.proofs.Measured.{late_moment}
-use Rattle.moon_core.proofs.walks.moon_from.Goals as goal
+use Rattle.moon_core.proofs.walks.moon_from_by.Goals as goal
 
 pub returns-in_err-about-clause-recent : goal.returns-in_err-about-clause-recent
 returns-in_err-about-clause-recent g c = λ v e b h.

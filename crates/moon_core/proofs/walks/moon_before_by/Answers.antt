@@ -4,7 +4,7 @@ use Rattle.std.proofs.lemmas.Result.{err_from_is_err_and}
 use Rattle.book_model.specs.sky.Phases.{moon_before_of}
 use Rattle.book_model.proofs.Leads.{leads_bind_exact}
 use Rattle.moon_core.proofs.Measured.{late_moment}
-use Rattle.moon_core.proofs.walks.moon_before.Goals as goal
+use Rattle.moon_core.proofs.walks.moon_before_by.Goals as goal
 
 pub returns-clause-leads : goal.returns-clause-leads
 unfolding moon_before_of

@@ -1,0 +1,203 @@
+//! The course of the moon over a stretch of days: what it is ahead of its mean longitude by all but the greatest of its terms, as wide
+//! as that may be at one of them. The longitude at a moment of the stretch takes the greatest terms of the moment, and the others of
+//! the course.
+ghost use Rattle.std.specs.Prelude.{◌≡◌, ◌≤◌, Ok, IfOk, IsTrue};
+ghost use Rattle.exact_math.specs.Interval.{◌⊆◌};
+ghost use Rattle.book_model.specs.numbers.Depth.{DEPTH};
+ghost use Rattle.book_model.specs.numbers.Expressions.{Expression, World};
+ghost use Rattle.book_model.specs.numbers.Relations.{Within};
+ghost use Rattle.book_model.specs.programs.Calls.{Follows1};
+ghost use Rattle.book_model.specs.sky.Moon.{LunarAngles, lunar_angles_of, longitude_terms_of, inequalities_of, moon_longitude_of, moon_of};
+ghost use Rattle.moon_core.specs.Angles.{HoldAngles};
+ghost use Rattle.moon_core.specs.Courses.{greatest_terms_of, other_terms_of};
+ghost use Rattle.sun_core.specs.Daily.{in_centuries};
+
+use crate::angles::{Angles, angles_at, daily_quartic};
+use crate::longitude::flattening;
+use book_model::{
+    DAY_IN_CENTURIES, ELONGATION, Fail, JUPITER_WAVE, MILLIONTH, MOON_ANOMALY, MOON_LONGITUDE,
+    MOON_TERMS, MoonTerm, NOON_2000, Site, VENUS_WAVE,
+};
+use encl_core::{Enclosure, Trail, lies_within, sum_of_terms, wrap_step};
+use std::marker::Model;
+use sun_core::{nutation, sine_wave};
+use time_scales::dynamical;
+
+/// How many terms, the first of the table, are the greatest: tried as the sun's.
+pub(crate) const GREATEST_TERMS: usize = 4;
+
+/// The days of the years 1799 to 2050, counted from noon of 1 January 2000: every day of which a fact asks, and more than a month
+/// before and after.
+const FIRST_USUAL_DAY: i64 = -73_300;
+
+const LAST_USUAL_DAY: i64 = 18_600;
+
+/// The sum of the greatest terms, in millionths of a degree.
+fn greatest_terms<E: Enclosure>(angles: Angles<E>) -> E
+    ensures holds { (w : World) (x : Expression) → DEPTH ≤ w.depth
+        → HoldAngles E.shown w (lunar_angles_of (in_centuries x)) angles
+        → Within E.shown w (greatest_terms_of x) result }
+{
+    sum_of_terms::<Angles<E>, E, MoonTerm>(&MOON_TERMS[..GREATEST_TERMS], angles)
+}
+
+/// The sum of the other terms, in millionths of a degree.
+fn other_terms<E: Enclosure>(angles: Angles<E>) -> E
+    ensures holds { (w : World) (x : Expression) → DEPTH ≤ w.depth
+        → HoldAngles E.shown w (lunar_angles_of (in_centuries x)) angles
+        → Within E.shown w (other_terms_of x) result }
+{
+    sum_of_terms::<Angles<E>, E, MoonTerm>(&MOON_TERMS[GREATEST_TERMS..], angles)
+}
+
+/// Angles of which the two by which the greatest terms turn may be any. The others stay: a row multiplies an angle that it doesn't
+/// take by 0, and of an angle that may be any nothing is known then either.
+fn with_any<E: Enclosure>(angles: Angles<E>) -> Angles<E>
+    ensures holds { (w : World) (a : LunarAngles) → HoldAngles E.shown w a angles
+        → HoldAngles E.shown w a result }
+{
+    Angles {
+        elongation: E::whole(),
+        sun_anomaly: angles.sun_anomaly,
+        moon_anomaly: E::whole(),
+        latitude_argument: angles.latitude_argument,
+        eccentricity: angles.eccentricity,
+    }
+}
+
+/// The course of the moon over a stretch of days, counted from noon of 1 January 2000 in dynamical time. Contracts see the days.
+#[derive(Drop)]
+pub(crate) struct MoonCourse<E: Enclosure> {
+    days: E,
+    angles: Angles<E>,
+    terms: E,
+    venus: E,
+    jupiter: E,
+    flattening: E,
+    nutation: E,
+}
+
+impl<E: Enclosure> Model for MoonCourse<E> {
+    ghost use Rattle.moon_core.specs.Courses.{IsMoonCourse};
+
+    ghost Value = { E };
+
+    ghost view = { λ s. s.days };
+
+    ghost invariant = { λ s. IsMoonCourse E.shown s.days s.angles s.terms s.venus s.jupiter
+        s.flattening s.nutation };
+}
+
+impl<E: Enclosure> MoonCourse<E> {
+    /// The course over days, and these in centuries, by angles that hold there.
+    fn by(days: E, c: E, angles: Angles<E>) -> Self
+        requires centuries { (w : World) (x : Expression) → Within E.shown w x days
+            → Within E.shown w (in_centuries x) c }
+        requires angles { (w : World) (x : Expression) → Within E.shown w x days
+            → HoldAngles E.shown w (lunar_angles_of (in_centuries x)) angles }
+        ensures days { result ≡ days }
+    {
+        MoonCourse {
+            days,
+            angles,
+            terms: other_terms(angles),
+            venus: sine_wave(&VENUS_WAVE, days),
+            jupiter: sine_wave(&JUPITER_WAVE, days),
+            flattening: flattening(days, c),
+            nutation: nutation(c),
+        }
+    }
+
+    /// The course over days.
+    pub(crate) fn of(days: E) -> Self
+        ensures days { result ≡ days }
+    {
+        let c = days.mul_frac(DAY_IN_CENTURIES);
+        MoonCourse::<E>::by(days, c, angles_at(days, c))
+    }
+
+    /// The course over the days of the years 1799 to 2050, at which its terms come to their whole size.
+    pub(crate) fn usual() -> Self {
+        let days = E::from_int(FIRST_USUAL_DAY).hull(E::from_int(LAST_USUAL_DAY));
+        let c = days.mul_frac(DAY_IN_CENTURIES);
+        MoonCourse::<E>::by(days, c, with_any(angles_at(days, c)))
+    }
+
+    /// Whether days lie within those of the course.
+    fn covers(&self, days: E) -> bool
+        ensures there { IsTrue result → E.shown days ⊆ E.shown self.now }
+    {
+        lies_within(days, self.days)
+    }
+
+    /// The angles by days of the course: those by which the greatest terms turn at these days, the others of the course.
+    fn angles_on(&self, days: E, c: E) -> Angles<E>
+        requires there { E.shown days ⊆ E.shown self.now }
+        ensures holds { (w : World) (x : Expression) → Within E.shown w x days
+            → Within E.shown w (in_centuries x) c → HoldAngles E.shown w
+            (lunar_angles_of (in_centuries x)) result }
+    {
+        Angles {
+            elongation: daily_quartic(&ELONGATION, days, c),
+            sun_anomaly: self.angles.sun_anomaly,
+            moon_anomaly: daily_quartic(&MOON_ANOMALY, days, c),
+            latitude_argument: self.angles.latitude_argument,
+            eccentricity: self.angles.eccentricity,
+        }
+    }
+
+    /// The sum of the longitude's terms by days of the course, in millionths of a degree.
+    fn terms_on(&self, days: E, c: E) -> E
+        requires there { E.shown days ⊆ E.shown self.now }
+        ensures holds { (w : World) (x : Expression) → Within E.shown w x days
+            → Within E.shown w (in_centuries x) c → Within E.shown w
+            (longitude_terms_of (in_centuries x)) result }
+    {
+        greatest_terms(self.angles_on(days, c)).add(self.terms)
+    }
+
+    /// What the moon is ahead of its mean longitude by days of the course, in millionths of a degree.
+    fn inequalities_on(&self, days: E, c: E) -> E
+        requires there { E.shown days ⊆ E.shown self.now }
+        ensures holds { (w : World) (x : Expression) → Within E.shown w x days
+            → Within E.shown w (in_centuries x) c → Within E.shown w
+            (inequalities_of (in_centuries x)) result }
+    {
+        self.terms_on(days, c)
+            .add(self.venus)
+            .add(self.jupiter)
+            .add(self.flattening)
+    }
+
+    /// The longitude of the moon by days of the course, and these in centuries; not reduced.
+    fn longitude_on(&self, days: E, c: E) -> E
+        requires there { E.shown days ⊆ E.shown self.now }
+        ensures holds { (w : World) (x : Expression) → Within E.shown w x days
+            → Within E.shown w (in_centuries x) c → Within E.shown w
+            (moon_longitude_of (in_centuries x)) result }
+    {
+        daily_quartic(&MOON_LONGITUDE, days, c)
+            .add(self.inequalities_on(days, c).mul_frac(MILLIONTH))
+            .add(self.nutation)
+    }
+}
+
+/// The apparent longitude of the moon at a moment of universal time by a course, in degrees from 0 up to 360, as wide as it may be
+/// over the stretch of the course. Where it answers it has made the tests of `moon`. A failure says nothing of `moon`: it is void at
+/// `moon-wrap` where the moment isn't one of the course.
+pub(crate) fn moon_by<E: Enclosure>(
+    course: &MoonCourse<E>,
+    t: E,
+    trail: &mut Trail,
+) -> Result<E, Fail>
+    ensures leads { IfOk result (λ m. Follows1 E.shown moon_of t trail.old.count trail.new.count
+        (Ok m)) }
+{
+    let moment = dynamical(t, trail)?;
+    let days = moment.sub(E::from_frac(NOON_2000));
+    if !course.covers(days) {
+        return Err(Fail::Void(Site::MoonWrap));
+    }
+    let c = days.mul_frac(DAY_IN_CENTURIES);
+    wrap_step(course.longitude_on(days, c), 360, Site::MoonWrap, trail)
+}

@@ -1,0 +1,113 @@
+//! The number of the new moon before a moment, by the phase of the moon there.
+//!
+//! It is rounded from months that lie within a 50th of a whole number, so a phase by a course over all usual days tells it mostly.
+//! Where that leaves a test open, as near a new moon, its tests are taken back, and the phase at the moment tells it.
+ghost use Rattle.book_model.specs.programs.Calls.{Decides1, Decides2};
+ghost use Rattle.book_model.specs.programs.Widths.{IsAbout, IsClose, IsMoment, IsUpTo};
+ghost use Rattle.std.specs.Prelude.{◌≡◌, ℕ, ◌≤◌, ◌+◌, ◌*◌, ◌/◌, ◌^◌, pos, negsuc, ◌≤ℤ◌, Ok, IfOk, IfErr, IfSome, IsNone};
+ghost use Rattle.book_model.specs.sky.Phases as spec;
+ghost use Rattle.moon_core.specs.Courses.{number_by, number_of_phase as number_of_phase_of};
+ghost use Rattle.moon_core.specs.Widths.{Closes1, IsLate};
+ghost use Rattle.width_laws.specs.declared.table.TheConstants.{PHASE};
+ghost use Rattle.width_laws.specs.Table.{greatest_of};
+
+use crate::phase_courses::{PhaseCourse, phase_by};
+use crate::phases::{months_since, nearest_moon, phase};
+use book_model::{DEGREE_IN_MONTHS, Fail};
+use encl_core::{Enclosure, Trail};
+
+/// The whole number that is nearest to so many months less those of a phase: one test.
+#[tactic(auto, unfolding(crate::specs::Courses::number_of_phase))]
+fn number_of_phase<E: Enclosure>(months: E, degrees: E, trail: &mut Trail) -> Result<i64, Fail>
+    ensures leads { Decides2 E.shown number_of_phase_of months degrees trail.old.count
+        trail.new.count result }
+    ensures close { (v : ℕ) → E.BITS ≡ 56 → v ≤ 3 * 2 ^ 37
+        → IsAbout (2 ^ 54) (v / 29 + 2 ^ 26) (E.shown months)
+        → IsUpTo 360 (greatest_of PHASE v) (E.shown degrees) → IfErr result IsClose }
+{
+    nearest_moon(months.sub(degrees.mul_frac(DEGREE_IN_MONTHS)), trail)
+}
+
+/// The number by the months since the new moon of number 0 and by the phase at the moment itself: eleven tests at most.
+#[tactic(auto, using(book_model::proofs::Leads::leading), unfolding(crate::specs::Courses::number_by))]
+fn number_at<E: Enclosure>(months: E, t: E, trail: &mut Trail) -> Result<i64, Fail>
+    ensures leads { Decides2 E.shown number_by months t trail.old.count trail.new.count result }
+    ensures close { (v : ℕ) → E.BITS ≡ 56 → v ≤ 3 * 2 ^ 37
+        → IsAbout (2 ^ 54) (v / 29 + 2 ^ 26) (E.shown months) → IsMoment v (E.shown t)
+        → IfErr result IsClose }
+{
+    let degrees = phase(t, trail)?;
+    number_of_phase(months, degrees, trail)
+}
+
+/// The same by a course. Where it answers it has made the tests of `number_at`; a failure says nothing.
+fn number_near<E: Enclosure>(
+    course: &PhaseCourse<E>,
+    months: E,
+    t: E,
+    trail: &mut Trail,
+) -> Result<i64, Fail>
+    ensures leads { IfOk result (λ n. Decides2 E.shown number_by months t trail.old.count
+        trail.new.count (Ok n)) }
+{
+    let degrees = phase_by(course, t, trail)?;
+    number_of_phase(months, degrees, trail)
+}
+
+/// The same, as a try: where it gives none, no test has been made.
+fn number_tried<E: Enclosure>(
+    course: &PhaseCourse<E>,
+    months: E,
+    t: E,
+    trail: &mut Trail,
+) -> Option<i64>
+    ensures leads { IfSome result (λ n. Decides2 E.shown number_by months t trail.old.count
+        trail.new.count (Ok n)) }
+    ensures back { IsNone result → trail.new.count ≡ trail.old.count }
+{
+    let before = trail.count();
+    match number_near(course, months, t, trail) {
+        Ok(number) => Some(number),
+        Err(_) => {
+            trail.back_to(before);
+            None
+        }
+    }
+}
+
+/// The number by the months since the new moon of number 0: by a course where that decides it, and else by the phase at the moment.
+fn number_after<E: Enclosure>(
+    course: &PhaseCourse<E>,
+    months: E,
+    t: E,
+    trail: &mut Trail,
+) -> Result<i64, Fail>
+    ensures leads { Decides2 E.shown number_by months t trail.old.count trail.new.count result }
+    ensures close { (v : ℕ) → E.BITS ≡ 56 → v ≤ 3 * 2 ^ 37
+        → IsAbout (2 ^ 54) (v / 29 + 2 ^ 26) (E.shown months) → IsMoment v (E.shown t)
+        → IfErr result IsClose }
+{
+    match number_tried(course, months, t, trail) {
+        Some(number) => Ok(number),
+        None => number_at(months, t, trail),
+    }
+}
+
+/// The number of the last new moon before a moment, or of one next to it, which lies within 40,000 of 0: twelve tests at most.
+#[tactic(auto, using(book_model::proofs::Leads::leading), unfolding(book_model::specs::sky::Phases::number_of_moon, crate::specs::Courses::number_by, crate::specs::Courses::number_of_phase))]
+pub(crate) fn number<E: Enclosure>(
+    course: &PhaseCourse<E>,
+    t: E,
+    trail: &mut Trail,
+) -> Result<i64, Fail>
+    ensures leads { Decides1 E.shown spec.number_of_moon t trail.old.count trail.new.count result }
+    ensures low { IfOk result (λ n. negsuc 39999 ≤ℤ n) }
+    ensures high { IfOk result (λ n. n ≤ℤ pos 40000) }
+    ensures from { IfOk result (λ n. negsuc 6199 ≤ℤ n) }
+    ensures to { IfOk result (λ n. n ≤ℤ pos 25500) }
+    ensures late { (v : ℕ) → IsLate v (E.shown t) → IfOk result (λ n. pos 21900 ≤ℤ n) }
+    ensures close { Closes1 E.BITS E.shown (3 * 2 ^ 37) IsMoment t result }
+{
+    let months = months_since(0, t, trail)?;
+    number_after(course, months, t, trail)
+}

@@ -1,0 +1,67 @@
+//! The phase of the moon over a stretch of time, by the courses of the moon and the sun.
+ghost use Rattle.std.specs.Prelude.{◌≡◌, Ok, IfOk};
+ghost use Rattle.book_model.specs.numbers.Ranges.{IsInTable};
+ghost use Rattle.book_model.specs.programs.Calls.{Follows1};
+ghost use Rattle.book_model.specs.sky.Phases.{elongation_of, phase_of};
+
+use crate::courses::{MoonCourse, moon_by};
+use crate::phases::{corrected, turned};
+use book_model::Fail;
+use encl_core::{Enclosure, Trail};
+use sun_core::{SunCourse, sun_by};
+
+/// The courses of the moon and of the sun over a stretch of days.
+#[derive(Drop)]
+pub struct PhaseCourse<E: Enclosure> {
+    moon: MoonCourse<E>,
+    sun: SunCourse<E>,
+}
+
+impl<E: Enclosure> PhaseCourse<E> {
+    /// The courses over days, counted from noon of 1 January 2000 in dynamical time.
+    pub(crate) fn of(days: E) -> Self {
+        PhaseCourse {
+            moon: MoonCourse::<E>::of(days),
+            sun: SunCourse::<E>::of(days),
+        }
+    }
+
+    /// The courses over the days of the years 1799 to 2050. A phase by them is many degrees wide, and still tells the number of the
+    /// new moon before a moment, unless the moment is near one: that is rounded from what lies within a 50th of a whole number.
+    pub fn usual() -> Self {
+        PhaseCourse {
+            moon: MoonCourse::<E>::usual(),
+            sun: SunCourse::<E>::always(),
+        }
+    }
+
+    /// The course of the sun.
+    pub fn sun(&self) -> &SunCourse<E> {
+        &self.sun
+    }
+}
+
+/// The longitude of the moon less that of the sun, from 0 up to 360 degrees, by their courses.
+fn elongation_by<E: Enclosure>(course: &PhaseCourse<E>, t: E, trail: &mut Trail) -> Result<E, Fail>
+    ensures leads { IfOk result (λ e. Follows1 E.shown elongation_of t trail.old.count
+        trail.new.count (Ok e)) }
+    ensures in_table { IfOk result (λ e. IsInTable (E.shown t)) }
+{
+    let there = moon_by(&course.moon, t, trail)?;
+    let longitude = sun_by(&course.sun, t, trail)?;
+    turned(there.sub(longitude), trail)
+}
+
+/// The phase of the moon at a moment of universal time by a course, in degrees, as wide as it may be over its stretch. Where it
+/// answers it has made the tests of `phase`. A failure says nothing of `phase`: it is void where the moment isn't one of the course.
+pub(crate) fn phase_by<E: Enclosure>(
+    course: &PhaseCourse<E>,
+    t: E,
+    trail: &mut Trail,
+) -> Result<E, Fail>
+    ensures leads { IfOk result (λ p. Follows1 E.shown phase_of t trail.old.count trail.new.count
+        (Ok p)) }
+{
+    let by_longitudes = elongation_by(course, t, trail)?;
+    corrected(by_longitudes, t, trail)
+}
