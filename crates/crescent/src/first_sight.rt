@@ -14,7 +14,7 @@ use crate::criterion::visible_on;
 use crate::evening::Evenings;
 use book_model::{Fail, Location};
 use encl_core::{DayTest, Enclosure, Trail, first_day};
-use moon_core::phase_day;
+use moon_core::{PhaseCourse, phase_day};
 
 /// The phase of a new moon, in degrees.
 const NEW_MOON: i64 = 0;
@@ -119,11 +119,30 @@ fn sight_after<E: Enclosure>(
     first_sight(evenings, from, trail)
 }
 
+/// `phasis`, where the courses of the moon and the sun are known over the usual days.
+#[tactic(auto, using(book_model::proofs::Leads::leading), unfolding(book_model::specs::sky::Crescent::phasis_of))]
+pub fn phasis_by<E: Enclosure>(
+    course: &PhaseCourse<E>,
+    location: &Location,
+    day: i64,
+    trail: &mut Trail,
+) -> Result<i64, Fail>
+    requires day { IsFactDay day }
+    ensures leads { Decides (spec.phasis_of location.now day) trail.old.count trail.new.count result }
+    ensures value { IfOk result IsFactValue }
+    ensures early { trail.old.count ≡ 0 → 36 ≤ E.BITS → E.BITS ≤ 56 → IsValueDay day
+        → IfErr result IsNoEarlyYear }
+    ensures close { E.BITS ≡ 56 → IsNarrowLocation location.now → IfErr result IsClose }
+{
+    let new_moon = phase_day::<E>(course, NEW_MOON, day, trail)?;
+    let evenings = Evenings::<E>::new(location);
+    sight_after(&evenings, day, new_moon, trail)
+}
+
 /// The last day (R.D.) before a day, or the day itself, on whose evening before the crescent was first seen at a location by
 /// Shaukat's criterion (Reingold and Dershowitz, Calendrical Calculations, chapter 14): sought from the day of the last new moon,
 /// or, where its crescent isn't seen yet, from 30 days before that. At most 7,942 tests. It is void at `search` where there is no
 /// such day, and where `phase_day` or `visible` is. Its first and third tests, of the year of the day itself, are never open.
-#[tactic(auto, using(book_model::proofs::Leads::leading), unfolding(book_model::specs::sky::Crescent::phasis_of))]
 pub fn phasis<E: Enclosure>(location: &Location, day: i64, trail: &mut Trail) -> Result<i64, Fail>
     requires day { IsFactDay day }
     ensures leads { Decides (spec.phasis_of location.now day) trail.old.count trail.new.count result }
@@ -132,7 +151,6 @@ pub fn phasis<E: Enclosure>(location: &Location, day: i64, trail: &mut Trail) ->
         → IfErr result IsNoEarlyYear }
     ensures close { E.BITS ≡ 56 → IsNarrowLocation location.now → IfErr result IsClose }
 {
-    let new_moon = phase_day::<E>(NEW_MOON, day, trail)?;
-    let evenings = Evenings::<E>::new(location);
-    sight_after(&evenings, day, new_moon, trail)
+    let course = PhaseCourse::<E>::usual();
+    phasis_by(&course, location, day, trail)
 }

@@ -3,7 +3,7 @@
 //!
 //! - `arc_cosine`, `altitude_sine`: the moon's arc of light and its altitude;
 //! - `visible`: the criterion, by the moon's phase, its arc of light and its altitude at dusk;
-//! - `phasis`: the search for the day of the first sight.
+//! - `phasis`: the search for the day of the first sight; `phasis_by`: the same by courses.
 #![tactic(auto)]
 
 mod altitude;
@@ -13,4 +13,4 @@ mod first_sight;
 
 pub use altitude::{altitude_sine, arc_cosine};
 pub use criterion::visible;
-pub use first_sight::phasis;
+pub use first_sight::{phasis, phasis_by};

@@ -2,6 +2,7 @@ pub mod Rightness
 pub mod WidthLemmas
 pub mod DayLemmas
 pub mod NewYears
+pub mod Springs
 pub mod Winters
 pub mod Evaluations
 pub mod Nearness

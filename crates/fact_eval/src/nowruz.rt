@@ -9,7 +9,7 @@ ghost use Rattle.book_model.specs.sky.Noon.{noon_of};
 use crate::spring::{DayMoment, spring_day};
 use book_model::Fail;
 use encl_core::{Enclosure, Trail};
-use sun_core::noon;
+use sun_core::{SunCourse, noon};
 
 /// True noon of a day at Tehran.
 #[derive(Drop)]
@@ -26,11 +26,15 @@ impl<E: Enclosure> DayMoment<E> for NoonAtTehran {
 
 /// The first day (R.D.) of the Persian year in which a day falls, by true noon at Tehran. It is void at `search` where there is
 /// none.
-pub(crate) fn nowruz<E: Enclosure>(day: i64, trail: &mut Trail) -> Result<i64, Fail>
+pub(crate) fn nowruz<E: Enclosure>(
+    course: &SunCourse<E>,
+    day: i64,
+    trail: &mut Trail,
+) -> Result<i64, Fail>
     requires day { IsValueDay day }
     ensures leads { Decides (nowruz_of day) trail.old.count trail.new.count result }
     ensures value { IfOk result IsFactValue }
     ensures close { E.BITS ≡ 56 → IfErr result IsClose }
 {
-    spring_day::<E, NoonAtTehran>(NoonAtTehran, day, trail)
+    spring_day::<E, NoonAtTehran>(NoonAtTehran, course, day, trail)
 }

@@ -11,11 +11,17 @@ ghost use Rattle.time_scales.specs.Steps.{IsNoEarlyYear};
 
 use book_model::{Fail, Place, Site};
 use encl_core::{Enclosure, Trail};
+use moon_core::PhaseCourse;
 
 /// The day (R.D.) in universal time on which the moon was last at a phase, in degrees, before a day begins or as it begins: 845
 /// tests at most.
 #[tactic(auto, using(crate::proofs::Rightness::phase_day_is_value))]
-pub(crate) fn phase_day<E: Enclosure>(phase: i64, day: i64, trail: &mut Trail) -> Result<i64, Fail>
+pub(crate) fn phase_day<E: Enclosure>(
+    course: &PhaseCourse<E>,
+    phase: i64,
+    day: i64,
+    trail: &mut Trail,
+) -> Result<i64, Fail>
     requires day { IsValueDay day }
     ensures leads { Decides (phase_day_of phase day) trail.old.count trail.new.count result }
     ensures value { IfOk result IsFactValue }
@@ -23,13 +29,18 @@ pub(crate) fn phase_day<E: Enclosure>(phase: i64, day: i64, trail: &mut Trail) -
     ensures close { E.BITS ≡ 56 → negsuc 39999999 ≤ℤ phase → phase ≤ℤ pos 40000000
         → IfErr result IsClose }
 {
-    moon_core::phase_day::<E>(phase, day, trail)
+    moon_core::phase_day::<E>(course, phase, day, trail)
 }
 
 /// The last day (R.D.) before a day, or the day itself, on whose evening before the crescent was first seen at a place: 7,942
 /// tests at most. It is void at `year` where the place has no location.
 #[tactic(auto, using(book_model::proofs::Leads::leading), unfolding(book_model::specs::sky::Kinds::located))]
-pub(crate) fn phasis<E: Enclosure>(place: Place, day: i64, trail: &mut Trail) -> Result<i64, Fail>
+pub(crate) fn phasis<E: Enclosure>(
+    course: &PhaseCourse<E>,
+    place: Place,
+    day: i64,
+    trail: &mut Trail,
+) -> Result<i64, Fail>
     requires day { IsValueDay day }
     ensures leads { Decides (located (location_of place) (λ l. phasis_of l day)) trail.old.count
         trail.new.count result }
@@ -38,7 +49,7 @@ pub(crate) fn phasis<E: Enclosure>(place: Place, day: i64, trail: &mut Trail) ->
     ensures close { E.BITS ≡ 56 → IfErr result IsClose }
 {
     match place.location() {
-        Some(location) => crescent::phasis::<E>(&location, day, trail),
+        Some(location) => crescent::phasis_by::<E>(course, &location, day, trail),
         None => Err(Fail::Void(Site::Year)),
     }
 }

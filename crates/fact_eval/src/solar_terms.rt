@@ -10,7 +10,7 @@ use crate::beijing::{day_in_beijing, longitude_at_midnight};
 use book_model::{DEGREE_IN_TERMS, Fail, Site};
 use calendar_math::modulo;
 use encl_core::{Enclosure, Trail, floor_step};
-use sun_core::sun_from;
+use sun_core::{SunCourse, sun_from_by};
 use time_scales::midnight;
 
 /// How many degrees the sun moves from one major solar term to the next, and from one minor term to the next.
@@ -46,20 +46,30 @@ fn term_longitude(first: i64, spans: i64) -> i64
 
 /// The day (R.D.) in Beijing on which the sun is next at a longitude, in degrees, once a day has begun there: 326 tests at most.
 #[tactic(auto, using(book_model::proofs::Leads::leading), unfolding(book_model::specs::sky::Kinds::longitude_day_of))]
-fn longitude_day<E: Enclosure>(longitude: i64, day: i64, trail: &mut Trail) -> Result<i64, Fail>
+fn longitude_day<E: Enclosure>(
+    course: &SunCourse<E>,
+    longitude: i64,
+    day: i64,
+    trail: &mut Trail,
+) -> Result<i64, Fail>
     ensures leads { Decides (spec.longitude_day_of longitude day) trail.old.count trail.new.count
         result }
     ensures close { E.BITS ≡ 56 → negsuc 39999999 ≤ℤ longitude → longitude ≤ℤ pos 40000000
         → IsValueDay day → IfErr result IsClose }
 {
-    let moment = sun_from(E::from_int(longitude), midnight::<E>(day), trail)?;
+    let moment = sun_from_by(course, E::from_int(longitude), midnight::<E>(day), trail)?;
     day_in_beijing(moment, trail)
 }
 
 /// The day (R.D.) in Beijing on which the sun comes to the first of the longitudes of the terms once a day has begun there: those 30
 /// degrees apart, the least of which is `first`, 0 for the major terms and 15 for the minor. 329 tests at most.
 #[tactic(auto, using(book_model::proofs::Leads::leading), unfolding(book_model::specs::sky::Kinds::term_day_of))]
-pub(crate) fn term_day<E: Enclosure>(first: i64, day: i64, trail: &mut Trail) -> Result<i64, Fail>
+pub(crate) fn term_day<E: Enclosure>(
+    course: &SunCourse<E>,
+    first: i64,
+    day: i64,
+    trail: &mut Trail,
+) -> Result<i64, Fail>
     requires from { pos 0 ≤ℤ first }
     requires to { first ≤ℤ pos 15 }
     requires day { IsValueDay day }
@@ -68,5 +78,5 @@ pub(crate) fn term_day<E: Enclosure>(first: i64, day: i64, trail: &mut Trail) ->
     ensures close { E.BITS ≡ 56 → IfErr result IsClose }
 {
     let spans = spans_short::<E>(first, day, trail)?;
-    longitude_day::<E>(term_longitude(first, spans), day, trail)
+    longitude_day::<E>(course, term_longitude(first, spans), day, trail)
 }

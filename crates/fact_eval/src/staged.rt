@@ -22,39 +22,60 @@ use book_model::{FIRST_DAY, Fact, Fail, Kind, LAST_DAY, Place, Site, Undecided};
 use encl_core::{Coarse, Enclosure, Trail};
 use fix_fine::Fine;
 use hindu_sky::{
-    calendar_year, sankranti, sign_after, sign_at_sunset, sign_before, solar_year, tithi,
+    calendar_year, sankranti_by, sign_after_by, sign_at_sunset_by, sign_before_by, solar_year,
+    tithi,
 };
+use moon_core::PhaseCourse;
 use new_moons::new_moon;
 use oracle_core::{Answer, Evaluator};
 
-/// Evaluates each fact over coarse enclosures, and over fine ones where these leave a test open. What most facts of the moon
-/// ask it has evaluated once, over both: the new moon of number 0.
-#[derive(Debug, PartialEq, Drop)]
+/// What is evaluated once, before any fact, over enclosures of one kind, and serves every fact: a trail that has made no test and
+/// keeps the new moon of number 0, and the courses of the moon and the sun over the usual days.
+#[derive(Drop)]
+struct Beginning<E: Enclosure> {
+    trail: Trail,
+    course: PhaseCourse<E>,
+}
+
+impl<E: Enclosure> Beginning<E> {
+    /// What serves every fact.
+    fn new() -> Self {
+        let mut trail = Trail::new();
+        let _moment = new_moon::<E>(0, &mut trail);
+        Beginning {
+            trail,
+            course: PhaseCourse::<E>::usual(),
+        }
+    }
+}
+
+/// Evaluates each fact over coarse enclosures, and over fine ones where these leave a test open. What every fact may ask it has
+/// evaluated once, over both.
+#[derive(Drop)]
 pub struct Staged {
-    coarse: Trail,
-    fine: Trail,
+    coarse: Beginning<Coarse>,
+    fine: Beginning<Fine>,
 }
 
 impl Staged {
     /// The evaluator. It takes no memory.
     pub fn new() -> Staged {
         Staged {
-            coarse: beginning::<Coarse>(),
-            fine: beginning::<Fine>(),
+            coarse: Beginning::<Coarse>::new(),
+            fine: Beginning::<Fine>::new(),
         }
     }
 }
 
-/// The trail of a run over enclosures of one kind that has made no test, and keeps the new moon of number 0.
-fn beginning<E: Enclosure>() -> Trail {
-    let mut trail = Trail::new();
-    let _moment = new_moon::<E>(0, &mut trail);
-    trail
-}
-
 /// The value that the formula of a kind of fact gives at a place on a day (R.D.): one line for each kind.
 #[tactic(auto, using(crate::proofs::Rightness::keeping), unfolding(book_model::specs::sky::Facts::formula_of))]
-fn formula<E: Enclosure>(kind: Kind, place: Place, day: i64, trail: &mut Trail) -> Result<i64, Fail>
+fn formula<E: Enclosure>(
+    course: &PhaseCourse<E>,
+    kind: Kind,
+    place: Place,
+    day: i64,
+    trail: &mut Trail,
+) -> Result<i64, Fail>
     requires day { IsValueDay day }
     ensures leads { Decides (formula_of kind place day) trail.old.count trail.new.count result }
     ensures value { IfOk result IsFactValue }
@@ -65,26 +86,26 @@ fn formula<E: Enclosure>(kind: Kind, place: Place, day: i64, trail: &mut Trail) 
     match kind {
         Kind::Dt => dt::<E>(day, trail),
         Kind::Sun => sun_in_thousandths::<E>(day, trail),
-        Kind::Nowruz => nowruz::<E>(day, trail),
-        Kind::BahaiYear => bahai_year::<E>(day, trail),
-        Kind::Solstice => solstice::<E>(day, trail),
-        Kind::NewMoonBefore => new_moon_before::<E>(day, trail),
-        Kind::NewMoonFrom => new_moon_from::<E>(day, trail),
+        Kind::Nowruz => nowruz::<E>(course.sun(), day, trail),
+        Kind::BahaiYear => bahai_year::<E>(course.sun(), day, trail),
+        Kind::Solstice => solstice::<E>(course.sun(), day, trail),
+        Kind::NewMoonBefore => new_moon_before::<E>(course, day, trail),
+        Kind::NewMoonFrom => new_moon_from::<E>(course, day, trail),
         Kind::Major => major::<E>(day, trail),
-        Kind::MajorTerm => term_day::<E>(0, day, trail),
-        Kind::MinorTerm => term_day::<E>(15, day, trail),
-        Kind::Phasis => phasis::<E>(place, day, trail),
-        Kind::Sign => sign_at_sunset::<E>(day, trail),
+        Kind::MajorTerm => term_day::<E>(course.sun(), 0, day, trail),
+        Kind::MinorTerm => term_day::<E>(course.sun(), 15, day, trail),
+        Kind::Phasis => phasis::<E>(course, place, day, trail),
+        Kind::Sign => sign_at_sunset_by::<E>(course.sun(), day, trail),
         Kind::SolarYear => solar_year::<E>(day, trail),
-        Kind::Sankranti => sankranti::<E>(day, trail),
+        Kind::Sankranti => sankranti_by::<E>(course.sun(), day, trail),
         Kind::Tithi => tithi::<E>(day, trail),
-        Kind::SignBefore => sign_before::<E>(day, trail),
-        Kind::SignAfter => sign_after::<E>(day, trail),
+        Kind::SignBefore => sign_before_by::<E>(course, day, trail),
+        Kind::SignAfter => sign_after_by::<E>(course, day, trail),
         Kind::CalendarYear => calendar_year::<E>(day, trail),
-        Kind::NewMoon => phase_day::<E>(0, day, trail),
-        Kind::FirstQuarter => phase_day::<E>(90, day, trail),
-        Kind::FullMoon => phase_day::<E>(180, day, trail),
-        Kind::LastQuarter => phase_day::<E>(270, day, trail),
+        Kind::NewMoon => phase_day::<E>(course, 0, day, trail),
+        Kind::FirstQuarter => phase_day::<E>(course, 90, day, trail),
+        Kind::FullMoon => phase_day::<E>(course, 180, day, trail),
+        Kind::LastQuarter => phase_day::<E>(course, 270, day, trail),
         Kind::Sunset => sunset_in_minutes::<E>(place, day, trail),
     }
 }
@@ -97,9 +118,12 @@ fn may_have_value(day: i64) -> bool
     FIRST_DAY <= day && day <= LAST_DAY
 }
 
-/// The value of a fact by its formula over enclosures of one kind. It fails where a test is open, and over enclosures of the scale
-/// 2⁻⁵⁶ the ends of that test are close then; or where the formula is void, as it is outside 1 July 1800 to 31 December 2049.
-pub fn evaluate<E: Enclosure>(fact: Fact, trail: &mut Trail) -> Result<i64, Fail>
+/// `evaluate`, where the courses of the moon and the sun are known over the usual days.
+fn evaluate_by<E: Enclosure>(
+    course: &PhaseCourse<E>,
+    fact: Fact,
+    trail: &mut Trail,
+) -> Result<i64, Fail>
     ensures leads { Decides (program_of fact) trail.old.count trail.new.count result }
     ensures value { IfOk result IsFactValue }
     ensures early { trail.old.count ≡ 0 → 36 ≤ E.BITS → E.BITS ≤ 56
@@ -110,7 +134,20 @@ pub fn evaluate<E: Enclosure>(fact: Fact, trail: &mut Trail) -> Result<i64, Fail
     if !may_have_value(day) {
         return Err(Fail::Void(Site::Year));
     }
-    formula::<E>(fact.kind(), fact.place(), day, trail)
+    formula::<E>(course, fact.kind(), fact.place(), day, trail)
+}
+
+/// The value of a fact by its formula over enclosures of one kind. It fails where a test is open, and over enclosures of the scale
+/// 2⁻⁵⁶ the ends of that test are close then; or where the formula is void, as it is outside 1 July 1800 to 31 December 2049.
+pub fn evaluate<E: Enclosure>(fact: Fact, trail: &mut Trail) -> Result<i64, Fail>
+    ensures leads { Decides (program_of fact) trail.old.count trail.new.count result }
+    ensures value { IfOk result IsFactValue }
+    ensures early { trail.old.count ≡ 0 → 36 ≤ E.BITS → E.BITS ≤ 56
+        → IfErr result (IsNoWholeDay fact.kind) }
+    ensures close { E.BITS ≡ 56 → IfErr result IsClose }
+{
+    let course = PhaseCourse::<E>::usual();
+    evaluate_by(&course, fact, trail)
 }
 
 /// The answer that a result is.
@@ -124,15 +161,15 @@ fn answer(found: Result<i64, Fail>) -> Answer
     }
 }
 
-/// The answer for a fact by enclosures of one kind, in a run that keeps what another has.
-fn answer_from<E: Enclosure>(other: &Trail, fact: Fact) -> Answer
+/// The answer for a fact by enclosures of one kind, in a run that begins with what serves every fact.
+fn answer_from<E: Enclosure>(beginning: &Beginning<E>, fact: Fact) -> Answer
     requires least { 36 ≤ E.BITS }
     requires most { E.BITS ≤ 56 }
     ensures right { IsCloseAnswer result → IsRightAnswer fact result }
     ensures close { E.BITS ≡ 56 → IsCloseAnswer result }
 {
-    let mut trail = other.anew();
-    answer(evaluate::<E>(fact, &mut trail))
+    let mut trail = beginning.trail.anew();
+    answer(evaluate_by::<E>(&beginning.course, fact, &mut trail))
 }
 
 /// The answer for a fact by enclosures of one kind, with a scale from 2⁻³⁶ to 2⁻⁵⁶. A value and a void are right, and an open
@@ -144,7 +181,7 @@ pub fn answer_over<E: Enclosure>(fact: Fact) -> Answer
     ensures right { IsCloseAnswer result → IsRightAnswer fact result }
     ensures close { E.BITS ≡ 56 → IsCloseAnswer result }
 {
-    answer_from::<E>(&Trail::new(), fact)
+    answer_from::<E>(&Beginning::<E>::new(), fact)
 }
 
 /// How far apart the ends of an open test may lie at every site, in 2⁻⁵⁶: a 2²⁴th.

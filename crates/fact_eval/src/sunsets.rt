@@ -17,6 +17,7 @@ use book_model::{Fail, HALF, HOUR, Location, MINUTES_OF_DAY, Place, Site, TEHRAN
 use encl_core::{Enclosure, Trail, floor_step};
 use rise_set::{Sunsets, sunset};
 use std::marker::Model;
+use sun_core::SunCourse;
 
 /// Sunset on a day at Tehran: the sunsets there, which share what the location asks for. Contracts see nothing of it.
 #[derive(Drop)]
@@ -54,13 +55,17 @@ impl<E: Enclosure> DayMoment<E> for SunsetAtTehran<E> {
 
 /// The first day (R.D.) of the Bahá'í year in which a day falls, by sunset at Tehran. It is void at `search` where there is none, and
 /// where a sunset is.
-pub(crate) fn bahai_year<E: Enclosure>(day: i64, trail: &mut Trail) -> Result<i64, Fail>
+pub(crate) fn bahai_year<E: Enclosure>(
+    course: &SunCourse<E>,
+    day: i64,
+    trail: &mut Trail,
+) -> Result<i64, Fail>
     requires day { IsValueDay day }
     ensures leads { Decides (bahai_year_of day) trail.old.count trail.new.count result }
     ensures value { IfOk result IsFactValue }
     ensures close { E.BITS ≡ 56 → IfErr result IsClose }
 {
-    spring_day::<E, SunsetAtTehran<E>>(SunsetAtTehran::<E>::new(), day, trail)
+    spring_day::<E, SunsetAtTehran<E>>(SunsetAtTehran::<E>::new(), course, day, trail)
 }
 
 /// A moment of universal time on a day (R.D.) as minutes of the standard time of a location after midnight.

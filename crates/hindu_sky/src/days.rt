@@ -15,13 +15,15 @@ use crate::zodiac::{hindu_year, sign, whole_degrees};
 use book_model::{DEGREE_IN_LUNAR_DAYS, Fail, Site};
 use calendar_math::modulo;
 use encl_core::{DayTest, Enclosure, Trail, first_day, floor_step};
-use moon_core::{moon_before, moon_from, phase};
+use moon_core::{PhaseCourse, moon_before_by, moon_from_by, phase};
 use rise_set::{HinduSunsets, hsunset, sunrise};
+use sun_core::SunCourse;
 
 /// The sign of the zodiac in which the sun stands at sunset on a day (R.D.): 137 tests at most, those of `sign_at_sunset`.
 #[tactic(auto, using(book_model::proofs::Leads::leading), unfolding(book_model::specs::sky::HinduFacts::sign_at_sunset_of))]
 fn sign_on<E: Enclosure>(
     sunsets: &HinduSunsets<E>,
+    course: &SunCourse<E>,
     day: i64,
     trail: &mut Trail,
 ) -> Result<i64, Fail>
@@ -30,7 +32,22 @@ fn sign_on<E: Enclosure>(
     ensures close { pos 620600 ≤ℤ day → day ≤ℤ pos 40000000 → E.BITS ≡ 56 → IfErr result IsClose }
 {
     let t = sunsets.on(day, trail)?;
-    sign(t, trail)
+    sign(course, t, trail)
+}
+
+/// `sign_at_sunset`, where the course of the sun is known over all days.
+#[tactic(auto, using(book_model::proofs::Leads::leading))]
+pub fn sign_at_sunset_by<E: Enclosure>(
+    course: &SunCourse<E>,
+    day: i64,
+    trail: &mut Trail,
+) -> Result<i64, Fail>
+    ensures leads { Decides (spec.sign_at_sunset_of day) trail.old.count trail.new.count result }
+    ensures value { IfOk result IsFactValue }
+    ensures close { pos 620600 ≤ℤ day → day ≤ℤ pos 40000000 → E.BITS ≡ 56 → IfErr result IsClose }
+{
+    let sunsets = HinduSunsets::<E>::new();
+    sign_on(&sunsets, course, day, trail)
 }
 
 /// The sign of the zodiac, from 1 to 12, in which the sun stands at sunset on a day (R.D.) at Ujjain (Reingold and
@@ -41,14 +58,13 @@ fn sign_on<E: Enclosure>(
 /// ```
 /// let sign = hindu_sky::sign_at_sunset::<Fine>(738_990, &mut Trail::new())?; // 1, on 14 April 2024
 /// ```
-#[tactic(auto, using(book_model::proofs::Leads::leading))]
 pub fn sign_at_sunset<E: Enclosure>(day: i64, trail: &mut Trail) -> Result<i64, Fail>
     ensures leads { Decides (spec.sign_at_sunset_of day) trail.old.count trail.new.count result }
     ensures value { IfOk result IsFactValue }
     ensures close { pos 620600 ≤ℤ day → day ≤ℤ pos 40000000 → E.BITS ≡ 56 → IfErr result IsClose }
 {
-    let sunsets = HinduSunsets::<E>::new();
-    sign_on(&sunsets, day, trail)
+    let course = SunCourse::<E>::always();
+    sign_at_sunset_by(&course, day, trail)
 }
 
 /// The year of the Kali Yuga at sunset on a day (R.D.) at Ujjain (Reingold and Dershowitz, Calendrical Calculations, chapter
@@ -79,6 +95,7 @@ fn is_sign(one: i64, other: i64) -> bool
 #[tactic(auto, using(book_model::proofs::Leads::leading), unfolding(book_model::specs::sky::HinduFacts::has_sign_at))]
 fn has_sign<E: Enclosure>(
     sunsets: &HinduSunsets<E>,
+    course: &SunCourse<E>,
     sign: i64,
     day: i64,
     trail: &mut Trail,
@@ -86,24 +103,25 @@ fn has_sign<E: Enclosure>(
     ensures leads { Decides (spec.has_sign_at sign day) trail.old.count trail.new.count result }
     ensures close { pos 620600 ≤ℤ day → day ≤ℤ pos 40000000 → E.BITS ≡ 56 → IfErr result IsClose }
 {
-    let there = sign_on(sunsets, day, trail)?;
+    let there = sign_on(sunsets, course, day, trail)?;
     Ok(is_sign(there, sign))
 }
 
 /// Whether the sun stands in a sign at the sunset of a day.
 #[derive(Drop)]
-struct InSign<E: Enclosure> {
+struct InSign<'a, E: Enclosure> {
     sign: i64,
     sunsets: HinduSunsets<E>,
+    course: &'a SunCourse<E>,
 }
 
-impl<E: Enclosure> DayTest<E> for InSign<E> {
+impl<E: Enclosure> DayTest<E> for InSign<'_, E> {
     ghost test_of = { λ s d. spec.has_sign_at s.sign d };
 
     ghost near_on = { λ s d. (pos 620600 ≤ℤ d) × (d ≤ℤ pos 40000000) };
 
     fn holds(&self, day: i64, trail: &mut Trail) -> Result<bool, Fail> {
-        has_sign(&self.sunsets, self.sign, day, trail)
+        has_sign(&self.sunsets, self.course, self.sign, day, trail)
     }
 }
 
@@ -122,6 +140,7 @@ fn start(day: i64, degrees: i64) -> i64
 #[tactic(auto, using(book_model::proofs::Leads::leading))]
 fn first_in_sign<E: Enclosure>(
     sunsets: HinduSunsets<E>,
+    course: &SunCourse<E>,
     sign: i64,
     from: i64,
     trail: &mut Trail,
@@ -133,13 +152,19 @@ fn first_in_sign<E: Enclosure>(
     ensures value { IfOk result IsFactValue }
     ensures close { pos 620600 ≤ℤ from → E.BITS ≡ 56 → IfErr result IsClose }
 {
-    first_day::<E, InSign<E>>(&InSign { sign, sunsets }, from, trail)
+    let test = InSign {
+        sign,
+        sunsets,
+        course,
+    };
+    first_day::<E, InSign<E>>(&test, from, trail)
 }
 
 /// The day (R.D.) on which the sun came into the sign in which it stands at a moment.
 #[tactic(auto, using(book_model::proofs::Leads::leading), unfolding(book_model::specs::sky::HinduFacts::sign_entered_of))]
 fn sign_entered<E: Enclosure>(
     sunsets: HinduSunsets<E>,
+    course: &SunCourse<E>,
     day: i64,
     t: E,
     trail: &mut Trail,
@@ -150,9 +175,26 @@ fn sign_entered<E: Enclosure>(
     ensures value { IfOk result IsFactValue }
     ensures close { Closes1 E.BITS E.shown (2 ^ 41) IsRecent t result }
 {
-    let there = sign(t, trail)?;
+    let there = sign(course, t, trail)?;
     let degrees = whole_degrees(t, trail)?;
-    first_in_sign(sunsets, there, start(day, degrees), trail)
+    first_in_sign(sunsets, course, there, start(day, degrees), trail)
+}
+
+/// `sankranti`, where the course of the sun is known over all days.
+#[tactic(auto, using(book_model::proofs::Leads::leading), unfolding(book_model::specs::sky::HinduFacts::sankranti_of))]
+pub fn sankranti_by<E: Enclosure>(
+    course: &SunCourse<E>,
+    day: i64,
+    trail: &mut Trail,
+) -> Result<i64, Fail>
+    requires day { IsValueDay day }
+    ensures leads { Decides (spec.sankranti_of day) trail.old.count trail.new.count result }
+    ensures value { IfOk result IsFactValue }
+    ensures close { E.BITS ≡ 56 → IfErr result IsClose }
+{
+    let sunsets = HinduSunsets::<E>::new();
+    let t = sunsets.on(day, trail)?;
+    sign_entered(sunsets, course, day, t, trail)
 }
 
 /// The first day (R.D.) of the solar month in which a day falls, by whose sunset at Ujjain the sun has come into its sign
@@ -162,16 +204,14 @@ fn sign_entered<E: Enclosure>(
 /// ```
 /// let first = hindu_sky::sankranti::<Fine>(738_990, &mut Trail::new())?; // 738_990: the month begins on 14 April 2024
 /// ```
-#[tactic(auto, using(book_model::proofs::Leads::leading), unfolding(book_model::specs::sky::HinduFacts::sankranti_of))]
 pub fn sankranti<E: Enclosure>(day: i64, trail: &mut Trail) -> Result<i64, Fail>
     requires day { IsValueDay day }
     ensures leads { Decides (spec.sankranti_of day) trail.old.count trail.new.count result }
     ensures value { IfOk result IsFactValue }
     ensures close { E.BITS ≡ 56 → IfErr result IsClose }
 {
-    let sunsets = HinduSunsets::<E>::new();
-    let t = sunsets.on(day, trail)?;
-    sign_entered(sunsets, day, t, trail)
+    let course = SunCourse::<E>::always();
+    sankranti_by(&course, day, trail)
 }
 
 /// The whole lunar days that have passed of a month at a moment, from 0 to 30.
@@ -206,6 +246,23 @@ pub fn tithi<E: Enclosure>(day: i64, trail: &mut Trail) -> Result<i64, Fail>
     Ok(passed + 1)
 }
 
+/// `sign_before`, where the courses of the moon and the sun are known over the usual days.
+#[tactic(auto, using(book_model::proofs::Leads::leading), unfolding(book_model::specs::sky::HinduFacts::sign_before_of))]
+pub fn sign_before_by<E: Enclosure>(
+    course: &PhaseCourse<E>,
+    day: i64,
+    trail: &mut Trail,
+) -> Result<i64, Fail>
+    requires day { IsValueDay day }
+    ensures leads { Decides (spec.sign_before_of day) trail.old.count trail.new.count result }
+    ensures value { IfOk result IsFactValue }
+    ensures close { E.BITS ≡ 56 → IfErr result IsClose }
+{
+    let rising = sunrise::<E>(day, trail)?;
+    let t = moon_before_by(course, rising, trail)?;
+    sign(course.sun(), t, trail)
+}
+
 /// The sign in which the sun stood at the last new moon before sunrise on a day (R.D.) at Ujjain (Reingold and Dershowitz,
 /// Calendrical Calculations, chapter 20): 163 tests at most. Void as `tithi`, and at `moon-walk` where the walk to the new
 /// moon takes more than five steps.
@@ -213,16 +270,31 @@ pub fn tithi<E: Enclosure>(day: i64, trail: &mut Trail) -> Result<i64, Fail>
 /// ```
 /// let sign = hindu_sky::sign_before::<Fine>(738_990, &mut Trail::new())?; // 12, on 14 April 2024
 /// ```
-#[tactic(auto, using(book_model::proofs::Leads::leading), unfolding(book_model::specs::sky::HinduFacts::sign_before_of))]
 pub fn sign_before<E: Enclosure>(day: i64, trail: &mut Trail) -> Result<i64, Fail>
     requires day { IsValueDay day }
     ensures leads { Decides (spec.sign_before_of day) trail.old.count trail.new.count result }
     ensures value { IfOk result IsFactValue }
     ensures close { E.BITS ≡ 56 → IfErr result IsClose }
 {
+    let course = PhaseCourse::<E>::usual();
+    sign_before_by(&course, day, trail)
+}
+
+/// `sign_after`, where the courses of the moon and the sun are known over the usual days.
+#[tactic(auto, using(book_model::proofs::Leads::leading), unfolding(book_model::specs::sky::HinduFacts::sign_after_of))]
+pub fn sign_after_by<E: Enclosure>(
+    course: &PhaseCourse<E>,
+    day: i64,
+    trail: &mut Trail,
+) -> Result<i64, Fail>
+    requires day { IsValueDay day }
+    ensures leads { Decides (spec.sign_after_of day) trail.old.count trail.new.count result }
+    ensures value { IfOk result IsFactValue }
+    ensures close { E.BITS ≡ 56 → IfErr result IsClose }
+{
     let rising = sunrise::<E>(day, trail)?;
-    let t = moon_before(rising, trail)?;
-    sign(t, trail)
+    let t = moon_from_by(course, rising, trail)?;
+    sign(course.sun(), t, trail)
 }
 
 /// The sign in which the sun stands at the first new moon from sunrise on on a day (R.D.) at Ujjain (Reingold and
@@ -231,16 +303,14 @@ pub fn sign_before<E: Enclosure>(day: i64, trail: &mut Trail) -> Result<i64, Fai
 /// ```
 /// let sign = hindu_sky::sign_after::<Fine>(738_990, &mut Trail::new())?; // 1, on 14 April 2024
 /// ```
-#[tactic(auto, using(book_model::proofs::Leads::leading), unfolding(book_model::specs::sky::HinduFacts::sign_after_of))]
 pub fn sign_after<E: Enclosure>(day: i64, trail: &mut Trail) -> Result<i64, Fail>
     requires day { IsValueDay day }
     ensures leads { Decides (spec.sign_after_of day) trail.old.count trail.new.count result }
     ensures value { IfOk result IsFactValue }
     ensures close { E.BITS ≡ 56 → IfErr result IsClose }
 {
-    let rising = sunrise::<E>(day, trail)?;
-    let t = moon_from(rising, trail)?;
-    sign(t, trail)
+    let course = PhaseCourse::<E>::usual();
+    sign_after_by(&course, day, trail)
 }
 
 /// The year of the Kali Yuga when a day (R.D.) begins in universal time (Reingold and Dershowitz, Calendrical Calculations,

@@ -2,12 +2,14 @@
 //! the signs at the new moons about it, by sunrise and sunset at Ujjain. Each call makes the tests of its formula.
 //!
 //! - `sign_at_sunset`, `solar_year`, `sankranti`: of the solar calendar;
-//! - `tithi`, `sign_before`, `sign_after`, `calendar_year`: of the lunar one.
+//! - `tithi`, `sign_before`, `sign_after`, `calendar_year`: of the lunar one;
+//! - `sankranti_by` and the others with this ending: the same by courses of the sun and the moon.
 #![tactic(auto)]
 
 mod days;
 mod zodiac;
 
 pub use days::{
-    calendar_year, sankranti, sign_after, sign_at_sunset, sign_before, solar_year, tithi,
+    calendar_year, sankranti, sankranti_by, sign_after, sign_after_by, sign_at_sunset,
+    sign_at_sunset_by, sign_before, sign_before_by, solar_year, tithi,
 };

@@ -5,7 +5,7 @@ use Rattle.book_model.specs.declared.fact.TheConstants.{FIRST_DAY, LAST_DAY}
 use Rattle.book_model.specs.sky.Correction.{is_between}
 use Rattle.book_model.proofs.Leads.{leads_void}
 use Rattle.fact_eval.proofs.Rightness.{program_inside, program_outside}
-use Rattle.fact_eval.proofs.staged.evaluate.Goals as goal
+use Rattle.fact_eval.proofs.staged.evaluate_by.Goals as goal
 
 pub returns-then-not-may_have_value-clause-leads : goal.returns-then-not-may_have_value-clause-leads
 returns-then-not-may_have_value-clause-leads g c = λ w d.

@@ -1,7 +1,7 @@
 use Rattle.std.proofs.Common.{arith, pos, ◌+◌, ◌*◌, ◌^◌, ◌+ℤ◌, SFits, w64}
 use Rattle.std.proofs.lemmas.Int.{to_z-of_z, ints}
 use Rattle.std.proofs.lemmas.Result.{err_from_is_err_and}
-use Rattle.fact_eval.proofs.solstice.has_winter.Goals as goal
+use Rattle.fact_eval.proofs.solstice.has_winter_at.Goals as goal
 
 pub returns-clause-close : goal.returns-clause-close
 returns-clause-close g c = λ e.

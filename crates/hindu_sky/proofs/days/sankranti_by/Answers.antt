@@ -3,7 +3,7 @@ use Rattle.std.proofs.lemmas.Int.{to_z-of_z, ints}
 use Rattle.std.proofs.lemmas.Result.{err_from_is_err_and}
 use Rattle.book_model.specs.sky.HinduFacts.{sankranti_of}
 use Rattle.book_model.proofs.Leads.{leads_on, leaf_within}
-use Rattle.hindu_sky.proofs.days.sankranti.Goals as goal
+use Rattle.hindu_sky.proofs.days.sankranti_by.Goals as goal
 
 pub returns-clause-leads : goal.returns-clause-leads
 unfolding sankranti_of

@@ -7,7 +7,7 @@ use Rattle.book_model.proofs.Early.{phase_day_least, three_made}
 use Rattle.book_model.proofs.Leads.{leads_bind_exact}
 use Rattle.moon_core.proofs.Openings.{late_is_not_early}
 use Rattle.crescent.proofs.Days.{day_dated}
-use Rattle.crescent.proofs.first_sight.phasis.Goals as goal
+use Rattle.crescent.proofs.first_sight.phasis_by.Goals as goal
 
 pub returns-clause-leads : goal.returns-clause-leads
 unfolding phasis_of
