@@ -3,7 +3,7 @@ use Rattle.std.proofs.Common.{◌≡◌, Bool, true, false, ◌&&◌, refl, List
 use Rattle.std.proofs.lemmas.Int.{ints}
 use Rattle.std.proofs.lemmas.Bool.Decides.{nat_tests}
 use Rattle.std.specs.Ordering.{int_eq}
-use Rattle.std.specs.List.{list_any, position_or_len, position}
+use Rattle.std.specs.List.{list_any, position_or_len}
 use Rattle.book_model.specs.declared.fact.Fact.{Fact}
 use Rattle.book_model.specs.calendars.Inquiries.{fact_eq}
 use Rattle.book_model.specs.sky.Names.{kind_number, place_number}
@@ -28,10 +28,6 @@ same_any f (g ∷ seen) = rw (same_fact_eq f g, same_any f seen) refl
 pub same_position : (f : Fact) (seen : List Fact) → position_or_len (derived.eq-value.it f) seen ≡ position_or_len (fact_eq f) seen
 same_position f [] = refl
 same_position f (g ∷ seen) = rw (same_fact_eq f g, same_position f seen) refl
-
--- a fact stands at one place among facts by either test
-pub same_place : (f : Fact) (seen : List Fact) → position (derived.eq-value.it f) seen ≡ position (fact_eq f) seen
-same_place f seen = rw (same_position f seen) refl
 
 -- three tests that hold
 all_three : (a b c : Bool) → ((a && b) && c) ≡ true → (a ≡ true) × (b ≡ true) × (c ≡ true)

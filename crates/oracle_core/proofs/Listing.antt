@@ -1,28 +1,13 @@
 -- Facts that are looked up in a list.
-use Rattle.std.proofs.Common.{◌≡◌, ℕ, zero, suc, ◌+◌, ◌<◌, Bool, true, false, cond, not, ◌&&◌, ◌||◌, refl, List, [], ◌∷◌, ◌++◌, length, get_or, drop, ℤ, arith, append-nil, ◌⊎◌, inl, inr, length-drop, ◌-◌}
-use Rattle.std.specs.Prelude.{Some, None, IsTrue, if◌then◌else◌, Result, Ok, Err, OnOk, OnErr}
+use Rattle.std.proofs.Common.{◌≡◌, ℕ, zero, suc, ◌+◌, ◌<◌, Bool, true, false, cond, not, ◌&&◌, ◌||◌, refl, List, [], ◌∷◌, ◌++◌, length, get_or, ℤ, arith, ◌⊎◌, inl, inr}
+use Rattle.std.specs.Prelude.{Some, IsTrue, if◌then◌else◌, Result, Ok, Err, OnOk, OnErr}
 use Rattle.std.specs.List.{list_any, position_or_len, position}
-use Rattle.std.proofs.Math.Seq.{drop-append_seam, drop-cons}
-use Rattle.std.proofs.lemmas.List.{append_assoc}
-use Rattle.book_model.specs.contracts.fact.FactPartialEq.TheImpl as derived
 use Rattle.book_model.specs.declared.fact.Fact.{Fact}
 use Rattle.book_model.specs.calendars.Inquiries.{fact_eq, with_fact}
 use Rattle.book_model.specs.sky.Facts.{IsFactValue}
-use Rattle.oracle_core.specs.Pairs.{AreFactValues, are_distinct, value_beside, IsFront}
-use Rattle.oracle_core.proofs.FactLemmas.{one_fact, same_any, same_place}
-use Rattle.oracle_core.proofs.Noting.{found_at, there, not_there}
-
--- the list begins with no facts
-pub no_front : (fs : List Fact) → IsFront [] fs
-no_front fs = record { rest = fs; joined = refl }
-
--- the list begins with all of it
-pub whole_front : (xs fs : List Fact) → xs ≡ fs → IsFront xs fs
-whole_front xs fs e = record { rest = []; joined = rw append-nil e }
-
--- what stands behind a front
-pub behind_front : (xs fs : List Fact) → IsFront xs fs → xs ++ drop (length xs) fs ≡ fs
-behind_front xs fs h = rw (← h.joined) (rw (drop-append_seam xs h.rest) refl)
+use Rattle.oracle_core.specs.Pairs.{AreFactValues, are_distinct, value_beside}
+use Rattle.oracle_core.proofs.FactLemmas.{one_fact}
+use Rattle.oracle_core.proofs.Noting.{found_at}
 
 pub not_and : (a b : Bool) → IsTrue (not a && b) → (a ≡ false) × IsTrue b
 not_and true b h = cc
@@ -94,40 +79,16 @@ listed_fits [] i d h all = absurd (omega arith)
 listed_fits (v ∷ vs) zero d h all = (all.0, all.1)
 listed_fits (v ∷ vs) (suc i) d h all = listed_fits vs i d (omega arith) all.2
 
--- the value at the place that an index of the facts gives stands beside the fact
-pub found_value : (fs keys : List Fact) (vs : List ℤ) (f : Fact) (i : ℕ) (d : ℤ) → keys ≡ fs → length fs ≡ length vs → Some i ≡ position (derived.eq-value.it f) keys → value_beside fs vs f ≡ Some (get_or vs i d)
-found_value fs keys vs f i d all same h = listed_value fs vs f i d same (rw all at (rw (same_place f keys) at h))
-
--- and is one that an answer may have
-pub found_fits : (fs keys : List Fact) (vs : List ℤ) (f : Fact) (i : ℕ) (d : ℤ) → keys ≡ fs → length fs ≡ length vs → Some i ≡ position (derived.eq-value.it f) keys → AreFactValues vs → IsFactValue (get_or vs i d)
-found_fits fs keys vs f i d all same h known =
-    let k : Some i ≡ position (fact_eq f) fs = rw all at (rw (same_place f keys) at h) in
-    let p = found_at (fact_eq f) fs i k in
+-- the value at the place of a fact is one that an answer may have
+pub found_fits : (fs : List Fact) (vs : List ℤ) (f : Fact) (i : ℕ) (d : ℤ) → length fs ≡ length vs → Some i ≡ position (fact_eq f) fs → AreFactValues vs → IsFactValue (get_or vs i d)
+found_fits fs vs f i d same h known =
+    let p = found_at (fact_eq f) fs i h in
     listed_fits vs i d (omega arith) known
-
--- a fact that an index of the facts doesn't have isn't one of them
-pub unlisted : (fs keys : List Fact) (f : Fact) → keys ≡ fs → None ≡ position (derived.eq-value.it f) keys → list_any (fact_eq f) fs ≡ false
-unlisted fs keys f all h = not_there (fact_eq f) fs (rw all at (rw (same_place f keys) at h))
-
--- an index with one more of distinct facts and the others make the whole
-pub indexed_more : (fs keys more xs : List Fact) (i : ℕ) (d : Fact) → IsTrue (are_distinct fs) → keys ++ drop i xs ≡ fs → i < length xs
-    → more ≡ (if list_any (derived.eq-value.it (get_or xs i d)) keys then keys else keys ++ get_or xs i d ∷ []) → more ++ drop (i + 1) xs ≡ fs
-indexed_more fs keys more xs i d distinct whole h grown =
-    let n : i + 1 ≡ suc i = omega arith in
-    let parts : keys ++ (get_or xs i d ∷ drop (suc i) xs) ≡ fs = rw (drop-cons xs i d h) at whole in
-    let apart : IsTrue (are_distinct (keys ++ (get_or xs i d ∷ drop (suc i) xs))) = rw parts distinct in
-    let new : list_any (fact_eq (get_or xs i d)) keys ≡ false = next_is_new keys (get_or xs i d) (drop (suc i) xs) apart in
-    let longer : more ≡ keys ++ get_or xs i d ∷ [] = rw (same_any (get_or xs i d) keys, new) at grown in
-    rw (n, longer) (rw append_assoc parts)
 
 -- ---- once a fact was asked
 not_true : (t : Bool) → (t ≡ true → ⊥) → t ≡ false
 not_true true h = absurd (h refl)
 not_true false h = refl
-
--- while the index isn't whole no fact was asked
-pub none_asked : (fs index asked : List Fact) (f : Fact) → ((g : Fact) → list_any (fact_eq g) asked ≡ true → index ≡ fs) → (index ≡ fs → ⊥) → list_any (fact_eq f) asked ≡ false
-none_asked fs index asked f whole short = not_true (list_any (fact_eq f) asked) (λ h. short (whole f h))
 
 -- a fact that isn't one of these wasn't asked
 pub never_asked : (fs asked : List Fact) (f : Fact) → ((g : Fact) → list_any (fact_eq g) asked ≡ true → list_any (fact_eq g) fs ≡ true) → list_any (fact_eq f) fs ≡ false → list_any (fact_eq f) asked ≡ false
@@ -152,14 +113,6 @@ listed_more fs asked f g listed here h = step (list_any (fact_eq f) asked) h
     step : (t : Bool) → list_any (fact_eq g) (if t then asked else asked ++ f ∷ []) ≡ true → list_any (fact_eq g) fs ≡ true
     step true h = listed g h
     step false h = elim (among_more g f asked h) [ inl e ↦ listed g e | inr e ↦ (let same : g ≡ f = one_fact g f e in rw same here) ]
-
--- a fact that an index of the facts has is one of them
-pub is_listed : (fs keys : List Fact) (f : Fact) (i : ℕ) → keys ≡ fs → Some i ≡ position (derived.eq-value.it f) keys → list_any (fact_eq f) fs ≡ true
-is_listed fs keys f i all h = there (fact_eq f) fs i (rw all at (rw (same_place f keys) at h))
-
--- an index that holds the first facts, not all, has fewer
-pub shorter : (fs keys : List Fact) (i : ℕ) → i < length (drop (length keys) fs) → keys ≡ fs → ⊥
-shorter fs keys i h same = let none : i < length (drop (length fs) fs) = rw same at h in let e : length (drop (length fs) fs) ≡ length fs - length fs = length-drop (length fs) fs in omega arith
 
 -- what was asked stays listed, whether or not memory is found for one more
 pub listed_noted : {T E : Type 0} (fs asked now : List Fact) (f : Fact) (r : Result T E) → ((h : Fact) → list_any (fact_eq h) asked ≡ true → list_any (fact_eq h) fs ≡ true) → list_any (fact_eq f) fs ≡ true → OnOk r (now ≡ with_fact asked f) → OnErr r (now ≡ asked)

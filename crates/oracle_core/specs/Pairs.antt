@@ -1,5 +1,5 @@
 -- Facts beside their values.
-use Rattle.std.specs.Prelude.{◌≡◌, ◌&&◌, not, Bool, true, if◌then◌else◌, ℤ, ◌≤ℤ◌, List, [], ◌∷◌, ◌++◌, length, Option, Some, None, IsTrue}
+use Rattle.std.specs.Prelude.{◌≡◌, ◌&&◌, not, Bool, true, if◌then◌else◌, ℤ, ◌≤ℤ◌, List, [], ◌∷◌, ◌++◌, length, Option, Some, None}
 use Rattle.std.specs.List.{list_any}
 use Rattle.std.proofs.Common.{arith}
 use Rattle.book_model.specs.declared.fact.Fact.{Fact}
@@ -50,14 +50,10 @@ pub record IsFront (front whole : List Fact) : Type 0 where
   pub rest : List Fact
   pub joined : front ++ rest ≡ whole
 
--- distinct facts and their values, of which an index holds the first; once a fact was asked it is one of them, and the
--- index holds all
-pub record IsIndexed (facts : List Fact) (values : List ℤ) (index asked : List Fact) : Type 0 where
+-- facts with their values, each of which a fact may have; each fact that was asked is one of them
+pub record IsListing (facts : List Fact) (values : List ℤ) (asked : List Fact) : Type 0 where
   pub same : length facts ≡ length values
-  pub distinct : IsTrue (are_distinct facts)
   pub known : AreFactValues values
-  pub front : IsFront index facts
-  pub whole : (f : Fact) → list_any (fact_eq f) asked ≡ true → index ≡ facts
   pub listed : (f : Fact) → list_any (fact_eq f) asked ≡ true → list_any (fact_eq f) facts ≡ true
 
 -- a fact stands beside one value

@@ -1,38 +1,20 @@
 //! An oracle that looks facts up in a list.
-ghost use Rattle.std.specs.Prelude.{◌≡◌, ◌≢◌, [], length, IsTrue, OnOk, OnErr};
+ghost use Rattle.std.specs.Prelude.{◌≡◌, [], length, IsTrue};
 ghost use Rattle.oracle_core.specs.Inquiring.{State};
 ghost use Rattle.oracle_core.specs.Oracles.{by_table, one_by_table};
-ghost use Rattle.oracle_core.specs.Pairs.{FactTable, IsFront, IsIndexed, AreFactValues, are_distinct};
+ghost use Rattle.oracle_core.specs.Pairs.{FactTable, IsListing, AreFactValues, are_distinct};
 
-use crate::noted::Noted;
+use crate::noted::{Noted, place_among};
 use crate::{FactList, Oracle, Stop};
 use book_model::Fact;
-use indexmap::IndexSet;
-use std::alloc::{AllocFailed, Global};
+use std::alloc::Global;
 use std::marker::Model;
 
-/// Adds to the index the facts that aren't there yet. Where memory runs out it holds the first of them; none is wanted
-/// where it holds all.
-fn index_facts(places: &mut IndexSet<Fact>, facts: &[Fact]) -> Result<(), AllocFailed<Fact>>
-    requires distinct { IsTrue (are_distinct facts.now) }
-    requires front { IsFront places.old.keys facts.now }
-    ensures front { IsFront places.new.keys facts.now }
-    ensures all { OnOk result (places.new.keys ≡ facts.now) }
-    ensures short { OnErr result (places.old.keys ≢ facts.now) }
-{
-    for fact in &facts[places.len()..] {
-        places.insert(*fact)?;
-    }
-    Ok(())
-}
-
-/// Answers facts by the values that stand beside them in a list. The first call that asks makes an index of the
-/// list.
+/// Answers facts by the values that stand beside them in a list.
 #[derive(Drop)]
 pub struct Listed<'a> {
     facts: &'a [Fact],
     values: &'a [i64],
-    places: IndexSet<Fact>,
     asked: Noted,
 }
 
@@ -41,7 +23,7 @@ impl<'a> Model for Listed<'a> {
 
     ghost view = { λ l. record { known = record { facts = l.facts.now; values = l.values.now }; asked = l.asked } };
 
-    ghost invariant = { λ l. IsIndexed l.facts.now l.values.now l.places.keys l.asked };
+    ghost invariant = { λ l. IsListing l.facts.now l.values.now l.asked };
 }
 
 impl<'a> Listed<'a> {
@@ -57,7 +39,6 @@ impl<'a> Listed<'a> {
         Listed {
             facts,
             values,
-            places: IndexSet::new(alloc),
             asked: Noted::new(alloc),
         }
     }
@@ -80,8 +61,7 @@ impl<'a> Oracle for Listed<'a> {
     ghost one_value = { one_by_table };
 
     fn ask(&mut self, fact: Fact) -> Result<i64, Stop> {
-        index_facts(&mut self.places, self.facts)?;
-        match self.places.get_index_of(&fact) {
+        match place_among(self.facts, fact) {
             Some(place) => {
                 let value = self.values[place];
                 self.asked.note(fact)?;

@@ -9,8 +9,16 @@ use book_model::Fact;
 use std::alloc::{AllocError, Global};
 use std::marker::Model;
 
-/// Facts, each once, in order of first use. A request asks some dozens of facts at most, so they are looked up one after the
-/// other: that takes no memory, and less time than to hash them.
+/// Where a fact stands among facts, if it does. A request asks some dozens of facts at most, and each is looked up among the
+/// others one after the other: that takes no memory, for a plain list less time than to hash or to sort it, and time by the
+/// length of the list alone, whichever facts a stranger puts there.
+pub(crate) fn place_among(facts: &[Fact], fact: Fact) -> Option<usize>
+    ensures place { result ≡ position (fact_eq fact) facts.now }
+{
+    facts.iter().position(|other| fact == *other)
+}
+
+/// Facts, each once, in order of first use.
 #[derive(Drop)]
 pub(crate) struct Noted {
     list: FactList,
@@ -43,7 +51,7 @@ impl Noted {
     pub(crate) fn place(&self, fact: Fact) -> Option<usize>
         ensures place { result ≡ position (fact_eq fact) self.now }
     {
-        self.list.facts().iter().position(|kept| fact == *kept)
+        place_among(self.list.facts(), fact)
     }
 
     /// Adds the fact at the end, unless it is there. Where memory runs out the facts stay as they were; none is wanted
