@@ -1,5 +1,8 @@
 pub mod DigitLemmas
 pub mod Counters
+pub mod Marking
+pub mod SeenDays
+pub mod Agreeing
 pub mod LineCount
 pub mod ReadFiles
 pub mod Spelling

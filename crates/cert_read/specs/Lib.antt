@@ -3,4 +3,7 @@ pub mod Gives
 pub mod Grammar
 pub mod Reading
 pub mod Steps
+pub mod Seen
+pub mod Listings
+pub mod Agreeing
 pub mod ReadAgain

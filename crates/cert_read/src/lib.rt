@@ -1,6 +1,6 @@
 //! Reads printed files. `read_file` answers the file that bytes are by the grammar, or the first line that breaks a
 //! rule of it. A line is read word by word (`words`, `digits`, `names`) to its form (`form`, `found`), and the forms one
-//! after another to the file (`reader`). What `cert_text` writes is read again (`laws`).
+//! after another to the file (`reader`, which knows what it has seen by `seen` and `listings`). What `cert_text` writes is read again (`laws`).
 #![tactic(auto)]
 
 mod digits;
@@ -8,9 +8,11 @@ mod form;
 mod found;
 pub mod laws;
 mod lines;
+mod listings;
 mod names;
 mod read;
 mod reader;
+mod seen;
 mod words;
 
 pub use lines::{CertFile, Lines};

@@ -30,7 +30,9 @@ fn read_lines(alloc: Global, bytes: &[u8]) -> Result<CertFile, ReadFail>
     ensures { Answers result (reading_from 2 (record { facts = []; lines = [] }) false
         (lines_of bytes.now)) }
 {
-    let mut reader = Reader::new(alloc);
+    let Ok(mut reader) = Reader::new(alloc) else {
+        return Err(ReadFail::Memory);
+    };
     let mut number = 2;
     let mut rest = bytes;
     while let Some((line, more)) = cut_line(rest) {
