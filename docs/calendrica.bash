@@ -1,0 +1,42 @@
+# Completion of the words of calendrica for bash: source this file, or install it as
+# /usr/share/bash-completion/completions/calendrica. The words are those of docs/FORMAT.md, "Words and statuses".
+
+# Sets COMPREPLY to those words of a list, given in one line, that begin with what stands.
+_calendrica_offer() {
+    mapfile -t COMPREPLY < <(compgen -W "$1" -- "$2")
+}
+
+_calendrica() {
+    local typed=$2 place=0 has_jobs="" is_number="" command="" file start word index
+    # Bash takes `--jobs=8` as three words: `--jobs`, `=`, `8`.
+    [[ $typed == = ]] && typed=""
+    for ((index = 1; index < COMP_CWORD; index++)); do
+        word=${COMP_WORDS[index]}
+        if [[ $word == --jobs ]]; then
+            has_jobs=1 is_number=1
+        elif [[ $word == = ]]; then
+            :
+        elif [[ $is_number ]]; then
+            is_number=""
+        else
+            ((place++))
+            command=${command:-$word}
+        fi
+    done
+    if [[ $is_number ]]; then
+        _calendrica_offer "$(echo {1..64})" "$typed"
+    elif [[ $typed == -* ]]; then
+        COMPREPLY=()
+        [[ $has_jobs ]] || _calendrica_offer --jobs "$typed"
+    elif ((place == 0)); then
+        # The script of a checkout knows one word more.
+        file=$(type -P -- "$1") && IFS= read -rN 2 start <"$file"
+        _calendrica_offer "convert check almanac sample $([[ ${start-} == '#!' && ! $has_jobs ]] && echo build)" "$typed"
+    elif ((place == 1)) && [[ $command == almanac ]]; then
+        _calendrica_offer "$(echo {1803..2047})" "$typed"
+    else
+        COMPREPLY=()
+    fi
+} 2>/dev/null
+
+complete -F _calendrica calendrica
