@@ -1,12 +1,8 @@
 -- The days that a sample names lie within the range.
-use Rattle.std.specs.Prelude.{ℕ, ◌≤◌}
+use Rattle.std.specs.Prelude.{ℕ}
 use Rattle.std.proofs.Common.{arith}
-use Rattle.almanac_core.specs.Sample.{day_by}
+use Rattle.almanac_core.specs.Sample.{day_by, IsSampleDay}
 
-pub day_low : (state : ℕ) → 657802 ≤ day_by state
+pub sample_day : (state : ℕ) → IsSampleDay (day_by state)
 unfolding day_by
-day_low state = omega arith
-
-pub day_high : (state : ℕ) → day_by state ≤ 748017
-unfolding day_by
-day_high state = omega arith
+sample_day state = (omega arith, omega arith)

@@ -5,11 +5,12 @@ use Rattle.std.proofs.lemmas.Int.{ints}
 use Rattle.exact_math.specs.Fraction.{floor_quotient, times, plus, reciprocal}
 use Rattle.exact_math.proofs.Floors.{floor_quotient_is}
 use Rattle.book_model.specs.declared.calendar_tables.TheConstants.{SYNODIC_MONTH}
+use Rattle.book_model.specs.declared.version.TheConstants.{FIRST_ALMANAC_YEAR, LAST_ALMANAC_YEAR}
 use Rattle.book_model.specs.calendars.Gregorian.{first_day, days_of_months, fixed_of}
 use Rattle.book_model.specs.numbers.Fractions.{fraction_of}
 use Rattle.book_model.specs.calendars.Spans.{spans_of, ratio}
 
-pub january_from : (y : ℕ) → 1803 ≤ y → pos 600000 ≤ℤ fixed_of y 1 1
+pub january_from : (y : ℕ) → FIRST_ALMANAC_YEAR ≤ y → pos 600000 ≤ℤ fixed_of y 1 1
 unfolding fixed_of first_day days_of_months
 january_from y h =
     let a = floor_quotient_is (pos y -ℤ pos 1) 3 in
@@ -17,7 +18,7 @@ january_from y h =
     let c = floor_quotient_is (pos y -ℤ pos 1) 399 in
     omega (arith, ints, h, a.not_above, a.close, b.not_above, b.close, c.not_above, c.close)
 
-pub january_to : (y : ℕ) → y ≤ 2047 → fixed_of y 1 1 ≤ℤ pos 800000
+pub january_to : (y : ℕ) → y ≤ LAST_ALMANAC_YEAR → fixed_of y 1 1 ≤ℤ pos 800000
 unfolding fixed_of first_day days_of_months
 january_to y h =
     let a = floor_quotient_is (pos y -ℤ pos 1) 3 in

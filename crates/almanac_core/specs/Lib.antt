@@ -1,3 +1,2 @@
 pub mod Almanac
 pub mod Sample
-pub mod Years

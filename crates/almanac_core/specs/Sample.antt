@@ -1,5 +1,5 @@
 -- The lines of a sample, as requests, by a generator: the multiplier and the increment are those of Knuth's MMIX.
-use Rattle.std.specs.Prelude.{ℕ, ◌+◌, ◌*◌, ◌/◌, ◌%◌, ◌^◌, ◌==◌, if◌then◌else◌, [], ◌∷◌}
+use Rattle.std.specs.Prelude.{ℕ, ◌+◌, ◌*◌, ◌/◌, ◌%◌, ◌^◌, ◌<◌, ◌≤◌, ◌==◌, if◌then◌else◌, [], ◌∷◌}
 use Rattle.book_model.specs.declared.request.Request.{Request}
 use Rattle.book_model.specs.declared.words.FromWord.TheVariants as from
 use Rattle.book_model.specs.declared.words.ToWord.{ToWord}
@@ -14,6 +14,10 @@ state_after state = (state * 6364136223846793005 + 1442695040888963407) % 2 ^ 64
 -- stay when a line may name more days.
 unfoldable pub day_by : ℕ → ℕ
 day_by state = 657802 + state / 2 ^ 33 % 90216
+
+-- one of these days
+abbrev pub IsSampleDay : ℕ → Type 0
+IsSampleDay day = (657802 ≤ day) × (day < 657802 + 90216)
 
 -- what the line of an index, from 0, asks of its day
 unfoldable pub asked_at : ℕ → ToWord

@@ -5,10 +5,11 @@ ghost use Rattle.book_model.specs.numbers.Fractions.{fraction_of};
 ghost use Rattle.book_model.specs.calendars.Spans.{ratio, spans_of as spans_in};
 ghost use Rattle.book_model.specs.declared.calendar_tables.TheConstants.{SYNODIC_MONTH as SYNODIC};
 ghost use Rattle.almanac_core.specs.Almanac as spec;
-ghost use Rattle.almanac_core.specs.Years.{IsAlmanacYear};
+ghost use Rattle.book_model.specs.calendars.Versions.{IsAlmanacYear};
 
 use crate::numbers::{date_of_five, date_of_three, three_fields};
-use book_model::{FromWord, ISLAMIC_EPOCH, Request, SYNODIC_MONTH, ToWord};
+use book_model::calendar_tables::{ISLAMIC_EPOCH, SYNODIC_MONTH};
+use book_model::{FromWord, Request, ToWord};
 use calendar_math::spans_of;
 use civil_core::to_fixed;
 
@@ -117,7 +118,7 @@ fn islamic_month(passed: u32) -> Request
 /// The line of a solar term, by its index from 0 to 23: the first minor one in each month and the first major one from its middle.
 #[tactic(auto, unfolding(crate::specs::Almanac::term_of))]
 fn term(year: u32, index: u32) -> Request
-    requires to { year ≤ 2047 }
+    requires year { IsAlmanacYear year }
     requires few { index < 24 }
     ensures request { result ≡ spec.term_of year index }
 {
@@ -145,7 +146,7 @@ fn phase_word(index: u32) -> FromWord
 /// The line of a phase of the moon, by its index from 0 to 47: the four before the 28th of each month.
 #[tactic(auto, unfolding(crate::specs::Almanac::month_phase_of))]
 fn month_phase(year: u32, index: u32) -> Request
-    requires to { year ≤ 2047 }
+    requires year { IsAlmanacYear year }
     requires few { index < 48 }
     ensures request { result ≡ spec.month_phase_of year index }
 {
@@ -155,7 +156,7 @@ fn month_phase(year: u32, index: u32) -> Request
 /// The line of sunset at Cairo on the first of a month.
 #[tactic(auto, unfolding(crate::specs::Almanac::month_sunset_of))]
 fn month_sunset(year: u32, month: u32) -> Request
-    requires to { year ≤ 2047 }
+    requires year { IsAlmanacYear year }
     requires few { month < 13 }
     ensures request { result ≡ spec.month_sunset_of year month }
 {

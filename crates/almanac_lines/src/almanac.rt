@@ -1,6 +1,6 @@
 //! The lines of an almanac.
 ghost use Rattle.std.specs.Prelude.{◌≡◌, IfOk};
-ghost use Rattle.almanac_core.specs.Years.{IsAlmanacYear};
+ghost use Rattle.book_model.specs.calendars.Versions.{IsAlmanacYear};
 ghost use Rattle.almanac_lines.specs.Texts as spec;
 
 use crate::line::line_of;

@@ -9,7 +9,8 @@ ghost use Rattle.width_laws.specs.Table.{greatest_of};
 use crate::Angular;
 use crate::known::Known;
 use crate::tries::turned;
-use book_model::{Fail, HALF, HUNDRED_THOUSANDTH, Site};
+use book_model::tables::{HALF, HUNDRED_THOUSANDTH};
+use book_model::{Fail, Site};
 use encl_core::{Enclosure, Trail, less_step, wrap_step};
 
 /// How many turns a bisection makes at most.

@@ -19,7 +19,7 @@ use Rattle.book_model.specs.numbers.Arcs.{half, minus_half, arctan_series, radia
 use Rattle.book_model.proofs.Terms.{IsUpTo, arctan_halving, arctan_rising}
 use Rattle.book_model.proofs.Pi.{pi_at_least, pi_proper}
 use Rattle.book_model.proofs.ArcSeries.{InHalf, series_nests, series_proper, degrees_proper}
-use Rattle.arc_series.specs.Kernel.{at_64, IsNear, IsNumber, IsSquare, nested}
+use Rattle.arc_series.specs.Kernel.{at_64, IsWithinUnits, IsNumber, IsSquare, nested}
 use Rattle.arc_series.proofs.KernelSteps.{unit, unit_nonneg, at_more, at_less, IsHigh, high_is, high_small, product_is, high_below, high_above, count_nonneg, count_whole, square_near, product_above, product_below}
 
 -- ---- Horner's form
@@ -66,7 +66,7 @@ left_out x w =
 abbrev around : ℕ → Interval
 around s = between (at_64 (pos s -ℤ pos 4)) (at_64 (pos s +ℤ pos 6))
 
-ends_near : (q t s : ℕ) (x : Fraction) → IsUpTo 1 2 x → t ≤ 2 ^ 64 → IsHigh s q t → IsNumber q x → IsNear 4 t (nested (times x x) 0 28) → arctan_at 28 x ⊆ around s
+ends_near : (q t s : ℕ) (x : Fraction) → IsUpTo 1 2 x → t ≤ 2 ^ 64 → IsHigh s q t → IsNumber q x → IsWithinUnits 4 t (nested (times x x) 0 28) → arctan_at 28 x ⊆ around s
 unfolding lower upper power
 ends_near q t s x w l p g n =
     let ρ = x ∷ nested (times x x) 0 28 ∷ alternating (arctan_term x) 28 ∷ size (arctan_term x 29) ∷ unit ∷ whole (pos s) ∷ [] in
@@ -88,7 +88,7 @@ ends_near q t s x w l p g n =
 pub record IsComputed (q w t s : ℕ) : Type 0 where
   pub small : q ≤ 2 ^ 63
   pub square : w ≡ q * q / 2 ^ 64
-  pub sum : (u : Fraction) → IsSquare w u → IsNear 4 t (nested u 0 28)
+  pub sum : (u : Fraction) → IsSquare w u → IsWithinUnits 4 t (nested u 0 28)
   pub below : t ≤ 18446744073709551615
   pub radians : s ≡ q * t / 2 ^ 64
 

@@ -8,7 +8,7 @@ use Rattle.exact_math.proofs.Ring.{at, lit, ◌⊕◌, ◌⊖◌, ◌⊗◌}
 use Rattle.exact_math.proofs.Fractions.{le_trans}
 use Rattle.exact_math.proofs.Same.{le_of_same, ge_of_same}
 use Rattle.exact_math.proofs.Certificates.{zero_F, ◌≼◌, ◌≗◌, known, multiple, ◌⊞◌, ◌⊠◌, natural, le_by, le_over}
-use Rattle.arc_series.specs.Kernel.{at_64, IsNear, IsCut, IsNumber, IsSquare, nested}
+use Rattle.arc_series.specs.Kernel.{at_64, IsWithinUnits, IsCut, IsNumber, IsSquare, nested}
 
 -- 2^-64
 unfoldable pub unit : Fraction
@@ -96,7 +96,7 @@ rest_is c h e = record { cross = omega (arith, ints, e) }
 square_nonneg : (w : ℕ) (u : Fraction) → IsSquare w u → zero_F ≤F u
 square_nonneg w u s = le_trans zero_F (at_64 (pos w)) u (record { cross = omega (arith, ints) }) s.not_above
 
-step_above : (c w t h : ℕ) (C U V : Fraction) → IsHigh h w t → h ≤ c → 2 * t ≤ 2 ^ 64 → at_64 (pos c) ≤F C → IsSquare w U → IsNear 4 t V →
+step_above : (c w t h : ℕ) (C U V : Fraction) → IsHigh h w t → h ≤ c → 2 * t ≤ 2 ^ 64 → at_64 (pos c) ≤F C → IsSquare w U → IsWithinUnits 4 t V →
     at_64 (pos (c - h) -ℤ pos 4) ≤F plus C (opposite (times U V))
 step_above c w t h C U V p k l i s n =
     le_trans _ (times (plus (whole (pos (c - h))) (opposite (whole (pos 4)))) unit) _ (le_of_same (at_less (pos (c - h)) (pos 4)))
@@ -125,7 +125,7 @@ step_above c w t h C U V p k l i s n =
       ),
     ))
 
-step_below : (c w t h : ℕ) (C U V : Fraction) → IsHigh h w t → h ≤ c → C ≤F at_64 (pos c +ℤ pos 1) → IsSquare w U → IsNear 4 t V →
+step_below : (c w t h : ℕ) (C U V : Fraction) → IsHigh h w t → h ≤ c → C ≤F at_64 (pos c +ℤ pos 1) → IsSquare w U → IsWithinUnits 4 t V →
     plus C (opposite (times U V)) ≤F at_64 (pos (c - h) +ℤ pos 4)
 step_below c w t h C U V p k i s n =
     le_trans _ (times (plus (whole (pos (c - h))) (whole (pos 4))) unit) _
@@ -155,14 +155,14 @@ step_below c w t h C U V p k i s n =
     ))
     (ge_of_same (at_more (pos (c - h)) (pos 4)))
 
-pub step_near : (c w t h d : ℕ) (U V : Fraction) → IsHigh h w t → h ≤ c → 2 * t ≤ 2 ^ 64 → IsCut c d → IsSquare w U → IsNear 4 t V → IsNear 4 (c - h) (plus (one_over d) (opposite (times U V)))
+pub step_near : (c w t h d : ℕ) (U V : Fraction) → IsHigh h w t → h ≤ c → 2 * t ≤ 2 ^ 64 → IsCut c d → IsSquare w U → IsWithinUnits 4 t V → IsWithinUnits 4 (c - h) (plus (one_over d) (opposite (times U V)))
 step_near c w t h d U V p k l i s n = record { above = step_above c w t h (one_over d) U V p k l i.not_above s n; below = step_below c w t h (one_over d) U V p k i.close s n }
 
 -- ---- the chain of steps
 at_mono : (a b : ℤ) → a ≤ℤ b → at_64 a ≤F at_64 b
 at_mono a b h = record { cross = omega (arith, ints, h) }
 
-pub innermost : (c d : ℕ) (u : Fraction) → IsCut c d → IsNear 4 c (nested u d 0)
+pub innermost : (c d : ℕ) (u : Fraction) → IsCut c d → IsWithinUnits 4 c (nested u d 0)
 unfolding nested
 innermost c d u i = record {
   above = le_trans _ _ _ (at_mono (pos c -ℤ pos 4) (pos c) (omega (arith, ints))) i.not_above;
@@ -171,9 +171,9 @@ innermost c d u i = record {
 
 -- what the code's step keeps
 abbrev pub Keeps : (coefficient square inner result : ℕ) → Type 0
-Keeps c w t r = (d : ℕ) (u v : Fraction) → IsCut c d → IsSquare w u → IsNear 4 t v → IsNear 4 r (plus (one_over d) (opposite (times u v)))
+Keeps c w t r = (d : ℕ) (u v : Fraction) → IsCut c d → IsSquare w u → IsWithinUnits 4 t v → IsWithinUnits 4 r (plus (one_over d) (opposite (times u v)))
 
-pub next : (d m c w t r : ℕ) (u : Fraction) → Keeps c w t r → IsCut c d → IsSquare w u → IsNear 4 t (nested u (suc (suc d)) m) → IsNear 4 r (nested u d (suc m))
+pub next : (d m c w t r : ℕ) (u : Fraction) → Keeps c w t r → IsCut c d → IsSquare w u → IsWithinUnits 4 t (nested u (suc (suc d)) m) → IsWithinUnits 4 r (nested u d (suc m))
 unfolding nested
 next d m c w t r u k i s n = k d u (nested u (suc (suc d)) m) i s n
 
@@ -217,7 +217,7 @@ square_near w q x l p g = record {
 }
 
 -- ---- the product of a number and what is near
-pub product_above : (s q t : ℕ) (x V : Fraction) → IsHigh s q t → IsNumber q x → IsNear 4 t V → times (plus (whole (pos s)) (opposite (whole (pos 2)))) unit ≤F times x V
+pub product_above : (s q t : ℕ) (x V : Fraction) → IsHigh s q t → IsNumber q x → IsWithinUnits 4 t V → times (plus (whole (pos s)) (opposite (whole (pos 2)))) unit ≤F times x V
 product_above s q t x V p g n =
     le_by (x ∷ V ∷ whole (pos s) ∷ whole (pos q) ∷ whole (pos t) ∷ whole (pos (q * t)) ∷ unit ∷ [])
     ((at 3 ⊗ at 6 ≼ at 0) ∷ (lit (pos 0) ≼ at 0) ∷ ((at 4 ⊖ lit (pos 4)) ⊗ at 6 ≼ at 1) ∷ (lit (pos 0) ≼ at 4 ⊗ at 6) ∷ (at 2 ≼ at 5 ⊗ at 6) ∷ (at 5 ≗ at 3 ⊗ at 4) ∷ (lit (pos 0) ≼ at 6)
@@ -234,7 +234,7 @@ product_above s q t x V p g n =
       ),
     )
 
-pub product_below : (s q t : ℕ) (x V : Fraction) → t ≤ 2 ^ 64 → IsHigh s q t → IsNumber q x → IsNear 4 t V → times x V ≤F times (plus (whole (pos s)) (whole (pos 4))) unit
+pub product_below : (s q t : ℕ) (x V : Fraction) → t ≤ 2 ^ 64 → IsHigh s q t → IsNumber q x → IsWithinUnits 4 t V → times x V ≤F times (plus (whole (pos s)) (whole (pos 4))) unit
 product_below s q t x V l p g n =
     le_by (x ∷ V ∷ whole (pos s) ∷ whole (pos q) ∷ whole (pos t) ∷ whole (pos (q * t)) ∷ unit ∷ [])
     ((at 0 ≼ (at 3 ⊕ lit (pos 1)) ⊗ at 6) ∷ (lit (pos 0) ≼ at 0) ∷ (at 1 ≼ (at 4 ⊕ lit (pos 4)) ⊗ at 6) ∷ (lit (pos 0) ≼ at 4 ⊗ at 6) ∷ (at 5 ⊗ at 6 ≼ at 2 ⊕ lit (pos 1)) ∷ (at 5 ≗ at 3 ⊗ at 4) ∷ (lit (pos 0) ≼ at 6)

@@ -63,7 +63,7 @@ pub fn arccos_deg<E: Enclosure>(x: E) -> E
 }
 
 /// From -180 to 180 degrees.
-fn around<E: Enclosure>() -> E
+fn half_turn_both_ways<E: Enclosure>() -> E
     ensures holds { all_around ⊆ E.shown result }
     ensures inside { IsTrue (is_scale E.BITS) → E.shown result ⊆ all_around }
 {
@@ -94,7 +94,7 @@ fn kept_around<E: Enclosure>(x: E) -> E
             lo: end_around(span.lo),
             hi: end_around(span.hi),
         }),
-        None => around(),
+        None => half_turn_both_ways(),
     }
 }
 
@@ -112,7 +112,7 @@ pub fn arctan2_deg<E: Enclosure>(y: E, x: E) -> E
         → IsWithin (pos (90 * 2 ^ 32)) (pos (180 * 2 ^ 32)) (230 * v + 2 ^ 20) (E.shown result) }
 {
     let Some(span) = y.span() else {
-        return around();
+        return half_turn_both_ways();
     };
     if span.lo > 0 {
         return kept_around(E::from_int(90).sub(arctan_deg(x.div(y))));
@@ -120,5 +120,5 @@ pub fn arctan2_deg<E: Enclosure>(y: E, x: E) -> E
     if span.hi < 0 {
         return kept_around(E::from_int(-90).sub(arctan_deg(x.div(y))));
     }
-    around()
+    half_turn_both_ways()
 }

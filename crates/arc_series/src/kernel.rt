@@ -9,7 +9,7 @@ ghost use Rattle.exact_math.specs.Sums.{one_over};
 ghost use Rattle.book_model.specs.programs.Leading.{at_56};
 ghost use Rattle.book_model.specs.numbers.Arcs.{arc_near};
 ghost use Rattle.book_model.specs.numbers.Depth.{DEPTH};
-ghost use Rattle.arc_series.specs.Kernel.{IsNear, IsCut, IsSquare, IsNumber, IsArc, IsSmall, nested};
+ghost use Rattle.arc_series.specs.Kernel.{IsWithinUnits, IsCut, IsSquare, IsNumber, IsArc, IsSmall, nested};
 ghost use Rattle.arc_series.specs.Widths.{IsThin};
 
 use encl_core::Span;
@@ -30,8 +30,8 @@ fn high_half(a: u64, b: u64) -> u64
 fn step(coefficient: u64, square: u64, inner: u64) -> u64
     requires falling { inner ≤ coefficient }
     requires half { 2 * inner ≤ 2 ^ 64 }
-    ensures near { (d : ℕ) (u v : Fraction) → IsCut coefficient d → IsSquare square u → IsNear 4 inner v
-        → IsNear 4 result (plus (one_over d) (opposite (times u v))) }
+    ensures near { (d : ℕ) (u v : Fraction) → IsCut coefficient d → IsSquare square u → IsWithinUnits 4 inner v
+        → IsWithinUnits 4 result (plus (one_over d) (opposite (times u v))) }
     ensures below { result ≤ coefficient }
 {
     coefficient - high_half(square, inner)
@@ -40,7 +40,7 @@ fn step(coefficient: u64, square: u64, inner: u64) -> u64
 /// 1/29 less a square times what follows, to 1/57.
 #[inline(always)]
 fn inner_terms(square: u64) -> u64
-    ensures near { (u : Fraction) → IsSquare square u → IsNear 4 result (nested u 28 14) }
+    ensures near { (u : Fraction) → IsSquare square u → IsWithinUnits 4 result (nested u 28 14) }
     ensures below { result ≤ 636094623231363848 }
 {
     let over_55 = step(335_395_346_794_719_120, square, 323_627_089_012_448_273);
@@ -62,7 +62,7 @@ fn inner_terms(square: u64) -> u64
 /// 1 less a square times what follows, to 1/57: the series of the arctangent over its number, up to the 29th term.
 #[inline(always)]
 fn terms(square: u64) -> u64
-    ensures near { (u : Fraction) → IsSquare square u → IsNear 4 result (nested u 0 28) }
+    ensures near { (u : Fraction) → IsSquare square u → IsWithinUnits 4 result (nested u 0 28) }
     ensures below { result ≤ 18446744073709551615 }
 {
     let over_29 = inner_terms(square);
@@ -84,7 +84,7 @@ fn terms(square: u64) -> u64
 
 /// What lies from 4 parts of 2⁻⁵⁸ below a number that counts these to 9 parts above it.
 #[inline(always)]
-fn around(count: u64) -> Span
+fn span_around(count: u64) -> Span
     ensures low { (result.lo *ℤ pos 4 +ℤ pos 4) ≤ℤ pos count }
     ensures high { (pos count +ℤ pos 9) ≤ℤ (result.hi *ℤ pos 4) }
     ensures tight { IsArc result.lo result.hi }
@@ -113,5 +113,5 @@ pub(crate) fn arc_of_number_64(number: u64) -> Span
 {
     let sum = terms(high_half(number, number));
     let radians = high_half(number, sum);
-    around(high_half(radians, DEGREES))
+    span_around(high_half(radians, DEGREES))
 }

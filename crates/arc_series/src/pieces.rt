@@ -166,7 +166,7 @@ fn arc_over(piece: Piece, lo: i128, hi: i128) -> Option<Span>
 }
 
 /// The hull of what there is.
-fn join(x: Option<Span>, y: Option<Span>) -> Option<Span>
+fn hull_of_spans(x: Option<Span>, y: Option<Span>) -> Option<Span>
     ensures holds { (is js : List Interval) → AreHeld of_span is x → AreHeld of_span js y
         → AreHeld of_span (is ++ js) result }
     ensures narrow { (first edge last : Edge) (j k : ℕ) (lo hi : ℤ) → lo ≤ℤ hi
@@ -188,11 +188,11 @@ pub(crate) fn arctan_over(span: Span) -> Option<Span>
         (between (at_56 span.lo) (at_56 span.hi)) ⊆ of_span arc) }
     ensures narrow { AreOver span.lo span.hi result }
 {
-    let positive = join(
+    let positive = hull_of_spans(
         arc_over(Piece::Above, span.lo, span.hi),
         arc_over(Piece::FarAbove, span.lo, span.hi),
     );
-    let later = join(arc_over(Piece::Near, span.lo, span.hi), positive);
-    let most = join(arc_over(Piece::Below, span.lo, span.hi), later);
-    join(arc_over(Piece::FarBelow, span.lo, span.hi), most)
+    let later = hull_of_spans(arc_over(Piece::Near, span.lo, span.hi), positive);
+    let most = hull_of_spans(arc_over(Piece::Below, span.lo, span.hi), later);
+    hull_of_spans(arc_over(Piece::FarBelow, span.lo, span.hi), most)
 }

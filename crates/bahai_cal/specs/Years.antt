@@ -16,6 +16,10 @@ IsNearNumber number = (negsuc 999999 ≤ℤ number) × (number ≤ℤ pos 100000
 abbrev pub IsNearMonth : BahaiMonth → Type 0
 IsNearMonth month = IsNearNumber month.number × IsFactDay month.first_day
 
--- from where a month of a year is counted that is answered
+-- the number of a year by the cycles of a date
+abbrev pub IsCountedYear : ℤ → Type 0
+IsCountedYear number = (negsuc 19999 ≤ℤ number) × (number ≤ℤ pos 20000)
+
+-- from where a month of such a year is counted
 abbrev pub IsMonthStart : MonthStart → Type 0
-IsMonthStart start = (negsuc 42 ≤ℤ start.passed) × (start.passed ≤ℤ pos 205) × (negsuc 18 ≤ℤ start.days) × (start.days ≤ℤ pos 342)
+IsMonthStart start = (negsuc 20000 ≤ℤ start.passed) × (start.passed ≤ℤ pos 20000) × (negsuc 18 ≤ℤ start.days) × (start.days ≤ℤ pos 342)

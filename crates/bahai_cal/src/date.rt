@@ -1,11 +1,13 @@
 //! Bahá'í dates, and the facts that they are found by. Days are R.D.
 ghost use Rattle.std.specs.Prelude.{◌≡◌, ◌≤◌, ◌≤ℤ◌, ◌+ℤ◌, ◌-ℤ◌, ◌*ℤ◌, pos, negsuc};
 ghost use Rattle.book_model.specs.calendars.Bahai as spec;
+ghost use Rattle.book_model.specs.calendars.Dates.{IsAskable, IsDateDay};
+ghost use Rattle.book_model.specs.declared.calendar.Calendar.TheVariants.{Bahai};
 ghost use Rattle.book_model.specs.sky.Facts.{IsFactDay, IsFactValue};
 ghost use Rattle.book_model.specs.calendars.Inquiries.{to_32_bits as to_32_bits_of};
 ghost use Rattle.book_model.specs.calendars.Spans.{quotient_down, modulo as modulo_of};
 ghost use Rattle.bahai_cal.specs.Dates.{fields_of_date};
-ghost use Rattle.bahai_cal.specs.Years.{IsMonthStart, IsNearMonth, IsNearYear};
+ghost use Rattle.bahai_cal.specs.Years.{IsCountedYear, IsMonthStart, IsNearMonth, IsNearYear};
 ghost use Rattle.oracle_core.specs.Asking.{Asks, AsksAs};
 ghost use Rattle.calendar_math.specs.Days.{IsCalendarDay};
 
@@ -111,7 +113,7 @@ fn date_by(day: i64, first: i64, base: i64, next: i64) -> BahaiDate
 /// ```
 #[tactic(auto, using(oracle_core::proofs::Inquiring::asking), unfolding(book_model::specs::calendars::Bahai::bahai_on))]
 pub fn from_fixed<O: Oracle>(oracle: &mut O, day: i64) -> Result<BahaiDate, Stop>
-    requires day { IsCalendarDay day }
+    requires day { IsDateDay Bahai day }
     ensures date { AsksAs fields_of_date O.Oracle (spec.bahai_on day) oracle.old oracle.new result }
 {
     let first = oracle.ask(year_fact_on(day))?;
@@ -122,12 +124,12 @@ pub fn from_fixed<O: Oracle>(oracle: &mut O, day: i64) -> Result<BahaiDate, Stop
 
 /// The years of the major cycles and the cycles before these.
 fn years_of_cycles(major: i64, cycle: i64) -> i64
-    requires major_from { pos 0 ≤ℤ major }
+    requires major_from { negsuc 8 ≤ℤ major }
     requires major_to { major ≤ℤ pos 9 }
     requires cycle_from { pos 0 ≤ℤ cycle }
     requires cycle_to { cycle ≤ℤ pos 255 }
     ensures years { result ≡ pos 361 *ℤ (major -ℤ pos 1) +ℤ pos 19 *ℤ (cycle -ℤ pos 1) }
-    ensures low { negsuc 999 ≤ℤ result }
+    ensures low { negsuc 9999 ≤ℤ result }
     ensures high { result ≤ℤ pos 10000 }
 {
     361 * (major - 1) + 19 * (cycle - 1)
@@ -135,9 +137,10 @@ fn years_of_cycles(major: i64, cycle: i64) -> i64
 
 /// The number of the year of a date.
 fn year_number(date: BahaiDate) -> i64
-    requires major_from { pos 0 ≤ℤ date.major }
+    requires major_from { negsuc 8 ≤ℤ date.major }
     requires major_to { date.major ≤ℤ pos 9 }
     ensures number { result ≡ spec.bahai_year date.major (pos date.cycle) (pos date.year) }
+    ensures near { IsCountedYear result }
 {
     years_of_cycles(i64::from(date.major), i64::from(date.cycle)) + i64::from(date.year)
 }
@@ -178,13 +181,7 @@ fn day_counted_from<O: Oracle>(oracle: &mut O, start: MonthStart, day: i64) -> R
 /// ```
 #[tactic(auto, using(oracle_core::proofs::Inquiring::asking), unfolding(book_model::specs::calendars::Bahai::bahai_day))]
 pub fn to_fixed<O: Oracle>(oracle: &mut O, date: BahaiDate) -> Result<i64, Stop>
-    requires major_from { pos 0 ≤ℤ date.major }
-    requires major_to { date.major ≤ℤ pos 9 }
-    requires year_from { negsuc 41 ≤ℤ spec.bahai_year date.major (pos date.cycle) (pos date.year) }
-    requires year_to { spec.bahai_year date.major (pos date.cycle) (pos date.year) ≤ℤ pos 205 }
-    requires to_last_month { date.month ≤ 19 }
-    requires from_first_day { 1 ≤ date.day }
-    requires to_last_day { date.day ≤ 19 }
+    requires askable { IsAskable Bahai (fields_of_date date) }
     ensures day { Asks O.Oracle (spec.bahai_day date.major (pos date.cycle) (pos date.year)
         (pos date.month) (pos date.day)) oracle.old oracle.new result }
 {

@@ -10,4 +10,3 @@ mod months;
 mod years;
 
 pub use date::{BahaiDate, from_fixed, to_fixed};
-pub use fields::{date_on, named_day};

@@ -1,10 +1,10 @@
 //! The months of a Bahá'í year: nineteen of 19 days, and before the last the days of Ayyám-i-Há, which count as month 0.
 //! Days are R.D.
-ghost use Rattle.std.specs.Prelude.{◌≡◌, ◌≤ℤ◌, ◌+ℤ◌, ◌-ℤ◌, ◌*ℤ◌, pos, negsuc, int_le};
+ghost use Rattle.std.specs.Prelude.{◌≡◌, ◌≤ℤ◌, ◌+ℤ◌, ◌-ℤ◌, ◌*ℤ◌, pos, int_le};
 ghost use Rattle.book_model.specs.calendars.Bahai as spec;
 ghost use Rattle.book_model.specs.calendars.Spans.{quotient_down};
 ghost use Rattle.book_model.specs.sky.Facts.{IsFactValue};
-ghost use Rattle.bahai_cal.specs.Years.{IsMonthStart, IsNearMonth, IsNearNumber};
+ghost use Rattle.bahai_cal.specs.Years.{IsCountedYear, IsMonthStart, IsNearMonth, IsNearNumber};
 ghost use Rattle.calendar_math.specs.Days.{IsCalendarDay};
 
 use book_model::{BahaiMonth, MonthStart};
@@ -88,8 +88,7 @@ pub(crate) fn month_on(day: i64, first: i64, base: i64, next: i64) -> BahaiMonth
 /// From where a month of a year is counted: the last one back from the first day of the next year.
 #[tactic(auto, unfolding(book_model::specs::calendars::Bahai::month_start))]
 pub(crate) fn month_start(number: i64, month: i64) -> MonthStart
-    requires from { negsuc 41 ≤ℤ number }
-    requires to { number ≤ℤ pos 205 }
+    requires number { IsCountedYear number }
     requires from_first_month { pos 0 ≤ℤ month }
     requires to_last_month { month ≤ℤ pos 19 }
     ensures start { result ≡ spec.month_start number month }

@@ -4,7 +4,8 @@ ghost use Rattle.book_model.specs.calendars.Bahai as spec;
 ghost use Rattle.book_model.specs.sky.Facts.{IsFactDay, IsFactValue};
 ghost use Rattle.bahai_cal.specs.Years.{IsNearYear};
 
-use book_model::{BAHAI_EPOCH, Fact, Kind, Place, TROPICAL_YEAR};
+use book_model::calendar_tables::{BAHAI_EPOCH, TROPICAL_YEAR};
+use book_model::{Fact, Kind, Place};
 use calendar_math::{days_of, years_of_days};
 
 /// The fact of the first day of the Bahá'í year that a day falls in.

@@ -2,7 +2,7 @@
 use Rattle.std.specs.Prelude.{◌≡◌, ℕ, zero, suc, ◌+◌, ◌*◌, ◌^◌, ◌≤◌, ℤ, pos, negsuc, ◌*ℤ◌, ◌≤ℤ◌, unsigned_abs, List, length, slice_index_or, refl}
 use Rattle.std.proofs.Common.{arith, add-one}
 use Rattle.std.proofs.lemmas.Int.{ints, unsigned_abs-mul}
-use Rattle.std.proofs.Math.Nat.{mul-le-mul_left, mul-le-mul_right, pow-suc}
+use Rattle.std.proofs.Math.Nat.{mul-le-mul_left, mul-le-mul_right, pow-suc, pow-zero}
 use Rattle.std.specs.Prelude.{◌<ℤ◌, int_le, Bool, true, false, if◌then◌else◌}
 use Rattle.std.specs.Prelude.{Some, Ok}
 use Rattle.std.specs.Ordering.{int_eq}
@@ -42,11 +42,11 @@ power_more x i = rw add-one refl
 size_product : (a b : ℤ) (m n : ℕ) → unsigned_abs a ≤ m → unsigned_abs b ≤ n → unsigned_abs (a *ℤ b) ≤ m * n
 size_product a b m n h k = rw (unsigned_abs-mul a b) (let p = mul-le-mul_right (unsigned_abs b) h in let q = mul-le-mul_left m k in omega (arith, p, q))
 
--- a number of size 64 at most has powers of size 64^k at most
-pub power_size : (x : ℤ) (k : ℕ) → unsigned_abs x ≤ 64 → unsigned_abs (int_power x k) ≤ 64 ^ k
+-- a number of size m at most has powers of size m^k at most
+pub power_size : (m : ℕ) (x : ℤ) (k : ℕ) → unsigned_abs x ≤ m → unsigned_abs (int_power x k) ≤ m ^ k
 unfolding int_power
-power_size x zero h = omega arith
-power_size x (suc k) h = let r = size_product (int_power x k) x (64 ^ k) 64 (power_size x k h) h in let e : 64 ^ suc k ≡ 64 ^ k * 64 = pow-suc 64 k in rw e r
+power_size m x zero h = let e : m ^ 0 ≡ 1 = pow-zero m in rw e (omega arith)
+power_size m x (suc k) h = let r = size_product (int_power x k) x (m ^ k) m (power_size m x k h) h in let e : m ^ suc k ≡ m ^ k * m = pow-suc m k in rw e r
 
 pub few_of_two : {A : Type 0} (n : ℕ) (b : Bool) (p q : Program A) → AtMost n p → AtMost n q → AtMost n (if b then p else q)
 few_of_two n true p q h k = h

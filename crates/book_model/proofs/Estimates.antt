@@ -81,6 +81,20 @@ difference_between a b c d (between p q) (between r s) h k = (
   le_trans _ _ _ (plus_mono _ _ _ _ h.1 (opposite_mono _ _ k.0)) (less_whole b c),
 )
 
+whole_more : (m n : ℤ) → whole (m +ℤ n) ≤F plus (whole m) (whole n)
+unfolding plus
+whole_more m n = record { cross = omega (arith, ints) }
+
+more_whole : (m n : ℤ) → plus (whole m) (whole n) ≤F whole (m +ℤ n)
+unfolding plus
+more_whole m n = record { cross = omega (arith, ints) }
+
+pub sum_between : (a b c d : ℤ) (i j : Interval) → IsBetween a b i → IsBetween c d j → IsBetween (a +ℤ c) (b +ℤ d) (sum i j)
+unfolding sum
+sum_between a b c d everything j h k = tt
+sum_between a b c d (between p q) everything h k = tt
+sum_between a b c d (between p q) (between r s) h k = (le_trans _ _ _ (whole_more a c) (plus_mono _ _ _ _ h.0 k.0), le_trans _ _ _ (plus_mono _ _ _ _ h.1 k.1) (more_whole b d))
+
 -- the lesser of two, of which the first isn't below and isn't above the bounds
 pub minimum_between : (lo hi h : ℤ) (i j : Interval) → IsBetween lo hi i → IsBetween lo h j → IsBetween lo hi (interval_minimum i j)
 unfolding interval_minimum

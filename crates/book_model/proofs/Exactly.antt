@@ -71,11 +71,11 @@ pub decimal_zero : decimal_11 (pos 0) ≈ whole (pos 0)
 decimal_zero = record { cross = refl }
 
 -- a number of 10^-11 seconds is the correction in days
-pub seconds_exactly : (w : World) (cs : List Frac) (y n : ℤ) → decimal_11 n ≈ exact_to cs (y -ℤ pos 2000) (length cs) → IsNumber (seconds_11 n) (value w (seconds_of cs y))
+pub seconds_exactly : (w : World) (cs : List Frac) (origin y n : ℤ) → decimal_11 n ≈ exact_to cs (y -ℤ origin) (length cs) → IsNumber (seconds_11 n) (value w (seconds_of cs origin y))
 unfolding value seconds_of polynomial_of times
-seconds_exactly w cs y n h =
-    let s : times (exact_to cs (y -ℤ pos 2000) (length cs)) (fraction_of SECOND) ≈ seconds_11 n = same_trans (times_cong (same_sym h) (same_refl (fraction_of SECOND))) (in_days n) in
-    rw (polynomial_exactly w cs (y -ℤ pos 2000) (length cs), product_exactly (exact_to cs (y -ℤ pos 2000) (length cs)) (fraction_of SECOND)) (s, s)
+seconds_exactly w cs origin y n h =
+    let s : times (exact_to cs (y -ℤ origin) (length cs)) (fraction_of SECOND) ≈ seconds_11 n = same_trans (times_cong (same_sym h) (same_refl (fraction_of SECOND))) (in_days n) in
+    rw (polynomial_exactly w cs (y -ℤ origin) (length cs), product_exactly (exact_to cs (y -ℤ origin) (length cs)) (fraction_of SECOND)) (s, s)
   where
     in_days : (n : ℤ) → times (decimal_11 n) (fraction_of SECOND) ≈ seconds_11 n
     in_days n = record { cross = ring (n ∷ []) ((at 0 ⊗ lit (pos 1)) ⊗ lit (pos 8640000000000000)) (at 0 ⊗ lit (pos 8640000000000000)) refl }

@@ -1,5 +1,5 @@
 -- How many tests the formulas of facts make, and from where to where the values of the sun's lie.
-use Rattle.std.specs.Prelude.{◌≡◌, ℤ, pos, negsuc, ◌+ℤ◌, ◌*ℤ◌, ◌≤ℤ◌, Option, Some, None, Bool, true, false, refl}
+use Rattle.std.specs.Prelude.{◌≡◌, ℤ, pos, ◌+ℤ◌, ◌*ℤ◌, ◌≤ℤ◌, Option, Some, None, Bool, true, false, refl}
 use Rattle.std.proofs.Common.{arith, sym, ◌∙◌}
 use Rattle.std.proofs.lemmas.Int.{ints}
 use Rattle.std.specs.Ordering.{int_eq}
@@ -12,27 +12,25 @@ use Rattle.exact_math.proofs.IntLaws.{mul_add}
 use Rattle.exact_math.proofs.Intervals.{within_trans, product_within, within_refl}
 use Rattle.book_model.specs.declared.site.Site.{Site}
 use Rattle.book_model.specs.declared.tables.TheConstants.{THOUSANDTHS_OF_DEGREE}
-use Rattle.book_model.specs.sky.Correction.{is_between, year_of, rounded_of}
+use Rattle.book_model.specs.sky.Correction.{Correction, row_of_year, year_of, rounded_of}
 use Rattle.book_model.specs.numbers.Expressions.{Expression, World, value, exactly, integer, constant, scale, remainder}
 use Rattle.book_model.specs.numbers.Fractions.{fraction_of}
 use Rattle.book_model.specs.sky.Kinds.{dt_of, sun_in_thousandths_of}
 use Rattle.book_model.specs.programs.Programs.{Grid, integers, multiples, cell_of, cell_at, compare_at, when, threshold, Program, answer, void, cell, compare, bind, after_cell, after_compare, run, valued, outcome, AtMost, answer_at_most, void_at_most, cell_at_most}
 use Rattle.book_model.specs.sky.Sun.{sun_of, longitude_of}
-use Rattle.book_model.specs.sky.Time.{correction_of_year, correction_at, dynamical_of, centuries_of}
+use Rattle.book_model.specs.sky.Time.{by_row, correction_of_year, correction_at, dynamical_of, centuries_of}
 use Rattle.book_model.proofs.Cells.{cells_cut}
-use Rattle.book_model.proofs.Corrections.{few_of_two}
 use Rattle.book_model.proofs.Leads.{at_most_bind, at_most_more}
 use Rattle.book_model.proofs.Values.{value_proper}
 
 -- ---- how many tests
-correction_few : (y : ℤ) → AtMost 0 (correction_of_year y)
+row_few : (y : ℤ) (o : Option Correction) → AtMost 0 (by_row y o)
+row_few y None = void_at_most
+row_few y (Some row) = answer_at_most
+
+pub correction_few : (y : ℤ) → AtMost 0 (correction_of_year y)
 unfolding correction_of_year
-correction_few y =
-    few_of_two 0 (is_between (negsuc 498) (pos 499) y) _ _ answer_at_most
-    (few_of_two 0 (is_between (pos 1800) (pos 1899) y) _ _ answer_at_most
-    (few_of_two 0 (is_between (pos 1900) (pos 1986) y) _ _ answer_at_most
-    (few_of_two 0 (is_between (pos 1987) (pos 2005) y) _ _ answer_at_most
-    (few_of_two 0 (is_between (pos 2006) (pos 2050) y) _ _ answer_at_most void_at_most))))
+correction_few y = row_few y (row_of_year y)
 
 -- the correction of a moment makes one test
 pub correction_at_few : (x : Expression) → AtMost 1 (correction_at x)

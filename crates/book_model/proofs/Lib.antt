@@ -22,3 +22,8 @@ pub mod WordTables
 pub mod NameLemmas
 pub mod Early
 pub mod Rows
+pub mod VersionTables
+pub mod DateLimits
+pub mod Flags
+pub mod CorrectionRows
+pub mod Places

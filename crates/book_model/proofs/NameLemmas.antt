@@ -61,10 +61,10 @@ named_back {A = A} value name number one named rows i v tested r =
     by None e = absurd (cc)
     by (Some w) e = let n : number w ≡ number v = grind (arith, nat_tests, e) in ap (λ t. Some t) (one w v n)
 
--- what holds of the name in each row holds of the name at a place
-name_passes : {R : Type 0} (name : R → List ℕ) (number : R → ℕ) (test : List ℕ → Bool) (rows : List R) (i n : ℕ) → list_all (λ r. test (name r)) rows ≡ true → IsRow number rows i n
-    → test (option_map_or name (slice_get rows i) []) ≡ true
-name_passes name number test rows i n tested r = rw r.here (all_at (λ r. test (name r)) i rows r.row tested r.here)
+-- what holds of a column in each row holds of the column at a place
+pub column_passes : {R V : Type 0} (column : R → V) (none : V) (number : R → ℕ) (test : V → Bool) (rows : List R) (i n : ℕ) → list_all (λ r. test (column r)) rows ≡ true → IsRow number rows i n
+    → test (option_map_or column (slice_get rows i) none) ≡ true
+column_passes column none number test rows i n tested r = rw r.here (all_at (λ r. test (column r)) i rows r.row tested r.here)
 
 -- each kind's row
 pub kind_row : (k : Kind) → IsRow (λ row. kind_number row.0) KINDS (kind_number k) (kind_number k)
@@ -102,12 +102,12 @@ site_found s = named_back (λ row. row.0) (λ row. row.1.now) site_number one_si
 -- what holds of each name in a table holds of each name
 pub kind_names_pass : (test : List ℕ → Bool) (k : Kind) → list_all (λ row. test row.1.now) KINDS ≡ true → test (kind_name k) ≡ true
 unfolding kind_name
-kind_names_pass test k h = name_passes (λ row. row.1.now) (λ row. kind_number row.0) test KINDS (kind_number k) (kind_number k) h (kind_row k)
+kind_names_pass test k h = column_passes (λ row. row.1.now) [] (λ row. kind_number row.0) test KINDS (kind_number k) (kind_number k) h (kind_row k)
 
 pub place_names_pass : (test : List ℕ → Bool) (p : Place) → list_all (λ row. test row.1.now) PLACES ≡ true → test (place_name p) ≡ true
 unfolding place_name
-place_names_pass test p h = name_passes (λ row. row.1.now) (λ row. place_number row.0) test PLACES (place_number p) (place_number p) h (place_row p)
+place_names_pass test p h = column_passes (λ row. row.1.now) [] (λ row. place_number row.0) test PLACES (place_number p) (place_number p) h (place_row p)
 
 pub site_names_pass : (test : List ℕ → Bool) (s : Site) → list_all (λ row. test row.1.now) SITES ≡ true → test (site_name s) ≡ true
 unfolding site_name
-site_names_pass test s h = name_passes (λ row. row.1.now) (λ row. site_number row.0) test SITES (tag_of site_type s) (site_number s) h (site_row s)
+site_names_pass test s h = column_passes (λ row. row.1.now) [] (λ row. site_number row.0) test SITES (tag_of site_type s) (site_number s) h (site_row s)

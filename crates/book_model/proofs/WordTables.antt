@@ -5,10 +5,8 @@ use Rattle.book_model.specs.declared.calendar.Calendar.{Calendar}
 use Rattle.book_model.specs.declared.calendar.Calendar.TheVariants as calendars
 use Rattle.book_model.specs.declared.fact.Kind.{Kind}
 use Rattle.book_model.specs.declared.fact.Place.{Place}
-use Rattle.book_model.specs.declared.words.Shown.{Shown}
-use Rattle.book_model.specs.declared.words.Shown.TheVariants.{Date, Value}
-use Rattle.book_model.specs.declared.words.Named.{Named}
-use Rattle.book_model.specs.declared.words.Named.TheVariants.{Date as Day, Value as Of}
+use Rattle.book_model.specs.declared.words.Meaning.{Meaning}
+use Rattle.book_model.specs.declared.words.Meaning.TheVariants.{Date, Value}
 use Rattle.book_model.specs.declared.words.FromWord.{FromWord}
 use Rattle.book_model.specs.declared.words.FromWord.TheVariants as from
 use Rattle.book_model.specs.declared.words.ToWord.{ToWord}
@@ -26,8 +24,8 @@ pub to_found : (w : ToWord) → to_word_of (text_of_to w) ≡ Some w
 to_found to.Gregorian = refl
 to_found _ = refl
 
--- what a word shows that is no date is the value of facts that there are
-abbrev pub IsPlaced : Shown → Type 0
+-- what a word is about that is no date is the value of facts that there are
+abbrev pub IsPlaced : Meaning → Type 0
 IsPlaced (Date c) = Unit {0}
 IsPlaced (Value kind place) = IsTrue (has_place kind place)
 
@@ -38,16 +36,11 @@ shown_placed _ = search rules
 pub value_placed : (w : ToWord) (kind : Kind) (place : Place) → shown_by w ≡ Value kind place → IsTrue (has_place kind place)
 value_placed w kind place e = rw e at (shown_placed w)
 
--- and so is what a word names that is no date
-abbrev pub IsPlacedDay : Named → Type 0
-IsPlacedDay (Day c) = Unit {0}
-IsPlacedDay (Of kind place) = IsTrue (has_place kind place)
-
-named_placed : (w : FromWord) → IsPlacedDay (named_by w)
+named_placed : (w : FromWord) → IsPlaced (named_by w)
 named_placed from.Gregorian = tt
 named_placed _ = search rules
 
-pub day_placed : (w : FromWord) (kind : Kind) (place : Place) → named_by w ≡ Of kind place → IsTrue (has_place kind place)
+pub day_placed : (w : FromWord) (kind : Kind) (place : Place) → named_by w ≡ Value kind place → IsTrue (has_place kind place)
 day_placed w kind place e = rw e at (named_placed w)
 
 -- the row of a calendar is its own

@@ -1,4 +1,5 @@
 -- The rules of the calendars, as inquiries.
+pub mod Versions
 pub mod Gregorian
 pub mod Inquiries
 pub mod Spans

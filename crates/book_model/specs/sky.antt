@@ -11,6 +11,8 @@ pub mod Latitude
 pub mod NewMoons
 pub mod Phases
 pub mod Horizon
+pub mod Altitude
+pub mod Places
 pub mod Crescent
 pub mod HinduFacts
 pub mod Kinds

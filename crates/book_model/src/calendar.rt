@@ -2,11 +2,8 @@
 //! read the table too.
 ghost use Rattle.std.specs.Prelude.{◌≡◌};
 
-/// The first day that a line may name: 1 January 1802 (R.D.).
-pub const FIRST_ANSWERED_DAY: i64 = 657_802;
-
-/// The last day that a line may name: 31 December 2048 (R.D.).
-pub const LAST_ANSWERED_DAY: i64 = 748_017;
+/// The last day whose date the calendars tell (R.D.).
+pub const LAST_DATE_DAY: i64 = 1_000_000;
 
 /// A calendar of dates: the Gregorian calendar, the day number of the book (R.D.), the Persian, the Bahá'í, the Chinese, the
 /// Islamic, the Hindu solar or the Hindu lunar calendar.
@@ -35,8 +32,10 @@ pub struct CalendarRow {
     pub weights: [i32; 5],
     /// The number of the year, less the weighed fields.
     pub offset: i32,
-    /// The first and the last number of a year that is answered.
-    pub years: (i32, i32),
+    /// The first day whose date the calendar tells (R.D.).
+    pub first_day: i64,
+    /// The first and the last number of a year that each version answers, in the order of the versions.
+    pub years: [(i32, i32); 1],
     /// Whether a date has to be its day's own date.
     pub is_confirmed: bool,
     /// Whether a year is written with four digits, and a month and a day with two.
@@ -48,21 +47,21 @@ pub struct CalendarRow {
 #[rattlefmt::skip]
 pub const CALENDARS: [CalendarRow; 8] = [
     CalendarRow { calendar: Calendar::Gregorian, count: 3, limits: [(1, 9999), (1, 12), (1, 31), (0, 0), (0, 0)],
-        weights: [1, 0, 0, 0, 0], offset: 0, years: (1, 9999), is_confirmed: false, is_padded: true },
+        weights: [1, 0, 0, 0, 0], offset: 0, first_day: 1, years: [(1, 9999)], is_confirmed: false, is_padded: true },
     CalendarRow { calendar: Calendar::Fixed, count: 1, limits: [(0, 9_999_999), (0, 0), (0, 0), (0, 0), (0, 0)],
-        weights: [0, 0, 0, 0, 0], offset: 0, years: (0, 0), is_confirmed: false, is_padded: false },
+        weights: [0, 0, 0, 0, 0], offset: 0, first_day: 0, years: [(0, 0)], is_confirmed: false, is_padded: false },
     CalendarRow { calendar: Calendar::Persian, count: 3, limits: [(1, 9999), (1, 12), (1, 31), (0, 0), (0, 0)],
-        weights: [1, 0, 0, 0, 0], offset: 0, years: (1180, 1427), is_confirmed: true, is_padded: false },
+        weights: [1, 0, 0, 0, 0], offset: 0, first_day: 0, years: [(1180, 1427)], is_confirmed: true, is_padded: false },
     CalendarRow { calendar: Calendar::Bahai, count: 5, limits: [(0, 9), (1, 19), (1, 19), (0, 19), (1, 19)],
-        weights: [361, 19, 1, 0, 0], offset: -380, years: (-42, 205), is_confirmed: true, is_padded: false },
+        weights: [361, 19, 1, 0, 0], offset: -380, first_day: 0, years: [(-42, 205)], is_confirmed: true, is_padded: false },
     CalendarRow { calendar: Calendar::Chinese, count: 5, limits: [(1, 99), (1, 60), (1, 12), (0, 1), (1, 30)],
-        weights: [60, 1, 0, 0, 0], offset: -60, years: (4438, 4685), is_confirmed: true, is_padded: false },
+        weights: [60, 1, 0, 0, 0], offset: -60, first_day: 0, years: [(4438, 4685)], is_confirmed: true, is_padded: false },
     CalendarRow { calendar: Calendar::Islamic, count: 3, limits: [(1, 9999), (1, 12), (1, 30), (0, 0), (0, 0)],
-        weights: [1, 0, 0, 0, 0], offset: 0, years: (1216, 1471), is_confirmed: true, is_padded: false },
+        weights: [1, 0, 0, 0, 0], offset: 0, first_day: 0, years: [(1216, 1471)], is_confirmed: true, is_padded: false },
     CalendarRow { calendar: Calendar::HinduSolar, count: 3, limits: [(1, 9999), (1, 12), (1, 32), (0, 0), (0, 0)],
-        weights: [1, 0, 0, 0, 0], offset: 0, years: (1723, 1970), is_confirmed: true, is_padded: false },
+        weights: [1, 0, 0, 0, 0], offset: 0, first_day: 0, years: [(1723, 1970)], is_confirmed: true, is_padded: false },
     CalendarRow { calendar: Calendar::HinduLunar, count: 5, limits: [(1, 9999), (1, 12), (0, 1), (1, 30), (0, 1)],
-        weights: [1, 0, 0, 0, 0], offset: 0, years: (1858, 2105), is_confirmed: true, is_padded: false },
+        weights: [1, 0, 0, 0, 0], offset: 0, first_day: 0, years: [(1858, 2105)], is_confirmed: true, is_padded: false },
 ];
 
 impl Calendar {

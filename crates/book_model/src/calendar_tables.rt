@@ -1,5 +1,5 @@
 //! The constants of the calendars. Each stands here once; the definitions read them too.
-use crate::Frac;
+use crate::{Frac, Season, Side};
 
 /// The mean tropical year, in days (Reingold and Dershowitz, Calendrical Calculations, chapter 14).
 #[rattlefmt::skip]
@@ -39,3 +39,12 @@ pub const HINDU_EPOCH: i64 = -1_132_959;
 pub const SAKA_ERA: i64 = 3179;
 
 pub const VIKRAMA_ERA: i64 = 3044;
+
+/// The spring equinox: the search for it begins before it, where the longitude is near 360, and ends where it is at most 2 degrees
+/// (Reingold and Dershowitz, Calendrical Calculations, chapters 15 and 16).
+#[rattlefmt::skip]
+pub const SPRING: Season = Season { longitude: 0, side: Side::UpTo(2) };
+
+/// The winter solstice (Reingold and Dershowitz, Calendrical Calculations, chapter 19).
+#[rattlefmt::skip]
+pub const WINTER: Season = Season { longitude: 270, side: Side::Past(270) };

@@ -2,8 +2,9 @@
 ghost use Rattle.std.specs.Prelude.{◌≡◌, ◌↔◌, ◌<◌, ℤ, ◌≤ℤ◌, length, map, IfSome, IsSome};
 ghost use Rattle.book_model.specs.declared.fact.TheConstants.{KINDS, PLACES};
 
+use crate::location_tables::{CAIRO, TEHRAN, UJJAIN};
 use crate::names::{first_row_named, list_at, name_at};
-use crate::{CAIRO, Location, TEHRAN, UJJAIN};
+use crate::{Frac, Location, ZoneStep};
 
 /// A kind of astronomical fact.
 #[derive(Clone, Copy, Debug, PartialEq, Eq, Hash)]
@@ -51,45 +52,57 @@ pub struct Fact {
     pub(crate) day: i64,
 }
 
-/// Each kind of fact with its printed name, the places that it is asked of, and whether it begins with a whole day, in the
-/// order of the variants. It begins with one where the first test of its formula and the third, if they are of a year, are of
-/// that of the day itself.
+/// Which tests of the formula of a kind of fact, where they are of a year, are of that of the whole day itself, and so are never
+/// open.
+#[derive(Clone, Copy, Debug, PartialEq, Eq)]
+pub enum WholeDays {
+    /// None.
+    Nowhere,
+    /// The first and the third.
+    AtFirst,
+    /// Each.
+    Everywhere,
+}
+
+/// Each kind of fact with its printed name, the places that it is asked of, and which of its tests of a year are of a whole day,
+/// in the order of the variants.
 #[rattlefmt::skip]
-pub static KINDS: [(Kind, &str, (&[Place], bool)); 23] = [
-    (Kind::Dt, "dt", (&[Place::None], true)),
-    (Kind::Sun, "sun", (&[Place::None], true)),
-    (Kind::Nowruz, "nowruz", (&[Place::None], false)),
-    (Kind::BahaiYear, "bahai-year", (&[Place::None], false)),
-    (Kind::Solstice, "solstice", (&[Place::Beijing], false)),
-    (Kind::NewMoonBefore, "new-moon-before", (&[Place::Beijing], false)),
-    (Kind::NewMoonFrom, "new-moon-from", (&[Place::Beijing], false)),
-    (Kind::Major, "major", (&[Place::Beijing], false)),
-    (Kind::MajorTerm, "major-term", (&[Place::Beijing], false)),
-    (Kind::MinorTerm, "minor-term", (&[Place::Beijing], false)),
-    (Kind::Phasis, "phasis", (&[Place::Cairo], true)),
-    (Kind::Sign, "sign", (&[Place::None], false)),
-    (Kind::SolarYear, "solar-year", (&[Place::None], false)),
-    (Kind::Sankranti, "sankranti", (&[Place::None], false)),
-    (Kind::Tithi, "tithi", (&[Place::None], false)),
-    (Kind::SignBefore, "sign-before", (&[Place::None], false)),
-    (Kind::SignAfter, "sign-after", (&[Place::None], false)),
-    (Kind::CalendarYear, "calendar-year", (&[Place::None], true)),
-    (Kind::NewMoon, "new-moon", (&[Place::None], true)),
-    (Kind::FirstQuarter, "first-quarter", (&[Place::None], true)),
-    (Kind::FullMoon, "full-moon", (&[Place::None], true)),
-    (Kind::LastQuarter, "last-quarter", (&[Place::None], true)),
-    (Kind::Sunset, "sunset", (&[Place::Tehran, Place::Cairo, Place::Ujjain], false)),
+pub static KINDS: [(Kind, &str, (&[Place], WholeDays)); 23] = [
+    (Kind::Dt, "dt", (&[Place::None], WholeDays::AtFirst)),
+    (Kind::Sun, "sun", (&[Place::None], WholeDays::AtFirst)),
+    (Kind::Nowruz, "nowruz", (&[Place::None], WholeDays::Nowhere)),
+    (Kind::BahaiYear, "bahai-year", (&[Place::None], WholeDays::Nowhere)),
+    (Kind::Solstice, "solstice", (&[Place::Beijing], WholeDays::Nowhere)),
+    (Kind::NewMoonBefore, "new-moon-before", (&[Place::Beijing], WholeDays::Nowhere)),
+    (Kind::NewMoonFrom, "new-moon-from", (&[Place::Beijing], WholeDays::Nowhere)),
+    (Kind::Major, "major", (&[Place::Beijing], WholeDays::Nowhere)),
+    (Kind::MajorTerm, "major-term", (&[Place::Beijing], WholeDays::Nowhere)),
+    (Kind::MinorTerm, "minor-term", (&[Place::Beijing], WholeDays::Nowhere)),
+    (Kind::Phasis, "phasis", (&[Place::Cairo], WholeDays::AtFirst)),
+    (Kind::Sign, "sign", (&[Place::None], WholeDays::Nowhere)),
+    (Kind::SolarYear, "solar-year", (&[Place::None], WholeDays::Nowhere)),
+    (Kind::Sankranti, "sankranti", (&[Place::None], WholeDays::Nowhere)),
+    (Kind::Tithi, "tithi", (&[Place::None], WholeDays::Nowhere)),
+    (Kind::SignBefore, "sign-before", (&[Place::None], WholeDays::Nowhere)),
+    (Kind::SignAfter, "sign-after", (&[Place::None], WholeDays::Nowhere)),
+    (Kind::CalendarYear, "calendar-year", (&[Place::None], WholeDays::AtFirst)),
+    (Kind::NewMoon, "new-moon", (&[Place::None], WholeDays::AtFirst)),
+    (Kind::FirstQuarter, "first-quarter", (&[Place::None], WholeDays::AtFirst)),
+    (Kind::FullMoon, "full-moon", (&[Place::None], WholeDays::AtFirst)),
+    (Kind::LastQuarter, "last-quarter", (&[Place::None], WholeDays::AtFirst)),
+    (Kind::Sunset, "sunset", (&[Place::Tehran, Place::Cairo, Place::Ujjain], WholeDays::Nowhere)),
 ];
 
-/// Each place with its printed name and the location from which its horizon is looked at, if it has one, in the order of the
-/// variants.
+/// Each place with its printed name, the location from which its horizon is looked at, if it has one, and its zone, in the order
+/// of the variants. A zone is the days on which the time of the place changes, in order, each with the hours by which it is ahead
+/// of universal time before, and the hours from the last of these days on. Facts of no place go by universal time.
 #[rattlefmt::skip]
-pub static PLACES: [(Place, &str, Option<Location>); 5] = [
-    (Place::None, "-", None),
-    (Place::Beijing, "beijing", None),
-    (Place::Cairo, "cairo", Some(CAIRO)),
-    (Place::Tehran, "tehran", Some(TEHRAN)),
-    (Place::Ujjain, "ujjain", Some(UJJAIN)),
+pub static PLACES: [(Place, &str, (Option<Location>, &[ZoneStep], Frac)); 5] = [
+    (Place::None, "-", (None, &[], Frac { num: 0, den: 1 })),
+    (Place::Beijing, "beijing", (None, &[ZoneStep { before: 704_188, hours: Frac { num: 1397, den: 180 } }], Frac { num: 8, den: 1 })),
+    (Place::Cairo, "cairo", (Some(CAIRO), &[], Frac { num: 2, den: 1 })),
+    (Place::Tehran, "tehran", (Some(TEHRAN), &[], Frac { num: 7, den: 2 })),
+    (Place::Ujjain, "ujjain", (Some(UJJAIN), &[], Frac { num: 45_461, den: 9000 })),
 ];
 
 /// The first and the last day of which a fact may be asked (R.D.).
@@ -149,7 +162,7 @@ impl Kind {
 }
 
 impl Place {
-    ghost use Rattle.book_model.specs.sky.Names.{place_number, place_name, place_named, location_of};
+    ghost use Rattle.book_model.specs.sky.Names.{place_number, place_name, place_named, location_of, zone_steps, last_hours};
 
     /// The number of the place, from 0: its place among the places.
     pub fn number(self) -> usize
@@ -180,7 +193,23 @@ impl Place {
     pub fn location(self) -> Option<Location>
         ensures { result ≡ location_of self }
     {
-        PLACES[self.number()].2
+        PLACES[self.number()].2.0
+    }
+
+    /// The days on which the time of the place changes, in order, with the hours before each.
+    #[tactic(auto, unfolding(crate::specs::sky::Names::zone_steps))]
+    pub fn zone_steps(self) -> &'static [ZoneStep]
+        ensures { result.now ≡ zone_steps self }
+    {
+        PLACES[self.number()].2.1
+    }
+
+    /// The hours by which the time of the place is ahead of universal time from the last of these days on.
+    #[tactic(auto, unfolding(crate::specs::sky::Names::last_hours))]
+    pub fn last_hours(self) -> Frac
+        ensures { result ≡ last_hours self }
+    {
+        PLACES[self.number()].2.2
     }
 }
 
@@ -199,6 +228,17 @@ impl Fact {
             Some(Fact { kind, place, day })
         } else {
             None
+        }
+    }
+
+    /// The fact of the same kind and day at another place.
+    pub fn at(self, place: Place) -> Fact
+        ensures { result ≡ record self { place = place } }
+    {
+        Fact {
+            kind: self.kind,
+            place,
+            day: self.day,
         }
     }
 

@@ -1,14 +1,12 @@
 //! Locations from which the horizon is looked at, and the two times of a day at which the sun stands low.
 use crate::Frac;
 
-/// A location on the ground: its latitude north and its longitude east, in degrees, its height above the sea, in metres, and
-/// the hours by which its standard time is ahead of universal time.
+/// A location on the ground: its latitude north and its longitude east, in degrees, and its height above the sea, in metres.
 #[derive(Clone, Copy, Debug)]
 pub struct Location {
     pub latitude: Frac,
     pub longitude: Frac,
     pub height: u16,
-    pub zone: Frac,
 }
 
 /// When the sun stands so many degrees below the horizon: before it rises, or after it has set.

@@ -20,7 +20,7 @@ ghost use Rattle.book_model.specs.declared.fact.Kind.{Kind};
 ghost use Rattle.book_model.specs.declared.fact.Place.{Place};
 ghost use Rattle.book_model.specs.declared.site.Site.{Site};
 
-use crate::{Calendar, FromWord, Named, Shown, ToWord};
+use crate::{Calendar, FromWord, Meaning, ToWord};
 
 /// Nesting: at a greater depth, with narrower arguments, each expression's value lies within its value here, and
 /// each program makes the same tests as far as they are decided here, with the same answers.
@@ -126,9 +126,9 @@ pub fn words()
     ensures distinct_from { IsTrue (are_distinct_words (map (λ row. row.1) from_words)) }
     ensures distinct_to { IsTrue (are_distinct_words (map (λ row. row.1) to_words)) }
     ensures named { (w : FromWord) (kind : Kind) (place : Place)
-        → named_by w ≡ Named.Value kind place → IsTrue (has_place kind place) }
+        → named_by w ≡ Meaning.Value kind place → IsTrue (has_place kind place) }
     ensures placed { (w : ToWord) (kind : Kind) (place : Place)
-        → shown_by w ≡ Shown.Value kind place → IsTrue (has_place kind place) }
+        → shown_by w ≡ Meaning.Value kind place → IsTrue (has_place kind place) }
 {}
 
 /// The row of a calendar is its own, and a date has at most five fields.

@@ -5,17 +5,15 @@ use crate::{Frac, Location};
 /// Tehran, as its sunset is asked; for true noon it has a longitude of its own.
 #[rattlefmt::skip]
 pub const TEHRAN: Location = Location { latitude: Frac { num: 35_696_111, den: 1_000_000 }, longitude: Frac { num: 51_423_056, den: 1_000_000 },
-    height: 0, zone: Frac { num: 7, den: 2 } };
+    height: 0 };
 
 /// Cairo.
 #[rattlefmt::skip]
-pub const CAIRO: Location = Location { latitude: Frac { num: 301, den: 10 }, longitude: Frac { num: 313, den: 10 },
-    height: 200, zone: Frac { num: 2, den: 1 } };
+pub const CAIRO: Location = Location { latitude: Frac { num: 301, den: 10 }, longitude: Frac { num: 313, den: 10 }, height: 200 };
 
 /// Ujjain.
 #[rattlefmt::skip]
-pub const UJJAIN: Location = Location { latitude: Frac { num: 1389, den: 60 }, longitude: Frac { num: 272_766, den: 3600 },
-    height: 0, zone: Frac { num: 45_461, den: 9000 } };
+pub const UJJAIN: Location = Location { latitude: Frac { num: 1389, den: 60 }, longitude: Frac { num: 272_766, den: 3600 }, height: 0 };
 
 /// A quarter of a day, and three quarters: apparent time at 6 and 18 hours, to which dawn and dusk come near.
 pub const QUARTER: Frac = Frac { num: 1, den: 4 };

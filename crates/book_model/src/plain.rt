@@ -1,12 +1,12 @@
 //! A slow plain program beside a definition: the correction of a year in exact decimals, to compare with tables.
 ghost use Rattle.std.specs.Prelude.{◌≡◌, ◌≤◌, ◌<◌, ◌*◌, ◌-◌, ◌^◌, suc, ℤ, ℕ, pos, ◌-ℤ◌, ◌≤ℤ◌, length, IfSome};
 ghost use Rattle.exact_math.specs.Fraction.{◌≈◌, whole, times};
-ghost use Rattle.book_model.specs.sky.Correction.{polynomial_of, seconds_of};
 ghost use Rattle.book_model.specs.numbers.Expressions.{World, value};
 ghost use Rattle.book_model.specs.numbers.Fractions.{fraction_of};
-ghost use Rattle.book_model.specs.sky.Plain.{decimal_11, seconds_11, exact_to, IsNumber};
+ghost use Rattle.book_model.specs.sky.Plain.{decimal_11, seconds_11, exact_to, IsNumber, IsAnswerAnd};
+ghost use Rattle.book_model.specs.sky.Time.{correction_of_year};
 
-use crate::{CORRECTION_1987, CORRECTION_2006, Frac};
+use crate::{CorrectionForm, Frac, row_of_year};
 
 /// The scale of the decimals: 10¹¹, which every denominator of the corrections divides.
 const SCALE: u64 = 100_000_000_000;
@@ -47,18 +47,17 @@ pub fn exact_polynomial(coefficients: &[Frac], x: i64) -> Option<i128>
     Some(sum)
 }
 
-/// Dynamical time less universal time in a year, in 10⁻¹¹ seconds, exactly; `None` outside 1987 to 2050.
+/// Dynamical time less universal time in a year, in 10⁻¹¹ seconds, exactly; `None` where the year's row isn't one of seconds by
+/// whole years.
 pub fn exact_correction(year: i64) -> Option<i128>
-    ensures early { pos 1987 ≤ℤ year → year ≤ℤ pos 2005 → IfSome result
-        (λ n. (w : World) → IsNumber (seconds_11 n) (value w (seconds_of CORRECTION_1987 year))) }
-    ensures late { pos 2006 ≤ℤ year → year ≤ℤ pos 2050 → IfSome result
-        (λ n. (w : World) → IsNumber (seconds_11 n) (value w (seconds_of CORRECTION_2006 year))) }
+    ensures { IfSome result (λ n. (w : World) → IsAnswerAnd (correction_of_year year)
+        (λ c. IsNumber (seconds_11 n) (value w c))) }
 {
-    if 1987 <= year && year <= 2005 {
-        exact_polynomial(&CORRECTION_1987, year - 2000)
-    } else if 2006 <= year && year <= 2050 {
-        exact_polynomial(&CORRECTION_2006, year - 2000)
-    } else {
-        None
+    let row = row_of_year(year)?;
+    match row.2 {
+        CorrectionForm::SecondsSince(origin) => {
+            exact_polynomial(row.3, year.checked_sub(origin)?)
+        }
+        _ => None,
     }
 }

@@ -1,7 +1,8 @@
 //! The tables and constants of the sun's formulas. Each stands here once; the definitions read them too. The source of
 //! all is Reingold and Dershowitz, Calendrical Calculations, chapter 14. Angles are in degrees, rates in degrees a
 //! century.
-use crate::{Cubic, Frac, Quadratic, QuadraticWave, SIDEREAL_YEAR, TROPICAL_YEAR, Wave};
+use crate::calendar_tables::{SIDEREAL_YEAR, TROPICAL_YEAR};
+use crate::{Cubic, Frac, Quadratic, QuadraticWave, Wave};
 
 /// The nutation in longitude by the moon's node.
 #[rattlefmt::skip]
@@ -117,6 +118,11 @@ pub const EQUINOX_ADVANCE: Cubic = Cubic {
     square: Frac { num: 111_113, den: 360_000_000 },
     cube: Frac { num: 6, den: 3_600_000_000 },
 };
+
+/// The least crossing of a recent moment, in half degrees, rounded down, and the greatest size of its advance, in degrees, rounded up.
+pub const LEAST_RECENT_CROSSING: i64 = 349;
+
+pub const GREATEST_RECENT_ADVANCE: u32 = 6;
 
 /// What the sidereal longitude of the sun is ahead of the one from which precession is taken off.
 #[rattlefmt::skip]

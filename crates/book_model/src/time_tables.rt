@@ -63,9 +63,23 @@ pub const SIDEREAL_TIME: Cubic = Cubic {
     cube: Frac { num: -1, den: 38_710_000 },
 };
 
-/// What local mean time in Beijing is ahead of universal time, in hours: its zone before 1929.
-#[rattlefmt::skip]
-pub const BEIJING_HOURS: Frac = Frac { num: 1397, den: 180 };
-
 /// An hour, in days.
 pub const HOUR: Frac = Frac { num: 1, den: 24 };
+
+/// The first day (R.D.) of the years of which there are corrections, 1 January of the year -499, and the day after their last
+/// one, 1 January 2051.
+pub const TABLE_START: i64 = -182_621;
+
+pub const TABLE_END: i64 = 748_748;
+
+/// The centuries from noon of 1 January 2000 to such a day, or to one a day beside it, rounded outwards.
+pub const FIRST_CENTURY: i64 = -25;
+
+pub const LAST_CENTURY: i64 = 1;
+
+/// The day (R.D.) from which on a moment is recent: over recent moments precession is computed, and new moons are narrower. It lies
+/// in the year 1643.
+pub const RECENT_START: i64 = 600_000;
+
+/// The half centuries from noon of 1 January 2000 to a recent moment, rounded outwards.
+pub const FIRST_RECENT_HALF_CENTURY: i64 = -8;

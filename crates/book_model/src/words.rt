@@ -44,56 +44,49 @@ pub enum ToWord {
     SunsetUjjain,
 }
 
-/// What a word and a date name: the day of the date in a calendar, or the value of the fact of this kind at this place for the day
-/// of the date in the Gregorian calendar.
+/// What a word is about: a date in a calendar, or the value of the fact of this kind at this place. A word before a date names the
+/// day that has the date, or that the value for the day of the Gregorian date is; a word after it shows the date or the value of a day.
 #[derive(Clone, Copy, Debug, PartialEq, Eq)]
-pub enum Named {
-    Date(Calendar),
-    Value(Kind, Place),
-}
-
-/// What is shown of a day: its date in a calendar, or the value of its fact of this kind at this place.
-#[derive(Clone, Copy, Debug, PartialEq, Eq)]
-pub enum Shown {
+pub enum Meaning {
     Date(Calendar),
     Value(Kind, Place),
 }
 
 /// The words that stand before a date, in the order of their values, with what they name by the date.
 #[rattlefmt::skip]
-pub static FROM_WORDS: [(FromWord, &str, Named); 14] = [
-    (FromWord::Gregorian, "gregorian", Named::Date(Calendar::Gregorian)),
-    (FromWord::Fixed, "fixed", Named::Date(Calendar::Fixed)),
-    (FromWord::Persian, "persian", Named::Date(Calendar::Persian)),
-    (FromWord::Bahai, "bahai", Named::Date(Calendar::Bahai)),
-    (FromWord::Chinese, "chinese", Named::Date(Calendar::Chinese)),
-    (FromWord::Islamic, "islamic", Named::Date(Calendar::Islamic)),
-    (FromWord::HinduSolar, "hindu-solar", Named::Date(Calendar::HinduSolar)),
-    (FromWord::HinduLunar, "hindu-lunar", Named::Date(Calendar::HinduLunar)),
-    (FromWord::MinorTerm, "minor-term", Named::Value(Kind::MinorTerm, Place::Beijing)),
-    (FromWord::MajorTerm, "major-term", Named::Value(Kind::MajorTerm, Place::Beijing)),
-    (FromWord::NewMoon, "new-moon", Named::Value(Kind::NewMoon, Place::None)),
-    (FromWord::FirstQuarter, "first-quarter", Named::Value(Kind::FirstQuarter, Place::None)),
-    (FromWord::FullMoon, "full-moon", Named::Value(Kind::FullMoon, Place::None)),
-    (FromWord::LastQuarter, "last-quarter", Named::Value(Kind::LastQuarter, Place::None)),
+pub static FROM_WORDS: [(FromWord, &str, Meaning); 14] = [
+    (FromWord::Gregorian, "gregorian", Meaning::Date(Calendar::Gregorian)),
+    (FromWord::Fixed, "fixed", Meaning::Date(Calendar::Fixed)),
+    (FromWord::Persian, "persian", Meaning::Date(Calendar::Persian)),
+    (FromWord::Bahai, "bahai", Meaning::Date(Calendar::Bahai)),
+    (FromWord::Chinese, "chinese", Meaning::Date(Calendar::Chinese)),
+    (FromWord::Islamic, "islamic", Meaning::Date(Calendar::Islamic)),
+    (FromWord::HinduSolar, "hindu-solar", Meaning::Date(Calendar::HinduSolar)),
+    (FromWord::HinduLunar, "hindu-lunar", Meaning::Date(Calendar::HinduLunar)),
+    (FromWord::MinorTerm, "minor-term", Meaning::Value(Kind::MinorTerm, Place::Beijing)),
+    (FromWord::MajorTerm, "major-term", Meaning::Value(Kind::MajorTerm, Place::Beijing)),
+    (FromWord::NewMoon, "new-moon", Meaning::Value(Kind::NewMoon, Place::None)),
+    (FromWord::FirstQuarter, "first-quarter", Meaning::Value(Kind::FirstQuarter, Place::None)),
+    (FromWord::FullMoon, "full-moon", Meaning::Value(Kind::FullMoon, Place::None)),
+    (FromWord::LastQuarter, "last-quarter", Meaning::Value(Kind::LastQuarter, Place::None)),
 ];
 
 /// The words for what a line asks, in the order of their values, with what they show of a day.
 #[rattlefmt::skip]
-pub static TO_WORDS: [(ToWord, &str, Shown); 13] = [
-    (ToWord::Gregorian, "gregorian", Shown::Date(Calendar::Gregorian)),
-    (ToWord::Fixed, "fixed", Shown::Date(Calendar::Fixed)),
-    (ToWord::Persian, "persian", Shown::Date(Calendar::Persian)),
-    (ToWord::Bahai, "bahai", Shown::Date(Calendar::Bahai)),
-    (ToWord::Chinese, "chinese", Shown::Date(Calendar::Chinese)),
-    (ToWord::Islamic, "islamic", Shown::Date(Calendar::Islamic)),
-    (ToWord::HinduSolar, "hindu-solar", Shown::Date(Calendar::HinduSolar)),
-    (ToWord::HinduLunar, "hindu-lunar", Shown::Date(Calendar::HinduLunar)),
-    (ToWord::Dt, "dt", Shown::Value(Kind::Dt, Place::None)),
-    (ToWord::Sun, "sun", Shown::Value(Kind::Sun, Place::None)),
-    (ToWord::SunsetTehran, "sunset-tehran", Shown::Value(Kind::Sunset, Place::Tehran)),
-    (ToWord::SunsetCairo, "sunset-cairo", Shown::Value(Kind::Sunset, Place::Cairo)),
-    (ToWord::SunsetUjjain, "sunset-ujjain", Shown::Value(Kind::Sunset, Place::Ujjain)),
+pub static TO_WORDS: [(ToWord, &str, Meaning); 13] = [
+    (ToWord::Gregorian, "gregorian", Meaning::Date(Calendar::Gregorian)),
+    (ToWord::Fixed, "fixed", Meaning::Date(Calendar::Fixed)),
+    (ToWord::Persian, "persian", Meaning::Date(Calendar::Persian)),
+    (ToWord::Bahai, "bahai", Meaning::Date(Calendar::Bahai)),
+    (ToWord::Chinese, "chinese", Meaning::Date(Calendar::Chinese)),
+    (ToWord::Islamic, "islamic", Meaning::Date(Calendar::Islamic)),
+    (ToWord::HinduSolar, "hindu-solar", Meaning::Date(Calendar::HinduSolar)),
+    (ToWord::HinduLunar, "hindu-lunar", Meaning::Date(Calendar::HinduLunar)),
+    (ToWord::Dt, "dt", Meaning::Value(Kind::Dt, Place::None)),
+    (ToWord::Sun, "sun", Meaning::Value(Kind::Sun, Place::None)),
+    (ToWord::SunsetTehran, "sunset-tehran", Meaning::Value(Kind::Sunset, Place::Tehran)),
+    (ToWord::SunsetCairo, "sunset-cairo", Meaning::Value(Kind::Sunset, Place::Cairo)),
+    (ToWord::SunsetUjjain, "sunset-ujjain", Meaning::Value(Kind::Sunset, Place::Ujjain)),
 ];
 
 impl FromWord {
@@ -114,7 +107,7 @@ impl FromWord {
     }
 
     /// What the word names by the date that follows it.
-    pub fn names(self) -> Named
+    pub fn names(self) -> Meaning
         ensures named { result ≡ named_by self }
     {
         FROM_WORDS[self as usize].2
@@ -125,8 +118,8 @@ impl FromWord {
         ensures calendar { result ≡ calendar_of self }
     {
         match self.names() {
-            Named::Date(calendar) => calendar,
-            Named::Value(_, _) => Calendar::Gregorian,
+            Meaning::Date(calendar) => calendar,
+            Meaning::Value(_, _) => Calendar::Gregorian,
         }
     }
 }
@@ -149,7 +142,7 @@ impl ToWord {
     }
 
     /// What the word shows of a day.
-    pub fn shows(self) -> Shown
+    pub fn shows(self) -> Meaning
         ensures shows { result ≡ shown_by self }
     {
         TO_WORDS[self as usize].2

@@ -5,7 +5,8 @@ ghost use Rattle.book_model.specs.calendars.Spans.{ratio, days_of as days_of_spa
 ghost use Rattle.calendar_math.specs.Days.{IsCount, IsSpan, IsSpanCount};
 
 use crate::quotients::quotient_within;
-use book_model::{Frac, SYNODIC_MONTH, TROPICAL_YEAR};
+use book_model::Frac;
+use book_model::calendar_tables::{SYNODIC_MONTH, TROPICAL_YEAR};
 
 /// The numerator of a span.
 fn parts_of(span: Frac) -> u64

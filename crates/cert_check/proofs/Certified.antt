@@ -12,6 +12,7 @@ use Rattle.book_model.specs.declared.request.Resolved.{Resolved}
 use Rattle.book_model.specs.declared.request.Rule.{Rule}
 use Rattle.book_model.specs.sky.Facts.{run_of}
 use Rattle.book_model.specs.calendars.Inquiries.{Inquiry, done, ask, fact_eq, with_fact, with_entry, found, finding_after}
+use Rattle.book_model.specs.declared.version.TheConstants.{WRITTEN}
 use Rattle.book_model.specs.lines.LineRules.{rule_of}
 use Rattle.book_model.specs.sky.Names.{kind_number, place_number}
 use Rattle.book_model.specs.programs.Programs.{valued, outcome}
@@ -119,32 +120,36 @@ paired_again (e ∷ es) h =
     rw (here, paired_others e es (facts_of es) p.0, paired_again es p.1) refl
 
 -- a Yes over listed facts that stand
-certified : (words text : List ℕ) (es : List (Fact × ℤ)) (r : Result Request Rule) (why : Option Reason) → request_of words ≡ r → (why ≡ None → AllStand es) → IsTrue (are_distinct (facts_of es))
+certified : (words text : List ℕ) (es : List (Fact × ℤ)) (r : Result Request Rule) (why : Option Reason) → request_of WRITTEN words ≡ r
+    → (why ≡ None → AllStand es) → IsTrue (are_distinct (facts_of es))
     → verdict_on_request r why es text ≡ Yes → IsCertified words text es
 certified words text es (Err rule) why asked stand distinct h = cc
 certified words text es (Ok request) (Some reason) asked stand distinct h = cc
-certified words text es (Ok request) None asked stand distinct h = on_trace (trace_after (facts_of es) (values_of es) [] (rule_of request)) refl h
+certified words text es (Ok request) None asked stand distinct h = on_trace (trace_after (facts_of es) (values_of es) [] (rule_of WRITTEN request)) refl h
   where
-    on_text : (x : Resolved) (t : Bool) → pointwise nat_eq (result_text x) text ≡ t → trace_after (facts_of es) (values_of es) [] (rule_of request) ≡ traced x (facts_of es) → verdict_on_text x text ≡ Yes → IsCertified words text es
+    on_text : (x : Resolved) (t : Bool) → pointwise nat_eq (result_text x) text ≡ t
+        → trace_after (facts_of es) (values_of es) [] (rule_of WRITTEN request) ≡ traced x (facts_of es) → verdict_on_text x text ≡ Yes
+        → IsCertified words text es
     on_text x true e k l = record {
       found = x;
-      has_result = record {
-        request = request;
-        asked = asked;
-        at_each_depth = λ n deep. rw (paired_again es distinct) at (finds_traced n deep es (stand refl) (rule_of request) [] (facts_of es) x k);
-      };
+      is_right = rw asked (record {
+        at_each_depth = λ n deep. rw (paired_again es distinct) at (finds_traced n deep es (stand refl) (rule_of WRITTEN request) [] (facts_of es) x k);
+      });
       shows = sym (same_text (result_text x) text (sym e));
       stand = stand refl;
     }
     on_text x false e k l = let no : verdict_on_text x text ≡ No (Date x) = rw e refl in cc
 
-    on_list : (x : Resolved) (asked_facts : List Fact) (o : Option ℕ) → difference 1 asked_facts (facts_of es) ≡ o → trace_after (facts_of es) (values_of es) [] (rule_of request) ≡ traced x asked_facts → verdict_on_list o x text ≡ Yes → IsCertified words text es
+    on_list : (x : Resolved) (asked_facts : List Fact) (o : Option ℕ) → difference 1 asked_facts (facts_of es) ≡ o
+        → trace_after (facts_of es) (values_of es) [] (rule_of WRITTEN request) ≡ traced x asked_facts → verdict_on_list o x text ≡ Yes
+        → IsCertified words text es
     on_list x asked_facts None e k l =
         let same : asked_facts ≡ facts_of es = no_difference 1 asked_facts (facts_of es) e in
         on_text x (pointwise nat_eq (result_text x) text) refl (rw same at k) l
     on_list x asked_facts (Some place) e k l = cc
 
-    on_trace : (t : Trace Resolved) → trace_after (facts_of es) (values_of es) [] (rule_of request) ≡ t → verdict_on_trace (facts_of es) t text ≡ Yes → IsCertified words text es
+    on_trace : (t : Trace Resolved) → trace_after (facts_of es) (values_of es) [] (rule_of WRITTEN request) ≡ t
+        → verdict_on_trace (facts_of es) t text ≡ Yes → IsCertified words text es
     on_trace (missing f) e k = cc
     on_trace (traced x asked_facts) e k = on_list x asked_facts (difference 1 asked_facts (facts_of es)) refl e k
 
@@ -153,7 +158,7 @@ pub yes_certified : (facts : List (Fact × ℤ)) (answers : List Answer) (words 
     → verdict_on facts answers words text numbers ≡ Yes → IsCertified words text (numbered facts numbers)
 unfolding verdict_on
 yes_certified facts answers words text numbers distinct apart right h =
-    certified words text (numbered facts numbers) (request_of words) (first_unanswered facts answers numbers) refl
+    certified words text (numbered facts numbers) (request_of WRITTEN words) (first_unanswered facts answers numbers) refl
     (λ none. all_stand facts answers numbers right none)
     (listed_distinct facts (length facts) numbers distinct (numbers_within _ [] numbers apart) (numbers_apart _ [] numbers apart))
     h

@@ -1,16 +1,22 @@
 -- Certified lines get a Yes, where no listed fact is near at a test.
 use Rattle.std.proofs.Common.{◌≡◌, ℕ, ◌-◌, ◌+◌, ◌≤◌, Bool, true, false, ◌||◌, refl, List, [], ◌∷◌, ◌++◌, ℤ, ap, sym, arith}
 use Rattle.std.proofs.lemmas.Int.{ints}
-use Rattle.std.specs.Prelude.{Some, None, Option, nat_eq, slice_get, if◌then◌else◌}
+use Rattle.std.specs.Prelude.{Some, None, Option, Result, Ok, Err, nat_eq, slice_get, if◌then◌else◌}
 use Rattle.std.specs.Ordering.{int_eq}
 use Rattle.std.specs.Cmp.Lexicographic.{other_text}
 use Rattle.std.specs.List.{list_any}
 use lib.Pointwise.{pointwise}
 use Rattle.book_model.specs.declared.fact.Fact.{Fact}
 use Rattle.book_model.specs.declared.fail.Undecided.{Undecided}
+use Rattle.book_model.specs.declared.request.Request.{Request}
+use Rattle.book_model.specs.declared.request.Resolved.{Resolved}
+use Rattle.book_model.specs.declared.request.Rule.{Rule}
+use Rattle.book_model.specs.declared.version.TheConstants.{WRITTEN}
 use Rattle.book_model.specs.sky.Facts.{run_of, IsNear}
 use Rattle.book_model.specs.calendars.Inquiries.{Inquiry, done, ask, fact_eq, with_fact, with_entry, found, found_at, finding_after}
 use Rattle.book_model.specs.lines.LineRules.{rule_of}
+use Rattle.book_model.specs.lines.Outcomes.{resolved, IsRightForRow}
+use Rattle.book_model.specs.lines.Requests.{request_of}
 use Rattle.book_model.specs.programs.Programs.{Outcome, valued, void_at, open_at, outcome}
 use Rattle.book_model.specs.lines.Text.{result_text}
 use Rattle.oracle_core.specs.declared.evaluator.Answer.{Answer}
@@ -24,8 +30,9 @@ use Rattle.cert_text.specs.declared.line.CertLine.TheVariants as line
 use Rattle.cert_read.specs.Grammar.{or_else}
 use Rattle.cert_read.specs.Reading.{listed}
 use Rattle.cert_text.specs.Text.{too_far_text, no_date_text}
+use Rattle.cert_check.specs.declared.verdict.Reason.{Reason}
 use Rattle.cert_check.specs.declared.verdict.Verdict.TheVariants.{Yes}
-use Rattle.cert_check.specs.Verdicts.{AreRightAnswers, values_of, onto, numbered, words_of_echo, reason_of, unanswered, first_unanswered, traced, trace_after, difference, verdict_on, verdict_of, IsCertified, IsCertifiedLine, AreNearNowhere}
+use Rattle.cert_check.specs.Verdicts.{AreRightAnswers, values_of, onto, numbered, words_of_echo, reason_of, unanswered, first_unanswered, traced, trace_after, difference, verdict_on_request, verdict_on, verdict_of, IsCertified, IsCertifiedLine, AreNearNowhere}
 use Rattle.cert_check.proofs.Certified.{same_fact}
 use Rattle.cert_check.proofs.Entries.{IsRightBeside, right_beside}
 
@@ -148,13 +155,19 @@ same_words text = step (pointwise nat_eq text text) refl
     step true e = refl
     step false e = absurd (other_text text text (sym e) refl)
 
+-- a row whose result is right over listed facts that stand gets a Yes, where no listed fact is a reason
+yes_on_row : (row : Result Request Rule) (why : Option Reason) (es : List (Fact × ℤ)) (x : Resolved) (text : List ℕ)
+    → IsRightForRow WRITTEN row (resolved x es) → AllStand es → why ≡ None → text ≡ result_text x → verdict_on_request row why es text ≡ Yes
+yes_on_row (Err rule) why es x text right stand none shows = absurd (cc)
+yes_on_row (Ok request) why es x text right stand none shows =
+    let result = found_traced 40 (rule_of WRITTEN request) [] es x (omega arith) stand (right.at_each_depth 40 (omega arith)) in
+    rw (none, result, no_difference 1 (facts_of es), shows, same_words (result_text x)) refl
+
 yes_on : (facts : List (Fact × ℤ)) (answers : List Answer) (words text numbers : List ℕ) → AreRightAnswers facts answers → IsCertified words text (numbered facts numbers) → AreNearNowhere (numbered facts numbers) → verdict_on facts answers words text numbers ≡ Yes
 unfolding verdict_on
 yes_on facts answers words text numbers right certified clear =
-    let none = no_reasons facts answers numbers right certified.stand clear in
-    let at_40 = certified.has_result.at_each_depth 40 (omega arith) in
-    let result = found_traced 40 (rule_of certified.has_result.request) [] (numbered facts numbers) certified.found (omega arith) certified.stand at_40 in
-    rw (certified.has_result.asked, none, result, no_difference 1 (facts_of (numbered facts numbers)), certified.shows, same_words (result_text certified.found)) refl
+    yes_on_row (request_of WRITTEN words) (first_unanswered facts answers numbers) (numbered facts numbers) certified.found text certified.is_right certified.stand
+    (no_reasons facts answers numbers right certified.stand clear) certified.shows
 
 -- a line that is certified and rests on facts that are near nowhere gets a Yes
 pub yes_to_certified : (facts : List (Fact × ℤ)) (answers : List Answer) (l : CertLine) → AreRightAnswers facts answers → IsCertifiedLine facts l → AreNearNowhere (numbered facts (listed l)) → verdict_of facts answers l ≡ Yes

@@ -11,7 +11,8 @@ use Rattle.book_model.specs.declared.request.Rule.{Rule}
 use Rattle.book_model.specs.sky.Facts.{IsNear}
 use Rattle.book_model.specs.calendars.Inquiries.{Inquiry, done, ask, fact_eq, with_fact}
 use Rattle.book_model.specs.lines.LineRules.{rule_of}
-use Rattle.book_model.specs.lines.Outcomes.{HasResult}
+use Rattle.book_model.specs.declared.version.TheConstants.{WRITTEN}
+use Rattle.book_model.specs.lines.Outcomes.{resolved, IsRightFor}
 use Rattle.book_model.specs.lines.Requests.{request_of, rule_number}
 use Rattle.book_model.specs.lines.Text.{result_text}
 use Rattle.oracle_core.specs.declared.evaluator.Answer.{Answer}
@@ -111,7 +112,8 @@ verdict_on_trace facts (traced found asked) text = verdict_on_list (difference 1
 -- a request over listed facts, of which the first that isn't answered by its listed value gives this reason or none
 abbrev pub verdict_on_facts : Option Reason → List (Fact × ℤ) → Request → List ℕ → Verdict
 verdict_on_facts (Some why) listed request text = No why
-verdict_on_facts None listed request text = verdict_on_trace (facts_of listed) (trace_after (facts_of listed) (values_of listed) [] (rule_of request)) text
+verdict_on_facts None listed request text =
+    verdict_on_trace (facts_of listed) (trace_after (facts_of listed) (values_of listed) [] (rule_of WRITTEN request)) text
 
 -- words that break a rule or are a request
 abbrev pub verdict_on_request : Result Request Rule → Option Reason → List (Fact × ℤ) → List ℕ → Verdict
@@ -120,7 +122,8 @@ verdict_on_request (Ok request) why listed text = verdict_on_facts why listed re
 
 -- a line with these words, this text of its result, and these numbers of facts
 unfoldable pub verdict_on : List (Fact × ℤ) → List Answer → List ℕ → List ℕ → List ℕ → Verdict
-verdict_on facts answers words text numbers = verdict_on_request (request_of words) (first_unanswered facts answers numbers) (numbered facts numbers) text
+verdict_on facts answers words text numbers =
+    verdict_on_request (request_of WRITTEN words) (first_unanswered facts answers numbers) (numbered facts numbers) text
 
 -- the verdict of a line
 abbrev pub verdict_of : List (Fact × ℤ) → List Answer → CertLine → Verdict
@@ -139,7 +142,7 @@ line_at file index = slice_index_or file.lines index (line.Refused 0)
 -- these values, each of which stands.
 pub record IsCertified (words text : List ℕ) (listed : List (Fact × ℤ)) : Type 0 where
   pub found : Resolved
-  pub has_result : HasResult words found listed
+  pub is_right : IsRightFor WRITTEN words (resolved found listed)
   pub shows : text ≡ result_text found
   pub stand : AllStand listed
 

@@ -12,7 +12,7 @@ ghost use Rattle.cert_check.specs.Verdicts as spec;
 use crate::compare::verdict_by_list;
 use crate::listed::{first_reason, listed_facts, listed_values};
 use crate::verdict::{Reason, Verdict};
-use book_model::{Fact, Request};
+use book_model::{Fact, Request, WRITTEN};
 use cert_read::CertFile;
 use cert_text::{CertLine, Echo, no_date_word, too_far_word};
 use line_core::{read_line, resolve};
@@ -59,12 +59,12 @@ fn verdict_over(
     requires known { AreFactValues values.now }
     requires few { length facts.now < 2 ^ 32 }
     requires possible { IsTrue (is_possible request.now) }
-    requires in_reach { IsTrue (is_in_reach request.now) }
+    requires in_reach { IsTrue (is_in_reach WRITTEN request.now) }
     ensures verdict { IfOk result (λ v. v ≡ spec.verdict_on_trace facts.now
-        (spec.trace_after facts.now values.now [] (rule_of request.now)) text.now) }
+        (spec.trace_after facts.now values.now [] (rule_of WRITTEN request.now)) text.now) }
 {
     let mut oracle = Listed::new(alloc, facts, values);
-    match resolve(&mut oracle, request) {
+    match resolve(&mut oracle, request, WRITTEN) {
         Ok(found) => verdict_by_list(alloc, oracle.asked(), facts, found, text),
         Err(stop) => verdict_at(stop),
     }
@@ -84,7 +84,7 @@ fn verdict_for(
     requires numbers { IsTrue (are_of_facts (length file.now.facts) [] numbers.now) }
     requires answered { length answers.now ≡ length file.now.facts }
     requires possible { IsTrue (is_possible request.now) }
-    requires in_reach { IsTrue (is_in_reach request.now) }
+    requires in_reach { IsTrue (is_in_reach WRITTEN request.now) }
     ensures verdict { IfOk result (λ v. v ≡ spec.verdict_on_request (Ok request.now)
         (spec.first_unanswered file.now.facts answers.now numbers.now)
         (spec.numbered file.now.facts numbers.now) text.now) }
@@ -116,7 +116,7 @@ fn verdict_of_words(
         (spec.words_of_echo echo.now) text.now numbers.now) }
 {
     let words = spaced(alloc, echo)?;
-    match read_line(&words) {
+    match read_line(&words, WRITTEN) {
         Ok(request) => verdict_for(alloc, file, answers, &request, text, numbers),
         Err(rule) => Ok(Verdict::No(Reason::Form(rule.number()))),
     }

@@ -10,7 +10,7 @@ use Rattle.book_model.specs.calendars.Inquiries.{fact_eq}
 use Rattle.cert_text.specs.declared.line.CertLine.{CertLine}
 use Rattle.cert_read.specs.Agreeing.{Agrees}
 use Rattle.cert_read.specs.Listings.{AreBelow}
-use Rattle.cert_read.specs.Seen.{has_fact, HasMore}
+use Rattle.cert_read.specs.Seen.{HasMore}
 
 longer : {X : Type 0} (xs : List X) (x : X) → length (xs ++ x ∷ []) ≡ length xs + 1
 longer [] x = refl

@@ -6,7 +6,8 @@ use Rattle.std.specs.List.{flat_map}
 use Rattle.std.specs.Prelude.{codes, ◌==◌, ℤ}
 use Rattle.book_model.specs.declared.fact.Fact.{Fact}
 use Rattle.book_model.specs.lines.Lines.{lines_of}
-use Rattle.book_model.specs.lines.Text.{header, end_text}
+use Rattle.book_model.specs.declared.version.TheConstants.{WRITTEN}
+use Rattle.book_model.specs.lines.Text.{header_of, end_text}
 use Rattle.cert_text.specs.declared.line.CertLine.{CertLine}
 use Rattle.cert_text.specs.declared.line.Block.{Block}
 use Rattle.cert_read.specs.declared.form.Form.TheVariants as forms
@@ -63,22 +64,21 @@ end_taken number facts lines h k =
     (text_word (codes "end") refl) (end_row_words (length lines) (length facts) k h) (end_row_form (length lines) (length facts) k h) (rw (right, also_right) refl))
 
 -- the header is the first line, and the rest is read from the second
-header_taken : (rest : List ℕ) → grammar_of (header ++ rest) ≡ reading_from 2 (state [] []) false (lines_of rest)
+header_taken : (rest : List ℕ) → grammar_of (header_of WRITTEN ++ rest) ≡ reading_from 2 (state [] []) false (lines_of rest)
 unfolding grammar_of
 header_taken rest = refl
 
 -- a text that leads from no facts and lines to these is read whole, between the header and the right end line
 whole_read : (text : List ℕ) (facts : List (Fact × ℤ)) (lines : List CertLine) → length facts ≤ 2 ^ 32 - 1 → length lines ≤ 2 ^ 32 - 1
     → Comes (state [] []) (text ++ end_text (length lines) (length facts)) (state facts lines) (end_text (length lines) (length facts))
-    → grammar_of (header ++ (text ++ end_text (length lines) (length facts))) ≡ file (state facts lines)
+    → grammar_of (header_of WRITTEN ++ (text ++ end_text (length lines) (length facts))) ≡ file (state facts lines)
 whole_read text facts lines h k comes = header_taken (text ++ end_text (length lines) (length facts)) ∙ comes.same 2 ∙ end_taken (comes.next 2) facts lines h k
 
 -- blocks in order are read again
 pub are_read_again : (blocks : List Block) → AreReadAgain blocks
 are_read_again blocks order short =
     let ends : List ℕ = end_text (length blocks) (length (facts_of blocks)) in
-    let fit : length (facts_of blocks) + length blocks ≤ 2 ^ 32 - 1 =
-    omega (arith, blocks_length blocks, length-append header (flat_map block_text blocks ++ ends), length-append (flat_map block_text blocks) ends) in
+    let fit : length (facts_of blocks) + length blocks ≤ 2 ^ 32 - 1 = omega (arith, blocks_length blocks, length-append {A = ℕ}) in
     let count : length (map (λ b. b.line) blocks) ≡ length blocks = length-map blocks (λ b. b.line) in
     let comes = blocks_come [] [] blocks ends (omega arith) (omega arith) order in
     rw count at (whole_read (flat_map block_text blocks) (facts_of blocks) (map (λ b. b.line) blocks) (omega arith) (omega arith) (rw (← count) at comes))

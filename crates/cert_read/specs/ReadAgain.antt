@@ -6,7 +6,8 @@ use Rattle.book_model.specs.declared.fact.TheConstants.{FIRST_FACT_DAY, LAST_FAC
 use Rattle.book_model.specs.declared.fail.Undecided.{Undecided as OpenTest}
 use Rattle.book_model.specs.sky.Correction.{is_between}
 use Rattle.book_model.specs.sky.Names.{has_place}
-use Rattle.book_model.specs.lines.Text.{header, end_text}
+use Rattle.book_model.specs.declared.version.TheConstants.{WRITTEN}
+use Rattle.book_model.specs.lines.Text.{header_of, end_text}
 use Rattle.cert_text.specs.declared.line.CertLine.{CertLine}
 use Rattle.cert_text.specs.declared.line.CertLine.TheVariants.{Shown, TooFar, NoDate, Refused, Undecided, Void}
 use Rattle.cert_text.specs.declared.line.Echo.{Echo}
@@ -71,7 +72,7 @@ facts_of blocks = flat_map (λ b. b.facts) blocks
 
 -- the header, the blocks, and the right end line
 abbrev pub file_text : List Block → List ℕ
-file_text blocks = header ++ (flat_map block_text blocks ++ end_text (length blocks) (length (facts_of blocks)))
+file_text blocks = header_of WRITTEN ++ (flat_map block_text blocks ++ end_text (length blocks) (length (facts_of blocks)))
 
 -- what is written so is read again, as the same facts and lines, up to the length of a file
 abbrev pub AreReadAgain : List Block → Type 0

@@ -2,7 +2,8 @@
 use Rattle.std.specs.Prelude.{◌≡◌, ℕ, ◌+◌, ◌==◌, ◌&&◌, not, nat_le, nat_eq, if◌then◌else◌, Bool, true, false, List, [], ◌∷◌, ◌++◌, length, map, ℤ, Some, None, Option, is_some, Result, Ok, Err}
 use Rattle.std.specs.List.{list_any}
 use Rattle.book_model.specs.declared.fact.Fact.{Fact}
-use Rattle.book_model.specs.declared.header.TheConstants.{HEADER}
+use Rattle.book_model.specs.declared.version.TheConstants.{WRITTEN}
+use Rattle.book_model.specs.calendars.Versions.{header_line}
 use Rattle.book_model.specs.calendars.Inquiries.{fact_eq}
 use Rattle.book_model.specs.lines.Lines.{lines_of}
 use Rattle.cert_text.specs.declared.line.CertLine.{CertLine}
@@ -131,7 +132,7 @@ reading_from number before ended (line ∷ lines) = after_form number before end
 -- the first line is the header
 abbrev pub reading_of : List (List ℕ) → Reading
 reading_of [] = bad 1 1
-reading_of (line ∷ lines) = if is_word HEADER.now line then reading_from 2 (record { facts = []; lines = [] }) false lines else bad 1 1
+reading_of (line ∷ lines) = if is_word (header_line WRITTEN) line then reading_from 2 (record { facts = []; lines = [] }) false lines else bad 1 1
 
 -- what bytes are by the grammar
 unfoldable pub grammar_of : List ℕ → Reading

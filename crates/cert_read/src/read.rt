@@ -6,7 +6,7 @@ ghost use Rattle.cert_read.specs.declared.read.TheConstants.{LONGEST_FILE as lon
 
 use crate::lines::CertFile;
 use crate::reader::{Reader, Stop};
-use book_model::HEADER;
+use book_model::WRITTEN;
 use line_core::cut_line;
 use std::alloc::Global;
 use thiserror::Error;
@@ -70,7 +70,7 @@ pub fn read_file(alloc: Global, bytes: &[u8]) -> Result<CertFile, ReadFail>
     let Some((first, rest)) = cut_line(bytes) else {
         return Err(ReadFail::Bad { line: 1, rule: 1 });
     };
-    if first == HEADER.as_bytes() {
+    if first == WRITTEN.header().as_bytes() {
         read_lines(alloc, rest)
     } else {
         Err(ReadFail::Bad { line: 1, rule: 1 })

@@ -7,7 +7,7 @@ ghost use Rattle.byte_streams.specs.Stream.{Writes};
 
 use crate::lists::Word;
 use crate::write::{REFUSED_5, write_no_date, write_too_far};
-use book_model::{Calendar, Fields, Resolved, Shown, ToWord};
+use book_model::{Calendar, Fields, Meaning, Resolved, ToWord};
 use byte_streams::{Failed, Gathered, Sink, decimal, write_all, write_parts};
 use itoa::Buffer;
 use std::alloc::{AllocError, Global};
@@ -134,8 +134,8 @@ fn write_shown<K: Sink>(sink: &mut K, to: ToWord, fields: &Fields) -> Result<(),
     ensures { Writes K.written K.faults sink.old sink.new (spec.shown_as to fields.now) result }
 {
     match to.shows() {
-        Shown::Date(calendar) => write_date(sink, calendar, fields),
-        Shown::Value(_, _) => write_value(sink, fields),
+        Meaning::Date(calendar) => write_date(sink, calendar, fields),
+        Meaning::Value(_, _) => write_value(sink, fields),
     }
 }
 

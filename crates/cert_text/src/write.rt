@@ -6,7 +6,7 @@ ghost use Rattle.book_model.specs.lines.Text as model;
 ghost use Rattle.cert_text.specs.Text as spec;
 
 use crate::line::{Block, CertLine, Echo};
-use book_model::{Fact, HEADER, Site, Undecided};
+use book_model::{Fact, Site, Undecided, WRITTEN};
 use byte_streams::{Failed, Sink, decimal, write_all, write_parts, write_two_counts};
 use itoa::Buffer;
 
@@ -297,9 +297,9 @@ pub fn write_block<K: Sink>(sink: &mut K, block: &Block) -> Result<(), Failed>
 
 /// Writes the first line of a text.
 pub fn write_header<K: Sink>(sink: &mut K) -> Result<(), Failed>
-    ensures { Writes K.written K.faults sink.old sink.new model.header result }
+    ensures { Writes K.written K.faults sink.old sink.new (model.header_of WRITTEN) result }
 {
-    write_parts(sink, &[HEADER.as_bytes(), b"\n"])
+    write_parts(sink, &[WRITTEN.header().as_bytes(), b"\n"])
 }
 
 /// Writes the last line of a text, which counts its lines and facts.

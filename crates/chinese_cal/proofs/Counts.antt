@@ -7,7 +7,7 @@ use Rattle.exact_math.proofs.Floors.{floor_quotient_is}
 use Rattle.book_model.specs.calendars.Chinese.{months_between, elapsed_years, days_to_mid_year}
 use Rattle.book_model.specs.calendars.Spans.{days_of, months_of_days, nearest, spans_of}
 use Rattle.calendar_math.proofs.SpanLemmas.{LiesWithin}
-use Rattle.chinese_cal.specs.Days.{IsNearDay}
+use Rattle.chinese_cal.specs.Days.{IsCountedYear, IsNearDay}
 
 -- the months from one day to another as a quotient of whole numbers
 months_are : (from to : ℤ) → months_between from to ≡ floor_quotient ((to -ℤ from) *ℤ pos 1000000000 *ℤ pos 2 +ℤ pos 29530588861) 59061177721
@@ -36,8 +36,8 @@ middle_is : (number : ℤ) → days_to_mid_year number ≡ floor_quotient (pos 3
 unfolding days_to_mid_year days_of times
 middle_is number = refl
 
-pub middle_near : (number : ℤ) → pos 4438 ≤ℤ number → number ≤ℤ pos 4685 → LiesWithin (pos 1000000) (pos 2000000) (days_to_mid_year number)
-middle_near number p q =
+pub middle_near : (number : ℤ) → IsCountedYear number → LiesWithin (negsuc 3999999) (pos 4000000) (days_to_mid_year number)
+middle_near number h =
     let f = floor_quotient_is (pos 365242189 *ℤ (pos 2 *ℤ number -ℤ pos 1)) 1999999 in
     let e = middle_is number in
-    record { from = omega (arith, ints, p, q, e, f.not_above, f.close); to = omega (arith, ints, p, q, e, f.not_above, f.close) }
+    record { from = omega (arith, ints, h.0, h.1, e, f.not_above, f.close); to = omega (arith, ints, h.0, h.1, e, f.not_above, f.close) }

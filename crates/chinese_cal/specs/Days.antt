@@ -19,3 +19,7 @@ IsNearMonth month = IsFactValue month.first_day × (pos 1 ≤ℤ month.number) �
 -- years since the epoch, by values of facts
 abbrev pub AreNearYears : ℤ → Type 0
 AreNearYears years = (negsuc 99999 ≤ℤ years) × (years ≤ℤ pos 100000)
+
+-- the number of a year by the cycles of a date
+abbrev pub IsCountedYear : ℤ → Type 0
+IsCountedYear number = (negsuc 9998 ≤ℤ number) × (number ≤ℤ pos 9999)

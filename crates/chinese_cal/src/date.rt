@@ -10,7 +10,8 @@ ghost use Rattle.oracle_core.specs.Asking.{AsksAs};
 
 use crate::kept::Kept;
 use crate::months::chinese_month;
-use book_model::{CHINESE_EPOCH, ChineseMonth, TROPICAL_YEAR};
+use book_model::ChineseMonth;
+use book_model::calendar_tables::{CHINESE_EPOCH, TROPICAL_YEAR};
 use calendar_math::{amod, quotient_before, spans_of, to_8_bits, to_32_bits};
 use oracle_core::{Oracle, Stop};
 

@@ -1,7 +1,9 @@
 //! The day of a Chinese date. Days are R.D.
-ghost use Rattle.std.specs.Prelude.{◌≡◌, ◌≤◌, ◌≤ℤ◌, ◌+ℤ◌, ◌-ℤ◌, ◌*ℤ◌, pos, IfOk};
+ghost use Rattle.std.specs.Prelude.{◌≡◌, ◌≤◌, ◌+ℤ◌, ◌-ℤ◌, ◌*ℤ◌, pos, IfOk};
 ghost use Rattle.book_model.specs.calendars.Chinese as spec;
+ghost use Rattle.book_model.specs.calendars.Dates.{IsAskable};
 ghost use Rattle.book_model.specs.calendars.Inquiries.{flag};
+ghost use Rattle.book_model.specs.declared.calendar.Calendar.TheVariants.{Chinese};
 ghost use Rattle.book_model.specs.sky.Facts.{IsFactValue};
 ghost use Rattle.chinese_cal.specs.Dates.{fields_of_date};
 ghost use Rattle.chinese_cal.specs.Keeping.{Keeps};
@@ -80,12 +82,7 @@ fn day_by(first: i64, day: u8) -> i64
 /// ```
 #[tactic(auto, using(oracle_core::proofs::Inquiring::asking, crate::proofs::KeptLemmas::empty_kept), unfolding(book_model::specs::calendars::Chinese::chinese_day))]
 pub fn to_fixed<O: Oracle>(oracle: &mut O, date: ChineseDate) -> Result<i64, Stop>
-    requires from_4438 { pos 4438 ≤ℤ (pos 60 *ℤ (date.cycle -ℤ pos 1) +ℤ pos date.year) }
-    requires to_4685 { (pos 60 *ℤ (date.cycle -ℤ pos 1) +ℤ pos date.year) ≤ℤ pos 4685 }
-    requires from_first_year { 1 ≤ date.year }
-    requires to_last_year { date.year ≤ 60 }
-    requires from_first_month { 1 ≤ date.month }
-    requires to_last_month { date.month ≤ 12 }
+    requires askable { IsAskable Chinese (fields_of_date date) }
     ensures day { Asks O.Oracle (spec.chinese_day date.cycle (pos date.year) (pos date.month)
         (flag date.leap) (pos date.day)) oracle.old oracle.new result }
 {

@@ -1,65 +1,43 @@
 //! Chinese dates as the fields of lines.
-ghost use Rattle.std.specs.Prelude.{◌≡◌, pos, IsTrue};
-ghost use Rattle.book_model.specs.calendars.Inquiries.{flag};
-ghost use Rattle.book_model.specs.calendars.Dates.{field as field_of, may_have, is_answered, is_in_range, day_named, date_on as date_of_day};
 ghost use Rattle.book_model.specs.declared.calendar.Calendar.TheVariants.{Chinese};
-ghost use Rattle.oracle_core.specs.Asking.{Asks};
 ghost use Rattle.chinese_cal.specs.Dates.{fields_of_date};
 
 use crate::date::{ChineseDate, from_fixed};
 use crate::day::to_fixed;
 use book_model::Fields;
-use oracle_core::{Oracle, Stop};
+use oracle_core::{CalendarDate, Oracle, Stop};
 
-/// The fields of a date: cycle, year, month, 1 for a leap month, and day.
-fn fields_of(date: ChineseDate) -> Fields
-    ensures fields { result ≡ fields_of_date date }
-{
-    Fields {
-        count: 5,
-        values: [
-            date.cycle,
-            i32::from(date.year),
-            i32::from(date.month),
-            i32::from(date.leap),
-            i32::from(date.day),
-        ],
+impl CalendarDate for ChineseDate {
+    ghost calendar = { Chinese };
+
+    ghost fields_of = { fields_of_date };
+
+    fn fields(self) -> Fields {
+        Fields {
+            count: 5,
+            values: [
+                self.cycle,
+                i32::from(self.year),
+                i32::from(self.month),
+                i32::from(self.leap),
+                i32::from(self.day),
+            ],
+        }
     }
-}
 
-/// The date with these fields.
-#[tactic(auto, unfolding(book_model::specs::calendars::Dates::may_have))]
-fn date_of(fields: &Fields) -> ChineseDate
-    requires possible { IsTrue (may_have Chinese fields.now) }
-    ensures cycle { result.cycle ≡ pos (field_of fields.now 0) }
-    ensures year { result.year ≡ field_of fields.now 1 }
-    ensures month { result.month ≡ field_of fields.now 2 }
-    ensures leap { flag result.leap ≡ pos (field_of fields.now 3) }
-    ensures day { result.day ≡ field_of fields.now 4 }
-{
-    ChineseDate {
-        cycle: fields.field(0) as i32,
-        year: fields.field(1) as u8,
-        month: fields.field(2) as u8,
-        leap: fields.field(3) == 1,
-        day: fields.field(4) as u8,
+    #[tactic(auto, unfolding(book_model::specs::calendars::Dates::may_have, book_model::specs::calendars::Dates::has_some_year, book_model::specs::calendars::Dates::year_number))]
+    fn day_by<O: Oracle>(oracle: &mut O, fields: &Fields) -> Result<i64, Stop> {
+        let date = ChineseDate {
+            cycle: fields.field(0) as i32,
+            year: fields.field(1) as u8,
+            month: fields.field(2) as u8,
+            leap: fields.field(3) == 1,
+            day: fields.field(4) as u8,
+        };
+        to_fixed(oracle, date)
     }
-}
 
-/// The day (R.D.) that the fields of a date name. It stops where the oracle stops.
-#[tactic(auto, unfolding(book_model::specs::calendars::Dates::may_have, book_model::specs::calendars::Dates::is_answered, book_model::specs::calendars::Dates::year_number))]
-pub fn named_day<O: Oracle>(oracle: &mut O, fields: &Fields) -> Result<i64, Stop>
-    requires possible { IsTrue (may_have Chinese fields.now) }
-    requires in_reach { IsTrue (is_answered Chinese fields.now) }
-    ensures day { Asks O.Oracle (day_named Chinese fields.now) oracle.old oracle.new result }
-{
-    to_fixed(oracle, date_of(fields))
-}
-
-/// The fields of the date of a day (R.D.), from 1 January 1802 to 31 December 2048. It stops where the oracle stops.
-pub fn date_on<O: Oracle>(oracle: &mut O, day: i64) -> Result<Fields, Stop>
-    requires in_range { IsTrue (is_in_range day) }
-    ensures date { Asks O.Oracle (date_of_day Chinese day) oracle.old oracle.new result }
-{
-    Ok(fields_of(from_fixed(oracle, day)?))
+    fn of_day<O: Oracle>(oracle: &mut O, day: i64) -> Result<Self, Stop> {
+        from_fixed(oracle, day)
+    }
 }

@@ -22,4 +22,3 @@ mod years;
 
 pub use date::{ChineseDate, from_fixed};
 pub use day::to_fixed;
-pub use fields::{date_on, named_day};

@@ -1,8 +1,8 @@
 //! The first day of a Chinese year. Days are R.D.
-ghost use Rattle.std.specs.Prelude.{◌≡◌, ◌≤ℤ◌, ◌+ℤ◌, ◌-ℤ◌, ◌*ℤ◌, pos, IfOk};
+ghost use Rattle.std.specs.Prelude.{◌≡◌, ◌≤ℤ◌, ◌+ℤ◌, ◌-ℤ◌, pos, negsuc, IfOk};
 ghost use Rattle.book_model.specs.calendars.Chinese as spec;
 ghost use Rattle.book_model.specs.sky.Facts.{IsFactValue};
-ghost use Rattle.chinese_cal.specs.Days.{IsNearDay};
+ghost use Rattle.chinese_cal.specs.Days.{IsCountedYear, IsNearDay};
 ghost use Rattle.chinese_cal.specs.Keeping.{Keeps};
 ghost use Rattle.oracle_core.specs.Asking.{Asks};
 
@@ -11,7 +11,8 @@ use crate::facts::moon_after;
 use crate::kept::Kept;
 use crate::sui::{is_leap_sui, sui_of};
 use crate::walk::is_bare;
-use book_model::{CHINESE_EPOCH, Sui, TROPICAL_YEAR};
+use book_model::Sui;
+use book_model::calendar_tables::{CHINESE_EPOCH, TROPICAL_YEAR};
 use calendar_math::days_of;
 use oracle_core::{Oracle, Stop};
 
@@ -95,11 +96,10 @@ pub(crate) fn new_year_by_day<O: Oracle>(
 
 /// The days from the epoch to the middle of a year, which counts from 1.
 fn days_to_mid_year(number: i64) -> i64
-    requires from_4438 { pos 4438 ≤ℤ number }
-    requires to_4685 { number ≤ℤ pos 4685 }
+    requires number { IsCountedYear number }
     ensures days { result ≡ spec.days_to_mid_year number }
-    ensures from { pos 1000000 ≤ℤ result }
-    ensures to { result ≤ℤ pos 2000000 }
+    ensures from { negsuc 3999999 ≤ℤ result }
+    ensures to { result ≤ℤ pos 4000000 }
 {
     days_of(TROPICAL_YEAR, 2 * number - 1, 2)
 }
@@ -107,13 +107,12 @@ fn days_to_mid_year(number: i64) -> i64
 /// A day in the middle of a year of a cycle.
 #[tactic(auto, unfolding(book_model::specs::calendars::Chinese::mid_year_day))]
 pub(crate) fn mid_year_day(cycle: i64, year: i64) -> i64
-    requires from_4438 { pos 4438 ≤ℤ (pos 60 *ℤ (cycle -ℤ pos 1) +ℤ year) }
-    requires to_4685 { (pos 60 *ℤ (cycle -ℤ pos 1) +ℤ year) ≤ℤ pos 4685 }
+    requires from_cycle { negsuc 98 ≤ℤ cycle }
+    requires to_cycle { cycle ≤ℤ pos 99 }
     requires from_year { pos 1 ≤ℤ year }
     requires to_year { year ≤ℤ pos 60 }
     ensures day { result ≡ spec.mid_year_day cycle year }
-    ensures from { pos 0 ≤ℤ result }
-    ensures to { result ≤ℤ pos 10000000 }
+    ensures near { IsFactValue result }
 {
     CHINESE_EPOCH + days_to_mid_year(60 * (cycle - 1) + year)
 }

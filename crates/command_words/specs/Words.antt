@@ -5,6 +5,8 @@ use Rattle.clap.specs.Walk.{Row, Rule, first_of, is_empty}
 use Rattle.clap.specs.Simple.{App, matches_of, new_app, new_rule, on_top, with_rule}
 use Rattle.clap.specs.Faults.{fault_of}
 use Rattle.clap.specs.declared.builder.action.ArgAction.TheVariants.{Set}
+use Rattle.book_model.specs.declared.version.TheConstants.{FIRST_ALMANAC_YEAR, LAST_ALMANAC_YEAR}
+use Rattle.book_model.specs.calendars.Versions.{IsAlmanacYear}
 use Rattle.command_words.specs.declared.command.Command.{Command}
 use Rattle.command_words.specs.declared.command.Command.TheVariants.{Convert, Check, Almanac, Sample}
 
@@ -56,9 +58,10 @@ between low high (Some n) = if nat_le low n && nat_le n high then Some n else No
 abbrev pub lone_command : List ℕ → Option Command
 lone_command name = if bytes_eq name (codes "convert") then Some Convert else (if bytes_eq name (codes "check") then Some Check else None)
 
--- `almanac` with a year from 1803 to 2047
+-- `almanac` with a year of which there is an almanac
 abbrev pub year_command : List ℕ → List ℕ → Option Command
-year_command name year = if bytes_eq name (codes "almanac") then option_map (λ y. Almanac y) (between 1803 2047 (number_word year)) else None
+year_command name year =
+    if bytes_eq name (codes "almanac") then option_map (λ y. Almanac y) (between FIRST_ALMANAC_YEAR LAST_ALMANAC_YEAR (number_word year)) else None
 
 -- `sample` with a count from 1 to 100,000 and a seed of 64 bits
 abbrev pub sample_command : List ℕ → List ℕ → List ℕ → Option Command
@@ -106,5 +109,5 @@ jobs_of words = if is_accepted words then told_jobs (matches_of program words) e
 abbrev pub IsInRange : Command → Type 0
 IsInRange Convert = Unit {0}
 IsInRange Check = Unit {0}
-IsInRange (Almanac year) = (1803 ≤ year) × (year ≤ 2047)
+IsInRange (Almanac year) = IsAlmanacYear year
 IsInRange (Sample count seed) = (1 ≤ count) × (count ≤ 100000)

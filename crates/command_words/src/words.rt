@@ -6,6 +6,7 @@ ghost use Rattle.command_words.specs.Words as spec;
 use crate::command::{Command, NoCommand, Task};
 use crate::number::number_between;
 use crate::program::program;
+use book_model::{FIRST_ALMANAC_YEAR, LAST_ALMANAC_YEAR};
 use clap::error::ErrorKind;
 use clap::{ArgMatches, Error};
 use std::alloc::Global;
@@ -28,7 +29,11 @@ fn year_command(name: &str, year: &str) -> Option<Command>
     if name != "almanac" {
         return None;
     }
-    let year = number_between(year, 1803, 2047)?;
+    let year = number_between(
+        year,
+        u64::from(FIRST_ALMANAC_YEAR),
+        u64::from(LAST_ALMANAC_YEAR),
+    )?;
     Some(Command::Almanac { year: year as u32 })
 }
 

@@ -1,5 +1,5 @@
 -- How wide the moment of an evening is at the scale 2^-56, and what the criterion is taken of at that moment.
-use Rattle.std.specs.Prelude.{◌≡◌, ℕ, ◌+◌, ◌*◌, ◌/◌, ◌^◌, ◌≤◌, Bool, true, false, ℤ, pos, negsuc, neg_ℤ, ◌*ℤ◌, ◌≤ℤ◌, ◌&&◌, Result, Ok, Err, refl, if◌then◌else◌, ◌==◌}
+use Rattle.std.specs.Prelude.{◌≡◌, ℕ, ◌+◌, ◌*◌, ◌/◌, ◌^◌, ◌≤◌, Bool, true, false, ℤ, pos, neg_ℤ, ◌*ℤ◌, ◌≤ℤ◌, ◌&&◌, Result, Ok, Err, refl, if◌then◌else◌, ◌==◌}
 use Rattle.std.proofs.Common.{arith}
 use Rattle.std.proofs.lemmas.Int.{ints, clamps}
 use Rattle.std.proofs.lemmas.Float.{T_from_true}
@@ -17,13 +17,14 @@ use Rattle.book_model.specs.numbers.Expressions.{Expression, argument, constant,
 use Rattle.book_model.specs.numbers.Fractions.{fraction_of}
 use Rattle.book_model.specs.numbers.Ranges.{IsInTable}
 use Rattle.book_model.specs.numbers.Relations.{Narrow}
-use Rattle.book_model.specs.programs.Widths.{IsAbout, IsMoment, IsUpTo, Measures}
-use Rattle.book_model.specs.sky.Facts.{IsFactDay}
+use Rattle.book_model.specs.programs.Widths.{IsAbout, IsUpTo, Measures}
 use Rattle.book_model.specs.sky.Noon.{ahead_of}
 use Rattle.width_laws.proofs.Measuring.{measured, sloped, looser, drawn}
 use Rattle.sun_core.specs.Widths.{IsNarrowPlace, IsObliquity}
 use Rattle.rise_set.specs.Widths.{IsDepression}
-use Rattle.crescent.specs.Widths.{IsEvening, IsDatedEvening, IsMoonAngle, IsMoonLatitude, IsTilt, IsSiderealTime, IsLocalSiderealTime}
+use Rattle.rise_set.specs.Altitudes.{IsMoonAngle, IsMoonLatitude, IsTilt, IsLocalSiderealTime}
+use Rattle.crescent.specs.Widths.{IsEvening, IsDatedEvening, IsSiderealTime}
+use Rattle.book_model.specs.declared.time_tables.TheConstants.{TABLE_START, TABLE_END}
 
 -- ---- the depression of the sun
 depression_reach : implies (bound_of (limits_at 56) (λ k. unbounded) (constant (fraction_of CRESCENT_DEPRESSION))) (bounded (pos 0) (pos (46 * 2 ^ 32 / 10)) 0 (2 ^ 24)) ≡ true
@@ -34,11 +35,8 @@ pub depression_within : {E : Type 0} (shown : E → Interval) (n : ℕ) (x : E) 
 depression_within shown n x e f = measured shown n 0 (λ k. unbounded) (constant (fraction_of CRESCENT_DEPRESSION)) _ _ 0 (2 ^ 24) (2 ^ 24) x e depression_reach (omega arith) (f (record { width = 0; bounds = λ k. unbounded }))
 
 -- ---- ranges of what is taken at the moment of an evening
-pub evening_within : (i : Interval) → IsMoment (17 * 2 ^ 28 + 2 ^ 10) i → IsEvening i
-evening_within i h = looser _ _ _ _ (17 * 2 ^ 28 + 2 ^ 10) (9 * 2 ^ 29) i (omega (arith, ints)) (omega (arith, ints)) (omega arith) h
-
 pub dated_evening : (i : Interval) → IsInTable i → IsEvening i → IsDatedEvening i
-dated_evening i t h = drawn (negsuc 182620) (pos 748748) _ _ (9 * 2 ^ 29) i t h
+dated_evening i t h = drawn TABLE_START TABLE_END _ _ (9 * 2 ^ 29) i t h
 
 pub dated_moment : (i : Interval) → IsDatedEvening i → IsEvening i
 dated_moment i h = looser _ _ _ _ (9 * 2 ^ 29) (9 * 2 ^ 29) i (omega (arith, ints)) (omega (arith, ints)) (omega arith) h
@@ -135,7 +133,3 @@ local_within shown n l t a y e p h f g =
     (g (record { width = 0; bounds = local_bounds }) (argument 0) (argument 1)
     (sloped shown (limits_of n) 0 (2 ^ 41) local_bounds 0 (neg_ℤ (pos (2 ^ 61))) (pos (2 ^ 61)) 0 (2 ^ 41) t refl (omega arith) h)
     (sloped shown (limits_of n) 0 (2 ^ 8) local_bounds 1 (neg_ℤ (pos (360 * 2 ^ 32))) (pos (360 * 2 ^ 32)) 0 (2 ^ 8) a refl (omega arith) d))
-
--- ---- days
-pub evening_high : (d : ℤ) → IsFactDay d → d ≤ℤ pos 40000001
-evening_high d h = let a : d ≤ℤ pos 40000000 = h.1 in omega (arith, ints, a)

@@ -10,7 +10,8 @@ use Rattle.book_model.specs.numbers.Fractions.{fraction_of}
 use Rattle.book_model.specs.numbers.Relations.{Narrow}
 use Rattle.book_model.specs.programs.Widths.{IsAbout}
 use Rattle.width_laws.proofs.Measuring.{measured, looser}
-use Rattle.crescent.specs.Widths.{IsMoonAngle, IsArcCosine, IsAltitudeSine}
+use Rattle.rise_set.specs.Altitudes.{IsMoonAngle, IsAltitudeSine}
+use Rattle.crescent.specs.Widths.{IsArcCosine}
 
 module _ {E : Type 0} (shown : E → Interval) (n : ℕ) (y : E) (e : n ≡ 56) where
   none_reach : implies (bound_of (limits_at 56) (λ k. unbounded) (integer (pos 0))) (bounded (neg_ℤ (pos (2 ^ 90))) (pos (2 ^ 90)) 0 (2 ^ 16)) ≡ true

@@ -1,5 +1,6 @@
 -- From where to where the days lie from which a first sight is sought.
-use Rattle.std.specs.Prelude.{ℤ, pos, negsuc, ◌≤ℤ◌}
+use Rattle.std.specs.Prelude.{ℤ, pos, ◌+ℤ◌, ◌-ℤ◌, ◌≤ℤ◌}
+use Rattle.book_model.specs.declared.time_tables.TheConstants.{TABLE_START, TABLE_END}
 
 abbrev pub IsSightDay : ℤ → Type 0
-IsSightDay day = (negsuc 182689 ≤ℤ day) × (day ≤ℤ pos 748760)
+IsSightDay day = ((TABLE_START -ℤ pos 69) ≤ℤ day) × (day ≤ℤ (TABLE_END +ℤ pos 12))

@@ -1,7 +1,7 @@
 -- How wide what the criterion of the crescent is taken of is at the scale 2^-56, at a moment that is at most 9/8 of 2^-32 days wide.
-use Rattle.std.specs.Prelude.{◌+◌, ◌*◌, ◌^◌, pos}
+use Rattle.std.specs.Prelude.{◌*◌, ◌^◌}
 use Rattle.exact_math.specs.Interval.{Interval}
-use Rattle.book_model.specs.programs.Widths.{IsWithin, IsAbout, IsMoment, IsDated, IsUpTo}
+use Rattle.book_model.specs.programs.Widths.{IsAbout, IsMoment, IsDated}
 
 -- the moment of an evening
 abbrev pub IsEvening : Interval → Type 0
@@ -11,34 +11,10 @@ IsEvening i = IsMoment (9 * 2 ^ 29) i
 abbrev pub IsDatedEvening : Interval → Type 0
 IsDatedEvening i = IsDated (9 * 2 ^ 29) i
 
--- a phase or a longitude of the moon: at most 2^-26 degrees wide
-abbrev pub IsMoonAngle : Interval → Type 0
-IsMoonAngle i = IsUpTo 360 (2 ^ 38) i
-
--- a latitude of the moon: at most 2^-27 degrees wide
-abbrev pub IsMoonLatitude : Interval → Type 0
-IsMoonLatitude i = IsAbout (7 * 2 ^ 32) (2 ^ 37) i
-
--- an obliquity of the ecliptic: at most 2^-51 degrees wide
-abbrev pub IsTilt : Interval → Type 0
-IsTilt i = IsWithin (pos (23 * 2 ^ 32)) (pos (24 * 2 ^ 32)) (2 ^ 13) i
-
 -- a sidereal time at Greenwich, not reduced: at most 2^-23 degrees wide
 abbrev pub IsSiderealTime : Interval → Type 0
 IsSiderealTime i = IsAbout (2 ^ 61) (2 ^ 41) i
 
--- the same at a longitude
-abbrev pub IsLocalSiderealTime : Interval → Type 0
-IsLocalSiderealTime i = IsAbout (2 ^ 62) (2 ^ 41 + 2 ^ 8) i
-
--- the latitude of the ground
-abbrev pub IsGround : Interval → Type 0
-IsGround i = IsWithin (pos 0) (pos (36 * 2 ^ 32)) (2 ^ 8) i
-
 -- the cosine of an arc of light: at most 2^-31 wide
 abbrev pub IsArcCosine : Interval → Type 0
 IsArcCosine i = IsAbout (2 ^ 33) (2 ^ 33) i
-
--- the sine of an altitude: at most 2^-27 wide
-abbrev pub IsAltitudeSine : Interval → Type 0
-IsAltitudeSine i = IsAbout (2 ^ 34) (2 ^ 37) i

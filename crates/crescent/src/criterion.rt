@@ -1,22 +1,26 @@
 //! Shaukat's criterion: whether the crescent is seen on an evening.
 ghost use Rattle.book_model.specs.programs.Calls.{Decides, Decides1, Decides2, Decides3, Follows1};
-ghost use Rattle.std.specs.Prelude.{◌≡◌, ◌≤◌, ◌*◌, ◌^◌, ◌≤ℤ◌, pos, negsuc, IfOk, IfErr};
-ghost use Rattle.book_model.specs.programs.Widths.{IsAbout, IsClose, Measured};
+ghost use Rattle.std.specs.Prelude.{◌≡◌, ◌≤◌, ◌^◌, ◌≤ℤ◌, pos, IfOk, IfErr, ◌-ℤ◌};
+ghost use Rattle.book_model.specs.programs.Widths.{IsAbout, IsClose, Measured, Closes1};
 ghost use Rattle.book_model.specs.numbers.Ranges.{IsInTable};
-ghost use Rattle.moon_core.specs.Widths.{Closes1};
 ghost use Rattle.rise_set.specs.Widths.{IsNarrowLocation};
-ghost use Rattle.crescent.specs.Widths.{IsAltitudeSine, IsArcCosine, IsDatedEvening, IsEvening, IsMoonAngle, IsMoonLatitude, IsSiderealTime, IsTilt};
+ghost use Rattle.rise_set.specs.Altitudes.{IsAltitudeSine, IsMoonAngle, IsMoonLatitude, IsTilt};
+ghost use Rattle.crescent.specs.Widths.{IsArcCosine, IsDatedEvening, IsEvening, IsSiderealTime};
 ghost use Rattle.book_model.specs.sky.Crescent as spec;
 ghost use Rattle.book_model.specs.numbers.Depth.{DEPTH};
 ghost use Rattle.book_model.specs.numbers.Expressions.{Expression, World};
 ghost use Rattle.book_model.specs.programs.Leading.{Exact, Leads};
 ghost use Rattle.book_model.specs.numbers.Relations.{Within};
+ghost use Rattle.book_model.specs.sky.Facts.{IsFactDay};
+ghost use Rattle.book_model.specs.declared.fact.TheConstants.{FIRST_FACT_DAY as first_fact_day};
 
-use crate::altitude::{altitude_sine, arc_cosine};
+use crate::arc_of_light::arc_cosine;
 use crate::evening::Evenings;
-use book_model::{Fail, LEAST_ALTITUDE, LEAST_ARC_OF_LIGHT, Location, Site};
+use book_model::crescent_tables::{LEAST_ALTITUDE, LEAST_ARC_OF_LIGHT};
+use book_model::{Fail, Location, Site};
 use encl_core::{Enclosure, Trail, less_step};
 use moon_core::{latitude, moon, phase};
+use rise_set::altitude_sine;
 use sun_core::obliquity;
 use time_scales::{centuries, sidereal};
 use trig_series::{cos_deg, sin_deg};
@@ -183,11 +187,11 @@ pub(crate) fn visible_on<E: Enclosure>(
     day: i64,
     trail: &mut Trail,
 ) -> Result<bool, Fail>
-    requires low { negsuc 39999999 ≤ℤ day }
+    requires low { first_fact_day ≤ℤ day }
     ensures leads { Decides (spec.visible_of evenings.now day) trail.old.count trail.new.count
         result }
-    ensures close { E.BITS ≡ 56 → IsNarrowLocation evenings.now → negsuc 39999998 ≤ℤ day
-        → day ≤ℤ pos 40000001 → IfErr result IsClose }
+    ensures close { E.BITS ≡ 56 → IsNarrowLocation evenings.now → IsFactDay (day -ℤ pos 1)
+        → IfErr result IsClose }
 {
     let t = evenings.on(day, trail)?;
     meets_at(&evenings.location(), t, trail)
@@ -200,11 +204,11 @@ pub(crate) fn visible_on<E: Enclosure>(
 /// those of the conditions in this order, at `crescent`, until one doesn't hold. It is void where dusk is, and at `year` in a year
 /// without a correction.
 pub fn visible<E: Enclosure>(location: &Location, day: i64, trail: &mut Trail) -> Result<bool, Fail>
-    requires low { negsuc 39999999 ≤ℤ day }
+    requires low { first_fact_day ≤ℤ day }
     ensures leads { Decides (spec.visible_of location.now day) trail.old.count trail.new.count
         result }
-    ensures close { E.BITS ≡ 56 → IsNarrowLocation location.now → negsuc 39999998 ≤ℤ day
-        → day ≤ℤ pos 40000001 → IfErr result IsClose }
+    ensures close { E.BITS ≡ 56 → IsNarrowLocation location.now → IsFactDay (day -ℤ pos 1)
+        → IfErr result IsClose }
 {
     let evenings = Evenings::<E>::new(location);
     visible_on(&evenings, day, trail)

@@ -1,28 +1,18 @@
 //! When the crescent is looked for at a location, evening after evening.
-ghost use Rattle.book_model.specs.programs.Calls.{Follows, Holds1};
+ghost use Rattle.book_model.specs.programs.Calls.{Follows};
 ghost use Rattle.book_model.specs.programs.Widths.{Measured};
-ghost use Rattle.std.specs.Prelude.{◌≡◌, pos, negsuc, ◌≤ℤ◌};
-ghost use Rattle.sun_core.specs.Widths.{IsNarrowPlace};
-ghost use Rattle.rise_set.specs.Widths.{IsNarrowLocation, IsSettled};
+ghost use Rattle.std.specs.Prelude.{◌≡◌, pos, ◌≤ℤ◌, ◌-ℤ◌};
+ghost use Rattle.rise_set.specs.Widths.{IsNarrowLocation};
 ghost use Rattle.crescent.specs.Widths.{IsEvening};
 ghost use Rattle.book_model.specs.sky.Crescent as spec;
-ghost use Rattle.book_model.specs.numbers.Fractions.{fraction_of};
-ghost use Rattle.book_model.specs.sky.Horizon.{universal_of};
+ghost use Rattle.book_model.specs.sky.Facts.{IsFactDay};
+ghost use Rattle.book_model.specs.declared.fact.TheConstants.{FIRST_FACT_DAY as first_fact_day};
 
-use book_model::{CRESCENT_DEPRESSION, DEGREE_IN_DAYS, Fail, Frac, Location};
+use book_model::crescent_tables::CRESCENT_DEPRESSION;
+use book_model::{Fail, Location};
 use encl_core::{Enclosure, Trail};
-use rise_set::{Horizon, dusk_at, horizon_at};
+use rise_set::{Horizon, dusk_at, horizon_at, universal};
 use std::marker::Model;
-
-/// The universal time of a moment of local mean time at a longitude east of Greenwich, in degrees.
-#[tactic(auto, unfolding(book_model::specs::sky::Horizon::universal_of, book_model::specs::sky::Noon::ahead_of))]
-fn universal<E: Enclosure>(longitude: Frac, t: E) -> E
-    ensures holds { Holds1 E.shown (universal_of (fraction_of longitude)) t result }
-    ensures measured { E.BITS ≡ 56 → IsNarrowPlace longitude → IsSettled (E.shown t)
-        → IsEvening (E.shown result) }
-{
-    t.sub(E::from_frac(longitude).mul_frac(DEGREE_IN_DAYS))
-}
 
 /// The evenings at a location on which the crescent is looked for: its horizon, which is the same on each day. Contracts see the
 /// location.
@@ -67,11 +57,11 @@ impl<E: Enclosure> Evenings<E> {
     /// When the crescent is looked for on the evening with which a day (R.D.) begins, in universal time: 132 tests at most.
     #[tactic(auto, using(book_model::proofs::Leads::leading), unfolding(book_model::specs::sky::Crescent::evening_of))]
     pub(crate) fn on(&self, day: i64, trail: &mut Trail) -> Result<E, Fail>
-        requires low { negsuc 39999999 ≤ℤ day }
+        requires low { first_fact_day ≤ℤ day }
         ensures leads { Follows E.shown (spec.evening_of self.now day) trail.old.count
             trail.new.count result }
-        ensures measured { IsNarrowLocation self.now → negsuc 39999998 ≤ℤ day
-            → day ≤ℤ pos 40000001 → Measured E.BITS E.shown IsEvening result }
+        ensures measured { IsNarrowLocation self.now → IsFactDay (day -ℤ pos 1)
+            → Measured E.BITS E.shown IsEvening result }
     {
         let t = dusk_at(&self.horizon, day - 1, trail)?;
         Ok(universal(self.horizon.location.longitude, t))

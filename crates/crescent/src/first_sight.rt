@@ -1,6 +1,6 @@
 //! The day with whose evening the crescent was first seen.
 ghost use Rattle.book_model.specs.programs.Calls.{Decides};
-ghost use Rattle.std.specs.Prelude.{◌≡◌, ◌≤◌, pos, negsuc, ◌≤ℤ◌, ◌+ℤ◌, ◌-ℤ◌, int_le, IfOk, IfErr};
+ghost use Rattle.std.specs.Prelude.{◌≡◌, ◌≤◌, pos, ◌≤ℤ◌, ◌+ℤ◌, ◌-ℤ◌, int_le, IfOk, IfErr};
 ghost use Rattle.book_model.specs.sky.Crescent as spec;
 ghost use Rattle.book_model.specs.sky.Facts.{IsFactDay, IsFactValue, IsValueDay};
 ghost use Rattle.book_model.specs.programs.Searches.{first_day_from};
@@ -9,6 +9,7 @@ ghost use Rattle.rise_set.specs.Widths.{IsNarrowLocation};
 ghost use Rattle.moon_core.specs.PhaseDays.{IsPhaseDay};
 ghost use Rattle.time_scales.specs.Steps.{IsNoEarlyYear};
 ghost use Rattle.crescent.specs.Sights.{IsSightDay};
+ghost use Rattle.book_model.specs.declared.fact.TheConstants.{FIRST_FACT_DAY as first_fact_day};
 
 use crate::criterion::visible_on;
 use crate::evening::Evenings;
@@ -29,7 +30,7 @@ const DAYS_BACK: i64 = 30;
 impl<E: Enclosure> DayTest<E> for Evenings<E> {
     ghost test_of = { λ l d. spec.visible_of l d };
 
-    ghost near_on = { λ l d. IsNarrowLocation l × (negsuc 39999998 ≤ℤ d) × (d ≤ℤ pos 40000001) };
+    ghost near_on = { λ l d. IsNarrowLocation l × IsFactDay (d -ℤ pos 1) };
 
     fn holds(&self, day: i64, trail: &mut Trail) -> Result<bool, Fail> {
         visible_on(self, day, trail)
@@ -72,7 +73,7 @@ fn sight_start<E: Enclosure>(
     ensures leads { Decides (spec.sight_start_of evenings.now day new_moon) trail.old.count
         trail.new.count result }
     ensures near { IfOk result IsSightDay }
-    ensures close { E.BITS ≡ 56 → IsNarrowLocation evenings.now → negsuc 39999998 ≤ℤ day
+    ensures close { E.BITS ≡ 56 → IsNarrowLocation evenings.now → first_fact_day ≤ℤ (day -ℤ pos 1)
         → IfErr result IsClose }
 {
     if !is_soon(day, new_moon) {
@@ -112,7 +113,7 @@ fn sight_after<E: Enclosure>(
     ensures leads { Decides (spec.sight_after_of evenings.now day new_moon) trail.old.count
         trail.new.count result }
     ensures value { IfOk result IsFactValue }
-    ensures close { E.BITS ≡ 56 → IsNarrowLocation evenings.now → negsuc 39999998 ≤ℤ day
+    ensures close { E.BITS ≡ 56 → IsNarrowLocation evenings.now → first_fact_day ≤ℤ (day -ℤ pos 1)
         → IfErr result IsClose }
 {
     let from = sight_start(evenings, day, new_moon, trail)?;

@@ -1,16 +1,16 @@
 //! The first sight of the crescent by Shaukat's criterion: whether it is seen on an evening at a location, and the day with whose
 //! evening it was first seen. Each call makes the tests of its formula.
 //!
-//! - `arc_cosine`, `altitude_sine`: the moon's arc of light and its altitude;
+//! - `arc_cosine`: the moon's arc of light;
 //! - `visible`: the criterion, by the moon's phase, its arc of light and its altitude at dusk;
 //! - `phasis`: the search for the day of the first sight; `phasis_by`: the same by courses.
 #![tactic(auto)]
 
-mod altitude;
+mod arc_of_light;
 mod criterion;
 mod evening;
 mod first_sight;
 
-pub use altitude::{altitude_sine, arc_cosine};
+pub use arc_of_light::arc_cosine;
 pub use criterion::visible;
 pub use first_sight::{phasis, phasis_by};

@@ -1,13 +1,14 @@
 -- What a trail keeps of its run.
 use denote.Struct.Props as facts
 use Rattle.std.specs.Coded.{Unit-prop}
-use Rattle.std.specs.Prelude.{◌≡◌, ℕ, zero, suc, ◌≤◌, ◌+◌, ◌*◌, ◌^◌, ℤ, pos, negsuc, ◌≤ℤ◌, Bool, true, false}
+use Rattle.std.specs.Prelude.{◌≡◌, ℕ, zero, suc, ◌≤◌, ◌+◌, ◌^◌, ℤ, pos, negsuc, ◌≤ℤ◌, Bool, true, false}
 use Rattle.exact_math.specs.Interval.{Interval, everything, between, ◌⊆◌, AreWithin}
 use Rattle.book_model.specs.numbers.Bounds.{bounded, IsNarrow}
 use Rattle.book_model.specs.numbers.Depth.{DEPTH}
 use Rattle.book_model.specs.numbers.Expressions.{Expression, World, value}
 use Rattle.book_model.specs.programs.Leading.{at_56, leaf}
-use Rattle.book_model.specs.programs.Widths.{IsWithin, IsAbout, IsNearlyDated}
+use Rattle.book_model.specs.declared.new_moon_tables.TheConstants.{FIRST_RECENT_MOON, LAST_RECENT_MOON}
+use Rattle.book_model.specs.programs.Widths.{IsWithin, IsAbout, IsNearlyDated, IsRecentlyDated}
 use Rattle.book_model.specs.programs.Programs.{Program, Run, answered, voided, undecided, decided, run}
 use Rattle.encl_core.specs.declared.span.Span.{Span}
 
@@ -35,15 +36,11 @@ pub record IsKept (n : ℕ) (p : Program Expression) (s : Span) : Type 0 where
 pub record IsKeptAbout (size width bits : ℕ) (s : Span) : Type 0 where
   pub about : bits ≡ 56 → IsAbout size width (shown_span s)
 
--- a moment from R.D. 600,000, of the year 1643, to 2050, of the years of which there are corrections, moved by at most a day, and at most so wide
-abbrev pub IsRecentlyDated : ℕ → Interval → Type 0
-IsRecentlyDated v i = IsWithin (pos (600000 * 2 ^ 32)) (pos (748749 * 2 ^ 32)) v i
-
--- the new moon of such a number is at most so wide, where its year has a correction: half of 2^-34 and a little more, over the years -509 to 2050;
--- those of the years 1708 to 2086 lie where recent moments do
+-- the new moon of a number is at most so wide, where its year has a correction: half of 2^-34 and a little more; recent ones lie
+-- where recent moments do
 pub record IsMoonWithin (number : ℤ) (bits : ℕ) (s : Span) : Type 0 where
   pub about : negsuc 6299 ≤ℤ number → number ≤ℤ pos 55724 → bits ≡ 56 → IsNearlyDated (2 ^ 29 + 2 ^ 24 + 2 ^ 17) (shown_span s)
-  pub recent : pos 21100 ≤ℤ number → number ≤ℤ pos 25800 → bits ≡ 56 → IsRecentlyDated (2 ^ 29 + 2 ^ 24 + 2 ^ 17) (shown_span s)
+  pub recent : FIRST_RECENT_MOON ≤ℤ number → number ≤ℤ LAST_RECENT_MOON → bits ≡ 56 → IsRecentlyDated (2 ^ 29 + 2 ^ 24 + 2 ^ 17) (shown_span s)
 
 -- ---- a span is kept in one way at most, so it may be a ghost field
 ends_prop : (i j : Interval) → IsProp (AreWithin i j)

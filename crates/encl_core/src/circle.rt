@@ -4,7 +4,7 @@ ghost use Rattle.book_model.specs.programs.Calls.{Encloses};
 ghost use Rattle.book_model.specs.numbers.Expressions.{pi as pi_number};
 
 use crate::{Enclosure, Span};
-use book_model::{PI_ABOVE, PI_BELOW};
+use book_model::tables::{PI_ABOVE, PI_BELOW};
 
 /// Pi, between two neighbours that count 2⁻⁵⁶.
 #[tactic(auto, using(crate::proofs::PiEnds::within_pi, crate::proofs::PiEnds::narrow_pi))]

@@ -4,6 +4,7 @@ ghost use Rattle.book_model.specs.programs.Widths.{IsClose};
 ghost use Rattle.std.specs.Prelude.{◌≡◌, ◌+ℤ◌, pos, negsuc, ◌≤ℤ◌, ℤ, Bool, IfOk, IfErr};
 ghost use Rattle.book_model.specs.programs.Programs.{Program};
 ghost use Rattle.book_model.specs.programs.Searches.{first_day_from};
+ghost use Rattle.book_model.specs.sky.Facts.{IsFactDay};
 
 use crate::{Enclosure, Trail};
 use book_model::{Fail, Site};
@@ -21,8 +22,7 @@ pub trait DayTest<E: Enclosure> {
 
     /// Whether the test is true of a day (R.D.). It makes the tests of its formula, and fails where that does.
     fn holds(&self, day: i64, trail: &mut Trail) -> Result<bool, Fail>
-        requires low { negsuc 39999999 ≤ℤ day }
-        requires high { day ≤ℤ pos 40000000 }
+        requires day { IsFactDay day }
         ensures leads { Decides (test_of self.now day) trail.old.count trail.new.count result }
         ensures close { near_on self.now day → E.BITS ≡ 56 → IfErr result IsClose };
 }

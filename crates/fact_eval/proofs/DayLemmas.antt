@@ -13,7 +13,7 @@ use Rattle.book_model.specs.sky.Facts.{IsFactValue, IsValueDay, at_depth}
 use Rattle.book_model.specs.sky.Kinds.{dt_of, sun_in_thousandths_of}
 use Rattle.book_model.specs.programs.Leading.{Exact, Leads}
 use Rattle.book_model.specs.numbers.Relations.{Narrow}
-use Rattle.time_scales.proofs.CorrectionValues.{dt_value, year_from, year_to}
+use Rattle.time_scales.proofs.CorrectionValues.{dt_value, year_small}
 use Rattle.book_model.proofs.FactRuns.{sun_value}
 use Rattle.book_model.proofs.Leads.{leads_value}
 use Rattle.encl_core.specs.Steps.{IsOpenFloor}
@@ -29,9 +29,8 @@ none_early (Void s) h = tt
 pub sun_not_of_year : {E : Type 0} (shown : E → Interval) (bits : ℕ) (d : ℤ) (e : E) (f : Fail) → 36 ≤ bits → bits ≤ 56 → IsValueDay d → ((r : Reach) → Narrow shown (limits_of bits) r (integer d) e)
     → IsYearOpenFor (shown e) f → IsNoEarlyYear f
 sun_not_of_year shown bits d e f p q h n o =
-    let a = year_from d h.0 in
-    let b = year_to d h.1 in
-    none_early f (closed_year (shown e) (year_of_day d) f (year_enclosed shown bits d e p q h (n _)) (omega (arith, ints)) o)
+    let y = year_small d h in
+    none_early f (closed_year (shown e) (year_of_day d) f (year_enclosed shown bits d e p q h (n _)) (omega (arith, ints, y.0, y.1)) o)
 
 -- nor is an open rounding, or a void
 pub round_not_of_year : (i : Interval) (f : Fail) → IsOpenFloor i Round f → IsNoEarlyYear f
@@ -48,5 +47,5 @@ sun_is_value d (Err f) b a h = tt
 
 -- so is that of the correction
 pub dt_is_value : (d : ℤ) (r : Result ℤ Fail) (b a : ℕ) → IsValueDay d → ((w : World) → 40 ≤ w.depth → Leads w Exact (dt_of d) b a r) → IfOk r IsFactValue
-dt_is_value d (Ok v) b a l h = dt_value (at_depth 40) d v l.0 l.1 (leads_value (h (at_depth 40) (omega arith)))
+dt_is_value d (Ok v) b a l h = dt_value (at_depth 40) d v l (leads_value (h (at_depth 40) (omega arith)))
 dt_is_value d (Err f) b a l h = tt

@@ -2,7 +2,7 @@
 use Rattle.std.specs.Prelude.{ℕ, ◌≤◌, ℤ, pos, Option, Some, None}
 use Rattle.book_model.specs.declared.fact.Fact.{Fact}
 use Rattle.book_model.specs.declared.fact.Kind.{Kind}
-use Rattle.book_model.specs.declared.fact.Kind.TheVariants.{Dt, Sun, Nowruz, BahaiYear, Solstice, NewMoonBefore, NewMoonFrom, Major, MajorTerm, MinorTerm, Phasis, Sign, SolarYear, Sankranti, Tithi, SignBefore, SignAfter, CalendarYear, NewMoon, FirstQuarter, FullMoon, LastQuarter, Sunset}
+use Rattle.book_model.specs.declared.fact.Kind.TheVariants as kinds
 use Rattle.book_model.specs.declared.fact.Place.{Place}
 use Rattle.book_model.specs.declared.fact.TheConstants.{FIRST_DAY, LAST_DAY}
 use Rattle.book_model.specs.declared.site.Site.{Site}
@@ -34,29 +34,29 @@ located_few (Some l) formula few = few l
 -- the formula of each kind of fact
 pub formula_few : (kind : Kind) (place : Place) (d : ℤ) → AtMost 99999 (formula_of kind place d)
 unfolding formula_of
-formula_few Dt place d = dt_few d
-formula_few Sun place d = sun_in_thousandths_few d
-formula_few Nowruz place d = nowruz_few d
-formula_few BahaiYear place d = bahai_year_few d
-formula_few Solstice place d = solstice_few d
-formula_few NewMoonBefore place d = new_moon_before_few d
-formula_few NewMoonFrom place d = new_moon_from_few d
-formula_few Major place d = major_few d
-formula_few MajorTerm place d = term_day_few (pos 0) d
-formula_few MinorTerm place d = term_day_few (pos 15) d
-formula_few Phasis place d = located_few (location_of place) (λ l. phasis_of l d) (λ l. phasis_few l d)
-formula_few Sign place d = sign_at_sunset_few d
-formula_few SolarYear place d = year_at_sunset_few d
-formula_few Sankranti place d = sankranti_few d
-formula_few Tithi place d = tithi_few d
-formula_few SignBefore place d = sign_before_few d
-formula_few SignAfter place d = sign_after_few d
-formula_few CalendarYear place d = calendar_year_few d
-formula_few NewMoon place d = phase_day_few (pos 0) d
-formula_few FirstQuarter place d = phase_day_few (pos 90) d
-formula_few FullMoon place d = phase_day_few (pos 180) d
-formula_few LastQuarter place d = phase_day_few (pos 270) d
-formula_few Sunset place d = located_few (location_of place) (λ l. sunset_in_minutes_of l d) (λ l. sunset_in_minutes_few l d)
+formula_few kinds.Dt place d = dt_few d
+formula_few kinds.Sun place d = sun_in_thousandths_few d
+formula_few kinds.Nowruz place d = nowruz_few d
+formula_few kinds.BahaiYear place d = bahai_year_few d
+formula_few kinds.Solstice place d = solstice_few place d
+formula_few kinds.NewMoonBefore place d = new_moon_before_few place d
+formula_few kinds.NewMoonFrom place d = new_moon_from_few place d
+formula_few kinds.Major place d = major_few place d
+formula_few kinds.MajorTerm place d = term_day_few place (pos 0) d
+formula_few kinds.MinorTerm place d = term_day_few place (pos 15) d
+formula_few kinds.Phasis place d = located_few (location_of place) (λ l. phasis_of l d) (λ l. phasis_few l d)
+formula_few kinds.Sign place d = sign_at_sunset_few d
+formula_few kinds.SolarYear place d = year_at_sunset_few d
+formula_few kinds.Sankranti place d = sankranti_few d
+formula_few kinds.Tithi place d = tithi_few d
+formula_few kinds.SignBefore place d = sign_before_few d
+formula_few kinds.SignAfter place d = sign_after_few d
+formula_few kinds.CalendarYear place d = calendar_year_few d
+formula_few kinds.NewMoon place d = phase_day_few (pos 0) d
+formula_few kinds.FirstQuarter place d = phase_day_few (pos 90) d
+formula_few kinds.FullMoon place d = phase_day_few (pos 180) d
+formula_few kinds.LastQuarter place d = phase_day_few (pos 270) d
+formula_few kinds.Sunset place d = located_few (location_of place) (λ l. sunset_in_minutes_of place l d) (λ l. sunset_in_minutes_few place l d)
 
 -- and that of each fact, which is void on other days
 pub program_few : (f : Fact) → AtMost 99999 (program_of f)

@@ -2,13 +2,14 @@ pub mod Rightness
 pub mod WidthLemmas
 pub mod DayLemmas
 pub mod NewYears
-pub mod Springs
+pub mod Nested
 pub mod Winters
 pub mod Evaluations
 pub mod Nearness
 pub mod SunsetValues
 pub mod Solstices
 pub mod TermDays
+pub mod PlaceDays
 pub mod MoonFacts
 pub mod FewTests
 pub mod Measured

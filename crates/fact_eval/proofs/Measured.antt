@@ -1,47 +1,31 @@
 -- How wide the numbers are whose tests kinds of facts make, at the scale 2^-56.
-use Rattle.std.specs.Prelude.{◌≡◌, ℕ, ◌+◌, ◌*◌, ◌^◌, ◌≤◌, Bool, true, false, ℤ, pos, negsuc, neg_ℤ, ◌≤ℤ◌, int_le, refl, if◌then◌else◌, ◌==◌, Result, Ok, Err}
-use Rattle.std.proofs.Common.{arith, subst}
+use Rattle.std.specs.Prelude.{◌≡◌, ℕ, ◌+◌, ◌*◌, ◌^◌, ◌≤◌, true, ℤ, pos, neg_ℤ, refl, if◌then◌else◌, ◌==◌, Result, Ok, Err}
+use Rattle.std.proofs.Common.{arith}
 use Rattle.std.proofs.lemmas.Int.{ints}
 use Rattle.exact_math.specs.Interval.{Interval}
 use Rattle.book_model.specs.declared.fail.Fail.{Fail}
 use Rattle.book_model.specs.declared.sun_tables.TheConstants.{DEGREE_IN_TERMS}
 use Rattle.book_model.specs.declared.tables.TheConstants.{THOUSANDTHS_OF_DEGREE}
-use Rattle.book_model.specs.numbers.Bounds.{Bound, unbounded, bounded, Reach, implies, bound_of, limits_at, limits_of, integer_bound, constant_bound, sum_bound, difference_bound, scaled_bound}
+use Rattle.book_model.specs.numbers.Bounds.{Bound, bounded, Reach, implies, bound_of, limits_at, limits_of, constant_bound, sum_bound, difference_bound, scaled_bound}
 use Rattle.book_model.specs.numbers.Expressions.{Expression, argument, integer, subtract, scale}
 use Rattle.book_model.specs.numbers.Fractions.{fraction_of}
 use Rattle.book_model.specs.numbers.Relations.{Narrow}
-use Rattle.book_model.specs.programs.Widths.{IsAbout, IsCorrection, IsMoment, IsNearlyDated, IsUpTo, Measures}
-use Rattle.book_model.specs.sky.Facts.{IsValueDay}
-use Rattle.book_model.specs.sky.Time.{midnight_of, beijing_hours}
+use Rattle.book_model.specs.programs.Widths.{IsAbout, IsCorrection, IsMoment, IsNearlyDated, IsSmall, IsUpTo, Measures}
+use Rattle.book_model.specs.sky.Facts.{IsFactDay, IsValueDay}
 use Rattle.width_laws.proofs.Measuring.{measured, sloped, looser, moment_about}
 use Rattle.moon_core.proofs.QuarterWidths.{whole_moment}
+use Rattle.time_scales.specs.Widths.{IsMidnightDay}
 use Rattle.fact_eval.specs.Widths.{rounded_expression}
 
 -- ---- days
-pub day_from : (d : ℤ) → IsValueDay d → negsuc 39999999 ≤ℤ d
-day_from d h = omega (arith, ints, h.0)
+pub fact_day : (d : ℤ) → IsValueDay d → IsFactDay d
+fact_day d h = (omega (arith, ints, h.0), omega (arith, ints, h.1))
 
-pub day_to : (d : ℤ) → IsValueDay d → d ≤ℤ pos 40000000
-day_to d h = omega (arith, ints, h.1)
+pub midnight_day : (d : ℤ) → IsValueDay d → IsMidnightDay d
+midnight_day d h = (omega (arith, ints, h.0), omega (arith, ints, h.1))
 
--- ---- midnight in Beijing, of the day after the last of which a fact may be asked, too
-late_reach : implies (bound_of (limits_at 56) (λ k. unbounded) (midnight_of (pos 40000001))) (bounded (neg_ℤ (pos (2 ^ 58))) (pos (2 ^ 58)) 0 (3 * 2 ^ 8)) ≡ true
-unfolding implies bound_of integer_bound constant_bound difference_bound scaled_bound midnight_of beijing_hours
-late_reach = refl
-
-late_midnight : {E : Type 0} (shown : E → Interval) (n : ℕ) (x : E) → n ≡ 56 → ((r : Reach) → Narrow shown (limits_of n) r (midnight_of (pos 40000001)) x) → IsMoment (3 * 2 ^ 8) (shown x)
-late_midnight shown n x e f = measured shown n 0 (λ k. unbounded) (midnight_of (pos 40000001)) _ _ 0 (3 * 2 ^ 8) (3 * 2 ^ 8) x e late_reach (omega arith) (f (record { width = 0; bounds = λ k. unbounded }))
-
-until_midnight : {E : Type 0} (shown : E → Interval) (n : ℕ) (d : ℤ) (x : E) → n ≡ 56 → negsuc 39999999 ≤ℤ d → d ≤ℤ pos 40000001 → (n ≡ 56 → negsuc 39999999 ≤ℤ d → d ≤ℤ pos 40000000 → IsMoment (3 * 2 ^ 8) (shown x))
-    → ((r : Reach) → Narrow shown (limits_of n) r (midnight_of d) x) → (b : Bool) → int_le d (pos 40000000) ≡ b → IsMoment (3 * 2 ^ 8) (shown x)
-until_midnight shown n d x e h k m f true b = m e h (omega (arith, ints, b))
-until_midnight shown n d x e h k m f false b =
-    let p : d ≡ pos 40000001 = omega (arith, ints, k, b) in
-    late_midnight shown n x e (subst (λ z. (r : Reach) → Narrow shown (limits_of n) r (midnight_of z) x) p f)
-
-pub midnight_within : {E : Type 0} (shown : E → Interval) (n : ℕ) (d : ℤ) (x : E) → n ≡ 56 → negsuc 39999999 ≤ℤ d → d ≤ℤ pos 40000001 → (n ≡ 56 → negsuc 39999999 ≤ℤ d → d ≤ℤ pos 40000000 → IsMoment (3 * 2 ^ 8) (shown x))
-    → ((r : Reach) → Narrow shown (limits_of n) r (midnight_of d) x) → IsMoment (3 * 2 ^ 8) (shown x)
-midnight_within shown n d x e h k m f = until_midnight shown n d x e h k m f (int_le d (pos 40000000)) refl
+pub small_day : (d : ℤ) → IsFactDay d → IsSmall d
+small_day d h = (omega (arith, ints, h.0), omega (arith, ints, h.1))
 
 -- ---- what is said of a nearer range, or of less width
 pub later_about : (v : ℕ) (i : Interval) → IsAbout (2 ^ 59) v i → IsAbout (2 ^ 90) v i
@@ -58,8 +42,8 @@ pub turn_about : (v : ℕ) (i : Interval) → IsUpTo 360 v i → IsAbout (2 ^ 90
 turn_about v i h = looser _ _ _ _ v v i (omega (arith, ints)) (omega (arith, ints)) (omega arith) h
 
 -- a whole number with which an enclosure is compared
-pub whole_about : {E : Type 0} (shown : E → Interval) (n : ℕ) (d : ℤ) (x : E) → n ≡ 56 → negsuc 39999999 ≤ℤ d → d ≤ℤ pos 40000000 → ((r : Reach) → Narrow shown (limits_of n) r (integer d) x) → IsAbout (2 ^ 90) 0 (shown x)
-whole_about shown n d x e h k f = moment_about 0 (shown x) (whole_moment shown n d x e h k f)
+pub whole_about : {E : Type 0} (shown : E → Interval) (n : ℕ) (d : ℤ) (x : E) → n ≡ 56 → IsSmall d → ((r : Reach) → Narrow shown (limits_of n) r (integer d) x) → IsAbout (2 ^ 90) 0 (shown x)
+whole_about shown n d x e h f = moment_about 0 (shown x) (whole_moment shown n d x e h f)
 
 -- ---- thousandths of a degree, spans of 30 degrees, milliseconds
 abbrev turn_bounds : ℕ → Bound

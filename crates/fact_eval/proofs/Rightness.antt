@@ -1,6 +1,7 @@
 -- The answer that an evaluation gives is right for its fact.
-use Rattle.std.specs.Prelude.{◌≡◌, ℕ, ◌≤◌, ℤ, Result, Ok, Err, IfOk, IfErr, refl, true, false}
-use Rattle.std.proofs.Common.{arith, ◌⊎◌, inl, inr, sym, ◌∙◌}
+use Rattle.std.specs.Prelude.{◌≡◌, ℕ, ◌≤◌, ◌==◌, ℤ, Bool, true, false, ◌||◌, IsTrue, Result, Ok, Err, IfOk, IfErr, refl}
+use Rattle.std.proofs.Common.{arith}
+use Rattle.std.proofs.lemmas.Bool.Decides.{nat_tests}
 use Rattle.std.proofs.lemmas.Int.{ints}
 use Rattle.book_model.specs.declared.fact.Fact.{Fact}
 use Rattle.book_model.specs.declared.fact.Kind.{Kind}
@@ -11,7 +12,9 @@ use Rattle.book_model.specs.declared.fail.Fail.TheVariants.{Undecided as undecid
 use Rattle.book_model.specs.sky.Correction.{is_between}
 use Rattle.book_model.specs.numbers.Expressions.{World}
 use Rattle.book_model.specs.sky.Facts.{IsFactValue, program_of, formula_of}
-use Rattle.book_model.specs.sky.Names.{begins_with_day}
+use Rattle.book_model.specs.declared.fact.WholeDays.{WholeDays}
+use Rattle.book_model.specs.declared.fact.WholeDays.TheVariants.{Nowhere, AtFirst, Everywhere}
+use Rattle.book_model.specs.sky.Names.{whole_days, is_of_whole_day}
 use Rattle.book_model.specs.programs.Leading.{Exact, Leads}
 use Rattle.book_model.specs.programs.Programs.{void}
 use Rattle.fact_eval.proofs.FewTests.{program_few}
@@ -32,21 +35,32 @@ pub program_outside : (f : Fact) → is_between FIRST_DAY LAST_DAY f.day ≡ fal
 unfolding program_of
 program_outside f h = rw h refl
 
--- a kind that doesn't begin with the year of a whole day
-pub of_other_days : (k : Kind) (r : Result ℤ Fail) → begins_with_day k ≡ false → IfErr r (IsNoWholeDay k)
+-- a kind of whose tests none is of the whole day itself
+pub of_other_days : (k : Kind) (r : Result ℤ Fail) → whole_days k ≡ Nowhere → IfErr r (IsNoWholeDay k)
 of_other_days k (Ok v) h = tt
-of_other_days k (Err (undecided_at u)) h = λ e t w. let no : true ≡ false = sym w ∙ h in cc
+of_other_days k (Err (undecided_at u)) h = λ e w. none (whole_days k) u.turn h w
+  where
+    none : (d : WholeDays) (n : ℕ) → d ≡ Nowhere → IsTrue (is_of_whole_day d n) → ⊥
+    none Nowhere n e w = absurd (cc)
+    none AtFirst n e w = absurd (cc)
+    none Everywhere n e w = absurd (cc)
 of_other_days k (Err (Void s)) h = tt
 
 -- the kinds of which the first and the third test of the year are made on the day itself, and never open
-pub of_days : (k : Kind) (r : Result ℤ Fail) → IfErr r IsNoEarlyYear → IfErr r (IsNoWholeDay k)
-of_days k (Ok v) h = tt
-of_days k (Err (undecided_at u)) h = λ e t w. h e (early t)
+pub of_days : (k : Kind) (r : Result ℤ Fail) → whole_days k ≡ AtFirst → IfErr r IsNoEarlyYear → IfErr r (IsNoWholeDay k)
+of_days k (Ok v) a h = tt
+of_days k (Err (undecided_at u)) a h = λ e w. h e (early (whole_days k) u.turn a w)
   where
-    early : (u.turn ≡ 1) ⊎ (u.turn ≡ 3) → u.turn ≤ 3
-    early (inl e) = omega (arith, e)
-    early (inr e) = omega (arith, e)
-of_days k (Err (Void s)) h = tt
+    by : (n : ℕ) (p q : Bool) → (n == 1) ≡ p → (n == 3) ≡ q → IsTrue (p || q) → n ≤ 3
+    by n true q f g w = let e : n ≡ 1 = grind (arith, nat_tests, f) in omega (arith, e)
+    by n false true f g w = let e : n ≡ 3 = grind (arith, nat_tests, g) in omega (arith, e)
+    by n false false f g w = absurd (cc)
+
+    early : (d : WholeDays) (n : ℕ) → d ≡ AtFirst → IsTrue (is_of_whole_day d n) → n ≤ 3
+    early Nowhere n e w = absurd (cc)
+    early AtFirst n e w = by n (n == 1) (n == 3) refl refl w
+    early Everywhere n e w = absurd (cc)
+of_days k (Err (Void s)) a h = tt
 
 pub ruleset keeping = (of_days, of_other_days)
 

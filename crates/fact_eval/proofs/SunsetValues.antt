@@ -1,15 +1,15 @@
 -- From where to where dusk and sunset lie, and a sunset in minutes.
-use Rattle.std.specs.Prelude.{◌≡◌, ℕ, zero, suc, ◌*◌, Bool, true, false, if◌then◌else◌, ℤ, pos, negsuc, ◌+ℤ◌, ◌-ℤ◌, Result, Ok, Err, IfOk, Some, IfSome}
-use Rattle.std.proofs.Common.{arith, subst, sym}
+use Rattle.std.specs.Prelude.{◌≡◌, ℕ, zero, suc, ◌*◌, Bool, true, false, if◌then◌else◌, ℤ, pos, negsuc, ◌+ℤ◌, ◌-ℤ◌, Result, Ok, Err, IfOk, Option, Some, None}
+use Rattle.std.specs.Option.{option_map_or}
+use Rattle.std.proofs.Common.{arith, sym}
 use Rattle.std.proofs.lemmas.Int.{ints}
 use lib.Signed.{lt_z}
 use Rattle.exact_math.specs.Fraction.{Fraction, whole, plus, times, smaller, larger, is_at_most}
 use Rattle.exact_math.specs.Interval.{Interval, everything, between, ◌⊆◌, IsProper, one, sum, negative, product, quotient, power, clamp, least, greatest}
-use Rattle.exact_math.proofs.Fractions.{le_refl}
+use Rattle.exact_math.proofs.Fractions.{at_most_true, le_refl}
 use Rattle.exact_math.proofs.Intervals.{within_trans, within_refl, product_within, quotient_proper, plus_proper, difference_proper, clamp_proper, power_proper}
 use Rattle.book_model.specs.declared.fail.Fail.{Fail}
 use Rattle.book_model.specs.declared.fact.Place.{Place}
-use Rattle.book_model.specs.declared.fact.Place.TheVariants as places
 use Rattle.book_model.specs.declared.horizon.Location.{Location}
 use Rattle.book_model.specs.declared.horizon.Twilight.{Twilight}
 use Rattle.book_model.specs.declared.horizon.Twilight.TheVariants.{Dawn, Dusk}
@@ -25,6 +25,8 @@ use Rattle.book_model.specs.numbers.Fractions.{fraction_of}
 use Rattle.book_model.specs.sky.Horizon.{universal_of, near_offset_of, part_of, quarter_of, apparent_by, approximation_on, approximation_of, has_settled_of, settled_of, depression_of, dusk_of, sunset_depression_of, sunset_of}
 use Rattle.book_model.specs.sky.Kinds.{minutes_of, sunset_in_minutes_of}
 use Rattle.book_model.specs.sky.Names.{location_of}
+use Rattle.book_model.specs.sky.Places.{is_kept_location, is_up_to}
+use Rattle.book_model.specs.sky.Time.{zone_on}
 use Rattle.book_model.specs.programs.Calls.{Decides}
 use Rattle.book_model.specs.sky.Noon.{ahead_of}
 use Rattle.book_model.specs.numbers.Octants.{only}
@@ -34,12 +36,16 @@ use Rattle.book_model.specs.numbers.Roots.{root_of, root_low, on_grid}
 use Rattle.book_model.specs.declared.site.Site.TheVariants.{DayFloor, Round}
 use Rattle.book_model.proofs.ArcPieces.{quarters}
 use Rattle.book_model.proofs.Arcs.{arctangents, arctangent_inside}
-use Rattle.book_model.proofs.Estimates.{between_of_within, wider, difference_between, from_apparent_between, floor_between, valued_same}
+use Rattle.book_model.proofs.CorrectionRows.{both}
+use Rattle.book_model.proofs.Estimates.{between_of_within, wider, difference_between, from_apparent_between, floor_between, valued_same, sum_between}
 use Rattle.book_model.proofs.FactRuns.{parts, decides}
 use Rattle.book_model.proofs.Leads.{leads_value}
-use Rattle.moon_core.proofs.PhaseRanges.{sum_between}
+use Rattle.book_model.proofs.Places.{location_kept}
 use Rattle.book_model.proofs.Roots.{roots}
 use Rattle.book_model.proofs.Values.{value_proper}
+use Rattle.time_scales.proofs.ZoneWidths.{zone_hours_kept}
+use Rattle.moon_core.proofs.PhaseRanges.{scaled_between}
+use Rattle.fact_eval.proofs.PlaceDays.{hours_between}
 
 -- ---- arcsines
 abbrev IsBounded : Interval → Type 0
@@ -132,25 +138,33 @@ settled_between w (suc more) p k a x y lo hi b h =
     next z true c e f = rw (← valued_same w z y e) (wider _ _ (lo -ℤ pos (3 * suc more)) (hi +ℤ pos (3 * suc more)) _ (omega (arith, ints)) (omega (arith, ints)) c)
     next z false c e f = wider _ _ (lo -ℤ pos (3 * suc more)) (hi +ℤ pos (3 * suc more)) _ (omega (arith, ints)) (omega (arith, ints)) (f e)
 
--- a location lies east of Greenwich, by less than a turn, and its standard time is ahead by less than a day
-pub record IsEast (p : Location) : Type 0 where
-  pub ahead : (w : World) → IsBetween (pos 0) (pos 1) (value w (ahead_of (fraction_of p.longitude)))
-  pub zone : (w : World) → IsBetween (pos 0) (pos 1) (value w (scale (fraction_of HOUR) (constant (fraction_of p.zone))))
+-- a location lies east of Greenwich, by less than a turn
+abbrev IsEast : Location → Type 0
+IsEast p = is_up_to 360 p.longitude ≡ true
 
-east : (place : Place) → IfSome (location_of place) IsEast
-unfolding location_of ahead_of value product least greatest smaller larger times is_at_most
-east places.None = tt
-east places.Beijing = tt
-east places.Cairo = record { ahead = λ w. (record { cross = omega (arith, ints) }, record { cross = omega (arith, ints) }); zone = λ w. (record { cross = omega (arith, ints) }, record { cross = omega (arith, ints) }) }
-east places.Tehran = record { ahead = λ w. (record { cross = omega (arith, ints) }, record { cross = omega (arith, ints) }); zone = λ w. (record { cross = omega (arith, ints) }, record { cross = omega (arith, ints) }) }
-east places.Ujjain = record { ahead = λ w. (record { cross = omega (arith, ints) }, record { cross = omega (arith, ints) }); zone = λ w. (record { cross = omega (arith, ints) }, record { cross = omega (arith, ints) }) }
+turn_of_day : product (between (whole (pos 0)) (whole (pos 360))) (exactly (fraction_of DEGREE_IN_DAYS)) ⊆ between (whole (pos 0)) (whole (pos 1))
+unfolding product least greatest smaller larger times is_at_most
+turn_of_day = record { ends = (record { cross = omega (arith, ints) }, record { cross = omega (arith, ints) }) }
+
+ahead_between : (w : World) (p : Location) → IsEast p → IsBetween (pos 0) (pos 1) (value w (ahead_of (fraction_of p.longitude)))
+unfolding ahead_of value
+ahead_between w p e =
+    let u = both _ _ e in
+    scaled_between (pos 0) (pos 360) (pos 0) (pos 1) (fraction_of DEGREE_IN_DAYS) _ turn_of_day (value_proper w (constant (fraction_of p.longitude))) (at_most_true _ _ u.0, at_most_true _ _ u.1)
+
+east : (place : Place) (l : Location) → Some l ≡ location_of place → IsEast l
+east place l e = by (location_of place) e (location_kept place)
+  where
+    by : (o : Option Location) → Some l ≡ o → option_map_or is_kept_location o true ≡ true → IsEast l
+    by None f k = absurd (cc)
+    by (Some m) f k = let q : l ≡ m = cc in rw q (grind (arith, both, k))
 
 sunset_between : (w : World) (p : Location) (d : ℤ) (y : Expression) → IsEast p → outcome (run w (sunset_of p d)) ≡ valued y → IsBetween (d -ℤ pos 37) (d +ℤ pos 37) (value w y)
 unfolding sunset_of dusk_of depression_of universal_of value
 sunset_between w p d y e h =
     let t = parts w (settled_of 12 p Dusk (sunset_depression_of p) (quarter_of Dusk d)) _ y h in
     let b = settled_between w 12 p Dusk (sunset_depression_of p) (quarter_of Dusk d) t.part d (d +ℤ pos 1) (quarter_between w Dusk d) t.first in
-    let k = difference_between (d -ℤ pos 36) ((d +ℤ pos 1) +ℤ pos 36) (pos 0) (pos 1) _ _ b (e.ahead w) in
+    let k = difference_between (d -ℤ pos 36) ((d +ℤ pos 1) +ℤ pos 36) (pos 0) (pos 1) _ _ b (ahead_between w p e) in
     rw (← valued_same w (subtract t.part (ahead_of (fraction_of p.longitude))) y t.then) (wider _ _ (d -ℤ pos 37) (d +ℤ pos 37) _ (omega (arith, ints)) (omega (arith, ints)) k)
 
 -- ---- minutes
@@ -174,24 +188,24 @@ day_between : (w : World) (d : ℤ) → IsBetween d d (value w (integer d))
 unfolding value
 day_between w d = (le_refl (whole d), le_refl (whole d))
 
-unrounded_between : (w : World) (p : Location) (d : ℤ) (x : Expression) → IsEast p → IsBetween (d -ℤ pos 37) (d +ℤ pos 37) (value w x) → IsBetween (negsuc 57599) (pos 57600) (value w (minutes_of p d x))
+unrounded_between : (w : World) (place : Place) (d : ℤ) (x : Expression) → IsBetween (d -ℤ pos 37) (d +ℤ pos 37) (value w x) → IsBetween (negsuc 57599) (pos 57600) (value w (minutes_of place d x))
 unfolding minutes_of value
-unrounded_between w p d x e h =
-    let s = sum_between (d -ℤ pos 37) (d +ℤ pos 37) (pos 0) (pos 1) _ _ h (e.zone w) in
+unrounded_between w place d x h =
+    let s = sum_between (d -ℤ pos 37) (d +ℤ pos 37) (pos 0) (pos 1) _ _ h (hours_between w (zone_on place d) (zone_hours_kept place d)) in
     let k = difference_between ((d -ℤ pos 37) +ℤ pos 0) ((d +ℤ pos 37) +ℤ pos 1) d d _ _ s (day_between w d) in
-    minutes_between _ (value_proper w (subtract (add x (scale (fraction_of HOUR) (constant (fraction_of p.zone)))) (integer d))) (wider _ _ (negsuc 39) (pos 40) _ (omega (arith, ints)) (omega (arith, ints)) k)
+    minutes_between _ (value_proper w (subtract (add x (scale (fraction_of HOUR) (constant (fraction_of (zone_on place d))))) (integer d))) (wider _ _ (negsuc 39) (pos 40) _ (omega (arith, ints)) (omega (arith, ints)) k)
 
-minutes_value : (w : World) (p : Location) (d v : ℤ) → IsEast p → outcome (run w (sunset_in_minutes_of p d)) ≡ valued v → IsFactValue v
+minutes_value : (w : World) (place : Place) (p : Location) (d v : ℤ) → IsEast p → outcome (run w (sunset_in_minutes_of place p d)) ≡ valued v → IsFactValue v
 unfolding sunset_in_minutes_of rounded_of value
-minutes_value w p d v e h =
+minutes_value w place p d v e h =
     let t = parts w (sunset_of p d) _ v h in
-    let b = unrounded_between w p d t.part e (sunset_between w p d t.part e t.first) in
+    let b = unrounded_between w place d t.part (sunset_between w p d t.part e t.first) in
     let s = sum_between (negsuc 57599) (pos 57600) (pos 0) (pos 1) _ _ b (half_between w) in
-    let c = decides w Round integers (add (minutes_of p d t.part) (constant (fraction_of HALF))) (λ q. q) v t.then in
-    let f = rw c.leads_to at (floor_between _ _ c.cell_there _ (value_proper w (add (minutes_of p d t.part) (constant (fraction_of HALF)))) s c.decided_so) in
+    let c = decides w Round integers (add (minutes_of place d t.part) (constant (fraction_of HALF))) (λ q. q) v t.then in
+    let f = rw c.leads_to at (floor_between _ _ c.cell_there _ (value_proper w (add (minutes_of place d t.part) (constant (fraction_of HALF)))) s c.decided_so) in
     (omega (arith, ints, f.0), omega (arith, ints, f.1))
 
 -- a sunset in minutes is a value that a fact may have
-pub sunset_is_value : (place : Place) (l : Location) (d : ℤ) (r : Result ℤ Fail) (b a : ℕ) → Some l ≡ location_of place → Decides (sunset_in_minutes_of l d) b a r → IfOk r IsFactValue
-sunset_is_value place l d (Ok v) b a e h = minutes_value (at_depth 40) l d v (subst (λ o. IfSome o IsEast) (sym e) (east place)) (leads_value (h (at_depth 40) (omega arith)))
+pub sunset_is_value : (place : Place) (l : Location) (d : ℤ) (r : Result ℤ Fail) (b a : ℕ) → Some l ≡ location_of place → Decides (sunset_in_minutes_of place l d) b a r → IfOk r IsFactValue
+sunset_is_value place l d (Ok v) b a e h = minutes_value (at_depth 40) place l d v (east place l e) (leads_value (h (at_depth 40) (omega arith)))
 sunset_is_value place l d (Err f) b a e h = tt

@@ -3,79 +3,58 @@ use Rattle.std.specs.Prelude.{◌≡◌, ℕ, ◌+◌, ◌*◌, ◌^◌, true, p
 use Rattle.std.proofs.Common.{arith}
 use Rattle.exact_math.specs.Interval.{Interval}
 use Rattle.book_model.specs.declared.fact.Place.{Place}
-use Rattle.book_model.specs.declared.fact.Place.TheVariants.{None as no_place, Beijing, Cairo, Tehran, Ujjain}
+use Rattle.book_model.specs.declared.fact.Place.TheVariants.{Tehran}
+use Rattle.book_model.specs.declared.frac.Frac.{Frac}
 use Rattle.book_model.specs.declared.horizon.Location.{Location}
-use Rattle.book_model.specs.declared.location_tables.TheConstants.{TEHRAN, CAIRO, UJJAIN, MINUTES_OF_DAY}
+use Rattle.book_model.specs.declared.location_tables.TheConstants.{TEHRAN, MINUTES_OF_DAY}
 use Rattle.book_model.specs.declared.tables.TheConstants.{HALF}
 use Rattle.book_model.specs.declared.time_tables.TheConstants.{HOUR}
-use Rattle.book_model.specs.numbers.Bounds.{Bound, unbounded, bounded, Reach, implies, bound_of, limits_at, limits_of, constant_bound, sum_bound, difference_bound, scaled_bound}
+use Rattle.book_model.specs.numbers.Bounds.{Bound, bounded, Reach, implies, bound_of, limits_at, limits_of, constant_bound, sum_bound, difference_bound, scaled_bound}
 use Rattle.book_model.specs.numbers.Expressions.{Expression, argument, constant, add, subtract, scale}
 use Rattle.book_model.specs.numbers.Fractions.{fraction_of}
 use Rattle.book_model.specs.numbers.Relations.{Narrow}
 use Rattle.book_model.specs.programs.Widths.{IsAbout, IsMoment}
 use Rattle.book_model.specs.sky.Names.{location_of}
+use Rattle.book_model.specs.sky.Places.{are_kept_hours}
 use Rattle.width_laws.proofs.Measuring.{measured, sloped}
+use Rattle.time_scales.proofs.ZoneWidths.{hours_within}
 use Rattle.rise_set.specs.Widths.{IsNarrowLocation}
-use Rattle.rise_set.proofs.Places.{tehran_is_narrow, cairo_is_narrow, ujjain_is_narrow}
-use Rattle.fact_eval.specs.Widths.{IsNarrowZone}
+use Rattle.rise_set.proofs.Places.{place_is_narrow}
 
--- ---- the standard times of the places
-tehran_hours : implies (bound_of (limits_at 56) (λ k. unbounded) (scale (fraction_of HOUR) (constant (fraction_of TEHRAN.zone)))) (bounded (neg_ℤ (pos (2 ^ 32))) (pos (2 ^ 32)) 0 (2 ^ 10)) ≡ true
-unfolding implies bound_of constant_bound scaled_bound
-tehran_hours = refl
+-- the location of a place is narrow
+pub found_is_narrow : (place : Place) (l : Location) → Some l ≡ location_of place → IsNarrowLocation l
+found_is_narrow place l e = by (location_of place) e (place_is_narrow place)
+  where
+    by : (o : Option Location) → Some l ≡ o → IfSome o IsNarrowLocation → IsNarrowLocation l
+    by None f k = absurd (cc)
+    by (Some m) f k = let q : l ≡ m = cc in rw q k
 
-cairo_hours : implies (bound_of (limits_at 56) (λ k. unbounded) (scale (fraction_of HOUR) (constant (fraction_of CAIRO.zone)))) (bounded (neg_ℤ (pos (2 ^ 32))) (pos (2 ^ 32)) 0 (2 ^ 10)) ≡ true
-unfolding implies bound_of constant_bound scaled_bound
-cairo_hours = refl
-
-ujjain_hours : implies (bound_of (limits_at 56) (λ k. unbounded) (scale (fraction_of HOUR) (constant (fraction_of UJJAIN.zone)))) (bounded (neg_ℤ (pos (2 ^ 32))) (pos (2 ^ 32)) 0 (2 ^ 10)) ≡ true
-unfolding implies bound_of constant_bound scaled_bound
-ujjain_hours = refl
-
--- the location of a place, if it has one, is narrow, and so is its standard time
-pub places_are_narrow : (p : Place) → IfSome (location_of p) (λ l. IsNarrowLocation l × IsNarrowZone l)
+pub tehran_is_narrow : IsNarrowLocation TEHRAN
 unfolding location_of
-places_are_narrow no_place = tt
-places_are_narrow Beijing = tt
-places_are_narrow Cairo = (cairo_is_narrow, record { narrow = cairo_hours })
-places_are_narrow Tehran = (tehran_is_narrow, record { narrow = tehran_hours })
-places_are_narrow Ujjain = (ujjain_is_narrow, record { narrow = ujjain_hours })
-
-located_is_narrow : (o : Option Location) (l : Location) → Some l ≡ o → IfSome o (λ l. IsNarrowLocation l × IsNarrowZone l) → IsNarrowLocation l × IsNarrowZone l
-located_is_narrow (Some m) l e h = let q : l ≡ m = cc in rw q h
-located_is_narrow None l e h = absurd (cc)
-
-pub found_is_narrow : (p : Place) (l : Location) → Some l ≡ location_of p → IsNarrowLocation l × IsNarrowZone l
-found_is_narrow p l e = located_is_narrow (location_of p) l e (places_are_narrow p)
+tehran_is_narrow = place_is_narrow Tehran
 
 -- ---- minutes
 abbrev clock_bounds : ℕ → Bound
-clock_bounds k = if k == 1 then bounded (neg_ℤ (pos (2 ^ 32))) (pos (2 ^ 32)) 0 (2 ^ 10) else (if k == 2 then bounded (neg_ℤ (pos (2 ^ 58))) (pos (2 ^ 58)) 0 0 else bounded (neg_ℤ (pos (2 ^ 58))) (pos (2 ^ 58)) (2 ^ 40) 0)
+clock_bounds k = if k == 1 then bounded (pos 0) (pos (24 * 2 ^ 32)) 0 (2 ^ 8) else (if k == 2 then bounded (neg_ℤ (pos (2 ^ 58))) (pos (2 ^ 58)) 0 0 else bounded (neg_ℤ (pos (2 ^ 58))) (pos (2 ^ 58)) (2 ^ 40) 0)
 
-minutes_reach : implies (bound_of (limits_at 56) clock_bounds (scale (fraction_of MINUTES_OF_DAY) (subtract (add (argument 0) (argument 1)) (argument 2)))) (bounded (neg_ℤ (pos (2 ^ 89))) (pos (2 ^ 89)) (1440 * 2 ^ 40) (2 ^ 22)) ≡ true
+minutes_reach : implies (bound_of (limits_at 56) clock_bounds (scale (fraction_of MINUTES_OF_DAY) (subtract (add (argument 0) (scale (fraction_of HOUR) (argument 1))) (argument 2)))) (bounded (neg_ℤ (pos (2 ^ 89))) (pos (2 ^ 89)) (1440 * 2 ^ 40) (2 ^ 22)) ≡ true
 unfolding implies bound_of sum_bound difference_bound scaled_bound
 minutes_reach = refl
 
-zone_kept : {E : Type 0} (shown : E → Interval) (n : ℕ) (p : Location) (z h : E) → n ≡ 56 → IsNarrowZone p → ((r : Reach) → Narrow shown (limits_of n) r (constant (fraction_of p.zone)) z)
-    → ((r : Reach) (x : Expression) → Narrow shown (limits_of n) r x z → Narrow shown (limits_of n) r (scale (fraction_of HOUR) x) h) → IsAbout (2 ^ 32) (2 ^ 10) (shown h)
-zone_kept shown n p z h e k f g =
-    let r : Reach = record { width = 0; bounds = λ k. unbounded } in
-    measured shown n 0 (λ k. unbounded) (scale (fraction_of HOUR) (constant (fraction_of p.zone))) _ _ 0 (2 ^ 10) (2 ^ 10) h e k.narrow (omega arith) (g r _ (f r))
-
-pub minutes_within : {E : Type 0} (shown : E → Interval) (n v : ℕ) (p : Location) (t z h a d s m : E) → n ≡ 56 → IsNarrowZone p → IsMoment v (shown t) → IsMoment 0 (shown d)
-    → ((r : Reach) → Narrow shown (limits_of n) r (constant (fraction_of p.zone)) z)
+pub minutes_within : {E : Type 0} (shown : E → Interval) (n v : ℕ) (hours : Frac) (t z h a d s m : E) → n ≡ 56 → are_kept_hours 24 hours ≡ true → IsMoment v (shown t) → IsMoment 0 (shown d)
+    → ((r : Reach) → Narrow shown (limits_of n) r (constant (fraction_of hours)) z)
     → ((r : Reach) (x : Expression) → Narrow shown (limits_of n) r x z → Narrow shown (limits_of n) r (scale (fraction_of HOUR) x) h)
     → ((r : Reach) (x y : Expression) → Narrow shown (limits_of n) r x t → Narrow shown (limits_of n) r y h → Narrow shown (limits_of n) r (add x y) a)
     → ((r : Reach) (x y : Expression) → Narrow shown (limits_of n) r x a → Narrow shown (limits_of n) r y d → Narrow shown (limits_of n) r (subtract x y) s)
     → ((r : Reach) (x : Expression) → Narrow shown (limits_of n) r x s → Narrow shown (limits_of n) r (scale (fraction_of MINUTES_OF_DAY) x) m)
     → IsAbout (2 ^ 89) (1440 * v + 2 ^ 22) (shown m)
-minutes_within shown n v p t z h a d s m e k i j f1 f2 f3 f4 f5 =
+minutes_within shown n v hours t z h a d s m e k i j f1 f2 f3 f4 f5 =
     let r : Reach = record { width = v; bounds = clock_bounds } in
-    let o = zone_kept shown n p z h e k f1 f2 in
-    measured shown n v clock_bounds (scale (fraction_of MINUTES_OF_DAY) (subtract (add (argument 0) (argument 1)) (argument 2))) _ _ (1440 * 2 ^ 40) (2 ^ 22) (1440 * v + 2 ^ 22) m e minutes_reach (omega arith)
+    let o = hours_within shown n 24 hours z e k f1 in
+    measured shown n v clock_bounds (scale (fraction_of MINUTES_OF_DAY) (subtract (add (argument 0) (scale (fraction_of HOUR) (argument 1))) (argument 2))) _ _ (1440 * 2 ^ 40) (2 ^ 22) (1440 * v + 2 ^ 22) m e minutes_reach (omega arith)
     (f5 r _ (f4 r _ _ (f3 r _ _
     (sloped shown (limits_of n) v v clock_bounds 0 (neg_ℤ (pos (2 ^ 58))) (pos (2 ^ 58)) (2 ^ 40) 0 t refl (omega arith) i)
-    (sloped shown (limits_of n) v (2 ^ 10) clock_bounds 1 (neg_ℤ (pos (2 ^ 32))) (pos (2 ^ 32)) 0 (2 ^ 10) h refl (omega arith) o))
+    (f2 r _ (sloped shown (limits_of n) v (2 ^ 8) clock_bounds 1 (pos 0) (pos (24 * 2 ^ 32)) 0 (2 ^ 8) z refl (omega arith) o)))
     (sloped shown (limits_of n) v 0 clock_bounds 2 (neg_ℤ (pos (2 ^ 58))) (pos (2 ^ 58)) 0 0 d refl (omega arith) j)))
 
 -- and a half

@@ -1,6 +1,8 @@
 -- The bound of a correction that is about to be rounded, computed for each scale, and what it says of an open test
 -- and of a value.
-use Rattle.std.specs.Prelude.{◌≡◌, ℕ, ◌+◌, ◌-◌, ◌*◌, ◌^◌, ◌≤◌, ℤ, pos, negsuc, ◌-ℤ◌, ◌*ℤ◌, ◌≤ℤ◌, Bool, true, false, Some, FitsSigned, refl}
+use Rattle.std.specs.Prelude.{◌≡◌, ℕ, ◌+◌, ◌-◌, ◌*◌, ◌^◌, ◌≤◌, ℤ, pos, negsuc, ◌-ℤ◌, ◌*ℤ◌, ◌≤ℤ◌, Bool, true, false, Option, Some, None, IfSome, FitsSigned, refl}
+use Rattle.std.specs.List.{list_all}
+use Rattle.std.specs.Option.{option_map_or}
 use Rattle.std.proofs.Common.{arith, subst}
 use Rattle.book_model.proofs.Implying.{settled_at}
 use Rattle.std.proofs.lemmas.Int.{ints}
@@ -20,44 +22,81 @@ use Rattle.book_model.specs.programs.Leading.{at_56, bounds, IsOpenCell, between
 use Rattle.book_model.specs.programs.Programs.{integers, cell_at, cell_of, when}
 use Rattle.book_model.specs.numbers.Expressions.{Expression, argument}
 use Rattle.book_model.specs.numbers.Relations.{Narrow, Keeps}
-use Rattle.time_scales.specs.Corrections.{correction_bound}
+use Rattle.book_model.specs.sky.Correction.{Correction, corrections, row_of_year}
+use Rattle.book_model.proofs.CorrectionRows.{year_row}
+use Rattle.time_scales.specs.Corrections.{correction_bound, units_in, units_of_year}
 use Rattle.time_scales.proofs.CorrectionWidths.{holds_below, holds_of}
-use Rattle.fact_eval.specs.Widths.{rounded_expression, IsCloseFor}
+use Rattle.fact_eval.specs.Widths.{rounded_expression, AreCloseBy, IsCloseFor}
 
--- within 10,000,000 of 0, and at most 345,600,003 units of 2^-bits wide
-abbrev pub rounded_bound : ℕ → Bound
-rounded_bound bits = bounded (negsuc (10000000 * 2 ^ 32 - 1)) (pos (10000000 * 2 ^ 32)) 0 (345600003 * 2 ^ (64 - bits))
+-- within 10,000,000 of 0, and at most so wide, in 2^-64
+abbrev rounded_within : ℕ → Bound
+rounded_within m = bounded (negsuc (10000000 * 2 ^ 32 - 1)) (pos (10000000 * 2 ^ 32)) 0 m
 
-abbrev narrow_correction : ℕ → ℕ → Bound
-narrow_correction bits k = correction_bound 4 bits
+-- the width of what is rounded for a correction of so many units of 2^-bits
+abbrev pub apart_by : (units bits : ℕ) → ℕ
+apart_by units bits = (86400000 * units + 3) * 2 ^ (64 - bits)
+
+abbrev pub rounded_bound : (units bits : ℕ) → Bound
+rounded_bound units bits = rounded_within (apart_by units bits)
+
+abbrev narrow_correction : (units bits : ℕ) → ℕ → Bound
+narrow_correction units bits k = correction_bound units bits
+
+abbrev fits_at : (units bits : ℕ) → Bool
+fits_at units bits = implies (bound_of (limits_of bits) (narrow_correction units bits) (rounded_expression (argument 0))) (rounded_bound units bits)
 
 -- what is rounded keeps the bound at the scale k bits finer than 2^-36
-unfoldable is_rounded_well : ℕ → Bool
-is_rounded_well k = implies (bound_of (limits_of (36 + k)) (narrow_correction (36 + k)) (rounded_expression (argument 0))) (rounded_bound (36 + k))
+unfoldable is_rounded_well : (units : ℕ) → ℕ → Bool
+is_rounded_well units k = fits_at units (36 + k)
 
-scales_fit : holds_below is_rounded_well 21 ≡ true
-unfolding holds_below is_rounded_well implies bound_of limits_of constant_bound sum_bound scaled_bound
+-- for each number of units that the table promises, at each scale
+unfoldable fits_scales : Correction → Bool
+fits_scales row = option_map_or (λ units. holds_below (is_rounded_well units) 21) row.units true
+
+scales_fit : list_all fits_scales corrections ≡ true
+unfolding corrections fits_scales holds_below is_rounded_well implies bound_of limits_of constant_bound sum_bound scaled_bound
 scales_fit = refl
 
-abbrev FitsScale : ℕ → Type 0
-FitsScale n = implies (bound_of (limits_of n) (narrow_correction n) (rounded_expression (argument 0))) (rounded_bound n) ≡ true
+abbrev FitsScale : (units bits : ℕ) → Type 0
+FitsScale u n = fits_at u n ≡ true
 
-fits_finer : (k : ℕ) → is_rounded_well k ≡ true → FitsScale (36 + k)
+fits_finer : (u k : ℕ) → is_rounded_well u k ≡ true → FitsScale u (36 + k)
 unfolding is_rounded_well
-fits_finer k e = e
+fits_finer u k e = e
 
-scale_fits : (n : ℕ) → 36 ≤ n → n ≤ 56 → FitsScale n
-scale_fits n a b =
+scale_fits : (u n : ℕ) → 36 ≤ n → n ≤ 56 → holds_below (is_rounded_well u) 21 ≡ true → FitsScale u n
+scale_fits u n a b h =
     let p : 36 + (n - 36) ≡ n = omega (arith, a) in
-    subst FitsScale p (fits_finer (n - 36) (holds_of is_rounded_well 21 (n - 36) scales_fit (omega (arith, a, b))))
+    subst (λ k. FitsScale u k) p (fits_finer u (n - 36) (holds_of (is_rounded_well u) 21 (n - 36) h (omega (arith, a, b))))
 
--- what is rounded for a correction of at most 4 units keeps the bound
-pub rounded_narrow : {E : Type 0} (shown : E → Interval) (n : ℕ) (d e : E) → 36 ≤ n → n ≤ 56 → IsNarrow 0 (correction_bound 4 n) (shown d)
-    → ((r : Reach) (x : Expression) → Narrow shown (limits_of n) r x d → Narrow shown (limits_of n) r (rounded_expression x) e) → IsNarrow 0 (rounded_bound n) (shown e)
+units_fit : (n : ℕ) (o : Option ℕ) → 36 ≤ n → n ≤ 56 → option_map_or (λ units. holds_below (is_rounded_well units) 21) o true ≡ true → IfSome o (λ u. FitsScale u n)
+units_fit n None a b h = tt
+units_fit n (Some u) a b h = scale_fits u n a b h
+
+year_fits : (n : ℕ) (y : ℤ) → 36 ≤ n → n ≤ 56 → IfSome (units_of_year y) (λ u. FitsScale u n)
+unfolding units_of_year fits_scales
+year_fits n y a b = by (row_of_year y) refl
+  where
+    by : (o : Option Correction) → row_of_year y ≡ o → IfSome (units_in o) (λ u. FitsScale u n)
+    by None e = tt
+    by (Some row) e = units_fit n row.units a b (year_row fits_scales y row scales_fit e).passes
+
+-- what is rounded for a correction of so many units keeps the bound
+fitting_narrow : {E : Type 0} (shown : E → Interval) (n u : ℕ) (d e : E) → FitsScale u n → IsNarrow 0 (correction_bound u n) (shown d)
+    → ((r : Reach) (x : Expression) → Narrow shown (limits_of n) r x d → Narrow shown (limits_of n) r (rounded_expression x) e) → IsNarrow 0 (rounded_bound u n) (shown e)
 unfolding Keeps bound_of
-rounded_narrow shown n d e a b h f =
-    let r : Reach = record { width = 0; bounds = narrow_correction n } in
-    settled_at shown n 0 (narrow_correction n) (rounded_expression (argument 0)) (rounded_bound n) e (scale_fits n a b) (f r (argument 0) (record { kept = h }))
+fitting_narrow shown n u d e k h f =
+    let r : Reach = record { width = 0; bounds = narrow_correction u n } in
+    settled_at shown n 0 (narrow_correction u n) (rounded_expression (argument 0)) (rounded_bound u n) e k (f r (argument 0) (record { kept = h }))
+
+all_narrow : {E : Type 0} (shown : E → Interval) (n : ℕ) (o : Option ℕ) (d e : E) → IfSome o (λ u. FitsScale u n) → IfSome o (λ u. IsNarrow 0 (correction_bound u n) (shown d))
+    → ((r : Reach) (x : Expression) → Narrow shown (limits_of n) r x d → Narrow shown (limits_of n) r (rounded_expression x) e) → IfSome o (λ u. IsNarrow 0 (rounded_bound u n) (shown e))
+all_narrow shown n None d e k h f = tt
+all_narrow shown n (Some u) d e k h f = fitting_narrow shown n u d e k h f
+
+pub rounded_narrow : {E : Type 0} (shown : E → Interval) (n : ℕ) (y : ℤ) (d e : E) → 36 ≤ n → n ≤ 56 → IfSome (units_of_year y) (λ u. IsNarrow 0 (correction_bound u n) (shown d))
+    → ((r : Reach) (x : Expression) → Narrow shown (limits_of n) r x d → Narrow shown (limits_of n) r (rounded_expression x) e) → IfSome (units_of_year y) (λ u. IsNarrow 0 (rounded_bound u n) (shown e))
+rounded_narrow shown n y d e a b h f = all_narrow shown n (units_of_year y) d e (year_fits n y a b) h f
 
 -- the floor of a number that keeps the bound is a value of a fact
 floor_low : floor (at_32 (negsuc (10000000 * 2 ^ 32 - 1))) ≡ negsuc 9999999
@@ -70,10 +109,10 @@ when_some : {A : Type 0} (b : Bool) (a q : A) → when b a ≡ Some q → a ≡ 
 when_some true a q e = cc
 when_some false a q e = absurd (cc)
 
-floor_is_value : (n : ℕ) (i : Interval) (q : ℤ) → IsNarrow 0 (rounded_bound n) i → cell_at integers i ≡ Some q → IsFactValue q
+floor_is_value : (m : ℕ) (i : Interval) (q : ℤ) → IsNarrow 0 (rounded_within m) i → cell_at integers i ≡ Some q → IsFactValue q
 unfolding cell_at cell_of IsNarrow
-floor_is_value n everything q h e = absurd h
-floor_is_value n (between lo hi) q h e =
+floor_is_value m everything q h e = absurd h
+floor_is_value m (between lo hi) q h e =
     let s : floor lo ≡ q = when_some _ _ q e in
     let l = floor_mono _ _ h.above in
     let u = floor_mono _ _ (le_trans _ _ _ h.ordered h.below) in
@@ -82,29 +121,37 @@ floor_is_value n (between lo hi) q h e =
 value_fits : (q : ℤ) → IsFactValue q → FitsSigned w64 q
 value_fits q h = omega (arith, ints, h.0, h.1)
 
-apart_at_most : (n : ℕ) (lo hi : ℤ) → at_56 hi ≤F plus (at_56 lo) (breadth 0 0 (345600003 * 2 ^ (64 - n))) → ((hi -ℤ lo) *ℤ pos 256) ≤ℤ pos (345600003 * 2 ^ (64 - n))
+apart_at_most : (m : ℕ) (lo hi : ℤ) → at_56 hi ≤F plus (at_56 lo) (breadth 0 0 m) → ((hi -ℤ lo) *ℤ pos 256) ≤ℤ pos m
 unfolding plus
-apart_at_most n lo hi h = omega (arith, ints, h.cross)
+apart_at_most m lo hi h = omega (arith, ints, h.cross)
 
-nothing_narrow : (n : ℕ) → IsNarrow 0 (rounded_bound n) everything → ⊥
+nothing_narrow : (m : ℕ) → IsNarrow 0 (rounded_within m) everything → ⊥
 unfolding IsNarrow
-nothing_narrow n h = h
+nothing_narrow m h = h
 
-close_ends : (n : ℕ) (a b : Fraction) (lo hi : ℤ) → at_56 lo ≈ a → at_56 hi ≈ b → IsNarrow 0 (rounded_bound n) (between a b) → at_56 hi ≤F plus (at_56 lo) (breadth 0 0 (345600003 * 2 ^ (64 - n)))
+close_ends : (m : ℕ) (a b : Fraction) (lo hi : ℤ) → at_56 lo ≈ a → at_56 hi ≈ b → IsNarrow 0 (rounded_within m) (between a b) → at_56 hi ≤F plus (at_56 lo) (breadth 0 0 m)
 unfolding IsNarrow
-close_ends n a b lo hi l r h = le_trans _ _ _ (le_of_same r) (le_trans _ _ _ h.close (plus_mono _ _ _ _ (ge_of_same l) (le_refl _)))
+close_ends m a b lo hi l r h = le_trans _ _ _ (le_of_same r) (le_trans _ _ _ h.close (plus_mono _ _ _ _ (ge_of_same l) (le_refl _)))
 
--- the ends of an open floor of what keeps the bound are no further apart than its units
-open_floor_close : (n : ℕ) (i : Interval) (lo hi : ℤ) → IsNarrow 0 (rounded_bound n) i → IsOpenCell integers i lo hi → ((hi -ℤ lo) *ℤ pos 256) ≤ℤ pos (345600003 * 2 ^ (64 - n))
-open_floor_close n i lo hi h (too_far q e f b) = absurd (f (value_fits q (floor_is_value n i q h e)))
-open_floor_close n everything lo hi h (between_cells e k) = absurd (nothing_narrow n h)
-open_floor_close n (between a b) lo hi h (between_cells e (bounds l r)) = apart_at_most n lo hi (close_ends n a b lo hi l r h)
+-- the ends of an open floor of what keeps the bound are no further apart than it is wide
+open_floor_close : (m : ℕ) (i : Interval) (lo hi : ℤ) → IsNarrow 0 (rounded_within m) i → IsOpenCell integers i lo hi → ((hi -ℤ lo) *ℤ pos 256) ≤ℤ pos m
+open_floor_close m i lo hi h (too_far q e f b) = absurd (f (value_fits q (floor_is_value m i q h e)))
+open_floor_close m everything lo hi h (between_cells e k) = absurd (nothing_narrow m h)
+open_floor_close m (between a b) lo hi h (between_cells e (bounds l r)) = apart_at_most m lo hi (close_ends m a b lo hi l r h)
 
--- an open floor of what keeps the bound from 1987 on lies within its units
-pub close_round : (n : ℕ) (i : Interval) (y : ℤ) (f : Fail) → (pos 1987 ≤ℤ y → y ≤ℤ pos 2050 → IsNarrow 0 (rounded_bound n) i) → IsOpenFloor i Round f → IsCloseFor n y f
-close_round n i y (undecided_at u) h o = λ a b. open_floor_close n i u.lo u.hi (h a b) o.0
-close_round n i y (Void s) h o = tt
+close_by : (n : ℕ) (i : Interval) (o : Option ℕ) (f : Fail) → IfSome o (λ u. IsNarrow 0 (rounded_bound u n) i) → IsOpenFloor i Round f → IfSome o (λ u. AreCloseBy n u f)
+close_by n i None f h o = tt
+close_by n i (Some u) (undecided_at x) h o = open_floor_close (apart_by u n) i x.lo x.hi h o.0
+close_by n i (Some u) (Void s) h o = tt
+
+-- an open floor of what keeps the bound that the table promises lies within its units
+pub close_round : (n : ℕ) (i : Interval) (y : ℤ) (f : Fail) → IfSome (units_of_year y) (λ u. IsNarrow 0 (rounded_bound u n) i) → IsOpenFloor i Round f → IsCloseFor n y f
+close_round n i y f h o = close_by n i (units_of_year y) f h o
 
 -- a void is no open test
+void_by : (n : ℕ) (o : Option ℕ) (f : Fail) → f ≡ Void Year → IfSome o (λ u. AreCloseBy n u f)
+void_by n None f e = tt
+void_by n (Some u) f e = rw e tt
+
 pub void_is_close : (n : ℕ) (y : ℤ) (f : Fail) → f ≡ Void Year → IsCloseFor n y f
-void_is_close n y f e = rw e tt
+void_is_close n y f e = void_by n (units_of_year y) f e

@@ -1,4 +1,4 @@
 pub mod Answers
 pub mod Widths
 pub mod Spans
-pub mod Springs
+pub mod Seasons

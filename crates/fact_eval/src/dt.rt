@@ -12,7 +12,8 @@ ghost use Rattle.book_model.specs.numbers.Relations.{Within, Narrow};
 ghost use Rattle.fact_eval.specs.Widths.{IsCloseFor};
 ghost use Rattle.time_scales.specs.Steps.{IsNoEarlyYear};
 
-use book_model::{Fail, HALF, MILLISECONDS_OF_DAY, Site};
+use book_model::tables::{HALF, MILLISECONDS_OF_DAY};
+use book_model::{Fail, Site};
 use encl_core::{Enclosure, Trail, floor_step};
 use time_scales::{correction, year_of_whole_day};
 

@@ -1,16 +1,16 @@
 //! Answers facts by computing enclosures of their formulas.
 #![tactic(auto)]
 
-mod beijing;
 mod dt;
 pub mod laws;
 mod major;
+mod midnights;
 mod moon_days;
 mod nowruz;
 mod quarters;
+mod seasons;
 mod solar_terms;
 mod solstice;
-mod spring;
 mod staged;
 mod sun;
 mod sunsets;

@@ -6,8 +6,9 @@ ghost use Rattle.book_model.specs.sky.Facts.{IsFactValue, IsValueDay};
 ghost use Rattle.book_model.specs.sky.Kinds.{nowruz_of};
 ghost use Rattle.book_model.specs.sky.Noon.{noon_of};
 
-use crate::spring::{DayMoment, spring_day};
+use crate::seasons::{DayMoment, season_day};
 use book_model::Fail;
+use book_model::calendar_tables::SPRING;
 use encl_core::{Enclosure, Trail};
 use sun_core::{SunCourse, noon};
 
@@ -16,7 +17,7 @@ use sun_core::{SunCourse, noon};
 struct NoonAtTehran;
 
 impl<E: Enclosure> DayMoment<E> for NoonAtTehran {
-    ghost moment_of = { noon_of };
+    ghost moment_of = { λ s. noon_of };
 
     #[tactic(auto)]
     fn at(&self, day: i64, trail: &mut Trail) -> Result<E, Fail> {
@@ -36,5 +37,5 @@ pub(crate) fn nowruz<E: Enclosure>(
     ensures value { IfOk result IsFactValue }
     ensures close { E.BITS ≡ 56 → IfErr result IsClose }
 {
-    spring_day::<E, NoonAtTehran>(NoonAtTehran, course, day, trail)
+    season_day::<E, NoonAtTehran>(NoonAtTehran, course, SPRING, day, trail)
 }

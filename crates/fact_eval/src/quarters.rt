@@ -1,7 +1,7 @@
 //! The days of new moon, first quarter, full moon and last quarter, and of the first sight of the crescent.
 ghost use Rattle.book_model.specs.programs.Calls.{Decides};
-ghost use Rattle.book_model.specs.programs.Widths.{IsClose};
-ghost use Rattle.std.specs.Prelude.{◌≡◌, ◌≤◌, pos, negsuc, ◌≤ℤ◌, IfOk, IfErr};
+ghost use Rattle.book_model.specs.programs.Widths.{IsClose, IsSmall};
+ghost use Rattle.std.specs.Prelude.{◌≡◌, ◌≤◌, IfOk, IfErr};
 ghost use Rattle.book_model.specs.sky.Crescent.{phasis_of};
 ghost use Rattle.book_model.specs.sky.Facts.{IsFactValue, IsValueDay};
 ghost use Rattle.book_model.specs.sky.Kinds.{located};
@@ -26,8 +26,7 @@ pub(crate) fn phase_day<E: Enclosure>(
     ensures leads { Decides (phase_day_of phase day) trail.old.count trail.new.count result }
     ensures value { IfOk result IsFactValue }
     ensures early { trail.old.count ≡ 0 → 36 ≤ E.BITS → E.BITS ≤ 56 → IfErr result IsNoEarlyYear }
-    ensures close { E.BITS ≡ 56 → negsuc 39999999 ≤ℤ phase → phase ≤ℤ pos 40000000
-        → IfErr result IsClose }
+    ensures close { E.BITS ≡ 56 → IsSmall phase → IfErr result IsClose }
 {
     moon_core::phase_day::<E>(course, phase, day, trail)
 }

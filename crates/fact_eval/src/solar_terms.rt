@@ -1,13 +1,14 @@
-//! The days in Beijing of the next major and minor solar terms.
+//! The days at a place of the next major and minor solar terms.
 ghost use Rattle.book_model.specs.programs.Calls.{Decides};
-ghost use Rattle.book_model.specs.programs.Widths.{IsClose};
-ghost use Rattle.std.specs.Prelude.{◌≡◌, pos, negsuc, ◌≤ℤ◌, IfOk, IfErr};
+ghost use Rattle.book_model.specs.programs.Widths.{IsClose, IsSmall};
+ghost use Rattle.std.specs.Prelude.{◌≡◌, pos, ◌≤ℤ◌, IfOk, IfErr};
 ghost use Rattle.book_model.specs.sky.Facts.{IsFactValue, IsValueDay};
 ghost use Rattle.book_model.specs.sky.Kinds as spec;
 ghost use Rattle.fact_eval.specs.Spans.{IsSpan};
 
-use crate::beijing::{day_in_beijing, longitude_at_midnight};
-use book_model::{DEGREE_IN_TERMS, Fail, Site};
+use crate::midnights::{day_at, longitude_at_midnight};
+use book_model::sun_tables::DEGREE_IN_TERMS;
+use book_model::{Fail, Place, Site};
 use calendar_math::modulo;
 use encl_core::{Enclosure, Trail, floor_step};
 use sun_core::{SunCourse, sun_from_by};
@@ -17,16 +18,22 @@ use time_scales::midnight;
 const TERM_DEGREES: i64 = 30;
 
 /// The whole spans of 30 degrees, rounded down, from the sun to the first longitude of the terms, in degrees, at midnight at the
-/// beginning of a day (R.D.) in Beijing: from -12 to 12. Three tests at most.
+/// beginning of a day (R.D.) at a place: from -12 to 12. Three tests at most.
 #[tactic(auto, using(book_model::proofs::Leads::leading), unfolding(book_model::specs::sky::Kinds::spans_short_of))]
-fn spans_short<E: Enclosure>(first: i64, day: i64, trail: &mut Trail) -> Result<i64, Fail>
+fn spans_short<E: Enclosure>(
+    place: Place,
+    first: i64,
+    day: i64,
+    trail: &mut Trail,
+) -> Result<i64, Fail>
     requires from { pos 0 ≤ℤ first }
     requires to { first ≤ℤ pos 15 }
-    ensures leads { Decides (spec.spans_short_of first day) trail.old.count trail.new.count result }
+    ensures leads { Decides (spec.spans_short_of place first day) trail.old.count
+        trail.new.count result }
     ensures near { IfOk result IsSpan }
     ensures close { E.BITS ≡ 56 → IsValueDay day → IfErr result IsClose }
 {
-    let there = longitude_at_midnight::<E>(day, trail)?;
+    let there = longitude_at_midnight::<E>(place, day, trail)?;
     let spans = E::from_int(first).sub(there).mul_frac(DEGREE_IN_TERMS);
     floor_step(spans, Site::TermFloor, trail)
 }
@@ -44,28 +51,36 @@ fn term_longitude(first: i64, spans: i64) -> i64
     modulo(first - TERM_DEGREES * spans, 360)
 }
 
-/// The day (R.D.) in Beijing on which the sun is next at a longitude, in degrees, once a day has begun there: 326 tests at most.
+/// The day (R.D.) at a place on which the sun is next at a longitude, in degrees, once a day has begun there: 325 tests at most,
+/// and those of the zone.
 #[tactic(auto, using(book_model::proofs::Leads::leading), unfolding(book_model::specs::sky::Kinds::longitude_day_of))]
 fn longitude_day<E: Enclosure>(
     course: &SunCourse<E>,
+    place: Place,
     longitude: i64,
     day: i64,
     trail: &mut Trail,
 ) -> Result<i64, Fail>
-    ensures leads { Decides (spec.longitude_day_of longitude day) trail.old.count trail.new.count
-        result }
-    ensures close { E.BITS ≡ 56 → negsuc 39999999 ≤ℤ longitude → longitude ≤ℤ pos 40000000
-        → IsValueDay day → IfErr result IsClose }
+    ensures leads { Decides (spec.longitude_day_of place longitude day) trail.old.count
+        trail.new.count result }
+    ensures close { E.BITS ≡ 56 → IsSmall longitude → IsValueDay day → IfErr result IsClose }
 {
-    let moment = sun_from_by(course, E::from_int(longitude), midnight::<E>(day), trail)?;
-    day_in_beijing(moment, trail)
+    let moment = sun_from_by(
+        course,
+        E::from_int(longitude),
+        midnight::<E>(place, day),
+        trail,
+    )?;
+    day_at(place, moment, trail)
 }
 
-/// The day (R.D.) in Beijing on which the sun comes to the first of the longitudes of the terms once a day has begun there: those 30
-/// degrees apart, the least of which is `first`, 0 for the major terms and 15 for the minor. 329 tests at most.
+/// The day (R.D.) at a place on which the sun comes to the first of the longitudes of the terms once a day has begun there: those
+/// 30 degrees apart, the least of which is `first`, 0 for the major terms and 15 for the minor. 328 tests at most, and those of the
+/// zone.
 #[tactic(auto, using(book_model::proofs::Leads::leading), unfolding(book_model::specs::sky::Kinds::term_day_of))]
 pub(crate) fn term_day<E: Enclosure>(
     course: &SunCourse<E>,
+    place: Place,
     first: i64,
     day: i64,
     trail: &mut Trail,
@@ -73,10 +88,11 @@ pub(crate) fn term_day<E: Enclosure>(
     requires from { pos 0 ≤ℤ first }
     requires to { first ≤ℤ pos 15 }
     requires day { IsValueDay day }
-    ensures leads { Decides (spec.term_day_of first day) trail.old.count trail.new.count result }
+    ensures leads { Decides (spec.term_day_of place first day) trail.old.count trail.new.count
+        result }
     ensures value { IfOk result IsFactValue }
     ensures close { E.BITS ≡ 56 → IfErr result IsClose }
 {
-    let spans = spans_short::<E>(first, day, trail)?;
-    longitude_day::<E>(course, term_longitude(first, spans), day, trail)
+    let spans = spans_short::<E>(place, first, day, trail)?;
+    longitude_day::<E>(course, place, term_longitude(first, spans), day, trail)
 }

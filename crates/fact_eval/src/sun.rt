@@ -6,7 +6,8 @@ ghost use Rattle.book_model.specs.sky.Facts.{IsFactValue, IsValueDay};
 ghost use Rattle.book_model.specs.sky.Kinds.{sun_in_thousandths_of};
 ghost use Rattle.time_scales.specs.Steps.{IsNoEarlyYear};
 
-use book_model::{Fail, Site, THOUSANDTHS_OF_DEGREE};
+use book_model::tables::THOUSANDTHS_OF_DEGREE;
+use book_model::{Fail, Site};
 use encl_core::{Enclosure, Trail, floor_step};
 use sun_core::sun;
 

@@ -1,23 +1,26 @@
 //! The first day of a Bahá'í year, and sunset in minutes.
 ghost use Rattle.book_model.specs.programs.Calls.{Decides, Decides1, Holds1};
-ghost use Rattle.book_model.specs.programs.Widths.{IsAbout, IsClose, IsMoment};
-ghost use Rattle.std.specs.Prelude.{◌≡◌, ℕ, ◌+◌, ◌*◌, ◌^◌, ◌≤◌, pos, negsuc, ◌≤ℤ◌, IfOk, IfErr};
+ghost use Rattle.book_model.specs.programs.Widths.{IsAbout, IsClose, IsMoment, Closes1};
+ghost use Rattle.std.specs.Prelude.{◌≡◌, ℕ, ◌+◌, ◌*◌, ◌^◌, ◌≤◌, IfOk, IfErr};
 ghost use Rattle.book_model.specs.sky.Correction.{rounded_of};
-ghost use Rattle.book_model.specs.sky.Facts.{IsFactValue, IsValueDay};
+ghost use Rattle.book_model.specs.sky.Facts.{IsFactDay, IsFactValue, IsValueDay};
 ghost use Rattle.book_model.specs.sky.Horizon.{sunset_of};
 ghost use Rattle.book_model.specs.sky.Kinds.{bahai_year_of, located, minutes_of, sunset_in_minutes_of};
 ghost use Rattle.book_model.specs.sky.Names.{location_of};
 ghost use Rattle.book_model.specs.declared.location_tables.TheConstants.{TEHRAN as tehran};
-ghost use Rattle.moon_core.specs.Widths.{Closes1};
 ghost use Rattle.rise_set.specs.Widths.{IsNarrowLocation};
-ghost use Rattle.fact_eval.specs.Widths.{IsNarrowZone};
 
-use crate::spring::{DayMoment, spring_day};
-use book_model::{Fail, HALF, HOUR, Location, MINUTES_OF_DAY, Place, Site, TEHRAN};
+use crate::seasons::{DayMoment, season_day};
+use book_model::calendar_tables::SPRING;
+use book_model::location_tables::{MINUTES_OF_DAY, TEHRAN};
+use book_model::tables::HALF;
+use book_model::time_tables::HOUR;
+use book_model::{Fail, Location, Place, Site};
 use encl_core::{Enclosure, Trail, floor_step};
 use rise_set::{Sunsets, sunset};
 use std::marker::Model;
 use sun_core::SunCourse;
+use time_scales::zone_on;
 
 /// Sunset on a day at Tehran: the sunsets there, which share what the location asks for. Contracts see nothing of it.
 #[derive(Drop)]
@@ -46,7 +49,7 @@ impl<E: Enclosure> SunsetAtTehran<E> {
 }
 
 impl<E: Enclosure> DayMoment<E> for SunsetAtTehran<E> {
-    ghost moment_of = { sunset_of tehran };
+    ghost moment_of = { λ s. sunset_of tehran };
 
     fn at(&self, day: i64, trail: &mut Trail) -> Result<E, Fail> {
         self.sunsets.on(day, trail)
@@ -65,18 +68,18 @@ pub(crate) fn bahai_year<E: Enclosure>(
     ensures value { IfOk result IsFactValue }
     ensures close { E.BITS ≡ 56 → IfErr result IsClose }
 {
-    spring_day::<E, SunsetAtTehran<E>>(SunsetAtTehran::<E>::new(), course, day, trail)
+    let moment = SunsetAtTehran::<E>::new();
+    season_day::<E, SunsetAtTehran<E>>(moment, course, SPRING, day, trail)
 }
 
-/// A moment of universal time on a day (R.D.) as minutes of the standard time of a location after midnight.
+/// A moment of universal time on a day (R.D.) as minutes of the time of a place after midnight.
 #[tactic(auto, unfolding(book_model::specs::sky::Kinds::minutes_of))]
-fn minutes<E: Enclosure>(location: &Location, day: i64, t: E) -> E
-    ensures holds { Holds1 E.shown (minutes_of location.now day) t result }
-    ensures measured { (v : ℕ) → E.BITS ≡ 56 → v ≤ 2 ^ 33 → IsNarrowZone location.now
-        → negsuc 39999999 ≤ℤ day → day ≤ℤ pos 40000000 → IsMoment v (E.shown t)
+fn minutes<E: Enclosure>(place: Place, day: i64, t: E) -> E
+    ensures holds { Holds1 E.shown (minutes_of place day) t result }
+    ensures measured { (v : ℕ) → E.BITS ≡ 56 → v ≤ 2 ^ 33 → IsFactDay day → IsMoment v (E.shown t)
         → IsAbout (2 ^ 89) (1440 * v + 2 ^ 22) (E.shown result) }
 {
-    t.add(E::from_frac(location.zone).mul_frac(HOUR))
+    t.add(E::from_frac(zone_on(place, day)).mul_frac(HOUR))
         .sub(E::from_int(day))
         .mul_frac(MINUTES_OF_DAY)
 }
@@ -90,24 +93,25 @@ fn rounded<E: Enclosure>(number: E, trail: &mut Trail) -> Result<i64, Fail>
     floor_step(number.add(E::from_frac(HALF)), Site::Round, trail)
 }
 
-/// Sunset on a day (R.D.) at a location, in minutes of its standard time after midnight, rounded.
+/// Sunset on a day (R.D.) at the location of a place, in minutes of its time after midnight, rounded.
 #[tactic(auto, using(book_model::proofs::Leads::leading), unfolding(book_model::specs::sky::Kinds::sunset_in_minutes_of))]
 fn minutes_of_sunset<E: Enclosure>(
+    place: Place,
     location: &Location,
     day: i64,
     trail: &mut Trail,
 ) -> Result<i64, Fail>
-    ensures leads { Decides (sunset_in_minutes_of location.now day) trail.old.count trail.new.count
-        result }
-    ensures close { E.BITS ≡ 56 → IsNarrowLocation location.now → IsNarrowZone location.now
-        → IsValueDay day → IfErr result IsClose }
+    ensures leads { Decides (sunset_in_minutes_of place location.now day) trail.old.count
+        trail.new.count result }
+    ensures close { E.BITS ≡ 56 → IsNarrowLocation location.now → IsFactDay day
+        → IfErr result IsClose }
 {
     let t = sunset::<E>(location, day, trail)?;
-    rounded(minutes(location, day, t), trail)
+    rounded(minutes(place, day, t), trail)
 }
 
-/// Sunset on a day (R.D.) at a place, in minutes of its standard time after midnight, rounded: 133 tests at most. It is void
-/// where sunset is, and at `year` where the place has no location.
+/// Sunset on a day (R.D.) at a place, in minutes of its time after midnight, rounded: 133 tests at most. It is void where sunset is,
+/// and at `year` where the place has no location.
 #[tactic(auto, using(book_model::proofs::Leads::leading), unfolding(book_model::specs::sky::Kinds::located))]
 pub(crate) fn sunset_in_minutes<E: Enclosure>(
     place: Place,
@@ -115,13 +119,13 @@ pub(crate) fn sunset_in_minutes<E: Enclosure>(
     trail: &mut Trail,
 ) -> Result<i64, Fail>
     requires day { IsValueDay day }
-    ensures leads { Decides (located (location_of place) (λ l. sunset_in_minutes_of l day))
+    ensures leads { Decides (located (location_of place) (λ l. sunset_in_minutes_of place l day))
         trail.old.count trail.new.count result }
     ensures value { IfOk result IsFactValue }
     ensures close { E.BITS ≡ 56 → IfErr result IsClose }
 {
     match place.location() {
-        Some(location) => minutes_of_sunset::<E>(&location, day, trail),
+        Some(location) => minutes_of_sunset::<E>(place, &location, day, trail),
         None => Err(Fail::Void(Site::Year)),
     }
 }

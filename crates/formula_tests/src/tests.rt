@@ -18,6 +18,7 @@ mod model;
 mod moon;
 mod new_moons_by_number;
 mod quotients;
+mod rough;
 mod sine_spans;
 mod sines;
 mod sun;

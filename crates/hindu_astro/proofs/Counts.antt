@@ -1,5 +1,5 @@
 -- The days of so many twelfths of sidereal years: the quotient that they are, and how large they get.
-use Rattle.std.specs.Prelude.{◌≡◌, ℤ, pos, ◌*ℤ◌, ◌≤ℤ◌, refl}
+use Rattle.std.specs.Prelude.{◌≡◌, ℤ, pos, negsuc, ◌*ℤ◌, ◌≤ℤ◌, refl}
 use Rattle.std.proofs.Common.{arith}
 use Rattle.std.proofs.lemmas.Int.{ints}
 use Rattle.exact_math.specs.Fraction.{floor_quotient, times}
@@ -13,7 +13,7 @@ days_are : (twelfths : ℤ) → days_of (fraction_of SIDEREAL_YEAR) (ratio twelf
 unfolding days_of times
 days_are twelfths = refl
 
-pub days_near : (twelfths : ℤ) → pos 0 ≤ℤ twelfths → twelfths ≤ℤ pos 100000 → LiesWithin (pos 0) (pos 5000000) (days_of (fraction_of SIDEREAL_YEAR) (ratio twelfths 12))
+pub days_near : (twelfths : ℤ) → negsuc 119999 ≤ℤ twelfths → twelfths ≤ℤ pos 170000 → LiesWithin (negsuc 3999999) (pos 6000000) (days_of (fraction_of SIDEREAL_YEAR) (ratio twelfths 12))
 days_near twelfths h k =
     let f = floor_quotient_is (pos 36525636 *ℤ twelfths) 1199999 in
     let e = days_are twelfths in

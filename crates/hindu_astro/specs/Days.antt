@@ -15,7 +15,7 @@ IsSearchedDay day = (negsuc 29998899 ≤ℤ day) × (day ≤ℤ pos 29998900)
 
 -- the years and months from which days by the mean sun are reckoned
 abbrev pub IsSunMonth : (year month : ℤ) → Type 0
-IsSunMonth year month = (pos 1 ≤ℤ year) × (year ≤ℤ pos 4000) × (pos 1 ≤ℤ month) × (month ≤ℤ pos 12)
+IsSunMonth year month = (negsuc 9998 ≤ℤ year) × (year ≤ℤ pos 9999) × (pos 1 ≤ℤ month) × (month ≤ℤ pos 12)
 
 -- a day at most 30 days from another
 abbrev pub IsAbout : (about day : ℤ) → Type 0

@@ -1,7 +1,7 @@
 //! Hindu lunar dates. Days are R.D.
 ghost use Rattle.std.specs.Prelude.{◌≡◌, ◌≤◌, ◌≤ℤ◌, ◌+ℤ◌, ◌-ℤ◌, pos, negsuc, IsTrue, IfOk};
 ghost use Rattle.std.specs.Ordering.{int_eq};
-ghost use Rattle.book_model.specs.calendars.Dates.{field as field_of, may_have, is_answered, is_in_range, day_named, date_on as date_of_day};
+ghost use Rattle.book_model.specs.calendars.Dates.{IsAskable, IsDateDay};
 ghost use Rattle.book_model.specs.sky.Facts.{IsFactValue};
 ghost use Rattle.book_model.specs.calendars.HinduLunar as spec;
 ghost use Rattle.book_model.specs.calendars.Inquiries.{flag, first_of as first_of_days};
@@ -16,9 +16,10 @@ ghost use Rattle.calendar_math.specs.Days.{IsCalendarDay};
 
 use crate::facts::fact_on;
 use crate::months::days_to_month;
-use book_model::{Fact, Fields, HINDU_EPOCH, Kind, VIKRAMA_ERA};
+use book_model::calendar_tables::{HINDU_EPOCH, VIKRAMA_ERA};
+use book_model::{Fact, Fields, Kind};
 use calendar_math::{amod, to_8_bits, to_32_bits};
-use oracle_core::{Oracle, Stop};
+use oracle_core::{CalendarDate, Oracle, Stop};
 
 /// A date of the Hindu lunar calendar; the year counts in the Vikrama era. A leap month is an added one, before that of the same
 /// number; a leap day is the second with its tithi.
@@ -145,7 +146,7 @@ fn date_near<O: Oracle>(oracle: &mut O, day: i64) -> Result<HinduLunar, Stop>
 /// // HinduLunar { year: 2080, month: 5, leap_month: true, day: 1, leap_day: false }: the month is an added one
 /// ```
 pub fn from_fixed<O: Oracle>(oracle: &mut O, day: i64) -> Result<HinduLunar, Stop>
-    requires day { IsCalendarDay day }
+    requires day { IsDateDay LunarCalendar day }
     ensures date { AsksAs fields_of_lunar O.Oracle (spec.hindu_lunar_on day)
         oracle.old oracle.new result }
 {
@@ -250,8 +251,8 @@ fn day_candidates(day: i64) -> [i64; 5]
 /// day. It stops where the oracle stops.
 #[tactic(auto, using(oracle_core::proofs::Inquiring::asking), unfolding(book_model::specs::calendars::HinduLunar::middle_about, crate::specs::Searches::inquiry_of))]
 fn middle_about<O: Oracle>(oracle: &mut O, sought: HinduLunar, day: i64) -> Result<i64, Stop>
-    requires low { negsuc 13999999 ≤ℤ day }
-    requires high { day ≤ℤ pos 14000100 }
+    requires low { negsuc 16999999 ≤ℤ day }
+    requires high { day ≤ℤ pos 17000100 }
     ensures day { Asks O.Oracle (spec.middle_about (fields_of_lunar sought) day)
         oracle.old oracle.new result }
     ensures about { IfOk result (IsAbout day) }
@@ -277,28 +278,28 @@ fn day_about<O: Oracle>(oracle: &mut O, sought: HinduLunar, day: i64) -> Result<
 fn day_by_sun(year: i64, month: i64) -> i64
     requires month { IsSunMonth year month }
     ensures day { result ≡ spec.day_by_sun year month }
-    ensures low { negsuc 1999999 ≤ℤ result }
-    ensures high { result ≤ℤ pos 3999999 }
+    ensures low { negsuc 6999999 ≤ℤ result }
+    ensures high { result ≤ℤ pos 6999999 }
 {
     HINDU_EPOCH + days_to_month(VIKRAMA_ERA, year, month) + 12
 }
 
 /// The day with the tithi 15 of the month in which a day falls, by the tithi of that day.
 fn middle_by(by_sun: i64, tithi: i64) -> i64
-    requires low { negsuc 1999999 ≤ℤ by_sun }
-    requires high { by_sun ≤ℤ pos 3999999 }
+    requires low { negsuc 6999999 ≤ℤ by_sun }
+    requires high { by_sun ≤ℤ pos 6999999 }
     requires value { IsFactValue tithi }
     ensures day { result ≡ by_sun -ℤ tithi +ℤ pos 15 }
-    ensures near_from { negsuc 13999999 ≤ℤ result }
-    ensures near_to { result ≤ℤ pos 14000100 }
+    ensures near_from { negsuc 16999999 ≤ℤ result }
+    ensures near_to { result ≤ℤ pos 17000100 }
 {
     by_sun - tithi + 15
 }
 
 /// The day to which the tithi of the month's middle leads.
 fn day_by_tithi(middle: i64, tithi: i64, day: u8) -> i64
-    requires low { negsuc 14000999 ≤ℤ middle }
-    requires high { middle ≤ℤ pos 14001100 }
+    requires low { negsuc 17000999 ≤ℤ middle }
+    requires high { middle ≤ℤ pos 17001100 }
     requires value { IsFactValue tithi }
     ensures day { result ≡ middle -ℤ tithi +ℤ pos day }
     ensures near_from { negsuc 29998000 ≤ℤ result }
@@ -310,8 +311,8 @@ fn day_by_tithi(middle: i64, tithi: i64, day: u8) -> i64
 /// The day of a date by the middle of its month, whose tithi leads to it or near it. It stops where the oracle stops.
 #[tactic(auto, using(oracle_core::proofs::Inquiring::asking), unfolding(book_model::specs::calendars::HinduLunar::day_by_middle))]
 fn day_by_middle<O: Oracle>(oracle: &mut O, sought: HinduLunar, middle: i64) -> Result<i64, Stop>
-    requires low { negsuc 14000999 ≤ℤ middle }
-    requires high { middle ≤ℤ pos 14001100 }
+    requires low { negsuc 17000999 ≤ℤ middle }
+    requires high { middle ≤ℤ pos 17001100 }
     ensures day { Asks O.Oracle (spec.day_by_middle (fields_of_lunar sought) middle)
         oracle.old oracle.new result }
 {
@@ -323,8 +324,8 @@ fn day_by_middle<O: Oracle>(oracle: &mut O, sought: HinduLunar, middle: i64) -> 
 /// stops.
 #[tactic(auto, using(oracle_core::proofs::Inquiring::asking), unfolding(book_model::specs::calendars::HinduLunar::day_by_month))]
 fn day_by_month<O: Oracle>(oracle: &mut O, sought: HinduLunar, day: i64) -> Result<i64, Stop>
-    requires low { negsuc 1999999 ≤ℤ day }
-    requires high { day ≤ℤ pos 3999999 }
+    requires low { negsuc 6999999 ≤ℤ day }
+    requires high { day ≤ℤ pos 6999999 }
     ensures day { Asks O.Oracle (spec.day_by_month (fields_of_lunar sought) day)
         oracle.old oracle.new result }
 {
@@ -346,10 +347,7 @@ fn day_by_month<O: Oracle>(oracle: &mut O, sought: HinduLunar, day: i64) -> Resu
 /// ```
 #[tactic(auto, using(oracle_core::proofs::Inquiring::asking), unfolding(book_model::specs::calendars::HinduLunar::hindu_lunar_day))]
 pub fn to_fixed<O: Oracle>(oracle: &mut O, date: HinduLunar) -> Result<i64, Stop>
-    requires from_1858 { pos 1858 ≤ℤ date.year }
-    requires to_2105 { date.year ≤ℤ pos 2105 }
-    requires from_first_month { 1 ≤ date.month }
-    requires to_last_month { date.month ≤ 12 }
+    requires askable { IsAskable LunarCalendar (fields_of_lunar date) }
     ensures day { Asks O.Oracle (spec.hindu_lunar_day date.year (pos date.month)
         (flag date.leap_month) (pos date.day) (flag date.leap_day)) oracle.old oracle.new result }
 {
@@ -357,55 +355,37 @@ pub fn to_fixed<O: Oracle>(oracle: &mut O, date: HinduLunar) -> Result<i64, Stop
     day_by_month(oracle, date, by_sun)
 }
 
-/// The fields of a date: year, month, 1 for a leap month, day, and 1 for a leap day.
-fn fields_of(date: HinduLunar) -> Fields
-    ensures fields { result ≡ fields_of_lunar date }
-{
-    Fields {
-        count: 5,
-        values: [
-            date.year,
-            i32::from(date.month),
-            i32::from(date.leap_month),
-            i32::from(date.day),
-            i32::from(date.leap_day),
-        ],
+impl CalendarDate for HinduLunar {
+    ghost calendar = { LunarCalendar };
+
+    ghost fields_of = { fields_of_lunar };
+
+    fn fields(self) -> Fields {
+        Fields {
+            count: 5,
+            values: [
+                self.year,
+                i32::from(self.month),
+                i32::from(self.leap_month),
+                i32::from(self.day),
+                i32::from(self.leap_day),
+            ],
+        }
     }
-}
 
-/// The date with these fields.
-#[tactic(auto, unfolding(book_model::specs::calendars::Dates::may_have))]
-fn date_of(fields: &Fields) -> HinduLunar
-    requires possible { IsTrue (may_have LunarCalendar fields.now) }
-    ensures year { result.year ≡ pos (field_of fields.now 0) }
-    ensures month { result.month ≡ field_of fields.now 1 }
-    ensures leap_month { flag result.leap_month ≡ pos (field_of fields.now 2) }
-    ensures day { result.day ≡ field_of fields.now 3 }
-    ensures leap_day { flag result.leap_day ≡ pos (field_of fields.now 4) }
-{
-    HinduLunar {
-        year: fields.field(0) as i32,
-        month: fields.field(1) as u8,
-        leap_month: fields.field(2) == 1,
-        day: fields.field(3) as u8,
-        leap_day: fields.field(4) == 1,
+    #[tactic(auto, unfolding(book_model::specs::calendars::Dates::may_have, book_model::specs::calendars::Dates::has_some_year, book_model::specs::calendars::Dates::year_number))]
+    fn day_by<O: Oracle>(oracle: &mut O, fields: &Fields) -> Result<i64, Stop> {
+        let date = HinduLunar {
+            year: fields.field(0) as i32,
+            month: fields.field(1) as u8,
+            leap_month: fields.field(2) == 1,
+            day: fields.field(3) as u8,
+            leap_day: fields.field(4) == 1,
+        };
+        to_fixed(oracle, date)
     }
-}
 
-/// The day (R.D.) that the fields of a date name. It stops where the oracle stops.
-#[tactic(auto, unfolding(book_model::specs::calendars::Dates::may_have, book_model::specs::calendars::Dates::is_answered, book_model::specs::calendars::Dates::year_number))]
-pub fn named_day<O: Oracle>(oracle: &mut O, fields: &Fields) -> Result<i64, Stop>
-    requires possible { IsTrue (may_have LunarCalendar fields.now) }
-    requires in_reach { IsTrue (is_answered LunarCalendar fields.now) }
-    ensures day { Asks O.Oracle (day_named LunarCalendar fields.now) oracle.old oracle.new result }
-{
-    to_fixed(oracle, date_of(fields))
-}
-
-/// The fields of the date of a day (R.D.), from 1 January 1802 to 31 December 2048. It stops where the oracle stops.
-pub fn date_on<O: Oracle>(oracle: &mut O, day: i64) -> Result<Fields, Stop>
-    requires in_range { IsTrue (is_in_range day) }
-    ensures date { Asks O.Oracle (date_of_day LunarCalendar day) oracle.old oracle.new result }
-{
-    Ok(fields_of(from_fixed(oracle, day)?))
+    fn of_day<O: Oracle>(oracle: &mut O, day: i64) -> Result<Self, Stop> {
+        from_fixed(oracle, day)
+    }
 }

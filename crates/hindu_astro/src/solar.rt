@@ -1,6 +1,6 @@
 //! Hindu solar dates. Days are R.D.
 ghost use Rattle.std.specs.Prelude.{◌≡◌, ◌≤◌, ◌≤ℤ◌, ◌+ℤ◌, ◌-ℤ◌, pos, IsTrue};
-ghost use Rattle.book_model.specs.calendars.Dates.{field as field_of, may_have, is_answered, is_in_range, day_named, date_on as date_of_day};
+ghost use Rattle.book_model.specs.calendars.Dates.{IsAskable, IsDateDay};
 ghost use Rattle.book_model.specs.sky.Facts.{IsFactValue};
 ghost use Rattle.book_model.specs.calendars.HinduSolar as spec;
 ghost use Rattle.book_model.specs.declared.calendar.Calendar.TheVariants.{HinduSolar as SolarCalendar};
@@ -11,9 +11,10 @@ ghost use Rattle.calendar_math.specs.Days.{IsCalendarDay};
 
 use crate::facts::fact_on;
 use crate::months::days_to_month;
-use book_model::{Fields, HINDU_EPOCH, Kind, SAKA_ERA};
+use book_model::calendar_tables::{HINDU_EPOCH, SAKA_ERA};
+use book_model::{Fields, Kind};
 use calendar_math::{to_8_bits, to_32_bits};
-use oracle_core::{Oracle, Stop};
+use oracle_core::{CalendarDate, Oracle, Stop};
 
 /// A date of the Hindu solar calendar; the year counts in the Saka era.
 #[derive(Clone, Copy, Debug, PartialEq, Eq)]
@@ -67,7 +68,7 @@ fn date_by(day: i64, sign: i64, year: i64, first: i64) -> HinduSolar
 /// ```
 #[tactic(auto, using(oracle_core::proofs::Inquiring::asking), unfolding(book_model::specs::calendars::HinduSolar::hindu_solar_on))]
 pub fn from_fixed<O: Oracle>(oracle: &mut O, day: i64) -> Result<HinduSolar, Stop>
-    requires day { IsCalendarDay day }
+    requires day { IsDateDay SolarCalendar day }
     ensures date { AsksAs fields_of_solar O.Oracle (spec.hindu_solar_on day)
         oracle.old oracle.new result }
 {
@@ -108,12 +109,7 @@ fn day_by(first: i64, day: i64) -> i64
 /// ```
 #[tactic(auto, using(oracle_core::proofs::Inquiring::asking), unfolding(book_model::specs::calendars::HinduSolar::hindu_solar_day))]
 pub fn to_fixed<O: Oracle>(oracle: &mut O, date: HinduSolar) -> Result<i64, Stop>
-    requires from_1723 { pos 1723 ≤ℤ date.year }
-    requires to_1970 { date.year ≤ℤ pos 1970 }
-    requires from_first_month { 1 ≤ date.month }
-    requires to_last_month { date.month ≤ 12 }
-    requires from_first_day { 1 ≤ date.day }
-    requires to_last_day { date.day ≤ 32 }
+    requires askable { IsAskable SolarCalendar (fields_of_solar date) }
     ensures day { Asks O.Oracle (spec.hindu_solar_day date.year (pos date.month) (pos date.day))
         oracle.old oracle.new result }
 {
@@ -122,45 +118,29 @@ pub fn to_fixed<O: Oracle>(oracle: &mut O, date: HinduSolar) -> Result<i64, Stop
     Ok(day_by(first, i64::from(date.day)))
 }
 
-/// The fields of a date: year, month and day.
-fn fields_of(date: HinduSolar) -> Fields
-    ensures fields { result ≡ fields_of_solar date }
-{
-    Fields {
-        count: 3,
-        values: [date.year, i32::from(date.month), i32::from(date.day), 0, 0],
+impl CalendarDate for HinduSolar {
+    ghost calendar = { SolarCalendar };
+
+    ghost fields_of = { fields_of_solar };
+
+    fn fields(self) -> Fields {
+        Fields {
+            count: 3,
+            values: [self.year, i32::from(self.month), i32::from(self.day), 0, 0],
+        }
     }
-}
 
-/// The date with these fields.
-#[tactic(auto, unfolding(book_model::specs::calendars::Dates::may_have))]
-fn date_of(fields: &Fields) -> HinduSolar
-    requires possible { IsTrue (may_have SolarCalendar fields.now) }
-    ensures year { result.year ≡ pos (field_of fields.now 0) }
-    ensures month { result.month ≡ field_of fields.now 1 }
-    ensures day { result.day ≡ field_of fields.now 2 }
-{
-    HinduSolar {
-        year: fields.field(0) as i32,
-        month: fields.field(1) as u8,
-        day: fields.field(2) as u8,
+    #[tactic(auto, unfolding(book_model::specs::calendars::Dates::may_have, book_model::specs::calendars::Dates::has_some_year, book_model::specs::calendars::Dates::year_number))]
+    fn day_by<O: Oracle>(oracle: &mut O, fields: &Fields) -> Result<i64, Stop> {
+        let date = HinduSolar {
+            year: fields.field(0) as i32,
+            month: fields.field(1) as u8,
+            day: fields.field(2) as u8,
+        };
+        to_fixed(oracle, date)
     }
-}
 
-/// The day (R.D.) that the fields of a date name. It stops where the oracle stops.
-#[tactic(auto, unfolding(book_model::specs::calendars::Dates::may_have, book_model::specs::calendars::Dates::is_answered, book_model::specs::calendars::Dates::year_number))]
-pub fn named_day<O: Oracle>(oracle: &mut O, fields: &Fields) -> Result<i64, Stop>
-    requires possible { IsTrue (may_have SolarCalendar fields.now) }
-    requires in_reach { IsTrue (is_answered SolarCalendar fields.now) }
-    ensures day { Asks O.Oracle (day_named SolarCalendar fields.now) oracle.old oracle.new result }
-{
-    to_fixed(oracle, date_of(fields))
-}
-
-/// The fields of the date of a day (R.D.), from 1 January 1802 to 31 December 2048. It stops where the oracle stops.
-pub fn date_on<O: Oracle>(oracle: &mut O, day: i64) -> Result<Fields, Stop>
-    requires in_range { IsTrue (is_in_range day) }
-    ensures date { Asks O.Oracle (date_of_day SolarCalendar day) oracle.old oracle.new result }
-{
-    Ok(fields_of(from_fixed(oracle, day)?))
+    fn of_day<O: Oracle>(oracle: &mut O, day: i64) -> Result<Self, Stop> {
+        from_fixed(oracle, day)
+    }
 }

@@ -1,5 +1,5 @@
 -- The facts of the Hindu calendars: how many tests they make, and from where to where their values lie.
-use Rattle.std.specs.Prelude.{◌≡◌, ℕ, ◌+◌, ◌*◌, ◌≤◌, ℤ, pos, negsuc, neg_ℤ, Some, Result, Ok, Err, IfOk}
+use Rattle.std.specs.Prelude.{◌≡◌, ℕ, ◌+◌, ◌*◌, ◌≤◌, ℤ, pos, neg_ℤ, Some, Result, Ok, Err, IfOk, ◌+ℤ◌}
 use Rattle.std.proofs.Common.{arith}
 use Rattle.std.proofs.lemmas.Int.{ints}
 use Rattle.exact_math.specs.Fraction.{whole, times, smaller, larger, is_at_most}
@@ -10,6 +10,7 @@ use Rattle.book_model.specs.declared.fail.Fail.{Fail}
 use Rattle.book_model.specs.declared.site.Site.TheVariants.{Round, Sidereal}
 use Rattle.book_model.specs.declared.sun_tables.TheConstants.{DAY_IN_SIDEREAL_YEARS, DEGREE_IN_LUNAR_DAYS, DEGREE_IN_SIGNS, DEGREE_IN_TURNS}
 use Rattle.book_model.specs.declared.tables.TheConstants.{HALF}
+use Rattle.book_model.specs.declared.time_tables.TheConstants.{TABLE_START, TABLE_END}
 use Rattle.book_model.specs.sky.Correction.{rounded_of}
 use Rattle.book_model.specs.numbers.Expressions.{Expression, World, value, exactly, argument, integer, constant, add, scale, remainder}
 use Rattle.book_model.specs.sky.Facts.{IsFactValue, at_depth}
@@ -24,13 +25,13 @@ use Rattle.book_model.specs.programs.Searches.{first_day_from}
 use Rattle.book_model.specs.sky.Sidereal.{precession_of, sidereal_by, starred_of, sidereal_sun_of, signs_passed_of, sign_of, years_gone_of, hindu_year_of}
 use Rattle.book_model.specs.sky.Sun.{sun_of}
 use Rattle.book_model.specs.sky.Time.{centuries_of}
-use Rattle.book_model.proofs.Estimates.{between_of_within, difference_between, floor_between, wider}
+use Rattle.book_model.proofs.Estimates.{between_of_within, difference_between, floor_between, sum_between}
 use Rattle.book_model.proofs.FactRuns.{centuries_few, sun_few, parts, decides, remainder_within}
 use Rattle.rise_set.proofs.Horizons.{settled_few}
 use Rattle.book_model.proofs.Leads.{at_most_bind, at_most_more, leads_value}
 use Rattle.time_scales.proofs.Moments.{dated_in_table}
 use Rattle.sun_core.proofs.NewYears.{days_few}
-use Rattle.moon_core.proofs.PhaseRanges.{half_between, moon_before_few, moon_from_few, phase_between, phase_few, scaled_between, sum_between, world_of}
+use Rattle.moon_core.proofs.PhaseRanges.{half_between, moon_before_few, moon_from_few, phase_between, phase_few, scaled_between, world_of}
 use Rattle.book_model.proofs.Values.{value_proper}
 use Rattle.hindu_sky.specs.Counts.{IsSign, IsDegree, IsLunarDay}
 
@@ -155,7 +156,7 @@ sidereal_in_table w x s h =
     let c = parts w (centuries_of x) _ u.part u.first in
     dated_in_table w x c.part c.first
 
-years_of_days : product (between (whole (pos 900000)) (whole (pos 1900000))) (exactly (fraction_of DAY_IN_SIDEREAL_YEARS)) ⊆ between (whole (pos 2000)) (whole (pos 6000))
+years_of_days : product (between (whole (TABLE_START +ℤ pos 1132959)) (whole (TABLE_END +ℤ pos 1132959))) (exactly (fraction_of DAY_IN_SIDEREAL_YEARS)) ⊆ between (whole (pos 2000)) (whole (pos 6000))
 unfolding product least greatest smaller larger times is_at_most
 years_of_days = record { ends = (record { cross = omega (arith, ints) }, record { cross = omega (arith, ints) }) }
 
@@ -170,8 +171,8 @@ epoch_between w = (le_refl _, le_refl _)
 gone_between : (w : World) (x s : Expression) → IsInTable (value w x) → IsBetween (pos 0) (pos 360) (value w s) → IsBetween (pos 1999) (pos 6000) (value w (years_gone_of x s))
 unfolding years_gone_of value
 gone_between w x s h k =
-    let a = wider _ _ (pos 900000) (pos 1900000) _ (omega (arith, ints)) (omega (arith, ints)) (sum_between (negsuc 182620) (pos 748748) (pos 1132959) (pos 1132959) _ _ h (epoch_between w)) in
-    let y = scaled_between (pos 900000) (pos 1900000) (pos 2000) (pos 6000) (fraction_of DAY_IN_SIDEREAL_YEARS) _ years_of_days (value_proper w (add x (integer (neg_ℤ HINDU_EPOCH)))) a in
+    let a = sum_between TABLE_START TABLE_END (pos 1132959) (pos 1132959) _ _ h (epoch_between w) in
+    let y = scaled_between (TABLE_START +ℤ pos 1132959) (TABLE_END +ℤ pos 1132959) (pos 2000) (pos 6000) (fraction_of DAY_IN_SIDEREAL_YEARS) _ years_of_days (value_proper w (add x (integer (neg_ℤ HINDU_EPOCH)))) a in
     let t = scaled_between (pos 0) (pos 360) (pos 0) (pos 1) (fraction_of DEGREE_IN_TURNS) _ part_of_turn (value_proper w s) k in
     difference_between (pos 2000) (pos 6000) (pos 0) (pos 1) _ _ y t
 

@@ -4,18 +4,17 @@ use Rattle.std.proofs.Common.{arith}
 use Rattle.std.proofs.lemmas.Int.{ints}
 use Rattle.std.proofs.lemmas.Bool.{lt-ltb}
 use Rattle.exact_math.specs.Interval.{Interval}
+use Rattle.book_model.specs.declared.fact.TheConstants.{LAST_FACT_DAY}
 use Rattle.book_model.specs.declared.sun_tables.TheConstants.{DEGREE_IN_LUNAR_DAYS, DEGREE_IN_SIGNS}
 use Rattle.book_model.specs.declared.tables.TheConstants.{HALF}
 use Rattle.book_model.specs.numbers.Bounds.{Bound, unbounded, bounded, Reach, implies, bound_of, limits_at, limits_of, integer_bound, constant_bound, sum_bound, difference_bound, scaled_bound}
 use Rattle.book_model.specs.numbers.Expressions.{Expression, argument, constant, integer, add, scale}
 use Rattle.book_model.specs.numbers.Fractions.{fraction_of}
 use Rattle.book_model.specs.numbers.Relations.{Narrow, Keeps}
-use Rattle.book_model.specs.programs.Widths.{IsAbout, IsMoment, IsNearlyDated, IsUpTo}
+use Rattle.book_model.specs.programs.Widths.{IsAbout, IsMoment, IsNearlyDated, IsUpTo, IsRecentlyDated, IsRecent}
 use Rattle.book_model.specs.sky.Sidereal.{years_gone_of}
 use Rattle.book_model.proofs.Implying.{limits_within}
 use Rattle.width_laws.proofs.Measuring.{measured, sloped, looser}
-use Rattle.encl_core.specs.Kept.{IsRecentlyDated}
-use Rattle.time_scales.specs.Widths.{IsRecent}
 
 -- ---- parts of a turn
 abbrev turn_bounds : ℕ → Bound
@@ -62,7 +61,7 @@ years_within shown n v t s g h y e m u f i z =
     (sloped shown (limits_of n) v (3 * v + 2 ^ 34) year_bounds 1 (pos 0) (pos (360 * 2 ^ 32)) (3 * 2 ^ 40) (2 ^ 34) s refl (omega arith) u)) (i r))
 
 -- ---- a day from R.D. 620,600 on, as it begins
-pub day_recent : {E : Type 0} (shown : E → Interval) (n : ℕ) (d : ℤ) (x : E) → n ≡ 56 → pos 620600 ≤ℤ d → d ≤ℤ pos 40000000 → ((r : Reach) → Narrow shown (limits_of n) r (integer d) x) → IsRecent 0 (shown x)
+pub day_recent : {E : Type 0} (shown : E → Interval) (n : ℕ) (d : ℤ) (x : E) → n ≡ 56 → pos 620600 ≤ℤ d → d ≤ℤ LAST_FACT_DAY → ((r : Reach) → Narrow shown (limits_of n) r (integer d) x) → IsRecent 0 (shown x)
 unfolding Keeps bound_of integer_bound
 day_recent shown n d x e h k f =
     let l = limits_within n (omega arith) (omega arith) in

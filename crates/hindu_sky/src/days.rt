@@ -2,17 +2,17 @@
 ghost use Rattle.book_model.specs.programs.Calls.{Decides, Decides1};
 ghost use Rattle.std.specs.Prelude.{◌≡◌, ◌≤◌, ◌+◌, ◌^◌, ◌-ℤ◌, pos, ◌≤ℤ◌, IfOk, IfErr};
 ghost use Rattle.std.specs.Ordering.{int_eq};
+ghost use Rattle.book_model.specs.declared.fact.TheConstants.{LAST_FACT_DAY as last_fact_day};
 ghost use Rattle.book_model.specs.sky.Facts.{IsFactValue, IsValueDay};
 ghost use Rattle.book_model.specs.sky.HinduFacts as spec;
 ghost use Rattle.book_model.specs.programs.Searches.{first_day_from};
 ghost use Rattle.hindu_sky.specs.Counts.{IsDegree, IsLunarDay};
-ghost use Rattle.book_model.specs.programs.Widths.{IsClose, IsMoment};
-ghost use Rattle.moon_core.specs.Widths.{Closes1};
+ghost use Rattle.book_model.specs.programs.Widths.{IsClose, IsMoment, Closes1, IsRecent};
 ghost use Rattle.time_scales.specs.Steps.{IsNoEarlyYear};
-ghost use Rattle.time_scales.specs.Widths.{IsRecent};
 
 use crate::zodiac::{hindu_year, sign, whole_degrees};
-use book_model::{DEGREE_IN_LUNAR_DAYS, Fail, Site};
+use book_model::sun_tables::DEGREE_IN_LUNAR_DAYS;
+use book_model::{Fail, Site};
 use calendar_math::modulo;
 use encl_core::{DayTest, Enclosure, Trail, first_day, floor_step};
 use moon_core::{PhaseCourse, moon_before_by, moon_from_by, phase};
@@ -29,7 +29,7 @@ fn sign_on<E: Enclosure>(
 ) -> Result<i64, Fail>
     ensures leads { Decides (spec.sign_at_sunset_of day) trail.old.count trail.new.count result }
     ensures value { IfOk result IsFactValue }
-    ensures close { pos 620600 ≤ℤ day → day ≤ℤ pos 40000000 → E.BITS ≡ 56 → IfErr result IsClose }
+    ensures close { pos 620600 ≤ℤ day → day ≤ℤ last_fact_day → E.BITS ≡ 56 → IfErr result IsClose }
 {
     let t = sunsets.on(day, trail)?;
     sign(course, t, trail)
@@ -44,7 +44,7 @@ pub fn sign_at_sunset_by<E: Enclosure>(
 ) -> Result<i64, Fail>
     ensures leads { Decides (spec.sign_at_sunset_of day) trail.old.count trail.new.count result }
     ensures value { IfOk result IsFactValue }
-    ensures close { pos 620600 ≤ℤ day → day ≤ℤ pos 40000000 → E.BITS ≡ 56 → IfErr result IsClose }
+    ensures close { pos 620600 ≤ℤ day → day ≤ℤ last_fact_day → E.BITS ≡ 56 → IfErr result IsClose }
 {
     let sunsets = HinduSunsets::<E>::new();
     sign_on(&sunsets, course, day, trail)
@@ -61,7 +61,7 @@ pub fn sign_at_sunset_by<E: Enclosure>(
 pub fn sign_at_sunset<E: Enclosure>(day: i64, trail: &mut Trail) -> Result<i64, Fail>
     ensures leads { Decides (spec.sign_at_sunset_of day) trail.old.count trail.new.count result }
     ensures value { IfOk result IsFactValue }
-    ensures close { pos 620600 ≤ℤ day → day ≤ℤ pos 40000000 → E.BITS ≡ 56 → IfErr result IsClose }
+    ensures close { pos 620600 ≤ℤ day → day ≤ℤ last_fact_day → E.BITS ≡ 56 → IfErr result IsClose }
 {
     let course = SunCourse::<E>::always();
     sign_at_sunset_by(&course, day, trail)
@@ -101,7 +101,7 @@ fn has_sign<E: Enclosure>(
     trail: &mut Trail,
 ) -> Result<bool, Fail>
     ensures leads { Decides (spec.has_sign_at sign day) trail.old.count trail.new.count result }
-    ensures close { pos 620600 ≤ℤ day → day ≤ℤ pos 40000000 → E.BITS ≡ 56 → IfErr result IsClose }
+    ensures close { pos 620600 ≤ℤ day → day ≤ℤ last_fact_day → E.BITS ≡ 56 → IfErr result IsClose }
 {
     let there = sign_on(sunsets, course, day, trail)?;
     Ok(is_sign(there, sign))
@@ -118,7 +118,7 @@ struct InSign<'a, E: Enclosure> {
 impl<E: Enclosure> DayTest<E> for InSign<'_, E> {
     ghost test_of = { λ s d. spec.has_sign_at s.sign d };
 
-    ghost near_on = { λ s d. (pos 620600 ≤ℤ d) × (d ≤ℤ pos 40000000) };
+    ghost near_on = { λ s d. (pos 620600 ≤ℤ d) × (d ≤ℤ last_fact_day) };
 
     fn holds(&self, day: i64, trail: &mut Trail) -> Result<bool, Fail> {
         has_sign(&self.sunsets, self.course, self.sign, day, trail)

@@ -6,12 +6,12 @@ ghost use Rattle.book_model.specs.sky.HinduFacts.{whole_degrees_of};
 ghost use Rattle.book_model.specs.sky.Sidereal as spec;
 ghost use Rattle.hindu_sky.specs.Counts.{IsDegree, IsSign, whole_signs_of};
 ghost use Rattle.time_scales.specs.Steps.{IsYearOpenFor};
-ghost use Rattle.time_scales.specs.Widths.{IsRecent};
-ghost use Rattle.moon_core.specs.Widths.{Closes1};
+ghost use Rattle.book_model.specs.programs.Widths.{Closes1, IsRecent};
 
-use book_model::{
-    DAY_IN_SIDEREAL_YEARS, DEGREE_IN_SIGNS, DEGREE_IN_TURNS, Fail, HALF, HINDU_EPOCH, Site,
-};
+use book_model::calendar_tables::HINDU_EPOCH;
+use book_model::sun_tables::{DAY_IN_SIDEREAL_YEARS, DEGREE_IN_SIGNS, DEGREE_IN_TURNS};
+use book_model::tables::HALF;
+use book_model::{Fail, Site};
 use encl_core::{Enclosure, Trail, floor_step};
 use sun_core::{SunCourse, sidereal_sun, sidereal_sun_by};
 

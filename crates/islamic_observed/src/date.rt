@@ -1,5 +1,7 @@
 //! Islamic dates, and the facts that they are found by. Days are R.D.
 ghost use Rattle.std.specs.Prelude.{◌≡◌, ◌≤◌, ◌≤ℤ◌, ◌+ℤ◌, ◌-ℤ◌, pos};
+ghost use Rattle.book_model.specs.calendars.Dates.{IsAskable, IsDateDay};
+ghost use Rattle.book_model.specs.declared.calendar.Calendar.TheVariants.{Islamic};
 ghost use Rattle.book_model.specs.sky.Facts.{IsFactValue};
 ghost use Rattle.book_model.specs.calendars.Inquiries.{to_32_bits as to_32_bits_of};
 ghost use Rattle.book_model.specs.calendars.Islamic as spec;
@@ -80,7 +82,7 @@ fn date_by(day: i64, first: i64) -> IslamicDate
 /// ```
 #[tactic(auto, using(oracle_core::proofs::Inquiring::asking), unfolding(book_model::specs::calendars::Islamic::islamic_on))]
 pub fn from_fixed<O: Oracle>(oracle: &mut O, day: i64) -> Result<IslamicDate, Stop>
-    requires day { IsCalendarDay day }
+    requires day { IsDateDay Islamic day }
     ensures date { AsksAs fields_of_date O.Oracle (spec.islamic_on day)
         oracle.old oracle.new result }
 {
@@ -110,12 +112,7 @@ fn day_by(first: i64, day: i64) -> i64
 /// ```
 #[tactic(auto, using(oracle_core::proofs::Inquiring::asking), unfolding(book_model::specs::calendars::Islamic::islamic_day))]
 pub fn to_fixed<O: Oracle>(oracle: &mut O, date: IslamicDate) -> Result<i64, Stop>
-    requires from_1216 { pos 1216 ≤ℤ date.year }
-    requires to_1471 { date.year ≤ℤ pos 1471 }
-    requires from_first_month { 1 ≤ date.month }
-    requires to_last_month { date.month ≤ 12 }
-    requires from_first_day { 1 ≤ date.day }
-    requires to_last_day { date.day ≤ 30 }
+    requires askable { IsAskable Islamic (fields_of_date date) }
     ensures day { Asks O.Oracle (spec.islamic_day date.year (pos date.month) (pos date.day))
         oracle.old oracle.new result }
 {

@@ -1,5 +1,5 @@
 //! The months of the Islamic calendar since its epoch, and the facts of their first days. Days are R.D.
-ghost use Rattle.std.specs.Prelude.{◌≡◌, ◌≤ℤ◌, pos};
+ghost use Rattle.std.specs.Prelude.{◌≡◌, ◌≤ℤ◌, pos, negsuc};
 ghost use Rattle.book_model.specs.sky.Facts.{IsFactDay, IsFactValue};
 ghost use Rattle.book_model.specs.numbers.Fractions.{fraction_of};
 ghost use Rattle.book_model.specs.calendars.Islamic as spec;
@@ -7,7 +7,8 @@ ghost use Rattle.book_model.specs.calendars.Spans.{days_of as days_of_spans, rat
 ghost use Rattle.book_model.specs.declared.calendar_tables.TheConstants.{SYNODIC_MONTH as MonthOfDays};
 ghost use Rattle.islamic_observed.specs.Months.{IsMonth, IsNearMonth};
 
-use book_model::{Fact, ISLAMIC_EPOCH, Kind, Place, SYNODIC_MONTH};
+use book_model::calendar_tables::{ISLAMIC_EPOCH, SYNODIC_MONTH};
+use book_model::{Fact, Kind, Place};
 use calendar_math::{days_of, months_of_days};
 
 /// The fact of the first day of the month that a day falls in.
@@ -32,19 +33,19 @@ pub(crate) fn months_before(first: i64) -> i64
 fn half_months_to(year: i64, month: i64) -> i64
     requires month { IsMonth year month }
     ensures halves { result ≡ spec.half_months_to year month }
-    ensures low { pos 1 ≤ℤ result }
-    ensures high { result ≤ℤ pos 40000 }
+    ensures low { negsuc 239999 ≤ℤ result }
+    ensures high { result ≤ℤ pos 240000 }
 {
     2 * (12 * (year - 1) + month) - 1
 }
 
 /// The days of so many half months, rounded down.
 fn days_of_halves(halves: i64) -> i64
-    requires low { pos 1 ≤ℤ halves }
-    requires high { halves ≤ℤ pos 40000 }
+    requires low { negsuc 239999 ≤ℤ halves }
+    requires high { halves ≤ℤ pos 240000 }
     ensures days { result ≡ days_of_spans (fraction_of MonthOfDays) (ratio halves 2) }
-    ensures from { pos 0 ≤ℤ result }
-    ensures to { result ≤ℤ pos 1000000 }
+    ensures from { negsuc 3999999 ≤ℤ result }
+    ensures to { result ≤ℤ pos 4000000 }
 {
     days_of(SYNODIC_MONTH, halves, 2)
 }

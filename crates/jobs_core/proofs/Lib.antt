@@ -1,4 +1,3 @@
 pub mod PieceLemmas
 pub mod Fairness
 pub mod AnswerLemmas
-pub mod RowLemmas

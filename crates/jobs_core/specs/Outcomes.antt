@@ -1,20 +1,17 @@
 -- What the code's outcome of a row stands for, and when it is right.
-use Rattle.std.specs.Prelude.{◌≡◌, ℕ, ◌≤◌, List, Result, Ok, Err, IfOk, IsTrue}
+use Rattle.std.specs.Prelude.{◌≡◌, List, Result, IfOk, IsTrue}
 use Rattle.std.specs.List.{AllZip}
 use Rattle.book_model.specs.declared.request.Request.{Request}
 use Rattle.book_model.specs.declared.request.Rule.{Rule}
-use Rattle.book_model.specs.sky.Facts.{IsNear, IsVoidAt}
-use Rattle.book_model.specs.calendars.Inquiries.{finding, found, AsksAt}
-use Rattle.book_model.specs.lines.LineRules.{rule_of}
+use Rattle.book_model.specs.declared.version.TheConstants.{WRITTEN}
 use Rattle.book_model.specs.lines.Requests.{is_possible, is_in_reach}
-use Rattle.book_model.specs.lines.Outcomes.{LineOutcome, refused, resolved, undecided, void}
+use Rattle.book_model.specs.lines.Outcomes.{LineOutcome, refused, resolved, undecided, void, IsRightForRow}
 use Rattle.oracle_core.specs.declared.oracle.Stop.{Stop}
 use Rattle.oracle_core.specs.declared.oracle.Stop.TheVariants.{Undecided as undecided_stop, Void as void_stop, Missing as missing_stop, Memory as memory_stop}
 use Rattle.jobs_core.specs.declared.outcome.Outcome.{Outcome}
 use Rattle.jobs_core.specs.declared.outcome.Outcome.TheVariants.{Refused, Found, Halted}
 use Rattle.jobs_core.specs.declared.outcome.Halt.{Halt}
 use Rattle.jobs_core.specs.declared.outcome.Halt.TheVariants.{Undecided, Void}
-use Rattle.book_model.specs.numbers.Depth.{DEPTH}
 
 -- the outcome, of those that the definitions speak of, of a line without a result
 abbrev pub halt_outcome : Halt → LineOutcome
@@ -29,23 +26,11 @@ line_outcome (Halted halt) = halt_outcome halt.value
 
 -- the date of a request, where the row is one, is possible and in reach
 abbrev pub CanResolve : Result Request Rule → Type 0
-CanResolve row = IfOk row (λ r. IsTrue (is_possible r)) × IfOk row (λ r. IsTrue (is_in_reach r))
-
--- an outcome is right for a request
-abbrev pub IsRightOf : Request → LineOutcome → Type 0
-IsRightOf r (refused rule) = ⊥
-IsRightOf r (resolved x facts) = (n : ℕ) → DEPTH ≤ n → finding n (rule_of r) ≡ found x facts
-IsRightOf r (undecided f u) = ((n : ℕ) → DEPTH ≤ n → AsksAt n (rule_of r) f) × IsNear f u
-IsRightOf r (void f s) = ((n : ℕ) → DEPTH ≤ n → AsksAt n (rule_of r) f) × IsVoidAt f s
-
--- an outcome is right for a row: the refusal by its rule, or what is right for its request
-abbrev pub IsRightForRow : Result Request Rule → LineOutcome → Type 0
-IsRightForRow (Err rule) o = o ≡ refused rule
-IsRightForRow (Ok r) o = IsRightOf r o
+CanResolve row = IfOk row (λ r. IsTrue (is_possible r)) × IfOk row (λ r. IsTrue (is_in_reach WRITTEN r))
 
 -- one outcome for each row, in the order of the rows, each right for its row
 abbrev pub AreRightForRows : List (Result Request Rule) → List Outcome → Type 0
-AreRightForRows rows outcomes = AllZip (λ row o. IsRightForRow row (line_outcome o)) rows outcomes
+AreRightForRows rows outcomes = AllZip (λ row o. IsRightForRow WRITTEN row (line_outcome o)) rows outcomes
 
 -- a stop that says nothing of a line
 abbrev pub HasNoOutcome : Stop → Type 0

@@ -2,7 +2,9 @@
 ghost use Rattle.std.specs.Prelude.{◌≡◌, ◌≤◌, ◌<◌, ℕ, length, All, IfOk, slice_index_or};
 ghost use Rattle.std.specs.List.{AllZip};
 ghost use Rattle.oracle_core.specs.Answers.{IsRightAnswer};
-ghost use Rattle.jobs_core.specs.Outcomes.{line_outcome, CanResolve, IsRightForRow, AreRightForRows};
+ghost use Rattle.book_model.specs.declared.version.TheConstants.{WRITTEN};
+ghost use Rattle.book_model.specs.lines.Outcomes.{IsRightForRow};
+ghost use Rattle.jobs_core.specs.Outcomes.{line_outcome, CanResolve, AreRightForRows};
 
 use crate::outcome::{Outcome, Outcomes, outcome_of};
 use crate::{Gate, Row, map_places};
@@ -40,7 +42,8 @@ pub fn map_lines<R: Threads + Sync, E: Evaluator + Sync, G: Gate + Sync>(
         &|place: usize| -> Result<Outcome, AllocError>
             requires { (place < length rows.now) × All CanResolve rows.now }
             ensures { IfOk result (λ outcome. (d : _)
-                → IsRightForRow (slice_index_or rows.entry.now place d) (line_outcome outcome)) }
+                → IsRightForRow WRITTEN (slice_index_or rows.entry.now place d)
+                (line_outcome outcome)) }
         { outcome_of(alloc, &Shelved::new(alloc, shelf, evaluator), &rows[place]) },
     )
 }

@@ -1,10 +1,11 @@
 //! What comes of a row.
-ghost use Rattle.std.specs.Prelude.{◌≡◌, IsTrue, IfOk, OnErr};
+ghost use Rattle.std.specs.Prelude.{◌≡◌, IsTrue, IfOk, OnErr, Ok};
+ghost use Rattle.book_model.specs.lines.Outcomes.{IsRightForRow};
 ghost use Rattle.book_model.specs.lines.Requests.{is_possible, is_in_reach};
-ghost use Rattle.jobs_core.specs.Outcomes.{line_outcome, halt_outcome, CanResolve, IsRightOf, IsRightForRow, ComesOfStop, HasNoOutcome};
+ghost use Rattle.jobs_core.specs.Outcomes.{line_outcome, halt_outcome, CanResolve, ComesOfStop, HasNoOutcome};
 
 use crate::Row;
-use book_model::{Fact, Request, Resolved, Rule, Site, Undecided};
+use book_model::{Fact, Request, Resolved, Rule, Site, Undecided, WRITTEN};
 use line_core::resolve;
 use oracle_core::{Asking, Evaluator, FactValues, Stop};
 use std::alloc::{AllocError, Global};
@@ -55,11 +56,12 @@ fn outcome_of_request<E: Evaluator>(
     request: &Request,
 ) -> Result<Outcome, AllocError>
     requires possible { IsTrue (is_possible request.now) }
-    requires in_reach { IsTrue (is_in_reach request.now) }
-    ensures right { IfOk result (λ outcome. IsRightOf request.now (line_outcome outcome)) }
+    requires in_reach { IsTrue (is_in_reach WRITTEN request.now) }
+    ensures right { IfOk result (λ outcome. IsRightForRow WRITTEN (Ok request.now)
+        (line_outcome outcome)) }
 {
     let mut asking = Asking::new(alloc, evaluator);
-    match resolve(&mut asking, request) {
+    match resolve(&mut asking, request, WRITTEN) {
         Ok(resolved) => {
             let facts = asking.finish();
             Ok(Outcome::Found(Box::new(alloc, Finding { resolved, facts })?))
@@ -76,7 +78,7 @@ pub fn outcome_of<E: Evaluator>(
     row: &Row,
 ) -> Result<Outcome, AllocError>
     requires resolvable { CanResolve row.now }
-    ensures right { IfOk result (λ outcome. IsRightForRow row.now (line_outcome outcome)) }
+    ensures right { IfOk result (λ outcome. IsRightForRow WRITTEN row.now (line_outcome outcome)) }
 {
     match row {
         Ok(request) => outcome_of_request(alloc, evaluator, request),

@@ -7,3 +7,4 @@ pub mod OtherCalendars
 pub mod YearNumbers
 pub mod GregorianDates
 pub mod LineLemmas
+pub mod VersionDays

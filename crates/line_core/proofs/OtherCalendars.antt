@@ -4,6 +4,7 @@ use Rattle.std.specs.Prelude.{◌&&◌, ◌==◌, IsTrue}
 use Rattle.book_model.specs.declared.calendar.Calendar.{Calendar}
 use Rattle.book_model.specs.declared.calendar.Calendar.TheVariants.{Gregorian, Fixed}
 use Rattle.book_model.specs.declared.request.Fields.{Fields}
+use Rattle.book_model.specs.declared.version.Version.{Version}
 use Rattle.book_model.specs.calendars.Gregorian.{is_date}
 use Rattle.book_model.specs.calendars.Dates.{may_have, row_of, field, are_within, has_day_of_month, has_day_in_range}
 
@@ -13,10 +14,10 @@ other_month Gregorian f other = absurd (other refl)
 other_month _ f other = refl
 
 -- nor of their days
-pub other_day : (c : Calendar) (f : Fields) → (c ≡ Gregorian → ⊥) → (c ≡ Fixed → ⊥) → true ≡ has_day_in_range c f
-other_day Gregorian f other and_other = absurd (other refl)
-other_day Fixed f other and_other = absurd (and_other refl)
-other_day _ f other and_other = refl
+pub other_day : (version : Version) (c : Calendar) (f : Fields) → (c ≡ Gregorian → ⊥) → (c ≡ Fixed → ⊥) → true ≡ has_day_in_range version c f
+other_day version Gregorian f other and_other = absurd (other refl)
+other_day version Fixed f other and_other = absurd (and_other refl)
+other_day version _ f other and_other = refl
 
 both : (a b : Bool) → IsTrue (a && b) → IsTrue b
 both true b h = h

@@ -2,6 +2,7 @@
 use Rattle.std.specs.Prelude.{◌≡◌, ℕ, ◌&&◌, nat_le, Bool, true, false, List, [], ◌∷◌, length, Err, refl}
 use Rattle.std.specs.List.{list_all}
 use Rattle.book_model.specs.declared.request.Rule.TheVariants.{Syntax}
+use Rattle.book_model.specs.declared.version.Version.{Version}
 use Rattle.book_model.specs.lines.Lines.{is_plain, words_of}
 use Rattle.book_model.specs.lines.Requests.{request_of, asked_by, with_words}
 use Rattle.book_model.specs.lines.Words.{from_word_of, to_word_of}
@@ -11,24 +12,25 @@ abbrev pub is_readable : List ℕ → Bool
 is_readable line = nat_le (length line) 200 && list_all is_plain line
 
 -- a line that can't be read breaks the first rule
-pub asked_unreadable : (line : List ℕ) → is_readable line ≡ false → Err Syntax ≡ request_of line
+pub asked_unreadable : (version : Version) (line : List ℕ) → is_readable line ≡ false → Err Syntax ≡ request_of version line
 unfolding request_of
-asked_unreadable line e = rw e refl
+asked_unreadable version line e = rw e refl
 
 -- words that aren't three ask nothing
-not_three : (words : List (List ℕ)) → (length words ≡ 3 → ⊥) → Err Syntax ≡ asked_by words
-not_three [] h = refl
-not_three (a ∷ []) h = refl
-not_three (a ∷ b ∷ []) h = refl
-not_three (a ∷ b ∷ c ∷ []) h = absurd (h refl)
-not_three (a ∷ b ∷ c ∷ d ∷ words) h = refl
+not_three : (version : Version) (words : List (List ℕ)) → (length words ≡ 3 → ⊥) → Err Syntax ≡ asked_by version words
+not_three version [] h = refl
+not_three version (a ∷ []) h = refl
+not_three version (a ∷ b ∷ []) h = refl
+not_three version (a ∷ b ∷ c ∷ []) h = absurd (h refl)
+not_three version (a ∷ b ∷ c ∷ d ∷ words) h = refl
 
 -- so does one that hasn't three words
-pub asked_other : (line : List ℕ) → is_readable line ≡ true → (length (words_of line) ≡ 3 → ⊥) → Err Syntax ≡ request_of line
+pub asked_other : (version : Version) (line : List ℕ) → is_readable line ≡ true → (length (words_of line) ≡ 3 → ⊥) → Err Syntax ≡ request_of version line
 unfolding request_of
-asked_other line e h = rw e (not_three (words_of line) h)
+asked_other version line e h = rw e (not_three version (words_of line) h)
 
 -- a line of three words asks what they ask
-pub asked_three : (line from date to : List ℕ) → is_readable line ≡ true → words_of line ≡ from ∷ date ∷ to ∷ [] → with_words (from_word_of from) date (to_word_of to) ≡ request_of line
+pub asked_three : (version : Version) (line from date to : List ℕ) → is_readable line ≡ true → words_of line ≡ from ∷ date ∷ to ∷ []
+    → with_words version (from_word_of from) date (to_word_of to) ≡ request_of version line
 unfolding request_of
-asked_three line from date to e words = rw (e, words) refl
+asked_three version line from date to e words = rw (e, words) refl

@@ -1,14 +1,15 @@
 //! Dates of all calendars: which may be asked, the day that a date names, and the date of a day.
 ghost use Rattle.std.specs.Prelude.{◌≡◌, IsTrue, IfOk, MatchOption, true, false};
 ghost use Rattle.book_model.specs.calendars.Dates as spec;
+ghost use Rattle.book_model.specs.calendars.Versions.{is_in_some_range};
 ghost use Rattle.book_model.specs.lines.Requests.{ranged, fields_of};
 ghost use Rattle.oracle_core.specs.Asking.{Asks};
 
 use crate::fields::{are_within, has_year, spelled_fields};
 use crate::gregorian::{gregorian_date, gregorian_day, is_in_range};
-use book_model::{Calendar, Fields, Rule};
+use book_model::{Calendar, Fields, Rule, Version};
 use calendar_math::to_32_bits;
-use oracle_core::{Oracle, Stop};
+use oracle_core::{CalendarDate, Oracle, Stop};
 
 /// The day (R.D.) that a day number names.
 fn fixed_day(date: &Fields) -> i64
@@ -17,35 +18,35 @@ fn fixed_day(date: &Fields) -> i64
     i64::from(date.field(0))
 }
 
-/// Whether the day of a date is one that is answered, where it is known without any fact; `None` where the month of the
-/// date hasn't this day.
-fn has_day_in_range(calendar: Calendar, date: &Fields) -> Option<bool>
+/// Whether the day of a date is one that a line of a version may name, where it is known without any fact; `None` where the
+/// month of the date hasn't this day.
+fn has_day_in_range(version: Version, calendar: Calendar, date: &Fields) -> Option<bool>
     ensures day { MatchOption result (spec.has_day_of_month calendar date.now ≡ false)
         (λ near. (spec.has_day_of_month calendar date.now ≡ true)
-        × (near ≡ spec.has_day_in_range calendar date.now)) }
+        × (near ≡ spec.has_day_in_range version calendar date.now)) }
 {
     match calendar {
-        Calendar::Gregorian => Some(is_in_range(gregorian_day(date)?)),
-        Calendar::Fixed => Some(is_in_range(fixed_day(date))),
+        Calendar::Gregorian => Some(is_in_range(version, gregorian_day(date)?)),
+        Calendar::Fixed => Some(is_in_range(version, fixed_day(date))),
         _ => Some(true),
     }
 }
 
-/// The date of a calendar, where it is one that is answered as far as that can be told without any fact: `Field` where
-/// the calendar can have no such date, `Range` where it is out of range.
+/// The date of a calendar, where it is one that a version answers as far as that can be told without any fact: `Field`
+/// where the calendar can have no such date, `Range` where it is out of range.
 #[tactic(auto, unfolding(book_model::specs::calendars::Dates::may_have, book_model::specs::calendars::Dates::is_answered))]
-pub(crate) fn ranged_date(calendar: Calendar, date: &[u8]) -> Result<Fields, Rule>
-    ensures date { result ≡ ranged calendar (fields_of calendar date.now) }
+pub(crate) fn ranged_date(version: Version, calendar: Calendar, date: &[u8]) -> Result<Fields, Rule>
+    ensures date { result ≡ ranged version calendar (fields_of calendar date.now) }
     ensures possible { IfOk result (λ f. IsTrue (spec.may_have calendar f)) }
-    ensures in_reach { IfOk result (λ f. IsTrue (spec.is_answered calendar f)) }
+    ensures in_reach { IfOk result (λ f. IsTrue (spec.is_answered version calendar f)) }
 {
     let row = calendar.row();
     let fields = spelled_fields(date).ok_or(Rule::Field)?;
     if fields.count != row.count || !are_within(&row, &fields) {
         return Err(Rule::Field);
     }
-    let is_near = has_day_in_range(calendar, &fields).ok_or(Rule::Field)?;
-    if is_near && has_year(&row, &fields) {
+    let is_near = has_day_in_range(version, calendar, &fields).ok_or(Rule::Field)?;
+    if is_near && has_year(version, &row, &fields) {
         Ok(fields)
     } else {
         Err(Rule::Range)
@@ -77,6 +78,39 @@ pub(crate) fn day_of_gregorian(date: &Fields) -> i64
     gregorian_day(date).unwrap()
 }
 
+/// The day (R.D.) that the fields of a date name whose day is found by facts. It stops where the oracle stops.
+fn day_by<D: CalendarDate, O: Oracle>(oracle: &mut O, date: &Fields) -> Result<i64, Stop>
+    requires askable { spec.IsAskable D.calendar date.now }
+    ensures day { Asks O.Oracle (spec.day_named D.calendar date.now) oracle.old oracle.new result }
+{
+    D::day_by(oracle, date)
+}
+
+/// The fields of the date of a day (R.D.) that a line may name, found by facts. It stops where the oracle stops.
+#[tactic(auto, using(oracle_core::proofs::Inquiring::asking))]
+fn fields_on<D: CalendarDate, O: Oracle>(oracle: &mut O, day: i64) -> Result<Fields, Stop>
+    requires in_range { IsTrue (is_in_some_range day) }
+    ensures date { Asks O.Oracle (spec.date_on D.calendar day) oracle.old oracle.new result }
+{
+    Ok(D::of_day(oracle, day)?.fields())
+}
+
+/// What is given in the Gregorian calendar, in day numbers, or by a call that is told the date's type of any other calendar.
+macro_rules! by_calendar {
+    ($calendar:expr, $gregorian:expr, $fixed:expr, $call:ident($oracle:expr, $given:expr)) => {
+        match $calendar {
+            Calendar::Gregorian => Ok($gregorian),
+            Calendar::Fixed => Ok($fixed),
+            Calendar::Persian => $call::<persian_cal::PersianDate, O>($oracle, $given),
+            Calendar::Bahai => $call::<bahai_cal::BahaiDate, O>($oracle, $given),
+            Calendar::Chinese => $call::<chinese_cal::ChineseDate, O>($oracle, $given),
+            Calendar::Islamic => $call::<islamic_observed::IslamicDate, O>($oracle, $given),
+            Calendar::HinduSolar => $call::<hindu_astro::solar::HinduSolar, O>($oracle, $given),
+            Calendar::HinduLunar => $call::<hindu_astro::lunar::HinduLunar, O>($oracle, $given),
+        }
+    };
+}
+
 /// The day (R.D.) that a date names. It stops where the oracle stops.
 #[tactic(auto, using(oracle_core::proofs::Inquiring::asking))]
 pub(crate) fn named_day<O: Oracle>(
@@ -84,40 +118,31 @@ pub(crate) fn named_day<O: Oracle>(
     calendar: Calendar,
     date: &Fields,
 ) -> Result<i64, Stop>
-    requires possible { IsTrue (spec.may_have calendar date.now) }
-    requires in_reach { IsTrue (spec.is_answered calendar date.now) }
+    requires askable { spec.IsAskable calendar date.now }
     ensures comes { Asks O.Oracle (spec.day_named calendar date.now) oracle.old oracle.new result }
 {
-    match calendar {
-        Calendar::Gregorian => Ok(day_of_gregorian(date)),
-        Calendar::Fixed => Ok(fixed_day(date)),
-        Calendar::Persian => persian_cal::named_day(oracle, date),
-        Calendar::Bahai => bahai_cal::named_day(oracle, date),
-        Calendar::Chinese => chinese_cal::named_day(oracle, date),
-        Calendar::Islamic => islamic_observed::named_day(oracle, date),
-        Calendar::HinduSolar => hindu_astro::solar::named_day(oracle, date),
-        Calendar::HinduLunar => hindu_astro::lunar::named_day(oracle, date),
-    }
+    by_calendar!(
+        calendar,
+        day_of_gregorian(date),
+        fixed_day(date),
+        day_by(oracle, date)
+    )
 }
 
-/// The date of a day (R.D.) in range. It stops where the oracle stops.
+/// The date of a day (R.D.) that a line may name. It stops where the oracle stops.
 #[tactic(auto, using(oracle_core::proofs::Inquiring::asking))]
 pub(crate) fn date_on<O: Oracle>(
     oracle: &mut O,
     calendar: Calendar,
     day: i64,
 ) -> Result<Fields, Stop>
-    requires in_range { IsTrue (spec.is_in_range day) }
+    requires in_range { IsTrue (is_in_some_range day) }
     ensures comes { Asks O.Oracle (spec.date_on calendar day) oracle.old oracle.new result }
 {
-    match calendar {
-        Calendar::Gregorian => Ok(gregorian_date(day)),
-        Calendar::Fixed => Ok(one_field(day)),
-        Calendar::Persian => persian_cal::date_on(oracle, day),
-        Calendar::Bahai => bahai_cal::date_on(oracle, day),
-        Calendar::Chinese => chinese_cal::date_on(oracle, day),
-        Calendar::Islamic => islamic_observed::date_on(oracle, day),
-        Calendar::HinduSolar => hindu_astro::solar::date_on(oracle, day),
-        Calendar::HinduLunar => hindu_astro::lunar::date_on(oracle, day),
-    }
+    by_calendar!(
+        calendar,
+        gregorian_date(day),
+        one_field(day),
+        fields_on(oracle, day)
+    )
 }

@@ -5,7 +5,7 @@ ghost use Rattle.book_model.specs.calendars.Dates as dates;
 ghost use Rattle.book_model.specs.lines.Lines as spec;
 ghost use Rattle.book_model.specs.lines.Requests.{fields_of, checked};
 
-use book_model::{CalendarRow, Fields};
+use book_model::{CalendarRow, Fields, Version};
 
 /// Where the first dash stands.
 fn first_dash(word: &[u8]) -> Option<usize>
@@ -109,11 +109,11 @@ fn year_number(row: &CalendarRow, date: &Fields) -> i128
     year
 }
 
-/// Whether the number of the year of a date is one that is answered.
-pub(crate) fn has_year(row: &CalendarRow, date: &Fields) -> bool
-    ensures year { result ≡ dates.has_year row.now date.now }
+/// Whether the number of the year of a date is one that a version answers.
+pub(crate) fn has_year(version: Version, row: &CalendarRow, date: &Fields) -> bool
+    ensures year { result ≡ dates.has_year version row.now date.now }
 {
-    let (first, last) = row.years;
+    let (first, last) = row.years[version as usize];
     let year = year_number(row, date);
     i128::from(first) <= year && year <= i128::from(last)
 }

@@ -2,15 +2,18 @@
 ghost use Rattle.std.specs.Prelude.{◌≡◌, ◌↔◌, IsTrue, IsSome, IfSome};
 ghost use Rattle.book_model.specs.calendars.Gregorian.{is_date, fixed_of};
 ghost use Rattle.book_model.specs.calendars.Dates as dates;
+ghost use Rattle.book_model.specs.calendars.Versions as versions;
+ghost use Rattle.book_model.specs.declared.calendar.Calendar.TheVariants.{Gregorian};
 
-use book_model::{FIRST_ANSWERED_DAY, Fields, LAST_ANSWERED_DAY};
+use book_model::{Fields, Version};
 use civil_core::{from_fixed, to_fixed};
 
-/// Whether a day (R.D.) is one of the days that a line may name.
-pub(crate) fn is_in_range(day: i64) -> bool
-    ensures range { result ≡ dates.is_in_range day }
+/// Whether a day (R.D.) is one of the days that a line of a version may name.
+pub(crate) fn is_in_range(version: Version, day: i64) -> bool
+    ensures range { result ≡ versions.is_in_range version day }
 {
-    FIRST_ANSWERED_DAY <= day && day <= LAST_ANSWERED_DAY
+    let (first, last) = version.days();
+    first <= day && day <= last
 }
 
 /// The day number (R.D.) of the date of the years 1 to 9999 with these numbers, if the calendar has it.
@@ -33,9 +36,9 @@ pub(crate) fn gregorian_day(date: &Fields) -> Option<i64>
     date_day(date.field(0), date.field(1), date.field(2))
 }
 
-/// The year, month and day of a day number (R.D.) in range.
+/// The year, month and day of a day number (R.D.).
 pub(crate) fn gregorian_date(day: i64) -> Fields
-    requires in_range { IsTrue (dates.is_in_range day) }
+    requires day { dates.IsDateDay Gregorian day }
     ensures fields { result ≡ dates.gregorian_fields_on day }
 {
     let date = from_fixed(day).unwrap();

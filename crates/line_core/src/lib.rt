@@ -8,6 +8,7 @@ mod line;
 mod result;
 mod split;
 
+pub use book_model::Version;
 pub use line::{Words, cut_word, read_line, three_words};
 pub use result::resolve;
 pub use split::{cut_line, split_lines};

@@ -6,7 +6,7 @@ ghost use Rattle.book_model.specs.lines.Requests.{request_of, with_words, is_pos
 ghost use Rattle.book_model.specs.lines.Words.{from_word_of, to_word_of};
 
 use crate::dates::ranged_date;
-use book_model::{FromWord, Request, Rule, ToWord};
+use book_model::{FromWord, Request, Rule, ToWord, Version};
 
 /// The longest line, in bytes.
 const LONGEST_LINE: usize = 200;
@@ -102,31 +102,32 @@ pub fn three_words<'a>(line: &'a [u8]) -> Option<Words<'a>>
 }
 
 /// What three words ask.
-fn asked(words: Words<'_>) -> Result<Request, Rule>
-    ensures asked { result ≡ with_words (from_word_of words.entry.from.now) words.entry.date.now
-        (to_word_of words.entry.to.now) }
+fn asked(words: Words<'_>, version: Version) -> Result<Request, Rule>
+    ensures asked { result ≡ with_words version (from_word_of words.entry.from.now)
+        words.entry.date.now (to_word_of words.entry.to.now) }
     ensures possible { IfOk result (λ r. IsTrue (is_possible r)) }
-    ensures in_reach { IfOk result (λ r. IsTrue (is_in_reach r)) }
+    ensures in_reach { IfOk result (λ r. IsTrue (is_in_reach version r)) }
 {
     let from = FromWord::named(words.from).ok_or(Rule::Calendar)?;
     let to = ToWord::named(words.to).ok_or(Rule::Calendar)?;
-    let date = ranged_date(from.calendar(), words.date)?;
+    let date = ranged_date(version, from.calendar(), words.date)?;
     Ok(Request { from, date, to })
 }
 
-/// What a line asks, or the first rule that it breaks: `Syntax` where it isn't three words of printable bytes with
-/// blanks between them, in 200 bytes at most; `Calendar` for a word that isn't known; `Field` where the calendar can
-/// have no such date; `Range` for a date that isn't answered, as far as that can be told without any fact.
-pub fn read_line(bytes: &[u8]) -> Result<Request, Rule>
-    ensures request { result ≡ request_of bytes.now }
+/// What a line asks, or the first rule of a version that it breaks: `Syntax` where it isn't three words of printable
+/// bytes with blanks between them, in 200 bytes at most; `Calendar` for a word that isn't known; `Field` where the
+/// calendar can have no such date; `Range` for a date that the version doesn't answer, as far as that can be told
+/// without any fact.
+pub fn read_line(bytes: &[u8], version: Version) -> Result<Request, Rule>
+    ensures request { result ≡ request_of version bytes.now }
     ensures possible { IfOk result (λ r. IsTrue (is_possible r)) }
-    ensures in_reach { IfOk result (λ r. IsTrue (is_in_reach r)) }
+    ensures in_reach { IfOk result (λ r. IsTrue (is_in_reach version r)) }
 {
     if !is_readable(bytes) {
         return Err(Rule::Syntax);
     }
     match three_words(bytes) {
-        Some(words) => asked(words),
+        Some(words) => asked(words, version),
         None => Err(Rule::Syntax),
     }
 }

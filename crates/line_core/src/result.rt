@@ -1,6 +1,7 @@
 //! What a request comes to.
 ghost use Rattle.std.specs.Prelude.{◌≡◌, IsTrue};
 ghost use Rattle.book_model.specs.calendars.Dates as dates;
+ghost use Rattle.book_model.specs.calendars.Versions.{is_in_some_range};
 ghost use Rattle.book_model.specs.lines.LineRules as spec;
 ghost use Rattle.book_model.specs.lines.Requests.{is_possible, is_in_reach};
 ghost use Rattle.book_model.specs.lines.Words.{named_by, shown_by};
@@ -9,7 +10,7 @@ ghost use Rattle.oracle_core.specs.Asking.{Asks};
 use crate::dates::{date_on, day_of_gregorian, have_same_fields, named_day, one_field};
 use crate::gregorian::is_in_range;
 use book_model::{
-    Calendar, Fact, Fields, FromWord, Kind, Named, Place, Request, Resolved, Shown, ToWord,
+    Calendar, Fact, Fields, FromWord, Kind, Meaning, Place, Request, Resolved, ToWord, Version,
 };
 use oracle_core::{Oracle, Stop};
 
@@ -21,8 +22,8 @@ fn show_date<O: Oracle>(
     calendar: Calendar,
     day: i64,
 ) -> Result<Resolved, Stop>
-    requires in_range { IsTrue (dates.is_in_range day) }
-    ensures comes { Asks O.Oracle (spec.shown_on to (Shown.Date calendar) day)
+    requires in_range { IsTrue (is_in_some_range day) }
+    ensures comes { Asks O.Oracle (spec.shown_on to (Meaning.Date calendar) day)
         oracle.old oracle.new result }
 {
     let fields = date_on(oracle, calendar, day)?;
@@ -30,10 +31,10 @@ fn show_date<O: Oracle>(
 }
 
 /// The fact that a word shows the value of, on a day (R.D.).
-#[tactic(auto, using(book_model::proofs::WordTables::value_placed))]
+#[tactic(auto, using(book_model::proofs::WordTables::value_placed, crate::proofs::VersionDays::fact_day))]
 fn fact_on(to: ToWord, kind: Kind, place: Place, day: i64) -> Fact
-    requires shown { shown_by to ≡ Shown.Value kind place }
-    requires in_range { IsTrue (dates.is_in_range day) }
+    requires shown { shown_by to ≡ Meaning.Value kind place }
+    requires in_range { IsTrue (is_in_some_range day) }
     ensures fact { result ≡ spec.fact_on kind place day }
 {
     Fact::new(kind, place, day).unwrap()
@@ -48,9 +49,9 @@ fn show_value<O: Oracle>(
     place: Place,
     day: i64,
 ) -> Result<Resolved, Stop>
-    requires shown { shown_by to ≡ Shown.Value kind place }
-    requires in_range { IsTrue (dates.is_in_range day) }
-    ensures comes { Asks O.Oracle (spec.shown_on to (Shown.Value kind place) day)
+    requires shown { shown_by to ≡ Meaning.Value kind place }
+    requires in_range { IsTrue (is_in_some_range day) }
+    ensures comes { Asks O.Oracle (spec.shown_on to (Meaning.Value kind place) day)
         oracle.old oracle.new result }
 {
     let value = oracle.ask(fact_on(to, kind, place, day))?;
@@ -59,12 +60,12 @@ fn show_value<O: Oracle>(
 
 /// What a day (R.D.) comes to. It stops where the oracle stops.
 fn resolve_on<O: Oracle>(oracle: &mut O, to: ToWord, day: i64) -> Result<Resolved, Stop>
-    requires in_range { IsTrue (dates.is_in_range day) }
+    requires in_range { IsTrue (is_in_some_range day) }
     ensures comes { Asks O.Oracle (spec.result_on to day) oracle.old oracle.new result }
 {
     match to.shows() {
-        Shown::Date(calendar) => show_date(oracle, to, calendar, day),
-        Shown::Value(kind, place) => show_value(oracle, to, kind, place, day),
+        Meaning::Date(calendar) => show_date(oracle, to, calendar, day),
+        Meaning::Value(kind, place) => show_value(oracle, to, kind, place, day),
     }
 }
 
@@ -77,7 +78,7 @@ fn confirm<O: Oracle>(
     day: i64,
     back: Fields,
 ) -> Result<Resolved, Stop>
-    requires in_range { IsTrue (dates.is_in_range day) }
+    requires in_range { IsTrue (is_in_some_range day) }
     ensures comes { Asks O.Oracle (spec.confirmed request.now day back)
         oracle.old oracle.new result }
 {
@@ -92,7 +93,7 @@ fn confirm<O: Oracle>(
 /// dates that no day has. It stops where the oracle stops.
 #[tactic(auto, using(oracle_core::proofs::Inquiring::asking), unfolding(book_model::specs::lines::LineRules::result_within))]
 fn resolve_within<O: Oracle>(oracle: &mut O, request: &Request, day: i64) -> Result<Resolved, Stop>
-    requires in_range { IsTrue (dates.is_in_range day) }
+    requires in_range { IsTrue (is_in_some_range day) }
     ensures comes { Asks O.Oracle (spec.result_within request.now day)
         oracle.old oracle.new result }
 {
@@ -107,11 +108,16 @@ fn resolve_within<O: Oracle>(oracle: &mut O, request: &Request, day: i64) -> Res
 /// What a day (R.D.) comes to that the date of a request names: `TooFar` where it isn't in range, and `NoDate` where
 /// the calendar of the request has another date for it. It stops where the oracle stops.
 #[tactic(auto, using(oracle_core::proofs::Inquiring::asking), unfolding(book_model::specs::lines::LineRules::result_of_day))]
-fn resolve_day<O: Oracle>(oracle: &mut O, request: &Request, day: i64) -> Result<Resolved, Stop>
-    ensures comes { Asks O.Oracle (spec.result_of_day request.now day)
+fn resolve_day<O: Oracle>(
+    oracle: &mut O,
+    request: &Request,
+    version: Version,
+    day: i64,
+) -> Result<Resolved, Stop>
+    ensures comes { Asks O.Oracle (spec.result_of_day version request.now day)
         oracle.old oracle.new result }
 {
-    if is_in_range(day) {
+    if is_in_range(version, day) {
         resolve_within(oracle, request, day)
     } else {
         Ok(Resolved::TooFar { day })
@@ -119,11 +125,11 @@ fn resolve_day<O: Oracle>(oracle: &mut O, request: &Request, day: i64) -> Result
 }
 
 /// The fact by whose value a word and a Gregorian date name a day.
-#[tactic(auto, using(book_model::proofs::WordTables::day_placed), unfolding(book_model::specs::calendars::Dates::is_answered))]
+#[tactic(auto, using(book_model::proofs::WordTables::day_placed, crate::proofs::VersionDays::fact_day))]
 fn named_fact(from: FromWord, kind: Kind, place: Place, date: &Fields) -> Fact
-    requires named { named_by from ≡ Named.Value kind place }
+    requires named { named_by from ≡ Meaning.Value kind place }
     requires possible { IsTrue (dates.may_have Calendar.Gregorian date.now) }
-    requires in_reach { IsTrue (dates.is_answered Calendar.Gregorian date.now) }
+    requires in_range { IsTrue (is_in_some_range (dates.gregorian_day date.now)) }
     ensures fact { result ≡ spec.fact_on kind place (dates.gregorian_day date.now) }
 {
     Fact::new(kind, place, day_of_gregorian(date)).unwrap()
@@ -131,38 +137,46 @@ fn named_fact(from: FromWord, kind: Kind, place: Place, date: &Fields) -> Fact
 
 /// The day (R.D.) that the date of a request names: in a calendar, or by the value of a fact. It stops where the oracle stops.
 #[tactic(auto, using(oracle_core::proofs::Inquiring::asking))]
-fn day_of_request<O: Oracle>(oracle: &mut O, request: &Request) -> Result<i64, Stop>
+fn day_of_request<O: Oracle>(
+    oracle: &mut O,
+    request: &Request,
+    version: Version,
+) -> Result<i64, Stop>
     requires possible { IsTrue (is_possible request.now) }
-    requires in_reach { IsTrue (is_in_reach request.now) }
+    requires in_reach { IsTrue (is_in_reach version request.now) }
     ensures comes { Asks O.Oracle (spec.day_by (named_by request.now.from) request.now.date)
         oracle.old oracle.new result }
 {
     match request.from.names() {
-        Named::Date(calendar) => named_day(oracle, calendar, &request.date),
-        Named::Value(kind, place) => {
+        Meaning::Date(calendar) => named_day(oracle, calendar, &request.date),
+        Meaning::Value(kind, place) => {
             let fact = named_fact(request.from, kind, place, &request.date);
             oracle.ask(fact)
         }
     }
 }
 
-/// What a request that breaks no rule by itself comes to: the result of the line's rule by what the oracle knows, for
-/// which the facts that the rule asks are added to the oracle's list. `TooFar` comes exactly where the day that the
-/// date names isn't one of those that a line may name, and `NoDate` exactly where it is and has another date in the
-/// calendar of the request. It stops where the oracle stops, at a fact that the rule asks.
+/// What a request that breaks no rule of a version by itself comes to: the result of the line's rule by what the oracle
+/// knows, for which the facts that the rule asks are added to the oracle's list. `TooFar` comes exactly where the day
+/// that the date names isn't one of those that a line of the version may name, and `NoDate` exactly where it is and has
+/// another date in the calendar of the request. It stops where the oracle stops, at a fact that the rule asks.
 ///
 /// ```
 /// let evaluator = Staged::new();
 /// let mut oracle = Asking::new(rt.alloc(), &evaluator);
-/// let Ok(request) = read_line(b"persian 1402-12-30 fixed") else { return; };
-/// let resolved = resolve(&mut oracle, &request)?; // NoDate: that day is the first of the year 1403
+/// let Ok(request) = read_line(b"persian 1402-12-30 fixed", Version::One) else { return; };
+/// let resolved = resolve(&mut oracle, &request, Version::One)?; // NoDate: that day is the first of the year 1403
 /// ```
 #[tactic(auto, using(oracle_core::proofs::Inquiring::asking), unfolding(book_model::specs::lines::LineRules::rule_of))]
-pub fn resolve<O: Oracle>(oracle: &mut O, request: &Request) -> Result<Resolved, Stop>
+pub fn resolve<O: Oracle>(
+    oracle: &mut O,
+    request: &Request,
+    version: Version,
+) -> Result<Resolved, Stop>
     requires possible { IsTrue (is_possible request.now) }
-    requires in_reach { IsTrue (is_in_reach request.now) }
-    ensures comes { Asks O.Oracle (spec.rule_of request.now) oracle.old oracle.new result }
+    requires in_reach { IsTrue (is_in_reach version request.now) }
+    ensures comes { Asks O.Oracle (spec.rule_of version request.now) oracle.old oracle.new result }
 {
-    let day = day_of_request(oracle, request)?;
-    resolve_day(oracle, request, day)
+    let day = day_of_request(oracle, request, version)?;
+    resolve_day(oracle, request, version, day)
 }

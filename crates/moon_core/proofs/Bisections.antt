@@ -11,10 +11,10 @@ use Rattle.book_model.specs.numbers.Expressions.{Expression, World, value, exact
 use Rattle.book_model.specs.numbers.Fractions.{fraction_of}
 use Rattle.book_model.specs.programs.Programs.{Program, answer, void, bind, run, valued, outcome, AtMost, answer_at_most, void_at_most, cell_at_most, compare_at_most}
 use Rattle.book_model.specs.numbers.Ranges.{IsBetween}
-use Rattle.book_model.proofs.Estimates.{wider, valued_same}
+use Rattle.book_model.proofs.Estimates.{wider, valued_same, sum_between}
 use Rattle.book_model.proofs.FactRuns.{parts}
 use Rattle.book_model.proofs.Leads.{at_most_bind, at_most_more}
-use Rattle.moon_core.proofs.PhaseRanges.{few_if, scaled_between, sum_between}
+use Rattle.moon_core.proofs.PhaseRanges.{few_if, scaled_between}
 use Rattle.book_model.proofs.Values.{value_proper}
 
 -- ---- how many tests

@@ -16,11 +16,10 @@ use Rattle.book_model.specs.numbers.Terms.{terms_to, terms_of, times_power}
 use Rattle.book_model.specs.programs.Programs.{run, valued, outcome}
 use Rattle.book_model.specs.sky.NewMoons.{centuries_of_months, new_moon_angles_of, angle_of_new_moon_term, new_moon_term_of, no_new_moon_term, new_moon_terms_of, venus_wave_of, planet_term_of, no_planet_term, planet_terms_of, mean_new_moon_of, node_term_of, dynamical_new_moon_of, new_moon_of}
 use Rattle.book_model.specs.sky.Time.{correction_at, from_dynamical_of}
-use Rattle.book_model.proofs.Estimates.{between_of_within, wider, difference_between, valued_same}
+use Rattle.book_model.proofs.Estimates.{between_of_within, wider, difference_between, valued_same, sum_between}
 use Rattle.book_model.proofs.FactRuns.{parts}
 use Rattle.book_model.proofs.Values.{value_nested}
 use Rattle.time_scales.proofs.Moments.{corrected_in_table}
-use Rattle.moon_core.proofs.Sums.{sum_between}
 
 -- a world of depth 0, where all that is said of a sine is that it lies in -1 .. 1
 abbrev shallow : World → World

@@ -2,7 +2,6 @@ pub mod OnCourse
 pub mod WalkSteps
 pub mod Reaches
 pub mod Openings
-pub mod Sums
 pub mod FirstMoon
 pub mod PhaseRanges
 pub mod Bisections

@@ -12,7 +12,7 @@ use Rattle.book_model.specs.numbers.Fractions.{fraction_of}
 use Rattle.book_model.specs.numbers.Polynomials.{quadratic_of, quadratic_wave_of}
 use Rattle.book_model.specs.numbers.Relations.{Narrow}
 use Rattle.book_model.specs.numbers.Terms.{terms_to, terms_of, times_power}
-use Rattle.book_model.specs.programs.Widths.{IsAbout, IsMoment, IsNearlyDated, IsUpTo}
+use Rattle.book_model.specs.programs.Widths.{IsAbout, IsMoment, IsNearlyDated, IsUpTo, table_days, table_from, table_to}
 use Rattle.book_model.specs.sky.Latitude.{latitude_term_of, latitude_terms_of, venus_by, flattening_by}
 use Rattle.book_model.specs.sky.Moon.{lunar_angle_of, lunar_term_of, longitude_term_of}
 use Rattle.book_model.specs.sky.Phases.{size_of}
@@ -66,7 +66,7 @@ elongation_within shown n v m s d e h k f =
 
 -- ---- months
 abbrev moments : ℕ → Bound
-moments k = if k == 0 then bounded (neg_ℤ (pos (2 ^ 58))) (pos (2 ^ 58)) (2 ^ 40) 0 else bounded (neg_ℤ (pos (182622 * 2 ^ 32))) (pos (748749 * 2 ^ 32)) 0 (2 ^ 30)
+moments k = if k == 0 then bounded (neg_ℤ (pos (2 ^ 58))) (pos (2 ^ 58)) (2 ^ 40) 0 else table_days 1 0 (2 ^ 30)
 
 months_reach : implies (bound_of (limits_at 56) moments (scale (fraction_of DAY_IN_MONTHS) (subtract (argument 0) (argument 1)))) (bounded (neg_ℤ (pos (2 ^ 54))) (pos (2 ^ 54)) 37900000000 37000000) ≡ true
 unfolding implies bound_of difference_bound scaled_bound
@@ -81,7 +81,7 @@ months_within shown n v t m d y e h k f g =
     measured shown n v moments (scale (fraction_of DAY_IN_MONTHS) (subtract (argument 0) (argument 1))) _ _ 37900000000 37000000 (v / 29 + 2 ^ 26) y e months_reach (omega arith)
     (g r _ (f r (argument 0) (argument 1)
     (sloped shown (limits_of n) v v moments 0 (neg_ℤ (pos (2 ^ 58))) (pos (2 ^ 58)) (2 ^ 40) 0 t refl (omega arith) h)
-    (sloped shown (limits_of n) v (2 ^ 30) moments 1 (neg_ℤ (pos (182622 * 2 ^ 32))) (pos (748749 * 2 ^ 32)) 0 (2 ^ 30) m refl (omega arith) k)))
+    (sloped shown (limits_of n) v (2 ^ 30) moments 1 (table_from 1) (table_to 1) 0 (2 ^ 30) m refl (omega arith) k)))
 
 pub months_most : (v : ℕ) (i : Interval) → IsAbout (2 ^ 54) v i → IsAbout (2 ^ 90) v i
 months_most v i h = looser _ _ _ _ v v i (omega (arith, ints)) (omega (arith, ints)) (omega arith) h

@@ -9,7 +9,8 @@ use Rattle.exact_math.specs.Interval.{Interval, everything, between, ◌⊆◌, 
 use Rattle.exact_math.proofs.Fractions.{le_trans, le_refl, plus_mono}
 use Rattle.exact_math.proofs.IntLaws.{mul_add}
 use Rattle.exact_math.proofs.Intervals.{within_trans, within_refl, product_within}
-use Rattle.book_model.specs.declared.new_moon_tables.TheConstants.{DAY_IN_MONTHS, DEGREE_IN_MONTHS, TURN}
+use Rattle.book_model.specs.declared.new_moon_tables.TheConstants.{DAY_IN_MONTHS, DEGREE_IN_MONTHS, FIRST_LATE_MONTH, FIRST_LATE_MOON, LAST_TABLE_MONTH, LAST_TABLE_MOON, LATE_START, TURN}
+use Rattle.book_model.specs.declared.time_tables.TheConstants.{TABLE_START, TABLE_END}
 use Rattle.book_model.specs.declared.site.Site.TheVariants.{PhaseWrap, MoonNumber, PhasePick}
 use Rattle.book_model.specs.declared.tables.TheConstants.{HALF}
 use Rattle.book_model.specs.declared.fail.Fail.{Fail}
@@ -26,14 +27,13 @@ use Rattle.book_model.specs.numbers.Relations.{Within, Lies}
 use Rattle.book_model.specs.sky.Sun.{sun_of}
 use Rattle.book_model.specs.sky.Time.{centuries_of, from_dynamical_of}
 use Rattle.book_model.proofs.Cells.{cells_cut}
-use Rattle.book_model.proofs.Estimates.{wider, difference_between, floor_between, between_of_within, valued_same}
+use Rattle.book_model.proofs.Estimates.{wider, difference_between, floor_between, between_of_within, valued_same, sum_between}
 use Rattle.book_model.proofs.FactRuns.{centuries_few, correction_at_few, sun_few, parts, decides, when_some}
 use Rattle.book_model.proofs.Leads.{at_most_bind, at_most_more, leads_leaf, leads_value}
 use Rattle.time_scales.proofs.Moments.{dated_in_table, universal_between}
 use Rattle.book_model.proofs.Values.{value_proper}
 use Rattle.moon_core.specs.Widths.{IsLate}
 use Rattle.moon_core.proofs.FirstMoon.{first_moon_between}
-pub use Rattle.moon_core.proofs.Sums.{sum_between}
 
 -- ---- how many tests
 pub new_moon_few : (n : ℤ) → AtMost 1 (new_moon_of n)
@@ -100,7 +100,7 @@ unfolding moon_from_of
 moon_from_few x = at_most_bind 12 13 (number_few x) (λ n. at_most_bind 12 1 (walk_few 6 x _) (λ k. new_moon_few _))
 
 -- ---- from where to where new moons lie
-pub new_moon_between : (w : World) (n : ℤ) (m : Expression) → outcome (run w (new_moon_of n)) ≡ valued m → IsBetween (negsuc 182820) (pos 748948) (value w m)
+pub new_moon_between : (w : World) (n : ℤ) (m : Expression) → outcome (run w (new_moon_of n)) ≡ valued m → IsBetween (TABLE_START -ℤ pos 200) (TABLE_END +ℤ pos 200) (value w m)
 unfolding new_moon_of
 new_moon_between w n m e = universal_between w _ m e
 
@@ -122,24 +122,24 @@ scaled_between lo hi l h f (between a b) p q k = between_of_within l h _ (within
 
 -- the days of a moment after the first new moon, in months: at most so many from the first of them on
 abbrev HaveMonths : (lo l : ℤ) → Type 0
-HaveMonths lo l = product (between (whole (lo -ℤ pos 300)) (whole (pos 749048))) (exactly (fraction_of DAY_IN_MONTHS)) ⊆ between (whole l) (whole (pos 25366))
+HaveMonths lo l = product (between (whole (lo -ℤ pos 300)) (whole (TABLE_END +ℤ pos 300))) (exactly (fraction_of DAY_IN_MONTHS)) ⊆ between (whole l) (whole LAST_TABLE_MONTH)
 
-months_of_days : HaveMonths (negsuc 182620) (negsuc 6194)
+months_of_days : HaveMonths TABLE_START (negsuc 6194)
 unfolding product least greatest smaller larger times is_at_most
 months_of_days = record { ends = (record { cross = omega (arith, ints) }, record { cross = omega (arith, ints) }) }
 
-months_of_late_days : HaveMonths (pos 650000) (pos 22000)
+months_of_late_days : HaveMonths LATE_START FIRST_LATE_MONTH
 unfolding product least greatest smaller larger times is_at_most
 months_of_late_days = record { ends = (record { cross = omega (arith, ints) }, record { cross = omega (arith, ints) }) }
 
 -- the months from the first new moon to a moment, by the day from which on it lies
-months_since_between : (w : World) (x m : Expression) (lo l : ℤ) → HaveMonths lo l → IsBetween lo (pos 748748) (value w x) → outcome (run w (months_since (pos 0) x)) ≡ valued m → IsBetween l (pos 25366) (value w m)
+months_since_between : (w : World) (x m : Expression) (lo l : ℤ) → HaveMonths lo l → IsBetween lo TABLE_END (value w x) → outcome (run w (months_since (pos 0) x)) ≡ valued m → IsBetween l LAST_TABLE_MONTH (value w m)
 unfolding months_since months_between value
 months_since_between w x m lo l f h e =
     let z = parts w (new_moon_of (pos 0)) _ m e in
-    let d = difference_between lo (pos 748748) (negsuc 299) (pos 300) _ _ h (first_moon_between w z.part z.first) in
-    let b = wider _ _ (lo -ℤ pos 300) (pos 749048) _ (omega (arith, ints)) (omega (arith, ints)) d in
-    rw (← valued_same w (months_between z.part x) m z.then) (scaled_between (lo -ℤ pos 300) (pos 749048) l (pos 25366) (fraction_of DAY_IN_MONTHS) _ f (value_proper w (subtract x z.part)) b)
+    let d = difference_between lo TABLE_END (negsuc 299) (pos 300) _ _ h (first_moon_between w z.part z.first) in
+    let b = wider _ _ (lo -ℤ pos 300) (TABLE_END +ℤ pos 300) _ (omega (arith, ints)) (omega (arith, ints)) d in
+    rw (← valued_same w (months_between z.part x) m z.then) (scaled_between (lo -ℤ pos 300) (TABLE_END +ℤ pos 300) l LAST_TABLE_MONTH (fraction_of DAY_IN_MONTHS) _ f (value_proper w (subtract x z.part)) b)
 
 pub half_between : IsBetween (pos 0) (pos 1) (exactly (fraction_of HALF))
 half_between = (record { cross = omega (arith, ints) }, record { cross = omega (arith, ints) })
@@ -155,14 +155,14 @@ nearest_between w lo hi n m h e =
 
 -- the number of a new moon about a moment of the years of which there is a correction
 abbrev pub IsDatedNumber : ℤ → Type 0
-IsDatedNumber n = (negsuc 6199 ≤ℤ n) × (n ≤ℤ pos 25500)
+IsDatedNumber n = (negsuc 6199 ≤ℤ n) × (n ≤ℤ LAST_TABLE_MOON)
 
 -- the number that is found by mean months is such a number
 pub rough_near : (w : World) (x : Expression) (n : ℤ) → IsInTable (value w x) → outcome (run w (rough_number_of x)) ≡ valued n → IsDatedNumber n
 unfolding rough_number_of
 rough_near w x n h e =
     let m = parts w (months_since (pos 0) x) nearest_moon_of n e in
-    let b = nearest_between w (negsuc 6194) (pos 25366) n m.part (months_since_between w x m.part (negsuc 182620) (negsuc 6194) months_of_days h m.first) m.then in
+    let b = nearest_between w (negsuc 6194) LAST_TABLE_MONTH n m.part (months_since_between w x m.part TABLE_START (negsuc 6194) months_of_days h m.first) m.then in
     (omega (arith, ints, b.0), omega (arith, ints, b.1))
 
 -- ---- phases
@@ -247,25 +247,25 @@ unfolding product least greatest smaller larger times is_at_most
 part_of_month = record { ends = (record { cross = omega (arith, ints) }, record { cross = omega (arith, ints) }) }
 
 -- the number of a moment's new moon, by the day from which on the moment lies
-number_between : (w : World) (x : Expression) (n lo l : ℤ) → HaveMonths lo l → (IsInTable (value w x) → IsBetween lo (pos 748748) (value w x)) → outcome (run w (number_of_moon x)) ≡ valued n → ((l -ℤ pos 1) ≤ℤ n) × (n ≤ℤ pos 25367)
+number_between : (w : World) (x : Expression) (n lo l : ℤ) → HaveMonths lo l → (IsInTable (value w x) → IsBetween lo TABLE_END (value w x)) → outcome (run w (number_of_moon x)) ≡ valued n → ((l -ℤ pos 1) ≤ℤ n) × (n ≤ℤ (LAST_TABLE_MONTH +ℤ pos 1))
 unfolding number_of_moon value
 number_between w x n lo l f h e =
     let m = parts w (months_since (pos 0) x) _ n e in
     let p = parts w (phase_of x) _ n m.then in
     let b = months_since_between w x m.part lo l f (h (phase_in_table w x p.part p.first)) m.first in
     let s = scaled_between (pos 0) (pos 360) (pos 0) (pos 1) (fraction_of DEGREE_IN_MONTHS) _ part_of_month (value_proper w p.part) (phase_between w x p.part p.first) in
-    let d = difference_between l (pos 25366) (pos 0) (pos 1) _ _ b s in
-    let g = nearest_between w (l -ℤ pos 1) (pos 25366 -ℤ pos 0) n _ d p.then in
+    let d = difference_between l LAST_TABLE_MONTH (pos 0) (pos 1) _ _ b s in
+    let g = nearest_between w (l -ℤ pos 1) (LAST_TABLE_MONTH -ℤ pos 0) n _ d p.then in
     (omega (arith, ints, g.0), omega (arith, ints, g.1))
 
 -- it is one of the years of which there is a correction
 pub number_near : (w : World) (x : Expression) (n : ℤ) → outcome (run w (number_of_moon x)) ≡ valued n → IsDatedNumber n
 number_near w x n e =
-    let f = number_between w x n (negsuc 182620) (negsuc 6194) months_of_days (λ h. h) e in
+    let f = number_between w x n TABLE_START (negsuc 6194) months_of_days (λ h. h) e in
     (omega (arith, ints, f.0), omega (arith, ints, f.1))
 
 -- and a late one of a late moment
-late_between : (v : ℕ) (i : Interval) → IsLate v i → IsInTable i → IsBetween (pos 650000) (pos 748748) i
+late_between : (v : ℕ) (i : Interval) → IsLate v i → IsInTable i → IsBetween LATE_START TABLE_END i
 unfolding IsNarrow
 late_between v everything h t = tt
 late_between v (between a b) h t = (le_trans _ _ _ (record { cross = omega (arith, ints) }) h.kept.above, t.1)
@@ -314,16 +314,16 @@ number_found shown p t (Ok n) k = number_near (world_of (shown t) (p t)) (argume
 number_found shown p t (Err f) k = tt
 
 pub late_found : {E : Type 0} (shown : E → Interval) (p : (e : E) → IsProper (shown e)) (t : E) {b a : ℕ} (v : ℕ) (r : Result ℤ Fail) → IsLate v (shown t) →
-    Leads (world_of (shown t) (p t)) Exact (number_of_moon (argument 0)) b a r → IfOk r (λ n. pos 21900 ≤ℤ n)
+    Leads (world_of (shown t) (p t)) Exact (number_of_moon (argument 0)) b a r → IfOk r (λ n. FIRST_LATE_MOON ≤ℤ n)
 unfolding value world_of
-late_found shown p t v (Ok n) h k = let f = number_between (world_of (shown t) (p t)) (argument 0) n (pos 650000) (pos 22000) months_of_late_days (late_between v (shown t) h) (leads_value k) in omega (arith, ints, f.0)
+late_found shown p t v (Ok n) h k = let f = number_between (world_of (shown t) (p t)) (argument 0) n LATE_START FIRST_LATE_MONTH months_of_late_days (late_between v (shown t) h) (leads_value k) in omega (arith, ints, f.0)
 late_found shown p t v (Err f) h k = tt
 
 pub dated_from : (r : Result ℤ Fail) → IfOk r IsDatedNumber → IfOk r (λ n. negsuc 6199 ≤ℤ n)
 dated_from (Ok n) h = h.0
 dated_from (Err f) h = tt
 
-pub dated_to : (r : Result ℤ Fail) → IfOk r IsDatedNumber → IfOk r (λ n. n ≤ℤ pos 25500)
+pub dated_to : (r : Result ℤ Fail) → IfOk r IsDatedNumber → IfOk r (λ n. n ≤ℤ LAST_TABLE_MOON)
 dated_to (Ok n) h = h.1
 dated_to (Err f) h = tt
 

@@ -1,5 +1,5 @@
 -- How wide the moments are at which the moon was last at a phase, at the scale 2^-56.
-use Rattle.std.specs.Prelude.{◌≡◌, ℕ, ◌+◌, ◌-◌, ◌*◌, ◌^◌, true, ℤ, pos, negsuc, neg_ℤ, ◌≤ℤ◌, refl, if◌then◌else◌, ◌==◌, Result, Ok, Err}
+use Rattle.std.specs.Prelude.{◌≡◌, ℕ, ◌+◌, ◌-◌, ◌*◌, ◌^◌, true, ℤ, pos, neg_ℤ, refl, if◌then◌else◌, ◌==◌, Result, Ok, Err}
 use Rattle.std.proofs.Common.{arith}
 use Rattle.std.proofs.lemmas.Int.{ints}
 use Rattle.exact_math.specs.Interval.{Interval}
@@ -8,7 +8,7 @@ use Rattle.book_model.specs.numbers.Bounds.{Bound, bounded, Reach, implies, boun
 use Rattle.book_model.specs.numbers.Expressions.{Expression, argument, integer, add, subtract, minimum}
 use Rattle.book_model.specs.numbers.Ranges.{IsInTable}
 use Rattle.book_model.specs.numbers.Relations.{Narrow}
-use Rattle.book_model.specs.programs.Widths.{IsAbout, IsMoment, IsUpTo, Measures}
+use Rattle.book_model.specs.programs.Widths.{IsAbout, IsMoment, IsSmall, IsUpTo, Measures, table_days, table_from, table_to}
 use Rattle.book_model.specs.sky.Phases.{phase_back_by}
 use Rattle.width_laws.proofs.Measuring.{measured, sloped, looser, drawn}
 use Rattle.angle_search.proofs.Measured.{apart_within, turn_is_angle, moment_wider}
@@ -22,7 +22,7 @@ past_within shown n v p f d e h k g = looser _ _ _ _ (v + 0) v _ (omega (arith, 
 
 -- ---- the moment to which the mean phase leads back: a moment of the table, and degrees that are 24 times as wide
 abbrev moment_bounds : ℕ → Bound
-moment_bounds k = if k == 0 then bounded (neg_ℤ (pos (182621 * 2 ^ 32))) (pos (748748 * 2 ^ 32)) (2 ^ 40) 0 else bounded (pos 0) (pos (360 * 2 ^ 32)) (24 * 2 ^ 40) (2 ^ 37)
+moment_bounds k = if k == 0 then table_days 0 (2 ^ 40) 0 else bounded (pos 0) (pos (360 * 2 ^ 32)) (24 * 2 ^ 40) (2 ^ 37)
 
 back_reach : implies (bound_of (limits_at 56) moment_bounds (phase_back_by (argument 1) (argument 0))) (bounded (neg_ℤ (pos (2 ^ 52))) (pos (2 ^ 52)) (3 * 2 ^ 40) (2 ^ 34 - 2 ^ 24)) ≡ true
 unfolding implies bound_of difference_bound scaled_bound phase_back_by
@@ -34,7 +34,7 @@ back_within shown n v t p x e i h k f =
     measured shown n v moment_bounds (phase_back_by (argument 1) (argument 0)) _ _ (3 * 2 ^ 40) (2 ^ 34 - 2 ^ 24) (3 * v + (2 ^ 34 - 2 ^ 24)) x e back_reach (omega arith)
     (f (record { width = v; bounds = moment_bounds }) (argument 1) (argument 0)
     (sloped shown (limits_of n) v (24 * v + 2 ^ 37) moment_bounds 1 (pos 0) (pos (360 * 2 ^ 32)) (24 * 2 ^ 40) (2 ^ 37) p refl (omega arith) k)
-    (sloped shown (limits_of n) v v moment_bounds 0 (neg_ℤ (pos (182621 * 2 ^ 32))) (pos (748748 * 2 ^ 32)) (2 ^ 40) 0 t refl (omega arith) (drawn _ _ _ _ v (shown t) i h)))
+    (sloped shown (limits_of n) v v moment_bounds 0 (table_from 0) (table_to 0) (2 ^ 40) 0 t refl (omega arith) (drawn _ _ _ _ v (shown t) i h)))
 
 -- ---- the ends about it
 abbrev end_bounds : ℕ → Bound
@@ -73,5 +73,5 @@ passage_measured shown v (Ok x) h = moment_wider (3 * v + (2 ^ 34 - 2 ^ 24) + 2 
 passage_measured shown v (Err f) h = h
 
 -- ---- a whole number within 40,000,000 of 0, as a moment
-pub whole_moment : {E : Type 0} (shown : E → Interval) (n : ℕ) (d : ℤ) (x : E) → n ≡ 56 → negsuc 39999999 ≤ℤ d → d ≤ℤ pos 40000000 → ((r : Reach) → Narrow shown (limits_of n) r (integer d) x) → IsMoment 0 (shown x)
-whole_moment shown n d x e h k f = looser _ _ _ _ 0 0 _ (omega (arith, ints)) (omega (arith, ints)) (omega arith) (whole_day_within shown n d x e h k f)
+pub whole_moment : {E : Type 0} (shown : E → Interval) (n : ℕ) (d : ℤ) (x : E) → n ≡ 56 → IsSmall d → ((r : Reach) → Narrow shown (limits_of n) r (integer d) x) → IsMoment 0 (shown x)
+whole_moment shown n d x e h f = looser _ _ _ _ 0 0 _ (omega (arith, ints)) (omega (arith, ints)) (omega arith) (whole_day_within shown n d x e (h.0, omega (arith, ints, h.1)) f)

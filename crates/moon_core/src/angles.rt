@@ -8,9 +8,10 @@ ghost use Rattle.sun_core.specs.Daily.{in_centuries};
 ghost use Rattle.moon_core.specs.Angles.{HoldAngles, KeepAngles};
 ghost use Rattle.moon_core.specs.Daily.{daily_quartic_of, daily_cubic_of, daily_angles_of};
 
-use book_model::{
-    Cubic, ECCENTRICITY_FACTOR, ELONGATION, LATITUDE_ARGUMENT, MOON_ANOMALY, Quartic, SUN_ANOMALY,
+use book_model::moon_tables::{
+    ECCENTRICITY_FACTOR, ELONGATION, LATITUDE_ARGUMENT, MOON_ANOMALY, SUN_ANOMALY,
 };
+use book_model::{Cubic, Quartic};
 use encl_core::Enclosure;
 use sun_core::times_rate;
 use time_scales::quadratic;
@@ -18,12 +19,12 @@ use time_scales::quadratic;
 /// The moon's mean elongation from the sun, the mean anomalies of the sun and of the moon and the argument of the moon's
 /// latitude, in degrees, and the factor of the eccentricity of the earth's orbit.
 #[derive(Clone, Copy, Drop)]
-pub(crate) struct Angles<E> {
-    pub(crate) elongation: E,
-    pub(crate) sun_anomaly: E,
-    pub(crate) moon_anomaly: E,
-    pub(crate) latitude_argument: E,
-    pub(crate) eccentricity: E,
+pub struct Angles<E> {
+    pub elongation: E,
+    pub sun_anomaly: E,
+    pub moon_anomaly: E,
+    pub latitude_argument: E,
+    pub eccentricity: E,
 }
 
 /// A quartic of the time, by the days from noon of 1 January 2000, and these in centuries: the linear part by the days.
@@ -66,7 +67,7 @@ fn daily_cubic<E: Enclosure>(angle: &Cubic, days: E, c: E) -> E
 
 /// The angles by the days from noon of 1 January 2000, and these in centuries.
 #[tactic(auto, unfolding(book_model::specs::sky::Moon::lunar_angles_of, crate::specs::Daily::daily_angles_of))]
-pub(crate) fn angles_at<E: Enclosure>(days: E, c: E) -> Angles<E>
+pub fn angles_at<E: Enclosure>(days: E, c: E) -> Angles<E>
     ensures holds { (w : World) (x : Expression) → Within E.shown w x days
         → Within E.shown w (in_centuries x) c → HoldAngles E.shown w
         (lunar_angles_of (in_centuries x)) result }

@@ -14,10 +14,11 @@ ghost use Rattle.sun_core.specs.Daily.{in_centuries};
 
 use crate::angles::{Angles, angles_at, daily_quartic};
 use crate::longitude::flattening;
-use book_model::{
-    DAY_IN_CENTURIES, ELONGATION, Fail, JUPITER_WAVE, MILLIONTH, MOON_ANOMALY, MOON_LONGITUDE,
-    MOON_TERMS, MoonTerm, NOON_2000, Site, VENUS_WAVE,
+use book_model::moon_tables::{
+    ELONGATION, JUPITER_WAVE, MILLIONTH, MOON_ANOMALY, MOON_LONGITUDE, MOON_TERMS, VENUS_WAVE,
 };
+use book_model::time_tables::{DAY_IN_CENTURIES, NOON_2000};
+use book_model::{Fail, MoonTerm, Site};
 use encl_core::{Enclosure, Trail, lies_within, sum_of_terms, wrap_step};
 use std::marker::Model;
 use sun_core::{nutation, sine_wave};

@@ -1,7 +1,7 @@
 //! The latitude of the moon.
 ghost use Rattle.book_model.specs.programs.Calls.{Encloses2, Follows1};
 ghost use Rattle.book_model.specs.programs.Widths.{IsAbout, IsMoment, Measured1};
-ghost use Rattle.std.specs.Prelude.{◌≡◌, ◌≤◌, ◌*◌, ◌^◌};
+ghost use Rattle.std.specs.Prelude.{◌≡◌, ◌≤◌, ◌*◌, ◌^◌, IfErr};
 ghost use Rattle.book_model.specs.numbers.Bounds.{Reach, limits_of};
 ghost use Rattle.book_model.specs.numbers.Depth.{DEPTH};
 ghost use Rattle.book_model.specs.numbers.Expressions.{Expression, World};
@@ -11,16 +11,18 @@ ghost use Rattle.book_model.specs.numbers.Relations.{Within, Narrow};
 ghost use Rattle.moon_core.specs.Angles.{HoldAngles, KeepAngles};
 ghost use Rattle.moon_core.specs.Daily.{computed_millionths_of, computed_latitude_of};
 ghost use Rattle.sun_core.specs.Daily.{in_centuries};
+ghost use Rattle.time_scales.specs.Steps.{IsYearOpenFor};
 ghost use Rattle.width_laws.specs.declared.table.TheConstants.{LATITUDE};
 ghost use Rattle.width_laws.specs.Table.{greatest_of};
 
 use crate::angles::{Angles, angles_at, daily_quartic};
 use crate::terms::lunar_term;
-use book_model::{
-    DAY_IN_CENTURIES, FLATTENING_ALONE, FLATTENING_LESS_ANOMALY, FLATTENING_WITH_ANOMALY, Fail,
-    LATITUDE_TERMS, LATITUDE_WAVE, LatitudeTerm, MILLIONTH, MOON_LONGITUDE, NOON_2000,
-    VENUS_IN_LATITUDE, VENUS_WAVE,
+use book_model::moon_tables::{
+    FLATTENING_ALONE, FLATTENING_LESS_ANOMALY, FLATTENING_WITH_ANOMALY, LATITUDE_TERMS,
+    LATITUDE_WAVE, MILLIONTH, MOON_LONGITUDE, VENUS_IN_LATITUDE, VENUS_WAVE,
 };
+use book_model::time_tables::{DAY_IN_CENTURIES, NOON_2000};
+use book_model::{Fail, LatitudeTerm};
 use encl_core::{Enclosure, Term, Trail, sum_of_terms};
 use sun_core::{sine_wave, wave_angle};
 use time_scales::dynamical;
@@ -123,6 +125,7 @@ pub fn latitude<E: Enclosure>(t: E, trail: &mut Trail) -> Result<E, Fail>
     ensures leads { Follows1 E.shown spec.latitude_of t trail.old.count trail.new.count result }
     ensures measured { Measured1 E.BITS E.shown (2 ^ 44) IsMoment
         (λ v. IsAbout (7 * 2 ^ 32) (greatest_of LATITUDE v)) t result }
+    ensures open { IfErr result (IsYearOpenFor (E.shown t)) }
 {
     let moment = dynamical(t, trail)?;
     let days = moment.sub(E::from_frac(NOON_2000));

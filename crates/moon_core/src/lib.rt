@@ -3,6 +3,7 @@
 //! tests of its definition in the same order, and its answer holds what the definition gives, at every depth from `DEPTH` on.
 //!
 //! - `moon`: the longitude at a moment; `latitude`: the latitude;
+//! - `angles_at`, `lunar_angle`: the angles by which their terms turn;
 //! - `phase`: the longitude less the sun's, which is 0 at a new moon and 180 at a full moon;
 //! - `moon_before`: the last new moon before a moment; `moon_from`: the first at or after it;
 //! - `phase_before`: when the moon was last at a phase; `phase_day`: the day of that;
@@ -21,9 +22,11 @@ mod quarters;
 mod terms;
 mod walks;
 
+pub use angles::{Angles, angles_at};
 pub use latitudes::latitude;
 pub use longitude::moon;
 pub use phase_courses::PhaseCourse;
 pub use phases::phase;
 pub use quarters::{phase_before, phase_before_by, phase_day};
+pub use terms::lunar_angle;
 pub use walks::{moon_before, moon_before_by, moon_from, moon_from_by};

@@ -1,6 +1,6 @@
 //! The apparent longitude of the moon.
 ghost use Rattle.book_model.specs.programs.Calls.{Follows1};
-ghost use Rattle.book_model.specs.programs.Widths.{IsMoment, IsUpTo, Measured1};
+ghost use Rattle.book_model.specs.programs.Widths.{IsMoment, IsUpTo, Measured1, Answers1};
 ghost use Rattle.std.specs.Prelude.{◌≡◌, ℕ, ◌^◌, IfErr};
 ghost use Rattle.book_model.specs.numbers.Bounds.{Reach, IsNarrow, limits_of};
 ghost use Rattle.book_model.specs.numbers.Expressions.{Expression, World, argument};
@@ -8,7 +8,7 @@ ghost use Rattle.book_model.specs.sky.Moon as spec;
 ghost use Rattle.book_model.specs.numbers.Relations.{Within, Narrow};
 ghost use Rattle.moon_core.specs.Angles.{HoldAngles, KeepAngles};
 ghost use Rattle.moon_core.specs.Daily.{computed_terms_of, computed_flattening_of, computed_inequalities_of, computed_longitude_of};
-ghost use Rattle.moon_core.specs.Widths.{Answers1, longitude_bound};
+ghost use Rattle.moon_core.specs.Widths.{longitude_bound};
 ghost use Rattle.sun_core.specs.Daily.{in_centuries};
 ghost use Rattle.sun_core.specs.Widths.{days_of_years};
 ghost use Rattle.time_scales.specs.Steps.{IsYearOpenFor};
@@ -17,10 +17,11 @@ ghost use Rattle.width_laws.specs.Table.{greatest_of};
 
 use crate::angles::{Angles, angles_at, daily_quartic};
 use crate::terms::lunar_term;
-use book_model::{
-    DAY_IN_CENTURIES, FLATTENING, Fail, JUPITER_WAVE, LATITUDE_ARGUMENT, MILLIONTH, MOON_LONGITUDE,
-    MOON_TERMS, MoonTerm, NOON_2000, Site, VENUS_WAVE,
+use book_model::moon_tables::{
+    FLATTENING, JUPITER_WAVE, LATITUDE_ARGUMENT, MILLIONTH, MOON_LONGITUDE, MOON_TERMS, VENUS_WAVE,
 };
+use book_model::time_tables::{DAY_IN_CENTURIES, NOON_2000};
+use book_model::{Fail, MoonTerm, Site};
 use encl_core::{Enclosure, Term, Trail, sum_of_terms, wrap_step};
 use sun_core::{nutation, sine_wave};
 use time_scales::dynamical;

@@ -1,17 +1,19 @@
 //! The moon's phase, and the number of the new moon about a moment, roughly.
 ghost use Rattle.book_model.specs.programs.Calls.{Decides1, Encloses1, Follows1, Follows2, Holds2};
-ghost use Rattle.book_model.specs.programs.Widths.{IsAbout, IsMoment, IsUpTo, IsWithin, Measured1, Measured2};
+ghost use Rattle.book_model.specs.programs.Widths.{IsAbout, IsMoment, IsSmall, IsUpTo, IsWithin, Measured1, Measured2, Answers1, Answers2, Closes1};
 ghost use Rattle.std.specs.Prelude.{◌≡◌, ℕ, ◌≤◌, ◌+◌, ◌*◌, ◌/◌, ◌^◌, ℤ, pos, negsuc, ◌≤ℤ◌, IfOk, IfErr};
 ghost use Rattle.exact_math.specs.Interval.{Interval};
+ghost use Rattle.book_model.specs.declared.new_moon_tables.TheConstants.{LAST_TABLE_MOON as last_moon};
 ghost use Rattle.book_model.specs.sky.Phases as spec;
 ghost use Rattle.book_model.specs.numbers.Ranges.{IsInTable};
-ghost use Rattle.moon_core.specs.Widths.{Answers1, Answers2, Closes1};
 ghost use Rattle.time_scales.specs.Steps.{IsYearOpenFor, IsEarlyYearFor};
 ghost use Rattle.width_laws.specs.declared.table.TheConstants.{PHASE};
 ghost use Rattle.width_laws.specs.Table.{greatest_of};
 
 use crate::longitude::moon;
-use book_model::{DAY_IN_MONTHS, Fail, HALF, Site, TURN};
+use book_model::new_moon_tables::{DAY_IN_MONTHS, TURN};
+use book_model::tables::HALF;
+use book_model::{Fail, Site};
 use encl_core::{Enclosure, Trail, floor_step, less_step, wrap_step};
 use new_moons::new_moon;
 use sun_core::sun;
@@ -47,8 +49,7 @@ fn elongation<E: Enclosure>(t: E, trail: &mut Trail) -> Result<E, Fail>
 /// The synodic months from the new moon of a number to a moment: one test at most.
 #[tactic(auto, using(book_model::proofs::Leads::leading), unfolding(book_model::specs::sky::Phases::months_since, book_model::specs::sky::Phases::months_between))]
 pub(crate) fn months_since<E: Enclosure>(n: i64, t: E, trail: &mut Trail) -> Result<E, Fail>
-    requires low { negsuc 39999999 ≤ℤ n }
-    requires high { n ≤ℤ pos 40000000 }
+    requires number { IsSmall n }
     ensures leads { Follows1 E.shown (spec.months_since n) t trail.old.count trail.new.count result }
     ensures measured { negsuc 6299 ≤ℤ n → n ≤ℤ pos 55724 → Measured1 E.BITS E.shown (2 ^ 44)
         IsMoment (λ v. IsAbout (2 ^ 54) (v / 29 + 2 ^ 26)) t result }
@@ -76,7 +77,7 @@ fn rough_number<E: Enclosure>(t: E, trail: &mut Trail) -> Result<i64, Fail>
     ensures low { IfOk result (λ n. negsuc 39999 ≤ℤ n) }
     ensures high { IfOk result (λ n. n ≤ℤ pos 40000) }
     ensures from { IfOk result (λ n. negsuc 6199 ≤ℤ n) }
-    ensures to { IfOk result (λ n. n ≤ℤ pos 25500) }
+    ensures to { IfOk result (λ n. n ≤ℤ last_moon) }
     ensures close { Closes1 E.BITS E.shown (2 ^ 44) IsMoment t result }
 {
     let months = months_since(0, t, trail)?;
@@ -96,8 +97,7 @@ fn rest_of_month<E: Enclosure>(months: E, trail: &mut Trail) -> Result<E, Fail>
 /// The phase by the time since the new moon of a number, from 0 up to 360 degrees: two tests at most.
 #[tactic(auto, using(book_model::proofs::Leads::leading), unfolding(book_model::specs::sky::Phases::phase_by_months_of))]
 fn phase_by_months<E: Enclosure>(n: i64, t: E, trail: &mut Trail) -> Result<E, Fail>
-    requires low { negsuc 39999999 ≤ℤ n }
-    requires high { n ≤ℤ pos 40000000 }
+    requires number { IsSmall n }
     ensures leads { Follows1 E.shown (spec.phase_by_months_of n) t trail.old.count trail.new.count
         result }
     ensures measured { negsuc 6299 ≤ℤ n → n ≤ℤ pos 55724 → Measured1 E.BITS E.shown (2 ^ 44)

@@ -1,11 +1,11 @@
 //! When the moon was last at a phase.
 ghost use Rattle.book_model.specs.programs.Calls.{Decides, Encloses2, Follows1, Follows2, Follows3};
-ghost use Rattle.book_model.specs.programs.Widths.{IsAbout, IsClose, IsMoment, IsUpTo, Measured1, Measured2, Measures};
+ghost use Rattle.book_model.specs.programs.Widths.{IsAbout, IsClose, IsMoment, IsSmall, IsUpTo, Measured1, Measured2, Measures};
 ghost use Rattle.std.specs.Prelude.{◌≡◌, ◌≤◌, ◌+◌, ◌*◌, ◌^◌, ℕ, pos, negsuc, ◌≤ℤ◌, IfOk, IfErr};
 ghost use Rattle.book_model.specs.numbers.Ranges.{IsInTable};
 ghost use Rattle.sun_core.specs.Widths.{IsNearMoment};
 ghost use Rattle.exact_math.specs.Interval.{Interval};
-ghost use Rattle.book_model.specs.sky.Facts.{IsValueDay};
+ghost use Rattle.book_model.specs.sky.Facts.{IsFactDay, IsValueDay};
 ghost use Rattle.book_model.specs.sky.Phases as spec;
 ghost use Rattle.book_model.specs.sky.Sun.{reduced_of};
 ghost use Rattle.width_laws.specs.declared.table.TheConstants.{PHASE};
@@ -16,7 +16,8 @@ ghost use Rattle.time_scales.specs.Steps.{IsEarlyYearFor, IsNoEarlyYear};
 use crate::phase_courses::{PhaseCourse, phase_by};
 use crate::phases;
 use angle_search::{Angular, invert_angular};
-use book_model::{DEGREE_OF_MONTH, Fail, Site};
+use book_model::new_moon_tables::DEGREE_OF_MONTH;
+use book_model::{Fail, Site};
 use encl_core::{Enclosure, Trail, floor_step, wrap_step};
 use sun_core::days_over;
 
@@ -147,8 +148,7 @@ pub fn phase_day<E: Enclosure>(
 ) -> Result<i64, Fail>
     ensures leads { Decides (spec.phase_day_of phase day) trail.old.count trail.new.count result }
     ensures near { IfOk result IsPhaseDay }
-    ensures close { E.BITS ≡ 56 → negsuc 39999999 ≤ℤ phase → phase ≤ℤ pos 40000000
-        → negsuc 39999999 ≤ℤ day → day ≤ℤ pos 40000000 → IfErr result IsClose }
+    ensures close { E.BITS ≡ 56 → IsSmall phase → IsFactDay day → IfErr result IsClose }
     ensures early { trail.old.count ≡ 0 → 36 ≤ E.BITS → E.BITS ≤ 56 → IsValueDay day
         → IfErr result IsNoEarlyYear }
 {

@@ -15,7 +15,7 @@ use trig_series::sin_deg;
 /// The sum of so many times each of the angles.
 #[inline(always)]
 #[tactic(auto, unfolding(book_model::specs::sky::Moon::lunar_angle_of))]
-fn lunar_angle<E: Enclosure>(
+pub fn lunar_angle<E: Enclosure>(
     elongation: i64,
     sun_anomaly: i64,
     moon_anomaly: i64,

@@ -1,10 +1,10 @@
 //! The new moons before and from a moment, by a walk over their numbers.
 ghost use Rattle.book_model.specs.programs.Calls.{Decides1, Follows, Follows1};
-ghost use Rattle.book_model.specs.programs.Widths.{IsMoment, IsNearlyDated, Measured, Measured1};
-ghost use Rattle.std.specs.Prelude.{◌≡◌, ◌+◌, ◌*◌, ◌^◌, pos, negsuc, ◌≤ℤ◌, ◌+ℤ◌, IfOk};
+ghost use Rattle.book_model.specs.programs.Widths.{IsMoment, IsSmall, IsNearlyDated, Measured, Measured1, Closes1, IsRecentlyDated};
+ghost use Rattle.std.specs.Prelude.{◌≡◌, ◌+◌, ◌*◌, ◌^◌, pos, negsuc, ◌≤ℤ◌, ◌+ℤ◌, ◌-ℤ◌, IfOk};
+ghost use Rattle.book_model.specs.declared.new_moon_tables.TheConstants.{FIRST_RECENT_MOON as first_recent, LAST_RECENT_MOON as last_recent};
 ghost use Rattle.book_model.specs.sky.Phases as spec;
-ghost use Rattle.encl_core.specs.Kept.{IsRecentlyDated};
-ghost use Rattle.moon_core.specs.Widths.{Closes1, IsLate};
+ghost use Rattle.moon_core.specs.Widths.{IsLate};
 ghost use Rattle.width_laws.specs.declared.table.TheConstants.{NEW_MOON};
 ghost use Rattle.width_laws.specs.Table.{greatest_of};
 
@@ -20,8 +20,7 @@ const NUMBERS_TRIED: u32 = 6;
 /// Whether the new moon of a number is before a moment: two tests at most.
 #[tactic(auto, using(book_model::proofs::Leads::leading), unfolding(book_model::specs::sky::Phases::is_moon_before_of))]
 fn is_moon_before<E: Enclosure>(n: i64, t: E, trail: &mut Trail) -> Result<bool, Fail>
-    requires low { negsuc 39999999 ≤ℤ n }
-    requires high { n ≤ℤ pos 40000000 }
+    requires number { IsSmall n }
     ensures leads { Decides1 E.shown (spec.is_moon_before_of n) t trail.old.count trail.new.count
         result }
     ensures close { negsuc 6299 ≤ℤ n → n ≤ℤ pos 55724 → Closes1 E.BITS E.shown (2 ^ 43) IsMoment t
@@ -34,8 +33,8 @@ fn is_moon_before<E: Enclosure>(n: i64, t: E, trail: &mut Trail) -> Result<bool,
 /// The first of so many numbers from one on whose new moon isn't before a moment; void at `moon-walk` where there is none.
 #[tactic(auto, using(book_model::proofs::Leads::leading, crate::proofs::WalkSteps::walks))]
 fn walk<E: Enclosure>(more: u32, t: E, n: i64, trail: &mut Trail) -> Result<i64, Fail>
-    requires low { negsuc 39999999 ≤ℤ n }
-    requires high { (n +ℤ pos more) ≤ℤ pos 40000000 }
+    requires first { IsSmall n }
+    requires last { IsSmall (n +ℤ pos more) }
     ensures leads { Decides1 E.shown (λ x. spec.walk_of more x n) t trail.old.count trail.new.count
         result }
     ensures from { IfOk result (λ k. n ≤ℤ k) }
@@ -56,13 +55,13 @@ fn walk<E: Enclosure>(more: u32, t: E, n: i64, trail: &mut Trail) -> Result<i64,
 /// The moment of the new moon that comes before the one of a number: one test at most.
 #[tactic(auto, unfolding(book_model::specs::sky::Phases::moon_preceding_of))]
 fn moon_preceding<E: Enclosure>(n: i64, trail: &mut Trail) -> Result<E, Fail>
-    requires low { negsuc 39999998 ≤ℤ n }
-    requires high { n ≤ℤ pos 40000000 }
+    requires number { IsSmall n }
+    requires before { IsSmall (n -ℤ pos 1) }
     ensures leads { Follows E.shown (spec.moon_preceding_of n) trail.old.count trail.new.count
         result }
     ensures measured { negsuc 6298 ≤ℤ n → n ≤ℤ pos 55724
         → Measured E.BITS E.shown (IsNearlyDated (greatest_of NEW_MOON 0)) result }
-    ensures recent { pos 21101 ≤ℤ n → n ≤ℤ pos 25801
+    ensures recent { (first_recent +ℤ pos 1) ≤ℤ n → n ≤ℤ (last_recent +ℤ pos 1)
         → Measured E.BITS E.shown (IsRecentlyDated (greatest_of NEW_MOON 0)) result }
 {
     new_moon::<E>(n - 1, trail)

@@ -10,7 +10,7 @@ use Rattle.book_model.specs.declared.fail.Fail.{Fail}
 use Rattle.book_model.specs.declared.frac.Frac.{Frac}
 use Rattle.book_model.specs.declared.moon_tables.TheConstants.{ECCENTRICITY_FACTOR}
 use Rattle.book_model.specs.declared.moon_terms.PlanetTerm.{PlanetTerm}
-use Rattle.book_model.specs.declared.new_moon_tables.TheConstants.{MEAN_NEW_MOON, NEW_MOON_ANOMALY, NEW_MOON_LATITUDE_ARGUMENT, NEW_MOON_NODE, NEW_MOON_SUN_ANOMALY, NEW_MOON_TERMS, NEW_MOON_WAVE, NODE_TERM, PLANET_TERMS}
+use Rattle.book_model.specs.declared.new_moon_tables.TheConstants.{MEAN_NEW_MOON, NEW_MOON_ANOMALY, NEW_MOON_LATITUDE_ARGUMENT, NEW_MOON_NODE, NEW_MOON_SUN_ANOMALY, NEW_MOON_TERMS, NEW_MOON_WAVE, NODE_TERM, PLANET_TERMS, RECENT_CENTURIES, RECENT_DAYS}
 use Rattle.book_model.specs.declared.time_tables.TheConstants.{NOON_2000}
 use Rattle.book_model.specs.numbers.Bounds.{Bound, unbounded, bounded, Reach, bound_of, implies, limits_at, limits_of, integer_bound, constant_bound, sum_bound, scaled_bound, product_bound, power_bound, spanned_bound, sine_spans}
 use Rattle.book_model.specs.numbers.Expressions.{Expression, argument, constant, add, scale, sine}
@@ -18,7 +18,7 @@ use Rattle.book_model.specs.numbers.Fractions.{fraction_of}
 use Rattle.book_model.specs.numbers.Polynomials.{quadratic_of, quadratic_wave_of}
 use Rattle.book_model.specs.numbers.Relations.{Narrow, Keeps}
 use Rattle.book_model.specs.numbers.Terms.{terms_to, terms_of, times_power}
-use Rattle.book_model.specs.programs.Widths.{IsWithin, IsAbout, IsMoment, Measures}
+use Rattle.book_model.specs.programs.Widths.{IsWithin, IsAbout, IsMoment, Measures, recent_from}
 use Rattle.book_model.specs.sky.NewMoons.{NewMoonAngles, new_moon_term_of, angle_of_new_moon_term, no_new_moon_term, millionths, planet_angle, planet_term_of, planet_terms_of, no_planet_term, centuries_of_months}
 use Rattle.book_model.proofs.Implying.{limits_within}
 use Rattle.width_laws.specs.Sizes.{HasSize}
@@ -28,7 +28,7 @@ use Rattle.width_laws.proofs.WaveCovers.{constant_covered, constant_sine_covered
 use Rattle.time_scales.specs.Horner.{horner_size, horner_width, horner_fits}
 use Rattle.time_scales.specs.Widths.{IsLater}
 use Rattle.new_moons.specs.Angles.{KeepAngles}
-use Rattle.new_moons.specs.Widths.{IsNearTime, IsRecentTime, IsRecentMean, AreNearAngles}
+use Rattle.new_moons.specs.Widths.{IsNearTime, IsRecentMonth, IsRecentTime, IsRecentMean, recent_mean_from, recent_mean_to, AreNearAngles}
 use Rattle.new_moons.specs.declared.angles.Angles.{Angles}
 
 three : (p q r : Bool) → (p && (q && r)) ≡ true → (p ≡ true) × (q ≡ true) × (r ≡ true)
@@ -50,7 +50,7 @@ polynomial_within shown n cs c F S u e p i t f =
     let w : horner_width F (length cs) ≤ u = leb-true _ _ b.2 in
     looser (neg_ℤ (pos (horner_size cs F (length cs)))) (pos (horner_size cs F (length cs))) (neg_ℤ (pos S)) (pos S) (horner_width F (length cs)) u (shown e) (omega (arith, ints, l)) (omega (arith, ints, l)) w (f F p i b.0)
 
-pub recent_mean_small : is_small_polynomial MEAN_NEW_MOON 3 (109580 * 2 ^ 32) (2 ^ 29 - 2 ^ 20) ≡ true
+pub recent_mean_small : is_small_polynomial MEAN_NEW_MOON RECENT_CENTURIES (RECENT_DAYS * 2 ^ 32) (2 ^ 29 - 2 ^ 20) ≡ true
 unfolding is_small_polynomial horner_fits horner_size horner_width
 recent_mean_small = refl
 
@@ -111,7 +111,7 @@ mean_reach : implies (bound_of (limits_at 56) (mean_bounds (2 ^ 53)) (add (const
 unfolding implies bound_of constant_bound sum_bound
 mean_reach = refl
 
-recent_mean_reach : implies (bound_of (limits_at 56) (mean_bounds (109580 * 2 ^ 32)) (add (constant (fraction_of NOON_2000)) (argument 0))) (bounded (pos (620540 * 2 ^ 32)) (pos (839702 * 2 ^ 32)) 0 (2 ^ 29)) ≡ true
+recent_mean_reach : implies (bound_of (limits_at 56) (mean_bounds (RECENT_DAYS * 2 ^ 32)) (add (constant (fraction_of NOON_2000)) (argument 0))) (bounded recent_mean_from recent_mean_to 0 (2 ^ 29)) ≡ true
 unfolding implies bound_of constant_bound sum_bound
 recent_mean_reach = refl
 
@@ -125,9 +125,9 @@ module _ {E : Type 0} (shown : E → Interval) (n : ℕ) (noon q m : E) (p : n �
   pub mean_within : IsAbout (2 ^ 53) (2 ^ 29 - 2 ^ 20) (shown q) → IsAbout (2 ^ 54) (2 ^ 29) (shown m)
   mean_within h = measured shown n 0 (mean_bounds (2 ^ 53)) (add (constant (fraction_of NOON_2000)) (argument 0)) _ _ 0 (2 ^ 29) (2 ^ 29) m p mean_reach (omega arith) (mean_kept (2 ^ 53) h)
 
-  pub recent_mean_within : IsAbout (109580 * 2 ^ 32) (2 ^ 29 - 2 ^ 20) (shown q) → IsRecentMean (2 ^ 29) (shown m)
+  pub recent_mean_within : IsAbout (RECENT_DAYS * 2 ^ 32) (2 ^ 29 - 2 ^ 20) (shown q) → IsRecentMean (2 ^ 29) (shown m)
   recent_mean_within h =
-      measured shown n 0 (mean_bounds (109580 * 2 ^ 32)) (add (constant (fraction_of NOON_2000)) (argument 0)) _ _ 0 (2 ^ 29) (2 ^ 29) m p recent_mean_reach (omega arith) (mean_kept (109580 * 2 ^ 32) h)
+      measured shown n 0 (mean_bounds (RECENT_DAYS * 2 ^ 32)) (add (constant (fraction_of NOON_2000)) (argument 0)) _ _ 0 (2 ^ 29) (2 ^ 29) m p recent_mean_reach (omega arith) (mean_kept (RECENT_DAYS * 2 ^ 32) h)
 
 abbrev node_bounds : ℕ → Bound
 node_bounds k = bounded (neg_ℤ (pos (2 ^ 50))) (pos (2 ^ 50)) 0 (2 ^ 24)
@@ -233,7 +233,7 @@ parts_reach : implies (bound_of (limits_at 56) (part_bounds (neg_ℤ (pos (2 ^ 5
 unfolding implies bound_of sum_bound
 parts_reach = refl
 
-recent_parts_reach : implies (bound_of (limits_at 56) (part_bounds (pos (620540 * 2 ^ 32)) (pos (839702 * 2 ^ 32))) sum_of_parts) (bounded (pos (600001 * 2 ^ 32)) (pos (2 ^ 58)) 0 (2 ^ 29 + 2 ^ 24)) ≡ true
+recent_parts_reach : implies (bound_of (limits_at 56) (part_bounds recent_mean_from recent_mean_to) sum_of_parts) (bounded (recent_from (pos 1)) (pos (2 ^ 58)) 0 (2 ^ 29 + 2 ^ 24)) ≡ true
 unfolding implies bound_of sum_bound
 recent_parts_reach = refl
 
@@ -259,14 +259,14 @@ module _ {E : Type 0} (shown : E → Interval) (n : ℕ) (a b c d z y1 y2 y3 y4 
 
   pub recent_parts_within : IsRecentMean (2 ^ 29) (shown a) → IsLater (2 ^ 29 + 2 ^ 24) (shown y4)
   recent_parts_within ha =
-      measured shown n 0 (part_bounds (pos (620540 * 2 ^ 32)) (pos (839702 * 2 ^ 32))) sum_of_parts _ _ 0 (2 ^ 29 + 2 ^ 24) (2 ^ 29 + 2 ^ 24) y4 p recent_parts_reach (omega arith) (parts_kept _ _ ha)
+      measured shown n 0 (part_bounds recent_mean_from recent_mean_to) sum_of_parts _ _ 0 (2 ^ 29 + 2 ^ 24) (2 ^ 29 + 2 ^ 24) y4 p recent_parts_reach (omega arith) (parts_kept _ _ ha)
 
--- a number of months within 26 centuries, and one within 3
+-- a number of months within 26 centuries, and a recent one
 pub months_near : (k : ℤ) → negsuc 31023 ≤ℤ k → k ≤ℤ pos 31024 → IsNearTime (centuries_of_months k)
 months_near k h i = record { size = omega (arith, ints); numerator = omega (arith, ints) }
 
-pub months_recent : (k : ℤ) → negsuc 3623 ≤ℤ k → k ≤ℤ pos 1076 → IsRecentTime (centuries_of_months k)
-months_recent k h i = record { size = omega (arith, ints); numerator = omega (arith, ints) }
+pub months_recent : (k : ℤ) → IsRecentMonth k → IsRecentTime (centuries_of_months k)
+months_recent k h = record { size = omega (arith, ints, h.0, h.1); numerator = omega (arith, ints, h.0, h.1) }
 
 -- what is taken again is wider than what was found
 pub found_within : {E : Type 0} (low high : ℤ) (shown : E → Interval) (r : Result E Fail) → Measures (λ y. IsWithin low high (2 ^ 29 + 2 ^ 24 + 2 ^ 17) (shown y)) r → Measures (λ y. IsWithin low high (2 ^ 30) (shown y)) r

@@ -1,7 +1,8 @@
 -- How wide the parts of a new moon are at the scale 2^-56, within 26 centuries of 2000.
-use Rattle.std.specs.Prelude.{ℕ, ◌*◌, ◌^◌, pos}
+use Rattle.std.specs.Prelude.{ℕ, ◌*◌, ◌^◌, ℤ, pos, ◌+ℤ◌, ◌-ℤ◌, ◌*ℤ◌, ◌≤ℤ◌}
 use Rattle.exact_math.specs.Fraction.{Fraction}
 use Rattle.exact_math.specs.Interval.{Interval}
+use Rattle.book_model.specs.declared.new_moon_tables.TheConstants.{FIRST_RECENT_MOON, LAST_RECENT_MOON, NEW_MOON_OF_2000, RECENT_CENTURIES, RECENT_DAYS}
 use Rattle.book_model.specs.programs.Widths.{IsWithin, IsAbout}
 use Rattle.width_laws.specs.Sizes.{HasSize}
 use Rattle.new_moons.specs.declared.angles.Angles.{Angles}
@@ -10,13 +11,24 @@ use Rattle.new_moons.specs.declared.angles.Angles.{Angles}
 abbrev pub IsNearTime : Fraction → Type 0
 IsNearTime c = HasSize 26 c
 
--- a time within 3 centuries of 2000
-abbrev pub IsRecentTime : Fraction → Type 0
-IsRecentTime c = HasSize 3 c
+-- the number of a recent new moon, counted from that of January 2000
+abbrev pub IsRecentMonth : ℤ → Type 0
+IsRecentMonth k = ((FIRST_RECENT_MOON -ℤ NEW_MOON_OF_2000) ≤ℤ k) × (k ≤ℤ (LAST_RECENT_MOON -ℤ NEW_MOON_OF_2000))
 
--- a mean new moon at such a time: 109,580 days on both sides of noon of 1 January 2000, whose R.D. is 730,120.5, and at most so wide
+-- the time of such a one
+abbrev pub IsRecentTime : Fraction → Type 0
+IsRecentTime c = HasSize RECENT_CENTURIES c
+
+-- from where to where their means lie: so many days on both sides of noon of 1 January 2000, whose R.D. is 730,120.5
+abbrev pub recent_mean_from : ℤ
+recent_mean_from = (pos 730120 -ℤ pos RECENT_DAYS) *ℤ pos (2 ^ 32)
+
+abbrev pub recent_mean_to : ℤ
+recent_mean_to = (pos 730122 +ℤ pos RECENT_DAYS) *ℤ pos (2 ^ 32)
+
+-- a mean new moon at such a time, at most so wide
 abbrev pub IsRecentMean : ℕ → Interval → Type 0
-IsRecentMean v i = IsWithin (pos (620540 * 2 ^ 32)) (pos (839702 * 2 ^ 32)) v i
+IsRecentMean v i = IsWithin recent_mean_from recent_mean_to v i
 
 -- the angles at such a time
 pub record AreNearAngles {E : Type 0} (shown : E → Interval) (b : Angles E) : Type 0 where

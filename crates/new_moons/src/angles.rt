@@ -8,8 +8,10 @@ ghost use Rattle.new_moons.specs.Widths.{IsNearTime, AreNearAngles};
 ghost use Rattle.new_moons.specs.Angles.{HoldAngles, KeepAngles, computed_angles_of};
 ghost use Rattle.book_model.specs.numbers.Depth.{DEPTH};
 
-use book_model::{
-    ECCENTRICITY_FACTOR, Frac, NEW_MOON_ANOMALY, NEW_MOON_LATITUDE_ARGUMENT, NEW_MOON_SUN_ANOMALY,
+use book_model::Frac;
+use book_model::moon_tables::ECCENTRICITY_FACTOR;
+use book_model::new_moon_tables::{
+    NEW_MOON_ANOMALY, NEW_MOON_LATITUDE_ARGUMENT, NEW_MOON_SUN_ANOMALY,
 };
 use encl_core::Enclosure;
 use time_scales::{at_fraction, quadratic};

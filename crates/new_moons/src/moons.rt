@@ -1,23 +1,25 @@
 //! The moment of a new moon.
 ghost use Rattle.book_model.specs.programs.Calls.{Encloses, Follows, Holds, Narrows};
-ghost use Rattle.book_model.specs.programs.Widths.{IsAbout, IsMoment, Measured, IsNearlyDated};
+ghost use Rattle.book_model.specs.programs.Widths.{IsAbout, IsMoment, IsSmall, Measured, IsNearlyDated, IsRecentlyDated};
 ghost use Rattle.std.specs.Prelude.{◌≡◌, ◌+◌, ◌^◌, ℤ, pos, negsuc, ◌≤ℤ◌};
+ghost use Rattle.book_model.specs.declared.new_moon_tables.TheConstants.{FIRST_RECENT_MOON as first_recent, LAST_RECENT_MOON as last_recent};
 ghost use Rattle.book_model.specs.numbers.Fractions.{fraction_of};
 ghost use Rattle.book_model.specs.programs.Leading.{next_turn};
 ghost use Rattle.book_model.specs.sky.NewMoons as spec;
 ghost use Rattle.width_laws.specs.declared.table.TheConstants.{NEW_MOON};
 ghost use Rattle.width_laws.specs.Table.{greatest_of};
-ghost use Rattle.encl_core.specs.Kept.{IsRecentlyDated};
 ghost use Rattle.time_scales.specs.Widths.{IsLater};
-ghost use Rattle.new_moons.specs.Widths.{IsNearTime, IsRecentTime, IsRecentMean};
+ghost use Rattle.new_moons.specs.Widths.{IsNearTime, IsRecentMonth, IsRecentTime, IsRecentMean};
 ghost use Rattle.new_moons.specs.Moons.{computed_mean_of, computed_node_term_of, computed_terms_of, computed_new_moon_of};
 
 use crate::angles::{Angles, angles_at};
 use crate::terms::Number;
-use book_model::{
-    Fail, Frac, MEAN_NEW_MOON, NEW_MOON_NODE, NEW_MOON_OF_2000, NEW_MOON_TERMS, NEW_MOON_WAVE,
-    NODE_TERM, NOON_2000, NewMoonTerm, PLANET_TERMS, PlanetTerm,
+use book_model::new_moon_tables::{
+    MEAN_NEW_MOON, NEW_MOON_NODE, NEW_MOON_OF_2000, NEW_MOON_TERMS, NEW_MOON_WAVE, NODE_TERM,
+    PLANET_TERMS,
 };
+use book_model::time_tables::NOON_2000;
+use book_model::{Fail, Frac, NewMoonTerm, PlanetTerm};
 use encl_core::{Enclosure, Trail, sum_of_terms};
 use time_scales::{at_fraction, from_dynamical, quadratic};
 use trig_series::sin_deg;
@@ -99,7 +101,7 @@ fn dynamical_new_moon<E: Enclosure>(number: i64) -> E
     ensures narrow { Narrows E.shown E.BITS (computed_new_moon_of number) result }
     ensures measured { E.BITS ≡ 56 → negsuc 31023 ≤ℤ number → number ≤ℤ pos 31024
         → IsMoment (2 ^ 29 + 2 ^ 24) (E.shown result) }
-    ensures recent { E.BITS ≡ 56 → negsuc 3623 ≤ℤ number → number ≤ℤ pos 1076
+    ensures recent { E.BITS ≡ 56 → IsRecentMonth number
         → IsLater (2 ^ 29 + 2 ^ 24) (E.shown result) }
 {
     let time = centuries_of_months(number);
@@ -113,12 +115,11 @@ fn dynamical_new_moon<E: Enclosure>(number: i64) -> E
 /// The moment of the new moon of a number, counted from that of January of the year 1, in universal time: one test.
 #[tactic(auto, using(book_model::proofs::Leads::leading), unfolding(book_model::specs::sky::NewMoons::new_moon_of))]
 fn evaluated_moon<E: Enclosure>(n: i64, trail: &mut Trail) -> Result<E, Fail>
-    requires low { negsuc 39999999 ≤ℤ n }
-    requires high { n ≤ℤ pos 40000000 }
+    requires number { IsSmall n }
     ensures leads { Follows E.shown (spec.new_moon_of n) trail.old.count trail.new.count result }
     ensures measured { negsuc 6299 ≤ℤ n → n ≤ℤ pos 55724
         → Measured E.BITS E.shown (IsNearlyDated (2 ^ 29 + 2 ^ 24 + 2 ^ 17)) result }
-    ensures recent { pos 21100 ≤ℤ n → n ≤ℤ pos 25800
+    ensures recent { first_recent ≤ℤ n → n ≤ℤ last_recent
         → Measured E.BITS E.shown (IsRecentlyDated (2 ^ 29 + 2 ^ 24 + 2 ^ 17)) result }
     ensures counted { trail.new.count ≡ next_turn trail.old.count }
 {
@@ -127,12 +128,11 @@ fn evaluated_moon<E: Enclosure>(n: i64, trail: &mut Trail) -> Result<E, Fail>
 
 /// The same, which the trail keeps from then on.
 fn kept_moon<E: Enclosure>(n: i64, trail: &mut Trail) -> Result<E, Fail>
-    requires low { negsuc 39999999 ≤ℤ n }
-    requires high { n ≤ℤ pos 40000000 }
+    requires number { IsSmall n }
     ensures leads { Follows E.shown (spec.new_moon_of n) trail.old.count trail.new.count result }
     ensures measured { negsuc 6299 ≤ℤ n → n ≤ℤ pos 55724
         → Measured E.BITS E.shown (IsNearlyDated (2 ^ 29 + 2 ^ 24 + 2 ^ 17)) result }
-    ensures recent { pos 21100 ≤ℤ n → n ≤ℤ pos 25800
+    ensures recent { first_recent ≤ℤ n → n ≤ℤ last_recent
         → Measured E.BITS E.shown (IsRecentlyDated (2 ^ 29 + 2 ^ 24 + 2 ^ 17)) result }
     ensures counted { trail.new.count ≡ next_turn trail.old.count }
 {
@@ -145,12 +145,11 @@ fn kept_moon<E: Enclosure>(n: i64, trail: &mut Trail) -> Result<E, Fail>
 /// Dershowitz, Calendrical Calculations, chapter 14; Meeus, Astronomical Algorithms, chapter 49). One test, at `year`; it
 /// is void at `year` in a year without a correction. Where the trail keeps the moment, it is taken, and its test counted.
 pub fn new_moon<E: Enclosure>(n: i64, trail: &mut Trail) -> Result<E, Fail>
-    requires low { negsuc 39999999 ≤ℤ n }
-    requires high { n ≤ℤ pos 40000000 }
+    requires number { IsSmall n }
     ensures leads { Follows E.shown (spec.new_moon_of n) trail.old.count trail.new.count result }
     ensures measured { negsuc 6299 ≤ℤ n → n ≤ℤ pos 55724
         → Measured E.BITS E.shown (IsNearlyDated (greatest_of NEW_MOON 0)) result }
-    ensures recent { pos 21100 ≤ℤ n → n ≤ℤ pos 25800
+    ensures recent { first_recent ≤ℤ n → n ≤ℤ last_recent
         → Measured E.BITS E.shown (IsRecentlyDated (greatest_of NEW_MOON 0)) result }
     ensures counted { trail.new.count ≡ next_turn trail.old.count }
 {

@@ -3,12 +3,15 @@ ghost use Rattle.std.specs.Prelude.{◌≡◌, ◌≤◌, ◌≤ℤ◌, ◌+ℤ�
 ghost use Rattle.book_model.specs.calendars.Persian.{nowruz_fact, mid_year_day as day_in_mid_year, days_before_month, year_begun as year_begun_on, persian_fields, persian_on, persian_day};
 ghost use Rattle.oracle_core.specs.Asking.{Asks, AsksAs};
 ghost use Rattle.persian_cal.specs.Dates.{fields_of_date};
+ghost use Rattle.book_model.specs.calendars.Dates.{IsAskable, IsDateDay};
+ghost use Rattle.book_model.specs.declared.calendar.Calendar.TheVariants.{Persian};
 ghost use Rattle.book_model.specs.sky.Facts.{IsFactDay, IsFactValue};
 ghost use Rattle.persian_cal.specs.Days.{IsDayNumber, IsNearYear};
 ghost use Rattle.calendar_math.specs.Days.{IsCalendarDay};
 
 use crate::months::{days_before, month_of_number};
-use book_model::{Fact, Kind, PERSIAN_EPOCH, Place};
+use book_model::calendar_tables::PERSIAN_EPOCH;
+use book_model::{Fact, Kind, Place};
 use calendar_math::{days_of_years, to_8_bits, years_of_days};
 use oracle_core::{Oracle, Stop};
 
@@ -103,7 +106,7 @@ fn day_by(new_year: i64, month: i64, day: i64) -> i64
 /// ```
 #[tactic(auto, using(oracle_core::proofs::Inquiring::asking), unfolding(book_model::specs::calendars::Persian::persian_on))]
 pub fn from_fixed<O: Oracle>(oracle: &mut O, day: i64) -> Result<PersianDate, Stop>
-    requires day { IsCalendarDay day }
+    requires day { IsDateDay Persian day }
     ensures date { AsksAs fields_of_date O.Oracle (persian_on day) oracle.old oracle.new result }
 {
     let first = oracle.ask(nowruz_fact_on(day))?;
@@ -124,12 +127,7 @@ pub fn from_fixed<O: Oracle>(oracle: &mut O, day: i64) -> Result<PersianDate, St
 /// ```
 #[tactic(auto, using(oracle_core::proofs::Inquiring::asking), unfolding(book_model::specs::calendars::Persian::persian_day))]
 pub fn to_fixed<O: Oracle>(oracle: &mut O, date: PersianDate) -> Result<i64, Stop>
-    requires from_1180 { pos 1180 ≤ℤ date.year }
-    requires to_1427 { date.year ≤ℤ pos 1427 }
-    requires from_first_month { 1 ≤ date.month }
-    requires to_last_month { date.month ≤ 12 }
-    requires from_first_day { 1 ≤ date.day }
-    requires to_last_day { date.day ≤ 31 }
+    requires askable { IsAskable Persian (fields_of_date date) }
     ensures day { Asks O.Oracle (persian_day date.year (pos date.month) (pos date.day))
         oracle.old oracle.new result }
     ensures near { IfOk result IsDayNumber }

@@ -8,4 +8,3 @@ mod fields;
 mod months;
 
 pub use date::{PersianDate, from_fixed, to_fixed};
-pub use fields::{date_on, named_day};

@@ -3,6 +3,8 @@ use Rattle.std.specs.Prelude.{ℕ, zero, suc, ◌+◌, ◌*◌, Bool, true, fals
 use Rattle.std.proofs.Common.{arith}
 use Rattle.book_model.specs.declared.horizon.Location.{Location}
 use Rattle.book_model.specs.declared.horizon.Twilight.{Twilight}
+use Rattle.book_model.specs.declared.calendar_tables.TheConstants.{SPRING}
+use Rattle.book_model.specs.declared.fact.Place.{Place}
 use Rattle.book_model.specs.declared.location_tables.TheConstants.{TEHRAN}
 use Rattle.book_model.specs.sky.Correction.{rounded_of}
 use Rattle.book_model.specs.numbers.Expressions.{Expression}
@@ -13,7 +15,7 @@ use Rattle.book_model.specs.sky.Sun.{obliquity_of}
 use Rattle.book_model.proofs.Estimates.{from_apparent_few}
 use Rattle.book_model.proofs.FactRuns.{centuries_few, sun_few}
 use Rattle.book_model.proofs.Leads.{at_most_bind, at_most_more}
-use Rattle.sun_core.proofs.NewYears.{spring_day_few}
+use Rattle.sun_core.proofs.NewYears.{season_day_few}
 
 -- ---- how many tests
 pub obliquity_few : (c : Expression) → AtMost 0 (obliquity_of c)
@@ -74,8 +76,8 @@ unfolding sunset_of dusk_of depression_of
 sunset_few p d = at_most_bind 132 0 (settled_few 12 p _ _ _) (λ x. answer_at_most)
 
 pub bahai_year_few : (d : ℤ) → AtMost 99999 (bahai_year_of d)
-bahai_year_few d = spring_day_few 132 (sunset_of TEHRAN) (sunset_few TEHRAN) (omega arith) d
+bahai_year_few d = season_day_few 132 (sunset_of TEHRAN) SPRING (sunset_few TEHRAN) (omega arith) d
 
-pub sunset_in_minutes_few : (p : Location) (d : ℤ) → AtMost 99999 (sunset_in_minutes_of p d)
+pub sunset_in_minutes_few : (place : Place) (p : Location) (d : ℤ) → AtMost 99999 (sunset_in_minutes_of place p d)
 unfolding sunset_in_minutes_of rounded_of
-sunset_in_minutes_few p d = at_most_more 133 99999 (omega arith) (at_most_bind 132 1 (sunset_few p d) (λ x. cell_at_most (λ q. answer_at_most)))
+sunset_in_minutes_few place p d = at_most_more 133 99999 (omega arith) (at_most_bind 132 1 (sunset_few p d) (λ x. cell_at_most (λ q. answer_at_most)))

@@ -3,6 +3,7 @@ pub mod Beside
 pub mod Horizons
 pub mod MeanMoments
 pub mod Measured
+pub mod Altitudes
 pub mod Places
 pub mod Sunrises
 pub mod SkyDays

@@ -22,6 +22,7 @@ use Rattle.book_model.proofs.Values.{value_proper}
 use Rattle.sun_core.specs.Widths.{IsNarrowPlace}
 use Rattle.sun_core.proofs.Measured.{ahead_within}
 use Rattle.rise_set.specs.Widths.{IsMeanDated}
+use Rattle.book_model.specs.declared.time_tables.TheConstants.{TABLE_START, TABLE_END}
 
 whole_before : (n : ℤ) → whole (n -ℤ pos 1) ≤F plus (whole n) (whole (negsuc 0))
 unfolding plus
@@ -48,7 +49,7 @@ dated_by v m (between p q) (between c d) everything (between x y) s o n k h t = 
 dated_by v m (between p q) (between c d) (between e f) (between x y) s o n k h t =
     let low = le_trans _ _ _ (record { cross = omega (arith, ints) }) (le_trans _ _ _ k.kept.above n.ends.0) in
     let high = le_trans _ _ _ n.ends.1 (le_trans _ _ _ k.kept.below (record { cross = omega (arith, ints) })) in
-    (from_difference p d (negsuc 182620) (le_trans _ _ _ t.0 s.ends.0) (le_trans _ _ _ low o), to_difference q c (pos 748748) (le_trans _ _ _ s.ends.1 t.1) (le_trans _ _ _ o high))
+    (from_difference p d TABLE_START (le_trans _ _ _ t.0 s.ends.0) (le_trans _ _ _ low o), to_difference q c TABLE_END (le_trans _ _ _ s.ends.1 t.1) (le_trans _ _ _ o high))
 
 unfoldable pub moment_world : (i : Interval) → IsProper i → World
 moment_world i p = record { depth = 40; arguments = λ k. i; proper = λ k. p }

@@ -1,5 +1,5 @@
 -- How wide declinations, offsets and approximations of dawn and dusk are at the scale 2^-56.
-use Rattle.std.specs.Prelude.{◌≡◌, ℕ, ◌+◌, ◌-◌, ◌*◌, ◌/◌, ◌^◌, ◌≤◌, Bool, true, false, not, cond, ℤ, pos, negsuc, neg_ℤ, ◌+ℤ◌, ◌*ℤ◌, ◌≤ℤ◌, nat_lt, unsigned_abs, max, Some, Result, Ok, Err, IfOk, IfErr, refl, if◌then◌else◌, ◌==◌}
+use Rattle.std.specs.Prelude.{◌≡◌, ℕ, ◌+◌, ◌-◌, ◌*◌, ◌/◌, ◌^◌, ◌≤◌, Bool, true, false, not, cond, ℤ, pos, neg_ℤ, ◌+ℤ◌, ◌*ℤ◌, ◌≤ℤ◌, nat_lt, unsigned_abs, max, Some, Result, Ok, Err, IfOk, IfErr, refl, if◌then◌else◌, ◌==◌}
 use Rattle.std.proofs.Common.{arith, sym}
 use Rattle.std.proofs.lemmas.Int.{ints}
 use Rattle.std.proofs.lemmas.Bool.{lt-ltb}
@@ -31,6 +31,7 @@ use Rattle.sun_core.proofs.Measured.{ahead_within}
 use Rattle.encl_core.specs.Steps.{IsOpenLess}
 use Rattle.rise_set.specs.Horizons.{offset_by_parts}
 use Rattle.rise_set.specs.Widths.{IsMeanMoment, IsDeclination, IsDepression, IsOffset, IsSettled}
+use Rattle.book_model.specs.sky.Facts.{IsFactDay}
 
 -- ---- the universal time of a moment of local mean time
 abbrev mean_bounds : ℕ → Bound
@@ -50,10 +51,6 @@ local_within shown n v l t a u e p h f g =
 
 pub mean_local : (v : ℕ) (i : Interval) → IsMeanMoment v i → IsAbout (2 ^ 58 - 2 ^ 32) v i
 mean_local v i h = looser _ _ _ _ v v i (omega (arith, ints)) (omega (arith, ints)) (omega arith) h
-
-pub universal_within : {E : Type 0} (shown : E → Interval) (n v : ℕ) (l : Frac) (t a u : E) → n ≡ 56 → IsNarrowPlace l → IsMeanMoment v (shown t) → ((r : Reach) → Narrow shown (limits_of n) r (ahead_of (fraction_of l)) a)
-    → ((r : Reach) (p q : Expression) → Narrow shown (limits_of n) r p t → Narrow shown (limits_of n) r q a → Narrow shown (limits_of n) r (subtract p q) u) → IsMoment (v + 2 ^ 10) (shown u)
-universal_within shown n v l t a u e p h f g = local_within shown n v l t a u e p (mean_local v (shown t) h) f g
 
 -- ---- the declination
 abbrev ecliptic_bounds : ℕ → Bound
@@ -199,15 +196,15 @@ quarters : Twilight → ℤ
 quarters Dawn = pos (2 ^ 30)
 quarters Dusk = pos (3 * 2 ^ 30)
 
-quarter_bound : (k : Twilight) (d : ℤ) → negsuc 39999999 ≤ℤ d → d ≤ℤ pos 40000000 → bound_of (limits_at 56) (λ k. unbounded) (quarter_of k d) ≡ bounded (d *ℤ pos (2 ^ 32) +ℤ quarters k) (d *ℤ pos (2 ^ 32) +ℤ quarters k) 0 (2 ^ 8)
+quarter_bound : (k : Twilight) (d : ℤ) → IsFactDay d → bound_of (limits_at 56) (λ k. unbounded) (quarter_of k d) ≡ bounded (d *ℤ pos (2 ^ 32) +ℤ quarters k) (d *ℤ pos (2 ^ 32) +ℤ quarters k) 0 (2 ^ 8)
 unfolding bound_of integer_bound constant_bound sum_bound quarter_of quarters
-quarter_bound Dawn d h k =
-    let p : nat_lt (unsigned_abs d * 2 ^ 32) (2 ^ 100) ≡ true = lt-ltb _ _ (omega (arith, ints)) in
-    let q : nat_lt (max (unsigned_abs (d *ℤ pos (2 ^ 32) +ℤ pos (2 ^ 30))) (unsigned_abs (d *ℤ pos (2 ^ 32) +ℤ pos (2 ^ 30)))) (2 ^ 100) ≡ true = lt-ltb _ _ (omega (arith, ints)) in
+quarter_bound Dawn d h =
+    let p : nat_lt (unsigned_abs d * 2 ^ 32) (2 ^ 100) ≡ true = lt-ltb _ _ (omega (arith, ints, h.0, h.1)) in
+    let q : nat_lt (max (unsigned_abs (d *ℤ pos (2 ^ 32) +ℤ pos (2 ^ 30))) (unsigned_abs (d *ℤ pos (2 ^ 32) +ℤ pos (2 ^ 30)))) (2 ^ 100) ≡ true = lt-ltb _ _ (omega (arith, ints, h.0, h.1)) in
     rw (p, q) refl
-quarter_bound Dusk d h k =
-    let p : nat_lt (unsigned_abs d * 2 ^ 32) (2 ^ 100) ≡ true = lt-ltb _ _ (omega (arith, ints)) in
-    let q : nat_lt (max (unsigned_abs (d *ℤ pos (2 ^ 32) +ℤ pos (3 * 2 ^ 30))) (unsigned_abs (d *ℤ pos (2 ^ 32) +ℤ pos (3 * 2 ^ 30)))) (2 ^ 100) ≡ true = lt-ltb _ _ (omega (arith, ints)) in
+quarter_bound Dusk d h =
+    let p : nat_lt (unsigned_abs d * 2 ^ 32) (2 ^ 100) ≡ true = lt-ltb _ _ (omega (arith, ints, h.0, h.1)) in
+    let q : nat_lt (max (unsigned_abs (d *ℤ pos (2 ^ 32) +ℤ pos (3 * 2 ^ 30))) (unsigned_abs (d *ℤ pos (2 ^ 32) +ℤ pos (3 * 2 ^ 30)))) (2 ^ 100) ≡ true = lt-ltb _ _ (omega (arith, ints, h.0, h.1)) in
     rw (p, q) refl
 
 quarters_low : (k : Twilight) → pos 0 ≤ℤ quarters k
@@ -220,15 +217,15 @@ unfolding quarters
 quarters_high Dawn = omega (arith, ints)
 quarters_high Dusk = omega (arith, ints)
 
-pub quarter_within : {E : Type 0} (shown : E → Interval) (n : ℕ) (k : Twilight) (d : ℤ) (x : E) → n ≡ 56 → negsuc 39999999 ≤ℤ d → d ≤ℤ pos 40000000 → ((r : Reach) → Narrow shown (limits_of n) r (quarter_of k d) x) → IsAbout (40000001 * 2 ^ 32) (2 ^ 8) (shown x)
+pub quarter_within : {E : Type 0} (shown : E → Interval) (n : ℕ) (k : Twilight) (d : ℤ) (x : E) → n ≡ 56 → IsFactDay d → ((r : Reach) → Narrow shown (limits_of n) r (quarter_of k d) x) → IsAbout (40000001 * 2 ^ 32) (2 ^ 8) (shown x)
 unfolding Keeps
-quarter_within shown n k d x e h j f =
+quarter_within shown n k d x e h f =
     let l = limits_within n (omega arith) (omega arith) in
     let z = f (record { width = 0; bounds = λ k. unbounded }) in
-    let b = quarter_bound k d h j in
+    let b = quarter_bound k d h in
     let low = quarters_low k in
     let high = quarters_high k in
-    looser _ _ _ _ (2 ^ 8) (2 ^ 8) _ (omega (arith, ints)) (omega (arith, ints)) (omega arith) (record { kept = rw (l, e, b) at z.kept })
+    looser _ _ _ _ (2 ^ 8) (2 ^ 8) _ (omega (arith, ints, low, h.0)) (omega (arith, ints, high, h.1)) (omega arith) (record { kept = rw (l, e, b) at z.kept })
 
 abbrev apparent_bounds : ℕ → Bound
 apparent_bounds k = if k == 0 then bounded (neg_ℤ (pos (40000001 * 2 ^ 32))) (pos (40000001 * 2 ^ 32)) 0 (2 ^ 8) else bounded (neg_ℤ (pos (2 ^ 29))) (pos (2 ^ 29)) (2 ^ 40) 0

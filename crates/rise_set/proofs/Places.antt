@@ -1,66 +1,42 @@
--- The three places of the facts are narrow, and their depressions and sunsets.
-use Rattle.std.specs.Prelude.{◌≡◌, ℕ, ◌+◌, ◌*◌, ◌/◌, ◌^◌, true, pos, neg_ℤ, refl}
+-- The places are narrow, and so are their depressions and sunsets.
+use Rattle.std.specs.Prelude.{◌≡◌, ℕ, ◌+◌, ◌*◌, ◌/◌, ◌^◌, true, pos, Option, Some, None, IfSome, refl}
+use Rattle.std.specs.Option.{option_map_or}
 use Rattle.std.proofs.Common.{arith}
 use Rattle.std.proofs.lemmas.Int.{ints}
 use Rattle.exact_math.specs.Interval.{Interval}
+use Rattle.book_model.specs.declared.fact.Place.{Place}
+use Rattle.book_model.specs.declared.fact.Place.TheVariants.{Ujjain}
 use Rattle.book_model.specs.declared.horizon.Location.{Location}
-use Rattle.book_model.specs.declared.location_tables.TheConstants.{TEHRAN, CAIRO, UJJAIN, HALF_SUN, HINDU_SUNRISE_DEPRESSION}
-use Rattle.book_model.specs.numbers.Bounds.{Bound, unbounded, bounded, Reach, implies, bound_of, limits_at, limits_of, integer_bound, constant_bound, sum_bound, difference_bound, scaled_bound, power_bound, product_bound, quotient_bound, clamp_bound, root_bound, spanned_bound, arc_spans, arctangent_bound, half_tangent_bound, arcsine_bound, arccosine_bound}
+use Rattle.book_model.specs.declared.location_tables.TheConstants.{UJJAIN, HALF_SUN, HINDU_SUNRISE_DEPRESSION}
+use Rattle.book_model.specs.numbers.Bounds.{Bound, unbounded, bounded, Reach, implies, bound_of, limits_at, limits_of, integer_bound, constant_bound, sum_bound}
 use Rattle.book_model.specs.numbers.Expressions.{Expression, argument, constant, integer, add}
 use Rattle.book_model.specs.numbers.Fractions.{fraction_of}
 use Rattle.book_model.specs.numbers.Relations.{Narrow}
-use Rattle.book_model.specs.numbers.Roots.{root_by_digits}
 use Rattle.book_model.specs.programs.Widths.{IsWithin, IsMoment}
 use Rattle.book_model.specs.sky.Horizon.{refraction_of}
-use Rattle.book_model.specs.sky.Noon.{ahead_of}
+use Rattle.book_model.specs.sky.Names.{location_of}
+use Rattle.book_model.specs.sky.Places.{is_kept_location}
+use Rattle.book_model.proofs.CorrectionRows.{both}
+use Rattle.book_model.proofs.Places.{location_kept}
 use Rattle.width_laws.proofs.Measuring.{measured, looser, sloped}
 use Rattle.rise_set.specs.Widths.{IsDepression, IsNarrowLocation}
 
 -- ---- places
-tehran_ahead : implies (bound_of (limits_at 56) (λ k. unbounded) (ahead_of (fraction_of TEHRAN.longitude))) (bounded (neg_ℤ (pos (2 ^ 32))) (pos (2 ^ 32)) 0 (2 ^ 10)) ≡ true
-unfolding implies bound_of constant_bound scaled_bound ahead_of
-tehran_ahead = refl
+narrow_if : (o : Option Location) → option_map_or is_kept_location o true ≡ true → IfSome o IsNarrowLocation
+narrow_if None e = tt
+narrow_if (Some l) e =
+    let a = both _ _ e in
+    let b = both _ _ a.1 in
+    let c = both _ _ b.1 in
+    record { place = record { narrow = a.0 }; latitude = b.0; refraction = c.0 }
 
-tehran_north : implies (bound_of (limits_at 56) (λ k. unbounded) (constant (fraction_of TEHRAN.latitude))) (bounded (pos 0) (pos (36 * 2 ^ 32)) 0 (2 ^ 8)) ≡ true
-unfolding implies bound_of constant_bound
-tehran_north = refl
-
-tehran_refraction : implies (bound_of (limits_at 56) (λ k. unbounded) (refraction_of TEHRAN)) (bounded (pos 0) (pos (4 * 2 ^ 32)) 0 (2 ^ 23)) ≡ true
-unfolding implies bound_of integer_bound constant_bound sum_bound difference_bound scaled_bound power_bound product_bound quotient_bound clamp_bound root_bound root_by_digits spanned_bound arc_spans arctangent_bound half_tangent_bound arcsine_bound arccosine_bound refraction_of
-tehran_refraction = refl
-
-pub tehran_is_narrow : IsNarrowLocation TEHRAN
-tehran_is_narrow = record { place = record { narrow = tehran_ahead }; latitude = tehran_north; refraction = tehran_refraction }
-
-cairo_ahead : implies (bound_of (limits_at 56) (λ k. unbounded) (ahead_of (fraction_of CAIRO.longitude))) (bounded (neg_ℤ (pos (2 ^ 32))) (pos (2 ^ 32)) 0 (2 ^ 10)) ≡ true
-unfolding implies bound_of constant_bound scaled_bound ahead_of
-cairo_ahead = refl
-
-cairo_north : implies (bound_of (limits_at 56) (λ k. unbounded) (constant (fraction_of CAIRO.latitude))) (bounded (pos 0) (pos (36 * 2 ^ 32)) 0 (2 ^ 8)) ≡ true
-unfolding implies bound_of constant_bound
-cairo_north = refl
-
-cairo_refraction : implies (bound_of (limits_at 56) (λ k. unbounded) (refraction_of CAIRO)) (bounded (pos 0) (pos (4 * 2 ^ 32)) 0 (2 ^ 23)) ≡ true
-unfolding implies bound_of integer_bound constant_bound sum_bound difference_bound scaled_bound power_bound product_bound quotient_bound clamp_bound root_bound root_by_digits spanned_bound arc_spans arctangent_bound half_tangent_bound arcsine_bound arccosine_bound refraction_of
-cairo_refraction = refl
-
-pub cairo_is_narrow : IsNarrowLocation CAIRO
-cairo_is_narrow = record { place = record { narrow = cairo_ahead }; latitude = cairo_north; refraction = cairo_refraction }
-
-ujjain_ahead : implies (bound_of (limits_at 56) (λ k. unbounded) (ahead_of (fraction_of UJJAIN.longitude))) (bounded (neg_ℤ (pos (2 ^ 32))) (pos (2 ^ 32)) 0 (2 ^ 10)) ≡ true
-unfolding implies bound_of constant_bound scaled_bound ahead_of
-ujjain_ahead = refl
-
-ujjain_north : implies (bound_of (limits_at 56) (λ k. unbounded) (constant (fraction_of UJJAIN.latitude))) (bounded (pos 0) (pos (36 * 2 ^ 32)) 0 (2 ^ 8)) ≡ true
-unfolding implies bound_of constant_bound
-ujjain_north = refl
-
-ujjain_refraction : implies (bound_of (limits_at 56) (λ k. unbounded) (refraction_of UJJAIN)) (bounded (pos 0) (pos (4 * 2 ^ 32)) 0 (2 ^ 23)) ≡ true
-unfolding implies bound_of integer_bound constant_bound sum_bound difference_bound scaled_bound power_bound product_bound quotient_bound clamp_bound root_bound root_by_digits spanned_bound arc_spans arctangent_bound half_tangent_bound arcsine_bound arccosine_bound refraction_of
-ujjain_refraction = refl
+-- the location of a place, if it has one, is narrow
+pub place_is_narrow : (place : Place) → IfSome (location_of place) IsNarrowLocation
+place_is_narrow place = narrow_if (location_of place) (location_kept place)
 
 pub ujjain_is_narrow : IsNarrowLocation UJJAIN
-ujjain_is_narrow = record { place = record { narrow = ujjain_ahead }; latitude = ujjain_north; refraction = ujjain_refraction }
+unfolding location_of
+ujjain_is_narrow = place_is_narrow Ujjain
 
 -- ---- depressions
 pub refraction_within : {E : Type 0} (shown : E → Interval) (n : ℕ) (p : Location) (x : E) → n ≡ 56 → IsNarrowLocation p → ((r : Reach) → Narrow shown (limits_of n) r (refraction_of p) x) → IsWithin (pos 0) (pos (4 * 2 ^ 32)) (2 ^ 23) (shown x)

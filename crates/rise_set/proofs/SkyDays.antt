@@ -22,7 +22,7 @@ use Rattle.book_model.specs.numbers.Ranges.{IsBetween}
 use Rattle.book_model.specs.numbers.Relations.{Within}
 use Rattle.book_model.specs.programs.Leading.{Leads, leaf}
 use Rattle.book_model.specs.programs.Programs.{Program, answer, cell, integers, run, valued, outcome}
-use Rattle.book_model.specs.programs.Widths.{IsMoment, IsWithin}
+use Rattle.book_model.specs.programs.Widths.{IsMoment, IsWithin, IsRecent}
 use Rattle.book_model.specs.sky.Horizon.{part_of, quarter_of, apparent_by, near_offset_of, approximation_on, approximation_of, has_settled_of, settled_of, depression_of, dawn_of, dusk_of, universal_of, rounded_minutes_of, minutes_after_of, minutes_in_days, sunrise_of, hindu_sunset_of}
 use Rattle.book_model.specs.sky.Noon.{ahead_of}
 use Rattle.book_model.proofs.ArcPieces.{quarters}
@@ -32,7 +32,6 @@ use Rattle.book_model.proofs.FactRuns.{parts, decides}
 use Rattle.book_model.proofs.Leads.{leads_leaf, leaf_within, lies}
 use Rattle.book_model.proofs.Values.{value_proper}
 use Rattle.width_laws.proofs.Measuring.{looser}
-use Rattle.time_scales.specs.Widths.{IsRecent}
 use Rattle.rise_set.proofs.MeanMoments.{from_difference}
 
 -- ---- one approximation

@@ -1,5 +1,5 @@
 -- How close the tests of rounded minutes are, and between which the minutes of a sunrise lie.
-use Rattle.std.specs.Prelude.{◌≡◌, ℕ, ◌+◌, ◌-◌, ◌*◌, ◌^◌, true, ℤ, pos, negsuc, neg_ℤ, ◌+ℤ◌, ◌-ℤ◌, ◌*ℤ◌, ◌≤ℤ◌, Some, Result, Ok, Err, IfErr, FitsSigned, nat_lt, unsigned_abs, max, refl, if◌then◌else◌, ◌==◌}
+use Rattle.std.specs.Prelude.{◌≡◌, ℕ, ◌+◌, ◌-◌, ◌*◌, ◌^◌, true, ℤ, pos, neg_ℤ, ◌+ℤ◌, ◌-ℤ◌, ◌*ℤ◌, ◌≤ℤ◌, Some, Result, Ok, Err, IfErr, FitsSigned, nat_lt, unsigned_abs, max, refl, if◌then◌else◌, ◌==◌}
 use Rattle.std.proofs.Common.{arith, [], ◌∷◌}
 use Rattle.std.specs.Int.{w128}
 use Rattle.std.specs.Ordering.{int_eq}
@@ -39,6 +39,7 @@ use Rattle.encl_core.specs.Steps.{IsOpenFloor}
 use Rattle.rise_set.specs.Moved.{HasRoom, IsTooFar}
 use Rattle.rise_set.specs.Widths.{IsMeanMoment, IsSettled, AreMinutes}
 use Rattle.rise_set.proofs.MeanMoments.{moment_world, within_moment}
+use Rattle.book_model.specs.sky.Facts.{IsFactDay}
 
 -- ---- a floor that a whole number is added to
 about_between : (v : ℕ) (i : Interval) → IsAbout (2 ^ 90) v i → IsBetween (neg_ℤ (pos (2 ^ 58))) (pos (2 ^ 58)) i
@@ -89,13 +90,13 @@ minutes_reach : implies (bound_of (limits_at 56) settled_bounds (add (scale (fra
 unfolding implies bound_of constant_bound sum_bound difference_bound scaled_bound
 minutes_reach = refl
 
-pub day_within : {E : Type 0} (shown : E → Interval) (n : ℕ) (d : ℤ) (x : E) → n ≡ 56 → negsuc 39999999 ≤ℤ d → d ≤ℤ pos 40000000 → ((r : Reach) → Narrow shown (limits_of n) r (integer d) x) → IsAbout (40000001 * 2 ^ 32) 0 (shown x)
+pub day_within : {E : Type 0} (shown : E → Interval) (n : ℕ) (d : ℤ) (x : E) → n ≡ 56 → IsFactDay d → ((r : Reach) → Narrow shown (limits_of n) r (integer d) x) → IsAbout (40000001 * 2 ^ 32) 0 (shown x)
 unfolding Keeps bound_of integer_bound
-day_within shown n d x e h k f =
+day_within shown n d x e h f =
     let l = limits_within n (omega arith) (omega arith) in
     let z = f (record { width = 0; bounds = λ k. unbounded }) in
-    let p : nat_lt (unsigned_abs d * 2 ^ 32) (2 ^ 100) ≡ true = lt-ltb _ _ (omega (arith, ints)) in
-    looser _ _ _ _ 0 0 _ (omega (arith, ints)) (omega (arith, ints)) (omega arith) (record { kept = rw (l, e, p) at z.kept })
+    let p : nat_lt (unsigned_abs d * 2 ^ 32) (2 ^ 100) ≡ true = lt-ltb _ _ (omega (arith, ints, h.0, h.1)) in
+    looser _ _ _ _ 0 0 _ (omega (arith, ints, h.0)) (omega (arith, ints, h.1)) (omega arith) (record { kept = rw (l, e, p) at z.kept })
 
 pub minutes_within : {E : Type 0} (shown : E → Interval) (n : ℕ) (t d y : E) → n ≡ 56 → IsSettled (shown t) → IsAbout (40000001 * 2 ^ 32) 0 (shown d)
     → ((r : Reach) (p q : Expression) → Narrow shown (limits_of n) r p t → Narrow shown (limits_of n) r q d → Narrow shown (limits_of n) r (add (scale (fraction_of MINUTES_OF_DAY) (subtract p q)) (constant (fraction_of HALF))) y) → IsAbout (2 ^ 90) (2 ^ 43) (shown y)

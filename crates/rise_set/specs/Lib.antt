@@ -1,3 +1,4 @@
 pub mod Moved
 pub mod Horizons
 pub mod Widths
+pub mod Altitudes

@@ -2,16 +2,19 @@
 ghost use Rattle.book_model.specs.programs.Calls.{Encloses, Encloses1, Holds1};
 ghost use Rattle.book_model.specs.programs.Programs.{cell_at, integers};
 ghost use Rattle.book_model.specs.programs.Widths.{IsAbout, Measured1};
-ghost use Rattle.std.specs.Prelude.{◌≡◌, ◌+◌, ◌*◌, ◌/◌, ◌^◌, ◌≤ℤ◌, ℕ, pos, negsuc, Some};
+ghost use Rattle.std.specs.Prelude.{◌≡◌, ◌+◌, ◌*◌, ◌/◌, ◌^◌, ℕ, Some};
 ghost use Rattle.sun_core.specs.Widths.{IsLocalMoment};
 ghost use Rattle.rise_set.specs.Widths.{IsMeanMoment, IsNarrowHorizon, IsOffset};
 ghost use Rattle.rise_set.specs.Horizons.{FollowsHorizon};
 ghost use Rattle.book_model.specs.sky.Horizon as spec;
+ghost use Rattle.book_model.specs.sky.Facts.{IsFactDay};
 
-use crate::offsets::near_offset;
+use crate::offsets::offset_near;
 use crate::skyline::Horizon;
 use arc_series::arcsin_deg;
-use book_model::{DEGREE_IN_DAYS, Fail, QUARTER, Site, THREE_QUARTERS, Twilight};
+use book_model::location_tables::{QUARTER, THREE_QUARTERS};
+use book_model::sun_tables::DEGREE_IN_DAYS;
+use book_model::{Fail, Site, Twilight};
 use encl_core::{Enclosure, Trail, floor_step};
 use sun_core::from_apparent;
 
@@ -19,7 +22,7 @@ use sun_core::from_apparent;
 #[tactic(auto, unfolding(book_model::specs::sky::Horizon::quarter_of))]
 pub(crate) fn quarter<E: Enclosure>(twilight: Twilight, day: i64) -> E
     ensures encloses { Encloses E.shown E.BITS (spec.quarter_of twilight day) result }
-    ensures measured { E.BITS ≡ 56 → negsuc 39999999 ≤ℤ day → day ≤ℤ pos 40000000
+    ensures measured { E.BITS ≡ 56 → IsFactDay day
         → IsAbout (40000001 * 2 ^ 32) (2 ^ 8) (E.shown result) }
 {
     match twilight {
@@ -39,7 +42,7 @@ fn part_of_day<E: Enclosure>(offset: E) -> E
 #[tactic(auto, unfolding(book_model::specs::sky::Horizon::apparent_by))]
 fn apparent<E: Enclosure>(twilight: Twilight, day: i64, offset: E) -> E
     ensures holds { Holds1 E.shown (spec.apparent_by twilight day) offset result }
-    ensures measured { (v : ℕ) → E.BITS ≡ 56 → negsuc 39999999 ≤ℤ day → day ≤ℤ pos 40000000
+    ensures measured { (v : ℕ) → E.BITS ≡ 56 → IsFactDay day
         → IsOffset v (E.shown offset) → IsLocalMoment (v / 5 + 2 ^ 11) (E.shown result) }
 {
     match twilight {
@@ -64,7 +67,7 @@ fn approximation_on<E: Enclosure>(
         → Measured1 E.BITS E.shown (2 ^ 41) IsMeanMoment (λ v. IsMeanMoment (v / 20 + 2 ^ 32)) t
         result }
 {
-    let offset = near_offset(horizon, twilight, day, t, trail)?;
+    let offset = offset_near(horizon, twilight, day, t, trail)?;
     from_apparent(
         horizon.location.longitude,
         apparent(twilight, day, offset),

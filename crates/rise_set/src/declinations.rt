@@ -1,7 +1,7 @@
-//! The declination of the sun.
+//! Universal time at a longitude, and the declination of the sun.
 ghost use Rattle.book_model.specs.programs.Calls.{Encloses2, Follows1, Holds1};
 ghost use Rattle.book_model.specs.programs.Widths.{IsAbout, IsMoment, Measured1};
-ghost use Rattle.std.specs.Prelude.{◌≡◌, ◌≤◌, ◌+◌, ◌-◌, ◌^◌, ℕ, IfOk};
+ghost use Rattle.std.specs.Prelude.{◌≡◌, ◌+◌, ◌-◌, ◌^◌, ℕ, IfOk};
 ghost use Rattle.book_model.specs.numbers.Fractions.{fraction_of};
 ghost use Rattle.book_model.specs.numbers.Ranges.{IsInTable};
 ghost use Rattle.book_model.specs.sky.Horizon as spec;
@@ -9,7 +9,8 @@ ghost use Rattle.sun_core.specs.Widths.{IsNarrowPlace};
 ghost use Rattle.rise_set.specs.Widths.{IsDeclination, IsMeanDated};
 
 use arc_series::arcsin_deg;
-use book_model::{DEGREE_IN_DAYS, Fail, Frac};
+use book_model::sun_tables::DEGREE_IN_DAYS;
+use book_model::{Fail, Frac};
 use encl_core::{Enclosure, Trail};
 use sun_core::{obliquity, sun};
 use time_scales::centuries;
@@ -17,7 +18,7 @@ use trig_series::sin_deg;
 
 /// The universal time of a moment of local mean time at a longitude east of Greenwich, in degrees.
 #[tactic(auto, unfolding(book_model::specs::sky::Horizon::universal_of, book_model::specs::sky::Noon::ahead_of))]
-pub(crate) fn universal<E: Enclosure>(longitude: Frac, t: E) -> E
+pub fn universal<E: Enclosure>(longitude: Frac, t: E) -> E
     ensures holds { Holds1 E.shown (spec.universal_of (fraction_of longitude)) t result }
     ensures measured { IsNarrowPlace longitude → (v : ℕ) → E.BITS ≡ 56
         → IsAbout (2 ^ 58 - 2 ^ 32) v (E.shown t) → IsMoment (v + 2 ^ 10) (E.shown result) }

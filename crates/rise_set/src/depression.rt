@@ -3,13 +3,15 @@ ghost use Rattle.book_model.specs.programs.Calls.{Decides2, Follows1};
 ghost use Rattle.rise_set.specs.Horizons.{FollowsAt, FollowsHorizon};
 ghost use Rattle.book_model.specs.programs.Widths.{IsClose, Measured};
 ghost use Rattle.rise_set.specs.Widths.{IsDepression, IsNarrowHorizon, IsNarrowLocation, IsSettled};
-ghost use Rattle.std.specs.Prelude.{◌≡◌, ◌≤◌, ◌+◌, ◌*◌, ◌≤ℤ◌, pos, negsuc, IfErr};
+ghost use Rattle.std.specs.Prelude.{◌≡◌, IfErr};
 ghost use Rattle.book_model.specs.sky.Horizon as spec;
+ghost use Rattle.book_model.specs.sky.Facts.{IsFactDay};
 
 use crate::approximation::{approximation, quarter};
 use crate::offsets::size;
 use crate::skyline::{Horizon, horizon_at};
-use book_model::{Fail, HALF_MINUTE, Location, Site, Twilight};
+use book_model::location_tables::HALF_MINUTE;
+use book_model::{Fail, Location, Site, Twilight};
 use encl_core::{Enclosure, Trail, less_step};
 
 /// How many approximations are made at most.
@@ -58,7 +60,7 @@ fn settled<E: Enclosure>(
 
 /// The local mean time of a day (R.D.) at which the sun has the depression of a horizon: 132 tests at most.
 #[tactic(auto, using(book_model::proofs::Leads::leading), unfolding(book_model::specs::sky::Horizon::depression_of))]
-fn depressed<E: Enclosure>(
+fn moment_of_depression<E: Enclosure>(
     horizon: &Horizon<E>,
     twilight: Twilight,
     day: i64,
@@ -67,8 +69,8 @@ fn depressed<E: Enclosure>(
     ensures leads { FollowsAt E.shown
         (λ a. spec.depression_of horizon.now.location twilight a day) horizon.now trail.old.count
         trail.new.count result }
-    ensures measured { IsNarrowHorizon E.shown horizon.now → negsuc 39999999 ≤ℤ day
-        → day ≤ℤ pos 40000000 → Measured E.BITS E.shown IsSettled result }
+    ensures measured { IsNarrowHorizon E.shown horizon.now → IsFactDay day
+        → Measured E.BITS E.shown IsSettled result }
 {
     settled(
         APPROXIMATIONS,
@@ -92,10 +94,10 @@ pub fn dawn<E: Enclosure>(
     ensures leads { Follows1 E.shown (λ a. spec.dawn_of location.now a day) depression
         trail.old.count trail.new.count result }
     ensures measured { IsNarrowLocation location.now → IsDepression (E.shown depression)
-        → negsuc 39999999 ≤ℤ day → day ≤ℤ pos 40000000 → Measured E.BITS E.shown IsSettled result }
+        → IsFactDay day → Measured E.BITS E.shown IsSettled result }
 {
     let horizon = horizon_at(location, depression);
-    depressed(&horizon, Twilight::Dawn, day, trail)
+    moment_of_depression(&horizon, Twilight::Dawn, day, trail)
 }
 
 /// Dusk of a day (R.D.) at a horizon, when the sun after setting has its depression, in the same sense.
@@ -103,10 +105,10 @@ pub fn dawn<E: Enclosure>(
 pub fn dusk_at<E: Enclosure>(horizon: &Horizon<E>, day: i64, trail: &mut Trail) -> Result<E, Fail>
     ensures leads { FollowsAt E.shown (λ a. spec.dusk_of horizon.now.location a day) horizon.now
         trail.old.count trail.new.count result }
-    ensures measured { IsNarrowHorizon E.shown horizon.now → negsuc 39999999 ≤ℤ day
-        → day ≤ℤ pos 40000000 → Measured E.BITS E.shown IsSettled result }
+    ensures measured { IsNarrowHorizon E.shown horizon.now → IsFactDay day
+        → Measured E.BITS E.shown IsSettled result }
 {
-    depressed(horizon, Twilight::Dusk, day, trail)
+    moment_of_depression(horizon, Twilight::Dusk, day, trail)
 }
 
 /// Dusk of a day (R.D.) at a location, when the sun has a depression, in degrees: that at the horizon of the two.
@@ -119,7 +121,7 @@ pub fn dusk<E: Enclosure>(
     ensures leads { Follows1 E.shown (λ a. spec.dusk_of location.now a day) depression
         trail.old.count trail.new.count result }
     ensures measured { IsNarrowLocation location.now → IsDepression (E.shown depression)
-        → negsuc 39999999 ≤ℤ day → day ≤ℤ pos 40000000 → Measured E.BITS E.shown IsSettled result }
+        → IsFactDay day → Measured E.BITS E.shown IsSettled result }
 {
     let horizon = horizon_at(location, depression);
     dusk_at(&horizon, day, trail)

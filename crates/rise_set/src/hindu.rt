@@ -1,17 +1,18 @@
 //! Sunrise and sunset as the Hindu calendars take them, at Ujjain.
 ghost use Rattle.book_model.specs.programs.Calls.{Encloses, Follows};
-ghost use Rattle.book_model.specs.programs.Widths.{IsMoment, Measured};
-ghost use Rattle.std.specs.Prelude.{◌≡◌, ◌*◌, ◌^◌, ◌≤ℤ◌, pos, negsuc};
+ghost use Rattle.book_model.specs.programs.Widths.{IsMoment, Measured, IsRecent};
+ghost use Rattle.std.specs.Prelude.{◌≡◌, ◌*◌, ◌^◌, ◌≤ℤ◌, pos};
 ghost use Rattle.book_model.specs.numbers.Expressions.{constant};
 ghost use Rattle.book_model.specs.numbers.Fractions.{fraction_of};
 ghost use Rattle.book_model.specs.sky.Horizon as spec;
-ghost use Rattle.time_scales.specs.Widths.{IsRecent};
+ghost use Rattle.book_model.specs.sky.Facts.{IsFactDay};
 
 use crate::declinations::universal;
 use crate::depression::{dawn, dusk_at};
 use crate::minutes::rounded_minutes;
 use crate::skyline::{Horizon, horizon_at};
-use book_model::{Fail, Frac, HINDU_SUNRISE_DEPRESSION, MINUTES, UJJAIN};
+use book_model::location_tables::{HINDU_SUNRISE_DEPRESSION, MINUTES, UJJAIN};
+use book_model::{Fail, Frac};
 use encl_core::{Enclosure, Trail};
 use std::marker::Model;
 
@@ -34,8 +35,7 @@ fn days<E: Enclosure>(minutes: i64) -> E
 /// one at `round`. It is void where dawn is.
 #[tactic(auto, using(book_model::proofs::Leads::leading), unfolding(book_model::specs::sky::Horizon::sunrise_of))]
 pub fn sunrise<E: Enclosure>(day: i64, trail: &mut Trail) -> Result<E, Fail>
-    requires low { negsuc 39999999 ≤ℤ day }
-    requires high { day ≤ℤ pos 40000000 }
+    requires day { IsFactDay day }
     ensures leads { Follows E.shown (spec.sunrise_of day) trail.old.count trail.new.count result }
     ensures measured { Measured E.BITS E.shown (IsMoment (5 * 2 ^ 8)) result }
     ensures recent { pos 620600 ≤ℤ day → Measured E.BITS E.shown (IsRecent (5 * 2 ^ 8)) result }
@@ -78,7 +78,7 @@ impl<E: Enclosure> HinduSunsets<E> {
     pub fn on(&self, day: i64, trail: &mut Trail) -> Result<E, Fail>
         ensures leads { Follows E.shown (spec.hindu_sunset_of day) trail.old.count trail.new.count
             result }
-        ensures measured { negsuc 39999999 ≤ℤ day → day ≤ℤ pos 40000000
+        ensures measured { IsFactDay day
             → Measured E.BITS E.shown (IsMoment (9 * 2 ^ 29)) result }
         ensures recent { pos 620600 ≤ℤ day → day ≤ℤ pos 40000000
             → Measured E.BITS E.shown (IsRecent (9 * 2 ^ 29)) result }
@@ -93,7 +93,7 @@ impl<E: Enclosure> HinduSunsets<E> {
 pub fn hsunset<E: Enclosure>(day: i64, trail: &mut Trail) -> Result<E, Fail>
     ensures leads { Follows E.shown (spec.hindu_sunset_of day) trail.old.count trail.new.count
         result }
-    ensures measured { negsuc 39999999 ≤ℤ day → day ≤ℤ pos 40000000
+    ensures measured { IsFactDay day
         → Measured E.BITS E.shown (IsMoment (9 * 2 ^ 29)) result }
     ensures recent { pos 620600 ≤ℤ day → day ≤ℤ pos 40000000
         → Measured E.BITS E.shown (IsRecent (9 * 2 ^ 29)) result }

@@ -1,13 +1,16 @@
-//! Dawn, dusk and sunset at a location: when the sun stands so many degrees below the horizon, which is its depression. Each call
-//! makes the tests of its formula.
+//! Dawn, dusk and sunset at a location: when the sun stands so many degrees below the horizon, which is its depression; and how
+//! high the moon stands there. Each call makes the tests of its formula.
 //!
+//! - `universal`: the universal time of a moment of local mean time;
 //! - `declination` and `offset`: how far the sun is from the horizon;
 //! - `dawn` and `dusk`: approximations until two are less than half a minute apart;
 //! - `refraction`, `sunset`: the depression of the sun's upper edge, and when it sets;
 //! - `sunrise`, `hsunset`: sunrise and sunset at Ujjain as the Hindu calendars take them;
+//! - `altitude_sine`: the sine of the moon's altitude;
 //! - `Horizon` with `dusk_at`, `Sunsets`, `HinduSunsets`: the same of many days, with what a location asks for computed once.
 #![tactic(auto)]
 
+mod altitude;
 mod approximation;
 mod declinations;
 mod depression;
@@ -17,7 +20,8 @@ mod offsets;
 mod skyline;
 mod sunsets;
 
-pub use declinations::declination;
+pub use altitude::altitude_sine;
+pub use declinations::{declination, universal};
 pub use depression::{dawn, dusk, dusk_at};
 pub use hindu::{HinduSunsets, hsunset, sunrise};
 pub use offsets::offset;

@@ -2,21 +2,24 @@
 ghost use Rattle.book_model.specs.programs.Calls.{Decides1, Holds1};
 ghost use Rattle.book_model.specs.programs.Widths.{IsAbout, IsClose, most_apart};
 ghost use Rattle.std.specs.Int.{w128};
-ghost use Rattle.std.specs.Prelude.{◌≡◌, ◌≤◌, ◌^◌, ◌*ℤ◌, ◌+ℤ◌, ◌-ℤ◌, ◌≤ℤ◌, ℕ, pos, negsuc, neg_ℤ, FitsSigned, IfOk, IfErr, IfSome, IsSome};
+ghost use Rattle.std.specs.Prelude.{◌≡◌, ◌≤◌, ◌^◌, ◌*ℤ◌, ◌+ℤ◌, ◌-ℤ◌, ◌≤ℤ◌, ℕ, pos, neg_ℤ, FitsSigned, IfOk, IfErr, IfSome, IsSome};
 ghost use Rattle.book_model.specs.numbers.Expressions.{add, integer};
 ghost use Rattle.book_model.specs.sky.Horizon as spec;
 ghost use Rattle.book_model.specs.programs.Programs.{answer, cell, integers};
 ghost use Rattle.rise_set.specs.Moved.{AreMoved, AreOf128Bits, HasRoom, IsBeside, IsTooFar};
 ghost use Rattle.rise_set.specs.Widths.{IsSettled};
+ghost use Rattle.book_model.specs.sky.Facts.{IsFactDay};
 
-use book_model::{Fail, HALF, MINUTES, MINUTES_OF_DAY, Site, Undecided};
+use book_model::location_tables::{MINUTES, MINUTES_OF_DAY};
+use book_model::tables::HALF;
+use book_model::{Fail, Site, Undecided};
 use encl_core::{Enclosure, Trail, floor_step};
 
 /// One, in 2⁻⁵⁶.
 const PARTS_OF_ONE: i128 = 72_057_594_037_927_936;
 
 /// A number that counts 2⁻⁵⁶ with a whole number added, where it has 128 bits.
-fn end_beside(end: i128, whole: i64) -> Option<i128>
+fn shifted_end(end: i128, whole: i64) -> Option<i128>
     ensures end { IfSome result (λ e. e ≡ end +ℤ whole *ℤ pos 72057594037927936) }
     ensures found { FitsSigned w128 (end +ℤ whole *ℤ pos 72057594037927936) → IsSome result }
 {
@@ -24,7 +27,7 @@ fn end_beside(end: i128, whole: i64) -> Option<i128>
 }
 
 /// The open test of a number, where a whole number is added to it; with ends that have no 128 bits it has none.
-fn beside(at: Undecided, whole: i64) -> Undecided
+fn shifted_by(at: Undecided, whole: i64) -> Undecided
     ensures turn { result.turn ≡ at.turn }
     ensures site { result.site ≡ at.site }
     ensures moved { AreMoved whole at.lo at.hi result.lo result.hi }
@@ -37,8 +40,8 @@ fn beside(at: Undecided, whole: i64) -> Undecided
         lo: i128::MIN,
         hi: i128::MAX,
     };
-    if let Some(lo) = end_beside(at.lo, whole) {
-        if let Some(hi) = end_beside(at.hi, whole) {
+    if let Some(lo) = shifted_end(at.lo, whole) {
+        if let Some(hi) = shifted_end(at.hi, whole) {
             moved.lo = lo;
             moved.hi = hi;
         }
@@ -47,13 +50,13 @@ fn beside(at: Undecided, whole: i64) -> Undecided
 }
 
 /// The failure of the test of a number, where a whole number is added to it.
-fn failing_beside(fail: Fail, whole: i64) -> Fail
+fn shifted_failure(fail: Fail, whole: i64) -> Fail
     ensures beside { IsBeside whole fail result }
     ensures bits { AreOf128Bits result }
     ensures close { HasRoom whole fail → IsClose fail → IsClose result }
 {
     match fail {
-        Fail::Undecided(at) => Fail::Undecided(beside(at, whole)),
+        Fail::Undecided(at) => Fail::Undecided(shifted_by(at, whole)),
         Fail::Void(site) => Fail::Void(site),
     }
 }
@@ -76,7 +79,12 @@ fn sum(whole: i64, floor: i64, site: Site, turn: u32) -> Result<i64, Fail>
 
 /// The floor of a whole number and an enclosed one, as one test of both: what is enclosed stays small, so that it is narrow.
 #[tactic(auto)]
-fn floor_beside<E: Enclosure>(whole: i64, x: E, site: Site, trail: &mut Trail) -> Result<i64, Fail>
+fn floor_of_shifted<E: Enclosure>(
+    whole: i64,
+    x: E,
+    site: Site,
+    trail: &mut Trail,
+) -> Result<i64, Fail>
     ensures leads { Decides1 E.shown (λ e. cell site integers (add (integer whole) e) answer) x
         trail.old.count trail.new.count result }
     ensures close { (v : ℕ) → v ≤ most_apart site → IsAbout (2 ^ 90) v (E.shown x)
@@ -84,14 +92,14 @@ fn floor_beside<E: Enclosure>(whole: i64, x: E, site: Site, trail: &mut Trail) -
 {
     match floor_step(x, site, trail) {
         Ok(floor) => sum(whole, floor, site, trail.count()),
-        Err(fail) => Err(failing_beside(fail, whole)),
+        Err(fail) => Err(shifted_failure(fail, whole)),
     }
 }
 
 /// The minutes from the beginning of a day (R.D.) to a moment of it, and a half.
 fn minutes_after<E: Enclosure>(day: i64, t: E) -> E
     ensures holds { Holds1 E.shown (spec.minutes_after_of day) t result }
-    ensures measured { E.BITS ≡ 56 → negsuc 39999999 ≤ℤ day → day ≤ℤ pos 40000000
+    ensures measured { E.BITS ≡ 56 → IsFactDay day
         → IsSettled (E.shown t) → IsAbout (2 ^ 90) (2 ^ 43) (E.shown result) }
 {
     t.sub(E::from_int(day))
@@ -102,13 +110,12 @@ fn minutes_after<E: Enclosure>(day: i64, t: E) -> E
 /// The minutes from the day of R.D. 0 to a moment of a day, rounded: one test, at `round`.
 #[tactic(auto, unfolding(book_model::specs::sky::Horizon::rounded_minutes_of))]
 pub(crate) fn rounded_minutes<E: Enclosure>(day: i64, t: E, trail: &mut Trail) -> Result<i64, Fail>
-    requires low { negsuc 39999999 ≤ℤ day }
-    requires high { day ≤ℤ pos 40000000 }
+    requires day { IsFactDay day }
     ensures leads { Decides1 E.shown (spec.rounded_minutes_of day) t trail.old.count trail.new.count
         result }
     ensures close { E.BITS ≡ 56 → IsSettled (E.shown t) → IfErr result IsClose }
 {
-    floor_beside(
+    floor_of_shifted(
         i64::from(MINUTES) * day,
         minutes_after(day, t),
         Site::Round,

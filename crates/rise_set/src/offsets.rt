@@ -126,7 +126,7 @@ fn reached_offset<E: Enclosure>(horizon: &Horizon<E>, t: E, trail: &mut Trail) -
 
 /// Where the offset is taken anew: as a day (R.D.) begins, for dawn, and as it ends, for dusk.
 #[tactic(auto, unfolding(book_model::specs::sky::Horizon::edge_of))]
-fn edge<E: Enclosure>(twilight: Twilight, day: i64) -> E
+fn edge_of_day<E: Enclosure>(twilight: Twilight, day: i64) -> E
     ensures holds { Holds E.shown (spec.edge_of twilight day) result }
 {
     match twilight {
@@ -137,7 +137,7 @@ fn edge<E: Enclosure>(twilight: Twilight, day: i64) -> E
 
 /// An offset, or, where the sun doesn't come to the depression, that at the edge of the day: four tests at most.
 #[tactic(auto, using(book_model::proofs::Leads::leading), unfolding(book_model::specs::sky::Horizon::or_at_edge))]
-fn or_at_edge<E: Enclosure>(
+fn offset_or_at_edge<E: Enclosure>(
     horizon: &Horizon<E>,
     twilight: Twilight,
     day: i64,
@@ -151,7 +151,7 @@ fn or_at_edge<E: Enclosure>(
     ensures inside { out ≡ false → result ≡ Ok offset }
 {
     if out {
-        reached_offset(horizon, edge(twilight, day), trail)
+        reached_offset(horizon, edge_of_day(twilight, day), trail)
     } else {
         Ok(offset)
     }
@@ -160,7 +160,7 @@ fn or_at_edge<E: Enclosure>(
 /// The offset at a moment of local mean time of a day (R.D.), or at the edge of the day where the sun doesn't come to the
 /// depression then: eight tests at most. It is void at `offset` where it doesn't come to it there either.
 #[tactic(auto, using(book_model::proofs::Leads::leading), unfolding(book_model::specs::sky::Horizon::near_offset_of))]
-pub(crate) fn near_offset<E: Enclosure>(
+pub(crate) fn offset_near<E: Enclosure>(
     horizon: &Horizon<E>,
     twilight: Twilight,
     day: i64,
@@ -177,5 +177,5 @@ pub(crate) fn near_offset<E: Enclosure>(
 {
     let there = offset_at(horizon, t, trail)?;
     let out = is_out_of_reach(there, trail)?;
-    or_at_edge(horizon, twilight, day, there, out, trail)
+    offset_or_at_edge(horizon, twilight, day, there, out, trail)
 }

@@ -1,16 +1,18 @@
 //! Sunset, and by how many degrees the sun stands below the horizon then.
 ghost use Rattle.book_model.specs.programs.Calls.{Encloses, Follows, Holds, Narrows};
 ghost use Rattle.book_model.specs.programs.Widths.{IsMoment, IsWithin, Measured};
-ghost use Rattle.std.specs.Prelude.{◌≡◌, ◌+◌, ◌*◌, ◌^◌, ◌≤ℤ◌, pos, negsuc};
+ghost use Rattle.std.specs.Prelude.{◌≡◌, ◌+◌, ◌*◌, ◌^◌, pos};
 ghost use Rattle.rise_set.specs.Widths.{IsDepression, IsNarrowLocation};
 ghost use Rattle.book_model.specs.numbers.Fractions.{fraction_of};
 ghost use Rattle.book_model.specs.sky.Horizon as spec;
+ghost use Rattle.book_model.specs.sky.Facts.{IsFactDay};
 
 use crate::declinations::universal;
 use crate::depression::dusk_at;
 use crate::skyline::{Horizon, horizon_at};
 use arc_series::arccos_deg;
-use book_model::{EARTH_RADIUS, Fail, Frac, HALF_SUN, Location, REFRACTION, REFRACTION_OF_HEIGHT};
+use book_model::location_tables::{EARTH_RADIUS, HALF_SUN, REFRACTION, REFRACTION_OF_HEIGHT};
+use book_model::{Fail, Frac, Location};
 use encl_core::{Enclosure, Trail};
 use std::marker::Model;
 
@@ -100,8 +102,8 @@ impl<E: Enclosure> Sunsets<E> {
     pub fn on(&self, day: i64, trail: &mut Trail) -> Result<E, Fail>
         ensures leads { Follows E.shown (spec.sunset_of self.now day) trail.old.count
             trail.new.count result }
-        ensures measured { IsNarrowLocation self.now → negsuc 39999999 ≤ℤ day
-            → day ≤ℤ pos 40000000 → Measured E.BITS E.shown (IsMoment (9 * 2 ^ 29)) result }
+        ensures measured { IsNarrowLocation self.now → IsFactDay day
+            → Measured E.BITS E.shown (IsMoment (9 * 2 ^ 29)) result }
     {
         let t = dusk_at(&self.horizon, day, trail)?;
         Ok(universal(self.horizon.location.longitude, t))
@@ -113,7 +115,7 @@ impl<E: Enclosure> Sunsets<E> {
 pub fn sunset<E: Enclosure>(location: &Location, day: i64, trail: &mut Trail) -> Result<E, Fail>
     ensures leads { Follows E.shown (spec.sunset_of location.now day) trail.old.count
         trail.new.count result }
-    ensures measured { IsNarrowLocation location.now → negsuc 39999999 ≤ℤ day → day ≤ℤ pos 40000000
+    ensures measured { IsNarrowLocation location.now → IsFactDay day
         → Measured E.BITS E.shown (IsMoment (9 * 2 ^ 29)) result }
 {
     let sunsets = Sunsets::<E>::new(location);

@@ -6,8 +6,8 @@ use Rattle.std.proofs.lemmas.Int.{ints}
 use Rattle.std.proofs.lemmas.List.Folds.{list_all-append}
 use Rattle.std.specs.List.{list_all}
 use Rattle.std.specs.Prelude.{Ok, Some, None, Option, codes, pos, ℤ, ◌+ℤ◌, ◌*ℤ◌, int_le, ◌==◌}
-use Rattle.almanac_core.specs.Sample.{state_after, day_by, asked_at, sample_line_of}
-use Rattle.almanac_core.proofs.Samples.{day_low, day_high}
+use Rattle.almanac_core.specs.Sample.{state_after, day_by, asked_at, sample_line_of, IsSampleDay}
+use Rattle.almanac_core.proofs.Samples.{sample_day}
 use Rattle.almanac_lines.specs.Texts.{line_text, sample_from}
 use Rattle.book_model.specs.declared.calendar.Calendar.TheVariants as calendars
 use Rattle.book_model.specs.declared.fact.Fact.{Fact}
@@ -15,16 +15,18 @@ use Rattle.book_model.specs.declared.request.Fields.{Fields}
 use Rattle.book_model.specs.declared.request.Request.{Request}
 use Rattle.book_model.specs.declared.request.Resolved.{Resolved}
 use Rattle.book_model.specs.declared.request.Resolved.TheVariants.{Shown}
-use Rattle.book_model.specs.declared.words.Shown.{Shown as WhatIsShown}
-use Rattle.book_model.specs.declared.words.Shown.TheVariants.{Date, Value}
+use Rattle.book_model.specs.declared.version.TheConstants.{WRITTEN}
+use Rattle.book_model.specs.declared.words.Meaning.{Meaning}
+use Rattle.book_model.specs.declared.words.Meaning.TheVariants.{Date, Value}
 use Rattle.book_model.specs.declared.words.FromWord.TheVariants as from
 use Rattle.book_model.specs.declared.words.ToWord.{ToWord}
 use Rattle.book_model.specs.declared.words.ToWord.TheVariants as to
 use Rattle.book_model.specs.calendars.Dates.{row_of, may_have, is_answered, year_number, one_field, date_on}
 use Rattle.book_model.specs.sky.Facts.{run_of}
+use Rattle.book_model.specs.calendars.Versions.{days_in, is_in_range}
 use Rattle.book_model.specs.calendars.Inquiries.{Inquiry, done, ask, and_then, found, found_at, finding, finding_after, with_entry}
 use Rattle.book_model.specs.lines.LineRules.{rule_of, result_of_day, result_within, shown_on, fact_on}
-use Rattle.book_model.specs.lines.Outcomes.{LineOutcome, refused, resolved, undecided, void, IsRightFor, AreRight, is_shown}
+use Rattle.book_model.specs.lines.Outcomes.{LineOutcome, refused, resolved, undecided, void, IsRightFor, IsRightForRow, AreRight, is_shown}
 use Rattle.book_model.specs.programs.Programs.{Outcome, outcome, valued, void_at, open_at}
 use Rattle.book_model.specs.lines.Lines.{is_plain, parts_of, onto_first, number_of, value_from}
 use Rattle.book_model.specs.lines.Requests.{request_of, asked_by, fields_of, fields_with, ranged}
@@ -86,7 +88,7 @@ number_read n h =
 -- ---- the request of a line
 
 -- a day number as the fields of a date that is answered
-fixed_may : (n : ℕ) → n ≤ 748017 → may_have calendars.Fixed (fields_with (n ∷ [])) ≡ true
+fixed_may : (n : ℕ) → n < 1000000 → may_have calendars.Fixed (fields_with (n ∷ [])) ≡ true
 unfolding may_have
 fixed_may n high =
     let low : nat_le 0 n ≡ true = grind (arith, nat_tests) in
@@ -104,19 +106,25 @@ fixed_year : (n : ℕ) → year_number (row_of calendars.Fixed) (fields_with (n 
 unfolding year_number
 fixed_year n = sum_of_nothing (pos 0 *ℤ pos n) (nothing_counted (pos n))
 
-fixed_answered : (n : ℕ) → 657802 ≤ n → n ≤ 748017 → is_answered calendars.Fixed (fields_with (n ∷ [])) ≡ true
-unfolding is_answered
-fixed_answered n low high =
-    let from_first : int_le (pos 657802) (pos n) ≡ true = grind (arith, ints, nat_tests) in
-    let to_last : int_le (pos n) (pos 748017) ≡ true = grind (arith, ints, nat_tests) in
-    rw (fixed_year n, from_first, to_last) refl
+-- a line may name the days of a sample
+in_range : (n : ℕ) → IsSampleDay n → is_in_range WRITTEN (pos n) ≡ true
+in_range n day =
+    let low = day.0 in
+    let high = day.1 in
+    let from_first : int_le (days_in WRITTEN).0 (pos n) ≡ true = grind (arith, ints, nat_tests) in
+    let to_last : int_le (pos n) (days_in WRITTEN).1 ≡ true = grind (arith, ints, nat_tests) in
+    rw (from_first, to_last) refl
 
-fixed_fields : (n : ℕ) → 657802 ≤ n → n ≤ 748017 → ranged calendars.Fixed (fields_of calendars.Fixed (decimal n)) ≡ Ok (fields_with (n ∷ []))
+fixed_answered : (n : ℕ) → IsSampleDay n → is_answered WRITTEN calendars.Fixed (fields_with (n ∷ [])) ≡ true
+unfolding is_answered
+fixed_answered n day = rw (fixed_year n, in_range n day) refl
+
+fixed_fields : (n : ℕ) → IsSampleDay n → ranged WRITTEN calendars.Fixed (fields_of calendars.Fixed (decimal n)) ≡ Ok (fields_with (n ∷ []))
 unfolding fields_of
-fixed_fields n low high =
-    let small : n < 1000000 = omega arith in
+fixed_fields n day =
+    let small : n < 1000000 = omega (arith, day.1) in
     let parts = one_part (decimal n) (all_digits 0 n (decimal n) (value_of_decimal n small)) in
-    rw (parts, number_read n small, fixed_may n high, fixed_answered n low high) refl
+    rw (parts, number_read n small, fixed_may n small, fixed_answered n day) refl
 
 -- ---- the words of a line
 
@@ -165,12 +173,13 @@ unfolding line_text dashed_text
 day_line n to = simp append-nil
 
 -- which ask for the day again
-day_asked : (n : ℕ) (to : ToWord) → 657802 ≤ n → n ≤ 748017 → asked_by (codes "fixed" ∷ decimal n ∷ text_of_to to ∷ []) ≡ Ok (day_request n to)
-day_asked n to low high = rw (to_found to, fixed_fields n low high) refl
+day_asked : (n : ℕ) (to : ToWord) → IsSampleDay n → asked_by WRITTEN (codes "fixed" ∷ decimal n ∷ text_of_to to ∷ []) ≡ Ok (day_request n to)
+day_asked n to day = rw (to_found to, fixed_fields n day) refl
 
-day_again : (n : ℕ) (to : ToWord) → 657802 ≤ n → n ≤ 748017 → request_of (line_text (day_request n to)) ≡ Ok (day_request n to)
+day_again : (n : ℕ) (to : ToWord) → IsSampleDay n → request_of WRITTEN (line_text (day_request n to)) ≡ Ok (day_request n to)
 unfolding request_of
-day_again n to low high =
+day_again n to day =
+    let small : n < 1000000 = omega (arith, day.1) in
     let digits : IsWord (decimal n) = record { some = decimal_some n (omega arith); printed = decimal_printed n (omega arith) } in
     let few : length (decimal n) ≤ 6 = length-decimal-le 6 n (omega arith) (omega arith) (omega arith) in
     let asked = asked_word to in
@@ -178,7 +187,7 @@ day_again n to low high =
     let plain : list_all is_plain (codes "fixed" ++ spaced (decimal n ∷ text_of_to to ∷ [])) ≡ true = rw (plain_spaced (decimal n ∷ text_of_to to ∷ []) (digits, (asked.is_word, tt))) refl in
     let long : length (codes "fixed" ++ spaced (decimal n ∷ text_of_to to ∷ [])) ≤ 200 = omega (arith, few, asked.short, length-append (decimal n) (32 ∷ (text_of_to to ++ [])), length-append (text_of_to to) []) in
     let short : nat_le (length (codes "fixed" ++ spaced (decimal n ∷ text_of_to to ∷ []))) 200 ≡ true = grind (arith, nat_tests) in
-    rw (day_line n to, words, plain, short) (day_asked n to low high)
+    rw (day_line n to, words, plain, short) (day_asked n to day)
 
 -- ---- what a line comes to
 
@@ -203,35 +212,33 @@ value_found n f to x es h = by (outcome (run_of n f)) h
     by (void_at s) k = absurd (cc)
     by (open_at s) k = absurd (cc)
 
-result_shown : (n : ℕ) (to : ToWord) (s : WhatIsShown) (day : ℤ) (x : Resolved) (es : List (Fact × ℤ)) → finding n (shown_on to s day) ≡ found x es → is_shown x ≡ true
+result_shown : (n : ℕ) (to : ToWord) (s : Meaning) (day : ℤ) (x : Resolved) (es : List (Fact × ℤ)) → finding n (shown_on to s day) ≡ found x es
+    → is_shown x ≡ true
 result_shown n to (Date c) day x es h = shown_found n [] (date_on c day) to x es h
 result_shown n to (Value kind place) day x es h = value_found n (fact_on kind place day) to x es h
 
-day_rule : (n : ℕ) (to : ToWord) → 657802 ≤ n → n ≤ 748017 → rule_of (day_request n to) ≡ shown_on to (shown_by to) (pos n)
+day_rule : (n : ℕ) (to : ToWord) → IsSampleDay n → rule_of WRITTEN (day_request n to) ≡ shown_on to (shown_by to) (pos n)
 unfolding rule_of result_of_day result_within and_then
-day_rule n to low high =
-    let from_first : int_le (pos 657802) (pos n) ≡ true = grind (arith, ints, nat_tests) in
-    let to_last : int_le (pos n) (pos 748017) ≡ true = grind (arith, ints, nat_tests) in
-    rw (from_first, to_last) refl
+day_rule n to day = rw (in_range n day) refl
 
-day_not_refused : (n : ℕ) (to : ToWord) (o : LineOutcome) → 657802 ≤ n → n ≤ 748017 → IsRightFor (line_text (day_request n to)) o → is_refused o ≡ false
-day_not_refused n to (refused rule) low high h = let again = day_again n to low high in absurd (cc)
-day_not_refused n to (undecided f u) low high h = refl
-day_not_refused n to (void f s) low high h = refl
-day_not_refused n to (resolved x es) low high h =
-    let again = day_again n to low high in
-    let asked = h.asked in
-    let same : h.request ≡ day_request n to = cc in
-    let result : finding 40 (rule_of h.request) ≡ found x es = h.at_each_depth 40 (omega arith) in
-    let shown : is_shown x ≡ true = result_shown 40 to (shown_by to) (pos n) x es (rw (same, day_rule n to low high) at result) in
+request_not_refused : (n : ℕ) (to : ToWord) (o : LineOutcome) → IsSampleDay n → IsRightForRow WRITTEN (Ok (day_request n to)) o → is_refused o ≡ false
+request_not_refused n to (refused rule) day h = absurd h
+request_not_refused n to (undecided f u) day h = refl
+request_not_refused n to (void f s) day h = refl
+request_not_refused n to (resolved x es) day h =
+    let result : finding 40 (rule_of WRITTEN (day_request n to)) ≡ found x es = h.at_each_depth 40 (omega arith) in
+    let shown : is_shown x ≡ true = result_shown 40 to (shown_by to) (pos n) x es (rw (day_rule n to day) at result) in
     rw shown refl
 
--- the line of a state
-sample_not_refused : (state index : ℕ) (o : LineOutcome) → IsRightFor (line_text (sample_line_of state index)) o → is_refused o ≡ false
-unfolding sample_line_of
-sample_not_refused state index o h = day_not_refused (day_by state) (asked_at index) o (day_low state) (day_high state) h
+day_not_refused : (n : ℕ) (to : ToWord) (o : LineOutcome) → IsSampleDay n → IsRightFor WRITTEN (line_text (day_request n to)) o → is_refused o ≡ false
+day_not_refused n to o day h = request_not_refused n to o day (rw (day_again n to day) at h)
 
-none_refused : (many state index : ℕ) (os : List LineOutcome) → AreRight (sample_from state index many) os → length (filter is_refused os) ≡ 0
+-- the line of a state
+sample_not_refused : (state index : ℕ) (o : LineOutcome) → IsRightFor WRITTEN (line_text (sample_line_of state index)) o → is_refused o ≡ false
+unfolding sample_line_of
+sample_not_refused state index o h = day_not_refused (day_by state) (asked_at index) o (sample_day state) h
+
+none_refused : (many state index : ℕ) (os : List LineOutcome) → AreRight WRITTEN (sample_from state index many) os → length (filter is_refused os) ≡ 0
 none_refused zero state index [] h = refl
 none_refused zero state index (o ∷ os) h = absurd h
 none_refused (suc many) state index [] h = absurd h

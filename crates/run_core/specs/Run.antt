@@ -3,6 +3,7 @@ use Rattle.std.specs.Prelude.{◌≡◌, ◌<◌, ◌≤◌, ℕ, Bool, true, fa
 use Rattle.std.specs.List.{list_all}
 use Rattle.std.specs.declared.option.Option.{Option}
 use Rattle.std.specs.Io.KnownBytes.{Appends, Consumes, IsAtEnd}
+use Rattle.book_model.specs.declared.version.TheConstants.{WRITTEN}
 use Rattle.book_model.specs.lines.Lines.{lines_of}
 use Rattle.book_model.specs.lines.Outcomes.{LineOutcome, AreRight, is_result}
 use Rattle.book_model.specs.lines.Text.{text}
@@ -37,14 +38,14 @@ usage = codes "usage: calendrica convert | check | almanac YEAR | sample COUNT S
 -- the whole text stands behind what the sink held, each outcome right for its line
 pub record Printed (old new : Option (List ℕ)) (lines : List (List ℕ)) (all_results : Bool) : Type 0 where
   pub outcomes : List LineOutcome
-  pub right : AreRight lines outcomes
+  pub right : AreRight WRITTEN lines outcomes
   pub written : Appends old new (text lines outcomes)
   pub results : all_results ≡ list_all is_result outcomes
 
 -- a front of such a text stands there
 pub record CutShort (old new : Option (List ℕ)) (lines : List (List ℕ)) : Type 0 where
   pub outcomes : List LineOutcome
-  pub right : AreRight lines outcomes
+  pub right : AreRight WRITTEN lines outcomes
   pub front : AppendsFront old new (text lines outcomes)
 
 -- the source gave these bytes and no more, and they are within the limit

@@ -5,6 +5,7 @@ use Rattle.std.specs.declared.option.Option.{Option}
 use Rattle.std.specs.Io.KnownBytes.{Appends}
 use Rattle.almanac_lines.specs.Texts.{sample_lines}
 use Rattle.book_model.specs.declared.fact.Fact.{Fact}
+use Rattle.book_model.specs.declared.version.TheConstants.{WRITTEN}
 use Rattle.book_model.specs.lines.Outcomes.{LineOutcome, refused, resolved, undecided, void, AreRight, is_shown, is_result}
 use Rattle.book_model.specs.lines.Text.{seen_after}
 use Rattle.byte_streams.specs.Stream.{AppendsFront}
@@ -55,12 +56,12 @@ sample_text count seed os = counts_text count seed (length (filter is_result os)
 -- the counts of the lines of a sample stand behind what the sink held, each outcome right for its line
 pub record Sampled (old new : Option (List ℕ)) (count seed : ℕ) (all_results : Bool) : Type 0 where
   pub outcomes : List LineOutcome
-  pub right : AreRight (sample_lines count seed) outcomes
+  pub right : AreRight WRITTEN (sample_lines count seed) outcomes
   pub written : Appends old new (sample_text count seed outcomes)
   pub results : all_results ≡ list_all is_result outcomes
 
 -- a front of such a line stands there
 pub record SampleCutShort (old new : Option (List ℕ)) (count seed : ℕ) : Type 0 where
   pub outcomes : List LineOutcome
-  pub right : AreRight (sample_lines count seed) outcomes
+  pub right : AreRight WRITTEN (sample_lines count seed) outcomes
   pub front : AppendsFront old new (sample_text count seed outcomes)

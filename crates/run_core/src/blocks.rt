@@ -1,6 +1,7 @@
 //! What is printed for one line of input: its new facts, and then the line.
 ghost use Rattle.std.specs.Prelude.{◌≡◌, ◌≤◌, ◌+◌, ◌^◌, ◌∷◌, [], ℕ, List, length, IfOk, OnOk};
 ghost use Rattle.book_model.specs.declared.fact.Fact.{Fact as FactOf};
+ghost use Rattle.book_model.specs.declared.version.TheConstants.{WRITTEN};
 ghost use Rattle.book_model.specs.lines.Lines.{words_of};
 ghost use Rattle.book_model.specs.lines.Outcomes.{IsRightFor, resolved as resolved_outcome};
 ghost use Rattle.book_model.specs.lines.Text as model;
@@ -116,7 +117,7 @@ pub(crate) fn block_of(
     line: &[u8],
     outcome: &Outcome,
 ) -> Result<Block, AllocError>
-    requires right { IsRightFor line.now (line_outcome outcome.now) }
+    requires right { IsRightFor WRITTEN line.now (line_outcome outcome.now) }
     ensures text { IfOk result (λ b. cert.block_text b ≡ model.block_text seen.old.keys number
         line.now (line_outcome outcome.now)) }
     ensures few { IfOk result (λ b. b.first + length b.facts ≤ 2 ^ 32) }

@@ -1,5 +1,6 @@
 //! What comes of each line.
 ghost use Rattle.std.specs.Prelude.{◌≤◌, map, IfOk};
+ghost use Rattle.book_model.specs.declared.version.TheConstants.{WRITTEN};
 ghost use Rattle.book_model.specs.lines.Outcomes.{AreRight};
 ghost use Rattle.jobs_core.specs.Outcomes.{line_outcome};
 
@@ -22,7 +23,7 @@ pub fn outcomes_of<R: Threads + Sync, E: Evaluator + Sync, G: Gate + Sync>(
 ) -> Result<Outcomes, AllocError>
     requires some { 1 ≤ jobs }
     requires few { jobs ≤ 64 }
-    ensures { IfOk result (λ outcomes. AreRight (map (λ line. line.now) lines.now)
+    ensures { IfOk result (λ outcomes. AreRight WRITTEN (map (λ line. line.now) lines.now)
         (map line_outcome outcomes.items)) }
 {
     let rows = rows_of(alloc, lines)?;

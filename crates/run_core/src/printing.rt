@@ -3,6 +3,7 @@ ghost use Rattle.std.specs.Prelude.{◌≡◌, ◌≤◌, ◌⊎◌, map, IfOk, 
 ghost use Rattle.std.specs.Io.KnownBytes.{Keeps};
 ghost use Rattle.std.specs.List.{list_all};
 ghost use Rattle.almanac_lines.specs.Texts as texts;
+ghost use Rattle.book_model.specs.calendars.Versions.{IsAlmanacYear};
 ghost use Rattle.book_model.specs.lines.Lines.{lines_of};
 ghost use Rattle.book_model.specs.lines.Outcomes.{is_result, is_shown as shown_in};
 ghost use Rattle.byte_streams.specs.Stream.{Rose};
@@ -124,8 +125,7 @@ pub(crate) fn almanac<R: Threads + Sync, K: Sink, E: Evaluator + Sync, G: Gate +
 ) -> Result<bool, WriteStop>
     requires some { 1 ≤ jobs }
     requires few { jobs ≤ 64 }
-    requires from { 1803 ≤ year }
-    requires to { year ≤ 2047 }
+    requires year { IsAlmanacYear year }
     ensures ok { IfOk result (λ all. Printed (K.written sink.old) (K.written sink.new)
         (texts.almanac_lines year) all) }
     ensures fault { IsErrOf result WriteStop.Fault → CutShort (K.written sink.old)

@@ -1,5 +1,6 @@
 //! Writes the text of lines and their outcomes, block by block.
 ghost use Rattle.std.specs.Prelude.{◌≡◌, ◌≤◌, ◌<◌, ◌+◌, ◌++◌, [], List, ℕ, map, length, OnOk, IsErrOf};
+ghost use Rattle.book_model.specs.declared.version.TheConstants.{WRITTEN};
 ghost use Rattle.book_model.specs.lines.Outcomes.{IsRightFor, AreRight};
 ghost use Rattle.book_model.specs.lines.Text as spec;
 ghost use Rattle.byte_streams.specs.Stream.{Rose, Wrote};
@@ -51,7 +52,7 @@ fn put_block<K: Sink>(
     line: &[u8],
     outcome: &Outcome,
 ) -> Result<(), WriteStop>
-    requires { IsRightFor line.now (line_outcome outcome.now) }
+    requires { IsRightFor WRITTEN line.now (line_outcome outcome.now) }
     ensures ok { OnOk result (Wrote (K.written sink.old) (K.written sink.new)
         (pending.old.bytes.items ++ spec.block_text seen.old.keys (count + 1) line.now
         (line_outcome outcome.now)) pending.new.bytes.items) }
@@ -109,7 +110,8 @@ fn put_blocks<K: Sink>(
     outcomes: &[Outcome],
 ) -> Result<(), WriteStop>
     requires same { length lines.now ≡ length outcomes.now }
-    requires right { AreRight (map (λ line. line.now) lines.now) (map line_outcome outcomes.now) }
+    requires right { AreRight WRITTEN (map (λ line. line.now) lines.now)
+        (map line_outcome outcomes.now) }
     ensures ok { WritesAll K.written sink.old sink.new (pending.old.bytes.items ++ spec.text_from [] 0
         (map (λ line. line.now) lines.now) (map line_outcome outcomes.now)) result }
     ensures err { WritesFront K.written sink.old sink.new
@@ -136,7 +138,8 @@ pub fn write_text<K: Sink>(
     outcomes: &[Outcome],
 ) -> Result<(), WriteStop>
     requires same { length lines.now ≡ length outcomes.now }
-    requires right { AreRight (map (λ line. line.now) lines.now) (map line_outcome outcomes.now) }
+    requires right { AreRight WRITTEN (map (λ line. line.now) lines.now)
+        (map line_outcome outcomes.now) }
     ensures ok { WritesAll K.written sink.old sink.new (spec.text (map (λ line. line.now) lines.now)
         (map line_outcome outcomes.now)) result }
     ensures err { WritesFront K.written sink.old sink.new

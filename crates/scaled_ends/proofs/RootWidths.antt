@@ -180,22 +180,36 @@ limited_by false w b i h = tt
 digits_of : (n : ℕ) → n < 2 ^ 58 → IsRoot (n * 2 ^ 32) (root_by_digits 48 (n * 2 ^ 32))
 digits_of n h = digits_are 48 (n * 2 ^ 32) (omega (arith, h))
 
+-- the roots of numbers up to b lie from 0 to h, and so are no further apart than that
+roots_within : (scale : Scale) → (a b s k w h : ℕ) (x y lo hi : ℤ) → AreKept scale (pos a) (pos b) s k w x y → AreRoots scale x y lo hi → b * 2 ^ 32 < h * h → AreKept scale (pos 0) (pos h) 0 (h * 2 ^ 32) w lo hi
+roots_within coarse a b s k w h x y lo (negsuc hi) n r f = absurd (omega (arith, ints, r.natural, r.ordered))
+roots_within fine a b s k w h x y lo (negsuc hi) n r f = absurd (omega (arith, ints, r.natural, r.ordered))
+roots_within coarse a b s k w h x y lo (pos zero) n r f = record { ordered = r.ordered; above = omega (arith, ints, r.natural); below = omega (arith, ints); close = omega (arith, ints, r.natural) }
+roots_within fine a b s k w h x y lo (pos zero) n r f = record { ordered = r.ordered; above = omega (arith, ints, r.natural); below = omega (arith, ints); close = omega (arith, ints, r.natural) }
+roots_within coarse a b s k w h x (negsuc y) lo (pos (suc hi)) n r f = absurd (omega (arith, ints, n.ordered, n.above))
+roots_within fine a b s k w h x (negsuc y) lo (pos (suc hi)) n r f = absurd (omega (arith, ints, n.ordered, n.above))
+roots_within coarse a b s k w h x (pos y) lo (pos (suc hi)) n r f =
+    let lb = n.below in
+    let v = high_kept coarse b y hi h (omega (arith, ints, lb)) (one_less coarse y hi (r.below (omega (arith, ints)))) f in
+    record { ordered = r.ordered; above = omega (arith, ints, r.natural); below = omega (arith, ints, v); close = omega (arith, ints, v, r.natural) }
+roots_within fine a b s k w h x (pos y) lo (pos (suc hi)) n r f =
+    let lb = n.below in
+    let v = high_kept fine b y hi h (omega (arith, ints, lb)) (one_less fine y hi (r.below (omega (arith, ints)))) f in
+    record { ordered = r.ordered; above = omega (arith, ints, r.natural); below = omega (arith, ints, v); close = omega (arith, ints, v, r.natural) }
+
+around_narrow : (scale : Scale) → (w a b s k g h : ℕ) (x y lo hi : ℤ) (i : Interval) → g * g ≤ a * 2 ^ 32 → b * 2 ^ 32 < h * h → AreRoots scale x y lo hi → ShowsEnds scale lo hi i → AreKept scale (pos a) (pos b) s k w x y
+    → IsNarrow w (root_around (limits_on scale) g h s k) i
+around_narrow coarse w a b s k zero h x y lo hi i e f r v n = limited_narrow coarse _ _ _ _ _ w lo hi i (λ u. ltb-true _ _ u) (roots_within coarse a b s k w h x y lo hi n r f) v
+around_narrow fine w a b s k zero h x y lo hi i e f r v n = limited_narrow fine _ _ _ _ _ w lo hi i (λ u. ltb-true _ _ u) (roots_within fine a b s k w h x y lo hi n r f) v
+around_narrow coarse w a b s k (suc g) h x y lo hi i e f r v n = limited_narrow coarse _ _ _ _ _ w lo hi i (λ u. ltb-true _ _ u) (ends_kept coarse a b s k w (suc g) h x y lo hi n r (omega arith) e f) v
+around_narrow fine w a b s k (suc g) h x y lo hi i e f r v n = limited_narrow fine _ _ _ _ _ w lo hi i (λ u. ltb-true _ _ u) (ends_kept fine a b s k w (suc g) h x y lo hi n r (omega arith) e f) v
+
 bounded_narrow : (scale : Scale) → (w a b s k : ℕ) (x y lo hi : ℤ) (i : Interval) → a < 2 ^ 58 → b < 2 ^ 58 → AreRoots scale x y lo hi → ShowsEnds scale lo hi i → AreKept scale (pos a) (pos b) s k w x y
     → IsNarrow w (root_around (limits_on scale) (root_by_digits 48 (a * 2 ^ 32)) (suc (root_by_digits 48 (b * 2 ^ 32))) s k) i
-bounded_narrow coarse w a b s k x y lo hi i p q r v n =
-    limited_by _ w _ i λ t.
-    let c = both _ _ t in
-    let g = ltb-true _ _ c.0 in
+bounded_narrow scale w a b s k x y lo hi i p q r v n =
     let d = digits_of a p in
     let e = digits_of b q in
-    limited_narrow coarse true _ _ _ _ w lo hi i (λ u. ltb-true _ _ c.1) (ends_kept coarse a b s k w (root_by_digits 48 (a * 2 ^ 32)) (suc (root_by_digits 48 (b * 2 ^ 32))) x y lo hi n r g d.under e.next) v
-bounded_narrow fine w a b s k x y lo hi i p q r v n =
-    limited_by _ w _ i λ t.
-    let c = both _ _ t in
-    let g = ltb-true _ _ c.0 in
-    let d = digits_of a p in
-    let e = digits_of b q in
-    limited_narrow fine true _ _ _ _ w lo hi i (λ u. ltb-true _ _ c.1) (ends_kept fine a b s k w (root_by_digits 48 (a * 2 ^ 32)) (suc (root_by_digits 48 (b * 2 ^ 32))) x y lo hi n r g d.under e.next) v
+    around_narrow scale w a b s k (root_by_digits 48 (a * 2 ^ 32)) (suc (root_by_digits 48 (b * 2 ^ 32))) x y lo hi i d.under e.next r v n
 
 -- the root of 0 is 0
 zero_roots : (scale : Scale) → (a s k w : ℕ) (x y lo hi : ℤ) → AreKept scale (pos a) (pos 0) s k w x y → AreRoots scale x y lo hi → AreKept scale (pos 0) (pos 0) 0 0 w lo hi

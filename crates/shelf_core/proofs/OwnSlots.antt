@@ -1,6 +1,7 @@
 -- Two facts of a kind's places and of days that have slots have two slots.
-use Rattle.std.proofs.Common.{◌≡◌, ◌==◌, ◌||◌, Bool, true, false, ℕ, suc, zero, ◌+◌, ◌*◌, ◌<◌, ◌≤◌, List, [], ◌∷◌, refl, arith, if◌then◌else◌, ℤ, pos, negsuc, ◌-ℤ◌, ◌≤ℤ◌, rules}
+use Rattle.std.proofs.Common.{◌≡◌, ◌∙◌, sym, ap, ◌/◌, ◌==◌, ◌||◌, Bool, true, false, ℕ, suc, zero, ◌+◌, ◌*◌, ◌<◌, ◌≤◌, List, [], ◌∷◌, refl, arith, if◌then◌else◌, ℤ, pos, negsuc, ◌-ℤ◌, ◌≤ℤ◌, rules}
 use Rattle.std.proofs.lemmas.Int.{ints}
+use Rattle.std.proofs.lemmas.Nat.{div-mul-add}
 use Rattle.std.proofs.lemmas.Bool.Decides.{nat_tests}
 use Rattle.std.specs.Prelude.{IsTrue}
 use Rattle.std.specs.List.{list_any}
@@ -12,7 +13,7 @@ use Rattle.book_model.specs.sky.Facts.{IsValueDay}
 use Rattle.book_model.specs.sky.Names.{kind_number, place_number, has_place}
 use Rattle.book_model.proofs.NameLemmas.{one_kind, one_place}
 use Rattle.shelf_core.specs.Rows.{HavePlaces, column_from, row_in, row_of, place_lists}
-use Rattle.shelf_core.specs.Slots.{slot_of, natural}
+use Rattle.shelf_core.specs.Slots.{slot_of, shelf_days, natural}
 use Rattle.shelf_core.proofs.RowLemmas.{column_within, kinds_have_places, places_at, places_of_row}
 
 -- whether a place is one of these
@@ -66,17 +67,20 @@ natural_is (pos n) h = refl
 natural_is (negsuc n) h = absurd (omega (arith, ints, h))
 
 -- two parts of a number are told by it
-one_pair : (a b x y : ℕ) → x < 91130 → y < 91130 → a * 91130 + x ≡ b * 91130 + y → (a ≡ b) × (x ≡ y)
-one_pair a b x y hx hy same = (omega (arith, hx, hy, same), omega (arith, hx, hy, same))
+one_pair : (n a b x y : ℕ) → x < n → y < n → a * n + x ≡ b * n + y → (a ≡ b) × (x ≡ y)
+one_pair n a b x y hx hy same =
+    let first : a ≡ b = sym (div-mul-add a n x hx) ∙ ap (λ m. m / n) same ∙ div-mul-add b n y hy in
+    let rest = rw first at same in
+    (first, omega (arith, rest))
 
 pub own_slot : (f g : Fact) → IsTrue (has_place f.kind f.place) → IsTrue (has_place g.kind g.place) → IsValueDay f.day → IsValueDay g.day → slot_of f ≡ slot_of g → f ≡ g
 unfolding slot_of
 own_slot f g hf hg df dg same =
     let ef = natural_is (f.day -ℤ FIRST_DAY) (omega (arith, ints, df.0)) in
     let eg = natural_is (g.day -ℤ FIRST_DAY) (omega (arith, ints, dg.0)) in
-    let lf : natural (f.day -ℤ FIRST_DAY) < 91130 = omega (arith, ints, ef, df.1) in
-    let lg : natural (g.day -ℤ FIRST_DAY) < 91130 = omega (arith, ints, eg, dg.1) in
-    let parts = one_pair (row_of f.kind f.place) (row_of g.kind g.place) (natural (f.day -ℤ FIRST_DAY)) (natural (g.day -ℤ FIRST_DAY)) lf lg same in
+    let lf : natural (f.day -ℤ FIRST_DAY) < shelf_days = omega (arith, ints, ef, df.1) in
+    let lg : natural (g.day -ℤ FIRST_DAY) < shelf_days = omega (arith, ints, eg, dg.1) in
+    let parts = one_pair shelf_days (row_of f.kind f.place) (row_of g.kind g.place) (natural (f.day -ℤ FIRST_DAY)) (natural (g.day -ℤ FIRST_DAY)) lf lg same in
     let kp = one_kind_and_place f g hf hg parts.0 in
     let d : f.day ≡ g.day = omega (arith, ints, ef, eg, parts.1) in
     λ j. record { kind = kp.0 j; place = kp.1 j; day = d j }

@@ -5,8 +5,7 @@ use Rattle.std.specs.Option.{option_map_or}
 use Rattle.book_model.specs.declared.fact.Place.{Place}
 use Rattle.book_model.specs.declared.fact.TheConstants.{KINDS}
 use Rattle.book_model.specs.sky.Names.{place_number}
-use Rattle.shelf_core.specs.declared.rows.TheConstants.{FIRST_ROWS}
-use Rattle.shelf_core.specs.Rows.{rows_among, HavePlaces, column_in, column_from, row_in, place_lists}
+use Rattle.shelf_core.specs.Rows.{rows_among, HavePlaces, column_in, column_from, row_in, first_rows, place_lists}
 
 -- a place stands among these, the first of which has this number
 column_from_within : (at : ℕ) (ps : List Place) (place : Place) → 0 < at + length ps → column_from at ps place < at + length ps
@@ -42,11 +41,6 @@ places_of_row g [] n = refl
 places_of_row g (x ∷ rows) zero = refl
 places_of_row g (x ∷ rows) (suc n) = places_of_row g rows n
 
--- the first row of each list, where so many rows are before them
-abbrev pub first_rows : ℕ → List (List Place) → List ℕ
-first_rows before [] = []
-first_rows before (ps ∷ pss) = before ∷ first_rows (before + length ps) pss
-
 -- a row is that many behind the first of its list as its place stands behind the first there
 pub row_from_first : (before : ℕ) (pss : List (List Place)) (n : ℕ) (place : Place) (d : ℕ) → n < length pss
     → slice_index_or (first_rows before pss) n d + column_in (places_at pss n) place ≡ before + row_in pss n place
@@ -54,9 +48,9 @@ row_from_first before [] n place d less = absurd (omega (arith, less))
 row_from_first before (ps ∷ pss) zero place d less = refl
 row_from_first before (ps ∷ pss) (suc n) place d less = let r = row_from_first (before + length ps) pss n place d (omega (arith, less)) in omega (arith, r)
 
--- the table of first rows holds these, and tells the row
-pub row_by_table : (n : ℕ) (place : Place) (d : ℕ) → n < length place_lists
-    → slice_index_or FIRST_ROWS n d + column_in (option_map_or (λ row. row.2.0.now) (slice_get KINDS n) []) place ≡ row_in place_lists n place
-row_by_table n place d less =
+-- the first rows tell the row
+pub row_by_first : (n : ℕ) (place : Place) (d : ℕ) → n < length place_lists
+    → slice_index_or (first_rows 0 place_lists) n d + column_in (option_map_or (λ row. row.2.0.now) (slice_get KINDS n) []) place ≡ row_in place_lists n place
+row_by_first n place d less =
     let row = rw (places_of_row (λ row. row.2.0.now) KINDS n) at (row_from_first 0 place_lists n place d less) in
     omega (arith, row)

@@ -38,6 +38,11 @@ row_in [] number place = 0
 row_in (ps ∷ pss) zero place = column_in ps place
 row_in (ps ∷ pss) (suc number) place = length ps + row_in pss number place
 
+-- the first row of each list, where so many rows are before them
+abbrev pub first_rows : ℕ → List (List Place) → List ℕ
+first_rows before [] = []
+first_rows before (ps ∷ pss) = before ∷ first_rows (before + length ps) pss
+
 -- the number of rows
 unfoldable pub fact_rows : ℕ
 fact_rows = rows_among place_lists

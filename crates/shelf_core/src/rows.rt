@@ -1,8 +1,9 @@
 //! The rows of facts: one for each kind and each of its places, in the order of the table of kinds.
-ghost use Rattle.std.specs.Prelude.{◌≡◌, ◌<◌, ◌≤◌, length, map};
+ghost use Rattle.std.specs.Prelude.{◌≡◌, ◌<◌, ◌≤◌, length, map, IfOk};
 ghost use Rattle.shelf_core.specs.Rows as spec;
 
 use book_model::{KINDS, Kind, Place};
+use std::alloc::{AllocError, Global};
 
 /// The number of pairs of a kind and one of its places.
 fn rows_among<T, N, W>(mut table: &[(T, N, (&[Place], W))]) -> usize
@@ -42,17 +43,38 @@ pub(crate) fn fact_rows() -> usize
     rows_among(&KINDS)
 }
 
-/// The first row of each kind: how many rows the kinds before it have. That it is so is proved of the table of kinds, so a
-/// kind or a place more there wants its row here.
-static FIRST_ROWS: [usize; 23] = [
-    0, 1, 2, 3, 4, 5, 6, 7, 8, 9, 10, 11, 12, 13, 14, 15, 16, 17, 18, 19, 20, 21, 22,
-];
+/// The first row of each kind of a table: how many rows the kinds before it have. The error comes where memory runs out.
+fn first_rows_of<T, N, W>(
+    alloc: Global,
+    mut table: &[(T, N, (&[Place], W))],
+) -> Result<Vec<usize>, AllocError>
+    requires few { spec.rows_among (map (λ row. row.2.0.now) table.now) ≤ spec.MOST_ROWS }
+    ensures rows { IfOk result (λ rows. rows.items
+        ≡ spec.first_rows 0 (map (λ row. row.2.0.now) table.entry.now)) }
+{
+    let mut rows = Vec::with_capacity(alloc, table.len())?;
+    let mut before = 0;
+    while let [first, rest @ ..] = table {
+        rows.push(before)?;
+        before += first.2.0.len();
+        table = rest;
+    }
+    Ok(rows)
+}
 
-/// The row of a kind and a place; of a place that isn't the kind's, the row of its first.
-pub(crate) fn row_of(kind: Kind, place: Place) -> usize
+/// The first row of each kind. The error comes where memory runs out.
+pub(crate) fn first_rows(alloc: Global) -> Result<Vec<usize>, AllocError>
+    ensures rows { IfOk result (λ rows. rows.items ≡ spec.first_rows 0 spec.place_lists) }
+{
+    first_rows_of(alloc, &KINDS)
+}
+
+/// The row of a kind and a place, by the first row of each kind; of a place that isn't the kind's, the row of its first.
+pub(crate) fn row_of(first_rows: &[usize], kind: Kind, place: Place) -> usize
+    requires rows { first_rows.now ≡ spec.first_rows 0 spec.place_lists }
     ensures row { result ≡ spec.row_of kind place }
     ensures within { result < spec.fact_rows }
     ensures few { result ≤ spec.MOST_ROWS }
 {
-    FIRST_ROWS[kind.number()] + column(kind.places(), place)
+    first_rows[kind.number()] + column(kind.places(), place)
 }

@@ -1,12 +1,13 @@
 //! The slots, and the passes by which they are read and set.
 ghost use Rattle.std.specs.Prelude.{◌≡◌, ◌<◌, vec_len};
 ghost use Rattle.book_model.specs.sky.Facts.{IsValueDay};
+ghost use Rattle.shelf_core.specs.Rows.{first_rows as first_rows_from, place_lists};
 ghost use Rattle.shelf_core.specs.Slots.{slot_count, block_count};
 
 use crate::Entry;
 use crate::block::{BLOCK, Block};
 use crate::notes::agree;
-use crate::rows::{fact_rows, row_of};
+use crate::rows::{fact_rows, first_rows, row_of};
 use book_model::{FIRST_DAY, Fact, LAST_DAY};
 use once_cell::race::{Note, OnceBox};
 use oracle_core::{Answer, Evaluator};
@@ -20,7 +21,10 @@ const DAYS: usize = (LAST_DAY - FIRST_DAY + 1) as usize;
 #[derive(Drop)]
 pub struct Shelf {
     pub(crate) blocks: Vec<OnceBox<Block>>,
+    /// The first row of each kind, which is counted when the shelf is opened.
+    pub(crate) first_rows: Vec<usize>,
     ghost whole: { vec_len blocks ≡ block_count },
+    ghost counted: { first_rows.items ≡ first_rows_from 0 place_lists },
 }
 
 /// A fact, and the entry that was seen in its slot, if any. What a pass has seen it sees at each later call.
@@ -49,40 +53,43 @@ impl Shelf {
     ghost use Rattle.shelf_core.specs.Passes.{IsPassOf, seen};
     ghost use Rattle.shelf_core.specs.Shelves.{IsStep};
 
-    /// A shelf whose slots are empty. It takes a place for each block, and no block. The error comes where memory runs out.
+    /// A shelf whose slots are empty. It takes a place for each block and a number for each kind, and no block. The error comes
+    /// where memory runs out.
     pub fn open(alloc: Global) -> Result<Shelf, AllocError> {
         let mut blocks = Vec::new(alloc);
         blocks.resize_with(block_count_of(), move || OnceBox::new(alloc))?;
-        Ok(Shelf { blocks })
+        let first_rows = first_rows(alloc)?;
+        Ok(Shelf { blocks, first_rows })
     }
 
     /// The number of a fact's slot.
     #[tactic(auto, unfolding(crate::specs::Slots::slot_of, crate::specs::Slots::slot_count))]
-    fn slot_number(fact: Fact) -> usize
+    fn slot_number(&self, fact: Fact) -> usize
         requires in_reach { IsValueDay fact.day }
         ensures number { result ≡ slot_of fact }
         ensures within { result < slot_count }
     {
-        row_of(fact.kind(), fact.place()) * DAYS + (fact.day() - FIRST_DAY) as usize
+        row_of(&self.first_rows, fact.kind(), fact.place()) * DAYS
+            + (fact.day() - FIRST_DAY) as usize
     }
 
     /// The place of a fact's block.
     #[tactic(auto, unfolding(crate::specs::Slots::block_count))]
-    fn block_number(fact: Fact) -> usize
+    fn block_number(&self, fact: Fact) -> usize
         requires in_reach { IsValueDay fact.day }
         ensures number { result ≡ slot_of fact / SLOTS }
         ensures within { result < block_count }
     {
-        Shelf::slot_number(fact) / BLOCK
+        self.slot_number(fact) / BLOCK
     }
 
     /// The place of a fact's slot in its block.
-    fn place_in_block(fact: Fact) -> usize
+    fn place_in_block(&self, fact: Fact) -> usize
         requires in_reach { IsValueDay fact.day }
         ensures number { result ≡ slot_of fact % SLOTS }
         ensures within { result < SLOTS }
     {
-        Shelf::slot_number(fact) % BLOCK
+        self.slot_number(fact) % BLOCK
     }
 
     /// A pass of a fact, which has seen nothing; `None` exactly where the fact's day lies outside 1 July 1800 to
@@ -94,7 +101,7 @@ impl Shelf {
         ensures unseen { IfSome result (λ p. seen p ≡ None) }
     {
         if FIRST_DAY <= fact.day() && fact.day() <= LAST_DAY {
-            let block = self.blocks[Shelf::block_number(fact)].note();
+            let block = self.blocks[self.block_number(fact)].note();
             Some(Pass {
                 fact,
                 block,
@@ -114,8 +121,8 @@ impl Shelf {
         ensures some { IfSome result (λ e. (seen pass.new ≡ Some e) × Agrees (seen pass.old) e) }
         ensures none { IfNone result ((seen pass.old ≡ None) × (seen pass.new ≡ None)) }
     {
-        let block = self.blocks[Shelf::block_number(pass.fact)].get_as(&mut pass.block)?;
-        let (note, entry) = block.look(Shelf::place_in_block(pass.fact), pass.entry.take());
+        let block = self.blocks[self.block_number(pass.fact)].get_as(&mut pass.block)?;
+        let (note, entry) = block.look(self.place_in_block(pass.fact), pass.entry.take());
         pass.entry = Some(note);
         entry
     }
@@ -133,9 +140,9 @@ impl Shelf {
         ensures err { OnErr result (seen pass.new ≡ seen pass.old) }
     {
         let entry = Entry::new(pass.fact, answer);
-        let made = &self.blocks[Shelf::block_number(pass.fact)];
+        let made = &self.blocks[self.block_number(pass.fact)];
         let block = made.get_or_try_init_as(move || Block::boxed(alloc), &mut pass.block)?;
-        let place = Shelf::place_in_block(pass.fact);
+        let place = self.place_in_block(pass.fact);
         let (note, filled) = block.put(alloc, place, pass.entry.take(), entry);
         pass.entry = Some(note);
         filled

@@ -1,5 +1,5 @@
 -- How wide the sun's longitude, the estimates from it, the obliquity, the equation of time and noon are at the scale 2^-56.
-use Rattle.std.specs.Prelude.{◌≡◌, ℕ, ◌+◌, ◌-◌, ◌*◌, ◌/◌, ◌^◌, ◌≤◌, true, ℤ, pos, negsuc, neg_ℤ, ◌+ℤ◌, ◌*ℤ◌, ◌≤ℤ◌, nat_lt, unsigned_abs, max, refl, if◌then◌else◌, ◌==◌}
+use Rattle.std.specs.Prelude.{◌≡◌, ℕ, ◌+◌, ◌-◌, ◌*◌, ◌/◌, ◌^◌, ◌≤◌, true, ℤ, pos, neg_ℤ, ◌+ℤ◌, ◌*ℤ◌, nat_lt, unsigned_abs, max, refl, if◌then◌else◌, ◌==◌}
 use Rattle.std.proofs.Common.{arith}
 use Rattle.std.proofs.lemmas.Int.{ints}
 use Rattle.std.proofs.lemmas.Bool.{lt-ltb}
@@ -14,7 +14,8 @@ use Rattle.book_model.specs.numbers.Polynomials.{quadratic_of, cubic_of, quadrat
 use Rattle.book_model.specs.numbers.Ranges.{IsInTable}
 use Rattle.book_model.specs.numbers.Relations.{Narrow, Keeps}
 use Rattle.book_model.specs.numbers.Terms.{terms_to, terms_of}
-use Rattle.book_model.specs.programs.Widths.{IsAbout, IsMoment, IsUpTo, AreCenturies}
+use Rattle.book_model.specs.programs.Widths.{IsAbout, IsMoment, IsUpTo, AreCenturies, table_days, table_from, table_to, table_centuries}
+use Rattle.book_model.specs.sky.Facts.{IsFactDay}
 use Rattle.book_model.specs.sky.Noon.{tilt_of, reduction_of, centre_of, joint_of, second_reduction_of, second_centre_of, radians_of, part_of_day, equation_of, ahead_of}
 use Rattle.book_model.specs.sky.Sun.{nutation_of, back_by}
 use Rattle.book_model.proofs.Implying.{limits_within}
@@ -26,7 +27,7 @@ use Rattle.sun_core.specs.Widths.{IsObliquity, IsNarrowPlace, IsLocalMoment, IsN
 -- ---- the sun's longitude
 -- a moment of dynamical time in the table
 abbrev pub tabled : ℕ → Bound
-tabled k = bounded (neg_ℤ (pos (182622 * 2 ^ 32))) (pos (748749 * 2 ^ 32)) (2 ^ 40) 0
+tabled k = table_days 1 (2 ^ 40) 0
 
 abbrev pub days_of : Expression
 days_of = subtract (argument 0) (constant (fraction_of NOON_2000))
@@ -41,14 +42,14 @@ longitude_within shown n v y e b h =
     (measured shown n (v + 2 ^ 17) tabled (computed_longitude_of days_of) (neg_ℤ (pos (2 ^ 53))) (pos (2 ^ 53)) 1134696000000 (2 ^ 31) (2 * v + 2 ^ 32) y e longitude_reach (omega arith) h)
 
 -- ---- the obliquity
-obliquity_reach : implies (bound_of (limits_at 56) (λ k. bounded (neg_ℤ (pos (25 * 2 ^ 32))) (pos (2 ^ 32)) (2 ^ 40) 0) (cubic_of OBLIQUITY (argument 0))) (bounded (pos (23 * 2 ^ 32)) (pos (24 * 2 ^ 32)) 17000000000 (2 ^ 11)) ≡ true
+obliquity_reach : implies (bound_of (limits_at 56) (λ k. table_centuries (2 ^ 40) 0) (cubic_of OBLIQUITY (argument 0))) (bounded (pos (23 * 2 ^ 32)) (pos (24 * 2 ^ 32)) 17000000000 (2 ^ 11)) ≡ true
 unfolding implies bound_of constant_bound sum_bound scaled_bound product_bound power_bound cubic_of
 obliquity_reach = refl
 
 pub obliquity_within : {E : Type 0} (shown : E → Interval) (n v : ℕ) (c y : E) → n ≡ 56 → AreCenturies v (shown c) → ((r : Reach) (x : Expression) → Narrow shown (limits_of n) r x c → Narrow shown (limits_of n) r (cubic_of OBLIQUITY x) y)
     → IsObliquity v (shown y)
 obliquity_within shown n v c y e h f =
-    let b : ℕ → Bound = λ k. bounded (neg_ℤ (pos (25 * 2 ^ 32))) (pos (2 ^ 32)) (2 ^ 40) 0 in
+    let b : ℕ → Bound = λ k. table_centuries (2 ^ 40) 0 in
     measured shown n v b (cubic_of OBLIQUITY (argument 0)) _ _ 17000000000 (2 ^ 11) (v / 64 + 2 ^ 12) y e obliquity_reach (omega arith) (f (record { width = v; bounds = b }) (argument 0) (measured_argument shown (limits_of n) _ _ v 0 c h))
 
 -- ---- how far the sun is past a longitude
@@ -97,7 +98,7 @@ half_off shown n v x half d e h i f =
 -- ---- the estimate: the moment, the moment found first, and what the sun is still off there
 abbrev moments_bounds : ℕ → Bound
 moments_bounds k =
-    if k == 0 then bounded (neg_ℤ (pos (182621 * 2 ^ 32))) (pos (748748 * 2 ^ 32)) (2 ^ 40) 0
+    if k == 0 then table_days 0 (2 ^ 40) 0
     else (if k == 1 then bounded (pos 0) (pos (360 * 2 ^ 32)) (2 * 2 ^ 40) (2 ^ 32)
     else (if k == 2 then bounded (neg_ℤ (pos (2 ^ 52))) (pos (2 ^ 52)) (13 * 2 ^ 38) (2 ^ 33)
     else bounded (neg_ℤ (pos (180 * 2 ^ 32))) (pos (180 * 2 ^ 32)) (13 * 2 ^ 39) (5 * 2 ^ 32)))
@@ -112,7 +113,7 @@ estimate_reach = refl
 
 module _ {E : Type 0} (shown : E → Interval) (n v : ℕ) (t : E) (e : n ≡ 56) (i : IsInTable (shown t)) (h : IsMoment v (shown t)) where
   moment_kept : Narrow shown (limits_of n) (record { width = v; bounds = moments_bounds }) (argument 0) t
-  moment_kept = sloped shown (limits_of n) v v moments_bounds 0 (neg_ℤ (pos (182621 * 2 ^ 32))) (pos (748748 * 2 ^ 32)) (2 ^ 40) 0 t refl (omega arith) (drawn _ _ _ _ v (shown t) i h)
+  moment_kept = sloped shown (limits_of n) v v moments_bounds 0 (table_from 0) (table_to 0) (2 ^ 40) 0 t refl (omega arith) (drawn _ _ _ _ v (shown t) i h)
 
   pub back_within : (p x : E) → IsUpTo 360 (2 * v + 2 ^ 32) (shown p) → ((r : Reach) (a b : Expression) → Narrow shown (limits_of n) r a p → Narrow shown (limits_of n) r b t → Narrow shown (limits_of n) r (back_by a b) x)
       → IsNearMoment (3 * v + v / 4 + 2 ^ 33) (shown x)
@@ -136,14 +137,14 @@ pub near_moment : (v : ℕ) (i : Interval) → IsNearMoment v i → IsMoment v i
 near_moment v i h = looser _ _ _ _ v v i (omega (arith, ints)) (omega (arith, ints)) (omega arith) h
 
 -- ---- the equation of time
-equation_reach : implies (bound_of (limits_at 56) (λ k. bounded (neg_ℤ (pos (25 * 2 ^ 32))) (pos (2 ^ 32)) (2 ^ 40) 0) (equation_of (argument 0))) (bounded (neg_ℤ (pos (2 ^ 31))) (pos (2 ^ 31)) (80 * 2 ^ 40) (2 ^ 28)) ≡ true
+equation_reach : implies (bound_of (limits_at 56) (λ k. table_centuries (2 ^ 40) 0) (equation_of (argument 0))) (bounded (neg_ℤ (pos (2 ^ 31))) (pos (2 ^ 31)) (80 * 2 ^ 40) (2 ^ 28)) ≡ true
 unfolding implies bound_of integer_bound constant_bound sum_bound difference_bound scaled_bound product_bound power_bound quotient_bound minimum_bound maximum_bound spanned_bound sine_spans cosine_spans equation_of tilt_of reduction_of centre_of joint_of second_reduction_of second_centre_of radians_of part_of_day quadratic_of cubic_of
 equation_reach = refl
 
 pub equation_within : {E : Type 0} (shown : E → Interval) (n v : ℕ) (c y : E) → n ≡ 56 → v ≤ 2 ^ 42 → AreCenturies (v / 36525 + 2 ^ 12) (shown c) → ((r : Reach) (x : Expression) → Narrow shown (limits_of n) r x c → Narrow shown (limits_of n) r (equation_of x) y)
     → IsAbout (2 ^ 31) (v / 100 + 2 ^ 30) (shown y)
 equation_within shown n v c y e b h f =
-    let g : ℕ → Bound = λ k. bounded (neg_ℤ (pos (25 * 2 ^ 32))) (pos (2 ^ 32)) (2 ^ 40) 0 in
+    let g : ℕ → Bound = λ k. table_centuries (2 ^ 40) 0 in
     measured shown n (v / 36525 + 2 ^ 12) g (equation_of (argument 0)) _ _ (80 * 2 ^ 40) (2 ^ 28) (v / 100 + 2 ^ 30) y e equation_reach (omega arith)
     (f (record { width = v / 36525 + 2 ^ 12; bounds = g }) (argument 0) (measured_argument shown (limits_of n) _ _ (v / 36525 + 2 ^ 12) 0 c h))
 
@@ -189,20 +190,20 @@ tehran_reach = refl
 pub tehran_is_narrow : IsNarrowPlace PERSIAN_NOON_LONGITUDE
 tehran_is_narrow = record { narrow = tehran_reach }
 
-noon_bound : (d : ℤ) → negsuc 39999999 ≤ℤ d → d ≤ℤ pos 40000000 → bound_of (limits_at 56) (λ k. unbounded) (apparent_noon_of d) ≡ bounded (d *ℤ pos (2 ^ 32) +ℤ pos (2 ^ 31)) (d *ℤ pos (2 ^ 32) +ℤ pos (2 ^ 31)) 0 (2 ^ 8)
+noon_bound : (d : ℤ) → IsFactDay d → bound_of (limits_at 56) (λ k. unbounded) (apparent_noon_of d) ≡ bounded (d *ℤ pos (2 ^ 32) +ℤ pos (2 ^ 31)) (d *ℤ pos (2 ^ 32) +ℤ pos (2 ^ 31)) 0 (2 ^ 8)
 unfolding bound_of integer_bound constant_bound sum_bound apparent_noon_of
-noon_bound d h k =
-    let p : nat_lt (unsigned_abs d * 2 ^ 32) (2 ^ 100) ≡ true = lt-ltb _ _ (omega (arith, ints)) in
-    let q : nat_lt (max (unsigned_abs (d *ℤ pos (2 ^ 32) +ℤ pos (2 ^ 31))) (unsigned_abs (d *ℤ pos (2 ^ 32) +ℤ pos (2 ^ 31)))) (2 ^ 100) ≡ true = lt-ltb _ _ (omega (arith, ints)) in
+noon_bound d h =
+    let p : nat_lt (unsigned_abs d * 2 ^ 32) (2 ^ 100) ≡ true = lt-ltb _ _ (omega (arith, ints, h.0, h.1)) in
+    let q : nat_lt (max (unsigned_abs (d *ℤ pos (2 ^ 32) +ℤ pos (2 ^ 31))) (unsigned_abs (d *ℤ pos (2 ^ 32) +ℤ pos (2 ^ 31)))) (2 ^ 100) ≡ true = lt-ltb _ _ (omega (arith, ints, h.0, h.1)) in
     rw (p, q) refl
 
-pub noon_within : {E : Type 0} (shown : E → Interval) (n : ℕ) (d : ℤ) (x : E) → n ≡ 56 → negsuc 39999999 ≤ℤ d → d ≤ℤ pos 40000000 → ((r : Reach) → Narrow shown (limits_of n) r (apparent_noon_of d) x) → IsLocalMoment (2 ^ 8) (shown x)
+pub noon_within : {E : Type 0} (shown : E → Interval) (n : ℕ) (d : ℤ) (x : E) → n ≡ 56 → IsFactDay d → ((r : Reach) → Narrow shown (limits_of n) r (apparent_noon_of d) x) → IsLocalMoment (2 ^ 8) (shown x)
 unfolding Keeps
-noon_within shown n d x e h k f =
+noon_within shown n d x e h f =
     let l = limits_within n (omega arith) (omega arith) in
     let z = f (record { width = 0; bounds = λ k. unbounded }) in
-    let b = noon_bound d h k in
-    looser _ _ _ _ (2 ^ 8) (2 ^ 8) _ (omega (arith, ints)) (omega (arith, ints)) (omega arith) (record { kept = rw (l, e, b) at z.kept })
+    let b = noon_bound d h in
+    looser _ _ _ _ (2 ^ 8) (2 ^ 8) _ (omega (arith, ints, h.0)) (omega (arith, ints, h.1)) (omega arith) (record { kept = rw (l, e, b) at z.kept })
 
 abbrev noon_bounds : ℕ → Bound
 noon_bounds k = if k == 0 then bounded (neg_ℤ (pos (2 ^ 58 - 2 ^ 33))) (pos (2 ^ 58 - 2 ^ 33)) 0 (2 ^ 8 + 2 + 3 * 2 ^ 29) else bounded (neg_ℤ (pos (2 ^ 32))) (pos (2 ^ 32)) 0 (2 ^ 10)

@@ -8,7 +8,7 @@ use Rattle.book_model.specs.numbers.Bounds.{Bound, bounded, Reach, implies, boun
 use Rattle.book_model.specs.numbers.Expressions.{Expression, argument, integer, add, subtract, maximum}
 use Rattle.book_model.specs.numbers.Ranges.{IsInTable}
 use Rattle.book_model.specs.numbers.Relations.{Narrow}
-use Rattle.book_model.specs.programs.Widths.{IsAbout, IsMoment, IsUpTo, Measures}
+use Rattle.book_model.specs.programs.Widths.{IsAbout, IsMoment, IsUpTo, Measures, table_days, table_from, table_to}
 use Rattle.book_model.specs.sky.Sun.{forward_by}
 use Rattle.width_laws.proofs.Measuring.{measured, sloped, looser, drawn}
 use Rattle.angle_search.proofs.Measured.{apart_within, turn_is_angle, moment_wider}
@@ -21,7 +21,7 @@ short_within shown n v l s d e h k f = looser _ _ _ _ (0 + v) v _ (omega (arith,
 
 -- ---- the moment to which the mean sun leads: a moment of the table, and degrees that are about twice as wide
 abbrev moment_bounds : ℕ → Bound
-moment_bounds k = if k == 0 then bounded (neg_ℤ (pos (182621 * 2 ^ 32))) (pos (748748 * 2 ^ 32)) (2 ^ 40) 0 else bounded (pos 0) (pos (360 * 2 ^ 32)) (2 * 2 ^ 40) (2 ^ 32)
+moment_bounds k = if k == 0 then table_days 0 (2 ^ 40) 0 else bounded (pos 0) (pos (360 * 2 ^ 32)) (2 * 2 ^ 40) (2 ^ 32)
 
 forward_reach : implies (bound_of (limits_at 56) moment_bounds (forward_by (argument 1) (argument 0))) (bounded (neg_ℤ (pos (2 ^ 52))) (pos (2 ^ 52)) (4 * 2 ^ 40) (2 ^ 33 - 2 ^ 24)) ≡ true
 unfolding implies bound_of sum_bound scaled_bound forward_by
@@ -33,7 +33,7 @@ forward_within shown n v t p x e i h k f =
     measured shown n v moment_bounds (forward_by (argument 1) (argument 0)) _ _ (4 * 2 ^ 40) (2 ^ 33 - 2 ^ 24) (4 * v + (2 ^ 33 - 2 ^ 24)) x e forward_reach (omega arith)
     (f (record { width = v; bounds = moment_bounds }) (argument 1) (argument 0)
     (sloped shown (limits_of n) v (2 * v + 2 ^ 32) moment_bounds 1 (pos 0) (pos (360 * 2 ^ 32)) (2 * 2 ^ 40) (2 ^ 32) p refl (omega arith) k)
-    (sloped shown (limits_of n) v v moment_bounds 0 (neg_ℤ (pos (182621 * 2 ^ 32))) (pos (748748 * 2 ^ 32)) (2 ^ 40) 0 t refl (omega arith) (drawn _ _ _ _ v (shown t) i h)))
+    (sloped shown (limits_of n) v v moment_bounds 0 (table_from 0) (table_to 0) (2 ^ 40) 0 t refl (omega arith) (drawn _ _ _ _ v (shown t) i h)))
 
 -- ---- the ends about it
 abbrev end_bounds : ℕ → Bound

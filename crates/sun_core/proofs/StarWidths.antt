@@ -7,25 +7,25 @@ use Rattle.book_model.specs.numbers.Bounds.{Bound, bounded, Reach, implies, boun
 use Rattle.book_model.specs.numbers.Expressions.{Expression, argument, add, subtract, multiply, sine, cosine}
 use Rattle.book_model.specs.numbers.Polynomials.{quadratic_of, cubic_of}
 use Rattle.book_model.specs.numbers.Relations.{Narrow}
-use Rattle.book_model.specs.programs.Widths.{IsWithin, IsAbout, IsUpTo}
+use Rattle.book_model.specs.programs.Widths.{IsWithin, IsAbout, IsUpTo, centuries_to, recent_centuries_from}
 use Rattle.book_model.specs.sky.Sidereal.{sidereal_by}
 use Rattle.time_scales.specs.Widths.{AreRecentCenturies}
 use Rattle.width_laws.proofs.Measuring.{measured, measured_argument, sloped}
-use Rattle.sun_core.specs.Widths.{IsTilt, IsCrossing, IsAdvance}
+use Rattle.sun_core.specs.Widths.{IsTilt, IsCrossing, IsAdvance, advance_size, crossing_from}
 
 -- ---- the three angles
 abbrev recent_centuries : ℕ → Bound
-recent_centuries k = bounded (neg_ℤ (pos (4 * 2 ^ 32))) (pos (2 ^ 32)) (2 ^ 40) 0
+recent_centuries k = bounded recent_centuries_from centuries_to (2 ^ 40) 0
 
 tilt_reach : implies (bound_of (limits_at 56) recent_centuries (cubic_of ECLIPTIC_TILT (argument 0))) (bounded (neg_ℤ (pos (2 ^ 28))) (pos (2 ^ 28)) (2 ^ 41) (2 ^ 14)) ≡ true
 unfolding implies bound_of constant_bound sum_bound scaled_bound product_bound power_bound cubic_of
 tilt_reach = refl
 
-crossing_reach : implies (bound_of (limits_at 56) recent_centuries (quadratic_of ECLIPTIC_CROSSING (argument 0))) (bounded (pos (349 * 2 ^ 31)) (pos (176 * 2 ^ 32)) (2 ^ 41) (2 ^ 14)) ≡ true
+crossing_reach : implies (bound_of (limits_at 56) recent_centuries (quadratic_of ECLIPTIC_CROSSING (argument 0))) (bounded crossing_from (pos (176 * 2 ^ 32)) (2 ^ 41) (2 ^ 14)) ≡ true
 unfolding implies bound_of constant_bound sum_bound scaled_bound product_bound power_bound quadratic_of
 crossing_reach = refl
 
-advance_reach : implies (bound_of (limits_at 56) recent_centuries (cubic_of EQUINOX_ADVANCE (argument 0))) (bounded (neg_ℤ (pos (6 * 2 ^ 32))) (pos (6 * 2 ^ 32)) (2 ^ 41) (2 ^ 14)) ≡ true
+advance_reach : implies (bound_of (limits_at 56) recent_centuries (cubic_of EQUINOX_ADVANCE (argument 0))) (bounded (neg_ℤ (pos advance_size)) (pos advance_size) (2 ^ 41) (2 ^ 14)) ≡ true
 unfolding implies bound_of constant_bound sum_bound scaled_bound product_bound power_bound cubic_of
 advance_reach = refl
 
@@ -46,8 +46,8 @@ module _ {E : Type 0} (shown : E → Interval) (n v : ℕ) (c x : E) (e : n ≡ 
 abbrev angles : ℕ → Bound
 angles k =
     if k == 0 then bounded (neg_ℤ (pos (2 ^ 28))) (pos (2 ^ 28)) (2 ^ 40) 0
-    else (if k == 1 then bounded (pos (349 * 2 ^ 31)) (pos (176 * 2 ^ 32)) (2 ^ 40) 0
-    else (if k == 2 then bounded (neg_ℤ (pos (6 * 2 ^ 32))) (pos (6 * 2 ^ 32)) (2 ^ 40) 0
+    else (if k == 1 then bounded crossing_from (pos (176 * 2 ^ 32)) (2 ^ 40) 0
+    else (if k == 2 then bounded (neg_ℤ (pos advance_size)) (pos advance_size) (2 ^ 40) 0
     else bounded (pos (90 * 2 ^ 32)) (pos (180 * 2 ^ 32)) (5 * 2 ^ 40) (2 ^ 23)))
 
 up_reach : implies (bound_of (limits_at 56) angles (multiply (cosine (argument 0)) (sine (argument 1)))) (bounded (pos (2 ^ 28)) (pos (2 * 2 ^ 32)) (22 * 2 ^ 30) (2 ^ 14)) ≡ true

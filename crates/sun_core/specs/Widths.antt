@@ -1,7 +1,8 @@
 -- How wide a longitude of the sun is at the coarse scale, whose unit is 2^-36 degrees; ranges of moments at the scale 2^-56.
-use Rattle.std.specs.Prelude.{◌≡◌, ℕ, ◌+◌, ◌-◌, ◌*◌, ◌/◌, ◌^◌, pos, neg_ℤ, true}
+use Rattle.std.specs.Prelude.{◌≡◌, ℕ, ◌+◌, ◌-◌, ◌*◌, ◌/◌, ◌^◌, ℤ, pos, neg_ℤ, ◌*ℤ◌, true}
 use Rattle.exact_math.specs.Interval.{Interval}
 use Rattle.book_model.specs.declared.frac.Frac.{Frac}
+use Rattle.book_model.specs.declared.sun_tables.TheConstants.{GREATEST_RECENT_ADVANCE, LEAST_RECENT_CROSSING}
 use Rattle.book_model.specs.numbers.Bounds.{Bound, unbounded, bounded, bound_of, implies, limits_at}
 use Rattle.book_model.specs.numbers.Fractions.{fraction_of}
 use Rattle.book_model.specs.programs.Widths.{IsWithin, IsAbout}
@@ -31,13 +32,20 @@ IsObliquity v i = IsWithin (pos (23 * 2 ^ 32)) (pos (24 * 2 ^ 32)) (v / 64 + 2 ^
 pub record IsNarrowPlace (longitude : Frac) : Type 0 where
   pub narrow : implies (bound_of (limits_at 56) (λ k. unbounded) (ahead_of (fraction_of longitude))) (bounded (neg_ℤ (pos (2 ^ 32))) (pos (2 ^ 32)) 0 (2 ^ 10)) ≡ true
 
+-- the least crossing of recent moments, and the greatest size of their advance
+abbrev pub crossing_from : ℤ
+crossing_from = LEAST_RECENT_CROSSING *ℤ pos (2 ^ 31)
+
+abbrev pub advance_size : ℕ
+advance_size = GREATEST_RECENT_ADVANCE * 2 ^ 32
+
 -- the angles of which precession is made, of recent moments and at most so wide: the tilt of the ecliptic, where it crosses that
--- of 2000, from 174.5 to 176 degrees, and the advance of the equinox
+-- of 2000, and the advance of the equinox
 abbrev pub IsTilt : ℕ → Interval → Type 0
 IsTilt v i = IsAbout (2 ^ 28) v i
 
 abbrev pub IsCrossing : ℕ → Interval → Type 0
-IsCrossing v i = IsWithin (pos (349 * 2 ^ 31)) (pos (176 * 2 ^ 32)) v i
+IsCrossing v i = IsWithin crossing_from (pos (176 * 2 ^ 32)) v i
 
 abbrev pub IsAdvance : ℕ → Interval → Type 0
-IsAdvance v i = IsAbout (6 * 2 ^ 32) v i
+IsAdvance v i = IsAbout advance_size v i

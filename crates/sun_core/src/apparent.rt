@@ -3,12 +3,15 @@ ghost use Rattle.book_model.specs.programs.Calls.{Encloses, Follows, Follows1};
 ghost use Rattle.book_model.specs.programs.Widths.{IsAbout, IsMoment, Measured, Measured1};
 ghost use Rattle.std.specs.Prelude.{◌≡◌, ◌+◌, ◌-◌, ◌*◌, ◌/◌, ◌^◌, pos, negsuc, ◌≤ℤ◌};
 ghost use Rattle.book_model.specs.numbers.Fractions.{fraction_of};
+ghost use Rattle.book_model.specs.sky.Facts.{IsFactDay};
 ghost use Rattle.book_model.specs.sky.Noon.{ahead_of, from_apparent_of, noon_of};
 ghost use Rattle.sun_core.specs.Steps.{apparent_noon_of};
 ghost use Rattle.sun_core.specs.Widths.{IsLocalMoment, IsNarrowPlace};
 
 use crate::equation::equation_of_time;
-use book_model::{DEGREE_IN_DAYS, Fail, Frac, HALF, PERSIAN_NOON_LONGITUDE};
+use book_model::sun_tables::{DEGREE_IN_DAYS, PERSIAN_NOON_LONGITUDE};
+use book_model::tables::HALF;
+use book_model::{Fail, Frac};
 use encl_core::{Enclosure, Trail};
 
 /// What local mean time is ahead of universal time at a longitude, in days.
@@ -45,8 +48,7 @@ fn apparent_noon<E: Enclosure>(day: i64) -> E
 /// chapter 15). One test, at `year`; it is void at `year` in a year without a correction.
 #[tactic(auto, using(book_model::proofs::Leads::leading), unfolding(book_model::specs::sky::Noon::noon_of, crate::specs::Steps::apparent_noon_of))]
 pub fn noon<E: Enclosure>(d: i64, trail: &mut Trail) -> Result<E, Fail>
-    requires from { negsuc 39999999 ≤ℤ d }
-    requires to { d ≤ℤ pos 40000000 }
+    requires day { IsFactDay d }
     ensures leads { Follows E.shown (noon_of d) trail.old.count trail.new.count result }
     ensures measured { Measured E.BITS E.shown (IsMoment (2 ^ 31)) result }
 {

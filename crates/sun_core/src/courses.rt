@@ -15,9 +15,9 @@ ghost use Rattle.sun_core.specs.Steps.{periodic_of};
 
 use crate::longitude::{aberration, mean_longitude, nutation};
 use crate::waves::Days;
-use book_model::{
-    DAY_IN_CENTURIES, Fail, NOON_2000, SUN_UNIT_COARSELY, SUN_UNIT_FINELY, SUN_WAVES, Site, Wave,
-};
+use book_model::sun_tables::{SUN_UNIT_COARSELY, SUN_UNIT_FINELY, SUN_WAVES};
+use book_model::time_tables::{DAY_IN_CENTURIES, NOON_2000};
+use book_model::{Fail, Site, Wave};
 use encl_core::{Enclosure, Trail, lies_within, sum_of_terms, wrap_step};
 use std::marker::Model;
 use time_scales::dynamical;
@@ -97,7 +97,7 @@ impl<E: Enclosure> SunCourse<E> {
     }
 
     /// What the sun is ahead of its mean longitude by days of the course.
-    fn periodic(&self, days: E) -> E
+    fn sum_of_waves(&self, days: E) -> E
         requires there { E.shown days ⊆ E.shown self.now }
         ensures holds { Holds1 E.shown (λ x. periodic_of (in_centuries x)) days result }
     {
@@ -113,7 +113,7 @@ impl<E: Enclosure> SunCourse<E> {
         ensures holds { Holds1 E.shown (λ x. longitude_of (in_centuries x)) days result }
     {
         mean_longitude(days)
-            .add(self.periodic(days))
+            .add(self.sum_of_waves(days))
             .add(self.aberration)
             .add(self.nutation)
     }

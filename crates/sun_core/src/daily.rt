@@ -3,7 +3,8 @@ ghost use Rattle.book_model.specs.programs.Calls.{Holds1, Narrows1};
 ghost use Rattle.std.specs.Prelude.{◌≡◌, ◌*◌, ◌<◌, MatchOption, true, false};
 ghost use Rattle.sun_core.specs.Daily.{has_daily, by_days, by_centuries};
 
-use book_model::{DAY_IN_CENTURIES, Frac};
+use book_model::Frac;
+use book_model::time_tables::DAY_IN_CENTURIES;
 use encl_core::Enclosure;
 
 /// The greatest denominator of a rate a century whose rate a day has one in 64 bits.

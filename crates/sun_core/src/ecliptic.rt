@@ -9,7 +9,8 @@ ghost use Rattle.book_model.specs.numbers.Relations.{Narrow};
 ghost use Rattle.book_model.specs.sky.Sun.{obliquity_of};
 ghost use Rattle.sun_core.specs.Widths.{IsObliquity};
 
-use book_model::{Fail, OBLIQUITY};
+use book_model::Fail;
+use book_model::sun_tables::OBLIQUITY;
 use encl_core::{Enclosure, Trail};
 use time_scales::cubic;
 

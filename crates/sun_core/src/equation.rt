@@ -10,17 +10,18 @@ ghost use Rattle.width_laws.specs.Table.{greatest_of};
 ghost use Rattle.time_scales.specs.Steps.{IsYearOpenFor};
 ghost use Rattle.sun_core.specs.Steps.{first_radians_of};
 
-use book_model::{
-    ECCENTRICITY, FIVE_QUARTERS, FOUR, Fail, HALF, MEAN_SUN, MINUS_HALF, OBLIQUITY, SOLAR_ANOMALY,
-    TWO,
+use book_model::Fail;
+use book_model::sun_tables::{
+    ECCENTRICITY, FIVE_QUARTERS, FOUR, MEAN_SUN, MINUS_HALF, OBLIQUITY, SOLAR_ANOMALY, TWO,
 };
+use book_model::tables::HALF;
 use encl_core::{Enclosure, Trail};
 use time_scales::{centuries, cubic, quadratic};
 use trig_series::{cos_deg, pi, sin_deg, tan_deg};
 
 /// The square of the tangent of half the obliquity of the ecliptic.
 #[tactic(auto, unfolding(book_model::specs::sky::Noon::tilt_of))]
-fn tilt<E: Enclosure>(c: E) -> E
+fn half_tilt_square<E: Enclosure>(c: E) -> E
     ensures encloses { Encloses1 E.shown E.BITS tilt_of c result }
 {
     tan_deg(cubic(&OBLIQUITY, c).mul_frac(HALF)).square()
@@ -36,7 +37,7 @@ fn reduction<E: Enclosure>(tilt: E, mean_sun: E) -> E
 
 /// The equation of the centre.
 #[tactic(auto, unfolding(book_model::specs::sky::Noon::centre_of))]
-fn centre<E: Enclosure>(eccentricity: E, anomaly: E) -> E
+fn equation_of_centre<E: Enclosure>(eccentricity: E, anomaly: E) -> E
     ensures encloses { Encloses2 E.shown E.BITS centre_of eccentricity anomaly result }
 {
     eccentricity.mul(sin_deg(anomaly)).mul_frac(TWO)
@@ -44,7 +45,7 @@ fn centre<E: Enclosure>(eccentricity: E, anomaly: E) -> E
 
 /// What the tilt and the eccentricity bring about together.
 #[tactic(auto, unfolding(book_model::specs::sky::Noon::joint_of))]
-fn joint<E: Enclosure>(tilt: E, eccentricity: E, mean_sun: E, anomaly: E) -> E
+fn joint_term<E: Enclosure>(tilt: E, eccentricity: E, mean_sun: E, anomaly: E) -> E
     ensures encloses { Encloses4 E.shown E.BITS joint_of tilt eccentricity mean_sun anomaly
         result }
 {
@@ -83,8 +84,8 @@ fn first_radians<E: Enclosure>(tilt: E, eccentricity: E, mean_sun: E, anomaly: E
         anomaly result }
 {
     reduction(tilt, mean_sun)
-        .sub(centre(eccentricity, anomaly))
-        .add(joint(tilt, eccentricity, mean_sun, anomaly))
+        .sub(equation_of_centre(eccentricity, anomaly))
+        .add(joint_term(tilt, eccentricity, mean_sun, anomaly))
 }
 
 /// The equation of time in radians.
@@ -115,7 +116,7 @@ fn equation<E: Enclosure>(c: E) -> E
     let eccentricity = quadratic(&ECCENTRICITY, c);
     let mean_sun = quadratic(&MEAN_SUN, c);
     let anomaly = cubic(&SOLAR_ANOMALY, c);
-    in_days(radians(tilt(c), eccentricity, mean_sun, anomaly))
+    in_days(radians(half_tilt_square(c), eccentricity, mean_sun, anomaly))
 }
 
 /// The equation of time at a moment of universal time, in days: what apparent time is ahead of mean time (Reingold and

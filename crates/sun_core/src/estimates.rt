@@ -9,7 +9,8 @@ ghost use Rattle.width_laws.specs.declared.table.TheConstants.{SUN};
 ghost use Rattle.width_laws.specs.Table.{greatest_of};
 
 use crate::longitude::sun;
-use book_model::{DEGREE_OF_YEAR, Fail, Site};
+use book_model::sun_tables::DEGREE_OF_YEAR;
+use book_model::{Fail, Site};
 use encl_core::{Enclosure, Trail, wrap_step};
 
 /// Half a turn, in degrees.
@@ -26,7 +27,7 @@ pub(crate) fn reduced<E: Enclosure>(angle: E, trail: &mut Trail) -> Result<E, Fa
 
 /// How far the sun is past a longitude, from 0 up to 360 degrees.
 #[tactic(auto, using(book_model::proofs::Leads::leading), unfolding(book_model::specs::sky::Sun::past_of))]
-fn past<E: Enclosure>(longitude: E, t: E, trail: &mut Trail) -> Result<E, Fail>
+fn degrees_past<E: Enclosure>(longitude: E, t: E, trail: &mut Trail) -> Result<E, Fail>
     ensures leads { Follows2 E.shown past_of longitude t trail.old.count trail.new.count result }
     ensures in_table { IfOk result (λ p. IsInTable (E.shown t)) }
     ensures measured { Measured2 E.BITS E.shown (2 ^ 42) (λ v. IsMoment 0) IsMoment
@@ -38,7 +39,7 @@ fn past<E: Enclosure>(longitude: E, t: E, trail: &mut Trail) -> Result<E, Fail>
 
 /// How far the sun is past a longitude, from -180 up to 180 degrees.
 #[tactic(auto, using(book_model::proofs::Leads::leading), unfolding(book_model::specs::sky::Sun::off_of))]
-fn off<E: Enclosure>(longitude: E, t: E, trail: &mut Trail) -> Result<E, Fail>
+fn degrees_off<E: Enclosure>(longitude: E, t: E, trail: &mut Trail) -> Result<E, Fail>
     ensures leads { Follows2 E.shown off_of longitude t trail.old.count trail.new.count result }
     ensures measured { Measured2 E.BITS E.shown (2 ^ 42) (λ v. IsMoment 0) IsMoment
         (λ v. IsAbout (180 * 2 ^ 32) (greatest_of SUN v)) longitude t result }
@@ -51,7 +52,7 @@ fn off<E: Enclosure>(longitude: E, t: E, trail: &mut Trail) -> Result<E, Fail>
 
 /// A moment less the time in which the mean sun moves on by an angle.
 #[tactic(auto, unfolding(book_model::specs::sky::Sun::back_by))]
-fn back<E: Enclosure>(angle: E, t: E) -> E
+fn moved_back<E: Enclosure>(angle: E, t: E) -> E
     ensures encloses { Encloses2 E.shown E.BITS back_by angle t result }
 {
     t.sub(angle.mul_frac(DEGREE_OF_YEAR))
@@ -68,7 +69,7 @@ pub fn estimate<E: Enclosure>(l: E, t: E, trail: &mut Trail) -> Result<E, Fail>
     ensures measured { Measured2 E.BITS E.shown (2 ^ 40) (λ v. IsMoment 0) IsMoment
         (λ v. IsMoment (10 * v + 2 ^ 35)) l t result }
 {
-    let near = back(past(l, t, trail)?, t);
-    let rest = off(l, near, trail)?;
-    Ok(t.min(back(rest, near)))
+    let near = moved_back(degrees_past(l, t, trail)?, t);
+    let rest = degrees_off(l, near, trail)?;
+    Ok(t.min(moved_back(rest, near)))
 }

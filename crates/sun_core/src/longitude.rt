@@ -16,10 +16,12 @@ ghost use Rattle.sun_core.specs.Steps.{mean_longitude_of, periodic_of, computed_
 
 use crate::daily::times_rate;
 use crate::waves::{Days, cosine_wave, quadratic_wave};
-use book_model::{
-    ABERRATION, DAY_IN_CENTURIES, Fail, MEAN_ABERRATION, NODE_NUTATION, NOON_2000, SOLAR_NUTATION,
-    SUN_AT_2000, SUN_RATE, SUN_UNIT_COARSELY, SUN_UNIT_FINELY, SUN_WAVES, Site, Wave,
+use book_model::sun_tables::{
+    ABERRATION, MEAN_ABERRATION, NODE_NUTATION, SOLAR_NUTATION, SUN_AT_2000, SUN_RATE,
+    SUN_UNIT_COARSELY, SUN_UNIT_FINELY, SUN_WAVES,
 };
+use book_model::time_tables::{DAY_IN_CENTURIES, NOON_2000};
+use book_model::{Fail, Site, Wave};
 use encl_core::{Enclosure, Trail, sum_of_terms, wrap_step};
 use time_scales::dynamical;
 
@@ -42,7 +44,7 @@ pub(crate) fn aberration<E: Enclosure>(days: E) -> E
 
 /// What the sun is ahead of its mean longitude: the sum of its waves times their unit, which is applied in two steps.
 #[tactic(auto, unfolding(crate::specs::Steps::computed_periodic_of))]
-fn periodic<E: Enclosure>(days: E) -> E
+fn sum_of_waves<E: Enclosure>(days: E) -> E
     ensures holds { Holds1 E.shown (λ x. periodic_of (in_centuries x)) days result }
     ensures narrow { Narrows1 E.shown E.BITS computed_periodic_of days result }
 {
@@ -75,7 +77,7 @@ fn longitude<E: Enclosure>(days: E, c: E) -> E
         (in_centuries (argument 0)) c → IsNarrow w longitude_bound (E.shown result) }
 {
     mean_longitude(days)
-        .add(periodic(days))
+        .add(sum_of_waves(days))
         .add(aberration(days))
         .add(nutation(c))
 }

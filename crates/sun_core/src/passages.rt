@@ -12,7 +12,8 @@ use crate::courses::{SunCourse, days_over, sun_by};
 use crate::estimates::reduced;
 use crate::longitude;
 use angle_search::{Angular, invert_angular};
-use book_model::{DEGREE_OF_YEAR, Fail};
+use book_model::Fail;
+use book_model::sun_tables::DEGREE_OF_YEAR;
 use encl_core::{Enclosure, Trail};
 
 /// How many days before and after the moment by the mean sun the sun is sought.
@@ -45,7 +46,7 @@ impl<E: Enclosure> Angular<E> for SunCourse<E> {
 
 /// How far the sun is before a longitude, from 0 up to 360 degrees: three tests at most.
 #[tactic(auto, using(book_model::proofs::Leads::leading), unfolding(book_model::specs::sky::Sun::sun_short_of))]
-fn sun_short<E: Enclosure>(longitude: E, t: E, trail: &mut Trail) -> Result<E, Fail>
+fn degrees_short<E: Enclosure>(longitude: E, t: E, trail: &mut Trail) -> Result<E, Fail>
     ensures leads { Follows2 E.shown spec.sun_short_of longitude t trail.old.count trail.new.count
         result }
     ensures in_table { IfOk result (λ p. IsInTable (E.shown t)) }
@@ -58,7 +59,7 @@ fn sun_short<E: Enclosure>(longitude: E, t: E, trail: &mut Trail) -> Result<E, F
 
 /// A moment and the time in which the mean sun moves on by an angle.
 #[tactic(auto, unfolding(book_model::specs::sky::Sun::forward_by))]
-fn forward<E: Enclosure>(angle: E, t: E) -> E
+fn moved_on<E: Enclosure>(angle: E, t: E) -> E
     ensures encloses { Encloses2 E.shown E.BITS spec.forward_by angle t result }
 {
     t.add(angle.mul_frac(DEGREE_OF_YEAR))
@@ -66,7 +67,7 @@ fn forward<E: Enclosure>(angle: E, t: E) -> E
 
 /// When the sun is at a longitude about a moment, but not before the moment `t`.
 #[tactic(auto, unfolding(book_model::specs::sky::Sun::sun_about_of))]
-fn sun_about<E: Enclosure>(
+fn passage_about<E: Enclosure>(
     course: &SunCourse<E>,
     longitude: E,
     t: E,
@@ -101,8 +102,8 @@ pub fn sun_from_by<E: Enclosure>(
     ensures measured { Measured2 E.BITS E.shown (2 ^ 34) (λ v. IsMoment 0) IsMoment
         (λ v. IsMoment (4 * v + 2 ^ 33)) l t result }
 {
-    let short = sun_short(l, t, trail)?;
-    sun_about(course, l, t, forward(short, t), trail)
+    let short = degrees_short(l, t, trail)?;
+    passage_about(course, l, t, moved_on(short, t), trail)
 }
 
 /// When the sun is next at a longitude, in degrees, at or after a moment of universal time: by bisection about the moment to which

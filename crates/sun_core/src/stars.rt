@@ -1,17 +1,18 @@
 //! Precession, and the longitude of the sun among the stars.
 ghost use Rattle.book_model.specs.programs.Calls.{Encloses1, Encloses2, Encloses3, Follows1};
-ghost use Rattle.book_model.specs.programs.Widths.{IsAbout, IsUpTo, Measured1};
+ghost use Rattle.book_model.specs.programs.Widths.{IsAbout, IsRecent, IsUpTo, Measured1};
 ghost use Rattle.std.specs.Prelude.{◌≡◌, ◌≤◌, ◌+◌, ◌*◌, ◌/◌, ◌^◌, ℕ, Ok, IfOk, IfErr};
 ghost use Rattle.exact_math.specs.Interval.{Interval};
 ghost use Rattle.book_model.specs.sky.Sidereal as spec;
 ghost use Rattle.time_scales.specs.Steps.{IsYearOpenFor};
-ghost use Rattle.time_scales.specs.Widths.{IsRecent, AreRecentCenturies};
+ghost use Rattle.time_scales.specs.Widths.{AreRecentCenturies};
 ghost use Rattle.sun_core.specs.Widths.{IsTilt, IsCrossing, IsAdvance};
 
 use crate::courses::{SunCourse, sun_by};
 use crate::longitude::sun;
 use arc_series::arctan2_deg;
-use book_model::{ECLIPTIC_CROSSING, ECLIPTIC_TILT, EQUINOX_ADVANCE, Fail, SIDEREAL_START, Site};
+use book_model::sun_tables::{ECLIPTIC_CROSSING, ECLIPTIC_TILT, EQUINOX_ADVANCE, SIDEREAL_START};
+use book_model::{Fail, Site};
 use encl_core::{Enclosure, Trail, wrap_step};
 use time_scales::{centuries, cubic, quadratic};
 use trig_series::{cos_deg, sin_deg};
@@ -66,7 +67,7 @@ fn sidereal_by<E: Enclosure>(longitude: E, precession: E) -> E
 
 /// An angle, reduced to 0 up to 360 degrees: one test, at `sidereal`.
 #[tactic(auto, using(book_model::proofs::Leads::leading, crate::proofs::Openings::opening), unfolding(book_model::specs::sky::Sidereal::starred_of))]
-fn starred<E: Enclosure>(angle: E, trail: &mut Trail) -> Result<E, Fail>
+fn wrapped_sidereal<E: Enclosure>(angle: E, trail: &mut Trail) -> Result<E, Fail>
     ensures leads { Follows1 E.shown spec.starred_of angle trail.old.count trail.new.count result }
     ensures measured { Measured1 E.BITS E.shown (2 ^ 44) (IsAbout (2 ^ 90)) (IsUpTo 360) angle result }
     ensures elsewhere { (i : Interval) → IfErr result (IsYearOpenFor i) }
@@ -86,7 +87,7 @@ pub fn sidereal_sun<E: Enclosure>(t: E, trail: &mut Trail) -> Result<E, Fail>
 {
     let longitude = sun(t, trail)?;
     let moved = precession(t, trail)?;
-    starred(sidereal_by(longitude, moved), trail)
+    wrapped_sidereal(sidereal_by(longitude, moved), trail)
 }
 
 /// `sidereal_sun` by a course of the sun, as wide as it may be over its stretch. Where it answers it has made the tests of
@@ -101,5 +102,5 @@ pub fn sidereal_sun_by<E: Enclosure>(
 {
     let longitude = sun_by(course, t, trail)?;
     let moved = precession(t, trail)?;
-    starred(sidereal_by(longitude, moved), trail)
+    wrapped_sidereal(sidereal_by(longitude, moved), trail)
 }

@@ -10,10 +10,10 @@ use Rattle.book_model.specs.declared.fact.Kind.TheVariants.{Dt}
 use Rattle.book_model.specs.declared.fact.TheConstants.{FIRST_DAY, LAST_DAY}
 use Rattle.book_model.specs.declared.site.Site.TheVariants.{Year}
 use Rattle.book_model.specs.numbers.Expressions.{value}
-use Rattle.book_model.specs.sky.Correction.{is_between, year_of, rounded_of, seconds_of, polynomial_of, polynomial_to, int_power}
+use Rattle.book_model.specs.sky.Correction.{corrections, is_between, row_of_year, year_of, rounded_of, seconds_of, polynomial_of, polynomial_to, int_power}
 use Rattle.book_model.specs.sky.Facts.{at_depth, formula_of, program_of, run_of, IsTrueWith}
 use Rattle.book_model.specs.sky.Kinds.{dt_of}
-use Rattle.book_model.specs.sky.Time.{correction_of_year}
+use Rattle.book_model.specs.sky.Time.{correction_by, correction_of_year}
 use Rattle.book_model.specs.programs.Programs.{run, outcome, valued, bind, after_cell, cell_at, cell_of}
 use Rattle.book_model.proofs.Corrections.{below_no}
 use Rattle.oracle_core.specs.Answers.{IsRightAnswer}
@@ -24,7 +24,7 @@ abbrev ComesTo : ℤ → ℤ → Type 0
 ComesTo day v = (n : ℕ) → outcome (run (at_depth n) (dt_of day)) ≡ valued v
 
 runs : ComesTo (pos 726592) (pos 56895) × ComesTo (pos 738926) (pos 73871) × ComesTo (pos 738927) (pos 73871)
-unfolding dt_of run outcome bind after_cell cell_at cell_of value year_of rounded_of seconds_of polynomial_of polynomial_to int_power correction_of_year year_of_day first_day sum product least greatest plus times smaller larger is_at_most
+unfolding dt_of run outcome bind after_cell cell_at cell_of value year_of rounded_of seconds_of polynomial_of polynomial_to int_power correction_by correction_of_year corrections row_of_year year_of_day first_day sum product least greatest plus times smaller larger is_at_most
 runs = (λ n. refl, λ n. refl, λ n. refl)
 
 -- a fact is true with a correction that its day comes to

@@ -1,93 +1,85 @@
--- The table of corrections, row by row.
-use Rattle.std.specs.Prelude.{◌≡◌, ℕ, ◌-◌, ℤ, pos, negsuc, ◌≤ℤ◌, Bool, true, false, ◌&&◌, if◌then◌else◌, int_le, Option, Some, None, refl}
-use Rattle.std.proofs.Common.{arith, subst, sym}
+-- The rows of the table of corrections: of which years they are computed, and what stands behind a correction.
+use Rattle.std.specs.Prelude.{◌≡◌, ℕ, ◌-◌, ◌+◌, ℤ, pos, negsuc, ◌+ℤ◌, ◌-ℤ◌, ◌≤ℤ◌, ◌<ℤ◌, Bool, true, ◌&&◌, nat_lt, unsigned_abs, length, Option, Some, None, refl}
+use Rattle.std.specs.List.{list_all}
+use Rattle.std.proofs.Common.{arith}
 use Rattle.std.proofs.lemmas.Int.{ints}
-use Rattle.book_model.specs.declared.site.Site.TheVariants.{Year}
+use Rattle.std.proofs.lemmas.Bool.{ltb-true}
+use Rattle.book_model.specs.declared.correction_rows.CorrectionForm.{CorrectionForm}
+use Rattle.book_model.specs.declared.correction_rows.CorrectionForm.TheVariants.{SecondsSince, SecondsByHundreds, DaysByCenturies}
 use Rattle.book_model.specs.declared.frac.Frac.{Frac}
+use Rattle.book_model.specs.declared.site.Site.{Site}
+use Rattle.book_model.specs.numbers.Expressions.{Expression, World}
 use Rattle.book_model.specs.numbers.Fractions.{fraction_of}
-use Rattle.book_model.specs.sky.Correction.{is_between}
-use Rattle.book_model.specs.numbers.Expressions.{Expression}
-use Rattle.book_model.specs.programs.Programs.{Program, answer, void}
-use Rattle.book_model.specs.sky.Time.{correction_of_year}
-use Rattle.time_scales.specs.declared.dynamical_time.Row.{Row}
-use Rattle.time_scales.specs.declared.dynamical_time.Row.TheVariants.{Ancient, From1800, From1900, From1987, From2006}
-use Rattle.time_scales.specs.Corrections.{row_of, IsInRow, correction_by, computed_by, computed_of}
+use Rattle.book_model.specs.programs.Programs.{void, run, valued, outcome}
+use Rattle.book_model.specs.sky.Correction.{is_between, Correction, corrections, row_of_year}
+use Rattle.book_model.specs.sky.Time.{correction_by, by_row, correction_of_year}
+use Rattle.book_model.proofs.CorrectionRows.{both, lies, year_row}
+use Rattle.book_model.proofs.Estimates.{valued_same}
+use Rattle.time_scales.specs.Corrections.{IsFormYear}
 
--- a correction by its row
-abbrev pub by_row : ℤ → Option Row → Program Expression
-by_row y None = void Year
-by_row y (Some r) = answer (correction_by r y)
+-- how many years a row has
+abbrev pub years_of : Correction → ℕ
+years_of row = unsigned_abs (row.last -ℤ row.first) + 1
 
-pub correction_is : (y : ℤ) → correction_of_year y ≡ by_row y (row_of y)
-unfolding correction_of_year row_of correction_by
-correction_is y = cases (is_between (negsuc 498) (pos 499) y) (is_between (pos 1800) (pos 1899) y) (is_between (pos 1900) (pos 1986) y) (is_between (pos 1987) (pos 2005) y) (is_between (pos 2006) (pos 2050) y)
-  where
-    cases : (a b c d e : Bool)
-        → (if a then answer (correction_by Ancient y) else (if b then answer (correction_by From1800 y) else (if c then answer (correction_by From1900 y) else (if d then answer (correction_by From1987 y) else (if e then answer (correction_by From2006 y) else void Year)))))
-        ≡ by_row y (if a then Some Ancient else (if b then Some From1800 else (if c then Some From1900 else (if d then Some From1987 else (if e then Some From2006 else None)))))
-    cases true b c d e = refl
-    cases false true c d e = refl
-    cases false false true d e = refl
-    cases false false false true e = refl
-    cases false false false false true = refl
-    cases false false false false false = refl
+-- a year of a row comes before the row's years are over
+pub year_inside : (row : Correction) (y : ℤ) → row.first ≤ℤ y → y ≤ℤ row.last → y <ℤ (row.first +ℤ pos (years_of row))
+year_inside row y h k = omega (arith, ints)
 
-pub both : (p q : Bool) → (p && q) ≡ true → (p ≡ true) × (q ≡ true)
-both true true e = (refl, refl)
-both true false e = absurd (cc)
-both false q e = absurd (cc)
+-- ---- of which years a row is computed
+form_kept : CorrectionForm → (first last : ℤ) → ℕ → Bool
+form_kept (SecondsSince origin) first last n = nat_lt n 8 && (is_between (negsuc 255) (pos 256) (first -ℤ origin) && is_between (negsuc 255) (pos 256) (last -ℤ origin))
+form_kept SecondsByHundreds first last n = true
+form_kept DaysByCenturies first last n = is_between (pos 1) (pos 9999) first && is_between (pos 1) (pos 9999) last
 
-lies : (low high z : ℤ) → is_between low high z ≡ true → (low ≤ℤ z) × (z ≤ℤ high)
-lies low high z e =
-    let b = both (int_le low z) (int_le z high) e in
-    let p : true ≡ int_le low z = sym b.0 in
-    let q : true ≡ int_le z high = sym b.1 in
-    (omega (arith, ints), omega (arith, ints))
+is_form_kept : Correction → Bool
+is_form_kept row = form_kept row.form row.first row.last (length row.coefficients)
 
--- the row of a year has that year
-pub row_has : (y : ℤ) (r : Row) → row_of y ≡ Some r → IsInRow r y
-unfolding row_of
-row_has y r h = cases (is_between (negsuc 498) (pos 499) y) (is_between (pos 1800) (pos 1899) y) (is_between (pos 1900) (pos 1986) y) (is_between (pos 1987) (pos 2005) y) (is_between (pos 2006) (pos 2050) y) refl refl refl refl refl h
-  where
-    cases : (a b c d e : Bool) → is_between (negsuc 498) (pos 499) y ≡ a → is_between (pos 1800) (pos 1899) y ≡ b → is_between (pos 1900) (pos 1986) y ≡ c → is_between (pos 1987) (pos 2005) y ≡ d → is_between (pos 2006) (pos 2050) y ≡ e
-        → (if a then Some Ancient else (if b then Some From1800 else (if c then Some From1900 else (if d then Some From1987 else (if e then Some From2006 else None))))) ≡ Some r → IsInRow r y
-    cases true b c d e f g i j k h = let s : Ancient ≡ r = cc in subst (λ t. IsInRow t y) s (lies (negsuc 498) (pos 499) y f)
-    cases false true c d e f g i j k h = let s : From1800 ≡ r = cc in subst (λ t. IsInRow t y) s (lies (pos 1800) (pos 1899) y g)
-    cases false false true d e f g i j k h = let s : From1900 ≡ r = cc in subst (λ t. IsInRow t y) s (lies (pos 1900) (pos 1986) y i)
-    cases false false false true e f g i j k h = let s : From1987 ≡ r = cc in subst (λ t. IsInRow t y) s (lies (pos 1987) (pos 2005) y j)
-    cases false false false false true f g i j k h = let s : From2006 ≡ r = cc in subst (λ t. IsInRow t y) s (lies (pos 2006) (pos 2050) y k)
-    cases false false false false false f g i j k h = absurd (cc)
+forms_kept : list_all is_form_kept corrections ≡ true
+unfolding corrections is_form_kept form_kept
+forms_kept = refl
 
--- the row of a year, by the tests
-pub row_ancient : (y : ℤ) → true ≡ is_between (negsuc 498) (pos 499) y → Some Ancient ≡ row_of y
-unfolding row_of
-row_ancient y a = rw (← a) refl
+form_fits : (form : CorrectionForm) (first last y : ℤ) (n : ℕ) → form_kept form first last n ≡ true → first ≤ℤ y → y ≤ℤ last → IsFormYear form n y
+unfolding form_kept
+form_fits (SecondsSince origin) first last y n e h k =
+    let b = both (nat_lt n 8) (is_between (negsuc 255) (pos 256) (first -ℤ origin) && is_between (negsuc 255) (pos 256) (last -ℤ origin)) e in
+    let c = both (is_between (negsuc 255) (pos 256) (first -ℤ origin)) (is_between (negsuc 255) (pos 256) (last -ℤ origin)) b.1 in
+    let l = lies (negsuc 255) (pos 256) (first -ℤ origin) c.0 in
+    let m = lies (negsuc 255) (pos 256) (last -ℤ origin) c.1 in
+    let f = ltb-true _ _ b.0 in
+    (omega (arith, f), omega (arith, ints, l.0, m.1))
+form_fits SecondsByHundreds first last y n e h k = tt
+form_fits DaysByCenturies first last y n e h k =
+    let b = both (is_between (pos 1) (pos 9999) first) (is_between (pos 1) (pos 9999) last) e in
+    let l = lies (pos 1) (pos 9999) first b.0 in
+    let m = lies (pos 1) (pos 9999) last b.1 in
+    (omega (arith, ints, l.0), omega (arith, ints, m.1))
 
-pub row_1800 : (y : ℤ) → false ≡ is_between (negsuc 498) (pos 499) y → true ≡ is_between (pos 1800) (pos 1899) y → Some From1800 ≡ row_of y
-unfolding row_of
-row_1800 y a b = rw (← a, ← b) refl
+-- a row can be computed of its years
+pub form_year : (y : ℤ) (row : Correction) → row_of_year y ≡ Some row → IsFormYear row.form (length row.coefficients) y
+unfolding is_form_kept
+form_year y row e =
+    let r = year_row is_form_kept y row forms_kept e in
+    form_fits row.form row.first row.last y (length row.coefficients) r.passes r.from r.to
 
-pub row_1900 : (y : ℤ) → false ≡ is_between (negsuc 498) (pos 499) y → false ≡ is_between (pos 1800) (pos 1899) y → true ≡ is_between (pos 1900) (pos 1986) y → Some From1900 ≡ row_of y
-unfolding row_of
-row_1900 y a b c = rw (← a, ← b, ← c) refl
+-- ---- what stands behind a correction
+pub record HasRow (y : ℤ) (c : Expression) : Type 0 where
+  pub row : Correction
+  pub found : row_of_year y ≡ Some row
+  pub same : correction_by row.form row.coefficients y ≡ c
 
-pub row_1987 : (y : ℤ) → false ≡ is_between (negsuc 498) (pos 499) y → false ≡ is_between (pos 1800) (pos 1899) y → false ≡ is_between (pos 1900) (pos 1986) y → true ≡ is_between (pos 1987) (pos 2005) y → Some From1987 ≡ row_of y
-unfolding row_of
-row_1987 y a b c d = rw (← a, ← b, ← c, ← d) refl
+none_valued : (w : World) (s : Site) (c : Expression) → outcome (run w (void s)) ≡ valued c → ⊥
+unfolding run outcome
+none_valued w s c e = absurd (cc)
 
-pub row_2006 : (y : ℤ) → false ≡ is_between (negsuc 498) (pos 499) y → false ≡ is_between (pos 1800) (pos 1899) y → false ≡ is_between (pos 1900) (pos 1986) y → false ≡ is_between (pos 1987) (pos 2005) y → true ≡ is_between (pos 2006) (pos 2050) y → Some From2006 ≡ row_of y
-unfolding row_of
-row_2006 y a b c d e = rw (← a, ← b, ← c, ← d, ← e) refl
+row_of_value : (w : World) (y : ℤ) (c : Expression) (o : Option Correction) → row_of_year y ≡ o → outcome (run w (by_row y o)) ≡ valued c → HasRow y c
+row_of_value w y c None f e = absurd (none_valued w _ c e)
+row_of_value w y c (Some row) f e = record { row = row; found = f; same = valued_same w _ c e }
 
-pub no_row : (y : ℤ) → false ≡ is_between (negsuc 498) (pos 499) y → false ≡ is_between (pos 1800) (pos 1899) y → false ≡ is_between (pos 1900) (pos 1986) y → false ≡ is_between (pos 1987) (pos 2005) y → false ≡ is_between (pos 2006) (pos 2050) y → None ≡ row_of y
-unfolding row_of
-no_row y a b c d e = rw (← a, ← b, ← c, ← d, ← e) refl
+-- a correction that has a value is that of a row
+pub row_behind : (w : World) (y : ℤ) (c : Expression) → outcome (run w (correction_of_year y)) ≡ valued c → HasRow y c
+unfolding correction_of_year
+row_behind w y c e = row_of_value w y c (row_of_year y) refl e
 
 -- a fraction of known numbers
 pub fraction_is : (f : Frac) (n : ℤ) (d : ℕ) → f.num ≡ n → f.den ≡ d → fraction_of f ≡ record { num = n; below = d - 1 }
 fraction_is f n d e g = rw (e, g) refl
-
--- what is computed in a year that has a row
-pub computed_is : (y : ℤ) (r : Row) → row_of y ≡ Some r → computed_of y ≡ computed_by r y
-unfolding computed_of
-computed_is y r e = rw e refl

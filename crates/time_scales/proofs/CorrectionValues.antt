@@ -1,10 +1,11 @@
 -- From where to where the values of the dynamical time correction lie, in milliseconds: computed for each year, with
 -- ends rounded outwards.
-use Rattle.std.specs.Prelude.{◌≡◌, ℕ, zero, suc, ◌-◌, ◌^◌, ◌&&◌, int_le, ℤ, pos, negsuc, ◌+ℤ◌, ◌*ℤ◌, ◌≤ℤ◌, ◌<ℤ◌, Some, Bool, true, false, refl}
-use Rattle.std.proofs.Common.{arith, subst, sym, ◌∙◌, ◌⊎◌, inl, inr}
-use Rattle.std.proofs.lemmas.Int.{ints, by_lt_z}
+use Rattle.std.specs.Prelude.{◌≡◌, suc, ◌-◌, ◌^◌, ◌&&◌, ◌||◌, int_le, int_lt, List, ℤ, pos, negsuc, ◌+ℤ◌, ◌*ℤ◌, ◌≤ℤ◌, Some, Bool, true, false, refl}
+use Rattle.std.specs.List.{list_all}
+use Rattle.std.proofs.Common.{arith, sym, ◌∙◌}
+use Rattle.std.proofs.lemmas.Int.{ints}
 use Rattle.std.specs.Ordering.{int_eq}
-use Rattle.exact_math.specs.Fraction.{Fraction, whole, floor, floor_quotient, plus, times, smaller, larger, is_at_most, power as fraction_power}
+use Rattle.exact_math.specs.Fraction.{Fraction, whole, floor, floor_quotient, plus, times, smaller, larger, is_at_most}
 use Rattle.exact_math.specs.Interval.{Interval, everything, between, ◌⊆◌, IsProper, sum, product, least, greatest}
 use Rattle.exact_math.proofs.Floors.{floor_mono, floor_quotient_is}
 use Rattle.exact_math.proofs.Fractions.{le_trans, le_refl}
@@ -12,17 +13,28 @@ use Rattle.exact_math.proofs.IntLaws.{add_mul, one_mul}
 use Rattle.exact_math.proofs.Intervals.{within_trans, within_refl, within_everything, sum_within, product_within}
 use Rattle.book_model.specs.declared.tables.TheConstants.{HALF, MILLISECONDS_OF_DAY}
 use Rattle.book_model.specs.calendars.Gregorian.{first_day, year_of_day, days_of_months, fixed_of}
-use Rattle.book_model.specs.sky.Correction.{int_power, polynomial_to, polynomial_of, seconds_of, year_of, rounded_of}
+use Rattle.book_model.specs.declared.correction_rows.CorrectionForm.{CorrectionForm}
+use Rattle.book_model.specs.declared.correction_rows.CorrectionForm.TheVariants.{SecondsSince, SecondsByHundreds, DaysByCenturies}
+use Rattle.book_model.specs.declared.fact.TheConstants.{FIRST_DAY, LAST_DAY}
+use Rattle.book_model.specs.declared.frac.Frac.{Frac}
+use Rattle.book_model.specs.sky.Correction.{Correction, corrections, int_power, polynomial_to, polynomial_of, seconds_of, year_of, rounded_of}
 use Rattle.book_model.specs.numbers.Expressions.{Expression, argument, integer, constant, add, subtract, multiply, divide, negate, scale, power, minimum, maximum, hull, clamp, widen, pi, sine, cosine, tangent, root, arctangent, arcsine, arccosine, arctangent_of_two, remainder, World, value, exactly}
 use Rattle.book_model.specs.numbers.Fractions.{fraction_of}
 use Rattle.book_model.specs.sky.Kinds.{dt_of}
-use Rattle.book_model.specs.numbers.Polynomials.{polynomial_at, polynomial_at_to}
-use Rattle.book_model.specs.programs.Programs.{integers, years, cell_of, cell_at, Program, answer, void, cell, compare, run, valued, outcome}
-use Rattle.book_model.specs.sky.Time.{correction_of_year}
-use Rattle.book_model.proofs.Calendars.{year_is, first_day_rises}
+use Rattle.book_model.specs.numbers.Polynomials.{polynomial_at}
+use Rattle.book_model.specs.programs.Programs.{integers, years, cell_of, cell_at, run, valued, outcome}
+use Rattle.book_model.specs.sky.Facts.{IsValueDay}
+use Rattle.book_model.specs.sky.Time.{hundreds_of, centuries_to_july, correction_by, correction_of_year}
+use Rattle.book_model.proofs.Calendars.{year_mono}
+use Rattle.book_model.proofs.CorrectionRows.{both, year_row}
 use Rattle.book_model.proofs.Corrections.{year_of_whole}
 use Rattle.book_model.proofs.FactRuns.{parts, decides, when_some}
 use Rattle.book_model.proofs.Values.{value_proper}
+use Rattle.time_scales.specs.Corrections.{computed_by}
+use Rattle.time_scales.specs.Horner.{horner_to, horner_of}
+use Rattle.time_scales.proofs.CorrectionRows.{years_of, year_inside, HasRow, row_behind}
+use Rattle.time_scales.proofs.CorrectionWidths.{holds_from, holds_at}
+use Rattle.time_scales.proofs.HornerLemmas.{values_same}
 
 -- ---- values, with ends that are rounded outwards
 abbrev at_20 : ℤ → Fraction
@@ -114,126 +126,75 @@ abbrev pub fits_days : Interval → Bool
 fits_days everything = false
 fits_days (between a b) = is_at_most (whole (negsuc 199)) a && is_at_most b (whole (pos 200))
 
--- whether a correction is within 200 days of 0, and in milliseconds within 10,000,000
-abbrev fits_all : Program Expression → Bool
-fits_all (answer c) = fits (ranged (rounded c)) && fits_days (ranged c)
-fits_all (void s) = true
-fits_all (cell s g x next) = false
-fits_all (compare s x y next) = false
+-- the correction of a year by a form is within 200 days of 0, and in milliseconds within 10,000,000
+unfoldable has_few_days : CorrectionForm → List Frac → ℤ → Bool
+has_few_days form cs y = fits_days (ranged (computed_by form cs y))
 
-unfoldable is_small : ℤ → Bool
-is_small y = fits_all (correction_of_year y)
+unfoldable is_value : CorrectionForm → List Frac → ℤ → Bool
+is_value form cs y = fits (ranged (rounded (computed_by form cs y)))
 
--- whether a test holds of the n numbers from y on
-unfoldable holds_from : (ℤ → Bool) → ℤ → ℕ → Bool
-holds_from f y zero = true
-holds_from f y (suc n) = f y && holds_from f (y +ℤ pos 1) n
+-- the corrections of a row are within 200 days of 0
+unfoldable has_few_days_each : Correction → Bool
+has_few_days_each row = holds_from (has_few_days row.form row.coefficients) row.first (years_of row)
 
-small_1800 : holds_from is_small (pos 1800) 25 ≡ true
-unfolding holds_from is_small ranged outwards sum product least greatest times plus smaller larger is_at_most correction_of_year polynomial_at polynomial_at_to fraction_power fixed_of days_of_months first_day seconds_of polynomial_of polynomial_to int_power
-small_1800 = refl
+rows_have_few_days : list_all has_few_days_each corrections ≡ true
+unfolding corrections has_few_days_each holds_from has_few_days ranged outwards sum product least greatest times plus smaller larger is_at_most computed_by horner_of horner_to fixed_of days_of_months first_day seconds_of polynomial_of polynomial_to int_power
+rows_have_few_days = refl
 
-small_1825 : holds_from is_small (pos 1825) 25 ≡ true
-unfolding holds_from is_small ranged outwards sum product least greatest times plus smaller larger is_at_most correction_of_year polynomial_at polynomial_at_to fraction_power fixed_of days_of_months first_day seconds_of polynomial_of polynomial_to int_power
-small_1825 = refl
+-- those of the years of which facts have values are values, in milliseconds
+unfoldable has_values_each : Correction → Bool
+has_values_each row = int_lt row.last (year_of_day FIRST_DAY) || holds_from (is_value row.form row.coefficients) row.first (years_of row)
 
-small_1850 : holds_from is_small (pos 1850) 25 ≡ true
-unfolding holds_from is_small ranged outwards sum product least greatest times plus smaller larger is_at_most correction_of_year polynomial_at polynomial_at_to fraction_power fixed_of days_of_months first_day seconds_of polynomial_of polynomial_to int_power
-small_1850 = refl
+rows_have_values : list_all has_values_each corrections ≡ true
+unfolding corrections has_values_each holds_from is_value ranged outwards sum product least greatest times plus smaller larger is_at_most computed_by horner_of horner_to fixed_of days_of_months first_day year_of_day seconds_of polynomial_of polynomial_to int_power
+rows_have_values = refl
 
-small_1875 : holds_from is_small (pos 1875) 25 ≡ true
-unfolding holds_from is_small ranged outwards sum product least greatest times plus smaller larger is_at_most correction_of_year polynomial_at polynomial_at_to fraction_power fixed_of days_of_months first_day seconds_of polynomial_of polynomial_to int_power
-small_1875 = refl
+-- what a row's correction is, as it is computed
+computed_holds : (w : World) (form : CorrectionForm) (cs : List Frac) (y : ℤ) → value w (correction_by form cs y) ⊆ value w (computed_by form cs y)
+unfolding correction_by computed_by value
+computed_holds w (SecondsSince origin) cs y = within_refl _
+computed_holds w SecondsByHundreds cs y = product_within (value_proper w (polynomial_at cs (hundreds_of y))) (le_refl _) (values_same w cs (hundreds_of y)) (within_refl _)
+computed_holds w DaysByCenturies cs y = values_same w cs (centuries_to_july y)
 
-small_1900 : holds_from is_small (pos 1900) 29 ≡ true
-unfolding holds_from is_small ranged outwards sum product least greatest times plus smaller larger is_at_most correction_of_year polynomial_at polynomial_at_to fraction_power fixed_of days_of_months first_day seconds_of polynomial_of polynomial_to int_power
-small_1900 = refl
+rounded_holds : (w : World) (form : CorrectionForm) (cs : List Frac) (y : ℤ) → value w (rounded (correction_by form cs y)) ⊆ ranged (rounded (computed_by form cs y))
+unfolding value
+rounded_holds w form cs y =
+    within_trans (sum_within (product_within (value_proper w (correction_by form cs y)) (le_refl _) (computed_holds w form cs y) (within_refl _)) (within_refl _)) (value_ranged w (rounded (computed_by form cs y)))
 
-small_1929 : holds_from is_small (pos 1929) 29 ≡ true
-unfolding holds_from is_small ranged outwards sum product least greatest times plus smaller larger is_at_most correction_of_year polynomial_at polynomial_at_to fraction_power fixed_of days_of_months first_day seconds_of polynomial_of polynomial_to int_power
-small_1929 = refl
-
-small_1958 : holds_from is_small (pos 1958) 29 ≡ true
-unfolding holds_from is_small ranged outwards sum product least greatest times plus smaller larger is_at_most correction_of_year polynomial_at polynomial_at_to fraction_power fixed_of days_of_months first_day seconds_of polynomial_of polynomial_to int_power
-small_1958 = refl
-
-small_1987 : holds_from is_small (pos 1987) 64 ≡ true
-unfolding holds_from is_small ranged outwards sum product least greatest times plus smaller larger is_at_most correction_of_year polynomial_at polynomial_at_to fraction_power fixed_of days_of_months first_day seconds_of polynomial_of polynomial_to int_power
-small_1987 = refl
-
-pub both : (p q : Bool) → (p && q) ≡ true → (p ≡ true) × (q ≡ true)
-both true true e = (refl, refl)
-both true false e = absurd (cc)
-both false q e = absurd (cc)
-
-same_or_later : (y z : ℤ) → y ≤ℤ z → (y ≡ z) ⊎ ((y +ℤ pos 1) ≤ℤ z)
-same_or_later y z h = by_lt_z y z (λ l. inr (omega (arith, ints))) (λ l. inl (omega (arith, ints)))
-
-by_years : (a : ℤ) (n : ℕ) (y : ℤ) → holds_from is_small a n ≡ true → a ≤ℤ y → y <ℤ (a +ℤ pos n) → is_small y ≡ true
-unfolding holds_from
-by_years a zero y e h k = absurd (omega (arith, ints))
-by_years a (suc n) y e h k =
-    let b = both (is_small a) (holds_from is_small (a +ℤ pos 1) n) e in
-    elim (same_or_later a y h) [ inl p ↦ subst (λ t. is_small t ≡ true) p b.0 | inr p ↦ by_years (a +ℤ pos 1) n y b.1 p (omega (arith, ints)) ]
-
-year_small : (y : ℤ) → pos 1800 ≤ℤ y → y ≤ℤ pos 2050 → is_small y ≡ true
-year_small y h k =
-    by_lt_z y (pos 1825) (λ u. by_years (pos 1800) 25 y small_1800 h (omega (arith, ints))) (λ l1825.
-    by_lt_z y (pos 1850) (λ u. by_years (pos 1825) 25 y small_1825 l1825 (omega (arith, ints))) (λ l1850.
-    by_lt_z y (pos 1875) (λ u. by_years (pos 1850) 25 y small_1850 l1850 (omega (arith, ints))) (λ l1875.
-    by_lt_z y (pos 1900) (λ u. by_years (pos 1875) 25 y small_1875 l1875 (omega (arith, ints))) (λ l1900.
-    by_lt_z y (pos 1929) (λ u. by_years (pos 1900) 29 y small_1900 l1900 (omega (arith, ints))) (λ l1929.
-    by_lt_z y (pos 1958) (λ u. by_years (pos 1929) 29 y small_1929 l1929 (omega (arith, ints))) (λ l1958.
-    by_lt_z y (pos 1987) (λ u. by_years (pos 1958) 29 y small_1958 l1958 (omega (arith, ints))) (λ l1987.
-    by_years (pos 1987) 64 y small_1987 l1987 (omega (arith, ints)))))))))
-
--- ---- the value of a day's correction
-first_1800 : first_day (pos 1800) ≡ pos 657072
-unfolding first_day
-first_1800 = refl
-
-first_2050 : first_day (pos 2050) ≡ pos 748383
-unfolding first_day
-first_2050 = refl
-
--- the years of the days from 1 July 1800 to 31 December 2049
-pub year_from : (d : ℤ) → pos 657253 ≤ℤ d → pos 1800 ≤ℤ year_of_day d
-year_from d h =
-    let y = year_is d in
-    by_lt_z (year_of_day d) (pos 1800)
-    (λ l. let r = first_day_rises (year_of_day d +ℤ pos 1) (pos 1800) (omega (arith, ints)) in absurd (omega (arith, ints, r, first_1800, y.not_over)))
-    (λ l. l)
-
-pub year_to : (d : ℤ) → d ≤ℤ pos 748382 → year_of_day d ≤ℤ pos 2049
-year_to d h =
-    let y = year_is d in
-    by_lt_z (pos 2049) (year_of_day d)
-    (λ l. let r = first_day_rises (pos 2050) (year_of_day d) (omega (arith, ints)) in absurd (omega (arith, ints, r, first_2050, y.begun)))
-    (λ l. l)
-
-answer_fits : (w : World) (p : Program Expression) (c : Expression) → fits_all p ≡ true → outcome (run w p) ≡ valued c → fits (ranged (rounded c)) ≡ true
-unfolding run outcome
-answer_fits w (answer b) c h e = let z : b ≡ c = cc in subst (λ t. fits (ranged (rounded t)) ≡ true) z (both (fits (ranged (rounded b))) (fits_days (ranged b)) h).0
-answer_fits w (void s) c h e = absurd (cc)
-answer_fits w (cell s g x next) c h e = absurd (cc)
-answer_fits w (compare s x y next) c h e = absurd (cc)
-
-answer_close : (w : World) (p : Program Expression) (c : Expression) → fits_all p ≡ true → outcome (run w p) ≡ valued c → fits_days (ranged c) ≡ true
-unfolding run outcome
-answer_close w (answer b) c h e = let z : b ≡ c = cc in subst (λ t. fits_days (ranged t) ≡ true) z (both (fits (ranged (rounded b))) (fits_days (ranged b)) h).1
-answer_close w (void s) c h e = absurd (cc)
-answer_close w (cell s g x next) c h e = absurd (cc)
-answer_close w (compare s x y next) c h e = absurd (cc)
-
--- a correction of a year from 1800 to 2050 lies within an interval that is within 200 days of 0
+-- a correction that has a value lies within an interval that is within 200 days of 0
 pub record IsClose (i : Interval) : Type 0 where
   pub around : Interval
   pub fits : fits_days around ≡ true
   pub inside : i ⊆ around
 
-pub correction_close : (w : World) (y : ℤ) (c : Expression) → pos 1800 ≤ℤ y → y ≤ℤ pos 2050 → outcome (run w (correction_of_year y)) ≡ valued c → IsClose (value w c)
-unfolding is_small
-correction_close w y c h k e = record { around = ranged c; fits = answer_close w (correction_of_year y) c (year_small y h k) e; inside = value_ranged w c }
+pub correction_close : (w : World) (y : ℤ) (c : Expression) → HasRow y c → IsClose (value w c)
+unfolding has_few_days_each has_few_days
+correction_close w y c h =
+    let r = year_row has_few_days_each y h.row rows_have_few_days h.found in
+    let f = holds_at (has_few_days h.row.form h.row.coefficients) (years_of h.row) h.row.first y r.passes r.from (year_inside h.row y r.from r.to) in
+    record { around = ranged (computed_by h.row.form h.row.coefficients y); fits = f; inside = rw (← h.same) (within_trans (computed_holds w h.row.form h.row.coefficients y) (value_ranged w (computed_by h.row.form h.row.coefficients y))) }
+
+-- ---- the value of a day's correction
+not_first : (p q : Bool) → (p || q) ≡ true → p ≡ false → q ≡ true
+not_first true q e f = absurd (cc)
+not_first false q e f = e
+
+-- the years of days of which a fact may have a value
+first_year_fits : int_le (negsuc 9999) (year_of_day FIRST_DAY) ≡ true
+unfolding year_of_day first_day
+first_year_fits = refl
+
+last_year_fits : int_le (year_of_day LAST_DAY) (pos 10000) ≡ true
+unfolding year_of_day first_day
+last_year_fits = refl
+
+pub year_small : (d : ℤ) → IsValueDay d → (negsuc 9999 ≤ℤ year_of_day d) × (year_of_day d ≤ℤ pos 10000)
+year_small d h =
+    let l = year_mono FIRST_DAY d h.0 in
+    let u = year_mono d LAST_DAY h.1 in
+    let p : true ≡ int_le (negsuc 9999) (year_of_day FIRST_DAY) = sym first_year_fits in
+    let q : true ≡ int_le (year_of_day LAST_DAY) (pos 10000) = sym last_year_fits in
+    (omega (arith, ints), omega (arith, ints))
 
 floor_fits : (i j : Interval) (v : ℤ) → IsProper i → i ⊆ j → fits j ≡ true → cell_at integers i ≡ Some v → (negsuc 9999999 ≤ℤ v) × (v ≤ℤ pos 10000000)
 unfolding cell_at cell_of
@@ -257,13 +218,24 @@ year_found w d y e =
     let t : c.cell_there ≡ year_of_day d = cc in
     sym c.leads_to ∙ t
 
+-- the correction of a value day's year, in milliseconds
+value_fits : (d y : ℤ) (c : Expression) (h : HasRow y c) → IsValueDay d → y ≡ year_of_day d → fits (ranged (rounded (computed_by h.row.form h.row.coefficients y))) ≡ true
+unfolding has_values_each is_value
+value_fits d y c h v e =
+    let r = year_row has_values_each y h.row rows_have_values h.found in
+    let m = year_mono FIRST_DAY d v.0 in
+    let l : int_lt h.row.last (year_of_day FIRST_DAY) ≡ false = grind (arith, ints, e, m, r.to) in
+    let f = not_first _ _ r.passes l in
+    holds_at (is_value h.row.form h.row.coefficients) (years_of h.row) h.row.first y f r.from (year_inside h.row y r.from r.to)
+
 -- a value of the correction lies within 10,000,000 of 0
-pub dt_value : (w : World) (d v : ℤ) → pos 657253 ≤ℤ d → d ≤ℤ pos 748382 → outcome (run w (dt_of d)) ≡ valued v → (negsuc 9999999 ≤ℤ v) × (v ≤ℤ pos 10000000)
-unfolding dt_of rounded_of is_small
-dt_value w d v h k e =
+pub dt_value : (w : World) (d v : ℤ) → IsValueDay d → outcome (run w (dt_of d)) ≡ valued v → (negsuc 9999999 ≤ℤ v) × (v ≤ℤ pos 10000000)
+unfolding dt_of rounded_of
+dt_value w d v k e =
     let y = parts w (year_of (integer d)) _ v e in
     let same = year_found w d y.part y.first in
     let c = parts w (correction_of_year y.part) _ v y.then in
-    let small = subst (λ t. is_small t ≡ true) (sym same) (year_small (year_of_day d) (year_from d h) (let t = year_to d k in omega (arith, ints, t))) in
+    let h = row_behind w y.part c.part c.first in
     let r = decides w _ integers (rounded c.part) (λ q. q) v c.then in
-    rw r.leads_to at (floor_fits _ _ r.cell_there (value_proper w (rounded c.part)) (value_ranged w (rounded c.part)) (answer_fits w (correction_of_year y.part) c.part small c.first) r.decided_so)
+    let i = rw h.same at (rounded_holds w h.row.form h.row.coefficients y.part) in
+    rw r.leads_to at (floor_fits _ _ r.cell_there (value_proper w (rounded c.part)) i (value_fits d y.part c.part h k same) r.decided_so)

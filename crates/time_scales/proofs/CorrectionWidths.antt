@@ -1,16 +1,21 @@
 -- How narrow the corrections are at each scale: computed for each year and scale.
-use Rattle.std.specs.Prelude.{◌≡◌, ℕ, zero, suc, ◌+◌, ◌-◌, ◌≤◌, ◌<◌, ℤ, pos, ◌+ℤ◌, ◌≤ℤ◌, ◌<ℤ◌, Bool, true, ◌&&◌, refl}
+use Rattle.std.specs.Prelude.{◌≡◌, ℕ, zero, suc, ◌+◌, ◌-◌, ◌≤◌, ◌<◌, ℤ, pos, ◌+ℤ◌, ◌≤ℤ◌, ◌<ℤ◌, Bool, true, ◌&&◌, List, Option, Some, None, IfSome, refl}
+use Rattle.std.specs.List.{list_all}
+use Rattle.std.specs.Option.{option_map_or}
 use Rattle.std.proofs.Common.{arith, subst, ◌⊎◌, inl, inr}
 use Rattle.std.proofs.lemmas.Int.{ints, by_lt_z}
 use Rattle.exact_math.specs.Interval.{Interval}
 use Rattle.book_model.specs.numbers.Bounds.{Bound, unbounded, Reach, IsNarrow, bound_of, implies, integer_bound, constant_bound, sum_bound, scaled_bound, limits_of}
 use Rattle.book_model.specs.calendars.Gregorian.{fixed_of, first_day, days_of_months}
-use Rattle.book_model.specs.sky.Correction.{int_power, polynomial_to, polynomial_of, seconds_of}
+use Rattle.book_model.specs.sky.Correction.{Correction, corrections, row_of_year, int_power, polynomial_to, polynomial_of, seconds_of}
 use Rattle.book_model.specs.numbers.Relations.{Narrow}
 use Rattle.book_model.proofs.Implying.{settled_at}
-use Rattle.time_scales.specs.Corrections.{row_of, computed_by, computed_of, correction_bound}
+use Rattle.book_model.specs.declared.correction_rows.CorrectionForm.{CorrectionForm}
+use Rattle.book_model.specs.declared.frac.Frac.{Frac}
+use Rattle.book_model.proofs.CorrectionRows.{both, year_row}
+use Rattle.time_scales.specs.Corrections.{computed_by, correction_bound}
 use Rattle.time_scales.specs.Horner.{horner_to, horner_of}
-use Rattle.time_scales.proofs.CorrectionRows.{both}
+use Rattle.time_scales.proofs.CorrectionRows.{years_of, year_inside}
 
 -- no argument is promised anything
 abbrev pub no_bound : ℕ → Bound
@@ -26,21 +31,21 @@ unfoldable pub holds_below : (ℕ → Bool) → ℕ → Bool
 holds_below f zero = true
 holds_below f (suc n) = f n && holds_below f n
 
--- the correction of a year is at most so many units of 2^-bits wide
-unfoldable is_close : (units bits : ℕ) → ℤ → Bool
-is_close units bits y = implies (bound_of (limits_of bits) no_bound (computed_of y)) (correction_bound units bits)
+-- the correction of a year by a form is at most so many units of 2^-bits wide
+unfoldable is_close : (units bits : ℕ) → CorrectionForm → List Frac → ℤ → Bool
+is_close units bits form cs y = implies (bound_of (limits_of bits) no_bound (computed_by form cs y)) (correction_bound units bits)
 
--- the corrections of n years from y on, at the scale k bits finer than 2^-36
-unfoldable are_close : (units : ℕ) (y : ℤ) (n : ℕ) → ℕ → Bool
-are_close units y n k = holds_from (is_close units (36 + k)) y n
+-- the corrections of a row, at the scale k bits finer than 2^-36
+unfoldable are_close : (units : ℕ) → Correction → ℕ → Bool
+are_close units row k = holds_from (is_close units (36 + k) row.form row.coefficients) row.first (years_of row)
 
-recent_close : holds_below (are_close 4 (pos 1987) 64) 21 ≡ true
-unfolding holds_below are_close holds_from is_close implies bound_of integer_bound constant_bound sum_bound scaled_bound limits_of computed_of row_of computed_by seconds_of polynomial_of polynomial_to int_power
-recent_close = refl
+-- a row keeps what it promises at each scale from 2^-36 to 2^-56
+unfoldable keeps_units : Correction → Bool
+keeps_units row = option_map_or (λ units. holds_below (are_close units row) 21) row.units true
 
-earlier_close : holds_below (are_close 33 (pos 1800) 187) 21 ≡ true
-unfolding holds_below are_close holds_from is_close implies bound_of integer_bound constant_bound sum_bound scaled_bound limits_of computed_of row_of computed_by horner_of horner_to fixed_of first_day days_of_months
-earlier_close = refl
+table_close : list_all keeps_units corrections ≡ true
+unfolding corrections keeps_units holds_below are_close holds_from is_close implies bound_of integer_bound constant_bound sum_bound scaled_bound limits_of computed_by seconds_of polynomial_of polynomial_to int_power horner_of horner_to fixed_of first_day days_of_months
+table_close = refl
 
 same_or_later : (y z : ℤ) → y ≤ℤ z → (y ≡ z) ⊎ ((y +ℤ pos 1) ≤ℤ z)
 same_or_later y z h = by_lt_z y z (λ l. inr (omega (arith, ints))) (λ l. inl (omega (arith, ints)))
@@ -59,23 +64,27 @@ holds_of f (suc n) k e h =
     let b = both (f n) (holds_below f n) e in
     by_lt_z (pos k) (pos n) (λ l. holds_of f n k b.1 (omega (arith, ints))) (λ l. let p : n ≡ k = omega (arith, ints) in subst (λ t. f t ≡ true) p b.0)
 
-year_close : (u : ℕ) (x : ℤ) (m n : ℕ) (y : ℤ) → holds_below (are_close u x m) 21 ≡ true → 36 ≤ n → n ≤ 56 → x ≤ℤ y → y <ℤ (x +ℤ pos m) → is_close u n y ≡ true
+row_close : (row : Correction) (u n : ℕ) (y : ℤ) → holds_below (are_close u row) 21 ≡ true → 36 ≤ n → n ≤ 56 → row.first ≤ℤ y → y ≤ℤ row.last → is_close u n row.form row.coefficients y ≡ true
 unfolding are_close
-year_close u x m n y c a b h k =
+row_close row u n y c a b h k =
     let p : 36 + (n - 36) ≡ n = omega arith in
-    let e : holds_from (is_close u (36 + (n - 36))) x m ≡ true = holds_of (are_close u x m) 21 (n - 36) c (omega arith) in
-    let f : holds_from (is_close u n) x m ≡ true = subst (λ t. holds_from (is_close u t) x m ≡ true) p e in
-    holds_at (is_close u n) m x y f h k
+    let e : holds_from (is_close u (36 + (n - 36)) row.form row.coefficients) row.first (years_of row) ≡ true = holds_of (are_close u row) 21 (n - 36) c (omega arith) in
+    let f : holds_from (is_close u n row.form row.coefficients) row.first (years_of row) ≡ true = subst (λ t. holds_from (is_close u t row.form row.coefficients) row.first (years_of row) ≡ true) p e in
+    holds_at (is_close u n row.form row.coefficients) (years_of row) row.first y f h (year_inside row y h k)
 
 -- a correction that keeps its computed bound is close
-close : {E : Type 0} (shown : E → Interval) (u n : ℕ) (y : ℤ) (e : E) → is_close u n y ≡ true → ((r : Reach) → Narrow shown (limits_of n) r (computed_of y) e) → IsNarrow 0 (correction_bound u n) (shown e)
+close : {E : Type 0} (shown : E → Interval) (u n : ℕ) (y : ℤ) (form : CorrectionForm) (cs : List Frac) (e : E) → is_close u n form cs y ≡ true
+    → ((r : Reach) → Narrow shown (limits_of n) r (computed_by form cs y) e) → IsNarrow 0 (correction_bound u n) (shown e)
 unfolding is_close
-close shown u n y e c f = settled_at shown n 0 no_bound (computed_of y) (correction_bound u n) e c (f (record { width = 0; bounds = no_bound }))
+close shown u n y form cs e c f = settled_at shown n 0 no_bound (computed_by form cs y) (correction_bound u n) e c (f (record { width = 0; bounds = no_bound }))
 
-pub recent_is_close : {E : Type 0} (shown : E → Interval) (n : ℕ) (y : ℤ) (e : E) → 36 ≤ n → n ≤ 56 → pos 1987 ≤ℤ y → y ≤ℤ pos 2050
-    → ((r : Reach) → Narrow shown (limits_of n) r (computed_of y) e) → IsNarrow 0 (correction_bound 4 n) (shown e)
-recent_is_close shown n y e a b h k f = close shown 4 n y e (year_close 4 (pos 1987) 64 n y recent_close a b h (omega (arith, ints))) f
+by_units : {E : Type 0} (shown : E → Interval) (n : ℕ) (y : ℤ) (row : Correction) (e : E) (o : Option ℕ) → option_map_or (λ units. holds_below (are_close units row) 21) o true ≡ true → 36 ≤ n → n ≤ 56 → row.first ≤ℤ y → y ≤ℤ row.last
+    → ((r : Reach) → Narrow shown (limits_of n) r (computed_by row.form row.coefficients y) e) → IfSome o (λ units. IsNarrow 0 (correction_bound units n) (shown e))
+by_units shown n y row e None t a b h k f = tt
+by_units shown n y row e (Some u) t a b h k f = close shown u n y row.form row.coefficients e (row_close row u n y t a b h k) f
 
-pub earlier_is_close : {E : Type 0} (shown : E → Interval) (n : ℕ) (y : ℤ) (e : E) → 36 ≤ n → n ≤ 56 → pos 1800 ≤ℤ y → y ≤ℤ pos 1986
-    → ((r : Reach) → Narrow shown (limits_of n) r (computed_of y) e) → IsNarrow 0 (correction_bound 33 n) (shown e)
-earlier_is_close shown n y e a b h k f = close shown 33 n y e (year_close 33 (pos 1800) 187 n y earlier_close a b h (omega (arith, ints))) f
+-- the correction of a year is as close as its row promises
+pub year_is_close : {E : Type 0} (shown : E → Interval) (n : ℕ) (y : ℤ) (row : Correction) (e : E) → row_of_year y ≡ Some row → 36 ≤ n → n ≤ 56
+    → ((r : Reach) → Narrow shown (limits_of n) r (computed_by row.form row.coefficients y) e) → IfSome row.units (λ units. IsNarrow 0 (correction_bound units n) (shown e))
+unfolding keeps_units
+year_is_close shown n y row e g a b f = let r = year_row keeps_units y row table_close g in by_units shown n y row e row.units r.passes a b r.from r.to f

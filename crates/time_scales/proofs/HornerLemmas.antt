@@ -62,7 +62,7 @@ unfolding sum_to power
 same_number cs c =
     same_trans (split cs c (length cs) 0 (omega arith)) (same_by (nest_to cs c (length cs) ∷ []) (lit (pos 0) ⊕ lit (pos 1) ⊗ at 0) (at 0) refl)
 
-values_same : (w : World) (cs : List Frac) (c : Fraction) → value w (polynomial_at cs c) ⊆ value w (horner_of cs c)
+pub values_same : (w : World) (cs : List Frac) (c : Fraction) → value w (polynomial_at cs c) ⊆ value w (horner_of cs c)
 unfolding polynomial_at horner_of
 values_same w cs c =
     let s = same_number cs c in

@@ -1,5 +1,5 @@
--- The correction of a year makes no test, so what it was once it is again; and how wide it is when it is taken again.
-use Rattle.std.specs.Prelude.{◌≡◌, ℕ, ◌+◌, ◌^◌, ℤ, pos, negsuc, neg_ℤ, Option, Some, None, Ok, IfSome}
+-- How wide the correction of a year is when it is taken again.
+use Rattle.std.specs.Prelude.{◌≡◌, ℕ, ◌+◌, ◌^◌, pos, neg_ℤ, Option, Some, None, Ok, IfSome}
 use Rattle.std.proofs.Common.{arith}
 use Rattle.std.proofs.lemmas.Int.{ints}
 use Rattle.exact_math.specs.Interval.{Interval, ◌⊆◌}
@@ -9,19 +9,6 @@ use Rattle.book_model.proofs.Implying.{limits_within}
 use Rattle.width_laws.proofs.Measuring.{looser, narrower}
 use Rattle.encl_core.specs.declared.span.Span.{Span}
 use Rattle.encl_core.specs.Kept.{shown_span, IsKeptAbout}
-use Rattle.book_model.specs.sky.Correction.{is_between}
-use Rattle.book_model.specs.sky.Time.{correction_of_year}
-use Rattle.book_model.specs.programs.Programs.{AtMost, answer_at_most, void_at_most}
-use Rattle.book_model.proofs.Corrections.{few_of_two}
-
-pub correction_few : (y : ℤ) → AtMost 0 (correction_of_year y)
-unfolding correction_of_year
-correction_few y =
-    few_of_two 0 (is_between (negsuc 498) (pos 499) y) _ _ answer_at_most
-    (few_of_two 0 (is_between (pos 1800) (pos 1899) y) _ _ answer_at_most
-    (few_of_two 0 (is_between (pos 1900) (pos 1986) y) _ _ answer_at_most
-    (few_of_two 0 (is_between (pos 1987) (pos 2005) y) _ _ answer_at_most
-    (few_of_two 0 (is_between (pos 2006) (pos 2050) y) _ _ answer_at_most void_at_most))))
 
 -- what may be kept of a correction
 pub kept_about : {E : Type 0} (shown : E → Interval) (n : ℕ) (o : Option Span) (e : E) → Measured n shown (IsCorrection (2 ^ 14)) (Ok e)

@@ -1,5 +1,5 @@
 -- Moments that are measured: the year, sums with a correction, centuries and sidereal time.
-use Rattle.std.specs.Prelude.{◌≡◌, ℕ, ◌+◌, ◌*◌, ◌/◌, ◌^◌, ◌≤◌, ℤ, pos, neg_ℤ, ◌-ℤ◌, ◌*ℤ◌, ◌≤ℤ◌, true, Result, Ok, Err, IfOk, IfErr, refl, if◌then◌else◌, ◌==◌}
+use Rattle.std.specs.Prelude.{◌≡◌, ℕ, ◌+◌, ◌*◌, ◌/◌, ◌^◌, ◌≤◌, ℤ, pos, negsuc, neg_ℤ, ◌-ℤ◌, ◌*ℤ◌, ◌≤ℤ◌, true, Result, Ok, Err, IfOk, IfErr, refl, if◌then◌else◌, ◌==◌}
 use Rattle.std.proofs.Common.{arith}
 use Rattle.std.proofs.lemmas.Int.{ints}
 use Rattle.exact_math.specs.Interval.{Interval, everything, IsProper, between, ◌⊆◌}
@@ -14,15 +14,14 @@ use Rattle.book_model.specs.numbers.Polynomials.{cubic_of}
 use Rattle.book_model.specs.numbers.Ranges.{IsInTable}
 use Rattle.book_model.specs.numbers.Relations.{Within, Lies, Narrow}
 use Rattle.book_model.specs.programs.Leading.{Leads, leaf, at_56}
-use Rattle.book_model.specs.programs.Widths.{IsAbout, IsClose, IsMoment, Measures, IsCorrection, IsDated, IsNearlyDated, AreCenturies, IsWithin}
+use Rattle.book_model.specs.programs.Widths.{IsAbout, IsClose, IsMoment, Measures, IsCorrection, IsDated, IsNearlyDated, IsRecent, IsRecentlyDated, AreCenturies, IsWithin, table_from, table_to, table_days, table_centuries, centuries_to, recent_from, recent_centuries_from}
 use Rattle.book_model.specs.sky.Time.{correction_at, in_centuries}
 use Rattle.book_model.proofs.Leads.{leads_leaf}
 use Rattle.width_laws.specs.declared.table.TheConstants.{CORRECTION}
 use Rattle.width_laws.specs.Table.{greatest_of}
 use Rattle.width_laws.proofs.Measuring.{measured, measured_argument, sloped, looser, drawn}
 use Rattle.width_laws.proofs.Closing.{inner_apart, close_ends}
-use Rattle.encl_core.specs.Kept.{IsRecentlyDated}
-use Rattle.time_scales.specs.Widths.{HasYearEnds, IsRecent, IsLater, IsNearlyRecent, AreRecentCenturies}
+use Rattle.time_scales.specs.Widths.{HasYearEnds, IsLater, IsNearlyRecent, AreRecentCenturies}
 use Rattle.time_scales.proofs.Moments.{corrected_in_table}
 
 -- ---- the year
@@ -60,19 +59,19 @@ correction_looser shown (Ok y) h = looser _ _ _ _ (2 ^ 14) (2 ^ 17) (shown y) (o
 correction_looser shown (Err f) h = h
 
 abbrev moment_bounds : ℕ → Bound
-moment_bounds k = if k == 0 then bounded (neg_ℤ (pos (182621 * 2 ^ 32))) (pos (748748 * 2 ^ 32)) (2 ^ 40) 0 else bounded (neg_ℤ (pos (2 ^ 30))) (pos (2 ^ 30)) 0 (2 ^ 17)
+moment_bounds k = if k == 0 then table_days 0 (2 ^ 40) 0 else bounded (neg_ℤ (pos (2 ^ 30))) (pos (2 ^ 30)) 0 (2 ^ 17)
 
-sum_reach : implies (bound_of (limits_at 56) moment_bounds (add (argument 0) (argument 1))) (bounded (neg_ℤ (pos (182622 * 2 ^ 32))) (pos (748749 * 2 ^ 32)) (2 ^ 40) (2 ^ 17)) ≡ true
+sum_reach : implies (bound_of (limits_at 56) moment_bounds (add (argument 0) (argument 1))) (table_days 1 (2 ^ 40) (2 ^ 17)) ≡ true
 unfolding implies bound_of sum_bound
 sum_reach = refl
 
-difference_reach : implies (bound_of (limits_at 56) moment_bounds (subtract (argument 0) (argument 1))) (bounded (neg_ℤ (pos (182622 * 2 ^ 32))) (pos (748749 * 2 ^ 32)) (2 ^ 40) (2 ^ 17)) ≡ true
+difference_reach : implies (bound_of (limits_at 56) moment_bounds (subtract (argument 0) (argument 1))) (table_days 1 (2 ^ 40) (2 ^ 17)) ≡ true
 unfolding implies bound_of difference_bound
 difference_reach = refl
 
 module _ {E : Type 0} (shown : E → Interval) (n v : ℕ) (t c d : E) (p : n ≡ 56) (i : IsInTable (shown t)) (h : IsMoment v (shown t)) (k : IsCorrection (2 ^ 17) (shown c)) where
   moment_kept : Narrow shown (limits_of n) (record { width = v; bounds = moment_bounds }) (argument 0) t
-  moment_kept = sloped shown (limits_of n) v v moment_bounds 0 (neg_ℤ (pos (182621 * 2 ^ 32))) (pos (748748 * 2 ^ 32)) (2 ^ 40) 0 t refl (omega arith) (drawn _ _ _ _ v (shown t) i h)
+  moment_kept = sloped shown (limits_of n) v v moment_bounds 0 (table_from 0) (table_to 0) (2 ^ 40) 0 t refl (omega arith) (drawn _ _ _ _ v (shown t) i h)
 
   correction_kept : Narrow shown (limits_of n) (record { width = v; bounds = moment_bounds }) (argument 1) c
   correction_kept = sloped shown (limits_of n) v (2 ^ 17) moment_bounds 1 (neg_ℤ (pos (2 ^ 30))) (pos (2 ^ 30)) 0 (2 ^ 17) c refl (omega arith) k
@@ -91,9 +90,9 @@ module _ {E : Type 0} (shown : E → Interval) (n v : ℕ) (t c d : E) (p : n �
 
 -- ---- centuries of a moment of the table
 abbrev days_bounds : ℕ → Bound
-days_bounds k = bounded (neg_ℤ (pos (182622 * 2 ^ 32))) (pos (748749 * 2 ^ 32)) (2 ^ 40) 0
+days_bounds k = table_days 1 (2 ^ 40) 0
 
-centuries_reach : implies (bound_of (limits_at 56) days_bounds (in_centuries (argument 0))) (bounded (neg_ℤ (pos (25 * 2 ^ 32))) (pos (2 ^ 32)) 30102988 1000) ≡ true
+centuries_reach : implies (bound_of (limits_at 56) days_bounds (in_centuries (argument 0))) (table_centuries 30102988 1000) ≡ true
 unfolding implies bound_of difference_bound scaled_bound constant_bound in_centuries
 centuries_reach = refl
 
@@ -111,41 +110,41 @@ pub later_moment : (v : ℕ) (i : Interval) → IsLater v i → IsMoment v i
 later_moment v i h = looser _ _ _ _ v v i (omega (arith, ints)) (omega (arith, ints)) (omega arith) h
 
 -- a moment of the table that lies from some day on lies from that day to the last year of the table
-dated_from : (low high : ℤ) (v : ℕ) (i : Interval) → IsInTable i → IsWithin low high v i → IsWithin low (pos (748748 * 2 ^ 32)) v i
+dated_from : (low high : ℤ) (v : ℕ) (i : Interval) → IsInTable i → IsWithin low high v i → IsWithin low (table_to 0) v i
 unfolding IsNarrow
 dated_from low high v everything b h = absurd h.kept
 dated_from low high v (between x y) b h = record { kept = record { ordered = h.kept.ordered; above = h.kept.above; below = (drawn _ _ _ _ v (between x y) b h).kept.below; close = h.kept.close } }
 
 -- such a moment and a correction
-abbrev bounds_from : (low : ℕ) → ℕ → Bound
-bounds_from low k = if k == 0 then bounded (pos (low * 2 ^ 32)) (pos (748748 * 2 ^ 32)) (2 ^ 40) 0 else bounded (neg_ℤ (pos (2 ^ 30))) (pos (2 ^ 30)) 0 (2 ^ 17)
+abbrev bounds_from : (later : ℤ) → ℕ → Bound
+bounds_from later k = if k == 0 then bounded (recent_from later) (table_to 0) (2 ^ 40) 0 else bounded (neg_ℤ (pos (2 ^ 30))) (pos (2 ^ 30)) 0 (2 ^ 17)
 
-recent_sum_reach : implies (bound_of (limits_at 56) (bounds_from 600000) (add (argument 0) (argument 1))) (bounded (pos (599999 * 2 ^ 32)) (pos (748749 * 2 ^ 32)) (2 ^ 40) (2 ^ 17)) ≡ true
+recent_sum_reach : implies (bound_of (limits_at 56) (bounds_from (pos 0)) (add (argument 0) (argument 1))) (bounded (recent_from (negsuc 0)) (table_to 1) (2 ^ 40) (2 ^ 17)) ≡ true
 unfolding implies bound_of sum_bound
 recent_sum_reach = refl
 
-later_difference_reach : implies (bound_of (limits_at 56) (bounds_from 600001) (subtract (argument 0) (argument 1))) (bounded (pos (600000 * 2 ^ 32)) (pos (748749 * 2 ^ 32)) (2 ^ 40) (2 ^ 17)) ≡ true
+later_difference_reach : implies (bound_of (limits_at 56) (bounds_from (pos 1)) (subtract (argument 0) (argument 1))) (bounded (recent_from (pos 0)) (table_to 1) (2 ^ 40) (2 ^ 17)) ≡ true
 unfolding implies bound_of difference_bound
 later_difference_reach = refl
 
 pub recent_sum_within : {E : Type 0} (shown : E → Interval) (n v : ℕ) (t c d : E) → n ≡ 56 → IsInTable (shown t) → IsRecent v (shown t) → IsCorrection (2 ^ 17) (shown c)
     → ((r : Reach) (x y : Expression) → Narrow shown (limits_of n) r x t → Narrow shown (limits_of n) r y c → Narrow shown (limits_of n) r (add x y) d) → IsNearlyRecent (v + 2 ^ 17) (shown d)
 recent_sum_within shown n v t c d p i h k f =
-    measured shown n v (bounds_from 600000) (add (argument 0) (argument 1)) _ _ (2 ^ 40) (2 ^ 17) (v + 2 ^ 17) d p recent_sum_reach (omega arith)
-    (f (record { width = v; bounds = bounds_from 600000 }) (argument 0) (argument 1) (sloped shown (limits_of n) v v (bounds_from 600000) 0 _ _ (2 ^ 40) 0 t refl (omega arith) (dated_from _ _ v (shown t) i h))
-    (sloped shown (limits_of n) v (2 ^ 17) (bounds_from 600000) 1 _ _ 0 (2 ^ 17) c refl (omega arith) k))
+    measured shown n v (bounds_from (pos 0)) (add (argument 0) (argument 1)) _ _ (2 ^ 40) (2 ^ 17) (v + 2 ^ 17) d p recent_sum_reach (omega arith)
+    (f (record { width = v; bounds = bounds_from (pos 0) }) (argument 0) (argument 1) (sloped shown (limits_of n) v v (bounds_from (pos 0)) 0 _ _ (2 ^ 40) 0 t refl (omega arith) (dated_from _ _ v (shown t) i h))
+    (sloped shown (limits_of n) v (2 ^ 17) (bounds_from (pos 0)) 1 _ _ 0 (2 ^ 17) c refl (omega arith) k))
 
 pub later_difference_within : {E : Type 0} (shown : E → Interval) (n v : ℕ) (t c d : E) → n ≡ 56 → IsInTable (shown t) → IsLater v (shown t) → IsCorrection (2 ^ 17) (shown c)
     → ((r : Reach) (x y : Expression) → Narrow shown (limits_of n) r x t → Narrow shown (limits_of n) r y c → Narrow shown (limits_of n) r (subtract x y) d) → IsRecentlyDated (v + 2 ^ 17) (shown d)
 later_difference_within shown n v t c d p i h k f =
-    measured shown n v (bounds_from 600001) (subtract (argument 0) (argument 1)) _ _ (2 ^ 40) (2 ^ 17) (v + 2 ^ 17) d p later_difference_reach (omega arith)
-    (f (record { width = v; bounds = bounds_from 600001 }) (argument 0) (argument 1) (sloped shown (limits_of n) v v (bounds_from 600001) 0 _ _ (2 ^ 40) 0 t refl (omega arith) (dated_from _ _ v (shown t) i h))
-    (sloped shown (limits_of n) v (2 ^ 17) (bounds_from 600001) 1 _ _ 0 (2 ^ 17) c refl (omega arith) k))
+    measured shown n v (bounds_from (pos 1)) (subtract (argument 0) (argument 1)) _ _ (2 ^ 40) (2 ^ 17) (v + 2 ^ 17) d p later_difference_reach (omega arith)
+    (f (record { width = v; bounds = bounds_from (pos 1) }) (argument 0) (argument 1) (sloped shown (limits_of n) v v (bounds_from (pos 1)) 0 _ _ (2 ^ 40) 0 t refl (omega arith) (dated_from _ _ v (shown t) i h))
+    (sloped shown (limits_of n) v (2 ^ 17) (bounds_from (pos 1)) 1 _ _ 0 (2 ^ 17) c refl (omega arith) k))
 
 abbrev recent_days : ℕ → Bound
-recent_days k = bounded (pos (599999 * 2 ^ 32)) (pos (748749 * 2 ^ 32)) (2 ^ 40) 0
+recent_days k = bounded (recent_from (negsuc 0)) (table_to 1) (2 ^ 40) 0
 
-recent_centuries_reach : implies (bound_of (limits_at 56) recent_days (in_centuries (argument 0))) (bounded (neg_ℤ (pos (4 * 2 ^ 32))) (pos (2 ^ 32)) 30102988 1000) ≡ true
+recent_centuries_reach : implies (bound_of (limits_at 56) recent_days (in_centuries (argument 0))) (bounded recent_centuries_from centuries_to 30102988 1000) ≡ true
 unfolding implies bound_of difference_bound scaled_bound constant_bound in_centuries
 recent_centuries_reach = refl
 
@@ -156,14 +155,14 @@ recent_centuries_within shown n v t c p b h f =
     (f (record { width = v + 2 ^ 17; bounds = recent_days }) (argument 0) (measured_argument shown (limits_of n) _ _ (v + 2 ^ 17) 0 t h))
 
 -- ---- sidereal time of a moment of the table
-sidereal_reach : implies (bound_of (limits_at 56) (λ k. bounded (neg_ℤ (pos (182621 * 2 ^ 32))) (pos (748748 * 2 ^ 32)) (2 ^ 40) 0) (cubic_of SIDEREAL_TIME (in_centuries (argument 0)))) (bounded (neg_ℤ (pos (2 ^ 61))) (pos (2 ^ 61)) (362 * 2 ^ 40) (2 ^ 37)) ≡ true
+sidereal_reach : implies (bound_of (limits_at 56) (λ k. table_days 0 (2 ^ 40) 0) (cubic_of SIDEREAL_TIME (in_centuries (argument 0)))) (bounded (neg_ℤ (pos (2 ^ 61))) (pos (2 ^ 61)) (362 * 2 ^ 40) (2 ^ 37)) ≡ true
 unfolding implies bound_of constant_bound sum_bound difference_bound scaled_bound product_bound power_bound in_centuries cubic_of
 sidereal_reach = refl
 
 pub sidereal_within : {E : Type 0} (shown : E → Interval) (n v : ℕ) (t y : E) → n ≡ 56 → IsDated v (shown t)
     → ((r : Reach) (x : Expression) → Narrow shown (limits_of n) r x t → Narrow shown (limits_of n) r (cubic_of SIDEREAL_TIME (in_centuries x)) y) → IsAbout (2 ^ 61) (362 * v + 2 ^ 37) (shown y)
 sidereal_within shown n v t y e h f =
-    let b : ℕ → Bound = λ k. bounded (neg_ℤ (pos (182621 * 2 ^ 32))) (pos (748748 * 2 ^ 32)) (2 ^ 40) 0 in
+    let b : ℕ → Bound = λ k. table_days 0 (2 ^ 40) 0 in
     measured shown n v b (cubic_of SIDEREAL_TIME (in_centuries (argument 0))) _ _ (362 * 2 ^ 40) (2 ^ 37) (362 * v + 2 ^ 37) y e sidereal_reach (omega arith)
     (f (record { width = v; bounds = b }) (argument 0) (measured_argument shown (limits_of n) _ _ v 0 t h))
 

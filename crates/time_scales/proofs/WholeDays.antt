@@ -17,7 +17,7 @@ use Rattle.book_model.specs.sky.Facts.{IsValueDay}
 use Rattle.book_model.specs.programs.Leading.{IsOpenCell, between_cells, too_far}
 use Rattle.book_model.specs.programs.Programs.{years, cell_at, cell_of}
 use Rattle.book_model.specs.numbers.Relations.{Narrow, Keeps}
-use Rattle.time_scales.proofs.CorrectionValues.{year_from, year_to}
+use Rattle.time_scales.proofs.CorrectionValues.{year_small}
 use Rattle.book_model.proofs.Implying.{limits_within}
 use Rattle.time_scales.specs.Steps.{IsYearOpenFor, IsEarlyYearFor, IsNoEarlyYear, IsNotOfYear}
 
@@ -63,6 +63,5 @@ pub no_early_year : {E : Type 0} (shown : E → Interval) (bits : ℕ) (d : ℤ)
     → IsEarlyYearFor (shown e) f → IsNoEarlyYear f
 no_early_year shown bits d e (Void s) p q h n o = tt
 no_early_year shown bits d e (undecided_at u) p q h n o = λ s t.
-    let a = year_from d h.0 in
-    let b = year_to d h.1 in
-    closed_year (shown e) (year_of_day d) (undecided_at u) (year_enclosed shown bits d e p q h (n _)) (omega (arith, ints)) (λ z. o z t) s
+    let y = year_small d h in
+    closed_year (shown e) (year_of_day d) (undecided_at u) (year_enclosed shown bits d e p q h (n _)) (omega (arith, ints, y.0, y.1)) (λ z. o z t) s

@@ -6,8 +6,8 @@ use Rattle.std.proofs.lemmas.Int.{fits_signed_mul, to_z-of_z}
 use Rattle.book_model.specs.sky.Correction.{int_power}
 use Rattle.book_model.proofs.Corrections.{polynomial_none, polynomial_more, polynomial_all, power_none, power_more, power_size}
 
--- the powers of 64 to the ninth fit 64 bits
-small_power : (i : ℕ) → i ≤ 8 → 64 ^ i * 64 < 2 ^ 63
+-- the powers of 256 to the seventh fit 64 bits
+small_power : (i : ℕ) → i ≤ 6 → 256 ^ i * 256 < 2 ^ 63
 small_power zero h = omega arith
 small_power (suc zero) h = omega arith
 small_power (suc (suc zero)) h = omega arith
@@ -15,14 +15,12 @@ small_power (suc (suc (suc zero))) h = omega arith
 small_power (suc (suc (suc (suc zero)))) h = omega arith
 small_power (suc (suc (suc (suc (suc zero))))) h = omega arith
 small_power (suc (suc (suc (suc (suc (suc zero)))))) h = omega arith
-small_power (suc (suc (suc (suc (suc (suc (suc zero))))))) h = omega arith
-small_power (suc (suc (suc (suc (suc (suc (suc (suc zero)))))))) h = omega arith
-small_power (suc (suc (suc (suc (suc (suc (suc (suc (suc i))))))))) h = absurd (omega arith)
+small_power (suc (suc (suc (suc (suc (suc (suc i))))))) h = absurd (omega arith)
 
 -- the next power fits 64 bits
-pub power_fits : (x p : ℤ) (i : ℕ) → unsigned_abs x ≤ 64 → i ≤ 8 → p ≡ int_power x i → FitsSigned w64 (p *ℤ x)
+pub power_fits : (x p : ℤ) (i : ℕ) → unsigned_abs x ≤ 256 → i ≤ 6 → p ≡ int_power x i → FitsSigned w64 (p *ℤ x)
 power_fits x p i h k e =
-    let s : unsigned_abs p ≤ 64 ^ i = rw e (power_size x i h) in
-    fits_signed_mul w64 p x (64 ^ i) 64 s h (small_power i k)
+    let s : unsigned_abs p ≤ 256 ^ i = rw e (power_size 256 x i h) in
+    fits_signed_mul w64 p x (256 ^ i) 256 s h (small_power i k)
 
 pub ruleset polynomials = (polynomial_none, polynomial_more, polynomial_all, power_none, power_more, power_fits, to_z-of_z)

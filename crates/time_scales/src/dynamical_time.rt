@@ -1,69 +1,30 @@
 //! Dynamical time, which flows evenly: what it is ahead of universal time in a year, and its centuries.
 ghost use Rattle.book_model.specs.programs.Calls.{Encloses, Encloses1, Follows, Follows1, Holds, Narrows};
-ghost use Rattle.book_model.specs.programs.Widths.{IsMoment, Measured, Measured1, IsCorrection, IsNearlyDated, AreCenturies};
-ghost use Rattle.std.specs.Prelude.{◌≡◌, ◌≤◌, ◌+◌, ◌/◌, ◌^◌, ℕ, ℤ, pos, ◌≤ℤ◌, length, IfOk, IfErr};
+ghost use Rattle.book_model.specs.programs.Widths.{IsMoment, Measured, Measured1, IsCorrection, IsNearlyDated, IsRecent, IsRecentlyDated, AreCenturies};
+ghost use Rattle.std.specs.Prelude.{◌≡◌, ◌≤◌, ◌+◌, ◌/◌, ◌^◌, ℕ, ℤ, pos, ◌-ℤ◌, ◌≤ℤ◌, unsigned_abs, length, IfOk, IfErr, IfSome};
 ghost use Rattle.book_model.specs.numbers.Bounds.{Reach, limits_of, IsNarrow};
-ghost use Rattle.book_model.specs.sky.Correction.{is_between as lies_between, seconds_of};
+ghost use Rattle.book_model.specs.sky.Correction.{seconds_of};
 ghost use Rattle.book_model.specs.numbers.Fractions.{fraction_of};
 ghost use Rattle.book_model.specs.programs.Leading.{next_turn};
 ghost use Rattle.book_model.specs.numbers.Ranges.{IsInTable};
 ghost use Rattle.book_model.specs.numbers.Relations.{Narrow};
-ghost use Rattle.book_model.specs.sky.Time.{hundreds_of, centuries_to_july, correction_of_year, correction_at, dynamical_of, from_dynamical_of, in_centuries, centuries_of};
+ghost use Rattle.book_model.specs.sky.Time.{hundreds_of, centuries_to_july, correction_by, correction_of_year, correction_at, dynamical_of, from_dynamical_of, in_centuries, centuries_of};
 ghost use Rattle.width_laws.specs.declared.table.TheConstants.{CORRECTION, CENTURIES};
 ghost use Rattle.width_laws.specs.Table.{greatest_of};
 ghost use Rattle.time_scales.specs.Steps.{IsYearOpenFor};
-ghost use Rattle.encl_core.specs.Kept.{IsRecentlyDated};
-ghost use Rattle.time_scales.specs.Widths.{IsRecent, IsLater, IsNearlyRecent, AreRecentCenturies};
-ghost use Rattle.time_scales.specs.Corrections.{row_of, IsInRow, correction_by, computed_by, computed_of, correction_bound};
+ghost use Rattle.time_scales.specs.Widths.{IsLater, IsNearlyRecent, AreRecentCenturies};
+ghost use Rattle.time_scales.specs.Corrections.{IsFormYear, computed_by, computed_of, units_of_year, correction_bound};
 
 use crate::gregorian;
 use crate::moment::year;
 use crate::polynomial::{at_fraction, at_whole};
-use book_model::{
-    CORRECTION_1800, CORRECTION_1900, CORRECTION_1987, CORRECTION_2006, CORRECTION_ANCIENT,
-    DAY_IN_CENTURIES, Fail, Frac, NOON_2000, SECOND, Site,
-};
+use book_model::tables::SECOND;
+use book_model::time_tables::{DAY_IN_CENTURIES, NOON_2000};
+use book_model::{CorrectionForm, Fail, Frac, Site, row_of_year};
 use encl_core::{Enclosure, Trail};
 
 /// The last day of 1899 (R.D.).
 const LAST_DAY_OF_1899: i64 = 693_596;
-
-/// A row of the table of corrections: the years from -499 to 499, or those from the named year up to the next row's;
-/// the last ends with 2050.
-#[derive(Clone, Copy, Debug, PartialEq, Eq)]
-enum Row {
-    Ancient,
-    From1800,
-    From1900,
-    From1987,
-    From2006,
-}
-
-/// Whether a year lies between two others.
-fn is_between(low: i64, high: i64, year: i64) -> bool
-    ensures between { result ≡ lies_between low high year }
-{
-    low <= year && year <= high
-}
-
-/// The row of a year, if the table has one.
-fn row_of_year(year: i64) -> Option<Row>
-    ensures row { result ≡ row_of year }
-{
-    if is_between(-499, 499, year) {
-        Some(Row::Ancient)
-    } else if is_between(1800, 1899, year) {
-        Some(Row::From1800)
-    } else if is_between(1900, 1986, year) {
-        Some(Row::From1900)
-    } else if is_between(1987, 2005, year) {
-        Some(Row::From1987)
-    } else if is_between(2006, 2050, year) {
-        Some(Row::From2006)
-    } else {
-        None
-    }
-}
 
 /// A year in hundreds of years.
 fn hundreds(year: i64) -> Frac
@@ -74,8 +35,8 @@ fn hundreds(year: i64) -> Frac
 
 /// 1 July of a year, in centuries from the last day of 1899.
 fn july(year: i64) -> Frac
-    requires from { pos 1800 ≤ℤ year }
-    requires to { year ≤ℤ pos 1986 }
+    requires from { pos 1 ≤ℤ year }
+    requires to { year ≤ℤ pos 9999 }
     ensures value { fraction_of result ≡ centuries_to_july year }
 {
     Frac::new(
@@ -85,48 +46,45 @@ fn july(year: i64) -> Frac
     .unwrap()
 }
 
-/// A polynomial of seconds in the years from 2000 on, in days.
+/// A polynomial of seconds in the years from one on, in days.
 #[tactic(auto, unfolding(book_model::specs::sky::Correction::seconds_of))]
-fn seconds<E: Enclosure>(coefficients: &[Frac], year: i64) -> E
-    requires few { length coefficients.now ≤ 8 }
-    requires from { pos 1987 ≤ℤ year }
-    requires to { year ≤ℤ pos 2050 }
-    ensures encloses { Encloses E.shown E.BITS (seconds_of coefficients.now year) result }
+fn seconds<E: Enclosure>(coefficients: &[Frac], origin: i64, year: i64) -> E
+    requires few { length coefficients.now ≤ 7 }
+    requires small { unsigned_abs (year -ℤ origin) ≤ 256 }
+    ensures encloses { Encloses E.shown E.BITS (seconds_of coefficients.now origin year) result }
 {
-    at_whole::<E>(coefficients, year - 2000).mul_frac(SECOND)
+    at_whole::<E>(coefficients, year - origin).mul_frac(SECOND)
 }
 
-/// The correction of a year by its row of the table, in days.
-fn correction_in_row<E: Enclosure>(row: Row, year: i64) -> E
-    requires row { IsInRow row year }
-    ensures holds { Holds E.shown (correction_by row year) result }
-    ensures narrow { Narrows E.shown E.BITS (computed_by row year) result }
+/// The correction of a year by the form and the coefficients of a row of the table, in days.
+fn by_form<E: Enclosure>(form: CorrectionForm, coefficients: &[Frac], year: i64) -> E
+    requires year { IsFormYear form (length coefficients.now) year }
+    ensures holds { Holds E.shown (correction_by form coefficients.now year) result }
+    ensures narrow { Narrows E.shown E.BITS (computed_by form coefficients.now year) result }
 {
-    match row {
-        Row::Ancient => at_fraction::<E>(&CORRECTION_ANCIENT, hundreds(year)).mul_frac(SECOND),
-        Row::From1800 => at_fraction::<E>(&CORRECTION_1800, july(year)),
-        Row::From1900 => at_fraction::<E>(&CORRECTION_1900, july(year)),
-        Row::From1987 => seconds::<E>(&CORRECTION_1987, year),
-        Row::From2006 => seconds::<E>(&CORRECTION_2006, year),
+    match form {
+        CorrectionForm::SecondsSince(origin) => seconds::<E>(coefficients, origin, year),
+        CorrectionForm::SecondsByHundreds => {
+            at_fraction::<E>(coefficients, hundreds(year)).mul_frac(SECOND)
+        }
+        CorrectionForm::DaysByCenturies => at_fraction::<E>(coefficients, july(year)),
     }
 }
 
 /// Dynamical time less universal time in a year, in days (Reingold and Dershowitz, Calendrical Calculations, chapter
-/// 14, ephemeris correction). It makes no test, and is void at `year` outside -499 to 499 and 1800 to 2050.
+/// 14, ephemeris correction). It makes no test, and is void at `year` where no row of the table has the year.
 pub fn correction<E: Enclosure>(year: i64, trail: &mut Trail) -> Result<E, Fail>
     ensures leads { Follows E.shown (correction_of_year year) trail.old.count trail.new.count result }
     ensures narrow { IfOk result (λ e. (r : Reach) → Narrow E.shown (limits_of E.BITS) r
         (computed_of year) e) }
-    ensures close { 36 ≤ E.BITS → E.BITS ≤ 56 → pos 1987 ≤ℤ year → year ≤ℤ pos 2050
-        → IfOk result (λ e. IsNarrow 0 (correction_bound 4 E.BITS) (E.shown e)) }
-    ensures close_before { 36 ≤ E.BITS → E.BITS ≤ 56 → pos 1800 ≤ℤ year → year ≤ℤ pos 1986
-        → IfOk result (λ e. IsNarrow 0 (correction_bound 33 E.BITS) (E.shown e)) }
+    ensures close { 36 ≤ E.BITS → E.BITS ≤ 56 → IfOk result (λ e. IfSome (units_of_year year)
+        (λ units. IsNarrow 0 (correction_bound units E.BITS) (E.shown e))) }
     ensures measured { Measured E.BITS E.shown (IsCorrection (2 ^ 14)) result }
     ensures void { IfErr result (λ f. f ≡ Fail.Void Site.Year) }
     ensures counted { trail.new.count ≡ trail.old.count }
 {
     match row_of_year(year) {
-        Some(row) => Ok(correction_in_row::<E>(row, year)),
+        Some(row) => Ok(by_form::<E>(row.2, row.3, year)),
         None => Err(Fail::Void(Site::Year)),
     }
 }

@@ -44,8 +44,8 @@ pub(crate) fn year_of(day: i128) -> i64
 
 /// The day number of 1 July of a year.
 pub(crate) fn first_of_july(year: i64) -> i64
-    requires from { pos 1800 ≤ℤ year }
-    requires to { year ≤ℤ pos 1986 }
+    requires from { pos 1 ≤ℤ year }
+    requires to { year ≤ℤ pos 9999 }
     ensures day { result ≡ fixed_of (unsigned_abs year) 7 1 }
     ensures near_from { negsuc 9999999 ≤ℤ result }
     ensures near_to { result ≤ℤ pos 10000000 }

@@ -39,8 +39,8 @@ pub fn cubic<E: Enclosure>(coefficients: &Cubic, x: E) -> E
 #[inline(always)]
 #[tactic(auto, using(crate::proofs::WholePowers::polynomials))]
 pub(crate) fn at_whole<E: Enclosure>(coefficients: &[Frac], x: i64) -> E
-    requires few { length coefficients.now ≤ 8 }
-    requires small { unsigned_abs x ≤ 64 }
+    requires few { length coefficients.now ≤ 7 }
+    requires small { unsigned_abs x ≤ 256 }
     ensures encloses { Encloses E.shown E.BITS (polynomial_of coefficients.now x) result }
 {
     let mut sum = E::from_int(0);
@@ -55,7 +55,7 @@ pub(crate) fn at_whole<E: Enclosure>(coefficients: &[Frac], x: i64) -> E
 /// The polynomial with these coefficients at a fraction, from the inside out.
 #[inline(always)]
 #[tactic(auto, using(crate::proofs::HornerLemmas::horner))]
-fn nested<E: Enclosure>(coefficients: &[Frac], x: Frac) -> E
+fn horner<E: Enclosure>(coefficients: &[Frac], x: Frac) -> E
     ensures holds { Holds E.shown (polynomial_at coefficients.now (fraction_of x)) result }
     ensures narrow { Narrows E.shown E.BITS (horner_of coefficients.now (fraction_of x)) result }
 {
@@ -78,5 +78,5 @@ pub fn at_fraction<E: Enclosure>(coefficients: &[Frac], x: Frac) -> E
         → IsAbout (horner_size coefficients.now size (length coefficients.now))
         (horner_width size (length coefficients.now)) (E.shown result) }
 {
-    nested::<E>(coefficients, x)
+    horner::<E>(coefficients, x)
 }

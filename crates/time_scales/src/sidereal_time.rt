@@ -12,7 +12,8 @@ ghost use Rattle.width_laws.specs.Table.{greatest_of};
 
 use crate::dynamical_time::to_centuries;
 use crate::polynomial::cubic;
-use book_model::{Fail, SIDEREAL_TIME};
+use book_model::Fail;
+use book_model::time_tables::SIDEREAL_TIME;
 use encl_core::{Enclosure, Trail};
 
 /// Mean sidereal time at Greenwich at a moment of universal time, in degrees, not reduced (Reingold and Dershowitz,

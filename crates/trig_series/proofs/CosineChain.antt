@@ -13,7 +13,7 @@ use Rattle.book_model.specs.numbers.Series.{cosine_term, double}
 use Rattle.book_model.proofs.Terms.{IsUpTo, square_nonneg, falling, cosine_step_from_first, cosine_one, cosine_halving}
 use Rattle.trig_series.proofs.KernelSteps.{IsHigh, step_near, square_near, angle_fifths}
 use Rattle.trig_series.proofs.SineChain.{Keeps, next, near_same, step_at, nested, flipped, inner_nested}
-use Rattle.trig_series.specs.Kernel.{IsNear, IsCut, IsAngle, IsSquare, AreCosineEnds}
+use Rattle.trig_series.specs.Kernel.{IsWithinUnits, IsCut, IsAngle, IsSquare, AreCosineEnds}
 
 abbrev ratio : ℕ → Fraction
 ratio k = falling (double k)
@@ -65,11 +65,11 @@ cut_9 = record { not_above = record { cross = record { le = tt } }; close = reco
 abbrev eleventh : Fraction → Fraction
 eleventh s = times (times (coefficient 9) (ratio 9)) s
 
-start_low : IsNear 320 0 (eleventh (flipped (whole (negsuc 1)) 9))
+start_low : IsWithinUnits 320 0 (eleventh (flipped (whole (negsuc 1)) 9))
 unfolding coefficient times flipped opposite
 start_low = record { above = record { cross = record { le = tt } }; below = record { cross = record { le = tt } } }
 
-start_high : IsNear 320 0 (eleventh (flipped (whole (pos 2)) 9))
+start_high : IsWithinUnits 320 0 (eleventh (flipped (whole (pos 2)) 9))
 unfolding coefficient times flipped opposite
 start_high = record { above = record { cross = record { le = tt } }; below = record { cross = record { le = tt } } }
 
@@ -101,10 +101,10 @@ coefficient_next : (k : ℕ) (N : Fraction) → times (coefficient (suc k)) N �
 unfolding coefficient
 coefficient_next k N = refl
 
-on : (k c w t z : ℕ) (u N : Fraction) → Keeps c w t z → zero_F ≤F u → IsCut c (coefficient k) → IsSquare w u → IsNear 320 t (times (coefficient (suc k)) N) → IsNear 320 z (times (coefficient k) (step_at (ratio k) u N))
+on : (k c w t z : ℕ) (u N : Fraction) → Keeps c w t z → zero_F ≤F u → IsCut c (coefficient k) → IsSquare w u → IsWithinUnits 320 t (times (coefficient (suc k)) N) → IsWithinUnits 320 z (times (coefficient k) (step_at (ratio k) u N))
 on k c w t z u N f p i s n = next c w t z (coefficient k) (ratio k) u N f p i s (rw (coefficient_next k N) at n)
 
-chained : (w j i h g f e d c b a : ℕ) (u s : Fraction) → Chain w j i h g f e d c b a → zero_F ≤F u → IsSquare w u → IsNear 320 0 (eleventh s) → IsNear 320 a (nested u ratio s 9)
+chained : (w j i h g f e d c b a : ℕ) (u s : Fraction) → Chain w j i h g f e d c b a → zero_F ≤F u → IsSquare w u → IsWithinUnits 320 0 (eleventh s) → IsWithinUnits 320 a (nested u ratio s 9)
 chained w j i h g f e d c b a u s k z q n =
     let n9 = next 2881 w 0 j (coefficient 9) (ratio 9) u s k.k9 z cut_9 q n in
     let n8 = on 8 881657 w j i u _ k.k8 z cut_8 q n9 in
@@ -148,7 +148,7 @@ cosine_near n angle w j i h g f e d c b a x l small p t k =
     let z = square_nonneg x u in
     let y = square_near w angle x small p t in
     let q : n ≡ (n - 9) + 9 = omega (arith, l) in
-    let v = λ (r : Fraction) (m : IsNear 320 0 (eleventh r)). chained w j i h g f e d c b a (times x x) r k z y m in
+    let v = λ (r : Fraction) (m : IsWithinUnits 320 0 (eleventh r)). chained w j i h g f e d c b a (times x x) r k z y m in
     rw q (deeper (n - 9) x a u
     (record {
       low = le_trans _ _ _ (v (flipped (whole (negsuc 1)) 9) start_low).above (low_is x u);

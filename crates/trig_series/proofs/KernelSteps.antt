@@ -8,7 +8,7 @@ use Rattle.exact_math.proofs.Fractions.{le_trans}
 use Rattle.exact_math.proofs.Same.{le_of_same, ge_of_same}
 use Rattle.exact_math.proofs.Certificates.{zero_F, ◌≼◌, ◌≗◌, known, multiple, ◌⊞◌, ◌⊠◌, natural, le_by, le_over}
 use Rattle.book_model.proofs.Terms.{IsUpTo}
-use Rattle.trig_series.specs.Kernel.{at_64, IsNear, IsCut, IsAngle, IsSquare}
+use Rattle.trig_series.specs.Kernel.{at_64, IsWithinUnits, IsCut, IsAngle, IsSquare}
 
 -- 2^-64
 unit : Fraction
@@ -81,7 +81,7 @@ rest_is : (c h : ℕ) → h ≤ c → whole (pos (c - h)) ≈ plus (whole (pos c
 unfolding plus opposite
 rest_is c h e = record { cross = omega (arith, ints, e) }
 
-step_above : (c w t h : ℕ) (C U V : Fraction) → IsHigh h w t → h ≤ c → 2 * t ≤ 2 ^ 64 → zero_F ≤F U → IsCut c C → IsSquare w U → IsNear 320 t V →
+step_above : (c w t h : ℕ) (C U V : Fraction) → IsHigh h w t → h ≤ c → 2 * t ≤ 2 ^ 64 → zero_F ≤F U → IsCut c C → IsSquare w U → IsWithinUnits 320 t V →
     at_64 (pos (c - h) -ℤ pos 320) ≤F plus C (opposite (times U V))
 step_above c w t h C U V p k l z i s n =
     le_trans _ (times (plus (whole (pos (c - h))) (opposite (whole (pos 320)))) unit) _ (le_of_same (at_less (pos (c - h)) (pos 320)))
@@ -110,7 +110,7 @@ step_above c w t h C U V p k l z i s n =
       ),
     ))
 
-step_below : (c w t h : ℕ) (C U V : Fraction) → IsHigh h w t → h ≤ c → zero_F ≤F U → IsCut c C → IsSquare w U → IsNear 320 t V →
+step_below : (c w t h : ℕ) (C U V : Fraction) → IsHigh h w t → h ≤ c → zero_F ≤F U → IsCut c C → IsSquare w U → IsWithinUnits 320 t V →
     plus C (opposite (times U V)) ≤F at_64 (pos (c - h) +ℤ pos 320)
 step_below c w t h C U V p k z i s n =
     le_trans _ (times (plus (whole (pos (c - h))) (whole (pos 320))) unit) _
@@ -140,7 +140,7 @@ step_below c w t h C U V p k z i s n =
     ))
     (ge_of_same (at_more (pos (c - h)) (pos 320)))
 
-pub step_near : (c w t h : ℕ) (C U V : Fraction) → IsHigh h w t → h ≤ c → 2 * t ≤ 2 ^ 64 → zero_F ≤F U → IsCut c C → IsSquare w U → IsNear 320 t V → IsNear 320 (c - h) (plus C (opposite (times U V)))
+pub step_near : (c w t h : ℕ) (C U V : Fraction) → IsHigh h w t → h ≤ c → 2 * t ≤ 2 ^ 64 → zero_F ≤F U → IsCut c C → IsSquare w U → IsWithinUnits 320 t V → IsWithinUnits 320 (c - h) (plus C (opposite (times U V)))
 step_near c w t h C U V p k l z i s n = record { above = step_above c w t h C U V p k l z i s n; below = step_below c w t h C U V p k z i s n }
 
 -- ---- the square of an angle
@@ -195,7 +195,7 @@ pub square_near : (w a : ℕ) (x : Fraction) → a ≤ 14757395258967641292 → 
 square_near w a x l p g = record { not_above = square_above w a x p g; close = square_below w a x l p g; small = over_25 (times x x) (square_fifths x (angle_fifths a x g)) }
 
 -- ---- the product of an angle and what is near
-pub product_above : (s a t : ℕ) (x V : Fraction) → IsHigh s a t → IsAngle a x → IsNear 320 t V → at_64 (pos s -ℤ pos 384) ≤F times x V
+pub product_above : (s a t : ℕ) (x V : Fraction) → IsHigh s a t → IsAngle a x → IsWithinUnits 320 t V → at_64 (pos s -ℤ pos 384) ≤F times x V
 product_above s a t x V p g n =
     le_trans _ (times (plus (whole (pos s)) (opposite (whole (pos 384)))) unit) _ (le_of_same (at_less (pos s) (pos 384)))
     (le_by (x ∷ V ∷ whole (pos s) ∷ whole (pos a) ∷ whole (pos t) ∷ whole (pos (a * t)) ∷ unit ∷ [])
@@ -229,7 +229,7 @@ count_whole : (t : ℕ) → t ≤ 2 ^ 64 → times (whole (pos t)) unit ≤F who
 unfolding times unit
 count_whole t h = record { cross = omega (arith, ints, h) }
 
-pub product_below : (s a t : ℕ) (x V : Fraction) → t ≤ 2 ^ 64 → IsHigh s a t → IsAngle a x → IsNear 320 t V → times x V ≤F at_64 (pos s +ℤ pos 384)
+pub product_below : (s a t : ℕ) (x V : Fraction) → t ≤ 2 ^ 64 → IsHigh s a t → IsAngle a x → IsWithinUnits 320 t V → times x V ≤F at_64 (pos s +ℤ pos 384)
 product_below s a t x V l p g n =
     le_trans _ (times (plus (whole (pos s)) (whole (pos 384))) unit) _
     (le_by (x ∷ V ∷ whole (pos s) ∷ whole (pos a) ∷ whole (pos t) ∷ whole (pos (a * t)) ∷ unit ∷ [])

@@ -12,7 +12,7 @@ use Rattle.exact_math.proofs.Horner.{beneath_is, atop_is}
 use Rattle.book_model.specs.numbers.Series.{sine_term}
 use Rattle.book_model.proofs.Terms.{IsUpTo, square_nonneg, falling, sine_index, sine_step, sine_first, sine_halving}
 use Rattle.trig_series.proofs.KernelSteps.{IsHigh, step_near, square_near, product_above, product_below, angle_fifths}
-use Rattle.trig_series.specs.Kernel.{IsNear, IsCut, IsAngle, IsSquare, AreSineEnds}
+use Rattle.trig_series.specs.Kernel.{IsWithinUnits, IsCut, IsAngle, IsSquare, AreSineEnds}
 
 -- 1 - u r s
 abbrev pub step_at : Fraction → Fraction → Fraction → Fraction
@@ -22,14 +22,14 @@ step_at r u s = plus (whole (pos 1)) (opposite (times (times u r) s))
 stepped : (C r U N : Fraction) → plus C (opposite (times U (times (times C r) N))) ≈ times C (step_at r U N)
 stepped C r U N = same_by (C ∷ r ∷ U ∷ N ∷ []) (at 0 ⊖ at 2 ⊗ ((at 0 ⊗ at 1) ⊗ at 3)) (at 0 ⊗ (lit (pos 1) ⊖ (at 2 ⊗ at 1) ⊗ at 3)) refl
 
-pub near_same : (e t : ℕ) (x y : Fraction) → x ≈ y → IsNear e t x → IsNear e t y
+pub near_same : (e t : ℕ) (x y : Fraction) → x ≈ y → IsWithinUnits e t x → IsWithinUnits e t y
 near_same e t x y s n = record { above = le_trans _ x y n.above (le_of_same s); below = le_trans y x _ (ge_of_same s) n.below }
 
 -- what the code's step keeps
 abbrev pub Keeps : (coefficient square inner result : ℕ) → Type 0
-Keeps c w t k = (C u v : Fraction) → zero_F ≤F u → IsCut c C → IsSquare w u → IsNear 320 t v → IsNear 320 k (plus C (opposite (times u v)))
+Keeps c w t k = (C u v : Fraction) → zero_F ≤F u → IsCut c C → IsSquare w u → IsWithinUnits 320 t v → IsWithinUnits 320 k (plus C (opposite (times u v)))
 
-pub next : (c w t k : ℕ) (C r u N : Fraction) → Keeps c w t k → zero_F ≤F u → IsCut c C → IsSquare w u → IsNear 320 t (times (times C r) N) → IsNear 320 k (times C (step_at r u N))
+pub next : (c w t k : ℕ) (C r u N : Fraction) → Keeps c w t k → zero_F ≤F u → IsCut c C → IsSquare w u → IsWithinUnits 320 t (times (times C r) N) → IsWithinUnits 320 k (times C (step_at r u N))
 next c w t k C r u N f z i s n = near_same 320 k _ _ (stepped C r u N) (f C u (times (times C r) N) z i s n)
 
 -- ---- the coefficients
@@ -98,7 +98,7 @@ cut_8 = record { not_above = record { cross = record { le = tt } }; close = reco
 
 -- what stands innermost is near 0: once or minus twice the tenth coefficient
 abbrev IsStart : Fraction → Type 0
-IsStart s = IsNear 320 0 (times (times (coefficient 8) (ratio 8)) s)
+IsStart s = IsWithinUnits 320 0 (times (times (coefficient 8) (ratio 8)) s)
 
 start_low : IsStart (flipped (whole (negsuc 1)) 8)
 unfolding coefficient times flipped opposite
@@ -139,10 +139,10 @@ coefficient_next : (k : ℕ) (N : Fraction) → times (coefficient (suc k)) N �
 unfolding coefficient
 coefficient_next k N = refl
 
-on : (k c w t z : ℕ) (u N : Fraction) → Keeps c w t z → zero_F ≤F u → IsCut c (coefficient k) → IsSquare w u → IsNear 320 t (times (coefficient (suc k)) N) → IsNear 320 z (times (coefficient k) (step_at (ratio k) u N))
+on : (k c w t z : ℕ) (u N : Fraction) → Keeps c w t z → zero_F ≤F u → IsCut c (coefficient k) → IsSquare w u → IsWithinUnits 320 t (times (coefficient (suc k)) N) → IsWithinUnits 320 z (times (coefficient k) (step_at (ratio k) u N))
 on k c w t z u N f p i s n = next c w t z (coefficient k) (ratio k) u N f p i s (rw (coefficient_next k N) at n)
 
-pub chained : (w i h g f e d c b a : ℕ) (u s : Fraction) → Chain w i h g f e d c b a → zero_F ≤F u → IsSquare w u → IsNear 320 0 (tenth s) → IsNear 320 a (nested u ratio s 8)
+pub chained : (w i h g f e d c b a : ℕ) (u s : Fraction) → Chain w i h g f e d c b a → zero_F ≤F u → IsSquare w u → IsWithinUnits 320 0 (tenth s) → IsWithinUnits 320 a (nested u ratio s 8)
 chained w i h g f e d c b a u s k z q n =
     let n8 = next 51862 w 0 i (coefficient 8) (ratio 8) u s k.k8 z cut_8 q n in
     let n7 = on 7 14106527 w i h u _ k.k7 z cut_7 q n8 in
@@ -183,7 +183,7 @@ sine_near n angle w i h g f e d c b a s x l small top p q t k =
     let u = angle_fifths angle x t in
     let z = square_nonneg x u in
     let y = square_near w angle x small p t in
-    let v = λ (r : Fraction) (m : IsNear 320 0 (tenth r)). chained w i h g f e d c b a (times x x) r k z y m in
+    let v = λ (r : Fraction) (m : IsWithinUnits 320 0 (tenth r)). chained w i h g f e d c b a (times x x) r k z y m in
     ends_from n x s l u
     (record {
       low = le_trans _ _ _ (product_above s angle a x _ q t (v (flipped (whole (negsuc 1)) 8) start_low)) (low_is x u);

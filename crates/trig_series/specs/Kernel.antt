@@ -12,7 +12,7 @@ abbrev pub at_64 : ℤ → Fraction
 at_64 n = record { num = n; below = 2 ^ 64 - 1 }
 
 -- x lies within e of t
-pub record IsNear (e t : ℕ) (x : Fraction) : Type 0 where
+pub record IsWithinUnits (e t : ℕ) (x : Fraction) : Type 0 where
   pub above : at_64 (pos t -ℤ pos e) ≤F x
   pub below : x ≤F at_64 (pos t +ℤ pos e)
 

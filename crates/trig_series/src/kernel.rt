@@ -9,7 +9,7 @@ ghost use Rattle.book_model.specs.programs.Leading.{at_56};
 ghost use Rattle.book_model.specs.numbers.Octants.{radians};
 ghost use Rattle.book_model.specs.numbers.Series.{sine_series, cosine_series};
 ghost use Rattle.trig_series.specs.declared.scale.TheConstants.{OCTANT};
-ghost use Rattle.trig_series.specs.Kernel.{at_64, IsNear, IsCut, IsSquare, IsAngle, AreSineEnds, AreCosineEnds, IsInRadians};
+ghost use Rattle.trig_series.specs.Kernel.{at_64, IsWithinUnits, IsCut, IsSquare, IsAngle, AreSineEnds, AreCosineEnds, IsInRadians};
 
 /// The high half of a product.
 #[inline(always)]
@@ -25,7 +25,7 @@ fn step(coefficient: u64, square: u64, inner: u64) -> u64
     requires falling { inner ≤ coefficient }
     requires half { 2 * inner ≤ 2 ^ 64 }
     ensures near { (c u v : Fraction) → zero_fraction ≤F u → IsCut coefficient c → IsSquare square u
-        → IsNear 320 inner v → IsNear 320 result (plus c (opposite (times u v))) }
+        → IsWithinUnits 320 inner v → IsWithinUnits 320 result (plus c (opposite (times u v))) }
     ensures below { result ≤ coefficient }
 {
     coefficient - high_half(square, inner)

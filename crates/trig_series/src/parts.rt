@@ -11,7 +11,7 @@ ghost use Rattle.trig_series.specs.Points.{IsSmall, IsRising, IsCrest, IsPart};
 ghost use Rattle.book_model.specs.numbers.Depth.{DEPTH};
 
 use crate::kernel::{cosine_of_degrees_56, sine_of_degrees_56};
-use crate::points::{around, opposite};
+use crate::points::{opposite, span_around};
 use crate::scale::OCTANT;
 use encl_core::Span;
 
@@ -36,7 +36,7 @@ fn sine_ends_over_degrees(from: u64, to: u64) -> Span
     ensures room { IsSmall result.lo result.hi }
     ensures near { IsRising (pos from) (pos to) result.lo result.hi }
 {
-    let point = around(sine_of_degrees_56(from));
+    let point = span_around(sine_of_degrees_56(from));
     Span {
         lo: point.lo,
         hi: point.hi + most_moved(to - from),
@@ -54,7 +54,7 @@ fn cosine_ends_over_degrees(from: u64, to: u64) -> Span
     ensures room { IsSmall result.lo result.hi }
     ensures near { IsCrest (pos to) result.lo }
 {
-    let point = around(cosine_of_degrees_56(to));
+    let point = span_around(cosine_of_degrees_56(to));
     Span {
         lo: point.lo,
         hi: point.hi + most_moved(to - from),

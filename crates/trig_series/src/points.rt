@@ -29,7 +29,7 @@ pub(crate) fn opposite(span: Span) -> Span
 
 /// What lies within so many parts of 2⁻⁶⁴, fewer than 2 · 2⁸, of a number that counts 2⁻⁶⁴.
 #[inline(always)]
-pub(crate) fn around(number: u64) -> Span
+pub(crate) fn span_around(number: u64) -> Span
     ensures room { IsSmall result.lo result.hi }
     ensures low { (result.lo *ℤ pos 256 +ℤ pos 384) ≤ℤ pos number }
     ensures high { pos number ≤ℤ (result.hi *ℤ pos 256 -ℤ pos 384) }
@@ -71,7 +71,7 @@ pub(crate) fn sine_ends_at_degrees(degrees: u64) -> Span
     if degrees == OCTANT {
         return at_octant_end();
     }
-    around(sine_of_degrees_56(degrees))
+    span_around(sine_of_degrees_56(degrees))
 }
 
 /// The cosine of so many degrees of an octant, which count 2⁻⁵⁶; exact at 0.
@@ -91,5 +91,5 @@ pub(crate) fn cosine_ends_at_degrees(degrees: u64) -> Span
     if degrees == OCTANT {
         return at_octant_end();
     }
-    around(cosine_of_degrees_56(degrees))
+    span_around(cosine_of_degrees_56(degrees))
 }

@@ -1,15 +1,17 @@
 -- The calendars, by their rows: which dates they may have, the number of a date's year, and which dates are answered as
 -- far as that can be told without any fact; the day that a date names, and the date of a day.
-use Rattle.std.specs.Prelude.{ℕ, zero, suc, ◌&&◌, ◌==◌, nat_le, Bool, true, false, [], ◌∷◌, ℤ, pos, ◌+ℤ◌, ◌*ℤ◌, unsigned_abs, slice_index_or}
+use Rattle.std.specs.Prelude.{ℕ, zero, suc, ◌&&◌, ◌==◌, nat_le, Bool, true, false, [], ◌∷◌, IsTrue, ℤ, pos, ◌+ℤ◌, ◌*ℤ◌, ◌≤ℤ◌, unsigned_abs, slice_index_or}
 use Rattle.std.specs.Ordering.{int_eq}
 use denote.Enum.Declared.{tag_of}
 use lib.Pointwise.{pointwise}
 use Rattle.book_model.specs.contracts.calendar.Calendar.{the_type}
 use Rattle.book_model.specs.declared.calendar.Calendar.{Calendar}
-use Rattle.book_model.specs.declared.calendar.Calendar.TheVariants.{Gregorian, Fixed, Persian, Bahai, Chinese, Islamic, HinduSolar, HinduLunar}
+use Rattle.book_model.specs.declared.calendar.Calendar.TheVariants as calendars
+use Rattle.book_model.specs.declared.calendar.Calendar.TheVariants.{Gregorian, Fixed}
 use Rattle.book_model.specs.declared.calendar.CalendarRow.{CalendarRow}
-use Rattle.book_model.specs.declared.calendar.TheConstants.{CALENDARS, FIRST_ANSWERED_DAY, LAST_ANSWERED_DAY}
+use Rattle.book_model.specs.declared.calendar.TheConstants.{CALENDARS, LAST_DATE_DAY}
 use Rattle.book_model.specs.declared.request.Fields.{Fields}
+use Rattle.book_model.specs.declared.version.Version.{Version}
 use Rattle.book_model.specs.calendars.Bahai.{bahai_on, bahai_day}
 use Rattle.book_model.specs.calendars.Gregorian.{is_date, fixed_of, year_of_day, month_of_day, day_of_month}
 use Rattle.book_model.specs.calendars.Chinese.{chinese_on, chinese_day}
@@ -19,9 +21,10 @@ use Rattle.book_model.specs.calendars.HinduLunar.{hindu_lunar_on, hindu_lunar_da
 use Rattle.book_model.specs.calendars.HinduSolar.{hindu_solar_on, hindu_solar_day}
 use Rattle.book_model.specs.calendars.Islamic.{islamic_on, islamic_day}
 use Rattle.book_model.specs.calendars.Persian.{persian_on, persian_day}
+use Rattle.book_model.specs.calendars.Versions.{range_in, is_in_some, is_in_range}
 
 abbrev pub no_row : CalendarRow
-no_row = record { calendar = Gregorian; count = 0; limits = []; weights = []; offset = pos 0; years = (pos 0, pos 0); is_confirmed = false; is_padded = false }
+no_row = record { calendar = Gregorian; count = 0; limits = []; weights = []; offset = pos 0; first_day = pos 0; years = []; is_confirmed = false; is_padded = false }
 
 -- the row of a calendar
 abbrev pub row_of : Calendar → CalendarRow
@@ -61,13 +64,21 @@ counted row f (suc k) = counted row f k +ℤ weighed row f k
 unfoldable pub year_number : CalendarRow → Fields → ℤ
 year_number row f = counted row f 5
 
--- the number of the year is one that is answered
-abbrev pub has_year : CalendarRow → Fields → Bool
-has_year row f = is_between row.years.0 row.years.1 (year_number row f)
+-- the number of the year is one that a version answers
+abbrev pub has_year : Version → CalendarRow → Fields → Bool
+has_year version row f = is_between (range_in version row.years).0 (range_in version row.years).1 (year_number row f)
 
--- the days that a line may name: 1 January 1802 to 31 December 2048
-abbrev pub is_in_range : ℤ → Bool
-is_in_range day = is_between FIRST_ANSWERED_DAY LAST_ANSWERED_DAY day
+-- the number of the year is one that some version answers
+unfoldable pub has_some_year : Calendar → Fields → Bool
+has_some_year c f = is_in_some (row_of c).years (year_number (row_of c) f)
+
+-- what a calendar may be asked the day of: a date that it may have, of a year that some version answers
+abbrev pub IsAskable : Calendar → Fields → Type 0
+IsAskable c f = IsTrue (may_have c f) × IsTrue (has_some_year c f)
+
+-- a day whose date a calendar tells
+abbrev pub IsDateDay : Calendar → ℤ → Type 0
+IsDateDay c day = ((row_of c).first_day ≤ℤ day) × (day ≤ℤ LAST_DATE_DAY)
 
 -- the day of a Gregorian date, and that of a day number
 abbrev pub gregorian_day : Fields → ℤ
@@ -76,15 +87,15 @@ gregorian_day f = fixed_of (field f 0) (field f 1) (field f 2)
 abbrev pub fixed_day : Fields → ℤ
 fixed_day f = pos (field f 0)
 
--- a day that is known without any fact is one that a line may name
-abbrev pub has_day_in_range : Calendar → Fields → Bool
-has_day_in_range Gregorian f = is_in_range (gregorian_day f)
-has_day_in_range Fixed f = is_in_range (fixed_day f)
-has_day_in_range c f = true
+-- a day that is known without any fact is one that a line of a version may name
+abbrev pub has_day_in_range : Version → Calendar → Fields → Bool
+has_day_in_range version Gregorian f = is_in_range version (gregorian_day f)
+has_day_in_range version Fixed f = is_in_range version (fixed_day f)
+has_day_in_range version c f = true
 
--- the dates that are answered, as far as that can be told without any fact
-unfoldable pub is_answered : Calendar → Fields → Bool
-is_answered c f = has_year (row_of c) f && has_day_in_range c f
+-- the dates that a version answers, as far as that can be told without any fact
+unfoldable pub is_answered : Version → Calendar → Fields → Bool
+is_answered version c f = has_year version (row_of c) f && has_day_in_range version c f
 
 -- one number as the only field of a date or of a result
 abbrev pub one_field : ℤ → Fields
@@ -102,20 +113,20 @@ are_same_fields f g = (f.count == g.count) && pointwise int_eq f.values g.values
 abbrev pub day_named : Calendar → Fields → Inquiry ℤ
 day_named Gregorian f = done (gregorian_day f)
 day_named Fixed f = done (fixed_day f)
-day_named Persian f = persian_day (pos (field f 0)) (pos (field f 1)) (pos (field f 2))
-day_named Bahai f = bahai_day (pos (field f 0)) (pos (field f 1)) (pos (field f 2)) (pos (field f 3)) (pos (field f 4))
-day_named Chinese f = chinese_day (pos (field f 0)) (pos (field f 1)) (pos (field f 2)) (pos (field f 3)) (pos (field f 4))
-day_named Islamic f = islamic_day (pos (field f 0)) (pos (field f 1)) (pos (field f 2))
-day_named HinduSolar f = hindu_solar_day (pos (field f 0)) (pos (field f 1)) (pos (field f 2))
-day_named HinduLunar f = hindu_lunar_day (pos (field f 0)) (pos (field f 1)) (pos (field f 2)) (pos (field f 3)) (pos (field f 4))
+day_named calendars.Persian f = persian_day (pos (field f 0)) (pos (field f 1)) (pos (field f 2))
+day_named calendars.Bahai f = bahai_day (pos (field f 0)) (pos (field f 1)) (pos (field f 2)) (pos (field f 3)) (pos (field f 4))
+day_named calendars.Chinese f = chinese_day (pos (field f 0)) (pos (field f 1)) (pos (field f 2)) (pos (field f 3)) (pos (field f 4))
+day_named calendars.Islamic f = islamic_day (pos (field f 0)) (pos (field f 1)) (pos (field f 2))
+day_named calendars.HinduSolar f = hindu_solar_day (pos (field f 0)) (pos (field f 1)) (pos (field f 2))
+day_named calendars.HinduLunar f = hindu_lunar_day (pos (field f 0)) (pos (field f 1)) (pos (field f 2)) (pos (field f 3)) (pos (field f 4))
 
 -- the date of a day (R.D.)
 abbrev pub date_on : Calendar → ℤ → Inquiry Fields
 date_on Gregorian day = done (gregorian_fields_on day)
 date_on Fixed day = done (one_field day)
-date_on Persian day = persian_on day
-date_on Bahai day = bahai_on day
-date_on Chinese day = chinese_on day
-date_on Islamic day = islamic_on day
-date_on HinduSolar day = hindu_solar_on day
-date_on HinduLunar day = hindu_lunar_on day
+date_on calendars.Persian day = persian_on day
+date_on calendars.Bahai day = bahai_on day
+date_on calendars.Chinese day = chinese_on day
+date_on calendars.Islamic day = islamic_on day
+date_on calendars.HinduSolar day = hindu_solar_on day
+date_on calendars.HinduLunar day = hindu_lunar_on day

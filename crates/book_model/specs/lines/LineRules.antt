@@ -4,16 +4,16 @@ use Rattle.book_model.specs.declared.fact.Fact.{Fact}
 use Rattle.book_model.specs.declared.fact.Kind.{Kind}
 use Rattle.book_model.specs.declared.fact.Place.{Place}
 use Rattle.book_model.specs.declared.words.ToWord.{ToWord}
-use Rattle.book_model.specs.declared.words.Named.{Named}
-use Rattle.book_model.specs.declared.words.Named.TheVariants.{Date as Day, Value as Of}
-use Rattle.book_model.specs.declared.words.Shown.{Shown as WhatIsShown}
-use Rattle.book_model.specs.declared.words.Shown.TheVariants.{Date, Value}
+use Rattle.book_model.specs.declared.words.Meaning.{Meaning}
+use Rattle.book_model.specs.declared.words.Meaning.TheVariants.{Date, Value}
 use Rattle.book_model.specs.declared.request.Fields.{Fields}
 use Rattle.book_model.specs.declared.request.Request.{Request}
 use Rattle.book_model.specs.declared.request.Resolved.{Resolved}
 use Rattle.book_model.specs.declared.request.Resolved.TheVariants.{Shown, TooFar, NoDate}
-use Rattle.book_model.specs.calendars.Dates.{row_of, one_field, are_same_fields, gregorian_day, day_named, date_on, is_in_range}
+use Rattle.book_model.specs.declared.version.Version.{Version}
+use Rattle.book_model.specs.calendars.Dates.{row_of, one_field, are_same_fields, gregorian_day, day_named, date_on}
 use Rattle.book_model.specs.calendars.Inquiries.{Inquiry, done, ask, ask_once, and_then}
+use Rattle.book_model.specs.calendars.Versions.{is_in_range}
 use Rattle.book_model.specs.lines.Words.{named_by, calendar_of, shown_by}
 
 -- the fact of a kind and a place on a day
@@ -21,7 +21,7 @@ abbrev pub fact_on : Kind → Place → ℤ → Fact
 fact_on kind place day = record { kind = kind; place = place; day = day }
 
 -- the date of a day, or the value of its fact, as a result
-abbrev pub shown_on : ToWord → WhatIsShown → ℤ → Inquiry Resolved
+abbrev pub shown_on : ToWord → Meaning → ℤ → Inquiry Resolved
 shown_on to (Date c) day = and_then (date_on c day) (λ fields. done (Shown to fields))
 shown_on to (Value kind place) day = ask (fact_on kind place day) (λ v. done (Shown to (one_field v)))
 
@@ -37,15 +37,15 @@ confirmed r day back = if are_same_fields back r.date then result_on r.to day el
 unfoldable pub result_within : Request → ℤ → Inquiry Resolved
 result_within r day = if (row_of (calendar_of r.from)).is_confirmed then and_then (date_on (calendar_of r.from) day) (confirmed r day) else result_on r.to day
 
--- what a day comes to that a date names
-unfoldable pub result_of_day : Request → ℤ → Inquiry Resolved
-result_of_day r day = if is_in_range day then result_within r day else done (TooFar day)
+-- what a day comes to that a date names, in lines of a version
+unfoldable pub result_of_day : Version → Request → ℤ → Inquiry Resolved
+result_of_day version r day = if is_in_range version day then result_within r day else done (TooFar day)
 
 -- the day (R.D.) that a date names, by what a word names: in a calendar, or by the fact of its Gregorian day
-abbrev pub day_by : Named → Fields → Inquiry ℤ
-day_by (Day c) date = day_named c date
-day_by (Of kind place) date = ask_once (fact_on kind place (gregorian_day date))
+abbrev pub day_by : Meaning → Fields → Inquiry ℤ
+day_by (Date c) date = day_named c date
+day_by (Value kind place) date = ask_once (fact_on kind place (gregorian_day date))
 
--- the rule of a line
-unfoldable pub rule_of : Request → Inquiry Resolved
-rule_of r = and_then (day_by (named_by r.from) r.date) (result_of_day r)
+-- the rule of a line of a version
+unfoldable pub rule_of : Version → Request → Inquiry Resolved
+rule_of version r = and_then (day_by (named_by r.from) r.date) (result_of_day version r)

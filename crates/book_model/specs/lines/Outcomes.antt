@@ -1,5 +1,5 @@
 -- What comes of a line, and when that is right.
-use Rattle.std.specs.Prelude.{◌≡◌, ℕ, ◌≤◌, Bool, true, false, List, [], ◌∷◌, ℤ, Ok, Err}
+use Rattle.std.specs.Prelude.{◌≡◌, ℕ, ◌≤◌, Bool, true, false, List, [], ◌∷◌, ℤ, Result, Ok, Err}
 use Rattle.book_model.specs.declared.site.Site.{Site}
 use Rattle.book_model.specs.declared.fact.Fact.{Fact}
 use Rattle.book_model.specs.declared.fail.Undecided.{Undecided}
@@ -7,6 +7,7 @@ use Rattle.book_model.specs.declared.request.Request.{Request}
 use Rattle.book_model.specs.declared.request.Resolved.{Resolved}
 use Rattle.book_model.specs.declared.request.Resolved.TheVariants.{Shown, TooFar, NoDate}
 use Rattle.book_model.specs.declared.request.Rule.{Rule}
+use Rattle.book_model.specs.declared.version.Version.{Version}
 use Rattle.book_model.specs.sky.Facts.{IsNear, IsVoidAt}
 use Rattle.book_model.specs.calendars.Inquiries.{finding, found, AsksAt}
 use Rattle.book_model.specs.lines.LineRules.{rule_of}
@@ -21,31 +22,37 @@ pub data LineOutcome : Type 0 where
   undecided : Fact → Undecided → LineOutcome
   void : Fact → Site → LineOutcome
 
--- the line breaks no rule, and at every depth from 40 on its result is x, over these facts with these values
-pub record HasResult (line : List ℕ) (x : Resolved) (facts : List (Fact × ℤ)) : Type 0 where
-  pub request : Request
-  pub asked : request_of line ≡ Ok request
-  pub at_each_depth : (n : ℕ) → DEPTH ≤ n → finding n (rule_of request) ≡ found x facts
+-- at every depth from 40 on the result of a request is x, over these facts with these values
+pub record HasResult (version : Version) (r : Request) (x : Resolved) (facts : List (Fact × ℤ)) : Type 0 where
+  pub at_each_depth : (n : ℕ) → DEPTH ≤ n → finding n (rule_of version r) ≡ found x facts
 
--- the line breaks no rule, and at every depth from 40 on its rule asks this fact
-pub record AsksAlways (line : List ℕ) (f : Fact) : Type 0 where
-  pub request : Request
-  pub asked : request_of line ≡ Ok request
-  pub at_each_depth : (n : ℕ) → DEPTH ≤ n → AsksAt n (rule_of request) f
+-- at every depth from 40 on the rule of a request asks this fact
+pub record AsksAlways (version : Version) (r : Request) (f : Fact) : Type 0 where
+  pub at_each_depth : (n : ℕ) → DEPTH ≤ n → AsksAt n (rule_of version r) f
 
--- an outcome is right for a line
-abbrev pub IsRightFor : List ℕ → LineOutcome → Type 0
-IsRightFor line (refused rule) = request_of line ≡ Err rule
-IsRightFor line (resolved x facts) = HasResult line x facts
-IsRightFor line (undecided f u) = AsksAlways line f × IsNear f u
-IsRightFor line (void f s) = AsksAlways line f × IsVoidAt f s
+-- an outcome is right for a row: for what a line asks, or the first rule that it breaks
+abbrev pub IsRightForRow : Version → Result Request Rule → LineOutcome → Type 0
+IsRightForRow version (Err rule) o = o ≡ refused rule
+IsRightForRow version (Ok r) (refused rule) = ⊥
+IsRightForRow version (Ok r) (resolved x facts) = HasResult version r x facts
+IsRightForRow version (Ok r) (undecided f u) = AsksAlways version r f × IsNear f u
+IsRightForRow version (Ok r) (void f s) = AsksAlways version r f × IsVoidAt f s
+
+-- an outcome is right for a line by what it asks
+abbrev pub IsRightFor : Version → List ℕ → LineOutcome → Type 0
+IsRightFor version line o = IsRightForRow version (request_of version line) o
 
 -- as many outcomes as lines, each right for its line
-abbrev pub AreRight : List (List ℕ) → List LineOutcome → Type 0
-AreRight [] [] = Unit {0}
-AreRight [] (o ∷ os) = ⊥
-AreRight (line ∷ lines) [] = ⊥
-AreRight (line ∷ lines) (o ∷ os) = IsRightFor line o × AreRight lines os
+abbrev pub AreRight : Version → List (List ℕ) → List LineOutcome → Type 0
+AreRight version [] [] = Unit {0}
+AreRight version [] (o ∷ os) = ⊥
+AreRight version (line ∷ lines) [] = ⊥
+AreRight version (line ∷ lines) (o ∷ os) = IsRightFor version line o × AreRight version lines os
+
+-- the rule of a row always asks this fact; where a line breaks a rule, nothing is asked
+abbrev pub RowAsks : Version → Result Request Rule → Fact → Type 0
+RowAsks version (Err rule) f = ⊥
+RowAsks version (Ok r) f = AsksAlways version r f
 
 -- whether what a line comes to is shown
 abbrev pub is_shown : Resolved → Bool

@@ -9,6 +9,7 @@ use Rattle.book_model.specs.declared.request.Request.{Request}
 use Rattle.book_model.specs.declared.request.Rule.{Rule}
 use Rattle.book_model.specs.declared.request.Rule.TheVariants as rules
 use Rattle.book_model.specs.declared.request.Rule.TheVariants.{Syntax, Field, Range}
+use Rattle.book_model.specs.declared.version.Version.{Version}
 use Rattle.book_model.specs.calendars.Dates.{may_have, is_answered}
 use Rattle.book_model.specs.lines.Lines.{is_plain, words_of, parts_of, number_of}
 use Rattle.book_model.specs.lines.Words.{from_word_of, to_word_of, calendar_of}
@@ -51,33 +52,33 @@ fields_of c date = checked_numbers c (numbers_of (parts_of date))
 abbrev pub is_possible : Request → Bool
 is_possible r = may_have (calendar_of r.from) r.date
 
--- the date of a request is one that is answered, as far as that can be told without any fact
-abbrev pub is_in_reach : Request → Bool
-is_in_reach r = is_answered (calendar_of r.from) r.date
+-- the date of a request is one that a version answers, as far as that can be told without any fact
+abbrev pub is_in_reach : Version → Request → Bool
+is_in_reach version r = is_answered version (calendar_of r.from) r.date
 
--- the date of a calendar, where it is one that is answered
-abbrev pub ranged : Calendar → Option Fields → Result Fields Rule
-ranged c None = Err Field
-ranged c (Some f) = if is_answered c f then Ok f else Err Range
+-- the date of a calendar, where it is one that a version answers
+abbrev pub ranged : Version → Calendar → Option Fields → Result Fields Rule
+ranged version c None = Err Field
+ranged version c (Some f) = if is_answered version c f then Ok f else Err Range
 
 -- the request for a date
 abbrev pub with_date : FromWord → ToWord → Result Fields Rule → Result Request Rule
 with_date from to (Err rule) = Err rule
 with_date from to (Ok fields) = Ok (record { from = from; date = fields; to = to })
 
-abbrev pub with_words : Option FromWord → List ℕ → Option ToWord → Result Request Rule
-with_words None date to = Err rules.Calendar
-with_words (Some from) date None = Err rules.Calendar
-with_words (Some from) date (Some to) = with_date from to (ranged (calendar_of from) (fields_of (calendar_of from) date))
+abbrev pub with_words : Version → Option FromWord → List ℕ → Option ToWord → Result Request Rule
+with_words version None date to = Err rules.Calendar
+with_words version (Some from) date None = Err rules.Calendar
+with_words version (Some from) date (Some to) = with_date from to (ranged version (calendar_of from) (fields_of (calendar_of from) date))
 
--- the request of three words
-abbrev pub asked_by : List (List ℕ) → Result Request Rule
-asked_by [] = Err Syntax
-asked_by (from ∷ []) = Err Syntax
-asked_by (from ∷ date ∷ []) = Err Syntax
-asked_by (from ∷ date ∷ to ∷ []) = with_words (from_word_of from) date (to_word_of to)
-asked_by (from ∷ date ∷ to ∷ more ∷ words) = Err Syntax
+-- the request of three words, by a version's rules
+abbrev pub asked_by : Version → List (List ℕ) → Result Request Rule
+asked_by version [] = Err Syntax
+asked_by version (from ∷ []) = Err Syntax
+asked_by version (from ∷ date ∷ []) = Err Syntax
+asked_by version (from ∷ date ∷ to ∷ []) = with_words version (from_word_of from) date (to_word_of to)
+asked_by version (from ∷ date ∷ to ∷ more ∷ words) = Err Syntax
 
--- what a line asks, or the first rule that it breaks
-unfoldable pub request_of : List ℕ → Result Request Rule
-request_of line = if nat_le (length line) 200 && list_all is_plain line then asked_by (words_of line) else Err Syntax
+-- what a line asks, or the first rule of a version that it breaks
+unfoldable pub request_of : Version → List ℕ → Result Request Rule
+request_of version line = if nat_le (length line) 200 && list_all is_plain line then asked_by version (words_of line) else Err Syntax

@@ -2,14 +2,15 @@
 use Rattle.std.specs.Prelude.{ℕ, ◌+◌, ◌-◌, replicate, if◌then◌else◌, List, [], ◌∷◌, ◌++◌, length, take, slice_index_or, codes, decimal, ℤ, pos}
 use Rattle.std.specs.Fmt.{signed_decimal}
 use Rattle.std.specs.List.{concat, flat_map, list_any, position_or_len}
-use Rattle.book_model.specs.declared.header.TheConstants.{HEADER}
+use Rattle.book_model.specs.declared.version.Version.{Version}
+use Rattle.book_model.specs.declared.version.TheConstants.{WRITTEN}
 use Rattle.book_model.specs.declared.site.Site.{Site}
 use Rattle.book_model.specs.declared.fact.Fact.{Fact}
 use Rattle.book_model.specs.declared.fail.Undecided.{Undecided}
 use Rattle.book_model.specs.declared.calendar.Calendar.{Calendar}
 use Rattle.book_model.specs.declared.words.ToWord.{ToWord}
-use Rattle.book_model.specs.declared.words.Shown.{Shown as WhatIsShown}
-use Rattle.book_model.specs.declared.words.Shown.TheVariants.{Date, Value}
+use Rattle.book_model.specs.declared.words.Meaning.{Meaning}
+use Rattle.book_model.specs.declared.words.Meaning.TheVariants.{Date, Value}
 use Rattle.book_model.specs.declared.request.Fields.{Fields}
 use Rattle.book_model.specs.declared.request.Resolved.{Resolved}
 use Rattle.book_model.specs.declared.request.Resolved.TheVariants.{Shown, TooFar, NoDate}
@@ -19,12 +20,13 @@ use Rattle.book_model.specs.lines.Lines.{words_of}
 use Rattle.book_model.specs.sky.Names.{site_name, kind_name, place_name}
 use Rattle.book_model.specs.lines.Outcomes.{LineOutcome, refused, resolved, undecided, void}
 use Rattle.book_model.specs.calendars.Dates.{row_of, field}
+use Rattle.book_model.specs.calendars.Versions.{header_line}
 use Rattle.book_model.specs.lines.Requests.{rule_number}
 use Rattle.book_model.specs.lines.Words.{shown_by}
 
--- the first line
-abbrev pub header : List ℕ
-header = HEADER.now ++ codes "\n"
+-- the first line of a version's files
+abbrev pub header_of : Version → List ℕ
+header_of version = header_line version ++ codes "\n"
 
 -- fact N KIND PLACE DAY VALUE
 unfoldable pub fact_text : ℕ → Fact → ℤ → List ℕ
@@ -60,7 +62,7 @@ abbrev pub date_text : Calendar → Fields → List ℕ
 date_text c date = if (row_of c).is_padded then gregorian_text date else dashed_text date
 
 -- the text of a date or a value that is shown
-abbrev pub text_shown : WhatIsShown → Fields → List ℕ
+abbrev pub text_shown : Meaning → Fields → List ℕ
 text_shown (Date c) fields = date_text c fields
 text_shown (Value kind place) fields = signed_decimal (first_value fields)
 
@@ -165,4 +167,4 @@ text_from seen count (line ∷ lines) (o ∷ os) = block_text seen (count + 1) l
 
 -- the text of lines and their outcomes
 abbrev pub text : List (List ℕ) → List LineOutcome → List ℕ
-text lines os = header ++ text_from [] 0 lines os
+text lines os = header_of WRITTEN ++ text_from [] 0 lines os

@@ -8,11 +8,9 @@ use Rattle.book_model.specs.contracts.words.ToWord.{the_type as to_type}
 use Rattle.book_model.specs.declared.calendar.Calendar.{Calendar}
 use Rattle.book_model.specs.declared.calendar.Calendar.TheVariants.{Gregorian}
 use Rattle.book_model.specs.declared.words.FromWord.{FromWord}
-use Rattle.book_model.specs.declared.words.Named.{Named}
-use Rattle.book_model.specs.declared.words.Named.TheVariants.{Date as Day, Value as Fact}
+use Rattle.book_model.specs.declared.words.Meaning.{Meaning}
+use Rattle.book_model.specs.declared.words.Meaning.TheVariants.{Date, Value}
 use Rattle.book_model.specs.declared.words.ToWord.{ToWord}
-use Rattle.book_model.specs.declared.words.Shown.{Shown}
-use Rattle.book_model.specs.declared.words.Shown.TheVariants.{Date}
 use Rattle.book_model.specs.declared.words.TheConstants.{FROM_WORDS, TO_WORDS}
 use Rattle.book_model.specs.sky.Names.{first_named}
 
@@ -43,17 +41,17 @@ abbrev pub text_of_to : ToWord → List ℕ
 text_of_to to = slice_index_or (map (λ row. row.1.now) TO_WORDS) (tag_of to_type to) []
 
 -- what a word names by the date that follows it
-abbrev pub named_by : FromWord → Named
-named_by from = slice_index_or (map (λ row. row.2) FROM_WORDS) (tag_of from_type from) (Day Gregorian)
+abbrev pub named_by : FromWord → Meaning
+named_by from = slice_index_or (map (λ row. row.2) FROM_WORDS) (tag_of from_type from) (Date Gregorian)
 
 -- the calendar of the date that follows a word: that of a fact's day is the Gregorian
-abbrev pub calendar_in : Named → Calendar
-calendar_in (Day c) = c
-calendar_in (Fact kind place) = Gregorian
+abbrev pub calendar_in : Meaning → Calendar
+calendar_in (Date c) = c
+calendar_in (Value kind place) = Gregorian
 
 abbrev pub calendar_of : FromWord → Calendar
 calendar_of from = calendar_in (named_by from)
 
 -- what a word shows of a day
-abbrev pub shown_by : ToWord → Shown
+abbrev pub shown_by : ToWord → Meaning
 shown_by to = slice_index_or (map (λ row. row.2) TO_WORDS) (tag_of to_type to) (Date Gregorian)

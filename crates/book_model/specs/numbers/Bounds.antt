@@ -189,10 +189,11 @@ maximum_bound unbounded y = unbounded
 maximum_bound (bounded a b s k) unbounded = unbounded
 maximum_bound (bounded a b s k) (bounded c d t m) = bounded (int_max a c) (int_max b d) (max s t) (max k m)
 
--- the root of a number that is at least m, whose root is at least g: a width over twice that, and two units
+-- the root of a number, from g to h: a width over twice g, and two units; where g is 0, it is no wider than from there to h
 abbrev pub root_around : Limits → (g h s k : ℕ) → Bound
-root_around l g h s k =
-    limited (nat_lt 0 g && nat_lt (range_size (pos g) (pos h)) l.sizes) (bounded (pos g) (pos h) (ceil_div (s * 2 ^ 31) (g - 1)) (ceil_div (k * 2 ^ 31) (g - 1) + 2 * l.unit))
+root_around l zero h s k = limited (nat_lt (range_size (pos 0) (pos h)) l.sizes) (bounded (pos 0) (pos h) 0 (h * 2 ^ 32))
+root_around l (suc g) h s k =
+    limited (nat_lt (range_size (pos (suc g)) (pos h)) l.sizes) (bounded (pos (suc g)) (pos h) (ceil_div (s * 2 ^ 31) (suc g - 1)) (ceil_div (k * 2 ^ 31) (suc g - 1) + 2 * l.unit))
 
 -- for numbers of less than 96 bits; the root of 0 is 0
 unfoldable pub root_bound : Limits → Bound → Bound

@@ -1,13 +1,14 @@
 -- From where to where an interval lies.
-use Rattle.std.specs.Prelude.{ℤ, pos, negsuc}
+use Rattle.std.specs.Prelude.{ℤ}
 use Rattle.exact_math.specs.Fraction.{◌≤F◌, whole}
 use Rattle.exact_math.specs.Interval.{Interval, everything, between}
+use Rattle.book_model.specs.declared.time_tables.TheConstants.{TABLE_START, TABLE_END}
 
 -- an interval lies between two whole numbers, or nothing is said of it
 abbrev pub IsBetween : (lo hi : ℤ) → Interval → Type 0
 IsBetween lo hi everything = Unit {0}
 IsBetween lo hi (between a b) = (whole lo ≤F a) × (b ≤F whole hi)
 
--- a moment lies in the years of which there is a correction, -499 to 2050, or nothing is said of it
+-- a moment lies in the years of which there is a correction, or nothing is said of it
 abbrev pub IsInTable : Interval → Type 0
-IsInTable i = IsBetween (negsuc 182620) (pos 748748) i
+IsInTable i = IsBetween TABLE_START TABLE_END i

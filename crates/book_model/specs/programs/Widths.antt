@@ -1,12 +1,14 @@
 -- How wide the results of calls are: what an answer keeps, and how far apart the ends of an open test lie at most.
-use Rattle.std.specs.Prelude.{◌≡◌, ℕ, ◌*◌, ◌^◌, ◌≤◌, ℤ, pos, neg_ℤ, ◌-ℤ◌, ◌*ℤ◌, ◌≤ℤ◌, Result, Ok, Err}
+use Rattle.std.specs.Prelude.{◌≡◌, ℕ, ◌*◌, ◌^◌, ◌≤◌, ℤ, pos, neg_ℤ, ◌+ℤ◌, ◌-ℤ◌, ◌*ℤ◌, ◌≤ℤ◌, Result, Ok, Err, IfOk, IfErr}
 use Rattle.exact_math.specs.Interval.{Interval}
 use Rattle.book_model.specs.declared.site.Site.{Site}
 use Rattle.book_model.specs.declared.site.Site.TheVariants.{Bisect, BisectEnd}
 use Rattle.book_model.specs.declared.fail.Undecided.{Undecided}
 use Rattle.book_model.specs.declared.fail.Fail.{Fail}
 use Rattle.book_model.specs.declared.fail.Fail.TheVariants.{Undecided as undecided_at, Void}
-use Rattle.book_model.specs.numbers.Bounds.{bounded, IsNarrow}
+use Rattle.book_model.specs.declared.fact.TheConstants.{FIRST_FACT_DAY, LAST_FACT_DAY}
+use Rattle.book_model.specs.declared.time_tables.TheConstants.{TABLE_START, TABLE_END, FIRST_CENTURY, LAST_CENTURY, RECENT_START, FIRST_RECENT_HALF_CENTURY}
+use Rattle.book_model.specs.numbers.Bounds.{Bound, bounded, IsNarrow}
 
 -- how far apart the ends of an open test lie at most at a site, in 2^-64: a 2^24th at the tests of a bisection, and a 2^20th elsewhere
 abbrev pub most_apart : Site → ℕ
@@ -35,17 +37,61 @@ IsMoment v i = IsAbout (2 ^ 58) v i
 abbrev pub IsCorrection : ℕ → Interval → Type 0
 IsCorrection v i = IsAbout (2 ^ 30) v i
 
--- a moment of the years -499 to 2050, of which there are corrections
+-- ---- the days of which there are corrections
+-- where they begin and end, so many days beside them, in 2^-32
+abbrev pub table_from : (margin : ℕ) → ℤ
+table_from margin = (TABLE_START -ℤ pos margin) *ℤ pos (2 ^ 32)
+
+abbrev pub table_to : (margin : ℕ) → ℤ
+table_to margin = (TABLE_END +ℤ pos margin) *ℤ pos (2 ^ 32)
+
+-- the bound of a moment of them, moved by at most so many days
+abbrev pub table_days : (margin slope slack : ℕ) → Bound
+table_days margin slope slack = bounded (table_from margin) (table_to margin) slope slack
+
+-- a moment of the years of which there are corrections
 abbrev pub IsDated : ℕ → Interval → Type 0
-IsDated v i = IsWithin (neg_ℤ (pos (182621 * 2 ^ 32))) (pos (748748 * 2 ^ 32)) v i
+IsDated v i = IsWithin (table_from 0) (table_to 0) v i
 
 -- such a moment, moved by at most a day
 abbrev pub IsNearlyDated : ℕ → Interval → Type 0
-IsNearlyDated v i = IsWithin (neg_ℤ (pos (182622 * 2 ^ 32))) (pos (748749 * 2 ^ 32)) v i
+IsNearlyDated v i = IsWithin (table_from 1) (table_to 1) v i
 
--- centuries from noon of 1 January 2000 to such a moment
+-- from where to where the centuries from noon of 1 January 2000 to such a moment lie
+abbrev pub centuries_from : ℤ
+centuries_from = FIRST_CENTURY *ℤ pos (2 ^ 32)
+
+abbrev pub centuries_to : ℤ
+centuries_to = LAST_CENTURY *ℤ pos (2 ^ 32)
+
+-- their bound
+abbrev pub table_centuries : (slope slack : ℕ) → Bound
+table_centuries slope slack = bounded centuries_from centuries_to slope slack
+
 abbrev pub AreCenturies : ℕ → Interval → Type 0
-AreCenturies v i = IsWithin (neg_ℤ (pos (25 * 2 ^ 32))) (pos (2 ^ 32)) v i
+AreCenturies v i = IsWithin centuries_from centuries_to v i
+
+-- ---- recent moments
+-- the day from which on a moment is recent, so many days later, in 2^-32
+abbrev pub recent_from : (later : ℤ) → ℤ
+recent_from later = (RECENT_START +ℤ later) *ℤ pos (2 ^ 32)
+
+-- the half centuries from noon of 1 January 2000 to the first of them
+abbrev pub recent_centuries_from : ℤ
+recent_centuries_from = FIRST_RECENT_HALF_CENTURY *ℤ pos (2 ^ 31)
+
+-- a recent moment, within 2^26 days of day 0, and at most so wide
+abbrev pub IsRecent : ℕ → Interval → Type 0
+IsRecent v i = IsWithin (recent_from (pos 0)) (pos (2 ^ 58)) v i
+
+-- a recent moment of the years of which there are corrections, moved by at most a day, but not before the recent ones
+abbrev pub IsRecentlyDated : ℕ → Interval → Type 0
+IsRecentlyDated v i = IsWithin (recent_from (pos 0)) (table_to 1) v i
+
+-- ---- others
+-- a whole number within 40,000,000 of 0, as the days are of which a fact may be asked
+abbrev pub IsSmall : ℤ → Type 0
+IsSmall n = (FIRST_FACT_DAY ≤ℤ n) × (n ≤ℤ LAST_FACT_DAY)
 
 -- an interval lies from 0 to m, and is at most so wide
 abbrev pub IsUpTo : (m width : ℕ) → Interval → Type 0
@@ -68,3 +114,16 @@ Measured1 bits shown greatest argument answer a result = (v : ℕ) → bits ≡ 
 abbrev pub Measured2 : {E : Type 0} → ℕ → (E → Interval) → (greatest : ℕ) → (first second answer : ℕ → Interval → Type 0) → (a b : E) → Result E Fail → Type 0
 Measured2 bits shown greatest first second answer a b result =
     (v : ℕ) → bits ≡ 56 → v ≤ greatest → first v (shown a) → second v (shown b) → Measures (λ y. answer v (shown y)) result
+
+-- at that scale: a failure is close, where an argument is as wide as said, of each width up to the greatest
+abbrev pub Closes1 : {E T : Type 0} → ℕ → (E → Interval) → (greatest : ℕ) → (argument : ℕ → Interval → Type 0) → E → Result T Fail → Type 0
+Closes1 bits shown greatest argument a result = (v : ℕ) → bits ≡ 56 → v ≤ greatest → argument v (shown a) → IfErr result IsClose
+
+-- an answer is as wide as said, where an argument is, of each width up to the greatest; nothing of a failure
+abbrev pub Answers1 : {E : Type 0} → ℕ → (E → Interval) → (greatest : ℕ) → (argument answer : ℕ → Interval → Type 0) → E → Result E Fail → Type 0
+Answers1 bits shown greatest argument answer a result = (v : ℕ) → bits ≡ 56 → v ≤ greatest → argument v (shown a) → IfOk result (λ y. answer v (shown y))
+
+-- the same by the width that goes with two arguments
+abbrev pub Answers2 : {E : Type 0} → ℕ → (E → Interval) → (greatest : ℕ) → (first second answer : ℕ → Interval → Type 0) → (a b : E) → Result E Fail → Type 0
+Answers2 bits shown greatest first second answer a b result =
+    (v : ℕ) → bits ≡ 56 → v ≤ greatest → first v (shown a) → second v (shown b) → IfOk result (λ y. answer v (shown y))

@@ -1,6 +1,8 @@
--- Polynomials at a whole number, as those of the dynamical time correction, and the tests of a year and of a rounding.
+-- Polynomials at a whole number, the rows of the dynamical time correction, and the tests of a year and of a rounding.
 -- Reingold and Dershowitz, Calendrical Calculations, chapter 14, ephemeris correction.
-use Rattle.std.specs.Prelude.{ℕ, zero, suc, ◌&&◌, Bool, ℤ, pos, ◌-ℤ◌, ◌*ℤ◌, List, length, slice_index_or, int_le}
+use Rattle.std.specs.Prelude.{ℕ, zero, suc, ◌&&◌, Bool, if◌then◌else◌, ℤ, pos, ◌-ℤ◌, ◌*ℤ◌, List, [], ◌∷◌, length, map, slice_index_or, int_le, Option, Some, None}
+use Rattle.book_model.specs.declared.correction_rows.CorrectionForm.{CorrectionForm}
+use Rattle.book_model.specs.declared.correction_rows.TheConstants.{CORRECTIONS}
 use Rattle.book_model.specs.declared.frac.Frac.{Frac}
 use Rattle.book_model.specs.declared.site.Site.TheVariants.{Year, Round}
 use Rattle.book_model.specs.declared.tables.TheConstants.{HALF, SECOND}
@@ -26,13 +28,38 @@ polynomial_to cs x (suc n) = add (polynomial_to cs x n) (scale (fraction_of (sli
 unfoldable pub polynomial_of : List Frac → ℤ → Expression
 polynomial_of cs x = polynomial_to cs x (length cs)
 
--- a polynomial of seconds in the years from 2000 on, in days
-unfoldable pub seconds_of : List Frac → ℤ → Expression
-seconds_of cs y = scale (fraction_of SECOND) (polynomial_of cs (y -ℤ pos 2000))
+-- a polynomial of seconds in the years from one on, in days
+unfoldable pub seconds_of : List Frac → (origin y : ℤ) → Expression
+seconds_of cs origin y = scale (fraction_of SECOND) (polynomial_of cs (y -ℤ origin))
 
 abbrev pub is_between : ℤ → ℤ → ℤ → Bool
 is_between low high z = int_le low z && int_le z high
 
+-- ---- the rows of the table
+-- a row: its years, how its polynomial is taken, the coefficients, and how many units of a scale its corrections are wide at most
+pub record Correction : Type 0 where
+  pub first : ℤ
+  pub last : ℤ
+  pub form : CorrectionForm
+  pub coefficients : List Frac
+  pub units : Option ℕ
+
+abbrev pub correction_row : (first last : ℤ) → CorrectionForm → List Frac → Option ℕ → Correction
+correction_row first last form coefficients units = record { first = first; last = last; form = form; coefficients = coefficients; units = units }
+
+unfoldable pub corrections : List Correction
+corrections = map (λ r. correction_row r.0 r.1 r.2 r.3.now r.4) CORRECTIONS
+
+-- the first of some rows that has a year, if one has
+abbrev pub row_in : List Correction → ℤ → Option Correction
+row_in [] y = None
+row_in (row ∷ rows) y = if is_between row.first row.last y then Some row else row_in rows y
+
+-- the row of a year
+unfoldable pub row_of_year : ℤ → Option Correction
+row_of_year y = row_in corrections y
+
+-- ---- tests
 -- the Gregorian year of a moment
 unfoldable pub year_of : Expression → Program ℤ
 year_of x = cell Year years x answer

@@ -2,12 +2,12 @@
 -- between moon and sun is at least 10.6 degrees and the moon's altitude above 4.1. Angles are in degrees, moments in days (R.D.).
 -- Reingold and Dershowitz, Calendrical Calculations, chapters 14 and 18.
 use Rattle.std.specs.Prelude.{Bool, false, not, if◌then◌else◌, ℤ, pos, ◌-ℤ◌, int_le}
-use Rattle.exact_math.specs.Fraction.{Fraction}
 use Rattle.book_model.specs.declared.crescent_tables.TheConstants.{CRESCENT_DEPRESSION, LEAST_ALTITUDE, LEAST_ARC_OF_LIGHT}
 use Rattle.book_model.specs.declared.horizon.Location.{Location}
 use Rattle.book_model.specs.declared.site.Site.TheVariants.{Crescent}
-use Rattle.book_model.specs.numbers.Expressions.{Expression, integer, constant, add, subtract, multiply, sine, cosine}
+use Rattle.book_model.specs.numbers.Expressions.{Expression, integer, constant, add, multiply, sine, cosine}
 use Rattle.book_model.specs.numbers.Fractions.{fraction_of}
+use Rattle.book_model.specs.sky.Altitude.{altitude_sine_of}
 use Rattle.book_model.specs.sky.Horizon.{dusk_of, universal_of}
 use Rattle.book_model.specs.sky.Latitude.{latitude_of}
 use Rattle.book_model.specs.sky.Moon.{moon_of}
@@ -25,22 +25,6 @@ evening_of p d = bind (dusk_of p (constant (fraction_of CRESCENT_DEPRESSION)) (d
 -- the cosine of the arc of light, by the moon's latitude and its phase
 unfoldable pub arc_cosine_of : (latitude phase : Expression) → Expression
 arc_cosine_of b f = multiply (cosine b) (cosine f)
-
--- where the moon stands in the sky: the sine of its declination, and its part towards the east, by the obliquity of the ecliptic,
--- its longitude and its latitude
-unfoldable pub north_of : (obliquity longitude latitude : Expression) → Expression
-north_of o l b = add (multiply (sine b) (cosine o)) (multiply (multiply (cosine b) (sine o)) (sine l))
-
-unfoldable pub east_of : (obliquity longitude latitude : Expression) → Expression
-east_of o l b = subtract (multiply (multiply (cosine b) (sine l)) (cosine o)) (multiply (sine b) (sine o))
-
--- the part of it that lies in the plane of the meridian and the equator and the one across, at a local sidereal time
-unfoldable pub towards_of : (sidereal obliquity longitude latitude : Expression) → Expression
-towards_of t o l b = add (multiply (multiply (cosine t) (cosine b)) (cosine l)) (multiply (sine t) (east_of o l b))
-
--- the sine of the moon's altitude at a latitude of the ground
-unfoldable pub altitude_sine_of : Fraction → (sidereal obliquity longitude latitude : Expression) → Expression
-altitude_sine_of g t o l b = add (multiply (sine (constant g)) (north_of o l b)) (multiply (cosine (constant g)) (towards_of t o l b))
 
 -- ---- the conditions
 -- a condition, and where it holds another

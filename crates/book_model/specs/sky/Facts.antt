@@ -1,12 +1,12 @@
 -- The run of a fact, and when a fact is true, near or void.
-use Rattle.std.specs.Prelude.{◌≡◌, ℕ, ◌≤◌, ◌⊎◌, if◌then◌else◌, IsTrue, ℤ, pos, ◌-ℤ◌, ◌*ℤ◌, ◌≤ℤ◌}
+use Rattle.std.specs.Prelude.{◌≡◌, ℕ, ◌≤◌, if◌then◌else◌, IsTrue, ℤ, pos, ◌-ℤ◌, ◌*ℤ◌, ◌≤ℤ◌}
 use Rattle.exact_math.specs.Fraction.{◌≤F◌, ◌<F◌}
 use Rattle.exact_math.specs.Interval.{Interval, everything, between, ◌⊆◌}
 use Rattle.book_model.specs.declared.site.Site.{Site}
 use Rattle.book_model.specs.declared.site.Site.TheVariants.{Year}
 use Rattle.book_model.specs.declared.fact.Fact.{Fact}
 use Rattle.book_model.specs.declared.fact.Kind.{Kind}
-use Rattle.book_model.specs.declared.fact.Kind.TheVariants.{Dt, Sun, Nowruz, BahaiYear, Solstice, NewMoonBefore, NewMoonFrom, Major, MajorTerm, MinorTerm, Phasis, Sign, SolarYear, Sankranti, Tithi, SignBefore, SignAfter, CalendarYear, NewMoon, FirstQuarter, FullMoon, LastQuarter, Sunset}
+use Rattle.book_model.specs.declared.fact.Kind.TheVariants as kinds
 use Rattle.book_model.specs.declared.fact.Place.{Place}
 use Rattle.book_model.specs.declared.fact.TheConstants.{FIRST_FACT_DAY, LAST_FACT_DAY, FIRST_DAY, LAST_DAY, LEAST_VALUE, GREATEST_VALUE}
 use Rattle.book_model.specs.declared.fail.Undecided.{Undecided}
@@ -18,7 +18,7 @@ use Rattle.book_model.specs.sky.HinduFacts.{sign_at_sunset_of, year_at_sunset_of
 use Rattle.book_model.specs.sky.Phases.{phase_day_of}
 use Rattle.book_model.specs.programs.Leading.{at_56}
 use Rattle.book_model.specs.programs.Widths.{most_apart}
-use Rattle.book_model.specs.sky.Names.{has_place, location_of, begins_with_day}
+use Rattle.book_model.specs.sky.Names.{has_place, location_of, whole_days, is_of_whole_day}
 use Rattle.book_model.specs.programs.Programs.{Grid, threshold, Program, void, Run, run, valued, void_at, outcome, MakesTest, Sides, one_side, two_sides}
 use Rattle.book_model.specs.numbers.Depth.{DEPTH}
 
@@ -40,29 +40,29 @@ IsFact kind place day = IsTrue (has_place kind place) × IsFactDay day
 
 -- the formula of a kind of fact
 unfoldable pub formula_of : Kind → Place → ℤ → Program ℤ
-formula_of Dt place d = dt_of d
-formula_of Sun place d = sun_in_thousandths_of d
-formula_of Nowruz place d = nowruz_of d
-formula_of BahaiYear place d = bahai_year_of d
-formula_of Solstice place d = solstice_of d
-formula_of NewMoonBefore place d = new_moon_before_of d
-formula_of NewMoonFrom place d = new_moon_from_of d
-formula_of Major place d = major_of d
-formula_of MajorTerm place d = term_day_of (pos 0) d
-formula_of MinorTerm place d = term_day_of (pos 15) d
-formula_of Phasis place d = located (location_of place) λ l. phasis_of l d
-formula_of Sign place d = sign_at_sunset_of d
-formula_of SolarYear place d = year_at_sunset_of d
-formula_of Sankranti place d = sankranti_of d
-formula_of Tithi place d = tithi_of d
-formula_of SignBefore place d = sign_before_of d
-formula_of SignAfter place d = sign_after_of d
-formula_of CalendarYear place d = calendar_year_of d
-formula_of NewMoon place d = phase_day_of (pos 0) d
-formula_of FirstQuarter place d = phase_day_of (pos 90) d
-formula_of FullMoon place d = phase_day_of (pos 180) d
-formula_of LastQuarter place d = phase_day_of (pos 270) d
-formula_of Sunset place d = located (location_of place) λ l. sunset_in_minutes_of l d
+formula_of kinds.Dt place d = dt_of d
+formula_of kinds.Sun place d = sun_in_thousandths_of d
+formula_of kinds.Nowruz place d = nowruz_of d
+formula_of kinds.BahaiYear place d = bahai_year_of d
+formula_of kinds.Solstice place d = solstice_of place d
+formula_of kinds.NewMoonBefore place d = new_moon_before_of place d
+formula_of kinds.NewMoonFrom place d = new_moon_from_of place d
+formula_of kinds.Major place d = major_of place d
+formula_of kinds.MajorTerm place d = term_day_of place (pos 0) d
+formula_of kinds.MinorTerm place d = term_day_of place (pos 15) d
+formula_of kinds.Phasis place d = located (location_of place) λ l. phasis_of l d
+formula_of kinds.Sign place d = sign_at_sunset_of d
+formula_of kinds.SolarYear place d = year_at_sunset_of d
+formula_of kinds.Sankranti place d = sankranti_of d
+formula_of kinds.Tithi place d = tithi_of d
+formula_of kinds.SignBefore place d = sign_before_of d
+formula_of kinds.SignAfter place d = sign_after_of d
+formula_of kinds.CalendarYear place d = calendar_year_of d
+formula_of kinds.NewMoon place d = phase_day_of (pos 0) d
+formula_of kinds.FirstQuarter place d = phase_day_of (pos 90) d
+formula_of kinds.FullMoon place d = phase_day_of (pos 180) d
+formula_of kinds.LastQuarter place d = phase_day_of (pos 270) d
+formula_of kinds.Sunset place d = located (location_of place) λ l. sunset_in_minutes_of place l d
 
 -- the formula of a fact; outside 1 July 1800 to 31 December 2049 it is void
 unfoldable pub program_of : Fact → Program ℤ
@@ -105,9 +105,9 @@ pub record MakesNearTest (r : Run ℤ) (u : Undecided) : Type 0 where
   pub makes : MakesTest r u.turn u.site sides
   pub near : AreNear u.lo u.hi sides
 
--- the kinds whose first test and third, where they are of a year, are of that of the whole day itself
-abbrev pub HasWholeDays : Kind → Type 0
-HasWholeDays kind = IsTrue (begins_with_day kind)
+-- a test of a kind of fact, by its number, is of the whole day itself, if it is of a year
+abbrev pub IsOfWholeDay : Kind → ℕ → Type 0
+IsOfWholeDay kind turn = IsTrue (is_of_whole_day (whole_days kind) turn)
 
 -- the ends of an open test, which count 2^-56, are at most as far apart as its site allows, in 2^-64
 abbrev pub AreClose : Undecided → Type 0
@@ -117,5 +117,5 @@ AreClose u = ((u.hi -ℤ u.lo) *ℤ pos 256) ≤ℤ pos (most_apart u.site)
 -- ends are at most a 2^20th apart, or a 2^24th at a test of a bisection. The year of a whole day is never near.
 pub record IsNear (f : Fact) (u : Undecided) : Type 0 where
   pub at_each_depth : (n : ℕ) → DEPTH ≤ n → MakesNearTest (run_of n f) u
-  pub no_whole_day : u.site ≡ Year → (u.turn ≡ 1) ⊎ (u.turn ≡ 3) → HasWholeDays f.kind → ⊥
+  pub no_whole_day : u.site ≡ Year → IsOfWholeDay f.kind u.turn → ⊥
   pub close : AreClose u

@@ -1,6 +1,6 @@
--- The numbers and the printed names of sites, kinds of facts and places, the places of a kind, and the location of a place, by
--- their tables.
-use Rattle.std.specs.Prelude.{ℕ, ◌+◌, ◌==◌, nat_eq, Bool, false, List, [], ◌∷◌, Option, Some, None, if◌then◌else◌, map, slice_get}
+-- The numbers and the printed names of sites, kinds of facts and places, the places of a kind, and the location and the zone of a
+-- place, by their tables.
+use Rattle.std.specs.Prelude.{ℕ, ◌+◌, ◌==◌, ◌||◌, nat_eq, Bool, true, false, List, [], ◌∷◌, Option, Some, None, if◌then◌else◌, map, slice_get}
 use Rattle.std.specs.List.{list_any}
 use Rattle.std.specs.Option.{option_map_or}
 use lib.Pointwise.{pointwise}
@@ -11,9 +11,14 @@ use Rattle.book_model.specs.contracts.site.Site.{the_type as site_type}
 use Rattle.book_model.specs.declared.fact.Kind.{Kind}
 use Rattle.book_model.specs.declared.fact.Place.{Place}
 use Rattle.book_model.specs.declared.fact.TheConstants.{KINDS, PLACES}
+use Rattle.book_model.specs.declared.fact.WholeDays.{WholeDays}
+use Rattle.book_model.specs.declared.fact.WholeDays.TheVariants.{Nowhere, AtFirst, Everywhere}
+use Rattle.book_model.specs.declared.frac.Frac.{Frac}
 use Rattle.book_model.specs.declared.horizon.Location.{Location}
 use Rattle.book_model.specs.declared.site.Site.{Site}
 use Rattle.book_model.specs.declared.site.TheConstants.{SITES}
+use Rattle.book_model.specs.declared.zone.ZoneStep.{ZoneStep}
+use Rattle.book_model.specs.sky.Correction.{no_fraction}
 
 -- the number of a kind of fact, from 0: its place among the kinds, and that of its row
 abbrev pub kind_number : Kind → ℕ
@@ -35,9 +40,15 @@ kind_name kind = option_map_or (λ row. row.1.now) (slice_get KINDS (kind_number
 abbrev pub places_of : Kind → List Place
 places_of kind = option_map_or (λ row. row.2.0.now) (slice_get KINDS (kind_number kind)) []
 
--- whether a kind of fact begins with a whole day
-abbrev pub begins_with_day : Kind → Bool
-begins_with_day kind = option_map_or (λ row. row.2.1) (slice_get KINDS (kind_number kind)) false
+-- which tests of a kind of fact, where they are of a year, are of that of the whole day itself
+abbrev pub whole_days : Kind → WholeDays
+whole_days kind = option_map_or (λ row. row.2.1) (slice_get KINDS (kind_number kind)) Nowhere
+
+-- whether the test of a number, from 1, is one of them
+abbrev pub is_of_whole_day : WholeDays → ℕ → Bool
+is_of_whole_day Nowhere n = false
+is_of_whole_day AtFirst n = (n == 1) || (n == 3)
+is_of_whole_day Everywhere n = true
 
 -- whether a place is one of a kind's places
 abbrev pub has_place : Kind → Place → Bool
@@ -49,7 +60,15 @@ place_name place = option_map_or (λ row. row.1.now) (slice_get PLACES (place_nu
 
 -- the location from which the horizon of a place is looked at, if it has one
 unfoldable pub location_of : Place → Option Location
-location_of place = option_map_or (λ row. row.2) (slice_get PLACES (place_number place)) None
+location_of place = option_map_or (λ row. row.2.0) (slice_get PLACES (place_number place)) None
+
+-- the days on which the time of a place changes, in order, with the hours by which it is ahead of universal time before each
+unfoldable pub zone_steps : Place → List ZoneStep
+zone_steps place = option_map_or (λ row. row.2.1.now) (slice_get PLACES (place_number place)) []
+
+-- the hours from the last of them on
+unfoldable pub last_hours : Place → Frac
+last_hours place = option_map_or (λ row. row.2.2) (slice_get PLACES (place_number place)) no_fraction
 
 -- the word for a site
 unfoldable pub site_name : Site → List ℕ

@@ -4,7 +4,9 @@ use Rattle.exact_math.specs.Fraction.{Fraction, ◌≈◌, whole, plus, times}
 use Rattle.exact_math.specs.Interval.{Interval, everything, between}
 use Rattle.book_model.specs.declared.frac.Frac.{Frac}
 use Rattle.book_model.specs.sky.Correction.{int_power, no_fraction}
+use Rattle.book_model.specs.numbers.Expressions.{Expression}
 use Rattle.book_model.specs.numbers.Fractions.{fraction_of}
+use Rattle.book_model.specs.programs.Programs.{Program, answer, void, cell, compare}
 
 -- n / 10^11
 abbrev pub decimal_11 : ℤ → Fraction
@@ -23,3 +25,10 @@ exact_to cs x (suc n) = plus (exact_to cs x n) (times (whole (int_power x n)) (f
 abbrev pub IsNumber : Fraction → Interval → Type 0
 IsNumber f everything = ⊥
 IsNumber f (between a b) = (a ≈ f) × (b ≈ f)
+
+-- a program is an answer without a test, of which this holds
+abbrev pub IsAnswerAnd : Program Expression → (Expression → Type 0) → Type 0
+IsAnswerAnd (answer c) P = P c
+IsAnswerAnd (void s) P = ⊥
+IsAnswerAnd (cell s g x next) P = ⊥
+IsAnswerAnd (compare s x y next) P = ⊥

@@ -1,12 +1,18 @@
--- Universal, dynamical and sidereal time, and the zone of Beijing. Moments are days (R.D.) with a fraction.
+-- Universal, dynamical and sidereal time, and the zones of places. Moments are days (R.D.) with a fraction.
 -- Reingold and Dershowitz, Calendrical Calculations, chapter 14.
-use Rattle.std.specs.Prelude.{Bool, if◌then◌else◌, int_lt, ℤ, pos, negsuc, ◌-ℤ◌, unsigned_abs}
+use Rattle.std.specs.Prelude.{if◌then◌else◌, int_lt, ℤ, pos, ◌-ℤ◌, unsigned_abs, List, [], ◌∷◌, Option, Some, None}
 use Rattle.exact_math.specs.Fraction.{Fraction}
 use Rattle.book_model.specs.declared.site.Site.TheVariants.{Year, Zone}
-use Rattle.book_model.specs.declared.tables.TheConstants.{CORRECTION_1987, CORRECTION_2006, SECOND}
-use Rattle.book_model.specs.declared.time_tables.TheConstants.{BEIJING_HOURS, HOUR, CORRECTION_1800, CORRECTION_1900, CORRECTION_ANCIENT, DAY_IN_CENTURIES, NOON_2000, SIDEREAL_TIME}
+use Rattle.book_model.specs.declared.correction_rows.CorrectionForm.{CorrectionForm}
+use Rattle.book_model.specs.declared.correction_rows.CorrectionForm.TheVariants.{SecondsSince, SecondsByHundreds, DaysByCenturies}
+use Rattle.book_model.specs.declared.fact.Place.{Place}
+use Rattle.book_model.specs.declared.frac.Frac.{Frac}
+use Rattle.book_model.specs.declared.tables.TheConstants.{SECOND}
+use Rattle.book_model.specs.declared.time_tables.TheConstants.{HOUR, DAY_IN_CENTURIES, NOON_2000, SIDEREAL_TIME}
+use Rattle.book_model.specs.declared.zone.ZoneStep.{ZoneStep}
 use Rattle.book_model.specs.calendars.Gregorian.{fixed_of}
-use Rattle.book_model.specs.sky.Correction.{is_between, seconds_of, year_of}
+use Rattle.book_model.specs.sky.Correction.{Correction, row_of_year, seconds_of, year_of}
+use Rattle.book_model.specs.sky.Names.{zone_steps, last_hours}
 use Rattle.book_model.specs.numbers.Expressions.{Expression, integer, constant, add, subtract, scale}
 use Rattle.book_model.specs.numbers.Fractions.{fraction_of}
 use Rattle.book_model.specs.numbers.Polynomials.{polynomial_at, cubic_of}
@@ -20,15 +26,20 @@ hundreds_of y = record { num = y; below = 99 }
 abbrev pub centuries_to_july : ℤ → Fraction
 centuries_to_july y = record { num = fixed_of (unsigned_abs y) 7 1 -ℤ pos 693596; below = 36524 }
 
--- dynamical time less universal time in a year, in days; in some years there is no formula
+-- dynamical time less universal time in a year, in days, by the form and the coefficients of a row
+unfoldable pub correction_by : CorrectionForm → List Frac → ℤ → Expression
+correction_by (SecondsSince origin) cs y = seconds_of cs origin y
+correction_by SecondsByHundreds cs y = scale (fraction_of SECOND) (polynomial_at cs (hundreds_of y))
+correction_by DaysByCenturies cs y = polynomial_at cs (centuries_to_july y)
+
+-- the same by the row that the year has, if it has one
+abbrev pub by_row : ℤ → Option Correction → Program Expression
+by_row y None = void Year
+by_row y (Some row) = answer (correction_by row.form row.coefficients y)
+
+-- the same by the table; in some years there is no formula
 unfoldable pub correction_of_year : ℤ → Program Expression
-correction_of_year y =
-    if is_between (negsuc 498) (pos 499) y then answer (scale (fraction_of SECOND) (polynomial_at CORRECTION_ANCIENT (hundreds_of y)))
-    else (if is_between (pos 1800) (pos 1899) y then answer (polynomial_at CORRECTION_1800 (centuries_to_july y))
-    else (if is_between (pos 1900) (pos 1986) y then answer (polynomial_at CORRECTION_1900 (centuries_to_july y))
-    else (if is_between (pos 1987) (pos 2005) y then answer (seconds_of CORRECTION_1987 y)
-    else (if is_between (pos 2006) (pos 2050) y then answer (seconds_of CORRECTION_2006 y)
-    else void Year))))
+correction_of_year y = by_row y (row_of_year y)
 
 -- the correction of a moment's year
 unfoldable pub correction_at : Expression → Program Expression
@@ -54,18 +65,31 @@ centuries_of x = bind (dynamical_of x) λ d. answer (in_centuries d)
 unfoldable pub sidereal_of : Expression → Program Expression
 sidereal_of x = answer (cubic_of SIDEREAL_TIME (in_centuries x))
 
--- the hours by which the time of Beijing is ahead of universal time, before 1929 and from then on
-unfoldable pub beijing_hours : Bool → Expression
-beijing_hours early = if early then constant (fraction_of BEIJING_HOURS) else integer (pos 8)
+-- the hours by which the time of a zone is ahead of universal time at a moment: the days on which it changes are tried in order
+-- until the moment is before one
+unfoldable pub hours_at_of : List ZoneStep → Frac → Expression → Program Expression
+hours_at_of [] last x = answer (constant (fraction_of last))
+hours_at_of (step ∷ steps) last x =
+    bind (compare Zone x (integer step.before) answer) λ early.
+    if early then answer (constant (fraction_of step.hours)) else hours_at_of steps last x
 
--- the hours at a moment of universal time, by whether it is before 1 January 1929
-unfoldable pub zone_of_beijing : Expression → Program Expression
-zone_of_beijing x = bind (compare Zone x (integer (pos 704188)) answer) λ early. answer (beijing_hours early)
+-- the same as a day begins, which makes no test
+abbrev pub hours_on : List ZoneStep → Frac → ℤ → Frac
+hours_on [] last d = last
+hours_on (step ∷ steps) last d = if int_lt d step.before then step.hours else hours_on steps last d
 
--- midnight at the beginning of a day in Beijing, in universal time: its zone goes by the day
-unfoldable pub midnight_of : ℤ → Expression
-midnight_of d = subtract (integer d) (scale (fraction_of HOUR) (beijing_hours (int_lt d (pos 704188))))
+-- the hours by which the time of a place is ahead of universal time at a moment
+unfoldable pub zone_of : Place → Expression → Program Expression
+zone_of place x = hours_at_of (zone_steps place) (last_hours place) x
 
--- the time of Beijing of a moment of universal time
-unfoldable pub in_beijing_of : Expression → Program Expression
-in_beijing_of x = bind (zone_of_beijing x) λ z. answer (add x (scale (fraction_of HOUR) z))
+-- the same on a day
+unfoldable pub zone_on : Place → ℤ → Frac
+zone_on place d = hours_on (zone_steps place) (last_hours place) d
+
+-- midnight at the beginning of a day at a place, in universal time
+unfoldable pub midnight_of : Place → ℤ → Expression
+midnight_of place d = subtract (integer d) (scale (fraction_of HOUR) (constant (fraction_of (zone_on place d))))
+
+-- the time of a place at a moment of universal time
+unfoldable pub in_zone_of : Place → Expression → Program Expression
+in_zone_of place x = bind (zone_of place x) λ z. answer (add x (scale (fraction_of HOUR) z))

@@ -1,5 +1,10 @@
 //! Dates and days over tables in memory, each compared with an independent implementation.
-ghost use Rattle.std.specs.Prelude.{◌≡◌, ◌≤◌, ◌≤ℤ◌, ◌+ℤ◌, ◌-ℤ◌, ◌*ℤ◌, pos, length, IsTrue};
+#![tactic(auto, unfolding(book_model::specs::calendars::Dates::may_have, book_model::specs::calendars::Dates::has_some_year, book_model::specs::calendars::Dates::year_number))]
+
+ghost use Rattle.std.specs.Prelude.{◌≡◌, length, IsTrue};
+ghost use Rattle.book_model.specs.calendars.Dates.{IsAskable};
+ghost use Rattle.book_model.specs.declared.calendar.Calendar.TheVariants.{Chinese};
+ghost use Rattle.chinese_cal.specs.Dates.{fields_of_date};
 ghost use Rattle.chinese_cal.specs.Days.{IsNearDay};
 ghost use Rattle.oracle_core.specs.Oracles.{by_table, one_by_table};
 ghost use Rattle.oracle_core.specs.Pairs.{AreFactValues, FactTable, are_distinct};
@@ -53,12 +58,7 @@ fn date_over(alloc: Global, facts: &[Fact], values: &[i64], day: i64) -> Counted
 
 /// The day of a date over a table.
 fn day_over(alloc: Global, facts: &[Fact], values: &[i64], date: ChineseDate) -> Counted<i64>
-    requires from_4438 { pos 4438 ≤ℤ (pos 60 *ℤ (date.cycle -ℤ pos 1) +ℤ pos date.year) }
-    requires to_4685 { (pos 60 *ℤ (date.cycle -ℤ pos 1) +ℤ pos date.year) ≤ℤ pos 4685 }
-    requires from_first_year { 1 ≤ date.year }
-    requires to_last_year { date.year ≤ 60 }
-    requires from_first_month { 1 ≤ date.month }
-    requires to_last_month { date.month ≤ 12 }
+    requires askable { IsAskable Chinese (fields_of_date date) }
     requires same { length facts.now ≡ length values.now }
     requires distinct { IsTrue (are_distinct facts.now) }
     requires known { AreFactValues values.now }

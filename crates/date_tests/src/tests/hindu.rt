@@ -1,5 +1,10 @@
 //! Dates over tables in memory, each compared with an independent implementation.
+#![tactic(auto, unfolding(book_model::specs::calendars::Dates::may_have, book_model::specs::calendars::Dates::has_some_year, book_model::specs::calendars::Dates::year_number))]
+
 ghost use Rattle.std.specs.Prelude.{◌≡◌, ◌≤◌, ◌≤ℤ◌, pos, length, IsTrue};
+ghost use Rattle.book_model.specs.calendars.Dates.{IsAskable};
+ghost use Rattle.book_model.specs.declared.calendar.Calendar.TheVariants.{HinduLunar as LunarCalendar};
+ghost use Rattle.hindu_astro.specs.Dates.{fields_of_lunar};
 ghost use Rattle.oracle_core.specs.Pairs.{AreFactValues, are_distinct};
 
 use crate::tests::facts::fact_on;
@@ -129,10 +134,7 @@ fn lunar_day_over(
     values: &[i64],
     date: HinduLunar,
 ) -> (Result<i64, Stop>, usize)
-    requires from_1858 { pos 1858 ≤ℤ date.year }
-    requires to_2105 { date.year ≤ℤ pos 2105 }
-    requires from_first_month { 1 ≤ date.month }
-    requires to_last_month { date.month ≤ 12 }
+    requires askable { IsAskable LunarCalendar (fields_of_lunar date) }
     requires same { length facts.now ≡ length values.now }
     requires distinct { IsTrue (are_distinct facts.now) }
     requires known { AreFactValues values.now }

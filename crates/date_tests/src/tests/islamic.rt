@@ -24,6 +24,7 @@ fn date_over(alloc: Global, day: i64, listed: i64, value: i64) -> (Result<Islami
 }
 
 /// The day of the first of Ramadan 1445 over a table of its fact, which is asked of the middle of the month.
+#[tactic(auto, unfolding(book_model::specs::calendars::Dates::may_have, book_model::specs::calendars::Dates::has_some_year, book_model::specs::calendars::Dates::year_number))]
 fn first_of_ramadan(alloc: Global) -> Result<i64, Stop> {
     let facts = [phasis_on(738_972)];
     let mut oracle = Listed::new(alloc, &facts, &[738_957]);

@@ -1,7 +1,7 @@
 //! Lines of an input, what they ask, and what that comes to over oracles with small lists. The rows under `tests/rows` have many
 //! lines more, for each rule.
 use book_model::{Fact, Fields, FromWord, Kind, Place, Request, Resolved, Rule, ToWord};
-use line_core::{read_line, resolve, split_lines, three_words};
+use line_core::{Version, read_line, resolve, split_lines, three_words};
 use oracle_core::{Listed, Oracle, Stop};
 use std::test::Fail;
 
@@ -47,7 +47,11 @@ fn a_line_is_a_request_or_breaks_a_rule(rt: HostRuntime) {
         ("gregorian 2023-2-29 dt", Err(Rule::Field)),
         ("gregorian 1801-12-31 dt", Err(Rule::Range)),
     ] {
-        assert_eq!(rt; read_line(line.as_bytes()), want, "at {line:?}");
+        assert_eq!(rt;
+            read_line(line.as_bytes(), Version::One),
+            want,
+            "at {line:?}"
+        );
     }
 }
 
@@ -78,8 +82,12 @@ fn days_and_dates_ask_no_facts(rt: HostRuntime) -> Result<(), Fail> {
         ),
     ] {
         let mut oracle = Listed::new(rt.alloc(), &[], &[]);
-        let request = read_line(line.as_bytes()).map_err(|_| "a line is refused")?;
-        assert_eq!(rt; resolve(&mut oracle, &request), Ok(want), "at {line:?}");
+        let request = read_line(line.as_bytes(), Version::One).map_err(|_| "a line is refused")?;
+        assert_eq!(rt;
+            resolve(&mut oracle, &request, Version::One),
+            Ok(want),
+            "at {line:?}"
+        );
         assert_eq!(rt; oracle.asked().len(), 0, "at {line:?}");
     }
     Ok(())
@@ -91,9 +99,11 @@ fn corrections_are_asked(rt: HostRuntime) -> Result<(), Fail> {
     let facts = [fact];
     let values = [73_871];
     let mut oracle = Listed::new(rt.alloc(), &facts, &values);
-    let request = read_line(b"gregorian 2024-02-10 dt").map_err(|_| "a line is refused")?;
+    let request = read_line(b"gregorian 2024-02-10 dt", Version::One).map_err(
+        |_| "a line is refused",
+    )?;
     assert_eq!(rt;
-        resolve(&mut oracle, &request),
+        resolve(&mut oracle, &request, Version::One),
         Ok(resolved(ToWord::Dt, 1, [73_871, 0, 0, 0, 0]))
     );
     assert_eq!(rt; oracle.asked().len(), 1);
@@ -105,8 +115,11 @@ fn corrections_are_asked(rt: HostRuntime) -> Result<(), Fail> {
 fn a_missing_fact_stops(rt: HostRuntime) -> Result<(), Fail> {
     let fact = Fact::new(Kind::Dt, Place::None, 738_926).ok_or("no fact")?;
     let mut oracle = Listed::new(rt.alloc(), &[], &[]);
-    let request = read_line(b"fixed 738926 dt").map_err(|_| "a line is refused")?;
-    assert_eq!(rt; resolve(&mut oracle, &request), Err(Stop::Missing(fact)));
+    let request = read_line(b"fixed 738926 dt", Version::One).map_err(|_| "a line is refused")?;
+    assert_eq!(rt;
+        resolve(&mut oracle, &request, Version::One),
+        Err(Stop::Missing(fact))
+    );
     assert_eq!(rt; oracle.ask(fact), Err(Stop::Missing(fact)));
     Ok(())
 }

@@ -1,5 +1,6 @@
 //! Dates and days over tables in memory, each compared with an independent implementation.
 ghost use Rattle.std.specs.Prelude.{◌≢◌, ◌≤◌, ◌≤ℤ◌, pos, negsuc};
+ghost use Rattle.book_model.specs.sky.Facts.{IsFactDay};
 
 use crate::tests::facts::nowruz_on;
 use oracle_core::{Listed, Stop};
@@ -18,8 +19,7 @@ fn date_over(
 ) -> (Result<PersianDate, Stop>, usize)
     requires from { pos 0 ≤ℤ day }
     requires to { day ≤ℤ pos 1000000 }
-    requires within_from { negsuc 39999999 ≤ℤ within }
-    requires within_to { within ≤ℤ pos 40000000 }
+    requires within { IsFactDay within }
     requires apart { within ≢ day }
     requires first_low { negsuc 9999999 ≤ℤ first }
     requires first_high { first ≤ℤ pos 10000000 }
@@ -42,8 +42,7 @@ fn date_over_one(
 ) -> (Result<PersianDate, Stop>, usize)
     requires from { pos 0 ≤ℤ day }
     requires to { day ≤ℤ pos 1000000 }
-    requires listed_from { negsuc 39999999 ≤ℤ listed }
-    requires listed_to { listed ≤ℤ pos 40000000 }
+    requires listed { IsFactDay listed }
     requires low { negsuc 9999999 ≤ℤ value }
     requires high { value ≤ℤ pos 10000000 }
 {
@@ -67,8 +66,7 @@ fn day_over(
     requires to_last_month { date.month ≤ 12 }
     requires from_first_day { 1 ≤ date.day }
     requires to_last_day { date.day ≤ 31 }
-    requires within_from { negsuc 39999999 ≤ℤ within }
-    requires within_to { within ≤ℤ pos 40000000 }
+    requires within { IsFactDay within }
     requires low { negsuc 9999999 ≤ℤ new_year }
     requires high { new_year ≤ℤ pos 10000000 }
 {

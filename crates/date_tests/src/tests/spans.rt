@@ -1,5 +1,5 @@
 //! Counts of days and spans, and remainders.
-use book_model::{SYNODIC_MONTH, TROPICAL_YEAR};
+use book_model::calendar_tables::{SYNODIC_MONTH, TROPICAL_YEAR};
 use calendar_math::{
     amod, days_of, days_of_years, months_of_days, spans_of, to_8_bits, to_32_bits, years_of_days,
 };

@@ -36,7 +36,7 @@ impl<E: Enclosure> DayTest<E> for After {
     }
 }
 
-fn fraction(num: i128, den: u64) -> Result<Frac, Fail> {
+pub fn fraction(num: i128, den: u64) -> Result<Frac, Fail> {
     Ok(Frac::new(num, den).ok_or("a denominator of 0")?)
 }
 
@@ -47,7 +47,7 @@ fn ends_of(x: Coarse) -> Result<(i128, i128), Fail> {
 }
 
 /// From the one whole number to the other.
-fn range<E: Enclosure>(low: i64, high: i64) -> E {
+pub fn range<E: Enclosure>(low: i64, high: i64) -> E {
     E::from_int(low).hull(E::from_int(high))
 }
 
@@ -384,7 +384,7 @@ fn pi_lies_between_neighbours(rt: HostRuntime) -> Result<(), Fail> {
 const START: i64 = 738_965;
 
 /// The first of the start and the 45 days after it that comes after a day, and how many tests are made.
-fn first_after<E: Enclosure>(day: i64) -> (Result<i64, FormulaFail>, u32) {
+pub fn first_after<E: Enclosure>(day: i64) -> (Result<i64, FormulaFail>, u32) {
     let mut trail = Trail::new();
     let found = first_day::<E, After>(&After { day }, START, &mut trail);
     (found, trail.count())

@@ -1,7 +1,8 @@
 //! Formulas over fine enclosures: each holds the value of an independent implementation and is narrow, also in the years from -499
 //! to 499, in which no fact is asked.
 use super::measures::is_fine;
-use book_model::{CAIRO, Fail as FormulaFail, Frac, Location, TEHRAN, UJJAIN};
+use book_model::location_tables::{CAIRO, TEHRAN, UJJAIN};
+use book_model::{Fail as FormulaFail, Frac, Location};
 use encl_core::{Enclosure, Trail};
 use fix_fine::Fine;
 use moon_core::{latitude, moon, moon_before, phase};

@@ -1,9 +1,10 @@
 //! The crescent: evenings and first sights of an independent implementation of the formulas, with the tests that they make.
 use super::measures::{fraction, is_near};
-use book_model::CAIRO;
-use crescent::{altitude_sine, arc_cosine, phasis, visible};
+use book_model::location_tables::CAIRO;
+use crescent::{arc_cosine, phasis, visible};
 use encl_core::{Coarse, Enclosure, Trail};
 use moon_core::{latitude, moon, phase};
+use rise_set::altitude_sine;
 use std::test::Fail;
 use sun_core::obliquity;
 use time_scales::{centuries, sidereal};

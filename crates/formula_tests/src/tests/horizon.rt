@@ -1,6 +1,7 @@
 //! The horizon: moments of an independent implementation of the formulas, and how narrow the answers are.
 use super::measures::{fraction, holds, is_near};
-use book_model::{CAIRO, Fail as FormulaFail, Frac, Location, Site, TEHRAN, UJJAIN};
+use book_model::location_tables::{CAIRO, TEHRAN, UJJAIN};
+use book_model::{Fail as FormulaFail, Frac, Location, Site};
 use encl_core::{Coarse, Trail};
 use rise_set::{dawn, dusk, hsunset, offset, refraction, sunrise, sunset};
 use std::test::Fail;

@@ -9,7 +9,7 @@ use Rattle.arc_series.proofs.degrees.arctan2_deg.Goals as goal
 
 pub returns-in_default-clause-encloses : goal.returns-in_default-clause-encloses
 returns-in_default-clause-encloses g c = record {
-  holds = λ w a b h k. somewhere_held g.E.Enclosure.shown w a b _ _ c.around.ensures.holds h;
+  holds = λ w a b h k. somewhere_held g.E.Enclosure.shown w a b _ _ c.half_turn_both_ways.ensures.holds h;
   narrow = λ r a b h k. narrow_two g.E.Enclosure.shown _ r a b _;
 }
 
@@ -49,7 +49,7 @@ returns-then-span-lt0-clause-unsure g c =
 
 pub returns-clause-encloses : goal.returns-clause-encloses
 returns-clause-encloses g c = record {
-  holds = λ w a b h k. somewhere_held g.E.Enclosure.shown w a b _ _ c.around-2.ensures.holds h;
+  holds = λ w a b h k. somewhere_held g.E.Enclosure.shown w a b _ _ c.half_turn_both_ways-2.ensures.holds h;
   narrow = λ r a b h k. narrow_two g.E.Enclosure.shown _ r a b _;
 }
 

@@ -29,7 +29,7 @@ returns-in-Some-clause-inside g c =
     moved_inside g.E.Enclosure.shown _ c.in-Some.span.lo c.in-Some.span.hi c.end_around.result c.end_around-in-Some.result _ c.in-Some.span.ordered e f h
 
 pub returns-in-None-clause-holds : goal.returns-in-None-clause-holds
-returns-in-None-clause-holds g c = λ i h k. within_trans k c.around.ensures.holds
+returns-in-None-clause-holds g c = λ i h k. within_trans k c.half_turn_both_ways.ensures.holds
 
 pub returns-in-Some-clause-narrow : goal.returns-in-Some-clause-narrow
 returns-in-Some-clause-narrow g c =

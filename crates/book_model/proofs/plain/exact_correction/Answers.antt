@@ -1,19 +1,16 @@
-use Rattle.std.proofs.Common.{arith, ◌+ℤ◌, negsuc, SFits, w64}
-use Rattle.std.proofs.lemmas.Int.{ints, to_z-of_z}
-use Rattle.book_model.specs.declared.tables.TheConstants.{CORRECTION_1987, CORRECTION_2006}
+use Rattle.std.proofs.Common.{rules, sym, SFits, w64}
+use Rattle.std.proofs.lemmas.Int.{to_z-of_z}
+use Rattle.book_model.specs.sky.Time.{correction_by, correction_of_year}
 use Rattle.book_model.proofs.Exactly.{seconds_exactly, some_weaker}
 use Rattle.book_model.proofs.plain.exact_correction.Goals as goal
 
-pub returns-then-year-le2005-clause-early : goal.returns-then-year-le2005-clause-early
-returns-then-year-le2005-clause-early c = λ _ _.
+pub returns-in_ok-checked_sub-in-SecondsSince : goal.returns-in_ok-checked_sub-in-SecondsSince
+unfolding correction_of_year correction_by
+returns-in_ok-checked_sub-in-SecondsSince c =
     let f : SFits w64 c.args.year = c.ranges.year in
-    let d : SFits w64 (c.args.year +ℤ negsuc 1999) = grind (arith, ints, to_z-of_z) in
-    let h = simp to_z-of_z at c.exact_polynomial.ensures in
-    some_weaker c.exact_polynomial.result _ _ (λ n e w. seconds_exactly w CORRECTION_1987 c.args.year n e) h
-
-pub returns-then-year-le2050-clause-late : goal.returns-then-year-le2050-clause-late
-returns-then-year-le2050-clause-late c = λ _ _.
-    let f : SFits w64 c.args.year = c.ranges.year in
-    let d : SFits w64 (c.args.year +ℤ negsuc 1999) = grind (arith, ints, to_z-of_z) in
-    let h = simp to_z-of_z at c.exact_polynomial-then-year-le2050.ensures in
-    some_weaker c.exact_polynomial-then-year-le2050.result _ _ (λ n e w. seconds_exactly w CORRECTION_2006 c.args.year n e) h
+    let e = sym (simp to_z-of_z at c.in_ok-row.ensures.row) in
+    let d : SFits w64 c.in_ok-checked_sub-in-SecondsSince.field-0 = search rules in
+    let p : SFits w64 c.in-SecondsSince.origin = search rules in
+    let s = simp to_z-of_z at c.in_ok-checked_sub-in-SecondsSince.ensures.1 in
+    let h = rw s at (simp to_z-of_z at c.exact_polynomial.ensures) in
+    some_weaker c.exact_polynomial.result _ _ (λ n g w. rw (e, c.in-SecondsSince.is) (seconds_exactly w _ c.in-SecondsSince.origin c.args.year n g)) h

@@ -13,8 +13,8 @@ returns-clause-leads g c = λ w d.
     leads_on _ l (rw c.location.ensures.location at (c.meets_at.ensures.leads w _ (leaf_within l)))
 
 pub returns-clause-close : goal.returns-clause-close
-returns-clause-close g c = λ e p h k.
+returns-clause-close g c = λ e p h.
     let f : SFits w64 c.args.day = c.ranges.day in
     let q : IsNarrowLocation c.location.result = rw c.location.ensures.location p in
     let m = simp to_z-of_z at c.in_ok-t.ensures.measured in
-    c.meets_at.ensures.close e q (m p h k e)
+    c.meets_at.ensures.close e q (m p h e)

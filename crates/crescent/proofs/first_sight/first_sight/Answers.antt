@@ -8,4 +8,4 @@ returns-clause-close g c = λ e p.
     let m = simp to_z-of_z at c.first_day.ensures.close in
     let low = c.requires.near.0 in
     let high = c.requires.near.1 in
-    m (λ d h k. (p, omega (arith, ints, h, low), omega (arith, ints, k, high))) e
+    m (λ d h k. (p, (omega (arith, ints, h, low), omega (arith, ints, k, high)))) e

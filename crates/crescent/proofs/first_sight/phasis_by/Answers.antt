@@ -29,7 +29,7 @@ returns-in_err-new_moon-clause-close g c = λ e p.
     let f : SFits w64 c.args.day = c.ranges.day in
     let m = simp to_z-of_z at c.in_err-new_moon.ensures.close in
     let fails = err_from_is_err_and c.from_residual.result c.from_residual.ensures.1 in
-    rw (fails.1, fails.2) (m e (omega (arith, ints)) (omega (arith, ints)) c.requires.day.0 c.requires.day.1)
+    rw (fails.1, fails.2) (m e (omega (arith, ints), omega (arith, ints)) c.requires.day)
 
 pub returns-clause-close : goal.returns-clause-close
 returns-clause-close g c = λ e p.

@@ -28,8 +28,8 @@ returns-clause-units g c = λ p q.
     let y : SFits w64 c.year_of_whole_day-year.result = search rules in
     let e = simp to_z-of_z at c.year_of_whole_day-year.ensures.year in
     let n = simp to_z-of_z at (c.in_ok-days.ensures.close p q) in
-    rw (← e)
-    (IfErr-weaker c.floor_step.result _ _ (λ o k. close_round _ _ c.year_of_whole_day-year.result o (λ a b. rounded_narrow g.E.Enclosure.shown _ _ c.milliseconds.result p q (n a b) c.milliseconds.ensures.narrow) k) c.floor_step.ensures.open)
+    let m = rounded_narrow g.E.Enclosure.shown _ _ _ c.milliseconds.result p q n c.milliseconds.ensures.narrow in
+    rw (← e) (IfErr-weaker c.floor_step.result _ _ (λ o k. close_round _ _ c.year_of_whole_day-year.result o m k) c.floor_step.ensures.open)
 
 pub returns-clause-early : goal.returns-clause-early
 returns-clause-early g c = λ p q. IfErr-weaker c.floor_step.result _ _ (λ f o. round_not_of_year _ f o) c.floor_step.ensures.open

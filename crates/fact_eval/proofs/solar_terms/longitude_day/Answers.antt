@@ -4,7 +4,7 @@ use Rattle.book_model.specs.sky.Kinds.{longitude_day_of}
 use Rattle.book_model.proofs.Leads.{leads_on, leaf_within}
 use Rattle.std.proofs.lemmas.Result.{err_from_is_err_and}
 use Rattle.moon_core.proofs.QuarterWidths.{whole_moment}
-use Rattle.fact_eval.proofs.Measured.{day_from, day_to}
+use Rattle.fact_eval.proofs.Measured.{midnight_day}
 use Rattle.fact_eval.proofs.solar_terms.longitude_day.Goals as goal
 
 pub returns-clause-leads : goal.returns-clause-leads
@@ -15,25 +15,25 @@ returns-clause-leads g c = λ w d.
     let i = simp to_z-of_z at (c.from_int.ensures.encloses.holds w d) in
     let m = simp to_z-of_z at (c.midnight.ensures.encloses.holds w d) in
     let l = c.in_ok-moment.ensures.leads w _ _ i m in
-    leads_on _ l (c.day_in_beijing.ensures.leads w _ (leaf_within l))
+    leads_on _ l (c.day_at.ensures.leads w _ (leaf_within l))
 
 pub returns-clause-close : goal.returns-clause-close
-returns-clause-close g c = λ e a b h.
+returns-clause-close g c = λ e k h.
     let shown = g.E.Enclosure.shown in
     let n : SFits w64 c.args.longitude = c.ranges.longitude in
     let f : SFits w64 c.args.day = c.ranges.day in
-    let l = (whole_moment shown _ c.args.longitude c.from_int.result e a b (simp to_z-of_z at c.from_int.ensures.encloses.narrow)) in
+    let l = whole_moment shown _ c.args.longitude c.from_int.result e k (simp to_z-of_z at c.from_int.ensures.encloses.narrow) in
     let m = simp to_z-of_z at c.midnight.ensures.measured in
-    let t = m e (day_from _ h) (day_to _ h) in
-    c.day_in_beijing.ensures.close (4 * (3 * 2 ^ 8) + 2 ^ 33) e (omega arith) (c.in_ok-moment.ensures.measured (3 * 2 ^ 8) e (omega arith) l t)
+    let t = m e (midnight_day _ h) in
+    c.day_at.ensures.close (4 * (3 * 2 ^ 8) + 2 ^ 33) e (omega arith) (c.in_ok-moment.ensures.measured (3 * 2 ^ 8) e (omega arith) l t)
 
 pub returns-in_err-moment-clause-close : goal.returns-in_err-moment-clause-close
-returns-in_err-moment-clause-close g c = λ e a b h.
+returns-in_err-moment-clause-close g c = λ e k h.
     let shown = g.E.Enclosure.shown in
     let n : SFits w64 c.args.longitude = c.ranges.longitude in
     let f : SFits w64 c.args.day = c.ranges.day in
-    let l = (whole_moment shown _ c.args.longitude c.from_int.result e a b (simp to_z-of_z at c.from_int.ensures.encloses.narrow)) in
+    let l = whole_moment shown _ c.args.longitude c.from_int.result e k (simp to_z-of_z at c.from_int.ensures.encloses.narrow) in
     let m = simp to_z-of_z at c.midnight.ensures.measured in
-    let t = m e (day_from _ h) (day_to _ h) in
+    let t = m e (midnight_day _ h) in
     let fails = err_from_is_err_and c.from_residual.result c.from_residual.ensures.1 in
     rw (fails.1, fails.2) (c.in_err-moment.ensures.measured (3 * 2 ^ 8) e (omega arith) l t)

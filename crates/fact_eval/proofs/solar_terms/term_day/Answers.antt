@@ -19,14 +19,14 @@ returns-clause-leads g c = λ w d.
     leads_bind_exact _ s (rw k at l)
 
 pub returns-clause-value : goal.returns-clause-value
-returns-clause-value g c = term_day_is_value c.args.first c.args.day _ _ _ (returns-clause-leads g c)
+returns-clause-value g c = term_day_is_value c.args.place c.args.first c.args.day _ _ _ (returns-clause-leads g c)
 
 pub returns-clause-close : goal.returns-clause-close
 returns-clause-close g c = λ e.
     let f : SFits w64 c.args.day = c.ranges.day in
     let q : SFits w64 c.term_longitude.result = search rules in
     let m = simp to_z-of_z at c.longitude_day.ensures.close in
-    m e (omega (arith, ints, c.term_longitude.ensures.from)) (omega (arith, ints, c.term_longitude.ensures.to)) c.requires.day
+    m e (omega (arith, ints, c.term_longitude.ensures.from), omega (arith, ints, c.term_longitude.ensures.to)) c.requires.day
 
 pub returns-in_err-spans-clause-close : goal.returns-in_err-spans-clause-close
 returns-in_err-spans-clause-close g c = λ e.

@@ -6,7 +6,7 @@ use Rattle.book_model.specs.sky.Kinds.{sun_in_thousandths_of}
 use Rattle.book_model.proofs.Leads.{leads_on, leaf_within}
 use Rattle.fact_eval.proofs.DayLemmas.{sun_is_value, sun_not_of_year, round_not_of_year}
 use Rattle.moon_core.proofs.QuarterWidths.{whole_moment}
-use Rattle.fact_eval.proofs.Measured.{day_from, day_to, thousandths_within}
+use Rattle.fact_eval.proofs.Measured.{fact_day, small_day, thousandths_within}
 use Rattle.fact_eval.proofs.sun.sun_in_thousandths.Goals as goal
 
 pub returns-clause-leads : goal.returns-clause-leads
@@ -34,7 +34,7 @@ pub returns-clause-close : goal.returns-clause-close
 returns-clause-close g c = λ e.
     let shown = g.E.Enclosure.shown in
     let f : SFits w64 c.args.day = c.ranges.day in
-    let i = whole_moment shown _ c.args.day c.from_int.result e (day_from _ c.requires.day) (day_to _ c.requires.day) (simp to_z-of_z at c.from_int.ensures.encloses.narrow) in
+    let i = whole_moment shown _ c.args.day c.from_int.result e (small_day _ (fact_day _ c.requires.day)) (simp to_z-of_z at c.from_int.ensures.encloses.narrow) in
     let s = c.in_ok-degrees.ensures.measured 0 e (omega arith) i in
     c.floor_step.ensures.close (1000 * (2 * 0 + 2 ^ 32) + 2 ^ 9) (omega arith) (thousandths_within shown _ (2 * 0 + 2 ^ 32) c.in_ok-degrees.degrees e s c.mul_frac.result (λ r x. c.mul_frac.ensures.encloses.narrow r x))
 
@@ -42,6 +42,6 @@ pub returns-in_err-degrees-clause-close : goal.returns-in_err-degrees-clause-clo
 returns-in_err-degrees-clause-close g c = λ e.
     let shown = g.E.Enclosure.shown in
     let f : SFits w64 c.args.day = c.ranges.day in
-    let i = whole_moment shown _ c.args.day c.from_int.result e (day_from _ c.requires.day) (day_to _ c.requires.day) (simp to_z-of_z at c.from_int.ensures.encloses.narrow) in
+    let i = whole_moment shown _ c.args.day c.from_int.result e (small_day _ (fact_day _ c.requires.day)) (simp to_z-of_z at c.from_int.ensures.encloses.narrow) in
     let fails = err_from_is_err_and c.from_residual.result c.from_residual.ensures.1 in
     rw (fails.1, fails.2) (c.in_err-degrees.ensures.measured 0 e (omega arith) i)

@@ -1,6 +1,7 @@
 use Rattle.std.proofs.Common.{SFits, w64}
 use Rattle.std.proofs.lemmas.Int.{to_z-of_z}
 use Rattle.book_model.specs.programs.Widths.{close_void}
+use Rattle.fact_eval.proofs.Measured.{fact_day}
 use Rattle.fact_eval.proofs.SunsetValues.{sunset_is_value}
 use Rattle.fact_eval.proofs.SunsetWidths.{found_is_narrow}
 use Rattle.fact_eval.proofs.sunsets.sunset_in_minutes.Goals as goal
@@ -14,8 +15,7 @@ pub returns-in-Some-clause-close : goal.returns-in-Some-clause-close
 returns-in-Some-clause-close g c = λ e.
     let f : SFits w64 c.args.day = c.ranges.day in
     let m = simp to_z-of_z at c.minutes_of_sunset.ensures.close in
-    let n = found_is_narrow c.args.place c.in-Some.location c.in-Some.ensures in
-    m e n.0 n.1 c.requires.day
+    m e (found_is_narrow c.args.place c.in-Some.location c.in-Some.ensures) (fact_day _ c.requires.day)
 
 pub returns-in-None-clause-close : goal.returns-in-None-clause-close
 returns-in-None-clause-close g c = λ e. close_void

@@ -1,6 +1,7 @@
 use Rattle.std.proofs.Common.{arith, pos, ◌+ℤ◌, ◌-ℤ◌, ◌*◌, ◌^◌, SFits, w64}
 use Rattle.std.proofs.lemmas.Int.{to_z-of_z, ints}
 use Rattle.std.proofs.lemmas.Result.{err_from_is_err_and}
+use Rattle.book_model.specs.declared.time_tables.TheConstants.{TABLE_END}
 use Rattle.book_model.specs.numbers.Expressions.{Expression}
 use Rattle.book_model.specs.programs.Leading.{leaf}
 use Rattle.book_model.specs.sky.Facts.{at_depth}
@@ -23,7 +24,7 @@ returns-clause-close g c = λ e.
     let x : Expression = leaf w (sunrise_of c.args.day) in
     let b = sunrise_near w c.args.day x (leads_leaf l) in
     let n = c.in_ok-t.ensures.measured (5 * 2 ^ 8) e (omega arith) (m e) in
-    let r = recent_found shown w (2 ^ 30) (c.args.day -ℤ pos 25) (pos 748948) (moon_from_of x) c.in_ok-t.t (omega arith) (omega (arith, ints, d.0))
+    let r = recent_found shown w (2 ^ 30) (c.args.day -ℤ pos 25) (TABLE_END +ℤ pos 200) (moon_from_of x) c.in_ok-t.t (omega arith) (omega (arith, ints, d.0))
     (λ y. moon_from_near w x y (c.args.day -ℤ pos 25) (c.args.day +ℤ pos 38) b) (c.in_ok-t.ensures.leads w x (leaf_within l)) (dated_moment _ _ n) in
     c.sign.ensures.close (2 ^ 30) e (omega arith) r
 

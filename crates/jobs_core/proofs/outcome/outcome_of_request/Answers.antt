@@ -1,14 +1,17 @@
 use Rattle.std.proofs.Common.{refl}
+use Rattle.book_model.specs.declared.version.TheConstants.{WRITTEN}
 use Rattle.jobs_core.proofs.AnswerLemmas.{right_result, right_stop}
 use Rattle.jobs_core.specs.Outcomes.{halt_outcome}
 use Rattle.jobs_core.proofs.outcome.outcome_of_request.Goals as goal
 
 pub returns-in_ok-new-in-Ok : goal.returns-in_ok-new-in-Ok
 returns-in_ok-new-in-Ok g c =
-    let right = right_result c.args.request.now c.in-Ok.resolved _ _ _ c.finish-facts.ensures.stand (rw c.new-asking.ensures.empty refl) refl c.in-Ok.ensures.comes in
+    let right = right_result WRITTEN c.args.request.now c.in-Ok.resolved _ _ _ c.finish-facts.ensures.stand
+    (rw c.new-asking.ensures.empty refl) refl c.in-Ok.ensures.comes in
     record { right = rw c.in_ok-new-in-Ok.ensures.ok (rw c.finish-facts.ensures.pairs right) }
 
 pub returns-in_ok-new-in-Err : goal.returns-in_ok-new-in-Err
 returns-in_ok-new-in-Err g c =
-    let right = right_stop c.args.request.now c.in-Err.stop _ _ (halt_outcome c.in_ok-halt_at-in-Err.field-0) c.in-Err.ensures.comes c.in_ok-halt_at-in-Err.ensures.stopped in
+    let right = right_stop WRITTEN c.args.request.now c.in-Err.stop _ _ (halt_outcome c.in_ok-halt_at-in-Err.field-0)
+    c.in-Err.ensures.comes c.in_ok-halt_at-in-Err.ensures.stopped in
     record { right = rw c.in_ok-new-in-Err.ensures.ok right }

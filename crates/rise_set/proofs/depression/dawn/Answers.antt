@@ -7,11 +7,11 @@ pub returns-clause-leads : goal.returns-clause-leads
 unfolding dawn_of
 returns-clause-leads g c = λ w a h.
     let f : SFits w64 c.args.day = c.ranges.day in
-    let l = simp to_z-of_z at c.depressed.ensures.leads in
+    let l = simp to_z-of_z at c.moment_of_depression.ensures.leads in
     rw c.horizon_at-horizon.ensures.location at (l w a (c.horizon_at-horizon.ensures.holds w a h))
 
 pub returns-clause-measured : goal.returns-clause-measured
-returns-clause-measured g c = λ p d h k e.
+returns-clause-measured g c = λ p d h e.
     let f : SFits w64 c.args.day = c.ranges.day in
-    let m = simp to_z-of_z at c.depressed.ensures.measured in
-    m (c.horizon_at-horizon.ensures.measured e p d) h k e
+    let m = simp to_z-of_z at c.moment_of_depression.ensures.measured in
+    m (c.horizon_at-horizon.ensures.measured e p d) h e

@@ -9,7 +9,7 @@ returns-clause-leads g c = λ w a h.
     rw c.horizon_at-horizon.ensures.location at (l w a (c.horizon_at-horizon.ensures.holds w a h))
 
 pub returns-clause-measured : goal.returns-clause-measured
-returns-clause-measured g c = λ p d h k e.
+returns-clause-measured g c = λ p d h e.
     let f : SFits w64 c.args.day = c.ranges.day in
     let m = simp to_z-of_z at c.dusk_at.ensures.measured in
-    m (c.horizon_at-horizon.ensures.measured e p d) h k e
+    m (c.horizon_at-horizon.ensures.measured e p d) h e

@@ -5,4 +5,4 @@ use Rattle.rise_set.proofs.depression.dusk_at.Goals as goal
 pub returns-clause-measured : goal.returns-clause-measured
 returns-clause-measured g c =
     let f : SFits w64 c.args.day = c.ranges.day in
-    simp to_z-of_z at c.depressed.ensures.measured
+    simp to_z-of_z at c.moment_of_depression.ensures.measured

@@ -26,7 +26,7 @@ returns-clause-measured g c = λ e.
     let m : SFits w64 c.in_ok-minutes.minutes = search rules in
     let d = sunrise_within shown _ c.from_frac.result e (λ r. c.from_frac.ensures.encloses.narrow r) in
     let rises = simp to_z-of_z at c.in_ok-rising.ensures.measured in
-    let t = rises ujjain_is_narrow d c.requires.low c.requires.high e in
+    let t = rises ujjain_is_narrow d c.requires.day e in
     let rounds = simp to_z-of_z at c.in_ok-minutes.ensures.leads in
     let n = rounded_minutes_near shown g.E.Enclosure.proper (17 * 2 ^ 28) c.args.day c.in_ok-minutes.minutes c.in_ok-rising.rising _ _ t rounds in
     let narrow = simp to_z-of_z at c.days.ensures.encloses.narrow in
@@ -38,7 +38,7 @@ returns-in_err-rising-clause-measured g c = λ e.
     let d = sunrise_within g.E.Enclosure.shown _ c.from_frac.result e (λ r. c.from_frac.ensures.encloses.narrow r) in
     let rises = simp to_z-of_z at c.in_err-rising.ensures.measured in
     let fails = err_from_is_err_and c.from_residual.result c.from_residual.ensures.1 in
-    rw (fails.1, fails.2) (rises ujjain_is_narrow d c.requires.low c.requires.high e)
+    rw (fails.1, fails.2) (rises ujjain_is_narrow d c.requires.day e)
 
 pub returns-in_err-minutes-clause-measured : goal.returns-in_err-minutes-clause-measured
 returns-in_err-minutes-clause-measured g c = λ e.
@@ -46,7 +46,7 @@ returns-in_err-minutes-clause-measured g c = λ e.
     let d = sunrise_within g.E.Enclosure.shown _ c.from_frac.result e (λ r. c.from_frac.ensures.encloses.narrow r) in
     let rises = simp to_z-of_z at c.in_ok-rising.ensures.measured in
     let fails = err_from_is_err_and c.from_residual-in_err-minutes.result c.from_residual-in_err-minutes.ensures.1 in
-    rw (fails.1, fails.2) (c.in_err-minutes.ensures.close e (rises ujjain_is_narrow d c.requires.low c.requires.high e))
+    rw (fails.1, fails.2) (c.in_err-minutes.ensures.close e (rises ujjain_is_narrow d c.requires.day e))
 
 pub returns-clause-recent : goal.returns-clause-recent
 returns-clause-recent g c = λ k e.
@@ -59,7 +59,7 @@ returns-in_err-rising-clause-recent g c = λ k e.
     let d = sunrise_within g.E.Enclosure.shown _ c.from_frac.result e (λ r. c.from_frac.ensures.encloses.narrow r) in
     let rises = simp to_z-of_z at c.in_err-rising.ensures.measured in
     let fails = err_from_is_err_and c.from_residual.result c.from_residual.ensures.1 in
-    rw (fails.1, fails.2) (rises ujjain_is_narrow d c.requires.low c.requires.high e)
+    rw (fails.1, fails.2) (rises ujjain_is_narrow d c.requires.day e)
 
 pub returns-in_err-minutes-clause-recent : goal.returns-in_err-minutes-clause-recent
 returns-in_err-minutes-clause-recent g c = λ k e.
@@ -67,4 +67,4 @@ returns-in_err-minutes-clause-recent g c = λ k e.
     let d = sunrise_within g.E.Enclosure.shown _ c.from_frac.result e (λ r. c.from_frac.ensures.encloses.narrow r) in
     let rises = simp to_z-of_z at c.in_ok-rising.ensures.measured in
     let fails = err_from_is_err_and c.from_residual-in_err-minutes.result c.from_residual-in_err-minutes.ensures.1 in
-    rw (fails.1, fails.2) (c.in_err-minutes.ensures.close e (rises ujjain_is_narrow d c.requires.low c.requires.high e))
+    rw (fails.1, fails.2) (c.in_err-minutes.ensures.close e (rises ujjain_is_narrow d c.requires.day e))

@@ -9,11 +9,11 @@ pub returns-clause-leads : goal.returns-clause-leads
 unfolding sun_from_of
 returns-clause-leads g c = λ w l x h k.
     let s = c.in_ok-short.ensures.leads w l x h k in
-    leads_on _ s (c.sun_about.ensures.leads w l x _ h k (c.forward.ensures.encloses.holds w _ x (leaf_within s) k))
+    leads_on _ s (c.passage_about.ensures.leads w l x _ h k (c.moved_on.ensures.encloses.holds w _ x (leaf_within s) k))
 
 pub returns-clause-measured : goal.returns-clause-measured
 returns-clause-measured g c = λ v e b h k.
     let shown = g.E.Enclosure.shown in
     let s = c.in_ok-short.ensures.measured v e (omega (arith, b)) h k in
-    let a = forward_within shown _ v c.args.t c.in_ok-short.short c.forward.result e c.in_ok-short.ensures.in_table k s (λ r p q. c.forward.ensures.encloses.narrow r p q) in
-    passage_measured shown v c.sun_about.result (c.sun_about.ensures.measured (4 * v + (2 ^ 33 - 2 ^ 24)) e (omega (arith, b)) h (moment_wider v (4 * v + (2 ^ 33 - 2 ^ 24)) _ (omega arith) k) a)
+    let a = forward_within shown _ v c.args.t c.in_ok-short.short c.moved_on.result e c.in_ok-short.ensures.in_table k s (λ r p q. c.moved_on.ensures.encloses.narrow r p q) in
+    passage_measured shown v c.passage_about.result (c.passage_about.ensures.measured (4 * v + (2 ^ 33 - 2 ^ 24)) e (omega (arith, b)) h (moment_wider v (4 * v + (2 ^ 33 - 2 ^ 24)) _ (omega arith) k) a)

@@ -1,5 +1,6 @@
 use Rattle.encl_core.proofs.Keeping.{kept_without_test}
-use Rattle.time_scales.proofs.KeptCorrections.{correction_few, kept_about}
+use Rattle.book_model.proofs.FactRuns.{correction_few}
+use Rattle.time_scales.proofs.KeptCorrections.{kept_about}
 use Rattle.time_scales.proofs.dynamical_time.kept_correction.Goals as goal
 
 pub keep_correction-requires : goal.keep_correction-requires

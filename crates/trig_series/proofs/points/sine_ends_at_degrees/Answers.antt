@@ -25,12 +25,12 @@ returns-then-degrees-eq-OCTANT-clause-near c =
 
 pub returns-clause-holds : goal.returns-clause-holds
 returns-clause-holds c = λ n y l e.
-    let low = c.around.ensures.low in
-    let high = c.around.ensures.high in
+    let low = c.span_around.ensures.low in
+    let high = c.span_around.ensures.high in
     sine_around c.args.degrees c.sine_of_degrees_56.result _ _ n y (c.sine_of_degrees_56.ensures.near n (omega (arith, l))) low high e
 
 pub returns-clause-near : goal.returns-clause-near
 returns-clause-near c =
-    let low = c.around.ensures.low_close in
-    let high = c.around.ensures.high_close in
+    let low = c.span_around.ensures.low_close in
+    let high = c.span_around.ensures.high_close in
     sine_close c.args.degrees c.sine_of_degrees_56.result _ _ (c.sine_of_degrees_56.ensures.ends 8 _ (omega arith) (by_lower c.args.degrees)) (omega (arith, ints, low)) (omega (arith, ints, high))

@@ -6,4 +6,4 @@ pub returns-clause-close : goal.returns-clause-close
 returns-clause-close g c = λ n e.
     let f : SFits w64 c.args.day = c.ranges.day in
     let m = simp to_z-of_z at c.visible_on.ensures.close in
-    m e n.0 n.1 n.2
+    m e n.0 n.1

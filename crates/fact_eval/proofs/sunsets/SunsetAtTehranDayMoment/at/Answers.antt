@@ -1,7 +1,7 @@
 use Rattle.std.proofs.Common.{arith, ◌*◌, ◌^◌, SFits, w64}
 use Rattle.std.proofs.lemmas.Int.{to_z-of_z}
-use Rattle.rise_set.proofs.Places.{tehran_is_narrow}
 use Rattle.fact_eval.proofs.Measured.{moments_looser}
+use Rattle.fact_eval.proofs.SunsetWidths.{tehran_is_narrow}
 use Rattle.fact_eval.proofs.sunsets.SunsetAtTehranDayMoment.at.Goals as goal
 
 pub returns-clause-leads : goal.returns-clause-leads
@@ -13,4 +13,4 @@ pub returns-clause-measured : goal.returns-clause-measured
 returns-clause-measured g c = λ e.
     let f : SFits w64 c.args.day = c.ranges.day in
     let m = rw c.self.invariant at (simp to_z-of_z at c.on.ensures.measured) in
-    moments_looser g.E.Enclosure.shown (9 * 2 ^ 29) (2 ^ 33) c.on.result (omega arith) (m tehran_is_narrow c.requires.day.0 c.requires.day.1 e)
+    moments_looser g.E.Enclosure.shown (9 * 2 ^ 29) (2 ^ 33) c.on.result (omega arith) (m tehran_is_narrow c.requires.day e)

@@ -23,16 +23,16 @@ returns-in_err-t-clause-leads g c = λ w d.
     rw (fails.1, fails.2) (leads_fail _ l)
 
 pub returns-clause-measured : goal.returns-clause-measured
-returns-clause-measured g c = λ p h k e.
+returns-clause-measured g c = λ p h e.
     let f : SFits w64 c.args.day = c.ranges.day in
     let q = rw (← c.self.view_is) at p in
     let m = simp to_z-of_z at c.in_ok-t.ensures.measured in
-    setting_within _ (c.universal.ensures.measured q.place (17 * 2 ^ 28) e (mean_local (17 * 2 ^ 28) _ (m (c.self.invariant.narrow e q) h k e)))
+    setting_within _ (c.universal.ensures.measured q.place (17 * 2 ^ 28) e (mean_local (17 * 2 ^ 28) _ (m (c.self.invariant.narrow e q) h e)))
 
 pub returns-in_err-t-clause-measured : goal.returns-in_err-t-clause-measured
-returns-in_err-t-clause-measured g c = λ p h k e.
+returns-in_err-t-clause-measured g c = λ p h e.
     let f : SFits w64 c.args.day = c.ranges.day in
     let q = rw (← c.self.view_is) at p in
     let m = simp to_z-of_z at c.in_err-t.ensures.measured in
     let fails = err_from_is_err_and c.from_residual.result c.from_residual.ensures.1 in
-    rw (fails.1, fails.2) (m (c.self.invariant.narrow e q) h k e)
+    rw (fails.1, fails.2) (m (c.self.invariant.narrow e q) h e)

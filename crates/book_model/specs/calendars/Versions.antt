@@ -1,0 +1,46 @@
+-- The versions of printed files, by their rows: which days a line may name, of which years there is an almanac, and the first
+-- line of a file.
+use Rattle.std.specs.Prelude.{ℕ, ◌≤◌, ◌||◌, Bool, false, List, [], ◌∷◌, map, ℤ, pos, slice_index_or}
+use denote.Enum.Declared.{tag_of}
+use Rattle.book_model.specs.contracts.version.Version.{the_type as version_type}
+use Rattle.book_model.specs.declared.version.Version.{Version}
+use Rattle.book_model.specs.declared.version.TheConstants.{VERSIONS, HEADERS, FIRST_ALMANAC_YEAR, LAST_ALMANAC_YEAR}
+use Rattle.book_model.specs.sky.Correction.{is_between}
+
+-- the number of a version, from 0: its place among the versions
+abbrev pub version_number : Version → ℕ
+version_number version = tag_of version_type version
+
+-- the range of a version, of ranges in the order of the versions: the first and the last number
+abbrev pub range_in : Version → List (ℤ × ℤ) → ℤ × ℤ
+range_in version ranges = slice_index_or ranges (version_number version) (pos 1, pos 0)
+
+-- a number lies in one of some ranges
+abbrev pub is_in_some : List (ℤ × ℤ) → ℤ → Bool
+is_in_some [] z = false
+is_in_some (range ∷ []) z = is_between range.0 range.1 z
+is_in_some (range ∷ other ∷ ranges) z = is_between range.0 range.1 z || is_in_some (other ∷ ranges) z
+
+-- the days that lines of each version may name
+abbrev pub line_days : List (ℤ × ℤ)
+line_days = map (λ row. row.days) VERSIONS
+
+-- the first and the last day that a line of a version may name
+abbrev pub days_in : Version → ℤ × ℤ
+days_in version = range_in version line_days
+
+-- the days that a line of a version may name
+abbrev pub is_in_range : Version → ℤ → Bool
+is_in_range version day = is_between (days_in version).0 (days_in version).1 day
+
+-- the days that a line of some version may name
+abbrev pub is_in_some_range : ℤ → Bool
+is_in_some_range day = is_in_some line_days day
+
+-- a year of which there is an almanac
+abbrev pub IsAlmanacYear : ℕ → Type 0
+IsAlmanacYear year = (FIRST_ALMANAC_YEAR ≤ year) × (year ≤ LAST_ALMANAC_YEAR)
+
+-- the first line of a version's files, without its line feed
+abbrev pub header_line : Version → List ℕ
+header_line version = slice_index_or (map (λ row. row.1.now) HEADERS) (version_number version) []

@@ -1,0 +1,55 @@
+//! Dynamical time less universal time, year by year: the rows of its table, each a polynomial for some years. The source is
+//! Reingold and Dershowitz, Calendrical Calculations, chapter 14, ephemeris correction.
+ghost use Rattle.std.specs.Prelude.{◌≡◌, map};
+ghost use Rattle.std.specs.Option.{option_map};
+ghost use Rattle.book_model.specs.sky.Correction.{correction_row, row_in, row_of_year as row_of};
+
+use crate::Frac;
+use crate::tables::{CORRECTION_1987, CORRECTION_2006};
+use crate::time_tables::{CORRECTION_1800, CORRECTION_1900, CORRECTION_ANCIENT};
+
+/// What the polynomial of a row is taken of, and what it counts.
+#[derive(Clone, Copy, Debug, PartialEq, Eq)]
+pub enum CorrectionForm {
+    /// Seconds, by the whole years from a year on.
+    SecondsSince(i64),
+    /// Seconds, by the hundredths of the year.
+    SecondsByHundreds,
+    /// Days, by the centuries from the end of 1899 to 1 July of the year.
+    DaysByCenturies,
+}
+
+/// The first and the last year of a row, its form, its coefficients from the constant one on, and, where it is promised, how
+/// many units of the scale an enclosure of its corrections is wide at most.
+pub type CorrectionRow = (i64, i64, CorrectionForm, &'static [Frac], Option<u32>);
+
+/// The rows, in order. A year in none of them has no correction.
+#[rattlefmt::skip]
+pub static CORRECTIONS: [CorrectionRow; 5] = [
+    (-499, 499, CorrectionForm::SecondsByHundreds, &CORRECTION_ANCIENT, None),
+    (1800, 1899, CorrectionForm::DaysByCenturies, &CORRECTION_1800, Some(33)),
+    (1900, 1986, CorrectionForm::DaysByCenturies, &CORRECTION_1900, Some(33)),
+    (1987, 2005, CorrectionForm::SecondsSince(2000), &CORRECTION_1987, Some(4)),
+    (2006, 2050, CorrectionForm::SecondsSince(2000), &CORRECTION_2006, Some(4)),
+];
+
+/// The first of some rows that has a year, if one has.
+fn first_with_year(mut rows: &[CorrectionRow], year: i64) -> Option<CorrectionRow>
+    ensures row { option_map (λ r. correction_row r.0 r.1 r.2 r.3.now r.4) result
+        ≡ row_in (map (λ r. correction_row r.0 r.1 r.2 r.3.now r.4) rows.entry.now) year }
+{
+    while let [row, rest @ ..] = rows {
+        if row.0 <= year && year <= row.1 {
+            return Some(*row);
+        }
+        rows = rest;
+    }
+    None
+}
+
+/// The row of a year, if it has one.
+pub fn row_of_year(year: i64) -> Option<CorrectionRow>
+    ensures row { option_map (λ r. correction_row r.0 r.1 r.2 r.3.now r.4) result ≡ row_of year }
+{
+    first_with_year(&CORRECTIONS, year)
+}

@@ -1,0 +1,9 @@
+//! Zones of time: the hours by which the time of a place is ahead of universal time.
+use crate::Frac;
+
+/// A day (R.D.) on which the time of a place changes, and the hours by which it is ahead of universal time before that day.
+#[derive(Clone, Copy, Debug)]
+pub struct ZoneStep {
+    pub before: i64,
+    pub hours: Frac,
+}

@@ -1,0 +1,20 @@
+//! How far the moon stands from the sun: the arc of light between them, by its cosine.
+ghost use Rattle.book_model.specs.programs.Calls.{Holds2, Narrows2};
+ghost use Rattle.std.specs.Prelude.{◌≡◌};
+ghost use Rattle.rise_set.specs.Altitudes.{IsMoonAngle, IsMoonLatitude};
+ghost use Rattle.crescent.specs.Widths.{IsArcCosine};
+ghost use Rattle.book_model.specs.sky.Crescent as spec;
+
+use encl_core::Enclosure;
+use trig_series::cos_deg;
+
+/// The cosine of the arc of light between the moon and the sun, by the moon's latitude and its phase, in degrees.
+#[tactic(auto, unfolding(book_model::specs::sky::Crescent::arc_cosine_of))]
+pub fn arc_cosine<E: Enclosure>(latitude: E, phase: E) -> E
+    ensures holds { Holds2 E.shown spec.arc_cosine_of latitude phase result }
+    ensures narrow { Narrows2 E.shown E.BITS spec.arc_cosine_of latitude phase result }
+    ensures measured { E.BITS ≡ 56 → IsMoonLatitude (E.shown latitude) → IsMoonAngle (E.shown phase)
+        → IsArcCosine (E.shown result) }
+{
+    cos_deg(latitude).mul(cos_deg(phase))
+}

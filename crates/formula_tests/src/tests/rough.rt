@@ -1,0 +1,262 @@
+//! A third kind of enclosures, at a rough scale: the trait's laws hold of it as of the others, so that no formula that is
+//! proved over the trait leans on one scale.
+ghost use Rattle.std.specs.Prelude.{refl};
+ghost use Rattle.exact_math.specs.Interval.{◌⊆◌};
+ghost use Rattle.scaled_ends.specs.Shown.{shown_ends, ends_proper};
+
+use crate::tests::coarse_ends::{first_after, fraction, range};
+use book_model::{Frac, Site, Undecided};
+use encl_core::{Enclosure, Span, Trail, less_step, wrap_step};
+use rounded_quotients::{ceil_div, floor_div};
+use scaled_ends::{
+    Ends, add_ends, cell_of_ends, clamp_ends, ends_of, ends_of_span, finer_ends, hull_ends,
+    int_ends, lower_ends, max_ends, min_ends, neg_ends, open_at, order_of_ends, period_of_ends,
+    raised_ends, scale_ends, sub_ends, widen_ends,
+};
+use scaled_products::{div_ends, mul_ends, root_ends, square_ends};
+use std::test::Fail;
+
+/// How many units of 2⁻³⁶ one of 2⁻⁸ has.
+const GRAIN: i128 = 268_435_456;
+
+/// The ends, each moved outwards to a multiple of 2⁻⁸.
+fn roughened(ends: Option<Ends<i64>>) -> Option<Ends<i64>>
+    ensures { shown_ends ends ⊆ shown_ends result }
+{
+    let e = ends?;
+    let lo = floor_div(i128::from(e.lo), GRAIN) * GRAIN;
+    let hi = ceil_div(i128::from(e.hi), GRAIN) * GRAIN;
+    ends_of(lo, hi)
+}
+
+/// An enclosure by two ends that are multiples of 2⁻⁸, rounded outwards; every number, where an end doesn't fit.
+#[derive(Clone, Copy, Debug, PartialEq)]
+struct Rough {
+    ends: Option<Ends<i64>>,
+}
+
+impl Enclosure for Rough {
+    ghost shown = { λ x. shown_ends x.ends };
+
+    ghost proper = { λ x. ends_proper x.ends };
+
+    ghost BITS = { 8 };
+
+    ghost DEPTH = { 40 };
+
+    ghost depth_law = { refl };
+
+    const BITS: u32 = 8;
+
+    const DEPTH: u32 = 40;
+
+    fn whole() -> Self {
+        Rough { ends: None }
+    }
+
+    fn from_int(value: i64) -> Self {
+        Rough {
+            ends: int_ends(value),
+        }
+    }
+
+    fn from_frac(value: Frac) -> Self {
+        Rough {
+            ends: roughened(raised_ends(value)),
+        }
+    }
+
+    fn from_span(span: Span) -> Self {
+        Rough {
+            ends: roughened(ends_of_span(span.lo, span.hi)),
+        }
+    }
+
+    fn add(self, other: Self) -> Self {
+        Rough {
+            ends: add_ends(self.ends, other.ends),
+        }
+    }
+
+    fn sub(self, other: Self) -> Self {
+        Rough {
+            ends: sub_ends(self.ends, other.ends),
+        }
+    }
+
+    fn mul(self, other: Self) -> Self {
+        Rough {
+            ends: roughened(mul_ends(self.ends, other.ends)),
+        }
+    }
+
+    fn min(self, other: Self) -> Self {
+        Rough {
+            ends: min_ends(self.ends, other.ends),
+        }
+    }
+
+    fn max(self, other: Self) -> Self {
+        Rough {
+            ends: max_ends(self.ends, other.ends),
+        }
+    }
+
+    fn hull(self, other: Self) -> Self {
+        Rough {
+            ends: hull_ends(self.ends, other.ends),
+        }
+    }
+
+    fn neg(self) -> Self {
+        Rough {
+            ends: neg_ends(self.ends),
+        }
+    }
+
+    fn widen(self, by: Frac) -> Self {
+        Rough {
+            ends: roughened(widen_ends(self.ends, by)),
+        }
+    }
+
+    fn mul_frac(self, by: Frac) -> Self {
+        Rough {
+            ends: roughened(scale_ends(self.ends, by)),
+        }
+    }
+
+    fn div(self, other: Self) -> Self {
+        Rough {
+            ends: roughened(div_ends(self.ends, other.ends)),
+        }
+    }
+
+    fn square(self) -> Self {
+        Rough {
+            ends: roughened(square_ends(self.ends)),
+        }
+    }
+
+    fn root(self) -> Self {
+        Rough {
+            ends: roughened(root_ends(self.ends)),
+        }
+    }
+
+    fn clamp_unit(self) -> Self {
+        Rough {
+            ends: Some(clamp_ends(self.ends)),
+        }
+    }
+
+    fn span(self) -> Option<Span> {
+        let (lo, hi) = finer_ends(self.ends)?;
+        Some(Span { lo, hi })
+    }
+
+    fn less(self, other: Self, site: Site, trail: &mut Trail) -> Result<bool, Undecided> {
+        let turn = trail.step();
+        match order_of_ends(self.ends, other.ends) {
+            Some(answer) => Ok(answer),
+            None => Err(open_at(hull_ends(self.ends, other.ends), site, turn)),
+        }
+    }
+
+    fn floor(self, site: Site, trail: &mut Trail) -> Result<i64, Undecided> {
+        let turn = trail.step();
+        match cell_of_ends(self.ends) {
+            Some(cell) => Ok(cell),
+            None => Err(open_at(self.ends, site, turn)),
+        }
+    }
+
+    fn wrap(self, modulus: u32, site: Site, trail: &mut Trail) -> Result<Self, Undecided> {
+        let turn = trail.step();
+        match period_of_ends(self.ends, modulus) {
+            Some(period) => Ok(Rough {
+                ends: lower_ends(self.ends, modulus, period),
+            }),
+            None => Err(open_at(self.ends, site, turn)),
+        }
+    }
+}
+
+#[test]
+fn rough_ends_are_multiples_of_a_256th(rt: HostRuntime) -> Result<(), Fail> {
+    let third = Rough::from_frac(fraction(-1, 3)?);
+    let two = Rough::from_int(2);
+    for (found, low, high) in [
+        (third, -86, -85),
+        (third.neg().add(two), 597, 598),
+        (third.mul_frac(fraction(1, 2)?), -43, -42),
+        (third.square(), 28, 29),
+        (two.root(), 362, 363),
+        (two.div(Rough::from_int(7)), 73, 74),
+        (two.widen(fraction(1, 3)?), 426, 598),
+        (range::<Rough>(0, 3).clamp_unit(), 0, 256),
+    ] {
+        let (low, high) = (fraction(low, 256)?, fraction(high, 256)?);
+        assert_eq!(rt; found, Rough::from_frac(low).hull(Rough::from_frac(high)));
+    }
+    let span = two.span().ok_or("whole")?;
+    assert_eq!(rt; Rough::from_span(span), two);
+    Ok(())
+}
+
+#[test]
+fn rough_tests_are_decided_and_counted(rt: HostRuntime) -> Result<(), Fail> {
+    let third = Rough::from_frac(fraction(-1, 3)?);
+    let two = Rough::from_int(2);
+    let mut trail = Trail::new();
+    assert_eq!(rt;
+        third.wrap(360, Site::Round, &mut trail),
+        Ok(third.add(Rough::from_int(360)))
+    );
+    assert_eq!(rt; third.less(two, Site::Search, &mut trail), Ok(true));
+    assert_eq!(rt; third.floor(Site::Search, &mut trail), Ok(-1));
+    let open = Undecided {
+        turn: 4,
+        site: Site::Search,
+        lo: i128::MIN,
+        hi: i128::MAX,
+    };
+    assert_eq!(rt;
+        less_step(Rough::whole(), Rough::whole(), Site::Search, &mut trail),
+        Err(open.into())
+    );
+    let nowhere = Undecided {
+        turn: 5,
+        site: Site::Round,
+        lo: i128::MIN,
+        hi: i128::MAX,
+    };
+    assert_eq!(rt;
+        wrap_step(Rough::whole(), 360, Site::Round, &mut trail),
+        Err(nowhere.into())
+    );
+    assert_eq!(rt; trail.count(), 5);
+    Ok(())
+}
+
+#[test]
+fn a_rough_search_answers_the_first_day(rt: HostRuntime) {
+    for (day, found, tests) in [
+        (0, 738_965, 1),
+        (738_979, 738_980, 16),
+        (739_009, 739_010, 46),
+    ] {
+        assert_eq!(rt;
+            first_after::<Rough>(day),
+            (Ok(found), tests),
+            "after {day}"
+        );
+    }
+    let open = Undecided {
+        turn: 1,
+        site: Site::DayTest,
+        lo: i128::MIN,
+        hi: i128::MAX,
+    };
+    assert_eq!(rt; first_after::<Rough>(200_000_000), (Err(open.into()), 1));
+}
