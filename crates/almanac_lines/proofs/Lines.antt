@@ -5,7 +5,8 @@ use Rattle.almanac_core.specs.Sample.{state_after, sample_line_of}
 use Rattle.almanac_lines.specs.Texts.{line_text, almanac_from, sample_from}
 
 -- one more line of an almanac
-pub almanac_on : (year passed : ℕ) (done now all : List (List ℕ)) (line : List ℕ) → passed < 104 → line ≡ line_text (almanac_line_of year (passed + 1)) → done ++ almanac_from year (passed + 1) (104 - passed) ≡ all
+pub almanac_on : (year passed : ℕ) (done now all : List (List ℕ)) (line : List ℕ) → passed < 104 → line ≡ line_text (almanac_line_of year (passed + 1))
+    → done ++ almanac_from year (passed + 1) (104 - passed) ≡ all
     → now ≡ done ++ line ∷ [] → now ++ almanac_from year (passed + 1 + 1) (104 - (passed + 1)) ≡ all
 almanac_on year passed done now all line h is old added =
     let more : 104 - passed ≡ suc (104 - (passed + 1)) = omega arith in
@@ -13,9 +14,11 @@ almanac_on year passed done now all line h is old added =
     rw (added, append_assoc, is) split
 
 -- one more line of a sample
-pub sample_on : (state index count : ℕ) (done now all : List (List ℕ)) (line : List ℕ) → index < count → line ≡ line_text (sample_line_of (state_after state) index) → done ++ sample_from state index (count - index) ≡ all
+pub sample_on : (state index count : ℕ) (done now all : List (List ℕ)) (line : List ℕ) → index < count → line
+    ≡ line_text (sample_line_of (state_after state) index) → done ++ sample_from state index (count - index) ≡ all
     → now ≡ done ++ line ∷ [] → now ++ sample_from (state_after state) (index + 1) (count - (index + 1)) ≡ all
 sample_on state index count done now all line h is old added =
     let more : count - index ≡ suc (count - (index + 1)) = omega arith in
-    let split : done ++ (line_text (sample_line_of (state_after state) index) ∷ sample_from (state_after state) (index + 1) (count - (index + 1))) ≡ all = rw more at old in
+    let split : done ++ (line_text (sample_line_of (state_after state) index) ∷ sample_from (state_after state) (index + 1) (count - (index + 1)))
+    ≡ all = rw more at old in
     rw (added, append_assoc, is) split

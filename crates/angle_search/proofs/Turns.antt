@@ -11,9 +11,11 @@ unfoldable pub after_test : ℕ → (Expression → Program Expression) → (y l
 after_test zero f y l u near = if near then answer (middle_of l u) else void BisectEnd
 after_test (suc more) f y l u near =
     if near then answer (middle_of l u)
-    else (bind (has_passed_at f y (middle_of l u)) (λ passed. if passed then bisected_of more f y l (middle_of l u) else bisected_of more f y (middle_of l u) u))
+    else (bind (has_passed_at f y (middle_of l u)) (λ passed.
+    if passed then bisected_of more f y l (middle_of l u) else bisected_of more f y (middle_of l u) u))
 
-pub turn_is : (more : ℕ) (f : Expression → Program Expression) (y l u : Expression) → bisected_of more f y l u ≡ bind (are_near_of l u) (after_test more f y l u)
+pub turn_is : (more : ℕ) (f : Expression → Program Expression) (y l u : Expression) → bisected_of more f y l u
+    ≡ bind (are_near_of l u) (after_test more f y l u)
 unfolding bisected_of after_test
 turn_is zero f y l u = refl
 turn_is (suc more) f y l u = refl
@@ -28,7 +30,8 @@ unfolding after_test
 no_turn f y l u = refl
 
 pub next_turn : (more : ℕ) (f : Expression → Program Expression) (y l u : Expression) → 1 ≤ more
-    → after_test more f y l u false ≡ bind (has_passed_at f y (middle_of l u)) (λ passed. if passed then bisected_of (more - 1) f y l (middle_of l u) else bisected_of (more - 1) f y (middle_of l u) u)
+    → after_test more f y l u false ≡ bind (has_passed_at f y (middle_of l u))
+    (λ passed. if passed then bisected_of (more - 1) f y l (middle_of l u) else bisected_of (more - 1) f y (middle_of l u) u)
 unfolding after_test
 next_turn zero f y l u h = absurd (omega (arith, h))
 next_turn (suc m) f y l u h = let z : suc m - 1 ≡ m = omega arith in rw z refl

@@ -31,7 +31,8 @@ pub trait Angular<E: Enclosure>: Drop {
     /// The angle at a moment by the course, in degrees. Nothing is said of its width. Where it answers it has made the tests of
     /// its formula. A failure says nothing of the formula: it is void where the moment isn't one of the course.
     fn near(&self, x: E, trail: &mut Trail) -> Result<E, Fail>
-        ensures leads { IfOk result (λ a. Follows1 E.shown angle_of x trail.old.count trail.new.count
+        ensures leads { IfOk result (λ a. Follows1 E.shown angle_of x trail.old.count
+            trail.new.count
             (Ok a)) };
 
     /// The angle by its course over a stretch of time, or none where it isn't known there. The tests are no part of the run.

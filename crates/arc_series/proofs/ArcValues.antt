@@ -12,7 +12,7 @@ use Rattle.exact_math.proofs.Hulls.{true_at_most}
 use Rattle.exact_math.proofs.Intervals.{within_trans, within_refl, negative_within, product_within, quotient_within, least_is, greatest_is}
 use Rattle.exact_math.proofs.Certificates.{zero_F, ◌≼◌, ◌≗◌, known, multiple, ◌⊞◌, ◌⊠◌, natural, le_by, same_given}
 use Rattle.exact_math.proofs.Alternating.{size_same}
-use Rattle.book_model.specs.programs.Leading.{at_56}
+use Rattle.book_model.specs.programs.Leading.{units_of_56}
 use Rattle.book_model.specs.numbers.Octants.{only}
 use Rattle.book_model.specs.numbers.Series.{arctan_term, arctan_at, double, scaled, pi_at}
 use Rattle.book_model.specs.numbers.Arcs.{half, minus_half, arctan_series, radian_at, arc_near}
@@ -24,7 +24,8 @@ use Rattle.arc_series.proofs.KernelSteps.{unit, unit_nonneg, at_more, at_less, I
 
 -- ---- Horner's form
 -- the sum of the terms is what Horner's form gives, times the first power
-alternating_form : (x : Fraction) → (m k : ℕ) (t : ℕ → Fraction) → ((j : ℕ) → t j ≡ arctan_term x (j + k)) → alternating t m ≈ times (power x (suc (double k))) (nested (times x x) (double k) m)
+alternating_form : (x : Fraction) → (m k : ℕ) (t : ℕ → Fraction) → ((j : ℕ) → t j ≡ arctan_term x (j + k))
+    → alternating t m ≈ times (power x (suc (double k))) (nested (times x x) (double k) m)
 unfolding alternating nested arctan_term power
 alternating_form x zero k t h =
     let e : t 0 ≡ arctan_term x k = h 0 ∙ ap (arctan_term x) (omega arith) in
@@ -32,7 +33,8 @@ alternating_form x zero k t h =
 alternating_form x (suc m) k t h =
     let e : t 0 ≡ arctan_term x k = h 0 ∙ ap (arctan_term x) (omega arith) in
     let i = alternating_form x m (suc k) (λ j. t (suc j)) (λ j. h (suc j) ∙ ap (arctan_term x) (omega arith)) in
-    subst (λ z. plus z (opposite (alternating (λ j. t (suc j)) m)) ≈ times (power x (suc (double k))) (plus (one_over (double k)) (opposite (times (times x x) (nested (times x x) (suc (suc (double k))) m))))) (sym e)
+    subst (λ z. plus z (opposite (alternating (λ j. t (suc j)) m)) ≈ times (power x (suc (double k)))
+    (plus (one_over (double k)) (opposite (times (times x x) (nested (times x x) (suc (suc (double k))) m))))) (sym e)
     (same_given
     (x ∷ power x (suc (double k)) ∷ one_over (double k) ∷ alternating (λ j. t (suc j)) m ∷ nested (times x x) (suc (suc (double k))) m ∷ [])
     ((at 3 ≗ (at 0 ⊗ (at 0 ⊗ at 1)) ⊗ at 4) ∷ [])
@@ -59,14 +61,16 @@ left_out : (x : Fraction) → IsUpTo 1 2 x → twice (size (arctan_term x 29)) �
 left_out x w =
     let r = (arctan_rising x half w half_up_to (below_half x w.bound)).above 29 in
     rw (size_same (arctan_term x 29) ((arctan_halving x w).nonneg 29))
-    (le_trans _ _ _ (le_by (arctan_term x 29 ∷ arctan_term half 29 ∷ []) ((at 0 ≼ at 1) ∷ []) (lit (pos 2) ⊗ at 0) (lit (pos 2) ⊗ at 1) (natural 2 ⊠ known 0) refl (r, tt)) at_half)
+    (le_trans _ _ _ (le_by (arctan_term x 29 ∷ arctan_term half 29 ∷ []) ((at 0 ≼ at 1) ∷ []) (lit (pos 2) ⊗ at 0) (lit (pos 2) ⊗ at 1) (natural 2 ⊠ known 0)
+    refl (r, tt)) at_half)
 
 -- ---- the series at a number
 -- what lies from 4 below s to 6 above it
 abbrev around : ℕ → Interval
 around s = between (at_64 (pos s -ℤ pos 4)) (at_64 (pos s +ℤ pos 6))
 
-ends_near : (q t s : ℕ) (x : Fraction) → IsUpTo 1 2 x → t ≤ 2 ^ 64 → IsHigh s q t → IsNumber q x → IsWithinUnits 4 t (nested (times x x) 0 28) → arctan_at 28 x ⊆ around s
+ends_near : (q t s : ℕ) (x : Fraction) → IsUpTo 1 2 x → t ≤ 2 ^ 64 → IsHigh s q t → IsNumber q x → IsWithinUnits 4 t (nested (times x x) 0 28)
+    → arctan_at 28 x ⊆ around s
 unfolding lower upper power
 ends_near q t s x w l p g n =
     let ρ = x ∷ nested (times x x) 0 28 ∷ alternating (arctan_term x) 28 ∷ size (arctan_term x 29) ∷ unit ∷ whole (pos s) ∷ [] in
@@ -75,10 +79,12 @@ ends_near q t s x w l p g n =
     record {
       ends = (
         le_trans _ _ _ (le_of_same (at_less (pos s) (pos 4)))
-            (le_by ρ (c ∷ ((at 5 ⊖ lit (pos 2)) ⊗ at 4 ≼ at 0 ⊗ at 1) ∷ d ∷ []) ((at 5 ⊖ lit (pos 4)) ⊗ at 4) (at 2 ⊖ lit (pos 2) ⊗ at 3) (known 1 ⊞ known 2 ⊞ multiple 0 (lit (negsuc 0))) refl
+            (le_by ρ (c ∷ ((at 5 ⊖ lit (pos 2)) ⊗ at 4 ≼ at 0 ⊗ at 1) ∷ d ∷ []) ((at 5 ⊖ lit (pos 4)) ⊗ at 4) (at 2 ⊖ lit (pos 2) ⊗ at 3)
+            (known 1 ⊞ known 2 ⊞ multiple 0 (lit (negsuc 0))) refl
             (sum_form x, (product_above s q t x _ p g n, (left_out x w, tt)))),
         le_trans _ _ _
-            (le_by ρ (c ∷ (at 0 ⊗ at 1 ≼ (at 5 ⊕ lit (pos 4)) ⊗ at 4) ∷ d ∷ []) (at 2 ⊕ lit (pos 2) ⊗ at 3) ((at 5 ⊕ lit (pos 6)) ⊗ at 4) (known 1 ⊞ known 2 ⊞ multiple 0 (lit (pos 1))) refl
+            (le_by ρ (c ∷ (at 0 ⊗ at 1 ≼ (at 5 ⊕ lit (pos 4)) ⊗ at 4) ∷ d ∷ []) (at 2 ⊕ lit (pos 2) ⊗ at 3) ((at 5 ⊕ lit (pos 6)) ⊗ at 4)
+            (known 1 ⊞ known 2 ⊞ multiple 0 (lit (pos 1))) refl
             (sum_form x, (product_below s q t x _ l p g n, (left_out x w, tt))))
             (ge_of_same (at_more (pos s) (pos 6))),
       );
@@ -94,11 +100,15 @@ pub record IsComputed (q w t s : ℕ) : Type 0 where
 
 number_up_to : (q : ℕ) (x : Fraction) → IsNumber q x → IsUpTo 1 2 x
 unfolding times
-number_up_to q x g = record { nonneg = le_trans zero_F (at_64 (pos q)) x (record { cross = omega (arith, ints) }) g.not_above; bound = record { cross = omega (arith, ints, g.small.cross) } }
+number_up_to q x g = record {
+  nonneg = le_trans zero_F (at_64 (pos q)) x (record { cross = omega (arith, ints) }) g.not_above;
+  bound = record { cross = omega (arith, ints, g.small.cross) };
+}
 
 computed_near : (q w t s : ℕ) (x : Fraction) → IsComputed q w t s → IsNumber q x → arctan_at 28 x ⊆ around s
 computed_near q w t s x c g =
-    ends_near q t s x (number_up_to q x g) (omega (arith, c.below)) (high_is s q t c.radians) g (c.sum (times x x) (square_near w q x (omega (arith, c.small)) (high_is w q q c.square) g))
+    ends_near q t s x (number_up_to q x g) (omega (arith, c.below)) (high_is s q t c.radians) g
+    (c.sum (times x x) (square_near w q x (omega (arith, c.small)) (high_is w q q c.square) g))
 
 above_minus_half : (x : Fraction) → zero_F ≤F x → minus_half ≤F x
 above_minus_half x h = record { cross = omega (arith, ints, h.cross) }
@@ -113,7 +123,8 @@ series_positive x h = rw (true_at_most zero_F x h) refl
 series_held : (n q w t s : ℕ) (x : Fraction) → 40 ≤ n → IsComputed q w t s → IsNumber q x → arctan_series n x ⊆ around s
 series_held n q w t s x d c g =
     let i = number_in q x g in
-    within_trans ((series_nests x i.above i.below).within 28 n (omega (arith, d))) (rw (series_positive x (number_up_to q x g).nonneg) (computed_near q w t s x c g))
+    within_trans ((series_nests x i.above i.below).within 28 n (omega (arith, d)))
+    (rw (series_positive x (number_up_to q x g).nonneg) (computed_near q w t s x c g))
 
 -- ---- the same of the opposite
 opposite_in : (q : ℕ) (x : Fraction) → IsNumber q (opposite x) → InHalf x
@@ -140,7 +151,8 @@ series_negative q x l h = rw (below_zero q x l h) refl
 series_mirrored : (n q w t s : ℕ) (x : Fraction) → 40 ≤ n → 1 ≤ q → IsComputed q w t s → IsNumber q (opposite x) → arctan_series n x ⊆ negative (around s)
 series_mirrored n q w t s x d l c g =
     let i = opposite_in q x g in
-    within_trans ((series_nests x i.above i.below).within 28 n (omega (arith, d))) (rw (series_negative q x l g.not_above) (negative_within (computed_near q w t s (opposite x) c g)))
+    within_trans ((series_nests x i.above i.below).within 28 n (omega (arith, d)))
+    (rw (series_negative q x l g.not_above) (negative_within (computed_near q w t s (opposite x) c g)))
 
 -- ---- the degrees of a radian
 -- a number that counts 2^-72
@@ -165,7 +177,8 @@ by_pi = record { ends = (record { cross = record { le = tt } }, record { cross =
 pub radian_near : (n : ℕ) → 40 ≤ n → radian_at n ⊆ radian
 unfolding radian_at
 radian_near n d =
-    within_trans (quotient_within (le_refl (whole (pos 180))) (pi_proper n) (within_refl (only (whole (pos 180)))) (within_trans (pi_at_least 16 n (omega (arith, d))) pi_at_16)) by_pi
+    within_trans (quotient_within (le_refl (whole (pos 180))) (pi_proper n) (within_refl (only (whole (pos 180))))
+    (within_trans (pi_at_least 16 n (omega (arith, d))) pi_at_16)) by_pi
 
 -- ---- the product of both
 fine : Fraction
@@ -183,11 +196,11 @@ at_58_more : (k : ℕ) → at_58 (pos (suc k)) ≈ times (plus (whole (pos k)) (
 unfolding fine times plus
 at_58_more k = record { cross = omega (arith, ints) }
 
-low_end : (lo : ℤ) (d : ℕ) → (lo *ℤ pos 4 +ℤ pos 4) ≤ℤ pos d → at_56 lo ≤F times (plus (whole (pos d)) (opposite (whole (pos 4)))) fine
+low_end : (lo : ℤ) (d : ℕ) → (lo *ℤ pos 4 +ℤ pos 4) ≤ℤ pos d → units_of_56 lo ≤F times (plus (whole (pos d)) (opposite (whole (pos 4)))) fine
 unfolding fine times plus opposite
 low_end lo d h = record { cross = omega (arith, ints, h) }
 
-high_end : (hi : ℤ) (d : ℕ) → (pos d +ℤ pos 9) ≤ℤ (hi *ℤ pos 4) → times (plus (whole (pos d)) (whole (pos 9))) fine ≤F at_56 hi
+high_end : (hi : ℤ) (d : ℕ) → (pos d +ℤ pos 9) ≤ℤ (hi *ℤ pos 4) → times (plus (whole (pos d)) (whole (pos 9))) fine ≤F units_of_56 hi
 unfolding fine times plus
 high_end hi d h = record { cross = omega (arith, ints, h) }
 
@@ -211,7 +224,8 @@ corner_nonneg r h = le_trans zero_F _ r (record { cross = record { le = tt } }) 
 corner_low : (s d : ℕ) (S R : Fraction) → IsHigh d s factor → IsCorner s S R → times (plus (whole (pos d)) (opposite (whole (pos 4)))) fine ≤F times S R
 corner_low s d S R p k =
     le_by (S ∷ R ∷ whole (pos s) ∷ whole (pos factor) ∷ whole (pos d) ∷ whole (pos (s * factor)) ∷ unit ∷ fine ∷ [])
-    (((at 2 ⊖ lit (pos 4)) ⊗ at 6 ≼ at 0) ∷ (lit (pos 0) ≼ at 2 ⊗ at 6) ∷ (at 3 ⊗ at 7 ≼ at 1) ∷ (at 1 ≼ (at 3 ⊕ lit (pos 1)) ⊗ at 7) ∷ (lit (pos 0) ≼ at 1) ∷ (lit (pos 0) ≼ at 6)
+    (((at 2 ⊖ lit (pos 4)) ⊗ at 6 ≼ at 0) ∷ (lit (pos 0) ≼ at 2 ⊗ at 6) ∷ (at 3 ⊗ at 7 ≼ at 1) ∷ (at 1 ≼ (at 3 ⊕ lit (pos 1)) ⊗ at 7) ∷ (lit (pos 0) ≼ at 1) ∷
+    (lit (pos 0) ≼ at 6)
     ∷ (lit (pos 0) ≼ at 7) ∷ (at 4 ≼ at 5 ⊗ at 6) ∷ (at 5 ≗ at 2 ⊗ at 3) ∷ ((at 3 ⊕ lit (pos 1)) ⊗ at 6 ≼ lit (pos 1)) ∷ [])
     ((at 4 ⊖ lit (pos 4)) ⊗ at 7) (at 0 ⊗ at 1)
     (known 4 ⊠ known 0 ⊞ known 1 ⊠ known 2 ⊞ known 6 ⊠ known 7 ⊞ multiple 8 (at 6 ⊗ at 7) ⊞ natural 4 ⊠ known 5 ⊠ known 3 ⊞ natural 4 ⊠ known 6 ⊠ known 9) refl (
@@ -232,9 +246,11 @@ corner_high : (s d : ℕ) (S R : Fraction) → s ≤ 2 ^ 64 → IsHigh d s facto
 corner_high s d S R l p k =
     le_by (S ∷ R ∷ whole (pos s) ∷ whole (pos factor) ∷ whole (pos d) ∷ whole (pos (s * factor)) ∷ unit ∷ fine ∷ [])
     ((at 0 ≼ (at 2 ⊕ lit (pos 6)) ⊗ at 6) ∷ (lit (pos 0) ≼ at 2 ⊗ at 6) ∷ (at 1 ≼ (at 3 ⊕ lit (pos 1)) ⊗ at 7) ∷ (lit (pos 0) ≼ at 1) ∷ (lit (pos 0) ≼ at 6)
-    ∷ (lit (pos 0) ≼ at 7) ∷ (at 5 ⊗ at 6 ≼ at 4 ⊕ lit (pos 1)) ∷ (at 5 ≗ at 2 ⊗ at 3) ∷ ((at 3 ⊕ lit (pos 1)) ⊗ at 6 ≼ lit (pos 1)) ∷ (at 2 ⊗ at 6 ≼ lit (pos 1)) ∷ [])
+    ∷ (lit (pos 0) ≼ at 7) ∷ (at 5 ⊗ at 6 ≼ at 4 ⊕ lit (pos 1)) ∷ (at 5 ≗ at 2 ⊗ at 3) ∷ ((at 3 ⊕ lit (pos 1)) ⊗ at 6 ≼ lit (pos 1)) ∷
+    (at 2 ⊗ at 6 ≼ lit (pos 1)) ∷ [])
     (at 0 ⊗ at 1) ((at 4 ⊕ lit (pos 9)) ⊗ at 7)
-    (known 3 ⊠ known 0 ⊞ known 1 ⊠ known 2 ⊞ known 5 ⊠ known 6 ⊞ multiple 7 (lit (negsuc 0) ⊗ (at 6 ⊗ at 7)) ⊞ known 5 ⊠ known 9 ⊞ natural 6 ⊠ known 4 ⊠ known 2 ⊞ natural 6 ⊠ known 5 ⊠ known 8 ⊞ known 5) refl (
+    (known 3 ⊠ known 0 ⊞ known 1 ⊠ known 2 ⊞ known 5 ⊠ known 6 ⊞ multiple 7 (lit (negsuc 0) ⊗ (at 6 ⊗ at 7)) ⊞ known 5 ⊠ known 9 ⊞ natural 6 ⊠ known 4 ⊠ known 2
+    ⊞ natural 6 ⊠ known 5 ⊠ known 8 ⊞ known 5) refl (
       le_trans _ _ _ k.high (le_of_same (at_more (pos s) (pos 6))),
       (
         count_nonneg s,
@@ -254,18 +270,23 @@ pub record AreDegrees (s d : ℕ) (lo hi : ℤ) : Type 0 where
   pub low : (lo *ℤ pos 4 +ℤ pos 4) ≤ℤ pos d
   pub high : (pos d +ℤ pos 9) ≤ℤ (hi *ℤ pos 4)
 
-corner : (s d : ℕ) (lo hi : ℤ) (S R : Fraction) → s ≤ 2 ^ 64 → AreDegrees s d lo hi → IsCorner s S R → (at_56 lo ≤F times S R) × (times S R ≤F at_56 hi)
-corner s d lo hi S R l a k = let p = high_is d s factor a.degrees in (le_trans _ _ _ (low_end lo d a.low) (corner_low s d S R p k), le_trans _ _ _ (corner_high s d S R l p k) (high_end hi d a.high))
+corner : (s d : ℕ) (lo hi : ℤ) (S R : Fraction) → s ≤ 2 ^ 64 → AreDegrees s d lo hi → IsCorner s S R → (units_of_56 lo ≤F times S R)
+    × (times S R ≤F units_of_56 hi)
+corner s d lo hi S R l a k = let p = high_is d s factor a.degrees in
+    (le_trans _ _ _ (low_end lo d a.low) (corner_low s d S R p k), le_trans _ _ _ (corner_high s d S R l p k) (high_end hi d a.high))
 
-neg_is : (n : ℤ) → at_56 (neg_ℤ n) ≈ opposite (at_56 n)
+neg_is : (n : ℤ) → units_of_56 (neg_ℤ n) ≈ opposite (units_of_56 n)
 unfolding opposite
 neg_is n = record { cross = refl }
 
-opposite_corner : (s d : ℕ) (lo hi : ℤ) (S R : Fraction) → s ≤ 2 ^ 64 → AreDegrees s d lo hi → IsCorner s S R → (at_56 (neg_ℤ hi) ≤F times (opposite S) R) × (times (opposite S) R ≤F at_56 (neg_ℤ lo))
+opposite_corner : (s d : ℕ) (lo hi : ℤ) (S R : Fraction) → s ≤ 2 ^ 64 → AreDegrees s d lo hi → IsCorner s S R → (units_of_56 (neg_ℤ hi) ≤F times (opposite S) R)
+    × (times (opposite S) R ≤F units_of_56 (neg_ℤ lo))
 opposite_corner s d lo hi S R l a k =
     let b = corner s d lo hi S R l a k in (
-      le_trans _ _ _ (le_of_same (neg_is hi)) (le_by (S ∷ R ∷ at_56 hi ∷ []) ((at 0 ⊗ at 1 ≼ at 2) ∷ []) (minus (at 2)) (minus (at 0) ⊗ at 1) (known 0) refl (b.1, tt)),
-      le_trans _ _ _ (le_by (S ∷ R ∷ at_56 lo ∷ []) ((at 2 ≼ at 0 ⊗ at 1) ∷ []) (minus (at 0) ⊗ at 1) (minus (at 2)) (known 0) refl (b.0, tt)) (ge_of_same (neg_is lo)),
+      le_trans _ _ _ (le_of_same (neg_is hi)) (le_by (S ∷ R ∷ units_of_56 hi ∷ []) ((at 0 ⊗ at 1 ≼ at 2) ∷ []) (minus (at 2)) (minus (at 0) ⊗ at 1) (known 0)
+          refl (b.1, tt)),
+      le_trans _ _ _ (le_by (S ∷ R ∷ units_of_56 lo ∷ []) ((at 2 ≼ at 0 ⊗ at 1) ∷ []) (minus (at 0) ⊗ at 1) (minus (at 2)) (known 0) refl (b.0, tt))
+          (ge_of_same (neg_is lo)),
     )
 
 between_mono : (a b : ℤ) → a ≤ℤ b → at_64 a ≤F at_64 b
@@ -274,16 +295,23 @@ between_mono a b h = record { cross = omega (arith, ints, h) }
 fine_mono : at_58 (pos factor) ≤F at_58 (pos (suc factor))
 fine_mono = record { cross = record { le = tt } }
 
-four : (s : ℕ) → IsCorner s (at_64 (pos s -ℤ pos 4)) (at_58 (pos factor)) × (IsCorner s (at_64 (pos s -ℤ pos 4)) (at_58 (pos (suc factor))) × (IsCorner s (at_64 (pos s +ℤ pos 6)) (at_58 (pos factor)) × IsCorner s (at_64 (pos s +ℤ pos 6)) (at_58 (pos (suc factor)))))
+four : (s : ℕ) → IsCorner s (at_64 (pos s -ℤ pos 4)) (at_58 (pos factor))
+    × (IsCorner s (at_64 (pos s -ℤ pos 4)) (at_58 (pos (suc factor)))
+    × (IsCorner s (at_64 (pos s +ℤ pos 6)) (at_58 (pos factor)) × IsCorner s (at_64 (pos s +ℤ pos 6)) (at_58 (pos (suc factor)))))
 four s =
     let m = between_mono (pos s -ℤ pos 4) (pos s +ℤ pos 6) (omega (arith, ints)) in
     let a = le_refl (at_64 (pos s -ℤ pos 4)) in
     let b = le_refl (at_64 (pos s +ℤ pos 6)) in
     let c = le_refl (at_58 (pos factor)) in
-    let d = le_refl (at_58 (pos (suc factor))) in
-    (record { low = a; high = m; from = c; to = fine_mono }, (record { low = a; high = m; from = fine_mono; to = d }, (record { low = m; high = b; from = c; to = fine_mono }, record { low = m; high = b; from = fine_mono; to = d })))
+    let d = le_refl (at_58 (pos (suc factor))) in (
+      record { low = a; high = m; from = c; to = fine_mono },
+      (
+        record { low = a; high = m; from = fine_mono; to = d },
+        (record { low = m; high = b; from = c; to = fine_mono }, record { low = m; high = b; from = fine_mono; to = d }),
+      ),
+    )
 
-product_held : (s d : ℕ) (lo hi : ℤ) → s ≤ 2 ^ 64 → AreDegrees s d lo hi → product (around s) radian ⊆ between (at_56 lo) (at_56 hi)
+product_held : (s d : ℕ) (lo hi : ℤ) → s ≤ 2 ^ 64 → AreDegrees s d lo hi → product (around s) radian ⊆ between (units_of_56 lo) (units_of_56 hi)
 unfolding product
 product_held s d lo hi l a =
     let k = four s in
@@ -293,7 +321,8 @@ product_held s d lo hi l a =
     let g = corner s d lo hi _ _ l a k.1.1.1 in
     record { ends = (least_is _ _ _ _ _ c.0 e.0 f.0 g.0, greatest_is _ _ _ _ _ c.1 e.1 f.1 g.1) }
 
-opposite_product_held : (s d : ℕ) (lo hi : ℤ) → s ≤ 2 ^ 64 → AreDegrees s d lo hi → product (negative (around s)) radian ⊆ between (at_56 (neg_ℤ hi)) (at_56 (neg_ℤ lo))
+opposite_product_held : (s d : ℕ) (lo hi : ℤ) → s ≤ 2 ^ 64 → AreDegrees s d lo hi
+    → product (negative (around s)) radian ⊆ between (units_of_56 (neg_ℤ hi)) (units_of_56 (neg_ℤ lo))
 unfolding product negative
 opposite_product_held s d lo hi l a =
     let k = four s in
@@ -307,12 +336,16 @@ opposite_product_held s d lo hi l a =
 radians_small : (q w t s : ℕ) → IsComputed q w t s → s ≤ 2 ^ 64
 radians_small q w t s c = omega (arith, high_small s q t (high_is s q t c.radians) (omega (arith, c.small)), c.below)
 
-pub near_held : (n q w t s d : ℕ) (lo hi : ℤ) (x : Fraction) → 40 ≤ n → IsComputed q w t s → AreDegrees s d lo hi → IsNumber q x → arc_near n x ⊆ between (at_56 lo) (at_56 hi)
+pub near_held : (n q w t s d : ℕ) (lo hi : ℤ) (x : Fraction) → 40 ≤ n → IsComputed q w t s → AreDegrees s d lo hi → IsNumber q x
+    → arc_near n x ⊆ between (units_of_56 lo) (units_of_56 hi)
 unfolding arc_near
 near_held n q w t s d lo hi x l c a g =
-    within_trans (product_within (series_proper n x (number_in q x g)) (degrees_proper n) (series_held n q w t s x l c g) (radian_near n l)) (product_held s d lo hi (radians_small q w t s c) a)
+    within_trans (product_within (series_proper n x (number_in q x g)) (degrees_proper n) (series_held n q w t s x l c g) (radian_near n l))
+    (product_held s d lo hi (radians_small q w t s c) a)
 
-pub near_mirrored : (n q w t s d : ℕ) (lo hi : ℤ) (x : Fraction) → 40 ≤ n → 1 ≤ q → IsComputed q w t s → AreDegrees s d lo hi → IsNumber q (opposite x) → arc_near n x ⊆ between (at_56 (neg_ℤ hi)) (at_56 (neg_ℤ lo))
+pub near_mirrored : (n q w t s d : ℕ) (lo hi : ℤ) (x : Fraction) → 40 ≤ n → 1 ≤ q → IsComputed q w t s → AreDegrees s d lo hi → IsNumber q (opposite x)
+    → arc_near n x ⊆ between (units_of_56 (neg_ℤ hi)) (units_of_56 (neg_ℤ lo))
 unfolding arc_near
 near_mirrored n q w t s d lo hi x l m c a g =
-    within_trans (product_within (series_proper n x (opposite_in q x g)) (degrees_proper n) (series_mirrored n q w t s x l m c g) (radian_near n l)) (opposite_product_held s d lo hi (radians_small q w t s c) a)
+    within_trans (product_within (series_proper n x (opposite_in q x g)) (degrees_proper n) (series_mirrored n q w t s x l m c g) (radian_near n l))
+    (opposite_product_held s d lo hi (radians_small q w t s c) a)

@@ -14,7 +14,7 @@ use Rattle.exact_math.proofs.IntLaws.{add_mul}
 use Rattle.exact_math.proofs.Floors.{floor_quotient_is, floor_quotient_mono}
 use Rattle.book_model.specs.programs.Widths.{IsWithin}
 use Rattle.book_model.specs.numbers.Bounds.{bounded, IsNarrow, at_32, breadth, ceil_div, ceil_quotient, floor_at_32, ceil_at_32, limits_at, quotient_bound, least_quotient}
-use Rattle.width_laws.proofs.Measuring.{looser, remeasured}
+use Rattle.greatest_widths.proofs.Measuring.{looser, remeasured}
 use Rattle.arc_series.specs.Widths.{IsRateFrom, slow_width}
 use Rattle.arc_series.proofs.ArcWidths.{ceil_above}
 
@@ -45,11 +45,13 @@ floor_under f = let i = floor_quotient_is (f.num *ℤ pos (2 ^ 32)) f.below in r
 floor_over : (f : Fraction) → f ≤F at_32 (floor_at_32 f +ℤ pos 1)
 floor_over f = let i = floor_quotient_is (f.num *ℤ pos (2 ^ 32)) f.below in record { cross = by_close (floor_at_32 f) i.close }
   where
-    by_close : (q : ℤ) → (f.num *ℤ pos (2 ^ 32)) <ℤ (q *ℤ pos (suc f.below) +ℤ pos (suc f.below)) → (f.num *ℤ pos (2 ^ 32)) ≤ℤ ((q +ℤ pos 1) *ℤ pos (suc f.below))
+    by_close : (q : ℤ) → (f.num *ℤ pos (2 ^ 32)) <ℤ (q *ℤ pos (suc f.below) +ℤ pos (suc f.below)) → (f.num *ℤ pos (2 ^ 32))
+        ≤ℤ ((q +ℤ pos 1) *ℤ pos (suc f.below))
     by_close q h = omega (arith, ints, h, add_mul q (pos 1) (pos (suc f.below)))
 
 ceil_over : (f : Fraction) → f ≤F at_32 (ceil_at_32 f)
-ceil_over f = let i = floor_quotient_is (neg_ℤ (f.num *ℤ pos (2 ^ 32))) f.below in record { cross = by_below (floor_quotient (neg_ℤ (f.num *ℤ pos (2 ^ 32))) f.below) i.not_above }
+ceil_over f = let i = floor_quotient_is (neg_ℤ (f.num *ℤ pos (2 ^ 32))) f.below in record
+    { cross = by_below (floor_quotient (neg_ℤ (f.num *ℤ pos (2 ^ 32))) f.below) i.not_above }
   where
     by_below : (q : ℤ) → (q *ℤ pos (suc f.below)) ≤ℤ neg_ℤ (f.num *ℤ pos (2 ^ 32)) → (f.num *ℤ pos (2 ^ 32)) ≤ℤ (neg_ℤ q *ℤ pos (suc f.below))
     by_below (pos zero) h = omega (arith, ints, h)
@@ -57,9 +59,11 @@ ceil_over f = let i = floor_quotient_is (neg_ℤ (f.num *ℤ pos (2 ^ 32))) f.be
     by_below (negsuc q) h = omega (arith, ints, h)
 
 ceil_under : (f : Fraction) → at_32 (ceil_at_32 f -ℤ pos 1) ≤F f
-ceil_under f = let i = floor_quotient_is (neg_ℤ (f.num *ℤ pos (2 ^ 32))) f.below in record { cross = by_close (floor_quotient (neg_ℤ (f.num *ℤ pos (2 ^ 32))) f.below) i.close }
+ceil_under f = let i = floor_quotient_is (neg_ℤ (f.num *ℤ pos (2 ^ 32))) f.below in record
+    { cross = by_close (floor_quotient (neg_ℤ (f.num *ℤ pos (2 ^ 32))) f.below) i.close }
   where
-    by_close : (q : ℤ) → neg_ℤ (f.num *ℤ pos (2 ^ 32)) <ℤ (q *ℤ pos (suc f.below) +ℤ pos (suc f.below)) → ((neg_ℤ q -ℤ pos 1) *ℤ pos (suc f.below)) ≤ℤ (f.num *ℤ pos (2 ^ 32))
+    by_close : (q : ℤ) → neg_ℤ (f.num *ℤ pos (2 ^ 32)) <ℤ (q *ℤ pos (suc f.below) +ℤ pos (suc f.below)) → ((neg_ℤ q -ℤ pos 1) *ℤ pos (suc f.below))
+        ≤ℤ (f.num *ℤ pos (2 ^ 32))
     by_close (pos zero) h = omega (arith, ints, h)
     by_close (pos (suc q)) h = omega (arith, ints, h)
     by_close (negsuc q) h = let e : (neg_ℤ (negsuc q) -ℤ pos 1) ≡ pos q = omega (arith, ints) in rw e (omega (arith, ints, h))
@@ -117,10 +121,12 @@ box_sum n p g h v q b = by_gap (h - g) (omega (arith, b.y_order)) (omega (arith,
     q_most = let m = mul-le-mul_left q b.y_least in let k = mul-le-mul_left q b.y_order in omega (arith, m, k, b.least, b.x_less)
 
     by_gap : (e : ℕ) → h ≡ g + e → e ≤ 4098 → (2 ^ 32 * (g + n)) * 2047 ≤ ((2 ^ 32 + q) * g) * 2048
-    by_gap e f l = let k = mul-le-mul q_most l in let c : p * 2 ^ 32 ≤ q * (g + e) + (g + e) = rw f at b.close in omega (arith, k, c, l, b.x_near, b.small, b.x_least, b.y_least, b.y_order, b.y_most)
+    by_gap e f l = let k = mul-le-mul q_most l in let c : p * 2 ^ 32 ≤ q * (g + e) + (g + e) = rw f at b.close in omega
+        (arith, k, c, l, b.x_near, b.small, b.x_least, b.y_least, b.y_order, b.y_most)
 
 -- the rates above b are enough, the widths above a too
-box_product : (m r u t a b v : ℕ) → 9 * 2 ^ 28 ≤ m → (2 ^ 32 * m) * 2047 ≤ r * 2048 → u * t ≡ r * r → a * u ≤ v * m * 2 ^ 32 → b * t ≤ 9 * 2 ^ 122 → a * b * 2047 * 2047 ≤ v * 2 ^ 62 * 2048 * 2048
+box_product : (m r u t a b v : ℕ) → 9 * 2 ^ 28 ≤ m → (2 ^ 32 * m) * 2047 ≤ r * 2048 → u * t ≡ r * r → a * u ≤ v * m * 2 ^ 32 → b * t ≤ 9 * 2 ^ 122
+    → a * b * 2047 * 2047 ≤ v * 2 ^ 62 * 2048 * 2048
 box_product m r u t a b v hm hr e ha hb =
     let k : a * b * (u * t) ≤ v * m * 2 ^ 32 * (9 * 2 ^ 122) = omega (arith, mul-le-mul ha hb) in
     let s = mul-le-mul hr hr in
@@ -128,7 +134,8 @@ box_product m r u t a b v hm hr e ha hb =
     let o = mul-le-mul_left (a * b * m) hm in
     le_of_mul-le-mul_right {k = m} (by_size (a * b) (m * m) (r * r) (rw e at k) (omega (arith, l)) (omega (arith, o))) (omega (arith, hm))
   where
-    by_size : (c mm rr : ℕ) → c * rr ≤ v * m * 2 ^ 32 * (9 * 2 ^ 122) → c * mm * 2 ^ 64 * 2047 * 2047 ≤ c * rr * 2048 * 2048 → c * m * (9 * 2 ^ 28) ≤ c * mm → (c * 2047 * 2047) * m ≤ (v * 2 ^ 62 * 2048 * 2048) * m
+    by_size : (c mm rr : ℕ) → c * rr ≤ v * m * 2 ^ 32 * (9 * 2 ^ 122) → c * mm * 2 ^ 64 * 2047 * 2047 ≤ c * rr * 2048 * 2048 → c * m * (9 * 2 ^ 28) ≤ c * mm
+        → (c * 2047 * 2047) * m ≤ (v * 2 ^ 62 * 2048 * 2048) * m
     by_size c mm rr x y z = omega (arith, x, y, z)
 
 -- the rate of numbers up to -q
@@ -161,13 +168,15 @@ ceil_less x d l = by_quotient (ceil_div x (d - 1)) (ceil_below x (d - 1))
     by_quotient : (c : ℕ) → c * suc (d - 1) ≤ x + suc (d - 1) → (c - 1) * d ≤ x
     by_quotient c h = let e : suc (d - 1) ≡ d = omega (arith, l) in less_one c d x (rw e at h)
 
-fitting : (v a b c s : ℕ) → a * b * 2047 * 2047 ≤ v * 2 ^ 62 * 2048 * 2048 → a * 2 ^ 56 ≤ v * 2 ^ 66 → b * 2 ^ 64 ≤ 9 * 2 ^ 122 → v ≤ 2 ^ 44 → c ≤ suc a → s ≤ suc b → slow_width s (c + 2 * 2 ^ 8) + 2 ^ 9 ≤ 230 * v + 2 ^ 20
+fitting : (v a b c s : ℕ) → a * b * 2047 * 2047 ≤ v * 2 ^ 62 * 2048 * 2048 → a * 2 ^ 56 ≤ v * 2 ^ 66 → b * 2 ^ 64 ≤ 9 * 2 ^ 122 → v ≤ 2 ^ 44 → c ≤ suc a
+    → s ≤ suc b → slow_width s (c + 2 * 2 ^ 8) + 2 ^ 9 ≤ 230 * v + 2 ^ 20
 fitting v a b c s x y z l f g = by_product ((c + 2 * 2 ^ 8) * s) (ceil_below ((c + 2 * 2 ^ 8) * s * 573) (10 * 2 ^ 60 - 1)) (mul-le-mul (by_sum f) g)
   where
     by_sum : c ≤ suc a → c + 2 * 2 ^ 8 ≤ a + 513
     by_sum h = omega (arith, h)
 
-    by_product : (k : ℕ) → ceil_div (k * 573) (10 * 2 ^ 60 - 1) * suc (10 * 2 ^ 60 - 1) ≤ k * 573 + suc (10 * 2 ^ 60 - 1) → k ≤ (a + 513) * suc b → ceil_div (k * 573) (10 * 2 ^ 60 - 1) + 58 * 2 ^ 8 + 2 ^ 9 ≤ 230 * v + 2 ^ 20
+    by_product : (k : ℕ) → ceil_div (k * 573) (10 * 2 ^ 60 - 1) * suc (10 * 2 ^ 60 - 1) ≤ k * 573 + suc (10 * 2 ^ 60 - 1) → k ≤ (a + 513) * suc b
+        → ceil_div (k * 573) (10 * 2 ^ 60 - 1) + 58 * 2 ^ 8 + 2 ^ 9 ≤ 230 * v + 2 ^ 20
     by_product k i j = by_quotient (ceil_div (k * 573) (10 * 2 ^ 60 - 1)) i j
       where
         by_quotient : (q : ℕ) → q * (10 * 2 ^ 60) ≤ k * 573 + 10 * 2 ^ 60 → k ≤ (a + 513) * suc b → q + 58 * 2 ^ 8 + 2 ^ 9 ≤ 230 * v + 2 ^ 20
@@ -180,18 +189,22 @@ box_fits n p g h v q b =
     let hb = ceil_less (9 * 2 ^ 122) ((2 ^ 32 + q) * (2 ^ 32 + q)) (omega arith) in
     by_less (ceil_div ((v * suc g + n * v) * 2 ^ 32) (suc g * suc g - 1)) (rate_from q) (omega (arith, ha)) hb u
   where
-    by_less : (c s : ℕ) → (c - 1) * (suc g * suc g) ≤ v * (suc g + n) * 2 ^ 32 → (s - 1) * ((2 ^ 32 + q) * (2 ^ 32 + q)) ≤ 9 * 2 ^ 122 → 2 ^ 28 * 2 ^ 28 ≤ suc g * suc g → slow_width s (c + 2 * 2 ^ 8) + 2 ^ 9 ≤ 230 * v + 2 ^ 20
+    by_less : (c s : ℕ) → (c - 1) * (suc g * suc g) ≤ v * (suc g + n) * 2 ^ 32 → (s - 1) * ((2 ^ 32 + q) * (2 ^ 32 + q)) ≤ 9 * 2 ^ 122
+        → 2 ^ 28 * 2 ^ 28 ≤ suc g * suc g → slow_width s (c + 2 * 2 ^ 8) + 2 ^ 9 ≤ 230 * v + 2 ^ 20
     by_less c s ha hb u =
         let m : suc g + n ≤ 2 ^ 34 = omega (arith, b.x_most, b.y_most, b.y_order) in
         let t : 2 ^ 64 ≤ (2 ^ 32 + q) * (2 ^ 32 + q) = omega arith in
         fitting v (c - 1) (s - 1) c s
-        (box_product (suc g + n) ((2 ^ 32 + q) * suc g) (suc g * suc g) ((2 ^ 32 + q) * (2 ^ 32 + q)) (c - 1) (s - 1) v (omega (arith, b.x_least, b.y_least)) (box_sum n p (suc g) h v q b) (squares (suc g) (2 ^ 32 + q)) ha hb)
-        (by_least (c - 1) ha (mul-le-mul_left (c - 1) u) (mul-le-mul_left v m)) (by_most (s - 1) hb (mul-le-mul_left (s - 1) t)) b.small (omega arith) (omega arith)
+        (box_product (suc g + n) ((2 ^ 32 + q) * suc g) (suc g * suc g) ((2 ^ 32 + q) * (2 ^ 32 + q)) (c - 1) (s - 1) v (omega (arith, b.x_least, b.y_least))
+        (box_sum n p (suc g) h v q b) (squares (suc g) (2 ^ 32 + q)) ha hb)
+        (by_least (c - 1) ha (mul-le-mul_left (c - 1) u) (mul-le-mul_left v m)) (by_most (s - 1) hb (mul-le-mul_left (s - 1) t)) b.small (omega arith)
+        (omega arith)
       where
         squares : (x y : ℕ) → (x * x) * (y * y) ≡ (y * x) * (y * x)
         squares x y = omega arith
 
-        by_least : (a : ℕ) → a * (suc g * suc g) ≤ v * (suc g + n) * 2 ^ 32 → a * (2 ^ 28 * 2 ^ 28) ≤ a * (suc g * suc g) → v * (suc g + n) ≤ v * 2 ^ 34 → a * 2 ^ 56 ≤ v * 2 ^ 66
+        by_least : (a : ℕ) → a * (suc g * suc g) ≤ v * (suc g + n) * 2 ^ 32 → a * (2 ^ 28 * 2 ^ 28) ≤ a * (suc g * suc g) → v * (suc g + n) ≤ v * 2 ^ 34
+            → a * 2 ^ 56 ≤ v * 2 ^ 66
         by_least a x y z = omega (arith, x, y, z)
 
         by_most : (e : ℕ) → e * ((2 ^ 32 + q) * (2 ^ 32 + q)) ≤ 9 * 2 ^ 122 → e * 2 ^ 64 ≤ e * ((2 ^ 32 + q) * (2 ^ 32 + q)) → e * 2 ^ 64 ≤ 9 * 2 ^ 122
@@ -217,7 +230,8 @@ pub record IsCornered (v : ℕ) (i : Interval) : Type 0 where
   pub kept : IsWithin low (neg_ℤ (pos least)) width i
   pub fits : slow_width rate width + 2 ^ 9 ≤ 230 * v + 2 ^ 20
 
-cornered_sizes : (n p g h v : ℕ) (i : Interval) → suc n ≤ 2 ^ 33 → suc p ≤ suc n → 2 ^ 31 ≤ suc p → suc n * 2 ^ 32 ≤ suc p * 2 ^ 32 + v + 2 * 2 ^ 32 → 2 ^ 28 ≤ suc g → suc g ≤ suc h → suc h ≤ 2 ^ 33 → suc h * 2 ^ 32 ≤ suc g * 2 ^ 32 + v + 2 * 2 ^ 32 → v ≤ 2 ^ 44
+cornered_sizes : (n p g h v : ℕ) (i : Interval) → suc n ≤ 2 ^ 33 → suc p ≤ suc n → 2 ^ 31 ≤ suc p → suc n * 2 ^ 32 ≤ suc p * 2 ^ 32 + v + 2 * 2 ^ 32
+    → 2 ^ 28 ≤ suc g → suc g ≤ suc h → suc h ≤ 2 ^ 33 → suc h * 2 ^ 32 ≤ suc g * 2 ^ 32 + v + 2 * 2 ^ 32 → v ≤ 2 ^ 44
     → IsNarrow 0 (quotient_bound (limits_at 56) (bounded (negsuc n) (negsuc p) 0 v) (bounded (pos (suc g)) (pos (suc h)) 0 v)) i → IsCornered v i
 unfolding quotient_bound
 cornered_sizes n p g h v i nm pn pl nn gl gh hm hn l k =
@@ -229,22 +243,37 @@ cornered_sizes n p g h v i nm pn pl nn gl gh hm hn l k =
     let t2 : nat_lt (suc h) (2 ^ 46) ≡ true = lt-ltb _ _ (omega (arith, hm)) in
     let lq : q * suc h ≤ suc p * 2 ^ 32 = omega arith in
     let lg : q * suc g ≤ suc p * 2 ^ 32 = omega (arith, lq, mul-le-mul_left q gh) in
-    let b : IsBox (suc n) (suc p) (suc g) (suc h) v q = record { x_most = nm; x_near = nn; x_least = omega (arith, pl, pn); x_less = omega (arith, pn, nm); y_least = gl; y_order = gh; y_near = hn; y_most = hm; small = l; least = lq; close = omega arith } in
+    let b : IsBox (suc n) (suc p) (suc g) (suc h) v q = record {
+      x_most = nm;
+      x_near = nn;
+      x_least = omega (arith, pl, pn);
+      x_less = omega (arith, pn, nm);
+      y_least = gl;
+      y_order = gh;
+      y_near = hn;
+      y_most = hm;
+      small = l;
+      least = lq;
+      close = omega arith;
+    } in
     record {
       low = least_quotient (negsuc n) g h;
       least = q;
       rate = rate_from q;
       width = box_width (suc n) g v;
       enough = rate_is q;
-      kept = looser _ _ _ _ (box_width (suc n) g v) (box_width (suc n) g v) i (omega (arith, ints)) (greatest_below _ _ _ (quotient_below p g q lg) (quotient_below p h q lq)) (omega arith)
+      kept = looser _ _ _ _ (box_width (suc n) g v) (box_width (suc n) g v) i (omega (arith, ints))
+          (greatest_below _ _ _ (quotient_below p g q lg) (quotient_below p h q lq)) (omega arith)
           (record { kept = remeasured _ _ 0 _ (box_width (suc n) g v) 0 0 (box_width (suc n) g v) i (omega arith) (rw (ea, eb, eh, t1, t2) at k) });
       fits = box_fits (suc n) (suc p) g (suc h) v q b;
     }
 
-pub cornered : (a b c d : ℤ) (v : ℕ) (i : Interval) → v ≤ 2 ^ 44 → IsTight (neg_ℤ (pos (2 ^ 33))) (neg_ℤ (pos (2 ^ 31))) v a b → IsTight (pos (2 ^ 28)) (pos (2 ^ 33)) v c d
+pub cornered : (a b c d : ℤ) (v : ℕ) (i : Interval) → v ≤ 2 ^ 44 → IsTight (neg_ℤ (pos (2 ^ 33))) (neg_ℤ (pos (2 ^ 31))) v a b
+    → IsTight (pos (2 ^ 28)) (pos (2 ^ 33)) v c d
     → IsNarrow 0 (quotient_bound (limits_at 56) (bounded a b 0 v) (bounded c d 0 v)) i → IsCornered v i
 cornered (negsuc n) (negsuc p) (pos (suc g)) (pos (suc h)) v i l x y k =
-    cornered_sizes n p g h v i (omega (arith, ints, x.from)) (omega (arith, ints, x.order)) (omega (arith, ints, x.to)) (omega (arith, ints, x.near)) (omega (arith, ints, y.from)) (omega (arith, ints, y.order)) (omega (arith, ints, y.to)) (omega (arith, ints, y.near)) l k
+    cornered_sizes n p g h v i (omega (arith, ints, x.from)) (omega (arith, ints, x.order)) (omega (arith, ints, x.to)) (omega (arith, ints, x.near))
+    (omega (arith, ints, y.from)) (omega (arith, ints, y.order)) (omega (arith, ints, y.to)) (omega (arith, ints, y.near)) l k
 cornered (pos n) b c d v i l x y k = absurd (omega (arith, ints, x.order, x.to))
 cornered (negsuc n) (pos p) c d v i l x y k = absurd (omega (arith, ints, x.to))
 cornered (negsuc n) (negsuc p) (pos zero) d v i l x y k = absurd (omega (arith, ints, y.from))

@@ -103,10 +103,12 @@ step_above c w t h C U V p k l i s n =
     (le_over 1
     (C ∷ U ∷ V ∷ whole (pos c) ∷ whole (pos w) ∷ whole (pos t) ∷ whole (pos h) ∷ whole (pos (w * t)) ∷ unit ∷ whole (pos (c - h)) ∷ [])
     ((at 3 ⊗ at 8 ≼ at 0) ∷ (lit (pos 0) ≼ at 1) ∷ (at 2 ≼ (at 5 ⊕ lit (pos 4)) ⊗ at 8) ∷ (lit (pos 0) ≼ at 5 ⊗ at 8) ∷ (at 1 ≼ (at 4 ⊕ lit (pos 3)) ⊗ at 8)
-    ∷ (at 7 ⊗ at 8 ≼ at 6 ⊕ lit (pos 1)) ∷ (at 7 ≗ at 4 ⊗ at 5) ∷ (lit (pos 2) ⊗ (at 5 ⊗ at 8) ≼ lit (pos 1)) ∷ (lit (pos 4) ⊗ at 1 ≼ lit (pos 1)) ∷ (lit (pos 0) ≼ at 8)
+    ∷ (at 7 ⊗ at 8 ≼ at 6 ⊕ lit (pos 1)) ∷ (at 7 ≗ at 4 ⊗ at 5) ∷ (lit (pos 2) ⊗ (at 5 ⊗ at 8) ≼ lit (pos 1)) ∷ (lit (pos 4) ⊗ at 1 ≼ lit (pos 1)) ∷
+    (lit (pos 0) ≼ at 8)
     ∷ (at 9 ≗ at 3 ⊖ at 6) ∷ [])
     ((at 9 ⊖ lit (pos 4)) ⊗ at 8) (at 0 ⊖ at 1 ⊗ at 2)
-    (natural 2 ⊠ known 0 ⊞ natural 2 ⊠ known 1 ⊠ known 2 ⊞ natural 2 ⊠ known 3 ⊠ known 4 ⊞ natural 2 ⊠ known 9 ⊠ known 5 ⊞ multiple 6 (lit (negsuc 1) ⊗ (at 8 ⊗ at 8))
+    (natural 2 ⊠ known 0 ⊞ natural 2 ⊠ known 1 ⊠ known 2 ⊞ natural 2 ⊠ known 3 ⊠ known 4 ⊞ natural 2 ⊠ known 9 ⊠ known 5 ⊞ multiple 6
+    (lit (negsuc 1) ⊗ (at 8 ⊗ at 8))
     ⊞ natural 3 ⊠ known 9 ⊠ known 7 ⊞ natural 2 ⊠ known 9 ⊠ known 8 ⊞ known 9 ⊞ multiple 10 (lit (pos 2) ⊗ at 8))
     refl (
       from_at (pos c) C i,
@@ -155,8 +157,12 @@ step_below c w t h C U V p k i s n =
     ))
     (ge_of_same (at_more (pos (c - h)) (pos 4)))
 
-pub step_near : (c w t h d : ℕ) (U V : Fraction) → IsHigh h w t → h ≤ c → 2 * t ≤ 2 ^ 64 → IsCut c d → IsSquare w U → IsWithinUnits 4 t V → IsWithinUnits 4 (c - h) (plus (one_over d) (opposite (times U V)))
-step_near c w t h d U V p k l i s n = record { above = step_above c w t h (one_over d) U V p k l i.not_above s n; below = step_below c w t h (one_over d) U V p k i.close s n }
+pub step_near : (c w t h d : ℕ) (U V : Fraction) → IsHigh h w t → h ≤ c → 2 * t ≤ 2 ^ 64 → IsCut c d → IsSquare w U → IsWithinUnits 4 t V
+    → IsWithinUnits 4 (c - h) (plus (one_over d) (opposite (times U V)))
+step_near c w t h d U V p k l i s n = record {
+  above = step_above c w t h (one_over d) U V p k l i.not_above s n;
+  below = step_below c w t h (one_over d) U V p k i.close s n;
+}
 
 -- ---- the chain of steps
 at_mono : (a b : ℤ) → a ≤ℤ b → at_64 a ≤F at_64 b
@@ -173,7 +179,8 @@ innermost c d u i = record {
 abbrev pub Keeps : (coefficient square inner result : ℕ) → Type 0
 Keeps c w t r = (d : ℕ) (u v : Fraction) → IsCut c d → IsSquare w u → IsWithinUnits 4 t v → IsWithinUnits 4 r (plus (one_over d) (opposite (times u v)))
 
-pub next : (d m c w t r : ℕ) (u : Fraction) → Keeps c w t r → IsCut c d → IsSquare w u → IsWithinUnits 4 t (nested u (suc (suc d)) m) → IsWithinUnits 4 r (nested u d (suc m))
+pub next : (d m c w t r : ℕ) (u : Fraction) → Keeps c w t r → IsCut c d → IsSquare w u → IsWithinUnits 4 t (nested u (suc (suc d)) m)
+    → IsWithinUnits 4 r (nested u d (suc m))
 unfolding nested
 next d m c w t r u k i s n = k d u (nested u (suc (suc d)) m) i s n
 
@@ -198,16 +205,23 @@ square_below : (w q : ℕ) (x : Fraction) → 2 * q ≤ 2 ^ 64 → IsHigh w q q 
 square_below w q x l p g =
     le_trans _ (times (plus (whole (pos w)) (whole (pos 3))) unit) _
     (le_by (x ∷ whole (pos q) ∷ whole (pos w) ∷ whole (pos (q * q)) ∷ unit ∷ [])
-    ((at 0 ≼ (at 1 ⊕ lit (pos 1)) ⊗ at 4) ∷ (lit (pos 0) ≼ at 0) ∷ (lit (pos 0) ≼ at 1 ⊗ at 4) ∷ (at 3 ⊗ at 4 ≼ at 2 ⊕ lit (pos 1)) ∷ (at 3 ≗ at 1 ⊗ at 1) ∷ (lit (pos 0) ≼ at 4)
+    ((at 0 ≼ (at 1 ⊕ lit (pos 1)) ⊗ at 4) ∷ (lit (pos 0) ≼ at 0) ∷ (lit (pos 0) ≼ at 1 ⊗ at 4) ∷ (at 3 ⊗ at 4 ≼ at 2 ⊕ lit (pos 1)) ∷ (at 3 ≗ at 1 ⊗ at 1) ∷
+    (lit (pos 0) ≼ at 4)
     ∷ (lit (pos 2) ⊗ (at 1 ⊗ at 4) ≼ lit (pos 1)) ∷ (at 4 ≼ lit (pos 1)) ∷ [])
     (at 0 ⊗ at 0) ((at 2 ⊕ lit (pos 3)) ⊗ at 4)
-    (known 0 ⊠ (known 1 ⊞ known 2 ⊞ known 5) ⊞ known 5 ⊠ known 3 ⊞ multiple 4 (lit (negsuc 0) ⊗ (at 4 ⊗ at 4)) ⊞ known 5 ⊠ known 6 ⊞ known 5 ⊠ known 7) refl
-    (to_more (pos q) (pos 1) x g.close, (number_nonneg q x g, (count_nonneg q, (high_above w (q * q) p.close, (product_is q q, (unit_nonneg, (half_of q l, (unit_small, tt)))))))))
+    (known 0 ⊠ (known 1 ⊞ known 2 ⊞ known 5) ⊞ known 5 ⊠ known 3 ⊞ multiple 4 (lit (negsuc 0) ⊗ (at 4 ⊗ at 4)) ⊞ known 5 ⊠ known 6 ⊞ known 5 ⊠ known 7) refl (
+      to_more (pos q) (pos 1) x g.close,
+      (
+        number_nonneg q x g,
+        (count_nonneg q, (high_above w (q * q) p.close, (product_is q q, (unit_nonneg, (half_of q l, (unit_small, tt)))))),
+      ),
+    ))
     (ge_of_same (at_more (pos w) (pos 3)))
 
 square_quarter : (x : Fraction) → zero_F ≤F x → times (whole (pos 2)) x ≤F whole (pos 1) → times (whole (pos 4)) (times x x) ≤F whole (pos 1)
 square_quarter x h k =
-    le_by (x ∷ []) ((lit (pos 0) ≼ at 0) ∷ (lit (pos 2) ⊗ at 0 ≼ lit (pos 1)) ∷ []) (lit (pos 4) ⊗ (at 0 ⊗ at 0)) (lit (pos 1)) (known 1 ⊠ (known 1 ⊞ natural 4 ⊠ known 0)) refl (h, (k, tt))
+    le_by (x ∷ []) ((lit (pos 0) ≼ at 0) ∷ (lit (pos 2) ⊗ at 0 ≼ lit (pos 1)) ∷ []) (lit (pos 4) ⊗ (at 0 ⊗ at 0)) (lit (pos 1))
+    (known 1 ⊠ (known 1 ⊞ natural 4 ⊠ known 0)) refl (h, (k, tt))
 
 pub square_near : (w q : ℕ) (x : Fraction) → 2 * q ≤ 2 ^ 64 → IsHigh w q q → IsNumber q x → IsSquare w (times x x)
 square_near w q x l p g = record {
@@ -217,10 +231,12 @@ square_near w q x l p g = record {
 }
 
 -- ---- the product of a number and what is near
-pub product_above : (s q t : ℕ) (x V : Fraction) → IsHigh s q t → IsNumber q x → IsWithinUnits 4 t V → times (plus (whole (pos s)) (opposite (whole (pos 2)))) unit ≤F times x V
+pub product_above : (s q t : ℕ) (x V : Fraction) → IsHigh s q t → IsNumber q x → IsWithinUnits 4 t V
+    → times (plus (whole (pos s)) (opposite (whole (pos 2)))) unit ≤F times x V
 product_above s q t x V p g n =
     le_by (x ∷ V ∷ whole (pos s) ∷ whole (pos q) ∷ whole (pos t) ∷ whole (pos (q * t)) ∷ unit ∷ [])
-    ((at 3 ⊗ at 6 ≼ at 0) ∷ (lit (pos 0) ≼ at 0) ∷ ((at 4 ⊖ lit (pos 4)) ⊗ at 6 ≼ at 1) ∷ (lit (pos 0) ≼ at 4 ⊗ at 6) ∷ (at 2 ≼ at 5 ⊗ at 6) ∷ (at 5 ≗ at 3 ⊗ at 4) ∷ (lit (pos 0) ≼ at 6)
+    ((at 3 ⊗ at 6 ≼ at 0) ∷ (lit (pos 0) ≼ at 0) ∷ ((at 4 ⊖ lit (pos 4)) ⊗ at 6 ≼ at 1) ∷ (lit (pos 0) ≼ at 4 ⊗ at 6) ∷ (at 2 ≼ at 5 ⊗ at 6) ∷
+    (at 5 ≗ at 3 ⊗ at 4) ∷ (lit (pos 0) ≼ at 6)
     ∷ (lit (pos 2) ⊗ at 0 ≼ lit (pos 1)) ∷ [])
     ((at 2 ⊖ lit (pos 2)) ⊗ at 6) (at 0 ⊗ at 1)
     (known 1 ⊠ known 2 ⊞ known 3 ⊠ known 0 ⊞ known 6 ⊠ known 4 ⊞ multiple 5 (at 6 ⊗ at 6) ⊞ natural 2 ⊠ known 6 ⊠ known 7) refl (
@@ -234,13 +250,16 @@ product_above s q t x V p g n =
       ),
     )
 
-pub product_below : (s q t : ℕ) (x V : Fraction) → t ≤ 2 ^ 64 → IsHigh s q t → IsNumber q x → IsWithinUnits 4 t V → times x V ≤F times (plus (whole (pos s)) (whole (pos 4))) unit
+pub product_below : (s q t : ℕ) (x V : Fraction) → t ≤ 2 ^ 64 → IsHigh s q t → IsNumber q x → IsWithinUnits 4 t V
+    → times x V ≤F times (plus (whole (pos s)) (whole (pos 4))) unit
 product_below s q t x V l p g n =
     le_by (x ∷ V ∷ whole (pos s) ∷ whole (pos q) ∷ whole (pos t) ∷ whole (pos (q * t)) ∷ unit ∷ [])
-    ((at 0 ≼ (at 3 ⊕ lit (pos 1)) ⊗ at 6) ∷ (lit (pos 0) ≼ at 0) ∷ (at 1 ≼ (at 4 ⊕ lit (pos 4)) ⊗ at 6) ∷ (lit (pos 0) ≼ at 4 ⊗ at 6) ∷ (at 5 ⊗ at 6 ≼ at 2 ⊕ lit (pos 1)) ∷ (at 5 ≗ at 3 ⊗ at 4) ∷ (lit (pos 0) ≼ at 6)
+    ((at 0 ≼ (at 3 ⊕ lit (pos 1)) ⊗ at 6) ∷ (lit (pos 0) ≼ at 0) ∷ (at 1 ≼ (at 4 ⊕ lit (pos 4)) ⊗ at 6) ∷ (lit (pos 0) ≼ at 4 ⊗ at 6) ∷
+    (at 5 ⊗ at 6 ≼ at 2 ⊕ lit (pos 1)) ∷ (at 5 ≗ at 3 ⊗ at 4) ∷ (lit (pos 0) ≼ at 6)
     ∷ (lit (pos 2) ⊗ at 0 ≼ lit (pos 1)) ∷ (at 4 ⊗ at 6 ≼ lit (pos 1)) ∷ [])
     (at 0 ⊗ at 1) ((at 2 ⊕ lit (pos 4)) ⊗ at 6)
-    (known 1 ⊠ known 2 ⊞ known 3 ⊠ known 0 ⊞ known 6 ⊠ known 4 ⊞ multiple 5 (lit (negsuc 0) ⊗ (at 6 ⊗ at 6)) ⊞ natural 2 ⊠ known 6 ⊠ known 7 ⊞ known 6 ⊠ known 8) refl (
+    (known 1 ⊠ known 2 ⊞ known 3 ⊠ known 0 ⊞ known 6 ⊠ known 4 ⊞ multiple 5 (lit (negsuc 0) ⊗ (at 6 ⊗ at 6)) ⊞ natural 2 ⊠ known 6 ⊠ known 7 ⊞ known 6 ⊠ known
+    8) refl (
       to_more (pos q) (pos 1) x g.close,
       (
         number_nonneg q x g,

@@ -8,7 +8,7 @@ use Rattle.exact_math.proofs.Ring.{at, lit, ◌⊕◌, ◌⊖◌, ◌⊗◌, min
 use Rattle.exact_math.proofs.Fractions.{le_trans}
 use Rattle.exact_math.proofs.Same.{le_of_same, ge_of_same}
 use Rattle.exact_math.proofs.Certificates.{◌≼◌, ◌≗◌, known, multiple, ◌⊞◌, le_by, from_sub, over_natural, same_given}
-use Rattle.book_model.specs.programs.Leading.{at_56}
+use Rattle.book_model.specs.programs.Leading.{units_of_56}
 use Rattle.book_model.specs.numbers.Arcs.{half}
 use Rattle.book_model.proofs.ArcPieces.{recip_one, turned, sum_positive, three_positive}
 use Rattle.arc_series.specs.Kernel.{IsNumber}
@@ -61,16 +61,19 @@ number_by q n m x k l e =
     record {
       not_above = le_trans _ _ _ (le_of_same (at_is (pos q)))
           (le_over_count m (times (whole (pos q)) unit) x
-          (le_by ρ ((at 0 ⊗ at 1 ≗ at 2) ∷ (at 5 ⊗ at 4 ≼ at 2) ∷ (at 5 ≗ at 3 ⊗ at 1) ∷ []) (at 1 ⊗ (at 3 ⊗ at 4)) (at 1 ⊗ at 0) (known 1 ⊞ multiple 0 (lit (negsuc 0)) ⊞ multiple 2 (lit (negsuc 0) ⊗ at 4)) refl
+          (le_by ρ ((at 0 ⊗ at 1 ≗ at 2) ∷ (at 5 ⊗ at 4 ≼ at 2) ∷ (at 5 ≗ at 3 ⊗ at 1) ∷ []) (at 1 ⊗ (at 3 ⊗ at 4)) (at 1 ⊗ at 0)
+          (known 1 ⊞ multiple 0 (lit (negsuc 0)) ⊞ multiple 2 (lit (negsuc 0) ⊗ at 4)) refl
           (e, (below_by (q * suc m) n k.not_above, (product_is q (suc m), tt)))));
       close = le_trans _ _ _
           (le_over_count m x (times (plus (whole (pos q)) (whole (pos 1))) unit)
-          (le_by ρ ((at 0 ⊗ at 1 ≗ at 2) ∷ (at 2 ≼ (at 5 ⊕ at 1) ⊗ at 4) ∷ (at 5 ≗ at 3 ⊗ at 1) ∷ []) (at 1 ⊗ at 0) (at 1 ⊗ ((at 3 ⊕ lit (pos 1)) ⊗ at 4)) (known 1 ⊞ multiple 0 (lit (pos 1)) ⊞ multiple 2 (at 4)) refl
+          (le_by ρ ((at 0 ⊗ at 1 ≗ at 2) ∷ (at 2 ≼ (at 5 ⊕ at 1) ⊗ at 4) ∷ (at 5 ≗ at 3 ⊗ at 1) ∷ []) (at 1 ⊗ at 0) (at 1 ⊗ ((at 3 ⊕ lit (pos 1)) ⊗ at 4))
+          (known 1 ⊞ multiple 0 (lit (pos 1)) ⊞ multiple 2 (at 4)) refl
           (e, (above_by (q * suc m) n (suc m) k.close, (product_is q (suc m), tt)))))
           (ge_of_same (at_more (pos q) (pos 1)));
       small = below_half x
           (le_over_count m (times (whole (pos 2)) x) (whole (pos 1))
-          (le_by ρ ((at 0 ⊗ at 1 ≗ at 2) ∷ (lit (pos 2) ⊗ at 2 ≼ at 1) ∷ []) (at 1 ⊗ (lit (pos 2) ⊗ at 0)) (at 1 ⊗ lit (pos 1)) (known 1 ⊞ multiple 0 (lit (pos 2))) refl
+          (le_by ρ ((at 0 ⊗ at 1 ≗ at 2) ∷ (lit (pos 2) ⊗ at 2 ≼ at 1) ∷ []) (at 1 ⊗ (lit (pos 2) ⊗ at 0)) (at 1 ⊗ lit (pos 1))
+          (known 1 ⊞ multiple 0 (lit (pos 2))) refl
           (e, (at_most_half n (suc m) l, tt))));
     }
 
@@ -79,17 +82,17 @@ number_from q n zero x l k h e = absurd (omega (arith, l))
 number_from q n (suc m) x l k h e = number_by q n m x k h e
 
 -- ---- a number that counts 2^-56
-pub near_number : (k : ℕ) (x : Fraction) → pos k ≤ℤ pos (2 ^ 55) → x ≈ at_56 (pos k) → IsNumber (k * 256) x
+pub near_number : (k : ℕ) (x : Fraction) → pos k ≤ℤ pos (2 ^ 55) → x ≈ units_of_56 (pos k) → IsNumber (k * 256) x
 near_number k x h e = record {
-  not_above = le_trans _ (at_56 (pos k)) x (record { cross = omega (arith, ints) }) (ge_of_same e);
-  close = le_trans x (at_56 (pos k)) _ (le_of_same e) (record { cross = omega (arith, ints) });
-  small = le_trans x (at_56 (pos k)) _ (le_of_same e) (record { cross = omega (arith, ints, h) });
+  not_above = le_trans _ (units_of_56 (pos k)) x (record { cross = omega (arith, ints) }) (ge_of_same e);
+  close = le_trans x (units_of_56 (pos k)) _ (le_of_same e) (record { cross = omega (arith, ints) });
+  small = le_trans x (units_of_56 (pos k)) _ (le_of_same e) (record { cross = omega (arith, ints, h) });
 }
 
 abbrev pub steps : ℕ
 steps = 72057594037927936
 
-counted : (k : ℕ) (x : Fraction) → x ≈ at_56 (pos k) → times x (whole (pos steps)) ≈ whole (pos k)
+counted : (k : ℕ) (x : Fraction) → x ≈ units_of_56 (pos k) → times x (whole (pos steps)) ≈ whole (pos k)
 unfolding times
 counted k x e = let f = e.cross in record { cross = omega (arith, ints, f) }
 
@@ -101,14 +104,15 @@ rest_is : (c h : ℕ) → h ≤ c → whole (pos (c - h)) ≈ plus (whole (pos c
 unfolding plus opposite
 rest_is c h e = record { cross = omega (arith, ints, e) }
 
-from_half : (k : ℕ) (x : Fraction) → pos (2 ^ 55) ≤ℤ pos k → x ≈ at_56 (pos k) → half ≤F x
-from_half k x h e = le_trans half (at_56 (pos k)) x (record { cross = omega (arith, ints, h) }) (ge_of_same e)
+from_half : (k : ℕ) (x : Fraction) → pos (2 ^ 55) ≤ℤ pos k → x ≈ units_of_56 (pos k) → half ≤F x
+from_half k x h e = le_trans half (units_of_56 (pos k)) x (record { cross = omega (arith, ints, h) }) (ge_of_same e)
 
-from_three : (k : ℕ) (x : Fraction) → pos (3 * 2 ^ 56) ≤ℤ pos k → x ≈ at_56 (pos k) → whole (pos 3) ≤F x
-from_three k x h e = le_trans (whole (pos 3)) (at_56 (pos k)) x (record { cross = omega (arith, ints, h) }) (ge_of_same e)
+from_three : (k : ℕ) (x : Fraction) → pos (3 * 2 ^ 56) ≤ℤ pos k → x ≈ units_of_56 (pos k) → whole (pos 3) ≤F x
+from_three k x h e = le_trans (whole (pos 3)) (units_of_56 (pos k)) x (record { cross = omega (arith, ints, h) }) (ge_of_same e)
 
 -- (x - 1) / (x + 1) and its opposite
-pub turned_above : (k : ℕ) (x : Fraction) → pos (2 ^ 55) ≤ℤ pos k → steps ≤ k → x ≈ at_56 (pos k) → times (turned x) (whole (pos (steps + k))) ≈ whole (pos (k - steps))
+pub turned_above : (k : ℕ) (x : Fraction) → pos (2 ^ 55) ≤ℤ pos k → steps ≤ k → x ≈ units_of_56 (pos k)
+    → times (turned x) (whole (pos (steps + k))) ≈ whole (pos (k - steps))
 turned_above k x h l e =
     let w = (at 0 ⊖ lit (pos 1)) ⊗ at 1 in
     same_given (x ∷ reciprocal (plus x one) ∷ whole (pos k) ∷ whole (pos (steps + k)) ∷ whole (pos (k - steps)) ∷ whole (pos steps) ∷ [])
@@ -117,7 +121,8 @@ turned_above k x h l e =
     ((0, (at 0 ⊖ lit (pos 1)) ⊗ at 5) ∷ (1, lit (pos 1) ⊖ w) ∷ (2, w) ∷ (3, lit (negsuc 0)) ∷ []) refl
     (recip_one (plus x one) (sum_positive x (from_half k x h e)), (counted k x e, (more_is k, (rest_is k steps l, tt))))
 
-pub turned_below : (k : ℕ) (x : Fraction) → pos (2 ^ 55) ≤ℤ pos k → k ≤ steps → x ≈ at_56 (pos k) → times (opposite (turned x)) (whole (pos (steps + k))) ≈ whole (pos (steps - k))
+pub turned_below : (k : ℕ) (x : Fraction) → pos (2 ^ 55) ≤ℤ pos k → k ≤ steps → x ≈ units_of_56 (pos k)
+    → times (opposite (turned x)) (whole (pos (steps + k))) ≈ whole (pos (steps - k))
 turned_below k x h l e =
     let w = (at 0 ⊖ lit (pos 1)) ⊗ at 1 in
     same_given (x ∷ reciprocal (plus x one) ∷ whole (pos k) ∷ whole (pos (steps + k)) ∷ whole (pos (steps - k)) ∷ whole (pos steps) ∷ [])
@@ -127,7 +132,7 @@ turned_below k x h l e =
     (recip_one (plus x one) (sum_positive x (from_half k x h e)), (counted k x e, (more_is k, (rest_is steps k l, tt))))
 
 -- 1 / x
-pub over_one : (k : ℕ) (x : Fraction) → pos (3 * 2 ^ 56) ≤ℤ pos k → x ≈ at_56 (pos k) → times (reciprocal x) (whole (pos k)) ≈ whole (pos steps)
+pub over_one : (k : ℕ) (x : Fraction) → pos (3 * 2 ^ 56) ≤ℤ pos k → x ≈ units_of_56 (pos k) → times (reciprocal x) (whole (pos k)) ≈ whole (pos steps)
 over_one k x h e =
     same_given (x ∷ reciprocal x ∷ whole (pos k) ∷ whole (pos steps) ∷ [])
     ((at 0 ⊗ at 1 ≗ lit (pos 1)) ∷ (at 0 ⊗ at 3 ≗ at 2) ∷ [])

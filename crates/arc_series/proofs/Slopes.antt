@@ -14,7 +14,8 @@ unfolding arctan_term power
 first_term x = same_by (x ∷ []) ((at 0 ⊗ lit (pos 1)) ⊗ lit (pos 1)) (at 0) refl
 
 -- the lower end at y is at most that at x, and y - x: what the first term lacks rises
-pub lower_slow : (n : ℕ) (x y : Fraction) → IsUpTo 1 2 x → IsUpTo 1 2 y → x ≤F y → plus (lower (arctan_term y) (suc n)) x ≤F plus (lower (arctan_term x) (suc n)) y
+pub lower_slow : (n : ℕ) (x y : Fraction) → IsUpTo 1 2 x → IsUpTo 1 2 y → x ≤F y
+    → plus (lower (arctan_term y) (suc n)) x ≤F plus (lower (arctan_term x) (suc n)) y
 lower_slow n x y w v h =
     let p = arctan_term x in
     let q = arctan_term y in
@@ -25,7 +26,8 @@ lower_slow n x y w v h =
     (first_term x, (first_term y, (beneath_step p n, (beneath_step q n, (atop_rises n _ _ (tails p q (arctan_rising x y w v h)), tt))))))
 
 -- and so is the upper end
-pub upper_slow : (n : ℕ) (x y : Fraction) → IsUpTo 1 2 x → IsUpTo 1 2 y → x ≤F y → plus (upper (arctan_term y) (suc n)) x ≤F plus (upper (arctan_term x) (suc n)) y
+pub upper_slow : (n : ℕ) (x y : Fraction) → IsUpTo 1 2 x → IsUpTo 1 2 y → x ≤F y
+    → plus (upper (arctan_term y) (suc n)) x ≤F plus (upper (arctan_term x) (suc n)) y
 upper_slow n x y w v h =
     let p = arctan_term x in
     let q = arctan_term y in
@@ -36,10 +38,12 @@ upper_slow n x y w v h =
     (first_term x, (first_term y, (atop_step p n, (atop_step q n, (beneath_rises n _ _ (tails p q (arctan_rising x y w v h)), tt))))))
 
 -- the sum, which lies in the middle of its ends
-pub sum_slow : (n : ℕ) (x y : Fraction) → IsUpTo 1 2 x → IsUpTo 1 2 y → x ≤F y → plus (alternating (arctan_term y) (suc n)) x ≤F plus (alternating (arctan_term x) (suc n)) y
+pub sum_slow : (n : ℕ) (x y : Fraction) → IsUpTo 1 2 x → IsUpTo 1 2 y → x ≤F y
+    → plus (alternating (arctan_term y) (suc n)) x ≤F plus (alternating (arctan_term x) (suc n)) y
 unfolding lower upper
 sum_slow n x y w v h =
-    le_over 1 (x ∷ y ∷ alternating (arctan_term x) (suc n) ∷ alternating (arctan_term y) (suc n) ∷ size (arctan_term x (suc (suc n))) ∷ size (arctan_term y (suc (suc n))) ∷ [])
+    le_over 1 (x ∷ y ∷ alternating (arctan_term x) (suc n) ∷ alternating (arctan_term y) (suc n) ∷ size (arctan_term x (suc (suc n))) ∷ size
+    (arctan_term y (suc (suc n))) ∷ [])
     ((at 3 ⊖ lit (pos 2) ⊗ at 5 ⊕ at 0 ≼ at 2 ⊖ lit (pos 2) ⊗ at 4 ⊕ at 1) ∷ (at 3 ⊕ lit (pos 2) ⊗ at 5 ⊕ at 0 ≼ at 2 ⊕ lit (pos 2) ⊗ at 4 ⊕ at 1) ∷ [])
     (at 3 ⊕ at 0) (at 2 ⊕ at 1) (known 0 ⊞ known 1) refl
     (lower_slow n x y w v h, (upper_slow n x y w v h, tt))

@@ -2,7 +2,7 @@
 use Rattle.std.specs.Prelude.{◌-◌, ◌*◌, ◌^◌, ℤ, pos, negsuc, neg_ℤ, Option, Some, None, List, [], ◌∷◌, Bool, false, ◌||◌}
 use Rattle.exact_math.specs.Interval.{Interval, everything, between, ◌⊆◌}
 use lib.Signed.{lt_z}
-use Rattle.book_model.specs.programs.Leading.{at_56}
+use Rattle.book_model.specs.programs.Leading.{units_of_56}
 use Rattle.book_model.specs.numbers.Arcs.{Piece as ArcPiece, far_below, below, near, above, far_above}
 use Rattle.encl_core.specs.declared.span.Span.{Span}
 use Rattle.arc_series.specs.declared.pieces.Piece.{Piece}
@@ -19,7 +19,7 @@ piece_of FarAbove = far_above
 
 -- what lies between the ends of a span
 abbrev pub of_span : Span → Interval
-of_span s = between (at_56 s.lo) (at_56 s.hi)
+of_span s = between (units_of_56 s.lo) (units_of_56 s.hi)
 
 -- what there is holds each of some intervals
 abbrev pub AreHeld : {E : Type 0} → (E → Interval) → List Interval → Option E → Type 0

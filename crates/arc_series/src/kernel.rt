@@ -6,7 +6,7 @@ ghost use Rattle.std.specs.Prelude.{◌≡◌, ◌≤◌, ◌*◌, ◌/◌, ◌^
 ghost use Rattle.exact_math.specs.Fraction.{Fraction, plus, opposite, times};
 ghost use Rattle.exact_math.specs.Interval.{between, ◌⊆◌};
 ghost use Rattle.exact_math.specs.Sums.{one_over};
-ghost use Rattle.book_model.specs.programs.Leading.{at_56};
+ghost use Rattle.book_model.specs.programs.Leading.{units_of_56};
 ghost use Rattle.book_model.specs.numbers.Arcs.{arc_near};
 ghost use Rattle.book_model.specs.numbers.Depth.{DEPTH};
 ghost use Rattle.arc_series.specs.Kernel.{IsWithinUnits, IsCut, IsSquare, IsNumber, IsArc, IsSmall, nested};
@@ -30,7 +30,8 @@ fn high_half(a: u64, b: u64) -> u64
 fn step(coefficient: u64, square: u64, inner: u64) -> u64
     requires falling { inner ≤ coefficient }
     requires half { 2 * inner ≤ 2 ^ 64 }
-    ensures near { (d : ℕ) (u v : Fraction) → IsCut coefficient d → IsSquare square u → IsWithinUnits 4 inner v
+    ensures near { (d : ℕ) (u v : Fraction) → IsCut coefficient d → IsSquare square u
+        → IsWithinUnits 4 inner v
         → IsWithinUnits 4 result (plus (one_over d) (opposite (times u v))) }
     ensures below { result ≤ coefficient }
 {
@@ -104,9 +105,10 @@ fn span_around(count: u64) -> Span
 pub(crate) fn arc_of_number_64(number: u64) -> Span
     requires half { number ≤ 2 ^ 63 }
     ensures holds { (n : ℕ) (x : Fraction) → DEPTH ≤ n → IsNumber number x → arc_near n x ⊆ between
-        (at_56 result.lo) (at_56 result.hi) }
-    ensures mirrored { (n : ℕ) (x : Fraction) → DEPTH ≤ n → 1 ≤ number → IsNumber number (opposite x)
-        → arc_near n x ⊆ between (at_56 (neg_ℤ result.hi)) (at_56 (neg_ℤ result.lo)) }
+        (units_of_56 result.lo) (units_of_56 result.hi) }
+    ensures mirrored { (n : ℕ) (x : Fraction) → DEPTH ≤ n → 1 ≤ number
+        → IsNumber number (opposite x)
+        → arc_near n x ⊆ between (units_of_56 (neg_ℤ result.hi)) (units_of_56 (neg_ℤ result.lo)) }
     ensures tight { IsArc result.lo result.hi }
     ensures thin { IsThin result.lo result.hi }
     ensures room { IsSmall result.lo result.hi }

@@ -3,7 +3,7 @@ ghost use Rattle.std.specs.Prelude.{◌≡◌, ℕ, ◌≤◌, ◌+◌, pos, neg
 ghost use Rattle.exact_math.specs.Fraction.{Fraction, ◌≈◌, opposite as opposite_of};
 ghost use Rattle.exact_math.specs.Interval.{Interval, between, ◌⊆◌};
 ghost use Rattle.book_model.specs.numbers.Arcs.{arcs_over, arctangent_of, arc_near, arc_above, arc_beyond};
-ghost use Rattle.book_model.specs.programs.Leading.{at_56};
+ghost use Rattle.book_model.specs.programs.Leading.{units_of_56};
 ghost use Rattle.book_model.specs.numbers.Depth.{DEPTH};
 ghost use Rattle.arc_series.specs.declared.pieces.TheConstants.{HALF, THREE};
 ghost use Rattle.arc_series.specs.Forms.{piece_of, of_span, AreHeld, begin_56, end_56};
@@ -44,10 +44,11 @@ pub(crate) enum Piece {
 #[inline(always)]
 fn near(number: u64) -> Span
     requires half { pos number ≤ℤ HALF }
-    ensures holds { (n : ℕ) (x : Fraction) → DEPTH ≤ n → x ≈ at_56 (pos number)
+    ensures holds { (n : ℕ) (x : Fraction) → DEPTH ≤ n → x ≈ units_of_56 (pos number)
         → arc_near n x ⊆ of_span result }
-    ensures mirrored { (n : ℕ) (x : Fraction) → DEPTH ≤ n → 1 ≤ number → opposite_of x ≈ at_56 (pos number)
-        → arc_near n x ⊆ between (at_56 (neg_ℤ result.hi)) (at_56 (neg_ℤ result.lo)) }
+    ensures mirrored { (n : ℕ) (x : Fraction) → DEPTH ≤ n → 1 ≤ number
+        → opposite_of x ≈ units_of_56 (pos number)
+        → arc_near n x ⊆ between (units_of_56 (neg_ℤ result.hi)) (units_of_56 (neg_ℤ result.lo)) }
     ensures room { IsSmall result.lo result.hi }
     ensures thin { IsThin result.lo result.hi }
 {
@@ -59,7 +60,7 @@ fn near(number: u64) -> Span
 fn above(number: u64) -> Span
     requires from { HALF ≤ℤ pos number }
     requires to { pos number ≤ℤ THREE }
-    ensures holds { (n : ℕ) (x : Fraction) → DEPTH ≤ n → x ≈ at_56 (pos number)
+    ensures holds { (n : ℕ) (x : Fraction) → DEPTH ≤ n → x ≈ units_of_56 (pos number)
         → arc_above n x ⊆ of_span result }
     ensures room { IsSmall result.lo result.hi }
     ensures thin { IsThin result.lo result.hi }
@@ -81,7 +82,7 @@ fn above(number: u64) -> Span
 #[inline(always)]
 fn beyond(number: u128) -> Span
     requires from { THREE ≤ℤ pos number }
-    ensures holds { (n : ℕ) (x : Fraction) → DEPTH ≤ n → x ≈ at_56 (pos number)
+    ensures holds { (n : ℕ) (x : Fraction) → DEPTH ≤ n → x ≈ units_of_56 (pos number)
         → arc_beyond n x ⊆ of_span result }
     ensures room { IsSmall result.lo result.hi }
     ensures thin { IsThin result.lo result.hi }
@@ -93,7 +94,8 @@ fn beyond(number: u128) -> Span
 fn near_zero(number: i128) -> Span
     requires from { neg_ℤ HALF ≤ℤ number }
     requires to { number ≤ℤ HALF }
-    ensures holds { (n : ℕ) (x : Fraction) → DEPTH ≤ n → x ≈ at_56 number → arc_near n x ⊆ of_span result }
+    ensures holds { (n : ℕ) (x : Fraction) → DEPTH ≤ n → x ≈ units_of_56 number → arc_near n x
+        ⊆ of_span result }
     ensures thin { IsThin result.lo result.hi }
 {
     let size = number.unsigned_abs() as u64;
@@ -107,7 +109,8 @@ fn near_zero(number: i128) -> Span
 fn arc(piece: Piece, number: i128) -> Span
     requires from { begin_56 piece ≤ℤ number }
     requires to { number ≤ℤ end_56 piece }
-    ensures holds { (n : ℕ) (x : Fraction) → DEPTH ≤ n → x ≈ at_56 number → (piece_of piece).arc n x ⊆ of_span result }
+    ensures holds { (n : ℕ) (x : Fraction) → DEPTH ≤ n → x ≈ units_of_56 number
+        → (piece_of piece).arc n x ⊆ of_span result }
     ensures thin { IsThin result.lo result.hi }
 {
     match piece {
@@ -149,7 +152,7 @@ fn end_of(piece: Piece) -> i128
 fn arc_over(piece: Piece, lo: i128, hi: i128) -> Option<Span>
     requires ordered { lo ≤ℤ hi }
     ensures holds { (n : ℕ) → DEPTH ≤ n → AreHeld of_span
-        (arcs_over n (at_56 lo) (at_56 hi) (piece_of piece ∷ [])) result }
+        (arcs_over n (units_of_56 lo) (units_of_56 hi) (piece_of piece ∷ [])) result }
     ensures narrow { Reaches (first_edge piece) (last_edge piece) 80 lo hi result }
 {
     let begin = begin_of(piece);
@@ -185,7 +188,7 @@ fn hull_of_spans(x: Option<Span>, y: Option<Span>) -> Option<Span>
 /// The arctangent over two ends: the hull over the pieces that they meet. They meet one.
 pub(crate) fn arctan_over(span: Span) -> Option<Span>
     ensures holds { IfSome result (λ arc. (n : ℕ) → DEPTH ≤ n → arctangent_of n
-        (between (at_56 span.lo) (at_56 span.hi)) ⊆ of_span arc) }
+        (between (units_of_56 span.lo) (units_of_56 span.hi)) ⊆ of_span arc) }
     ensures narrow { AreOver span.lo span.hi result }
 {
     let positive = hull_of_spans(

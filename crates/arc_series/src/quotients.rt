@@ -8,7 +8,8 @@ ghost use Rattle.arc_series.specs.Kernel.{IsNumber};
 pub(crate) fn quotient_64(number: u64, divisor: u128) -> u64
     requires there { 1 ≤ divisor }
     requires half { 2 * number ≤ divisor }
-    ensures near { (x : Fraction) → times x (whole (pos divisor)) ≈ whole (pos number) → IsNumber result x }
+    ensures near { (x : Fraction) → times x (whole (pos divisor)) ≈ whole (pos number)
+        → IsNumber result x }
     ensures half { result ≤ 2 ^ 63 }
     ensures some { divisor ≤ number * 2 ^ 64 → 1 ≤ result }
 {

@@ -33,7 +33,8 @@ years_near first h =
     record { from = omega (arith, ints, h.0, h.1, e, f.not_above, f.close); to = omega (arith, ints, h.0, h.1, e, f.not_above, f.close) }
 
 -- a month of a day, by its quotient
-pub month_near : (day first : ℤ) → pos 0 ≤ℤ day → day ≤ℤ pos 1000000 → IsFactValue first → LiesWithin (negsuc 899999) (pos 900000) (quotient_down (day -ℤ first) 19)
+pub month_near : (day first : ℤ) → pos 0 ≤ℤ day → day ≤ℤ pos 1000000 → IsFactValue first
+    → LiesWithin (negsuc 899999) (pos 900000) (quotient_down (day -ℤ first) 19)
 month_near day first h k p =
     let f = floor_quotient_is (day -ℤ first) 18 in
     record { from = omega (arith, ints, h, k, p.0, p.1, f.not_above, f.close); to = omega (arith, ints, h, k, p.0, p.1, f.not_above, f.close) }

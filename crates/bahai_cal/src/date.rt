@@ -72,7 +72,7 @@ fn day_of_month(day: i64, first_day: i64) -> i64
 
 /// The date of a day of a month, where so many years have passed.
 #[tactic(auto, unfolding(book_model::specs::calendars::Bahai::bahai_fields))]
-fn date_in(day: i64, passed: i64, month: BahaiMonth) -> BahaiDate
+fn date_from_month(day: i64, passed: i64, month: BahaiMonth) -> BahaiDate
     requires day { IsCalendarDay day }
     requires near { IsNearYear passed }
     requires month_near { IsNearMonth month }
@@ -88,7 +88,7 @@ fn date_in(day: i64, passed: i64, month: BahaiMonth) -> BahaiDate
 }
 
 /// The date of a day by the first day that was asked of it, that of its year and that of the next.
-fn date_by(day: i64, first: i64, base: i64, next: i64) -> BahaiDate
+fn date_from_facts(day: i64, first: i64, base: i64, next: i64) -> BahaiDate
     requires day { IsCalendarDay day }
     requires first_value { IsFactValue first }
     requires base_value { IsFactValue base }
@@ -96,7 +96,7 @@ fn date_by(day: i64, first: i64, base: i64, next: i64) -> BahaiDate
     ensures date { fields_of_date result ≡ spec.bahai_fields day (spec.years_before first)
         (spec.bahai_month day first base next) }
 {
-    date_in(day, years_before(first), month_on(day, first, base, next))
+    date_from_month(day, years_before(first), month_on(day, first, base, next))
 }
 
 /// The date of a day (R.D.): the year that begins nearest to the first day which the oracle has for the day. The last month is
@@ -119,7 +119,7 @@ pub fn from_fixed<O: Oracle>(oracle: &mut O, day: i64) -> Result<BahaiDate, Stop
     let first = oracle.ask(year_fact_on(day))?;
     let next = oracle.ask(next_year_fact(first))?;
     let base = oracle.ask(same_year_fact(first))?;
-    Ok(date_by(day, first, base, next))
+    Ok(date_from_facts(day, first, base, next))
 }
 
 /// The years of the major cycles and the cycles before these.

@@ -70,10 +70,13 @@ turned_in x w =
     let u = reciprocal (plus x one) in
     record {
       above = minus_half_by (turned x)
-          (le_over 1 (x ∷ u ∷ []) ((lit (pos 1) ≼ lit (pos 2) ⊗ at 0) ∷ (lit (pos 0) ≼ at 1) ∷ ((at 0 ⊕ lit (pos 1)) ⊗ at 1 ≗ lit (pos 1)) ∷ []) (lit (negsuc 0)) (lit (pos 2) ⊗ ((at 0 ⊕ lit (negsuc 0)) ⊗ at 1))
-          (natural 3 ⊠ known 0 ⊠ known 1 ⊞ known 1 ⊞ multiple 2 (lit (pos 2))) refl (twice_half x w.from, (recip_nonneg (plus x one) p, (recip_one (plus x one) p, tt))));
+          (le_over 1 (x ∷ u ∷ []) ((lit (pos 1) ≼ lit (pos 2) ⊗ at 0) ∷ (lit (pos 0) ≼ at 1) ∷ ((at 0 ⊕ lit (pos 1)) ⊗ at 1 ≗ lit (pos 1)) ∷ [])
+          (lit (negsuc 0)) (lit (pos 2) ⊗ ((at 0 ⊕ lit (negsuc 0)) ⊗ at 1))
+          (natural 3 ⊠ known 0 ⊠ known 1 ⊞ known 1 ⊞ multiple 2 (lit (pos 2))) refl
+          (twice_half x w.from, (recip_nonneg (plus x one) p, (recip_one (plus x one) p, tt))));
       below = half_by (turned x)
-          (le_by (x ∷ u ∷ []) ((at 0 ≼ lit (pos 3)) ∷ (lit (pos 0) ≼ at 1) ∷ ((at 0 ⊕ lit (pos 1)) ⊗ at 1 ≗ lit (pos 1)) ∷ []) (lit (pos 2) ⊗ ((at 0 ⊕ lit (negsuc 0)) ⊗ at 1)) (lit (pos 1))
+          (le_by (x ∷ u ∷ []) ((at 0 ≼ lit (pos 3)) ∷ (lit (pos 0) ≼ at 1) ∷ ((at 0 ⊕ lit (pos 1)) ⊗ at 1 ≗ lit (pos 1)) ∷ [])
+          (lit (pos 2) ⊗ ((at 0 ⊕ lit (negsuc 0)) ⊗ at 1)) (lit (pos 1))
           (known 0 ⊠ known 1 ⊞ multiple 2 (lit (pos 1))) refl (w.to, (recip_nonneg (plus x one) p, (recip_one (plus x one) p, tt))));
     }
 
@@ -82,7 +85,8 @@ turned_rises x y w v h =
     let p = sum_positive x w in
     let q = sum_positive y v in
     le_by (x ∷ y ∷ reciprocal (plus x one) ∷ reciprocal (plus y one) ∷ [])
-    ((at 0 ≼ at 1) ∷ (lit (pos 0) ≼ at 2) ∷ (lit (pos 0) ≼ at 3) ∷ ((at 0 ⊕ lit (pos 1)) ⊗ at 2 ≗ lit (pos 1)) ∷ ((at 1 ⊕ lit (pos 1)) ⊗ at 3 ≗ lit (pos 1)) ∷ [])
+    ((at 0 ≼ at 1) ∷ (lit (pos 0) ≼ at 2) ∷ (lit (pos 0) ≼ at 3) ∷ ((at 0 ⊕ lit (pos 1)) ⊗ at 2 ≗ lit (pos 1)) ∷ ((at 1 ⊕ lit (pos 1)) ⊗ at 3 ≗ lit (pos 1)) ∷
+    [])
     ((at 0 ⊕ lit (negsuc 0)) ⊗ at 2) ((at 1 ⊕ lit (negsuc 0)) ⊗ at 3)
     (natural 2 ⊠ known 0 ⊠ known 1 ⊠ known 2 ⊞ multiple 3 (lit (pos 1) ⊖ lit (pos 2) ⊗ at 3) ⊞ multiple 4 (lit (pos 2) ⊗ at 2 ⊖ lit (pos 1))) refl
     (h, (recip_nonneg _ p, (recip_nonneg _ q, (recip_one _ p, (recip_one _ q, tt)))))
@@ -96,7 +100,8 @@ recip_in x h =
     let p = three_positive x h in
     record {
       above = minus_half_by (reciprocal x)
-          (le_by (reciprocal x ∷ []) ((lit (pos 0) ≼ at 0) ∷ []) (lit (negsuc 0)) (lit (pos 2) ⊗ at 0) (natural 2 ⊠ known 0 ⊞ natural 1) refl (recip_nonneg x p, tt));
+          (le_by (reciprocal x ∷ []) ((lit (pos 0) ≼ at 0) ∷ []) (lit (negsuc 0)) (lit (pos 2) ⊗ at 0) (natural 2 ⊠ known 0 ⊞ natural 1) refl
+          (recip_nonneg x p, tt));
       below = half_by (reciprocal x)
           (le_by (x ∷ reciprocal x ∷ []) ((lit (pos 3) ≼ at 0) ∷ (lit (pos 0) ≼ at 1) ∷ (at 0 ⊗ at 1 ≗ lit (pos 1)) ∷ []) (lit (pos 2) ⊗ at 1) (lit (pos 1))
           (known 0 ⊠ known 1 ⊞ known 1 ⊞ multiple 2 (lit (pos 1))) refl (h, (recip_nonneg x p, (recip_one x p, tt))));
@@ -142,7 +147,8 @@ above_inside n x w = within_trans (sum_within (within_refl (only (whole (pos 45)
 beyond_rises : (n : ℕ) (x y : Fraction) → whole (pos 3) ≤F x → whole (pos 3) ≤F y → x ≤F y → Precedes (arc_beyond n x) (arc_beyond n y)
 unfolding arc_beyond
 beyond_rises n x y w v h =
-    sums_rise (whole (pos 90)) (opposites_fall (near_rises n (reciprocal y) (reciprocal x) (recip_in y v) (recip_in x w) (reciprocal_anti_positive x y (three_positive x w) (three_positive y v) h)))
+    sums_rise (whole (pos 90)) (opposites_fall (near_rises n (reciprocal y) (reciprocal x) (recip_in y v) (recip_in x w)
+    (reciprocal_anti_positive x y (three_positive x w) (three_positive y v) h)))
 
 beyond_deeper : (n : ℕ) (x : Fraction) → whole (pos 3) ≤F x → arc_beyond (suc n) x ⊆ arc_beyond n x
 unfolding arc_beyond
@@ -159,7 +165,8 @@ last_eighth = record { ends = (record { cross = record { le = tt } }, record { c
 beyond_inside : (n : ℕ) (x : Fraction) → whole (pos 3) ≤F x → arc_beyond n x ⊆ quarters
 unfolding arc_beyond
 beyond_inside n x w =
-    within_trans (sum_within (within_refl (only (whole (pos 90)))) (negative_within (near_nonneg n (reciprocal x) (recip_in x w) (recip_nonneg x (three_positive x w))))) last_eighth
+    within_trans (sum_within (within_refl (only (whole (pos 90))))
+    (negative_within (near_nonneg n (reciprocal x) (recip_in x w) (recip_nonneg x (three_positive x w))))) last_eighth
 
 near_quarters : between (whole (negsuc 44)) (whole (pos 45)) ⊆ quarters
 near_quarters = record { ends = (record { cross = record { le = tt } }, record { cross = record { le = tt } }) }
@@ -210,7 +217,8 @@ far_below_arc = record {
 pub below_arc : IsArc below
 below_arc = record {
   order = record { cross = record { le = tt } };
-  rises = λ n x y w v h. opposites_fall (above_rises n (opposite y) (opposite x) (opposite_above y v.from v.to) (opposite_above x w.from w.to) (opposite_mono x y h));
+  rises = λ n x y w v h. opposites_fall (above_rises n (opposite y) (opposite x) (opposite_above y v.from v.to) (opposite_above x w.from w.to)
+      (opposite_mono x y h));
   deeper = λ n x w. negative_within (above_deeper n (opposite x) (opposite_above x w.from w.to));
   proper = λ n x w. negative_proper _ (above_proper n (opposite x) (opposite_above x w.from w.to));
   inside = λ n x w. within_trans (negative_within (above_inside n (opposite x) (opposite_above x w.from w.to))) opposite_quarters;

@@ -43,7 +43,8 @@ negative_near x w e = within_half (opposite x) (opposite_nonneg x (at_most_false
 -- ---- the ends of sums that halve are not negative
 lower_nonneg : (n : ℕ) (t : ℕ → Fraction) → Halving t → zero_F ≤F lower t n
 unfolding beneath alternating
-lower_nonneg zero t h = rw (lower_is_beneath t 0 (h.nonneg 1)) (le_by (t 0 ∷ t 1 ∷ []) ((lit (pos 2) ⊗ at 1 ≼ at 0) ∷ []) (lit (pos 0)) (at 0 ⊖ lit (pos 2) ⊗ at 1) (known 0) refl (h.halves 0, tt))
+lower_nonneg zero t h = rw (lower_is_beneath t 0 (h.nonneg 1))
+    (le_by (t 0 ∷ t 1 ∷ []) ((lit (pos 2) ⊗ at 1 ≼ at 0) ∷ []) (lit (pos 0)) (at 0 ⊖ lit (pos 2) ⊗ at 1) (known 0) refl (h.halves 0, tt))
 lower_nonneg (suc n) t h = le_trans zero_F (lower t n) (lower t (suc n)) (lower_nonneg n t h) (sums_nested n t h).0
 
 upper_nonneg : (n : ℕ) (t : ℕ → Fraction) → Halving t → zero_F ≤F upper t n
@@ -59,7 +60,8 @@ no_turn x y h e f = let g = true_at_most zero_F y (le_trans zero_F x y (at_most_
 abbrev signed : Bool → ℕ → Fraction → Interval
 signed s n x = cond s (arctan_at n x) (negative (arctan_at n (opposite x)))
 
-signed_rises : (n : ℕ) (x y : Fraction) (s t : Bool) → InHalf x → InHalf y → x ≤F y → is_at_most zero_F x ≡ s → is_at_most zero_F y ≡ t → Precedes (signed s n x) (signed t n y)
+signed_rises : (n : ℕ) (x y : Fraction) (s t : Bool) → InHalf x → InHalf y → x ≤F y → is_at_most zero_F x ≡ s → is_at_most zero_F y ≡ t
+    → Precedes (signed s n x) (signed t n y)
 unfolding negative
 signed_rises n x y true true w v h e f =
     let r = arctan_rising x y (positive_near x w e) (positive_near y v f) h in
@@ -75,7 +77,8 @@ signed_rises n x y false false w v h e f =
     let r = arctan_rising (opposite y) (opposite x) (negative_near y v f) (negative_near x w e) (opposite_mono x y h) in
     let p = (arctan_halving (opposite y) (negative_near y v f)).nonneg (suc n) in
     let q = (arctan_halving (opposite x) (negative_near x w e)).nonneg (suc n) in
-    preceding (opposite_mono _ _ (upper_rises n (arctan_term (opposite y)) (arctan_term (opposite x)) p q r)) (opposite_mono _ _ (lower_rises n (arctan_term (opposite y)) (arctan_term (opposite x)) p q r))
+    preceding (opposite_mono _ _ (upper_rises n (arctan_term (opposite y)) (arctan_term (opposite x)) p q r))
+    (opposite_mono _ _ (lower_rises n (arctan_term (opposite y)) (arctan_term (opposite x)) p q r))
 
 series_rises : (n : ℕ) (x y : Fraction) → InHalf x → InHalf y → x ≤F y → Precedes (arctan_series n x) (arctan_series n y)
 unfolding arctan_series
@@ -105,7 +108,8 @@ series_proper n x w = signed_proper n x (is_at_most zero_F x) w refl
 
 series_by : (k n m : ℕ) (x : Fraction) → InHalf x → m ≡ k + n → arctan_series m x ⊆ arctan_series n x
 series_by zero n m x w e = subst (λ z. arctan_series z x ⊆ arctan_series n x) (sym (e ∙ omega arith)) (within_refl (arctan_series n x))
-series_by (suc k) n m x w e = subst (λ z. arctan_series z x ⊆ arctan_series n x) (sym (e ∙ omega arith)) (within_trans (series_deeper (k + n) x w) (series_by k n (k + n) x w refl))
+series_by (suc k) n m x w e = subst (λ z. arctan_series z x ⊆ arctan_series n x) (sym (e ∙ omega arith))
+    (within_trans (series_deeper (k + n) x w) (series_by k n (k + n) x w refl))
 
 pub series_nests : (x : Fraction) → minus_half ≤F x → x ≤F half → IsNestedByDepth (λ n. arctan_series n x)
 series_nests x h k = record { within = λ n m l. series_by (m - n) n m x (record { above = h; below = k }) (omega arith) }
@@ -120,7 +124,8 @@ unfolding radian_at
 degrees_deeper n = quotient_within (le_refl (whole (pos 180))) (pi_proper (suc n)) (within_refl (only (whole (pos 180)))) (pi_deeper n)
 
 degrees_at_0 : radian_at 0 ⊆ between zero_F (whole (pos 60))
-unfolding radian_at quotient reciprocal product least greatest smaller larger is_at_most pi_at sum negative scaled lower upper alternating size arctan_term power plus times opposite
+unfolding radian_at quotient reciprocal product least greatest smaller larger is_at_most pi_at sum negative scaled lower upper alternating size arctan_term
+    power plus times opposite
 degrees_at_0 = record { ends = (record { cross = record { le = tt } }, record { cross = record { le = tt } }) }
 
 degrees_inside : (n : ℕ) → radian_at n ⊆ between zero_F (whole (pos 60))
@@ -138,8 +143,10 @@ products_rise i j (between p q) o h (preceding {a = a} {b = b} {c = c} {d = e} a
     let lo = least_below (times a p) (times a q) (times b p) (times b q) in
     let hi = greatest_above (times c p) (times c q) (times e p) (times e q) in
     preceding
-    (least_is _ _ _ _ _ (le_trans _ _ _ lo.0 (times_mono a c p h.0 ac)) (le_trans _ _ _ lo.1 (times_mono a c q q0 ac)) (le_trans _ _ _ lo.2 (times_mono b e p h.0 be)) (le_trans _ _ _ lo.3 (times_mono b e q q0 be)))
-    (greatest_is _ _ _ _ _ (le_trans _ _ _ (times_mono a c p h.0 ac) hi.0) (le_trans _ _ _ (times_mono a c q q0 ac) hi.1) (le_trans _ _ _ (times_mono b e p h.0 be) hi.2) (le_trans _ _ _ (times_mono b e q q0 be) hi.3))
+    (least_is _ _ _ _ _ (le_trans _ _ _ lo.0 (times_mono a c p h.0 ac)) (le_trans _ _ _ lo.1 (times_mono a c q q0 ac))
+    (le_trans _ _ _ lo.2 (times_mono b e p h.0 be)) (le_trans _ _ _ lo.3 (times_mono b e q q0 be)))
+    (greatest_is _ _ _ _ _ (le_trans _ _ _ (times_mono a c p h.0 ac) hi.0) (le_trans _ _ _ (times_mono a c q q0 ac) hi.1)
+    (le_trans _ _ _ (times_mono b e p h.0 be) hi.2) (le_trans _ _ _ (times_mono b e q q0 be) hi.3))
 
 pub near_rises : (n : ℕ) (x y : Fraction) → InHalf x → InHalf y → x ≤F y → Precedes (arc_near n x) (arc_near n y)
 unfolding arc_near
@@ -160,7 +167,8 @@ near_by (suc n) x w = within_trans (near_deeper n x w) (near_by n x w)
 -- ---- it lies between what it is at -1/2 and at 1/2
 pub amid : {i j k : Interval} → Precedes i j → Precedes j k → j ⊆ hull i k
 unfolding hull
-amid (preceding {a = a} {b = b} ac bd) (preceding {c = e} {d = f} ce df) = record { ends = (le_trans _ _ _ (smaller_first a e) ac, le_trans _ _ _ df (larger_second b f)) }
+amid (preceding {a = a} {b = b} ac bd) (preceding {c = e} {d = f} ce df) = record
+    { ends = (le_trans _ _ _ (smaller_first a e) ac, le_trans _ _ _ df (larger_second b f)) }
 
 half_in : InHalf half
 half_in = record { above = record { cross = record { le = tt } }; below = le_refl half }
@@ -172,15 +180,18 @@ pub zero_in : InHalf zero_F
 zero_in = record { above = record { cross = record { le = tt } }; below = record { cross = record { le = tt } } }
 
 half_at_0 : arc_near 0 half ⊆ between zero_F (whole (pos 45))
-unfolding arc_near arctan_series radian_at quotient reciprocal product least greatest smaller larger is_at_most pi_at sum negative scaled lower upper alternating size arctan_term power plus times opposite
+unfolding arc_near arctan_series radian_at quotient reciprocal product least greatest smaller larger is_at_most pi_at sum negative scaled lower upper
+    alternating size arctan_term power plus times opposite
 half_at_0 = record { ends = (record { cross = record { le = tt } }, record { cross = record { le = tt } }) }
 
 zero_at_0 : arc_near 0 zero_F ⊆ between zero_F (whole (pos 45))
-unfolding arc_near arctan_series radian_at quotient reciprocal product least greatest smaller larger is_at_most pi_at sum negative scaled lower upper alternating size arctan_term power plus times opposite
+unfolding arc_near arctan_series radian_at quotient reciprocal product least greatest smaller larger is_at_most pi_at sum negative scaled lower upper
+    alternating size arctan_term power plus times opposite
 zero_at_0 = record { ends = (record { cross = record { le = tt } }, record { cross = record { le = tt } }) }
 
 minus_half_at_0 : arc_near 0 minus_half ⊆ between (whole (negsuc 44)) (whole (pos 45))
-unfolding arc_near arctan_series radian_at quotient reciprocal product least greatest smaller larger is_at_most pi_at sum negative scaled lower upper alternating size arctan_term power plus times opposite
+unfolding arc_near arctan_series radian_at quotient reciprocal product least greatest smaller larger is_at_most pi_at sum negative scaled lower upper
+    alternating size arctan_term power plus times opposite
 minus_half_at_0 = record { ends = (record { cross = record { le = tt } }, record { cross = record { le = tt } }) }
 
 widely : between zero_F (whole (pos 45)) ⊆ between (whole (negsuc 44)) (whole (pos 45))

@@ -49,8 +49,11 @@ all_least (i ∷ is) k s h = with_least i k is h.0 h.1
 with_holds : (i : Interval) (is : List Interval) → Each (λ j. j ⊆ hull_with i is) (i ∷ is)
 unfolding hull_with
 with_holds i [] = (within_refl i, tt)
-with_holds i (j ∷ is) =
-    (hull_holds_first i (hull_with j is), each (λ k. k ⊆ hull_with j is) (λ k. k ⊆ hull i (hull_with j is)) (j ∷ is) (λ k h. within_trans h (hull_holds_second i (hull_with j is))) (with_holds j is))
+with_holds i (j ∷ is) = (
+  hull_holds_first i (hull_with j is),
+  each (λ k. k ⊆ hull_with j is) (λ k. k ⊆ hull i (hull_with j is)) (j ∷ is)
+      (λ k h. within_trans h (hull_holds_second i (hull_with j is))) (with_holds j is),
+)
 
 all_hold : (is : List Interval) → Each (λ i. i ⊆ hull_of_all is) is
 unfolding hull_of_all
@@ -68,19 +71,23 @@ all_proper [] q = tt
 all_proper (i ∷ is) q = with_proper i is q.0 q.1
 
 -- ---- what pieces that pass a test give
-into_if : (g : Piece → Interval) (Q : Interval → Type 0) (p : Piece) (ps : List Piece) (t : Bool) → (t ≡ true → Q (g p)) → Each Q (map g ps) → Each Q (map g (cond t (p ∷ ps) ps))
+into_if : (g : Piece → Interval) (Q : Interval → Type 0) (p : Piece) (ps : List Piece) (t : Bool) → (t ≡ true → Q (g p)) → Each Q (map g ps)
+    → Each Q (map g (cond t (p ∷ ps) ps))
 into_if g Q p ps true h r = (h refl, r)
 into_if g Q p ps false h r = r
 
-into_each : (m : Piece → Bool) (g : Piece → Interval) (Q : Interval → Type 0) (ps : List Piece) → Each (λ p. m p ≡ true → Q (g p)) ps → Each Q (map g (filter m ps))
+into_each : (m : Piece → Bool) (g : Piece → Interval) (Q : Interval → Type 0) (ps : List Piece) → Each (λ p. m p ≡ true → Q (g p)) ps
+    → Each Q (map g (filter m ps))
 into_each m g Q [] h = tt
 into_each m g Q (p ∷ ps) h = into_if g Q p (filter m ps) (m p) h.0 (into_each m g Q ps h.1)
 
-out_if : (g : Piece → Interval) (Q : Interval → Type 0) (p : Piece) (ps : List Piece) (t : Bool) → Each Q (map g (cond t (p ∷ ps) ps)) → (t ≡ true → Q (g p)) × Each Q (map g ps)
+out_if : (g : Piece → Interval) (Q : Interval → Type 0) (p : Piece) (ps : List Piece) (t : Bool) → Each Q (map g (cond t (p ∷ ps) ps)) → (t ≡ true → Q (g p))
+    × Each Q (map g ps)
 out_if g Q p ps true h = (λ e. h.0, h.1)
 out_if g Q p ps false h = (λ e. absurd (cc), h)
 
-out_each : (m : Piece → Bool) (g : Piece → Interval) (Q : Interval → Type 0) (ps : List Piece) → Each Q (map g (filter m ps)) → Each (λ p. m p ≡ true → Q (g p)) ps
+out_each : (m : Piece → Bool) (g : Piece → Interval) (Q : Interval → Type 0) (ps : List Piece) → Each Q (map g (filter m ps))
+    → Each (λ p. m p ≡ true → Q (g p)) ps
 out_each m g Q [] h = tt
 out_each m g Q (p ∷ ps) h = let o = out_if g Q p (filter m ps) (m p) h in (o.0, out_each m g Q ps o.1)
 
@@ -223,7 +230,8 @@ all_arcs : Each IsArc pieces
 all_arcs = (far_below_arc, (below_arc, (near_arc, (above_arc, (far_above_arc, tt)))))
 
 -- what holds of the arctangents of the part in each piece that is met
-arcs_each : (n : ℕ) (a b : Fraction) (Q : Interval → Type 0) → ((p : Piece) → IsArc p → AreMet p a b → Q (arc_of_part n a b p)) → Each Q (arcs_over n a b pieces)
+arcs_each : (n : ℕ) (a b : Fraction) (Q : Interval → Type 0) → ((p : Piece) → IsArc p → AreMet p a b → Q (arc_of_part n a b p))
+    → Each Q (arcs_over n a b pieces)
 arcs_each n a b Q f =
     into_each (meets a b) (arc_of_part n a b) Q pieces
     (each IsArc (λ p. meets a b p ≡ true → Q (arc_of_part n a b p)) pieces (λ p r t. f p r (met_out p a b t)) all_arcs)
@@ -241,7 +249,8 @@ arcs_there n a b o =
           | inl f ↦ some_first m g near (above ∷ far_above ∷ []) (met_in near a b (record { begun = le_trans _ a b k o; ended = f }))
           | inr f ↦ some_later m g near (above ∷ far_above ∷ []) (elim (le_total a (whole (pos 3))) [
             | inl e ↦ some_first m g above (far_above ∷ []) (met_in above a b (record { begun = le_trans _ a b f o; ended = e }))
-            | inr e ↦ some_later m g above (far_above ∷ []) (some_first m g far_above [] (met_in far_above a b (record { begun = le_trans _ a b e o; ended = tt })))
+            | inr e ↦ some_later m g above (far_above ∷ []) (some_first m g far_above []
+                (met_in far_above a b (record { begun = le_trans _ a b e o; ended = tt })))
           ])
         ])
       ])
@@ -268,7 +277,8 @@ pub arctangent_ends : (n : ℕ) (i j : Interval) → IsProper i → AreWithin i 
 unfolding arctangent_of
 arctangent_ends n i everything p h = record { ends = tt }
 arctangent_ends n everything (between c d) p h = absurd h
-arctangent_ends n (between a b) (between c d) p h = arcs_within n n a b c d p (λ q r m. (met_outside q a b c d h.0 h.1 m, part_within n q a b c d r p h.0 h.1 m))
+arctangent_ends n (between a b) (between c d) p h = arcs_within n n a b c d p
+    (λ q r m. (met_outside q a b c d h.0 h.1 m, part_within n q a b c d r p h.0 h.1 m))
 
 arctangent_deeper : (n : ℕ) (i : Interval) → IsProper i → arctangent_of (suc n) i ⊆ arctangent_of n i
 unfolding arctangent_of
@@ -280,7 +290,8 @@ arctangents = record { proper = arctangent_proper; within = λ n {i} {j} p h. ar
 
 pub arctangent_inside : (n : ℕ) (a b : Fraction) → a ≤F b → arctangent_of n (between a b) ⊆ quarters
 unfolding arctangent_of
-arctangent_inside n a b p = all_least (arcs_over n a b pieces) quarters (arcs_there n a b p) (arcs_each n a b (λ i. i ⊆ quarters) (λ q r m. part_inside n q a b r m))
+arctangent_inside n a b p = all_least (arcs_over n a b pieces) quarters (arcs_there n a b p)
+    (arcs_each n a b (λ i. i ⊆ quarters) (λ q r m. part_inside n q a b r m))
 
 -- ---- the arcsine
 pub clamps : Narrowing (λ n i. clamp i)
@@ -303,7 +314,8 @@ abbrev tangents : ℕ → Interval → Interval
 tangents n i = quotient i (sum (only one) (other_side n i))
 
 half_tangents : Narrowing tangents
-half_tangents = quotients (λ n i. i) (λ n i. sum (only one) (other_side n i)) argument (sums (λ n i. only one) other_side (steady (only one) (le_refl one)) other_sides)
+half_tangents = quotients (λ n i. i) (λ n i. sum (only one) (other_side n i)) argument
+    (sums (λ n i. only one) other_side (steady (only one) (le_refl one)) other_sides)
 
 pub arcsines : Narrowing arcsine_of
 unfolding arcsine_of
@@ -341,13 +353,17 @@ lower_half = record { ends = (record { cross = record { le = tt } }, record { cr
 abbrev less_arctangent : ℕ → Fraction → (c d a b : Fraction) → Interval
 less_arctangent n e c d a b = difference (only e) (arctangent_of n (quotient (between c d) (between a b)))
 
-pub less_inside : (n : ℕ) (e c d a b : Fraction) → difference (only e) quarters ⊆ all_around → a ≤F b → c ≤F d → excludes_zero a b ≡ true → less_arctangent n e c d a b ⊆ all_around
+pub less_inside : (n : ℕ) (e c d a b : Fraction) → difference (only e) quarters ⊆ all_around → a ≤F b → c ≤F d → excludes_zero a b ≡ true
+    → less_arctangent n e c d a b ⊆ all_around
 less_inside n e c d a b q o p h =
-    within_trans (difference_within (within_refl (only e)) (bounded_inside n _ (quotient_proper (between c d) (between a b) p o) (quotient_bounded c d a b h))) q
+    within_trans (difference_within (within_refl (only e)) (bounded_inside n _ (quotient_proper (between c d) (between a b) p o) (quotient_bounded c d a b h)))
+    q
 
-less_nested : (n m : ℕ) (e c d a b c' d' a' b' : Fraction) → n ≤ m → a ≤F b → c ≤F d → between c d ⊆ between c' d' → between a b ⊆ between a' b' → less_arctangent m e c d a b ⊆ less_arctangent n e c' d' a' b'
+less_nested : (n m : ℕ) (e c d a b c' d' a' b' : Fraction) → n ≤ m → a ≤F b → c ≤F d → between c d ⊆ between c' d' → between a b ⊆ between a' b'
+    → less_arctangent m e c d a b ⊆ less_arctangent n e c' d' a' b'
 less_nested n m e c d a b c' d' a' b' l o p h k =
-    difference_within (within_refl (only e)) (at_least arctangent_of arctangents n m l (quotient_proper (between c d) (between a b) p o) (quotient_within p o h k))
+    difference_within (within_refl (only e)) (at_least arctangent_of arctangents n m l (quotient_proper (between c d) (between a b) p o)
+    (quotient_within p o h k))
 
 abbrev chosen : Bool → Bool → Interval → Interval → Interval
 chosen s t i j = cond s i (cond t j all_around)
@@ -381,28 +397,34 @@ two_inside n (between a b) everything o p = within_refl all_around
 two_inside n (between a b) (between c d) o p = bounded_two_inside n a b c d o p
 
 positive_stays : (a' a : Fraction) → a' ≤F a → lt_z (pos 0) a'.num ≡ true → lt_z (pos 0) a.num ≡ true
-positive_stays a' a h e = let p = (positive_above a' a (record { above = omega (arith, ints, e) }) h).above in let t : true ≡ lt_z (pos 0) a.num = omega (arith, ints, p) in sym t
+positive_stays a' a h e = let p = (positive_above a' a (record { above = omega (arith, ints, e) }) h).above in let t : true
+    ≡ lt_z (pos 0) a.num = omega (arith, ints, p) in sym t
 
 negative_stays : (b b' : Fraction) → b ≤F b' → lt_z b'.num (pos 0) ≡ true → lt_z b.num (pos 0) ≡ true
-negative_stays b b' h e = let p = (negative_below b b' (record { under = omega (arith, ints, e) }) h).under in let t : true ≡ lt_z b.num (pos 0) = omega (arith, ints, p) in sym t
+negative_stays b b' h e = let p = (negative_below b b' (record { under = omega (arith, ints, e) }) h).under in let t : true
+    ≡ lt_z b.num (pos 0) = omega (arith, ints, p) in sym t
 
 pub not_positive : (a b : Fraction) → a ≤F b → lt_z b.num (pos 0) ≡ true → lt_z (pos 0) a.num ≡ false
-not_positive a b h e = let p = (negative_below a b (record { under = omega (arith, ints, e) }) h).under in let t : false ≡ lt_z (pos 0) a.num = omega (arith, ints, p) in sym t
+not_positive a b h e = let p = (negative_below a b (record { under = omega (arith, ints, e) }) h).under in let t : false
+    ≡ lt_z (pos 0) a.num = omega (arith, ints, p) in sym t
 
-pub bounded_two_nested : (n m : ℕ) (a b a' b' c d c' d' : Fraction) → n ≤ m → a ≤F b → c ≤F d → AreWithin (between a b) (between a' b') → AreWithin (between c d) (between c' d')
+pub bounded_two_nested : (n m : ℕ) (a b a' b' c d c' d' : Fraction) → n ≤ m → a ≤F b → c ≤F d → AreWithin (between a b) (between a' b')
+    → AreWithin (between c d) (between c' d')
     → arctangent_of_two m (between a b) (between c d) ⊆ arctangent_of_two n (between a' b') (between c' d')
 unfolding arctangent_of_two
 bounded_two_nested n m a b a' b' c d c' d' l o p h k = by_test (lt_z (pos 0) a'.num) (lt_z b'.num (pos 0)) refl refl
   where
     by_test : (s t : Bool) → lt_z (pos 0) a'.num ≡ s → lt_z b'.num (pos 0) ≡ t
-        → chosen (lt_z (pos 0) a.num) (lt_z b.num (pos 0)) (less_arctangent m (whole (pos 90)) c d a b) (less_arctangent m (whole (negsuc 89)) c d a b) ⊆ chosen s t (less_arctangent n (whole (pos 90)) c' d' a' b') (less_arctangent n (whole (negsuc 89)) c' d' a' b')
+        → chosen (lt_z (pos 0) a.num) (lt_z b.num (pos 0)) (less_arctangent m (whole (pos 90)) c d a b) (less_arctangent m (whole (negsuc 89)) c d a b) ⊆ chosen
+        s t (less_arctangent n (whole (pos 90)) c' d' a' b') (less_arctangent n (whole (negsuc 89)) c' d' a' b')
     by_test true t e f = rw (positive_stays a' a h.0 e) (less_nested n m (whole (pos 90)) c d a b c' d' a' b' l o p (record { ends = k }) (record { ends = h }))
     by_test false true e f =
         let g = negative_stays b b' h.1 f in
         rw (not_positive a b o g, g) (less_nested n m (whole (negsuc 89)) c d a b c' d' a' b' l o p (record { ends = k }) (record { ends = h }))
     by_test false false e f = bounded_two_inside m a b c d o p
 
-two_ends : (n m : ℕ) (i i' j j' : Interval) → n ≤ m → IsProper i → IsProper j → AreWithin i i' → AreWithin j j' → arctangent_of_two m i j ⊆ arctangent_of_two n i' j'
+two_ends : (n m : ℕ) (i i' j j' : Interval) → n ≤ m → IsProper i → IsProper j → AreWithin i i' → AreWithin j j'
+    → arctangent_of_two m i j ⊆ arctangent_of_two n i' j'
 unfolding arctangent_of_two
 two_ends n m i everything j j' l o p h k = two_inside m i j o p
 two_ends n m everything (between a' b') j j' l o p h k = absurd h
@@ -428,7 +450,8 @@ pub two_proper : (n : ℕ) (i j : Interval) → IsProper i → IsProper j → Is
 unfolding arctangent_of_two
 two_proper n everything j o p = all_around_proper
 two_proper n (between a b) everything o p = all_around_proper
-two_proper n (between a b) (between c d) o p = chosen_proper _ _ _ _ (less_proper n (whole (pos 90)) c d a b o p) (less_proper n (whole (negsuc 89)) c d a b o p)
+two_proper n (between a b) (between c d) o p = chosen_proper _ _ _ _ (less_proper n (whole (pos 90)) c d a b o p)
+    (less_proper n (whole (negsuc 89)) c d a b o p)
 
 -- ---- as laws
 pub roots_nest : IsNested root_of

@@ -17,17 +17,22 @@ first_day_paces y =
     let f = floor_quotient_is (y -ℤ pos 1) 3 in
     let h = floor_quotient_is (y -ℤ pos 1) 99 in
     let g = floor_quotient_is (y -ℤ pos 1) 399 in
-    record { not_early = omega (arith, ints, f.not_above, f.close, h.not_above, h.close, g.not_above, g.close); not_late = omega (arith, ints, f.not_above, f.close, h.not_above, h.close, g.not_above, g.close) }
+    record {
+      not_early = omega (arith, ints, f.not_above, f.close, h.not_above, h.close, g.not_above, g.close);
+      not_late = omega (arith, ints, f.not_above, f.close, h.not_above, h.close, g.not_above, g.close);
+    }
 
 -- a later year begins later
 pub first_day_rises_strictly : (y z : ℤ) → y <ℤ z → first_day y <ℤ first_day z
 first_day_rises_strictly y z h = let p = first_day_paces y in let q = first_day_paces z in omega (arith, ints, p.not_late, q.not_early)
 
 pub first_day_rises : (y z : ℤ) → y ≤ℤ z → first_day y ≤ℤ first_day z
-first_day_rises y z h = by_lt_z y z (λ l. let s = first_day_rises_strictly y z l in omega (arith, ints)) (λ l. let e : y ≡ z = omega (arith, ints) in rw e (omega (arith, ints)))
+first_day_rises y z h = by_lt_z y z (λ l. let s = first_day_rises_strictly y z l in omega (arith, ints))
+    (λ l. let e : y ≡ z = omega (arith, ints) in rw e (omega (arith, ints)))
 
 -- the year that is near is the day's year, unless the next has begun
-near_is : (near d : ℤ) → IsFloorQuotient near (pos 400 *ℤ (d +ℤ pos 1)) 146096 → (b : Bool) → int_lt d (first_day (near +ℤ pos 1)) ≡ b → IsYearOfDay (if b then near else near +ℤ pos 1) d
+near_is : (near d : ℤ) → IsFloorQuotient near (pos 400 *ℤ (d +ℤ pos 1)) 146096 → (b : Bool) → int_lt d (first_day (near +ℤ pos 1)) ≡ b
+    → IsYearOfDay (if b then near else near +ℤ pos 1) d
 near_is near d q true e =
     let p = first_day_paces near in
     record { begun = omega (arith, ints, p.not_late, q.not_above); not_over = grind (arith, ints) }
@@ -38,7 +43,8 @@ near_is near d q false e =
 -- the year that is defined is the year of the day
 pub year_is : (d : ℤ) → IsYearOfDay (year_of_day d) d
 unfolding year_of_day
-year_is d = let near = floor_quotient (pos 400 *ℤ (d +ℤ pos 1)) 146096 in near_is near d (floor_quotient_is (pos 400 *ℤ (d +ℤ pos 1)) 146096) (int_lt d (first_day (near +ℤ pos 1))) refl
+year_is d = let near = floor_quotient (pos 400 *ℤ (d +ℤ pos 1)) 146096 in near_is near d (floor_quotient_is (pos 400 *ℤ (d +ℤ pos 1)) 146096)
+    (int_lt d (first_day (near +ℤ pos 1))) refl
 
 -- a day's year isn't after that of a later day
 pub years_rise : (y z d e : ℤ) → IsYearOfDay y d → IsYearOfDay z e → d ≤ℤ e → y ≤ℤ z

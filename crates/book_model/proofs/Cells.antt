@@ -19,7 +19,8 @@ above_z : (q f n d : ℤ) → f <ℤ q → n <ℤ (f *ℤ d +ℤ d) → pos 1 �
 above_z q f n d h k l =
     let h' : (f +ℤ pos 1) ≤ℤ q = omega (arith, ints) in
     let k' : (n +ℤ pos 1) ≤ℤ (f *ℤ d +ℤ d) = omega (arith, ints) in
-    let r : (n *ℤ pos 1 +ℤ pos 1) ≤ℤ (q *ℤ d) = le_by (q ∷ f ∷ n ∷ d ∷ []) ((at 1 ⊕ lit (pos 1) ≼ at 0) ∷ (at 2 ⊕ lit (pos 1) ≼ at 1 ⊗ at 3 ⊕ at 3) ∷ (lit (pos 1) ≼ at 3) ∷ []) (at 2 ⊗ lit (pos 1) ⊕ lit (pos 1)) (at 0 ⊗ at 3)
+    let r : (n *ℤ pos 1 +ℤ pos 1) ≤ℤ (q *ℤ d) = le_by (q ∷ f ∷ n ∷ d ∷ [])
+    ((at 1 ⊕ lit (pos 1) ≼ at 0) ∷ (at 2 ⊕ lit (pos 1) ≼ at 1 ⊗ at 3 ⊕ at 3) ∷ (lit (pos 1) ≼ at 3) ∷ []) (at 2 ⊗ lit (pos 1) ⊕ lit (pos 1)) (at 0 ⊗ at 3)
     (known 1 ⊞ known 0 ⊠ (known 2 ⊞ times 1)) refl (h', (k', (l, tt))) in
     omega (arith, ints, r)
 
@@ -43,7 +44,14 @@ begun_at years a = whole_below _ a (year_is (floor a)).begun
 over_at : (g : Grid) (a : Fraction) → a <F threshold g (cell_of g a +ℤ pos 1)
 unfolding cell_of threshold
 over_at integers a = whole_above _ a (omega (arith, ints))
-over_at (multiples m) a = let f = floor_quotient_is (floor a) (m - 1) in whole_above _ a (omega (arith, ints, f.close, mul_add (pos (suc (m - 1))) (floor_quotient (floor a) (m - 1)) (pos 1), mul_comm (pos (suc (m - 1))) (floor_quotient (floor a) (m - 1))))
+over_at (multiples m) a = let f = floor_quotient_is (floor a) (m - 1) in whole_above _ a
+    (omega (
+      arith,
+      ints,
+      f.close,
+      mul_add (pos (suc (m - 1))) (floor_quotient (floor a) (m - 1)) (pos 1),
+      mul_comm (pos (suc (m - 1))) (floor_quotient (floor a) (m - 1)),
+    ))
 over_at years a = whole_above _ a (year_is (floor a)).not_over
 
 pub cells_cut : (g : Grid) → CellsCut g

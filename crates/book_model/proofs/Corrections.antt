@@ -23,7 +23,8 @@ pub polynomial_none : (cs : List Frac) (x : ℤ) → polynomial_to cs x 0 ≡ in
 unfolding polynomial_to
 polynomial_none cs x = refl
 
-pub polynomial_more : (cs : List Frac) (x : ℤ) (i : ℕ) → polynomial_to cs x (i + 1) ≡ add (polynomial_to cs x i) (scale (fraction_of (slice_index_or cs i no_fraction)) (integer (int_power x i)))
+pub polynomial_more : (cs : List Frac) (x : ℤ) (i : ℕ) → polynomial_to cs x (i + 1)
+    ≡ add (polynomial_to cs x i) (scale (fraction_of (slice_index_or cs i no_fraction)) (integer (int_power x i)))
 unfolding polynomial_to
 polynomial_more cs x i = rw add-one refl
 
@@ -68,10 +69,12 @@ floor_whole (negsuc n) = omega (arith, ints)
 
 pub year_of_whole : (d : ℤ) → cell_at years (exactly (whole d)) ≡ Some (year_of_day d)
 unfolding cell_at cell_of
-year_of_whole d = let e : int_eq (year_of_day (floor (whole d))) (year_of_day (floor (whole d))) ≡ true = (Decides-int_eq (year_of_day (floor (whole d))) (year_of_day (floor (whole d)))).1 refl in rw (e, floor_whole d) refl
+year_of_whole d = let e : int_eq (year_of_day (floor (whole d))) (year_of_day (floor (whole d)))
+    ≡ true = (Decides-int_eq (year_of_day (floor (whole d))) (year_of_day (floor (whole d)))).1 refl in rw (e, floor_whole d) refl
 
 -- the year of a whole day is decided
 pub leads_year : (w : World) (d y : ℤ) (b a : ℕ) → y ≡ year_of_day d → a ≡ next_turn b → Leads w Exact (year_of (integer d)) b a (Ok y)
 unfolding year_of value
 leads_year w d y b a e f =
-    rw (e, f) (leads_cell Year years (integer d) (exactly (whole d)) (year_of_day d) answer (within_refl (exactly (whole d))) (year_of_whole d) (leads_answer refl))
+    rw (e, f) (leads_cell Year years (integer d) (exactly (whole d)) (year_of_day d) answer (within_refl (exactly (whole d))) (year_of_whole d)
+    (leads_answer refl))

@@ -18,12 +18,14 @@ data IsShort {A : Type 0} : ℕ → Run A → Type 0 where
   short_undecided : {n : ℕ} {s : Site} {i : Sides} → IsShort (suc n) (undecided s i)
   short_decided : {n : ℕ} {s : Site} {i : Sides} {r : Reply} {rest : Run A} → IsShort n rest → IsShort (suc n) (decided s i r rest)
 
-short_cell : {A : Type 0} (n : ℕ) (s : Site) (g : Grid) (i : Interval) (o : Option ℤ) (next : ℤ → Run A) → ((q : ℤ) → IsShort n (next q)) → IsShort (suc n) (after_cell s g i o next)
+short_cell : {A : Type 0} (n : ℕ) (s : Site) (g : Grid) (i : Interval) (o : Option ℤ) (next : ℤ → Run A) → ((q : ℤ) → IsShort n (next q))
+    → IsShort (suc n) (after_cell s g i o next)
 unfolding after_cell
 short_cell n s g i None next h = short_undecided
 short_cell n s g i (Some q) next h = short_decided (h q)
 
-short_compare : {A : Type 0} (n : ℕ) (s : Site) (i j : Interval) (o : Option Bool) (next : Bool → Run A) → ((t : Bool) → IsShort n (next t)) → IsShort (suc n) (after_compare s i j o next)
+short_compare : {A : Type 0} (n : ℕ) (s : Site) (i j : Interval) (o : Option Bool) (next : Bool → Run A) → ((t : Bool) → IsShort n (next t))
+    → IsShort (suc n) (after_compare s i j o next)
 unfolding after_compare
 short_compare n s i j None next h = short_undecided
 short_compare n s i j (Some t) next h = short_decided (h t)
@@ -89,14 +91,17 @@ module _ {E A T : Type 0} {shown : E → Interval} {b a n : ℕ} {t : Result T F
   pub counted_of_three : (p : Expression → Expression → Expression → Program A) (e f g : E)
       → ((w : World) (x y z : Expression) → Within shown w x e → Within shown w y f → Within shown w z g → Leads w (R w) (p x y z) b a t)
       → ((x y z : Expression) → AtMost n (p x y z)) → a ≤ b + n
-  counted_of_three p e f g h k = counted (h _ _ _ _ (holds_shown shown proper e f g g 0) (holds_shown shown proper e f g g 1) (holds_shown shown proper e f g g 2)) (k _ _ _)
+  counted_of_three p e f g h k = counted (h _ _ _ _ (holds_shown shown proper e f g g 0) (holds_shown shown proper e f g g 1)
+      (holds_shown shown proper e f g g 2)) (k _ _ _)
 
   -- of four
   pub counted_of_four : (p : Expression → Expression → Expression → Expression → Program A) (e f g i : E)
-      → ((w : World) (x y z u : Expression) → Within shown w x e → Within shown w y f → Within shown w z g → Within shown w u i → Leads w (R w) (p x y z u) b a t)
+      → ((w : World) (x y z u : Expression) → Within shown w x e → Within shown w y f → Within shown w z g → Within shown w u i
+      → Leads w (R w) (p x y z u) b a t)
       → ((x y z u : Expression) → AtMost n (p x y z u)) → a ≤ b + n
   counted_of_four p e f g i h k =
-      counted (h _ _ _ _ _ (holds_shown shown proper e f g i 0) (holds_shown shown proper e f g i 1) (holds_shown shown proper e f g i 2) (holds_shown shown proper e f g i 3)) (k _ _ _ _)
+      counted (h _ _ _ _ _ (holds_shown shown proper e f g i 0) (holds_shown shown proper e f g i 1) (holds_shown shown proper e f g i 2)
+      (holds_shown shown proper e f g i 3)) (k _ _ _ _)
 
 -- of no enclosed argument
 pub counted_of_none : {A T : Type 0} {b a n : ℕ} {t : Result T Fail} (R : World → A → T → Type 0) (p : Program A)

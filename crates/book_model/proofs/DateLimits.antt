@@ -43,7 +43,8 @@ within_limits c f k few h =
     let counted = both ((f.count == (row_of c).count) && are_within (row_of c) f) (has_day_of_month c f) h in
     let within = both (f.count == (row_of c).count) (are_within (row_of c) f) counted.0 in
     let here : is_within (row_of c) f k ≡ true = one_of_five (is_within (row_of c) f) k few within.1 in
-    let ends = both (nat_le (slice_index_or (row_of c).limits k (0, 0)).0 (field f k)) (nat_le (field f k) (slice_index_or (row_of c).limits k (0, 0)).1) here in
+    let ends = both (nat_le (slice_index_or (row_of c).limits k (0, 0)).0 (field f k)) (nat_le (field f k) (slice_index_or (row_of c).limits k (0, 0)).1)
+    here in
     record { low = grind (arith, nat_tests, ends.0); high = grind (arith, nat_tests, ends.1) }
 
 -- a number whose size is at most so much
@@ -67,8 +68,10 @@ same_day _ f g same = refl
 -- what may be asked the day of doesn't depend on signs
 pub askable_again : (c : Calendar) (f g : Fields) → HaveSameFields f g → IsAskable c f → IsAskable c g
 unfolding may_have has_some_year year_number
-askable_again c f g same h =
-    (rw (same_day c f g same, same.count, same.first, same.second, same.third, same.fourth, same.fifth) h.0, rw (same.first, same.second, same.third, same.fourth, same.fifth) h.1)
+askable_again c f g same h = (
+  rw (same_day c f g same, same.count, same.first, same.second, same.third, same.fourth, same.fifth) h.0,
+  rw (same.first, same.second, same.third, same.fourth, same.fifth) h.1,
+)
 
 -- a date that a calendar may have has as many fields as the calendar says
 pub counted : (c : Calendar) (f : Fields) → IsTrue (may_have c f) → f.count ≡ (row_of c).count

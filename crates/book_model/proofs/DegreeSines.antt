@@ -25,7 +25,8 @@ whole_mono : (j k : ℤ) → j ≤ℤ k → whole j ≤F whole k
 whole_mono j k h = record { cross = omega (arith, ints) }
 
 pub edges_rise : (j k : ℤ) → j ≤ℤ k → octant_edge j ≤F octant_edge k
-edges_rise j k h = le_by (whole j ∷ whole k ∷ []) ((at 0 ≼ at 1) ∷ []) (lit (pos 45) ⊗ at 0) (lit (pos 45) ⊗ at 1) (natural 45 ⊠ known 0) refl (whole_mono j k h, tt)
+edges_rise j k h = le_by (whole j ∷ whole k ∷ []) ((at 0 ≼ at 1) ∷ []) (lit (pos 45) ⊗ at 0) (lit (pos 45) ⊗ at 1) (natural 45 ⊠ known 0) refl
+    (whole_mono j k h, tt)
 
 last_mono : (a b : Fraction) → a ≤F b → last_octant a ≤ℤ last_octant b
 unfolding last_octant
@@ -70,7 +71,8 @@ unfolding first_octant last_octant
 first_before_last a b h =
     let low = turned a (last_octant (opposite a) +ℤ pos 1) (strict_weak _ _ (floor_close (times (opposite a) (one_over 44)))) in
     let mid = times_mono a b (one_over 44) (one_over_nonneg 44) h in
-    let s = whole_strict (neg_ℤ (last_octant (opposite a) +ℤ pos 1)) (last_octant b +ℤ pos 1) (le_lt_trans _ _ _ low (le_lt_trans _ _ _ mid (floor_close (times b (one_over 44))))) in
+    let s = whole_strict (neg_ℤ (last_octant (opposite a) +ℤ pos 1)) (last_octant b +ℤ pos 1)
+    (le_lt_trans _ _ _ low (le_lt_trans _ _ _ mid (floor_close (times b (one_over 44))))) in
     omega (arith, ints, s)
 
 -- octants that an interval meets
@@ -90,7 +92,8 @@ ends_above a b k m =
 begun_at_most : (b : Fraction) (k : ℤ) → octant_edge k ≤F b → k ≤ℤ last_octant b
 unfolding last_octant
 begun_at_most b k h =
-    let low = le_by (b ∷ one_over 44 ∷ whole k ∷ []) ((lit (pos 45) ⊗ at 2 ≼ at 0) ∷ (lit (pos 45) ⊗ at 1 ≗ lit (pos 1)) ∷ (lit (pos 0) ≼ at 1) ∷ []) (at 2) (at 0 ⊗ at 1)
+    let low = le_by (b ∷ one_over 44 ∷ whole k ∷ []) ((lit (pos 45) ⊗ at 2 ≼ at 0) ∷ (lit (pos 45) ⊗ at 1 ≗ lit (pos 1)) ∷ (lit (pos 0) ≼ at 1) ∷ []) (at 2)
+    (at 0 ⊗ at 1)
     (known 0 ⊠ known 2 ⊞ multiple 1 (minus (at 2))) refl (h, (one_over-whole 44, (one_over_nonneg 44, tt))) in
     let s = whole_strict k (last_octant b +ℤ pos 1) (le_lt_trans _ _ _ low (floor_close (times b (one_over 44)))) in
     omega (arith, ints, s)
@@ -180,7 +183,12 @@ pub at_amid : (n : ℕ) (k : ℤ) (x y z : Fraction) → AreInOctant k x y z →
 unfolding sine_at
 at_amid n k x y z i =
     into_amid n (octant_of_turn k) _ _ _
-    (record { nonneg = beyond_nonneg k x i.begun; first = beyond_order k x y i.first; second = beyond_order k y z i.second; bounded = beyond_bounded k z i.ended })
+    (record {
+      nonneg = beyond_nonneg k x i.begun;
+      first = beyond_order k x y i.first;
+      second = beyond_order k y z i.second;
+      bounded = beyond_bounded k z i.ended;
+    })
 
 at_inside : (n : ℕ) (k : ℤ) (x : Fraction) → octant_edge k ≤F x → x ≤F octant_edge (k +ℤ pos 1) → sine_at (suc n) k x ⊆ all_sines
 unfolding sine_at

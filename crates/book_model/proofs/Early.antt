@@ -8,7 +8,7 @@ use Rattle.book_model.specs.declared.site.Site.{Site}
 use Rattle.book_model.specs.numbers.Expressions.{Expression, World, value, subtract}
 use Rattle.book_model.specs.programs.Leading.{next_turn, Reports, passes, answers, Leads}
 use Rattle.book_model.specs.sky.Moon.{moon_of}
-use Rattle.book_model.specs.sky.Phases.{turned_of, elongation_of, phase_of, phase_past_of, phase_before_of, phase_day_of}
+use Rattle.book_model.specs.sky.Phases.{within_turn_of, elongation_of, phase_of, phase_past_of, phase_before_of, phase_day_of}
 use Rattle.book_model.specs.programs.Programs.{Grid, Program, answer, void, cell, compare, bind, Run, run, after_cell, after_compare, cell_at, compare_at, MakesTest, here_decided, here_undecided, later, Sides}
 use Rattle.book_model.specs.sky.Sun.{sun_of}
 use Rattle.book_model.specs.sky.Time.{centuries_of}
@@ -61,8 +61,8 @@ sun_least : (x : Expression) → AtLeast 1 (sun_of x)
 unfolding sun_of
 sun_least x = least_after 1 (centuries_of x) _ (λ c. cell_at_least (λ q. any_at_least))
 
-turned_least : (x : Expression) → AtLeast 1 (turned_of x)
-unfolding turned_of
+turned_least : (x : Expression) → AtLeast 1 (within_turn_of x)
+unfolding within_turn_of
 turned_least x = cell_at_least (λ q. any_at_least)
 
 pub elongation_least : (x : Expression) → AtLeast 3 (elongation_of x)
@@ -84,18 +84,21 @@ not_before (passes h) = let z = not_before h in omega (arith, z)
 not_before (answers h) = omega arith
 
 least_of_cell : {A T : Type 0} {R : A → T → Type 0} (n : ℕ) (s : Site) (g : Grid) (i : Interval) (o : Option ℤ) (next : ℤ → Run A) {b a : ℕ} {y : T}
-    → ((q : ℤ) (c : ℕ) → Reports R (next q) c a (Ok y) → min (c + n) (2 ^ 32 - 1) ≤ a) → Reports R (after_cell s g i o next) b a (Ok y) → min (b + suc n) (2 ^ 32 - 1) ≤ a
+    → ((q : ℤ) (c : ℕ) → Reports R (next q) c a (Ok y) → min (c + n) (2 ^ 32 - 1) ≤ a) → Reports R (after_cell s g i o next) b a (Ok y)
+    → min (b + suc n) (2 ^ 32 - 1) ≤ a
 unfolding after_cell next_turn
 least_of_cell n s g i None next k t = elim t [ ]
 least_of_cell n s g i (Some q) next k (passes t) = let z = k q _ t in omega (arith, z)
 
 least_of_compare : {A T : Type 0} {R : A → T → Type 0} (n : ℕ) (s : Site) (i j : Interval) (o : Option Bool) (next : Bool → Run A) {b a : ℕ} {y : T}
-    → ((q : Bool) (c : ℕ) → Reports R (next q) c a (Ok y) → min (c + n) (2 ^ 32 - 1) ≤ a) → Reports R (after_compare s i j o next) b a (Ok y) → min (b + suc n) (2 ^ 32 - 1) ≤ a
+    → ((q : Bool) (c : ℕ) → Reports R (next q) c a (Ok y) → min (c + n) (2 ^ 32 - 1) ≤ a) → Reports R (after_compare s i j o next) b a (Ok y)
+    → min (b + suc n) (2 ^ 32 - 1) ≤ a
 unfolding after_compare next_turn
 least_of_compare n s i j None next k t = elim t [ ]
 least_of_compare n s i j (Some q) next k (passes t) = let z = k q _ t in omega (arith, z)
 
-least_told : {A T : Type 0} {R : A → T → Type 0} {n : ℕ} {p : Program A} (w : World) {b a : ℕ} {y : T} → AtLeast n p → Reports R (run w p) b a (Ok y) → min (b + n) (2 ^ 32 - 1) ≤ a
+least_told : {A T : Type 0} {R : A → T → Type 0} {n : ℕ} {p : Program A} (w : World) {b a : ℕ} {y : T} → AtLeast n p → Reports R (run w p) b a (Ok y)
+    → min (b + n) (2 ^ 32 - 1) ≤ a
 unfolding run
 least_told w any_at_least t = let z = not_before t in omega (arith, z)
 least_told w void_at_least t = elim t [ ]
@@ -114,5 +117,6 @@ from_one here_undecided = omega arith
 from_one (later h) = omega arith
 
 -- a failure after three tests isn't one of the first three
-pub not_of_three : {A T : Type 0} {R : A → T → Type 0} {p : Program A} {w : World} {b a : ℕ} {u : Undecided} → 3 ≤ b → Leads w R p b a (Err (undecided_at u)) → 4 ≤ u.turn
+pub not_of_three : {A T : Type 0} {R : A → T → Type 0} {p : Program A} {w : World} {b a : ℕ} {u : Undecided} → 3 ≤ b → Leads w R p b a (Err (undecided_at u))
+    → 4 ≤ u.turn
 not_of_three h l = let t = leads_stop_at l in let k = from_one t.makes in omega (arith, h, t.turn, k)

@@ -93,7 +93,10 @@ pub sum_between : (a b c d : ℤ) (i j : Interval) → IsBetween a b i → IsBet
 unfolding sum
 sum_between a b c d everything j h k = tt
 sum_between a b c d (between p q) everything h k = tt
-sum_between a b c d (between p q) (between r s) h k = (le_trans _ _ _ (whole_more a c) (plus_mono _ _ _ _ h.0 k.0), le_trans _ _ _ (plus_mono _ _ _ _ h.1 k.1) (more_whole b d))
+sum_between a b c d (between p q) (between r s) h k = (
+  le_trans _ _ _ (whole_more a c) (plus_mono _ _ _ _ h.0 k.0),
+  le_trans _ _ _ (plus_mono _ _ _ _ h.1 k.1) (more_whole b d),
+)
 
 -- the lesser of two, of which the first isn't below and isn't above the bounds
 pub minimum_between : (lo hi h : ℤ) (i j : Interval) → IsBetween lo hi i → IsBetween lo h j → IsBetween lo hi (interval_minimum i j)
@@ -130,11 +133,17 @@ pub valued_same : {A : Type 0} (w : World) (a b : A) → outcome (run w (answer 
 unfolding outcome run
 valued_same w a b h = cc
 
-half_turn_off : (i : Interval) → i ⊆ between (whole (pos 0)) (whole (pos 360)) → difference i (exactly (whole (pos 180))) ⊆ between (whole (negsuc 179)) (whole (pos 180))
+half_turn_off : (i : Interval) → i ⊆ between (whole (pos 0)) (whole (pos 360))
+    → difference i (exactly (whole (pos 180))) ⊆ between (whole (negsuc 179)) (whole (pos 180))
 unfolding sum negative
 half_turn_off everything h = absurd h.ends
 half_turn_off (between a b) h =
-    record { ends = (le_trans _ _ _ (whole_less (pos 0) (pos 180)) (plus_mono _ _ _ _ h.ends.0 (le_refl _)), le_trans _ _ _ (plus_mono _ _ _ _ h.ends.1 (le_refl _)) (less_whole (pos 360) (pos 180))) }
+    record {
+      ends = (
+        le_trans _ _ _ (whole_less (pos 0) (pos 180)) (plus_mono _ _ _ _ h.ends.0 (le_refl _)),
+        le_trans _ _ _ (plus_mono _ _ _ _ h.ends.1 (le_refl _)) (less_whole (pos 360) (pos 180)),
+      );
+    }
 
 off_within : (w : World) (l x o : Expression) → outcome (run w (off_of l x)) ≡ valued o → value w o ⊆ between (whole (negsuc 179)) (whole (pos 180))
 unfolding off_of value
@@ -148,7 +157,8 @@ days_of_turn : product (between (whole (pos 0)) (whole (pos 360))) (exactly (fra
 unfolding product least greatest smaller larger times is_at_most
 days_of_turn = record { ends = (record { cross = omega (arith, ints) }, record { cross = omega (arith, ints) }) }
 
-days_of_half_turns : product (between (whole (negsuc 179)) (whole (pos 180))) (exactly (fraction_of DEGREE_OF_YEAR)) ⊆ between (whole (negsuc 182)) (whole (pos 183))
+days_of_half_turns : product (between (whole (negsuc 179)) (whole (pos 180))) (exactly (fraction_of DEGREE_OF_YEAR)) ⊆ between (whole (negsuc 182))
+    (whole (pos 183))
 unfolding product least greatest smaller larger times is_at_most
 days_of_half_turns = record { ends = (record { cross = omega (arith, ints) }, record { cross = omega (arith, ints) }) }
 
@@ -162,16 +172,19 @@ back_between w p x a b c d lo hi h k m =
     difference_between lo hi c d _ _ m (between_of_within c d _ i)
 
 -- an estimate lies at most 549 days before the moment from which it is made, and never after it
-pub estimate_between : (w : World) (l x s : Expression) (lo hi : ℤ) → IsBetween lo hi (value w x) → outcome (run w (estimate_of l x)) ≡ valued s → IsBetween (lo -ℤ pos 549) hi (value w s)
+pub estimate_between : (w : World) (l x s : Expression) (lo hi : ℤ) → IsBetween lo hi (value w x) → outcome (run w (estimate_of l x)) ≡ valued s
+    → IsBetween (lo -ℤ pos 549) hi (value w s)
 unfolding estimate_of value
 estimate_between w l x s lo hi b h =
     let p = parts w (past_of l x) _ s h in
     let o = parts w (off_of l (back_by p.part x)) _ s p.then in
     let t = back_between w p.part x (pos 0) (pos 360) (pos 0) (pos 366) lo hi (past_within w l x p.part p.first) days_of_turn b in
-    let u = back_between w o.part (back_by p.part x) (negsuc 179) (pos 180) (negsuc 182) (pos 183) (lo -ℤ pos 366) (hi -ℤ pos 0) (off_within w l _ o.part o.first) days_of_half_turns t in
+    let u = back_between w o.part (back_by p.part x) (negsuc 179) (pos 180) (negsuc 182) (pos 183) (lo -ℤ pos 366) (hi -ℤ pos 0)
+    (off_within w l _ o.part o.first) days_of_half_turns t in
     let v = wider _ _ (lo -ℤ pos 549) (hi +ℤ pos 183) _ (omega (arith, ints)) (omega (arith, ints)) u in
     rw (← valued_same w (minimum x (back_by o.part (back_by p.part x))) s o.then)
-    (minimum_between (lo -ℤ pos 549) hi (hi +ℤ pos 183) (value w x) _ (wider lo hi (lo -ℤ pos 549) hi (value w x) (omega (arith, ints)) (omega (arith, ints)) b) v)
+    (minimum_between (lo -ℤ pos 549) hi (hi +ℤ pos 183) (value w x) _ (wider lo hi (lo -ℤ pos 549) hi (value w x) (omega (arith, ints)) (omega (arith, ints)) b)
+    v)
 
 -- ---- true noon
 clamped : (i : Interval) → IsBetween (negsuc 0) (pos 1) (interval_maximum (exactly (fraction_of MINUS_HALF)) (interval_minimum (exactly (fraction_of HALF)) i))
@@ -179,7 +192,8 @@ unfolding interval_maximum interval_minimum
 clamped everything = tt
 clamped (between a b) = (
   le_trans _ _ _ (record { cross = omega (arith, ints) }) (larger_first (fraction_of MINUS_HALF) _),
-  larger_keeps (λ z. z ≤F whole (pos 1)) (fraction_of MINUS_HALF) _ (record { cross = omega (arith, ints) }) (le_trans _ _ _ (smaller_first (fraction_of HALF) b) (record { cross = omega (arith, ints) })),
+  larger_keeps (λ z. z ≤F whole (pos 1)) (fraction_of MINUS_HALF) _ (record { cross = omega (arith, ints) })
+      (le_trans _ _ _ (smaller_first (fraction_of HALF) b) (record { cross = omega (arith, ints) })),
 )
 
 equation_between : (w : World) (c : Expression) → IsBetween (negsuc 0) (pos 1) (value w (equation_of c))
@@ -193,7 +207,8 @@ equation_of_time_between w x e h =
     let c = parts w (centuries_of x) _ e h in
     rw (← valued_same w (equation_of c.part) e c.then) (equation_between w c.part)
 
-pub from_apparent_between : (w : World) (l : Fraction) (x t : Expression) (lo hi : ℤ) → IsBetween lo hi (value w x) → outcome (run w (from_apparent_of l x)) ≡ valued t → IsBetween (lo -ℤ pos 1) (hi +ℤ pos 1) (value w t)
+pub from_apparent_between : (w : World) (l : Fraction) (x t : Expression) (lo hi : ℤ) → IsBetween lo hi (value w x) → outcome (run w (from_apparent_of l x))
+    ≡ valued t → IsBetween (lo -ℤ pos 1) (hi +ℤ pos 1) (value w t)
 unfolding from_apparent_of value
 from_apparent_between w l x t lo hi b h =
     let e = parts w (equation_of_time_of (subtract x (ahead_of l))) _ t h in
@@ -215,11 +230,13 @@ noon_between w d n h =
     let t = parts w (from_apparent_of (fraction_of PERSIAN_NOON_LONGITUDE) (add (integer d) (constant (fraction_of HALF)))) _ n h in
     let f = from_apparent_between w _ _ t.part d (d +ℤ pos 1) (apparent_noon_between w d) t.first in
     let k = difference_between (d -ℤ pos 1) ((d +ℤ pos 1) +ℤ pos 1) (pos 0) (pos 1) _ _ f (ahead_between w) in
-    rw (← valued_same w (subtract t.part (ahead_of (fraction_of PERSIAN_NOON_LONGITUDE))) n t.then) (wider _ _ (d -ℤ pos 2) (d +ℤ pos 2) _ (omega (arith, ints)) (omega (arith, ints)) k)
+    rw (← valued_same w (subtract t.part (ahead_of (fraction_of PERSIAN_NOON_LONGITUDE))) n t.then)
+    (wider _ _ (d -ℤ pos 2) (d +ℤ pos 2) _ (omega (arith, ints)) (omega (arith, ints)) k)
 
 -- ---- where a search begins
 -- the floor of the estimate from a day's noon is a start, where it is decided
-pub start_of_floor : (w : World) (d q : ℤ) (l n s : Expression) → outcome (run w (noon_of d)) ≡ valued n → outcome (run w (estimate_of l n)) ≡ valued s → cell_at integers (value w s) ≡ Some q → IsStart d q
+pub start_of_floor : (w : World) (d q : ℤ) (l n s : Expression) → outcome (run w (noon_of d)) ≡ valued n → outcome (run w (estimate_of l n)) ≡ valued s
+    → cell_at integers (value w s) ≡ Some q → IsStart d q
 start_of_floor w d q l n s h k e =
     let b = estimate_between w l n s (d -ℤ pos 2) (d +ℤ pos 2) (noon_between w d n h) k in
     let f = floor_between _ _ q (value w s) (value_proper w s) b e in

@@ -51,7 +51,8 @@ polynomial_exactly w cs x (suc n) =
     rw (polynomial_exactly w cs x n, product_exactly (whole (int_power x n)) (fraction_of (slice_index_or cs n no_fraction))) (sum_exactly _ _)
 
 -- the next term of the sum
-pub exact_more : (cs : List Frac) (x : ℤ) (n : ℕ) → exact_to cs x (n + 1) ≡ plus (exact_to cs x n) (times (whole (int_power x n)) (fraction_of (slice_index_or cs n no_fraction)))
+pub exact_more : (cs : List Frac) (x : ℤ) (n : ℕ) → exact_to cs x (n + 1)
+    ≡ plus (exact_to cs x n) (times (whole (int_power x n)) (fraction_of (slice_index_or cs n no_fraction)))
 unfolding exact_to
 exact_more cs x n = rw add-one refl
 
@@ -71,10 +72,12 @@ pub decimal_zero : decimal_11 (pos 0) ≈ whole (pos 0)
 decimal_zero = record { cross = refl }
 
 -- a number of 10^-11 seconds is the correction in days
-pub seconds_exactly : (w : World) (cs : List Frac) (origin y n : ℤ) → decimal_11 n ≈ exact_to cs (y -ℤ origin) (length cs) → IsNumber (seconds_11 n) (value w (seconds_of cs origin y))
+pub seconds_exactly : (w : World) (cs : List Frac) (origin y n : ℤ) → decimal_11 n ≈ exact_to cs (y -ℤ origin) (length cs)
+    → IsNumber (seconds_11 n) (value w (seconds_of cs origin y))
 unfolding value seconds_of polynomial_of times
 seconds_exactly w cs origin y n h =
-    let s : times (exact_to cs (y -ℤ origin) (length cs)) (fraction_of SECOND) ≈ seconds_11 n = same_trans (times_cong (same_sym h) (same_refl (fraction_of SECOND))) (in_days n) in
+    let s : times (exact_to cs (y -ℤ origin) (length cs)) (fraction_of SECOND) ≈ seconds_11 n = same_trans
+    (times_cong (same_sym h) (same_refl (fraction_of SECOND))) (in_days n) in
     rw (polynomial_exactly w cs (y -ℤ origin) (length cs), product_exactly (exact_to cs (y -ℤ origin) (length cs)) (fraction_of SECOND)) (s, s)
   where
     in_days : (n : ℤ) → times (decimal_11 n) (fraction_of SECOND) ≈ seconds_11 n

@@ -63,14 +63,18 @@ pub record Parts {A B : Type 0} (w : World) (p : Program A) (f : A → Program B
   pub first : outcome (run w p) ≡ valued part
   pub then : outcome (run w (f part)) ≡ valued b
 
-parts_of_cell : {A B : Type 0} (w : World) (s : Site) (g : Grid) (x : Expression) (next : ℤ → Program A) (f : A → Program B) (b : B) (o : Option ℤ) → cell_at g (value w x) ≡ o
-    → ((q : ℤ) → outcome (run w (bind (next q) f)) ≡ valued b → Parts w (next q) f b) → outcome (after_cell s g (value w x) o (λ q. run w (bind (next q) f))) ≡ valued b → Parts w (cell s g x next) f b
+parts_of_cell : {A B : Type 0} (w : World) (s : Site) (g : Grid) (x : Expression) (next : ℤ → Program A) (f : A → Program B) (b : B) (o : Option ℤ)
+    → cell_at g (value w x) ≡ o
+    → ((q : ℤ) → outcome (run w (bind (next q) f)) ≡ valued b → Parts w (next q) f b) → outcome (after_cell s g (value w x) o (λ q. run w (bind (next q) f)))
+    ≡ valued b → Parts w (cell s g x next) f b
 unfolding after_cell outcome run
 parts_of_cell w s g x next f b None c h e = absurd (cc)
 parts_of_cell w s g x next f b (Some q) c h e = let r = h q e in record { part = r.part; first = rw c r.first; then = r.then }
 
-parts_of_compare : {A B : Type 0} (w : World) (s : Site) (x y : Expression) (next : Bool → Program A) (f : A → Program B) (b : B) (o : Option Bool) → compare_at (value w x) (value w y) ≡ o
-    → ((q : Bool) → outcome (run w (bind (next q) f)) ≡ valued b → Parts w (next q) f b) → outcome (after_compare s (value w x) (value w y) o (λ q. run w (bind (next q) f))) ≡ valued b → Parts w (compare s x y next) f b
+parts_of_compare : {A B : Type 0} (w : World) (s : Site) (x y : Expression) (next : Bool → Program A) (f : A → Program B) (b : B) (o : Option Bool)
+    → compare_at (value w x) (value w y) ≡ o
+    → ((q : Bool) → outcome (run w (bind (next q) f)) ≡ valued b → Parts w (next q) f b)
+    → outcome (after_compare s (value w x) (value w y) o (λ q. run w (bind (next q) f))) ≡ valued b → Parts w (compare s x y next) f b
 unfolding after_compare outcome run
 parts_of_compare w s x y next f b None c h e = absurd (cc)
 parts_of_compare w s x y next f b (Some q) c h e = let r = h q e in record { part = r.part; first = rw c r.first; then = r.then }
@@ -88,7 +92,8 @@ pub record Decides {A : Type 0} (g : Grid) (i : Interval) (f : ℤ → A) (v : A
   pub decided_so : cell_at g i ≡ Some cell_there
   pub leads_to : f cell_there ≡ v
 
-pub decides : {A : Type 0} (w : World) (s : Site) (g : Grid) (x : Expression) (f : ℤ → A) (v : A) → outcome (run w (cell s g x (λ q. answer (f q)))) ≡ valued v → Decides g (value w x) f v
+pub decides : {A : Type 0} (w : World) (s : Site) (g : Grid) (x : Expression) (f : ℤ → A) (v : A) → outcome (run w (cell s g x (λ q. answer (f q)))) ≡ valued v
+    → Decides g (value w x) f v
 unfolding after_cell outcome run
 decides w s g x f v e = by (cell_at g (value w x)) refl e
   where
@@ -126,7 +131,8 @@ remainder_in_turn (between a b) q e =
     record { ends = (turn_below a q low, turn_above b q high) }
 
 -- the same, with the turn's ends
-pub remainder_within : (i : Interval) (q : ℤ) → cell_at (multiples 360) i ≡ Some q → difference i (exactly (whole (pos 360 *ℤ q))) ⊆ between (whole (pos 0)) (whole (pos 360))
+pub remainder_within : (i : Interval) (q : ℤ) → cell_at (multiples 360) i ≡ Some q
+    → difference i (exactly (whole (pos 360 *ℤ q))) ⊆ between (whole (pos 0)) (whole (pos 360))
 unfolding turn
 remainder_within i q e = remainder_in_turn i q e
 
@@ -147,7 +153,8 @@ thousand_turns : product turn (exactly (fraction_of THOUSANDTHS_OF_DEGREE)) ⊆ 
 unfolding product turn least greatest smaller larger times is_at_most
 thousand_turns = record { ends = (record { cross = omega (arith, ints) }, record { cross = omega (arith, ints) }) }
 
-floor_between : (i : Interval) (v : ℤ) → IsProper i → i ⊆ between (whole (pos 0)) (whole (pos 360000)) → cell_at integers i ≡ Some v → (pos 0 ≤ℤ v) × (v ≤ℤ pos 360000)
+floor_between : (i : Interval) (v : ℤ) → IsProper i → i ⊆ between (whole (pos 0)) (whole (pos 360000)) → cell_at integers i ≡ Some v → (pos 0 ≤ℤ v)
+    × (v ≤ℤ pos 360000)
 unfolding cell_at cell_of
 floor_between everything v p h e = absurd (cc)
 floor_between (between a b) v p h e =
@@ -163,5 +170,6 @@ sun_value w d v h =
     let p = parts w (sun_of (integer d)) _ v h in
     let c = decides w _ integers (scale (fraction_of THOUSANDTHS_OF_DEGREE) p.part) (λ q. q) v p.then in
     let t = sun_in_turn w (integer d) p.part p.first in
-    let i = within_trans (product_within (value_proper w p.part) (value_proper w (constant (fraction_of THOUSANDTHS_OF_DEGREE))) t (within_refl _)) thousand_turns in
+    let i = within_trans (product_within (value_proper w p.part) (value_proper w (constant (fraction_of THOUSANDTHS_OF_DEGREE))) t (within_refl _))
+    thousand_turns in
     rw c.leads_to at (floor_between _ c.cell_there (value_proper w (scale (fraction_of THOUSANDTHS_OF_DEGREE) p.part)) i c.decided_so)

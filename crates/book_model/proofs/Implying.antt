@@ -56,12 +56,14 @@ limits_within n a b =
     rw (p, q) refl
 
 -- an enclosure keeps each bound that the computed bound of its expression implies
-pub settled_at : {E : Type 0} (shown : E → Interval) (n w : ℕ) (b : ℕ → Bound) (x : Expression) (y : Bound) (e : E) → implies (bound_of (limits_of n) b x) y ≡ true
+pub settled_at : {E : Type 0} (shown : E → Interval) (n w : ℕ) (b : ℕ → Bound) (x : Expression) (y : Bound) (e : E) → implies (bound_of (limits_of n) b x) y
+    ≡ true
     → Narrow shown (limits_of n) (record { width = w; bounds = b }) x e → IsNarrow w y (shown e)
 unfolding Keeps
 settled_at shown n w b x y e i h = implied w (bound_of (limits_of n) b x) y (shown e) i h.kept
 
 -- the same at scale 2^-36
-pub settled : {E : Type 0} (shown : E → Interval) (n w : ℕ) (b : ℕ → Bound) (x : Expression) (y : Bound) (e : E) → n ≡ 36 → implies (bound_of limits_36 b x) y ≡ true
+pub settled : {E : Type 0} (shown : E → Interval) (n w : ℕ) (b : ℕ → Bound) (x : Expression) (y : Bound) (e : E) → n ≡ 36 → implies (bound_of limits_36 b x) y
+    ≡ true
     → Narrow shown (limits_of n) (record { width = w; bounds = b }) x e → IsNarrow w y (shown e)
 settled shown n w b x y e p i h = settled_at shown n w b x y e (rw (limits_at_36 n p) i) h

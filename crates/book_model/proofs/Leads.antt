@@ -40,7 +40,8 @@ run_bind w (void s) f = refl
 run_bind w (cell s g x next) f =
     then_cell s g (value w x) (cell_at g (value w x)) (λ q. run w (next q)) (λ q. run w (bind (next q) f)) (λ v. run w (f v)) (λ q. run_bind w (next q) f)
 run_bind w (compare s x y next) f =
-    then_compare s (value w x) (value w y) (compare_at (value w x) (value w y)) (λ t. run w (next t)) (λ t. run w (bind (next t) f)) (λ v. run w (f v)) (λ t. run_bind w (next t) f)
+    then_compare s (value w x) (value w y) (compare_at (value w x) (value w y)) (λ t. run w (next t)) (λ t. run w (bind (next t) f)) (λ v. run w (f v))
+    (λ t. run_bind w (next t) f)
 
 reports_then : {A B T U : Type 0} {R : A → T → Type 0} {S : B → U → Type 0} {r : Run A} {b m a : ℕ} {y : T} {t : Result U Fail} (f : A → Run B) →
     Reports R r b m (Ok y) → ((v : A) → R v y → Reports S (f v) m a t) → Reports S (run_then r f) b a t
@@ -56,7 +57,8 @@ reports_fail S f (stops e d c) = stops e d c
 reports_fail S f (stops_early e d c) = stops_early e d c
 reports_fail S f voids = voids
 
-pub leads_bind : {A B T U : Type 0} {w : World} {R : A → T → Type 0} {S : B → U → Type 0} {p : Program A} {f : A → Program B} {b m a : ℕ} {y : T} {t : Result U Fail} →
+pub leads_bind : {A B T U : Type 0} {w : World} {R : A → T → Type 0} {S : B → U → Type 0} {p : Program A} {f : A → Program B} {b m a : ℕ} {y : T}
+    {t : Result U Fail} →
     Leads w R p b m (Ok y) → ((v : A) → R v y → Leads w S (f v) m a t) → Leads w S (bind p f) b a t
 leads_bind {w = w} {p = p} {f = f} h k = record { reports = rw (run_bind w p f) (reports_then (λ v. run w (f v)) h.reports (λ v r. (k v r).reports)) }
 
@@ -73,42 +75,50 @@ unfolding run
 leads_void = record { reports = voids }
 
 -- a cell test that the code decides, at an enclosure j of the expression's value
-pub leads_cell : {A T : Type 0} {w : World} {R : A → T → Type 0} (s : Site) (g : Grid) (x : Expression) (j : Interval) (q : ℤ) (next : ℤ → Program A) {b a : ℕ} {t : Result T Fail} →
+pub leads_cell : {A T : Type 0} {w : World} {R : A → T → Type 0} (s : Site) (g : Grid) (x : Expression) (j : Interval) (q : ℤ) (next : ℤ → Program A) {b a : ℕ}
+    {t : Result T Fail} →
     value w x ⊆ j → cell_at g j ≡ Some q → Leads w R (next q) (next_turn b) a t → Leads w R (cell s g x next) b a t
 unfolding run after_cell
 leads_cell {w = w} s g x j q next i e h =
     let d = cell_nested g (value w x) j q (value_proper w x) i e in
     record { reports = rw d (passes h.reports) }
 
-cell_stop : {A T : Type 0} (R : A → T → Type 0) (g : Grid) (i : Interval) (o : Option ℤ) (n : ℤ → Run A) {b : ℕ} (a : ℕ) (u : Undecided) → u.turn ≡ next_turn b → a ≡ next_turn b → IsOpen (one_side g i) u.lo u.hi →
+cell_stop : {A T : Type 0} (R : A → T → Type 0) (g : Grid) (i : Interval) (o : Option ℤ) (n : ℤ → Run A) {b : ℕ} (a : ℕ) (u : Undecided) → u.turn ≡ next_turn b
+    → a ≡ next_turn b → IsOpen (one_side g i) u.lo u.hi →
     Reports R (after_cell u.site g i o n) b a (Err (undecided_at u))
 unfolding after_cell
 cell_stop R g i None n a u e d c = stops e d c
 cell_stop R g i (Some q) n a u e d c = stops_early e d c
 
 -- a cell test that the code leaves open
-pub leads_open_cell : {A T : Type 0} {w : World} {R : A → T → Type 0} (g : Grid) (x : Expression) (j : Interval) (next : ℤ → Program A) {b : ℕ} (a : ℕ) (u : Undecided) →
+pub leads_open_cell : {A T : Type 0} {w : World} {R : A → T → Type 0} (g : Grid) (x : Expression) (j : Interval) (next : ℤ → Program A) {b : ℕ} (a : ℕ)
+    (u : Undecided) →
     value w x ⊆ j → u.turn ≡ next_turn b → a ≡ next_turn b → IsOpenCell g j u.lo u.hi → Leads w R (cell u.site g x next) b a (Err (undecided_at u))
 unfolding run
-leads_open_cell {w = w} {R = R} g x j next a u i e d c = record { reports = cell_stop R g (value w x) (cell_at g (value w x)) (λ q. run w (next q)) a u e d (open_cell j i c) }
+leads_open_cell {w = w} {R = R} g x j next a u i e d c = record
+    { reports = cell_stop R g (value w x) (cell_at g (value w x)) (λ q. run w (next q)) a u e d (open_cell j i c) }
 
 -- a comparison that the code decides, at enclosures j and k of the two values
-pub leads_compare : {A T : Type 0} {w : World} {R : A → T → Type 0} (s : Site) (x y : Expression) (j k : Interval) (t : Bool) (next : Bool → Program A) {b a : ℕ} {z : Result T Fail} →
+pub leads_compare : {A T : Type 0} {w : World} {R : A → T → Type 0} (s : Site) (x y : Expression) (j k : Interval) (t : Bool) (next : Bool → Program A)
+    {b a : ℕ} {z : Result T Fail} →
     value w x ⊆ j → value w y ⊆ k → compare_at j k ≡ Some t → Leads w R (next t) (next_turn b) a z → Leads w R (compare s x y next) b a z
 unfolding run after_compare
 leads_compare {w = w} s x y j k t next i l e h =
     let d = compare_nested (value w x) (value w y) j k t (value_proper w x) (value_proper w y) i l e in
     record { reports = rw d (passes h.reports) }
 
-compare_stop : {A T : Type 0} (R : A → T → Type 0) (i j : Interval) (o : Option Bool) (n : Bool → Run A) {b : ℕ} (a : ℕ) (u : Undecided) → u.turn ≡ next_turn b → a ≡ next_turn b → IsOpen (two_sides i j) u.lo u.hi →
+compare_stop : {A T : Type 0} (R : A → T → Type 0) (i j : Interval) (o : Option Bool) (n : Bool → Run A) {b : ℕ} (a : ℕ) (u : Undecided) → u.turn ≡ next_turn b
+    → a ≡ next_turn b → IsOpen (two_sides i j) u.lo u.hi →
     Reports R (after_compare u.site i j o n) b a (Err (undecided_at u))
 unfolding after_compare
 compare_stop R i j None n a u e d c = stops e d c
 compare_stop R i j (Some t) n a u e d c = stops_early e d c
 
 -- a comparison that the code leaves open
-pub leads_open_compare : {A T : Type 0} {w : World} {R : A → T → Type 0} (x y : Expression) (j k : Interval) (next : Bool → Program A) {b : ℕ} (a : ℕ) (u : Undecided) →
-    value w x ⊆ j → value w y ⊆ k → u.turn ≡ next_turn b → a ≡ next_turn b → IsOpenComparison j k u.lo u.hi → Leads w R (compare u.site x y next) b a (Err (undecided_at u))
+pub leads_open_compare : {A T : Type 0} {w : World} {R : A → T → Type 0} (x y : Expression) (j k : Interval) (next : Bool → Program A) {b : ℕ} (a : ℕ)
+    (u : Undecided) →
+    value w x ⊆ j → value w y ⊆ k → u.turn ≡ next_turn b → a ≡ next_turn b → IsOpenComparison j k u.lo u.hi
+    → Leads w R (compare u.site x y next) b a (Err (undecided_at u))
 unfolding run
 leads_open_compare {w = w} {R = R} x y j k next a u i l e d c =
     record { reports = compare_stop R (value w x) (value w y) (compare_at (value w x) (value w y)) (λ t. run w (next t)) a u e d (open_comparison j k i l c) }
@@ -120,7 +130,8 @@ lies h = h.inside
 
 pub leads_bind_exact : {A B U : Type 0} {w : World} {S : B → U → Type 0} {p : Program A} (f : A → Program B) {b m a : ℕ} {k : A} {t : Result U Fail} →
     Leads w Exact p b m (Ok k) → Leads w S (f k) m a t → Leads w S (bind p f) b a t
-leads_bind_exact {A = A} {w = w} {S = S} f {m = m} {a = a} {t = t} h k = leads_bind h (λ v e. let P : A → Type 0 = λ q. Leads w S (f q) m a t in subst P (sym e) k)
+leads_bind_exact {A = A} {w = w} {S = S} f {m = m} {a = a} {t = t} h k = leads_bind h
+    (λ v e. let P : A → Type 0 = λ q. Leads w S (f q) m a t in subst P (sym e) k)
 
 pub leads_fail_exact : {A B U : Type 0} {w : World} {S : B → U → Type 0} {p : Program A} (f : A → Program B) {b a : ℕ} {z : Fail} →
     Leads w Exact p b a (Err z) → Leads w S (bind p f) b a (Err z)
@@ -147,7 +158,8 @@ pub leaf_within : {E : Type 0} {shown : E → Interval} {w : World} {p : Program
 unfolding leaf
 leaf_within h = reports_leaf _ h.reports
 
-pub leads_on : {E B U : Type 0} {shown : E → Interval} {w : World} {S : B → U → Type 0} {p : Program Expression} (f : Expression → Program B) {b m a : ℕ} {y : E} {t : Result U Fail} →
+pub leads_on : {E B U : Type 0} {shown : E → Interval} {w : World} {S : B → U → Type 0} {p : Program Expression} (f : Expression → Program B) {b m a : ℕ}
+    {y : E} {t : Result U Fail} →
     Leads w (Within shown w) p b m (Ok y) → Leads w S (f (leaf w p)) m a t → Leads w S (bind p f) b a t
 unfolding leaf
 leads_on {w = w} {S = S} {p = p} f h k = record { reports = rw (run_bind w p f) (reports_then_leaf S _ (λ v. run w (f v)) h.reports k.reports) }
@@ -164,7 +176,8 @@ pub continues_exact : {A B T : Type 0} {w : World} {R : A → T → Type 0} {p :
     Continues w R p b (bind q f) m → Leads w Exact q m n (Ok k) → Continues w R p b (f k) n
 continues_exact f h k = record { rest = λ a t l. h.rest a t (leads_bind_exact f k l) }
 
-pub continues_fail : {A B T U : Type 0} {w : World} {R : A → T → Type 0} {S : B → U → Type 0} {p : Program A} {q : Program B} (f : B → Program A) {b m a : ℕ} {z : Fail} →
+pub continues_fail : {A B T U : Type 0} {w : World} {R : A → T → Type 0} {S : B → U → Type 0} {p : Program A} {q : Program B} (f : B → Program A) {b m a : ℕ}
+    {z : Fail} →
     Continues w R p b (bind q f) m → Leads w S q m a (Err z) → Leads w R p b a (Err z)
 continues_fail f {a = a} {z = z} h k = h.rest a (Err z) (leads_fail f k)
 
@@ -191,7 +204,8 @@ reports_leaf_value d (passes h) = reports_leaf_value d h
 reports_leaf_value d (answers h) = refl
 
 -- the expression that a run ends in is its outcome
-pub leads_leaf : {T : Type 0} {w : World} {R : Expression → T → Type 0} {p : Program Expression} {b m : ℕ} {y : T} → Leads w R p b m (Ok y) → outcome (run w p) ≡ valued (leaf w p)
+pub leads_leaf : {T : Type 0} {w : World} {R : Expression → T → Type 0} {p : Program Expression} {b m : ℕ} {y : T} → Leads w R p b m (Ok y) → outcome (run w p)
+    ≡ valued (leaf w p)
 unfolding leaf
 leads_leaf h = reports_leaf_value _ h.reports
 
@@ -200,7 +214,8 @@ unfolding outcome
 reports_void (passes h) = reports_void h
 reports_void voids = refl
 
-pub leads_void_at : {A T : Type 0} {w : World} {R : A → T → Type 0} {p : Program A} {b a : ℕ} {s : Site} → Leads w R p b a (Err (Void s)) → outcome (run w p) ≡ void_at s
+pub leads_void_at : {A T : Type 0} {w : World} {R : A → T → Type 0} {p : Program A} {b a : ℕ} {s : Site} → Leads w R p b a (Err (Void s)) → outcome (run w p)
+    ≡ void_at s
 leads_void_at h = reports_void h.reports
 
 -- the run makes the test of an undecided result, counted from turn b, and it is open at these ends
@@ -213,11 +228,13 @@ pub record StopsAt {A : Type 0} (r : Run A) (b : ℕ) (u : Undecided) : Type 0 w
 
 reports_stop : {A T : Type 0} {R : A → T → Type 0} {r : Run A} {b a : ℕ} {u : Undecided} → Reports R r b a (Err (undecided_at u)) → StopsAt r b u
 unfolding next_turn
-reports_stop {b = b} (passes h) = let t = reports_stop h in record { number = suc t.number; sides = t.sides; makes = later t.makes; turn = omega (arith, t.turn); open_there = t.open_there }
+reports_stop {b = b} (passes h) = let t = reports_stop h in record
+    { number = suc t.number; sides = t.sides; makes = later t.makes; turn = omega (arith, t.turn); open_there = t.open_there }
 reports_stop {b = b} (stops e d c) = record { number = 1; sides = _; makes = here_undecided; turn = e; open_there = c }
 reports_stop {b = b} (stops_early e d c) = record { number = 1; sides = _; makes = here_decided; turn = e; open_there = c }
 
-pub leads_stop_at : {A T : Type 0} {w : World} {R : A → T → Type 0} {p : Program A} {b a : ℕ} {u : Undecided} → Leads w R p b a (Err (undecided_at u)) → StopsAt (run w p) b u
+pub leads_stop_at : {A T : Type 0} {w : World} {R : A → T → Type 0} {p : Program A} {b a : ℕ} {u : Undecided} → Leads w R p b a (Err (undecided_at u))
+    → StopsAt (run w p) b u
 leads_stop_at h = reports_stop h.reports
 
 -- ---- how many tests a program makes

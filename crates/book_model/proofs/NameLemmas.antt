@@ -36,7 +36,8 @@ both false q e = absurd (cc)
 -- at each place stands the row with that number
 row_at : {R : Type 0} (number : R → ℕ) (n i : ℕ) (rows : List R) → are_numbered number n rows ≡ true → i < length rows → IsRow number rows i (n + i)
 row_at number n i [] e h = absurd (omega arith)
-row_at number n zero (r ∷ rs) e h = let b = both (number r == n) (are_numbered number (suc n) rs) e in record { row = r; here = refl; same = grind (arith, nat_tests, b.0) }
+row_at number n zero (r ∷ rs) e h = let b = both (number r == n) (are_numbered number (suc n) rs) e in record
+    { row = r; here = refl; same = grind (arith, nat_tests, b.0) }
 row_at number n (suc i) (r ∷ rs) e h =
     let b = both (number r == n) (are_numbered number (suc n) rs) e in
     let k = row_at number (suc n) i rs b.1 (omega arith) in
@@ -49,7 +50,8 @@ all_at test zero (x ∷ xs) r e h = let b = both (test x) (list_all test xs) e i
 all_at test (suc i) (x ∷ xs) r e h = let b = both (test x) (list_all test xs) e in all_at test i xs r b.1 h
 
 -- where each row's name leads to its value, so does the name of a value whose row stands at a place
-named_back : {A R : Type 0} (value : R → A) (name : R → List ℕ) (number : A → ℕ) (one : (a b : A) → number a ≡ number b → a ≡ b) (named : List ℕ → Option A) (rows : List R) (i : ℕ) (v : A)
+named_back : {A R : Type 0} (value : R → A) (name : R → List ℕ) (number : A → ℕ) (one : (a b : A) → number a ≡ number b → a ≡ b) (named : List ℕ → Option A)
+    (rows : List R) (i : ℕ) (v : A)
     → list_all (λ r. option_map_or (λ w. number w == number (value r)) (named (name r)) false) rows ≡ true → IsRow (λ r. number (value r)) rows i (number v)
     → named (option_map_or name (slice_get rows i) []) ≡ Some v
 named_back {A = A} value name number one named rows i v tested r =
@@ -62,7 +64,8 @@ named_back {A = A} value name number one named rows i v tested r =
     by (Some w) e = let n : number w ≡ number v = grind (arith, nat_tests, e) in ap (λ t. Some t) (one w v n)
 
 -- what holds of a column in each row holds of the column at a place
-pub column_passes : {R V : Type 0} (column : R → V) (none : V) (number : R → ℕ) (test : V → Bool) (rows : List R) (i n : ℕ) → list_all (λ r. test (column r)) rows ≡ true → IsRow number rows i n
+pub column_passes : {R V : Type 0} (column : R → V) (none : V) (number : R → ℕ) (test : V → Bool) (rows : List R) (i n : ℕ)
+    → list_all (λ r. test (column r)) rows ≡ true → IsRow number rows i n
     → test (option_map_or column (slice_get rows i) none) ≡ true
 column_passes column none number test rows i n tested r = rw r.here (all_at (λ r. test (column r)) i rows r.row tested r.here)
 
@@ -74,7 +77,8 @@ pub place_row : (p : Place) → IsRow (λ row. place_number row.0) PLACES (place
 place_row p = rw zero-add at (row_at (λ row. place_number row.0) 0 (place_number p) PLACES refl (tag_below (variants place_type) (place_type.to p)))
 
 pub site_row : (s : Site) → IsRow (λ row. site_number row.0) SITES (tag_of site_type s) (site_number s)
-site_row s = rw (add_comm 1 (tag_of site_type s)) at (row_at (λ row. site_number row.0) 1 (tag_of site_type s) SITES refl (tag_below (variants site_type) (site_type.to s)))
+site_row s = rw (add_comm 1 (tag_of site_type s)) at (row_at (λ row. site_number row.0) 1 (tag_of site_type s) SITES refl
+    (tag_below (variants site_type) (site_type.to s)))
 
 -- values with one number are one
 pub one_kind : (k l : Kind) → kind_number k ≡ kind_number l → k ≡ l

@@ -20,7 +20,8 @@ use Rattle.book_model.proofs.Values.{value_proper, value_nested}
 
 scale_mono : (a b : ℤ) (d : ℕ) → a ≤ℤ b → (a *ℤ pos d) ≤ℤ (b *ℤ pos d)
 scale_mono a b d h =
-    let k = mul-le-mul_left d (let j : Prim.Native.Nat.◌≤◌ (Prim.Native.Nat.◌+◌ (up a) (down b)) (Prim.Native.Nat.◌+◌ (up b) (down a)) = omega (arith, ints) in j) in
+    let k = mul-le-mul_left d (let j : Prim.Native.Nat.◌≤◌ (Prim.Native.Nat.◌+◌ (up a) (down b)) (Prim.Native.Nat.◌+◌ (up b) (down a)) = omega (arith, ints) in
+    j) in
     omega (arith, ints, k)
 
 pub cell_mono : (g : Grid) (a b : Fraction) → a ≤F b → cell_of g a ≤ℤ cell_of g b
@@ -75,7 +76,8 @@ pub compare_says : (a b c d : Fraction) (t : Bool) → compare_at (between a b) 
 unfolding compare_at
 compare_says a b c d t e = by_test (is_at_most c b) refl (is_at_most d a) refl t e
   where
-    by_test : (x : Bool) → is_at_most c b ≡ x → (y : Bool) → is_at_most d a ≡ y → (t : Bool) → cond (not x) (Some true) (when y false) ≡ Some t → IsDecided a b c d t
+    by_test : (x : Bool) → is_at_most c b ≡ x → (y : Bool) → is_at_most d a ≡ y → (t : Bool) → cond (not x) (Some true) (when y false) ≡ Some t
+        → IsDecided a b c d t
     by_test false p y q true e = all_below p
     by_test false p y q false e = absurd (cc)
     by_test true p true q true e = absurd (cc)
@@ -97,7 +99,8 @@ compare_no : (a b c d : Fraction) → is_at_most c b ≡ true → is_at_most d a
 unfolding compare_at
 compare_no a b c d e f = rw (e, f) refl
 
-compare_ends : (a b c d k l m n : Fraction) (t : Bool) → a ≤F b → c ≤F d → k ≤F a → b ≤F l → m ≤F c → d ≤F n → IsDecided k l m n t → compare_at (between a b) (between c d) ≡ Some t
+compare_ends : (a b c d k l m n : Fraction) (t : Bool) → a ≤F b → c ≤F d → k ≤F a → b ≤F l → m ≤F c → d ≤F n → IsDecided k l m n t
+    → compare_at (between a b) (between c d) ≡ Some t
 compare_ends a b c d k l m n true p q ka bl mc dn (all_below e) = compare_yes a b c d (not_at_most c b m l mc bl e)
 compare_ends a b c d k l m n false p q ka bl mc dn (none_below e h) =
     let da = le_trans d n a dn (le_trans n k a h ka) in
@@ -150,7 +153,8 @@ run_nested v w h (cell s g x next) =
 run_nested v w h (compare s x y next) =
     let m = value_nested v w h x in
     let n = value_nested v w h y in
-    refine_compare s (value v x) (value v y) (value w x) (value w y) (compare_at (value v x) (value v y)) (compare_at (value w x) (value w y)) (λ t. run v (next t)) (λ t. run w (next t)) m n
+    refine_compare s (value v x) (value v y) (value w x) (value w y) (compare_at (value v x) (value v y)) (compare_at (value w x) (value w y))
+    (λ t. run v (next t)) (λ t. run w (next t)) m n
     (λ t e. compare_nested _ _ _ _ t (value_proper v x) (value_proper v y) m n e) (λ t. run_nested v w h (next t))
 
 -- what a run decides, each run that refines it decides alike

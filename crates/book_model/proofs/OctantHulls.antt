@@ -36,10 +36,12 @@ degree_at_1 = record { ends = (record { cross = record { le = tt } }, record { c
 
 degree_inside : (n : ℕ) → product (pi_at (suc n)) (only (one_over 179)) ⊆ between zero_F one_fraction
 degree_inside n =
-    within_trans (product_within (pi_proper (suc n)) (le_refl (one_over 179)) (pi_at_least 1 (suc n) (omega arith)) (within_refl (only (one_over 179)))) degree_at_1
+    within_trans (product_within (pi_proper (suc n)) (le_refl (one_over 179)) (pi_at_least 1 (suc n) (omega arith)) (within_refl (only (one_over 179))))
+    degree_at_1
 
 -- for degrees of d, at least 0, a greater number of them is a greater angle
-angles_rise : (d : Interval) (r s : Fraction) → IsProper d → AreWithin d (between zero_F one_fraction) → zero_F ≤F r → r ≤F s → Precedes (product (only r) d) (product (only s) d)
+angles_rise : (d : Interval) (r s : Fraction) → IsProper d → AreWithin d (between zero_F one_fraction) → zero_F ≤F r → r ≤F s
+    → Precedes (product (only r) d) (product (only s) d)
 unfolding product
 angles_rise everything r s p h r0 l = absurd h
 angles_rise (between a b) r s p h r0 l =
@@ -81,14 +83,21 @@ short_bounded : (p : Fraction) → zero_F ≤F p → short_of p ≤F whole (pos 
 short_bounded p h = le_by (p ∷ []) ((lit (pos 0) ≼ at 0) ∷ []) (lit (pos 45) ⊖ at 0) (lit (pos 45)) (known 0) refl (h, tt)
 
 shorts : (p q r : Fraction) → InOctant p q r → InOctant (short_of r) (short_of q) (short_of p)
-shorts p q r i = record { nonneg = short_nonneg r i.bounded; first = short_order q r i.second; second = short_order p q i.first; bounded = short_bounded p i.nonneg }
+shorts p q r i = record {
+  nonneg = short_nonneg r i.bounded;
+  first = short_order q r i.second;
+  second = short_order p q i.first;
+  bounded = short_bounded p i.nonneg;
+}
 
-sine_amid : (n : ℕ) (p q r : Fraction) → InOctant p q r → sine_series (suc n) (radians (suc n) q) ⊆ hull (sine_series (suc n) (radians (suc n) p)) (sine_series (suc n) (radians (suc n) r))
+sine_amid : (n : ℕ) (p q r : Fraction) → InOctant p q r → sine_series (suc n) (radians (suc n) q) ⊆ hull (sine_series (suc n) (radians (suc n) p))
+    (sine_series (suc n) (radians (suc n) r))
 sine_amid n p q r i =
     let q0 = le_trans zero_F p q i.nonneg i.first in
     sine_between (suc n) (radians_proper (suc n) q) (radians_rise n p q i.nonneg i.first) (radians_rise n q r q0 i.second)
 
-cosine_amid : (n : ℕ) (p q r : Fraction) → InOctant p q r → cosine_series (suc n) (radians (suc n) q) ⊆ hull (cosine_series (suc n) (radians (suc n) p)) (cosine_series (suc n) (radians (suc n) r))
+cosine_amid : (n : ℕ) (p q r : Fraction) → InOctant p q r → cosine_series (suc n) (radians (suc n) q) ⊆ hull (cosine_series (suc n) (radians (suc n) p))
+    (cosine_series (suc n) (radians (suc n) r))
 cosine_amid n p q r i =
     let q0 = le_trans zero_F p q i.nonneg i.first in
     cosine_between n (radians_proper (suc n) q) (radians_rise n p q i.nonneg i.first) (radians_rise n q r q0 i.second)
@@ -151,7 +160,8 @@ sine_inside : (n : ℕ) (r : Fraction) → zero_F ≤F r → r ≤F whole (pos 4
 sine_inside n r h k = within_trans (at_least sine_series sines 1 (suc n) (omega arith) (radians_proper (suc n) r) (radians_inside n r h k)) sines_at_1
 
 cosine_inside : (n : ℕ) (r : Fraction) → zero_F ≤F r → r ≤F whole (pos 45) → cosine_series (suc n) (radians (suc n) r) ⊆ all_sines
-cosine_inside n r h k = within_trans (at_least (λ m. cosine_series (suc m)) cosines 0 n (omega arith) (radians_proper (suc n) r) (radians_inside n r h k)) cosines_at_1
+cosine_inside n r h k = within_trans (at_least (λ m. cosine_series (suc m)) cosines 0 n (omega arith) (radians_proper (suc n) r) (radians_inside n r h k))
+    cosines_at_1
 
 negative_sines : negative all_sines ⊆ all_sines
 unfolding negative opposite

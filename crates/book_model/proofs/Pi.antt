@@ -11,17 +11,18 @@ use Rattle.exact_math.proofs.Alternating.{sums_nested, sum_ends_in_order}
 use Rattle.book_model.specs.numbers.Series.{arctan_term, arctan_at, scaled, pi_at}
 use Rattle.book_model.proofs.Terms.{IsUpTo, arctan_halving, one_over_nonneg, one_over_small}
 
-scaled_ends : (k : ℕ) (i j : Interval) → AreWithin i j → AreWithin (scaled k i) (scaled k j)
+interval_ends : (k : ℕ) (i j : Interval) → AreWithin i j → AreWithin (scaled k i) (scaled k j)
 unfolding scaled
-scaled_ends k i everything h = tt
-scaled_ends k everything (between c d) h = absurd h
-scaled_ends k (between a b) (between c d) h = (by_natural c a h.0, by_natural b d h.1)
+interval_ends k i everything h = tt
+interval_ends k everything (between c d) h = absurd h
+interval_ends k (between a b) (between c d) h = (by_natural c a h.0, by_natural b d h.1)
   where
     by_natural : (x y : Fraction) → x ≤F y → times (whole (pos k)) x ≤F times (whole (pos k)) y
-    by_natural x y h = le_by (whole (pos k) ∷ x ∷ y ∷ []) ((lit (pos 0) ≼ at 0) ∷ (at 1 ≼ at 2) ∷ []) (at 0 ⊗ at 1) (at 0 ⊗ at 2) (known 0 ⊠ known 1) refl (record { cross = omega (arith, ints) }, (h, tt))
+    by_natural x y h = le_by (whole (pos k) ∷ x ∷ y ∷ []) ((lit (pos 0) ≼ at 0) ∷ (at 1 ≼ at 2) ∷ []) (at 0 ⊗ at 1) (at 0 ⊗ at 2) (known 0 ⊠ known 1) refl
+        (record { cross = omega (arith, ints) }, (h, tt))
 
 pub scaled_within : (k : ℕ) {i j : Interval} → i ⊆ j → scaled k i ⊆ scaled k j
-scaled_within k {i} {j} h = record { ends = scaled_ends k i j h.ends }
+scaled_within k {i} {j} h = record { ends = interval_ends k i j h.ends }
 
 pub small_one_over : (n : ℕ) → 1 ≤ n → IsUpTo 1 2 (one_over n)
 small_one_over n h = record { nonneg = one_over_nonneg n; bound = one_over_small 1 n h }
@@ -32,7 +33,8 @@ arctan_deeper n x w = let h = sums_nested n (arctan_term x) (arctan_halving x w)
 pub pi_deeper : (n : ℕ) → pi_at (suc n) ⊆ pi_at n
 unfolding pi_at
 pi_deeper n =
-    sum_within (scaled_within 16 (arctan_deeper n (one_over 4) (small_one_over 4 (omega arith)))) (negative_within (scaled_within 4 (arctan_deeper n (one_over 238) (small_one_over 238 (omega arith)))))
+    sum_within (scaled_within 16 (arctan_deeper n (one_over 4) (small_one_over 4 (omega arith))))
+    (negative_within (scaled_within 4 (arctan_deeper n (one_over 238) (small_one_over 238 (omega arith)))))
 
 pub pi_by : (k n m : ℕ) → m ≡ k + n → pi_at m ⊆ pi_at n
 pi_by zero n m e = subst (λ x. pi_at x ⊆ pi_at n) (sym (e ∙ omega arith)) (within_refl (pi_at n))
@@ -45,7 +47,8 @@ pi_at_least n m h = pi_by (m - n) n m (omega arith)
 pub scaled_proper : (k : ℕ) (i : Interval) → IsProper i → IsProper (scaled k i)
 unfolding scaled
 scaled_proper k everything p = tt
-scaled_proper k (between a b) p = le_by (whole (pos k) ∷ a ∷ b ∷ []) ((lit (pos 0) ≼ at 0) ∷ (at 1 ≼ at 2) ∷ []) (at 0 ⊗ at 1) (at 0 ⊗ at 2) (known 0 ⊠ known 1) refl (record { cross = omega (arith, ints) }, (p, tt))
+scaled_proper k (between a b) p = le_by (whole (pos k) ∷ a ∷ b ∷ []) ((lit (pos 0) ≼ at 0) ∷ (at 1 ≼ at 2) ∷ []) (at 0 ⊗ at 1) (at 0 ⊗ at 2) (known 0 ⊠ known 1)
+    refl (record { cross = omega (arith, ints) }, (p, tt))
 
 arctan_proper : (n m : ℕ) → 1 ≤ m → IsProper (arctan_at n (one_over m))
 arctan_proper n m h = sum_ends_in_order n (arctan_term (one_over m)) ((arctan_halving (one_over m) (small_one_over m h)).nonneg (suc n))
@@ -71,7 +74,8 @@ pi_number n h = within_trans (pi_at_least 12 n h) pi_at_12
 -- ---- the arctangents nest by themselves
 arctan_by : (k n m : ℕ) (x : Fraction) → IsUpTo 1 2 x → m ≡ k + n → arctan_at m x ⊆ arctan_at n x
 arctan_by zero n m x w e = subst (λ z. arctan_at z x ⊆ arctan_at n x) (sym (e ∙ omega arith)) (within_refl (arctan_at n x))
-arctan_by (suc k) n m x w e = subst (λ z. arctan_at z x ⊆ arctan_at n x) (sym (e ∙ omega arith)) (within_trans (arctan_deeper (k + n) x w) (arctan_by k n (k + n) x w refl))
+arctan_by (suc k) n m x w e = subst (λ z. arctan_at z x ⊆ arctan_at n x) (sym (e ∙ omega arith))
+    (within_trans (arctan_deeper (k + n) x w) (arctan_by k n (k + n) x w refl))
 
 pub arctan_at_least : (k n m : ℕ) → 1 ≤ k → n ≤ m → arctan_at m (one_over k) ⊆ arctan_at n (one_over k)
 arctan_at_least k n m h l = arctan_by (m - n) n m (one_over k) (small_one_over k h) (omega arith)

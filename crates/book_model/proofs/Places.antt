@@ -16,7 +16,8 @@ use Rattle.book_model.proofs.NameLemmas.{column_passes, place_row}
 
 -- ---- of each row
 locations_kept : list_all (λ row. option_map_or is_kept_location row.2.0 true) PLACES ≡ true
-unfolding implies bound_of integer_bound constant_bound sum_bound difference_bound scaled_bound power_bound product_bound quotient_bound clamp_bound root_bound root_by_digits spanned_bound arc_spans arctangent_bound half_tangent_bound arcsine_bound arccosine_bound refraction_of ahead_of is_at_most
+unfolding implies bound_of integer_bound constant_bound sum_bound difference_bound scaled_bound power_bound product_bound quotient_bound clamp_bound root_bound
+    root_by_digits spanned_bound arc_spans arctangent_bound half_tangent_bound arcsine_bound arccosine_bound refraction_of ahead_of is_at_most
 locations_kept = refl
 
 steps_kept : list_all (λ row. list_all (is_kept_step 24) row.2.1.now) PLACES ≡ true
@@ -35,12 +36,15 @@ both p q e f = rw (e, f) refl
 pub location_kept : (place : Place) → option_map_or is_kept_location (location_of place) true ≡ true
 unfolding location_of
 location_kept place =
-    column_passes (λ row. row.2.0) None (λ row. place_number row.0) (λ l. option_map_or is_kept_location l true) PLACES (place_number place) (place_number place) locations_kept (place_row place)
+    column_passes (λ row. row.2.0) None (λ row. place_number row.0) (λ l. option_map_or is_kept_location l true) PLACES (place_number place)
+    (place_number place) locations_kept (place_row place)
 
 -- the time of a place is ahead by less than a day
 pub zone_kept : (place : Place) → is_kept_zone 24 (zone_steps place) (last_hours place) ≡ true
 unfolding zone_steps last_hours
 zone_kept place =
     both _ _
-    (column_passes (λ row. row.2.1.now) [] (λ row. place_number row.0) (list_all (is_kept_step 24)) PLACES (place_number place) (place_number place) steps_kept (place_row place))
-    (column_passes (λ row. row.2.2) no_fraction (λ row. place_number row.0) (are_kept_hours 24) PLACES (place_number place) (place_number place) hours_kept (place_row place))
+    (column_passes (λ row. row.2.1.now) [] (λ row. place_number row.0) (list_all (is_kept_step 24)) PLACES (place_number place) (place_number place) steps_kept
+    (place_row place))
+    (column_passes (λ row. row.2.2) no_fraction (λ row. place_number row.0) (are_kept_hours 24) PLACES (place_number place) (place_number place) hours_kept
+    (place_row place))

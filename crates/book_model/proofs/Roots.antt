@@ -27,9 +27,12 @@ root_below_is zero = record { under = omega arith; next = omega arith }
 root_below_is (suc m) = at_step m (root_below m) (nat_le (suc (root_below m) * suc (root_below m)) (suc m)) (root_below_is m) refl
 
 -- digit by digit
-digit_step : (m q r : ℕ) (t : Bool) → q * 4 ≤ m → m < q * 4 + 4 → IsRoot q r → nat_le (suc (2 * r) * suc (2 * r)) m ≡ t → IsRoot m (cond t (suc (2 * r)) (2 * r))
-digit_step m q r true a b h e = let l = leb-true (suc (2 * r) * suc (2 * r)) m e in let u = h.under in let n = h.next in record { under = l; next = omega (arith, a, b, u, n) }
-digit_step m q r false a b h e = let l = leb-false (suc (2 * r) * suc (2 * r)) m e in let u = h.under in let n = h.next in record { under = omega (arith, a, b, u, n); next = l }
+digit_step : (m q r : ℕ) (t : Bool) → q * 4 ≤ m → m < q * 4 + 4 → IsRoot q r → nat_le (suc (2 * r) * suc (2 * r)) m ≡ t
+    → IsRoot m (cond t (suc (2 * r)) (2 * r))
+digit_step m q r true a b h e = let l = leb-true (suc (2 * r) * suc (2 * r)) m e in let u = h.under in let n = h.next in record
+    { under = l; next = omega (arith, a, b, u, n) }
+digit_step m q r false a b h e = let l = leb-false (suc (2 * r) * suc (2 * r)) m e in let u = h.under in let n = h.next in record
+    { under = omega (arith, a, b, u, n); next = l }
 
 pub digits_are : (j m : ℕ) → m < 4 ^ j → IsRoot m (root_by_digits j m)
 unfolding root_by_digits
@@ -38,7 +41,8 @@ digits_are (suc j) m h =
     let c : 4 ^ suc j ≡ 4 * 4 ^ j = omega arith in
     let a : (m / 4) * 4 ≤ m = omega arith in
     let b : m < (m / 4) * 4 + 4 = omega arith in
-    digit_step m (m / 4) (root_by_digits j (m / 4)) (nat_le (suc (2 * root_by_digits j (m / 4)) * suc (2 * root_by_digits j (m / 4))) m) a b (digits_are j (m / 4) (omega (arith, h, c, a, b))) refl
+    digit_step m (m / 4) (root_by_digits j (m / 4)) (nat_le (suc (2 * root_by_digits j (m / 4)) * suc (2 * root_by_digits j (m / 4))) m) a b
+    (digits_are j (m / 4) (omega (arith, h, c, a, b))) refl
 
 squares : (j k : ℕ) → j ≤ k → j * j ≤ k * k
 squares j k h = let a = mul-le-mul_left j h in let b = mul-le-mul_left k h in omega (arith, a, b)
@@ -160,7 +164,8 @@ high_is n a = record {
 not_negative_mono : (a b : Fraction) → a ≤F b → not_negative a ≤F not_negative b
 not_negative_mono a b h = by_parts a.num b.num a.below b.below h.cross
   where
-    by_parts : (m n : ℤ) (p q : ℕ) → (m *ℤ pos (suc q)) ≤ℤ (n *ℤ pos (suc p)) → not_negative (record { num = m; below = p }) ≤F not_negative (record { num = n; below = q })
+    by_parts : (m n : ℤ) (p q : ℕ) → (m *ℤ pos (suc q)) ≤ℤ (n *ℤ pos (suc p))
+        → not_negative (record { num = m; below = p }) ≤F not_negative (record { num = n; below = q })
     by_parts (pos m) (pos n) p q h = record { cross = h }
     by_parts (pos zero) (negsuc n) p q h = record { cross = omega (arith, ints) }
     by_parts (pos (suc m)) (negsuc n) p q h = absurd (omega (arith, ints, h))
@@ -191,7 +196,8 @@ finer n k =
     (record { cross = rw d (omega (arith, ints)) }, record { cross = rw d (omega (arith, ints)) })
 
 squares_mono : (x y : Fraction) → zero_F ≤F x → x ≤F y → times x x ≤F times y y
-squares_mono x y h k = le_by (x ∷ y ∷ []) ((lit (pos 0) ≼ at 0) ∷ (at 0 ≼ at 1) ∷ []) (at 0 ⊗ at 0) (at 1 ⊗ at 1) (known 1 ⊠ (known 1 ⊞ natural 2 ⊠ known 0)) refl (h, (k, tt))
+squares_mono x y h k = le_by (x ∷ y ∷ []) ((lit (pos 0) ≼ at 0) ∷ (at 0 ≼ at 1) ∷ []) (at 0 ⊗ at 0) (at 1 ⊗ at 1) (known 1 ⊠ (known 1 ⊞ natural 2 ⊠ known 0))
+    refl (h, (k, tt))
 
 grid_nonneg : (n k : ℕ) → zero_F ≤F on_grid n k
 grid_nonneg n k = record { cross = omega (arith, ints) }
@@ -204,7 +210,8 @@ low_rises n a =
     let f = finer n k in
     subst (λ z. z ≤F root_low (suc n) a) (sym e)
     (le_trans _ _ _ f.0
-    ((low_is (suc n) a).greatest (4 * k) (le_trans _ _ _ (squares_mono _ _ (grid_nonneg (suc n) (4 * k)) f.1) (subst (λ z. times z z ≤F not_negative a) e x.square))))
+    ((low_is (suc n) a).greatest (4 * k) (le_trans _ _ _ (squares_mono _ _ (grid_nonneg (suc n) (4 * k)) f.1)
+    (subst (λ z. times z z ≤F not_negative a) e x.square))))
 
 high_falls : (n : ℕ) (a : Fraction) → root_high (suc n) a ≤F root_high n a
 high_falls n a =

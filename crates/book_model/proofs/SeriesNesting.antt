@@ -67,10 +67,12 @@ narrower_inside lo hi a b c d h i = inside_in lo hi a b (record { above = le_tra
 
 -- ---- sine
 pub sine_lowers : (n : ℕ) (x y : Fraction) → IsUpTo 4 5 x → IsUpTo 4 5 y → x ≤F y → lower (sine_term x) n ≤F lower (sine_term y) n
-sine_lowers n x y w v h = lower_rises n (sine_term x) (sine_term y) ((sine_halving x w).nonneg (suc n)) ((sine_halving y v).nonneg (suc n)) (sine_rising x y w v h)
+sine_lowers n x y w v h = lower_rises n (sine_term x) (sine_term y) ((sine_halving x w).nonneg (suc n)) ((sine_halving y v).nonneg (suc n))
+    (sine_rising x y w v h)
 
 pub sine_uppers : (n : ℕ) (x y : Fraction) → IsUpTo 4 5 x → IsUpTo 4 5 y → x ≤F y → upper (sine_term x) n ≤F upper (sine_term y) n
-sine_uppers n x y w v h = upper_rises n (sine_term x) (sine_term y) ((sine_halving x w).nonneg (suc n)) ((sine_halving y v).nonneg (suc n)) (sine_rising x y w v h)
+sine_uppers n x y w v h = upper_rises n (sine_term x) (sine_term y) ((sine_halving x w).nonneg (suc n)) ((sine_halving y v).nonneg (suc n))
+    (sine_rising x y w v h)
 
 sine_ends : (n : ℕ) (i j : Interval) → IsProper i → AreWithin i j → sine_series n i ⊆ sine_series n j
 unfolding sine_series
@@ -101,10 +103,12 @@ sine_narrows n {i} {j} p h = within_trans (sine_deeper n i p) (sine_within n p h
 
 -- ---- cosine, from depth 1 on
 pub cosine_lowers : (n : ℕ) (x y : Fraction) → IsUpTo 4 5 x → IsUpTo 4 5 y → x ≤F y → lower (cosine_term y) (suc n) ≤F lower (cosine_term x) (suc n)
-cosine_lowers n x y w v h = lower_falls n (cosine_term x) (cosine_term y) ((cosine_halving x w).nonneg (suc n)) ((cosine_halving y v).nonneg (suc n)) (cosine_falling x y w v h)
+cosine_lowers n x y w v h = lower_falls n (cosine_term x) (cosine_term y) ((cosine_halving x w).nonneg (suc n)) ((cosine_halving y v).nonneg (suc n))
+    (cosine_falling x y w v h)
 
 pub cosine_uppers : (n : ℕ) (x y : Fraction) → IsUpTo 4 5 x → IsUpTo 4 5 y → x ≤F y → upper (cosine_term y) (suc n) ≤F upper (cosine_term x) (suc n)
-cosine_uppers n x y w v h = upper_falls n (cosine_term x) (cosine_term y) ((cosine_halving x w).nonneg (suc n)) ((cosine_halving y v).nonneg (suc n)) (cosine_falling x y w v h)
+cosine_uppers n x y w v h = upper_falls n (cosine_term x) (cosine_term y) ((cosine_halving x w).nonneg (suc n)) ((cosine_halving y v).nonneg (suc n))
+    (cosine_falling x y w v h)
 
 cosine_ends : (n : ℕ) (i j : Interval) → IsProper i → AreWithin i j → cosine_series (suc n) i ⊆ cosine_series (suc n) j
 unfolding cosine_series
@@ -176,7 +180,8 @@ cosines = record { proper = cosine_proper; within = cosine_within; deeper = cosi
 pub data Precedes : Interval → Interval → Type 0 where
   preceding : {a b c d : Fraction} → a ≤F c → b ≤F d → Precedes (between a b) (between c d)
 
-between_guards : (s t u : Bool) (x y z : Interval) → (s ≡ true → t ≡ true → (u ≡ true) × (y ⊆ hull x z)) → cond u y everything ⊆ hull (cond s x everything) (cond t z everything)
+between_guards : (s t u : Bool) (x y z : Interval) → (s ≡ true → t ≡ true → (u ≡ true) × (y ⊆ hull x z))
+    → cond u y everything ⊆ hull (cond s x everything) (cond t z everything)
 unfolding hull
 between_guards false t u x y z h = within_everything _
 between_guards true false u everything y z h = within_everything _
@@ -214,14 +219,25 @@ sine_between n p (preceding {a = a} {b = b} {c = c} {d = d} ac bd) (preceding {c
     between_guards (is_inside zero_F four_fifths a b) (is_inside zero_F four_fifths e f) (is_inside zero_F four_fifths c d) _ _ _ λ s t.
     let w = three a b c d e f ac p df s t in (
       w.inner,
-      record { ends = (le_trans _ _ _ (smaller_first _ _) (sine_lowers n a c w.a_in w.c_in ac), le_trans _ _ _ (sine_uppers n d f w.d_in w.f_in df) (larger_second _ _)) },
+      record {
+        ends = (
+          le_trans _ _ _ (smaller_first _ _) (sine_lowers n a c w.a_in w.c_in ac),
+          le_trans _ _ _ (sine_uppers n d f w.d_in w.f_in df) (larger_second _ _),
+        );
+      },
     )
 
-pub cosine_between : (n : ℕ) {i j k : Interval} → IsProper j → Precedes i j → Precedes j k → cosine_series (suc n) j ⊆ hull (cosine_series (suc n) i) (cosine_series (suc n) k)
+pub cosine_between : (n : ℕ) {i j k : Interval} → IsProper j → Precedes i j → Precedes j k
+    → cosine_series (suc n) j ⊆ hull (cosine_series (suc n) i) (cosine_series (suc n) k)
 unfolding cosine_series hull
 cosine_between n p (preceding {a = a} {b = b} {c = c} {d = d} ac bd) (preceding {c = e} {d = f} ce df) =
     between_guards (is_inside zero_F four_fifths a b) (is_inside zero_F four_fifths e f) (is_inside zero_F four_fifths c d) _ _ _ λ s t.
     let w = three a b c d e f ac p df s t in (
       w.inner,
-      record { ends = (le_trans _ _ _ (smaller_second _ _) (cosine_lowers n d f w.d_in w.f_in df), le_trans _ _ _ (cosine_uppers n a c w.a_in w.c_in ac) (larger_first _ _)) },
+      record {
+        ends = (
+          le_trans _ _ _ (smaller_second _ _) (cosine_lowers n d f w.d_in w.f_in df),
+          le_trans _ _ _ (cosine_uppers n a c w.a_in w.c_in ac) (larger_first _ _),
+        );
+      },
     )

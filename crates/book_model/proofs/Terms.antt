@@ -43,34 +43,40 @@ pub square_nonneg : {c d : ℕ} (x : Fraction) → IsUpTo c d x → zero_F ≤F 
 square_nonneg x h = le_by (x ∷ []) ((none ≼ at 0) ∷ []) none (at 0 ⊗ at 0) (known 0 ⊠ known 0) refl (h.nonneg, tt)
 
 squares : (x y : Fraction) → zero_F ≤F x → x ≤F y → times x x ≤F times y y
-squares x y h k = le_by (x ∷ y ∷ []) ((none ≼ at 0) ∷ (at 0 ≼ at 1) ∷ []) (at 0 ⊗ at 0) (at 1 ⊗ at 1) (known 1 ⊠ (known 1 ⊞ natural 2 ⊠ known 0)) refl (h, (k, tt))
+squares x y h k = le_by (x ∷ y ∷ []) ((none ≼ at 0) ∷ (at 0 ≼ at 1) ∷ []) (at 0 ⊗ at 0) (at 1 ⊗ at 1) (known 1 ⊠ (known 1 ⊞ natural 2 ⊠ known 0)) refl
+    (h, (k, tt))
 
 square_fifths : (x : Fraction) → IsUpTo 4 5 x → times (whole (pos 25)) (times x x) ≤F whole (pos 16)
 square_fifths x h =
-    le_by (x ∷ []) ((none ≼ at 0) ∷ (lit (pos 5) ⊗ at 0 ≼ lit (pos 4)) ∷ []) (lit (pos 25) ⊗ (at 0 ⊗ at 0)) (lit (pos 16)) (known 1 ⊠ (known 1 ⊞ natural 10 ⊠ known 0)) refl (h.nonneg, (h.bound, tt))
+    le_by (x ∷ []) ((none ≼ at 0) ∷ (lit (pos 5) ⊗ at 0 ≼ lit (pos 4)) ∷ []) (lit (pos 25) ⊗ (at 0 ⊗ at 0)) (lit (pos 16))
+    (known 1 ⊠ (known 1 ⊞ natural 10 ⊠ known 0)) refl (h.nonneg, (h.bound, tt))
 
 square_half : (x : Fraction) → IsUpTo 1 2 x → times (whole (pos 4)) (times x x) ≤F whole (pos 1)
 square_half x h =
-    le_by (x ∷ []) ((none ≼ at 0) ∷ (lit (pos 2) ⊗ at 0 ≼ one) ∷ []) (lit (pos 4) ⊗ (at 0 ⊗ at 0)) one (known 1 ⊠ (known 1 ⊞ natural 4 ⊠ known 0)) refl (h.nonneg, (h.bound, tt))
+    le_by (x ∷ []) ((none ≼ at 0) ∷ (lit (pos 2) ⊗ at 0 ≼ one) ∷ []) (lit (pos 4) ⊗ (at 0 ⊗ at 0)) one (known 1 ⊠ (known 1 ⊞ natural 4 ⊠ known 0)) refl
+    (h.nonneg, (h.bound, tt))
 
 -- ---- the ratios 1 / ((n + 1) (n + 2)), for n from 1 on
 abbrev pub falling : ℕ → Fraction
 falling n = times (one_over n) (one_over (suc n))
 
 pub falling_nonneg : (n : ℕ) → zero_F ≤F falling n
-falling_nonneg n = le_by (one_over n ∷ one_over (suc n) ∷ []) ((none ≼ at 0) ∷ (none ≼ at 1) ∷ []) none (at 0 ⊗ at 1) (known 0 ⊠ known 1) refl (one_over_nonneg n, (one_over_nonneg (suc n), tt))
+falling_nonneg n = le_by (one_over n ∷ one_over (suc n) ∷ []) ((none ≼ at 0) ∷ (none ≼ at 1) ∷ []) none (at 0 ⊗ at 1) (known 0 ⊠ known 1) refl
+    (one_over_nonneg n, (one_over_nonneg (suc n), tt))
 
 falling_small : (n : ℕ) → 1 ≤ n → times (whole (pos 6)) (falling n) ≤F whole (pos 1)
 falling_small n h =
     le_by (one_over n ∷ one_over (suc n) ∷ []) ((none ≼ at 0) ∷ (lit (pos 2) ⊗ at 0 ≼ one) ∷ (lit (pos 3) ⊗ at 1 ≼ one) ∷ []) (lit (pos 6) ⊗ (at 0 ⊗ at 1)) one
     (known 1 ⊞ natural 2 ⊠ known 0 ⊠ known 2) refl (one_over_nonneg n, (one_over_small 1 n h, (one_over_small 2 (suc n) (omega arith), tt)))
 
-four_small : (u r : Fraction) → zero_F ≤F u → times (whole (pos 25)) u ≤F whole (pos 16) → times (whole (pos 6)) r ≤F whole (pos 1) → times (whole (pos 4)) (times u r) ≤F whole (pos 1)
+four_small : (u r : Fraction) → zero_F ≤F u → times (whole (pos 25)) u ≤F whole (pos 16) → times (whole (pos 6)) r ≤F whole (pos 1)
+    → times (whole (pos 4)) (times u r) ≤F whole (pos 1)
 four_small u r h k l =
     le_over 149 (u ∷ r ∷ []) ((none ≼ at 0) ∷ (lit (pos 25) ⊗ at 0 ≼ lit (pos 16)) ∷ (lit (pos 6) ⊗ at 1 ≼ one) ∷ []) (lit (pos 4) ⊗ (at 0 ⊗ at 1)) one
     (natural 86 ⊞ natural 4 ⊠ known 1 ⊞ natural 100 ⊠ known 0 ⊠ known 2) refl (h, (k, (l, tt)))
 
-six_small : (u r : Fraction) → zero_F ≤F u → times (whole (pos 25)) u ≤F whole (pos 16) → times (whole (pos 6)) r ≤F whole (pos 1) → times (whole (pos 6)) (times u r) ≤F whole (pos 1)
+six_small : (u r : Fraction) → zero_F ≤F u → times (whole (pos 25)) u ≤F whole (pos 16) → times (whole (pos 6)) r ≤F whole (pos 1)
+    → times (whole (pos 6)) (times u r) ≤F whole (pos 1)
 six_small u r h k l =
     le_over 24 (u ∷ r ∷ []) ((none ≼ at 0) ∷ (lit (pos 25) ⊗ at 0 ≼ lit (pos 16)) ∷ (lit (pos 6) ⊗ at 1 ≼ one) ∷ []) (lit (pos 6) ⊗ (at 0 ⊗ at 1)) one
     (natural 9 ⊞ known 1 ⊞ natural 25 ⊠ known 0 ⊠ known 2) refl (h, (k, (l, tt)))
@@ -176,12 +182,14 @@ cosine_halving x w = halving (cosine_rest x) (times x x) (λ k. falling (cosine_
 
 cosine_firsts : (x y : Fraction) → IsUpTo 4 5 x → x ≤F y → cosine_rest x 0 ≤F cosine_rest y 0
 cosine_firsts x y w h =
-    le_by (cosine_rest x 0 ∷ cosine_rest y 0 ∷ half ∷ x ∷ y ∷ []) ((at 0 ≗ at 2 ⊗ (at 3 ⊗ at 3)) ∷ (at 1 ≗ at 2 ⊗ (at 4 ⊗ at 4)) ∷ (none ≼ at 2) ∷ (at 3 ⊗ at 3 ≼ at 4 ⊗ at 4) ∷ []) (at 0) (at 1)
+    le_by (cosine_rest x 0 ∷ cosine_rest y 0 ∷ half ∷ x ∷ y ∷ [])
+    ((at 0 ≗ at 2 ⊗ (at 3 ⊗ at 3)) ∷ (at 1 ≗ at 2 ⊗ (at 4 ⊗ at 4)) ∷ (none ≼ at 2) ∷ (at 3 ⊗ at 3 ≼ at 4 ⊗ at 4) ∷ []) (at 0) (at 1)
     (known 2 ⊠ known 3 ⊞ multiple 0 one ⊞ multiple 1 (lit (negsuc 0))) refl (cosine_first x, (cosine_first y, (half_nonneg, (squares x y w.nonneg h, tt))))
 
 cosine_lag : (x y : Fraction) → times (cosine_rest x 0) (times y y) ≤F times (times x x) (cosine_rest y 0)
 cosine_lag x y =
-    le_by (cosine_rest x 0 ∷ cosine_rest y 0 ∷ half ∷ x ∷ y ∷ []) ((at 0 ≗ at 2 ⊗ (at 3 ⊗ at 3)) ∷ (at 1 ≗ at 2 ⊗ (at 4 ⊗ at 4)) ∷ []) (at 0 ⊗ (at 4 ⊗ at 4)) ((at 3 ⊗ at 3) ⊗ at 1)
+    le_by (cosine_rest x 0 ∷ cosine_rest y 0 ∷ half ∷ x ∷ y ∷ []) ((at 0 ≗ at 2 ⊗ (at 3 ⊗ at 3)) ∷ (at 1 ≗ at 2 ⊗ (at 4 ⊗ at 4)) ∷ []) (at 0 ⊗ (at 4 ⊗ at 4))
+    ((at 3 ⊗ at 3) ⊗ at 1)
     (multiple 0 (at 4 ⊗ at 4) ⊞ multiple 1 (minus (at 3 ⊗ at 3))) refl (cosine_first x, (cosine_first y, tt))
 
 pub cosine_falling : (x y : Fraction) → IsUpTo 4 5 x → IsUpTo 4 5 y → x ≤F y → Falling (cosine_term x) (cosine_term y)
@@ -238,7 +246,8 @@ four_slow u r h k l =
     le_by (u ∷ r ∷ []) ((none ≼ at 0) ∷ (lit (pos 4) ⊗ at 0 ≼ one) ∷ (at 1 ≼ one) ∷ []) (lit (pos 4) ⊗ (at 0 ⊗ at 1)) one
     (known 1 ⊞ natural 4 ⊠ known 0 ⊠ known 2) refl (h, (k, (l, tt)))
 
-six_slow : (u r : Fraction) → zero_F ≤F u → times (whole (pos 4)) u ≤F whole (pos 1) → times (whole (pos 3)) r ≤F whole (pos 1) → times (whole (pos 6)) (times u r) ≤F whole (pos 1)
+six_slow : (u r : Fraction) → zero_F ≤F u → times (whole (pos 4)) u ≤F whole (pos 1) → times (whole (pos 3)) r ≤F whole (pos 1)
+    → times (whole (pos 6)) (times u r) ≤F whole (pos 1)
 six_slow u r h k l =
     le_over 1 (u ∷ r ∷ []) ((none ≼ at 0) ∷ (lit (pos 4) ⊗ at 0 ≼ one) ∷ (lit (pos 3) ⊗ at 1 ≼ one) ∷ []) (lit (pos 6) ⊗ (at 0 ⊗ at 1)) one
     (natural 1 ⊞ known 1 ⊞ natural 4 ⊠ known 0 ⊠ known 2) refl (h, (k, (l, tt)))
@@ -248,7 +257,12 @@ unfolding times
 slow_first = record { cross = record { le = tt } }
 
 arctan_small : (x : Fraction) → IsUpTo 1 2 x → Small (times x x) slow
-arctan_small x w = record { square = square_nonneg x w; nonneg = slow_nonneg; small = λ k. four_slow (times x x) (slow k) (square_nonneg x w) (square_half x w) (slow_small k) }
+arctan_small x w = record {
+  square = square_nonneg x w;
+  nonneg = slow_nonneg;
+  small = λ k.
+      four_slow (times x x) (slow k) (square_nonneg x w) (square_half x w) (slow_small k);
+}
 
 pub arctan_halving : (x : Fraction) → IsUpTo 1 2 x → Halving (arctan_term x)
 arctan_halving x w = halving (arctan_term x) (times x x) slow (arctan_ratios x w.nonneg) (arctan_small x w)

@@ -68,7 +68,8 @@ value_nested v w h (root x) = at_least root_of roots w.depth v.depth h.deeper (v
 value_nested v w h (arctangent x) = at_least arctangent_of arctangents w.depth v.depth h.deeper (value_proper v x) (value_nested v w h x)
 value_nested v w h (arcsine x) = at_least arcsine_of arcsines w.depth v.depth h.deeper (value_proper v x) (value_nested v w h x)
 value_nested v w h (arccosine x) = at_least arccosine_of arccosines w.depth v.depth h.deeper (value_proper v x) (value_nested v w h x)
-value_nested v w h (arctangent_of_two y x) = two_nested w.depth v.depth h.deeper (value_proper v y) (value_proper v x) (value_nested v w h y) (value_nested v w h x)
+value_nested v w h (arctangent_of_two y x) = two_nested w.depth v.depth h.deeper (value_proper v y) (value_proper v x) (value_nested v w h y)
+    (value_nested v w h x)
 value_nested v w h (remainder m x q) = difference_within (value_nested v w h x) (within_refl (exactly (whole (pos m *ℤ q))))
 
 pub values_nest : ValuesNest

@@ -19,7 +19,8 @@ none_between : (z : ℤ) → is_between (pos 1) (pos 0) z ≡ false
 none_between z = grind (arith, ints)
 
 -- a number in the range at a place lies in one of the ranges
-in_some : (ranges : List (ℤ × ℤ)) (i : ℕ) (z : ℤ) → is_between (slice_index_or ranges i (pos 1, pos 0)).0 (slice_index_or ranges i (pos 1, pos 0)).1 z ≡ true → is_in_some ranges z ≡ true
+in_some : (ranges : List (ℤ × ℤ)) (i : ℕ) (z : ℤ) → is_between (slice_index_or ranges i (pos 1, pos 0)).0 (slice_index_or ranges i (pos 1, pos 0)).1 z ≡ true
+    → is_in_some ranges z ≡ true
 in_some [] i z h = let none = none_between z in cc
 in_some (range ∷ []) zero z h = h
 in_some (range ∷ []) (suc i) z h = let none = none_between z in absurd (cc)

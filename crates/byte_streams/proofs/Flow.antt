@@ -181,7 +181,8 @@ writes_then {w = w} {f = f} {a = a} {b = b} {c = c} {p = p} {q = q} {r = Err e} 
     writes_failed refl (front_second (w a) (w b) (w c) p q h.ok k.err) h.cause.later k.cause
 
 -- a text was written up to one of its parts, of which a front is written
-pub writes_up_to : {X S T U E F : Type 0} {w : S → Option (List ℕ)} {f : S → ℕ} {a b c : S} {t : List ℕ} {e : E} {r : Result U F} (g : X → List ℕ) (xs : List X) (i : ℕ) (d : X)
+pub writes_up_to : {X S T U E F : Type 0} {w : S → Option (List ℕ)} {f : S → ℕ} {a b c : S} {t : List ℕ} {e : E} {r : Result U F} (g : X → List ℕ) (xs : List X)
+    (i : ℕ) (d : X)
     → IsErr r → i < length xs → Wrote (w a) (w b) t (flat_map g (drop i xs)) → f a ≤ f b
     → Writes {S = S} {T = T} {E = E} w f b c (g (get_or xs i d)) (Err e) → Writes w f a c t r
 writes_up_to {w = w} {f = f} {a = a} {b = b} {c = c} {t = t} g xs i d n h old later new =
@@ -191,7 +192,8 @@ writes_up_to {w = w} {f = f} {a = a} {b = b} {c = c} {t = t} g xs i d n h old la
 pub failed_first : {T E : Type 0} (r : Result T E) (a b : Option (List ℕ)) (p q : List ℕ) → AppendsFront a b p → OnErr r (AppendsFront a b (p ++ q))
 failed_first r a b p q k = at_any_err r (front_first a b p q k)
 
-pub failed_second : {T E : Type 0} (r : Result T E) (a b c : Option (List ℕ)) (p q : List ℕ) → Appends a b p → AppendsFront b c q → OnErr r (AppendsFront a c (p ++ q))
+pub failed_second : {T E : Type 0} (r : Result T E) (a b c : Option (List ℕ)) (p q : List ℕ) → Appends a b p → AppendsFront b c q
+    → OnErr r (AppendsFront a c (p ++ q))
 failed_second r a b c p q h k = at_any_err r (front_second a b c p q h k)
 
 pub failed_before : {T E : Type 0} (r : Result T E) (a : Option (List ℕ)) (t : List ℕ) → OnErr r (AppendsFront a a t)

@@ -17,7 +17,8 @@ pub fn decimal<'a, I: Integer>(buffer: &'a mut Buffer, number: I) -> &'a [u8]
 /// Writes one part after the other. At an error, which comes only where the count of the sink's faults rose, a front of
 /// them was written.
 pub fn write_parts<K: Sink>(sink: &mut K, parts: &[&[u8]]) -> Result<(), Failed>
-    ensures { Writes K.written K.faults sink.old sink.new (flat_map (λ part. part.now) parts.now) result }
+    ensures { Writes K.written K.faults sink.old sink.new (flat_map
+        (λ part. part.now) parts.now) result }
 {
     for part in parts {
         write_all(sink, *part)?;
@@ -34,7 +35,8 @@ pub fn write_two_counts<K: Sink>(
     middle: &[u8],
     second: u32,
 ) -> Result<(), Failed>
-    ensures { Writes K.written K.faults sink.old sink.new (counts_line head.now first middle.now second) result }
+    ensures { Writes K.written K.faults sink.old sink.new
+        (counts_line head.now first middle.now second) result }
 {
     let mut first_buffer = Buffer::new();
     let mut second_buffer = Buffer::new();

@@ -77,7 +77,8 @@ pub fn read_all<S: Source>(alloc: Global, source: &mut S, limit: usize) -> Resul
     ensures end { OnOk result (IsAtEnd (S.left source.new)) }
     ensures small { IfOk result (λ v. length v.items ≤ limit) }
     ensures large { IsErrOf result ReadStop.TooLarge →
-        (taken : List ℕ) × Consumes (S.left source.old) (S.left source.new) taken × (limit < length taken) }
+        (taken : List ℕ) × Consumes (S.left source.old) (S.left source.new) taken
+        × (limit < length taken) }
     ensures fault { IsErrOf result ReadStop.Fault → Rose (S.faults source.old) (S.faults source.new) }
     ensures later { S.faults source.old ≤ S.faults source.new }
 {

@@ -28,7 +28,8 @@ first_is s d =
     rw (a, b) (sym (below_is s d))
 
 -- the numerator of a sum
-sum_is : (days n : ℤ) (s t d : ℕ) → (days *ℤ pos (suc (suc t - 1))) *ℤ pos (suc (suc d - 1)) +ℤ n *ℤ pos (suc (0 * s + 0 + s)) ≡ days *ℤ pos (suc t * suc d) +ℤ n *ℤ pos (suc s)
+sum_is : (days n : ℤ) (s t d : ℕ) → (days *ℤ pos (suc (suc t - 1))) *ℤ pos (suc (suc d - 1)) +ℤ n *ℤ pos (suc (0 * s + 0 + s)) ≡ days *ℤ pos (suc t * suc d)
+    +ℤ n *ℤ pos (suc s)
 sum_is days n s t d =
     let a : suc t - 1 ≡ t = omega arith in
     let b : suc d - 1 ≡ d = omega arith in
@@ -42,13 +43,15 @@ days_as_quotient s n zero d h k = absurd (omega arith)
 days_as_quotient s n (suc t) zero h k = absurd (omega arith)
 days_as_quotient s n (suc t) (suc d) h k = ap (floor_quotient (s *ℤ n)) (over_is t d)
 
-pub spans_as_quotient : (days n : ℤ) (s t d : ℕ) → 0 < s → 0 < t → 0 < d → spans_of (ratio (pos s) t) days (ratio n d) ≡ floor_quotient (days *ℤ pos (t * d) +ℤ n *ℤ pos s) (s * d - 1)
+pub spans_as_quotient : (days n : ℤ) (s t d : ℕ) → 0 < s → 0 < t → 0 < d → spans_of (ratio (pos s) t) days (ratio n d)
+    ≡ floor_quotient (days *ℤ pos (t * d) +ℤ n *ℤ pos s) (s * d - 1)
 unfolding spans_of times plus reciprocal
 spans_as_quotient days n zero t d h k l = absurd (omega arith)
 spans_as_quotient days n (suc s) zero d h k l = absurd (omega arith)
 spans_as_quotient days n (suc s) (suc t) zero h k l = absurd (omega arith)
 spans_as_quotient days n (suc s) (suc t) (suc d) h k l =
-    ap (λ x. floor_quotient x ((0 * s + 0 + s) * (suc d - 1) + (0 * s + 0 + s) + (suc d - 1))) (sum_is days n s t d) ∙ ap (floor_quotient (days *ℤ pos (suc t * suc d) +ℤ n *ℤ pos (suc s))) (first_is s d)
+    ap (λ x. floor_quotient x ((0 * s + 0 + s) * (suc d - 1) + (0 * s + 0 + s) + (suc d - 1))) (sum_is days n s t d) ∙ ap
+    (floor_quotient (days *ℤ pos (suc t * suc d) +ℤ n *ℤ pos (suc s))) (first_is s d)
 
 pub years_are_spans : (days : ℤ) → years_of_days days ≡ spans_of (ratio (pos 365242189) 1000000) days (ratio (pos 1) 2)
 unfolding years_of_days nearest spans_of
@@ -87,7 +90,8 @@ product_lies (negsuc n) p h k =
     record { from = omega (arith, ints, many); to = omega (arith, ints) }
 
 -- the number of a count of spans lies within the quotient's ends
-pub days_lie : (n : ℤ) (s t d : ℕ) → LiesWithin (negsuc 99999999 *ℤ pos s) (pos 100000000 *ℤ pos s) n → s ≤ 1000 * t → 0 < d → LiesWithin (negsuc 99999999999 *ℤ pos (t * d)) (pos 100000000000 *ℤ pos (t * d)) n
+pub days_lie : (n : ℤ) (s t d : ℕ) → LiesWithin (negsuc 99999999 *ℤ pos s) (pos 100000000 *ℤ pos s) n → s ≤ 1000 * t → 0 < d
+    → LiesWithin (negsuc 99999999999 *ℤ pos (t * d)) (pos 100000000000 *ℤ pos (t * d)) n
 days_lie n s t zero h k l = absurd (omega arith)
 days_lie n s t (suc d) h k l =
     let more : t ≤ t * suc d = grind arith in
@@ -96,7 +100,8 @@ days_lie n s t (suc d) h k l =
     record { from = omega (arith, ints, more, low, k); to = omega (arith, ints, more, high, k) }
 
 -- the number of a sum of days and spans lies within the quotient's ends
-pub sums_lie : (n m : ℤ) (s t d : ℕ) → LiesWithin (negsuc 99999999 *ℤ pos (t * d)) (pos 100000000 *ℤ pos (t * d)) n → LiesWithin (negsuc 99999999 *ℤ pos s) (pos 100000000 *ℤ pos s) m → t ≤ s → 0 < d
+pub sums_lie : (n m : ℤ) (s t d : ℕ) → LiesWithin (negsuc 99999999 *ℤ pos (t * d)) (pos 100000000 *ℤ pos (t * d)) n
+    → LiesWithin (negsuc 99999999 *ℤ pos s) (pos 100000000 *ℤ pos s) m → t ≤ s → 0 < d
     → LiesWithin (negsuc 99999999999 *ℤ pos (s * d)) (pos 100000000000 *ℤ pos (s * d)) (n +ℤ m)
 sums_lie n m s t zero h k l o = absurd (omega arith)
 sums_lie n m s t (suc d) h k l o =

@@ -50,7 +50,8 @@ stands_beside : (es : List (Fact × ℤ)) (f : Fact) (v : ℤ) → AllStand es �
 stands_beside [] f v all h = cc
 stands_beside (e ∷ es) f v all h = step (fact_eq f e.0) refl (stands_beside es f v all.1) h
   where
-    step : (t : Bool) → fact_eq f e.0 ≡ t → (value_beside (facts_of es) (values_of es) f ≡ Some v → StandsWith f v) → (if t then Some e.1 else value_beside (facts_of es) (values_of es) f) ≡ Some v → StandsWith f v
+    step : (t : Bool) → fact_eq f e.0 ≡ t → (value_beside (facts_of es) (values_of es) f ≡ Some v → StandsWith f v)
+        → (if t then Some e.1 else value_beside (facts_of es) (values_of es) f) ≡ Some v → StandsWith f v
     step true same rest k =
         let one : f ≡ e.0 = one_fact f e.0 same in
         let value : e.1 ≡ v = cc in
@@ -76,13 +77,15 @@ paired_with table fs f v e = rw (among_paired table f fs) (step (list_any (fact_
 
 -- over listed facts that stand, the inquiry finds at each depth what it comes to over their values
 module _ {A : Type 0} (n : ℕ) (deep : 40 ≤ n) (es : List (Fact × ℤ)) (all : AllStand es) where
-  pub finds_traced : (i : Inquiry A) (seen asked : List Fact) (a : A) → trace_after (facts_of es) (values_of es) seen i ≡ traced a asked → finding_after n (paired (listed_table es) seen) i ≡ found a (paired (listed_table es) asked)
+  pub finds_traced : (i : Inquiry A) (seen asked : List Fact) (a : A) → trace_after (facts_of es) (values_of es) seen i ≡ traced a asked
+      → finding_after n (paired (listed_table es) seen) i ≡ found a (paired (listed_table es) asked)
   unfolding finding_after
   finds_traced (done b) seen asked a h = let same : b ≡ a = cc in let all_asked : seen ≡ asked = cc in rw (same, all_asked) refl
   finds_traced (ask f next) seen asked a h = step (value_beside (facts_of es) (values_of es) f) refl (λ v. finds_traced (next v) (with_fact seen f) asked a) h
     where
       step : (o : Option ℤ) → value_beside (facts_of es) (values_of es) f ≡ o
-          → ((v : ℤ) → trace_after (facts_of es) (values_of es) (with_fact seen f) (next v) ≡ traced a asked → finding_after n (paired (listed_table es) (with_fact seen f)) (next v) ≡ found a (paired (listed_table es) asked))
+          → ((v : ℤ) → trace_after (facts_of es) (values_of es) (with_fact seen f) (next v) ≡ traced a asked
+          → finding_after n (paired (listed_table es) (with_fact seen f)) (next v) ≡ found a (paired (listed_table es) asked))
           → traced_at f o (λ v. trace_after (facts_of es) (values_of es) (with_fact seen f) (next v)) ≡ traced a asked
           → finding_after n (paired (listed_table es) seen) (ask f next) ≡ found a (paired (listed_table es) asked)
       step None e rest k = cc
@@ -93,7 +96,8 @@ module _ {A : Type 0} (n : ℕ) (deep : 40 ≤ n) (es : List (Fact × ℤ)) (all
           rw (value, paired_with (listed_table es) seen f v here) (rest v k)
 
 -- a fact that isn't among others has another value than they
-paired_others : (e : Fact × ℤ) (es : List (Fact × ℤ)) (fs : List Fact) → list_any (fact_eq e.0) fs ≡ false → paired (listed_table (e ∷ es)) fs ≡ paired (listed_table es) fs
+paired_others : (e : Fact × ℤ) (es : List (Fact × ℤ)) (fs : List Fact) → list_any (fact_eq e.0) fs ≡ false → paired (listed_table (e ∷ es)) fs
+    ≡ paired (listed_table es) fs
 paired_others e es [] h = refl
 paired_others e es (f ∷ fs) h =
     let p = neither (fact_eq e.0 f) (list_any (fact_eq e.0) fs) h in
@@ -154,7 +158,8 @@ certified words text es (Ok request) None asked stand distinct h = on_trace (tra
     on_trace (traced x asked_facts) e k = on_list x asked_facts (difference 1 asked_facts (facts_of es)) refl e k
 
 -- a Yes says that what the line shows is certified
-pub yes_certified : (facts : List (Fact × ℤ)) (answers : List Answer) (words text numbers : List ℕ) → IsTrue (are_distinct (facts_of facts)) → are_of_facts (length facts) [] numbers ≡ true → AreRightAnswers facts answers
+pub yes_certified : (facts : List (Fact × ℤ)) (answers : List Answer) (words text numbers : List ℕ) → IsTrue (are_distinct (facts_of facts))
+    → are_of_facts (length facts) [] numbers ≡ true → AreRightAnswers facts answers
     → verdict_on facts answers words text numbers ≡ Yes → IsCertified words text (numbered facts numbers)
 unfolding verdict_on
 yes_certified facts answers words text numbers distinct apart right h =
@@ -164,17 +169,22 @@ yes_certified facts answers words text numbers distinct apart right h =
     h
 
 -- and so it is of each line
-pub yes_line : (facts : List (Fact × ℤ)) (answers : List Answer) (l : CertLine) → IsTrue (are_distinct (facts_of facts)) → are_of_facts (length facts) [] (listed l) ≡ true → AreRightAnswers facts answers
+pub yes_line : (facts : List (Fact × ℤ)) (answers : List Answer) (l : CertLine) → IsTrue (are_distinct (facts_of facts)) → are_of_facts (length facts) []
+    (listed l) ≡ true → AreRightAnswers facts answers
     → verdict_of facts answers l ≡ Yes → IsCertifiedLine facts l
-yes_line facts answers (line.Shown echo result numbers) distinct apart right h = yes_certified facts answers (words_of_echo echo) result numbers distinct apart right h
-yes_line facts answers (line.TooFar echo day numbers) distinct apart right h = yes_certified facts answers (words_of_echo echo) (too_far_text day) numbers distinct apart right h
-yes_line facts answers (line.NoDate echo back numbers) distinct apart right h = yes_certified facts answers (words_of_echo echo) (no_date_text back) numbers distinct apart right h
+yes_line facts answers (line.Shown echo result numbers) distinct apart right h = yes_certified facts answers (words_of_echo echo) result numbers distinct apart
+    right h
+yes_line facts answers (line.TooFar echo day numbers) distinct apart right h = yes_certified facts answers (words_of_echo echo) (too_far_text day) numbers
+    distinct apart right h
+yes_line facts answers (line.NoDate echo back numbers) distinct apart right h = yes_certified facts answers (words_of_echo echo) (no_date_text back) numbers
+    distinct apart right h
 yes_line facts answers (line.Refused rule) distinct apart right h = cc
 yes_line facts answers (line.Undecided fact at) distinct apart right h = cc
 yes_line facts answers (line.Void fact site) distinct apart right h = cc
 
 -- an answer that is the verdict of a line certifies it where it is Yes
-pub yes_answer : {E : Type 0} (facts : List (Fact × ℤ)) (answers : List Answer) (l : CertLine) (result : Result Verdict E) → IsTrue (are_distinct (facts_of facts)) → are_of_facts (length facts) [] (listed l) ≡ true → AreRightAnswers facts answers
+pub yes_answer : {E : Type 0} (facts : List (Fact × ℤ)) (answers : List Answer) (l : CertLine) (result : Result Verdict E)
+    → IsTrue (are_distinct (facts_of facts)) → are_of_facts (length facts) [] (listed l) ≡ true → AreRightAnswers facts answers
     → IfOk result (λ v. v ≡ verdict_of facts answers l) → IfOk result (λ v. v ≡ Yes → IsCertifiedLine facts l)
 yes_answer facts answers l (Ok v) distinct apart right h = λ yes_is. yes_line facts answers l distinct apart right (sym h ∙ yes_is)
 yes_answer facts answers l (Err e) distinct apart right h = tt

@@ -52,7 +52,8 @@ among_more : (g : Fact) (fs : List Fact) (f : Fact) → list_any (fact_eq g) fs 
 among_more g [] f h = cc
 among_more g (x ∷ fs) f h = step (fact_eq g x) (among_more g fs f) h
   where
-    step : (t : Bool) → (list_any (fact_eq g) fs ≡ true → list_any (fact_eq g) (fs ++ f ∷ []) ≡ true) → (t || list_any (fact_eq g) fs) ≡ true → (t || list_any (fact_eq g) (fs ++ f ∷ [])) ≡ true
+    step : (t : Bool) → (list_any (fact_eq g) fs ≡ true → list_any (fact_eq g) (fs ++ f ∷ []) ≡ true) → (t || list_any (fact_eq g) fs) ≡ true
+        → (t || list_any (fact_eq g) (fs ++ f ∷ [])) ≡ true
     step true rest k = refl
     step false rest k = rest k
 
@@ -79,43 +80,51 @@ itself_with f seen = step (list_any (fact_eq f) seen) refl
     step false e = among_last seen f
 
 -- one of facts that stand has a value that stands
-has_value : (es : List (Fact × ℤ)) (f : Fact) → AllStand es → list_any (fact_eq f) (facts_of es) ≡ true → (w : ℤ) × (value_beside (facts_of es) (values_of es) f ≡ Some w) × StandsWith f w
+has_value : (es : List (Fact × ℤ)) (f : Fact) → AllStand es → list_any (fact_eq f) (facts_of es) ≡ true → (w : ℤ)
+    × (value_beside (facts_of es) (values_of es) f ≡ Some w) × StandsWith f w
 has_value [] f all h = cc
 has_value (e ∷ es) f all h = step (fact_eq f e.0) refl (has_value es f all.1) h
   where
-    step : (t : Bool) → fact_eq f e.0 ≡ t → (list_any (fact_eq f) (facts_of es) ≡ true → (w : ℤ) × (value_beside (facts_of es) (values_of es) f ≡ Some w) × StandsWith f w) → (t || list_any (fact_eq f) (facts_of es)) ≡ true
+    step : (t : Bool) → fact_eq f e.0 ≡ t → (list_any (fact_eq f) (facts_of es) ≡ true → (w : ℤ) × (value_beside (facts_of es) (values_of es) f ≡ Some w)
+        × StandsWith f w) → (t || list_any (fact_eq f) (facts_of es)) ≡ true
         → (w : ℤ) × ((if t then Some e.1 else value_beside (facts_of es) (values_of es) f) ≡ Some w) × StandsWith f w
     step true same rest k = let one : f ≡ e.0 = one_fact f e.0 same in (e.1, refl, rw one all.0)
     step false same rest k = rest k
 
 module _ {A : Type 0} (n : ℕ) where
   -- what was asked stays asked
-  stays : (i : Inquiry A) (seen es : List (Fact × ℤ)) (x : A) (g : Fact) → finding_after n seen i ≡ found x es → list_any (fact_eq g) (facts_of seen) ≡ true → list_any (fact_eq g) (facts_of es) ≡ true
+  stays : (i : Inquiry A) (seen es : List (Fact × ℤ)) (x : A) (g : Fact) → finding_after n seen i ≡ found x es → list_any (fact_eq g) (facts_of seen) ≡ true
+      → list_any (fact_eq g) (facts_of es) ≡ true
   unfolding finding_after
   stays (done a) seen es x g h k = let same : seen ≡ es = cc in rw same at k
   stays (ask f next) seen es x g h k = step (outcome (run_of n f)) (λ v. stays (next v) (with_entry seen f v) es x g) h
     where
-      step : (o : Outcome ℤ) → ((v : ℤ) → finding_after n (with_entry seen f v) (next v) ≡ found x es → list_any (fact_eq g) (facts_of (with_entry seen f v)) ≡ true → list_any (fact_eq g) (facts_of es) ≡ true)
+      step : (o : Outcome ℤ) → ((v : ℤ) → finding_after n (with_entry seen f v) (next v) ≡ found x es → list_any (fact_eq g) (facts_of (with_entry seen f v))
+          ≡ true → list_any (fact_eq g) (facts_of es) ≡ true)
           → found_at f o (λ v. finding_after n (with_entry seen f v) (next v)) ≡ found x es → list_any (fact_eq g) (facts_of es) ≡ true
       step (valued v) rest l = rest v l (rw (facts_with seen f v) (among_with g f (facts_of seen) k))
       step (void_at s) rest l = cc
       step (open_at s) rest l = cc
 
   -- what is found at a depth, over facts that stand, is what the inquiry comes to over their values
-  found_traced : (i : Inquiry A) (seen es : List (Fact × ℤ)) (x : A) → 40 ≤ n → AllStand es → finding_after n seen i ≡ found x es → trace_after (facts_of es) (values_of es) (facts_of seen) i ≡ traced x (facts_of es)
+  found_traced : (i : Inquiry A) (seen es : List (Fact × ℤ)) (x : A) → 40 ≤ n → AllStand es → finding_after n seen i ≡ found x es
+      → trace_after (facts_of es) (values_of es) (facts_of seen) i ≡ traced x (facts_of es)
   unfolding finding_after
   found_traced (done a) seen es x deep all h = let same : a ≡ x = cc in let asked : seen ≡ es = cc in rw (same, asked) refl
   found_traced (ask f next) seen es x deep all h = step (outcome (run_of n f)) refl (λ v. found_traced (next v) (with_entry seen f v) es x deep all) h
     where
-      step : (o : Outcome ℤ) → outcome (run_of n f) ≡ o → ((v : ℤ) → finding_after n (with_entry seen f v) (next v) ≡ found x es → trace_after (facts_of es) (values_of es) (facts_of (with_entry seen f v)) (next v) ≡ traced x (facts_of es))
-          → found_at f o (λ v. finding_after n (with_entry seen f v) (next v)) ≡ found x es → trace_after (facts_of es) (values_of es) (facts_of seen) (ask f next) ≡ traced x (facts_of es)
+      step : (o : Outcome ℤ) → outcome (run_of n f) ≡ o → ((v : ℤ) → finding_after n (with_entry seen f v) (next v) ≡ found x es
+          → trace_after (facts_of es) (values_of es) (facts_of (with_entry seen f v)) (next v) ≡ traced x (facts_of es))
+          → found_at f o (λ v. finding_after n (with_entry seen f v) (next v)) ≡ found x es
+          → trace_after (facts_of es) (values_of es) (facts_of seen) (ask f next) ≡ traced x (facts_of es)
       step (valued v) e rest l =
           let asked : list_any (fact_eq f) (facts_of (with_entry seen f v)) ≡ true = rw (facts_with seen f v) (itself_with f (facts_of seen)) in
           let kept = has_value es f all (stays (next v) (with_entry seen f v) es x f l asked) in
           let true_value : outcome (run_of n f) ≡ valued kept.0 = kept.2.is_true.at_each_depth n deep in
           let same : kept.0 ≡ v = cc in
           let value : value_beside (facts_of es) (values_of es) f ≡ Some v = rw same at kept.1 in
-          let traced_on : trace_after (facts_of es) (values_of es) (with_fact (facts_of seen) f) (next v) ≡ traced x (facts_of es) = rw (facts_with seen f v) at (rest v l) in
+          let traced_on : trace_after (facts_of es) (values_of es) (with_fact (facts_of seen) f) (next v)
+          ≡ traced x (facts_of es) = rw (facts_with seen f v) at (rest v l) in
           rw value traced_on
       step (void_at s) e rest l = cc
       step (open_at s) e rest l = cc
@@ -134,11 +143,14 @@ no_reason n e (answer.Void s) right stands clear =
     let b : outcome (run_of 40 e.0) ≡ void_at s = right.at_each_depth 40 (omega arith) in
     cc
 
-no_reasons : (es : List (Fact × ℤ)) (answers : List Answer) (ns : List ℕ) → AreRightAnswers es answers → AllStand (numbered es ns) → AreNearNowhere (numbered es ns) → first_unanswered es answers ns ≡ None
+no_reasons : (es : List (Fact × ℤ)) (answers : List Answer) (ns : List ℕ) → AreRightAnswers es answers → AllStand (numbered es ns)
+    → AreNearNowhere (numbered es ns) → first_unanswered es answers ns ≡ None
 no_reasons es answers [] right all clear = refl
-no_reasons es answers (n ∷ ns) right all clear = step (slice_get es (n - 1)) (slice_get answers (n - 1)) (right_beside es answers (n - 1) right) (no_reasons es answers ns right) all clear
+no_reasons es answers (n ∷ ns) right all clear = step (slice_get es (n - 1)) (slice_get answers (n - 1)) (right_beside es answers (n - 1) right)
+    (no_reasons es answers ns right) all clear
   where
-    step : (e : Option (Fact × ℤ)) (a : Option Answer) → IsRightBeside e a → (AllStand (numbered es ns) → AreNearNowhere (numbered es ns) → first_unanswered es answers ns ≡ None)
+    step : (e : Option (Fact × ℤ)) (a : Option Answer) → IsRightBeside e a
+        → (AllStand (numbered es ns) → AreNearNowhere (numbered es ns) → first_unanswered es answers ns ≡ None)
         → AllStand (onto e (numbered es ns)) → AreNearNowhere (onto e (numbered es ns)) → or_else (unanswered n e a) (first_unanswered es answers ns) ≡ None
     step None a beside rest all clear = rest all clear
     step (Some e) None beside rest all clear = absurd beside
@@ -163,17 +175,23 @@ yes_on_row (Ok request) why es x text right stand none shows =
     let result = found_traced 40 (rule_of WRITTEN request) [] es x (omega arith) stand (right.at_each_depth 40 (omega arith)) in
     rw (none, result, no_difference 1 (facts_of es), shows, same_words (result_text x)) refl
 
-yes_on : (facts : List (Fact × ℤ)) (answers : List Answer) (words text numbers : List ℕ) → AreRightAnswers facts answers → IsCertified words text (numbered facts numbers) → AreNearNowhere (numbered facts numbers) → verdict_on facts answers words text numbers ≡ Yes
+yes_on : (facts : List (Fact × ℤ)) (answers : List Answer) (words text numbers : List ℕ) → AreRightAnswers facts answers
+    → IsCertified words text (numbered facts numbers) → AreNearNowhere (numbered facts numbers) → verdict_on facts answers words text numbers ≡ Yes
 unfolding verdict_on
 yes_on facts answers words text numbers right certified clear =
-    yes_on_row (request_of WRITTEN words) (first_unanswered facts answers numbers) (numbered facts numbers) certified.found text certified.is_right certified.stand
+    yes_on_row (request_of WRITTEN words) (first_unanswered facts answers numbers) (numbered facts numbers) certified.found text certified.is_right
+    certified.stand
     (no_reasons facts answers numbers right certified.stand clear) certified.shows
 
 -- a line that is certified and rests on facts that are near nowhere gets a Yes
-pub yes_to_certified : (facts : List (Fact × ℤ)) (answers : List Answer) (l : CertLine) → AreRightAnswers facts answers → IsCertifiedLine facts l → AreNearNowhere (numbered facts (listed l)) → verdict_of facts answers l ≡ Yes
-yes_to_certified facts answers (line.Shown echo result numbers) right certified clear = yes_on facts answers (words_of_echo echo) result numbers right certified clear
-yes_to_certified facts answers (line.TooFar echo day numbers) right certified clear = yes_on facts answers (words_of_echo echo) (too_far_text day) numbers right certified clear
-yes_to_certified facts answers (line.NoDate echo back numbers) right certified clear = yes_on facts answers (words_of_echo echo) (no_date_text back) numbers right certified clear
+pub yes_to_certified : (facts : List (Fact × ℤ)) (answers : List Answer) (l : CertLine) → AreRightAnswers facts answers → IsCertifiedLine facts l
+    → AreNearNowhere (numbered facts (listed l)) → verdict_of facts answers l ≡ Yes
+yes_to_certified facts answers (line.Shown echo result numbers) right certified clear = yes_on facts answers (words_of_echo echo) result numbers right certified
+    clear
+yes_to_certified facts answers (line.TooFar echo day numbers) right certified clear = yes_on facts answers (words_of_echo echo) (too_far_text day) numbers right
+    certified clear
+yes_to_certified facts answers (line.NoDate echo back numbers) right certified clear = yes_on facts answers (words_of_echo echo) (no_date_text back) numbers
+    right certified clear
 yes_to_certified facts answers (line.Refused rule) right certified clear = absurd certified
 yes_to_certified facts answers (line.Undecided fact at) right certified clear = absurd certified
 yes_to_certified facts answers (line.Void fact site) right certified clear = absurd certified

@@ -28,7 +28,8 @@ nothing_left (x ∷ xs) zero h = cc
 nothing_left (x ∷ xs) (suc i) h = nothing_left xs i h
 
 -- a fact more is the same
-pub same_on : (asked listed : List Fact) (i : ℕ) (d : Fact) → i < length listed → is_fact_at (slice_get asked i) (get_or listed i d) ≡ true → IsSameTo i asked listed → IsSameTo (i + 1) asked listed
+pub same_on : (asked listed : List Fact) (i : ℕ) (d : Fact) → i < length listed → is_fact_at (slice_get asked i) (get_or listed i d) ≡ true
+    → IsSameTo i asked listed → IsSameTo (i + 1) asked listed
 same_on asked listed i d h at so_far = step (slice_get asked i) refl at
   where
     step : (o : Option Fact) → slice_get asked i ≡ o → is_fact_at o (get_or listed i d) ≡ true → IsSameTo (i + 1) asked listed
@@ -37,7 +38,8 @@ same_on asked listed i d h at so_far = step (slice_get asked i) refl at
         let left = left_from asked i f e in
         let one : f ≡ get_or listed i d = one_fact f (get_or listed i d) k in
         let parts : take i listed ++ (f ∷ drop (i + 1) asked) ≡ asked = rw left at so_far.same in
-        let next : difference (1 + i) (f ∷ drop (i + 1) asked) (get_or listed i d ∷ drop (i + 1) listed) ≡ difference 1 asked listed = rw (left, drop_more listed i d h) at so_far.later in
+        let next : difference (1 + i) (f ∷ drop (i + 1) asked) (get_or listed i d ∷ drop (i + 1) listed)
+        ≡ difference 1 asked listed = rw (left, drop_more listed i d h) at so_far.later in
         let n : 1 + i + 1 ≡ 1 + (i + 1) = omega arith in
         record {
           same = rw (take_more listed i d h, append_assoc, ← one) parts;
@@ -45,17 +47,20 @@ same_on asked listed i d h at so_far = step (slice_get asked i) refl at
         }
 
 -- the next is another, or there is none
-pub differs_at : (asked listed : List Fact) (i : ℕ) (d : Fact) → i < length listed → is_fact_at (slice_get asked i) (get_or listed i d) ≡ false → IsSameTo i asked listed → Some (i + 1) ≡ difference 1 asked listed
+pub differs_at : (asked listed : List Fact) (i : ℕ) (d : Fact) → i < length listed → is_fact_at (slice_get asked i) (get_or listed i d) ≡ false
+    → IsSameTo i asked listed → Some (i + 1) ≡ difference 1 asked listed
 differs_at asked listed i d h at so_far = step (slice_get asked i) refl at
   where
     step : (o : Option Fact) → slice_get asked i ≡ o → is_fact_at o (get_or listed i d) ≡ false → Some (i + 1) ≡ difference 1 asked listed
     step None e k =
         let n : i + 1 ≡ 1 + i = omega arith in
-        let next : difference (1 + i) [] (get_or listed i d ∷ drop (i + 1) listed) ≡ difference 1 asked listed = rw (nothing_left asked i e, drop_more listed i d h) at so_far.later in
+        let next : difference (1 + i) [] (get_or listed i d ∷ drop (i + 1) listed)
+        ≡ difference 1 asked listed = rw (nothing_left asked i e, drop_more listed i d h) at so_far.later in
         rw n next
     step (Some f) e k =
         let n : i + 1 ≡ 1 + i = omega arith in
-        let next : difference (1 + i) (f ∷ drop (i + 1) asked) (get_or listed i d ∷ drop (i + 1) listed) ≡ difference 1 asked listed = rw (left_from asked i f e, drop_more listed i d h) at so_far.later in
+        let next : difference (1 + i) (f ∷ drop (i + 1) asked) (get_or listed i d ∷ drop (i + 1) listed)
+        ≡ difference 1 asked listed = rw (left_from asked i f e, drop_more listed i d h) at so_far.later in
         rw n (rw k at next)
 
 -- all are the same, and there are no more
@@ -80,6 +85,7 @@ no_difference place [] (y ∷ ys) h = cc
 no_difference place (x ∷ xs) [] h = cc
 no_difference place (x ∷ xs) (y ∷ ys) h = step (fact_eq x y) refl (no_difference (place + 1) xs ys) h
   where
-    step : (t : Bool) → fact_eq x y ≡ t → (difference (place + 1) xs ys ≡ None → xs ≡ ys) → (if t then difference (place + 1) xs ys else Some place) ≡ None → x ∷ xs ≡ y ∷ ys
+    step : (t : Bool) → fact_eq x y ≡ t → (difference (place + 1) xs ys ≡ None → xs ≡ ys) → (if t then difference (place + 1) xs ys else Some place) ≡ None
+        → x ∷ xs ≡ y ∷ ys
     step true e rest k = let one : x ≡ y = one_fact x y e in let others : xs ≡ ys = rest k in cc
     step false e rest k = cc

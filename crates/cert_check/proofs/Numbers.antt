@@ -33,7 +33,8 @@ among_more : (x : ℕ) (seen : List ℕ) (n : ℕ) → list_any (nat_eq x) seen 
 among_more x [] n h = cc
 among_more x (s ∷ seen) n h = step (nat_eq x s) (among_more x seen n) h
   where
-    step : (t : Bool) → (list_any (nat_eq x) seen ≡ true → list_any (nat_eq x) (seen ++ n ∷ []) ≡ true) → (t || list_any (nat_eq x) seen) ≡ true → (t || list_any (nat_eq x) (seen ++ n ∷ [])) ≡ true
+    step : (t : Bool) → (list_any (nat_eq x) seen ≡ true → list_any (nat_eq x) (seen ++ n ∷ []) ≡ true) → (t || list_any (nat_eq x) seen) ≡ true
+        → (t || list_any (nat_eq x) (seen ++ n ∷ [])) ≡ true
     step true rest h = refl
     step false rest h = rest h
 

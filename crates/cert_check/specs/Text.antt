@@ -25,11 +25,13 @@ form_text number rule = concat (codes "no " ∷ decimal number ∷ codes " form 
 
 -- no N value F LISTED FOUND
 unfoldable pub value_text : ℕ → ℕ → ℤ → ℤ → List ℕ
-value_text number fact listed found = concat (codes "no " ∷ decimal number ∷ codes " value " ∷ decimal fact ∷ codes " " ∷ signed_decimal listed ∷ codes " " ∷ signed_decimal found ∷ codes "\n" ∷ [])
+value_text number fact listed found = concat (codes "no " ∷ decimal number ∷ codes " value " ∷ decimal fact ∷ codes " " ∷ signed_decimal listed ∷ codes " " ∷
+    signed_decimal found ∷ codes "\n" ∷ [])
 
 -- no N missing KIND PLACE DAY
 unfoldable pub missing_text : ℕ → Fact → List ℕ
-missing_text number f = concat (codes "no " ∷ decimal number ∷ codes " missing " ∷ kind_name f.kind ∷ codes " " ∷ place_name f.place ∷ codes " " ∷ signed_decimal f.day ∷ codes "\n" ∷ [])
+missing_text number f = concat (codes "no " ∷ decimal number ∷ codes " missing " ∷ kind_name f.kind ∷ codes " " ∷ place_name f.place ∷ codes " " ∷
+    signed_decimal f.day ∷ codes "\n" ∷ [])
 
 -- no N list I
 unfoldable pub list_text : ℕ → ℕ → List ℕ

@@ -17,9 +17,11 @@ longer [] x = refl
 longer (y ∷ xs) x = let e = longer xs x in omega (arith, e)
 
 -- among facts with one more
-among_more : (f fact : Fact) (value : ℤ) (facts : List (Fact × ℤ)) → list_any (fact_eq f) (map (λ e. e.0) (facts ++ (fact, value) ∷ [])) ≡ (fact_eq f fact || list_any (fact_eq f) (map (λ e. e.0) facts))
+among_more : (f fact : Fact) (value : ℤ) (facts : List (Fact × ℤ)) → list_any (fact_eq f) (map (λ e. e.0) (facts ++ (fact, value) ∷ []))
+    ≡ (fact_eq f fact || list_any (fact_eq f) (map (λ e. e.0) facts))
 among_more f fact value [] = refl
-among_more f fact value (e ∷ es) = step (fact_eq f e.0) (fact_eq f fact) (list_any (fact_eq f) (map (λ e. e.0) (es ++ (fact, value) ∷ []))) (list_any (fact_eq f) (map (λ e. e.0) es)) (among_more f fact value es)
+among_more f fact value (e ∷ es) = step (fact_eq f e.0) (fact_eq f fact) (list_any (fact_eq f) (map (λ e. e.0) (es ++ (fact, value) ∷ [])))
+    (list_any (fact_eq f) (map (λ e. e.0) es)) (among_more f fact value es)
   where
     step : (a b c d : Bool) → c ≡ (b || d) → (a || c) ≡ (b || (a || d))
     step true true c d h = refl
@@ -41,7 +43,8 @@ below_more line marks some below i h = by (i == length marks) refl
         rw (get_or_append_left marks (0 ∷ []) 0 i within) (below i within)
 
 pub agrees_with_fact : (facts : List (Fact × ℤ)) (lines : List CertLine) (seen more : List (BTreeSet ℤ)) (marks : List ℕ) (fact : Fact) (value : ℤ)
-    → Agrees (record { facts = facts; lines = lines }) seen marks → HasMore seen fact more → Agrees (record { facts = facts ++ (fact, value) ∷ []; lines = lines }) more (marks ++ 0 ∷ [])
+    → Agrees (record { facts = facts; lines = lines }) seen marks → HasMore seen fact more
+    → Agrees (record { facts = facts ++ (fact, value) ∷ []; lines = lines }) more (marks ++ 0 ∷ [])
 agrees_with_fact facts lines seen more marks fact value agrees new = record {
   same = λ f. rw (among_more f fact value facts, ← agrees.same f) (new f);
   one_each = rw (longer marks 0, longer facts (fact, value), agrees.one_each) refl;

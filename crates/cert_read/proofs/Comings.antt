@@ -24,7 +24,8 @@ unfolding form_of
 row_form w ws form h k f = rw (spaced_well w ws h k, words_read w ws h k) f
 
 -- the reading goes on with what a row of this form leads to
-pub row_taken : (number : ℕ) (before : CertFile) (w : List ℕ) (ws : List (List ℕ)) (rest : List ℕ) (form : Form) → IsWord w → AreWords ws → form_in (w ∷ ws) ≡ Some form → broken_by before false form ≡ None
+pub row_taken : (number : ℕ) (before : CertFile) (w : List ℕ) (ws : List (List ℕ)) (rest : List ℕ) (form : Form) → IsWord w → AreWords ws → form_in (w ∷ ws)
+    ≡ Some form → broken_by before false form ≡ None
     → reading_from number before false (lines_of (w ++ spaced_then ws rest)) ≡ reading_from (number + 1) (with_form before form) (is_end form) (lines_of rest)
 row_taken number before w ws rest form h k f b = rw (row_read w ws rest h k) (rw (row_form w ws form h k f) (rw b refl))
 
@@ -42,7 +43,8 @@ pub comes_none : (a : CertFile) (r : List ℕ) → Comes a r a r
 comes_none a r = record { next = λ n. n; same = λ n. refl }
 
 -- a row that isn't the end line
-pub row_comes : (before : CertFile) (w : List ℕ) (ws : List (List ℕ)) (rest : List ℕ) (form : Form) → IsWord w → AreWords ws → form_in (w ∷ ws) ≡ Some form → broken_by before false form ≡ None → is_end form ≡ false
+pub row_comes : (before : CertFile) (w : List ℕ) (ws : List (List ℕ)) (rest : List ℕ) (form : Form) → IsWord w → AreWords ws → form_in (w ∷ ws) ≡ Some form
+    → broken_by before false form ≡ None → is_end form ≡ false
     → Comes before (w ++ spaced_then ws rest) (with_form before form) rest
 row_comes before w ws rest form h k f b e = record { next = λ n. n + 1; same = λ n. rw e at (row_taken n before w ws rest form h k f b) }
 
@@ -60,15 +62,18 @@ fact_comes facts lines n f v rest h number named value new =
     (text_word (codes "fact") refl) (fact_row_words n f v h named value) (fact_row_form n f v h named value) (rw (number, new) refl) refl)
 
 -- new facts
-pub facts_come : (facts es : List (Fact × ℤ)) (lines : List CertLine) (number : ℕ) (rest : List ℕ) → length facts + length es ≤ 2 ^ 32 - 1 → are_new facts number es ≡ true
+pub facts_come : (facts es : List (Fact × ℤ)) (lines : List CertLine) (number : ℕ) (rest : List ℕ) → length facts + length es ≤ 2 ^ 32 - 1
+    → are_new facts number es ≡ true
     → Comes (state facts lines) (fact_texts number es ++ rest) (state (facts ++ es) lines) rest
 facts_come facts [] lines number rest h k = rw (append-nil facts) (comes_none (state facts lines) rest)
 facts_come facts (e ∷ es) lines number rest h k =
-    let all = both ((number == length facts + 1) && is_named_well e.0 && is_value e.1 && is_new facts (Some e.0)) (are_new (facts ++ e ∷ []) (number + 1) es) k in
+    let all = both ((number == length facts + 1) && is_named_well e.0 && is_value e.1 && is_new facts (Some e.0)) (are_new (facts ++ e ∷ []) (number + 1) es)
+    k in
     let one = four (number == length facts + 1) (is_named_well e.0) (is_value e.1) (is_new facts (Some e.0)) all.0 in
     let fits : number ≤ 2 ^ 32 - 1 = grind (arith, nat_tests) in
     let longer : length (facts ++ e ∷ []) + length es ≤ 2 ^ 32 - 1 = omega (arith, length-append facts (e ∷ [])) in
     let others = facts_come (facts ++ e ∷ []) es lines (number + 1) rest longer all.1 in
-    rw (append_assoc (fact_text number e.0 e.1) (fact_texts (number + 1) es) rest) (comes_on (state facts lines) (state (facts ++ e ∷ []) lines) (state (facts ++ e ∷ es) lines)
+    rw (append_assoc (fact_text number e.0 e.1) (fact_texts (number + 1) es) rest)
+    (comes_on (state facts lines) (state (facts ++ e ∷ []) lines) (state (facts ++ e ∷ es) lines)
     (fact_text number e.0 e.1 ++ (fact_texts (number + 1) es ++ rest)) (fact_texts (number + 1) es ++ rest) rest
     (fact_comes facts lines number e.0 e.1 (fact_texts (number + 1) es ++ rest) fits one.0 one.1 one.2 one.3) (rw (append_assoc facts (e ∷ []) es) at others))

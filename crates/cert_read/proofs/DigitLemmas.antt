@@ -25,6 +25,7 @@ over_digit g n bs i h k = rw (drop_more bs i 0 h) (step (nat_lt 47 b && nat_lt b
     b : ℕ
     b = get_or bs i 0
 
-    step : (t : Bool) → at_most g (value_from (10 * n + (b - 48)) (drop (i + 1) bs)) ≡ None → at_most g (if t then value_from (10 * n + (b - 48)) (drop (i + 1) bs) else None) ≡ None
+    step : (t : Bool) → at_most g (value_from (10 * n + (b - 48)) (drop (i + 1) bs)) ≡ None
+        → at_most g (if t then value_from (10 * n + (b - 48)) (drop (i + 1) bs) else None) ≡ None
     step true rest = rest
     step false rest = refl

@@ -19,7 +19,8 @@ use Rattle.cert_read.proofs.Comings.{Comes, row_comes, state}
 
 -- a line of this form
 form_comes : (facts : List (Fact × ℤ)) (lines : List CertLine) (n : ℕ) (line : CertLine) (ws : List (List ℕ)) (rest : List ℕ)
-    → (n == length lines + 1) ≡ true → are_of_facts (length facts) [] (listed line) ≡ true → AreWords ws → form_in (codes "line" ∷ ws) ≡ Some (forms.Line n line)
+    → (n == length lines + 1) ≡ true → are_of_facts (length facts) [] (listed line) ≡ true → AreWords ws → form_in (codes "line" ∷ ws)
+    ≡ Some (forms.Line n line)
     → Comes (state facts lines) (codes "line" ++ spaced_then ws rest) (state facts (lines ++ line ∷ [])) rest
 unfolding broken_by with_form
 form_comes facts lines n line ws rest number lists words form =
@@ -33,17 +34,23 @@ unfolding broken_by with_form
 line_comes facts lines n (Shown echo result ns) rest h k number well lists =
     let b = both (are_echo_words echo) (is_text_word result) well in
     rw (shown_is_row n echo result ns rest) (form_comes facts lines n (Shown echo result ns) (listed_row n echo (result ∷ []) ns) rest number lists
-    (shown_row_words n echo result ns h b.0 b.1 (numbers_words (length facts) [] ns k lists)) (shown_row_form n echo result ns h (counters_read (length facts) [] ns k lists)))
+    (shown_row_words n echo result ns h b.0 b.1 (numbers_words (length facts) [] ns k lists))
+    (shown_row_form n echo result ns h (counters_read (length facts) [] ns k lists)))
 line_comes facts lines n (TooFar echo day ns) rest h k number well lists =
     let b = both (are_echo_words echo) (is_day day) well in
-    rw (too_far_is_row n echo day ns rest) (form_comes facts lines n (TooFar echo day ns) (listed_row n echo (codes "refused" ∷ codes "4" ∷ signed_decimal day ∷ []) ns) rest number lists
-    (too_far_row_words n echo day ns h b.0 b.1 (numbers_words (length facts) [] ns k lists)) (too_far_row_form n echo day ns h b.1 (counters_read (length facts) [] ns k lists)))
+    rw (too_far_is_row n echo day ns rest) (form_comes facts lines n (TooFar echo day ns)
+    (listed_row n echo (codes "refused" ∷ codes "4" ∷ signed_decimal day ∷ []) ns) rest number lists
+    (too_far_row_words n echo day ns h b.0 b.1 (numbers_words (length facts) [] ns k lists))
+    (too_far_row_form n echo day ns h b.1 (counters_read (length facts) [] ns k lists)))
 line_comes facts lines n (NoDate echo back ns) rest h k number well lists =
     let b = both (are_echo_words echo) (is_text_word back) well in
-    rw (no_date_is_row n echo back ns rest) (form_comes facts lines n (NoDate echo back ns) (listed_row n echo (codes "refused" ∷ codes "5" ∷ back ∷ []) ns) rest number lists
-    (no_date_row_words n echo back ns h b.0 b.1 (numbers_words (length facts) [] ns k lists)) (no_date_row_form n echo back ns h (counters_read (length facts) [] ns k lists)))
+    rw (no_date_is_row n echo back ns rest) (form_comes facts lines n (NoDate echo back ns) (listed_row n echo (codes "refused" ∷ codes "5" ∷ back ∷ []) ns)
+    rest number lists
+    (no_date_row_words n echo back ns h b.0 b.1 (numbers_words (length facts) [] ns k lists))
+    (no_date_row_form n echo back ns h (counters_read (length facts) [] ns k lists)))
 line_comes facts lines n (Refused rule) rest h k number well lists =
-    rw (refused_is_row n rule rest) (form_comes facts lines n (Refused rule) (refused_row n rule) rest number lists (refused_row_words n rule h well) (refused_row_form n rule h well))
+    rw (refused_is_row n rule rest) (form_comes facts lines n (Refused rule) (refused_row n rule) rest number lists (refused_row_words n rule h well)
+    (refused_row_form n rule h well))
 line_comes facts lines n (Undecided fact at) rest h k number well lists =
     let b = both (is_named_well fact) (is_open_test at) well in
     rw (undecided_is_row n fact at rest) (row_comes (state facts lines) (codes "line") (undecided_row n fact at) rest (forms.Undecided n (Some fact) at)

@@ -39,7 +39,8 @@ unfolding found_at shown_at key_at
 shown_found result ws = refl
 
 -- refused 4 DAY facts
-too_far_found : (day : ℤ) (ws : List (List ℕ)) → is_day day ≡ true → found_at (codes "refused" ∷ codes "4" ∷ signed_decimal day ∷ codes "facts" ∷ ws) ≡ Some (found.TooFar day, ws)
+too_far_found : (day : ℤ) (ws : List (List ℕ)) → is_day day ≡ true → found_at (codes "refused" ∷ codes "4" ∷ signed_decimal day ∷ codes "facts" ∷ ws)
+    ≡ Some (found.TooFar day, ws)
 unfolding found_at shown_at too_far_at key_at
 too_far_found day ws h = rw (day_here day (codes "facts" ∷ ws) h) refl
 
@@ -49,7 +50,8 @@ unfolding found_at shown_at too_far_at no_date_at key_at
 no_date_found back ws = refl
 
 -- line N FROM DATE TO RESULT facts A B ..
-pub shown_row_form : (n : ℕ) (echo : Echo) (result ns : List ℕ) → n ≤ 2 ^ 32 - 1 → counters_of (map decimal ns) ≡ Some ns → form_in (codes "line" ∷ listed_row n echo (result ∷ []) ns) ≡ Some (forms.Line n (Shown echo result ns))
+pub shown_row_form : (n : ℕ) (echo : Echo) (result ns : List ℕ) → n ≤ 2 ^ 32 - 1 → counters_of (map decimal ns) ≡ Some ns
+    → form_in (codes "line" ∷ listed_row n echo (result ∷ []) ns) ≡ Some (forms.Line n (Shown echo result ns))
 unfolding line_form body_form
 shown_row_form n echo result ns h k =
     let ws : List (List ℕ) = map decimal ns in

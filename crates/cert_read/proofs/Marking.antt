@@ -15,16 +15,19 @@ none_listed marks line below n low high =
     grind (arith, nat_tests, b)
 
 -- the number of a fact that isn't among those listed is that of one that isn't marked
-pub unlisted_is : (marks : List ℕ) (line : ℕ) (seen : List ℕ) (n : ℕ) → MarksAre marks line seen → is_unlisted marks line n ≡ (nat_le 1 n && nat_le n (length marks) && not (list_any (nat_eq n) seen))
+pub unlisted_is : (marks : List ℕ) (line : ℕ) (seen : List ℕ) (n : ℕ) → MarksAre marks line seen → is_unlisted marks line n
+    ≡ (nat_le 1 n && nat_le n (length marks) && not (list_any (nat_eq n) seen))
 unlisted_is marks line seen n are = by (nat_le 1 n) refl (nat_le n (length marks)) refl
   where
-    by : (a : Bool) → nat_le 1 n ≡ a → (b : Bool) → nat_le n (length marks) ≡ b → is_unlisted marks line n ≡ (nat_le 1 n && nat_le n (length marks) && not (list_any (nat_eq n) seen))
+    by : (a : Bool) → nat_le 1 n ≡ a → (b : Bool) → nat_le n (length marks) ≡ b → is_unlisted marks line n
+        ≡ (nat_le 1 n && nat_le n (length marks) && not (list_any (nat_eq n) seen))
     by false e b f = rw e refl
     by true e false f = rw (e, f) refl
     by true e true f = rw (are n (grind (arith, nat_tests, e)) (grind (arith, nat_tests, f))) refl
 
 -- with one more listed by the line, the marks are those of the numbers with this one
-pub marked_more : (marks : List ℕ) (line : ℕ) (seen : List ℕ) (n : ℕ) → 1 ≤ n → n ≤ length marks → MarksAre marks line seen → MarksAre (slice_set marks (n - 1) line) line (seen ++ n ∷ [])
+pub marked_more : (marks : List ℕ) (line : ℕ) (seen : List ℕ) (n : ℕ) → 1 ≤ n → n ≤ length marks → MarksAre marks line seen
+    → MarksAre (slice_set marks (n - 1) line) line (seen ++ n ∷ [])
 marked_more marks line seen n low high are m mlow mhigh = by (nat_eq m n) refl
   where
     any_more : (xs : List ℕ) → list_any (nat_eq m) (xs ++ n ∷ []) ≡ (list_any (nat_eq m) xs || nat_eq m n)
@@ -55,7 +58,8 @@ marked_more marks line seen n low high are m mlow mhigh = by (nat_eq m n) refl
         rw (any_more seen, e, or_true (list_any (nat_eq m) seen), here) marked
     by false e =
         let apart : m - 1 ≡ n - 1 → ⊥ = λ h. (let same : m ≡ n = omega arith in grind (arith, nat_tests, e, same)) in
-        let there : slice_index_or (slice_set marks (n - 1) line) (m - 1) 0 ≡ slice_index_or marks (m - 1) 0 = get_or-set_other marks (n - 1) (m - 1) line 0 apart in
+        let there : slice_index_or (slice_set marks (n - 1) line) (m - 1) 0
+        ≡ slice_index_or marks (m - 1) 0 = get_or-set_other marks (n - 1) (m - 1) line 0 apart in
         let within : m ≤ length marks = rw (length-set marks (n - 1) line) at mhigh in
         rw (any_more seen, e, or_false (list_any (nat_eq m) seen), there) (are m mlow within)
 

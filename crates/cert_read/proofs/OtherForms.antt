@@ -37,12 +37,14 @@ unfolding kind_at
 kind_part w ws = part_of (kind_named w) ws
 
 -- nothing follows a part after which nothing comes, whatever the part is
-after_part : {A B : Type 0} (part : Option (A × List (List ℕ))) (rest : List (List ℕ)) (next : A × List (List ℕ) → Option B) → IsPart part rest → ((x : A) → next (x, rest) ≡ None) → option_and_then next part ≡ None
+after_part : {A B : Type 0} (part : Option (A × List (List ℕ))) (rest : List (List ℕ)) (next : A × List (List ℕ) → Option B) → IsPart part rest
+    → ((x : A) → next (x, rest) ≡ None) → option_and_then next part ≡ None
 after_part part rest next (inl none) h = rw none refl
 after_part part rest next (inr some) h = rw some.1 (h some.0)
 
 -- nothing follows a key after which nothing comes
-after_key : {B : Type 0} (text w : List ℕ) (ws : List (List ℕ)) (next : List (List ℕ) → Option B) → next ws ≡ None → option_and_then next (key_at text (w ∷ ws)) ≡ None
+after_key : {B : Type 0} (text w : List ℕ) (ws : List (List ℕ)) (next : List (List ℕ) → Option B) → next ws ≡ None → option_and_then next (key_at text (w ∷ ws))
+    ≡ None
 unfolding key_at
 after_key text w ws next h = after_test (is_word text w) ws next h
 
@@ -60,7 +62,8 @@ never false t x = refl
 -- `refused R` has no third word
 pub not_refused : (number : ℕ) (a b c : List ℕ) (ws : List (List ℕ)) → refused_form number (a ∷ b ∷ c ∷ ws) ≡ None
 unfolding refused_form counter_at
-not_refused number a b c ws = after_key (codes "refused") a (b ∷ c ∷ ws) _ (after_part (counter_at (b ∷ c ∷ ws)) (c ∷ ws) _ (counter_part b (c ∷ ws)) (λ r. never (nat_le 1 r) (nat_le r 4) (forms.Line number (Refused r))))
+not_refused number a b c ws = after_key (codes "refused") a (b ∷ c ∷ ws) _
+    (after_part (counter_at (b ∷ c ∷ ws)) (c ∷ ws) _ (counter_part b (c ∷ ws)) (λ r. never (nat_le 1 r) (nat_le r 4) (forms.Line number (Refused r))))
 
 -- no number is `facts` or `refused`, and no place is `facts`
 end_not_facts : (ws : List (List ℕ)) → end_at (codes "facts" ∷ ws) ≡ None
@@ -78,25 +81,33 @@ place_not_facts ws = refl
 -- HI isn't `facts`
 test_not_facts : (b c d : List ℕ) (ws : List (List ℕ)) → test_at (b ∷ c ∷ d ∷ codes "facts" ∷ ws) ≡ None
 unfolding test_at
-test_not_facts b c d ws = after_part (site_at (b ∷ c ∷ d ∷ codes "facts" ∷ ws)) (c ∷ d ∷ codes "facts" ∷ ws) _ (site_part b (c ∷ d ∷ codes "facts" ∷ ws)) (λ s. after_part (counter_at (c ∷ d ∷ codes "facts" ∷ ws)) (d ∷ codes "facts" ∷ ws) _ (counter_part c (d ∷ codes "facts" ∷ ws)) (λ t. after_part (end_at (d ∷ codes "facts" ∷ ws)) (codes "facts" ∷ ws) _ (end_part d (codes "facts" ∷ ws)) (λ lo. after_none (end_at (codes "facts" ∷ ws)) _ (end_not_facts ws))))
+test_not_facts b c d ws = after_part (site_at (b ∷ c ∷ d ∷ codes "facts" ∷ ws)) (c ∷ d ∷ codes "facts" ∷ ws) _ (site_part b (c ∷ d ∷ codes "facts" ∷ ws))
+    (λ s. after_part (counter_at (c ∷ d ∷ codes "facts" ∷ ws)) (d ∷ codes "facts" ∷ ws) _ (counter_part c (d ∷ codes "facts" ∷ ws))
+    (λ t. after_part (end_at (d ∷ codes "facts" ∷ ws)) (codes "facts" ∷ ws) _ (end_part d (codes "facts" ∷ ws))
+    (λ lo. after_none (end_at (codes "facts" ∷ ws)) _ (end_not_facts ws))))
 
 pub not_undecided : (number : ℕ) (a b c d : List ℕ) (ws : List (List ℕ)) → undecided_form number (a ∷ b ∷ c ∷ d ∷ codes "facts" ∷ ws) ≡ None
 unfolding undecided_form
-not_undecided number a b c d ws = after_key (codes "undecided") a (b ∷ c ∷ d ∷ codes "facts" ∷ ws) _ (after_none (test_at (b ∷ c ∷ d ∷ codes "facts" ∷ ws)) _ (test_not_facts b c d ws))
+not_undecided number a b c d ws = after_key (codes "undecided") a (b ∷ c ∷ d ∷ codes "facts" ∷ ws) _
+    (after_none (test_at (b ∷ c ∷ d ∷ codes "facts" ∷ ws)) _ (test_not_facts b c d ws))
 
 -- LO isn't `refused`
 test_not_refused : (b c : List ℕ) (ws : List (List ℕ)) → test_at (b ∷ c ∷ codes "refused" ∷ ws) ≡ None
 unfolding test_at
-test_not_refused b c ws = after_part (site_at (b ∷ c ∷ codes "refused" ∷ ws)) (c ∷ codes "refused" ∷ ws) _ (site_part b (c ∷ codes "refused" ∷ ws)) (λ s. after_part (counter_at (c ∷ codes "refused" ∷ ws)) (codes "refused" ∷ ws) _ (counter_part c (codes "refused" ∷ ws)) (λ t. after_none (end_at (codes "refused" ∷ ws)) _ (end_not_refused ws)))
+test_not_refused b c ws = after_part (site_at (b ∷ c ∷ codes "refused" ∷ ws)) (c ∷ codes "refused" ∷ ws) _ (site_part b (c ∷ codes "refused" ∷ ws))
+    (λ s. after_part (counter_at (c ∷ codes "refused" ∷ ws)) (codes "refused" ∷ ws) _ (counter_part c (codes "refused" ∷ ws))
+    (λ t. after_none (end_at (codes "refused" ∷ ws)) _ (end_not_refused ws)))
 
 pub not_undecided_refused : (number : ℕ) (a b c : List ℕ) (ws : List (List ℕ)) → undecided_form number (a ∷ b ∷ c ∷ codes "refused" ∷ ws) ≡ None
 unfolding undecided_form
-not_undecided_refused number a b c ws = after_key (codes "undecided") a (b ∷ c ∷ codes "refused" ∷ ws) _ (after_none (test_at (b ∷ c ∷ codes "refused" ∷ ws)) _ (test_not_refused b c ws))
+not_undecided_refused number a b c ws = after_key (codes "undecided") a (b ∷ c ∷ codes "refused" ∷ ws) _
+    (after_none (test_at (b ∷ c ∷ codes "refused" ∷ ws)) _ (test_not_refused b c ws))
 
 -- PLACE isn't `facts`
 fact_not_facts : (d : List ℕ) (ws : List (List ℕ)) → fact_at (d ∷ codes "facts" ∷ ws) ≡ None
 unfolding fact_at
-fact_not_facts d ws = after_part (kind_at (d ∷ codes "facts" ∷ ws)) (codes "facts" ∷ ws) _ (kind_part d (codes "facts" ∷ ws)) (λ k. after_none (place_at (codes "facts" ∷ ws)) _ (place_not_facts ws))
+fact_not_facts d ws = after_part (kind_at (d ∷ codes "facts" ∷ ws)) (codes "facts" ∷ ws) _ (kind_part d (codes "facts" ∷ ws))
+    (λ k. after_none (place_at (codes "facts" ∷ ws)) _ (place_not_facts ws))
 
 last_not_facts : (c d : List ℕ) (ws : List (List ℕ)) → last_fact_at (c ∷ d ∷ codes "facts" ∷ ws) ≡ None
 unfolding last_fact_at
@@ -104,7 +115,9 @@ last_not_facts c d ws = after_key (codes "fact") c (d ∷ codes "facts" ∷ ws) 
 
 pub not_void : (number : ℕ) (a b c d : List ℕ) (ws : List (List ℕ)) → void_form number (a ∷ b ∷ c ∷ d ∷ codes "facts" ∷ ws) ≡ None
 unfolding void_form site_at
-not_void number a b c d ws = after_key (codes "void") a (b ∷ c ∷ d ∷ codes "facts" ∷ ws) _ (after_part (site_at (b ∷ c ∷ d ∷ codes "facts" ∷ ws)) (c ∷ d ∷ codes "facts" ∷ ws) _ (site_part b (c ∷ d ∷ codes "facts" ∷ ws)) (λ s. after_none (last_fact_at (c ∷ d ∷ codes "facts" ∷ ws)) _ (last_not_facts c d ws)))
+not_void number a b c d ws = after_key (codes "void") a (b ∷ c ∷ d ∷ codes "facts" ∷ ws) _
+    (after_part (site_at (b ∷ c ∷ d ∷ codes "facts" ∷ ws)) (c ∷ d ∷ codes "facts" ∷ ws) _ (site_part b (c ∷ d ∷ codes "facts" ∷ ws))
+    (λ s. after_none (last_fact_at (c ∷ d ∷ codes "facts" ∷ ws)) _ (last_not_facts c d ws)))
 
 -- KIND isn't `refused`
 fact_not_refused : (ws : List (List ℕ)) → fact_at (codes "refused" ∷ ws) ≡ None
@@ -117,4 +130,6 @@ last_not_refused c ws = after_key (codes "fact") c (codes "refused" ∷ ws) _ (a
 
 pub not_void_refused : (number : ℕ) (a b c : List ℕ) (ws : List (List ℕ)) → void_form number (a ∷ b ∷ c ∷ codes "refused" ∷ ws) ≡ None
 unfolding void_form site_at
-not_void_refused number a b c ws = after_key (codes "void") a (b ∷ c ∷ codes "refused" ∷ ws) _ (after_part (site_at (b ∷ c ∷ codes "refused" ∷ ws)) (c ∷ codes "refused" ∷ ws) _ (site_part b (c ∷ codes "refused" ∷ ws)) (λ s. after_none (last_fact_at (c ∷ codes "refused" ∷ ws)) _ (last_not_refused c ws)))
+not_void_refused number a b c ws = after_key (codes "void") a (b ∷ c ∷ codes "refused" ∷ ws) _
+    (after_part (site_at (b ∷ c ∷ codes "refused" ∷ ws)) (c ∷ codes "refused" ∷ ws) _ (site_part b (c ∷ codes "refused" ∷ ws))
+    (λ s. after_none (last_fact_at (c ∷ codes "refused" ∷ ws)) _ (last_not_refused c ws)))

@@ -91,25 +91,30 @@ end_known ws =
 refused_known : (number : ℕ) (ws : List (List ℕ)) → IsKnownForm (refused_form number ws)
 unfolding refused_form
 refused_known number ws =
-    known_after (key_at _ ws) _ (λ k e. known_after (counter_at k) _ (λ r e. known_if (nat_le 1 r.0 && nat_le r.0 4 && is_over r.1) _ None (known_form (forms.Line number (line.Refused r.0)) tt) no_form))
+    known_after (key_at _ ws) _ (λ k e. known_after (counter_at k) _
+    (λ r e. known_if (nat_le 1 r.0 && nat_le r.0 4 && is_over r.1) _ None (known_form (forms.Line number (line.Refused r.0)) tt) no_form))
 
 undecided_known : (number : ℕ) (ws : List (List ℕ)) → IsKnownForm (undecided_form number ws)
 unfolding undecided_form
-undecided_known number ws = known_after (key_at _ ws) _ (λ k e. known_after (test_at k) _ (λ u e. known_after (last_fact_at u.1) _ (λ f e. known_form (forms.Undecided number f u.0) tt)))
+undecided_known number ws = known_after (key_at _ ws) _ (λ k e.
+    known_after (test_at k) _ (λ u e. known_after (last_fact_at u.1) _ (λ f e. known_form (forms.Undecided number f u.0) tt)))
 
 void_known : (number : ℕ) (ws : List (List ℕ)) → IsKnownForm (void_form number ws)
 unfolding void_form
-void_known number ws = known_after (key_at _ ws) _ (λ k e. known_after (site_at k) _ (λ s e. known_after (last_fact_at s.1) _ (λ f e. known_form (forms.Void number f s.0) tt)))
+void_known number ws = known_after (key_at _ ws) _ (λ k e. known_after (site_at k) _
+    (λ s e. known_after (last_fact_at s.1) _ (λ f e. known_form (forms.Void number f s.0) tt)))
 
 listed_known_form : (number : ℕ) (ws : List (List ℕ)) → IsKnownForm (listed_form number ws)
 unfolding listed_form
-listed_known_form number ws = known_after (echo_at ws) _ (λ echo e. known_after (found_at echo.1) _ (λ f e. known_after (counters_of f.1) _ (λ ns e. known_form (forms.Line number (line_with echo.0 f.0 ns)) tt)))
+listed_known_form number ws = known_after (echo_at ws) _ (λ echo e.
+    known_after (found_at echo.1) _ (λ f e. known_after (counters_of f.1) _ (λ ns e. known_form (forms.Line number (line_with echo.0 f.0 ns)) tt)))
 
 body_known : (number : ℕ) (ws : List (List ℕ)) → IsKnownForm (body_form number ws)
 unfolding body_form
 body_known number ws =
     known_either (refused_form number ws) _ (refused_known number ws)
-    (known_either (undecided_form number ws) _ (undecided_known number ws) (known_either (void_form number ws) _ (void_known number ws) (listed_known_form number ws)))
+    (known_either (undecided_form number ws) _ (undecided_known number ws)
+    (known_either (void_form number ws) _ (void_known number ws) (listed_known_form number ws)))
 
 line_known : (ws : List (List ℕ)) → IsKnownForm (line_form ws)
 unfolding line_form
@@ -117,7 +122,8 @@ line_known ws = known_after (counter_at ws) _ (λ n e. body_known n.0 n.1)
 
 known_in : (ws : List (List ℕ)) → IsKnownForm (form_in ws)
 known_in [] = no_form
-known_in (w ∷ ws) = known_if _ (fact_form ws) _ (fact_known ws) (known_if _ (line_form ws) _ (line_known ws) (known_if _ (end_form ws) None (end_known ws) no_form))
+known_in (w ∷ ws) = known_if _ (fact_form ws) _ (fact_known ws)
+    (known_if _ (line_form ws) _ (line_known ws) (known_if _ (end_form ws) None (end_known ws) no_form))
 
 -- the value of a line that is read is one of a fact
 known_of : (bytes : List ℕ) → IsKnownForm (form_of bytes)
@@ -180,9 +186,11 @@ isnt : (t : Bool) → not t ≡ true → t ≡ false
 isnt true h = cc
 isnt false h = refl
 
-fact_more : (before : CertFile) (f : Fact) (v : ℤ) → IsReadWell before → is_new before.facts (Some f) ≡ true → IsFactValue v → IsReadWell (record { facts = before.facts ++ (f, v) ∷ []; lines = before.lines })
+fact_more : (before : CertFile) (f : Fact) (v : ℤ) → IsReadWell before → is_new before.facts (Some f) ≡ true → IsFactValue v
+    → IsReadWell (record { facts = before.facts ++ (f, v) ∷ []; lines = before.lines })
 fact_more before f v well new known =
-    let fresh : list_any (fact_eq f) (facts_of before.facts) ≡ false = rw (same_facts before.facts) at (isnt (list_any (fact_eq f) (map (λ e. e.0) before.facts)) new) in
+    let fresh : list_any (fact_eq f) (facts_of before.facts) ≡ false = rw (same_facts before.facts) at
+    (isnt (list_any (fact_eq f) (map (λ e. e.0) before.facts)) new) in
     let longer : length before.facts ≤ length (before.facts ++ (f, v) ∷ []) = omega (arith, length-append before.facts ((f, v) ∷ [])) in
     record {
       distinct = rw (facts_of_push before.facts f v) (distinct_more (facts_of before.facts) f well.distinct fresh);
@@ -190,8 +198,13 @@ fact_more before f v well new known =
       lines = lines_of_more (length before.facts) (length (before.facts ++ (f, v) ∷ [])) before.lines longer well.lines;
     }
 
-line_more : (before : CertFile) (l : CertLine) → IsReadWell before → are_of_facts (length before.facts) [] (listed l) ≡ true → IsReadWell (record { facts = before.facts; lines = before.lines ++ l ∷ [] })
-line_more before l well here = record { distinct = well.distinct; known = well.known; lines = one_line_more (length before.facts) before.lines l well.lines here }
+line_more : (before : CertFile) (l : CertLine) → IsReadWell before → are_of_facts (length before.facts) [] (listed l) ≡ true
+    → IsReadWell (record { facts = before.facts; lines = before.lines ++ l ∷ [] })
+line_more before l well here = record {
+  distinct = well.distinct;
+  known = well.known;
+  lines = one_line_more (length before.facts) before.lines l well.lines here;
+}
 
 -- where no rule is broken, the third and the fourth of the five that are tried hold
 two_hold : (a b c d e : Bool) → first_broken ((3, a) ∷ (7, b) ∷ (4, c) ∷ (5, d) ∷ (6, e) ∷ []) ≡ None → (c ≡ true) × (d ≡ true)
@@ -223,17 +236,20 @@ form_more before (forms.Void n None s) well rules known = well
 form_more before (forms.Void n (Some f) s) well rules known = line_more before (line.Void f s) well refl
 form_more before (forms.End l f) well rules known = well
 
-read_well : (number : ℕ) (before : CertFile) (ended : Bool) (lines : List (List ℕ)) (f : CertFile) → IsReadWell before → reading_from number before ended lines ≡ file f → IsReadWell f
+read_well : (number : ℕ) (before : CertFile) (ended : Bool) (lines : List (List ℕ)) (f : CertFile) → IsReadWell before → reading_from number before ended lines
+    ≡ file f → IsReadWell f
 read_well number before true [] f well h = let same : before ≡ f = cc in rw same at well
 read_well number before false [] f well h = cc
 read_well number before ended (bytes ∷ lines) f well h = on_form (form_of bytes) (known_of bytes) (λ now end. read_well (number + 1) now end lines f) h
   where
-    on_rule : (form : Form) (o : Option ℕ) → broken_by before ended form ≡ o → HasKnownValue form → ((now : CertFile) (end : Bool) → IsReadWell now → reading_from (number + 1) now end lines ≡ file f → IsReadWell f)
+    on_rule : (form : Form) (o : Option ℕ) → broken_by before ended form ≡ o → HasKnownValue form
+        → ((now : CertFile) (end : Bool) → IsReadWell now → reading_from (number + 1) now end lines ≡ file f → IsReadWell f)
         → after_rule number before form o (λ now end. reading_from (number + 1) now end lines) ≡ file f → IsReadWell f
     on_rule form None e known rest k = rest (with_form before form) (is_end form) (form_more before form well (rules_hold before ended form e) known) k
     on_rule form (Some rule) e known rest k = cc
 
-    on_form : (o : Option Form) → IsKnownForm o → ((now : CertFile) (end : Bool) → IsReadWell now → reading_from (number + 1) now end lines ≡ file f → IsReadWell f)
+    on_form : (o : Option Form) → IsKnownForm o → ((now : CertFile) (end : Bool) → IsReadWell now → reading_from (number + 1) now end lines ≡ file f
+        → IsReadWell f)
         → after_form number before ended o (λ now end. reading_from (number + 1) now end lines) ≡ file f → IsReadWell f
     on_form None known rest k = cc
     on_form (Some form) known rest k = on_rule form (broken_by before ended form) refl (known.known form refl) rest k
@@ -250,7 +266,8 @@ read_lines_well (header ∷ lines) f h = on_header (is_word _ header) h
     on_header false k = cc
 
 -- each line of those lists distinct numbers of facts
-pub numbers_at : (count : ℕ) (ls : List CertLine) (index : ℕ) → ListFacts count ls → are_of_facts count [] (listed (slice_index_or ls index (line.Refused 0))) ≡ true
+pub numbers_at : (count : ℕ) (ls : List CertLine) (index : ℕ) → ListFacts count ls → are_of_facts count [] (listed (slice_index_or ls index (line.Refused 0)))
+    ≡ true
 numbers_at count [] index all = refl
 numbers_at count (l ∷ ls) zero all = all.0
 numbers_at count (l ∷ ls) (suc index) all = numbers_at count ls index all.1

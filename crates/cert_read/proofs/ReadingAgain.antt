@@ -23,10 +23,12 @@ use Rattle.cert_read.proofs.Comings.{Comes, comes_on, comes_none, row_taken, sta
 use Rattle.cert_read.proofs.LineComings.{line_comes}
 
 -- a block that may follow
-block_comes : (facts : List (Fact × ℤ)) (lines : List CertLine) (b : Block) (rest : List ℕ) → length facts + length b.facts ≤ 2 ^ 32 - 1 → suc (length lines) ≤ 2 ^ 32 - 1
+block_comes : (facts : List (Fact × ℤ)) (lines : List CertLine) (b : Block) (rest : List ℕ) → length facts + length b.facts ≤ 2 ^ 32 - 1
+    → suc (length lines) ≤ 2 ^ 32 - 1
     → may_follow (length lines) facts b ≡ true → Comes (state facts lines) (block_text b ++ rest) (state (facts ++ b.facts) (lines ++ b.line ∷ [])) rest
 block_comes facts lines b rest h k follows =
-    let all = four (are_new facts b.first b.facts) (b.number == length lines + 1) (has_form b.line) (are_of_facts (length (facts ++ b.facts)) [] (listed b.line)) follows in
+    let all = four (are_new facts b.first b.facts) (b.number == length lines + 1) (has_form b.line)
+    (are_of_facts (length (facts ++ b.facts)) [] (listed b.line)) follows in
     let fits : b.number ≤ 2 ^ 32 - 1 = grind (arith, nat_tests) in
     let longer : length (facts ++ b.facts) ≤ 2 ^ 32 - 1 = omega (arith, length-append facts b.facts) in
     rw (append_assoc (fact_texts b.first b.facts) (line_text b.number b.line) rest)
@@ -36,14 +38,17 @@ block_comes facts lines b rest h k follows =
     (line_comes (facts ++ b.facts) lines b.number b.line rest fits longer all.1 all.2 all.3))
 
 -- blocks in order
-blocks_come : (facts : List (Fact × ℤ)) (lines : List CertLine) (bs : List Block) (rest : List ℕ) → length facts + length (facts_of bs) ≤ 2 ^ 32 - 1 → length lines + length bs ≤ 2 ^ 32 - 1
-    → are_in_order (length lines) facts bs ≡ true → Comes (state facts lines) (flat_map block_text bs ++ rest) (state (facts ++ facts_of bs) (lines ++ map (λ b. b.line) bs)) rest
+blocks_come : (facts : List (Fact × ℤ)) (lines : List CertLine) (bs : List Block) (rest : List ℕ) → length facts + length (facts_of bs) ≤ 2 ^ 32 - 1
+    → length lines + length bs ≤ 2 ^ 32 - 1
+    → are_in_order (length lines) facts bs ≡ true → Comes (state facts lines) (flat_map block_text bs ++ rest)
+    (state (facts ++ facts_of bs) (lines ++ map (λ b. b.line) bs)) rest
 blocks_come facts lines [] rest h k order = rw (append-nil facts, append-nil lines) (comes_none (state facts lines) rest)
 blocks_come facts lines (b ∷ bs) rest h k order =
     let all = both (may_follow (length lines) facts b) (are_in_order (length lines + 1) (facts ++ b.facts) bs) order in
     let more : length (lines ++ b.line ∷ []) ≡ length lines + 1 = omega (arith, length-append lines (b.line ∷ [])) in
     let fits : length facts + length b.facts ≤ 2 ^ 32 - 1 = omega (arith, length-append b.facts (facts_of bs)) in
-    let others_fit : length (facts ++ b.facts) + length (facts_of bs) ≤ 2 ^ 32 - 1 = omega (arith, length-append facts b.facts, length-append b.facts (facts_of bs)) in
+    let others_fit : length (facts ++ b.facts) + length (facts_of bs) ≤ 2 ^ 32 - 1 = omega
+    (arith, length-append facts b.facts, length-append b.facts (facts_of bs)) in
     let others_order : are_in_order (length (lines ++ b.line ∷ [])) (facts ++ b.facts) bs ≡ true = rw more all.1 in
     let others = blocks_come (facts ++ b.facts) (lines ++ b.line ∷ []) bs rest others_fit (omega arith) others_order in
     rw (append_assoc (block_text b) (flat_map block_text bs) rest)
@@ -61,7 +66,8 @@ end_taken number facts lines h k =
     let also_right : (length facts == length facts) ≡ true = grind (arith, nat_tests) in
     rw (← append-nil (end_text (length lines) (length facts)), end_is_row (length lines) (length facts) [])
     (row_taken number (state facts lines) (codes "end") (end_row (length lines) (length facts)) [] (forms.End (length lines) (length facts))
-    (text_word (codes "end") refl) (end_row_words (length lines) (length facts) k h) (end_row_form (length lines) (length facts) k h) (rw (right, also_right) refl))
+    (text_word (codes "end") refl) (end_row_words (length lines) (length facts) k h) (end_row_form (length lines) (length facts) k h)
+    (rw (right, also_right) refl))
 
 -- the header is the first line, and the rest is read from the second
 header_taken : (rest : List ℕ) → grammar_of (header_of WRITTEN ++ rest) ≡ reading_from 2 (state [] []) false (lines_of rest)

@@ -31,9 +31,11 @@ refused_is_row n rule rest = simp append_assoc
 -- line N undecided SITE TURN LO HI fact KIND PLACE DAY
 abbrev pub undecided_row : ℕ → Fact → OpenTest → List (List ℕ)
 undecided_row n f u =
-    decimal n ∷ codes "undecided" ∷ site_name u.site ∷ decimal u.turn ∷ signed_decimal u.lo ∷ signed_decimal u.hi ∷ codes "fact" ∷ kind_name f.kind ∷ place_name f.place ∷ signed_decimal f.day ∷ []
+    decimal n ∷ codes "undecided" ∷ site_name u.site ∷ decimal u.turn ∷ signed_decimal u.lo ∷ signed_decimal u.hi ∷ codes "fact" ∷ kind_name f.kind ∷ place_name
+    f.place ∷ signed_decimal f.day ∷ []
 
-pub undecided_is_row : (n : ℕ) (f : Fact) (u : OpenTest) (rest : List ℕ) → undecided_text (codes "line ") n f u ++ rest ≡ codes "line" ++ spaced_then (undecided_row n f u) rest
+pub undecided_is_row : (n : ℕ) (f : Fact) (u : OpenTest) (rest : List ℕ) → undecided_text (codes "line ") n f u ++ rest
+    ≡ codes "line" ++ spaced_then (undecided_row n f u) rest
 unfolding open_text
 undecided_is_row n f u rest = simp append_assoc
 
@@ -68,18 +70,21 @@ unfolding facts_text
 facts_spaced ns rest = simp append_assoc (ap (λ t. codes " facts" ++ t) (numbers_spaced ns rest))
 
 -- a result
-pub shown_is_row : (n : ℕ) (echo : Echo) (result facts rest : List ℕ) → listed_text n (words_in echo) result facts ++ rest ≡ codes "line" ++ spaced_then (listed_row n echo (result ∷ []) facts) rest
+pub shown_is_row : (n : ℕ) (echo : Echo) (result facts rest : List ℕ) → listed_text n (words_in echo) result facts ++ rest
+    ≡ codes "line" ++ spaced_then (listed_row n echo (result ∷ []) facts) rest
 unfolding echo_text
 shown_is_row n echo result facts rest = simp (append_assoc, facts_spaced)
 
 -- a day that is out of range
 pub too_far_is_row : (n : ℕ) (echo : Echo) (day : ℤ) (facts rest : List ℕ)
-    → listed_text n (words_in echo) (too_far_text day) facts ++ rest ≡ codes "line" ++ spaced_then (listed_row n echo (codes "refused" ∷ codes "4" ∷ signed_decimal day ∷ []) facts) rest
+    → listed_text n (words_in echo) (too_far_text day) facts ++ rest
+    ≡ codes "line" ++ spaced_then (listed_row n echo (codes "refused" ∷ codes "4" ∷ signed_decimal day ∷ []) facts) rest
 unfolding echo_text too_far_text
 too_far_is_row n echo day facts rest = simp (append_assoc, facts_spaced)
 
 -- the day's own date
 pub no_date_is_row : (n : ℕ) (echo : Echo) (back facts rest : List ℕ)
-    → listed_text n (words_in echo) (no_date_text back) facts ++ rest ≡ codes "line" ++ spaced_then (listed_row n echo (codes "refused" ∷ codes "5" ∷ back ∷ []) facts) rest
+    → listed_text n (words_in echo) (no_date_text back) facts ++ rest
+    ≡ codes "line" ++ spaced_then (listed_row n echo (codes "refused" ∷ codes "5" ∷ back ∷ []) facts) rest
 unfolding echo_text no_date_text
 no_date_is_row n echo back facts rest = simp (append_assoc, facts_spaced)

@@ -42,7 +42,8 @@ site_word : (s : Site) → IsWord (site_name s)
 site_word s = text_word (site_name s) (site_names_pass is_text_word s refl)
 
 -- KIND PLACE DAY, and the words after it
-fact_words : (f : Fact) (ws : List (List ℕ)) → is_named_well f ≡ true → AreWords ws → AreWords (kind_name f.kind ∷ place_name f.place ∷ signed_decimal f.day ∷ ws)
+fact_words : (f : Fact) (ws : List (List ℕ)) → is_named_well f ≡ true → AreWords ws
+    → AreWords (kind_name f.kind ∷ place_name f.place ∷ signed_decimal f.day ∷ ws)
 fact_words f ws h k = (kind_word f.kind, (place_word f.place, (signed_word f.day (day_wide f.day (both (has_place f.kind f.place) (is_day f.day) h).1), k)))
 
 pub fact_row_words : (n : ℕ) (f : Fact) (v : ℤ) → n ≤ 2 ^ 32 - 1 → is_named_well f ≡ true → is_value v ≡ true → AreWords (fact_row n f v)
@@ -64,8 +65,16 @@ last_fact_words f h = (text_word (codes "fact") refl, fact_words f [] h tt)
 pub undecided_row_words : (n : ℕ) (f : Fact) (u : OpenTest) → n ≤ 2 ^ 32 - 1 → is_named_well f ≡ true → is_open_test u ≡ true → AreWords (undecided_row n f u)
 undecided_row_words n f u h k l =
     let b = three (nat_le u.turn (2 ^ 32 - 1)) (is_wide u.lo) (is_wide u.hi) l in
-    let fits : u.turn ≤ 2 ^ 32 - 1 = grind (arith, nat_tests) in
-    (counter_word n h, (text_word (codes "undecided") refl, (site_word u.site, (counter_word u.turn fits, (signed_word u.lo (wide_fits u.lo b.1), (signed_word u.hi (wide_fits u.hi b.2), last_fact_words f k))))))
+    let fits : u.turn ≤ 2 ^ 32 - 1 = grind (arith, nat_tests) in (
+      counter_word n h,
+      (
+        text_word (codes "undecided") refl,
+        (
+          site_word u.site,
+          (counter_word u.turn fits, (signed_word u.lo (wide_fits u.lo b.1), (signed_word u.hi (wide_fits u.hi b.2), last_fact_words f k))),
+        ),
+      ),
+    )
 
 pub void_row_words : (n : ℕ) (f : Fact) (s : Site) → n ≤ 2 ^ 32 - 1 → is_named_well f ≡ true → AreWords (void_row n f s)
 void_row_words n f s h k = (counter_word n h, (text_word (codes "void") refl, (site_word s, last_fact_words f k)))
@@ -80,22 +89,27 @@ numbers_words count seen (n ∷ ns) h k =
     (counter_word n fits, numbers_words count (seen ++ n ∷ []) ns h all.1)
 
 -- N FROM DATE TO, and the words after it
-echo_words : (n : ℕ) (echo : Echo) (ws : List (List ℕ)) → n ≤ 2 ^ 32 - 1 → are_echo_words echo ≡ true → AreWords ws → AreWords (decimal n ∷ echo.from ∷ echo.date ∷ echo.to ∷ ws)
+echo_words : (n : ℕ) (echo : Echo) (ws : List (List ℕ)) → n ≤ 2 ^ 32 - 1 → are_echo_words echo ≡ true → AreWords ws
+    → AreWords (decimal n ∷ echo.from ∷ echo.date ∷ echo.to ∷ ws)
 echo_words n echo ws h e k =
     let b = three (is_text_word echo.from) (is_text_word echo.date) (is_text_word echo.to) e in
     (counter_word n h, (text_word echo.from b.0, (text_word echo.date b.1, (text_word echo.to b.2, k))))
 
-pub shown_row_words : (n : ℕ) (echo : Echo) (result ns : List ℕ) → n ≤ 2 ^ 32 - 1 → are_echo_words echo ≡ true → is_text_word result ≡ true → AreWords (map decimal ns)
+pub shown_row_words : (n : ℕ) (echo : Echo) (result ns : List ℕ) → n ≤ 2 ^ 32 - 1 → are_echo_words echo ≡ true → is_text_word result ≡ true
+    → AreWords (map decimal ns)
     → AreWords (listed_row n echo (result ∷ []) ns)
-shown_row_words n echo result ns h e r k = echo_words n echo (result ∷ codes "facts" ∷ map decimal ns) h e (text_word result r, (text_word (codes "facts") refl, k))
+shown_row_words n echo result ns h e r k = echo_words n echo (result ∷ codes "facts" ∷ map decimal ns) h e
+    (text_word result r, (text_word (codes "facts") refl, k))
 
-pub too_far_row_words : (n : ℕ) (echo : Echo) (day : ℤ) (ns : List ℕ) → n ≤ 2 ^ 32 - 1 → are_echo_words echo ≡ true → is_day day ≡ true → AreWords (map decimal ns)
+pub too_far_row_words : (n : ℕ) (echo : Echo) (day : ℤ) (ns : List ℕ) → n ≤ 2 ^ 32 - 1 → are_echo_words echo ≡ true → is_day day ≡ true
+    → AreWords (map decimal ns)
     → AreWords (listed_row n echo (codes "refused" ∷ codes "4" ∷ signed_decimal day ∷ []) ns)
 too_far_row_words n echo day ns h e d k =
     echo_words n echo (codes "refused" ∷ codes "4" ∷ signed_decimal day ∷ codes "facts" ∷ map decimal ns) h e
     (text_word (codes "refused") refl, (text_word (codes "4") refl, (signed_word day (day_wide day d), (text_word (codes "facts") refl, k))))
 
-pub no_date_row_words : (n : ℕ) (echo : Echo) (back ns : List ℕ) → n ≤ 2 ^ 32 - 1 → are_echo_words echo ≡ true → is_text_word back ≡ true → AreWords (map decimal ns)
+pub no_date_row_words : (n : ℕ) (echo : Echo) (back ns : List ℕ) → n ≤ 2 ^ 32 - 1 → are_echo_words echo ≡ true → is_text_word back ≡ true
+    → AreWords (map decimal ns)
     → AreWords (listed_row n echo (codes "refused" ∷ codes "5" ∷ back ∷ []) ns)
 no_date_row_words n echo back ns h e d k =
     echo_words n echo (codes "refused" ∷ codes "5" ∷ back ∷ codes "facts" ∷ map decimal ns) h e

@@ -68,7 +68,8 @@ four true false u v h = absurd (cc)
 four false t u v h = absurd (cc)
 
 -- the words of what begins with a word
-words_begin : (b : ℕ) (bs : List ℕ) (ws : List (List ℕ)) → list_all is_printable (b ∷ bs) ≡ true → words_of (spaced ws) ≡ ws → words_of ((b ∷ bs) ++ spaced ws) ≡ (b ∷ bs) ∷ ws
+words_begin : (b : ℕ) (bs : List ℕ) (ws : List (List ℕ)) → list_all is_printable (b ∷ bs) ≡ true → words_of (spaced ws) ≡ ws → words_of ((b ∷ bs) ++ spaced ws)
+    ≡ (b ∷ bs) ∷ ws
 words_begin b [] [] h rest = rw (head_inner b [] h).blank refl
 words_begin b [] (w ∷ ws) h rest = rw (head_inner b [] h).blank (ap (λ t. (b ∷ []) ∷ t) rest)
 words_begin b (c ∷ cs) ws h rest =
@@ -110,7 +111,8 @@ pub spaced_well : (w : List ℕ) (ws : List (List ℕ)) → IsWord w → AreWord
 spaced_well w ws h k = first_begin w (spaced ws) h ∙ all_spaced ws k
 
 -- the first line is one byte longer
-raw_word : (word rest line : List ℕ) (lines : List (List ℕ)) → list_all is_printable word ≡ true → raw_lines rest ≡ line ∷ lines → raw_lines (word ++ rest) ≡ (word ++ line) ∷ lines
+raw_word : (word rest line : List ℕ) (lines : List (List ℕ)) → list_all is_printable word ≡ true → raw_lines rest ≡ line ∷ lines → raw_lines (word ++ rest)
+    ≡ (word ++ line) ∷ lines
 raw_word [] rest line lines h k = k
 raw_word (b ∷ bs) rest line lines h k =
     let feed : (b == 10) ≡ false = (head_inner b bs h).feed in
@@ -146,7 +148,9 @@ plain_row w [] h k = rw (append-nil w) (plain_word w h)
 plain_row w (v ∷ vs) h k = plain_after w (spaced (v ∷ vs)) (one_more 32 (v ++ spaced vs) (plain_row v vs k.0 k.1))
 
 -- words, a line feed, and the rest of a text: the words are its first line
-pub row_read : (w : List ℕ) (ws : List (List ℕ)) (rest : List ℕ) → IsWord w → AreWords ws → lines_of (w ++ spaced_then ws rest) ≡ (w ++ spaced ws) ∷ lines_of rest
+pub row_read : (w : List ℕ) (ws : List (List ℕ)) (rest : List ℕ) → IsWord w → AreWords ws → lines_of (w ++ spaced_then ws rest)
+    ≡ (w ++ spaced ws) ∷ lines_of rest
 row_read w ws rest h k =
-    let raw : raw_lines (w ++ spaced_then ws rest) ≡ (w ++ spaced ws) ∷ raw_lines rest = raw_word w (spaced_then ws rest) (spaced ws) (raw_lines rest) h.printed (raw_spaced ws rest k) in
+    let raw : raw_lines (w ++ spaced_then ws rest) ≡ (w ++ spaced ws) ∷ raw_lines rest = raw_word w (spaced_then ws rest) (spaced ws) (raw_lines rest) h.printed
+    (raw_spaced ws rest k) in
     rw raw (rw (plain_row w ws h k).last refl)

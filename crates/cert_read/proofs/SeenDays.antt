@@ -30,7 +30,8 @@ either_day : (d e : ℤ) → int_eq d e ≡ int_eq e d
 either_day d e = grind (arith, ints)
 
 -- a row more without a day
-pub none_more : (rows : List (BTreeSet ℤ)) (days : BTreeSet ℤ) → days.keys ≡ [] → ((f : Fact) → has_fact rows f ≡ false) → (f : Fact) → has_fact (rows ++ days ∷ []) f ≡ false
+pub none_more : (rows : List (BTreeSet ℤ)) (days : BTreeSet ℤ) → days.keys ≡ [] → ((f : Fact) → has_fact rows f ≡ false) → (f : Fact)
+    → has_fact (rows ++ days ∷ []) f ≡ false
 none_more rows days empty none f = by rows (row_of f) (none f)
   where
     by : (xs : List (BTreeSet ℤ)) (i : ℕ) → has_day (slice_get xs i) f.day ≡ false → has_day (slice_get (xs ++ days ∷ []) i) f.day ≡ false
@@ -45,7 +46,8 @@ module _ (rows : List (BTreeSet ℤ)) (fact : Fact) (d : BTreeSet ℤ) (within :
   seen_here = rw (slice_get-get_or rows (row_of fact) d within) refl
 
   -- the row of a fact with one more day
-  pub one_more : (days : BTreeSet ℤ) → ((q : ℤ) → contains int_cmp days q ≡ cond (is_at (int_cmp fact.day) q) true (contains int_cmp (get_or rows (row_of fact) d) q))
+  pub one_more : (days : BTreeSet ℤ) → ((q : ℤ) → contains int_cmp days q
+      ≡ cond (is_at (int_cmp fact.day) q) true (contains int_cmp (get_or rows (row_of fact) d) q))
       → HasMore rows fact (slice_set rows (row_of fact) days)
   one_more days more f = by (row_of f == row_of fact) refl
     where
@@ -58,20 +60,29 @@ module _ (rows : List (BTreeSet ℤ)) (fact : Fact) (d : BTreeSet ℤ) (within :
           let parts = same_row f fact same in
           let kinds : (kind_number f.kind == kind_number fact.kind) ≡ true = grind (arith, nat_tests, parts.0) in
           let places : (place_number f.place == place_number fact.place) ≡ true = grind (arith, nat_tests, parts.1) in
-          let new : has_fact (slice_set rows (row_of fact) days) f ≡ contains int_cmp days f.day = rw (same, slice_get-get_or (slice_set rows (row_of fact) days) (row_of fact) d longer, get_or-set_same rows (row_of fact) days d within) refl in
+          let new : has_fact (slice_set rows (row_of fact) days) f
+          ≡ contains int_cmp days f.day = rw (
+            same,
+            slice_get-get_or (slice_set rows (row_of fact) days) (row_of fact) d longer,
+            get_or-set_same rows (row_of fact) days d within,
+          ) refl in
           let old : has_fact rows f ≡ contains int_cmp (get_or rows (row_of fact) d) f.day = rw (same, slice_get-get_or rows (row_of fact) d within) refl in
-          rw (new, old, kinds, places, more f.day, either_day f.day fact.day) (chosen (int_eq fact.day f.day) (contains int_cmp (get_or rows (row_of fact) d) f.day))
+          rw (new, old, kinds, places, more f.day, either_day f.day fact.day)
+          (chosen (int_eq fact.day f.day) (contains int_cmp (get_or rows (row_of fact) d) f.day))
         where
           chosen : (t b : Bool) → cond t true b ≡ (t || b)
           chosen true b = refl
           chosen false b = refl
       by false e =
           let apart : row_of f ≡ row_of fact → ⊥ = λ h. grind (arith, nat_tests, e, h) in
-          let other : fact_eq f fact ≡ false = not_same (kind_number f.kind == kind_number fact.kind) refl (place_number f.place == place_number fact.place) refl apart in
-          let there : slice_get (slice_set rows (row_of fact) days) (row_of f) ≡ slice_get rows (row_of f) = get-set_other rows (row_of fact) (row_of f) days apart in
+          let other : fact_eq f fact ≡ false = not_same (kind_number f.kind == kind_number fact.kind) refl (place_number f.place == place_number fact.place)
+          refl apart in
+          let there : slice_get (slice_set rows (row_of fact) days) (row_of f)
+          ≡ slice_get rows (row_of f) = get-set_other rows (row_of fact) (row_of f) days apart in
           rw (there, other) refl
         where
-          not_same : (a : Bool) → (kind_number f.kind == kind_number fact.kind) ≡ a → (b : Bool) → (place_number f.place == place_number fact.place) ≡ b → (row_of f ≡ row_of fact → ⊥) → (a && b && int_eq f.day fact.day) ≡ false
+          not_same : (a : Bool) → (kind_number f.kind == kind_number fact.kind) ≡ a → (b : Bool) → (place_number f.place == place_number fact.place) ≡ b
+              → (row_of f ≡ row_of fact → ⊥) → (a && b && int_eq f.day fact.day) ≡ false
           not_same true h true k apart =
               let kinds : kind_number f.kind ≡ kind_number fact.kind = grind (arith, nat_tests, h) in
               let places : place_number f.place ≡ place_number fact.place = grind (arith, nat_tests, k) in

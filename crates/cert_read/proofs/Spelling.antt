@@ -19,7 +19,8 @@ value_end k m d [] h low high =
     rw (digit, same) refl
 value_end k m d (b ∷ bs) h low high = step (nat_lt 47 b && nat_lt b 58) h (λ e. value_end (10 * k + (b - 48)) m d bs e low high)
   where
-    step : (t : Bool) → (if t then value_from (10 * k + (b - 48)) bs else None) ≡ Some m → (value_from (10 * k + (b - 48)) bs ≡ Some m → value_from (10 * k + (b - 48)) (bs ++ d ∷ []) ≡ Some (10 * m + (d - 48)))
+    step : (t : Bool) → (if t then value_from (10 * k + (b - 48)) bs else None) ≡ Some m
+        → (value_from (10 * k + (b - 48)) bs ≡ Some m → value_from (10 * k + (b - 48)) (bs ++ d ∷ []) ≡ Some (10 * m + (d - 48)))
         → (if t then value_from (10 * k + (b - 48)) (bs ++ d ∷ []) else None) ≡ Some (10 * m + (d - 48))
     step true h rest = rest h
     step false h rest = cc

@@ -29,13 +29,16 @@ wide low high z l h k =
     record { low = omega (arith, ints, b.0, l.low); high = omega (arith, ints, b.1, h.high) }
 
 pub day_wide : (z : ℤ) → is_day z ≡ true → IsWide z
-day_wide z h = wide FIRST_FACT_DAY LAST_FACT_DAY z (record { low = omega (arith, ints); high = omega (arith, ints) }) (record { low = omega (arith, ints); high = omega (arith, ints) }) h
+day_wide z h = wide FIRST_FACT_DAY LAST_FACT_DAY z (record { low = omega (arith, ints); high = omega (arith, ints) })
+    (record { low = omega (arith, ints); high = omega (arith, ints) }) h
 
 pub value_wide : (z : ℤ) → is_value z ≡ true → IsWide z
-value_wide z h = wide LEAST_VALUE GREATEST_VALUE z (record { low = omega (arith, ints); high = omega (arith, ints) }) (record { low = omega (arith, ints); high = omega (arith, ints) }) h
+value_wide z h = wide LEAST_VALUE GREATEST_VALUE z (record { low = omega (arith, ints); high = omega (arith, ints) })
+    (record { low = omega (arith, ints); high = omega (arith, ints) }) h
 
 pub wide_fits : (z : ℤ) → is_wide z ≡ true → IsWide z
-wide_fits z h = wide (negsuc (2 ^ 127 - 1)) (pos (2 ^ 127 - 1)) z (record { low = omega (arith, ints); high = omega (arith, ints) }) (record { low = omega (arith, ints); high = omega (arith, ints) }) h
+wide_fits z h = wide (negsuc (2 ^ 127 - 1)) (pos (2 ^ 127 - 1)) z (record { low = omega (arith, ints); high = omega (arith, ints) })
+    (record { low = omega (arith, ints); high = omega (arith, ints) }) h
 
 number_here : (low high z : ℤ) (ws : List (List ℕ)) → IsWide z → is_between low high z ≡ true → number_at low high (signed_decimal z ∷ ws) ≡ Some (z, ws)
 unfolding number_at
@@ -64,21 +67,29 @@ unfolding site_at
 site_here s ws = rw (site_found s) refl
 
 -- KIND PLACE DAY
-pub fact_here : (f : Fact) (ws : List (List ℕ)) → is_named_well f ≡ true → fact_at (kind_name f.kind ∷ place_name f.place ∷ signed_decimal f.day ∷ ws) ≡ Some (Some f, ws)
+pub fact_here : (f : Fact) (ws : List (List ℕ)) → is_named_well f ≡ true → fact_at (kind_name f.kind ∷ place_name f.place ∷ signed_decimal f.day ∷ ws)
+    ≡ Some (Some f, ws)
 unfolding fact_at
 fact_here f ws h =
     let b = both (has_place f.kind f.place) (is_day f.day) h in
     rw (kind_here f.kind (place_name f.place ∷ signed_decimal f.day ∷ ws), place_here f.place (signed_decimal f.day ∷ ws), day_here f.day ws b.1, b.0) refl
 
 -- fact KIND PLACE DAY, at the end
-pub last_fact_here : (f : Fact) → is_named_well f ≡ true → last_fact_at (codes "fact" ∷ kind_name f.kind ∷ place_name f.place ∷ signed_decimal f.day ∷ []) ≡ Some (Some f)
+pub last_fact_here : (f : Fact) → is_named_well f ≡ true → last_fact_at (codes "fact" ∷ kind_name f.kind ∷ place_name f.place ∷ signed_decimal f.day ∷ [])
+    ≡ Some (Some f)
 unfolding last_fact_at key_at
 last_fact_here f h = rw (fact_here f [] h) refl
 
 -- SITE TURN LO HI
-pub test_here : (u : OpenTest) (ws : List (List ℕ)) → is_open_test u ≡ true → test_at (site_name u.site ∷ decimal u.turn ∷ signed_decimal u.lo ∷ signed_decimal u.hi ∷ ws) ≡ Some (u, ws)
+pub test_here : (u : OpenTest) (ws : List (List ℕ)) → is_open_test u ≡ true
+    → test_at (site_name u.site ∷ decimal u.turn ∷ signed_decimal u.lo ∷ signed_decimal u.hi ∷ ws) ≡ Some (u, ws)
 unfolding test_at
 test_here u ws h =
     let b = three (nat_le u.turn (2 ^ 32 - 1)) (is_wide u.lo) (is_wide u.hi) h in
     let fits : u.turn ≤ 2 ^ 32 - 1 = grind (arith, nat_tests) in
-    rw (site_here u.site (decimal u.turn ∷ signed_decimal u.lo ∷ signed_decimal u.hi ∷ ws), counter_here u.turn (signed_decimal u.lo ∷ signed_decimal u.hi ∷ ws) fits, end_here u.lo (signed_decimal u.hi ∷ ws) b.1, end_here u.hi ws b.2) refl
+    rw (
+      site_here u.site (decimal u.turn ∷ signed_decimal u.lo ∷ signed_decimal u.hi ∷ ws),
+      counter_here u.turn (signed_decimal u.lo ∷ signed_decimal u.hi ∷ ws) fits,
+      end_here u.lo (signed_decimal u.hi ∷ ws) b.1,
+      end_here u.hi ws b.2,
+    ) refl

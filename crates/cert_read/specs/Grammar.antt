@@ -249,7 +249,8 @@ line_form ws = do
 -- the form of words: their first word says which
 abbrev pub form_in : List (List ℕ) → Option Form
 form_in [] = None
-form_in (w ∷ ws) = if is_word (codes "fact") w then fact_form ws else (if is_word (codes "line") w then line_form ws else (if is_word (codes "end") w then end_form ws else None))
+form_in (w ∷ ws) = if is_word (codes "fact") w then fact_form ws else
+    (if is_word (codes "line") w then line_form ws else (if is_word (codes "end") w then end_form ws else None))
 
 -- the form of a line below the header, if it has one
 unfoldable pub form_of : List ℕ → Option Form

@@ -55,11 +55,13 @@ has_form (Void fact site) = is_named_well fact
 -- facts that are numbered on after those before them, of which each has a form and is none of those before it
 abbrev pub are_new : List (Fact × ℤ) → ℕ → List (Fact × ℤ) → Bool
 are_new before number [] = true
-are_new before number (e ∷ es) = ((number == length before + 1) && is_named_well e.0 && is_value e.1 && is_new before (Some e.0)) && are_new (before ++ e ∷ []) (number + 1) es
+are_new before number (e ∷ es) = ((number == length before + 1) && is_named_well e.0 && is_value e.1 && is_new before (Some e.0)) && are_new (before ++ e ∷ [])
+    (number + 1) es
 
 -- after so many lines and these facts: the block's facts are new, and its line is numbered on, has a form and lists distinct facts
 abbrev pub may_follow : ℕ → List (Fact × ℤ) → Block → Bool
-may_follow lines facts b = are_new facts b.first b.facts && (b.number == lines + 1) && has_form b.line && are_of_facts (length (facts ++ b.facts)) [] (listed b.line)
+may_follow lines facts b = are_new facts b.first b.facts && (b.number == lines + 1) && has_form b.line && are_of_facts (length (facts ++ b.facts)) []
+    (listed b.line)
 
 -- after so many lines and these facts: each block may follow those before it
 abbrev pub are_in_order : ℕ → List (Fact × ℤ) → List Block → Bool

@@ -86,7 +86,8 @@ first_broken (r ∷ rs) = if r.1 then first_broken rs else Some r.0
 
 -- the first rule that a form breaks after these facts and lines, and after the end line where that has come
 unfoldable pub broken_by : CertFile → Bool → Form → Option ℕ
-broken_by before ended form = first_broken ((3, is_numbered before form) ∷ (7, is_placed form) ∷ (4, is_fresh before form) ∷ (5, lists_facts before form) ∷ (6, not ended && counts_well before form) ∷ [])
+broken_by before ended form = first_broken ((3, is_numbered before form) ∷ (7, is_placed form) ∷ (4, is_fresh before form) ∷ (5, lists_facts before form) ∷
+    (6, not ended && counts_well before form) ∷ [])
 
 abbrev pub with_fact : CertFile → Option Fact → ℤ → CertFile
 with_fact before None v = before

@@ -18,7 +18,8 @@ use Rattle.book_model.specs.lines.Text.{text}
 use Rattle.cert_text.specs.Laws.{is_undecided, HasNoneUndecided, HasOneText}
 
 -- at a fact without a value that an inquiry asks, its finding stops
-stops_at : {A : Type 0} (n : ℕ) (seen : List (Fact × ℤ)) (i : Inquiry A) (f : Fact) (s : Site) → AsksAt n i f → outcome (run_of n f) ≡ void_at s → finding_after n seen i ≡ stopped f
+stops_at : {A : Type 0} (n : ℕ) (seen : List (Fact × ℤ)) (i : Inquiry A) (f : Fact) (s : Site) → AsksAt n i f → outcome (run_of n f) ≡ void_at s
+    → finding_after n seen i ≡ stopped f
 unfolding finding_after
 stops_at n seen i f s asks_here e = rw e refl
 stops_at n seen i f s (asks_after {g = g} {v = v} here more) e = rw here (stops_at n (with_entry seen g v) _ f s more e)
@@ -77,7 +78,8 @@ one_outcome version (Ok r) (void f s) (void g t) h k a b = one_void version r f 
 none_of : (o : LineOutcome) (os : List LineOutcome) → HasNoneUndecided (o ∷ os) → (is_undecided o ≡ false) × HasNoneUndecided os
 none_of o os h = by (is_undecided o) refl h
   where
-    by : (t : Bool) → is_undecided o ≡ t → length (if t then o ∷ filter is_undecided os else filter is_undecided os) ≡ 0 → (is_undecided o ≡ false) × (length (filter is_undecided os) ≡ 0)
+    by : (t : Bool) → is_undecided o ≡ t → length (if t then o ∷ filter is_undecided os else filter is_undecided os) ≡ 0 → (is_undecided o ≡ false)
+        × (length (filter is_undecided os) ≡ 0)
     by true e k = absurd (omega arith)
     by false e k = (e, k)
 

@@ -239,7 +239,8 @@ fn write_far_line<K: Sink>(
     numbers: &[u32],
 ) -> Result<(), Failed>
     ensures { Writes K.written K.faults sink.old sink.new
-        (model.listed_text number (spec.words_in echo.now) (model.too_far_text day) numbers.now) result }
+        (model.listed_text number (spec.words_in echo.now) (model.too_far_text day) numbers.now)
+        result }
 {
     write_echo(sink, number, echo)?;
     write_too_far(sink, day)?;
@@ -255,7 +256,8 @@ fn write_back_line<K: Sink>(
     numbers: &[u32],
 ) -> Result<(), Failed>
     ensures { Writes K.written K.faults sink.old sink.new
-        (model.listed_text number (spec.words_in echo.now) (model.no_date_text back.now) numbers.now) result }
+        (model.listed_text number (spec.words_in echo.now) (model.no_date_text back.now)
+        numbers.now) result }
 {
     write_echo(sink, number, echo)?;
     write_no_date(sink, back)?;

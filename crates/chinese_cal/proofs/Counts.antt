@@ -21,7 +21,8 @@ months_near from to h k =
     record { from = omega (arith, ints, h.0, h.1, k.0, k.1, e, f.not_above, f.close); to = omega (arith, ints, h.0, h.1, k.0, k.1, e, f.not_above, f.close) }
 
 -- the years since the epoch as a quotient of whole numbers
-elapsed_is : (day month : ℤ) → elapsed_years day month ≡ floor_quotient ((day -ℤ negsuc 963098) *ℤ pos 1000000 *ℤ pos 12 +ℤ (pos 18 -ℤ month) *ℤ pos 365242189) 4382906267
+elapsed_is : (day month : ℤ) → elapsed_years day month ≡ floor_quotient ((day -ℤ negsuc 963098) *ℤ pos 1000000 *ℤ pos 12 +ℤ (pos 18 -ℤ month) *ℤ pos 365242189)
+    4382906267
 unfolding elapsed_years spans_of times plus reciprocal
 elapsed_is day month = refl
 

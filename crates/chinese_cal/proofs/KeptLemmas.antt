@@ -18,7 +18,8 @@ any_more : (f : Fact) (seen more : List Fact) → list_any (fact_eq f) seen ≡ 
 any_more f [] more h = cc
 any_more f (g ∷ seen) more h = by (fact_eq f g) (any_more f seen more) h
   where
-    by : (b : Bool) → (list_any (fact_eq f) seen ≡ true → list_any (fact_eq f) (seen ++ more) ≡ true) → (b || list_any (fact_eq f) seen) ≡ true → (b || list_any (fact_eq f) (seen ++ more)) ≡ true
+    by : (b : Bool) → (list_any (fact_eq f) seen ≡ true → list_any (fact_eq f) (seen ++ more) ≡ true) → (b || list_any (fact_eq f) seen) ≡ true
+        → (b || list_any (fact_eq f) (seen ++ more)) ≡ true
     by true rest e = refl
     by false rest e = rest e
 
@@ -52,13 +53,15 @@ stays f g seen h = by (list_any (fact_eq g) seen)
     by false = any_more f seen (g ∷ []) h
 
 -- whatever is asked, a fact that was asked stays so
-tells_stays : {Known A : Type 0} {m : Meaning Known} {k : Known} {i : Inquiry A} {old new : List Fact} {r : Result A Stop} (f : Fact) → Tells m k i old new r → list_any (fact_eq f) old ≡ true → list_any (fact_eq f) new ≡ true
+tells_stays : {Known A : Type 0} {m : Meaning Known} {k : Known} {i : Inquiry A} {old new : List Fact} {r : Result A Stop} (f : Fact) → Tells m k i old new r
+    → list_any (fact_eq f) old ≡ true → list_any (fact_eq f) new ≡ true
 tells_stays f ends h = h
 tells_stays {m = m} {k = k} {old = old} f (goes_on {f = g} value t) h = tells_stays f t (stays f (m.kept_as k g) old h)
 tells_stays f (stops fresh stop) h = h
 
 -- what was kept is kept still
-pub still_kept : {Known A : Type 0} {m : Meaning Known} {i : Inquiry A} {old new : State Known} {r : Result A Stop} (es : List (Option (Fact × ℤ))) → Inquires m i old new r → AllKept m old es → AllKept m new es
+pub still_kept : {Known A : Type 0} {m : Meaning Known} {i : Inquiry A} {old new : State Known} {r : Result A Stop} (es : List (Option (Fact × ℤ)))
+    → Inquires m i old new r → AllKept m old es → AllKept m new es
 still_kept [] h k = tt
 still_kept (None ∷ es) h k = still_kept es h k
 still_kept {m = m} {old = old} {new = new} (Some e ∷ es) h k = (one, still_kept es h k.1)
@@ -73,7 +76,8 @@ empty_kept m s (None ∷ es) h = empty_kept m s es h
 empty_kept m s (Some e ∷ es) h = absurd h
 
 -- what is found is kept
-pub found_kept : {Known : Type 0} {m : Meaning Known} {s : State Known} (es : List (Option (Fact × ℤ))) (f : Fact) (v : ℤ) → AllKept m s es → kept_value es f ≡ Some v → IsKept m s f v
+pub found_kept : {Known : Type 0} {m : Meaning Known} {s : State Known} (es : List (Option (Fact × ℤ))) (f : Fact) (v : ℤ) → AllKept m s es → kept_value es f
+    ≡ Some v → IsKept m s f v
 found_kept [] f v k h = cc
 found_kept (None ∷ es) f v k h = cc
 found_kept {m = m} {s = s} (Some e ∷ es) f v k h = by (fact_eq e.0 f) refl (found_kept es f v k.1) h
@@ -93,7 +97,8 @@ asked_kept {m = m} {s = s} f v k =
     record { same = refl; tells = goes_on k.known (rw there ends) }
 
 -- an inquiry that is done asks nothing
-told_done : {Known : Type 0} {m : Meaning Known} {k : Known} {i : Inquiry ℤ} {old new : List Fact} {r : Result ℤ Stop} (a : ℤ) → Tells m k i old new r → i ≡ done a → (new ≡ old) × (r ≡ Ok a)
+told_done : {Known : Type 0} {m : Meaning Known} {k : Known} {i : Inquiry ℤ} {old new : List Fact} {r : Result ℤ Stop} (a : ℤ) → Tells m k i old new r → i
+    ≡ done a → (new ≡ old) × (r ≡ Ok a)
 told_done a ends e = (refl, cc)
 told_done a (goes_on value t) e = absurd (cc)
 told_done a (stops fresh stop) e = absurd (cc)
@@ -108,7 +113,8 @@ next_of v (done a) = done a
 next_of v (ask f next) = next v
 
 -- the one step of a fact that was answered
-answered : {Known : Type 0} {m : Meaning Known} {k : Known} {i : Inquiry ℤ} {old new : List Fact} {r : Result ℤ Stop} (f : Fact) (v : ℤ) → Tells m k i old new r → i ≡ ask f done → r ≡ Ok v
+answered : {Known : Type 0} {m : Meaning Known} {k : Known} {i : Inquiry ℤ} {old new : List Fact} {r : Result ℤ Stop} (f : Fact) (v : ℤ) → Tells m k i old new r
+    → i ≡ ask f done → r ≡ Ok v
     → m.value_of k (m.kept_as k f) v × (list_any (fact_eq (m.kept_as k f)) new ≡ true)
 unfolding first_of next_of
 answered f v ends is res = absurd (cc)
@@ -120,20 +126,23 @@ answered {m = m} {k = k} {old = old} {new = new} f v (goes_on {f = g} {v = w} {n
 answered f v (stops fresh stop) is res = absurd (cc)
 
 -- what was answered may be kept
-pub answered_kept : {Known : Type 0} {m : Meaning Known} {old new : State Known} (f : Fact) (v : ℤ) → Inquires m (ask_once f) old new (Ok v) → IsFactValue v → IsKept m new f v
+pub answered_kept : {Known : Type 0} {m : Meaning Known} {old new : State Known} (f : Fact) (v : ℤ) → Inquires m (ask_once f) old new (Ok v) → IsFactValue v
+    → IsKept m new f v
 unfolding ask_once
 answered_kept {m = m} {old = old} {new = new} f v h value =
     let a = answered f v h.tells refl refl in
     record { known = rw h.same a.0; asked = rw h.same a.1; value = value }
 
 -- one more is kept
-pub one_more : {Known : Type 0} {m : Meaning Known} {s : State Known} (es : List (Option (Fact × ℤ))) (n : ℕ) (f : Fact) (v : ℤ) → IsKept m s f v → AllKept m s es → AllKept m s (slice_set es n (Some (f, v)))
+pub one_more : {Known : Type 0} {m : Meaning Known} {s : State Known} (es : List (Option (Fact × ℤ))) (n : ℕ) (f : Fact) (v : ℤ) → IsKept m s f v
+    → AllKept m s es → AllKept m s (slice_set es n (Some (f, v)))
 one_more [] n f v h k = tt
 one_more (None ∷ es) zero f v h k = (h, k)
 one_more (Some e ∷ es) zero f v h k = (h, k.1)
 one_more (None ∷ es) (suc n) f v h k = one_more es n f v h k
 one_more (Some e ∷ es) (suc n) f v h k = (k.0, one_more es n f v h k.1)
 
-pub kept_or_not : {Known : Type 0} {m : Meaning Known} {s : State Known} (es fs : List (Option (Fact × ℤ))) (n : ℕ) (f : Fact) (v : ℤ) → IsKept m s f v → AllKept m s es → (fs ≡ slice_set es n (Some (f, v))) ⊎ (fs ≡ es) → AllKept m s fs
+pub kept_or_not : {Known : Type 0} {m : Meaning Known} {s : State Known} (es fs : List (Option (Fact × ℤ))) (n : ℕ) (f : Fact) (v : ℤ) → IsKept m s f v
+    → AllKept m s es → (fs ≡ slice_set es n (Some (f, v))) ⊎ (fs ≡ es) → AllKept m s fs
 kept_or_not es fs n f v h k (inl e) = rw e (one_more es n f v h k)
 kept_or_not es fs n f v h k (inr e) = rw e k

@@ -50,10 +50,12 @@ stepped first month later back before rest false = λ j. ask (moon_before_fact m
         ∙ sym (regrouped (before m) (or_bare month) (or_one_bare later))
 
 -- the walk back, and then forwards over the months that it found and those after them
-walked : (calls : ℕ) (first month : ℤ) (later : List ℤ) → and_then (months_back calls first month later) one_bare ≡ and_then (prior calls first month) (or_one_bare later)
+walked : (calls : ℕ) (first month : ℤ) (later : List ℤ) → and_then (months_back calls first month later) one_bare
+    ≡ and_then (prior calls first month) (or_one_bare later)
 unfolding and_then months_back prior
 walked zero first month later = refl
-walked (suc calls) first month later = stepped first month later (λ m. months_back calls first m (month ∷ later)) (prior calls first) (λ m. walked calls first m (month ∷ later)) (int_lt month first)
+walked (suc calls) first month later = stepped first month later (λ m. months_back calls first m (month ∷ later)) (prior calls first)
+    (λ m. walked calls first m (month ∷ later)) (int_lt month first)
 
 -- the recursion is the walk
 pub prior_is_walk : (calls : ℕ) (first month : ℤ) → prior calls first month ≡ and_then (months_back calls first month []) one_bare
@@ -67,7 +69,8 @@ none_bare [] h = refl
 none_bare (month ∷ later) h = absurd (omega (arith, h))
 
 pub first_bare : (months : List ℤ) → 1 ≤ length months
-    → one_bare months ≡ and_then (bare (slice_index_or months 0 (pos 0))) (λ is_bare. if is_bare then done true else one_bare (take (length months - 1) (drop 1 months)))
+    → one_bare months ≡ and_then (bare (slice_index_or months 0 (pos 0)))
+    (λ is_bare. if is_bare then done true else one_bare (take (length months - 1) (drop 1 months)))
 unfolding one_bare
 first_bare [] h = absurd (omega (arith, h))
 first_bare (month ∷ later) h =

@@ -75,7 +75,7 @@ fn day_of_month(day: i64, first: i64) -> u8
 }
 
 /// The date of a day by its month and the years since the epoch.
-fn date_by(day: i64, month: ChineseMonth, years: i64) -> ChineseDate
+fn date_from_month(day: i64, month: ChineseMonth, years: i64) -> ChineseDate
     requires near { IsNearDay day }
     requires month_near { IsNearMonth month }
     requires years { AreNearYears years }
@@ -92,7 +92,7 @@ fn date_by(day: i64, month: ChineseMonth, years: i64) -> ChineseDate
 
 /// The date of a day, beside what is kept. It stops where the oracle stops.
 #[tactic(auto, using(oracle_core::proofs::Inquiring::asking), unfolding(book_model::specs::calendars::Chinese::chinese_on))]
-pub(crate) fn date_beside<O: Oracle>(
+pub(crate) fn date_from_facts<O: Oracle>(
     oracle: &mut O,
     kept: &mut Kept,
     day: i64,
@@ -104,7 +104,7 @@ pub(crate) fn date_beside<O: Oracle>(
 {
     let month = chinese_month(oracle, kept, day)?;
     let years = elapsed_years(day, month.number);
-    Ok(date_by(day, month, years))
+    Ok(date_from_month(day, month, years))
 }
 
 /// The date of a day (R.D.): the month that begins with the last new moon before the day ends in Beijing, numbered from the
@@ -124,5 +124,5 @@ pub fn from_fixed<O: Oracle>(oracle: &mut O, day: i64) -> Result<ChineseDate, St
     requires near { IsNearDay day }
     ensures date { AsksAs fields_of_date O.Oracle (chinese_on day) oracle.old oracle.new result }
 {
-    date_beside(oracle, &mut Kept::new(), day)
+    date_from_facts(oracle, &mut Kept::new(), day)
 }

@@ -10,7 +10,7 @@ ghost use Rattle.chinese_cal.specs.Keeping.{Keeps};
 ghost use Rattle.oracle_core.specs.Asking.{Asks};
 
 use crate::asks::ask_kept;
-use crate::date::{ChineseDate, date_beside};
+use crate::date::{ChineseDate, date_from_facts};
 use crate::facts::{moon_after, moon_from};
 use crate::kept::Kept;
 use crate::years::{mid_year_day, new_year_by_day};
@@ -53,7 +53,7 @@ fn month_beginning<O: Oracle>(
     ensures kept { Keeps O.Oracle oracle.new kept.new }
 {
     let first = ask_kept(oracle, kept, moon_of_month(new_year, month))?;
-    let date = date_beside(oracle, kept, first)?;
+    let date = date_from_facts(oracle, kept, first)?;
     if has_month(date, month, leap) {
         Ok(first)
     } else {

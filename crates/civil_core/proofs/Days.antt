@@ -45,7 +45,8 @@ pub has_date_is : (y m d : ℕ) → has_date (pos y) m d ≡ is_date y m d
 has_date_is zero m d = refl
 has_date_is (suc y) m d = let e : int_lt (pos 0) (pos (suc y)) ≡ true = grind (arith, ints) in ap (λ b. b && is_date (suc y) m d) e
 
-at_date : (date : Date) (n : ℤ) (y m : ℕ) → date.year ≡ pos y → date.month ≡ suc m → epoch_day date +ℤ pos 719163 ≡ n → 1 ≤ y → IsDateOfDay (pos y) (suc m) date.day n
+at_date : (date : Date) (n : ℤ) (y m : ℕ) → date.year ≡ pos y → date.month ≡ suc m → epoch_day date +ℤ pos 719163 ≡ n → 1 ≤ y
+    → IsDateOfDay (pos y) (suc m) date.day n
 at_date date n y m year month e first =
     let of_year : year_of_day n ≡ pos y = rw (e, year) at (year_agrees date) in
     let number : fixed_of y (suc m) date.day ≡ n = rw e at (day_agrees date y (suc m) date.day (year, ap pos month, refl)) in
@@ -54,7 +55,8 @@ at_date date n y m year month e first =
     let range = epoch_day_range date in
     let from : pos 1 ≤ℤ year_of_day n = rw of_year (omega (arith, ints)) in
     record {
-      has = rw (has_date_is y (suc m) date.day) (is_date_of y (suc m) date.day (is.0, (omega (arith, ints), omega (arith, ints, is.1)), (omega (arith, ints, is.2.0), omega (arith, ints, is.2.1))) first);
+      has = rw (has_date_is y (suc m) date.day) (is_date_of y (suc m) date.day
+          (is.0, (omega (arith, ints), omega (arith, ints, is.1)), (omega (arith, ints, is.2.0), omega (arith, ints, is.2.1))) first);
       number = number;
       year = of_year;
       month = parts.0;
@@ -76,7 +78,8 @@ date_is_of_day date n e from =
     rw (y.1, month) (at_date date n y.0 (date.month - 1) y.1 month e (omega (arith, ints, y.1)))
 
 -- the same of a date with these numbers
-pub named_is_of_day : (date : Date) (year n : ℤ) (month day : ℕ) → IsYmd year (pos month) (pos day) date → IsTrue (has_date year month day) → epoch_day date +ℤ pos 719163 ≡ n → IsDateOfDay year month day n
+pub named_is_of_day : (date : Date) (year n : ℤ) (month day : ℕ) → IsYmd year (pos month) (pos day) date → IsTrue (has_date year month day) → epoch_day date
+    +ℤ pos 719163 ≡ n → IsDateOfDay year month day n
 named_is_of_day date year n month day named has e =
     let same_month : date.month ≡ month = omega (arith, ints, named.1) in
     let same_day : date.day ≡ day = omega (arith, ints, named.2) in
@@ -84,13 +87,15 @@ named_is_of_day date year n month day named has e =
     rw (named.0, same_month, same_day) at (date_is_of_day date n e from)
 
 -- a date is found exactly where the calendar has it
-pub found_exactly : {T E : Type 0} (r : Result T E) (year z k l : ℤ) (m d : ℕ) → z ≡ year → k ≡ pos m → l ≡ pos d → pos 1 ≤ℤ year → IsOk r ↔ IsDate z k l → IsSome (result_ok r) ↔ IsTrue (has_date year m d)
+pub found_exactly : {T E : Type 0} (r : Result T E) (year z k l : ℤ) (m d : ℕ) → z ≡ year → k ≡ pos m → l ≡ pos d → pos 1 ≤ℤ year → IsOk r ↔ IsDate z k l
+    → IsSome (result_ok r) ↔ IsTrue (has_date year m d)
 found_exactly r (pos y) z k l m d same_year same_month same_day first exact =
     let here = ok_exactly r (rw (same_year, same_month, same_day) at exact) in
     rw (has_date_is y m d) (λ f. is_date_of y m d (here.0 f) (omega (arith, ints)), λ t. here.1 (date_is y m d t).0)
 found_exactly r (negsuc y) z k l m d same_year same_month same_day first exact = absurd (omega (arith, ints))
 
 -- with these numbers
-pub found_named : {E : Type 0} (r : Result Date E) (year z k l : ℤ) (m d : ℕ) → z ≡ year → k ≡ pos m → l ≡ pos d → IfOk r (IsYmd z k l) → IfSome (result_ok r) (IsYmd year (pos m) (pos d))
+pub found_named : {E : Type 0} (r : Result Date E) (year z k l : ℤ) (m d : ℕ) → z ≡ year → k ≡ pos m → l ≡ pos d → IfOk r (IsYmd z k l)
+    → IfSome (result_ok r) (IsYmd year (pos m) (pos d))
 found_named (Ok date) year z k l m d same_year same_month same_day h = rw (same_year, same_month, same_day) at h
 found_named (Err e) year z k l m d same_year same_month same_day h = tt

@@ -42,7 +42,8 @@ month_from : (day : ℤ) (y m k : ℕ) → unsigned_abs (year_of_day day) ≡ y 
 unfolding month_of_day
 month_from day y m k year over months = rw (year, over, months) refl
 
-day_from : (day : ℤ) (y m k : ℕ) → unsigned_abs (year_of_day day) ≡ y → days_over day ≡ k → month_of_day day ≡ suc m → day_of_month day ≡ k - days_of_months y m + 1
+day_from : (day : ℤ) (y m k : ℕ) → unsigned_abs (year_of_day day) ≡ y → days_over day ≡ k → month_of_day day ≡ suc m → day_of_month day
+    ≡ k - days_of_months y m + 1
 unfolding day_of_month
 day_from day y m k year over month = let s : suc m - 1 ≡ m = omega arith in rw (month, s, year, over) refl
 
@@ -51,7 +52,8 @@ unfolding days_of_months
 next_month y m = refl
 
 -- the month and the day of the day that a date names
-pub date_of_day : (day : ℤ) (y m d : ℕ) → fixed_of y (suc m) d ≡ day → year_of_day day ≡ pos y → m ≤ 11 → 1 ≤ d → d ≤ days_in_month y (suc m) → (month_of_day day ≡ suc m) × (day_of_month day ≡ d)
+pub date_of_day : (day : ℤ) (y m d : ℕ) → fixed_of y (suc m) d ≡ day → year_of_day day ≡ pos y → m ≤ 11 → 1 ≤ d → d ≤ days_in_month y (suc m)
+    → (month_of_day day ≡ suc m) × (day_of_month day ≡ d)
 date_of_day day y m d named year to_december from to_last =
     let k : days_over day ≡ days_of_months y m + (d - 1) = days_over_of day y m d named year from in
     let a : unsigned_abs (year_of_day day) ≡ y = rw year refl in

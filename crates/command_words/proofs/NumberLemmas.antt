@@ -59,7 +59,8 @@ module _ (E : Type 0) (word : List ℕ) (low high : ℕ) (number : is_number wor
 
   -- a number that std can't read lies above each bound of 64 bits
   pub reads_none : (e : E) → ParsesUnsigned 64 10 word (Err e) → high < 2 ^ 64 → None ≡ between low high (number_word word)
-  reads_none e h fits = sym (ap (between low high) (spelled word number) ∙ above low high (worth word) (past (2 ^ 64) (parse_digits own {E = E} 64 word (Err e) h (digits_of word number)) fits))
+  reads_none e h fits = sym (ap (between low high) (spelled word number) ∙ above low high (worth word)
+      (past (2 ^ 64) (parse_digits own {E = E} 64 word (Err e) h (digits_of word number)) fits))
     where
       past : (most : ℕ) → (((0 < length word) × (worth word < most)) → ⊥) → high < most → high < worth word
       past most refused fits = decide (nat_le most (worth word)) refl

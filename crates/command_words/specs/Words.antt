@@ -65,7 +65,8 @@ year_command name year =
 
 -- `sample` with a count from 1 to 100,000 and a seed of 64 bits
 abbrev pub sample_command : List ℕ → List ℕ → List ℕ → Option Command
-sample_command name count seed = if bytes_eq name (codes "sample") then option_and_then (λ n. option_map (λ s. Sample n s) (between 0 18446744073709551615 (number_word seed))) (between 1 100000 (number_word count)) else None
+sample_command name count seed = if bytes_eq name (codes "sample") then option_and_then
+    (λ n. option_map (λ s. Sample n s) (between 0 18446744073709551615 (number_word seed))) (between 1 100000 (number_word count)) else None
 
 -- the command that COMMAND names, with A and B where they are there
 abbrev pub table : List ℕ → Option (List ℕ) → Option (List ℕ) → Option Command

@@ -85,7 +85,8 @@ fn told_by(
         ≡ spec.told_by (option_map (λ s. s.now) name.entry)
         (option_map (λ s. s.now) jobs.entry) (option_map (λ s. s.now) first.entry)
         (option_map (λ s. s.now) second.entry) }
-    ensures jobs { IfSome result (λ t. spec.jobs_told (option_map (λ s. s.now) jobs.entry) ≡ Some t.jobs) }
+    ensures jobs { IfSome result (λ t. spec.jobs_told (option_map (λ s. s.now) jobs.entry)
+        ≡ Some t.jobs) }
     ensures range { IfSome result (λ t. (1 ≤ t.jobs) × (t.jobs ≤ 64)) }
 {
     let name = name?;
@@ -96,8 +97,10 @@ fn told_by(
 
 /// What clap's reading of the words tells.
 fn told(matches: &ArgMatches) -> Option<Task>
-    ensures command { option_map (λ t. t.command) result ≡ spec.told (rows_of (found_of matches.now)) }
-    ensures jobs { IfSome result (λ t. spec.told_jobs (rows_of (found_of matches.now)) ≡ Some t.jobs) }
+    ensures command { option_map (λ t. t.command) result
+        ≡ spec.told (rows_of (found_of matches.now)) }
+    ensures jobs { IfSome result (λ t. spec.told_jobs (rows_of (found_of matches.now))
+        ≡ Some t.jobs) }
     ensures range { IfSome result (λ t. (1 ≤ t.jobs) × (t.jobs ≤ 64)) }
 {
     let name = matches.get_str("command");
@@ -119,7 +122,8 @@ fn reason(error: &Error) -> NoCommand
 
 /// What clap finds in the words. `Form` comes where it finds a fault, and `Memory` where memory runs out.
 fn matches_in<'a>(alloc: Global, words: &'a [String]) -> Result<ArgMatches<'a>, NoCommand>
-    ensures accepted { IfOk result (λ m. spec.is_accepted (map string_bytes words.entry.now) ≡ true) }
+    ensures accepted { IfOk result (λ m. spec.is_accepted (map string_bytes words.entry.now)
+        ≡ true) }
     ensures matches { IfOk result (λ m. rows_of (found_of m) ≡ matches_of spec.program
         (map string_bytes words.entry.now)) }
     ensures form { IsErrOf result NoCommand.Form → spec.is_accepted
@@ -139,7 +143,8 @@ fn matches_in<'a>(alloc: Global, words: &'a [String]) -> Result<ArgMatches<'a>, 
 ///
 /// `Form` comes where the words name no command, and `Memory` where memory ran out before they were read.
 pub fn task_of(alloc: Global, words: &[String]) -> Result<Task, NoCommand>
-    ensures command { IfOk result (λ t. spec.command_of (map string_bytes words.now) ≡ Some t.command) }
+    ensures command { IfOk result (λ t. spec.command_of (map string_bytes words.now)
+        ≡ Some t.command) }
     ensures jobs { IfOk result (λ t. spec.jobs_of (map string_bytes words.now) ≡ Some t.jobs) }
     ensures form { IsErrOf result NoCommand.Form → spec.command_of
         (map string_bytes words.now) ≡ None }

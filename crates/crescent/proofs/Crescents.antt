@@ -50,7 +50,8 @@ sidereal_few x = answer_at_most
 
 meets_with_few : (p : Location) (x f o : Expression) → AtMost 8 (meets_with_of p x f o)
 unfolding meets_with_of
-meets_with_few p x f o = at_most_bind 2 6 (moon_few x) (λ l. at_most_bind 1 5 (latitude_few x) (λ b. at_most_bind 0 5 (sidereal_few x) (λ t. meets_few p f o l b t)))
+meets_with_few p x f o = at_most_bind 2 6 (moon_few x) (λ l. at_most_bind 1 5 (latitude_few x)
+    (λ b. at_most_bind 0 5 (sidereal_few x) (λ t. meets_few p f o l b t)))
 
 meets_at_few : (p : Location) (x : Expression) → AtMost 19 (meets_at_of p x)
 unfolding meets_at_of obliquity_at_of
@@ -69,4 +70,5 @@ pub phasis_few : (p : Location) (d : ℤ) → AtMost 99999 (phasis_of p d)
 unfolding phasis_of sight_after_of first_day_from
 phasis_few p d =
     at_most_more (845 + (151 + 46 * 151)) 99999 (omega arith)
-    (at_most_bind 845 (151 + 46 * 151) (phase_day_few_exactly (pos 0) d) (λ m. at_most_bind 151 (46 * 151) (start_few p d m) (λ s. days_few 151 46 (visible_of p) s (visible_few p))))
+    (at_most_bind 845 (151 + 46 * 151) (phase_day_few_exactly (pos 0) d)
+    (λ m. at_most_bind 151 (46 * 151) (start_few p d m) (λ s. days_few 151 46 (visible_of p) s (visible_few p))))

@@ -19,7 +19,7 @@ use Rattle.book_model.specs.numbers.Ranges.{IsInTable}
 use Rattle.book_model.specs.numbers.Relations.{Narrow}
 use Rattle.book_model.specs.programs.Widths.{IsAbout, IsUpTo, Measures}
 use Rattle.book_model.specs.sky.Noon.{ahead_of}
-use Rattle.width_laws.proofs.Measuring.{measured, sloped, looser, drawn}
+use Rattle.greatest_widths.proofs.Measuring.{measured, sloped, looser, drawn}
 use Rattle.sun_core.specs.Widths.{IsNarrowPlace, IsObliquity}
 use Rattle.rise_set.specs.Widths.{IsDepression}
 use Rattle.rise_set.specs.Altitudes.{IsMoonAngle, IsMoonLatitude, IsTilt, IsLocalSiderealTime}
@@ -27,12 +27,15 @@ use Rattle.crescent.specs.Widths.{IsEvening, IsDatedEvening, IsSiderealTime}
 use Rattle.book_model.specs.declared.time_tables.TheConstants.{TABLE_START, TABLE_END}
 
 -- ---- the depression of the sun
-depression_reach : implies (bound_of (limits_at 56) (λ k. unbounded) (constant (fraction_of CRESCENT_DEPRESSION))) (bounded (pos 0) (pos (46 * 2 ^ 32 / 10)) 0 (2 ^ 24)) ≡ true
+depression_reach : implies (bound_of (limits_at 56) (λ k. unbounded) (constant (fraction_of CRESCENT_DEPRESSION)))
+    (bounded (pos 0) (pos (46 * 2 ^ 32 / 10)) 0 (2 ^ 24)) ≡ true
 unfolding implies bound_of constant_bound
 depression_reach = refl
 
-pub depression_within : {E : Type 0} (shown : E → Interval) (n : ℕ) (x : E) → n ≡ 56 → ((r : Reach) → Narrow shown (limits_of n) r (constant (fraction_of CRESCENT_DEPRESSION)) x) → IsDepression (shown x)
-depression_within shown n x e f = measured shown n 0 (λ k. unbounded) (constant (fraction_of CRESCENT_DEPRESSION)) _ _ 0 (2 ^ 24) (2 ^ 24) x e depression_reach (omega arith) (f (record { width = 0; bounds = λ k. unbounded }))
+pub depression_within : {E : Type 0} (shown : E → Interval) (n : ℕ) (x : E) → n ≡ 56
+    → ((r : Reach) → Narrow shown (limits_of n) r (constant (fraction_of CRESCENT_DEPRESSION)) x) → IsDepression (shown x)
+depression_within shown n x e f = measured shown n 0 (λ k. unbounded) (constant (fraction_of CRESCENT_DEPRESSION)) _ _ 0 (2 ^ 24) (2 ^ 24) x e depression_reach
+    (omega arith) (f (record { width = 0; bounds = λ k. unbounded }))
 
 -- ---- ranges of what is taken at the moment of an evening
 pub dated_evening : (i : Interval) → IsInTable i → IsEvening i → IsDatedEvening i
@@ -50,8 +53,10 @@ north_within i h = looser _ _ _ _ (4 * (9 * 2 ^ 29) + 2 ^ 36) (2 ^ 37) i (omega 
 pub greenwich_within : (i : Interval) → IsAbout (2 ^ 61) (362 * (9 * 2 ^ 29) + 2 ^ 37) i → IsSiderealTime i
 greenwich_within i h = looser _ _ _ _ (362 * (9 * 2 ^ 29) + 2 ^ 37) (2 ^ 41) i (omega (arith, ints)) (omega (arith, ints)) (omega arith) h
 
-pub tilt_measures : {E : Type 0} (shown : E → Interval) (r : Result E Fail) → Measures (λ o. IsObliquity ((9 * 2 ^ 29) / 36525 + 2 ^ 12) (shown o)) r → Measures (λ o. IsTilt (shown o)) r
-tilt_measures shown (Ok o) h = looser _ _ _ _ (((9 * 2 ^ 29) / 36525 + 2 ^ 12) / 64 + 2 ^ 12) (2 ^ 13) (shown o) (omega (arith, ints)) (omega (arith, ints)) (omega arith) h
+pub tilt_measures : {E : Type 0} (shown : E → Interval) (r : Result E Fail) → Measures (λ o. IsObliquity ((9 * 2 ^ 29) / 36525 + 2 ^ 12) (shown o)) r
+    → Measures (λ o. IsTilt (shown o)) r
+tilt_measures shown (Ok o) h = looser _ _ _ _ (((9 * 2 ^ 29) / 36525 + 2 ^ 12) / 64 + 2 ^ 12) (2 ^ 13) (shown o) (omega (arith, ints)) (omega (arith, ints))
+    (omega arith) h
 tilt_measures shown (Err f) h = h
 
 -- ---- a longitude of the ground: it lies within a turn of 0 where its part of a day lies within a day
@@ -86,7 +91,8 @@ to_quotient q n h k = omega (arith, ints)
 once : (n : ℤ) → n *ℤ pos 1 ≡ n
 once n = omega (arith, ints)
 
-least_low : (lo hi : ℤ) → neg_ℤ (pos (2 ^ 32)) ≤ℤ int_min (floor_quotient (lo *ℤ pos 1) 359) (floor_quotient (hi *ℤ pos 1) 359) → neg_ℤ (pos (360 * 2 ^ 32)) ≤ℤ lo
+least_low : (lo hi : ℤ) → neg_ℤ (pos (2 ^ 32)) ≤ℤ int_min (floor_quotient (lo *ℤ pos 1) 359) (floor_quotient (hi *ℤ pos 1) 359) → neg_ℤ (pos (360 * 2 ^ 32))
+    ≤ℤ lo
 least_low lo hi h =
     let z = floor_quotient_is (lo *ℤ pos 1) 359 in
     let n = from_quotient (floor_quotient (lo *ℤ pos 1) 359) (lo *ℤ pos 1) (min_first _ _ _ h) z.not_above in
@@ -99,7 +105,8 @@ greatest_high lo hi h =
     omega (arith, ints, once hi, n)
 
 by_scaled : (t : Bool) (lo hi : ℤ) (s k : ℕ)
-    → implies (limited t (bounded (int_min (floor_quotient (lo *ℤ pos 1) 359) (floor_quotient (hi *ℤ pos 1) 359)) (int_max (ceil_quotient (lo *ℤ pos 1) 359) (ceil_quotient (hi *ℤ pos 1) 359)) s k)) (bounded (neg_ℤ (pos (2 ^ 32))) (pos (2 ^ 32)) 0 (2 ^ 10)) ≡ true
+    → implies (limited t (bounded (int_min (floor_quotient (lo *ℤ pos 1) 359) (floor_quotient (hi *ℤ pos 1) 359))
+    (int_max (ceil_quotient (lo *ℤ pos 1) 359) (ceil_quotient (hi *ℤ pos 1) 359)) s k)) (bounded (neg_ℤ (pos (2 ^ 32))) (pos (2 ^ 32)) 0 (2 ^ 10)) ≡ true
     → implies (bounded lo hi 0 (2 ^ 8)) (bounded (neg_ℤ (pos (360 * 2 ^ 32))) (pos (360 * 2 ^ 32)) 0 (2 ^ 8)) ≡ true
 unfolding implies
 by_scaled false lo hi s k h = absurd (cc)
@@ -107,28 +114,35 @@ by_scaled true lo hi s k h =
     let p = parts _ _ _ _ h in
     both_ends _ _ (le_yes _ _ (least_low lo hi (le_true _ _ p.0))) (le_yes _ _ (greatest_high lo hi (le_true _ _ p.1)))
 
-by_ends : (t : Bool) (lo hi : ℤ) → implies (scaled_bound (limits_at 56) (fraction_of DEGREE_IN_DAYS) (limited t (bounded lo hi 0 (2 ^ 8)))) (bounded (neg_ℤ (pos (2 ^ 32))) (pos (2 ^ 32)) 0 (2 ^ 10)) ≡ true
+by_ends : (t : Bool) (lo hi : ℤ) → implies (scaled_bound (limits_at 56) (fraction_of DEGREE_IN_DAYS) (limited t (bounded lo hi 0 (2 ^ 8))))
+    (bounded (neg_ℤ (pos (2 ^ 32))) (pos (2 ^ 32)) 0 (2 ^ 10)) ≡ true
     → implies (limited t (bounded lo hi 0 (2 ^ 8))) (bounded (neg_ℤ (pos (360 * 2 ^ 32))) (pos (360 * 2 ^ 32)) 0 (2 ^ 8)) ≡ true
 unfolding implies scaled_bound
 by_ends false lo hi h = absurd (cc)
 by_ends true lo hi h = by_scaled _ lo hi _ _ h
 
-place_reach : (l : Frac) → IsNarrowPlace l → implies (bound_of (limits_at 56) (λ k. unbounded) (constant (fraction_of l))) (bounded (neg_ℤ (pos (360 * 2 ^ 32))) (pos (360 * 2 ^ 32)) 0 (2 ^ 8)) ≡ true
+place_reach : (l : Frac) → IsNarrowPlace l → implies (bound_of (limits_at 56) (λ k. unbounded) (constant (fraction_of l)))
+    (bounded (neg_ℤ (pos (360 * 2 ^ 32))) (pos (360 * 2 ^ 32)) 0 (2 ^ 8)) ≡ true
 unfolding bound_of constant_bound ahead_of
 place_reach l p = by_ends _ _ _ p.narrow
 
 abbrev local_bounds : ℕ → Bound
-local_bounds k = if k == 0 then bounded (neg_ℤ (pos (2 ^ 61))) (pos (2 ^ 61)) 0 (2 ^ 41) else bounded (neg_ℤ (pos (360 * 2 ^ 32))) (pos (360 * 2 ^ 32)) 0 (2 ^ 8)
+local_bounds k = if k == 0 then bounded (neg_ℤ (pos (2 ^ 61))) (pos (2 ^ 61)) 0 (2 ^ 41) else bounded (neg_ℤ (pos (360 * 2 ^ 32))) (pos (360 * 2 ^ 32)) 0
+    (2 ^ 8)
 
-local_reach : implies (bound_of (limits_at 56) local_bounds (add (argument 0) (argument 1))) (bounded (neg_ℤ (pos (2 ^ 62))) (pos (2 ^ 62)) 0 (2 ^ 41 + 2 ^ 8)) ≡ true
+local_reach : implies (bound_of (limits_at 56) local_bounds (add (argument 0) (argument 1))) (bounded (neg_ℤ (pos (2 ^ 62))) (pos (2 ^ 62)) 0 (2 ^ 41 + 2 ^ 8))
+    ≡ true
 unfolding implies bound_of sum_bound
 local_reach = refl
 
 -- the sidereal time at a longitude
-pub local_within : {E : Type 0} (shown : E → Interval) (n : ℕ) (l : Frac) (t a y : E) → n ≡ 56 → IsNarrowPlace l → IsSiderealTime (shown t) → ((r : Reach) → Narrow shown (limits_of n) r (constant (fraction_of l)) a)
-    → ((r : Reach) (p q : Expression) → Narrow shown (limits_of n) r p t → Narrow shown (limits_of n) r q a → Narrow shown (limits_of n) r (add p q) y) → IsLocalSiderealTime (shown y)
+pub local_within : {E : Type 0} (shown : E → Interval) (n : ℕ) (l : Frac) (t a y : E) → n ≡ 56 → IsNarrowPlace l → IsSiderealTime (shown t)
+    → ((r : Reach) → Narrow shown (limits_of n) r (constant (fraction_of l)) a)
+    → ((r : Reach) (p q : Expression) → Narrow shown (limits_of n) r p t → Narrow shown (limits_of n) r q a → Narrow shown (limits_of n) r (add p q) y)
+    → IsLocalSiderealTime (shown y)
 local_within shown n l t a y e p h f g =
-    let d = measured shown n 0 (λ k. unbounded) (constant (fraction_of l)) _ _ 0 (2 ^ 8) (2 ^ 8) a e (place_reach l p) (omega arith) (f (record { width = 0; bounds = λ k. unbounded })) in
+    let d = measured shown n 0 (λ k. unbounded) (constant (fraction_of l)) _ _ 0 (2 ^ 8) (2 ^ 8) a e (place_reach l p) (omega arith)
+    (f (record { width = 0; bounds = λ k. unbounded })) in
     measured shown n 0 local_bounds (add (argument 0) (argument 1)) _ _ 0 (2 ^ 41 + 2 ^ 8) (2 ^ 41 + 2 ^ 8) y e local_reach (omega arith)
     (g (record { width = 0; bounds = local_bounds }) (argument 0) (argument 1)
     (sloped shown (limits_of n) 0 (2 ^ 41) local_bounds 0 (neg_ℤ (pos (2 ^ 61))) (pos (2 ^ 61)) 0 (2 ^ 41) t refl (omega arith) h)

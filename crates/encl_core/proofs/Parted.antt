@@ -33,7 +33,8 @@ module _ {R : Type 0} (w : World) (term : R → Expression) (none : R) (xs ys : 
       rw (first_rows n (omega (arith, h)), there) refl
 
   -- and so many of the others
-  then_rows : (n : ℕ) → value w (terms_to term none (xs ++ ys) (length xs + n)) ⊆ sum (value w (terms_to term none xs (length xs))) (value w (terms_to term none ys n))
+  then_rows : (n : ℕ) → value w (terms_to term none (xs ++ ys) (length xs + n)) ⊆ sum (value w (terms_to term none xs (length xs)))
+      (value w (terms_to term none ys n))
   unfolding terms_to value
   then_rows zero =
       let all : length xs + 0 ≡ length xs = omega arith in
@@ -44,7 +45,8 @@ module _ {R : Type 0} (w : World) (term : R → Expression) (none : R) (xs ys : 
       rw (next, there) (within_trans (sum_within (then_rows n) (within_refl _)) (regrouped _ _ _))
 
 -- what holds the sum of two parts holds that of the whole
-pub parted : {R E : Type 0} {shown : E → Interval} {w : World} {e : E} (term : R → Expression) (none : R) (xs ys : List R) → Within shown w (add (terms_of term none xs) (terms_of term none ys)) e → Within shown w (terms_of term none (xs ++ ys)) e
+pub parted : {R E : Type 0} {shown : E → Interval} {w : World} {e : E} (term : R → Expression) (none : R) (xs ys : List R)
+    → Within shown w (add (terms_of term none xs) (terms_of term none ys)) e → Within shown w (terms_of term none (xs ++ ys)) e
 unfolding Lies terms_of value
 parted {w = w} term none xs ys h =
     let all : length (xs ++ ys) ≡ length xs + length ys = length-append xs ys in

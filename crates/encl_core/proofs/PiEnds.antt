@@ -7,12 +7,12 @@ use Rattle.exact_math.proofs.Intervals.{within_trans}
 use Rattle.book_model.specs.numbers.Bounds.{Bound, Reach, IsNarrow, bound_of, spanned_bound, pi_spans, limits_of}
 use Rattle.book_model.specs.declared.tables.TheConstants.{PI_BELOW, PI_ABOVE}
 use Rattle.book_model.specs.numbers.Expressions.{World, value, pi}
-use Rattle.book_model.specs.programs.Leading.{at_56}
+use Rattle.book_model.specs.programs.Leading.{units_of_56}
 use Rattle.book_model.specs.numbers.Relations.{Within, Lies, Narrow, Keeps}
 use Rattle.book_model.proofs.Pi.{pi_number}
 
 abbrev pub pi_ends : Interval
-pi_ends = between (at_56 PI_BELOW.num) (at_56 PI_ABOVE.num)
+pi_ends = between (units_of_56 PI_BELOW.num) (units_of_56 PI_ABOVE.num)
 
 -- what holds what lies between its neighbours holds pi
 pub within_pi : {E : Type 0} (shown : E → Interval) (w : World) (e : E) → 40 ≤ w.depth → pi_ends ⊆ shown e → Within shown w pi e

@@ -7,7 +7,8 @@ pub terms_none : {R : Type 0} (term : R → Expression) (none : R) (rows : List 
 unfolding terms_to
 terms_none term none rows = refl
 
-pub terms_more : {R : Type 0} (term : R → Expression) (none : R) (rows : List R) (i : ℕ) → terms_to term none rows (i + 1) ≡ add (terms_to term none rows i) (term (slice_index_or rows i none))
+pub terms_more : {R : Type 0} (term : R → Expression) (none : R) (rows : List R) (i : ℕ) → terms_to term none rows (i + 1)
+    ≡ add (terms_to term none rows i) (term (slice_index_or rows i none))
 unfolding terms_to
 terms_more term none rows i = rw add-one refl
 

@@ -6,7 +6,7 @@ use Rattle.exact_math.specs.Interval.{Interval, everything, between, ◌⊆◌, 
 use Rattle.book_model.specs.numbers.Bounds.{bounded, IsNarrow}
 use Rattle.book_model.specs.numbers.Depth.{DEPTH}
 use Rattle.book_model.specs.numbers.Expressions.{Expression, World, value}
-use Rattle.book_model.specs.programs.Leading.{at_56, leaf}
+use Rattle.book_model.specs.programs.Leading.{units_of_56, leaf}
 use Rattle.book_model.specs.declared.new_moon_tables.TheConstants.{FIRST_RECENT_MOON, LAST_RECENT_MOON}
 use Rattle.book_model.specs.programs.Widths.{IsWithin, IsAbout, IsNearlyDated, IsRecentlyDated}
 use Rattle.book_model.specs.programs.Programs.{Program, Run, answered, voided, undecided, decided, run}
@@ -14,7 +14,7 @@ use Rattle.encl_core.specs.declared.span.Span.{Span}
 
 -- the interval between the ends of a span
 abbrev pub shown_span : Span → Interval
-shown_span s = between (at_56 s.lo) (at_56 s.hi)
+shown_span s = between (units_of_56 s.lo) (units_of_56 s.hi)
 
 -- whether a run makes so many tests, decides them all, and answers
 unfoldable pub answers_after : {A : Type 0} → ℕ → Run A → Bool

@@ -1,7 +1,7 @@
 -- The intervals that enclosures at scale 2^-36 show.
 use Rattle.exact_math.specs.Interval.{Interval, IsProper}
 use Rattle.encl_core.specs.declared.coarse.Coarse.{Coarse}
-use Rattle.scaled_ends.specs.Shown.{shown_ends, ends_proper}
+use Rattle.interval_ends.specs.Shown.{shown_ends, ends_proper}
 
 -- the interval that an enclosure shows
 abbrev pub shown_coarse : Coarse → Interval

@@ -6,12 +6,12 @@ use crate::fractions::frac_ends;
 use crate::turning::angle_ends;
 use crate::{Enclosure, Span, Trail};
 use book_model::{Frac, Site, Undecided};
-use scaled_ends::{
-    Ends, add_ends, cell_of_ends, clamp_ends, ends_of_span, finer_ends, hull_ends, int_ends,
-    lower_ends, max_ends, min_ends, neg_ends, open_at, order_of_ends, period_of_ends, scale_ends,
-    sub_ends, widen_ends,
+use interval_ends::{
+    Ends, add_ends, cell_of_ends, clamp_ends, ends_at_fine_scale, ends_of_span, hull_ends,
+    int_ends, max_ends, min_ends, neg_ends, open_at, order_of_ends, period_of_ends, rest_of_period,
+    scale_ends, sub_ends, widen_ends,
 };
-use scaled_products::{div_ends, mul_ends, root_ends, square_ends};
+use interval_products::{div_ends, mul_ends, root_ends, square_ends};
 
 /// An enclosure by two ends in 64 bits that count 2⁻³⁶, rounded outwards; every number, where an end doesn't fit.
 #[derive(Clone, Copy, Debug, PartialEq)]
@@ -145,7 +145,7 @@ impl Enclosure for Coarse {
     }
 
     fn span(self) -> Option<Span> {
-        let (lo, hi) = finer_ends(self.ends)?;
+        let (lo, hi) = ends_at_fine_scale(self.ends)?;
         Some(Span { lo, hi })
     }
 
@@ -169,7 +169,7 @@ impl Enclosure for Coarse {
         let turn = trail.step();
         match period_of_ends(self.ends, modulus) {
             Some(period) => Ok(Coarse {
-                ends: lower_ends(self.ends, modulus, period),
+                ends: rest_of_period(self.ends, modulus, period),
             }),
             None => Err(open_at(self.ends, site, turn)),
         }

@@ -8,7 +8,7 @@ ghost use Rattle.book_model.specs.numbers.Expressions.{Expression, World, intege
 ghost use Rattle.book_model.specs.numbers.Bounds.{Bound, Reach, IsNarrow, spanned_bound, limits_of};
 ghost use Rattle.book_model.specs.numbers.Relations.{Within, Narrow};
 ghost use Rattle.book_model.specs.programs.Programs.{integers, multiples, cell_at, compare_at};
-ghost use Rattle.book_model.specs.programs.Leading.{at_56, IsOpenCell, IsOpenComparison, next_turn};
+ghost use Rattle.book_model.specs.programs.Leading.{units_of_56, IsOpenCell, IsOpenComparison, next_turn};
 ghost use Rattle.book_model.specs.numbers.Depth.{DEPTH as LEAST_DEPTH};
 ghost use Rattle.encl_core.specs.Steps.{IsOpenPeriod};
 
@@ -57,9 +57,9 @@ pub trait Enclosure: Copy + Drop {
 
     /// The enclosure of what lies between two ends. It is at most two units wider than these are apart.
     fn from_span(span: Span) -> Self
-        ensures holds { between (at_56 span.lo) (at_56 span.hi) ⊆ shown result }
+        ensures holds { between (units_of_56 span.lo) (units_of_56 span.hi) ⊆ shown result }
         ensures narrow { (w : ℕ) (b : Bound) → IsNarrow w b
-            (between (at_56 span.lo) (at_56 span.hi)) → IsNarrow w
+            (between (units_of_56 span.lo) (units_of_56 span.hi)) → IsNarrow w
             (spanned_bound (limits_of BITS) b) (shown result) };
 
     /// The sums of the members.
@@ -136,8 +136,10 @@ pub trait Enclosure: Copy + Drop {
 
     /// The ends, at one scale for every kind; `None` for every number.
     fn span(self) -> Option<Span>
-        ensures holds { IfSome result (λ s. shown self ⊆ between (at_56 s.lo) (at_56 s.hi)) }
-        ensures tight { IfSome result (λ s. between (at_56 s.lo) (at_56 s.hi) ⊆ shown self) }
+        ensures holds { IfSome result (λ s. shown self ⊆ between (units_of_56 s.lo)
+            (units_of_56 s.hi)) }
+        ensures tight { IfSome result (λ s. between (units_of_56 s.lo) (units_of_56 s.hi)
+            ⊆ shown self) }
         ensures none { IsNone result → shown self ≡ everything };
 
     /// Whether each member is below each of the other, where that is so of all or of none. The test counts in the

@@ -3,11 +3,11 @@ ghost use Rattle.std.specs.Prelude.{◌≡◌, ℕ, ◌*◌, ◌^◌, ◌<◌};
 ghost use Rattle.exact_math.specs.Interval.{◌⊆◌, between};
 ghost use Rattle.book_model.specs.numbers.Fractions.{fraction_of};
 ghost use Rattle.book_model.specs.numbers.Bounds.{IsNarrow, constant_bound, limits_36};
-ghost use Rattle.scaled_ends.specs.Shown.{shown_ends};
+ghost use Rattle.interval_ends.specs.Shown.{shown_ends};
 
 use book_model::Frac;
+use interval_ends::{Ends, ends_of, ends_of_fraction};
 use rounded_quotients::{ceil_div, floor_div};
-use scaled_ends::{Ends, ends_of, raised_ends};
 
 /// How many times 2³⁶ goes into a denominator; 0, where it leaves a remainder.
 #[inline(always)]
@@ -47,6 +47,6 @@ pub(crate) fn frac_ends(value: Frac) -> Option<Ends<i64>>
     if units > 0 {
         fine_ends(value, units)
     } else {
-        raised_ends(value)
+        ends_of_fraction(value)
     }
 }

@@ -57,7 +57,8 @@ pub fn wrap_step<E: Enclosure>(x: E, modulus: u32, site: Site, trail: &mut Trail
         (remainder modulus e q) y) }
     ensures decided { IfOk result (λ y. IsSome (cell_at (multiples modulus) (E.shown x))) }
     ensures open { IfErr result (IsOpenWrap modulus (E.shown x) site) }
-    ensures measured { Measured1 E.BITS E.shown (most_apart site) (IsAbout (2 ^ 90)) (IsUpTo modulus)
+    ensures measured { Measured1 E.BITS E.shown (most_apart site) (IsAbout (2 ^ 90))
+        (IsUpTo modulus)
         x result }
     ensures counted { trail.new.count ≡ next_turn trail.old.count }
 {

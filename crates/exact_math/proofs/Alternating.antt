@@ -71,7 +71,8 @@ pub nested : (n : ℕ) (t : ℕ → Fraction) → Halving t → SumsNest t n
 unfolding beneath atop alternating
 nested zero t h = record {
   below = le_by (t 0 ∷ t 1 ∷ t 2 ∷ []) ((two ⊗ at 2 ≼ at 1) ∷ []) (at 0 ⊖ two ⊗ at 1) ((at 0 ⊖ at 1) ⊖ two ⊗ at 2) (known 0) refl (h.halves 1, tt);
-  above = le_by (t 0 ∷ t 1 ∷ t 2 ∷ []) ((two ⊗ at 2 ≼ at 1) ∷ (lit (pos 0) ≼ at 1) ∷ []) ((at 0 ⊖ at 1) ⊕ two ⊗ at 2) (at 0 ⊕ two ⊗ at 1) (known 0 ⊞ natural 2 ⊠ known 1) refl (h.halves 1, (h.nonneg 1, tt));
+  above = le_by (t 0 ∷ t 1 ∷ t 2 ∷ []) ((two ⊗ at 2 ≼ at 1) ∷ (lit (pos 0) ≼ at 1) ∷ []) ((at 0 ⊖ at 1) ⊕ two ⊗ at 2) (at 0 ⊕ two ⊗ at 1)
+      (known 0 ⊞ natural 2 ⊠ known 1) refl (h.halves 1, (h.nonneg 1, tt));
 }
 nested (suc n) t h = nested_by_tail t n (nested n (λ k. t (suc k)) (tail t h))
 
@@ -90,8 +91,10 @@ record Risen (p q : ℕ → Fraction) (n : ℕ) : Type 0 where
 risen : (n : ℕ) (p q : ℕ → Fraction) → Rising p q → Risen p q n
 unfolding beneath atop alternating
 risen zero p q h = record {
-  low = le_by (p 0 ∷ q 0 ∷ p 1 ∷ q 1 ∷ []) ((at 0 ⊕ two ⊗ at 3 ≼ at 1 ⊕ two ⊗ at 2) ∷ []) (at 0 ⊖ two ⊗ at 2) (at 1 ⊖ two ⊗ at 3) (known 0) refl (h.halves 0, tt);
-  high = le_by (p 0 ∷ q 0 ∷ p 1 ∷ q 1 ∷ []) ((at 0 ⊕ two ⊗ at 3 ≼ at 1 ⊕ two ⊗ at 2) ∷ []) ((at 1 ⊕ two ⊗ at 3) ⊕ two ⊗ at 0) ((at 0 ⊕ two ⊗ at 2) ⊕ two ⊗ at 1) (known 0) refl (h.halves 0, tt);
+  low = le_by (p 0 ∷ q 0 ∷ p 1 ∷ q 1 ∷ []) ((at 0 ⊕ two ⊗ at 3 ≼ at 1 ⊕ two ⊗ at 2) ∷ []) (at 0 ⊖ two ⊗ at 2) (at 1 ⊖ two ⊗ at 3) (known 0) refl
+      (h.halves 0, tt);
+  high = le_by (p 0 ∷ q 0 ∷ p 1 ∷ q 1 ∷ []) ((at 0 ⊕ two ⊗ at 3 ≼ at 1 ⊕ two ⊗ at 2) ∷ []) ((at 1 ⊕ two ⊗ at 3) ⊕ two ⊗ at 0) ((at 0 ⊕ two ⊗ at 2) ⊕ two ⊗ at 1)
+      (known 0) refl (h.halves 0, tt);
 }
 risen (suc n) p q h = by_tails p q n h (risen n (λ k. p (suc k)) (λ k. q (suc k)) (tails p q h))
   where
@@ -139,19 +142,31 @@ atop_falls n p q h =
 -- the ends are in order, and not negative where the terms halve from the first on
 pub ends_in_order : (n : ℕ) (t : ℕ → Fraction) → zero_F ≤F t (suc n) → beneath t n ≤F atop t n
 unfolding beneath atop
-ends_in_order n t h = le_by (alternating t n ∷ t (suc n) ∷ []) ((lit (pos 0) ≼ at 1) ∷ []) (at 0 ⊖ two ⊗ at 1) (at 0 ⊕ two ⊗ at 1) (natural 4 ⊠ known 0) refl (h, tt)
+ends_in_order n t h = le_by (alternating t n ∷ t (suc n) ∷ []) ((lit (pos 0) ≼ at 1) ∷ []) (at 0 ⊖ two ⊗ at 1) (at 0 ⊕ two ⊗ at 1) (natural 4 ⊠ known 0) refl
+    (h, tt)
 
 -- ---- the same for the ends of a series, whose terms are not negative
 pub sums_nested : (n : ℕ) (t : ℕ → Fraction) → Halving t → (lower t n ≤F lower t (suc n)) × (upper t (suc n) ≤F upper t n)
 sums_nested n t h =
     let k = nested n t h in
-    rw (lower_is_beneath t n (h.nonneg (suc n)), lower_is_beneath t (suc n) (h.nonneg (suc (suc n))), upper_is_atop t n (h.nonneg (suc n)), upper_is_atop t (suc n) (h.nonneg (suc (suc n)))) (k.below, k.above)
+    rw (
+      lower_is_beneath t n (h.nonneg (suc n)),
+      lower_is_beneath t (suc n) (h.nonneg (suc (suc n))),
+      upper_is_atop t n (h.nonneg (suc n)),
+      upper_is_atop t (suc n) (h.nonneg (suc (suc n))),
+    ) (k.below, k.above)
 
 -- from the second term on
-pub later_sums_nested : (n : ℕ) (t : ℕ → Fraction) → Halving (λ k. t (suc k)) → (lower t (suc n) ≤F lower t (suc (suc n))) × (upper t (suc (suc n)) ≤F upper t (suc n))
+pub later_sums_nested : (n : ℕ) (t : ℕ → Fraction) → Halving (λ k. t (suc k)) → (lower t (suc n) ≤F lower t (suc (suc n)))
+    × (upper t (suc (suc n)) ≤F upper t (suc n))
 later_sums_nested n t h =
     let k = nested_by_tail t n (nested n (λ k. t (suc k)) h) in
-    rw (lower_is_beneath t (suc n) (h.nonneg (suc n)), lower_is_beneath t (suc (suc n)) (h.nonneg (suc (suc n))), upper_is_atop t (suc n) (h.nonneg (suc n)), upper_is_atop t (suc (suc n)) (h.nonneg (suc (suc n)))) (k.below, k.above)
+    rw (
+      lower_is_beneath t (suc n) (h.nonneg (suc n)),
+      lower_is_beneath t (suc (suc n)) (h.nonneg (suc (suc n))),
+      upper_is_atop t (suc n) (h.nonneg (suc n)),
+      upper_is_atop t (suc (suc n)) (h.nonneg (suc (suc n))),
+    ) (k.below, k.above)
 
 pub lower_rises : (n : ℕ) (p q : ℕ → Fraction) → zero_F ≤F p (suc n) → zero_F ≤F q (suc n) → Rising p q → lower p n ≤F lower q n
 lower_rises n p q a b h = rw (lower_is_beneath p n a, lower_is_beneath q n b) (beneath_rises n p q h)

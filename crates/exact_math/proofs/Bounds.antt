@@ -80,9 +80,11 @@ pub le_by : (ρ : List ℤ) (cs : List Claim) (p q : Poly) (c : Cert) → normal
 le_by ρ cs p q c e h = from_sub (value ρ p) (value ρ q) (subst (λ x. pos 0 ≤ℤ x) (sym (ring ρ (q ⊖ p) (reached cs c) e)) (reached_nonneg ρ cs c h))
 
 -- the same, where a positive s times q - p is shown
-pub le_over : (ρ : List ℤ) (cs : List Claim) (s p q : Poly) (c : Cert) → normal (s ⊗ (q ⊖ p)) ≡ normal (reached cs c) → pos 1 ≤ℤ value ρ s → Holds ρ cs → value ρ p ≤ℤ value ρ q
+pub le_over : (ρ : List ℤ) (cs : List Claim) (s p q : Poly) (c : Cert) → normal (s ⊗ (q ⊖ p)) ≡ normal (reached cs c) → pos 1 ≤ℤ value ρ s → Holds ρ cs
+    → value ρ p ≤ℤ value ρ q
 le_over ρ cs s p q c e k h =
-    from_sub (value ρ p) (value ρ q) (over (value ρ s) (value ρ (q ⊖ p)) k (subst (λ x. pos 0 ≤ℤ x) (sym (ring ρ (s ⊗ (q ⊖ p)) (reached cs c) e)) (reached_nonneg ρ cs c h)))
+    from_sub (value ρ p) (value ρ q) (over (value ρ s) (value ρ (q ⊖ p)) k
+    (subst (λ x. pos 0 ≤ℤ x) (sym (ring ρ (s ⊗ (q ⊖ p)) (reached cs c) e)) (reached_nonneg ρ cs c h)))
 
 -- the claims cannot all hold, where -1 is shown not to be negative
 pub refute : (ρ : List ℤ) (cs : List Claim) (c : Cert) → normal (lit (negsuc 0)) ≡ normal (reached cs c) → Holds ρ cs → ⊥

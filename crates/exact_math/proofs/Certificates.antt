@@ -132,11 +132,13 @@ le_by ρ cs p q c e h =
     from_sub (value ρ p) (value ρ q)
     (le_trans zero_F (value ρ (reached cs c)) (value ρ (q ⊖ p)) (reached_nonneg ρ cs c h) (ge_of_same (same_by ρ (q ⊖ p) (reached cs c) e)))
 
-pub le_over : (s : ℕ) (ρ : List Fraction) (cs : List Claim) (p q : Poly) (c : Cert) → normal (lit (pos (suc s)) ⊗ (q ⊖ p)) ≡ normal (reached cs c) → Holds ρ cs → value ρ p ≤F value ρ q
+pub le_over : (s : ℕ) (ρ : List Fraction) (cs : List Claim) (p q : Poly) (c : Cert) → normal (lit (pos (suc s)) ⊗ (q ⊖ p)) ≡ normal (reached cs c) → Holds ρ cs
+    → value ρ p ≤F value ρ q
 le_over s ρ cs p q c e h =
     from_sub (value ρ p) (value ρ q)
     (over_natural s (value ρ (q ⊖ p))
-    (le_trans zero_F (value ρ (reached cs c)) (value ρ (lit (pos (suc s)) ⊗ (q ⊖ p))) (reached_nonneg ρ cs c h) (ge_of_same (same_by ρ (lit (pos (suc s)) ⊗ (q ⊖ p)) (reached cs c) e))))
+    (le_trans zero_F (value ρ (reached cs c)) (value ρ (lit (pos (suc s)) ⊗ (q ⊖ p))) (reached_nonneg ρ cs c h)
+    (ge_of_same (same_by ρ (lit (pos (suc s)) ⊗ (q ⊖ p)) (reached cs c) e))))
 
 -- ---- further forms
 pub record IsPositive (a : Fraction) : Type 0 where
@@ -147,7 +149,8 @@ not_negative n h = omega (arith, ints, h.cross)
 
 -- claims that show a negative number not to be negative
 pub refute : (n : ℕ) (ρ : List Fraction) (cs : List Claim) (c : Cert) → normal (lit (negsuc n)) ≡ normal (reached cs c) → Holds ρ cs → ⊥
-refute n ρ cs c e h = not_negative n (le_trans zero_F (value ρ (reached cs c)) (whole (negsuc n)) (reached_nonneg ρ cs c h) (ge_of_same (same_by ρ (lit (negsuc n)) (reached cs c) e)))
+refute n ρ cs c e h = not_negative n (le_trans zero_F (value ρ (reached cs c)) (whole (negsuc n)) (reached_nonneg ρ cs c h)
+    (ge_of_same (same_by ρ (lit (negsuc n)) (reached cs c) e)))
 
 -- p and q are of one value: q - p is the sum of these multiples of known equations
 abbrev pub combined : List Claim → List (ℕ × Poly) → Poly
@@ -160,7 +163,8 @@ combined_zero ρ cs (m ∷ ms) h =
     same_trans (plus_cong (times_cong (null_zero ρ cs m.0 h) (same_refl (value ρ m.1))) (combined_zero ρ cs ms h))
     (same_by (value ρ m.1 ∷ []) (lit (pos 0) ⊗ at 0 ⊕ lit (pos 0)) (lit (pos 0)) refl)
 
-pub same_given : (ρ : List Fraction) (cs : List Claim) (p q : Poly) (ms : List (ℕ × Poly)) → normal (q ⊖ p) ≡ normal (combined cs ms) → Holds ρ cs → value ρ p ≈ value ρ q
+pub same_given : (ρ : List Fraction) (cs : List Claim) (p q : Poly) (ms : List (ℕ × Poly)) → normal (q ⊖ p) ≡ normal (combined cs ms) → Holds ρ cs
+    → value ρ p ≈ value ρ q
 same_given ρ cs p q ms e h =
     same_trans (same_by (value ρ p ∷ []) (at 0) (at 0 ⊕ lit (pos 0)) refl)
     (same_trans (plus_cong (same_refl (value ρ p)) (same_sym (same_trans (same_by ρ (q ⊖ p) (combined cs ms) e) (combined_zero ρ cs ms h))))

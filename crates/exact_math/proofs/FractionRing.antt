@@ -52,7 +52,8 @@ product_put_var ρ i (j ∷ m) =
 product-join : (ρ : List Fraction) (m n : List ℕ) → product ρ (join m n) ≈ times (product ρ m) (product ρ n)
 unfolding product
 product-join ρ [] n = same_sym (one_times (product ρ n))
-product-join ρ (i ∷ m) n = product_put_var ρ i (join m n) then right_factor (nth ρ i) (product-join ρ m n) then same_sym (times_assoc (nth ρ i) (product ρ m) (product ρ n))
+product-join ρ (i ∷ m) n = product_put_var ρ i (join m n) then right_factor (nth ρ i) (product-join ρ m n) then same_sym
+    (times_assoc (nth ρ i) (product ρ m) (product ρ n))
 
 total-put : (ρ : List Fraction) (c : ℤ) (m : List ℕ) (r : Sum) → total ρ (put c m r) ≈ plus (times (whole c) (product ρ m)) (total ρ r)
 unfolding total
@@ -65,10 +66,13 @@ unfolding total
 total-add_term ρ c m none = total-put ρ c m none
 total-add_term ρ c m (more d n r) = by_order (order m n) refl (total-add_term ρ c m r)
   where
-    by_order : (o : Order) → order m n ≡ o → total ρ (add_term c m r) ≈ plus (times (whole c) (product ρ m)) (total ρ r) → total ρ (elim o [ before ↦ put c m (more d n r) | same ↦ put (c +ℤ d) n r | after ↦ more d n (add_term c m r) ]) ≈ plus (times (whole c) (product ρ m)) (plus (times (whole d) (product ρ n)) (total ρ r))
+    by_order : (o : Order) → order m n ≡ o → total ρ (add_term c m r) ≈ plus (times (whole c) (product ρ m)) (total ρ r)
+        → total ρ (elim o [ before ↦ put c m (more d n r) | same ↦ put (c +ℤ d) n r | after ↦ more d n (add_term c m r) ]) ≈ plus
+        (times (whole c) (product ρ m)) (plus (times (whole d) (product ρ n)) (total ρ r))
     by_order before e rest = total-put ρ c m (more d n r)
     by_order same e rest =
-        subst (λ x. total ρ (put (c +ℤ d) n r) ≈ plus (times (whole c) (product ρ x)) (plus (times (whole d) (product ρ n)) (total ρ r))) (sym (same_order m n e))
+        subst (λ x. total ρ (put (c +ℤ d) n r) ≈ plus (times (whole c) (product ρ x)) (plus (times (whole d) (product ρ n)) (total ρ r)))
+        (sym (same_order m n e))
         (total-put ρ (c +ℤ d) n r
         then left (total ρ r) (left_factor (product ρ n) (whole-plus c d) then plus_times (whole c) (whole d) (product ρ n))
         then plus_assoc (times (whole c) (product ρ n)) (times (whole d) (product ρ n)) (total ρ r))
@@ -79,7 +83,8 @@ total-add : (ρ : List Fraction) (p q : Sum) → total ρ (add p q) ≈ plus (to
 unfolding total
 total-add ρ none q = same_sym (zero_plus (total ρ q))
 total-add ρ (more c m r) q =
-    total-add_term ρ c m (add r q) then right (times (whole c) (product ρ m)) (total-add ρ r q) then same_sym (plus_assoc (times (whole c) (product ρ m)) (total ρ r) (total ρ q))
+    total-add_term ρ c m (add r q) then right (times (whole c) (product ρ m)) (total-add ρ r q) then same_sym
+    (plus_assoc (times (whole c) (product ρ m)) (total ρ r) (total ρ q))
 
 regroup : (c d x y : Fraction) → times (times c d) (times x y) ≈ times (times c x) (times d y)
 regroup c d x y = times_assoc c d (times x y) then right_factor c (times_left_comm d x y) then same_sym (times_assoc c x (times d y))
@@ -97,7 +102,8 @@ total-mul : (ρ : List Fraction) (p q : Sum) → total ρ (mul p q) ≈ times (t
 unfolding total
 total-mul ρ none q = same_sym (zero_times (total ρ q))
 total-mul ρ (more c m r) q =
-    total-add ρ (scale c m q) (mul r q) then plus_cong (total-scale ρ c m q) (total-mul ρ r q) then same_sym (plus_times (times (whole c) (product ρ m)) (total ρ r) (total ρ q))
+    total-add ρ (scale c m q) (mul r q) then plus_cong (total-scale ρ c m q) (total-mul ρ r q) then same_sym
+    (plus_times (times (whole c) (product ρ m)) (total ρ r) (total ρ q))
 
 total-negated : (ρ : List Fraction) (p : Sum) → total ρ (scale (negsuc 0) [] p) ≈ opposite (total ρ p)
 unfolding product
@@ -105,7 +111,8 @@ total-negated ρ p = total-scale ρ (negsuc 0) [] p then left_factor (total ρ p
 
 pub total-normal : (ρ : List Fraction) (p : Poly) → total ρ (normal p) ≈ value ρ p
 unfolding total product
-total-normal ρ (at i) = plus_zero (times (whole (pos 1)) (times (nth ρ i) (whole (pos 1)))) then one_times (times (nth ρ i) (whole (pos 1))) then times_one (nth ρ i)
+total-normal ρ (at i) = plus_zero (times (whole (pos 1)) (times (nth ρ i) (whole (pos 1)))) then one_times (times (nth ρ i) (whole (pos 1))) then times_one
+    (nth ρ i)
 total-normal ρ (lit c) = total-put ρ c [] none then plus_zero (times (whole c) (whole (pos 1))) then times_one (whole c)
 total-normal ρ (p ⊕ q) = total-add ρ (normal p) (normal q) then plus_cong (total-normal ρ p) (total-normal ρ q)
 total-normal ρ (p ⊖ q) =

@@ -31,31 +31,39 @@ trans_z a b c p q r hp hq hr h k =
     (known 3 ⊠ (known 2 ⊞ naturally 1) ⊞ known 4 ⊠ (known 0 ⊞ naturally 1)) refl hq (hp, (hq, (hr, (h, (k, tt)))))
 
 pub le_trans : (a b c : Fraction) → a ≤F b → b ≤F c → a ≤F c
-le_trans a b c h k = record { cross = trans_z a.num b.num c.num (den a) (den b) (den c) (positive a.below) (positive b.below) (positive c.below) h.cross k.cross }
+le_trans a b c h k = record {
+  cross = trans_z a.num b.num c.num (den a) (den b) (den c) (positive a.below) (positive b.below) (positive c.below) h.cross k.cross;
+}
 
 -- a strict step makes the whole strict
 strict_z : (a b c p q r : ℤ) → pos 1 ≤ℤ p → pos 1 ≤ℤ q → pos 1 ≤ℤ r → (a *ℤ q +ℤ pos 1) ≤ℤ (b *ℤ p) → (b *ℤ r) ≤ℤ (c *ℤ q) → (c *ℤ p) ≤ℤ (a *ℤ r) → ⊥
 strict_z a b c p q r hp hq hr h k l =
     let one = lit (pos 1) in
-    refute (a ∷ b ∷ c ∷ p ∷ q ∷ r ∷ []) ((one ≼ at 3) ∷ (one ≼ at 4) ∷ (one ≼ at 5) ∷ (at 0 ⊗ at 4 ⊕ one ≼ at 1 ⊗ at 3) ∷ (at 1 ⊗ at 5 ≼ at 2 ⊗ at 4) ∷ (at 2 ⊗ at 3 ≼ at 0 ⊗ at 5) ∷ [])
-    (known 4 ⊠ (known 0 ⊞ naturally 1) ⊞ known 3 ⊠ (known 2 ⊞ naturally 1) ⊞ known 5 ⊠ (known 1 ⊞ naturally 1) ⊞ known 2) refl (hp, (hq, (hr, (h, (k, (l, tt))))))
+    refute (a ∷ b ∷ c ∷ p ∷ q ∷ r ∷ []) ((one ≼ at 3) ∷ (one ≼ at 4) ∷ (one ≼ at 5) ∷ (at 0 ⊗ at 4 ⊕ one ≼ at 1 ⊗ at 3) ∷ (at 1 ⊗ at 5 ≼ at 2 ⊗ at 4) ∷
+    (at 2 ⊗ at 3 ≼ at 0 ⊗ at 5) ∷ [])
+    (known 4 ⊠ (known 0 ⊞ naturally 1) ⊞ known 3 ⊠ (known 2 ⊞ naturally 1) ⊞ known 5 ⊠ (known 1 ⊞ naturally 1) ⊞ known 2) refl
+    (hp, (hq, (hr, (h, (k, (l, tt))))))
 
 strict_second_z : (a b c p q r : ℤ) → pos 1 ≤ℤ p → pos 1 ≤ℤ q → pos 1 ≤ℤ r → (a *ℤ q) ≤ℤ (b *ℤ p) → (b *ℤ r +ℤ pos 1) ≤ℤ (c *ℤ q) → (c *ℤ p) ≤ℤ (a *ℤ r) → ⊥
 strict_second_z a b c p q r hp hq hr h k l =
     let one = lit (pos 1) in
-    refute (a ∷ b ∷ c ∷ p ∷ q ∷ r ∷ []) ((one ≼ at 3) ∷ (one ≼ at 4) ∷ (one ≼ at 5) ∷ (at 0 ⊗ at 4 ≼ at 1 ⊗ at 3) ∷ (at 1 ⊗ at 5 ⊕ one ≼ at 2 ⊗ at 4) ∷ (at 2 ⊗ at 3 ≼ at 0 ⊗ at 5) ∷ [])
-    (known 4 ⊠ (known 0 ⊞ naturally 1) ⊞ known 3 ⊠ (known 2 ⊞ naturally 1) ⊞ known 5 ⊠ (known 1 ⊞ naturally 1) ⊞ known 0) refl (hp, (hq, (hr, (h, (k, (l, tt))))))
+    refute (a ∷ b ∷ c ∷ p ∷ q ∷ r ∷ []) ((one ≼ at 3) ∷ (one ≼ at 4) ∷ (one ≼ at 5) ∷ (at 0 ⊗ at 4 ≼ at 1 ⊗ at 3) ∷ (at 1 ⊗ at 5 ⊕ one ≼ at 2 ⊗ at 4) ∷
+    (at 2 ⊗ at 3 ≼ at 0 ⊗ at 5) ∷ [])
+    (known 4 ⊠ (known 0 ⊞ naturally 1) ⊞ known 3 ⊠ (known 2 ⊞ naturally 1) ⊞ known 5 ⊠ (known 1 ⊞ naturally 1) ⊞ known 0) refl
+    (hp, (hq, (hr, (h, (k, (l, tt))))))
 
 pub lt_le_trans : (a b c : Fraction) → a <F b → b ≤F c → a <F c
 lt_le_trans a b c h k = record {
   strict = by_lt_z (a.num *ℤ den c) (c.num *ℤ den a) (λ l. l)
-      (λ l. let g : (a.num *ℤ den b +ℤ pos 1) ≤ℤ (b.num *ℤ den a) = omega (arith, ints, h.strict) in absurd (strict_z a.num b.num c.num (den a) (den b) (den c) (positive a.below) (positive b.below) (positive c.below) g k.cross l));
+      (λ l. let g : (a.num *ℤ den b +ℤ pos 1) ≤ℤ (b.num *ℤ den a) = omega (arith, ints, h.strict) in absurd
+      (strict_z a.num b.num c.num (den a) (den b) (den c) (positive a.below) (positive b.below) (positive c.below) g k.cross l));
 }
 
 pub le_lt_trans : (a b c : Fraction) → a ≤F b → b <F c → a <F c
 le_lt_trans a b c h k = record {
   strict = by_lt_z (a.num *ℤ den c) (c.num *ℤ den a) (λ l. l)
-      (λ l. let g : (b.num *ℤ den c +ℤ pos 1) ≤ℤ (c.num *ℤ den b) = omega (arith, ints, k.strict) in absurd (strict_second_z a.num b.num c.num (den a) (den b) (den c) (positive a.below) (positive b.below) (positive c.below) h.cross g l));
+      (λ l. let g : (b.num *ℤ den c +ℤ pos 1) ≤ℤ (c.num *ℤ den b) = omega (arith, ints, k.strict) in absurd
+      (strict_second_z a.num b.num c.num (den a) (den b) (den c) (positive a.below) (positive b.below) (positive c.below) h.cross g l));
 }
 
 pub le_total : (a b : Fraction) → (a ≤F b) ⊎ (b ≤F a)
@@ -69,7 +77,8 @@ le_total a b = by_test (le_z (a.num *ℤ den b) (b.num *ℤ den a)) refl
 pub by_cross : (a b : Fraction) (p q : ℤ) → den a ≡ p → den b ≡ q → (a.num *ℤ q) ≤ℤ (b.num *ℤ p) → a ≤F b
 by_cross a b p q e f h = record { cross = subst (λ x. (a.num *ℤ x) ≤ℤ (b.num *ℤ den a)) (sym f) (subst (λ x. (a.num *ℤ q) ≤ℤ (b.num *ℤ x)) (sym e) h) }
 
-plus_z : (a b c d p q r s : ℤ) → pos 1 ≤ℤ p → pos 1 ≤ℤ q → pos 1 ≤ℤ r → pos 1 ≤ℤ s → (a *ℤ q) ≤ℤ (b *ℤ p) → (c *ℤ s) ≤ℤ (d *ℤ r) → ((a *ℤ r +ℤ c *ℤ p) *ℤ (q *ℤ s)) ≤ℤ ((b *ℤ s +ℤ d *ℤ q) *ℤ (p *ℤ r))
+plus_z : (a b c d p q r s : ℤ) → pos 1 ≤ℤ p → pos 1 ≤ℤ q → pos 1 ≤ℤ r → pos 1 ≤ℤ s → (a *ℤ q) ≤ℤ (b *ℤ p) → (c *ℤ s) ≤ℤ (d *ℤ r)
+    → ((a *ℤ r +ℤ c *ℤ p) *ℤ (q *ℤ s)) ≤ℤ ((b *ℤ s +ℤ d *ℤ q) *ℤ (p *ℤ r))
 plus_z a b c d p q r s hp hq hr hs h k =
     let va = at 0 in
     let vb = at 1 in
@@ -166,8 +175,16 @@ pub record Second (a b : Fraction) : Type 0 where
 
 by_test : (a b : Fraction) (t : Bool) → le_z (a.num *ℤ den b) (b.num *ℤ den a) ≡ t → First a b ⊎ Second a b
 unfolding smaller larger is_at_most
-by_test a b true e = inl (record { is_smaller = ap (λ (t : Bool). cond t a b) e; is_larger = ap (λ (t : Bool). cond t b a) e; in_order = record { cross = omega (arith, ints) } })
-by_test a b false e = inr (record { is_smaller = ap (λ (t : Bool). cond t a b) e; is_larger = ap (λ (t : Bool). cond t b a) e; in_order = record { cross = omega (arith, ints) } })
+by_test a b true e = inl (record {
+  is_smaller = ap (λ (t : Bool). cond t a b) e;
+  is_larger = ap (λ (t : Bool). cond t b a) e;
+  in_order = record { cross = omega (arith, ints) };
+})
+by_test a b false e = inr (record {
+  is_smaller = ap (λ (t : Bool). cond t a b) e;
+  is_larger = ap (λ (t : Bool). cond t b a) e;
+  in_order = record { cross = omega (arith, ints) };
+})
 
 pub one_of : (a b : Fraction) → First a b ⊎ Second a b
 one_of a b = by_test a b (le_z (a.num *ℤ den b) (b.num *ℤ den a)) refl
@@ -214,13 +231,15 @@ pub turned_below : (z a b : Fraction) → times a b ≤F z → times b a ≤F z
 turned_below z a b h = le_trans (times b a) (times a b) z (times_comm b a) h
 
 -- z is at most the four products of the ends, and so at most each product of members
-pub four_above : (z a b c d x y : Fraction) → a ≤F x → x ≤F b → c ≤F y → y ≤F d → z ≤F times a c → z ≤F times a d → z ≤F times b c → z ≤F times b d → z ≤F times x y
+pub four_above : (z a b c d x y : Fraction) → a ≤F x → x ≤F b → c ≤F y → y ≤F d → z ≤F times a c → z ≤F times a d → z ≤F times b c → z ≤F times b d
+    → z ≤F times x y
 four_above z a b c d x y ax xb cy yd ac ad bc bd =
     product_above z a x b y ax xb
     (turned_above z y a (product_above z c y d a cy yd (turned_above z a c ac) (turned_above z a d ad)))
     (turned_above z y b (product_above z c y d b cy yd (turned_above z b c bc) (turned_above z b d bd)))
 
-pub four_below : (z a b c d x y : Fraction) → a ≤F x → x ≤F b → c ≤F y → y ≤F d → times a c ≤F z → times a d ≤F z → times b c ≤F z → times b d ≤F z → times x y ≤F z
+pub four_below : (z a b c d x y : Fraction) → a ≤F x → x ≤F b → c ≤F y → y ≤F d → times a c ≤F z → times a d ≤F z → times b c ≤F z → times b d ≤F z
+    → times x y ≤F z
 four_below z a b c d x y ax xb cy yd ac ad bc bd =
     product_below z a x b y ax xb
     (turned_below z y a (product_below z c y d a cy yd (turned_below z a c ac) (turned_below z a d ad)))
@@ -231,7 +250,8 @@ recip_z : (m n p q : ℤ) → (m *ℤ q) ≤ℤ (n *ℤ p) → (q *ℤ m) ≤ℤ
 recip_z m n p q h = le_by (m ∷ n ∷ p ∷ q ∷ []) ((at 0 ⊗ at 3 ≼ at 1 ⊗ at 2) ∷ []) (at 3 ⊗ at 0) (at 2 ⊗ at 1) (known 0) refl (h, tt)
 
 recip_negative_z : (m n p q : ℤ) → (neg_ℤ m *ℤ q) ≤ℤ (neg_ℤ n *ℤ p) → (neg_ℤ q *ℤ m) ≤ℤ (neg_ℤ p *ℤ n)
-recip_negative_z m n p q h = le_by (m ∷ n ∷ p ∷ q ∷ []) ((minus (at 0) ⊗ at 3 ≼ minus (at 1) ⊗ at 2) ∷ []) (minus (at 3) ⊗ at 0) (minus (at 2) ⊗ at 1) (known 0) refl (h, tt)
+recip_negative_z m n p q h = le_by (m ∷ n ∷ p ∷ q ∷ []) ((minus (at 0) ⊗ at 3 ≼ minus (at 1) ⊗ at 2) ∷ []) (minus (at 3) ⊗ at 0) (minus (at 2) ⊗ at 1) (known 0)
+    refl (h, tt)
 
 pub record IsPositive (a : Fraction) : Type 0 where
   pub above : pos 1 ≤ℤ a.num
@@ -243,7 +263,8 @@ pub reciprocal_anti_positive : (a b : Fraction) → IsPositive a → IsPositive 
 unfolding reciprocal
 reciprocal_anti_positive a b h k l = by_parts a.num b.num a.below b.below h.above k.above l.cross
   where
-    by_parts : (m n : ℤ) (p q : ℕ) → pos 1 ≤ℤ m → pos 1 ≤ℤ n → (m *ℤ pos (suc q)) ≤ℤ (n *ℤ pos (suc p)) → reciprocal (record { num = n; below = q }) ≤F reciprocal (record { num = m; below = p })
+    by_parts : (m n : ℤ) (p q : ℕ) → pos 1 ≤ℤ m → pos 1 ≤ℤ n → (m *ℤ pos (suc q)) ≤ℤ (n *ℤ pos (suc p))
+        → reciprocal (record { num = n; below = q }) ≤F reciprocal (record { num = m; below = p })
     by_parts (pos (suc m)) (pos (suc n)) p q h k l = record { cross = recip_z (pos (suc m)) (pos (suc n)) (pos (suc p)) (pos (suc q)) l }
     by_parts (pos zero) n p q h k l = absurd (omega (arith, ints))
     by_parts (negsuc m) n p q h k l = absurd (omega (arith, ints))
@@ -254,7 +275,8 @@ pub reciprocal_anti_negative : (a b : Fraction) → IsNegative a → IsNegative 
 unfolding reciprocal
 reciprocal_anti_negative a b h k l = by_parts a.num b.num a.below b.below h.under k.under l.cross
   where
-    by_parts : (m n : ℤ) (p q : ℕ) → m ≤ℤ negsuc 0 → n ≤ℤ negsuc 0 → (m *ℤ pos (suc q)) ≤ℤ (n *ℤ pos (suc p)) → reciprocal (record { num = n; below = q }) ≤F reciprocal (record { num = m; below = p })
+    by_parts : (m n : ℤ) (p q : ℕ) → m ≤ℤ negsuc 0 → n ≤ℤ negsuc 0 → (m *ℤ pos (suc q)) ≤ℤ (n *ℤ pos (suc p))
+        → reciprocal (record { num = n; below = q }) ≤F reciprocal (record { num = m; below = p })
     by_parts (negsuc m) (negsuc n) p q h k l = record { cross = recip_negative_z (pos (suc m)) (pos (suc n)) (pos (suc p)) (pos (suc q)) l }
     by_parts (pos m) n p q h k l = absurd (omega (arith, ints))
     by_parts (negsuc m) (pos n) p q h k l = absurd (omega (arith, ints))

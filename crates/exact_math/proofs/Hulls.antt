@@ -48,7 +48,8 @@ negative_hull everything j = within_everything everything
 negative_hull (between a b) everything = within_everything everything
 negative_hull (between a b) (between c d) = record {
   ends = (
-    larger_keeps (λ z. smaller (opposite b) (opposite d) ≤F opposite z) b d (smaller_first (opposite b) (opposite d)) (smaller_second (opposite b) (opposite d)),
+    larger_keeps (λ z. smaller (opposite b) (opposite d) ≤F opposite z) b d (smaller_first (opposite b) (opposite d))
+        (smaller_second (opposite b) (opposite d)),
     smaller_keeps (λ z. opposite z ≤F larger (opposite a) (opposite c)) a c (larger_first (opposite a) (opposite c)) (larger_second (opposite a) (opposite c)),
   );
 }

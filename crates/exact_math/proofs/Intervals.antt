@@ -112,8 +112,10 @@ product_ends (between a b) (between a' b') (between c d) (between c' d') p q h k
     let ac : IsMember (times a c) (product (between a' b') (between c' d')) = product_holds (between a' b') (between c' d') a c m.0 n.0 in
     let ad : IsMember (times a d) (product (between a' b') (between c' d')) = product_holds (between a' b') (between c' d') a d m.0 n.1 in
     let bc : IsMember (times b c) (product (between a' b') (between c' d')) = product_holds (between a' b') (between c' d') b c m.1 n.0 in
-    let bd : IsMember (times b d) (product (between a' b') (between c' d')) = product_holds (between a' b') (between c' d') b d m.1 n.1 in
-    (least_is _ (times a c) (times a d) (times b c) (times b d) ac.0 ad.0 bc.0 bd.0, greatest_is _ (times a c) (times a d) (times b c) (times b d) ac.1 ad.1 bc.1 bd.1)
+    let bd : IsMember (times b d) (product (between a' b') (between c' d')) = product_holds (between a' b') (between c' d') b d m.1 n.1 in (
+      least_is _ (times a c) (times a d) (times b c) (times b d) ac.0 ad.0 bc.0 bd.0,
+      greatest_is _ (times a c) (times a d) (times b c) (times b d) ac.1 ad.1 bc.1 bd.1,
+    )
 
 pub product_within : {i i' j j' : Interval} → IsProper i → IsProper j → i ⊆ i' → j ⊆ j' → product i j ⊆ product i' j'
 product_within {i} {i'} {j} {j'} p q h k = record { ends = product_ends i i' j j' p q h.ends k.ends }
@@ -170,7 +172,10 @@ widen_ends : (e : Fraction) (i i' : Interval) → AreWithin i i' → AreWithin (
 unfolding widen
 widen_ends e i everything h = tt
 widen_ends e everything (between a' b') h = absurd h
-widen_ends e (between a b) (between a' b') h = (plus_mono a' a (opposite (size e)) (opposite (size e)) h.0 (le_refl _), plus_mono b b' (size e) (size e) h.1 (le_refl _))
+widen_ends e (between a b) (between a' b') h = (
+  plus_mono a' a (opposite (size e)) (opposite (size e)) h.0 (le_refl _),
+  plus_mono b b' (size e) (size e) h.1 (le_refl _),
+)
 
 -- ---- the quotient
 excluded : (c d : Fraction) → c ≤F d → excludes_zero c d ≡ true → (IsPositive c × IsPositive d) ⊎ (IsNegative c × IsNegative d)
@@ -191,7 +196,8 @@ negative_excludes c d h = by_test (lt_z (pos 0) c.num)
     by_test false = let e : true ≡ lt_z d.num (pos 0) = omega (arith, ints) in sym e
 
 -- between reciprocals of one sign
-reciprocals : (c d c' d' : Fraction) → c ≤F d → excludes_zero c' d' ≡ true → c' ≤F c → d ≤F d' → (excludes_zero c d ≡ true) × AreWithin (between (reciprocal d) (reciprocal c)) (between (reciprocal d') (reciprocal c'))
+reciprocals : (c d c' d' : Fraction) → c ≤F d → excludes_zero c' d' ≡ true → c' ≤F c → d ≤F d' → (excludes_zero c d ≡ true)
+    × AreWithin (between (reciprocal d) (reciprocal c)) (between (reciprocal d') (reciprocal c'))
 reciprocals c d c' d' l e h k =
     elim (excluded c' d' (le_trans _ _ _ h (le_trans _ _ _ l k)) e) [
       | inl s ↦
@@ -217,16 +223,20 @@ quotient_ends everything (between a' b') j (between c' d') p q h k = absurd h
 quotient_ends (between a b) (between a' b') everything (between c' d') p q h k = absurd k
 quotient_ends (between a b) (between a' b') (between c d) (between c' d') p q h k = by_test (excludes_zero c' d') refl
   where
-    by_test : (t : Bool) → excludes_zero c' d' ≡ t → AreWithin (cond (excludes_zero c d) (product (between a b) (between (reciprocal d) (reciprocal c))) everything) (cond t (product (between a' b') (between (reciprocal d') (reciprocal c'))) everything)
+    by_test : (t : Bool) → excludes_zero c' d' ≡ t → AreWithin
+        (cond (excludes_zero c d) (product (between a b) (between (reciprocal d) (reciprocal c))) everything)
+        (cond t (product (between a' b') (between (reciprocal d') (reciprocal c'))) everything)
     by_test false e = tt
     by_test true e =
         let r = reciprocals c d c' d' q e k.0 k.1 in
-        rw r.0 (product_ends (between a b) (between a' b') (between (reciprocal d) (reciprocal c)) (between (reciprocal d') (reciprocal c')) p (reciprocal_proper c d q r.0) h r.1)
+        rw r.0 (product_ends (between a b) (between a' b') (between (reciprocal d) (reciprocal c)) (between (reciprocal d') (reciprocal c')) p
+        (reciprocal_proper c d q r.0) h r.1)
 
 pub quotient_within : {i i' j j' : Interval} → IsProper i → IsProper j → i ⊆ i' → j ⊆ j' → quotient i j ⊆ quotient i' j'
 quotient_within {i} {i'} {j} {j'} p q h k = record { ends = quotient_ends i i' j j' p q h.ends k.ends }
 
-pub quotient_holds : (i : Interval) (c d x y : Fraction) → c ≤F d → excludes_zero c d ≡ true → IsMember x i → IsMember y (between c d) → IsMember (times x (reciprocal y)) (quotient i (between c d))
+pub quotient_holds : (i : Interval) (c d x y : Fraction) → c ≤F d → excludes_zero c d ≡ true → IsMember x i → IsMember y (between c d)
+    → IsMember (times x (reciprocal y)) (quotient i (between c d))
 unfolding quotient
 quotient_holds everything c d x y l e h k = tt
 quotient_holds (between a b) c d x y l e h k =
@@ -242,11 +252,13 @@ even_below k a b x e ax xb =
     ]
 
 -- what the least power is a power of
-least_even_keeps : (k : ℕ) (a b : Fraction) (P : Fraction → Type 0) → (zero_fraction ≤F a → P (power a k)) → (b ≤F zero_fraction → P (power b k)) → (a ≤F zero_fraction → zero_fraction ≤F b → P (power zero_fraction k)) → P (least_even a b k)
+least_even_keeps : (k : ℕ) (a b : Fraction) (P : Fraction → Type 0) → (zero_fraction ≤F a → P (power a k)) → (b ≤F zero_fraction → P (power b k))
+    → (a ≤F zero_fraction → zero_fraction ≤F b → P (power zero_fraction k)) → P (least_even a b k)
 unfolding least_even
 least_even_keeps k a b P f g h = by_test (is_at_most zero_fraction a) refl (is_at_most b zero_fraction) refl
   where
-    by_test : (t : Bool) → is_at_most zero_fraction a ≡ t → (u : Bool) → is_at_most b zero_fraction ≡ u → P (cond t (power a k) (cond u (power b k) (power zero_fraction k)))
+    by_test : (t : Bool) → is_at_most zero_fraction a ≡ t → (u : Bool) → is_at_most b zero_fraction ≡ u
+        → P (cond t (power a k) (cond u (power b k) (power zero_fraction k)))
     by_test true p u q = f (at_most_true zero_fraction a p)
     by_test false p true q = g (at_most_true b zero_fraction q)
     by_test false p false q = h (at_most_false zero_fraction a p) (at_most_false b zero_fraction q)
@@ -260,7 +272,8 @@ unfolding interval_power
 power_holds k everything x h = tt
 power_holds k (between a b) x h = by_test (is_even k) refl
   where
-    by_test : (t : Bool) → is_even k ≡ t → IsMember (power x k) (cond t (between (least_even a b k) (larger (power a k) (power b k))) (between (power a k) (power b k)))
+    by_test : (t : Bool) → is_even k ≡ t → IsMember (power x k)
+        (cond t (between (least_even a b k) (larger (power a k) (power b k))) (between (power a k) (power b k)))
     by_test true e = (even_above k a b x e h.0 h.1, even_below k a b x e h.0 h.1)
     by_test false e = (power_odd_mono k a x e h.0, power_odd_mono k x b e h.1)
 
@@ -270,13 +283,15 @@ power_ends k i everything p h = tt
 power_ends k everything (between a' b') p h = absurd h
 power_ends k (between a b) (between a' b') p h = by_test (is_even k) refl
   where
-    by_test : (t : Bool) → is_even k ≡ t → AreWithin (cond t (between (least_even a b k) (larger (power a k) (power b k))) (between (power a k) (power b k))) (cond t (between (least_even a' b' k) (larger (power a' k) (power b' k))) (between (power a' k) (power b' k)))
+    by_test : (t : Bool) → is_even k ≡ t → AreWithin (cond t (between (least_even a b k) (larger (power a k) (power b k))) (between (power a k) (power b k)))
+        (cond t (between (least_even a' b' k) (larger (power a' k) (power b' k))) (between (power a' k) (power b' k)))
     by_test false e = (power_odd_mono k a' a e h.0, power_odd_mono k b b' e h.1)
     by_test true e =
         let m = ends_within a b a' b' p h in (
           least_even_keeps k a b (λ z. least_even a' b' k ≤F z) (λ _. even_above k a' b' a e m.0.0 m.0.1) (λ _. even_above k a' b' b e m.1.0 m.1.1)
               (λ u v. even_above k a' b' zero_fraction e (le_trans _ _ _ m.0.0 u) (le_trans _ _ _ v m.1.1)),
-          larger_keeps (λ z. z ≤F larger (power a' k) (power b' k)) (power a k) (power b k) (even_below k a' b' a e m.0.0 m.0.1) (even_below k a' b' b e m.1.0 m.1.1),
+          larger_keeps (λ z. z ≤F larger (power a' k) (power b' k)) (power a k) (power b k) (even_below k a' b' a e m.0.0 m.0.1)
+              (even_below k a' b' b e m.1.0 m.1.1),
         )
 
 pub power_within : (k : ℕ) {i i' : Interval} → IsProper i → i ⊆ i' → interval_power i k ⊆ interval_power i' k
@@ -306,7 +321,8 @@ power_proper k (between a b) p = by_test (is_even k) refl
     by_test false e = power_odd_mono k a b e p
 
 -- what holds each product of members holds the interval of the products
-product_smallest : (a b c d : Fraction) (k : Interval) → a ≤F b → c ≤F d → ((x y : Fraction) → IsMember x (between a b) → IsMember y (between c d) → IsMember (times x y) k)
+product_smallest : (a b c d : Fraction) (k : Interval) → a ≤F b → c ≤F d
+    → ((x y : Fraction) → IsMember x (between a b) → IsMember y (between c d) → IsMember (times x y) k)
     → product (between a b) (between c d) ⊆ k
 unfolding product
 product_smallest a b c d everything p q h = record { ends = tt }
@@ -318,7 +334,8 @@ product_smallest a b c d (between e f) p q h =
     record { ends = (least_is e _ _ _ _ ac.0 ad.0 bc.0 bd.0, greatest_is f _ _ _ _ ac.1 ad.1 bc.1 bd.1) }
 
 -- what holds each power of a member holds the interval of the powers
-pub power_smallest : (k : ℕ) (a b : Fraction) (j : Interval) → a ≤F b → ((x : Fraction) → IsMember x (between a b) → IsMember (power x k) j) → interval_power (between a b) k ⊆ j
+pub power_smallest : (k : ℕ) (a b : Fraction) (j : Interval) → a ≤F b → ((x : Fraction) → IsMember x (between a b) → IsMember (power x k) j)
+    → interval_power (between a b) k ⊆ j
 unfolding interval_power
 power_smallest k a b everything p h = record { ends = tt }
 power_smallest k a b (between c d) p h = record { ends = by_test (is_even k) refl }
@@ -329,8 +346,12 @@ power_smallest k a b (between c d) p h = record { ends = by_test (is_even k) ref
     hb : IsMember (power b k) (between c d)
     hb = h b (p, le_refl b)
 
-    by_test : (t : Bool) → is_even k ≡ t → AreWithin (cond t (between (least_even a b k) (larger (power a k) (power b k))) (between (power a k) (power b k))) (between c d)
-    by_test true e = (least_even_keeps k a b (λ z. c ≤F z) (λ _. ha.0) (λ _. hb.0) (λ u v. (h zero_fraction (u, v)).0), larger_keeps (λ z. z ≤F d) (power a k) (power b k) ha.1 hb.1)
+    by_test : (t : Bool) → is_even k ≡ t → AreWithin (cond t (between (least_even a b k) (larger (power a k) (power b k))) (between (power a k) (power b k)))
+        (between c d)
+    by_test true e = (
+      least_even_keeps k a b (λ z. c ≤F z) (λ _. ha.0) (λ _. hb.0) (λ u v. (h zero_fraction (u, v)).0),
+      larger_keeps (λ z. z ≤F d) (power a k) (power b k) ha.1 hb.1,
+    )
     by_test false e = (ha.0, hb.1)
 
 -- ---- each operation is monotone under inclusion
@@ -427,7 +448,8 @@ unfolding negative
 negative_holds everything x h = tt
 negative_holds (between a b) x h = opposite_between a b x h.0 h.1
 
-negative_smallest : (a b : Fraction) (k : Interval) → a ≤F b → ((x : Fraction) → IsMember x (between a b) → IsMember (opposite x) k) → negative (between a b) ⊆ k
+negative_smallest : (a b : Fraction) (k : Interval) → a ≤F b → ((x : Fraction) → IsMember x (between a b) → IsMember (opposite x) k)
+    → negative (between a b) ⊆ k
 unfolding negative
 negative_smallest a b everything p h = record { ends = tt }
 negative_smallest a b (between c d) p h = record { ends = ((h b (p, le_refl b)).0, (h a (le_refl a, p)).1) }
@@ -468,19 +490,22 @@ widen_holds e everything x y h l u = tt
 widen_holds e (between a b) x y h l u = (plus_mono a x (opposite (size e)) y h.0 l, plus_mono x b y (size e) h.1 u)
 
 -- ---- each operation gives the smallest interval
-sum_smallest : (a b c d : Fraction) (j : Interval) → a ≤F b → c ≤F d → ((x y : Fraction) → IsMember x (between a b) → IsMember y (between c d) → IsMember (plus x y) j)
+sum_smallest : (a b c d : Fraction) (j : Interval) → a ≤F b → c ≤F d
+    → ((x y : Fraction) → IsMember x (between a b) → IsMember y (between c d) → IsMember (plus x y) j)
     → sum (between a b) (between c d) ⊆ j
 unfolding sum
 sum_smallest a b c d everything p q h = record { ends = tt }
 sum_smallest a b c d (between e f) p q h = record { ends = ((h a c (le_refl a, p) (le_refl c, q)).0, (h b d (p, le_refl b) (q, le_refl d)).1) }
 
-minimum_smallest : (a b c d : Fraction) (j : Interval) → a ≤F b → c ≤F d → ((x y : Fraction) → IsMember x (between a b) → IsMember y (between c d) → IsMember (smaller x y) j)
+minimum_smallest : (a b c d : Fraction) (j : Interval) → a ≤F b → c ≤F d
+    → ((x y : Fraction) → IsMember x (between a b) → IsMember y (between c d) → IsMember (smaller x y) j)
     → minimum (between a b) (between c d) ⊆ j
 unfolding minimum
 minimum_smallest a b c d everything p q h = record { ends = tt }
 minimum_smallest a b c d (between e f) p q h = record { ends = ((h a c (le_refl a, p) (le_refl c, q)).0, (h b d (p, le_refl b) (q, le_refl d)).1) }
 
-maximum_smallest : (a b c d : Fraction) (j : Interval) → a ≤F b → c ≤F d → ((x y : Fraction) → IsMember x (between a b) → IsMember y (between c d) → IsMember (larger x y) j)
+maximum_smallest : (a b c d : Fraction) (j : Interval) → a ≤F b → c ≤F d
+    → ((x y : Fraction) → IsMember x (between a b) → IsMember y (between c d) → IsMember (larger x y) j)
     → maximum (between a b) (between c d) ⊆ j
 unfolding maximum
 maximum_smallest a b c d everything p q h = record { ends = tt }

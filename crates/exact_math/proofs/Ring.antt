@@ -97,7 +97,8 @@ alike i j a b = omega (arith, ltb-false)
 pair_up : (i j : ℕ) (m n : List ℕ) → i ≡ j → m ≡ n → (i ∷ m) ≡ (j ∷ n)
 pair_up i j m n p q = cc
 
-cons_order : (i j : ℕ) (m n : List ℕ) → (order m n ≡ same → m ≡ n) → (t : Bool) → ltb i j ≡ t → (u : Bool) → ltb j i ≡ u → elim t [ true ↦ before | false ↦ elim u [ true ↦ after | false ↦ order m n ] ] ≡ same → (i ∷ m) ≡ (j ∷ n)
+cons_order : (i j : ℕ) (m n : List ℕ) → (order m n ≡ same → m ≡ n) → (t : Bool) → ltb i j ≡ t → (u : Bool) → ltb j i ≡ u
+    → elim t [ true ↦ before | false ↦ elim u [ true ↦ after | false ↦ order m n ] ] ≡ same → (i ∷ m) ≡ (j ∷ n)
 cons_order i j m n rest true a u b e = absurd (cc)
 cons_order i j m n rest false a true b e = absurd (cc)
 cons_order i j m n rest false a false b e = pair_up i j m n (alike i j a b) (rest e)
@@ -131,7 +132,9 @@ unfolding total
 total-add_term ρ c m none = total-put ρ c m none
 total-add_term ρ c m (more d n r) = by_order (order m n) refl (total-add_term ρ c m r)
   where
-    by_order : (o : Order) → order m n ≡ o → total ρ (add_term c m r) ≡ c *ℤ product ρ m +ℤ total ρ r → total ρ (elim o [ before ↦ put c m (more d n r) | same ↦ put (c +ℤ d) n r | after ↦ more d n (add_term c m r) ]) ≡ c *ℤ product ρ m +ℤ (d *ℤ product ρ n +ℤ total ρ r)
+    by_order : (o : Order) → order m n ≡ o → total ρ (add_term c m r) ≡ c *ℤ product ρ m +ℤ total ρ r
+        → total ρ (elim o [ before ↦ put c m (more d n r) | same ↦ put (c +ℤ d) n r | after ↦ more d n (add_term c m r) ]) ≡ c *ℤ product ρ m
+        +ℤ (d *ℤ product ρ n +ℤ total ρ r)
     by_order before e rest = total-put ρ c m (more d n r)
     by_order same e rest =
         total-put ρ (c +ℤ d) n r ∙ ap (λ x. x +ℤ total ρ r) (add_mul c d (product ρ n)) ∙ +ℤ_assoc (c *ℤ product ρ n) (d *ℤ product ρ n) (total ρ r)
@@ -142,7 +145,8 @@ total-add_term ρ c m (more d n r) = by_order (order m n) refl (total-add_term �
 total-add : (ρ : List ℤ) (p q : Sum) → total ρ (add p q) ≡ total ρ p +ℤ total ρ q
 unfolding total
 total-add ρ none q = sym (zero_add (total ρ q))
-total-add ρ (more c m r) q = total-add_term ρ c m (add r q) ∙ ap (λ x. c *ℤ product ρ m +ℤ x) (total-add ρ r q) ∙ sym (+ℤ_assoc (c *ℤ product ρ m) (total ρ r) (total ρ q))
+total-add ρ (more c m r) q = total-add_term ρ c m (add r q) ∙ ap (λ x. c *ℤ product ρ m +ℤ x) (total-add ρ r q) ∙ sym
+    (+ℤ_assoc (c *ℤ product ρ m) (total ρ r) (total ρ q))
 
 regroup : (c d x y : ℤ) → (c *ℤ d) *ℤ (x *ℤ y) ≡ (c *ℤ x) *ℤ (d *ℤ y)
 regroup c d x y = mul_assoc c d (x *ℤ y) ∙ ap (λ z. c *ℤ z) (mul_left_comm d x y) ∙ sym (mul_assoc c x (d *ℤ y))

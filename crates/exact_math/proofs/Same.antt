@@ -105,7 +105,10 @@ top_is a b c (p ⊗ q) = λ i. top_is a b c p i *ℤ top_is a b c q i
 top_is a b c (minus p) = ap neg_ℤ (top_is a b c p)
 
 pub law : (a b c : Fraction) (p q : Poly) → normal (top p ⊗ bottom q) ≡ normal (top q ⊗ bottom p) → of_three a b c p ≈ of_three a b c q
-law a b c p q e = record { cross = (λ i. top_is a b c p i *ℤ bottom_is a b c q i) ∙ ring (flat a b c) (top p ⊗ bottom q) (top q ⊗ bottom p) e ∙ (λ i. sym (top_is a b c q) i *ℤ sym (bottom_is a b c p) i) }
+law a b c p q e = record {
+  cross = (λ i. top_is a b c p i *ℤ bottom_is a b c q i) ∙ ring (flat a b c) (top p ⊗ bottom q) (top q ⊗ bottom p) e ∙
+      (λ i. sym (top_is a b c q) i *ℤ sym (bottom_is a b c p) i);
+}
 
 pub plus_assoc : (a b c : Fraction) → plus (plus a b) c ≈ plus a (plus b c)
 plus_assoc a b c = law a b c (at 0 ⊕ at 1 ⊕ at 2) (at 0 ⊕ (at 1 ⊕ at 2)) refl

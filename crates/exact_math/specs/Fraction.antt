@@ -65,7 +65,10 @@ larger a b = cond (is_at_most a b) b a
 
 -- 1 / a, and 0 for 0
 unfoldable pub reciprocal : Fraction → Fraction
-reciprocal a = elim a.num [ pos n ↦ elim n [ zero ↦ record { num = pos 0; below = 0 } | suc m ↦ record { num = den a; below = m } ] | negsuc n ↦ record { num = negsuc a.below; below = n } ]
+reciprocal a = elim a.num [
+  | pos n ↦ elim n [ zero ↦ record { num = pos 0; below = 0 } | suc m ↦ record { num = den a; below = m } ]
+  | negsuc n ↦ record { num = negsuc a.below; below = n }
+]
 
 -- a to the power k
 unfoldable pub power : Fraction → ℕ → Fraction

@@ -91,11 +91,13 @@ quotient (between a b) (between c d) = cond (excludes_zero c d) (product (betwee
 
 -- the least of the k-th powers for an even k
 unfoldable pub least_even : Fraction → Fraction → ℕ → Fraction
-least_even a b k = cond (is_at_most zero_fraction a) (fraction_power a k) (cond (is_at_most b zero_fraction) (fraction_power b k) (fraction_power zero_fraction k))
+least_even a b k = cond (is_at_most zero_fraction a) (fraction_power a k)
+    (cond (is_at_most b zero_fraction) (fraction_power b k) (fraction_power zero_fraction k))
 
 unfoldable pub power : Interval → ℕ → Interval
 power everything k = everything
-power (between a b) k = cond (is_even k) (between (least_even a b k) (larger (fraction_power a k) (fraction_power b k))) (between (fraction_power a k) (fraction_power b k))
+power (between a b) k = cond (is_even k) (between (least_even a b k) (larger (fraction_power a k) (fraction_power b k)))
+    (between (fraction_power a k) (fraction_power b k))
 
 -- the difference of the members
 abbrev pub difference : Interval → Interval → Interval

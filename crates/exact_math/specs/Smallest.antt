@@ -11,7 +11,8 @@ pub record IsSmallest (f : Fraction → Fraction) (g : Interval → Interval) : 
 -- the same of two operands
 pub record IsSmallestOfTwo (f : Fraction → Fraction → Fraction) (g : Interval → Interval → Interval) : Type 0 where
   pub holds : (i j : Interval) (x y : Fraction) → IsMember x i → IsMember y j → IsMember (f x y) (g i j)
-  pub smallest : (a b c d : Fraction) (k : Interval) → a ≤F b → c ≤F d → ((x y : Fraction) → IsMember x (between a b) → IsMember y (between c d) → IsMember (f x y) k) → g (between a b) (between c d) ⊆ k
+  pub smallest : (a b c d : Fraction) (k : Interval) → a ≤F b → c ≤F d
+      → ((x y : Fraction) → IsMember x (between a b) → IsMember y (between c d) → IsMember (f x y) k) → g (between a b) (between c d) ⊆ k
 
 -- the smallest interval that holds two
 pub record IsSmallestAround (g : Interval → Interval → Interval) : Type 0 where

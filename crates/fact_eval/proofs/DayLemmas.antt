@@ -26,7 +26,8 @@ none_early (undecided_at u) h = λ e t. h e
 none_early (Void s) h = tt
 
 -- a failure of the sun at a whole day is not at the year
-pub sun_not_of_year : {E : Type 0} (shown : E → Interval) (bits : ℕ) (d : ℤ) (e : E) (f : Fail) → 36 ≤ bits → bits ≤ 56 → IsValueDay d → ((r : Reach) → Narrow shown (limits_of bits) r (integer d) e)
+pub sun_not_of_year : {E : Type 0} (shown : E → Interval) (bits : ℕ) (d : ℤ) (e : E) (f : Fail) → 36 ≤ bits → bits ≤ 56 → IsValueDay d
+    → ((r : Reach) → Narrow shown (limits_of bits) r (integer d) e)
     → IsYearOpenFor (shown e) f → IsNoEarlyYear f
 sun_not_of_year shown bits d e f p q h n o =
     let y = year_small d h in
@@ -42,7 +43,8 @@ void_not_of_year f e = rw e tt
 
 -- a value of the sun's longitude is one that an answer may have
 pub sun_is_value : (d : ℤ) (r : Result ℤ Fail) (b a : ℕ) → ((w : World) → 40 ≤ w.depth → Leads w Exact (sun_in_thousandths_of d) b a r) → IfOk r IsFactValue
-sun_is_value d (Ok v) b a h = let z = sun_value (at_depth 40) d v (leads_value (h (at_depth 40) (omega arith))) in (omega (arith, ints, z.0), omega (arith, ints, z.1))
+sun_is_value d (Ok v) b a h = let z = sun_value (at_depth 40) d v (leads_value (h (at_depth 40) (omega arith))) in
+    (omega (arith, ints, z.0), omega (arith, ints, z.1))
 sun_is_value d (Err f) b a h = tt
 
 -- so is that of the correction

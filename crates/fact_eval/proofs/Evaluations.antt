@@ -16,7 +16,8 @@ pub true_of_leads : (f : Fact) (v : ℤ) (p : Program ℤ) (a : ℕ) → program
 unfolding run_of
 true_of_leads f v p a e h = record { at_each_depth = λ n d. rw e (leads_value (h (at_depth n) d)) }
 
-pub void_of_leads : (f : Fact) (s : Site) (p : Program ℤ) (a : ℕ) → program_of f ≡ p → ((w : World) → 40 ≤ w.depth → Leads w (Exact {A = ℤ}) p 0 a (Err (Void s))) → IsVoidAt f s
+pub void_of_leads : (f : Fact) (s : Site) (p : Program ℤ) (a : ℕ) → program_of f ≡ p
+    → ((w : World) → 40 ≤ w.depth → Leads w (Exact {A = ℤ}) p 0 a (Err (Void s))) → IsVoidAt f s
 unfolding run_of
 void_of_leads f s p a e h = record { at_each_depth = λ n d. rw e (leads_void_at (h (at_depth n) d)) }
 
@@ -24,13 +25,19 @@ void_of_leads f s p a e h = record { at_each_depth = λ n d. rw e (leads_void_at
 turn_is : (number turn : ℕ) → turn ≡ min (0 + number) (2 ^ 32 - 1) → number ≤ 99999 → number ≡ turn
 turn_is number turn e h = omega arith
 
-near_run : (w : World) (p : Program ℤ) (a : ℕ) (u : Undecided) → AtMost 99999 p → AreClose u → Leads w (Exact {A = ℤ}) p 0 a (Err (undecided_at u)) → MakesNearTest (run w p) u
+near_run : (w : World) (p : Program ℤ) (a : ℕ) (u : Undecided) → AtMost 99999 p → AreClose u → Leads w (Exact {A = ℤ}) p 0 a (Err (undecided_at u))
+    → MakesNearTest (run w p) u
 near_run w p a u m c h =
     let s = leads_stop_at h in
     let k = turn_is s.number u.turn s.turn (few_tests w 99999 s.number u.site s.sides m s.makes) in
-    record { sides = s.sides; makes = subst (λ t. MakesTest (run w p) t u.site s.sides) k s.makes; near = near_open u.lo u.hi s.sides (site_allows u.site, c) (sides_proper w p s.number u.site s.sides s.makes) s.open_there }
+    record {
+      sides = s.sides;
+      makes = subst (λ t. MakesTest (run w p) t u.site s.sides) k s.makes;
+      near = near_open u.lo u.hi s.sides (site_allows u.site, c) (sides_proper w p s.number u.site s.sides s.makes) s.open_there;
+    }
 
-pub near_of_leads : (f : Fact) (u : Undecided) (p : Program ℤ) (a : ℕ) → program_of f ≡ p → AtMost 99999 p → AreClose u → ((w : World) → 40 ≤ w.depth → Leads w (Exact {A = ℤ}) p 0 a (Err (undecided_at u)))
+pub near_of_leads : (f : Fact) (u : Undecided) (p : Program ℤ) (a : ℕ) → program_of f ≡ p → AtMost 99999 p → AreClose u
+    → ((w : World) → 40 ≤ w.depth → Leads w (Exact {A = ℤ}) p 0 a (Err (undecided_at u)))
     → (n : ℕ) → 40 ≤ n → MakesNearTest (run_of n f) u
 unfolding run_of
 near_of_leads f u p a e m c h n d = rw e (near_run (at_depth n) p a u m c (h (at_depth n) d))

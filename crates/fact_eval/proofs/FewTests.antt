@@ -19,7 +19,7 @@ use Rattle.book_model.proofs.Leads.{few_tests}
 use Rattle.sun_core.proofs.NewYears.{nowruz_few}
 use Rattle.moon_core.proofs.PhaseDays.{phase_day_few}
 use Rattle.rise_set.proofs.Horizons.{bahai_year_few, sunset_in_minutes_few}
-use Rattle.hindu_sky.proofs.HinduRuns.{sign_at_sunset_few, year_at_sunset_few, sankranti_few, tithi_few, sign_before_few, sign_after_few, calendar_year_few}
+use Rattle.hindu_facts.proofs.HinduRuns.{sign_at_sunset_few, year_at_sunset_few, sankranti_few, tithi_few, sign_before_few, sign_after_few, calendar_year_few}
 use Rattle.crescent.proofs.Crescents.{phasis_few}
 use Rattle.fact_eval.proofs.MoonFacts.{new_moon_before_few, new_moon_from_few}
 use Rattle.fact_eval.proofs.Solstices.{solstice_few, major_few}

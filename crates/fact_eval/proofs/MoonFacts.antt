@@ -28,14 +28,16 @@ unfolding new_moon_from_of
 new_moon_from_few place d = at_most_more 1026 99999 (omega arith) (at_most_bind 25 1001 (moon_from_few (midnight_of place d)) (day_few place))
 
 -- ---- values
-moon_before_between : (w : World) (x m : Expression) → outcome (run w (moon_before_of x)) ≡ valued m → IsBetween (TABLE_START -ℤ pos 200) (TABLE_END +ℤ pos 200) (value w m)
+moon_before_between : (w : World) (x m : Expression) → outcome (run w (moon_before_of x)) ≡ valued m
+    → IsBetween (TABLE_START -ℤ pos 200) (TABLE_END +ℤ pos 200) (value w m)
 unfolding moon_before_of moon_preceding_of
 moon_before_between w x m e =
     let n = parts w (number_of_moon x) _ m e in
     let k = parts w (walk_of 6 x _) _ m n.then in
     new_moon_between w _ m k.then
 
-moon_from_between : (w : World) (x m : Expression) → outcome (run w (moon_from_of x)) ≡ valued m → IsBetween (TABLE_START -ℤ pos 200) (TABLE_END +ℤ pos 200) (value w m)
+moon_from_between : (w : World) (x m : Expression) → outcome (run w (moon_from_of x)) ≡ valued m
+    → IsBetween (TABLE_START -ℤ pos 200) (TABLE_END +ℤ pos 200) (value w m)
 unfolding moon_from_of
 moon_from_between w x m e =
     let n = parts w (number_of_moon x) _ m e in
@@ -57,10 +59,12 @@ from_value w place d v e =
     (omega (arith, ints, b.0), omega (arith, ints, b.1))
 
 -- the same of the calls that compute them
-pub new_moon_before_is_value : (place : Place) (d : ℤ) (r : Result ℤ Fail) (b a : ℕ) → ((w : World) → 40 ≤ w.depth → Leads w Exact (new_moon_before_of place d) b a r) → IfOk r IsFactValue
+pub new_moon_before_is_value : (place : Place) (d : ℤ) (r : Result ℤ Fail) (b a : ℕ)
+    → ((w : World) → 40 ≤ w.depth → Leads w Exact (new_moon_before_of place d) b a r) → IfOk r IsFactValue
 new_moon_before_is_value place d (Ok v) b a h = before_value (at_depth 40) place d v (leads_value (h (at_depth 40) (omega arith)))
 new_moon_before_is_value place d (Err f) b a h = tt
 
-pub new_moon_from_is_value : (place : Place) (d : ℤ) (r : Result ℤ Fail) (b a : ℕ) → ((w : World) → 40 ≤ w.depth → Leads w Exact (new_moon_from_of place d) b a r) → IfOk r IsFactValue
+pub new_moon_from_is_value : (place : Place) (d : ℤ) (r : Result ℤ Fail) (b a : ℕ)
+    → ((w : World) → 40 ≤ w.depth → Leads w Exact (new_moon_from_of place d) b a r) → IfOk r IsFactValue
 new_moon_from_is_value place d (Ok v) b a h = from_value (at_depth 40) place d v (leads_value (h (at_depth 40) (omega arith)))
 new_moon_from_is_value place d (Err f) b a h = tt

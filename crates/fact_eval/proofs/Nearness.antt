@@ -16,7 +16,7 @@ use Rattle.book_model.specs.declared.site.Site.TheVariants.{Year, Zone, SunWrap,
 use Rattle.book_model.specs.numbers.Expressions.{World, value}
 use Rattle.book_model.specs.sky.Facts.{LiesFrom, HasThreshold, AreNear, near_cell, near_comparison}
 use Rattle.book_model.specs.programs.Widths.{most_apart}
-use Rattle.book_model.specs.programs.Leading.{at_56, AreNoBounds, AreEnds, bounds, no_bounds, IsOpenCell, between_cells, too_far, IsOpen, open_cell, open_comparison}
+use Rattle.book_model.specs.programs.Leading.{units_of_56, AreNoBounds, AreEnds, bounds, no_bounds, IsOpenCell, between_cells, too_far, IsOpen, open_cell, open_comparison}
 use Rattle.book_model.specs.programs.Programs.{Grid, integers, multiples, years, cell_of, threshold, when, cell_at, Program, answer, void, cell, compare, Sides, one_side, two_sides, Run, after_cell, after_compare, run, compare_at, MakesTest, here_decided, here_undecided, later}
 use Rattle.book_model.proofs.Calendars.{first_day_rises}
 use Rattle.book_model.proofs.Cells.{cells_cut}
@@ -49,14 +49,16 @@ sides_proper w (void t) k s j m = elim m [ ]
 sides_proper w (cell t g x next) k s j m =
     proper_cell t s g (value w x) (cell_at g (value w x)) (λ q. run w (next q)) k j (value_proper w x) (λ q l z. sides_proper w (next q) l s j z) m
 sides_proper w (compare t x y next) k s j m =
-    proper_compare t s (value w x) (value w y) (compare_at (value w x) (value w y)) (λ q. run w (next q)) k j (value_proper w x) (value_proper w y) (λ q l z. sides_proper w (next q) l s j z) m
+    proper_compare t s (value w x) (value w y) (compare_at (value w x) (value w y)) (λ q. run w (next q)) k j (value_proper w x) (value_proper w y)
+    (λ q l z. sides_proper w (next q) l s j z) m
 
 -- ---- thresholds
 whole_mono : (a b : ℤ) → a ≤ℤ b → whole a ≤F whole b
 whole_mono a b h = record { cross = omega (arith, ints) }
 
 scaled_mono : (s : ℕ) (a b : ℤ) → a ≤ℤ b → (pos s *ℤ a) ≤ℤ (pos s *ℤ b)
-scaled_mono s a b h = le_by (a ∷ b ∷ pos s ∷ []) ((at 0 ≼ at 1) ∷ (lit (pos 0) ≼ at 2) ∷ []) (at 2 ⊗ at 0) (at 2 ⊗ at 1) (known 0 ⊠ known 1) refl (h, (pos_nonneg s, tt))
+scaled_mono s a b h = le_by (a ∷ b ∷ pos s ∷ []) ((at 0 ≼ at 1) ∷ (lit (pos 0) ≼ at 2) ∷ []) (at 2 ⊗ at 0) (at 2 ⊗ at 1) (known 0 ⊠ known 1) refl
+    (h, (pos_nonneg s, tt))
 
 threshold_mono : (g : Grid) (q r : ℤ) → q ≤ℤ r → threshold g q ≤F threshold g r
 unfolding threshold
@@ -65,7 +67,8 @@ threshold_mono (multiples m) q r h = whole_mono _ _ (scaled_mono (suc (m - 1)) q
 threshold_mono years q r h = whole_mono _ _ (first_day_rises q r h)
 
 -- in different cells, the later cell begins between
-threshold_between : (g : Grid) (a b : Fraction) (lo hi : ℤ) → a ≤F b → cell_at g (between a b) ≡ None → at_56 lo ≈ a → at_56 hi ≈ b → HasThreshold g lo hi
+threshold_between : (g : Grid) (a b : Fraction) (lo hi : ℤ) → a ≤F b → cell_at g (between a b) ≡ None → units_of_56 lo ≈ a → units_of_56 hi ≈ b
+    → HasThreshold g lo hi
 unfolding cell_at
 threshold_between g a b lo hi p e l h = record {
   begun = cell_of g b;
@@ -80,7 +83,8 @@ threshold_between g a b lo hi p e l h = record {
     later_cell : (cell_of g a +ℤ pos 1) ≤ℤ cell_of g b
     later_cell =
         let m = cell_mono g a b p in
-        by_lt_z (cell_of g a) (cell_of g b) (λ l. omega (arith, ints)) (λ l. let z : cell_of g a ≡ cell_of g b = omega (arith, ints) in absurd (apart _ refl e z))
+        by_lt_z (cell_of g a) (cell_of g b) (λ l. omega (arith, ints))
+        (λ l. let z : cell_of g a ≡ cell_of g b = omega (arith, ints) in absurd (apart _ refl e z))
 
 -- without bounds there is a threshold
 -- ---- the ends that stand for no bounds are too far apart to be near
@@ -88,7 +92,8 @@ far_apart : (lo hi : ℤ) (m : ℕ) → m ≤ 2 ^ 44 → ((hi -ℤ lo) *ℤ pos 
 far_apart lo hi m s h n = omega (arith, ints, n.least, n.greatest)
 
 -- ---- sides
-within_ends : (i : Interval) (a b : Fraction) (lo hi : ℤ) → i ⊆ between a b → at_56 lo ≈ a → at_56 hi ≈ b → i ⊆ between (at_56 lo) (at_56 hi)
+within_ends : (i : Interval) (a b : Fraction) (lo hi : ℤ) → i ⊆ between a b → units_of_56 lo ≈ a → units_of_56 hi ≈ b
+    → i ⊆ between (units_of_56 lo) (units_of_56 hi)
 within_ends i a b lo hi h l r = within_trans h (record { ends = (le_of_same l, ge_of_same r) })
 
 proper_outside : (i : Interval) (a b : Fraction) → IsProper i → AreWithin i (between a b) → a ≤F b
@@ -149,4 +154,5 @@ site_allows Sidereal = omega arith
 pub near_open : (lo hi : ℤ) (s : Sides) {m : ℕ} → AreNearBy m lo hi → AreProper s → IsOpen s lo hi → AreNear lo hi s
 near_open lo hi (one_side g i) c p (open_cell j h k) = near_open_cell g i j lo hi c p h k
 near_open lo hi (two_sides i j) c p (open_comparison k l h m o) =
-    near_comparison (lies_from i (hull k l) lo hi c (within_trans h (hull_holds_first k l)) o.ends) (lies_from j (hull k l) lo hi c (within_trans m (hull_holds_second k l)) o.ends)
+    near_comparison (lies_from i (hull k l) lo hi c (within_trans h (hull_holds_first k l)) o.ends)
+    (lies_from j (hull k l) lo hi c (within_trans m (hull_holds_second k l)) o.ends)

@@ -39,7 +39,8 @@ steps_few = refl
 few_steps : (place : Place) → length (zone_steps place) ≤ 1000
 unfolding zone_steps
 few_steps place =
-    let e : nat_le (length (zone_steps place)) 1000 ≡ true = column_passes (λ row. row.2.1.now) [] (λ row. place_number row.0) (λ s. nat_le (length s) 1000) PLACES (place_number place) (place_number place) steps_few (place_row place) in
+    let e : nat_le (length (zone_steps place)) 1000 ≡ true = column_passes (λ row. row.2.1.now) []
+    (λ row. place_number row.0) (λ s. nat_le (length s) 1000) PLACES (place_number place) (place_number place) steps_few (place_row place) in
     leb-true (length (zone_steps place)) 1000 e
 
 hours_few : (steps : List ZoneStep) (last : Frac) (x : Expression) → AtMost (length steps) (hours_at_of steps last x)
@@ -47,7 +48,8 @@ unfolding hours_at_of
 hours_few [] last x = answer_at_most
 hours_few (step ∷ steps) last x =
     at_most_more (1 + length steps) (suc (length steps)) (omega arith)
-    (at_most_bind 1 (length steps) (compare_at_most (λ early. answer_at_most)) (λ early. few_of_two (length steps) early _ _ answer_at_most (hours_few steps last x)))
+    (at_most_bind 1 (length steps) (compare_at_most (λ early. answer_at_most))
+    (λ early. few_of_two (length steps) early _ _ answer_at_most (hours_few steps last x)))
 
 zone_few : (place : Place) (x : Expression) → AtMost 1000 (zone_of place x)
 unfolding zone_of
@@ -63,16 +65,19 @@ unfolding product least greatest smaller larger times is_at_most
 day_of_hours = record { ends = (record { cross = omega (arith, ints) }, record { cross = omega (arith, ints) }) }
 
 -- hours of a place are less than a day
-pub hours_between : (w : World) (h : Frac) → are_kept_hours 24 h ≡ true → IsBetween (pos 0) (pos 1) (value w (scale (fraction_of HOUR) (constant (fraction_of h))))
+pub hours_between : (w : World) (h : Frac) → are_kept_hours 24 h ≡ true
+    → IsBetween (pos 0) (pos 1) (value w (scale (fraction_of HOUR) (constant (fraction_of h))))
 unfolding value
 hours_between w h k =
     let u = both _ _ (both _ _ k).1 in
-    scaled_between (pos 0) (pos 24) (pos 0) (pos 1) (fraction_of HOUR) _ day_of_hours (value_proper w (constant (fraction_of h))) (at_most_true _ _ u.0, at_most_true _ _ u.1)
+    scaled_between (pos 0) (pos 24) (pos 0) (pos 1) (fraction_of HOUR) _ day_of_hours (value_proper w (constant (fraction_of h)))
+    (at_most_true _ _ u.0, at_most_true _ _ u.1)
 
 both_hold : (p q : Bool) → p ≡ true → q ≡ true → (p && q) ≡ true
 both_hold p q e f = rw (e, f) refl
 
-zone_hours : (w : World) (steps : List ZoneStep) (last : Frac) (x z : Expression) → is_kept_zone 24 steps last ≡ true → outcome (run w (hours_at_of steps last x)) ≡ valued z → IsBetween (pos 0) (pos 1) (value w (scale (fraction_of HOUR) z))
+zone_hours : (w : World) (steps : List ZoneStep) (last : Frac) (x z : Expression) → is_kept_zone 24 steps last ≡ true
+    → outcome (run w (hours_at_of steps last x)) ≡ valued z → IsBetween (pos 0) (pos 1) (value w (scale (fraction_of HOUR) z))
 unfolding hours_at_of
 zone_hours w [] last x z k e = rw (← valued_same w (constant (fraction_of last)) z e) (hours_between w last (both (list_all (is_kept_step 24) []) _ k).1)
 zone_hours w (step ∷ steps) last x z k e =
@@ -81,17 +86,21 @@ zone_hours w (step ∷ steps) last x z k e =
     let s = both (is_kept_step 24 step) _ b.0 in
     by t.part (both _ _ s.0).0 t.then (λ f. zone_hours w steps last x z (both_hold _ _ s.1 b.1) f)
   where
-    by : (early : Bool) → are_kept_hours 24 step.hours ≡ true → outcome (run w (if early then answer (constant (fraction_of step.hours)) else hours_at_of steps last x)) ≡ valued z
-        → (outcome (run w (hours_at_of steps last x)) ≡ valued z → IsBetween (pos 0) (pos 1) (value w (scale (fraction_of HOUR) z))) → IsBetween (pos 0) (pos 1) (value w (scale (fraction_of HOUR) z))
+    by : (early : Bool) → are_kept_hours 24 step.hours ≡ true
+        → outcome (run w (if early then answer (constant (fraction_of step.hours)) else hours_at_of steps last x)) ≡ valued z
+        → (outcome (run w (hours_at_of steps last x)) ≡ valued z → IsBetween (pos 0) (pos 1) (value w (scale (fraction_of HOUR) z)))
+        → IsBetween (pos 0) (pos 1) (value w (scale (fraction_of HOUR) z))
     by true h f next = rw (← valued_same w (constant (fraction_of step.hours)) z f) (hours_between w step.hours h)
     by false h f next = next f
 
-zone_between : (w : World) (place : Place) (x z : Expression) → outcome (run w (zone_of place x)) ≡ valued z → IsBetween (pos 0) (pos 1) (value w (scale (fraction_of HOUR) z))
+zone_between : (w : World) (place : Place) (x z : Expression) → outcome (run w (zone_of place x)) ≡ valued z
+    → IsBetween (pos 0) (pos 1) (value w (scale (fraction_of HOUR) z))
 unfolding zone_of
 zone_between w place x z e = zone_hours w (zone_steps place) (last_hours place) x z (zone_kept place) e
 
 -- the day at a place of a moment that lies between two days
-pub day_between : (w : World) (place : Place) (lo hi v : ℤ) (x : Expression) → IsBetween lo hi (value w x) → outcome (run w (day_at place x)) ≡ valued v → (lo ≤ℤ v) × (v ≤ℤ (hi +ℤ pos 1))
+pub day_between : (w : World) (place : Place) (lo hi v : ℤ) (x : Expression) → IsBetween lo hi (value w x) → outcome (run w (day_at place x)) ≡ valued v
+    → (lo ≤ℤ v) × (v ≤ℤ (hi +ℤ pos 1))
 unfolding day_at in_zone_of value
 day_between w place lo hi v x h e =
     let t = parts w (in_zone_of place x) _ v e in

@@ -76,7 +76,8 @@ close_answer (Err (Void s)) h = tt
 close_answer (Err (undecided_at u)) (close_test h) = h
 
 -- what an evaluation that began with no test counted gives is right, wherever the ends of an open test are close
-pub right_result : (f : Fact) (t : Result ℤ Fail) (a : ℕ) → ((w : World) → 40 ≤ w.depth → Leads w Exact (program_of f) 0 a t) → IfOk t IsFactValue → IfErr t (IsNoWholeDay f.kind)
+pub right_result : (f : Fact) (t : Result ℤ Fail) (a : ℕ) → ((w : World) → 40 ≤ w.depth → Leads w Exact (program_of f) 0 a t) → IfOk t IsFactValue
+    → IfErr t (IsNoWholeDay f.kind)
     → IsCloseAnswer (answer_of t) → IsRightAnswer f (answer_of t)
 right_result f (Ok v) a h k l c = (true_of_leads f v (program_of f) a refl h, k)
 right_result f (Err (Void s)) a h k l c = void_of_leads f s (program_of f) a refl h

@@ -43,7 +43,8 @@ pub record IsTerm (q : ℤ) : Type 0 where
   pub from : pos 0 ≤ℤ q
   pub to : q ≤ℤ pos 12
 
-pub term_near : (w : World) (place : Place) (d q : ℤ) (s : Expression) → outcome (run w (longitude_at_midnight_of place d)) ≡ valued s → cell_at integers (value w (scale (fraction_of DEGREE_IN_TERMS) s)) ≡ Some q → IsTerm q
+pub term_near : (w : World) (place : Place) (d q : ℤ) (s : Expression) → outcome (run w (longitude_at_midnight_of place d)) ≡ valued s
+    → cell_at integers (value w (scale (fraction_of DEGREE_IN_TERMS) s)) ≡ Some q → IsTerm q
 unfolding longitude_at_midnight_of value
 term_near w place d q s h e =
     let t = sun_within w (midnight_of place d) s h in

@@ -28,7 +28,7 @@ use Rattle.time_scales.proofs.Moments.{dated_in_table}
 use Rattle.fact_eval.proofs.PlaceDays.{day_few, day_between}
 use Rattle.moon_core.proofs.PhaseRanges.{scaled_between}
 use Rattle.book_model.proofs.Values.{value_proper}
-use Rattle.fact_eval.specs.Spans.{IsSpan}
+use Rattle.fact_eval.specs.Spans.{IsTermCount}
 
 -- ---- how many tests
 short_few : (l x : Expression) → AtMost 3 (sun_short_of l x)
@@ -45,7 +45,8 @@ spans_few place r d = at_most_bind 2 1 (sun_few _) (λ s. cell_at_most (λ q. an
 
 pub term_day_few : (place : Place) (r d : ℤ) → AtMost 99999 (term_day_of place r d)
 unfolding term_day_of longitude_day_of
-term_day_few place r d = at_most_more 1328 99999 (omega arith) (at_most_bind 3 1325 (spans_few place r d) (λ n. at_most_bind 324 1001 (from_few _ _) (day_few place)))
+term_day_few place r d = at_most_more 1328 99999 (omega arith)
+    (at_most_bind 3 1325 (spans_few place r d) (λ n. at_most_bind 324 1001 (from_few _ _) (day_few place)))
 
 -- ---- values
 sun_in_table : (w : World) (x s : Expression) → outcome (run w (sun_of x)) ≡ valued s → IsInTable (value w x)
@@ -64,7 +65,11 @@ latest = TABLE_END +ℤ pos 451
 
 halves : AreHalved earliest latest (earliest +ℤ earliest) (latest +ℤ latest)
 unfolding product least greatest smaller larger times is_at_most
-halves = record { halved = record { ends = (record { cross = omega (arith, ints) }, record { cross = omega (arith, ints) }) }; low = omega (arith, ints); high = omega (arith, ints) }
+halves = record {
+  halved = record { ends = (record { cross = omega (arith, ints) }, record { cross = omega (arith, ints) }) };
+  low = omega (arith, ints);
+  high = omega (arith, ints);
+}
 
 days_of_turn : product (between (whole (pos 0)) (whole (pos 360))) (exactly (fraction_of DEGREE_OF_YEAR)) ⊆ between (whole (pos 0)) (whole (pos 366))
 unfolding product least greatest smaller larger times is_at_most
@@ -74,7 +79,8 @@ short_between : (w : World) (l x p : Expression) → outcome (run w (sun_short_o
 unfolding sun_short_of
 short_between w l x p h = let s = parts w (sun_of x) _ p h in between_of_within (pos 0) (pos 360) _ (reduced_within w (subtract l s.part) p s.then)
 
-forward_between : (w : World) (p x : Expression) → IsBetween (pos 0) (pos 360) (value w p) → IsInTable (value w x) → IsBetween TABLE_START year_after (value w (forward_by p x))
+forward_between : (w : World) (p x : Expression) → IsBetween (pos 0) (pos 360) (value w p) → IsInTable (value w x)
+    → IsBetween TABLE_START year_after (value w (forward_by p x))
 unfolding forward_by value
 forward_between w p x h k =
     let s = scaled_between (pos 0) (pos 360) (pos 0) (pos 366) (fraction_of DEGREE_OF_YEAR) _ days_of_turn (value_proper w p) h in
@@ -87,12 +93,15 @@ maximum_between lo hi everything j h k = tt
 maximum_between lo hi (between a b) everything h k = tt
 maximum_between lo hi (between a b) (between c d) h k = (le_trans _ _ _ h.0 (larger_first a c), larger_keeps (λ z. z ≤F whole hi) b d h.1 k.1)
 
-about_between : (w : World) (l x t v : Expression) → IsInTable (value w x) → IsBetween TABLE_START year_after (value w t) → outcome (run w (sun_about_of l x t)) ≡ valued v → IsBetween earliest latest (value w v)
+about_between : (w : World) (l x t v : Expression) → IsInTable (value w x) → IsBetween TABLE_START year_after (value w t) → outcome (run w (sun_about_of l x t))
+    ≡ valued v → IsBetween earliest latest (value w v)
 unfolding sun_about_of invert_of value
 about_between w l x t v h k e =
     let five = five_between w in
-    let a : IsBetween earliest latest (value w (subtract t (integer (pos 5)))) = wider _ _ earliest latest _ (omega (arith, ints)) (omega (arith, ints)) (difference_between TABLE_START year_after (pos 5) (pos 5) _ _ k five) in
-    let u : IsBetween earliest latest (value w (add t (integer (pos 5)))) = wider _ _ earliest latest _ (omega (arith, ints)) (omega (arith, ints)) (sum_between TABLE_START year_after (pos 5) (pos 5) _ _ k five) in
+    let a : IsBetween earliest latest (value w (subtract t (integer (pos 5)))) = wider _ _ earliest latest _ (omega (arith, ints)) (omega (arith, ints))
+    (difference_between TABLE_START year_after (pos 5) (pos 5) _ _ k five) in
+    let u : IsBetween earliest latest (value w (add t (integer (pos 5)))) = wider _ _ earliest latest _ (omega (arith, ints)) (omega (arith, ints))
+    (sum_between TABLE_START year_after (pos 5) (pos 5) _ _ k five) in
     let b = wider _ _ earliest latest _ (omega (arith, ints)) (omega (arith, ints)) h in
     bisected_between w earliest latest (earliest +ℤ earliest) (latest +ℤ latest) halves sun_of 64 l _ _ v (maximum_between earliest latest _ _ b a) u e
   where
@@ -115,7 +124,8 @@ term_value w place r d v e =
     let b = day_between w place earliest latest v t.part (from_between w _ (midnight_of place d) t.part t.first) t.then in
     (omega (arith, ints, b.0), omega (arith, ints, b.1))
 
-pub term_day_is_value : (place : Place) (r d : ℤ) (s : Result ℤ Fail) (b a : ℕ) → ((w : World) → 40 ≤ w.depth → Leads w Exact (term_day_of place r d) b a s) → IfOk s IsFactValue
+pub term_day_is_value : (place : Place) (r d : ℤ) (s : Result ℤ Fail) (b a : ℕ) → ((w : World) → 40 ≤ w.depth → Leads w Exact (term_day_of place r d) b a s)
+    → IfOk s IsFactValue
 term_day_is_value place r d (Ok v) b a h = term_value (at_depth 40) place r d v (leads_value (h (at_depth 40) (omega arith)))
 term_day_is_value place r d (Err f) b a h = tt
 
@@ -124,18 +134,23 @@ twelve_spans : product (between (whole (negsuc 359)) (whole (pos 360))) (exactly
 unfolding product least greatest smaller larger times is_at_most
 twelve_spans = record { ends = (record { cross = omega (arith, ints) }, record { cross = omega (arith, ints) }) }
 
-short_span : (w : World) (r : ℤ) (s : Expression) → pos 0 ≤ℤ r → r ≤ℤ pos 15 → value w s ⊆ between (whole (pos 0)) (whole (pos 360)) → IsBetween (negsuc 359) (pos 360) (value w (subtract (integer r) s))
+short_span : (w : World) (r : ℤ) (s : Expression) → pos 0 ≤ℤ r → r ≤ℤ pos 15 → value w s ⊆ between (whole (pos 0)) (whole (pos 360))
+    → IsBetween (negsuc 359) (pos 360) (value w (subtract (integer r) s))
 unfolding value
-short_span w r s h k i = wider _ _ (negsuc 359) (pos 360) _ (omega (arith, ints, h)) (omega (arith, ints, k)) (difference_between r r (pos 0) (pos 360) _ _ (record { cross = omega (arith, ints) }, record { cross = omega (arith, ints) }) (between_of_within (pos 0) (pos 360) _ i))
+short_span w r s h k i = wider _ _ (negsuc 359) (pos 360) _ (omega (arith, ints, h)) (omega (arith, ints, k))
+    (difference_between r r (pos 0) (pos 360) _ _ (record { cross = omega (arith, ints) }, record { cross = omega (arith, ints) })
+    (between_of_within (pos 0) (pos 360) _ i))
 
-spans_of : (w : World) (r : ℤ) (s : Expression) (k : ℤ) → IsBetween (negsuc 359) (pos 360) (value w (subtract (integer r) s)) → cell_at integers (value w (scale (fraction_of DEGREE_IN_TERMS) (subtract (integer r) s))) ≡ Some k → IsSpan k
+spans_of : (w : World) (r : ℤ) (s : Expression) (k : ℤ) → IsBetween (negsuc 359) (pos 360) (value w (subtract (integer r) s))
+    → cell_at integers (value w (scale (fraction_of DEGREE_IN_TERMS) (subtract (integer r) s))) ≡ Some k → IsTermCount k
 unfolding value
 spans_of w r s k i e =
-    let b = scaled_between (negsuc 359) (pos 360) (negsuc 11) (pos 12) (fraction_of DEGREE_IN_TERMS) _ twelve_spans (value_proper w (subtract (integer r) s)) i in
+    let b = scaled_between (negsuc 359) (pos 360) (negsuc 11) (pos 12) (fraction_of DEGREE_IN_TERMS) _ twelve_spans (value_proper w (subtract (integer r) s))
+    i in
     let f = floor_between (negsuc 11) (pos 12) k _ (value_proper w (scale (fraction_of DEGREE_IN_TERMS) (subtract (integer r) s))) b e in
     record { from = f.0; to = f.1 }
 
-spans_near : (w : World) (place : Place) (r d q : ℤ) → pos 0 ≤ℤ r → r ≤ℤ pos 15 → outcome (run w (spans_short_of place r d)) ≡ valued q → IsSpan q
+spans_near : (w : World) (place : Place) (r d q : ℤ) → pos 0 ≤ℤ r → r ≤ℤ pos 15 → outcome (run w (spans_short_of place r d)) ≡ valued q → IsTermCount q
 unfolding spans_short_of longitude_at_midnight_of
 spans_near w place r d q a b h =
     let s = parts w (sun_of (midnight_of place d)) _ q h in
@@ -143,6 +158,7 @@ spans_near w place r d q a b h =
     let i = short_span w r s.part a b (sun_within w (midnight_of place d) s.part s.first) in
     rw c.leads_to at (spans_of w r s.part c.cell_there i c.decided_so)
 
-pub spans_found : (place : Place) (r d : ℤ) (s : Result ℤ Fail) (b a : ℕ) → pos 0 ≤ℤ r → r ≤ℤ pos 15 → ((w : World) → 40 ≤ w.depth → Leads w Exact (spans_short_of place r d) b a s) → IfOk s IsSpan
+pub spans_found : (place : Place) (r d : ℤ) (s : Result ℤ Fail) (b a : ℕ) → pos 0 ≤ℤ r → r ≤ℤ pos 15
+    → ((w : World) → 40 ≤ w.depth → Leads w Exact (spans_short_of place r d) b a s) → IfOk s IsTermCount
 spans_found place r d (Ok q) b a h k l = spans_near (at_depth 40) place r d q h k (leads_value (l (at_depth 40) (omega arith)))
 spans_found place r d (Err f) b a h k l = tt

@@ -18,7 +18,7 @@ use Rattle.book_model.specs.declared.site.Site.TheVariants.{Round, Year}
 use Rattle.encl_core.specs.Steps.{IsOpenFloor}
 use Rattle.book_model.specs.numbers.Bounds.{Bound, bounded, Reach, IsNarrow, breadth, at_32, bound_of, implies, constant_bound, sum_bound, scaled_bound, limits_of}
 use Rattle.book_model.specs.sky.Facts.{IsFactValue}
-use Rattle.book_model.specs.programs.Leading.{at_56, bounds, IsOpenCell, between_cells, too_far}
+use Rattle.book_model.specs.programs.Leading.{units_of_56, bounds, IsOpenCell, between_cells, too_far}
 use Rattle.book_model.specs.programs.Programs.{integers, cell_at, cell_of, when}
 use Rattle.book_model.specs.numbers.Expressions.{Expression, argument}
 use Rattle.book_model.specs.numbers.Relations.{Narrow, Keeps}
@@ -69,7 +69,8 @@ scale_fits u n a b h =
     let p : 36 + (n - 36) ≡ n = omega (arith, a) in
     subst (λ k. FitsScale u k) p (fits_finer u (n - 36) (holds_of (is_rounded_well u) 21 (n - 36) h (omega (arith, a, b))))
 
-units_fit : (n : ℕ) (o : Option ℕ) → 36 ≤ n → n ≤ 56 → option_map_or (λ units. holds_below (is_rounded_well units) 21) o true ≡ true → IfSome o (λ u. FitsScale u n)
+units_fit : (n : ℕ) (o : Option ℕ) → 36 ≤ n → n ≤ 56 → option_map_or (λ units. holds_below (is_rounded_well units) 21) o true ≡ true
+    → IfSome o (λ u. FitsScale u n)
 units_fit n None a b h = tt
 units_fit n (Some u) a b h = scale_fits u n a b h
 
@@ -83,19 +84,24 @@ year_fits n y a b = by (row_of_year y) refl
 
 -- what is rounded for a correction of so many units keeps the bound
 fitting_narrow : {E : Type 0} (shown : E → Interval) (n u : ℕ) (d e : E) → FitsScale u n → IsNarrow 0 (correction_bound u n) (shown d)
-    → ((r : Reach) (x : Expression) → Narrow shown (limits_of n) r x d → Narrow shown (limits_of n) r (rounded_expression x) e) → IsNarrow 0 (rounded_bound u n) (shown e)
+    → ((r : Reach) (x : Expression) → Narrow shown (limits_of n) r x d → Narrow shown (limits_of n) r (rounded_expression x) e)
+    → IsNarrow 0 (rounded_bound u n) (shown e)
 unfolding Keeps bound_of
 fitting_narrow shown n u d e k h f =
     let r : Reach = record { width = 0; bounds = narrow_correction u n } in
     settled_at shown n 0 (narrow_correction u n) (rounded_expression (argument 0)) (rounded_bound u n) e k (f r (argument 0) (record { kept = h }))
 
-all_narrow : {E : Type 0} (shown : E → Interval) (n : ℕ) (o : Option ℕ) (d e : E) → IfSome o (λ u. FitsScale u n) → IfSome o (λ u. IsNarrow 0 (correction_bound u n) (shown d))
-    → ((r : Reach) (x : Expression) → Narrow shown (limits_of n) r x d → Narrow shown (limits_of n) r (rounded_expression x) e) → IfSome o (λ u. IsNarrow 0 (rounded_bound u n) (shown e))
+all_narrow : {E : Type 0} (shown : E → Interval) (n : ℕ) (o : Option ℕ) (d e : E) → IfSome o (λ u. FitsScale u n)
+    → IfSome o (λ u. IsNarrow 0 (correction_bound u n) (shown d))
+    → ((r : Reach) (x : Expression) → Narrow shown (limits_of n) r x d → Narrow shown (limits_of n) r (rounded_expression x) e)
+    → IfSome o (λ u. IsNarrow 0 (rounded_bound u n) (shown e))
 all_narrow shown n None d e k h f = tt
 all_narrow shown n (Some u) d e k h f = fitting_narrow shown n u d e k h f
 
-pub rounded_narrow : {E : Type 0} (shown : E → Interval) (n : ℕ) (y : ℤ) (d e : E) → 36 ≤ n → n ≤ 56 → IfSome (units_of_year y) (λ u. IsNarrow 0 (correction_bound u n) (shown d))
-    → ((r : Reach) (x : Expression) → Narrow shown (limits_of n) r x d → Narrow shown (limits_of n) r (rounded_expression x) e) → IfSome (units_of_year y) (λ u. IsNarrow 0 (rounded_bound u n) (shown e))
+pub rounded_narrow : {E : Type 0} (shown : E → Interval) (n : ℕ) (y : ℤ) (d e : E) → 36 ≤ n → n ≤ 56
+    → IfSome (units_of_year y) (λ u. IsNarrow 0 (correction_bound u n) (shown d))
+    → ((r : Reach) (x : Expression) → Narrow shown (limits_of n) r x d → Narrow shown (limits_of n) r (rounded_expression x) e)
+    → IfSome (units_of_year y) (λ u. IsNarrow 0 (rounded_bound u n) (shown e))
 rounded_narrow shown n y d e a b h f = all_narrow shown n (units_of_year y) d e (year_fits n y a b) h f
 
 -- the floor of a number that keeps the bound is a value of a fact
@@ -121,7 +127,7 @@ floor_is_value m (between lo hi) q h e =
 value_fits : (q : ℤ) → IsFactValue q → FitsSigned w64 q
 value_fits q h = omega (arith, ints, h.0, h.1)
 
-apart_at_most : (m : ℕ) (lo hi : ℤ) → at_56 hi ≤F plus (at_56 lo) (breadth 0 0 m) → ((hi -ℤ lo) *ℤ pos 256) ≤ℤ pos m
+apart_at_most : (m : ℕ) (lo hi : ℤ) → units_of_56 hi ≤F plus (units_of_56 lo) (breadth 0 0 m) → ((hi -ℤ lo) *ℤ pos 256) ≤ℤ pos m
 unfolding plus
 apart_at_most m lo hi h = omega (arith, ints, h.cross)
 
@@ -129,7 +135,8 @@ nothing_narrow : (m : ℕ) → IsNarrow 0 (rounded_within m) everything → ⊥
 unfolding IsNarrow
 nothing_narrow m h = h
 
-close_ends : (m : ℕ) (a b : Fraction) (lo hi : ℤ) → at_56 lo ≈ a → at_56 hi ≈ b → IsNarrow 0 (rounded_within m) (between a b) → at_56 hi ≤F plus (at_56 lo) (breadth 0 0 m)
+close_ends : (m : ℕ) (a b : Fraction) (lo hi : ℤ) → units_of_56 lo ≈ a → units_of_56 hi ≈ b → IsNarrow 0 (rounded_within m) (between a b)
+    → units_of_56 hi ≤F plus (units_of_56 lo) (breadth 0 0 m)
 unfolding IsNarrow
 close_ends m a b lo hi l r h = le_trans _ _ _ (le_of_same r) (le_trans _ _ _ h.close (plus_mono _ _ _ _ (ge_of_same l) (le_refl _)))
 
@@ -139,13 +146,15 @@ open_floor_close m i lo hi h (too_far q e f b) = absurd (f (value_fits q (floor_
 open_floor_close m everything lo hi h (between_cells e k) = absurd (nothing_narrow m h)
 open_floor_close m (between a b) lo hi h (between_cells e (bounds l r)) = apart_at_most m lo hi (close_ends m a b lo hi l r h)
 
-close_by : (n : ℕ) (i : Interval) (o : Option ℕ) (f : Fail) → IfSome o (λ u. IsNarrow 0 (rounded_bound u n) i) → IsOpenFloor i Round f → IfSome o (λ u. AreCloseBy n u f)
+close_by : (n : ℕ) (i : Interval) (o : Option ℕ) (f : Fail) → IfSome o (λ u. IsNarrow 0 (rounded_bound u n) i) → IsOpenFloor i Round f
+    → IfSome o (λ u. AreCloseBy n u f)
 close_by n i None f h o = tt
 close_by n i (Some u) (undecided_at x) h o = open_floor_close (apart_by u n) i x.lo x.hi h o.0
 close_by n i (Some u) (Void s) h o = tt
 
 -- an open floor of what keeps the bound that the table promises lies within its units
-pub close_round : (n : ℕ) (i : Interval) (y : ℤ) (f : Fail) → IfSome (units_of_year y) (λ u. IsNarrow 0 (rounded_bound u n) i) → IsOpenFloor i Round f → IsCloseFor n y f
+pub close_round : (n : ℕ) (i : Interval) (y : ℤ) (f : Fail) → IfSome (units_of_year y) (λ u. IsNarrow 0 (rounded_bound u n) i) → IsOpenFloor i Round f
+    → IsCloseFor n y f
 close_round n i y f h o = close_by n i (units_of_year y) f h o
 
 -- a void is no open test

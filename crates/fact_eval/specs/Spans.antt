@@ -2,6 +2,6 @@
 use Rattle.std.specs.Prelude.{ℤ, pos, negsuc, ◌≤ℤ◌}
 
 -- at most twelve spans
-pub record IsSpan (q : ℤ) : Type 0 where
+pub record IsTermCount (q : ℤ) : Type 0 where
   pub from : negsuc 11 ≤ℤ q
   pub to : q ≤ℤ pos 12

@@ -4,7 +4,7 @@ ghost use Rattle.book_model.specs.programs.Widths.{IsClose, IsSmall};
 ghost use Rattle.std.specs.Prelude.{◌≡◌, pos, ◌≤ℤ◌, IfOk, IfErr};
 ghost use Rattle.book_model.specs.sky.Facts.{IsFactValue, IsValueDay};
 ghost use Rattle.book_model.specs.sky.Kinds as spec;
-ghost use Rattle.fact_eval.specs.Spans.{IsSpan};
+ghost use Rattle.fact_eval.specs.Spans.{IsTermCount};
 
 use crate::midnights::{day_at, longitude_at_midnight};
 use book_model::sun_tables::DEGREE_IN_TERMS;
@@ -30,7 +30,7 @@ fn spans_short<E: Enclosure>(
     requires to { first ≤ℤ pos 15 }
     ensures leads { Decides (spec.spans_short_of place first day) trail.old.count
         trail.new.count result }
-    ensures near { IfOk result IsSpan }
+    ensures near { IfOk result IsTermCount }
     ensures close { E.BITS ≡ 56 → IsValueDay day → IfErr result IsClose }
 {
     let there = longitude_at_midnight::<E>(place, day, trail)?;
@@ -43,7 +43,7 @@ fn spans_short<E: Enclosure>(
 fn term_longitude(first: i64, spans: i64) -> i64
     requires from { pos 0 ≤ℤ first }
     requires to { first ≤ℤ pos 15 }
-    requires span { IsSpan spans }
+    requires span { IsTermCount spans }
     ensures longitude { result ≡ spec.term_longitude first spans }
     ensures from { pos 0 ≤ℤ result }
     ensures to { result ≤ℤ pos 359 }

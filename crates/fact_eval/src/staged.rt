@@ -21,7 +21,7 @@ use crate::sunsets::{bahai_year, sunset_in_minutes};
 use book_model::{FIRST_DAY, Fact, Fail, Kind, LAST_DAY, Place, Site, Undecided};
 use encl_core::{Coarse, Enclosure, Trail};
 use fix_fine::Fine;
-use hindu_sky::{
+use hindu_facts::{
     calendar_year, sankranti_by, sign_after_by, sign_at_sunset_by, sign_before_by, solar_year,
     tithi,
 };

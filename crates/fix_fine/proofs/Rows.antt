@@ -8,23 +8,23 @@ use Rattle.exact_math.specs.Fraction.{Fraction}
 use Rattle.exact_math.specs.Interval.{Interval, everything, between}
 use Rattle.exact_math.proofs.Ring.{at, lit, ◌⊕◌, ◌⊖◌, ◌⊗◌}
 use Rattle.exact_math.proofs.Bounds.{◌≼◌, known, ◌⊞◌, ◌⊠◌, times as naturally, refute}
-use Rattle.scaled_ends.specs.Scales.{fine, at_scale}
-use Rattle.scaled_ends.specs.Rounding.{ShowsEnds, fitting, too_large}
-use Rattle.scaled_ends.proofs.Products.{bounded_product}
+use Rattle.interval_ends.specs.Scales.{fine, at_scale}
+use Rattle.interval_ends.specs.Rounding.{ShowsEnds, fitting, too_large}
+use Rattle.interval_ends.proofs.Products.{bounded_product}
 use Rattle.std.proofs.lemmas.Bool.{lt-ltb}
 use Rattle.exact_math.specs.Fraction.{◌≤F◌, smaller, larger, floor_quotient}
 use Rattle.exact_math.specs.Interval.{◌⊆◌, hull}
 use Rattle.exact_math.proofs.Fractions.{le_trans, smaller_keeps, larger_keeps, smaller_first, smaller_second, larger_first, larger_second}
 use Rattle.book_model.specs.numbers.Bounds.{Bound, bounded, limited, minimum_bound, maximum_bound, clamp_bound, remainder_bound, integer_bound, IsNarrow, constant_bound, widen_bound, floor_at_32, ceil_at_32, margin_32, range_size}
 use Rattle.rounded_quotients.proofs.Quotients.{floor_quotient_floor}
-use Rattle.scaled_ends.specs.Scales.{limits_on}
-use Rattle.scaled_ends.specs.Shown.{shown_ends, shown_of, HasEnds}
-use Rattle.scaled_ends.specs.declared.ends.Ends.{Ends}
-use Rattle.scaled_ends.specs.contracts.word.I128Word.TheImpl.{ghosts}
-use Rattle.scaled_ends.proofs.Keeping.{kept_of, spans_of}
-use Rattle.scaled_ends.proofs.OnEnds.{shows}
-use Rattle.scaled_products.specs.Room.{HaveProducts, HaveFineQuotients, HaveQuotientsBy, HasRoot}
-use Rattle.scaled_products.specs.Close.{IsCloseProduct, IsCloseSquare, IsCloseQuotient, IsCloseRoot, OfOne, OfTwo, ThereOfOne, ThereOfTwo}
+use Rattle.interval_ends.specs.Scales.{limits_on}
+use Rattle.interval_ends.specs.Shown.{shown_ends, shown_of, HasEnds}
+use Rattle.interval_ends.specs.declared.ends.Ends.{Ends}
+use Rattle.interval_ends.specs.contracts.word.I128MachineWord.TheImpl.{ghosts}
+use Rattle.interval_ends.proofs.Keeping.{kept_of, spans_of}
+use Rattle.interval_ends.proofs.OnEnds.{shows}
+use Rattle.interval_products.specs.Room.{HaveProducts, HaveFineQuotients, HaveQuotientsBy, HasRoot}
+use Rattle.interval_products.specs.Close.{IsCloseProduct, IsCloseSquare, IsCloseQuotient, IsCloseRoot, OfOne, OfTwo, ThereOfOne, ThereOfTwo}
 use Rattle.fix_fine.specs.Table.{IsKnown, width_of, size_of, IsIntegerRow, IsFractionRow, IsSumRow, IsMovedRow, IsCutRow, IsChoiceRow, IsHullRow, IsProductRow, IsFactorRow, IsSquareRow, IsLeastSize, IsQuotientRow, IsRootRow, IsWidenedRow}
 
 -- the interval of two ends
@@ -65,7 +65,8 @@ pub sum_row_second : (x i : Interval) → IsSumRow x everything i
 sum_row_second x i = record { known = λ p q s t. absurd q; wide = λ p q k. absurd q }
 
 -- ---- what is moved
-pub moved_row : (x y lo hi : ℤ) (i : Interval) → (max (unsigned_abs x) (unsigned_abs y) < 2 ^ 124 → SFits w128 lo × SFits w128 hi) → hi -ℤ lo ≡ y -ℤ x → ShowsEnds fine lo hi i → IsMovedRow (ends x y) i
+pub moved_row : (x y lo hi : ℤ) (i : Interval) → (max (unsigned_abs x) (unsigned_abs y) < 2 ^ 124 → SFits w128 lo × SFits w128 hi) → hi -ℤ lo ≡ y -ℤ x
+    → ShowsEnds fine lo hi i → IsMovedRow (ends x y) i
 moved_row x y lo hi i f e h = record {
   known = λ p s. let g = f s in shown_known lo hi i h g.0 g.1;
   wide = λ p k. rw (shown_wide lo hi i h k) (omega (arith, ints, e));
@@ -111,19 +112,30 @@ below_square a l = let m = mul-le-mul_left a l in omega (arith, l, m)
 
 -- ---- quotients
 -- quotients of numbers of size A by divisors of size B from m on have room
-fine_by : (A B m : ℕ) (a b c d : ℤ) → a ≤ℤ b → c ≤ℤ d → (pos 0 -ℤ pos A) ≤ℤ a → b ≤ℤ pos A → d ≤ℤ pos B → pos m ≤ℤ c → B < 2 ^ 70 → A < 2 ^ 50 * m → HaveFineQuotients a b c d
-fine_by A B m a b c d o r la lb ld lm hb ha = record { divisor = omega (arith, ints, ld, hb); above = omega (arith, ints, la, lm, ha); below = omega (arith, ints, lb, lm, ha) }
+fine_by : (A B m : ℕ) (a b c d : ℤ) → a ≤ℤ b → c ≤ℤ d → (pos 0 -ℤ pos A) ≤ℤ a → b ≤ℤ pos A → d ≤ℤ pos B → pos m ≤ℤ c → B < 2 ^ 70 → A < 2 ^ 50 * m
+    → HaveFineQuotients a b c d
+fine_by A B m a b c d o r la lb ld lm hb ha = record {
+  divisor = omega (arith, ints, ld, hb);
+  above = omega (arith, ints, la, lm, ha);
+  below = omega (arith, ints, lb, lm, ha);
+}
 
 -- a divisor from m on, and one of the opposites
-quotients_fit : (x y c d : ℤ) (m : ℕ) → x ≤ℤ y → c ≤ℤ d → 0 < m → IsLeastSize (pos m) (ends c d) → size_of (ends c d) < 2 ^ 70 → size_of (ends x y) < 2 ^ 50 * m → HaveQuotientsBy fine x y c d
+quotients_fit : (x y c d : ℤ) (m : ℕ) → x ≤ℤ y → c ≤ℤ d → 0 < m → IsLeastSize (pos m) (ends c d) → size_of (ends c d) < 2 ^ 70 → size_of (ends x y) < 2 ^ 50 * m
+    → HaveQuotientsBy fine x y c d
 quotients_fit x y c d m o r z (inl l) s t =
-    inl (omega (arith, ints, z, l), fine_by (max (unsigned_abs x) (unsigned_abs y)) (max (unsigned_abs c) (unsigned_abs d)) m x y c d o r (omega (arith, ints)) (omega (arith, ints)) (omega (arith, ints)) l s t)
+    inl (
+      omega (arith, ints, z, l),
+      fine_by (max (unsigned_abs x) (unsigned_abs y)) (max (unsigned_abs c) (unsigned_abs d)) m x y c d o r (omega (arith, ints))
+          (omega (arith, ints)) (omega (arith, ints)) l s t,
+    )
 quotients_fit x y c d m o r z (inr l) s t =
     inr (
       omega (arith, ints, z, l),
       (
         record { first = omega (arith, ints, s, t, l); second = omega (arith, ints, s, t, l); third = omega (arith, ints, s); fourth = omega (arith, ints, s) },
-        fine_by (max (unsigned_abs x) (unsigned_abs y)) (max (unsigned_abs c) (unsigned_abs d)) m (pos 0 -ℤ y) (pos 0 -ℤ x) (pos 0 -ℤ d) (pos 0 -ℤ c) (omega (arith, ints, o)) (omega (arith, ints, r)) (omega (arith, ints)) (omega (arith, ints)) (omega (arith, ints)) (omega (arith, ints, l)) s t,
+        fine_by (max (unsigned_abs x) (unsigned_abs y)) (max (unsigned_abs c) (unsigned_abs d)) m (pos 0 -ℤ y) (pos 0 -ℤ x) (pos 0 -ℤ d) (pos 0 -ℤ c)
+            (omega (arith, ints, o)) (omega (arith, ints, r)) (omega (arith, ints)) (omega (arith, ints)) (omega (arith, ints)) (omega (arith, ints, l)) s t,
       ),
     )
 
@@ -131,12 +143,14 @@ quotients_fit x y c d m o r z (inr l) s t =
 abbrev pub FineEnds : Type 0
 FineEnds = Ends ℤ ghosts
 
-pub sum_of_ends : (x y r : Option FineEnds) → IfSome x (λ p. IfSome y (λ q. HasEnds (p.lo +ℤ q.lo) (p.hi +ℤ q.hi) r)) → IsSumRow (shown_ends x) (shown_ends y) (shown_ends r)
+pub sum_of_ends : (x y r : Option FineEnds) → IfSome x (λ p. IfSome y (λ q. HasEnds (p.lo +ℤ q.lo) (p.hi +ℤ q.hi) r))
+    → IsSumRow (shown_ends x) (shown_ends y) (shown_ends r)
 sum_of_ends None y r h = sum_row_first (shown_ends y) (shown_ends r)
 sum_of_ends (Some p) None r h = sum_row_second (shown_ends (Some p)) (shown_ends r)
 sum_of_ends (Some p) (Some q) r h = sum_row p.lo p.hi q.lo q.hi _ _ (shown_ends r) refl refl (shows _ _ r h)
 
-pub difference_of_ends : (x y r : Option FineEnds) → IfSome x (λ p. IfSome y (λ q. HasEnds (p.lo -ℤ q.hi) (p.hi -ℤ q.lo) r)) → IsSumRow (shown_ends x) (shown_ends y) (shown_ends r)
+pub difference_of_ends : (x y r : Option FineEnds) → IfSome x (λ p. IfSome y (λ q. HasEnds (p.lo -ℤ q.hi) (p.hi -ℤ q.lo) r))
+    → IsSumRow (shown_ends x) (shown_ends y) (shown_ends r)
 difference_of_ends None y r h = sum_row_first (shown_ends y) (shown_ends r)
 difference_of_ends (Some p) None r h = sum_row_second (shown_ends (Some p)) (shown_ends r)
 difference_of_ends (Some p) (Some q) r h = difference_row p.lo p.hi q.lo q.hi _ _ (shown_ends r) refl refl (shows _ _ r h)
@@ -146,13 +160,19 @@ opposite_of_ends None r h = moved_row_all (shown_ends r)
 opposite_of_ends (Some p) r h = opposite_row p.lo p.hi _ _ (shown_ends r) refl refl (shows _ _ r h)
 
 -- ---- products, squares, quotients and roots, by what their operations say of the ends
-pub product_of_ends : (x y r : Option FineEnds) → OfTwo (IsCloseProduct fine) x y r → ThereOfTwo (HaveProducts fine) x y r → IsProductRow (shown_ends x) (shown_ends y) (shown_ends r)
+pub product_of_ends : (x y r : Option FineEnds) → OfTwo (IsCloseProduct fine) x y r → ThereOfTwo (HaveProducts fine) x y r
+    → IsProductRow (shown_ends x) (shown_ends y) (shown_ends r)
 product_of_ends None y r c s = record { known = λ p q l. absurd p; wide = λ p q k. absurd p }
 product_of_ends (Some p) None r c s = record { known = λ a b l. absurd b; wide = λ a b k. absurd b }
 product_of_ends (Some p) (Some q) (Some e) c s = record { known = λ a b l. tt; wide = λ a b k. c }
-product_of_ends (Some p) (Some q) None c s = record { known = λ a b l. let z = s refl (roomy_sizes p.lo p.hi q.lo q.hi l) in absurd (cc); wide = λ a b k. absurd k }
+product_of_ends (Some p) (Some q) None c s = record {
+  known = λ a b l. let z = s refl (roomy_sizes p.lo p.hi q.lo q.hi l) in absurd (cc);
+  wide = λ a b k.
+      absurd k;
+}
 
-pub square_of_ends : (x r : Option FineEnds) → OfOne (IsCloseSquare fine) x r → ThereOfOne (λ lo hi. HaveProducts fine lo hi lo hi) x r → IsSquareRow (shown_ends x) (shown_ends r)
+pub square_of_ends : (x r : Option FineEnds) → OfOne (IsCloseSquare fine) x r → ThereOfOne (λ lo hi. HaveProducts fine lo hi lo hi) x r
+    → IsSquareRow (shown_ends x) (shown_ends r)
 square_of_ends None r c s = record { known = λ p l. absurd p; wide = λ p k. absurd p }
 square_of_ends (Some p) (Some e) c s = record { known = λ a l. tt; wide = λ a k. c }
 square_of_ends (Some p) None c s = record {
@@ -160,7 +180,8 @@ square_of_ends (Some p) None c s = record {
   wide = λ a k. absurd k;
 }
 
-pub quotient_of_ends : (x y r : Option FineEnds) → OfTwo (IsCloseQuotient fine) x y r → ThereOfTwo (HaveQuotientsBy fine) x y r → IsQuotientRow (shown_ends x) (shown_ends y) (shown_ends r)
+pub quotient_of_ends : (x y r : Option FineEnds) → OfTwo (IsCloseQuotient fine) x y r → ThereOfTwo (HaveQuotientsBy fine) x y r
+    → IsQuotientRow (shown_ends x) (shown_ends y) (shown_ends r)
 quotient_of_ends None y r c s = record { known = λ p q m z l a b. absurd p; wide = λ p q k. absurd p }
 quotient_of_ends (Some p) None r c s = record { known = λ a b m z l t u. absurd b; wide = λ a b k. absurd b }
 quotient_of_ends (Some p) (Some q) (Some e) c s = record { known = λ a b m z l t u. tt; wide = λ a b k m z l. c m z l }
@@ -185,40 +206,51 @@ ends_narrow x y o =
     let g = (floor_quotient_floor (neg_ℤ y) (2 ^ 24 - 1)).not_above in
     spans_of fine _ _ _ _ 0 x y (record { ordered = o; above = omega (arith, ints, f); below = omega (arith, ints, g); close = omega (arith, ints, o) })
 
-pub lesser_of_ends : (x y r : Option FineEnds) → ((w : ℕ) (a b : Bound) → IsNarrow w a (shown_ends x) → IsNarrow w b (shown_ends y) → IsNarrow w (minimum_bound a b) (shown_ends r)) → IsChoiceRow (shown_ends x) (shown_ends y) (shown_ends r)
+pub lesser_of_ends : (x y r : Option FineEnds) → ((w : ℕ) (a b : Bound) → IsNarrow w a (shown_ends x) → IsNarrow w b (shown_ends y)
+    → IsNarrow w (minimum_bound a b) (shown_ends r)) → IsChoiceRow (shown_ends x) (shown_ends y) (shown_ends r)
 unfolding minimum_bound IsNarrow
 lesser_of_ends None y r h = choice_row_first (shown_ends y) (shown_ends r)
 lesser_of_ends (Some p) None r h = choice_row_second (shown_ends (Some p)) (shown_ends r)
-lesser_of_ends (Some p) (Some q) None h = absurd (h 0 (bound_of_ends p.lo p.hi) (bound_of_ends q.lo q.hi) (ends_narrow p.lo p.hi p.ordered) (ends_narrow q.lo q.hi q.ordered))
+lesser_of_ends (Some p) (Some q) None h = absurd (h 0 (bound_of_ends p.lo p.hi) (bound_of_ends q.lo q.hi) (ends_narrow p.lo p.hi p.ordered)
+    (ends_narrow q.lo q.hi q.ordered))
 lesser_of_ends (Some p) (Some q) (Some e) h =
-    let k = kept_of fine _ _ _ _ 0 e.lo e.hi (h 0 (bound_of_ends p.lo p.hi) (bound_of_ends q.lo q.hi) (ends_narrow p.lo p.hi p.ordered) (ends_narrow q.lo q.hi q.ordered)) in
+    let k = kept_of fine _ _ _ _ 0 e.lo e.hi (h 0 (bound_of_ends p.lo p.hi) (bound_of_ends q.lo q.hi) (ends_narrow p.lo p.hi p.ordered)
+    (ends_narrow q.lo q.hi q.ordered)) in
     record { known = λ a b. tt; wide = λ a b. omega (arith, ints, clamps, k.close, p.ordered, q.ordered) }
 
-pub greater_of_ends : (x y r : Option FineEnds) → ((w : ℕ) (a b : Bound) → IsNarrow w a (shown_ends x) → IsNarrow w b (shown_ends y) → IsNarrow w (maximum_bound a b) (shown_ends r)) → IsChoiceRow (shown_ends x) (shown_ends y) (shown_ends r)
+pub greater_of_ends : (x y r : Option FineEnds) → ((w : ℕ) (a b : Bound) → IsNarrow w a (shown_ends x) → IsNarrow w b (shown_ends y)
+    → IsNarrow w (maximum_bound a b) (shown_ends r)) → IsChoiceRow (shown_ends x) (shown_ends y) (shown_ends r)
 unfolding maximum_bound IsNarrow
 greater_of_ends None y r h = choice_row_first (shown_ends y) (shown_ends r)
 greater_of_ends (Some p) None r h = choice_row_second (shown_ends (Some p)) (shown_ends r)
-greater_of_ends (Some p) (Some q) None h = absurd (h 0 (bound_of_ends p.lo p.hi) (bound_of_ends q.lo q.hi) (ends_narrow p.lo p.hi p.ordered) (ends_narrow q.lo q.hi q.ordered))
+greater_of_ends (Some p) (Some q) None h = absurd (h 0 (bound_of_ends p.lo p.hi) (bound_of_ends q.lo q.hi) (ends_narrow p.lo p.hi p.ordered)
+    (ends_narrow q.lo q.hi q.ordered))
 greater_of_ends (Some p) (Some q) (Some e) h =
-    let k = kept_of fine _ _ _ _ 0 e.lo e.hi (h 0 (bound_of_ends p.lo p.hi) (bound_of_ends q.lo q.hi) (ends_narrow p.lo p.hi p.ordered) (ends_narrow q.lo q.hi q.ordered)) in
+    let k = kept_of fine _ _ _ _ 0 e.lo e.hi (h 0 (bound_of_ends p.lo p.hi) (bound_of_ends q.lo q.hi) (ends_narrow p.lo p.hi p.ordered)
+    (ends_narrow q.lo q.hi q.ordered)) in
     record { known = λ a b. tt; wide = λ a b. omega (arith, ints, clamps, k.close, p.ordered, q.ordered) }
 
 -- ---- the hull
-lesser_is : (a c e : ℤ) → smaller (at_scale fine a) (at_scale fine c) ≤F at_scale fine e → at_scale fine e ≤F smaller (at_scale fine a) (at_scale fine c) → e ≡ int_min a c
+lesser_is : (a c e : ℤ) → smaller (at_scale fine a) (at_scale fine c) ≤F at_scale fine e → at_scale fine e ≤F smaller (at_scale fine a) (at_scale fine c) → e
+    ≡ int_min a c
 lesser_is a c e h k =
-    let l : int_min a c ≤ℤ e = smaller_keeps (λ z. z ≤F at_scale fine e → int_min a c ≤ℤ e) (at_scale fine a) (at_scale fine c) (λ m. omega (arith, ints, clamps, m.cross)) (λ m. omega (arith, ints, clamps, m.cross)) h in
+    let l : int_min a c ≤ℤ e = smaller_keeps (λ z. z ≤F at_scale fine e → int_min a c ≤ℤ e) (at_scale fine a) (at_scale fine c)
+    (λ m. omega (arith, ints, clamps, m.cross)) (λ m. omega (arith, ints, clamps, m.cross)) h in
     let u = le_trans _ _ _ k (smaller_first (at_scale fine a) (at_scale fine c)) in
     let v = le_trans _ _ _ k (smaller_second (at_scale fine a) (at_scale fine c)) in
     omega (arith, ints, clamps, l, u.cross, v.cross)
 
-greater_is : (b d e : ℤ) → at_scale fine e ≤F larger (at_scale fine b) (at_scale fine d) → larger (at_scale fine b) (at_scale fine d) ≤F at_scale fine e → e ≡ int_max b d
+greater_is : (b d e : ℤ) → at_scale fine e ≤F larger (at_scale fine b) (at_scale fine d) → larger (at_scale fine b) (at_scale fine d) ≤F at_scale fine e → e
+    ≡ int_max b d
 greater_is b d e h k =
-    let l : e ≤ℤ int_max b d = larger_keeps (λ z. at_scale fine e ≤F z → e ≤ℤ int_max b d) (at_scale fine b) (at_scale fine d) (λ m. omega (arith, ints, clamps, m.cross)) (λ m. omega (arith, ints, clamps, m.cross)) h in
+    let l : e ≤ℤ int_max b d = larger_keeps (λ z. at_scale fine e ≤F z → e ≤ℤ int_max b d) (at_scale fine b) (at_scale fine d)
+    (λ m. omega (arith, ints, clamps, m.cross)) (λ m. omega (arith, ints, clamps, m.cross)) h in
     let u = le_trans _ _ _ (larger_first (at_scale fine b) (at_scale fine d)) k in
     let v = le_trans _ _ _ (larger_second (at_scale fine b) (at_scale fine d)) k in
     omega (arith, ints, clamps, l, u.cross, v.cross)
 
-pub hull_of_ends : (x y r : Option FineEnds) → hull (shown_ends x) (shown_ends y) ⊆ shown_ends r → shown_ends r ⊆ hull (shown_ends x) (shown_ends y) → IsHullRow (shown_ends x) (shown_ends y) (shown_ends r)
+pub hull_of_ends : (x y r : Option FineEnds) → hull (shown_ends x) (shown_ends y) ⊆ shown_ends r → shown_ends r ⊆ hull (shown_ends x) (shown_ends y)
+    → IsHullRow (shown_ends x) (shown_ends y) (shown_ends r)
 unfolding hull
 hull_of_ends None y r h k = record { known = λ p q. absurd p; low = λ p q. absurd p; high = λ p q. absurd p }
 hull_of_ends (Some p) None r h k = record { known = λ a b. absurd b; low = λ a b. absurd b; high = λ a b. absurd b }
@@ -230,7 +262,8 @@ hull_of_ends (Some p) (Some q) (Some e) h k = record {
 }
 
 -- ---- what is cut to -1..1
-pub cut_of_ends : (x : Option FineEnds) (e : FineEnds) → ((w : ℕ) (a : Bound) → IsNarrow w a (shown_ends x) → IsNarrow w (clamp_bound a) (shown_of e)) → IsCutRow (shown_ends x) (shown_of e)
+pub cut_of_ends : (x : Option FineEnds) (e : FineEnds) → ((w : ℕ) (a : Bound) → IsNarrow w a (shown_ends x) → IsNarrow w (clamp_bound a) (shown_of e))
+    → IsCutRow (shown_ends x) (shown_of e)
 unfolding clamp_bound IsNarrow
 cut_of_ends None e h = record { known = tt; wide = λ p. absurd p }
 cut_of_ends (Some p) e h =
@@ -241,28 +274,41 @@ cut_of_ends (Some p) e h =
 limited_holds : (t : Bool) (w : ℕ) (b : Bound) (i : Interval) → t ≡ true → IsNarrow w (limited t b) i → IsNarrow w b i
 limited_holds t w b i e h = rw e at h
 
-pub remainder_of_ends : (x r : Option FineEnds) (m : ℕ) → m < 2 ^ 32 → ((w : ℕ) (b : Bound) → IsNarrow w b (shown_ends x) → IsNarrow w (remainder_bound (limits_on fine) m b) (shown_ends r)) → IsMovedRow (shown_ends x) (shown_ends r)
+pub remainder_of_ends : (x r : Option FineEnds) (m : ℕ) → m < 2 ^ 32
+    → ((w : ℕ) (b : Bound) → IsNarrow w b (shown_ends x) → IsNarrow w (remainder_bound (limits_on fine) m b) (shown_ends r))
+    → IsMovedRow (shown_ends x) (shown_ends r)
 unfolding remainder_bound IsNarrow
 remainder_of_ends None r m l h = moved_row_all (shown_ends r)
 remainder_of_ends (Some p) None m l h =
-    absurd (limited_holds (nat_lt (m * 2 ^ 32) (2 ^ 100)) 0 (bounded (pos 0) (pos (m * 2 ^ 32)) 0 (unsigned_abs (p.hi -ℤ p.lo) * 2 ^ 8)) everything (lt-ltb _ _ (omega (arith, l))) (h 0 (bound_of_ends p.lo p.hi) (ends_narrow p.lo p.hi p.ordered)))
+    absurd (limited_holds (nat_lt (m * 2 ^ 32) (2 ^ 100)) 0 (bounded (pos 0) (pos (m * 2 ^ 32)) 0 (unsigned_abs (p.hi -ℤ p.lo) * 2 ^ 8)) everything
+    (lt-ltb _ _ (omega (arith, l))) (h 0 (bound_of_ends p.lo p.hi) (ends_narrow p.lo p.hi p.ordered)))
 remainder_of_ends (Some p) (Some e) m l h =
-    let k = kept_of fine _ _ _ _ 0 e.lo e.hi (limited_holds (nat_lt (m * 2 ^ 32) (2 ^ 100)) 0 (bounded (pos 0) (pos (m * 2 ^ 32)) 0 (unsigned_abs (p.hi -ℤ p.lo) * 2 ^ 8)) (shown_ends (Some e)) (lt-ltb _ _ (omega (arith, l))) (h 0 (bound_of_ends p.lo p.hi) (ends_narrow p.lo p.hi p.ordered))) in
+    let k = kept_of fine _ _ _ _ 0 e.lo e.hi (limited_holds (nat_lt (m * 2 ^ 32) (2 ^ 100)) 0
+    (bounded (pos 0) (pos (m * 2 ^ 32)) 0 (unsigned_abs (p.hi -ℤ p.lo) * 2 ^ 8)) (shown_ends (Some e)) (lt-ltb _ _ (omega (arith, l)))
+    (h 0 (bound_of_ends p.lo p.hi) (ends_narrow p.lo p.hi p.ordered))) in
     record { known = λ a s. tt; wide = λ a b. omega (arith, ints, k.close, p.ordered) }
 
 -- ---- a whole number
-pub integer_of_ends : (n : ℤ) (r : Option FineEnds) → SFits w64 n → ((w : ℕ) → IsNarrow w (integer_bound (limits_on fine) n) (shown_ends r)) → IsIntegerRow (shown_ends r)
+pub integer_of_ends : (n : ℤ) (r : Option FineEnds) → SFits w64 n → ((w : ℕ) → IsNarrow w (integer_bound (limits_on fine) n) (shown_ends r))
+    → IsIntegerRow (shown_ends r)
 unfolding integer_bound IsNarrow
-integer_of_ends n None f h = absurd (limited_holds (nat_lt (unsigned_abs n * 2 ^ 32) (2 ^ 100)) 0 (bounded (n *ℤ pos (2 ^ 32)) (n *ℤ pos (2 ^ 32)) 0 0) everything (lt-ltb _ _ (omega (arith, ints, f))) (h 0))
+integer_of_ends n None f h = absurd (limited_holds (nat_lt (unsigned_abs n * 2 ^ 32) (2 ^ 100)) 0 (bounded (n *ℤ pos (2 ^ 32)) (n *ℤ pos (2 ^ 32)) 0 0)
+    everything (lt-ltb _ _ (omega (arith, ints, f))) (h 0))
 integer_of_ends n (Some e) f h =
-    let k = kept_of fine _ _ _ _ 0 e.lo e.hi (limited_holds (nat_lt (unsigned_abs n * 2 ^ 32) (2 ^ 100)) 0 (bounded (n *ℤ pos (2 ^ 32)) (n *ℤ pos (2 ^ 32)) 0 0) (shown_ends (Some e)) (lt-ltb _ _ (omega (arith, ints, f))) (h 0)) in
+    let k = kept_of fine _ _ _ _ 0 e.lo e.hi (limited_holds (nat_lt (unsigned_abs n * 2 ^ 32) (2 ^ 100)) 0 (bounded (n *ℤ pos (2 ^ 32)) (n *ℤ pos (2 ^ 32)) 0 0)
+    (shown_ends (Some e)) (lt-ltb _ _ (omega (arith, ints, f))) (h 0)) in
     record { known = tt; wide = omega (arith, ints, k.close, k.ordered) }
 
 -- ---- fractions
-pub fraction_of_ends : (f : Fraction) (r : Option FineEnds) → ((w : ℕ) → IsNarrow w (constant_bound (limits_on fine) f) (shown_ends r)) → IfSome r (λ e. (e.hi -ℤ e.lo) ≤ℤ pos 1) → IsFractionRow f (shown_ends r)
+pub fraction_of_ends : (f : Fraction) (r : Option FineEnds) → ((w : ℕ) → IsNarrow w (constant_bound (limits_on fine) f) (shown_ends r))
+    → IfSome r (λ e. (e.hi -ℤ e.lo) ≤ℤ pos 1) → IsFractionRow f (shown_ends r)
 unfolding constant_bound IsNarrow
 fraction_of_ends f (Some e) n c = record { known = λ s t. tt; wide = λ k. c }
-fraction_of_ends f None n c = record { known = λ s t. absurd (limited_holds _ 0 (bounded (floor_at_32 f) (ceil_at_32 f) 0 (2 ^ 8)) everything (both_hold _ _ (lt-ltb _ _ t) (lt-ltb _ _ (size_32 f s))) (n 0)); wide = λ k. absurd k }
+fraction_of_ends f None n c = record {
+  known = λ s t. absurd (limited_holds _ 0 (bounded (floor_at_32 f) (ceil_at_32 f) 0 (2 ^ 8)) everything
+      (both_hold _ _ (lt-ltb _ _ t) (lt-ltb _ _ (size_32 f s))) (n 0));
+  wide = λ k. absurd k;
+}
   where
     both_hold : (p q : Bool) → p ≡ true → q ≡ true → (p && q) ≡ true
     both_hold p q e h = rw (e, h) refl
@@ -272,17 +318,22 @@ fraction_of_ends f None n c = record { known = λ s t. absurd (limited_holds _ 0
         let i = floor_quotient_floor (f.num *ℤ pos (2 ^ 32)) f.below in
         let j = floor_quotient_floor (neg_ℤ (f.num *ℤ pos (2 ^ 32))) f.below in
         let h : pos (unsigned_abs f.num) ≤ℤ (pos (2 ^ 50) *ℤ pos (suc f.below)) = omega (arith, ints, s) in
-        let l = floor_low (f.num *ℤ pos (2 ^ 32)) (pos (suc f.below)) (floor_quotient (f.num *ℤ pos (2 ^ 32)) f.below) (omega (arith, ints)) (omega (arith, ints, h)) (omega (arith, ints, i.close)) in
-        let k = floor_low (neg_ℤ (f.num *ℤ pos (2 ^ 32))) (pos (suc f.below)) (floor_quotient (neg_ℤ (f.num *ℤ pos (2 ^ 32))) f.below) (omega (arith, ints)) (omega (arith, ints, h)) (omega (arith, ints, j.close)) in
-        let u = floor_high (f.num *ℤ pos (2 ^ 32)) (pos (suc f.below)) (floor_quotient (f.num *ℤ pos (2 ^ 32)) f.below) (omega (arith, ints)) (omega (arith, ints, h)) i.not_above in
-        let v = floor_high (neg_ℤ (f.num *ℤ pos (2 ^ 32))) (pos (suc f.below)) (floor_quotient (neg_ℤ (f.num *ℤ pos (2 ^ 32))) f.below) (omega (arith, ints)) (omega (arith, ints, h)) j.not_above in
+        let l = floor_low (f.num *ℤ pos (2 ^ 32)) (pos (suc f.below)) (floor_quotient (f.num *ℤ pos (2 ^ 32)) f.below) (omega (arith, ints))
+        (omega (arith, ints, h)) (omega (arith, ints, i.close)) in
+        let k = floor_low (neg_ℤ (f.num *ℤ pos (2 ^ 32))) (pos (suc f.below)) (floor_quotient (neg_ℤ (f.num *ℤ pos (2 ^ 32))) f.below) (omega (arith, ints))
+        (omega (arith, ints, h)) (omega (arith, ints, j.close)) in
+        let u = floor_high (f.num *ℤ pos (2 ^ 32)) (pos (suc f.below)) (floor_quotient (f.num *ℤ pos (2 ^ 32)) f.below) (omega (arith, ints))
+        (omega (arith, ints, h)) i.not_above in
+        let v = floor_high (neg_ℤ (f.num *ℤ pos (2 ^ 32))) (pos (suc f.below)) (floor_quotient (neg_ℤ (f.num *ℤ pos (2 ^ 32))) f.below) (omega (arith, ints))
+        (omega (arith, ints, h)) j.not_above in
         omega (arith, ints, l, k, u, v)
       where
         floor_low : (n d q : ℤ) → pos 1 ≤ℤ d → (pos 0 -ℤ pos (2 ^ 82) *ℤ d) ≤ℤ n → (n +ℤ pos 1) ≤ℤ (q *ℤ d +ℤ d) → (pos 0 -ℤ pos (2 ^ 82)) ≤ℤ q
         floor_low n d q h l f =
             by_lt_z q (pos 0 -ℤ pos (2 ^ 82))
             (λ m. absurd
-            (refute (n ∷ d ∷ q ∷ []) ((lit (pos 0) ≼ at 1) ∷ (lit (pos 0) ⊖ lit (pos (2 ^ 82)) ⊗ at 1 ≼ at 0) ∷ (at 0 ⊕ lit (pos 1) ≼ at 2 ⊗ at 1 ⊕ at 1) ∷ (at 2 ⊕ lit (pos 1) ≼ lit (pos 0) ⊖ lit (pos (2 ^ 82))) ∷ []) (known 1 ⊞ known 2 ⊞ known 0 ⊠ known 3) refl
+            (refute (n ∷ d ∷ q ∷ []) ((lit (pos 0) ≼ at 1) ∷ (lit (pos 0) ⊖ lit (pos (2 ^ 82)) ⊗ at 1 ≼ at 0) ∷ (at 0 ⊕ lit (pos 1) ≼ at 2 ⊗ at 1 ⊕ at 1) ∷
+            (at 2 ⊕ lit (pos 1) ≼ lit (pos 0) ⊖ lit (pos (2 ^ 82))) ∷ []) (known 1 ⊞ known 2 ⊞ known 0 ⊠ known 3) refl
             (omega (arith, ints, h), (l, (f, (omega (arith, ints, m), tt))))))
             (λ m. m)
 
@@ -290,7 +341,8 @@ fraction_of_ends f None n c = record { known = λ s t. absurd (limited_holds _ 0
         floor_high n d q h l f =
             by_lt_z (pos (2 ^ 82)) q
             (λ m. absurd
-            (refute (n ∷ d ∷ q ∷ []) ((lit (pos 1) ≼ at 1) ∷ (at 0 ≼ lit (pos (2 ^ 82)) ⊗ at 1) ∷ (at 2 ⊗ at 1 ≼ at 0) ∷ (lit (pos (2 ^ 82)) ⊕ lit (pos 1) ≼ at 2) ∷ [])
+            (refute (n ∷ d ∷ q ∷ []) ((lit (pos 1) ≼ at 1) ∷ (at 0 ≼ lit (pos (2 ^ 82)) ⊗ at 1) ∷ (at 2 ⊗ at 1 ≼ at 0) ∷
+            (lit (pos (2 ^ 82)) ⊕ lit (pos 1) ≼ at 2) ∷ [])
             (known 1 ⊞ known 2 ⊞ known 3 ⊠ (known 0 ⊞ naturally 1) ⊞ known 0) refl (h, (l, (f, (omega (arith, ints, m), tt))))))
             (λ m. m)
 
@@ -301,7 +353,9 @@ factor_roomy n x a h k l =
     let c : a * unsigned_abs n ≡ unsigned_abs n * a = omega arith in
     omega (arith, ints, p.above, p.below, l, c)
 
-pub factor_of_ends : (f : Fraction) (x r : Option FineEnds) → IfSome x (λ p. IfSome r (λ e. (((e.hi -ℤ e.lo) -ℤ pos 2) *ℤ pos (f.below + 1)) ≤ℤ ((p.hi -ℤ p.lo) *ℤ pos (unsigned_abs f.num)))) → IfSome x (λ p. w128 ≡ w128 → SFits w128 (p.lo *ℤ f.num) → SFits w128 (p.hi *ℤ f.num) → IsSome r) → IsFactorRow f (shown_ends x) (shown_ends r)
+pub factor_of_ends : (f : Fraction) (x r : Option FineEnds) → IfSome x
+    (λ p. IfSome r (λ e. (((e.hi -ℤ e.lo) -ℤ pos 2) *ℤ pos (f.below + 1)) ≤ℤ ((p.hi -ℤ p.lo) *ℤ pos (unsigned_abs f.num))))
+    → IfSome x (λ p. w128 ≡ w128 → SFits w128 (p.lo *ℤ f.num) → SFits w128 (p.hi *ℤ f.num) → IsSome r) → IsFactorRow f (shown_ends x) (shown_ends r)
 factor_of_ends f None r c s = record { known = λ p l. absurd p; wide = λ p k. absurd p }
 factor_of_ends f (Some p) (Some e) c s = record { known = λ a l. tt; wide = λ a k. c }
 factor_of_ends f (Some p) None c s = record {
@@ -313,12 +367,19 @@ factor_of_ends f (Some p) None c s = record {
 }
 
 -- ---- what is moved outwards
-pub widened_of_ends : (f : Fraction) (x r : Option FineEnds) → ((w : ℕ) (a : Bound) → IsNarrow w a (shown_ends x) → IsNarrow w (widen_bound (limits_on fine) f a) (shown_ends r))
-    → IfSome x (λ p. IfSome r (λ e. ((((e.hi -ℤ e.lo) -ℤ (p.hi -ℤ p.lo)) -ℤ pos 2) *ℤ pos (f.below + 1)) ≤ℤ (pos 2 *ℤ (pos (unsigned_abs f.num) *ℤ pos (2 ^ 56))))) → IsWidenedRow f (shown_ends x) (shown_ends r)
+pub widened_of_ends : (f : Fraction) (x r : Option FineEnds) →
+    ((w : ℕ) (a : Bound) → IsNarrow w a (shown_ends x) → IsNarrow w (widen_bound (limits_on fine) f a) (shown_ends r))
+    → IfSome x (λ p. IfSome r (λ e. ((((e.hi -ℤ e.lo) -ℤ (p.hi -ℤ p.lo)) -ℤ pos 2) *ℤ pos (f.below + 1))
+    ≤ℤ (pos 2 *ℤ (pos (unsigned_abs f.num) *ℤ pos (2 ^ 56))))) → IsWidenedRow f (shown_ends x) (shown_ends r)
 unfolding widen_bound IsNarrow
 widened_of_ends f None r n c = record { known = λ p s a b. absurd p; wide = λ p k. absurd p }
 widened_of_ends f (Some p) (Some e) n c = record { known = λ a s t u. tt; wide = λ a k. omega (arith, ints, c) }
-widened_of_ends f (Some p) None n c = record { known = λ a s t u. absurd (limited_holds _ 0 _ everything (both_hold _ _ (lt-ltb _ _ u) (lt-ltb _ _ (size_32 s (margin_size t)))) (n 0 (bound_of_ends p.lo p.hi) (ends_narrow p.lo p.hi p.ordered))); wide = λ a k. absurd k }
+widened_of_ends f (Some p) None n c = record {
+  known = λ a s t u.
+      absurd (limited_holds _ 0 _ everything (both_hold _ _ (lt-ltb _ _ u) (lt-ltb _ _ (size_32 s (margin_size t))))
+      (n 0 (bound_of_ends p.lo p.hi) (ends_narrow p.lo p.hi p.ordered)));
+  wide = λ a k. absurd k;
+}
   where
     both_hold : (p q : Bool) → p ≡ true → q ≡ true → (p && q) ≡ true
     both_hold p q e h = rw (e, h) refl

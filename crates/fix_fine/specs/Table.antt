@@ -92,7 +92,8 @@ pub record IsQuotientRow (x y r : Interval) : Type 0 where
 -- are squared, of what the width is above two units.
 pub record IsRootRow (x r : Interval) : Type 0 where
   pub known : IsKnown x → size_of x < 2 ^ 70 → IsKnown r
-  pub wide : IsKnown x → IsKnown r → pos 0 <ℤ low_of x → (e : ℕ) → width_of r ≡ pos 2 +ℤ pos e → (pos 4 *ℤ ((pos e *ℤ pos e) *ℤ low_of x)) ≤ℤ ((width_of x *ℤ width_of x) *ℤ pos (2 ^ 56))
+  pub wide : IsKnown x → IsKnown r → pos 0 <ℤ low_of x → (e : ℕ) → width_of r ≡ pos 2 +ℤ pos e → (pos 4 *ℤ ((pos e *ℤ pos e) *ℤ low_of x))
+      ≤ℤ ((width_of x *ℤ width_of x) *ℤ pos (2 ^ 56))
 
 -- what is moved outwards, where the sizes are below 2^50 and the numerator's below 2^70: the width, twice the fraction's size, and
 -- two units

@@ -14,12 +14,12 @@ ghost use Rattle.fix_fine.specs.Table.{IsIntegerRow, IsFractionRow, IsFactorRow,
 
 use book_model::{Frac, Site, Undecided};
 use encl_core::{Enclosure, Span, Trail};
-use scaled_ends::{
-    Ends, add_ends, cell_of_ends, clamp_ends, ends_of_span, finer_ends, hull_ends, int_ends,
-    lower_ends, max_ends, min_ends, neg_ends, open_at, order_of_ends, period_of_ends, raised_ends,
-    scale_ends, sub_ends, widen_ends,
+use interval_ends::{
+    Ends, add_ends, cell_of_ends, clamp_ends, ends_at_fine_scale, ends_of_fraction, ends_of_span,
+    hull_ends, int_ends, max_ends, min_ends, neg_ends, open_at, order_of_ends, period_of_ends,
+    rest_of_period, scale_ends, sub_ends, widen_ends,
 };
-use scaled_products::{div_ends, mul_ends, root_ends, square_ends};
+use interval_products::{div_ends, mul_ends, root_ends, square_ends};
 
 /// An enclosure by two ends in 128 bits that count 2⁻⁵⁶, rounded outwards; every number, where a number doesn't fit.
 #[derive(Clone, Copy, Debug, PartialEq)]
@@ -60,7 +60,7 @@ impl Enclosure for Fine {
         ensures table { IsFractionRow (fraction_of value) (shown_fine result) }
     {
         Fine {
-            ends: raised_ends(value),
+            ends: ends_of_fraction(value),
         }
     }
 
@@ -189,7 +189,7 @@ impl Enclosure for Fine {
     }
 
     fn span(self) -> Option<Span> {
-        let (lo, hi) = finer_ends(self.ends)?;
+        let (lo, hi) = ends_at_fine_scale(self.ends)?;
         Some(Span { lo, hi })
     }
 
@@ -229,7 +229,7 @@ impl Enclosure for Fine {
         let turn = trail.step();
         match period_of_ends(self.ends, modulus) {
             Some(period) => Ok(Fine {
-                ends: lower_ends(self.ends, modulus, period),
+                ends: rest_of_period(self.ends, modulus, period),
             }),
             None => Err(open_at(self.ends, site, turn)),
         }

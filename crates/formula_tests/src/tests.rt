@@ -9,7 +9,7 @@ mod facts;
 mod fine;
 mod fine_ends;
 mod first_crescents;
-mod greatest_widths;
+mod formula_widths;
 mod hindu;
 mod horizon;
 mod kept;

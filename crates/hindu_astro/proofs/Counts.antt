@@ -13,7 +13,8 @@ days_are : (twelfths : ℤ) → days_of (fraction_of SIDEREAL_YEAR) (ratio twelf
 unfolding days_of times
 days_are twelfths = refl
 
-pub days_near : (twelfths : ℤ) → negsuc 119999 ≤ℤ twelfths → twelfths ≤ℤ pos 170000 → LiesWithin (negsuc 3999999) (pos 6000000) (days_of (fraction_of SIDEREAL_YEAR) (ratio twelfths 12))
+pub days_near : (twelfths : ℤ) → negsuc 119999 ≤ℤ twelfths → twelfths ≤ℤ pos 170000
+    → LiesWithin (negsuc 3999999) (pos 6000000) (days_of (fraction_of SIDEREAL_YEAR) (ratio twelfths 12))
 days_near twelfths h k =
     let f = floor_quotient_is (pos 36525636 *ℤ twelfths) 1199999 in
     let e = days_are twelfths in

@@ -90,7 +90,7 @@ fn is_same(one: i64, other: i64) -> bool
 /// The date by the tithis of the day and of the day before, the signs at the new moons before and after, and the year of the Kali
 /// Yuga.
 #[tactic(auto, unfolding(book_model::specs::calendars::HinduLunar::lunar_fields))]
-fn date_by(tithi: i64, earlier: i64, before: i64, after: i64, year: i64) -> HinduLunar
+fn date_from_signs(tithi: i64, earlier: i64, before: i64, after: i64, year: i64) -> HinduLunar
     requires before_value { IsFactValue before }
     requires year_value { IsFactValue year }
     ensures date { fields_of_lunar result ≡ spec.lunar_fields tithi earlier before after year }
@@ -106,7 +106,7 @@ fn date_by(tithi: i64, earlier: i64, before: i64, after: i64, year: i64) -> Hind
 
 /// The date of a day by its tithi and that of the day before.
 #[tactic(auto, using(oracle_core::proofs::Inquiring::asking), unfolding(book_model::specs::calendars::HinduLunar::lunar_date_by))]
-fn date_by_tithis<O: Oracle>(
+fn date_from_tithis<O: Oracle>(
     oracle: &mut O,
     day: i64,
     tithi: i64,
@@ -119,19 +119,19 @@ fn date_by_tithis<O: Oracle>(
     let before = oracle.ask(fact_on(Kind::SignBefore, day))?;
     let after = oracle.ask(fact_on(Kind::SignAfter, day))?;
     let year = oracle.ask(year_fact(day, before))?;
-    Ok(date_by(tithi, earlier, before, after, year))
+    Ok(date_from_signs(tithi, earlier, before, after, year))
 }
 
 /// The date of a day (R.D.) to which values of facts lead.
 #[tactic(auto, using(oracle_core::proofs::Inquiring::asking), unfolding(book_model::specs::calendars::HinduLunar::hindu_lunar_on))]
-fn date_near<O: Oracle>(oracle: &mut O, day: i64) -> Result<HinduLunar, Stop>
+fn date_from_facts<O: Oracle>(oracle: &mut O, day: i64) -> Result<HinduLunar, Stop>
     requires day { IsDatedDay day }
     ensures date { AsksAs fields_of_lunar O.Oracle (spec.hindu_lunar_on day)
         oracle.old oracle.new result }
 {
     let tithi = oracle.ask(fact_on(Kind::Tithi, day))?;
     let earlier = oracle.ask(fact_on(Kind::Tithi, day - 1))?;
-    date_by_tithis(oracle, day, tithi, earlier)
+    date_from_tithis(oracle, day, tithi, earlier)
 }
 
 /// The date of a day (R.D.): its month has the number of the sign that the sun enters in it, and is an added one where it enters
@@ -150,7 +150,7 @@ pub fn from_fixed<O: Oracle>(oracle: &mut O, day: i64) -> Result<HinduLunar, Sto
     ensures date { AsksAs fields_of_lunar O.Oracle (spec.hindu_lunar_on day)
         oracle.old oracle.new result }
 {
-    date_near(oracle, day)
+    date_from_facts(oracle, day)
 }
 
 /// Whether a date lies in the month of the one that is sought.
@@ -176,7 +176,7 @@ fn lies_in_month<O: Oracle>(oracle: &mut O, sought: HinduLunar, day: i64) -> Res
     ensures lies { Asks O.Oracle (spec.lies_in_month (fields_of_lunar sought) day)
         oracle.old oracle.new result }
 {
-    let date = date_near(oracle, day)?;
+    let date = date_from_facts(oracle, day)?;
     Ok(is_of_month(sought, date))
 }
 
@@ -187,7 +187,7 @@ fn has_date<O: Oracle>(oracle: &mut O, sought: HinduLunar, day: i64) -> Result<b
     ensures has { Asks O.Oracle (spec.has_date (fields_of_lunar sought) day)
         oracle.old oracle.new result }
 {
-    let date = date_near(oracle, day)?;
+    let date = date_from_facts(oracle, day)?;
     Ok(is_sought_date(sought, date))
 }
 

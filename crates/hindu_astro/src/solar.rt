@@ -43,7 +43,7 @@ fn year_of(year: i64) -> i64
 
 /// The date of a day by the sign of its sunset, the year of the Kali Yuga and the first day of its month.
 #[tactic(auto, unfolding(book_model::specs::calendars::HinduSolar::solar_fields))]
-fn date_by(day: i64, sign: i64, year: i64, first: i64) -> HinduSolar
+fn date_from_facts(day: i64, sign: i64, year: i64, first: i64) -> HinduSolar
     requires day { IsCalendarDay day }
     requires sign_value { IsFactValue sign }
     requires year_value { IsFactValue year }
@@ -75,7 +75,7 @@ pub fn from_fixed<O: Oracle>(oracle: &mut O, day: i64) -> Result<HinduSolar, Sto
     let sign = oracle.ask(fact_on(Kind::Sign, day))?;
     let year = oracle.ask(fact_on(Kind::SolarYear, day))?;
     let first = oracle.ask(fact_on(Kind::Sankranti, day))?;
-    Ok(date_by(day, sign, year, first))
+    Ok(date_from_facts(day, sign, year, first))
 }
 
 /// A day within a month, late in it.

@@ -16,7 +16,8 @@ days_are : (halves : ℤ) → days_of (fraction_of SYNODIC_MONTH) (ratio halves 
 unfolding days_of times
 days_are halves = refl
 
-pub days_near : (halves : ℤ) → negsuc 239999 ≤ℤ halves → halves ≤ℤ pos 240000 → LiesWithin (negsuc 3999999) (pos 4000000) (days_of (fraction_of SYNODIC_MONTH) (ratio halves 2))
+pub days_near : (halves : ℤ) → negsuc 239999 ≤ℤ halves → halves ≤ℤ pos 240000
+    → LiesWithin (negsuc 3999999) (pos 4000000) (days_of (fraction_of SYNODIC_MONTH) (ratio halves 2))
 days_near halves h k =
     let f = floor_quotient_is (pos 29530588861 *ℤ halves) 1999999999 in
     let e = days_are halves in

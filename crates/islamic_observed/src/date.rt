@@ -41,7 +41,7 @@ fn month_after(passed: i64) -> u8
 
 /// The date, where so many months have passed.
 #[tactic(auto, unfolding(book_model::specs::calendars::Islamic::islamic_fields))]
-fn date_in(passed: i64, day: i64) -> IslamicDate
+fn date_from_month(passed: i64, day: i64) -> IslamicDate
     requires near { IsNearMonth passed }
     ensures date { fields_of_date result ≡ spec.islamic_fields passed day }
 {
@@ -62,13 +62,13 @@ fn day_of_month(day: i64, first: i64) -> i64
 }
 
 /// The date of a day by the first day of its month.
-fn date_by(day: i64, first: i64) -> IslamicDate
+fn date_from_facts(day: i64, first: i64) -> IslamicDate
     requires day { IsCalendarDay day }
     requires value { IsFactValue first }
     ensures date { fields_of_date result ≡ spec.islamic_fields (spec.months_before first)
         (day -ℤ first +ℤ pos 1) }
 {
-    date_in(months_before(first), day_of_month(day, first))
+    date_from_month(months_before(first), day_of_month(day, first))
 }
 
 /// The date of a day (R.D.): the month that begins on the first day which the oracle has for the day, the months counted from the
@@ -87,7 +87,7 @@ pub fn from_fixed<O: Oracle>(oracle: &mut O, day: i64) -> Result<IslamicDate, St
         oracle.old oracle.new result }
 {
     let first = oracle.ask(month_fact_on(day))?;
-    Ok(date_by(day, first))
+    Ok(date_from_facts(day, first))
 }
 
 /// The day of a month by its first day.

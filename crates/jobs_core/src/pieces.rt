@@ -68,7 +68,8 @@ fn work_pieces<
             requires { (0 < jobs) × (piece < jobs) × (jobs ≤ 64)
                 × ((i : ℕ) → i < count → F.pre f.now i) }
             ensures { IfOk result (λ done. Covers (λ i x. F.post f.entry.now i (Ok x))
-                (spec.piece_start count jobs piece) (spec.piece_start count jobs (piece + 1)) done.items) }
+                (spec.piece_start count jobs piece) (spec.piece_start count jobs (piece + 1))
+                done.items) }
         {
             gate.at(piece);
             let from = piece_start(count, jobs, piece);

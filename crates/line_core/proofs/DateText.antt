@@ -17,7 +17,9 @@ at_dash : (bs : List ℕ) → to_dash bs < length bs → parts_of bs ≡ take (t
 at_dash [] h = absurd (omega arith)
 at_dash (b ∷ bs) h = step (b == 45) (at_dash bs) h
   where
-    step : (t : Bool) → (to_dash bs < length bs → parts_of bs ≡ take (to_dash bs) bs ∷ parts_of (drop (to_dash bs + 1) bs)) → cond (not t) (1 + to_dash bs) 0 < length (b ∷ bs) → cond t ([] ∷ parts_of bs) (onto_first b (parts_of bs)) ≡ take (cond (not t) (1 + to_dash bs) 0) (b ∷ bs) ∷ parts_of (drop (cond (not t) (1 + to_dash bs) 0 + 1) (b ∷ bs))
+    step : (t : Bool) → (to_dash bs < length bs → parts_of bs ≡ take (to_dash bs) bs ∷ parts_of (drop (to_dash bs + 1) bs))
+        → cond (not t) (1 + to_dash bs) 0 < length (b ∷ bs) → cond t ([] ∷ parts_of bs) (onto_first b (parts_of bs))
+        ≡ take (cond (not t) (1 + to_dash bs) 0) (b ∷ bs) ∷ parts_of (drop (cond (not t) (1 + to_dash bs) 0 + 1) (b ∷ bs))
     step true first h = refl
     step false first h =
         let rest : parts_of bs ≡ take (to_dash bs) bs ∷ parts_of (drop (to_dash bs + 1) bs) = first (omega arith) in
@@ -29,7 +31,8 @@ no_dash : (bs : List ℕ) → length bs ≤ to_dash bs → parts_of bs ≡ bs �
 no_dash [] h = refl
 no_dash (b ∷ bs) h = step (b == 45) (no_dash bs) h
   where
-    step : (t : Bool) → (length bs ≤ to_dash bs → parts_of bs ≡ bs ∷ []) → length (b ∷ bs) ≤ cond (not t) (1 + to_dash bs) 0 → cond t ([] ∷ parts_of bs) (onto_first b (parts_of bs)) ≡ (b ∷ bs) ∷ []
+    step : (t : Bool) → (length bs ≤ to_dash bs → parts_of bs ≡ bs ∷ []) → length (b ∷ bs) ≤ cond (not t) (1 + to_dash bs) 0
+        → cond t ([] ∷ parts_of bs) (onto_first b (parts_of bs)) ≡ (b ∷ bs) ∷ []
     step true last h = absurd (omega arith)
     step false last h = ap (onto_first b) (last (omega arith))
 
@@ -42,7 +45,8 @@ pub record IsPlace (i place length : ℕ) : Type 0 where
 pub found_at : (p : ℕ → Bool) (xs : List ℕ) (i : ℕ) → Some i ≡ position p xs → IsPlace i (position_or_len p xs) (length xs)
 found_at p xs i h = chosen (nat_lt (position_or_len p xs) (length xs)) refl h
   where
-    chosen : (t : Bool) → nat_lt (position_or_len p xs) (length xs) ≡ t → Some i ≡ cond t (Some (position_or_len p xs)) None → IsPlace i (position_or_len p xs) (length xs)
+    chosen : (t : Bool) → nat_lt (position_or_len p xs) (length xs) ≡ t → Some i ≡ cond t (Some (position_or_len p xs)) None
+        → IsPlace i (position_or_len p xs) (length xs)
     chosen true e h = record { same = cc; before_end = ltb-true _ _ e }
     chosen false e h = cc
 
@@ -55,7 +59,8 @@ not_found p xs h = chosen (nat_lt (position_or_len p xs) (length xs)) refl h
     chosen false e h = ltb-false _ _ e
 
 -- the parts, where the first dash stands at i
-pub parts_at : (word : List ℕ) (i : ℕ) → Some i ≡ position (λ b. b == 45) word → parts_of word ≡ take i word ∷ parts_of (take (length word - (i + 1)) (drop (i + 1) word))
+pub parts_at : (word : List ℕ) (i : ℕ) → Some i ≡ position (λ b. b == 45) word → parts_of word
+    ≡ take i word ∷ parts_of (take (length word - (i + 1)) (drop (i + 1) word))
 parts_at word i h = let f = found_at (λ b. b == 45) word i h in rw f.same (simp take_rest (at_dash word f.before_end))
 
 -- the parts, where there is no dash

@@ -68,7 +68,8 @@ fields_in None = record { count = 0; values = [] }
 fields_in (Some f) = f
 
 -- the same numbers
-same_fields : (k : ℕ) (values : List ℤ) (ns : List ℕ) → k ≤ 5 → followed k values (Some []) ≡ followed 0 no_values (Some ns) → fields_with ns ≡ record { count = k; values = values }
+same_fields : (k : ℕ) (values : List ℤ) (ns : List ℕ) → k ≤ 5 → followed k values (Some []) ≡ followed 0 no_values (Some ns) → fields_with ns
+    ≡ record { count = k; values = values }
 same_fields k values ns few h =
     let start : 0 + length ns ≡ length ns = omega arith in
     let end : k + 0 ≡ k = omega arith in
@@ -82,7 +83,8 @@ pub spelled : (k : ℕ) (values : List ℤ) (date : List ℕ) (c : Calendar) →
 unfolding fields_of
 spelled k values date c few spells = by_numbers (numbers_of (parts_of date)) spells
   where
-    by_numbers : (o : Option (List ℕ)) → followed k values (Some []) ≡ followed 0 no_values o → checked_numbers c o ≡ checked c (record { count = k; values = values })
+    by_numbers : (o : Option (List ℕ)) → followed k values (Some []) ≡ followed 0 no_values o → checked_numbers c o
+        ≡ checked c (record { count = k; values = values })
     by_numbers None h = cc
     by_numbers (Some ns) h = ap (checked c) (same_fields k values ns few h)
 
@@ -95,7 +97,8 @@ unchecked c ns many =
     rw other refl
 
 -- a sixth part spells no date
-pub sixth : (values : List ℤ) (date word : List ℕ) (c : Calendar) → followed 5 values (numbers_of (parts_of word)) ≡ followed 0 no_values (numbers_of (parts_of date)) → fields_of c date ≡ None
+pub sixth : (values : List ℤ) (date word : List ℕ) (c : Calendar) → followed 5 values (numbers_of (parts_of word))
+    ≡ followed 0 no_values (numbers_of (parts_of date)) → fields_of c date ≡ None
 unfolding fields_of
 sixth values date word c spells = by_parts (parts_of word) (parts_exist word) spells
   where
@@ -113,11 +116,13 @@ sixth values date word c spells = by_parts (parts_of word) (parts_exist word) sp
     by_first o p None h = rw (nothing 0 no_values o h) refl
     by_first o p (Some n) h = by_numbers o p n h
 
-    by_parts : (parts : List (List ℕ)) → 1 ≤ length parts → followed 5 values (numbers_of parts) ≡ followed 0 no_values (numbers_of (parts_of date)) → checked_numbers c (numbers_of (parts_of date)) ≡ None
+    by_parts : (parts : List (List ℕ)) → 1 ≤ length parts → followed 5 values (numbers_of parts) ≡ followed 0 no_values (numbers_of (parts_of date))
+        → checked_numbers c (numbers_of (parts_of date)) ≡ None
     by_parts [] h k = absurd (omega arith)
     by_parts (p ∷ ps) h k = by_first (numbers_of (parts_of date)) (numbers_of ps) (number_of p) k
 
 -- the first part, and those that are left
-pub cut_parts : (word part : List ℕ) (rest : Option (Bor (List ℕ))) → MatchOption rest (parts_of word ≡ part ∷ []) (λ r. parts_of word ≡ part ∷ parts_of r.now) → parts_of word ≡ part ∷ parts_left rest
+pub cut_parts : (word part : List ℕ) (rest : Option (Bor (List ℕ))) → MatchOption rest (parts_of word ≡ part ∷ []) (λ r. parts_of word ≡ part ∷ parts_of r.now)
+    → parts_of word ≡ part ∷ parts_left rest
 cut_parts word part None h = h
 cut_parts word part (Some rest) h = h

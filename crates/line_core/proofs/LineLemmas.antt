@@ -14,7 +14,8 @@ at_end bs = position_or_len (λ b. b == 10) bs
 raw_step : (b : ℕ) (bs : List ℕ) (t : Bool)
     → (at_end bs < length bs → raw_lines bs ≡ take (at_end bs) bs ∷ raw_lines (drop (at_end bs + 1) bs))
     → cond (not t) (1 + at_end bs) 0 < length (b ∷ bs)
-    → cond t ([] ∷ raw_lines bs) (onto_first b (raw_lines bs)) ≡ take (cond (not t) (1 + at_end bs) 0) (b ∷ bs) ∷ raw_lines (drop (cond (not t) (1 + at_end bs) 0 + 1) (b ∷ bs))
+    → cond t ([] ∷ raw_lines bs) (onto_first b (raw_lines bs))
+    ≡ take (cond (not t) (1 + at_end bs) 0) (b ∷ bs) ∷ raw_lines (drop (cond (not t) (1 + at_end bs) 0 + 1) (b ∷ bs))
 raw_step b bs true first h = refl
 raw_step b bs false first h =
     let rest : raw_lines bs ≡ take (at_end bs) bs ∷ raw_lines (drop (at_end bs + 1) bs) = first (omega arith) in

@@ -25,11 +25,14 @@ skip_blanks (b ∷ bs) = step (is_blank b) refl (skip_blanks bs)
     step false e rest = let none : blanks (b ∷ bs) ≡ 0 = rw e refl in rw none refl
 
 -- the first word ends at the first blank
-take_word : (b : ℕ) (bs : List ℕ) → is_blank b ≡ false → words_of (b ∷ bs) ≡ take (word_length (b ∷ bs)) (b ∷ bs) ∷ words_of (drop (word_length (b ∷ bs)) (b ∷ bs))
+take_word : (b : ℕ) (bs : List ℕ) → is_blank b ≡ false → words_of (b ∷ bs)
+    ≡ take (word_length (b ∷ bs)) (b ∷ bs) ∷ words_of (drop (word_length (b ∷ bs)) (b ∷ bs))
 take_word b [] e = rw e refl
 take_word b (c ∷ cs) e = step (is_blank c) refl (λ f. take_word c cs f)
   where
-    step : (t : Bool) → is_blank c ≡ t → (is_blank c ≡ false → words_of (c ∷ cs) ≡ take (word_length (c ∷ cs)) (c ∷ cs) ∷ words_of (drop (word_length (c ∷ cs)) (c ∷ cs))) → words_of (b ∷ c ∷ cs) ≡ take (word_length (b ∷ c ∷ cs)) (b ∷ c ∷ cs) ∷ words_of (drop (word_length (b ∷ c ∷ cs)) (b ∷ c ∷ cs))
+    step : (t : Bool) → is_blank c ≡ t → (is_blank c ≡ false → words_of (c ∷ cs)
+        ≡ take (word_length (c ∷ cs)) (c ∷ cs) ∷ words_of (drop (word_length (c ∷ cs)) (c ∷ cs))) → words_of (b ∷ c ∷ cs)
+        ≡ take (word_length (b ∷ c ∷ cs)) (b ∷ c ∷ cs) ∷ words_of (drop (word_length (b ∷ c ∷ cs)) (b ∷ c ∷ cs))
     step true f rest =
         let words : words_of (b ∷ c ∷ cs) ≡ (b ∷ []) ∷ words_of (c ∷ cs) = rw (e, f) refl in
         let one : word_length (b ∷ c ∷ cs) ≡ 1 = rw (e, f) refl in
@@ -40,7 +43,8 @@ take_word b (c ∷ cs) e = step (is_blank c) refl (λ f. take_word c cs f)
         rw more (words ∙ ap (onto_first b) (rest f))
 
 -- the words, where the first begins at i
-pub words_at : (line : List ℕ) (i : ℕ) → Some i ≡ position (λ b. not (is_blank b)) line → words_of line ≡ take (word_length (drop i line)) (drop i line) ∷ words_of (drop (word_length (drop i line)) (drop i line))
+pub words_at : (line : List ℕ) (i : ℕ) → Some i ≡ position (λ b. not (is_blank b)) line → words_of line
+    ≡ take (word_length (drop i line)) (drop i line) ∷ words_of (drop (word_length (drop i line)) (drop i line))
 words_at line i h =
     let f = found_at (λ b. not (is_blank b)) line i h in
     let split = drop_more line (blanks line) 0 f.before_end in

@@ -35,7 +35,8 @@ in_all lo hi (range ∷ other ∷ ranges) z wide h =
     let each = both (int_le lo range.0 && int_le range.1 hi) (lie_between lo hi (other ∷ ranges)) wide in
     by (is_between range.0 range.1 z) refl each.0 (in_all lo hi (other ∷ ranges) z each.1) h
   where
-    by : (b : Bool) → is_between range.0 range.1 z ≡ b → (int_le lo range.0 && int_le range.1 hi) ≡ true → (is_in_some (other ∷ ranges) z ≡ true → (lo ≤ℤ z) × (z ≤ℤ hi)) → (b || is_in_some (other ∷ ranges) z) ≡ true → (lo ≤ℤ z) × (z ≤ℤ hi)
+    by : (b : Bool) → is_between range.0 range.1 z ≡ b → (int_le lo range.0 && int_le range.1 hi) ≡ true
+        → (is_in_some (other ∷ ranges) z ≡ true → (lo ≤ℤ z) × (z ≤ℤ hi)) → (b || is_in_some (other ∷ ranges) z) ≡ true → (lo ≤ℤ z) × (z ≤ℤ hi)
     by true here first rest h = in_wider lo hi range.0 range.1 z first here
     by false here first rest h = rest h
 

@@ -63,14 +63,19 @@ unfolding fits value venus_wave_of quadratic_wave_of quadratic_of sum product le
 venus_fits w = refl
 
 -- ---- sums over the rows of a table
-rows_between : {R : Type 0} (w : World) (term : R → Expression) (none : R) (rows : List R) (n : ℕ) → ((k : ℕ) → IsBetween (negsuc 0) (pos 1) (value w (term (slice_index_or rows k none)))) → IsBetween (neg_ℤ (pos n)) (pos n) (value w (terms_to term none rows n))
+rows_between : {R : Type 0} (w : World) (term : R → Expression) (none : R) (rows : List R) (n : ℕ)
+    → ((k : ℕ) → IsBetween (negsuc 0) (pos 1) (value w (term (slice_index_or rows k none))))
+    → IsBetween (neg_ℤ (pos n)) (pos n) (value w (terms_to term none rows n))
 unfolding value terms_to
 rows_between w term none rows zero h = (record { cross = omega (arith, ints) }, record { cross = omega (arith, ints) })
 rows_between w term none rows (suc n) h =
-    wider _ _ (neg_ℤ (pos (suc n))) (pos (suc n)) _ (omega (arith, ints)) (omega (arith, ints)) (sum_between (neg_ℤ (pos n)) (pos n) (negsuc 0) (pos 1) _ _ (rows_between w term none rows n h) (h n))
+    wider _ _ (neg_ℤ (pos (suc n))) (pos (suc n)) _ (omega (arith, ints)) (omega (arith, ints))
+    (sum_between (neg_ℤ (pos n)) (pos n) (negsuc 0) (pos 1) _ _ (rows_between w term none rows n h) (h n))
 
-moon_row : (w : World) (k : ℕ) → fits (negsuc 0) (pos 1) (value (shallow w) (new_moon_term_of (new_moon_angles_of then) (slice_index_or NEW_MOON_TERMS k no_new_moon_term))) ≡ true
-unfolding fits value new_moon_term_of angle_of_new_moon_term new_moon_angles_of times_power quadratic_of polynomial_at polynomial_at_to sum product least greatest smaller larger times plus is_at_most fraction_power interval_power least_even sine_of_degrees
+moon_row : (w : World) (k : ℕ) → fits (negsuc 0) (pos 1) (value (shallow w)
+    (new_moon_term_of (new_moon_angles_of then) (slice_index_or NEW_MOON_TERMS k no_new_moon_term))) ≡ true
+unfolding fits value new_moon_term_of angle_of_new_moon_term new_moon_angles_of times_power quadratic_of polynomial_at polynomial_at_to sum product least
+    greatest smaller larger times plus is_at_most fraction_power interval_power least_even sine_of_degrees
 moon_row w zero = refl
 moon_row w (suc zero) = refl
 moon_row w (suc (suc zero)) = refl
@@ -95,9 +100,11 @@ moon_row w (suc (suc (suc (suc (suc (suc (suc (suc (suc (suc (suc (suc (suc (suc
 moon_row w (suc (suc (suc (suc (suc (suc (suc (suc (suc (suc (suc (suc (suc (suc (suc (suc (suc (suc (suc (suc (suc zero))))))))))))))))))))) = refl
 moon_row w (suc (suc (suc (suc (suc (suc (suc (suc (suc (suc (suc (suc (suc (suc (suc (suc (suc (suc (suc (suc (suc (suc zero)))))))))))))))))))))) = refl
 moon_row w (suc (suc (suc (suc (suc (suc (suc (suc (suc (suc (suc (suc (suc (suc (suc (suc (suc (suc (suc (suc (suc (suc (suc zero))))))))))))))))))))))) = refl
-moon_row w (suc (suc (suc (suc (suc (suc (suc (suc (suc (suc (suc (suc (suc (suc (suc (suc (suc (suc (suc (suc (suc (suc (suc (suc k)))))))))))))))))))))))) = refl
+moon_row w (suc (suc (suc (suc (suc (suc (suc (suc (suc (suc (suc
+    (suc (suc (suc (suc (suc (suc (suc (suc (suc (suc (suc (suc (suc k)))))))))))))))))))))))) = refl
 
-planet_row : (w : World) (k : ℕ) → fits (negsuc 0) (pos 1) (value (shallow w) (planet_term_of (negsuc 24723) (slice_index_or PLANET_TERMS k no_planet_term))) ≡ true
+planet_row : (w : World) (k : ℕ) → fits (negsuc 0) (pos 1) (value (shallow w) (planet_term_of (negsuc 24723) (slice_index_or PLANET_TERMS k no_planet_term)))
+    ≡ true
 unfolding fits value planet_term_of product least greatest smaller larger times is_at_most sine_of_degrees
 planet_row w zero = refl
 planet_row w (suc zero) = refl
@@ -120,10 +127,12 @@ dynamical_between w =
     let m = by_shallow w (pos 0) (pos 30) (mean_new_moon_of then) (mean_fits w) in
     let n = by_shallow w (negsuc 0) (pos 1) (node_term_of then) (node_fits w) in
     let v = by_shallow w (negsuc 0) (pos 1) (venus_wave_of then) (venus_fits w) in
-    let t = rows_between w (new_moon_term_of (new_moon_angles_of then)) no_new_moon_term NEW_MOON_TERMS 24 (λ k. by_shallow w (negsuc 0) (pos 1) _ (moon_row w k)) in
+    let t = rows_between w (new_moon_term_of (new_moon_angles_of then)) no_new_moon_term NEW_MOON_TERMS 24
+    (λ k. by_shallow w (negsuc 0) (pos 1) _ (moon_row w k)) in
     let p = rows_between w (planet_term_of (negsuc 24723)) no_planet_term PLANET_TERMS 13 (λ k. by_shallow w (negsuc 0) (pos 1) _ (planet_row w k)) in
     wider _ _ (negsuc 39) (pos 70) _ (omega (arith, ints)) (omega (arith, ints))
-    (sum_between _ _ (neg_ℤ (pos 13)) (pos 13) _ _ (sum_between _ _ (negsuc 0) (pos 1) _ _ (sum_between _ _ (neg_ℤ (pos 24)) (pos 24) _ _ (sum_between (pos 0) (pos 30) (negsuc 0) (pos 1) _ _ m n) t) v) p)
+    (sum_between _ _ (neg_ℤ (pos 13)) (pos 13) _ _ (sum_between _ _ (negsuc 0) (pos 1) _ _
+    (sum_between _ _ (neg_ℤ (pos 24)) (pos 24) _ _ (sum_between (pos 0) (pos 30) (negsuc 0) (pos 1) _ _ m n) t) v) p)
 
 pub first_moon_between : (w : World) (m : Expression) → outcome (run w (new_moon_of (pos 0))) ≡ valued m → IsBetween (negsuc 299) (pos 300) (value w m)
 unfolding new_moon_of from_dynamical_of value
@@ -131,4 +140,5 @@ first_moon_between w m e =
     let k = parts w (correction_at (dynamical_new_moon_of (negsuc 24723))) _ m e in
     let c = corrected_in_table w (dynamical_new_moon_of (negsuc 24723)) k.part k.first in
     let b = difference_between (negsuc 39) (pos 70) (negsuc 199) (pos 200) _ _ (dynamical_between w) c.1 in
-    rw (← valued_same w (subtract (dynamical_new_moon_of (negsuc 24723)) k.part) m k.then) (wider _ _ (negsuc 299) (pos 300) _ (omega (arith, ints)) (omega (arith, ints)) b)
+    rw (← valued_same w (subtract (dynamical_new_moon_of (negsuc 24723)) k.part) m k.then)
+    (wider _ _ (negsuc 299) (pos 300) _ (omega (arith, ints)) (omega (arith, ints)) b)

@@ -41,12 +41,14 @@ open_is_early i (undecided_at u) h = λ s t. h s
 open_is_early i (Void s) h = tt
 
 -- a failure after three tests
-pub late_failure : {A T : Type 0} {R : A → T → Type 0} {p : Program A} {w : World} {b a : ℕ} (i : Interval) (r : Result T Fail) → 3 ≤ b → Leads w R p b a r → IfErr r (IsEarlyYearFor i)
+pub late_failure : {A T : Type 0} {R : A → T → Type 0} {p : Program A} {w : World} {b a : ℕ} (i : Interval) (r : Result T Fail) → 3 ≤ b → Leads w R p b a r
+    → IfErr r (IsEarlyYearFor i)
 late_failure i (Ok v) h l = tt
 late_failure i (Err (Void s)) h l = tt
 late_failure i (Err (undecided_at u)) h l = λ s t. let k = not_of_three h l in absurd (omega (arith, k, t))
 
-pub late_is_not_early : {A T : Type 0} {R : A → T → Type 0} {p : Program A} {w : World} {b a : ℕ} (r : Result T Fail) → 3 ≤ b → Leads w R p b a r → IfErr r IsNoEarlyYear
+pub late_is_not_early : {A T : Type 0} {R : A → T → Type 0} {p : Program A} {w : World} {b a : ℕ} (r : Result T Fail) → 3 ≤ b → Leads w R p b a r
+    → IfErr r IsNoEarlyYear
 late_is_not_early (Ok v) h l = tt
 late_is_not_early (Err (Void s)) h l = tt
 late_is_not_early (Err (undecided_at u)) h l = λ s t. let k = not_of_three h l in absurd (omega (arith, k, t))

@@ -54,7 +54,11 @@ IsSought w x = IsBetween sought_from sought_to (value w x)
 
 half_of_sum : AreHalved sought_from sought_to (sought_from +ℤ sought_from) (sought_to +ℤ sought_to)
 unfolding product least greatest smaller larger times is_at_most
-half_of_sum = record { halved = record { ends = (record { cross = omega (arith, ints) }, record { cross = omega (arith, ints) }) }; low = omega (arith, ints); high = omega (arith, ints) }
+half_of_sum = record {
+  halved = record { ends = (record { cross = omega (arith, ints) }, record { cross = omega (arith, ints) }) };
+  low = omega (arith, ints);
+  high = omega (arith, ints);
+}
 
 -- a turn of the phase, as the days of the mean month
 days_of_turn : product (between (whole (pos 0)) (whole (pos 360))) (exactly (fraction_of DEGREE_OF_MONTH)) ⊆ between (whole (pos 0)) (whole (pos 30))
@@ -65,18 +69,23 @@ past_between : (w : World) (f x p : Expression) → outcome (run w (phase_past_o
 unfolding phase_past_of
 past_between w f x p e = let s = parts w (phase_of x) _ p e in between_of_within (pos 0) (pos 360) _ (reduced_within w (subtract s.part f) p s.then)
 
-back_between : (w : World) (p x : Expression) → IsBetween (pos 0) (pos 360) (value w p) → IsBetween TABLE_START TABLE_END (value w x) → IsBetween (TABLE_START -ℤ pos 30) TABLE_END (value w (phase_back_by p x))
+back_between : (w : World) (p x : Expression) → IsBetween (pos 0) (pos 360) (value w p) → IsBetween TABLE_START TABLE_END (value w x)
+    → IsBetween (TABLE_START -ℤ pos 30) TABLE_END (value w (phase_back_by p x))
 unfolding phase_back_by value
 back_between w p x h k =
     let s = scaled_between (pos 0) (pos 360) (pos 0) (pos 30) (fraction_of DEGREE_OF_MONTH) _ days_of_turn (value_proper w p) h in
-    wider _ _ (TABLE_START -ℤ pos 30) TABLE_END _ (omega (arith, ints)) (omega (arith, ints)) (difference_between TABLE_START TABLE_END (pos 0) (pos 30) _ _ k s)
+    wider _ _ (TABLE_START -ℤ pos 30) TABLE_END _ (omega (arith, ints)) (omega (arith, ints))
+    (difference_between TABLE_START TABLE_END (pos 0) (pos 30) _ _ k s)
 
-about_between : (w : World) (f x t v : Expression) → IsBetween TABLE_START TABLE_END (value w x) → IsBetween (TABLE_START -ℤ pos 30) TABLE_END (value w t) → outcome (run w (phase_about_of f x t)) ≡ valued v → IsSought w v
+about_between : (w : World) (f x t v : Expression) → IsBetween TABLE_START TABLE_END (value w x) → IsBetween (TABLE_START -ℤ pos 30) TABLE_END (value w t)
+    → outcome (run w (phase_about_of f x t)) ≡ valued v → IsSought w v
 unfolding phase_about_of invert_of value
 about_between w f x t v h k e =
     let two = two_between w in
-    let l : IsSought w (subtract t (integer (pos 2))) = wider _ _ sought_from sought_to _ (omega (arith, ints)) (omega (arith, ints)) (difference_between (TABLE_START -ℤ pos 30) TABLE_END (pos 2) (pos 2) _ _ k two) in
-    let a : IsSought w (add t (integer (pos 2))) = wider _ _ sought_from sought_to _ (omega (arith, ints)) (omega (arith, ints)) (sum_between (TABLE_START -ℤ pos 30) TABLE_END (pos 2) (pos 2) _ _ k two) in
+    let l : IsSought w (subtract t (integer (pos 2))) = wider _ _ sought_from sought_to _ (omega (arith, ints)) (omega (arith, ints))
+    (difference_between (TABLE_START -ℤ pos 30) TABLE_END (pos 2) (pos 2) _ _ k two) in
+    let a : IsSought w (add t (integer (pos 2))) = wider _ _ sought_from sought_to _ (omega (arith, ints)) (omega (arith, ints))
+    (sum_between (TABLE_START -ℤ pos 30) TABLE_END (pos 2) (pos 2) _ _ k two) in
     let b = wider _ _ sought_from sought_to _ (omega (arith, ints)) (omega (arith, ints)) h in
     let u = minimum_between sought_from sought_to sought_to _ _ b a in
     bisected_between w sought_from sought_to (sought_from +ℤ sought_from) (sought_to +ℤ sought_to) half_of_sum phase_of 64 f _ _ v l u e
@@ -98,7 +107,8 @@ unfolding phase_day_of
 phase_day_near w f d v e =
     let t = parts w (phase_before_of (integer f) (integer d)) _ v e in
     let c = decides w DayFloor integers t.part (λ q. q) v t.then in
-    let b = rw c.leads_to at (floor_between sought_from sought_to c.cell_there _ (value_proper w t.part) (phase_before_between w (integer f) (integer d) t.part t.first) c.decided_so) in
+    let b = rw c.leads_to at (floor_between sought_from sought_to c.cell_there _ (value_proper w t.part)
+    (phase_before_between w (integer f) (integer d) t.part t.first) c.decided_so) in
     record { from = b.0; to = b.1 }
 
 pub phase_day_found : (f d : ℤ) (r : Result ℤ Fail) (b a : ℕ) → ((w : World) → 40 ≤ w.depth → Leads w Exact (phase_day_of f d) b a r) → IfOk r IsPhaseDay

@@ -19,7 +19,7 @@ use Rattle.book_model.specs.numbers.Expressions.{Expression, argument, World, va
 use Rattle.book_model.specs.numbers.Fractions.{fraction_of}
 use Rattle.book_model.specs.sky.Moon.{moon_of}
 use Rattle.book_model.specs.sky.NewMoons.{new_moon_of}
-use Rattle.book_model.specs.sky.Phases.{elongation_of, months_between, months_since, nearest_moon_of, rough_number_of, phase_by_months_of, size_of, turned_of, rest_of_month, chosen, picked_of, phase_of, number_of_moon, is_moon_before_of, walk_of, moon_preceding_of, moon_before_of, moon_from_of, corrected_of}
+use Rattle.book_model.specs.sky.Phases.{elongation_of, months_between, months_since, nearest_moon_of, rough_number_of, phase_by_months_of, size_of, within_turn_of, rest_of_month, phase_of_choice, test_which_phase_of, phase_of, number_of_moon, is_moon_before_of, walk_of, moon_preceding_of, moon_before_of, moon_from_of, corrected_of}
 use Rattle.book_model.specs.programs.Programs.{Program, answer, compare, integers, multiples, cell_of, cell_at, threshold, run, valued, outcome, AtMost, answer_at_most, void_at_most, cell_at_most, compare_at_most}
 use Rattle.book_model.specs.programs.Leading.{Leads, Exact, leaf}
 use Rattle.book_model.specs.numbers.Ranges.{IsBetween, IsInTable}
@@ -45,7 +45,7 @@ unfolding moon_of
 moon_few x = at_most_bind 1 1 (centuries_few x) (λ c. cell_at_most (λ q. answer_at_most))
 
 elongation_few : (x : Expression) → AtMost 5 (elongation_of x)
-unfolding elongation_of turned_of
+unfolding elongation_of within_turn_of
 elongation_few x = at_most_bind 2 3 (moon_few x) (λ m. at_most_bind 2 1 (sun_few x) (λ s. cell_at_most (λ q. answer_at_most)))
 
 months_few : (n : ℤ) (x : Expression) → AtMost 1 (months_since n x)
@@ -64,8 +64,8 @@ by_months_few : (n : ℤ) (x : Expression) → AtMost 2 (phase_by_months_of n x)
 unfolding phase_by_months_of rest_of_month
 by_months_few n x = at_most_bind 1 1 (months_few n x) (λ m. at_most_bind 1 0 (cell_at_most (λ q. answer_at_most)) (λ r. answer_at_most))
 
-picked_few : (p q : Expression) → AtMost 1 (picked_of p q)
-unfolding picked_of
+picked_few : (p q : Expression) → AtMost 1 (test_which_phase_of p q)
+unfolding test_which_phase_of
 picked_few p q = at_most_bind 1 0 (compare_at_most (λ t. answer_at_most)) (λ t. answer_at_most)
 
 -- a phase makes ten tests
@@ -88,7 +88,8 @@ few_if n false p q h k = k
 walk_few : (more : ℕ) (x : Expression) (k : ℤ) → AtMost (2 * more) (walk_of more x k)
 unfolding walk_of
 walk_few zero x k = void_at_most
-walk_few (suc more) x k = at_most_more (2 + 2 * more) (2 * suc more) (omega arith) (at_most_bind 2 (2 * more) (before_few k x) (λ t. few_if (2 * more) t _ _ (walk_few more x (k +ℤ pos 1)) answer_at_most))
+walk_few (suc more) x k = at_most_more (2 + 2 * more) (2 * suc more) (omega arith)
+    (at_most_bind 2 (2 * more) (before_few k x) (λ t. few_if (2 * more) t _ _ (walk_few more x (k +ℤ pos 1)) answer_at_most))
 
 -- the new moons before and from a moment make at most 25
 pub moon_before_few : (x : Expression) → AtMost 25 (moon_before_of x)
@@ -100,7 +101,8 @@ unfolding moon_from_of
 moon_from_few x = at_most_bind 12 13 (number_few x) (λ n. at_most_bind 12 1 (walk_few 6 x _) (λ k. new_moon_few _))
 
 -- ---- from where to where new moons lie
-pub new_moon_between : (w : World) (n : ℤ) (m : Expression) → outcome (run w (new_moon_of n)) ≡ valued m → IsBetween (TABLE_START -ℤ pos 200) (TABLE_END +ℤ pos 200) (value w m)
+pub new_moon_between : (w : World) (n : ℤ) (m : Expression) → outcome (run w (new_moon_of n)) ≡ valued m
+    → IsBetween (TABLE_START -ℤ pos 200) (TABLE_END +ℤ pos 200) (value w m)
 unfolding new_moon_of
 new_moon_between w n m e = universal_between w _ m e
 
@@ -115,14 +117,17 @@ unfolding elongation_of
 elongation_in_table w x p e = let m = parts w (moon_of x) _ p e in moon_in_table w x m.part m.first
 
 -- ---- numbers of new moons
-pub scaled_between : (lo hi l h : ℤ) (f : Fraction) (i : Interval) → product (between (whole lo) (whole hi)) (exactly f) ⊆ between (whole l) (whole h) → IsProper i → IsBetween lo hi i → IsBetween l h (product i (exactly f))
+pub scaled_between : (lo hi l h : ℤ) (f : Fraction) (i : Interval) → product (between (whole lo) (whole hi)) (exactly f) ⊆ between (whole l) (whole h)
+    → IsProper i → IsBetween lo hi i → IsBetween l h (product i (exactly f))
 unfolding product
 scaled_between lo hi l h f everything p q k = tt
-scaled_between lo hi l h f (between a b) p q k = between_of_within l h _ (within_trans (product_within {i = between a b} {i' = between (whole lo) (whole hi)} q (le_refl f) (record { ends = k }) (within_refl (exactly f))) p)
+scaled_between lo hi l h f (between a b) p q k = between_of_within l h _
+    (within_trans (product_within {i = between a b} {i' = between (whole lo) (whole hi)} q (le_refl f) (record { ends = k }) (within_refl (exactly f))) p)
 
 -- the days of a moment after the first new moon, in months: at most so many from the first of them on
 abbrev HaveMonths : (lo l : ℤ) → Type 0
-HaveMonths lo l = product (between (whole (lo -ℤ pos 300)) (whole (TABLE_END +ℤ pos 300))) (exactly (fraction_of DAY_IN_MONTHS)) ⊆ between (whole l) (whole LAST_TABLE_MONTH)
+HaveMonths lo l = product (between (whole (lo -ℤ pos 300)) (whole (TABLE_END +ℤ pos 300))) (exactly (fraction_of DAY_IN_MONTHS)) ⊆ between (whole l)
+    (whole LAST_TABLE_MONTH)
 
 months_of_days : HaveMonths TABLE_START (negsuc 6194)
 unfolding product least greatest smaller larger times is_at_most
@@ -133,18 +138,21 @@ unfolding product least greatest smaller larger times is_at_most
 months_of_late_days = record { ends = (record { cross = omega (arith, ints) }, record { cross = omega (arith, ints) }) }
 
 -- the months from the first new moon to a moment, by the day from which on it lies
-months_since_between : (w : World) (x m : Expression) (lo l : ℤ) → HaveMonths lo l → IsBetween lo TABLE_END (value w x) → outcome (run w (months_since (pos 0) x)) ≡ valued m → IsBetween l LAST_TABLE_MONTH (value w m)
+months_since_between : (w : World) (x m : Expression) (lo l : ℤ) → HaveMonths lo l → IsBetween lo TABLE_END (value w x)
+    → outcome (run w (months_since (pos 0) x)) ≡ valued m → IsBetween l LAST_TABLE_MONTH (value w m)
 unfolding months_since months_between value
 months_since_between w x m lo l f h e =
     let z = parts w (new_moon_of (pos 0)) _ m e in
     let d = difference_between lo TABLE_END (negsuc 299) (pos 300) _ _ h (first_moon_between w z.part z.first) in
     let b = wider _ _ (lo -ℤ pos 300) (TABLE_END +ℤ pos 300) _ (omega (arith, ints)) (omega (arith, ints)) d in
-    rw (← valued_same w (months_between z.part x) m z.then) (scaled_between (lo -ℤ pos 300) (TABLE_END +ℤ pos 300) l LAST_TABLE_MONTH (fraction_of DAY_IN_MONTHS) _ f (value_proper w (subtract x z.part)) b)
+    rw (← valued_same w (months_between z.part x) m z.then) (scaled_between (lo -ℤ pos 300) (TABLE_END +ℤ pos 300) l LAST_TABLE_MONTH
+    (fraction_of DAY_IN_MONTHS) _ f (value_proper w (subtract x z.part)) b)
 
 pub half_between : IsBetween (pos 0) (pos 1) (exactly (fraction_of HALF))
 half_between = (record { cross = omega (arith, ints) }, record { cross = omega (arith, ints) })
 
-nearest_between : (w : World) (lo hi n : ℤ) (m : Expression) → IsBetween lo hi (value w m) → outcome (run w (nearest_moon_of m)) ≡ valued n → (lo ≤ℤ n) × (n ≤ℤ (hi +ℤ pos 1))
+nearest_between : (w : World) (lo hi n : ℤ) (m : Expression) → IsBetween lo hi (value w m) → outcome (run w (nearest_moon_of m)) ≡ valued n → (lo ≤ℤ n)
+    × (n ≤ℤ (hi +ℤ pos 1))
 unfolding nearest_moon_of value
 nearest_between w lo hi n m h e =
     let d = decides w MoonNumber integers (add m (constant (fraction_of HALF))) (λ q. q) n e in
@@ -162,7 +170,8 @@ pub rough_near : (w : World) (x : Expression) (n : ℤ) → IsInTable (value w x
 unfolding rough_number_of
 rough_near w x n h e =
     let m = parts w (months_since (pos 0) x) nearest_moon_of n e in
-    let b = nearest_between w (negsuc 6194) LAST_TABLE_MONTH n m.part (months_since_between w x m.part TABLE_START (negsuc 6194) months_of_days h m.first) m.then in
+    let b = nearest_between w (negsuc 6194) LAST_TABLE_MONTH n m.part (months_since_between w x m.part TABLE_START (negsuc 6194) months_of_days h m.first)
+    m.then in
     (omega (arith, ints, b.0), omega (arith, ints, b.1))
 
 -- ---- phases
@@ -177,7 +186,8 @@ remainder_below b t u h =
     le_trans _ _ _ (plus_mono _ _ _ _ k (le_refl (opposite (whole t)))) (record { cross = omega (arith, ints) })
 
 -- what is left of a number by a modulus
-remainder_between : (m : ℕ) (i : Interval) (q : ℤ) → cell_at (multiples (suc m)) i ≡ Some q → IsBetween (pos 0) (pos (suc m)) (difference i (exactly (whole (pos (suc m) *ℤ q))))
+remainder_between : (m : ℕ) (i : Interval) (q : ℤ) → cell_at (multiples (suc m)) i ≡ Some q
+    → IsBetween (pos 0) (pos (suc m)) (difference i (exactly (whole (pos (suc m) *ℤ q))))
 unfolding cell_at sum negative threshold
 remainder_between m everything q e = absurd (cc)
 remainder_between m (between a b) q e =
@@ -189,8 +199,8 @@ remainder_between m (between a b) q e =
     let u = remainder_below b (pos (suc m) *ℤ q) (pos (suc m) *ℤ (q +ℤ pos 1)) high in
     (remainder_above a (pos (suc m) *ℤ q) low, le_trans _ _ _ u (record { cross = omega (arith, ints, mul_add (pos (suc m)) q (pos 1)) }))
 
-turned_between : (w : World) (x p : Expression) → outcome (run w (turned_of x)) ≡ valued p → IsBetween (pos 0) (pos 360) (value w p)
-unfolding turned_of value
+turned_between : (w : World) (x p : Expression) → outcome (run w (within_turn_of x)) ≡ valued p → IsBetween (pos 0) (pos 360) (value w p)
+unfolding within_turn_of value
 turned_between w x p e =
     let d = decides w PhaseWrap (multiples 360) x (λ q. remainder 360 x q) p e in
     rw (← d.leads_to) (remainder_between 359 _ d.cell_there d.decided_so)
@@ -217,15 +227,17 @@ unfolding phase_by_months_of value
 by_months_between w n x p e =
     let m = parts w (months_since n x) _ p e in
     let r = parts w (rest_of_month m.part) _ p m.then in
-    rw (← valued_same w (scale (fraction_of TURN) r.part) p r.then) (scaled_between (pos 0) (pos 1) (pos 0) (pos 360) (fraction_of TURN) _ degrees_of_month (value_proper w r.part) (rest_between w m.part r.part r.first))
+    rw (← valued_same w (scale (fraction_of TURN) r.part) p r.then)
+    (scaled_between (pos 0) (pos 1) (pos 0) (pos 360) (fraction_of TURN) _ degrees_of_month (value_proper w r.part) (rest_between w m.part r.part r.first))
 
-picked_between : (w : World) (p q v : Expression) → IsBetween (pos 0) (pos 360) (value w p) → IsBetween (pos 0) (pos 360) (value w q) → outcome (run w (picked_of p q)) ≡ valued v → IsBetween (pos 0) (pos 360) (value w v)
-unfolding picked_of chosen
+picked_between : (w : World) (p q v : Expression) → IsBetween (pos 0) (pos 360) (value w p) → IsBetween (pos 0) (pos 360) (value w q)
+    → outcome (run w (test_which_phase_of p q)) ≡ valued v → IsBetween (pos 0) (pos 360) (value w v)
+unfolding test_which_phase_of phase_of_choice
 picked_between w p q v h k e =
-    let t = parts w (compare PhasePick (integer (pos 180)) (size_of (subtract p q)) answer) (λ apart. answer (chosen apart p q)) v e in
-    rw (← valued_same w (chosen t.part p q) v t.then) (either t.part)
+    let t = parts w (compare PhasePick (integer (pos 180)) (size_of (subtract p q)) answer) (λ apart. answer (phase_of_choice apart p q)) v e in
+    rw (← valued_same w (phase_of_choice t.part p q) v t.then) (either t.part)
   where
-    either : (t : Bool) → IsBetween (pos 0) (pos 360) (value w (chosen t p q))
+    either : (t : Bool) → IsBetween (pos 0) (pos 360) (value w (phase_of_choice t p q))
     either true = k
     either false = h
 
@@ -247,13 +259,15 @@ unfolding product least greatest smaller larger times is_at_most
 part_of_month = record { ends = (record { cross = omega (arith, ints) }, record { cross = omega (arith, ints) }) }
 
 -- the number of a moment's new moon, by the day from which on the moment lies
-number_between : (w : World) (x : Expression) (n lo l : ℤ) → HaveMonths lo l → (IsInTable (value w x) → IsBetween lo TABLE_END (value w x)) → outcome (run w (number_of_moon x)) ≡ valued n → ((l -ℤ pos 1) ≤ℤ n) × (n ≤ℤ (LAST_TABLE_MONTH +ℤ pos 1))
+number_between : (w : World) (x : Expression) (n lo l : ℤ) → HaveMonths lo l → (IsInTable (value w x) → IsBetween lo TABLE_END (value w x))
+    → outcome (run w (number_of_moon x)) ≡ valued n → ((l -ℤ pos 1) ≤ℤ n) × (n ≤ℤ (LAST_TABLE_MONTH +ℤ pos 1))
 unfolding number_of_moon value
 number_between w x n lo l f h e =
     let m = parts w (months_since (pos 0) x) _ n e in
     let p = parts w (phase_of x) _ n m.then in
     let b = months_since_between w x m.part lo l f (h (phase_in_table w x p.part p.first)) m.first in
-    let s = scaled_between (pos 0) (pos 360) (pos 0) (pos 1) (fraction_of DEGREE_IN_MONTHS) _ part_of_month (value_proper w p.part) (phase_between w x p.part p.first) in
+    let s = scaled_between (pos 0) (pos 360) (pos 0) (pos 1) (fraction_of DEGREE_IN_MONTHS) _ part_of_month (value_proper w p.part)
+    (phase_between w x p.part p.first) in
     let d = difference_between l LAST_TABLE_MONTH (pos 0) (pos 1) _ _ b s in
     let g = nearest_between w (l -ℤ pos 1) (LAST_TABLE_MONTH -ℤ pos 0) n _ d p.then in
     (omega (arith, ints, g.0), omega (arith, ints, g.1))
@@ -287,19 +301,23 @@ either_proper i j false p q = q
 pub world_of_two : (i j : Interval) → IsProper i → IsProper j → World
 world_of_two i j p q = record { depth = 40; arguments = λ k. if k == 0 then i else j; proper = λ k. either_proper i j (k == 0) p q }
 
-pub within_first : {E : Type 0} (shown : E → Interval) (p : (e : E) → IsProper (shown e)) (e f : E) → Within shown (world_of_two (shown e) (shown f) (p e) (p f)) (argument 0) e
+pub within_first : {E : Type 0} (shown : E → Interval) (p : (e : E) → IsProper (shown e)) (e f : E)
+    → Within shown (world_of_two (shown e) (shown f) (p e) (p f)) (argument 0) e
 unfolding Lies value world_of_two
 within_first shown p e f = record { deep = omega arith; inside = within_refl _ }
 
-pub within_second : {E : Type 0} (shown : E → Interval) (p : (e : E) → IsProper (shown e)) (e f : E) → Within shown (world_of_two (shown e) (shown f) (p e) (p f)) (argument 1) f
+pub within_second : {E : Type 0} (shown : E → Interval) (p : (e : E) → IsProper (shown e)) (e f : E)
+    → Within shown (world_of_two (shown e) (shown f) (p e) (p f)) (argument 1) f
 unfolding Lies value world_of_two
 within_second shown p e f = record { deep = omega arith; inside = within_refl _ }
 
 -- an elongation is found of a moment in the table alone
-pub elongation_found : {E T : Type 0} {R : Expression → T → Type 0} (shown : E → Interval) (p : (e : E) → IsProper (shown e)) (t : E) {b a : ℕ} (r : Result T Fail) →
+pub elongation_found : {E T : Type 0} {R : Expression → T → Type 0} (shown : E → Interval) (p : (e : E) → IsProper (shown e)) (t : E) {b a : ℕ}
+    (r : Result T Fail) →
     Leads (world_of (shown t) (p t)) R (elongation_of (argument 0)) b a r → IfOk r (λ v. IsInTable (shown t))
 unfolding value world_of
-elongation_found shown p t (Ok v) h = elongation_in_table (world_of (shown t) (p t)) (argument 0) (leaf (world_of (shown t) (p t)) (elongation_of (argument 0))) (leads_leaf h)
+elongation_found shown p t (Ok v) h = elongation_in_table (world_of (shown t) (p t)) (argument 0) (leaf (world_of (shown t) (p t)) (elongation_of (argument 0)))
+    (leads_leaf h)
 elongation_found shown p t (Err f) h = tt
 
 pub rough_found : {E : Type 0} (shown : E → Interval) (p : (e : E) → IsProper (shown e)) (t : E) {b a : ℕ} (r : Result ℤ Fail) → IsInTable (shown t) →
@@ -316,7 +334,8 @@ number_found shown p t (Err f) k = tt
 pub late_found : {E : Type 0} (shown : E → Interval) (p : (e : E) → IsProper (shown e)) (t : E) {b a : ℕ} (v : ℕ) (r : Result ℤ Fail) → IsLate v (shown t) →
     Leads (world_of (shown t) (p t)) Exact (number_of_moon (argument 0)) b a r → IfOk r (λ n. FIRST_LATE_MOON ≤ℤ n)
 unfolding value world_of
-late_found shown p t v (Ok n) h k = let f = number_between (world_of (shown t) (p t)) (argument 0) n LATE_START FIRST_LATE_MONTH months_of_late_days (late_between v (shown t) h) (leads_value k) in omega (arith, ints, f.0)
+late_found shown p t v (Ok n) h k = let f = number_between (world_of (shown t) (p t)) (argument 0) n LATE_START FIRST_LATE_MONTH months_of_late_days
+    (late_between v (shown t) h) (leads_value k) in omega (arith, ints, f.0)
 late_found shown p t v (Err f) h k = tt
 
 pub dated_from : (r : Result ℤ Fail) → IfOk r IsDatedNumber → IfOk r (λ n. negsuc 6199 ≤ℤ n)

@@ -12,5 +12,8 @@ use Rattle.moon_core.specs.Daily.{daily_quartic_of, daily_cubic_of, daily_angles
 use Rattle.moon_core.specs.Widths.{longitude_bound}
 
 pub longitude_reaches : implies (bound_of limits_36 days_of_years (computed_longitude_of (argument 0))) longitude_bound ≡ true
-unfolding implies bound_of integer_bound constant_bound sum_bound difference_bound scaled_bound product_bound power_bound spanned_bound sine_spans computed_longitude_of computed_inequalities_of computed_flattening_of computed_terms_of daily_angles_of daily_cubic_of daily_quartic_of longitude_term_of lunar_term_of lunar_angle_of times_power terms_of terms_to nutation_of quadratic_wave_of quadratic_of daily_wave_of by_days has_daily by_centuries in_centuries
+unfolding implies bound_of integer_bound constant_bound sum_bound difference_bound scaled_bound product_bound power_bound spanned_bound sine_spans
+    computed_longitude_of computed_inequalities_of computed_flattening_of computed_terms_of daily_angles_of daily_cubic_of daily_quartic_of longitude_term_of
+    lunar_term_of lunar_angle_of times_power terms_of terms_to nutation_of quadratic_wave_of quadratic_of daily_wave_of by_days has_daily by_centuries
+    in_centuries
 longitude_reaches = refl

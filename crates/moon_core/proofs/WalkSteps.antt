@@ -10,7 +10,8 @@ pub walk_none : (x : Expression) (k : ℤ) → walk_of 0 x k ≡ void MoonWalk
 unfolding walk_of
 walk_none x k = refl
 
-pub walk_more : (more : ℕ) (x : Expression) (k : ℤ) → 1 ≤ more → walk_of more x k ≡ bind (is_moon_before_of k x) (λ before. if before then walk_of (more - 1) x (k +ℤ pos 1) else answer k)
+pub walk_more : (more : ℕ) (x : Expression) (k : ℤ) → 1 ≤ more → walk_of more x k
+    ≡ bind (is_moon_before_of k x) (λ before. if before then walk_of (more - 1) x (k +ℤ pos 1) else answer k)
 unfolding walk_of
 walk_more zero x k h = absurd (omega (arith, h))
 walk_more (suc m) x k h = let z : suc m - 1 ≡ m = omega arith in rw z refl

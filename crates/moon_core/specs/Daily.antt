@@ -15,17 +15,25 @@ use Rattle.sun_core.specs.Daily.{in_centuries, by_days, daily_angle_of, daily_wa
 -- scaled and then multiplied
 unfoldable pub daily_quartic_of : Quartic → Expression → Expression
 daily_quartic_of p x =
-    add (add (add (add (constant (fraction_of p.constant)) (by_days p.linear x)) (scale (fraction_of p.square) (power (in_centuries x) 2))) (scale (fraction_of p.cube) (power (in_centuries x) 3))) (multiply (scale (fraction_of p.fourth) (power (in_centuries x) 3)) (in_centuries x))
+    add (add (add (add (constant (fraction_of p.constant)) (by_days p.linear x)) (scale (fraction_of p.square) (power (in_centuries x) 2)))
+    (scale (fraction_of p.cube) (power (in_centuries x) 3))) (multiply (scale (fraction_of p.fourth) (power (in_centuries x) 3)) (in_centuries x))
 
 -- a cubic, its linear part by the days
 unfoldable pub daily_cubic_of : Cubic → Expression → Expression
 daily_cubic_of p x =
-    add (add (add (constant (fraction_of p.constant)) (by_days p.linear x)) (scale (fraction_of p.square) (power (in_centuries x) 2))) (scale (fraction_of p.cube) (power (in_centuries x) 3))
+    add (add (add (constant (fraction_of p.constant)) (by_days p.linear x)) (scale (fraction_of p.square) (power (in_centuries x) 2)))
+    (scale (fraction_of p.cube) (power (in_centuries x) 3))
 
 -- the angles at a time
 unfoldable pub daily_angles_of : Expression → LunarAngles
 daily_angles_of x =
-    record { elongation = daily_quartic_of ELONGATION x; sun_anomaly = daily_cubic_of SUN_ANOMALY x; moon_anomaly = daily_quartic_of MOON_ANOMALY x; latitude_argument = daily_quartic_of LATITUDE_ARGUMENT x; eccentricity = quadratic_of ECCENTRICITY_FACTOR (in_centuries x) }
+    record {
+      elongation = daily_quartic_of ELONGATION x;
+      sun_anomaly = daily_cubic_of SUN_ANOMALY x;
+      moon_anomaly = daily_quartic_of MOON_ANOMALY x;
+      latitude_argument = daily_quartic_of LATITUDE_ARGUMENT x;
+      eccentricity = quadratic_of ECCENTRICITY_FACTOR (in_centuries x);
+    }
 
 -- the sum of the longitude's terms
 unfoldable pub computed_terms_of : Expression → Expression
@@ -41,12 +49,14 @@ computed_inequalities_of x = add (add (add (computed_terms_of x) (daily_wave_of 
 
 -- the moon's longitude, not reduced
 unfoldable pub computed_longitude_of : Expression → Expression
-computed_longitude_of x = add (add (daily_quartic_of MOON_LONGITUDE x) (scale (fraction_of MILLIONTH) (computed_inequalities_of x))) (nutation_of (in_centuries x))
+computed_longitude_of x = add (add (daily_quartic_of MOON_LONGITUDE x) (scale (fraction_of MILLIONTH) (computed_inequalities_of x)))
+    (nutation_of (in_centuries x))
 
 -- the latitude in millionths of a degree
 unfoldable pub computed_millionths_of : LunarAngles → Expression → Expression
 computed_millionths_of a x =
-    add (add (add (latitude_terms_of a) (venus_by (daily_angle_of VENUS_WAVE x) a.latitude_argument)) (flattening_by (daily_quartic_of MOON_LONGITUDE x) a.moon_anomaly)) (daily_wave_of x LATITUDE_WAVE)
+    add (add (add (latitude_terms_of a) (venus_by (daily_angle_of VENUS_WAVE x) a.latitude_argument))
+    (flattening_by (daily_quartic_of MOON_LONGITUDE x) a.moon_anomaly)) (daily_wave_of x LATITUDE_WAVE)
 
 -- the latitude
 unfoldable pub computed_latitude_of : Expression → Expression

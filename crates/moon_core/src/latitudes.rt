@@ -12,8 +12,8 @@ ghost use Rattle.moon_core.specs.Angles.{HoldAngles, KeepAngles};
 ghost use Rattle.moon_core.specs.Daily.{computed_millionths_of, computed_latitude_of};
 ghost use Rattle.sun_core.specs.Daily.{in_centuries};
 ghost use Rattle.time_scales.specs.Steps.{IsYearOpenFor};
-ghost use Rattle.width_laws.specs.declared.table.TheConstants.{LATITUDE};
-ghost use Rattle.width_laws.specs.Table.{greatest_of};
+ghost use Rattle.greatest_widths.specs.declared.table.TheConstants.{LATITUDE};
+ghost use Rattle.greatest_widths.specs.Table.{greatest_of};
 
 use crate::angles::{Angles, angles_at, daily_quartic};
 use crate::terms::lunar_term;

@@ -12,8 +12,8 @@ ghost use Rattle.moon_core.specs.Widths.{longitude_bound};
 ghost use Rattle.sun_core.specs.Daily.{in_centuries};
 ghost use Rattle.sun_core.specs.Widths.{days_of_years};
 ghost use Rattle.time_scales.specs.Steps.{IsYearOpenFor};
-ghost use Rattle.width_laws.specs.declared.table.TheConstants.{MOON};
-ghost use Rattle.width_laws.specs.Table.{greatest_of};
+ghost use Rattle.greatest_widths.specs.declared.table.TheConstants.{MOON};
+ghost use Rattle.greatest_widths.specs.Table.{greatest_of};
 
 use crate::angles::{Angles, angles_at, daily_quartic};
 use crate::terms::lunar_term;
@@ -125,7 +125,8 @@ pub fn moon<E: Enclosure>(t: E, trail: &mut Trail) -> Result<E, Fail>
     ensures leads { Follows1 E.shown spec.moon_of t trail.old.count trail.new.count result }
     ensures measured { Measured1 E.BITS E.shown (2 ^ 39) IsMoment
         (λ v. IsUpTo 360 (greatest_of MOON v)) t result }
-    ensures wide { Answers1 E.BITS E.shown (2 ^ 40) IsMoment (λ v. IsUpTo 360 (greatest_of MOON v)) t
+    ensures wide { Answers1 E.BITS E.shown (2 ^ 40) IsMoment
+        (λ v. IsUpTo 360 (greatest_of MOON v)) t
         result }
     ensures open { IfErr result (IsYearOpenFor (E.shown t)) }
 {

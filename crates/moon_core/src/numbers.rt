@@ -9,8 +9,8 @@ ghost use Rattle.book_model.specs.declared.new_moon_tables.TheConstants.{FIRST_L
 ghost use Rattle.book_model.specs.sky.Phases as spec;
 ghost use Rattle.moon_core.specs.Courses.{number_by, number_of_phase as number_of_phase_of};
 ghost use Rattle.moon_core.specs.Widths.{IsLate};
-ghost use Rattle.width_laws.specs.declared.table.TheConstants.{PHASE};
-ghost use Rattle.width_laws.specs.Table.{greatest_of};
+ghost use Rattle.greatest_widths.specs.declared.table.TheConstants.{PHASE};
+ghost use Rattle.greatest_widths.specs.Table.{greatest_of};
 
 use crate::phase_courses::{PhaseCourse, phase_by};
 use crate::phases::{months_since, nearest_moon, phase};

@@ -5,7 +5,7 @@ ghost use Rattle.book_model.specs.programs.Calls.{Follows1};
 ghost use Rattle.book_model.specs.sky.Phases.{elongation_of, phase_of};
 
 use crate::courses::{MoonCourse, moon_by};
-use crate::phases::{corrected, turned};
+use crate::phases::{corrected, within_turn};
 use book_model::Fail;
 use encl_core::{Enclosure, Trail};
 use sun_core::{SunCourse, sun_by};
@@ -49,7 +49,7 @@ fn elongation_by<E: Enclosure>(course: &PhaseCourse<E>, t: E, trail: &mut Trail)
 {
     let there = moon_by(&course.moon, t, trail)?;
     let longitude = sun_by(&course.sun, t, trail)?;
-    turned(there.sub(longitude), trail)
+    within_turn(there.sub(longitude), trail)
 }
 
 /// The phase of the moon at a moment of universal time by a course, in degrees, as wide as it may be over its stretch. Where it

@@ -7,8 +7,8 @@ ghost use Rattle.book_model.specs.declared.new_moon_tables.TheConstants.{LAST_TA
 ghost use Rattle.book_model.specs.sky.Phases as spec;
 ghost use Rattle.book_model.specs.numbers.Ranges.{IsInTable};
 ghost use Rattle.time_scales.specs.Steps.{IsYearOpenFor, IsEarlyYearFor};
-ghost use Rattle.width_laws.specs.declared.table.TheConstants.{PHASE};
-ghost use Rattle.width_laws.specs.Table.{greatest_of};
+ghost use Rattle.greatest_widths.specs.declared.table.TheConstants.{PHASE};
+ghost use Rattle.greatest_widths.specs.Table.{greatest_of};
 
 use crate::longitude::moon;
 use book_model::new_moon_tables::{DAY_IN_MONTHS, TURN};
@@ -19,10 +19,12 @@ use new_moons::new_moon;
 use sun_core::sun;
 
 /// An angle, reduced to 0 up to 360 degrees, as one test.
-#[tactic(auto, using(book_model::proofs::Leads::leading, crate::proofs::Openings::opening), unfolding(book_model::specs::sky::Phases::turned_of))]
-pub(crate) fn turned<E: Enclosure>(angle: E, trail: &mut Trail) -> Result<E, Fail>
-    ensures leads { Follows1 E.shown spec.turned_of angle trail.old.count trail.new.count result }
-    ensures measured { Measured1 E.BITS E.shown (2 ^ 44) (IsAbout (2 ^ 90)) (IsUpTo 360) angle result }
+#[tactic(auto, using(book_model::proofs::Leads::leading, crate::proofs::Openings::opening), unfolding(book_model::specs::sky::Phases::within_turn_of))]
+pub(crate) fn within_turn<E: Enclosure>(angle: E, trail: &mut Trail) -> Result<E, Fail>
+    ensures leads { Follows1 E.shown spec.within_turn_of angle trail.old.count trail.new.count
+        result }
+    ensures measured { Measured1 E.BITS E.shown (2 ^ 44) (IsAbout (2 ^ 90)) (IsUpTo 360) angle
+        result }
     ensures wide { Answers1 E.BITS E.shown (2 ^ 46) (IsAbout (2 ^ 90)) (IsUpTo 360) angle result }
     ensures elsewhere { (i : Interval) → IfErr result (IsYearOpenFor i) }
 {
@@ -43,7 +45,7 @@ fn elongation<E: Enclosure>(t: E, trail: &mut Trail) -> Result<E, Fail>
 {
     let there = moon(t, trail)?;
     let longitude = sun(t, trail)?;
-    turned(there.sub(longitude), trail)
+    within_turn(there.sub(longitude), trail)
 }
 
 /// The synodic months from the new moon of a number to a moment: one test at most.
@@ -116,9 +118,9 @@ fn size<E: Enclosure>(x: E) -> E
 }
 
 /// The second of two phases, where they are apart.
-#[tactic(auto, using(crate::proofs::Measured::wider_turn), unfolding(book_model::specs::sky::Phases::chosen))]
-fn chosen<E: Enclosure>(apart: bool, by_longitudes: E, by_time: E) -> E
-    ensures holds { Holds2 E.shown (spec.chosen apart) by_longitudes by_time result }
+#[tactic(auto, using(crate::proofs::Measured::wider_turn), unfolding(book_model::specs::sky::Phases::phase_of_choice))]
+fn phase_of_choice<E: Enclosure>(apart: bool, by_longitudes: E, by_time: E) -> E
+    ensures holds { Holds2 E.shown (spec.phase_of_choice apart) by_longitudes by_time result }
     ensures measured { (v u w : ℕ) → v ≤ w → u ≤ w → IsUpTo 360 v (E.shown by_longitudes)
         → IsUpTo 360 u (E.shown by_time) → IsUpTo 360 w (E.shown result) }
 {
@@ -126,20 +128,27 @@ fn chosen<E: Enclosure>(apart: bool, by_longitudes: E, by_time: E) -> E
 }
 
 /// The phase by longitudes, or the one by the time where they are more than 180 degrees apart: one test.
-#[tactic(auto, using(book_model::proofs::Leads::leading), unfolding(book_model::specs::sky::Phases::picked_of))]
-fn picked<E: Enclosure>(by_longitudes: E, by_time: E, trail: &mut Trail) -> Result<E, Fail>
-    ensures leads { Follows2 E.shown spec.picked_of by_longitudes by_time trail.old.count
+#[tactic(auto, using(book_model::proofs::Leads::leading), unfolding(book_model::specs::sky::Phases::test_which_phase_of))]
+fn test_which_phase<E: Enclosure>(
+    by_longitudes: E,
+    by_time: E,
+    trail: &mut Trail,
+) -> Result<E, Fail>
+    ensures leads { Follows2 E.shown spec.test_which_phase_of by_longitudes by_time trail.old.count
         trail.new.count result }
-    ensures measured { Measured2 E.BITS E.shown (3 * 2 ^ 37) (λ v. IsUpTo 360 (22 * v + 17 * 2 ^ 32))
-        (λ v. IsUpTo 360 (13 * v + 2 ^ 35)) (λ v. IsUpTo 360 (24 * v + 2 ^ 37)) by_longitudes by_time
+    ensures measured { Measured2 E.BITS E.shown (3 * 2 ^ 37)
+        (λ v. IsUpTo 360 (22 * v + 17 * 2 ^ 32))
+        (λ v. IsUpTo 360 (13 * v + 2 ^ 35)) (λ v. IsUpTo 360 (24 * v + 2 ^ 37)) by_longitudes
+        by_time
         result }
     ensures wide { Answers2 E.BITS E.shown (2 ^ 40) (λ v. IsUpTo 360 (22 * v + 17 * 2 ^ 32))
-        (λ v. IsUpTo 360 (13 * v + 2 ^ 35)) (λ v. IsUpTo 360 (24 * v + 2 ^ 37)) by_longitudes by_time
+        (λ v. IsUpTo 360 (13 * v + 2 ^ 35)) (λ v. IsUpTo 360 (24 * v + 2 ^ 37)) by_longitudes
+        by_time
         result }
 {
     let apart = size(by_longitudes.sub(by_time));
     let is_apart = less_step(E::from_int(180), apart, Site::PhasePick, trail)?;
-    Ok(chosen(is_apart, by_longitudes, by_time))
+    Ok(phase_of_choice(is_apart, by_longitudes, by_time))
 }
 
 /// The phase by longitudes, or in its place the one by the time since the new moon about the moment: five tests at most.
@@ -148,14 +157,16 @@ pub(crate) fn corrected<E: Enclosure>(by_longitudes: E, t: E, trail: &mut Trail)
     requires in_table { IsInTable (E.shown t) }
     ensures leads { Follows2 E.shown spec.corrected_of t by_longitudes trail.old.count
         trail.new.count result }
-    ensures measured { Measured2 E.BITS E.shown (3 * 2 ^ 37) (λ v. IsUpTo 360 (22 * v + 17 * 2 ^ 32))
+    ensures measured { Measured2 E.BITS E.shown (3 * 2 ^ 37)
+        (λ v. IsUpTo 360 (22 * v + 17 * 2 ^ 32))
         IsMoment (λ v. IsUpTo 360 (24 * v + 2 ^ 37)) by_longitudes t result }
-    ensures wide { Answers2 E.BITS E.shown (2 ^ 40) (λ v. IsUpTo 360 (22 * v + 17 * 2 ^ 32)) IsMoment
+    ensures wide { Answers2 E.BITS E.shown (2 ^ 40) (λ v. IsUpTo 360 (22 * v + 17 * 2 ^ 32))
+        IsMoment
         (λ v. IsUpTo 360 (24 * v + 2 ^ 37)) by_longitudes t result }
 {
     let number = rough_number(t, trail)?;
     let by_time = phase_by_months(number, t, trail)?;
-    picked(by_longitudes, by_time, trail)
+    test_which_phase(by_longitudes, by_time, trail)
 }
 
 /// The phase of the moon at a moment of universal time, in degrees: its longitude less the sun's, from 0 up to 360, or,
@@ -168,7 +179,8 @@ pub fn phase<E: Enclosure>(t: E, trail: &mut Trail) -> Result<E, Fail>
     ensures leads { Follows1 E.shown spec.phase_of t trail.old.count trail.new.count result }
     ensures measured { Measured1 E.BITS E.shown (3 * 2 ^ 37) IsMoment
         (λ v. IsUpTo 360 (greatest_of PHASE v)) t result }
-    ensures wide { Answers1 E.BITS E.shown (2 ^ 40) IsMoment (λ v. IsUpTo 360 (greatest_of PHASE v)) t
+    ensures wide { Answers1 E.BITS E.shown (2 ^ 40) IsMoment
+        (λ v. IsUpTo 360 (greatest_of PHASE v)) t
         result }
     ensures in_table { IfOk result (λ p. IsInTable (E.shown t)) }
     ensures early { trail.old.count ≡ 0 → IfErr result (IsEarlyYearFor (E.shown t)) }

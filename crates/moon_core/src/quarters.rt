@@ -8,8 +8,8 @@ ghost use Rattle.exact_math.specs.Interval.{Interval};
 ghost use Rattle.book_model.specs.sky.Facts.{IsFactDay, IsValueDay};
 ghost use Rattle.book_model.specs.sky.Phases as spec;
 ghost use Rattle.book_model.specs.sky.Sun.{reduced_of};
-ghost use Rattle.width_laws.specs.declared.table.TheConstants.{PHASE};
-ghost use Rattle.width_laws.specs.Table.{greatest_of};
+ghost use Rattle.greatest_widths.specs.declared.table.TheConstants.{PHASE};
+ghost use Rattle.greatest_widths.specs.Table.{greatest_of};
 ghost use Rattle.moon_core.specs.PhaseDays.{IsPhaseDay};
 ghost use Rattle.time_scales.specs.Steps.{IsEarlyYearFor, IsNoEarlyYear};
 
@@ -53,7 +53,8 @@ impl<E: Enclosure> Angular<E> for PhaseCourse<E> {
 #[tactic(auto, using(book_model::proofs::Leads::leading, crate::proofs::Openings::opening), unfolding(book_model::specs::sky::Sun::reduced_of))]
 fn reduced<E: Enclosure>(angle: E, trail: &mut Trail) -> Result<E, Fail>
     ensures leads { Follows1 E.shown reduced_of angle trail.old.count trail.new.count result }
-    ensures measured { Measured1 E.BITS E.shown (2 ^ 44) (IsAbout (2 ^ 90)) (IsUpTo 360) angle result }
+    ensures measured { Measured1 E.BITS E.shown (2 ^ 44) (IsAbout (2 ^ 90)) (IsUpTo 360) angle
+        result }
     ensures elsewhere { (i : Interval) → IfErr result (IsEarlyYearFor i) }
 {
     wrap_step(angle, 360, Site::StepWrap, trail)

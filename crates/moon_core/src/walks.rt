@@ -5,8 +5,8 @@ ghost use Rattle.std.specs.Prelude.{◌≡◌, ◌+◌, ◌*◌, ◌^◌, pos, n
 ghost use Rattle.book_model.specs.declared.new_moon_tables.TheConstants.{FIRST_RECENT_MOON as first_recent, LAST_RECENT_MOON as last_recent};
 ghost use Rattle.book_model.specs.sky.Phases as spec;
 ghost use Rattle.moon_core.specs.Widths.{IsLate};
-ghost use Rattle.width_laws.specs.declared.table.TheConstants.{NEW_MOON};
-ghost use Rattle.width_laws.specs.Table.{greatest_of};
+ghost use Rattle.greatest_widths.specs.declared.table.TheConstants.{NEW_MOON};
+ghost use Rattle.greatest_widths.specs.Table.{greatest_of};
 
 use crate::numbers::number;
 use crate::phase_courses::PhaseCourse;

@@ -16,7 +16,7 @@ use Rattle.book_model.specs.sky.Time.{correction_of_year, correction_at, from_dy
 use Rattle.book_model.proofs.FactRuns.{correction_few}
 use Rattle.book_model.proofs.Implying.{limits_within}
 use Rattle.book_model.proofs.Leads.{at_most_bind}
-use Rattle.width_laws.proofs.Measuring.{looser, narrower}
+use Rattle.greatest_widths.proofs.Measuring.{looser, narrower}
 use Rattle.encl_core.specs.declared.span.Span.{Span}
 use Rattle.encl_core.specs.Kept.{shown_span, IsKept, IsMoonWithin}
 use Rattle.encl_core.proofs.Keeping.{kept_with_test}
@@ -28,10 +28,12 @@ after_year x y = bind (correction_of_year y) (λ c. answer (subtract x c))
 after_year_few : (x : Expression) (y : ℤ) → AtMost 0 (after_year x y)
 after_year_few x y = at_most_bind 0 0 (correction_few y) (λ c. answer_at_most)
 
-pub moon_kept : {E : Type 0} {shown : E → Interval} (n : ℤ) {b a : ℕ} {e : E} (o : Option Span) → Follows shown (new_moon_of n) b a (Ok e) → IfSome o (λ s. shown e ⊆ shown_span s) → IfSome o (IsKept 1 (new_moon_of n))
+pub moon_kept : {E : Type 0} {shown : E → Interval} (n : ℤ) {b a : ℕ} {e : E} (o : Option Span) → Follows shown (new_moon_of n) b a (Ok e)
+    → IfSome o (λ s. shown e ⊆ shown_span s) → IfSome o (IsKept 1 (new_moon_of n))
 unfolding new_moon_of from_dynamical_of correction_at year_of bind
 moon_kept n o h k =
-    kept_with_test Year years (dynamical_new_moon_of (n -ℤ NEW_MOON_OF_2000)) (after_year (dynamical_new_moon_of (n -ℤ NEW_MOON_OF_2000))) o (after_year_few (dynamical_new_moon_of (n -ℤ NEW_MOON_OF_2000))) h k
+    kept_with_test Year years (dynamical_new_moon_of (n -ℤ NEW_MOON_OF_2000)) (after_year (dynamical_new_moon_of (n -ℤ NEW_MOON_OF_2000))) o
+    (after_year_few (dynamical_new_moon_of (n -ℤ NEW_MOON_OF_2000))) h k
 
 -- what may be kept of a new moon
 pub moon_kept_within : {E : Type 0} (shown : E → Interval) (number : ℤ) (n : ℕ) (o : Option Span) (e : E)
@@ -39,10 +41,15 @@ pub moon_kept_within : {E : Type 0} (shown : E → Interval) (number : ℤ) (n :
     → (FIRST_RECENT_MOON ≤ℤ number → number ≤ℤ LAST_RECENT_MOON → Measured n shown (IsRecentlyDated (2 ^ 29 + 2 ^ 24 + 2 ^ 17)) (Ok e))
     → IfSome o (λ s. shown e ⊆ shown_span s) → IfSome o (λ s. shown_span s ⊆ shown e) → IfSome o (IsMoonWithin number n)
 moon_kept_within shown number n None e m o h k = k
-moon_kept_within shown number n (Some s) e m o h k = record { about = λ l u p. narrower _ _ _ _ _ k h (m l u p); recent = λ l u p. narrower _ _ _ _ _ k h (o l u p) }
+moon_kept_within shown number n (Some s) e m o h k = record {
+  about = λ l u p. narrower _ _ _ _ _ k h (m l u p);
+  recent = λ l u p.
+      narrower _ _ _ _ _ k h (o l u p);
+}
 
 -- what is taken again is two units wider at most
-taken_within : {E : Type 0} (shown : E → Interval) (low high : ℤ) (n : ℕ) (s : Span) (e : E) → n ≡ 56 → nat_lt (range_size low high) (limits_at 56).sizes ≡ true → IsWithin low high (2 ^ 29 + 2 ^ 24 + 2 ^ 17) (shown_span s)
+taken_within : {E : Type 0} (shown : E → Interval) (low high : ℤ) (n : ℕ) (s : Span) (e : E) → n ≡ 56 → nat_lt (range_size low high) (limits_at 56).sizes ≡ true
+    → IsWithin low high (2 ^ 29 + 2 ^ 24 + 2 ^ 17) (shown_span s)
     → ((w : ℕ) (b : Bound) → IsNarrow w b (shown_span s) → IsNarrow w (spanned_bound (limits_of n) b) (shown e)) → IsWithin low high (2 ^ 30) (shown e)
 unfolding spanned_bound
 taken_within shown low high n s e p f h k =

@@ -11,12 +11,14 @@ use Rattle.book_model.proofs.Values.{value_proper}
 use Rattle.time_scales.proofs.Powers.{next_power}
 
 -- an enclosure of the product of a power and the factor holds the next power
-pub next_holds : {E : Type 0} (shown : E → Interval) (w : World) (x : Expression) (k : ℕ) (e : E) → Within shown w (multiply (power x k) x) e → Within shown w (power x (k + 1)) e
+pub next_holds : {E : Type 0} (shown : E → Interval) (w : World) (x : Expression) (k : ℕ) (e : E) → Within shown w (multiply (power x k) x) e
+    → Within shown w (power x (k + 1)) e
 unfolding Lies value
 next_holds shown w x k e h = record { deep = h.deep; inside = within_trans (rw add-one (next_power k (value w x) (value_proper w x))) h.inside }
 
 -- and it keeps the next power's bound
-pub next_keeps : {E : Type 0} (shown : E → Interval) (l : Limits) (r : Reach) (x : Expression) (k : ℕ) (e : E) → 2 ≤ k → Narrow shown l r (multiply (power x k) x) e → Narrow shown l r (power x (k + 1)) e
+pub next_keeps : {E : Type 0} (shown : E → Interval) (l : Limits) (r : Reach) (x : Expression) (k : ℕ) (e : E) → 2 ≤ k
+    → Narrow shown l r (multiply (power x k) x) e → Narrow shown l r (power x (k + 1)) e
 unfolding Keeps bound_of power_bound
 next_keeps shown l r x zero e h n = absurd (omega (arith, h))
 next_keeps shown l r x (suc zero) e h n = absurd (omega (arith, h))

@@ -28,4 +28,9 @@ pub record KeepAngles {E : Type 0} (shown : E → Interval) (l : Limits) (r : Re
 -- the angles as they are computed: at an exact time each polynomial from the inside out
 unfoldable pub computed_angles_of : Fraction → NewMoonAngles
 computed_angles_of c =
-    record { sun_anomaly = horner_of NEW_MOON_SUN_ANOMALY c; moon_anomaly = horner_of NEW_MOON_ANOMALY c; latitude_argument = horner_of NEW_MOON_LATITUDE_ARGUMENT c; eccentricity = quadratic_of ECCENTRICITY_FACTOR (constant c) }
+    record {
+      sun_anomaly = horner_of NEW_MOON_SUN_ANOMALY c;
+      moon_anomaly = horner_of NEW_MOON_ANOMALY c;
+      latitude_argument = horner_of NEW_MOON_LATITUDE_ARGUMENT c;
+      eccentricity = quadratic_of ECCENTRICITY_FACTOR (constant c);
+    }

@@ -21,4 +21,5 @@ computed_terms_of c = terms_of (new_moon_term_of (computed_angles_of c)) no_new_
 
 unfoldable pub computed_new_moon_of : ℤ → Expression
 computed_new_moon_of k =
-    add (add (add (add (computed_mean_of (centuries_of_months k)) (computed_node_term_of (centuries_of_months k))) (computed_terms_of (centuries_of_months k))) (venus_wave_of (centuries_of_months k))) (planet_terms_of k)
+    add (add (add (add (computed_mean_of (centuries_of_months k)) (computed_node_term_of (centuries_of_months k))) (computed_terms_of (centuries_of_months k)))
+    (venus_wave_of (centuries_of_months k))) (planet_terms_of k)

@@ -4,7 +4,7 @@ use Rattle.exact_math.specs.Fraction.{Fraction}
 use Rattle.exact_math.specs.Interval.{Interval}
 use Rattle.book_model.specs.declared.new_moon_tables.TheConstants.{FIRST_RECENT_MOON, LAST_RECENT_MOON, NEW_MOON_OF_2000, RECENT_CENTURIES, RECENT_DAYS}
 use Rattle.book_model.specs.programs.Widths.{IsWithin, IsAbout}
-use Rattle.width_laws.specs.Sizes.{HasSize}
+use Rattle.greatest_widths.specs.Sizes.{HasSize}
 use Rattle.new_moons.specs.declared.angles.Angles.{Angles}
 
 -- a time within 26 centuries of 2000

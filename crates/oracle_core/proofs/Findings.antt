@@ -46,7 +46,8 @@ one_list ((f, v) ∷ es) ((g, w) ∷ ds) s t h =
     rw (one, value, one_list es ds s.1 t.1 others) refl
 
 -- where all that an inquiry asks has values, its result over them is found
-finds_over : {A : Type 0} {k : Unit {0}} {i : Inquiry A} {old new : List Fact} {r : Result A Stop} (n : ℕ) (seen es : List (Fact × ℤ)) (a : A) → 40 ≤ n → Tells by_evaluator k i old new r → r ≡ Ok a
+finds_over : {A : Type 0} {k : Unit {0}} {i : Inquiry A} {old new : List Fact} {r : Result A Stop} (n : ℕ) (seen es : List (Fact × ℤ)) (a : A) → 40 ≤ n
+    → Tells by_evaluator k i old new r → r ≡ Ok a
     → old ≡ facts_of seen → new ≡ facts_of es → AllStand seen → AllStand es → finding_after n seen i ≡ found a es
 unfolding finding_after
 finds_over n seen es a deep (ends {a = b}) e h k s t = let result : b ≡ a = cc in rw (result, one_list seen es s t (sym h ∙ k)) refl
@@ -56,7 +57,8 @@ finds_over n seen es a deep (goes_on {f = f} {v = v} value rest) e h k s t =
 finds_over n seen es a deep (stops fresh stop) e h k s t = cc
 
 -- an answer of the oracle is what is found
-pub finds : {A : Type 0} {old new : State (Unit {0})} (n : ℕ) (i : Inquiry A) (es : List (Fact × ℤ)) (a : A) → 40 ≤ n → AllStand es → old.asked ≡ [] → new.asked ≡ facts_of es → Inquires by_evaluator i old new (Ok a) → finding n i ≡ found a es
+pub finds : {A : Type 0} {old new : State (Unit {0})} (n : ℕ) (i : Inquiry A) (es : List (Fact × ℤ)) (a : A) → 40 ≤ n → AllStand es → old.asked ≡ [] → new.asked
+    ≡ facts_of es → Inquires by_evaluator i old new (Ok a) → finding n i ≡ found a es
 finds n i es a deep all none asked h = finds_over n [] es a deep h.tells refl none asked tt all
 
 -- at a depth the inquiry asks a fact at which the oracle may stop
@@ -65,11 +67,14 @@ pub record StopsThere {A : Type 0} (n : ℕ) (i : Inquiry A) (s : Stop) : Type 0
   pub asks : AsksAt n i fact
   pub stop : IsStopAt MayStopAsking fact s
 
-stops_at : {A : Type 0} {k : Unit {0}} {i : Inquiry A} {old new : List Fact} {r : Result A Stop} (n : ℕ) (s : Stop) → 40 ≤ n → Tells by_evaluator k i old new r → r ≡ Err s → StopsThere n i s
+stops_at : {A : Type 0} {k : Unit {0}} {i : Inquiry A} {old new : List Fact} {r : Result A Stop} (n : ℕ) (s : Stop) → 40 ≤ n → Tells by_evaluator k i old new r
+    → r ≡ Err s → StopsThere n i s
 stops_at n s deep ends e = cc
-stops_at n s deep (goes_on value rest) e = let t = stops_at n s deep rest e in record { fact = t.fact; asks = asks_after (value.is_true.at_each_depth n deep) t.asks; stop = t.stop }
+stops_at n s deep (goes_on value rest) e = let t = stops_at n s deep rest e in record
+    { fact = t.fact; asks = asks_after (value.is_true.at_each_depth n deep) t.asks; stop = t.stop }
 stops_at n s deep (stops {f = f} {s = z} fresh stop) e = let same : z ≡ s = cc in record { fact = f; asks = asks_here; stop = rw same at stop }
 
 -- where the oracle stops, the inquiry asks that fact
-pub stops_there : {A : Type 0} {i : Inquiry A} {old new : State (Unit {0})} {s : Stop} (n : ℕ) → 40 ≤ n → Inquires by_evaluator i old new (Err s) → StopsThere n i s
+pub stops_there : {A : Type 0} {i : Inquiry A} {old new : State (Unit {0})} {s : Stop} (n : ℕ) → 40 ≤ n → Inquires by_evaluator i old new (Err s)
+    → StopsThere n i s
 stops_there {s = s} n deep h = stops_at n s deep h.tells refl

@@ -11,14 +11,16 @@ use Rattle.oracle_core.specs.Stops.{IsStopAt}
 
 -- ---- one fact
 -- a fact is answered by a value that is known of it, and joins the list
-pub asked_value : {Known : Type 0} {m : Meaning Known} {v : ℤ} {old new : State Known} (f : Fact) → new.known ≡ old.known → new.asked ≡ with_fact old.asked (m.kept_as old.known f)
+pub asked_value : {Known : Type 0} {m : Meaning Known} {v : ℤ} {old new : State Known} (f : Fact) → new.known ≡ old.known → new.asked
+    ≡ with_fact old.asked (m.kept_as old.known f)
     → m.value_of old.known (m.kept_as old.known f) v → Inquires m (ask_once f) old new (Ok v)
 unfolding ask_once
 asked_value {m = m} f same added value = record { same = same; tells = rw added (goes_on value ends) }
 
 -- a fact that isn't in the list is answered by a stop, and the list stays
 pub asked_stop : {Known : Type 0} {m : Meaning Known} {s : Stop} {old new : State Known} (f : Fact) → new.known ≡ old.known → new.asked ≡ old.asked
-    → list_any (fact_eq (m.kept_as old.known f)) old.asked ≡ false → IsStopAt (m.may_stop old.known) (m.kept_as old.known f) s → Inquires m (ask_once f) old new (Err s)
+    → list_any (fact_eq (m.kept_as old.known f)) old.asked ≡ false → IsStopAt (m.may_stop old.known) (m.kept_as old.known f) s
+    → Inquires m (ask_once f) old new (Err s)
 unfolding ask_once
 asked_stop {m = m} f same left fresh stop = record { same = same; tells = rw left (stops fresh stop) }
 

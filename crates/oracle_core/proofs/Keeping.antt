@@ -25,11 +25,13 @@ pub as_many : (es : List (Fact × ℤ)) → length (facts_of es) ≡ length es
 as_many [] = refl
 as_many (e ∷ es) = ap suc (as_many es)
 
-at_place : (es : List (Fact × ℤ)) (f : Fact) (d : Fact × ℤ) → position_or_len (fact_eq f) (facts_of es) < length (facts_of es) → AllStand es → StandsWith f (get_or es (position_or_len (fact_eq f) (facts_of es)) d).1
+at_place : (es : List (Fact × ℤ)) (f : Fact) (d : Fact × ℤ) → position_or_len (fact_eq f) (facts_of es) < length (facts_of es) → AllStand es
+    → StandsWith f (get_or es (position_or_len (fact_eq f) (facts_of es)) d).1
 at_place [] f d h all = absurd (omega arith)
 at_place (e ∷ es) f d h all = step (fact_eq f e.0) refl (at_place es f d) h
   where
-    step : (t : Bool) → fact_eq f e.0 ≡ t → (position_or_len (fact_eq f) (facts_of es) < length (facts_of es) → AllStand es → StandsWith f (get_or es (position_or_len (fact_eq f) (facts_of es)) d).1)
+    step : (t : Bool) → fact_eq f e.0 ≡ t → (position_or_len (fact_eq f) (facts_of es) < length (facts_of es) → AllStand es
+        → StandsWith f (get_or es (position_or_len (fact_eq f) (facts_of es)) d).1)
         → cond (not t) (1 + position_or_len (fact_eq f) (facts_of es)) 0 < length (facts_of (e ∷ es))
         → StandsWith f (get_or (e ∷ es) (cond (not t) (1 + position_or_len (fact_eq f) (facts_of es)) 0) d).1
     step true same rest h = let e0 = one_fact f e.0 same in rw e0 all.0
@@ -38,19 +40,25 @@ at_place (e ∷ es) f d h all = step (fact_eq f e.0) refl (at_place es f d) h
         rw next (rest (omega arith) all.1)
 
 -- the value at the place of a fact stands with it
-pub kept_value : (es : List (Fact × ℤ)) (f : Fact) (i : ℕ) (d : Fact × ℤ) → Some i ≡ position (fact_eq f) (facts_of es) → AllStand es → StandsWith f (get_or es i d).1
+pub kept_value : (es : List (Fact × ℤ)) (f : Fact) (i : ℕ) (d : Fact × ℤ) → Some i ≡ position (fact_eq f) (facts_of es) → AllStand es
+    → StandsWith f (get_or es i d).1
 kept_value es f i d h all =
     let p = found_at (fact_eq f) (facts_of es) i h in
     rw p.same (at_place es f d p.before_end all)
 
 -- facts and pairs that agree do so with one more
-pub keeps_agreeing : (asked now_asked : List Fact) (es now : List (Fact × ℤ)) (f : Fact) (v : ℤ) → asked ≡ facts_of es → list_any (fact_eq f) (facts_of es) ≡ false → now_asked ≡ with_fact asked f
+pub keeps_agreeing : (asked now_asked : List Fact) (es now : List (Fact × ℤ)) (f : Fact) (v : ℤ) → asked ≡ facts_of es → list_any (fact_eq f) (facts_of es)
+    ≡ false → now_asked ≡ with_fact asked f
     → now ≡ es ++ (f, v) ∷ [] → AllStand es → StandsWith f v → (now_asked ≡ facts_of now) × AllStand now
 keeps_agreeing asked now_asked es now f v agree new noted pushed all here =
-    rw pushed ((let e : facts_of es ++ f ∷ [] ≡ facts_of (es ++ (f, v) ∷ []) = sym (facts_of_push es f v) in rw (noted, agree, new) e), stand_push es f v all here)
+    rw pushed (
+      (let e : facts_of es ++ f ∷ [] ≡ facts_of (es ++ (f, v) ∷ []) = sym (facts_of_push es f v) in rw (noted, agree, new) e),
+      stand_push es f v all here,
+    )
 
 -- the facts of the pairs with one more
-pub added_fact : (es now : List (Fact × ℤ)) (f : Fact) (v : ℤ) → list_any (fact_eq f) (facts_of es) ≡ false → now ≡ es ++ (f, v) ∷ [] → facts_of now ≡ with_fact (facts_of es) f
+pub added_fact : (es now : List (Fact × ℤ)) (f : Fact) (v : ℤ) → list_any (fact_eq f) (facts_of es) ≡ false → now ≡ es ++ (f, v) ∷ [] → facts_of now
+    ≡ with_fact (facts_of es) f
 added_fact es now f v new pushed = rw (pushed, new) (facts_of_push es f v)
 
 -- a fact that has a place isn't added
@@ -65,7 +73,8 @@ place_within es asked f i agree h =
     omega arith
 
 -- the value of the pair at the place of a fact stands with it
-pub kept_item : (es : List (Fact × ℤ)) (asked : List Fact) (f : Fact) (i : ℕ) (e : Fact × ℤ) → asked ≡ facts_of es → Some i ≡ position (fact_eq f) asked → Some e ≡ slice_get es i → AllStand es → StandsWith f e.1
+pub kept_item : (es : List (Fact × ℤ)) (asked : List Fact) (f : Fact) (i : ℕ) (e : Fact × ℤ) → asked ≡ facts_of es → Some i ≡ position (fact_eq f) asked
+    → Some e ≡ slice_get es i → AllStand es → StandsWith f e.1
 kept_item es asked f i e agree h item all =
     let same : get_or es i e ≡ e = get_or_from_slice_get es i e e (sym item) in
     rw same at (kept_value es f i e (rw agree at h) all)

@@ -15,7 +15,8 @@ module _ {X : Type 0} (p : X → Bool) where
   pub found_at : (xs : List X) (i : ℕ) → Some i ≡ position p xs → IsPlace i (position_or_len p xs) (length xs)
   found_at xs i h = chosen (nat_lt (position_or_len p xs) (length xs)) refl h
     where
-      chosen : (t : Bool) → nat_lt (position_or_len p xs) (length xs) ≡ t → Some i ≡ cond t (Some (position_or_len p xs)) None → IsPlace i (position_or_len p xs) (length xs)
+      chosen : (t : Bool) → nat_lt (position_or_len p xs) (length xs) ≡ t → Some i ≡ cond t (Some (position_or_len p xs)) None
+          → IsPlace i (position_or_len p xs) (length xs)
       chosen true e h = record { same = cc; before_end = ltb-true _ _ e }
       chosen false e h = cc
 
@@ -31,7 +32,8 @@ module _ {X : Type 0} (p : X → Bool) where
   any_before [] h = absurd (omega arith)
   any_before (x ∷ xs) h = step (p x) (any_before xs) h
     where
-      step : (t : Bool) → (position_or_len p xs < length xs → list_any p xs ≡ true) → cond (not t) (1 + position_or_len p xs) 0 < length (x ∷ xs) → (t || list_any p xs) ≡ true
+      step : (t : Bool) → (position_or_len p xs < length xs → list_any p xs ≡ true) → cond (not t) (1 + position_or_len p xs) 0 < length (x ∷ xs)
+          → (t || list_any p xs) ≡ true
       step true rest h = refl
       step false rest h = rest (omega arith)
 
@@ -39,7 +41,8 @@ module _ {X : Type 0} (p : X → Bool) where
   none_before [] h = refl
   none_before (x ∷ xs) h = step (p x) (none_before xs) h
     where
-      step : (t : Bool) → (length xs ≤ position_or_len p xs → list_any p xs ≡ false) → length (x ∷ xs) ≤ cond (not t) (1 + position_or_len p xs) 0 → (t || list_any p xs) ≡ false
+      step : (t : Bool) → (length xs ≤ position_or_len p xs → list_any p xs ≡ false) → length (x ∷ xs) ≤ cond (not t) (1 + position_or_len p xs) 0
+          → (t || list_any p xs) ≡ false
       step true rest h = absurd (omega arith)
       step false rest h = rest (omega arith)
 

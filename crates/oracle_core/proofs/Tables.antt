@@ -24,7 +24,8 @@ record Stopped {Known A : Type 0} (m : Meaning Known) (k : Known) (i : Inquiry A
   over : (table : Fact → ℤ) → AgreesOn m k before table → IsFront (before ++ fact ∷ []) (facts_over table i)
   stop : IsStopAt (m.may_stop k) (m.kept_as k fact) s
 
-answered : {Known A : Type 0} {m : Meaning Known} {k : Known} {i : Inquiry A} {old new : List Fact} {a : A} → Tells m k i old new (Ok a) → Answered m k i old new a
+answered : {Known A : Type 0} {m : Meaning Known} {k : Known} {i : Inquiry A} {old new : List Fact} {a : A} → Tells m k i old new (Ok a)
+    → Answered m k i old new a
 answered ends = record { facts = []; valued = tt; asked = refl; over = λ table agrees. record { asks = refl; result = refl } }
 answered (goes_on {f = f} {v = v} value rest) =
     let r = answered rest in
@@ -32,10 +33,12 @@ answered (goes_on {f = f} {v = v} value rest) =
       facts = f ∷ r.facts;
       valued = ((v, value), r.valued);
       asked = r.asked;
-      over = λ table agrees. let o = r.over table agrees.1 in record { asks = rw (agrees.0 v value) (ap (λ fs. f ∷ fs) o.asks); result = rw (agrees.0 v value) o.result };
+      over = λ table agrees. let o = r.over table agrees.1 in record
+          { asks = rw (agrees.0 v value) (ap (λ fs. f ∷ fs) o.asks); result = rw (agrees.0 v value) o.result };
     }
 
-stopped : {Known A : Type 0} {m : Meaning Known} {k : Known} {i : Inquiry A} {old new : List Fact} {s : Stop} → Tells m k i old new (Err s) → Stopped m k i old new s
+stopped : {Known A : Type 0} {m : Meaning Known} {k : Known} {i : Inquiry A} {old new : List Fact} {s : Stop} → Tells m k i old new (Err s)
+    → Stopped m k i old new s
 stopped (goes_on {f = f} {v = v} value rest) =
     let r = stopped rest in
     record {
@@ -46,10 +49,20 @@ stopped (goes_on {f = f} {v = v} value rest) =
       over = λ table agrees. let o = r.over table agrees.1 in record { rest = o.rest; joined = rw (agrees.0 v value) (ap (λ fs. f ∷ fs) o.joined) };
       stop = r.stop;
     }
-stopped (stops {f = f} {next = next} fresh stop) = record { before = []; fact = f; valued = tt; asked = refl; over = λ table agrees. record { rest = facts_over table (next (table f)); joined = refl }; stop = stop }
+stopped (stops {f = f} {next = next} fresh stop) = record {
+  before = [];
+  fact = f;
+  valued = tt;
+  asked = refl;
+  over = λ table agrees.
+      record { rest = facts_over table (next (table f)); joined = refl };
+  stop = stop;
+}
 
-pub answers_over : {Known A : Type 0} {m : Meaning Known} {i : Inquiry A} {old new : State Known} {a : A} → Inquires m i old new (Ok a) → AnswersOver m i old new a
+pub answers_over : {Known A : Type 0} {m : Meaning Known} {i : Inquiry A} {old new : State Known} {a : A} → Inquires m i old new (Ok a)
+    → AnswersOver m i old new a
 answers_over h = let r = answered h.tells in record { facts = r.facts; valued = r.valued; asked = r.asked; over = r.over }
 
-pub stops_over : {Known A : Type 0} {m : Meaning Known} {i : Inquiry A} {old new : State Known} {s : Stop} → Inquires m i old new (Err s) → StopsOver m i old new s
+pub stops_over : {Known A : Type 0} {m : Meaning Known} {i : Inquiry A} {old new : State Known} {s : Stop} → Inquires m i old new (Err s)
+    → StopsOver m i old new s
 stops_over h = let r = stopped h.tells in record { before = r.before; fact = r.fact; valued = r.valued; asked = r.asked; over = r.over; stop = r.stop }

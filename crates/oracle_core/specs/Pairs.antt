@@ -57,7 +57,8 @@ pub record IsListing (facts : List Fact) (values : List ℤ) (asked : List Fact)
   pub listed : (f : Fact) → list_any (fact_eq f) asked ≡ true → list_any (fact_eq f) facts ≡ true
 
 -- a fact stands beside one value
-pub one_value_beside : (facts : List Fact) (values : List ℤ) (f : Fact) (v w : ℤ) → value_beside facts values f ≡ Some v → value_beside facts values f ≡ Some w → v ≡ w
+pub one_value_beside : (facts : List Fact) (values : List ℤ) (f : Fact) (v w : ℤ) → value_beside facts values f ≡ Some v → value_beside facts values f ≡ Some w
+    → v ≡ w
 one_value_beside facts values f v w h k = cc
 
 -- a fact is true with one value

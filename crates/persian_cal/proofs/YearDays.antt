@@ -28,7 +28,8 @@ left_late number h =
     let f = floor_quotient_is (neg_ℤ (number -ℤ pos 6)) 29 in
     record { from = grind (arith, ints, f.not_above, f.close); to = grind (arith, ints, f.not_above, f.close) }
 
-left_as : (number : ℤ) (b : Bool) → int_le number (pos 186) ≡ b → LiesWithin (pos 1) (pos 31) (number -ℤ days_before_month (if b then quotient_up number 31 else quotient_up (number -ℤ pos 6) 30))
+left_as : (number : ℤ) (b : Bool) → int_le number (pos 186) ≡ b
+    → LiesWithin (pos 1) (pos 31) (number -ℤ days_before_month (if b then quotient_up number 31 else quotient_up (number -ℤ pos 6) 30))
 left_as number true e = left_early number (grind (arith, ints))
 left_as number false e = left_late number (grind (arith, ints))
 

@@ -58,7 +58,7 @@ fn year_begun(first: i64) -> i64
 }
 
 /// Year, month and day, by the year and the day's number in it, which counts from 1.
-fn date_in(year: i64, number: i64) -> PersianDate
+fn date_from_number(year: i64, number: i64) -> PersianDate
     requires year { IsNearYear year }
     requires number { IsDayNumber number }
     ensures date { fields_of_date result ≡ persian_fields year number }
@@ -72,13 +72,13 @@ fn date_in(year: i64, number: i64) -> PersianDate
 }
 
 /// The date of a day (R.D.) by the first day of its year.
-fn date_by(year: i64, new_year: i64, day: i64) -> PersianDate
+fn date_from_facts(year: i64, new_year: i64, day: i64) -> PersianDate
     requires year { IsNearYear year }
     requires new_year { IsFactValue new_year }
     requires day { IsCalendarDay day }
     ensures date { fields_of_date result ≡ persian_fields year (day -ℤ new_year +ℤ pos 1) }
 {
-    date_in(year, day - new_year + 1)
+    date_from_number(year, day - new_year + 1)
 }
 
 /// The day (R.D.) of a month and a day by the first day of their year.
@@ -112,7 +112,7 @@ pub fn from_fixed<O: Oracle>(oracle: &mut O, day: i64) -> Result<PersianDate, St
     let first = oracle.ask(nowruz_fact_on(day))?;
     let year = year_begun(first);
     let new_year = oracle.ask(new_year_fact(year))?;
-    Ok(date_by(year, new_year, day))
+    Ok(date_from_facts(year, new_year, day))
 }
 
 /// The day (R.D.) of a date: the first day of the year which the oracle has, the days of the months before, and the day

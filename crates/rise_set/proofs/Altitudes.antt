@@ -6,7 +6,7 @@ use Rattle.book_model.specs.numbers.Bounds.{Bound, bounded, Reach, implies, boun
 use Rattle.book_model.specs.numbers.Expressions.{Expression, argument, add, multiply, sine as sine_of, cosine as cosine_of}
 use Rattle.book_model.specs.numbers.Relations.{Narrow}
 use Rattle.book_model.specs.sky.Altitude.{north_of, towards_of, east_of}
-use Rattle.width_laws.proofs.Measuring.{measured, sloped}
+use Rattle.greatest_widths.proofs.Measuring.{measured, sloped}
 use Rattle.rise_set.specs.Altitudes.{IsMoonAngle, IsMoonLatitude, IsTilt, IsLocalSiderealTime, IsGround, IsAltitudeSine}
 
 -- of the latitude of the ground, the local sidereal time, the obliquity, the longitude and the latitude of the moon
@@ -22,15 +22,19 @@ altitude_bounds k =
 unfoldable pub altitude_over : (ground sidereal obliquity longitude latitude : Expression) → Expression
 altitude_over g t o l b = add (multiply (sine_of g) (north_of o l b)) (multiply (cosine_of g) (towards_of t o l b))
 
-altitude_reach : implies (bound_of (limits_at 56) altitude_bounds (altitude_over (argument 0) (argument 1) (argument 2) (argument 3) (argument 4))) (bounded (neg_ℤ (pos (2 ^ 34))) (pos (2 ^ 34)) 0 (2 ^ 37)) ≡ true
+altitude_reach : implies (bound_of (limits_at 56) altitude_bounds (altitude_over (argument 0) (argument 1) (argument 2) (argument 3) (argument 4)))
+    (bounded (neg_ℤ (pos (2 ^ 34))) (pos (2 ^ 34)) 0 (2 ^ 37)) ≡ true
 unfolding implies bound_of sum_bound difference_bound product_bound spanned_bound sine_spans cosine_spans altitude_over north_of towards_of east_of
 altitude_reach = refl
 
-pub altitude_within : {E : Type 0} (shown : E → Interval) (n : ℕ) (g t o l b y : E) → n ≡ 56 → IsGround (shown g) → IsLocalSiderealTime (shown t) → IsTilt (shown o) → IsMoonAngle (shown l) → IsMoonLatitude (shown b)
-    → ((r : Reach) (p q x z u : Expression) → Narrow shown (limits_of n) r p g → Narrow shown (limits_of n) r q t → Narrow shown (limits_of n) r x o → Narrow shown (limits_of n) r z l → Narrow shown (limits_of n) r u b → Narrow shown (limits_of n) r (altitude_over p q x z u) y)
+pub altitude_within : {E : Type 0} (shown : E → Interval) (n : ℕ) (g t o l b y : E) → n ≡ 56 → IsGround (shown g) → IsLocalSiderealTime (shown t)
+    → IsTilt (shown o) → IsMoonAngle (shown l) → IsMoonLatitude (shown b)
+    → ((r : Reach) (p q x z u : Expression) → Narrow shown (limits_of n) r p g → Narrow shown (limits_of n) r q t → Narrow shown (limits_of n) r x o
+    → Narrow shown (limits_of n) r z l → Narrow shown (limits_of n) r u b → Narrow shown (limits_of n) r (altitude_over p q x z u) y)
     → IsAltitudeSine (shown y)
 altitude_within shown n g t o l b y e h i j k m f =
-    measured shown n 0 altitude_bounds (altitude_over (argument 0) (argument 1) (argument 2) (argument 3) (argument 4)) _ _ 0 (2 ^ 37) (2 ^ 37) y e altitude_reach (omega arith)
+    measured shown n 0 altitude_bounds (altitude_over (argument 0) (argument 1) (argument 2) (argument 3) (argument 4)) _ _ 0 (2 ^ 37) (2 ^ 37) y e
+    altitude_reach (omega arith)
     (f (record { width = 0; bounds = altitude_bounds }) (argument 0) (argument 1) (argument 2) (argument 3) (argument 4)
     (sloped shown (limits_of n) 0 (2 ^ 8) altitude_bounds 0 (pos 0) (pos (36 * 2 ^ 32)) 0 (2 ^ 8) g refl (omega arith) h)
     (sloped shown (limits_of n) 0 (2 ^ 41 + 2 ^ 8) altitude_bounds 1 (neg_ℤ (pos (2 ^ 62))) (pos (2 ^ 62)) 0 (2 ^ 41 + 2 ^ 8) t refl (omega arith) i)

@@ -65,9 +65,11 @@ unfolding settled_of
 settled_few zero p k a x = void_at_most
 settled_few (suc more) p k a x =
     at_most_more (10 + (1 + more * 11)) (suc more * 11) (omega arith)
-    (at_most_bind 10 (1 + more * 11) (approximation_few p k a x) (λ y. at_most_bind 1 (more * 11) (settles_few x y) (λ settled. next y settled (settled_few more p k a y))))
+    (at_most_bind 10 (1 + more * 11) (approximation_few p k a x)
+    (λ y. at_most_bind 1 (more * 11) (settles_few x y) (λ settled. next y settled (settled_few more p k a y))))
   where
-    next : (y : Expression) (settled : Bool) → AtMost (more * 11) (settled_of more p k a y) → AtMost (more * 11) (if settled then answer y else settled_of more p k a y)
+    next : (y : Expression) (settled : Bool) → AtMost (more * 11) (settled_of more p k a y)
+        → AtMost (more * 11) (if settled then answer y else settled_of more p k a y)
     next y true h = answer_at_most
     next y false h = h
 

@@ -13,7 +13,8 @@ unfolding settled_of
 settled_none p k a x = refl
 
 pub settled_more : (more : ℕ) (p : Location) (k : Twilight) (a x : Expression) → 1 ≤ more
-    → settled_of more p k a x ≡ bind (approximation_of p k a x) (λ y. bind (has_settled_of x y) (λ settled. if settled then answer y else settled_of (more - 1) p k a y))
+    → settled_of more p k a x ≡ bind (approximation_of p k a x)
+    (λ y. bind (has_settled_of x y) (λ settled. if settled then answer y else settled_of (more - 1) p k a y))
 unfolding settled_of
 settled_more zero p k a x h = absurd (omega (arith, h))
 settled_more (suc m) p k a x h = let z : suc m - 1 ≡ m = omega arith in rw z refl

@@ -25,7 +25,7 @@ use Rattle.book_model.specs.numbers.Expressions.{Expression, World, value, exact
 use Rattle.book_model.specs.numbers.Fractions.{fraction_of}
 use Rattle.book_model.specs.numbers.Ranges.{IsBetween}
 use Rattle.book_model.specs.numbers.Relations.{Narrow, Keeps, Within}
-use Rattle.book_model.specs.programs.Leading.{at_56, bounds, between_cells, too_far, IsOpenCell, Exact, Leads}
+use Rattle.book_model.specs.programs.Leading.{units_of_56, bounds, between_cells, too_far, IsOpenCell, Exact, Leads}
 use Rattle.book_model.specs.programs.Programs.{integers, cell_at, cell_of}
 use Rattle.book_model.specs.programs.Widths.{IsAbout, IsClose, close_test}
 use Rattle.book_model.specs.sky.Horizon.{minutes_after_of, rounded_minutes_of, minutes_in_days}
@@ -34,7 +34,7 @@ use Rattle.book_model.proofs.FactRuns.{decides, when_some}
 use Rattle.book_model.proofs.Implying.{limits_within}
 use Rattle.book_model.proofs.Leads.{leads_value}
 use Rattle.book_model.proofs.Nesting.{cell_nested}
-use Rattle.width_laws.proofs.Measuring.{measured, looser, sloped}
+use Rattle.greatest_widths.proofs.Measuring.{measured, looser, sloped}
 use Rattle.encl_core.specs.Steps.{IsOpenFloor}
 use Rattle.rise_set.specs.Moved.{HasRoom, IsTooFar}
 use Rattle.rise_set.specs.Widths.{IsMeanMoment, IsSettled, AreMinutes}
@@ -45,7 +45,10 @@ use Rattle.book_model.specs.sky.Facts.{IsFactDay}
 about_between : (v : ℕ) (i : Interval) → IsAbout (2 ^ 90) v i → IsBetween (neg_ℤ (pos (2 ^ 58))) (pos (2 ^ 58)) i
 unfolding IsNarrow
 about_between v everything h = absurd h.kept
-about_between v (between a b) h = (le_trans _ _ _ (record { cross = omega (arith, ints) }) h.kept.above, le_trans _ _ _ h.kept.below (record { cross = omega (arith, ints) }))
+about_between v (between a b) h = (
+  le_trans _ _ _ (record { cross = omega (arith, ints) }) h.kept.above,
+  le_trans _ _ _ h.kept.below (record { cross = omega (arith, ints) }),
+)
 
 about_proper : (v : ℕ) (i : Interval) → IsAbout (2 ^ 90) v i → IsProper i
 unfolding IsNarrow
@@ -56,18 +59,20 @@ floor_about : (v : ℕ) (q : ℤ) (i : Interval) → IsAbout (2 ^ 90) v i → ce
 floor_about v q i h e = floor_between (neg_ℤ (pos (2 ^ 58))) (pos (2 ^ 58)) q i (about_proper v i h) (about_between v i h) e
 
 -- the sum with a number of minutes has 64 bits
-pub sum_close : (v n : ℕ) (k q : ℤ) (s : Site) (i : Interval) (r : Result ℤ Fail) → IsAbout (2 ^ 90) v i → cell_at integers i ≡ Some q → neg_ℤ (pos (2 ^ 40)) ≤ℤ k → k ≤ℤ pos (2 ^ 40) → IfErr r (IsTooFar s n (k +ℤ q)) → IfErr r IsClose
+pub sum_close : (v n : ℕ) (k q : ℤ) (s : Site) (i : Interval) (r : Result ℤ Fail) → IsAbout (2 ^ 90) v i → cell_at integers i ≡ Some q → neg_ℤ (pos (2 ^ 40))
+    ≤ℤ k → k ≤ℤ pos (2 ^ 40) → IfErr r (IsTooFar s n (k +ℤ q)) → IfErr r IsClose
 sum_close v n k q s i (Ok z) h e l m o = tt
 sum_close v n k q s i (Err (undecided_at u)) h e l m o = let f = floor_about v q i h e in absurd (o.0 (omega (arith, ints, f.0, f.1)))
 sum_close v n k q s i (Err (Void t)) h e l m o = absurd o
 
-end_low : (lo : ℤ) (a : Fraction) → at_56 lo ≈ a → at_32 (neg_ℤ (pos (2 ^ 90))) ≤F a → neg_ℤ (pos (2 ^ 114)) ≤ℤ lo
+end_low : (lo : ℤ) (a : Fraction) → units_of_56 lo ≈ a → at_32 (neg_ℤ (pos (2 ^ 90))) ≤F a → neg_ℤ (pos (2 ^ 114)) ≤ℤ lo
 end_low lo a e h = let k = le_trans _ _ _ h (ge_of_same e) in omega (arith, ints, k.cross)
 
-end_high : (hi : ℤ) (a : Fraction) → at_56 hi ≈ a → a ≤F at_32 (pos (2 ^ 90)) → hi ≤ℤ pos (2 ^ 114)
+end_high : (hi : ℤ) (a : Fraction) → units_of_56 hi ≈ a → a ≤F at_32 (pos (2 ^ 90)) → hi ≤ℤ pos (2 ^ 114)
 end_high hi a e h = let k = le_trans _ _ _ (le_of_same e) h in omega (arith, ints, k.cross)
 
-open_room : (v : ℕ) (k lo hi : ℤ) (i : Interval) → IsAbout (2 ^ 90) v i → neg_ℤ (pos (2 ^ 40)) ≤ℤ k → k ≤ℤ pos (2 ^ 40) → IsOpenCell integers i lo hi → FitsSigned w128 (lo +ℤ k *ℤ pos 72057594037927936) × FitsSigned w128 (hi +ℤ k *ℤ pos 72057594037927936)
+open_room : (v : ℕ) (k lo hi : ℤ) (i : Interval) → IsAbout (2 ^ 90) v i → neg_ℤ (pos (2 ^ 40)) ≤ℤ k → k ≤ℤ pos (2 ^ 40) → IsOpenCell integers i lo hi
+    → FitsSigned w128 (lo +ℤ k *ℤ pos 72057594037927936) × FitsSigned w128 (hi +ℤ k *ℤ pos 72057594037927936)
 unfolding IsNarrow
 open_room v k lo hi i h l m (too_far q e f b) = let z = floor_about v q i h e in absurd (f (omega (arith, ints, z.0, z.1)))
 open_room v k lo hi everything h l m (between_cells e f) = absurd h.kept
@@ -78,19 +83,24 @@ open_room v k lo hi (between a b) h l m (between_cells e (bounds p q)) =
     let y = end_high hi b q h.kept.below in
     (omega (arith, ints), omega (arith, ints))
 
-pub failure_room : (v : ℕ) (k : ℤ) (s : Site) (i : Interval) (f : Fail) → IsAbout (2 ^ 90) v i → neg_ℤ (pos (2 ^ 40)) ≤ℤ k → k ≤ℤ pos (2 ^ 40) → IsOpenFloor i s f → HasRoom k f
+pub failure_room : (v : ℕ) (k : ℤ) (s : Site) (i : Interval) (f : Fail) → IsAbout (2 ^ 90) v i → neg_ℤ (pos (2 ^ 40)) ≤ℤ k → k ≤ℤ pos (2 ^ 40)
+    → IsOpenFloor i s f → HasRoom k f
 failure_room v k s i (undecided_at u) h l m o = open_room v k u.lo u.hi i h l m o.0
 failure_room v k s i (Void t) h l m o = tt
 
 -- ---- the minutes after a day begins
 abbrev settled_bounds : ℕ → Bound
-settled_bounds k = if k == 0 then bounded (neg_ℤ (pos (2 ^ 58))) (pos (2 ^ 58)) 0 (17 * 2 ^ 28) else bounded (neg_ℤ (pos (40000001 * 2 ^ 32))) (pos (40000001 * 2 ^ 32)) 0 0
+settled_bounds k = if k == 0 then bounded (neg_ℤ (pos (2 ^ 58))) (pos (2 ^ 58)) 0 (17 * 2 ^ 28) else bounded (neg_ℤ (pos (40000001 * 2 ^ 32)))
+    (pos (40000001 * 2 ^ 32)) 0 0
 
-minutes_reach : implies (bound_of (limits_at 56) settled_bounds (add (scale (fraction_of MINUTES_OF_DAY) (subtract (argument 0) (argument 1))) (constant (fraction_of HALF)))) (bounded (neg_ℤ (pos (2 ^ 90))) (pos (2 ^ 90)) 0 (2 ^ 43)) ≡ true
+minutes_reach : implies (bound_of (limits_at 56) settled_bounds
+    (add (scale (fraction_of MINUTES_OF_DAY) (subtract (argument 0) (argument 1))) (constant (fraction_of HALF))))
+    (bounded (neg_ℤ (pos (2 ^ 90))) (pos (2 ^ 90)) 0 (2 ^ 43)) ≡ true
 unfolding implies bound_of constant_bound sum_bound difference_bound scaled_bound
 minutes_reach = refl
 
-pub day_within : {E : Type 0} (shown : E → Interval) (n : ℕ) (d : ℤ) (x : E) → n ≡ 56 → IsFactDay d → ((r : Reach) → Narrow shown (limits_of n) r (integer d) x) → IsAbout (40000001 * 2 ^ 32) 0 (shown x)
+pub day_within : {E : Type 0} (shown : E → Interval) (n : ℕ) (d : ℤ) (x : E) → n ≡ 56 → IsFactDay d → ((r : Reach) → Narrow shown (limits_of n) r (integer d) x)
+    → IsAbout (40000001 * 2 ^ 32) 0 (shown x)
 unfolding Keeps bound_of integer_bound
 day_within shown n d x e h f =
     let l = limits_within n (omega arith) (omega arith) in
@@ -99,10 +109,14 @@ day_within shown n d x e h f =
     looser _ _ _ _ 0 0 _ (omega (arith, ints, h.0)) (omega (arith, ints, h.1)) (omega arith) (record { kept = rw (l, e, p) at z.kept })
 
 pub minutes_within : {E : Type 0} (shown : E → Interval) (n : ℕ) (t d y : E) → n ≡ 56 → IsSettled (shown t) → IsAbout (40000001 * 2 ^ 32) 0 (shown d)
-    → ((r : Reach) (p q : Expression) → Narrow shown (limits_of n) r p t → Narrow shown (limits_of n) r q d → Narrow shown (limits_of n) r (add (scale (fraction_of MINUTES_OF_DAY) (subtract p q)) (constant (fraction_of HALF))) y) → IsAbout (2 ^ 90) (2 ^ 43) (shown y)
+    → ((r : Reach) (p q : Expression) → Narrow shown (limits_of n) r p t → Narrow shown (limits_of n) r q d
+    → Narrow shown (limits_of n) r (add (scale (fraction_of MINUTES_OF_DAY) (subtract p q)) (constant (fraction_of HALF))) y)
+    → IsAbout (2 ^ 90) (2 ^ 43) (shown y)
 minutes_within shown n t d y e h k f =
-    let near = looser _ _ (neg_ℤ (pos (2 ^ 58))) (pos (2 ^ 58)) (17 * 2 ^ 28) (17 * 2 ^ 28) (shown t) (omega (arith, ints)) (omega (arith, ints)) (omega arith) h in
-    measured shown n 0 settled_bounds (add (scale (fraction_of MINUTES_OF_DAY) (subtract (argument 0) (argument 1))) (constant (fraction_of HALF))) _ _ 0 (2 ^ 43) (2 ^ 43) y e minutes_reach (omega arith)
+    let near = looser _ _ (neg_ℤ (pos (2 ^ 58))) (pos (2 ^ 58)) (17 * 2 ^ 28) (17 * 2 ^ 28) (shown t) (omega (arith, ints)) (omega (arith, ints)) (omega arith)
+    h in
+    measured shown n 0 settled_bounds (add (scale (fraction_of MINUTES_OF_DAY) (subtract (argument 0) (argument 1))) (constant (fraction_of HALF))) _ _ 0
+    (2 ^ 43) (2 ^ 43) y e minutes_reach (omega arith)
     (f (record { width = 0; bounds = settled_bounds }) (argument 0) (argument 1)
     (sloped shown (limits_of n) 0 (17 * 2 ^ 28) settled_bounds 0 (neg_ℤ (pos (2 ^ 58))) (pos (2 ^ 58)) 0 (17 * 2 ^ 28) t refl (omega arith) near)
     (sloped shown (limits_of n) 0 0 settled_bounds 1 (neg_ℤ (pos (40000001 * 2 ^ 32))) (pos (40000001 * 2 ^ 32)) 0 0 d refl (omega arith) k))
@@ -147,7 +161,8 @@ minutes_most = record { cross = omega (arith, ints) }
 minutes_rise : (p q : Fraction) → p ≤F q → minutes_at p ≤F minutes_at q
 minutes_rise p q h = plus_mono _ _ _ _ (times_mono p q (fraction_of MINUTES_OF_DAY) (record { cross = omega (arith, ints) }) h) (le_refl _)
 
-minutes_between : (d n : ℤ) (p : Fraction) → floor (minutes_by d p) ≡ n → at_32 (neg_ℤ (pos (2 ^ 58 - 2 ^ 33))) ≤F p → p ≤F at_32 (pos (2 ^ 58 - 2 ^ 33)) → AreMinutes n
+minutes_between : (d n : ℤ) (p : Fraction) → floor (minutes_by d p) ≡ n → at_32 (neg_ℤ (pos (2 ^ 58 - 2 ^ 33))) ≤F p → p ≤F at_32 (pos (2 ^ 58 - 2 ^ 33))
+    → AreMinutes n
 minutes_between d n p e h k =
     let same = same_minutes d p in
     let low = le_trans _ _ _ minutes_least (le_trans _ _ _ (minutes_rise _ _ h) (ge_of_same same)) in
@@ -156,13 +171,15 @@ minutes_between d n p e h k =
     let u = le_trans _ _ _ (floor_below (minutes_by d p)) high in
     (omega (arith, ints, e, l.strict), omega (arith, ints, e, u.cross))
 
-minutes_member : (w : World) (d : ℤ) (p : Fraction) → IsMember p (w.arguments 0) → IsMember (minutes_by d p) (value w (add (integer (pos MINUTES *ℤ d)) (minutes_after_of d (argument 0))))
+minutes_member : (w : World) (d : ℤ) (p : Fraction) → IsMember p (w.arguments 0)
+    → IsMember (minutes_by d p) (value w (add (integer (pos MINUTES *ℤ d)) (minutes_after_of d (argument 0))))
 unfolding value
 minutes_member w d p h =
     let e : (x : Fraction) → IsMember x (exactly x) = λ x. (le_refl x, le_refl x) in
     sum_holds _ _ _ _ (e _) (sum_holds _ _ _ _ (product_holds _ _ _ _ (sum_holds _ _ _ _ h (negative_holds (exactly (whole d)) (whole d) (e _))) (e _)) (e _))
 
-minutes_of : (w : World) (v : ℕ) (d n : ℤ) (i : Interval) → w.arguments 0 ≡ i → IsMeanMoment v i → cell_at integers (value w (add (integer (pos MINUTES *ℤ d)) (minutes_after_of d (argument 0)))) ≡ Some n → AreMinutes n
+minutes_of : (w : World) (v : ℕ) (d n : ℤ) (i : Interval) → w.arguments 0 ≡ i → IsMeanMoment v i
+    → cell_at integers (value w (add (integer (pos MINUTES *ℤ d)) (minutes_after_of d (argument 0)))) ≡ Some n → AreMinutes n
 unfolding IsNarrow
 minutes_of w v d n everything s h e = absurd h.kept
 minutes_of w v d n (between a b) s h e =
@@ -171,7 +188,8 @@ minutes_of w v d n (between a b) s h e =
     minutes_between d n a f h.kept.above (le_trans _ _ _ h.kept.ordered h.kept.below)
 
 -- the minutes of a rounded moment
-pub rounded_minutes_near : {E : Type 0} (shown : E → Interval) (p : (e : E) → IsProper (shown e)) (v : ℕ) (d n : ℤ) (t : E) (b a : ℕ) → IsMeanMoment v (shown t) → ((w : World) (x : Expression) → Within shown w x t → Leads w Exact (rounded_minutes_of d x) b a (Ok n)) → AreMinutes n
+pub rounded_minutes_near : {E : Type 0} (shown : E → Interval) (p : (e : E) → IsProper (shown e)) (v : ℕ) (d n : ℤ) (t : E) (b a : ℕ) → IsMeanMoment v (shown t)
+    → ((w : World) (x : Expression) → Within shown w x t → Leads w Exact (rounded_minutes_of d x) b a (Ok n)) → AreMinutes n
 unfolding rounded_minutes_of moment_world
 rounded_minutes_near shown p v d n t b a h f =
     let w = moment_world (shown t) (p t) in
@@ -181,7 +199,8 @@ rounded_minutes_near shown p v d n t b a h f =
     rw c.leads_to at m
 
 -- ---- in days
-pub days_within : {E : Type 0} (shown : E → Interval) (n : ℕ) (m : ℤ) (x : E) → n ≡ 56 → AreMinutes m → ((r : Reach) → Narrow shown (limits_of n) r (constant (minutes_in_days m)) x) → IsAbout (2 ^ 58 - 2 ^ 32) (2 ^ 8) (shown x)
+pub days_within : {E : Type 0} (shown : E → Interval) (n : ℕ) (m : ℤ) (x : E) → n ≡ 56 → AreMinutes m
+    → ((r : Reach) → Narrow shown (limits_of n) r (constant (minutes_in_days m)) x) → IsAbout (2 ^ 58 - 2 ^ 32) (2 ^ 8) (shown x)
 unfolding Keeps bound_of constant_bound
 days_within shown n m x e h f =
     let l = limits_within n (omega arith) (omega arith) in
@@ -189,8 +208,10 @@ days_within shown n m x e h f =
     let low = floor_quotient_is (m *ℤ pos (2 ^ 32)) 1439 in
     let high = floor_quotient_is (neg_ℤ (m *ℤ pos (2 ^ 32))) 1439 in
     let p : nat_lt (unsigned_abs m) (2 ^ 70) ≡ true = lt-ltb _ _ (omega (arith, ints, h.0, h.1)) in
-    let q : nat_lt (max (unsigned_abs (floor_quotient (m *ℤ pos (2 ^ 32)) 1439)) (unsigned_abs (neg_ℤ (floor_quotient (neg_ℤ (m *ℤ pos (2 ^ 32))) 1439)))) (2 ^ 100) ≡ true = lt-ltb _ _ (omega (arith, ints, h.0, h.1, low.not_above, low.close, high.not_above, high.close)) in
-    looser _ _ _ _ (2 ^ 8) (2 ^ 8) _ (omega (arith, ints, h.0, h.1, low.not_above, low.close)) (omega (arith, ints, h.0, h.1, high.not_above, high.close)) (omega arith) (record { kept = rw (l, e, p, q) at z.kept })
+    let q : nat_lt (max (unsigned_abs (floor_quotient (m *ℤ pos (2 ^ 32)) 1439)) (unsigned_abs (neg_ℤ (floor_quotient (neg_ℤ (m *ℤ pos (2 ^ 32))) 1439))))
+    (2 ^ 100) ≡ true = lt-ltb _ _ (omega (arith, ints, h.0, h.1, low.not_above, low.close, high.not_above, high.close)) in
+    looser _ _ _ _ (2 ^ 8) (2 ^ 8) _ (omega (arith, ints, h.0, h.1, low.not_above, low.close)) (omega (arith, ints, h.0, h.1, high.not_above, high.close))
+    (omega arith) (record { kept = rw (l, e, p, q) at z.kept })
 
 -- ---- a test that a whole number is added to
 pub moved_close : (u v : Undecided) → (v.hi -ℤ v.lo) ≡ (u.hi -ℤ u.lo) → v.site ≡ u.site → IsClose (undecided_at u) → IsClose (undecided_at v)

@@ -29,7 +29,8 @@ FollowsAt shown p h before after result = (w : World) (a : Expression) → IsHor
 
 -- the call makes the tests of a program of the depression and of an enclosed number, and its answer holds the program's
 abbrev pub FollowsHorizon : {E : Type 0} → (E → Interval) → ((a x : Expression) → Program Expression) → Horizon E → E → ℕ → ℕ → Result E Fail → Type 0
-FollowsHorizon shown p h b before after result = (w : World) (a x : Expression) → IsHorizon shown w a h → Within shown w x b → Leads w (Within shown w) (p a x) before after result
+FollowsHorizon shown p h b before after result = (w : World) (a x : Expression) → IsHorizon shown w a h → Within shown w x b
+    → Leads w (Within shown w) (p a x) before after result
 
 -- what the tangent of a latitude makes of a declination, and what the sine of a depression and the cosine of a latitude do
 abbrev pub by_tangent : (t d : Expression) → Expression

@@ -38,7 +38,8 @@ fn east_part<E: Enclosure>(obliquity: E, longitude: E, latitude: E) -> E
 /// The part of the moon's direction towards where the equator crosses the meridian, at a local sidereal time.
 #[tactic(auto, unfolding(book_model::specs::sky::Altitude::towards_of))]
 fn meridian_part<E: Enclosure>(sidereal: E, obliquity: E, longitude: E, latitude: E) -> E
-    ensures encloses { Encloses4 E.shown E.BITS spec.towards_of sidereal obliquity longitude latitude
+    ensures encloses { Encloses4 E.shown E.BITS spec.towards_of sidereal obliquity longitude
+        latitude
         result }
 {
     let along = cos_deg(sidereal)

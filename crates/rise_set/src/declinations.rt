@@ -43,7 +43,8 @@ fn declination_by<E: Enclosure>(obliquity: E, longitude: E) -> E
 pub fn declination<E: Enclosure>(t: E, trail: &mut Trail) -> Result<E, Fail>
     ensures leads { Follows1 E.shown spec.declination_of t trail.old.count trail.new.count result }
     ensures in_table { IfOk result (λ d. IsInTable (E.shown t)) }
-    ensures measured { Measured1 E.BITS E.shown (2 ^ 42) IsMoment (λ v. IsDeclination (v + 2 ^ 32)) t
+    ensures measured { Measured1 E.BITS E.shown (2 ^ 42) IsMoment
+        (λ v. IsDeclination (v + 2 ^ 32)) t
         result }
 {
     let c = centuries(t, trail)?;

@@ -81,7 +81,8 @@ pub fn offset<E: Enclosure>(
     ensures leads { Follows2 E.shown (spec.offset_of location.now) depression t trail.old.count
         trail.new.count result }
     ensures measured { IsNarrowLocation location.now → IsDepression (E.shown depression)
-        → Measured1 E.BITS E.shown (2 ^ 41) IsMeanMoment (λ v. IsOffset (v / 16 + 2 ^ 28)) t result }
+        → Measured1 E.BITS E.shown (2 ^ 41) IsMeanMoment
+        (λ v. IsOffset (v / 16 + 2 ^ 28)) t result }
 {
     let horizon = horizon_at(location, depression);
     offset_at(&horizon, t, trail)
@@ -116,7 +117,8 @@ fn if_reached<E: Enclosure>(offset: E, out: bool, trail: &mut Trail) -> Result<E
 /// depression.
 #[tactic(auto, using(book_model::proofs::Leads::leading), unfolding(book_model::specs::sky::Horizon::reached_offset_of))]
 fn reached_offset<E: Enclosure>(horizon: &Horizon<E>, t: E, trail: &mut Trail) -> Result<E, Fail>
-    ensures leads { FollowsHorizon E.shown (spec.reached_offset_of horizon.now.location) horizon.now t
+    ensures leads { FollowsHorizon E.shown (spec.reached_offset_of horizon.now.location) horizon.now
+        t
         trail.old.count trail.new.count result }
 {
     let there = offset_at(horizon, t, trail)?;

@@ -104,7 +104,8 @@ products_mono a b c d h k m n =
 -- numbers are in order where their multiples are
 order_z : (m g d lo hi : ℤ) → m ≤ℤ g → (lo *ℤ d) ≤ℤ m → g ≤ℤ (hi *ℤ d) → pos 1 ≤ℤ d → lo ≤ℤ hi
 order_z m g d lo hi h0 h1 h2 h3 =
-    le_over (m ∷ g ∷ d ∷ lo ∷ hi ∷ []) ((at 0 ≼ at 1) ∷ (at 3 ⊗ at 2 ≼ at 0) ∷ (at 1 ≼ at 4 ⊗ at 2) ∷ []) (at 2) (at 3) (at 4) (known 0 ⊞ known 1 ⊞ known 2) refl h3 (h0, (h1, (h2, tt)))
+    le_over (m ∷ g ∷ d ∷ lo ∷ hi ∷ []) ((at 0 ≼ at 1) ∷ (at 3 ⊗ at 2 ≼ at 0) ∷ (at 1 ≼ at 4 ⊗ at 2) ∷ []) (at 2) (at 3) (at 4) (known 0 ⊞ known 1 ⊞ known 2)
+    refl h3 (h0, (h1, (h2, tt)))
 
 -- rounding outwards keeps the order
 pub outward_order : (m g d lo hi : ℤ) → m ≤ℤ g → IsFloor lo m d → IsCeiling hi g d → pos 0 <ℤ d → lo ≤ℤ hi

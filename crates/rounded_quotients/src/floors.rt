@@ -4,7 +4,7 @@ ghost use Rattle.rounded_quotients.specs.Rounding.{IsFloor, IsCeiling};
 
 /// The number in 64 bits, where it fits.
 #[inline(always)]
-fn narrow(n: i128) -> Option<i64>
+fn as_64_bits(n: i128) -> Option<i64>
     ensures value { IfSome result (λ a. a ≡ n) }
 {
     i64::try_from(n).ok()
@@ -36,12 +36,12 @@ pub fn floor_64(n: i64, d: i64) -> i64
 
 /// The quotient of `n` by `d`, rounded down, in 64 bits, where both fit: there a division is many times faster.
 #[inline(always)]
-fn narrow_floor(n: i128, d: i128) -> Option<i64>
+fn floor_in_64_bits(n: i128, d: i128) -> Option<i64>
     requires { pos 0 <ℤ d }
     ensures value { IfSome result (λ q. IsFloor q n d) }
 {
-    let n = narrow(n)?;
-    let d = narrow(d)?;
+    let n = as_64_bits(n)?;
+    let d = as_64_bits(d)?;
     Some(floor_64(n, d))
 }
 
@@ -52,7 +52,11 @@ fn small_divisor(d: i128) -> Option<i64>
     ensures value { IfSome result (λ m. m ≡ d) }
     ensures small { IfSome result (λ m. m <ℤ pos (2 ^ 35)) }
 {
-    if d < 34_359_738_368 { narrow(d) } else { None }
+    if d < 34_359_738_368 {
+        as_64_bits(d)
+    } else {
+        None
+    }
 }
 
 /// What is left of a quotient after its upper part: `rest` · 2²⁹ + `low`, by `d`, rounded down.
@@ -104,7 +108,7 @@ fn stepped_floor(n: i128, d: i128) -> Option<i128>
 {
     let d = small_divisor(d)?;
     let part = upper_part(n);
-    let upper = narrow(part)?;
+    let upper = as_64_bits(part)?;
     let quotient = floor_64(upper, d);
     let rest = rest_of(upper, quotient, d);
     let last = last_step(rest, low_part(n, part), d as u64);
@@ -151,7 +155,7 @@ pub fn floor_div(n: i128, d: i128) -> i128
     if d == 1 {
         return n;
     }
-    if let Some(quotient) = narrow_floor(n, d) {
+    if let Some(quotient) = floor_in_64_bits(n, d) {
         return i128::from(quotient);
     }
     match reduced_floor(n, d) {

@@ -32,12 +32,14 @@ mapped_whole f ys i xs all h old =
     let over : drop i xs ≡ [] = grind (arith, common_steps) in
     rw append-nil at (rw over at old)
 
-verdicts_split : (i : ℕ) (vs : List Verdict) (d : Verdict) → i < length vs → verdicts_after i (drop i vs) ≡ verdict_text (i + 1) (get_or vs i d) ++ verdicts_after (i + 1) (drop (i + 1) vs)
+verdicts_split : (i : ℕ) (vs : List Verdict) (d : Verdict) → i < length vs → verdicts_after i (drop i vs)
+    ≡ verdict_text (i + 1) (get_or vs i d) ++ verdicts_after (i + 1) (drop (i + 1) vs)
 verdicts_split i vs d h = rw (drop_more vs i d h) refl
 
 verdicts_left : (i : ℕ) (vs : List Verdict) (d : Verdict) (counts : List ℕ) → i < length vs
     → verdicts_after i (drop i vs) ++ counts ≡ verdict_text (i + 1) (get_or vs i d) ++ (verdicts_after (i + 1) (drop (i + 1) vs) ++ counts)
-verdicts_left i vs d counts h = rw (verdicts_split i vs d h) (append_assoc (verdict_text (i + 1) (get_or vs i d)) (verdicts_after (i + 1) (drop (i + 1) vs)) counts)
+verdicts_left i vs d counts h = rw (verdicts_split i vs d h) (append_assoc (verdict_text (i + 1) (get_or vs i d)) (verdicts_after (i + 1) (drop (i + 1) vs))
+    counts)
 
 -- one more verdict is put
 pub verdicts_on : (a b c : Option (List ℕ)) (t w w' : List ℕ) (i : ℕ) (vs : List Verdict) (d : Verdict) (counts : List ℕ) → i < length vs
@@ -65,7 +67,8 @@ right_answers (e ∷ es) [] h = absurd h
 right_answers (e ∷ es) (a ∷ rest) h = (h.0, right_answers es rest h.1)
 
 -- the verdicts of the lines of a file are written, and what a line with a yes shows is certified
-pub checks_file : (old new : Option (List ℕ)) (f : CertFile) (answers : List Answer) (all : Bool) → IsCheckable f → AreRightAnswers f.facts answers → Appends old new (verdicts_text (verdicts_of f answers))
+pub checks_file : (old new : Option (List ℕ)) (f : CertFile) (answers : List Answer) (all : Bool) → IsCheckable f → AreRightAnswers f.facts answers
+    → Appends old new (verdicts_text (verdicts_of f answers))
     → all ≡ list_all is_yes (verdicts_of f answers) → ChecksFile old new f all
 checks_file old new f answers all checkable right written all_are = record {
   answers = answers;
@@ -76,7 +79,8 @@ checks_file old new f answers all checkable right written all_are = record {
 }
 
 -- where the verdicts of a file were cut, so was what is written for its bytes
-pub kept_or_cut : (old new : Option (List ℕ)) (input : List ℕ) (f : CertFile) → grammar_of input ≡ file f → Keeps old new ⊎ CutsFile old new f → Keeps old new ⊎ CheckCutShort old new input
+pub kept_or_cut : (old new : Option (List ℕ)) (input : List ℕ) (f : CertFile) → grammar_of input ≡ file f → Keeps old new ⊎ CutsFile old new f
+    → Keeps old new ⊎ CheckCutShort old new input
 kept_or_cut old new input f h (inl kept) = inl kept
 kept_or_cut old new input f h (inr cut) = inr (cut_verdicts f h cut)
 

@@ -39,7 +39,8 @@ right_place f (line ∷ lines) (o ∷ os) zero d e h k all = all.0
 right_place f (line ∷ lines) (o ∷ os) (suc i) d e h k all = right_place f lines os i d e (omega arith) (omega arith) all.1
 
 -- and so is the outcome at its place
-pub right_at : {X : Type 0} (f : X → List ℕ) (lines : List X) (os : List Outcome) (i : ℕ) (d : X) (o : Outcome) → i < length lines → i < length os → o ≡ get_or os i o
+pub right_at : {X : Type 0} (f : X → List ℕ) (lines : List X) (os : List Outcome) (i : ℕ) (d : X) (o : Outcome) → i < length lines → i < length os → o
+    ≡ get_or os i o
     → AreRight WRITTEN (map f lines) (map line_outcome os) → IsRightFor WRITTEN (f (get_or lines i d)) (line_outcome o)
 right_at f lines os i d o h k e all = let right = right_place f lines os i d o h k all in rw (← e) at right
 

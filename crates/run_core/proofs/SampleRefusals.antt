@@ -50,7 +50,8 @@ all_digits : (k n : ℕ) (ds : List ℕ) → value_from k ds ≡ Some n → list
 all_digits k n [] h = refl
 all_digits k n (b ∷ bs) h = step (is_digit b) refl h (λ e. all_digits (10 * k + (b - 48)) n bs e)
   where
-    step : (t : Bool) → is_digit b ≡ t → (if t then value_from (10 * k + (b - 48)) bs else None) ≡ Some n → (value_from (10 * k + (b - 48)) bs ≡ Some n → list_all is_digit bs ≡ true) → (is_digit b && list_all is_digit bs) ≡ true
+    step : (t : Bool) → is_digit b ≡ t → (if t then value_from (10 * k + (b - 48)) bs else None) ≡ Some n
+        → (value_from (10 * k + (b - 48)) bs ≡ Some n → list_all is_digit bs ≡ true) → (is_digit b && list_all is_digit bs) ≡ true
     step true e h rest = rw (e, rest h) refl
     step false e h rest = absurd (cc)
 
@@ -184,26 +185,31 @@ day_again n to day =
     let few : length (decimal n) ≤ 6 = length-decimal-le 6 n (omega arith) (omega arith) (omega arith) in
     let asked = asked_word to in
     let words = words_read (codes "fixed") (decimal n ∷ text_of_to to ∷ []) fixed_word (digits, (asked.is_word, tt)) in
-    let plain : list_all is_plain (codes "fixed" ++ spaced (decimal n ∷ text_of_to to ∷ [])) ≡ true = rw (plain_spaced (decimal n ∷ text_of_to to ∷ []) (digits, (asked.is_word, tt))) refl in
-    let long : length (codes "fixed" ++ spaced (decimal n ∷ text_of_to to ∷ [])) ≤ 200 = omega (arith, few, asked.short, length-append (decimal n) (32 ∷ (text_of_to to ++ [])), length-append (text_of_to to) []) in
+    let plain : list_all is_plain (codes "fixed" ++ spaced (decimal n ∷ text_of_to to ∷ []))
+    ≡ true = rw (plain_spaced (decimal n ∷ text_of_to to ∷ []) (digits, (asked.is_word, tt))) refl in
+    let long : length (codes "fixed" ++ spaced (decimal n ∷ text_of_to to ∷ [])) ≤ 200 = omega
+    (arith, few, asked.short, length-append (decimal n) (32 ∷ (text_of_to to ++ [])), length-append (text_of_to to) []) in
     let short : nat_le (length (codes "fixed" ++ spaced (decimal n ∷ text_of_to to ∷ []))) 200 ≡ true = grind (arith, nat_tests) in
     rw (day_line n to, words, plain, short) (day_asked n to day)
 
 -- ---- what a line comes to
 
 -- what is shown of an inquiry's result is a result
-shown_found : (n : ℕ) (seen : List (Fact × ℤ)) (i : Inquiry Fields) (to : ToWord) (x : Resolved) (es : List (Fact × ℤ)) → finding_after n seen (and_then i (λ fields. done (Shown to fields))) ≡ found x es → is_shown x ≡ true
+shown_found : (n : ℕ) (seen : List (Fact × ℤ)) (i : Inquiry Fields) (to : ToWord) (x : Resolved) (es : List (Fact × ℤ))
+    → finding_after n seen (and_then i (λ fields. done (Shown to fields))) ≡ found x es → is_shown x ≡ true
 unfolding finding_after and_then
 shown_found n seen (done fields) to x es h = let e : Shown to fields ≡ x = cc in rw (← e) refl
 shown_found n seen (ask f next) to x es h = by (outcome (run_of n f)) (λ v k. shown_found n (with_entry seen f v) (next v) to x es k) h
   where
-    by : (o : Outcome ℤ) → ((v : ℤ) → finding_after n (with_entry seen f v) (and_then (next v) (λ fields. done (Shown to fields))) ≡ found x es → is_shown x ≡ true)
+    by : (o : Outcome ℤ) → ((v : ℤ) → finding_after n (with_entry seen f v) (and_then (next v) (λ fields. done (Shown to fields))) ≡ found x es → is_shown x
+        ≡ true)
         → found_at f o (λ v. finding_after n (with_entry seen f v) (and_then (next v) (λ fields. done (Shown to fields)))) ≡ found x es → is_shown x ≡ true
     by (valued v) rest k = rest v k
     by (void_at s) rest k = absurd (cc)
     by (open_at s) rest k = absurd (cc)
 
-value_found : (n : ℕ) (f : Fact) (to : ToWord) (x : Resolved) (es : List (Fact × ℤ)) → finding n (ask f (λ v. done (Shown to (one_field v)))) ≡ found x es → is_shown x ≡ true
+value_found : (n : ℕ) (f : Fact) (to : ToWord) (x : Resolved) (es : List (Fact × ℤ)) → finding n (ask f (λ v. done (Shown to (one_field v)))) ≡ found x es
+    → is_shown x ≡ true
 unfolding finding_after
 value_found n f to x es h = by (outcome (run_of n f)) h
   where
@@ -242,7 +248,8 @@ none_refused : (many state index : ℕ) (os : List LineOutcome) → AreRight WRI
 none_refused zero state index [] h = refl
 none_refused zero state index (o ∷ os) h = absurd h
 none_refused (suc many) state index [] h = absurd h
-none_refused (suc many) state index (o ∷ os) h = rw (sample_not_refused (state_after state) index o h.0) (none_refused many (state_after state) (index + 1) os h.1)
+none_refused (suc many) state index (o ∷ os) h = rw (sample_not_refused (state_after state) index o h.0)
+    (none_refused many (state_after state) (index + 1) os h.1)
 
 pub no_refusal : (count seed : ℕ) → HasNoRefusal count seed
 no_refusal count seed = λ os h. none_refused count seed 0 os h

@@ -14,14 +14,16 @@ use Rattle.byte_streams.specs.Stream.{Wrote, AppendsFront}
 use Rattle.byte_streams.proofs.Flow.{buffered_on, buffered_front, wrote_flushed, front_then}
 
 -- the text from a line on is its block and the text from the next line on
-text_split : {X : Type 0} (f : X → List ℕ) (seen : List Fact) (i : ℕ) (lines : List X) (os : List Outcome) (d : X) (o : Outcome) → i < length lines → i < length os → o ≡ get_or os i o
+text_split : {X : Type 0} (f : X → List ℕ) (seen : List Fact) (i : ℕ) (lines : List X) (os : List Outcome) (d : X) (o : Outcome) → i < length lines
+    → i < length os → o ≡ get_or os i o
     → text_from seen i (map f (drop i lines)) (map line_outcome (drop i os))
     ≡ block_text seen (i + 1) (f (get_or lines i d)) (line_outcome o)
     ++ text_from (seen_after seen (line_outcome o)) (i + 1) (map f (drop (i + 1) lines)) (map line_outcome (drop (i + 1) os))
 text_split f seen i lines os d o h k e = rw (drop_more lines i d h, drop_more os i o k, ← e) refl
 
 -- one more block is put
-pub text_on : {X : Type 0} (f : X → List ℕ) (a b c : Option (List ℕ)) (t w w' : List ℕ) (seen seen' : List Fact) (i : ℕ) (lines : List X) (os : List Outcome) (d : X) (o : Outcome)
+pub text_on : {X : Type 0} (f : X → List ℕ) (a b c : Option (List ℕ)) (t w w' : List ℕ) (seen seen' : List Fact) (i : ℕ) (lines : List X) (os : List Outcome)
+    (d : X) (o : Outcome)
     → i < length lines → i < length os → o ≡ get_or os i o
     → Wrote a b t (w ++ text_from seen i (map f (drop i lines)) (map line_outcome (drop i os)))
     → seen' ≡ seen_after seen (line_outcome o)
@@ -30,7 +32,8 @@ pub text_on : {X : Type 0} (f : X → List ℕ) (a b c : Option (List ℕ)) (t w
 text_on f a b c t w w' seen seen' i lines os d o h k e old s new = rw s (buffered_on a b c t w _ w' _ (rw (text_split f seen i lines os d o h k e) at old) new)
 
 -- a front of one more block is put
-pub text_front : {X : Type 0} (f : X → List ℕ) (a b c : Option (List ℕ)) (t w : List ℕ) (seen : List Fact) (i : ℕ) (lines : List X) (os : List Outcome) (d : X) (o : Outcome)
+pub text_front : {X : Type 0} (f : X → List ℕ) (a b c : Option (List ℕ)) (t w : List ℕ) (seen : List Fact) (i : ℕ) (lines : List X) (os : List Outcome) (d : X)
+    (o : Outcome)
     → i < length lines → i < length os → o ≡ get_or os i o
     → Wrote a b t (w ++ text_from seen i (map f (drop i lines)) (map line_outcome (drop i os)))
     → AppendsFront b c (w ++ block_text seen (i + 1) (f (get_or lines i d)) (line_outcome o))
@@ -38,7 +41,8 @@ pub text_front : {X : Type 0} (f : X → List ℕ) (a b c : Option (List ℕ)) (
 text_front f a b c t w seen i lines os d o h k e old new = buffered_front a b c t w _ _ (rw (text_split f seen i lines os d o h k e) at old) new
 
 -- after the last block the end is left
-pub text_end : {X : Type 0} (f : X → List ℕ) (a b : Option (List ℕ)) (t w : List ℕ) (seen : List Fact) (i n m : ℕ) (lines : List X) (os : List LineOutcome) → length lines ≤ i → i ≡ n → m ≡ length seen
+pub text_end : {X : Type 0} (f : X → List ℕ) (a b : Option (List ℕ)) (t w : List ℕ) (seen : List Fact) (i n m : ℕ) (lines : List X) (os : List LineOutcome)
+    → length lines ≤ i → i ≡ n → m ≡ length seen
     → Wrote a b t (w ++ text_from seen i (map f (drop i lines)) os) → Wrote a b t (w ++ end_text n m)
 text_end f a b t w seen i n m lines os h e k old =
     let over : drop i lines ≡ [] = grind (arith, common_steps) in
@@ -46,11 +50,13 @@ text_end f a b t w seen i n m lines os h e k old =
     rw (← e, k) done
 
 -- the last call writes what is left
-pub text_ended : {T E : Type 0} (r : Result T E) (a b c : Option (List ℕ)) (t left : List ℕ) → Wrote a b t left → OnOk r (Appends b c left) → OnOk r (Appends a c t)
+pub text_ended : {T E : Type 0} (r : Result T E) (a b c : Option (List ℕ)) (t left : List ℕ) → Wrote a b t left → OnOk r (Appends b c left)
+    → OnOk r (Appends a c t)
 text_ended (Ok x) a b c t left old new = wrote_flushed a b c t left old new
 text_ended (Err e) a b c t left old new = tt
 
 -- the last call writes a front of what is left
-pub text_cut : {T E : Type 0} (r : Result T E) (a b c : Option (List ℕ)) (t left : List ℕ) → Wrote a b t left → OnErr r (AppendsFront b c left) → OnErr r (AppendsFront a c t)
+pub text_cut : {T E : Type 0} (r : Result T E) (a b c : Option (List ℕ)) (t left : List ℕ) → Wrote a b t left → OnErr r (AppendsFront b c left)
+    → OnErr r (AppendsFront a c t)
 text_cut (Ok x) a b c t left old new = tt
 text_cut (Err e) a b c t left old new = front_then a b c t left old new

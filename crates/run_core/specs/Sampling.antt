@@ -46,12 +46,14 @@ facts_in os = length (seen_after_all [] os)
 -- sample COUNT SEED decided A undecided B void C refused D facts F
 unfoldable pub counts_text : (count seed decided undecided void refused facts : ℕ) → List ℕ
 counts_text count seed a b c d facts =
-    concat (codes "sample " ∷ decimal count ∷ codes " " ∷ decimal seed ∷ codes " decided " ∷ decimal a ∷ codes " undecided " ∷ decimal b ∷ codes " void " ∷ decimal c
+    concat (codes "sample " ∷ decimal count ∷ codes " " ∷ decimal seed ∷ codes " decided " ∷ decimal a ∷ codes " undecided " ∷ decimal b ∷ codes " void " ∷
+    decimal c
     ∷ codes " refused " ∷ decimal d ∷ codes " facts " ∷ decimal facts ∷ codes "\n" ∷ [])
 
 -- the line of a sample whose lines come to this
 abbrev pub sample_text : (count seed : ℕ) → List LineOutcome → List ℕ
-sample_text count seed os = counts_text count seed (length (filter is_result os)) (length (filter is_undecided os)) (length (filter is_void os)) (length (filter is_refused os)) (facts_in os)
+sample_text count seed os = counts_text count seed (length (filter is_result os)) (length (filter is_undecided os)) (length (filter is_void os))
+    (length (filter is_refused os)) (facts_in os)
 
 -- the counts of the lines of a sample stand behind what the sink held, each outcome right for its line
 pub record Sampled (old new : Option (List ℕ)) (count seed : ℕ) (all_results : Bool) : Type 0 where

@@ -164,7 +164,8 @@ pub fn run<R: Threads + Sync, S: Source, K: Sink, E: Evaluator + Sync, G: Gate +
     // BadText comes only under `check`, where the bytes read to their end aren't in the grammar.
     ensures bad_text { result ≡ Status.BadText → (named (map string_bytes words.now)
         ≡ Some Command.Check)
-        × (input : List ℕ) × HasRead (input_of Command.Check) (S.left source.old) (S.left source.new) input
+        × (input : List ℕ) × HasRead (input_of Command.Check) (S.left source.old)
+        (S.left source.new) input
         × RefusesText (K.written sink.old) (K.written sink.new) input }
     // Words comes exactly where the words are in no form, unless the usage line can't be written
     // or memory runs out. Nothing is read then.
@@ -186,7 +187,8 @@ pub fn run<R: Threads + Sync, S: Source, K: Sink, E: Evaluator + Sync, G: Gate +
     // more, nothing else comes but a fault or want of memory.
     ensures too_large { result ≡ Status.TooLarge → (c : Command)
         × (named (map string_bytes words.now) ≡ Some c)
-        × (taken : List ℕ) × Consumes (S.left source.old) (S.left source.new) taken × IsPast (input_of c) taken }
+        × (taken : List ℕ) × Consumes (S.left source.old) (S.left source.new) taken
+        × IsPast (input_of c) taken }
     ensures too_large_told { (c : Command) → named (map string_bytes words.now) ≡ Some c
         → IsTooLarge (input_of c) (S.left source.old)
         → ¬ Rose (S.faults source.old) (S.faults source.new)

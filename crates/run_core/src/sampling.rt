@@ -179,7 +179,8 @@ fn write_counts<K: Sink>(
     facts: usize,
 ) -> Result<(), Failed>
     ensures { Writes K.written K.faults sink.old sink.new
-        (spec.counts_text count seed tally.decided tally.undecided tally.void tally.refused facts) result }
+        (spec.counts_text count seed tally.decided tally.undecided tally.void tally.refused facts)
+        result }
 {
     let mut count_buffer = Buffer::new();
     let mut seed_buffer = Buffer::new();

@@ -112,7 +112,8 @@ fn put_blocks<K: Sink>(
     requires same { length lines.now ≡ length outcomes.now }
     requires right { AreRight WRITTEN (map (λ line. line.now) lines.now)
         (map line_outcome outcomes.now) }
-    ensures ok { WritesAll K.written sink.old sink.new (pending.old.bytes.items ++ spec.text_from [] 0
+    ensures ok { WritesAll K.written sink.old sink.new (pending.old.bytes.items
+        ++ spec.text_from [] 0
         (map (λ line. line.now) lines.now) (map line_outcome outcomes.now)) result }
     ensures err { WritesFront K.written sink.old sink.new
         (pending.old.bytes.items ++ spec.text_from [] 0 (map (λ line. line.now) lines.now)

@@ -25,23 +25,30 @@ column_from_least : (at : ℕ) (ps : List Place) (place : Place) → among place
 column_from_least at [] place is = cc
 column_from_least at (p ∷ ps) place is = by (place_number p == place_number place) is (λ rest. column_from_least (at + 1) ps place rest)
   where
-    by : (same : Bool) → (same || among place ps) ≡ true → (among place ps ≡ true → at + 1 ≤ column_from (at + 1) ps place) → at ≤ (if same then at else column_from (at + 1) ps place)
+    by : (same : Bool) → (same || among place ps) ≡ true → (among place ps ≡ true → at + 1 ≤ column_from (at + 1) ps place)
+        → at ≤ (if same then at else column_from (at + 1) ps place)
     by true h least = omega arith
     by false h least = omega (arith, least h)
 
 -- places of one column are one
-one_column : (at : ℕ) (ps : List Place) (p q : Place) → among p ps ≡ true → among q ps ≡ true → column_from at ps p ≡ column_from at ps q → place_number p ≡ place_number q
+one_column : (at : ℕ) (ps : List Place) (p q : Place) → among p ps ≡ true → among q ps ≡ true → column_from at ps p ≡ column_from at ps q → place_number p
+    ≡ place_number q
 one_column at [] p q hp hq same = cc
-one_column at (x ∷ ps) p q hp hq same = by (place_number x == place_number p) refl (place_number x == place_number q) refl hp hq same (one_column (at + 1) ps p q)
+one_column at (x ∷ ps) p q hp hq same = by (place_number x == place_number p) refl (place_number x == place_number q) refl hp hq same
+    (one_column (at + 1) ps p q)
   where
-    by : (a : Bool) → (place_number x == place_number p) ≡ a → (b : Bool) → (place_number x == place_number q) ≡ b → (a || among p ps) ≡ true → (b || among q ps) ≡ true → (if a then at else column_from (at + 1) ps p) ≡ (if b then at else column_from (at + 1) ps q) → (among p ps ≡ true → among q ps ≡ true → column_from (at + 1) ps p ≡ column_from (at + 1) ps q → place_number p ≡ place_number q) → place_number p ≡ place_number q
+    by : (a : Bool) → (place_number x == place_number p) ≡ a → (b : Bool) → (place_number x == place_number q) ≡ b → (a || among p ps) ≡ true
+        → (b || among q ps) ≡ true → (if a then at else column_from (at + 1) ps p) ≡ (if b then at else column_from (at + 1) ps q)
+        → (among p ps ≡ true → among q ps ≡ true → column_from (at + 1) ps p ≡ column_from (at + 1) ps q → place_number p ≡ place_number q) → place_number p
+        ≡ place_number q
     by true a true b hp hq same rest = grind (arith, nat_tests, a, b)
     by true a false b hp hq same rest = absurd (let least = column_from_least (at + 1) ps q hq in omega (arith, least, same))
     by false a true b hp hq same rest = absurd (let least = column_from_least (at + 1) ps p hp in omega (arith, least, same))
     by false a false b hp hq same rest = rest hp hq same
 
 -- rows that are one are of one list and one place
-one_row : (pss : List (List Place)) (n m : ℕ) (p q : Place) → HavePlaces pss → among p (places_at pss n) ≡ true → among q (places_at pss m) ≡ true → row_in pss n p ≡ row_in pss m q → (n ≡ m) × (place_number p ≡ place_number q)
+one_row : (pss : List (List Place)) (n m : ℕ) (p q : Place) → HavePlaces pss → among p (places_at pss n) ≡ true → among q (places_at pss m) ≡ true
+    → row_in pss n p ≡ row_in pss m q → (n ≡ m) × (place_number p ≡ place_number q)
 one_row [] n m p q have hp hq same = cc
 one_row (ps ∷ pss) zero zero p q have hp hq same = (refl, one_column 0 ps p q hp hq same)
 one_row (ps ∷ pss) zero (suc m) p q have hp hq same = absurd (let w = column_within ps p have.0 in omega (arith, w, same))
@@ -55,10 +62,12 @@ stands : (kind : Kind) (place : Place) → IsTrue (has_place kind place) → amo
 stands kind place has = rw (places_of_row (λ row. row.2.0.now) KINDS (kind_number kind)) (grind (rules, has))
 
 -- rows that are one are of one kind and one place
-one_kind_and_place : (f g : Fact) → IsTrue (has_place f.kind f.place) → IsTrue (has_place g.kind g.place) → row_of f.kind f.place ≡ row_of g.kind g.place → (f.kind ≡ g.kind) × (f.place ≡ g.place)
+one_kind_and_place : (f g : Fact) → IsTrue (has_place f.kind f.place) → IsTrue (has_place g.kind g.place) → row_of f.kind f.place ≡ row_of g.kind g.place
+    → (f.kind ≡ g.kind) × (f.place ≡ g.place)
 unfolding row_of
 one_kind_and_place f g hf hg same =
-    let r = one_row place_lists (kind_number f.kind) (kind_number g.kind) f.place g.place kinds_have_places (stands f.kind f.place hf) (stands g.kind g.place hg) same in
+    let r = one_row place_lists (kind_number f.kind) (kind_number g.kind) f.place g.place kinds_have_places (stands f.kind f.place hf)
+    (stands g.kind g.place hg) same in
     (one_kind f.kind g.kind r.0, one_place f.place g.place r.1)
 
 -- the place of a day among a shelf's is less than their number, and tells the day
@@ -73,7 +82,8 @@ one_pair n a b x y hx hy same =
     let rest = rw first at same in
     (first, omega (arith, rest))
 
-pub own_slot : (f g : Fact) → IsTrue (has_place f.kind f.place) → IsTrue (has_place g.kind g.place) → IsValueDay f.day → IsValueDay g.day → slot_of f ≡ slot_of g → f ≡ g
+pub own_slot : (f g : Fact) → IsTrue (has_place f.kind f.place) → IsTrue (has_place g.kind g.place) → IsValueDay f.day → IsValueDay g.day → slot_of f
+    ≡ slot_of g → f ≡ g
 unfolding slot_of
 own_slot f g hf hg df dg same =
     let ef = natural_is (f.day -ℤ FIRST_DAY) (omega (arith, ints, df.0)) in

@@ -32,7 +32,8 @@ settles slots slot entry = by (map.get slots slot) refl
     by (Some h) e = rw e e
 
 -- after a step on an empty slot a slot holds the entry or what it held
-after_set : (slots : Slots) (slot other : ℕ) (entry held : Entry) → map.get slots slot ≡ None → map.get (map.insert slots slot entry) other ≡ Some held → (held ≡ entry) ⊎ (map.get slots other ≡ Some held)
+after_set : (slots : Slots) (slot other : ℕ) (entry held : Entry) → map.get slots slot ≡ None → map.get (map.insert slots slot entry) other ≡ Some held
+    → (held ≡ entry) ⊎ (map.get slots other ≡ Some held)
 after_set slots slot other entry held empty set = by (eq_by_cmp nat_cmp other slot) (sym (map.get-insert nat_cmp_total slots slot entry other) ∙ set)
   where
     by : (same : Bool) → cond same (Some entry) (map.get slots other) ≡ Some held → (held ≡ entry) ⊎ (map.get slots other ≡ Some held)
@@ -66,7 +67,8 @@ stays_once slots slot other entry held set = by (map.get slots slot) refl
 -- steps that offer right entries leave each entry right
 pub stay_right : (slots : Slots) (steps : List Step) → AllRight slots → OfferRight steps → AllRight (after slots steps)
 stay_right slots [] all offered = all
-stay_right slots (step ∷ steps) all offered = stay_right (set_once slots step.slot step.entry) steps (right_once slots step.slot step.entry all offered.0) offered.1
+stay_right slots (step ∷ steps) all offered = stay_right (set_once slots step.slot step.entry) steps (right_once slots step.slot step.entry all offered.0)
+    offered.1
 
 -- an entry stays in its slot after any steps
 pub stays : (slots : Slots) (steps : List Step) (slot : ℕ) (held : Entry) → map.get slots slot ≡ Some held → map.get (after slots steps) slot ≡ Some held

@@ -36,6 +36,7 @@ pub fn steps()
 
 /// No two facts have one slot: facts of places that their kinds have, on days of which facts may have values.
 pub fn slots()
-    ensures own { (f g : Fact) → IsTrue (has_place f.kind f.place) → IsTrue (has_place g.kind g.place)
+    ensures own { (f g : Fact) → IsTrue (has_place f.kind f.place)
+        → IsTrue (has_place g.kind g.place)
         → IsValueDay f.day → IsValueDay g.day → slot_of f ≡ slot_of g → f ≡ g }
 {}

@@ -6,7 +6,7 @@ ghost use Rattle.shelf_core.specs.Slots.{slot_count, block_count};
 
 use crate::Entry;
 use crate::block::{BLOCK, Block};
-use crate::notes::agree;
+use crate::notes::know_the_same;
 use crate::rows::{fact_rows, first_rows, row_of};
 use book_model::{FIRST_DAY, Fact, LAST_DAY};
 use once_cell::race::{Note, OnceBox};
@@ -156,8 +156,8 @@ impl Shelf {
         ensures same { IfSome (seen other.now) (Agrees (seen one.now)) }
     {
         if let (Some(first), Some(second)) = (&one.entry, &other.entry) {
-            agree(&one.block, &other.block);
-            agree(first, second);
+            know_the_same(&one.block, &other.block);
+            know_the_same(first, second);
         }
     }
 

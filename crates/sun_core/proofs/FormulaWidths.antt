@@ -31,20 +31,25 @@ obliquity_width = refl
 
 -- the square of the tangent of half of it
 pub tilt_width : implies (bound_of (limits_of 36) centuries (tilt_of (argument 0))) (wide (negsuc 671) (pos 672) 1 47599) ≡ true
-unfolding implies bound_of limits_of constant_bound sum_bound scaled_bound product_bound power_bound quotient_bound spanned_bound sine_spans cosine_spans cubic_of tilt_of
+unfolding implies bound_of limits_of constant_bound sum_bound scaled_bound product_bound power_bound quotient_bound spanned_bound sine_spans cosine_spans
+    cubic_of tilt_of
 tilt_width = refl
 
 -- the equation of time, in days
 pub equation_width : implies (bound_of (limits_of 36) centuries (equation_of (argument 0))) (wide (negsuc 171) (pos 172) 192204 119156) ≡ true
-unfolding implies bound_of limits_of constant_bound sum_bound difference_bound scaled_bound product_bound power_bound quotient_bound minimum_bound maximum_bound spanned_bound sine_spans cosine_spans cubic_of quadratic_of tilt_of equation_of part_of_day radians_of reduction_of centre_of joint_of second_reduction_of second_centre_of
+unfolding implies bound_of limits_of constant_bound sum_bound difference_bound scaled_bound product_bound power_bound quotient_bound minimum_bound maximum_bound
+    spanned_bound sine_spans cosine_spans cubic_of quadratic_of tilt_of equation_of part_of_day radians_of reduction_of centre_of joint_of second_reduction_of
+    second_centre_of
 equation_width = refl
 
 -- mean sidereal time, in degrees, not reduced
-pub sidereal_width : implies (bound_of (limits_of 36) centuries (cubic_of SIDEREAL_TIME (argument 0))) (wide (negsuc 263697210810) (pos 65927808472) 131850007717 70008) ≡ true
+pub sidereal_width : implies (bound_of (limits_of 36) centuries (cubic_of SIDEREAL_TIME (argument 0)))
+    (wide (negsuc 263697210810) (pos 65927808472) 131850007717 70008) ≡ true
 unfolding implies bound_of limits_of constant_bound sum_bound scaled_bound product_bound power_bound cubic_of
 sidereal_width = refl
 
 -- centuries from a moment: its width over 36525, and two units
-pub centuries_width : implies (bound_of (limits_of 36) moments (in_centuries (argument 0))) (bounded (at_4 (negsuc 199896)) (at_4 (pos 73889)) (2 ^ 40 / 36525 + 1) (20001 * 2 ^ 28 / 10 ^ 4)) ≡ true
+pub centuries_width : implies (bound_of (limits_of 36) moments (in_centuries (argument 0)))
+    (bounded (at_4 (negsuc 199896)) (at_4 (pos 73889)) (2 ^ 40 / 36525 + 1) (20001 * 2 ^ 28 / 10 ^ 4)) ≡ true
 unfolding implies bound_of limits_of constant_bound difference_bound scaled_bound in_centuries
 centuries_width = refl

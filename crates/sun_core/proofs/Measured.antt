@@ -19,7 +19,7 @@ use Rattle.book_model.specs.sky.Facts.{IsFactDay}
 use Rattle.book_model.specs.sky.Noon.{tilt_of, reduction_of, centre_of, joint_of, second_reduction_of, second_centre_of, radians_of, part_of_day, equation_of, ahead_of}
 use Rattle.book_model.specs.sky.Sun.{nutation_of, back_by}
 use Rattle.book_model.proofs.Implying.{limits_within}
-use Rattle.width_laws.proofs.Measuring.{measured, measured_argument, sloped, looser, drawn}
+use Rattle.greatest_widths.proofs.Measuring.{measured, measured_argument, sloped, looser, drawn}
 use Rattle.sun_core.specs.Daily.{in_centuries, has_daily, by_centuries, by_days, daily_wave_of}
 use Rattle.sun_core.specs.Steps.{apparent_noon_of, computed_mean_longitude_of, computed_periodic_of, computed_aberration_of, computed_longitude_of}
 use Rattle.sun_core.specs.Widths.{IsObliquity, IsNarrowPlace, IsLocalMoment, IsNearMoment}
@@ -32,42 +32,54 @@ tabled k = table_days 1 (2 ^ 40) 0
 abbrev pub days_of : Expression
 days_of = subtract (argument 0) (constant (fraction_of NOON_2000))
 
-longitude_reach : implies (bound_of (limits_at 56) tabled (computed_longitude_of days_of)) (bounded (neg_ℤ (pos (2 ^ 53))) (pos (2 ^ 53)) 1134696000000 (2 ^ 31)) ≡ true
-unfolding implies bound_of integer_bound constant_bound sum_bound difference_bound scaled_bound product_bound power_bound spanned_bound sine_spans cosine_spans computed_longitude_of computed_mean_longitude_of computed_periodic_of computed_aberration_of nutation_of quadratic_wave_of quadratic_of terms_of terms_to daily_wave_of by_days has_daily by_centuries in_centuries
+longitude_reach : implies (bound_of (limits_at 56) tabled (computed_longitude_of days_of))
+    (bounded (neg_ℤ (pos (2 ^ 53))) (pos (2 ^ 53)) 1134696000000 (2 ^ 31)) ≡ true
+unfolding implies bound_of integer_bound constant_bound sum_bound difference_bound scaled_bound product_bound power_bound spanned_bound sine_spans cosine_spans
+    computed_longitude_of computed_mean_longitude_of computed_periodic_of computed_aberration_of nutation_of quadratic_wave_of quadratic_of terms_of terms_to
+    daily_wave_of by_days has_daily by_centuries in_centuries
 longitude_reach = refl
 
-pub longitude_within : {E : Type 0} (shown : E → Interval) (n v : ℕ) (y : E) → n ≡ 56 → v ≤ 2 ^ 42 → Narrow shown (limits_of n) (record { width = v + 2 ^ 17; bounds = tabled }) (computed_longitude_of days_of) y → IsAbout (2 ^ 90) (2 * v + 2 ^ 32) (shown y)
+pub longitude_within : {E : Type 0} (shown : E → Interval) (n v : ℕ) (y : E) → n ≡ 56 → v ≤ 2 ^ 42
+    → Narrow shown (limits_of n) (record { width = v + 2 ^ 17; bounds = tabled }) (computed_longitude_of days_of) y
+    → IsAbout (2 ^ 90) (2 * v + 2 ^ 32) (shown y)
 longitude_within shown n v y e b h =
     looser _ _ _ _ (2 * v + 2 ^ 32) (2 * v + 2 ^ 32) _ (omega (arith, ints)) (omega (arith, ints)) (omega arith)
-    (measured shown n (v + 2 ^ 17) tabled (computed_longitude_of days_of) (neg_ℤ (pos (2 ^ 53))) (pos (2 ^ 53)) 1134696000000 (2 ^ 31) (2 * v + 2 ^ 32) y e longitude_reach (omega arith) h)
+    (measured shown n (v + 2 ^ 17) tabled (computed_longitude_of days_of) (neg_ℤ (pos (2 ^ 53))) (pos (2 ^ 53)) 1134696000000 (2 ^ 31) (2 * v + 2 ^ 32) y e
+    longitude_reach (omega arith) h)
 
 -- ---- the obliquity
-obliquity_reach : implies (bound_of (limits_at 56) (λ k. table_centuries (2 ^ 40) 0) (cubic_of OBLIQUITY (argument 0))) (bounded (pos (23 * 2 ^ 32)) (pos (24 * 2 ^ 32)) 17000000000 (2 ^ 11)) ≡ true
+obliquity_reach : implies (bound_of (limits_at 56) (λ k. table_centuries (2 ^ 40) 0) (cubic_of OBLIQUITY (argument 0)))
+    (bounded (pos (23 * 2 ^ 32)) (pos (24 * 2 ^ 32)) 17000000000 (2 ^ 11)) ≡ true
 unfolding implies bound_of constant_bound sum_bound scaled_bound product_bound power_bound cubic_of
 obliquity_reach = refl
 
-pub obliquity_within : {E : Type 0} (shown : E → Interval) (n v : ℕ) (c y : E) → n ≡ 56 → AreCenturies v (shown c) → ((r : Reach) (x : Expression) → Narrow shown (limits_of n) r x c → Narrow shown (limits_of n) r (cubic_of OBLIQUITY x) y)
+pub obliquity_within : {E : Type 0} (shown : E → Interval) (n v : ℕ) (c y : E) → n ≡ 56 → AreCenturies v (shown c)
+    → ((r : Reach) (x : Expression) → Narrow shown (limits_of n) r x c → Narrow shown (limits_of n) r (cubic_of OBLIQUITY x) y)
     → IsObliquity v (shown y)
 obliquity_within shown n v c y e h f =
     let b : ℕ → Bound = λ k. table_centuries (2 ^ 40) 0 in
-    measured shown n v b (cubic_of OBLIQUITY (argument 0)) _ _ 17000000000 (2 ^ 11) (v / 64 + 2 ^ 12) y e obliquity_reach (omega arith) (f (record { width = v; bounds = b }) (argument 0) (measured_argument shown (limits_of n) _ _ v 0 c h))
+    measured shown n v b (cubic_of OBLIQUITY (argument 0)) _ _ 17000000000 (2 ^ 11) (v / 64 + 2 ^ 12) y e obliquity_reach (omega arith)
+    (f (record { width = v; bounds = b }) (argument 0) (measured_argument shown (limits_of n) _ _ v 0 c h))
 
 -- ---- how far the sun is past a longitude
 abbrev past_bounds : ℕ → Bound
 past_bounds k = if k == 0 then bounded (pos 0) (pos (360 * 2 ^ 32)) (2 * 2 ^ 40) (2 ^ 32) else bounded (neg_ℤ (pos (2 ^ 58))) (pos (2 ^ 58)) 0 0
 
-past_reach : implies (bound_of (limits_at 56) past_bounds (subtract (argument 0) (argument 1))) (bounded (neg_ℤ (pos (2 ^ 90))) (pos (2 ^ 90)) (2 * 2 ^ 40) (2 ^ 32)) ≡ true
+past_reach : implies (bound_of (limits_at 56) past_bounds (subtract (argument 0) (argument 1)))
+    (bounded (neg_ℤ (pos (2 ^ 90))) (pos (2 ^ 90)) (2 * 2 ^ 40) (2 ^ 32)) ≡ true
 unfolding implies bound_of difference_bound
 past_reach = refl
 
-off_reach : implies (bound_of (limits_at 56) past_bounds (add (subtract (argument 0) (argument 1)) (integer (pos 180)))) (bounded (neg_ℤ (pos (2 ^ 90))) (pos (2 ^ 90)) (2 * 2 ^ 40) (2 ^ 32)) ≡ true
+off_reach : implies (bound_of (limits_at 56) past_bounds (add (subtract (argument 0) (argument 1)) (integer (pos 180))))
+    (bounded (neg_ℤ (pos (2 ^ 90))) (pos (2 ^ 90)) (2 * 2 ^ 40) (2 ^ 32)) ≡ true
 unfolding implies bound_of difference_bound sum_bound integer_bound
 off_reach = refl
 
 abbrev turn_bounds : ℕ → Bound
 turn_bounds k = bounded (pos 0) (pos (360 * 2 ^ 32)) (2 ^ 40) 0
 
-half_reach : implies (bound_of (limits_at 56) turn_bounds (subtract (argument 0) (integer (pos 180)))) (bounded (neg_ℤ (pos (180 * 2 ^ 32))) (pos (180 * 2 ^ 32)) (2 ^ 40) 0) ≡ true
+half_reach : implies (bound_of (limits_at 56) turn_bounds (subtract (argument 0) (integer (pos 180))))
+    (bounded (neg_ℤ (pos (180 * 2 ^ 32))) (pos (180 * 2 ^ 32)) (2 ^ 40) 0) ≡ true
 unfolding implies bound_of difference_bound integer_bound
 half_reach = refl
 
@@ -81,19 +93,25 @@ module _ {E : Type 0} (shown : E → Interval) (n v : ℕ) (s l d : E) (e : n �
         (sloped shown (limits_of n) v 0 past_bounds 1 (neg_ℤ (pos (2 ^ 58))) (pos (2 ^ 58)) 0 0 l refl (omega arith) k)
 
     pub past_within : IsAbout (2 ^ 90) (2 * v + 2 ^ 32) (shown d)
-    past_within = measured shown n v past_bounds (subtract (argument 0) (argument 1)) _ _ (2 * 2 ^ 40) (2 ^ 32) (2 * v + 2 ^ 32) d e past_reach (omega arith) past_kept
+    past_within = measured shown n v past_bounds (subtract (argument 0) (argument 1)) _ _ (2 * 2 ^ 40) (2 ^ 32) (2 * v + 2 ^ 32) d e past_reach (omega arith)
+        past_kept
 
-    pub off_within : (half z : E) → ((r : Reach) → Narrow shown (limits_of n) r (integer (pos 180)) half) → ((r : Reach) (p q : Expression) → Narrow shown (limits_of n) r p d → Narrow shown (limits_of n) r q half → Narrow shown (limits_of n) r (add p q) z)
+    pub off_within : (half z : E) → ((r : Reach) → Narrow shown (limits_of n) r (integer (pos 180)) half)
+        → ((r : Reach) (p q : Expression) → Narrow shown (limits_of n) r p d → Narrow shown (limits_of n) r q half → Narrow shown (limits_of n) r (add p q) z)
         → IsAbout (2 ^ 90) (2 * v + 2 ^ 32) (shown z)
     off_within half z i g =
-        measured shown n v past_bounds (add (subtract (argument 0) (argument 1)) (integer (pos 180))) _ _ (2 * 2 ^ 40) (2 ^ 32) (2 * v + 2 ^ 32) z e off_reach (omega arith)
+        measured shown n v past_bounds (add (subtract (argument 0) (argument 1)) (integer (pos 180))) _ _ (2 * 2 ^ 40) (2 ^ 32) (2 * v + 2 ^ 32) z e off_reach
+        (omega arith)
         (g (record { width = v; bounds = past_bounds }) _ _ past_kept (i (record { width = v; bounds = past_bounds })))
 
-pub half_off : {E : Type 0} (shown : E → Interval) (n v : ℕ) (x half d : E) → n ≡ 56 → IsUpTo 360 v (shown x) → ((r : Reach) → Narrow shown (limits_of n) r (integer (pos 180)) half)
-    → ((r : Reach) (p q : Expression) → Narrow shown (limits_of n) r p x → Narrow shown (limits_of n) r q half → Narrow shown (limits_of n) r (subtract p q) d) → IsAbout (180 * 2 ^ 32) v (shown d)
+pub half_off : {E : Type 0} (shown : E → Interval) (n v : ℕ) (x half d : E) → n ≡ 56 → IsUpTo 360 v (shown x)
+    → ((r : Reach) → Narrow shown (limits_of n) r (integer (pos 180)) half)
+    → ((r : Reach) (p q : Expression) → Narrow shown (limits_of n) r p x → Narrow shown (limits_of n) r q half → Narrow shown (limits_of n) r (subtract p q) d)
+    → IsAbout (180 * 2 ^ 32) v (shown d)
 half_off shown n v x half d e h i f =
     let r : Reach = record { width = v; bounds = turn_bounds } in
-    measured shown n v turn_bounds (subtract (argument 0) (integer (pos 180))) _ _ (2 ^ 40) 0 v d e half_reach (omega arith) (f r (argument 0) _ (measured_argument shown (limits_of n) _ _ v 0 x h) (i r))
+    measured shown n v turn_bounds (subtract (argument 0) (integer (pos 180))) _ _ (2 ^ 40) 0 v d e half_reach (omega arith)
+    (f r (argument 0) _ (measured_argument shown (limits_of n) _ _ v 0 x h) (i r))
 
 -- ---- the estimate: the moment, the moment found first, and what the sun is still off there
 abbrev moments_bounds : ℕ → Bound
@@ -103,11 +121,13 @@ moments_bounds k =
     else (if k == 2 then bounded (neg_ℤ (pos (2 ^ 52))) (pos (2 ^ 52)) (13 * 2 ^ 38) (2 ^ 33)
     else bounded (neg_ℤ (pos (180 * 2 ^ 32))) (pos (180 * 2 ^ 32)) (13 * 2 ^ 39) (5 * 2 ^ 32)))
 
-back_reach : implies (bound_of (limits_at 56) moments_bounds (back_by (argument 1) (argument 0))) (bounded (neg_ℤ (pos (2 ^ 52))) (pos (2 ^ 52)) (13 * 2 ^ 38 - 2 ^ 37) (2 ^ 33 - 2 ^ 20)) ≡ true
+back_reach : implies (bound_of (limits_at 56) moments_bounds (back_by (argument 1) (argument 0)))
+    (bounded (neg_ℤ (pos (2 ^ 52))) (pos (2 ^ 52)) (13 * 2 ^ 38 - 2 ^ 37) (2 ^ 33 - 2 ^ 20)) ≡ true
 unfolding implies bound_of difference_bound scaled_bound back_by
 back_reach = refl
 
-estimate_reach : implies (bound_of (limits_at 56) moments_bounds (minimum (argument 0) (back_by (argument 3) (argument 2)))) (bounded (neg_ℤ (pos (2 ^ 58))) (pos (2 ^ 58)) (10 * 2 ^ 40) (2 ^ 35)) ≡ true
+estimate_reach : implies (bound_of (limits_at 56) moments_bounds (minimum (argument 0) (back_by (argument 3) (argument 2))))
+    (bounded (neg_ℤ (pos (2 ^ 58))) (pos (2 ^ 58)) (10 * 2 ^ 40) (2 ^ 35)) ≡ true
 unfolding implies bound_of difference_bound scaled_bound minimum_bound back_by
 estimate_reach = refl
 
@@ -115,33 +135,45 @@ module _ {E : Type 0} (shown : E → Interval) (n v : ℕ) (t : E) (e : n ≡ 56
   moment_kept : Narrow shown (limits_of n) (record { width = v; bounds = moments_bounds }) (argument 0) t
   moment_kept = sloped shown (limits_of n) v v moments_bounds 0 (table_from 0) (table_to 0) (2 ^ 40) 0 t refl (omega arith) (drawn _ _ _ _ v (shown t) i h)
 
-  pub back_within : (p x : E) → IsUpTo 360 (2 * v + 2 ^ 32) (shown p) → ((r : Reach) (a b : Expression) → Narrow shown (limits_of n) r a p → Narrow shown (limits_of n) r b t → Narrow shown (limits_of n) r (back_by a b) x)
+  pub back_within : (p x : E) → IsUpTo 360 (2 * v + 2 ^ 32) (shown p)
+      → ((r : Reach) (a b : Expression) → Narrow shown (limits_of n) r a p → Narrow shown (limits_of n) r b t → Narrow shown (limits_of n) r (back_by a b) x)
       → IsNearMoment (3 * v + v / 4 + 2 ^ 33) (shown x)
   back_within p x k f =
-      measured shown n v moments_bounds (back_by (argument 1) (argument 0)) _ _ (13 * 2 ^ 38 - 2 ^ 37) (2 ^ 33 - 2 ^ 20) (3 * v + v / 4 + 2 ^ 33) x e back_reach (omega arith)
+      measured shown n v moments_bounds (back_by (argument 1) (argument 0)) _ _ (13 * 2 ^ 38 - 2 ^ 37) (2 ^ 33 - 2 ^ 20) (3 * v + v / 4 + 2 ^ 33) x e back_reach
+      (omega arith)
       (f (record { width = v; bounds = moments_bounds }) (argument 1) (argument 0)
       (sloped shown (limits_of n) v (2 * v + 2 ^ 32) moments_bounds 1 (pos 0) (pos (360 * 2 ^ 32)) (2 * 2 ^ 40) (2 ^ 32) p refl (omega arith) k) moment_kept)
 
-  pub estimate_within : (near rest x m : E) → IsNearMoment (3 * v + v / 4 + 2 ^ 33) (shown near) → IsAbout (180 * 2 ^ 32) (2 * (3 * v + v / 4 + 2 ^ 33) + 2 ^ 32) (shown rest)
-      → ((r : Reach) (a b : Expression) → Narrow shown (limits_of n) r a rest → Narrow shown (limits_of n) r b near → Narrow shown (limits_of n) r (back_by a b) x)
-      → ((r : Reach) (a b : Expression) → Narrow shown (limits_of n) r a t → Narrow shown (limits_of n) r b x → Narrow shown (limits_of n) r (minimum a b) m) → IsMoment (10 * v + 2 ^ 35) (shown m)
+  pub estimate_within : (near rest x m : E) → IsNearMoment (3 * v + v / 4 + 2 ^ 33) (shown near)
+      → IsAbout (180 * 2 ^ 32) (2 * (3 * v + v / 4 + 2 ^ 33) + 2 ^ 32) (shown rest)
+      → ((r : Reach) (a b : Expression) → Narrow shown (limits_of n) r a rest → Narrow shown (limits_of n) r b near
+      → Narrow shown (limits_of n) r (back_by a b) x)
+      → ((r : Reach) (a b : Expression) → Narrow shown (limits_of n) r a t → Narrow shown (limits_of n) r b x → Narrow shown (limits_of n) r (minimum a b) m)
+      → IsMoment (10 * v + 2 ^ 35) (shown m)
   estimate_within near rest x m k o f g =
       let r : Reach = record { width = v; bounds = moments_bounds } in
-      measured shown n v moments_bounds (minimum (argument 0) (back_by (argument 3) (argument 2))) _ _ (10 * 2 ^ 40) (2 ^ 35) (10 * v + 2 ^ 35) m e estimate_reach (omega arith)
+      measured shown n v moments_bounds (minimum (argument 0) (back_by (argument 3) (argument 2))) _ _ (10 * 2 ^ 40) (2 ^ 35) (10 * v + 2 ^ 35) m e
+      estimate_reach (omega arith)
       (g r _ _ moment_kept
       (f r (argument 3) (argument 2)
-      (sloped shown (limits_of n) v (2 * (3 * v + v / 4 + 2 ^ 33) + 2 ^ 32) moments_bounds 3 (neg_ℤ (pos (180 * 2 ^ 32))) (pos (180 * 2 ^ 32)) (13 * 2 ^ 39) (5 * 2 ^ 32) rest refl (omega arith) o)
-      (sloped shown (limits_of n) v (3 * v + v / 4 + 2 ^ 33) moments_bounds 2 (neg_ℤ (pos (2 ^ 52))) (pos (2 ^ 52)) (13 * 2 ^ 38) (2 ^ 33) near refl (omega arith) k)))
+      (sloped shown (limits_of n) v (2 * (3 * v + v / 4 + 2 ^ 33) + 2 ^ 32) moments_bounds 3 (neg_ℤ (pos (180 * 2 ^ 32))) (pos (180 * 2 ^ 32)) (13 * 2 ^ 39)
+      (5 * 2 ^ 32) rest refl (omega arith) o)
+      (sloped shown (limits_of n) v (3 * v + v / 4 + 2 ^ 33) moments_bounds 2 (neg_ℤ (pos (2 ^ 52))) (pos (2 ^ 52)) (13 * 2 ^ 38) (2 ^ 33) near refl
+      (omega arith) k)))
 
 pub near_moment : (v : ℕ) (i : Interval) → IsNearMoment v i → IsMoment v i
 near_moment v i h = looser _ _ _ _ v v i (omega (arith, ints)) (omega (arith, ints)) (omega arith) h
 
 -- ---- the equation of time
-equation_reach : implies (bound_of (limits_at 56) (λ k. table_centuries (2 ^ 40) 0) (equation_of (argument 0))) (bounded (neg_ℤ (pos (2 ^ 31))) (pos (2 ^ 31)) (80 * 2 ^ 40) (2 ^ 28)) ≡ true
-unfolding implies bound_of integer_bound constant_bound sum_bound difference_bound scaled_bound product_bound power_bound quotient_bound minimum_bound maximum_bound spanned_bound sine_spans cosine_spans equation_of tilt_of reduction_of centre_of joint_of second_reduction_of second_centre_of radians_of part_of_day quadratic_of cubic_of
+equation_reach : implies (bound_of (limits_at 56) (λ k. table_centuries (2 ^ 40) 0) (equation_of (argument 0)))
+    (bounded (neg_ℤ (pos (2 ^ 31))) (pos (2 ^ 31)) (80 * 2 ^ 40) (2 ^ 28)) ≡ true
+unfolding implies bound_of integer_bound constant_bound sum_bound difference_bound scaled_bound product_bound power_bound quotient_bound minimum_bound
+    maximum_bound spanned_bound sine_spans cosine_spans equation_of tilt_of reduction_of centre_of joint_of second_reduction_of second_centre_of radians_of
+    part_of_day quadratic_of cubic_of
 equation_reach = refl
 
-pub equation_within : {E : Type 0} (shown : E → Interval) (n v : ℕ) (c y : E) → n ≡ 56 → v ≤ 2 ^ 42 → AreCenturies (v / 36525 + 2 ^ 12) (shown c) → ((r : Reach) (x : Expression) → Narrow shown (limits_of n) r x c → Narrow shown (limits_of n) r (equation_of x) y)
+pub equation_within : {E : Type 0} (shown : E → Interval) (n v : ℕ) (c y : E) → n ≡ 56 → v ≤ 2 ^ 42 → AreCenturies (v / 36525 + 2 ^ 12) (shown c)
+    → ((r : Reach) (x : Expression) → Narrow shown (limits_of n) r x c → Narrow shown (limits_of n) r (equation_of x) y)
     → IsAbout (2 ^ 31) (v / 100 + 2 ^ 30) (shown y)
 equation_within shown n v c y e b h f =
     let g : ℕ → Bound = λ k. table_centuries (2 ^ 40) 0 in
@@ -149,8 +181,10 @@ equation_within shown n v c y e b h f =
     (f (record { width = v / 36525 + 2 ^ 12; bounds = g }) (argument 0) (measured_argument shown (limits_of n) _ _ (v / 36525 + 2 ^ 12) 0 c h))
 
 -- ---- apparent time: a moment, what local time is ahead, and the equation of time
-pub ahead_within : {E : Type 0} (shown : E → Interval) (n : ℕ) (l : Frac) (a : E) → n ≡ 56 → IsNarrowPlace l → ((r : Reach) → Narrow shown (limits_of n) r (ahead_of (fraction_of l)) a) → IsAbout (2 ^ 32) (2 ^ 10) (shown a)
-ahead_within shown n l a e p f = measured shown n 0 (λ k. unbounded) (ahead_of (fraction_of l)) _ _ 0 (2 ^ 10) (2 ^ 10) a e p.narrow (omega arith) (f (record { width = 0; bounds = λ k. unbounded }))
+pub ahead_within : {E : Type 0} (shown : E → Interval) (n : ℕ) (l : Frac) (a : E) → n ≡ 56 → IsNarrowPlace l
+    → ((r : Reach) → Narrow shown (limits_of n) r (ahead_of (fraction_of l)) a) → IsAbout (2 ^ 32) (2 ^ 10) (shown a)
+ahead_within shown n l a e p f = measured shown n 0 (λ k. unbounded) (ahead_of (fraction_of l)) _ _ 0 (2 ^ 10) (2 ^ 10) a e p.narrow (omega arith)
+    (f (record { width = 0; bounds = λ k. unbounded }))
 
 abbrev apparent_bounds : ℕ → Bound
 apparent_bounds k =
@@ -158,11 +192,13 @@ apparent_bounds k =
     else (if k == 1 then bounded (neg_ℤ (pos (2 ^ 32))) (pos (2 ^ 32)) 0 (2 ^ 10)
     else bounded (neg_ℤ (pos (2 ^ 31))) (pos (2 ^ 31)) 11000000000 (2 ^ 30 + 2 ^ 20))
 
-universal_reach : implies (bound_of (limits_at 56) apparent_bounds (subtract (argument 0) (argument 1))) (bounded (neg_ℤ (pos (2 ^ 58))) (pos (2 ^ 58)) (2 ^ 40) (2 ^ 10)) ≡ true
+universal_reach : implies (bound_of (limits_at 56) apparent_bounds (subtract (argument 0) (argument 1)))
+    (bounded (neg_ℤ (pos (2 ^ 58))) (pos (2 ^ 58)) (2 ^ 40) (2 ^ 10)) ≡ true
 unfolding implies bound_of difference_bound
 universal_reach = refl
 
-mean_reach : implies (bound_of (limits_at 56) apparent_bounds (subtract (argument 0) (argument 2))) (bounded (neg_ℤ (pos (2 ^ 58 - 2 ^ 33))) (pos (2 ^ 58 - 2 ^ 33)) (2 ^ 40 + 11000000000) (2 ^ 30 + 2 ^ 20)) ≡ true
+mean_reach : implies (bound_of (limits_at 56) apparent_bounds (subtract (argument 0) (argument 2)))
+    (bounded (neg_ℤ (pos (2 ^ 58 - 2 ^ 33))) (pos (2 ^ 58 - 2 ^ 33)) (2 ^ 40 + 11000000000) (2 ^ 30 + 2 ^ 20)) ≡ true
 unfolding implies bound_of difference_bound
 mean_reach = refl
 
@@ -170,34 +206,44 @@ module _ {E : Type 0} (shown : E → Interval) (n v : ℕ) (t : E) (e : n ≡ 56
   local_kept : Narrow shown (limits_of n) (record { width = v; bounds = apparent_bounds }) (argument 0) t
   local_kept = sloped shown (limits_of n) v v apparent_bounds 0 (neg_ℤ (pos (2 ^ 58 - 2 ^ 34))) (pos (2 ^ 58 - 2 ^ 34)) (2 ^ 40) 0 t refl (omega arith) h
 
-  pub universal_within : (a u : E) → IsAbout (2 ^ 32) (2 ^ 10) (shown a) → ((r : Reach) (p q : Expression) → Narrow shown (limits_of n) r p t → Narrow shown (limits_of n) r q a → Narrow shown (limits_of n) r (subtract p q) u) → IsMoment (v + 2 ^ 10) (shown u)
+  pub universal_within : (a u : E) → IsAbout (2 ^ 32) (2 ^ 10) (shown a)
+      → ((r : Reach) (p q : Expression) → Narrow shown (limits_of n) r p t → Narrow shown (limits_of n) r q a → Narrow shown (limits_of n) r (subtract p q) u)
+      → IsMoment (v + 2 ^ 10) (shown u)
   universal_within a u k f =
       measured shown n v apparent_bounds (subtract (argument 0) (argument 1)) _ _ (2 ^ 40) (2 ^ 10) (v + 2 ^ 10) u e universal_reach (omega arith)
-      (f (record { width = v; bounds = apparent_bounds }) (argument 0) (argument 1) local_kept (sloped shown (limits_of n) v (2 ^ 10) apparent_bounds 1 (neg_ℤ (pos (2 ^ 32))) (pos (2 ^ 32)) 0 (2 ^ 10) a refl (omega arith) k))
+      (f (record { width = v; bounds = apparent_bounds }) (argument 0) (argument 1) local_kept
+      (sloped shown (limits_of n) v (2 ^ 10) apparent_bounds 1 (neg_ℤ (pos (2 ^ 32))) (pos (2 ^ 32)) 0 (2 ^ 10) a refl (omega arith) k))
 
-  pub mean_within : (q m : E) → v ≤ 2 ^ 41 → IsAbout (2 ^ 31) ((v + 2 ^ 10) / 100 + 2 ^ 30) (shown q) → ((r : Reach) (x y : Expression) → Narrow shown (limits_of n) r x t → Narrow shown (limits_of n) r y q → Narrow shown (limits_of n) r (subtract x y) m)
+  pub mean_within : (q m : E) → v ≤ 2 ^ 41 → IsAbout (2 ^ 31) ((v + 2 ^ 10) / 100 + 2 ^ 30) (shown q)
+      → ((r : Reach) (x y : Expression) → Narrow shown (limits_of n) r x t → Narrow shown (limits_of n) r y q → Narrow shown (limits_of n) r (subtract x y) m)
       → IsAbout (2 ^ 58 - 2 ^ 33) (v + v / 100 + 3 * 2 ^ 29) (shown m)
   mean_within q m b k f =
-      measured shown n v apparent_bounds (subtract (argument 0) (argument 2)) _ _ (2 ^ 40 + 11000000000) (2 ^ 30 + 2 ^ 20) (v + v / 100 + 3 * 2 ^ 29) m e mean_reach (omega arith)
+      measured shown n v apparent_bounds (subtract (argument 0) (argument 2)) _ _ (2 ^ 40 + 11000000000) (2 ^ 30 + 2 ^ 20) (v + v / 100 + 3 * 2 ^ 29) m e
+      mean_reach (omega arith)
       (f (record { width = v; bounds = apparent_bounds }) (argument 0) (argument 2) local_kept
-      (sloped shown (limits_of n) v ((v + 2 ^ 10) / 100 + 2 ^ 30) apparent_bounds 2 (neg_ℤ (pos (2 ^ 31))) (pos (2 ^ 31)) 11000000000 (2 ^ 30 + 2 ^ 20) q refl (omega arith) k))
+      (sloped shown (limits_of n) v ((v + 2 ^ 10) / 100 + 2 ^ 30) apparent_bounds 2 (neg_ℤ (pos (2 ^ 31))) (pos (2 ^ 31)) 11000000000 (2 ^ 30 + 2 ^ 20) q refl
+      (omega arith) k))
 
 -- ---- noon at Tehran
-tehran_reach : implies (bound_of (limits_at 56) (λ k. unbounded) (ahead_of (fraction_of PERSIAN_NOON_LONGITUDE))) (bounded (neg_ℤ (pos (2 ^ 32))) (pos (2 ^ 32)) 0 (2 ^ 10)) ≡ true
+tehran_reach : implies (bound_of (limits_at 56) (λ k. unbounded) (ahead_of (fraction_of PERSIAN_NOON_LONGITUDE)))
+    (bounded (neg_ℤ (pos (2 ^ 32))) (pos (2 ^ 32)) 0 (2 ^ 10)) ≡ true
 unfolding implies bound_of constant_bound scaled_bound ahead_of
 tehran_reach = refl
 
 pub tehran_is_narrow : IsNarrowPlace PERSIAN_NOON_LONGITUDE
 tehran_is_narrow = record { narrow = tehran_reach }
 
-noon_bound : (d : ℤ) → IsFactDay d → bound_of (limits_at 56) (λ k. unbounded) (apparent_noon_of d) ≡ bounded (d *ℤ pos (2 ^ 32) +ℤ pos (2 ^ 31)) (d *ℤ pos (2 ^ 32) +ℤ pos (2 ^ 31)) 0 (2 ^ 8)
+noon_bound : (d : ℤ) → IsFactDay d → bound_of (limits_at 56) (λ k. unbounded) (apparent_noon_of d)
+    ≡ bounded (d *ℤ pos (2 ^ 32) +ℤ pos (2 ^ 31)) (d *ℤ pos (2 ^ 32) +ℤ pos (2 ^ 31)) 0 (2 ^ 8)
 unfolding bound_of integer_bound constant_bound sum_bound apparent_noon_of
 noon_bound d h =
     let p : nat_lt (unsigned_abs d * 2 ^ 32) (2 ^ 100) ≡ true = lt-ltb _ _ (omega (arith, ints, h.0, h.1)) in
-    let q : nat_lt (max (unsigned_abs (d *ℤ pos (2 ^ 32) +ℤ pos (2 ^ 31))) (unsigned_abs (d *ℤ pos (2 ^ 32) +ℤ pos (2 ^ 31)))) (2 ^ 100) ≡ true = lt-ltb _ _ (omega (arith, ints, h.0, h.1)) in
+    let q : nat_lt (max (unsigned_abs (d *ℤ pos (2 ^ 32) +ℤ pos (2 ^ 31))) (unsigned_abs (d *ℤ pos (2 ^ 32) +ℤ pos (2 ^ 31)))) (2 ^ 100)
+    ≡ true = lt-ltb _ _ (omega (arith, ints, h.0, h.1)) in
     rw (p, q) refl
 
-pub noon_within : {E : Type 0} (shown : E → Interval) (n : ℕ) (d : ℤ) (x : E) → n ≡ 56 → IsFactDay d → ((r : Reach) → Narrow shown (limits_of n) r (apparent_noon_of d) x) → IsLocalMoment (2 ^ 8) (shown x)
+pub noon_within : {E : Type 0} (shown : E → Interval) (n : ℕ) (d : ℤ) (x : E) → n ≡ 56 → IsFactDay d
+    → ((r : Reach) → Narrow shown (limits_of n) r (apparent_noon_of d) x) → IsLocalMoment (2 ^ 8) (shown x)
 unfolding Keeps
 noon_within shown n d x e h f =
     let l = limits_within n (omega arith) (omega arith) in
@@ -206,16 +252,21 @@ noon_within shown n d x e h f =
     looser _ _ _ _ (2 ^ 8) (2 ^ 8) _ (omega (arith, ints, h.0)) (omega (arith, ints, h.1)) (omega arith) (record { kept = rw (l, e, b) at z.kept })
 
 abbrev noon_bounds : ℕ → Bound
-noon_bounds k = if k == 0 then bounded (neg_ℤ (pos (2 ^ 58 - 2 ^ 33))) (pos (2 ^ 58 - 2 ^ 33)) 0 (2 ^ 8 + 2 + 3 * 2 ^ 29) else bounded (neg_ℤ (pos (2 ^ 32))) (pos (2 ^ 32)) 0 (2 ^ 10)
+noon_bounds k = if k == 0 then bounded (neg_ℤ (pos (2 ^ 58 - 2 ^ 33))) (pos (2 ^ 58 - 2 ^ 33)) 0 (2 ^ 8 + 2 + 3 * 2 ^ 29) else bounded (neg_ℤ (pos (2 ^ 32)))
+    (pos (2 ^ 32)) 0 (2 ^ 10)
 
-noon_reach : implies (bound_of (limits_at 56) noon_bounds (subtract (argument 0) (argument 1))) (bounded (neg_ℤ (pos (2 ^ 58))) (pos (2 ^ 58)) 0 (2 ^ 31)) ≡ true
+noon_reach : implies (bound_of (limits_at 56) noon_bounds (subtract (argument 0) (argument 1))) (bounded (neg_ℤ (pos (2 ^ 58))) (pos (2 ^ 58)) 0 (2 ^ 31))
+    ≡ true
 unfolding implies bound_of difference_bound
 noon_reach = refl
 
-pub noon_found : {E : Type 0} (shown : E → Interval) (n : ℕ) (x a m : E) → n ≡ 56 → IsAbout (2 ^ 58 - 2 ^ 33) (2 ^ 8 + 2 ^ 8 / 100 + 3 * 2 ^ 29) (shown x) → IsAbout (2 ^ 32) (2 ^ 10) (shown a)
-    → ((r : Reach) (p q : Expression) → Narrow shown (limits_of n) r p x → Narrow shown (limits_of n) r q a → Narrow shown (limits_of n) r (subtract p q) m) → IsMoment (2 ^ 31) (shown m)
+pub noon_found : {E : Type 0} (shown : E → Interval) (n : ℕ) (x a m : E) → n ≡ 56 → IsAbout (2 ^ 58 - 2 ^ 33) (2 ^ 8 + 2 ^ 8 / 100 + 3 * 2 ^ 29) (shown x)
+    → IsAbout (2 ^ 32) (2 ^ 10) (shown a)
+    → ((r : Reach) (p q : Expression) → Narrow shown (limits_of n) r p x → Narrow shown (limits_of n) r q a → Narrow shown (limits_of n) r (subtract p q) m)
+    → IsMoment (2 ^ 31) (shown m)
 noon_found shown n x a m e h k f =
     measured shown n 0 noon_bounds (subtract (argument 0) (argument 1)) _ _ 0 (2 ^ 31) (2 ^ 31) m e noon_reach (omega arith)
     (f (record { width = 0; bounds = noon_bounds }) (argument 0) (argument 1)
-    (sloped shown (limits_of n) 0 (2 ^ 8 + 2 ^ 8 / 100 + 3 * 2 ^ 29) noon_bounds 0 (neg_ℤ (pos (2 ^ 58 - 2 ^ 33))) (pos (2 ^ 58 - 2 ^ 33)) 0 (2 ^ 8 + 2 + 3 * 2 ^ 29) x refl (omega arith) h)
+    (sloped shown (limits_of n) 0 (2 ^ 8 + 2 ^ 8 / 100 + 3 * 2 ^ 29) noon_bounds 0 (neg_ℤ (pos (2 ^ 58 - 2 ^ 33))) (pos (2 ^ 58 - 2 ^ 33)) 0
+    (2 ^ 8 + 2 + 3 * 2 ^ 29) x refl (omega arith) h)
     (sloped shown (limits_of n) 0 (2 ^ 10) noon_bounds 1 (neg_ℤ (pos (2 ^ 32))) (pos (2 ^ 32)) 0 (2 ^ 10) a refl (omega arith) k))

@@ -24,9 +24,11 @@ use Rattle.book_model.proofs.Values.{value_proper}
 pub days_few : (n days : ℕ) (test : ℤ → Program Bool) (day : ℤ) → ((d : ℤ) → AtMost n (test d)) → AtMost (days * n) (first_of_days days test day)
 unfolding first_of_days
 days_few n zero test day h = void_at_most
-days_few n (suc more) test day h = at_most_more (n + more * n) (suc more * n) (omega arith) (at_most_bind n (more * n) (h day) (λ yes. next yes (days_few n more test (day +ℤ pos 1) h)))
+days_few n (suc more) test day h = at_most_more (n + more * n) (suc more * n) (omega arith)
+    (at_most_bind n (more * n) (h day) (λ yes. next yes (days_few n more test (day +ℤ pos 1) h)))
   where
-    next : (yes : Bool) → AtMost (more * n) (first_of_days more test (day +ℤ pos 1)) → AtMost (more * n) (cond yes (answer day) (first_of_days more test (day +ℤ pos 1)))
+    next : (yes : Bool) → AtMost (more * n) (first_of_days more test (day +ℤ pos 1))
+        → AtMost (more * n) (cond yes (answer day) (first_of_days more test (day +ℤ pos 1)))
     next true rest = answer_at_most
     next false rest = rest
 
@@ -36,7 +38,8 @@ unfolding is_on_side_of
 side_few (UpTo l) s = compare_at_most (λ more. answer_at_most)
 side_few (Past l) s = compare_at_most (λ past. answer_at_most)
 
-pub has_side_few : (n : ℕ) (moment : ℤ → Program Expression) (side : Side) → ((d : ℤ) → AtMost n (moment d)) → (d : ℤ) → AtMost (n + 2 + 1) (has_side_at moment side d)
+pub has_side_few : (n : ℕ) (moment : ℤ → Program Expression) (side : Side) → ((d : ℤ) → AtMost n (moment d)) → (d : ℤ)
+    → AtMost (n + 2 + 1) (has_side_at moment side d)
 unfolding has_side_at longitude_at_of
 has_side_few n moment side h d = at_most_bind (n + 2) 1 (at_most_bind n 2 (h d) sun_few) (side_few side)
 
@@ -44,11 +47,13 @@ start_few : (n : ℕ) (moment : ℤ → Program Expression) (l : ℤ) → ((d : 
 unfolding search_start_of last_passage_of
 start_few n moment l h d = at_most_bind (n + 6) 1 (at_most_bind n 6 (h d) (estimate_few (integer l))) (λ s. cell_at_most (λ q. answer_at_most))
 
-pub season_day_few : (n : ℕ) (moment : ℤ → Program Expression) (season : Season) → ((d : ℤ) → AtMost n (moment d)) → n ≤ 1000 → (d : ℤ) → AtMost 99999 (season_day_of moment season d)
+pub season_day_few : (n : ℕ) (moment : ℤ → Program Expression) (season : Season) → ((d : ℤ) → AtMost n (moment d)) → n ≤ 1000 → (d : ℤ)
+    → AtMost 99999 (season_day_of moment season d)
 unfolding season_day_of first_day_from
 season_day_few n moment season h l d =
     at_most_more (n + 6 + 1 + 46 * (n + 2 + 1)) 99999 (omega (arith, l))
-    (at_most_bind (n + 6 + 1) (46 * (n + 2 + 1)) (start_few n moment season.longitude h d) (λ q. days_few (n + 2 + 1) 46 (has_side_at moment season.side) (q -ℤ pos 1) (has_side_few n moment season.side h)))
+    (at_most_bind (n + 6 + 1) (46 * (n + 2 + 1)) (start_few n moment season.longitude h d)
+    (λ q. days_few (n + 2 + 1) 46 (has_side_at moment season.side) (q -ℤ pos 1) (has_side_few n moment season.side h)))
 
 pub nowruz_few : (d : ℤ) → AtMost 99999 (nowruz_of d)
 nowruz_few d = season_day_few 1 noon_of SPRING noon_few (omega arith) d
@@ -60,7 +65,8 @@ pub record IsEstimate (q : ℤ) : Type 0 where
   pub from : (TABLE_START -ℤ pos 579) ≤ℤ q
   pub to : q ≤ℤ TABLE_END
 
-pub search_start_near : (w : World) (moment : ℤ → Program Expression) (l d q : ℤ) (s : Expression) → outcome (run w (last_passage_of moment l d)) ≡ valued s → cell_at integers (value w s) ≡ Some q → IsEstimate q
+pub search_start_near : (w : World) (moment : ℤ → Program Expression) (l d q : ℤ) (s : Expression) → outcome (run w (last_passage_of moment l d)) ≡ valued s
+    → cell_at integers (value w s) ≡ Some q → IsEstimate q
 unfolding last_passage_of estimate_of past_of sun_of
 search_start_near w moment l d q s h e =
     let m = parts w (moment d) (estimate_of (integer l)) s h in

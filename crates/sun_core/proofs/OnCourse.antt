@@ -30,11 +30,13 @@ pub answer_decided : {A : Type 0} (p : Program A) (m n : ℕ) (r : Result A Fail
 answer_decided p m n (Ok t) h = h
 answer_decided p m n (Err z) h = tt
 
-pub answer_decided_at : {A E : Type 0} (shown : E → Interval) (p : Expression → Program A) (a : E) (m n : ℕ) (r : Result A Fail) → Decides1 shown p a m n r → IfOk r (λ t. Decides1 shown p a m n (Ok t))
+pub answer_decided_at : {A E : Type 0} (shown : E → Interval) (p : Expression → Program A) (a : E) (m n : ℕ) (r : Result A Fail) → Decides1 shown p a m n r
+    → IfOk r (λ t. Decides1 shown p a m n (Ok t))
 answer_decided_at shown p a m n (Ok t) h = h
 answer_decided_at shown p a m n (Err z) h = tt
 
-pub answer_follows : {E : Type 0} (shown : E → Interval) (p : Expression → Program Expression) (a : E) (m n : ℕ) (r : Result E Fail) → Follows1 shown p a m n r → IfOk r (λ e. Follows1 shown p a m n (Ok e))
+pub answer_follows : {E : Type 0} (shown : E → Interval) (p : Expression → Program Expression) (a : E) (m n : ℕ) (r : Result E Fail) → Follows1 shown p a m n r
+    → IfOk r (λ e. Follows1 shown p a m n (Ok e))
 answer_follows shown p a m n (Ok e) h = h
 answer_follows shown p a m n (Err z) h = tt
 
@@ -42,6 +44,8 @@ answer_follows shown p a m n (Err z) h = tt
 waves_parted : slice_range SUN_WAVES 0 GREATEST_WAVES ++ slice_range SUN_WAVES GREATEST_WAVES (length SUN_WAVES) ≡ SUN_WAVES
 waves_parted = refl
 
-pub all_waves : {E : Type 0} {shown : E → Interval} {w : World} {e : E} (x : Expression) → Within shown w (add (greatest_waves_of x) (other_waves_of x)) e → Within shown w (waves_of SUN_WAVES (in_centuries x)) e
+pub all_waves : {E : Type 0} {shown : E → Interval} {w : World} {e : E} (x : Expression) → Within shown w (add (greatest_waves_of x) (other_waves_of x)) e
+    → Within shown w (waves_of SUN_WAVES (in_centuries x)) e
 unfolding greatest_waves_of other_waves_of
-all_waves x h = rw waves_parted at (parted (wave_of (in_centuries x)) no_wave (slice_range SUN_WAVES 0 GREATEST_WAVES) (slice_range SUN_WAVES GREATEST_WAVES (length SUN_WAVES)) h)
+all_waves x h = rw waves_parted at (parted (wave_of (in_centuries x)) no_wave (slice_range SUN_WAVES 0 GREATEST_WAVES)
+    (slice_range SUN_WAVES GREATEST_WAVES (length SUN_WAVES)) h)

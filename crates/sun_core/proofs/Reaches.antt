@@ -10,5 +10,7 @@ use Rattle.sun_core.specs.Steps.{computed_mean_longitude_of, computed_periodic_o
 use Rattle.sun_core.specs.Widths.{days_of_years, longitude_bound}
 
 pub longitude_reaches : implies (bound_of limits_36 days_of_years (computed_longitude_of (argument 0))) longitude_bound ≡ true
-unfolding implies bound_of integer_bound constant_bound sum_bound difference_bound scaled_bound product_bound power_bound spanned_bound sine_spans cosine_spans computed_longitude_of computed_mean_longitude_of computed_periodic_of computed_aberration_of nutation_of quadratic_wave_of quadratic_of terms_of terms_to daily_wave_of by_days has_daily by_centuries in_centuries
+unfolding implies bound_of integer_bound constant_bound sum_bound difference_bound scaled_bound product_bound power_bound spanned_bound sine_spans cosine_spans
+    computed_longitude_of computed_mean_longitude_of computed_periodic_of computed_aberration_of nutation_of quadratic_wave_of quadratic_of terms_of terms_to
+    daily_wave_of by_days has_daily by_centuries in_centuries
 longitude_reaches = refl

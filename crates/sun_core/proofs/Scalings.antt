@@ -27,11 +27,13 @@ twice_member : (i : Interval) (a b f x : Fraction) → times a b ≈ f → IsMem
 twice_member i a b f x e m =
     let first = product_holds i (exactly a) x a m (le_refl a, le_refl a) in
     let second = product_holds (product i (exactly a)) (exactly b) (times x a) b first (le_refl b, le_refl b) in
-    let same : times (times x a) b ≈ times x f = same_trans (same_by (x ∷ a ∷ b ∷ []) ((at 0 ⊗ at 1) ⊗ at 2) (at 0 ⊗ (at 1 ⊗ at 2)) refl) (times_cong (same_refl x) e) in
+    let same : times (times x a) b ≈ times x f = same_trans (same_by (x ∷ a ∷ b ∷ []) ((at 0 ⊗ at 1) ⊗ at 2) (at 0 ⊗ (at 1 ⊗ at 2)) refl)
+    (times_cong (same_refl x) e) in
     same_member (product (product i (exactly a)) (exactly b)) (times (times x a) b) (times x f) same second
 
 -- an interval that holds the product of each member with a number holds the product with that number
-product_in : (i j : Interval) (f : Fraction) → IsProper i → ((x : Fraction) → IsMember x i → IsMember (times x f) j) → (i ≡ everything → j ≡ everything) → product i (exactly f) ⊆ j
+product_in : (i j : Interval) (f : Fraction) → IsProper i → ((x : Fraction) → IsMember x i → IsMember (times x f) j) → (i ≡ everything → j ≡ everything)
+    → product i (exactly f) ⊆ j
 unfolding product
 product_in everything j f p h e = rw (e refl) (within_everything everything)
 product_in (between a b) everything f p h e = within_everything _
@@ -49,7 +51,8 @@ twice_within : (i : Interval) (a b f : Fraction) → IsProper i → times a b �
 twice_within i a b f p e = product_in i (product (product i (exactly a)) (exactly b)) f p (λ x m. twice_member i a b f x e m) (whole_twice i a b)
 
 -- what holds an expression scaled by two fractions holds it scaled by their product
-scaled_holds : {E : Type 0} (shown : E → Interval) (w : World) (x : Expression) (a b f : Fraction) (e : E) → times a b ≈ f → Within shown w (scale b (scale a x)) e → Within shown w (scale f x) e
+scaled_holds : {E : Type 0} (shown : E → Interval) (w : World) (x : Expression) (a b f : Fraction) (e : E) → times a b ≈ f
+    → Within shown w (scale b (scale a x)) e → Within shown w (scale f x) e
 unfolding Lies value
 scaled_holds shown w x a b f e s h = record { deep = h.deep; inside = within_trans (twice_within (value w x) a b f (value_proper w x) s) h.inside }
 
@@ -59,13 +62,15 @@ unfolding times
 unit_is = record { cross = refl }
 
 -- what holds an expression scaled by both factors of the unit holds it scaled by the unit
-pub unit_holds : {E : Type 0} (shown : E → Interval) (w : World) (x : Expression) (e : E) → Within shown w (scale (fraction_of SUN_UNIT_FINELY) (scale (fraction_of SUN_UNIT_COARSELY) x)) e → Within shown w (scale sun_unit x) e
+pub unit_holds : {E : Type 0} (shown : E → Interval) (w : World) (x : Expression) (e : E)
+    → Within shown w (scale (fraction_of SUN_UNIT_FINELY) (scale (fraction_of SUN_UNIT_COARSELY) x)) e → Within shown w (scale sun_unit x) e
 unit_holds shown w x e h = scaled_holds shown w x (fraction_of SUN_UNIT_COARSELY) (fraction_of SUN_UNIT_FINELY) sun_unit e unit_is h
 
 -- the product of a member with one number and then with another, where an interval holds the product with both
 once_member : (i : Interval) (a b f x : Fraction) → times a b ≈ f → IsMember x i → IsMember (times (times x a) b) (product i (exactly f))
 once_member i a b f x e m =
-    let same : times (times x a) b ≈ times x f = same_trans (same_by (x ∷ a ∷ b ∷ []) ((at 0 ⊗ at 1) ⊗ at 2) (at 0 ⊗ (at 1 ⊗ at 2)) refl) (times_cong (same_refl x) e) in
+    let same : times (times x a) b ≈ times x f = same_trans (same_by (x ∷ a ∷ b ∷ []) ((at 0 ⊗ at 1) ⊗ at 2) (at 0 ⊗ (at 1 ⊗ at 2)) refl)
+    (times_cong (same_refl x) e) in
     same_member (product i (exactly f)) (times x f) (times (times x a) b) (same_sym same) (product_holds i (exactly f) x f m (le_refl f, le_refl f))
 
 -- the ends of a product, times a number, in an interval of ends
@@ -82,18 +87,24 @@ once_within (between l u) a b f p e =
     let P : Fraction → Type 0 = λ z. IsMember (times z b) (product (between l u) (exactly f)) in
     let hl = once_member (between l u) a b f l e (le_refl l, p) in
     let hu = once_member (between l u) a b f u e (p, le_refl u) in
-    ends_within (least (times l a) (times l a) (times u a) (times u a)) (greatest (times l a) (times l a) (times u a) (times u a)) b (product (between l u) (exactly f))
+    ends_within (least (times l a) (times l a) (times u a) (times u a)) (greatest (times l a) (times l a) (times u a) (times u a)) b
+    (product (between l u) (exactly f))
     (least_keeps P _ _ _ _ hl hl hu hu) (greatest_keeps P _ _ _ _ hl hl hu hu)
 
 -- what holds an expression scaled by the product of two fractions holds it scaled by both
-pub both_hold : {E : Type 0} (shown : E → Interval) (w : World) (x : Expression) (a b f : Fraction) (e : E) → times a b ≈ f → Within shown w (scale f x) e → Within shown w (scale b (scale a x)) e
+pub both_hold : {E : Type 0} (shown : E → Interval) (w : World) (x : Expression) (a b f : Fraction) (e : E) → times a b ≈ f → Within shown w (scale f x) e
+    → Within shown w (scale b (scale a x)) e
 unfolding Lies value
 both_hold shown w x a b f e s h = record { deep = h.deep; inside = within_trans (once_within (value w x) a b f (value_proper w x) s) h.inside }
 
 -- the same where another expression is added
-pub both_hold_in_sum : {E : Type 0} (shown : E → Interval) (w : World) (k x : Expression) (a b f : Fraction) (e : E) → times a b ≈ f → Within shown w (add k (scale f x)) e → Within shown w (add k (scale b (scale a x))) e
+pub both_hold_in_sum : {E : Type 0} (shown : E → Interval) (w : World) (k x : Expression) (a b f : Fraction) (e : E) → times a b ≈ f
+    → Within shown w (add k (scale f x)) e → Within shown w (add k (scale b (scale a x))) e
 unfolding Lies value
-both_hold_in_sum shown w k x a b f e s h = record { deep = h.deep; inside = within_trans (sum_within (within_refl (value w k)) (once_within (value w x) a b f (value_proper w x) s)) h.inside }
+both_hold_in_sum shown w k x a b f e s h = record {
+  deep = h.deep;
+  inside = within_trans (sum_within (within_refl (value w k)) (once_within (value w x) a b f (value_proper w x) s)) h.inside;
+}
 
 -- ten-millionths a century are the same a day, times the days of a century
 pub daily_ten_millionths_are : (n : ℤ) → times (fraction_of DAY_IN_CENTURIES) (ten_millionths n) ≈ daily_ten_millionths n

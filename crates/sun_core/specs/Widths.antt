@@ -30,7 +30,8 @@ IsObliquity v i = IsWithin (pos (23 * 2 ^ 32)) (pos (24 * 2 ^ 32)) (v / 64 + 2 ^
 
 -- what local time is ahead at a longitude is narrow at the scale 2^-56: at most four units wide
 pub record IsNarrowPlace (longitude : Frac) : Type 0 where
-  pub narrow : implies (bound_of (limits_at 56) (λ k. unbounded) (ahead_of (fraction_of longitude))) (bounded (neg_ℤ (pos (2 ^ 32))) (pos (2 ^ 32)) 0 (2 ^ 10)) ≡ true
+  pub narrow : implies (bound_of (limits_at 56) (λ k. unbounded) (ahead_of (fraction_of longitude))) (bounded (neg_ℤ (pos (2 ^ 32))) (pos (2 ^ 32)) 0 (2 ^ 10))
+      ≡ true
 
 -- the least crossing of recent moments, and the greatest size of their advance
 abbrev pub crossing_from : ℤ

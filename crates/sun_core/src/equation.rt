@@ -5,8 +5,8 @@ ghost use Rattle.book_model.specs.numbers.Ranges.{IsInTable};
 ghost use Rattle.std.specs.Prelude.{◌≡◌, ◌^◌, IfOk, IfErr};
 ghost use Rattle.book_model.specs.programs.Leading.{next_turn};
 ghost use Rattle.book_model.specs.sky.Noon.{tilt_of, reduction_of, centre_of, joint_of, second_reduction_of, second_centre_of, radians_of, part_of_day, equation_of, equation_of_time_of};
-ghost use Rattle.width_laws.specs.declared.table.TheConstants.{EQUATION_OF_TIME};
-ghost use Rattle.width_laws.specs.Table.{greatest_of};
+ghost use Rattle.greatest_widths.specs.declared.table.TheConstants.{EQUATION_OF_TIME};
+ghost use Rattle.greatest_widths.specs.Table.{greatest_of};
 ghost use Rattle.time_scales.specs.Steps.{IsYearOpenFor};
 ghost use Rattle.sun_core.specs.Steps.{first_radians_of};
 

@@ -7,8 +7,8 @@ ghost use Rattle.book_model.specs.numbers.Bounds.{Reach, IsNarrow, limits_of};
 ghost use Rattle.book_model.specs.numbers.Expressions.{Expression, World, argument};
 ghost use Rattle.book_model.specs.numbers.Relations.{Within, Narrow};
 ghost use Rattle.book_model.specs.sky.Sun.{nutation_of, aberration_of, longitude_of, sun_of};
-ghost use Rattle.width_laws.specs.declared.table.TheConstants.{SUN};
-ghost use Rattle.width_laws.specs.Table.{greatest_of};
+ghost use Rattle.greatest_widths.specs.declared.table.TheConstants.{SUN};
+ghost use Rattle.greatest_widths.specs.Table.{greatest_of};
 ghost use Rattle.time_scales.specs.Steps.{IsYearOpenFor};
 ghost use Rattle.sun_core.specs.Daily.{in_centuries};
 ghost use Rattle.sun_core.specs.Widths.{days_of_years, longitude_bound};
@@ -89,7 +89,8 @@ fn longitude<E: Enclosure>(days: E, c: E) -> E
 pub fn sun<E: Enclosure>(t: E, trail: &mut Trail) -> Result<E, Fail>
     ensures leads { Follows1 E.shown sun_of t trail.old.count trail.new.count result }
     ensures in_table { IfOk result (λ s. IsInTable (E.shown t)) }
-    ensures measured { Measured1 E.BITS E.shown (2 ^ 42) IsMoment (λ v. IsUpTo 360 (greatest_of SUN v)) t
+    ensures measured { Measured1 E.BITS E.shown (2 ^ 42) IsMoment
+        (λ v. IsUpTo 360 (greatest_of SUN v)) t
         result }
     ensures open { IfErr result (IsYearOpenFor (E.shown t)) }
 {

@@ -69,7 +69,8 @@ fn sidereal_by<E: Enclosure>(longitude: E, precession: E) -> E
 #[tactic(auto, using(book_model::proofs::Leads::leading, crate::proofs::Openings::opening), unfolding(book_model::specs::sky::Sidereal::starred_of))]
 fn wrapped_sidereal<E: Enclosure>(angle: E, trail: &mut Trail) -> Result<E, Fail>
     ensures leads { Follows1 E.shown spec.starred_of angle trail.old.count trail.new.count result }
-    ensures measured { Measured1 E.BITS E.shown (2 ^ 44) (IsAbout (2 ^ 90)) (IsUpTo 360) angle result }
+    ensures measured { Measured1 E.BITS E.shown (2 ^ 44) (IsAbout (2 ^ 90)) (IsUpTo 360) angle
+        result }
     ensures elsewhere { (i : Interval) → IfErr result (IsYearOpenFor i) }
 {
     wrap_step(angle, 360, Site::Sidereal, trail)

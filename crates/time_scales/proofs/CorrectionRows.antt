@@ -27,7 +27,8 @@ year_inside row y h k = omega (arith, ints)
 
 -- ---- of which years a row is computed
 form_kept : CorrectionForm → (first last : ℤ) → ℕ → Bool
-form_kept (SecondsSince origin) first last n = nat_lt n 8 && (is_between (negsuc 255) (pos 256) (first -ℤ origin) && is_between (negsuc 255) (pos 256) (last -ℤ origin))
+form_kept (SecondsSince origin) first last n = nat_lt n 8 && (is_between (negsuc 255) (pos 256) (first -ℤ origin) && is_between (negsuc 255) (pos 256)
+    (last -ℤ origin))
 form_kept SecondsByHundreds first last n = true
 form_kept DaysByCenturies first last n = is_between (pos 1) (pos 9999) first && is_between (pos 1) (pos 9999) last
 

@@ -54,7 +54,20 @@ within_outwards everything = within_everything everything
 within_outwards (between a b) =
     let f = floor_quotient_is (a.num *ℤ pos (2 ^ 20)) a.below in
     let g = floor_quotient_is (b.num *ℤ pos (2 ^ 20)) b.below in
-    record { ends = (record { cross = omega (arith, ints, f.not_above) }, record { cross = omega (arith, ints, g.close, add_mul (floor_quotient (b.num *ℤ pos (2 ^ 20)) b.below) (pos 1) (pos (suc b.below)), one_mul (pos (suc b.below))) }) }
+    record {
+      ends = (
+        record { cross = omega (arith, ints, f.not_above) },
+        record {
+          cross = omega (
+            arith,
+            ints,
+            g.close,
+            add_mul (floor_quotient (b.num *ℤ pos (2 ^ 20)) b.below) (pos 1) (pos (suc b.below)),
+            one_mul (pos (suc b.below)),
+          );
+        },
+      );
+    }
 
 -- where the value of a sum of multiples of known numbers lies
 unfoldable ranged : Expression → Interval
@@ -138,7 +151,8 @@ unfoldable has_few_days_each : Correction → Bool
 has_few_days_each row = holds_from (has_few_days row.form row.coefficients) row.first (years_of row)
 
 rows_have_few_days : list_all has_few_days_each corrections ≡ true
-unfolding corrections has_few_days_each holds_from has_few_days ranged outwards sum product least greatest times plus smaller larger is_at_most computed_by horner_of horner_to fixed_of days_of_months first_day seconds_of polynomial_of polynomial_to int_power
+unfolding corrections has_few_days_each holds_from has_few_days ranged outwards sum product least greatest times plus smaller larger is_at_most computed_by
+    horner_of horner_to fixed_of days_of_months first_day seconds_of polynomial_of polynomial_to int_power
 rows_have_few_days = refl
 
 -- those of the years of which facts have values are values, in milliseconds
@@ -146,20 +160,24 @@ unfoldable has_values_each : Correction → Bool
 has_values_each row = int_lt row.last (year_of_day FIRST_DAY) || holds_from (is_value row.form row.coefficients) row.first (years_of row)
 
 rows_have_values : list_all has_values_each corrections ≡ true
-unfolding corrections has_values_each holds_from is_value ranged outwards sum product least greatest times plus smaller larger is_at_most computed_by horner_of horner_to fixed_of days_of_months first_day year_of_day seconds_of polynomial_of polynomial_to int_power
+unfolding corrections has_values_each holds_from is_value ranged outwards sum product least greatest times plus smaller larger is_at_most computed_by horner_of
+    horner_to fixed_of days_of_months first_day year_of_day seconds_of polynomial_of polynomial_to int_power
 rows_have_values = refl
 
 -- what a row's correction is, as it is computed
 computed_holds : (w : World) (form : CorrectionForm) (cs : List Frac) (y : ℤ) → value w (correction_by form cs y) ⊆ value w (computed_by form cs y)
 unfolding correction_by computed_by value
 computed_holds w (SecondsSince origin) cs y = within_refl _
-computed_holds w SecondsByHundreds cs y = product_within (value_proper w (polynomial_at cs (hundreds_of y))) (le_refl _) (values_same w cs (hundreds_of y)) (within_refl _)
+computed_holds w SecondsByHundreds cs y = product_within (value_proper w (polynomial_at cs (hundreds_of y))) (le_refl _) (values_same w cs (hundreds_of y))
+    (within_refl _)
 computed_holds w DaysByCenturies cs y = values_same w cs (centuries_to_july y)
 
-rounded_holds : (w : World) (form : CorrectionForm) (cs : List Frac) (y : ℤ) → value w (rounded (correction_by form cs y)) ⊆ ranged (rounded (computed_by form cs y))
+rounded_holds : (w : World) (form : CorrectionForm) (cs : List Frac) (y : ℤ)
+    → value w (rounded (correction_by form cs y)) ⊆ ranged (rounded (computed_by form cs y))
 unfolding value
 rounded_holds w form cs y =
-    within_trans (sum_within (product_within (value_proper w (correction_by form cs y)) (le_refl _) (computed_holds w form cs y) (within_refl _)) (within_refl _)) (value_ranged w (rounded (computed_by form cs y)))
+    within_trans (sum_within (product_within (value_proper w (correction_by form cs y)) (le_refl _) (computed_holds w form cs y) (within_refl _))
+    (within_refl _)) (value_ranged w (rounded (computed_by form cs y)))
 
 -- a correction that has a value lies within an interval that is within 200 days of 0
 pub record IsClose (i : Interval) : Type 0 where
@@ -172,7 +190,11 @@ unfolding has_few_days_each has_few_days
 correction_close w y c h =
     let r = year_row has_few_days_each y h.row rows_have_few_days h.found in
     let f = holds_at (has_few_days h.row.form h.row.coefficients) (years_of h.row) h.row.first y r.passes r.from (year_inside h.row y r.from r.to) in
-    record { around = ranged (computed_by h.row.form h.row.coefficients y); fits = f; inside = rw (← h.same) (within_trans (computed_holds w h.row.form h.row.coefficients y) (value_ranged w (computed_by h.row.form h.row.coefficients y))) }
+    record {
+      around = ranged (computed_by h.row.form h.row.coefficients y);
+      fits = f;
+      inside = rw (← h.same) (within_trans (computed_holds w h.row.form h.row.coefficients y) (value_ranged w (computed_by h.row.form h.row.coefficients y)));
+    }
 
 -- ---- the value of a day's correction
 not_first : (p q : Bool) → (p || q) ≡ true → p ≡ false → q ≡ true
@@ -219,7 +241,8 @@ year_found w d y e =
     sym c.leads_to ∙ t
 
 -- the correction of a value day's year, in milliseconds
-value_fits : (d y : ℤ) (c : Expression) (h : HasRow y c) → IsValueDay d → y ≡ year_of_day d → fits (ranged (rounded (computed_by h.row.form h.row.coefficients y))) ≡ true
+value_fits : (d y : ℤ) (c : Expression) (h : HasRow y c) → IsValueDay d → y ≡ year_of_day d
+    → fits (ranged (rounded (computed_by h.row.form h.row.coefficients y))) ≡ true
 unfolding has_values_each is_value
 value_fits d y c h v e =
     let r = year_row has_values_each y h.row rows_have_values h.found in

@@ -44,7 +44,8 @@ unfoldable keeps_units : Correction → Bool
 keeps_units row = option_map_or (λ units. holds_below (are_close units row) 21) row.units true
 
 table_close : list_all keeps_units corrections ≡ true
-unfolding corrections keeps_units holds_below are_close holds_from is_close implies bound_of integer_bound constant_bound sum_bound scaled_bound limits_of computed_by seconds_of polynomial_of polynomial_to int_power horner_of horner_to fixed_of first_day days_of_months
+unfolding corrections keeps_units holds_below are_close holds_from is_close implies bound_of integer_bound constant_bound sum_bound scaled_bound limits_of
+    computed_by seconds_of polynomial_of polynomial_to int_power horner_of horner_to fixed_of first_day days_of_months
 table_close = refl
 
 same_or_later : (y z : ℤ) → y ≤ℤ z → (y ≡ z) ⊎ ((y +ℤ pos 1) ≤ℤ z)
@@ -64,12 +65,15 @@ holds_of f (suc n) k e h =
     let b = both (f n) (holds_below f n) e in
     by_lt_z (pos k) (pos n) (λ l. holds_of f n k b.1 (omega (arith, ints))) (λ l. let p : n ≡ k = omega (arith, ints) in subst (λ t. f t ≡ true) p b.0)
 
-row_close : (row : Correction) (u n : ℕ) (y : ℤ) → holds_below (are_close u row) 21 ≡ true → 36 ≤ n → n ≤ 56 → row.first ≤ℤ y → y ≤ℤ row.last → is_close u n row.form row.coefficients y ≡ true
+row_close : (row : Correction) (u n : ℕ) (y : ℤ) → holds_below (are_close u row) 21 ≡ true → 36 ≤ n → n ≤ 56 → row.first ≤ℤ y → y ≤ℤ row.last
+    → is_close u n row.form row.coefficients y ≡ true
 unfolding are_close
 row_close row u n y c a b h k =
     let p : 36 + (n - 36) ≡ n = omega arith in
-    let e : holds_from (is_close u (36 + (n - 36)) row.form row.coefficients) row.first (years_of row) ≡ true = holds_of (are_close u row) 21 (n - 36) c (omega arith) in
-    let f : holds_from (is_close u n row.form row.coefficients) row.first (years_of row) ≡ true = subst (λ t. holds_from (is_close u t row.form row.coefficients) row.first (years_of row) ≡ true) p e in
+    let e : holds_from (is_close u (36 + (n - 36)) row.form row.coefficients) row.first (years_of row)
+    ≡ true = holds_of (are_close u row) 21 (n - 36) c (omega arith) in
+    let f : holds_from (is_close u n row.form row.coefficients) row.first (years_of row)
+    ≡ true = subst (λ t. holds_from (is_close u t row.form row.coefficients) row.first (years_of row) ≡ true) p e in
     holds_at (is_close u n row.form row.coefficients) (years_of row) row.first y f h (year_inside row y h k)
 
 -- a correction that keeps its computed bound is close
@@ -78,13 +82,16 @@ close : {E : Type 0} (shown : E → Interval) (u n : ℕ) (y : ℤ) (form : Corr
 unfolding is_close
 close shown u n y form cs e c f = settled_at shown n 0 no_bound (computed_by form cs y) (correction_bound u n) e c (f (record { width = 0; bounds = no_bound }))
 
-by_units : {E : Type 0} (shown : E → Interval) (n : ℕ) (y : ℤ) (row : Correction) (e : E) (o : Option ℕ) → option_map_or (λ units. holds_below (are_close units row) 21) o true ≡ true → 36 ≤ n → n ≤ 56 → row.first ≤ℤ y → y ≤ℤ row.last
-    → ((r : Reach) → Narrow shown (limits_of n) r (computed_by row.form row.coefficients y) e) → IfSome o (λ units. IsNarrow 0 (correction_bound units n) (shown e))
+by_units : {E : Type 0} (shown : E → Interval) (n : ℕ) (y : ℤ) (row : Correction) (e : E) (o : Option ℕ)
+    → option_map_or (λ units. holds_below (are_close units row) 21) o true ≡ true → 36 ≤ n → n ≤ 56 → row.first ≤ℤ y → y ≤ℤ row.last
+    → ((r : Reach) → Narrow shown (limits_of n) r (computed_by row.form row.coefficients y) e)
+    → IfSome o (λ units. IsNarrow 0 (correction_bound units n) (shown e))
 by_units shown n y row e None t a b h k f = tt
 by_units shown n y row e (Some u) t a b h k f = close shown u n y row.form row.coefficients e (row_close row u n y t a b h k) f
 
 -- the correction of a year is as close as its row promises
 pub year_is_close : {E : Type 0} (shown : E → Interval) (n : ℕ) (y : ℤ) (row : Correction) (e : E) → row_of_year y ≡ Some row → 36 ≤ n → n ≤ 56
-    → ((r : Reach) → Narrow shown (limits_of n) r (computed_by row.form row.coefficients y) e) → IfSome row.units (λ units. IsNarrow 0 (correction_bound units n) (shown e))
+    → ((r : Reach) → Narrow shown (limits_of n) r (computed_by row.form row.coefficients y) e)
+    → IfSome row.units (λ units. IsNarrow 0 (correction_bound units n) (shown e))
 unfolding keeps_units
 year_is_close shown n y row e g a b f = let r = year_row keeps_units y row table_close g in by_units shown n y row e row.units r.passes a b r.from r.to f

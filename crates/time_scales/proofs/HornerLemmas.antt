@@ -40,10 +40,12 @@ nest_exact w cs c zero = refl
 nest_exact w cs c (suc k) = rw (nest_exact w cs c k, product_exactly (nest_to cs c k) c) (sum_exactly _ _)
 
 -- the next term joins what is nested
-regrouped : (cs : List Frac) (c : Fraction) (k m : ℕ) → plus (sum_to cs c (suc m)) (times (power c (suc m)) (nest_to cs c k)) ≈ plus (sum_to cs c m) (times (power c m) (plus (times (nest_to cs c k) c) (coefficient cs m)))
+regrouped : (cs : List Frac) (c : Fraction) (k m : ℕ) → plus (sum_to cs c (suc m)) (times (power c (suc m)) (nest_to cs c k)) ≈ plus (sum_to cs c m)
+    (times (power c m) (plus (times (nest_to cs c k) c) (coefficient cs m)))
 unfolding sum_to power
 regrouped cs c k m =
-    same_by (sum_to cs c m ∷ power c m ∷ coefficient cs m ∷ c ∷ nest_to cs c k ∷ []) ((at 0 ⊕ at 1 ⊗ at 2) ⊕ (at 3 ⊗ at 1) ⊗ at 4) (at 0 ⊕ at 1 ⊗ (at 4 ⊗ at 3 ⊕ at 2)) refl
+    same_by (sum_to cs c m ∷ power c m ∷ coefficient cs m ∷ c ∷ nest_to cs c k ∷ []) ((at 0 ⊕ at 1 ⊗ at 2) ⊕ (at 3 ⊗ at 1) ⊗ at 4)
+    (at 0 ⊕ at 1 ⊗ (at 4 ⊗ at 3 ⊕ at 2)) refl
 
 -- the sum is that of the first m terms and the m-th power times what the last k coefficients nest to
 split : (cs : List Frac) (c : Fraction) (k m : ℕ) → k + m ≡ length cs → sum_to cs c (length cs) ≈ plus (sum_to cs c m) (times (power c m) (nest_to cs c k))
@@ -69,7 +71,8 @@ values_same w cs c =
     rw (sum_exact w cs c (length cs), nest_exact w cs c (length cs)) (record { ends = (ge_of_same s, le_of_same s) })
 
 -- what holds Horner's form holds the polynomial
-pub horner_holds : {E : Type 0} (shown : E → Interval) (w : World) (cs : List Frac) (c : Fraction) (e : E) → Within shown w (horner_of cs c) e → Within shown w (polynomial_at cs c) e
+pub horner_holds : {E : Type 0} (shown : E → Interval) (w : World) (cs : List Frac) (c : Fraction) (e : E) → Within shown w (horner_of cs c) e
+    → Within shown w (polynomial_at cs c) e
 unfolding Lies
 horner_holds shown w cs c e h = record { deep = h.deep; inside = within_trans (values_same w cs c) h.inside }
 
@@ -77,7 +80,8 @@ pub horner_none : (cs : List Frac) (c : Fraction) → horner_to cs c 0 ≡ integ
 unfolding horner_to
 horner_none cs c = refl
 
-pub horner_more : (cs : List Frac) (c : Fraction) (k : ℕ) → horner_to cs c (k + 1) ≡ add (scale c (horner_to cs c k)) (constant (coefficient cs (length cs - 1 - k)))
+pub horner_more : (cs : List Frac) (c : Fraction) (k : ℕ) → horner_to cs c (k + 1)
+    ≡ add (scale c (horner_to cs c k)) (constant (coefficient cs (length cs - 1 - k)))
 unfolding horner_to
 horner_more cs c k = let f : length cs - suc k ≡ length cs - 1 - k = omega arith in rw (add-one, f) refl
 

@@ -10,8 +10,8 @@ use Rattle.book_model.specs.numbers.Bounds.{Bound, unbounded, Reach, bound_of, i
 use Rattle.book_model.specs.numbers.Relations.{Narrow, Keeps}
 use Rattle.book_model.proofs.Implying.{limits_within}
 use Rattle.book_model.specs.programs.Widths.{IsAbout}
-use Rattle.width_laws.specs.Sizes.{HasSize}
-use Rattle.width_laws.proofs.Covering.{IsCovered, covered, wider_covered, sum_covered, scaled_covered, within_covered}
+use Rattle.greatest_widths.specs.Sizes.{HasSize}
+use Rattle.greatest_widths.proofs.Covering.{IsCovered, covered, wider_covered, sum_covered, scaled_covered, within_covered}
 use Rattle.time_scales.specs.Horner.{horner_to, horner_of, horner_size, horner_width, horner_fits, coefficient_at}
 
 four : (p q r s : Bool) → (p && (q && (r && s))) ≡ true → (p ≡ true) × (q ≡ true) × (r ≡ true) × (s ≡ true)
@@ -21,7 +21,8 @@ four true true false s e = absurd (cc)
 four true false r s e = absurd (cc)
 four false q r s e = absurd (cc)
 
-constant_covered : (f : Fraction) → unsigned_abs f.num < 2 ^ 70 → range_size (floor_at_32 f) (ceil_at_32 f) < 2 ^ 100 → IsCovered (constant_bound (limits_at 56) f) (range_size (floor_at_32 f) (ceil_at_32 f)) (2 ^ 8)
+constant_covered : (f : Fraction) → unsigned_abs f.num < 2 ^ 70 → range_size (floor_at_32 f) (ceil_at_32 f) < 2 ^ 100
+    → IsCovered (constant_bound (limits_at 56) f) (range_size (floor_at_32 f) (ceil_at_32 f)) (2 ^ 8)
 unfolding constant_bound
 constant_covered f h k =
     let t1 : nat_lt (unsigned_abs f.num) (2 ^ 70) ≡ true = lt-ltb _ _ h in
@@ -36,7 +37,8 @@ constant_covered f h k =
 none : ℕ → Bound
 none k = unbounded
 
-horner_covered : (cs : List Frac) (f : Fraction) (F k : ℕ) (b : ℕ → Bound) → HasSize F f → horner_fits cs F k ≡ true → IsCovered (bound_of (limits_at 56) b (horner_to cs f k)) (horner_size cs F k) (horner_width F k)
+horner_covered : (cs : List Frac) (f : Fraction) (F k : ℕ) (b : ℕ → Bound) → HasSize F f → horner_fits cs F k ≡ true
+    → IsCovered (bound_of (limits_at 56) b (horner_to cs f k)) (horner_size cs F k) (horner_width F k)
 unfolding bound_of integer_bound horner_to horner_size horner_width horner_fits
 horner_covered cs f F zero b i e =
     let h1 : neg_ℤ (pos 0) ≤ℤ pos 0 = omega (arith, ints) in
@@ -55,7 +57,8 @@ horner_covered cs f F (suc k) b i e =
     (constant_covered (coefficient_at cs k) r (omega (arith, q))))
 
 -- what keeps the bound of Horner's form at such a fraction
-pub horner_within : {E : Type 0} (shown : E → Interval) (n : ℕ) (cs : List Frac) (f : Fraction) (F : ℕ) (e : E) → n ≡ 56 → HasSize F f → horner_fits cs F (length cs) ≡ true → ((r : Reach) → Narrow shown (limits_of n) r (horner_of cs f) e)
+pub horner_within : {E : Type 0} (shown : E → Interval) (n : ℕ) (cs : List Frac) (f : Fraction) (F : ℕ) (e : E) → n ≡ 56 → HasSize F f
+    → horner_fits cs F (length cs) ≡ true → ((r : Reach) → Narrow shown (limits_of n) r (horner_of cs f) e)
     → IsAbout (horner_size cs F (length cs)) (horner_width F (length cs)) (shown e)
 unfolding Keeps horner_of
 horner_within shown n cs f F e p i t h =

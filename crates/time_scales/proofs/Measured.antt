@@ -13,14 +13,14 @@ use Rattle.book_model.specs.numbers.Expressions.{Expression, World, value, argum
 use Rattle.book_model.specs.numbers.Polynomials.{cubic_of}
 use Rattle.book_model.specs.numbers.Ranges.{IsInTable}
 use Rattle.book_model.specs.numbers.Relations.{Within, Lies, Narrow}
-use Rattle.book_model.specs.programs.Leading.{Leads, leaf, at_56}
+use Rattle.book_model.specs.programs.Leading.{Leads, leaf, units_of_56}
 use Rattle.book_model.specs.programs.Widths.{IsAbout, IsClose, IsMoment, Measures, IsCorrection, IsDated, IsNearlyDated, IsRecent, IsRecentlyDated, AreCenturies, IsWithin, table_from, table_to, table_days, table_centuries, centuries_to, recent_from, recent_centuries_from}
 use Rattle.book_model.specs.sky.Time.{correction_at, in_centuries}
 use Rattle.book_model.proofs.Leads.{leads_leaf}
-use Rattle.width_laws.specs.declared.table.TheConstants.{CORRECTION}
-use Rattle.width_laws.specs.Table.{greatest_of}
-use Rattle.width_laws.proofs.Measuring.{measured, measured_argument, sloped, looser, drawn}
-use Rattle.width_laws.proofs.Closing.{inner_apart, close_ends}
+use Rattle.greatest_widths.specs.declared.table.TheConstants.{CORRECTION}
+use Rattle.greatest_widths.specs.Table.{greatest_of}
+use Rattle.greatest_widths.proofs.Measuring.{measured, measured_argument, sloped, looser, drawn}
+use Rattle.greatest_widths.proofs.Closing.{inner_apart, close_ends}
 use Rattle.time_scales.specs.Widths.{HasYearEnds, IsLater, IsNearlyRecent, AreRecentCenturies}
 use Rattle.time_scales.proofs.Moments.{corrected_in_table}
 
@@ -30,7 +30,8 @@ year_at v lo hi (undecided_at u) h k e = close_ends u Year v e.2 h (rw (e.0, e.1
 year_at v lo hi (Void s) h k e = absurd e
 
 -- an open year is as close as the moment is wide
-pub year_close : (v : ℕ) (lo hi : ℤ) (i : Interval) (r : Result ℤ Fail) → v ≤ 2 ^ 44 → IsAbout (2 ^ 90) v i → between (at_56 lo) (at_56 hi) ⊆ i → IfErr r (HasYearEnds lo hi) → IfErr r IsClose
+pub year_close : (v : ℕ) (lo hi : ℤ) (i : Interval) (r : Result ℤ Fail) → v ≤ 2 ^ 44 → IsAbout (2 ^ 90) v i → between (units_of_56 lo) (units_of_56 hi) ⊆ i
+    → IfErr r (HasYearEnds lo hi) → IfErr r IsClose
 year_close v lo hi i (Ok y) b h k o = tt
 year_close v lo hi i (Err f) b h k o = year_at v lo hi f b (inner_apart _ _ v lo hi i h k) o
 
@@ -45,16 +46,19 @@ within_moment shown p e = record { deep = omega arith; inside = within_refl _ }
 found_in_table : {E T : Type 0} {R : Expression → T → Type 0} (shown : E → Interval) (p : (e : E) → IsProper (shown e)) (t : E) {b a : ℕ} (r : Result T Fail) →
     Leads (moment_world (shown t) (p t)) R (correction_at (argument 0)) b a r → IfOk r (λ v. IsInTable (shown t))
 unfolding value moment_world
-found_in_table shown p t (Ok v) h = (corrected_in_table (moment_world (shown t) (p t)) (argument 0) (leaf (moment_world (shown t) (p t)) (correction_at (argument 0))) (leads_leaf h)).0
+found_in_table shown p t (Ok v) h = (corrected_in_table (moment_world (shown t) (p t)) (argument 0)
+    (leaf (moment_world (shown t) (p t)) (correction_at (argument 0))) (leads_leaf h)).0
 found_in_table shown p t (Err f) h = tt
 
-pub moment_in_table : {E T : Type 0} (R : World → Expression → T → Type 0) (shown : E → Interval) (p : (e : E) → IsProper (shown e)) (t : E) {b a : ℕ} (r : Result T Fail) →
+pub moment_in_table : {E T : Type 0} (R : World → Expression → T → Type 0) (shown : E → Interval) (p : (e : E) → IsProper (shown e)) (t : E) {b a : ℕ}
+    (r : Result T Fail) →
     ((w : World) (x : Expression) → Within shown w x t → Leads w (R w) (correction_at x) b a r) → IfOk r (λ v. IsInTable (shown t))
 moment_in_table R shown p t r h = found_in_table shown p t r (h (moment_world (shown t) (p t)) (argument 0) (within_moment shown p t))
 
 -- ---- a moment of the table and its correction
 -- the correction of a year is narrower than the table says
-pub correction_looser : {E : Type 0} (shown : E → Interval) (r : Result E Fail) → Measures (λ y. IsCorrection (2 ^ 14) (shown y)) r → Measures (λ y. IsCorrection (greatest_of CORRECTION 0) (shown y)) r
+pub correction_looser : {E : Type 0} (shown : E → Interval) (r : Result E Fail) → Measures (λ y. IsCorrection (2 ^ 14) (shown y)) r
+    → Measures (λ y. IsCorrection (greatest_of CORRECTION 0) (shown y)) r
 correction_looser shown (Ok y) h = looser _ _ _ _ (2 ^ 14) (2 ^ 17) (shown y) (omega (arith, ints)) (omega (arith, ints)) (omega arith) h
 correction_looser shown (Err f) h = h
 
@@ -69,7 +73,8 @@ difference_reach : implies (bound_of (limits_at 56) moment_bounds (subtract (arg
 unfolding implies bound_of difference_bound
 difference_reach = refl
 
-module _ {E : Type 0} (shown : E → Interval) (n v : ℕ) (t c d : E) (p : n ≡ 56) (i : IsInTable (shown t)) (h : IsMoment v (shown t)) (k : IsCorrection (2 ^ 17) (shown c)) where
+module _ {E : Type 0} (shown : E → Interval) (n v : ℕ) (t c d : E) (p : n ≡ 56) (i : IsInTable (shown t)) (h : IsMoment v (shown t))
+    (k : IsCorrection (2 ^ 17) (shown c)) where
   moment_kept : Narrow shown (limits_of n) (record { width = v; bounds = moment_bounds }) (argument 0) t
   moment_kept = sloped shown (limits_of n) v v moment_bounds 0 (table_from 0) (table_to 0) (2 ^ 40) 0 t refl (omega arith) (drawn _ _ _ _ v (shown t) i h)
 
@@ -77,13 +82,15 @@ module _ {E : Type 0} (shown : E → Interval) (n v : ℕ) (t c d : E) (p : n �
   correction_kept = sloped shown (limits_of n) v (2 ^ 17) moment_bounds 1 (neg_ℤ (pos (2 ^ 30))) (pos (2 ^ 30)) 0 (2 ^ 17) c refl (omega arith) k
 
   -- a moment of the table and its correction
-  pub sum_within : ((r : Reach) (x y : Expression) → Narrow shown (limits_of n) r x t → Narrow shown (limits_of n) r y c → Narrow shown (limits_of n) r (add x y) d) → IsNearlyDated (v + 2 ^ 17) (shown d)
+  pub sum_within : ((r : Reach) (x y : Expression) → Narrow shown (limits_of n) r x t → Narrow shown (limits_of n) r y c
+      → Narrow shown (limits_of n) r (add x y) d) → IsNearlyDated (v + 2 ^ 17) (shown d)
   sum_within f =
       measured shown n v moment_bounds (add (argument 0) (argument 1)) _ _ (2 ^ 40) (2 ^ 17) (v + 2 ^ 17) d p sum_reach (omega arith)
       (f (record { width = v; bounds = moment_bounds }) (argument 0) (argument 1) moment_kept correction_kept)
 
   -- a moment of the table less its correction
-  pub difference_within : ((r : Reach) (x y : Expression) → Narrow shown (limits_of n) r x t → Narrow shown (limits_of n) r y c → Narrow shown (limits_of n) r (subtract x y) d) → IsNearlyDated (v + 2 ^ 17) (shown d)
+  pub difference_within : ((r : Reach) (x y : Expression) → Narrow shown (limits_of n) r x t → Narrow shown (limits_of n) r y c
+      → Narrow shown (limits_of n) r (subtract x y) d) → IsNearlyDated (v + 2 ^ 17) (shown d)
   difference_within f =
       measured shown n v moment_bounds (subtract (argument 0) (argument 1)) _ _ (2 ^ 40) (2 ^ 17) (v + 2 ^ 17) d p difference_reach (omega arith)
       (f (record { width = v; bounds = moment_bounds }) (argument 0) (argument 1) moment_kept correction_kept)
@@ -97,7 +104,8 @@ unfolding implies bound_of difference_bound scaled_bound constant_bound in_centu
 centuries_reach = refl
 
 pub centuries_within : {E : Type 0} (shown : E → Interval) (n v : ℕ) (t c : E) → n ≡ 56 → v ≤ 2 ^ 44 → IsNearlyDated (v + 2 ^ 17) (shown t)
-    → ((r : Reach) (x : Expression) → Narrow shown (limits_of n) r x t → Narrow shown (limits_of n) r (in_centuries x) c) → AreCenturies (v / 36525 + 2 ^ 12) (shown c)
+    → ((r : Reach) (x : Expression) → Narrow shown (limits_of n) r x t → Narrow shown (limits_of n) r (in_centuries x) c)
+    → AreCenturies (v / 36525 + 2 ^ 12) (shown c)
 centuries_within shown n v t c p b h f =
     measured shown n (v + 2 ^ 17) days_bounds (in_centuries (argument 0)) _ _ 30102988 1000 (v / 36525 + 2 ^ 12) c p centuries_reach (omega arith)
     (f (record { width = v + 2 ^ 17; bounds = days_bounds }) (argument 0) (measured_argument shown (limits_of n) _ _ (v + 2 ^ 17) 0 t h))
@@ -113,54 +121,69 @@ later_moment v i h = looser _ _ _ _ v v i (omega (arith, ints)) (omega (arith, i
 dated_from : (low high : ℤ) (v : ℕ) (i : Interval) → IsInTable i → IsWithin low high v i → IsWithin low (table_to 0) v i
 unfolding IsNarrow
 dated_from low high v everything b h = absurd h.kept
-dated_from low high v (between x y) b h = record { kept = record { ordered = h.kept.ordered; above = h.kept.above; below = (drawn _ _ _ _ v (between x y) b h).kept.below; close = h.kept.close } }
+dated_from low high v (between x y) b h = record {
+  kept = record
+      { ordered = h.kept.ordered; above = h.kept.above; below = (drawn _ _ _ _ v (between x y) b h).kept.below; close = h.kept.close };
+}
 
 -- such a moment and a correction
 abbrev bounds_from : (later : ℤ) → ℕ → Bound
 bounds_from later k = if k == 0 then bounded (recent_from later) (table_to 0) (2 ^ 40) 0 else bounded (neg_ℤ (pos (2 ^ 30))) (pos (2 ^ 30)) 0 (2 ^ 17)
 
-recent_sum_reach : implies (bound_of (limits_at 56) (bounds_from (pos 0)) (add (argument 0) (argument 1))) (bounded (recent_from (negsuc 0)) (table_to 1) (2 ^ 40) (2 ^ 17)) ≡ true
+recent_sum_reach : implies (bound_of (limits_at 56) (bounds_from (pos 0)) (add (argument 0) (argument 1)))
+    (bounded (recent_from (negsuc 0)) (table_to 1) (2 ^ 40) (2 ^ 17)) ≡ true
 unfolding implies bound_of sum_bound
 recent_sum_reach = refl
 
-later_difference_reach : implies (bound_of (limits_at 56) (bounds_from (pos 1)) (subtract (argument 0) (argument 1))) (bounded (recent_from (pos 0)) (table_to 1) (2 ^ 40) (2 ^ 17)) ≡ true
+later_difference_reach : implies (bound_of (limits_at 56) (bounds_from (pos 1)) (subtract (argument 0) (argument 1)))
+    (bounded (recent_from (pos 0)) (table_to 1) (2 ^ 40) (2 ^ 17)) ≡ true
 unfolding implies bound_of difference_bound
 later_difference_reach = refl
 
-pub recent_sum_within : {E : Type 0} (shown : E → Interval) (n v : ℕ) (t c d : E) → n ≡ 56 → IsInTable (shown t) → IsRecent v (shown t) → IsCorrection (2 ^ 17) (shown c)
-    → ((r : Reach) (x y : Expression) → Narrow shown (limits_of n) r x t → Narrow shown (limits_of n) r y c → Narrow shown (limits_of n) r (add x y) d) → IsNearlyRecent (v + 2 ^ 17) (shown d)
+pub recent_sum_within : {E : Type 0} (shown : E → Interval) (n v : ℕ) (t c d : E) → n ≡ 56 → IsInTable (shown t) → IsRecent v (shown t)
+    → IsCorrection (2 ^ 17) (shown c)
+    → ((r : Reach) (x y : Expression) → Narrow shown (limits_of n) r x t → Narrow shown (limits_of n) r y c → Narrow shown (limits_of n) r (add x y) d)
+    → IsNearlyRecent (v + 2 ^ 17) (shown d)
 recent_sum_within shown n v t c d p i h k f =
     measured shown n v (bounds_from (pos 0)) (add (argument 0) (argument 1)) _ _ (2 ^ 40) (2 ^ 17) (v + 2 ^ 17) d p recent_sum_reach (omega arith)
-    (f (record { width = v; bounds = bounds_from (pos 0) }) (argument 0) (argument 1) (sloped shown (limits_of n) v v (bounds_from (pos 0)) 0 _ _ (2 ^ 40) 0 t refl (omega arith) (dated_from _ _ v (shown t) i h))
+    (f (record { width = v; bounds = bounds_from (pos 0) }) (argument 0) (argument 1)
+    (sloped shown (limits_of n) v v (bounds_from (pos 0)) 0 _ _ (2 ^ 40) 0 t refl (omega arith) (dated_from _ _ v (shown t) i h))
     (sloped shown (limits_of n) v (2 ^ 17) (bounds_from (pos 0)) 1 _ _ 0 (2 ^ 17) c refl (omega arith) k))
 
-pub later_difference_within : {E : Type 0} (shown : E → Interval) (n v : ℕ) (t c d : E) → n ≡ 56 → IsInTable (shown t) → IsLater v (shown t) → IsCorrection (2 ^ 17) (shown c)
-    → ((r : Reach) (x y : Expression) → Narrow shown (limits_of n) r x t → Narrow shown (limits_of n) r y c → Narrow shown (limits_of n) r (subtract x y) d) → IsRecentlyDated (v + 2 ^ 17) (shown d)
+pub later_difference_within : {E : Type 0} (shown : E → Interval) (n v : ℕ) (t c d : E) → n ≡ 56 → IsInTable (shown t) → IsLater v (shown t)
+    → IsCorrection (2 ^ 17) (shown c)
+    → ((r : Reach) (x y : Expression) → Narrow shown (limits_of n) r x t → Narrow shown (limits_of n) r y c → Narrow shown (limits_of n) r (subtract x y) d)
+    → IsRecentlyDated (v + 2 ^ 17) (shown d)
 later_difference_within shown n v t c d p i h k f =
     measured shown n v (bounds_from (pos 1)) (subtract (argument 0) (argument 1)) _ _ (2 ^ 40) (2 ^ 17) (v + 2 ^ 17) d p later_difference_reach (omega arith)
-    (f (record { width = v; bounds = bounds_from (pos 1) }) (argument 0) (argument 1) (sloped shown (limits_of n) v v (bounds_from (pos 1)) 0 _ _ (2 ^ 40) 0 t refl (omega arith) (dated_from _ _ v (shown t) i h))
+    (f (record { width = v; bounds = bounds_from (pos 1) }) (argument 0) (argument 1)
+    (sloped shown (limits_of n) v v (bounds_from (pos 1)) 0 _ _ (2 ^ 40) 0 t refl (omega arith) (dated_from _ _ v (shown t) i h))
     (sloped shown (limits_of n) v (2 ^ 17) (bounds_from (pos 1)) 1 _ _ 0 (2 ^ 17) c refl (omega arith) k))
 
 abbrev recent_days : ℕ → Bound
 recent_days k = bounded (recent_from (negsuc 0)) (table_to 1) (2 ^ 40) 0
 
-recent_centuries_reach : implies (bound_of (limits_at 56) recent_days (in_centuries (argument 0))) (bounded recent_centuries_from centuries_to 30102988 1000) ≡ true
+recent_centuries_reach : implies (bound_of (limits_at 56) recent_days (in_centuries (argument 0))) (bounded recent_centuries_from centuries_to 30102988 1000)
+    ≡ true
 unfolding implies bound_of difference_bound scaled_bound constant_bound in_centuries
 recent_centuries_reach = refl
 
 pub recent_centuries_within : {E : Type 0} (shown : E → Interval) (n v : ℕ) (t c : E) → n ≡ 56 → v ≤ 2 ^ 44 → IsNearlyRecent (v + 2 ^ 17) (shown t)
-    → ((r : Reach) (x : Expression) → Narrow shown (limits_of n) r x t → Narrow shown (limits_of n) r (in_centuries x) c) → AreRecentCenturies (v / 36525 + 2 ^ 12) (shown c)
+    → ((r : Reach) (x : Expression) → Narrow shown (limits_of n) r x t → Narrow shown (limits_of n) r (in_centuries x) c)
+    → AreRecentCenturies (v / 36525 + 2 ^ 12) (shown c)
 recent_centuries_within shown n v t c p b h f =
     measured shown n (v + 2 ^ 17) recent_days (in_centuries (argument 0)) _ _ 30102988 1000 (v / 36525 + 2 ^ 12) c p recent_centuries_reach (omega arith)
     (f (record { width = v + 2 ^ 17; bounds = recent_days }) (argument 0) (measured_argument shown (limits_of n) _ _ (v + 2 ^ 17) 0 t h))
 
 -- ---- sidereal time of a moment of the table
-sidereal_reach : implies (bound_of (limits_at 56) (λ k. table_days 0 (2 ^ 40) 0) (cubic_of SIDEREAL_TIME (in_centuries (argument 0)))) (bounded (neg_ℤ (pos (2 ^ 61))) (pos (2 ^ 61)) (362 * 2 ^ 40) (2 ^ 37)) ≡ true
+sidereal_reach : implies (bound_of (limits_at 56) (λ k. table_days 0 (2 ^ 40) 0) (cubic_of SIDEREAL_TIME (in_centuries (argument 0))))
+    (bounded (neg_ℤ (pos (2 ^ 61))) (pos (2 ^ 61)) (362 * 2 ^ 40) (2 ^ 37)) ≡ true
 unfolding implies bound_of constant_bound sum_bound difference_bound scaled_bound product_bound power_bound in_centuries cubic_of
 sidereal_reach = refl
 
 pub sidereal_within : {E : Type 0} (shown : E → Interval) (n v : ℕ) (t y : E) → n ≡ 56 → IsDated v (shown t)
-    → ((r : Reach) (x : Expression) → Narrow shown (limits_of n) r x t → Narrow shown (limits_of n) r (cubic_of SIDEREAL_TIME (in_centuries x)) y) → IsAbout (2 ^ 61) (362 * v + 2 ^ 37) (shown y)
+    → ((r : Reach) (x : Expression) → Narrow shown (limits_of n) r x t → Narrow shown (limits_of n) r (cubic_of SIDEREAL_TIME (in_centuries x)) y)
+    → IsAbout (2 ^ 61) (362 * v + 2 ^ 37) (shown y)
 sidereal_within shown n v t y e h f =
     let b : ℕ → Bound = λ k. table_days 0 (2 ^ 40) 0 in
     measured shown n v b (cubic_of SIDEREAL_TIME (in_centuries (argument 0))) _ _ (362 * 2 ^ 40) (2 ^ 37) (362 * v + 2 ^ 37) y e sidereal_reach (omega arith)

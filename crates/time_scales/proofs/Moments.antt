@@ -71,7 +71,8 @@ tabled_cell y c i t h =
     wider (first_day y) (first_day (y +ℤ pos 1)) TABLE_START TABLE_END i (omega (arith, ints)) (omega (arith, ints)) h
 
 -- a moment whose correction has a value, and that value
-pub corrected_in_table : (w : World) (x c : Expression) → outcome (run w (correction_at x)) ≡ valued c → IsInTable (value w x) × IsBetween (negsuc 199) (pos 200) (value w c)
+pub corrected_in_table : (w : World) (x c : Expression) → outcome (run w (correction_at x)) ≡ valued c → IsInTable (value w x)
+    × IsBetween (negsuc 199) (pos 200) (value w c)
 unfolding correction_at year_of
 corrected_in_table w x c e =
     let y = parts w (year_of x) correction_of_year c e in
@@ -89,10 +90,12 @@ dated_in_table w x c e =
     (corrected_in_table w x k.part k.first).0
 
 -- the universal time of a moment of dynamical time
-pub universal_between : (w : World) (x t : Expression) → outcome (run w (from_dynamical_of x)) ≡ valued t → IsBetween (TABLE_START -ℤ pos 200) (TABLE_END +ℤ pos 200) (value w t)
+pub universal_between : (w : World) (x t : Expression) → outcome (run w (from_dynamical_of x)) ≡ valued t
+    → IsBetween (TABLE_START -ℤ pos 200) (TABLE_END +ℤ pos 200) (value w t)
 unfolding from_dynamical_of value
 universal_between w x t e =
     let k = parts w (correction_at x) _ t e in
     let c = corrected_in_table w x k.part k.first in
     let b = difference_between TABLE_START TABLE_END (negsuc 199) (pos 200) _ _ c.0 c.1 in
-    rw (← valued_same w (subtract x k.part) t k.then) (wider _ _ (TABLE_START -ℤ pos 200) (TABLE_END +ℤ pos 200) _ (omega (arith, ints)) (omega (arith, ints)) b)
+    rw (← valued_same w (subtract x k.part) t k.then) (wider _ _ (TABLE_START -ℤ pos 200) (TABLE_END +ℤ pos 200) _ (omega (arith, ints)) (omega (arith, ints))
+    b)

@@ -7,7 +7,7 @@ use Rattle.book_model.specs.numbers.Bounds.{bounded, Reach, bound_of, implies, i
 use Rattle.book_model.specs.calendars.Gregorian.{fixed_of, first_day, days_of_months}
 use Rattle.book_model.specs.sky.Correction.{Correction, corrections, row_of_year, int_power, polynomial_to, polynomial_of, seconds_of}
 use Rattle.book_model.specs.numbers.Relations.{Narrow}
-use Rattle.width_laws.proofs.Measuring.{measured}
+use Rattle.greatest_widths.proofs.Measuring.{measured}
 use Rattle.book_model.specs.declared.correction_rows.CorrectionForm.{CorrectionForm}
 use Rattle.book_model.specs.declared.frac.Frac.{Frac}
 use Rattle.book_model.proofs.CorrectionRows.{year_row}
@@ -26,7 +26,8 @@ unfoldable is_tabled_row : Correction → Bool
 is_tabled_row row = holds_from (is_tabled row.form row.coefficients) row.first (years_of row)
 
 rows_tabled : list_all is_tabled_row corrections ≡ true
-unfolding corrections is_tabled_row holds_from is_tabled implies bound_of integer_bound constant_bound sum_bound scaled_bound computed_by seconds_of polynomial_of polynomial_to int_power horner_of horner_to fixed_of first_day days_of_months
+unfolding corrections is_tabled_row holds_from is_tabled implies bound_of integer_bound constant_bound sum_bound scaled_bound computed_by seconds_of
+    polynomial_of polynomial_to int_power horner_of horner_to fixed_of first_day days_of_months
 rows_tabled = refl
 
 year_tabled : (y : ℤ) (row : Correction) → row_of_year y ≡ Some row → is_tabled row.form row.coefficients y ≡ true
@@ -40,4 +41,5 @@ pub correction_within : {E : Type 0} (shown : E → Interval) (n : ℕ) (y : ℤ
     → ((r : Reach) → Narrow shown (limits_of n) r (computed_by row.form row.coefficients y) e) → IsCorrection (2 ^ 14) (shown e)
 unfolding is_tabled
 correction_within shown n y row e p g f =
-    measured shown n 0 no_bound (computed_by row.form row.coefficients y) (neg_ℤ (pos (2 ^ 30))) (pos (2 ^ 30)) 0 (2 ^ 14) (2 ^ 14) e p (year_tabled y row g) (omega arith) (f (record { width = 0; bounds = no_bound }))
+    measured shown n 0 no_bound (computed_by row.form row.coefficients y) (neg_ℤ (pos (2 ^ 30))) (pos (2 ^ 30)) 0 (2 ^ 14) (2 ^ 14) e p (year_tabled y row g)
+    (omega arith) (f (record { width = 0; bounds = no_bound }))

@@ -42,7 +42,8 @@ small_at : (t : Bool) (n : ℕ) → n < 2 ^ 58 → nat_lt n (cond t (2 ^ 58) (2 
 small_at true n h = (Decides-ltb n (2 ^ 58)).1 h
 small_at false n h = (Decides-ltb n (2 ^ 100)).1 (omega (arith, h))
 
-pub year_enclosed : {E : Type 0} (shown : E → Interval) (bits : ℕ) (d : ℤ) (e : E) → 36 ≤ bits → bits ≤ 56 → IsValueDay d → Narrow shown (limits_of bits) (record { width = 0; bounds = λ k. unbounded }) (integer d) e
+pub year_enclosed : {E : Type 0} (shown : E → Interval) (bits : ℕ) (d : ℤ) (e : E) → 36 ≤ bits → bits ≤ 56 → IsValueDay d
+    → Narrow shown (limits_of bits) (record { width = 0; bounds = λ k. unbounded }) (integer d) e
     → cell_at years (shown e) ≡ Some (year_of_day d)
 unfolding Keeps bound_of integer_bound
 year_enclosed shown bits d e a b h n =
@@ -59,7 +60,8 @@ closed_year i y (undecided_at u) e g h = λ s. by (h s)
     by (too_far q c n b) = let z : y ≡ q = cc in n (subst (λ t. FitsSigned w64 t) z g)
 
 -- of a whole day, no failure of the first three tests is at the year
-pub no_early_year : {E : Type 0} (shown : E → Interval) (bits : ℕ) (d : ℤ) (e : E) (f : Fail) → 36 ≤ bits → bits ≤ 56 → IsValueDay d → ((k : Reach) → Narrow shown (limits_of bits) k (integer d) e)
+pub no_early_year : {E : Type 0} (shown : E → Interval) (bits : ℕ) (d : ℤ) (e : E) (f : Fail) → 36 ≤ bits → bits ≤ 56 → IsValueDay d
+    → ((k : Reach) → Narrow shown (limits_of bits) k (integer d) e)
     → IsEarlyYearFor (shown e) f → IsNoEarlyYear f
 no_early_year shown bits d e (Void s) p q h n o = tt
 no_early_year shown bits d e (undecided_at u) p q h n o = λ s t.

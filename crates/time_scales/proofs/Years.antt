@@ -12,13 +12,13 @@ use Rattle.book_model.specs.declared.site.Site.TheVariants.{Year}
 use Rattle.book_model.specs.calendars.Gregorian.{year_of_day}
 use Rattle.book_model.specs.sky.Correction.{year_of}
 use Rattle.book_model.specs.numbers.Expressions.{Expression, World}
-use Rattle.book_model.specs.programs.Leading.{at_56, AreEnds, bounds, no_bounds, IsOpenCell, between_cells, too_far, Exact, Leads, next_turn}
+use Rattle.book_model.specs.programs.Leading.{units_of_56, AreEnds, bounds, no_bounds, IsOpenCell, between_cells, too_far, Exact, Leads, next_turn}
 use Rattle.book_model.specs.numbers.Relations.{Within}
 use Rattle.book_model.specs.programs.Programs.{Grid, years, cell_of, cell_at, answer}
 use Rattle.book_model.proofs.Leads.{leads_cell, leads_open_cell, leads_answer, lies}
 use Rattle.book_model.proofs.Nesting.{cell_nested}
 use Rattle.rounded_quotients.proofs.Quotients.{euclid_is}
-use Rattle.scaled_ends.proofs.Testing.{eq_yes, eq_no}
+use Rattle.interval_ends.proofs.Testing.{eq_yes, eq_no}
 use Rattle.time_scales.specs.Steps.{IsOpenYear, IsYearOpenFor}
 
 -- the day of a moment that counts 2^-56
@@ -26,22 +26,24 @@ pub day_is : (m q : ℤ) → q ≡ int_div_euclid m (pos 72057594037927936) → 
 day_is m q e = let f = e ∙ euclid_is m 72057594037927936 (omega arith) in rw f (floor_quotient_is m 72057594037927935)
 
 -- the year of that day is the year of the moment
-pub year_at_is : (m q : ℤ) → q ≡ int_div_euclid m (pos 72057594037927936) → year_of_day q ≡ cell_of years (at_56 m)
+pub year_at_is : (m q : ℤ) → q ≡ int_div_euclid m (pos 72057594037927936) → year_of_day q ≡ cell_of years (units_of_56 m)
 unfolding cell_of
 year_at_is m q e = let f = e ∙ euclid_is m 72057594037927936 (omega arith) in rw f refl
 
 -- both ends fall in one year
-pub year_same : (lo hi p q : ℤ) → p ≡ cell_of years (at_56 lo) → q ≡ cell_of years (at_56 hi) → p ≡ q → cell_at years (between (at_56 lo) (at_56 hi)) ≡ Some p
+pub year_same : (lo hi p q : ℤ) → p ≡ cell_of years (units_of_56 lo) → q ≡ cell_of years (units_of_56 hi) → p ≡ q
+    → cell_at years (between (units_of_56 lo) (units_of_56 hi)) ≡ Some p
 unfolding cell_at
-year_same lo hi p q e f h = let t = eq_yes (cell_of years (at_56 lo)) (cell_of years (at_56 hi)) (sym e ∙ h ∙ f) in rw (t, e) refl
+year_same lo hi p q e f h = let t = eq_yes (cell_of years (units_of_56 lo)) (cell_of years (units_of_56 hi)) (sym e ∙ h ∙ f) in rw (t, e) refl
 
 -- the ends fall in different years
-pub year_apart : (lo hi p q : ℤ) → p ≡ cell_of years (at_56 lo) → q ≡ cell_of years (at_56 hi) → (p ≡ q → ⊥) → cell_at years (between (at_56 lo) (at_56 hi)) ≡ None
+pub year_apart : (lo hi p q : ℤ) → p ≡ cell_of years (units_of_56 lo) → q ≡ cell_of years (units_of_56 hi) → (p ≡ q → ⊥)
+    → cell_at years (between (units_of_56 lo) (units_of_56 hi)) ≡ None
 unfolding cell_at
-year_apart lo hi p q e f n = let t = eq_no (cell_of years (at_56 lo)) (cell_of years (at_56 hi)) (λ h. n (e ∙ h ∙ sym f)) in rw t refl
+year_apart lo hi p q e f n = let t = eq_no (cell_of years (units_of_56 lo)) (cell_of years (units_of_56 hi)) (λ h. n (e ∙ h ∙ sym f)) in rw t refl
 
 -- two ends at scale 2^-56 are their own
-pub own_ends : (lo hi : ℤ) → AreEnds lo hi (between (at_56 lo) (at_56 hi))
+pub own_ends : (lo hi : ℤ) → AreEnds lo hi (between (units_of_56 lo) (units_of_56 hi))
 own_ends lo hi = bounds (record { cross = refl }) (record { cross = refl })
 
 -- ---- two intervals of which each holds the other
@@ -51,7 +53,8 @@ same_proper (between a b) everything p h k = absurd k.ends
 same_proper (between a b) (between c d) p h k = le_trans _ _ _ k.ends.0 (le_trans _ _ _ p k.ends.1)
 
 same_ends : (lo hi : ℤ) (i j : Interval) → i ⊆ j → j ⊆ i → AreEnds lo hi j → AreEnds lo hi i
-same_ends lo hi (between a b) (between c d) h k (bounds e f) = bounds (same_trans e (same_of_le h.ends.0 k.ends.0)) (same_trans f (same_of_le k.ends.1 h.ends.1))
+same_ends lo hi (between a b) (between c d) h k (bounds e f) = bounds (same_trans e (same_of_le h.ends.0 k.ends.0))
+    (same_trans f (same_of_le k.ends.1 h.ends.1))
 same_ends lo hi everything everything h k (no_bounds e) = no_bounds e
 same_ends lo hi (between a b) everything h k (no_bounds e) = absurd k.ends
 same_ends lo hi everything (between c d) h k (bounds e f) = absurd h.ends
@@ -71,16 +74,22 @@ same_open g lo hi i j p h k (between_cells e a) = between_cells (same_none g i j
 same_open g lo hi i j p h k (too_far q e n b) = too_far q (same_cell g q i j p h k e) n b
 
 -- ---- the ends of an enclosure, and the enclosure
-span_proper : (lo hi : ℤ) → lo ≤ℤ hi → IsProper (between (at_56 lo) (at_56 hi))
+span_proper : (lo hi : ℤ) → lo ≤ℤ hi → IsProper (between (units_of_56 lo) (units_of_56 hi))
 span_proper lo hi o = record { cross = omega (arith, ints) }
 
 -- the year of the ends is that of what they show
-pub year_shared : (lo hi y : ℤ) (i : Interval) → lo ≤ℤ hi → i ⊆ between (at_56 lo) (at_56 hi) → between (at_56 lo) (at_56 hi) ⊆ i → cell_at years (between (at_56 lo) (at_56 hi)) ≡ Some y → cell_at years i ≡ Some y
-year_shared lo hi y i o h k e = same_cell years y i (between (at_56 lo) (at_56 hi)) (span_proper lo hi o) h k e
+pub year_shared : (lo hi y : ℤ) (i : Interval) → lo ≤ℤ hi → i ⊆ between (units_of_56 lo) (units_of_56 hi) → between (units_of_56 lo) (units_of_56 hi) ⊆ i
+    → cell_at years (between (units_of_56 lo) (units_of_56 hi)) ≡ Some y → cell_at years i ≡ Some y
+year_shared lo hi y i o h k e = same_cell years y i (between (units_of_56 lo) (units_of_56 hi)) (span_proper lo hi o) h k e
 
 -- an open year of the ends is an open year of what they show
-pub open_shared : (lo hi : ℤ) (n m : ℕ) (i : Interval) (f : Fail) → n ≡ m → lo ≤ℤ hi → i ⊆ between (at_56 lo) (at_56 hi) → between (at_56 lo) (at_56 hi) ⊆ i → IsOpenYear (between (at_56 lo) (at_56 hi)) n f → IsOpenYear i m f
-open_shared lo hi n m i (undecided_at u) e o h k y = (same_open years u.lo u.hi i (between (at_56 lo) (at_56 hi)) (span_proper lo hi o) h k y.0, y.1, y.2 ∙ e)
+pub open_shared : (lo hi : ℤ) (n m : ℕ) (i : Interval) (f : Fail) → n ≡ m → lo ≤ℤ hi → i ⊆ between (units_of_56 lo) (units_of_56 hi)
+    → between (units_of_56 lo) (units_of_56 hi) ⊆ i → IsOpenYear (between (units_of_56 lo) (units_of_56 hi)) n f → IsOpenYear i m f
+open_shared lo hi n m i (undecided_at u) e o h k y = (
+  same_open years u.lo u.hi i (between (units_of_56 lo) (units_of_56 hi)) (span_proper lo hi o) h k y.0,
+  y.1,
+  y.2 ∙ e,
+)
 open_shared lo hi n m i (Void s) e o h k y = absurd y
 
 -- an enclosure of every number leaves the year open
@@ -90,18 +99,21 @@ open_everywhere i e = rw e (between_cells refl (no_bounds (record { least = refl
 
 -- ---- what the test says of a run
 -- a year that the enclosure decides
-pub leads_year : {E : Type 0} {shown : E → Interval} {w : World} {x : Expression} {e : E} (y : ℤ) (b a : ℕ) → Within shown w x e → cell_at years (shown e) ≡ Some y → a ≡ next_turn b → Leads w Exact (year_of x) b a (Ok y)
+pub leads_year : {E : Type 0} {shown : E → Interval} {w : World} {x : Expression} {e : E} (y : ℤ) (b a : ℕ) → Within shown w x e → cell_at years (shown e)
+    ≡ Some y → a ≡ next_turn b → Leads w Exact (year_of x) b a (Ok y)
 unfolding year_of
 leads_year {x = x} {e = e} y b a h d n = rw n (leads_cell Year years x _ y answer (lies h) d (leads_answer refl))
 
 -- a year that the enclosure leaves open
-pub leads_open_year : {E : Type 0} {shown : E → Interval} {w : World} {x : Expression} {e : E} (f : Fail) (b a : ℕ) → Within shown w x e → IsOpenYear (shown e) a f → a ≡ next_turn b → Leads w (Exact {A = ℤ}) (year_of x) b a (Err f)
+pub leads_open_year : {E : Type 0} {shown : E → Interval} {w : World} {x : Expression} {e : E} (f : Fail) (b a : ℕ) → Within shown w x e
+    → IsOpenYear (shown e) a f → a ≡ next_turn b → Leads w (Exact {A = ℤ}) (year_of x) b a (Err f)
 unfolding year_of
 leads_open_year {x = x} {e = e} (undecided_at u) b a h o n = rw (← o.1) (leads_open_cell years x _ answer a u (lies h) (o.2 ∙ n) n o.0)
 leads_open_year {x = x} {e = e} (Void s) b a h o n = absurd o
 
 -- a test of the year, by its result
-pub leads_year_test : {E : Type 0} {shown : E → Interval} {w : World} {x : Expression} {e : E} (r : Result ℤ Fail) (b a : ℕ) → IfOk r (λ y. cell_at years (shown e) ≡ Some y) → IfErr r (IsOpenYear (shown e) a) → a ≡ next_turn b
+pub leads_year_test : {E : Type 0} {shown : E → Interval} {w : World} {x : Expression} {e : E} (r : Result ℤ Fail) (b a : ℕ)
+    → IfOk r (λ y. cell_at years (shown e) ≡ Some y) → IfErr r (IsOpenYear (shown e) a) → a ≡ next_turn b
     → Within shown w x e → Leads w Exact (year_of x) b a r
 leads_year_test (Ok y) b a d o n h = leads_year y b a h d n
 leads_year_test (Err f) b a d o n h = leads_open_year f b a h o n

@@ -26,7 +26,7 @@ use Rattle.book_model.proofs.CorrectionRows.{both}
 use Rattle.book_model.proofs.Places.{zone_kept}
 use Rattle.time_scales.specs.Widths.{IsMidnightDay}
 use Rattle.book_model.proofs.Implying.{limits_within}
-use Rattle.width_laws.proofs.Measuring.{measured, sloped, looser}
+use Rattle.greatest_widths.proofs.Measuring.{measured, sloped, looser}
 
 both_hold : (p q : Bool) → p ≡ true → q ≡ true → (p && q) ≡ true
 both_hold p q e f = rw (e, f) refl
@@ -45,7 +45,8 @@ whole_bound d h =
     rw p refl
 
 -- within 40,000,001 days of day 0
-pub whole_day_within : {E : Type 0} (shown : E → Interval) (n : ℕ) (d : ℤ) (x : E) → n ≡ 56 → IsMidnightDay d → ((r : Reach) → Narrow shown (limits_of n) r (integer d) x) → IsAbout (40000001 * 2 ^ 32) 0 (shown x)
+pub whole_day_within : {E : Type 0} (shown : E → Interval) (n : ℕ) (d : ℤ) (x : E) → n ≡ 56 → IsMidnightDay d
+    → ((r : Reach) → Narrow shown (limits_of n) r (integer d) x) → IsAbout (40000001 * 2 ^ 32) 0 (shown x)
 unfolding Keeps
 whole_day_within shown n d x e h f =
     let l = limits_within n (omega arith) (omega arith) in
@@ -54,13 +55,17 @@ whole_day_within shown n d x e h f =
     looser _ _ _ _ 0 0 _ (omega (arith, ints, h.0)) (omega (arith, ints, h.1)) (omega arith) (record { kept = rw (l, e, b) at z.kept })
 
 -- ---- the hours of a zone
-pub hours_within : {E : Type 0} (shown : E → Interval) (n m : ℕ) (f : Frac) (h : E) → n ≡ 56 → are_kept_hours m f ≡ true → ((r : Reach) → Narrow shown (limits_of n) r (constant (fraction_of f)) h) → IsUpTo m (2 ^ 8) (shown h)
+pub hours_within : {E : Type 0} (shown : E → Interval) (n m : ℕ) (f : Frac) (h : E) → n ≡ 56 → are_kept_hours m f ≡ true
+    → ((r : Reach) → Narrow shown (limits_of n) r (constant (fraction_of f)) h) → IsUpTo m (2 ^ 8) (shown h)
 hours_within shown n m f h e k g =
-    measured shown n 0 (λ k. unbounded) (constant (fraction_of f)) _ _ 0 (2 ^ 8) (2 ^ 8) h e (both _ _ k).0 (omega arith) (g (record { width = 0; bounds = λ k. unbounded }))
+    measured shown n 0 (λ k. unbounded) (constant (fraction_of f)) _ _ 0 (2 ^ 8) (2 ^ 8) h e (both _ _ k).0 (omega arith)
+    (g (record { width = 0; bounds = λ k. unbounded }))
 
 -- the day whose comparison with a moment tells which they are
-pub step_within : {E : Type 0} (shown : E → Interval) (n m : ℕ) (s : ZoneStep) (x : E) → n ≡ 56 → is_kept_step m s ≡ true → ((r : Reach) → Narrow shown (limits_of n) r (integer s.before) x) → IsAbout (2 ^ 90) 0 (shown x)
-step_within shown n m s x e k f = measured shown n 0 (λ k. unbounded) (integer s.before) _ _ 0 0 0 x e (both _ _ k).1 (omega arith) (f (record { width = 0; bounds = λ k. unbounded }))
+pub step_within : {E : Type 0} (shown : E → Interval) (n m : ℕ) (s : ZoneStep) (x : E) → n ≡ 56 → is_kept_step m s ≡ true
+    → ((r : Reach) → Narrow shown (limits_of n) r (integer s.before) x) → IsAbout (2 ^ 90) 0 (shown x)
+step_within shown n m s x e k f = measured shown n 0 (λ k. unbounded) (integer s.before) _ _ 0 0 0 x e (both _ _ k).1 (omega arith)
+    (f (record { width = 0; bounds = λ k. unbounded }))
 
 -- the hours of a day are hours of the zone
 pub hours_kept : (m : ℕ) (steps : List ZoneStep) (last : Frac) (d : ℤ) → is_kept_zone m steps last ≡ true → are_kept_hours m (hours_on steps last d) ≡ true
@@ -70,7 +75,8 @@ hours_kept m (step ∷ steps) last d h =
     let s = both (is_kept_step m step) _ b.0 in
     by (int_lt d step.before) (both _ _ s.0).0 (hours_kept m steps last d (both_hold _ _ s.1 b.1))
   where
-    by : (t : Bool) → are_kept_hours m step.hours ≡ true → are_kept_hours m (hours_on steps last d) ≡ true → are_kept_hours m (if t then step.hours else hours_on steps last d) ≡ true
+    by : (t : Bool) → are_kept_hours m step.hours ≡ true → are_kept_hours m (hours_on steps last d) ≡ true
+        → are_kept_hours m (if t then step.hours else hours_on steps last d) ≡ true
     by true p q = p
     by false p q = q
 
@@ -95,18 +101,22 @@ no_step (step ∷ later) last x h = absurd (omega (arith, h))
 
 pub first_step : (none : ZoneStep) (steps : List ZoneStep) (last : Frac) (x : Expression) → 1 ≤ length steps
     → hours_at_of steps last x
-    ≡ bind (compare Zone x (integer (slice_index_or steps 0 none).before) answer) (λ early. if early then answer (constant (fraction_of (slice_index_or steps 0 none).hours)) else hours_at_of (take (length steps - 1) (drop 1 steps)) last x)
+    ≡ bind (compare Zone x (integer (slice_index_or steps 0 none).before) answer)
+    (λ early. if early then answer (constant (fraction_of (slice_index_or steps 0 none).hours)) else hours_at_of (take (length steps - 1) (drop 1 steps))
+    last x)
 unfolding hours_at_of
 first_step none [] last x h = absurd (omega (arith, h))
 first_step none (step ∷ later) last x h =
-    λ j. bind (compare Zone x (integer step.before) answer) (λ early. if early then answer (constant (fraction_of step.hours)) else hours_at_of (others step later j) last x)
+    λ j. bind (compare Zone x (integer step.before) answer) (λ early.
+    if early then answer (constant (fraction_of step.hours)) else hours_at_of (others step later j) last x)
 
 pub no_step_on : (steps : List ZoneStep) (last : Frac) (d : ℤ) → length steps < 1 → hours_on steps last d ≡ last
 no_step_on [] last d h = refl
 no_step_on (step ∷ later) last d h = absurd (omega (arith, h))
 
 pub first_step_on : (none : ZoneStep) (steps : List ZoneStep) (last : Frac) (d : ℤ) → 1 ≤ length steps
-    → hours_on steps last d ≡ (if int_lt d (slice_index_or steps 0 none).before then (slice_index_or steps 0 none).hours else hours_on (take (length steps - 1) (drop 1 steps)) last d)
+    → hours_on steps last d ≡ (if int_lt d (slice_index_or steps 0 none).before then (slice_index_or steps 0 none).hours else hours_on
+    (take (length steps - 1) (drop 1 steps)) last d)
 first_step_on none [] last d h = absurd (omega (arith, h))
 first_step_on none (step ∷ later) last d h = λ j. if int_lt d step.before then step.hours else hours_on (others step later j) last d
 
@@ -115,7 +125,8 @@ pub record AreKeptSteps (none : ZoneStep) (m : ℕ) (steps : List ZoneStep) (las
   pub first : is_kept_step m (slice_index_or steps 0 none) ≡ true
   pub later : is_kept_zone m (take (length steps - 1) (drop 1 steps)) last ≡ true
 
-pub kept_steps : (none : ZoneStep) (m : ℕ) (steps : List ZoneStep) (last : Frac) → 1 ≤ length steps → is_kept_zone m steps last ≡ true → AreKeptSteps none m steps last
+pub kept_steps : (none : ZoneStep) (m : ℕ) (steps : List ZoneStep) (last : Frac) → 1 ≤ length steps → is_kept_zone m steps last ≡ true
+    → AreKeptSteps none m steps last
 kept_steps none m [] last h k = absurd (omega (arith, h))
 kept_steps none m (step ∷ later) last h k =
     let b = both (list_all (is_kept_step m) (step ∷ later)) _ k in
@@ -129,14 +140,17 @@ last_kept m steps last k = (both (list_all (is_kept_step m) steps) _ k).1
 abbrev moment_bounds : ℕ → Bound
 moment_bounds k = if k == 0 then bounded (neg_ℤ (pos (2 ^ 58))) (pos (2 ^ 58)) (2 ^ 40) 0 else bounded (pos 0) (pos (24 * 2 ^ 32)) 0 (2 ^ 8)
 
-later_reach : implies (bound_of (limits_at 56) moment_bounds (add (argument 0) (scale (fraction_of HOUR) (argument 1)))) (bounded (neg_ℤ (pos (2 ^ 59))) (pos (2 ^ 59)) (2 ^ 40) (3 * 2 ^ 8)) ≡ true
+later_reach : implies (bound_of (limits_at 56) moment_bounds (add (argument 0) (scale (fraction_of HOUR) (argument 1))))
+    (bounded (neg_ℤ (pos (2 ^ 59))) (pos (2 ^ 59)) (2 ^ 40) (3 * 2 ^ 8)) ≡ true
 unfolding implies bound_of sum_bound scaled_bound
 later_reach = refl
 
 pub later_within : {E : Type 0} (shown : E → Interval) (n v : ℕ) (t h y : E) → n ≡ 56 → IsMoment v (shown t) → IsUpTo 24 (2 ^ 8) (shown h)
-    → ((r : Reach) (p q : Expression) → Narrow shown (limits_of n) r p t → Narrow shown (limits_of n) r q h → Narrow shown (limits_of n) r (add p (scale (fraction_of HOUR) q)) y) → IsAbout (2 ^ 59) (v + 3 * 2 ^ 8) (shown y)
+    → ((r : Reach) (p q : Expression) → Narrow shown (limits_of n) r p t → Narrow shown (limits_of n) r q h
+    → Narrow shown (limits_of n) r (add p (scale (fraction_of HOUR) q)) y) → IsAbout (2 ^ 59) (v + 3 * 2 ^ 8) (shown y)
 later_within shown n v t h y e i k f =
-    measured shown n v moment_bounds (add (argument 0) (scale (fraction_of HOUR) (argument 1))) _ _ (2 ^ 40) (3 * 2 ^ 8) (v + 3 * 2 ^ 8) y e later_reach (omega arith)
+    measured shown n v moment_bounds (add (argument 0) (scale (fraction_of HOUR) (argument 1))) _ _ (2 ^ 40) (3 * 2 ^ 8) (v + 3 * 2 ^ 8) y e later_reach
+    (omega arith)
     (f (record { width = v; bounds = moment_bounds }) (argument 0) (argument 1)
     (sloped shown (limits_of n) v v moment_bounds 0 (neg_ℤ (pos (2 ^ 58))) (pos (2 ^ 58)) (2 ^ 40) 0 t refl (omega arith) i)
     (sloped shown (limits_of n) v (2 ^ 8) moment_bounds 1 (pos 0) (pos (24 * 2 ^ 32)) 0 (2 ^ 8) h refl (omega arith) k))
@@ -144,12 +158,14 @@ later_within shown n v t h y e i k f =
 abbrev day_bounds : ℕ → Bound
 day_bounds k = if k == 0 then bounded (neg_ℤ (pos (40000001 * 2 ^ 32))) (pos (40000001 * 2 ^ 32)) 0 0 else bounded (pos 0) (pos (24 * 2 ^ 32)) 0 (2 ^ 8)
 
-midnight_reach : implies (bound_of (limits_at 56) day_bounds (subtract (argument 0) (scale (fraction_of HOUR) (argument 1)))) (bounded (neg_ℤ (pos (2 ^ 58))) (pos (2 ^ 58)) 0 (3 * 2 ^ 8)) ≡ true
+midnight_reach : implies (bound_of (limits_at 56) day_bounds (subtract (argument 0) (scale (fraction_of HOUR) (argument 1))))
+    (bounded (neg_ℤ (pos (2 ^ 58))) (pos (2 ^ 58)) 0 (3 * 2 ^ 8)) ≡ true
 unfolding implies bound_of difference_bound scaled_bound
 midnight_reach = refl
 
 pub midnight_within : {E : Type 0} (shown : E → Interval) (n : ℕ) (x h y : E) → n ≡ 56 → IsAbout (40000001 * 2 ^ 32) 0 (shown x) → IsUpTo 24 (2 ^ 8) (shown h)
-    → ((r : Reach) (p q : Expression) → Narrow shown (limits_of n) r p x → Narrow shown (limits_of n) r q h → Narrow shown (limits_of n) r (subtract p (scale (fraction_of HOUR) q)) y) → IsMoment (3 * 2 ^ 8) (shown y)
+    → ((r : Reach) (p q : Expression) → Narrow shown (limits_of n) r p x → Narrow shown (limits_of n) r q h
+    → Narrow shown (limits_of n) r (subtract p (scale (fraction_of HOUR) q)) y) → IsMoment (3 * 2 ^ 8) (shown y)
 midnight_within shown n x h y e i k f =
     measured shown n 0 day_bounds (subtract (argument 0) (scale (fraction_of HOUR) (argument 1))) _ _ 0 (3 * 2 ^ 8) (3 * 2 ^ 8) y e midnight_reach (omega arith)
     (f (record { width = 0; bounds = day_bounds }) (argument 0) (argument 1)

@@ -33,4 +33,5 @@ horner_width F (suc k) = horner_width F k * F + 3 * 2 ^ 8
 -- whether the scale 2^-56 bears them
 unfoldable pub horner_fits : List Frac → (F : ℕ) → ℕ → Bool
 horner_fits cs F zero = true
-horner_fits cs F (suc k) = horner_fits cs F k && (nat_lt (horner_size cs F k) (2 ^ 62) && (nat_lt (horner_size cs F (suc k)) (2 ^ 100) && nat_lt (unsigned_abs (coefficient_at cs k).num) (2 ^ 70)))
+horner_fits cs F (suc k) = horner_fits cs F k && (nat_lt (horner_size cs F k) (2 ^ 62) &&
+    (nat_lt (horner_size cs F (suc k)) (2 ^ 100) && nat_lt (unsigned_abs (coefficient_at cs k).num) (2 ^ 70)))

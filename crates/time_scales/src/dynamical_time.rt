@@ -9,8 +9,8 @@ ghost use Rattle.book_model.specs.programs.Leading.{next_turn};
 ghost use Rattle.book_model.specs.numbers.Ranges.{IsInTable};
 ghost use Rattle.book_model.specs.numbers.Relations.{Narrow};
 ghost use Rattle.book_model.specs.sky.Time.{hundreds_of, centuries_to_july, correction_by, correction_of_year, correction_at, dynamical_of, from_dynamical_of, in_centuries, centuries_of};
-ghost use Rattle.width_laws.specs.declared.table.TheConstants.{CORRECTION, CENTURIES};
-ghost use Rattle.width_laws.specs.Table.{greatest_of};
+ghost use Rattle.greatest_widths.specs.declared.table.TheConstants.{CORRECTION, CENTURIES};
+ghost use Rattle.greatest_widths.specs.Table.{greatest_of};
 ghost use Rattle.time_scales.specs.Steps.{IsYearOpenFor};
 ghost use Rattle.time_scales.specs.Widths.{IsLater, IsNearlyRecent, AreRecentCenturies};
 ghost use Rattle.time_scales.specs.Corrections.{IsFormYear, computed_by, computed_of, units_of_year, correction_bound};
@@ -133,8 +133,10 @@ fn correction_of_moment<E: Enclosure>(t: E, trail: &mut Trail) -> Result<E, Fail
 pub fn dynamical<E: Enclosure>(t: E, trail: &mut Trail) -> Result<E, Fail>
     ensures leads { Follows1 E.shown dynamical_of t trail.old.count trail.new.count result }
     ensures in_table { IfOk result (λ e. IsInTable (E.shown t)) }
-    ensures measured { Measured1 E.BITS E.shown (2 ^ 44) IsMoment (λ v. IsNearlyDated (v + 2 ^ 17)) t result }
-    ensures recent { Measured1 E.BITS E.shown (2 ^ 44) IsRecent (λ v. IsNearlyRecent (v + 2 ^ 17)) t result }
+    ensures measured { Measured1 E.BITS E.shown (2 ^ 44) IsMoment
+        (λ v. IsNearlyDated (v + 2 ^ 17)) t result }
+    ensures recent { Measured1 E.BITS E.shown (2 ^ 44) IsRecent
+        (λ v. IsNearlyRecent (v + 2 ^ 17)) t result }
     ensures open { IfErr result (IsYearOpenFor (E.shown t)) }
     ensures counted { trail.new.count ≡ next_turn trail.old.count }
 {

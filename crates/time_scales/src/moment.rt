@@ -6,7 +6,7 @@ ghost use Rattle.exact_math.specs.Interval.{between};
 ghost use Rattle.book_model.specs.calendars.Gregorian.{year_of_day};
 ghost use Rattle.book_model.specs.sky.Correction.{year_of};
 ghost use Rattle.book_model.specs.numbers.Expressions.{World, integer};
-ghost use Rattle.book_model.specs.programs.Leading.{at_56, Exact, Leads, next_turn};
+ghost use Rattle.book_model.specs.programs.Leading.{units_of_56, Exact, Leads, next_turn};
 ghost use Rattle.book_model.specs.programs.Programs.{years, cell_of, cell_at};
 ghost use Rattle.time_scales.specs.Steps.{IsOpenYear};
 ghost use Rattle.time_scales.specs.Widths.{HasYearEnds};
@@ -20,16 +20,18 @@ const DAY: i128 = 72_057_594_037_927_936;
 
 /// The year of a moment that counts 2⁻⁵⁶ of a day.
 fn year_at(moment: i128) -> i64
-    ensures year { result ≡ cell_of years (at_56 moment) }
+    ensures year { result ≡ cell_of years (units_of_56 moment) }
 {
     gregorian::year_of(moment.div_euclid(DAY))
 }
 
 /// The year in which both ends fall, by the test of the run that has this number.
 fn year_between(span: Span, turn: u32) -> Result<i64, Fail>
-    ensures decided { IfOk result (λ y. cell_at years (between (at_56 span.lo) (at_56 span.hi))
+    ensures decided { IfOk result (λ y. cell_at years (between (units_of_56 span.lo)
+        (units_of_56 span.hi))
         ≡ Some y) }
-    ensures open { IfErr result (IsOpenYear (between (at_56 span.lo) (at_56 span.hi)) turn) }
+    ensures open { IfErr result (IsOpenYear (between (units_of_56 span.lo) (units_of_56 span.hi))
+        turn) }
     ensures ends { IfErr result (HasYearEnds span.lo span.hi) }
 {
     let first = year_at(span.lo);

@@ -7,8 +7,8 @@ ghost use Rattle.book_model.specs.numbers.Expressions.{Expression};
 ghost use Rattle.book_model.specs.numbers.Polynomials.{cubic_of};
 ghost use Rattle.book_model.specs.numbers.Relations.{Narrow};
 ghost use Rattle.book_model.specs.sky.Time.{in_centuries, sidereal_of};
-ghost use Rattle.width_laws.specs.declared.table.TheConstants.{SIDEREAL};
-ghost use Rattle.width_laws.specs.Table.{greatest_of};
+ghost use Rattle.greatest_widths.specs.declared.table.TheConstants.{SIDEREAL};
+ghost use Rattle.greatest_widths.specs.Table.{greatest_of};
 
 use crate::dynamical_time::to_centuries;
 use crate::polynomial::cubic;
@@ -24,7 +24,8 @@ pub fn sidereal<E: Enclosure>(t: E, trail: &mut Trail) -> Result<E, Fail>
     ensures narrow { IfOk result (λ y. (r : Reach) (x : Expression)
         → Narrow E.shown (limits_of E.BITS) r x t → Narrow E.shown (limits_of E.BITS) r
         (cubic_of SIDEREAL_TIME (in_centuries x)) y) }
-    ensures measured { Measured1 E.BITS E.shown (2 ^ 44) IsDated (λ v. IsAbout (2 ^ 61) (greatest_of SIDEREAL v))
+    ensures measured { Measured1 E.BITS E.shown (2 ^ 44) IsDated
+        (λ v. IsAbout (2 ^ 61) (greatest_of SIDEREAL v))
         t result }
 {
     Ok(cubic(&SIDEREAL_TIME, to_centuries(t)))

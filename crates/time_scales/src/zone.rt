@@ -56,7 +56,8 @@ fn hours_on(steps: &[ZoneStep], last: Frac, day: i64) -> Frac
 #[tactic(auto, unfolding(book_model::specs::sky::Time::zone_of))]
 pub fn zone_at<E: Enclosure>(place: Place, t: E, trail: &mut Trail) -> Result<E, Fail>
     ensures leads { Follows1 E.shown (spec.zone_of place) t trail.old.count trail.new.count result }
-    ensures measured { Measured1 E.BITS E.shown (2 ^ 44) IsMoment (λ v. IsUpTo 24 (2 ^ 8)) t result }
+    ensures measured { Measured1 E.BITS E.shown (2 ^ 44) IsMoment
+        (λ v. IsUpTo 24 (2 ^ 8)) t result }
 {
     hours_at(place.zone_steps(), place.last_hours(), t, trail)
 }
@@ -91,8 +92,10 @@ pub fn midnight<E: Enclosure>(place: Place, day: i64) -> E
 /// The time of a place at a moment of universal time: the tests of its zone.
 #[tactic(auto, using(book_model::proofs::Leads::leading), unfolding(book_model::specs::sky::Time::in_zone_of))]
 pub fn in_zone<E: Enclosure>(place: Place, t: E, trail: &mut Trail) -> Result<E, Fail>
-    ensures leads { Follows1 E.shown (spec.in_zone_of place) t trail.old.count trail.new.count result }
-    ensures measured { Measured1 E.BITS E.shown (2 ^ 44) IsMoment (λ v. IsAbout (2 ^ 59) (v + 3 * 2 ^ 8))
+    ensures leads { Follows1 E.shown (spec.in_zone_of place) t trail.old.count trail.new.count
+        result }
+    ensures measured { Measured1 E.BITS E.shown (2 ^ 44) IsMoment
+        (λ v. IsAbout (2 ^ 59) (v + 3 * 2 ^ 8))
         t result }
 {
     let hours = zone_at(place, t, trail)?;

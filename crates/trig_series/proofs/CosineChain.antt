@@ -76,7 +76,9 @@ start_high = record { above = record { cross = record { le = tt } }; below = rec
 pub innermost : (w : ℕ) → Keeps 2881 w 0 2881
 innermost w C u v z i s n = step_near 2881 w 0 0 C u v (record { not_above = omega arith; close = omega arith }) (omega arith) (omega arith) z i s n
 
-nested_is : (u s : Fraction) → step_at (ratio 0) u (step_at (ratio 1) u (step_at (ratio 2) u (step_at (ratio 3) u (step_at (ratio 4) u (step_at (ratio 5) u (step_at (ratio 6) u (step_at (ratio 7) u (step_at (ratio 8) u (step_at (ratio 9) u s))))))))) ≡ nested u ratio s 9
+nested_is : (u s : Fraction) → step_at (ratio 0) u (step_at (ratio 1) u
+    (step_at (ratio 2) u (step_at (ratio 3) u (step_at (ratio 4) u
+    (step_at (ratio 5) u (step_at (ratio 6) u (step_at (ratio 7) u (step_at (ratio 8) u (step_at (ratio 9) u s))))))))) ≡ nested u ratio s 9
 unfolding nested
 nested_is u s = refl
 
@@ -101,10 +103,12 @@ coefficient_next : (k : ℕ) (N : Fraction) → times (coefficient (suc k)) N �
 unfolding coefficient
 coefficient_next k N = refl
 
-on : (k c w t z : ℕ) (u N : Fraction) → Keeps c w t z → zero_F ≤F u → IsCut c (coefficient k) → IsSquare w u → IsWithinUnits 320 t (times (coefficient (suc k)) N) → IsWithinUnits 320 z (times (coefficient k) (step_at (ratio k) u N))
+on : (k c w t z : ℕ) (u N : Fraction) → Keeps c w t z → zero_F ≤F u → IsCut c (coefficient k) → IsSquare w u
+    → IsWithinUnits 320 t (times (coefficient (suc k)) N) → IsWithinUnits 320 z (times (coefficient k) (step_at (ratio k) u N))
 on k c w t z u N f p i s n = next c w t z (coefficient k) (ratio k) u N f p i s (rw (coefficient_next k N) at n)
 
-chained : (w j i h g f e d c b a : ℕ) (u s : Fraction) → Chain w j i h g f e d c b a → zero_F ≤F u → IsSquare w u → IsWithinUnits 320 0 (eleventh s) → IsWithinUnits 320 a (nested u ratio s 9)
+chained : (w j i h g f e d c b a : ℕ) (u s : Fraction) → Chain w j i h g f e d c b a → zero_F ≤F u → IsSquare w u → IsWithinUnits 320 0 (eleventh s)
+    → IsWithinUnits 320 a (nested u ratio s 9)
 chained w j i h g f e d c b a u s k z q n =
     let n9 = next 2881 w 0 j (coefficient 9) (ratio 9) u s k.k9 z cut_9 q n in
     let n8 = on 8 881657 w j i u _ k.k8 z cut_8 q n9 in
@@ -120,7 +124,8 @@ chained w j i h g f e d c b a u s k z q n =
 
 cosine_ends : (e x : Fraction) → times (cosine_term x 0) (inner e (times x x) ratio 9) ≈ nested (times x x) ratio (flipped e 9) 9
 cosine_ends e x =
-    same_trans (times_cong (cosine_one x) (inner_nested 9 e (times x x) ratio)) (same_by (nested (times x x) ratio (flipped e 9) 9 ∷ []) (lit (pos 1) ⊗ at 0) (at 0) refl)
+    same_trans (times_cong (cosine_one x) (inner_nested 9 e (times x x) ratio))
+    (same_by (nested (times x x) ratio (flipped e 9) 9 ∷ []) (lit (pos 1) ⊗ at 0) (at 0) refl)
 
 pub low_is : (x : Fraction) → IsUpTo 4 5 x → nested (times x x) ratio (flipped (whole (negsuc 1)) 9) 9 ≤F lower (cosine_term x) 9
 low_is x h =
@@ -142,7 +147,8 @@ deeper (suc k) x s h a =
     let g = rw f at b in
     rw e (record { low = le_trans _ (lower (cosine_term x) (suc (k + 8))) _ g.low n.0; high = le_trans _ (upper (cosine_term x) (suc (k + 8))) _ n.1 g.high })
 
-pub cosine_near : (n angle w j i h g f e d c b a : ℕ) (x : Fraction) → 9 ≤ n → angle ≤ 14757395258967641292 → IsHigh w angle angle → IsAngle angle x → Chain w j i h g f e d c b a → AreCosineEnds x a n
+pub cosine_near : (n angle w j i h g f e d c b a : ℕ) (x : Fraction) → 9 ≤ n → angle ≤ 14757395258967641292 → IsHigh w angle angle → IsAngle angle x
+    → Chain w j i h g f e d c b a → AreCosineEnds x a n
 cosine_near n angle w j i h g f e d c b a x l small p t k =
     let u = angle_fifths angle x t in
     let z = square_nonneg x u in

@@ -9,7 +9,7 @@ use Rattle.exact_math.proofs.Fractions.{le_trans}
 use Rattle.exact_math.proofs.Same.{same_trans, same_sym}
 use Rattle.exact_math.proofs.Certificates.{zero_F, ◌≼◌, ◌≗◌, known, multiple, ◌⊞◌, ◌⊠◌, natural, le_by, le_over}
 use Rattle.exact_math.proofs.Alternating.{beneath, atop, beneath_step, tails, lower_is_beneath, sum_ends_in_order}
-use Rattle.book_model.specs.programs.Leading.{at_56}
+use Rattle.book_model.specs.programs.Leading.{units_of_56}
 use Rattle.book_model.specs.numbers.Series.{sine_term, cosine_term, over_factorial}
 use Rattle.book_model.proofs.Terms.{IsUpTo, sine_halving, sine_rising, sine_first, cosine_halving, cosine_falling, cosine_one}
 use Rattle.trig_series.specs.Kernel.{at_64, in_radians}
@@ -25,10 +25,11 @@ unfolding times
 in_fifths d h = record { nonneg = record { cross = omega (arith, ints) }; bound = record { cross = omega (arith, ints, h) } }
 
 -- ---- the cosine
-full_part : whole (pos 1) ≤F at_56 (pos 72057594037927936)
+full_part : whole (pos 1) ≤F units_of_56 (pos 72057594037927936)
 full_part = record { cross = omega (arith, ints) }
 
-cosine_lower_above : (d : ℕ) → d ≤ 3242591731706757120 → whole (pos 1) ≤F plus (lower (cosine_term (in_radians d)) 9) (times half (times (in_radians d) (in_radians d)))
+cosine_lower_above : (d : ℕ) → d ≤ 3242591731706757120 → whole (pos 1) ≤F plus (lower (cosine_term (in_radians d)) 9)
+    (times half (times (in_radians d) (in_radians d)))
 cosine_lower_above d u =
     let x = in_radians d in
     let o = in_radians 0 in
@@ -44,7 +45,7 @@ cosine_lower_above d u =
     (moved, (le_trans _ _ _ full_part (cosine_zero o none_in_radians).0, (cosine_second o, (none_in_radians, (cosine_second x, tt)))))
 
 -- a degree is less than 100 / 5729 of a radian
-few_radians : (d : ℕ) → times (whole (pos 5729)) (in_radians d) ≤F times (whole (pos 100)) (at_56 (pos d))
+few_radians : (d : ℕ) → times (whole (pos 5729)) (in_radians d) ≤F times (whole (pos 100)) (units_of_56 (pos d))
 unfolding times
 few_radians d = record { cross = omega (arith, ints) }
 
@@ -52,15 +53,19 @@ no_radians_less : (d : ℕ) → zero_F ≤F in_radians d
 unfolding times
 no_radians_less d = record { cross = omega (arith, ints) }
 
-cosine_by_degrees : (d : ℕ) (a : Fraction) → whole (pos 1) ≤F plus a (times half (times (in_radians d) (in_radians d))) → whole (pos 6561) ≤F plus (times (whole (pos 6561)) a) (times (at_56 (pos d)) (at_56 (pos d)))
+cosine_by_degrees : (d : ℕ) (a : Fraction) → whole (pos 1) ≤F plus a (times half (times (in_radians d) (in_radians d)))
+    → whole (pos 6561) ≤F plus (times (whole (pos 6561)) a) (times (units_of_56 (pos d)) (units_of_56 (pos d)))
 cosine_by_degrees d a h =
-    le_over 19999 (a ∷ in_radians d ∷ at_56 (pos d) ∷ half ∷ [])
-    ((lit (pos 1) ≼ at 0 ⊕ at 3 ⊗ (at 1 ⊗ at 1)) ∷ (lit (pos 0) ≼ at 1) ∷ (lit (pos 5729) ⊗ at 1 ≼ lit (pos 100) ⊗ at 2) ∷ (lit (pos 2) ⊗ at 3 ≗ lit (pos 1)) ∷ [])
+    le_over 19999 (a ∷ in_radians d ∷ units_of_56 (pos d) ∷ half ∷ [])
+    ((lit (pos 1) ≼ at 0 ⊕ at 3 ⊗ (at 1 ⊗ at 1)) ∷ (lit (pos 0) ≼ at 1) ∷ (lit (pos 5729) ⊗ at 1 ≼ lit (pos 100) ⊗ at 2) ∷ (lit (pos 2) ⊗ at 3 ≗ lit (pos 1)) ∷
+    [])
     (lit (pos 6561)) (lit (pos 6561) ⊗ at 0 ⊕ at 2 ⊗ at 2)
-    (natural 131220000 ⊠ known 0 ⊞ natural 2 ⊠ known 2 ⊠ (known 2 ⊞ natural 11458 ⊠ known 1) ⊞ natural 32882 ⊠ known 1 ⊠ known 1 ⊞ multiple 3 (lit (pos 65610000) ⊗ (at 1 ⊗ at 1))) refl
+    (natural 131220000 ⊠ known 0 ⊞ natural 2 ⊠ known 2 ⊠ (known 2 ⊞ natural 11458 ⊠ known 1) ⊞ natural 32882 ⊠ known 1 ⊠ known 1 ⊞ multiple 3
+    (lit (pos 65610000) ⊗ (at 1 ⊗ at 1))) refl
     (h, (no_radians_less d, (few_radians d, (half_twice, tt))))
 
-crest_parts : (d : ℕ) (a : ℤ) → whole (pos 6561) ≤F plus (times (whole (pos 6561)) (at_64 a)) (times (at_56 (pos d)) (at_56 (pos d))) → ((pos (2 ^ 64) -ℤ a) *ℤ pos (6561 * 2 ^ 48)) ≤ℤ (pos d *ℤ pos d)
+crest_parts : (d : ℕ) (a : ℤ) → whole (pos 6561) ≤F plus (times (whole (pos 6561)) (at_64 a)) (times (units_of_56 (pos d)) (units_of_56 (pos d)))
+    → ((pos (2 ^ 64) -ℤ a) *ℤ pos (6561 * 2 ^ 48)) ≤ℤ (pos d *ℤ pos d)
 unfolding plus times
 crest_parts d a h = omega (arith, ints, h.cross)
 
@@ -68,7 +73,8 @@ plus_first : (a b c : Fraction) → a ≤F b → plus a c ≤F plus b c
 plus_first a b c h = le_by (a ∷ b ∷ c ∷ []) ((at 0 ≼ at 1) ∷ []) (at 0 ⊕ at 2) (at 1 ⊕ at 2) (known 0) refl (h, tt)
 
 -- what is at least the cosine of d degrees is at least 1 less the square of their 81st
-pub cosine_above : (d : ℕ) (a : ℤ) → d ≤ 3242591731706757120 → upper (cosine_term (in_radians d)) 9 ≤F at_64 a → ((pos (2 ^ 64) -ℤ a) *ℤ pos (6561 * 2 ^ 48)) ≤ℤ (pos d *ℤ pos d)
+pub cosine_above : (d : ℕ) (a : ℤ) → d ≤ 3242591731706757120 → upper (cosine_term (in_radians d)) 9 ≤F at_64 a → ((pos (2 ^ 64) -ℤ a) *ℤ pos (6561 * 2 ^ 48))
+    ≤ℤ (pos d *ℤ pos d)
 cosine_above d a u h =
     let x = in_radians d in
     let there = sum_ends_in_order 9 (cosine_term x) ((cosine_halving x (in_fifths d u)).nonneg 9) in
@@ -85,9 +91,11 @@ sixth_six = record { cross = omega (arith, ints) }
 sine_second : (x : Fraction) → sine_term x 1 ≈ times sixth (times x (times x x))
 unfolding sine_term power over_factorial
 sine_second x =
-    same_by (x ∷ half ∷ one_over 2 ∷ []) ((at 0 ⊗ (at 0 ⊗ (at 0 ⊗ lit (pos 1)))) ⊗ (((lit (pos 1) ⊗ lit (pos 1)) ⊗ at 1) ⊗ at 2)) ((at 1 ⊗ at 2) ⊗ (at 0 ⊗ (at 0 ⊗ at 0))) refl
+    same_by (x ∷ half ∷ one_over 2 ∷ []) ((at 0 ⊗ (at 0 ⊗ (at 0 ⊗ lit (pos 1)))) ⊗ (((lit (pos 1) ⊗ lit (pos 1)) ⊗ at 1) ⊗ at 2))
+    ((at 1 ⊗ at 2) ⊗ (at 0 ⊗ (at 0 ⊗ at 0))) refl
 
-sine_lower_above : (d : ℕ) → d ≤ 3242591731706757120 → in_radians d ≤F plus (lower (sine_term (in_radians d)) 8) (times sixth (times (in_radians d) (times (in_radians d) (in_radians d))))
+sine_lower_above : (d : ℕ) → d ≤ 3242591731706757120 → in_radians d ≤F plus (lower (sine_term (in_radians d)) 8)
+    (times sixth (times (in_radians d) (times (in_radians d) (in_radians d))))
 sine_lower_above d u =
     let x = in_radians d in
     let o = in_radians 0 in
@@ -99,12 +107,14 @@ sine_lower_above d u =
     let none : zero_F ≤F beneath p 8 = rw (lower_is_beneath p 8 ((sine_halving o v).nonneg 9)) at (le_trans _ _ _ no_part (sine_zero o none_in_radians).0) in
     rw (lower_is_beneath q 8 ((sine_halving x w).nonneg 9))
     (le_by (beneath p 8 ∷ beneath q 8 ∷ atop (λ k. p (suc k)) 7 ∷ atop (λ k. q (suc k)) 7 ∷ p 0 ∷ p 1 ∷ q 0 ∷ q 1 ∷ o ∷ x ∷ sixth ∷ [])
-    ((at 0 ≗ at 4 ⊖ at 2) ∷ (at 1 ≗ at 6 ⊖ at 3) ∷ (at 3 ⊕ at 5 ≼ at 2 ⊕ at 7) ∷ (lit (pos 0) ≼ at 0) ∷ (at 4 ≗ at 8) ∷ (at 8 ≗ lit (pos 0)) ∷ (at 6 ≗ at 9) ∷ (at 7 ≗ at 10 ⊗ (at 9 ⊗ (at 9 ⊗ at 9))) ∷ (at 5 ≗ at 10 ⊗ (at 8 ⊗ (at 8 ⊗ at 8))) ∷ [])
+    ((at 0 ≗ at 4 ⊖ at 2) ∷ (at 1 ≗ at 6 ⊖ at 3) ∷ (at 3 ⊕ at 5 ≼ at 2 ⊕ at 7) ∷ (lit (pos 0) ≼ at 0) ∷ (at 4 ≗ at 8) ∷ (at 8 ≗ lit (pos 0)) ∷ (at 6 ≗ at 9) ∷
+    (at 7 ≗ at 10 ⊗ (at 9 ⊗ (at 9 ⊗ at 9))) ∷ (at 5 ≗ at 10 ⊗ (at 8 ⊗ (at 8 ⊗ at 8))) ∷ [])
     (at 9) (at 1 ⊕ at 10 ⊗ (at 9 ⊗ (at 9 ⊗ at 9)))
-    (multiple 1 (lit (negsuc 0)) ⊞ multiple 6 (lit (negsuc 0)) ⊞ multiple 7 (lit (pos 1)) ⊞ known 2 ⊞ known 3 ⊞ multiple 0 (lit (pos 1)) ⊞ multiple 8 (lit (negsuc 0)) ⊞ multiple 4 (lit (pos 1)) ⊞ multiple 5 (lit (pos 1) ⊖ at 10 ⊗ (at 8 ⊗ at 8))) refl
+    (multiple 1 (lit (negsuc 0)) ⊞ multiple 6 (lit (negsuc 0)) ⊞ multiple 7 (lit (pos 1)) ⊞ known 2 ⊞ known 3 ⊞ multiple 0 (lit (pos 1)) ⊞ multiple 8
+    (lit (negsuc 0)) ⊞ multiple 4 (lit (pos 1)) ⊞ multiple 5 (lit (pos 1) ⊖ at 10 ⊗ (at 8 ⊗ at 8))) refl
     (beneath_step p 7, (beneath_step q 7, (step, (none, (sine_first o, (none_in_radians, (sine_first x, (sine_second x, (sine_second o, tt))))))))))
   where
-    no_part : zero_F ≤F at_56 (pos 0)
+    no_part : zero_F ≤F units_of_56 (pos 0)
     no_part = record { cross = omega (arith, ints) }
 
 -- an octant is less than 79 hundredths of a radian
@@ -112,12 +122,15 @@ short_octant : (d : ℕ) → d ≤ 3242591731706757120 → times (whole (pos 100
 unfolding times
 short_octant d u = record { cross = omega (arith, ints, u) }
 
-sine_by_radians : (d : ℕ) (a : Fraction) → d ≤ 3242591731706757120 → in_radians d ≤F plus a (times sixth (times (in_radians d) (times (in_radians d) (in_radians d)))) → times (whole (pos 53759)) (in_radians d) ≤F times (whole (pos 60000)) a
+sine_by_radians : (d : ℕ) (a : Fraction) → d ≤ 3242591731706757120
+    → in_radians d ≤F plus a (times sixth (times (in_radians d) (times (in_radians d) (in_radians d))))
+    → times (whole (pos 53759)) (in_radians d) ≤F times (whole (pos 60000)) a
 sine_by_radians d a u h =
     le_by (a ∷ in_radians d ∷ sixth ∷ [])
     ((at 1 ≼ at 0 ⊕ at 2 ⊗ (at 1 ⊗ (at 1 ⊗ at 1))) ∷ (lit (pos 0) ≼ at 1) ∷ (lit (pos 100) ⊗ at 1 ≼ lit (pos 79)) ∷ (lit (pos 6) ⊗ at 2 ≗ lit (pos 1)) ∷ [])
     (lit (pos 53759) ⊗ at 1) (lit (pos 60000) ⊗ at 0)
-    (natural 60000 ⊠ known 0 ⊞ known 1 ⊠ known 2 ⊠ known 2 ⊞ natural 200 ⊠ known 1 ⊠ known 1 ⊠ known 2 ⊞ multiple 3 (lit (pos 10000) ⊗ (at 1 ⊗ (at 1 ⊗ at 1)))) refl
+    (natural 60000 ⊠ known 0 ⊞ known 1 ⊠ known 2 ⊠ known 2 ⊞ natural 200 ⊠ known 1 ⊠ known 1 ⊠ known 2 ⊞ multiple 3 (lit (pos 10000) ⊗ (at 1 ⊗ (at 1 ⊗ at 1))))
+    refl
     (h, (no_radians_less d, (short_octant d u, (sixth_six, tt))))
 
 rising_parts : (d : ℕ) (a : ℤ) → times (whole (pos 53759)) (in_radians d) ≤F times (whole (pos 60000)) (at_64 a) → (pos d *ℤ pos 5120) ≤ℤ (pos 1279 *ℤ a)

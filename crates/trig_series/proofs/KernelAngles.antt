@@ -8,36 +8,42 @@ use Rattle.exact_math.proofs.Fractions.{le_refl, le_trans, smaller_keeps, larger
 use Rattle.exact_math.proofs.Intervals.{within_trans, within_refl, product_within, product_proper, least_is, greatest_is}
 use Rattle.exact_math.proofs.Certificates.{zero_F}
 use Rattle.book_model.specs.numbers.Series.{sine_series, cosine_series, pi_at, four_fifths}
-use Rattle.book_model.specs.programs.Leading.{at_56}
+use Rattle.book_model.specs.programs.Leading.{units_of_56}
 use Rattle.book_model.specs.numbers.Octants.{only, radians}
 use Rattle.book_model.proofs.Pi.{binary, pi_number, pi_proper}
 use Rattle.book_model.proofs.SeriesNesting.{inside_in}
 use Rattle.book_model.proofs.OctantHulls.{radians_proper, radians_inside}
 use Rattle.trig_series.specs.Kernel.{at_64, IsAngle, AreSineEnds, AreCosineEnds, in_radians, in_radians_above, IsInRadians}
 
-pub ends_product : (r lo hi : Fraction) (c d : Fraction) → IsMember (times r lo) (between c d) → IsMember (times r hi) (between c d) → product (only r) (between lo hi) ⊆ between c d
+pub ends_product : (r lo hi : Fraction) (c d : Fraction) → IsMember (times r lo) (between c d) → IsMember (times r hi) (between c d)
+    → product (only r) (between lo hi) ⊆ between c d
 unfolding product
 ends_product r lo hi c d m n = record { ends = (least_is c _ _ _ _ m.0 n.0 m.0 n.0, greatest_is d _ _ _ _ m.1 n.1 m.1 n.1) }
 
-ends_keep : (P : Fraction → Type 0) (a b c : Fraction) → P (times a c) → P (times b c) → P (least (times a c) (times a c) (times b c) (times b c)) × P (greatest (times a c) (times a c) (times b c) (times b c))
+ends_keep : (P : Fraction → Type 0) (a b c : Fraction) → P (times a c) → P (times b c) → P (least (times a c) (times a c) (times b c) (times b c))
+    × P (greatest (times a c) (times a c) (times b c) (times b c))
 unfolding least greatest
 ends_keep P a b c x y =
     (smaller_keeps P _ _ (smaller_keeps P _ _ x x) (smaller_keeps P _ _ y y), larger_keeps P _ _ (larger_keeps P _ _ x x) (larger_keeps P _ _ y y))
 
-pub product_ends : (a b c : Fraction) → product (between a b) (only c) ≡ between (least (times a c) (times a c) (times b c) (times b c)) (greatest (times a c) (times a c) (times b c) (times b c))
+pub product_ends : (a b c : Fraction) → product (between a b) (only c)
+    ≡ between (least (times a c) (times a c) (times b c) (times b c)) (greatest (times a c) (times a c) (times b c) (times b c))
 unfolding product
 product_ends a b c = refl
 
 -- ---- an angle's count, from below and above, by either neighbour of pi
-low_below : (d h : ℕ) → d ≤ 3242591731706757120 → h * 2 ^ 64 ≤ 41210421805949854240 * d → at_64 (pos (h * 2)) ≤F times (at_56 (pos d)) (times (binary 226375608064910088) (one_over 179))
+low_below : (d h : ℕ) → d ≤ 3242591731706757120 → h * 2 ^ 64 ≤ 41210421805949854240 * d
+    → at_64 (pos (h * 2)) ≤F times (units_of_56 (pos d)) (times (binary 226375608064910088) (one_over 179))
 unfolding times
 low_below d h l p = record { cross = omega (arith, ints, l, p) }
 
-high_above : (d h : ℕ) → d ≤ 3242591731706757120 → 41210421805949854240 * d ≤ h * 2 ^ 64 + 2 ^ 64 → times (at_56 (pos d)) (times (binary 226375608064910089) (one_over 179)) ≤F at_64 (pos (h * 2) +ℤ pos 68)
+high_above : (d h : ℕ) → d ≤ 3242591731706757120 → 41210421805949854240 * d ≤ h * 2 ^ 64 + 2 ^ 64
+    → times (units_of_56 (pos d)) (times (binary 226375608064910089) (one_over 179)) ≤F at_64 (pos (h * 2) +ℤ pos 68)
 unfolding times
 high_above d h l q = record { cross = omega (arith, ints, l, q) }
 
-neighbours : (d : ℕ) → times (at_56 (pos d)) (times (binary 226375608064910088) (one_over 179)) ≤F times (at_56 (pos d)) (times (binary 226375608064910089) (one_over 179))
+neighbours : (d : ℕ) → times (units_of_56 (pos d)) (times (binary 226375608064910088) (one_over 179)) ≤F times (units_of_56 (pos d))
+    (times (binary 226375608064910089) (one_over 179))
 unfolding times
 neighbours d = record { cross = omega (arith, ints) }
 
@@ -47,30 +53,34 @@ turn = between (binary 226375608064910088) (binary 226375608064910089)
 abbrev pub angles : ℕ → Interval
 angles h = between (at_64 (pos (h * 2))) (at_64 (pos (h * 2) +ℤ pos 68))
 
-turn_over : (d : ℕ) → product (only (at_56 (pos d))) (product turn (only (one_over 179))) ⊆ between (in_radians d) (in_radians_above d)
+turn_over : (d : ℕ) → product (only (units_of_56 (pos d))) (product turn (only (one_over 179))) ⊆ between (in_radians d) (in_radians_above d)
 turn_over d =
-    let m = ends_keep (λ z. IsMember (times (at_56 (pos d)) z) (between (in_radians d) (in_radians_above d))) (binary 226375608064910088) (binary 226375608064910089) (one_over 179)
+    let m = ends_keep (λ z. IsMember (times (units_of_56 (pos d)) z) (between (in_radians d) (in_radians_above d))) (binary 226375608064910088)
+    (binary 226375608064910089) (one_over 179)
     (le_refl (in_radians d), neighbours d) (neighbours d, le_refl (in_radians_above d)) in
-    rw (product_ends (binary 226375608064910088) (binary 226375608064910089) (one_over 179)) (ends_product (at_56 (pos d)) _ _ _ _ m.0 m.1)
+    rw (product_ends (binary 226375608064910088) (binary 226375608064910089) (one_over 179)) (ends_product (units_of_56 (pos d)) _ _ _ _ m.0 m.1)
 
 pub turn_proper : IsProper turn
 turn_proper = record { cross = omega (arith, ints) }
 
 -- the radians of so many degrees lie between those by the neighbours of pi
-pub radians_over : (n d : ℕ) → 12 ≤ n → radians n (at_56 (pos d)) ⊆ between (in_radians d) (in_radians_above d)
+pub radians_over : (n d : ℕ) → 12 ≤ n → radians n (units_of_56 (pos d)) ⊆ between (in_radians d) (in_radians_above d)
 unfolding radians
 radians_over n d m =
     within_trans
-    (product_within (le_refl (at_56 (pos d))) (product_proper (pi_at n) (only (one_over 179)) (pi_proper n) (le_refl (one_over 179))) (within_refl (only (at_56 (pos d))))
+    (product_within (le_refl (units_of_56 (pos d))) (product_proper (pi_at n) (only (one_over 179)) (pi_proper n) (le_refl (one_over 179)))
+    (within_refl (only (units_of_56 (pos d))))
     (product_within (pi_proper n) (le_refl (one_over 179)) (pi_number n m) (within_refl (only (one_over 179)))))
     (turn_over d)
 
 -- and in the 68 parts above the angle's count
-pub radians_near : (n d h : ℕ) → 12 ≤ n → d ≤ 3242591731706757120 → h * 2 ^ 64 ≤ 41210421805949854240 * d → 41210421805949854240 * d ≤ h * 2 ^ 64 + 2 ^ 64 → radians n (at_56 (pos d)) ⊆ angles h
+pub radians_near : (n d h : ℕ) → 12 ≤ n → d ≤ 3242591731706757120 → h * 2 ^ 64 ≤ 41210421805949854240 * d → 41210421805949854240 * d ≤ h * 2 ^ 64 + 2 ^ 64
+    → radians n (units_of_56 (pos d)) ⊆ angles h
 radians_near n d h m l p q = within_trans (radians_over n d m) (record { ends = (low_below d h l p, high_above d h l q) })
 
 -- ---- the series over an interval of angles
-pub sine_over : (n a s : ℕ) (i : Interval) → IsProper i → i ⊆ between (at_64 (pos a)) (at_64 (pos a +ℤ pos 68)) → i ⊆ between zero_F four_fifths → ((x : Fraction) → IsAngle a x → AreSineEnds x s n)
+pub sine_over : (n a s : ℕ) (i : Interval) → IsProper i → i ⊆ between (at_64 (pos a)) (at_64 (pos a +ℤ pos 68)) → i ⊆ between zero_F four_fifths
+    → ((x : Fraction) → IsAngle a x → AreSineEnds x s n)
     → sine_series n i ⊆ between (at_64 (pos s -ℤ pos 384)) (at_64 (pos s +ℤ pos 384))
 unfolding sine_series
 sine_over n a s everything p h k f = absurd h.ends
@@ -83,7 +93,8 @@ sine_over n a s (between x y) p h k f =
       );
     })
 
-pub cosine_over : (n a s : ℕ) (i : Interval) → IsProper i → i ⊆ between (at_64 (pos a)) (at_64 (pos a +ℤ pos 68)) → i ⊆ between zero_F four_fifths → ((x : Fraction) → IsAngle a x → AreCosineEnds x s n)
+pub cosine_over : (n a s : ℕ) (i : Interval) → IsProper i → i ⊆ between (at_64 (pos a)) (at_64 (pos a +ℤ pos 68)) → i ⊆ between zero_F four_fifths
+    → ((x : Fraction) → IsAngle a x → AreCosineEnds x s n)
     → cosine_series n i ⊆ between (at_64 (pos s -ℤ pos 320)) (at_64 (pos s +ℤ pos 320))
 unfolding cosine_series
 cosine_over n a s everything p h k f = absurd h.ends
@@ -96,19 +107,22 @@ cosine_over n a s (between x y) p h k f =
       );
     })
 
-pub octant_inside : (n d : ℕ) → 12 ≤ n → d ≤ 3242591731706757120 → radians n (at_56 (pos d)) ⊆ between zero_F four_fifths
+pub octant_inside : (n d : ℕ) → 12 ≤ n → d ≤ 3242591731706757120 → radians n (units_of_56 (pos d)) ⊆ between zero_F four_fifths
 octant_inside zero d h l = absurd (omega (arith, h))
-octant_inside (suc n) d h l = radians_inside n (at_56 (pos d)) (record { cross = omega (arith, ints) }) (record { cross = omega (arith, ints, l) })
+octant_inside (suc n) d h l = radians_inside n (units_of_56 (pos d)) (record { cross = omega (arith, ints) }) (record { cross = omega (arith, ints, l) })
 
-pub sine_there : (n d a s : ℕ) → 12 ≤ n → d ≤ 3242591731706757120 → radians n (at_56 (pos d)) ⊆ between (at_64 (pos a)) (at_64 (pos a +ℤ pos 68)) → ((x : Fraction) → 8 ≤ n → IsAngle a x → AreSineEnds x s n)
-    → sine_series n (radians n (at_56 (pos d))) ⊆ between (at_64 (pos s -ℤ pos 384)) (at_64 (pos s +ℤ pos 384))
-sine_there n d a s m l h f = sine_over n a s _ (radians_proper n (at_56 (pos d))) h (octant_inside n d m l) (λ x t. f x (omega (arith, m)) t)
+pub sine_there : (n d a s : ℕ) → 12 ≤ n → d ≤ 3242591731706757120 → radians n (units_of_56 (pos d)) ⊆ between (at_64 (pos a)) (at_64 (pos a +ℤ pos 68))
+    → ((x : Fraction) → 8 ≤ n → IsAngle a x → AreSineEnds x s n)
+    → sine_series n (radians n (units_of_56 (pos d))) ⊆ between (at_64 (pos s -ℤ pos 384)) (at_64 (pos s +ℤ pos 384))
+sine_there n d a s m l h f = sine_over n a s _ (radians_proper n (units_of_56 (pos d))) h (octant_inside n d m l) (λ x t. f x (omega (arith, m)) t)
 
-pub cosine_there : (n d a s : ℕ) → 12 ≤ n → d ≤ 3242591731706757120 → radians n (at_56 (pos d)) ⊆ between (at_64 (pos a)) (at_64 (pos a +ℤ pos 68)) → ((x : Fraction) → 9 ≤ n → IsAngle a x → AreCosineEnds x s n)
-    → cosine_series n (radians n (at_56 (pos d))) ⊆ between (at_64 (pos s -ℤ pos 320)) (at_64 (pos s +ℤ pos 320))
-cosine_there n d a s m l h f = cosine_over n a s _ (radians_proper n (at_56 (pos d))) h (octant_inside n d m l) (λ x t. f x (omega (arith, m)) t)
+pub cosine_there : (n d a s : ℕ) → 12 ≤ n → d ≤ 3242591731706757120 → radians n (units_of_56 (pos d)) ⊆ between (at_64 (pos a)) (at_64 (pos a +ℤ pos 68))
+    → ((x : Fraction) → 9 ≤ n → IsAngle a x → AreCosineEnds x s n)
+    → cosine_series n (radians n (units_of_56 (pos d))) ⊆ between (at_64 (pos s -ℤ pos 320)) (at_64 (pos s +ℤ pos 320))
+cosine_there n d a s m l h f = cosine_over n a s _ (radians_proper n (units_of_56 (pos d))) h (octant_inside n d m l) (λ x t. f x (omega (arith, m)) t)
 
-pub angle_there : (n d w h a : ℕ) → 12 ≤ n → d ≤ 3242591731706757120 → w ≡ d * 4 → h ≡ w * 10302605451487463560 / 2 ^ 64 → a ≡ h * 2 → radians n (at_56 (pos d)) ⊆ between (at_64 (pos a)) (at_64 (pos a +ℤ pos 68))
+pub angle_there : (n d w h a : ℕ) → 12 ≤ n → d ≤ 3242591731706757120 → w ≡ d * 4 → h ≡ w * 10302605451487463560 / 2 ^ 64 → a ≡ h * 2
+    → radians n (units_of_56 (pos d)) ⊆ between (at_64 (pos a)) (at_64 (pos a +ℤ pos 68))
 angle_there n d w h a m l e f g = rw g (radians_near n d h m l (omega (arith, e, f)) (omega (arith, e, f)))
 
 -- ---- the angles between those by the neighbours of pi
@@ -122,7 +136,8 @@ by_lower d = record { above = le_refl (in_radians d); below = neighbours d }
 pub by_upper : (d : ℕ) → IsInRadians d (in_radians_above d)
 by_upper d = record { above = neighbours d; below = le_refl (in_radians_above d) }
 
-pub angle_between : (d w h a : ℕ) (x : Fraction) → d ≤ 3242591731706757120 → w ≡ d * 4 → h ≡ w * 10302605451487463560 / 2 ^ 64 → a ≡ h * 2 → IsInRadians d x → IsAngle a x
+pub angle_between : (d w h a : ℕ) (x : Fraction) → d ≤ 3242591731706757120 → w ≡ d * 4 → h ≡ w * 10302605451487463560 / 2 ^ 64 → a ≡ h * 2 → IsInRadians d x
+    → IsAngle a x
 angle_between d w h a x l e f g t =
     rw g
     (record {

@@ -9,13 +9,13 @@ use Rattle.exact_math.proofs.Intervals.{within_trans, hull_within, negative_with
 use Rattle.exact_math.proofs.Hulls.{hull_holds_first, hull_holds_second}
 use Rattle.exact_math.proofs.Same.{same_of_le, le_of_same, ge_of_same}
 use Rattle.exact_math.proofs.Floors.{IsFloorQuotient, floor_quotient_is}
-use Rattle.book_model.specs.programs.Leading.{at_56}
+use Rattle.book_model.specs.programs.Leading.{units_of_56}
 use Rattle.book_model.specs.numbers.Octants.{octant_edge, sine_at, sine_in, first_octant, last_octant, sine_of_degrees}
 use Rattle.book_model.proofs.DegreeSines.{over_least}
 use Rattle.rounded_quotients.proofs.Quotients.{euclid_is}
 
 -- ---- the part of two ends in an octant
-pub order_at : (p q : ℤ) → p ≤ℤ q → at_56 p ≤F at_56 q
+pub order_at : (p q : ℤ) → p ≤ℤ q → units_of_56 p ≤F units_of_56 q
 order_at p q h = record { cross = omega (arith, ints) }
 
 pub by_max : (p d m : ℤ) (P : ℤ → Type 0) → m ≡ int_max p d → P p → P d → P m
@@ -26,53 +26,66 @@ pub by_min : (p d m : ℤ) (P : ℤ → Type 0) → m ≡ int_min p d → P p �
 by_min p d m P e x y =
     by_lt_z p d (λ l. let f : m ≡ p = omega (arith, ints, clamps) in rw f x) (λ l. let f : m ≡ d = omega (arith, ints, clamps) in rw f y)
 
-larger_at : (a : Fraction) (p d m : ℤ) → a ≈ at_56 p → m ≡ int_max p d → larger a (at_56 d) ≈ at_56 m
+larger_at : (a : Fraction) (p d m : ℤ) → a ≈ units_of_56 p → m ≡ int_max p d → larger a (units_of_56 d) ≈ units_of_56 m
 larger_at a p d m s e =
     let first : p ≤ℤ m = omega (arith, ints, clamps) in
     let second : d ≤ℤ m = omega (arith, ints, clamps) in
     same_of_le
-    (larger_keeps (λ z. z ≤F at_56 m) a (at_56 d) (le_trans a (at_56 p) (at_56 m) (le_of_same s) (order_at p m first)) (order_at d m second))
-    (by_max p d m (λ z. at_56 z ≤F larger a (at_56 d)) e (le_trans (at_56 p) a _ (ge_of_same s) (larger_first a (at_56 d))) (larger_second a (at_56 d)))
+    (larger_keeps (λ z. z ≤F units_of_56 m) a (units_of_56 d) (le_trans a (units_of_56 p) (units_of_56 m) (le_of_same s) (order_at p m first))
+    (order_at d m second))
+    (by_max p d m (λ z. units_of_56 z ≤F larger a (units_of_56 d)) e (le_trans (units_of_56 p) a _ (ge_of_same s) (larger_first a (units_of_56 d)))
+    (larger_second a (units_of_56 d)))
 
-smaller_at : (a : Fraction) (p d m : ℤ) → a ≈ at_56 p → m ≡ int_min p d → smaller a (at_56 d) ≈ at_56 m
+smaller_at : (a : Fraction) (p d m : ℤ) → a ≈ units_of_56 p → m ≡ int_min p d → smaller a (units_of_56 d) ≈ units_of_56 m
 smaller_at a p d m s e =
     let first : m ≤ℤ p = omega (arith, ints, clamps) in
     let second : m ≤ℤ d = omega (arith, ints, clamps) in
     same_of_le
-    (by_min p d m (λ z. smaller a (at_56 d) ≤F at_56 z) e (le_trans _ a (at_56 p) (smaller_first a (at_56 d)) (le_of_same s)) (smaller_second a (at_56 d)))
-    (smaller_keeps (λ z. at_56 m ≤F z) a (at_56 d) (le_trans (at_56 m) (at_56 p) a (order_at m p first) (ge_of_same s)) (order_at m d second))
+    (by_min p d m (λ z. smaller a (units_of_56 d) ≤F units_of_56 z) e (le_trans _ a (units_of_56 p) (smaller_first a (units_of_56 d)) (le_of_same s))
+    (smaller_second a (units_of_56 d)))
+    (smaller_keeps (λ z. units_of_56 m ≤F z) a (units_of_56 d) (le_trans (units_of_56 m) (units_of_56 p) a (order_at m p first) (ge_of_same s))
+    (order_at m d second))
 
-edge_at : (k : ℤ) → octant_edge k ≈ at_56 (k *ℤ pos 3242591731706757120)
+edge_at : (k : ℤ) → octant_edge k ≈ units_of_56 (k *ℤ pos 3242591731706757120)
 unfolding times
 edge_at k = record { cross = omega (arith, ints) }
 
-next_edge_at : (k : ℤ) → octant_edge (k +ℤ pos 1) ≈ at_56 (k *ℤ pos 3242591731706757120 +ℤ pos 3242591731706757120)
+next_edge_at : (k : ℤ) → octant_edge (k +ℤ pos 1) ≈ units_of_56 (k *ℤ pos 3242591731706757120 +ℤ pos 3242591731706757120)
 unfolding times
 next_edge_at k = record { cross = omega (arith, ints) }
 
 -- ---- the hull of the sines at its two ends
-hull_span : (a b c d lo hi : ℤ) → lo ≤ℤ a → lo ≤ℤ c → b ≤ℤ hi → d ≤ℤ hi → interval_hull (between (at_56 a) (at_56 b)) (between (at_56 c) (at_56 d)) ⊆ between (at_56 lo) (at_56 hi)
+hull_span : (a b c d lo hi : ℤ) → lo ≤ℤ a → lo ≤ℤ c → b ≤ℤ hi → d ≤ℤ hi
+    → interval_hull (between (units_of_56 a) (units_of_56 b)) (between (units_of_56 c) (units_of_56 d)) ⊆ between (units_of_56 lo) (units_of_56 hi)
 unfolding interval_hull
 hull_span a b c d lo hi p q r s = record {
-  ends = (smaller_keeps (λ z. at_56 lo ≤F z) _ _ (order_at lo a p) (order_at lo c q), larger_keeps (λ z. z ≤F at_56 hi) _ _ (order_at b hi r) (order_at d hi s));
+  ends = (
+    smaller_keeps (λ z. units_of_56 lo ≤F z) _ _ (order_at lo a p) (order_at lo c q),
+    larger_keeps (λ z. z ≤F units_of_56 hi) _ _ (order_at b hi r) (order_at d hi s),
+  );
 }
 
 -- the hull of what lies within two spans lies within theirs
-pub spans_hull : (i j : Interval) (a b c d lo hi : ℤ) → lo ≡ int_min a c → hi ≡ int_max b d → i ⊆ between (at_56 a) (at_56 b) → j ⊆ between (at_56 c) (at_56 d) → interval_hull i j ⊆ between (at_56 lo) (at_56 hi)
+pub spans_hull : (i j : Interval) (a b c d lo hi : ℤ) → lo ≡ int_min a c → hi ≡ int_max b d → i ⊆ between (units_of_56 a) (units_of_56 b)
+    → j ⊆ between (units_of_56 c) (units_of_56 d) → interval_hull i j ⊆ between (units_of_56 lo) (units_of_56 hi)
 spans_hull i j a b c d lo hi e f h k =
-    within_trans (hull_within h k) (hull_span a b c d lo hi (omega (arith, ints, clamps, e)) (omega (arith, ints, clamps, e)) (omega (arith, ints, clamps, f)) (omega (arith, ints, clamps, f)))
+    within_trans (hull_within h k) (hull_span a b c d lo hi (omega (arith, ints, clamps, e)) (omega (arith, ints, clamps, e)) (omega (arith, ints, clamps, f))
+    (omega (arith, ints, clamps, f)))
 
-opposite_span : (a b : ℤ) → negative (between (at_56 a) (at_56 b)) ⊆ between (at_56 (neg_ℤ b)) (at_56 (neg_ℤ a))
+opposite_span : (a b : ℤ) → negative (between (units_of_56 a) (units_of_56 b)) ⊆ between (units_of_56 (neg_ℤ b)) (units_of_56 (neg_ℤ a))
 unfolding negative opposite
 opposite_span a b = record { ends = (record { cross = omega (arith, ints) }, record { cross = omega (arith, ints) }) }
 
 -- the opposite of what lies within a span lies within its opposite
-pub span_opposite : (i : Interval) (a b lo hi : ℤ) → lo ≡ neg_ℤ b → hi ≡ neg_ℤ a → i ⊆ between (at_56 a) (at_56 b) → negative i ⊆ between (at_56 lo) (at_56 hi)
+pub span_opposite : (i : Interval) (a b lo hi : ℤ) → lo ≡ neg_ℤ b → hi ≡ neg_ℤ a → i ⊆ between (units_of_56 a) (units_of_56 b)
+    → negative i ⊆ between (units_of_56 lo) (units_of_56 hi)
 span_opposite i a b lo hi e f h = rw (e, f) (within_trans (negative_within h) (opposite_span a b))
 
-pub in_holds : (n : ℕ) (k lo hi p q a b c d x y : ℤ) → p ≡ int_max (k *ℤ pos 3242591731706757120) lo → q ≡ int_min (k *ℤ pos 3242591731706757120 +ℤ pos 3242591731706757120) hi
-    → ((z : Fraction) → z ≈ at_56 p → sine_at n k z ⊆ between (at_56 a) (at_56 b)) → ((z : Fraction) → z ≈ at_56 q → sine_at n k z ⊆ between (at_56 c) (at_56 d))
-    → x ≡ int_min a c → y ≡ int_max b d → sine_in n (at_56 lo) (at_56 hi) k ⊆ between (at_56 x) (at_56 y)
+pub in_holds : (n : ℕ) (k lo hi p q a b c d x y : ℤ) → p ≡ int_max (k *ℤ pos 3242591731706757120) lo → q
+    ≡ int_min (k *ℤ pos 3242591731706757120 +ℤ pos 3242591731706757120) hi
+    → ((z : Fraction) → z ≈ units_of_56 p → sine_at n k z ⊆ between (units_of_56 a) (units_of_56 b))
+    → ((z : Fraction) → z ≈ units_of_56 q → sine_at n k z ⊆ between (units_of_56 c) (units_of_56 d))
+    → x ≡ int_min a c → y ≡ int_max b d → sine_in n (units_of_56 lo) (units_of_56 hi) k ⊆ between (units_of_56 x) (units_of_56 y)
 unfolding sine_in
 in_holds n k lo hi p q a b c d x y e f low high g h =
     spans_hull _ _ a b c d x y g h
@@ -83,13 +96,13 @@ in_holds n k lo hi p q a b c d x y e f low high g h =
 pub division_is : (d q : ℤ) → q ≡ int_div_euclid d (pos 3242591731706757120) → IsFloorQuotient q d 3242591731706757119
 division_is d q e = let f = e ∙ euclid_is d 3242591731706757120 (omega arith) in rw f (floor_quotient_is d 3242591731706757119)
 
-pub last_is : (d q : ℤ) → q ≡ int_div_euclid d (pos 3242591731706757120) → q ≡ last_octant (at_56 d)
+pub last_is : (d q : ℤ) → q ≡ int_div_euclid d (pos 3242591731706757120) → q ≡ last_octant (units_of_56 d)
 unfolding last_octant times
 last_is d q e =
     let one : d *ℤ pos 1 ≡ d = omega (arith, ints) in
     rw one (e ∙ euclid_is d 3242591731706757120 (omega arith))
 
-pub first_is : (d q : ℤ) → q ≡ int_div_euclid (pos 0 -ℤ d) (pos 3242591731706757120) → (pos 0 -ℤ q) -ℤ pos 1 ≡ first_octant (at_56 d)
+pub first_is : (d q : ℤ) → q ≡ int_div_euclid (pos 0 -ℤ d) (pos 3242591731706757120) → (pos 0 -ℤ q) -ℤ pos 1 ≡ first_octant (units_of_56 d)
 unfolding first_octant opposite
 first_is d q e =
     let n : pos 0 -ℤ d ≡ neg_ℤ d = omega (arith, ints) in
@@ -97,30 +110,36 @@ first_is d q e =
     rw (← l) (omega (arith, ints))
 
 -- the octants on either side of degrees
-pub first_bounds : (lo : ℤ) → ((first_octant (at_56 lo) *ℤ pos 3242591731706757120) <ℤ lo) × (lo ≤ℤ (first_octant (at_56 lo) *ℤ pos 3242591731706757120 +ℤ pos 3242591731706757120))
+pub first_bounds : (lo : ℤ) → ((first_octant (units_of_56 lo) *ℤ pos 3242591731706757120) <ℤ lo)
+    × (lo ≤ℤ (first_octant (units_of_56 lo) *ℤ pos 3242591731706757120 +ℤ pos 3242591731706757120))
 first_bounds lo =
     let q = int_div_euclid (pos 0 -ℤ lo) (pos 3242591731706757120) in
     let f = division_is (pos 0 -ℤ lo) q refl in
     rw (← first_is lo q refl) (omega (arith, ints, f.close), omega (arith, ints, f.not_above))
 
-pub last_bounds : (hi : ℤ) → ((last_octant (at_56 hi) *ℤ pos 3242591731706757120) ≤ℤ hi) × (hi <ℤ (last_octant (at_56 hi) *ℤ pos 3242591731706757120 +ℤ pos 3242591731706757120))
+pub last_bounds : (hi : ℤ) → ((last_octant (units_of_56 hi) *ℤ pos 3242591731706757120) ≤ℤ hi)
+    × (hi <ℤ (last_octant (units_of_56 hi) *ℤ pos 3242591731706757120 +ℤ pos 3242591731706757120))
 last_bounds hi =
     let q = int_div_euclid hi (pos 3242591731706757120) in
     let f = division_is hi q refl in
     rw (← last_is hi q refl) (omega (arith, ints, f.not_above), omega (arith, ints, f.close))
 
 -- the only octant that ends meet which lie inside of it
-pub first_alone_is : (k lo : ℤ) → (k *ℤ pos 3242591731706757120) <ℤ lo → lo <ℤ (k *ℤ pos 3242591731706757120 +ℤ pos 3242591731706757120) → k ≡ first_octant (at_56 lo)
+pub first_alone_is : (k lo : ℤ) → (k *ℤ pos 3242591731706757120) <ℤ lo → lo <ℤ (k *ℤ pos 3242591731706757120 +ℤ pos 3242591731706757120) → k
+    ≡ first_octant (units_of_56 lo)
 first_alone_is k lo l u = let b = first_bounds lo in omega (arith, ints, l, u, b.0, b.1)
 
-pub last_alone_is : (k hi : ℤ) → (k *ℤ pos 3242591731706757120) <ℤ hi → hi <ℤ (k *ℤ pos 3242591731706757120 +ℤ pos 3242591731706757120) → k ≡ last_octant (at_56 hi)
+pub last_alone_is : (k hi : ℤ) → (k *ℤ pos 3242591731706757120) <ℤ hi → hi <ℤ (k *ℤ pos 3242591731706757120 +ℤ pos 3242591731706757120) → k
+    ≡ last_octant (units_of_56 hi)
 last_alone_is k hi l u = let b = last_bounds hi in omega (arith, ints, l, u, b.0, b.1)
 
 -- ends of which one lies on an octant's edge, or beyond, meet several
-pub edge_below : (k lo hi : ℤ) → (k *ℤ pos 3242591731706757120) ≤ℤ lo → lo ≤ℤ (k *ℤ pos 3242591731706757120) → lo ≤ℤ hi → first_octant (at_56 lo) <ℤ last_octant (at_56 hi)
+pub edge_below : (k lo hi : ℤ) → (k *ℤ pos 3242591731706757120) ≤ℤ lo → lo ≤ℤ (k *ℤ pos 3242591731706757120) → lo ≤ℤ hi → first_octant (units_of_56 lo)
+    <ℤ last_octant (units_of_56 hi)
 edge_below k lo hi l u o = let b = first_bounds lo in let c = last_bounds hi in omega (arith, ints, l, u, o, b.0, b.1, c.0, c.1)
 
-pub edge_above : (k lo hi : ℤ) → lo <ℤ (k *ℤ pos 3242591731706757120 +ℤ pos 3242591731706757120) → (k *ℤ pos 3242591731706757120 +ℤ pos 3242591731706757120) ≤ℤ hi → first_octant (at_56 lo) <ℤ last_octant (at_56 hi)
+pub edge_above : (k lo hi : ℤ) → lo <ℤ (k *ℤ pos 3242591731706757120 +ℤ pos 3242591731706757120) → (k *ℤ pos 3242591731706757120 +ℤ pos 3242591731706757120)
+    ≤ℤ hi → first_octant (units_of_56 lo) <ℤ last_octant (units_of_56 hi)
 edge_above k lo hi l u = let b = first_bounds lo in let c = last_bounds hi in omega (arith, ints, l, u, b.0, b.1, c.0, c.1)
 
 -- how often 45 goes into a number
@@ -134,18 +153,21 @@ pub first_alone : (f : ℤ → Interval) (i : Interval) (first : ℤ) → f firs
 first_alone f i first h k from to = let e : k ≡ first = omega (arith, ints) in rw e h
 
 pub next_holds : (n : ℕ) (x y : Fraction) (first octant a b c d lo hi : ℤ) → first <ℤ octant
-    → ((k : ℤ) → first ≤ℤ k → k <ℤ octant → sine_in n x y k ⊆ between (at_56 a) (at_56 b)) → sine_in n x y octant ⊆ between (at_56 c) (at_56 d)
+    → ((k : ℤ) → first ≤ℤ k → k <ℤ octant → sine_in n x y k ⊆ between (units_of_56 a) (units_of_56 b))
+    → sine_in n x y octant ⊆ between (units_of_56 c) (units_of_56 d)
     → lo ≡ int_min a c → hi ≡ int_max b d
-    → (k : ℤ) → first ≤ℤ k → k <ℤ (octant +ℤ pos 1) → sine_in n x y k ⊆ between (at_56 lo) (at_56 hi)
+    → (k : ℤ) → first ≤ℤ k → k <ℤ (octant +ℤ pos 1) → sine_in n x y k ⊆ between (units_of_56 lo) (units_of_56 hi)
 next_holds n x y first octant a b c d lo hi l f g e m k from to =
     by_lt_z k octant
     (λ u. within_trans (hull_holds_first (sine_in n x y k) (sine_in n x y octant)) (spans_hull _ _ a b c d lo hi e m (f k from u) g))
     (λ u. let v : k ≡ octant = omega (arith, ints) in
     rw v (within_trans (hull_holds_second (sine_in n x y first) (sine_in n x y octant)) (spans_hull _ _ a b c d lo hi e m (f first (omega (arith, ints)) l) g)))
 
-pub over_holds : (n : ℕ) (lo hi first last a b : ℤ) → 40 ≤ n → lo ≤ℤ hi → first ≡ first_octant (at_56 lo) → last ≡ last_octant (at_56 hi)
-    → ((k : ℤ) → first ≤ℤ k → k ≤ℤ last → sine_in n (at_56 lo) (at_56 hi) k ⊆ between (at_56 a) (at_56 b)) → sine_of_degrees n (between (at_56 lo) (at_56 hi)) ⊆ between (at_56 a) (at_56 b)
+pub over_holds : (n : ℕ) (lo hi first last a b : ℤ) → 40 ≤ n → lo ≤ℤ hi → first ≡ first_octant (units_of_56 lo) → last ≡ last_octant (units_of_56 hi)
+    → ((k : ℤ) → first ≤ℤ k → k ≤ℤ last → sine_in n (units_of_56 lo) (units_of_56 hi) k ⊆ between (units_of_56 a) (units_of_56 b))
+    → sine_of_degrees n (between (units_of_56 lo) (units_of_56 hi)) ⊆ between (units_of_56 a) (units_of_56 b)
 unfolding sine_of_degrees
 over_holds zero lo hi first last a b h l e f g = absurd (omega (arith, h))
 over_holds (suc n) lo hi first last a b h l e f g =
-    over_least (sine_in (suc n) (at_56 lo) (at_56 hi)) (at_56 lo) (at_56 hi) (between (at_56 a) (at_56 b)) (order_at lo hi l) (λ k m. g k (rw e m.from) (rw f m.to))
+    over_least (sine_in (suc n) (units_of_56 lo) (units_of_56 hi)) (units_of_56 lo) (units_of_56 hi) (between (units_of_56 a) (units_of_56 b))
+    (order_at lo hi l) (λ k m. g k (rw e m.from) (rw f m.to))

@@ -29,7 +29,8 @@ near_same e t x y s n = record { above = le_trans _ x y n.above (le_of_same s); 
 abbrev pub Keeps : (coefficient square inner result : ℕ) → Type 0
 Keeps c w t k = (C u v : Fraction) → zero_F ≤F u → IsCut c C → IsSquare w u → IsWithinUnits 320 t v → IsWithinUnits 320 k (plus C (opposite (times u v)))
 
-pub next : (c w t k : ℕ) (C r u N : Fraction) → Keeps c w t k → zero_F ≤F u → IsCut c C → IsSquare w u → IsWithinUnits 320 t (times (times C r) N) → IsWithinUnits 320 k (times C (step_at r u N))
+pub next : (c w t k : ℕ) (C r u N : Fraction) → Keeps c w t k → zero_F ≤F u → IsCut c C → IsSquare w u → IsWithinUnits 320 t (times (times C r) N)
+    → IsWithinUnits 320 k (times C (step_at r u N))
 next c w t k C r u N f z i s n = near_same 320 k _ _ (stepped C r u N) (f C u (times (times C r) N) z i s n)
 
 -- ---- the coefficients
@@ -53,7 +54,8 @@ inner_nested (suc n) e u r =
     plus_cong (same_refl (whole (pos 1))) (opposite_cong (times_cong (same_refl (times u (r 0))) (inner_nested n (opposite e) u (λ k. r (suc k)))))
 
 -- the sine's ends at depth 8 are the angle times what the chain gives
-pub sine_ends : (e x : Fraction) → times (sine_term x 0) (inner e (times x x) (λ k. falling (sine_index k)) 8) ≈ times x (nested (times x x) (λ k. falling (sine_index k)) (flipped e 8) 8)
+pub sine_ends : (e x : Fraction) → times (sine_term x 0) (inner e (times x x) (λ k. falling (sine_index k)) 8) ≈ times x
+    (nested (times x x) (λ k. falling (sine_index k)) (flipped e 8) 8)
 sine_ends e x = times_cong (sine_first x) (inner_nested 8 e (times x x) (λ k. falling (sine_index k)))
 
 -- ---- the sine's coefficients in 64 bits
@@ -112,7 +114,9 @@ start_high = record { above = record { cross = record { le = tt } }; below = rec
 pub innermost : (w : ℕ) → Keeps 51862 w 0 51862
 innermost w C u v z i s n = step_near 51862 w 0 0 C u v (record { not_above = omega arith; close = omega arith }) (omega arith) (omega arith) z i s n
 
-nested_is : (u s : Fraction) → step_at (ratio 0) u (step_at (ratio 1) u (step_at (ratio 2) u (step_at (ratio 3) u (step_at (ratio 4) u (step_at (ratio 5) u (step_at (ratio 6) u (step_at (ratio 7) u (step_at (ratio 8) u s)))))))) ≡ nested u ratio s 8
+nested_is : (u s : Fraction) → step_at (ratio 0) u (step_at (ratio 1) u
+    (step_at (ratio 2) u (step_at (ratio 3) u (step_at (ratio 4) u (step_at (ratio 5) u (step_at (ratio 6) u (step_at (ratio 7) u (step_at (ratio 8) u s))))))))
+    ≡ nested u ratio s 8
 unfolding nested
 nested_is u s = refl
 
@@ -139,10 +143,12 @@ coefficient_next : (k : ℕ) (N : Fraction) → times (coefficient (suc k)) N �
 unfolding coefficient
 coefficient_next k N = refl
 
-on : (k c w t z : ℕ) (u N : Fraction) → Keeps c w t z → zero_F ≤F u → IsCut c (coefficient k) → IsSquare w u → IsWithinUnits 320 t (times (coefficient (suc k)) N) → IsWithinUnits 320 z (times (coefficient k) (step_at (ratio k) u N))
+on : (k c w t z : ℕ) (u N : Fraction) → Keeps c w t z → zero_F ≤F u → IsCut c (coefficient k) → IsSquare w u
+    → IsWithinUnits 320 t (times (coefficient (suc k)) N) → IsWithinUnits 320 z (times (coefficient k) (step_at (ratio k) u N))
 on k c w t z u N f p i s n = next c w t z (coefficient k) (ratio k) u N f p i s (rw (coefficient_next k N) at n)
 
-pub chained : (w i h g f e d c b a : ℕ) (u s : Fraction) → Chain w i h g f e d c b a → zero_F ≤F u → IsSquare w u → IsWithinUnits 320 0 (tenth s) → IsWithinUnits 320 a (nested u ratio s 8)
+pub chained : (w i h g f e d c b a : ℕ) (u s : Fraction) → Chain w i h g f e d c b a → zero_F ≤F u → IsSquare w u → IsWithinUnits 320 0 (tenth s)
+    → IsWithinUnits 320 a (nested u ratio s 8)
 chained w i h g f e d c b a u s k z q n =
     let n8 = next 51862 w 0 i (coefficient 8) (ratio 8) u s k.k8 z cut_8 q n in
     let n7 = on 7 14106527 w i h u _ k.k7 z cut_7 q n8 in
@@ -177,7 +183,8 @@ deeper (suc k) x s h a =
 pub ends_from : (n : ℕ) (x : Fraction) (s : ℕ) → 8 ≤ n → IsUpTo 4 5 x → AreSineEnds x s 8 → AreSineEnds x s n
 ends_from n x s l h a = let e : n ≡ (n - 8) + 8 = omega (arith, l) in rw e (deeper (n - 8) x s h a)
 
-pub sine_near : (n angle w i h g f e d c b a s : ℕ) (x : Fraction) → 8 ≤ n → angle ≤ 14757395258967641292 → a ≤ 2 ^ 64 → IsHigh w angle angle → IsHigh s angle a → IsAngle angle x
+pub sine_near : (n angle w i h g f e d c b a s : ℕ) (x : Fraction) → 8 ≤ n → angle ≤ 14757395258967641292 → a ≤ 2 ^ 64 → IsHigh w angle angle → IsHigh s angle a
+    → IsAngle angle x
     → Chain w i h g f e d c b a → AreSineEnds x s n
 sine_near n angle w i h g f e d c b a s x l small top p q t k =
     let u = angle_fifths angle x t in

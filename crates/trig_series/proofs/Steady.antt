@@ -18,7 +18,8 @@ use Rattle.trig_series.proofs.Curves.{in_order, in_fifths, cosine_above}
 use Rattle.trig_series.proofs.PointLemmas.{near_none}
 
 -- from fractions to whole numbers
-by_angles : (d e : ℕ) (a b : ℤ) → plus (at_64 (a *ℤ pos 256 -ℤ pos 1152)) (in_radians d) ≤F plus (at_64 (b *ℤ pos 256 +ℤ pos 1152)) (in_radians e) → d ≤ e → (pos 57 *ℤ (a -ℤ b)) ≤ℤ ((pos e -ℤ pos d) +ℤ pos 513)
+by_angles : (d e : ℕ) (a b : ℤ) → plus (at_64 (a *ℤ pos 256 -ℤ pos 1152)) (in_radians d) ≤F plus (at_64 (b *ℤ pos 256 +ℤ pos 1152)) (in_radians e) → d ≤ e
+    → (pos 57 *ℤ (a -ℤ b)) ≤ℤ ((pos e -ℤ pos d) +ℤ pos 513)
 unfolding plus times
 by_angles d e a b h l = omega (arith, ints, h.cross, l)
 
@@ -36,8 +37,10 @@ sine_steady d e a b a' b' l u p q =
     let o = in_order d e l in
     let there = sum_ends_in_order 8 (sine_term (in_radians e)) ((sine_halving (in_radians e) y).nonneg 9) in
     record {
-      up = by_angles d e b' a (le_trans _ _ _ (plus_mono _ _ _ _ (le_trans _ _ _ q.high there) (le_refl (in_radians d))) (le_trans _ _ _ (sine_slow 7 _ _ x y o) (plus_mono _ _ _ _ p.low (le_refl (in_radians e))))) l;
-      down = more _ (pos e -ℤ pos d) _ (by_order b a' (le_trans _ _ _ p.high (le_trans _ _ _ (sine_lowers 8 _ _ x y o) (le_trans _ _ _ there q.low)))) (omega (arith, ints, l)) refl;
+      up = by_angles d e b' a (le_trans _ _ _ (plus_mono _ _ _ _ (le_trans _ _ _ q.high there) (le_refl (in_radians d)))
+          (le_trans _ _ _ (sine_slow 7 _ _ x y o) (plus_mono _ _ _ _ p.low (le_refl (in_radians e))))) l;
+      down = more _ (pos e -ℤ pos d) _ (by_order b a' (le_trans _ _ _ p.high (le_trans _ _ _ (sine_lowers 8 _ _ x y o) (le_trans _ _ _ there q.low))))
+          (omega (arith, ints, l)) refl;
     }
 
 -- the cosine falls
@@ -48,8 +51,10 @@ cosine_steady d e a b a' b' l u p q =
     let o = in_order d e l in
     let there = sum_ends_in_order 9 (cosine_term (in_radians e)) ((cosine_halving (in_radians e) y).nonneg 9) in
     record {
-      up = more _ (pos e -ℤ pos d) _ (by_order b' a (le_trans _ _ _ q.high (le_trans _ _ _ there (le_trans _ _ _ (cosine_uppers 8 _ _ x y o) p.low)))) (omega (arith, ints, l)) refl;
-      down = by_angles d e b a' (le_trans _ _ _ (plus_mono _ _ _ _ p.high (le_refl (in_radians d))) (le_trans _ _ _ (cosine_slow 7 _ _ x y o) (plus_mono _ _ _ _ (le_trans _ _ _ there q.low) (le_refl (in_radians e))))) l;
+      up = more _ (pos e -ℤ pos d) _ (by_order b' a (le_trans _ _ _ q.high (le_trans _ _ _ there (le_trans _ _ _ (cosine_uppers 8 _ _ x y o) p.low))))
+          (omega (arith, ints, l)) refl;
+      down = by_angles d e b a' (le_trans _ _ _ (plus_mono _ _ _ _ p.high (le_refl (in_radians d)))
+          (le_trans _ _ _ (cosine_slow 7 _ _ x y o) (plus_mono _ _ _ _ (le_trans _ _ _ there q.low) (le_refl (in_radians e))))) l;
     }
 
 turned : (w a b a' b' : ℤ) → AreSteady w a b a' b' → AreSteady w a' b' a b
@@ -80,7 +85,8 @@ at_start j d e w a b s p l h =
     let t = steady j 0 d e e a b (omega arith) l s p in
     record { up = omega (arith, ints, t.up, h); down = omega (arith, ints, t.down, h) }
 
-at_end : (j d : ℕ) (e w a b : ℤ) → IsPoint j 3242591731706757120 e e → IsPoint j d a b → d ≤ 3242591731706757120 → (pos 3242591731706757120 -ℤ pos d) ≤ℤ w → IsAround e w a b
+at_end : (j d : ℕ) (e w a b : ℤ) → IsPoint j 3242591731706757120 e e → IsPoint j d a b → d ≤ 3242591731706757120 → (pos 3242591731706757120 -ℤ pos d) ≤ℤ w
+    → IsAround e w a b
 at_end j d e w a b s p l h =
     let t = steady j d 3242591731706757120 a b e e l (omega arith) p s in
     record { up = omega (arith, ints, t.down, h); down = omega (arith, ints, t.up, h) }
@@ -113,7 +119,8 @@ small_point w k p a b l u s h =
 
 -- near 90 degrees it is near 1
 square_more : (v w : ℤ) → pos 0 ≤ℤ v → v ≤ℤ w → (v *ℤ v) ≤ℤ (w *ℤ w)
-square_more v w h k = le_between (v ∷ w ∷ []) ((lit (pos 0) ≼ at 0) ∷ (at 0 ≼ at 1) ∷ []) (at 0 ⊗ at 0) (at 1 ⊗ at 1) (certain 1 ⊠ (certain 1 ⊞ twice 2 ⊠ certain 0)) refl (h, (k, tt))
+square_more v w h k = le_between (v ∷ w ∷ []) ((lit (pos 0) ≼ at 0) ∷ (at 0 ≼ at 1) ∷ []) (at 0 ⊗ at 0) (at 1 ⊗ at 1)
+    (certain 1 ⊠ (certain 1 ⊞ twice 2 ⊠ certain 0)) refl (h, (k, tt))
 
 pub more_crest : (v w a : ℤ) → pos 0 ≤ℤ v → v ≤ℤ w → IsCrest v a → IsCrest w a
 more_crest v w a h k c = let l = square_more v w h k in record { down = omega (arith, ints, l, c.down) }
@@ -132,11 +139,13 @@ second_crest : (d : ℕ) (w a b : ℤ) → d ≤ 3242591731706757120 → pos d �
 unfolding IsPoint
 second_crest d w a b l k p = cosine_crest d w a b l k p
 
-crest_point : (w k p a b : ℤ) → (pos 6485183463413514240 -ℤ w) ≤ℤ p → p ≤ℤ (pos 6485183463413514240 +ℤ w) → w <ℤ pos 3242591731706757120 → LiesIn k p a b → IsCrest w a
+crest_point : (w k p a b : ℤ) → (pos 6485183463413514240 -ℤ w) ≤ℤ p → p ≤ℤ (pos 6485183463413514240 +ℤ w) → w <ℤ pos 3242591731706757120 → LiesIn k p a b
+    → IsCrest w a
 crest_point w k p a b l u s h =
     by_lt_z k (pos 2)
     (λ m. let g = by_octant k (pos 1) p a b (omega (arith, ints, m, l, s, h.to)) h in first_crest _ w a b (omega (arith, ints, l, g.from, g.to)) g.point)
-    (λ m. let g = by_octant k (pos 2) p a b (omega (arith, ints, m, u, s, h.from)) h in second_crest _ w a b (omega (arith, ints, g.from, g.to)) (omega (arith, ints, u, g.from, g.to)) g.point)
+    (λ m. let g = by_octant k (pos 2) p a b (omega (arith, ints, m, u, s, h.from)) h in second_crest _ w a b (omega (arith, ints, g.from, g.to))
+    (omega (arith, ints, u, g.from, g.to)) g.point)
 
 -- ---- hulls
 pub hull_around : (e w a b c d lo hi : ℤ) → lo ≡ int_min a c → hi ≡ int_max b d → IsAround e w a b → IsAround e w c d → IsAround e w lo hi
@@ -152,7 +161,8 @@ pub hull_at_second : (e a b c d lo hi : ℤ) → lo ≡ int_min a c → hi ≡ i
 hull_at_second e a b c d lo hi p q h = record { above = omega (arith, ints, clamps, p, h.above); below = omega (arith, ints, clamps, q, h.below) }
 
 -- what the two points of an octant say of their hull
-pub in_narrow : (k p q a b c d lo hi : ℤ) → p ≤ℤ q → LiesIn k p a b → LiesIn k q c d → lo ≡ int_min a c → hi ≡ int_max b d → (pos 57 *ℤ (hi -ℤ lo)) ≤ℤ ((q -ℤ p) +ℤ pos 513)
+pub in_narrow : (k p q a b c d lo hi : ℤ) → p ≤ℤ q → LiesIn k p a b → LiesIn k q c d → lo ≡ int_min a c → hi ≡ int_max b d → (pos 57 *ℤ (hi -ℤ lo))
+    ≤ℤ ((q -ℤ p) +ℤ pos 513)
 in_narrow k p q a b c d lo hi l g h e f =
     let dp = unsigned_abs (p -ℤ k *ℤ pos 3242591731706757120) in
     let dq = unsigned_abs (q -ℤ k *ℤ pos 3242591731706757120) in
@@ -172,10 +182,12 @@ pub in_small : (k lo hi p q a b c d x y : ℤ) → lo ≤ℤ p → p ≤ℤ q �
     → (w : ℤ) → neg_ℤ w ≤ℤ lo → hi ≤ℤ w → w <ℤ pos 3242591731706757120 → IsAround (pos 0) w x y
 in_small k lo hi p q a b c d x y l m n g h e f w r s t =
     hull_around (pos 0) w a b c d x y e f
-    (small_point w k p a b (omega (arith, ints, r, l)) (omega (arith, ints, s, m, n)) t g) (small_point w k q c d (omega (arith, ints, r, l, m)) (omega (arith, ints, s, n)) t h)
+    (small_point w k p a b (omega (arith, ints, r, l)) (omega (arith, ints, s, m, n)) t g)
+    (small_point w k q c d (omega (arith, ints, r, l, m)) (omega (arith, ints, s, n)) t h)
 
 pub in_crest : (k lo hi p q a b c d x : ℤ) → lo ≤ℤ p → p ≤ℤ q → q ≤ℤ hi → LiesIn k p a b → LiesIn k q c d → x ≡ int_min a c
     → (w : ℤ) → (pos 6485183463413514240 -ℤ w) ≤ℤ lo → hi ≤ℤ (pos 6485183463413514240 +ℤ w) → w <ℤ pos 3242591731706757120 → IsCrest w x
 in_crest k lo hi p q a b c d x l m n g h e w r s t =
     hull_crest w a c x e
-    (crest_point w k p a b (omega (arith, ints, r, l)) (omega (arith, ints, s, m, n)) t g) (crest_point w k q c d (omega (arith, ints, r, l, m)) (omega (arith, ints, s, n)) t h)
+    (crest_point w k p a b (omega (arith, ints, r, l)) (omega (arith, ints, s, m, n)) t g)
+    (crest_point w k q c d (omega (arith, ints, r, l, m)) (omega (arith, ints, s, n)) t h)

@@ -4,13 +4,13 @@ use Rattle.std.specs.Int.{int_min, int_max}
 use Rattle.std.proofs.lemmas.Int.{ints, clamps, by_lt_z}
 use Rattle.exact_math.specs.Fraction.{Fraction, ◌≈◌, floor_quotient}
 use Rattle.exact_math.proofs.Floors.{IsFloorQuotient, floor_quotient_is}
-use Rattle.book_model.specs.programs.Leading.{at_56}
+use Rattle.book_model.specs.programs.Leading.{units_of_56}
 use Rattle.book_model.specs.numbers.Octants.{short_of, octant_of_turn}
 use Rattle.trig_series.specs.Points.{IsNearSine, IsNearCosine, IsPoint, edge_of, IsAt}
 use Rattle.trig_series.proofs.AngleLemmas.{short_same}
 
 -- ---- the first half turn
-pub short_count : (d : ℕ) (y : Fraction) → d ≤ 3242591731706757120 → y ≈ at_56 (pos d) → short_of y ≈ at_56 (pos (3242591731706757120 - d))
+pub short_count : (d : ℕ) (y : Fraction) → d ≤ 3242591731706757120 → y ≈ units_of_56 (pos d) → short_of y ≈ units_of_56 (pos (3242591731706757120 - d))
 short_count d y l e = let s : pos (3242591731706757120 - d) ≡ pos 3242591731706757120 -ℤ pos d = omega (arith, ints, l) in rw s (short_same (pos d) y e)
 
 pub point_0 : (o : ℤ) (d : ℕ) (lo hi : ℤ) → o ≡ pos 0 → IsNearSine d lo hi → IsPoint (unsigned_abs o) d lo hi
@@ -33,7 +33,8 @@ point_3 o d lo hi e h = rw e h
 twice_opposite : (a b : ℤ) → a ≡ neg_ℤ b → neg_ℤ a ≡ b
 twice_opposite a b e = omega (arith, ints, e)
 
-pub later_point : (o : ℤ) (d : ℕ) (a b lo hi : ℤ) → pos 4 ≤ℤ o → lo ≡ neg_ℤ b → hi ≡ neg_ℤ a → IsPoint (unsigned_abs (o -ℤ pos 4)) d a b → IsPoint (unsigned_abs o) d lo hi
+pub later_point : (o : ℤ) (d : ℕ) (a b lo hi : ℤ) → pos 4 ≤ℤ o → lo ≡ neg_ℤ b → hi ≡ neg_ℤ a → IsPoint (unsigned_abs (o -ℤ pos 4)) d a b
+    → IsPoint (unsigned_abs o) d lo hi
 unfolding IsPoint
 later_point (negsuc m) d a b lo hi h e f p = absurd (omega (arith, ints))
 later_point (pos zero) d a b lo hi h e f p = absurd (omega (arith, ints))
@@ -48,7 +49,8 @@ later_point (pos (suc (suc (suc (suc j))))) d a b lo hi h e f p =
 opposite_at : (e a b lo hi : ℤ) → lo ≡ neg_ℤ b → hi ≡ neg_ℤ a → IsAt e a b → IsAt (neg_ℤ e) lo hi
 opposite_at e a b lo hi p q h = record { above = omega (arith, ints, p, h.below); below = omega (arith, ints, q, h.above) }
 
-pub later_begins : (o a b lo hi : ℤ) → pos 4 ≤ℤ o → lo ≡ neg_ℤ b → hi ≡ neg_ℤ a → IsAt (edge_of (unsigned_abs (o -ℤ pos 4))) a b → IsAt (edge_of (unsigned_abs o)) lo hi
+pub later_begins : (o a b lo hi : ℤ) → pos 4 ≤ℤ o → lo ≡ neg_ℤ b → hi ≡ neg_ℤ a → IsAt (edge_of (unsigned_abs (o -ℤ pos 4))) a b
+    → IsAt (edge_of (unsigned_abs o)) lo hi
 later_begins (negsuc m) a b lo hi h e f p = absurd (omega (arith, ints))
 later_begins (pos zero) a b lo hi h e f p = absurd (omega (arith, ints))
 later_begins (pos (suc zero)) a b lo hi h e f p = absurd (omega (arith, ints))
@@ -58,7 +60,8 @@ later_begins (pos (suc (suc (suc (suc j))))) a b lo hi h e f p =
     let q : pos (suc (suc (suc (suc j)))) -ℤ pos 4 ≡ pos j = omega (arith, ints) in
     opposite_at (edge_of j) a b lo hi e f (rw q at p)
 
-pub later_ends : (o a b lo hi : ℤ) → pos 4 ≤ℤ o → lo ≡ neg_ℤ b → hi ≡ neg_ℤ a → IsAt (edge_of (suc (unsigned_abs (o -ℤ pos 4)))) a b → IsAt (edge_of (suc (unsigned_abs o))) lo hi
+pub later_ends : (o a b lo hi : ℤ) → pos 4 ≤ℤ o → lo ≡ neg_ℤ b → hi ≡ neg_ℤ a → IsAt (edge_of (suc (unsigned_abs (o -ℤ pos 4)))) a b
+    → IsAt (edge_of (suc (unsigned_abs o))) lo hi
 later_ends (negsuc m) a b lo hi h e f p = absurd (omega (arith, ints))
 later_ends (pos zero) a b lo hi h e f p = absurd (omega (arith, ints))
 later_ends (pos (suc zero)) a b lo hi h e f p = absurd (omega (arith, ints))
@@ -100,11 +103,14 @@ edges_meet k lo hi h =
     rw e at h
 
 -- ---- from octant to octant
-pub first_narrow : (first lo hi p q x y : ℤ) → p ≡ int_max (first *ℤ pos 3242591731706757120) lo → q ≡ int_min (first *ℤ pos 3242591731706757120 +ℤ pos 3242591731706757120) hi → (first *ℤ pos 3242591731706757120) ≤ℤ lo
-    → (pos 57 *ℤ (y -ℤ x)) ≤ℤ ((q -ℤ p) +ℤ pos 513) → (pos 57 *ℤ (y -ℤ x)) ≤ℤ ((int_min ((first +ℤ pos 1) *ℤ pos 3242591731706757120) hi -ℤ lo) +ℤ pos 513 *ℤ ((first +ℤ pos 1) -ℤ first))
+pub first_narrow : (first lo hi p q x y : ℤ) → p ≡ int_max (first *ℤ pos 3242591731706757120) lo → q
+    ≡ int_min (first *ℤ pos 3242591731706757120 +ℤ pos 3242591731706757120) hi → (first *ℤ pos 3242591731706757120) ≤ℤ lo
+    → (pos 57 *ℤ (y -ℤ x)) ≤ℤ ((q -ℤ p) +ℤ pos 513) → (pos 57 *ℤ (y -ℤ x))
+    ≤ℤ ((int_min ((first +ℤ pos 1) *ℤ pos 3242591731706757120) hi -ℤ lo) +ℤ pos 513 *ℤ ((first +ℤ pos 1) -ℤ first))
 first_narrow first lo hi p q x y e f b h = omega (arith, ints, clamps, e, f, b, h)
 
-pub next_narrow : (m first lo hi edge a b c d x y : ℤ) → lo ≤ℤ (m *ℤ pos 3242591731706757120) → (m *ℤ pos 3242591731706757120) ≤ℤ hi → IsAt edge a b → IsAt edge c d → x ≡ int_min a c → y ≡ int_max b d
+pub next_narrow : (m first lo hi edge a b c d x y : ℤ) → lo ≤ℤ (m *ℤ pos 3242591731706757120) → (m *ℤ pos 3242591731706757120) ≤ℤ hi → IsAt edge a b
+    → IsAt edge c d → x ≡ int_min a c → y ≡ int_max b d
     → (pos 57 *ℤ (b -ℤ a)) ≤ℤ ((int_min (m *ℤ pos 3242591731706757120) hi -ℤ lo) +ℤ pos 513 *ℤ (m -ℤ first))
     → (pos 57 *ℤ (d -ℤ c)) ≤ℤ ((int_min (m *ℤ pos 3242591731706757120 +ℤ pos 3242591731706757120) hi -ℤ int_max (m *ℤ pos 3242591731706757120) lo) +ℤ pos 513)
     → (pos 57 *ℤ (y -ℤ x)) ≤ℤ ((int_min ((m +ℤ pos 1) *ℤ pos 3242591731706757120) hi -ℤ lo) +ℤ pos 513 *ℤ ((m +ℤ pos 1) -ℤ first))
@@ -112,17 +118,20 @@ next_narrow m first lo hi edge a b c d x y l r s t e f g h =
     let u : (pos 57 *ℤ (y -ℤ x)) ≤ℤ (pos 57 *ℤ (b -ℤ a) +ℤ pos 57 *ℤ (d -ℤ c)) = omega (arith, ints, clamps, e, f, s.above, s.below, t.above, t.below) in
     omega (arith, ints, clamps, l, r, u, g, h)
 
-pub last_narrow : (first last next lo hi x y : ℤ) → next ≡ last +ℤ pos 1 → (pos 57 *ℤ (y -ℤ x)) ≤ℤ ((int_min (next *ℤ pos 3242591731706757120) hi -ℤ lo) +ℤ pos 513 *ℤ (next -ℤ first))
+pub last_narrow : (first last next lo hi x y : ℤ) → next ≡ last +ℤ pos 1 → (pos 57 *ℤ (y -ℤ x))
+    ≤ℤ ((int_min (next *ℤ pos 3242591731706757120) hi -ℤ lo) +ℤ pos 513 *ℤ (next -ℤ first))
     → (pos 57 *ℤ (y -ℤ x)) ≤ℤ ((hi -ℤ lo) +ℤ pos 513 *ℤ ((last -ℤ first) +ℤ pos 1))
 last_narrow first last next lo hi x y e h = omega (arith, ints, clamps, e, h)
 
 -- over several octants: few, or many
 pub few_or_many : (first last lo hi x y : ℤ) → lo ≤ℤ (first *ℤ pos 3242591731706757120 +ℤ pos 3242591731706757120) → (last *ℤ pos 3242591731706757120) ≤ℤ hi
-    → (pos 57 *ℤ (y -ℤ x)) ≤ℤ ((hi -ℤ lo) +ℤ pos 513 *ℤ ((last -ℤ first) +ℤ pos 1)) → (pos 9727775195120271360 ≤ℤ (hi -ℤ lo)) ⊎ ((pos 57 *ℤ (y -ℤ x)) ≤ℤ ((hi -ℤ lo) +ℤ pos 2052))
+    → (pos 57 *ℤ (y -ℤ x)) ≤ℤ ((hi -ℤ lo) +ℤ pos 513 *ℤ ((last -ℤ first) +ℤ pos 1))
+    → (pos 9727775195120271360 ≤ℤ (hi -ℤ lo)) ⊎ ((pos 57 *ℤ (y -ℤ x)) ≤ℤ ((hi -ℤ lo) +ℤ pos 2052))
 few_or_many first last lo hi x y l r h =
     by_lt_z (last -ℤ first) (pos 4)
     (λ m. inr (omega (arith, ints, m, h)))
     (λ m. inl (omega (arith, ints, m, l, r)))
 
-pub one_narrow : (lo hi x y : ℤ) → (pos 57 *ℤ (y -ℤ x)) ≤ℤ ((hi -ℤ lo) +ℤ pos 513) → (pos 9727775195120271360 ≤ℤ (hi -ℤ lo)) ⊎ ((pos 57 *ℤ (y -ℤ x)) ≤ℤ ((hi -ℤ lo) +ℤ pos 2052))
+pub one_narrow : (lo hi x y : ℤ) → (pos 57 *ℤ (y -ℤ x)) ≤ℤ ((hi -ℤ lo) +ℤ pos 513)
+    → (pos 9727775195120271360 ≤ℤ (hi -ℤ lo)) ⊎ ((pos 57 *ℤ (y -ℤ x)) ≤ℤ ((hi -ℤ lo) +ℤ pos 2052))
 one_narrow lo hi x y h = inr (omega (arith, ints, h))

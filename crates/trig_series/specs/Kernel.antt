@@ -4,7 +4,7 @@ use Rattle.exact_math.specs.Fraction.{Fraction, ◌≤F◌, times}
 use Rattle.exact_math.specs.Sums.{lower, upper, one_over}
 use Rattle.book_model.specs.declared.tables.TheConstants.{PI_BELOW, PI_ABOVE}
 use Rattle.book_model.specs.numbers.Fractions.{fraction_of}
-use Rattle.book_model.specs.programs.Leading.{at_56}
+use Rattle.book_model.specs.programs.Leading.{units_of_56}
 use Rattle.book_model.specs.numbers.Series.{four_fifths, sine_term, cosine_term}
 
 -- a number that counts 2^-64
@@ -45,11 +45,11 @@ pub record AreCosineEnds (x : Fraction) (s n : ℕ) : Type 0 where
 
 -- so many degrees that count 2^-56, in radians, by the lower neighbour of pi
 abbrev pub in_radians : ℕ → Fraction
-in_radians d = times (at_56 (pos d)) (times (fraction_of PI_BELOW) (one_over 179))
+in_radians d = times (units_of_56 (pos d)) (times (fraction_of PI_BELOW) (one_over 179))
 
 -- the same by the upper neighbour of pi
 abbrev pub in_radians_above : ℕ → Fraction
-in_radians_above d = times (at_56 (pos d)) (times (fraction_of PI_ABOVE) (one_over 179))
+in_radians_above d = times (units_of_56 (pos d)) (times (fraction_of PI_ABOVE) (one_over 179))
 
 -- x is so many degrees in radians, by a number between the two neighbours of pi
 pub record IsInRadians (d : ℕ) (x : Fraction) : Type 0 where

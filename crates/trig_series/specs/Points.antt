@@ -83,7 +83,8 @@ pub record IsNarrowSine (from to lo hi : ℤ) : Type 0 where
   pub narrow : neg_ℤ (pos (2 ^ 120)) ≤ℤ from → to ≤ℤ pos (2 ^ 120) → (pos 57 *ℤ (hi -ℤ lo)) ≤ℤ ((to -ℤ from) +ℤ pos 2052)
   pub small : (a : ℤ) → neg_ℤ a ≤ℤ from → to ≤ℤ a → a <ℤ pos OCTANT → IsAround (pos 0) a lo hi
   pub crest : (a : ℤ) → (QUARTER -ℤ a) ≤ℤ from → to ≤ℤ (QUARTER +ℤ a) → a <ℤ pos OCTANT → IsCrest a lo
-  pub inside : neg_ℤ (pos (2 ^ 120)) ≤ℤ from → to ≤ℤ pos (2 ^ 120) → (k : ℤ) → IsInside k from to → IsPart (octant_of_turn k) (unsigned_abs (from -ℤ k *ℤ pos OCTANT)) (unsigned_abs (to -ℤ k *ℤ pos OCTANT)) lo hi
+  pub inside : neg_ℤ (pos (2 ^ 120)) ≤ℤ from → to ≤ℤ pos (2 ^ 120) → (k : ℤ) → IsInside k from to
+      → IsPart (octant_of_turn k) (unsigned_abs (from -ℤ k *ℤ pos OCTANT)) (unsigned_abs (to -ℤ k *ℤ pos OCTANT)) lo hi
 
 -- the same of the cosine, which is near 1 at 0 degrees
 pub record IsNarrowCosine (from to lo hi : ℤ) : Type 0 where

@@ -2,11 +2,11 @@
 ghost use Rattle.book_model.specs.programs.Calls.{Encloses1};
 ghost use Rattle.book_model.specs.programs.Widths.{IsAbout};
 ghost use Rattle.std.specs.Prelude.{◌≡◌, ℕ, ℤ, pos, neg_ℤ, ◌^◌, ◌≤◌, ◌≤ℤ◌};
-ghost use Rattle.width_laws.specs.declared.table.TheConstants.{SINE};
-ghost use Rattle.width_laws.specs.Table.{greatest_of};
+ghost use Rattle.greatest_widths.specs.declared.table.TheConstants.{SINE};
+ghost use Rattle.greatest_widths.specs.Table.{greatest_of};
 ghost use Rattle.exact_math.specs.Interval.{Interval, IsProper, between, ◌⊆◌};
 ghost use Rattle.book_model.specs.numbers.Expressions.{sine, cosine, tangent};
-ghost use Rattle.book_model.specs.programs.Leading.{at_56};
+ghost use Rattle.book_model.specs.programs.Leading.{units_of_56};
 ghost use Rattle.book_model.specs.numbers.Octants.{sine_of_degrees, cosine_of_degrees};
 ghost use Rattle.trig_series.specs.declared.scale.TheConstants.{ONE};
 ghost use Rattle.trig_series.specs.Points.{IsNarrowSine, IsNarrowCosine};
@@ -34,7 +34,8 @@ fn cut_sine_over_degrees(lo: i128, hi: i128) -> Span
     requires from { neg_ℤ (pos (2 ^ 120)) ≤ℤ lo }
     requires to { hi ≤ℤ pos (2 ^ 120) }
     ensures holds { (n : ℕ) → DEPTH ≤ n → sine_of_degrees n
-        (between (at_56 lo) (at_56 hi)) ⊆ between (at_56 result.lo) (at_56 result.hi) }
+        (between (units_of_56 lo) (units_of_56 hi)) ⊆ between (units_of_56 result.lo)
+        (units_of_56 result.hi) }
     ensures narrow { IsNarrowSine lo hi result.lo result.hi }
 {
     let sine = sine_over_degrees(lo, hi);
@@ -46,8 +47,9 @@ fn cut_sine_over_degrees(lo: i128, hi: i128) -> Span
 /// The sine over ends in degrees; whatever a sine may be, where they are a turn or more apart, or too far from 0.
 fn sine_over_span(degrees: Span) -> Span
     ensures holds { (n : ℕ) → DEPTH ≤ n → sine_of_degrees n
-        (between (at_56 degrees.lo) (at_56 degrees.hi)) ⊆ between (at_56 result.lo)
-        (at_56 result.hi) }
+        (between (units_of_56 degrees.lo) (units_of_56 degrees.hi))
+        ⊆ between (units_of_56 result.lo)
+        (units_of_56 result.hi) }
     ensures narrow { IsNarrowSine degrees.lo degrees.hi result.lo result.hi }
 {
     if degrees.lo < -FAR {
@@ -65,8 +67,9 @@ fn sine_over_span(degrees: Span) -> Span
 /// The cosine over ends in degrees: the sine over 90 degrees more.
 fn cosine_over_span(degrees: Span) -> Span
     ensures holds { (n : ℕ) → DEPTH ≤ n → cosine_of_degrees n
-        (between (at_56 degrees.lo) (at_56 degrees.hi)) ⊆ between (at_56 result.lo)
-        (at_56 result.hi) }
+        (between (units_of_56 degrees.lo) (units_of_56 degrees.hi))
+        ⊆ between (units_of_56 result.lo)
+        (units_of_56 result.hi) }
     ensures narrow { IsNarrowCosine degrees.lo degrees.hi result.lo result.hi }
 {
     if degrees.hi > FAR {

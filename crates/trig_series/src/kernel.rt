@@ -5,7 +5,7 @@
 ghost use Rattle.std.specs.Prelude.{◌≡◌, ◌≤◌, ◌*◌, ◌/◌, ◌-◌, ◌^◌, ℕ, pos, ◌-ℤ◌, ◌+ℤ◌};
 ghost use Rattle.exact_math.specs.Fraction.{Fraction, ◌≤F◌, plus, opposite, times};
 ghost use Rattle.exact_math.specs.Interval.{zero_fraction, between, ◌⊆◌};
-ghost use Rattle.book_model.specs.programs.Leading.{at_56};
+ghost use Rattle.book_model.specs.programs.Leading.{units_of_56};
 ghost use Rattle.book_model.specs.numbers.Octants.{radians};
 ghost use Rattle.book_model.specs.numbers.Series.{sine_series, cosine_series};
 ghost use Rattle.trig_series.specs.declared.scale.TheConstants.{OCTANT};
@@ -71,7 +71,8 @@ fn cosine_of_angle_64(angle: u64) -> u64
 #[inline(always)]
 fn angle(degrees: u64) -> u64
     requires octant { degrees ≤ OCTANT }
-    ensures near { (n : ℕ) → 12 ≤ n → radians n (at_56 (pos degrees)) ⊆ between (at_64 (pos result))
+    ensures near { (n : ℕ) → 12 ≤ n → radians n (units_of_56 (pos degrees))
+        ⊆ between (at_64 (pos result))
         (at_64 (pos result +ℤ pos 68)) }
     ensures there { (x : Fraction) → IsInRadians degrees x → IsAngle result x }
     ensures small { result ≤ 14757395258967641292 }
@@ -82,7 +83,8 @@ fn angle(degrees: u64) -> u64
 /// The sine of so many degrees of an octant, which count 2⁻⁵⁶, within 384.
 pub(crate) fn sine_of_degrees_56(degrees: u64) -> u64
     requires octant { degrees ≤ OCTANT }
-    ensures near { (n : ℕ) → 12 ≤ n → sine_series n (radians n (at_56 (pos degrees))) ⊆ between
+    ensures near { (n : ℕ) → 12 ≤ n → sine_series n (radians n (units_of_56 (pos degrees)))
+        ⊆ between
         (at_64 (pos result -ℤ pos 384)) (at_64 (pos result +ℤ pos 384)) }
     ensures ends { (n : ℕ) (x : Fraction) → 8 ≤ n → IsInRadians degrees x → AreSineEnds x result n }
 {
@@ -92,9 +94,11 @@ pub(crate) fn sine_of_degrees_56(degrees: u64) -> u64
 /// The cosine of so many degrees of an octant, which count 2⁻⁵⁶, within 320.
 pub(crate) fn cosine_of_degrees_56(degrees: u64) -> u64
     requires octant { degrees ≤ OCTANT }
-    ensures near { (n : ℕ) → 12 ≤ n → cosine_series n (radians n (at_56 (pos degrees))) ⊆ between
+    ensures near { (n : ℕ) → 12 ≤ n → cosine_series n (radians n (units_of_56 (pos degrees)))
+        ⊆ between
         (at_64 (pos result -ℤ pos 320)) (at_64 (pos result +ℤ pos 320)) }
-    ensures ends { (n : ℕ) (x : Fraction) → 9 ≤ n → IsInRadians degrees x → AreCosineEnds x result n }
+    ensures ends { (n : ℕ) (x : Fraction) → 9 ≤ n → IsInRadians degrees x
+        → AreCosineEnds x result n }
 {
     cosine_of_angle_64(angle(degrees))
 }

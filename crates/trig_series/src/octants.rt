@@ -3,7 +3,7 @@ ghost use Rattle.std.specs.Prelude.{◌≡◌, ◌≤◌, ◌⊎◌, ◌^◌, �
 ghost use Rattle.std.specs.Int.{int_div_euclid, int_min, int_max};
 ghost use Rattle.exact_math.specs.Fraction.{Fraction, ◌≈◌};
 ghost use Rattle.exact_math.specs.Interval.{between, ◌⊆◌};
-ghost use Rattle.book_model.specs.programs.Leading.{at_56};
+ghost use Rattle.book_model.specs.programs.Leading.{units_of_56};
 ghost use Rattle.book_model.specs.numbers.Octants.{octant_of_turn, sine_into as into_octant, sine_at as at_degrees, sine_in as in_octant, first_octant, last_octant, sine_of_degrees};
 ghost use Rattle.trig_series.specs.declared.scale.TheConstants.{OCTANT, QUARTER, ONE};
 ghost use Rattle.trig_series.specs.Points.{IsPoint, edge_of, IsAt, IsSmall, IsAround, IsCrest, IsInside, IsPart};
@@ -20,8 +20,9 @@ fn sine_into_octant_of_half_turn(octant: i128, degrees: u64) -> Span
     requires from { pos 0 ≤ℤ octant }
     requires to { octant ≤ℤ pos 3 }
     requires high { degrees ≤ OCTANT }
-    ensures holds { (n : ℕ) (y : Fraction) → DEPTH ≤ n → y ≈ at_56 (pos degrees)
-        → into_octant n (unsigned_abs octant) y ⊆ between (at_56 result.lo) (at_56 result.hi) }
+    ensures holds { (n : ℕ) (y : Fraction) → DEPTH ≤ n → y ≈ units_of_56 (pos degrees)
+        → into_octant n (unsigned_abs octant) y ⊆ between (units_of_56 result.lo)
+        (units_of_56 result.hi) }
     ensures near { IsPoint (unsigned_abs octant) degrees result.lo result.hi }
     ensures room { IsSmall result.lo result.hi }
     ensures begins { degrees ≡ 0 → IsAt (edge_of (unsigned_abs octant)) result.lo result.hi }
@@ -56,8 +57,9 @@ fn sine_into_octant_of_turn(octant: i128, degrees: u64) -> Span
     requires from { pos 0 ≤ℤ octant }
     requires to { octant ≤ℤ pos 7 }
     requires high { degrees ≤ OCTANT }
-    ensures holds { (n : ℕ) (y : Fraction) → DEPTH ≤ n → y ≈ at_56 (pos degrees)
-        → into_octant n (unsigned_abs octant) y ⊆ between (at_56 result.lo) (at_56 result.hi) }
+    ensures holds { (n : ℕ) (y : Fraction) → DEPTH ≤ n → y ≈ units_of_56 (pos degrees)
+        → into_octant n (unsigned_abs octant) y ⊆ between (units_of_56 result.lo)
+        (units_of_56 result.hi) }
     ensures near { IsPoint (unsigned_abs octant) degrees result.lo result.hi }
     ensures room { IsSmall result.lo result.hi }
     ensures begins { degrees ≡ 0 → IsAt (edge_of (unsigned_abs octant)) result.lo result.hi }
@@ -87,8 +89,8 @@ fn sine_at_degrees_in_octant(octant: i128, degrees: i128) -> Span
     requires to { octant ≤ℤ pos (2 ^ 60) }
     requires low { (octant *ℤ pos OCTANT) ≤ℤ degrees }
     requires high { degrees ≤ℤ (octant *ℤ pos OCTANT +ℤ pos OCTANT) }
-    ensures holds { (n : ℕ) (y : Fraction) → DEPTH ≤ n → y ≈ at_56 degrees
-        → at_degrees n octant y ⊆ between (at_56 result.lo) (at_56 result.hi) }
+    ensures holds { (n : ℕ) (y : Fraction) → DEPTH ≤ n → y ≈ units_of_56 degrees
+        → at_degrees n octant y ⊆ between (units_of_56 result.lo) (units_of_56 result.hi) }
     ensures near { IsPoint (octant_of_turn octant) (unsigned_abs (degrees -ℤ octant *ℤ pos OCTANT))
         result.lo result.hi }
     ensures begins { degrees ≡ octant *ℤ pos OCTANT → IsAt
@@ -110,8 +112,9 @@ fn sine_over_degrees_in_octant(octant: i128, lo: i128, hi: i128) -> Span
     requires ordered { lo ≤ℤ hi }
     requires begun { (octant *ℤ pos OCTANT) ≤ℤ hi }
     requires ended { lo ≤ℤ (octant *ℤ pos OCTANT +ℤ pos OCTANT) }
-    ensures holds { (n : ℕ) → DEPTH ≤ n → in_octant n (at_56 lo) (at_56 hi) octant ⊆ between
-        (at_56 result.lo) (at_56 result.hi) }
+    ensures holds { (n : ℕ) → DEPTH ≤ n → in_octant n (units_of_56 lo) (units_of_56 hi) octant
+        ⊆ between
+        (units_of_56 result.lo) (units_of_56 result.hi) }
     ensures narrow { (pos 57 *ℤ (result.hi -ℤ result.lo)) ≤ℤ
         ((int_min (octant *ℤ pos OCTANT +ℤ pos OCTANT) hi -ℤ int_max (octant *ℤ pos OCTANT) lo)
         +ℤ pos 513) }
@@ -158,7 +161,7 @@ fn octants_in(degrees: i128) -> i128
 fn first_met(lo: i128) -> i128
     requires from { neg_ℤ (pos (2 ^ 120)) ≤ℤ lo }
     requires to { lo ≤ℤ pos (2 ^ 120) }
-    ensures value { result ≡ first_octant (at_56 lo) }
+    ensures value { result ≡ first_octant (units_of_56 lo) }
     ensures begun { (result *ℤ pos OCTANT) ≤ℤ lo }
     ensures ended { lo ≤ℤ (result *ℤ pos OCTANT +ℤ pos OCTANT) }
     ensures above { neg_ℤ (pos (2 ^ 60)) ≤ℤ result }
@@ -172,7 +175,7 @@ fn first_met(lo: i128) -> i128
 fn last_met(hi: i128) -> i128
     requires from { neg_ℤ (pos (2 ^ 120)) ≤ℤ hi }
     requires to { hi ≤ℤ pos (2 ^ 120) }
-    ensures value { result ≡ last_octant (at_56 hi) }
+    ensures value { result ≡ last_octant (units_of_56 hi) }
     ensures begun { (result *ℤ pos OCTANT) ≤ℤ hi }
     ensures ended { hi ≤ℤ (result *ℤ pos OCTANT +ℤ pos OCTANT) }
     ensures above { neg_ℤ (pos (2 ^ 60)) ≤ℤ result }
@@ -185,8 +188,8 @@ fn last_met(hi: i128) -> i128
 #[cold]
 fn sine_over_octants(first: i128, last: i128, lo: i128, hi: i128) -> Span
     requires ordered { lo ≤ℤ hi }
-    requires first { first ≡ first_octant (at_56 lo) }
-    requires last { last ≡ last_octant (at_56 hi) }
+    requires first { first ≡ first_octant (units_of_56 lo) }
+    requires last { last ≡ last_octant (units_of_56 hi) }
     requires begun { (first *ℤ pos OCTANT) ≤ℤ lo }
     requires ended { lo ≤ℤ (first *ℤ pos OCTANT +ℤ pos OCTANT) }
     requires reached { (last *ℤ pos OCTANT) ≤ℤ hi }
@@ -194,7 +197,8 @@ fn sine_over_octants(first: i128, last: i128, lo: i128, hi: i128) -> Span
     requires below { last <ℤ pos (2 ^ 60) }
     requires several { first <ℤ last }
     ensures holds { (n : ℕ) → DEPTH ≤ n → sine_of_degrees n
-        (between (at_56 lo) (at_56 hi)) ⊆ between (at_56 result.lo) (at_56 result.hi) }
+        (between (units_of_56 lo) (units_of_56 hi)) ⊆ between (units_of_56 result.lo)
+        (units_of_56 result.hi) }
     ensures narrow { (pos 57 *ℤ (result.hi -ℤ result.lo)) ≤ℤ
         ((hi -ℤ lo) +ℤ pos 513 *ℤ ((last -ℤ first) +ℤ pos 1)) }
     ensures small { (a : ℤ) → neg_ℤ a ≤ℤ lo → hi ≤ℤ a → a <ℤ pos OCTANT
@@ -217,8 +221,9 @@ fn sine_within_octant(octant: i128, lo: i128, hi: i128) -> Span
     requires begun { (octant *ℤ pos OCTANT) ≤ℤ lo }
     requires ordered { lo ≤ℤ hi }
     requires ended { hi ≤ℤ (octant *ℤ pos OCTANT +ℤ pos OCTANT) }
-    ensures holds { (n : ℕ) → DEPTH ≤ n → in_octant n (at_56 lo) (at_56 hi) octant ⊆ between
-        (at_56 result.lo) (at_56 result.hi) }
+    ensures holds { (n : ℕ) → DEPTH ≤ n → in_octant n (units_of_56 lo) (units_of_56 hi) octant
+        ⊆ between
+        (units_of_56 result.lo) (units_of_56 result.hi) }
     ensures narrow { (pos 57 *ℤ (result.hi -ℤ result.lo)) ≤ℤ ((hi -ℤ lo) +ℤ pos 513) }
     ensures small { (a : ℤ) → neg_ℤ a ≤ℤ lo → hi ≤ℤ a → a <ℤ pos OCTANT
         → IsAround (pos 0) a result.lo result.hi }
@@ -239,9 +244,10 @@ fn sine_over_edges(lo: i128, hi: i128) -> Span
     requires ordered { lo ≤ℤ hi }
     requires from { neg_ℤ (pos (2 ^ 120)) ≤ℤ lo }
     requires to { hi ≤ℤ pos (2 ^ 120) }
-    requires several { first_octant (at_56 lo) <ℤ last_octant (at_56 hi) }
+    requires several { first_octant (units_of_56 lo) <ℤ last_octant (units_of_56 hi) }
     ensures holds { (n : ℕ) → DEPTH ≤ n → sine_of_degrees n
-        (between (at_56 lo) (at_56 hi)) ⊆ between (at_56 result.lo) (at_56 result.hi) }
+        (between (units_of_56 lo) (units_of_56 hi)) ⊆ between (units_of_56 result.lo)
+        (units_of_56 result.hi) }
     ensures narrow { ((pos 3 *ℤ pos OCTANT) ≤ℤ (hi -ℤ lo))
         ⊎ ((pos 57 *ℤ (result.hi -ℤ result.lo)) ≤ℤ ((hi -ℤ lo) +ℤ pos 2052)) }
     ensures small { (a : ℤ) → neg_ℤ a ≤ℤ lo → hi ≤ℤ a → a <ℤ pos OCTANT
@@ -260,7 +266,8 @@ pub(crate) fn sine_over_degrees(lo: i128, hi: i128) -> Span
     requires from { neg_ℤ (pos (2 ^ 120)) ≤ℤ lo }
     requires to { hi ≤ℤ pos (2 ^ 120) }
     ensures holds { (n : ℕ) → DEPTH ≤ n → sine_of_degrees n
-        (between (at_56 lo) (at_56 hi)) ⊆ between (at_56 result.lo) (at_56 result.hi) }
+        (between (units_of_56 lo) (units_of_56 hi)) ⊆ between (units_of_56 result.lo)
+        (units_of_56 result.hi) }
     ensures narrow { ((pos 3 *ℤ pos OCTANT) ≤ℤ (hi -ℤ lo))
         ⊎ ((pos 57 *ℤ (result.hi -ℤ result.lo)) ≤ℤ ((hi -ℤ lo) +ℤ pos 2052)) }
     ensures small { (a : ℤ) → neg_ℤ a ≤ℤ lo → hi ≤ℤ a → a <ℤ pos OCTANT

@@ -3,7 +3,7 @@
 ghost use Rattle.std.specs.Prelude.{◌≤◌, ℕ, pos, ◌≤ℤ◌, ◌+ℤ◌, ◌-ℤ◌, ◌*ℤ◌, unsigned_abs};
 ghost use Rattle.exact_math.specs.Fraction.{Fraction, ◌≈◌};
 ghost use Rattle.exact_math.specs.Interval.{between, ◌⊆◌};
-ghost use Rattle.book_model.specs.programs.Leading.{at_56};
+ghost use Rattle.book_model.specs.programs.Leading.{units_of_56};
 ghost use Rattle.book_model.specs.numbers.Octants.{radians, sine_into as into_octant};
 ghost use Rattle.book_model.specs.numbers.Series.{sine_series, cosine_series};
 ghost use Rattle.trig_series.specs.declared.scale.TheConstants.{OCTANT};
@@ -30,8 +30,9 @@ fn most_moved(degrees: u64) -> i128
 fn sine_ends_over_degrees(from: u64, to: u64) -> Span
     requires ordered { from ≤ to }
     requires octant { to ≤ OCTANT }
-    ensures holds { (n d : ℕ) (y : Fraction) → DEPTH ≤ n → from ≤ d → d ≤ to → y ≈ at_56 (pos d)
-        → sine_series n (radians n y) ⊆ between (at_56 result.lo) (at_56 result.hi) }
+    ensures holds { (n d : ℕ) (y : Fraction) → DEPTH ≤ n → from ≤ d → d ≤ to
+        → y ≈ units_of_56 (pos d)
+        → sine_series n (radians n y) ⊆ between (units_of_56 result.lo) (units_of_56 result.hi) }
     ensures narrow { (pos 57 *ℤ (result.hi -ℤ result.lo)) ≤ℤ ((pos to -ℤ pos from) +ℤ pos 513) }
     ensures room { IsSmall result.lo result.hi }
     ensures near { IsRising (pos from) (pos to) result.lo result.hi }
@@ -48,8 +49,9 @@ fn sine_ends_over_degrees(from: u64, to: u64) -> Span
 fn cosine_ends_over_degrees(from: u64, to: u64) -> Span
     requires ordered { from ≤ to }
     requires octant { to ≤ OCTANT }
-    ensures holds { (n d : ℕ) (y : Fraction) → DEPTH ≤ n → from ≤ d → d ≤ to → y ≈ at_56 (pos d)
-        → cosine_series n (radians n y) ⊆ between (at_56 result.lo) (at_56 result.hi) }
+    ensures holds { (n d : ℕ) (y : Fraction) → DEPTH ≤ n → from ≤ d → d ≤ to
+        → y ≈ units_of_56 (pos d)
+        → cosine_series n (radians n y) ⊆ between (units_of_56 result.lo) (units_of_56 result.hi) }
     ensures narrow { (pos 57 *ℤ (result.hi -ℤ result.lo)) ≤ℤ ((pos to -ℤ pos from) +ℤ pos 513) }
     ensures room { IsSmall result.lo result.hi }
     ensures near { IsCrest (pos to) result.lo }
@@ -68,8 +70,10 @@ fn part_of_half(octant: i128, from: u64, to: u64) -> Span
     requires last { octant ≤ℤ pos 3 }
     requires ordered { from ≤ to }
     requires high { to ≤ OCTANT }
-    ensures holds { (n d : ℕ) (y : Fraction) → DEPTH ≤ n → from ≤ d → d ≤ to → y ≈ at_56 (pos d)
-        → into_octant n (unsigned_abs octant) y ⊆ between (at_56 result.lo) (at_56 result.hi) }
+    ensures holds { (n d : ℕ) (y : Fraction) → DEPTH ≤ n → from ≤ d → d ≤ to
+        → y ≈ units_of_56 (pos d)
+        → into_octant n (unsigned_abs octant) y ⊆ between (units_of_56 result.lo)
+        (units_of_56 result.hi) }
     ensures narrow { (pos 57 *ℤ (result.hi -ℤ result.lo)) ≤ℤ ((pos to -ℤ pos from) +ℤ pos 513) }
     ensures room { IsSmall result.lo result.hi }
     ensures near { IsPart (unsigned_abs octant) from to result.lo result.hi }
@@ -93,8 +97,10 @@ pub(crate) fn part_of_turn(octant: i128, from: u64, to: u64) -> Span
     requires last { octant ≤ℤ pos 7 }
     requires ordered { from ≤ to }
     requires high { to ≤ OCTANT }
-    ensures holds { (n d : ℕ) (y : Fraction) → DEPTH ≤ n → from ≤ d → d ≤ to → y ≈ at_56 (pos d)
-        → into_octant n (unsigned_abs octant) y ⊆ between (at_56 result.lo) (at_56 result.hi) }
+    ensures holds { (n d : ℕ) (y : Fraction) → DEPTH ≤ n → from ≤ d → d ≤ to
+        → y ≈ units_of_56 (pos d)
+        → into_octant n (unsigned_abs octant) y ⊆ between (units_of_56 result.lo)
+        (units_of_56 result.hi) }
     ensures narrow { (pos 57 *ℤ (result.hi -ℤ result.lo)) ≤ℤ ((pos to -ℤ pos from) +ℤ pos 513) }
     ensures near { IsPart (unsigned_abs octant) from to result.lo result.hi }
 {

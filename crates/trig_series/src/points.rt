@@ -2,7 +2,7 @@
 ghost use Rattle.std.specs.Prelude.{◌≡◌, neg_ℤ, ◌≤◌, ◌*◌, ◌<◌, ◌+◌, ℕ, pos, ◌*ℤ◌, ◌≤ℤ◌, ◌+ℤ◌, ◌-ℤ◌};
 ghost use Rattle.exact_math.specs.Fraction.{Fraction, ◌≈◌};
 ghost use Rattle.exact_math.specs.Interval.{between, ◌⊆◌};
-ghost use Rattle.book_model.specs.programs.Leading.{at_56};
+ghost use Rattle.book_model.specs.programs.Leading.{units_of_56};
 ghost use Rattle.book_model.specs.numbers.Octants.{radians};
 ghost use Rattle.book_model.specs.numbers.Series.{sine_series, cosine_series};
 ghost use Rattle.trig_series.specs.declared.scale.TheConstants.{OCTANT, ONE};
@@ -58,8 +58,8 @@ fn at_octant_end() -> Span
 #[inline(always)]
 pub(crate) fn sine_ends_at_degrees(degrees: u64) -> Span
     requires octant { degrees ≤ OCTANT }
-    ensures holds { (n : ℕ) (y : Fraction) → DEPTH ≤ n → y ≈ at_56 (pos degrees)
-        → sine_series n (radians n y) ⊆ between (at_56 result.lo) (at_56 result.hi) }
+    ensures holds { (n : ℕ) (y : Fraction) → DEPTH ≤ n → y ≈ units_of_56 (pos degrees)
+        → sine_series n (radians n y) ⊆ between (units_of_56 result.lo) (units_of_56 result.hi) }
     ensures near { IsNearSine degrees result.lo result.hi }
     ensures room { IsSmall result.lo result.hi }
     ensures begins { degrees ≡ 0 → IsAt (pos 0) result.lo result.hi }
@@ -78,8 +78,8 @@ pub(crate) fn sine_ends_at_degrees(degrees: u64) -> Span
 #[inline(always)]
 pub(crate) fn cosine_ends_at_degrees(degrees: u64) -> Span
     requires octant { degrees ≤ OCTANT }
-    ensures holds { (n : ℕ) (y : Fraction) → DEPTH ≤ n → y ≈ at_56 (pos degrees)
-        → cosine_series n (radians n y) ⊆ between (at_56 result.lo) (at_56 result.hi) }
+    ensures holds { (n : ℕ) (y : Fraction) → DEPTH ≤ n → y ≈ units_of_56 (pos degrees)
+        → cosine_series n (radians n y) ⊆ between (units_of_56 result.lo) (units_of_56 result.hi) }
     ensures near { IsNearCosine degrees result.lo result.hi }
     ensures room { IsSmall result.lo result.hi }
     ensures begins { degrees ≡ 0 → IsAt (ONE) result.lo result.hi }

@@ -48,7 +48,11 @@ bahai_month day first base next =
 -- major cycle, cycle, year, month and day of a day of a month, where so many years have passed since the epoch
 unfoldable pub bahai_fields : (day passed : ℤ) → BahaiMonth → Fields
 bahai_fields day passed month =
-    record { count = 5; values = to_32_bits (quotient_down passed 361 +ℤ pos 1) ∷ (quotient_down (modulo passed 361) 19 +ℤ pos 1) ∷ (modulo passed 19 +ℤ pos 1) ∷ to_8_bits month.number ∷ to_8_bits (day -ℤ month.first_day +ℤ pos 1) ∷ [] }
+    record {
+      count = 5;
+      values = to_32_bits (quotient_down passed 361 +ℤ pos 1) ∷ (quotient_down (modulo passed 361) 19 +ℤ pos 1) ∷ (modulo passed 19 +ℤ pos 1)
+          ∷ to_8_bits month.number ∷ to_8_bits (day -ℤ month.first_day +ℤ pos 1) ∷ [];
+    }
 
 -- the Bahá'í date of a day (R.D.)
 unfoldable pub bahai_on : ℤ → Inquiry Fields

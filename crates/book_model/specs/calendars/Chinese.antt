@@ -124,7 +124,11 @@ elapsed_years day month = spans_of (fraction_of TROPICAL_YEAR) (day -ℤ CHINESE
 -- cycle, year, month, leap month and day, by the month in which a day falls and the years since the epoch
 abbrev pub chinese_fields : ℤ → ChineseMonth → ℤ → Fields
 chinese_fields day month years =
-    record { count = 5; values = to_32_bits (quotient_down (years -ℤ pos 1) 60 +ℤ pos 1) ∷ amod years 60 ∷ month.number ∷ flag month.is_leap ∷ to_8_bits (day -ℤ month.first_day +ℤ pos 1) ∷ [] }
+    record {
+      count = 5;
+      values = to_32_bits (quotient_down (years -ℤ pos 1) 60 +ℤ pos 1) ∷ amod years 60 ∷ month.number ∷ flag month.is_leap ∷ to_8_bits
+          (day -ℤ month.first_day +ℤ pos 1) ∷ [];
+    }
 
 -- the Chinese date of a day (R.D.)
 unfoldable pub chinese_on : ℤ → Inquiry Fields

@@ -24,7 +24,17 @@ use Rattle.book_model.specs.calendars.Persian.{persian_on, persian_day}
 use Rattle.book_model.specs.calendars.Versions.{range_in, is_in_some, is_in_range}
 
 abbrev pub no_row : CalendarRow
-no_row = record { calendar = Gregorian; count = 0; limits = []; weights = []; offset = pos 0; first_day = pos 0; years = []; is_confirmed = false; is_padded = false }
+no_row = record {
+  calendar = Gregorian;
+  count = 0;
+  limits = [];
+  weights = [];
+  offset = pos 0;
+  first_day = pos 0;
+  years = [];
+  is_confirmed = false;
+  is_padded = false;
+}
 
 -- the row of a calendar
 abbrev pub row_of : Calendar → CalendarRow

@@ -25,7 +25,11 @@ year_asked_of day month = if int_le month (pos 2) then day +ℤ pos 180 else day
 -- the signs at the new moons before and after, and the year of the Kali Yuga
 unfoldable pub lunar_fields : (tithi earlier before after year : ℤ) → Fields
 lunar_fields tithi earlier before after year =
-    record { count = 5; values = to_32_bits (year -ℤ VIKRAMA_ERA) ∷ month_by_sign before ∷ flag (int_eq after before) ∷ to_8_bits tithi ∷ flag (int_eq earlier tithi) ∷ [] }
+    record {
+      count = 5;
+      values = to_32_bits (year -ℤ VIKRAMA_ERA) ∷ month_by_sign before ∷ flag (int_eq after before) ∷ to_8_bits tithi ∷ flag
+          (int_eq earlier tithi) ∷ [];
+    }
 
 -- the date of a day by its tithi and that of the day before
 unfoldable pub lunar_date_by : (day tithi earlier : ℤ) → Inquiry Fields
@@ -45,7 +49,8 @@ hindu_lunar_on day =
 -- ---- the day of a date
 -- whether a date is in the month of the one that is sought: it has its year, its month and its leap month
 unfoldable pub is_of_month : (sought date : Fields) → Bool
-is_of_month sought date = int_eq (field_at date 0) (field_at sought 0) && int_eq (field_at date 1) (field_at sought 1) && int_eq (field_at date 2) (field_at sought 2)
+is_of_month sought date = int_eq (field_at date 0) (field_at sought 0) && int_eq (field_at date 1) (field_at sought 1) && int_eq (field_at date 2)
+    (field_at sought 2)
 
 -- whether it is that date: it has its day and its leap day too
 unfoldable pub is_sought_date : (sought date : Fields) → Bool

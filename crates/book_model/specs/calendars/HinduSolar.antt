@@ -19,7 +19,11 @@ hindu_fact kind day = record { kind = kind; place = Nowhere; day = day }
 
 -- year, month and day of a day, by the sign of its sunset, the year of the Kali Yuga and the first day of its month
 unfoldable pub solar_fields : (day sign year first : ℤ) → Fields
-solar_fields day sign year first = record { count = 3; values = to_32_bits (year -ℤ SAKA_ERA) ∷ to_8_bits sign ∷ to_8_bits (day -ℤ first +ℤ pos 1) ∷ pos 0 ∷ pos 0 ∷ [] }
+solar_fields day sign year first = record {
+  count = 3;
+  values = to_32_bits (year -ℤ SAKA_ERA) ∷ to_8_bits sign ∷ to_8_bits (day -ℤ first +ℤ pos 1) ∷ pos 0 ∷ pos
+      0 ∷ [];
+}
 
 -- the Hindu solar date of a day (R.D.)
 unfoldable pub hindu_solar_on : ℤ → Inquiry Fields

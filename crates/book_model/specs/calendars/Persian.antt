@@ -33,7 +33,11 @@ month_of_number number = if int_le number (pos 186) then quotient_up number 31 e
 -- year, month and day, by the year and the day's number in it
 unfoldable pub persian_fields : (year number : ℤ) → Fields
 persian_fields year number =
-    record { count = 3; values = to_32_bits year ∷ to_8_bits (month_of_number number) ∷ to_8_bits (number -ℤ days_before_month (month_of_number number)) ∷ pos 0 ∷ pos 0 ∷ [] }
+    record {
+      count = 3;
+      values = to_32_bits year ∷ to_8_bits (month_of_number number) ∷ to_8_bits (number -ℤ days_before_month (month_of_number number)) ∷ pos 0
+          ∷ pos 0 ∷ [];
+    }
 
 -- the Persian date of a day (R.D.)
 unfoldable pub persian_on : ℤ → Inquiry Fields

@@ -34,7 +34,11 @@ numbers_of (part ∷ parts) = onto_numbers (number_of part) (numbers_of parts)
 
 -- numbers as the fields of a date, up to five
 abbrev pub fields_with : List ℕ → Fields
-fields_with ns = record { count = length ns; values = pos (slice_index_or ns 0 0) ∷ pos (slice_index_or ns 1 0) ∷ pos (slice_index_or ns 2 0) ∷ pos (slice_index_or ns 3 0) ∷ pos (slice_index_or ns 4 0) ∷ [] }
+fields_with ns = record {
+  count = length ns;
+  values = pos (slice_index_or ns 0 0) ∷ pos (slice_index_or ns 1 0) ∷ pos (slice_index_or ns 2 0) ∷ pos
+      (slice_index_or ns 3 0) ∷ pos (slice_index_or ns 4 0) ∷ [];
+}
 
 -- the fields, where the calendar may have a date with them
 abbrev pub checked : Calendar → Fields → Option Fields

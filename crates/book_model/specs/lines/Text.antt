@@ -30,7 +30,8 @@ header_of version = header_line version ++ codes "\n"
 
 -- fact N KIND PLACE DAY VALUE
 unfoldable pub fact_text : ℕ → Fact → ℤ → List ℕ
-fact_text number f value = concat (codes "fact " ∷ decimal number ∷ codes " " ∷ kind_name f.kind ∷ codes " " ∷ place_name f.place ∷ codes " " ∷ signed_decimal f.day ∷ codes " " ∷ signed_decimal value ∷ codes "\n" ∷ [])
+fact_text number f value = concat (codes "fact " ∷ decimal number ∷ codes " " ∷ kind_name f.kind ∷ codes " " ∷ place_name f.place ∷ codes " " ∷ signed_decimal
+    f.day ∷ codes " " ∷ signed_decimal value ∷ codes "\n" ∷ [])
 
 -- the first value of the fields
 abbrev pub first_value : Fields → ℤ
@@ -110,13 +111,15 @@ refused_text number rule = concat (codes "line " ∷ decimal number ∷ codes " 
 -- N undecided SITE TURN LO HI fact KIND PLACE DAY
 unfoldable pub open_text : ℕ → Fact → Undecided → List ℕ
 open_text number f u =
-    concat (decimal number ∷ codes " undecided " ∷ site_name u.site ∷ codes " " ∷ decimal u.turn ∷ codes " " ∷ signed_decimal u.lo ∷ codes " " ∷ signed_decimal u.hi
+    concat (decimal number ∷ codes " undecided " ∷ site_name u.site ∷ codes " " ∷ decimal u.turn ∷ codes " " ∷ signed_decimal u.lo ∷ codes " " ∷ signed_decimal
+    u.hi
     ∷ codes " fact " ∷ kind_name f.kind ∷ codes " " ∷ place_name f.place ∷ codes " " ∷ signed_decimal f.day ∷ codes "\n" ∷ [])
 
 -- N void SITE fact KIND PLACE DAY
 unfoldable pub empty_text : ℕ → Fact → Site → List ℕ
 empty_text number f s =
-    concat (decimal number ∷ codes " void " ∷ site_name s ∷ codes " fact " ∷ kind_name f.kind ∷ codes " " ∷ place_name f.place ∷ codes " " ∷ signed_decimal f.day ∷ codes "\n" ∷ [])
+    concat (decimal number ∷ codes " void " ∷ site_name s ∷ codes " fact " ∷ kind_name f.kind ∷ codes " " ∷ place_name f.place ∷ codes " " ∷ signed_decimal
+    f.day ∷ codes "\n" ∷ [])
 
 -- HEAD N undecided SITE TURN LO HI fact KIND PLACE DAY: the head is `line`, or `no` in a verdict
 abbrev pub undecided_text : List ℕ → ℕ → Fact → Undecided → List ℕ

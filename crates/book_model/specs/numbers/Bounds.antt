@@ -71,8 +71,10 @@ abbrev pub scaled_within : Limits → (n : ℤ) (d : ℕ) (a b : ℤ) (A N s k :
 scaled_within l n d a b A N s k =
     limited
     (nat_lt (A * N) l.factors
-    && nat_lt (range_size (int_min (floor_quotient (a *ℤ n) d) (floor_quotient (b *ℤ n) d)) (int_max (ceil_quotient (a *ℤ n) d) (ceil_quotient (b *ℤ n) d))) l.sizes)
-    (bounded (int_min (floor_quotient (a *ℤ n) d) (floor_quotient (b *ℤ n) d)) (int_max (ceil_quotient (a *ℤ n) d) (ceil_quotient (b *ℤ n) d)) (ceil_div (s * N) d) (ceil_div (k * N) d + 2 * l.unit))
+    && nat_lt (range_size (int_min (floor_quotient (a *ℤ n) d) (floor_quotient (b *ℤ n) d)) (int_max (ceil_quotient (a *ℤ n) d) (ceil_quotient (b *ℤ n) d)))
+    l.sizes)
+    (bounded (int_min (floor_quotient (a *ℤ n) d) (floor_quotient (b *ℤ n) d)) (int_max (ceil_quotient (a *ℤ n) d) (ceil_quotient (b *ℤ n) d))
+    (ceil_div (s * N) d) (ceil_div (k * N) d + 2 * l.unit))
 
 unfoldable pub scaled_bound : Limits → Fraction → Bound → Bound
 scaled_bound l f unbounded = unbounded
@@ -155,7 +157,8 @@ quotient_bound l (bounded a b s k) unbounded = unbounded
 quotient_bound l (bounded a b s k) (bounded (pos zero) d t m) = unbounded
 quotient_bound l (bounded a b s k) (bounded (negsuc c) d t m) = unbounded
 quotient_bound l (bounded a b s k) (bounded (pos (suc c)) d t m) =
-    quotient_within l (least_quotient a c (unsigned_abs d - 1)) (greatest_quotient b c (unsigned_abs d - 1)) (range_size a b) (range_size (pos (suc c)) d) c s k t m
+    quotient_within l (least_quotient a c (unsigned_abs d - 1)) (greatest_quotient b c (unsigned_abs d - 1)) (range_size a b) (range_size (pos (suc c)) d) c s k
+    t m
 
 -- the lesser of two: no wider than the wider of them
 unfoldable pub minimum_bound : Bound → Bound → Bound
@@ -193,7 +196,8 @@ maximum_bound (bounded a b s k) (bounded c d t m) = bounded (int_max a c) (int_m
 abbrev pub root_around : Limits → (g h s k : ℕ) → Bound
 root_around l zero h s k = limited (nat_lt (range_size (pos 0) (pos h)) l.sizes) (bounded (pos 0) (pos h) 0 (h * 2 ^ 32))
 root_around l (suc g) h s k =
-    limited (nat_lt (range_size (pos (suc g)) (pos h)) l.sizes) (bounded (pos (suc g)) (pos h) (ceil_div (s * 2 ^ 31) (suc g - 1)) (ceil_div (k * 2 ^ 31) (suc g - 1) + 2 * l.unit))
+    limited (nat_lt (range_size (pos (suc g)) (pos h)) l.sizes)
+    (bounded (pos (suc g)) (pos h) (ceil_div (s * 2 ^ 31) (suc g - 1)) (ceil_div (k * 2 ^ 31) (suc g - 1) + 2 * l.unit))
 
 -- for numbers of less than 96 bits; the root of 0 is 0
 unfoldable pub root_bound : Limits → Bound → Bound
@@ -202,7 +206,8 @@ root_bound l (bounded (negsuc a) b s k) = unbounded
 root_bound l (bounded (pos a) (negsuc b) s k) = unbounded
 root_bound l (bounded (pos a) (pos zero) s k) = limited (nat_lt a l.sizes) (bounded (pos 0) (pos 0) 0 0)
 root_bound l (bounded (pos a) (pos (suc b)) s k) =
-    limited (nat_lt a l.sizes && nat_lt (suc b) l.sizes && nat_lt (suc b) l.products) (root_around l (root_by_digits 48 (a * 2 ^ 32)) (suc (root_by_digits 48 (suc b * 2 ^ 32))) s k)
+    limited (nat_lt a l.sizes && nat_lt (suc b) l.sizes && nat_lt (suc b) l.products)
+    (root_around l (root_by_digits 48 (a * 2 ^ 32)) (suc (root_by_digits 48 (suc b * 2 ^ 32))) s k)
 
 -- an end, cut to -1..1
 abbrev pub cut_32 : ℤ → ℤ
@@ -269,7 +274,8 @@ inside_extent k a b = octant_extent (octant_of_turn k) (unsigned_abs (a -ℤ k *
 
 -- the sine of degrees of at most this size is no further from 0 than a 57th of them
 abbrev pub sine_near_none : ℕ → Extent
-sine_near_none n = cond (nat_lt n eighth_turn) (record { least = neg_ℤ (sine_to n); greatest = sine_to n }) (record { least = neg_ℤ (pos (2 ^ 32)); greatest = pos (2 ^ 32) })
+sine_near_none n = cond (nat_lt n eighth_turn) (record { least = neg_ℤ (sine_to n); greatest = sine_to n })
+    (record { least = neg_ℤ (pos (2 ^ 32)); greatest = pos (2 ^ 32) })
 
 -- the sine from a to b degrees
 abbrev pub sine_extent : ℤ → ℤ → Extent
@@ -286,7 +292,8 @@ quarter_later a = a +ℤ pos (90 * 2 ^ 32)
 -- the cosine from a to b degrees: the sine from 90 degrees more
 abbrev pub cosine_extent : ℤ → ℤ → Extent
 cosine_extent a b =
-    cond (lie_inside (octant_at (quarter_later a)) (quarter_later a) (quarter_later b)) (inside_extent (octant_at (quarter_later a)) (quarter_later a) (quarter_later b)) (cosine_near_none (range_size a b))
+    cond (lie_inside (octant_at (quarter_later a)) (quarter_later a) (quarter_later b))
+    (inside_extent (octant_at (quarter_later a)) (quarter_later a) (quarter_later b)) (cosine_near_none (range_size a b))
 
 -- a sine of these values, as ends that count 2^-56: a 57th of the width, and 36 parts
 abbrev pub spans_over : Extent → (s k : ℕ) → Bound
@@ -316,7 +323,8 @@ arc_from v x a = v *ℤ pos (2 ^ 32) +ℤ int_min (pos 0) (at_radians (a -ℤ x 
 
 -- the arctangent of a number from a on is at least -90, and what follows from those of -1, 0 and 1
 abbrev pub least_arc : ℤ → ℤ
-least_arc a = int_max (int_max (neg_ℤ (pos (90 * 2 ^ 32))) (arc_from (negsuc 44) (negsuc 0) a)) (int_max (arc_from (pos 0) (pos 0) a) (arc_from (pos 45) (pos 1) a)) -ℤ pos 1
+least_arc a = int_max (int_max (neg_ℤ (pos (90 * 2 ^ 32))) (arc_from (negsuc 44) (negsuc 0) a))
+    (int_max (arc_from (pos 0) (pos 0) a) (arc_from (pos 45) (pos 1) a)) -ℤ pos 1
 
 -- that of a number up to b is the opposite of that of its opposite
 abbrev pub greatest_arc : ℤ → ℤ
@@ -332,7 +340,8 @@ arctangent_bound l x = spanned_bound l (arc_spans x)
 
 -- the tangent of half an arcsine: x / (1 + root (1 - x^2)), of what is cut to -1..1
 unfoldable pub half_tangent_bound : Limits → Bound → Bound
-half_tangent_bound l x = quotient_bound l (clamp_bound x) (sum_bound l (integer_bound l (pos 1)) (root_bound l (difference_bound l (integer_bound l (pos 1)) (power_bound l (clamp_bound x) 2))))
+half_tangent_bound l x = quotient_bound l (clamp_bound x) (sum_bound l (integer_bound l (pos 1))
+    (root_bound l (difference_bound l (integer_bound l (pos 1)) (power_bound l (clamp_bound x) 2))))
 
 -- twice the arctangent of that, and what it is off 90 degrees
 unfoldable pub arcsine_bound : Limits → Bound → Bound
@@ -399,7 +408,13 @@ limits_36 = record { unit = 2 ^ 28; sizes = 2 ^ 58; products = 2 ^ 86; constants
 
 -- the limits at scale 2^-bits: those of a finer scale bear shorter numerators
 abbrev pub limits_at : ℕ → Limits
-limits_at bits = record { unit = 2 ^ (64 - bits); sizes = cond (nat_le bits 36) (2 ^ 58) (2 ^ 100); products = 2 ^ (158 - 2 * bits); constants = 2 ^ (126 - bits); factors = 2 ^ (158 - bits) }
+limits_at bits = record {
+  unit = 2 ^ (64 - bits);
+  sizes = cond (nat_le bits 36) (2 ^ 58) (2 ^ 100);
+  products = 2 ^ (158 - 2 * bits);
+  constants = 2 ^ (126 - bits);
+  factors = 2 ^ (158 - bits);
+}
 
 -- limits that no operation keeps
 abbrev pub no_limits : Limits

@@ -23,7 +23,8 @@ abbrev pub Holds3 : {E : Type 0} → (E → Interval) → (Expression → Expres
 Holds3 shown f a b c e = (w : World) (x y z : Expression) → Within shown w x a → Within shown w y b → Within shown w z c → Within shown w (f x y z) e
 
 abbrev pub Holds4 : {E : Type 0} → (E → Interval) → (Expression → Expression → Expression → Expression → Expression) → E → E → E → E → E → Type 0
-Holds4 shown f a b c d e = (w : World) (x y z u : Expression) → Within shown w x a → Within shown w y b → Within shown w z c → Within shown w u d → Within shown w (f x y z u) e
+Holds4 shown f a b c d e = (w : World) (x y z u : Expression) → Within shown w x a → Within shown w y b → Within shown w z c → Within shown w u d
+    → Within shown w (f x y z u) e
 
 -- the result keeps the bound of the expression
 abbrev pub Narrows : {E : Type 0} → (E → Interval) → ℕ → Expression → E → Type 0
@@ -33,13 +34,16 @@ abbrev pub Narrows1 : {E : Type 0} → (E → Interval) → ℕ → (Expression 
 Narrows1 shown bits f a e = (r : Reach) (x : Expression) → Narrow shown (limits_of bits) r x a → Narrow shown (limits_of bits) r (f x) e
 
 abbrev pub Narrows2 : {E : Type 0} → (E → Interval) → ℕ → (Expression → Expression → Expression) → E → E → E → Type 0
-Narrows2 shown bits f a b e = (r : Reach) (x y : Expression) → Narrow shown (limits_of bits) r x a → Narrow shown (limits_of bits) r y b → Narrow shown (limits_of bits) r (f x y) e
+Narrows2 shown bits f a b e = (r : Reach) (x y : Expression) → Narrow shown (limits_of bits) r x a → Narrow shown (limits_of bits) r y b
+    → Narrow shown (limits_of bits) r (f x y) e
 
 abbrev pub Narrows3 : {E : Type 0} → (E → Interval) → ℕ → (Expression → Expression → Expression → Expression) → E → E → E → E → Type 0
-Narrows3 shown bits f a b c e = (r : Reach) (x y z : Expression) → Narrow shown (limits_of bits) r x a → Narrow shown (limits_of bits) r y b → Narrow shown (limits_of bits) r z c → Narrow shown (limits_of bits) r (f x y z) e
+Narrows3 shown bits f a b c e = (r : Reach) (x y z : Expression) → Narrow shown (limits_of bits) r x a → Narrow shown (limits_of bits) r y b
+    → Narrow shown (limits_of bits) r z c → Narrow shown (limits_of bits) r (f x y z) e
 
 abbrev pub Narrows4 : {E : Type 0} → (E → Interval) → ℕ → (Expression → Expression → Expression → Expression → Expression) → E → E → E → E → E → Type 0
-Narrows4 shown bits f a b c d e = (r : Reach) (x y z u : Expression) → Narrow shown (limits_of bits) r x a → Narrow shown (limits_of bits) r y b → Narrow shown (limits_of bits) r z c → Narrow shown (limits_of bits) r u d → Narrow shown (limits_of bits) r (f x y z u) e
+Narrows4 shown bits f a b c d e = (r : Reach) (x y z u : Expression) → Narrow shown (limits_of bits) r x a → Narrow shown (limits_of bits) r y b
+    → Narrow shown (limits_of bits) r z c → Narrow shown (limits_of bits) r u d → Narrow shown (limits_of bits) r (f x y z u) e
 
 -- the result holds an expression of the numbers that the arguments enclose, and keeps its bound
 pub record Encloses {E : Type 0} (shown : E → Interval) (bits : ℕ) (f : Expression) (e : E) : Type 0 where
@@ -58,7 +62,8 @@ pub record Encloses3 {E : Type 0} (shown : E → Interval) (bits : ℕ) (f : Exp
   pub holds : Holds3 shown f a b c e
   pub narrow : Narrows3 shown bits f a b c e
 
-pub record Encloses4 {E : Type 0} (shown : E → Interval) (bits : ℕ) (f : Expression → Expression → Expression → Expression → Expression) (a b c d e : E) : Type 0 where
+pub record Encloses4 {E : Type 0} (shown : E → Interval) (bits : ℕ) (f : Expression → Expression → Expression → Expression → Expression) (a b c d e : E) : Type
+    0 where
   pub holds : Holds4 shown f a b c d e
   pub narrow : Narrows4 shown bits f a b c d e
 
@@ -70,13 +75,17 @@ abbrev pub Follows1 : {E : Type 0} → (E → Interval) → (Expression → Prog
 Follows1 shown p a before after result = (w : World) (x : Expression) → Within shown w x a → Leads w (Within shown w) (p x) before after result
 
 abbrev pub Follows2 : {E : Type 0} → (E → Interval) → (Expression → Expression → Program Expression) → E → E → ℕ → ℕ → Result E Fail → Type 0
-Follows2 shown p a b before after result = (w : World) (x y : Expression) → Within shown w x a → Within shown w y b → Leads w (Within shown w) (p x y) before after result
+Follows2 shown p a b before after result = (w : World) (x y : Expression) → Within shown w x a → Within shown w y b
+    → Leads w (Within shown w) (p x y) before after result
 
 abbrev pub Follows3 : {E : Type 0} → (E → Interval) → (Expression → Expression → Expression → Program Expression) → E → E → E → ℕ → ℕ → Result E Fail → Type 0
-Follows3 shown p a b c before after result = (w : World) (x y z : Expression) → Within shown w x a → Within shown w y b → Within shown w z c → Leads w (Within shown w) (p x y z) before after result
+Follows3 shown p a b c before after result = (w : World) (x y z : Expression) → Within shown w x a → Within shown w y b → Within shown w z c
+    → Leads w (Within shown w) (p x y z) before after result
 
-abbrev pub Follows4 : {E : Type 0} → (E → Interval) → (Expression → Expression → Expression → Expression → Program Expression) → E → E → E → E → ℕ → ℕ → Result E Fail → Type 0
-Follows4 shown p a b c d before after result = (w : World) (x y z u : Expression) → Within shown w x a → Within shown w y b → Within shown w z c → Within shown w u d → Leads w (Within shown w) (p x y z u) before after result
+abbrev pub Follows4 : {E : Type 0} → (E → Interval) → (Expression → Expression → Expression → Expression → Program Expression) → E → E → E → E → ℕ → ℕ
+    → Result E Fail → Type 0
+Follows4 shown p a b c d before after result = (w : World) (x y z u : Expression) → Within shown w x a → Within shown w y b → Within shown w z c
+    → Within shown w u d → Leads w (Within shown w) (p x y z u) before after result
 
 -- the same, where the answer is one that the code has too
 abbrev pub Decides : {A : Type 0} → (Program A) → ℕ → ℕ → Result A Fail → Type 0
@@ -89,7 +98,10 @@ abbrev pub Decides2 : {A E : Type 0} → (E → Interval) → (Expression → Ex
 Decides2 shown p a b before after result = (w : World) (x y : Expression) → Within shown w x a → Within shown w y b → Leads w Exact (p x y) before after result
 
 abbrev pub Decides3 : {A E : Type 0} → (E → Interval) → (Expression → Expression → Expression → Program A) → E → E → E → ℕ → ℕ → Result A Fail → Type 0
-Decides3 shown p a b c before after result = (w : World) (x y z : Expression) → Within shown w x a → Within shown w y b → Within shown w z c → Leads w Exact (p x y z) before after result
+Decides3 shown p a b c before after result = (w : World) (x y z : Expression) → Within shown w x a → Within shown w y b → Within shown w z c
+    → Leads w Exact (p x y z) before after result
 
-abbrev pub Decides4 : {A E : Type 0} → (E → Interval) → (Expression → Expression → Expression → Expression → Program A) → E → E → E → E → ℕ → ℕ → Result A Fail → Type 0
-Decides4 shown p a b c d before after result = (w : World) (x y z u : Expression) → Within shown w x a → Within shown w y b → Within shown w z c → Within shown w u d → Leads w Exact (p x y z u) before after result
+abbrev pub Decides4 : {A E : Type 0} → (E → Interval) → (Expression → Expression → Expression → Expression → Program A) → E → E → E → E → ℕ → ℕ → Result A Fail
+    → Type 0
+Decides4 shown p a b c d before after result = (w : World) (x y z u : Expression) → Within shown w x a → Within shown w y b → Within shown w z c
+    → Within shown w u d → Leads w Exact (p x y z u) before after result

@@ -11,8 +11,8 @@ use Rattle.book_model.specs.numbers.Expressions.{Expression, World, argument}
 use Rattle.book_model.specs.programs.Programs.{Grid, cell_at, compare_at, Program, Sides, one_side, two_sides, Reply, Run, answered, voided, undecided, decided, run}
 
 -- a number that counts 2^-56
-abbrev pub at_56 : ℤ → Fraction
-at_56 n = record { num = n; below = 2 ^ 56 - 1 }
+abbrev pub units_of_56 : ℤ → Fraction
+units_of_56 n = record { num = n; below = 2 ^ 56 - 1 }
 
 -- the ends that stand for no bounds: the least and the greatest number of 128 bits
 pub record AreNoBounds (lo hi : ℤ) : Type 0 where
@@ -21,7 +21,7 @@ pub record AreNoBounds (lo hi : ℤ) : Type 0 where
 
 -- two numbers that count 2^-56 are the ends of an interval
 pub data AreEnds : ℤ → ℤ → Interval → Type 0 where
-  bounds : {lo hi : ℤ} {a b : Fraction} → at_56 lo ≈ a → at_56 hi ≈ b → AreEnds lo hi (between a b)
+  bounds : {lo hi : ℤ} {a b : Fraction} → units_of_56 lo ≈ a → units_of_56 hi ≈ b → AreEnds lo hi (between a b)
   no_bounds : {lo hi : ℤ} → AreNoBounds lo hi → AreEnds lo hi everything
 
 -- A cell test is open at the ends of an enclosure: the enclosure lies in no one cell, and these are its ends; or
@@ -52,10 +52,13 @@ next_turn b = min (b + 1) (2 ^ 32 - 1)
 -- the leaf of the same tests with the same answers, an undecided test is one that the run makes, with its number
 -- and within its ends, and a void is the run's. The count has grown by the tests that were made.
 pub data Reports {A T : Type 0} (R : A → T → Type 0) : Run A → ℕ → ℕ → Result T Fail → Type 0 where
-  passes : {s : Site} {i : Sides} {r : Reply} {rest : Run A} {b a : ℕ} {t : Result T Fail} → Reports R rest (next_turn b) a t → Reports R (decided s i r rest) b a t
+  passes : {s : Site} {i : Sides} {r : Reply} {rest : Run A} {b a : ℕ} {t : Result T Fail} → Reports R rest (next_turn b) a t
+      → Reports R (decided s i r rest) b a t
   answers : {v : A} {e : T} {b : ℕ} → R v e → Reports R (answered v) b b (Ok e)
-  stops : {i : Sides} {b a : ℕ} {u : Undecided} → u.turn ≡ next_turn b → a ≡ next_turn b → IsOpen i u.lo u.hi → Reports R (undecided u.site i) b a (Err (undecided_at u))
-  stops_early : {i : Sides} {r : Reply} {rest : Run A} {b a : ℕ} {u : Undecided} → u.turn ≡ next_turn b → a ≡ next_turn b → IsOpen i u.lo u.hi → Reports R (decided u.site i r rest) b a (Err (undecided_at u))
+  stops : {i : Sides} {b a : ℕ} {u : Undecided} → u.turn ≡ next_turn b → a ≡ next_turn b → IsOpen i u.lo u.hi
+      → Reports R (undecided u.site i) b a (Err (undecided_at u))
+  stops_early : {i : Sides} {r : Reply} {rest : Run A} {b a : ℕ} {u : Undecided} → u.turn ≡ next_turn b → a ≡ next_turn b → IsOpen i u.lo u.hi
+      → Reports R (decided u.site i r rest) b a (Err (undecided_at u))
   voids : {s : Site} {b : ℕ} → Reports R (voided s) b b (Err (Void s))
 
 -- what the result of a call says of its program, in a world

@@ -16,7 +16,7 @@ use Rattle.book_model.specs.sky.Kinds.{dt_of, sun_in_thousandths_of, nowruz_of, 
 use Rattle.book_model.specs.sky.Crescent.{phasis_of}
 use Rattle.book_model.specs.sky.HinduFacts.{sign_at_sunset_of, year_at_sunset_of, sankranti_of, tithi_of, sign_before_of, sign_after_of, calendar_year_of}
 use Rattle.book_model.specs.sky.Phases.{phase_day_of}
-use Rattle.book_model.specs.programs.Leading.{at_56}
+use Rattle.book_model.specs.programs.Leading.{units_of_56}
 use Rattle.book_model.specs.programs.Widths.{most_apart}
 use Rattle.book_model.specs.sky.Names.{has_place, location_of, whole_days, is_of_whole_day}
 use Rattle.book_model.specs.programs.Programs.{Grid, threshold, Program, void, Run, run, valued, void_at, outcome, MakesTest, Sides, one_side, two_sides}
@@ -86,13 +86,13 @@ pub record IsVoidAt (f : Fact) (s : Site) : Type 0 where
 
 -- an interval lies between two numbers that count 2^-56
 abbrev pub LiesFrom : (lo hi : ℤ) → Interval → Type 0
-LiesFrom lo hi i = i ⊆ between (at_56 lo) (at_56 hi)
+LiesFrom lo hi i = i ⊆ between (units_of_56 lo) (units_of_56 hi)
 
 -- a cell begins above lo and at most at hi
 pub record HasThreshold (g : Grid) (lo hi : ℤ) : Type 0 where
   pub begun : ℤ
-  pub above : at_56 lo <F threshold g begun
-  pub at_most : threshold g begun ≤F at_56 hi
+  pub above : units_of_56 lo <F threshold g begun
+  pub at_most : threshold g begun ≤F units_of_56 hi
 
 -- the sides of a test lie from lo to hi, and for a cell test so does a threshold
 pub data AreNear (lo hi : ℤ) : Sides → Type 0 where

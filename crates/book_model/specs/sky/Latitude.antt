@@ -31,12 +31,14 @@ venus_by v f = add (scale (whole VENUS_IN_LATITUDE) (sine (add v f))) (scale (wh
 -- what the flattening of the earth adds, by the mean longitude and the anomaly of the moon
 unfoldable pub flattening_by : (longitude anomaly : Expression) → Expression
 flattening_by l m =
-    add (add (scale (whole FLATTENING_ALONE) (sine l)) (scale (whole FLATTENING_LESS_ANOMALY) (sine (subtract l m)))) (scale (whole FLATTENING_WITH_ANOMALY) (sine (add l m)))
+    add (add (scale (whole FLATTENING_ALONE) (sine l)) (scale (whole FLATTENING_LESS_ANOMALY) (sine (subtract l m))))
+    (scale (whole FLATTENING_WITH_ANOMALY) (sine (add l m)))
 
 -- the latitude in millionths of a degree
 unfoldable pub millionths_of : LunarAngles → Expression → Expression
 millionths_of a c =
-    add (add (add (latitude_terms_of a) (venus_by (angle_of_wave VENUS_WAVE c) a.latitude_argument)) (flattening_by (quartic_of MOON_LONGITUDE c) a.moon_anomaly)) (wave_of c LATITUDE_WAVE)
+    add (add (add (latitude_terms_of a) (venus_by (angle_of_wave VENUS_WAVE c) a.latitude_argument))
+    (flattening_by (quartic_of MOON_LONGITUDE c) a.moon_anomaly)) (wave_of c LATITUDE_WAVE)
 
 -- the latitude at a time
 unfoldable pub latitude_at_of : Expression → Expression

@@ -24,7 +24,13 @@ pub record LunarAngles : Type 0 where
 -- the angles at a time
 unfoldable pub lunar_angles_of : Expression → LunarAngles
 lunar_angles_of c =
-    record { elongation = quartic_of ELONGATION c; sun_anomaly = cubic_of SUN_ANOMALY c; moon_anomaly = quartic_of MOON_ANOMALY c; latitude_argument = quartic_of LATITUDE_ARGUMENT c; eccentricity = quadratic_of ECCENTRICITY_FACTOR c }
+    record {
+      elongation = quartic_of ELONGATION c;
+      sun_anomaly = cubic_of SUN_ANOMALY c;
+      moon_anomaly = quartic_of MOON_ANOMALY c;
+      latitude_argument = quartic_of LATITUDE_ARGUMENT c;
+      eccentricity = quadratic_of ECCENTRICITY_FACTOR c;
+    }
 
 -- d D + m M + m' M' + f F
 unfoldable pub lunar_angle_of : LunarAngles → (elongation sun_anomaly moon_anomaly latitude_argument : ℤ) → Expression

@@ -28,7 +28,12 @@ pub record NewMoonAngles : Type 0 where
 -- the angles at a time
 unfoldable pub new_moon_angles_of : Fraction → NewMoonAngles
 new_moon_angles_of c =
-    record { sun_anomaly = polynomial_at NEW_MOON_SUN_ANOMALY c; moon_anomaly = polynomial_at NEW_MOON_ANOMALY c; latitude_argument = polynomial_at NEW_MOON_LATITUDE_ARGUMENT c; eccentricity = quadratic_of ECCENTRICITY_FACTOR (constant c) }
+    record {
+      sun_anomaly = polynomial_at NEW_MOON_SUN_ANOMALY c;
+      moon_anomaly = polynomial_at NEW_MOON_ANOMALY c;
+      latitude_argument = polynomial_at NEW_MOON_LATITUDE_ARGUMENT c;
+      eccentricity = quadratic_of ECCENTRICITY_FACTOR (constant c);
+    }
 
 -- x M + y M' + z F
 unfoldable pub angle_of_new_moon_term : NewMoonAngles → NewMoonTerm → Expression
@@ -84,7 +89,8 @@ node_term_of c = scale (fraction_of NODE_TERM) (sine (polynomial_at NEW_MOON_NOD
 -- the new moon of the number k, counted from that of January 2000, in dynamical time
 unfoldable pub dynamical_new_moon_of : ℤ → Expression
 dynamical_new_moon_of k =
-    add (add (add (add (mean_new_moon_of (centuries_of_months k)) (node_term_of (centuries_of_months k))) (new_moon_terms_of (centuries_of_months k))) (venus_wave_of (centuries_of_months k))) (planet_terms_of k)
+    add (add (add (add (mean_new_moon_of (centuries_of_months k)) (node_term_of (centuries_of_months k))) (new_moon_terms_of (centuries_of_months k)))
+    (venus_wave_of (centuries_of_months k))) (planet_terms_of k)
 
 -- the new moon of a number, in universal time
 unfoldable pub new_moon_of : ℤ → Program Expression

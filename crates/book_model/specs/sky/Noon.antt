@@ -73,4 +73,5 @@ pub record IsStart (d q : ℤ) : Type 0 where
 
 -- the floor of what is estimated from the noon of a day lies near the day, where it is decided
 pub record StartsNear : Type 0 where
-  pub start : (w : World) (d q : ℤ) (l n s : Expression) → outcome (run w (noon_of d)) ≡ valued n → outcome (run w (estimate_of l n)) ≡ valued s → cell_at integers (value w s) ≡ Some q → IsStart d q
+  pub start : (w : World) (d q : ℤ) (l n s : Expression) → outcome (run w (noon_of d)) ≡ valued n → outcome (run w (estimate_of l n)) ≡ valued s
+      → cell_at integers (value w s) ≡ Some q → IsStart d q

@@ -14,15 +14,15 @@ use Rattle.book_model.specs.programs.Programs.{Program, answer, void, cell, comp
 use Rattle.book_model.specs.sky.Sun.{sun_of, reduced_of}
 
 -- an angle, reduced to 0 .. 360
-unfoldable pub turned_of : Expression → Program Expression
-turned_of x = cell PhaseWrap (multiples 360) x λ q. answer (remainder 360 x q)
+unfoldable pub within_turn_of : Expression → Program Expression
+within_turn_of x = cell PhaseWrap (multiples 360) x λ q. answer (remainder 360 x q)
 
 -- the longitude of the moon less that of the sun, from 0 up to 360
 unfoldable pub elongation_of : Expression → Program Expression
 elongation_of x =
     bind (moon_of x) λ m.
     bind (sun_of x) λ s.
-    turned_of (subtract m s)
+    within_turn_of (subtract m s)
 
 -- the synodic months from one moment to another
 unfoldable pub months_between : Expression → Expression → Expression
@@ -56,19 +56,19 @@ abbrev pub size_of : Expression → Expression
 size_of x = maximum x (negate x)
 
 -- the second of two, where they are apart
-unfoldable pub chosen : Bool → Expression → Expression → Expression
-chosen apart p q = if apart then q else p
+unfoldable pub phase_of_choice : Bool → Expression → Expression → Expression
+phase_of_choice apart p q = if apart then q else p
 
 -- the phase by longitudes, or the one by the time where the two are more than 180 degrees apart
-unfoldable pub picked_of : Expression → Expression → Program Expression
-picked_of p q = bind (compare PhasePick (integer (pos 180)) (size_of (subtract p q)) answer) λ apart. answer (chosen apart p q)
+unfoldable pub test_which_phase_of : Expression → Expression → Program Expression
+test_which_phase_of p q = bind (compare PhasePick (integer (pos 180)) (size_of (subtract p q)) answer) λ apart. answer (phase_of_choice apart p q)
 
 -- the phase by longitudes p, or in its place the one by the time since the new moon about the moment
 unfoldable pub corrected_of : (x p : Expression) → Program Expression
 corrected_of x p =
     bind (rough_number_of x) λ n.
     bind (phase_by_months_of n x) λ q.
-    picked_of p q
+    test_which_phase_of p q
 
 -- the moon's phase at a moment
 unfoldable pub phase_of : Expression → Program Expression

@@ -28,7 +28,8 @@ sun_unit = record { num = pos 5729577951308232; below = 10 ^ 21 - 1 }
 -- the sun's longitude, not reduced
 unfoldable pub longitude_of : Expression → Expression
 longitude_of c =
-    add (add (add (add (constant (fraction_of SUN_AT_2000)) (scale (fraction_of SUN_RATE) c)) (scale sun_unit (waves_of SUN_WAVES c))) (aberration_of c)) (nutation_of c)
+    add (add (add (add (constant (fraction_of SUN_AT_2000)) (scale (fraction_of SUN_RATE) c)) (scale sun_unit (waves_of SUN_WAVES c))) (aberration_of c))
+    (nutation_of c)
 
 -- the sun's longitude at a moment of universal time
 unfoldable pub sun_of : Expression → Program Expression

@@ -10,7 +10,7 @@ use std::alloc::Global;
 use std::test::Fail;
 
 /// The date of a day over a table, and the number of facts asked.
-fn date_over(
+fn date_from_listed(
     alloc: Global,
     facts: &[Fact],
     values: &[i64],
@@ -34,7 +34,7 @@ fn last_day_of_ayyam_i_ha(alloc: Global) -> (Result<BahaiDate, Stop>, usize) {
         bahai_year_on(739_148),
         bahai_year_on(738_782),
     ];
-    date_over(alloc, &facts, &[738_600, 738_965, 738_600], 738_945)
+    date_from_listed(alloc, &facts, &[738_600, 738_965, 738_600], 738_945)
 }
 
 /// The date of the day after.
@@ -44,13 +44,13 @@ fn first_day_of_the_last_month(alloc: Global) -> (Result<BahaiDate, Stop>, usize
         bahai_year_on(739_148),
         bahai_year_on(738_782),
     ];
-    date_over(alloc, &facts, &[738_600, 738_965, 738_600], 738_946)
+    date_from_listed(alloc, &facts, &[738_600, 738_965, 738_600], 738_946)
 }
 
 /// The date of a day over a table without the first day of its year.
 fn date_without_its_year(alloc: Global) -> (Result<BahaiDate, Stop>, usize) {
     let facts = [bahai_year_on(739_695), bahai_year_on(740_243)];
-    date_over(alloc, &facts, &[739_695, 740_061], 739_695)
+    date_from_listed(alloc, &facts, &[739_695, 740_061], 739_695)
 }
 
 /// The date of a day by values at their ends.
@@ -60,7 +60,7 @@ fn date_by_ends(alloc: Global) -> (Result<BahaiDate, Stop>, usize) {
         bahai_year_on(-9_999_338),
         bahai_year_on(-9_999_703),
     ];
-    date_over(alloc, &facts, &[-10_000_000, 10_000_000, 10_000_000], 0)
+    date_from_listed(alloc, &facts, &[-10_000_000, 10_000_000, 10_000_000], 0)
 }
 
 /// A date of the year that is the tenth cycle's in the first major cycle.

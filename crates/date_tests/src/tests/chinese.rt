@@ -42,7 +42,7 @@ impl<'a> Oracle for Counting<'a> {
 type Counted<T> = (Result<T, Stop>, usize, usize);
 
 /// The date of a day over a table.
-fn date_over(alloc: Global, facts: &[Fact], values: &[i64], day: i64) -> Counted<ChineseDate>
+fn date_from_listed(alloc: Global, facts: &[Fact], values: &[i64], day: i64) -> Counted<ChineseDate>
     requires near { IsNearDay day }
     requires same { length facts.now ≡ length values.now }
     requires distinct { IsTrue (are_distinct facts.now) }
@@ -97,7 +97,7 @@ fn date_of_2023(alloc: Global) -> Counted<ChineseDate> {
         738_511, 738_876, 738_512, 738_867, 738_601, 738_571, 738_542, 738_512, 738_483, 11,
         738_542, 12, 738_571, 1, 738_601, 2, 738_630, 2,
     ];
-    date_over(alloc, &facts, &values, 738_601)
+    date_from_listed(alloc, &facts, &values, 738_601)
 }
 
 /// 22 December 2033, the first day of the first of several months without a major term in its sui, over a table of its facts.
@@ -116,7 +116,7 @@ fn date_of_2033(alloc: Global) -> Counted<ChineseDate> {
     let values = [
         742_528, 742_894, 742_529, 742_883, 742_529, 742_499, 11, 742_558, 11,
     ];
-    date_over(alloc, &facts, &values, 742_529)
+    date_from_listed(alloc, &facts, &values, 742_529)
 }
 
 /// The facts of a day in a common sui with the values of 10 February 2024.
@@ -128,7 +128,7 @@ fn date_of_2024(alloc: Global) -> Counted<ChineseDate> {
         moon_before(739_242),
         moon_before(738_927),
     ];
-    date_over(
+    date_from_listed(
         alloc,
         &facts,
         &[738_876, 739_241, 738_896, 739_221, 738_926],
@@ -144,7 +144,7 @@ fn date_without_its_month(alloc: Global) -> Counted<ChineseDate> {
         moon_from(738_877),
         moon_before(739_242),
     ];
-    date_over(
+    date_from_listed(
         alloc,
         &facts,
         &[738_876, 739_241, 738_896, 739_221],
@@ -161,7 +161,7 @@ fn date_by_ends(alloc: Global) -> Counted<ChineseDate> {
         moon_before(10_000_001),
         moon_before(738_927),
     ];
-    date_over(
+    date_from_listed(
         alloc,
         &facts,
         &[-10_000_000, 10_000_000, -10_000_000, 9_999_999, 10_000_000],
@@ -184,7 +184,7 @@ fn date_in_a_circle(alloc: Global) -> Counted<ChineseDate> {
     let values = [
         738_876, 739_241, 738_896, 739_250, 738_926, 738_926, 5, 738_926,
     ];
-    date_over(alloc, &facts, &values, 738_926)
+    date_from_listed(alloc, &facts, &values, 738_926)
 }
 
 /// The first day of the year that began in February 2024, over a table of its facts.

@@ -8,7 +8,12 @@ use std::alloc::Global;
 use std::test::Fail;
 
 /// The date of a day over a table of its one fact, and the number of facts asked.
-fn date_over(alloc: Global, day: i64, listed: i64, value: i64) -> (Result<IslamicDate, Stop>, usize)
+fn date_from_listed(
+    alloc: Global,
+    day: i64,
+    listed: i64,
+    value: i64,
+) -> (Result<IslamicDate, Stop>, usize)
     requires from { pos 0 ≤ℤ day }
     requires to { day ≤ℤ pos 1000000 }
     requires listed_from { pos 0 ≤ℤ listed }
@@ -56,7 +61,7 @@ fn dates_follow_the_table(rt: HostRuntime) {
             day: number,
         };
         assert_eq!(rt;
-            date_over(rt.alloc(), day, day, first),
+            date_from_listed(rt.alloc(), day, day, first),
             (Ok(date), 1),
             "day {day}"
         );
@@ -72,7 +77,7 @@ fn a_month_is_asked_by_its_middle(rt: HostRuntime) {
 fn a_fact_that_is_missing_stops(rt: HostRuntime) {
     let missing = Stop::Missing(phasis_on(738_957));
     assert_eq!(rt;
-        date_over(rt.alloc(), 738_957, 738_958, 738_957),
+        date_from_listed(rt.alloc(), 738_957, 738_958, 738_957),
         (Err(missing), 0)
     );
 }

@@ -10,7 +10,7 @@ use std::process::Abort;
 use std::test::Fail;
 
 /// The date of a day over a table of its two facts, and the number of facts asked.
-fn date_over(
+fn date_from_listed(
     alloc: Global,
     day: i64,
     first: i64,
@@ -138,7 +138,7 @@ fn row_holds(rt: &impl Abort, alloc: Global, row: Row) -> Result<(), Fail> {
     assert!(rt; first <= 10_000_000);
     assert!(rt; -10_000_000 <= new_year);
     assert!(rt; new_year <= 10_000_000);
-    let (found, asked) = date_over(alloc, day, first, within, new_year);
+    let (found, asked) = date_from_listed(alloc, day, first, within, new_year);
     let date = PersianDate {
         year,
         month,

@@ -3,7 +3,7 @@ ghost use Rattle.std.specs.Prelude.{pos, ◌≤ℤ◌};
 
 use book_model::Fail as FormulaFail;
 use encl_core::{Coarse, Trail};
-use hindu_sky::{
+use hindu_facts::{
     calendar_year, sankranti, sign_after, sign_at_sunset, sign_before, solar_year, tithi,
 };
 

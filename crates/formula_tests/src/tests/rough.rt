@@ -2,18 +2,18 @@
 //! proved over the trait leans on one scale.
 ghost use Rattle.std.specs.Prelude.{refl};
 ghost use Rattle.exact_math.specs.Interval.{◌⊆◌};
-ghost use Rattle.scaled_ends.specs.Shown.{shown_ends, ends_proper};
+ghost use Rattle.interval_ends.specs.Shown.{shown_ends, ends_proper};
 
 use crate::tests::coarse_ends::{first_after, fraction, range};
 use book_model::{Frac, Site, Undecided};
 use encl_core::{Enclosure, Span, Trail, less_step, wrap_step};
-use rounded_quotients::{ceil_div, floor_div};
-use scaled_ends::{
-    Ends, add_ends, cell_of_ends, clamp_ends, ends_of, ends_of_span, finer_ends, hull_ends,
-    int_ends, lower_ends, max_ends, min_ends, neg_ends, open_at, order_of_ends, period_of_ends,
-    raised_ends, scale_ends, sub_ends, widen_ends,
+use interval_ends::{
+    Ends, add_ends, cell_of_ends, clamp_ends, ends_at_fine_scale, ends_of, ends_of_fraction,
+    ends_of_span, hull_ends, int_ends, max_ends, min_ends, neg_ends, open_at, order_of_ends,
+    period_of_ends, rest_of_period, scale_ends, sub_ends, widen_ends,
 };
-use scaled_products::{div_ends, mul_ends, root_ends, square_ends};
+use interval_products::{div_ends, mul_ends, root_ends, square_ends};
+use rounded_quotients::{ceil_div, floor_div};
 use std::test::Fail;
 
 /// How many units of 2⁻³⁶ one of 2⁻⁸ has.
@@ -62,7 +62,7 @@ impl Enclosure for Rough {
 
     fn from_frac(value: Frac) -> Self {
         Rough {
-            ends: roughened(raised_ends(value)),
+            ends: roughened(ends_of_fraction(value)),
         }
     }
 
@@ -151,7 +151,7 @@ impl Enclosure for Rough {
     }
 
     fn span(self) -> Option<Span> {
-        let (lo, hi) = finer_ends(self.ends)?;
+        let (lo, hi) = ends_at_fine_scale(self.ends)?;
         Some(Span { lo, hi })
     }
 
@@ -175,7 +175,7 @@ impl Enclosure for Rough {
         let turn = trail.step();
         match period_of_ends(self.ends, modulus) {
             Some(period) => Ok(Rough {
-                ends: lower_ends(self.ends, modulus, period),
+                ends: rest_of_period(self.ends, modulus, period),
             }),
             None => Err(open_at(self.ends, site, turn)),
         }

@@ -7,4 +7,5 @@ use Rattle.almanac_lines.proofs.almanac.almanac_lines.Goals as goal
 pub loop-passed-preserved : goal.loop-passed-preserved
 loop-passed-preserved c =
     let line : c.in_ok-line_of.field-0 ≡ line_text (almanac_line_of c.args.year (c.loop-passed.passed + 1)) = search rules in
-    almanac_on c.args.year c.loop-passed.passed _ _ _ c.in_ok-line_of.field-0 (omega (arith, c.loop-passed-test.true)) line c.loop-passed.invariant c.in_ok-push.ensures.items
+    almanac_on c.args.year c.loop-passed.passed _ _ _ c.in_ok-line_of.field-0 (omega (arith, c.loop-passed-test.true)) line c.loop-passed.invariant
+    c.in_ok-push.ensures.items

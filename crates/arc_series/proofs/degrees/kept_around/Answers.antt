@@ -40,7 +40,8 @@ returns-in-Some-clause-narrow g c =
     let e = simp to_z-of_z at c.end_around.ensures.value in
     let f = simp to_z-of_z at c.end_around-in-Some.ensures.value in
     let h = simp to_z-of_z at c.from_span.ensures.narrow in
-    moved_narrow g.E.Enclosure.shown _ _ _ c.in-Some.span.lo c.in-Some.span.hi c.end_around.result c.end_around-in-Some.result c.in-Some.span.ordered e f c.in-Some.ensures.holds c.in-Some.ensures.tight h
+    moved_narrow g.E.Enclosure.shown _ _ _ c.in-Some.span.lo c.in-Some.span.hi c.end_around.result c.end_around-in-Some.result c.in-Some.span.ordered e f
+    c.in-Some.ensures.holds c.in-Some.ensures.tight h
 
 pub returns-in-None-clause-narrow : goal.returns-in-None-clause-narrow
 returns-in-None-clause-narrow g c = λ high v e k. nothing_slow g.E.Enclosure.shown _ _ (c.in-None.ensures.none refl) _ _ _ _ _ _ k

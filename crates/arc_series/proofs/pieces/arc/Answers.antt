@@ -11,7 +11,11 @@ returns-in-FarBelow c =
     let v = simp to_z-of_z at c.unsigned_abs.ensures.value in
     let t = subst (λ p. c.args.number ≤ℤ end_56 p) c.in-FarBelow.is c.requires.to in
     let s : c.args.number ≡ neg_ℤ (pos c.unsigned_abs.result) = rw v (size_below c.args.number (omega (arith, ints, t))) in
-    rw c.in-FarBelow.is (record { holds = λ n x d e. mirrored_held arc_beyond n c.unsigned_abs.result x c.args.number _ _ _ _ c.beyond.ensures.holds d e s c.opposite.ensures.low c.opposite.ensures.high; thin = c.opposite.ensures.thin c.beyond.ensures.thin })
+    rw c.in-FarBelow.is (record {
+      holds = λ n x d e. mirrored_held arc_beyond n c.unsigned_abs.result x c.args.number _ _ _ _ c.beyond.ensures.holds d e s
+          c.opposite.ensures.low c.opposite.ensures.high;
+      thin = c.opposite.ensures.thin c.beyond.ensures.thin;
+    })
 
 pub returns-in-Below : goal.returns-in-Below
 returns-in-Below c =
@@ -19,10 +23,15 @@ returns-in-Below c =
     let v = simp to_z-of_z at c.unsigned_abs-in-Below.ensures.value in
     let t = subst (λ p. c.args.number ≤ℤ end_56 p) c.in-Below.is c.requires.to in
     let s : c.args.number ≡ neg_ℤ (pos c.unsigned_abs-in-Below.result) = rw v (size_below c.args.number (omega (arith, ints, t))) in
-    rw c.in-Below.is (record { holds = λ n x d e. mirrored_held arc_above n c.unsigned_abs-in-Below.result x c.args.number _ _ _ _ c.above.ensures.holds d e s c.opposite-in-Below.ensures.low c.opposite-in-Below.ensures.high; thin = c.opposite-in-Below.ensures.thin c.above.ensures.thin })
+    rw c.in-Below.is (record {
+      holds = λ n x d e. mirrored_held arc_above n c.unsigned_abs-in-Below.result x c.args.number _ _ _ _ c.above.ensures.holds d e s
+          c.opposite-in-Below.ensures.low c.opposite-in-Below.ensures.high;
+      thin = c.opposite-in-Below.ensures.thin c.above.ensures.thin;
+    })
 
 pub returns-in-Near : goal.returns-in-Near
-returns-in-Near c = let f = c.ranges.number in let h = simp to_z-of_z at c.near_zero.ensures.holds in rw c.in-Near.is (record { holds = h; thin = c.near_zero.ensures.thin })
+returns-in-Near c = let f = c.ranges.number in let h = simp to_z-of_z at c.near_zero.ensures.holds in rw c.in-Near.is
+    (record { holds = h; thin = c.near_zero.ensures.thin })
 
 pub returns-in-Above : goal.returns-in-Above
 returns-in-Above c =

@@ -15,15 +15,18 @@ listed_values-requires c = record { numbers = numbers_within _ _ _ c.requires.nu
 
 pub verdict_over-requires-clause-same : goal.verdict_over-requires-clause-same
 verdict_over-requires-clause-same c =
-    rw (c.deref.ensures.value, c.deref-in-None.ensures.value, c.in_ok-facts-in-None.ensures.facts, c.in_ok-values-in-None.ensures.values) (as_many_values (numbered c.args.file.now.facts c.args.numbers.now))
+    rw (c.deref.ensures.value, c.deref-in-None.ensures.value, c.in_ok-facts-in-None.ensures.facts, c.in_ok-values-in-None.ensures.values)
+    (as_many_values (numbered c.args.file.now.facts c.args.numbers.now))
 
 pub verdict_over-requires-clause-distinct : goal.verdict_over-requires-clause-distinct
 verdict_over-requires-clause-distinct c =
     rw (c.deref.ensures.value, c.in_ok-facts-in-None.ensures.facts)
-    (listed_distinct c.args.file.now.facts (length c.args.file.now.facts) c.args.numbers.now c.requires.distinct (numbers_within _ _ _ c.requires.numbers) (numbers_apart _ _ _ c.requires.numbers))
+    (listed_distinct c.args.file.now.facts (length c.args.file.now.facts) c.args.numbers.now c.requires.distinct (numbers_within _ _ _ c.requires.numbers)
+    (numbers_apart _ _ _ c.requires.numbers))
 
 pub verdict_over-requires-clause-known : goal.verdict_over-requires-clause-known
-verdict_over-requires-clause-known c = rw (c.deref-in-None.ensures.value, c.in_ok-values-in-None.ensures.values) (listed_known c.args.file.now.facts c.args.numbers.now c.requires.known)
+verdict_over-requires-clause-known c = rw (c.deref-in-None.ensures.value, c.in_ok-values-in-None.ensures.values)
+    (listed_known c.args.file.now.facts c.args.numbers.now c.requires.known)
 
 pub verdict_over-requires-clause-few : goal.verdict_over-requires-clause-few
 verdict_over-requires-clause-few c =

@@ -5,6 +5,7 @@ use Rattle.cert_text.proofs.write.write_facts.Given as goal
 
 abbrev pub invariant-loop-index : goal.invariant-loop-index
 invariant-loop-index g l = record {
-  wrote : Wrote (g.K.Sink.written l.initial.sink) (g.K.Sink.written l.sink) (fact_texts l.first l.facts) (fact_texts (l.first + l.index) (drop l.index l.facts));
+  wrote : Wrote (g.K.Sink.written l.initial.sink) (g.K.Sink.written l.sink) (fact_texts l.first l.facts)
+      (fact_texts (l.first + l.index) (drop l.index l.facts));
   later : g.K.Sink.faults l.initial.sink ≤ g.K.Sink.faults l.sink;
 }

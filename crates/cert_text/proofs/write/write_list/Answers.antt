@@ -8,7 +8,8 @@ returns-in_err-write_all g c = writes_first _ c.from_residual.ensures.0 c.in_err
 
 pub returns-in_err-write_numbers : goal.returns-in_err-write_numbers
 unfolding facts_text
-returns-in_err-write_numbers g c = writes_then c.in_ok-write_all.ensures (writes_first _ c.from_residual-in_err-write_numbers.ensures.0 c.in_err-write_numbers.ensures)
+returns-in_err-write_numbers g c = writes_then c.in_ok-write_all.ensures
+    (writes_first _ c.from_residual-in_err-write_numbers.ensures.0 c.in_err-write_numbers.ensures)
 
 pub returns : goal.returns
 unfolding facts_text

@@ -25,4 +25,5 @@ returns-clause-kept g c =
     let v = c.in_ok-value.value in
     let more = rw (fits v c.in_ok-value.ensures.value) at c.keep.ensures.kept in
     let here = answered_kept c.args.fact v c.in_ok-value.ensures.asks c.in_ok-value.ensures.value in
-    kept_or_not c.args.kept.now.places c.keep.new.self.places c.args.kept.now.count c.args.fact v here (still_kept c.args.kept.now.places c.ask.ensures.asks c.requires.kept) more
+    kept_or_not c.args.kept.now.places c.keep.new.self.places c.args.kept.now.count c.args.fact v here
+    (still_kept c.args.kept.now.places c.ask.ensures.asks c.requires.kept) more

@@ -22,7 +22,8 @@ pub returns-clause-early : goal.returns-clause-early
 returns-clause-early g c = λ z p q h.
     let f : SFits w64 c.args.day = c.ranges.day in
     let l = simp to_z-of_z at (c.in_ok-new_moon.ensures.leads (at_depth 40) (omega arith)) in
-    late_is_not_early c.sight_after.result (three_made (at_depth 40) (phase_day_least (pos 0) c.args.day) z l) (c.sight_after.ensures.leads (at_depth 40) (omega arith))
+    late_is_not_early c.sight_after.result (three_made (at_depth 40) (phase_day_least (pos 0) c.args.day) z l)
+    (c.sight_after.ensures.leads (at_depth 40) (omega arith))
 
 pub returns-in_err-new_moon-clause-close : goal.returns-in_err-new_moon-clause-close
 returns-in_err-new_moon-clause-close g c = λ e p.

@@ -12,7 +12,8 @@ returns-in-Ok-clause-leads g c = λ w e h.
 
 pub returns-in-Err-clause-leads : goal.returns-in-Err-clause-leads
 returns-in-Err-clause-leads g c = λ w e h.
-    rw (← c.in-Err.ensures.named.0) (leads_open_cell integers e _ answer _ c.in-Err.at (lies h) c.in-Err.ensures.named.1 c.in-Err.ensures.counted c.in-Err.ensures.undecided)
+    rw (← c.in-Err.ensures.named.0) (leads_open_cell integers e _ answer _ c.in-Err.at (lies h) c.in-Err.ensures.named.1 c.in-Err.ensures.counted
+    c.in-Err.ensures.undecided)
 
 pub returns-in-Err-clause-close : goal.returns-in-Err-clause-close
 returns-in-Err-clause-close g c = λ v b h. floor_close v _ c.args.site c.in-Err.at c.in-Err.ensures.named.0 b h c.in-Err.ensures.undecided

@@ -1,21 +1,23 @@
-use Rattle.scaled_ends.specs.Scales.{coarse}
+use Rattle.interval_ends.specs.Scales.{coarse}
 use Rattle.std.proofs.Common.{rules, arith, SFits, w64}
 use Rattle.std.specs.Int.{w128}
 use Rattle.std.proofs.lemmas.Int.{ints, to_z-of_z}
 use Rattle.book_model.specs.numbers.Bounds.{constant_bound, scaled_bound, limits_36}
 use Rattle.book_model.specs.numbers.Fractions.{ten_millionths, daily_ten_millionths}
 use Rattle.rounded_quotients.proofs.Quotients.{outward_order, sorted_order}
-use Rattle.scaled_ends.proofs.Keeping.{sum_second}
-use Rattle.scaled_ends.proofs.Scaling.{scaled_first}
-use Rattle.scaled_ends.proofs.WaveAngles.{AreTurned, turned_encloses, turned_narrow}
-use Rattle.scaled_ends.proofs.OnEnds.{shows}
+use Rattle.interval_ends.proofs.Keeping.{sum_second}
+use Rattle.interval_ends.proofs.Scaling.{scaled_first}
+use Rattle.interval_ends.proofs.WaveAngles.{AreTurned, turned_encloses, turned_narrow}
+use Rattle.interval_ends.proofs.OnEnds.{shows}
 use Rattle.encl_core.proofs.turning.angle_ends.Goals as goal
 
 pub returns-in_err-x-clause-narrow : goal.returns-in_err-x-clause-narrow
 returns-in_err-x-clause-narrow c = λ w a h.
-    sum_second coarse w (constant_bound limits_36 (ten_millionths c.args.phase)) (scaled_bound limits_36 (daily_ten_millionths c.args.rate) a) _ (scaled_first coarse w (daily_ten_millionths c.args.rate) a _ (rw c.in_err-x.was at h))
+    sum_second coarse w (constant_bound limits_36 (ten_millionths c.args.phase)) (scaled_bound limits_36 (daily_ten_millionths c.args.rate) a) _
+    (scaled_first coarse w (daily_ten_millionths c.args.rate) a _ (rw c.in_err-x.was at h))
 
-turned : (c : goal.After-ends_of) → AreTurned c.args.phase c.args.rate c.in_ok-x.x.lo c.in_ok-x.x.hi c.turned-p.result c.turned-q.result c.sorted-least.result.0 c.sorted-least.result.1 c.floor_div.result c.ceil_div.result
+turned : (c : goal.After-ends_of) → AreTurned c.args.phase c.args.rate c.in_ok-x.x.lo c.in_ok-x.x.hi c.turned-p.result c.turned-q.result c.sorted-least.result.0
+    c.sorted-least.result.1 c.floor_div.result c.ceil_div.result
 turned c =
     let fa = c.ranges.phase in
     let fr = c.ranges.rate in

@@ -57,7 +57,8 @@ returns-in_err-days-clause-units g c = λ p q.
 pub returns-clause-close : goal.returns-clause-close
 returns-clause-close g c = λ e.
     let d = c.in_ok-days.ensures.measured e in
-    c.floor_step.ensures.close (86400000 * 2 ^ 14 + 2 ^ 10) (omega arith) (milliseconds_within g.E.Enclosure.shown _ (2 ^ 14) c.in_ok-days.days c.milliseconds.result e d (λ r x. c.milliseconds.ensures.narrow r x))
+    c.floor_step.ensures.close (86400000 * 2 ^ 14 + 2 ^ 10) (omega arith)
+    (milliseconds_within g.E.Enclosure.shown _ (2 ^ 14) c.in_ok-days.days c.milliseconds.result e d (λ r x. c.milliseconds.ensures.narrow r x))
 
 pub returns-in_err-days-clause-close : goal.returns-in_err-days-clause-close
 returns-in_err-days-clause-close g c = λ e.

@@ -11,19 +11,23 @@ pub returns-clause-from : goal.returns-clause-from
 returns-clause-from g c =
     let f : SFits w64 c.args.day = c.ranges.day in
     let l = simp to_z-of_z at (c.in_ok-longitude.ensures.leads (at_depth 40) (omega arith)) in
-    term_from _ (is_term (at_depth 40) _ c.args.place c.args.day _ l (c.floor_step.ensures.leads (at_depth 40) _ (c.mul_frac.ensures.encloses.holds (at_depth 40) _ (leaf_within l))))
+    term_from _ (is_term (at_depth 40) _ c.args.place c.args.day _ l
+    (c.floor_step.ensures.leads (at_depth 40) _ (c.mul_frac.ensures.encloses.holds (at_depth 40) _ (leaf_within l))))
 
 pub returns-clause-to : goal.returns-clause-to
 returns-clause-to g c =
     let f : SFits w64 c.args.day = c.ranges.day in
     let l = simp to_z-of_z at (c.in_ok-longitude.ensures.leads (at_depth 40) (omega arith)) in
-    term_to _ (is_term (at_depth 40) _ c.args.place c.args.day _ l (c.floor_step.ensures.leads (at_depth 40) _ (c.mul_frac.ensures.encloses.holds (at_depth 40) _ (leaf_within l))))
+    term_to _ (is_term (at_depth 40) _ c.args.place c.args.day _ l
+    (c.floor_step.ensures.leads (at_depth 40) _ (c.mul_frac.ensures.encloses.holds (at_depth 40) _ (leaf_within l))))
 
 pub returns-clause-close : goal.returns-clause-close
 returns-clause-close g c = λ e h.
     let f : SFits w64 c.args.day = c.ranges.day in
     let m = simp to_z-of_z at c.in_ok-longitude.ensures.measured in
-    c.floor_step.ensures.close (2 ^ 32 + 3 * 2 ^ 9 + 2 ^ 9) (omega arith) (terms_within g.E.Enclosure.shown _ (2 ^ 32 + 3 * 2 ^ 9) c.in_ok-longitude.longitude e (m (midnight_day _ h) e) c.mul_frac.result (λ r x. c.mul_frac.ensures.encloses.narrow r x))
+    c.floor_step.ensures.close (2 ^ 32 + 3 * 2 ^ 9 + 2 ^ 9) (omega arith)
+    (terms_within g.E.Enclosure.shown _ (2 ^ 32 + 3 * 2 ^ 9) c.in_ok-longitude.longitude e (m (midnight_day _ h) e) c.mul_frac.result
+    (λ r x. c.mul_frac.ensures.encloses.narrow r x))
 
 pub returns-in_err-longitude-clause-close : goal.returns-in_err-longitude-clause-close
 returns-in_err-longitude-clause-close g c = λ e h.

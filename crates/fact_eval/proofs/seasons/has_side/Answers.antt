@@ -14,7 +14,8 @@ unfolding has_side_at longitude_at_of stands_on
 returns-clause-leads g c = λ w d.
     let f : SFits w64 c.args.day = c.ranges.day in
     let l = simp to_z-of_z at (c.in_ok-there.ensures.leads w d) in
-    rw (bind_nested (g.M.DayMoment.moment_of c.args.moment.now c.args.day) sun_of (is_on_side_of c.args.side)) (leads_on _ l (c.stands.ensures.leads w _ (leaf_within l)))
+    rw (bind_nested (g.M.DayMoment.moment_of c.args.moment.now c.args.day) sun_of (is_on_side_of c.args.side))
+    (leads_on _ l (c.stands.ensures.leads w _ (leaf_within l)))
 
 pub returns-in_err-there-clause-leads : goal.returns-in_err-there-clause-leads
 unfolding has_side_at longitude_at_of

@@ -3,7 +3,7 @@ use Rattle.std.proofs.lemmas.Int.{to_z-of_z}
 use Rattle.book_model.specs.sky.Facts.{at_depth}
 use Rattle.book_model.proofs.Leads.{leaf_within}
 use Rattle.fact_eval.proofs.NewYears.{is_estimate, begun, ended}
-use Rattle.width_laws.proofs.Measuring.{moment_about}
+use Rattle.greatest_widths.proofs.Measuring.{moment_about}
 use Rattle.fact_eval.proofs.seasons.search_start.Goals as goal
 
 pub returns-clause-from : goal.returns-clause-from
@@ -11,14 +11,16 @@ returns-clause-from g c =
     let n : SFits w64 c.args.longitude = c.ranges.longitude in
     let f : SFits w64 c.args.day = c.ranges.day in
     let l = simp to_z-of_z at (c.in_ok-passage.ensures.leads (at_depth 40) (omega arith)) in
-    begun _ (is_estimate (at_depth 40) _ (g.M.DayMoment.moment_of c.args.moment.now) c.args.longitude c.args.day _ l (c.floor_step.ensures.leads (at_depth 40) _ (leaf_within l)))
+    begun _ (is_estimate (at_depth 40) _ (g.M.DayMoment.moment_of c.args.moment.now) c.args.longitude c.args.day _ l
+    (c.floor_step.ensures.leads (at_depth 40) _ (leaf_within l)))
 
 pub returns-clause-to : goal.returns-clause-to
 returns-clause-to g c =
     let n : SFits w64 c.args.longitude = c.ranges.longitude in
     let f : SFits w64 c.args.day = c.ranges.day in
     let l = simp to_z-of_z at (c.in_ok-passage.ensures.leads (at_depth 40) (omega arith)) in
-    ended _ (is_estimate (at_depth 40) _ (g.M.DayMoment.moment_of c.args.moment.now) c.args.longitude c.args.day _ l (c.floor_step.ensures.leads (at_depth 40) _ (leaf_within l)))
+    ended _ (is_estimate (at_depth 40) _ (g.M.DayMoment.moment_of c.args.moment.now) c.args.longitude c.args.day _ l
+    (c.floor_step.ensures.leads (at_depth 40) _ (leaf_within l)))
 
 pub returns-clause-close : goal.returns-clause-close
 returns-clause-close g c = λ s e.

@@ -10,4 +10,5 @@ returns-clause-leads g c = λ w x h.
     leads_on _ l (c.is_on_side.ensures.leads w _ (leaf_within l))
 
 pub returns-clause-close : goal.returns-clause-close
-returns-clause-close g c = λ s v e b h. c.is_on_side.ensures.close s (2 * v + 2 ^ 32) e (omega (arith, b)) (c.in_ok-longitude.ensures.measured v e (omega (arith, b)) h)
+returns-clause-close g c = λ s v e b h. c.is_on_side.ensures.close s (2 * v + 2 ^ 32) e (omega (arith, b))
+    (c.in_ok-longitude.ensures.measured v e (omega (arith, b)) h)

@@ -34,14 +34,17 @@ pub returns-clause-close : goal.returns-clause-close
 returns-clause-close g c = λ e.
     let shown = g.E.Enclosure.shown in
     let f : SFits w64 c.args.day = c.ranges.day in
-    let i = whole_moment shown _ c.args.day c.from_int.result e (small_day _ (fact_day _ c.requires.day)) (simp to_z-of_z at c.from_int.ensures.encloses.narrow) in
+    let i = whole_moment shown _ c.args.day c.from_int.result e (small_day _ (fact_day _ c.requires.day))
+    (simp to_z-of_z at c.from_int.ensures.encloses.narrow) in
     let s = c.in_ok-degrees.ensures.measured 0 e (omega arith) i in
-    c.floor_step.ensures.close (1000 * (2 * 0 + 2 ^ 32) + 2 ^ 9) (omega arith) (thousandths_within shown _ (2 * 0 + 2 ^ 32) c.in_ok-degrees.degrees e s c.mul_frac.result (λ r x. c.mul_frac.ensures.encloses.narrow r x))
+    c.floor_step.ensures.close (1000 * (2 * 0 + 2 ^ 32) + 2 ^ 9) (omega arith)
+    (thousandths_within shown _ (2 * 0 + 2 ^ 32) c.in_ok-degrees.degrees e s c.mul_frac.result (λ r x. c.mul_frac.ensures.encloses.narrow r x))
 
 pub returns-in_err-degrees-clause-close : goal.returns-in_err-degrees-clause-close
 returns-in_err-degrees-clause-close g c = λ e.
     let shown = g.E.Enclosure.shown in
     let f : SFits w64 c.args.day = c.ranges.day in
-    let i = whole_moment shown _ c.args.day c.from_int.result e (small_day _ (fact_day _ c.requires.day)) (simp to_z-of_z at c.from_int.ensures.encloses.narrow) in
+    let i = whole_moment shown _ c.args.day c.from_int.result e (small_day _ (fact_day _ c.requires.day))
+    (simp to_z-of_z at c.from_int.ensures.encloses.narrow) in
     let fails = err_from_is_err_and c.from_residual.result c.from_residual.ensures.1 in
     rw (fails.1, fails.2) (c.in_err-degrees.ensures.measured 0 e (omega arith) i)

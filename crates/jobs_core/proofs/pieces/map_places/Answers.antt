@@ -14,6 +14,8 @@ returns g c =
     let first : spec.piece_start n k 0 ≡ 0 = omega arith in
     let last : spec.piece_start n k k ≡ n = last_end n k c.requires.some in
     record {
-      covers = IfOk-weaker c.join_pieces.result _ _ (λ all h. rw (first, last) at (join_covers (λ (i : ℕ) x. goal.F-post g c.args.f.now i (Ok x)) (spec.piece_start n k) 0 k pieces.items all.items
-          (λ i j d is lt. let same : j ≡ i = omega (arith, is) in rw same (made.each i d (omega (arith, lt, long)))) (omega (arith, long)) h)) c.join_pieces.ensures.joined;
+      covers = IfOk-weaker c.join_pieces.result _ _ (λ all h.
+          rw (first, last) at (join_covers (λ (i : ℕ) x. goal.F-post g c.args.f.now i (Ok x)) (spec.piece_start n k) 0 k pieces.items all.items
+          (λ i j d is lt. let same : j ≡ i = omega (arith, is) in rw same (made.each i d (omega (arith, lt, long)))) (omega (arith, long)) h))
+          c.join_pieces.ensures.joined;
     }

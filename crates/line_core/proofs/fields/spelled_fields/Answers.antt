@@ -10,7 +10,10 @@ pub returns-in_err-values : goal.returns-in_err-values
 returns-in_err-values c =
     let parts = cut_parts c.in-Some.word.now c.cut_part.result.0.now c.cut_part.result.1 c.cut_part.ensures.cut in
     let spells = rw (c.in-Some.is, parts) at c.loop-rest.invariant.spells in
-    record { fields = rw c.from_residual.ensures (λ calendar. fails c.loop-rest.count c.loop-rest.values c.args.date.now c.cut_part.result.0.now c.cut_part.result.1 calendar c.in_err-values.ensures.number spells) }
+    record {
+      fields = rw c.from_residual.ensures (λ calendar.
+          fails c.loop-rest.count c.loop-rest.values c.args.date.now c.cut_part.result.0.now c.cut_part.result.1 calendar c.in_err-values.ensures.number spells);
+    }
 
 pub returns : goal.returns
 returns c =

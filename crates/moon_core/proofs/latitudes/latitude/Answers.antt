@@ -7,7 +7,7 @@ use Rattle.book_model.specs.programs.Programs.{answer}
 use Rattle.book_model.specs.sky.Latitude.{latitude_of, latitude_at_of}
 use Rattle.book_model.specs.sky.Time.{in_centuries as centuries_from}
 use Rattle.book_model.proofs.Leads.{leads_answer}
-use Rattle.width_laws.proofs.Measuring.{measured_argument}
+use Rattle.greatest_widths.proofs.Measuring.{measured_argument}
 use Rattle.sun_core.specs.Daily.{in_centuries}
 use Rattle.sun_core.proofs.Elapsed.{by_dynamical}
 use Rattle.sun_core.proofs.Measured.{tabled, days_of}
@@ -28,5 +28,6 @@ returns-clause-measured g c = λ v e b h.
     let shown = g.E.Enclosure.shown in
     let r : Reach = record { width = v + 2 ^ 17; bounds = tabled } in
     let m = c.in_ok-moment.ensures.measured v e (omega (arith, b)) h in
-    let days = c.sub-days.ensures.encloses.narrow r (argument 0) (constant (fraction_of NOON_2000)) (measured_argument shown _ _ _ (v + 2 ^ 17) 0 c.in_ok-moment.moment m) (c.from_frac.ensures.encloses.narrow r) in
+    let days = c.sub-days.ensures.encloses.narrow r (argument 0) (constant (fraction_of NOON_2000))
+    (measured_argument shown _ _ _ (v + 2 ^ 17) 0 c.in_ok-moment.moment m) (c.from_frac.ensures.encloses.narrow r) in
     latitude_within shown _ v c.latitude_at.result e (c.latitude_at.ensures.narrow r days_of days (c.mul_frac-c.ensures.encloses.narrow r days_of days))

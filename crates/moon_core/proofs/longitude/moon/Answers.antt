@@ -8,7 +8,7 @@ use Rattle.book_model.specs.programs.Programs.{answer, cell, multiples}
 use Rattle.book_model.specs.sky.Moon.{moon_of, moon_longitude_of}
 use Rattle.book_model.specs.sky.Time.{in_centuries as centuries_from}
 use Rattle.sun_core.specs.Daily.{in_centuries}
-use Rattle.width_laws.proofs.Measuring.{measured_argument}
+use Rattle.greatest_widths.proofs.Measuring.{measured_argument}
 use Rattle.sun_core.proofs.Elapsed.{by_dynamical}
 use Rattle.sun_core.proofs.Measured.{tabled, days_of}
 use Rattle.moon_core.proofs.Measured.{left_answer, longitude_within}
@@ -17,7 +17,8 @@ use Rattle.moon_core.proofs.longitude.moon.Goals as goal
 pub returns-clause-leads : goal.returns-clause-leads
 unfolding moon_of centuries_from in_centuries
 returns-clause-leads g c = λ w x h.
-    by_dynamical x (λ v. cell MoonWrap (multiples 360) (moon_longitude_of v) (λ q. answer (remainder 360 (moon_longitude_of v) q))) (c.in_ok-moment.ensures.leads w x h)
+    by_dynamical x (λ v. cell MoonWrap (multiples 360) (moon_longitude_of v) (λ q. answer (remainder 360 (moon_longitude_of v) q)))
+    (c.in_ok-moment.ensures.leads w x h)
     (λ d r.
     let days = c.sub-days.ensures.encloses.holds w d (constant (fraction_of NOON_2000)) r (c.from_frac.ensures.encloses.holds w r.deep) in
     c.wrap_step.ensures.leads w (moon_longitude_of (in_centuries (subtract d (constant (fraction_of NOON_2000)))))
@@ -29,7 +30,8 @@ returns-clause-measured g c = λ v e b h.
     let shown = g.E.Enclosure.shown in
     let r : Reach = record { width = v + 2 ^ 17; bounds = tabled } in
     let m = c.in_ok-moment.ensures.measured v e (omega (arith, b)) h in
-    let days = c.sub-days.ensures.encloses.narrow r (argument 0) (constant (fraction_of NOON_2000)) (measured_argument shown _ _ _ (v + 2 ^ 17) 0 c.in_ok-moment.moment m) (c.from_frac.ensures.encloses.narrow r) in
+    let days = c.sub-days.ensures.encloses.narrow r (argument 0) (constant (fraction_of NOON_2000))
+    (measured_argument shown _ _ _ (v + 2 ^ 17) 0 c.in_ok-moment.moment m) (c.from_frac.ensures.encloses.narrow r) in
     let y = c.longitude.ensures.narrow r days_of days (c.mul_frac-c.ensures.encloses.narrow r days_of days) in
     c.wrap_step.ensures.measured (20 * v + 2 ^ 36) e (omega (arith, b)) (longitude_within shown _ v c.longitude.result e y)
 
@@ -39,6 +41,8 @@ returns-clause-wide g c = λ v e b h.
     let shown = g.E.Enclosure.shown in
     let r : Reach = record { width = v + 2 ^ 17; bounds = tabled } in
     let m = c.in_ok-moment.ensures.measured v e (omega (arith, b)) h in
-    let days = c.sub-days.ensures.encloses.narrow r (argument 0) (constant (fraction_of NOON_2000)) (measured_argument shown _ _ _ (v + 2 ^ 17) 0 c.in_ok-moment.moment m) (c.from_frac.ensures.encloses.narrow r) in
+    let days = c.sub-days.ensures.encloses.narrow r (argument 0) (constant (fraction_of NOON_2000))
+    (measured_argument shown _ _ _ (v + 2 ^ 17) 0 c.in_ok-moment.moment m) (c.from_frac.ensures.encloses.narrow r) in
     let y = c.longitude.ensures.narrow r days_of days (c.mul_frac-c.ensures.encloses.narrow r days_of days) in
-    left_answer shown _ 360 (20 * v + 2 ^ 36) c.longitude.result c.wrap_step.result e (omega arith) (longitude_within shown _ v c.longitude.result e y) c.wrap_step.ensures.narrow
+    left_answer shown _ 360 (20 * v + 2 ^ 36) c.longitude.result c.wrap_step.result e (omega arith) (longitude_within shown _ v c.longitude.result e y)
+    c.wrap_step.ensures.narrow

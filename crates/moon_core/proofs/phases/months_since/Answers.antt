@@ -7,4 +7,5 @@ pub returns-clause-measured : goal.returns-clause-measured
 returns-clause-measured g c = λ l u v e b h.
     let f : SFits w64 c.args.n = c.ranges.n in
     let m = simp to_z-of_z at c.in_ok-moment.ensures.measured in
-    months_within g.E.Enclosure.shown _ v c.args.t c.in_ok-moment.moment c.sub.result c.mul_frac.result e h (m l u e) (λ r p q. c.sub.ensures.encloses.narrow r p q) (λ r p. c.mul_frac.ensures.encloses.narrow r p)
+    months_within g.E.Enclosure.shown _ v c.args.t c.in_ok-moment.moment c.sub.result c.mul_frac.result e h (m l u e)
+    (λ r p q. c.sub.ensures.encloses.narrow r p q) (λ r p. c.mul_frac.ensures.encloses.narrow r p)

@@ -13,7 +13,8 @@ returns-clause-early g c = λ z.
     let w = world_of (shown c.args.t) (g.E.Enclosure.proper c.args.t) in
     let i = within_world shown g.E.Enclosure.proper c.args.t in
     let l = c.in_ok-by_longitudes.ensures.leads w (argument 0) i in
-    late_failure (shown c.args.t) c.corrected.result (three_made w (elongation_least (argument 0)) z l) (c.corrected.ensures.leads w (argument 0) _ i (leaf_within l))
+    late_failure (shown c.args.t) c.corrected.result (three_made w (elongation_least (argument 0)) z l)
+    (c.corrected.ensures.leads w (argument 0) _ i (leaf_within l))
 
 pub returns-in_err-by_longitudes-clause-early : goal.returns-in_err-by_longitudes-clause-early
 returns-in_err-by_longitudes-clause-early g c = λ z.

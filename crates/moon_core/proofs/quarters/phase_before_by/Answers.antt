@@ -31,8 +31,10 @@ pub returns-clause-measured : goal.returns-clause-measured
 returns-clause-measured g c = λ v e b h k.
     let shown = g.E.Enclosure.shown in
     let p = c.in_ok-past.ensures.measured v e (omega (arith, b)) h k in
-    let a = back_within shown _ v c.args.t c.in_ok-past.past c.phase_back.result e c.in_ok-past.ensures.in_table k p (λ r p q. c.phase_back.ensures.encloses.narrow r p q) in
-    passage_measured shown v c.phase_about.result (c.phase_about.ensures.measured (3 * v + (2 ^ 34 - 2 ^ 24)) e (omega (arith, b)) h (moment_wider v (3 * v + (2 ^ 34 - 2 ^ 24)) _ (omega arith) k) a)
+    let a = back_within shown _ v c.args.t c.in_ok-past.past c.phase_back.result e c.in_ok-past.ensures.in_table k p
+    (λ r p q. c.phase_back.ensures.encloses.narrow r p q) in
+    passage_measured shown v c.phase_about.result (c.phase_about.ensures.measured (3 * v + (2 ^ 34 - 2 ^ 24)) e (omega (arith, b)) h
+    (moment_wider v (3 * v + (2 ^ 34 - 2 ^ 24)) _ (omega arith) k) a)
 
 pub returns-in_err-past-clause-measured : goal.returns-in_err-past-clause-measured
 returns-in_err-past-clause-measured g c = λ v e b h k.

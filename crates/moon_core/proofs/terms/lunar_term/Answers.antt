@@ -11,7 +11,8 @@ returns-clause-holds g c = λ w a d h.
     let d1 : SFits w64 c.args.elongation = c.ranges.elongation in
     let d3 : SFits w64 c.args.moon_anomaly = c.ranges.moon_anomaly in
     let d4 : SFits w64 c.args.latitude_argument = c.ranges.latitude_argument in
-    let s = rw c.size_of.ensures.size at (c.times_power.ensures.encloses.holds w a.eccentricity _ h.eccentricity (c.sin_deg-sine.ensures.encloses.holds w _ (c.lunar_angle.ensures.holds w a h))) in
+    let s = rw c.size_of.ensures.size at (c.times_power.ensures.encloses.holds w a.eccentricity _ h.eccentricity
+    (c.sin_deg-sine.ensures.encloses.holds w _ (c.lunar_angle.ensures.holds w a h))) in
     simp to_z-of_z at (c.times.ensures.encloses.holds w _ s)
 
 pub returns-clause-narrow : goal.returns-clause-narrow
@@ -22,5 +23,6 @@ returns-clause-narrow g c = λ r a h.
     let d1 : SFits w64 c.args.elongation = c.ranges.elongation in
     let d3 : SFits w64 c.args.moon_anomaly = c.ranges.moon_anomaly in
     let d4 : SFits w64 c.args.latitude_argument = c.ranges.latitude_argument in
-    let s = rw c.size_of.ensures.size at (c.times_power.ensures.encloses.narrow r a.eccentricity _ h.eccentricity (c.sin_deg-sine.ensures.encloses.narrow r _ (c.lunar_angle.ensures.narrow r a h))) in
+    let s = rw c.size_of.ensures.size at (c.times_power.ensures.encloses.narrow r a.eccentricity _ h.eccentricity
+    (c.sin_deg-sine.ensures.encloses.narrow r _ (c.lunar_angle.ensures.narrow r a h))) in
     simp to_z-of_z at (c.times.ensures.encloses.narrow r _ s)

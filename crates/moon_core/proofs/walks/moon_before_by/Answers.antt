@@ -16,7 +16,8 @@ returns-clause-leads g c = λ w x h.
     let m = simp to_z-of_z at c.in_ok-next.ensures.from in
     let n = simp to_z-of_z at c.in_ok-next.ensures.to in
     let b : SFits w64 c.in_ok-next.next = omega (arith, ints, l, u, m, n) in
-    leads_bind_exact _ (c.in_ok-about.ensures.leads w x h) (leads_bind_exact _ (simp to_z-of_z at (c.in_ok-next.ensures.leads w x h)) (simp to_z-of_z at (c.moon_preceding.ensures.leads w h.deep)))
+    leads_bind_exact _ (c.in_ok-about.ensures.leads w x h) (leads_bind_exact _ (simp to_z-of_z at (c.in_ok-next.ensures.leads w x h))
+    (simp to_z-of_z at (c.moon_preceding.ensures.leads w h.deep)))
 
 pub returns-in_err-about-clause-recent : goal.returns-in_err-about-clause-recent
 returns-in_err-about-clause-recent g c = λ v e b h.

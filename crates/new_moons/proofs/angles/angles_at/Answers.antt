@@ -9,6 +9,7 @@ returns-clause-measured g c = λ e h.
     record {
       sun_anomaly = polynomial_within shown _ NEW_MOON_SUN_ANOMALY _ _ _ _ c.at_fraction.result e h sun_small (λ F. c.at_fraction.ensures.measured F);
       moon_anomaly = polynomial_within shown _ NEW_MOON_ANOMALY _ _ _ _ c.at_fraction-2.result e h moon_small (λ F. c.at_fraction-2.ensures.measured F);
-      latitude_argument = polynomial_within shown _ NEW_MOON_LATITUDE_ARGUMENT _ _ _ _ c.at_fraction-3.result e h latitude_small (λ F. c.at_fraction-3.ensures.measured F);
+      latitude_argument = polynomial_within shown _ NEW_MOON_LATITUDE_ARGUMENT _ _ _ _ c.at_fraction-3.result e h latitude_small
+          (λ F. c.at_fraction-3.ensures.measured F);
       eccentricity = eccentricity_within shown _ c.from_frac.result c.quadratic.result e t (λ r x. c.quadratic.ensures.encloses.narrow r x);
     }

@@ -8,7 +8,8 @@ use Rattle.new_moons.proofs.moons.new_moon.Goals as goal
 pub returns-in-Some-clause-leads : goal.returns-in-Some-clause-leads
 returns-in-Some-clause-leads g c =
     let f : SFits w64 c.args.n = search rules in
-    taken_with_test c.in-Some.moment c.args.trail.now.count c.step.new.self.count c.step.ensures.counted (simp to_z-of_z at c.in-Some.ensures.evaluated) c.from_span.ensures.holds
+    taken_with_test c.in-Some.moment c.args.trail.now.count c.step.new.self.count c.step.ensures.counted (simp to_z-of_z at c.in-Some.ensures.evaluated)
+    c.from_span.ensures.holds
 
 pub returns-in-Some-clause-measured : goal.returns-in-Some-clause-measured
 returns-in-Some-clause-measured g c =

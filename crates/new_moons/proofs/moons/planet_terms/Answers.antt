@@ -8,4 +8,5 @@ pub returns-clause-measured : goal.returns-clause-measured
 unfolding planet_terms_of
 returns-clause-measured g c = λ e l h.
     let f : SFits w64 c.args.number = c.ranges.number in
-    planets_within g.E.Enclosure.shown _ c.args.number c.sum_of_terms.result e l h (λ r. c.sum_of_terms.ensures.narrow r c.args.number no_planet_term (simp to_z-of_z refl))
+    planets_within g.E.Enclosure.shown _ c.args.number c.sum_of_terms.result e l h
+    (λ r. c.sum_of_terms.ensures.narrow r c.args.number no_planet_term (simp to_z-of_z refl))

@@ -8,7 +8,8 @@ abbrev pub invariant-loop-reached : goal.invariant-loop-reached
 invariant-loop-reached g l =
     (2 ≤ l.reached) × (l.reached ≤ l.exponent)
     × ((w : World) (f : Expression) → Within g.E.Enclosure.shown w f l.factor → Within g.E.Enclosure.shown w (power f l.reached) l.power)
-    × ((r : Reach) (f : Expression) → Narrow g.E.Enclosure.shown (limits_of g.E.Enclosure.BITS) r f l.factor → Narrow g.E.Enclosure.shown (limits_of g.E.Enclosure.BITS) r (power f l.reached) l.power)
+    × ((r : Reach) (f : Expression) → Narrow g.E.Enclosure.shown (limits_of g.E.Enclosure.BITS) r f l.factor
+    → Narrow g.E.Enclosure.shown (limits_of g.E.Enclosure.BITS) r (power f l.reached) l.power)
 
 abbrev pub decreases-loop-reached : goal.decreases-loop-reached
 decreases-loop-reached g l = l.exponent - l.reached

@@ -1,7 +1,7 @@
 use Rattle.std.proofs.Common.{◌≡◌, arith, SFits, pos, ◌^◌, ◌*ℤ◌, ◌+ℤ◌, refl}
 use Rattle.std.specs.Int.{w128}
 use Rattle.std.proofs.lemmas.Int.{ints, to_z-of_z}
-use Rattle.scaled_ends.proofs.Scaling.{bounded_z}
+use Rattle.interval_ends.proofs.Scaling.{bounded_z}
 use Rattle.new_moons.proofs.terms.planet_angle.Goals as goal
 
 pub overflow_add-result : goal.overflow_add-result
@@ -12,7 +12,8 @@ overflow_add-result c =
     let e : c.from.result ≡ c.args.phase = simp to_z-of_z at c.from.ensures in
     let h : c.from-2.result ≡ c.args.rate = simp to_z-of_z at c.from-2.ensures in
     let k : c.from-3.result ≡ c.args.number = simp to_z-of_z at c.from-3.ensures in
-    let p = bounded_z c.args.rate c.args.number (pos (2 ^ 63)) (pos (2 ^ 63)) (omega (arith, ints)) (omega (arith, ints)) (omega (arith, ints)) (omega (arith, ints)) in
+    let p = bounded_z c.args.rate c.args.number (pos (2 ^ 63)) (pos (2 ^ 63)) (omega (arith, ints)) (omega (arith, ints)) (omega (arith, ints))
+    (omega (arith, ints)) in
     let ga : SFits w128 c.args.phase = omega (arith, ints) in
     let gb : SFits w128 c.args.rate = omega (arith, ints) in
     let gd : SFits w128 c.args.number = omega (arith, ints) in
@@ -29,7 +30,8 @@ returns c =
     let e : c.from.result ≡ c.args.phase = simp to_z-of_z at c.from.ensures in
     let h : c.from-2.result ≡ c.args.rate = simp to_z-of_z at c.from-2.ensures in
     let k : c.from-3.result ≡ c.args.number = simp to_z-of_z at c.from-3.ensures in
-    let p = bounded_z c.args.rate c.args.number (pos (2 ^ 63)) (pos (2 ^ 63)) (omega (arith, ints)) (omega (arith, ints)) (omega (arith, ints)) (omega (arith, ints)) in
+    let p = bounded_z c.args.rate c.args.number (pos (2 ^ 63)) (pos (2 ^ 63)) (omega (arith, ints)) (omega (arith, ints)) (omega (arith, ints))
+    (omega (arith, ints)) in
     let ga : SFits w128 c.args.phase = omega (arith, ints) in
     let gb : SFits w128 c.args.rate = omega (arith, ints) in
     let gd : SFits w128 c.args.number = omega (arith, ints) in

@@ -15,4 +15,7 @@ returns c =
     let fm = c.ranges.month in
     let before = simp to_z-of_z at c.days_before.ensures.days in
     let near = twelve_months c.args.month (record { from = c.requires.from_first_month; to = c.requires.to_last_month }) in
-    record { day = omega (arith, ints, before, near.from, near.to); near = (omega (arith, ints, before, near.from, near.to), omega (arith, ints, before, near.from, near.to)) }
+    record {
+      day = omega (arith, ints, before, near.from, near.to);
+      near = (omega (arith, ints, before, near.from, near.to), omega (arith, ints, before, near.from, near.to));
+    }

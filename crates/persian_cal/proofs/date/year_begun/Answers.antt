@@ -10,7 +10,10 @@ overflow_add-result c =
     let fr : SFits w64 c.years_of_days.result = search rules in
     let fm : SFits w64 (c.args.first -ℤ pos 226896) = omega (arith, ints, c.requires.first.0, c.requires.first.1) in
     let e = simp to_z-of_z at c.years_of_days.ensures.years in
-    let n = years_near (c.args.first -ℤ pos 226896) (record { from = omega (arith, ints, c.requires.first.0, c.requires.first.1); to = omega (arith, ints, c.requires.first.0, c.requires.first.1) }) in
+    let n = years_near (c.args.first -ℤ pos 226896) (record {
+      from = omega (arith, ints, c.requires.first.0, c.requires.first.1);
+      to = omega (arith, ints, c.requires.first.0, c.requires.first.1);
+    }) in
     simp to_z-of_z (omega (arith, ints, e, n.from, n.to))
 
 pub returns : goal.returns
@@ -20,6 +23,9 @@ returns c =
     let fr : SFits w64 c.years_of_days.result = search rules in
     let fm : SFits w64 (c.args.first -ℤ pos 226896) = omega (arith, ints, c.requires.first.0, c.requires.first.1) in
     let e = simp to_z-of_z at c.years_of_days.ensures.years in
-    let n = years_near (c.args.first -ℤ pos 226896) (record { from = omega (arith, ints, c.requires.first.0, c.requires.first.1); to = omega (arith, ints, c.requires.first.0, c.requires.first.1) }) in
+    let n = years_near (c.args.first -ℤ pos 226896) (record {
+      from = omega (arith, ints, c.requires.first.0, c.requires.first.1);
+      to = omega (arith, ints, c.requires.first.0, c.requires.first.1);
+    }) in
     let fs : SFits w64 (pos 1 +ℤ c.years_of_days.result) = omega (arith, ints, e, n.from, n.to) in
     simp to_z-of_z (record { year = omega (arith, ints, e); near = (omega (arith, ints, e, n.from, n.to), omega (arith, ints, e, n.from, n.to)) })

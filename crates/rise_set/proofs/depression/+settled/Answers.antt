@@ -20,7 +20,8 @@ pub returns-clause-leads : goal.returns-clause-leads
 returns-clause-leads g r c = λ w a x h k.
     let l = c.in_ok-new.ensures.leads w a x h k in
     let s = rw c.if-branch.false at (c.in_ok-has_settled.ensures.leads w x _ k (leaf_within l)) in
-    rw (settled_more c.args.more _ _ a x (omega (arith, c.if-more-eq0.false))) (leads_on _ l (leads_bind_exact _ s (c.settled.ensures.leads w a _ h (leaf_within l))))
+    rw (settled_more c.args.more _ _ a x (omega (arith, c.if-more-eq0.false)))
+    (leads_on _ l (leads_bind_exact _ s (c.settled.ensures.leads w a _ h (leaf_within l))))
 
 pub returns-clause-measured : goal.returns-clause-measured
 returns-clause-measured g r c = λ p h e.

@@ -50,7 +50,8 @@ returns-in_err-minutes-clause-measured g c = λ e.
 
 pub returns-clause-recent : goal.returns-clause-recent
 returns-clause-recent g c = λ k e.
-    recent_found g.E.Enclosure.shown (at_depth 40) (5 * 2 ^ 8) (c.args.day -ℤ pos 25) (c.args.day +ℤ pos 38) (sunrise_of c.args.day) c.universal.result (omega arith) (omega (arith, ints, k)) (sunrise_near (at_depth 40) c.args.day)
+    recent_found g.E.Enclosure.shown (at_depth 40) (5 * 2 ^ 8) (c.args.day -ℤ pos 25) (c.args.day +ℤ pos 38) (sunrise_of c.args.day) c.universal.result
+    (omega arith) (omega (arith, ints, k)) (sunrise_near (at_depth 40) c.args.day)
     (returns-clause-leads g c (at_depth 40) (omega arith)) (returns-clause-measured g c e)
 
 pub returns-in_err-rising-clause-recent : goal.returns-in_err-rising-clause-recent

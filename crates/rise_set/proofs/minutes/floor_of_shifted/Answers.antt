@@ -23,7 +23,8 @@ pub returns-in-Err-clause-leads : goal.returns-in-Err-clause-leads
 returns-in-Err-clause-leads g c = λ w e h.
     let f : SFits w64 c.args.whole = c.ranges.whole in
     let m = simp to_z-of_z at c.shifted_failure.ensures.beside in
-    leads_failing c.args.whole c.args.site c.in-Err.fail c.shifted_failure.result _ _ h (c.in-Err.ensures.leads w e h) c.in-Err.ensures.counted c.in-Err.ensures.open m c.shifted_failure.ensures.bits
+    leads_failing c.args.whole c.args.site c.in-Err.fail c.shifted_failure.result _ _ h (c.in-Err.ensures.leads w e h) c.in-Err.ensures.counted
+    c.in-Err.ensures.open m c.shifted_failure.ensures.bits
 
 pub returns-in-Err-clause-close : goal.returns-in-Err-clause-close
 returns-in-Err-clause-close g c = λ v b h l m.

@@ -7,10 +7,12 @@ pub returns-clause-measured : goal.returns-clause-measured
 returns-clause-measured g c = λ p v e b h.
     let horizon = c.args.horizon.now in
     let d = c.in_ok-angle.ensures.measured (v + 2 ^ 10) e (omega (arith, b)) (c.universal.ensures.measured p.place v e (mean_local v _ h)) in
-    offset_within g.E.Enclosure.shown _ v horizon.tangent horizon.cosine horizon.sine c.in_ok-angle.angle c.offset_by.result e p.tangent p.cosine p.sine d (λ r x y z u. c.offset_by.ensures.narrow r x y z u)
+    offset_within g.E.Enclosure.shown _ v horizon.tangent horizon.cosine horizon.sine c.in_ok-angle.angle c.offset_by.result e p.tangent p.cosine p.sine d
+    (λ r x y z u. c.offset_by.ensures.narrow r x y z u)
 
 pub returns-clause-dated : goal.returns-clause-dated
-returns-clause-dated g c = λ p v e h. c.universal.ensures.dated p (v + 2 ^ 10) e (c.universal.ensures.measured p v e (mean_local v _ h)) c.in_ok-angle.ensures.in_table
+returns-clause-dated g c = λ p v e h. c.universal.ensures.dated p (v + 2 ^ 10) e (c.universal.ensures.measured p v e (mean_local v _ h))
+    c.in_ok-angle.ensures.in_table
 
 pub returns-in_err-angle-clause-measured : goal.returns-in_err-angle-clause-measured
 returns-in_err-angle-clause-measured g c = λ p v e b h.

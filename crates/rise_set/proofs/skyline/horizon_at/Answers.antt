@@ -4,7 +4,8 @@ use Rattle.rise_set.proofs.skyline.horizon_at.Goals as goal
 pub returns-clause-measured : goal.returns-clause-measured
 returns-clause-measured g c = λ e p d.
     let shown = g.E.Enclosure.shown in
-    let x = latitude_within shown _ c.args.location.now.latitude c.from_frac-latitude.result e p.latitude (λ r. c.from_frac-latitude.ensures.encloses.narrow r) in
+    let x = latitude_within shown _ c.args.location.now.latitude c.from_frac-latitude.result e p.latitude
+    (λ r. c.from_frac-latitude.ensures.encloses.narrow r) in
     record {
       place = p.place;
       tangent = tangent_within shown _ c.from_frac-latitude.result c.tan_deg.result e x (λ r q. c.tan_deg.ensures.encloses.narrow r q);

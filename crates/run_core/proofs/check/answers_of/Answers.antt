@@ -7,4 +7,7 @@ returns g c =
     let facts = c.in_ok-facts.ensures.facts in
     let pairs = c.entries.ensures.entries in
     let same = c.deref.ensures.value in
-    record { right = IfOk-weaker c.map_facts.result _ _ (λ answers h. right_answers c.args.file.now.facts answers (rw (same, facts, pairs) at h)) c.map_facts.ensures.right }
+    record {
+      right = IfOk-weaker c.map_facts.result _ _ (λ answers h. right_answers c.args.file.now.facts answers (rw (same, facts, pairs) at h))
+          c.map_facts.ensures.right;
+    }

@@ -18,4 +18,5 @@ returns-in_err-is_right-in-Ok-clause-memory g c e =
     kept_or_cut _ _ c.args.input.now c.in-Ok.file c.in-Ok.ensures (c.in_err-is_right-in-Ok.ensures.memory (same_stop _ _ (rw (fails.1, fails.2) at e)))
 
 pub returns-in-Err-clause-fault : goal.returns-in-Err-clause-fault
-returns-in-Err-clause-fault g c e = cut_bad c.in-Err-Bad.line c.in-Err-Bad.rule (rw c.in-Err-Bad.field-0-is at c.in-Err-Bad.ensures) (rw (← c.in-Err-Bad.line-is, ← c.in-Err-Bad.rule-is) c.in-Err.ensures.err)
+returns-in-Err-clause-fault g c e = cut_bad c.in-Err-Bad.line c.in-Err-Bad.rule (rw c.in-Err-Bad.field-0-is at c.in-Err-Bad.ensures)
+    (rw (← c.in-Err-Bad.line-is, ← c.in-Err-Bad.rule-is) c.in-Err.ensures.err)

@@ -9,7 +9,8 @@ pub sum-requires-clause-fits : goal.sum-requires-clause-fits
 sum-requires-clause-fits g c κs within xs h =
     let test = is_of c.map.result.f.0.now in
     let slice = ap (λ it. it.base.slice.now) c.map.ensures.base ∙ ap (λ it. it.slice.now) c.with_min_len.ensures.base ∙ c.par_iter.ensures in
-    rw (slice-map h.0 c.args.outcomes.now (h.1 ∙ slice) (λ o. if test (line_outcome o) then 1 else 0) xs h.2) (marks_fit line_outcome test c.args.outcomes.now c.requires.few)
+    rw (slice-map h.0 c.args.outcomes.now (h.1 ∙ slice) (λ o. if test (line_outcome o) then 1 else 0) xs h.2)
+    (marks_fit line_outcome test c.args.outcomes.now c.requires.few)
 
 pub returns : goal.returns
 returns g c =

@@ -21,13 +21,18 @@ returns-clause-leads g c = λ w l x h k.
 pub returns-clause-measured : goal.returns-clause-measured
 returns-clause-measured g c = λ v e b h k.
     let shown = g.E.Enclosure.shown in
-    let z = off_within shown _ v c.in_ok-there.there c.args.longitude c.sub.result e (c.in_ok-there.ensures.measured v e b k) h (λ r p q. c.sub.ensures.encloses.narrow r p q) c.from_int-half_turn.result c.add.result (λ r. c.from_int-half_turn.ensures.encloses.narrow r) (λ r p q. c.add.ensures.encloses.narrow r p q) in
+    let z = off_within shown _ v c.in_ok-there.there c.args.longitude c.sub.result e (c.in_ok-there.ensures.measured v e b k) h
+    (λ r p q. c.sub.ensures.encloses.narrow r p q) c.from_int-half_turn.result c.add.result (λ r. c.from_int-half_turn.ensures.encloses.narrow r)
+    (λ r p q. c.add.ensures.encloses.narrow r p q) in
     let p = c.in_ok-angle.ensures.measured (2 * v + 2 ^ 32) e (omega (arith, b)) z in
-    half_off shown _ (2 * v + 2 ^ 32) c.in_ok-angle.angle c.from_int-half_turn.result c.sub-2.result e p (λ r. c.from_int-half_turn.ensures.encloses.narrow r) (λ r p q. c.sub-2.ensures.encloses.narrow r p q)
+    half_off shown _ (2 * v + 2 ^ 32) c.in_ok-angle.angle c.from_int-half_turn.result c.sub-2.result e p (λ r. c.from_int-half_turn.ensures.encloses.narrow r)
+    (λ r p q. c.sub-2.ensures.encloses.narrow r p q)
 
 pub returns-in_err-angle-clause-measured : goal.returns-in_err-angle-clause-measured
 returns-in_err-angle-clause-measured g c = λ v e b h k.
     let shown = g.E.Enclosure.shown in
-    let z = off_within shown _ v c.in_ok-there.there c.args.longitude c.sub.result e (c.in_ok-there.ensures.measured v e b k) h (λ r p q. c.sub.ensures.encloses.narrow r p q) c.from_int-half_turn.result c.add.result (λ r. c.from_int-half_turn.ensures.encloses.narrow r) (λ r p q. c.add.ensures.encloses.narrow r p q) in
+    let z = off_within shown _ v c.in_ok-there.there c.args.longitude c.sub.result e (c.in_ok-there.ensures.measured v e b k) h
+    (λ r p q. c.sub.ensures.encloses.narrow r p q) c.from_int-half_turn.result c.add.result (λ r. c.from_int-half_turn.ensures.encloses.narrow r)
+    (λ r p q. c.add.ensures.encloses.narrow r p q) in
     let fails = err_from_is_err_and c.from_residual-in_err-angle.result c.from_residual-in_err-angle.ensures.1 in
     rw (fails.1, fails.2) (c.in_err-angle.ensures.measured (2 * v + 2 ^ 32) e (omega (arith, b)) z)

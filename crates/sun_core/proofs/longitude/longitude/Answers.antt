@@ -13,5 +13,7 @@ returns-clause-close g c = λ w e h k.
     let r : Reach = record { width = w; bounds = days_of_years } in
     let x = argument 0 in
     let n : Narrow g.E.Enclosure.shown (limits_of g.E.Enclosure.BITS) r (computed_longitude_of x) c.add-3.result =
-    c.add-3.ensures.encloses.narrow r _ _ (c.add-2.ensures.encloses.narrow r _ _ (c.add.ensures.encloses.narrow r _ _ (c.mean_longitude.ensures.narrow r x h) (c.sum_of_waves.ensures.narrow r x h)) (c.aberration.ensures.narrow r x h)) (c.nutation.ensures.encloses.narrow r _ k) in
+    c.add-3.ensures.encloses.narrow r _ _ (c.add-2.ensures.encloses.narrow r _ _
+    (c.add.ensures.encloses.narrow r _ _ (c.mean_longitude.ensures.narrow r x h) (c.sum_of_waves.ensures.narrow r x h)) (c.aberration.ensures.narrow r x h))
+    (c.nutation.ensures.encloses.narrow r _ k) in
     settled g.E.Enclosure.shown g.E.Enclosure.BITS w days_of_years (computed_longitude_of x) longitude_bound c.add-3.result e longitude_reaches n

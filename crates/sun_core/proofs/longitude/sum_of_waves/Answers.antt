@@ -6,7 +6,8 @@ use Rattle.sun_core.proofs.longitude.sum_of_waves.Goals as goal
 pub returns-clause-holds : goal.returns-clause-holds
 unfolding periodic_of
 returns-clause-holds g c = λ w x h.
-    unit_holds g.E.Enclosure.shown w _ _ (c.mul_frac-2.ensures.encloses.holds w _ (c.mul_frac.ensures.encloses.holds w _ (c.sum_of_terms.ensures.holds w x no_wave h.deep h)))
+    unit_holds g.E.Enclosure.shown w _ _ (c.mul_frac-2.ensures.encloses.holds w _
+    (c.mul_frac.ensures.encloses.holds w _ (c.sum_of_terms.ensures.holds w x no_wave h.deep h)))
 
 pub returns-clause-narrow : goal.returns-clause-narrow
 unfolding computed_periodic_of

@@ -9,7 +9,7 @@ use Rattle.sun_core.specs.Daily.{in_centuries}
 use Rattle.sun_core.proofs.Elapsed.{by_dynamical}
 use Rattle.std.proofs.Common.{arith, ◌+◌, ◌*◌, ◌^◌}
 use Rattle.book_model.specs.numbers.Bounds.{Reach}
-use Rattle.width_laws.proofs.Measuring.{measured_argument}
+use Rattle.greatest_widths.proofs.Measuring.{measured_argument}
 use Rattle.sun_core.proofs.Measured.{tabled, days_of, longitude_within}
 use Rattle.sun_core.proofs.longitude.sun.Goals as goal
 
@@ -28,6 +28,7 @@ returns-clause-measured g c = λ v e b h.
     let shown = g.E.Enclosure.shown in
     let r : Reach = record { width = v + 2 ^ 17; bounds = tabled } in
     let m = c.in_ok-moment.ensures.measured v e (omega (arith, b)) h in
-    let days = c.sub-days.ensures.encloses.narrow r (argument 0) (constant (fraction_of NOON_2000)) (measured_argument shown _ _ _ (v + 2 ^ 17) 0 c.in_ok-moment.moment m) (c.from_frac.ensures.encloses.narrow r) in
+    let days = c.sub-days.ensures.encloses.narrow r (argument 0) (constant (fraction_of NOON_2000))
+    (measured_argument shown _ _ _ (v + 2 ^ 17) 0 c.in_ok-moment.moment m) (c.from_frac.ensures.encloses.narrow r) in
     let y = c.longitude.ensures.narrow r days_of days (c.mul_frac-c.ensures.encloses.narrow r days_of days) in
     c.wrap_step.ensures.measured (2 * v + 2 ^ 32) e (omega (arith, b)) (longitude_within shown _ v c.longitude.result e b y)

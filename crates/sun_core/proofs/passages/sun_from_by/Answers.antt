@@ -15,5 +15,7 @@ pub returns-clause-measured : goal.returns-clause-measured
 returns-clause-measured g c = λ v e b h k.
     let shown = g.E.Enclosure.shown in
     let s = c.in_ok-short.ensures.measured v e (omega (arith, b)) h k in
-    let a = forward_within shown _ v c.args.t c.in_ok-short.short c.moved_on.result e c.in_ok-short.ensures.in_table k s (λ r p q. c.moved_on.ensures.encloses.narrow r p q) in
-    passage_measured shown v c.passage_about.result (c.passage_about.ensures.measured (4 * v + (2 ^ 33 - 2 ^ 24)) e (omega (arith, b)) h (moment_wider v (4 * v + (2 ^ 33 - 2 ^ 24)) _ (omega arith) k) a)
+    let a = forward_within shown _ v c.args.t c.in_ok-short.short c.moved_on.result e c.in_ok-short.ensures.in_table k s
+    (λ r p q. c.moved_on.ensures.encloses.narrow r p q) in
+    passage_measured shown v c.passage_about.result (c.passage_about.ensures.measured (4 * v + (2 ^ 33 - 2 ^ 24)) e (omega (arith, b)) h
+    (moment_wider v (4 * v + (2 ^ 33 - 2 ^ 24)) _ (omega arith) k) a)

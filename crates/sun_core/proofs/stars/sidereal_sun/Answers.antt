@@ -12,7 +12,9 @@ returns-clause-measured g c = λ v e l h.
     let shown = g.E.Enclosure.shown in
     let s = c.in_ok-longitude.ensures.measured v e l (recent_moment v _ h) in
     let p = c.in_ok-moved.ensures.measured v e l h in
-    c.wrapped_sidereal.ensures.measured (3 * v + 2 ^ 34) e (omega (arith, l)) (star_within shown _ v c.in_ok-longitude.longitude c.in_ok-moved.moved c.sidereal_by.result e s p (λ r y z. c.sidereal_by.ensures.encloses.narrow r y z))
+    c.wrapped_sidereal.ensures.measured (3 * v + 2 ^ 34) e (omega (arith, l))
+    (star_within shown _ v c.in_ok-longitude.longitude c.in_ok-moved.moved c.sidereal_by.result e s p
+    (λ r y z. c.sidereal_by.ensures.encloses.narrow r y z))
 
 pub returns-in_err-longitude-clause-measured : goal.returns-in_err-longitude-clause-measured
 returns-in_err-longitude-clause-measured g c = λ v e l h.

@@ -11,7 +11,8 @@ returns-in-Some-clause-leads g c =
     taken_without_test c.in-Some.days c.args.trail.now.count (simp to_z-of_z at c.in-Some.ensures.evaluated) c.from_span.ensures.holds
 
 pub returns-in-Some-clause-measured : goal.returns-in-Some-clause-measured
-returns-in-Some-clause-measured g c = taken_about g.E.Enclosure.shown _ c.in-Some.days c.from_span.result (rw c.BITS.ensures at c.in-Some.ensures.measured) c.from_span.ensures.narrow
+returns-in-Some-clause-measured g c = taken_about g.E.Enclosure.shown _ c.in-Some.days c.from_span.result (rw c.BITS.ensures at c.in-Some.ensures.measured)
+    c.from_span.ensures.narrow
 
 pub returns-in-None-clause-measured : goal.returns-in-None-clause-measured
 returns-in-None-clause-measured g c = λ e. correction_looser g.E.Enclosure.shown c.kept_correction.result (c.kept_correction.ensures.measured e)

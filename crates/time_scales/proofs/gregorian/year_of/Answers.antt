@@ -23,7 +23,8 @@ returns c =
     let q = division_is c.args.day c.div_euclid-times.result (simp to_z-of_z at c.div_euclid-times.ensures) in
     let ft : SFits w64 c.div_euclid-times.result = omega (arith, ints, c.requires.from, c.requires.to, q.not_above, q.close) in
     let fm : SFits w64 (c.div_euclid-times.result *ℤ pos 400) = omega (arith, ints, c.requires.from, c.requires.to, q.not_above, q.close) in
-    let fs : SFits w64 (c.div_euclid-times.result *ℤ pos 400 +ℤ c.year_of_date.result) = omega (arith, ints, c.requires.from, c.requires.to, q.not_above, q.close, c.year_of_date.ensures.from, c.year_of_date.ensures.to) in
+    let fs : SFits w64 (c.div_euclid-times.result *ℤ pos 400 +ℤ c.year_of_date.result) = omega
+    (arith, ints, c.requires.from, c.requires.to, q.not_above, q.close, c.year_of_date.ensures.from, c.year_of_date.ensures.to) in
     let fp : SFits w128 (c.div_euclid-times.result *ℤ pos 146097) = omega (arith, ints, c.requires.from, c.requires.to, q.not_above, q.close) in
     let fe : SFits w128 (c.args.day -ℤ c.div_euclid-times.result *ℤ pos 146097) = omega (arith, ints, c.requires.from, c.requires.to, q.not_above, q.close) in
     let fl : SFits w64 (c.args.day -ℤ c.div_euclid-times.result *ℤ pos 146097) = omega (arith, ints, c.requires.from, c.requires.to, q.not_above, q.close) in

@@ -1,7 +1,7 @@
 use Rattle.std.proofs.Common.{refl}
 use Rattle.std.proofs.lemmas.Result.{IfOk-weaker, IfErr-weaker}
 use Rattle.time_scales.proofs.Years.{year_shared, open_shared, open_everywhere, leads_year_test, leads_open_year}
-use Rattle.width_laws.proofs.Closing.{not_all}
+use Rattle.greatest_widths.proofs.Closing.{not_all}
 use Rattle.time_scales.proofs.Measured.{year_close}
 use Rattle.time_scales.proofs.moment.year.Goals as goal
 
@@ -9,22 +9,27 @@ pub returns-in-Some-clause-leads : goal.returns-in-Some-clause-leads
 returns-in-Some-clause-leads g c = λ w x h.
     let s = c.in-Some.span in
     leads_year_test c.year_between.result _ _
-    (IfOk-weaker c.year_between.result _ _ (λ y d. year_shared s.lo s.hi y _ s.ordered c.in-Some.ensures.holds c.in-Some.ensures.tight d) c.year_between.ensures.decided)
-    (IfErr-weaker c.year_between.result _ _ (λ f o. open_shared s.lo s.hi _ _ _ f c.step-turn.ensures.number s.ordered c.in-Some.ensures.holds c.in-Some.ensures.tight o) c.year_between.ensures.open)
+    (IfOk-weaker c.year_between.result _ _ (λ y d. year_shared s.lo s.hi y _ s.ordered c.in-Some.ensures.holds c.in-Some.ensures.tight d)
+    c.year_between.ensures.decided)
+    (IfErr-weaker c.year_between.result _ _ (λ f o. open_shared s.lo s.hi _ _ _ f c.step-turn.ensures.number s.ordered c.in-Some.ensures.holds
+    c.in-Some.ensures.tight o) c.year_between.ensures.open)
     c.step-turn.ensures.counted h
 
 pub returns-in-Some-clause-decided : goal.returns-in-Some-clause-decided
 returns-in-Some-clause-decided g c =
     let s = c.in-Some.span in
-    IfOk-weaker c.year_between.result _ _ (λ y d. year_shared s.lo s.hi y _ s.ordered c.in-Some.ensures.holds c.in-Some.ensures.tight d) c.year_between.ensures.decided
+    IfOk-weaker c.year_between.result _ _ (λ y d. year_shared s.lo s.hi y _ s.ordered c.in-Some.ensures.holds c.in-Some.ensures.tight d)
+    c.year_between.ensures.decided
 
 pub returns-in-Some-clause-open : goal.returns-in-Some-clause-open
 returns-in-Some-clause-open g c =
     let s = c.in-Some.span in
-    IfErr-weaker c.year_between.result _ _ (λ f o. open_shared s.lo s.hi _ _ _ f c.step-turn.ensures.number s.ordered c.in-Some.ensures.holds c.in-Some.ensures.tight o) c.year_between.ensures.open
+    IfErr-weaker c.year_between.result _ _ (λ f o. open_shared s.lo s.hi _ _ _ f c.step-turn.ensures.number s.ordered c.in-Some.ensures.holds
+    c.in-Some.ensures.tight o) c.year_between.ensures.open
 
 pub returns-in-None-clause-leads : goal.returns-in-None-clause-leads
-returns-in-None-clause-leads g c = λ w x h. leads_open_year _ _ _ h (open_everywhere _ (c.in-None.ensures.none refl), refl, c.step-turn.ensures.number) c.step-turn.ensures.counted
+returns-in-None-clause-leads g c = λ w x h. leads_open_year _ _ _ h (open_everywhere _ (c.in-None.ensures.none refl), refl, c.step-turn.ensures.number)
+    c.step-turn.ensures.counted
 
 pub returns-in-None-clause-open : goal.returns-in-None-clause-open
 returns-in-None-clause-open g c = (open_everywhere _ (c.in-None.ensures.none refl), refl, c.step-turn.ensures.number)

@@ -9,7 +9,10 @@ year_of-requires c =
     let fm = c.ranges.moment in
     let fq : SFits w128 c.div_euclid.result = search rules in
     let q = day_is c.args.moment c.div_euclid.result (simp to_z-of_z at c.div_euclid.ensures) in
-    record { from = simp to_z-of_z (omega (arith, ints, fm.sfits, q.not_above, q.close)); to = simp to_z-of_z (omega (arith, ints, fm.sfits, q.not_above, q.close)) }
+    record {
+      from = simp to_z-of_z (omega (arith, ints, fm.sfits, q.not_above, q.close));
+      to = simp to_z-of_z (omega (arith, ints, fm.sfits, q.not_above, q.close));
+    }
 
 pub returns : goal.returns
 returns c =

@@ -6,7 +6,8 @@ use Rattle.trig_series.proofs.SineLemmas.{all_cosines_hold, quarter_holds, quart
 use Rattle.trig_series.proofs.degrees.cosine_over_span.Goals as goal
 
 pub returns-then-degrees-gt-FAR-clause-holds : goal.returns-then-degrees-gt-FAR-clause-holds
-returns-then-degrees-gt-FAR-clause-holds c = λ n l. all_cosines_hold n _ _ _ (order_at c.args.degrees.lo c.args.degrees.hi c.args.degrees.ordered) c.all_sines.ensures.low c.all_sines.ensures.high
+returns-then-degrees-gt-FAR-clause-holds c = λ n l. all_cosines_hold n _ _ _ (order_at c.args.degrees.lo c.args.degrees.hi c.args.degrees.ordered)
+    c.all_sines.ensures.low c.all_sines.ensures.high
 
 pub returns-clause-holds : goal.returns-clause-holds
 returns-clause-holds c =

@@ -36,7 +36,8 @@ returns-clause-holds c =
     let e' = simp to_z-of_z at c.max-2.ensures.value in
     let f' = simp to_z-of_z at c.min-high.ensures.value in
     let h = simp to_z-of_z at c.sine_over_degrees-sine.ensures.holds in
-    simp to_z-of_z (λ n l. cut_holds n _ c.sine_over_degrees-sine.result.lo c.sine_over_degrees-sine.result.hi c.max.result c.min-low.result c.max-2.result c.min-high.result (order_at c.args.lo c.args.hi c.requires.ordered) (h n l) e f e' f')
+    simp to_z-of_z (λ n l. cut_holds n _ c.sine_over_degrees-sine.result.lo c.sine_over_degrees-sine.result.hi c.max.result c.min-low.result c.max-2.result
+    c.min-high.result (order_at c.args.lo c.args.hi c.requires.ordered) (h n l) e f e' f')
 
 pub returns-clause-narrow : goal.returns-clause-narrow
 returns-clause-narrow c =
@@ -56,4 +57,5 @@ returns-clause-narrow c =
     let s = simp to_z-of_z at c.sine_over_degrees-sine.ensures.small in
     let t = simp to_z-of_z at c.sine_over_degrees-sine.ensures.crest in
     let i = simp to_z-of_z at c.sine_over_degrees-sine.ensures.inside in
-    simp to_z-of_z (cut_narrow c.args.lo c.args.hi c.sine_over_degrees-sine.result.lo c.sine_over_degrees-sine.result.hi c.max.result c.min-low.result c.max-2.result c.min-high.result c.requires.ordered e f e' f' n s t i)
+    simp to_z-of_z (cut_narrow c.args.lo c.args.hi c.sine_over_degrees-sine.result.lo c.sine_over_degrees-sine.result.hi c.max.result c.min-low.result
+    c.max-2.result c.min-high.result c.requires.ordered e f e' f' n s t i)

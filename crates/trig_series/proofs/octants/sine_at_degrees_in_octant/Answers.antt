@@ -14,7 +14,8 @@ returns-clause-holds c =
     let fm : SFits w128 (c.args.degrees -ℤ c.args.octant *ℤ pos 3242591731706757120) = omega (arith, ints, c.requires) in
     let v = simp to_z-of_z at c.octant_in_turn.ensures.value in
     let k = simp to_z-of_z at c.sine_into_octant_of_turn.ensures.holds in
-    let u : pos (unsigned_abs (c.args.degrees -ℤ c.args.octant *ℤ pos 3242591731706757120)) ≡ c.args.degrees -ℤ c.args.octant *ℤ pos 3242591731706757120 = count_of _ (omega (arith, ints, c.requires.low)) in
+    let u : pos (unsigned_abs (c.args.degrees -ℤ c.args.octant *ℤ pos 3242591731706757120)) ≡ c.args.degrees -ℤ c.args.octant
+    *ℤ pos 3242591731706757120 = count_of _ (omega (arith, ints, c.requires.low)) in
     λ n y l same. at_in_turn n c.args.octant c.octant_in_turn.result c.args.degrees y _ v same (λ z e. k n z l (rw u e))
 
 pub returns-clause-near : goal.returns-clause-near

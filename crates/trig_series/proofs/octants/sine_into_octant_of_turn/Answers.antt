@@ -11,7 +11,8 @@ returns-then-octant-ge4-clause-holds c = λ n y l e.
     let fo = c.ranges.octant in
     let fm : SFits w128 (c.args.octant -ℤ pos 4) = omega (arith, ints, c.requires) in
     let h = simp to_z-of_z at c.sine_into_octant_of_half_turn.ensures.holds in
-    into_later n c.args.octant y _ (omega (arith, ints, c.if-octant-ge4.true)) (span_opposite _ _ _ _ _ c.opposite.ensures.low c.opposite.ensures.high (h n y l e))
+    into_later n c.args.octant y _ (omega (arith, ints, c.if-octant-ge4.true))
+    (span_opposite _ _ _ _ _ c.opposite.ensures.low c.opposite.ensures.high (h n y l e))
 
 pub returns-then-octant-ge4-clause-near : goal.returns-then-octant-ge4-clause-near
 returns-then-octant-ge4-clause-near c =

@@ -1,7 +1,7 @@
 use Rattle.std.proofs.Common.{rules, arith, SFits, pos, ◌+ℤ◌, ◌*ℤ◌}
 use Rattle.std.specs.Int.{w128}
 use Rattle.std.proofs.lemmas.Int.{ints, to_z-of_z}
-use Rattle.book_model.specs.programs.Leading.{at_56}
+use Rattle.book_model.specs.programs.Leading.{units_of_56}
 use Rattle.book_model.specs.numbers.Octants.{sine_in as in_octant}
 use Rattle.trig_series.proofs.OctantLemmas.{division_is, first_alone, over_holds, first_alone_is, last_alone_is, edge_below, edge_above}
 use Rattle.trig_series.proofs.PartLemmas.{begun_elsewhere, ended_elsewhere, by_inside}
@@ -16,7 +16,8 @@ sine_over_edges-requires-clause-several c =
     let e = simp to_z-of_z at c.octants_in-octant.ensures.value in
     let q = division_is c.args.lo c.octants_in-octant.result e in
     let fp : SFits w128 (c.octants_in-octant.result *ℤ pos 3242591731706757120) = omega (arith, ints, c.requires, q.not_above, q.close) in
-    let fn : SFits w128 (c.octants_in-octant.result *ℤ pos 3242591731706757120 +ℤ pos 3242591731706757120) = omega (arith, ints, c.requires, q.not_above, q.close) in
+    let fn : SFits w128 (c.octants_in-octant.result *ℤ pos 3242591731706757120 +ℤ pos 3242591731706757120) = omega
+    (arith, ints, c.requires, q.not_above, q.close) in
     let l = simp to_z-of_z at c.if-lo-edge.true in
     simp to_z-of_z (edge_below c.octants_in-octant.result c.args.lo c.args.hi (omega (arith, ints, q.not_above)) (omega (arith, ints, l)) c.requires.ordered)
 
@@ -28,7 +29,8 @@ sine_over_edges-requires-then-hi-edge-clause-several c =
     let e = simp to_z-of_z at c.octants_in-octant.ensures.value in
     let q = division_is c.args.lo c.octants_in-octant.result e in
     let fp : SFits w128 (c.octants_in-octant.result *ℤ pos 3242591731706757120) = omega (arith, ints, c.requires, q.not_above, q.close) in
-    let fn : SFits w128 (c.octants_in-octant.result *ℤ pos 3242591731706757120 +ℤ pos 3242591731706757120) = omega (arith, ints, c.requires, q.not_above, q.close) in
+    let fn : SFits w128 (c.octants_in-octant.result *ℤ pos 3242591731706757120 +ℤ pos 3242591731706757120) = omega
+    (arith, ints, c.requires, q.not_above, q.close) in
     let u = simp to_z-of_z at c.if-hi-edge.true in
     simp to_z-of_z (edge_above c.octants_in-octant.result c.args.lo c.args.hi (omega (arith, ints, q.close)) (omega (arith, ints, u)))
 
@@ -76,7 +78,8 @@ returns-clause-holds c =
     let e = simp to_z-of_z at c.octants_in-octant.ensures.value in
     let q = division_is c.args.lo c.octants_in-octant.result e in
     let fp : SFits w128 (c.octants_in-octant.result *ℤ pos 3242591731706757120) = omega (arith, ints, c.requires, q.not_above, q.close) in
-    let fn : SFits w128 (c.octants_in-octant.result *ℤ pos 3242591731706757120 +ℤ pos 3242591731706757120) = omega (arith, ints, c.requires, q.not_above, q.close) in
+    let fn : SFits w128 (c.octants_in-octant.result *ℤ pos 3242591731706757120 +ℤ pos 3242591731706757120) = omega
+    (arith, ints, c.requires, q.not_above, q.close) in
     let l = simp to_z-of_z at c.if-lo-edge.false in
     let u = simp to_z-of_z at c.if-hi-edge.false in
     let h = simp to_z-of_z at c.sine_within_octant.ensures.holds in
@@ -84,7 +87,8 @@ returns-clause-holds c =
     over_holds n c.args.lo c.args.hi c.octants_in-octant.result c.octants_in-octant.result _ _ m c.requires.ordered
     (first_alone_is c.octants_in-octant.result c.args.lo (omega (arith, ints, l)) (omega (arith, ints, u, c.requires.ordered)))
     (last_alone_is c.octants_in-octant.result c.args.hi (omega (arith, ints, l, c.requires.ordered)) (omega (arith, ints, u)))
-    (λ k from to. first_alone (in_octant n (at_56 c.args.lo) (at_56 c.args.hi)) _ c.octants_in-octant.result (h n m) k from (omega (arith, ints, to)))
+    (λ k from to. first_alone (in_octant n (units_of_56 c.args.lo) (units_of_56 c.args.hi)) _ c.octants_in-octant.result (h n m) k from
+    (omega (arith, ints, to)))
 
 pub returns-clause-narrow : goal.returns-clause-narrow
 returns-clause-narrow c =
@@ -94,7 +98,8 @@ returns-clause-narrow c =
     let e = simp to_z-of_z at c.octants_in-octant.ensures.value in
     let q = division_is c.args.lo c.octants_in-octant.result e in
     let fp : SFits w128 (c.octants_in-octant.result *ℤ pos 3242591731706757120) = omega (arith, ints, c.requires, q.not_above, q.close) in
-    let fn : SFits w128 (c.octants_in-octant.result *ℤ pos 3242591731706757120 +ℤ pos 3242591731706757120) = omega (arith, ints, c.requires, q.not_above, q.close) in
+    let fn : SFits w128 (c.octants_in-octant.result *ℤ pos 3242591731706757120 +ℤ pos 3242591731706757120) = omega
+    (arith, ints, c.requires, q.not_above, q.close) in
     one_narrow c.args.lo c.args.hi c.sine_within_octant.result.lo c.sine_within_octant.result.hi (simp to_z-of_z at c.sine_within_octant.ensures.narrow)
 
 pub returns-clause-small : goal.returns-clause-small
@@ -105,7 +110,8 @@ returns-clause-small c =
     let e = simp to_z-of_z at c.octants_in-octant.ensures.value in
     let q = division_is c.args.lo c.octants_in-octant.result e in
     let fp : SFits w128 (c.octants_in-octant.result *ℤ pos 3242591731706757120) = omega (arith, ints, c.requires, q.not_above, q.close) in
-    let fn : SFits w128 (c.octants_in-octant.result *ℤ pos 3242591731706757120 +ℤ pos 3242591731706757120) = omega (arith, ints, c.requires, q.not_above, q.close) in
+    let fn : SFits w128 (c.octants_in-octant.result *ℤ pos 3242591731706757120 +ℤ pos 3242591731706757120) = omega
+    (arith, ints, c.requires, q.not_above, q.close) in
     simp to_z-of_z at c.sine_within_octant.ensures.small
 
 pub returns-clause-crest : goal.returns-clause-crest
@@ -116,7 +122,8 @@ returns-clause-crest c =
     let e = simp to_z-of_z at c.octants_in-octant.ensures.value in
     let q = division_is c.args.lo c.octants_in-octant.result e in
     let fp : SFits w128 (c.octants_in-octant.result *ℤ pos 3242591731706757120) = omega (arith, ints, c.requires, q.not_above, q.close) in
-    let fn : SFits w128 (c.octants_in-octant.result *ℤ pos 3242591731706757120 +ℤ pos 3242591731706757120) = omega (arith, ints, c.requires, q.not_above, q.close) in
+    let fn : SFits w128 (c.octants_in-octant.result *ℤ pos 3242591731706757120 +ℤ pos 3242591731706757120) = omega
+    (arith, ints, c.requires, q.not_above, q.close) in
     simp to_z-of_z at c.sine_within_octant.ensures.crest
 
 pub returns-then-lo-edge-clause-inside : goal.returns-then-lo-edge-clause-inside
@@ -128,7 +135,8 @@ returns-then-lo-edge-clause-inside c =
     let q = division_is c.args.lo c.octants_in-octant.result e in
     let fp : SFits w128 (c.octants_in-octant.result *ℤ pos 3242591731706757120) = omega (arith, ints, c.requires, q.not_above, q.close) in
     let l = simp to_z-of_z at c.if-lo-edge.true in
-    λ k i. absurd (begun_elsewhere k c.octants_in-octant.result c.args.lo c.args.hi (omega (arith, ints, q.not_above)) (omega (arith, ints, l)) c.requires.ordered i)
+    λ k i. absurd (begun_elsewhere k c.octants_in-octant.result c.args.lo c.args.hi (omega (arith, ints, q.not_above)) (omega (arith, ints, l))
+    c.requires.ordered i)
 
 pub returns-then-hi-edge-clause-inside : goal.returns-then-hi-edge-clause-inside
 returns-then-hi-edge-clause-inside c =
@@ -138,7 +146,8 @@ returns-then-hi-edge-clause-inside c =
     let e = simp to_z-of_z at c.octants_in-octant.ensures.value in
     let q = division_is c.args.lo c.octants_in-octant.result e in
     let fp : SFits w128 (c.octants_in-octant.result *ℤ pos 3242591731706757120) = omega (arith, ints, c.requires, q.not_above, q.close) in
-    let fn : SFits w128 (c.octants_in-octant.result *ℤ pos 3242591731706757120 +ℤ pos 3242591731706757120) = omega (arith, ints, c.requires, q.not_above, q.close) in
+    let fn : SFits w128 (c.octants_in-octant.result *ℤ pos 3242591731706757120 +ℤ pos 3242591731706757120) = omega
+    (arith, ints, c.requires, q.not_above, q.close) in
     let u = simp to_z-of_z at c.if-hi-edge.true in
     λ k i. absurd (ended_elsewhere k c.octants_in-octant.result c.args.lo c.args.hi (omega (arith, ints, q.close)) (omega (arith, ints, u)) i)
 
@@ -150,6 +159,8 @@ returns-clause-inside c =
     let e = simp to_z-of_z at c.octants_in-octant.ensures.value in
     let q = division_is c.args.lo c.octants_in-octant.result e in
     let fp : SFits w128 (c.octants_in-octant.result *ℤ pos 3242591731706757120) = omega (arith, ints, c.requires, q.not_above, q.close) in
-    let fn : SFits w128 (c.octants_in-octant.result *ℤ pos 3242591731706757120 +ℤ pos 3242591731706757120) = omega (arith, ints, c.requires, q.not_above, q.close) in
+    let fn : SFits w128 (c.octants_in-octant.result *ℤ pos 3242591731706757120 +ℤ pos 3242591731706757120) = omega
+    (arith, ints, c.requires, q.not_above, q.close) in
     let h = simp to_z-of_z at c.sine_within_octant.ensures.near in
-    λ k i. by_inside k c.octants_in-octant.result c.args.lo c.args.hi _ _ (omega (arith, ints, q.not_above)) (omega (arith, ints, q.close)) c.requires.ordered i h
+    λ k i. by_inside k c.octants_in-octant.result c.args.lo c.args.hi _ _ (omega (arith, ints, q.not_above)) (omega (arith, ints, q.close)) c.requires.ordered i
+    h

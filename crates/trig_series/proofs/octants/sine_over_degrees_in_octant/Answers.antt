@@ -28,7 +28,8 @@ returns-clause-holds c =
     let v = simp to_z-of_z at c.min.ensures.value in
     let low = simp to_z-of_z at c.sine_at_degrees_in_octant-low.ensures.holds in
     let high = simp to_z-of_z at c.sine_at_degrees_in_octant-high.ensures.holds in
-    λ n l. in_holds n c.args.octant c.args.lo c.args.hi c.max.result c.min.result _ _ _ _ _ _ u v (λ z e. low n z l e) (λ z e. high n z l e) c.hull.ensures.low c.hull.ensures.high
+    λ n l. in_holds n c.args.octant c.args.lo c.args.hi c.max.result c.min.result _ _ _ _ _ _ u v (λ z e. low n z l e) (λ z e. high n z l e) c.hull.ensures.low
+    c.hull.ensures.high
 
 pub returns-clause-narrow : goal.returns-clause-narrow
 returns-clause-narrow c =
@@ -51,7 +52,8 @@ returns-clause-narrow c =
       from = omega (arith, ints, clamps, v, c.requires);
       to = omega (arith, ints, clamps, v);
     } in
-    let h = in_narrow c.args.octant c.max.result c.min.result _ _ _ _ _ _ (omega (arith, ints, clamps, u, v, c.requires)) low high c.hull.ensures.low c.hull.ensures.high in
+    let h = in_narrow c.args.octant c.max.result c.min.result _ _ _ _ _ _ (omega (arith, ints, clamps, u, v, c.requires)) low high c.hull.ensures.low
+    c.hull.ensures.high in
     rw (u, v) at h
 
 pub returns-clause-begins : goal.returns-clause-begins
@@ -105,7 +107,8 @@ returns-clause-small c =
       from = omega (arith, ints, clamps, v, c.requires);
       to = omega (arith, ints, clamps, v);
     } in
-    in_small c.args.octant c.args.lo c.args.hi c.max.result c.min.result _ _ _ _ _ _ (omega (arith, ints, clamps, u)) (omega (arith, ints, clamps, u, v, c.requires)) (omega (arith, ints, clamps, v)) low high c.hull.ensures.low c.hull.ensures.high
+    in_small c.args.octant c.args.lo c.args.hi c.max.result c.min.result _ _ _ _ _ _ (omega (arith, ints, clamps, u))
+    (omega (arith, ints, clamps, u, v, c.requires)) (omega (arith, ints, clamps, v)) low high c.hull.ensures.low c.hull.ensures.high
 
 pub returns-clause-crest : goal.returns-clause-crest
 returns-clause-crest c =
@@ -128,4 +131,5 @@ returns-clause-crest c =
       from = omega (arith, ints, clamps, v, c.requires);
       to = omega (arith, ints, clamps, v);
     } in
-    in_crest c.args.octant c.args.lo c.args.hi c.max.result c.min.result _ _ _ _ _ (omega (arith, ints, clamps, u)) (omega (arith, ints, clamps, u, v, c.requires)) (omega (arith, ints, clamps, v)) low high c.hull.ensures.low
+    in_crest c.args.octant c.args.lo c.args.hi c.max.result c.min.result _ _ _ _ _ (omega (arith, ints, clamps, u))
+    (omega (arith, ints, clamps, u, v, c.requires)) (omega (arith, ints, clamps, v)) low high c.hull.ensures.low

@@ -11,7 +11,8 @@ returns-then-octant-ge4-clause-holds c = λ n d y l from to same.
     let fo = c.ranges.octant in
     let fm : SFits w128 (c.args.octant -ℤ pos 4) = omega (arith, ints, c.requires) in
     let h = simp to_z-of_z at c.part_of_half.ensures.holds in
-    into_later n c.args.octant y _ (omega (arith, ints, c.if-octant-ge4.true)) (span_opposite _ _ _ _ _ c.opposite.ensures.low c.opposite.ensures.high (h n d y l from to same))
+    into_later n c.args.octant y _ (omega (arith, ints, c.if-octant-ge4.true))
+    (span_opposite _ _ _ _ _ c.opposite.ensures.low c.opposite.ensures.high (h n d y l from to same))
 
 pub returns-then-octant-ge4-clause-near : goal.returns-then-octant-ge4-clause-near
 returns-then-octant-ge4-clause-near c =

@@ -33,4 +33,5 @@ pub returns-clause-near : goal.returns-clause-near
 returns-clause-near c =
     let low = c.span_around.ensures.low_close in
     let high = c.span_around.ensures.high_close in
-    cosine_close c.args.degrees c.cosine_of_degrees_56.result _ _ (c.cosine_of_degrees_56.ensures.ends 9 _ (omega arith) (by_lower c.args.degrees)) (omega (arith, ints, low)) (omega (arith, ints, high))
+    cosine_close c.args.degrees c.cosine_of_degrees_56.result _ _ (c.cosine_of_degrees_56.ensures.ends 9 _ (omega arith) (by_lower c.args.degrees))
+    (omega (arith, ints, low)) (omega (arith, ints, high))

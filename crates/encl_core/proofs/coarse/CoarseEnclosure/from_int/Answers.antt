@@ -1,8 +1,8 @@
-use Rattle.scaled_ends.specs.Scales.{coarse}
+use Rattle.interval_ends.specs.Scales.{coarse}
 use Rattle.std.proofs.Common.{SFits, w64}
 use Rattle.std.proofs.lemmas.Int.{to_z-of_z}
 use Rattle.encl_core.specs.Shown.{shown_coarse}
-use Rattle.scaled_ends.proofs.Following.{within_integer, narrow_integer}
+use Rattle.interval_ends.proofs.Following.{within_integer, narrow_integer}
 use Rattle.encl_core.proofs.coarse.CoarseEnclosure.from_int.Goals as goal
 
 pub returns : goal.returns

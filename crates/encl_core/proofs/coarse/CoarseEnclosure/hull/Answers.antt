@@ -1,6 +1,13 @@
 use Rattle.encl_core.specs.Shown.{shown_coarse}
-use Rattle.scaled_ends.proofs.Following.{within_hull, narrow_hull}
+use Rattle.interval_ends.proofs.Following.{within_hull, narrow_hull}
 use Rattle.encl_core.proofs.coarse.CoarseEnclosure.hull.Goals as goal
 
 pub returns : goal.returns
-returns c = record { encloses = record { holds = λ w x y. within_hull shown_coarse w x y _ _ _ c.hull_ends.ensures.holds; narrow = λ r x y. narrow_hull shown_coarse _ r x y _ _ _ c.hull_ends.ensures.narrow }; tight = c.hull_ends.ensures.tight }
+returns c = record {
+  encloses = record {
+    holds = λ w x y. within_hull shown_coarse w x y _ _ _ c.hull_ends.ensures.holds;
+    narrow = λ r x y.
+        narrow_hull shown_coarse _ r x y _ _ _ c.hull_ends.ensures.narrow;
+  };
+  tight = c.hull_ends.ensures.tight;
+}

@@ -1,8 +1,15 @@
-use Rattle.scaled_ends.specs.Scales.{fine}
+use Rattle.interval_ends.specs.Scales.{fine}
 use Rattle.fix_fine.specs.Shown.{shown_fine}
-use Rattle.scaled_ends.proofs.Following.{within_add, narrow_add}
+use Rattle.interval_ends.proofs.Following.{within_add, narrow_add}
 use Rattle.fix_fine.proofs.Rows.{sum_of_ends}
 use Rattle.fix_fine.proofs.fine.FineEnclosure.add.Goals as goal
 
 pub returns : goal.returns
-returns c = record { encloses = record { holds = λ w x y. within_add shown_fine w x y _ _ _ c.add_ends.ensures.holds; narrow = λ r x y. narrow_add fine shown_fine r x y _ _ _ c.add_ends.ensures.narrow }; table = sum_of_ends _ _ _ c.add_ends.ensures.ends }
+returns c = record {
+  encloses = record {
+    holds = λ w x y. within_add shown_fine w x y _ _ _ c.add_ends.ensures.holds;
+    narrow = λ r x y.
+        narrow_add fine shown_fine r x y _ _ _ c.add_ends.ensures.narrow;
+  };
+  table = sum_of_ends _ _ _ c.add_ends.ensures.ends;
+}

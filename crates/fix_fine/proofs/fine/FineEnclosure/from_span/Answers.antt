@@ -1,8 +1,8 @@
-use Rattle.scaled_ends.specs.Scales.{fine}
+use Rattle.interval_ends.specs.Scales.{fine}
 use Rattle.std.proofs.Common.{rules, SFits}
 use Rattle.std.specs.Int.{w128}
 use Rattle.std.proofs.lemmas.Int.{to_z-of_z}
-use Rattle.scaled_ends.proofs.Following.{narrow_spanned}
+use Rattle.interval_ends.proofs.Following.{narrow_spanned}
 use Rattle.fix_fine.proofs.fine.FineEnclosure.from_span.Goals as goal
 
 pub returns : goal.returns

@@ -1,7 +1,14 @@
 use Rattle.fix_fine.specs.Shown.{shown_fine}
-use Rattle.scaled_ends.proofs.Following.{within_maximum, narrow_maximum}
+use Rattle.interval_ends.proofs.Following.{within_maximum, narrow_maximum}
 use Rattle.fix_fine.proofs.Rows.{greater_of_ends}
 use Rattle.fix_fine.proofs.fine.FineEnclosure.max.Goals as goal
 
 pub returns : goal.returns
-returns c = record { encloses = record { holds = λ w x y. within_maximum shown_fine w x y _ _ _ c.max_ends.ensures.holds; narrow = λ r x y. narrow_maximum shown_fine _ r x y _ _ _ c.max_ends.ensures.narrow }; table = greater_of_ends c.args.self.ends c.args.other.ends c.max_ends.result c.max_ends.ensures.narrow }
+returns c = record {
+  encloses = record {
+    holds = λ w x y. within_maximum shown_fine w x y _ _ _ c.max_ends.ensures.holds;
+    narrow = λ r x y.
+        narrow_maximum shown_fine _ r x y _ _ _ c.max_ends.ensures.narrow;
+  };
+  table = greater_of_ends c.args.self.ends c.args.other.ends c.max_ends.result c.max_ends.ensures.narrow;
+}

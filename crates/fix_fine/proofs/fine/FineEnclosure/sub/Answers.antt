@@ -1,8 +1,15 @@
-use Rattle.scaled_ends.specs.Scales.{fine}
+use Rattle.interval_ends.specs.Scales.{fine}
 use Rattle.fix_fine.specs.Shown.{shown_fine}
-use Rattle.scaled_ends.proofs.Following.{within_subtract, narrow_subtract}
+use Rattle.interval_ends.proofs.Following.{within_subtract, narrow_subtract}
 use Rattle.fix_fine.proofs.Rows.{difference_of_ends}
 use Rattle.fix_fine.proofs.fine.FineEnclosure.sub.Goals as goal
 
 pub returns : goal.returns
-returns c = record { encloses = record { holds = λ w x y. within_subtract shown_fine w x y _ _ _ c.sub_ends.ensures.holds; narrow = λ r x y. narrow_subtract fine shown_fine r x y _ _ _ c.sub_ends.ensures.narrow }; table = difference_of_ends _ _ _ c.sub_ends.ensures.ends }
+returns c = record {
+  encloses = record {
+    holds = λ w x y. within_subtract shown_fine w x y _ _ _ c.sub_ends.ensures.holds;
+    narrow = λ r x y.
+        narrow_subtract fine shown_fine r x y _ _ _ c.sub_ends.ensures.narrow;
+  };
+  table = difference_of_ends _ _ _ c.sub_ends.ensures.ends;
+}

@@ -1,8 +1,8 @@
 use Rattle.std.proofs.Common.{rules, arith, SFits, w64, pos, ◌*ℤ◌}
 use Rattle.std.specs.Int.{w128}
 use Rattle.std.proofs.lemmas.Int.{ints, to_z-of_z}
-use Rattle.scaled_ends.proofs.Unpromised.{moved_outwards}
-use Rattle.scaled_ends.proofs.OnEnds.{shows}
+use Rattle.interval_ends.proofs.Unpromised.{moved_outwards}
+use Rattle.interval_ends.proofs.OnEnds.{shows}
 use Rattle.formula_tests.proofs.tests.rough.roughened.Goals as goal
 
 pub returns : goal.returns

@@ -7,7 +7,8 @@ use Rattle.oracle_core.proofs.asking.Asking.evaluate.Goals as goal
 pub returns-in_ok-keep-in-Value-clause-asks : goal.returns-in_ok-keep-in-Value-clause-asks
 returns-in_ok-keep-in-Value-clause-asks g c =
     let value : to_z w64 (of_z w64 c.in-Value.value) ≡ c.in-Value.value = search rules in
-    rw value (asked_value c.args.fact refl (added_fact _ _ c.args.fact c.in-Value.value c.requires.new (rw value at c.in_ok-keep-in-Value.ensures.ok)) (record { is_true = c.in-Value.ensures.0; low = c.in-Value.ensures.1.0; high = c.in-Value.ensures.1.1 }))
+    rw value (asked_value c.args.fact refl (added_fact _ _ c.args.fact c.in-Value.value c.requires.new (rw value at c.in_ok-keep-in-Value.ensures.ok))
+    (record { is_true = c.in-Value.ensures.0; low = c.in-Value.ensures.1.0; high = c.in-Value.ensures.1.1 }))
 
 pub returns-in_err-keep-in-Value-clause-asks : goal.returns-in_err-keep-in-Value-clause-asks
 returns-in_err-keep-in-Value-clause-asks g c =

@@ -12,7 +12,11 @@ pub returns-in-Some : goal.returns-in-Some
 returns-in-Some g c =
     let value : to_z w64 (of_z w64 c.item.result.now.1) ≡ c.item.result.now.1 = search rules in
     let h = kept_item _ _ c.args.fact _ _ c.self.invariant.0 c.in-Some.ensures.place c.item.ensures.item c.self.invariant.1 in
-    rw value (record { asks = asked_value c.args.fact refl (already_there _ c.args.fact _ (rw (c.self.invariant.0, c.self.view_is) at c.in-Some.ensures.place)) h; value = (h.low, h.high) })
+    rw value (record {
+      asks = asked_value c.args.fact refl (already_there _ c.args.fact _ (rw (c.self.invariant.0, c.self.view_is) at c.in-Some.ensures.place))
+          h;
+      value = (h.low, h.high);
+    })
 
 pub evaluate-requires : goal.evaluate-requires
 evaluate-requires g c = record { new = not_there (fact_eq c.args.fact) _ (rw (c.self.invariant.0, c.self.view_is) at c.in-None.ensures.place) }

@@ -18,10 +18,12 @@ invariant_of-self-in-Some c =
 
 pub returns-in_ok-note-in-Some : goal.returns-in_ok-note-in-Some
 returns-in_ok-note-in-Some c =
-    let value : to_z w64 (of_z w64 (slice_index_or c.self.inside.values.now c.in-Some.place (pos 0))) ≡ slice_index_or c.self.inside.values.now c.in-Some.place (pos 0) = search rules in
+    let value : to_z w64 (of_z w64 (slice_index_or c.self.inside.values.now c.in-Some.place (pos 0)))
+    ≡ slice_index_or c.self.inside.values.now c.in-Some.place (pos 0) = search rules in
     let fits = found_fits _ _ c.args.fact _ (pos 0) c.self.invariant.same c.in-Some.ensures.place c.self.invariant.known in
     rw (← c.self.view_is, value) (record {
-      asks = asked_value c.args.fact refl c.in_ok-note-in-Some.ensures.ok (listed_value _ _ c.args.fact _ (pos 0) c.self.invariant.same c.in-Some.ensures.place);
+      asks = asked_value c.args.fact refl c.in_ok-note-in-Some.ensures.ok
+          (listed_value _ _ c.args.fact _ (pos 0) c.self.invariant.same c.in-Some.ensures.place);
       value = fits;
     })
 
@@ -33,4 +35,5 @@ returns-in-None-clause-asks c =
 pub returns-in_err-note-in-Some-clause-asks : goal.returns-in_err-note-in-Some-clause-asks
 returns-in_err-note-in-Some-clause-asks c =
     let p = err_from_is_err_and c.from_residual.result c.from_residual.ensures.1 in
-    rw (← c.self.view_is, p.1, p.2) (asked_stop c.args.fact refl c.in_err-note-in-Some.ensures.err c.in_err-note-in-Some.ensures.new (record { names = tt; may = tt }))
+    rw (← c.self.view_is, p.1, p.2) (asked_stop c.args.fact refl c.in_err-note-in-Some.ensures.err c.in_err-note-in-Some.ensures.new
+    (record { names = tt; may = tt }))

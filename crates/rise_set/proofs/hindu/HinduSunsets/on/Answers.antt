@@ -42,7 +42,8 @@ returns-in_err-t-clause-measured g c = λ h e.
 
 pub returns-clause-recent : goal.returns-clause-recent
 returns-clause-recent g c = λ h k e.
-    recent_found g.E.Enclosure.shown (at_depth 40) (9 * 2 ^ 29) (c.args.day -ℤ pos 25) (c.args.day +ℤ pos 38) (hindu_sunset_of c.args.day) c.universal.result (omega arith) (omega (arith, ints, h)) (sunset_near (at_depth 40) c.args.day)
+    recent_found g.E.Enclosure.shown (at_depth 40) (9 * 2 ^ 29) (c.args.day -ℤ pos 25) (c.args.day +ℤ pos 38) (hindu_sunset_of c.args.day) c.universal.result
+    (omega arith) (omega (arith, ints, h)) (sunset_near (at_depth 40) c.args.day)
     (returns-clause-leads g c (at_depth 40) (omega arith)) (returns-clause-measured g c (omega (arith, ints, h), k) e)
 
 pub returns-in_err-t-clause-recent : goal.returns-in_err-t-clause-recent

@@ -1,5 +1,5 @@
-use Rattle.scaled_ends.proofs.Following.{within_add}
-use Rattle.scaled_ends.proofs.Unpromised.{narrow_add}
+use Rattle.interval_ends.proofs.Following.{within_add}
+use Rattle.interval_ends.proofs.Unpromised.{narrow_add}
 use Rattle.formula_tests.proofs.tests.rough.RoughEnclosure.add.Goals as goal
 
 pub returns : goal.returns

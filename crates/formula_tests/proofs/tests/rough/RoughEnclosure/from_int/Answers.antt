@@ -1,7 +1,7 @@
 use Rattle.std.proofs.Common.{SFits, w64}
 use Rattle.std.proofs.lemmas.Int.{to_z-of_z}
-use Rattle.scaled_ends.proofs.Following.{within_integer}
-use Rattle.scaled_ends.proofs.Unpromised.{narrow_integer}
+use Rattle.interval_ends.proofs.Following.{within_integer}
+use Rattle.interval_ends.proofs.Unpromised.{narrow_integer}
 use Rattle.formula_tests.proofs.tests.rough.RoughEnclosure.from_int.Goals as goal
 
 pub returns : goal.returns

@@ -2,7 +2,7 @@ use Rattle.std.proofs.Common.{rules, SFits}
 use Rattle.std.specs.Int.{w128}
 use Rattle.std.proofs.lemmas.Int.{to_z-of_z}
 use Rattle.exact_math.proofs.Intervals.{within_trans}
-use Rattle.scaled_ends.proofs.Unpromised.{narrow_ends}
+use Rattle.interval_ends.proofs.Unpromised.{narrow_ends}
 use Rattle.formula_tests.proofs.tests.rough.RoughEnclosure.from_span.Goals as goal
 
 pub returns : goal.returns

@@ -1,5 +1,5 @@
-use Rattle.scaled_ends.proofs.Following.{within_negate}
-use Rattle.scaled_ends.proofs.Unpromised.{narrow_negate}
+use Rattle.interval_ends.proofs.Following.{within_negate}
+use Rattle.interval_ends.proofs.Unpromised.{narrow_negate}
 use Rattle.formula_tests.proofs.tests.rough.RoughEnclosure.neg.Goals as goal
 
 pub returns : goal.returns

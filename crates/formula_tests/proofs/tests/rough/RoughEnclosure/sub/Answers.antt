@@ -1,6 +1,12 @@
-use Rattle.scaled_ends.proofs.Following.{within_subtract}
-use Rattle.scaled_ends.proofs.Unpromised.{narrow_subtract}
+use Rattle.interval_ends.proofs.Following.{within_subtract}
+use Rattle.interval_ends.proofs.Unpromised.{narrow_subtract}
 use Rattle.formula_tests.proofs.tests.rough.RoughEnclosure.sub.Goals as goal
 
 pub returns : goal.returns
-returns c = record { encloses = record { holds = λ w x y. within_subtract _ w x y _ _ _ c.sub_ends.ensures.holds; narrow = λ r x y h k. narrow_subtract _ r x y _ } }
+returns c = record {
+  encloses = record {
+    holds = λ w x y. within_subtract _ w x y _ _ _ c.sub_ends.ensures.holds;
+    narrow = λ r x y h k.
+        narrow_subtract _ r x y _;
+  };
+}

@@ -1,0 +1,8 @@
+use Rattle.std.proofs.Common.{SFits, w64}
+use Rattle.std.proofs.lemmas.Int.{to_z-of_z}
+use Rattle.hindu_facts.proofs.days.sign_after.Goals as goal
+
+pub returns-clause-leads : goal.returns-clause-leads
+returns-clause-leads g c =
+    let f : SFits w64 c.args.day = c.ranges.day in
+    simp to_z-of_z at c.sign_after_by.ensures.leads

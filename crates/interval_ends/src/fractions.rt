@@ -1,0 +1,97 @@
+//! Fractions, and products of ends with fractions, rounded outwards.
+ghost use Rattle.std.specs.Prelude.{◌≡◌, ◌<◌, ◌+◌, ℕ, pos, ◌≤ℤ◌, ◌<ℤ◌, ◌+ℤ◌, ◌-ℤ◌, ◌*ℤ◌, IfSome, IsSome, unsigned_abs};
+ghost use Rattle.std.specs.Int.{w128};
+ghost use Rattle.std.proofs.Common.{SFits};
+ghost use Rattle.exact_math.specs.Interval.{◌⊆◌, product, widen, between};
+ghost use Rattle.book_model.specs.numbers.Fractions.{fraction_of};
+ghost use Rattle.book_model.specs.numbers.Bounds.{Bound, IsNarrow, constant_bound, scaled_bound, widen_bound};
+ghost use Rattle.interval_ends.specs.Scales.{limits_on, most_numerator, unit, word};
+ghost use Rattle.interval_ends.specs.Rounding.{IsMarginAt};
+ghost use Rattle.interval_ends.specs.Shown.{shown_ends, HasEnds};
+
+use crate::ends::Ends;
+use crate::sums::ends_of;
+use crate::word::MachineWord;
+use book_model::Frac;
+use rounded_quotients::{ceil_div, floor_div, sorted};
+
+/// The denominator of a fraction; 0, which no fraction has, is read as 1.
+#[inline(always)]
+pub fn denominator(fraction: Frac) -> i128
+    ensures value { result ≡ pos ((fraction_of fraction).below + 1) }
+    ensures positive { pos 0 <ℤ result }
+{
+    i128::from(fraction.den().max(1))
+}
+
+/// The ends around a fraction, whose numerator is raised to the scale first.
+#[inline(always)]
+pub fn ends_of_fraction<I: MachineWord>(value: Frac) -> Option<Ends<I>>
+    ensures holds { between (fraction_of value) (fraction_of value) ⊆ shown_ends result }
+    ensures narrow { (w : ℕ) → IsNarrow w (constant_bound (limits_on I.scale) (fraction_of value))
+        (shown_ends result) }
+    ensures close { IfSome result (λ e. (I.value e.hi -ℤ I.value e.lo) ≤ℤ pos 1) }
+{
+    let raised = value.num().checked_mul(I::units())?;
+    let below = denominator(value);
+    ends_of(floor_div(raised, below), ceil_div(raised, below))
+}
+
+/// The ends around the products with a fraction.
+#[inline(always)]
+pub fn scale_ends<I: MachineWord>(x: Option<Ends<I>>, by: Frac) -> Option<Ends<I>>
+    ensures holds { product (shown_ends x) (between (fraction_of by) (fraction_of by))
+        ⊆ shown_ends result }
+    ensures narrow { (w : ℕ) (a : Bound) → IsNarrow w a (shown_ends x)
+        → IsNarrow w (scaled_bound (limits_on I.scale) (fraction_of by) a) (shown_ends result) }
+    ensures close { IfSome x (λ p. IfSome result (λ e. (((I.value e.hi -ℤ I.value e.lo) -ℤ pos 2)
+        *ℤ pos ((fraction_of by).below + 1)) ≤ℤ ((I.value p.hi -ℤ I.value p.lo) *ℤ pos
+        (unsigned_abs (fraction_of by).num)))) }
+    ensures some { IfSome x (λ p. word I.scale ≡ w128 → SFits w128
+        (I.value p.lo *ℤ (fraction_of by).num) → SFits w128 (I.value p.hi *ℤ (fraction_of by).num)
+        → IsSome result) }
+{
+    let x = x?;
+    let factor = by.num();
+    let p = x.lo.times(factor)?;
+    let q = x.hi.times(factor)?;
+    let below = denominator(by);
+    let (least, greatest) = sorted(p, q);
+    ends_of(floor_div(least, below), ceil_div(greatest, below))
+}
+
+/// How many units the size of a fraction has, rounded up; `None` only for a numerator that the scale doesn't bear.
+#[inline(always)]
+fn margin_of<I: MachineWord>(by: Frac) -> Option<i128>
+    ensures value { IfSome result (λ m. IsMarginAt I.scale (fraction_of by) m) }
+    ensures some { unsigned_abs by.num < most_numerator I.scale → IsSome result }
+{
+    let raised = by.num().checked_abs()?.checked_mul(I::units())?;
+    Some(ceil_div(raised, denominator(by)))
+}
+
+/// The ends, each moved outwards by so many units, where both fit.
+#[inline(always)]
+fn moved<I: MachineWord>(x: Ends<I>, margin: i128) -> Option<Ends<I>>
+    requires { pos 0 ≤ℤ margin }
+    ensures ends { HasEnds (I.value x.lo -ℤ margin) (I.value x.hi +ℤ margin) result }
+{
+    let lo = x.lo.lowered(margin)?;
+    let hi = x.hi.raised(margin)?;
+    Some(Ends { lo, hi })
+}
+
+/// The ends, each moved outwards by the size of a fraction.
+#[inline]
+pub fn widen_ends<I: MachineWord>(x: Option<Ends<I>>, by: Frac) -> Option<Ends<I>>
+    ensures holds { widen (fraction_of by) (shown_ends x) ⊆ shown_ends result }
+    ensures narrow { (w : ℕ) (a : Bound) → IsNarrow w a (shown_ends x)
+        → IsNarrow w (widen_bound (limits_on I.scale) (fraction_of by) a) (shown_ends result) }
+    ensures close { IfSome x (λ p. IfSome result (λ e. ((((I.value e.hi -ℤ I.value e.lo) -ℤ
+        (I.value p.hi -ℤ I.value p.lo)) -ℤ pos 2) *ℤ pos ((fraction_of by).below + 1)) ≤ℤ
+        (pos 2 *ℤ (pos (unsigned_abs (fraction_of by).num) *ℤ unit I.scale)))) }
+{
+    let x = x?;
+    let margin = margin_of::<I>(by)?;
+    moved(x, margin)
+}

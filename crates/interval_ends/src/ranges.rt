@@ -1,0 +1,100 @@
+//! The lesser and the greater of ends, their hull, and ends that are cut to -1..1.
+ghost use Rattle.std.specs.Prelude.{◌≡◌, ℕ, neg_ℤ};
+ghost use Rattle.std.specs.Int.{int_min, int_max};
+ghost use Rattle.exact_math.specs.Interval.{everything, between, ◌⊆◌, minimum, maximum, hull, clamp};
+ghost use Rattle.book_model.specs.numbers.Bounds.{Bound, IsNarrow, minimum_bound, maximum_bound, hull_bound, clamp_bound};
+ghost use Rattle.interval_ends.specs.Scales.{unit};
+ghost use Rattle.interval_ends.specs.Shown.{shown_ends, shown_of};
+
+use crate::ends::Ends;
+use crate::word::MachineWord;
+
+/// The lesser of each two ends.
+#[inline]
+pub fn min_ends<I: MachineWord>(x: Option<Ends<I>>, y: Option<Ends<I>>) -> Option<Ends<I>>
+    ensures holds { minimum (shown_ends x) (shown_ends y) ⊆ shown_ends result }
+    ensures tight { shown_ends result ⊆ minimum (shown_ends x) (shown_ends y) }
+    ensures narrow { (w : ℕ) (a b : Bound) → IsNarrow w a (shown_ends x)
+        → IsNarrow w b (shown_ends y) → IsNarrow w (minimum_bound a b) (shown_ends result) }
+{
+    let x = x?;
+    let y = y?;
+    let lo = x.lo.lesser(y.lo);
+    let hi = x.hi.lesser(y.hi);
+    Some(Ends { lo, hi })
+}
+
+/// The greater of each two ends.
+#[inline]
+pub fn max_ends<I: MachineWord>(x: Option<Ends<I>>, y: Option<Ends<I>>) -> Option<Ends<I>>
+    ensures holds { maximum (shown_ends x) (shown_ends y) ⊆ shown_ends result }
+    ensures tight { shown_ends result ⊆ maximum (shown_ends x) (shown_ends y) }
+    ensures narrow { (w : ℕ) (a b : Bound) → IsNarrow w a (shown_ends x)
+        → IsNarrow w b (shown_ends y) → IsNarrow w (maximum_bound a b) (shown_ends result) }
+{
+    let x = x?;
+    let y = y?;
+    let lo = x.lo.greater(y.lo);
+    let hi = x.hi.greater(y.hi);
+    Some(Ends { lo, hi })
+}
+
+/// The lesser lower and the greater upper end.
+#[inline]
+pub fn hull_ends<I: MachineWord>(x: Option<Ends<I>>, y: Option<Ends<I>>) -> Option<Ends<I>>
+    ensures holds { hull (shown_ends x) (shown_ends y) ⊆ shown_ends result }
+    ensures tight { shown_ends result ⊆ hull (shown_ends x) (shown_ends y) }
+    ensures narrow { (w : ℕ) (a b : Bound) → IsNarrow w a (shown_ends x)
+        → IsNarrow w b (shown_ends y) → IsNarrow w (hull_bound a b) (shown_ends result) }
+{
+    let x = x?;
+    let y = y?;
+    let lo = x.lo.lesser(y.lo);
+    let hi = x.hi.greater(y.hi);
+    Some(Ends { lo, hi })
+}
+
+/// An end, cut to -1..1.
+#[inline(always)]
+fn cut<I: MachineWord>(end: I) -> I
+    ensures value { I.value result ≡ int_max (int_min (I.value end) (unit I.scale))
+        (neg_ℤ (unit I.scale)) }
+{
+    end.lesser(I::one()).greater(I::minus_one())
+}
+
+/// Ends that are cut to -1..1.
+#[inline(always)]
+fn cut_ends<I: MachineWord>(x: Ends<I>) -> Ends<I>
+    ensures lo { I.value result.lo ≡ int_max (int_min (I.value x.lo) (unit I.scale))
+        (neg_ℤ (unit I.scale)) }
+    ensures hi { I.value result.hi ≡ int_max (int_min (I.value x.hi) (unit I.scale))
+        (neg_ℤ (unit I.scale)) }
+{
+    let lo = cut(x.lo);
+    let hi = cut(x.hi);
+    Ends { lo, hi }
+}
+
+/// Both ends of -1..1.
+#[inline(always)]
+fn unit_ends<I: MachineWord>() -> Ends<I>
+    ensures holds { clamp everything ⊆ shown_of result }
+{
+    let lo = I::minus_one();
+    let hi = I::one();
+    Ends { lo, hi }
+}
+
+/// The ends, cut to -1..1; just these, where there are none.
+#[inline]
+pub fn clamp_ends<I: MachineWord>(x: Option<Ends<I>>) -> Ends<I>
+    ensures holds { clamp (shown_ends x) ⊆ shown_of result }
+    ensures narrow { (w : ℕ) (a : Bound) → IsNarrow w a (shown_ends x)
+        → IsNarrow w (clamp_bound a) (shown_of result) }
+{
+    match x {
+        Some(ends) => cut_ends(ends),
+        None => unit_ends(),
+    }
+}

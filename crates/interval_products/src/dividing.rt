@@ -1,0 +1,99 @@
+//! Quotients of ends, rounded outwards.
+ghost use Rattle.std.specs.Prelude.{ℕ, pos, ◌≤ℤ◌, ◌<ℤ◌, Some, IfSome, IsSome};
+ghost use Rattle.exact_math.specs.Interval.{◌⊆◌, quotient};
+ghost use Rattle.book_model.specs.numbers.Bounds.{Bound, IsNarrow, quotient_bound};
+ghost use Rattle.interval_ends.specs.Rounding.{IsLeastBy, IsGreatestBy, AreQuotientsAt};
+ghost use Rattle.interval_ends.specs.Scales.{limits_on};
+ghost use Rattle.interval_ends.specs.Shown.{shown_ends, shown_of};
+ghost use Rattle.interval_products.specs.Room.{IsDividend, HaveQuotients, HaveQuotientsBy};
+ghost use Rattle.interval_products.specs.Close.{IsCloseQuotient, OfTwo, ThereOfTwo};
+
+use crate::word::RoundingWord;
+use interval_ends::{Ends, ends_of};
+
+/// By which of two divisors above 0, the first the lesser, the quotient of a number is the least.
+#[inline(always)]
+fn least_by(a: i128, c: i128, d: i128) -> i128
+    ensures { IsLeastBy a c d result }
+{
+    if a < 0 { c } else { d }
+}
+
+/// By which of them it is the greatest.
+#[inline(always)]
+fn greatest_by(b: i128, c: i128, d: i128) -> i128
+    ensures { IsGreatestBy b c d result }
+{
+    if b < 0 { d } else { c }
+}
+
+/// The ends around the quotients of the numbers from `a` to `b` by those from `c` to `d`, which are above 0.
+#[inline]
+fn quotients<I: RoundingWord>(a: i128, b: i128, c: i128, d: i128) -> Option<(i128, i128)>
+    requires dividend { a ≤ℤ b }
+    requires divisor { c ≤ℤ d }
+    requires positive { pos 0 <ℤ c }
+    requires first { IsDividend I.scale a }
+    requires last { IsDividend I.scale b }
+    ensures value { IfSome result (λ q. AreQuotientsAt I.scale a b c d q.0 q.1) }
+    ensures some { HaveQuotients I.scale a b c d → IsSome result }
+{
+    let lo = I::quotient_down(a, least_by(a, c, d))?;
+    let hi = I::quotient_up(b, greatest_by(b, c, d))?;
+    Some((lo, hi))
+}
+
+/// The ends around the quotients by a divisor above 0.
+#[inline]
+fn positive_quotients<I: RoundingWord>(x: Ends<I>, y: Ends<I>) -> Option<Ends<I>>
+    requires { pos 0 <ℤ I.value y.lo }
+    ensures holds { quotient (shown_of x) (shown_of y) ⊆ shown_ends result }
+    ensures narrow { (w : ℕ) (a b : Bound) → IsNarrow w a (shown_of x) → IsNarrow w b (shown_of y)
+        → IsNarrow w (quotient_bound (limits_on I.scale) a b) (shown_ends result) }
+    ensures close { OfTwo (IsCloseQuotient I.scale) (Some x) (Some y) result }
+    ensures some { ThereOfTwo (HaveQuotientsBy I.scale) (Some x) (Some y) result }
+{
+    let a = x.lo.wide();
+    let b = x.hi.wide();
+    let c = y.lo.wide();
+    let d = y.hi.wide();
+    let (lo, hi) = quotients::<I>(a, b, c, d)?;
+    ends_of(lo, hi)
+}
+
+/// The ends around the quotients by a divisor below 0: those of the opposites.
+#[inline]
+fn negative_quotients<I: RoundingWord>(x: Ends<I>, y: Ends<I>) -> Option<Ends<I>>
+    requires { I.value y.hi <ℤ pos 0 }
+    ensures holds { quotient (shown_of x) (shown_of y) ⊆ shown_ends result }
+    ensures close { OfTwo (IsCloseQuotient I.scale) (Some x) (Some y) result }
+    ensures some { ThereOfTwo (HaveQuotientsBy I.scale) (Some x) (Some y) result }
+{
+    let a = x.hi.wide().checked_neg()?;
+    let b = x.lo.wide().checked_neg()?;
+    let c = y.hi.wide().checked_neg()?;
+    let d = y.lo.wide().checked_neg()?;
+    let (lo, hi) = quotients::<I>(a, b, c, d)?;
+    ends_of(lo, hi)
+}
+
+/// The ends around the quotients; none, where the divisor may be 0.
+#[inline]
+pub fn div_ends<I: RoundingWord>(x: Option<Ends<I>>, y: Option<Ends<I>>) -> Option<Ends<I>>
+    ensures holds { quotient (shown_ends x) (shown_ends y) ⊆ shown_ends result }
+    ensures narrow { (w : ℕ) (a b : Bound) → IsNarrow w a (shown_ends x)
+        → IsNarrow w b (shown_ends y) → IsNarrow w (quotient_bound (limits_on I.scale) a b)
+        (shown_ends result) }
+    ensures close { OfTwo (IsCloseQuotient I.scale) x y result }
+    ensures some { ThereOfTwo (HaveQuotientsBy I.scale) x y result }
+{
+    let x = x?;
+    let y = y?;
+    if y.lo.wide() > 0 {
+        return positive_quotients(x, y);
+    }
+    if y.hi.wide() < 0 {
+        return negative_quotients(x, y);
+    }
+    None
+}

@@ -1,0 +1,28 @@
+//! Roots of ends, rounded outwards.
+ghost use Rattle.std.specs.Prelude.{ℕ, ◌≤◌};
+ghost use Rattle.exact_math.specs.Interval.{◌⊆◌};
+ghost use Rattle.book_model.specs.numbers.Roots.{root_of};
+ghost use Rattle.book_model.specs.numbers.Bounds.{Bound, IsNarrow, root_bound};
+ghost use Rattle.book_model.specs.numbers.Depth.{DEPTH};
+ghost use Rattle.interval_ends.specs.Scales.{limits_on};
+ghost use Rattle.interval_ends.specs.Shown.{shown_ends};
+ghost use Rattle.interval_products.specs.Room.{HasRoot};
+ghost use Rattle.interval_products.specs.Close.{IsCloseRoot, OfOne, ThereOfOne};
+
+use crate::word::RoundingWord;
+use interval_ends::{Ends, ends_of};
+
+/// The ends around the roots.
+#[inline]
+pub fn root_ends<I: RoundingWord>(x: Option<Ends<I>>) -> Option<Ends<I>>
+    ensures holds { (n : ℕ) → DEPTH ≤ n → root_of n (shown_ends x) ⊆ shown_ends result }
+    ensures narrow { (w : ℕ) (a : Bound) → IsNarrow w a (shown_ends x)
+        → IsNarrow w (root_bound (limits_on I.scale) a) (shown_ends result) }
+    ensures close { OfOne (IsCloseRoot I.scale) x result }
+    ensures some { ThereOfOne (λ lo hi. HasRoot I.scale hi) x result }
+{
+    let x = x?;
+    let lo = x.lo.root_down()?;
+    let hi = x.hi.root_up()?;
+    ends_of(lo, hi)
+}
