@@ -42,6 +42,11 @@ impl KeptMoon {
         }
     }
 
+    /// Its number, counted from that of January of the year 1.
+    pub(crate) fn number(self) -> i64 {
+        self.number
+    }
+
     /// The ends of its moment, if it is the new moon of this number at this scale.
     pub(crate) fn at(self, number: i64, bits: u32) -> Option<Span>
         ensures evaluated { IfSome result (IsKept 1 (new_moon_of number)) }

@@ -17,6 +17,7 @@ mod enclosure;
 mod fractions;
 mod kept_correction;
 mod kept_moon;
+mod kept_moons;
 mod search;
 mod span;
 mod steps;

@@ -8,15 +8,16 @@ ghost use Rattle.encl_core.specs.Kept.{IsKept, IsKeptAbout, IsMoonWithin};
 use crate::Span;
 use crate::kept_correction::KeptCorrection;
 use crate::kept_moon::KeptMoon;
+use crate::kept_moons::KeptMoons;
 
-/// How many tests a run has made, and what it keeps: the new moon of number 0, the last other new moon, and the correction of
-/// the last year. The count stops at the greatest `u32`. What is kept is only ever what the run would evaluate anew, so
+/// How many tests a run has made, and what it keeps: the new moon of number 0, some of the last other new moons, and the correction
+/// of the last year. The count stops at the greatest `u32`. What is kept is only ever what the run would evaluate anew, so
 /// it changes no answer; and it is taken only by enclosures of the scale at which it was evaluated.
 #[derive(Debug, PartialEq, Drop)]
 pub struct Trail {
     count: u32,
     first_moon: Option<KeptMoon>,
-    last_moon: Option<KeptMoon>,
+    last_moons: KeptMoons,
     correction: Option<KeptCorrection>,
 }
 
@@ -28,7 +29,7 @@ impl Trail {
         Trail {
             count: 0,
             first_moon: None,
-            last_moon: None,
+            last_moons: KeptMoons::new(),
             correction: None,
         }
     }
@@ -40,7 +41,7 @@ impl Trail {
         Trail {
             count: 0,
             first_moon: self.first_moon,
-            last_moon: self.last_moon,
+            last_moons: self.last_moons,
             correction: self.correction,
         }
     }
@@ -78,7 +79,7 @@ impl Trail {
         if number == 0 {
             return self.first_moon?.at(number, bits);
         }
-        self.last_moon?.at(number, bits)
+        self.last_moons.at(number, bits)
     }
 
     /// Keeps the ends of the new moon of a number, as enclosures at scale 2 to the power of minus `bits` gave them, if they did.
@@ -90,11 +91,11 @@ impl Trail {
         let Some(moment) = moment else {
             return;
         };
-        let kept = Some(KeptMoon::new(number, bits, moment));
+        let kept = KeptMoon::new(number, bits, moment);
         if number == 0 {
-            self.first_moon = kept;
+            self.first_moon = Some(kept);
         } else {
-            self.last_moon = kept;
+            self.last_moons.keep(kept);
         }
     }
 
