@@ -6,7 +6,9 @@ ghost use Rattle.book_model.specs.sky.Correction.{correction_row, row_in, row_of
 
 use crate::Frac;
 use crate::tables::{CORRECTION_1987, CORRECTION_2006};
-use crate::time_tables::{CORRECTION_1800, CORRECTION_1900, CORRECTION_ANCIENT};
+use crate::time_tables::{
+    CORRECTION_1700, CORRECTION_1800, CORRECTION_1900, CORRECTION_2051, CORRECTION_ANCIENT,
+};
 
 /// What the polynomial of a row is taken of, and what it counts.
 #[derive(Clone, Copy, Debug, PartialEq, Eq)]
@@ -25,12 +27,14 @@ pub type CorrectionRow = (i64, i64, CorrectionForm, &'static [Frac], Option<u32>
 
 /// The rows, in order. A year in none of them has no correction.
 #[rattlefmt::skip]
-pub static CORRECTIONS: [CorrectionRow; 5] = [
+pub static CORRECTIONS: [CorrectionRow; 7] = [
     (-499, 499, CorrectionForm::SecondsByHundreds, &CORRECTION_ANCIENT, None),
+    (1700, 1799, CorrectionForm::SecondsSince(1700), &CORRECTION_1700, Some(3)),
     (1800, 1899, CorrectionForm::DaysByCenturies, &CORRECTION_1800, Some(33)),
     (1900, 1986, CorrectionForm::DaysByCenturies, &CORRECTION_1900, Some(33)),
     (1987, 2005, CorrectionForm::SecondsSince(2000), &CORRECTION_1987, Some(4)),
     (2006, 2050, CorrectionForm::SecondsSince(2000), &CORRECTION_2006, Some(4)),
+    (2051, 2150, CorrectionForm::SecondsSince(2000), &CORRECTION_2051, Some(3)),
 ];
 
 /// The first of some rows that has a year, if one has.

@@ -110,10 +110,10 @@ pub const FIRST_FACT_DAY: i64 = -40_000_000;
 
 pub const LAST_FACT_DAY: i64 = 40_000_000;
 
-/// The first and the last day of which a fact may have a value (R.D.): 1 July 1800 and 31 December 2049.
-pub const FIRST_DAY: i64 = 657_253;
+/// The first and the last day of which a fact may have a value (R.D.): 1 July 1700 and 31 December 2149.
+pub const FIRST_DAY: i64 = 620_729;
 
-pub const LAST_DAY: i64 = 748_382;
+pub const LAST_DAY: i64 = 784_906;
 
 /// The least and the greatest value that a fact may have.
 pub const LEAST_VALUE: i64 = -10_000_000;

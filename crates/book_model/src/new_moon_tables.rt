@@ -10,28 +10,28 @@ pub const NEW_MOON_OF_2000: i64 = 24_724;
 
 /// The months from the first new moon, of number 0, to the end of the years of which there are corrections, and some 300 days more,
 /// rounded up, and a number that no number of a moment of these years passes.
-pub const LAST_TABLE_MONTH: i64 = 25_366;
+pub const LAST_TABLE_MONTH: i64 = 26_602;
 
-pub const LAST_TABLE_MOON: i64 = 25_500;
+pub const LAST_TABLE_MOON: i64 = 26_700;
 
 /// The first and the last number of a new moon that is recent.
-pub const FIRST_RECENT_MOON: i64 = 21_100;
+pub const FIRST_RECENT_MOON: i64 = 20_801;
 
-pub const LAST_RECENT_MOON: i64 = 25_800;
+pub const LAST_RECENT_MOON: i64 = 26_800;
 
 /// The centuries from 2000 within which recent new moons lie, and the days within which they lie of noon of 1 January 2000 in the
 /// mean.
-pub const RECENT_CENTURIES: u32 = 3;
+pub const RECENT_CENTURIES: u32 = 4;
 
-pub const RECENT_DAYS: u32 = 109_580;
+pub const RECENT_DAYS: u32 = 146_105;
 
-/// The day (R.D.) from which on a moment is late: all of which a fact asks are. It lies in the year 1780. The months from the first
+/// The day (R.D.) from which on a moment is late: all of which a fact asks are. It lies in the year 1698. The months from the first
 /// new moon to such a moment, and a number that comes before each number of one.
-pub const LATE_START: i64 = 650_000;
+pub const LATE_START: i64 = 620_000;
 
-pub const FIRST_LATE_MONTH: i64 = 22_000;
+pub const FIRST_LATE_MONTH: i64 = 20_984;
 
-pub const FIRST_LATE_MOON: i64 = 21_900;
+pub const FIRST_LATE_MOON: i64 = 20_900;
 
 /// The mean new moon, in days of dynamical time from noon of 1 January 2000.
 #[rattlefmt::skip]

@@ -120,9 +120,9 @@ pub const EQUINOX_ADVANCE: Cubic = Cubic {
 };
 
 /// The least crossing of a recent moment, in half degrees, rounded down, and the greatest size of its advance, in degrees, rounded up.
-pub const LEAST_RECENT_CROSSING: i64 = 349;
+pub const LEAST_RECENT_CROSSING: i64 = 348;
 
-pub const GREATEST_RECENT_ADVANCE: u32 = 6;
+pub const GREATEST_RECENT_ADVANCE: u32 = 7;
 
 /// What the sidereal longitude of the sun is ahead of the one from which precession is taken off.
 #[rattlefmt::skip]

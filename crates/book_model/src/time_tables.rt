@@ -15,6 +15,15 @@ pub const CORRECTION_ANCIENT: [Frac; 7] = [
     Frac { num: 90_316_521, den: 10_000_000_000 },
 ];
 
+/// The same in seconds, for the years 1700 to 1799: the coefficients of the powers of the year less 1700.
+#[rattlefmt::skip]
+pub const CORRECTION_1700: [Frac; 4] = [
+    Frac { num: 8_118_780_842, den: 1_000_000_000 },
+    Frac { num: -5_092_142, den: 1_000_000_000 },
+    Frac { num: 3_336_121, den: 1_000_000_000 },
+    Frac { num: -266_484, den: 10_000_000_000 },
+];
+
 /// The same in days, for the years 1800 to 1899: the coefficients of the powers of the centuries from the end of 1899
 /// to 1 July of the year.
 #[rattlefmt::skip]
@@ -45,6 +54,15 @@ pub const CORRECTION_1900: [Frac; 8] = [
     Frac { num: -212_591, den: 1_000_000 },
 ];
 
+/// The same in seconds, for the years 2051 to 2150: the coefficients of the powers of the year less 2000. The source has
+/// -20 + 32 c² - 0.5628 (2150 - y) in the year y, where c are the hundreds of years from 1820 to it: the same polynomial.
+#[rattlefmt::skip]
+pub const CORRECTION_2051: [Frac; 3] = [
+    Frac { num: -74, den: 100 },
+    Frac { num: 17_148, den: 10_000 },
+    Frac { num: 32, den: 10_000 },
+];
+
 /// Noon of 1 January 2000 (R.D.), from which centuries are counted.
 #[rattlefmt::skip]
 pub const NOON_2000: Frac = Frac { num: 1_460_241, den: 2 };
@@ -67,19 +85,19 @@ pub const SIDEREAL_TIME: Cubic = Cubic {
 pub const HOUR: Frac = Frac { num: 1, den: 24 };
 
 /// The first day (R.D.) of the years of which there are corrections, 1 January of the year -499, and the day after their last
-/// one, 1 January 2051.
+/// one, 1 January 2151.
 pub const TABLE_START: i64 = -182_621;
 
-pub const TABLE_END: i64 = 748_748;
+pub const TABLE_END: i64 = 785_272;
 
 /// The centuries from noon of 1 January 2000 to such a day, or to one a day beside it, rounded outwards.
 pub const FIRST_CENTURY: i64 = -25;
 
-pub const LAST_CENTURY: i64 = 1;
+pub const LAST_CENTURY: i64 = 2;
 
 /// The day (R.D.) from which on a moment is recent: over recent moments precession is computed, and new moons are narrower. It lies
-/// in the year 1643.
-pub const RECENT_START: i64 = 600_000;
+/// in the year 1588.
+pub const RECENT_START: i64 = 580_000;
 
 /// The half centuries from noon of 1 January 2000 to a recent moment, rounded outwards.
-pub const FIRST_RECENT_HALF_CENTURY: i64 = -8;
+pub const FIRST_RECENT_HALF_CENTURY: i64 = -9;

@@ -18,7 +18,7 @@ use book_model::moon_tables::{
     ELONGATION, JUPITER_WAVE, MILLIONTH, MOON_ANOMALY, MOON_LONGITUDE, MOON_TERMS, VENUS_WAVE,
 };
 use book_model::time_tables::{DAY_IN_CENTURIES, NOON_2000};
-use book_model::{Fail, MoonTerm, Site};
+use book_model::{FIRST_DAY, Fail, LAST_DAY, MoonTerm, Site};
 use encl_core::{Enclosure, Trail, lies_within, sum_of_terms, wrap_step};
 use std::marker::Model;
 use sun_core::{nutation, sine_wave};
@@ -27,11 +27,13 @@ use time_scales::dynamical;
 /// How many terms, the first of the table, are the greatest: tried as the sun's.
 pub(crate) const GREATEST_TERMS: usize = 4;
 
-/// The days of the years 1799 to 2050, counted from noon of 1 January 2000: every day of which a fact asks, and more than a month
-/// before and after.
-const FIRST_USUAL_DAY: i64 = -73_300;
+/// 1 January 2000 (R.D.), from whose noon days are counted.
+const DAY_OF_2000: i64 = 730_120;
 
-const LAST_USUAL_DAY: i64 = 18_600;
+/// The usual days, counted so: every day of which a fact may have a value, and more than a year before and after.
+const FIRST_USUAL_DAY: i64 = FIRST_DAY - DAY_OF_2000 - 400;
+
+const LAST_USUAL_DAY: i64 = LAST_DAY - DAY_OF_2000 + 400;
 
 /// The sum of the greatest terms, in millionths of a degree.
 fn greatest_terms<E: Enclosure>(angles: Angles<E>) -> E
@@ -117,7 +119,7 @@ impl<E: Enclosure> MoonCourse<E> {
         MoonCourse::<E>::by(days, c, angles_at(days, c))
     }
 
-    /// The course over the days of the years 1799 to 2050, at which its terms come to their whole size.
+    /// The course over the usual days, over which its terms come to their whole size.
     pub(crate) fn usual() -> Self {
         let days = E::from_int(FIRST_USUAL_DAY).hull(E::from_int(LAST_USUAL_DAY));
         let c = days.mul_frac(DAY_IN_CENTURIES);

@@ -30,7 +30,7 @@ fn number_of_phase<E: Enclosure>(months: E, degrees: E, trail: &mut Trail) -> Re
     nearest_moon(months.sub(degrees.mul_frac(DEGREE_IN_MONTHS)), trail)
 }
 
-/// The number by the months since the new moon of number 0 and by the phase at the moment itself: eleven tests at most.
+/// The number by the months since the new moon of number 0 and by the phase at the moment itself.
 #[tactic(auto, using(book_model::proofs::Leads::leading), unfolding(crate::specs::Courses::number_by))]
 fn number_at<E: Enclosure>(months: E, t: E, trail: &mut Trail) -> Result<i64, Fail>
     ensures leads { Decides2 E.shown number_by months t trail.old.count trail.new.count result }
@@ -95,7 +95,8 @@ fn number_after<E: Enclosure>(
     }
 }
 
-/// The number of the last new moon before a moment, or of one next to it, which lies within 40,000 of 0: twelve tests at most.
+/// The number of the last new moon before a moment, or of one next to it, which lies within 40,000 of 0: twelve tests at most
+/// (`number_few`).
 #[tactic(auto, using(book_model::proofs::Leads::leading), unfolding(book_model::specs::sky::Phases::number_of_moon, crate::specs::Courses::number_by, crate::specs::Courses::number_of_phase))]
 pub(crate) fn number<E: Enclosure>(
     course: &PhaseCourse<E>,

@@ -26,7 +26,7 @@ impl<E: Enclosure> PhaseCourse<E> {
         }
     }
 
-    /// The courses over the days of the years 1799 to 2050. A phase by them is many degrees wide, and still tells the number of the
+    /// The courses over the usual days. A phase by them is many degrees wide, and still tells the number of the
     /// new moon before a moment, unless the moment is near one: that is rounded from what lies within a 50th of a whole number.
     pub fn usual() -> Self {
         PhaseCourse {

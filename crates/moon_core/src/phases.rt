@@ -32,7 +32,7 @@ pub(crate) fn within_turn<E: Enclosure>(angle: E, trail: &mut Trail) -> Result<E
 }
 
 /// The longitude of the moon less that of the sun, from 0 up to 360 degrees, at a moment of the years of which there is a
-/// correction: five tests at most.
+/// correction: five tests at most (`elongation_few`).
 #[tactic(auto, using(book_model::proofs::Leads::leading), unfolding(book_model::specs::sky::Phases::elongation_of))]
 fn elongation<E: Enclosure>(t: E, trail: &mut Trail) -> Result<E, Fail>
     ensures leads { Follows1 E.shown spec.elongation_of t trail.old.count trail.new.count result }
@@ -48,7 +48,7 @@ fn elongation<E: Enclosure>(t: E, trail: &mut Trail) -> Result<E, Fail>
     within_turn(there.sub(longitude), trail)
 }
 
-/// The synodic months from the new moon of a number to a moment: one test at most.
+/// The synodic months from the new moon of a number to a moment: one test at most (`months_few`).
 #[tactic(auto, using(book_model::proofs::Leads::leading), unfolding(book_model::specs::sky::Phases::months_since, book_model::specs::sky::Phases::months_between))]
 pub(crate) fn months_since<E: Enclosure>(n: i64, t: E, trail: &mut Trail) -> Result<E, Fail>
     requires number { IsSmall n }
@@ -71,7 +71,7 @@ pub(crate) fn nearest_moon<E: Enclosure>(months: E, trail: &mut Trail) -> Result
 }
 
 /// The number of the new moon about a moment of the years of which there is a correction, by mean months from the first: two
-/// tests at most.
+/// tests at most (`rough_few`).
 #[tactic(auto, using(book_model::proofs::Leads::leading), unfolding(book_model::specs::sky::Phases::rough_number_of))]
 fn rough_number<E: Enclosure>(t: E, trail: &mut Trail) -> Result<i64, Fail>
     requires in_table { IsInTable (E.shown t) }
@@ -96,7 +96,7 @@ fn rest_of_month<E: Enclosure>(months: E, trail: &mut Trail) -> Result<E, Fail>
     wrap_step(months, 1, Site::PhaseWrap, trail)
 }
 
-/// The phase by the time since the new moon of a number, from 0 up to 360 degrees: two tests at most.
+/// The phase by the time since the new moon of a number, from 0 up to 360 degrees: two tests at most (`by_months_few`).
 #[tactic(auto, using(book_model::proofs::Leads::leading), unfolding(book_model::specs::sky::Phases::phase_by_months_of))]
 fn phase_by_months<E: Enclosure>(n: i64, t: E, trail: &mut Trail) -> Result<E, Fail>
     requires number { IsSmall n }
@@ -151,7 +151,7 @@ fn test_which_phase<E: Enclosure>(
     Ok(phase_of_choice(is_apart, by_longitudes, by_time))
 }
 
-/// The phase by longitudes, or in its place the one by the time since the new moon about the moment: five tests at most.
+/// The phase by longitudes, or in its place the one by the time since the new moon about the moment.
 #[tactic(auto, using(book_model::proofs::Leads::leading), unfolding(book_model::specs::sky::Phases::corrected_of))]
 pub(crate) fn corrected<E: Enclosure>(by_longitudes: E, t: E, trail: &mut Trail) -> Result<E, Fail>
     requires in_table { IsInTable (E.shown t) }

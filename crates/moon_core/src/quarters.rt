@@ -60,7 +60,7 @@ fn reduced<E: Enclosure>(angle: E, trail: &mut Trail) -> Result<E, Fail>
     wrap_step(angle, 360, Site::StepWrap, trail)
 }
 
-/// How far the moon is past a phase, from 0 up to 360 degrees: eleven tests at most.
+/// How far the moon is past a phase, from 0 up to 360 degrees: eleven tests at most (`past_few`).
 #[tactic(auto, using(book_model::proofs::Leads::leading), unfolding(book_model::specs::sky::Phases::phase_past_of))]
 fn phase_past<E: Enclosure>(phase: E, t: E, trail: &mut Trail) -> Result<E, Fail>
     ensures leads { Follows2 E.shown spec.phase_past_of phase t trail.old.count trail.new.count
@@ -125,8 +125,9 @@ pub fn phase_before_by<E: Enclosure>(
 }
 
 /// When the moon was last at a phase, in degrees, at or before a moment of universal time: by bisection about the moment to which
-/// the mean phase leads back (Reingold and Dershowitz, Calendrical Calculations, chapter 14). 844 tests at most: eleven of how far
-/// the moon is past the phase, and those of the bisection. It is void at `year` in a year without a correction.
+/// the mean phase leads back (Reingold and Dershowitz, Calendrical Calculations, chapter 14). 844 tests at most
+/// (`phase_before_few`): eleven of how far the moon is past the phase, and those of the bisection. It is void at `year` in a year
+/// without a correction.
 pub fn phase_before<E: Enclosure>(p: E, t: E, trail: &mut Trail) -> Result<E, Fail>
     ensures leads { Follows2 E.shown spec.phase_before_of p t trail.old.count trail.new.count result }
     ensures measured { Measured2 E.BITS E.shown (2 ^ 32) (λ v. IsMoment 0) IsMoment
@@ -138,8 +139,8 @@ pub fn phase_before<E: Enclosure>(p: E, t: E, trail: &mut Trail) -> Result<E, Fa
 }
 
 /// The day (R.D.) in universal time on which the moon was last at a phase, in degrees, before a day begins or as it begins, by the
-/// courses of the moon and the sun: 845 tests at most. It is void where `phase_before` is. Its first and third tests, of the year of
-/// the day itself, are never open.
+/// courses of the moon and the sun: 845 tests at most (`phase_day_few_exactly`). It is void where `phase_before` is. Its first and
+/// third tests, of the year of the day itself, are never open.
 #[tactic(auto, using(book_model::proofs::Leads::leading), unfolding(book_model::specs::sky::Phases::phase_day_of))]
 pub fn phase_day<E: Enclosure>(
     course: &PhaseCourse<E>,

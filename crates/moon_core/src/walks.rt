@@ -17,7 +17,7 @@ use new_moons::new_moon;
 /// How many numbers a walk tries: its start and five steps.
 const NUMBERS_TRIED: u32 = 6;
 
-/// Whether the new moon of a number is before a moment: two tests at most.
+/// Whether the new moon of a number is before a moment: two tests at most (`before_few`).
 #[tactic(auto, using(book_model::proofs::Leads::leading), unfolding(book_model::specs::sky::Phases::is_moon_before_of))]
 fn is_moon_before<E: Enclosure>(n: i64, t: E, trail: &mut Trail) -> Result<bool, Fail>
     requires number { IsSmall n }
@@ -52,7 +52,7 @@ fn walk<E: Enclosure>(more: u32, t: E, n: i64, trail: &mut Trail) -> Result<i64,
     }
 }
 
-/// The moment of the new moon that comes before the one of a number: one test at most.
+/// The moment of the new moon that comes before the one of a number: one test at most (`new_moon_few`).
 #[tactic(auto, unfolding(book_model::specs::sky::Phases::moon_preceding_of))]
 fn moon_preceding<E: Enclosure>(n: i64, trail: &mut Trail) -> Result<E, Fail>
     requires number { IsSmall n }

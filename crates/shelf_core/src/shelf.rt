@@ -92,8 +92,8 @@ impl Shelf {
         self.slot_number(fact) % BLOCK
     }
 
-    /// A pass of a fact, which has seen nothing; `None` exactly where the fact's day lies outside 1 July 1800 to
-    /// 31 December 2049. It takes no memory.
+    /// A pass of a fact, which has seen nothing; `None` exactly where the fact's day lies outside 1 July 1700 to
+    /// 31 December 2149. It takes no memory.
     pub fn pass(&self, fact: Fact) -> Option<Pass>
         ensures some { IsSome result ↔ IsValueDay fact.day }
         ensures fact { IfSome result (λ p. p.fact ≡ fact) }

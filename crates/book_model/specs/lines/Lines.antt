@@ -1,5 +1,6 @@
 -- The lines of an input, and the words and numbers of a line.
-use Rattle.std.specs.Prelude.{ℕ, ◌+◌, ◌-◌, ◌*◌, ◌==◌, ◌&&◌, ◌||◌, nat_lt, nat_le, if◌then◌else◌, Bool, List, [], ◌∷◌, length, take, map, slice_index, Some, None, Option}
+use Rattle.std.specs.Prelude.{◌≡◌, ℕ, ◌+◌, ◌-◌, ◌*◌, ◌<◌, ◌==◌, ◌&&◌, ◌||◌, nat_lt, nat_le, if◌then◌else◌, Bool, true, List, [], ◌∷◌, length, take, map, slice_index, Some, None, Option}
+use Rattle.std.specs.List.{list_all}
 
 -- the byte, and then the first of the parts
 abbrev pub onto_first : ℕ → List (List ℕ) → List (List ℕ)
@@ -26,6 +27,20 @@ is_blank b = (b == 32) || (b == 9)
 -- a byte that a line may hold: a tab, or a byte from 0x20 to 0x7E
 abbrev pub is_plain : ℕ → Bool
 is_plain b = (b == 9) || (nat_le 32 b && nat_lt b 127)
+
+-- a byte that a word may hold, from 0x21 to 0x7E
+abbrev pub is_printable : ℕ → Bool
+is_printable b = nat_lt 32 b && nat_lt b 127
+
+-- one or more bytes that a word may hold
+pub record IsWord (word : List ℕ) : Type 0 where
+  pub some : 0 < length word
+  pub printed : list_all is_printable word ≡ true
+
+-- each of them is a word
+abbrev pub AreWords : List (List ℕ) → Type 0
+AreWords [] = Unit {0}
+AreWords (w ∷ ws) = IsWord w × AreWords ws
 
 -- the byte b, before the bytes whose words these are: it begins a word where a blank or nothing follows
 abbrev pub onto_word : ℕ → List ℕ → List (List ℕ) → List (List ℕ)

@@ -1,5 +1,5 @@
 -- What a line asks, and the first rule that it breaks.
-use Rattle.std.specs.Prelude.{ℕ, ◌&&◌, nat_le, if◌then◌else◌, Bool, List, [], ◌∷◌, length, slice_index_or, pos, Some, None, Option, Result, Ok, Err}
+use Rattle.std.specs.Prelude.{◌≡◌, ℕ, ◌&&◌, nat_le, nat_lt, if◌then◌else◌, Bool, true, List, [], ◌∷◌, length, slice_index_or, pos, Some, None, Option, Result, Ok, Err}
 use Rattle.std.specs.List.{list_all}
 use Rattle.book_model.specs.declared.calendar.Calendar.{Calendar}
 use Rattle.book_model.specs.declared.words.FromWord.{FromWord}
@@ -10,7 +10,7 @@ use Rattle.book_model.specs.declared.request.Rule.{Rule}
 use Rattle.book_model.specs.declared.request.Rule.TheVariants as rules
 use Rattle.book_model.specs.declared.request.Rule.TheVariants.{Syntax, Field, Range}
 use Rattle.book_model.specs.declared.version.Version.{Version}
-use Rattle.book_model.specs.calendars.Dates.{may_have, is_answered}
+use Rattle.book_model.specs.calendars.Dates.{row_of, may_have, is_answered}
 use Rattle.book_model.specs.lines.Lines.{is_plain, words_of, parts_of, number_of}
 use Rattle.book_model.specs.lines.Words.{from_word_of, to_word_of, calendar_of}
 
@@ -39,6 +39,22 @@ fields_with ns = record {
   values = pos (slice_index_or ns 0 0) ∷ pos (slice_index_or ns 1 0) ∷ pos (slice_index_or ns 2 0) ∷ pos
       (slice_index_or ns 3 0) ∷ pos (slice_index_or ns 4 0) ∷ [];
 }
+
+-- a number of at most seven digits
+abbrev pub is_of_seven_digits : ℕ → Bool
+is_of_seven_digits n = nat_lt n 10000000
+
+-- a line can spell the request: its date is as many numbers as the dates of its calendar have, each of at most seven digits
+pub record IsSpelled (r : Request) : Type 0 where
+  pub numbers : List ℕ
+  pub date : r.date ≡ fields_with numbers
+  pub many : length numbers ≡ (row_of (calendar_of r.from)).count
+  pub short : list_all is_of_seven_digits numbers ≡ true
+
+-- lines can spell each of the requests
+abbrev pub AreSpelled : List Request → Type 0
+AreSpelled [] = Unit {0}
+AreSpelled (r ∷ rs) = IsSpelled r × AreSpelled rs
 
 -- the fields, where the calendar may have a date with them
 abbrev pub checked : Calendar → Fields → Option Fields
@@ -69,6 +85,10 @@ ranged version c (Some f) = if is_answered version c f then Ok f else Err Range
 abbrev pub with_date : FromWord → ToWord → Result Fields Rule → Result Request Rule
 with_date from to (Err rule) = Err rule
 with_date from to (Ok fields) = Ok (record { from = from; date = fields; to = to })
+
+-- the request itself, where its calendar may have its date and a version answers it
+abbrev pub checked_request : Version → Request → Result Request Rule
+checked_request version r = with_date r.from r.to (ranged version (calendar_of r.from) (checked (calendar_of r.from) r.date))
 
 abbrev pub with_words : Version → Option FromWord → List ℕ → Option ToWord → Result Request Rule
 with_words version None date to = Err rules.Calendar

@@ -12,6 +12,7 @@ use Rattle.book_model.specs.declared.words.ToWord.{ToWord}
 use Rattle.book_model.specs.declared.words.Meaning.{Meaning}
 use Rattle.book_model.specs.declared.words.Meaning.TheVariants.{Date, Value}
 use Rattle.book_model.specs.declared.request.Fields.{Fields}
+use Rattle.book_model.specs.declared.request.Request.{Request}
 use Rattle.book_model.specs.declared.request.Resolved.{Resolved}
 use Rattle.book_model.specs.declared.request.Resolved.TheVariants.{Shown, TooFar, NoDate}
 pub use Rattle.book_model.specs.calendars.Inquiries.{with_fact}
@@ -22,7 +23,7 @@ use Rattle.book_model.specs.lines.Outcomes.{LineOutcome, refused, resolved, unde
 use Rattle.book_model.specs.calendars.Dates.{row_of, field}
 use Rattle.book_model.specs.calendars.Versions.{header_line}
 use Rattle.book_model.specs.lines.Requests.{rule_number}
-use Rattle.book_model.specs.lines.Words.{shown_by}
+use Rattle.book_model.specs.lines.Words.{calendar_of, shown_by, text_of_from, text_of_to}
 
 -- the first line of a version's files
 abbrev pub header_of : Version → List ℕ
@@ -61,6 +62,14 @@ dashed_text f = dashed (take f.count f.values)
 -- the text of a date of a calendar
 abbrev pub date_text : Calendar → Fields → List ℕ
 date_text c date = if (row_of c).is_padded then gregorian_text date else dashed_text date
+
+-- FROM DATE TO, with single spaces
+unfoldable pub three_words_text : (from date to : List ℕ) → List ℕ
+three_words_text from date to = concat (from ∷ codes " " ∷ date ∷ codes " " ∷ to ∷ [])
+
+-- the line of a request
+unfoldable pub line_text : Request → List ℕ
+line_text r = three_words_text (text_of_from r.from) (date_text (calendar_of r.from) r.date) (text_of_to r.to)
 
 -- the text of a date or a value that is shown
 abbrev pub text_shown : Meaning → Fields → List ℕ
