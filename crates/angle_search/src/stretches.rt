@@ -3,9 +3,7 @@
 use crate::Angular;
 use book_model::{Fail, Site, Undecided};
 use encl_core::{Enclosure, Span};
-
-/// A turn of the circle, in 2⁻⁵⁶ degrees.
-const TURN: i128 = 360 << 56;
+use interval_ends::parts::TURN;
 
 /// What is left of the ends of an open test by whole turns, so that their middle is about 0: at `sun-wrap` and `phase-wrap` they
 /// are an angle itself, which near 0 and near 360 is as far from an angle that is passed as from 0.

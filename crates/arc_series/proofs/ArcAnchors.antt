@@ -16,14 +16,15 @@ use Rattle.book_model.proofs.ArcSeries.{InHalf, series_proper, series_nests, deg
 use Rattle.book_model.proofs.ArcPieces.{InPiece, InAbove, turned, turned_in, recip_in, quarters}
 use Rattle.arc_series.specs.declared.pieces.Piece.{Piece}
 use Rattle.arc_series.specs.Forms.{piece_of}
-use Rattle.arc_series.specs.Kernel.{at_64}
+use Rattle.rounded_quotients.specs.Units.{at_64}
 use Rattle.arc_series.proofs.ArcValues.{radian, radian_near}
 use Rattle.arc_series.proofs.PieceArcs.{more_held, less_held, opposite_held}
 use Rattle.arc_series.proofs.ArcSlopes.{rate, Climbs, climbing, piece_climbs, piece_arc}
 
 -- ---- by the series to the term of index 28
 anchored : (x a b : Fraction) (lo hi : ℤ) → InHalf x → arctan_series 28 x ⊆ between a b
-    → product (between a b) radian ⊆ between (units_of_56 lo) (units_of_56 hi) → arc_near 40 x ⊆ between (units_of_56 lo) (units_of_56 hi)
+    → product (between a b) radian ⊆ between (units_of_56 lo) (units_of_56 hi)
+    → arc_near 40 x ⊆ between (units_of_56 lo) (units_of_56 hi)
 unfolding arc_near
 anchored x a b lo hi w h k =
     within_trans (product_within (series_proper 40 x w) (degrees_proper 40) (within_trans ((series_nests x w.above w.below).within 28 40 (omega arith)) h)
@@ -108,7 +109,8 @@ near_none = anchored zero_F _ _ _ _ zero_in none_series none_degrees
 
 pub above_half : arc_above 40 half ⊆ between (units_of_56 (pos 1914213673314665422)) (units_of_56 (pos 1914213673314665425))
 unfolding arc_above
-above_half = more_held 45 (neg_ℤ (pos 1328378058392091698)) (neg_ℤ (pos 1328378058392091695)) _ _ _ refl refl
+above_half =
+    more_held 45 (neg_ℤ (pos 1328378058392091698)) (neg_ℤ (pos 1328378058392091695)) _ _ _ refl refl
     (anchored (turned half) _ _ _ _ (turned_in half half_from) minus_third_series minus_third_degrees)
 
 pub above_one : arc_above 40 one ⊆ between (units_of_56 (pos (45 * 2 ^ 56))) (units_of_56 (pos (45 * 2 ^ 56)))
@@ -117,12 +119,14 @@ above_one = more_held 45 (pos 0) (pos 0) _ _ _ refl refl (anchored (turned one) 
 
 pub above_three : arc_above 40 (whole (pos 3)) ⊆ between (units_of_56 (pos 5156805405021422542)) (units_of_56 (pos 5156805405021422545))
 unfolding arc_above
-above_three = more_held 45 (pos 1914213673314665422) (pos 1914213673314665425) _ _ _ refl refl
+above_three =
+    more_held 45 (pos 1914213673314665422) (pos 1914213673314665425) _ _ _ refl refl
     (anchored (turned (whole (pos 3))) _ _ _ _ (turned_in (whole (pos 3)) three_from) two_quarters_series half_degrees)
 
 pub beyond_three : arc_beyond 40 (whole (pos 3)) ⊆ between (units_of_56 (pos 5156805405021422542)) (units_of_56 (pos 5156805405021422545))
 unfolding arc_beyond
-beyond_three = less_held 90 (pos 1328378058392091695) (pos 1328378058392091698) _ _ _ refl refl
+beyond_three =
+    less_held 90 (pos 1328378058392091695) (pos 1328378058392091698) _ _ _ refl refl
     (anchored (reciprocal (whole (pos 3))) _ _ _ _ (recip_in (whole (pos 3)) (le_refl (whole (pos 3)))) third_series third_degrees)
 
 -- ---- the negative ones
@@ -155,7 +159,8 @@ unfolding plus times
 climb_whole d hi low h = omega (arith, ints, h.cross)
 
 climb_ends : (d lo hi low high : ℤ) {i j : Interval} → Climbs (units_of_56 d) i j → i ⊆ between (units_of_56 lo) (units_of_56 hi)
-    → j ⊆ between (units_of_56 low) (units_of_56 high) → (low *ℤ pos 10) ≤ℤ (hi *ℤ pos 10 +ℤ d *ℤ pos 573)
+    → j ⊆ between (units_of_56 low) (units_of_56 high)
+    → (low *ℤ pos 10) ≤ℤ (hi *ℤ pos 10 +ℤ d *ℤ pos 573)
 climb_ends d lo hi low high (climbing {b = b} {c = c} h) i j =
     climb_whole d hi low (le_trans _ c _ j.ends.0 (le_trans c _ _ h (plus_mono b (units_of_56 hi) (times rate (units_of_56 d)) _ i.ends.1 (le_refl _))))
 
@@ -163,7 +168,8 @@ pub at_whole : (a b : ℤ) → units_of_56 a ≤F units_of_56 b → a ≤ℤ b
 at_whole a b h = omega (arith, ints, h.cross)
 
 rise_ends : (lo hi low high : ℤ) {i j : Interval} → Precedes i j → IsProper j → i ⊆ between (units_of_56 lo) (units_of_56 hi)
-    → j ⊆ between (units_of_56 low) (units_of_56 high) → lo ≤ℤ high
+    → j ⊆ between (units_of_56 low) (units_of_56 high)
+    → lo ≤ℤ high
 rise_ends lo hi low high (preceding {a = a} {c = c} {d = d} ac bd) p i j = at_whole lo high
     (le_trans _ a _ i.ends.0 (le_trans a c _ ac (le_trans c d _ p j.ends.1)))
 
@@ -181,7 +187,8 @@ pub record AreMeeting (lo hi low high : ℤ) : Type 0 where
   pub second : low ≤ℤ hi
 
 pub meeting : (i : Interval) (lo hi low high : ℤ) → IsProper i → i ⊆ between (units_of_56 lo) (units_of_56 hi)
-    → i ⊆ between (units_of_56 low) (units_of_56 high) → AreMeeting lo hi low high
+    → i ⊆ between (units_of_56 low) (units_of_56 high)
+    → AreMeeting lo hi low high
 meeting everything lo hi low high p h k = absurd h.ends
 meeting (between a b) lo hi low high p h k = record {
   first = at_whole lo high (le_trans _ a _ h.ends.0 (le_trans a b _ p k.ends.1));

@@ -1,5 +1,6 @@
 -- From spans and forms to the arcs of expressions.
-use Rattle.std.proofs.Common.{◌≡◌, ℕ, ◌≤◌, ◌+◌, ◌-◌, ◌*◌, ◌^◌, refl, sym, subst, arith, ℤ, pos, negsuc, ◌+ℤ◌, ◌≤ℤ◌, ◌<ℤ◌, Bool, true, false, cond, ◌⊎◌, inl, inr}
+use Rattle.std.proofs.Common.{◌≡◌, ℕ, ◌≤◌, ◌+◌, ◌-◌, ◌*◌, ◌^◌, refl, sym, subst, arith, ℤ, pos, negsuc, ◌+ℤ◌, ◌≤ℤ◌, ◌<ℤ◌, Bool, true, false, cond, ◌⊎◌, inl}
+use Rattle.std.proofs.Common.{inr}
 use Rattle.std.specs.Prelude.{IsTrue, nat_lt, nat_le}
 use Rattle.std.specs.Int.{int_min, int_max}
 use Rattle.std.proofs.lemmas.Int.{ints, clamps}
@@ -16,9 +17,11 @@ use Rattle.book_model.specs.numbers.Expressions.{Expression, World, value, integ
 use Rattle.book_model.specs.numbers.Relations.{Within, Narrow, Lies, Keeps}
 use Rattle.book_model.specs.numbers.Arcs.{arctangent_of, arcsine_of, arccosine_of, arctangent_of_two as two_arctangent, all_around}
 use Rattle.book_model.specs.numbers.Octants.{only}
-use Rattle.book_model.specs.numbers.Bounds.{limited, bound_of, IsNarrow, Bound, bounded, spanned_bound, arcsine_bound, half_tangent_bound, arccosine_bound, limits_of, limits_at, no_limits, is_scale}
+use Rattle.book_model.specs.numbers.Bounds.{limited, bound_of, IsNarrow, Bound, bounded, spanned_bound, arcsine_bound, half_tangent_bound, arccosine_bound}
+use Rattle.book_model.specs.numbers.Bounds.{limits_of, limits_at, no_limits, is_scale}
 use Rattle.book_model.proofs.Values.{value_proper}
 use Rattle.book_model.proofs.Arcs.{arctangents, two_inside, not_positive}
+use Rattle.interval_ends.specs.declared.parts.TheConstants.{HALF_TURN}
 use Rattle.arc_series.specs.Forms.{half_tangent_of, has_sign}
 
 -- ---- the arctangent
@@ -65,7 +68,7 @@ narrow_two shown l r a b e = record { kept = tt }
 
 -- ---- from -180 to 180
 abbrev pub half_turn : ℤ
-half_turn = pos 12970366926827028480
+half_turn = HALF_TURN
 
 pub around_held : {E : Type 0} (shown : E → Interval) (r : E) → between (units_of_56 (neg_ℤ half_turn)) (units_of_56 half_turn) ⊆ shown r → all_around ⊆ shown r
 around_held shown r h = within_trans (record { ends = (record { cross = record { le = tt } }, record { cross = record { le = tt } }) }) h
@@ -109,12 +112,13 @@ from_spans k s (between a b) h = record {
 pub span_inside : {E : Type 0} (shown : E → Interval) (bits : ℕ) (lo hi : ℤ) (r : E) → neg_ℤ half_turn ≤ℤ lo → lo ≤ℤ hi → hi ≤ℤ half_turn
     → ((w : ℕ) (b : Bound) → IsNarrow w b (between (units_of_56 lo) (units_of_56 hi)) → IsNarrow w (spanned_bound (limits_of bits) b) (shown r))
     → IsTrue (is_scale bits) → shown r ⊆ all_around
-span_inside shown bits lo hi r h o k f s = from_spans _ _ (shown r)
-    (subst (λ b. IsNarrow 0 b (shown r)) (spanned_turn bits s) (f 0 turn (turn_narrow lo hi h o k)))
+span_inside shown bits lo hi r h o k f s =
+    from_spans _ _ (shown r) (subst (λ b. IsNarrow 0 b (shown r)) (spanned_turn bits s) (f 0 turn (turn_narrow lo hi h o k)))
 
 pub around_inside : {E : Type 0} (shown : E → Interval) (bits : ℕ) (r : E)
     → ((w : ℕ) (b : Bound) → IsNarrow w b (between (units_of_56 (neg_ℤ half_turn)) (units_of_56 half_turn))
-    → IsNarrow w (spanned_bound (limits_of bits) b) (shown r)) → IsTrue (is_scale bits) → shown r ⊆ all_around
+    → IsNarrow w (spanned_bound (limits_of bits) b) (shown r))
+    → IsTrue (is_scale bits) → shown r ⊆ all_around
 around_inside shown bits r f s = span_inside shown bits (neg_ℤ half_turn) half_turn r (omega (arith, ints)) (omega (arith, ints)) (omega (arith, ints)) f s
 
 -- ends that are moved there
@@ -124,8 +128,8 @@ moved x = int_max (int_min x half_turn) (neg_ℤ half_turn)
 pub moved_inside : {E : Type 0} (shown : E → Interval) (bits : ℕ) (lo hi low high : ℤ) (r : E) → lo ≤ℤ hi → low ≡ moved lo → high ≡ moved hi
     → ((w : ℕ) (b : Bound) → IsNarrow w b (between (units_of_56 low) (units_of_56 high)) → IsNarrow w (spanned_bound (limits_of bits) b) (shown r))
     → IsTrue (is_scale bits) → shown r ⊆ all_around
-moved_inside shown bits lo hi low high r o e f g s = span_inside shown bits low high r (omega (arith, ints, clamps, e)) (omega (arith, ints, clamps, e, f, o))
-    (omega (arith, ints, clamps, f)) g s
+moved_inside shown bits lo hi low high r o e f g s =
+    span_inside shown bits low high r (omega (arith, ints, clamps, e)) (omega (arith, ints, clamps, e, f, o)) (omega (arith, ints, clamps, f)) g s
 
 pub moved_order : (lo hi low high : ℤ) → lo ≤ℤ hi → low ≡ moved lo → high ≡ moved hi → low ≤ℤ high
 moved_order lo hi low high o e f = omega (arith, ints, clamps, e, f, o)
@@ -148,7 +152,8 @@ high_moved hi high b e h k = by_split (split hi high)
     by_split (inr l) = le_trans b (whole (pos 180)) _ k (record { cross = omega (arith, ints, clamps, e, l) })
 
 moved_ends : (lo hi low high : ℤ) (i : Interval) → low ≡ moved lo → high ≡ moved hi → AreWithin i (between (units_of_56 lo) (units_of_56 hi))
-    → AreWithin i all_around → i ⊆ between (units_of_56 low) (units_of_56 high)
+    → AreWithin i all_around
+    → i ⊆ between (units_of_56 low) (units_of_56 high)
 moved_ends lo hi low high everything e f h k = absurd h
 moved_ends lo hi low high (between a b) e f h k = record { ends = (low_moved lo low a e h.0 k.0, high_moved hi high b f h.1 k.1) }
 
@@ -173,13 +178,13 @@ all_less : (n : ℕ) (e : Fraction) (y : Interval) → less_arctangent n e y eve
 unfolding sum negative quotient arctangent_of
 all_less n e y = refl
 
-positive_two : (n : ℕ) (a b c d : Fraction) → lt_z (pos 0) a.num ≡ true → two_arctangent n (between a b) (between c d)
-    ≡ less_arctangent n (whole (pos 90)) (between a b) (between c d)
+positive_two : (n : ℕ) (a b c d : Fraction) → lt_z (pos 0) a.num ≡ true
+    → two_arctangent n (between a b) (between c d) ≡ less_arctangent n (whole (pos 90)) (between a b) (between c d)
 unfolding two_arctangent
 positive_two n a b c d e = rw e refl
 
-negative_two : (n : ℕ) (a b c d : Fraction) → lt_z (pos 0) a.num ≡ false → lt_z b.num (pos 0) ≡ true → two_arctangent n (between a b) (between c d)
-    ≡ less_arctangent n (whole (negsuc 89)) (between a b) (between c d)
+negative_two : (n : ℕ) (a b c d : Fraction) → lt_z (pos 0) a.num ≡ false → lt_z b.num (pos 0) ≡ true
+    → two_arctangent n (between a b) (between c d) ≡ less_arctangent n (whole (negsuc 89)) (between a b) (between c d)
 unfolding two_arctangent
 negative_two n a b c d e f = rw (e, f) refl
 
@@ -224,9 +229,9 @@ unfolding Lies value
 upper_held shown w a b y e r lo hi s h p k f =
     let i : value w a ⊆ shown y = p.inside in
     record {
-      deep = p.deep;
-      inside = upper_by shown w.depth (value w a) (value w b) lo hi e r (value_proper w a) (value_proper w b) s (within_trans i h).ends
-          k.inside f;
+      deep =
+          p.deep;
+      inside = upper_by shown w.depth (value w a) (value w b) lo hi e r (value_proper w a) (value_proper w b) s (within_trans i h).ends k.inside f;
     }
 
 pub lower_held : {E : Type 0} (shown : E → Interval) (w : World) (a b : Expression) (y e r : E) (lo hi : ℤ) → hi <ℤ pos 0
@@ -237,19 +242,16 @@ unfolding Lies value
 lower_held shown w a b y e r lo hi s h p k f =
     let i : value w a ⊆ shown y = p.inside in
     record {
-      deep = p.deep;
-      inside = lower_by shown w.depth (value w a) (value w b) lo hi e r (value_proper w a) (value_proper w b) s (within_trans i h).ends
-          k.inside f;
+      deep =
+          p.deep;
+      inside = lower_by shown w.depth (value w a) (value w b) lo hi e r (value_proper w a) (value_proper w b) s (within_trans i h).ends k.inside f;
     }
 
 pub somewhere_held : {E : Type 0} (shown : E → Interval) (w : World) (a b : Expression) (y r : E) → all_around ⊆ shown r → Within shown w a y
     → Within shown w (arctangent_of_two a b) r
 unfolding Lies value
-somewhere_held shown w a b y r h p = record {
-  deep = p.deep;
-  inside = within_trans
-      (two_inside w.depth (value w a) (value w b) (value_proper w a) (value_proper w b)) h;
-}
+somewhere_held shown w a b y r h p =
+    record { deep = p.deep; inside = within_trans (two_inside w.depth (value w a) (value w b) (value_proper w a) (value_proper w b)) h }
 
 -- an enclosure above or below 0 has a sign
 sign_above : (i : Interval) (lo hi : ℤ) → AreWithin i (between (units_of_56 lo) (units_of_56 hi)) → pos 0 <ℤ lo → has_sign i ≡ true

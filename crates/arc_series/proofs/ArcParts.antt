@@ -17,7 +17,8 @@ use Rattle.arc_series.specs.Forms.{piece_of, begin_56, end_56}
 use Rattle.arc_series.specs.Widths.{IsThin, IsRate, Edge, first_edge, last_edge, IsFrom, IsUpTo, IsReach, Reaches, AreOver, no_begin, no_end}
 use Rattle.arc_series.proofs.HeldArcs.{Holds_arcs}
 use Rattle.arc_series.proofs.ArcSlopes.{piece_arc}
-use Rattle.arc_series.proofs.ArcAnchors.{near_half, near_minus_half, above_half, above_three, beyond_three, below_half, below_three, far_below_three, AreApart, apart, AreMeeting, meeting}
+use Rattle.arc_series.proofs.ArcAnchors.{near_half, near_minus_half, above_half, above_three, beyond_three, below_half, below_three, far_below_three}
+use Rattle.arc_series.proofs.ArcAnchors.{AreApart, apart, AreMeeting, meeting}
 use Rattle.arc_series.proofs.ArcRates.{ends_rated}
 use Rattle.arc_series.proofs.ArcRanges.{in_piece, ranged, from_lower, from_lesser, up_to_greater}
 
@@ -44,13 +45,13 @@ pub record IsHull (a b c d lo hi : ℤ) : Type 0 where
   pub low : lo ≡ int_min a c
   pub high : hi ≡ int_max b d
 
-part_narrow : (k m a b c d lo hi : ℤ) → k ≤ℤ m → IsThin a b → IsThin c d → AreApart (m -ℤ k) a b c d → IsHull a b c d lo hi → ((hi -ℤ lo) *ℤ pos 10)
-    ≤ℤ ((m -ℤ k) *ℤ pos 573 +ℤ pos 80)
+part_narrow : (k m a b c d lo hi : ℤ) → k ≤ℤ m → IsThin a b → IsThin c d → AreApart (m -ℤ k) a b c d → IsHull a b c d lo hi
+    → ((hi -ℤ lo) *ℤ pos 10) ≤ℤ ((m -ℤ k) *ℤ pos 573 +ℤ pos 80)
 part_narrow k m a b c d lo hi o t u n h = omega (arith, ints, clamps, o, t.thin, u.thin, n.climb, n.rise, h.low, h.high)
 
 -- at a rate: the numbers times it are in order
-part_slow : (km ms a b c d lo hi : ℤ) → km ≤ℤ ms → IsThin a b → IsThin c d → a ≤ℤ d → (c *ℤ pos (10 * 2 ^ 60))
-    ≤ℤ (b *ℤ pos (10 * 2 ^ 60) +ℤ (ms -ℤ km) *ℤ pos 573) → IsHull a b c d lo hi
+part_slow : (km ms a b c d lo hi : ℤ) → km ≤ℤ ms → IsThin a b → IsThin c d → a ≤ℤ d
+    → (c *ℤ pos (10 * 2 ^ 60)) ≤ℤ (b *ℤ pos (10 * 2 ^ 60) +ℤ (ms -ℤ km) *ℤ pos 573) → IsHull a b c d lo hi
     → ((hi -ℤ lo) *ℤ pos (10 * 2 ^ 60)) ≤ℤ ((ms -ℤ km) *ℤ pos 573 +ℤ pos (80 * 2 ^ 60))
 part_slow km ms a b c d lo hi o t u l n h = omega (arith, ints, clamps, o, t.thin, u.thin, l, n, h.low, h.high)
 
@@ -104,10 +105,8 @@ half_near : IsKnown Near half (pos 1914213673314665422) (pos 1914213673314665425
 half_near = record { inside = record { from = record { cross = record { le = tt } }; to = record { cross = record { le = tt } } }; known = near_half }
 
 minus_half_near : IsKnown Near minus_half (neg_ℤ (pos 1914213673314665425)) (neg_ℤ (pos 1914213673314665422))
-minus_half_near = record {
-  inside = record { from = record { cross = record { le = tt } }; to = record { cross = record { le = tt } } };
-  known = near_minus_half;
-}
+minus_half_near =
+    record { inside = record { from = record { cross = record { le = tt } }; to = record { cross = record { le = tt } } }; known = near_minus_half }
 
 minus_half_below : IsKnown Below minus_half (neg_ℤ (pos 1914213673314665425)) (neg_ℤ (pos 1914213673314665422))
 minus_half_below = record { inside = record { from = record { cross = record { le = tt } }; to = record { cross = record { le = tt } } }; known = below_half }
@@ -122,24 +121,31 @@ minus_three_beyond = record { inside = record { from = tt; to = record { cross =
 at_first_edge : (p : Piece) (k a b : ℤ) → k ≡ (first_edge p).place → negsuc (2 ^ 127 - 1) ≤ℤ k → Holds_arcs p k (between (units_of_56 a) (units_of_56 b))
     → (a ≤ℤ ((first_edge p).arc +ℤ pos 2)) × ((first_edge p).arc ≤ℤ (b +ℤ pos 2))
 at_first_edge FarBelow k a b e l h = absurd (omega (arith, ints, e, l))
-at_first_edge Below k a b e l h = let m = at_edge Below (whole (negsuc 2)) k _ _ a b (record { cross = omega (arith, ints, e) }) minus_three_below h in
+at_first_edge Below k a b e l h =
+    let m = at_edge Below (whole (negsuc 2)) k _ _ a b (record { cross = omega (arith, ints, e) }) minus_three_below h in
     (omega (arith, ints, m.second), omega (arith, ints, m.first))
-at_first_edge Near k a b e l h = let m = at_edge Near minus_half k _ _ a b (record { cross = omega (arith, ints, e) }) minus_half_near h in
+at_first_edge Near k a b e l h =
+    let m = at_edge Near minus_half k _ _ a b (record { cross = omega (arith, ints, e) }) minus_half_near h in
     (omega (arith, ints, m.second), omega (arith, ints, m.first))
-at_first_edge Above k a b e l h = let m = at_edge Above half k _ _ a b (record { cross = omega (arith, ints, e) }) half_above h in
+at_first_edge Above k a b e l h =
+    let m = at_edge Above half k _ _ a b (record { cross = omega (arith, ints, e) }) half_above h in
     (omega (arith, ints, m.second), omega (arith, ints, m.first))
-at_first_edge FarAbove k a b e l h = let m = at_edge FarAbove (whole (pos 3)) k _ _ a b (record { cross = omega (arith, ints, e) }) three_beyond h in
+at_first_edge FarAbove k a b e l h =
+    let m = at_edge FarAbove (whole (pos 3)) k _ _ a b (record { cross = omega (arith, ints, e) }) three_beyond h in
     (omega (arith, ints, m.second), omega (arith, ints, m.first))
 
 at_last_edge : (p : Piece) (k a b : ℤ) → k ≡ (last_edge p).place → k ≤ℤ pos (2 ^ 127 - 1) → Holds_arcs p k (between (units_of_56 a) (units_of_56 b))
     → (a ≤ℤ ((last_edge p).arc +ℤ pos 2)) × ((last_edge p).arc ≤ℤ (b +ℤ pos 2))
-at_last_edge FarBelow k a b e l h = let m = at_edge FarBelow (whole (negsuc 2)) k _ _ a b (record { cross = omega (arith, ints, e) }) minus_three_beyond h in
+at_last_edge FarBelow k a b e l h =
+    let m = at_edge FarBelow (whole (negsuc 2)) k _ _ a b (record { cross = omega (arith, ints, e) }) minus_three_beyond h in
     (omega (arith, ints, m.second), omega (arith, ints, m.first))
-at_last_edge Below k a b e l h = let m = at_edge Below minus_half k _ _ a b (record { cross = omega (arith, ints, e) }) minus_half_below h in
+at_last_edge Below k a b e l h =
+    let m = at_edge Below minus_half k _ _ a b (record { cross = omega (arith, ints, e) }) minus_half_below h in
     (omega (arith, ints, m.second), omega (arith, ints, m.first))
-at_last_edge Near k a b e l h = let m = at_edge Near half k _ _ a b (record { cross = omega (arith, ints, e) }) half_near h in
-    (omega (arith, ints, m.second), omega (arith, ints, m.first))
-at_last_edge Above k a b e l h = let m = at_edge Above (whole (pos 3)) k _ _ a b (record { cross = omega (arith, ints, e) }) three_above h in
+at_last_edge Near k a b e l h =
+    let m = at_edge Near half k _ _ a b (record { cross = omega (arith, ints, e) }) half_near h in (omega (arith, ints, m.second), omega (arith, ints, m.first))
+at_last_edge Above k a b e l h =
+    let m = at_edge Above (whole (pos 3)) k _ _ a b (record { cross = omega (arith, ints, e) }) three_above h in
     (omega (arith, ints, m.second), omega (arith, ints, m.first))
 at_last_edge FarAbove k a b e l h = absurd (omega (arith, ints, e, l))
 
@@ -253,8 +259,8 @@ part_reaches p lo hi k m a b c d r s h g =
 
 -- ---- side by side
 -- what the hull of two spans is
-join_narrow : (f e l v lo hi a b c d low high : ℤ) (j k : ℕ) → lo ≤ℤ e → e ≤ℤ hi → a ≤ℤ b → c ≤ℤ d → f ≤ℤ e → e ≤ℤ l → a ≤ℤ (v +ℤ pos 2) → v ≤ℤ (b +ℤ pos 2) → c
-    ≤ℤ (v +ℤ pos 2) → v ≤ℤ (d +ℤ pos 2)
+join_narrow : (f e l v lo hi a b c d low high : ℤ) (j k : ℕ) → lo ≤ℤ e → e ≤ℤ hi → a ≤ℤ b → c ≤ℤ d → f ≤ℤ e → e ≤ℤ l → a ≤ℤ (v +ℤ pos 2) → v ≤ℤ (b +ℤ pos 2)
+    → c ≤ℤ (v +ℤ pos 2) → v ≤ℤ (d +ℤ pos 2)
     → ((b -ℤ a) *ℤ pos 10) ≤ℤ ((int_min e hi -ℤ int_max f lo) *ℤ pos 573 +ℤ pos j) → ((d -ℤ c) *ℤ pos 10)
     ≤ℤ ((int_min l hi -ℤ int_max e lo) *ℤ pos 573 +ℤ pos k) → IsHull a b c d low high
     → ((high -ℤ low) *ℤ pos 10) ≤ℤ ((int_min l hi -ℤ int_max f lo) *ℤ pos 573 +ℤ pos (j + k + 40))
@@ -267,8 +273,8 @@ join_narrow f e l v lo hi a b c d low high j k p q x y fe el al vb cl vd m n h =
         → ((high -ℤ low) *ℤ pos 10) ≤ℤ ((to -ℤ from) *ℤ pos 573 +ℤ pos (j + k + 40))
     by_ends from to m n = omega (arith, ints, clamps, x, y, al, vb, cl, vd, m, n, h.low, h.high)
 
-join_slow : (e v lo hi a b c d low high fs ls : ℤ) (s j k : ℕ) → lo ≤ℤ e → e ≤ℤ hi → a ≤ℤ b → c ≤ℤ d → a ≤ℤ (v +ℤ pos 2) → v ≤ℤ (b +ℤ pos 2) → c ≤ℤ (v +ℤ pos 2)
-    → v ≤ℤ (d +ℤ pos 2)
+join_slow : (e v lo hi a b c d low high fs ls : ℤ) (s j k : ℕ) → lo ≤ℤ e → e ≤ℤ hi → a ≤ℤ b → c ≤ℤ d → a ≤ℤ (v +ℤ pos 2) → v ≤ℤ (b +ℤ pos 2)
+    → c ≤ℤ (v +ℤ pos 2) → v ≤ℤ (d +ℤ pos 2)
     → ((b -ℤ a) *ℤ pos (10 * 2 ^ 60)) ≤ℤ ((int_min e hi *ℤ pos s -ℤ fs) *ℤ pos 573 +ℤ pos (j * 2 ^ 60)) → ((d -ℤ c) *ℤ pos (10 * 2 ^ 60))
     ≤ℤ ((ls -ℤ int_max e lo *ℤ pos s) *ℤ pos 573 +ℤ pos (k * 2 ^ 60)) → IsHull a b c d low high
     → ((high -ℤ low) *ℤ pos (10 * 2 ^ 60)) ≤ℤ ((ls -ℤ fs) *ℤ pos 573 +ℤ pos ((j + k + 40) * 2 ^ 60))
@@ -277,30 +283,30 @@ join_slow e v lo hi a b c d low high fs ls s j k p q x y al vb cl vd m n h =
     let t : int_max e lo ≡ e = omega (arith, ints, clamps, p) in
     by_ends (e *ℤ pos s) (rw g at m) (rw t at n)
   where
-    by_ends : (es : ℤ) → ((b -ℤ a) *ℤ pos (10 * 2 ^ 60)) ≤ℤ ((es -ℤ fs) *ℤ pos 573 +ℤ pos (j * 2 ^ 60)) → ((d -ℤ c) *ℤ pos (10 * 2 ^ 60))
-        ≤ℤ ((ls -ℤ es) *ℤ pos 573 +ℤ pos (k * 2 ^ 60)) → ((high -ℤ low) *ℤ pos (10 * 2 ^ 60)) ≤ℤ ((ls -ℤ fs) *ℤ pos 573 +ℤ pos ((j + k + 40) * 2 ^ 60))
+    by_ends : (es : ℤ) → ((b -ℤ a) *ℤ pos (10 * 2 ^ 60)) ≤ℤ ((es -ℤ fs) *ℤ pos 573 +ℤ pos (j * 2 ^ 60))
+        → ((d -ℤ c) *ℤ pos (10 * 2 ^ 60)) ≤ℤ ((ls -ℤ es) *ℤ pos 573 +ℤ pos (k * 2 ^ 60))
+        → ((high -ℤ low) *ℤ pos (10 * 2 ^ 60)) ≤ℤ ((ls -ℤ fs) *ℤ pos 573 +ℤ pos ((j + k + 40) * 2 ^ 60))
     by_ends es m n = omega (arith, ints, clamps, x, y, al, vb, cl, vd, m, n, h.low, h.high)
 
-pub both_reach : (f e l : Edge) (j k : ℕ) (lo hi : ℤ) (x y r : Span) → f.place ≤ℤ e.place → e.place ≤ℤ l.place → IsReach f e j lo hi x → IsReach e l k lo hi y
-    → IsHull x.lo x.hi y.lo y.hi r.lo r.hi → IsReach f l (j + k + 40) lo hi r
+pub both_reach : (f e l : Edge) (j k : ℕ) (lo hi : ℤ) (x y r : Span) → f.place ≤ℤ e.place → e.place ≤ℤ l.place → IsReach f e j lo hi x
+    → IsReach e l k lo hi y → IsHull x.lo x.hi y.lo y.hi r.lo r.hi → IsReach f l (j + k + 40) lo hi r
 both_reach f e l j k lo hi x y r fe el p q h =
     let u = p.at_last q.from in
     let v = q.at_first p.to in
     record {
       from = p.from;
       to = q.to;
-      narrow = join_narrow f.place e.place l.place e.arc lo hi x.lo x.hi y.lo y.hi r.lo r.hi j k p.to q.from x.ordered y.ordered fe el u.low u.high v.low v.high
+      narrow =
+          join_narrow f.place e.place l.place e.arc lo hi x.lo x.hi y.lo y.hi r.lo r.hi j k p.to q.from x.ordered y.ordered fe el u.low u.high v.low v.high
           p.narrow q.narrow h;
-      slow = λ z i. join_slow e.place e.arc lo hi x.lo x.hi y.lo y.hi r.lo r.hi (int_max f.place lo *ℤ pos z) (int_min l.place hi *ℤ pos z) z j k p.to q.from
+      slow =
+          λ z i. join_slow e.place e.arc lo hi x.lo x.hi y.lo y.hi r.lo r.hi (int_max f.place lo *ℤ pos z) (int_min l.place hi *ℤ pos z) z j k p.to q.from
           x.ordered y.ordered u.low u.high v.low v.high (p.slow z i) (q.slow z i) h;
-      at_first = λ s. let t = p.at_first s in record {
-        low = joined_low f.arc x.lo y.lo r.lo h.low t.low;
-        high = joined_high f.arc x.hi y.hi r.hi h.high t.high;
-      };
-      at_last = λ s. let t = q.at_last s in record {
-        low = joined_low_second l.arc x.lo y.lo r.lo h.low t.low;
-        high = joined_high_second l.arc x.hi y.hi r.hi h.high t.high;
-      };
+      at_first =
+          λ s. let t = p.at_first s in record { low = joined_low f.arc x.lo y.lo r.lo h.low t.low; high = joined_high f.arc x.hi y.hi r.hi h.high t.high };
+      at_last =
+          λ s. let t =
+          q.at_last s in record { low = joined_low_second l.arc x.lo y.lo r.lo h.low t.low; high = joined_high_second l.arc x.hi y.hi r.hi h.high t.high };
       above = from_lesser lo x.lo y.lo r.lo h.low p.above q.above;
       below = up_to_greater hi x.hi y.hi r.hi h.high p.below q.below;
     }

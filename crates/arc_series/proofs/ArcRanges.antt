@@ -13,7 +13,8 @@ use Rattle.arc_series.specs.declared.pieces.Piece.{Piece}
 use Rattle.arc_series.specs.declared.pieces.Piece.TheVariants.{FarBelow, Below, Near, Above, FarAbove}
 use Rattle.arc_series.specs.Forms.{piece_of, begin_56, end_56}
 use Rattle.arc_series.specs.Widths.{IsThin, IsFrom, IsUpTo}
-use Rattle.arc_series.proofs.ArcAnchors.{near_half, near_minus_half, near_none, above_half, above_one, above_three, beyond_three, below_half, below_one, below_three, far_below_three, AreApart, apart, in_quarters}
+use Rattle.arc_series.proofs.ArcAnchors.{near_half, near_minus_half, near_none, above_half, above_one, above_three, beyond_three, below_half, below_one}
+use Rattle.arc_series.proofs.ArcAnchors.{below_three, far_below_three, AreApart, apart, in_quarters}
 
 split : (j k : ℤ) → (j ≤ℤ k) ⊎ ((k +ℤ pos 1) ≤ℤ j)
 split j k = grind (arith, ints)
@@ -33,96 +34,100 @@ Holds p k lo hi = (piece_of p).arc 40 (units_of_56 k) ⊆ between (units_of_56 l
 
 near_from_none : (k lo hi : ℤ) → InPiece (piece_of Near) (units_of_56 k) → pos 0 ≤ℤ k → Holds Near k lo hi → AreApart (k -ℤ (pos 0)) (pos 0) (pos 0) lo hi
 unfolding plus
-near_from_none k lo hi w h i = apart Near zero_F (units_of_56 k) _ _ _ lo hi
-    (record { from = record { cross = record { le = tt } }; to = record { cross = record { le = tt } } }) w (record { cross = omega (arith, ints, h) })
-    (record { cross = omega (arith, ints) }) near_none i
+near_from_none k lo hi w h i =
+    apart Near zero_F (units_of_56 k) _ _ _ lo hi (record { from = record { cross = record { le = tt } }; to = record { cross = record { le = tt } } }) w
+    (record { cross = omega (arith, ints, h) }) (record { cross = omega (arith, ints) }) near_none i
 
 near_from_half : (k lo hi : ℤ) → InPiece (piece_of Near) (units_of_56 k) → neg_ℤ (pos (2 ^ 55)) ≤ℤ k → Holds Near k lo hi
     → AreApart (k -ℤ (neg_ℤ (pos (2 ^ 55)))) (neg_ℤ (pos 1914213673314665425)) (neg_ℤ (pos 1914213673314665422)) lo hi
 unfolding plus
-near_from_half k lo hi w h i = apart Near minus_half (units_of_56 k) _ _ _ lo hi
-    (record { from = record { cross = record { le = tt } }; to = record { cross = record { le = tt } } }) w (record { cross = omega (arith, ints, h) })
-    (record { cross = omega (arith, ints) }) near_minus_half i
+near_from_half k lo hi w h i =
+    apart Near minus_half (units_of_56 k) _ _ _ lo hi (record { from = record { cross = record { le = tt } }; to = record { cross = record { le = tt } } }) w
+    (record { cross = omega (arith, ints, h) }) (record { cross = omega (arith, ints) }) near_minus_half i
 
 near_to_half : (k lo hi : ℤ) → InPiece (piece_of Near) (units_of_56 k) → k ≤ℤ (pos (2 ^ 55)) → Holds Near k lo hi
     → AreApart ((pos (2 ^ 55)) -ℤ k) lo hi (pos 1914213673314665422) (pos 1914213673314665425)
 unfolding plus
-near_to_half k lo hi w h i = apart Near (units_of_56 k) half _ lo hi _ _ w
-    (record { from = record { cross = record { le = tt } }; to = record { cross = record { le = tt } } }) (record { cross = omega (arith, ints, h) })
-    (record { cross = omega (arith, ints) }) i near_half
+near_to_half k lo hi w h i =
+    apart Near (units_of_56 k) half _ lo hi _ _ w (record { from = record { cross = record { le = tt } }; to = record { cross = record { le = tt } } })
+    (record { cross = omega (arith, ints, h) }) (record { cross = omega (arith, ints) }) i near_half
 
 near_to_none : (k lo hi : ℤ) → InPiece (piece_of Near) (units_of_56 k) → k ≤ℤ (pos 0) → Holds Near k lo hi → AreApart ((pos 0) -ℤ k) lo hi (pos 0) (pos 0)
 unfolding plus
-near_to_none k lo hi w h i = apart Near (units_of_56 k) zero_F _ lo hi _ _ w
-    (record { from = record { cross = record { le = tt } }; to = record { cross = record { le = tt } } }) (record { cross = omega (arith, ints, h) })
-    (record { cross = omega (arith, ints) }) i near_none
+near_to_none k lo hi w h i =
+    apart Near (units_of_56 k) zero_F _ lo hi _ _ w (record { from = record { cross = record { le = tt } }; to = record { cross = record { le = tt } } })
+    (record { cross = omega (arith, ints, h) }) (record { cross = omega (arith, ints) }) i near_none
 
 above_from_half : (k lo hi : ℤ) → InPiece (piece_of Above) (units_of_56 k) → pos (2 ^ 55) ≤ℤ k → Holds Above k lo hi
     → AreApart (k -ℤ (pos (2 ^ 55))) (pos 1914213673314665422) (pos 1914213673314665425) lo hi
 unfolding plus
-above_from_half k lo hi w h i = apart Above half (units_of_56 k) _ _ _ lo hi
-    (record { from = record { cross = record { le = tt } }; to = record { cross = record { le = tt } } }) w (record { cross = omega (arith, ints, h) })
-    (record { cross = omega (arith, ints) }) above_half i
+above_from_half k lo hi w h i =
+    apart Above half (units_of_56 k) _ _ _ lo hi (record { from = record { cross = record { le = tt } }; to = record { cross = record { le = tt } } }) w
+    (record { cross = omega (arith, ints, h) }) (record { cross = omega (arith, ints) }) above_half i
 
 above_from_one : (k lo hi : ℤ) → InPiece (piece_of Above) (units_of_56 k) → pos (2 ^ 56) ≤ℤ k → Holds Above k lo hi
     → AreApart (k -ℤ (pos (2 ^ 56))) (pos (45 * 2 ^ 56)) (pos (45 * 2 ^ 56)) lo hi
 unfolding plus
-above_from_one k lo hi w h i = apart Above one (units_of_56 k) _ _ _ lo hi
-    (record { from = record { cross = record { le = tt } }; to = record { cross = record { le = tt } } }) w (record { cross = omega (arith, ints, h) })
-    (record { cross = omega (arith, ints) }) above_one i
+above_from_one k lo hi w h i =
+    apart Above one (units_of_56 k) _ _ _ lo hi (record { from = record { cross = record { le = tt } }; to = record { cross = record { le = tt } } }) w
+    (record { cross = omega (arith, ints, h) }) (record { cross = omega (arith, ints) }) above_one i
 
 above_to_one : (k lo hi : ℤ) → InPiece (piece_of Above) (units_of_56 k) → k ≤ℤ (pos (2 ^ 56)) → Holds Above k lo hi
     → AreApart ((pos (2 ^ 56)) -ℤ k) lo hi (pos (45 * 2 ^ 56)) (pos (45 * 2 ^ 56))
 unfolding plus
-above_to_one k lo hi w h i = apart Above (units_of_56 k) one _ lo hi _ _ w
-    (record { from = record { cross = record { le = tt } }; to = record { cross = record { le = tt } } }) (record { cross = omega (arith, ints, h) })
-    (record { cross = omega (arith, ints) }) i above_one
+above_to_one k lo hi w h i =
+    apart Above (units_of_56 k) one _ lo hi _ _ w (record { from = record { cross = record { le = tt } }; to = record { cross = record { le = tt } } })
+    (record { cross = omega (arith, ints, h) }) (record { cross = omega (arith, ints) }) i above_one
 
 above_to_three : (k lo hi : ℤ) → InPiece (piece_of Above) (units_of_56 k) → k ≤ℤ (pos (3 * 2 ^ 56)) → Holds Above k lo hi
     → AreApart ((pos (3 * 2 ^ 56)) -ℤ k) lo hi (pos 5156805405021422542) (pos 5156805405021422545)
 unfolding plus
-above_to_three k lo hi w h i = apart Above (units_of_56 k) (whole (pos 3)) _ lo hi _ _ w
+above_to_three k lo hi w h i =
+    apart Above (units_of_56 k) (whole (pos 3)) _ lo hi _ _ w
     (record { from = record { cross = record { le = tt } }; to = record { cross = record { le = tt } } }) (record { cross = omega (arith, ints, h) })
     (record { cross = omega (arith, ints) }) i above_three
 
 beyond_from_three : (k lo hi : ℤ) → InPiece (piece_of FarAbove) (units_of_56 k) → pos (3 * 2 ^ 56) ≤ℤ k → Holds FarAbove k lo hi
     → AreApart (k -ℤ (pos (3 * 2 ^ 56))) (pos 5156805405021422542) (pos 5156805405021422545) lo hi
 unfolding plus
-beyond_from_three k lo hi w h i = apart FarAbove (whole (pos 3)) (units_of_56 k) _ _ _ lo hi (record { from = record { cross = record { le = tt } }; to = tt })
-    w (record { cross = omega (arith, ints, h) }) (record { cross = omega (arith, ints) }) beyond_three i
+beyond_from_three k lo hi w h i =
+    apart FarAbove (whole (pos 3)) (units_of_56 k) _ _ _ lo hi (record { from = record { cross = record { le = tt } }; to = tt }) w
+    (record { cross = omega (arith, ints, h) }) (record { cross = omega (arith, ints) }) beyond_three i
 
 below_to_half : (k lo hi : ℤ) → InPiece (piece_of Below) (units_of_56 k) → k ≤ℤ (neg_ℤ (pos (2 ^ 55))) → Holds Below k lo hi
     → AreApart ((neg_ℤ (pos (2 ^ 55))) -ℤ k) lo hi (neg_ℤ (pos 1914213673314665425)) (neg_ℤ (pos 1914213673314665422))
 unfolding plus
-below_to_half k lo hi w h i = apart Below (units_of_56 k) minus_half _ lo hi _ _ w
-    (record { from = record { cross = record { le = tt } }; to = record { cross = record { le = tt } } }) (record { cross = omega (arith, ints, h) })
-    (record { cross = omega (arith, ints) }) i below_half
+below_to_half k lo hi w h i =
+    apart Below (units_of_56 k) minus_half _ lo hi _ _ w (record { from = record { cross = record { le = tt } }; to = record { cross = record { le = tt } } })
+    (record { cross = omega (arith, ints, h) }) (record { cross = omega (arith, ints) }) i below_half
 
 below_to_one : (k lo hi : ℤ) → InPiece (piece_of Below) (units_of_56 k) → k ≤ℤ (neg_ℤ (pos (2 ^ 56))) → Holds Below k lo hi
     → AreApart ((neg_ℤ (pos (2 ^ 56))) -ℤ k) lo hi (neg_ℤ (pos (45 * 2 ^ 56))) (neg_ℤ (pos (45 * 2 ^ 56)))
 unfolding plus
-below_to_one k lo hi w h i = apart Below (units_of_56 k) minus_one _ lo hi _ _ w
-    (record { from = record { cross = record { le = tt } }; to = record { cross = record { le = tt } } }) (record { cross = omega (arith, ints, h) })
-    (record { cross = omega (arith, ints) }) i below_one
+below_to_one k lo hi w h i =
+    apart Below (units_of_56 k) minus_one _ lo hi _ _ w (record { from = record { cross = record { le = tt } }; to = record { cross = record { le = tt } } })
+    (record { cross = omega (arith, ints, h) }) (record { cross = omega (arith, ints) }) i below_one
 
 below_from_one : (k lo hi : ℤ) → InPiece (piece_of Below) (units_of_56 k) → neg_ℤ (pos (2 ^ 56)) ≤ℤ k → Holds Below k lo hi
     → AreApart (k -ℤ (neg_ℤ (pos (2 ^ 56)))) (neg_ℤ (pos (45 * 2 ^ 56))) (neg_ℤ (pos (45 * 2 ^ 56))) lo hi
 unfolding plus
-below_from_one k lo hi w h i = apart Below minus_one (units_of_56 k) _ _ _ lo hi
-    (record { from = record { cross = record { le = tt } }; to = record { cross = record { le = tt } } }) w (record { cross = omega (arith, ints, h) })
-    (record { cross = omega (arith, ints) }) below_one i
+below_from_one k lo hi w h i =
+    apart Below minus_one (units_of_56 k) _ _ _ lo hi (record { from = record { cross = record { le = tt } }; to = record { cross = record { le = tt } } }) w
+    (record { cross = omega (arith, ints, h) }) (record { cross = omega (arith, ints) }) below_one i
 
 below_from_three : (k lo hi : ℤ) → InPiece (piece_of Below) (units_of_56 k) → neg_ℤ (pos (3 * 2 ^ 56)) ≤ℤ k → Holds Below k lo hi
     → AreApart (k -ℤ (neg_ℤ (pos (3 * 2 ^ 56)))) (neg_ℤ (pos 5156805405021422545)) (neg_ℤ (pos 5156805405021422542)) lo hi
 unfolding plus
-below_from_three k lo hi w h i = apart Below (whole (negsuc 2)) (units_of_56 k) _ _ _ lo hi
+below_from_three k lo hi w h i =
+    apart Below (whole (negsuc 2)) (units_of_56 k) _ _ _ lo hi
     (record { from = record { cross = record { le = tt } }; to = record { cross = record { le = tt } } }) w (record { cross = omega (arith, ints, h) })
     (record { cross = omega (arith, ints) }) below_three i
 
 far_to_three : (k lo hi : ℤ) → InPiece (piece_of FarBelow) (units_of_56 k) → k ≤ℤ (neg_ℤ (pos (3 * 2 ^ 56))) → Holds FarBelow k lo hi
     → AreApart ((neg_ℤ (pos (3 * 2 ^ 56))) -ℤ k) lo hi (neg_ℤ (pos 5156805405021422545)) (neg_ℤ (pos 5156805405021422542))
 unfolding plus
-far_to_three k lo hi w h i = apart FarBelow (units_of_56 k) (whole (negsuc 2)) _ lo hi _ _ w (record { from = tt; to = record { cross = record { le = tt } } })
+far_to_three k lo hi w h i =
+    apart FarBelow (units_of_56 k) (whole (negsuc 2)) _ lo hi _ _ w (record { from = tt; to = record { cross = record { le = tt } } })
     (record { cross = omega (arith, ints, h) }) (record { cross = omega (arith, ints) }) i far_below_three
 
 -- ---- where the arctangent of a number in a piece lies
@@ -261,8 +266,13 @@ beyond_to k lo hi a = record {
 }
 
 beyond_known : (k lo hi : ℤ) → begin_56 FarAbove ≤ℤ k → k ≤ℤ end_56 FarAbove → IsThin lo hi → Holds FarAbove k lo hi → IsBeyond k lo hi
-beyond_known k lo hi g l t h = let w = in_piece FarAbove k g l in record
-    { thin = t.thin; from = g; least = (beyond_from_three k lo hi w g h).rise; last = (in_quarters FarAbove (units_of_56 k) lo hi w h).first }
+beyond_known k lo hi g l t h =
+    let w = in_piece FarAbove k g l in record {
+      thin = t.thin;
+      from = g;
+      least = (beyond_from_three k lo hi w g h).rise;
+      last = (in_quarters FarAbove (units_of_56 k) lo hi w h).first;
+    }
 
 far_known : (k lo hi : ℤ) → begin_56 FarBelow ≤ℤ k → k ≤ℤ end_56 FarBelow → IsThin lo hi → Holds FarBelow k lo hi → IsBeyond (neg_ℤ k) (neg_ℤ hi) (neg_ℤ lo)
 far_known k lo hi g l t h =

@@ -11,7 +11,8 @@ use Rattle.exact_math.proofs.Fractions.{le_refl, le_trans, plus_mono, opposite_m
 use Rattle.exact_math.proofs.Certificates.{zero_F, ◌≼◌, ◌≗◌, known, multiple, square, ◌⊞◌, ◌⊠◌, natural, le_by, le_over}
 use Rattle.book_model.specs.programs.Leading.{units_of_56}
 use Rattle.book_model.specs.numbers.Arcs.{half, minus_half, arc_above, arc_beyond, mirrored}
-use Rattle.book_model.proofs.ArcPieces.{InPiece, recip_one, recip_nonneg, turned, sum_positive, turned_in, three_positive, recip_in, opposite_three, opposite_above}
+use Rattle.book_model.proofs.ArcPieces.{InPiece, recip_one, recip_nonneg, turned, sum_positive, turned_in, three_positive, recip_in, opposite_three}
+use Rattle.book_model.proofs.ArcPieces.{opposite_above}
 use Rattle.arc_series.specs.declared.pieces.Piece.{Piece}
 use Rattle.arc_series.specs.declared.pieces.Piece.TheVariants.{FarBelow, Below, Near, Above, FarAbove}
 use Rattle.arc_series.specs.Forms.{piece_of}
@@ -96,8 +97,8 @@ module _ (s c x y : Fraction) (r : IsRated s c) (h : x ≤F y) (k : y ≤F c) wh
 
   -- ---- from -3 to -1/2
   sums_fall : half ≤F opposite x → half ≤F opposite y → reciprocal (plus (opposite x) one) ≤F over_sum y
-  sums_fall w v = reciprocal_anti_positive _ _ (sum_positive (opposite y) v) (sum_positive (opposite x) w)
-      (plus_mono _ _ one one (opposite_mono x y h) (le_refl one))
+  sums_fall w v =
+      reciprocal_anti_positive _ _ (sum_positive (opposite y) v) (sum_positive (opposite x) w) (plus_mono _ _ one one (opposite_mono x y h) (le_refl one))
 
   sums_rate : half ≤F opposite x → half ≤F opposite y → times (whole (pos 2)) (times (reciprocal (plus (opposite x) one)) (over_sum y)) ≤F s
   sums_rate w v =
@@ -136,7 +137,8 @@ module _ (s c x y : Fraction) (r : IsRated s c) (h : x ≤F y) (k : y ≤F c) wh
       (rate_at s c y r k, (two_less v, tt))
 
   near_step : minus_half ≤F y → y ≤F plus x (risen s x y)
-  near_step v = le_by (x ∷ y ∷ s ∷ []) ((at 0 ≼ at 1) ∷ (lit (pos 1) ≼ at 2) ∷ []) (at 1) (at 0 ⊕ at 2 ⊗ (at 1 ⊕ minus (at 0))) (known 0 ⊠ known 1) refl
+  near_step v =
+      le_by (x ∷ y ∷ s ∷ []) ((at 0 ≼ at 1) ∷ (lit (pos 1) ≼ at 2) ∷ []) (at 1) (at 0 ⊕ at 2 ⊗ (at 1 ⊕ minus (at 0))) (known 0 ⊠ known 1) refl
       (h, (near_rate v, tt))
 
 below_rated : (s c x y : Fraction) → IsRated s c → x ≤F y → y ≤F c → whole (negsuc 2) ≤F x → x ≤F minus_half → whole (negsuc 2) ≤F y → y ≤F minus_half
@@ -161,8 +163,8 @@ piece_rated : (p : Piece) (s c x y : Fraction) → InPiece (piece_of p) x → In
     → Climbs (risen s x y) ((piece_of p).arc 40 x) ((piece_of p).arc 40 y)
 piece_rated FarBelow s c x y w v r h k = far_rated s c x y r h k (opposite_three x w.to) (opposite_three y v.to)
 piece_rated Below s c x y w v r h k = below_rated s c x y r h k w.from w.to v.from v.to
-piece_rated Near s c x y w v r h k = near_climbs x y (risen s x y) (record { above = w.from; below = w.to }) (record { above = v.from; below = v.to }) h
-    (near_step s c x y r h k v.from)
+piece_rated Near s c x y w v r h k =
+    near_climbs x y (risen s x y) (record { above = w.from; below = w.to }) (record { above = v.from; below = v.to }) h (near_step s c x y r h k v.from)
 piece_rated Above s c x y w v r h k = absurd (half_not y c k r.below v.from)
 piece_rated FarAbove s c x y w v r h k = absurd (three_not y c k r.below v.from)
 
@@ -200,19 +202,21 @@ product_of s k m =
     let f = opposite_times s k in
     omega (arith, ints, a, b, c, d, e, f)
 
-climb_of : (n b c : ℤ) → units_of_56 c ≤F plus (units_of_56 b) (times rate (record { num = n *ℤ pos (2 ^ 56); below = 2 ^ 172 - 1 })) → (c *ℤ pos (10 * 2 ^ 60))
-    ≤ℤ (b *ℤ pos (10 * 2 ^ 60) +ℤ n *ℤ pos 573)
+climb_of : (n b c : ℤ) → units_of_56 c ≤F plus (units_of_56 b) (times rate (record { num = n *ℤ pos (2 ^ 56); below = 2 ^ 172 - 1 }))
+    → (c *ℤ pos (10 * 2 ^ 60)) ≤ℤ (b *ℤ pos (10 * 2 ^ 60) +ℤ n *ℤ pos 573)
 unfolding plus times
 climb_of n b c h = omega (arith, ints, h.cross)
 
 climb_whole : (s : ℕ) (k m b c : ℤ) → units_of_56 c ≤F plus (units_of_56 b) (times rate (risen (at_60 s) (units_of_56 k) (units_of_56 m)))
     → (c *ℤ pos (10 * 2 ^ 60)) ≤ℤ (b *ℤ pos (10 * 2 ^ 60) +ℤ (m *ℤ pos s -ℤ k *ℤ pos s) *ℤ pos 573)
 unfolding plus times opposite
-climb_whole s k m b c h = climb_of (m *ℤ pos s -ℤ k *ℤ pos s) b c
-    (subst (λ z. units_of_56 c ≤F plus (units_of_56 b) (times rate (record { num = z; below = 2 ^ 172 - 1 }))) (product_of s k m) h)
+climb_whole s k m b c h =
+    climb_of (m *ℤ pos s -ℤ k *ℤ pos s) b c (subst (λ z. units_of_56 c ≤F plus (units_of_56 b) (times rate (record { num = z; below = 2 ^ 172 - 1 })))
+    (product_of s k m) h)
 
 climb_ends : (s : ℕ) (k m a b c d : ℤ) {i j : Interval} → Climbs (risen (at_60 s) (units_of_56 k) (units_of_56 m)) i j
-    → i ⊆ between (units_of_56 a) (units_of_56 b) → j ⊆ between (units_of_56 c) (units_of_56 d)
+    → i ⊆ between (units_of_56 a) (units_of_56 b)
+    → j ⊆ between (units_of_56 c) (units_of_56 d)
     → (c *ℤ pos (10 * 2 ^ 60)) ≤ℤ (b *ℤ pos (10 * 2 ^ 60) +ℤ (m *ℤ pos s -ℤ k *ℤ pos s) *ℤ pos 573)
 climb_ends s k m a b c d (climbing {b = e} {c = f} h) i j =
     climb_whole s k m b c (le_trans _ f _ j.ends.0 (le_trans f _ _ h

@@ -15,7 +15,8 @@ use Rattle.book_model.specs.numbers.Octants.{only}
 use Rattle.book_model.specs.numbers.Arcs.{half, arctan_series, radian_at, arc_near, arc_above, arc_beyond}
 use Rattle.book_model.proofs.Terms.{IsUpTo}
 use Rattle.book_model.proofs.ArcSeries.{InHalf, positive_near, negative_near, degrees_proper}
-use Rattle.book_model.proofs.ArcPieces.{InPiece, InAbove, IsArc, recip_one, recip_nonneg, turned, sum_positive, turned_in, three_positive, recip_in, opposite_three, opposite_above, far_below_arc, below_arc, near_arc, above_arc, far_above_arc}
+use Rattle.book_model.proofs.ArcPieces.{InPiece, InAbove, IsArc, recip_one, recip_nonneg, turned, sum_positive, turned_in, three_positive, recip_in}
+use Rattle.book_model.proofs.ArcPieces.{opposite_three, opposite_above, far_below_arc, below_arc, near_arc, above_arc, far_above_arc}
 use Rattle.arc_series.specs.declared.pieces.Piece.{Piece}
 use Rattle.arc_series.specs.declared.pieces.Piece.TheVariants.{FarBelow, Below, Near, Above, FarAbove}
 use Rattle.arc_series.specs.Forms.{piece_of}
@@ -118,8 +119,8 @@ step_nonneg x y e h k = le_by (x ∷ y ∷ e ∷ []) ((at 0 ≼ at 1) ∷ (at 1 
 
 pub near_climbs : (x y e : Fraction) → InHalf x → InHalf y → x ≤F y → y ≤F plus x e → Climbs e (arc_near 40 x) (arc_near 40 y)
 unfolding arc_near
-near_climbs x y e w v h k = product_climbs e _ _ (radian_at 40) (step_nonneg x y e h k) (degrees_proper 40) (radian_near 40 (omega arith))
-    (series_slow x y e w v h k)
+near_climbs x y e w v h k =
+    product_climbs e _ _ (radian_at 40) (step_nonneg x y e h k) (degrees_proper 40) (radian_near 40 (omega arith)) (series_slow x y e w v h k)
 
 -- ---- sums and opposites
 pub sums_climb : (k e : Fraction) {i j : Interval} → Climbs e i j → Climbs e (sum (only k) i) (sum (only k) j)
@@ -205,10 +206,11 @@ beyond_climbs x y e w v h k =
 -- ---- all pieces
 pub piece_climbs : (p : Piece) (x y e : Fraction) → InPiece (piece_of p) x → InPiece (piece_of p) y → x ≤F y → y ≤F plus x e
     → Climbs e ((piece_of p).arc 40 x) ((piece_of p).arc 40 y)
-piece_climbs FarBelow x y e w v h k = opposites_climb e (beyond_climbs (opposite y) (opposite x) e (opposite_three y v.to) (opposite_three x w.to)
-    (opposite_mono x y h) (opposite_step x y e k))
-piece_climbs Below x y e w v h k = opposites_climb e (above_climbs (opposite y) (opposite x) e (opposite_above y v.from v.to) (opposite_above x w.from w.to)
-    (opposite_mono x y h) (opposite_step x y e k))
+piece_climbs FarBelow x y e w v h k =
+    opposites_climb e (beyond_climbs (opposite y) (opposite x) e (opposite_three y v.to) (opposite_three x w.to) (opposite_mono x y h) (opposite_step x y e k))
+piece_climbs Below x y e w v h k =
+    opposites_climb e (above_climbs (opposite y) (opposite x) e (opposite_above y v.from v.to) (opposite_above x w.from w.to) (opposite_mono x y h)
+    (opposite_step x y e k))
 piece_climbs Near x y e w v h k = near_climbs x y e (record { above = w.from; below = w.to }) (record { above = v.from; below = v.to }) h k
 piece_climbs Above x y e w v h k = above_climbs x y e (record { from = w.from; to = w.to }) (record { from = v.from; to = v.to }) h k
 piece_climbs FarAbove x y e w v h k = beyond_climbs x y e w.from v.from h k

@@ -1,5 +1,6 @@
 -- The kernel holds the arctangents of the model in degrees, at single numbers from -1/2 to 1/2.
-use Rattle.std.proofs.Common.{◌≡◌, ℕ, zero, suc, ◌+◌, ◌*◌, ◌/◌, ◌-◌, ◌^◌, ◌≤◌, refl, ◌∙◌, sym, subst, ap, arith, Bool, true, false, ℤ, pos, negsuc, ◌+ℤ◌, ◌-ℤ◌, ◌*ℤ◌, ◌≤ℤ◌, [], ◌∷◌}
+use Rattle.std.proofs.Common.{◌≡◌, ℕ, zero, suc, ◌+◌, ◌*◌, ◌/◌, ◌-◌, ◌^◌, ◌≤◌, refl, ◌∙◌, sym, subst, ap, arith, Bool, true, false, ℤ, pos, negsuc, ◌+ℤ◌}
+use Rattle.std.proofs.Common.{◌-ℤ◌, ◌*ℤ◌, ◌≤ℤ◌, [], ◌∷◌}
 use Rattle.std.proofs.lemmas.Int.{ints}
 use lib.IntN.{neg_ℤ}
 use Rattle.exact_math.specs.Fraction.{Fraction, ◌≤F◌, ◌≈◌, whole, plus, opposite, times, size, reciprocal, power, is_at_most, smaller, larger}
@@ -19,8 +20,11 @@ use Rattle.book_model.specs.numbers.Arcs.{half, minus_half, arctan_series, radia
 use Rattle.book_model.proofs.Terms.{IsUpTo, arctan_halving, arctan_rising}
 use Rattle.book_model.proofs.Pi.{pi_at_least, pi_proper}
 use Rattle.book_model.proofs.ArcSeries.{InHalf, series_nests, series_proper, degrees_proper}
-use Rattle.arc_series.specs.Kernel.{at_64, IsWithinUnits, IsNumber, IsSquare, nested}
-use Rattle.arc_series.proofs.KernelSteps.{unit, unit_nonneg, at_more, at_less, IsHigh, high_is, high_small, product_is, high_below, high_above, count_nonneg, count_whole, square_near, product_above, product_below}
+use Rattle.rounded_quotients.specs.Units.{at_64, IsWithinUnits}
+use Rattle.arc_series.specs.Kernel.{IsNumber, IsSquare, nested}
+use Rattle.rounded_quotients.proofs.HighHalves.{unit, unit_nonneg, at_more, at_less, IsHigh, high_is, high_small, product_is, high_below, high_above}
+use Rattle.rounded_quotients.proofs.HighHalves.{count_nonneg}
+use Rattle.arc_series.proofs.KernelSteps.{count_whole, square_near, product_above, product_below}
 
 -- ---- Horner's form
 -- the sum of the terms is what Horner's form gives, times the first power
@@ -100,10 +104,12 @@ pub record IsComputed (q w t s : ℕ) : Type 0 where
 
 number_up_to : (q : ℕ) (x : Fraction) → IsNumber q x → IsUpTo 1 2 x
 unfolding times
-number_up_to q x g = record {
-  nonneg = le_trans zero_F (at_64 (pos q)) x (record { cross = omega (arith, ints) }) g.not_above;
-  bound = record { cross = omega (arith, ints, g.small.cross) };
-}
+number_up_to q x g =
+    record {
+      nonneg =
+          le_trans zero_F (at_64 (pos q)) x (record { cross = omega (arith, ints) }) g.not_above;
+      bound = record { cross = omega (arith, ints, g.small.cross) };
+    }
 
 computed_near : (q w t s : ℕ) (x : Fraction) → IsComputed q w t s → IsNumber q x → arctan_at 28 x ⊆ around s
 computed_near q w t s x c g =
@@ -272,15 +278,18 @@ pub record AreDegrees (s d : ℕ) (lo hi : ℤ) : Type 0 where
 
 corner : (s d : ℕ) (lo hi : ℤ) (S R : Fraction) → s ≤ 2 ^ 64 → AreDegrees s d lo hi → IsCorner s S R → (units_of_56 lo ≤F times S R)
     × (times S R ≤F units_of_56 hi)
-corner s d lo hi S R l a k = let p = high_is d s factor a.degrees in
-    (le_trans _ _ _ (low_end lo d a.low) (corner_low s d S R p k), le_trans _ _ _ (corner_high s d S R l p k) (high_end hi d a.high))
+corner s d lo hi S R l a k =
+    let p = high_is d s factor a.degrees in (
+      le_trans _ _ _ (low_end lo d a.low) (corner_low s d S R p k),
+      le_trans _ _ _ (corner_high s d S R l p k) (high_end hi d a.high),
+    )
 
 neg_is : (n : ℤ) → units_of_56 (neg_ℤ n) ≈ opposite (units_of_56 n)
 unfolding opposite
 neg_is n = record { cross = refl }
 
-opposite_corner : (s d : ℕ) (lo hi : ℤ) (S R : Fraction) → s ≤ 2 ^ 64 → AreDegrees s d lo hi → IsCorner s S R → (units_of_56 (neg_ℤ hi) ≤F times (opposite S) R)
-    × (times (opposite S) R ≤F units_of_56 (neg_ℤ lo))
+opposite_corner : (s d : ℕ) (lo hi : ℤ) (S R : Fraction) → s ≤ 2 ^ 64 → AreDegrees s d lo hi → IsCorner s S R
+    → (units_of_56 (neg_ℤ hi) ≤F times (opposite S) R) × (times (opposite S) R ≤F units_of_56 (neg_ℤ lo))
 opposite_corner s d lo hi S R l a k =
     let b = corner s d lo hi S R l a k in (
       le_trans _ _ _ (le_of_same (neg_is hi)) (le_by (S ∷ R ∷ units_of_56 hi ∷ []) ((at 0 ⊗ at 1 ≼ at 2) ∷ []) (minus (at 2)) (minus (at 0) ⊗ at 1) (known 0)
@@ -295,7 +304,8 @@ between_mono a b h = record { cross = omega (arith, ints, h) }
 fine_mono : at_58 (pos factor) ≤F at_58 (pos (suc factor))
 fine_mono = record { cross = record { le = tt } }
 
-four : (s : ℕ) → IsCorner s (at_64 (pos s -ℤ pos 4)) (at_58 (pos factor))
+four : (s : ℕ)
+    → IsCorner s (at_64 (pos s -ℤ pos 4)) (at_58 (pos factor))
     × (IsCorner s (at_64 (pos s -ℤ pos 4)) (at_58 (pos (suc factor)))
     × (IsCorner s (at_64 (pos s +ℤ pos 6)) (at_58 (pos factor)) × IsCorner s (at_64 (pos s +ℤ pos 6)) (at_58 (pos (suc factor)))))
 four s =
@@ -304,7 +314,16 @@ four s =
     let b = le_refl (at_64 (pos s +ℤ pos 6)) in
     let c = le_refl (at_58 (pos factor)) in
     let d = le_refl (at_58 (pos (suc factor))) in (
-      record { low = a; high = m; from = c; to = fine_mono },
+      record {
+        low =
+            a;
+        high =
+            m;
+        from =
+            c;
+        to =
+            fine_mono;
+      },
       (
         record { low = a; high = m; from = fine_mono; to = d },
         (record { low = m; high = b; from = c; to = fine_mono }, record { low = m; high = b; from = fine_mono; to = d }),

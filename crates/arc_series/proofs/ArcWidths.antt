@@ -9,7 +9,8 @@ use Rattle.exact_math.specs.Interval.{Interval, everything, between, ◌⊆◌}
 use Rattle.exact_math.proofs.Fractions.{le_trans, le_refl, plus_mono}
 use Rattle.exact_math.proofs.Floors.{IsFloorQuotient, floor_quotient_is}
 use Rattle.book_model.specs.programs.Leading.{units_of_56}
-use Rattle.book_model.specs.numbers.Bounds.{Bound, unbounded, bounded, Limits, Reach, Spans, IsNarrow, bound_of, ceil_div, at_radians, arc_from, least_arc, greatest_arc, arc_spans, arctangent_bound, spanned_bound}
+use Rattle.book_model.specs.numbers.Bounds.{Bound, unbounded, bounded, Limits, Reach, Spans, IsNarrow, bound_of, ceil_div, at_radians, arc_from, least_arc}
+use Rattle.book_model.specs.numbers.Bounds.{greatest_arc, arc_spans, arctangent_bound, spanned_bound}
 use Rattle.book_model.specs.numbers.Expressions.{Expression, arctangent}
 use Rattle.book_model.specs.numbers.Relations.{Narrow, Keeps}
 use Rattle.encl_core.specs.declared.span.Span.{Span}
@@ -18,7 +19,8 @@ use Rattle.arc_series.specs.Widths.{IsFrom, IsUpTo, IsOver}
 -- ---- the ends of an enclosure
 -- they keep its bound, since they lie within it and hold it
 pub span_keeps : (w : ℕ) (b : Bound) (i : Interval) (lo hi : ℤ) → lo ≤ℤ hi → i ⊆ between (units_of_56 lo) (units_of_56 hi)
-    → between (units_of_56 lo) (units_of_56 hi) ⊆ i → IsNarrow w b i → IsNarrow w b (between (units_of_56 lo) (units_of_56 hi))
+    → between (units_of_56 lo) (units_of_56 hi) ⊆ i
+    → IsNarrow w b i → IsNarrow w b (between (units_of_56 lo) (units_of_56 hi))
 unfolding IsNarrow
 span_keeps w unbounded i lo hi o g h k = tt
 span_keeps w (bounded a b s t) everything lo hi o g h k = absurd k
@@ -62,8 +64,8 @@ rated : (s t w : ℕ) → s * 573 ≤ t * 10 → s * w * 573 ≤ t * w * 10
 rated s t w h = omega (arith, mul-le-mul_right w h)
 
 -- 57.3 times the width, and 64 parts
-close_arc : (s k w : ℕ) (from to lo hi : ℤ) → ((to -ℤ from) *ℤ pos (2 ^ 48)) ≤ℤ (pos (s * w) +ℤ pos (k * 2 ^ 40)) → ((hi -ℤ lo) *ℤ pos 10)
-    ≤ℤ ((to -ℤ from) *ℤ pos 573 +ℤ pos 560)
+close_arc : (s k w : ℕ) (from to lo hi : ℤ) → ((to -ℤ from) *ℤ pos (2 ^ 48)) ≤ℤ (pos (s * w) +ℤ pos (k * 2 ^ 40))
+    → ((hi -ℤ lo) *ℤ pos 10) ≤ℤ ((to -ℤ from) *ℤ pos 573 +ℤ pos 560)
     → ((hi -ℤ lo) *ℤ pos (2 ^ 48)) ≤ℤ (pos (ceil_div (s * 573) 9 * w) +ℤ pos ((ceil_div (k * 573) 9 + 64 * 2 ^ 8) * 2 ^ 40))
 close_arc s k w from to lo hi h n = by_quotients (ceil_div (s * 573) 9) (ceil_div (k * 573) 9) (ceil_above (s * 573) 9) (ceil_above (k * 573) 9)
   where
@@ -72,17 +74,17 @@ close_arc s k w from to lo hi h n = by_quotients (ceil_div (s * 573) 9) (ceil_di
 
 -- ---- the range
 -- at one of the numbers whose arctangents are whole
-below_by : (v x a k n z : ℤ) → (a *ℤ pos (2 ^ 24)) ≤ℤ k → n ≡ (k -ℤ x *ℤ pos (2 ^ 56)) *ℤ pos 573 → int_min (pos 0) n
-    ≤ℤ ((z -ℤ v *ℤ pos (2 ^ 56) +ℤ pos 10) *ℤ pos 10) → (arc_from v x a *ℤ pos (2 ^ 24)) ≤ℤ (z +ℤ pos (2 ^ 24))
+below_by : (v x a k n z : ℤ) → (a *ℤ pos (2 ^ 24)) ≤ℤ k → n ≡ (k -ℤ x *ℤ pos (2 ^ 56)) *ℤ pos 573
+    → int_min (pos 0) n ≤ℤ ((z -ℤ v *ℤ pos (2 ^ 56) +ℤ pos 10) *ℤ pos 10) → (arc_from v x a *ℤ pos (2 ^ 24)) ≤ℤ (z +ℤ pos (2 ^ 24))
 below_by v x a k n z h e f = by_floor (at_radians (a -ℤ x *ℤ pos (2 ^ 32))) (floor_quotient_is ((a -ℤ x *ℤ pos (2 ^ 32)) *ℤ pos 573) 9)
   where
-    by_floor : (q : ℤ) → IsFloorQuotient q ((a -ℤ x *ℤ pos (2 ^ 32)) *ℤ pos 573) 9 → ((v *ℤ pos (2 ^ 32) +ℤ int_min (pos 0) q) *ℤ pos (2 ^ 24))
-        ≤ℤ (z +ℤ pos (2 ^ 24))
+    by_floor : (q : ℤ) → IsFloorQuotient q ((a -ℤ x *ℤ pos (2 ^ 32)) *ℤ pos 573) 9
+        → ((v *ℤ pos (2 ^ 32) +ℤ int_min (pos 0) q) *ℤ pos (2 ^ 24)) ≤ℤ (z +ℤ pos (2 ^ 24))
     by_floor q i = omega (arith, ints, clamps, i.not_above, h, e, f)
 
 -- the greatest of four, less 1
-least_of : (p q r z : ℤ) → (neg_ℤ (pos (90 * 2 ^ 32)) *ℤ pos (2 ^ 24)) ≤ℤ (z +ℤ pos (2 ^ 24)) → (p *ℤ pos (2 ^ 24)) ≤ℤ (z +ℤ pos (2 ^ 24)) → (q *ℤ pos (2 ^ 24))
-    ≤ℤ (z +ℤ pos (2 ^ 24)) → (r *ℤ pos (2 ^ 24)) ≤ℤ (z +ℤ pos (2 ^ 24))
+least_of : (p q r z : ℤ) → (neg_ℤ (pos (90 * 2 ^ 32)) *ℤ pos (2 ^ 24)) ≤ℤ (z +ℤ pos (2 ^ 24)) → (p *ℤ pos (2 ^ 24)) ≤ℤ (z +ℤ pos (2 ^ 24))
+    → (q *ℤ pos (2 ^ 24)) ≤ℤ (z +ℤ pos (2 ^ 24)) → (r *ℤ pos (2 ^ 24)) ≤ℤ (z +ℤ pos (2 ^ 24))
     → ((int_max (int_max (neg_ℤ (pos (90 * 2 ^ 32))) p) (int_max q r) -ℤ pos 1) *ℤ pos (2 ^ 24)) ≤ℤ z
 least_of p q r z h k l m = omega (arith, ints, clamps, h, k, l, m)
 
@@ -118,8 +120,11 @@ pub arctangent_keeps : {E : Type 0} (shown : E → Interval) (l : Limits) (r : R
     → ((w : ℕ) (b : Bound) → IsNarrow w b (between (units_of_56 s.lo) (units_of_56 s.hi)) → IsNarrow w (spanned_bound l b) (shown y)) → Narrow shown l r a x
     → Narrow shown l r (arctangent a) y
 unfolding Keeps bound_of arctangent_bound
-arctangent_keeps shown l r a x y from to s o g h n f k = record
-    { kept = f r.width _ (arc_kept r.width (bound_of l r.bounds a) from to s n (span_keeps r.width (bound_of l r.bounds a) (shown x) from to o g h k.kept)) }
+arctangent_keeps shown l r a x y from to s o g h n f k =
+    record {
+      kept =
+          f r.width _ (arc_kept r.width (bound_of l r.bounds a) from to s n (span_keeps r.width (bound_of l r.bounds a) (shown x) from to o g h k.kept));
+    }
 
 -- of every number no width is known
 arc_of_all : (w : ℕ) (l : Limits) (b : Bound) (i : Interval) → IsNarrow w b everything → IsNarrow w (spanned_bound l (arc_spans b)) i
@@ -127,7 +132,7 @@ unfolding arc_spans spanned_bound IsNarrow
 arc_of_all w l unbounded i h = tt
 arc_of_all w l (bounded a b s k) i h = absurd h
 
-pub arctangent_keeps_all : {E : Type 0} (shown : E → Interval) (l : Limits) (r : Reach) (a : Expression) (x y : E) → shown x ≡ everything → Narrow shown l r a x
-    → Narrow shown l r (arctangent a) y
+pub arctangent_keeps_all : {E : Type 0} (shown : E → Interval) (l : Limits) (r : Reach) (a : Expression) (x y : E) → shown x ≡ everything
+    → Narrow shown l r a x → Narrow shown l r (arctangent a) y
 unfolding Keeps bound_of arctangent_bound
 arctangent_keeps_all shown l r a x y e k = record { kept = arc_of_all r.width l (bound_of l r.bounds a) (shown y) (rw e at k.kept) }

@@ -13,7 +13,8 @@ use Rattle.exact_math.proofs.Fractions.{le_trans, plus_mono, le_refl}
 use Rattle.exact_math.proofs.IntLaws.{add_mul}
 use Rattle.exact_math.proofs.Floors.{floor_quotient_is, floor_quotient_mono}
 use Rattle.book_model.specs.programs.Widths.{IsWithin}
-use Rattle.book_model.specs.numbers.Bounds.{bounded, IsNarrow, at_32, breadth, ceil_div, ceil_quotient, floor_at_32, ceil_at_32, limits_at, quotient_bound, least_quotient}
+use Rattle.book_model.specs.numbers.Bounds.{bounded, IsNarrow, at_32, breadth, ceil_div, ceil_quotient, floor_at_32, ceil_at_32, limits_at, quotient_bound}
+use Rattle.book_model.specs.numbers.Bounds.{least_quotient}
 use Rattle.greatest_widths.proofs.Measuring.{looser, remeasured}
 use Rattle.arc_series.specs.Widths.{IsRateFrom, slow_width}
 use Rattle.arc_series.proofs.ArcWidths.{ceil_above}
@@ -45,12 +46,13 @@ floor_under f = let i = floor_quotient_is (f.num *ℤ pos (2 ^ 32)) f.below in r
 floor_over : (f : Fraction) → f ≤F at_32 (floor_at_32 f +ℤ pos 1)
 floor_over f = let i = floor_quotient_is (f.num *ℤ pos (2 ^ 32)) f.below in record { cross = by_close (floor_at_32 f) i.close }
   where
-    by_close : (q : ℤ) → (f.num *ℤ pos (2 ^ 32)) <ℤ (q *ℤ pos (suc f.below) +ℤ pos (suc f.below)) → (f.num *ℤ pos (2 ^ 32))
-        ≤ℤ ((q +ℤ pos 1) *ℤ pos (suc f.below))
+    by_close : (q : ℤ) → (f.num *ℤ pos (2 ^ 32)) <ℤ (q *ℤ pos (suc f.below) +ℤ pos (suc f.below))
+        → (f.num *ℤ pos (2 ^ 32)) ≤ℤ ((q +ℤ pos 1) *ℤ pos (suc f.below))
     by_close q h = omega (arith, ints, h, add_mul q (pos 1) (pos (suc f.below)))
 
 ceil_over : (f : Fraction) → f ≤F at_32 (ceil_at_32 f)
-ceil_over f = let i = floor_quotient_is (neg_ℤ (f.num *ℤ pos (2 ^ 32))) f.below in record
+ceil_over f =
+    let i = floor_quotient_is (neg_ℤ (f.num *ℤ pos (2 ^ 32))) f.below in record
     { cross = by_below (floor_quotient (neg_ℤ (f.num *ℤ pos (2 ^ 32))) f.below) i.not_above }
   where
     by_below : (q : ℤ) → (q *ℤ pos (suc f.below)) ≤ℤ neg_ℤ (f.num *ℤ pos (2 ^ 32)) → (f.num *ℤ pos (2 ^ 32)) ≤ℤ (neg_ℤ q *ℤ pos (suc f.below))
@@ -59,11 +61,12 @@ ceil_over f = let i = floor_quotient_is (neg_ℤ (f.num *ℤ pos (2 ^ 32))) f.be
     by_below (negsuc q) h = omega (arith, ints, h)
 
 ceil_under : (f : Fraction) → at_32 (ceil_at_32 f -ℤ pos 1) ≤F f
-ceil_under f = let i = floor_quotient_is (neg_ℤ (f.num *ℤ pos (2 ^ 32))) f.below in record
+ceil_under f =
+    let i = floor_quotient_is (neg_ℤ (f.num *ℤ pos (2 ^ 32))) f.below in record
     { cross = by_close (floor_quotient (neg_ℤ (f.num *ℤ pos (2 ^ 32))) f.below) i.close }
   where
-    by_close : (q : ℤ) → neg_ℤ (f.num *ℤ pos (2 ^ 32)) <ℤ (q *ℤ pos (suc f.below) +ℤ pos (suc f.below)) → ((neg_ℤ q -ℤ pos 1) *ℤ pos (suc f.below))
-        ≤ℤ (f.num *ℤ pos (2 ^ 32))
+    by_close : (q : ℤ) → neg_ℤ (f.num *ℤ pos (2 ^ 32)) <ℤ (q *ℤ pos (suc f.below) +ℤ pos (suc f.below))
+        → ((neg_ℤ q -ℤ pos 1) *ℤ pos (suc f.below)) ≤ℤ (f.num *ℤ pos (2 ^ 32))
     by_close (pos zero) h = omega (arith, ints, h)
     by_close (pos (suc q)) h = omega (arith, ints, h)
     by_close (negsuc q) h = let e : (neg_ℤ (negsuc q) -ℤ pos 1) ≡ pos q = omega (arith, ints) in rw e (omega (arith, ints, h))
@@ -121,7 +124,8 @@ box_sum n p g h v q b = by_gap (h - g) (omega (arith, b.y_order)) (omega (arith,
     q_most = let m = mul-le-mul_left q b.y_least in let k = mul-le-mul_left q b.y_order in omega (arith, m, k, b.least, b.x_less)
 
     by_gap : (e : ℕ) → h ≡ g + e → e ≤ 4098 → (2 ^ 32 * (g + n)) * 2047 ≤ ((2 ^ 32 + q) * g) * 2048
-    by_gap e f l = let k = mul-le-mul q_most l in let c : p * 2 ^ 32 ≤ q * (g + e) + (g + e) = rw f at b.close in omega
+    by_gap e f l =
+        let k = mul-le-mul q_most l in let c : p * 2 ^ 32 ≤ q * (g + e) + (g + e) = rw f at b.close in omega
         (arith, k, c, l, b.x_near, b.small, b.x_least, b.y_least, b.y_order, b.y_most)
 
 -- the rates above b are enough, the widths above a too
@@ -243,10 +247,14 @@ cornered_sizes n p g h v i nm pn pl nn gl gh hm hn l k =
     let t2 : nat_lt (suc h) (2 ^ 46) ≡ true = lt-ltb _ _ (omega (arith, hm)) in
     let lq : q * suc h ≤ suc p * 2 ^ 32 = omega arith in
     let lg : q * suc g ≤ suc p * 2 ^ 32 = omega (arith, lq, mul-le-mul_left q gh) in
-    let b : IsBox (suc n) (suc p) (suc g) (suc h) v q = record {
-      x_most = nm;
-      x_near = nn;
-      x_least = omega (arith, pl, pn);
+    let b : IsBox (suc n) (suc p) (suc g) (suc h) v q =
+    record {
+      x_most =
+          nm;
+      x_near =
+          nn;
+      x_least =
+          omega (arith, pl, pn);
       x_less = omega (arith, pn, nm);
       y_least = gl;
       y_order = gh;
@@ -262,7 +270,8 @@ cornered_sizes n p g h v i nm pn pl nn gl gh hm hn l k =
       rate = rate_from q;
       width = box_width (suc n) g v;
       enough = rate_is q;
-      kept = looser _ _ _ _ (box_width (suc n) g v) (box_width (suc n) g v) i (omega (arith, ints))
+      kept =
+          looser _ _ _ _ (box_width (suc n) g v) (box_width (suc n) g v) i (omega (arith, ints))
           (greatest_below _ _ _ (quotient_below p g q lg) (quotient_below p h q lq)) (omega arith)
           (record { kept = remeasured _ _ 0 _ (box_width (suc n) g v) 0 0 (box_width (suc n) g v) i (omega arith) (rw (ea, eb, eh, t1, t2) at k) });
       fits = box_fits (suc n) (suc p) g (suc h) v q b;

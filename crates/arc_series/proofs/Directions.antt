@@ -7,7 +7,8 @@ use Rattle.exact_math.specs.Interval.{Interval, everything, between, ◌⊆◌}
 use Rattle.exact_math.proofs.Fractions.{le_trans}
 use Rattle.book_model.specs.programs.Leading.{units_of_56}
 use Rattle.book_model.specs.programs.Widths.{IsWithin, IsAbout}
-use Rattle.book_model.specs.numbers.Bounds.{Bound, bounded, Reach, IsNarrow, at_32, limits_of, limits_at, bound_of, implies, integer_bound, difference_bound, quotient_bound, arctangent_bound, arc_spans, spanned_bound}
+use Rattle.book_model.specs.numbers.Bounds.{Bound, bounded, Reach, IsNarrow, at_32, limits_of, limits_at, bound_of, implies, integer_bound, difference_bound}
+use Rattle.book_model.specs.numbers.Bounds.{quotient_bound, arctangent_bound, arc_spans, spanned_bound}
 use Rattle.book_model.specs.numbers.Expressions.{Expression, argument, integer, subtract, divide, arctangent}
 use Rattle.book_model.specs.numbers.Relations.{Narrow, Keeps}
 use Rattle.book_model.proofs.Implying.{limits_within}
@@ -60,8 +61,8 @@ module _ {E : Type 0} (shown : E → Interval) (n v : ℕ) (y x : E) (e : n ≡ 
         cornered _ _ _ _ v (shown q) l (tight_is _ _ v (shown x) hx) (tight_is _ _ v (shown y) hy)
         (rw (limits_within n (omega arith) (omega arith), e) at k.kept)
 
-    pub direction_within : (t z d : E) → ((low : ℤ) (p s w : ℕ) → n ≡ 56 → IsRateFrom s p → IsWithin low (neg_ℤ (pos p)) w (shown q)
-        → IsAbout (91 * 2 ^ 32) (slow_width s w) (shown t))
+    pub direction_within : (t z d : E)
+        → ((low : ℤ) (p s w : ℕ) → n ≡ 56 → IsRateFrom s p → IsWithin low (neg_ℤ (pos p)) w (shown q) → IsAbout (91 * 2 ^ 32) (slow_width s w) (shown t))
         → ((r : Reach) (a : Expression) → Narrow shown (limits_of n) r a q → Narrow shown (limits_of n) r (arctangent a) t)
         → ((r : Reach) → Narrow shown (limits_of n) r (integer (pos 90)) z)
         → ((r : Reach) (a b : Expression) → Narrow shown (limits_of n) r a z → Narrow shown (limits_of n) r b t → Narrow shown (limits_of n) r (subtract a b) d)

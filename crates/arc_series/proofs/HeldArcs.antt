@@ -1,5 +1,6 @@
 -- From spans at single numbers to those of what two ends have in common with the pieces.
-use Rattle.std.proofs.Common.{◌≡◌, ℕ, ◌≤◌, ◌-◌, ◌^◌, refl, arith, Bool, true, false, cond, ℤ, pos, negsuc, ◌+ℤ◌, ◌≤ℤ◌, ◌<ℤ◌, ◌⊎◌, inl, inr, Option, Some, None, List, [], ◌∷◌, ◌++◌, map}
+use Rattle.std.proofs.Common.{◌≡◌, ℕ, ◌≤◌, ◌-◌, ◌^◌, refl, arith, Bool, true, false, cond, ℤ, pos, negsuc, ◌+ℤ◌, ◌≤ℤ◌, ◌<ℤ◌, ◌⊎◌, inl, inr, Option, Some}
+use Rattle.std.proofs.Common.{None, List, [], ◌∷◌, ◌++◌, map}
 use Rattle.std.specs.Prelude.{IfSome}
 use Rattle.std.specs.List.{filter}
 use Rattle.std.specs.Int.{int_min, int_max}
@@ -25,21 +26,13 @@ only_same x y h = same_of_le h.ends.1 h.ends.0
 
 pub hull_first : (a b c d lo hi : ℤ) → lo ≡ int_min a c → hi ≡ int_max b d → (i : Interval) → i ⊆ between (units_of_56 a) (units_of_56 b)
     → i ⊆ between (units_of_56 lo) (units_of_56 hi)
-hull_first a b c d lo hi e f i h = within_trans h (record {
-  ends = (
-    record { cross = omega (arith, ints, clamps, e) },
-    record { cross = omega (arith, ints, clamps, f) },
-  );
-})
+hull_first a b c d lo hi e f i h =
+    within_trans h (record { ends = (record { cross = omega (arith, ints, clamps, e) }, record { cross = omega (arith, ints, clamps, f) }) })
 
 pub hull_second : (a b c d lo hi : ℤ) → lo ≡ int_min a c → hi ≡ int_max b d → (i : Interval) → i ⊆ between (units_of_56 c) (units_of_56 d)
     → i ⊆ between (units_of_56 lo) (units_of_56 hi)
-hull_second a b c d lo hi e f i h = within_trans h (record {
-  ends = (
-    record { cross = omega (arith, ints, clamps, e) },
-    record { cross = omega (arith, ints, clamps, f) },
-  );
-})
+hull_second a b c d lo hi e f i h =
+    within_trans h (record { ends = (record { cross = omega (arith, ints, clamps, e) }, record { cross = omega (arith, ints, clamps, f) }) })
 
 -- ---- the ends of parts
 split : (j k : ℤ) → (j ≤ℤ k) ⊎ ((k +ℤ pos 1) ≤ℤ j)
@@ -131,8 +124,8 @@ ended_held shown n p lo hi y h k =
 abbrev pub Holds_arcs : Piece → ℤ → Interval → Type 0
 Holds_arcs p k i = (n : ℕ) (x : Fraction) → 40 ≤ n → x ≈ units_of_56 k → (piece_of p).arc n x ⊆ i
 
-pub over_held : {E : Type 0} (shown : E → Interval) (n : ℕ) (p : Piece) (lo hi k m : ℤ) (low high : Interval) (r : E) → 40 ≤ n → negsuc (2 ^ 127 - 1) ≤ℤ lo → hi
-    ≤ℤ pos (2 ^ 127 - 1)
+pub over_held : {E : Type 0} (shown : E → Interval) (n : ℕ) (p : Piece) (lo hi k m : ℤ) (low high : Interval) (r : E) → 40 ≤ n → negsuc (2 ^ 127 - 1) ≤ℤ lo
+    → hi ≤ℤ pos (2 ^ 127 - 1)
     → k ≡ int_max (begin_56 p) lo → m ≡ int_min (end_56 p) hi → Holds_arcs p k low → Holds_arcs p m high → ((i : Interval) → i ⊆ low → i ⊆ shown r)
     → ((i : Interval) → i ⊆ high → i ⊆ shown r)
     → AreHeld shown (arcs_over n (units_of_56 lo) (units_of_56 hi) (piece_of p ∷ [])) (Some r)

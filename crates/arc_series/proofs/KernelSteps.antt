@@ -1,84 +1,24 @@
 -- One step of Horner's form in 64 bits keeps what is near, and so do the square before it and the product after it.
-use Rattle.std.proofs.Common.{◌≡◌, ℕ, suc, ◌+◌, ◌*◌, ◌/◌, ◌-◌, ◌^◌, ◌≤◌, refl, arith, ℤ, pos, negsuc, ◌+ℤ◌, ◌-ℤ◌, ◌≤ℤ◌, [], ◌∷◌}
+use Rattle.std.proofs.Common.{ℕ, suc, ◌*◌, ◌-◌, ◌^◌, ◌≤◌, refl, arith, ℤ, pos, negsuc, ◌+ℤ◌, ◌-ℤ◌, ◌≤ℤ◌, [], ◌∷◌}
 use Rattle.std.proofs.lemmas.Int.{ints}
-use Rattle.std.proofs.Math.Nat.{mul-le-mul_right}
-use Rattle.exact_math.specs.Fraction.{Fraction, ◌≤F◌, ◌≈◌, whole, plus, opposite, times}
+use Rattle.exact_math.specs.Fraction.{Fraction, ◌≤F◌, whole, plus, opposite, times}
 use Rattle.exact_math.specs.Sums.{one_over}
 use Rattle.exact_math.proofs.Ring.{at, lit, ◌⊕◌, ◌⊖◌, ◌⊗◌}
 use Rattle.exact_math.proofs.Fractions.{le_trans}
 use Rattle.exact_math.proofs.Same.{le_of_same, ge_of_same}
 use Rattle.exact_math.proofs.Certificates.{zero_F, ◌≼◌, ◌≗◌, known, multiple, ◌⊞◌, ◌⊠◌, natural, le_by, le_over}
-use Rattle.arc_series.specs.Kernel.{at_64, IsWithinUnits, IsCut, IsNumber, IsSquare, nested}
-
--- 2^-64
-unfoldable pub unit : Fraction
-unit = at_64 (pos 1)
-
-pub unit_nonneg : zero_F ≤F unit
-unfolding unit
-unit_nonneg = record { cross = omega (arith, ints) }
+use Rattle.rounded_quotients.specs.Units.{at_64, IsWithinUnits}
+use Rattle.rounded_quotients.proofs.HighHalves.{unit, unit_nonneg, at_is, at_more, at_less, IsHigh, product_is, high_below, high_above, half_of, count_nonneg}
+use Rattle.rounded_quotients.proofs.HighHalves.{from_at, to_more, from_less, rest_is}
+use Rattle.arc_series.specs.Kernel.{IsCut, IsNumber, IsSquare, nested}
 
 unit_small : unit ≤F whole (pos 1)
 unfolding unit
 unit_small = record { cross = omega (arith, ints) }
 
--- a number and a number more or less, as multiples of it
-pub at_is : (n : ℤ) → at_64 n ≈ times (whole n) unit
-unfolding unit times
-at_is n = record { cross = omega (arith, ints) }
-
-pub at_more : (n m : ℤ) → at_64 (n +ℤ m) ≈ times (plus (whole n) (whole m)) unit
-unfolding unit plus times
-at_more n m = record { cross = omega (arith, ints) }
-
-pub at_less : (n m : ℤ) → at_64 (n -ℤ m) ≈ times (plus (whole n) (opposite (whole m))) unit
-unfolding unit plus times opposite
-at_less n m = record { cross = omega (arith, ints) }
-
--- h is the high half of the product of w and t
-pub record IsHigh (h w t : ℕ) : Type 0 where
-  pub not_above : h * 2 ^ 64 ≤ w * t
-  pub close : w * t ≤ h * 2 ^ 64 + 2 ^ 64
-
-pub high_is : (h w t : ℕ) → h ≡ w * t / 2 ^ 64 → IsHigh h w t
-high_is h w t e = record { not_above = omega (arith, e); close = omega (arith, e) }
-
-pub high_small : (h w t : ℕ) → IsHigh h w t → w ≤ 2 ^ 64 → h ≤ t
-high_small h w t p k = omega (arith, p.not_above, mul-le-mul_right t k)
-
-pub product_is : (w t : ℕ) → whole (pos (w * t)) ≈ times (whole (pos w)) (whole (pos t))
-unfolding times
-product_is w t = record { cross = omega (arith, ints) }
-
-pub high_below : (h p : ℕ) → h * 2 ^ 64 ≤ p → whole (pos h) ≤F times (whole (pos p)) unit
-unfolding unit times
-high_below h p e = record { cross = omega (arith, ints, e) }
-
-pub high_above : (h p : ℕ) → p ≤ h * 2 ^ 64 + 2 ^ 64 → times (whole (pos p)) unit ≤F plus (whole (pos h)) (whole (pos 1))
-unfolding unit times plus
-high_above h p e = record { cross = omega (arith, ints, e) }
-
-half_of : (t : ℕ) → 2 * t ≤ 2 ^ 64 → times (whole (pos 2)) (times (whole (pos t)) unit) ≤F whole (pos 1)
-unfolding unit times
-half_of t e = record { cross = omega (arith, ints, e) }
-
-pub count_nonneg : (t : ℕ) → zero_F ≤F times (whole (pos t)) unit
-unfolding unit times
-count_nonneg t = record { cross = omega (arith, ints) }
-
 pub count_whole : (t : ℕ) → t ≤ 2 ^ 64 → times (whole (pos t)) unit ≤F whole (pos 1)
 unfolding times unit
 count_whole t h = record { cross = omega (arith, ints, h) }
-
--- from a bound at a count to one by the unit
-pub from_at : (n : ℤ) (x : Fraction) → at_64 n ≤F x → times (whole n) unit ≤F x
-from_at n x h = le_trans _ (at_64 n) x (ge_of_same (at_is n)) h
-
-pub to_more : (n m : ℤ) (x : Fraction) → x ≤F at_64 (n +ℤ m) → x ≤F times (plus (whole n) (whole m)) unit
-to_more n m x h = le_trans x (at_64 (n +ℤ m)) _ h (le_of_same (at_more n m))
-
-pub from_less : (n m : ℤ) (x : Fraction) → at_64 (n -ℤ m) ≤F x → times (plus (whole n) (opposite (whole m))) unit ≤F x
-from_less n m x h = le_trans _ (at_64 (n -ℤ m)) x (ge_of_same (at_less n m)) h
 
 quarter_of : (u : Fraction) → u ≤F record { num = pos 1; below = 3 } → times (whole (pos 4)) u ≤F whole (pos 1)
 unfolding times
@@ -87,11 +27,6 @@ quarter_of u h = record { cross = omega (arith, ints, h.cross) }
 to_quarter : (u : Fraction) → times (whole (pos 4)) u ≤F whole (pos 1) → u ≤F record { num = pos 1; below = 3 }
 unfolding times
 to_quarter u h = record { cross = omega (arith, ints, h.cross) }
-
--- c - h, as a fraction
-rest_is : (c h : ℕ) → h ≤ c → whole (pos (c - h)) ≈ plus (whole (pos c)) (opposite (whole (pos h)))
-unfolding plus opposite
-rest_is c h e = record { cross = omega (arith, ints, e) }
 
 square_nonneg : (w : ℕ) (u : Fraction) → IsSquare w u → zero_F ≤F u
 square_nonneg w u s = le_trans zero_F (at_64 (pos w)) u (record { cross = omega (arith, ints) }) s.not_above
@@ -159,10 +94,8 @@ step_below c w t h C U V p k i s n =
 
 pub step_near : (c w t h d : ℕ) (U V : Fraction) → IsHigh h w t → h ≤ c → 2 * t ≤ 2 ^ 64 → IsCut c d → IsSquare w U → IsWithinUnits 4 t V
     → IsWithinUnits 4 (c - h) (plus (one_over d) (opposite (times U V)))
-step_near c w t h d U V p k l i s n = record {
-  above = step_above c w t h (one_over d) U V p k l i.not_above s n;
-  below = step_below c w t h (one_over d) U V p k i.close s n;
-}
+step_near c w t h d U V p k l i s n =
+    record { above = step_above c w t h (one_over d) U V p k l i.not_above s n; below = step_below c w t h (one_over d) U V p k i.close s n }
 
 -- ---- the chain of steps
 at_mono : (a b : ℤ) → a ≤ℤ b → at_64 a ≤F at_64 b

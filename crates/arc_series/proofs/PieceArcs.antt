@@ -43,7 +43,8 @@ opposite_held lo hi low high i e f h = within_trans (negative_within h) (opposit
 
 pub less_held : (k : ℕ) (lo hi low high : ℤ) (i : Interval) → low ≡ pos (k * 2 ^ 56) -ℤ hi → high ≡ pos (k * 2 ^ 56) -ℤ lo
     → i ⊆ between (units_of_56 lo) (units_of_56 hi) → difference (only (whole (pos k))) i ⊆ between (units_of_56 low) (units_of_56 high)
-less_held k lo hi low high i e f h = more_held k (neg_ℤ hi) (neg_ℤ lo) low high (negative i) (omega (arith, ints, e)) (omega (arith, ints, f))
+less_held k lo hi low high i e f h =
+    more_held k (neg_ℤ hi) (neg_ℤ lo) low high (negative i) (omega (arith, ints, e)) (omega (arith, ints, f))
     (opposite_held lo hi (neg_ℤ hi) (neg_ℤ lo) i refl refl h)
 
 -- ---- from 0 to 1/2

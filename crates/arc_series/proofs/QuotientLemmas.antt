@@ -12,7 +12,7 @@ use Rattle.book_model.specs.programs.Leading.{units_of_56}
 use Rattle.book_model.specs.numbers.Arcs.{half}
 use Rattle.book_model.proofs.ArcPieces.{recip_one, turned, sum_positive, three_positive}
 use Rattle.arc_series.specs.Kernel.{IsNumber}
-use Rattle.arc_series.proofs.KernelSteps.{unit, product_is, at_is, at_more}
+use Rattle.rounded_quotients.proofs.HighHalves.{unit, product_is, at_is, at_more}
 
 -- ---- a quotient
 -- n over d, rounded down
@@ -90,7 +90,7 @@ near_number k x h e = record {
 }
 
 abbrev pub steps : ℕ
-steps = 72057594037927936
+steps = 2 ^ 56
 
 counted : (k : ℕ) (x : Fraction) → x ≈ units_of_56 (pos k) → times x (whole (pos steps)) ≈ whole (pos k)
 unfolding times

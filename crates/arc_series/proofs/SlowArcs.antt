@@ -57,7 +57,8 @@ arctangent_slow shown n x y from to r o g h v f low p s w e t k =
     let z = f 0 (bounded (neg_ℤ (pos (91 * 2 ^ 32))) (pos (91 * 2 ^ 32)) 0 q)
     (spans_of (neg_ℤ (pos (91 * 2 ^ 32))) (pos (91 * 2 ^ 32)) 0 q 0 r.lo r.hi
     (record {
-      low = omega (arith, ints, v.above.quarter);
+      low =
+          omega (arith, ints, v.above.quarter);
       high = omega (arith, ints, v.below.quarter);
       order = r.ordered;
       close = close_slow s w from to r.lo r.hi o a.close (v.slow s (rate_to s p to t a.high));
@@ -87,6 +88,7 @@ unfolding spanned_bound IsNarrow
 moved_narrow shown n x y lo hi low top o a b g h f high v e k =
     let l = limits_within n (omega arith) (omega arith) in
     let i = kept_of (pos (90 * 2 ^ 32)) high 0 v 0 lo hi (span_keeps 0 (bounded (pos (90 * 2 ^ 32)) high 0 v) (shown x) lo hi o g h k.kept) in
-    let z = f 0 (bounded (pos (90 * 2 ^ 32)) (pos (180 * 2 ^ 32)) 0 v)
+    let z =
+    f 0 (bounded (pos (90 * 2 ^ 32)) (pos (180 * 2 ^ 32)) 0 v)
     (spans_of (pos (90 * 2 ^ 32)) (pos (180 * 2 ^ 32)) 0 v 0 low top (moved_kept high v lo hi low top a b i)) in
     looser _ _ _ _ (v + 2 * 2 ^ 8) (v + 2 ^ 9) (shown y) (omega (arith, ints)) (omega (arith, ints)) (omega arith) (record { kept = rw (l, e) at z })

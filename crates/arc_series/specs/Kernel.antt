@@ -1,17 +1,9 @@
 -- Numbers in 64 bits that are near a fraction; all count 2^-64.
-use Rattle.std.specs.Prelude.{ℕ, zero, suc, neg_ℤ, ◌-◌, ◌^◌, ℤ, pos, ◌-ℤ◌, ◌+ℤ◌, ◌≤ℤ◌}
+use Rattle.std.specs.Prelude.{ℕ, zero, suc, neg_ℤ, ◌^◌, ℤ, pos, ◌+ℤ◌, ◌≤ℤ◌}
 use Rattle.exact_math.specs.Fraction.{Fraction, ◌≤F◌, plus, opposite, times}
 use Rattle.exact_math.specs.Sums.{one_over}
 use Rattle.book_model.specs.numbers.Arcs.{half}
-
--- a number that counts 2^-64
-abbrev pub at_64 : ℤ → Fraction
-at_64 n = record { num = n; below = 2 ^ 64 - 1 }
-
--- x lies within e of t
-pub record IsWithinUnits (e t : ℕ) (x : Fraction) : Type 0 where
-  pub above : at_64 (pos t -ℤ pos e) ≤F x
-  pub below : x ≤F at_64 (pos t +ℤ pos e)
+use Rattle.rounded_quotients.specs.Units.{at_64}
 
 -- c is 1 / (d + 1), rounded down
 pub record IsCut (c d : ℕ) : Type 0 where

@@ -2,20 +2,20 @@
 ghost use Rattle.book_model.specs.programs.Calls.{Encloses1, Encloses2};
 ghost use Rattle.std.specs.Prelude.{◌≡◌, ◌≤◌, ◌+◌, ◌*◌, ◌^◌, ℕ, ℤ, pos, IsTrue, false, neg_ℤ};
 ghost use Rattle.std.specs.Int.{int_min, int_max};
-ghost use Rattle.arc_series.specs.declared.degrees.TheConstants.{HALF_TURN};
+ghost use Rattle.interval_ends.specs.declared.parts.TheConstants.{HALF_TURN};
 ghost use Rattle.exact_math.specs.Interval.{Interval, everything, ◌⊆◌};
 ghost use Rattle.book_model.specs.numbers.Arcs.{all_around};
 ghost use Rattle.book_model.specs.numbers.Bounds.{is_scale};
 ghost use Rattle.book_model.specs.numbers.Expressions.{arctangent, arcsine, arccosine, arctangent_of_two};
 ghost use Rattle.book_model.specs.programs.Widths.{IsAbout, IsWithin};
+ghost use Rattle.greatest_widths.specs.declared.table.TheConstants.{ARCTANGENT_OF_TWO};
+ghost use Rattle.greatest_widths.specs.Table.{greatest_of};
 ghost use Rattle.arc_series.specs.Forms.{half_tangent_of, has_sign};
 ghost use Rattle.arc_series.specs.Widths.{IsRateFrom, slow_width};
 
 use crate::pieces::arctan_over;
 use encl_core::{Enclosure, Span};
-
-/// 180 degrees, which count 2⁻⁵⁶.
-const HALF_TURN: i128 = 12_970_366_926_827_028_480;
+use interval_ends::parts::HALF_TURN;
 
 /// The arctangent in degrees.
 ///
@@ -109,7 +109,8 @@ pub fn arctan2_deg<E: Enclosure>(y: E, x: E) -> E
     ensures measured { (v : ℕ) → E.BITS ≡ 56 → v ≤ 2 ^ 44
         → IsWithin (pos (2 ^ 28)) (pos (2 * 2 ^ 32)) v (E.shown y)
         → IsWithin (neg_ℤ (pos (2 * 2 ^ 32))) (neg_ℤ (pos (2 ^ 31))) v (E.shown x)
-        → IsWithin (pos (90 * 2 ^ 32)) (pos (180 * 2 ^ 32)) (230 * v + 2 ^ 20) (E.shown result) }
+        → IsWithin (pos (90 * 2 ^ 32)) (pos (180 * 2 ^ 32)) (greatest_of ARCTANGENT_OF_TWO v)
+        (E.shown result) }
 {
     let Some(span) = y.span() else {
         return half_turn_both_ways();

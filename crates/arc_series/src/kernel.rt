@@ -2,28 +2,22 @@
 //!
 //! All numbers count 2⁻⁶⁴. The coefficients are 1 over an odd number, rounded down, and Horner's form takes them from the
 //! inside out. A step makes an error of at most 4 into one of at most 4, since the square of a number is at most 1/4.
-ghost use Rattle.std.specs.Prelude.{◌≡◌, ◌≤◌, ◌*◌, ◌/◌, ◌^◌, ℕ, pos, neg_ℤ, ◌*ℤ◌, ◌+ℤ◌, ◌≤ℤ◌};
+ghost use Rattle.std.specs.Prelude.{◌≤◌, ◌*◌, ◌^◌, ℕ, pos, neg_ℤ, ◌*ℤ◌, ◌+ℤ◌, ◌≤ℤ◌};
 ghost use Rattle.exact_math.specs.Fraction.{Fraction, plus, opposite, times};
 ghost use Rattle.exact_math.specs.Interval.{between, ◌⊆◌};
 ghost use Rattle.exact_math.specs.Sums.{one_over};
 ghost use Rattle.book_model.specs.programs.Leading.{units_of_56};
 ghost use Rattle.book_model.specs.numbers.Arcs.{arc_near};
 ghost use Rattle.book_model.specs.numbers.Depth.{DEPTH};
-ghost use Rattle.arc_series.specs.Kernel.{IsWithinUnits, IsCut, IsSquare, IsNumber, IsArc, IsSmall, nested};
+ghost use Rattle.rounded_quotients.specs.Units.{IsWithinUnits};
+ghost use Rattle.arc_series.specs.Kernel.{IsCut, IsSquare, IsNumber, IsArc, IsSmall, nested};
 ghost use Rattle.arc_series.specs.Widths.{IsThin};
 
 use encl_core::Span;
+use rounded_quotients::high_half;
 
 /// The degrees of a radian, which count 2⁻⁵⁸, rounded down.
 const DEGREES: u64 = 16_514_384_080_961_256_899;
-
-/// The high half of a product.
-#[inline(always)]
-fn high_half(a: u64, b: u64) -> u64
-    ensures value { result ≡ a * b / 2 ^ 64 }
-{
-    (u128::from(a) * u128::from(b) >> 64) as u64
-}
 
 /// One step of Horner's form: 1 over an odd number less a square times what stands further in.
 #[inline(always)]

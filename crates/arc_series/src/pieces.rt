@@ -5,7 +5,7 @@ ghost use Rattle.exact_math.specs.Interval.{Interval, between, ◌⊆◌};
 ghost use Rattle.book_model.specs.numbers.Arcs.{arcs_over, arctangent_of, arc_near, arc_above, arc_beyond};
 ghost use Rattle.book_model.specs.programs.Leading.{units_of_56};
 ghost use Rattle.book_model.specs.numbers.Depth.{DEPTH};
-ghost use Rattle.arc_series.specs.declared.pieces.TheConstants.{HALF, THREE};
+ghost use Rattle.interval_ends.specs.declared.parts.TheConstants.{HALF, THREE};
 ghost use Rattle.arc_series.specs.Forms.{piece_of, of_span, AreHeld, begin_56, end_56};
 ghost use Rattle.arc_series.specs.Kernel.{IsSmall};
 ghost use Rattle.arc_series.specs.Widths.{IsThin, Edge, first_edge, last_edge, Reaches, AreOver};
@@ -14,21 +14,7 @@ use crate::kernel::arc_of_number_64;
 use crate::quotients::quotient_64;
 use crate::spans::{hull, less, more, opposite};
 use encl_core::Span;
-
-/// A half.
-const HALF: i128 = 36_028_797_018_963_968;
-
-/// One.
-const ONE: u64 = 72_057_594_037_927_936;
-
-/// 3.
-const THREE: i128 = 216_172_782_113_783_808;
-
-/// 45 degrees.
-const EIGHTH_TURN: i128 = 3_242_591_731_706_757_120;
-
-/// 90 degrees.
-const QUARTER_TURN: i128 = 6_485_183_463_413_514_240;
+use interval_ends::parts::{HALF, NATURAL_ONE, QUARTER, THREE, WIDE_OCTANT};
 
 /// A closed piece of the line: up to -3, from there to -1/2, to 1/2, to 3, and from 3 on.
 #[derive(Clone, Copy, Debug, PartialEq)]
@@ -65,16 +51,16 @@ fn above(number: u64) -> Span
     ensures room { IsSmall result.lo result.hi }
     ensures thin { IsThin result.lo result.hi }
 {
-    let sum = u128::from(ONE + number);
-    if number < ONE {
+    let sum = u128::from(NATURAL_ONE + number);
+    if number < NATURAL_ONE {
         return less(
-            EIGHTH_TURN,
-            arc_of_number_64(quotient_64(ONE - number, sum)),
+            WIDE_OCTANT,
+            arc_of_number_64(quotient_64(NATURAL_ONE - number, sum)),
         );
     }
     more(
-        EIGHTH_TURN,
-        arc_of_number_64(quotient_64(number - ONE, sum)),
+        WIDE_OCTANT,
+        arc_of_number_64(quotient_64(number - NATURAL_ONE, sum)),
     )
 }
 
@@ -87,7 +73,7 @@ fn beyond(number: u128) -> Span
     ensures room { IsSmall result.lo result.hi }
     ensures thin { IsThin result.lo result.hi }
 {
-    less(QUARTER_TURN, arc_of_number_64(quotient_64(ONE, number)))
+    less(QUARTER, arc_of_number_64(quotient_64(NATURAL_ONE, number)))
 }
 
 /// The arctangent of a number from -1/2 to 1/2.

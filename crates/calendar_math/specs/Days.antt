@@ -6,10 +6,6 @@ use Rattle.book_model.specs.declared.frac.Frac.{Frac}
 abbrev pub IsCalendarDay : ℤ → Type 0
 IsCalendarDay day = (pos 0 ≤ℤ day) × (day ≤ℤ pos 1000000)
 
--- a count of days, months or years that is divided
-abbrev pub IsCount : ℤ → Type 0
-IsCount count = (negsuc 49999999 ≤ℤ count) × (count ≤ℤ pos 50000000)
-
 -- a count of which spans are taken, or their days
 abbrev pub IsSpanCount : ℤ → Type 0
 IsSpanCount count = (negsuc 99999999 ≤ℤ count) × (count ≤ℤ pos 100000000)

@@ -3,10 +3,10 @@ use Rattle.std.proofs.Common.{◌≡◌, ℕ, zero, suc, ◌-◌, ◌≤◌, ℤ
 use Rattle.std.proofs.lemmas.Int.{ints, by_lt_z}
 use Rattle.std.specs.Prelude.{◌↔◌, ◌&&◌, int_lt, Result, Ok, Err, IsOk, IfOk, IsSome, IfSome, IsTrue}
 use Rattle.std.specs.Result.{result_ok}
-use Rattle.book_model.specs.calendars.Gregorian.{first_day, year_of_day, is_date, fixed_of}
+use Rattle.book_model.specs.calendars.Gregorian.{first_day, year_of_day, is_date, days_in_month, fixed_of}
 use Rattle.book_model.proofs.Calendars.{year_is, first_day_rises}
 use Rattle.jiff_core.specs.declared.civil.date.Date.{Date}
-use Rattle.jiff_core.specs.Calendar.{IsDate}
+use Rattle.jiff_core.specs.Calendar.{IsDate, IsBetween}
 use Rattle.jiff_core.specs.Date.{epoch_day, IsYmd}
 use Rattle.jiff_core.proofs.DateLemmas.{civil, epoch_day_range}
 use Rattle.civil_core.specs.Dates.{has_date, IsDateOfDay}
@@ -54,9 +54,10 @@ at_date date n y m year month e first =
     let parts = date_of_day n y m date.day number of_year (omega (arith, is.1)) is.2.0 is.2.1 in
     let range = epoch_day_range date in
     let from : pos 1 ≤ℤ year_of_day n = rw of_year (omega (arith, ints)) in
+    let in_year : IsBetween (pos 1) (pos 12) (pos (suc m)) = (omega (arith, ints), omega (arith, ints, is.1)) in
+    let in_month : IsBetween (pos 1) (pos (days_in_month y (suc m))) (pos date.day) = (omega (arith, ints, is.2.0), omega (arith, ints, is.2.1)) in
     record {
-      has = rw (has_date_is y (suc m) date.day) (is_date_of y (suc m) date.day
-          (is.0, (omega (arith, ints), omega (arith, ints, is.1)), (omega (arith, ints, is.2.0), omega (arith, ints, is.2.1))) first);
+      has = rw (has_date_is y (suc m) date.day) (is_date_of y (suc m) date.day (is.0, in_year, in_month) first);
       number = number;
       year = of_year;
       month = parts.0;
@@ -78,8 +79,8 @@ date_is_of_day date n e from =
     rw (y.1, month) (at_date date n y.0 (date.month - 1) y.1 month e (omega (arith, ints, y.1)))
 
 -- the same of a date with these numbers
-pub named_is_of_day : (date : Date) (year n : ℤ) (month day : ℕ) → IsYmd year (pos month) (pos day) date → IsTrue (has_date year month day) → epoch_day date
-    +ℤ pos 719163 ≡ n → IsDateOfDay year month day n
+pub named_is_of_day : (date : Date) (year n : ℤ) (month day : ℕ) → IsYmd year (pos month) (pos day) date → IsTrue (has_date year month day)
+    → epoch_day date +ℤ pos 719163 ≡ n → IsDateOfDay year month day n
 named_is_of_day date year n month day named has e =
     let same_month : date.month ≡ month = omega (arith, ints, named.1) in
     let same_day : date.day ≡ day = omega (arith, ints, named.2) in

@@ -55,19 +55,21 @@ unfolding fixed_of first_day days_of_months
 day_one date h = sym (day_agrees date 1 1 1 h)
 
 -- the tests of a date, where its month has k days
-tests_agree : (y m d k : ℕ) → (nat_lt 0 y && nat_lt y 10000 && nat_lt 0 m && nat_lt m 13 && nat_lt 0 d && nat_le d k ≡ true) ↔
-    ((1 ≤ y) × (y ≤ 9999) × (1 ≤ m) × (m ≤ 12) × (1 ≤ d) × (d ≤ k))
-tests_agree y m d k = (
-  λ h. (
-    grind (arith, nat_tests),
-    grind (arith, nat_tests),
-    grind (arith, nat_tests),
-    grind (arith, nat_tests),
-    grind (arith, nat_tests),
-    grind (arith, nat_tests),
-  ),
-  λ h. grind (arith, nat_tests, h.0, h.1, h.2, h.3, h.4, h.5),
-)
+tests_agree : (y m d k : ℕ)
+    → (nat_lt 0 y && nat_lt y 10000 && nat_lt 0 m && nat_lt m 13 && nat_lt 0 d && nat_le d k ≡ true)
+    ↔ ((1 ≤ y) × (y ≤ 9999) × (1 ≤ m) × (m ≤ 12) × (1 ≤ d) × (d ≤ k))
+tests_agree y m d k = (there, λ h. grind (arith, nat_tests, h.0, h.1, h.2, h.3, h.4, h.5))
+  where
+    there : nat_lt 0 y && nat_lt y 10000 && nat_lt 0 m && nat_lt m 13 && nat_lt 0 d && nat_le d k ≡ true
+        → (1 ≤ y) × (y ≤ 9999) × (1 ≤ m) × (m ≤ 12) × (1 ≤ d) × (d ≤ k)
+    there h = (
+      grind (arith, nat_tests),
+      grind (arith, nat_tests),
+      grind (arith, nat_tests),
+      grind (arith, nat_tests),
+      grind (arith, nat_tests),
+      grind (arith, nat_tests),
+    )
 
 -- the dates of the years from 1 on that jiff has are those of the definitions
 pub date_is : (y m d : ℕ) → is_date y m d ≡ true → IsDate (pos y) (pos m) (pos d) × (1 ≤ y)
@@ -80,18 +82,13 @@ date_is y m d e =
 
 pub is_date_of : (y m d : ℕ) → IsDate (pos y) (pos m) (pos d) → 1 ≤ y → is_date y m d ≡ true
 is_date_of y m d (year, month, day) first =
-    (tests_agree y m d (days_in_month y m)).1 (
-      first,
-      omega (arith, ints, year.1),
-      omega (arith, ints, month.0),
-      omega (arith, ints, month.1),
-      omega (arith, ints, day.0),
-      omega (arith, ints, day.1),
-    )
+    (tests_agree y m d (days_in_month y m)).1
+    (first, omega (arith, ints, year.1), omega (arith, ints, month.0), omega (arith, ints, month.1), omega (arith, ints, day.0), omega (arith, ints, day.1))
 
 -- a date's year is the year of its day
 pub year_agrees : (d : Date) → year_of_day (epoch_day d +ℤ pos 719163) ≡ d.year
-year_agrees d = year_unique _ d.year (epoch_day d +ℤ pos 719163) (year_is (epoch_day d +ℤ pos 719163))
+year_agrees d =
+    year_unique _ d.year (epoch_day d +ℤ pos 719163) (year_is (epoch_day d +ℤ pos 719163))
     (holds (up d.year + 9999 - down d.year) (omega (arith, signed_arith, d.year_in)))
   where
     holds : (n : ℕ) → d.year +ℤ pos 10000 ≡ pos (suc n) → IsYearOfDay d.year (epoch_day d +ℤ pos 719163)

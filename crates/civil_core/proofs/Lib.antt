@@ -2,3 +2,4 @@ pub mod JiffCalendar
 pub mod Months
 pub mod Conversions
 pub mod Days
+pub mod FourHundred

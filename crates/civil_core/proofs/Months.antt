@@ -3,7 +3,8 @@ use Rattle.std.proofs.Common.{◌≡◌, ℕ, zero, suc, ◌+◌, ◌-◌, ◌<�
 use Rattle.std.proofs.lemmas.Bool.Decides.{nat_tests}
 use Rattle.std.specs.Prelude.{unsigned_abs}
 use Rattle.jiff_core.proofs.SignedLemmas.{signed_arith}
-use Rattle.book_model.specs.calendars.Gregorian.{first_day, year_of_day, days_in_month, days_of_months, months_over, days_over, month_of_day, day_of_month, fixed_of}
+use Rattle.book_model.specs.calendars.Gregorian.{first_day, year_of_day, days_in_month, days_of_months, months_over, days_over}
+use Rattle.book_model.specs.calendars.Gregorian.{month_of_day, day_of_month, fixed_of}
 
 -- more months have more days
 months_rise : (y m k : ℕ) → days_of_months y m ≤ days_of_months y (k + m)
@@ -42,8 +43,8 @@ month_from : (day : ℤ) (y m k : ℕ) → unsigned_abs (year_of_day day) ≡ y 
 unfolding month_of_day
 month_from day y m k year over months = rw (year, over, months) refl
 
-day_from : (day : ℤ) (y m k : ℕ) → unsigned_abs (year_of_day day) ≡ y → days_over day ≡ k → month_of_day day ≡ suc m → day_of_month day
-    ≡ k - days_of_months y m + 1
+day_from : (day : ℤ) (y m k : ℕ) → unsigned_abs (year_of_day day) ≡ y → days_over day ≡ k → month_of_day day ≡ suc m
+    → day_of_month day ≡ k - days_of_months y m + 1
 unfolding day_of_month
 day_from day y m k year over month = let s : suc m - 1 ≡ m = omega arith in rw (month, s, year, over) refl
 

@@ -30,9 +30,9 @@ pub(crate) fn day_number(date: Date) -> i64
     i64::from(date.to_plain().to_unix_epoch_day()) + EPOCH
 }
 
-/// The date of a day number of the years 1 to 9999.
+/// The date of a day number of the years 1 to 9999, or of the day before these.
 pub(crate) fn date_on(day: i64) -> Date
-    requires from { pos 1 ≤ℤ day }
+    requires from { pos 0 ≤ℤ day }
     requires to { day ≤ℤ pos 3652059 }
     ensures day { epoch_day result +ℤ pos 719163 ≡ day }
 {

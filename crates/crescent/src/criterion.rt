@@ -80,7 +80,7 @@ fn is_high<E: Enclosure>(altitude: E, trail: &mut Trail) -> Result<bool, Fail>
     less_step(least, altitude, Site::Crescent, trail)
 }
 
-/// The conditions on the arc of light and on the altitude, in order: three tests at most.
+/// The conditions on the arc of light and on the altitude, in order: three tests at most (`bright_few`).
 #[tactic(auto, using(book_model::proofs::Leads::leading), unfolding(book_model::specs::sky::Crescent::is_bright_of, book_model::specs::sky::Crescent::and_also))]
 fn is_bright<E: Enclosure>(arc: E, altitude: E, trail: &mut Trail) -> Result<bool, Fail>
     ensures leads { Decides2 E.shown spec.is_bright_of arc altitude trail.old.count trail.new.count
@@ -91,7 +91,7 @@ fn is_bright<E: Enclosure>(arc: E, altitude: E, trail: &mut Trail) -> Result<boo
     Ok(is_lit(arc, trail)? && is_within_quarter(arc, trail)? && is_high(altitude, trail)?)
 }
 
-/// All conditions, in order: five tests at most.
+/// All conditions, in order: five tests at most (`meets_few`).
 #[tactic(auto, using(book_model::proofs::Leads::leading), unfolding(book_model::specs::sky::Crescent::is_crescent_of, book_model::specs::sky::Crescent::and_also))]
 fn is_crescent<E: Enclosure>(phase: E, arc: E, altitude: E, trail: &mut Trail) -> Result<bool, Fail>
     ensures leads { Decides3 E.shown spec.is_crescent_of phase arc altitude trail.old.count
@@ -134,7 +134,7 @@ fn meets<E: Enclosure>(
     is_crescent(phase, arc, altitude, trail)
 }
 
-/// The same at a moment of universal time, by the phase and the obliquity: eight tests at most.
+/// The same at a moment of universal time, by the phase and the obliquity: eight tests at most (`meets_with_few`).
 #[tactic(auto, using(book_model::proofs::Leads::leading), unfolding(book_model::specs::sky::Crescent::meets_with_of))]
 fn meets_with<E: Enclosure>(
     location: &Location,
@@ -156,7 +156,7 @@ fn meets_with<E: Enclosure>(
     )
 }
 
-/// The obliquity of the ecliptic at a moment of universal time: one test at most.
+/// The obliquity of the ecliptic at a moment of universal time.
 #[tactic(auto, using(book_model::proofs::Leads::leading), unfolding(book_model::specs::sky::Crescent::obliquity_at_of))]
 fn obliquity_at<E: Enclosure>(t: E, trail: &mut Trail) -> Result<E, Fail>
     ensures leads { Follows1 E.shown spec.obliquity_at_of t trail.old.count trail.new.count result }
@@ -167,7 +167,7 @@ fn obliquity_at<E: Enclosure>(t: E, trail: &mut Trail) -> Result<E, Fail>
     obliquity(c, trail)
 }
 
-/// Whether the moon meets the criterion at a location and a moment of universal time: 19 tests at most.
+/// Whether the moon meets the criterion at a location and a moment of universal time: 19 tests at most (`meets_at_few`).
 #[tactic(auto, using(book_model::proofs::Leads::leading), unfolding(book_model::specs::sky::Crescent::meets_at_of))]
 fn meets_at<E: Enclosure>(location: &Location, t: E, trail: &mut Trail) -> Result<bool, Fail>
     ensures leads { Decides1 E.shown (spec.meets_at_of location.now) t trail.old.count
@@ -180,7 +180,8 @@ fn meets_at<E: Enclosure>(location: &Location, t: E, trail: &mut Trail) -> Resul
     meets_with(location, t, young, tilt, trail)
 }
 
-/// Whether the crescent is seen on the evening with which a day (R.D.) begins: 151 tests at most, those of `visible`.
+/// Whether the crescent is seen on the evening with which a day (R.D.) begins: 151 tests at most (`visible_few`), those of
+/// `visible`.
 #[tactic(auto, using(book_model::proofs::Leads::leading), unfolding(book_model::specs::sky::Crescent::visible_of))]
 pub(crate) fn visible_on<E: Enclosure>(
     evenings: &Evenings<E>,
@@ -200,9 +201,9 @@ pub(crate) fn visible_on<E: Enclosure>(
 /// Whether the crescent is seen at a location on the evening with which a day (R.D.) begins, by Shaukat's criterion (Reingold and
 /// Dershowitz, Calendrical Calculations, chapters 14 and 18): when the sun stands 4.5 degrees below the horizon, the moon is past
 /// its new moon and before its first quarter, the arc of light between them is from 10.6 to 90 degrees and the moon's altitude
-/// above 4.1. 151 tests at most: those of dusk, of the phase, the obliquity, the longitude and the latitude of the moon, and then
-/// those of the conditions in this order, at `crescent`, until one doesn't hold. It is void where dusk is, and at `year` in a year
-/// without a correction.
+/// above 4.1. 151 tests at most (`visible_few`): those of dusk, of the phase, the obliquity, the longitude and the latitude of the
+/// moon, and then those of the conditions in this order, at `crescent`, until one doesn't hold. It is void where dusk is, and at
+/// `year` in a year without a correction.
 pub fn visible<E: Enclosure>(location: &Location, day: i64, trail: &mut Trail) -> Result<bool, Fail>
     requires low { first_fact_day ≤ℤ day }
     ensures leads { Decides (spec.visible_of location.now day) trail.old.count trail.new.count

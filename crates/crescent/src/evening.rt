@@ -54,7 +54,8 @@ impl<E: Enclosure> Evenings<E> {
         self.horizon.location
     }
 
-    /// When the crescent is looked for on the evening with which a day (R.D.) begins, in universal time: 132 tests at most.
+    /// When the crescent is looked for on the evening with which a day (R.D.) begins, in universal time: 132 tests at most
+    /// (`evening_few`).
     #[tactic(auto, using(book_model::proofs::Leads::leading), unfolding(book_model::specs::sky::Crescent::evening_of))]
     pub(crate) fn on(&self, day: i64, trail: &mut Trail) -> Result<E, Fail>
         requires low { first_fact_day ≤ℤ day }

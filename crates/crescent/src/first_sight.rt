@@ -60,7 +60,7 @@ fn start(new_moon: i64, is_seen: bool) -> i64
     }
 }
 
-/// The same, where the day may come before the crescent of the last new moon: 151 tests at most.
+/// The same, where the day may come before the crescent of the last new moon: 151 tests at most (`start_few`).
 #[tactic(auto, using(book_model::proofs::Leads::leading), unfolding(book_model::specs::sky::Crescent::sight_start_of))]
 fn sight_start<E: Enclosure>(
     evenings: &Evenings<E>,

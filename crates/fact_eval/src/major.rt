@@ -8,11 +8,11 @@ ghost use Rattle.book_model.specs.sky.Kinds.{terms_passed_of, major_of};
 use crate::midnights::longitude_at_midnight;
 use book_model::sun_tables::DEGREE_IN_TERMS;
 use book_model::{Fail, Place, Site};
-use calendar_math::amod;
 use encl_core::{Enclosure, Trail, floor_step};
+use rounded_quotients::amod;
 
 /// How many major solar terms the sun has passed since the spring equinox at midnight at the beginning of a day (R.D.) at a
-/// place: three tests at most.
+/// place: three tests at most (`passed_few`).
 #[tactic(auto, using(book_model::proofs::Leads::leading), unfolding(book_model::specs::sky::Kinds::terms_passed_of))]
 fn terms_passed<E: Enclosure>(place: Place, day: i64, trail: &mut Trail) -> Result<i64, Fail>
     ensures leads { Decides (terms_passed_of place day) trail.old.count trail.new.count result }
@@ -25,7 +25,7 @@ fn terms_passed<E: Enclosure>(place: Place, day: i64, trail: &mut Trail) -> Resu
 }
 
 /// The number, from 1 to 12, of the last major solar term at midnight at the beginning of a day (R.D.) at a place, that at 330
-/// degrees being the first: three tests at most.
+/// degrees being the first: three tests at most (`major_few`).
 #[tactic(auto, using(book_model::proofs::Leads::leading), unfolding(book_model::specs::sky::Kinds::major_of))]
 pub(crate) fn major<E: Enclosure>(place: Place, day: i64, trail: &mut Trail) -> Result<i64, Fail>
     requires day { IsValueDay day }

@@ -11,7 +11,7 @@ use encl_core::{Enclosure, Trail, floor_step};
 use sun_core::sun;
 use time_scales::{in_zone, midnight};
 
-/// The longitude of the sun at midnight at the beginning of a day (R.D.) at a place: two tests at most.
+/// The longitude of the sun at midnight at the beginning of a day (R.D.) at a place: two tests at most (`sun_few`).
 #[tactic(auto, using(book_model::proofs::Leads::leading), unfolding(book_model::specs::sky::Kinds::longitude_at_midnight_of))]
 pub(crate) fn longitude_at_midnight<E: Enclosure>(
     place: Place,

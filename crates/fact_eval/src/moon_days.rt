@@ -12,7 +12,7 @@ use moon_core::{PhaseCourse, moon_before_by, moon_from_by};
 use time_scales::midnight;
 
 /// The day (R.D.) at a place of the last new moon before midnight at the beginning of a day there: 26 tests at most, and those of
-/// the zone.
+/// the zone (`new_moon_before_few`).
 #[tactic(auto, using(book_model::proofs::Leads::leading), unfolding(book_model::specs::sky::Kinds::new_moon_before_of))]
 pub(crate) fn new_moon_before<E: Enclosure>(
     course: &PhaseCourse<E>,
@@ -31,7 +31,7 @@ pub(crate) fn new_moon_before<E: Enclosure>(
 }
 
 /// The day (R.D.) at a place of the first new moon at or after midnight at the beginning of a day there: 26 tests at most, and
-/// those of the zone.
+/// those of the zone (`new_moon_from_few`).
 #[tactic(auto, using(book_model::proofs::Leads::leading), unfolding(book_model::specs::sky::Kinds::new_moon_from_of))]
 pub(crate) fn new_moon_from<E: Enclosure>(
     course: &PhaseCourse<E>,

@@ -14,7 +14,7 @@ use encl_core::{Enclosure, Trail};
 use moon_core::PhaseCourse;
 
 /// The day (R.D.) in universal time on which the moon was last at a phase, in degrees, before a day begins or as it begins: 845
-/// tests at most.
+/// tests at most (`phase_day_few_exactly`).
 #[tactic(auto, using(crate::proofs::Rightness::phase_day_is_value))]
 pub(crate) fn phase_day<E: Enclosure>(
     course: &PhaseCourse<E>,
@@ -32,7 +32,7 @@ pub(crate) fn phase_day<E: Enclosure>(
 }
 
 /// The last day (R.D.) before a day, or the day itself, on whose evening before the crescent was first seen at a place: 7,942
-/// tests at most. It is void at `year` where the place has no location.
+/// tests at most (`phasis_few`). It is void at `year` where the place has no location.
 #[tactic(auto, using(book_model::proofs::Leads::leading), unfolding(book_model::specs::sky::Kinds::located))]
 pub(crate) fn phasis<E: Enclosure>(
     course: &PhaseCourse<E>,

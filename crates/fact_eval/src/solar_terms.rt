@@ -9,8 +9,8 @@ ghost use Rattle.fact_eval.specs.Spans.{IsTermCount};
 use crate::midnights::{day_at, longitude_at_midnight};
 use book_model::sun_tables::DEGREE_IN_TERMS;
 use book_model::{Fail, Place, Site};
-use calendar_math::modulo;
 use encl_core::{Enclosure, Trail, floor_step};
+use rounded_quotients::modulo;
 use sun_core::{SunCourse, sun_from_by};
 use time_scales::midnight;
 
@@ -18,7 +18,7 @@ use time_scales::midnight;
 const TERM_DEGREES: i64 = 30;
 
 /// The whole spans of 30 degrees, rounded down, from the sun to the first longitude of the terms, in degrees, at midnight at the
-/// beginning of a day (R.D.) at a place: from -12 to 12. Three tests at most.
+/// beginning of a day (R.D.) at a place: from -12 to 12. Three tests at most (`spans_few`).
 #[tactic(auto, using(book_model::proofs::Leads::leading), unfolding(book_model::specs::sky::Kinds::spans_short_of))]
 fn spans_short<E: Enclosure>(
     place: Place,
@@ -51,8 +51,7 @@ fn term_longitude(first: i64, spans: i64) -> i64
     modulo(first - TERM_DEGREES * spans, 360)
 }
 
-/// The day (R.D.) at a place on which the sun is next at a longitude, in degrees, once a day has begun there: 325 tests at most,
-/// and those of the zone.
+/// The day (R.D.) at a place on which the sun is next at a longitude, in degrees, once a day has begun there.
 #[tactic(auto, using(book_model::proofs::Leads::leading), unfolding(book_model::specs::sky::Kinds::longitude_day_of))]
 fn longitude_day<E: Enclosure>(
     course: &SunCourse<E>,
@@ -76,7 +75,7 @@ fn longitude_day<E: Enclosure>(
 
 /// The day (R.D.) at a place on which the sun comes to the first of the longitudes of the terms once a day has begun there: those
 /// 30 degrees apart, the least of which is `first`, 0 for the major terms and 15 for the minor. 328 tests at most, and those of the
-/// zone.
+/// zone (`term_day_few`).
 #[tactic(auto, using(book_model::proofs::Leads::leading), unfolding(book_model::specs::sky::Kinds::term_day_of))]
 pub(crate) fn term_day<E: Enclosure>(
     course: &SunCourse<E>,

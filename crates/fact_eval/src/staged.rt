@@ -138,7 +138,7 @@ fn evaluate_by<E: Enclosure>(
 }
 
 /// The value of a fact by its formula over enclosures of one kind. It fails where a test is open, and over enclosures of the scale
-/// 2⁻⁵⁶ the ends of that test are close then; or where the formula is void, as it is outside 1 July 1800 to 31 December 2049.
+/// 2⁻⁵⁶ the ends of that test are close then; or where the formula is void, as it is outside 1 July 1700 to 31 December 2149.
 pub fn evaluate<E: Enclosure>(fact: Fact, trail: &mut Trail) -> Result<i64, Fail>
     ensures leads { Decides (program_of fact) trail.old.count trail.new.count result }
     ensures value { IfOk result IsFactValue }

@@ -110,8 +110,8 @@ fn minutes_of_sunset<E: Enclosure>(
     rounded(minutes(place, day, t), trail)
 }
 
-/// Sunset on a day (R.D.) at a place, in minutes of its time after midnight, rounded: 133 tests at most. It is void where sunset is,
-/// and at `year` where the place has no location.
+/// Sunset on a day (R.D.) at a place, in minutes of its time after midnight, rounded: 133 tests at most (`sunset_in_minutes_few`).
+/// It is void where sunset is, and at `year` where the place has no location.
 #[tactic(auto, using(book_model::proofs::Leads::leading), unfolding(book_model::specs::sky::Kinds::located))]
 pub(crate) fn sunset_in_minutes<E: Enclosure>(
     place: Place,

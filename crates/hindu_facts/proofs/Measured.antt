@@ -14,6 +14,7 @@ use Rattle.book_model.specs.numbers.Relations.{Narrow, Keeps}
 use Rattle.book_model.specs.programs.Widths.{IsAbout, IsMoment, IsNearlyDated, IsUpTo, IsRecentlyDated, IsRecent}
 use Rattle.book_model.specs.sky.Sidereal.{years_gone_of}
 use Rattle.book_model.proofs.Implying.{limits_within}
+use Rattle.rise_set.specs.declared.hindu.TheConstants.{FIRST_HINDU_DAY}
 use Rattle.greatest_widths.proofs.Measuring.{measured, sloped, looser}
 
 -- ---- parts of a turn
@@ -71,7 +72,7 @@ years_within shown n v t s g h y e m u f i z =
     (sloped shown (limits_of n) v (3 * v + 2 ^ 34) year_bounds 1 (pos 0) (pos (360 * 2 ^ 32)) (3 * 2 ^ 40) (2 ^ 34) s refl (omega arith) u)) (i r))
 
 -- ---- a day from R.D. 620,600 on, as it begins
-pub day_recent : {E : Type 0} (shown : E → Interval) (n : ℕ) (d : ℤ) (x : E) → n ≡ 56 → pos 620600 ≤ℤ d → d ≤ℤ LAST_FACT_DAY
+pub day_recent : {E : Type 0} (shown : E → Interval) (n : ℕ) (d : ℤ) (x : E) → n ≡ 56 → FIRST_HINDU_DAY ≤ℤ d → d ≤ℤ LAST_FACT_DAY
     → ((r : Reach) → Narrow shown (limits_of n) r (integer d) x) → IsRecent 0 (shown x)
 unfolding Keeps bound_of integer_bound
 day_recent shown n d x e h k f =

@@ -3,6 +3,7 @@ ghost use Rattle.book_model.specs.programs.Calls.{Decides, Decides1};
 ghost use Rattle.std.specs.Prelude.{◌≡◌, ◌≤◌, ◌+◌, ◌^◌, ◌-ℤ◌, pos, ◌≤ℤ◌, IfOk, IfErr};
 ghost use Rattle.std.specs.Ordering.{int_eq};
 ghost use Rattle.book_model.specs.declared.fact.TheConstants.{LAST_FACT_DAY as last_fact_day};
+ghost use Rattle.rise_set.specs.declared.hindu.TheConstants.{FIRST_HINDU_DAY};
 ghost use Rattle.book_model.specs.sky.Facts.{IsFactValue, IsValueDay};
 ghost use Rattle.book_model.specs.sky.HinduFacts as spec;
 ghost use Rattle.book_model.specs.programs.Searches.{first_day_from};
@@ -13,13 +14,14 @@ ghost use Rattle.time_scales.specs.Steps.{IsNoEarlyYear};
 use crate::zodiac::{hindu_year, sign, whole_degrees};
 use book_model::sun_tables::DEGREE_IN_LUNAR_DAYS;
 use book_model::{Fail, Site};
-use calendar_math::modulo;
 use encl_core::{DayTest, Enclosure, Trail, first_day, floor_step};
 use moon_core::{PhaseCourse, moon_before_by, moon_from_by, phase};
 use rise_set::{HinduSunsets, hsunset, sunrise};
+use rounded_quotients::modulo;
 use sun_core::SunCourse;
 
-/// The sign of the zodiac in which the sun stands at sunset on a day (R.D.): 137 tests at most, those of `sign_at_sunset`.
+/// The sign of the zodiac in which the sun stands at sunset on a day (R.D.): 137 tests at most (`sign_at_few`), those of
+/// `sign_at_sunset`.
 #[tactic(auto, using(book_model::proofs::Leads::leading), unfolding(book_model::specs::sky::HinduFacts::sign_at_sunset_of))]
 fn sign_on<E: Enclosure>(
     sunsets: &HinduSunsets<E>,
@@ -29,7 +31,8 @@ fn sign_on<E: Enclosure>(
 ) -> Result<i64, Fail>
     ensures leads { Decides (spec.sign_at_sunset_of day) trail.old.count trail.new.count result }
     ensures value { IfOk result IsFactValue }
-    ensures close { pos 620600 ≤ℤ day → day ≤ℤ last_fact_day → E.BITS ≡ 56 → IfErr result IsClose }
+    ensures close { FIRST_HINDU_DAY ≤ℤ day → day ≤ℤ last_fact_day → E.BITS ≡ 56
+        → IfErr result IsClose }
 {
     let t = sunsets.on(day, trail)?;
     sign(course, t, trail)
@@ -44,16 +47,17 @@ pub fn sign_at_sunset_by<E: Enclosure>(
 ) -> Result<i64, Fail>
     ensures leads { Decides (spec.sign_at_sunset_of day) trail.old.count trail.new.count result }
     ensures value { IfOk result IsFactValue }
-    ensures close { pos 620600 ≤ℤ day → day ≤ℤ last_fact_day → E.BITS ≡ 56 → IfErr result IsClose }
+    ensures close { FIRST_HINDU_DAY ≤ℤ day → day ≤ℤ last_fact_day → E.BITS ≡ 56
+        → IfErr result IsClose }
 {
     let sunsets = HinduSunsets::<E>::new();
     sign_on(&sunsets, course, day, trail)
 }
 
-/// The sign of the zodiac, from 1 to 12, in which the sun stands at sunset on a day (R.D.) at Ujjain (Reingold and
-/// Dershowitz, Calendrical Calculations, chapter 20): 137 tests at most. It is void at `year` where a moment that it takes
-/// lies in a year of which there is no correction, at `offset` where the sun doesn't come to the horizon, and at `settle`
-/// where twelve approximations of sunset don't settle.
+/// The sign of the zodiac, from 1 to 12, in which the sun stands at sunset on a day (R.D.) at Ujjain (Reingold and Dershowitz,
+/// Calendrical Calculations, chapter 20): 137 tests at most (`sign_at_few`). It is void at `year` where a moment that it takes lies
+/// in a year of which there is no correction, at `offset` where the sun doesn't come to the horizon, and at `settle` where twelve
+/// approximations of sunset don't settle.
 ///
 /// ```
 /// let sign = hindu_facts::sign_at_sunset::<Fine>(738_990, &mut Trail::new())?; // 1, on 14 April 2024
@@ -61,14 +65,15 @@ pub fn sign_at_sunset_by<E: Enclosure>(
 pub fn sign_at_sunset<E: Enclosure>(day: i64, trail: &mut Trail) -> Result<i64, Fail>
     ensures leads { Decides (spec.sign_at_sunset_of day) trail.old.count trail.new.count result }
     ensures value { IfOk result IsFactValue }
-    ensures close { pos 620600 ≤ℤ day → day ≤ℤ last_fact_day → E.BITS ≡ 56 → IfErr result IsClose }
+    ensures close { FIRST_HINDU_DAY ≤ℤ day → day ≤ℤ last_fact_day → E.BITS ≡ 56
+        → IfErr result IsClose }
 {
     let course = SunCourse::<E>::always();
     sign_at_sunset_by(&course, day, trail)
 }
 
 /// The year of the Kali Yuga at sunset on a day (R.D.) at Ujjain (Reingold and Dershowitz, Calendrical Calculations, chapter
-/// 20): 137 tests at most. Void as `sign_at_sunset`.
+/// 20): 137 tests at most (`year_at_sunset_few`). Void as `sign_at_sunset`.
 ///
 /// ```
 /// let year = hindu_facts::solar_year::<Fine>(738_990, &mut Trail::new())?; // 5125, on 14 April 2024
@@ -101,7 +106,8 @@ fn has_sign<E: Enclosure>(
     trail: &mut Trail,
 ) -> Result<bool, Fail>
     ensures leads { Decides (spec.has_sign_at sign day) trail.old.count trail.new.count result }
-    ensures close { pos 620600 ≤ℤ day → day ≤ℤ last_fact_day → E.BITS ≡ 56 → IfErr result IsClose }
+    ensures close { FIRST_HINDU_DAY ≤ℤ day → day ≤ℤ last_fact_day → E.BITS ≡ 56
+        → IfErr result IsClose }
 {
     let there = sign_on(sunsets, course, day, trail)?;
     Ok(is_sign(there, sign))
@@ -118,7 +124,7 @@ struct InSign<'a, E: Enclosure> {
 impl<E: Enclosure> DayTest<E> for InSign<'_, E> {
     ghost test_of = { λ s d. spec.has_sign_at s.sign d };
 
-    ghost near_on = { λ s d. (pos 620600 ≤ℤ d) × (d ≤ℤ last_fact_day) };
+    ghost near_on = { λ s d. (FIRST_HINDU_DAY ≤ℤ d) × (d ≤ℤ last_fact_day) };
 
     fn holds(&self, day: i64, trail: &mut Trail) -> Result<bool, Fail> {
         has_sign(&self.sunsets, self.course, self.sign, day, trail)
@@ -150,7 +156,7 @@ fn first_in_sign<E: Enclosure>(
     ensures leads { Decides (first_day_from (spec.has_sign_at sign) from) trail.old.count
         trail.new.count result }
     ensures value { IfOk result IsFactValue }
-    ensures close { pos 620600 ≤ℤ from → E.BITS ≡ 56 → IfErr result IsClose }
+    ensures close { FIRST_HINDU_DAY ≤ℤ from → E.BITS ≡ 56 → IfErr result IsClose }
 {
     let test = InSign {
         sign,
@@ -197,8 +203,8 @@ pub fn sankranti_by<E: Enclosure>(
     sign_entered(sunsets, course, day, t, trail)
 }
 
-/// The first day (R.D.) of the solar month in which a day falls, by whose sunset at Ujjain the sun has come into its sign
-/// (Reingold and Dershowitz, Calendrical Calculations, chapter 20): 6,444 tests at most. Void as `sign_at_sunset`, of the
+/// The first day (R.D.) of the solar month in which a day falls, by whose sunset at Ujjain the sun has come into its sign (Reingold
+/// and Dershowitz, Calendrical Calculations, chapter 20): 6,444 tests at most (`sankranti_few`). Void as `sign_at_sunset`, of the
 /// day or of one that is tried, and at `search` where none of 46 days is one.
 ///
 /// ```
@@ -226,10 +232,10 @@ fn lunar_days_passed<E: Enclosure>(t: E, trail: &mut Trail) -> Result<i64, Fail>
     floor_step(degrees.mul_frac(DEGREE_IN_LUNAR_DAYS), Site::Round, trail)
 }
 
-/// The lunar day, from 1 on, at sunrise on a day (R.D.) at Ujjain (Reingold and Dershowitz, Calendrical Calculations,
-/// chapter 20): 144 tests at most. It is void at `year` where a moment that it takes lies in a year of which there is no
-/// correction, at `offset` where the sun doesn't come to the depression of sunrise, and at `settle` where twelve
-/// approximations of dawn don't settle.
+/// The lunar day, from 1 on, at sunrise on a day (R.D.) at Ujjain (Reingold and Dershowitz, Calendrical Calculations, chapter 20):
+/// 144 tests at most (`tithi_few`). It is void at `year` where a moment that it takes lies in a year of which there is no
+/// correction, at `offset` where the sun doesn't come to the depression of sunrise, and at `settle` where twelve approximations of
+/// dawn don't settle.
 ///
 /// ```
 /// let day = hindu_facts::tithi::<Fine>(738_990, &mut Trail::new())?; // 6, on 14 April 2024
@@ -264,8 +270,8 @@ pub fn sign_before_by<E: Enclosure>(
 }
 
 /// The sign in which the sun stood at the last new moon before sunrise on a day (R.D.) at Ujjain (Reingold and Dershowitz,
-/// Calendrical Calculations, chapter 20): 163 tests at most. Void as `tithi`, and at `moon-walk` where the walk to the new
-/// moon takes more than five steps.
+/// Calendrical Calculations, chapter 20): 163 tests at most (`sign_before_few`). Void as `tithi`, and at `moon-walk` where the walk
+/// to the new moon takes more than five steps.
 ///
 /// ```
 /// let sign = hindu_facts::sign_before::<Fine>(738_990, &mut Trail::new())?; // 12, on 14 April 2024
@@ -298,7 +304,7 @@ pub fn sign_after_by<E: Enclosure>(
 }
 
 /// The sign in which the sun stands at the first new moon from sunrise on on a day (R.D.) at Ujjain (Reingold and
-/// Dershowitz, Calendrical Calculations, chapter 20): 163 tests at most. Void as `sign_before`.
+/// Dershowitz, Calendrical Calculations, chapter 20): 163 tests at most (`sign_after_few`). Void as `sign_before`.
 ///
 /// ```
 /// let sign = hindu_facts::sign_after::<Fine>(738_990, &mut Trail::new())?; // 1, on 14 April 2024

@@ -25,7 +25,7 @@ fn whole_signs<E: Enclosure>(longitude: E, trail: &mut Trail) -> Result<i64, Fai
     floor_step(longitude.mul_frac(DEGREE_IN_SIGNS), Site::Sidereal, trail)
 }
 
-/// The whole signs that the sun has passed, by its longitude at the moment: five tests at most.
+/// The whole signs that the sun has passed, by its longitude at the moment.
 #[tactic(auto, using(book_model::proofs::Leads::leading), unfolding(book_model::specs::sky::Sidereal::signs_passed_of))]
 fn signs_passed_at<E: Enclosure>(t: E, trail: &mut Trail) -> Result<i64, Fail>
     ensures leads { Decides1 E.shown spec.signs_passed_of t trail.old.count trail.new.count result }
@@ -78,7 +78,7 @@ fn signs_passed<E: Enclosure>(course: &SunCourse<E>, t: E, trail: &mut Trail) ->
 }
 
 /// The sign of the zodiac, from 1 on, in which the sun stands at a moment of universal time (Reingold and Dershowitz, Calendrical
-/// Calculations, chapter 20): five tests at most.
+/// Calculations, chapter 20): five tests at most (`sign_few`).
 #[tactic(auto, using(book_model::proofs::Leads::leading), unfolding(book_model::specs::sky::Sidereal::sign_of))]
 pub(crate) fn sign<E: Enclosure>(
     course: &SunCourse<E>,
@@ -94,7 +94,7 @@ pub(crate) fn sign<E: Enclosure>(
     Ok(passed + 1)
 }
 
-/// The whole degrees of the longitude of the sun among the stars, from 0 to 360: five tests at most.
+/// The whole degrees of the longitude of the sun among the stars, from 0 to 360: five tests at most (`degrees_few`).
 #[tactic(auto, using(book_model::proofs::Leads::leading), unfolding(book_model::specs::sky::HinduFacts::whole_degrees_of))]
 pub(crate) fn whole_degrees<E: Enclosure>(t: E, trail: &mut Trail) -> Result<i64, Fail>
     ensures leads { Decides1 E.shown whole_degrees_of t trail.old.count trail.new.count result }
@@ -115,8 +115,8 @@ fn years_gone<E: Enclosure>(t: E, longitude: E) -> E
         .sub(longitude.mul_frac(DEGREE_IN_TURNS))
 }
 
-/// The year of the Kali Yuga at a moment of universal time (Reingold and Dershowitz, Calendrical Calculations, chapter 20): five tests
-/// at most.
+/// The year of the Kali Yuga at a moment of universal time (Reingold and Dershowitz, Calendrical Calculations, chapter 20): five
+/// tests at most (`year_few`).
 #[tactic(auto, using(book_model::proofs::Leads::leading, crate::proofs::Openings::opening), unfolding(book_model::specs::sky::Sidereal::hindu_year_of, book_model::specs::sky::Correction::rounded_of))]
 pub(crate) fn hindu_year<E: Enclosure>(t: E, trail: &mut Trail) -> Result<i64, Fail>
     ensures leads { Decides1 E.shown spec.hindu_year_of t trail.old.count trail.new.count result }

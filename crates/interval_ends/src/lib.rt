@@ -10,12 +10,14 @@
 //! - `min_ends`, `max_ends`, `hull_ends`, `clamp_ends`: the lesser, the greater, the hull, what is cut to -1..1;
 //! - `ends_of_fraction`, `scale_ends`, `widen_ends`, `denominator`: fractions, products with them, ends moved outwards by them;
 //! - `ends_of_span`, `ends_at_fine_scale`: from ends that count 2⁻⁵⁶, and to them;
+//! - `parts`: one, and parts of a turn, as numbers that count 2⁻⁵⁶;
 //! - `order_of_ends`, `cell_of_ends`, `period_of_ends`, `rest_of_period`, `open_at`: the tests, and what an open one tells.
 #![tactic(auto)]
 
 mod comparing;
 mod ends;
 mod fractions;
+pub mod parts;
 mod ranges;
 mod spans;
 mod sums;

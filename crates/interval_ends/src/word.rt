@@ -5,6 +5,7 @@ ghost use Rattle.exact_math.specs.Fraction.{floor_quotient};
 ghost use Rattle.rounded_quotients.specs.Rounding.{IsFloor, IsCeiling};
 ghost use Rattle.interval_ends.specs.Scales.{Scale, coarse, fine, unit, below, finer_units, word};
 
+use crate::parts::ONE;
 use rounded_quotients::{ceil_div, floor_div};
 
 /// A whole number of so many bits, which counts the units of a scale.
@@ -240,22 +241,22 @@ impl MachineWord for i128 {
 
     #[inline(always)]
     fn one() -> i128 {
-        72_057_594_037_927_936
+        ONE
     }
 
     #[inline(always)]
     fn minus_one() -> i128 {
-        -72_057_594_037_927_936
+        -ONE
     }
 
     #[inline(always)]
     fn units() -> i128 {
-        72_057_594_037_927_936
+        ONE
     }
 
     #[inline(always)]
     fn whole(number: i64) -> Option<i128> {
-        Some(i128::from(number) * 72_057_594_037_927_936)
+        Some(i128::from(number) * ONE)
     }
 
     #[inline(always)]
@@ -327,8 +328,8 @@ impl MachineWord for i128 {
     fn rest(self, modulus: u32, period: i128) -> Option<i128> {
         let whole = self.floor();
         let begun = i128::from(modulus) * period;
-        let rest = self - whole * 72_057_594_037_927_936;
-        Some((whole - begun) * 72_057_594_037_927_936 + rest)
+        let rest = self - whole * ONE;
+        Some((whole - begun) * ONE + rest)
     }
 
     #[inline(always)]

@@ -3,10 +3,8 @@ ghost use Rattle.std.specs.Prelude.{pos, ◌^◌, ◌*ℤ◌, ◌<ℤ◌, IfSome
 ghost use Rattle.rounded_quotients.specs.Rounding.{IsFloor, IsCeiling};
 ghost use Rattle.interval_products.specs.Room.{HasFineQuotient, HasParts};
 
+use interval_ends::parts::ONE;
 use rounded_quotients::{ceil_div, floor_div};
-
-/// How many units 1 has.
-const ONE: i128 = 72_057_594_037_927_936;
 
 /// The whole quotient of two numbers and what it leaves of the dividend, both raised to the scale. `None` only where the
 /// divisor is above 2⁷⁰, or the quotient above 2⁶⁹ in size.

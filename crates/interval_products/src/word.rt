@@ -7,6 +7,7 @@ ghost use Rattle.interval_products.specs.Room.{HasProduct, IsDividend, HasQuotie
 
 use crate::stepping::{stepped_down, stepped_up};
 use interval_ends::MachineWord;
+use interval_ends::parts::ONE;
 use rounded_quotients::{ceil_div, floor_div};
 
 /// A word whose products, quotients and roots are rounded to its scale. They are taken in 128 bits, and are `None` only where
@@ -138,7 +139,7 @@ impl RoundingWord for i128 {
     #[inline(always)]
     fn ceil_product(product: i128) -> i128 {
         let down = product >> 56;
-        if down * 72_057_594_037_927_936 == product {
+        if down * ONE == product {
             down
         } else {
             down + 1
@@ -146,14 +147,14 @@ impl RoundingWord for i128 {
     }
 
     fn quotient_down(dividend: i128, divisor: i128) -> Option<i128> {
-        match dividend.checked_mul(72_057_594_037_927_936) {
+        match dividend.checked_mul(ONE) {
             Some(raised) => Some(floor_div(raised, divisor)),
             None => stepped_down(dividend, divisor),
         }
     }
 
     fn quotient_up(dividend: i128, divisor: i128) -> Option<i128> {
-        match dividend.checked_mul(72_057_594_037_927_936) {
+        match dividend.checked_mul(ONE) {
             Some(raised) => Some(ceil_div(raised, divisor)),
             None => stepped_up(dividend, divisor),
         }
@@ -163,7 +164,7 @@ impl RoundingWord for i128 {
         if self <= 0 {
             return Some(0);
         }
-        let raised = self.unsigned_abs().checked_mul(72_057_594_037_927_936)?;
+        let raised = self.unsigned_abs().checked_mul(ONE as u128)?;
         Some(raised.isqrt() as i128)
     }
 
@@ -171,7 +172,7 @@ impl RoundingWord for i128 {
         if self <= 0 {
             return Some(0);
         }
-        let raised = self.unsigned_abs().checked_mul(72_057_594_037_927_936)?;
+        let raised = self.unsigned_abs().checked_mul(ONE as u128)?;
         Some((raised - 1).isqrt() as i128 + 1)
     }
 }

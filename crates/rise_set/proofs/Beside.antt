@@ -23,6 +23,7 @@ use Rattle.book_model.specs.numbers.Relations.{Within}
 use Rattle.book_model.proofs.FactRuns.{when_some}
 use Rattle.book_model.proofs.Leads.{leads_cell, leads_open_cell, leads_answer, leads_stop_at, few_tests, lies}
 use Rattle.book_model.proofs.Early.{from_one}
+use Rattle.interval_ends.specs.declared.parts.TheConstants.{ONE}
 use Rattle.encl_core.specs.Steps.{IsOpenFloor}
 use Rattle.rise_set.specs.Moved.{AreMoved, by_whole, to_no_bounds, IsBeside, IsTooFar, AreOf128Bits}
 
@@ -79,12 +80,12 @@ no_cell_beside k (between a b) e =
     rw (floor_beside k a, floor_beside k b, s) refl
 
 -- ---- ends
-end_beside : (k n m : ℤ) → m ≡ n +ℤ k *ℤ pos 72057594037927936 → units_of_56 m ≈ plus (whole k) (units_of_56 n)
+end_beside : (k n m : ℤ) → m ≡ n +ℤ k *ℤ ONE → units_of_56 m ≈ plus (whole k) (units_of_56 n)
 unfolding plus
 end_beside k n m e = record { cross = omega (arith, ints, e) }
 
-ends_beside : (k lo hi low high : ℤ) (a b : Fraction) → low ≡ lo +ℤ k *ℤ pos 72057594037927936 → high ≡ hi +ℤ k *ℤ pos 72057594037927936 → units_of_56 lo ≈ a
-    → units_of_56 hi ≈ b → AreEnds low high (sum (exactly (whole k)) (between a b))
+ends_beside : (k lo hi low high : ℤ) (a b : Fraction) → low ≡ lo +ℤ k *ℤ ONE → high ≡ hi +ℤ k *ℤ ONE → units_of_56 lo ≈ a → units_of_56 hi ≈ b
+    → AreEnds low high (sum (exactly (whole k)) (between a b))
 unfolding sum
 ends_beside k lo hi low high a b e f g h = bounds (same_trans (end_beside k lo low e) (plus_cong (same_refl (whole k)) g))
     (same_trans (end_beside k hi high f) (plus_cong (same_refl (whole k)) h))
@@ -111,8 +112,8 @@ unfolding cell_at
 open_anywhere w x b a u e n m = leads_open_cell integers x everything answer a u (within_everything _) n m (between_cells refl (no_bounds e))
 
 -- ends that stand for no bounds stay so where they are moved
-stays_unbounded : (k lo hi low high : ℤ) → AreNoBounds lo hi → low ≡ lo +ℤ k *ℤ pos 72057594037927936 → high ≡ hi +ℤ k *ℤ pos 72057594037927936
-    → negsuc (2 ^ 127 - 1) ≤ℤ low → high ≤ℤ pos (2 ^ 127 - 1) → AreNoBounds low high
+stays_unbounded : (k lo hi low high : ℤ) → AreNoBounds lo hi → low ≡ lo +ℤ k *ℤ ONE → high ≡ hi +ℤ k *ℤ ONE → negsuc (2 ^ 127 - 1) ≤ℤ low
+    → high ≤ℤ pos (2 ^ 127 - 1) → AreNoBounds low high
 stays_unbounded k lo hi low high n e f p q = record {
   least = omega (arith, ints, n.least, n.greatest, e, f, p, q);
   greatest = omega (arith, ints, n.least, n.greatest, e, f, p, q);

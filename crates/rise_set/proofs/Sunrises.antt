@@ -40,6 +40,7 @@ use Rattle.rise_set.specs.Moved.{HasRoom, IsTooFar}
 use Rattle.rise_set.specs.Widths.{IsMeanMoment, IsSettled, AreMinutes}
 use Rattle.rise_set.proofs.MeanMoments.{moment_world, within_moment}
 use Rattle.book_model.specs.sky.Facts.{IsFactDay}
+use Rattle.interval_ends.specs.declared.parts.TheConstants.{ONE}
 
 -- ---- a floor that a whole number is added to
 about_between : (v : ℕ) (i : Interval) → IsAbout (2 ^ 90) v i → IsBetween (neg_ℤ (pos (2 ^ 58))) (pos (2 ^ 58)) i
@@ -72,7 +73,7 @@ end_high : (hi : ℤ) (a : Fraction) → units_of_56 hi ≈ a → a ≤F at_32 (
 end_high hi a e h = let k = le_trans _ _ _ (le_of_same e) h in omega (arith, ints, k.cross)
 
 open_room : (v : ℕ) (k lo hi : ℤ) (i : Interval) → IsAbout (2 ^ 90) v i → neg_ℤ (pos (2 ^ 40)) ≤ℤ k → k ≤ℤ pos (2 ^ 40) → IsOpenCell integers i lo hi
-    → FitsSigned w128 (lo +ℤ k *ℤ pos 72057594037927936) × FitsSigned w128 (hi +ℤ k *ℤ pos 72057594037927936)
+    → FitsSigned w128 (lo +ℤ k *ℤ ONE) × FitsSigned w128 (hi +ℤ k *ℤ ONE)
 unfolding IsNarrow
 open_room v k lo hi i h l m (too_far q e f b) = let z = floor_about v q i h e in absurd (f (omega (arith, ints, z.0, z.1)))
 open_room v k lo hi everything h l m (between_cells e f) = absurd h.kept

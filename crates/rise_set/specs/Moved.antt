@@ -5,10 +5,11 @@ use Rattle.book_model.specs.declared.fail.Fail.{Fail}
 use Rattle.book_model.specs.declared.fail.Fail.TheVariants.{Undecided, Void}
 use Rattle.book_model.specs.declared.site.Site.{Site}
 use Rattle.book_model.specs.programs.Leading.{AreNoBounds}
+use Rattle.interval_ends.specs.declared.parts.TheConstants.{ONE}
 
 -- the ends lo and hi, which count 2^-56, after k is added; or no ends
 pub data AreMoved (k lo hi low high : ℤ) : Type 0 where
-  by_whole : low ≡ lo +ℤ k *ℤ pos 72057594037927936 → high ≡ hi +ℤ k *ℤ pos 72057594037927936 → AreMoved k lo hi low high
+  by_whole : low ≡ lo +ℤ k *ℤ ONE → high ≡ hi +ℤ k *ℤ ONE → AreMoved k lo hi low high
   to_no_bounds : AreNoBounds low high → AreMoved k lo hi low high
 
 -- an open test, after k is added to its number
@@ -29,5 +30,5 @@ AreOf128Bits (Void s) = Unit {0}
 
 -- the ends of an open test, if it is one, have 128 bits after k is added
 abbrev pub HasRoom : ℤ → Fail → Type 0
-HasRoom k (Undecided u) = FitsSigned w128 (u.lo +ℤ k *ℤ pos 72057594037927936) × FitsSigned w128 (u.hi +ℤ k *ℤ pos 72057594037927936)
+HasRoom k (Undecided u) = FitsSigned w128 (u.lo +ℤ k *ℤ ONE) × FitsSigned w128 (u.hi +ℤ k *ℤ ONE)
 HasRoom k (Void s) = Unit {0}

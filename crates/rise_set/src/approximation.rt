@@ -3,6 +3,8 @@ ghost use Rattle.book_model.specs.programs.Calls.{Encloses, Encloses1, Holds1};
 ghost use Rattle.book_model.specs.programs.Programs.{cell_at, integers};
 ghost use Rattle.book_model.specs.programs.Widths.{IsAbout, Measured1};
 ghost use Rattle.std.specs.Prelude.{◌≡◌, ◌+◌, ◌*◌, ◌/◌, ◌^◌, ℕ, Some};
+ghost use Rattle.greatest_widths.specs.declared.table.TheConstants.{TWILIGHT};
+ghost use Rattle.greatest_widths.specs.Table.{greatest_of};
 ghost use Rattle.sun_core.specs.Widths.{IsLocalMoment};
 ghost use Rattle.rise_set.specs.Widths.{IsMeanMoment, IsNarrowHorizon, IsOffset};
 ghost use Rattle.rise_set.specs.Horizons.{FollowsHorizon};
@@ -51,7 +53,7 @@ fn apparent<E: Enclosure>(twilight: Twilight, day: i64, offset: E) -> E
     }
 }
 
-/// The moment of a day (R.D.) at which the sun has a depression, from one near to it: nine tests at most.
+/// The moment of a day (R.D.) at which the sun has a depression, from one near to it.
 #[tactic(auto, using(book_model::proofs::Leads::leading), unfolding(book_model::specs::sky::Horizon::approximation_on))]
 fn approximation_on<E: Enclosure>(
     horizon: &Horizon<E>,
@@ -64,8 +66,8 @@ fn approximation_on<E: Enclosure>(
         (λ a x. spec.approximation_on horizon.now.location twilight a x day) horizon.now t
         trail.old.count trail.new.count result }
     ensures measured { IsNarrowHorizon E.shown horizon.now → cell_at integers (E.shown t) ≡ Some day
-        → Measured1 E.BITS E.shown (2 ^ 41) IsMeanMoment (λ v. IsMeanMoment (v / 20 + 2 ^ 32)) t
-        result }
+        → Measured1 E.BITS E.shown (2 ^ 41) IsMeanMoment
+        (λ v. IsMeanMoment (greatest_of TWILIGHT v)) t result }
 {
     let offset = offset_near(horizon, twilight, day, t, trail)?;
     from_apparent(
@@ -75,9 +77,9 @@ fn approximation_on<E: Enclosure>(
     )
 }
 
-/// The moment at which the sun has a depression, from one near to it, both in local mean time (Reingold and Dershowitz,
-/// Calendrical Calculations, chapter 14): ten tests at most. It is void at `offset` where the sun doesn't come to it, and at `year`
-/// in a year without a correction.
+/// The moment at which the sun has a depression, from one near to it, both in local mean time (Reingold and Dershowitz, Calendrical
+/// Calculations, chapter 14): ten tests at most (`approximation_few`). It is void at `offset` where the sun doesn't come to it, and
+/// at `year` in a year without a correction.
 #[tactic(auto, using(book_model::proofs::Leads::leading), unfolding(book_model::specs::sky::Horizon::approximation_of))]
 pub(crate) fn approximation<E: Enclosure>(
     horizon: &Horizon<E>,
@@ -88,7 +90,7 @@ pub(crate) fn approximation<E: Enclosure>(
     ensures leads { FollowsHorizon E.shown (spec.approximation_of horizon.now.location twilight)
         horizon.now t trail.old.count trail.new.count result }
     ensures measured { IsNarrowHorizon E.shown horizon.now → Measured1 E.BITS E.shown (2 ^ 41)
-        IsMeanMoment (λ v. IsMeanMoment (v / 20 + 2 ^ 32)) t result }
+        IsMeanMoment (λ v. IsMeanMoment (greatest_of TWILIGHT v)) t result }
 {
     let day = floor_step(t, Site::DayFloor, trail)?;
     approximation_on(horizon, twilight, t, day, trail)

@@ -36,9 +36,9 @@ fn declination_by<E: Enclosure>(obliquity: E, longitude: E) -> E
     arcsin_deg(sin_deg(obliquity).mul(sin_deg(longitude)))
 }
 
-/// The declination of the sun at a moment of universal time, in degrees (Reingold and Dershowitz, Calendrical Calculations,
-/// chapter 14): three tests at most, at `year` and those of the sun's longitude. It is void at `year` in a year without a
-/// correction.
+/// The declination of the sun at a moment of universal time, in degrees (Reingold and Dershowitz, Calendrical Calculations, chapter
+/// 14): three tests at most (`declination_few`), at `year` and those of the sun's longitude. It is void at `year` in a year without
+/// a correction.
 #[tactic(auto, using(book_model::proofs::Leads::leading), unfolding(book_model::specs::sky::Horizon::declination_of))]
 pub fn declination<E: Enclosure>(t: E, trail: &mut Trail) -> Result<E, Fail>
     ensures leads { Follows1 E.shown spec.declination_of t trail.old.count trail.new.count result }

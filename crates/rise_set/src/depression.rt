@@ -33,8 +33,8 @@ fn has_settled<E: Enclosure>(old: E, new: E, trail: &mut Trail) -> Result<bool, 
     )
 }
 
-/// Approximations, so many at most, from a moment on until two are less than half a minute apart: eleven tests at most for each.
-/// It is void at `settle` where none are, and where an approximation is.
+/// Approximations, so many at most, from a moment on until two are less than half a minute apart: eleven tests at most for each
+/// (`settled_few`). It is void at `settle` where none are, and where an approximation is.
 #[tactic(auto, using(book_model::proofs::Leads::leading, crate::proofs::Settling::settling), unfolding(book_model::specs::programs::Leading::next_turn))]
 fn settled<E: Enclosure>(
     more: u32,
@@ -58,7 +58,7 @@ fn settled<E: Enclosure>(
     settled(more - 1, horizon, twilight, new, trail)
 }
 
-/// The local mean time of a day (R.D.) at which the sun has the depression of a horizon: 132 tests at most.
+/// The local mean time of a day (R.D.) at which the sun has the depression of a horizon.
 #[tactic(auto, using(book_model::proofs::Leads::leading), unfolding(book_model::specs::sky::Horizon::depression_of))]
 fn moment_of_depression<E: Enclosure>(
     horizon: &Horizon<E>,
@@ -82,7 +82,7 @@ fn moment_of_depression<E: Enclosure>(
 }
 
 /// Dawn of a day (R.D.), when the sun before rising has a depression, in degrees; in local mean time (Reingold and Dershowitz,
-/// Calendrical Calculations, chapter 14). 132 tests at most. It is void at `offset` where the sun doesn't come to the depression, at
+/// Calendrical Calculations, chapter 14). It is void at `offset` where the sun doesn't come to the depression, at
 /// `settle` where twelve approximations don't settle, and at `year` in a year without a correction.
 #[tactic(auto, unfolding(book_model::specs::sky::Horizon::dawn_of))]
 pub fn dawn<E: Enclosure>(

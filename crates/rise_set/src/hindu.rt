@@ -6,6 +6,7 @@ ghost use Rattle.book_model.specs.numbers.Expressions.{constant};
 ghost use Rattle.book_model.specs.numbers.Fractions.{fraction_of};
 ghost use Rattle.book_model.specs.sky.Horizon as spec;
 ghost use Rattle.book_model.specs.sky.Facts.{IsFactDay};
+ghost use Rattle.book_model.specs.declared.fact.TheConstants.{LAST_FACT_DAY};
 
 use crate::declinations::universal;
 use crate::depression::{dawn, dusk_at};
@@ -15,6 +16,10 @@ use book_model::location_tables::{HINDU_SUNRISE_DEPRESSION, MINUTES, UJJAIN};
 use book_model::{Fail, Frac};
 use encl_core::{Enclosure, Trail};
 use std::marker::Model;
+
+/// The day (R.D.), of the year 1700, from which on sunrises and sunsets of the Hindu calendars are promised to be narrow, and what
+/// is found by them close.
+pub const FIRST_HINDU_DAY: i64 = 620_600;
 
 /// A number of minutes, in days.
 fn in_days(minutes: i64) -> Frac
@@ -31,14 +36,15 @@ fn days<E: Enclosure>(minutes: i64) -> E
 }
 
 /// When the sun rises on a day (R.D.) at Ujjain, in universal time: dawn with a depression of 47 minutes of arc, rounded to a
-/// minute of local mean time (Reingold and Dershowitz, Calendrical Calculations, chapter 20). 133 tests at most, those of dawn and
-/// one at `round`. It is void where dawn is.
+/// minute of local mean time (Reingold and Dershowitz, Calendrical Calculations, chapter 20). 133 tests at most (`hindu_facts`'s
+/// `sunrise_few`), those of dawn and one at `round`. It is void where dawn is.
 #[tactic(auto, using(book_model::proofs::Leads::leading), unfolding(book_model::specs::sky::Horizon::sunrise_of))]
 pub fn sunrise<E: Enclosure>(day: i64, trail: &mut Trail) -> Result<E, Fail>
     requires day { IsFactDay day }
     ensures leads { Follows E.shown (spec.sunrise_of day) trail.old.count trail.new.count result }
     ensures measured { Measured E.BITS E.shown (IsMoment (5 * 2 ^ 8)) result }
-    ensures recent { pos 620600 ≤ℤ day → Measured E.BITS E.shown (IsRecent (5 * 2 ^ 8)) result }
+    ensures recent { FIRST_HINDU_DAY ≤ℤ day
+        → Measured E.BITS E.shown (IsRecent (5 * 2 ^ 8)) result }
 {
     let rising = dawn(&UJJAIN, E::from_frac(HINDU_SUNRISE_DEPRESSION), day, trail)?;
     let minutes = rounded_minutes(day, rising, trail)?;
@@ -73,14 +79,15 @@ impl<E: Enclosure> HinduSunsets<E> {
         }
     }
 
-    /// When the sun's middle sets on a day (R.D.), in universal time: 132 tests at most. It is void where dusk is.
+    /// When the sun's middle sets on a day (R.D.), in universal time: 132 tests at most (`hindu_facts`'s `sunset_few`). It is void
+    /// where dusk is.
     #[tactic(auto, using(book_model::proofs::Leads::leading), unfolding(book_model::specs::sky::Horizon::hindu_sunset_of))]
     pub fn on(&self, day: i64, trail: &mut Trail) -> Result<E, Fail>
         ensures leads { Follows E.shown (spec.hindu_sunset_of day) trail.old.count trail.new.count
             result }
         ensures measured { IsFactDay day
             → Measured E.BITS E.shown (IsMoment (9 * 2 ^ 29)) result }
-        ensures recent { pos 620600 ≤ℤ day → day ≤ℤ pos 40000000
+        ensures recent { FIRST_HINDU_DAY ≤ℤ day → day ≤ℤ LAST_FACT_DAY
             → Measured E.BITS E.shown (IsRecent (9 * 2 ^ 29)) result }
     {
         let t = dusk_at(&self.horizon, day, trail)?;
@@ -89,13 +96,13 @@ impl<E: Enclosure> HinduSunsets<E> {
 }
 
 /// When the sun's middle sets on a day (R.D.) at Ujjain, the air left out, in universal time (Reingold and Dershowitz, Calendrical
-/// Calculations, chapter 20): 132 tests at most. It is void where dusk is.
+/// Calculations, chapter 20): 132 tests at most (`hindu_facts`'s `sunset_few`). It is void where dusk is.
 pub fn hsunset<E: Enclosure>(day: i64, trail: &mut Trail) -> Result<E, Fail>
     ensures leads { Follows E.shown (spec.hindu_sunset_of day) trail.old.count trail.new.count
         result }
     ensures measured { IsFactDay day
         → Measured E.BITS E.shown (IsMoment (9 * 2 ^ 29)) result }
-    ensures recent { pos 620600 ≤ℤ day → day ≤ℤ pos 40000000
+    ensures recent { FIRST_HINDU_DAY ≤ℤ day → day ≤ℤ LAST_FACT_DAY
         → Measured E.BITS E.shown (IsRecent (9 * 2 ^ 29)) result }
 {
     let sunsets = HinduSunsets::<E>::new();

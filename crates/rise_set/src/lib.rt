@@ -23,7 +23,7 @@ mod sunsets;
 pub use altitude::altitude_sine;
 pub use declinations::{declination, universal};
 pub use depression::{dawn, dusk, dusk_at};
-pub use hindu::{HinduSunsets, hsunset, sunrise};
+pub use hindu::{FIRST_HINDU_DAY, HinduSunsets, hsunset, sunrise};
 pub use offsets::offset;
 pub use skyline::{Horizon, horizon_at};
 pub use sunsets::{Sunsets, refraction, sunset, sunset_depression};

@@ -6,6 +6,7 @@ ghost use Rattle.std.specs.Prelude.{◌≡◌, ◌≤◌, ◌^◌, ◌*ℤ◌, �
 ghost use Rattle.book_model.specs.numbers.Expressions.{add, integer};
 ghost use Rattle.book_model.specs.sky.Horizon as spec;
 ghost use Rattle.book_model.specs.programs.Programs.{answer, cell, integers};
+ghost use Rattle.interval_ends.specs.declared.parts.TheConstants.{ONE};
 ghost use Rattle.rise_set.specs.Moved.{AreMoved, AreOf128Bits, HasRoom, IsBeside, IsTooFar};
 ghost use Rattle.rise_set.specs.Widths.{IsSettled};
 ghost use Rattle.book_model.specs.sky.Facts.{IsFactDay};
@@ -14,16 +15,14 @@ use book_model::location_tables::{MINUTES, MINUTES_OF_DAY};
 use book_model::tables::HALF;
 use book_model::{Fail, Site, Undecided};
 use encl_core::{Enclosure, Trail, floor_step};
-
-/// One, in 2⁻⁵⁶.
-const PARTS_OF_ONE: i128 = 72_057_594_037_927_936;
+use interval_ends::parts::ONE;
 
 /// A number that counts 2⁻⁵⁶ with a whole number added, where it has 128 bits.
 fn shifted_end(end: i128, whole: i64) -> Option<i128>
-    ensures end { IfSome result (λ e. e ≡ end +ℤ whole *ℤ pos 72057594037927936) }
-    ensures found { FitsSigned w128 (end +ℤ whole *ℤ pos 72057594037927936) → IsSome result }
+    ensures end { IfSome result (λ e. e ≡ end +ℤ whole *ℤ ONE) }
+    ensures found { FitsSigned w128 (end +ℤ whole *ℤ ONE) → IsSome result }
 {
-    end.checked_add(i128::from(whole) * PARTS_OF_ONE)
+    end.checked_add(i128::from(whole) * ONE)
 }
 
 /// The open test of a number, where a whole number is added to it; with ends that have no 128 bits it has none.

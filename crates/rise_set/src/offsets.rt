@@ -55,7 +55,7 @@ fn offset_by<E: Enclosure>(horizon: &Horizon<E>, declination: E) -> E
     ))
 }
 
-/// The offset at a horizon at a moment of local mean time: three tests at most.
+/// The offset at a horizon at a moment of local mean time: three tests at most (`offset_few`).
 #[tactic(auto, using(book_model::proofs::Leads::leading), unfolding(book_model::specs::sky::Horizon::offset_of))]
 fn offset_at<E: Enclosure>(horizon: &Horizon<E>, t: E, trail: &mut Trail) -> Result<E, Fail>
     ensures leads { FollowsHorizon E.shown (spec.offset_of horizon.now.location) horizon.now t
@@ -70,8 +70,8 @@ fn offset_at<E: Enclosure>(horizon: &Horizon<E>, t: E, trail: &mut Trail) -> Res
 }
 
 /// The sine of the hour angle at which the sun has a depression, in degrees, less a quarter of a turn, by the declination of the
-/// sun at a moment of local mean time (Reingold and Dershowitz, Calendrical Calculations, chapter 14): three tests at most. It is
-/// void at `year` in a year without a correction.
+/// sun at a moment of local mean time (Reingold and Dershowitz, Calendrical Calculations, chapter 14): three tests at most
+/// (`offset_few`). It is void at `year` in a year without a correction.
 pub fn offset<E: Enclosure>(
     location: &Location,
     depression: E,
@@ -113,8 +113,8 @@ fn if_reached<E: Enclosure>(offset: E, out: bool, trail: &mut Trail) -> Result<E
     }
 }
 
-/// The offset at a moment of local mean time: four tests at most. It is void at `offset` where the sun doesn't come to the
-/// depression.
+/// The offset at a moment of local mean time: four tests at most (`reached_few`). It is void at `offset` where the sun doesn't come
+/// to the depression.
 #[tactic(auto, using(book_model::proofs::Leads::leading), unfolding(book_model::specs::sky::Horizon::reached_offset_of))]
 fn reached_offset<E: Enclosure>(horizon: &Horizon<E>, t: E, trail: &mut Trail) -> Result<E, Fail>
     ensures leads { FollowsHorizon E.shown (spec.reached_offset_of horizon.now.location) horizon.now
@@ -137,7 +137,7 @@ fn edge_of_day<E: Enclosure>(twilight: Twilight, day: i64) -> E
     }
 }
 
-/// An offset, or, where the sun doesn't come to the depression, that at the edge of the day: four tests at most.
+/// An offset, or, where the sun doesn't come to the depression, that at the edge of the day: four tests at most (`edge_few`).
 #[tactic(auto, using(book_model::proofs::Leads::leading), unfolding(book_model::specs::sky::Horizon::or_at_edge))]
 fn offset_or_at_edge<E: Enclosure>(
     horizon: &Horizon<E>,
@@ -160,7 +160,7 @@ fn offset_or_at_edge<E: Enclosure>(
 }
 
 /// The offset at a moment of local mean time of a day (R.D.), or at the edge of the day where the sun doesn't come to the
-/// depression then: eight tests at most. It is void at `offset` where it doesn't come to it there either.
+/// depression then: eight tests at most (`near_few`). It is void at `offset` where it doesn't come to it there either.
 #[tactic(auto, using(book_model::proofs::Leads::leading), unfolding(book_model::specs::sky::Horizon::near_offset_of))]
 pub(crate) fn offset_near<E: Enclosure>(
     horizon: &Horizon<E>,

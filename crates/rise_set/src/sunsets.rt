@@ -97,7 +97,7 @@ impl<E: Enclosure> Sunsets<E> {
         }
     }
 
-    /// Sunset on a day (R.D.) there, in universal time: 132 tests at most. It is void where dusk is.
+    /// Sunset on a day (R.D.) there, in universal time: 132 tests at most (`sunset_few`). It is void where dusk is.
     #[tactic(auto, using(book_model::proofs::Leads::leading), unfolding(book_model::specs::sky::Horizon::sunset_of))]
     pub fn on(&self, day: i64, trail: &mut Trail) -> Result<E, Fail>
         ensures leads { Follows E.shown (spec.sunset_of self.now day) trail.old.count
@@ -111,7 +111,7 @@ impl<E: Enclosure> Sunsets<E> {
 }
 
 /// Sunset on a day (R.D.) at a location, in universal time (Reingold and Dershowitz, Calendrical Calculations, chapter 14): 132
-/// tests at most. It is void where dusk is.
+/// tests at most (`sunset_few`). It is void where dusk is.
 pub fn sunset<E: Enclosure>(location: &Location, day: i64, trail: &mut Trail) -> Result<E, Fail>
     ensures leads { Follows E.shown (spec.sunset_of location.now day) trail.old.count
         trail.new.count result }

@@ -1,2 +1,4 @@
 pub mod Quotients
 pub mod Stepping
+pub mod HighHalves
+pub mod Remainders

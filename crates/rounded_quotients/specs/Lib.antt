@@ -1,1 +1,3 @@
 pub mod Rounding
+pub mod Units
+pub mod Counts

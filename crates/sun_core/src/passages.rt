@@ -44,7 +44,7 @@ impl<E: Enclosure> Angular<E> for SunCourse<E> {
     }
 }
 
-/// How far the sun is before a longitude, from 0 up to 360 degrees: three tests at most.
+/// How far the sun is before a longitude, from 0 up to 360 degrees: three tests at most (`fact_eval`'s `short_few`).
 #[tactic(auto, using(book_model::proofs::Leads::leading), unfolding(book_model::specs::sky::Sun::sun_short_of))]
 fn degrees_short<E: Enclosure>(longitude: E, t: E, trail: &mut Trail) -> Result<E, Fail>
     ensures leads { Follows2 E.shown spec.sun_short_of longitude t trail.old.count trail.new.count
@@ -107,8 +107,9 @@ pub fn sun_from_by<E: Enclosure>(
 }
 
 /// When the sun is next at a longitude, in degrees, at or after a moment of universal time: by bisection about the moment to which
-/// the mean sun leads (Reingold and Dershowitz, Calendrical Calculations, chapter 14). 324 tests at most: the sun's two at the
-/// moment, one at `step-wrap`, and those of the bisection. It is void at `year` in a year without a correction.
+/// the mean sun leads (Reingold and Dershowitz, Calendrical Calculations, chapter 14). 324 tests at most (`fact_eval`'s
+/// `from_few`): the sun's two at the moment, one at `step-wrap`, and those of the bisection. It is void at `year` in a year without
+/// a correction.
 pub fn sun_from<E: Enclosure>(l: E, t: E, trail: &mut Trail) -> Result<E, Fail>
     ensures leads { Follows2 E.shown spec.sun_from_of l t trail.old.count trail.new.count result }
     ensures measured { Measured2 E.BITS E.shown (2 ^ 34) (λ v. IsMoment 0) IsMoment

@@ -4,6 +4,8 @@ ghost use Rattle.book_model.specs.programs.Widths.{IsAbout, IsRecent, IsUpTo, Me
 ghost use Rattle.std.specs.Prelude.{◌≡◌, ◌≤◌, ◌+◌, ◌*◌, ◌/◌, ◌^◌, ℕ, Ok, IfOk, IfErr};
 ghost use Rattle.exact_math.specs.Interval.{Interval};
 ghost use Rattle.book_model.specs.sky.Sidereal as spec;
+ghost use Rattle.greatest_widths.specs.declared.table.TheConstants.{SIDEREAL_SUN};
+ghost use Rattle.greatest_widths.specs.Table.{greatest_of};
 ghost use Rattle.time_scales.specs.Steps.{IsYearOpenFor};
 ghost use Rattle.time_scales.specs.Widths.{AreRecentCenturies};
 ghost use Rattle.sun_core.specs.Widths.{IsTilt, IsCrossing, IsAdvance};
@@ -83,7 +85,7 @@ fn wrapped_sidereal<E: Enclosure>(angle: E, trail: &mut Trail) -> Result<E, Fail
 pub fn sidereal_sun<E: Enclosure>(t: E, trail: &mut Trail) -> Result<E, Fail>
     ensures leads { Follows1 E.shown spec.sidereal_sun_of t trail.old.count trail.new.count result }
     ensures measured { Measured1 E.BITS E.shown (2 ^ 42) IsRecent
-        (λ v. IsUpTo 360 (3 * v + 2 ^ 34)) t result }
+        (λ v. IsUpTo 360 (greatest_of SIDEREAL_SUN v)) t result }
     ensures open { IfErr result (IsYearOpenFor (E.shown t)) }
 {
     let longitude = sun(t, trail)?;

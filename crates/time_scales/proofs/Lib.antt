@@ -1,5 +1,4 @@
 pub mod Powers
-pub mod FourHundred
 pub mod Years
 pub mod WholePowers
 pub mod HornerLemmas

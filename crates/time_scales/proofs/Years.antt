@@ -22,13 +22,13 @@ use Rattle.interval_ends.proofs.Testing.{eq_yes, eq_no}
 use Rattle.time_scales.specs.Steps.{IsOpenYear, IsYearOpenFor}
 
 -- the day of a moment that counts 2^-56
-pub day_is : (m q : ℤ) → q ≡ int_div_euclid m (pos 72057594037927936) → IsFloorQuotient q m 72057594037927935
-day_is m q e = let f = e ∙ euclid_is m 72057594037927936 (omega arith) in rw f (floor_quotient_is m 72057594037927935)
+pub day_is : (m q : ℤ) → q ≡ int_div_euclid m (pos (2 ^ 56)) → IsFloorQuotient q m (2 ^ 56 - 1)
+day_is m q e = let f = e ∙ euclid_is m (2 ^ 56) (omega arith) in rw f (floor_quotient_is m (2 ^ 56 - 1))
 
 -- the year of that day is the year of the moment
-pub year_at_is : (m q : ℤ) → q ≡ int_div_euclid m (pos 72057594037927936) → year_of_day q ≡ cell_of years (units_of_56 m)
+pub year_at_is : (m q : ℤ) → q ≡ int_div_euclid m (pos (2 ^ 56)) → year_of_day q ≡ cell_of years (units_of_56 m)
 unfolding cell_of
-year_at_is m q e = let f = e ∙ euclid_is m 72057594037927936 (omega arith) in rw f refl
+year_at_is m q e = let f = e ∙ euclid_is m (2 ^ 56) (omega arith) in rw f refl
 
 -- both ends fall in one year
 pub year_same : (lo hi p q : ℤ) → p ≡ cell_of years (units_of_56 lo) → q ≡ cell_of years (units_of_56 hi) → p ≡ q

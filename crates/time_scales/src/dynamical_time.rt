@@ -15,12 +15,12 @@ ghost use Rattle.time_scales.specs.Steps.{IsYearOpenFor};
 ghost use Rattle.time_scales.specs.Widths.{IsLater, IsNearlyRecent, AreRecentCenturies};
 ghost use Rattle.time_scales.specs.Corrections.{IsFormYear, computed_by, computed_of, units_of_year, correction_bound};
 
-use crate::gregorian;
 use crate::moment::year;
 use crate::polynomial::{at_fraction, at_whole};
 use book_model::tables::SECOND;
 use book_model::time_tables::{DAY_IN_CENTURIES, NOON_2000};
 use book_model::{CorrectionForm, Fail, Frac, Site, row_of_year};
+use civil_core::first_of_july;
 use encl_core::{Enclosure, Trail};
 
 /// The last day of 1899 (R.D.).
@@ -39,11 +39,7 @@ fn july(year: i64) -> Frac
     requires to { year ≤ℤ pos 9999 }
     ensures value { fraction_of result ≡ centuries_to_july year }
 {
-    Frac::new(
-        i128::from(gregorian::first_of_july(year) - LAST_DAY_OF_1899),
-        36_525,
-    )
-    .unwrap()
+    Frac::new(i128::from(first_of_july(year) - LAST_DAY_OF_1899), 36_525).unwrap()
 }
 
 /// A polynomial of seconds in the years from one on, in days.

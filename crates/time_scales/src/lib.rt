@@ -12,7 +12,6 @@
 #![tactic(auto)]
 
 mod dynamical_time;
-mod gregorian;
 mod moment;
 mod polynomial;
 mod sidereal_time;

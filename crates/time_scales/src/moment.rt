@@ -11,18 +11,15 @@ ghost use Rattle.book_model.specs.programs.Programs.{years, cell_of, cell_at};
 ghost use Rattle.time_scales.specs.Steps.{IsOpenYear};
 ghost use Rattle.time_scales.specs.Widths.{HasYearEnds};
 
-use crate::gregorian;
 use book_model::{Fail, Site, Undecided};
 use encl_core::{Enclosure, Span, Trail};
-
-/// A day, in 2⁻⁵⁶ of a day.
-const DAY: i128 = 72_057_594_037_927_936;
+use interval_ends::parts::ONE;
 
 /// The year of a moment that counts 2⁻⁵⁶ of a day.
 fn year_at(moment: i128) -> i64
     ensures year { result ≡ cell_of years (units_of_56 moment) }
 {
-    gregorian::year_of(moment.div_euclid(DAY))
+    civil_core::year_of(moment.div_euclid(ONE))
 }
 
 /// The year in which both ends fall, by the test of the run that has this number.
@@ -54,7 +51,7 @@ pub fn year_of_whole_day(day: i64, trail: &mut Trail) -> i64
     ensures counted { trail.new.count ≡ next_turn trail.old.count }
 {
     trail.step();
-    gregorian::year_of(i128::from(day))
+    civil_core::year_of(i128::from(day))
 }
 
 /// The Gregorian year of a moment (R.D.): one test, at `year`. It is undecided exactly where the ends of the moment

@@ -14,6 +14,7 @@ use Rattle.book_model.specs.programs.Leading.{units_of_56}
 use Rattle.book_model.specs.numbers.Series.{sine_series, cosine_series, pi_at}
 use Rattle.book_model.specs.numbers.Octants.{only, radians, short_of, sine_into, octant_of_turn, sine_at, octant_edge}
 use Rattle.book_model.proofs.Pi.{pi_proper}
+use Rattle.interval_ends.specs.declared.parts.TheConstants.{OCTANT}
 use Rattle.book_model.proofs.SeriesNesting.{cosines}
 
 member_same : (i : Interval) (a b : Fraction) → a ≈ b → IsMember a i → IsMember b i
@@ -36,8 +37,8 @@ regrouped r c s p e = same_trans (times_cong (same_sym e) (same_refl p)) (same_b
 
 -- r (p c) is in s p, where s is r c and p is a member
 joined_member : (r c s p : Fraction) (i : Interval) → times r c ≈ s → IsMember p i → IsMember (times r (times p c)) (product (only s) i)
-joined_member r c s p i e m = member_same (product (only s) i) (times s p) (times r (times p c)) (regrouped r c s p e)
-    (product_holds (only s) i s p (le_refl s, le_refl s) m)
+joined_member r c s p i e m =
+    member_same (product (only s) i) (times s p) (times r (times p c)) (regrouped r c s p e) (product_holds (only s) i s p (le_refl s, le_refl s) m)
 
 -- and the other way round
 parted_member : (r c s p : Fraction) (i : Interval) → times r c ≈ s → IsMember p i → IsMember (times s p) (product (only r) (product i (only c)))
@@ -46,14 +47,15 @@ parted_member r c s p i e m =
     (product_holds (only r) (product i (only c)) r (times p c) (le_refl r, le_refl r) (product_holds i (only c) p c m (le_refl c, le_refl c)))
 
 -- what holds for both ends' products with c holds for the ends of the product
-ends_keep : (P : Fraction → Type 0) (a b c : Fraction) → P (times a c) → P (times b c) → P (least (times a c) (times a c) (times b c) (times b c))
-    × P (greatest (times a c) (times a c) (times b c) (times b c))
+ends_keep : (P : Fraction → Type 0) (a b c : Fraction) → P (times a c) → P (times b c)
+    → P (least (times a c) (times a c) (times b c) (times b c)) × P (greatest (times a c) (times a c) (times b c) (times b c))
 unfolding least greatest
 ends_keep P a b c x y =
     (smaller_keeps P _ _ (smaller_keeps P _ _ x x) (smaller_keeps P _ _ y y), larger_keeps P _ _ (larger_keeps P _ _ x x) (larger_keeps P _ _ y y))
 
-product_ends : (a b c : Fraction) → product (between a b) (only c)
-    ≡ between (least (times a c) (times a c) (times b c) (times b c)) (greatest (times a c) (times a c) (times b c) (times b c))
+product_ends : (a b c : Fraction)
+    → product (between a b) (only c) ≡ between (least (times a c) (times a c) (times b c) (times b c))
+    (greatest (times a c) (times a c) (times b c) (times b c))
 unfolding product
 product_ends a b c = refl
 
@@ -68,7 +70,8 @@ all_triples r c i = within_everything i
 fractions_joined : (r c s : Fraction) (i : Interval) → IsProper i → times r c ≈ s → product (only r) (product i (only c)) ⊆ product (only s) i
 fractions_joined r c s everything p e = all_products s (product (only r) (product everything (only c)))
 fractions_joined r c s (between a b) p e =
-    let m = ends_keep (λ z. IsMember (times r z) (product (only s) (between a b))) a b c (joined_member r c s a (between a b) e (le_refl a, p))
+    let m =
+    ends_keep (λ z. IsMember (times r z) (product (only s) (between a b))) a b c (joined_member r c s a (between a b) e (le_refl a, p))
     (joined_member r c s b (between a b) e (p, le_refl b)) in
     rw (product_ends a b c) (ends_product r _ _ _ m.0 m.1)
 
@@ -84,8 +87,8 @@ half_turn d = record { cross = omega (arith, ints) }
 
 pub radians_in_angle : (n : ℕ) (d : ℤ) (y : Fraction) → y ≈ units_of_56 d → radians n y ⊆ product (only (of_half_turn d)) (pi_at n)
 unfolding radians
-radians_in_angle n d y e = fractions_joined y (one_over 179) (of_half_turn d) (pi_at n) (pi_proper n)
-    (same_trans (times_cong e (same_refl (one_over 179))) (half_turn d))
+radians_in_angle n d y e =
+    fractions_joined y (one_over 179) (of_half_turn d) (pi_at n) (pi_proper n) (same_trans (times_cong e (same_refl (one_over 179))) (half_turn d))
 
 pub angle_in_radians : (n : ℕ) (d : ℤ) → product (only (of_half_turn d)) (pi_at n) ⊆ radians n (units_of_56 d)
 unfolding radians
@@ -96,7 +99,7 @@ cosine_within zero h p g = absurd (omega arith)
 cosine_within (suc n) h p g = cosines.within n p g
 
 -- ---- the octants of a turn
-pub short_same : (d : ℤ) (y : Fraction) → y ≈ units_of_56 d → short_of y ≈ units_of_56 (pos 3242591731706757120 -ℤ d)
+pub short_same : (d : ℤ) (y : Fraction) → y ≈ units_of_56 d → short_of y ≈ units_of_56 (pos OCTANT -ℤ d)
 unfolding plus opposite
 short_same d y e = same_trans (plus_cong (same_refl (whole (pos 45))) (opposite_cong e)) (record { cross = omega (arith, ints) })
 
@@ -135,12 +138,12 @@ turn_z k q e f = rw (← e) (by_size (k -ℤ q *ℤ pos 8) (k -ℤ (pos 8 *ℤ q
     by_size a (pos m) e h = e
     by_size a (negsuc m) e h = absurd (omega (arith, ints))
 
-edge_count : (k d : ℤ) → plus (units_of_56 d) (opposite (octant_edge k)) ≈ units_of_56 (d -ℤ k *ℤ pos 3242591731706757120)
+edge_count : (k d : ℤ) → plus (units_of_56 d) (opposite (octant_edge k)) ≈ units_of_56 (d -ℤ k *ℤ pos OCTANT)
 unfolding plus opposite times
 edge_count k d = record { cross = omega (arith, ints) }
 
 pub at_in_turn : (n : ℕ) (k o d : ℤ) (y : Fraction) (i : Interval) → o ≡ pos (octant_of_turn k) → y ≈ units_of_56 d →
-    ((z : Fraction) → z ≈ units_of_56 (d -ℤ k *ℤ pos 3242591731706757120) → sine_into n (unsigned_abs o) z ⊆ i) → sine_at n k y ⊆ i
+    ((z : Fraction) → z ≈ units_of_56 (d -ℤ k *ℤ pos OCTANT) → sine_into n (unsigned_abs o) z ⊆ i) → sine_at n k y ⊆ i
 unfolding sine_at
 at_in_turn n k o d y i e same h =
     let u : unsigned_abs o ≡ octant_of_turn k = ap unsigned_abs e in

@@ -11,9 +11,11 @@ use Rattle.exact_math.proofs.Alternating.{lower_is_beneath, upper_is_atop, later
 use Rattle.exact_math.proofs.Horner.{beneath_is, atop_is}
 use Rattle.book_model.specs.numbers.Series.{cosine_term, double}
 use Rattle.book_model.proofs.Terms.{IsUpTo, square_nonneg, falling, cosine_step_from_first, cosine_one, cosine_halving}
-use Rattle.trig_series.proofs.KernelSteps.{IsHigh, step_near, square_near, angle_fifths}
+use Rattle.rounded_quotients.proofs.HighHalves.{IsHigh}
+use Rattle.trig_series.proofs.KernelSteps.{step_near, square_near, angle_fifths}
 use Rattle.trig_series.proofs.SineChain.{Keeps, next, near_same, step_at, nested, flipped, inner_nested}
-use Rattle.trig_series.specs.Kernel.{IsWithinUnits, IsCut, IsAngle, IsSquare, AreCosineEnds}
+use Rattle.rounded_quotients.specs.Units.{IsWithinUnits}
+use Rattle.trig_series.specs.Kernel.{IsCut, IsAngle, IsSquare, AreCosineEnds}
 
 abbrev ratio : ℕ → Fraction
 ratio k = falling (double k)
@@ -76,9 +78,10 @@ start_high = record { above = record { cross = record { le = tt } }; below = rec
 pub innermost : (w : ℕ) → Keeps 2881 w 0 2881
 innermost w C u v z i s n = step_near 2881 w 0 0 C u v (record { not_above = omega arith; close = omega arith }) (omega arith) (omega arith) z i s n
 
-nested_is : (u s : Fraction) → step_at (ratio 0) u (step_at (ratio 1) u
-    (step_at (ratio 2) u (step_at (ratio 3) u (step_at (ratio 4) u
-    (step_at (ratio 5) u (step_at (ratio 6) u (step_at (ratio 7) u (step_at (ratio 8) u (step_at (ratio 9) u s))))))))) ≡ nested u ratio s 9
+nested_is : (u s : Fraction)
+    → step_at (ratio 0) u (step_at (ratio 1) u (step_at (ratio 2) u
+    (step_at (ratio 3) u (step_at (ratio 4) u (step_at (ratio 5) u
+    (step_at (ratio 6) u (step_at (ratio 7) u (step_at (ratio 8) u (step_at (ratio 9) u s))))))))) ≡ nested u ratio s 9
 unfolding nested
 nested_is u s = refl
 

@@ -12,7 +12,9 @@ use Rattle.exact_math.proofs.Alternating.{beneath, atop, beneath_step, tails, lo
 use Rattle.book_model.specs.programs.Leading.{units_of_56}
 use Rattle.book_model.specs.numbers.Series.{sine_term, cosine_term, over_factorial}
 use Rattle.book_model.proofs.Terms.{IsUpTo, sine_halving, sine_rising, sine_first, cosine_halving, cosine_falling, cosine_one}
-use Rattle.trig_series.specs.Kernel.{at_64, in_radians}
+use Rattle.rounded_quotients.specs.Units.{at_64}
+use Rattle.interval_ends.specs.declared.parts.TheConstants.{ONE, OCTANT}
+use Rattle.trig_series.specs.Kernel.{in_radians}
 use Rattle.trig_series.proofs.PointLemmas.{sine_zero, cosine_zero, none_in_radians}
 use Rattle.trig_series.proofs.Slopes.{atop_slow, beneath_slow, half, half_twice, cosine_second}
 
@@ -20,16 +22,15 @@ pub in_order : (d e : ℕ) → d ≤ e → in_radians d ≤F in_radians e
 unfolding times
 in_order d e h = record { cross = omega (arith, ints, h) }
 
-pub in_fifths : (d : ℕ) → d ≤ 3242591731706757120 → IsUpTo 4 5 (in_radians d)
+pub in_fifths : (d : ℕ) → d ≤ OCTANT → IsUpTo 4 5 (in_radians d)
 unfolding times
 in_fifths d h = record { nonneg = record { cross = omega (arith, ints) }; bound = record { cross = omega (arith, ints, h) } }
 
 -- ---- the cosine
-full_part : whole (pos 1) ≤F units_of_56 (pos 72057594037927936)
+full_part : whole (pos 1) ≤F units_of_56 ONE
 full_part = record { cross = omega (arith, ints) }
 
-cosine_lower_above : (d : ℕ) → d ≤ 3242591731706757120 → whole (pos 1) ≤F plus (lower (cosine_term (in_radians d)) 9)
-    (times half (times (in_radians d) (in_radians d)))
+cosine_lower_above : (d : ℕ) → d ≤ OCTANT → whole (pos 1) ≤F plus (lower (cosine_term (in_radians d)) 9) (times half (times (in_radians d) (in_radians d)))
 cosine_lower_above d u =
     let x = in_radians d in
     let o = in_radians 0 in
@@ -73,8 +74,8 @@ plus_first : (a b c : Fraction) → a ≤F b → plus a c ≤F plus b c
 plus_first a b c h = le_by (a ∷ b ∷ c ∷ []) ((at 0 ≼ at 1) ∷ []) (at 0 ⊕ at 2) (at 1 ⊕ at 2) (known 0) refl (h, tt)
 
 -- what is at least the cosine of d degrees is at least 1 less the square of their 81st
-pub cosine_above : (d : ℕ) (a : ℤ) → d ≤ 3242591731706757120 → upper (cosine_term (in_radians d)) 9 ≤F at_64 a → ((pos (2 ^ 64) -ℤ a) *ℤ pos (6561 * 2 ^ 48))
-    ≤ℤ (pos d *ℤ pos d)
+pub cosine_above : (d : ℕ) (a : ℤ) → d ≤ OCTANT → upper (cosine_term (in_radians d)) 9 ≤F at_64 a
+    → ((pos (2 ^ 64) -ℤ a) *ℤ pos (6561 * 2 ^ 48)) ≤ℤ (pos d *ℤ pos d)
 cosine_above d a u h =
     let x = in_radians d in
     let there = sum_ends_in_order 9 (cosine_term x) ((cosine_halving x (in_fifths d u)).nonneg 9) in
@@ -94,8 +95,8 @@ sine_second x =
     same_by (x ∷ half ∷ one_over 2 ∷ []) ((at 0 ⊗ (at 0 ⊗ (at 0 ⊗ lit (pos 1)))) ⊗ (((lit (pos 1) ⊗ lit (pos 1)) ⊗ at 1) ⊗ at 2))
     ((at 1 ⊗ at 2) ⊗ (at 0 ⊗ (at 0 ⊗ at 0))) refl
 
-sine_lower_above : (d : ℕ) → d ≤ 3242591731706757120 → in_radians d ≤F plus (lower (sine_term (in_radians d)) 8)
-    (times sixth (times (in_radians d) (times (in_radians d) (in_radians d))))
+sine_lower_above : (d : ℕ) → d ≤ OCTANT
+    → in_radians d ≤F plus (lower (sine_term (in_radians d)) 8) (times sixth (times (in_radians d) (times (in_radians d) (in_radians d))))
 sine_lower_above d u =
     let x = in_radians d in
     let o = in_radians 0 in
@@ -118,12 +119,11 @@ sine_lower_above d u =
     no_part = record { cross = omega (arith, ints) }
 
 -- an octant is less than 79 hundredths of a radian
-short_octant : (d : ℕ) → d ≤ 3242591731706757120 → times (whole (pos 100)) (in_radians d) ≤F whole (pos 79)
+short_octant : (d : ℕ) → d ≤ OCTANT → times (whole (pos 100)) (in_radians d) ≤F whole (pos 79)
 unfolding times
 short_octant d u = record { cross = omega (arith, ints, u) }
 
-sine_by_radians : (d : ℕ) (a : Fraction) → d ≤ 3242591731706757120
-    → in_radians d ≤F plus a (times sixth (times (in_radians d) (times (in_radians d) (in_radians d))))
+sine_by_radians : (d : ℕ) (a : Fraction) → d ≤ OCTANT → in_radians d ≤F plus a (times sixth (times (in_radians d) (times (in_radians d) (in_radians d))))
     → times (whole (pos 53759)) (in_radians d) ≤F times (whole (pos 60000)) a
 sine_by_radians d a u h =
     le_by (a ∷ in_radians d ∷ sixth ∷ [])
@@ -138,7 +138,7 @@ unfolding times
 rising_parts d a h = omega (arith, ints, h.cross)
 
 -- what is at least the sine of d degrees of an octant is at least 20 parts in 1279 of them
-pub sine_above : (d : ℕ) (a : ℤ) → d ≤ 3242591731706757120 → upper (sine_term (in_radians d)) 8 ≤F at_64 a → (pos d *ℤ pos 5120) ≤ℤ (pos 1279 *ℤ a)
+pub sine_above : (d : ℕ) (a : ℤ) → d ≤ OCTANT → upper (sine_term (in_radians d)) 8 ≤F at_64 a → (pos d *ℤ pos 5120) ≤ℤ (pos 1279 *ℤ a)
 sine_above d a u h =
     let x = in_radians d in
     let there = sum_ends_in_order 8 (sine_term x) ((sine_halving x (in_fifths d u)).nonneg 9) in

@@ -13,36 +13,40 @@ use Rattle.book_model.specs.numbers.Octants.{only, radians}
 use Rattle.book_model.proofs.Pi.{binary, pi_number, pi_proper}
 use Rattle.book_model.proofs.SeriesNesting.{inside_in}
 use Rattle.book_model.proofs.OctantHulls.{radians_proper, radians_inside}
-use Rattle.trig_series.specs.Kernel.{at_64, IsAngle, AreSineEnds, AreCosineEnds, in_radians, in_radians_above, IsInRadians}
+use Rattle.rounded_quotients.specs.Units.{at_64}
+use Rattle.interval_ends.specs.declared.parts.TheConstants.{OCTANT}
+use Rattle.trig_series.specs.Kernel.{IsAngle, AreSineEnds, AreCosineEnds, in_radians, in_radians_above, IsInRadians}
 
 pub ends_product : (r lo hi : Fraction) (c d : Fraction) → IsMember (times r lo) (between c d) → IsMember (times r hi) (between c d)
     → product (only r) (between lo hi) ⊆ between c d
 unfolding product
 ends_product r lo hi c d m n = record { ends = (least_is c _ _ _ _ m.0 n.0 m.0 n.0, greatest_is d _ _ _ _ m.1 n.1 m.1 n.1) }
 
-ends_keep : (P : Fraction → Type 0) (a b c : Fraction) → P (times a c) → P (times b c) → P (least (times a c) (times a c) (times b c) (times b c))
-    × P (greatest (times a c) (times a c) (times b c) (times b c))
+ends_keep : (P : Fraction → Type 0) (a b c : Fraction) → P (times a c) → P (times b c)
+    → P (least (times a c) (times a c) (times b c) (times b c)) × P (greatest (times a c) (times a c) (times b c) (times b c))
 unfolding least greatest
 ends_keep P a b c x y =
     (smaller_keeps P _ _ (smaller_keeps P _ _ x x) (smaller_keeps P _ _ y y), larger_keeps P _ _ (larger_keeps P _ _ x x) (larger_keeps P _ _ y y))
 
-pub product_ends : (a b c : Fraction) → product (between a b) (only c)
-    ≡ between (least (times a c) (times a c) (times b c) (times b c)) (greatest (times a c) (times a c) (times b c) (times b c))
+pub product_ends : (a b c : Fraction)
+    → product (between a b) (only c) ≡ between (least (times a c) (times a c) (times b c) (times b c))
+    (greatest (times a c) (times a c) (times b c) (times b c))
 unfolding product
 product_ends a b c = refl
 
 -- ---- an angle's count, from below and above, by either neighbour of pi
-low_below : (d h : ℕ) → d ≤ 3242591731706757120 → h * 2 ^ 64 ≤ 41210421805949854240 * d
+low_below : (d h : ℕ) → d ≤ OCTANT → h * 2 ^ 64 ≤ 41210421805949854240 * d
     → at_64 (pos (h * 2)) ≤F times (units_of_56 (pos d)) (times (binary 226375608064910088) (one_over 179))
 unfolding times
 low_below d h l p = record { cross = omega (arith, ints, l, p) }
 
-high_above : (d h : ℕ) → d ≤ 3242591731706757120 → 41210421805949854240 * d ≤ h * 2 ^ 64 + 2 ^ 64
+high_above : (d h : ℕ) → d ≤ OCTANT → 41210421805949854240 * d ≤ h * 2 ^ 64 + 2 ^ 64
     → times (units_of_56 (pos d)) (times (binary 226375608064910089) (one_over 179)) ≤F at_64 (pos (h * 2) +ℤ pos 68)
 unfolding times
 high_above d h l q = record { cross = omega (arith, ints, l, q) }
 
-neighbours : (d : ℕ) → times (units_of_56 (pos d)) (times (binary 226375608064910088) (one_over 179)) ≤F times (units_of_56 (pos d))
+neighbours : (d : ℕ)
+    → times (units_of_56 (pos d)) (times (binary 226375608064910088) (one_over 179)) ≤F times (units_of_56 (pos d))
     (times (binary 226375608064910089) (one_over 179))
 unfolding times
 neighbours d = record { cross = omega (arith, ints) }
@@ -74,7 +78,7 @@ radians_over n d m =
     (turn_over d)
 
 -- and in the 68 parts above the angle's count
-pub radians_near : (n d h : ℕ) → 12 ≤ n → d ≤ 3242591731706757120 → h * 2 ^ 64 ≤ 41210421805949854240 * d → 41210421805949854240 * d ≤ h * 2 ^ 64 + 2 ^ 64
+pub radians_near : (n d h : ℕ) → 12 ≤ n → d ≤ OCTANT → h * 2 ^ 64 ≤ 41210421805949854240 * d → 41210421805949854240 * d ≤ h * 2 ^ 64 + 2 ^ 64
     → radians n (units_of_56 (pos d)) ⊆ angles h
 radians_near n d h m l p q = within_trans (radians_over n d m) (record { ends = (low_below d h l p, high_above d h l q) })
 
@@ -107,26 +111,26 @@ cosine_over n a s (between x y) p h k f =
       );
     })
 
-pub octant_inside : (n d : ℕ) → 12 ≤ n → d ≤ 3242591731706757120 → radians n (units_of_56 (pos d)) ⊆ between zero_F four_fifths
+pub octant_inside : (n d : ℕ) → 12 ≤ n → d ≤ OCTANT → radians n (units_of_56 (pos d)) ⊆ between zero_F four_fifths
 octant_inside zero d h l = absurd (omega (arith, h))
 octant_inside (suc n) d h l = radians_inside n (units_of_56 (pos d)) (record { cross = omega (arith, ints) }) (record { cross = omega (arith, ints, l) })
 
-pub sine_there : (n d a s : ℕ) → 12 ≤ n → d ≤ 3242591731706757120 → radians n (units_of_56 (pos d)) ⊆ between (at_64 (pos a)) (at_64 (pos a +ℤ pos 68))
+pub sine_there : (n d a s : ℕ) → 12 ≤ n → d ≤ OCTANT → radians n (units_of_56 (pos d)) ⊆ between (at_64 (pos a)) (at_64 (pos a +ℤ pos 68))
     → ((x : Fraction) → 8 ≤ n → IsAngle a x → AreSineEnds x s n)
     → sine_series n (radians n (units_of_56 (pos d))) ⊆ between (at_64 (pos s -ℤ pos 384)) (at_64 (pos s +ℤ pos 384))
 sine_there n d a s m l h f = sine_over n a s _ (radians_proper n (units_of_56 (pos d))) h (octant_inside n d m l) (λ x t. f x (omega (arith, m)) t)
 
-pub cosine_there : (n d a s : ℕ) → 12 ≤ n → d ≤ 3242591731706757120 → radians n (units_of_56 (pos d)) ⊆ between (at_64 (pos a)) (at_64 (pos a +ℤ pos 68))
+pub cosine_there : (n d a s : ℕ) → 12 ≤ n → d ≤ OCTANT → radians n (units_of_56 (pos d)) ⊆ between (at_64 (pos a)) (at_64 (pos a +ℤ pos 68))
     → ((x : Fraction) → 9 ≤ n → IsAngle a x → AreCosineEnds x s n)
     → cosine_series n (radians n (units_of_56 (pos d))) ⊆ between (at_64 (pos s -ℤ pos 320)) (at_64 (pos s +ℤ pos 320))
 cosine_there n d a s m l h f = cosine_over n a s _ (radians_proper n (units_of_56 (pos d))) h (octant_inside n d m l) (λ x t. f x (omega (arith, m)) t)
 
-pub angle_there : (n d w h a : ℕ) → 12 ≤ n → d ≤ 3242591731706757120 → w ≡ d * 4 → h ≡ w * 10302605451487463560 / 2 ^ 64 → a ≡ h * 2
+pub angle_there : (n d w h a : ℕ) → 12 ≤ n → d ≤ OCTANT → w ≡ d * 4 → h ≡ w * 10302605451487463560 / 2 ^ 64 → a ≡ h * 2
     → radians n (units_of_56 (pos d)) ⊆ between (at_64 (pos a)) (at_64 (pos a +ℤ pos 68))
 angle_there n d w h a m l e f g = rw g (radians_near n d h m l (omega (arith, e, f)) (omega (arith, e, f)))
 
 -- ---- the angles between those by the neighbours of pi
-pub radians_small : (d : ℕ) → d ≤ 3242591731706757120 → in_radians_above d ≤F four_fifths
+pub radians_small : (d : ℕ) → d ≤ OCTANT → in_radians_above d ≤F four_fifths
 unfolding times
 radians_small d l = record { cross = omega (arith, ints, l) }
 
@@ -136,8 +140,7 @@ by_lower d = record { above = le_refl (in_radians d); below = neighbours d }
 pub by_upper : (d : ℕ) → IsInRadians d (in_radians_above d)
 by_upper d = record { above = neighbours d; below = le_refl (in_radians_above d) }
 
-pub angle_between : (d w h a : ℕ) (x : Fraction) → d ≤ 3242591731706757120 → w ≡ d * 4 → h ≡ w * 10302605451487463560 / 2 ^ 64 → a ≡ h * 2 → IsInRadians d x
-    → IsAngle a x
+pub angle_between : (d w h a : ℕ) (x : Fraction) → d ≤ OCTANT → w ≡ d * 4 → h ≡ w * 10302605451487463560 / 2 ^ 64 → a ≡ h * 2 → IsInRadians d x → IsAngle a x
 angle_between d w h a x l e f g t =
     rw g
     (record {

@@ -1,85 +1,20 @@
 -- One step of Horner's form in 64 bits keeps what is near.
-use Rattle.std.proofs.Common.{◌≡◌, ℕ, ◌+◌, ◌*◌, ◌/◌, ◌-◌, ◌^◌, ◌≤◌, refl, arith, ℤ, pos, negsuc, ◌+ℤ◌, ◌-ℤ◌, [], ◌∷◌}
+use Rattle.std.proofs.Common.{ℕ, ◌*◌, ◌-◌, ◌^◌, ◌≤◌, refl, arith, ℤ, pos, negsuc, ◌+ℤ◌, ◌-ℤ◌, [], ◌∷◌}
 use Rattle.std.proofs.lemmas.Int.{ints}
-use Rattle.std.proofs.Math.Nat.{mul-le-mul_right}
-use Rattle.exact_math.specs.Fraction.{Fraction, ◌≤F◌, ◌≈◌, whole, plus, opposite, times}
+use Rattle.exact_math.specs.Fraction.{Fraction, ◌≤F◌, whole, plus, opposite, times}
 use Rattle.exact_math.proofs.Ring.{at, lit, ◌⊕◌, ◌⊖◌, ◌⊗◌, minus}
 use Rattle.exact_math.proofs.Fractions.{le_trans}
 use Rattle.exact_math.proofs.Same.{le_of_same, ge_of_same}
 use Rattle.exact_math.proofs.Certificates.{zero_F, ◌≼◌, ◌≗◌, known, multiple, ◌⊞◌, ◌⊠◌, natural, le_by, le_over}
 use Rattle.book_model.proofs.Terms.{IsUpTo}
-use Rattle.trig_series.specs.Kernel.{at_64, IsWithinUnits, IsCut, IsAngle, IsSquare}
-
--- 2^-64
-unit : Fraction
-unit = at_64 (pos 1)
-
-unit_nonneg : zero_F ≤F unit
-unfolding unit
-unit_nonneg = record { cross = omega (arith, ints) }
-
--- a number and a number more or less, as multiples of it
-at_is : (n : ℤ) → at_64 n ≈ times (whole n) unit
-unfolding unit times
-at_is n = record { cross = omega (arith, ints) }
-
-at_more : (n m : ℤ) → at_64 (n +ℤ m) ≈ times (plus (whole n) (whole m)) unit
-unfolding unit plus times
-at_more n m = record { cross = omega (arith, ints) }
-
-at_less : (n m : ℤ) → at_64 (n -ℤ m) ≈ times (plus (whole n) (opposite (whole m))) unit
-unfolding unit plus times opposite
-at_less n m = record { cross = omega (arith, ints) }
-
--- p is a product, h its high half
-pub record IsHigh (h w t : ℕ) : Type 0 where
-  pub not_above : h * 2 ^ 64 ≤ w * t
-  pub close : w * t ≤ h * 2 ^ 64 + 2 ^ 64
-
-pub high_is : (h w t : ℕ) → h ≡ w * t / 2 ^ 64 → IsHigh h w t
-high_is h w t e = record { not_above = omega (arith, e); close = omega (arith, e) }
-
-pub high_small : (h w t : ℕ) → IsHigh h w t → w ≤ 2 ^ 64 → h ≤ t
-high_small h w t p k = omega (arith, p.not_above, mul-le-mul_right t k)
-
-product_is : (w t : ℕ) → whole (pos (w * t)) ≈ times (whole (pos w)) (whole (pos t))
-unfolding times
-product_is w t = record { cross = omega (arith, ints) }
-
-high_below : (h p : ℕ) → h * 2 ^ 64 ≤ p → whole (pos h) ≤F times (whole (pos p)) unit
-unfolding unit times
-high_below h p e = record { cross = omega (arith, ints, e) }
-
-high_above : (h p : ℕ) → p ≤ h * 2 ^ 64 + 2 ^ 64 → times (whole (pos p)) unit ≤F plus (whole (pos h)) (whole (pos 1))
-unfolding unit times plus
-high_above h p e = record { cross = omega (arith, ints, e) }
-
-half_of : (t : ℕ) → 2 * t ≤ 2 ^ 64 → times (whole (pos 2)) (times (whole (pos t)) unit) ≤F whole (pos 1)
-unfolding unit times
-half_of t e = record { cross = omega (arith, ints, e) }
-
-count_nonneg : (t : ℕ) → zero_F ≤F times (whole (pos t)) unit
-unfolding unit times
-count_nonneg t = record { cross = omega (arith, ints) }
-
--- from a bound at a count to one by the unit
-from_at : (n : ℤ) (x : Fraction) → at_64 n ≤F x → times (whole n) unit ≤F x
-from_at n x h = le_trans _ (at_64 n) x (ge_of_same (at_is n)) h
-
-to_more : (n m : ℤ) (x : Fraction) → x ≤F at_64 (n +ℤ m) → x ≤F times (plus (whole n) (whole m)) unit
-to_more n m x h = le_trans x (at_64 (n +ℤ m)) _ h (le_of_same (at_more n m))
-
-from_less : (n m : ℤ) (x : Fraction) → at_64 (n -ℤ m) ≤F x → times (plus (whole n) (opposite (whole m))) unit ≤F x
-from_less n m x h = le_trans _ (at_64 (n -ℤ m)) x (ge_of_same (at_less n m)) h
+use Rattle.rounded_quotients.specs.Units.{at_64, IsWithinUnits}
+use Rattle.rounded_quotients.proofs.HighHalves.{unit, unit_nonneg, at_is, at_more, at_less, IsHigh, product_is, high_below, high_above, half_of, count_nonneg}
+use Rattle.rounded_quotients.proofs.HighHalves.{from_at, to_more, from_less, rest_is}
+use Rattle.trig_series.specs.Kernel.{IsCut, IsAngle, IsSquare}
 
 square_small : (u : Fraction) → u ≤F record { num = pos 16; below = 24 } → times (whole (pos 25)) u ≤F whole (pos 16)
 unfolding times
 square_small u h = record { cross = omega (arith, ints, h.cross) }
-
--- c - h, as a fraction
-rest_is : (c h : ℕ) → h ≤ c → whole (pos (c - h)) ≈ plus (whole (pos c)) (opposite (whole (pos h)))
-unfolding plus opposite
-rest_is c h e = record { cross = omega (arith, ints, e) }
 
 step_above : (c w t h : ℕ) (C U V : Fraction) → IsHigh h w t → h ≤ c → 2 * t ≤ 2 ^ 64 → zero_F ≤F U → IsCut c C → IsSquare w U → IsWithinUnits 320 t V →
     at_64 (pos (c - h) -ℤ pos 320) ≤F plus C (opposite (times U V))
@@ -203,11 +138,8 @@ square_below w a x l p g =
     (ge_of_same (at_more (pos w) (pos 112)))
 
 pub square_near : (w a : ℕ) (x : Fraction) → a ≤ 14757395258967641292 → IsHigh w a a → IsAngle a x → IsSquare w (times x x)
-square_near w a x l p g = record {
-  not_above = square_above w a x p g;
-  close = square_below w a x l p g;
-  small = over_25 (times x x) (square_fifths x (angle_fifths a x g));
-}
+square_near w a x l p g =
+    record { not_above = square_above w a x p g; close = square_below w a x l p g; small = over_25 (times x x) (square_fifths x (angle_fifths a x g)) }
 
 -- ---- the product of an angle and what is near
 pub product_above : (s a t : ℕ) (x V : Fraction) → IsHigh s a t → IsAngle a x → IsWithinUnits 320 t V → at_64 (pos s -ℤ pos 384) ≤F times x V

@@ -40,11 +40,11 @@ parts_within v i h = looser _ _ _ _ ((v + 56) / 57 + 36 * 2 ^ 8 + 2 * 2 ^ 8) (v 
 
 pub sine_within : {E : Type 0} (shown : E → Interval) (n v : ℕ) (x y : E) → n ≡ 56 → IsAbout (2 ^ 94) v (shown x)
     → ((r : Reach) (a : Expression) → Narrow shown (limits_of n) r a x → Narrow shown (limits_of n) r (sine a) y) → IsAbout (2 ^ 32) (v / 57 + 2 ^ 14) (shown y)
-sine_within shown n v x y e h f = parts_within v _ (sine_kept shown n v y e
-    (f (record { width = 0; bounds = any_degrees v }) (argument 0) (degrees_kept shown (limits_of n) v x h)))
+sine_within shown n v x y e h f =
+    parts_within v _ (sine_kept shown n v y e (f (record { width = 0; bounds = any_degrees v }) (argument 0) (degrees_kept shown (limits_of n) v x h)))
 
 pub cosine_within : {E : Type 0} (shown : E → Interval) (n v : ℕ) (x y : E) → n ≡ 56 → IsAbout (2 ^ 94) v (shown x)
     → ((r : Reach) (a : Expression) → Narrow shown (limits_of n) r a x → Narrow shown (limits_of n) r (cosine a) y)
     → IsAbout (2 ^ 32) (v / 57 + 2 ^ 14) (shown y)
-cosine_within shown n v x y e h f = parts_within v _ (cosine_kept shown n v y e
-    (f (record { width = 0; bounds = any_degrees v }) (argument 0) (degrees_kept shown (limits_of n) v x h)))
+cosine_within shown n v x y e h f =
+    parts_within v _ (cosine_kept shown n v y e (f (record { width = 0; bounds = any_degrees v }) (argument 0) (degrees_kept shown (limits_of n) v x h)))

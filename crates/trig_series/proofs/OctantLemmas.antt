@@ -12,6 +12,7 @@ use Rattle.exact_math.proofs.Floors.{IsFloorQuotient, floor_quotient_is}
 use Rattle.book_model.specs.programs.Leading.{units_of_56}
 use Rattle.book_model.specs.numbers.Octants.{octant_edge, sine_at, sine_in, first_octant, last_octant, sine_of_degrees}
 use Rattle.book_model.proofs.DegreeSines.{over_least}
+use Rattle.interval_ends.specs.declared.parts.TheConstants.{OCTANT}
 use Rattle.rounded_quotients.proofs.Quotients.{euclid_is}
 
 -- ---- the part of two ends in an octant
@@ -46,11 +47,11 @@ smaller_at a p d m s e =
     (smaller_keeps (λ z. units_of_56 m ≤F z) a (units_of_56 d) (le_trans (units_of_56 m) (units_of_56 p) a (order_at m p first) (ge_of_same s))
     (order_at m d second))
 
-edge_at : (k : ℤ) → octant_edge k ≈ units_of_56 (k *ℤ pos 3242591731706757120)
+edge_at : (k : ℤ) → octant_edge k ≈ units_of_56 (k *ℤ pos OCTANT)
 unfolding times
 edge_at k = record { cross = omega (arith, ints) }
 
-next_edge_at : (k : ℤ) → octant_edge (k +ℤ pos 1) ≈ units_of_56 (k *ℤ pos 3242591731706757120 +ℤ pos 3242591731706757120)
+next_edge_at : (k : ℤ) → octant_edge (k +ℤ pos 1) ≈ units_of_56 (k *ℤ pos OCTANT +ℤ pos OCTANT)
 unfolding times
 next_edge_at k = record { cross = omega (arith, ints) }
 
@@ -81,28 +82,27 @@ pub span_opposite : (i : Interval) (a b lo hi : ℤ) → lo ≡ neg_ℤ b → hi
     → negative i ⊆ between (units_of_56 lo) (units_of_56 hi)
 span_opposite i a b lo hi e f h = rw (e, f) (within_trans (negative_within h) (opposite_span a b))
 
-pub in_holds : (n : ℕ) (k lo hi p q a b c d x y : ℤ) → p ≡ int_max (k *ℤ pos 3242591731706757120) lo → q
-    ≡ int_min (k *ℤ pos 3242591731706757120 +ℤ pos 3242591731706757120) hi
+pub in_holds : (n : ℕ) (k lo hi p q a b c d x y : ℤ) → p ≡ int_max (k *ℤ pos OCTANT) lo → q ≡ int_min (k *ℤ pos OCTANT +ℤ pos OCTANT) hi
     → ((z : Fraction) → z ≈ units_of_56 p → sine_at n k z ⊆ between (units_of_56 a) (units_of_56 b))
     → ((z : Fraction) → z ≈ units_of_56 q → sine_at n k z ⊆ between (units_of_56 c) (units_of_56 d))
     → x ≡ int_min a c → y ≡ int_max b d → sine_in n (units_of_56 lo) (units_of_56 hi) k ⊆ between (units_of_56 x) (units_of_56 y)
 unfolding sine_in
 in_holds n k lo hi p q a b c d x y e f low high g h =
     spans_hull _ _ a b c d x y g h
-    (low _ (larger_at (octant_edge k) (k *ℤ pos 3242591731706757120) lo p (edge_at k) e))
-    (high _ (smaller_at (octant_edge (k +ℤ pos 1)) (k *ℤ pos 3242591731706757120 +ℤ pos 3242591731706757120) hi q (next_edge_at k) f))
+    (low _ (larger_at (octant_edge k) (k *ℤ pos OCTANT) lo p (edge_at k) e))
+    (high _ (smaller_at (octant_edge (k +ℤ pos 1)) (k *ℤ pos OCTANT +ℤ pos OCTANT) hi q (next_edge_at k) f))
 
 -- ---- the octants that two ends meet
-pub division_is : (d q : ℤ) → q ≡ int_div_euclid d (pos 3242591731706757120) → IsFloorQuotient q d 3242591731706757119
-division_is d q e = let f = e ∙ euclid_is d 3242591731706757120 (omega arith) in rw f (floor_quotient_is d 3242591731706757119)
+pub division_is : (d q : ℤ) → q ≡ int_div_euclid d (pos OCTANT) → IsFloorQuotient q d 3242591731706757119
+division_is d q e = let f = e ∙ euclid_is d OCTANT (omega arith) in rw f (floor_quotient_is d 3242591731706757119)
 
-pub last_is : (d q : ℤ) → q ≡ int_div_euclid d (pos 3242591731706757120) → q ≡ last_octant (units_of_56 d)
+pub last_is : (d q : ℤ) → q ≡ int_div_euclid d (pos OCTANT) → q ≡ last_octant (units_of_56 d)
 unfolding last_octant times
 last_is d q e =
     let one : d *ℤ pos 1 ≡ d = omega (arith, ints) in
-    rw one (e ∙ euclid_is d 3242591731706757120 (omega arith))
+    rw one (e ∙ euclid_is d OCTANT (omega arith))
 
-pub first_is : (d q : ℤ) → q ≡ int_div_euclid (pos 0 -ℤ d) (pos 3242591731706757120) → (pos 0 -ℤ q) -ℤ pos 1 ≡ first_octant (units_of_56 d)
+pub first_is : (d q : ℤ) → q ≡ int_div_euclid (pos 0 -ℤ d) (pos OCTANT) → (pos 0 -ℤ q) -ℤ pos 1 ≡ first_octant (units_of_56 d)
 unfolding first_octant opposite
 first_is d q e =
     let n : pos 0 -ℤ d ≡ neg_ℤ d = omega (arith, ints) in
@@ -110,36 +110,31 @@ first_is d q e =
     rw (← l) (omega (arith, ints))
 
 -- the octants on either side of degrees
-pub first_bounds : (lo : ℤ) → ((first_octant (units_of_56 lo) *ℤ pos 3242591731706757120) <ℤ lo)
-    × (lo ≤ℤ (first_octant (units_of_56 lo) *ℤ pos 3242591731706757120 +ℤ pos 3242591731706757120))
+pub first_bounds : (lo : ℤ) → ((first_octant (units_of_56 lo) *ℤ pos OCTANT) <ℤ lo) × (lo ≤ℤ (first_octant (units_of_56 lo) *ℤ pos OCTANT +ℤ pos OCTANT))
 first_bounds lo =
-    let q = int_div_euclid (pos 0 -ℤ lo) (pos 3242591731706757120) in
+    let q = int_div_euclid (pos 0 -ℤ lo) (pos OCTANT) in
     let f = division_is (pos 0 -ℤ lo) q refl in
     rw (← first_is lo q refl) (omega (arith, ints, f.close), omega (arith, ints, f.not_above))
 
-pub last_bounds : (hi : ℤ) → ((last_octant (units_of_56 hi) *ℤ pos 3242591731706757120) ≤ℤ hi)
-    × (hi <ℤ (last_octant (units_of_56 hi) *ℤ pos 3242591731706757120 +ℤ pos 3242591731706757120))
+pub last_bounds : (hi : ℤ) → ((last_octant (units_of_56 hi) *ℤ pos OCTANT) ≤ℤ hi) × (hi <ℤ (last_octant (units_of_56 hi) *ℤ pos OCTANT +ℤ pos OCTANT))
 last_bounds hi =
-    let q = int_div_euclid hi (pos 3242591731706757120) in
+    let q = int_div_euclid hi (pos OCTANT) in
     let f = division_is hi q refl in
     rw (← last_is hi q refl) (omega (arith, ints, f.not_above), omega (arith, ints, f.close))
 
 -- the only octant that ends meet which lie inside of it
-pub first_alone_is : (k lo : ℤ) → (k *ℤ pos 3242591731706757120) <ℤ lo → lo <ℤ (k *ℤ pos 3242591731706757120 +ℤ pos 3242591731706757120) → k
-    ≡ first_octant (units_of_56 lo)
+pub first_alone_is : (k lo : ℤ) → (k *ℤ pos OCTANT) <ℤ lo → lo <ℤ (k *ℤ pos OCTANT +ℤ pos OCTANT) → k ≡ first_octant (units_of_56 lo)
 first_alone_is k lo l u = let b = first_bounds lo in omega (arith, ints, l, u, b.0, b.1)
 
-pub last_alone_is : (k hi : ℤ) → (k *ℤ pos 3242591731706757120) <ℤ hi → hi <ℤ (k *ℤ pos 3242591731706757120 +ℤ pos 3242591731706757120) → k
-    ≡ last_octant (units_of_56 hi)
+pub last_alone_is : (k hi : ℤ) → (k *ℤ pos OCTANT) <ℤ hi → hi <ℤ (k *ℤ pos OCTANT +ℤ pos OCTANT) → k ≡ last_octant (units_of_56 hi)
 last_alone_is k hi l u = let b = last_bounds hi in omega (arith, ints, l, u, b.0, b.1)
 
 -- ends of which one lies on an octant's edge, or beyond, meet several
-pub edge_below : (k lo hi : ℤ) → (k *ℤ pos 3242591731706757120) ≤ℤ lo → lo ≤ℤ (k *ℤ pos 3242591731706757120) → lo ≤ℤ hi → first_octant (units_of_56 lo)
-    <ℤ last_octant (units_of_56 hi)
+pub edge_below : (k lo hi : ℤ) → (k *ℤ pos OCTANT) ≤ℤ lo → lo ≤ℤ (k *ℤ pos OCTANT) → lo ≤ℤ hi → first_octant (units_of_56 lo) <ℤ last_octant (units_of_56 hi)
 edge_below k lo hi l u o = let b = first_bounds lo in let c = last_bounds hi in omega (arith, ints, l, u, o, b.0, b.1, c.0, c.1)
 
-pub edge_above : (k lo hi : ℤ) → lo <ℤ (k *ℤ pos 3242591731706757120 +ℤ pos 3242591731706757120) → (k *ℤ pos 3242591731706757120 +ℤ pos 3242591731706757120)
-    ≤ℤ hi → first_octant (units_of_56 lo) <ℤ last_octant (units_of_56 hi)
+pub edge_above : (k lo hi : ℤ) → lo <ℤ (k *ℤ pos OCTANT +ℤ pos OCTANT) → (k *ℤ pos OCTANT +ℤ pos OCTANT) ≤ℤ hi
+    → first_octant (units_of_56 lo) <ℤ last_octant (units_of_56 hi)
 edge_above k lo hi l u = let b = first_bounds lo in let c = last_bounds hi in omega (arith, ints, l, u, b.0, b.1, c.0, c.1)
 
 -- how often 45 goes into a number

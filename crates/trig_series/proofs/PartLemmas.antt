@@ -15,7 +15,9 @@ use Rattle.book_model.specs.numbers.Series.{sine_series, cosine_series, sine_ter
 use Rattle.book_model.proofs.OctantHulls.{radians_proper}
 use Rattle.book_model.proofs.SeriesNesting.{sines, sine_lowers, cosine_lowers, inside_in}
 use Rattle.book_model.proofs.Terms.{IsUpTo, sine_halving}
-use Rattle.trig_series.specs.Kernel.{at_64, in_radians, in_radians_above, IsInRadians, AreSineEnds, AreCosineEnds}
+use Rattle.rounded_quotients.specs.Units.{at_64}
+use Rattle.interval_ends.specs.declared.parts.TheConstants.{OCTANT, QUARTER}
+use Rattle.trig_series.specs.Kernel.{in_radians, in_radians_above, IsInRadians, AreSineEnds, AreCosineEnds}
 use Rattle.trig_series.specs.Points.{IsAround, IsRising, IsCrest, IsPart, IsInside}
 use Rattle.trig_series.proofs.AngleLemmas.{at_in_turn, cosine_within}
 use Rattle.trig_series.proofs.KernelAngles.{by_lower, by_upper, radians_over, radians_small}
@@ -30,7 +32,7 @@ above_in_order : (d e : ℕ) → d ≤ e → in_radians_above d ≤F in_radians_
 unfolding times
 above_in_order d e h = record { cross = omega (arith, ints, h) }
 
-above_fifths : (d : ℕ) → d ≤ 3242591731706757120 → IsUpTo 4 5 (in_radians_above d)
+above_fifths : (d : ℕ) → d ≤ OCTANT → IsUpTo 4 5 (in_radians_above d)
 unfolding times
 above_fifths d h = record { nonneg = record { cross = omega (arith, ints) }; bound = record { cross = omega (arith, ints, h) } }
 
@@ -55,13 +57,12 @@ none_below : (d : ℕ) → zero_F ≤F in_radians d
 unfolding times
 none_below d = record { cross = omega (arith, ints) }
 
-sine_from : (n d e s : ℕ) (lo hi m : ℤ) → d ≤ e → e ≤ 3242591731706757120 → (pos e -ℤ pos d) ≤ℤ (pos 57 *ℤ m)
-    → ((x : Fraction) → IsInRadians d x → AreSineEnds x s (suc n))
+sine_from : (n d e s : ℕ) (lo hi m : ℤ) → d ≤ e → e ≤ OCTANT → (pos e -ℤ pos d) ≤ℤ (pos 57 *ℤ m) → ((x : Fraction) → IsInRadians d x → AreSineEnds x s (suc n))
     → (lo *ℤ pos 256 +ℤ pos 384) ≤ℤ pos s → pos s ≤ℤ (hi *ℤ pos 256 -ℤ pos 384)
     → sine_series (suc n) (between (in_radians e) (in_radians_above e)) ⊆ between (units_of_56 lo) (units_of_56 (hi +ℤ m))
 unfolding sine_series
 sine_from n d e s lo hi m o u w f l r =
-    let v : d ≤ 3242591731706757120 = omega (arith, o, u) in
+    let v : d ≤ OCTANT = omega (arith, o, u) in
     rw (inside_in zero_F four_fifths (in_radians e) (in_radians_above e) (record { above = none_below e; below = radians_small e u }))
     (record {
       ends = (
@@ -77,13 +78,13 @@ lower_close : (d e : ℕ) (m : ℤ) → d ≤ e → (pos e -ℤ pos d) ≤ℤ (p
 unfolding plus times
 lower_close d e m o h = record { cross = omega (arith, ints, o, h) }
 
-cosine_from : (n d e s : ℕ) (lo hi m : ℤ) → d ≤ e → e ≤ 3242591731706757120 → (pos e -ℤ pos d) ≤ℤ (pos 57 *ℤ m)
+cosine_from : (n d e s : ℕ) (lo hi m : ℤ) → d ≤ e → e ≤ OCTANT → (pos e -ℤ pos d) ≤ℤ (pos 57 *ℤ m)
     → ((x : Fraction) → IsInRadians e x → AreCosineEnds x s (suc (suc n)))
     → (lo *ℤ pos 256 +ℤ pos 384) ≤ℤ pos s → pos s ≤ℤ (hi *ℤ pos 256 -ℤ pos 384)
     → cosine_series (suc (suc n)) (between (in_radians d) (in_radians_above d)) ⊆ between (units_of_56 lo) (units_of_56 (hi +ℤ m))
 unfolding cosine_series
 cosine_from n d e s lo hi m o u w f l r =
-    let v : d ≤ 3242591731706757120 = omega (arith, o, u) in
+    let v : d ≤ OCTANT = omega (arith, o, u) in
     rw (inside_in zero_F four_fifths (in_radians d) (in_radians_above d) (record { above = none_below d; below = radians_small d v }))
     (record {
       ends = (
@@ -94,7 +95,7 @@ cosine_from n d e s lo hi m o u w f l r =
       );
     })
 
-pub sine_part_holds : (n d e s : ℕ) (y : Fraction) (lo hi m : ℤ) → 40 ≤ n → d ≤ e → e ≤ 3242591731706757120 → (pos e -ℤ pos d) ≤ℤ (pos 57 *ℤ m)
+pub sine_part_holds : (n d e s : ℕ) (y : Fraction) (lo hi m : ℤ) → 40 ≤ n → d ≤ e → e ≤ OCTANT → (pos e -ℤ pos d) ≤ℤ (pos 57 *ℤ m)
     → ((k : ℕ) (x : Fraction) → 8 ≤ k → IsInRadians d x → AreSineEnds x s k)
     → (lo *ℤ pos 256 +ℤ pos 384) ≤ℤ pos s → pos s ≤ℤ (hi *ℤ pos 256 -ℤ pos 384) → y ≈ units_of_56 (pos e)
     → sine_series n (radians n y) ⊆ between (units_of_56 lo) (units_of_56 (hi +ℤ m))
@@ -104,7 +105,7 @@ sine_part_holds (suc n) d e s y lo hi m h o u w f l r g =
     (within_trans (sines.within (suc n) (radians_proper (suc n) (units_of_56 (pos e))) (radians_over (suc n) e (omega (arith, h))))
     (sine_from n d e s lo hi m o u w (λ x t. f (suc n) x (omega (arith, h)) t) l r))
 
-pub cosine_part_holds : (n d e s : ℕ) (y : Fraction) (lo hi m : ℤ) → 40 ≤ n → d ≤ e → e ≤ 3242591731706757120 → (pos e -ℤ pos d) ≤ℤ (pos 57 *ℤ m)
+pub cosine_part_holds : (n d e s : ℕ) (y : Fraction) (lo hi m : ℤ) → 40 ≤ n → d ≤ e → e ≤ OCTANT → (pos e -ℤ pos d) ≤ℤ (pos 57 *ℤ m)
     → ((k : ℕ) (x : Fraction) → 9 ≤ k → IsInRadians e x → AreCosineEnds x s k)
     → (lo *ℤ pos 256 +ℤ pos 384) ≤ℤ pos s → pos s ≤ℤ (hi *ℤ pos 256 -ℤ pos 384) → y ≈ units_of_56 (pos d)
     → cosine_series n (radians n y) ⊆ between (units_of_56 lo) (units_of_56 (hi +ℤ m))
@@ -120,7 +121,7 @@ no_part : units_of_56 (pos 0) ≤F zero_F
 no_part = record { cross = omega (arith, ints) }
 
 -- the sine is at most its angle
-sine_up_to : (d s : ℕ) → d ≤ 3242591731706757120 → AreSineEnds (in_radians d) s 8 → at_64 (pos s -ℤ pos 384) ≤F in_radians d
+sine_up_to : (d s : ℕ) → d ≤ OCTANT → AreSineEnds (in_radians d) s 8 → at_64 (pos s -ℤ pos 384) ≤F in_radians d
 sine_up_to d s u h =
     let y = in_fifths d u in
     let z = sine_zero (in_radians 0) none_in_radians in
@@ -134,16 +135,14 @@ below_angle : (d : ℕ) (a : ℤ) → at_64 a ≤F in_radians d → (pos 57 *ℤ
 unfolding times
 below_angle d a h = omega (arith, ints, h.cross)
 
-pub sine_part_near : (d e s : ℕ) (lo hi m : ℤ) → d ≤ e → e ≤ 3242591731706757120 → (pos 57 *ℤ m) ≤ℤ ((pos e -ℤ pos d) +ℤ pos 56)
-    → AreSineEnds (in_radians d) s 8
+pub sine_part_near : (d e s : ℕ) (lo hi m : ℤ) → d ≤ e → e ≤ OCTANT → (pos 57 *ℤ m) ≤ℤ ((pos e -ℤ pos d) +ℤ pos 56) → AreSineEnds (in_radians d) s 8
     → pos s ≤ℤ (lo *ℤ pos 256 +ℤ pos 767) → (hi *ℤ pos 256 -ℤ pos 768) ≤ℤ pos s → IsRising (pos d) (pos e) lo (hi +ℤ m)
 sine_part_near d e s lo hi m o u w h l r =
     let a = below_angle d (pos s -ℤ pos 384) (sine_up_to d s (omega (arith, o, u)) h) in
     let b = sine_above d (pos s +ℤ pos 384) (omega (arith, o, u)) h.high in
     record { up = omega (arith, ints, a, r, w, o); down = omega (arith, ints, b, l) }
 
-pub cosine_part_near : (e s : ℕ) (lo : ℤ) → e ≤ 3242591731706757120 → AreCosineEnds (in_radians e) s 9 → pos s ≤ℤ (lo *ℤ pos 256 +ℤ pos 767)
-    → IsCrest (pos e) lo
+pub cosine_part_near : (e s : ℕ) (lo : ℤ) → e ≤ OCTANT → AreCosineEnds (in_radians e) s 9 → pos s ≤ℤ (lo *ℤ pos 256 +ℤ pos 767) → IsCrest (pos e) lo
 cosine_part_near e s lo u h l = let a = cosine_above e (pos s +ℤ pos 320) u h.high in record { down = omega (arith, ints, a, l) }
 
 -- ---- the octants of the first half turn
@@ -151,7 +150,7 @@ pub part_0 : (o : ℤ) (f t : ℕ) (lo hi : ℤ) → o ≡ pos 0 → IsRising (p
 unfolding IsPart
 part_0 o f t lo hi e h = rw e h
 
-pub part_1 : (o : ℤ) (f t : ℕ) (lo hi : ℤ) → o ≡ pos 1 → IsCrest (pos (3242591731706757120 - f)) lo → IsPart (unsigned_abs o) f t lo hi
+pub part_1 : (o : ℤ) (f t : ℕ) (lo hi : ℤ) → o ≡ pos 1 → IsCrest (pos (OCTANT - f)) lo → IsPart (unsigned_abs o) f t lo hi
 unfolding IsPart
 part_1 o f t lo hi e h = rw e h
 
@@ -159,8 +158,7 @@ pub part_2 : (o : ℤ) (f t : ℕ) (lo hi : ℤ) → o ≡ pos 2 → IsCrest (po
 unfolding IsPart
 part_2 o f t lo hi e h = rw e h
 
-pub part_3 : (o : ℤ) (f t : ℕ) (lo hi : ℤ) → o ≡ pos 3 → IsRising (pos (3242591731706757120 - t)) (pos (3242591731706757120 - f)) lo hi
-    → IsPart (unsigned_abs o) f t lo hi
+pub part_3 : (o : ℤ) (f t : ℕ) (lo hi : ℤ) → o ≡ pos 3 → IsRising (pos (OCTANT - t)) (pos (OCTANT - f)) lo hi → IsPart (unsigned_abs o) f t lo hi
 unfolding IsPart
 part_3 o f t lo hi e h = rw e h
 
@@ -186,29 +184,27 @@ pub turned_part : (k o : ℤ) (f t : ℕ) (lo hi : ℤ) → o ≡ pos (octant_of
 turned_part k o f t lo hi e h = rw e at h
 
 -- both ends of a part have their sines in its span
-pub within_holds : (n : ℕ) (k o lo hi a b : ℤ) → o ≡ pos (octant_of_turn k) → (k *ℤ pos 3242591731706757120) ≤ℤ lo → lo ≤ℤ hi → hi
-    ≤ℤ (k *ℤ pos 3242591731706757120 +ℤ pos 3242591731706757120)
-    → ((d : ℕ) (y : Fraction) → unsigned_abs (lo -ℤ k *ℤ pos 3242591731706757120) ≤ d → d ≤ unsigned_abs (hi -ℤ k *ℤ pos 3242591731706757120)
-    → y ≈ units_of_56 (pos d) → sine_into n (unsigned_abs o) y ⊆ between (units_of_56 a) (units_of_56 b))
+pub within_holds : (n : ℕ) (k o lo hi a b : ℤ) → o ≡ pos (octant_of_turn k) → (k *ℤ pos OCTANT) ≤ℤ lo → lo ≤ℤ hi → hi ≤ℤ (k *ℤ pos OCTANT +ℤ pos OCTANT)
+    → ((d : ℕ) (y : Fraction) → unsigned_abs (lo -ℤ k *ℤ pos OCTANT) ≤ d → d ≤ unsigned_abs (hi -ℤ k *ℤ pos OCTANT) → y ≈ units_of_56 (pos d)
+    → sine_into n (unsigned_abs o) y ⊆ between (units_of_56 a) (units_of_56 b))
     → sine_in n (units_of_56 lo) (units_of_56 hi) k ⊆ between (units_of_56 a) (units_of_56 b)
 within_holds n k o lo hi a b e from ordered to h =
     in_holds n k lo hi lo hi a b a b a b (omega (arith, ints, clamps, from, ordered)) (omega (arith, ints, clamps, to, ordered))
     (at_count lo from ordered (omega (arith, ints))) (at_count hi (omega (arith, ints, from, ordered)) (omega (arith, ints)) ordered)
     (omega (arith, ints, clamps)) (omega (arith, ints, clamps))
   where
-    at_count : (p : ℤ) → (k *ℤ pos 3242591731706757120) ≤ℤ p → p ≤ℤ hi → lo ≤ℤ p → (z : Fraction) → z ≈ units_of_56 p
+    at_count : (p : ℤ) → (k *ℤ pos OCTANT) ≤ℤ p → p ≤ℤ hi → lo ≤ℤ p → (z : Fraction) → z ≈ units_of_56 p
         → sine_at n k z ⊆ between (units_of_56 a) (units_of_56 b)
     at_count p l u v z same =
-        let c : pos (unsigned_abs (p -ℤ k *ℤ pos 3242591731706757120)) ≡ p -ℤ k *ℤ pos 3242591731706757120 = omega (arith, ints, l) in
-        at_in_turn n k o p z _ e same (λ y t. h (unsigned_abs (p -ℤ k *ℤ pos 3242591731706757120)) y (omega (arith, ints, l, v, from))
-        (omega (arith, ints, l, u)) (rw c t))
+        let c : pos (unsigned_abs (p -ℤ k *ℤ pos OCTANT)) ≡ p -ℤ k *ℤ pos OCTANT = omega (arith, ints, l) in
+        at_in_turn n k o p z _ e same (λ y t. h (unsigned_abs (p -ℤ k *ℤ pos OCTANT)) y (omega (arith, ints, l, v, from)) (omega (arith, ints, l, u)) (rw c t))
 
 -- a part of octant k
 record LiesOver (k lo hi a b : ℤ) : Type 0 where
-  part : IsPart (octant_of_turn k) (unsigned_abs (lo -ℤ k *ℤ pos 3242591731706757120)) (unsigned_abs (hi -ℤ k *ℤ pos 3242591731706757120)) a b
-  from : (k *ℤ pos 3242591731706757120) ≤ℤ lo
+  part : IsPart (octant_of_turn k) (unsigned_abs (lo -ℤ k *ℤ pos OCTANT)) (unsigned_abs (hi -ℤ k *ℤ pos OCTANT)) a b
+  from : (k *ℤ pos OCTANT) ≤ℤ lo
   ordered : lo ≤ℤ hi
-  to : hi ≤ℤ (k *ℤ pos 3242591731706757120 +ℤ pos 3242591731706757120)
+  to : hi ≤ℤ (k *ℤ pos OCTANT +ℤ pos OCTANT)
 
 by_octant : (k m lo hi a b : ℤ) → k ≡ m → LiesOver k lo hi a b → LiesOver m lo hi a b
 by_octant k m lo hi a b e h = rw e at h
@@ -227,31 +223,29 @@ small_7 lo hi a b w l h =
 
 small_0 : (lo hi a b w : ℤ) → hi ≤ℤ w → LiesOver (pos 0) lo hi a b → IsAround (pos 0) w a b
 unfolding IsPart
-small_0 lo hi a b w u h = rising_around _ _ w _ _ (omega (arith, ints)) (omega (arith, ints, u, h.from, h.ordered)) (omega (arith, ints, u, h.from, h.ordered))
-    h.part
+small_0 lo hi a b w u h =
+    rising_around _ _ w _ _ (omega (arith, ints)) (omega (arith, ints, u, h.from, h.ordered)) (omega (arith, ints, u, h.from, h.ordered)) h.part
 
-crest_1 : (lo hi a b w : ℤ) → (pos 6485183463413514240 -ℤ w) ≤ℤ lo → LiesOver (pos 1) lo hi a b → IsCrest w a
+crest_1 : (lo hi a b w : ℤ) → (QUARTER -ℤ w) ≤ℤ lo → LiesOver (pos 1) lo hi a b → IsCrest w a
 unfolding IsPart
 crest_1 lo hi a b w l h = more_crest _ w a (omega (arith, ints)) (omega (arith, ints, l, h.from, h.ordered, h.to)) h.part
 
-crest_2 : (lo hi a b w : ℤ) → hi ≤ℤ (pos 6485183463413514240 +ℤ w) → LiesOver (pos 2) lo hi a b → IsCrest w a
+crest_2 : (lo hi a b w : ℤ) → hi ≤ℤ (QUARTER +ℤ w) → LiesOver (pos 2) lo hi a b → IsCrest w a
 unfolding IsPart
 crest_2 lo hi a b w u h = more_crest _ w a (omega (arith, ints)) (omega (arith, ints, u, h.from, h.ordered)) h.part
 
-pub part_small : (k lo hi a b : ℤ) → IsPart (octant_of_turn k) (unsigned_abs (lo -ℤ k *ℤ pos 3242591731706757120))
-    (unsigned_abs (hi -ℤ k *ℤ pos 3242591731706757120)) a b
-    → (k *ℤ pos 3242591731706757120) ≤ℤ lo → lo ≤ℤ hi → hi ≤ℤ (k *ℤ pos 3242591731706757120 +ℤ pos 3242591731706757120)
-    → (w : ℤ) → neg_ℤ w ≤ℤ lo → hi ≤ℤ w → w <ℤ pos 3242591731706757120 → IsAround (pos 0) w a b
+pub part_small : (k lo hi a b : ℤ) → IsPart (octant_of_turn k) (unsigned_abs (lo -ℤ k *ℤ pos OCTANT)) (unsigned_abs (hi -ℤ k *ℤ pos OCTANT)) a b
+    → (k *ℤ pos OCTANT) ≤ℤ lo → lo ≤ℤ hi → hi ≤ℤ (k *ℤ pos OCTANT +ℤ pos OCTANT)
+    → (w : ℤ) → neg_ℤ w ≤ℤ lo → hi ≤ℤ w → w <ℤ pos OCTANT → IsAround (pos 0) w a b
 part_small k lo hi a b p f o t w l u s =
     let h : LiesOver k lo hi a b = record { part = p; from = f; ordered = o; to = t } in
     by_lt_z k (pos 0)
     (λ m. small_7 lo hi a b w l (by_octant k (negsuc 0) lo hi a b (omega (arith, ints, m, l, o, t, s)) h))
     (λ m. small_0 lo hi a b w u (by_octant k (pos 0) lo hi a b (omega (arith, ints, m, u, o, f, s)) h))
 
-pub part_crest : (k lo hi a b : ℤ) → IsPart (octant_of_turn k) (unsigned_abs (lo -ℤ k *ℤ pos 3242591731706757120))
-    (unsigned_abs (hi -ℤ k *ℤ pos 3242591731706757120)) a b
-    → (k *ℤ pos 3242591731706757120) ≤ℤ lo → lo ≤ℤ hi → hi ≤ℤ (k *ℤ pos 3242591731706757120 +ℤ pos 3242591731706757120)
-    → (w : ℤ) → (pos 6485183463413514240 -ℤ w) ≤ℤ lo → hi ≤ℤ (pos 6485183463413514240 +ℤ w) → w <ℤ pos 3242591731706757120 → IsCrest w a
+pub part_crest : (k lo hi a b : ℤ) → IsPart (octant_of_turn k) (unsigned_abs (lo -ℤ k *ℤ pos OCTANT)) (unsigned_abs (hi -ℤ k *ℤ pos OCTANT)) a b
+    → (k *ℤ pos OCTANT) ≤ℤ lo → lo ≤ℤ hi → hi ≤ℤ (k *ℤ pos OCTANT +ℤ pos OCTANT)
+    → (w : ℤ) → (QUARTER -ℤ w) ≤ℤ lo → hi ≤ℤ (QUARTER +ℤ w) → w <ℤ pos OCTANT → IsCrest w a
 part_crest k lo hi a b p f o t w l u s =
     let h : LiesOver k lo hi a b = record { part = p; from = f; ordered = o; to = t } in
     by_lt_z k (pos 2)
@@ -259,15 +253,13 @@ part_crest k lo hi a b p f o t w l u s =
     (λ m. crest_2 lo hi a b w u (by_octant k (pos 2) lo hi a b (omega (arith, ints, m, u, o, f, s)) h))
 
 -- ---- degrees lie inside one octant alone
-pub begun_elsewhere : (k m lo hi : ℤ) → (m *ℤ pos 3242591731706757120) ≤ℤ lo → lo ≤ℤ (m *ℤ pos 3242591731706757120) → lo ≤ℤ hi → IsInside k lo hi → ⊥
+pub begun_elsewhere : (k m lo hi : ℤ) → (m *ℤ pos OCTANT) ≤ℤ lo → lo ≤ℤ (m *ℤ pos OCTANT) → lo ≤ℤ hi → IsInside k lo hi → ⊥
 begun_elsewhere k m lo hi h l o i = omega (arith, ints, h, l, o, i.above, i.below)
 
-pub ended_elsewhere : (k m lo hi : ℤ) → lo <ℤ (m *ℤ pos 3242591731706757120 +ℤ pos 3242591731706757120)
-    → (m *ℤ pos 3242591731706757120 +ℤ pos 3242591731706757120) ≤ℤ hi → IsInside k lo hi → ⊥
+pub ended_elsewhere : (k m lo hi : ℤ) → lo <ℤ (m *ℤ pos OCTANT +ℤ pos OCTANT) → (m *ℤ pos OCTANT +ℤ pos OCTANT) ≤ℤ hi → IsInside k lo hi → ⊥
 ended_elsewhere k m lo hi h l i = omega (arith, ints, h, l, i.above, i.below)
 
-pub by_inside : (k m lo hi a b : ℤ) → (m *ℤ pos 3242591731706757120) ≤ℤ lo → lo <ℤ (m *ℤ pos 3242591731706757120 +ℤ pos 3242591731706757120) → lo ≤ℤ hi
-    → IsInside k lo hi
-    → IsPart (octant_of_turn m) (unsigned_abs (lo -ℤ m *ℤ pos 3242591731706757120)) (unsigned_abs (hi -ℤ m *ℤ pos 3242591731706757120)) a b
-    → IsPart (octant_of_turn k) (unsigned_abs (lo -ℤ k *ℤ pos 3242591731706757120)) (unsigned_abs (hi -ℤ k *ℤ pos 3242591731706757120)) a b
+pub by_inside : (k m lo hi a b : ℤ) → (m *ℤ pos OCTANT) ≤ℤ lo → lo <ℤ (m *ℤ pos OCTANT +ℤ pos OCTANT) → lo ≤ℤ hi → IsInside k lo hi
+    → IsPart (octant_of_turn m) (unsigned_abs (lo -ℤ m *ℤ pos OCTANT)) (unsigned_abs (hi -ℤ m *ℤ pos OCTANT)) a b
+    → IsPart (octant_of_turn k) (unsigned_abs (lo -ℤ k *ℤ pos OCTANT)) (unsigned_abs (hi -ℤ k *ℤ pos OCTANT)) a b
 by_inside k m lo hi a b h l o i p = let e : k ≡ m = omega (arith, ints, h, l, o, i.above, i.below) in rw e p

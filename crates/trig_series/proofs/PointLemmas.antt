@@ -18,11 +18,14 @@ use Rattle.book_model.proofs.Terms.{IsUpTo, falling}
 use Rattle.book_model.proofs.Pi.{pi_number, pi_proper}
 use Rattle.book_model.proofs.OctantHulls.{radians_proper}
 use Rattle.book_model.proofs.SeriesNesting.{sines, cosines, inside_in}
-use Rattle.trig_series.specs.Kernel.{at_64, in_radians, IsAngle, AreSineEnds, AreCosineEnds}
+use Rattle.rounded_quotients.specs.Units.{at_64}
+use Rattle.interval_ends.specs.declared.parts.TheConstants.{ONE, OCTANT}
+use Rattle.trig_series.specs.Kernel.{in_radians, IsAngle, AreSineEnds, AreCosineEnds}
 use Rattle.trig_series.specs.Points.{IsNearSine, IsNearCosine}
 use Rattle.trig_series.proofs.AngleLemmas.{radians_in_angle, angle_in_radians, cosine_within}
 use Rattle.trig_series.proofs.KernelAngles.{ends_product, product_ends, sine_there, cosine_there, radians_near, angle_between, by_lower}
-use Rattle.trig_series.proofs.KernelSteps.{IsHigh, step_near}
+use Rattle.rounded_quotients.proofs.HighHalves.{IsHigh}
+use Rattle.trig_series.proofs.KernelSteps.{step_near}
 use Rattle.trig_series.proofs.SineChain.{sine_near, low_is as sine_low, high_is as sine_high, nested, flipped, step_at, Keeps, Chain, innermost}
 use Rattle.trig_series.proofs.CosineChain.{Chain as CosineChain, innermost as cosine_innermost, cosine_near, low_is as cosine_low, high_is as cosine_high}
 
@@ -33,8 +36,8 @@ low_end s e lo h = record { cross = omega (arith, ints, h) }
 pub high_end : (s e hi : ℤ) → s ≤ℤ (hi *ℤ pos 256 -ℤ e) → at_64 (s +ℤ e) ≤F units_of_56 hi
 high_end s e hi h = record { cross = omega (arith, ints, h) }
 
-pub ends_hold : (i : Interval) (s : ℕ) (e lo hi : ℤ) → i ⊆ between (at_64 (pos s -ℤ e)) (at_64 (pos s +ℤ e)) → (lo *ℤ pos 256 +ℤ e) ≤ℤ pos s → pos s
-    ≤ℤ (hi *ℤ pos 256 -ℤ e) → i ⊆ between (units_of_56 lo) (units_of_56 hi)
+pub ends_hold : (i : Interval) (s : ℕ) (e lo hi : ℤ) → i ⊆ between (at_64 (pos s -ℤ e)) (at_64 (pos s +ℤ e)) → (lo *ℤ pos 256 +ℤ e) ≤ℤ pos s
+    → pos s ≤ℤ (hi *ℤ pos 256 -ℤ e) → i ⊆ between (units_of_56 lo) (units_of_56 hi)
 ends_hold i s e lo hi h l u = within_trans h (record { ends = (low_end (pos s) e lo l, high_end (pos s) e hi u) })
 
 at_mono : (a b : ℤ) → a ≤ℤ b → at_64 a ≤F at_64 b
@@ -105,17 +108,16 @@ no_square : (x : Fraction) → x ≈ zero_F → times x x ≈ zero_F
 unfolding times
 no_square x e = same_trans (times_cong e (same_refl x)) (record { cross = omega (arith, ints) })
 
-no_step : (r u V : Fraction) → u ≈ zero_F → step_at r u V ≈ units_of_56 (pos 72057594037927936)
+no_step : (r u V : Fraction) → u ≈ zero_F → step_at r u V ≈ units_of_56 ONE
 no_step r u V e =
     same_trans (plus_cong (same_refl (whole (pos 1))) (opposite_cong (times_cong (times_cong e (same_refl r)) (same_refl V))))
     (same_trans (same_by (r ∷ V ∷ []) (lit (pos 1) ⊖ (lit (pos 0) ⊗ at 0) ⊗ at 1) (lit (pos 1)) refl) (record { cross = omega (arith, ints) }))
 
-nested_one : (u s : Fraction) (r : ℕ → Fraction) → u ≈ zero_F → nested u r s 9 ≈ units_of_56 (pos 72057594037927936)
+nested_one : (u s : Fraction) (r : ℕ → Fraction) → u ≈ zero_F → nested u r s 9 ≈ units_of_56 ONE
 unfolding nested
 nested_one u s r e = no_step (r 0) u (nested u (λ k. r (suc k)) s 8) e
 
-pub cosine_zero : (x : Fraction) → x ≈ zero_F → (units_of_56 (pos 72057594037927936) ≤F lower (cosine_term x) 9)
-    × (upper (cosine_term x) 9 ≤F units_of_56 (pos 72057594037927936))
+pub cosine_zero : (x : Fraction) → x ≈ zero_F → (units_of_56 ONE ≤F lower (cosine_term x) 9) × (upper (cosine_term x) 9 ≤F units_of_56 ONE)
 cosine_zero x e =
     let n = λ (s : Fraction). nested_one (times x x) s (λ k. falling (double k)) (no_square x e) in (
       le_trans _ _ _ (ge_of_same (n (flipped (whole (negsuc 1)) 9))) (cosine_low x (zero_up_to x e)),
@@ -136,8 +138,7 @@ sine_none (between x y) p h =
     rw (inside_in zero_F four_fifths x y (record { above = h.ends.0; below = le_trans _ _ _ h.ends.1 zero_fifths }))
     (record { ends = ((sine_zero x z.0).0, (sine_zero y z.1).1) })
 
-cosine_full : (i : Interval) → IsProper i → i ⊆ between zero_F zero_F
-    → cosine_series 9 i ⊆ between (units_of_56 (pos 72057594037927936)) (units_of_56 (pos 72057594037927936))
+cosine_full : (i : Interval) → IsProper i → i ⊆ between zero_F zero_F → cosine_series 9 i ⊆ between (units_of_56 ONE) (units_of_56 ONE)
 unfolding cosine_series
 cosine_full everything p h = absurd h.ends
 cosine_full (between x y) p h =
@@ -155,8 +156,7 @@ sine_of_none n l =
     within_trans (at_least sine_series sines 8 n (omega (arith, l)) p (within_refl (radians n (units_of_56 (pos 0)))))
     (sine_none _ p (radians_zero n (omega (arith, l))))
 
-pub cosine_of_none : (n : ℕ) → 40 ≤ n → cosine_series n (radians n (units_of_56 (pos 0))) ⊆ between (units_of_56 (pos 72057594037927936))
-    (units_of_56 (pos 72057594037927936))
+pub cosine_of_none : (n : ℕ) → 40 ≤ n → cosine_series n (radians n (units_of_56 (pos 0))) ⊆ between (units_of_56 ONE) (units_of_56 ONE)
 cosine_of_none n l =
     let p = radians_proper n (units_of_56 (pos 0)) in
     within_trans (cosine_deeper n (radians n (units_of_56 (pos 0))) (omega (arith, l)) p) (cosine_full _ p (radians_zero n (omega (arith, l))))
@@ -169,7 +169,7 @@ near_none =
     let z = sine_zero (in_radians 0) none_in_radians in
     record { low = le_trans _ _ _ z.1 (record { cross = omega (arith, ints) }); high = le_trans _ _ _ (record { cross = omega (arith, ints) }) z.0 }
 
-pub near_full : IsNearCosine 0 (pos 72057594037927936) (pos 72057594037927936)
+pub near_full : IsNearCosine 0 ONE ONE
 near_full =
     let z = cosine_zero (in_radians 0) none_in_radians in
     record { low = le_trans _ _ _ z.1 (record { cross = omega (arith, ints) }); high = le_trans _ _ _ (record { cross = omega (arith, ints) }) z.0 }
@@ -181,27 +181,34 @@ keeps c w t h p k l C u v z i s n = step_near c w t h C u v p k l z i s n
 high : (h w t : ℕ) → h * 2 ^ 64 ≤ w * t → w * t ≤ h * 2 ^ 64 + 2 ^ 64 → IsHigh h w t
 high h w t p q = record { not_above = p; close = q }
 
-eighth : IsAngle 14488038916154245630 (in_radians 3242591731706757120)
-eighth = angle_between 3242591731706757120 _ 7244019458077122815 _ _ (omega arith) refl refl refl (by_lower 3242591731706757120)
+eighth : IsAngle 14488038916154245630 (in_radians OCTANT)
+eighth = angle_between OCTANT _ 7244019458077122815 _ _ (omega arith) refl refl refl (by_lower OCTANT)
 
 sine_chain : Chain 11378879155978302076 51862 14074536 2953688836 460307848123 50550340485508 3628886277159895 151484387782656051 2981014159346006776
     16607904669535111438
 sine_chain = record {
   k8 = innermost 11378879155978302076;
   k7 = keeps 14106527 11378879155978302076 51862 31991 (high 31991 11378879155978302076 51862 (omega arith) (omega arith)) (omega arith) (omega arith);
-  k6 = keeps 2962370717 11378879155978302076 14074536 8681881 (high 8681881 11378879155978302076 14074536 (omega arith) (omega arith)) (omega arith)
+  k6 =
+      keeps 2962370717 11378879155978302076 14074536 8681881 (high 8681881 11378879155978302076 14074536 (omega arith) (omega arith)) (omega arith)
       (omega arith);
-  k5 = keeps 462129831893 11378879155978302076 2953688836 1821983770 (high 1821983770 11378879155978302076 2953688836 (omega arith) (omega arith)) (omega arith)
+  k5 =
+      keeps 462129831893 11378879155978302076 2953688836 1821983770 (high 1821983770 11378879155978302076 2953688836 (omega arith) (omega arith)) (omega arith)
       (omega arith);
-  k4 = keeps 50834281508238 11378879155978302076 460307848123 283941022730 (high 283941022730 11378879155978302076 460307848123 (omega arith) (omega arith))
+  k4 =
+      keeps 50834281508238 11378879155978302076 460307848123 283941022730 (high 283941022730 11378879155978302076 460307848123 (omega arith) (omega arith))
       (omega arith) (omega arith);
-  k3 = keeps 3660068268593165 11378879155978302076 50550340485508 31181991433270
+  k3 =
+      keeps 3660068268593165 11378879155978302076 50550340485508 31181991433270
       (high 31181991433270 11378879155978302076 50550340485508 (omega arith) (omega arith)) (omega arith) (omega arith);
-  k2 = keeps 153722867280912930 11378879155978302076 3628886277159895 2238479498256879
+  k2 =
+      keeps 153722867280912930 11378879155978302076 3628886277159895 2238479498256879
       (high 2238479498256879 11378879155978302076 3628886277159895 (omega arith) (omega arith)) (omega arith) (omega arith);
-  k1 = keeps 3074457345618258602 11378879155978302076 151484387782656051 93443186272251826
+  k1 =
+      keeps 3074457345618258602 11378879155978302076 151484387782656051 93443186272251826
       (high 93443186272251826 11378879155978302076 151484387782656051 (omega arith) (omega arith)) (omega arith) (omega arith);
-  k0 = keeps 18446744073709551615 11378879155978302076 2981014159346006776 1838839404174440177
+  k0 =
+      keeps 18446744073709551615 11378879155978302076 2981014159346006776 1838839404174440177
       (high 1838839404174440177 11378879155978302076 2981014159346006776 (omega arith) (omega arith)) (omega arith) (omega arith);
 }
 
@@ -211,19 +218,26 @@ cosine_chain = record {
   k9 = cosine_innermost 11378879155978302076;
   k8 = keeps 881657 11378879155978302076 2881 1777 (high 1777 11378879155978302076 2881 (omega arith) (omega arith)) (omega arith) (omega arith);
   k7 = keeps 211597908 11378879155978302076 879880 542754 (high 542754 11378879155978302076 879880 (omega arith) (omega arith)) (omega arith) (omega arith);
-  k6 = keeps 38510819324 11378879155978302076 211055154 130189429 (high 130189429 11378879155978302076 211055154 (omega arith) (omega arith)) (omega arith)
+  k6 =
+      keeps 38510819324 11378879155978302076 211055154 130189429 (high 130189429 11378879155978302076 211055154 (omega arith) (omega arith)) (omega arith)
       (omega arith);
-  k5 = keeps 5083428150823 11378879155978302076 38380629895 23675102108 (high 23675102108 11378879155978302076 38380629895 (omega arith) (omega arith))
+  k5 =
+      keeps 5083428150823 11378879155978302076 38380629895 23675102108 (high 23675102108 11378879155978302076 38380629895 (omega arith) (omega arith))
       (omega arith) (omega arith);
-  k4 = keeps 457508533574145 11378879155978302076 5059753048715 3121110059876
-      (high 3121110059876 11378879155978302076 5059753048715 (omega arith) (omega arith)) (omega arith) (omega arith);
-  k3 = keeps 25620477880152155 11378879155978302076 454387423514269 280289007182255
+  k4 =
+      keeps 457508533574145 11378879155978302076 5059753048715 3121110059876 (high 3121110059876 11378879155978302076 5059753048715 (omega arith) (omega arith))
+      (omega arith) (omega arith);
+  k3 =
+      keeps 25620477880152155 11378879155978302076 454387423514269 280289007182255
       (high 280289007182255 11378879155978302076 454387423514269 (omega arith) (omega arith)) (omega arith) (omega arith);
-  k2 = keeps 768614336404564650 11378879155978302076 25340188872969900 15631102476568707
+  k2 =
+      keeps 768614336404564650 11378879155978302076 25340188872969900 15631102476568707
       (high 15631102476568707 11378879155978302076 25340188872969900 (omega arith) (omega arith)) (omega arith) (omega arith);
-  k1 = keeps 9223372036854775808 11378879155978302076 752983233927995943 464477914970140422
+  k1 =
+      keeps 9223372036854775808 11378879155978302076 752983233927995943 464477914970140422
       (high 464477914970140422 11378879155978302076 752983233927995943 (omega arith) (omega arith)) (omega arith) (omega arith);
-  k0 = keeps 18446744073709551615 11378879155978302076 8758894121884635386 5402926248376769365
+  k0 =
+      keeps 18446744073709551615 11378879155978302076 8758894121884635386 5402926248376769365
       (high 5402926248376769365 11378879155978302076 8758894121884635386 (omega arith) (omega arith)) (omega arith) (omega arith);
 }
 
@@ -235,32 +249,32 @@ sine_eighth n x l i =
     (high 13043817825332782175 14488038916154245630 16607904669535111438 (omega arith) (omega arith)) i sine_chain
 
 cosine_eighth : (n : ℕ) (x : Fraction) → 9 ≤ n → IsAngle 14488038916154245630 x → AreCosineEnds x 13043817825332782250 n
-cosine_eighth n x l i = cosine_near n 14488038916154245630 11378879155978302076 2881 879880 211055154 38380629895 5059753048715 454387423514269
-    25340188872969900 752983233927995943 8758894121884635386 13043817825332782250 x l (omega arith)
+cosine_eighth n x l i =
+    cosine_near n 14488038916154245630 11378879155978302076 2881 879880 211055154 38380629895 5059753048715 454387423514269 25340188872969900 752983233927995943
+    8758894121884635386 13043817825332782250 x l (omega arith)
     (high 11378879155978302076 14488038916154245630 14488038916154245630 (omega arith) (omega arith)) i cosine_chain
 
-eighth_radians : (n : ℕ) → 40 ≤ n → radians n (units_of_56 (pos 3242591731706757120)) ⊆ between (at_64 (pos 14488038916154245630))
+eighth_radians : (n : ℕ) → 40 ≤ n → radians n (units_of_56 (pos OCTANT)) ⊆ between (at_64 (pos 14488038916154245630))
     (at_64 (pos 14488038916154245630 +ℤ pos 68))
-eighth_radians n l = radians_near n 3242591731706757120 7244019458077122815 (omega (arith, l)) (omega arith) (omega arith) (omega arith)
+eighth_radians n l = radians_near n OCTANT 7244019458077122815 (omega (arith, l)) (omega arith) (omega arith) (omega arith)
 
-pub sine_of_eighth : (n : ℕ) → 40 ≤ n → sine_series n (radians n (units_of_56 (pos 3242591731706757120))) ⊆ between (units_of_56 (pos 50952413380206178))
+pub sine_of_eighth : (n : ℕ) → 40 ≤ n → sine_series n (radians n (units_of_56 (pos OCTANT))) ⊆ between (units_of_56 (pos 50952413380206178))
     (units_of_56 (pos 50952413380206182))
 sine_of_eighth n l =
-    ends_hold _ 13043817825332782175 (pos 384) _ _ (sine_there n 3242591731706757120 14488038916154245630 13043817825332782175 (omega (arith, l)) (omega arith)
+    ends_hold _ 13043817825332782175 (pos 384) _ _ (sine_there n OCTANT 14488038916154245630 13043817825332782175 (omega (arith, l)) (omega arith)
     (eighth_radians n l) (λ x m i. sine_eighth n x m i)) (omega (arith, ints)) (omega (arith, ints))
 
-pub cosine_of_eighth : (n : ℕ) → 40 ≤ n → cosine_series n (radians n (units_of_56 (pos 3242591731706757120))) ⊆ between (units_of_56 (pos 50952413380206178))
-    (units_of_56 (pos 50952413380206182))
+pub cosine_of_eighth : (n : ℕ) → 40 ≤ n
+    → cosine_series n (radians n (units_of_56 (pos OCTANT))) ⊆ between (units_of_56 (pos 50952413380206178)) (units_of_56 (pos 50952413380206182))
 cosine_of_eighth n l =
-    ends_hold _ 13043817825332782250 (pos 320) _ _ (cosine_there n 3242591731706757120 14488038916154245630 13043817825332782250 (omega (arith, l))
-    (omega arith) (eighth_radians n l) (λ x m i. cosine_eighth n x m i)) (omega (arith, ints)) (omega (arith, ints))
+    ends_hold _ 13043817825332782250 (pos 320) _ _ (cosine_there n OCTANT 14488038916154245630 13043817825332782250 (omega (arith, l)) (omega arith)
+    (eighth_radians n l) (λ x m i. cosine_eighth n x m i)) (omega (arith, ints)) (omega (arith, ints))
 
-pub near_sine_eighth : IsNearSine 3242591731706757120 (pos 50952413380206178) (pos 50952413380206182)
-near_sine_eighth = sine_close 3242591731706757120 13043817825332782175 _ _ (sine_eighth 8 _ (omega arith) eighth) (omega (arith, ints)) (omega (arith, ints))
+pub near_sine_eighth : IsNearSine OCTANT (pos 50952413380206178) (pos 50952413380206182)
+near_sine_eighth = sine_close OCTANT 13043817825332782175 _ _ (sine_eighth 8 _ (omega arith) eighth) (omega (arith, ints)) (omega (arith, ints))
 
-pub near_cosine_eighth : IsNearCosine 3242591731706757120 (pos 50952413380206178) (pos 50952413380206182)
-near_cosine_eighth = cosine_close 3242591731706757120 13043817825332782250 _ _ (cosine_eighth 9 _ (omega arith) eighth) (omega (arith, ints))
-    (omega (arith, ints))
+pub near_cosine_eighth : IsNearCosine OCTANT (pos 50952413380206178) (pos 50952413380206182)
+near_cosine_eighth = cosine_close OCTANT 13043817825332782250 _ _ (cosine_eighth 9 _ (omega arith) eighth) (omega (arith, ints)) (omega (arith, ints))
 
 -- ---- what the points' functions promise
 pub sine_around : (d s : ℕ) (lo hi : ℤ) (n : ℕ) (y : Fraction)

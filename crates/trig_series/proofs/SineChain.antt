@@ -11,8 +11,10 @@ use Rattle.exact_math.proofs.Alternating.{lower_is_beneath, upper_is_atop, sums_
 use Rattle.exact_math.proofs.Horner.{beneath_is, atop_is}
 use Rattle.book_model.specs.numbers.Series.{sine_term}
 use Rattle.book_model.proofs.Terms.{IsUpTo, square_nonneg, falling, sine_index, sine_step, sine_first, sine_halving}
-use Rattle.trig_series.proofs.KernelSteps.{IsHigh, step_near, square_near, product_above, product_below, angle_fifths}
-use Rattle.trig_series.specs.Kernel.{IsWithinUnits, IsCut, IsAngle, IsSquare, AreSineEnds}
+use Rattle.rounded_quotients.proofs.HighHalves.{IsHigh}
+use Rattle.trig_series.proofs.KernelSteps.{step_near, square_near, product_above, product_below, angle_fifths}
+use Rattle.rounded_quotients.specs.Units.{IsWithinUnits}
+use Rattle.trig_series.specs.Kernel.{IsCut, IsAngle, IsSquare, AreSineEnds}
 
 -- 1 - u r s
 abbrev pub step_at : Fraction → Fraction → Fraction → Fraction
@@ -54,8 +56,8 @@ inner_nested (suc n) e u r =
     plus_cong (same_refl (whole (pos 1))) (opposite_cong (times_cong (same_refl (times u (r 0))) (inner_nested n (opposite e) u (λ k. r (suc k)))))
 
 -- the sine's ends at depth 8 are the angle times what the chain gives
-pub sine_ends : (e x : Fraction) → times (sine_term x 0) (inner e (times x x) (λ k. falling (sine_index k)) 8) ≈ times x
-    (nested (times x x) (λ k. falling (sine_index k)) (flipped e 8) 8)
+pub sine_ends : (e x : Fraction)
+    → times (sine_term x 0) (inner e (times x x) (λ k. falling (sine_index k)) 8) ≈ times x (nested (times x x) (λ k. falling (sine_index k)) (flipped e 8) 8)
 sine_ends e x = times_cong (sine_first x) (inner_nested 8 e (times x x) (λ k. falling (sine_index k)))
 
 -- ---- the sine's coefficients in 64 bits
@@ -114,8 +116,9 @@ start_high = record { above = record { cross = record { le = tt } }; below = rec
 pub innermost : (w : ℕ) → Keeps 51862 w 0 51862
 innermost w C u v z i s n = step_near 51862 w 0 0 C u v (record { not_above = omega arith; close = omega arith }) (omega arith) (omega arith) z i s n
 
-nested_is : (u s : Fraction) → step_at (ratio 0) u (step_at (ratio 1) u
-    (step_at (ratio 2) u (step_at (ratio 3) u (step_at (ratio 4) u (step_at (ratio 5) u (step_at (ratio 6) u (step_at (ratio 7) u (step_at (ratio 8) u s))))))))
+nested_is : (u s : Fraction)
+    → step_at (ratio 0) u (step_at (ratio 1) u (step_at (ratio 2) u
+    (step_at (ratio 3) u (step_at (ratio 4) u (step_at (ratio 5) u (step_at (ratio 6) u (step_at (ratio 7) u (step_at (ratio 8) u s))))))))
     ≡ nested u ratio s 8
 unfolding nested
 nested_is u s = refl
@@ -183,8 +186,8 @@ deeper (suc k) x s h a =
 pub ends_from : (n : ℕ) (x : Fraction) (s : ℕ) → 8 ≤ n → IsUpTo 4 5 x → AreSineEnds x s 8 → AreSineEnds x s n
 ends_from n x s l h a = let e : n ≡ (n - 8) + 8 = omega (arith, l) in rw e (deeper (n - 8) x s h a)
 
-pub sine_near : (n angle w i h g f e d c b a s : ℕ) (x : Fraction) → 8 ≤ n → angle ≤ 14757395258967641292 → a ≤ 2 ^ 64 → IsHigh w angle angle → IsHigh s angle a
-    → IsAngle angle x
+pub sine_near : (n angle w i h g f e d c b a s : ℕ) (x : Fraction) → 8 ≤ n → angle ≤ 14757395258967641292 → a ≤ 2 ^ 64 → IsHigh w angle angle
+    → IsHigh s angle a → IsAngle angle x
     → Chain w i h g f e d c b a → AreSineEnds x s n
 sine_near n angle w i h g f e d c b a s x l small top p q t k =
     let u = angle_fifths angle x t in

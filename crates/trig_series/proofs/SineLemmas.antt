@@ -1,5 +1,6 @@
 -- Sine, cosine and tangent as operations of enclosures.
-use Rattle.std.proofs.Common.{◌≡◌, ℕ, zero, suc, ◌+◌, ◌*◌, ◌-◌, ◌^◌, ◌≤◌, ◌<◌, unsigned_abs, [], ◌∷◌, refl, sym, arith, Bool, true, false, cond, neg_ℤ, ℤ, pos, ◌+ℤ◌, ◌-ℤ◌, ◌*ℤ◌, ◌≤ℤ◌, ◌<ℤ◌, ◌⊎◌, inl, inr}
+use Rattle.std.proofs.Common.{◌≡◌, ℕ, zero, suc, ◌+◌, ◌*◌, ◌-◌, ◌^◌, ◌≤◌, ◌<◌, unsigned_abs, [], ◌∷◌, refl, sym, arith, Bool, true, false, cond, neg_ℤ, ℤ}
+use Rattle.std.proofs.Common.{pos, ◌+ℤ◌, ◌-ℤ◌, ◌*ℤ◌, ◌≤ℤ◌, ◌<ℤ◌, ◌⊎◌, inl, inr}
 use Rattle.std.specs.Prelude.{nat_lt, ◌&&◌}
 use Rattle.std.specs.Int.{int_max, int_min}
 use Rattle.std.proofs.lemmas.Int.{ints, clamps, by_lt_z}
@@ -12,7 +13,9 @@ use Rattle.exact_math.specs.Fraction.{Fraction, ◌≤F◌, whole, plus}
 use Rattle.exact_math.specs.Interval.{Interval, everything, between, IsProper, ◌⊆◌, sum, one, minus_one}
 use Rattle.exact_math.proofs.Fractions.{le_trans, le_refl, plus_mono}
 use Rattle.exact_math.proofs.Intervals.{within_trans, within_refl, sum_within, plus_proper}
-use Rattle.book_model.specs.numbers.Bounds.{Bound, unbounded, bounded, Limits, Reach, Spans, IsNarrow, bound_of, limited, range_size, ceil_div, eighth_turn, Extent, opposites, sine_from, sine_to, cosine_from, octant_extent, octant_at, lie_inside, inside_extent, sine_near_none, cosine_near_none, quarter_later, sine_spans, cosine_spans, spanned_bound}
+use Rattle.book_model.specs.numbers.Bounds.{Bound, unbounded, bounded, Limits, Reach, Spans, IsNarrow, bound_of, limited, range_size, ceil_div, eighth_turn}
+use Rattle.book_model.specs.numbers.Bounds.{Extent, opposites, sine_from, sine_to, cosine_from, octant_extent, octant_at, lie_inside, inside_extent}
+use Rattle.book_model.specs.numbers.Bounds.{sine_near_none, cosine_near_none, quarter_later, sine_spans, cosine_spans, spanned_bound}
 use Rattle.book_model.specs.numbers.Expressions.{Expression, World, value, divide, sine, cosine, tangent}
 use Rattle.book_model.specs.programs.Leading.{units_of_56}
 use Rattle.book_model.specs.numbers.Octants.{only, octant_of_turn, sine_of_degrees, cosine_of_degrees, tangent_of_degrees}
@@ -20,131 +23,121 @@ use Rattle.book_model.specs.numbers.Relations.{Within, Lies, Narrow, Keeps}
 use Rattle.book_model.proofs.Values.{value_proper}
 use Rattle.book_model.proofs.OctantHulls.{all_sines}
 use Rattle.book_model.proofs.DegreeSines.{degree_sines, sine_inside}
+use Rattle.interval_ends.specs.declared.parts.TheConstants.{ONE, OCTANT, QUARTER, TURN}
 use Rattle.trig_series.specs.Points.{IsAround, IsRising, IsCrest, IsPart, IsInside, IsNarrowSine, IsNarrowCosine}
 use Rattle.trig_series.proofs.OctantLemmas.{order_at, by_max, by_min}
 
 -- ---- whatever a sine may be
-all_inside : (lo hi : ℤ) → lo ≡ neg_ℤ (pos 72057594037927936) → hi ≡ pos 72057594037927936 → all_sines ⊆ between (units_of_56 lo) (units_of_56 hi)
+all_inside : (lo hi : ℤ) → lo ≡ neg_ℤ ONE → hi ≡ ONE → all_sines ⊆ between (units_of_56 lo) (units_of_56 hi)
 all_inside lo hi e f = rw (e, f) (record { ends = (record { cross = omega (arith, ints) }, record { cross = omega (arith, ints) }) })
 
-pub all_hold : (n : ℕ) (i : Interval) (lo hi : ℤ) → IsProper i → lo ≡ neg_ℤ (pos 72057594037927936) → hi ≡ pos 72057594037927936
-    → sine_of_degrees n i ⊆ between (units_of_56 lo) (units_of_56 hi)
+pub all_hold : (n : ℕ) (i : Interval) (lo hi : ℤ) → IsProper i → lo ≡ neg_ℤ ONE → hi ≡ ONE → sine_of_degrees n i ⊆ between (units_of_56 lo) (units_of_56 hi)
 all_hold n i lo hi p e f = within_trans (sine_inside n i p) (all_inside lo hi e f)
 
 pub quarter_proper : (i : Interval) → IsProper i → IsProper (sum i (only (whole (pos 90))))
 quarter_proper i p = plus_proper i (only (whole (pos 90))) p (le_refl (whole (pos 90)))
 
-pub all_cosines_hold : (n : ℕ) (i : Interval) (lo hi : ℤ) → IsProper i → lo ≡ neg_ℤ (pos 72057594037927936) → hi ≡ pos 72057594037927936
+pub all_cosines_hold : (n : ℕ) (i : Interval) (lo hi : ℤ) → IsProper i → lo ≡ neg_ℤ ONE → hi ≡ ONE
     → cosine_of_degrees n i ⊆ between (units_of_56 lo) (units_of_56 hi)
 unfolding cosine_of_degrees
 all_cosines_hold n i lo hi p e f = all_hold n (sum i (only (whole (pos 90)))) lo hi (quarter_proper i p) e f
 
 -- ---- a sine, cut to -1..1
-low_cut : (a : Fraction) (lo p q : ℤ) → p ≡ int_max lo (neg_ℤ (pos 72057594037927936)) → q ≡ int_min p (pos 72057594037927936) → units_of_56 lo ≤F a
-    → minus_one ≤F a → a ≤F one → units_of_56 q ≤F a
+low_cut : (a : Fraction) (lo p q : ℤ) → p ≡ int_max lo (neg_ℤ ONE) → q ≡ int_min p ONE → units_of_56 lo ≤F a → minus_one ≤F a → a ≤F one → units_of_56 q ≤F a
 low_cut a lo p q e f h m u =
-    let n : units_of_56 (neg_ℤ (pos 72057594037927936)) ≤F a = le_trans _ minus_one a (record { cross = omega (arith, ints) }) m in
-    le_trans _ (units_of_56 p) a (order_at q p (omega (arith, ints, clamps, f))) (by_max lo (neg_ℤ (pos 72057594037927936)) p (λ z. units_of_56 z ≤F a) e h n)
+    let n : units_of_56 (neg_ℤ ONE) ≤F a = le_trans _ minus_one a (record { cross = omega (arith, ints) }) m in
+    le_trans _ (units_of_56 p) a (order_at q p (omega (arith, ints, clamps, f))) (by_max lo (neg_ℤ ONE) p (λ z. units_of_56 z ≤F a) e h n)
 
-high_cut : (a : Fraction) (hi p q : ℤ) → p ≡ int_max hi (neg_ℤ (pos 72057594037927936)) → q ≡ int_min p (pos 72057594037927936) → a ≤F units_of_56 hi → a ≤F one
-    → a ≤F units_of_56 q
+high_cut : (a : Fraction) (hi p q : ℤ) → p ≡ int_max hi (neg_ℤ ONE) → q ≡ int_min p ONE → a ≤F units_of_56 hi → a ≤F one → a ≤F units_of_56 q
 high_cut a hi p q e f h u =
-    by_min p (pos 72057594037927936) q (λ z. a ≤F units_of_56 z) f
-    (le_trans a (units_of_56 hi) (units_of_56 p) h (order_at hi p (omega (arith, ints, clamps, e))))
+    by_min p ONE q (λ z. a ≤F units_of_56 z) f (le_trans a (units_of_56 hi) (units_of_56 p) h (order_at hi p (omega (arith, ints, clamps, e))))
     (le_trans a one _ u (record { cross = omega (arith, ints) }))
 
-within_cut : (i : Interval) (lo hi p q p' q' : ℤ) → IsProper i → i ⊆ all_sines → i ⊆ between (units_of_56 lo) (units_of_56 hi) → p
-    ≡ int_max lo (neg_ℤ (pos 72057594037927936)) → q ≡ int_min p (pos 72057594037927936)
-    → p' ≡ int_max hi (neg_ℤ (pos 72057594037927936)) → q' ≡ int_min p' (pos 72057594037927936) → i ⊆ between (units_of_56 q) (units_of_56 q')
+within_cut : (i : Interval) (lo hi p q p' q' : ℤ) → IsProper i → i ⊆ all_sines → i ⊆ between (units_of_56 lo) (units_of_56 hi) → p ≡ int_max lo (neg_ℤ ONE)
+    → q ≡ int_min p ONE
+    → p' ≡ int_max hi (neg_ℤ ONE) → q' ≡ int_min p' ONE → i ⊆ between (units_of_56 q) (units_of_56 q')
 within_cut everything lo hi p q p' q' n h k e f e' f' = absurd h.ends
 within_cut (between a b) lo hi p q p' q' n h k e f e' f' = record {
   ends = (low_cut a lo p q e f k.ends.0 h.ends.0 (le_trans a b one n h.ends.1), high_cut b hi p' q' e' f' k.ends.1 h.ends.1);
 }
 
 pub cut_holds : (n : ℕ) (i : Interval) (lo hi p q p' q' : ℤ) → IsProper i → sine_of_degrees n i ⊆ between (units_of_56 lo) (units_of_56 hi) → p
-    ≡ int_max lo (neg_ℤ (pos 72057594037927936)) → q ≡ int_min p (pos 72057594037927936)
-    → p' ≡ int_max hi (neg_ℤ (pos 72057594037927936)) → q' ≡ int_min p' (pos 72057594037927936) → sine_of_degrees n i ⊆ between (units_of_56 q) (units_of_56 q')
+    ≡ int_max lo (neg_ℤ ONE)
+    → q ≡ int_min p ONE
+    → p' ≡ int_max hi (neg_ℤ ONE) → q' ≡ int_min p' ONE → sine_of_degrees n i ⊆ between (units_of_56 q) (units_of_56 q')
 cut_holds n i lo hi p q p' q' r h e f e' f' = within_cut (sine_of_degrees n i) lo hi p q p' q' (degree_sines.proper n i r) (sine_inside n i r) h e f e' f'
 
-cut_around_none : (w lo hi p q p' q' : ℤ) → pos 0 ≤ℤ w → p ≡ int_max lo (neg_ℤ (pos 72057594037927936)) → q ≡ int_min p (pos 72057594037927936) → p'
-    ≡ int_max hi (neg_ℤ (pos 72057594037927936)) → q' ≡ int_min p' (pos 72057594037927936)
+cut_around_none : (w lo hi p q p' q' : ℤ) → pos 0 ≤ℤ w → p ≡ int_max lo (neg_ℤ ONE) → q ≡ int_min p ONE → p' ≡ int_max hi (neg_ℤ ONE) → q' ≡ int_min p' ONE
     → IsAround (pos 0) w lo hi → IsAround (pos 0) w q q'
-cut_around_none w lo hi p q p' q' z e f e' f' h = record {
-  up = omega (arith, ints, clamps, z, e', f', h.up);
-  down = omega (arith, ints, clamps, z, e, f, h.down);
-}
+cut_around_none w lo hi p q p' q' z e f e' f' h =
+    record { up = omega (arith, ints, clamps, z, e', f', h.up); down = omega (arith, ints, clamps, z, e, f, h.down) }
 
 -- what is cut to -1..1 lies no further out, or at an end
 record AreCut (lo hi q q' : ℤ) : Type 0 where
-  low : (lo ≤ℤ q) ⊎ (q ≡ pos 72057594037927936)
-  high : (q' ≤ℤ hi) ⊎ (q' ≡ neg_ℤ (pos 72057594037927936))
+  low : (lo ≤ℤ q) ⊎ (q ≡ ONE)
+  high : (q' ≤ℤ hi) ⊎ (q' ≡ neg_ℤ ONE)
 
-cut_of : (lo hi p q p' q' : ℤ) → p ≡ int_max lo (neg_ℤ (pos 72057594037927936)) → q ≡ int_min p (pos 72057594037927936) → p'
-    ≡ int_max hi (neg_ℤ (pos 72057594037927936)) → q' ≡ int_min p' (pos 72057594037927936) → AreCut lo hi q q'
+cut_of : (lo hi p q p' q' : ℤ) → p ≡ int_max lo (neg_ℤ ONE) → q ≡ int_min p ONE → p' ≡ int_max hi (neg_ℤ ONE) → q' ≡ int_min p' ONE → AreCut lo hi q q'
 cut_of lo hi p q p' q' e f e' f' = record {
-  low = by_lt_z lo (pos 72057594037927936) (λ l. inl (omega (arith, ints, clamps, e, f, l))) (λ l. inr (omega (arith, ints, clamps, e, f, l)));
-  high = by_lt_z (neg_ℤ (pos 72057594037927936)) hi (λ l. inl (omega (arith, ints, clamps, e', f', l))) (λ l. inr (omega (arith, ints, clamps, e', f', l)));
+  low = by_lt_z lo ONE (λ l. inl (omega (arith, ints, clamps, e, f, l))) (λ l. inr (omega (arith, ints, clamps, e, f, l)));
+  high = by_lt_z (neg_ℤ ONE) hi (λ l. inl (omega (arith, ints, clamps, e', f', l))) (λ l. inr (omega (arith, ints, clamps, e', f', l)));
 }
 
 cut_crest : (w lo hi q q' : ℤ) → AreCut lo hi q q' → IsCrest w lo → IsCrest w q
 cut_crest w lo hi q q' c h = by_low c.low
   where
-    by_low : (lo ≤ℤ q) ⊎ (q ≡ pos 72057594037927936) → IsCrest w q
+    by_low : (lo ≤ℤ q) ⊎ (q ≡ ONE) → IsCrest w q
     by_low (inl l) = record { down = omega (arith, ints, l, h.down) }
     by_low (inr e) = let n = square_nonneg w in record { down = omega (arith, ints, e, n) }
 
-cut_rising : (f t : ℕ) (lo hi q q' : ℤ) → f ≤ 3242591731706757120 → AreCut lo hi q q' → IsRising (pos f) (pos t) lo hi → IsRising (pos f) (pos t) q q'
+cut_rising : (f t : ℕ) (lo hi q q' : ℤ) → f ≤ OCTANT → AreCut lo hi q q' → IsRising (pos f) (pos t) lo hi → IsRising (pos f) (pos t) q q'
 cut_rising f t lo hi q q' u c h = record { up = by_high c.high; down = by_low c.low }
   where
-    by_high : (q' ≤ℤ hi) ⊎ (q' ≡ neg_ℤ (pos 72057594037927936)) → (pos 57 *ℤ q') ≤ℤ (pos t +ℤ pos 513)
+    by_high : (q' ≤ℤ hi) ⊎ (q' ≡ neg_ℤ ONE) → (pos 57 *ℤ q') ≤ℤ (pos t +ℤ pos 513)
     by_high (inl l) = omega (arith, ints, l, h.up)
     by_high (inr e) = omega (arith, ints, e)
 
-    by_low : (lo ≤ℤ q) ⊎ (q ≡ pos 72057594037927936) → (pos 20 *ℤ pos f) ≤ℤ (pos 1279 *ℤ (q +ℤ pos 5))
+    by_low : (lo ≤ℤ q) ⊎ (q ≡ ONE) → (pos 20 *ℤ pos f) ≤ℤ (pos 1279 *ℤ (q +ℤ pos 5))
     by_low (inl l) = omega (arith, ints, l, h.down)
     by_low (inr e) = omega (arith, ints, e, u)
 
 turned_cut : (lo hi q q' : ℤ) → AreCut lo hi q q' → AreCut (neg_ℤ hi) (neg_ℤ lo) (neg_ℤ q') (neg_ℤ q)
 turned_cut lo hi q q' c = record { low = by_high c.high; high = by_low c.low }
   where
-    by_high : (q' ≤ℤ hi) ⊎ (q' ≡ neg_ℤ (pos 72057594037927936)) → (neg_ℤ hi ≤ℤ neg_ℤ q') ⊎ (neg_ℤ q' ≡ pos 72057594037927936)
+    by_high : (q' ≤ℤ hi) ⊎ (q' ≡ neg_ℤ ONE) → (neg_ℤ hi ≤ℤ neg_ℤ q') ⊎ (neg_ℤ q' ≡ ONE)
     by_high (inl l) = inl (omega (arith, ints, l))
     by_high (inr e) = inr (omega (arith, ints, e))
 
-    by_low : (lo ≤ℤ q) ⊎ (q ≡ pos 72057594037927936) → (neg_ℤ q ≤ℤ neg_ℤ lo) ⊎ (neg_ℤ q ≡ neg_ℤ (pos 72057594037927936))
+    by_low : (lo ≤ℤ q) ⊎ (q ≡ ONE) → (neg_ℤ q ≤ℤ neg_ℤ lo) ⊎ (neg_ℤ q ≡ neg_ℤ ONE)
     by_low (inl l) = inl (omega (arith, ints, l))
     by_low (inr e) = inr (omega (arith, ints, e))
 
-cut_part : (j f t : ℕ) (lo hi q q' : ℤ) → f ≤ 3242591731706757120 → AreCut lo hi q q' → IsPart j f t lo hi → IsPart j f t q q'
+cut_part : (j f t : ℕ) (lo hi q q' : ℤ) → f ≤ OCTANT → AreCut lo hi q q' → IsPart j f t lo hi → IsPart j f t q q'
 unfolding IsPart
 cut_part zero f t lo hi q q' u c h = cut_rising f t lo hi q q' u c h
 cut_part (suc zero) f t lo hi q q' u c h = cut_crest _ lo hi q q' c h
 cut_part (suc (suc zero)) f t lo hi q q' u c h = cut_crest _ lo hi q q' c h
-cut_part (suc (suc (suc zero))) f t lo hi q q' u c h = cut_rising (3242591731706757120 - t) (3242591731706757120 - f) lo hi q q' (omega arith) c h
+cut_part (suc (suc (suc zero))) f t lo hi q q' u c h = cut_rising (OCTANT - t) (OCTANT - f) lo hi q q' (omega arith) c h
 cut_part (suc (suc (suc (suc j)))) f t lo hi q q' u c h = cut_part j f t _ _ _ _ u (turned_cut lo hi q q' c) h
 
-cut_apart : (v lo hi p q p' q' : ℤ) → pos 0 ≤ℤ v → (pos 57 *ℤ (hi -ℤ lo)) ≤ℤ v → p ≡ int_max lo (neg_ℤ (pos 72057594037927936)) → q
-    ≡ int_min p (pos 72057594037927936) → p' ≡ int_max hi (neg_ℤ (pos 72057594037927936))
-    → q' ≡ int_min p' (pos 72057594037927936) → (pos 57 *ℤ (q' -ℤ q)) ≤ℤ v
+cut_apart : (v lo hi p q p' q' : ℤ) → pos 0 ≤ℤ v → (pos 57 *ℤ (hi -ℤ lo)) ≤ℤ v → p ≡ int_max lo (neg_ℤ ONE) → q ≡ int_min p ONE → p' ≡ int_max hi (neg_ℤ ONE)
+    → q' ≡ int_min p' ONE → (pos 57 *ℤ (q' -ℤ q)) ≤ℤ v
 cut_apart v lo hi p q p' q' z h e f e' f' = omega (arith, ints, clamps, z, h, e, f, e', f')
 
 -- what three octants allow is more than the sine has
-many : (from to q q' : ℤ) → pos 9727775195120271360 ≤ℤ (to -ℤ from) → neg_ℤ (pos 72057594037927936) ≤ℤ q → q' ≤ℤ pos 72057594037927936 → (pos 57 *ℤ (q' -ℤ q))
-    ≤ℤ ((to -ℤ from) +ℤ pos 2052)
+many : (from to q q' : ℤ) → pos 9727775195120271360 ≤ℤ (to -ℤ from) → neg_ℤ ONE ≤ℤ q → q' ≤ℤ ONE → (pos 57 *ℤ (q' -ℤ q)) ≤ℤ ((to -ℤ from) +ℤ pos 2052)
 many from to q q' h l u = omega (arith, ints, h, l, u)
 
-pub cut_narrow : (from to lo hi p q p' q' : ℤ) → from ≤ℤ to → p ≡ int_max lo (neg_ℤ (pos 72057594037927936)) → q ≡ int_min p (pos 72057594037927936) → p'
-    ≡ int_max hi (neg_ℤ (pos 72057594037927936)) → q' ≡ int_min p' (pos 72057594037927936)
+pub cut_narrow : (from to lo hi p q p' q' : ℤ) → from ≤ℤ to → p ≡ int_max lo (neg_ℤ ONE) → q ≡ int_min p ONE → p' ≡ int_max hi (neg_ℤ ONE) → q' ≡ int_min p' ONE
     → (pos 9727775195120271360 ≤ℤ (to -ℤ from)) ⊎ ((pos 57 *ℤ (hi -ℤ lo)) ≤ℤ ((to -ℤ from) +ℤ pos 2052))
-    → ((a : ℤ) → neg_ℤ a ≤ℤ from → to ≤ℤ a → a <ℤ pos 3242591731706757120 → IsAround (pos 0) a lo hi)
-    → ((a : ℤ) → (pos 6485183463413514240 -ℤ a) ≤ℤ from → to ≤ℤ (pos 6485183463413514240 +ℤ a) → a <ℤ pos 3242591731706757120 → IsCrest a lo)
-    → ((k : ℤ) → IsInside k from to → IsPart (octant_of_turn k) (unsigned_abs (from -ℤ k *ℤ pos 3242591731706757120))
-    (unsigned_abs (to -ℤ k *ℤ pos 3242591731706757120)) lo hi)
+    → ((a : ℤ) → neg_ℤ a ≤ℤ from → to ≤ℤ a → a <ℤ pos OCTANT → IsAround (pos 0) a lo hi)
+    → ((a : ℤ) → (QUARTER -ℤ a) ≤ℤ from → to ≤ℤ (QUARTER +ℤ a) → a <ℤ pos OCTANT → IsCrest a lo)
+    → ((k : ℤ) → IsInside k from to → IsPart (octant_of_turn k) (unsigned_abs (from -ℤ k *ℤ pos OCTANT)) (unsigned_abs (to -ℤ k *ℤ pos OCTANT)) lo hi)
     → IsNarrowSine from to q q'
 cut_narrow from to lo hi p q p' q' o e f e' f' n s c i =
     let g = cut_of lo hi p q p' q' e f e' f' in
-    let l : neg_ℤ (pos 72057594037927936) ≤ℤ q = omega (arith, ints, clamps, e, f) in
-    let u : q' ≤ℤ pos 72057594037927936 = omega (arith, ints, clamps, e', f') in
+    let l : neg_ℤ ONE ≤ℤ q = omega (arith, ints, clamps, e, f) in
+    let u : q' ≤ℤ ONE = omega (arith, ints, clamps, e', f') in
     record {
       above = l;
       below = u;
@@ -155,8 +148,7 @@ cut_narrow from to lo hi p q p' q' o e f e' f' n s c i =
     }
 
 -- ---- ends that are far from 0 or far apart
-pub apart_sine : (from to lo hi : ℤ) → pos 25940733853654056960 ≤ℤ (to -ℤ from) → lo ≡ neg_ℤ (pos 72057594037927936) → hi ≡ pos 72057594037927936
-    → IsNarrowSine from to lo hi
+pub apart_sine : (from to lo hi : ℤ) → TURN ≤ℤ (to -ℤ from) → lo ≡ neg_ℤ ONE → hi ≡ ONE → IsNarrowSine from to lo hi
 apart_sine from to lo hi h e f = record {
   above = omega (arith, ints, e);
   below = omega (arith, ints, f);
@@ -167,20 +159,19 @@ apart_sine from to lo hi h e f = record {
 }
 
 -- ---- 90 degrees more
-quarter_more : (from to a b : ℤ) → a ≡ from +ℤ pos 6485183463413514240 → b ≡ to +ℤ pos 6485183463413514240
+quarter_more : (from to a b : ℤ) → a ≡ from +ℤ QUARTER → b ≡ to +ℤ QUARTER
     → sum (between (units_of_56 from) (units_of_56 to)) (only (whole (pos 90))) ⊆ between (units_of_56 a) (units_of_56 b)
 unfolding sum plus
 quarter_more from to a b e f = rw (e, f) (record { ends = (record { cross = omega (arith, ints) }, record { cross = omega (arith, ints) }) })
 
-pub quarter_holds : (n : ℕ) (from to a b lo hi : ℤ) → from ≤ℤ to → a ≡ from +ℤ pos 6485183463413514240 → b ≡ to +ℤ pos 6485183463413514240
+pub quarter_holds : (n : ℕ) (from to a b lo hi : ℤ) → from ≤ℤ to → a ≡ from +ℤ QUARTER → b ≡ to +ℤ QUARTER
     → sine_of_degrees n (between (units_of_56 a) (units_of_56 b)) ⊆ between (units_of_56 lo) (units_of_56 hi)
     → cosine_of_degrees n (between (units_of_56 from) (units_of_56 to)) ⊆ between (units_of_56 lo) (units_of_56 hi)
 unfolding cosine_of_degrees
-quarter_holds n from to a b lo hi o e f h = within_trans (degree_sines.within n
-    (quarter_proper (between (units_of_56 from) (units_of_56 to)) (order_at from to o)) (quarter_more from to a b e f)) h
+quarter_holds n from to a b lo hi o e f h =
+    within_trans (degree_sines.within n (quarter_proper (between (units_of_56 from) (units_of_56 to)) (order_at from to o)) (quarter_more from to a b e f)) h
 
-pub quarter_narrow : (from to a b lo hi : ℤ) → a ≡ from +ℤ pos 6485183463413514240 → b ≡ to +ℤ pos 6485183463413514240 → IsNarrowSine a b lo hi
-    → IsNarrowCosine from to lo hi
+pub quarter_narrow : (from to a b lo hi : ℤ) → a ≡ from +ℤ QUARTER → b ≡ to +ℤ QUARTER → IsNarrowSine a b lo hi → IsNarrowCosine from to lo hi
 quarter_narrow from to a b lo hi e f h = record {
   above = h.above;
   below = h.below;
@@ -189,8 +180,7 @@ quarter_narrow from to a b lo hi e f h = record {
   inside = λ r t k d. let g = rw (e, f) at h in g.inside (omega (arith, ints, r)) (omega (arith, ints, t)) k d;
 }
 
-pub far_cosine : (from to lo hi : ℤ) → pos (2 ^ 120) <ℤ to → from ≤ℤ to → lo ≡ neg_ℤ (pos 72057594037927936) → hi ≡ pos 72057594037927936
-    → IsNarrowCosine from to lo hi
+pub far_cosine : (from to lo hi : ℤ) → pos (2 ^ 120) <ℤ to → from ≤ℤ to → lo ≡ neg_ℤ ONE → hi ≡ ONE → IsNarrowCosine from to lo hi
 far_cosine from to lo hi h o e f = record {
   above = omega (arith, ints, e);
   below = omega (arith, ints, f);
@@ -207,12 +197,13 @@ pub sine_holds : {E : Type 0} (shown : E → Interval) (w : World) (a : Expressi
 unfolding Lies value
 sine_holds shown w a x r from to lo hi s f t h =
     record {
-      deep = h.deep;
+      deep =
+          h.deep;
       inside = within_trans (within_trans (degree_sines.within w.depth (value_proper w a) (within_trans h.inside s)) (f w.depth h.deep)) t;
     }
 
-pub sine_somewhere : {E : Type 0} (shown : E → Interval) (w : World) (a : Expression) (x r : E) (lo hi : ℤ) → lo ≡ neg_ℤ (pos 72057594037927936) → hi
-    ≡ pos 72057594037927936 → between (units_of_56 lo) (units_of_56 hi) ⊆ shown r
+pub sine_somewhere : {E : Type 0} (shown : E → Interval) (w : World) (a : Expression) (x r : E) (lo hi : ℤ) → lo ≡ neg_ℤ ONE → hi ≡ ONE
+    → between (units_of_56 lo) (units_of_56 hi) ⊆ shown r
     → Within shown w a x → Within shown w (sine a) r
 unfolding Lies value
 sine_somewhere shown w a x r lo hi e f t h = record { deep = h.deep; inside = within_trans (all_hold w.depth (value w a) lo hi (value_proper w a) e f) t }
@@ -226,19 +217,19 @@ pub cosine_holds : {E : Type 0} (shown : E → Interval) (w : World) (a : Expres
     → ((n : ℕ) → 40 ≤ n → cosine_of_degrees n (between (units_of_56 from) (units_of_56 to)) ⊆ between (units_of_56 lo) (units_of_56 hi))
     → between (units_of_56 lo) (units_of_56 hi) ⊆ shown r → Within shown w a x → Within shown w (cosine a) r
 unfolding Lies value
-cosine_holds shown w a x r from to lo hi s f t h = record {
-  deep = h.deep;
-  inside = within_trans (within_trans (cosines_within w.depth (value w a) _ (value_proper w a) (within_trans h.inside s)) (f w.depth h.deep)) t;
-}
+cosine_holds shown w a x r from to lo hi s f t h =
+    record {
+      deep =
+          h.deep;
+      inside = within_trans (within_trans (cosines_within w.depth (value w a) _ (value_proper w a) (within_trans h.inside s)) (f w.depth h.deep)) t;
+    }
 
-pub cosine_somewhere : {E : Type 0} (shown : E → Interval) (w : World) (a : Expression) (x r : E) (lo hi : ℤ) → lo ≡ neg_ℤ (pos 72057594037927936) → hi
-    ≡ pos 72057594037927936 → between (units_of_56 lo) (units_of_56 hi) ⊆ shown r
+pub cosine_somewhere : {E : Type 0} (shown : E → Interval) (w : World) (a : Expression) (x r : E) (lo hi : ℤ) → lo ≡ neg_ℤ ONE → hi ≡ ONE
+    → between (units_of_56 lo) (units_of_56 hi) ⊆ shown r
     → Within shown w a x → Within shown w (cosine a) r
 unfolding Lies value
-cosine_somewhere shown w a x r lo hi e f t h = record {
-  deep = h.deep;
-  inside = within_trans (all_cosines_hold w.depth (value w a) lo hi (value_proper w a) e f) t;
-}
+cosine_somewhere shown w a x r lo hi e f t h =
+    record { deep = h.deep; inside = within_trans (all_cosines_hold w.depth (value w a) lo hi (value_proper w a) e f) t }
 
 pub tangent_holds : {E : Type 0} (shown : E → Interval) (w : World) (a : Expression) (r : E) → Within shown w (divide (sine a) (cosine a)) r
     → Within shown w (tangent a) r
@@ -248,7 +239,8 @@ tangent_holds shown w a r h = record { deep = h.deep; inside = h.inside }
 -- ---- and keep their bounds
 -- the ends of an enclosure keep its bound, since they lie within it and hold it
 span_keeps : (w : ℕ) (b : Bound) (i : Interval) (lo hi : ℤ) → lo ≤ℤ hi → i ⊆ between (units_of_56 lo) (units_of_56 hi)
-    → between (units_of_56 lo) (units_of_56 hi) ⊆ i → IsNarrow w b i → IsNarrow w b (between (units_of_56 lo) (units_of_56 hi))
+    → between (units_of_56 lo) (units_of_56 hi) ⊆ i
+    → IsNarrow w b i → IsNarrow w b (between (units_of_56 lo) (units_of_56 hi))
 unfolding IsNarrow
 span_keeps w unbounded i lo hi o g h k = tt
 span_keeps w (bounded a b s t) everything lo hi o g h k = absurd k
@@ -292,16 +284,16 @@ scaled_slope : (s t w : ℕ) → s ≤ t * 57 → s * w ≤ 57 * (t * w)
 scaled_slope s t w h = omega (arith, mul-le-mul_right w h)
 
 -- a 57th of the width, and 36 parts
-close_57 : (s k w : ℕ) (from to lo hi : ℤ) → ((to -ℤ from) *ℤ pos (2 ^ 48)) ≤ℤ (pos (s * w) +ℤ pos (k * 2 ^ 40)) → (pos 57 *ℤ (hi -ℤ lo))
-    ≤ℤ ((to -ℤ from) +ℤ pos 2052)
+close_57 : (s k w : ℕ) (from to lo hi : ℤ) → ((to -ℤ from) *ℤ pos (2 ^ 48)) ≤ℤ (pos (s * w) +ℤ pos (k * 2 ^ 40))
+    → (pos 57 *ℤ (hi -ℤ lo)) ≤ℤ ((to -ℤ from) +ℤ pos 2052)
     → ((hi -ℤ lo) *ℤ pos (2 ^ 48)) ≤ℤ (pos (ceil_div s 56 * w) +ℤ pos ((ceil_div k 56 + 36 * 2 ^ 8) * 2 ^ 40))
 close_57 s k w from to lo hi h n = by_quotients (ceil_div s 56) (ceil_div k 56) (ceil_above s 56) (ceil_above k 56)
   where
     by_quotients : (t m : ℕ) → s ≤ t * 57 → k ≤ m * 57 → ((hi -ℤ lo) *ℤ pos (2 ^ 48)) ≤ℤ (pos (t * w) +ℤ pos ((m + 36 * 2 ^ 8) * 2 ^ 40))
     by_quotients t m p q = omega (arith, ints, h, n, scaled_slope s t w p, q)
 
-in_range : (a b from to : ℤ) → (a *ℤ pos (2 ^ 24)) ≤ℤ from → to ≤ℤ (b *ℤ pos (2 ^ 24)) → from ≤ℤ to → (neg_ℤ (pos (range_size a b * 2 ^ 24)) ≤ℤ from)
-    × (to ≤ℤ pos (range_size a b * 2 ^ 24))
+in_range : (a b from to : ℤ) → (a *ℤ pos (2 ^ 24)) ≤ℤ from → to ≤ℤ (b *ℤ pos (2 ^ 24)) → from ≤ℤ to
+    → (neg_ℤ (pos (range_size a b * 2 ^ 24)) ≤ℤ from) × (to ≤ℤ pos (range_size a b * 2 ^ 24))
 in_range a b from to l u o = (omega (arith, ints, l), omega (arith, ints, u))
 
 -- the ends lie within what values are
@@ -347,8 +339,8 @@ rising_within f t n m lo hi l u h =
     let c = ceil_above m 56 in
     record { above = omega (arith, ints, l, h.down); below = omega (arith, ints, u, h.up, c) }
 
-part_within : (j f t n m : ℕ) (lo hi : ℤ) → n * 2 ^ 24 ≤ f → t ≤ m * 2 ^ 24 → neg_ℤ (pos 72057594037927936) ≤ℤ lo → hi ≤ℤ pos 72057594037927936
-    → IsPart j f t lo hi → LieWithin (octant_extent j n m) lo hi
+part_within : (j f t n m : ℕ) (lo hi : ℤ) → n * 2 ^ 24 ≤ f → t ≤ m * 2 ^ 24 → neg_ℤ ONE ≤ℤ lo → hi ≤ℤ ONE → IsPart j f t lo hi
+    → LieWithin (octant_extent j n m) lo hi
 unfolding IsPart
 part_within zero f t n m lo hi l u a b h = rising_within f t n m lo hi l u h
 part_within (suc zero) f t n m lo hi l u a b h = record {
@@ -358,7 +350,7 @@ part_within (suc zero) f t n m lo hi l u a b h = record {
 part_within (suc (suc zero)) f t n m lo hi l u a b h = record
     { above = crest_low _ m lo (omega (arith, ints)) (omega (arith, ints, u)) h; below = omega (arith, ints, b) }
 part_within (suc (suc (suc zero))) f t n m lo hi l u a b h =
-    rising_within (3242591731706757120 - t) (3242591731706757120 - f) (eighth_turn - m) (eighth_turn - n) lo hi (omega (arith, u)) (omega (arith, l)) h
+    rising_within (OCTANT - t) (OCTANT - f) (eighth_turn - m) (eighth_turn - n) lo hi (omega (arith, u)) (omega (arith, l)) h
 part_within (suc (suc (suc (suc j)))) f t n m lo hi l u a b h = turned_within _ lo hi
     (part_within j f t n m (neg_ℤ hi) (neg_ℤ lo) l u (omega (arith, ints, b)) (omega (arith, ints, a)) h)
   where
@@ -379,10 +371,9 @@ inside_of k a b from to e l u =
     let q = test_below b (k *ℤ pos eighth_turn +ℤ pos eighth_turn) t.1 in
     record { above = omega (arith, ints, p, l); below = omega (arith, ints, q, u) }
 
-inside_within : (k a b from to lo hi : ℤ) → lie_inside k a b ≡ true → (a *ℤ pos (2 ^ 24)) ≤ℤ from → to ≤ℤ (b *ℤ pos (2 ^ 24)) → from ≤ℤ to
-    → neg_ℤ (pos 72057594037927936) ≤ℤ lo → hi ≤ℤ pos 72057594037927936
-    → IsPart (octant_of_turn k) (unsigned_abs (from -ℤ k *ℤ pos 3242591731706757120)) (unsigned_abs (to -ℤ k *ℤ pos 3242591731706757120)) lo hi
-    → LieWithin (inside_extent k a b) lo hi
+inside_within : (k a b from to lo hi : ℤ) → lie_inside k a b ≡ true → (a *ℤ pos (2 ^ 24)) ≤ℤ from → to ≤ℤ (b *ℤ pos (2 ^ 24)) → from ≤ℤ to → neg_ℤ ONE ≤ℤ lo
+    → hi ≤ℤ ONE
+    → IsPart (octant_of_turn k) (unsigned_abs (from -ℤ k *ℤ pos OCTANT)) (unsigned_abs (to -ℤ k *ℤ pos OCTANT)) lo hi → LieWithin (inside_extent k a b) lo hi
 inside_within k a b from to lo hi e l u o x y h =
     let t = both (lt_z (k *ℤ pos eighth_turn) a) (lt_z b (k *ℤ pos eighth_turn +ℤ pos eighth_turn)) e in
     let p = test_below (k *ℤ pos eighth_turn) a t.0 in
@@ -400,8 +391,8 @@ sine_within a b from to lo hi true e l u o m h =
     inside_within (octant_at a) a b from to lo hi (sym e) l u o h.above h.below
     (h.inside (omega (arith, ints, m, r.0)) (omega (arith, ints, m, r.1)) (octant_at a) (inside_of (octant_at a) a b from to (sym e) l u))
 
-cosine_within : (a b from to lo hi : ℤ) (t : Bool) → t ≡ lie_inside (octant_at (quarter_later a)) (quarter_later a) (quarter_later b) → (a *ℤ pos (2 ^ 24))
-    ≤ℤ from → to ≤ℤ (b *ℤ pos (2 ^ 24)) → from ≤ℤ to → range_size a b < 2 ^ 95 → IsNarrowCosine from to lo hi
+cosine_within : (a b from to lo hi : ℤ) (t : Bool) → t ≡ lie_inside (octant_at (quarter_later a)) (quarter_later a) (quarter_later b)
+    → (a *ℤ pos (2 ^ 24)) ≤ℤ from → to ≤ℤ (b *ℤ pos (2 ^ 24)) → from ≤ℤ to → range_size a b < 2 ^ 95 → IsNarrowCosine from to lo hi
     → LieWithin (cond t (inside_extent (octant_at (quarter_later a)) (quarter_later a) (quarter_later b)) (cosine_near_none (range_size a b))) lo hi
 cosine_within a b from to lo hi false e l u o m h =
     let r = in_range a b from to l u o in
@@ -409,8 +400,8 @@ cosine_within a b from to lo hi false e l u o m h =
 cosine_within a b from to lo hi true e l u o m h =
     let r = in_range a b from to l u o in
     let k = octant_at (quarter_later a) in
-    let l' : (quarter_later a *ℤ pos (2 ^ 24)) ≤ℤ (from +ℤ pos 6485183463413514240) = omega (arith, ints, l) in
-    let u' : (to +ℤ pos 6485183463413514240) ≤ℤ (quarter_later b *ℤ pos (2 ^ 24)) = omega (arith, ints, u) in
+    let l' : (quarter_later a *ℤ pos (2 ^ 24)) ≤ℤ (from +ℤ QUARTER) = omega (arith, ints, l) in
+    let u' : (to +ℤ QUARTER) ≤ℤ (quarter_later b *ℤ pos (2 ^ 24)) = omega (arith, ints, u) in
     inside_within k (quarter_later a) (quarter_later b) _ _ lo hi (sym e) l' u' (omega (arith, ints, o)) h.above h.below
     (h.inside (omega (arith, ints, m, r.0)) (omega (arith, ints, m, r.1)) k (inside_of k (quarter_later a) (quarter_later b) _ _ (sym e) l' u'))
 
@@ -460,20 +451,23 @@ pub sine_keeps : {E : Type 0} (shown : E → Interval) (l : Limits) (r : Reach) 
     → IsNarrowSine from to lo hi → ((w : ℕ) (b : Bound) → IsNarrow w b (between (units_of_56 lo) (units_of_56 hi)) → IsNarrow w (spanned_bound l b) (shown y))
     → Narrow shown l r a x → Narrow shown l r (sine a) y
 unfolding Keeps bound_of
-sine_keeps shown l r a x y from to lo hi o p g h n f k = record {
-  kept = f r.width _ (sine_kept r.width (bound_of l r.bounds a) from to lo hi p n
-      (span_keeps r.width (bound_of l r.bounds a) (shown x) from to o g h k.kept));
-}
+sine_keeps shown l r a x y from to lo hi o p g h n f k =
+    record {
+      kept =
+          f r.width _ (sine_kept r.width (bound_of l r.bounds a) from to lo hi p n (span_keeps r.width (bound_of l r.bounds a) (shown x) from to o g h k.kept));
+    }
 
 pub cosine_keeps : {E : Type 0} (shown : E → Interval) (l : Limits) (r : Reach) (a : Expression) (x y : E) (from to lo hi : ℤ) → from ≤ℤ to → lo ≤ℤ hi
     → shown x ⊆ between (units_of_56 from) (units_of_56 to) → between (units_of_56 from) (units_of_56 to) ⊆ shown x
     → IsNarrowCosine from to lo hi → ((w : ℕ) (b : Bound) → IsNarrow w b (between (units_of_56 lo) (units_of_56 hi)) → IsNarrow w (spanned_bound l b) (shown y))
     → Narrow shown l r a x → Narrow shown l r (cosine a) y
 unfolding Keeps bound_of
-cosine_keeps shown l r a x y from to lo hi o p g h n f k = record {
-  kept = f r.width _ (cosine_kept r.width (bound_of l r.bounds a) from to lo hi p n
-      (span_keeps r.width (bound_of l r.bounds a) (shown x) from to o g h k.kept));
-}
+cosine_keeps shown l r a x y from to lo hi o p g h n f k =
+    record {
+      kept =
+          f r.width _ (cosine_kept r.width (bound_of l r.bounds a) from to lo hi p n
+          (span_keeps r.width (bound_of l r.bounds a) (shown x) from to o g h k.kept));
+    }
 
 -- of every number no width is known
 sine_of_all : (w : ℕ) (l : Limits) (b : Bound) (i : Interval) → IsNarrow w b everything → IsNarrow w (spanned_bound l (sine_spans b)) i

@@ -11,7 +11,9 @@ use Rattle.book_model.specs.numbers.Octants.{octant_of_turn}
 use Rattle.book_model.specs.numbers.Series.{sine_term, cosine_term}
 use Rattle.book_model.proofs.Terms.{sine_halving, cosine_halving}
 use Rattle.book_model.proofs.SeriesNesting.{sine_lowers, cosine_uppers}
-use Rattle.trig_series.specs.Kernel.{at_64, in_radians}
+use Rattle.rounded_quotients.specs.Units.{at_64}
+use Rattle.interval_ends.specs.declared.parts.TheConstants.{OCTANT, QUARTER}
+use Rattle.trig_series.specs.Kernel.{in_radians}
 use Rattle.trig_series.specs.Points.{IsNearSine, IsNearCosine, IsPoint, IsAt, AreSteady, IsAround, IsCrest}
 use Rattle.trig_series.proofs.Slopes.{sine_slow, cosine_slow}
 use Rattle.trig_series.proofs.Curves.{in_order, in_fifths, cosine_above}
@@ -30,30 +32,34 @@ more : (z w v : ℤ) → z ≤ℤ pos 513 → pos 0 ≤ℤ w → v ≡ w +ℤ po
 more z w v h p e = omega (arith, ints, h, p, e)
 
 -- the sine rises
-sine_steady : (d e : ℕ) (a b a' b' : ℤ) → d ≤ e → e ≤ 3242591731706757120 → IsNearSine d a b → IsNearSine e a' b' → AreSteady (pos e -ℤ pos d) a b a' b'
+sine_steady : (d e : ℕ) (a b a' b' : ℤ) → d ≤ e → e ≤ OCTANT → IsNearSine d a b → IsNearSine e a' b' → AreSteady (pos e -ℤ pos d) a b a' b'
 sine_steady d e a b a' b' l u p q =
     let x = in_fifths d (omega (arith, l, u)) in
     let y = in_fifths e u in
     let o = in_order d e l in
     let there = sum_ends_in_order 8 (sine_term (in_radians e)) ((sine_halving (in_radians e) y).nonneg 9) in
     record {
-      up = by_angles d e b' a (le_trans _ _ _ (plus_mono _ _ _ _ (le_trans _ _ _ q.high there) (le_refl (in_radians d)))
+      up =
+          by_angles d e b' a (le_trans _ _ _ (plus_mono _ _ _ _ (le_trans _ _ _ q.high there) (le_refl (in_radians d)))
           (le_trans _ _ _ (sine_slow 7 _ _ x y o) (plus_mono _ _ _ _ p.low (le_refl (in_radians e))))) l;
-      down = more _ (pos e -ℤ pos d) _ (by_order b a' (le_trans _ _ _ p.high (le_trans _ _ _ (sine_lowers 8 _ _ x y o) (le_trans _ _ _ there q.low))))
+      down =
+          more _ (pos e -ℤ pos d) _ (by_order b a' (le_trans _ _ _ p.high (le_trans _ _ _ (sine_lowers 8 _ _ x y o) (le_trans _ _ _ there q.low))))
           (omega (arith, ints, l)) refl;
     }
 
 -- the cosine falls
-cosine_steady : (d e : ℕ) (a b a' b' : ℤ) → d ≤ e → e ≤ 3242591731706757120 → IsNearCosine d a b → IsNearCosine e a' b' → AreSteady (pos e -ℤ pos d) a b a' b'
+cosine_steady : (d e : ℕ) (a b a' b' : ℤ) → d ≤ e → e ≤ OCTANT → IsNearCosine d a b → IsNearCosine e a' b' → AreSteady (pos e -ℤ pos d) a b a' b'
 cosine_steady d e a b a' b' l u p q =
     let x = in_fifths d (omega (arith, l, u)) in
     let y = in_fifths e u in
     let o = in_order d e l in
     let there = sum_ends_in_order 9 (cosine_term (in_radians e)) ((cosine_halving (in_radians e) y).nonneg 9) in
     record {
-      up = more _ (pos e -ℤ pos d) _ (by_order b' a (le_trans _ _ _ q.high (le_trans _ _ _ there (le_trans _ _ _ (cosine_uppers 8 _ _ x y o) p.low))))
+      up =
+          more _ (pos e -ℤ pos d) _ (by_order b' a (le_trans _ _ _ q.high (le_trans _ _ _ there (le_trans _ _ _ (cosine_uppers 8 _ _ x y o) p.low))))
           (omega (arith, ints, l)) refl;
-      down = by_angles d e b a' (le_trans _ _ _ (plus_mono _ _ _ _ p.high (le_refl (in_radians d)))
+      down =
+          by_angles d e b a' (le_trans _ _ _ (plus_mono _ _ _ _ p.high (le_refl (in_radians d)))
           (le_trans _ _ _ (cosine_slow 7 _ _ x y o) (plus_mono _ _ _ _ (le_trans _ _ _ there q.low) (le_refl (in_radians e))))) l;
     }
 
@@ -67,49 +73,48 @@ opposite_steady : (w a b a' b' : ℤ) → AreSteady w (neg_ℤ b) (neg_ℤ a) (n
 opposite_steady w a b a' b' h = record { up = omega (arith, ints, h.down); down = omega (arith, ints, h.up) }
 
 -- in every octant of a turn
-pub steady : (j d e : ℕ) (a b a' b' : ℤ) → d ≤ e → e ≤ 3242591731706757120 → IsPoint j d a b → IsPoint j e a' b' → AreSteady (pos e -ℤ pos d) a b a' b'
+pub steady : (j d e : ℕ) (a b a' b' : ℤ) → d ≤ e → e ≤ OCTANT → IsPoint j d a b → IsPoint j e a' b' → AreSteady (pos e -ℤ pos d) a b a' b'
 unfolding IsPoint
 steady zero d e a b a' b' l u p q = sine_steady d e a b a' b' l u p q
 steady (suc zero) d e a b a' b' l u p q =
-    same_width (pos (3242591731706757120 - d) -ℤ pos (3242591731706757120 - e)) _ a b a' b' (omega (arith, ints, l, u))
-    (turned _ a' b' a b (cosine_steady (3242591731706757120 - e) (3242591731706757120 - d) a' b' a b (omega (arith, l)) (omega arith) q p))
+    same_width (pos (OCTANT - d) -ℤ pos (OCTANT - e)) _ a b a' b' (omega (arith, ints, l, u))
+    (turned _ a' b' a b (cosine_steady (OCTANT - e) (OCTANT - d) a' b' a b (omega (arith, l)) (omega arith) q p))
 steady (suc (suc zero)) d e a b a' b' l u p q = cosine_steady d e a b a' b' l u p q
 steady (suc (suc (suc zero))) d e a b a' b' l u p q =
-    same_width (pos (3242591731706757120 - d) -ℤ pos (3242591731706757120 - e)) _ a b a' b' (omega (arith, ints, l, u))
-    (turned _ a' b' a b (sine_steady (3242591731706757120 - e) (3242591731706757120 - d) a' b' a b (omega (arith, l)) (omega arith) q p))
+    same_width (pos (OCTANT - d) -ℤ pos (OCTANT - e)) _ a b a' b' (omega (arith, ints, l, u))
+    (turned _ a' b' a b (sine_steady (OCTANT - e) (OCTANT - d) a' b' a b (omega (arith, l)) (omega arith) q p))
 steady (suc (suc (suc (suc j)))) d e a b a' b' l u p q = opposite_steady _ a b a' b' (steady j d e _ _ _ _ l u p q)
 
 -- ---- from an edge where the sine is known
-at_start : (j d : ℕ) (e w a b : ℤ) → IsPoint j 0 e e → IsPoint j d a b → d ≤ 3242591731706757120 → pos d ≤ℤ w → IsAround e w a b
+at_start : (j d : ℕ) (e w a b : ℤ) → IsPoint j 0 e e → IsPoint j d a b → d ≤ OCTANT → pos d ≤ℤ w → IsAround e w a b
 at_start j d e w a b s p l h =
     let t = steady j 0 d e e a b (omega arith) l s p in
     record { up = omega (arith, ints, t.up, h); down = omega (arith, ints, t.down, h) }
 
-at_end : (j d : ℕ) (e w a b : ℤ) → IsPoint j 3242591731706757120 e e → IsPoint j d a b → d ≤ 3242591731706757120 → (pos 3242591731706757120 -ℤ pos d) ≤ℤ w
-    → IsAround e w a b
+at_end : (j d : ℕ) (e w a b : ℤ) → IsPoint j OCTANT e e → IsPoint j d a b → d ≤ OCTANT → (pos OCTANT -ℤ pos d) ≤ℤ w → IsAround e w a b
 at_end j d e w a b s p l h =
-    let t = steady j d 3242591731706757120 a b e e l (omega arith) p s in
+    let t = steady j d OCTANT a b e e l (omega arith) p s in
     record { up = omega (arith, ints, t.down, h); down = omega (arith, ints, t.up, h) }
 
 none_0 : IsPoint 0 0 (pos 0) (pos 0)
 unfolding IsPoint
 none_0 = near_none
 
-none_7 : IsPoint 7 3242591731706757120 (pos 0) (pos 0)
+none_7 : IsPoint 7 OCTANT (pos 0) (pos 0)
 unfolding IsPoint
 none_7 = near_none
 
 -- a point of octant k
 pub record LiesIn (k p a b : ℤ) : Type 0 where
-  pub point : IsPoint (octant_of_turn k) (unsigned_abs (p -ℤ k *ℤ pos 3242591731706757120)) a b
-  pub from : (k *ℤ pos 3242591731706757120) ≤ℤ p
-  pub to : p ≤ℤ (k *ℤ pos 3242591731706757120 +ℤ pos 3242591731706757120)
+  pub point : IsPoint (octant_of_turn k) (unsigned_abs (p -ℤ k *ℤ pos OCTANT)) a b
+  pub from : (k *ℤ pos OCTANT) ≤ℤ p
+  pub to : p ≤ℤ (k *ℤ pos OCTANT +ℤ pos OCTANT)
 
 by_octant : (k m p a b : ℤ) → k ≡ m → LiesIn k p a b → LiesIn m p a b
 by_octant k m p a b e h = rw e at h
 
 -- near 0 degrees the sine is near 0
-small_point : (w k p a b : ℤ) → neg_ℤ w ≤ℤ p → p ≤ℤ w → w <ℤ pos 3242591731706757120 → LiesIn k p a b → IsAround (pos 0) w a b
+small_point : (w k p a b : ℤ) → neg_ℤ w ≤ℤ p → p ≤ℤ w → w <ℤ pos OCTANT → LiesIn k p a b → IsAround (pos 0) w a b
 small_point w k p a b l u s h =
     by_lt_z k (pos 0)
     (λ m. let g = by_octant k (negsuc 0) p a b (omega (arith, ints, m, l, s, h.to)) h in
@@ -119,32 +124,33 @@ small_point w k p a b l u s h =
 
 -- near 90 degrees it is near 1
 square_more : (v w : ℤ) → pos 0 ≤ℤ v → v ≤ℤ w → (v *ℤ v) ≤ℤ (w *ℤ w)
-square_more v w h k = le_between (v ∷ w ∷ []) ((lit (pos 0) ≼ at 0) ∷ (at 0 ≼ at 1) ∷ []) (at 0 ⊗ at 0) (at 1 ⊗ at 1)
-    (certain 1 ⊠ (certain 1 ⊞ twice 2 ⊠ certain 0)) refl (h, (k, tt))
+square_more v w h k =
+    le_between (v ∷ w ∷ []) ((lit (pos 0) ≼ at 0) ∷ (at 0 ≼ at 1) ∷ []) (at 0 ⊗ at 0) (at 1 ⊗ at 1) (certain 1 ⊠ (certain 1 ⊞ twice 2 ⊠ certain 0)) refl
+    (h, (k, tt))
 
 pub more_crest : (v w a : ℤ) → pos 0 ≤ℤ v → v ≤ℤ w → IsCrest v a → IsCrest w a
 more_crest v w a h k c = let l = square_more v w h k in record { down = omega (arith, ints, l, c.down) }
 
-cosine_crest : (d : ℕ) (w a b : ℤ) → d ≤ 3242591731706757120 → pos d ≤ℤ w → IsNearCosine d a b → IsCrest w a
+cosine_crest : (d : ℕ) (w a b : ℤ) → d ≤ OCTANT → pos d ≤ℤ w → IsNearCosine d a b → IsCrest w a
 cosine_crest d w a b l k p =
     let h = cosine_above d (a *ℤ pos 256 +ℤ pos 1152) l p.low in
     let q : IsCrest (pos d) a = record { down = omega (arith, ints, h) } in
     more_crest (pos d) w a (omega (arith, ints)) k q
 
-first_crest : (d : ℕ) (w a b : ℤ) → pos (3242591731706757120 - d) ≤ℤ w → IsPoint 1 d a b → IsCrest w a
+first_crest : (d : ℕ) (w a b : ℤ) → pos (OCTANT - d) ≤ℤ w → IsPoint 1 d a b → IsCrest w a
 unfolding IsPoint
-first_crest d w a b k p = cosine_crest (3242591731706757120 - d) w a b (omega arith) k p
+first_crest d w a b k p = cosine_crest (OCTANT - d) w a b (omega arith) k p
 
-second_crest : (d : ℕ) (w a b : ℤ) → d ≤ 3242591731706757120 → pos d ≤ℤ w → IsPoint 2 d a b → IsCrest w a
+second_crest : (d : ℕ) (w a b : ℤ) → d ≤ OCTANT → pos d ≤ℤ w → IsPoint 2 d a b → IsCrest w a
 unfolding IsPoint
 second_crest d w a b l k p = cosine_crest d w a b l k p
 
-crest_point : (w k p a b : ℤ) → (pos 6485183463413514240 -ℤ w) ≤ℤ p → p ≤ℤ (pos 6485183463413514240 +ℤ w) → w <ℤ pos 3242591731706757120 → LiesIn k p a b
-    → IsCrest w a
+crest_point : (w k p a b : ℤ) → (QUARTER -ℤ w) ≤ℤ p → p ≤ℤ (QUARTER +ℤ w) → w <ℤ pos OCTANT → LiesIn k p a b → IsCrest w a
 crest_point w k p a b l u s h =
     by_lt_z k (pos 2)
     (λ m. let g = by_octant k (pos 1) p a b (omega (arith, ints, m, l, s, h.to)) h in first_crest _ w a b (omega (arith, ints, l, g.from, g.to)) g.point)
-    (λ m. let g = by_octant k (pos 2) p a b (omega (arith, ints, m, u, s, h.from)) h in second_crest _ w a b (omega (arith, ints, g.from, g.to))
+    (λ m. let g =
+    by_octant k (pos 2) p a b (omega (arith, ints, m, u, s, h.from)) h in second_crest _ w a b (omega (arith, ints, g.from, g.to))
     (omega (arith, ints, u, g.from, g.to)) g.point)
 
 -- ---- hulls
@@ -161,13 +167,13 @@ pub hull_at_second : (e a b c d lo hi : ℤ) → lo ≡ int_min a c → hi ≡ i
 hull_at_second e a b c d lo hi p q h = record { above = omega (arith, ints, clamps, p, h.above); below = omega (arith, ints, clamps, q, h.below) }
 
 -- what the two points of an octant say of their hull
-pub in_narrow : (k p q a b c d lo hi : ℤ) → p ≤ℤ q → LiesIn k p a b → LiesIn k q c d → lo ≡ int_min a c → hi ≡ int_max b d → (pos 57 *ℤ (hi -ℤ lo))
-    ≤ℤ ((q -ℤ p) +ℤ pos 513)
+pub in_narrow : (k p q a b c d lo hi : ℤ) → p ≤ℤ q → LiesIn k p a b → LiesIn k q c d → lo ≡ int_min a c → hi ≡ int_max b d
+    → (pos 57 *ℤ (hi -ℤ lo)) ≤ℤ ((q -ℤ p) +ℤ pos 513)
 in_narrow k p q a b c d lo hi l g h e f =
-    let dp = unsigned_abs (p -ℤ k *ℤ pos 3242591731706757120) in
-    let dq = unsigned_abs (q -ℤ k *ℤ pos 3242591731706757120) in
-    let bp : dp ≤ 3242591731706757120 = omega (arith, ints, g.from, g.to) in
-    let bq : dq ≤ 3242591731706757120 = omega (arith, ints, h.from, h.to) in
+    let dp = unsigned_abs (p -ℤ k *ℤ pos OCTANT) in
+    let dq = unsigned_abs (q -ℤ k *ℤ pos OCTANT) in
+    let bp : dp ≤ OCTANT = omega (arith, ints, g.from, g.to) in
+    let bq : dq ≤ OCTANT = omega (arith, ints, h.from, h.to) in
     let t = steady (octant_of_turn k) dp dq a b c d (omega (arith, ints, g.from, l)) bq g.point h.point in
     let u = steady (octant_of_turn k) dp dp a b a b (omega arith) bp g.point g.point in
     let v = steady (octant_of_turn k) dq dq c d c d (omega arith) bq h.point h.point in
@@ -179,14 +185,14 @@ in_narrow k p q a b c d lo hi l g h e f =
     last_step w z a b c d lo hi r s t u v e f = omega (arith, ints, clamps, r, s, t.up, t.down, u, v, e, f)
 
 pub in_small : (k lo hi p q a b c d x y : ℤ) → lo ≤ℤ p → p ≤ℤ q → q ≤ℤ hi → LiesIn k p a b → LiesIn k q c d → x ≡ int_min a c → y ≡ int_max b d
-    → (w : ℤ) → neg_ℤ w ≤ℤ lo → hi ≤ℤ w → w <ℤ pos 3242591731706757120 → IsAround (pos 0) w x y
+    → (w : ℤ) → neg_ℤ w ≤ℤ lo → hi ≤ℤ w → w <ℤ pos OCTANT → IsAround (pos 0) w x y
 in_small k lo hi p q a b c d x y l m n g h e f w r s t =
     hull_around (pos 0) w a b c d x y e f
     (small_point w k p a b (omega (arith, ints, r, l)) (omega (arith, ints, s, m, n)) t g)
     (small_point w k q c d (omega (arith, ints, r, l, m)) (omega (arith, ints, s, n)) t h)
 
 pub in_crest : (k lo hi p q a b c d x : ℤ) → lo ≤ℤ p → p ≤ℤ q → q ≤ℤ hi → LiesIn k p a b → LiesIn k q c d → x ≡ int_min a c
-    → (w : ℤ) → (pos 6485183463413514240 -ℤ w) ≤ℤ lo → hi ≤ℤ (pos 6485183463413514240 +ℤ w) → w <ℤ pos 3242591731706757120 → IsCrest w x
+    → (w : ℤ) → (QUARTER -ℤ w) ≤ℤ lo → hi ≤ℤ (QUARTER +ℤ w) → w <ℤ pos OCTANT → IsCrest w x
 in_crest k lo hi p q a b c d x l m n g h e w r s t =
     hull_crest w a c x e
     (crest_point w k p a b (omega (arith, ints, r, l)) (omega (arith, ints, s, m, n)) t g)

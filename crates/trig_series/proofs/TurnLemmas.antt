@@ -6,18 +6,19 @@ use Rattle.exact_math.specs.Fraction.{Fraction, ◌≈◌, floor_quotient}
 use Rattle.exact_math.proofs.Floors.{IsFloorQuotient, floor_quotient_is}
 use Rattle.book_model.specs.programs.Leading.{units_of_56}
 use Rattle.book_model.specs.numbers.Octants.{short_of, octant_of_turn}
+use Rattle.interval_ends.specs.declared.parts.TheConstants.{OCTANT}
 use Rattle.trig_series.specs.Points.{IsNearSine, IsNearCosine, IsPoint, edge_of, IsAt}
 use Rattle.trig_series.proofs.AngleLemmas.{short_same}
 
 -- ---- the first half turn
-pub short_count : (d : ℕ) (y : Fraction) → d ≤ 3242591731706757120 → y ≈ units_of_56 (pos d) → short_of y ≈ units_of_56 (pos (3242591731706757120 - d))
-short_count d y l e = let s : pos (3242591731706757120 - d) ≡ pos 3242591731706757120 -ℤ pos d = omega (arith, ints, l) in rw s (short_same (pos d) y e)
+pub short_count : (d : ℕ) (y : Fraction) → d ≤ OCTANT → y ≈ units_of_56 (pos d) → short_of y ≈ units_of_56 (pos (OCTANT - d))
+short_count d y l e = let s : pos (OCTANT - d) ≡ pos OCTANT -ℤ pos d = omega (arith, ints, l) in rw s (short_same (pos d) y e)
 
 pub point_0 : (o : ℤ) (d : ℕ) (lo hi : ℤ) → o ≡ pos 0 → IsNearSine d lo hi → IsPoint (unsigned_abs o) d lo hi
 unfolding IsPoint
 point_0 o d lo hi e h = rw e h
 
-pub point_1 : (o : ℤ) (d : ℕ) (lo hi : ℤ) → o ≡ pos 1 → IsNearCosine (3242591731706757120 - d) lo hi → IsPoint (unsigned_abs o) d lo hi
+pub point_1 : (o : ℤ) (d : ℕ) (lo hi : ℤ) → o ≡ pos 1 → IsNearCosine (OCTANT - d) lo hi → IsPoint (unsigned_abs o) d lo hi
 unfolding IsPoint
 point_1 o d lo hi e h = rw e h
 
@@ -25,7 +26,7 @@ pub point_2 : (o : ℤ) (d : ℕ) (lo hi : ℤ) → o ≡ pos 2 → IsNearCosine
 unfolding IsPoint
 point_2 o d lo hi e h = rw e h
 
-pub point_3 : (o : ℤ) (d : ℕ) (lo hi : ℤ) → o ≡ pos 3 → IsNearSine (3242591731706757120 - d) lo hi → IsPoint (unsigned_abs o) d lo hi
+pub point_3 : (o : ℤ) (d : ℕ) (lo hi : ℤ) → o ≡ pos 3 → IsNearSine (OCTANT - d) lo hi → IsPoint (unsigned_abs o) d lo hi
 unfolding IsPoint
 point_3 o d lo hi e h = rw e h
 
@@ -103,28 +104,28 @@ edges_meet k lo hi h =
     rw e at h
 
 -- ---- from octant to octant
-pub first_narrow : (first lo hi p q x y : ℤ) → p ≡ int_max (first *ℤ pos 3242591731706757120) lo → q
-    ≡ int_min (first *ℤ pos 3242591731706757120 +ℤ pos 3242591731706757120) hi → (first *ℤ pos 3242591731706757120) ≤ℤ lo
+pub first_narrow : (first lo hi p q x y : ℤ) → p ≡ int_max (first *ℤ pos OCTANT) lo → q ≡ int_min (first *ℤ pos OCTANT +ℤ pos OCTANT) hi
+    → (first *ℤ pos OCTANT) ≤ℤ lo
     → (pos 57 *ℤ (y -ℤ x)) ≤ℤ ((q -ℤ p) +ℤ pos 513) → (pos 57 *ℤ (y -ℤ x))
-    ≤ℤ ((int_min ((first +ℤ pos 1) *ℤ pos 3242591731706757120) hi -ℤ lo) +ℤ pos 513 *ℤ ((first +ℤ pos 1) -ℤ first))
+    ≤ℤ ((int_min ((first +ℤ pos 1) *ℤ pos OCTANT) hi -ℤ lo) +ℤ pos 513 *ℤ ((first +ℤ pos 1) -ℤ first))
 first_narrow first lo hi p q x y e f b h = omega (arith, ints, clamps, e, f, b, h)
 
-pub next_narrow : (m first lo hi edge a b c d x y : ℤ) → lo ≤ℤ (m *ℤ pos 3242591731706757120) → (m *ℤ pos 3242591731706757120) ≤ℤ hi → IsAt edge a b
-    → IsAt edge c d → x ≡ int_min a c → y ≡ int_max b d
-    → (pos 57 *ℤ (b -ℤ a)) ≤ℤ ((int_min (m *ℤ pos 3242591731706757120) hi -ℤ lo) +ℤ pos 513 *ℤ (m -ℤ first))
-    → (pos 57 *ℤ (d -ℤ c)) ≤ℤ ((int_min (m *ℤ pos 3242591731706757120 +ℤ pos 3242591731706757120) hi -ℤ int_max (m *ℤ pos 3242591731706757120) lo) +ℤ pos 513)
-    → (pos 57 *ℤ (y -ℤ x)) ≤ℤ ((int_min ((m +ℤ pos 1) *ℤ pos 3242591731706757120) hi -ℤ lo) +ℤ pos 513 *ℤ ((m +ℤ pos 1) -ℤ first))
+pub next_narrow : (m first lo hi edge a b c d x y : ℤ) → lo ≤ℤ (m *ℤ pos OCTANT) → (m *ℤ pos OCTANT) ≤ℤ hi → IsAt edge a b → IsAt edge c d → x ≡ int_min a c
+    → y ≡ int_max b d
+    → (pos 57 *ℤ (b -ℤ a)) ≤ℤ ((int_min (m *ℤ pos OCTANT) hi -ℤ lo) +ℤ pos 513 *ℤ (m -ℤ first))
+    → (pos 57 *ℤ (d -ℤ c)) ≤ℤ ((int_min (m *ℤ pos OCTANT +ℤ pos OCTANT) hi -ℤ int_max (m *ℤ pos OCTANT) lo) +ℤ pos 513)
+    → (pos 57 *ℤ (y -ℤ x)) ≤ℤ ((int_min ((m +ℤ pos 1) *ℤ pos OCTANT) hi -ℤ lo) +ℤ pos 513 *ℤ ((m +ℤ pos 1) -ℤ first))
 next_narrow m first lo hi edge a b c d x y l r s t e f g h =
     let u : (pos 57 *ℤ (y -ℤ x)) ≤ℤ (pos 57 *ℤ (b -ℤ a) +ℤ pos 57 *ℤ (d -ℤ c)) = omega (arith, ints, clamps, e, f, s.above, s.below, t.above, t.below) in
     omega (arith, ints, clamps, l, r, u, g, h)
 
-pub last_narrow : (first last next lo hi x y : ℤ) → next ≡ last +ℤ pos 1 → (pos 57 *ℤ (y -ℤ x))
-    ≤ℤ ((int_min (next *ℤ pos 3242591731706757120) hi -ℤ lo) +ℤ pos 513 *ℤ (next -ℤ first))
+pub last_narrow : (first last next lo hi x y : ℤ) → next ≡ last +ℤ pos 1
+    → (pos 57 *ℤ (y -ℤ x)) ≤ℤ ((int_min (next *ℤ pos OCTANT) hi -ℤ lo) +ℤ pos 513 *ℤ (next -ℤ first))
     → (pos 57 *ℤ (y -ℤ x)) ≤ℤ ((hi -ℤ lo) +ℤ pos 513 *ℤ ((last -ℤ first) +ℤ pos 1))
 last_narrow first last next lo hi x y e h = omega (arith, ints, clamps, e, h)
 
 -- over several octants: few, or many
-pub few_or_many : (first last lo hi x y : ℤ) → lo ≤ℤ (first *ℤ pos 3242591731706757120 +ℤ pos 3242591731706757120) → (last *ℤ pos 3242591731706757120) ≤ℤ hi
+pub few_or_many : (first last lo hi x y : ℤ) → lo ≤ℤ (first *ℤ pos OCTANT +ℤ pos OCTANT) → (last *ℤ pos OCTANT) ≤ℤ hi
     → (pos 57 *ℤ (y -ℤ x)) ≤ℤ ((hi -ℤ lo) +ℤ pos 513 *ℤ ((last -ℤ first) +ℤ pos 1))
     → (pos 9727775195120271360 ≤ℤ (hi -ℤ lo)) ⊎ ((pos 57 *ℤ (y -ℤ x)) ≤ℤ ((hi -ℤ lo) +ℤ pos 2052))
 few_or_many first last lo hi x y l r h =

@@ -1,20 +1,12 @@
 -- Numbers in 64 bits that are near a fraction; all count 2^-64.
-use Rattle.std.specs.Prelude.{ℕ, ℤ, pos, ◌-◌, ◌^◌, ◌-ℤ◌, ◌+ℤ◌}
+use Rattle.std.specs.Prelude.{ℕ, ℤ, pos, ◌-ℤ◌, ◌+ℤ◌}
 use Rattle.exact_math.specs.Fraction.{Fraction, ◌≤F◌, times}
 use Rattle.exact_math.specs.Sums.{lower, upper, one_over}
 use Rattle.book_model.specs.declared.tables.TheConstants.{PI_BELOW, PI_ABOVE}
 use Rattle.book_model.specs.numbers.Fractions.{fraction_of}
 use Rattle.book_model.specs.programs.Leading.{units_of_56}
 use Rattle.book_model.specs.numbers.Series.{four_fifths, sine_term, cosine_term}
-
--- a number that counts 2^-64
-abbrev pub at_64 : ℤ → Fraction
-at_64 n = record { num = n; below = 2 ^ 64 - 1 }
-
--- x lies within e of t
-pub record IsWithinUnits (e t : ℕ) (x : Fraction) : Type 0 where
-  pub above : at_64 (pos t -ℤ pos e) ≤F x
-  pub below : x ≤F at_64 (pos t +ℤ pos e)
+use Rattle.rounded_quotients.specs.Units.{at_64}
 
 -- c is x, rounded down
 pub record IsCut (c : ℕ) (x : Fraction) : Type 0 where

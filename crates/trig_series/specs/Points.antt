@@ -4,8 +4,9 @@ use Rattle.exact_math.specs.Fraction.{◌≤F◌}
 use Rattle.exact_math.specs.Sums.{lower, upper}
 use Rattle.book_model.specs.numbers.Octants.{octant_of_turn}
 use Rattle.book_model.specs.numbers.Series.{sine_term, cosine_term}
-use Rattle.trig_series.specs.declared.scale.TheConstants.{OCTANT, QUARTER, ONE}
-use Rattle.trig_series.specs.Kernel.{at_64, in_radians}
+use Rattle.interval_ends.specs.declared.parts.TheConstants.{OCTANT, QUARTER, ONE}
+use Rattle.rounded_quotients.specs.Units.{at_64}
+use Rattle.trig_series.specs.Kernel.{in_radians}
 
 -- lo is hardly below the sine of d degrees that count 2^-56, and hi hardly above it: by four and a half parts of 2^-56
 pub record IsNearSine (d : ℕ) (lo hi : ℤ) : Type 0 where

@@ -8,16 +8,16 @@ ghost use Rattle.exact_math.specs.Interval.{Interval, IsProper, between, ◌⊆�
 ghost use Rattle.book_model.specs.numbers.Expressions.{sine, cosine, tangent};
 ghost use Rattle.book_model.specs.programs.Leading.{units_of_56};
 ghost use Rattle.book_model.specs.numbers.Octants.{sine_of_degrees, cosine_of_degrees};
-ghost use Rattle.trig_series.specs.declared.scale.TheConstants.{ONE};
+ghost use Rattle.interval_ends.specs.declared.parts.TheConstants.{ONE};
 ghost use Rattle.trig_series.specs.Points.{IsNarrowSine, IsNarrowCosine};
 ghost use Rattle.book_model.specs.numbers.Depth.{DEPTH};
 
 use crate::octants::sine_over_degrees;
-use crate::scale::{ONE, QUARTER, TURN};
 use encl_core::{Enclosure, Span};
+use interval_ends::parts::{ONE, QUARTER, TURN};
 
 /// 2⁶⁴ degrees, which count 2⁻⁵⁶. Further from 0 no octants are counted.
-const FAR: i128 = 1_329_227_995_784_915_872_903_807_060_280_344_576;
+const FAR: i128 = 1 << 120;
 
 /// What every sine lies in.
 fn all_sines() -> Span

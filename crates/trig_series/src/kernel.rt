@@ -2,22 +2,17 @@
 //!
 //! All numbers count 2⁻⁶⁴. The coefficients are 1 / n!, rounded down, and Horner's form takes them from the inside
 //! out. A step makes an error of at most 320 into one of at most 320, since the square of an angle is at most 16/25.
-ghost use Rattle.std.specs.Prelude.{◌≡◌, ◌≤◌, ◌*◌, ◌/◌, ◌-◌, ◌^◌, ℕ, pos, ◌-ℤ◌, ◌+ℤ◌};
+ghost use Rattle.std.specs.Prelude.{◌≤◌, ◌*◌, ◌-◌, ◌^◌, ℕ, pos, ◌-ℤ◌, ◌+ℤ◌};
 ghost use Rattle.exact_math.specs.Fraction.{Fraction, ◌≤F◌, plus, opposite, times};
 ghost use Rattle.exact_math.specs.Interval.{zero_fraction, between, ◌⊆◌};
 ghost use Rattle.book_model.specs.programs.Leading.{units_of_56};
 ghost use Rattle.book_model.specs.numbers.Octants.{radians};
 ghost use Rattle.book_model.specs.numbers.Series.{sine_series, cosine_series};
-ghost use Rattle.trig_series.specs.declared.scale.TheConstants.{OCTANT};
-ghost use Rattle.trig_series.specs.Kernel.{at_64, IsWithinUnits, IsCut, IsSquare, IsAngle, AreSineEnds, AreCosineEnds, IsInRadians};
+ghost use Rattle.interval_ends.specs.declared.parts.TheConstants.{OCTANT};
+ghost use Rattle.rounded_quotients.specs.Units.{at_64, IsWithinUnits};
+ghost use Rattle.trig_series.specs.Kernel.{IsCut, IsSquare, IsAngle, AreSineEnds, AreCosineEnds, IsInRadians};
 
-/// The high half of a product.
-#[inline(always)]
-fn high_half(a: u64, b: u64) -> u64
-    ensures value { result ≡ a * b / 2 ^ 64 }
-{
-    (u128::from(a) * u128::from(b) >> 64) as u64
-}
+use rounded_quotients::high_half;
 
 /// One step of Horner's form: a coefficient less a square times what stands further in.
 #[inline(always)]

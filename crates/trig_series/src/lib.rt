@@ -10,7 +10,6 @@ mod kernel;
 mod octants;
 mod parts;
 mod points;
-mod scale;
 
 pub use degrees::{cos_deg, sin_deg, tan_deg};
 pub use encl_core::pi;

@@ -6,14 +6,14 @@ ghost use Rattle.exact_math.specs.Interval.{between, ◌⊆◌};
 ghost use Rattle.book_model.specs.programs.Leading.{units_of_56};
 ghost use Rattle.book_model.specs.numbers.Octants.{radians, sine_into as into_octant};
 ghost use Rattle.book_model.specs.numbers.Series.{sine_series, cosine_series};
-ghost use Rattle.trig_series.specs.declared.scale.TheConstants.{OCTANT};
+ghost use Rattle.interval_ends.specs.declared.parts.TheConstants.{OCTANT};
 ghost use Rattle.trig_series.specs.Points.{IsSmall, IsRising, IsCrest, IsPart};
 ghost use Rattle.book_model.specs.numbers.Depth.{DEPTH};
 
 use crate::kernel::{cosine_of_degrees_56, sine_of_degrees_56};
 use crate::points::{opposite, span_around};
-use crate::scale::OCTANT;
 use encl_core::Span;
+use interval_ends::parts::OCTANT;
 
 /// How far a sine or a cosine moves at most over so many degrees of an octant: a 57th of them, rounded up.
 #[inline(always)]

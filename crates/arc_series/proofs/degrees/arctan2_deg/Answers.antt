@@ -61,8 +61,9 @@ returns-in_default-clause-measured g c = λ v e l hy hx. nothing_slow g.E.Enclos
 pub returns-then-span-gt0-clause-measured : goal.returns-then-span-gt0-clause-measured
 returns-then-span-gt0-clause-measured g c = λ v e l hy hx.
     let shown = g.E.Enclosure.shown in
-    let d = direction_within shown _ v c.args.y c.args.x e l hy hx c.div.result (λ r a b. c.div.ensures.encloses.narrow r a b) c.arctan_deg.result
-    c.from_int.result c.sub.result c.arctan_deg.ensures.slow (λ r a. c.arctan_deg.ensures.encloses.narrow r a) (λ r. c.from_int.ensures.encloses.narrow r)
+    let d =
+    direction_within shown _ v c.args.y c.args.x e l hy hx c.div.result (λ r a b. c.div.ensures.encloses.narrow r a b) c.arctan_deg.result c.from_int.result
+    c.sub.result c.arctan_deg.ensures.slow (λ r a. c.arctan_deg.ensures.encloses.narrow r a) (λ r. c.from_int.ensures.encloses.narrow r)
     (λ r a b. c.sub.ensures.encloses.narrow r a b) in
     looser _ _ _ _ _ (230 * v + 2 ^ 20) _ (omega (arith, ints)) (omega (arith, ints)) (omega arith) (c.kept_around.ensures.narrow _ _ e d)
 

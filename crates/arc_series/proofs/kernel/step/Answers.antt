@@ -1,5 +1,6 @@
 use Rattle.std.proofs.Common.{arith}
-use Rattle.arc_series.proofs.KernelSteps.{step_near, high_is, high_small}
+use Rattle.rounded_quotients.proofs.HighHalves.{high_is, high_small}
+use Rattle.arc_series.proofs.KernelSteps.{step_near}
 use Rattle.arc_series.proofs.kernel.step.Goals as goal
 
 pub returns-clause-near : goal.returns-clause-near

@@ -30,8 +30,8 @@ returns-in-Below c =
     })
 
 pub returns-in-Near : goal.returns-in-Near
-returns-in-Near c = let f = c.ranges.number in let h = simp to_z-of_z at c.near_zero.ensures.holds in rw c.in-Near.is
-    (record { holds = h; thin = c.near_zero.ensures.thin })
+returns-in-Near c =
+    let f = c.ranges.number in let h = simp to_z-of_z at c.near_zero.ensures.holds in rw c.in-Near.is (record { holds = h; thin = c.near_zero.ensures.thin })
 
 pub returns-in-Above : goal.returns-in-Above
 returns-in-Above c =

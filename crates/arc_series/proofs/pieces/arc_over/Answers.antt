@@ -12,8 +12,8 @@ returns-then-begin-hi c =
     let fb : SFits w128 c.begin_of-begin.result = search rules in
     let k = simp to_z-of_z at c.if-begin-hi.true in
     record {
-      holds = λ n d. unbegun_held of_span n c.args.piece c.args.lo c.args.hi _ (omega (arith, ints, fh))
-          (omega (arith, ints, k, c.begin_of-begin.ensures.value));
+      holds =
+          λ n d. unbegun_held of_span n c.args.piece c.args.lo c.args.hi _ (omega (arith, ints, fh)) (omega (arith, ints, k, c.begin_of-begin.ensures.value));
       narrow = inl (unbegun c.args.piece c.args.hi (omega (arith, ints, fh)) (omega (arith, ints, k, c.begin_of-begin.ensures.value)));
     }
 
@@ -64,9 +64,12 @@ returns c =
           part_reaches c.args.piece c.args.lo c.args.hi c.max.result c.min.result _ _ _ _ _
           (record { order = c.requires.ordered; least = omega (arith, ints, fl); most = omega (arith, ints, fh); begun = b; ended = e; begin = x; end = y })
           (record {
-            from = p.0;
-            order = part_order c.args.piece c.args.lo c.args.hi c.max.result c.min.result c.requires.ordered x y b e;
-            to = q.1;
+            from =
+                p.0;
+            order =
+                part_order c.args.piece c.args.lo c.args.hi c.max.result c.min.result c.requires.ordered x y b e;
+            to =
+                q.1;
             low_thin = c.arc-low.ensures.thin;
             high_thin = c.arc-high.ensures.thin;
             low_held = f;

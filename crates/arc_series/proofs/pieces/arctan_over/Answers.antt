@@ -36,10 +36,10 @@ returns c =
           let r = simp to_z-of_z at c.arc_over-3.ensures.narrow in
           let s = simp to_z-of_z at c.arc_over-4.ensures.narrow in
           let t = simp to_z-of_z at c.arc_over-5.ensures.narrow in
-          let positive = c.hull_of_spans-positive.ensures.narrow edge_near_above edge_above no_end 80 80 lo hi o (omega (arith, ints)) (omega (arith, ints)) p
-          q in
-          let later = c.hull_of_spans-later.ensures.narrow edge_near_below edge_near_above no_end 80 200 lo hi o (omega (arith, ints)) (omega (arith, ints)) r
-          positive in
+          let positive =
+          c.hull_of_spans-positive.ensures.narrow edge_near_above edge_above no_end 80 80 lo hi o (omega (arith, ints)) (omega (arith, ints)) p q in
+          let later =
+          c.hull_of_spans-later.ensures.narrow edge_near_below edge_near_above no_end 80 200 lo hi o (omega (arith, ints)) (omega (arith, ints)) r positive in
           let most = c.hull_of_spans-most.ensures.narrow edge_below edge_near_below no_end 80 320 lo hi o (omega (arith, ints)) (omega (arith, ints)) s later in
           all_over lo hi _ o (omega (arith, ints, fl)) (omega (arith, ints, fh))
           (c.hull_of_spans.ensures.narrow no_begin edge_below no_end 80 440 lo hi o (omega (arith, ints)) (omega (arith, ints)) t most);

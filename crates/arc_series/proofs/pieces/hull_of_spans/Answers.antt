@@ -18,7 +18,8 @@ returns-in-Some-y c = record {
 pub returns-in-None-y : goal.returns-in-None-y
 returns-in-None-y c = record {
   holds = λ i j h k. join_first of_span i j _ (subst (λ z. AreHeld of_span i z) c.in-Some.is h) (subst (λ z. AreHeld of_span j z) c.in-None-y.is k);
-  narrow = λ f e l j k lo hi o p q h g. first_reaches f e l j k lo hi _ o p q (subst (λ z. Reaches f e j lo hi z) c.in-Some.is h)
+  narrow =
+      λ f e l j k lo hi o p q h g. first_reaches f e l j k lo hi _ o p q (subst (λ z. Reaches f e j lo hi z) c.in-Some.is h)
       (subst (λ z. Reaches e l k lo hi z) c.in-None-y.is g);
 }
 

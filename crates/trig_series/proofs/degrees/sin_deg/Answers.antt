@@ -28,6 +28,6 @@ returns-in-None g c =
         holds = λ w a h. sine_somewhere shown w a _ _ _ _ c.all_sines.ensures.low c.all_sines.ensures.high c.from_span-in-None.ensures.holds h;
         narrow = λ r a h. sine_keeps_all shown _ r a _ _ (c.in-None.ensures.none refl) h;
       };
-      measured = λ v e k. sine_within shown _ v c.args.x c.from_span-in-None.result e k
-          (λ r a h. sine_keeps_all shown _ r a _ _ (c.in-None.ensures.none refl) h);
+      measured =
+          λ v e k. sine_within shown _ v c.args.x c.from_span-in-None.result e k (λ r a h. sine_keeps_all shown _ r a _ _ (c.in-None.ensures.none refl) h);
     }

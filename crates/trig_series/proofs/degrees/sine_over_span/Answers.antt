@@ -6,16 +6,18 @@ use Rattle.trig_series.proofs.SineLemmas.{all_hold, apart_sine}
 use Rattle.trig_series.proofs.degrees.sine_over_span.Goals as goal
 
 pub returns-then-degrees-clause-holds : goal.returns-then-degrees-clause-holds
-returns-then-degrees-clause-holds c = λ n l. all_hold n _ _ _ (order_at c.args.degrees.lo c.args.degrees.hi c.args.degrees.ordered) c.all_sines.ensures.low
-    c.all_sines.ensures.high
+returns-then-degrees-clause-holds c =
+    λ n l. all_hold n _ _ _ (order_at c.args.degrees.lo c.args.degrees.hi c.args.degrees.ordered) c.all_sines.ensures.low c.all_sines.ensures.high
 
 pub returns-then-degrees-gt-FAR-clause-holds : goal.returns-then-degrees-gt-FAR-clause-holds
-returns-then-degrees-gt-FAR-clause-holds c = λ n l. all_hold n _ _ _ (order_at c.args.degrees.lo c.args.degrees.hi c.args.degrees.ordered)
-    c.all_sines-then-degrees-gt-FAR.ensures.low c.all_sines-then-degrees-gt-FAR.ensures.high
+returns-then-degrees-gt-FAR-clause-holds c =
+    λ n l. all_hold n _ _ _ (order_at c.args.degrees.lo c.args.degrees.hi c.args.degrees.ordered) c.all_sines-then-degrees-gt-FAR.ensures.low
+    c.all_sines-then-degrees-gt-FAR.ensures.high
 
 pub returns-then-degrees-ge-TURN-clause-holds : goal.returns-then-degrees-ge-TURN-clause-holds
-returns-then-degrees-ge-TURN-clause-holds c = λ n l. all_hold n _ _ _ (order_at c.args.degrees.lo c.args.degrees.hi c.args.degrees.ordered)
-    c.all_sines-then-degrees-ge-TURN.ensures.low c.all_sines-then-degrees-ge-TURN.ensures.high
+returns-then-degrees-ge-TURN-clause-holds c =
+    λ n l. all_hold n _ _ _ (order_at c.args.degrees.lo c.args.degrees.hi c.args.degrees.ordered) c.all_sines-then-degrees-ge-TURN.ensures.low
+    c.all_sines-then-degrees-ge-TURN.ensures.high
 
 pub returns-then-degrees-ge-TURN-clause-narrow : goal.returns-then-degrees-ge-TURN-clause-narrow
 returns-then-degrees-ge-TURN-clause-narrow c =

@@ -3,6 +3,7 @@ use Rattle.std.specs.Int.{w128}
 use Rattle.std.proofs.lemmas.Int.{ints, to_z-of_z}
 use Rattle.book_model.specs.programs.Leading.{units_of_56}
 use Rattle.book_model.specs.numbers.Octants.{sine_in as in_octant}
+use Rattle.interval_ends.specs.declared.parts.TheConstants.{OCTANT}
 use Rattle.trig_series.proofs.OctantLemmas.{division_is, first_alone, over_holds, first_alone_is, last_alone_is, edge_below, edge_above}
 use Rattle.trig_series.proofs.PartLemmas.{begun_elsewhere, ended_elsewhere, by_inside}
 use Rattle.trig_series.proofs.TurnLemmas.{one_narrow}
@@ -15,9 +16,8 @@ sine_over_edges-requires-clause-several c =
     let fo : SFits w128 c.octants_in-octant.result = search rules in
     let e = simp to_z-of_z at c.octants_in-octant.ensures.value in
     let q = division_is c.args.lo c.octants_in-octant.result e in
-    let fp : SFits w128 (c.octants_in-octant.result *ℤ pos 3242591731706757120) = omega (arith, ints, c.requires, q.not_above, q.close) in
-    let fn : SFits w128 (c.octants_in-octant.result *ℤ pos 3242591731706757120 +ℤ pos 3242591731706757120) = omega
-    (arith, ints, c.requires, q.not_above, q.close) in
+    let fp : SFits w128 (c.octants_in-octant.result *ℤ pos OCTANT) = omega (arith, ints, c.requires, q.not_above, q.close) in
+    let fn : SFits w128 (c.octants_in-octant.result *ℤ pos OCTANT +ℤ pos OCTANT) = omega (arith, ints, c.requires, q.not_above, q.close) in
     let l = simp to_z-of_z at c.if-lo-edge.true in
     simp to_z-of_z (edge_below c.octants_in-octant.result c.args.lo c.args.hi (omega (arith, ints, q.not_above)) (omega (arith, ints, l)) c.requires.ordered)
 
@@ -28,9 +28,8 @@ sine_over_edges-requires-then-hi-edge-clause-several c =
     let fo : SFits w128 c.octants_in-octant.result = search rules in
     let e = simp to_z-of_z at c.octants_in-octant.ensures.value in
     let q = division_is c.args.lo c.octants_in-octant.result e in
-    let fp : SFits w128 (c.octants_in-octant.result *ℤ pos 3242591731706757120) = omega (arith, ints, c.requires, q.not_above, q.close) in
-    let fn : SFits w128 (c.octants_in-octant.result *ℤ pos 3242591731706757120 +ℤ pos 3242591731706757120) = omega
-    (arith, ints, c.requires, q.not_above, q.close) in
+    let fp : SFits w128 (c.octants_in-octant.result *ℤ pos OCTANT) = omega (arith, ints, c.requires, q.not_above, q.close) in
+    let fn : SFits w128 (c.octants_in-octant.result *ℤ pos OCTANT +ℤ pos OCTANT) = omega (arith, ints, c.requires, q.not_above, q.close) in
     let u = simp to_z-of_z at c.if-hi-edge.true in
     simp to_z-of_z (edge_above c.octants_in-octant.result c.args.lo c.args.hi (omega (arith, ints, q.close)) (omega (arith, ints, u)))
 
@@ -77,9 +76,8 @@ returns-clause-holds c =
     let fo : SFits w128 c.octants_in-octant.result = search rules in
     let e = simp to_z-of_z at c.octants_in-octant.ensures.value in
     let q = division_is c.args.lo c.octants_in-octant.result e in
-    let fp : SFits w128 (c.octants_in-octant.result *ℤ pos 3242591731706757120) = omega (arith, ints, c.requires, q.not_above, q.close) in
-    let fn : SFits w128 (c.octants_in-octant.result *ℤ pos 3242591731706757120 +ℤ pos 3242591731706757120) = omega
-    (arith, ints, c.requires, q.not_above, q.close) in
+    let fp : SFits w128 (c.octants_in-octant.result *ℤ pos OCTANT) = omega (arith, ints, c.requires, q.not_above, q.close) in
+    let fn : SFits w128 (c.octants_in-octant.result *ℤ pos OCTANT +ℤ pos OCTANT) = omega (arith, ints, c.requires, q.not_above, q.close) in
     let l = simp to_z-of_z at c.if-lo-edge.false in
     let u = simp to_z-of_z at c.if-hi-edge.false in
     let h = simp to_z-of_z at c.sine_within_octant.ensures.holds in
@@ -97,9 +95,8 @@ returns-clause-narrow c =
     let fo : SFits w128 c.octants_in-octant.result = search rules in
     let e = simp to_z-of_z at c.octants_in-octant.ensures.value in
     let q = division_is c.args.lo c.octants_in-octant.result e in
-    let fp : SFits w128 (c.octants_in-octant.result *ℤ pos 3242591731706757120) = omega (arith, ints, c.requires, q.not_above, q.close) in
-    let fn : SFits w128 (c.octants_in-octant.result *ℤ pos 3242591731706757120 +ℤ pos 3242591731706757120) = omega
-    (arith, ints, c.requires, q.not_above, q.close) in
+    let fp : SFits w128 (c.octants_in-octant.result *ℤ pos OCTANT) = omega (arith, ints, c.requires, q.not_above, q.close) in
+    let fn : SFits w128 (c.octants_in-octant.result *ℤ pos OCTANT +ℤ pos OCTANT) = omega (arith, ints, c.requires, q.not_above, q.close) in
     one_narrow c.args.lo c.args.hi c.sine_within_octant.result.lo c.sine_within_octant.result.hi (simp to_z-of_z at c.sine_within_octant.ensures.narrow)
 
 pub returns-clause-small : goal.returns-clause-small
@@ -109,9 +106,8 @@ returns-clause-small c =
     let fo : SFits w128 c.octants_in-octant.result = search rules in
     let e = simp to_z-of_z at c.octants_in-octant.ensures.value in
     let q = division_is c.args.lo c.octants_in-octant.result e in
-    let fp : SFits w128 (c.octants_in-octant.result *ℤ pos 3242591731706757120) = omega (arith, ints, c.requires, q.not_above, q.close) in
-    let fn : SFits w128 (c.octants_in-octant.result *ℤ pos 3242591731706757120 +ℤ pos 3242591731706757120) = omega
-    (arith, ints, c.requires, q.not_above, q.close) in
+    let fp : SFits w128 (c.octants_in-octant.result *ℤ pos OCTANT) = omega (arith, ints, c.requires, q.not_above, q.close) in
+    let fn : SFits w128 (c.octants_in-octant.result *ℤ pos OCTANT +ℤ pos OCTANT) = omega (arith, ints, c.requires, q.not_above, q.close) in
     simp to_z-of_z at c.sine_within_octant.ensures.small
 
 pub returns-clause-crest : goal.returns-clause-crest
@@ -121,9 +117,8 @@ returns-clause-crest c =
     let fo : SFits w128 c.octants_in-octant.result = search rules in
     let e = simp to_z-of_z at c.octants_in-octant.ensures.value in
     let q = division_is c.args.lo c.octants_in-octant.result e in
-    let fp : SFits w128 (c.octants_in-octant.result *ℤ pos 3242591731706757120) = omega (arith, ints, c.requires, q.not_above, q.close) in
-    let fn : SFits w128 (c.octants_in-octant.result *ℤ pos 3242591731706757120 +ℤ pos 3242591731706757120) = omega
-    (arith, ints, c.requires, q.not_above, q.close) in
+    let fp : SFits w128 (c.octants_in-octant.result *ℤ pos OCTANT) = omega (arith, ints, c.requires, q.not_above, q.close) in
+    let fn : SFits w128 (c.octants_in-octant.result *ℤ pos OCTANT +ℤ pos OCTANT) = omega (arith, ints, c.requires, q.not_above, q.close) in
     simp to_z-of_z at c.sine_within_octant.ensures.crest
 
 pub returns-then-lo-edge-clause-inside : goal.returns-then-lo-edge-clause-inside
@@ -133,7 +128,7 @@ returns-then-lo-edge-clause-inside c =
     let fo : SFits w128 c.octants_in-octant.result = search rules in
     let e = simp to_z-of_z at c.octants_in-octant.ensures.value in
     let q = division_is c.args.lo c.octants_in-octant.result e in
-    let fp : SFits w128 (c.octants_in-octant.result *ℤ pos 3242591731706757120) = omega (arith, ints, c.requires, q.not_above, q.close) in
+    let fp : SFits w128 (c.octants_in-octant.result *ℤ pos OCTANT) = omega (arith, ints, c.requires, q.not_above, q.close) in
     let l = simp to_z-of_z at c.if-lo-edge.true in
     λ k i. absurd (begun_elsewhere k c.octants_in-octant.result c.args.lo c.args.hi (omega (arith, ints, q.not_above)) (omega (arith, ints, l))
     c.requires.ordered i)
@@ -145,9 +140,8 @@ returns-then-hi-edge-clause-inside c =
     let fo : SFits w128 c.octants_in-octant.result = search rules in
     let e = simp to_z-of_z at c.octants_in-octant.ensures.value in
     let q = division_is c.args.lo c.octants_in-octant.result e in
-    let fp : SFits w128 (c.octants_in-octant.result *ℤ pos 3242591731706757120) = omega (arith, ints, c.requires, q.not_above, q.close) in
-    let fn : SFits w128 (c.octants_in-octant.result *ℤ pos 3242591731706757120 +ℤ pos 3242591731706757120) = omega
-    (arith, ints, c.requires, q.not_above, q.close) in
+    let fp : SFits w128 (c.octants_in-octant.result *ℤ pos OCTANT) = omega (arith, ints, c.requires, q.not_above, q.close) in
+    let fn : SFits w128 (c.octants_in-octant.result *ℤ pos OCTANT +ℤ pos OCTANT) = omega (arith, ints, c.requires, q.not_above, q.close) in
     let u = simp to_z-of_z at c.if-hi-edge.true in
     λ k i. absurd (ended_elsewhere k c.octants_in-octant.result c.args.lo c.args.hi (omega (arith, ints, q.close)) (omega (arith, ints, u)) i)
 
@@ -158,9 +152,8 @@ returns-clause-inside c =
     let fo : SFits w128 c.octants_in-octant.result = search rules in
     let e = simp to_z-of_z at c.octants_in-octant.ensures.value in
     let q = division_is c.args.lo c.octants_in-octant.result e in
-    let fp : SFits w128 (c.octants_in-octant.result *ℤ pos 3242591731706757120) = omega (arith, ints, c.requires, q.not_above, q.close) in
-    let fn : SFits w128 (c.octants_in-octant.result *ℤ pos 3242591731706757120 +ℤ pos 3242591731706757120) = omega
-    (arith, ints, c.requires, q.not_above, q.close) in
+    let fp : SFits w128 (c.octants_in-octant.result *ℤ pos OCTANT) = omega (arith, ints, c.requires, q.not_above, q.close) in
+    let fn : SFits w128 (c.octants_in-octant.result *ℤ pos OCTANT +ℤ pos OCTANT) = omega (arith, ints, c.requires, q.not_above, q.close) in
     let h = simp to_z-of_z at c.sine_within_octant.ensures.near in
     λ k i. by_inside k c.octants_in-octant.result c.args.lo c.args.hi _ _ (omega (arith, ints, q.not_above)) (omega (arith, ints, q.close)) c.requires.ordered i
     h

@@ -1,6 +1,7 @@
 use Rattle.std.proofs.Common.{rules, arith, SFits, pos, ◌+ℤ◌, ◌*ℤ◌}
 use Rattle.std.specs.Int.{w128}
 use Rattle.std.proofs.lemmas.Int.{ints, clamps, to_z-of_z}
+use Rattle.interval_ends.specs.declared.parts.TheConstants.{OCTANT}
 use Rattle.trig_series.proofs.OctantLemmas.{in_holds}
 use Rattle.trig_series.proofs.Steady.{LiesIn, in_narrow, in_small, in_crest, hull_at_first, hull_at_second}
 use Rattle.trig_series.proofs.octants.sine_over_degrees_in_octant.Goals as goal
@@ -9,8 +10,8 @@ pub sine_at_degrees_in_octant-high-requires-clause-low : goal.sine_at_degrees_in
 sine_at_degrees_in_octant-high-requires-clause-low c =
     let fo = c.ranges.octant in
     let fh = c.ranges.hi in
-    let fe : SFits w128 (c.args.octant *ℤ pos 3242591731706757120) = omega (arith, ints, c.requires) in
-    let fn : SFits w128 (c.args.octant *ℤ pos 3242591731706757120 +ℤ pos 3242591731706757120) = omega (arith, ints, c.requires) in
+    let fe : SFits w128 (c.args.octant *ℤ pos OCTANT) = omega (arith, ints, c.requires) in
+    let fn : SFits w128 (c.args.octant *ℤ pos OCTANT +ℤ pos OCTANT) = omega (arith, ints, c.requires) in
     let fq : SFits w128 c.min.result = search rules in
     let v = simp to_z-of_z at c.min.ensures.value in
     simp to_z-of_z (omega (arith, ints, clamps, v, c.requires))
@@ -20,8 +21,8 @@ returns-clause-holds c =
     let fo = c.ranges.octant in
     let fl = c.ranges.lo in
     let fh = c.ranges.hi in
-    let fe : SFits w128 (c.args.octant *ℤ pos 3242591731706757120) = omega (arith, ints, c.requires) in
-    let fn : SFits w128 (c.args.octant *ℤ pos 3242591731706757120 +ℤ pos 3242591731706757120) = omega (arith, ints, c.requires) in
+    let fe : SFits w128 (c.args.octant *ℤ pos OCTANT) = omega (arith, ints, c.requires) in
+    let fn : SFits w128 (c.args.octant *ℤ pos OCTANT +ℤ pos OCTANT) = omega (arith, ints, c.requires) in
     let fp : SFits w128 c.max.result = search rules in
     let fq : SFits w128 c.min.result = search rules in
     let u = simp to_z-of_z at c.max.ensures.value in
@@ -36,8 +37,8 @@ returns-clause-narrow c =
     let fo = c.ranges.octant in
     let fl = c.ranges.lo in
     let fh = c.ranges.hi in
-    let fe : SFits w128 (c.args.octant *ℤ pos 3242591731706757120) = omega (arith, ints, c.requires) in
-    let fn : SFits w128 (c.args.octant *ℤ pos 3242591731706757120 +ℤ pos 3242591731706757120) = omega (arith, ints, c.requires) in
+    let fe : SFits w128 (c.args.octant *ℤ pos OCTANT) = omega (arith, ints, c.requires) in
+    let fn : SFits w128 (c.args.octant *ℤ pos OCTANT +ℤ pos OCTANT) = omega (arith, ints, c.requires) in
     let fp : SFits w128 c.max.result = search rules in
     let fq : SFits w128 c.min.result = search rules in
     let u = simp to_z-of_z at c.max.ensures.value in
@@ -52,7 +53,8 @@ returns-clause-narrow c =
       from = omega (arith, ints, clamps, v, c.requires);
       to = omega (arith, ints, clamps, v);
     } in
-    let h = in_narrow c.args.octant c.max.result c.min.result _ _ _ _ _ _ (omega (arith, ints, clamps, u, v, c.requires)) low high c.hull.ensures.low
+    let h =
+    in_narrow c.args.octant c.max.result c.min.result _ _ _ _ _ _ (omega (arith, ints, clamps, u, v, c.requires)) low high c.hull.ensures.low
     c.hull.ensures.high in
     rw (u, v) at h
 
@@ -61,8 +63,8 @@ returns-clause-begins c =
     let fo = c.ranges.octant in
     let fl = c.ranges.lo in
     let fh = c.ranges.hi in
-    let fe : SFits w128 (c.args.octant *ℤ pos 3242591731706757120) = omega (arith, ints, c.requires) in
-    let fn : SFits w128 (c.args.octant *ℤ pos 3242591731706757120 +ℤ pos 3242591731706757120) = omega (arith, ints, c.requires) in
+    let fe : SFits w128 (c.args.octant *ℤ pos OCTANT) = omega (arith, ints, c.requires) in
+    let fn : SFits w128 (c.args.octant *ℤ pos OCTANT +ℤ pos OCTANT) = omega (arith, ints, c.requires) in
     let fp : SFits w128 c.max.result = search rules in
     let fq : SFits w128 c.min.result = search rules in
     let u = simp to_z-of_z at c.max.ensures.value in
@@ -76,8 +78,8 @@ returns-clause-ends c =
     let fo = c.ranges.octant in
     let fl = c.ranges.lo in
     let fh = c.ranges.hi in
-    let fe : SFits w128 (c.args.octant *ℤ pos 3242591731706757120) = omega (arith, ints, c.requires) in
-    let fn : SFits w128 (c.args.octant *ℤ pos 3242591731706757120 +ℤ pos 3242591731706757120) = omega (arith, ints, c.requires) in
+    let fe : SFits w128 (c.args.octant *ℤ pos OCTANT) = omega (arith, ints, c.requires) in
+    let fn : SFits w128 (c.args.octant *ℤ pos OCTANT +ℤ pos OCTANT) = omega (arith, ints, c.requires) in
     let fp : SFits w128 c.max.result = search rules in
     let fq : SFits w128 c.min.result = search rules in
     let u = simp to_z-of_z at c.max.ensures.value in
@@ -91,8 +93,8 @@ returns-clause-small c =
     let fo = c.ranges.octant in
     let fl = c.ranges.lo in
     let fh = c.ranges.hi in
-    let fe : SFits w128 (c.args.octant *ℤ pos 3242591731706757120) = omega (arith, ints, c.requires) in
-    let fn : SFits w128 (c.args.octant *ℤ pos 3242591731706757120 +ℤ pos 3242591731706757120) = omega (arith, ints, c.requires) in
+    let fe : SFits w128 (c.args.octant *ℤ pos OCTANT) = omega (arith, ints, c.requires) in
+    let fn : SFits w128 (c.args.octant *ℤ pos OCTANT +ℤ pos OCTANT) = omega (arith, ints, c.requires) in
     let fp : SFits w128 c.max.result = search rules in
     let fq : SFits w128 c.min.result = search rules in
     let u = simp to_z-of_z at c.max.ensures.value in
@@ -115,8 +117,8 @@ returns-clause-crest c =
     let fo = c.ranges.octant in
     let fl = c.ranges.lo in
     let fh = c.ranges.hi in
-    let fe : SFits w128 (c.args.octant *ℤ pos 3242591731706757120) = omega (arith, ints, c.requires) in
-    let fn : SFits w128 (c.args.octant *ℤ pos 3242591731706757120 +ℤ pos 3242591731706757120) = omega (arith, ints, c.requires) in
+    let fe : SFits w128 (c.args.octant *ℤ pos OCTANT) = omega (arith, ints, c.requires) in
+    let fn : SFits w128 (c.args.octant *ℤ pos OCTANT +ℤ pos OCTANT) = omega (arith, ints, c.requires) in
     let fp : SFits w128 c.max.result = search rules in
     let fq : SFits w128 c.min.result = search rules in
     let u = simp to_z-of_z at c.max.ensures.value in

@@ -1,6 +1,7 @@
 use Rattle.std.proofs.Common.{rules, arith, SFits, pos, ◌-ℤ◌, ◌*ℤ◌}
 use Rattle.std.specs.Int.{w128}
 use Rattle.std.proofs.lemmas.Int.{ints, to_z-of_z}
+use Rattle.interval_ends.specs.declared.parts.TheConstants.{OCTANT}
 use Rattle.trig_series.proofs.PartLemmas.{turned_part, within_holds, part_small, part_crest}
 use Rattle.trig_series.proofs.octants.sine_within_octant.Goals as goal
 
@@ -10,9 +11,9 @@ returns-clause-holds c =
     let fl = c.ranges.lo in
     let fh = c.ranges.hi in
     let ft : SFits w128 c.octant_in_turn.result = search rules in
-    let fe : SFits w128 (c.args.octant *ℤ pos 3242591731706757120) = omega (arith, ints, c.requires) in
-    let fa : SFits w128 (c.args.lo -ℤ c.args.octant *ℤ pos 3242591731706757120) = omega (arith, ints, c.requires) in
-    let fb : SFits w128 (c.args.hi -ℤ c.args.octant *ℤ pos 3242591731706757120) = omega (arith, ints, c.requires) in
+    let fe : SFits w128 (c.args.octant *ℤ pos OCTANT) = omega (arith, ints, c.requires) in
+    let fa : SFits w128 (c.args.lo -ℤ c.args.octant *ℤ pos OCTANT) = omega (arith, ints, c.requires) in
+    let fb : SFits w128 (c.args.hi -ℤ c.args.octant *ℤ pos OCTANT) = omega (arith, ints, c.requires) in
     let v = simp to_z-of_z at c.octant_in_turn.ensures.value in
     let h = simp to_z-of_z at c.part_of_turn.ensures.holds in
     λ n l. within_holds n c.args.octant c.octant_in_turn.result c.args.lo c.args.hi _ _ v c.requires.begun c.requires.ordered c.requires.ended
@@ -24,9 +25,9 @@ returns-clause-narrow c =
     let fl = c.ranges.lo in
     let fh = c.ranges.hi in
     let ft : SFits w128 c.octant_in_turn.result = search rules in
-    let fe : SFits w128 (c.args.octant *ℤ pos 3242591731706757120) = omega (arith, ints, c.requires) in
-    let fa : SFits w128 (c.args.lo -ℤ c.args.octant *ℤ pos 3242591731706757120) = omega (arith, ints, c.requires) in
-    let fb : SFits w128 (c.args.hi -ℤ c.args.octant *ℤ pos 3242591731706757120) = omega (arith, ints, c.requires) in
+    let fe : SFits w128 (c.args.octant *ℤ pos OCTANT) = omega (arith, ints, c.requires) in
+    let fa : SFits w128 (c.args.lo -ℤ c.args.octant *ℤ pos OCTANT) = omega (arith, ints, c.requires) in
+    let fb : SFits w128 (c.args.hi -ℤ c.args.octant *ℤ pos OCTANT) = omega (arith, ints, c.requires) in
     let n = simp to_z-of_z at c.part_of_turn.ensures.narrow in
     omega (arith, ints, n, c.requires.begun, c.requires.ordered)
 
@@ -36,9 +37,9 @@ returns-clause-near c =
     let fl = c.ranges.lo in
     let fh = c.ranges.hi in
     let ft : SFits w128 c.octant_in_turn.result = search rules in
-    let fe : SFits w128 (c.args.octant *ℤ pos 3242591731706757120) = omega (arith, ints, c.requires) in
-    let fa : SFits w128 (c.args.lo -ℤ c.args.octant *ℤ pos 3242591731706757120) = omega (arith, ints, c.requires) in
-    let fb : SFits w128 (c.args.hi -ℤ c.args.octant *ℤ pos 3242591731706757120) = omega (arith, ints, c.requires) in
+    let fe : SFits w128 (c.args.octant *ℤ pos OCTANT) = omega (arith, ints, c.requires) in
+    let fa : SFits w128 (c.args.lo -ℤ c.args.octant *ℤ pos OCTANT) = omega (arith, ints, c.requires) in
+    let fb : SFits w128 (c.args.hi -ℤ c.args.octant *ℤ pos OCTANT) = omega (arith, ints, c.requires) in
     let v = simp to_z-of_z at c.octant_in_turn.ensures.value in
     let p = simp to_z-of_z at c.part_of_turn.ensures.near in
     turned_part c.args.octant c.octant_in_turn.result _ _ _ _ v p
@@ -49,9 +50,9 @@ returns-clause-small c =
     let fl = c.ranges.lo in
     let fh = c.ranges.hi in
     let ft : SFits w128 c.octant_in_turn.result = search rules in
-    let fe : SFits w128 (c.args.octant *ℤ pos 3242591731706757120) = omega (arith, ints, c.requires) in
-    let fa : SFits w128 (c.args.lo -ℤ c.args.octant *ℤ pos 3242591731706757120) = omega (arith, ints, c.requires) in
-    let fb : SFits w128 (c.args.hi -ℤ c.args.octant *ℤ pos 3242591731706757120) = omega (arith, ints, c.requires) in
+    let fe : SFits w128 (c.args.octant *ℤ pos OCTANT) = omega (arith, ints, c.requires) in
+    let fa : SFits w128 (c.args.lo -ℤ c.args.octant *ℤ pos OCTANT) = omega (arith, ints, c.requires) in
+    let fb : SFits w128 (c.args.hi -ℤ c.args.octant *ℤ pos OCTANT) = omega (arith, ints, c.requires) in
     let v = simp to_z-of_z at c.octant_in_turn.ensures.value in
     let p = simp to_z-of_z at c.part_of_turn.ensures.near in
     part_small c.args.octant c.args.lo c.args.hi _ _ (turned_part c.args.octant c.octant_in_turn.result _ _ _ _ v p) c.requires.begun c.requires.ordered
@@ -63,9 +64,9 @@ returns-clause-crest c =
     let fl = c.ranges.lo in
     let fh = c.ranges.hi in
     let ft : SFits w128 c.octant_in_turn.result = search rules in
-    let fe : SFits w128 (c.args.octant *ℤ pos 3242591731706757120) = omega (arith, ints, c.requires) in
-    let fa : SFits w128 (c.args.lo -ℤ c.args.octant *ℤ pos 3242591731706757120) = omega (arith, ints, c.requires) in
-    let fb : SFits w128 (c.args.hi -ℤ c.args.octant *ℤ pos 3242591731706757120) = omega (arith, ints, c.requires) in
+    let fe : SFits w128 (c.args.octant *ℤ pos OCTANT) = omega (arith, ints, c.requires) in
+    let fa : SFits w128 (c.args.lo -ℤ c.args.octant *ℤ pos OCTANT) = omega (arith, ints, c.requires) in
+    let fb : SFits w128 (c.args.hi -ℤ c.args.octant *ℤ pos OCTANT) = omega (arith, ints, c.requires) in
     let v = simp to_z-of_z at c.octant_in_turn.ensures.value in
     let p = simp to_z-of_z at c.part_of_turn.ensures.near in
     part_crest c.args.octant c.args.lo c.args.hi _ _ (turned_part c.args.octant c.octant_in_turn.result _ _ _ _ v p) c.requires.begun c.requires.ordered

@@ -11,8 +11,8 @@ returns-clause-holds c =
     let fq : SFits w128 c.span_around-point.result.hi = search rules in
     let fm : SFits w128 c.most_moved.result = search rules in
     let b = c.span_around-point.ensures.room in
-    let fs : SFits w128 (c.span_around-point.result.hi +ℤ c.most_moved.result) = omega
-    (arith, ints, c.requires, c.most_moved.ensures.close, b.above, b.below, c.span_around-point.result.ordered) in
+    let fs : SFits w128 (c.span_around-point.result.hi +ℤ c.most_moved.result) =
+    omega (arith, ints, c.requires, c.most_moved.ensures.close, b.above, b.below, c.span_around-point.result.ordered) in
     simp to_z-of_z (λ n d y h from to same.
     cosine_part_holds n d c.args.to c.cosine_of_degrees_56.result y c.span_around-point.result.lo c.span_around-point.result.hi c.most_moved.result h to
     (omega (arith, c.requires)) (omega (arith, ints, c.most_moved.ensures.enough, from, c.requires))

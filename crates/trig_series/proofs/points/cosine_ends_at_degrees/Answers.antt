@@ -1,5 +1,6 @@
 use Rattle.std.proofs.Common.{arith}
 use Rattle.std.proofs.lemmas.Int.{ints}
+use Rattle.interval_ends.specs.declared.parts.TheConstants.{OCTANT}
 use Rattle.trig_series.proofs.KernelAngles.{by_lower}
 use Rattle.trig_series.proofs.PointLemmas.{cosine_same, cosine_around, cosine_close, cosine_of_none, cosine_of_eighth, near_full, near_cosine_eighth}
 use Rattle.trig_series.proofs.points.cosine_ends_at_degrees.Goals as goal
@@ -15,7 +16,7 @@ returns-then-degrees-eq-OCTANT-clause-holds c = λ n y l e.
     let d = rw c.if-degrees-eq-OCTANT.true at e in
     let p = c.at_octant_end.ensures.low in
     let q = c.at_octant_end.ensures.high in
-    rw (p, q) (cosine_same n 3242591731706757120 y _ l d (cosine_of_eighth n l))
+    rw (p, q) (cosine_same n OCTANT y _ l d (cosine_of_eighth n l))
 
 pub returns-then-degrees-eq-OCTANT-clause-near : goal.returns-then-degrees-eq-OCTANT-clause-near
 returns-then-degrees-eq-OCTANT-clause-near c =

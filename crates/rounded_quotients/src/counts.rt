@@ -1,24 +1,14 @@
-//! Quotients of whole numbers, rounded down and up.
-ghost use Rattle.std.specs.Prelude.{◌≡◌, ◌<◌, pos, negsuc, ◌≤ℤ◌, ◌<ℤ◌, ◌-ℤ◌, ◌*ℤ◌};
+//! Quotients of counts of days, months and years, rounded down and up, and what they leave, as the definitions take them.
+ghost use Rattle.std.specs.Prelude.{◌≡◌, ◌<◌, pos, ◌≤ℤ◌, ◌<ℤ◌, ◌-ℤ◌, ◌*ℤ◌};
 ghost use Rattle.book_model.specs.calendars.Spans.{quotient_down, quotient_up as quotient_up_of, amod as amod_of, modulo as modulo_of};
-ghost use Rattle.calendar_math.specs.Days.{IsCount};
+ghost use Rattle.rounded_quotients.specs.Counts.{IsCount};
 
-/// The greatest whole number that isn't above the quotient.
-fn wide_quotient(number: i128, divisor: u64) -> i128
+/// The greatest whole number that isn't above the quotient, of a number of 128 bits.
+pub fn wide_quotient(number: i128, divisor: u64) -> i128
     requires positive { 0 < divisor }
     ensures quotient { result ≡ quotient_down number divisor }
 {
     number.div_euclid(i128::from(divisor))
-}
-
-/// The same of a quotient from -100,000,000,000 to 100,000,000,000.
-pub(crate) fn quotient_within(number: i128, divisor: u64) -> i64
-    requires positive { 0 < divisor }
-    requires low { (negsuc 99999999999 *ℤ pos divisor) ≤ℤ number }
-    requires high { number ≤ℤ (pos 100000000000 *ℤ pos divisor) }
-    ensures quotient { result ≡ quotient_down number divisor }
-{
-    wide_quotient(number, divisor) as i64
 }
 
 /// The least whole number that isn't below the quotient.

@@ -1,7 +1,7 @@
 use Rattle.std.proofs.Common.{rules, arith, SFits, w16, w64, ◌∙◌, sym}
 use Rattle.std.proofs.lemmas.Int.{to_z-of_z, ints}
 use Rattle.civil_core.proofs.JiffCalendar.{year_agrees}
-use Rattle.time_scales.proofs.gregorian.year_of_date.Goals as goal
+use Rattle.civil_core.proofs.years.year_of_date.Goals as goal
 
 pub returns : goal.returns
 returns c =

@@ -1,7 +1,7 @@
 use Rattle.std.proofs.Common.{rules, ◌∙◌, SFits, w64}
 use Rattle.std.proofs.lemmas.Int.{to_z-of_z}
-use Rattle.calendar_math.proofs.SpanLemmas.{rest_lies}
-use Rattle.calendar_math.proofs.quotients.modulo.Goals as goal
+use Rattle.rounded_quotients.proofs.Remainders.{rest_lies}
+use Rattle.rounded_quotients.proofs.counts.modulo.Goals as goal
 
 pub left_below-requires : goal.left_below-requires
 left_below-requires c =

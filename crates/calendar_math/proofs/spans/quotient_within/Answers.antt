@@ -2,7 +2,7 @@ use Rattle.std.proofs.Common.{arith, SFits, w64}
 use Rattle.std.specs.Int.{w128}
 use Rattle.std.proofs.lemmas.Int.{to_z-of_z, ints}
 use Rattle.calendar_math.proofs.SpanLemmas.{quotient_lies}
-use Rattle.calendar_math.proofs.quotients.quotient_within.Goals as goal
+use Rattle.calendar_math.proofs.spans.quotient_within.Goals as goal
 
 pub overflow_cast-result : goal.overflow_cast-result
 overflow_cast-result c =

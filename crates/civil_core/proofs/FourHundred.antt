@@ -1,11 +1,9 @@
 -- After 400 years, of 146097 days, the calendar repeats itself.
-use Rattle.std.proofs.Common.{◌≡◌, ◌∙◌, ℤ, pos, ◌+ℤ◌, ◌-ℤ◌, ◌*ℤ◌, arith}
+use Rattle.std.proofs.Common.{◌≡◌, ℤ, pos, ◌+ℤ◌, ◌-ℤ◌, ◌*ℤ◌, arith}
 use Rattle.std.proofs.lemmas.Int.{ints}
-use Rattle.std.specs.Int.{int_div_euclid}
-use Rattle.exact_math.proofs.Floors.{IsFloorQuotient, floor_quotient_is}
+use Rattle.exact_math.proofs.Floors.{floor_quotient_is}
 use Rattle.book_model.specs.calendars.Gregorian.{first_day, year_of_day, IsYearOfDay}
 use Rattle.book_model.proofs.Calendars.{year_is, year_unique}
-use Rattle.rounded_quotients.proofs.Quotients.{euclid_is}
 
 -- the first day of a year k times 400 years later
 pub first_day_repeats : (y k : ℤ) → first_day (y +ℤ k *ℤ pos 400) ≡ first_day y +ℤ k *ℤ pos 146097
@@ -34,7 +32,3 @@ year_repeats d k =
         let second = first_day_repeats (y +ℤ pos 1) k in
         let same : y +ℤ k *ℤ pos 400 +ℤ pos 1 ≡ y +ℤ pos 1 +ℤ k *ℤ pos 400 = omega (arith, ints) in
         record { begun = omega (arith, ints, i.begun); not_over = rw same (omega (arith, ints, i.not_over)) }
-
--- how often 400 years lie in so many days
-pub division_is : (d q : ℤ) → q ≡ int_div_euclid d (pos 146097) → IsFloorQuotient q d 146096
-division_is d q e = let f = e ∙ euclid_is d 146097 (omega arith) in rw f (floor_quotient_is d 146096)

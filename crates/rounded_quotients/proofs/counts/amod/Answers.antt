@@ -1,7 +1,7 @@
 use Rattle.std.proofs.Common.{rules, ◌∙◌, SFits, w64}
 use Rattle.std.proofs.lemmas.Int.{to_z-of_z}
-use Rattle.calendar_math.proofs.SpanLemmas.{left_lies}
-use Rattle.calendar_math.proofs.quotients.amod.Goals as goal
+use Rattle.rounded_quotients.proofs.Remainders.{left_lies}
+use Rattle.rounded_quotients.proofs.counts.amod.Goals as goal
 
 pub left_of-requires : goal.left_of-requires
 left_of-requires c =
