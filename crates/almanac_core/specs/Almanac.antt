@@ -1,6 +1,6 @@
 -- The 104 lines of the almanac of a Gregorian year, as requests: five new years and two festivals, the months of the
 -- Islamic calendar, the solar terms, the phases of the moon, and sunset at Cairo.
-use Rattle.std.specs.Prelude.{ℕ, ◌+◌, ◌-◌, ◌/◌, ◌%◌, ◌==◌, nat_lt, if◌then◌else◌, List, [], ◌∷◌, pos, ◌-ℤ◌, unsigned_abs}
+use Rattle.std.specs.Prelude.{ℕ, zero, suc, ◌+◌, ◌-◌, ◌/◌, ◌%◌, ◌==◌, nat_lt, if◌then◌else◌, List, [], ◌∷◌, pos, ◌-ℤ◌, unsigned_abs}
 use Rattle.book_model.specs.declared.calendar_tables.TheConstants.{ISLAMIC_EPOCH, SYNODIC_MONTH}
 use Rattle.book_model.specs.declared.request.Request.{Request}
 use Rattle.book_model.specs.declared.words.FromWord.{FromWord}
@@ -69,3 +69,12 @@ almanac_line_of year index =
     else (if nat_lt index 45 then term_of year (index - 21)
     else (if nat_lt index 93 then month_phase_of year (index - 45)
     else month_sunset_of year (index - 92))))
+
+-- so many lines of the almanac of a year, from an index on
+abbrev pub almanac_from : (year index many : ℕ) → List Request
+almanac_from year index zero = []
+almanac_from year index (suc many) = almanac_line_of year index ∷ almanac_from year (index + 1) many
+
+-- the lines of the almanac of a year
+abbrev pub almanac_requests : ℕ → List Request
+almanac_requests year = almanac_from year 1 104

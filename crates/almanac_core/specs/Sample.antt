@@ -1,5 +1,5 @@
 -- The lines of a sample, as requests, by a generator: the multiplier and the increment are those of Knuth's MMIX.
-use Rattle.std.specs.Prelude.{ℕ, ◌+◌, ◌*◌, ◌/◌, ◌%◌, ◌^◌, ◌<◌, ◌≤◌, ◌==◌, if◌then◌else◌, [], ◌∷◌}
+use Rattle.std.specs.Prelude.{ℕ, zero, suc, ◌+◌, ◌*◌, ◌/◌, ◌%◌, ◌^◌, ◌<◌, ◌≤◌, ◌==◌, if◌then◌else◌, List, [], ◌∷◌}
 use Rattle.book_model.specs.declared.request.Request.{Request}
 use Rattle.book_model.specs.declared.words.FromWord.TheVariants as from
 use Rattle.book_model.specs.declared.words.ToWord.{ToWord}
@@ -33,3 +33,12 @@ asked_at index =
 -- the line of an index, from 0, by the state that its own step gives
 unfoldable pub sample_line_of : (state index : ℕ) → Request
 sample_line_of state index = record { from = from.Fixed; date = fields_with (day_by state ∷ []); to = asked_at index }
+
+-- so many lines of a sample, after a state and from an index on
+abbrev pub sample_from : (state index many : ℕ) → List Request
+sample_from state index zero = []
+sample_from state index (suc many) = sample_line_of (state_after state) index ∷ sample_from (state_after state) (index + 1) many
+
+-- the lines of a sample, whose generator begins at the seed
+abbrev pub sample_requests : (count seed : ℕ) → List Request
+sample_requests count seed = sample_from seed 0 count

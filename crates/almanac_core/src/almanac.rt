@@ -1,5 +1,5 @@
 //! The lines of an almanac.
-ghost use Rattle.std.specs.Prelude.{◌≡◌, ◌≤◌, ◌<◌, pos, ◌≤ℤ◌};
+ghost use Rattle.std.specs.Prelude.{◌≡◌, ◌≤◌, ◌<◌, pos, ◌≤ℤ◌, IfOk};
 ghost use Rattle.book_model.specs.calendars.Gregorian.{fixed_of};
 ghost use Rattle.book_model.specs.numbers.Fractions.{fraction_of};
 ghost use Rattle.book_model.specs.calendars.Spans.{ratio, spans_of as spans_in};
@@ -12,6 +12,10 @@ use book_model::calendar_tables::{ISLAMIC_EPOCH, SYNODIC_MONTH};
 use book_model::{FromWord, Request, ToWord};
 use calendar_math::spans_of;
 use civil_core::to_fixed;
+use std::alloc::{AllocError, Global};
+
+/// How many lines an almanac has.
+const LINES: u32 = 104;
 
 /// The line of the day of the Chinese year that begins in a Gregorian year.
 #[tactic(auto, unfolding(crate::specs::Almanac::chinese_day_of))]
@@ -188,4 +192,16 @@ pub fn almanac_line(year: u32, index: u32) -> Request
     } else {
         month_sunset(year, index - 92)
     }
+}
+
+/// The 104 lines of the almanac of a Gregorian year, 1803 to 2047, in their order. The error comes where memory runs out.
+pub fn almanac_requests(alloc: Global, year: u32) -> Result<Vec<Request>, AllocError>
+    requires year { IsAlmanacYear year }
+    ensures requests { IfOk result (λ requests. requests.items ≡ spec.almanac_requests year) }
+{
+    let mut requests = Vec::with_capacity(alloc, LINES as usize)?;
+    for passed in 0..LINES {
+        requests.push(almanac_line(year, passed + 1))?;
+    }
+    Ok(requests)
 }

@@ -1,12 +1,13 @@
 //! The lines of an almanac and of a sample, as requests.
 //!
-//! - `almanac_line`: one of the 104 lines of the almanac of a year;
-//! - `sample_line`: a line of a large sample, by a generator.
+//! - `almanac_line`: one of the 104 lines of the almanac of a year, and `almanac_requests` all of them;
+//! - `sample_line`: a line of a large sample, by a generator, and `sample_requests` so many of them.
 #![tactic(auto)]
 
 mod almanac;
+pub mod laws;
 mod numbers;
 mod sample;
 
-pub use almanac::almanac_line;
-pub use sample::sample_line;
+pub use almanac::{almanac_line, almanac_requests};
+pub use sample::{sample_line, sample_requests};

@@ -1,8 +1,9 @@
 //! The lines of a sample.
-ghost use Rattle.std.specs.Prelude.{◌≡◌, ◌<◌};
+ghost use Rattle.std.specs.Prelude.{◌≡◌, ◌<◌, IfOk};
 ghost use Rattle.almanac_core.specs.Sample as spec;
 
 use book_model::{Fields, FromWord, Request, ToWord};
+use std::alloc::{AllocError, Global};
 
 /// What a state is multiplied by, what is added then, and of what multiples are left out (Knuth, MMIX).
 const MULTIPLIER: u128 = 6_364_136_223_846_793_005;
@@ -73,4 +74,18 @@ pub fn sample_line(state: u64, index: u32) -> (Request, u64)
 {
     let state = state_after(state);
     (line_by(state, index), state)
+}
+
+/// So many lines of a sample, whose generator begins at the seed, in their order. The error comes where memory runs out.
+pub fn sample_requests(alloc: Global, count: u32, seed: u64) -> Result<Vec<Request>, AllocError>
+    ensures requests { IfOk result (λ requests. requests.items ≡ spec.sample_requests count seed) }
+{
+    let mut requests = Vec::with_capacity(alloc, count as usize)?;
+    let mut state = seed;
+    for index in 0..count {
+        let (request, next) = sample_line(state, index);
+        requests.push(request)?;
+        state = next;
+    }
+    Ok(requests)
 }

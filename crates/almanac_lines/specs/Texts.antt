@@ -1,15 +1,8 @@
 -- The lines of an almanac and of a sample, as they stand in an input.
-use Rattle.std.specs.Prelude.{ℕ, zero, suc, ◌+◌, List, [], ◌∷◌, codes}
-use Rattle.std.specs.List.{concat}
+use Rattle.std.specs.Prelude.{ℕ, zero, suc, ◌+◌, List, [], ◌∷◌}
 use Rattle.almanac_core.specs.Almanac.{almanac_line_of}
 use Rattle.almanac_core.specs.Sample.{state_after, sample_line_of}
-use Rattle.book_model.specs.declared.request.Request.{Request}
-use Rattle.book_model.specs.lines.Text.{date_text}
-use Rattle.book_model.specs.lines.Words.{calendar_of, text_of_from, text_of_to}
-
--- FROM DATE TO, with a space between
-unfoldable pub line_text : Request → List ℕ
-line_text r = concat (text_of_from r.from ∷ codes " " ∷ date_text (calendar_of r.from) r.date ∷ codes " " ∷ text_of_to r.to ∷ [])
+pub use Rattle.book_model.specs.lines.Text.{line_text}
 
 -- so many lines of the almanac of a year, from an index on
 abbrev pub almanac_from : (year index many : ℕ) → List (List ℕ)

@@ -1,7 +1,6 @@
 //! The text of one line.
 ghost use Rattle.std.specs.Prelude.{◌≡◌, IfOk};
-ghost use Rattle.almanac_lines.specs.Texts as spec;
-ghost use Rattle.book_model.specs.lines.Text.{date_text};
+ghost use Rattle.book_model.specs.lines.Text.{date_text, line_text};
 ghost use Rattle.book_model.specs.lines.Words.{calendar_of};
 
 use book_model::Request;
@@ -21,9 +20,9 @@ fn date_of(alloc: Global, request: &Request) -> Result<Word, AllocError>
 }
 
 /// The line of a request. The error comes where memory runs out.
-#[tactic(auto, unfolding(crate::specs::Texts::line_text))]
+#[tactic(auto, unfolding(book_model::specs::lines::Text::line_text, book_model::specs::lines::Text::three_words_text))]
 pub(crate) fn line_of(alloc: Global, request: &Request) -> Result<Word, AllocError>
-    ensures line { IfOk result (λ w. w ≡ spec.line_text request.now) }
+    ensures line { IfOk result (λ w. w ≡ line_text request.now) }
 {
     let date = date_of(alloc, request)?;
     let mut gathered = Gathered::new(alloc);

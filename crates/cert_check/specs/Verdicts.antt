@@ -1,7 +1,7 @@
 -- The verdict of a line of a printed file, by an answer for each fact of the file.
-use Rattle.std.specs.Prelude.{◌≡◌, ℕ, ◌+◌, ◌-◌, nat_eq, if◌then◌else◌, List, [], ◌∷◌, length, codes, ℤ, Some, None, Option, Result, Ok, Err, slice_index_or, IsTrue}
+use Rattle.std.specs.Prelude.{◌≡◌, ℕ, ◌+◌, ◌-◌, nat_eq, if◌then◌else◌, List, [], ◌∷◌, length, ℤ, Some, None, Option, Result, Ok, Err, slice_index_or, IsTrue}
 use Rattle.std.specs.Ordering.{int_eq}
-use Rattle.std.specs.List.{concat, slice_get}
+use Rattle.std.specs.List.{slice_get}
 use lib.Pointwise.{pointwise}
 use Rattle.book_model.specs.declared.fact.Fact.{Fact}
 use Rattle.book_model.specs.declared.fail.Undecided.{Undecided as OpenTest}
@@ -14,12 +14,12 @@ use Rattle.book_model.specs.lines.LineRules.{rule_of}
 use Rattle.book_model.specs.declared.version.TheConstants.{WRITTEN}
 use Rattle.book_model.specs.lines.Outcomes.{resolved, IsRightFor}
 use Rattle.book_model.specs.lines.Requests.{request_of, rule_number}
-use Rattle.book_model.specs.lines.Text.{result_text}
+use Rattle.book_model.specs.lines.Text.{result_text, three_words_text}
 use Rattle.oracle_core.specs.declared.evaluator.Answer.{Answer}
 use Rattle.oracle_core.specs.declared.evaluator.Answer.TheVariants as answer
 use Rattle.oracle_core.specs.Answers.{IsRightAnswer}
 use Rattle.oracle_core.specs.Pairs.{AllStand, AreFactValues, are_distinct, facts_of, value_beside}
-use Rattle.cert_text.specs.declared.line.Echo.{Echo}
+use Rattle.cert_text.specs.Echo.{Echo}
 use Rattle.cert_text.specs.declared.line.CertLine.{CertLine}
 use Rattle.cert_text.specs.declared.line.CertLine.TheVariants as line
 use Rattle.cert_read.specs.declared.lines.CertFile.{CertFile}
@@ -54,8 +54,8 @@ numbered xs [] = []
 numbered xs (n ∷ ns) = onto (slice_get xs (n - 1)) (numbered xs ns)
 
 -- FROM DATE TO, with single spaces
-unfoldable pub words_of_echo : Echo → List ℕ
-words_of_echo echo = concat (echo.from ∷ codes " " ∷ echo.date ∷ codes " " ∷ echo.to ∷ [])
+abbrev pub words_of_echo : Echo → List ℕ
+words_of_echo echo = three_words_text echo.from echo.date echo.to
 
 -- a listed fact that isn't answered by its listed value
 abbrev pub reason_of : ℕ → Fact × ℤ → Answer → Option Reason

@@ -15,23 +15,9 @@ use crate::verdict::{Reason, Verdict};
 use book_model::{Fact, Request, WRITTEN};
 use cert_read::CertFile;
 use cert_text::{CertLine, Echo, no_date_word, too_far_word};
-use line_core::{read_line, resolve};
+use line_core::{ThreeWords, read_words, resolve};
 use oracle_core::{Answers, Listed, Stop};
 use std::alloc::{AllocError, Global};
-
-/// The words of a line with single spaces.
-#[tactic(auto, unfolding(crate::specs::Verdicts::words_of_echo))]
-fn spaced(alloc: Global, echo: &Echo) -> Result<Vec<u8>, AllocError>
-    ensures words { IfOk result (λ v. v.items ≡ spec.words_of_echo echo.now) }
-{
-    let mut words = Vec::new(alloc);
-    words.extend_from_slice(echo.from.bytes())?;
-    words.extend_from_slice(b" ")?;
-    words.extend_from_slice(echo.date.bytes())?;
-    words.extend_from_slice(b" ")?;
-    words.extend_from_slice(echo.to.bytes())?;
-    Ok(words)
-}
 
 /// The verdict of a line whose rule stops at a fact that it doesn't list. The error is want of memory; it comes at no
 /// missing fact.
@@ -115,8 +101,12 @@ fn verdict_of_words(
     ensures verdict { IfOk result (λ v. v ≡ spec.verdict_on file.now.facts answers.now
         (spec.words_of_echo echo.now) text.now numbers.now) }
 {
-    let words = spaced(alloc, echo)?;
-    match read_line(&words, WRITTEN) {
+    let words = ThreeWords {
+        from: echo.from(),
+        date: echo.date(),
+        to: echo.to(),
+    };
+    match read_words(words, WRITTEN) {
         Ok(request) => verdict_for(alloc, file, answers, &request, text, numbers),
         Err(rule) => Ok(Verdict::No(Reason::Form(rule.number()))),
     }

@@ -18,7 +18,7 @@ pub(crate) fn listed_facts(
     requires numbers { AreNumbers (length facts.now) numbers.now }
     ensures facts { IfOk result (λ v. v.items ≡ facts_of (spec.numbered facts.now numbers.now)) }
 {
-    let mut listed = Vec::new(alloc);
+    let mut listed = Vec::with_capacity(alloc, numbers.len())?;
     for number in numbers {
         let (fact, _) = facts.item(*number as usize - 1);
         listed.push(*fact)?;
@@ -36,7 +36,7 @@ pub(crate) fn listed_values(
     ensures values { IfOk result (λ v. v.items ≡ spec.values_of
         (spec.numbered facts.now numbers.now)) }
 {
-    let mut listed = Vec::new(alloc);
+    let mut listed = Vec::with_capacity(alloc, numbers.len())?;
     for number in numbers {
         let (_, value) = facts.item(*number as usize - 1);
         listed.push(*value)?;

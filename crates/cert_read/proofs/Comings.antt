@@ -3,7 +3,7 @@ use Rattle.std.proofs.Common.{◌≡◌, ◌∙◌, ℕ, ◌+◌, ◌-◌, ◌^�
 use Rattle.std.proofs.lemmas.Bool.Decides.{nat_tests}
 use Rattle.std.specs.Prelude.{codes, Some, None, ◌&&◌, ◌==◌, ℤ}
 use Rattle.book_model.specs.declared.fact.Fact.{Fact}
-use Rattle.book_model.specs.lines.Lines.{lines_of}
+use Rattle.book_model.specs.lines.Lines.{IsWord, AreWords, lines_of}
 use Rattle.book_model.specs.lines.Text.{fact_text}
 use Rattle.cert_text.specs.declared.line.CertLine.{CertLine}
 use Rattle.cert_read.specs.declared.lines.CertFile.{CertFile}
@@ -13,7 +13,8 @@ use Rattle.cert_read.specs.Grammar.{form_in, form_of}
 use Rattle.cert_read.specs.Reading.{reading_from, broken_by, with_form, is_end, is_new}
 use Rattle.cert_text.specs.Text.{fact_texts}
 use Rattle.cert_read.specs.ReadAgain.{is_named_well, is_value, are_new}
-use Rattle.cert_read.proofs.Rows.{IsWord, AreWords, spaced, spaced_then, row_read, words_read, spaced_well, both, four}
+use Rattle.line_core.proofs.SpacedWords.{both, spaced, words_read}
+use Rattle.cert_read.proofs.Rows.{spaced_then, row_read, spaced_well, four}
 use Rattle.cert_read.proofs.RowTexts.{fact_row, fact_is_row}
 use Rattle.cert_read.proofs.RowWords.{text_word, fact_row_words}
 use Rattle.cert_read.proofs.FormsRead.{fact_row_form}

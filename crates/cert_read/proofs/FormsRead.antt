@@ -11,7 +11,7 @@ use Rattle.cert_text.specs.declared.line.CertLine.TheVariants.{Refused}
 use Rattle.cert_read.specs.declared.form.Form.TheVariants as forms
 use Rattle.cert_read.specs.Grammar.{form_in, fact_form, line_form, body_form, end_form, refused_form, undecided_form, void_form, key_at}
 use Rattle.cert_read.specs.ReadAgain.{is_value, is_named_well, is_open_test}
-use Rattle.cert_read.proofs.Rows.{both}
+use Rattle.line_core.proofs.SpacedWords.{both}
 use Rattle.cert_read.proofs.RowTexts.{fact_row, refused_row, undecided_row, void_row, end_row}
 use Rattle.cert_read.proofs.WordParts.{counter_here, value_here, fact_here, last_fact_here, test_here, site_here}
 

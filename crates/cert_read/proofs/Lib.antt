@@ -9,6 +9,7 @@ pub mod Spelling
 pub mod Rows
 pub mod RowTexts
 pub mod WordParts
+pub mod TakenWords
 pub mod FormsRead
 pub mod OtherForms
 pub mod ListedRead

@@ -10,7 +10,9 @@ use Rattle.cert_read.specs.Grammar.{form_in}
 use Rattle.cert_read.specs.Reading.{broken_by, with_form, are_of_facts, listed}
 use Rattle.cert_text.specs.Text.{line_text}
 use Rattle.cert_read.specs.ReadAgain.{has_form, are_echo_words, is_text_word, is_day, is_named_well, is_open_test}
-use Rattle.cert_read.proofs.Rows.{AreWords, spaced_then, both}
+use Rattle.book_model.specs.lines.Lines.{AreWords}
+use Rattle.line_core.proofs.SpacedWords.{both}
+use Rattle.cert_read.proofs.Rows.{spaced_then}
 use Rattle.cert_read.proofs.RowTexts.{listed_row, refused_row, undecided_row, void_row, shown_is_row, too_far_is_row, no_date_is_row, refused_is_row, undecided_is_row, void_is_row}
 use Rattle.cert_read.proofs.RowWords.{text_word, numbers_words, shown_row_words, too_far_row_words, no_date_row_words, refused_row_words, undecided_row_words, void_row_words}
 use Rattle.cert_read.proofs.FormsRead.{refused_row_form, undecided_row_form, void_row_form}

@@ -4,7 +4,7 @@ use Rattle.std.proofs.lemmas.Bool.Decides.{nat_tests}
 use Rattle.std.specs.Fmt.{signed_decimal}
 use Rattle.std.specs.List.{list_any}
 use Rattle.std.specs.Prelude.{codes, Some, ◌&&◌, nat_le, nat_eq, not, ℤ}
-use Rattle.cert_text.specs.declared.line.Echo.{Echo}
+use Rattle.cert_text.specs.Echo.{Echo}
 use Rattle.cert_text.specs.declared.line.CertLine.TheVariants.{Shown, TooFar, NoDate}
 use Rattle.cert_read.specs.declared.form.Form.TheVariants as forms
 use Rattle.cert_read.specs.declared.found.Found.{Found}
@@ -13,7 +13,8 @@ use Rattle.cert_read.specs.Grammar.{form_in, line_form, body_form, listed_form, 
 use Rattle.cert_read.specs.Reading.{are_of_facts}
 use Rattle.cert_read.specs.ReadAgain.{is_day}
 use Rattle.cert_read.proofs.Spelling.{counter_read}
-use Rattle.cert_read.proofs.Rows.{both, three}
+use Rattle.cert_read.proofs.Rows.{three}
+use Rattle.line_core.proofs.SpacedWords.{both}
 use Rattle.cert_read.proofs.RowTexts.{listed_row}
 use Rattle.cert_read.proofs.WordParts.{counter_here, day_here}
 use Rattle.cert_read.proofs.OtherForms.{not_refused, not_undecided, not_undecided_refused, not_void, not_void_refused}

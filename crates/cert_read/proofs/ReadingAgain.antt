@@ -14,7 +14,8 @@ use Rattle.cert_read.specs.declared.form.Form.TheVariants as forms
 use Rattle.cert_read.specs.Reading.{file, reading_from, grammar_of, broken_by, with_form, are_of_facts, listed}
 use Rattle.cert_text.specs.Text.{fact_texts, line_text, block_text}
 use Rattle.cert_read.specs.ReadAgain.{has_form, are_new, may_follow, are_in_order, facts_of, AreReadAgain}
-use Rattle.cert_read.proofs.Rows.{both, four}
+use Rattle.line_core.proofs.SpacedWords.{both}
+use Rattle.cert_read.proofs.Rows.{four}
 use Rattle.cert_read.proofs.RowTexts.{end_row, end_is_row}
 use Rattle.cert_read.proofs.RowWords.{text_word, end_row_words}
 use Rattle.cert_read.proofs.FormsRead.{end_row_form}

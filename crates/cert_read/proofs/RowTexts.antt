@@ -8,7 +8,7 @@ use Rattle.book_model.specs.declared.fail.Undecided.{Undecided as OpenTest}
 use Rattle.book_model.specs.declared.site.Site.{Site}
 use Rattle.book_model.specs.sky.Names.{kind_name, place_name, site_name}
 use Rattle.book_model.specs.lines.Text.{fact_text, echo_text, facts_text, listed_text, too_far_text, no_date_text, refused_text, undecided_text, open_text, void_text, empty_text, end_text, number_text}
-use Rattle.cert_text.specs.declared.line.Echo.{Echo}
+use Rattle.cert_text.specs.Echo.{Echo}
 use Rattle.cert_text.specs.Text.{words_in}
 use Rattle.cert_read.proofs.Rows.{spaced_then}
 

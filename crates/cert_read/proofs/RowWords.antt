@@ -12,12 +12,14 @@ use Rattle.book_model.specs.declared.fail.Undecided.{Undecided as OpenTest}
 use Rattle.book_model.specs.declared.site.Site.{Site}
 use Rattle.book_model.specs.sky.Names.{kind_name, place_name, site_name, has_place}
 use Rattle.book_model.proofs.NameLemmas.{kind_names_pass, place_names_pass, site_names_pass}
-use Rattle.cert_text.specs.declared.line.Echo.{Echo}
-use Rattle.cert_read.specs.Grammar.{is_printable}
+use Rattle.cert_text.specs.Echo.{Echo}
+use Rattle.book_model.specs.lines.Lines.{is_printable, IsWord, AreWords}
+use Rattle.line_core.proofs.Digits.{decimal_some, decimal_printed}
+use Rattle.line_core.proofs.SpacedWords.{both}
 use Rattle.cert_read.specs.Reading.{are_of_facts}
 use Rattle.cert_read.specs.ReadAgain.{is_text_word, are_echo_words, is_day, is_value, is_wide, is_named_well, is_open_test}
-use Rattle.cert_read.proofs.Spelling.{IsWide, decimal_some, decimal_printed, signed_some, signed_printed}
-use Rattle.cert_read.proofs.Rows.{IsWord, AreWords, both, three}
+use Rattle.cert_read.proofs.Spelling.{IsWide, signed_some, signed_printed}
+use Rattle.cert_read.proofs.Rows.{three}
 use Rattle.cert_read.proofs.RowTexts.{fact_row, refused_row, undecided_row, void_row, end_row, listed_row}
 use Rattle.cert_read.proofs.WordParts.{day_wide, value_wide, wide_fits}
 

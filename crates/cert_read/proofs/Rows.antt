@@ -1,59 +1,15 @@
--- Words with single spaces between them, and a line feed at the end: the line that they are, and its words again.
+-- Words with single spaces between them, and a line feed at the end: the line that they are.
 use Rattle.std.proofs.Common.{◌≡◌, ◌∙◌, ℕ, suc, ◌-◌, ◌<◌, Bool, true, false, List, [], ◌∷◌, ◌++◌, length, get_or, ap, refl, arith, append-nil}
-use Rattle.std.proofs.lemmas.Bool.Decides.{nat_tests}
 use Rattle.std.specs.List.{list_all}
 use Rattle.std.specs.Prelude.{◌&&◌, ◌==◌}
-use Rattle.book_model.specs.lines.Lines.{is_blank, words_of, onto_first, raw_lines, lines_of}
-use Rattle.cert_read.specs.Grammar.{is_printable, is_spaced_after, is_spaced}
-
--- one or more bytes that a word may hold
-pub record IsWord (word : List ℕ) : Type 0 where
-  pub some : 0 < length word
-  pub printed : list_all is_printable word ≡ true
-
--- each is a word
-abbrev pub AreWords : List (List ℕ) → Type 0
-AreWords [] = Unit {0}
-AreWords (w ∷ ws) = IsWord w × AreWords ws
-
--- words, each after a space
-abbrev pub spaced : List (List ℕ) → List ℕ
-spaced [] = []
-spaced (w ∷ ws) = 32 ∷ (w ++ spaced ws)
+use Rattle.book_model.specs.lines.Lines.{is_printable, IsWord, AreWords, onto_first, raw_lines, lines_of}
+use Rattle.cert_read.specs.Grammar.{is_spaced_after, is_spaced}
+use Rattle.line_core.proofs.SpacedWords.{spaced, head_inner, tail_printed}
 
 -- words, each after a space, then a line feed, and the rest of a text
 abbrev pub spaced_then : List (List ℕ) → List ℕ → List ℕ
 spaced_then [] rest = 10 ∷ rest
 spaced_then (w ∷ ws) rest = 32 ∷ (w ++ spaced_then ws rest)
-
--- what a byte of a word isn't
-record IsInner (b : ℕ) : Type 0 where
-  printable : is_printable b ≡ true
-  space : (b == 32) ≡ false
-  blank : is_blank b ≡ false
-  feed : (b == 10) ≡ false
-  back : (b == 13) ≡ false
-
-inner : (b : ℕ) → is_printable b ≡ true → IsInner b
-inner b h = record {
-  printable = h;
-  space = grind (arith, nat_tests);
-  blank = grind (arith, nat_tests);
-  feed = grind (arith, nat_tests);
-  back = grind (arith, nat_tests);
-}
-
--- both, where both together are
-pub both : (s t : Bool) → (s && t) ≡ true → (s ≡ true) × (t ≡ true)
-both true t h = (refl, h)
-both false t h = absurd (cc)
-
--- the first byte of a word, and the others
-head_inner : (b : ℕ) (bs : List ℕ) → list_all is_printable (b ∷ bs) ≡ true → IsInner b
-head_inner b bs h = inner b (both (is_printable b) (list_all is_printable bs) h).0
-
-tail_printed : (b : ℕ) (bs : List ℕ) → list_all is_printable (b ∷ bs) ≡ true → list_all is_printable bs ≡ true
-tail_printed b bs h = (both (is_printable b) (list_all is_printable bs) h).1
 
 -- all of three, and of four, where all together are
 pub three : (s t u : Bool) → (s && t && u) ≡ true → (s ≡ true) × (t ≡ true) × (u ≡ true)
@@ -66,28 +22,6 @@ four true true true v h = (refl, refl, refl, h)
 four true true false v h = absurd (cc)
 four true false u v h = absurd (cc)
 four false t u v h = absurd (cc)
-
--- the words of what begins with a word
-words_begin : (b : ℕ) (bs : List ℕ) (ws : List (List ℕ)) → list_all is_printable (b ∷ bs) ≡ true → words_of (spaced ws) ≡ ws → words_of ((b ∷ bs) ++ spaced ws)
-    ≡ (b ∷ bs) ∷ ws
-words_begin b [] [] h rest = rw (head_inner b [] h).blank refl
-words_begin b [] (w ∷ ws) h rest = rw (head_inner b [] h).blank (ap (λ t. (b ∷ []) ∷ t) rest)
-words_begin b (c ∷ cs) ws h rest =
-    let more : list_all is_printable (c ∷ cs) ≡ true = tail_printed b (c ∷ cs) h in
-    let first : is_blank b ≡ false = (head_inner b (c ∷ cs) h).blank in
-    let second : is_blank c ≡ false = (head_inner c cs more).blank in
-    let words : words_of (b ∷ c ∷ (cs ++ spaced ws)) ≡ onto_first b (words_of (c ∷ (cs ++ spaced ws))) = rw (first, second) refl in
-    words ∙ ap (onto_first b) (words_begin c cs ws more rest)
-
-words_spaced : (ws : List (List ℕ)) → AreWords ws → words_of (spaced ws) ≡ ws
-words_spaced [] h = refl
-words_spaced ([] ∷ ws) h = absurd (omega (arith, h.0.some))
-words_spaced ((b ∷ bs) ∷ ws) h = words_begin b bs ws h.0.printed (words_spaced ws h.1)
-
--- the words of a line are read again
-pub words_read : (w : List ℕ) (ws : List (List ℕ)) → IsWord w → AreWords ws → words_of (w ++ spaced ws) ≡ w ∷ ws
-words_read [] ws h k = absurd (omega (arith, h.some))
-words_read (b ∷ bs) ws h k = words_begin b bs ws h.printed (words_spaced ws k)
 
 -- after a word, what is spaced
 spaced_begin : (word : List ℕ) (rest : List ℕ) → list_all is_printable word ≡ true → is_spaced_after false (word ++ rest) ≡ is_spaced_after false rest

@@ -1,5 +1,6 @@
 -- Days that were seen, for each kind and place.
-use Rattle.std.proofs.Common.{◌≡◌, ℕ, zero, suc, ap, ◌+◌, ◌*◌, ◌<◌, ◌==◌, Bool, true, false, cond, ◌&&◌, ◌||◌, refl, List, [], ◌∷◌, ◌++◌, length, get_or, arith, ℤ}
+use Rattle.std.proofs.Common.{◌≡◌, ℕ, zero, suc, ap, sym, ◌⊎◌, inl, inr, ◌≤◌, ◌+◌, ◌*◌, ◌<◌, ◌==◌, Bool, true, false, cond, ◌&&◌, ◌||◌, refl, List, [], ◌∷◌}
+use Rattle.std.proofs.Common.{◌++◌, length, get_or, arith, ℤ}
 use Rattle.std.specs.Prelude.{slice_set}
 use Rattle.std.specs.List.{slice_get}
 use Rattle.std.specs.Ordering.{int_cmp, int_eq}
@@ -7,8 +8,10 @@ use Rattle.std.specs.BTreeSet.{BTreeSet, contains}
 use Rattle.std.specs.BTreeMap.{is_at}
 use Rattle.std.proofs.lemmas.Bool.Decides.{nat_tests}
 use Rattle.std.proofs.lemmas.Int.{ints}
+use Rattle.std.proofs.Math.Nat.{mul-le-mul_right}
 use Rattle.std.proofs.lemmas.Option.{slice_get-get_or}
 use Rattle.std.proofs.lemmas.List.{get_or-set_same, length-set}
+use Rattle.book_model.specs.declared.fact.TheConstants.{PLACES}
 use Rattle.book_model.specs.declared.fact.Fact.{Fact}
 use Rattle.book_model.specs.calendars.Inquiries.{fact_eq}
 use Rattle.book_model.specs.sky.Names.{kind_number, place_number}
@@ -17,13 +20,30 @@ use denote.Enum.Declared.{variants}
 use Rattle.book_model.specs.contracts.fact.Place.{the_type as place_type}
 use Rattle.cert_read.specs.Seen.{row_of, has_day, has_fact, HasMore}
 
+-- the greater of two numbers of groups has the greater number, where each is a number of groups of n and a rest below n
+in_order : (n a b c d : ℕ) → d < n → a * n + b ≡ c * n + d → a ≤ c
+in_order n a b c d h e = go (compare_with a c)
+  where
+    compare_with : (p q : ℕ) → (p ≤ q) ⊎ (q + 1 ≤ p)
+    compare_with p q = grind arith
+
+    go : ((a ≤ c) ⊎ (c + 1 ≤ a)) → a ≤ c
+    go (inl k) = k
+    go (inr k) = let l = mul-le-mul_right n k in absurd (omega (arith, h, e, l))
+
+-- and where the numbers of groups are the same, so are the rests
+same_rest : (n a b c d : ℕ) → a ≡ c → a * n + b ≡ c * n + d → b ≡ d
+same_rest n a b c d h e = omega (arith, rw h at e)
+
 -- facts of one row have one kind and one place
 same_row : (f g : Fact) → row_of f ≡ row_of g → (kind_number f.kind ≡ kind_number g.kind) × (place_number f.place ≡ place_number g.place)
 same_row f g h =
-    let p : place_number f.place < 5 = tag_below (variants place_type) (place_type.to f.place) in
-    let q : place_number g.place < 5 = tag_below (variants place_type) (place_type.to g.place) in
-    let e : kind_number f.kind * 5 + place_number f.place ≡ kind_number g.kind * 5 + place_number g.place = h in
-    (omega (arith, p, q, e), omega (arith, p, q, e))
+    let p : place_number f.place < length PLACES = tag_below (variants place_type) (place_type.to f.place) in
+    let q : place_number g.place < length PLACES = tag_below (variants place_type) (place_type.to g.place) in
+    let up = in_order (length PLACES) _ _ _ _ q h in
+    let down = in_order (length PLACES) _ _ _ _ p (sym h) in
+    let kind : kind_number f.kind ≡ kind_number g.kind = omega (arith, up, down) in
+    (kind, same_rest (length PLACES) _ _ _ _ kind h)
 
 -- the test of two days takes them in either order
 either_day : (d e : ℤ) → int_eq d e ≡ int_eq e d

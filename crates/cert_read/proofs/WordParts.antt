@@ -16,7 +16,8 @@ use Rattle.book_model.proofs.NameLemmas.{kind_found, place_found, site_found}
 use Rattle.cert_read.specs.Grammar.{key_at, kind_at, place_at, site_at, counter_at, number_at, end_at, day_at, value_at, fact_at, test_at, last_fact_at}
 use Rattle.cert_read.specs.ReadAgain.{is_day, is_value, is_wide, is_named_well, is_open_test}
 use Rattle.cert_read.proofs.Spelling.{IsWide, counter_read, integer_read}
-use Rattle.cert_read.proofs.Rows.{both, three}
+use Rattle.cert_read.proofs.Rows.{three}
+use Rattle.line_core.proofs.SpacedWords.{both}
 
 pub counter_here : (n : ℕ) (ws : List (List ℕ)) → n ≤ 2 ^ 32 - 1 → counter_at (decimal n ∷ ws) ≡ Some (n, ws)
 unfolding counter_at

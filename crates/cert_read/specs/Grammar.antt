@@ -1,5 +1,5 @@
 -- The grammar of printed files: the form of a line, word by word.
-use Rattle.std.specs.Prelude.{ℕ, ◌==◌, ◌&&◌, not, nat_le, nat_lt, nat_eq, if◌then◌else◌, Bool, true, false, List, [], ◌∷◌, codes, ℤ, Some, None, Option, option_and_then}
+use Rattle.std.specs.Prelude.{ℕ, ◌==◌, ◌&&◌, not, nat_le, nat_eq, if◌then◌else◌, Bool, true, false, List, [], ◌∷◌, codes, ℤ, Some, None, Option, option_and_then}
 use lib.Pointwise.{pointwise}
 use Rattle.book_model.specs.declared.site.Site.{Site}
 use Rattle.book_model.specs.declared.fact.Fact.{Fact}
@@ -7,9 +7,9 @@ use Rattle.book_model.specs.declared.fact.TheConstants.{FIRST_FACT_DAY, LAST_FAC
 use Rattle.book_model.specs.declared.fact.Kind.{Kind}
 use Rattle.book_model.specs.declared.fact.Place.{Place}
 use Rattle.book_model.specs.declared.fail.Undecided.{Undecided as OpenTest}
-use Rattle.book_model.specs.lines.Lines.{words_of}
+use Rattle.book_model.specs.lines.Lines.{is_printable, words_of}
 use Rattle.book_model.specs.sky.Names.{kind_named, place_named, site_named, has_place}
-use Rattle.cert_text.specs.declared.line.Echo.{Echo}
+use Rattle.cert_text.specs.Echo.{Echo}
 use Rattle.cert_text.specs.declared.line.CertLine.{CertLine}
 use Rattle.cert_text.specs.declared.line.CertLine.TheVariants.{Shown, TooFar, NoDate, Refused}
 use Rattle.cert_read.specs.declared.form.Form.{Form}
@@ -27,10 +27,6 @@ o >>= next = option_and_then next o
 abbrev pub or_else : {A : Type 0} → Option A → Option A → Option A
 or_else None second = second
 or_else (Some x) second = Some x
-
--- a byte that a word may hold, from 0x21 to 0x7E
-abbrev pub is_printable : ℕ → Bool
-is_printable b = nat_lt 32 b && nat_lt b 127
 
 -- each word is followed by one space or by the end; where a space was last, a word has to come
 abbrev pub is_spaced_after : Bool → List ℕ → Bool

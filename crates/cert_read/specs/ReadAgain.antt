@@ -10,9 +10,9 @@ use Rattle.book_model.specs.declared.version.TheConstants.{WRITTEN}
 use Rattle.book_model.specs.lines.Text.{header_of, end_text}
 use Rattle.cert_text.specs.declared.line.CertLine.{CertLine}
 use Rattle.cert_text.specs.declared.line.CertLine.TheVariants.{Shown, TooFar, NoDate, Refused, Undecided, Void}
-use Rattle.cert_text.specs.declared.line.Echo.{Echo}
+use Rattle.cert_text.specs.Echo.{Echo}
 use Rattle.cert_text.specs.declared.line.Block.{Block}
-use Rattle.cert_read.specs.Grammar.{is_printable}
+use Rattle.book_model.specs.lines.Lines.{is_printable}
 use Rattle.cert_read.specs.Reading.{grammar_of, file, is_new, are_of_facts, listed}
 use Rattle.cert_text.specs.Text.{block_text}
 

@@ -1,7 +1,7 @@
 //! The form of a line.
 ghost use Rattle.std.specs.Prelude.{◌≡◌};
 ghost use Rattle.book_model.specs.sky.Facts.{IsFactDay};
-ghost use Rattle.book_model.specs.lines.Lines.{words_of};
+ghost use Rattle.book_model.specs.lines.Lines.{words_of, AreWords};
 ghost use Rattle.cert_read.specs.Gives.{Gives, Yields};
 ghost use Rattle.cert_read.specs.Grammar as spec;
 
@@ -136,6 +136,7 @@ fn void_form(number: u32, line: &[u8]) -> Option<Form>
 /// `FROM DATE TO`, what the line shows, and the numbers of the facts that it rests on.
 #[tactic(auto, unfolding(crate::specs::Grammar::listed_form))]
 fn listed_form(alloc: Global, number: u32, line: &[u8]) -> Result<Form, NoForm>
+    requires { AreWords (words_of line.now) }
     ensures { Yields (λ form. form) result (spec.listed_form number (words_of line.now)) }
 {
     let (echo, rest) = echo_at(alloc, line)?;
@@ -147,6 +148,7 @@ fn listed_form(alloc: Global, number: u32, line: &[u8]) -> Result<Form, NoForm>
 /// What follows the number of a line.
 #[tactic(auto, unfolding(crate::specs::Grammar::body_form))]
 fn body_form(alloc: Global, number: u32, line: &[u8]) -> Result<Form, NoForm>
+    requires { AreWords (words_of line.now) }
     ensures { Yields (λ form. form) result (spec.body_form number (words_of line.now)) }
 {
     if let Some(form) = refused_form(number, line) {
@@ -164,6 +166,7 @@ fn body_form(alloc: Global, number: u32, line: &[u8]) -> Result<Form, NoForm>
 /// `N`, and what follows it.
 #[tactic(auto, unfolding(crate::specs::Grammar::line_form))]
 fn line_form(alloc: Global, line: &[u8]) -> Result<Form, NoForm>
+    requires { AreWords (words_of line.now) }
     ensures { Yields (λ form. form) result (spec.line_form (words_of line.now)) }
 {
     let (number, rest) = counter_at(line).ok_or(NoForm::Broken)?;
@@ -172,6 +175,7 @@ fn line_form(alloc: Global, line: &[u8]) -> Result<Form, NoForm>
 
 /// The form of words, of which the first says what they are.
 fn form_in(alloc: Global, line: &[u8]) -> Result<Form, NoForm>
+    requires { AreWords (words_of line.now) }
     ensures { Yields (λ form. form) result (spec.form_in (words_of line.now)) }
 {
     let (word, rest) = word_at(line).ok_or(NoForm::Broken)?;

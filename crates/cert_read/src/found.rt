@@ -1,6 +1,6 @@
 //! What a line with a result shows: its words, its result and the facts that it rests on.
 ghost use Rattle.std.specs.Prelude.{◌≡◌};
-ghost use Rattle.book_model.specs.lines.Lines.{words_of};
+ghost use Rattle.book_model.specs.lines.Lines.{words_of, AreWords};
 ghost use Rattle.cert_read.specs.Gives.{Gives, Yields};
 ghost use Rattle.cert_read.specs.Grammar as spec;
 ghost use Rattle.cert_read.specs.declared.found.Found.TheVariants.{Shown, TooFar, NoDate};
@@ -19,9 +19,10 @@ pub(crate) enum Found {
     NoDate(Word),
 }
 
-/// `FROM DATE TO`, and what follows it.
+/// `FROM DATE TO`, and what follows it, of words of printable bytes.
 #[tactic(auto, unfolding(crate::specs::Grammar::echo_at))]
 pub(crate) fn echo_at(alloc: Global, line: &[u8]) -> Result<(Echo, &[u8]), NoForm>
+    requires { AreWords (words_of line.now) }
     ensures { Yields (λ p. (p.0, words_of p.1.now)) result (spec.echo_at (words_of line.now)) }
 {
     let (from, rest) = word_at(line).ok_or(NoForm::Broken)?;

@@ -5,7 +5,7 @@ ghost use Rattle.cert_read.specs.Reading.{Answers, grammar_of, reading_from};
 ghost use Rattle.cert_read.specs.declared.read.TheConstants.{LONGEST_FILE as longest_file};
 
 use crate::lines::CertFile;
-use crate::reader::{Reader, Stop};
+use crate::reader::{LineFault, Reader};
 use book_model::WRITTEN;
 use line_core::cut_line;
 use std::alloc::Global;
@@ -38,8 +38,8 @@ fn read_lines(alloc: Global, bytes: &[u8]) -> Result<CertFile, ReadFail>
     while let Some((line, more)) = cut_line(rest) {
         match reader.take(alloc, line) {
             Ok(()) => {}
-            Err(Stop::Rule(rule)) => return Err(ReadFail::Bad { line: number, rule }),
-            Err(Stop::Memory) => return Err(ReadFail::Memory),
+            Err(LineFault::Rule(rule)) => return Err(ReadFail::Bad { line: number, rule }),
+            Err(LineFault::Memory) => return Err(ReadFail::Memory),
         }
         number += 1;
         rest = more;

@@ -4,7 +4,7 @@ ghost use Rattle.cert_read.specs.Agreeing.{Agrees};
 ghost use Rattle.cert_read.specs.Grammar.{form_of as form_of_line};
 ghost use Rattle.cert_read.specs.Reading as spec;
 ghost use Rattle.cert_read.specs.Steps.{Breaks, Passes, Fails};
-ghost use Rattle.cert_read.specs.declared.reader.Stop.TheVariants.{Memory as memory_stop};
+ghost use Rattle.cert_read.specs.declared.reader.LineFault.TheVariants.{Memory as memory_fault};
 
 use crate::form::{Form, form_of};
 use crate::lines::{CertFile, Lines};
@@ -18,24 +18,24 @@ use std::alloc::{AllocError, AllocFailed, Global};
 
 /// Why a line wasn't taken: it breaks a rule, or memory ran out.
 #[derive(Clone, Copy, Debug, PartialEq, Eq)]
-pub(crate) enum Stop {
+pub(crate) enum LineFault {
     Rule(u8),
     Memory,
 }
 
-impl From<AllocError> for Stop {
-    ghost from_gives = { λ _ e. e ≡ memory_stop };
+impl From<AllocError> for LineFault {
+    ghost from_gives = { λ _ e. e ≡ memory_fault };
 
     fn from(_: AllocError) -> Self {
-        Stop::Memory
+        LineFault::Memory
     }
 }
 
-impl<T: Drop> From<AllocFailed<T>> for Stop {
-    ghost from_gives = { λ _ e. e ≡ memory_stop };
+impl<T: Drop> From<AllocFailed<T>> for LineFault {
+    ghost from_gives = { λ _ e. e ≡ memory_fault };
 
     fn from(_: AllocFailed<T>) -> Self {
-        Stop::Memory
+        LineFault::Memory
     }
 }
 
@@ -89,7 +89,7 @@ impl Reader {
 
     /// Takes a fact with its number and its value.
     #[tactic(auto, unfolding(crate::specs::Reading::broken_by, crate::specs::Reading::with_form))]
-    fn take_fact(&mut self, number: u32, fact: Option<Fact>, value: i64) -> Result<(), Stop>
+    fn take_fact(&mut self, number: u32, fact: Option<Fact>, value: i64) -> Result<(), LineFault>
         requires agrees { Agrees self.old.file self.old.seen self.old.marks.items }
         ensures rule { Breaks result (spec.broken_by self.old.file self.old.ended
             (Form.Fact number fact value)) }
@@ -99,16 +99,16 @@ impl Reader {
         ensures agrees { OnOk result (Agrees self.new.file self.new.seen self.new.marks.items) }
     {
         if !is_next(number, self.file.facts.len()) {
-            return Err(Stop::Rule(3));
+            return Err(LineFault::Rule(3));
         }
         let Some(fact) = fact else {
-            return Err(Stop::Rule(7));
+            return Err(LineFault::Rule(7));
         };
         if !self.seen.insert(fact)? {
-            return Err(Stop::Rule(4));
+            return Err(LineFault::Rule(4));
         }
         if self.ended {
-            return Err(Stop::Rule(6));
+            return Err(LineFault::Rule(6));
         }
         self.file.facts.push((fact, value))?;
         self.marks.push(0)?;
@@ -117,7 +117,7 @@ impl Reader {
 
     /// Takes a line with its number.
     #[tactic(auto, unfolding(crate::specs::Reading::broken_by, crate::specs::Reading::with_form))]
-    fn take_line(&mut self, number: u32, line: CertLine) -> Result<(), Stop>
+    fn take_line(&mut self, number: u32, line: CertLine) -> Result<(), LineFault>
         requires agrees { Agrees self.old.file self.old.seen self.old.marks.items }
         ensures rule { Breaks result (spec.broken_by self.old.file self.old.ended
             (Form.Line number line)) }
@@ -127,13 +127,13 @@ impl Reader {
         ensures agrees { OnOk result (Agrees self.new.file self.new.seen self.new.marks.items) }
     {
         if !is_next(number, self.file.lines.len()) {
-            return Err(Stop::Rule(3));
+            return Err(LineFault::Rule(3));
         }
         if !are_of_facts(&mut self.marks, number, listed(&line)) {
-            return Err(Stop::Rule(5));
+            return Err(LineFault::Rule(5));
         }
         if self.ended {
-            return Err(Stop::Rule(6));
+            return Err(LineFault::Rule(6));
         }
         self.file.lines.push(line)?;
         Ok(())
@@ -141,7 +141,12 @@ impl Reader {
 
     /// Takes a line whose fact is undecided.
     #[tactic(auto, unfolding(crate::specs::Reading::broken_by, crate::specs::Reading::with_form))]
-    fn take_undecided(&mut self, number: u32, fact: Option<Fact>, at: Undecided) -> Result<(), Stop>
+    fn take_undecided(
+        &mut self,
+        number: u32,
+        fact: Option<Fact>,
+        at: Undecided,
+    ) -> Result<(), LineFault>
         requires agrees { Agrees self.old.file self.old.seen self.old.marks.items }
         ensures rule { Breaks result (spec.broken_by self.old.file self.old.ended
             (Form.Undecided number fact at)) }
@@ -151,13 +156,13 @@ impl Reader {
         ensures agrees { OnOk result (Agrees self.new.file self.new.seen self.new.marks.items) }
     {
         if !is_next(number, self.file.lines.len()) {
-            return Err(Stop::Rule(3));
+            return Err(LineFault::Rule(3));
         }
         let Some(fact) = fact else {
-            return Err(Stop::Rule(7));
+            return Err(LineFault::Rule(7));
         };
         if self.ended {
-            return Err(Stop::Rule(6));
+            return Err(LineFault::Rule(6));
         }
         self.file.lines.push(CertLine::Undecided { fact, at })?;
         Ok(())
@@ -165,7 +170,7 @@ impl Reader {
 
     /// Takes a line whose fact is void.
     #[tactic(auto, unfolding(crate::specs::Reading::broken_by, crate::specs::Reading::with_form))]
-    fn take_void(&mut self, number: u32, fact: Option<Fact>, site: Site) -> Result<(), Stop>
+    fn take_void(&mut self, number: u32, fact: Option<Fact>, site: Site) -> Result<(), LineFault>
         requires agrees { Agrees self.old.file self.old.seen self.old.marks.items }
         ensures rule { Breaks result (spec.broken_by self.old.file self.old.ended
             (Form.Void number fact site)) }
@@ -175,13 +180,13 @@ impl Reader {
         ensures agrees { OnOk result (Agrees self.new.file self.new.seen self.new.marks.items) }
     {
         if !is_next(number, self.file.lines.len()) {
-            return Err(Stop::Rule(3));
+            return Err(LineFault::Rule(3));
         }
         let Some(fact) = fact else {
-            return Err(Stop::Rule(7));
+            return Err(LineFault::Rule(7));
         };
         if self.ended {
-            return Err(Stop::Rule(6));
+            return Err(LineFault::Rule(6));
         }
         self.file.lines.push(CertLine::Void { fact, site })?;
         Ok(())
@@ -189,7 +194,7 @@ impl Reader {
 
     /// Takes the end line with its counts.
     #[tactic(auto, unfolding(crate::specs::Reading::broken_by, crate::specs::Reading::with_form))]
-    fn take_end(&mut self, lines: u32, facts: u32) -> Result<(), Stop>
+    fn take_end(&mut self, lines: u32, facts: u32) -> Result<(), LineFault>
         requires agrees { Agrees self.old.file self.old.seen self.old.marks.items }
         ensures rule { Breaks result (spec.broken_by self.old.file self.old.ended
             (Form.End lines facts)) }
@@ -202,14 +207,14 @@ impl Reader {
             || lines as usize != self.file.lines.len()
             || facts as usize != self.file.facts.len()
         {
-            return Err(Stop::Rule(6));
+            return Err(LineFault::Rule(6));
         }
         self.ended = true;
         Ok(())
     }
 
     /// Takes a form.
-    fn take_form(&mut self, form: Form) -> Result<(), Stop>
+    fn take_form(&mut self, form: Form) -> Result<(), LineFault>
         requires agrees { Agrees self.old.file self.old.seen self.old.marks.items }
         ensures rule { Breaks result (spec.broken_by self.old.file self.old.ended form) }
         ensures file { OnOk result (self.new.file ≡ spec.with_form self.old.file form) }
@@ -226,7 +231,7 @@ impl Reader {
     }
 
     /// Takes the next line.
-    pub(crate) fn take(&mut self, alloc: Global, line: &[u8]) -> Result<(), Stop>
+    pub(crate) fn take(&mut self, alloc: Global, line: &[u8]) -> Result<(), LineFault>
         requires agrees { Agrees self.old.file self.old.seen self.old.marks.items }
         ensures passes { OnOk result (Passes self.old.file self.old.ended
             (form_of_line line.now) self.new.file self.new.ended) }
@@ -236,8 +241,8 @@ impl Reader {
     {
         match form_of(alloc, line) {
             Ok(form) => self.take_form(form),
-            Err(NoForm::Broken) => Err(Stop::Rule(2)),
-            Err(NoForm::Memory) => Err(Stop::Memory),
+            Err(NoForm::Broken) => Err(LineFault::Rule(2)),
+            Err(NoForm::Memory) => Err(LineFault::Memory),
         }
     }
 }

@@ -1,6 +1,7 @@
 //! The words of a printed line, taken one after another.
 ghost use Rattle.std.specs.Prelude.{◌≡◌, ◌≤ℤ◌, IfSome};
 ghost use Rattle.book_model.specs.declared.fact.TheConstants.{FIRST_FACT_DAY as first_day, LAST_FACT_DAY as last_day};
+ghost use Rattle.book_model.specs.lines.Lines as lines;
 ghost use Rattle.book_model.specs.lines.Lines.{words_of};
 ghost use Rattle.cert_read.specs.Gives.{Gives};
 ghost use Rattle.cert_read.specs.Grammar as spec;
@@ -36,7 +37,7 @@ impl<T: Drop> From<AllocFailed<T>> for NoForm {
 
 /// Whether a word may hold the byte.
 fn is_printable(byte: u8) -> bool
-    ensures { result ≡ spec.is_printable byte }
+    ensures { result ≡ lines.is_printable byte }
 {
     32 < byte && byte < 127
 }

@@ -1,2 +1,3 @@
+pub mod Echo
 pub mod Text
 pub mod Laws

@@ -5,7 +5,7 @@ use Rattle.book_model.specs.lines.Text.{fact_text, refused_text, undecided_text,
 pub use Rattle.book_model.specs.lines.Text.{too_far_text, no_date_text}
 use Rattle.cert_text.specs.declared.line.CertLine.{CertLine}
 use Rattle.cert_text.specs.declared.line.CertLine.TheVariants.{Shown, TooFar, NoDate, Refused, Undecided, Void}
-use Rattle.cert_text.specs.declared.line.Echo.{Echo}
+use Rattle.cert_text.specs.Echo.{Echo}
 use Rattle.cert_text.specs.declared.line.Block.{Block}
 
 -- facts numbered from the first

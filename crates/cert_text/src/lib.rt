@@ -3,13 +3,15 @@
 //! `write_result` writes what a line comes to.
 #![tactic(auto)]
 
+mod echo;
 pub mod laws;
 mod line;
 mod lists;
 mod result;
 mod write;
 
-pub use line::{Block, CertLine, Echo};
+pub use echo::Echo;
+pub use line::{Block, CertLine};
 pub use lists::{Numbers, Word};
 pub use result::{date_word, no_date_word, result_word, too_far_word, write_date, write_result};
 pub use write::{write_block, write_end, write_header, write_line, write_undecided, write_void};

@@ -1,33 +1,8 @@
 //! The lines of a printed file, and the block of facts and a line that stands for one line of input.
-ghost use Rattle.std.specs.Prelude.{◌≡◌, IfOk};
-
+use crate::echo::Echo;
 use crate::lists::{Numbers, Word};
 use book_model::{Fact, Site, Undecided};
 use oracle_core::FactValues;
-use std::alloc::{AllocError, Global};
-
-/// The three words of an input line, as they were given.
-#[derive(Debug, Drop)]
-pub struct Echo {
-    pub from: Word,
-    pub date: Word,
-    pub to: Word,
-}
-
-impl Echo {
-    /// The echo of these words. The error comes where memory runs out.
-    pub fn of(alloc: Global, from: &[u8], date: &[u8], to: &[u8]) -> Result<Echo, AllocError>
-        ensures from { IfOk result (λ e. e.from ≡ from.now) }
-        ensures date { IfOk result (λ e. e.date ≡ date.now) }
-        ensures to { IfOk result (λ e. e.to ≡ to.now) }
-    {
-        Ok(Echo {
-            from: Word::of(alloc, from)?,
-            date: Word::of(alloc, date)?,
-            to: Word::of(alloc, to)?,
-        })
-    }
-}
 
 /// A line of a printed file without its number.
 #[derive(Debug, Drop)]

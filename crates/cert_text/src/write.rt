@@ -5,7 +5,8 @@ ghost use Rattle.byte_streams.specs.Stream.{Writes};
 ghost use Rattle.book_model.specs.lines.Text as model;
 ghost use Rattle.cert_text.specs.Text as spec;
 
-use crate::line::{Block, CertLine, Echo};
+use crate::echo::Echo;
+use crate::line::{Block, CertLine};
 use book_model::{Fact, Site, Undecided, WRITTEN};
 use byte_streams::{Failed, Sink, decimal, write_all, write_parts, write_two_counts};
 use itoa::Buffer;
@@ -55,9 +56,9 @@ fn write_echo<K: Sink>(sink: &mut K, number: u32, echo: &Echo) -> Result<(), Fai
 {
     let mut number_buffer = Buffer::new();
     let number = decimal(&mut number_buffer, number);
-    let from = echo.from.bytes();
-    let date = echo.date.bytes();
-    let to = echo.to.bytes();
+    let from = echo.from();
+    let date = echo.date();
+    let to = echo.to();
     write_parts(
         sink,
         &[b"line ", number, b" ", from, b" ", date, b" ", to, b" "],

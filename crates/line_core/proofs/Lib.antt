@@ -8,3 +8,9 @@ pub mod YearNumbers
 pub mod GregorianDates
 pub mod LineLemmas
 pub mod VersionDays
+pub mod SpacedWords
+pub mod Digits
+pub mod SingleSpaces
+pub mod DateSpelling
+pub mod TextRead
+pub mod AskedWords

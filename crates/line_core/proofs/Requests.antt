@@ -1,6 +1,7 @@
 -- What a line asks, by its words.
-use Rattle.std.specs.Prelude.{◌≡◌, ℕ, ◌&&◌, nat_le, Bool, true, false, List, [], ◌∷◌, length, Err, refl}
+use Rattle.std.specs.Prelude.{◌≡◌, ℕ, ◌&&◌, nat_le, Bool, true, false, List, [], ◌∷◌, length, Result, Ok, Err, if◌then◌else◌, refl}
 use Rattle.std.specs.List.{list_all}
+use Rattle.book_model.specs.declared.request.Request.{Request}
 use Rattle.book_model.specs.declared.request.Rule.TheVariants.{Syntax}
 use Rattle.book_model.specs.declared.version.Version.{Version}
 use Rattle.book_model.specs.lines.Lines.{is_plain, words_of}
@@ -34,3 +35,28 @@ pub asked_three : (version : Version) (line from date to : List ℕ) → is_read
     → with_words version (from_word_of from) date (to_word_of to) ≡ request_of version line
 unfolding request_of
 asked_three version line from date to e words = rw (e, words) refl
+
+-- a line that breaks no rule is short and plain
+pub asked_readable : (version : Version) (line : List ℕ) (r : Request) → request_of version line ≡ Ok r → is_readable line ≡ true
+unfolding request_of
+asked_readable version line r h = step (is_readable line) h
+  where
+    step : (t : Bool) → (if t then asked_by version (words_of line) else Err Syntax) ≡ Ok r → t ≡ true
+    step true e = refl
+    step false e = absurd (cc)
+
+-- and has three words
+three_asked : (version : Version) (words : List (List ℕ)) (r : Request) → asked_by version words ≡ Ok r → length words ≡ 3
+three_asked version [] r h = absurd (cc)
+three_asked version (a ∷ []) r h = absurd (cc)
+three_asked version (a ∷ b ∷ []) r h = absurd (cc)
+three_asked version (a ∷ b ∷ c ∷ []) r h = refl
+three_asked version (a ∷ b ∷ c ∷ d ∷ words) r h = absurd (cc)
+
+pub asked_has_three : (version : Version) (line : List ℕ) (r : Request) → request_of version line ≡ Ok r → length (words_of line) ≡ 3
+unfolding request_of
+asked_has_three version line r h = step (is_readable line) h
+  where
+    step : (t : Bool) → (if t then asked_by version (words_of line) else Err Syntax) ≡ Ok r → length (words_of line) ≡ 3
+    step true e = three_asked version (words_of line) r e
+    step false e = absurd (cc)

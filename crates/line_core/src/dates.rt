@@ -2,7 +2,7 @@
 ghost use Rattle.std.specs.Prelude.{◌≡◌, IsTrue, IfOk, MatchOption, true, false};
 ghost use Rattle.book_model.specs.calendars.Dates as spec;
 ghost use Rattle.book_model.specs.calendars.Versions.{is_in_some_range};
-ghost use Rattle.book_model.specs.lines.Requests.{ranged, fields_of};
+ghost use Rattle.book_model.specs.lines.Requests.{ranged, checked, fields_of};
 ghost use Rattle.oracle_core.specs.Asking.{Asks};
 
 use crate::fields::{are_within, has_year, spelled_fields};
@@ -32,25 +32,39 @@ fn has_day_in_range(version: Version, calendar: Calendar, date: &Fields) -> Opti
     }
 }
 
-/// The date of a calendar, where it is one that a version answers as far as that can be told without any fact: `Field`
+/// A date of a calendar itself, where it is one that a version answers as far as that can be told without any fact: `Field`
 /// where the calendar can have no such date, `Range` where it is out of range.
 #[tactic(auto, unfolding(book_model::specs::calendars::Dates::may_have, book_model::specs::calendars::Dates::is_answered))]
+pub(crate) fn checked_date(
+    version: Version,
+    calendar: Calendar,
+    date: &Fields,
+) -> Result<Fields, Rule>
+    ensures date { result ≡ ranged version calendar (checked calendar date.now) }
+    ensures possible { IfOk result (λ f. IsTrue (spec.may_have calendar f)) }
+    ensures in_reach { IfOk result (λ f. IsTrue (spec.is_answered version calendar f)) }
+{
+    let row = calendar.row();
+    if date.count != row.count || !are_within(&row, date) {
+        return Err(Rule::Field);
+    }
+    let is_near = has_day_in_range(version, calendar, date).ok_or(Rule::Field)?;
+    if is_near && has_year(version, &row, date) {
+        Ok(*date)
+    } else {
+        Err(Rule::Range)
+    }
+}
+
+/// The date that a word spells in a calendar, where it is one that a version answers as far as that can be told without any
+/// fact: `Field` where the calendar can have no such date, `Range` where it is out of range.
 pub(crate) fn ranged_date(version: Version, calendar: Calendar, date: &[u8]) -> Result<Fields, Rule>
     ensures date { result ≡ ranged version calendar (fields_of calendar date.now) }
     ensures possible { IfOk result (λ f. IsTrue (spec.may_have calendar f)) }
     ensures in_reach { IfOk result (λ f. IsTrue (spec.is_answered version calendar f)) }
 {
-    let row = calendar.row();
     let fields = spelled_fields(date).ok_or(Rule::Field)?;
-    if fields.count != row.count || !are_within(&row, &fields) {
-        return Err(Rule::Field);
-    }
-    let is_near = has_day_in_range(version, calendar, &fields).ok_or(Rule::Field)?;
-    if is_near && has_year(version, &row, &fields) {
-        Ok(fields)
-    } else {
-        Err(Rule::Range)
-    }
+    checked_date(version, calendar, &fields)
 }
 
 /// A number as the only field of a date or of a result.

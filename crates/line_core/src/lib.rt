@@ -4,11 +4,14 @@
 mod dates;
 mod fields;
 mod gregorian;
+pub mod laws;
 mod line;
+mod request;
 mod result;
 mod split;
 
 pub use book_model::Version;
-pub use line::{Words, cut_word, read_line, three_words};
+pub use line::{ThreeWords, cut_word, read_line, read_words, three_words};
+pub use request::checked_request;
 pub use result::resolve;
 pub use split::{cut_line, split_lines};

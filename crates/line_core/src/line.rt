@@ -3,6 +3,7 @@ ghost use Rattle.std.specs.Prelude.{◌≡◌, ◌≤◌, ◌↔◌, ◌&&◌, �
 ghost use Rattle.std.specs.List.{list_all, position_or_len};
 ghost use Rattle.book_model.specs.lines.Lines as spec;
 ghost use Rattle.book_model.specs.lines.Requests.{request_of, with_words, is_possible, is_in_reach};
+ghost use Rattle.book_model.specs.lines.Text.{three_words_text};
 ghost use Rattle.book_model.specs.lines.Words.{from_word_of, to_word_of};
 
 use crate::dates::ranged_date;
@@ -13,7 +14,7 @@ const LONGEST_LINE: usize = 200;
 
 /// The three words of a line: the calendar of its date, the date, and what it asks.
 #[derive(Clone, Copy, Debug)]
-pub struct Words<'a> {
+pub struct ThreeWords<'a> {
     pub from: &'a [u8],
     pub date: &'a [u8],
     pub to: &'a [u8],
@@ -87,7 +88,7 @@ pub fn cut_word(line: &[u8]) -> Option<(&[u8], &[u8])>
 }
 
 /// The three words of a line, which blanks separate; `None` where it has fewer or more.
-pub fn three_words<'a>(line: &'a [u8]) -> Option<Words<'a>>
+pub fn three_words<'a>(line: &'a [u8]) -> Option<ThreeWords<'a>>
     ensures words { IfSome result (λ w. spec.words_of line.now
         ≡ w.from.now ∷ w.date.now ∷ w.to.now ∷ []) }
     ensures three { IsSome result ↔ (length (spec.words_of line.now) ≡ 3) }
@@ -97,12 +98,12 @@ pub fn three_words<'a>(line: &'a [u8]) -> Option<Words<'a>>
     let (to, rest) = cut_word(rest)?;
     match cut_word(rest) {
         Some(_) => None,
-        None => Some(Words { from, date, to }),
+        None => Some(ThreeWords { from, date, to }),
     }
 }
 
 /// What three words ask.
-fn asked(words: Words<'_>, version: Version) -> Result<Request, Rule>
+fn asked(words: ThreeWords<'_>, version: Version) -> Result<Request, Rule>
     ensures asked { result ≡ with_words version (from_word_of words.entry.from.now)
         words.entry.date.now (to_word_of words.entry.to.now) }
     ensures possible { IfOk result (λ r. IsTrue (is_possible r)) }
@@ -112,6 +113,36 @@ fn asked(words: Words<'_>, version: Version) -> Result<Request, Rule>
     let to = ToWord::named(words.to).ok_or(Rule::Calendar)?;
     let date = ranged_date(version, from.calendar(), words.date)?;
     Ok(Request { from, date, to })
+}
+
+/// Whether three words with single spaces between them are short enough to be read.
+#[tactic(auto, unfolding(book_model::specs::lines::Text::three_words_text))]
+fn are_short(words: &ThreeWords<'_>) -> bool
+    ensures short { result ≡ nat_le (length (three_words_text words.now.from.now words.now.date.now
+        words.now.to.now)) 200 }
+{
+    let length = words.from.len().saturating_add(words.date.len());
+    length.saturating_add(words.to.len()) <= LONGEST_LINE - 2
+}
+
+/// What three words ask, each of one byte or more from 0x21 to 0x7E, or the first rule of a version that their line
+/// breaks, in which single spaces stand between them: `Syntax` where it has more than 200 bytes; `Calendar` for a word that
+/// isn't known; `Field` where the calendar can have no such date; `Range` for a date that the version doesn't answer, as
+/// far as that can be told without any fact.
+pub fn read_words(words: ThreeWords<'_>, version: Version) -> Result<Request, Rule>
+    requires from { spec.IsWord words.from.now }
+    requires date { spec.IsWord words.date.now }
+    requires to { spec.IsWord words.to.now }
+    ensures request { result ≡ request_of version (three_words_text words.entry.from.now
+        words.entry.date.now words.entry.to.now) }
+    ensures possible { IfOk result (λ r. IsTrue (is_possible r)) }
+    ensures in_reach { IfOk result (λ r. IsTrue (is_in_reach version r)) }
+{
+    if are_short(&words) {
+        asked(words, version)
+    } else {
+        Err(Rule::Syntax)
+    }
 }
 
 /// What a line asks, or the first rule of a version that it breaks: `Syntax` where it isn't three words of printable

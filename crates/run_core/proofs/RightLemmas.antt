@@ -8,11 +8,12 @@ use Rattle.book_model.specs.declared.request.Resolved.{Resolved}
 use Rattle.book_model.specs.declared.request.Rule.{Rule}
 use Rattle.book_model.specs.declared.request.Rule.TheVariants.{Syntax}
 use Rattle.book_model.specs.declared.version.TheConstants.{WRITTEN}
-use Rattle.book_model.specs.lines.Lines.{words_of}
+use Rattle.book_model.specs.lines.Lines.{words_of, AreWords}
 use Rattle.book_model.specs.lines.Requests.{asked_by, request_of}
 use Rattle.book_model.specs.lines.Outcomes.{LineOutcome, resolved, IsRightFor, IsRightForRow, AreRight, is_result}
 use Rattle.jobs_core.specs.declared.outcome.Outcome.{Outcome}
 use Rattle.jobs_core.specs.Outcomes.{line_outcome, AreRightForRows}
+use Rattle.line_core.proofs.AskedWords.{asked_are_words}
 
 -- there are as many outcomes as lines
 pub right_length : (lines : List (List ℕ)) (os : List LineOutcome) → AreRight WRITTEN lines os → length lines ≡ length os
@@ -70,6 +71,20 @@ three_words_found line o x facts e h = by (request_of WRITTEN line) refl (rw e a
     by : (row : Result Request Rule) → request_of WRITTEN line ≡ row → IsRightForRow WRITTEN row (resolved x facts) → length (words_of line) ≡ 3
     by (Err rule) asked right = absurd (cc)
     by (Ok r) asked right = three_words_asked line r asked
+
+-- each of which is one byte or more from 0x21 to 0x7E
+pub words_found : (line : List ℕ) (o : LineOutcome) (x : Resolved) (facts : List (Fact × ℤ)) → o ≡ resolved x facts → IsRightFor WRITTEN line o
+    → AreWords (words_of line)
+words_found line o x facts e h = by (request_of WRITTEN line) refl (rw e at h)
+  where
+    by : (row : Result Request Rule) → request_of WRITTEN line ≡ row → IsRightForRow WRITTEN row (resolved x facts) → AreWords (words_of line)
+    by (Err rule) asked right = absurd (cc)
+    by (Ok r) asked right = asked_are_words WRITTEN line r asked
+
+-- three words of a line are words
+pub three_are_words : (line first second third : List ℕ) → AreWords (words_of line) → words_of line ≡ first ∷ second ∷ third ∷ []
+    → AreWords (first ∷ second ∷ third ∷ [])
+three_are_words line first second third h e = rw e at h
 
 -- all are results, by either list of outcomes
 pub all_results : (os : List Outcome) → list_all (λ o. is_result (line_outcome o)) os ≡ list_all is_result (map line_outcome os)

@@ -2,7 +2,7 @@
 ghost use Rattle.std.specs.Prelude.{◌≡◌, ◌≤◌, ◌+◌, ◌^◌, ◌∷◌, [], ℕ, List, length, IfOk, OnOk};
 ghost use Rattle.book_model.specs.declared.fact.Fact.{Fact as FactOf};
 ghost use Rattle.book_model.specs.declared.version.TheConstants.{WRITTEN};
-ghost use Rattle.book_model.specs.lines.Lines.{words_of};
+ghost use Rattle.book_model.specs.lines.Lines.{words_of, AreWords};
 ghost use Rattle.book_model.specs.lines.Outcomes.{IsRightFor, resolved as resolved_outcome};
 ghost use Rattle.book_model.specs.lines.Text as model;
 ghost use Rattle.cert_text.specs.Text as cert;
@@ -33,6 +33,7 @@ fn bare_block(alloc: Global, number: u32, line: CertLine) -> Block
 /// The three words of a line.
 fn echo_of(alloc: Global, line: &[u8]) -> Result<Echo, AllocError>
     requires three { length (words_of line.now) ≡ 3 }
+    requires words { AreWords (words_of line.now) }
     ensures words { IfOk result (λ e. words_of line.now ≡ e.from ∷ e.date ∷ e.to ∷ []) }
 {
     let words = three_words(line).unwrap();
@@ -47,6 +48,7 @@ fn shown_line(
     facts: Numbers,
 ) -> Result<CertLine, AllocError>
     requires three { length (words_of line.now) ≡ 3 }
+    requires words { AreWords (words_of line.now) }
     ensures text { IfOk result (λ l. (number : ℕ) → cert.line_text number l
         ≡ model.listed_text number (words_of line.now) (model.result_text resolved) facts) }
 {
@@ -78,6 +80,7 @@ fn found_block(
     facts: &FactValues,
 ) -> Result<Block, AllocError>
     requires three { length (words_of line.now) ≡ 3 }
+    requires words { AreWords (words_of line.now) }
     ensures text { IfOk result (λ b. cert.block_text b ≡ model.block_text seen.old.keys number
         line.now (resolved_outcome resolved facts.now)) }
     ensures few { IfOk result (λ b. b.first + length b.facts ≤ 2 ^ 32) }

@@ -14,7 +14,7 @@ use crate::sampling::sample;
 use crate::status::Status;
 use crate::text::WriteStop;
 use byte_streams::{ReadStop, Sink, Source, read_all, write_all};
-use command_words::{Command, NoCommand, task_of};
+use command_words::{Command, NoCommand, order_of};
 use jobs_core::Gate;
 use oracle_core::Evaluator;
 use std::alloc::Global;
@@ -216,17 +216,19 @@ pub fn run<R: Threads + Sync, S: Source, K: Sink, E: Evaluator + Sync, G: Gate +
         → (result ≡ Status.Done) ⊎ (result ≡ Status.Mixed) ⊎ (result ≡ Status.BadText)
         ⊎ (result ≡ Status.Memory) }
 {
-    let task = match task_of(alloc, words) {
-        Ok(task) => task,
+    let order = match order_of(alloc, words) {
+        Ok(order) => order,
         Err(NoCommand::Form) => return refuse_words(sink),
         Err(NoCommand::Memory) => return Status::Memory,
     };
-    let command = task.command;
+    let command = order.command;
     let input = match read_input(alloc, command, source) {
         Ok(input) => input,
         Err(ReadStop::Fault) => return Status::ReadFault,
         Err(ReadStop::Memory) => return Status::Memory,
         Err(ReadStop::TooLarge) => return Status::TooLarge,
     };
-    perform(rt, alloc, command, sink, evaluator, &input, task.jobs, gate)
+    perform(
+        rt, alloc, command, sink, evaluator, &input, order.jobs, gate,
+    )
 }

@@ -1,4 +1,4 @@
-use Rattle.std.proofs.Common.{◌≡◌, ◌∙◌}
+use Rattle.std.proofs.Common.{◌≡◌}
 use Rattle.std.specs.Prelude.{Ok, Err}
 use Rattle.book_model.specs.declared.version.TheConstants.{WRITTEN}
 use Rattle.book_model.specs.lines.Requests.{request_of}
@@ -8,13 +8,13 @@ use Rattle.cert_check.proofs.check.verdict_of_words.Goals as goal
 pub returns-in-Ok : goal.returns-in-Ok
 unfolding verdict_on
 returns-in-Ok c =
-    let words : c.deref.result.now ≡ words_of_echo c.args.echo.now = c.deref.ensures.value ∙ c.in_ok-words.ensures.words in
-    let asked : Ok c.in-Ok.request ≡ request_of WRITTEN (words_of_echo c.args.echo.now) = rw words at c.in-Ok.ensures.request in
+    let asked : Ok c.in-Ok.request ≡ request_of WRITTEN (words_of_echo c.args.echo.now) = rw (c.from.ensures.word, c.date.ensures.word, c.to.ensures.word) at
+    c.in-Ok.ensures.request in
     record { verdict = rw (← asked) c.verdict_for.ensures.verdict }
 
-pub returns : goal.returns
+pub returns-in-Err : goal.returns-in-Err
 unfolding verdict_on
-returns c =
-    let words : c.deref.result.now ≡ words_of_echo c.args.echo.now = c.deref.ensures.value ∙ c.in_ok-words.ensures.words in
-    let asked : Err c.in-Err.rule ≡ request_of WRITTEN (words_of_echo c.args.echo.now) = rw words at c.in-Err.ensures.request in
+returns-in-Err c =
+    let asked : Err c.in-Err.rule ≡ request_of WRITTEN (words_of_echo c.args.echo.now) = rw (c.from.ensures.word, c.date.ensures.word, c.to.ensures.word) at
+    c.in-Err.ensures.request in
     record { verdict = rw (← asked, c.number.ensures.number) }

@@ -1,0 +1,5 @@
+use Rattle.almanac_core.proofs.SpelledRequests.{almanac_spelled}
+use Rattle.almanac_core.proofs.laws.spelled.Goals as goal
+
+pub returns-clause-almanac : goal.returns-clause-almanac
+returns-clause-almanac c = almanac_spelled

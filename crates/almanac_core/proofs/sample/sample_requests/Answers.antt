@@ -1,0 +1,9 @@
+use Rattle.std.proofs.Common.{arith}
+use Rattle.almanac_core.proofs.Requests.{sample_on}
+use Rattle.almanac_core.proofs.sample.sample_requests.Goals as goal
+
+pub loop-index-preserved : goal.loop-index-preserved
+loop-index-preserved c =
+    let on = sample_on c.loop-index.state c.loop-index.index c.args.count _ _ _ _ (omega (arith, c.loop-index-test.true)) c.sample_line-next.ensures.request
+    c.loop-index.invariant c.in_ok-push.ensures.items in
+    rw (← c.sample_line-next.ensures.state) at on

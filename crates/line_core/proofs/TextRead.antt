@@ -1,0 +1,72 @@
+-- The line of a request is read as the request.
+use Rattle.std.proofs.Common.{◌≡◌, ◌∙◌, ℕ, ◌+◌, ◌≤◌, true, false, List, [], ◌∷◌, length, ap, sym, refl, arith}
+use Rattle.std.proofs.lemmas.Bool.Decides.{nat_tests}
+use Rattle.std.specs.List.{list_all}
+use Rattle.std.specs.Prelude.{Some, nat_le}
+use Rattle.book_model.specs.declared.calendar.Calendar.{Calendar}
+use Rattle.book_model.specs.declared.calendar.Calendar.TheVariants as calendars
+use Rattle.book_model.specs.declared.request.Request.{Request}
+use Rattle.book_model.specs.declared.version.Version.{Version}
+use Rattle.book_model.specs.declared.words.FromWord.{FromWord}
+use Rattle.book_model.specs.declared.words.FromWord.TheVariants as from
+use Rattle.book_model.specs.declared.words.ToWord.{ToWord}
+use Rattle.book_model.specs.declared.words.ToWord.TheVariants as to
+use Rattle.book_model.specs.calendars.Dates.{row_of}
+use Rattle.book_model.specs.lines.Lines.{IsWord}
+use Rattle.book_model.specs.lines.Requests.{request_of, checked_request, fields_of, fields_with, checked, is_of_seven_digits, IsSpelled}
+use Rattle.book_model.specs.lines.Text.{date_text, line_text, three_words_text}
+use Rattle.book_model.specs.lines.Words.{calendar_of, text_of_from, text_of_to}
+use Rattle.book_model.proofs.WordTables.{from_found, to_found, few_fields}
+use Rattle.line_core.proofs.DateSpelling.{IsDate, IsShortWord, dashed_date, gregorian_date, date_numbers, date_word}
+use Rattle.line_core.proofs.SingleSpaces.{text_length, asked_words}
+
+-- the words of the tables are words
+from_word : (w : FromWord) → IsShortWord 20 (text_of_from w)
+from_word from.Gregorian = record { is_word = record { some = omega arith; printed = refl }; short = omega arith }
+from_word _ = record { is_word = record { some = omega arith; printed = refl }; short = omega arith }
+
+to_word : (w : ToWord) → IsShortWord 20 (text_of_to w)
+to_word to.Gregorian = record { is_word = record { some = omega arith; printed = refl }; short = omega arith }
+to_word _ = record { is_word = record { some = omega arith; printed = refl }; short = omega arith }
+
+-- the text of a date is that of its numbers: the last line is checked for each calendar by itself
+text_is_date : (c : Calendar) (ns : List ℕ) → length ns ≡ (row_of c).count → list_all is_of_seven_digits ns ≡ true → IsDate ns (date_text c (fields_with ns))
+text_is_date c [] h small = absurd (no_date c h)
+  where
+    no_date : (c : Calendar) → 0 ≡ (row_of c).count → ⊥
+    no_date calendars.Gregorian h = omega arith
+    no_date _ h = omega arith
+text_is_date calendars.Gregorian (y ∷ m ∷ d ∷ []) h small = gregorian_date y m d small
+text_is_date calendars.Gregorian ns h small = absurd (omega arith)
+text_is_date c (n ∷ ns) h small = dashed_date n ns (omega (arith, few_fields c)) small
+
+-- a date is read again
+date_read : (c : Calendar) (ns : List ℕ) → length ns ≡ (row_of c).count → list_all is_of_seven_digits ns ≡ true → fields_of c (date_text c (fields_with ns))
+    ≡ checked c (fields_with ns)
+unfolding fields_of
+date_read c ns h small = rw (date_numbers ns (date_text c (fields_with ns)) (text_is_date c ns h small)) refl
+
+-- the line of a request whose date is these numbers
+spelled_read : (version : Version) (r : Request) (ns : List ℕ) → r.date ≡ fields_with ns → length ns ≡ (row_of (calendar_of r.from)).count
+    → list_all is_of_seven_digits ns ≡ true
+    → request_of version (line_text r) ≡ checked_request version r
+unfolding line_text
+spelled_read version r ns date many small =
+    let first = from_word r.from in
+    let last = to_word r.to in
+    let middle : IsShortWord 40 (date_text (calendar_of r.from) r.date) = rw date
+    (date_word ns (date_text (calendar_of r.from) (fields_with ns)) (text_is_date (calendar_of r.from) ns many small)
+    (omega (arith, few_fields (calendar_of r.from)))) in
+    let size = text_length (text_of_from r.from) (date_text (calendar_of r.from) r.date) (text_of_to r.to) in
+    let long : length (three_words_text (text_of_from r.from) (date_text (calendar_of r.from) r.date) (text_of_to r.to)) ≤ 200 = omega
+    (arith, size, first.short, middle.short, last.short) in
+    let short : nat_le (length (three_words_text (text_of_from r.from) (date_text (calendar_of r.from) r.date) (text_of_to r.to))) 200
+    ≡ true = grind (arith, nat_tests) in
+    let asked = asked_words version (text_of_from r.from) (date_text (calendar_of r.from) r.date) (text_of_to r.to) first.is_word middle.is_word last.is_word
+    short in
+    let again : fields_of (calendar_of r.from) (date_text (calendar_of r.from) r.date)
+    ≡ checked (calendar_of r.from) r.date = rw date (date_read (calendar_of r.from) ns many small) in
+    sym asked ∙ rw (from_found r.from, to_found r.to, again) refl
+
+pub text_is_read : (version : Version) (r : Request) → IsSpelled r → request_of version (line_text r) ≡ checked_request version r
+text_is_read version r s = spelled_read version r s.numbers s.date s.many s.short
