@@ -14,7 +14,7 @@ pub enum Command {
 
 /// What the program is told to do, and by how many workers, from 1 to 64.
 #[derive(Clone, Copy, Debug, PartialEq, Eq)]
-pub struct Task {
+pub struct Order {
     pub command: Command,
     pub jobs: usize,
 }

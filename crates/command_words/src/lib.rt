@@ -1,4 +1,4 @@
-//! What the program is told to do. `task_of` reads the program's words, which come without the program's own name,
+//! What the program is told to do. `order_of` reads the program's words, which come without the program's own name,
 //! by one simple command of clap's and a table: `convert`, `check`, `almanac YEAR` or `sample COUNT SEED`, each with an
 //! optional `--jobs N`. Words that are in no such form are refused.
 #![tactic(auto)]
@@ -8,5 +8,5 @@ mod number;
 mod program;
 mod words;
 
-pub use command::{Command, NoCommand, Task};
-pub use words::task_of;
+pub use command::{Command, NoCommand, Order};
+pub use words::order_of;

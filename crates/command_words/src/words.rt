@@ -3,7 +3,7 @@ ghost use Rattle.std.specs.Prelude.{◌≡◌, ◌≤◌, IfOk, IfSome, IsErrOf,
 ghost use Rattle.clap.specs.Words.{found_of, kind_of, matches_of, rows_of};
 ghost use Rattle.command_words.specs.Words as spec;
 
-use crate::command::{Command, NoCommand, Task};
+use crate::command::{Command, NoCommand, Order};
 use crate::number::number_between;
 use crate::program::program;
 use book_model::{FIRST_ALMANAC_YEAR, LAST_ALMANAC_YEAR};
@@ -74,13 +74,13 @@ fn jobs_in(word: &str) -> Option<usize>
     Some(jobs as usize)
 }
 
-/// What the values of the arguments tell.
-fn told_by(
+/// The order that the values of the arguments tell.
+fn order_of_values(
     name: Option<&str>,
     jobs: Option<&str>,
     first: Option<&str>,
     second: Option<&str>,
-) -> Option<Task>
+) -> Option<Order>
     ensures command { option_map (λ t. t.command) result
         ≡ spec.told_by (option_map (λ s. s.now) name.entry)
         (option_map (λ s. s.now) jobs.entry) (option_map (λ s. s.now) first.entry)
@@ -92,11 +92,11 @@ fn told_by(
     let name = name?;
     let jobs = jobs_in(jobs?)?;
     let command = table(name, first, second)?;
-    Some(Task { command, jobs })
+    Some(Order { command, jobs })
 }
 
-/// What clap's reading of the words tells.
-fn told(matches: &ArgMatches) -> Option<Task>
+/// The order that clap's reading of the words tells.
+fn order_of_matches(matches: &ArgMatches) -> Option<Order>
     ensures command { option_map (λ t. t.command) result
         ≡ spec.told (rows_of (found_of matches.now)) }
     ensures jobs { IfSome result (λ t. spec.told_jobs (rows_of (found_of matches.now))
@@ -107,7 +107,7 @@ fn told(matches: &ArgMatches) -> Option<Task>
     let jobs = matches.get_str("jobs");
     let first = matches.get_str("a");
     let second = matches.get_str("b");
-    told_by(name, jobs, first, second)
+    order_of_values(name, jobs, first, second)
 }
 
 /// Why clap read no words: memory ran out, or they aren't in the form.
@@ -138,11 +138,11 @@ fn matches_in<'a>(alloc: Global, words: &'a [String]) -> Result<ArgMatches<'a>, 
     }
 }
 
-/// What the words tell: the command that they name, `convert`, `check`, `almanac YEAR` or `sample COUNT SEED`, and the jobs of
+/// The order that the words tell: the command that they name, `convert`, `check`, `almanac YEAR` or `sample COUNT SEED`, and the jobs of
 /// `--jobs N`, 1 to 64, which are 1 where the option isn't given. The words come without the program's own name.
 ///
 /// `Form` comes where the words name no command, and `Memory` where memory ran out before they were read.
-pub fn task_of(alloc: Global, words: &[String]) -> Result<Task, NoCommand>
+pub fn order_of(alloc: Global, words: &[String]) -> Result<Order, NoCommand>
     ensures command { IfOk result (λ t. spec.command_of (map string_bytes words.now)
         ≡ Some t.command) }
     ensures jobs { IfOk result (λ t. spec.jobs_of (map string_bytes words.now) ≡ Some t.jobs) }
@@ -153,5 +153,5 @@ pub fn task_of(alloc: Global, words: &[String]) -> Result<Task, NoCommand>
     ensures few { IfOk result (λ t. t.jobs ≤ 64) }
 {
     let matches = matches_in(alloc, words)?;
-    told(&matches).ok_or(NoCommand::Form)
+    order_of_matches(&matches).ok_or(NoCommand::Form)
 }

@@ -1,3 +1,4 @@
+pub mod Dealing
+pub mod Joining
 pub mod PieceLemmas
-pub mod Fairness
 pub mod AnswerLemmas

@@ -1,37 +1,33 @@
-//! Places that are cut into pieces, and a call at each place.
-ghost use Rattle.std.specs.Prelude.{◌≡◌, ◌≤◌, ◌<◌, ◌+◌, ℕ, Ok, IfOk, length, slice_index_or};
+//! Places that are dealt to pieces, and a call at each place.
+ghost use Rattle.std.specs.Prelude.{◌≡◌, ◌≤◌, ◌<◌, ℕ, Ok, IfOk, length, slice_index_or};
 ghost use Rattle.jobs_core.specs.Pieces as spec;
 ghost use Rattle.jobs_core.specs.Pieces.{Covers};
 
 use crate::Gate;
+use crate::deal::{piece_size, place_at};
 use crate::join::join_pieces;
 use std::alloc::{AllocError, Global};
 use std::thread;
 use std::thread::Threads;
 
-/// Where a piece begins of so many places that are cut into so many pieces; the one after the last begins where all end.
-fn piece_start(count: usize, jobs: usize, piece: usize) -> usize
-    requires some { 0 < jobs }
-    requires within { piece ≤ jobs }
-    ensures start { result ≡ spec.piece_start count jobs piece }
-    ensures within { result ≤ count }
-{
-    piece * (count / jobs) + piece.min(count % jobs)
-}
-
-/// What the calls at the places from one up to another give, in order. The error is that of a call, or want of memory.
+/// What the calls at the places of a piece give, in order. The error is that of a call, or want of memory.
 fn work_places<X: Drop, F: Fn(usize) -> Result<X, AllocError>>(
     alloc: Global,
-    from: usize,
-    to: usize,
+    count: usize,
+    jobs: usize,
+    piece: usize,
     f: &F,
 ) -> Result<Vec<X>, AllocError>
-    requires order { from ≤ to }
-    requires accepts { (i : ℕ) → i < to → F.pre f.now i }
-    ensures covers { IfOk result (λ done. Covers (λ i x. F.post f.now i (Ok x)) from to done.items) }
+    requires few { jobs ≤ 64 }
+    requires piece { piece < jobs }
+    requires accepts { (i : ℕ) → i < count → F.pre f.now i }
+    ensures covers { IfOk result (λ done. Covers (λ i x. F.post f.now i (Ok x))
+        (spec.place_at count jobs piece) (spec.piece_size count jobs piece) done.items) }
 {
-    let mut done = Vec::with_capacity(alloc, to - from)?;
-    for place in from..to {
+    let size = piece_size(count, jobs, piece);
+    let mut done = Vec::with_capacity(alloc, size)?;
+    for number in 0..size {
+        let place = place_at(count, jobs, piece, number);
         done.push(f(place)?)?;
     }
     Ok(done)
@@ -58,7 +54,7 @@ fn work_pieces<
     ensures len { IfOk result (λ pieces. length pieces.items ≡ jobs) }
     ensures each { IfOk result (λ pieces. (k : ℕ) (d : _) → k < jobs
         → IfOk (slice_index_or pieces.items k d) (λ done. Covers (λ i x. F.post f.now i (Ok x))
-        (spec.piece_start count jobs k) (spec.piece_start count jobs (k + 1)) done.items)) }
+        (spec.place_at count jobs k) (spec.piece_size count jobs k) done.items)) }
 {
     thread::map_indices(
         rt,
@@ -68,20 +64,25 @@ fn work_pieces<
             requires { (0 < jobs) × (piece < jobs) × (jobs ≤ 64)
                 × ((i : ℕ) → i < count → F.pre f.now i) }
             ensures { IfOk result (λ done. Covers (λ i x. F.post f.entry.now i (Ok x))
-                (spec.piece_start count jobs piece) (spec.piece_start count jobs (piece + 1))
-                done.items) }
+                (spec.place_at count jobs piece) (spec.piece_size count jobs piece) done.items) }
         {
             gate.at(piece);
-            let from = piece_start(count, jobs, piece);
-            let to = piece_start(count, jobs, piece + 1);
-            work_places(alloc, from, to, f)
+            work_places(alloc, count, jobs, piece, f)
         },
     )
 }
 
-/// What `f` gives at each place below `count`, in the order of the places. They are cut into as many pieces as there are jobs,
-/// whose sizes differ by at most one, and some of which are empty where there are fewer places. Each piece is worked in a
-/// thread of its own where one can be had, and the gate is told once, as the piece begins. The error is that of a call, or
+/// The results of the only piece, as they stand: nothing is moved.
+fn only_of<X: Drop>(mut pieces: Vec<Result<Vec<X>, AllocError>>) -> Result<Vec<X>, AllocError>
+    requires one { length pieces.items ≡ 1 }
+    ensures only { (d : _) → slice_index_or pieces.items 0 d ≡ result }
+{
+    pieces.pop().unwrap()
+}
+
+/// What `f` gives at each place below `count`, in the order of the places. They are dealt in turn to as many pieces as there are
+/// jobs, whose sizes differ by at most one, and some of which are empty where there are fewer places. Each piece is worked in
+/// a thread of its own where one can be had, and the gate is told once, as the piece begins. The error is that of a call, or
 /// want of memory.
 pub fn map_places<
     R: Threads + Sync,
@@ -92,8 +93,13 @@ pub fn map_places<
     requires some { 0 < jobs }
     requires few { jobs ≤ 64 }
     requires accepts { (i : ℕ) → i < count → F.pre f.now i }
-    ensures covers { IfOk result (λ all. Covers (λ i x. F.post f.now i (Ok x)) 0 count all.items) }
+    ensures covers { IfOk result (λ all. Covers (λ i x. F.post f.now i (Ok x)) (λ i. i) count
+        all.items) }
 {
     let pieces = work_pieces(rt, alloc, count, jobs, gate, f)?;
-    join_pieces(alloc, pieces)
+    if jobs == 1 {
+        only_of(pieces)
+    } else {
+        join_pieces(alloc, count, jobs, pieces)
+    }
 }

@@ -1,21 +1,22 @@
-use Rattle.std.proofs.Common.{◌≡◌, ℕ, length, arith, Ok}
+use Rattle.std.proofs.Common.{◌≡◌, ℕ, arith, Ok}
 use Rattle.std.proofs.lemmas.Result.{IfOk-weaker}
-use Rattle.jobs_core.proofs.PieceLemmas.{join_covers, last_end}
-use Rattle.jobs_core.specs.Pieces as spec
+use Rattle.jobs_core.proofs.PieceLemmas.{joined_covers, only_covers}
 use Rattle.jobs_core.proofs.pieces.map_places.Goals as goal
 
-pub returns : goal.returns
-returns g c =
-    let n = c.args.count in
-    let k = c.args.jobs in
-    let pieces = c.in_ok-pieces.pieces in
-    let made = c.in_ok-pieces.ensures in
-    let long : length pieces.items ≡ k = made.len in
-    let first : spec.piece_start n k 0 ≡ 0 = omega arith in
-    let last : spec.piece_start n k k ≡ n = last_end n k c.requires.some in
+pub returns-then-jobs-eq1 : goal.returns-then-jobs-eq1
+returns-then-jobs-eq1 g c =
+    let one : c.args.jobs ≡ 1 = c.if-jobs-eq1.true in
+    let whole = c.only_of.result in
+    let covered = c.in_ok-pieces.ensures.each 0 whole (omega arith) in
     record {
-      covers = IfOk-weaker c.join_pieces.result _ _ (λ all h.
-          rw (first, last) at (join_covers (λ (i : ℕ) x. goal.F-post g c.args.f.now i (Ok x)) (spec.piece_start n k) 0 k pieces.items all.items
-          (λ i j d is lt. let same : j ≡ i = omega (arith, is) in rw same (made.each i d (omega (arith, lt, long)))) (omega (arith, long)) h))
-          c.join_pieces.ensures.joined;
+      covers = IfOk-weaker whole _ _ (λ all h. only_covers (λ (i : ℕ) x. goal.F-post g c.args.f.now i (Ok x)) c.args.count all.items h)
+          (rw (c.only_of.ensures.only whole, one) at covered);
     }
+
+pub returns-else-jobs-eq1 : goal.returns-else-jobs-eq1
+returns-else-jobs-eq1 g c = record {
+  covers = IfOk-weaker c.join_pieces.result _ _
+      (λ all h. joined_covers (λ (i : ℕ) x. goal.F-post g c.args.f.now i (Ok x)) c.args.count c.args.jobs c.in_ok-pieces.pieces.items all.items
+      c.join_pieces.result c.requires.some
+      c.in_ok-pieces.ensures.each h) c.join_pieces.ensures.joined;
+}

@@ -1,0 +1,47 @@
+//! How places are dealt to pieces in turn, so that work that grows dearer along the input is shared evenly. Neighbouring lines
+//! often ask the same facts, so whole rounds are dealt by blocks of neighbours, and only the rest one by one.
+ghost use Rattle.std.specs.Prelude.{◌≡◌, ◌≤◌, ◌<◌};
+ghost use Rattle.jobs_core.specs.Pieces as spec;
+
+/// How many places a block has.
+const BLOCK: usize = 16;
+
+/// The piece that a place goes to, of so many places and pieces.
+pub(crate) fn piece_of(count: usize, jobs: usize, place: usize) -> usize
+    requires some { 0 < jobs }
+    requires few { jobs ≤ 64 }
+    ensures piece { result ≡ spec.piece_of count jobs place }
+    ensures within { result < jobs }
+{
+    let round = jobs * BLOCK;
+    if place < count / round * round {
+        place % round / BLOCK
+    } else {
+        place % jobs
+    }
+}
+
+/// How many of so many places go to a piece. The sizes of pieces differ by at most one.
+pub(crate) fn piece_size(count: usize, jobs: usize, piece: usize) -> usize
+    requires some { 0 < jobs }
+    ensures size { result ≡ spec.piece_size count jobs piece }
+{
+    count / jobs + (count % jobs).saturating_sub(piece).min(1)
+}
+
+/// The place that has this number, from 0, among those of a piece.
+pub(crate) fn place_at(count: usize, jobs: usize, piece: usize, number: usize) -> usize
+    requires some { 0 < jobs }
+    requires few { jobs ≤ 64 }
+    requires piece { piece < jobs }
+    requires number { number < spec.piece_size count jobs piece }
+    ensures place { result ≡ spec.place_at count jobs piece number }
+    ensures within { result < count }
+{
+    let round = jobs * BLOCK;
+    if number < count / round * BLOCK {
+        number / BLOCK * round + (piece * BLOCK + number % BLOCK)
+    } else {
+        number * jobs + piece
+    }
+}
