@@ -5,6 +5,7 @@ mod arcs;
 mod bisection;
 mod coarse_ends;
 mod decided;
+mod decided_far;
 mod facts;
 mod fine;
 mod fine_ends;

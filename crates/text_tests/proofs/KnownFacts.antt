@@ -24,7 +24,8 @@ abbrev ComesTo : ℤ → ℤ → Type 0
 ComesTo day v = (n : ℕ) → outcome (run (at_depth n) (dt_of day)) ≡ valued v
 
 runs : ComesTo (pos 726592) (pos 56895) × ComesTo (pos 738926) (pos 73871) × ComesTo (pos 738927) (pos 73871)
-unfolding dt_of run outcome bind after_cell cell_at cell_of value year_of rounded_of seconds_of polynomial_of polynomial_to int_power correction_by
+unfolding
+    dt_of run outcome bind after_cell cell_at cell_of value year_of rounded_of seconds_of polynomial_of polynomial_to int_power correction_by
     correction_of_year corrections row_of_year year_of_day first_day sum product least greatest plus times smaller larger is_at_most
 runs = (λ n. refl, λ n. refl, λ n. refl)
 

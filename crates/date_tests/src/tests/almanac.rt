@@ -1,5 +1,5 @@
-//! Lines of an almanac as they are given elsewhere.
-use almanac_core::almanac_line;
+//! Lines of an almanac as they are given elsewhere, and all lines of an almanac and of a sample in their order.
+use almanac_core::{almanac_line, almanac_requests, sample_line, sample_requests};
 use book_model::{Fields, FromWord, Request, ToWord};
 use std::test::Fail;
 
@@ -37,5 +37,18 @@ fn the_almanac_of_2024(rt: HostRuntime) -> Result<(), Fail> {
             "line {index}"
         );
     }
+    Ok(())
+}
+
+#[test]
+fn requests_stand_in_their_order(rt: HostRuntime) -> Result<(), Fail> {
+    let almanac = almanac_requests(rt.alloc(), 2024)?;
+    assert_eq!(rt; almanac.len(), 104);
+    assert_eq!(rt; almanac[0], almanac_line(2024, 1));
+    assert_eq!(rt; almanac[103], almanac_line(2024, 104));
+    let sample = sample_requests(rt.alloc(), 2, 1)?;
+    let (first, state) = sample_line(1, 0);
+    let (second, _) = sample_line(state, 1);
+    assert_eq!(rt; sample.as_slice(), [first, second].as_slice());
     Ok(())
 }

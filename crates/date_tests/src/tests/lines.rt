@@ -1,7 +1,9 @@
 //! Lines of an input, what they ask, and what that comes to over oracles with small lists. The rows under `tests/rows` have many
 //! lines more, for each rule.
 use book_model::{Fact, Fields, FromWord, Kind, Place, Request, Resolved, Rule, ToWord};
-use line_core::{Version, read_line, resolve, split_lines, three_words};
+use line_core::{
+    ThreeWords, Version, checked_request, read_line, read_words, resolve, split_lines, three_words,
+};
 use oracle_core::{Listed, Oracle, Stop};
 use std::test::Fail;
 
@@ -51,6 +53,49 @@ fn a_line_is_a_request_or_breaks_a_rule(rt: HostRuntime) {
             read_line(line.as_bytes(), Version::One),
             want,
             "at {line:?}"
+        );
+    }
+}
+
+#[test]
+fn three_words_are_a_request_or_break_a_rule(rt: HostRuntime) {
+    let gregorian = on(FromWord::Gregorian, 3, [2024, 2, 29, 0, 0]);
+    let (from, date) = (b"gregorian", b"2024-02-29");
+    let words = ThreeWords {
+        from,
+        date,
+        to: b"dt",
+    };
+    assert_eq!(rt; read_words(words, Version::One), gregorian);
+    let words = ThreeWords {
+        from,
+        date,
+        to: b"du",
+    };
+    assert_eq!(rt; read_words(words, Version::One), Err(Rule::Calendar));
+}
+
+#[test]
+fn a_request_breaks_the_rule_of_its_line(rt: HostRuntime) {
+    for (from, values, rule) in [
+        (FromWord::Gregorian, [2024, 2, 29, 0, 0], None),
+        (FromWord::Gregorian, [2023, 2, 29, 0, 0], Some(Rule::Field)),
+        (FromWord::Gregorian, [1801, 12, 31, 0, 0], Some(Rule::Range)),
+        (FromWord::Persian, [1428, 1, 1, 0, 0], Some(Rule::Range)),
+    ] {
+        let request = Request {
+            from,
+            date: Fields { count: 3, values },
+            to: ToWord::Dt,
+        };
+        let want = match rule {
+            Some(rule) => Err(rule),
+            None => Ok(request),
+        };
+        assert_eq!(rt;
+            checked_request(&request, Version::One),
+            want,
+            "at {values:?}"
         );
     }
 }

@@ -36,6 +36,7 @@ impl<E: Enclosure> DayTest<E> for After {
     }
 }
 
+/// A fraction, or the failure that its denominator is 0.
 pub fn fraction(num: i128, den: u64) -> Result<Frac, Fail> {
     Ok(Frac::new(num, den).ok_or("a denominator of 0")?)
 }

@@ -8,6 +8,11 @@ use std::test::Fail;
 fn corrections_are_those_of_the_reference(rt: HostRuntime) -> Result<(), Fail> {
     let staged = Staged::new();
     for (day, milliseconds) in [
+        (620_729, 8_119),
+        (621_278, 8_122),
+        (638_961, 12_873),
+        (657_071, 14_455),
+        (657_072, 13_623),
         (657_802, 12_874),
         (693_595, -2_277),
         (693_596, -1_549),
@@ -19,6 +24,11 @@ fn corrections_are_those_of_the_reference(rt: HostRuntime) -> Result<(), Fail> {
         (738_926, 73_871),
         (748_017, 91_261),
         (748_382, 92_126),
+        (748_747, 93_001),
+        (748_748, 95_038),
+        (766_645, 202_740),
+        (784_541, 323_143),
+        (784_906, 325_808),
     ] {
         let fact = Fact::new(Kind::Dt, Place::None, day).ok_or("no fact")?;
         assert_eq!(rt; staged.eval(fact), Answer::Value(milliseconds), "day {day}");
@@ -30,10 +40,12 @@ fn corrections_are_those_of_the_reference(rt: HostRuntime) -> Result<(), Fail> {
 fn longitudes_of_the_sun_are_those_of_the_reference(rt: HostRuntime) -> Result<(), Fail> {
     let staged = Staged::new();
     for (day, thousandths) in [
+        (620_729, 98_980),
         (657_802, 279_936),
         (738_965, 359_871),
         (738_966, 864),
         (748_017, 279_973),
+        (784_906, 279_446),
     ] {
         let fact = Fact::new(Kind::Sun, Place::None, day).ok_or("no fact")?;
         assert_eq!(rt; staged.eval(fact), Answer::Value(thousandths), "day {day}");
@@ -45,6 +57,8 @@ fn longitudes_of_the_sun_are_those_of_the_reference(rt: HostRuntime) -> Result<(
 fn new_years_of_persia_are_those_of_the_reference(rt: HostRuntime) -> Result<(), Fail> {
     let staged = Staged::new();
     for (day, new_year) in [
+        (620_729, 620_627),
+        (621_278, 620_992),
         (657_253, 657_151),
         (657_880, 657_516),
         (657_881, 657_881),
@@ -75,6 +89,8 @@ fn new_years_of_persia_are_those_of_the_reference(rt: HostRuntime) -> Result<(),
         (747_730, 747_366),
         (747_731, 747_731),
         (748_382, 748_096),
+        (784_541, 784_255),
+        (784_906, 784_621),
     ] {
         let fact = Fact::new(Kind::Nowruz, Place::None, day).ok_or("no fact")?;
         assert_eq!(rt; staged.eval(fact), Answer::Value(new_year), "day {day}");
@@ -87,14 +103,16 @@ fn new_moons_are_those_of_the_reference(rt: HostRuntime) -> Result<(), Fail> {
     let staged = Staged::new();
     for (kind, day, new_moon) in [
         (Kind::NewMoonFrom, 738_877, 738_896),
+        (Kind::NewMoonBefore, 620_729, 620_715),
         (Kind::NewMoonBefore, 738_927, 738_926),
         (Kind::NewMoonBefore, 739_242, 739_221),
+        (Kind::NewMoonBefore, 784_906, 784_905),
     ] {
         let fact = Fact::new(kind, Place::Beijing, day).ok_or("no fact")?;
         assert_eq!(rt; staged.eval(fact), Answer::Value(new_moon), "day {day}");
         assert_eq!(rt; Fact::new(kind, Place::None, day), None, "day {day}");
     }
-    let fact = Fact::new(Kind::NewMoonBefore, Place::Beijing, 657_252).ok_or("no fact")?;
+    let fact = Fact::new(Kind::NewMoonBefore, Place::Beijing, 620_728).ok_or("no fact")?;
     assert_eq!(rt; staged.eval(fact), Answer::Void(Site::Year));
     Ok(())
 }
@@ -103,6 +121,7 @@ fn new_moons_are_those_of_the_reference(rt: HostRuntime) -> Result<(), Fail> {
 fn solstices_and_terms_are_those_of_the_reference(rt: HostRuntime) -> Result<(), Fail> {
     let staged = Staged::new();
     for (kind, day, value) in [
+        (Kind::Solstice, 620_903, 620_903),
         (Kind::Solstice, 693_961, 693_951),
         (Kind::Solstice, 704_187, 704_178),
         (Kind::Solstice, 738_875, 738_511),
@@ -110,6 +129,8 @@ fn solstices_and_terms_are_those_of_the_reference(rt: HostRuntime) -> Result<(),
         (Kind::Solstice, 739_240, 738_876),
         (Kind::Solstice, 739_241, 739_241),
         (Kind::Solstice, 748_382, 748_372),
+        (Kind::Solstice, 784_906, 784_897),
+        (Kind::Major, 620_729, 5),
         (Kind::Major, 657_253, 5),
         (Kind::Major, 738_926, 12),
         (Kind::Major, 738_955, 1),
@@ -117,6 +138,7 @@ fn solstices_and_terms_are_those_of_the_reference(rt: HostRuntime) -> Result<(),
         (Kind::Major, 742_529, 11),
         (Kind::Major, 742_558, 11),
         (Kind::Major, 748_382, 11),
+        (Kind::Major, 784_906, 11),
         (Kind::MajorTerm, 738_886, 738_905),
         (Kind::MajorTerm, 738_977, 738_995),
         (Kind::MajorTerm, 739_221, 739_241),
@@ -127,8 +149,11 @@ fn solstices_and_terms_are_those_of_the_reference(rt: HostRuntime) -> Result<(),
         let fact = Fact::new(kind, Place::Beijing, day).ok_or("no fact")?;
         assert_eq!(rt; staged.eval(fact), Answer::Value(value), "day {day}");
     }
-    let before = Fact::new(Kind::Solstice, Place::Beijing, 657_253).ok_or("no fact")?;
-    assert_eq!(rt; staged.eval(before), Answer::Void(Site::Year));
+    // The last winter solstice before these days fell in 1699, of which no correction is known.
+    for day in [620_729, 620_902] {
+        let before = Fact::new(Kind::Solstice, Place::Beijing, day).ok_or("no fact")?;
+        assert_eq!(rt; staged.eval(before), Answer::Void(Site::Year), "day {day}");
+    }
     Ok(())
 }
 
@@ -152,7 +177,7 @@ fn moons_are_those_of_the_reference(rt: HostRuntime) -> Result<(), Fail> {
 #[test]
 fn other_days_are_void_at_the_year(rt: HostRuntime) -> Result<(), Fail> {
     let staged = Staged::new();
-    for day in [-40_000_000, 0, 657_252, 748_383, 40_000_000] {
+    for day in [-40_000_000, 0, 620_728, 784_907, 40_000_000] {
         for kind in [Kind::Dt, Kind::Sun, Kind::Nowruz] {
             let fact = Fact::new(kind, Place::None, day).ok_or("no fact")?;
             assert_eq!(rt; staged.eval(fact), Answer::Void(Site::Year), "day {day}");

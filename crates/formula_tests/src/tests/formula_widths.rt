@@ -34,8 +34,8 @@ fn is_day_narrow(day: i64) -> bool {
 }
 
 #[test]
-fn each_new_year_from_1802_on_is_narrow(rt: HostRuntime) {
-    for year in 1802..2049 {
+fn each_new_year_from_1702_on_is_narrow(rt: HostRuntime) {
+    for year in 1702..2149 {
         assert!(rt; is_day_narrow(new_year(year)), "1 January {year}");
     }
 }

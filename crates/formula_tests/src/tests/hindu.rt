@@ -9,8 +9,8 @@ use hindu_facts::{
 
 /// The values of a day (R.D.), in the order of the facts.
 fn values(day: i64, trail: &mut Trail) -> Result<[i64; 7], FormulaFail>
-    requires from { pos 657253 ≤ℤ day }
-    requires to { day ≤ℤ pos 748382 }
+    requires from { pos 620729 ≤ℤ day }
+    requires to { day ≤ℤ pos 784906 }
 {
     Ok([
         sign_at_sunset::<Coarse>(day, trail)?,
@@ -26,11 +26,15 @@ fn values(day: i64, trail: &mut Trail) -> Result<[i64; 7], FormulaFail>
 #[test]
 fn values_are_those_of_the_reference(rt: HostRuntime) {
     for (day, expected, tests) in [
+        (620_729, [3, 4801, 620_709, 15, 3, 4, 4801], 226),
+        (621_278, [9, 4802, 621_258, 3, 9, 10, 4802], 264),
         (657_802, [9, 4902, 657_784, 27, 8, 9, 4902], 264),
         (693_961, [9, 5001, 693_944, 11, 9, 10, 5001], 245),
         (738_990, [1, 5125, 738_990, 6, 12, 1, 5125], 245),
         (739_085, [4, 5125, 739_083, 12, 3, 4, 5125], 245),
         (748_017, [9, 5149, 748_002, 26, 8, 9, 5149], 245),
+        (784_541, [9, 5249, 784_527, 21, 8, 9, 5249], 245),
+        (784_906, [9, 5250, 784_893, 1, 9, 10, 5250], 264),
     ] {
         let mut trail = Trail::new();
         assert_eq!(rt; values(day, &mut trail), Ok(expected), "day {day}");

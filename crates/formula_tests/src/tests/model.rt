@@ -41,13 +41,20 @@ fn sites_are_numbered_and_named(rt: HostRuntime) {
 #[test]
 fn corrections_are_exact(rt: HostRuntime) {
     for (year, units) in [
+        (1700, 811_878_084_200),
+        (1742, 1_181_550_166_280),
+        (1799, 1_445_506_483_340),
         (1987, 5_531_642_921_893),
         (2000, 6_386_000_000_000),
         (2024, 7_387_134_400_000),
         (2048, 9_126_121_600_000),
+        (2051, 9_503_800_000_000),
+        (2100, 20_274_000_000_000),
+        (2150, 32_848_000_000_000),
     ] {
         assert_eq!(rt; plain::exact_correction(year), Some(units), "year {year}");
     }
-    assert_eq!(rt; plain::exact_correction(1986), None);
-    assert_eq!(rt; plain::exact_correction(2051), None);
+    for year in [-499, 0, 500, 1699, 1800, 1986, 2151] {
+        assert_eq!(rt; plain::exact_correction(year), None, "year {year}");
+    }
 }

@@ -1,7 +1,8 @@
 //! Time: values from an independent implementation of the formulas, and how narrow the answers are.
-use super::measures::{fraction, holds};
+use super::measures::{fraction, holds, is_fine};
 use book_model::{Fail as FormulaFail, Site, Undecided};
 use encl_core::{Coarse, Enclosure, Trail};
+use fix_fine::Fine;
 use std::test::Fail;
 use time_scales::{centuries, correction, dynamical, from_dynamical, sidereal, year, zone_beijing};
 
@@ -11,6 +12,9 @@ fn corrections_are_those_of_the_reference(rt: HostRuntime) -> Result<(), Fail> {
         (-499, 14_332_775_793_199_228, 4),
         (0, 8_826_721_669_673_774, 4),
         (499, 4_770_377_389_013_675, 4),
+        (1700, 6_771_062_661_987, 3),
+        (1742, 9_854_127_571_441, 3),
+        (1799, 12_055_523_073_577, 3),
         (1800, 11_361_838_553_225, 32),
         (1802, 10_737_227_806_583, 29),
         (1829, 6_696_824_384_326, 9),
@@ -31,15 +35,38 @@ fn corrections_are_those_of_the_reference(rt: HostRuntime) -> Result<(), Fail> {
         (2024, 61_608_695_798_473, 4),
         (2048, 76_111_847_846_477, 4),
         (2050, 77_562_827_582_422, 4),
+        (2051, 79_261_685_441_858, 3),
+        (2100, 169_085_146_009_832, 3),
+        (2150, 273_952_297_333_085, 3),
     ] {
         let mut trail = Trail::new();
         let found = correction::<Coarse>(year, &mut trail);
         assert!(rt; holds(found, days, most), "year {year}");
     }
-    for year in [-500, 500, 1799, 2051] {
+    for year in [-500, 500, 1699, 2151] {
         let mut trail = Trail::new();
         let found = correction::<Coarse>(year, &mut trail);
         assert_eq!(rt; found, Err(FormulaFail::Void(Site::Year)), "year {year}");
+    }
+    Ok(())
+}
+
+#[test]
+fn corrections_are_as_narrow_over_fine_enclosures(rt: HostRuntime) -> Result<(), Fail> {
+    for (year, days, most) in [
+        (1700, 6_771_062_661_987, 3),
+        (1742, 9_854_127_571_441, 3),
+        (1799, 12_055_523_073_577, 3),
+        (1800, 11_361_838_553_225, 33),
+        (1986, 46_331_035_351_981, 33),
+        (1987, 46_133_898_151_451, 4),
+        (2050, 77_562_827_582_422, 4),
+        (2051, 79_261_685_441_858, 3),
+        (2100, 169_085_146_009_832, 3),
+        (2150, 273_952_297_333_085, 3),
+    ] {
+        let found = correction::<Fine>(year, &mut Trail::new());
+        assert!(rt; is_fine(found, days, most), "year {year}");
     }
     Ok(())
 }

@@ -13,6 +13,7 @@ pub(crate) struct Known<'a, A: Abort> {
 }
 
 impl<'a, A: Abort> Known<'a, A> {
+    /// An evaluator that was asked nothing yet.
     pub(crate) fn new(abort: &'a A) -> Known<'a, A> {
         Known {
             abort,

@@ -150,12 +150,12 @@ fn the_first_reason_is_told(rt: HostRuntime) -> Result<(), Fail> {
     for (what, text, want) in [
         (
             "a void before another value",
-            "calendrica 1 depth 40\nfact 1 dt - 738926 1\nfact 2 dt - 657252 5\nline 1 gregorian 2024-02-10 dt 1 facts 2 1\nend lines 1 facts 2\n",
-            "no 1 void year fact dt - 657252\n",
+            "calendrica 1 depth 40\nfact 1 dt - 738926 1\nfact 2 dt - 620728 5\nline 1 gregorian 2024-02-10 dt 1 facts 2 1\nend lines 1 facts 2\n",
+            "no 1 void year fact dt - 620728\n",
         ),
         (
             "another value before a void",
-            "calendrica 1 depth 40\nfact 1 dt - 657252 5\nfact 2 dt - 738926 1\nline 1 gregorian 2024-02-10 dt 1 facts 2 1\nend lines 1 facts 2\n",
+            "calendrica 1 depth 40\nfact 1 dt - 620728 5\nfact 2 dt - 738926 1\nline 1 gregorian 2024-02-10 dt 1 facts 2 1\nend lines 1 facts 2\n",
             "no 1 value 2 1 73871\n",
         ),
         (
@@ -184,12 +184,12 @@ fn the_first_reason_is_told(rt: HostRuntime) -> Result<(), Fail> {
 fn facts_are_evaluated(rt: HostRuntime) -> Result<(), Fail> {
     let alloc = rt.alloc();
     let text =
-        "calendrica 1 depth 40\nfact 1 dt - 657252 5\nline 1 refused 2\nline 2 gregorian 2024-02-10 fixed 738926 facts\nline 3 gregorian 2024-02-10 fixed 738926 facts 1\nend lines 3 facts 1\n";
+        "calendrica 1 depth 40\nfact 1 dt - 620728 5\nline 1 refused 2\nline 2 gregorian 2024-02-10 fixed 738926 facts\nline 3 gregorian 2024-02-10 fixed 738926 facts 1\nend lines 3 facts 1\n";
     let file = file_of(alloc, text)?;
     let answers = check_facts(alloc, &file, &Known::new(&rt))?;
     assert_eq!(rt; answers.len(), 1);
     assert_eq!(rt; *answers.item(0), Answer::Void(Site::Year));
-    let fact = correction_on(657_252)?;
+    let fact = correction_on(620_728)?;
     let wanted = [
         Verdict::Skip,
         Verdict::Yes,

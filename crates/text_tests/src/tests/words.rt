@@ -1,15 +1,15 @@
 //! Words at spaces, and what they tell.
-use command_words::{Command, NoCommand, Task, task_of};
+use command_words::{Command, NoCommand, Order, order_of};
 use std::alloc::Global;
 use std::test::Fail;
 
 /// What the parts of a line tell, as they stand between single spaces.
-fn told_by(alloc: Global, line: &str) -> Result<Result<Task, NoCommand>, Fail> {
+fn told_by(alloc: Global, line: &str) -> Result<Result<Order, NoCommand>, Fail> {
     let mut words = Vec::new(alloc);
     for part in line.split(' ') {
         words.push(String::from_str(alloc, part)?)?;
     }
-    Ok(task_of(alloc, words.as_slice()))
+    Ok(order_of(alloc, words.as_slice()))
 }
 
 #[test]
@@ -41,8 +41,8 @@ fn words_in_the_form_tell_a_command(rt: HostRuntime) -> Result<(), Fail> {
         ("convert --", Command::Convert),
         ("-- convert", Command::Convert),
     ] {
-        let task = Task { command, jobs: 1 };
-        assert_eq!(rt; told_by(rt.alloc(), line)?, Ok(task), "{line}");
+        let order = Order { command, jobs: 1 };
+        assert_eq!(rt; told_by(rt.alloc(), line)?, Ok(order), "{line}");
     }
     Ok(())
 }
@@ -54,11 +54,11 @@ fn words_in_the_form_tell_the_jobs(rt: HostRuntime) -> Result<(), Fail> {
         ("convert --jobs=64", 64),
         ("--jobs 008 convert", 8),
     ] {
-        let task = Task {
+        let order = Order {
             command: Command::Convert,
             jobs,
         };
-        assert_eq!(rt; told_by(rt.alloc(), words)?, Ok(task), "{words}");
+        assert_eq!(rt; told_by(rt.alloc(), words)?, Ok(order), "{words}");
     }
     Ok(())
 }
@@ -127,5 +127,5 @@ fn other_words_are_no_form(rt: HostRuntime) -> Result<(), Fail> {
 #[test]
 fn no_words_are_no_form(rt: HostRuntime) {
     let words: &[String] = &[];
-    assert_eq!(rt; task_of(rt.alloc(), words), Err(NoCommand::Form));
+    assert_eq!(rt; order_of(rt.alloc(), words), Err(NoCommand::Form));
 }

@@ -42,6 +42,7 @@ pub(crate) struct Kept {
 }
 
 impl Kept {
+    /// A sink that has taken nothing yet, with so much room, and so many bytes at most in one write.
     pub(crate) fn new(alloc: Global, room: usize, most: usize) -> Kept {
         Kept {
             bytes: Vec::new(alloc),
