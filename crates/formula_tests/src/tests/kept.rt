@@ -20,13 +20,24 @@ fn a_kept_new_moon_is_taken_with_its_test(rt: HostRuntime) {
 #[test]
 fn new_moons_of_two_numbers_come_in_turn(rt: HostRuntime) {
     let mut trail = Trail::new();
-    for number in [24_724, 0, 24_725, 0, 24_724, 24_724, 0] {
+    for number in [24_724, 0, 24_727, 0, 24_724, 24_724, 0] {
         let found = new_moon::<Coarse>(number, &mut trail);
         let own = new_moon::<Coarse>(number, &mut Trail::new());
         assert_eq!(rt; found, own, "new moon {number}");
     }
     assert_eq!(rt; trail.count(), 7);
-    assert!(rt; trail.new_moon(24_725, 36).is_none());
+    assert!(rt; trail.new_moon(24_727, 36).is_none());
+}
+
+#[test]
+fn three_neighbours_are_kept_together(rt: HostRuntime) {
+    let mut trail = Trail::new();
+    for number in [24_724, 24_725, 24_726] {
+        let _ = new_moon::<Coarse>(number, &mut trail);
+    }
+    for number in [24_724, 24_725, 24_726] {
+        assert!(rt; trail.new_moon(number, 36).is_some());
+    }
 }
 
 #[test]
