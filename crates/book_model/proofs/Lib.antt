@@ -27,3 +27,5 @@ pub mod DateLimits
 pub mod Flags
 pub mod CorrectionRows
 pub mod Places
+pub mod Older
+pub mod OlderRows

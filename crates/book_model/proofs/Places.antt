@@ -1,5 +1,5 @@
 -- What is promised of each place: of its location, if it has one, and of its zone, computed of its row.
-use Rattle.std.specs.Prelude.{◌≡◌, ℕ, Bool, true, ◌&&◌, neg_ℤ, [], None, refl}
+use Rattle.std.specs.Prelude.{◌≡◌, Bool, true, ◌&&◌, [], None, refl}
 use Rattle.std.specs.List.{list_all}
 use Rattle.std.specs.Option.{option_map_or}
 use Rattle.exact_math.specs.Fraction.{is_at_most}

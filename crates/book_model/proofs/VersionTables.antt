@@ -1,14 +1,19 @@
--- What a version answers some version answers.
+-- What a version answers some version answers, and the version that is written answers it too. A version is found by the first line
+-- of its files.
 use Rattle.std.proofs.Common.{◌≡◌, Bool, true, false, ◌&&◌, ◌||◌, refl, arith, List, [], ◌∷◌, ℕ, suc, zero}
 use Rattle.std.proofs.lemmas.Int.{ints}
-use Rattle.std.specs.Prelude.{IsTrue, ℤ, pos, slice_index_or}
+use Rattle.std.specs.Prelude.{IsTrue, ℤ, pos, int_le, slice_index_or, Some}
+use Rattle.std.specs.List.{list_all}
 use Rattle.book_model.specs.declared.calendar.Calendar.{Calendar}
-use Rattle.book_model.specs.declared.calendar.Calendar.TheVariants.{Gregorian}
+use Rattle.book_model.specs.declared.calendar.Calendar.TheVariants.{Gregorian, Fixed}
 use Rattle.book_model.specs.declared.request.Fields.{Fields}
 use Rattle.book_model.specs.declared.version.Version.{Version}
-use Rattle.book_model.specs.calendars.Dates.{row_of, may_have, year_number, has_year, has_some_year, gregorian_day, has_day_in_range, is_answered, IsAskable}
-use Rattle.book_model.specs.calendars.Versions.{version_number, is_in_some, line_days, is_in_range, is_in_some_range}
+use Rattle.book_model.specs.declared.version.Version.TheVariants.{One}
+use Rattle.book_model.specs.declared.version.TheConstants.{WRITTEN}
+use Rattle.book_model.specs.calendars.Dates.{row_of, may_have, year_number, has_year, has_some_year, gregorian_day, fixed_day, has_day_in_range, is_answered, IsAskable}
+use Rattle.book_model.specs.calendars.Versions.{version_number, range_in, is_in_some, line_days, is_in_range, is_in_some_range, header_line, version_named}
 use Rattle.book_model.specs.sky.Correction.{is_between}
+use Rattle.book_model.proofs.CorrectionRows.{lies}
 
 both : (p q : Bool) → (p && q) ≡ true → (p ≡ true) × (q ≡ true)
 both true true e = (refl, refl)
@@ -46,3 +51,60 @@ askable version c f possible h =
 pub day_in_range : (version : Version) (f : Fields) → IsTrue (is_answered version Gregorian f) → IsTrue (is_in_some_range (gregorian_day f))
 unfolding is_answered
 day_in_range version f h = some_range version (gregorian_day f) (both (has_year version (row_of Gregorian) f) (has_day_in_range version Gregorian f) h).1
+
+-- ---- the version that is written
+-- a range has the ends of another
+abbrev pub is_wider : (outer inner : ℤ × ℤ) → Bool
+is_wider outer inner = int_le outer.0 inner.0 && int_le inner.1 outer.1
+
+both_true : (p q : Bool) → p ≡ true → q ≡ true → (p && q) ≡ true
+both_true p q e f = rw (e, f) refl
+
+-- what lies in a range lies in a wider one
+pub wider_has : (outer inner : ℤ × ℤ) (z : ℤ) → is_wider outer inner ≡ true → is_between inner.0 inner.1 z ≡ true → is_between outer.0 outer.1 z ≡ true
+wider_has outer inner z w h =
+    let b = both (int_le outer.0 inner.0) (int_le inner.1 outer.1) w in
+    let l = lies inner.0 inner.1 z h in
+    grind (arith, ints, b.0, b.1, l.0, l.1)
+
+-- what lies in the range at a place lies in one that is wider than all
+in_widest : (outer : ℤ × ℤ) (ranges : List (ℤ × ℤ)) (i : ℕ) (z : ℤ) → list_all (is_wider outer) ranges ≡ true
+    → is_between (slice_index_or ranges i (pos 1, pos 0)).0 (slice_index_or ranges i (pos 1, pos 0)).1 z ≡ true → is_between outer.0 outer.1 z ≡ true
+in_widest outer [] i z w h = let none = none_between z in absurd (cc)
+in_widest outer (range ∷ ranges) zero z w h = wider_has outer range z (both (is_wider outer range) (list_all (is_wider outer) ranges) w).0 h
+in_widest outer (range ∷ ranges) (suc i) z w h = in_widest outer ranges i z (both (is_wider outer range) (list_all (is_wider outer) ranges) w).1 h
+
+-- of some ranges, the one of the version that is written is the widest
+abbrev is_written_widest : List (ℤ × ℤ) → Bool
+is_written_widest ranges = list_all (is_wider (range_in WRITTEN ranges)) ranges
+
+days_widest : is_written_widest line_days ≡ true
+days_widest = refl
+
+years_widest : (c : Calendar) → is_written_widest (row_of c).years ≡ true
+years_widest Gregorian = refl
+years_widest _ = refl
+
+-- a day that a line of a version may name is one that a line of the written version may name
+pub later_days : (version : Version) (day : ℤ) → IsTrue (is_in_range version day) → IsTrue (is_in_range WRITTEN day)
+later_days version day h = in_widest (range_in WRITTEN line_days) line_days (version_number version) day days_widest h
+
+day_later : (version : Version) (c : Calendar) (f : Fields) → has_day_in_range version c f ≡ true → has_day_in_range WRITTEN c f ≡ true
+day_later version Gregorian f h = later_days version (gregorian_day f) h
+day_later version Fixed f h = later_days version (fixed_day f) h
+day_later version _ f h = refl
+
+-- a date that a version answers is one that the written version answers
+pub later_dates : (version : Version) (c : Calendar) (f : Fields) → IsTrue (is_answered version c f) → IsTrue (is_answered WRITTEN c f)
+unfolding is_answered
+later_dates version c f h =
+    let b = both (has_year version (row_of c) f) (has_day_in_range version c f) h in
+    let ranges = (row_of c).years in
+    let year = in_widest (range_in WRITTEN ranges) ranges (version_number version) (year_number (row_of c) f) (years_widest c) b.0 in
+    both_true (has_year WRITTEN (row_of c) f) (has_day_in_range WRITTEN c f) year (day_later version c f b.1)
+
+-- ---- the first line of a version's files is that version's
+pub header_found : (version : Version) → version_named (header_line version) ≡ Some version
+unfolding version_named
+header_found One = refl
+header_found _ = refl

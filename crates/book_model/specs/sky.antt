@@ -17,3 +17,4 @@ pub mod Crescent
 pub mod HinduFacts
 pub mod Kinds
 pub mod Facts
+pub mod Older

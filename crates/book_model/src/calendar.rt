@@ -35,7 +35,7 @@ pub struct CalendarRow {
     /// The first day whose date the calendar tells (R.D.).
     pub first_day: i64,
     /// The first and the last number of a year that each version answers, in the order of the versions.
-    pub years: [(i32, i32); 1],
+    pub years: [(i32, i32); 2],
     /// Whether a date has to be its day's own date.
     pub is_confirmed: bool,
     /// Whether a year is written with four digits, and a month and a day with two.
@@ -47,21 +47,21 @@ pub struct CalendarRow {
 #[rattlefmt::skip]
 pub const CALENDARS: [CalendarRow; 8] = [
     CalendarRow { calendar: Calendar::Gregorian, count: 3, limits: [(1, 9999), (1, 12), (1, 31), (0, 0), (0, 0)],
-        weights: [1, 0, 0, 0, 0], offset: 0, first_day: 1, years: [(1, 9999)], is_confirmed: false, is_padded: true },
+        weights: [1, 0, 0, 0, 0], offset: 0, first_day: 1, years: [(1, 9999), (1, 9999)], is_confirmed: false, is_padded: true },
     CalendarRow { calendar: Calendar::Fixed, count: 1, limits: [(0, 9_999_999), (0, 0), (0, 0), (0, 0), (0, 0)],
-        weights: [0, 0, 0, 0, 0], offset: 0, first_day: 0, years: [(0, 0)], is_confirmed: false, is_padded: false },
+        weights: [0, 0, 0, 0, 0], offset: 0, first_day: 0, years: [(0, 0), (0, 0)], is_confirmed: false, is_padded: false },
     CalendarRow { calendar: Calendar::Persian, count: 3, limits: [(1, 9999), (1, 12), (1, 31), (0, 0), (0, 0)],
-        weights: [1, 0, 0, 0, 0], offset: 0, first_day: 0, years: [(1180, 1427)], is_confirmed: true, is_padded: false },
+        weights: [1, 0, 0, 0, 0], offset: 0, first_day: 0, years: [(1180, 1427), (1080, 1527)], is_confirmed: true, is_padded: false },
     CalendarRow { calendar: Calendar::Bahai, count: 5, limits: [(0, 9), (1, 19), (1, 19), (0, 19), (1, 19)],
-        weights: [361, 19, 1, 0, 0], offset: -380, first_day: 0, years: [(-42, 205)], is_confirmed: true, is_padded: false },
+        weights: [361, 19, 1, 0, 0], offset: -380, first_day: 0, years: [(-42, 205), (-142, 305)], is_confirmed: true, is_padded: false },
     CalendarRow { calendar: Calendar::Chinese, count: 5, limits: [(1, 99), (1, 60), (1, 12), (0, 1), (1, 30)],
-        weights: [60, 1, 0, 0, 0], offset: -60, first_day: 0, years: [(4438, 4685)], is_confirmed: true, is_padded: false },
+        weights: [60, 1, 0, 0, 0], offset: -60, first_day: 0, years: [(4438, 4685), (4338, 4785)], is_confirmed: true, is_padded: false },
     CalendarRow { calendar: Calendar::Islamic, count: 3, limits: [(1, 9999), (1, 12), (1, 30), (0, 0), (0, 0)],
-        weights: [1, 0, 0, 0, 0], offset: 0, first_day: 0, years: [(1216, 1471)], is_confirmed: true, is_padded: false },
+        weights: [1, 0, 0, 0, 0], offset: 0, first_day: 0, years: [(1216, 1471), (1113, 1574)], is_confirmed: true, is_padded: false },
     CalendarRow { calendar: Calendar::HinduSolar, count: 3, limits: [(1, 9999), (1, 12), (1, 32), (0, 0), (0, 0)],
-        weights: [1, 0, 0, 0, 0], offset: 0, first_day: 0, years: [(1723, 1970)], is_confirmed: true, is_padded: false },
+        weights: [1, 0, 0, 0, 0], offset: 0, first_day: 0, years: [(1723, 1970), (1623, 2070)], is_confirmed: true, is_padded: false },
     CalendarRow { calendar: Calendar::HinduLunar, count: 5, limits: [(1, 9999), (1, 12), (0, 1), (1, 30), (0, 1)],
-        weights: [1, 0, 0, 0, 0], offset: 0, first_day: 0, years: [(1858, 2105)], is_confirmed: true, is_padded: false },
+        weights: [1, 0, 0, 0, 0], offset: 0, first_day: 0, years: [(1858, 2105), (1758, 2205)], is_confirmed: true, is_padded: false },
 ];
 
 impl Calendar {

@@ -9,6 +9,7 @@ use crate::tables::{CORRECTION_1987, CORRECTION_2006};
 use crate::time_tables::{
     CORRECTION_1700, CORRECTION_1800, CORRECTION_1900, CORRECTION_2051, CORRECTION_ANCIENT,
 };
+use crate::version::Version;
 
 /// What the polynomial of a row is taken of, and what it counts.
 #[derive(Clone, Copy, Debug, PartialEq, Eq)]
@@ -21,26 +22,33 @@ pub enum CorrectionForm {
     DaysByCenturies,
 }
 
-/// The first and the last year of a row, its form, its coefficients from the constant one on, and, where it is promised, how
-/// many units of the scale an enclosure of its corrections is wide at most.
-pub type CorrectionRow = (i64, i64, CorrectionForm, &'static [Frac], Option<u32>);
+/// The first and the last year of a row, its form, its coefficients from the constant one on, where it is promised, how many
+/// units of the scale an enclosure of its corrections is wide at most, and the first version of printed files that has the row.
+pub type CorrectionRow = (
+    i64,
+    i64,
+    CorrectionForm,
+    &'static [Frac],
+    Option<u32>,
+    Version,
+);
 
 /// The rows, in order. A year in none of them has no correction.
 #[rattlefmt::skip]
 pub static CORRECTIONS: [CorrectionRow; 7] = [
-    (-499, 499, CorrectionForm::SecondsByHundreds, &CORRECTION_ANCIENT, None),
-    (1700, 1799, CorrectionForm::SecondsSince(1700), &CORRECTION_1700, Some(3)),
-    (1800, 1899, CorrectionForm::DaysByCenturies, &CORRECTION_1800, Some(33)),
-    (1900, 1986, CorrectionForm::DaysByCenturies, &CORRECTION_1900, Some(33)),
-    (1987, 2005, CorrectionForm::SecondsSince(2000), &CORRECTION_1987, Some(4)),
-    (2006, 2050, CorrectionForm::SecondsSince(2000), &CORRECTION_2006, Some(4)),
-    (2051, 2150, CorrectionForm::SecondsSince(2000), &CORRECTION_2051, Some(3)),
+    (-499, 499, CorrectionForm::SecondsByHundreds, &CORRECTION_ANCIENT, None, Version::One),
+    (1700, 1799, CorrectionForm::SecondsSince(1700), &CORRECTION_1700, Some(3), Version::Two),
+    (1800, 1899, CorrectionForm::DaysByCenturies, &CORRECTION_1800, Some(33), Version::One),
+    (1900, 1986, CorrectionForm::DaysByCenturies, &CORRECTION_1900, Some(33), Version::One),
+    (1987, 2005, CorrectionForm::SecondsSince(2000), &CORRECTION_1987, Some(4), Version::One),
+    (2006, 2050, CorrectionForm::SecondsSince(2000), &CORRECTION_2006, Some(4), Version::One),
+    (2051, 2150, CorrectionForm::SecondsSince(2000), &CORRECTION_2051, Some(3), Version::Two),
 ];
 
 /// The first of some rows that has a year, if one has.
 fn first_with_year(mut rows: &[CorrectionRow], year: i64) -> Option<CorrectionRow>
-    ensures row { option_map (λ r. correction_row r.0 r.1 r.2 r.3.now r.4) result
-        ≡ row_in (map (λ r. correction_row r.0 r.1 r.2 r.3.now r.4) rows.entry.now) year }
+    ensures row { option_map (λ r. correction_row r.0 r.1 r.2 r.3.now r.4 r.5) result
+        ≡ row_in (map (λ r. correction_row r.0 r.1 r.2 r.3.now r.4 r.5) rows.entry.now) year }
 {
     while let [row, rest @ ..] = rows {
         if row.0 <= year && year <= row.1 {
@@ -53,7 +61,7 @@ fn first_with_year(mut rows: &[CorrectionRow], year: i64) -> Option<CorrectionRo
 
 /// The row of a year, if it has one.
 pub fn row_of_year(year: i64) -> Option<CorrectionRow>
-    ensures row { option_map (λ r. correction_row r.0 r.1 r.2 r.3.now r.4) result ≡ row_of year }
+    ensures row { option_map (λ r. correction_row r.0 r.1 r.2 r.3.now r.4 r.5) result ≡ row_of year }
 {
     first_with_year(&CORRECTIONS, year)
 }

@@ -11,16 +11,25 @@ ghost use Rattle.book_model.specs.numbers.Roots.{IsGreatestRoot, IsLeastRoot, no
 ghost use Rattle.book_model.specs.numbers.Arcs.{half, minus_half, arctan_series, arctangent_of, arcsine_of, arccosine_of, arctangent_of_two};
 ghost use Rattle.book_model.specs.programs.Nesting.{ValuesNest, RunsNest, IsNested, IsNestedByDepth, IsNestedOfTwo, AreOctantsMet};
 ghost use Rattle.book_model.specs.calendars.Gregorian.{year_of_day, IsYearOfDay};
-ghost use Rattle.book_model.specs.programs.Programs.{Grid, CellsCut};
+ghost use Rattle.book_model.specs.programs.Programs.{Grid, CellsCut, bind, outcome, void_at};
+ghost use Rattle.book_model.specs.sky.Correction.{corrections, year_of};
+ghost use Rattle.book_model.specs.sky.Facts.{run_of};
+ghost use Rattle.book_model.specs.sky.Kinds.{dt_of};
 ghost use Rattle.book_model.specs.sky.Noon.{StartsNear};
-ghost use Rattle.book_model.specs.calendars.Dates.{row_of};
+ghost use Rattle.book_model.specs.sky.Older.{over_years, rows_in, has_correction, run_by, AreComposed, correction_by_version, dt_by_version};
+ghost use Rattle.book_model.specs.sky.Time.{correction_at};
+ghost use Rattle.book_model.specs.calendars.Dates.{row_of, is_answered};
+ghost use Rattle.book_model.specs.calendars.Versions.{is_in_range, fact_days_in, header_line, version_named};
 ghost use Rattle.book_model.specs.lines.Words.{from_word_of, to_word_of, text_of_from, text_of_to, from_words, to_words, are_distinct_words, named_by, shown_by};
 ghost use Rattle.book_model.specs.sky.Names.{has_place, kind_name, kind_named, place_name, place_named, site_name, site_named};
 ghost use Rattle.book_model.specs.declared.fact.Kind.{Kind};
 ghost use Rattle.book_model.specs.declared.fact.Place.{Place};
 ghost use Rattle.book_model.specs.declared.site.Site.{Site};
+ghost use Rattle.book_model.specs.declared.site.Site.TheVariants.{Year};
 
-use crate::{Calendar, FromWord, Meaning, ToWord};
+use crate::{
+    Calendar, FIRST_DAY, Fact, Fields, FromWord, LAST_DAY, Meaning, ToWord, Version, WRITTEN,
+};
 
 /// Nesting: at a greater depth, with narrower arguments, each expression's value lies within its value here, and
 /// each program makes the same tests as far as they are decided here, with the same answers.
@@ -144,4 +153,43 @@ pub fn names()
     ensures kinds { (k : Kind) → kind_named (kind_name k) ≡ Some k }
     ensures places { (p : Place) → place_named (place_name p) ≡ Some p }
     ensures sites { (s : Site) → site_named (site_name s) ≡ Some s }
+{}
+
+/// What a version names and answers, the version that is written does too.
+#[tactic(auto, using(crate::proofs::VersionTables::later_days, crate::proofs::VersionTables::later_dates))]
+pub fn later_versions()
+    ensures days { (version : Version) (day : ℤ) → IsTrue (is_in_range version day)
+        → IsTrue (is_in_range WRITTEN day) }
+    ensures dates { (version : Version) (c : Calendar) (f : Fields)
+        → IsTrue (is_answered version c f) → IsTrue (is_answered WRITTEN c f) }
+{}
+
+/// The first line of a version's files leads back to the version.
+#[tactic(auto, using(crate::proofs::VersionTables::header_found))]
+pub fn headers()
+    ensures { (version : Version) → version_named (header_line version) ≡ Some version }
+{}
+
+/// The run of a fact as a version had it, over its rows of corrections and of its days of facts, is the run of the fact, where
+/// it isn't void at the year: what a version had a value of has that value still, by the same tests.
+#[tactic(auto, using(crate::proofs::Older::older_stays))]
+pub fn older_runs()
+    ensures { (version : Version) (n : ℕ) (f : Fact)
+        → (outcome (run_by version n f) ≡ void_at Year → ⊥) → run_by version n f ≡ run_of n f }
+{}
+
+/// What a formula over some years alone is: made of the same parts, each over these years; and the correction of a moment, and
+/// that of a day's year, is by the rows that the version had. The version that is written has all rows and days.
+#[tactic(auto, using(crate::proofs::Older::older_correction, crate::proofs::Older::older_dt, crate::proofs::Older::written_days, crate::proofs::Older::written_rows))]
+pub fn older_formulas()
+    ensures tests { (known : ℤ → Bool) → AreComposed known Bool }
+    ensures numbers { (known : ℤ → Bool) → AreComposed known ℤ }
+    ensures expressions { (known : ℤ → Bool) → AreComposed known Expression }
+    ensures correction { (version : Version) (x : Expression)
+        → over_years (has_correction version) (correction_at x)
+        ≡ bind (year_of x) (λ y. correction_by_version version y) }
+    ensures dt { (version : Version) (d : ℤ)
+        → over_years (has_correction version) (dt_of d) ≡ dt_by_version version d }
+    ensures days { fact_days_in WRITTEN ≡ (FIRST_DAY, LAST_DAY) }
+    ensures rows { rows_in WRITTEN ≡ corrections }
 {}

@@ -2,12 +2,14 @@
 //! once; the definitions read the tables too.
 ghost use Rattle.std.specs.Prelude.{◌≡◌};
 
+use crate::names::first_named;
 use crate::{FIRST_DAY, LAST_DAY};
 
 /// A version of printed files.
 #[derive(Clone, Copy, Debug, PartialEq, Eq)]
 pub enum Version {
     One,
+    Two,
 }
 
 /// What differs from version to version.
@@ -16,32 +18,37 @@ pub struct VersionRow {
     pub version: Version,
     /// The first and the last day that a line may name (R.D.).
     pub days: (i64, i64),
-    /// The first and the last day of which a fact may have a value (R.D.).
+    /// The first and the last day of which a fact had a value when the version was the last one (R.D.).
     pub fact_days: (i64, i64),
 }
 
-/// The versions, in the order of their values. A line of version 1 may name the days from 1 January 1802 to 31 December 2048.
+/// The versions, in the order of their values. A line of version 1 may name the days from 1 January 1802 to 31 December 2048,
+/// one of version 2 those from 1 January 1702 to 31 December 2148.
 #[rattlefmt::skip]
-pub const VERSIONS: [VersionRow; 1] = [
-    VersionRow { version: Version::One, days: (657_802, 748_017), fact_days: (FIRST_DAY, LAST_DAY) },
+pub const VERSIONS: [VersionRow; 2] = [
+    VersionRow { version: Version::One, days: (657_802, 748_017), fact_days: (657_253, 748_382) },
+    VersionRow { version: Version::Two, days: (621_278, 784_541), fact_days: (FIRST_DAY, LAST_DAY) },
 ];
 
 /// Each version with the first line of its files, without its line feed, in the order of their values.
 #[rattlefmt::skip]
-pub static HEADERS: [(Version, &str); 1] = [
+pub static HEADERS: [(Version, &str); 2] = [
     (Version::One, "calendrica 1 depth 40"),
+    (Version::Two, "calendrica 2 depth 40"),
 ];
 
 /// The version that is written, and by which lines of input are read.
-pub const WRITTEN: Version = Version::One;
+pub const WRITTEN: Version = Version::Two;
 
-/// The first and the last Gregorian year of which there is an almanac: its lines lie in range with a year to spare.
-pub const FIRST_ALMANAC_YEAR: u32 = 1803;
+/// The first Gregorian year of which there is an almanac: its lines lie in the range of the written version with a year to
+/// spare.
+pub const FIRST_ALMANAC_YEAR: u32 = 1703;
 
-pub const LAST_ALMANAC_YEAR: u32 = 2047;
+/// The last Gregorian year of which there is an almanac, with a year to spare likewise.
+pub const LAST_ALMANAC_YEAR: u32 = 2147;
 
 impl Version {
-    ghost use Rattle.book_model.specs.calendars.Versions.{days_in, header_line};
+    ghost use Rattle.book_model.specs.calendars.Versions.{days_in, header_line, version_named};
 
     /// The first and the last day that a line of the version may name (R.D.).
     pub fn days(self) -> (i64, i64)
@@ -55,5 +62,13 @@ impl Version {
         ensures line { result.now ≡ header_line self }
     {
         HEADERS[self as usize].1
+    }
+
+    /// The version whose files begin with a line, given without its line feed; `None` where there is none.
+    #[tactic(auto, unfolding(crate::specs::calendars::Versions::version_named))]
+    pub fn named(line: &[u8]) -> Option<Version>
+        ensures version { result ≡ version_named line.now }
+    {
+        first_named(&HEADERS, line)
     }
 }

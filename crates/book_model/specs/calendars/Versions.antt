@@ -1,11 +1,12 @@
--- The versions of printed files, by their rows: which days a line may name, of which years there is an almanac, and the first
--- line of a file.
-use Rattle.std.specs.Prelude.{ℕ, ◌≤◌, ◌||◌, Bool, false, List, [], ◌∷◌, map, ℤ, pos, slice_index_or}
+-- The versions of printed files, by their rows: which days a line may name, of which a fact had a value, and of which years there is
+-- an almanac; the first line of a file, and the version that a first line gives.
+use Rattle.std.specs.Prelude.{ℕ, ◌≤◌, nat_le, ◌||◌, Bool, false, List, [], ◌∷◌, Option, map, ℤ, pos, slice_index_or}
 use denote.Enum.Declared.{tag_of}
 use Rattle.book_model.specs.contracts.version.Version.{the_type as version_type}
 use Rattle.book_model.specs.declared.version.Version.{Version}
 use Rattle.book_model.specs.declared.version.TheConstants.{VERSIONS, HEADERS, FIRST_ALMANAC_YEAR, LAST_ALMANAC_YEAR}
 use Rattle.book_model.specs.sky.Correction.{is_between}
+use Rattle.book_model.specs.sky.Names.{first_named}
 
 -- the number of a version, from 0: its place among the versions
 abbrev pub version_number : Version → ℕ
@@ -33,6 +34,18 @@ days_in version = range_in version line_days
 abbrev pub is_in_range : Version → ℤ → Bool
 is_in_range version day = is_between (days_in version).0 (days_in version).1 day
 
+-- the first and the last day of which a fact had a value when a version was the last one
+abbrev pub fact_days_in : Version → ℤ × ℤ
+fact_days_in version = range_in version (map (λ row. row.fact_days) VERSIONS)
+
+-- the days of which a fact had a value when a version was the last one
+abbrev pub is_value_day : Version → ℤ → Bool
+is_value_day version day = is_between (fact_days_in version).0 (fact_days_in version).1 day
+
+-- a version had what there is since a version
+abbrev pub has_since : Version → Version → Bool
+has_since version since = nat_le (version_number since) (version_number version)
+
 -- the days that a line of some version may name
 abbrev pub is_in_some_range : ℤ → Bool
 is_in_some_range day = is_in_some line_days day
@@ -44,3 +57,7 @@ IsAlmanacYear year = (FIRST_ALMANAC_YEAR ≤ year) × (year ≤ LAST_ALMANAC_YEA
 -- the first line of a version's files, without its line feed
 abbrev pub header_line : Version → List ℕ
 header_line version = slice_index_or (map (λ row. row.1.now) HEADERS) (version_number version) []
+
+-- the version whose files begin with a line, without its line feed
+unfoldable pub version_named : List ℕ → Option Version
+version_named line = first_named (map (λ row. (row.0, row.1.now)) HEADERS) line

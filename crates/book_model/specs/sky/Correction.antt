@@ -6,6 +6,7 @@ use Rattle.book_model.specs.declared.correction_rows.TheConstants.{CORRECTIONS}
 use Rattle.book_model.specs.declared.frac.Frac.{Frac}
 use Rattle.book_model.specs.declared.site.Site.TheVariants.{Year, Round}
 use Rattle.book_model.specs.declared.tables.TheConstants.{HALF, SECOND}
+use Rattle.book_model.specs.declared.version.Version.{Version}
 use Rattle.book_model.specs.numbers.Fractions.{fraction_of}
 use Rattle.book_model.specs.numbers.Expressions.{Expression, integer, constant, add, scale}
 use Rattle.book_model.specs.programs.Programs.{Program, answer, cell, integers, years}
@@ -36,19 +37,22 @@ abbrev pub is_between : ℤ → ℤ → ℤ → Bool
 is_between low high z = int_le low z && int_le z high
 
 -- ---- the rows of the table
--- a row: its years, how its polynomial is taken, the coefficients, and how many units of a scale its corrections are wide at most
+-- a row: its years, how its polynomial is taken, the coefficients, how many units of a scale its corrections are wide at most, and
+-- the first version of printed files that has it
 pub record Correction : Type 0 where
   pub first : ℤ
   pub last : ℤ
   pub form : CorrectionForm
   pub coefficients : List Frac
   pub units : Option ℕ
+  pub since : Version
 
-abbrev pub correction_row : (first last : ℤ) → CorrectionForm → List Frac → Option ℕ → Correction
-correction_row first last form coefficients units = record { first = first; last = last; form = form; coefficients = coefficients; units = units }
+abbrev pub correction_row : (first last : ℤ) → CorrectionForm → List Frac → Option ℕ → Version → Correction
+correction_row first last form coefficients units since =
+    record { first = first; last = last; form = form; coefficients = coefficients; units = units; since = since }
 
 unfoldable pub corrections : List Correction
-corrections = map (λ r. correction_row r.0 r.1 r.2 r.3.now r.4) CORRECTIONS
+corrections = map (λ r. correction_row r.0 r.1 r.2 r.3.now r.4 r.5) CORRECTIONS
 
 -- the first of some rows that has a year, if one has
 abbrev pub row_in : List Correction → ℤ → Option Correction

@@ -64,7 +64,7 @@ formula_of kinds.FullMoon place d = phase_day_of (pos 180) d
 formula_of kinds.LastQuarter place d = phase_day_of (pos 270) d
 formula_of kinds.Sunset place d = located (location_of place) λ l. sunset_in_minutes_of place l d
 
--- the formula of a fact; outside 1 July 1800 to 31 December 2049 it is void
+-- the formula of a fact; outside 1 July 1700 to 31 December 2149 it is void
 unfoldable pub program_of : Fact → Program ℤ
 program_of f = if is_between FIRST_DAY LAST_DAY f.day then formula_of f.kind f.place f.day else void Year
 
