@@ -171,7 +171,7 @@ fn month_sunset(year: u32, month: u32) -> Request
     }
 }
 
-/// The line of an almanac of a Gregorian year, 1803 to 2047, by its index, 1 to 104: from 1 the new years and festivals, from 8 the
+/// The line of an almanac of a Gregorian year, 1703 to 2147, by its index, 1 to 104: from 1 the new years and festivals, from 8 the
 /// months of the Islamic calendar, 13 from the one that the year begins in, from 21 the solar terms, from 45 the phases of the moon, and
 /// from 93 sunset at Cairo on the first of each month. It takes no memory.
 #[tactic(auto, unfolding(crate::specs::Almanac::almanac_line_of))]
@@ -194,7 +194,7 @@ pub fn almanac_line(year: u32, index: u32) -> Request
     }
 }
 
-/// The 104 lines of the almanac of a Gregorian year, 1803 to 2047, in their order. The error comes where memory runs out.
+/// The 104 lines of the almanac of a Gregorian year, 1703 to 2147, in their order. The error comes where memory runs out.
 pub fn almanac_requests(alloc: Global, year: u32) -> Result<Vec<Request>, AllocError>
     requires year { IsAlmanacYear year }
     ensures requests { IfOk result (λ requests. requests.items ≡ spec.almanac_requests year) }

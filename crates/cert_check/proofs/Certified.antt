@@ -12,7 +12,7 @@ use Rattle.book_model.specs.declared.request.Resolved.{Resolved}
 use Rattle.book_model.specs.declared.request.Rule.{Rule}
 use Rattle.book_model.specs.sky.Facts.{run_of}
 use Rattle.book_model.specs.calendars.Inquiries.{Inquiry, done, ask, fact_eq, with_fact, with_entry, found, finding_after}
-use Rattle.book_model.specs.declared.version.TheConstants.{WRITTEN}
+use Rattle.book_model.specs.declared.version.Version.{Version}
 use Rattle.book_model.specs.lines.LineRules.{rule_of}
 use Rattle.book_model.specs.sky.Names.{kind_number, place_number}
 use Rattle.book_model.specs.programs.Programs.{valued, outcome}
@@ -124,20 +124,21 @@ paired_again (e ∷ es) h =
     rw (here, paired_others e es (facts_of es) p.0, paired_again es p.1) refl
 
 -- a Yes over listed facts that stand
-certified : (words text : List ℕ) (es : List (Fact × ℤ)) (r : Result Request Rule) (why : Option Reason) → request_of WRITTEN words ≡ r
+certified : (version : Version) (words text : List ℕ) (es : List (Fact × ℤ)) (r : Result Request Rule) (why : Option Reason) → request_of version words ≡ r
     → (why ≡ None → AllStand es) → IsTrue (are_distinct (facts_of es))
-    → verdict_on_request r why es text ≡ Yes → IsCertified words text es
-certified words text es (Err rule) why asked stand distinct h = cc
-certified words text es (Ok request) (Some reason) asked stand distinct h = cc
-certified words text es (Ok request) None asked stand distinct h = on_trace (trace_after (facts_of es) (values_of es) [] (rule_of WRITTEN request)) refl h
+    → verdict_on_request version r why es text ≡ Yes → IsCertified version words text es
+certified version words text es (Err rule) why asked stand distinct h = cc
+certified version words text es (Ok request) (Some reason) asked stand distinct h = cc
+certified version words text es (Ok request) None asked stand distinct h =
+    on_trace (trace_after (facts_of es) (values_of es) [] (rule_of version request)) refl h
   where
     on_text : (x : Resolved) (t : Bool) → pointwise nat_eq (result_text x) text ≡ t
-        → trace_after (facts_of es) (values_of es) [] (rule_of WRITTEN request) ≡ traced x (facts_of es) → verdict_on_text x text ≡ Yes
-        → IsCertified words text es
+        → trace_after (facts_of es) (values_of es) [] (rule_of version request) ≡ traced x (facts_of es) → verdict_on_text x text ≡ Yes
+        → IsCertified version words text es
     on_text x true e k l = record {
       found = x;
       is_right = rw asked (record {
-        at_each_depth = λ n deep. rw (paired_again es distinct) at (finds_traced n deep es (stand refl) (rule_of WRITTEN request) [] (facts_of es) x k);
+        at_each_depth = λ n deep. rw (paired_again es distinct) at (finds_traced n deep es (stand refl) (rule_of version request) [] (facts_of es) x k);
       });
       shows = sym (same_text (result_text x) text (sym e));
       stand = stand refl;
@@ -145,46 +146,46 @@ certified words text es (Ok request) None asked stand distinct h = on_trace (tra
     on_text x false e k l = let no : verdict_on_text x text ≡ No (Date x) = rw e refl in cc
 
     on_list : (x : Resolved) (asked_facts : List Fact) (o : Option ℕ) → difference 1 asked_facts (facts_of es) ≡ o
-        → trace_after (facts_of es) (values_of es) [] (rule_of WRITTEN request) ≡ traced x asked_facts → verdict_on_list o x text ≡ Yes
-        → IsCertified words text es
+        → trace_after (facts_of es) (values_of es) [] (rule_of version request) ≡ traced x asked_facts → verdict_on_list o x text ≡ Yes
+        → IsCertified version words text es
     on_list x asked_facts None e k l =
         let same : asked_facts ≡ facts_of es = no_difference 1 asked_facts (facts_of es) e in
         on_text x (pointwise nat_eq (result_text x) text) refl (rw same at k) l
     on_list x asked_facts (Some place) e k l = cc
 
-    on_trace : (t : Trace Resolved) → trace_after (facts_of es) (values_of es) [] (rule_of WRITTEN request) ≡ t
-        → verdict_on_trace (facts_of es) t text ≡ Yes → IsCertified words text es
+    on_trace : (t : Trace Resolved) → trace_after (facts_of es) (values_of es) [] (rule_of version request) ≡ t
+        → verdict_on_trace (facts_of es) t text ≡ Yes → IsCertified version words text es
     on_trace (missing f) e k = cc
     on_trace (traced x asked_facts) e k = on_list x asked_facts (difference 1 asked_facts (facts_of es)) refl e k
 
 -- a Yes says that what the line shows is certified
-pub yes_certified : (facts : List (Fact × ℤ)) (answers : List Answer) (words text numbers : List ℕ) → IsTrue (are_distinct (facts_of facts))
-    → are_of_facts (length facts) [] numbers ≡ true → AreRightAnswers facts answers
-    → verdict_on facts answers words text numbers ≡ Yes → IsCertified words text (numbered facts numbers)
+pub yes_certified : (version : Version) (facts : List (Fact × ℤ)) (answers : List Answer) (words text numbers : List ℕ)
+    → IsTrue (are_distinct (facts_of facts)) → are_of_facts (length facts) [] numbers ≡ true → AreRightAnswers facts answers
+    → verdict_on version facts answers words text numbers ≡ Yes → IsCertified version words text (numbered facts numbers)
 unfolding verdict_on
-yes_certified facts answers words text numbers distinct apart right h =
-    certified words text (numbered facts numbers) (request_of WRITTEN words) (first_unanswered facts answers numbers) refl
+yes_certified version facts answers words text numbers distinct apart right h =
+    certified version words text (numbered facts numbers) (request_of version words) (first_unanswered facts answers numbers) refl
     (λ none. all_stand facts answers numbers right none)
     (listed_distinct facts (length facts) numbers distinct (numbers_within _ [] numbers apart) (numbers_apart _ [] numbers apart))
     h
 
 -- and so it is of each line
-pub yes_line : (facts : List (Fact × ℤ)) (answers : List Answer) (l : CertLine) → IsTrue (are_distinct (facts_of facts)) → are_of_facts (length facts) []
-    (listed l) ≡ true → AreRightAnswers facts answers
-    → verdict_of facts answers l ≡ Yes → IsCertifiedLine facts l
-yes_line facts answers (line.Shown echo result numbers) distinct apart right h = yes_certified facts answers (words_of_echo echo) result numbers distinct apart
-    right h
-yes_line facts answers (line.TooFar echo day numbers) distinct apart right h = yes_certified facts answers (words_of_echo echo) (too_far_text day) numbers
-    distinct apart right h
-yes_line facts answers (line.NoDate echo back numbers) distinct apart right h = yes_certified facts answers (words_of_echo echo) (no_date_text back) numbers
-    distinct apart right h
-yes_line facts answers (line.Refused rule) distinct apart right h = cc
-yes_line facts answers (line.Undecided fact at) distinct apart right h = cc
-yes_line facts answers (line.Void fact site) distinct apart right h = cc
+pub yes_line : (version : Version) (facts : List (Fact × ℤ)) (answers : List Answer) (l : CertLine) → IsTrue (are_distinct (facts_of facts))
+    → are_of_facts (length facts) [] (listed l) ≡ true → AreRightAnswers facts answers
+    → verdict_of version facts answers l ≡ Yes → IsCertifiedLine version facts l
+yes_line version facts answers (line.Shown echo result numbers) distinct apart right h =
+    yes_certified version facts answers (words_of_echo echo) result numbers distinct apart right h
+yes_line version facts answers (line.TooFar echo day numbers) distinct apart right h =
+    yes_certified version facts answers (words_of_echo echo) (too_far_text day) numbers distinct apart right h
+yes_line version facts answers (line.NoDate echo back numbers) distinct apart right h =
+    yes_certified version facts answers (words_of_echo echo) (no_date_text back) numbers distinct apart right h
+yes_line version facts answers (line.Refused rule) distinct apart right h = cc
+yes_line version facts answers (line.Undecided fact at) distinct apart right h = cc
+yes_line version facts answers (line.Void fact site) distinct apart right h = cc
 
 -- an answer that is the verdict of a line certifies it where it is Yes
-pub yes_answer : {E : Type 0} (facts : List (Fact × ℤ)) (answers : List Answer) (l : CertLine) (result : Result Verdict E)
+pub yes_answer : {E : Type 0} (version : Version) (facts : List (Fact × ℤ)) (answers : List Answer) (l : CertLine) (result : Result Verdict E)
     → IsTrue (are_distinct (facts_of facts)) → are_of_facts (length facts) [] (listed l) ≡ true → AreRightAnswers facts answers
-    → IfOk result (λ v. v ≡ verdict_of facts answers l) → IfOk result (λ v. v ≡ Yes → IsCertifiedLine facts l)
-yes_answer facts answers l (Ok v) distinct apart right h = λ yes_is. yes_line facts answers l distinct apart right (sym h ∙ yes_is)
-yes_answer facts answers l (Err e) distinct apart right h = tt
+    → IfOk result (λ v. v ≡ verdict_of version facts answers l) → IfOk result (λ v. v ≡ Yes → IsCertifiedLine version facts l)
+yes_answer version facts answers l (Ok v) distinct apart right h = λ yes_is. yes_line version facts answers l distinct apart right (sym h ∙ yes_is)
+yes_answer version facts answers l (Err e) distinct apart right h = tt

@@ -11,7 +11,7 @@ use Rattle.book_model.specs.declared.fail.Undecided.{Undecided}
 use Rattle.book_model.specs.declared.request.Request.{Request}
 use Rattle.book_model.specs.declared.request.Resolved.{Resolved}
 use Rattle.book_model.specs.declared.request.Rule.{Rule}
-use Rattle.book_model.specs.declared.version.TheConstants.{WRITTEN}
+use Rattle.book_model.specs.declared.version.Version.{Version}
 use Rattle.book_model.specs.sky.Facts.{run_of, IsNear}
 use Rattle.book_model.specs.calendars.Inquiries.{Inquiry, done, ask, fact_eq, with_fact, with_entry, found, found_at, finding_after}
 use Rattle.book_model.specs.lines.LineRules.{rule_of}
@@ -168,30 +168,31 @@ same_words text = step (pointwise nat_eq text text) refl
     step false e = absurd (other_text text text (sym e) refl)
 
 -- a row whose result is right over listed facts that stand gets a Yes, where no listed fact is a reason
-yes_on_row : (row : Result Request Rule) (why : Option Reason) (es : List (Fact × ℤ)) (x : Resolved) (text : List ℕ)
-    → IsRightForRow WRITTEN row (resolved x es) → AllStand es → why ≡ None → text ≡ result_text x → verdict_on_request row why es text ≡ Yes
-yes_on_row (Err rule) why es x text right stand none shows = absurd (cc)
-yes_on_row (Ok request) why es x text right stand none shows =
-    let result = found_traced 40 (rule_of WRITTEN request) [] es x (omega arith) stand (right.at_each_depth 40 (omega arith)) in
+yes_on_row : (version : Version) (row : Result Request Rule) (why : Option Reason) (es : List (Fact × ℤ)) (x : Resolved) (text : List ℕ)
+    → IsRightForRow version row (resolved x es) → AllStand es → why ≡ None → text ≡ result_text x → verdict_on_request version row why es text ≡ Yes
+yes_on_row version (Err rule) why es x text right stand none shows = absurd (cc)
+yes_on_row version (Ok request) why es x text right stand none shows =
+    let result = found_traced 40 (rule_of version request) [] es x (omega arith) stand (right.at_each_depth 40 (omega arith)) in
     rw (none, result, no_difference 1 (facts_of es), shows, same_words (result_text x)) refl
 
-yes_on : (facts : List (Fact × ℤ)) (answers : List Answer) (words text numbers : List ℕ) → AreRightAnswers facts answers
-    → IsCertified words text (numbered facts numbers) → AreNearNowhere (numbered facts numbers) → verdict_on facts answers words text numbers ≡ Yes
+yes_on : (version : Version) (facts : List (Fact × ℤ)) (answers : List Answer) (words text numbers : List ℕ) → AreRightAnswers facts answers
+    → IsCertified version words text (numbered facts numbers) → AreNearNowhere (numbered facts numbers)
+    → verdict_on version facts answers words text numbers ≡ Yes
 unfolding verdict_on
-yes_on facts answers words text numbers right certified clear =
-    yes_on_row (request_of WRITTEN words) (first_unanswered facts answers numbers) (numbered facts numbers) certified.found text certified.is_right
+yes_on version facts answers words text numbers right certified clear =
+    yes_on_row version (request_of version words) (first_unanswered facts answers numbers) (numbered facts numbers) certified.found text certified.is_right
     certified.stand
     (no_reasons facts answers numbers right certified.stand clear) certified.shows
 
 -- a line that is certified and rests on facts that are near nowhere gets a Yes
-pub yes_to_certified : (facts : List (Fact × ℤ)) (answers : List Answer) (l : CertLine) → AreRightAnswers facts answers → IsCertifiedLine facts l
-    → AreNearNowhere (numbered facts (listed l)) → verdict_of facts answers l ≡ Yes
-yes_to_certified facts answers (line.Shown echo result numbers) right certified clear = yes_on facts answers (words_of_echo echo) result numbers right certified
-    clear
-yes_to_certified facts answers (line.TooFar echo day numbers) right certified clear = yes_on facts answers (words_of_echo echo) (too_far_text day) numbers right
-    certified clear
-yes_to_certified facts answers (line.NoDate echo back numbers) right certified clear = yes_on facts answers (words_of_echo echo) (no_date_text back) numbers
-    right certified clear
-yes_to_certified facts answers (line.Refused rule) right certified clear = absurd certified
-yes_to_certified facts answers (line.Undecided fact at) right certified clear = absurd certified
-yes_to_certified facts answers (line.Void fact site) right certified clear = absurd certified
+pub yes_to_certified : (version : Version) (facts : List (Fact × ℤ)) (answers : List Answer) (l : CertLine) → AreRightAnswers facts answers
+    → IsCertifiedLine version facts l → AreNearNowhere (numbered facts (listed l)) → verdict_of version facts answers l ≡ Yes
+yes_to_certified version facts answers (line.Shown echo result numbers) right certified clear =
+    yes_on version facts answers (words_of_echo echo) result numbers right certified clear
+yes_to_certified version facts answers (line.TooFar echo day numbers) right certified clear =
+    yes_on version facts answers (words_of_echo echo) (too_far_text day) numbers right certified clear
+yes_to_certified version facts answers (line.NoDate echo back numbers) right certified clear =
+    yes_on version facts answers (words_of_echo echo) (no_date_text back) numbers right certified clear
+yes_to_certified version facts answers (line.Refused rule) right certified clear = absurd certified
+yes_to_certified version facts answers (line.Undecided fact at) right certified clear = absurd certified
+yes_to_certified version facts answers (line.Void fact site) right certified clear = absurd certified

@@ -1,5 +1,5 @@
 -- The verdict of a line of a printed file, by an answer for each fact of the file.
-use Rattle.std.specs.Prelude.{◌≡◌, ℕ, ◌+◌, ◌-◌, nat_eq, if◌then◌else◌, List, [], ◌∷◌, length, ℤ, Some, None, Option, Result, Ok, Err, slice_index_or, IsTrue}
+use Rattle.std.specs.Prelude.{◌≡◌, ℕ, ◌+◌, ◌-◌, ◌<◌, nat_eq, if◌then◌else◌, List, [], ◌∷◌, length, ℤ, Some, None, Option, Result, Ok, Err, slice_index_or, IsTrue}
 use Rattle.std.specs.Ordering.{int_eq}
 use Rattle.std.specs.List.{slice_get}
 use lib.Pointwise.{pointwise}
@@ -11,7 +11,7 @@ use Rattle.book_model.specs.declared.request.Rule.{Rule}
 use Rattle.book_model.specs.sky.Facts.{IsNear}
 use Rattle.book_model.specs.calendars.Inquiries.{Inquiry, done, ask, fact_eq, with_fact}
 use Rattle.book_model.specs.lines.LineRules.{rule_of}
-use Rattle.book_model.specs.declared.version.TheConstants.{WRITTEN}
+use Rattle.book_model.specs.declared.version.Version.{Version}
 use Rattle.book_model.specs.lines.Outcomes.{resolved, IsRightFor}
 use Rattle.book_model.specs.lines.Requests.{request_of, rule_number}
 use Rattle.book_model.specs.lines.Text.{result_text, three_words_text}
@@ -24,7 +24,7 @@ use Rattle.cert_text.specs.declared.line.CertLine.{CertLine}
 use Rattle.cert_text.specs.declared.line.CertLine.TheVariants as line
 use Rattle.cert_read.specs.declared.lines.CertFile.{CertFile}
 use Rattle.cert_read.specs.Grammar.{or_else}
-use Rattle.cert_read.specs.Reading.{are_of_facts, listed}
+use Rattle.cert_read.specs.Reading.{are_of_facts, listed, HasRule}
 use Rattle.cert_text.specs.Text.{too_far_text, no_date_text}
 use Rattle.cert_check.specs.declared.verdict.Verdict.{Verdict}
 use Rattle.cert_check.specs.declared.verdict.Verdict.TheVariants.{Yes, No, Skip}
@@ -110,59 +110,60 @@ verdict_on_trace facts (missing f) text = No (reason.Missing f)
 verdict_on_trace facts (traced found asked) text = verdict_on_list (difference 1 asked facts) found text
 
 -- a request over listed facts, of which the first that isn't answered by its listed value gives this reason or none
-abbrev pub verdict_on_facts : Option Reason → List (Fact × ℤ) → Request → List ℕ → Verdict
-verdict_on_facts (Some why) listed request text = No why
-verdict_on_facts None listed request text =
-    verdict_on_trace (facts_of listed) (trace_after (facts_of listed) (values_of listed) [] (rule_of WRITTEN request)) text
+abbrev pub verdict_on_facts : Version → Option Reason → List (Fact × ℤ) → Request → List ℕ → Verdict
+verdict_on_facts version (Some why) listed request text = No why
+verdict_on_facts version None listed request text =
+    verdict_on_trace (facts_of listed) (trace_after (facts_of listed) (values_of listed) [] (rule_of version request)) text
 
 -- words that break a rule or are a request
-abbrev pub verdict_on_request : Result Request Rule → Option Reason → List (Fact × ℤ) → List ℕ → Verdict
-verdict_on_request (Err rule) why listed text = No (reason.Form (rule_number rule))
-verdict_on_request (Ok request) why listed text = verdict_on_facts why listed request text
+abbrev pub verdict_on_request : Version → Result Request Rule → Option Reason → List (Fact × ℤ) → List ℕ → Verdict
+verdict_on_request version (Err rule) why listed text = No (reason.Form (rule_number rule))
+verdict_on_request version (Ok request) why listed text = verdict_on_facts version why listed request text
 
--- a line with these words, this text of its result, and these numbers of facts
-unfoldable pub verdict_on : List (Fact × ℤ) → List Answer → List ℕ → List ℕ → List ℕ → Verdict
-verdict_on facts answers words text numbers =
-    verdict_on_request (request_of WRITTEN words) (first_unanswered facts answers numbers) (numbered facts numbers) text
+-- a line of a file of a version with these words, this text of its result, and these numbers of facts
+unfoldable pub verdict_on : Version → List (Fact × ℤ) → List Answer → List ℕ → List ℕ → List ℕ → Verdict
+verdict_on version facts answers words text numbers =
+    verdict_on_request version (request_of version words) (first_unanswered facts answers numbers) (numbered facts numbers) text
 
--- the verdict of a line
-abbrev pub verdict_of : List (Fact × ℤ) → List Answer → CertLine → Verdict
-verdict_of facts answers (line.Shown echo result numbers) = verdict_on facts answers (words_of_echo echo) result numbers
-verdict_of facts answers (line.TooFar echo day numbers) = verdict_on facts answers (words_of_echo echo) (too_far_text day) numbers
-verdict_of facts answers (line.NoDate echo back numbers) = verdict_on facts answers (words_of_echo echo) (no_date_text back) numbers
-verdict_of facts answers (line.Refused rule) = Skip
-verdict_of facts answers (line.Undecided fact at) = Skip
-verdict_of facts answers (line.Void fact site) = Skip
+-- the verdict of a line of a file of a version
+abbrev pub verdict_of : Version → List (Fact × ℤ) → List Answer → CertLine → Verdict
+verdict_of version facts answers (line.Shown echo result numbers) = verdict_on version facts answers (words_of_echo echo) result numbers
+verdict_of version facts answers (line.TooFar echo day numbers) = verdict_on version facts answers (words_of_echo echo) (too_far_text day) numbers
+verdict_of version facts answers (line.NoDate echo back numbers) = verdict_on version facts answers (words_of_echo echo) (no_date_text back) numbers
+verdict_of version facts answers (line.Refused rule) = Skip
+verdict_of version facts answers (line.Undecided fact at) = Skip
+verdict_of version facts answers (line.Void fact site) = Skip
 
 -- a line of a file, from 0
 abbrev pub line_at : CertFile → ℕ → CertLine
 line_at file index = slice_index_or file.lines index (line.Refused 0)
 
--- The words break no rule, and at every depth from 40 on their result is one with this text, over these facts with
+-- The words break no rule of a version, and at every depth from 40 on their result is one with this text, over these facts with
 -- these values, each of which stands.
-pub record IsCertified (words text : List ℕ) (listed : List (Fact × ℤ)) : Type 0 where
+pub record IsCertified (version : Version) (words text : List ℕ) (listed : List (Fact × ℤ)) : Type 0 where
   pub found : Resolved
-  pub is_right : IsRightFor WRITTEN words (resolved found listed)
+  pub is_right : IsRightFor version words (resolved found listed)
   pub shows : text ≡ result_text found
   pub stand : AllStand listed
 
--- what a line shows is certified
-abbrev pub IsCertifiedLine : List (Fact × ℤ) → CertLine → Type 0
-IsCertifiedLine facts (line.Shown echo result numbers) = IsCertified (words_of_echo echo) result (numbered facts numbers)
-IsCertifiedLine facts (line.TooFar echo day numbers) = IsCertified (words_of_echo echo) (too_far_text day) (numbered facts numbers)
-IsCertifiedLine facts (line.NoDate echo back numbers) = IsCertified (words_of_echo echo) (no_date_text back) (numbered facts numbers)
-IsCertifiedLine facts (line.Refused rule) = ⊥
-IsCertifiedLine facts (line.Undecided fact at) = ⊥
-IsCertifiedLine facts (line.Void fact site) = ⊥
+-- what a line of a file of a version shows is certified
+abbrev pub IsCertifiedLine : Version → List (Fact × ℤ) → CertLine → Type 0
+IsCertifiedLine version facts (line.Shown echo result numbers) = IsCertified version (words_of_echo echo) result (numbered facts numbers)
+IsCertifiedLine version facts (line.TooFar echo day numbers) = IsCertified version (words_of_echo echo) (too_far_text day) (numbered facts numbers)
+IsCertifiedLine version facts (line.NoDate echo back numbers) = IsCertified version (words_of_echo echo) (no_date_text back) (numbered facts numbers)
+IsCertifiedLine version facts (line.Refused rule) = ⊥
+IsCertifiedLine version facts (line.Undecided fact at) = ⊥
+IsCertifiedLine version facts (line.Void fact site) = ⊥
 
 -- none of the facts is near at a test
 abbrev pub AreNearNowhere : List (Fact × ℤ) → Type 0
 AreNearNowhere [] = Unit {0}
 AreNearNowhere (e ∷ es) = ((u : OpenTest) → IsNear e.0 u → ⊥) × AreNearNowhere es
 
--- The facts of a file are distinct, each value is one of a fact, and the numbers that a line lists are distinct and
--- numbers of the facts.
+-- The facts of a file are distinct, each value is one of a fact, the numbers that a line lists are distinct and numbers of the
+-- facts, and a line that is refused without its words names a rule.
 pub record IsCheckable (file : CertFile) : Type 0 where
   pub distinct : IsTrue (are_distinct (facts_of file.facts))
   pub known : AreFactValues (values_of file.facts)
   pub numbers : (index : ℕ) → IsTrue (are_of_facts (length file.facts) [] (listed (line_at file index)))
+  pub ruled : (index : ℕ) → index < length file.lines → HasRule (line_at file index)

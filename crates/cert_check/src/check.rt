@@ -12,7 +12,7 @@ ghost use Rattle.cert_check.specs.Verdicts as spec;
 use crate::compare::verdict_by_list;
 use crate::listed::{first_reason, listed_facts, listed_values};
 use crate::verdict::{Reason, Verdict};
-use book_model::{Fact, Request, WRITTEN};
+use book_model::{Fact, Request, Version};
 use cert_read::CertFile;
 use cert_text::{CertLine, Echo, no_date_word, too_far_word};
 use line_core::{ThreeWords, read_words, resolve};
@@ -31,10 +31,11 @@ fn verdict_at(stop: Stop) -> Result<Verdict, AllocError>
     }
 }
 
-/// The verdict of a line that lists these facts with their values, and shows this text: what its request comes to
-/// over them.
+/// The verdict of a line of a version that lists these facts with their values, and shows this text: what its request
+/// comes to over them.
 fn verdict_over(
     alloc: Global,
+    version: Version,
     facts: &[Fact],
     values: &[i64],
     request: &Request,
@@ -45,12 +46,12 @@ fn verdict_over(
     requires known { AreFactValues values.now }
     requires few { length facts.now < 2 ^ 32 }
     requires possible { IsTrue (is_possible request.now) }
-    requires in_reach { IsTrue (is_in_reach WRITTEN request.now) }
+    requires in_reach { IsTrue (is_in_reach version request.now) }
     ensures verdict { IfOk result (λ v. v ≡ spec.verdict_on_trace facts.now
-        (spec.trace_after facts.now values.now [] (rule_of WRITTEN request.now)) text.now) }
+        (spec.trace_after facts.now values.now [] (rule_of version request.now)) text.now) }
 {
     let mut oracle = Listed::new(alloc, facts, values);
-    match resolve(&mut oracle, request, WRITTEN) {
+    match resolve(&mut oracle, request, version) {
         Ok(found) => verdict_by_list(alloc, oracle.asked(), facts, found, text),
         Err(stop) => verdict_at(stop),
     }
@@ -70,8 +71,8 @@ fn verdict_for(
     requires numbers { IsTrue (are_of_facts (length file.now.facts) [] numbers.now) }
     requires answered { length answers.now ≡ length file.now.facts }
     requires possible { IsTrue (is_possible request.now) }
-    requires in_reach { IsTrue (is_in_reach WRITTEN request.now) }
-    ensures verdict { IfOk result (λ v. v ≡ spec.verdict_on_request (Ok request.now)
+    requires in_reach { IsTrue (is_in_reach file.now.version request.now) }
+    ensures verdict { IfOk result (λ v. v ≡ spec.verdict_on_request file.now.version (Ok request.now)
         (spec.first_unanswered file.now.facts answers.now numbers.now)
         (spec.numbered file.now.facts numbers.now) text.now) }
 {
@@ -80,7 +81,7 @@ fn verdict_for(
         None => {
             let facts = listed_facts(alloc, &file.facts, numbers)?;
             let values = listed_values(alloc, &file.facts, numbers)?;
-            verdict_over(alloc, &facts, &values, request, text)
+            verdict_over(alloc, file.version, &facts, &values, request, text)
         }
     }
 }
@@ -98,15 +99,15 @@ fn verdict_of_words(
     requires known { AreFactValues (spec.values_of file.now.facts) }
     requires numbers { IsTrue (are_of_facts (length file.now.facts) [] numbers.now) }
     requires answered { length answers.now ≡ length file.now.facts }
-    ensures verdict { IfOk result (λ v. v ≡ spec.verdict_on file.now.facts answers.now
-        (spec.words_of_echo echo.now) text.now numbers.now) }
+    ensures verdict { IfOk result (λ v. v ≡ spec.verdict_on file.now.version file.now.facts
+        answers.now (spec.words_of_echo echo.now) text.now numbers.now) }
 {
     let words = ThreeWords {
         from: echo.from(),
         date: echo.date(),
         to: echo.to(),
     };
-    match read_words(words, WRITTEN) {
+    match read_words(words, file.version) {
         Ok(request) => verdict_for(alloc, file, answers, &request, text, numbers),
         Err(rule) => Ok(Verdict::No(Reason::Form(rule.number()))),
     }
@@ -123,7 +124,8 @@ pub(crate) fn verdict_of_line(
     requires known { AreFactValues (spec.values_of file.now.facts) }
     requires numbers { IsTrue (are_of_facts (length file.now.facts) [] (numbers_of line.now)) }
     requires answered { length answers.now ≡ length file.now.facts }
-    ensures verdict { IfOk result (λ v. v ≡ spec.verdict_of file.now.facts answers.now line.now) }
+    ensures verdict { IfOk result (λ v. v ≡ spec.verdict_of file.now.version file.now.facts
+        answers.now line.now) }
 {
     match line {
         CertLine::Shown {
@@ -145,11 +147,11 @@ pub(crate) fn verdict_of_line(
     }
 }
 
-/// The verdict of a line of the file, by an answer for each of its facts. A line that is undecided, void or refused
-/// without its words gets `Skip`. Any other gets the first reason that holds: `Form`; `Value`, `Undecided` or `Void`
-/// for the first listed fact that wasn't answered by its listed value; `Missing`; `List`; `Date`. It gets `Yes` where
-/// none does. A file of the grammar meets what is asked of its facts and of the numbers of its lines. The error comes
-/// where memory runs out.
+/// The verdict of a line of the file, by the rules of its version and an answer for each of its facts. A line that is
+/// undecided, void or refused without its words gets `Skip`. Any other gets the first reason that holds: `Form`; `Value`,
+/// `Undecided` or `Void` for the first listed fact that wasn't answered by its listed value; `Missing`; `List`; `Date`.
+/// It gets `Yes` where none does. A file of the grammar meets what is asked of its facts and of the numbers of its lines.
+/// The error comes where memory runs out.
 ///
 /// ```
 /// let file = read_file(rt.alloc(), bytes)?;
@@ -170,10 +172,10 @@ pub fn check_line(
     requires numbers { IsTrue (are_of_facts (length file.now.facts) []
         (numbers_of (spec.line_at file.now index))) }
     requires right { spec.AreRightAnswers file.now.facts answers.now }
-    ensures verdict { IfOk result (λ v. v ≡ spec.verdict_of file.now.facts answers.now
-        (spec.line_at file.now index)) }
-    ensures yes { IfOk result (λ v. v ≡ Verdict.Yes → spec.IsCertifiedLine file.now.facts
-        (spec.line_at file.now index)) }
+    ensures verdict { IfOk result (λ v. v ≡ spec.verdict_of file.now.version file.now.facts
+        answers.now (spec.line_at file.now index)) }
+    ensures yes { IfOk result (λ v. v ≡ Verdict.Yes → spec.IsCertifiedLine file.now.version
+        file.now.facts (spec.line_at file.now index)) }
 {
     verdict_of_line(alloc, file, answers, file.lines.item(index))
 }

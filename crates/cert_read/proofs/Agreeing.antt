@@ -7,7 +7,7 @@ use Rattle.std.proofs.lemmas.List.{get_or_append_left}
 use Rattle.std.proofs.Math.Seq.{get_or-append_seam}
 use Rattle.book_model.specs.declared.fact.Fact.{Fact}
 use Rattle.book_model.specs.calendars.Inquiries.{fact_eq}
-use Rattle.cert_text.specs.declared.line.CertLine.{CertLine}
+use Rattle.cert_read.specs.declared.lines.CertFile.{CertFile}
 use Rattle.cert_read.specs.Agreeing.{Agrees}
 use Rattle.cert_read.specs.Listings.{AreBelow}
 use Rattle.cert_read.specs.Seen.{HasMore}
@@ -42,11 +42,10 @@ below_more line marks some below i h = by (i == length marks) refl
         let within : i < length marks = omega (arith, h, n, other) in
         rw (get_or_append_left marks (0 ∷ []) 0 i within) (below i within)
 
-pub agrees_with_fact : (facts : List (Fact × ℤ)) (lines : List CertLine) (seen more : List (BTreeSet ℤ)) (marks : List ℕ) (fact : Fact) (value : ℤ)
-    → Agrees (record { facts = facts; lines = lines }) seen marks → HasMore seen fact more
-    → Agrees (record { facts = facts ++ (fact, value) ∷ []; lines = lines }) more (marks ++ 0 ∷ [])
-agrees_with_fact facts lines seen more marks fact value agrees new = record {
-  same = λ f. rw (among_more f fact value facts, ← agrees.same f) (new f);
-  one_each = rw (longer marks 0, longer facts (fact, value), agrees.one_each) refl;
-  earlier = below_more (length lines + 1) marks (omega arith) agrees.earlier;
+pub agrees_with_fact : (file : CertFile) (seen more : List (BTreeSet ℤ)) (marks : List ℕ) (fact : Fact) (value : ℤ) → Agrees file seen marks
+    → HasMore seen fact more → Agrees (record file { facts = file.facts ++ (fact, value) ∷ [] }) more (marks ++ 0 ∷ [])
+agrees_with_fact file seen more marks fact value agrees new = record {
+  same = λ f. rw (among_more f fact value file.facts, ← agrees.same f) (new f);
+  one_each = rw (longer marks 0, longer file.facts (fact, value), agrees.one_each) refl;
+  earlier = below_more (length file.lines + 1) marks (omega arith) agrees.earlier;
 }

@@ -3,6 +3,7 @@ use Rattle.std.proofs.Common.{◌≡◌, ◌∙◌, ℕ, ◌+◌, ◌-◌, ◌^�
 use Rattle.std.proofs.lemmas.Bool.Decides.{nat_tests}
 use Rattle.std.specs.Prelude.{codes, Some, None, ◌&&◌, ◌==◌, ℤ}
 use Rattle.book_model.specs.declared.fact.Fact.{Fact}
+use Rattle.book_model.specs.declared.version.TheConstants.{WRITTEN}
 use Rattle.book_model.specs.lines.Lines.{IsWord, AreWords, lines_of}
 use Rattle.book_model.specs.lines.Text.{fact_text}
 use Rattle.cert_text.specs.declared.line.CertLine.{CertLine}
@@ -49,9 +50,9 @@ pub row_comes : (before : CertFile) (w : List ℕ) (ws : List (List ℕ)) (rest 
     → Comes before (w ++ spaced_then ws rest) (with_form before form) rest
 row_comes before w ws rest form h k f b e = record { next = λ n. n + 1; same = λ n. rw e at (row_taken n before w ws rest form h k f b) }
 
--- these facts and lines
+-- these facts and lines, of the version that is written
 abbrev pub state : List (Fact × ℤ) → List CertLine → CertFile
-state facts lines = record { facts = facts; lines = lines }
+state facts lines = record { version = WRITTEN; facts = facts; lines = lines }
 
 -- a new fact
 fact_comes : (facts : List (Fact × ℤ)) (lines : List CertLine) (n : ℕ) (f : Fact) (v : ℤ) (rest : List ℕ) → n ≤ 2 ^ 32 - 1

@@ -1,10 +1,12 @@
 -- What the facts and lists of a file of the grammar are like.
-use Rattle.std.proofs.Common.{◌≡◌, ℕ, zero, suc, ◌+◌, ◌≤◌, Bool, true, false, refl, List, [], ◌∷◌, ◌++◌, length, map, ℤ, ◌≤ℤ◌, ap, arith, length-append}
+use Rattle.std.proofs.Common.{◌≡◌, ℕ, zero, suc, ◌+◌, ◌<◌, ◌≤◌, Bool, true, false, refl, List, [], ◌∷◌, ◌++◌, length, map, ℤ, ◌≤ℤ◌, ap, arith, length-append}
 use Rattle.std.proofs.lemmas.Int.{ints}
 use Rattle.std.proofs.lemmas.Bool.Decides.{nat_tests}
 use Rattle.std.specs.Prelude.{Some, None, Option, IsTrue, ◌&&◌, not, nat_eq, nat_le, int_le, slice_index_or, if◌then◌else◌}
 use Rattle.std.specs.List.{list_any}
 use Rattle.book_model.specs.declared.fact.Fact.{Fact}
+use Rattle.book_model.specs.declared.version.Version.{Version}
+use Rattle.book_model.specs.calendars.Versions.{version_named}
 use Rattle.book_model.specs.sky.Correction.{is_between}
 use Rattle.book_model.specs.calendars.Inquiries.{fact_eq}
 use Rattle.book_model.specs.lines.Lines.{lines_of, words_of}
@@ -17,15 +19,18 @@ use Rattle.cert_read.specs.declared.form.Form.TheVariants as forms
 use Rattle.book_model.specs.declared.fact.TheConstants.{LEAST_VALUE, GREATEST_VALUE}
 use Rattle.cert_text.specs.declared.line.CertLine.{CertLine}
 use Rattle.cert_text.specs.declared.line.CertLine.TheVariants as line
+use Rattle.cert_text.specs.Echo.{Echo}
+use Rattle.cert_read.specs.declared.found.Found.{Found}
+use Rattle.cert_read.specs.declared.found.Found.TheVariants as found
 use Rattle.cert_read.specs.declared.lines.CertFile.{CertFile}
 use Rattle.cert_read.specs.Digits.{between, integer_of}
-use Rattle.cert_read.specs.Grammar.{◌>>=◌, or_else, is_word, is_over, is_spaced, key_at, counter_at, number_at, value_at, fact_at, last_fact_at, test_at, site_at, echo_at, found_at, counters_of, line_with, fact_form, end_form, refused_form, undecided_form, void_form, listed_form, body_form, line_form, form_in, form_of}
-use Rattle.cert_read.specs.Reading.{file, bad, listed, are_of_facts, is_new, is_numbered, is_placed, is_fresh, lists_facts, counts_well, first_broken, broken_by, with_form, is_end, after_rule, after_form, reading_from, reading_of, grammar_of}
+use Rattle.cert_read.specs.Grammar.{◌>>=◌, or_else, is_over, is_spaced, key_at, counter_at, number_at, value_at, fact_at, last_fact_at, test_at, site_at, echo_at, found_at, counters_of, line_with, fact_form, end_form, refused_form, undecided_form, void_form, listed_form, body_form, line_form, form_in, form_of}
+use Rattle.cert_read.specs.Reading.{file, bad, listed, HasRule, are_of_facts, is_new, is_numbered, is_placed, is_fresh, lists_facts, counts_well, first_broken, broken_by, with_form, is_end, after_rule, after_form, reading_from, nothing_of, below_header, reading_of, grammar_of}
 
--- the value of a form is one of a fact, where it has one
+-- the value of a form is one of a fact, where it has one, and so is the rule of a line one of rules 1 to 4
 abbrev HasKnownValue : Form → Type 0
 HasKnownValue (forms.Fact n f v) = IsFactValue v
-HasKnownValue (forms.Line n l) = Unit {0}
+HasKnownValue (forms.Line n l) = HasRule l
 HasKnownValue (forms.Undecided n f u) = Unit {0}
 HasKnownValue (forms.Void n f s) = Unit {0}
 HasKnownValue (forms.End l f) = Unit {0}
@@ -51,6 +56,10 @@ known_either (Some form) p h k = h
 known_if : (t : Bool) (o p : Option Form) → IsKnownForm o → IsKnownForm p → IsKnownForm (if t then o else p)
 known_if true o p h k = h
 known_if false o p h k = k
+
+known_where : (t : Bool) (form : Form) → (t ≡ true → HasKnownValue form) → IsKnownForm (if t then Some form else None)
+known_where true form h = known_form form (h refl)
+known_where false form h = no_form
 
 both_hold : (a b : Bool) → (a && b) ≡ true → (a ≡ true) × (b ≡ true)
 both_hold true true h = (refl, refl)
@@ -88,11 +97,19 @@ end_known ws =
     known_after (key_at _ ws) _ (λ k e. known_after (counter_at k) _ (λ l e. known_after (key_at _ l.1) _ (λ k e. known_after (counter_at k) _ (λ f e.
     known_if (is_over f.1) _ None (known_form (forms.End l.0 f.0) tt) no_form))))
 
+rule_between : (rule : ℕ) (end : Bool) → (nat_le 1 rule && nat_le rule 4 && end) ≡ true → (1 ≤ rule) × (rule ≤ 4)
+rule_between rule end h =
+    let e = both_hold (nat_le 1 rule && nat_le rule 4) end h in
+    let f = both_hold (nat_le 1 rule) (nat_le rule 4) e.0 in
+    let low : 1 ≤ rule = grind (arith, nat_tests) in
+    let high : rule ≤ 4 = grind (arith, nat_tests) in
+    (low, high)
+
 refused_known : (number : ℕ) (ws : List (List ℕ)) → IsKnownForm (refused_form number ws)
 unfolding refused_form
 refused_known number ws =
     known_after (key_at _ ws) _ (λ k e. known_after (counter_at k) _
-    (λ r e. known_if (nat_le 1 r.0 && nat_le r.0 4 && is_over r.1) _ None (known_form (forms.Line number (line.Refused r.0)) tt) no_form))
+    (λ r e. known_where (nat_le 1 r.0 && nat_le r.0 4 && is_over r.1) (forms.Line number (line.Refused r.0)) (rule_between r.0 (is_over r.1))))
 
 undecided_known : (number : ℕ) (ws : List (List ℕ)) → IsKnownForm (undecided_form number ws)
 unfolding undecided_form
@@ -104,10 +121,16 @@ unfolding void_form
 void_known number ws = known_after (key_at _ ws) _ (λ k e. known_after (site_at k) _
     (λ s e. known_after (last_fact_at s.1) _ (λ f e. known_form (forms.Void number f s.0) tt)))
 
+shown_ruled : (echo : Echo) (f : Found) (ns : List ℕ) → HasRule (line_with echo f ns)
+shown_ruled echo (found.Shown result) ns = tt
+shown_ruled echo (found.TooFar day) ns = tt
+shown_ruled echo (found.NoDate back) ns = tt
+
 listed_known_form : (number : ℕ) (ws : List (List ℕ)) → IsKnownForm (listed_form number ws)
 unfolding listed_form
 listed_known_form number ws = known_after (echo_at ws) _ (λ echo e.
-    known_after (found_at echo.1) _ (λ f e. known_after (counters_of f.1) _ (λ ns e. known_form (forms.Line number (line_with echo.0 f.0 ns)) tt)))
+    known_after (found_at echo.1) _ (λ f e. known_after (counters_of f.1) _
+    (λ ns e. known_form (forms.Line number (line_with echo.0 f.0 ns)) (shown_ruled echo.0 f.0 ns))))
 
 body_known : (number : ℕ) (ws : List (List ℕ)) → IsKnownForm (body_form number ws)
 unfolding body_form
@@ -140,12 +163,18 @@ abbrev pub HaveKnownValues : List (Fact × ℤ) → Type 0
 HaveKnownValues [] = Unit {0}
 HaveKnownValues (e ∷ es) = IsFactValue e.1 × HaveKnownValues es
 
--- The facts are distinct, each with a value of a fact, and the numbers that a line lists are distinct and numbers of the
--- facts.
+-- each line that is refused without its words names a rule
+abbrev pub HaveRules : List CertLine → Type 0
+HaveRules [] = Unit {0}
+HaveRules (l ∷ ls) = HasRule l × HaveRules ls
+
+-- The facts are distinct, each with a value of a fact, the numbers that a line lists are distinct and numbers of the facts, and a
+-- line that is refused without its words names a rule.
 pub record IsReadWell (f : CertFile) : Type 0 where
   pub distinct : IsTrue (are_distinct (facts_of f.facts))
   pub known : HaveKnownValues f.facts
   pub lines : ListFacts (length f.facts) f.lines
+  pub ruled : HaveRules f.lines
 
 -- four tests that hold
 pub four_hold : (a b c d : Bool) → ((a && b && not c) && d) ≡ true → (a ≡ true) × (b ≡ true) × (c ≡ false) × (d ≡ true)
@@ -174,6 +203,10 @@ one_line_more : (count : ℕ) (ls : List CertLine) (l : CertLine) → ListFacts 
 one_line_more count [] l all here = (here, tt)
 one_line_more count (k ∷ ls) l all here = (all.0, one_line_more count ls l all.1 here)
 
+one_rule_more : (ls : List CertLine) (l : CertLine) → HaveRules ls → HasRule l → HaveRules (ls ++ l ∷ [])
+one_rule_more [] l all here = (here, tt)
+one_rule_more (k ∷ ls) l all here = (all.0, one_rule_more ls l all.1 here)
+
 one_value_more : (es : List (Fact × ℤ)) (f : Fact) (v : ℤ) → HaveKnownValues es → IsFactValue v → HaveKnownValues (es ++ (f, v) ∷ [])
 one_value_more [] f v all here = (here, tt)
 one_value_more (e ∷ es) f v all here = (all.0, one_value_more es f v all.1 here)
@@ -187,7 +220,7 @@ isnt true h = cc
 isnt false h = refl
 
 fact_more : (before : CertFile) (f : Fact) (v : ℤ) → IsReadWell before → is_new before.facts (Some f) ≡ true → IsFactValue v
-    → IsReadWell (record { facts = before.facts ++ (f, v) ∷ []; lines = before.lines })
+    → IsReadWell (record before { facts = before.facts ++ (f, v) ∷ [] })
 fact_more before f v well new known =
     let fresh : list_any (fact_eq f) (facts_of before.facts) ≡ false = rw (same_facts before.facts) at
     (isnt (list_any (fact_eq f) (map (λ e. e.0) before.facts)) new) in
@@ -196,14 +229,16 @@ fact_more before f v well new known =
       distinct = rw (facts_of_push before.facts f v) (distinct_more (facts_of before.facts) f well.distinct fresh);
       known = one_value_more before.facts f v well.known known;
       lines = lines_of_more (length before.facts) (length (before.facts ++ (f, v) ∷ [])) before.lines longer well.lines;
+      ruled = well.ruled;
     }
 
-line_more : (before : CertFile) (l : CertLine) → IsReadWell before → are_of_facts (length before.facts) [] (listed l) ≡ true
-    → IsReadWell (record { facts = before.facts; lines = before.lines ++ l ∷ [] })
-line_more before l well here = record {
+line_more : (before : CertFile) (l : CertLine) → IsReadWell before → are_of_facts (length before.facts) [] (listed l) ≡ true → HasRule l
+    → IsReadWell (record before { lines = before.lines ++ l ∷ [] })
+line_more before l well here rule = record {
   distinct = well.distinct;
   known = well.known;
   lines = one_line_more (length before.facts) before.lines l well.lines here;
+  ruled = one_rule_more before.lines l well.ruled rule;
 }
 
 -- where no rule is broken, the third and the fourth of the five that are tried hold
@@ -229,11 +264,11 @@ form_more : (before : CertFile) (form : Form) → IsReadWell before → HoldsRul
 unfolding with_form
 form_more before (forms.Fact n None v) well rules known = well
 form_more before (forms.Fact n (Some f) v) well rules known = fact_more before f v well rules.fresh known
-form_more before (forms.Line n l) well rules known = line_more before l well rules.lists
+form_more before (forms.Line n l) well rules known = line_more before l well rules.lists known
 form_more before (forms.Undecided n None u) well rules known = well
-form_more before (forms.Undecided n (Some f) u) well rules known = line_more before (line.Undecided f u) well refl
+form_more before (forms.Undecided n (Some f) u) well rules known = line_more before (line.Undecided f u) well refl tt
 form_more before (forms.Void n None s) well rules known = well
-form_more before (forms.Void n (Some f) s) well rules known = line_more before (line.Void f s) well refl
+form_more before (forms.Void n (Some f) s) well rules known = line_more before (line.Void f s) well refl tt
 form_more before (forms.End l f) well rules known = well
 
 read_well : (number : ℕ) (before : CertFile) (ended : Bool) (lines : List (List ℕ)) (f : CertFile) → IsReadWell before → reading_from number before ended lines
@@ -254,16 +289,16 @@ read_well number before ended (bytes ∷ lines) f well h = on_form (form_of byte
     on_form None known rest k = cc
     on_form (Some form) known rest k = on_rule form (broken_by before ended form) refl (known.known form refl) rest k
 
-nothing_read : IsReadWell (record { facts = []; lines = [] })
-nothing_read = record { distinct = refl; known = tt; lines = tt }
+nothing_read : (version : Version) → IsReadWell (nothing_of version)
+nothing_read version = record { distinct = refl; known = tt; lines = tt; ruled = tt }
 
 read_lines_well : (lines : List (List ℕ)) (f : CertFile) → reading_of lines ≡ file f → IsReadWell f
 read_lines_well [] f h = cc
-read_lines_well (header ∷ lines) f h = on_header (is_word _ header) h
+read_lines_well (header ∷ lines) f h = on_header (version_named header) h
   where
-    on_header : (t : Bool) → (if t then reading_from 2 (record { facts = []; lines = [] }) false lines else bad 1 1) ≡ file f → IsReadWell f
-    on_header true k = read_well 2 (record { facts = []; lines = [] }) false lines f nothing_read k
-    on_header false k = cc
+    on_header : (o : Option Version) → below_header o lines ≡ file f → IsReadWell f
+    on_header None k = cc
+    on_header (Some version) k = read_well 2 (nothing_of version) false lines f (nothing_read version) k
 
 -- each line of those lists distinct numbers of facts
 pub numbers_at : (count : ℕ) (ls : List CertLine) (index : ℕ) → ListFacts count ls → are_of_facts count [] (listed (slice_index_or ls index (line.Refused 0)))
@@ -271,6 +306,12 @@ pub numbers_at : (count : ℕ) (ls : List CertLine) (index : ℕ) → ListFacts 
 numbers_at count [] index all = refl
 numbers_at count (l ∷ ls) zero all = all.0
 numbers_at count (l ∷ ls) (suc index) all = numbers_at count ls index all.1
+
+-- each line of those has its rule
+pub rule_at : (ls : List CertLine) (index : ℕ) → HaveRules ls → index < length ls → HasRule (slice_index_or ls index (line.Refused 0))
+rule_at [] index all h = absurd (omega arith)
+rule_at (l ∷ ls) zero all h = all.0
+rule_at (l ∷ ls) (suc index) all h = rule_at ls index all.1 (omega arith)
 
 -- a file of the grammar was read well
 pub grammar_well : (bytes : List ℕ) (f : CertFile) → grammar_of bytes ≡ file f → IsReadWell f

@@ -6,6 +6,7 @@ use Rattle.std.specs.List.{flat_map}
 use Rattle.std.specs.Prelude.{codes, ◌==◌, ℤ}
 use Rattle.book_model.specs.declared.fact.Fact.{Fact}
 use Rattle.book_model.specs.lines.Lines.{lines_of}
+use Rattle.book_model.specs.calendars.Versions.{version_named}
 use Rattle.book_model.specs.declared.version.TheConstants.{WRITTEN}
 use Rattle.book_model.specs.lines.Text.{header_of, end_text}
 use Rattle.cert_text.specs.declared.line.CertLine.{CertLine}
@@ -72,7 +73,7 @@ end_taken number facts lines h k =
 
 -- the header is the first line, and the rest is read from the second
 header_taken : (rest : List ℕ) → grammar_of (header_of WRITTEN ++ rest) ≡ reading_from 2 (state [] []) false (lines_of rest)
-unfolding grammar_of
+unfolding grammar_of version_named
 header_taken rest = refl
 
 -- a text that leads from no facts and lines to these is read whole, between the header and the right end line

@@ -76,7 +76,7 @@ facts_of blocks = flat_map (λ b. b.facts) blocks
 abbrev pub file_text : List Block → List ℕ
 file_text blocks = header_of WRITTEN ++ (flat_map block_text blocks ++ end_text (length blocks) (length (facts_of blocks)))
 
--- what is written so is read again, as the same facts and lines, up to the length of a file
+-- what is written so is read again, as the same facts and lines in a file of the version that is written, up to the length of a file
 abbrev pub AreReadAgain : List Block → Type 0
 AreReadAgain blocks = are_in_order 0 [] blocks ≡ true → length (file_text blocks) ≤ 268435456
-    → grammar_of (file_text blocks) ≡ file (record { facts = facts_of blocks; lines = map (λ b. b.line) blocks })
+    → grammar_of (file_text blocks) ≡ file (record { version = WRITTEN; facts = facts_of blocks; lines = map (λ b. b.line) blocks })

@@ -1,9 +1,9 @@
 -- What a printed file is: its facts and lines in order, or the first line that breaks a rule, with the first rule that it breaks.
-use Rattle.std.specs.Prelude.{◌≡◌, ℕ, ◌+◌, ◌==◌, ◌&&◌, not, nat_le, nat_eq, if◌then◌else◌, Bool, true, false, List, [], ◌∷◌, ◌++◌, length, map, ℤ, Some, None, Option, is_some, Result, Ok, Err}
+use Rattle.std.specs.Prelude.{◌≡◌, ℕ, ◌+◌, ◌≤◌, ◌==◌, ◌&&◌, not, nat_le, nat_eq, if◌then◌else◌, Bool, true, false, List, [], ◌∷◌, ◌++◌, length, map, ℤ, Some, None, Option, is_some, Result, Ok, Err}
 use Rattle.std.specs.List.{list_any}
 use Rattle.book_model.specs.declared.fact.Fact.{Fact}
-use Rattle.book_model.specs.declared.version.TheConstants.{WRITTEN}
-use Rattle.book_model.specs.calendars.Versions.{header_line}
+use Rattle.book_model.specs.declared.version.Version.{Version}
+use Rattle.book_model.specs.calendars.Versions.{version_named}
 use Rattle.book_model.specs.calendars.Inquiries.{fact_eq}
 use Rattle.book_model.specs.lines.Lines.{lines_of}
 use Rattle.cert_text.specs.declared.line.CertLine.{CertLine}
@@ -13,7 +13,7 @@ use Rattle.cert_read.specs.declared.form.Form.{Form}
 use Rattle.cert_read.specs.declared.form.Form.TheVariants as forms
 use Rattle.cert_read.specs.declared.read.ReadFail.{ReadFail}
 use Rattle.cert_read.specs.declared.read.ReadFail.TheVariants.{Bad, Memory}
-use Rattle.cert_read.specs.Grammar.{is_word, form_of}
+use Rattle.cert_read.specs.Grammar.{form_of}
 
 -- the bytes are a file of the grammar, or a line breaks a rule
 pub data Reading : Type 0 where
@@ -28,6 +28,11 @@ listed (NoDate echo back facts) = facts
 listed (Refused rule) = []
 listed (Undecided fact at) = []
 listed (Void fact site) = []
+
+-- a line that is refused without its words names one of the rules 1 to 4
+abbrev pub HasRule : CertLine → Type 0
+HasRule (Refused rule) = (1 ≤ rule) × (rule ≤ 4)
+HasRule line = Unit {0}
 
 -- facts and lines are numbered 1, 2, 3, .. each
 abbrev pub is_numbered : CertFile → Form → Bool
@@ -91,10 +96,10 @@ broken_by before ended form = first_broken ((3, is_numbered before form) ∷ (7,
 
 abbrev pub with_fact : CertFile → Option Fact → ℤ → CertFile
 with_fact before None v = before
-with_fact before (Some f) v = record { facts = before.facts ++ (f, v) ∷ []; lines = before.lines }
+with_fact before (Some f) v = record before { facts = before.facts ++ (f, v) ∷ [] }
 
 abbrev pub with_line : CertFile → CertLine → CertFile
-with_line before line = record { facts = before.facts; lines = before.lines ++ line ∷ [] }
+with_line before line = record before { lines = before.lines ++ line ∷ [] }
 
 abbrev pub with_stop : CertFile → Option Fact → (Fact → CertLine) → CertFile
 with_stop before None line = before
@@ -130,10 +135,19 @@ abbrev pub reading_from : ℕ → CertFile → Bool → List (List ℕ) → Read
 reading_from number before ended [] = if ended then file before else bad number 6
 reading_from number before ended (line ∷ lines) = after_form number before ended (form_of line) (λ now end. reading_from (number + 1) now end lines)
 
--- the first line is the header
+-- a file of a version, before its first fact and line
+abbrev pub nothing_of : Version → CertFile
+nothing_of version = record { version = version; facts = []; lines = [] }
+
+-- the lines below the first, which is the header of a version or of none
+abbrev pub below_header : Option Version → List (List ℕ) → Reading
+below_header None lines = bad 1 1
+below_header (Some version) lines = reading_from 2 (nothing_of version) false lines
+
+-- the first line is the header of a version
 abbrev pub reading_of : List (List ℕ) → Reading
 reading_of [] = bad 1 1
-reading_of (line ∷ lines) = if is_word (header_line WRITTEN) line then reading_from 2 (record { facts = []; lines = [] }) false lines else bad 1 1
+reading_of (line ∷ lines) = below_header (version_named line) lines
 
 -- what bytes are by the grammar
 unfoldable pub grammar_of : List ℕ → Reading

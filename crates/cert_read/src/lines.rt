@@ -2,6 +2,7 @@
 ghost use Rattle.std.specs.Prelude.{◌≡◌, ◌<◌, ◌++◌, ◌∷◌, [], List, Some, length, slice_get, OnOk, OnErr};
 ghost use Rattle.cert_text.specs.declared.line.CertLine.{CertLine as LineView};
 
+use book_model::Version;
 use cert_text::CertLine;
 use oracle_core::FactValues;
 use std::alloc::{AllocError, Global};
@@ -61,9 +62,10 @@ impl Lines {
     }
 }
 
-/// A printed file: the facts with their values, and the lines, both in order.
+/// A printed file: its version, the facts with their values, and the lines, both in order.
 #[derive(Debug, Drop)]
 pub struct CertFile {
+    pub version: Version,
     pub facts: FactValues,
     pub lines: Lines,
 }

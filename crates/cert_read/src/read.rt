@@ -1,12 +1,12 @@
 //! Reads a printed file.
 ghost use Rattle.std.specs.Prelude.{false, ◌≡◌, ◌<◌, ◌≤◌, ◌^◌, [], length};
 ghost use Rattle.book_model.specs.lines.Lines.{lines_of};
-ghost use Rattle.cert_read.specs.Reading.{Answers, grammar_of, reading_from};
+ghost use Rattle.cert_read.specs.Reading.{Answers, grammar_of, nothing_of, reading_from};
 ghost use Rattle.cert_read.specs.declared.read.TheConstants.{LONGEST_FILE as longest_file};
 
 use crate::lines::CertFile;
 use crate::reader::{LineFault, Reader};
-use book_model::WRITTEN;
+use book_model::Version;
 use line_core::cut_line;
 use std::alloc::Global;
 use thiserror::Error;
@@ -24,13 +24,12 @@ pub enum ReadFail {
     Memory,
 }
 
-/// Reads the lines below the header, each as it is cut off, so that they take no memory of their own.
-fn read_lines(alloc: Global, bytes: &[u8]) -> Result<CertFile, ReadFail>
+/// Reads the lines below the header of a file of a version, each as it is cut off, so that they take no memory of their own.
+fn read_lines(alloc: Global, version: Version, bytes: &[u8]) -> Result<CertFile, ReadFail>
     requires { length (lines_of bytes.now) < 2 ^ 31 }
-    ensures { Answers result (reading_from 2 (record { facts = []; lines = [] }) false
-        (lines_of bytes.now)) }
+    ensures { Answers result (reading_from 2 (nothing_of version) false (lines_of bytes.now)) }
 {
-    let Ok(mut reader) = Reader::new(alloc) else {
+    let Ok(mut reader) = Reader::new(alloc, version) else {
         return Err(ReadFail::Memory);
     };
     let mut number = 2;
@@ -54,13 +53,14 @@ fn read_lines(alloc: Global, bytes: &[u8]) -> Result<CertFile, ReadFail>
     }
 }
 
-/// The file that the bytes are by the grammar. `Bad` comes exactly where they are none, with the first line that
-/// breaks a rule and the first rule that it breaks, and `Memory` where memory runs out.
+/// The file that the bytes are by the grammar; its version is the one whose header is their first line. `Bad` comes exactly
+/// where they are none, with the first line that breaks a rule and the first rule that it breaks, and `Memory` where memory
+/// runs out.
 ///
 /// ```
-/// let none = read_file(rt.alloc(), b"calendrica 1 depth 40\n"); // Err(Bad { line: 2, rule: 6 }): the end line isn't there
-/// let text = b"calendrica 1 depth 40\nfact 1 nowruz - 739145 738965\nend lines 0 facts 1\n";
-/// let file = read_file(rt.alloc(), text)?; // one fact and no line
+/// let none = read_file(rt.alloc(), b"calendrica 2 depth 40\n"); // Err(Bad { line: 2, rule: 6 }): the end line isn't there
+/// let text = b"calendrica 2 depth 40\nfact 1 nowruz - 739145 738965\nend lines 0 facts 1\n";
+/// let file = read_file(rt.alloc(), text)?; // of version 2, with one fact and no line
 /// ```
 #[tactic(auto, unfolding(crate::specs::Reading::grammar_of))]
 pub fn read_file(alloc: Global, bytes: &[u8]) -> Result<CertFile, ReadFail>
@@ -70,9 +70,8 @@ pub fn read_file(alloc: Global, bytes: &[u8]) -> Result<CertFile, ReadFail>
     let Some((first, rest)) = cut_line(bytes) else {
         return Err(ReadFail::Bad { line: 1, rule: 1 });
     };
-    if first == WRITTEN.header().as_bytes() {
-        read_lines(alloc, rest)
-    } else {
-        Err(ReadFail::Bad { line: 1, rule: 1 })
+    match Version::named(first) {
+        Some(version) => read_lines(alloc, version, rest),
+        None => Err(ReadFail::Bad { line: 1, rule: 1 }),
     }
 }

@@ -11,7 +11,7 @@ use crate::lines::{CertFile, Lines};
 use crate::listings::are_of_facts;
 use crate::seen::SeenFacts;
 use crate::words::NoForm;
-use book_model::{Fact, Site, Undecided};
+use book_model::{Fact, Site, Undecided, Version};
 use cert_text::CertLine;
 use oracle_core::FactValues;
 use std::alloc::{AllocError, AllocFailed, Global};
@@ -69,15 +69,15 @@ fn listed(line: &CertLine) -> &[u32]
 }
 
 impl Reader {
-    /// A reading before the first line below the header. The error comes where memory runs out.
-    pub(crate) fn new(alloc: Global) -> Result<Reader, AllocError>
-        ensures facts { IfOk result (λ reader. reader.file.facts ≡ []) }
-        ensures lines { IfOk result (λ reader. reader.file.lines ≡ []) }
+    /// A reading of a file of a version, before the first line below the header. The error comes where memory runs out.
+    pub(crate) fn new(alloc: Global, version: Version) -> Result<Reader, AllocError>
+        ensures file { IfOk result (λ reader. reader.file ≡ spec.nothing_of version) }
         ensures agrees { IfOk result (λ reader. Agrees reader.file reader.seen reader.marks.items) }
         ensures ended { IfOk result (λ reader. reader.ended ≡ false) }
     {
         Ok(Reader {
             file: CertFile {
+                version,
                 facts: FactValues::new(alloc),
                 lines: Lines::new(alloc),
             },

@@ -12,7 +12,7 @@ use Rattle.line_core.proofs.Requests.{is_readable, asked_unreadable, asked_three
 use Rattle.line_core.proofs.SpacedWords.{spaced, plain_line, words_read}
 
 -- the line, by its first word and the others
-text_spaced : (from date to : List ℕ) → three_words_text from date to ≡ from ++ spaced (date ∷ to ∷ [])
+pub text_spaced : (from date to : List ℕ) → three_words_text from date to ≡ from ++ spaced (date ∷ to ∷ [])
 unfolding three_words_text
 text_spaced from date to = simp append-nil
 

@@ -12,13 +12,14 @@ use Rattle.book_model.specs.declared.words.FromWord.TheVariants as from
 use Rattle.book_model.specs.declared.words.ToWord.{ToWord}
 use Rattle.book_model.specs.declared.words.ToWord.TheVariants as to
 use Rattle.book_model.specs.calendars.Dates.{row_of}
-use Rattle.book_model.specs.lines.Lines.{IsWord}
+use Rattle.book_model.specs.lines.Lines.{IsWord, words_of}
 use Rattle.book_model.specs.lines.Requests.{request_of, checked_request, fields_of, fields_with, checked, is_of_seven_digits, IsSpelled}
 use Rattle.book_model.specs.lines.Text.{date_text, line_text, three_words_text}
 use Rattle.book_model.specs.lines.Words.{calendar_of, text_of_from, text_of_to}
 use Rattle.book_model.proofs.WordTables.{from_found, to_found, few_fields}
 use Rattle.line_core.proofs.DateSpelling.{IsDate, IsShortWord, dashed_date, gregorian_date, date_numbers, date_word}
-use Rattle.line_core.proofs.SingleSpaces.{text_length, asked_words}
+use Rattle.line_core.proofs.SingleSpaces.{text_length, text_spaced, asked_words}
+use Rattle.line_core.proofs.SpacedWords.{words_read}
 
 -- the words of the tables are words
 from_word : (w : FromWord) → IsShortWord 20 (text_of_from w)
@@ -70,3 +71,19 @@ spelled_read version r ns date many small =
 
 pub text_is_read : (version : Version) (r : Request) → IsSpelled r → request_of version (line_text r) ≡ checked_request version r
 text_is_read version r s = spelled_read version r s.numbers s.date s.many s.short
+
+-- the words of the line of a request whose date is these numbers
+spaced_words : (r : Request) (ns : List ℕ) → r.date ≡ fields_with ns → length ns ≡ (row_of (calendar_of r.from)).count → list_all is_of_seven_digits ns ≡ true
+    → words_of (line_text r) ≡ text_of_from r.from ∷ date_text (calendar_of r.from) r.date ∷ text_of_to r.to ∷ []
+unfolding line_text
+spaced_words r ns date many small =
+    let middle : IsShortWord 40 (date_text (calendar_of r.from) r.date) = rw date
+    (date_word ns (date_text (calendar_of r.from) (fields_with ns)) (text_is_date (calendar_of r.from) ns many small)
+    (omega (arith, few_fields (calendar_of r.from)))) in
+    rw (text_spaced (text_of_from r.from) (date_text (calendar_of r.from) r.date) (text_of_to r.to))
+    (words_read (text_of_from r.from) (date_text (calendar_of r.from) r.date ∷ text_of_to r.to ∷ []) (from_word r.from).is_word
+    (middle.is_word, ((to_word r.to).is_word, tt)))
+
+-- the words of the line of a request
+pub line_words : (r : Request) → IsSpelled r → words_of (line_text r) ≡ text_of_from r.from ∷ date_text (calendar_of r.from) r.date ∷ text_of_to r.to ∷ []
+line_words r s = spaced_words r s.numbers s.date s.many s.short

@@ -164,8 +164,8 @@ fn day_of_request<O: Oracle>(
 /// ```
 /// let evaluator = Staged::new();
 /// let mut oracle = Asking::new(rt.alloc(), &evaluator);
-/// let Ok(request) = read_line(b"persian 1402-12-30 fixed", Version::One) else { return; };
-/// let resolved = resolve(&mut oracle, &request, Version::One)?; // NoDate: that day is the first of the year 1403
+/// let Ok(request) = read_line(b"persian 1402-12-30 fixed", Version::Two) else { return; };
+/// let resolved = resolve(&mut oracle, &request, Version::Two)?; // NoDate: that day is the first of the year 1403
 /// ```
 #[tactic(auto, using(oracle_core::proofs::Inquiring::asking), unfolding(book_model::specs::lines::LineRules::rule_of))]
 pub fn resolve<O: Oracle>(

@@ -1,10 +1,15 @@
 //! Lines of an input, what they ask, and what that comes to over oracles with small lists. The rows under `tests/rows` have many
 //! lines more, for each rule.
+ghost use Rattle.std.specs.Prelude.{◌≡◌, IsTrue, length};
+ghost use Rattle.oracle_core.specs.Pairs.{are_distinct, AreFactValues};
+
+use super::facts::nowruz_on;
 use book_model::{Fact, Fields, FromWord, Kind, Place, Request, Resolved, Rule, ToWord};
 use line_core::{
     ThreeWords, Version, checked_request, read_line, read_words, resolve, split_lines, three_words,
 };
 use oracle_core::{Listed, Oracle, Stop};
+use std::alloc::Global;
 use std::test::Fail;
 
 #[test]
@@ -77,11 +82,41 @@ fn three_words_are_a_request_or_break_a_rule(rt: HostRuntime) {
 
 #[test]
 fn a_request_breaks_the_rule_of_its_line(rt: HostRuntime) {
-    for (from, values, rule) in [
-        (FromWord::Gregorian, [2024, 2, 29, 0, 0], None),
-        (FromWord::Gregorian, [2023, 2, 29, 0, 0], Some(Rule::Field)),
-        (FromWord::Gregorian, [1801, 12, 31, 0, 0], Some(Rule::Range)),
-        (FromWord::Persian, [1428, 1, 1, 0, 0], Some(Rule::Range)),
+    let (one, two) = (Version::One, Version::Two);
+    for (from, values, version, rule) in [
+        (FromWord::Gregorian, [2024, 2, 29, 0, 0], one, None),
+        (
+            FromWord::Gregorian,
+            [2023, 2, 29, 0, 0],
+            two,
+            Some(Rule::Field),
+        ),
+        (
+            FromWord::Gregorian,
+            [1801, 12, 31, 0, 0],
+            one,
+            Some(Rule::Range),
+        ),
+        (FromWord::Gregorian, [1801, 12, 31, 0, 0], two, None),
+        (
+            FromWord::Gregorian,
+            [1701, 12, 31, 0, 0],
+            two,
+            Some(Rule::Range),
+        ),
+        (
+            FromWord::Persian,
+            [1428, 1, 1, 0, 0],
+            one,
+            Some(Rule::Range),
+        ),
+        (FromWord::Persian, [1428, 1, 1, 0, 0], two, None),
+        (
+            FromWord::Persian,
+            [1528, 1, 1, 0, 0],
+            two,
+            Some(Rule::Range),
+        ),
     ] {
         let request = Request {
             from,
@@ -93,11 +128,64 @@ fn a_request_breaks_the_rule_of_its_line(rt: HostRuntime) {
             None => Ok(request),
         };
         assert_eq!(rt;
-            checked_request(&request, Version::One),
+            checked_request(&request, version),
             want,
-            "at {values:?}"
+            "at {values:?} by {version:?}"
         );
     }
+}
+
+/// Dates just outside and at the ends of what each version answers: of version 2 the first date without an answer before its
+/// range, and its first date; the same of version 1, whose range lies within; then the last ones likewise.
+#[rattlefmt::skip]
+const ENDS: [(&str, [&str; 8]); 9] = [
+    ("gregorian", ["1701-12-31", "1702-01-01", "1801-12-31", "1802-01-01", "2048-12-31", "2049-01-01", "2148-12-31", "2149-01-01"]),
+    ("fixed", ["621277", "621278", "657801", "657802", "748017", "748018", "784541", "784542"]),
+    ("persian", ["1079-1-1", "1080-1-1", "1179-1-1", "1180-1-1", "1427-1-1", "1428-1-1", "1527-1-1", "1528-1-1"]),
+    ("bahai", ["0-12-9-1-1", "0-12-10-1-1", "0-17-14-1-1", "0-17-15-1-1", "1-11-15-1-1", "1-11-16-1-1", "1-17-1-1-1", "1-17-2-1-1"]),
+    ("chinese", ["73-17-1-0-1", "73-18-1-0-1", "74-57-1-0-1", "74-58-1-0-1", "79-5-1-0-1", "79-6-1-0-1", "80-45-1-0-1", "80-46-1-0-1"]),
+    ("islamic", ["1112-1-1", "1113-1-1", "1215-1-1", "1216-1-1", "1471-1-1", "1472-1-1", "1574-1-1", "1575-1-1"]),
+    ("hindu-solar", ["1622-1-1", "1623-1-1", "1722-1-1", "1723-1-1", "1970-1-1", "1971-1-1", "2070-1-1", "2071-1-1"]),
+    ("hindu-lunar", ["1757-1-0-1-0", "1758-1-0-1-0", "1857-1-0-1-0", "1858-1-0-1-0", "2105-1-0-1-0", "2106-1-0-1-0", "2205-1-0-1-0", "2206-1-0-1-0"]),
+    ("full-moon", ["1701-12-31", "1702-01-01", "1801-12-31", "1802-01-01", "2048-12-31", "2049-01-01", "2148-12-31", "2149-01-01"]),
+];
+
+/// At which of these dates version 1 and version 2 answer.
+const ANSWERED: [(bool, bool); 8] = [
+    (false, false),
+    (false, true),
+    (false, true),
+    (true, true),
+    (true, true),
+    (false, true),
+    (false, true),
+    (false, false),
+];
+
+/// The rule of a version that a line breaks, if it breaks one.
+fn broken(line: &str, version: Version) -> Option<Rule> {
+    match read_line(line.as_bytes(), version) {
+        Ok(_) => None,
+        Err(rule) => Some(rule),
+    }
+}
+
+/// What a line breaks that is answered, or isn't.
+fn range_unless(is_answered: bool) -> Option<Rule> {
+    if is_answered { None } else { Some(Rule::Range) }
+}
+
+#[test]
+fn each_version_answers_its_own_years(rt: HostRuntime) -> Result<(), Fail> {
+    for (from, dates) in ENDS {
+        for place in 0..ANSWERED.len() {
+            let (by_one, by_two) = ANSWERED[place];
+            let line = format!(in rt.alloc(); "{from} {} dt", dates[place])?;
+            assert_eq!(rt; broken(&line, Version::One), range_unless(by_one), "{line}");
+            assert_eq!(rt; broken(&line, Version::Two), range_unless(by_two), "{line}");
+        }
+    }
+    Ok(())
 }
 
 #[test]
@@ -166,5 +254,39 @@ fn a_missing_fact_stops(rt: HostRuntime) -> Result<(), Fail> {
         Err(Stop::Missing(fact))
     );
     assert_eq!(rt; oracle.ask(fact), Err(Stop::Missing(fact)));
+    Ok(())
+}
+
+/// What a line comes to over these facts, and how many of them are asked.
+fn resolved_over(
+    alloc: Global,
+    line: &str,
+    version: Version,
+    facts: &[Fact],
+    values: &[i64],
+) -> Result<(Resolved, usize), Fail>
+    requires same { length facts.now ≡ length values.now }
+    requires distinct { IsTrue (are_distinct facts.now) }
+    requires known { AreFactValues values.now }
+{
+    let mut oracle = Listed::new(alloc, facts, values);
+    let request = read_line(line.as_bytes(), version).map_err(|_| "a line is refused")?;
+    let resolved = resolve(&mut oracle, &request, version).map_err(|_| "a fact is missing")?;
+    Ok((resolved, oracle.asked().len()))
+}
+
+#[test]
+fn a_day_is_too_far_by_its_version(rt: HostRuntime) -> Result<(), Fail> {
+    let alloc = rt.alloc();
+    let line = "persian 1427-10-12 gregorian";
+    let (facts, values) = ([nowruz_on(747_911), nowruz_on(748_018)], [747_731, 747_731]);
+    let by_one = resolved_over(alloc, line, Version::One, &facts, &values)?;
+    assert_eq!(rt; by_one, (Resolved::TooFar { day: 748_018 }, 1));
+    let by_two = resolved_over(alloc, line, Version::Two, &facts, &values)?;
+    let new_year = resolved(ToWord::Gregorian, 3, [2049, 1, 1, 0, 0]);
+    assert_eq!(rt; by_two, (new_year, 2));
+    let line = "persian 1080-10-10 gregorian";
+    let by_two = resolved_over(alloc, line, Version::Two, &[nowruz_on(621_172)], &[620_992])?;
+    assert_eq!(rt; by_two, (Resolved::TooFar { day: 621_277 }, 1));
     Ok(())
 }
