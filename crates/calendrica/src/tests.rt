@@ -4,6 +4,7 @@ ghost use Rattle.std.specs.Prelude.{None};
 
 mod faults;
 mod jobs;
+mod upgrades;
 
 use book_model::Fact;
 use encl_core::Coarse;
@@ -11,7 +12,8 @@ use fact_eval::{Staged, answer_over, is_close};
 use fix_fine::Fine;
 use oracle_core::{Answer, Evaluator};
 use run_core::{
-    Command, Failed, MemorySink, MemorySource, OpenGate, Sink, Source, Status, input_limit, run,
+    Command, Failed, MemorySink, MemorySource, OpenGate, Sink, Source, Status, USAGE, input_limit,
+    run,
 };
 use std::alloc::Global;
 use std::sync::atomic::AtomicUsize;
@@ -21,16 +23,13 @@ use std::thread::Threads;
 
 const ROW: &str = "gregorian 2024-02-10 dt\n";
 
-const ROW_TEXT: &str = "calendrica 1 depth 40\n\
+const ROW_TEXT: &str = "calendrica 2 depth 40\n\
     fact 1 dt - 738926 73871\n\
     line 1 gregorian 2024-02-10 dt 73871 facts 1\n\
     end lines 1 facts 1\n";
 
 /// What `check` writes for `ROW_TEXT`.
 const COUNTS: &str = "yes 1\nend yes 1 no 0 skip 0\n";
-
-const USAGE: &str =
-    "usage: calendrica convert | check | almanac YEAR | sample COUNT SEED [--jobs N]\n";
 
 /// What `sample 1 0` writes.
 const SAMPLE: &str = "sample 1 0 decided 1 undecided 0 void 0 refused 0 facts 1\n";
@@ -240,12 +239,12 @@ impl Evaluator for CoarseWhereClose {
 
 /// What `convert` writes for a line whose fact coarse enclosures leave open, by ends that are near: the months since a new moon lie
 /// from two parts of 2⁻³⁶ below a whole number of months to one above.
-const OPEN_TEXT: &str = "calendrica 1 depth 40\n\
+const OPEN_TEXT: &str = "calendrica 2 depth 40\n\
     line 1 undecided phase-wrap 242 -2097152 1048576 fact phasis cairo 695106\n\
     end lines 1 facts 0\n";
 
 /// The same line as it is where the fact is decided.
-const DECIDED_TEXT: &str = "calendrica 1 depth 40\n\
+const DECIDED_TEXT: &str = "calendrica 2 depth 40\n\
     fact 1 phasis cairo 695106 695104\n\
     line 1 fixed 695106 islamic 1321-12-3 facts 1\n\
     end lines 1 facts 1\n";
@@ -400,7 +399,7 @@ fn an_input_past_the_limit_is_too_large(rt: HostRuntime) -> Result<(), Fail> {
     let alloc = rt.alloc();
     let words = words_in(alloc, "convert")?;
     let limit = input_limit(Command::Convert);
-    let refused = "calendrica 1 depth 40\nline 1 refused 1\nend lines 1 facts 0\n";
+    let refused = "calendrica 2 depth 40\nline 1 refused 1\nend lines 1 facts 0\n";
     for (size, status, text) in [
         (limit + 1, Status::TooLarge, ""),
         (limit, Status::Mixed, refused),

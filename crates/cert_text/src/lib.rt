@@ -14,4 +14,7 @@ pub use echo::Echo;
 pub use line::{Block, CertLine};
 pub use lists::{Numbers, Word};
 pub use result::{date_word, no_date_word, result_word, too_far_word, write_date, write_result};
-pub use write::{write_block, write_end, write_header, write_line, write_undecided, write_void};
+pub use write::{
+    write_block, write_end, write_fact, write_header, write_line, write_list, write_undecided,
+    write_void,
+};

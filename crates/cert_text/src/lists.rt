@@ -72,6 +72,13 @@ impl Numbers {
         Ok(())
     }
 
+    /// Empties the list, and keeps its room.
+    pub fn clear(&mut self)
+        ensures empty { self.new ≡ [] }
+    {
+        self.items.clear();
+    }
+
     /// The numbers in order.
     pub fn numbers(&self) -> &[u32]
         ensures numbers { result.now ≡ self.now }

@@ -14,9 +14,10 @@ use itoa::Buffer;
 /// What stands before a day's own date.
 pub(crate) const REFUSED_5: &[u8] = b"refused 5 ";
 
-/// Writes the line of a fact with its number and its value.
+/// Writes the line of a fact with its number and its value. At an error, which comes only where the count of the sink's faults
+/// rose, a front of it was written.
 #[tactic(auto, unfolding(book_model::specs::lines::Text::fact_text))]
-fn write_fact<K: Sink>(sink: &mut K, number: u32, entry: &(Fact, i64)) -> Result<(), Failed>
+pub fn write_fact<K: Sink>(sink: &mut K, number: u32, entry: &(Fact, i64)) -> Result<(), Failed>
     ensures { Writes K.written K.faults sink.old sink.new
         (model.fact_text number entry.now.0 entry.now.1) result }
 {
@@ -85,9 +86,10 @@ fn write_numbers<K: Sink>(sink: &mut K, numbers: &[u32]) -> Result<(), Failed>
     Ok(())
 }
 
-/// Writes the list of facts at the end of a line.
+/// Writes the list of facts at the end of a line. At an error, which comes only where the count of the sink's faults rose, a front
+/// of it was written.
 #[tactic(auto, unfolding(book_model::specs::lines::Text::facts_text))]
-fn write_list<K: Sink>(sink: &mut K, numbers: &[u32]) -> Result<(), Failed>
+pub fn write_list<K: Sink>(sink: &mut K, numbers: &[u32]) -> Result<(), Failed>
     ensures { Writes K.written K.faults sink.old sink.new (model.facts_text numbers.now) result }
 {
     write_all(sink, b" facts")?;

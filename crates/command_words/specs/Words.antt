@@ -8,7 +8,7 @@ use Rattle.clap.specs.declared.builder.action.ArgAction.TheVariants.{Set}
 use Rattle.book_model.specs.declared.version.TheConstants.{FIRST_ALMANAC_YEAR, LAST_ALMANAC_YEAR}
 use Rattle.book_model.specs.calendars.Versions.{IsAlmanacYear}
 use Rattle.command_words.specs.declared.command.Command.{Command}
-use Rattle.command_words.specs.declared.command.Command.TheVariants.{Convert, Check, Almanac, Sample}
+use Rattle.command_words.specs.declared.command.Command.TheVariants.{Convert, Check, Upgrade, Almanac, Sample}
 
 -- ---- the command by which clap reads the words
 
@@ -54,9 +54,11 @@ between low high (Some n) = if nat_le low n && nat_le n high then Some n else No
 
 -- ---- the table
 
--- `convert` or `check`, with nothing behind it
+-- `convert`, `check` or `upgrade`, with nothing behind it
 abbrev pub lone_command : List ℕ → Option Command
-lone_command name = if bytes_eq name (codes "convert") then Some Convert else (if bytes_eq name (codes "check") then Some Check else None)
+lone_command name =
+    if bytes_eq name (codes "convert") then Some Convert
+    else (if bytes_eq name (codes "check") then Some Check else (if bytes_eq name (codes "upgrade") then Some Upgrade else None))
 
 -- `almanac` with a year of which there is an almanac
 abbrev pub year_command : List ℕ → List ℕ → Option Command
@@ -110,5 +112,6 @@ jobs_of words = if is_accepted words then told_jobs (matches_of program words) e
 abbrev pub IsInRange : Command → Type 0
 IsInRange Convert = Unit {0}
 IsInRange Check = Unit {0}
+IsInRange Upgrade = Unit {0}
 IsInRange (Almanac year) = IsAlmanacYear year
 IsInRange (Sample count seed) = (1 ≤ count) × (count ≤ 100000)

@@ -1,12 +1,13 @@
 //! What the program is told to do.
 
 /// What the program is told to do: to write what lines of dates come to, to check such a text, to write the almanac of a
-/// year, or to write sample lines.
+/// year, to write sample lines, or to upgrade a text of an older version.
 #[derive(Clone, Copy, Debug, PartialEq, Eq)]
 pub enum Command {
     Convert,
     Check,
-    /// The almanac of a year from 1803 to 2047.
+    Upgrade,
+    /// The almanac of a year from 1703 to 2147.
     Almanac { year: u32 },
     /// This many lines, from 1 to 100,000, which the seed settles; the seed may be any number of 64 bits.
     Sample { count: u32, seed: u64 },

@@ -18,6 +18,7 @@ fn lone_command(name: &str) -> Option<Command>
     match name {
         "convert" => Some(Command::Convert),
         "check" => Some(Command::Check),
+        "upgrade" => Some(Command::Upgrade),
         _ => None,
     }
 }
@@ -138,7 +139,7 @@ fn matches_in<'a>(alloc: Global, words: &'a [String]) -> Result<ArgMatches<'a>, 
     }
 }
 
-/// The order that the words tell: the command that they name, `convert`, `check`, `almanac YEAR` or `sample COUNT SEED`, and the jobs of
+/// The order that the words tell: the command that they name, `convert`, `check`, `almanac YEAR`, `sample COUNT SEED` or `upgrade`, and the jobs of
 /// `--jobs N`, 1 to 64, which are 1 where the option isn't given. The words come without the program's own name.
 ///
 /// `Form` comes where the words name no command, and `Memory` where memory ran out before they were read.

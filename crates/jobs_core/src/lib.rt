@@ -14,9 +14,11 @@ mod maps;
 mod outcome;
 mod pieces;
 mod row;
+mod tools;
 
 pub use gate::{Gate, OpenGate};
 pub use maps::{map_facts, map_lines};
 pub use outcome::{Finding, Halt, Outcome, Outcomes, outcome_of};
 pub use pieces::map_places;
 pub use row::{Row, rows_of};
+pub use tools::Tools;

@@ -1,5 +1,6 @@
 -- Verdicts, one further.
-use Rattle.std.proofs.Common.{◌≡◌, ◌⊎◌, inl, inr, ℕ, ℤ, ◌+◌, ◌<◌, ◌≤◌, Bool, List, [], ◌∷◌, ◌++◌, length, drop, get_or, map, append_assoc, append-nil, refl, arith}
+use Rattle.std.proofs.Common.{◌≡◌, ◌⊎◌, inl, inr, ℕ, ℤ, ◌+◌, ◌<◌, ◌≤◌, Bool, List, [], ◌∷◌, ◌++◌, length, drop, get_or, map, refl}
+use Rattle.std.proofs.Common.{append_assoc, append-nil, arith}
 use Rattle.std.proofs.lemmas.Grind.{common_steps}
 use Rattle.std.proofs.lemmas.List.{drop_more}
 use Rattle.std.specs.Prelude.{Err, IsErrOf}
@@ -16,7 +17,7 @@ use Rattle.byte_streams.proofs.Flow.{buffered_on, buffered_front}
 use Rattle.cert_check.specs.declared.verdict.Verdict.{Verdict}
 use Rattle.cert_check.specs.Verdicts.{AreRightAnswers, IsCheckable, line_at}
 use Rattle.cert_check.proofs.Certified.{yes_line}
-use Rattle.run_core.specs.declared.text.WriteStop.{WriteStop}
+use Rattle.printed_rows.specs.declared.text.WriteStop.{WriteStop}
 use Rattle.run_core.specs.Checking.{verdict_text, verdicts_after, verdicts_of, verdicts_text, is_yes, ChecksFile, CutsFile, CheckCutShort, cut_verdicts}
 
 -- what comes of one item more is added
@@ -75,7 +76,7 @@ checks_file old new f answers all checkable right written all_are = record {
   right = right;
   written = written;
   yes = all_are;
-  certified = λ i h e. yes_line f.facts answers (line_at f i) checkable.distinct (checkable.numbers i) right e;
+  certified = λ i h e. yes_line f.version f.facts answers (line_at f i) checkable.distinct (checkable.numbers i) right e;
 }
 
 -- where the verdicts of a file were cut, so was what is written for its bytes

@@ -1,10 +1,6 @@
-pub mod TextLemmas
-pub mod BlockLemmas
-pub mod RightLemmas
 pub mod DecidedLemmas
-pub mod Counting
 pub mod OneSample
 pub mod SampleRefusals
-pub mod PrintedLemmas
-pub mod SampleLemmas
 pub mod CheckLemmas
+pub mod WorkLemmas
+pub mod UpgradeLemmas

@@ -1,11 +1,10 @@
 -- No line of a sample is refused.
-use Rattle.std.proofs.Common.{◌≡◌, ℕ, zero, suc, ◌+◌, Bool, true, false, List, [], ◌∷◌, length, filter, refl, arith}
+use Rattle.std.proofs.Common.{◌≡◌, ◌∙◌, ℕ, zero, suc, ◌+◌, true, false, List, [], ◌∷◌, length, filter, map, refl, arith}
 use Rattle.std.specs.Prelude.{Ok, pos, ℤ}
-use Rattle.almanac_core.specs.Sample.{state_after, day_by, asked_at, sample_line_of, IsSampleDay, sample_from as requests_from}
-use Rattle.almanac_core.proofs.SampleDays.{in_range, sample_checked}
+use Rattle.almanac_core.specs.Sample.{state_after, day_by, asked_at, sample_line_of, sample_from, IsSampleDay}
 use Rattle.almanac_core.proofs.Samples.{sample_day}
+use Rattle.almanac_core.proofs.SampleDays.{in_range, sample_checked}
 use Rattle.almanac_core.proofs.SpelledRequests.{sample_spelled}
-use Rattle.almanac_lines.specs.Texts.{sample_from}
 use Rattle.book_model.specs.declared.fact.Fact.{Fact}
 use Rattle.book_model.specs.declared.request.Fields.{Fields}
 use Rattle.book_model.specs.declared.request.Request.{Request}
@@ -17,23 +16,21 @@ use Rattle.book_model.specs.declared.words.Meaning.TheVariants.{Date, Value}
 use Rattle.book_model.specs.declared.words.FromWord.TheVariants as from
 use Rattle.book_model.specs.declared.words.ToWord.{ToWord}
 use Rattle.book_model.specs.calendars.Dates.{one_field, date_on}
-use Rattle.book_model.specs.sky.Facts.{run_of}
 use Rattle.book_model.specs.calendars.Inquiries.{Inquiry, done, ask, and_then, found, found_at, finding, finding_after, with_entry}
 use Rattle.book_model.specs.lines.LineRules.{rule_of, result_of_day, result_within, shown_on, fact_on}
 use Rattle.book_model.specs.lines.Outcomes.{LineOutcome, refused, resolved, undecided, void, IsRightFor, IsRightForRow, AreRight, is_shown}
-use Rattle.book_model.specs.programs.Programs.{Outcome, outcome, valued, void_at, open_at}
-use Rattle.book_model.specs.lines.Requests.{fields_with, IsSpelled, AreSpelled}
+use Rattle.book_model.specs.lines.Requests.{AreSpelled, IsSpelled, fields_with, request_of}
 use Rattle.book_model.specs.lines.Text.{line_text}
 use Rattle.book_model.specs.lines.Words.{shown_by}
+use Rattle.book_model.specs.programs.Programs.{Outcome, outcome, valued, void_at, open_at}
+use Rattle.book_model.specs.sky.Facts.{run_of}
 use Rattle.line_core.proofs.TextRead.{text_is_read}
+use Rattle.printed_rows.specs.Counting.{is_refused}
 use Rattle.run_core.specs.Laws.{HasNoRefusal}
-use Rattle.run_core.specs.Sampling.{is_refused}
 
 -- the request for a day number
 abbrev day_request : ℕ → ToWord → Request
 day_request n to = record { from = from.Fixed; date = fields_with (n ∷ []); to = to }
-
--- ---- what a line comes to
 
 -- what is shown of an inquiry's result is a result
 shown_found : (n : ℕ) (seen : List (Fact × ℤ)) (i : Inquiry Fields) (to : ToWord) (x : Resolved) (es : List (Fact × ℤ))
@@ -77,23 +74,26 @@ request_not_refused n to (resolved x es) day h =
     let shown : is_shown x ≡ true = result_shown 40 to (shown_by to) (pos n) x es (rw (day_rule n to day) at result) in
     rw shown refl
 
--- the line of a state is read as its request, which breaks no rule
-sample_row : (state index : ℕ) (o : LineOutcome) → IsSpelled (sample_line_of state index) → IsRightFor WRITTEN (line_text (sample_line_of state index)) o
-    → IsRightForRow WRITTEN (Ok (sample_line_of state index)) o
-sample_row state index o s h = rw (text_is_read WRITTEN (sample_line_of state index) s, sample_checked state index) at h
+-- the line of a state asks its request
+sample_again : (state index : ℕ) → IsSpelled (sample_line_of state index) → request_of WRITTEN (line_text (sample_line_of state index))
+    ≡ Ok (sample_line_of state index)
+sample_again state index spelled = text_is_read WRITTEN (sample_line_of state index) spelled ∙ sample_checked state index
 
-sample_not_refused : (state index : ℕ) (o : LineOutcome) → IsRightForRow WRITTEN (Ok (sample_line_of state index)) o → is_refused o ≡ false
+request_of_state : (state index : ℕ) (o : LineOutcome) → IsRightForRow WRITTEN (Ok (sample_line_of state index)) o → is_refused o ≡ false
 unfolding sample_line_of
-sample_not_refused state index o h = request_not_refused (day_by state) (asked_at index) o (sample_day state) h
+request_of_state state index o h = request_not_refused (day_by state) (asked_at index) o (sample_day state) h
 
-none_refused : (many state index : ℕ) (os : List LineOutcome) → AreSpelled (requests_from state index many) → AreRight WRITTEN (sample_from state index many) os
-    → length (filter is_refused os) ≡ 0
-none_refused zero state index [] s h = refl
-none_refused zero state index (o ∷ os) s h = absurd h
-none_refused (suc many) state index [] s h = absurd h
-none_refused (suc many) state index (o ∷ os) s h =
-    rw (sample_not_refused (state_after state) index o (sample_row (state_after state) index o s.0 h.0))
-    (none_refused many (state_after state) (index + 1) os s.1 h.1)
+sample_not_refused : (state index : ℕ) (o : LineOutcome) → IsSpelled (sample_line_of state index)
+    → IsRightFor WRITTEN (line_text (sample_line_of state index)) o → is_refused o ≡ false
+sample_not_refused state index o spelled h = request_of_state state index o (rw (sample_again state index spelled) at h)
+
+none_refused : (many state index : ℕ) (os : List LineOutcome) → AreSpelled (sample_from state index many)
+    → AreRight WRITTEN (map line_text (sample_from state index many)) os → length (filter is_refused os) ≡ 0
+none_refused zero state index [] spelled h = refl
+none_refused zero state index (o ∷ os) spelled h = absurd h
+none_refused (suc many) state index [] spelled h = absurd h
+none_refused (suc many) state index (o ∷ os) spelled h =
+    rw (sample_not_refused (state_after state) index o spelled.0 h.0) (none_refused many (state_after state) (index + 1) os spelled.1 h.1)
 
 pub no_refusal : (count seed : ℕ) → HasNoRefusal count seed
 no_refusal count seed = λ os h. none_refused count seed 0 os (sample_spelled count seed) h

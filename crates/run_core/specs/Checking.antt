@@ -5,7 +5,7 @@ use Rattle.std.specs.declared.option.Option.{Option}
 use Rattle.std.specs.Io.KnownBytes.{Appends}
 use Rattle.oracle_core.specs.declared.evaluator.Answer.{Answer}
 use Rattle.cert_read.specs.declared.lines.CertFile.{CertFile}
-use Rattle.cert_read.specs.Reading.{grammar_of, file, bad}
+use Rattle.cert_read.specs.Reading.{Reading, grammar_of, file, bad}
 use Rattle.byte_streams.specs.Stream.{AppendsFront}
 use Rattle.cert_check.specs.declared.verdict.Verdict.{Verdict}
 use Rattle.cert_check.specs.declared.verdict.Verdict.TheVariants.{Yes, No, Skip}
@@ -32,7 +32,7 @@ is_skip Skip = true
 
 -- the verdicts of the lines of a file, by an answer for each of its facts
 abbrev pub verdicts_of : CertFile → List Answer → List Verdict
-verdicts_of f answers = map (verdict_of f.facts answers) f.lines
+verdicts_of f answers = map (verdict_of f.version f.facts answers) f.lines
 
 -- verdicts, of which the first has the number after this count
 abbrev pub verdicts_after : ℕ → List Verdict → List ℕ
@@ -58,7 +58,8 @@ pub record ChecksFile (old new : Option (List ℕ)) (f : CertFile) (all_yes : Bo
   pub right : AreRightAnswers f.facts answers
   pub written : Appends old new (verdicts_text (verdicts_of f answers))
   pub yes : all_yes ≡ list_all is_yes (verdicts_of f answers)
-  pub certified : (i : ℕ) → i < length f.lines → verdict_of f.facts answers (line_at f i) ≡ Yes → IsCertifiedLine f.facts (line_at f i)
+  pub certified : (i : ℕ) → i < length f.lines → verdict_of f.version f.facts answers (line_at f i) ≡ Yes
+      → IsCertifiedLine f.version f.facts (line_at f i)
 
 -- a front of such a text stands there
 pub record CutsFile (old new : Option (List ℕ)) (f : CertFile) : Type 0 where
@@ -72,18 +73,18 @@ pub record ChecksText (old new : Option (List ℕ)) (input : List ℕ) (all_yes 
   pub read : grammar_of input ≡ file of
   pub checks : ChecksFile old new of all_yes
 
--- the bytes aren't in the grammar, and the line that names the first bad line and its first broken rule stands there
-pub record RefusesText (old new : Option (List ℕ)) (input : List ℕ) : Type 0 where
+-- bytes are read as none of a file, and the line that names the first bad line and its first broken rule stands there
+pub record RefusesText (reading : Reading) (old new : Option (List ℕ)) : Type 0 where
   pub line : ℕ
   pub rule : ℕ
-  pub read : grammar_of input ≡ bad line rule
+  pub read : reading ≡ bad line rule
   pub written : Appends old new (bad_text line rule)
 
 -- what comes of checking bytes
 abbrev pub Comes : Option (List ℕ) → Option (List ℕ) → List ℕ → Checked → Type 0
 Comes old new input AllYes = ChecksText old new input true
 Comes old new input NotAll = ChecksText old new input false
-Comes old new input BadText = RefusesText old new input
+Comes old new input BadText = RefusesText (grammar_of input) old new
 
 -- a front of what is written for the bytes stands there
 pub data CheckCutShort (old new : Option (List ℕ)) (input : List ℕ) : Type 0 where

@@ -9,8 +9,8 @@ use Rattle.book_model.specs.sky.Facts.{IsNear, IsVoidAt}
 use Rattle.book_model.specs.lines.Outcomes.{LineOutcome, refused, IsRightFor, AreRight, RowAsks, is_resolved}
 use Rattle.book_model.specs.lines.Requests.{request_of}
 use Rattle.cert_text.specs.Laws.{HasNoneUndecided}
-use Rattle.run_core.specs.Sampling.{is_refused, sample_text}
-use Rattle.almanac_lines.specs.Texts.{sample_lines}
+use Rattle.printed_rows.specs.Counting.{is_refused, sample_text}
+use Rattle.run_core.specs.Commands.{sample_lines}
 
 -- no fact that the line asks is near at a test or void
 pub record IsDecided (line : List ℕ) : Type 0 where

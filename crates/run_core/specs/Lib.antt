@@ -1,7 +1,6 @@
 pub mod Run
 pub mod Laws
-pub mod Numbering
 pub mod Commands
-pub mod Sampling
+pub mod Works
 pub mod Checking
-pub mod Writing
+pub mod Upgrading

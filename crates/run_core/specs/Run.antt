@@ -1,24 +1,25 @@
 -- How a run ends, and what it has done.
-use Rattle.std.specs.Prelude.{◌≡◌, ◌<◌, ◌≤◌, ℕ, Bool, true, false, List, [], length, codes, None, Some, Result, Ok, Err}
-use Rattle.std.specs.List.{list_all}
+use Rattle.std.specs.Prelude.{◌≡◌, ◌<◌, ◌≤◌, ℕ, Bool, true, false, List, [], length, map, None, Some, Result, Ok, Err}
 use Rattle.std.specs.declared.option.Option.{Option}
-use Rattle.std.specs.Io.KnownBytes.{Appends, Consumes, IsAtEnd}
-use Rattle.book_model.specs.declared.version.TheConstants.{WRITTEN}
+use Rattle.std.specs.Io.KnownBytes.{Consumes, IsAtEnd}
 use Rattle.book_model.specs.lines.Lines.{lines_of}
-use Rattle.book_model.specs.lines.Outcomes.{LineOutcome, AreRight, is_result}
-use Rattle.book_model.specs.lines.Text.{text}
-use Rattle.run_core.specs.Commands.{Input, whole, nothing}
-use Rattle.run_core.specs.Checking.{ChecksText, CheckCutShort}
-use Rattle.run_core.specs.Sampling.{Sampled, SampleCutShort}
-use Rattle.almanac_lines.specs.Texts.{almanac_lines}
+use Rattle.book_model.specs.lines.Text.{line_text}
+use Rattle.printed_rows.specs.Printing.{Printed, CutShort}
+use Rattle.printed_rows.specs.Counting.{Counted, CountCutShort}
+use Rattle.run_core.specs.Commands.{Input, whole, nothing, Lines, given, made, Work, print, count, judge, renew, work_of, sample_lines}
+use Rattle.cert_read.specs.Reading.{grammar_of}
+use Rattle.run_core.specs.Checking.{ChecksText, CheckCutShort, RefusesText}
+use Rattle.run_core.specs.Upgrading.{Upgrades, UpgradeCutShort, upgradable}
 use Rattle.command_words.specs.declared.command.Command.{Command}
-use Rattle.command_words.specs.declared.command.Command.TheVariants.{Convert, Check, Almanac, Sample}
-use Rattle.run_core.specs.declared.text.WriteStop.{WriteStop}
-use Rattle.run_core.specs.declared.text.WriteStop.TheVariants as stop
-use Rattle.run_core.specs.declared.text.WriteStop.TheVariants.{Fault}
+use Rattle.run_core.specs.declared.check.Checked.{Checked}
+use Rattle.run_core.specs.declared.check.Checked.TheVariants as checked
+use Rattle.run_core.specs.declared.check.Checked.TheVariants.{AllYes, NotAll}
+use Rattle.printed_rows.specs.declared.text.WriteStop.{WriteStop}
+use Rattle.printed_rows.specs.declared.text.WriteStop.TheVariants as stop
+use Rattle.printed_rows.specs.declared.text.WriteStop.TheVariants.{Fault}
+use Rattle.run_core.specs.declared.program.TheConstants.{USAGE}
 use Rattle.run_core.specs.declared.status.Status.{Status}
 use Rattle.run_core.specs.declared.status.Status.TheVariants.{Done, Mixed, Words, ReadFault, WriteFault, Memory, TooLarge, BadText}
-use Rattle.byte_streams.specs.Stream.{AppendsFront}
 
 -- the number of a status, with which the program exits
 abbrev pub status_number : Status → ℕ
@@ -33,20 +34,7 @@ status_number BadText = 7
 
 -- the line that is written where the words are in no form
 abbrev pub usage : List ℕ
-usage = codes "usage: calendrica convert | check | almanac YEAR | sample COUNT SEED [--jobs N]\n"
-
--- the whole text stands behind what the sink held, each outcome right for its line
-pub record Printed (old new : Option (List ℕ)) (lines : List (List ℕ)) (all_results : Bool) : Type 0 where
-  pub outcomes : List LineOutcome
-  pub right : AreRight WRITTEN lines outcomes
-  pub written : Appends old new (text lines outcomes)
-  pub results : all_results ≡ list_all is_result outcomes
-
--- a front of such a text stands there
-pub record CutShort (old new : Option (List ℕ)) (lines : List (List ℕ)) : Type 0 where
-  pub outcomes : List LineOutcome
-  pub right : AreRight WRITTEN lines outcomes
-  pub front : AppendsFront old new (text lines outcomes)
+usage = USAGE.now
 
 -- the source gave these bytes and no more, and they are within the limit
 pub record ReadWhole (old new : Option (List ℕ)) (limit : ℕ) (input : List ℕ) : Type 0 where
@@ -84,20 +72,44 @@ abbrev pub IsPast : Input → List ℕ → Type 0
 IsPast (whole limit) taken = limit < length taken
 IsPast nothing taken = ⊥
 
--- what a command has done with an input: the text of its lines stands there, or the verdicts of a printed file, or, with no input,
--- the text of the lines of an almanac, or the counts of those of a sample
+-- the lines that are printed, by the input
+abbrev pub lines_in : Lines → List ℕ → List (List ℕ)
+lines_in given input = lines_of input
+lines_in (made requests) input = map line_text requests
+
+-- what work has done with an input: the text of lines stands there, or the counts of a sample's lines, or the verdicts of a printed
+-- file, or the text that it is upgraded to
+abbrev pub IsDone : Work → Option (List ℕ) → Option (List ℕ) → List ℕ → Bool → Type 0
+IsDone (print lines) old new input all = Printed old new (lines_in lines input) all
+IsDone (count n seed) old new input all = Counted old new (sample_lines n seed) n seed all
+IsDone judge old new input all = ChecksText old new input all
+IsDone renew old new input all = Upgrades old new input all
+
+-- a front of what work writes for an input stands there
+abbrev pub IsCutOff : Work → Option (List ℕ) → Option (List ℕ) → List ℕ → Type 0
+IsCutOff (print lines) old new input = CutShort old new (lines_in lines input)
+IsCutOff (count n seed) old new input = CountCutShort old new (sample_lines n seed) n seed
+IsCutOff judge old new input = CheckCutShort old new input
+IsCutOff renew old new input = UpgradeCutShort old new input
+
+-- the input isn't such a file as work takes, and the line that says why stands there
+abbrev pub IsRefused : Work → Option (List ℕ) → Option (List ℕ) → List ℕ → Type 0
+IsRefused (print lines) old new input = ⊥
+IsRefused (count n seed) old new input = ⊥
+IsRefused judge old new input = RefusesText (grammar_of input) old new
+IsRefused renew old new input = RefusesText (upgradable input) old new
+
+-- what a command has done with an input
 abbrev pub Finishes : Command → Option (List ℕ) → Option (List ℕ) → List ℕ → Bool → Type 0
-Finishes Convert old new input all = Printed old new (lines_of input) all
-Finishes Check old new input all = ChecksText old new input all
-Finishes (Almanac year) old new input all = Printed old new (almanac_lines year) all
-Finishes (Sample count seed) old new input all = Sampled old new count seed all
+Finishes command old new input all = IsDone (work_of command) old new input all
 
 -- a front of what the command writes for an input stands there
 abbrev pub IsCut : Command → Option (List ℕ) → Option (List ℕ) → List ℕ → Type 0
-IsCut Convert old new input = CutShort old new (lines_of input)
-IsCut Check old new input = CheckCutShort old new input
-IsCut (Almanac year) old new input = CutShort old new (almanac_lines year)
-IsCut (Sample count seed) old new input = SampleCutShort old new count seed
+IsCut command old new input = IsCutOff (work_of command) old new input
+
+-- the input isn't such a file as the command takes, and the line that says why stands there
+abbrev pub Refuses : Command → Option (List ℕ) → Option (List ℕ) → List ℕ → Type 0
+Refuses command old new input = IsRefused (work_of command) old new input
 
 -- how a run ends whose lines were written, with results in all or not, or that stopped there
 abbrev pub ended : Result Bool WriteStop → Status
@@ -105,6 +117,15 @@ ended (Ok true) = Done
 ended (Ok false) = Mixed
 ended (Err Fault) = WriteFault
 ended (Err stop.Memory) = Memory
+
+-- how work on a printed file ends: with each verdict yes or each line a result, or not, with bytes that aren't such a file, or where
+-- it stopped
+abbrev pub check_ended : Result Checked WriteStop → Status
+check_ended (Ok AllYes) = Done
+check_ended (Ok NotAll) = Mixed
+check_ended (Ok checked.BadText) = BadText
+check_ended (Err Fault) = WriteFault
+check_ended (Err stop.Memory) = Memory
 
 -- a status that comes once the input was read
 abbrev pub IsOfWork : Status → Type 0

@@ -1,27 +1,25 @@
 //! Checks a printed file: a verdict for each of its lines, and how many there are of each kind.
-ghost use Rattle.std.specs.Prelude.{◌≡◌, ◌≤◌, ◌<◌, ◌+◌, ◌++◌, ◌⊎◌, [], length, map, filter, OnOk, IfOk, IsErrOf};
+ghost use Rattle.std.specs.Prelude.{◌≡◌, ◌≤◌, ◌+◌, ◌++◌, length, map, filter, OnOk, IfOk, IsErrOf};
 ghost use Rattle.std.specs.List.{list_all};
-ghost use Rattle.std.specs.Io.KnownBytes.{Keeps};
 ghost use Rattle.cert_check.specs.Verdicts.{AreRightAnswers, IsCheckable};
 ghost use Rattle.cert_read.specs.declared.read.TheConstants.{LONGEST_FILE as longest_file};
 ghost use Rattle.byte_streams.specs.Stream.{Rose, Writes, Wrote};
-ghost use Rattle.run_core.specs.Writing.{WritesAll, WritesFront};
+ghost use Rattle.printed_rows.specs.Writing.{Performs, WritesAll, WritesFront};
 ghost use Rattle.run_core.specs.Checking as spec;
 
-use crate::numbering::{count_of, number_after};
-use crate::pending::{MANY, settle};
-use crate::text::WriteStop;
 use book_model::Fact;
 use byte_streams::{Failed, Gathered, Sink, write_two_counts};
 use cert_check::{Verdict, check_line, write_counts, write_verdict};
 use cert_read::{CertFile, ReadFail, read_file};
-use jobs_core::{Gate, map_facts};
+use jobs_core::{Gate, Tools, map_facts};
 use oracle_core::{Answers, Evaluator};
+use printed_rows::{MANY, WriteStop, count_of, number_after, write_if_many};
 use shelf_core::Shelf;
 use std::alloc::{AllocError, Global};
 use std::thread::Threads;
 
-/// What comes of checking bytes: every verdict is yes, or one isn't, or the bytes aren't a printed file.
+/// What comes of bytes that are to be a printed file: every verdict is yes, or every line a result; or one isn't; or the bytes
+/// aren't such a file.
 #[derive(Clone, Copy, Debug, PartialEq, Eq)]
 pub(crate) enum Checked {
     AllYes,
@@ -83,22 +81,24 @@ fn facts_among(alloc: Global, pairs: &[(Fact, i64)]) -> Result<Vec<Fact>, AllocE
     Ok(facts)
 }
 
-/// An answer for each fact of a file, in order, computed by so many jobs. The error comes where memory runs out.
+/// An answer for each fact of a file, in order. The error comes where memory runs out.
 fn answers_of<R: Threads + Sync, E: Evaluator + Sync, G: Gate + Sync>(
-    rt: &R,
-    alloc: Global,
+    tools: &Tools<'_, R, E, G>,
     file: &CertFile,
     shelf: &Shelf,
-    evaluator: &E,
-    jobs: usize,
-    gate: &G,
 ) -> Result<Answers, AllocError>
-    requires some { 1 ≤ jobs }
-    requires few { jobs ≤ 64 }
     ensures right { IfOk result (λ answers. AreRightAnswers file.now.facts answers) }
 {
-    let facts = facts_among(alloc, file.facts.entries())?;
-    map_facts(rt, alloc, &facts, shelf, evaluator, jobs, gate)
+    let facts = facts_among(tools.alloc, file.facts.entries())?;
+    map_facts(
+        tools.rt,
+        tools.alloc,
+        &facts,
+        shelf,
+        tools.evaluator,
+        tools.jobs,
+        tools.gate,
+    )
 }
 
 /// The verdicts of the lines of a file, in order. The error comes where memory runs out.
@@ -137,7 +137,7 @@ fn put_verdict<K: Sink>(
     let number = number_after(count)?;
     match write_verdict(pending, number, verdict) {
         Ok(()) => {
-            settle(sink, pending, MANY)?;
+            write_if_many(sink, pending, MANY)?;
             Ok(())
         }
         Err(Failed) => Err(WriteStop::Memory),
@@ -164,7 +164,7 @@ fn put_counts<K: Sink>(
     let skip = count_of(counts.skip)?;
     match write_counts(pending, yes, no, skip) {
         Ok(()) => {
-            settle(sink, pending, 0)?;
+            write_if_many(sink, pending, 0)?;
             Ok(())
         }
         Err(Failed) => Err(WriteStop::Memory),
@@ -192,7 +192,7 @@ fn write_verdicts<K: Sink>(
 
 /// Writes the line that names the first bad line of bytes, and the rule that it breaks.
 #[tactic(auto, unfolding(crate::specs::Checking::bad_text))]
-fn write_bad<K: Sink>(sink: &mut K, line: u32, rule: u8) -> Result<(), Failed>
+pub(crate) fn write_bad<K: Sink>(sink: &mut K, line: u32, rule: u8) -> Result<(), Failed>
     ensures { Writes K.written K.faults sink.old sink.new (spec.bad_text line rule) result }
 {
     write_two_counts(sink, b"bad ", line, b" ", u32::from(rule))
@@ -200,61 +200,37 @@ fn write_bad<K: Sink>(sink: &mut K, line: u32, rule: u8) -> Result<(), Failed>
 
 /// Writes the verdicts of the lines of a file, and says whether all are yes.
 fn check_file<R: Threads + Sync, K: Sink, E: Evaluator + Sync, G: Gate + Sync>(
-    rt: &R,
-    alloc: Global,
+    tools: &Tools<'_, R, E, G>,
     sink: &mut K,
-    evaluator: &E,
     file: &CertFile,
-    jobs: usize,
-    gate: &G,
 ) -> Result<bool, WriteStop>
-    requires some { 1 ≤ jobs }
-    requires few { jobs ≤ 64 }
     requires checkable { IsCheckable file.now }
-    ensures ok { IfOk result (λ all. spec.ChecksFile (K.written sink.old)
-        (K.written sink.new) file.now all) }
-    ensures fault { IsErrOf result WriteStop.Fault → spec.CutsFile (K.written sink.old)
-        (K.written sink.new) file.now }
-    ensures memory { IsErrOf result WriteStop.Memory →
-        Keeps (K.written sink.old) (K.written sink.new)
-        ⊎ spec.CutsFile (K.written sink.old) (K.written sink.new) file.now }
-    ensures cause { IsErrOf result WriteStop.Fault → Rose (K.faults sink.old) (K.faults sink.new) }
-    ensures later { K.faults sink.old ≤ K.faults sink.new }
+    ensures performs { Performs K.written K.faults sink.old sink.new
+        (spec.ChecksFile (K.written sink.old) (K.written sink.new) file.now)
+        (spec.CutsFile (K.written sink.old) (K.written sink.new) file.now) result }
 {
-    let shelf = Shelf::open(alloc)?;
-    let answers = answers_of(rt, alloc, file, &shelf, evaluator, jobs, gate)?;
-    let verdicts = verdicts_of(alloc, file, &answers)?;
-    write_verdicts(alloc, sink, &verdicts)?;
+    let shelf = Shelf::open(tools.alloc)?;
+    let answers = answers_of(tools, file, &shelf)?;
+    let verdicts = verdicts_of(tools.alloc, file, &answers)?;
+    write_verdicts(tools.alloc, sink, &verdicts)?;
     Ok(all_yes(&verdicts))
 }
 
-#[tactic(auto, using(cert_check::proofs::FilesRead::read_checkable))]
 /// Checks bytes, whoever made them: writes the verdicts of the lines of a printed file, or the line that says why they
 /// are none.
 pub(crate) fn check<R: Threads + Sync, K: Sink, E: Evaluator + Sync, G: Gate + Sync>(
-    rt: &R,
-    alloc: Global,
+    tools: &Tools<'_, R, E, G>,
     sink: &mut K,
-    evaluator: &E,
     input: &[u8],
-    jobs: usize,
-    gate: &G,
 ) -> Result<Checked, WriteStop>
-    requires some { 1 ≤ jobs }
-    requires few { jobs ≤ 64 }
     requires short { length input.now ≤ longest_file }
-    ensures ok { IfOk result (λ c. spec.Comes (K.written sink.old) (K.written sink.new) input.now c) }
-    ensures fault { IsErrOf result WriteStop.Fault → spec.CheckCutShort (K.written sink.old)
-        (K.written sink.new) input.now }
-    ensures memory { IsErrOf result WriteStop.Memory →
-        Keeps (K.written sink.old) (K.written sink.new)
-        ⊎ spec.CheckCutShort (K.written sink.old) (K.written sink.new) input.now }
-    ensures cause { IsErrOf result WriteStop.Fault → Rose (K.faults sink.old) (K.faults sink.new) }
-    ensures later { K.faults sink.old ≤ K.faults sink.new }
+    ensures performs { Performs K.written K.faults sink.old sink.new
+        (spec.Comes (K.written sink.old) (K.written sink.new) input.now)
+        (spec.CheckCutShort (K.written sink.old) (K.written sink.new) input.now) result }
 {
-    match read_file(alloc, input) {
+    match read_file(tools.alloc, input) {
         Ok(file) => {
-            let is_right = check_file(rt, alloc, sink, evaluator, &file, jobs, gate)?;
+            let is_right = check_file(tools, sink, &file)?;
             Ok(if is_right {
                 Checked::AllYes
             } else {

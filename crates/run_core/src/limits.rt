@@ -5,13 +5,23 @@ ghost use Rattle.run_core.specs.Commands as spec;
 use cert_read::LONGEST_FILE;
 use command_words::Command;
 
+/// How many bytes an input of a command may have, where the command reads one.
+pub(crate) fn limit_read(command: Command) -> Option<usize>
+    ensures input { spec.input_of command ≡ spec.input_within result }
+{
+    match command {
+        Command::Convert => Some(4_194_304),
+        Command::Check | Command::Upgrade => Some(LONGEST_FILE),
+        Command::Almanac { .. } | Command::Sample { .. } => None,
+    }
+}
+
 /// How many bytes an input of a command may have: none where the command reads nothing.
 pub fn input_limit(command: Command) -> usize
     ensures limit { result ≡ spec.limit_of command }
 {
-    match command {
-        Command::Convert => 4_194_304,
-        Command::Check => LONGEST_FILE,
-        Command::Almanac { .. } | Command::Sample { .. } => 0,
+    match limit_read(command) {
+        Some(limit) => limit,
+        None => 0,
     }
 }

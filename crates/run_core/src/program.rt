@@ -1,28 +1,27 @@
 //! The top call: all that the program does.
 ghost use Rattle.std.specs.Prelude.{◌≡◌, ◌≤◌, ◌⊎◌, ℕ, true, false, List, map, length, Some, None, string_bytes, IfOk, IsOk, IsErrOf};
 ghost use Rattle.std.specs.Io.KnownBytes.{Appends, Consumes, Keeps};
-ghost use Rattle.run_core.specs.Checking.{RefusesText};
 ghost use Rattle.command_words.specs.Words.{command_of as named, IsInRange};
 ghost use Rattle.run_core.specs.Commands.{input_of, limit_of, nothing};
-ghost use Rattle.run_core.specs.Run.{usage, Finishes, IsCut, IsOfWork, HasRead, CanRead, IsTooLarge, IsPast, ended};
+ghost use Rattle.run_core.specs.Run.{usage, Finishes, IsCut, Refuses, IsOfWork, HasRead, CanRead, IsTooLarge, IsPast, ended, check_ended};
 ghost use Rattle.byte_streams.specs.Stream.{Rose, AppendsFront};
 
 use crate::check::{Checked, check};
-use crate::limits::input_limit;
-use crate::printing::{almanac, convert};
-use crate::sampling::sample;
+use crate::limits::limit_read;
 use crate::status::Status;
-use crate::text::WriteStop;
+use crate::upgrade::upgrade;
+use crate::work::{Work, work_of};
 use byte_streams::{ReadStop, Sink, Source, read_all, write_all};
 use command_words::{Command, NoCommand, order_of};
-use jobs_core::Gate;
+use jobs_core::{Gate, Tools};
 use oracle_core::Evaluator;
-use std::alloc::Global;
+use printed_rows::{Rows, WriteStop, count, print};
+use std::alloc::{AllocError, Global};
 use std::thread::Threads;
 
 /// The line that is written where the words are in no form.
-const USAGE: &[u8] =
-    b"usage: calendrica convert | check | almanac YEAR | sample COUNT SEED [--jobs N]\n";
+pub const USAGE: &str =
+    "usage: calendrica convert | check | almanac YEAR | sample COUNT SEED | upgrade [--jobs N]\n";
 
 /// How a run ends whose lines were written, with results in all or not, or that stopped there.
 fn status_of(written: Result<bool, WriteStop>) -> Status
@@ -57,33 +56,41 @@ fn read_input<S: Source>(
     ensures later { S.faults source.old ≤ S.faults source.new }
     ensures unread { input_of command ≡ nothing → source.new ≡ source.old }
 {
-    match command {
-        Command::Convert | Command::Check => read_all(alloc, source, input_limit(command)),
-        Command::Almanac { .. } | Command::Sample { .. } => Ok(Vec::new(alloc)),
+    match limit_read(command) {
+        Some(limit) => read_all(alloc, source, limit),
+        None => Ok(Vec::new(alloc)),
+    }
+}
+
+/// How work on a printed file ends: with each verdict yes or each line a result, or not, with bytes that aren't such a file, or
+/// where it stopped.
+fn status_of_check(checked: Result<Checked, WriteStop>) -> Status
+    ensures status { result ≡ check_ended checked }
+{
+    match checked {
+        Ok(Checked::AllYes) => Status::Done,
+        Ok(Checked::NotAll) => Status::Mixed,
+        Ok(Checked::BadText) => Status::BadText,
+        Err(WriteStop::Fault) => Status::WriteFault,
+        Err(WriteStop::Memory) => Status::Memory,
     }
 }
 
 /// Does what a command says with an input that was read whole.
-fn perform<R: Threads + Sync, K: Sink, E: Evaluator + Sync, G: Gate + Sync>(
-    rt: &R,
-    alloc: Global,
-    command: Command,
+fn obey<R: Threads + Sync, K: Sink, E: Evaluator + Sync, G: Gate + Sync>(
+    tools: &Tools<'_, R, E, G>,
     sink: &mut K,
-    evaluator: &E,
+    command: Command,
     input: &[u8],
-    jobs: usize,
-    gate: &G,
 ) -> Status
-    requires some { 1 ≤ jobs }
-    requires few { jobs ≤ 64 }
     requires short { length input.now ≤ limit_of command }
     requires ranges { IsInRange command }
     ensures done { result ≡ Status.Done → Finishes command (K.written sink.old)
         (K.written sink.new) input.now true }
     ensures mixed { result ≡ Status.Mixed → Finishes command (K.written sink.old)
         (K.written sink.new) input.now false }
-    ensures bad_text { result ≡ Status.BadText → (command ≡ Command.Check)
-        × RefusesText (K.written sink.old) (K.written sink.new) input.now }
+    ensures bad_text { result ≡ Status.BadText → Refuses command (K.written sink.old)
+        (K.written sink.new) input.now }
     ensures cut { result ≡ Status.WriteFault → IsCut command (K.written sink.old)
         (K.written sink.new) input.now }
     ensures memory { result ≡ Status.Memory →
@@ -93,21 +100,18 @@ fn perform<R: Threads + Sync, K: Sink, E: Evaluator + Sync, G: Gate + Sync>(
     ensures later { K.faults sink.old ≤ K.faults sink.new }
     ensures work { IsOfWork result }
 {
-    match command {
-        Command::Convert => status_of(convert(rt, alloc, sink, evaluator, input, jobs, gate)),
-        Command::Almanac { year } => status_of(almanac(
-            rt, alloc, sink, evaluator, year, jobs, gate,
-        )),
-        Command::Sample { count, seed } => status_of(sample(
-            rt, alloc, sink, evaluator, count, seed, jobs, gate,
-        )),
-        Command::Check => match check(rt, alloc, sink, evaluator, input, jobs, gate) {
-            Ok(Checked::AllYes) => Status::Done,
-            Ok(Checked::NotAll) => Status::Mixed,
-            Ok(Checked::BadText) => Status::BadText,
-            Err(WriteStop::Fault) => Status::WriteFault,
-            Err(WriteStop::Memory) => Status::Memory,
-        },
+    match work_of(tools.alloc, command, input) {
+        Ok(Work::Print(rows)) => status_of(print(tools, sink, &rows)),
+        Ok(
+            Work::Count {
+                rows,
+                count: many,
+                seed,
+            },
+        ) => { status_of(count(tools, sink, &rows, many, seed)) }
+        Ok(Work::Judge) => status_of_check(check(tools, sink, input)),
+        Ok(Work::Renew) => status_of_check(upgrade(tools, sink, input)),
+        Err(AllocError) => Status::Memory,
     }
 }
 
@@ -120,7 +124,7 @@ fn refuse_words<K: Sink>(sink: &mut K) -> Status
     ensures cause { result ≡ Status.WriteFault → Rose (K.faults sink.old) (K.faults sink.new) }
     ensures later { K.faults sink.old ≤ K.faults sink.new }
 {
-    match write_all(sink, USAGE) {
+    match write_all(sink, USAGE.as_bytes()) {
         Ok(()) => Status::Words,
         Err(_) => Status::WriteFault,
     }
@@ -128,14 +132,15 @@ fn refuse_words<K: Sink>(sink: &mut K) -> Status
 
 /// All that the program does: looks at its words, reads the whole input, computes, and writes. The words name a command:
 /// `convert`, which writes what each line of the input comes to; `check`, which writes a verdict for each line of a printed
-/// file, whoever made it; `almanac YEAR`, which writes what the lines of an almanac come to; or `sample COUNT SEED`, which
-/// writes one line of counts of what the lines of a sample come to. The last two read nothing. Other words are answered by a
-/// usage line.
+/// file, whoever made it; `upgrade`, which writes what the lines of a printed file of an older version come to by the version that
+/// is written; `almanac YEAR`, which writes what the lines of an almanac come to; or `sample COUNT SEED`, which writes one line of
+/// counts of what the lines of a sample come to. The last two read nothing. Other words are answered by a usage line.
 ///
 /// `Done` says that each line has a result, or that each verdict is yes, `Mixed` that some line or verdict isn't so,
 /// `Words` that the words are in no form and the usage line is written, `ReadFault` and `WriteFault` that a read or a
 /// write failed, `Memory` that memory ran out, `TooLarge` that the input has more bytes than the limit (4,194,304, or
-/// 268,435,456 under `check`), and `BadText` that the bytes to check aren't in the grammar, and a line says why.
+/// 268,435,456 under `check` and `upgrade`), and `BadText` that the bytes to check aren't in the grammar, or those to upgrade no
+/// file of an older version, and a line says why.
 ///
 /// What lines, or the facts of a printed file, come to is computed in as many pieces as the words give by `--jobs`, 1 to 64, or
 /// in one. Each piece is worked in a thread of its own where one can be had, and `gate` is told as it begins; verdicts,
@@ -161,12 +166,12 @@ pub fn run<R: Threads + Sync, S: Source, K: Sink, E: Evaluator + Sync, G: Gate +
         × (named (map string_bytes words.now) ≡ Some c)
         × (input : List ℕ) × HasRead (input_of c) (S.left source.old) (S.left source.new) input
         × Finishes c (K.written sink.old) (K.written sink.new) input false }
-    // BadText comes only under `check`, where the bytes read to their end aren't in the grammar.
-    ensures bad_text { result ≡ Status.BadText → (named (map string_bytes words.now)
-        ≡ Some Command.Check)
-        × (input : List ℕ) × HasRead (input_of Command.Check) (S.left source.old)
-        (S.left source.new) input
-        × RefusesText (K.written sink.old) (K.written sink.new) input }
+    // BadText comes only under `check` and `upgrade`, where the bytes read to their end aren't in
+    // the grammar, or have the header that `upgrade` doesn't take.
+    ensures bad_text { result ≡ Status.BadText → (c : Command)
+        × (named (map string_bytes words.now) ≡ Some c)
+        × (input : List ℕ) × HasRead (input_of c) (S.left source.old) (S.left source.new) input
+        × Refuses c (K.written sink.old) (K.written sink.new) input }
     // Words comes exactly where the words are in no form, unless the usage line can't be written
     // or memory runs out. Nothing is read then.
     ensures words { result ≡ Status.Words → Appends (K.written sink.old) (K.written sink.new) usage }
@@ -228,7 +233,12 @@ pub fn run<R: Threads + Sync, S: Source, K: Sink, E: Evaluator + Sync, G: Gate +
         Err(ReadStop::Memory) => return Status::Memory,
         Err(ReadStop::TooLarge) => return Status::TooLarge,
     };
-    perform(
-        rt, alloc, command, sink, evaluator, &input, order.jobs, gate,
-    )
+    let tools = Tools {
+        rt,
+        alloc,
+        evaluator,
+        jobs: order.jobs,
+        gate,
+    };
+    obey(&tools, sink, command, &input)
 }

@@ -1,12 +1,16 @@
 //! Damaged files, and streams that fail at each of their calls, by one job and by eight.
 use super::jobs::{PERSIAN_TEXT, TWO_LINES};
+use super::upgrades::OLDER_TEXT;
 use super::{run_on, run_over, words_in};
 use run_core::{MemorySink, MemorySource, Status};
 use std::alloc::Global;
 use std::test::Fail;
 use std::thread::Threads;
 
+/// Files of version 1, but where one of version 2 is damaged.
 const HEADER: &str = "calendrica 1 depth 40\n";
+
+const WRITTEN_HEADER: &str = "calendrica 2 depth 40\n";
 
 const FIRST: &str = "fact 1 nowruz - 738965 738965\n";
 
@@ -20,9 +24,13 @@ const YES: &str = "yes 1\nend yes 1 no 0 skip 0\n";
 
 /// Files in parts, each with one damage, and what `check` writes for it.
 #[rattlefmt::skip]
-const DAMAGED: [([&str; 5], &str, Status); 14] = [
+const DAMAGED: [([&str; 5], &str, Status); 18] = [
     (["", "", "", "", ""], "bad 1 1\n", Status::BadText),
     (["calendrica 1 depth 41\n", FIRST, SECOND, LINE, END], "bad 1 1\n", Status::BadText),
+    (["calendrica 3 depth 40\n", FIRST, SECOND, LINE, END], "bad 1 1\n", Status::BadText),
+    ([HEADER, WRITTEN_HEADER, FIRST, LINE, END], "bad 2 2\n", Status::BadText),
+    ([WRITTEN_HEADER, HEADER, FIRST, LINE, END], "bad 2 2\n", Status::BadText),
+    ([WRITTEN_HEADER, FIRST, SECOND, LINE, END], YES, Status::Done),
     ([HEADER, FIRST, "fact 3 nowruz - 739145 738965\n", LINE, END], "bad 3 3\n", Status::BadText),
     ([HEADER, FIRST, "fact 2 nowruz - 738965 738965\n", LINE, END], "bad 3 4\n", Status::BadText),
     ([HEADER, FIRST, "fact 2 nowruz beijing 739145 738965\n", LINE, END], "bad 3 7\n", Status::BadText),
@@ -77,7 +85,7 @@ fn a_front_of_a_file_is_no_file(rt: HostRuntime) -> Result<(), Fail> {
 }
 
 /// Commands with their input, and how many calls of the source they make.
-const COMMANDS: [(&str, &str, u32); 8] = [
+const COMMANDS: [(&str, &str, u32); 10] = [
     ("convert --jobs 1", TWO_LINES, 2),
     ("convert --jobs 8", TWO_LINES, 2),
     ("check --jobs 1", PERSIAN_TEXT, 2),
@@ -86,6 +94,8 @@ const COMMANDS: [(&str, &str, u32); 8] = [
     ("almanac 2024 --jobs 8", "", 0),
     ("sample 14 1 --jobs 1", "", 0),
     ("sample 14 1 --jobs 8", "", 0),
+    ("upgrade --jobs 1", OLDER_TEXT, 2),
+    ("upgrade --jobs 8", OLDER_TEXT, 2),
 ];
 
 /// Runs a command whose source fails at one call and whose sink fails at another. Calls count from 1: at 0 none fails.

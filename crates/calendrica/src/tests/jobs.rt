@@ -19,7 +19,7 @@ use std::thread::Threads;
 const LOOKS: u32 = 200_000_000;
 
 /// What `convert` writes for `gregorian 2024-03-20 persian`.
-pub const PERSIAN_TEXT: &str = "calendrica 1 depth 40\n\
+pub const PERSIAN_TEXT: &str = "calendrica 2 depth 40\n\
     fact 1 nowruz - 738965 738965\n\
     fact 2 nowruz - 739145 738965\n\
     line 1 gregorian 2024-03-20 persian 1403-1-1 facts 1 2\n\
@@ -27,7 +27,7 @@ pub const PERSIAN_TEXT: &str = "calendrica 1 depth 40\n\
 
 pub const TWO_LINES: &str = "gregorian 2024-02-10 dt\ngregorian 2024-02-10 mayan\n";
 
-const TWO_LINES_TEXT: &str = "calendrica 1 depth 40\n\
+const TWO_LINES_TEXT: &str = "calendrica 2 depth 40\n\
     fact 1 dt - 738926 73871\n\
     line 1 gregorian 2024-02-10 dt 73871 facts 1\n\
     line 2 refused 2\n\
@@ -99,7 +99,7 @@ fn facts_meet<R: Threads + Sync>(rt: &R, alloc: Global) -> Result<bool, Fail> {
 }
 
 /// Whether a run over an input works two pieces at the same time and writes this text.
-fn run_meets<R: Threads + Sync>(
+pub fn run_meets<R: Threads + Sync>(
     rt: &R,
     alloc: Global,
     line: &str,

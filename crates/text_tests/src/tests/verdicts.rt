@@ -144,6 +144,83 @@ fn found_results_are_compared(rt: HostRuntime) -> Result<(), Fail> {
     Ok(())
 }
 
+/// A line that the rules of version 1 refuse and those of version 2 answer, with what its text is in a file of each.
+#[test]
+fn a_line_is_checked_by_the_version_of_its_file(rt: HostRuntime) -> Result<(), Fail> {
+    let alloc = rt.alloc();
+    for (line, by_one, by_two) in [
+        (
+            "gregorian 2048-12-31 fixed 748017 facts",
+            "yes 1\n",
+            "yes 1\n",
+        ),
+        (
+            "gregorian 2049-01-01 fixed 748018 facts",
+            "no 1 form 4\n",
+            "yes 1\n",
+        ),
+        (
+            "fixed 748018 gregorian 2049-01-01 facts",
+            "no 1 form 4\n",
+            "yes 1\n",
+        ),
+        (
+            "gregorian 1802-01-01 fixed 657802 facts",
+            "yes 1\n",
+            "yes 1\n",
+        ),
+        (
+            "gregorian 1801-12-31 fixed 657801 facts",
+            "no 1 form 4\n",
+            "yes 1\n",
+        ),
+        (
+            "fixed 657801 gregorian 1801-12-31 facts",
+            "no 1 form 4\n",
+            "yes 1\n",
+        ),
+        (
+            "gregorian 1702-01-01 fixed 621278 facts",
+            "no 1 form 4\n",
+            "yes 1\n",
+        ),
+        (
+            "gregorian 1701-12-31 fixed 621277 facts",
+            "no 1 form 4\n",
+            "no 1 form 4\n",
+        ),
+        (
+            "fixed 784541 gregorian 2148-12-31 facts",
+            "no 1 form 4\n",
+            "yes 1\n",
+        ),
+        (
+            "fixed 784542 gregorian 2149-01-01 facts",
+            "no 1 form 4\n",
+            "no 1 form 4\n",
+        ),
+        (
+            "persian 1428-1-1 gregorian 2049-03-20 facts",
+            "no 1 form 4\n",
+            "no 1 missing nowruz - 748276\n",
+        ),
+        (
+            "bahai 0-17-14-1-1 gregorian 1801-03-21 facts",
+            "no 1 form 4\n",
+            "no 1 missing bahai-year - 657333\n",
+        ),
+    ] {
+        for (number, want) in [(1, by_one), (2, by_two)] {
+            let text = format!(in alloc;
+                "calendrica {number} depth 40\nline 1 {line}\nend lines 1 facts 0\n"
+            )?;
+            let told = told(&rt, alloc, &text)?;
+            assert_eq!(rt; told.as_str(), want, "{text}");
+        }
+    }
+    Ok(())
+}
+
 #[test]
 fn the_first_reason_is_told(rt: HostRuntime) -> Result<(), Fail> {
     let alloc = rt.alloc();

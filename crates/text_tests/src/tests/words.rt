@@ -17,9 +17,11 @@ fn words_in_the_form_tell_a_command(rt: HostRuntime) -> Result<(), Fail> {
     for (line, command) in [
         ("convert", Command::Convert),
         ("check", Command::Check),
-        ("almanac 1803", Command::Almanac { year: 1803 }),
+        ("upgrade", Command::Upgrade),
+        ("upgrade --", Command::Upgrade),
+        ("almanac 1703", Command::Almanac { year: 1703 }),
         ("almanac 02024", Command::Almanac { year: 2024 }),
-        ("almanac 2047", Command::Almanac { year: 2047 }),
+        ("almanac 2147", Command::Almanac { year: 2147 }),
         (
             "almanac 00000000000000002024",
             Command::Almanac { year: 2024 },
@@ -64,13 +66,13 @@ fn words_in_the_form_tell_the_jobs(rt: HostRuntime) -> Result<(), Fail> {
 }
 
 /// Words that name no command.
-const NO_FORMS: [&str; 49] = [
+const NO_FORMS: [&str; 52] = [
     "",
     "almanac",
     "almanac 2024x",
     "almanac 2024 1",
-    "almanac 1802",
-    "almanac 2048",
+    "almanac 1702",
+    "almanac 2148",
     "almanac +2024",
     "almanac -2024",
     "almanac 000000000000000002024",
@@ -87,6 +89,9 @@ const NO_FORMS: [&str; 49] = [
     "sample 1 99999999999999999999",
     "sample 1 1 1",
     "convert extra",
+    "upgrade 1",
+    "upgrade 1 2",
+    "Upgrade",
     "convert ",
     "convert --jobs",
     "convert --jobs 0",

@@ -2,7 +2,7 @@ use Rattle.std.proofs.Common.{arith, ◌≤◌, length}
 use Rattle.byte_streams.proofs.Flow.{at_any_err}
 use Rattle.run_core.specs.Checking.{counts_of}
 use Rattle.run_core.proofs.CheckLemmas.{verdicts_on, verdicts_front, verdicts_end}
-use Rattle.run_core.proofs.TextLemmas.{text_ended, text_cut}
+use Rattle.printed_rows.proofs.TextLemmas.{text_ended, text_cut}
 use Rattle.run_core.proofs.check.write_verdicts.Goals as goal
 
 pub returns-in_err-put_verdict-clause-err : goal.returns-in_err-put_verdict-clause-err

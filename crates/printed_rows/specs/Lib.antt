@@ -1,0 +1,6 @@
+pub mod Rows
+pub mod Echoes
+pub mod Writing
+pub mod Printing
+pub mod Counting
+pub mod Renewing

@@ -1,0 +1,159 @@
+//! The text of rows while it is put together.
+ghost use Rattle.std.specs.Prelude.{◌≡◌, ◌<◌, ◌+◌, ◌++◌, ◌∷◌, [], ℕ, List, if◌then◌else◌, length, OnOk, IsOk, IsTrue};
+ghost use Rattle.std.specs.List.{list_any, position_or_len};
+ghost use Rattle.book_model.specs.calendars.Inquiries.{fact_eq};
+ghost use Rattle.book_model.specs.declared.fact.Fact.{Fact as FactOf};
+ghost use Rattle.book_model.specs.lines.Lines.{words_of};
+ghost use Rattle.book_model.specs.lines.Text as model;
+ghost use Rattle.cert_text.specs.Text as cert;
+ghost use Rattle.jobs_core.specs.Outcomes.{halt_outcome, line_outcome};
+ghost use Rattle.printed_rows.specs.Echoes.{CanEcho, MayStand, echoed_at, echoed_lines};
+
+use crate::echoes::Echoes;
+use crate::numbering::{number_after, number_fact};
+use book_model::Fact;
+use byte_streams::{Failed, Gathered};
+use cert_text::{CertLine, Numbers, write_fact, write_line, write_list, write_result};
+use indexmap::IndexSet;
+use jobs_core::{Finding, Halt, Outcome};
+use oracle_core::FactValues;
+use std::alloc::{AllocError, Global};
+
+/// The bytes that wait to be written, the facts that stand in the text, numbered in order of first use, and the numbers of the
+/// facts that a line rests on, a list that is cleared and used again.
+#[derive(Drop)]
+pub(crate) struct Page {
+    pub(crate) pending: Gathered,
+    pub(crate) seen: IndexSet<Fact>,
+    numbers: Numbers,
+}
+
+/// What is gathered in memory can't be gathered only where memory runs out.
+fn gathered(written: Result<(), Failed>) -> Result<(), AllocError>
+    ensures ok { OnOk result (IsOk written) }
+{
+    match written {
+        Ok(()) => Ok(()),
+        Err(Failed) => Err(AllocError),
+    }
+}
+
+/// The line of a row without a result.
+fn halted_line(halt: &Halt) -> CertLine
+    ensures text { (number : ℕ) (seen : List FactOf) (line : List ℕ) → cert.line_text number result
+        ≡ model.block_text seen number line (halt_outcome halt.now) }
+{
+    match *halt {
+        Halt::Undecided(fact, at) => CertLine::Undecided { fact, at },
+        Halt::Void(fact, site) => CertLine::Void { fact, site },
+    }
+}
+
+impl Page {
+    /// An empty page.
+    pub(crate) fn new(alloc: Global) -> Page
+        ensures pending { result.pending.bytes.items ≡ [] }
+        ensures seen { result.seen.keys ≡ [] }
+    {
+        Page {
+            pending: Gathered::new(alloc),
+            seen: IndexSet::new(alloc),
+            numbers: Numbers::new(alloc),
+        }
+    }
+
+    /// Puts a fact with its value, where it is new, and adds its number to those of the line.
+    fn put_fact(&mut self, entry: &(Fact, i64)) -> Result<(), AllocError>
+        ensures seen { OnOk result (self.new.seen.keys ≡ model.with_fact self.old.seen.keys
+            entry.now.0) }
+        ensures numbers { OnOk result (self.new.numbers ≡ self.old.numbers
+            ++ (position_or_len (fact_eq entry.now.0) self.old.seen.keys + 1) ∷ []) }
+        ensures text { OnOk result (self.new.pending.bytes.items ≡ self.old.pending.bytes.items
+            ++ (if list_any (fact_eq entry.now.0) self.old.seen.keys then []
+            else model.fact_text (length self.old.seen.keys + 1) entry.now.0 entry.now.1)) }
+    {
+        let numbered = number_fact(&mut self.seen, entry.0)?;
+        self.numbers.push(numbered.number)?;
+        if numbered.is_new {
+            gathered(write_fact(&mut self.pending, numbered.number, entry))
+        } else {
+            Ok(())
+        }
+    }
+
+    /// Puts the facts that are new, with their values; the numbers of the line are those of all.
+    fn put_facts(&mut self, facts: &FactValues) -> Result<(), AllocError>
+        ensures seen { OnOk result (self.new.seen.keys ≡ model.with_facts self.old.seen.keys
+            facts.now) }
+        ensures numbers { OnOk result (self.new.numbers ≡ model.numbers_of self.old.seen.keys
+            facts.now) }
+        ensures text { OnOk result (self.new.pending.bytes.items ≡ self.old.pending.bytes.items
+            ++ model.new_facts_text self.old.seen.keys facts.now) }
+    {
+        self.numbers.clear();
+        for entry in facts.entries() {
+            self.put_fact(entry)?;
+        }
+        Ok(())
+    }
+
+    /// Puts the new facts of a row with a result, and its line, which is written from the row's own words and the numbers.
+    fn put_found(
+        &mut self,
+        echoes: &Echoes<'_>,
+        index: usize,
+        finding: &Finding,
+    ) -> Result<(), AllocError>
+        requires can { CanEcho echoes.now }
+        requires within { index < length (echoed_lines echoes.now) }
+        requires three { length (words_of (echoed_at echoes.now index)) ≡ 3 }
+        ensures seen { OnOk result (self.new.seen.keys ≡ model.with_facts self.old.seen.keys
+            finding.now.facts) }
+        ensures text { OnOk result (self.new.pending.bytes.items ≡ self.old.pending.bytes.items
+            ++ (model.new_facts_text self.old.seen.keys finding.now.facts
+            ++ model.listed_text (index + 1)
+            (words_of (echoed_at echoes.now index)) (model.result_text finding.now.resolved)
+            (model.numbers_of self.old.seen.keys finding.now.facts))) }
+    {
+        let number = number_after(index)?;
+        self.put_facts(&finding.facts)?;
+        gathered(echoes.write_echo(&mut self.pending, number, index))?;
+        gathered(write_result(&mut self.pending, finding.resolved))?;
+        let numbers = self.numbers.numbers();
+        gathered(write_list(&mut self.pending, numbers))
+    }
+
+    /// Puts a line that prints no facts.
+    fn put_bare(&mut self, index: usize, line: &CertLine) -> Result<(), AllocError>
+        ensures seen { self.new.seen ≡ self.old.seen }
+        ensures text { OnOk result (self.new.pending.bytes.items ≡ self.old.pending.bytes.items
+            ++ cert.line_text (index + 1) line.now) }
+    {
+        let number = number_after(index)?;
+        gathered(write_line(&mut self.pending, number, line))
+    }
+
+    /// Puts what stands for a row: its new facts, and then its line. The error comes where memory runs out, or where a number
+    /// has more than 32 bits.
+    pub(crate) fn put_row(
+        &mut self,
+        echoes: &Echoes<'_>,
+        index: usize,
+        outcome: &Outcome,
+    ) -> Result<(), AllocError>
+        requires can { CanEcho echoes.now }
+        requires within { index < length (echoed_lines echoes.now) }
+        requires stands { MayStand (echoed_at echoes.now index) (line_outcome outcome.now) }
+        ensures seen { OnOk result (self.new.seen.keys ≡ model.seen_after self.old.seen.keys
+            (line_outcome outcome.now)) }
+        ensures text { OnOk result (self.new.pending.bytes.items ≡ self.old.pending.bytes.items
+            ++ model.block_text self.old.seen.keys (index + 1) (echoed_at echoes.now index)
+            (line_outcome outcome.now)) }
+    {
+        match outcome {
+            Outcome::Refused(rule) => self.put_bare(index, &CertLine::Refused(rule.number())),
+            Outcome::Found(finding) => self.put_found(echoes, index, finding),
+            Outcome::Halted(halt) => self.put_bare(index, &halted_line(halt)),
+        }
+    }
+}

@@ -1,7 +1,0 @@
-use Rattle.std.proofs.Common.{◌≡◌, drop}
-use Rattle.book_model.specs.lines.Text.{with_facts}
-use Rattle.run_core.proofs.sampling.see_facts.Given as goal
-
--- with the other facts all are there
-abbrev pub invariant-loop-entry : goal.invariant-loop-entry
-invariant-loop-entry l = with_facts l.seen.keys (drop l.entry-index l.entry-items) ≡ with_facts l.fn.seen.keys l.facts
