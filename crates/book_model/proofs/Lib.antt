@@ -29,3 +29,4 @@ pub mod CorrectionRows
 pub mod Places
 pub mod Older
 pub mod OlderRows
+pub mod Moving

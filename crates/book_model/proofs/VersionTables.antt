@@ -2,18 +2,33 @@
 -- of its files.
 use Rattle.std.proofs.Common.{◌≡◌, Bool, true, false, ◌&&◌, ◌||◌, refl, arith, List, [], ◌∷◌, ℕ, suc, zero}
 use Rattle.std.proofs.lemmas.Int.{ints}
-use Rattle.std.specs.Prelude.{IsTrue, ℤ, pos, int_le, slice_index_or, Some}
+use Rattle.std.specs.Prelude.{IsTrue, ℤ, pos, int_le, slice_index_or, Option, Some}
 use Rattle.std.specs.List.{list_all}
 use Rattle.book_model.specs.declared.calendar.Calendar.{Calendar}
 use Rattle.book_model.specs.declared.calendar.Calendar.TheVariants.{Gregorian, Fixed}
+use Rattle.book_model.specs.declared.fact.Kind.{Kind}
+use Rattle.book_model.specs.declared.fact.Kind.TheVariants as kinds
+use Rattle.book_model.specs.declared.fact.Place.{Place}
+use Rattle.book_model.specs.declared.fact.Place.TheVariants as places
 use Rattle.book_model.specs.declared.request.Fields.{Fields}
+use Rattle.book_model.specs.declared.request.Request.{Request}
+use Rattle.book_model.specs.declared.site.Site.{Site}
+use Rattle.book_model.specs.declared.site.Site.TheVariants as sites
 use Rattle.book_model.specs.declared.version.Version.{Version}
 use Rattle.book_model.specs.declared.version.Version.TheVariants.{One}
 use Rattle.book_model.specs.declared.version.TheConstants.{WRITTEN}
+use Rattle.book_model.specs.declared.words.FromWord.{FromWord}
+use Rattle.book_model.specs.declared.words.FromWord.TheVariants as from
+use Rattle.book_model.specs.declared.words.ToWord.{ToWord}
+use Rattle.book_model.specs.declared.words.ToWord.TheVariants as to
 use Rattle.book_model.specs.calendars.Dates.{row_of, may_have, year_number, has_year, has_some_year, gregorian_day, fixed_day, has_day_in_range, is_answered, IsAskable}
-use Rattle.book_model.specs.calendars.Versions.{version_number, range_in, is_in_some, line_days, is_in_range, is_in_some_range, header_line, version_named}
+use Rattle.book_model.specs.calendars.Versions.{version_number, range_in, is_in_some, line_days, is_in_range, is_in_some_range, has_since, had_in, kind_in, place_in, site_in, header_line, version_named}
+use Rattle.book_model.specs.lines.Requests.{has_words}
+use Rattle.book_model.specs.lines.Words.{from_since, to_since}
 use Rattle.book_model.specs.sky.Correction.{is_between}
+use Rattle.book_model.specs.sky.Names.{kind_name, kind_named, kind_since, place_name, place_named, place_since, site_name, site_named, site_since}
 use Rattle.book_model.proofs.CorrectionRows.{lies}
+use Rattle.book_model.proofs.NameLemmas.{kind_found, place_found, site_found}
 
 both : (p q : Bool) → (p && q) ≡ true → (p ≡ true) × (q ≡ true)
 both true true e = (refl, refl)
@@ -108,3 +123,43 @@ pub header_found : (version : Version) → version_named (header_line version) �
 unfolding version_named
 header_found One = refl
 header_found _ = refl
+
+-- ---- the version that is written has each word, kind, place and site
+all_from : (w : FromWord) → has_since WRITTEN (from_since w) ≡ true
+all_from from.Gregorian = refl
+all_from _ = refl
+
+all_to : (w : ToWord) → has_since WRITTEN (to_since w) ≡ true
+all_to to.Gregorian = refl
+all_to _ = refl
+
+pub all_words : (r : Request) → IsTrue (has_words WRITTEN r)
+all_words r = both_true (has_since WRITTEN (from_since r.from)) (has_since WRITTEN (to_since r.to)) (all_from r.from) (all_to r.to)
+
+-- what has a name, and a first version that the written one has, is what the name leads to in the written version
+kept_name : {A : Type 0} (since : A → Version) (o : Option A) (a : A) → o ≡ Some a → has_since WRITTEN (since a) ≡ true → had_in WRITTEN since o ≡ Some a
+kept_name since o a e h = rw e (rw h refl)
+
+kinds_had : (k : Kind) → has_since WRITTEN (kind_since k) ≡ true
+unfolding kind_since
+kinds_had kinds.Dt = refl
+kinds_had _ = refl
+
+places_had : (p : Place) → has_since WRITTEN (place_since p) ≡ true
+unfolding place_since
+places_had places.Beijing = refl
+places_had _ = refl
+
+sites_had : (s : Site) → has_since WRITTEN (site_since s) ≡ true
+unfolding site_since
+sites_had sites.Year = refl
+sites_had _ = refl
+
+pub all_kinds : (k : Kind) → kind_in WRITTEN (kind_name k) ≡ Some k
+all_kinds k = kept_name kind_since (kind_named (kind_name k)) k (kind_found k) (kinds_had k)
+
+pub all_places : (p : Place) → place_in WRITTEN (place_name p) ≡ Some p
+all_places p = kept_name place_since (place_named (place_name p)) p (place_found p) (places_had p)
+
+pub all_sites : (s : Site) → site_in WRITTEN (site_name s) ≡ Some s
+all_sites s = kept_name site_since (site_named (site_name s)) s (site_found s) (sites_had s)

@@ -9,4 +9,5 @@ pub mod Chinese
 pub mod Islamic
 pub mod HinduSolar
 pub mod HinduLunar
+pub mod Moving
 pub mod Dates

@@ -6,7 +6,7 @@ ghost use Rattle.std.specs.Prelude.{◌≡◌};
 pub const LAST_DATE_DAY: i64 = 1_000_000;
 
 /// A calendar of dates: the Gregorian calendar, the day number of the book (R.D.), the Persian, the Bahá'í, the Chinese, the
-/// Islamic, the Hindu solar or the Hindu lunar calendar.
+/// Vietnamese, the Korean, the Japanese, the Islamic, the Hindu solar or the Hindu lunar calendar.
 #[derive(Clone, Copy, Debug, PartialEq, Eq)]
 pub enum Calendar {
     Gregorian,
@@ -14,6 +14,9 @@ pub enum Calendar {
     Persian,
     Bahai,
     Chinese,
+    Vietnamese,
+    Korean,
+    Japanese,
     Islamic,
     HinduSolar,
     HinduLunar,
@@ -45,7 +48,7 @@ pub struct CalendarRow {
 /// The calendars, in the order of their values. The days of Gregorian dates and day numbers are known without any fact
 /// and tell which of them are answered.
 #[rattlefmt::skip]
-pub const CALENDARS: [CalendarRow; 8] = [
+pub const CALENDARS: [CalendarRow; 11] = [
     CalendarRow { calendar: Calendar::Gregorian, count: 3, limits: [(1, 9999), (1, 12), (1, 31), (0, 0), (0, 0)],
         weights: [1, 0, 0, 0, 0], offset: 0, first_day: 1, years: [(1, 9999), (1, 9999)], is_confirmed: false, is_padded: true },
     CalendarRow { calendar: Calendar::Fixed, count: 1, limits: [(0, 9_999_999), (0, 0), (0, 0), (0, 0), (0, 0)],
@@ -55,6 +58,12 @@ pub const CALENDARS: [CalendarRow; 8] = [
     CalendarRow { calendar: Calendar::Bahai, count: 5, limits: [(0, 9), (1, 19), (1, 19), (0, 19), (1, 19)],
         weights: [361, 19, 1, 0, 0], offset: -380, first_day: 0, years: [(-42, 205), (-142, 305)], is_confirmed: true, is_padded: false },
     CalendarRow { calendar: Calendar::Chinese, count: 5, limits: [(1, 99), (1, 60), (1, 12), (0, 1), (1, 30)],
+        weights: [60, 1, 0, 0, 0], offset: -60, first_day: 0, years: [(4438, 4685), (4338, 4785)], is_confirmed: true, is_padded: false },
+    CalendarRow { calendar: Calendar::Vietnamese, count: 5, limits: [(1, 99), (1, 60), (1, 12), (0, 1), (1, 30)],
+        weights: [60, 1, 0, 0, 0], offset: -60, first_day: 0, years: [(4438, 4685), (4338, 4785)], is_confirmed: true, is_padded: false },
+    CalendarRow { calendar: Calendar::Korean, count: 5, limits: [(1, 99), (1, 60), (1, 12), (0, 1), (1, 30)],
+        weights: [60, 1, 0, 0, 0], offset: -60, first_day: 0, years: [(4438, 4685), (4338, 4785)], is_confirmed: true, is_padded: false },
+    CalendarRow { calendar: Calendar::Japanese, count: 5, limits: [(1, 99), (1, 60), (1, 12), (0, 1), (1, 30)],
         weights: [60, 1, 0, 0, 0], offset: -60, first_day: 0, years: [(4438, 4685), (4338, 4785)], is_confirmed: true, is_padded: false },
     CalendarRow { calendar: Calendar::Islamic, count: 3, limits: [(1, 9999), (1, 12), (1, 30), (0, 0), (0, 0)],
         weights: [1, 0, 0, 0, 0], offset: 0, first_day: 0, years: [(1216, 1471), (1113, 1574)], is_confirmed: true, is_padded: false },

@@ -3,8 +3,8 @@ ghost use Rattle.std.specs.Prelude.{◌≡◌, ◌↔◌, ◌<◌, ℤ, ◌≤�
 ghost use Rattle.book_model.specs.declared.fact.TheConstants.{KINDS, PLACES};
 
 use crate::location_tables::{CAIRO, TEHRAN, UJJAIN};
-use crate::names::{first_row_named, list_at, name_at};
-use crate::{Frac, Location, ZoneStep};
+use crate::names::{first_row_named, list_at, name_at, since_at};
+use crate::{Frac, Location, Version, ZoneStep};
 
 /// A kind of astronomical fact.
 #[derive(Clone, Copy, Debug, PartialEq, Eq, Hash)]
@@ -42,6 +42,9 @@ pub enum Place {
     Cairo,
     Tehran,
     Ujjain,
+    Hanoi,
+    Seoul,
+    Tokyo,
 }
 
 /// An astronomical fact: what the model gives for a kind, a place and a day, as a day number of the book (R.D.).
@@ -64,45 +67,54 @@ pub enum WholeDays {
     Everywhere,
 }
 
-/// Each kind of fact with its printed name, the places that it is asked of, and which of its tests of a year are of a whole day,
-/// in the order of the variants.
+/// Each kind of fact with its printed name, the places that it is asked of, which of its tests of a year are of a whole day, and
+/// the first version of printed files that has it, in the order of the variants.
 #[rattlefmt::skip]
-pub static KINDS: [(Kind, &str, (&[Place], WholeDays)); 23] = [
-    (Kind::Dt, "dt", (&[Place::None], WholeDays::AtFirst)),
-    (Kind::Sun, "sun", (&[Place::None], WholeDays::AtFirst)),
-    (Kind::Nowruz, "nowruz", (&[Place::None], WholeDays::Nowhere)),
-    (Kind::BahaiYear, "bahai-year", (&[Place::None], WholeDays::Nowhere)),
-    (Kind::Solstice, "solstice", (&[Place::Beijing], WholeDays::Nowhere)),
-    (Kind::NewMoonBefore, "new-moon-before", (&[Place::Beijing], WholeDays::Nowhere)),
-    (Kind::NewMoonFrom, "new-moon-from", (&[Place::Beijing], WholeDays::Nowhere)),
-    (Kind::Major, "major", (&[Place::Beijing], WholeDays::Nowhere)),
-    (Kind::MajorTerm, "major-term", (&[Place::Beijing], WholeDays::Nowhere)),
-    (Kind::MinorTerm, "minor-term", (&[Place::Beijing], WholeDays::Nowhere)),
-    (Kind::Phasis, "phasis", (&[Place::Cairo], WholeDays::AtFirst)),
-    (Kind::Sign, "sign", (&[Place::None], WholeDays::Nowhere)),
-    (Kind::SolarYear, "solar-year", (&[Place::None], WholeDays::Nowhere)),
-    (Kind::Sankranti, "sankranti", (&[Place::None], WholeDays::Nowhere)),
-    (Kind::Tithi, "tithi", (&[Place::None], WholeDays::Nowhere)),
-    (Kind::SignBefore, "sign-before", (&[Place::None], WholeDays::Nowhere)),
-    (Kind::SignAfter, "sign-after", (&[Place::None], WholeDays::Nowhere)),
-    (Kind::CalendarYear, "calendar-year", (&[Place::None], WholeDays::AtFirst)),
-    (Kind::NewMoon, "new-moon", (&[Place::None], WholeDays::AtFirst)),
-    (Kind::FirstQuarter, "first-quarter", (&[Place::None], WholeDays::AtFirst)),
-    (Kind::FullMoon, "full-moon", (&[Place::None], WholeDays::AtFirst)),
-    (Kind::LastQuarter, "last-quarter", (&[Place::None], WholeDays::AtFirst)),
-    (Kind::Sunset, "sunset", (&[Place::Tehran, Place::Cairo, Place::Ujjain], WholeDays::Nowhere)),
+pub static KINDS: [(Kind, &str, (&[Place], WholeDays, Version)); 23] = [
+    (Kind::Dt, "dt", (&[Place::None], WholeDays::AtFirst, Version::One)),
+    (Kind::Sun, "sun", (&[Place::None], WholeDays::AtFirst, Version::One)),
+    (Kind::Nowruz, "nowruz", (&[Place::None], WholeDays::Nowhere, Version::One)),
+    (Kind::BahaiYear, "bahai-year", (&[Place::None], WholeDays::Nowhere, Version::One)),
+    (Kind::Solstice, "solstice", (&[Place::Beijing, Place::Hanoi, Place::Seoul, Place::Tokyo], WholeDays::Nowhere, Version::One)),
+    (Kind::NewMoonBefore, "new-moon-before", (&[Place::Beijing, Place::Hanoi, Place::Seoul, Place::Tokyo], WholeDays::Nowhere, Version::One)),
+    (Kind::NewMoonFrom, "new-moon-from", (&[Place::Beijing, Place::Hanoi, Place::Seoul, Place::Tokyo], WholeDays::Nowhere, Version::One)),
+    (Kind::Major, "major", (&[Place::Beijing, Place::Hanoi, Place::Seoul, Place::Tokyo], WholeDays::Nowhere, Version::One)),
+    (Kind::MajorTerm, "major-term", (&[Place::Beijing], WholeDays::Nowhere, Version::One)),
+    (Kind::MinorTerm, "minor-term", (&[Place::Beijing], WholeDays::Nowhere, Version::One)),
+    (Kind::Phasis, "phasis", (&[Place::Cairo], WholeDays::AtFirst, Version::One)),
+    (Kind::Sign, "sign", (&[Place::None], WholeDays::Nowhere, Version::One)),
+    (Kind::SolarYear, "solar-year", (&[Place::None], WholeDays::Nowhere, Version::One)),
+    (Kind::Sankranti, "sankranti", (&[Place::None], WholeDays::Nowhere, Version::One)),
+    (Kind::Tithi, "tithi", (&[Place::None], WholeDays::Nowhere, Version::One)),
+    (Kind::SignBefore, "sign-before", (&[Place::None], WholeDays::Nowhere, Version::One)),
+    (Kind::SignAfter, "sign-after", (&[Place::None], WholeDays::Nowhere, Version::One)),
+    (Kind::CalendarYear, "calendar-year", (&[Place::None], WholeDays::AtFirst, Version::One)),
+    (Kind::NewMoon, "new-moon", (&[Place::None], WholeDays::AtFirst, Version::One)),
+    (Kind::FirstQuarter, "first-quarter", (&[Place::None], WholeDays::AtFirst, Version::One)),
+    (Kind::FullMoon, "full-moon", (&[Place::None], WholeDays::AtFirst, Version::One)),
+    (Kind::LastQuarter, "last-quarter", (&[Place::None], WholeDays::AtFirst, Version::One)),
+    (Kind::Sunset, "sunset", (&[Place::Tehran, Place::Cairo, Place::Ujjain], WholeDays::Nowhere, Version::One)),
 ];
 
-/// Each place with its printed name, the location from which its horizon is looked at, if it has one, and its zone, in the order
-/// of the variants. A zone is the days on which the time of the place changes, in order, each with the hours by which it is ahead
-/// of universal time before, and the hours from the last of these days on. Facts of no place go by universal time.
+/// Each place with its printed name, the location from which its horizon is looked at, if it has one, its zone, and the first
+/// version of printed files that has it, in the order of the variants. A zone is the days on which the time of the place changes,
+/// in order, each with the hours by which it is ahead of universal time before, and the hours from the last of these days on. Facts
+/// of no place go by universal time.
 #[rattlefmt::skip]
-pub static PLACES: [(Place, &str, (Option<Location>, &[ZoneStep], Frac)); 5] = [
-    (Place::None, "-", (None, &[], Frac { num: 0, den: 1 })),
-    (Place::Beijing, "beijing", (None, &[ZoneStep { before: 704_188, hours: Frac { num: 1397, den: 180 } }], Frac { num: 8, den: 1 })),
-    (Place::Cairo, "cairo", (Some(CAIRO), &[], Frac { num: 2, den: 1 })),
-    (Place::Tehran, "tehran", (Some(TEHRAN), &[], Frac { num: 7, den: 2 })),
-    (Place::Ujjain, "ujjain", (Some(UJJAIN), &[], Frac { num: 45_461, den: 9000 })),
+pub static PLACES: [(Place, &str, (Option<Location>, &[ZoneStep], Frac, Version)); 8] = [
+    (Place::None, "-", (None, &[], Frac { num: 0, den: 1 }, Version::One)),
+    (Place::Beijing, "beijing", (None, &[ZoneStep { before: 704_188, hours: Frac { num: 1397, den: 180 } }], Frac { num: 8, den: 1 }, Version::One)),
+    (Place::Cairo, "cairo", (Some(CAIRO), &[], Frac { num: 2, den: 1 }, Version::One)),
+    (Place::Tehran, "tehran", (Some(TEHRAN), &[], Frac { num: 7, den: 2 }, Version::One)),
+    (Place::Ujjain, "ujjain", (Some(UJJAIN), &[], Frac { num: 45_461, den: 9000 }, Version::One)),
+    (Place::Hanoi, "hanoi", (None, &[ZoneStep { before: 718_432, hours: Frac { num: 8, den: 1 } }], Frac { num: 7, den: 1 }, Version::Two)),
+    (Place::Seoul, "seoul", (None, &[
+        ZoneStep { before: 696_608, hours: Frac { num: 3809, den: 450 } },
+        ZoneStep { before: 697_978, hours: Frac { num: 17, den: 2 } },
+        ZoneStep { before: 713_398, hours: Frac { num: 9, den: 1 } },
+        ZoneStep { before: 716_097, hours: Frac { num: 17, den: 2 } },
+    ], Frac { num: 9, den: 1 }, Version::Two)),
+    (Place::Tokyo, "tokyo", (None, &[ZoneStep { before: 689_213, hours: Frac { num: 4193, den: 450 } }], Frac { num: 9, den: 1 }, Version::Two)),
 ];
 
 /// The first and the last day of which a fact may be asked (R.D.).
@@ -121,7 +133,8 @@ pub const LEAST_VALUE: i64 = -10_000_000;
 pub const GREATEST_VALUE: i64 = 10_000_000;
 
 impl Kind {
-    ghost use Rattle.book_model.specs.sky.Names.{kind_number, kind_name, kind_named, places_of, has_place};
+    ghost use Rattle.book_model.specs.sky.Names.{kind_number, kind_name, kind_named, kind_since, places_of, has_place};
+    ghost use Rattle.book_model.specs.calendars.Versions.{kind_in};
 
     /// The number of the kind, from 0: its place among the kinds.
     pub fn number(self) -> usize
@@ -146,6 +159,25 @@ impl Kind {
         first_row_named(&KINDS, word)
     }
 
+    /// The first version of printed files that has the kind.
+    pub fn since(self) -> Version
+        ensures { result ≡ kind_since self }
+    {
+        since_at(&KINDS, self.number())
+    }
+
+    /// The kind with this name, if a version has one.
+    pub fn named_in(version: Version, word: &[u8]) -> Option<Kind>
+        ensures { result ≡ kind_in version word.now }
+    {
+        let kind = Kind::named(word)?;
+        if version.has_since(kind.since()) {
+            Some(kind)
+        } else {
+            None
+        }
+    }
+
     /// The places that facts of this kind are asked of.
     pub fn places(self) -> &'static [Place]
         ensures { result.now ≡ places_of self }
@@ -162,7 +194,8 @@ impl Kind {
 }
 
 impl Place {
-    ghost use Rattle.book_model.specs.sky.Names.{place_number, place_name, place_named, location_of, zone_steps, last_hours};
+    ghost use Rattle.book_model.specs.sky.Names.{place_number, place_name, place_named, place_since, location_of, zone_steps, last_hours};
+    ghost use Rattle.book_model.specs.calendars.Versions.{place_in};
 
     /// The number of the place, from 0: its place among the places.
     pub fn number(self) -> usize
@@ -186,6 +219,26 @@ impl Place {
         ensures { result ≡ place_named word.now }
     {
         first_row_named(&PLACES, word)
+    }
+
+    /// The first version of printed files that has the place.
+    #[tactic(auto, unfolding(crate::specs::sky::Names::place_since))]
+    pub fn since(self) -> Version
+        ensures { result ≡ place_since self }
+    {
+        PLACES[self.number()].2.3
+    }
+
+    /// The place with this name, if a version has one.
+    pub fn named_in(version: Version, word: &[u8]) -> Option<Place>
+        ensures { result ≡ place_in version word.now }
+    {
+        let place = Place::named(word)?;
+        if version.has_since(place.since()) {
+            Some(place)
+        } else {
+            None
+        }
     }
 
     /// The location from which the horizon of the place is looked at, if it has one.

@@ -19,7 +19,10 @@ ghost use Rattle.book_model.specs.sky.Noon.{StartsNear};
 ghost use Rattle.book_model.specs.sky.Older.{over_years, rows_in, has_correction, run_by, AreComposed, correction_by_version, dt_by_version};
 ghost use Rattle.book_model.specs.sky.Time.{correction_at};
 ghost use Rattle.book_model.specs.calendars.Dates.{row_of, is_answered};
-ghost use Rattle.book_model.specs.calendars.Versions.{is_in_range, fact_days_in, header_line, version_named};
+ghost use Rattle.book_model.specs.calendars.Inquiries.{Inquiry, facts_over, result_over};
+ghost use Rattle.book_model.specs.calendars.Moving.{at_place, moved_fact};
+ghost use Rattle.book_model.specs.calendars.Versions.{is_in_range, fact_days_in, header_line, version_named, kind_in, place_in, site_in};
+ghost use Rattle.book_model.specs.lines.Requests.{has_words};
 ghost use Rattle.book_model.specs.lines.Words.{from_word_of, to_word_of, text_of_from, text_of_to, from_words, to_words, are_distinct_words, named_by, shown_by};
 ghost use Rattle.book_model.specs.sky.Names.{has_place, kind_name, kind_named, place_name, place_named, site_name, site_named};
 ghost use Rattle.book_model.specs.declared.fact.Kind.{Kind};
@@ -28,7 +31,8 @@ ghost use Rattle.book_model.specs.declared.site.Site.{Site};
 ghost use Rattle.book_model.specs.declared.site.Site.TheVariants.{Year};
 
 use crate::{
-    Calendar, FIRST_DAY, Fact, Fields, FromWord, LAST_DAY, Meaning, ToWord, Version, WRITTEN,
+    Calendar, FIRST_DAY, Fact, Fields, FromWord, LAST_DAY, Meaning, Request, ToWord, Version,
+    WRITTEN,
 };
 
 /// Nesting: at a greater depth, with narrower arguments, each expression's value lies within its value here, and
@@ -155,9 +159,13 @@ pub fn names()
     ensures sites { (s : Site) → site_named (site_name s) ≡ Some s }
 {}
 
-/// What a version names and answers, the version that is written does too.
-#[tactic(auto, using(crate::proofs::VersionTables::later_days, crate::proofs::VersionTables::later_dates))]
+/// What a version names and answers, the version that is written does too; and it has each word, kind, place and site.
+#[tactic(auto, using(crate::proofs::VersionTables::later_days, crate::proofs::VersionTables::later_dates, crate::proofs::VersionTables::all_words, crate::proofs::VersionTables::all_kinds, crate::proofs::VersionTables::all_places, crate::proofs::VersionTables::all_sites))]
 pub fn later_versions()
+    ensures words { (r : Request) → IsTrue (has_words WRITTEN r) }
+    ensures kinds { (k : Kind) → kind_in WRITTEN (kind_name k) ≡ Some k }
+    ensures places { (p : Place) → place_in WRITTEN (place_name p) ≡ Some p }
+    ensures sites { (s : Site) → site_in WRITTEN (site_name s) ≡ Some s }
     ensures days { (version : Version) (day : ℤ) → IsTrue (is_in_range version day)
         → IsTrue (is_in_range WRITTEN day) }
     ensures dates { (version : Version) (c : Calendar) (f : Fields)
@@ -192,4 +200,15 @@ pub fn older_formulas()
         → over_years (has_correction version) (dt_of d) ≡ dt_by_version version d }
     ensures days { fact_days_in WRITTEN ≡ (FIRST_DAY, LAST_DAY) }
     ensures rows { rows_in WRITTEN ≡ corrections }
+{}
+
+/// Moving to another place what an inquiry asks of the sky of Beijing: over each table of facts it has the result, and asks the
+/// facts, that the inquiry itself has and asks, moved, over the table at the place.
+#[tactic(auto, using(crate::proofs::Moving::moved_result, crate::proofs::Moving::moved_facts))]
+pub fn moves<T>()
+    ensures result { (place : Place) (i : Inquiry T) (table : Fact → ℤ)
+        → result_over table (at_place place i) ≡ result_over (λ f. table (moved_fact place f)) i }
+    ensures facts { (place : Place) (i : Inquiry T) (table : Fact → ℤ)
+        → facts_over table (at_place place i)
+        ≡ map (moved_fact place) (facts_over (λ f. table (moved_fact place f)) i) }
 {}

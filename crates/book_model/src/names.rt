@@ -1,6 +1,9 @@
 //! Values that are looked up by their names.
 ghost use Rattle.std.specs.Prelude.{◌≡◌, ◌<◌, [], length, map, slice_index_or};
+ghost use Rattle.book_model.specs.declared.version.Version.TheVariants.{One};
 ghost use Rattle.book_model.specs.sky.Names.{first_named as first_of};
+
+use crate::Version;
 
 /// The first value of the rows that has this name.
 pub(crate) fn first_named<T: Copy>(mut rows: &[(T, &str)], word: &[u8]) -> Option<T>
@@ -37,9 +40,20 @@ pub(crate) fn name_at<T, W>(rows: &[(T, &'static str, W)], place: usize) -> &'st
 }
 
 /// The list in the row at a place.
-pub(crate) fn list_at<T, N, U, V>(rows: &[(T, N, (&'static [U], V))], place: usize) -> &'static [U]
+pub(crate) fn list_at<T, N, U, V, W>(
+    rows: &[(T, N, (&'static [U], V, W))],
+    place: usize,
+) -> &'static [U]
     requires within { place < length rows.now }
     ensures { result.now ≡ slice_index_or (map (λ row. row.2.0.now) rows.now) place [] }
 {
     rows[place].2.0
+}
+
+/// The first version of printed files that has what is in the row at a place.
+pub(crate) fn since_at<T, N, U, V>(rows: &[(T, N, (U, V, Version))], place: usize) -> Version
+    requires within { place < length rows.now }
+    ensures { result ≡ slice_index_or (map (λ row. row.2.2) rows.now) place One }
+{
+    rows[place].2.2
 }

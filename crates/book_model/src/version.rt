@@ -48,13 +48,20 @@ pub const FIRST_ALMANAC_YEAR: u32 = 1703;
 pub const LAST_ALMANAC_YEAR: u32 = 2147;
 
 impl Version {
-    ghost use Rattle.book_model.specs.calendars.Versions.{days_in, header_line, version_named};
+    ghost use Rattle.book_model.specs.calendars.Versions.{days_in, has_since, header_line, version_named};
 
     /// The first and the last day that a line of the version may name (R.D.).
     pub fn days(self) -> (i64, i64)
         ensures days { result ≡ days_in self }
     {
         VERSIONS[self as usize].days
+    }
+
+    /// Whether the version has what there is since another.
+    pub fn has_since(self, since: Version) -> bool
+        ensures { result ≡ has_since self since }
+    {
+        since as usize <= self as usize
     }
 
     /// The first line of the version's files, without its line feed.

@@ -3,10 +3,11 @@
 ghost use Rattle.std.specs.Prelude.{◌≡◌};
 
 use crate::names::{first_row_named, name_at};
-use crate::{Calendar, Kind, Place};
+use crate::{Calendar, Kind, Place, Version};
 
 /// A word for what a line's date names: the day of a Gregorian date, of a day number of the book (R.D.), of a Persian, a Bahá'í, a
-/// Chinese, an Islamic, a Hindu solar or a Hindu lunar date, the day of the next minor or major solar term, or the day on which the moon was last new, at its first quarter, full or at its last quarter.
+/// Chinese, a Vietnamese, a Korean, a Japanese, an Islamic, a Hindu solar or a Hindu lunar date, the day of the next minor or major
+/// solar term, or the day on which the moon was last new, at its first quarter, full or at its last quarter.
 #[derive(Clone, Copy, Debug, PartialEq, Eq)]
 pub enum FromWord {
     Gregorian,
@@ -14,6 +15,9 @@ pub enum FromWord {
     Persian,
     Bahai,
     Chinese,
+    Vietnamese,
+    Korean,
+    Japanese,
     Islamic,
     HinduSolar,
     HinduLunar,
@@ -25,8 +29,9 @@ pub enum FromWord {
     LastQuarter,
 }
 
-/// A word for what a line asks: the Gregorian date, the day number (R.D.), the Persian, the Bahá'í, the Chinese, the Islamic,
-/// the Hindu solar or the Hindu lunar date, the dynamical time correction, the longitude of the sun, or sunset at Tehran, Cairo or Ujjain.
+/// A word for what a line asks: the Gregorian date, the day number (R.D.), the Persian, the Bahá'í, the Chinese, the Vietnamese, the
+/// Korean, the Japanese, the Islamic, the Hindu solar or the Hindu lunar date, the dynamical time correction, the longitude of the
+/// sun, or sunset at Tehran, Cairo or Ujjain.
 #[derive(Clone, Copy, Debug, PartialEq, Eq)]
 pub enum ToWord {
     Gregorian,
@@ -34,6 +39,9 @@ pub enum ToWord {
     Persian,
     Bahai,
     Chinese,
+    Vietnamese,
+    Korean,
+    Japanese,
     Islamic,
     HinduSolar,
     HinduLunar,
@@ -52,51 +60,78 @@ pub enum Meaning {
     Value(Kind, Place),
 }
 
-/// The words that stand before a date, in the order of their values, with what they name by the date.
+/// The words that stand before a date, in the order of their values, with what they name by the date, and the first version of
+/// printed files that has them.
 #[rattlefmt::skip]
-pub static FROM_WORDS: [(FromWord, &str, Meaning); 14] = [
-    (FromWord::Gregorian, "gregorian", Meaning::Date(Calendar::Gregorian)),
-    (FromWord::Fixed, "fixed", Meaning::Date(Calendar::Fixed)),
-    (FromWord::Persian, "persian", Meaning::Date(Calendar::Persian)),
-    (FromWord::Bahai, "bahai", Meaning::Date(Calendar::Bahai)),
-    (FromWord::Chinese, "chinese", Meaning::Date(Calendar::Chinese)),
-    (FromWord::Islamic, "islamic", Meaning::Date(Calendar::Islamic)),
-    (FromWord::HinduSolar, "hindu-solar", Meaning::Date(Calendar::HinduSolar)),
-    (FromWord::HinduLunar, "hindu-lunar", Meaning::Date(Calendar::HinduLunar)),
-    (FromWord::MinorTerm, "minor-term", Meaning::Value(Kind::MinorTerm, Place::Beijing)),
-    (FromWord::MajorTerm, "major-term", Meaning::Value(Kind::MajorTerm, Place::Beijing)),
-    (FromWord::NewMoon, "new-moon", Meaning::Value(Kind::NewMoon, Place::None)),
-    (FromWord::FirstQuarter, "first-quarter", Meaning::Value(Kind::FirstQuarter, Place::None)),
-    (FromWord::FullMoon, "full-moon", Meaning::Value(Kind::FullMoon, Place::None)),
-    (FromWord::LastQuarter, "last-quarter", Meaning::Value(Kind::LastQuarter, Place::None)),
+pub static FROM_WORDS: [(FromWord, &str, (Meaning, Version)); 17] = [
+    (FromWord::Gregorian, "gregorian", (Meaning::Date(Calendar::Gregorian), Version::One)),
+    (FromWord::Fixed, "fixed", (Meaning::Date(Calendar::Fixed), Version::One)),
+    (FromWord::Persian, "persian", (Meaning::Date(Calendar::Persian), Version::One)),
+    (FromWord::Bahai, "bahai", (Meaning::Date(Calendar::Bahai), Version::One)),
+    (FromWord::Chinese, "chinese", (Meaning::Date(Calendar::Chinese), Version::One)),
+    (FromWord::Vietnamese, "vietnamese", (Meaning::Date(Calendar::Vietnamese), Version::Two)),
+    (FromWord::Korean, "korean", (Meaning::Date(Calendar::Korean), Version::Two)),
+    (FromWord::Japanese, "japanese", (Meaning::Date(Calendar::Japanese), Version::Two)),
+    (FromWord::Islamic, "islamic", (Meaning::Date(Calendar::Islamic), Version::One)),
+    (FromWord::HinduSolar, "hindu-solar", (Meaning::Date(Calendar::HinduSolar), Version::One)),
+    (FromWord::HinduLunar, "hindu-lunar", (Meaning::Date(Calendar::HinduLunar), Version::One)),
+    (FromWord::MinorTerm, "minor-term", (Meaning::Value(Kind::MinorTerm, Place::Beijing), Version::One)),
+    (FromWord::MajorTerm, "major-term", (Meaning::Value(Kind::MajorTerm, Place::Beijing), Version::One)),
+    (FromWord::NewMoon, "new-moon", (Meaning::Value(Kind::NewMoon, Place::None), Version::One)),
+    (FromWord::FirstQuarter, "first-quarter", (Meaning::Value(Kind::FirstQuarter, Place::None), Version::One)),
+    (FromWord::FullMoon, "full-moon", (Meaning::Value(Kind::FullMoon, Place::None), Version::One)),
+    (FromWord::LastQuarter, "last-quarter", (Meaning::Value(Kind::LastQuarter, Place::None), Version::One)),
 ];
 
-/// The words for what a line asks, in the order of their values, with what they show of a day.
+/// The words for what a line asks, in the order of their values, with what they show of a day, and the first version of printed
+/// files that has them.
 #[rattlefmt::skip]
-pub static TO_WORDS: [(ToWord, &str, Meaning); 13] = [
-    (ToWord::Gregorian, "gregorian", Meaning::Date(Calendar::Gregorian)),
-    (ToWord::Fixed, "fixed", Meaning::Date(Calendar::Fixed)),
-    (ToWord::Persian, "persian", Meaning::Date(Calendar::Persian)),
-    (ToWord::Bahai, "bahai", Meaning::Date(Calendar::Bahai)),
-    (ToWord::Chinese, "chinese", Meaning::Date(Calendar::Chinese)),
-    (ToWord::Islamic, "islamic", Meaning::Date(Calendar::Islamic)),
-    (ToWord::HinduSolar, "hindu-solar", Meaning::Date(Calendar::HinduSolar)),
-    (ToWord::HinduLunar, "hindu-lunar", Meaning::Date(Calendar::HinduLunar)),
-    (ToWord::Dt, "dt", Meaning::Value(Kind::Dt, Place::None)),
-    (ToWord::Sun, "sun", Meaning::Value(Kind::Sun, Place::None)),
-    (ToWord::SunsetTehran, "sunset-tehran", Meaning::Value(Kind::Sunset, Place::Tehran)),
-    (ToWord::SunsetCairo, "sunset-cairo", Meaning::Value(Kind::Sunset, Place::Cairo)),
-    (ToWord::SunsetUjjain, "sunset-ujjain", Meaning::Value(Kind::Sunset, Place::Ujjain)),
+pub static TO_WORDS: [(ToWord, &str, (Meaning, Version)); 16] = [
+    (ToWord::Gregorian, "gregorian", (Meaning::Date(Calendar::Gregorian), Version::One)),
+    (ToWord::Fixed, "fixed", (Meaning::Date(Calendar::Fixed), Version::One)),
+    (ToWord::Persian, "persian", (Meaning::Date(Calendar::Persian), Version::One)),
+    (ToWord::Bahai, "bahai", (Meaning::Date(Calendar::Bahai), Version::One)),
+    (ToWord::Chinese, "chinese", (Meaning::Date(Calendar::Chinese), Version::One)),
+    (ToWord::Vietnamese, "vietnamese", (Meaning::Date(Calendar::Vietnamese), Version::Two)),
+    (ToWord::Korean, "korean", (Meaning::Date(Calendar::Korean), Version::Two)),
+    (ToWord::Japanese, "japanese", (Meaning::Date(Calendar::Japanese), Version::Two)),
+    (ToWord::Islamic, "islamic", (Meaning::Date(Calendar::Islamic), Version::One)),
+    (ToWord::HinduSolar, "hindu-solar", (Meaning::Date(Calendar::HinduSolar), Version::One)),
+    (ToWord::HinduLunar, "hindu-lunar", (Meaning::Date(Calendar::HinduLunar), Version::One)),
+    (ToWord::Dt, "dt", (Meaning::Value(Kind::Dt, Place::None), Version::One)),
+    (ToWord::Sun, "sun", (Meaning::Value(Kind::Sun, Place::None), Version::One)),
+    (ToWord::SunsetTehran, "sunset-tehran", (Meaning::Value(Kind::Sunset, Place::Tehran), Version::One)),
+    (ToWord::SunsetCairo, "sunset-cairo", (Meaning::Value(Kind::Sunset, Place::Cairo), Version::One)),
+    (ToWord::SunsetUjjain, "sunset-ujjain", (Meaning::Value(Kind::Sunset, Place::Ujjain), Version::One)),
 ];
 
 impl FromWord {
-    ghost use Rattle.book_model.specs.lines.Words.{from_word_of, text_of_from, named_by, calendar_of};
+    ghost use Rattle.book_model.specs.lines.Words.{from_word_of, from_since, from_word_in, text_of_from, named_by, calendar_of};
 
     /// What a word before a date stands for, if it is one.
     pub fn named(word: &[u8]) -> Option<FromWord>
         ensures word { result ≡ from_word_of word.now }
     {
         first_row_named(&FROM_WORDS, word)
+    }
+
+    /// The first version of printed files that has the word.
+    pub fn since(self) -> Version
+        ensures since { result ≡ from_since self }
+    {
+        FROM_WORDS[self as usize].2.1
+    }
+
+    /// What a word before a date stands for, if a version has it.
+    pub fn named_in(version: Version, word: &[u8]) -> Option<FromWord>
+        ensures word { result ≡ from_word_in version word.now }
+    {
+        let from = FromWord::named(word)?;
+        if version.has_since(from.since()) {
+            Some(from)
+        } else {
+            None
+        }
     }
 
     /// The word as it stands in a line.
@@ -110,7 +145,7 @@ impl FromWord {
     pub fn names(self) -> Meaning
         ensures named { result ≡ named_by self }
     {
-        FROM_WORDS[self as usize].2
+        FROM_WORDS[self as usize].2.0
     }
 
     /// The calendar of the date that follows the word.
@@ -125,13 +160,32 @@ impl FromWord {
 }
 
 impl ToWord {
-    ghost use Rattle.book_model.specs.lines.Words.{to_word_of, text_of_to, shown_by};
+    ghost use Rattle.book_model.specs.lines.Words.{to_word_of, to_since, to_word_in, text_of_to, shown_by};
 
     /// What a word after a date asks for, if it is one.
     pub fn named(word: &[u8]) -> Option<ToWord>
         ensures word { result ≡ to_word_of word.now }
     {
         first_row_named(&TO_WORDS, word)
+    }
+
+    /// The first version of printed files that has the word.
+    pub fn since(self) -> Version
+        ensures since { result ≡ to_since self }
+    {
+        TO_WORDS[self as usize].2.1
+    }
+
+    /// What a word after a date asks for, if a version has it.
+    pub fn named_in(version: Version, word: &[u8]) -> Option<ToWord>
+        ensures word { result ≡ to_word_in version word.now }
+    {
+        let to = ToWord::named(word)?;
+        if version.has_since(to.since()) {
+            Some(to)
+        } else {
+            None
+        }
     }
 
     /// The word as it stands in a line.
@@ -145,6 +199,6 @@ impl ToWord {
     pub fn shows(self) -> Meaning
         ensures shows { result ≡ shown_by self }
     {
-        TO_WORDS[self as usize].2
+        TO_WORDS[self as usize].2.0
     }
 }

@@ -10,6 +10,7 @@ use Rattle.book_model.specs.declared.calendar.Calendar.TheVariants as calendars
 use Rattle.book_model.specs.declared.calendar.Calendar.TheVariants.{Gregorian, Fixed}
 use Rattle.book_model.specs.declared.calendar.CalendarRow.{CalendarRow}
 use Rattle.book_model.specs.declared.calendar.TheConstants.{CALENDARS, LAST_DATE_DAY}
+use Rattle.book_model.specs.declared.fact.Place.TheVariants.{Hanoi, Seoul, Tokyo}
 use Rattle.book_model.specs.declared.request.Fields.{Fields}
 use Rattle.book_model.specs.declared.version.Version.{Version}
 use Rattle.book_model.specs.calendars.Bahai.{bahai_on, bahai_day}
@@ -20,6 +21,7 @@ use Rattle.book_model.specs.calendars.Inquiries.{Inquiry, done, field_at, to_32_
 use Rattle.book_model.specs.calendars.HinduLunar.{hindu_lunar_on, hindu_lunar_day}
 use Rattle.book_model.specs.calendars.HinduSolar.{hindu_solar_on, hindu_solar_day}
 use Rattle.book_model.specs.calendars.Islamic.{islamic_on, islamic_day}
+use Rattle.book_model.specs.calendars.Moving.{at_place}
 use Rattle.book_model.specs.calendars.Persian.{persian_on, persian_day}
 use Rattle.book_model.specs.calendars.Versions.{range_in, is_in_some, is_in_range}
 
@@ -126,6 +128,9 @@ day_named Fixed f = done (fixed_day f)
 day_named calendars.Persian f = persian_day (pos (field f 0)) (pos (field f 1)) (pos (field f 2))
 day_named calendars.Bahai f = bahai_day (pos (field f 0)) (pos (field f 1)) (pos (field f 2)) (pos (field f 3)) (pos (field f 4))
 day_named calendars.Chinese f = chinese_day (pos (field f 0)) (pos (field f 1)) (pos (field f 2)) (pos (field f 3)) (pos (field f 4))
+day_named calendars.Vietnamese f = at_place Hanoi (chinese_day (pos (field f 0)) (pos (field f 1)) (pos (field f 2)) (pos (field f 3)) (pos (field f 4)))
+day_named calendars.Korean f = at_place Seoul (chinese_day (pos (field f 0)) (pos (field f 1)) (pos (field f 2)) (pos (field f 3)) (pos (field f 4)))
+day_named calendars.Japanese f = at_place Tokyo (chinese_day (pos (field f 0)) (pos (field f 1)) (pos (field f 2)) (pos (field f 3)) (pos (field f 4)))
 day_named calendars.Islamic f = islamic_day (pos (field f 0)) (pos (field f 1)) (pos (field f 2))
 day_named calendars.HinduSolar f = hindu_solar_day (pos (field f 0)) (pos (field f 1)) (pos (field f 2))
 day_named calendars.HinduLunar f = hindu_lunar_day (pos (field f 0)) (pos (field f 1)) (pos (field f 2)) (pos (field f 3)) (pos (field f 4))
@@ -137,6 +142,9 @@ date_on Fixed day = done (one_field day)
 date_on calendars.Persian day = persian_on day
 date_on calendars.Bahai day = bahai_on day
 date_on calendars.Chinese day = chinese_on day
+date_on calendars.Vietnamese day = at_place Hanoi (chinese_on day)
+date_on calendars.Korean day = at_place Seoul (chinese_on day)
+date_on calendars.Japanese day = at_place Tokyo (chinese_on day)
 date_on calendars.Islamic day = islamic_on day
 date_on calendars.HinduSolar day = hindu_solar_on day
 date_on calendars.HinduLunar day = hindu_lunar_on day

@@ -1,12 +1,15 @@
 -- The versions of printed files, by their rows: which days a line may name, of which a fact had a value, and of which years there is
--- an almanac; the first line of a file, and the version that a first line gives.
-use Rattle.std.specs.Prelude.{ℕ, ◌≤◌, nat_le, ◌||◌, Bool, false, List, [], ◌∷◌, Option, map, ℤ, pos, slice_index_or}
+-- an almanac; the kinds, places and sites that it has; the first line of a file, and the version that a first line gives.
+use Rattle.std.specs.Prelude.{ℕ, ◌≤◌, nat_le, ◌||◌, if◌then◌else◌, Bool, false, List, [], ◌∷◌, Option, Some, None, map, ℤ, pos, slice_index_or}
 use denote.Enum.Declared.{tag_of}
 use Rattle.book_model.specs.contracts.version.Version.{the_type as version_type}
+use Rattle.book_model.specs.declared.fact.Kind.{Kind}
+use Rattle.book_model.specs.declared.fact.Place.{Place}
+use Rattle.book_model.specs.declared.site.Site.{Site}
 use Rattle.book_model.specs.declared.version.Version.{Version}
 use Rattle.book_model.specs.declared.version.TheConstants.{VERSIONS, HEADERS, FIRST_ALMANAC_YEAR, LAST_ALMANAC_YEAR}
 use Rattle.book_model.specs.sky.Correction.{is_between}
-use Rattle.book_model.specs.sky.Names.{first_named}
+use Rattle.book_model.specs.sky.Names.{first_named, kind_named, kind_since, place_named, place_since, site_named, site_since}
 
 -- the number of a version, from 0: its place among the versions
 abbrev pub version_number : Version → ℕ
@@ -45,6 +48,21 @@ is_value_day version day = is_between (fact_days_in version).0 (fact_days_in ver
 -- a version had what there is since a version
 abbrev pub has_since : Version → Version → Bool
 has_since version since = nat_le (version_number since) (version_number version)
+
+-- what there is of a name, where a version has it
+abbrev pub had_in : {A : Type 0} → Version → (A → Version) → Option A → Option A
+had_in version since None = None
+had_in version since (Some a) = if has_since version (since a) then Some a else None
+
+-- the kind, the place and the site that a word is the name of in a version
+abbrev pub kind_in : Version → List ℕ → Option Kind
+kind_in version word = had_in version kind_since (kind_named word)
+
+abbrev pub place_in : Version → List ℕ → Option Place
+place_in version word = had_in version place_since (place_named word)
+
+abbrev pub site_in : Version → List ℕ → Option Site
+site_in version word = had_in version site_since (site_named word)
 
 -- the days that a line of some version may name
 abbrev pub is_in_some_range : ℤ → Bool

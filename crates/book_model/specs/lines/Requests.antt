@@ -12,7 +12,8 @@ use Rattle.book_model.specs.declared.request.Rule.TheVariants.{Syntax, Field, Ra
 use Rattle.book_model.specs.declared.version.Version.{Version}
 use Rattle.book_model.specs.calendars.Dates.{row_of, may_have, is_answered}
 use Rattle.book_model.specs.lines.Lines.{is_plain, words_of, parts_of, number_of}
-use Rattle.book_model.specs.lines.Words.{from_word_of, to_word_of, calendar_of}
+use Rattle.book_model.specs.calendars.Versions.{has_since}
+use Rattle.book_model.specs.lines.Words.{from_since, to_since, from_word_in, to_word_in, calendar_of}
 
 -- the number of a rule
 abbrev pub rule_number : Rule → ℕ
@@ -86,9 +87,14 @@ abbrev pub with_date : FromWord → ToWord → Result Fields Rule → Result Req
 with_date from to (Err rule) = Err rule
 with_date from to (Ok fields) = Ok (record { from = from; date = fields; to = to })
 
--- the request itself, where its calendar may have its date and a version answers it
+-- a version has the words of a request
+abbrev pub has_words : Version → Request → Bool
+has_words version r = has_since version (from_since r.from) && has_since version (to_since r.to)
+
+-- the request itself, where a version has its words, its calendar may have its date, and the version answers it
 abbrev pub checked_request : Version → Request → Result Request Rule
-checked_request version r = with_date r.from r.to (ranged version (calendar_of r.from) (checked (calendar_of r.from) r.date))
+checked_request version r =
+    if has_words version r then with_date r.from r.to (ranged version (calendar_of r.from) (checked (calendar_of r.from) r.date)) else Err rules.Calendar
 
 abbrev pub with_words : Version → Option FromWord → List ℕ → Option ToWord → Result Request Rule
 with_words version None date to = Err rules.Calendar
@@ -100,7 +106,7 @@ abbrev pub asked_by : Version → List (List ℕ) → Result Request Rule
 asked_by version [] = Err Syntax
 asked_by version (from ∷ []) = Err Syntax
 asked_by version (from ∷ date ∷ []) = Err Syntax
-asked_by version (from ∷ date ∷ to ∷ []) = with_words version (from_word_of from) date (to_word_of to)
+asked_by version (from ∷ date ∷ to ∷ []) = with_words version (from_word_in version from) date (to_word_in version to)
 asked_by version (from ∷ date ∷ to ∷ more ∷ words) = Err Syntax
 
 -- what a line asks, or the first rule of a version that it breaks

@@ -37,6 +37,19 @@ IsMoment v i = IsAbout (2 ^ 58) v i
 abbrev pub IsCorrection : ℕ → Interval → Type 0
 IsCorrection v i = IsAbout (2 ^ 30) v i
 
+-- ---- moments from one day to another
+-- a moment from the beginning of one day to that of another, and at most so wide
+abbrev pub IsFrom : (first last : ℤ) → (width : ℕ) → Interval → Type 0
+IsFrom first last v i = IsWithin (first *ℤ pos (2 ^ 32)) (last *ℤ pos (2 ^ 32)) v i
+
+-- a moment from the beginning of a day on, within 2^26 days of day 0, and at most so wide
+abbrev pub IsSince : (first : ℤ) → (width : ℕ) → Interval → Type 0
+IsSince first v i = IsWithin (first *ℤ pos (2 ^ 32)) (pos (2 ^ 58)) v i
+
+-- a moment of the years of which there are corrections, moved by at most so many days, and at most so wide
+abbrev pub IsDated : (margin width : ℕ) → Interval → Type 0
+IsDated margin v i = IsFrom (TABLE_START -ℤ pos margin) (TABLE_END +ℤ pos margin) v i
+
 -- ---- the days of which there are corrections
 -- where they begin and end, so many days beside them, in 2^-32
 abbrev pub table_from : (margin : ℕ) → ℤ
@@ -49,15 +62,7 @@ table_to margin = (TABLE_END +ℤ pos margin) *ℤ pos (2 ^ 32)
 abbrev pub table_days : (margin slope slack : ℕ) → Bound
 table_days margin slope slack = bounded (table_from margin) (table_to margin) slope slack
 
--- a moment of the years of which there are corrections
-abbrev pub IsDated : ℕ → Interval → Type 0
-IsDated v i = IsWithin (table_from 0) (table_to 0) v i
-
--- such a moment, moved by at most a day
-abbrev pub IsNearlyDated : ℕ → Interval → Type 0
-IsNearlyDated v i = IsWithin (table_from 1) (table_to 1) v i
-
--- from where to where the centuries from noon of 1 January 2000 to such a moment lie
+-- from where to where the centuries from noon of 1 January 2000 to a moment of them lie
 abbrev pub centuries_from : ℤ
 centuries_from = FIRST_CENTURY *ℤ pos (2 ^ 32)
 
@@ -79,14 +84,6 @@ recent_from later = (RECENT_START +ℤ later) *ℤ pos (2 ^ 32)
 -- the half centuries from noon of 1 January 2000 to the first of them
 abbrev pub recent_centuries_from : ℤ
 recent_centuries_from = FIRST_RECENT_HALF_CENTURY *ℤ pos (2 ^ 31)
-
--- a recent moment, within 2^26 days of day 0, and at most so wide
-abbrev pub IsRecent : ℕ → Interval → Type 0
-IsRecent v i = IsWithin (recent_from (pos 0)) (pos (2 ^ 58)) v i
-
--- a recent moment of the years of which there are corrections, moved by at most a day, but not before the recent ones
-abbrev pub IsRecentlyDated : ℕ → Interval → Type 0
-IsRecentlyDated v i = IsWithin (recent_from (pos 0)) (table_to 1) v i
 
 -- ---- others
 -- a whole number within 40,000,000 of 0, as the days are of which a fact may be asked

@@ -1,5 +1,5 @@
--- The numbers and the printed names of sites, kinds of facts and places, the places of a kind, and the location and the zone of a
--- place, by their tables.
+-- The numbers, the printed names and the first versions of sites, kinds of facts and places, the places of a kind, and the location
+-- and the zone of a place, by their tables.
 use Rattle.std.specs.Prelude.{ℕ, ◌+◌, ◌==◌, ◌||◌, nat_eq, Bool, true, false, List, [], ◌∷◌, Option, Some, None, if◌then◌else◌, map, slice_get}
 use Rattle.std.specs.List.{list_any}
 use Rattle.std.specs.Option.{option_map_or}
@@ -17,6 +17,8 @@ use Rattle.book_model.specs.declared.frac.Frac.{Frac}
 use Rattle.book_model.specs.declared.horizon.Location.{Location}
 use Rattle.book_model.specs.declared.site.Site.{Site}
 use Rattle.book_model.specs.declared.site.TheConstants.{SITES}
+use Rattle.book_model.specs.declared.version.Version.{Version}
+use Rattle.book_model.specs.declared.version.Version.TheVariants.{One}
 use Rattle.book_model.specs.declared.zone.ZoneStep.{ZoneStep}
 use Rattle.book_model.specs.sky.Correction.{no_fraction}
 
@@ -35,6 +37,10 @@ site_number site = tag_of site_type site + 1
 -- the word for a kind of fact
 unfoldable pub kind_name : Kind → List ℕ
 kind_name kind = option_map_or (λ row. row.1.now) (slice_get KINDS (kind_number kind)) []
+
+-- the first version of printed files that has a kind of fact
+unfoldable pub kind_since : Kind → Version
+kind_since kind = option_map_or (λ row. row.2.2) (slice_get KINDS (kind_number kind)) One
 
 -- the places of which a kind of fact is asked
 abbrev pub places_of : Kind → List Place
@@ -58,6 +64,10 @@ has_place kind place = list_any (λ p. place_number p == place_number place) (pl
 unfoldable pub place_name : Place → List ℕ
 place_name place = option_map_or (λ row. row.1.now) (slice_get PLACES (place_number place)) []
 
+-- the first version of printed files that has a place
+unfoldable pub place_since : Place → Version
+place_since place = option_map_or (λ row. row.2.3) (slice_get PLACES (place_number place)) One
+
 -- the location from which the horizon of a place is looked at, if it has one
 unfoldable pub location_of : Place → Option Location
 location_of place = option_map_or (λ row. row.2.0) (slice_get PLACES (place_number place)) None
@@ -73,6 +83,10 @@ last_hours place = option_map_or (λ row. row.2.2) (slice_get PLACES (place_numb
 -- the word for a site
 unfoldable pub site_name : Site → List ℕ
 site_name site = option_map_or (λ row. row.1.now) (slice_get SITES (tag_of site_type site)) []
+
+-- the first version of printed files that has a site
+unfoldable pub site_since : Site → Version
+site_since site = option_map_or (λ row. row.2) (slice_get SITES (tag_of site_type site)) One
 
 -- the first that has this name
 abbrev pub first_named : {A : Type 0} → List (A × List ℕ) → List ℕ → Option A
