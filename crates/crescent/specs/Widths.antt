@@ -9,7 +9,7 @@ IsEvening i = IsMoment (9 * 2 ^ 29) i
 
 -- the same, in the years of which there are corrections
 abbrev pub IsDatedEvening : Interval → Type 0
-IsDatedEvening i = IsDated (9 * 2 ^ 29) i
+IsDatedEvening i = IsDated 0 (9 * 2 ^ 29) i
 
 -- a sidereal time at Greenwich, not reduced: at most 2^-23 degrees wide
 abbrev pub IsSiderealTime : Interval → Type 0

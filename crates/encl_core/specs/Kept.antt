@@ -1,16 +1,17 @@
 -- What a trail keeps of its run.
 use denote.Struct.Props as facts
 use Rattle.std.specs.Coded.{Unit-prop}
-use Rattle.std.specs.Prelude.{◌≡◌, ℕ, zero, suc, ◌≤◌, ◌+◌, ◌^◌, ℤ, pos, negsuc, ◌≤ℤ◌, Bool, true, false}
+use Rattle.std.specs.Prelude.{◌≡◌, ℕ, zero, suc, ◌≤◌, ◌+◌, ◌^◌, ℤ, pos, negsuc, ◌≤ℤ◌, Bool, true, false, ◌+ℤ◌}
 use Rattle.exact_math.specs.Interval.{Interval, everything, between, ◌⊆◌, AreWithin}
 use Rattle.book_model.specs.numbers.Bounds.{bounded, IsNarrow}
 use Rattle.book_model.specs.numbers.Depth.{DEPTH}
 use Rattle.book_model.specs.numbers.Expressions.{Expression, World, value}
 use Rattle.book_model.specs.programs.Leading.{units_of_56, leaf}
 use Rattle.book_model.specs.declared.new_moon_tables.TheConstants.{FIRST_RECENT_MOON, LAST_RECENT_MOON}
-use Rattle.book_model.specs.programs.Widths.{IsWithin, IsAbout, IsNearlyDated, IsRecentlyDated}
+use Rattle.book_model.specs.programs.Widths.{IsWithin, IsAbout, IsDated, IsFrom}
 use Rattle.book_model.specs.programs.Programs.{Program, Run, answered, voided, undecided, decided, run}
 use Rattle.encl_core.specs.declared.span.Span.{Span}
+use Rattle.book_model.specs.declared.time_tables.TheConstants.{RECENT_START, TABLE_END}
 
 -- the interval between the ends of a span
 abbrev pub shown_span : Span → Interval
@@ -39,8 +40,9 @@ pub record IsKeptAbout (size width bits : ℕ) (s : Span) : Type 0 where
 -- the new moon of a number is at most so wide, where its year has a correction: half of 2^-34 and a little more; recent ones lie
 -- where recent moments do
 pub record IsMoonWithin (number : ℤ) (bits : ℕ) (s : Span) : Type 0 where
-  pub about : negsuc 6299 ≤ℤ number → number ≤ℤ pos 55724 → bits ≡ 56 → IsNearlyDated (2 ^ 29 + 2 ^ 24 + 2 ^ 17) (shown_span s)
-  pub recent : FIRST_RECENT_MOON ≤ℤ number → number ≤ℤ LAST_RECENT_MOON → bits ≡ 56 → IsRecentlyDated (2 ^ 29 + 2 ^ 24 + 2 ^ 17) (shown_span s)
+  pub about : negsuc 6299 ≤ℤ number → number ≤ℤ pos 55724 → bits ≡ 56 → IsDated 1 (2 ^ 29 + 2 ^ 24 + 2 ^ 17) (shown_span s)
+  pub recent : FIRST_RECENT_MOON ≤ℤ number → number ≤ℤ LAST_RECENT_MOON → bits ≡ 56
+      → IsFrom RECENT_START (TABLE_END +ℤ pos 1) (2 ^ 29 + 2 ^ 24 + 2 ^ 17) (shown_span s)
 
 -- ---- a span is kept in one way at most, so it may be a ghost field
 ends_prop : (i j : Interval) → IsProp (AreWithin i j)

@@ -10,7 +10,7 @@ use Rattle.book_model.specs.numbers.Bounds.{Bound, bounded, Reach, implies, boun
 use Rattle.book_model.specs.numbers.Expressions.{Expression, argument, integer, subtract, scale}
 use Rattle.book_model.specs.numbers.Fractions.{fraction_of}
 use Rattle.book_model.specs.numbers.Relations.{Narrow}
-use Rattle.book_model.specs.programs.Widths.{IsAbout, IsCorrection, IsMoment, IsNearlyDated, IsSmall, IsUpTo, Measures}
+use Rattle.book_model.specs.programs.Widths.{IsAbout, IsCorrection, IsMoment, IsSmall, IsUpTo, Measures, IsDated}
 use Rattle.book_model.specs.sky.Facts.{IsFactDay, IsValueDay}
 use Rattle.greatest_widths.proofs.Measuring.{measured, sloped, looser, moment_about}
 use Rattle.moon_core.proofs.QuarterWidths.{whole_moment}
@@ -31,7 +31,7 @@ small_day d h = (omega (arith, ints, h.0), omega (arith, ints, h.1))
 pub later_about : (v : ℕ) (i : Interval) → IsAbout (2 ^ 59) v i → IsAbout (2 ^ 90) v i
 later_about v i h = looser _ _ _ _ v v i (omega (arith, ints)) (omega (arith, ints)) (omega arith) h
 
-pub dated_moment : (v : ℕ) (i : Interval) → IsNearlyDated v i → IsMoment v i
+pub dated_moment : (v : ℕ) (i : Interval) → IsDated 1 v i → IsMoment v i
 dated_moment v i h = looser _ _ _ _ v v i (omega (arith, ints)) (omega (arith, ints)) (omega arith) h
 
 pub moments_looser : {E : Type 0} (shown : E → Interval) (v u : ℕ) (r : Result E Fail) → v ≤ u → Measures (λ t. IsMoment v (shown t)) r

@@ -24,3 +24,4 @@ mod sine_spans;
 mod sines;
 mod sun;
 mod time;
+mod zones;

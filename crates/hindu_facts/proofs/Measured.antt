@@ -1,5 +1,5 @@
 -- How wide what the Hindu calendars ask of a moment is at the scale 2^-56.
-use Rattle.std.specs.Prelude.{◌≡◌, ℕ, ◌+◌, ◌*◌, ◌^◌, true, ℤ, pos, neg_ℤ, ◌*ℤ◌, ◌≤ℤ◌, nat_lt, unsigned_abs, refl, if◌then◌else◌, ◌==◌}
+use Rattle.std.specs.Prelude.{◌≡◌, ℕ, ◌+◌, ◌*◌, ◌^◌, true, ℤ, pos, neg_ℤ, ◌*ℤ◌, ◌≤ℤ◌, nat_lt, unsigned_abs, refl, if◌then◌else◌, ◌==◌, ◌+ℤ◌}
 use Rattle.std.proofs.Common.{arith}
 use Rattle.std.proofs.lemmas.Int.{ints}
 use Rattle.std.proofs.lemmas.Bool.{lt-ltb}
@@ -11,11 +11,12 @@ use Rattle.book_model.specs.numbers.Bounds.{Bound, unbounded, bounded, Reach, im
 use Rattle.book_model.specs.numbers.Expressions.{Expression, argument, constant, integer, add, scale}
 use Rattle.book_model.specs.numbers.Fractions.{fraction_of}
 use Rattle.book_model.specs.numbers.Relations.{Narrow, Keeps}
-use Rattle.book_model.specs.programs.Widths.{IsAbout, IsMoment, IsNearlyDated, IsUpTo, IsRecentlyDated, IsRecent}
+use Rattle.book_model.specs.programs.Widths.{IsAbout, IsMoment, IsUpTo, IsDated, IsFrom, IsSince}
 use Rattle.book_model.specs.sky.Sidereal.{years_gone_of}
 use Rattle.book_model.proofs.Implying.{limits_within}
 use Rattle.rise_set.specs.declared.hindu.TheConstants.{FIRST_HINDU_DAY}
 use Rattle.greatest_widths.proofs.Measuring.{measured, sloped, looser}
+use Rattle.book_model.specs.declared.time_tables.TheConstants.{RECENT_START, TABLE_END}
 
 -- ---- parts of a turn
 abbrev turn_bounds : ℕ → Bound
@@ -73,7 +74,7 @@ years_within shown n v t s g h y e m u f i z =
 
 -- ---- a day from R.D. 620,600 on, as it begins
 pub day_recent : {E : Type 0} (shown : E → Interval) (n : ℕ) (d : ℤ) (x : E) → n ≡ 56 → FIRST_HINDU_DAY ≤ℤ d → d ≤ℤ LAST_FACT_DAY
-    → ((r : Reach) → Narrow shown (limits_of n) r (integer d) x) → IsRecent 0 (shown x)
+    → ((r : Reach) → Narrow shown (limits_of n) r (integer d) x) → IsSince RECENT_START 0 (shown x)
 unfolding Keeps bound_of integer_bound
 day_recent shown n d x e h k f =
     let l = limits_within n (omega arith) (omega arith) in
@@ -83,8 +84,8 @@ day_recent shown n d x e h k f =
     (record { kept = rw (l, e, p) at z.kept })
 
 -- ---- a new moon
-pub dated_moment : (v : ℕ) (i : Interval) → IsNearlyDated v i → IsMoment v i
+pub dated_moment : (v : ℕ) (i : Interval) → IsDated 1 v i → IsMoment v i
 dated_moment v i h = looser _ _ _ _ v v i (omega (arith, ints)) (omega (arith, ints)) (omega arith) h
 
-pub dated_recent : (v : ℕ) (i : Interval) → IsRecentlyDated v i → IsRecent v i
+pub dated_recent : (v : ℕ) (i : Interval) → IsFrom RECENT_START (TABLE_END +ℤ pos 1) v i → IsSince RECENT_START v i
 dated_recent v i h = looser _ _ _ _ v v i (omega (arith, ints)) (omega (arith, ints)) (omega arith) h

@@ -8,8 +8,9 @@ ghost use Rattle.book_model.specs.sky.Facts.{IsFactValue, IsValueDay};
 ghost use Rattle.book_model.specs.sky.HinduFacts as spec;
 ghost use Rattle.book_model.specs.programs.Searches.{first_day_from};
 ghost use Rattle.hindu_facts.specs.Counts.{IsDegree, IsLunarDay};
-ghost use Rattle.book_model.specs.programs.Widths.{IsClose, IsMoment, Closes1, IsRecent};
+ghost use Rattle.book_model.specs.programs.Widths.{IsClose, IsMoment, Closes1, IsSince};
 ghost use Rattle.time_scales.specs.Steps.{IsNoEarlyYear};
+ghost use Rattle.book_model.specs.declared.time_tables.TheConstants.{RECENT_START};
 
 use crate::zodiac::{hindu_year, sign, whole_degrees};
 use book_model::sun_tables::DEGREE_IN_LUNAR_DAYS;
@@ -179,7 +180,7 @@ fn sign_entered<E: Enclosure>(
     ensures leads { Decides1 E.shown (spec.sign_entered_of day) t trail.old.count trail.new.count
         result }
     ensures value { IfOk result IsFactValue }
-    ensures close { Closes1 E.BITS E.shown (2 ^ 41) IsRecent t result }
+    ensures close { Closes1 E.BITS E.shown (2 ^ 41) (IsSince RECENT_START) t result }
 {
     let there = sign(course, t, trail)?;
     let degrees = whole_degrees(t, trail)?;

@@ -1,12 +1,12 @@
 //! The sign of the zodiac in which the sun stands, and the year of the Kali Yuga, at a moment.
 ghost use Rattle.book_model.specs.programs.Calls.{Decides1, Encloses2};
-ghost use Rattle.book_model.specs.programs.Widths.{IsUpTo};
 ghost use Rattle.std.specs.Prelude.{◌≡◌, ◌≤◌, ◌+◌, ◌^◌, pos, ◌≤ℤ◌, Ok, IfOk, IfErr, IfSome, IsNone};
 ghost use Rattle.book_model.specs.sky.HinduFacts.{whole_degrees_of};
 ghost use Rattle.book_model.specs.sky.Sidereal as spec;
 ghost use Rattle.hindu_facts.specs.Counts.{IsDegree, IsSign, whole_signs_of};
 ghost use Rattle.time_scales.specs.Steps.{IsYearOpenFor};
-ghost use Rattle.book_model.specs.programs.Widths.{Closes1, IsRecent};
+ghost use Rattle.book_model.specs.programs.Widths.{Closes1, IsSince, IsUpTo};
+ghost use Rattle.book_model.specs.declared.time_tables.TheConstants.{RECENT_START};
 
 use book_model::calendar_tables::HINDU_EPOCH;
 use book_model::sun_tables::{DAY_IN_SIDEREAL_YEARS, DEGREE_IN_SIGNS, DEGREE_IN_TURNS};
@@ -29,7 +29,7 @@ fn whole_signs<E: Enclosure>(longitude: E, trail: &mut Trail) -> Result<i64, Fai
 #[tactic(auto, using(book_model::proofs::Leads::leading), unfolding(book_model::specs::sky::Sidereal::signs_passed_of))]
 fn signs_passed_at<E: Enclosure>(t: E, trail: &mut Trail) -> Result<i64, Fail>
     ensures leads { Decides1 E.shown spec.signs_passed_of t trail.old.count trail.new.count result }
-    ensures close { Closes1 E.BITS E.shown (2 ^ 41) IsRecent t result }
+    ensures close { Closes1 E.BITS E.shown (2 ^ 41) (IsSince RECENT_START) t result }
 {
     let longitude = sidereal_sun(t, trail)?;
     whole_signs(longitude, trail)
@@ -69,7 +69,7 @@ fn signs_passed_tried<E: Enclosure>(course: &SunCourse<E>, t: E, trail: &mut Tra
 fn signs_passed<E: Enclosure>(course: &SunCourse<E>, t: E, trail: &mut Trail) -> Result<i64, Fail>
     ensures leads { Decides1 E.shown spec.signs_passed_of t trail.old.count trail.new.count result }
     ensures near { IfOk result IsSign }
-    ensures close { Closes1 E.BITS E.shown (2 ^ 41) IsRecent t result }
+    ensures close { Closes1 E.BITS E.shown (2 ^ 41) (IsSince RECENT_START) t result }
 {
     match signs_passed_tried(course, t, trail) {
         Some(passed) => Ok(passed),
@@ -88,7 +88,7 @@ pub(crate) fn sign<E: Enclosure>(
     ensures leads { Decides1 E.shown spec.sign_of t trail.old.count trail.new.count result }
     ensures from { IfOk result (λ g. pos 1 ≤ℤ g) }
     ensures to { IfOk result (λ g. g ≤ℤ pos 13) }
-    ensures close { Closes1 E.BITS E.shown (2 ^ 41) IsRecent t result }
+    ensures close { Closes1 E.BITS E.shown (2 ^ 41) (IsSince RECENT_START) t result }
 {
     let passed = signs_passed(course, t, trail)?;
     Ok(passed + 1)
@@ -99,7 +99,7 @@ pub(crate) fn sign<E: Enclosure>(
 pub(crate) fn whole_degrees<E: Enclosure>(t: E, trail: &mut Trail) -> Result<i64, Fail>
     ensures leads { Decides1 E.shown whole_degrees_of t trail.old.count trail.new.count result }
     ensures near { IfOk result IsDegree }
-    ensures close { Closes1 E.BITS E.shown (2 ^ 41) IsRecent t result }
+    ensures close { Closes1 E.BITS E.shown (2 ^ 41) (IsSince RECENT_START) t result }
 {
     let longitude = sidereal_sun(t, trail)?;
     floor_step(longitude, Site::Sidereal, trail)
@@ -121,7 +121,7 @@ fn years_gone<E: Enclosure>(t: E, longitude: E) -> E
 pub(crate) fn hindu_year<E: Enclosure>(t: E, trail: &mut Trail) -> Result<i64, Fail>
     ensures leads { Decides1 E.shown spec.hindu_year_of t trail.old.count trail.new.count result }
     ensures open { IfErr result (IsYearOpenFor (E.shown t)) }
-    ensures close { Closes1 E.BITS E.shown (2 ^ 41) IsRecent t result }
+    ensures close { Closes1 E.BITS E.shown (2 ^ 41) (IsSince RECENT_START) t result }
 {
     let longitude = sidereal_sun(t, trail)?;
     floor_step(

@@ -4,7 +4,7 @@ use Rattle.std.proofs.Common.{arith}
 use Rattle.std.proofs.lemmas.Int.{ints}
 use Rattle.exact_math.specs.Interval.{Interval}
 use Rattle.book_model.specs.declared.fail.Fail.{Fail}
-use Rattle.book_model.specs.declared.new_moon_tables.TheConstants.{DAY_IN_MONTHS, DEGREE_IN_MONTHS, TURN}
+use Rattle.book_model.specs.declared.new_moon_tables.TheConstants.{DAY_IN_MONTHS, DEGREE_IN_MONTHS, TURN, LATE_START}
 use Rattle.book_model.specs.declared.tables.TheConstants.{HALF}
 use Rattle.book_model.specs.numbers.Bounds.{Bound, unbounded, bounded, Reach, implies, bound_of, limits_at, limits_of, integer_bound, constant_bound, sum_bound, difference_bound, negated_bound, scaled_bound, product_bound, power_bound, maximum_bound, spanned_bound, sine_spans}
 use Rattle.book_model.specs.numbers.Expressions.{Expression, argument, integer, constant, add, subtract, scale, remainder}
@@ -12,7 +12,7 @@ use Rattle.book_model.specs.numbers.Fractions.{fraction_of}
 use Rattle.book_model.specs.numbers.Polynomials.{quadratic_of, quadratic_wave_of}
 use Rattle.book_model.specs.numbers.Relations.{Narrow}
 use Rattle.book_model.specs.numbers.Terms.{terms_to, terms_of, times_power}
-use Rattle.book_model.specs.programs.Widths.{IsAbout, IsMoment, IsNearlyDated, IsUpTo, table_days, table_from, table_to}
+use Rattle.book_model.specs.programs.Widths.{IsAbout, IsMoment, IsUpTo, table_days, table_from, table_to, IsDated, IsSince}
 use Rattle.book_model.specs.sky.Latitude.{latitude_term_of, latitude_terms_of, venus_by, flattening_by}
 use Rattle.book_model.specs.sky.Moon.{lunar_angle_of, lunar_term_of, longitude_term_of}
 use Rattle.book_model.specs.sky.Phases.{size_of}
@@ -22,7 +22,6 @@ use Rattle.encl_core.proofs.StepWidths.{left_within}
 use Rattle.sun_core.specs.Daily.{in_centuries, has_daily, by_centuries, by_days, daily_wave_of}
 use Rattle.sun_core.proofs.Measured.{tabled, days_of}
 use Rattle.moon_core.specs.Daily.{daily_quartic_of, daily_cubic_of, daily_angles_of, computed_terms_of, computed_flattening_of, computed_inequalities_of, computed_longitude_of, computed_millionths_of, computed_latitude_of}
-use Rattle.moon_core.specs.Widths.{IsLate}
 
 -- ---- what is left of a wrap, where it answers: as wide as what was wrapped, whatever that is
 pub left_answer : {E : Type 0} (shown : E → Interval) (n m v : ℕ) (x : E) (result : Result E Fail) → n ≡ 56 → m < 2 ^ 32 → IsAbout (2 ^ 90) v (shown x)
@@ -89,7 +88,7 @@ unfolding implies bound_of difference_bound scaled_bound
 months_reach = refl
 
 -- the months from a new moon to a moment
-pub months_within : {E : Type 0} (shown : E → Interval) (n v : ℕ) (t m d y : E) → n ≡ 56 → IsMoment v (shown t) → IsNearlyDated (2 ^ 30) (shown m)
+pub months_within : {E : Type 0} (shown : E → Interval) (n v : ℕ) (t m d y : E) → n ≡ 56 → IsMoment v (shown t) → IsDated 1 (2 ^ 30) (shown m)
     → ((r : Reach) (p q : Expression) → Narrow shown (limits_of n) r p t → Narrow shown (limits_of n) r q m → Narrow shown (limits_of n) r (subtract p q) d)
     → ((r : Reach) (p : Expression) → Narrow shown (limits_of n) r p d → Narrow shown (limits_of n) r (scale (fraction_of DAY_IN_MONTHS) p) y)
     → IsAbout (2 ^ 54) (v / 29 + 2 ^ 26) (shown y)
@@ -202,8 +201,8 @@ number_within shown n v m p s y e h k f g =
     k)))
 
 -- a moment of a new moon is a number that a comparison can have
-pub dated_about : (v : ℕ) (i : Interval) → IsNearlyDated v i → IsAbout (2 ^ 90) v i
+pub dated_about : (v : ℕ) (i : Interval) → IsDated 1 v i → IsAbout (2 ^ 90) v i
 dated_about v i h = looser _ _ _ _ v v i (omega (arith, ints)) (omega (arith, ints)) (omega arith) h
 
-pub late_moment : (v : ℕ) (i : Interval) → IsLate v i → IsMoment v i
+pub late_moment : (v : ℕ) (i : Interval) → IsSince LATE_START v i → IsMoment v i
 late_moment v i h = looser _ _ _ _ v v i (omega (arith, ints)) (omega (arith, ints)) (omega arith) h

@@ -32,8 +32,8 @@ use Rattle.book_model.proofs.FactRuns.{centuries_few, correction_at_few, sun_few
 use Rattle.book_model.proofs.Leads.{at_most_bind, at_most_more, leads_leaf, leads_value}
 use Rattle.time_scales.proofs.Moments.{dated_in_table, universal_between}
 use Rattle.book_model.proofs.Values.{value_proper}
-use Rattle.moon_core.specs.Widths.{IsLate}
 use Rattle.moon_core.proofs.FirstMoon.{first_moon_between}
+use Rattle.book_model.specs.programs.Widths.{IsSince}
 
 -- ---- how many tests
 pub new_moon_few : (n : ℤ) → AtMost 1 (new_moon_of n)
@@ -279,7 +279,7 @@ number_near w x n e =
     (omega (arith, ints, f.0), omega (arith, ints, f.1))
 
 -- and a late one of a late moment
-late_between : (v : ℕ) (i : Interval) → IsLate v i → IsInTable i → IsBetween LATE_START TABLE_END i
+late_between : (v : ℕ) (i : Interval) → IsSince LATE_START v i → IsInTable i → IsBetween LATE_START TABLE_END i
 unfolding IsNarrow
 late_between v everything h t = tt
 late_between v (between a b) h t = (le_trans _ _ _ (record { cross = omega (arith, ints) }) h.kept.above, t.1)
@@ -331,7 +331,8 @@ pub number_found : {E : Type 0} (shown : E → Interval) (p : (e : E) → IsProp
 number_found shown p t (Ok n) k = number_near (world_of (shown t) (p t)) (argument 0) n (leads_value k)
 number_found shown p t (Err f) k = tt
 
-pub late_found : {E : Type 0} (shown : E → Interval) (p : (e : E) → IsProper (shown e)) (t : E) {b a : ℕ} (v : ℕ) (r : Result ℤ Fail) → IsLate v (shown t) →
+pub late_found : {E : Type 0} (shown : E → Interval) (p : (e : E) → IsProper (shown e)) (t : E) {b a : ℕ} (v : ℕ) (r : Result ℤ Fail)
+    → IsSince LATE_START v (shown t) →
     Leads (world_of (shown t) (p t)) Exact (number_of_moon (argument 0)) b a r → IfOk r (λ n. FIRST_LATE_MOON ≤ℤ n)
 unfolding value world_of
 late_found shown p t v (Ok n) h k = let f = number_between (world_of (shown t) (p t)) (argument 0) n LATE_START FIRST_LATE_MONTH months_of_late_days

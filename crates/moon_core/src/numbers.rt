@@ -3,12 +3,11 @@
 //! It is rounded from months that lie within a 50th of a whole number, so a phase by a course over all usual days tells it mostly.
 //! Where that leaves a test open, as near a new moon, its tests are taken back, and the phase at the moment tells it.
 ghost use Rattle.book_model.specs.programs.Calls.{Decides1, Decides2};
-ghost use Rattle.book_model.specs.programs.Widths.{IsAbout, IsClose, IsMoment, IsUpTo, Closes1};
+ghost use Rattle.book_model.specs.programs.Widths.{IsAbout, IsClose, IsMoment, IsUpTo, Closes1, IsSince};
 ghost use Rattle.std.specs.Prelude.{◌≡◌, ℕ, ◌≤◌, ◌+◌, ◌*◌, ◌/◌, ◌^◌, pos, negsuc, ◌≤ℤ◌, Ok, IfOk, IfErr, IfSome, IsNone};
-ghost use Rattle.book_model.specs.declared.new_moon_tables.TheConstants.{FIRST_LATE_MOON as first_late, LAST_TABLE_MOON as last_moon};
+ghost use Rattle.book_model.specs.declared.new_moon_tables.TheConstants.{FIRST_LATE_MOON as first_late, LAST_TABLE_MOON as last_moon, LATE_START};
 ghost use Rattle.book_model.specs.sky.Phases as spec;
 ghost use Rattle.moon_core.specs.Courses.{number_by, number_of_phase as number_of_phase_of};
-ghost use Rattle.moon_core.specs.Widths.{IsLate};
 ghost use Rattle.greatest_widths.specs.declared.table.TheConstants.{PHASE};
 ghost use Rattle.greatest_widths.specs.Table.{greatest_of};
 
@@ -108,7 +107,7 @@ pub(crate) fn number<E: Enclosure>(
     ensures high { IfOk result (λ n. n ≤ℤ pos 40000) }
     ensures from { IfOk result (λ n. negsuc 6199 ≤ℤ n) }
     ensures to { IfOk result (λ n. n ≤ℤ last_moon) }
-    ensures late { (v : ℕ) → IsLate v (E.shown t) → IfOk result (λ n. first_late ≤ℤ n) }
+    ensures late { (v : ℕ) → IsSince LATE_START v (E.shown t) → IfOk result (λ n. first_late ≤ℤ n) }
     ensures close { Closes1 E.BITS E.shown (3 * 2 ^ 37) IsMoment t result }
 {
     let months = months_since(0, t, trail)?;

@@ -1,12 +1,12 @@
 //! The new moons before and from a moment, by a walk over their numbers.
 ghost use Rattle.book_model.specs.programs.Calls.{Decides1, Follows, Follows1};
-ghost use Rattle.book_model.specs.programs.Widths.{IsMoment, IsSmall, IsNearlyDated, Measured, Measured1, Closes1, IsRecentlyDated};
+ghost use Rattle.book_model.specs.programs.Widths.{IsMoment, IsSmall, Measured, Measured1, Closes1, IsDated, IsFrom, IsSince};
 ghost use Rattle.std.specs.Prelude.{◌≡◌, ◌+◌, ◌*◌, ◌^◌, pos, negsuc, ◌≤ℤ◌, ◌+ℤ◌, ◌-ℤ◌, IfOk};
-ghost use Rattle.book_model.specs.declared.new_moon_tables.TheConstants.{FIRST_RECENT_MOON as first_recent, LAST_RECENT_MOON as last_recent};
+ghost use Rattle.book_model.specs.declared.new_moon_tables.TheConstants.{FIRST_RECENT_MOON as first_recent, LAST_RECENT_MOON as last_recent, LATE_START};
 ghost use Rattle.book_model.specs.sky.Phases as spec;
-ghost use Rattle.moon_core.specs.Widths.{IsLate};
 ghost use Rattle.greatest_widths.specs.declared.table.TheConstants.{NEW_MOON};
 ghost use Rattle.greatest_widths.specs.Table.{greatest_of};
+ghost use Rattle.book_model.specs.declared.time_tables.TheConstants.{RECENT_START, TABLE_END};
 
 use crate::numbers::number;
 use crate::phase_courses::PhaseCourse;
@@ -60,9 +60,10 @@ fn moon_preceding<E: Enclosure>(n: i64, trail: &mut Trail) -> Result<E, Fail>
     ensures leads { Follows E.shown (spec.moon_preceding_of n) trail.old.count trail.new.count
         result }
     ensures measured { negsuc 6298 ≤ℤ n → n ≤ℤ pos 55724
-        → Measured E.BITS E.shown (IsNearlyDated (greatest_of NEW_MOON 0)) result }
+        → Measured E.BITS E.shown (IsDated 1 (greatest_of NEW_MOON 0)) result }
     ensures recent { (first_recent +ℤ pos 1) ≤ℤ n → n ≤ℤ (last_recent +ℤ pos 1)
-        → Measured E.BITS E.shown (IsRecentlyDated (greatest_of NEW_MOON 0)) result }
+        → Measured E.BITS E.shown
+        (IsFrom RECENT_START (TABLE_END +ℤ pos 1) (greatest_of NEW_MOON 0)) result }
 {
     new_moon::<E>(n - 1, trail)
 }
@@ -76,9 +77,9 @@ pub fn moon_before_by<E: Enclosure>(
 ) -> Result<E, Fail>
     ensures leads { Follows1 E.shown spec.moon_before_of t trail.old.count trail.new.count result }
     ensures measured { Measured1 E.BITS E.shown (3 * 2 ^ 37) IsMoment
-        (λ v. IsNearlyDated (greatest_of NEW_MOON 0)) t result }
-    ensures recent { Measured1 E.BITS E.shown (3 * 2 ^ 37) IsLate
-        (λ v. IsRecentlyDated (greatest_of NEW_MOON 0)) t result }
+        (λ v. IsDated 1 (greatest_of NEW_MOON 0)) t result }
+    ensures recent { Measured1 E.BITS E.shown (3 * 2 ^ 37) (IsSince LATE_START)
+        (λ v. IsFrom RECENT_START (TABLE_END +ℤ pos 1) (greatest_of NEW_MOON 0)) t result }
 {
     let about = number(course, t, trail)?;
     let next = walk(NUMBERS_TRIED, t, about - 1, trail)?;
@@ -92,9 +93,9 @@ pub fn moon_before_by<E: Enclosure>(
 pub fn moon_before<E: Enclosure>(t: E, trail: &mut Trail) -> Result<E, Fail>
     ensures leads { Follows1 E.shown spec.moon_before_of t trail.old.count trail.new.count result }
     ensures measured { Measured1 E.BITS E.shown (3 * 2 ^ 37) IsMoment
-        (λ v. IsNearlyDated (greatest_of NEW_MOON 0)) t result }
-    ensures recent { Measured1 E.BITS E.shown (3 * 2 ^ 37) IsLate
-        (λ v. IsRecentlyDated (greatest_of NEW_MOON 0)) t result }
+        (λ v. IsDated 1 (greatest_of NEW_MOON 0)) t result }
+    ensures recent { Measured1 E.BITS E.shown (3 * 2 ^ 37) (IsSince LATE_START)
+        (λ v. IsFrom RECENT_START (TABLE_END +ℤ pos 1) (greatest_of NEW_MOON 0)) t result }
 {
     let course = PhaseCourse::<E>::usual();
     moon_before_by(&course, t, trail)
@@ -109,9 +110,9 @@ pub fn moon_from_by<E: Enclosure>(
 ) -> Result<E, Fail>
     ensures leads { Follows1 E.shown spec.moon_from_of t trail.old.count trail.new.count result }
     ensures measured { Measured1 E.BITS E.shown (3 * 2 ^ 37) IsMoment
-        (λ v. IsNearlyDated (greatest_of NEW_MOON 0)) t result }
-    ensures recent { Measured1 E.BITS E.shown (3 * 2 ^ 37) IsLate
-        (λ v. IsRecentlyDated (greatest_of NEW_MOON 0)) t result }
+        (λ v. IsDated 1 (greatest_of NEW_MOON 0)) t result }
+    ensures recent { Measured1 E.BITS E.shown (3 * 2 ^ 37) (IsSince LATE_START)
+        (λ v. IsFrom RECENT_START (TABLE_END +ℤ pos 1) (greatest_of NEW_MOON 0)) t result }
 {
     let about = number(course, t, trail)?;
     let next = walk(NUMBERS_TRIED, t, about, trail)?;
@@ -125,9 +126,9 @@ pub fn moon_from_by<E: Enclosure>(
 pub fn moon_from<E: Enclosure>(t: E, trail: &mut Trail) -> Result<E, Fail>
     ensures leads { Follows1 E.shown spec.moon_from_of t trail.old.count trail.new.count result }
     ensures measured { Measured1 E.BITS E.shown (3 * 2 ^ 37) IsMoment
-        (λ v. IsNearlyDated (greatest_of NEW_MOON 0)) t result }
-    ensures recent { Measured1 E.BITS E.shown (3 * 2 ^ 37) IsLate
-        (λ v. IsRecentlyDated (greatest_of NEW_MOON 0)) t result }
+        (λ v. IsDated 1 (greatest_of NEW_MOON 0)) t result }
+    ensures recent { Measured1 E.BITS E.shown (3 * 2 ^ 37) (IsSince LATE_START)
+        (λ v. IsFrom RECENT_START (TABLE_END +ℤ pos 1) (greatest_of NEW_MOON 0)) t result }
 {
     let course = PhaseCourse::<E>::usual();
     moon_from_by(&course, t, trail)

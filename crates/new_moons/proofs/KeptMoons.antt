@@ -1,6 +1,6 @@
 -- A new moon makes one test, of the year, so what it was once it is again; and how wide it is when it is taken again.
 use Rattle.std.proofs.Common.{◌≡◌, ℕ, ◌+◌, ◌^◌, ℤ, pos, negsuc, ◌≤ℤ◌, ◌-ℤ◌, Option, Some, None, Ok, IfSome, arith}
-use Rattle.std.specs.Prelude.{neg_ℤ, nat_lt, true, refl}
+use Rattle.std.specs.Prelude.{neg_ℤ, nat_lt, true, refl, pos, ◌+ℤ◌}
 use Rattle.std.proofs.lemmas.Int.{ints}
 use Rattle.exact_math.specs.Interval.{Interval, ◌⊆◌}
 use Rattle.book_model.specs.declared.site.Site.TheVariants.{Year}
@@ -9,7 +9,7 @@ use Rattle.book_model.specs.numbers.Expressions.{Expression, subtract}
 use Rattle.book_model.specs.numbers.Bounds.{Bound, bounded, IsNarrow, spanned_bound, range_size, limits_at, limits_of}
 use Rattle.book_model.specs.programs.Calls.{Follows}
 use Rattle.book_model.specs.programs.Programs.{Program, answer, bind, years, AtMost, answer_at_most}
-use Rattle.book_model.specs.programs.Widths.{Measured, IsWithin, IsNearlyDated, IsRecentlyDated, recent_from, table_from, table_to}
+use Rattle.book_model.specs.programs.Widths.{Measured, IsWithin, recent_from, table_from, table_to, IsDated, IsFrom}
 use Rattle.book_model.specs.sky.Correction.{year_of}
 use Rattle.book_model.specs.sky.NewMoons.{dynamical_new_moon_of, new_moon_of}
 use Rattle.book_model.specs.sky.Time.{correction_of_year, correction_at, from_dynamical_of}
@@ -20,6 +20,7 @@ use Rattle.greatest_widths.proofs.Measuring.{looser, narrower}
 use Rattle.encl_core.specs.declared.span.Span.{Span}
 use Rattle.encl_core.specs.Kept.{shown_span, IsKept, IsMoonWithin}
 use Rattle.encl_core.proofs.Keeping.{kept_with_test}
+use Rattle.book_model.specs.declared.time_tables.TheConstants.{RECENT_START, TABLE_END}
 
 -- what follows the test of the year
 abbrev after_year : Expression → ℤ → Program Expression
@@ -37,8 +38,8 @@ moon_kept n o h k =
 
 -- what may be kept of a new moon
 pub moon_kept_within : {E : Type 0} (shown : E → Interval) (number : ℤ) (n : ℕ) (o : Option Span) (e : E)
-    → (negsuc 6299 ≤ℤ number → number ≤ℤ pos 55724 → Measured n shown (IsNearlyDated (2 ^ 29 + 2 ^ 24 + 2 ^ 17)) (Ok e))
-    → (FIRST_RECENT_MOON ≤ℤ number → number ≤ℤ LAST_RECENT_MOON → Measured n shown (IsRecentlyDated (2 ^ 29 + 2 ^ 24 + 2 ^ 17)) (Ok e))
+    → (negsuc 6299 ≤ℤ number → number ≤ℤ pos 55724 → Measured n shown (IsDated 1 (2 ^ 29 + 2 ^ 24 + 2 ^ 17)) (Ok e))
+    → (FIRST_RECENT_MOON ≤ℤ number → number ≤ℤ LAST_RECENT_MOON → Measured n shown (IsFrom RECENT_START (TABLE_END +ℤ pos 1) (2 ^ 29 + 2 ^ 24 + 2 ^ 17)) (Ok e))
     → IfSome o (λ s. shown e ⊆ shown_span s) → IfSome o (λ s. shown_span s ⊆ shown e) → IfSome o (IsMoonWithin number n)
 moon_kept_within shown number n None e m o h k = k
 moon_kept_within shown number n (Some s) e m o h k = record {
@@ -59,8 +60,8 @@ taken_within shown low high n s e p f h k =
 
 module _ {E : Type 0} (shown : E → Interval) (number : ℤ) (n : ℕ) (s : Span) (e : E) (h : IsMoonWithin number n s)
     (k : (w : ℕ) (b : Bound) → IsNarrow w b (shown_span s) → IsNarrow w (spanned_bound (limits_of n) b) (shown e)) where
-  pub moon_taken_within : negsuc 6299 ≤ℤ number → number ≤ℤ pos 55724 → n ≡ 56 → IsNearlyDated (2 ^ 30) (shown e)
+  pub moon_taken_within : negsuc 6299 ≤ℤ number → number ≤ℤ pos 55724 → n ≡ 56 → IsDated 1 (2 ^ 30) (shown e)
   moon_taken_within a b p = taken_within shown (table_from 1) (table_to 1) n s e p refl (h.about a b p) k
 
-  pub recent_taken_within : FIRST_RECENT_MOON ≤ℤ number → number ≤ℤ LAST_RECENT_MOON → n ≡ 56 → IsRecentlyDated (2 ^ 30) (shown e)
+  pub recent_taken_within : FIRST_RECENT_MOON ≤ℤ number → number ≤ℤ LAST_RECENT_MOON → n ≡ 56 → IsFrom RECENT_START (TABLE_END +ℤ pos 1) (2 ^ 30) (shown e)
   recent_taken_within a b p = taken_within shown (recent_from (pos 0)) (table_to 1) n s e p refl (h.recent a b p) k

@@ -1,6 +1,6 @@
 -- How wide a new moon is at the scale 2^-56: its parts by the sizes of their coefficients, which hold at each time within 26 centuries;
 -- and that one within 3 centuries is recent.
-use Rattle.std.specs.Prelude.{◌≡◌, ℕ, zero, suc, ◌+◌, ◌-◌, ◌*◌, ◌^◌, ◌≤◌, Bool, true, false, ◌&&◌, nat_le, unsigned_abs, ℤ, pos, negsuc, neg_ℤ, ◌≤ℤ◌, List, length, slice_index_or, refl, if◌then◌else◌, ◌==◌, Result, Ok, Err}
+use Rattle.std.specs.Prelude.{◌≡◌, ℕ, zero, suc, ◌+◌, ◌-◌, ◌*◌, ◌^◌, ◌≤◌, Bool, true, false, ◌&&◌, nat_le, unsigned_abs, ℤ, pos, negsuc, neg_ℤ, ◌≤ℤ◌, List, length, slice_index_or, refl, if◌then◌else◌, ◌==◌, Result, Ok, Err, ◌+ℤ◌}
 use Rattle.std.proofs.Common.{arith}
 use Rattle.std.proofs.lemmas.Int.{ints}
 use Rattle.std.proofs.lemmas.Bool.{leb-true}
@@ -11,14 +11,14 @@ use Rattle.book_model.specs.declared.frac.Frac.{Frac}
 use Rattle.book_model.specs.declared.moon_tables.TheConstants.{ECCENTRICITY_FACTOR}
 use Rattle.book_model.specs.declared.moon_terms.PlanetTerm.{PlanetTerm}
 use Rattle.book_model.specs.declared.new_moon_tables.TheConstants.{MEAN_NEW_MOON, NEW_MOON_ANOMALY, NEW_MOON_LATITUDE_ARGUMENT, NEW_MOON_NODE, NEW_MOON_SUN_ANOMALY, NEW_MOON_TERMS, NEW_MOON_WAVE, NODE_TERM, PLANET_TERMS, RECENT_CENTURIES, RECENT_DAYS}
-use Rattle.book_model.specs.declared.time_tables.TheConstants.{NOON_2000}
+use Rattle.book_model.specs.declared.time_tables.TheConstants.{NOON_2000, RECENT_START}
 use Rattle.book_model.specs.numbers.Bounds.{Bound, unbounded, bounded, Reach, bound_of, implies, limits_at, limits_of, integer_bound, constant_bound, sum_bound, scaled_bound, product_bound, power_bound, spanned_bound, sine_spans}
 use Rattle.book_model.specs.numbers.Expressions.{Expression, argument, constant, add, scale, sine}
 use Rattle.book_model.specs.numbers.Fractions.{fraction_of}
 use Rattle.book_model.specs.numbers.Polynomials.{quadratic_of, quadratic_wave_of}
 use Rattle.book_model.specs.numbers.Relations.{Narrow, Keeps}
 use Rattle.book_model.specs.numbers.Terms.{terms_to, terms_of, times_power}
-use Rattle.book_model.specs.programs.Widths.{IsWithin, IsAbout, IsMoment, Measures, recent_from}
+use Rattle.book_model.specs.programs.Widths.{IsWithin, IsAbout, IsMoment, Measures, recent_from, IsSince}
 use Rattle.book_model.specs.sky.NewMoons.{NewMoonAngles, new_moon_term_of, angle_of_new_moon_term, no_new_moon_term, millionths, planet_angle, planet_term_of, planet_terms_of, no_planet_term, centuries_of_months}
 use Rattle.book_model.proofs.Implying.{limits_within}
 use Rattle.greatest_widths.specs.Sizes.{HasSize}
@@ -26,7 +26,6 @@ use Rattle.greatest_widths.proofs.Covering.{IsCovered, wider_covered, scaled_cov
 use Rattle.greatest_widths.proofs.Measuring.{measured, sloped, looser}
 use Rattle.greatest_widths.proofs.WaveCovers.{constant_covered, constant_sine_covered, terms_covered}
 use Rattle.time_scales.specs.Horner.{horner_size, horner_width, horner_fits}
-use Rattle.time_scales.specs.Widths.{IsLater}
 use Rattle.new_moons.specs.Angles.{KeepAngles}
 use Rattle.new_moons.specs.Widths.{IsNearTime, IsRecentMonth, IsRecentTime, IsRecentMean, recent_mean_from, recent_mean_to, AreNearAngles}
 use Rattle.new_moons.specs.declared.angles.Angles.{Angles}
@@ -297,7 +296,7 @@ module _ {E : Type 0} (shown : E → Interval) (n : ℕ) (a b c d z y1 y2 y3 y4 
     parts_within ha = measured shown n 0 (part_bounds (neg_ℤ (pos (2 ^ 54))) (pos (2 ^ 54))) sum_of_parts _ _ 0 (2 ^ 29 + 2 ^ 24) (2 ^ 29 + 2 ^ 24) y4 p
         parts_reach (omega arith) (parts_kept _ _ ha)
 
-    pub recent_parts_within : IsRecentMean (2 ^ 29) (shown a) → IsLater (2 ^ 29 + 2 ^ 24) (shown y4)
+    pub recent_parts_within : IsRecentMean (2 ^ 29) (shown a) → IsSince (RECENT_START +ℤ pos 1) (2 ^ 29 + 2 ^ 24) (shown y4)
     recent_parts_within ha =
         measured shown n 0 (part_bounds recent_mean_from recent_mean_to) sum_of_parts _ _ 0 (2 ^ 29 + 2 ^ 24) (2 ^ 29 + 2 ^ 24) y4 p recent_parts_reach
         (omega arith) (parts_kept _ _ ha)

@@ -1,16 +1,16 @@
 //! The moment of a new moon.
 ghost use Rattle.book_model.specs.programs.Calls.{Encloses, Follows, Holds, Narrows};
-ghost use Rattle.book_model.specs.programs.Widths.{IsAbout, IsMoment, IsSmall, Measured, IsNearlyDated, IsRecentlyDated};
-ghost use Rattle.std.specs.Prelude.{◌≡◌, ◌+◌, ◌^◌, ℤ, pos, negsuc, ◌≤ℤ◌};
+ghost use Rattle.book_model.specs.programs.Widths.{IsAbout, IsMoment, IsSmall, Measured, IsDated, IsFrom, IsSince};
+ghost use Rattle.std.specs.Prelude.{◌≡◌, ◌+◌, ◌^◌, ℤ, pos, negsuc, ◌≤ℤ◌, ◌+ℤ◌};
 ghost use Rattle.book_model.specs.declared.new_moon_tables.TheConstants.{FIRST_RECENT_MOON as first_recent, LAST_RECENT_MOON as last_recent};
 ghost use Rattle.book_model.specs.numbers.Fractions.{fraction_of};
 ghost use Rattle.book_model.specs.programs.Leading.{next_turn};
 ghost use Rattle.book_model.specs.sky.NewMoons as spec;
 ghost use Rattle.greatest_widths.specs.declared.table.TheConstants.{NEW_MOON};
 ghost use Rattle.greatest_widths.specs.Table.{greatest_of};
-ghost use Rattle.time_scales.specs.Widths.{IsLater};
 ghost use Rattle.new_moons.specs.Widths.{IsNearTime, IsRecentMonth, IsRecentTime, IsRecentMean};
 ghost use Rattle.new_moons.specs.Moons.{computed_mean_of, computed_node_term_of, computed_terms_of, computed_new_moon_of};
+ghost use Rattle.book_model.specs.declared.time_tables.TheConstants.{RECENT_START, TABLE_END};
 
 use crate::angles::{Angles, angles_at};
 use crate::terms::Number;
@@ -102,7 +102,7 @@ fn dynamical_new_moon<E: Enclosure>(number: i64) -> E
     ensures measured { E.BITS ≡ 56 → negsuc 31023 ≤ℤ number → number ≤ℤ pos 31024
         → IsMoment (2 ^ 29 + 2 ^ 24) (E.shown result) }
     ensures recent { E.BITS ≡ 56 → IsRecentMonth number
-        → IsLater (2 ^ 29 + 2 ^ 24) (E.shown result) }
+        → IsSince (RECENT_START +ℤ pos 1) (2 ^ 29 + 2 ^ 24) (E.shown result) }
 {
     let time = centuries_of_months(number);
     mean_new_moon::<E>(time)
@@ -118,9 +118,10 @@ fn evaluated_moon<E: Enclosure>(n: i64, trail: &mut Trail) -> Result<E, Fail>
     requires number { IsSmall n }
     ensures leads { Follows E.shown (spec.new_moon_of n) trail.old.count trail.new.count result }
     ensures measured { negsuc 6299 ≤ℤ n → n ≤ℤ pos 55724
-        → Measured E.BITS E.shown (IsNearlyDated (2 ^ 29 + 2 ^ 24 + 2 ^ 17)) result }
+        → Measured E.BITS E.shown (IsDated 1 (2 ^ 29 + 2 ^ 24 + 2 ^ 17)) result }
     ensures recent { first_recent ≤ℤ n → n ≤ℤ last_recent
-        → Measured E.BITS E.shown (IsRecentlyDated (2 ^ 29 + 2 ^ 24 + 2 ^ 17)) result }
+        → Measured E.BITS E.shown
+        (IsFrom RECENT_START (TABLE_END +ℤ pos 1) (2 ^ 29 + 2 ^ 24 + 2 ^ 17)) result }
     ensures counted { trail.new.count ≡ next_turn trail.old.count }
 {
     from_dynamical(dynamical_new_moon::<E>(n - NEW_MOON_OF_2000), trail)
@@ -131,9 +132,10 @@ fn kept_moon<E: Enclosure>(n: i64, trail: &mut Trail) -> Result<E, Fail>
     requires number { IsSmall n }
     ensures leads { Follows E.shown (spec.new_moon_of n) trail.old.count trail.new.count result }
     ensures measured { negsuc 6299 ≤ℤ n → n ≤ℤ pos 55724
-        → Measured E.BITS E.shown (IsNearlyDated (2 ^ 29 + 2 ^ 24 + 2 ^ 17)) result }
+        → Measured E.BITS E.shown (IsDated 1 (2 ^ 29 + 2 ^ 24 + 2 ^ 17)) result }
     ensures recent { first_recent ≤ℤ n → n ≤ℤ last_recent
-        → Measured E.BITS E.shown (IsRecentlyDated (2 ^ 29 + 2 ^ 24 + 2 ^ 17)) result }
+        → Measured E.BITS E.shown
+        (IsFrom RECENT_START (TABLE_END +ℤ pos 1) (2 ^ 29 + 2 ^ 24 + 2 ^ 17)) result }
     ensures counted { trail.new.count ≡ next_turn trail.old.count }
 {
     let moment = evaluated_moon::<E>(n, trail)?;
@@ -148,9 +150,10 @@ pub fn new_moon<E: Enclosure>(n: i64, trail: &mut Trail) -> Result<E, Fail>
     requires number { IsSmall n }
     ensures leads { Follows E.shown (spec.new_moon_of n) trail.old.count trail.new.count result }
     ensures measured { negsuc 6299 ≤ℤ n → n ≤ℤ pos 55724
-        → Measured E.BITS E.shown (IsNearlyDated (greatest_of NEW_MOON 0)) result }
+        → Measured E.BITS E.shown (IsDated 1 (greatest_of NEW_MOON 0)) result }
     ensures recent { first_recent ≤ℤ n → n ≤ℤ last_recent
-        → Measured E.BITS E.shown (IsRecentlyDated (greatest_of NEW_MOON 0)) result }
+        → Measured E.BITS E.shown
+        (IsFrom RECENT_START (TABLE_END +ℤ pos 1) (greatest_of NEW_MOON 0)) result }
     ensures counted { trail.new.count ≡ next_turn trail.old.count }
 {
     match trail.new_moon(n, E::BITS) {

@@ -14,14 +14,13 @@ use Rattle.book_model.specs.numbers.Bounds.{Reach, IsNarrow, limits_of}
 use Rattle.book_model.specs.numbers.Depth.{DEPTH}
 use Rattle.book_model.specs.numbers.Expressions.{Expression, World, value, argument, subtract}
 use Rattle.book_model.specs.numbers.Fractions.{fraction_of}
-use Rattle.book_model.specs.numbers.Ranges.{IsInTable}
+use Rattle.book_model.specs.numbers.Ranges.{IsInTable, IsNearTable}
 use Rattle.book_model.specs.numbers.Relations.{Narrow, Within, Lies}
 use Rattle.book_model.specs.programs.Widths.{IsAbout, IsMoment}
 use Rattle.book_model.specs.sky.Noon.{ahead_of}
 use Rattle.book_model.proofs.Values.{value_proper}
 use Rattle.sun_core.specs.Widths.{IsNarrowPlace}
 use Rattle.sun_core.proofs.Measured.{ahead_within}
-use Rattle.rise_set.specs.Widths.{IsMeanDated}
 use Rattle.book_model.specs.declared.time_tables.TheConstants.{TABLE_START, TABLE_END}
 
 whole_before : (n : ℤ) → whole (n -ℤ pos 1) ≤F plus (whole n) (whole (negsuc 0))
@@ -42,7 +41,7 @@ to_difference : (b c : Fraction) (n : ℤ) → plus b (opposite c) ≤F whole n 
 to_difference b c n h k = le_trans _ _ _ (le_of_same (same_by (b ∷ c ∷ []) (at 0) (at 0 ⊖ at 1 ⊕ at 1) refl))
     (le_trans _ _ _ (plus_mono _ _ _ _ h k) (whole_after n))
 
-dated_by : (v m : ℕ) (i a j u : Interval) → sum i (negative a) ⊆ u → IsProper a → a ⊆ j → IsAbout (2 ^ 32) m j → IsMoment v u → IsInTable u → IsMeanDated i
+dated_by : (v m : ℕ) (i a j u : Interval) → sum i (negative a) ⊆ u → IsProper a → a ⊆ j → IsAbout (2 ^ 32) m j → IsMoment v u → IsInTable u → IsNearTable 1 i
 unfolding sum negative IsNarrow
 dated_by v m everything a j u s o n k h t = tt
 dated_by v m (between p q) a j everything s o n k h t = absurd h.kept
@@ -66,7 +65,7 @@ pub mean_dated : {E : Type 0} (shown : E → Interval) (p : (e : E) → IsProper
     → ((r : Reach) → Narrow shown (limits_of n) r (ahead_of (fraction_of l)) a)
     → ((w : World) → DEPTH ≤ w.depth → Within shown w (ahead_of (fraction_of l)) a)
     → ((w : World) (x : Expression) → Within shown w x t → Within shown w (subtract x (ahead_of (fraction_of l))) u)
-    → IsMoment v (shown u) → IsInTable (shown u) → IsMeanDated (shown t)
+    → IsMoment v (shown u) → IsInTable (shown u) → IsNearTable 1 (shown t)
 unfolding Lies value moment_world
 mean_dated shown p n v l t a u e place f g h m i =
     let w = moment_world (shown t) (p t) in

@@ -22,7 +22,7 @@ use Rattle.book_model.specs.numbers.Ranges.{IsBetween}
 use Rattle.book_model.specs.numbers.Relations.{Within}
 use Rattle.book_model.specs.programs.Leading.{Leads, leaf}
 use Rattle.book_model.specs.programs.Programs.{Program, answer, cell, integers, run, valued, outcome}
-use Rattle.book_model.specs.programs.Widths.{IsMoment, IsWithin, IsRecent}
+use Rattle.book_model.specs.programs.Widths.{IsMoment, IsWithin, IsSince}
 use Rattle.book_model.specs.sky.Horizon.{part_of, quarter_of, apparent_by, near_offset_of, approximation_on, approximation_of, has_settled_of, settled_of, depression_of, dawn_of, dusk_of, universal_of, rounded_minutes_of, minutes_after_of, minutes_in_days, sunrise_of, hindu_sunset_of}
 use Rattle.book_model.specs.sky.Noon.{ahead_of}
 use Rattle.book_model.proofs.ArcPieces.{quarters}
@@ -33,6 +33,7 @@ use Rattle.book_model.proofs.Leads.{leads_leaf, leaf_within, lies}
 use Rattle.book_model.proofs.Values.{value_proper}
 use Rattle.greatest_widths.proofs.Measuring.{looser}
 use Rattle.rise_set.proofs.MeanMoments.{from_difference}
+use Rattle.book_model.specs.declared.time_tables.TheConstants.{RECENT_START}
 
 -- ---- one approximation
 part_of_quarters : product (product quarters (only (whole (pos 2)))) (exactly (fraction_of DEGREE_IN_DAYS)) ⊆ between (whole (negsuc 0)) (whole (pos 1))
@@ -263,6 +264,6 @@ later_found shown w v m lo hi p t u k f l h = later_by v m lo hi (value w (leaf 
 pub recent_found : {E : Type 0} (shown : E → Interval) (w : World) (v : ℕ) (lo hi : ℤ) (p : Program Expression) (t : E) {b m : ℕ} → v ≤ 2 ^ 63 → pos 620549
     ≤ℤ lo
     → ((y : Expression) → outcome (run w p) ≡ valued y → IsBetween lo hi (value w y)) → Leads w (Within shown w) p b m (Ok t) → IsMoment v (shown t)
-    → IsRecent v (shown t)
+    → IsSince RECENT_START v (shown t)
 recent_found shown w v lo hi p t u k f l h =
     looser _ _ _ _ v v (shown t) (omega (arith, ints)) (omega (arith, ints)) (omega arith) (later_found shown w v (pos 620548) lo hi p t u k f l h)

@@ -1,12 +1,10 @@
 -- How wide dawn, dusk and what they are made of are at the scale 2^-56, at places of latitudes from 0 to 36 degrees.
-use Rattle.std.specs.Prelude.{◌≡◌, ℕ, ◌+◌, ◌-◌, ◌*◌, ◌/◌, ◌^◌, true, ℤ, pos, neg_ℤ, ◌+ℤ◌, ◌-ℤ◌, ◌≤ℤ◌}
+use Rattle.std.specs.Prelude.{◌≡◌, ℕ, ◌+◌, ◌-◌, ◌*◌, ◌/◌, ◌^◌, true, ℤ, pos, neg_ℤ, ◌≤ℤ◌}
 use Rattle.exact_math.specs.Interval.{Interval}
 use Rattle.book_model.specs.declared.horizon.Location.{Location}
-use Rattle.book_model.specs.declared.time_tables.TheConstants.{TABLE_START, TABLE_END}
 use Rattle.book_model.specs.numbers.Bounds.{unbounded, bounded, bound_of, implies, limits_at}
 use Rattle.book_model.specs.numbers.Expressions.{constant}
 use Rattle.book_model.specs.numbers.Fractions.{fraction_of}
-use Rattle.book_model.specs.numbers.Ranges.{IsBetween}
 use Rattle.book_model.specs.programs.Widths.{IsWithin, IsAbout}
 use Rattle.book_model.specs.sky.Horizon.{refraction_of}
 use Rattle.sun_core.specs.Widths.{IsNarrowPlace}
@@ -19,10 +17,6 @@ IsMeanMoment v i = IsAbout (2 ^ 58 - 2 ^ 33) v i
 -- a moment of dawn or dusk, or one from which it is approximated: at most 17/16 of 2^-32 wide
 abbrev pub IsSettled : Interval → Type 0
 IsSettled i = IsMeanMoment (17 * 2 ^ 28) i
-
--- a moment of local mean time in the years of which there is a correction, or at most a day from them; or nothing is said of it
-abbrev pub IsMeanDated : Interval → Type 0
-IsMeanDated i = IsBetween (TABLE_START -ℤ pos 1) (TABLE_END +ℤ pos 1) i
 
 -- minutes of a moment of local mean time, from the day of R.D. 0
 abbrev pub AreMinutes : ℤ → Type 0

@@ -3,10 +3,10 @@ ghost use Rattle.book_model.specs.programs.Calls.{Encloses2, Follows1, Holds1};
 ghost use Rattle.book_model.specs.programs.Widths.{IsAbout, IsMoment, Measured1};
 ghost use Rattle.std.specs.Prelude.{◌≡◌, ◌+◌, ◌-◌, ◌^◌, ℕ, IfOk};
 ghost use Rattle.book_model.specs.numbers.Fractions.{fraction_of};
-ghost use Rattle.book_model.specs.numbers.Ranges.{IsInTable};
+ghost use Rattle.book_model.specs.numbers.Ranges.{IsInTable, IsNearTable};
 ghost use Rattle.book_model.specs.sky.Horizon as spec;
 ghost use Rattle.sun_core.specs.Widths.{IsNarrowPlace};
-ghost use Rattle.rise_set.specs.Widths.{IsDeclination, IsMeanDated};
+ghost use Rattle.rise_set.specs.Widths.{IsDeclination};
 
 use arc_series::arcsin_deg;
 use book_model::sun_tables::DEGREE_IN_DAYS;
@@ -23,7 +23,7 @@ pub fn universal<E: Enclosure>(longitude: Frac, t: E) -> E
     ensures measured { IsNarrowPlace longitude → (v : ℕ) → E.BITS ≡ 56
         → IsAbout (2 ^ 58 - 2 ^ 32) v (E.shown t) → IsMoment (v + 2 ^ 10) (E.shown result) }
     ensures dated { IsNarrowPlace longitude → (v : ℕ) → E.BITS ≡ 56
-        → IsMoment v (E.shown result) → IsInTable (E.shown result) → IsMeanDated (E.shown t) }
+        → IsMoment v (E.shown result) → IsInTable (E.shown result) → IsNearTable 1 (E.shown t) }
 {
     t.sub(E::from_frac(longitude).mul_frac(DEGREE_IN_DAYS))
 }

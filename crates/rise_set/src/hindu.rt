@@ -1,12 +1,13 @@
 //! Sunrise and sunset as the Hindu calendars take them, at Ujjain.
 ghost use Rattle.book_model.specs.programs.Calls.{Encloses, Follows};
-ghost use Rattle.book_model.specs.programs.Widths.{IsMoment, Measured, IsRecent};
+ghost use Rattle.book_model.specs.programs.Widths.{IsMoment, Measured, IsSince};
 ghost use Rattle.std.specs.Prelude.{◌≡◌, ◌*◌, ◌^◌, ◌≤ℤ◌, pos};
 ghost use Rattle.book_model.specs.numbers.Expressions.{constant};
 ghost use Rattle.book_model.specs.numbers.Fractions.{fraction_of};
 ghost use Rattle.book_model.specs.sky.Horizon as spec;
 ghost use Rattle.book_model.specs.sky.Facts.{IsFactDay};
 ghost use Rattle.book_model.specs.declared.fact.TheConstants.{LAST_FACT_DAY};
+ghost use Rattle.book_model.specs.declared.time_tables.TheConstants.{RECENT_START};
 
 use crate::declinations::universal;
 use crate::depression::{dawn, dusk_at};
@@ -44,7 +45,7 @@ pub fn sunrise<E: Enclosure>(day: i64, trail: &mut Trail) -> Result<E, Fail>
     ensures leads { Follows E.shown (spec.sunrise_of day) trail.old.count trail.new.count result }
     ensures measured { Measured E.BITS E.shown (IsMoment (5 * 2 ^ 8)) result }
     ensures recent { FIRST_HINDU_DAY ≤ℤ day
-        → Measured E.BITS E.shown (IsRecent (5 * 2 ^ 8)) result }
+        → Measured E.BITS E.shown (IsSince RECENT_START (5 * 2 ^ 8)) result }
 {
     let rising = dawn(&UJJAIN, E::from_frac(HINDU_SUNRISE_DEPRESSION), day, trail)?;
     let minutes = rounded_minutes(day, rising, trail)?;
@@ -88,7 +89,7 @@ impl<E: Enclosure> HinduSunsets<E> {
         ensures measured { IsFactDay day
             → Measured E.BITS E.shown (IsMoment (9 * 2 ^ 29)) result }
         ensures recent { FIRST_HINDU_DAY ≤ℤ day → day ≤ℤ LAST_FACT_DAY
-            → Measured E.BITS E.shown (IsRecent (9 * 2 ^ 29)) result }
+            → Measured E.BITS E.shown (IsSince RECENT_START (9 * 2 ^ 29)) result }
     {
         let t = dusk_at(&self.horizon, day, trail)?;
         Ok(universal(self.horizon.location.longitude, t))
@@ -103,7 +104,7 @@ pub fn hsunset<E: Enclosure>(day: i64, trail: &mut Trail) -> Result<E, Fail>
     ensures measured { IsFactDay day
         → Measured E.BITS E.shown (IsMoment (9 * 2 ^ 29)) result }
     ensures recent { FIRST_HINDU_DAY ≤ℤ day → day ≤ℤ LAST_FACT_DAY
-        → Measured E.BITS E.shown (IsRecent (9 * 2 ^ 29)) result }
+        → Measured E.BITS E.shown (IsSince RECENT_START (9 * 2 ^ 29)) result }
 {
     let sunsets = HinduSunsets::<E>::new();
     sunsets.on(day, trail)

@@ -8,8 +8,9 @@ ghost use Rattle.book_model.specs.sky.Horizon as spec;
 ghost use Rattle.book_model.specs.sky.Phases.{size_of};
 ghost use Rattle.book_model.specs.numbers.Relations.{Within};
 ghost use Rattle.sun_core.specs.Widths.{IsNarrowPlace};
-ghost use Rattle.rise_set.specs.Widths.{IsDepression, IsMeanDated, IsMeanMoment, IsNarrowHorizon, IsNarrowLocation, IsOffset};
+ghost use Rattle.rise_set.specs.Widths.{IsDepression, IsMeanMoment, IsNarrowHorizon, IsNarrowLocation, IsOffset};
 ghost use Rattle.rise_set.specs.Horizons.{FollowsHorizon, IsHorizon, by_tangent, by_sine, offset_by_parts};
+ghost use Rattle.book_model.specs.numbers.Ranges.{IsNearTable};
 
 use crate::declinations::{declination, universal};
 use crate::skyline::{Horizon, horizon_at};
@@ -61,7 +62,7 @@ fn offset_at<E: Enclosure>(horizon: &Horizon<E>, t: E, trail: &mut Trail) -> Res
     ensures leads { FollowsHorizon E.shown (spec.offset_of horizon.now.location) horizon.now t
         trail.old.count trail.new.count result }
     ensures dated { IfOk result (λ s. IsNarrowPlace horizon.now.location.longitude → (v : ℕ)
-        → E.BITS ≡ 56 → IsMeanMoment v (E.shown t) → IsMeanDated (E.shown t)) }
+        → E.BITS ≡ 56 → IsMeanMoment v (E.shown t) → IsNearTable 1 (E.shown t)) }
     ensures measured { IsNarrowHorizon E.shown horizon.now → Measured1 E.BITS E.shown (2 ^ 41)
         IsMeanMoment (λ v. IsOffset (v / 16 + 2 ^ 28)) t result }
 {
@@ -175,7 +176,7 @@ pub(crate) fn offset_near<E: Enclosure>(
     ensures measured { IsNarrowHorizon E.shown horizon.now → Measured1 E.BITS E.shown (2 ^ 41)
         IsMeanMoment (λ v. IsOffset (v / 16 + 2 ^ 28)) t result }
     ensures dated { IsNarrowHorizon E.shown horizon.now → (v : ℕ) → E.BITS ≡ 56 → v ≤ 2 ^ 41
-        → IsMeanMoment v (E.shown t) → IfOk result (λ s. IsMeanDated (E.shown t)) }
+        → IsMeanMoment v (E.shown t) → IfOk result (λ s. IsNearTable 1 (E.shown t)) }
 {
     let there = offset_at(horizon, t, trail)?;
     let out = is_out_of_reach(there, trail)?;

@@ -1,6 +1,6 @@
 //! Precession, and the longitude of the sun among the stars.
 ghost use Rattle.book_model.specs.programs.Calls.{Encloses1, Encloses2, Encloses3, Follows1};
-ghost use Rattle.book_model.specs.programs.Widths.{IsAbout, IsRecent, IsUpTo, Measured1};
+ghost use Rattle.book_model.specs.programs.Widths.{IsAbout, IsUpTo, Measured1, IsSince};
 ghost use Rattle.std.specs.Prelude.{◌≡◌, ◌≤◌, ◌+◌, ◌*◌, ◌/◌, ◌^◌, ℕ, Ok, IfOk, IfErr};
 ghost use Rattle.exact_math.specs.Interval.{Interval};
 ghost use Rattle.book_model.specs.sky.Sidereal as spec;
@@ -9,6 +9,7 @@ ghost use Rattle.greatest_widths.specs.Table.{greatest_of};
 ghost use Rattle.time_scales.specs.Steps.{IsYearOpenFor};
 ghost use Rattle.time_scales.specs.Widths.{AreRecentCenturies};
 ghost use Rattle.sun_core.specs.Widths.{IsTilt, IsCrossing, IsAdvance};
+ghost use Rattle.book_model.specs.declared.time_tables.TheConstants.{RECENT_START};
 
 use crate::courses::{SunCourse, sun_by};
 use crate::longitude::sun;
@@ -51,7 +52,7 @@ fn precession_at<E: Enclosure>(c: E) -> E
 #[tactic(auto, using(book_model::proofs::Leads::leading), unfolding(book_model::specs::sky::Sidereal::precession_of))]
 pub fn precession<E: Enclosure>(t: E, trail: &mut Trail) -> Result<E, Fail>
     ensures leads { Follows1 E.shown spec.precession_of t trail.old.count trail.new.count result }
-    ensures measured { Measured1 E.BITS E.shown (2 ^ 42) IsRecent
+    ensures measured { Measured1 E.BITS E.shown (2 ^ 42) (IsSince RECENT_START)
         (λ v. IsAbout (2 ^ 39) (v / 1000 + 2 ^ 33)) t result }
     ensures open { IfErr result (IsYearOpenFor (E.shown t)) }
 {
@@ -84,7 +85,7 @@ fn wrapped_sidereal<E: Enclosure>(angle: E, trail: &mut Trail) -> Result<E, Fail
 #[tactic(auto, using(book_model::proofs::Leads::leading), unfolding(book_model::specs::sky::Sidereal::sidereal_sun_of))]
 pub fn sidereal_sun<E: Enclosure>(t: E, trail: &mut Trail) -> Result<E, Fail>
     ensures leads { Follows1 E.shown spec.sidereal_sun_of t trail.old.count trail.new.count result }
-    ensures measured { Measured1 E.BITS E.shown (2 ^ 42) IsRecent
+    ensures measured { Measured1 E.BITS E.shown (2 ^ 42) (IsSince RECENT_START)
         (λ v. IsUpTo 360 (greatest_of SIDEREAL_SUN v)) t result }
     ensures open { IfErr result (IsYearOpenFor (E.shown t)) }
 {

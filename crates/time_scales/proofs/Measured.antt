@@ -1,5 +1,5 @@
 -- Moments that are measured: the year, sums with a correction, centuries and sidereal time.
-use Rattle.std.specs.Prelude.{◌≡◌, ℕ, ◌+◌, ◌*◌, ◌/◌, ◌^◌, ◌≤◌, ℤ, pos, negsuc, neg_ℤ, ◌-ℤ◌, ◌*ℤ◌, ◌≤ℤ◌, true, Result, Ok, Err, IfOk, IfErr, refl, if◌then◌else◌, ◌==◌}
+use Rattle.std.specs.Prelude.{◌≡◌, ℕ, ◌+◌, ◌*◌, ◌/◌, ◌^◌, ◌≤◌, ℤ, pos, negsuc, neg_ℤ, ◌-ℤ◌, ◌*ℤ◌, ◌≤ℤ◌, true, Result, Ok, Err, IfOk, IfErr, refl, if◌then◌else◌, ◌==◌, ◌+ℤ◌}
 use Rattle.std.proofs.Common.{arith}
 use Rattle.std.proofs.lemmas.Int.{ints}
 use Rattle.exact_math.specs.Interval.{Interval, everything, IsProper, between, ◌⊆◌}
@@ -7,21 +7,21 @@ use Rattle.exact_math.proofs.Intervals.{within_refl}
 use Rattle.book_model.specs.declared.site.Site.TheVariants.{Year}
 use Rattle.book_model.specs.declared.fail.Fail.{Fail}
 use Rattle.book_model.specs.declared.fail.Fail.TheVariants.{Undecided as undecided_at, Void}
-use Rattle.book_model.specs.declared.time_tables.TheConstants.{SIDEREAL_TIME}
+use Rattle.book_model.specs.declared.time_tables.TheConstants.{SIDEREAL_TIME, RECENT_START, TABLE_END}
 use Rattle.book_model.specs.numbers.Bounds.{Bound, bounded, Reach, bound_of, implies, limits_at, limits_of, IsNarrow, sum_bound, difference_bound, scaled_bound, constant_bound, product_bound, power_bound}
 use Rattle.book_model.specs.numbers.Expressions.{Expression, World, value, argument, add, subtract}
 use Rattle.book_model.specs.numbers.Polynomials.{cubic_of}
 use Rattle.book_model.specs.numbers.Ranges.{IsInTable}
 use Rattle.book_model.specs.numbers.Relations.{Within, Lies, Narrow}
 use Rattle.book_model.specs.programs.Leading.{Leads, leaf, units_of_56}
-use Rattle.book_model.specs.programs.Widths.{IsAbout, IsClose, IsMoment, Measures, IsCorrection, IsDated, IsNearlyDated, IsRecent, IsRecentlyDated, AreCenturies, IsWithin, table_from, table_to, table_days, table_centuries, centuries_to, recent_from, recent_centuries_from}
+use Rattle.book_model.specs.programs.Widths.{IsAbout, IsClose, IsMoment, Measures, IsCorrection, IsDated, AreCenturies, IsWithin, table_from, table_to, table_days, table_centuries, centuries_to, recent_from, recent_centuries_from, IsFrom, IsSince}
 use Rattle.book_model.specs.sky.Time.{correction_at, in_centuries}
 use Rattle.book_model.proofs.Leads.{leads_leaf}
 use Rattle.greatest_widths.specs.declared.table.TheConstants.{CORRECTION}
 use Rattle.greatest_widths.specs.Table.{greatest_of}
 use Rattle.greatest_widths.proofs.Measuring.{measured, measured_argument, sloped, looser, drawn}
 use Rattle.greatest_widths.proofs.Closing.{inner_apart, close_ends}
-use Rattle.time_scales.specs.Widths.{HasYearEnds, IsLater, IsNearlyRecent, AreRecentCenturies}
+use Rattle.time_scales.specs.Widths.{HasYearEnds, AreRecentCenturies}
 use Rattle.time_scales.proofs.Moments.{corrected_in_table}
 
 -- ---- the year
@@ -83,14 +83,14 @@ module _ {E : Type 0} (shown : E → Interval) (n v : ℕ) (t c d : E) (p : n �
 
   -- a moment of the table and its correction
   pub sum_within : ((r : Reach) (x y : Expression) → Narrow shown (limits_of n) r x t → Narrow shown (limits_of n) r y c
-      → Narrow shown (limits_of n) r (add x y) d) → IsNearlyDated (v + 2 ^ 17) (shown d)
+      → Narrow shown (limits_of n) r (add x y) d) → IsDated 1 (v + 2 ^ 17) (shown d)
   sum_within f =
       measured shown n v moment_bounds (add (argument 0) (argument 1)) _ _ (2 ^ 40) (2 ^ 17) (v + 2 ^ 17) d p sum_reach (omega arith)
       (f (record { width = v; bounds = moment_bounds }) (argument 0) (argument 1) moment_kept correction_kept)
 
   -- a moment of the table less its correction
   pub difference_within : ((r : Reach) (x y : Expression) → Narrow shown (limits_of n) r x t → Narrow shown (limits_of n) r y c
-      → Narrow shown (limits_of n) r (subtract x y) d) → IsNearlyDated (v + 2 ^ 17) (shown d)
+      → Narrow shown (limits_of n) r (subtract x y) d) → IsDated 1 (v + 2 ^ 17) (shown d)
   difference_within f =
       measured shown n v moment_bounds (subtract (argument 0) (argument 1)) _ _ (2 ^ 40) (2 ^ 17) (v + 2 ^ 17) d p difference_reach (omega arith)
       (f (record { width = v; bounds = moment_bounds }) (argument 0) (argument 1) moment_kept correction_kept)
@@ -103,7 +103,7 @@ centuries_reach : implies (bound_of (limits_at 56) days_bounds (in_centuries (ar
 unfolding implies bound_of difference_bound scaled_bound constant_bound in_centuries
 centuries_reach = refl
 
-pub centuries_within : {E : Type 0} (shown : E → Interval) (n v : ℕ) (t c : E) → n ≡ 56 → v ≤ 2 ^ 44 → IsNearlyDated (v + 2 ^ 17) (shown t)
+pub centuries_within : {E : Type 0} (shown : E → Interval) (n v : ℕ) (t c : E) → n ≡ 56 → v ≤ 2 ^ 44 → IsDated 1 (v + 2 ^ 17) (shown t)
     → ((r : Reach) (x : Expression) → Narrow shown (limits_of n) r x t → Narrow shown (limits_of n) r (in_centuries x) c)
     → AreCenturies (v / 36525 + 2 ^ 12) (shown c)
 centuries_within shown n v t c p b h f =
@@ -111,10 +111,10 @@ centuries_within shown n v t c p b h f =
     (f (record { width = v + 2 ^ 17; bounds = days_bounds }) (argument 0) (measured_argument shown (limits_of n) _ _ (v + 2 ^ 17) 0 t h))
 
 -- ---- recent moments
-pub recent_moment : (v : ℕ) (i : Interval) → IsRecent v i → IsMoment v i
+pub recent_moment : (v : ℕ) (i : Interval) → IsSince RECENT_START v i → IsMoment v i
 recent_moment v i h = looser _ _ _ _ v v i (omega (arith, ints)) (omega (arith, ints)) (omega arith) h
 
-pub later_moment : (v : ℕ) (i : Interval) → IsLater v i → IsMoment v i
+pub later_moment : (v : ℕ) (i : Interval) → IsSince (RECENT_START +ℤ pos 1) v i → IsMoment v i
 later_moment v i h = looser _ _ _ _ v v i (omega (arith, ints)) (omega (arith, ints)) (omega arith) h
 
 -- a moment of the table that lies from some day on lies from that day to the last year of the table
@@ -140,20 +140,21 @@ later_difference_reach : implies (bound_of (limits_at 56) (bounds_from (pos 1)) 
 unfolding implies bound_of difference_bound
 later_difference_reach = refl
 
-pub recent_sum_within : {E : Type 0} (shown : E → Interval) (n v : ℕ) (t c d : E) → n ≡ 56 → IsInTable (shown t) → IsRecent v (shown t)
+pub recent_sum_within : {E : Type 0} (shown : E → Interval) (n v : ℕ) (t c d : E) → n ≡ 56 → IsInTable (shown t) → IsSince RECENT_START v (shown t)
     → IsCorrection (2 ^ 17) (shown c)
     → ((r : Reach) (x y : Expression) → Narrow shown (limits_of n) r x t → Narrow shown (limits_of n) r y c → Narrow shown (limits_of n) r (add x y) d)
-    → IsNearlyRecent (v + 2 ^ 17) (shown d)
+    → IsFrom (RECENT_START -ℤ pos 1) (TABLE_END +ℤ pos 1) (v + 2 ^ 17) (shown d)
 recent_sum_within shown n v t c d p i h k f =
     measured shown n v (bounds_from (pos 0)) (add (argument 0) (argument 1)) _ _ (2 ^ 40) (2 ^ 17) (v + 2 ^ 17) d p recent_sum_reach (omega arith)
     (f (record { width = v; bounds = bounds_from (pos 0) }) (argument 0) (argument 1)
     (sloped shown (limits_of n) v v (bounds_from (pos 0)) 0 _ _ (2 ^ 40) 0 t refl (omega arith) (dated_from _ _ v (shown t) i h))
     (sloped shown (limits_of n) v (2 ^ 17) (bounds_from (pos 0)) 1 _ _ 0 (2 ^ 17) c refl (omega arith) k))
 
-pub later_difference_within : {E : Type 0} (shown : E → Interval) (n v : ℕ) (t c d : E) → n ≡ 56 → IsInTable (shown t) → IsLater v (shown t)
+pub later_difference_within : {E : Type 0} (shown : E → Interval) (n v : ℕ) (t c d : E) → n ≡ 56 → IsInTable (shown t)
+    → IsSince (RECENT_START +ℤ pos 1) v (shown t)
     → IsCorrection (2 ^ 17) (shown c)
     → ((r : Reach) (x y : Expression) → Narrow shown (limits_of n) r x t → Narrow shown (limits_of n) r y c → Narrow shown (limits_of n) r (subtract x y) d)
-    → IsRecentlyDated (v + 2 ^ 17) (shown d)
+    → IsFrom RECENT_START (TABLE_END +ℤ pos 1) (v + 2 ^ 17) (shown d)
 later_difference_within shown n v t c d p i h k f =
     measured shown n v (bounds_from (pos 1)) (subtract (argument 0) (argument 1)) _ _ (2 ^ 40) (2 ^ 17) (v + 2 ^ 17) d p later_difference_reach (omega arith)
     (f (record { width = v; bounds = bounds_from (pos 1) }) (argument 0) (argument 1)
@@ -168,7 +169,8 @@ recent_centuries_reach : implies (bound_of (limits_at 56) recent_days (in_centur
 unfolding implies bound_of difference_bound scaled_bound constant_bound in_centuries
 recent_centuries_reach = refl
 
-pub recent_centuries_within : {E : Type 0} (shown : E → Interval) (n v : ℕ) (t c : E) → n ≡ 56 → v ≤ 2 ^ 44 → IsNearlyRecent (v + 2 ^ 17) (shown t)
+pub recent_centuries_within : {E : Type 0} (shown : E → Interval) (n v : ℕ) (t c : E) → n ≡ 56 → v ≤ 2 ^ 44
+    → IsFrom (RECENT_START -ℤ pos 1) (TABLE_END +ℤ pos 1) (v + 2 ^ 17) (shown t)
     → ((r : Reach) (x : Expression) → Narrow shown (limits_of n) r x t → Narrow shown (limits_of n) r (in_centuries x) c)
     → AreRecentCenturies (v / 36525 + 2 ^ 12) (shown c)
 recent_centuries_within shown n v t c p b h f =
@@ -181,7 +183,7 @@ sidereal_reach : implies (bound_of (limits_at 56) (λ k. table_days 0 (2 ^ 40) 0
 unfolding implies bound_of constant_bound sum_bound difference_bound scaled_bound product_bound power_bound in_centuries cubic_of
 sidereal_reach = refl
 
-pub sidereal_within : {E : Type 0} (shown : E → Interval) (n v : ℕ) (t y : E) → n ≡ 56 → IsDated v (shown t)
+pub sidereal_within : {E : Type 0} (shown : E → Interval) (n v : ℕ) (t y : E) → n ≡ 56 → IsDated 0 v (shown t)
     → ((r : Reach) (x : Expression) → Narrow shown (limits_of n) r x t → Narrow shown (limits_of n) r (cubic_of SIDEREAL_TIME (in_centuries x)) y)
     → IsAbout (2 ^ 61) (362 * v + 2 ^ 37) (shown y)
 sidereal_within shown n v t y e h f =

@@ -1,7 +1,7 @@
 //! Dynamical time, which flows evenly: what it is ahead of universal time in a year, and its centuries.
 ghost use Rattle.book_model.specs.programs.Calls.{Encloses, Encloses1, Follows, Follows1, Holds, Narrows};
-ghost use Rattle.book_model.specs.programs.Widths.{IsMoment, Measured, Measured1, IsCorrection, IsNearlyDated, IsRecent, IsRecentlyDated, AreCenturies};
-ghost use Rattle.std.specs.Prelude.{◌≡◌, ◌≤◌, ◌+◌, ◌/◌, ◌^◌, ℕ, ℤ, pos, ◌-ℤ◌, ◌≤ℤ◌, unsigned_abs, length, IfOk, IfErr, IfSome};
+ghost use Rattle.book_model.specs.programs.Widths.{IsMoment, Measured, Measured1, IsCorrection, AreCenturies, IsDated, IsFrom, IsSince};
+ghost use Rattle.std.specs.Prelude.{◌≡◌, ◌≤◌, ◌+◌, ◌/◌, ◌^◌, ℕ, ℤ, pos, ◌-ℤ◌, ◌≤ℤ◌, unsigned_abs, length, IfOk, IfErr, IfSome, ◌+ℤ◌};
 ghost use Rattle.book_model.specs.numbers.Bounds.{Reach, limits_of, IsNarrow};
 ghost use Rattle.book_model.specs.sky.Correction.{seconds_of};
 ghost use Rattle.book_model.specs.numbers.Fractions.{fraction_of};
@@ -12,8 +12,9 @@ ghost use Rattle.book_model.specs.sky.Time.{hundreds_of, centuries_to_july, corr
 ghost use Rattle.greatest_widths.specs.declared.table.TheConstants.{CORRECTION, CENTURIES};
 ghost use Rattle.greatest_widths.specs.Table.{greatest_of};
 ghost use Rattle.time_scales.specs.Steps.{IsYearOpenFor};
-ghost use Rattle.time_scales.specs.Widths.{IsLater, IsNearlyRecent, AreRecentCenturies};
+ghost use Rattle.time_scales.specs.Widths.{AreRecentCenturies};
 ghost use Rattle.time_scales.specs.Corrections.{IsFormYear, computed_by, computed_of, units_of_year, correction_bound};
+ghost use Rattle.book_model.specs.declared.time_tables.TheConstants.{RECENT_START, TABLE_END};
 
 use crate::moment::year;
 use crate::polynomial::{at_fraction, at_whole};
@@ -130,9 +131,9 @@ pub fn dynamical<E: Enclosure>(t: E, trail: &mut Trail) -> Result<E, Fail>
     ensures leads { Follows1 E.shown dynamical_of t trail.old.count trail.new.count result }
     ensures in_table { IfOk result (λ e. IsInTable (E.shown t)) }
     ensures measured { Measured1 E.BITS E.shown (2 ^ 44) IsMoment
-        (λ v. IsNearlyDated (v + 2 ^ 17)) t result }
-    ensures recent { Measured1 E.BITS E.shown (2 ^ 44) IsRecent
-        (λ v. IsNearlyRecent (v + 2 ^ 17)) t result }
+        (λ v. IsDated 1 (v + 2 ^ 17)) t result }
+    ensures recent { Measured1 E.BITS E.shown (2 ^ 44) (IsSince RECENT_START)
+        (λ v. IsFrom (RECENT_START -ℤ pos 1) (TABLE_END +ℤ pos 1) (v + 2 ^ 17)) t result }
     ensures open { IfErr result (IsYearOpenFor (E.shown t)) }
     ensures counted { trail.new.count ≡ next_turn trail.old.count }
 {
@@ -145,9 +146,9 @@ pub fn dynamical<E: Enclosure>(t: E, trail: &mut Trail) -> Result<E, Fail>
 pub fn from_dynamical<E: Enclosure>(t: E, trail: &mut Trail) -> Result<E, Fail>
     ensures leads { Follows1 E.shown from_dynamical_of t trail.old.count trail.new.count result }
     ensures measured { Measured1 E.BITS E.shown (2 ^ 44) IsMoment
-        (λ v. IsNearlyDated (v + greatest_of CORRECTION 0)) t result }
-    ensures recent { Measured1 E.BITS E.shown (2 ^ 44) IsLater
-        (λ v. IsRecentlyDated (v + greatest_of CORRECTION 0)) t result }
+        (λ v. IsDated 1 (v + greatest_of CORRECTION 0)) t result }
+    ensures recent { Measured1 E.BITS E.shown (2 ^ 44) (IsSince (RECENT_START +ℤ pos 1))
+        (λ v. IsFrom RECENT_START (TABLE_END +ℤ pos 1) (v + greatest_of CORRECTION 0)) t result }
     ensures open { IfErr result (IsYearOpenFor (E.shown t)) }
     ensures counted { trail.new.count ≡ next_turn trail.old.count }
 {
@@ -171,7 +172,7 @@ pub fn centuries<E: Enclosure>(t: E, trail: &mut Trail) -> Result<E, Fail>
     ensures in_table { IfOk result (λ e. IsInTable (E.shown t)) }
     ensures measured { Measured1 E.BITS E.shown (2 ^ 44) IsMoment
         (λ v. AreCenturies (greatest_of CENTURIES v)) t result }
-    ensures recent { Measured1 E.BITS E.shown (2 ^ 44) IsRecent
+    ensures recent { Measured1 E.BITS E.shown (2 ^ 44) (IsSince RECENT_START)
         (λ v. AreRecentCenturies (greatest_of CENTURIES v)) t result }
     ensures open { IfErr result (IsYearOpenFor (E.shown t)) }
     ensures counted { trail.new.count ≡ next_turn trail.old.count }

@@ -24,7 +24,7 @@ pub fn sidereal<E: Enclosure>(t: E, trail: &mut Trail) -> Result<E, Fail>
     ensures narrow { IfOk result (λ y. (r : Reach) (x : Expression)
         → Narrow E.shown (limits_of E.BITS) r x t → Narrow E.shown (limits_of E.BITS) r
         (cubic_of SIDEREAL_TIME (in_centuries x)) y) }
-    ensures measured { Measured1 E.BITS E.shown (2 ^ 44) IsDated
+    ensures measured { Measured1 E.BITS E.shown (2 ^ 44) (IsDated 0)
         (λ v. IsAbout (2 ^ 61) (greatest_of SIDEREAL v))
         t result }
 {

@@ -1,4 +1,4 @@
-//! The decided table: each kind of fact at each of its places, on the first days of the months of 2024, 300 facts. Each has
+//! The decided table: each kind of fact at each of its places, on the first days of the months of 2024, 444 facts. Each has
 //! the value that an independent implementation gives. Coarse enclosures alone decide them all; that what these leave open
 //! elsewhere is decided by fine ones is the second test.
 use book_model::{Fact, Kind, Place};
@@ -14,7 +14,7 @@ const DAYS: [i64; 12] = [
 ];
 
 /// The values on these days, by the independent implementation.
-const DECIDED: [(Kind, Place, [i64; 12]); 25] = [
+const DECIDED: [(Kind, Place, [i64; 12]); 37] = [
     (
         Kind::Dt,
         Place::None,
@@ -56,8 +56,56 @@ const DECIDED: [(Kind, Place, [i64; 12]); 25] = [
         ],
     ),
     (
+        Kind::Solstice,
+        Place::Hanoi,
+        [
+            738_876, 738_876, 738_876, 738_876, 738_876, 738_876, 738_876, 738_876, 738_876,
+            738_876, 738_876, 738_876,
+        ],
+    ),
+    (
+        Kind::Solstice,
+        Place::Seoul,
+        [
+            738_876, 738_876, 738_876, 738_876, 738_876, 738_876, 738_876, 738_876, 738_876,
+            738_876, 738_876, 738_876,
+        ],
+    ),
+    (
+        Kind::Solstice,
+        Place::Tokyo,
+        [
+            738_876, 738_876, 738_876, 738_876, 738_876, 738_876, 738_876, 738_876, 738_876,
+            738_876, 738_876, 738_876,
+        ],
+    ),
+    (
         Kind::NewMoonBefore,
         Place::Beijing,
+        [
+            738_867, 738_896, 738_926, 738_955, 738_985, 739_014, 739_043, 739_073, 739_102,
+            739_132, 739_162, 739_191,
+        ],
+    ),
+    (
+        Kind::NewMoonBefore,
+        Place::Hanoi,
+        [
+            738_867, 738_896, 738_926, 738_955, 738_985, 739_014, 739_043, 739_073, 739_102,
+            739_132, 739_162, 739_191,
+        ],
+    ),
+    (
+        Kind::NewMoonBefore,
+        Place::Seoul,
+        [
+            738_867, 738_896, 738_926, 738_955, 738_985, 739_014, 739_043, 739_073, 739_102,
+            739_132, 739_162, 739_191,
+        ],
+    ),
+    (
+        Kind::NewMoonBefore,
+        Place::Tokyo,
         [
             738_867, 738_896, 738_926, 738_955, 738_985, 739_014, 739_043, 739_073, 739_102,
             739_132, 739_162, 739_191,
@@ -72,8 +120,47 @@ const DECIDED: [(Kind, Place, [i64; 12]); 25] = [
         ],
     ),
     (
+        Kind::NewMoonFrom,
+        Place::Hanoi,
+        [
+            738_896, 738_926, 738_955, 738_985, 739_014, 739_043, 739_073, 739_102, 739_132,
+            739_162, 739_191, 739_221,
+        ],
+    ),
+    (
+        Kind::NewMoonFrom,
+        Place::Seoul,
+        [
+            738_896, 738_926, 738_955, 738_985, 739_014, 739_043, 739_073, 739_102, 739_132,
+            739_162, 739_191, 739_221,
+        ],
+    ),
+    (
+        Kind::NewMoonFrom,
+        Place::Tokyo,
+        [
+            738_896, 738_926, 738_955, 738_985, 739_014, 739_043, 739_073, 739_102, 739_132,
+            739_162, 739_191, 739_221,
+        ],
+    ),
+    (
         Kind::Major,
         Place::Beijing,
+        [11, 12, 1, 2, 3, 4, 5, 6, 7, 8, 9, 10],
+    ),
+    (
+        Kind::Major,
+        Place::Hanoi,
+        [11, 12, 1, 2, 3, 4, 5, 6, 7, 8, 9, 10],
+    ),
+    (
+        Kind::Major,
+        Place::Seoul,
+        [11, 12, 1, 2, 3, 4, 5, 6, 7, 8, 9, 10],
+    ),
+    (
+        Kind::Major,
+        Place::Tokyo,
         [11, 12, 1, 2, 3, 4, 5, 6, 7, 8, 9, 10],
     ),
     (
