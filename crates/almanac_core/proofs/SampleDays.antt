@@ -1,5 +1,5 @@
 -- The requests of a sample break no rule.
-use Rattle.std.specs.Prelude.{◌≡◌, ℕ, ◌<◌, ◌≤◌, ◌&&◌, nat_le, true, false, List, [], ◌∷◌, refl, pos, ℤ, ◌+ℤ◌, ◌*ℤ◌, int_le, Ok}
+use Rattle.std.specs.Prelude.{◌≡◌, ℕ, ◌<◌, nat_le, true, [], ◌∷◌, refl, pos, ℤ, ◌+ℤ◌, ◌*ℤ◌, int_le, Ok}
 use Rattle.std.proofs.Common.{arith}
 use Rattle.std.proofs.lemmas.Bool.Decides.{nat_tests}
 use Rattle.std.proofs.lemmas.Int.{ints}
@@ -7,7 +7,8 @@ use Rattle.book_model.specs.declared.calendar.Calendar.TheVariants as calendars
 use Rattle.book_model.specs.declared.version.TheConstants.{WRITTEN}
 use Rattle.book_model.specs.calendars.Dates.{row_of, may_have, is_answered, year_number}
 use Rattle.book_model.specs.calendars.Versions.{days_in, is_in_range}
-use Rattle.book_model.specs.lines.Requests.{fields_with, checked_request}
+use Rattle.book_model.specs.lines.Requests.{fields_with, has_words, checked_request}
+use Rattle.book_model.proofs.VersionTables.{all_words}
 use Rattle.almanac_core.specs.Sample.{day_by, sample_line_of, IsSampleDay}
 use Rattle.almanac_core.proofs.Samples.{sample_day}
 
@@ -48,4 +49,5 @@ pub sample_checked : (state index : ℕ) → checked_request WRITTEN (sample_lin
 unfolding sample_line_of
 sample_checked state index =
     let day = sample_day state in
-    rw (fixed_may (day_by state) (omega (arith, day.1)), fixed_answered (day_by state) day) refl
+    let words : has_words WRITTEN (sample_line_of state index) ≡ true = all_words (sample_line_of state index) in
+    rw (words, fixed_may (day_by state) (omega (arith, day.1)), fixed_answered (day_by state) day) refl

@@ -1,23 +1,21 @@
--- Lines can spell the requests of almanacs and samples.
-use Rattle.std.specs.Prelude.{◌≡◌, ℕ, zero, suc, ◌+◌, ◌-◌, ◌*◌, ◌/◌, ◌%◌, ◌<◌, ◌≤◌, ◌==◌, ◌&&◌, Bool, true, false, if◌then◌else◌, List, [], ◌∷◌, length, nat_lt, refl, pos, ◌-ℤ◌, unsigned_abs}
-use Rattle.std.specs.List.{list_all}
+-- Lines can spell the requests of almanacs, of years in the eastern calendars and of samples.
+use Rattle.std.specs.Prelude.{◌≡◌, ℕ, zero, suc, ◌+◌, ◌-◌, ◌/◌, ◌%◌, ◌<◌, ◌≤◌, ◌==◌, Bool, true, false, if◌then◌else◌, [], ◌∷◌, nat_lt, refl, ◌-ℤ◌}
 use Rattle.std.proofs.Common.{arith}
 use Rattle.std.proofs.lemmas.Bool.Decides.{nat_tests}
 use Rattle.std.proofs.lemmas.Int.{ints}
 use Rattle.book_model.specs.declared.calendar_tables.TheConstants.{ISLAMIC_EPOCH}
 use Rattle.book_model.specs.declared.request.Request.{Request}
-use Rattle.book_model.specs.declared.version.TheConstants.{FIRST_ALMANAC_YEAR, LAST_ALMANAC_YEAR}
+use Rattle.book_model.specs.declared.version.TheConstants.{LAST_ALMANAC_YEAR}
 use Rattle.book_model.specs.declared.words.FromWord.{FromWord}
 use Rattle.book_model.specs.declared.words.FromWord.TheVariants as from
-use Rattle.book_model.specs.declared.words.ToWord.{ToWord}
-use Rattle.book_model.specs.declared.words.ToWord.TheVariants as to
 use Rattle.book_model.specs.calendars.Dates.{row_of}
 use Rattle.book_model.specs.calendars.Gregorian.{fixed_of}
 use Rattle.book_model.specs.calendars.Versions.{IsAlmanacYear}
 use Rattle.book_model.specs.lines.Requests.{fields_with, is_of_seven_digits, IsSpelled, AreSpelled}
 use Rattle.book_model.specs.lines.Words.{calendar_of}
-use Rattle.almanac_core.specs.Almanac.{date_of, chinese_day_of, bahai_new_year_of, festival_of, months_to, islamic_month_after, term_of, phase_word, month_phase_of, month_sunset_of, almanac_line_of, almanac_from, almanac_requests}
-use Rattle.almanac_core.specs.Sample.{state_after, day_by, asked_at, sample_line_of, sample_from, sample_requests}
+use Rattle.almanac_core.specs.Almanac.{chinese_day_of, bahai_new_year_of, festival_of, months_to, islamic_month_after, term_of, phase_word, month_phase_of, month_sunset_of, almanac_line_of, lines_from, almanac_requests}
+use Rattle.almanac_core.specs.East.{dated_at, month_middle_of, east_line_of, east_requests}
+use Rattle.almanac_core.specs.Sample.{state_after, day_by, sample_line_of, sample_from, sample_requests}
 use Rattle.almanac_core.proofs.Samples.{sample_day}
 use Rattle.almanac_core.proofs.Years.{january_from, january_to, months_from, months_few}
 
@@ -51,10 +49,11 @@ chosen false r s h k = k refl
 
 -- ---- the lines of an almanac
 
-chinese_spelled : (year month day : ℕ) → year ≤ LAST_ALMANAC_YEAR → month < 13 → day < 31 → IsSpelled (chinese_day_of year month day)
+chinese_spelled : (word : FromWord) (year month day : ℕ) → (row_of (calendar_of word)).count ≡ 5 → year ≤ LAST_ALMANAC_YEAR → month < 13 → day < 31
+    → IsSpelled (chinese_day_of word year month day)
 unfolding chinese_day_of
-chinese_spelled year month day h k l =
-    five_spelled _ ((year + 2636) / 60 + 1) ((year + 2636) % 60 + 1) month 0 day refl refl (omega arith) (omega arith) (omega arith) (omega arith) (omega arith)
+chinese_spelled word year month day five h k l =
+    five_spelled _ ((year + 2636) / 60 + 1) ((year + 2636) % 60 + 1) month 0 day refl five (omega arith) (omega arith) (omega arith) (omega arith) (omega arith)
 
 bahai_spelled : (year : ℕ) → year ≤ LAST_ALMANAC_YEAR → IsSpelled (bahai_new_year_of year)
 unfolding bahai_new_year_of
@@ -65,8 +64,8 @@ bahai_spelled year h =
 festival_spelled : (year index : ℕ) → year ≤ LAST_ALMANAC_YEAR → IsSpelled (festival_of year index)
 unfolding festival_of
 festival_spelled year index h =
-    chosen (index == 1) _ _ (λ e. chinese_spelled year 1 1 h (omega arith) (omega arith)) (λ e.
-    chosen (index == 2) _ _ (λ e. chinese_spelled year 5 5 h (omega arith) (omega arith)) (λ e.
+    chosen (index == 1) _ _ (λ e. chinese_spelled from.Chinese year 1 1 refl h (omega arith) (omega arith)) (λ e.
+    chosen (index == 2) _ _ (λ e. chinese_spelled from.Chinese year 5 5 refl h (omega arith) (omega arith)) (λ e.
     chosen (index == 3) _ _ (λ e. three_spelled _ year 3 30 refl refl (omega arith) (omega arith) (omega arith)) (λ e.
     chosen (index == 4) _ _ (λ e. three_spelled _ (year - 621) 1 1 refl refl (omega arith) (omega arith) (omega arith)) (λ e.
     chosen (index == 5) _ _ (λ e. bahai_spelled year h) (λ e.
@@ -122,12 +121,40 @@ line_spelled year index h k =
     chosen (nat_lt index 93) _ _ (λ f. phase_spelled year (index - 45) last (grind (arith, nat_tests))) (λ e.
     sunset_spelled year (index - 92) last (omega arith)))))
 
-lines_spelled : (many year index : ℕ) → IsAlmanacYear year → index + many ≤ 105 → AreSpelled (almanac_from year index many)
-lines_spelled zero year index h k = tt
-lines_spelled (suc many) year index h k = (line_spelled year index h (omega arith), lines_spelled many year (index + 1) h (omega arith))
+-- as each line up to the last is, so are so many lines
+lines_spelled : (line : ℕ → Request) (last : ℕ) → ((index : ℕ) → index ≤ last → IsSpelled (line index)) → (many index : ℕ) → index + many ≤ last + 1
+    → AreSpelled (lines_from line index many)
+lines_spelled line last each zero index k = tt
+lines_spelled line last each (suc many) index k = (each index (omega arith), lines_spelled line last each many (index + 1) (omega arith))
 
 pub almanac_spelled : (year : ℕ) → IsAlmanacYear year → AreSpelled (almanac_requests year)
-almanac_spelled year h = lines_spelled 104 year 1 h (omega arith)
+almanac_spelled year h = lines_spelled (almanac_line_of year) 104 (λ index. line_spelled year index h) 104 1 (omega arith)
+
+-- ---- the lines of a year in the eastern calendars
+
+dated_count : (index : ℕ) → (row_of (calendar_of (dated_at index))).count ≡ 5
+unfolding dated_at
+dated_count index = by (index == 0) (index == 1) (index == 2)
+  where
+    by : (s t u : Bool) → (row_of (calendar_of (if s then from.Chinese else
+        (if t then from.Vietnamese else (if u then from.Korean else from.Japanese))))).count ≡ 5
+    by true t u = refl
+    by false true u = refl
+    by false false true = refl
+    by false false false = refl
+
+middle_spelled : (year index : ℕ) → year ≤ LAST_ALMANAC_YEAR → index ≤ 48 → IsSpelled (month_middle_of year index)
+unfolding month_middle_of
+middle_spelled year index h k = three_spelled _ year (index / 4 + 1) 15 refl refl (omega arith) (omega arith) (omega arith)
+
+eastern_spelled : (year index : ℕ) → year ≤ LAST_ALMANAC_YEAR → index ≤ 52 → IsSpelled (east_line_of year index)
+unfolding east_line_of
+eastern_spelled year index h k =
+    chosen (nat_lt index 5) _ _ (λ e. chinese_spelled (dated_at (index - 1)) year 1 1 (dated_count (index - 1)) h (omega arith) (omega arith))
+    (λ e. middle_spelled year (index - 5) h (omega arith))
+
+pub east_spelled : (year : ℕ) → IsAlmanacYear year → AreSpelled (east_requests year)
+east_spelled year h = lines_spelled (east_line_of year) 52 (λ index. eastern_spelled year index h.1) 52 1 (omega arith)
 
 -- ---- the lines of a sample
 

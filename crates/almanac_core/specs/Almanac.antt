@@ -15,10 +15,10 @@ use Rattle.book_model.specs.calendars.Spans.{spans_of, ratio}
 abbrev pub date_of : FromWord → List ℕ → Request
 date_of word numbers = record { from = word; date = fields_with numbers; to = to.Gregorian }
 
--- a day of the Chinese year that begins in a Gregorian year: the years are counted in cycles of 60, and 2637 of them passed before
--- the first year of our era
-unfoldable pub chinese_day_of : (year month day : ℕ) → Request
-chinese_day_of year month day = date_of from.Chinese (((year + 2636) / 60 + 1) ∷ ((year + 2636) % 60 + 1) ∷ month ∷ 0 ∷ day ∷ [])
+-- a day of the year that begins in a Gregorian year, by the word of the Chinese or another calendar of its rules: the years are
+-- counted in cycles of 60, and 2637 of them passed before the first year of our era
+unfoldable pub chinese_day_of : FromWord → (year month day : ℕ) → Request
+chinese_day_of word year month day = date_of word (((year + 2636) / 60 + 1) ∷ ((year + 2636) % 60 + 1) ∷ month ∷ 0 ∷ day ∷ [])
 
 -- the first day of the Bahá'í year that begins in a Gregorian year: that of 1844 is the first of the first major cycle, which is 19
 -- cycles of 19 years, and the major cycle before it, from 1483 on, has the number 0
@@ -28,8 +28,8 @@ bahai_new_year_of year = date_of from.Bahai (((year - 1483) / 361) ∷ ((year - 
 -- the new years and festivals, from 1 to 7
 unfoldable pub festival_of : (year index : ℕ) → Request
 festival_of year index =
-    if index == 1 then chinese_day_of year 1 1
-    else (if index == 2 then chinese_day_of year 5 5
+    if index == 1 then chinese_day_of from.Chinese year 1 1
+    else (if index == 2 then chinese_day_of from.Chinese year 5 5
     else (if index == 3 then date_of from.MinorTerm (year ∷ 3 ∷ 30 ∷ [])
     else (if index == 4 then date_of from.Persian ((year - 621) ∷ 1 ∷ 1 ∷ [])
     else (if index == 5 then bahai_new_year_of year
@@ -70,11 +70,11 @@ almanac_line_of year index =
     else (if nat_lt index 93 then month_phase_of year (index - 45)
     else month_sunset_of year (index - 92))))
 
--- so many lines of the almanac of a year, from an index on
-abbrev pub almanac_from : (year index many : ℕ) → List Request
-almanac_from year index zero = []
-almanac_from year index (suc many) = almanac_line_of year index ∷ almanac_from year (index + 1) many
+-- so many lines, from an index on
+abbrev pub lines_from : (ℕ → Request) → (index many : ℕ) → List Request
+lines_from line index zero = []
+lines_from line index (suc many) = line index ∷ lines_from line (index + 1) many
 
 -- the lines of the almanac of a year
 abbrev pub almanac_requests : ℕ → List Request
-almanac_requests year = almanac_from year 1 104
+almanac_requests year = lines_from (almanac_line_of year) 1 104

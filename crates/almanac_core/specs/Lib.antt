@@ -1,2 +1,3 @@
 pub mod Almanac
+pub mod East
 pub mod Sample

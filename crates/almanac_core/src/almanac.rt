@@ -6,6 +6,7 @@ ghost use Rattle.book_model.specs.calendars.Spans.{ratio, spans_of as spans_in};
 ghost use Rattle.book_model.specs.declared.calendar_tables.TheConstants.{SYNODIC_MONTH as SYNODIC};
 ghost use Rattle.almanac_core.specs.Almanac as spec;
 ghost use Rattle.book_model.specs.calendars.Versions.{IsAlmanacYear};
+ghost use Rattle.book_model.specs.lines.Requests.{AreSpelled};
 
 use crate::numbers::{date_of_five, date_of_three, three_fields};
 use book_model::calendar_tables::{ISLAMIC_EPOCH, SYNODIC_MONTH};
@@ -17,23 +18,16 @@ use std::alloc::{AllocError, Global};
 /// How many lines an almanac has.
 const LINES: u32 = 104;
 
-/// The line of the day of the Chinese year that begins in a Gregorian year.
+/// The line of a day of the year that begins in a Gregorian year, by the word of the Chinese or another calendar of its rules.
 #[tactic(auto, unfolding(crate::specs::Almanac::chinese_day_of))]
-fn chinese_day(year: u32, month: u32, day: u32) -> Request
+pub(crate) fn chinese_day(from: FromWord, year: u32, month: u32, day: u32) -> Request
     requires year { IsAlmanacYear year }
     requires month { month < 13 }
     requires day { day < 31 }
-    ensures request { result ≡ spec.chinese_day_of year month day }
+    ensures request { result ≡ spec.chinese_day_of from year month day }
 {
     let passed = year + 2636;
-    date_of_five(
-        FromWord::Chinese,
-        passed / 60 + 1,
-        passed % 60 + 1,
-        month,
-        0,
-        day,
-    )
+    date_of_five(from, passed / 60 + 1, passed % 60 + 1, month, 0, day)
 }
 
 /// The line of the first day of the Bahá'í year that begins in a Gregorian year.
@@ -61,8 +55,8 @@ fn festival(year: u32, index: u32) -> Request
     ensures request { result ≡ spec.festival_of year index }
 {
     match index {
-        1 => chinese_day(year, 1, 1),
-        2 => chinese_day(year, 5, 5),
+        1 => chinese_day(FromWord::Chinese, year, 1, 1),
+        2 => chinese_day(FromWord::Chinese, year, 5, 5),
         3 => date_of_three(FromWord::MinorTerm, year, 3, 30),
         4 => date_of_three(FromWord::Persian, year - 621, 1, 1),
         5 => bahai_new_year(year),
@@ -198,6 +192,7 @@ pub fn almanac_line(year: u32, index: u32) -> Request
 pub fn almanac_requests(alloc: Global, year: u32) -> Result<Vec<Request>, AllocError>
     requires year { IsAlmanacYear year }
     ensures requests { IfOk result (λ requests. requests.items ≡ spec.almanac_requests year) }
+    ensures spelled { IfOk result (λ requests. AreSpelled requests.items) }
 {
     let mut requests = Vec::with_capacity(alloc, LINES as usize)?;
     for passed in 0..LINES {

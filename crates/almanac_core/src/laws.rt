@@ -4,13 +4,15 @@ ghost use Rattle.book_model.specs.calendars.Versions.{IsAlmanacYear};
 ghost use Rattle.book_model.specs.declared.version.TheConstants.{WRITTEN};
 ghost use Rattle.book_model.specs.lines.Requests.{AreSpelled, checked_request};
 ghost use Rattle.almanac_core.specs.Almanac.{almanac_requests};
+ghost use Rattle.almanac_core.specs.East.{east_requests};
 ghost use Rattle.almanac_core.specs.Sample.{sample_line_of, sample_requests};
 
-/// Lines can spell the requests of each almanac and of each sample: a date is as many numbers as its calendar has fields,
+/// Lines can spell the requests of each almanac, of each year in the eastern calendars and of each sample: a date is as many numbers as its calendar has fields,
 /// each of at most seven digits.
-#[tactic(auto, using(crate::proofs::SpelledRequests::almanac_spelled, crate::proofs::SpelledRequests::sample_spelled))]
+#[tactic(auto, using(crate::proofs::SpelledRequests::almanac_spelled, crate::proofs::SpelledRequests::east_spelled, crate::proofs::SpelledRequests::sample_spelled))]
 pub fn spelled()
     ensures almanac { (year : ℕ) → IsAlmanacYear year → AreSpelled (almanac_requests year) }
+    ensures east { (year : ℕ) → IsAlmanacYear year → AreSpelled (east_requests year) }
     ensures sample { (count seed : ℕ) → AreSpelled (sample_requests count seed) }
 {}
 

@@ -1,6 +1,7 @@
 //! The lines of a sample.
 ghost use Rattle.std.specs.Prelude.{◌≡◌, ◌<◌, IfOk};
 ghost use Rattle.almanac_core.specs.Sample as spec;
+ghost use Rattle.book_model.specs.lines.Requests.{AreSpelled};
 
 use book_model::{Fields, FromWord, Request, ToWord};
 use std::alloc::{AllocError, Global};
@@ -79,6 +80,7 @@ pub fn sample_line(state: u64, index: u32) -> (Request, u64)
 /// So many lines of a sample, whose generator begins at the seed, in their order. The error comes where memory runs out.
 pub fn sample_requests(alloc: Global, count: u32, seed: u64) -> Result<Vec<Request>, AllocError>
     ensures requests { IfOk result (λ requests. requests.items ≡ spec.sample_requests count seed) }
+    ensures spelled { IfOk result (λ requests. AreSpelled requests.items) }
 {
     let mut requests = Vec::with_capacity(alloc, count as usize)?;
     let mut state = seed;

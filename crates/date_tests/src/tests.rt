@@ -3,6 +3,7 @@ mod almanac;
 mod bahai;
 mod chinese;
 mod civil;
+mod eastern;
 mod facts;
 mod hindu;
 mod islamic;

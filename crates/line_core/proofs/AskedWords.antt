@@ -1,5 +1,5 @@
 -- The words of a line that breaks no rule.
-use Rattle.std.specs.Prelude.{◌≡◌, ℕ, ◌&&◌, nat_le, true, List, length, Result, Ok}
+use Rattle.std.specs.Prelude.{◌≡◌, ℕ, nat_le, List, length, Ok}
 use Rattle.std.specs.List.{list_all}
 use Rattle.book_model.specs.declared.request.Request.{Request}
 use Rattle.book_model.specs.declared.version.Version.{Version}

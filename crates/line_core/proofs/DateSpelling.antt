@@ -1,17 +1,14 @@
 -- The text of a date is read as its numbers.
-use Rattle.std.proofs.Common.{◌≡◌, ◌∙◌, ℕ, zero, suc, ◌+◌, ◌-◌, ◌*◌, ◌^◌, ◌<◌, ◌≤◌, Bool, true, false, List, [], ◌∷◌, ◌++◌, length, length-append, map, take, replicate, ap, refl, arith, nat_lt, decimal, pos}
+use Rattle.std.proofs.Common.{◌≡◌, ◌∙◌, ℕ, zero, suc, ◌+◌, ◌-◌, ◌*◌, ◌<◌, ◌≤◌, Bool, true, false, List, [], ◌∷◌, ◌++◌, length, length-append, map, take, replicate, ap, refl, arith, nat_lt, decimal, pos}
 use Rattle.std.proofs.lemmas.Bool.Decides.{nat_tests}
 use Rattle.std.proofs.lemmas.Fmt.{length-decimal-le}
 use Rattle.std.proofs.lemmas.List.{length-replicate}
 use Rattle.std.proofs.lemmas.List.Folds.{list_all-append}
 use Rattle.std.specs.List.{list_all, flat_map}
-use Rattle.std.specs.Prelude.{Some, None, Option, ◌&&◌, ◌==◌, if◌then◌else◌, codes}
-use Rattle.book_model.specs.declared.calendar.Calendar.{Calendar}
-use Rattle.book_model.specs.declared.calendar.Calendar.TheVariants as calendars
-use Rattle.book_model.specs.calendars.Dates.{row_of}
+use Rattle.std.specs.Prelude.{Some, None, ◌&&◌, ◌==◌, if◌then◌else◌}
 use Rattle.book_model.specs.lines.Lines.{is_printable, IsWord, parts_of, onto_first, number_of, value_from}
-use Rattle.book_model.specs.lines.Requests.{fields_of, fields_with, checked, checked_numbers, numbers_of, is_of_seven_digits}
-use Rattle.book_model.specs.lines.Text.{date_text, dashed, dash_text, dashed_text, gregorian_text, padded}
+use Rattle.book_model.specs.lines.Requests.{fields_with, numbers_of, is_of_seven_digits}
+use Rattle.book_model.specs.lines.Text.{dashed, dash_text, dashed_text, gregorian_text, padded}
 use Rattle.line_core.proofs.Digits.{decimal_some, digits_spell}
 use Rattle.line_core.proofs.SpacedWords.{both}
 

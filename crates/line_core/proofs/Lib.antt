@@ -14,3 +14,4 @@ pub mod SingleSpaces
 pub mod DateSpelling
 pub mod TextRead
 pub mod AskedWords
+pub mod EasternDates

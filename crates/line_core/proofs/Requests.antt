@@ -1,12 +1,12 @@
 -- What a line asks, by its words.
-use Rattle.std.specs.Prelude.{◌≡◌, ℕ, ◌&&◌, nat_le, Bool, true, false, List, [], ◌∷◌, length, Result, Ok, Err, if◌then◌else◌, refl}
+use Rattle.std.specs.Prelude.{◌≡◌, ℕ, ◌&&◌, nat_le, Bool, true, false, List, [], ◌∷◌, length, Ok, Err, if◌then◌else◌, refl}
 use Rattle.std.specs.List.{list_all}
 use Rattle.book_model.specs.declared.request.Request.{Request}
 use Rattle.book_model.specs.declared.request.Rule.TheVariants.{Syntax}
 use Rattle.book_model.specs.declared.version.Version.{Version}
 use Rattle.book_model.specs.lines.Lines.{is_plain, words_of}
 use Rattle.book_model.specs.lines.Requests.{request_of, asked_by, with_words}
-use Rattle.book_model.specs.lines.Words.{from_word_of, to_word_of}
+use Rattle.book_model.specs.lines.Words.{from_word_in, to_word_in}
 
 -- a line is short and plain
 abbrev pub is_readable : List ℕ → Bool
@@ -32,7 +32,7 @@ asked_other version line e h = rw e (not_three version (words_of line) h)
 
 -- a line of three words asks what they ask
 pub asked_three : (version : Version) (line from date to : List ℕ) → is_readable line ≡ true → words_of line ≡ from ∷ date ∷ to ∷ []
-    → with_words version (from_word_of from) date (to_word_of to) ≡ request_of version line
+    → with_words version (from_word_in version from) date (to_word_in version to) ≡ request_of version line
 unfolding request_of
 asked_three version line from date to e words = rw (e, words) refl
 

@@ -1,13 +1,13 @@
 -- What three words ask, by the line that they are with single spaces.
-use Rattle.std.proofs.Common.{◌≡◌, ℕ, ◌+◌, Bool, true, false, List, [], ◌∷◌, ◌++◌, length, length-append, append-nil, refl, arith}
+use Rattle.std.proofs.Common.{◌≡◌, ℕ, ◌+◌, true, false, List, [], ◌∷◌, ◌++◌, length, length-append, append-nil, refl, arith}
 use Rattle.std.specs.List.{list_all}
-use Rattle.std.specs.Prelude.{◌&&◌, nat_le, Err}
+use Rattle.std.specs.Prelude.{nat_le, Err}
 use Rattle.book_model.specs.declared.request.Rule.TheVariants.{Syntax}
 use Rattle.book_model.specs.declared.version.Version.{Version}
 use Rattle.book_model.specs.lines.Lines.{IsWord, is_plain, words_of}
 use Rattle.book_model.specs.lines.Requests.{request_of, with_words}
 use Rattle.book_model.specs.lines.Text.{three_words_text}
-use Rattle.book_model.specs.lines.Words.{from_word_of, to_word_of}
+use Rattle.book_model.specs.lines.Words.{from_word_in, to_word_in}
 use Rattle.line_core.proofs.Requests.{is_readable, asked_unreadable, asked_three}
 use Rattle.line_core.proofs.SpacedWords.{spaced, plain_line, words_read}
 
@@ -31,7 +31,7 @@ asked_long version from date to long =
 -- any other asks what the words ask
 pub asked_words : (version : Version) (from date to : List ℕ) → IsWord from → IsWord date → IsWord to → nat_le (length (three_words_text from date to)) 200
     ≡ true
-    → with_words version (from_word_of from) date (to_word_of to) ≡ request_of version (three_words_text from date to)
+    → with_words version (from_word_in version from) date (to_word_in version to) ≡ request_of version (three_words_text from date to)
 asked_words version from date to f d t short =
     let same = text_spaced from date to in
     let plain : list_all is_plain (three_words_text from date to) ≡ true = rw same (plain_line from (date ∷ to ∷ []) f (d, (t, tt))) in

@@ -1,21 +1,23 @@
 -- The line of a request is read as the request.
-use Rattle.std.proofs.Common.{◌≡◌, ◌∙◌, ℕ, ◌+◌, ◌≤◌, true, false, List, [], ◌∷◌, length, ap, sym, refl, arith}
+use Rattle.std.proofs.Common.{◌≡◌, ◌∙◌, ℕ, ◌≤◌, true, false, List, [], ◌∷◌, length, sym, refl, arith}
 use Rattle.std.proofs.lemmas.Bool.Decides.{nat_tests}
 use Rattle.std.specs.List.{list_all}
-use Rattle.std.specs.Prelude.{Some, nat_le}
+use Rattle.std.specs.Prelude.{Option, None, Some, Err, ◌&&◌, Bool, if◌then◌else◌, nat_le}
 use Rattle.book_model.specs.declared.calendar.Calendar.{Calendar}
 use Rattle.book_model.specs.declared.calendar.Calendar.TheVariants as calendars
 use Rattle.book_model.specs.declared.request.Request.{Request}
+use Rattle.book_model.specs.declared.request.Rule.TheVariants as rules
 use Rattle.book_model.specs.declared.version.Version.{Version}
 use Rattle.book_model.specs.declared.words.FromWord.{FromWord}
 use Rattle.book_model.specs.declared.words.FromWord.TheVariants as from
 use Rattle.book_model.specs.declared.words.ToWord.{ToWord}
 use Rattle.book_model.specs.declared.words.ToWord.TheVariants as to
 use Rattle.book_model.specs.calendars.Dates.{row_of}
-use Rattle.book_model.specs.lines.Lines.{IsWord, words_of}
-use Rattle.book_model.specs.lines.Requests.{request_of, checked_request, fields_of, fields_with, checked, is_of_seven_digits, IsSpelled}
+use Rattle.book_model.specs.calendars.Versions.{has_since, had_in}
+use Rattle.book_model.specs.lines.Lines.{words_of}
+use Rattle.book_model.specs.lines.Requests.{request_of, checked_request, fields_of, fields_with, checked, ranged, with_date, with_words, is_of_seven_digits, IsSpelled}
 use Rattle.book_model.specs.lines.Text.{date_text, line_text, three_words_text}
-use Rattle.book_model.specs.lines.Words.{calendar_of, text_of_from, text_of_to}
+use Rattle.book_model.specs.lines.Words.{calendar_of, from_since, to_since, from_word_of, to_word_of, text_of_from, text_of_to}
 use Rattle.book_model.proofs.WordTables.{from_found, to_found, few_fields}
 use Rattle.line_core.proofs.DateSpelling.{IsDate, IsShortWord, dashed_date, gregorian_date, date_numbers, date_word}
 use Rattle.line_core.proofs.SingleSpaces.{text_length, text_spaced, asked_words}
@@ -47,6 +49,18 @@ date_read : (c : Calendar) (ns : List ℕ) → length ns ≡ (row_of c).count �
 unfolding fields_of
 date_read c ns h small = rw (date_numbers ns (date_text c (fields_with ns)) (text_is_date c ns h small)) refl
 
+-- words that are known ask what the request does, or a version hasn't one of them
+words_asked : (version : Version) (r : Request) (date : List ℕ) (o : Option FromWord) (p : Option ToWord) → o ≡ Some r.from → p ≡ Some r.to
+    → fields_of (calendar_of r.from) date ≡ checked (calendar_of r.from) r.date
+    → with_words version (had_in version from_since o) date (had_in version to_since p) ≡ checked_request version r
+words_asked version r date o p before after again = rw (before, after) (by (has_since version (from_since r.from)) (has_since version (to_since r.to)))
+  where
+    by : (s t : Bool) → with_words version (if s then Some r.from else None) date (if t then Some r.to else None)
+        ≡ (if s && t then with_date r.from r.to (ranged version (calendar_of r.from) (checked (calendar_of r.from) r.date)) else Err rules.Calendar)
+    by true true = rw again refl
+    by true false = refl
+    by false t = refl
+
 -- the line of a request whose date is these numbers
 spelled_read : (version : Version) (r : Request) (ns : List ℕ) → r.date ≡ fields_with ns → length ns ≡ (row_of (calendar_of r.from)).count
     → list_all is_of_seven_digits ns ≡ true
@@ -67,7 +81,8 @@ spelled_read version r ns date many small =
     short in
     let again : fields_of (calendar_of r.from) (date_text (calendar_of r.from) r.date)
     ≡ checked (calendar_of r.from) r.date = rw date (date_read (calendar_of r.from) ns many small) in
-    sym asked ∙ rw (from_found r.from, to_found r.to, again) refl
+    sym asked ∙ words_asked version r (date_text (calendar_of r.from) r.date) (from_word_of (text_of_from r.from)) (to_word_of (text_of_to r.to))
+    (from_found r.from) (to_found r.to) again
 
 pub text_is_read : (version : Version) (r : Request) → IsSpelled r → request_of version (line_text r) ≡ checked_request version r
 text_is_read version r s = spelled_read version r s.numbers s.date s.many s.short

@@ -1,14 +1,18 @@
 //! Dates of all calendars: which may be asked, the day that a date names, and the date of a day.
 ghost use Rattle.std.specs.Prelude.{◌≡◌, IsTrue, IfOk, MatchOption, true, false};
 ghost use Rattle.book_model.specs.calendars.Dates as spec;
+ghost use Rattle.book_model.specs.calendars.Moving.{at_place};
 ghost use Rattle.book_model.specs.calendars.Versions.{is_in_some_range};
 ghost use Rattle.book_model.specs.lines.Requests.{ranged, checked, fields_of};
+ghost use Rattle.east_cal.specs.Moving.{is_moved_to};
 ghost use Rattle.oracle_core.specs.Asking.{Asks};
 
 use crate::fields::{are_within, has_year, spelled_fields};
 use crate::gregorian::{gregorian_date, gregorian_day, is_in_range};
-use book_model::{Calendar, Fields, Rule, Version};
+use book_model::{Calendar, Fields, Place, Rule, Version};
 use calendar_math::to_32_bits;
+use chinese_cal::ChineseDate;
+use east_cal::Moved;
 use oracle_core::{CalendarDate, Oracle, Stop};
 
 /// The day (R.D.) that a day number names.
@@ -109,15 +113,41 @@ fn fields_on<D: CalendarDate, O: Oracle>(oracle: &mut O, day: i64) -> Result<Fie
     Ok(D::of_day(oracle, day)?.fields())
 }
 
-/// What is given in the Gregorian calendar, in day numbers, or by a call that is told the date's type of any other calendar.
+/// The day (R.D.) that the fields of a date name by the Chinese rules over the sky of another place. It stops where the oracle
+/// stops.
+fn day_at<O: Oracle>(oracle: &mut O, place: Place, date: &Fields) -> Result<i64, Stop>
+    requires moved_to { IsTrue (is_moved_to place) }
+    requires askable { spec.IsAskable Calendar.Chinese date.now }
+    ensures day { Asks O.Oracle (at_place place (spec.day_named Calendar.Chinese date.now))
+        oracle.old oracle.new result }
+{
+    day_by::<ChineseDate, Moved<O>>(&mut Moved::new(oracle, place), date)
+}
+
+/// The fields of the date of a day (R.D.) that a line may name, by the Chinese rules over the sky of another place. It stops where
+/// the oracle stops.
+fn fields_at<O: Oracle>(oracle: &mut O, place: Place, day: i64) -> Result<Fields, Stop>
+    requires moved_to { IsTrue (is_moved_to place) }
+    requires in_range { IsTrue (is_in_some_range day) }
+    ensures date { Asks O.Oracle (at_place place (spec.date_on Calendar.Chinese day))
+        oracle.old oracle.new result }
+{
+    fields_on::<ChineseDate, Moved<O>>(&mut Moved::new(oracle, place), day)
+}
+
+/// What is given in the Gregorian calendar, in day numbers, by a call that is told the date's type of any other calendar, or by
+/// one that is told the place of a calendar of the Chinese rules.
 macro_rules! by_calendar {
-    ($calendar:expr, $gregorian:expr, $fixed:expr, $call:ident($oracle:expr, $given:expr)) => {
+    ($calendar:expr, $gregorian:expr, $fixed:expr, $call:ident, $at:ident($oracle:expr, $given:expr)) => {
         match $calendar {
             Calendar::Gregorian => Ok($gregorian),
             Calendar::Fixed => Ok($fixed),
             Calendar::Persian => $call::<persian_cal::PersianDate, O>($oracle, $given),
             Calendar::Bahai => $call::<bahai_cal::BahaiDate, O>($oracle, $given),
-            Calendar::Chinese => $call::<chinese_cal::ChineseDate, O>($oracle, $given),
+            Calendar::Chinese => $call::<ChineseDate, O>($oracle, $given),
+            Calendar::Vietnamese => $at($oracle, Place::Hanoi, $given),
+            Calendar::Korean => $at($oracle, Place::Seoul, $given),
+            Calendar::Japanese => $at($oracle, Place::Tokyo, $given),
             Calendar::Islamic => $call::<islamic_observed::IslamicDate, O>($oracle, $given),
             Calendar::HinduSolar => $call::<hindu_astro::solar::HinduSolar, O>($oracle, $given),
             Calendar::HinduLunar => $call::<hindu_astro::lunar::HinduLunar, O>($oracle, $given),
@@ -139,7 +169,8 @@ pub(crate) fn named_day<O: Oracle>(
         calendar,
         day_of_gregorian(date),
         fixed_day(date),
-        day_by(oracle, date)
+        day_by,
+        day_at(oracle, date)
     )
 }
 
@@ -157,6 +188,7 @@ pub(crate) fn date_on<O: Oracle>(
         calendar,
         gregorian_date(day),
         one_field(day),
-        fields_on(oracle, day)
+        fields_on,
+        fields_at(oracle, day)
     )
 }

@@ -4,7 +4,7 @@ ghost use Rattle.std.specs.List.{list_all, position_or_len};
 ghost use Rattle.book_model.specs.lines.Lines as spec;
 ghost use Rattle.book_model.specs.lines.Requests.{request_of, with_words, is_possible, is_in_reach};
 ghost use Rattle.book_model.specs.lines.Text.{three_words_text};
-ghost use Rattle.book_model.specs.lines.Words.{from_word_of, to_word_of};
+ghost use Rattle.book_model.specs.lines.Words.{from_word_in, to_word_in};
 
 use crate::dates::ranged_date;
 use book_model::{FromWord, Request, Rule, ToWord, Version};
@@ -104,13 +104,13 @@ pub fn three_words<'a>(line: &'a [u8]) -> Option<ThreeWords<'a>>
 
 /// What three words ask.
 fn asked(words: ThreeWords<'_>, version: Version) -> Result<Request, Rule>
-    ensures asked { result ≡ with_words version (from_word_of words.entry.from.now)
-        words.entry.date.now (to_word_of words.entry.to.now) }
+    ensures asked { result ≡ with_words version (from_word_in version words.entry.from.now)
+        words.entry.date.now (to_word_in version words.entry.to.now) }
     ensures possible { IfOk result (λ r. IsTrue (is_possible r)) }
     ensures in_reach { IfOk result (λ r. IsTrue (is_in_reach version r)) }
 {
-    let from = FromWord::named(words.from).ok_or(Rule::Calendar)?;
-    let to = ToWord::named(words.to).ok_or(Rule::Calendar)?;
+    let from = FromWord::named_in(version, words.from).ok_or(Rule::Calendar)?;
+    let to = ToWord::named_in(version, words.to).ok_or(Rule::Calendar)?;
     let date = ranged_date(version, from.calendar(), words.date)?;
     Ok(Request { from, date, to })
 }
@@ -127,7 +127,7 @@ fn are_short(words: &ThreeWords<'_>) -> bool
 
 /// What three words ask, each of one byte or more from 0x21 to 0x7E, or the first rule of a version that their line
 /// breaks, in which single spaces stand between them: `Syntax` where it has more than 200 bytes; `Calendar` for a word that
-/// isn't known; `Field` where the calendar can have no such date; `Range` for a date that the version doesn't answer, as
+/// the version hasn't; `Field` where the calendar can have no such date; `Range` for a date that the version doesn't answer, as
 /// far as that can be told without any fact.
 pub fn read_words(words: ThreeWords<'_>, version: Version) -> Result<Request, Rule>
     requires from { spec.IsWord words.from.now }
@@ -146,7 +146,7 @@ pub fn read_words(words: ThreeWords<'_>, version: Version) -> Result<Request, Ru
 }
 
 /// What a line asks, or the first rule of a version that it breaks: `Syntax` where it isn't three words of printable
-/// bytes with blanks between them, in 200 bytes at most; `Calendar` for a word that isn't known; `Field` where the
+/// bytes with blanks between them, in 200 bytes at most; `Calendar` for a word that the version hasn't; `Field` where the
 /// calendar can have no such date; `Range` for a date that the version doesn't answer, as far as that can be told
 /// without any fact.
 pub fn read_line(bytes: &[u8], version: Version) -> Result<Request, Rule>

@@ -5,13 +5,17 @@ ghost use Rattle.book_model.specs.lines.Requests as spec;
 use crate::dates::checked_date;
 use book_model::{Request, Rule, Version};
 
-/// A request itself, or the first rule of a version that its line breaks: `Field` where the calendar can have no such date;
-/// `Range` for a date that the version doesn't answer, as far as that can be told without any fact.
+/// A request itself, or the first rule of a version that its line breaks: `Calendar` for a word that the version hasn't; `Field`
+/// where the calendar can have no such date; `Range` for a date that the version doesn't answer, as far as that can be told
+/// without any fact.
 pub fn checked_request(request: &Request, version: Version) -> Result<Request, Rule>
     ensures request { result ≡ spec.checked_request version request.now }
     ensures possible { IfOk result (λ r. IsTrue (spec.is_possible r)) }
     ensures in_reach { IfOk result (λ r. IsTrue (spec.is_in_reach version r)) }
 {
+    if !version.has_since(request.from.since()) || !version.has_since(request.to.since()) {
+        return Err(Rule::Calendar);
+    }
     let date = checked_date(version, request.from.calendar(), &request.date)?;
     Ok(Request {
         from: request.from,

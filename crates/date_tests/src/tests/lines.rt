@@ -117,6 +117,13 @@ fn a_request_breaks_the_rule_of_its_line(rt: HostRuntime) {
             two,
             Some(Rule::Range),
         ),
+        (
+            FromWord::Korean,
+            [1528, 1, 1, 0, 0],
+            one,
+            Some(Rule::Calendar),
+        ),
+        (FromWord::Korean, [1528, 1, 1, 0, 0], two, Some(Rule::Field)),
     ] {
         let request = Request {
             from,
@@ -163,7 +170,7 @@ const ANSWERED: [(bool, bool); 8] = [
 ];
 
 /// The rule of a version that a line breaks, if it breaks one.
-fn broken(line: &str, version: Version) -> Option<Rule> {
+pub fn broken(line: &str, version: Version) -> Option<Rule> {
     match read_line(line.as_bytes(), version) {
         Ok(_) => None,
         Err(rule) => Some(rule),
@@ -198,7 +205,8 @@ fn words_are_cut_out(rt: HostRuntime) -> Result<(), Fail> {
     Ok(())
 }
 
-fn resolved(to: ToWord, count: u8, values: [i32; 5]) -> Resolved {
+/// A date that is shown.
+pub fn resolved(to: ToWord, count: u8, values: [i32; 5]) -> Resolved {
     Resolved::Shown(to, Fields { count, values })
 }
 
@@ -258,7 +266,7 @@ fn a_missing_fact_stops(rt: HostRuntime) -> Result<(), Fail> {
 }
 
 /// What a line comes to over these facts, and how many of them are asked.
-fn resolved_over(
+pub fn resolved_over(
     alloc: Global,
     line: &str,
     version: Version,

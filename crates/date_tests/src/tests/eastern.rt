@@ -1,0 +1,152 @@
+//! Vietnamese, Korean and Japanese dates over tables in memory, each compared with an independent implementation, and the words
+//! for them by version.
+use super::facts::{major_term, moon_before, moon_from, nowruz_on, solstice_on};
+use super::lines::{broken, resolved, resolved_over};
+use book_model::{Place, Resolved, Rule, ToWord};
+use east_cal::Moved;
+use line_core::Version;
+use oracle_core::{Listed, Oracle};
+use std::alloc::Global;
+use std::test::Fail;
+
+/// What a line comes to over facts of January 1985 in Hanoi and of February 1985 in Beijing, and how many of them are asked: the
+/// year of Hanoi began a month before that of Beijing.
+fn in_1985(alloc: Global, line: &str) -> Result<(Resolved, usize), Fail> {
+    let facts = [
+        solstice_on(724_662).at(Place::Hanoi),
+        solstice_on(725_001).at(Place::Hanoi),
+        moon_from(724_632).at(Place::Hanoi),
+        moon_before(724_998).at(Place::Hanoi),
+        moon_before(724_663).at(Place::Hanoi),
+        moon_before(724_662).at(Place::Hanoi),
+        moon_before(724_632).at(Place::Hanoi),
+        major_term(724_632).at(Place::Hanoi),
+        moon_from(724_633).at(Place::Hanoi),
+        major_term(724_662).at(Place::Hanoi),
+        moon_from(724_663).at(Place::Hanoi),
+        major_term(724_692).at(Place::Hanoi),
+        solstice_on(724_692),
+        solstice_on(725_002),
+        moon_from(724_633),
+        moon_before(724_998),
+        moon_before(724_693),
+    ];
+    let values = [
+        724_631, 724_997, 724_632, 724_987, 724_662, 724_632, 724_603, 11, 724_662, 12, 724_692, 1,
+        724_632, 724_997, 724_662, 724_987, 724_692,
+    ];
+    resolved_over(alloc, line, Version::Two, &facts, &values)
+}
+
+/// The same over facts of the new year of 2007 in Hanoi.
+fn in_2007(alloc: Global, line: &str) -> Result<(Resolved, usize), Fail> {
+    let facts = [
+        solstice_on(732_903).at(Place::Hanoi),
+        solstice_on(733_037).at(Place::Hanoi),
+        moon_from(732_668).at(Place::Hanoi),
+        moon_from(732_696).at(Place::Hanoi),
+        moon_before(733_033).at(Place::Hanoi),
+        moon_from(732_724).at(Place::Hanoi),
+        solstice_on(732_724).at(Place::Hanoi),
+        moon_before(732_725).at(Place::Hanoi),
+    ];
+    let values = [
+        732_667, 733_032, 732_695, 732_724, 733_020, 732_724, 732_667, 732_724,
+    ];
+    resolved_over(alloc, line, Version::Two, &facts, &values)
+}
+
+/// The same over facts of the new year of 1997 in Seoul, and in Tokyo.
+fn in_1997(alloc: Global, line: &str) -> Result<(Resolved, usize), Fail> {
+    let facts = [
+        solstice_on(729_250).at(Place::Seoul),
+        solstice_on(729_384).at(Place::Seoul),
+        moon_from(729_015).at(Place::Seoul),
+        moon_from(729_034).at(Place::Seoul),
+        moon_before(729_381).at(Place::Seoul),
+        moon_from(729_063).at(Place::Seoul),
+        solstice_on(729_063).at(Place::Seoul),
+        moon_before(729_064).at(Place::Seoul),
+        solstice_on(729_250).at(Place::Tokyo),
+        solstice_on(729_384).at(Place::Tokyo),
+        moon_from(729_015).at(Place::Tokyo),
+        moon_from(729_034).at(Place::Tokyo),
+        moon_before(729_381).at(Place::Tokyo),
+        moon_from(729_063).at(Place::Tokyo),
+        solstice_on(729_063).at(Place::Tokyo),
+        moon_before(729_064).at(Place::Tokyo),
+    ];
+    let values = [
+        729_014, 729_380, 729_033, 729_063, 729_358, 729_063, 729_014, 729_063, 729_014, 729_380,
+        729_033, 729_063, 729_358, 729_063, 729_014, 729_063,
+    ];
+    resolved_over(alloc, line, Version::Two, &facts, &values)
+}
+
+#[test]
+fn dates_go_by_the_sky_of_their_place(rt: HostRuntime) -> Result<(), Fail> {
+    let alloc = rt.alloc();
+    let new_year = [78, 2, 1, 0, 1];
+    let vietnamese = (resolved(ToWord::Vietnamese, 5, new_year), 12);
+    assert_eq!(rt;
+        in_1985(alloc, "gregorian 1985-01-21 vietnamese")?,
+        vietnamese
+    );
+    let chinese = (resolved(ToWord::Chinese, 5, new_year), 5);
+    assert_eq!(rt; in_1985(alloc, "gregorian 1985-02-20 chinese")?, chinese);
+    let day = |day| (resolved(ToWord::Gregorian, 3, day), 8);
+    assert_eq!(rt;
+        in_2007(alloc, "vietnamese 78-24-1-0-1 gregorian")?,
+        day([2007, 2, 17, 0, 0])
+    );
+    for line in [
+        "korean 78-14-1-0-1 gregorian",
+        "japanese 78-14-1-0-1 gregorian",
+    ] {
+        assert_eq!(rt;
+            in_1997(alloc, line)?,
+            day([1997, 2, 8, 0, 0]),
+            "at {line:?}"
+        );
+    }
+    Ok(())
+}
+
+#[test]
+fn facts_of_beijing_alone_are_moved(rt: HostRuntime) {
+    let hanoi = Place::Hanoi;
+    let facts = [
+        solstice_on(738_926).at(hanoi),
+        solstice_on(738_926).at(Place::Seoul),
+        solstice_on(738_926),
+        nowruz_on(738_926),
+    ];
+    let mut table = Listed::new(rt.alloc(), &facts, &[1, 2, 3, 4]);
+    let mut moved = Moved::new(&mut table, hanoi);
+    assert_eq!(rt; moved.ask(solstice_on(738_926)), Ok(1));
+    assert_eq!(rt; moved.ask(solstice_on(738_926).at(Place::Seoul)), Ok(2));
+    assert_eq!(rt; moved.ask(nowruz_on(738_926)), Ok(4));
+    assert_eq!(rt; table.asked().len(), 3);
+}
+
+#[test]
+fn version_1_has_none_of_the_words(rt: HostRuntime) -> Result<(), Fail> {
+    let range = Some(Rule::Range);
+    for word in ["vietnamese", "korean", "japanese"] {
+        for (date, by_two) in [
+            ("73-17-1-0-1", range),
+            ("73-18-1-0-1", None),
+            ("80-45-1-0-1", None),
+            ("80-46-1-0-1", range),
+            ("78-41-13-0-1", Some(Rule::Field)),
+        ] {
+            let line = format!(in rt.alloc(); "{word} {date} gregorian")?;
+            assert_eq!(rt; broken(&line, Version::One), Some(Rule::Calendar), "{line}");
+            assert_eq!(rt; broken(&line, Version::Two), by_two, "{line}");
+        }
+        let line = format!(in rt.alloc(); "gregorian 2024-02-10 {word}")?;
+        assert_eq!(rt; broken(&line, Version::One), Some(Rule::Calendar), "{line}");
+        assert_eq!(rt; broken(&line, Version::Two), None, "{line}");
+    }
+    Ok(())
+}
