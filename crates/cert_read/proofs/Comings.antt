@@ -3,6 +3,7 @@ use Rattle.std.proofs.Common.{◌≡◌, ◌∙◌, ℕ, ◌+◌, ◌-◌, ◌^�
 use Rattle.std.proofs.lemmas.Bool.Decides.{nat_tests}
 use Rattle.std.specs.Prelude.{codes, Some, None, ◌&&◌, ◌==◌, ℤ}
 use Rattle.book_model.specs.declared.fact.Fact.{Fact}
+use Rattle.book_model.specs.declared.version.Version.{Version}
 use Rattle.book_model.specs.declared.version.TheConstants.{WRITTEN}
 use Rattle.book_model.specs.lines.Lines.{IsWord, AreWords, lines_of}
 use Rattle.book_model.specs.lines.Text.{fact_text}
@@ -21,15 +22,16 @@ use Rattle.cert_read.proofs.RowWords.{text_word, fact_row_words}
 use Rattle.cert_read.proofs.FormsRead.{fact_row_form}
 
 -- the form of words in a row
-row_form : (w : List ℕ) (ws : List (List ℕ)) (form : Form) → IsWord w → AreWords ws → form_in (w ∷ ws) ≡ Some form → form_of (w ++ spaced ws) ≡ Some form
+row_form : (version : Version) (w : List ℕ) (ws : List (List ℕ)) (form : Form) → IsWord w → AreWords ws → form_in version (w ∷ ws)
+    ≡ Some form → form_of version (w ++ spaced ws) ≡ Some form
 unfolding form_of
-row_form w ws form h k f = rw (spaced_well w ws h k, words_read w ws h k) f
+row_form version w ws form h k f = rw (spaced_well w ws h k, words_read w ws h k) f
 
 -- the reading goes on with what a row of this form leads to
-pub row_taken : (number : ℕ) (before : CertFile) (w : List ℕ) (ws : List (List ℕ)) (rest : List ℕ) (form : Form) → IsWord w → AreWords ws → form_in (w ∷ ws)
-    ≡ Some form → broken_by before false form ≡ None
+pub row_taken : (number : ℕ) (before : CertFile) (w : List ℕ) (ws : List (List ℕ)) (rest : List ℕ) (form : Form) → IsWord w → AreWords ws
+    → form_in before.version (w ∷ ws) ≡ Some form → broken_by before false form ≡ None
     → reading_from number before false (lines_of (w ++ spaced_then ws rest)) ≡ reading_from (number + 1) (with_form before form) (is_end form) (lines_of rest)
-row_taken number before w ws rest form h k f b = rw (row_read w ws rest h k) (rw (row_form w ws form h k f) (rw b refl))
+row_taken number before w ws rest form h k f b = rw (row_read w ws rest h k) (rw (row_form before.version w ws form h k f) (rw b refl))
 
 -- reading a text after these facts and lines is reading the rest of it after those
 pub record Comes (before : CertFile) (text : List ℕ) (after : CertFile) (rest : List ℕ) : Type 0 where
@@ -45,8 +47,8 @@ pub comes_none : (a : CertFile) (r : List ℕ) → Comes a r a r
 comes_none a r = record { next = λ n. n; same = λ n. refl }
 
 -- a row that isn't the end line
-pub row_comes : (before : CertFile) (w : List ℕ) (ws : List (List ℕ)) (rest : List ℕ) (form : Form) → IsWord w → AreWords ws → form_in (w ∷ ws) ≡ Some form
-    → broken_by before false form ≡ None → is_end form ≡ false
+pub row_comes : (before : CertFile) (w : List ℕ) (ws : List (List ℕ)) (rest : List ℕ) (form : Form) → IsWord w → AreWords ws
+    → form_in before.version (w ∷ ws) ≡ Some form → broken_by before false form ≡ None → is_end form ≡ false
     → Comes before (w ++ spaced_then ws rest) (with_form before form) rest
 row_comes before w ws rest form h k f b e = record { next = λ n. n + 1; same = λ n. rw e at (row_taken n before w ws rest form h k f b) }
 

@@ -6,6 +6,7 @@ use Rattle.std.specs.Prelude.{codes, Some, ◌&&◌, nat_le, ℤ}
 use Rattle.book_model.specs.declared.fact.Fact.{Fact}
 use Rattle.book_model.specs.declared.fail.Undecided.{Undecided as OpenTest}
 use Rattle.book_model.specs.declared.site.Site.{Site}
+use Rattle.book_model.specs.declared.version.TheConstants.{WRITTEN}
 use Rattle.book_model.specs.sky.Names.{kind_name, place_name, site_name}
 use Rattle.cert_text.specs.declared.line.CertLine.TheVariants.{Refused}
 use Rattle.cert_read.specs.declared.form.Form.TheVariants as forms
@@ -16,7 +17,7 @@ use Rattle.cert_read.proofs.RowTexts.{fact_row, refused_row, undecided_row, void
 use Rattle.cert_read.proofs.WordParts.{counter_here, value_here, fact_here, last_fact_here, test_here, site_here}
 
 -- fact N KIND PLACE DAY VALUE
-pub fact_row_form : (n : ℕ) (f : Fact) (v : ℤ) → n ≤ 2 ^ 32 - 1 → is_named_well f ≡ true → is_value v ≡ true → form_in (codes "fact" ∷ fact_row n f v)
+pub fact_row_form : (n : ℕ) (f : Fact) (v : ℤ) → n ≤ 2 ^ 32 - 1 → is_named_well f ≡ true → is_value v ≡ true → form_in WRITTEN (codes "fact" ∷ fact_row n f v)
     ≡ Some (forms.Fact n (Some f) v)
 unfolding fact_form
 fact_row_form n f v h k l =
@@ -27,12 +28,13 @@ fact_row_form n f v h k l =
     ) refl
 
 -- end lines L facts F
-pub end_row_form : (lines facts : ℕ) → lines ≤ 2 ^ 32 - 1 → facts ≤ 2 ^ 32 - 1 → form_in (codes "end" ∷ end_row lines facts) ≡ Some (forms.End lines facts)
+pub end_row_form : (lines facts : ℕ) → lines ≤ 2 ^ 32 - 1 → facts ≤ 2 ^ 32 - 1 → form_in WRITTEN (codes "end" ∷ end_row lines facts)
+    ≡ Some (forms.End lines facts)
 unfolding end_form key_at
 end_row_form lines facts h k = rw (counter_here lines (codes "facts" ∷ decimal facts ∷ []) h, counter_here facts [] k) refl
 
 -- line N refused R
-pub refused_row_form : (n rule : ℕ) → n ≤ 2 ^ 32 - 1 → (nat_le 1 rule && nat_le rule 4) ≡ true → form_in (codes "line" ∷ refused_row n rule)
+pub refused_row_form : (n rule : ℕ) → n ≤ 2 ^ 32 - 1 → (nat_le 1 rule && nat_le rule 4) ≡ true → form_in WRITTEN (codes "line" ∷ refused_row n rule)
     ≡ Some (forms.Line n (Refused rule))
 unfolding line_form body_form refused_form key_at
 refused_row_form n rule h k =
@@ -42,7 +44,7 @@ refused_row_form n rule h k =
 
 -- line N undecided SITE TURN LO HI fact KIND PLACE DAY
 pub undecided_row_form : (n : ℕ) (f : Fact) (u : OpenTest) → n ≤ 2 ^ 32 - 1 → is_named_well f ≡ true → is_open_test u ≡ true
-    → form_in (codes "line" ∷ undecided_row n f u) ≡ Some (forms.Undecided n (Some f) u)
+    → form_in WRITTEN (codes "line" ∷ undecided_row n f u) ≡ Some (forms.Undecided n (Some f) u)
 unfolding line_form body_form refused_form undecided_form key_at
 undecided_row_form n f u h k l =
     let fact : List (List ℕ) = codes "fact" ∷ kind_name f.kind ∷ place_name f.place ∷ signed_decimal f.day ∷ [] in
@@ -53,7 +55,7 @@ undecided_row_form n f u h k l =
     ) refl
 
 -- line N void SITE fact KIND PLACE DAY
-pub void_row_form : (n : ℕ) (f : Fact) (s : Site) → n ≤ 2 ^ 32 - 1 → is_named_well f ≡ true → form_in (codes "line" ∷ void_row n f s)
+pub void_row_form : (n : ℕ) (f : Fact) (s : Site) → n ≤ 2 ^ 32 - 1 → is_named_well f ≡ true → form_in WRITTEN (codes "line" ∷ void_row n f s)
     ≡ Some (forms.Void n (Some f) s)
 unfolding line_form body_form refused_form undecided_form void_form key_at
 void_row_form n f s h k =

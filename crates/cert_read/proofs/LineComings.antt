@@ -3,6 +3,7 @@ use Rattle.std.proofs.Common.{◌≡◌, ℕ, ◌+◌, ◌-◌, ◌^◌, ◌≤�
 use Rattle.std.specs.Fmt.{signed_decimal}
 use Rattle.std.specs.Prelude.{codes, Some, ◌==◌, ℤ}
 use Rattle.book_model.specs.declared.fact.Fact.{Fact}
+use Rattle.book_model.specs.declared.version.TheConstants.{WRITTEN}
 use Rattle.cert_text.specs.declared.line.CertLine.{CertLine}
 use Rattle.cert_text.specs.declared.line.CertLine.TheVariants.{Shown, TooFar, NoDate, Refused, Undecided, Void}
 use Rattle.cert_read.specs.declared.form.Form.TheVariants as forms
@@ -21,7 +22,7 @@ use Rattle.cert_read.proofs.Comings.{Comes, row_comes, state}
 
 -- a line of this form
 form_comes : (facts : List (Fact × ℤ)) (lines : List CertLine) (n : ℕ) (line : CertLine) (ws : List (List ℕ)) (rest : List ℕ)
-    → (n == length lines + 1) ≡ true → are_of_facts (length facts) [] (listed line) ≡ true → AreWords ws → form_in (codes "line" ∷ ws)
+    → (n == length lines + 1) ≡ true → are_of_facts (length facts) [] (listed line) ≡ true → AreWords ws → form_in WRITTEN (codes "line" ∷ ws)
     ≡ Some (forms.Line n line)
     → Comes (state facts lines) (codes "line" ++ spaced_then ws rest) (state facts (lines ++ line ∷ [])) rest
 unfolding broken_by with_form

@@ -4,6 +4,7 @@ use Rattle.std.proofs.lemmas.Bool.Decides.{nat_tests}
 use Rattle.std.specs.Fmt.{signed_decimal}
 use Rattle.std.specs.List.{list_any}
 use Rattle.std.specs.Prelude.{codes, Some, ◌&&◌, nat_le, nat_eq, not, ℤ}
+use Rattle.book_model.specs.declared.version.TheConstants.{WRITTEN}
 use Rattle.cert_text.specs.Echo.{Echo}
 use Rattle.cert_text.specs.declared.line.CertLine.TheVariants.{Shown, TooFar, NoDate}
 use Rattle.cert_read.specs.declared.form.Form.TheVariants as forms
@@ -52,7 +53,7 @@ no_date_found back ws = refl
 
 -- line N FROM DATE TO RESULT facts A B ..
 pub shown_row_form : (n : ℕ) (echo : Echo) (result ns : List ℕ) → n ≤ 2 ^ 32 - 1 → counters_of (map decimal ns) ≡ Some ns
-    → form_in (codes "line" ∷ listed_row n echo (result ∷ []) ns) ≡ Some (forms.Line n (Shown echo result ns))
+    → form_in WRITTEN (codes "line" ∷ listed_row n echo (result ∷ []) ns) ≡ Some (forms.Line n (Shown echo result ns))
 unfolding line_form body_form
 shown_row_form n echo result ns h k =
     let ws : List (List ℕ) = map decimal ns in
@@ -60,14 +61,14 @@ shown_row_form n echo result ns h k =
     rw (
       counter_here n body h,
       not_refused n echo.from echo.date echo.to (result ∷ codes "facts" ∷ ws),
-      not_undecided n echo.from echo.date echo.to result ws,
-      not_void n echo.from echo.date echo.to result ws,
+      not_undecided WRITTEN n echo.from echo.date echo.to result ws,
+      not_void WRITTEN n echo.from echo.date echo.to result ws,
       listed_read n echo (result ∷ codes "facts" ∷ ws) ws (found.Shown result) ns (shown_found result ws) k,
     ) refl
 
 -- line N FROM DATE TO refused 4 DAY facts A B ..
 pub too_far_row_form : (n : ℕ) (echo : Echo) (day : ℤ) (ns : List ℕ) → n ≤ 2 ^ 32 - 1 → is_day day ≡ true → counters_of (map decimal ns) ≡ Some ns
-    → form_in (codes "line" ∷ listed_row n echo (codes "refused" ∷ codes "4" ∷ signed_decimal day ∷ []) ns) ≡ Some (forms.Line n (TooFar echo day ns))
+    → form_in WRITTEN (codes "line" ∷ listed_row n echo (codes "refused" ∷ codes "4" ∷ signed_decimal day ∷ []) ns) ≡ Some (forms.Line n (TooFar echo day ns))
 unfolding line_form body_form
 too_far_row_form n echo day ns h d k =
     let rest : List (List ℕ) = codes "4" ∷ signed_decimal day ∷ codes "facts" ∷ map decimal ns in
@@ -75,14 +76,14 @@ too_far_row_form n echo day ns h d k =
     rw (
       counter_here n body h,
       not_refused n echo.from echo.date echo.to (codes "refused" ∷ rest),
-      not_undecided_refused n echo.from echo.date echo.to rest,
-      not_void_refused n echo.from echo.date echo.to rest,
+      not_undecided_refused WRITTEN n echo.from echo.date echo.to rest,
+      not_void_refused WRITTEN n echo.from echo.date echo.to rest,
       listed_read n echo (codes "refused" ∷ rest) (map decimal ns) (found.TooFar day) ns (too_far_found day (map decimal ns) d) k,
     ) refl
 
 -- line N FROM DATE TO refused 5 BACK facts A B ..
 pub no_date_row_form : (n : ℕ) (echo : Echo) (back ns : List ℕ) → n ≤ 2 ^ 32 - 1 → counters_of (map decimal ns) ≡ Some ns
-    → form_in (codes "line" ∷ listed_row n echo (codes "refused" ∷ codes "5" ∷ back ∷ []) ns) ≡ Some (forms.Line n (NoDate echo back ns))
+    → form_in WRITTEN (codes "line" ∷ listed_row n echo (codes "refused" ∷ codes "5" ∷ back ∷ []) ns) ≡ Some (forms.Line n (NoDate echo back ns))
 unfolding line_form body_form
 no_date_row_form n echo back ns h k =
     let rest : List (List ℕ) = codes "5" ∷ back ∷ codes "facts" ∷ map decimal ns in
@@ -90,7 +91,7 @@ no_date_row_form n echo back ns h k =
     rw (
       counter_here n body h,
       not_refused n echo.from echo.date echo.to (codes "refused" ∷ rest),
-      not_undecided_refused n echo.from echo.date echo.to rest,
-      not_void_refused n echo.from echo.date echo.to rest,
+      not_undecided_refused WRITTEN n echo.from echo.date echo.to rest,
+      not_void_refused WRITTEN n echo.from echo.date echo.to rest,
       listed_read n echo (codes "refused" ∷ rest) (map decimal ns) (found.NoDate back) ns (no_date_found back (map decimal ns)) k,
     ) refl

@@ -1,7 +1,9 @@
 -- A line that lists facts has none of the forms of other lines, whatever its words are.
 use Rattle.std.proofs.Common.{◌≡◌, ℕ, Bool, true, false, List, ◌∷◌, ◌⊎◌, inl, inr, refl}
 use Rattle.std.specs.Prelude.{codes, Some, None, Option, ◌&&◌, nat_le, if◌then◌else◌, option_and_then}
-use Rattle.book_model.specs.sky.Names.{kind_named, place_named, site_named}
+use Rattle.book_model.specs.declared.version.Version.{Version}
+use Rattle.book_model.specs.calendars.Versions.{kind_in, site_in}
+use Rattle.book_model.specs.sky.Names.{kind_named, place_named}
 use Rattle.cert_text.specs.declared.line.CertLine.TheVariants.{Refused}
 use Rattle.cert_read.specs.declared.form.Form.TheVariants as forms
 use Rattle.cert_read.specs.Digits.{counter_of, integer_of, natural_of}
@@ -28,13 +30,13 @@ end_part : (w : List ℕ) (ws : List (List ℕ)) → IsPart (end_at (w ∷ ws)) 
 unfolding end_at
 end_part w ws = part_of (integer_of w) ws
 
-site_part : (w : List ℕ) (ws : List (List ℕ)) → IsPart (site_at (w ∷ ws)) ws
+site_part : (version : Version) (w : List ℕ) (ws : List (List ℕ)) → IsPart (site_at version (w ∷ ws)) ws
 unfolding site_at
-site_part w ws = part_of (site_named w) ws
+site_part version w ws = part_of (site_in version w) ws
 
-kind_part : (w : List ℕ) (ws : List (List ℕ)) → IsPart (kind_at (w ∷ ws)) ws
+kind_part : (version : Version) (w : List ℕ) (ws : List (List ℕ)) → IsPart (kind_at version (w ∷ ws)) ws
 unfolding kind_at
-kind_part w ws = part_of (kind_named w) ws
+kind_part version w ws = part_of (kind_in version w) ws
 
 -- nothing follows a part after which nothing comes, whatever the part is
 after_part : {A B : Type 0} (part : Option (A × List (List ℕ))) (rest : List (List ℕ)) (next : A × List (List ℕ) → Option B) → IsPart part rest
@@ -74,62 +76,70 @@ end_not_refused : (ws : List (List ℕ)) → end_at (codes "refused" ∷ ws) ≡
 unfolding end_at integer_of natural_of
 end_not_refused ws = refl
 
-place_not_facts : (ws : List (List ℕ)) → place_at (codes "facts" ∷ ws) ≡ None
+place_not_facts : (version : Version) (ws : List (List ℕ)) → place_at version (codes "facts" ∷ ws) ≡ None
 unfolding place_at place_named
-place_not_facts ws = refl
+place_not_facts version ws = refl
 
 -- HI isn't `facts`
-test_not_facts : (b c d : List ℕ) (ws : List (List ℕ)) → test_at (b ∷ c ∷ d ∷ codes "facts" ∷ ws) ≡ None
+test_not_facts : (version : Version) (b c d : List ℕ) (ws : List (List ℕ)) → test_at version (b ∷ c ∷ d ∷ codes "facts" ∷ ws) ≡ None
 unfolding test_at
-test_not_facts b c d ws = after_part (site_at (b ∷ c ∷ d ∷ codes "facts" ∷ ws)) (c ∷ d ∷ codes "facts" ∷ ws) _ (site_part b (c ∷ d ∷ codes "facts" ∷ ws))
+test_not_facts version b c d ws = after_part (site_at version (b ∷ c ∷ d ∷ codes "facts" ∷ ws)) (c ∷ d ∷ codes "facts" ∷ ws) _
+    (site_part version b (c ∷ d ∷ codes "facts" ∷ ws))
     (λ s. after_part (counter_at (c ∷ d ∷ codes "facts" ∷ ws)) (d ∷ codes "facts" ∷ ws) _ (counter_part c (d ∷ codes "facts" ∷ ws))
     (λ t. after_part (end_at (d ∷ codes "facts" ∷ ws)) (codes "facts" ∷ ws) _ (end_part d (codes "facts" ∷ ws))
     (λ lo. after_none (end_at (codes "facts" ∷ ws)) _ (end_not_facts ws))))
 
-pub not_undecided : (number : ℕ) (a b c d : List ℕ) (ws : List (List ℕ)) → undecided_form number (a ∷ b ∷ c ∷ d ∷ codes "facts" ∷ ws) ≡ None
+pub not_undecided : (version : Version) (number : ℕ) (a b c d : List ℕ) (ws : List (List ℕ))
+    → undecided_form version number (a ∷ b ∷ c ∷ d ∷ codes "facts" ∷ ws) ≡ None
 unfolding undecided_form
-not_undecided number a b c d ws = after_key (codes "undecided") a (b ∷ c ∷ d ∷ codes "facts" ∷ ws) _
-    (after_none (test_at (b ∷ c ∷ d ∷ codes "facts" ∷ ws)) _ (test_not_facts b c d ws))
+not_undecided version number a b c d ws = after_key (codes "undecided") a (b ∷ c ∷ d ∷ codes "facts" ∷ ws) _
+    (after_none (test_at version (b ∷ c ∷ d ∷ codes "facts" ∷ ws)) _ (test_not_facts version b c d ws))
 
 -- LO isn't `refused`
-test_not_refused : (b c : List ℕ) (ws : List (List ℕ)) → test_at (b ∷ c ∷ codes "refused" ∷ ws) ≡ None
+test_not_refused : (version : Version) (b c : List ℕ) (ws : List (List ℕ)) → test_at version (b ∷ c ∷ codes "refused" ∷ ws) ≡ None
 unfolding test_at
-test_not_refused b c ws = after_part (site_at (b ∷ c ∷ codes "refused" ∷ ws)) (c ∷ codes "refused" ∷ ws) _ (site_part b (c ∷ codes "refused" ∷ ws))
+test_not_refused version b c ws = after_part (site_at version (b ∷ c ∷ codes "refused" ∷ ws)) (c ∷ codes "refused" ∷ ws) _
+    (site_part version b (c ∷ codes "refused" ∷ ws))
     (λ s. after_part (counter_at (c ∷ codes "refused" ∷ ws)) (codes "refused" ∷ ws) _ (counter_part c (codes "refused" ∷ ws))
     (λ t. after_none (end_at (codes "refused" ∷ ws)) _ (end_not_refused ws)))
 
-pub not_undecided_refused : (number : ℕ) (a b c : List ℕ) (ws : List (List ℕ)) → undecided_form number (a ∷ b ∷ c ∷ codes "refused" ∷ ws) ≡ None
+pub not_undecided_refused : (version : Version) (number : ℕ) (a b c : List ℕ) (ws : List (List ℕ))
+    → undecided_form version number (a ∷ b ∷ c ∷ codes "refused" ∷ ws) ≡ None
 unfolding undecided_form
-not_undecided_refused number a b c ws = after_key (codes "undecided") a (b ∷ c ∷ codes "refused" ∷ ws) _
-    (after_none (test_at (b ∷ c ∷ codes "refused" ∷ ws)) _ (test_not_refused b c ws))
+not_undecided_refused version number a b c ws = after_key (codes "undecided") a (b ∷ c ∷ codes "refused" ∷ ws) _
+    (after_none (test_at version (b ∷ c ∷ codes "refused" ∷ ws)) _ (test_not_refused version b c ws))
 
 -- PLACE isn't `facts`
-fact_not_facts : (d : List ℕ) (ws : List (List ℕ)) → fact_at (d ∷ codes "facts" ∷ ws) ≡ None
+fact_not_facts : (version : Version) (d : List ℕ) (ws : List (List ℕ)) → fact_at version (d ∷ codes "facts" ∷ ws) ≡ None
 unfolding fact_at
-fact_not_facts d ws = after_part (kind_at (d ∷ codes "facts" ∷ ws)) (codes "facts" ∷ ws) _ (kind_part d (codes "facts" ∷ ws))
-    (λ k. after_none (place_at (codes "facts" ∷ ws)) _ (place_not_facts ws))
+fact_not_facts version d ws = after_part (kind_at version (d ∷ codes "facts" ∷ ws)) (codes "facts" ∷ ws) _ (kind_part version d (codes "facts" ∷ ws))
+    (λ k. after_none (place_at version (codes "facts" ∷ ws)) _ (place_not_facts version ws))
 
-last_not_facts : (c d : List ℕ) (ws : List (List ℕ)) → last_fact_at (c ∷ d ∷ codes "facts" ∷ ws) ≡ None
+last_not_facts : (version : Version) (c d : List ℕ) (ws : List (List ℕ)) → last_fact_at version (c ∷ d ∷ codes "facts" ∷ ws) ≡ None
 unfolding last_fact_at
-last_not_facts c d ws = after_key (codes "fact") c (d ∷ codes "facts" ∷ ws) _ (after_none (fact_at (d ∷ codes "facts" ∷ ws)) _ (fact_not_facts d ws))
+last_not_facts version c d ws = after_key (codes "fact") c (d ∷ codes "facts" ∷ ws) _
+    (after_none (fact_at version (d ∷ codes "facts" ∷ ws)) _ (fact_not_facts version d ws))
 
-pub not_void : (number : ℕ) (a b c d : List ℕ) (ws : List (List ℕ)) → void_form number (a ∷ b ∷ c ∷ d ∷ codes "facts" ∷ ws) ≡ None
+pub not_void : (version : Version) (number : ℕ) (a b c d : List ℕ) (ws : List (List ℕ))
+    → void_form version number (a ∷ b ∷ c ∷ d ∷ codes "facts" ∷ ws) ≡ None
 unfolding void_form site_at
-not_void number a b c d ws = after_key (codes "void") a (b ∷ c ∷ d ∷ codes "facts" ∷ ws) _
-    (after_part (site_at (b ∷ c ∷ d ∷ codes "facts" ∷ ws)) (c ∷ d ∷ codes "facts" ∷ ws) _ (site_part b (c ∷ d ∷ codes "facts" ∷ ws))
-    (λ s. after_none (last_fact_at (c ∷ d ∷ codes "facts" ∷ ws)) _ (last_not_facts c d ws)))
+not_void version number a b c d ws = after_key (codes "void") a (b ∷ c ∷ d ∷ codes "facts" ∷ ws) _
+    (after_part (site_at version (b ∷ c ∷ d ∷ codes "facts" ∷ ws)) (c ∷ d ∷ codes "facts" ∷ ws) _ (site_part version b (c ∷ d ∷ codes "facts" ∷ ws))
+    (λ s. after_none (last_fact_at version (c ∷ d ∷ codes "facts" ∷ ws)) _ (last_not_facts version c d ws)))
 
 -- KIND isn't `refused`
-fact_not_refused : (ws : List (List ℕ)) → fact_at (codes "refused" ∷ ws) ≡ None
+fact_not_refused : (version : Version) (ws : List (List ℕ)) → fact_at version (codes "refused" ∷ ws) ≡ None
 unfolding fact_at kind_at kind_named
-fact_not_refused ws = refl
+fact_not_refused version ws = refl
 
-last_not_refused : (c : List ℕ) (ws : List (List ℕ)) → last_fact_at (c ∷ codes "refused" ∷ ws) ≡ None
+last_not_refused : (version : Version) (c : List ℕ) (ws : List (List ℕ)) → last_fact_at version (c ∷ codes "refused" ∷ ws) ≡ None
 unfolding last_fact_at
-last_not_refused c ws = after_key (codes "fact") c (codes "refused" ∷ ws) _ (after_none (fact_at (codes "refused" ∷ ws)) _ (fact_not_refused ws))
+last_not_refused version c ws = after_key (codes "fact") c (codes "refused" ∷ ws) _
+    (after_none (fact_at version (codes "refused" ∷ ws)) _ (fact_not_refused version ws))
 
-pub not_void_refused : (number : ℕ) (a b c : List ℕ) (ws : List (List ℕ)) → void_form number (a ∷ b ∷ c ∷ codes "refused" ∷ ws) ≡ None
+pub not_void_refused : (version : Version) (number : ℕ) (a b c : List ℕ) (ws : List (List ℕ))
+    → void_form version number (a ∷ b ∷ c ∷ codes "refused" ∷ ws) ≡ None
 unfolding void_form site_at
-not_void_refused number a b c ws = after_key (codes "void") a (b ∷ c ∷ codes "refused" ∷ ws) _
-    (after_part (site_at (b ∷ c ∷ codes "refused" ∷ ws)) (c ∷ codes "refused" ∷ ws) _ (site_part b (c ∷ codes "refused" ∷ ws))
-    (λ s. after_none (last_fact_at (c ∷ codes "refused" ∷ ws)) _ (last_not_refused c ws)))
+not_void_refused version number a b c ws = after_key (codes "void") a (b ∷ c ∷ codes "refused" ∷ ws) _
+    (after_part (site_at version (b ∷ c ∷ codes "refused" ∷ ws)) (c ∷ codes "refused" ∷ ws) _ (site_part version b (c ∷ codes "refused" ∷ ws))
+    (λ s. after_none (last_fact_at version (c ∷ codes "refused" ∷ ws)) _ (last_not_refused version c ws)))

@@ -25,7 +25,7 @@ use Rattle.cert_read.specs.declared.found.Found.TheVariants as found
 use Rattle.cert_read.specs.declared.lines.CertFile.{CertFile}
 use Rattle.cert_read.specs.Digits.{between, integer_of}
 use Rattle.cert_read.specs.Grammar.{◌>>=◌, or_else, is_over, is_spaced, key_at, counter_at, number_at, value_at, fact_at, last_fact_at, test_at, site_at, echo_at, found_at, counters_of, line_with, fact_form, end_form, refused_form, undecided_form, void_form, listed_form, body_form, line_form, form_in, form_of}
-use Rattle.cert_read.specs.Reading.{file, bad, listed, HasRule, are_of_facts, is_new, is_numbered, is_placed, is_fresh, lists_facts, counts_well, first_broken, broken_by, with_form, is_end, after_rule, after_form, reading_from, nothing_of, below_header, reading_of, grammar_of}
+use Rattle.cert_read.specs.Reading.{file, listed, HasRule, are_of_facts, is_new, is_numbered, is_placed, is_fresh, lists_facts, counts_well, first_broken, broken_by, with_form, is_end, after_rule, after_form, reading_from, nothing_of, below_header, reading_of, grammar_of}
 
 -- the value of a form is one of a fact, where it has one, and so is the rule of a line one of rules 1 to 4
 abbrev HasKnownValue : Form → Type 0
@@ -85,10 +85,10 @@ number_between low high (w ∷ ws) v h = on_integer (integer_of w) h
     on_integer None k = cc
     on_integer (Some z) k = on_test z (is_between low high z) refl k
 
-fact_known : (ws : List (List ℕ)) → IsKnownForm (fact_form ws)
+fact_known : (version : Version) (ws : List (List ℕ)) → IsKnownForm (fact_form version ws)
 unfolding fact_form
-fact_known ws =
-    known_after (counter_at ws) _ (λ n e. known_after (fact_at n.1) _ (λ f e. known_after (value_at f.1) _ (λ v e.
+fact_known version ws =
+    known_after (counter_at ws) _ (λ n e. known_after (fact_at version n.1) _ (λ f e. known_after (value_at f.1) _ (λ v e.
     known_if (is_over v.1) _ None (known_form (forms.Fact n.0 f.0 v.0) (number_between LEAST_VALUE GREATEST_VALUE f.1 v e)) no_form)))
 
 end_known : (ws : List (List ℕ)) → IsKnownForm (end_form ws)
@@ -111,15 +111,15 @@ refused_known number ws =
     known_after (key_at _ ws) _ (λ k e. known_after (counter_at k) _
     (λ r e. known_where (nat_le 1 r.0 && nat_le r.0 4 && is_over r.1) (forms.Line number (line.Refused r.0)) (rule_between r.0 (is_over r.1))))
 
-undecided_known : (number : ℕ) (ws : List (List ℕ)) → IsKnownForm (undecided_form number ws)
+undecided_known : (version : Version) (number : ℕ) (ws : List (List ℕ)) → IsKnownForm (undecided_form version number ws)
 unfolding undecided_form
-undecided_known number ws = known_after (key_at _ ws) _ (λ k e.
-    known_after (test_at k) _ (λ u e. known_after (last_fact_at u.1) _ (λ f e. known_form (forms.Undecided number f u.0) tt)))
+undecided_known version number ws = known_after (key_at _ ws) _ (λ k e.
+    known_after (test_at version k) _ (λ u e. known_after (last_fact_at version u.1) _ (λ f e. known_form (forms.Undecided number f u.0) tt)))
 
-void_known : (number : ℕ) (ws : List (List ℕ)) → IsKnownForm (void_form number ws)
+void_known : (version : Version) (number : ℕ) (ws : List (List ℕ)) → IsKnownForm (void_form version number ws)
 unfolding void_form
-void_known number ws = known_after (key_at _ ws) _ (λ k e. known_after (site_at k) _
-    (λ s e. known_after (last_fact_at s.1) _ (λ f e. known_form (forms.Void number f s.0) tt)))
+void_known version number ws = known_after (key_at _ ws) _ (λ k e. known_after (site_at version k) _
+    (λ s e. known_after (last_fact_at version s.1) _ (λ f e. known_form (forms.Void number f s.0) tt)))
 
 shown_ruled : (echo : Echo) (f : Found) (ns : List ℕ) → HasRule (line_with echo f ns)
 shown_ruled echo (found.Shown result) ns = tt
@@ -132,26 +132,26 @@ listed_known_form number ws = known_after (echo_at ws) _ (λ echo e.
     known_after (found_at echo.1) _ (λ f e. known_after (counters_of f.1) _
     (λ ns e. known_form (forms.Line number (line_with echo.0 f.0 ns)) (shown_ruled echo.0 f.0 ns))))
 
-body_known : (number : ℕ) (ws : List (List ℕ)) → IsKnownForm (body_form number ws)
+body_known : (version : Version) (number : ℕ) (ws : List (List ℕ)) → IsKnownForm (body_form version number ws)
 unfolding body_form
-body_known number ws =
+body_known version number ws =
     known_either (refused_form number ws) _ (refused_known number ws)
-    (known_either (undecided_form number ws) _ (undecided_known number ws)
-    (known_either (void_form number ws) _ (void_known number ws) (listed_known_form number ws)))
+    (known_either (undecided_form version number ws) _ (undecided_known version number ws)
+    (known_either (void_form version number ws) _ (void_known version number ws) (listed_known_form number ws)))
 
-line_known : (ws : List (List ℕ)) → IsKnownForm (line_form ws)
+line_known : (version : Version) (ws : List (List ℕ)) → IsKnownForm (line_form version ws)
 unfolding line_form
-line_known ws = known_after (counter_at ws) _ (λ n e. body_known n.0 n.1)
+line_known version ws = known_after (counter_at ws) _ (λ n e. body_known version n.0 n.1)
 
-known_in : (ws : List (List ℕ)) → IsKnownForm (form_in ws)
-known_in [] = no_form
-known_in (w ∷ ws) = known_if _ (fact_form ws) _ (fact_known ws)
-    (known_if _ (line_form ws) _ (line_known ws) (known_if _ (end_form ws) None (end_known ws) no_form))
+known_in : (version : Version) (ws : List (List ℕ)) → IsKnownForm (form_in version ws)
+known_in version [] = no_form
+known_in version (w ∷ ws) = known_if _ (fact_form version ws) _ (fact_known version ws)
+    (known_if _ (line_form version ws) _ (line_known version ws) (known_if _ (end_form ws) None (end_known ws) no_form))
 
 -- the value of a line that is read is one of a fact
-known_of : (bytes : List ℕ) → IsKnownForm (form_of bytes)
+known_of : (version : Version) (bytes : List ℕ) → IsKnownForm (form_of version bytes)
 unfolding form_of
-known_of bytes = known_if (is_spaced bytes) (form_in (words_of bytes)) None (known_in (words_of bytes)) no_form
+known_of version bytes = known_if (is_spaced bytes) (form_in version (words_of bytes)) None (known_in version (words_of bytes)) no_form
 
 -- each line lists distinct numbers of facts
 abbrev pub ListFacts : ℕ → List CertLine → Type 0
@@ -275,7 +275,8 @@ read_well : (number : ℕ) (before : CertFile) (ended : Bool) (lines : List (Lis
     ≡ file f → IsReadWell f
 read_well number before true [] f well h = let same : before ≡ f = cc in rw same at well
 read_well number before false [] f well h = cc
-read_well number before ended (bytes ∷ lines) f well h = on_form (form_of bytes) (known_of bytes) (λ now end. read_well (number + 1) now end lines f) h
+read_well number before ended (bytes ∷ lines) f well h =
+    on_form (form_of before.version bytes) (known_of before.version bytes) (λ now end. read_well (number + 1) now end lines f) h
   where
     on_rule : (form : Form) (o : Option ℕ) → broken_by before ended form ≡ o → HasKnownValue form
         → ((now : CertFile) (end : Bool) → IsReadWell now → reading_from (number + 1) now end lines ≡ file f → IsReadWell f)

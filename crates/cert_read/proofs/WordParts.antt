@@ -1,4 +1,4 @@
--- A word that was written is read again, whatever words follow it.
+-- A word that was written is read again in a file of the version that is written, whatever words follow it.
 use Rattle.std.proofs.Common.{◌≡◌, ℕ, ◌-◌, ◌^◌, ◌≤◌, true, List, [], ◌∷◌, refl, arith, decimal}
 use Rattle.std.proofs.lemmas.Bool.Decides.{nat_tests}
 use Rattle.std.proofs.lemmas.Int.{ints}
@@ -11,8 +11,9 @@ use Rattle.book_model.specs.declared.fail.Undecided.{Undecided as OpenTest}
 use Rattle.book_model.specs.declared.site.Site.{Site}
 use Rattle.book_model.specs.sky.Correction.{is_between}
 use Rattle.book_model.specs.declared.fact.TheConstants.{FIRST_FACT_DAY, LAST_FACT_DAY, LEAST_VALUE, GREATEST_VALUE}
+use Rattle.book_model.specs.declared.version.TheConstants.{WRITTEN}
 use Rattle.book_model.specs.sky.Names.{kind_name, place_name, site_name, has_place}
-use Rattle.book_model.proofs.NameLemmas.{kind_found, place_found, site_found}
+use Rattle.book_model.proofs.VersionTables.{all_kinds, all_places, all_sites}
 use Rattle.cert_read.specs.Grammar.{key_at, kind_at, place_at, site_at, counter_at, number_at, end_at, day_at, value_at, fact_at, test_at, last_fact_at}
 use Rattle.cert_read.specs.ReadAgain.{is_day, is_value, is_wide, is_named_well, is_open_test}
 use Rattle.cert_read.proofs.Spelling.{IsWide, counter_read, integer_read}
@@ -55,20 +56,20 @@ pub end_here : (z : ℤ) (ws : List (List ℕ)) → is_wide z ≡ true → end_a
 unfolding end_at
 end_here z ws h = rw (integer_read z (wide_fits z h)) refl
 
-kind_here : (k : Kind) (ws : List (List ℕ)) → kind_at (kind_name k ∷ ws) ≡ Some (k, ws)
+kind_here : (k : Kind) (ws : List (List ℕ)) → kind_at WRITTEN (kind_name k ∷ ws) ≡ Some (k, ws)
 unfolding kind_at
-kind_here k ws = rw (kind_found k) refl
+kind_here k ws = rw (all_kinds k) refl
 
-place_here : (p : Place) (ws : List (List ℕ)) → place_at (place_name p ∷ ws) ≡ Some (p, ws)
+place_here : (p : Place) (ws : List (List ℕ)) → place_at WRITTEN (place_name p ∷ ws) ≡ Some (p, ws)
 unfolding place_at
-place_here p ws = rw (place_found p) refl
+place_here p ws = rw (all_places p) refl
 
-pub site_here : (s : Site) (ws : List (List ℕ)) → site_at (site_name s ∷ ws) ≡ Some (s, ws)
+pub site_here : (s : Site) (ws : List (List ℕ)) → site_at WRITTEN (site_name s ∷ ws) ≡ Some (s, ws)
 unfolding site_at
-site_here s ws = rw (site_found s) refl
+site_here s ws = rw (all_sites s) refl
 
 -- KIND PLACE DAY
-pub fact_here : (f : Fact) (ws : List (List ℕ)) → is_named_well f ≡ true → fact_at (kind_name f.kind ∷ place_name f.place ∷ signed_decimal f.day ∷ ws)
+pub fact_here : (f : Fact) (ws : List (List ℕ)) → is_named_well f ≡ true → fact_at WRITTEN (kind_name f.kind ∷ place_name f.place ∷ signed_decimal f.day ∷ ws)
     ≡ Some (Some f, ws)
 unfolding fact_at
 fact_here f ws h =
@@ -76,14 +77,14 @@ fact_here f ws h =
     rw (kind_here f.kind (place_name f.place ∷ signed_decimal f.day ∷ ws), place_here f.place (signed_decimal f.day ∷ ws), day_here f.day ws b.1, b.0) refl
 
 -- fact KIND PLACE DAY, at the end
-pub last_fact_here : (f : Fact) → is_named_well f ≡ true → last_fact_at (codes "fact" ∷ kind_name f.kind ∷ place_name f.place ∷ signed_decimal f.day ∷ [])
-    ≡ Some (Some f)
+pub last_fact_here : (f : Fact) → is_named_well f ≡ true
+    → last_fact_at WRITTEN (codes "fact" ∷ kind_name f.kind ∷ place_name f.place ∷ signed_decimal f.day ∷ []) ≡ Some (Some f)
 unfolding last_fact_at key_at
 last_fact_here f h = rw (fact_here f [] h) refl
 
 -- SITE TURN LO HI
 pub test_here : (u : OpenTest) (ws : List (List ℕ)) → is_open_test u ≡ true
-    → test_at (site_name u.site ∷ decimal u.turn ∷ signed_decimal u.lo ∷ signed_decimal u.hi ∷ ws) ≡ Some (u, ws)
+    → test_at WRITTEN (site_name u.site ∷ decimal u.turn ∷ signed_decimal u.lo ∷ signed_decimal u.hi ∷ ws) ≡ Some (u, ws)
 unfolding test_at
 test_here u ws h =
     let b = three (nat_le u.turn (2 ^ 32 - 1)) (is_wide u.lo) (is_wide u.hi) h in

@@ -1,4 +1,4 @@
--- The grammar of printed files: the form of a line, word by word.
+-- The grammar of printed files: the form of a line of a file of a version, word by word.
 use Rattle.std.specs.Prelude.{ℕ, ◌==◌, ◌&&◌, not, nat_le, nat_eq, if◌then◌else◌, Bool, true, false, List, [], ◌∷◌, codes, ℤ, Some, None, Option, option_and_then}
 use lib.Pointwise.{pointwise}
 use Rattle.book_model.specs.declared.site.Site.{Site}
@@ -7,8 +7,10 @@ use Rattle.book_model.specs.declared.fact.TheConstants.{FIRST_FACT_DAY, LAST_FAC
 use Rattle.book_model.specs.declared.fact.Kind.{Kind}
 use Rattle.book_model.specs.declared.fact.Place.{Place}
 use Rattle.book_model.specs.declared.fail.Undecided.{Undecided as OpenTest}
+use Rattle.book_model.specs.declared.version.Version.{Version}
+use Rattle.book_model.specs.calendars.Versions.{kind_in, place_in, site_in}
 use Rattle.book_model.specs.lines.Lines.{is_printable, words_of}
-use Rattle.book_model.specs.sky.Names.{kind_named, place_named, site_named, has_place}
+use Rattle.book_model.specs.sky.Names.{has_place}
 use Rattle.cert_text.specs.Echo.{Echo}
 use Rattle.cert_text.specs.declared.line.CertLine.{CertLine}
 use Rattle.cert_text.specs.declared.line.CertLine.TheVariants.{Shown, TooFar, NoDate, Refused}
@@ -86,23 +88,23 @@ end_at ws = do
   z ← integer_of w.0
   Some (z, w.1)
 
--- a kind, a place or a site by its name, and the words after it
-unfoldable pub kind_at : List (List ℕ) → Option (Kind × List (List ℕ))
-kind_at ws = do
+-- a kind, a place or a site that the version has, by its name, and the words after it
+unfoldable pub kind_at : Version → List (List ℕ) → Option (Kind × List (List ℕ))
+kind_at version ws = do
   w ← word_at ws
-  k ← kind_named w.0
+  k ← kind_in version w.0
   Some (k, w.1)
 
-unfoldable pub place_at : List (List ℕ) → Option (Place × List (List ℕ))
-place_at ws = do
+unfoldable pub place_at : Version → List (List ℕ) → Option (Place × List (List ℕ))
+place_at version ws = do
   w ← word_at ws
-  p ← place_named w.0
+  p ← place_in version w.0
   Some (p, w.1)
 
-unfoldable pub site_at : List (List ℕ) → Option (Site × List (List ℕ))
-site_at ws = do
+unfoldable pub site_at : Version → List (List ℕ) → Option (Site × List (List ℕ))
+site_at version ws = do
   w ← word_at ws
-  s ← site_named w.0
+  s ← site_in version w.0
   Some (s, w.1)
 
 -- the fact, where the place is one of the kind's places
@@ -110,18 +112,18 @@ abbrev pub fact_with : Kind → Place → ℤ → Option Fact
 fact_with kind place day = if has_place kind place then Some (record { kind = kind; place = place; day = day }) else None
 
 -- KIND PLACE DAY
-unfoldable pub fact_at : List (List ℕ) → Option (Option Fact × List (List ℕ))
-fact_at ws = do
-  k ← kind_at ws
-  p ← place_at k.1
+unfoldable pub fact_at : Version → List (List ℕ) → Option (Option Fact × List (List ℕ))
+fact_at version ws = do
+  k ← kind_at version ws
+  p ← place_at version k.1
   d ← day_at p.1
   Some (fact_with k.0 p.0 d.0, d.1)
 
 -- N KIND PLACE DAY VALUE
-unfoldable pub fact_form : List (List ℕ) → Option Form
-fact_form ws = do
+unfoldable pub fact_form : Version → List (List ℕ) → Option Form
+fact_form version ws = do
   n ← counter_at ws
-  f ← fact_at n.1
+  f ← fact_at version n.1
   v ← value_at f.1
   if is_over v.1 then Some (forms.Fact n.0 f.0 v.0) else None
 
@@ -135,16 +137,16 @@ end_form ws = do
   if is_over f.1 then Some (forms.End l.0 f.0) else None
 
 -- fact KIND PLACE DAY, at the end of a line
-unfoldable pub last_fact_at : List (List ℕ) → Option (Option Fact)
-last_fact_at ws = do
+unfoldable pub last_fact_at : Version → List (List ℕ) → Option (Option Fact)
+last_fact_at version ws = do
   k ← key_at (codes "fact") ws
-  f ← fact_at k
+  f ← fact_at version k
   if is_over f.1 then Some f.0 else None
 
 -- SITE TURN LO HI
-unfoldable pub test_at : List (List ℕ) → Option (OpenTest × List (List ℕ))
-test_at ws = do
-  s ← site_at ws
+unfoldable pub test_at : Version → List (List ℕ) → Option (OpenTest × List (List ℕ))
+test_at version ws = do
+  s ← site_at version ws
   t ← counter_at s.1
   lo ← end_at t.1
   hi ← end_at lo.1
@@ -158,19 +160,19 @@ refused_form number ws = do
   if nat_le 1 r.0 && nat_le r.0 4 && is_over r.1 then Some (forms.Line number (Refused r.0)) else None
 
 -- undecided SITE TURN LO HI fact KIND PLACE DAY
-unfoldable pub undecided_form : ℕ → List (List ℕ) → Option Form
-undecided_form number ws = do
+unfoldable pub undecided_form : Version → ℕ → List (List ℕ) → Option Form
+undecided_form version number ws = do
   k ← key_at (codes "undecided") ws
-  u ← test_at k
-  f ← last_fact_at u.1
+  u ← test_at version k
+  f ← last_fact_at version u.1
   Some (forms.Undecided number f u.0)
 
 -- void SITE fact KIND PLACE DAY
-unfoldable pub void_form : ℕ → List (List ℕ) → Option Form
-void_form number ws = do
+unfoldable pub void_form : Version → ℕ → List (List ℕ) → Option Form
+void_form version number ws = do
   k ← key_at (codes "void") ws
-  s ← site_at k
-  f ← last_fact_at s.1
+  s ← site_at version k
+  f ← last_fact_at version s.1
   Some (forms.Void number f s.0)
 
 -- FROM DATE TO
@@ -233,21 +235,22 @@ listed_form number ws = do
   Some (forms.Line number (line_with e.0 f.0 ns))
 
 -- what follows the number of a line
-unfoldable pub body_form : ℕ → List (List ℕ) → Option Form
-body_form number ws = or_else (refused_form number ws) (or_else (undecided_form number ws) (or_else (void_form number ws) (listed_form number ws)))
+unfoldable pub body_form : Version → ℕ → List (List ℕ) → Option Form
+body_form version number ws = or_else (refused_form number ws) (or_else (undecided_form version number ws)
+    (or_else (void_form version number ws) (listed_form number ws)))
 
 -- N, and what follows it
-unfoldable pub line_form : List (List ℕ) → Option Form
-line_form ws = do
+unfoldable pub line_form : Version → List (List ℕ) → Option Form
+line_form version ws = do
   n ← counter_at ws
-  body_form n.0 n.1
+  body_form version n.0 n.1
 
 -- the form of words: their first word says which
-abbrev pub form_in : List (List ℕ) → Option Form
-form_in [] = None
-form_in (w ∷ ws) = if is_word (codes "fact") w then fact_form ws else
-    (if is_word (codes "line") w then line_form ws else (if is_word (codes "end") w then end_form ws else None))
+abbrev pub form_in : Version → List (List ℕ) → Option Form
+form_in version [] = None
+form_in version (w ∷ ws) = if is_word (codes "fact") w then fact_form version ws else
+    (if is_word (codes "line") w then line_form version ws else (if is_word (codes "end") w then end_form ws else None))
 
 -- the form of a line below the header, if it has one
-unfoldable pub form_of : List ℕ → Option Form
-form_of line = if is_spaced line then form_in (words_of line) else None
+unfoldable pub form_of : Version → List ℕ → Option Form
+form_of version line = if is_spaced line then form_in version (words_of line) else None

@@ -133,7 +133,8 @@ after_form number before ended (Some form) next = after_rule number before form 
 -- the reading from this line on
 abbrev pub reading_from : ℕ → CertFile → Bool → List (List ℕ) → Reading
 reading_from number before ended [] = if ended then file before else bad number 6
-reading_from number before ended (line ∷ lines) = after_form number before ended (form_of line) (λ now end. reading_from (number + 1) now end lines)
+reading_from number before ended (line ∷ lines) = after_form number before ended (form_of before.version line)
+    (λ now end. reading_from (number + 1) now end lines)
 
 -- a file of a version, before its first fact and line
 abbrev pub nothing_of : Version → CertFile

@@ -1,4 +1,4 @@
-//! The form of a line.
+//! The form of a line of a file of a version, which has kinds, places and sites of its own.
 ghost use Rattle.std.specs.Prelude.{◌≡◌};
 ghost use Rattle.book_model.specs.sky.Facts.{IsFactDay};
 ghost use Rattle.book_model.specs.lines.Lines.{words_of, AreWords};
@@ -10,7 +10,7 @@ use crate::names::{kind_at, place_at, site_at};
 use crate::words::{
     NoForm, counter_at, day_at, end_at, is_over, is_spaced, key_at, value_at, word_at,
 };
-use book_model::{Fact, Kind, Place, Site, Undecided};
+use book_model::{Fact, Kind, Place, Site, Undecided, Version};
 use cert_text::CertLine;
 use std::alloc::Global;
 
@@ -35,22 +35,23 @@ fn fact_with(kind: Kind, place: Place, day: i64) -> Option<Fact>
 
 /// `KIND PLACE DAY`, and what follows it.
 #[tactic(auto, unfolding(crate::specs::Grammar::fact_at))]
-fn fact_at(line: &[u8]) -> Option<(Option<Fact>, &[u8])>
-    ensures { Gives (λ p. (p.0, words_of p.1.now)) result (spec.fact_at (words_of line.now)) }
+fn fact_at(version: Version, line: &[u8]) -> Option<(Option<Fact>, &[u8])>
+    ensures { Gives (λ p. (p.0, words_of p.1.now)) result
+        (spec.fact_at version (words_of line.now)) }
 {
-    let (kind, rest) = kind_at(line)?;
-    let (place, rest) = place_at(rest)?;
+    let (kind, rest) = kind_at(version, line)?;
+    let (place, rest) = place_at(version, rest)?;
     let (day, rest) = day_at(rest)?;
     Some((fact_with(kind, place, day), rest))
 }
 
 /// `N KIND PLACE DAY VALUE`.
 #[tactic(auto, unfolding(crate::specs::Grammar::fact_form))]
-fn fact_form(line: &[u8]) -> Option<Form>
-    ensures { result ≡ spec.fact_form (words_of line.now) }
+fn fact_form(version: Version, line: &[u8]) -> Option<Form>
+    ensures { result ≡ spec.fact_form version (words_of line.now) }
 {
     let (number, rest) = counter_at(line)?;
-    let (fact, rest) = fact_at(rest)?;
+    let (fact, rest) = fact_at(version, rest)?;
     let (value, rest) = value_at(rest)?;
     if is_over(rest) {
         Some(Form::Fact(number, fact, value))
@@ -77,20 +78,21 @@ fn end_form(line: &[u8]) -> Option<Form>
 
 /// `fact KIND PLACE DAY`, at the end of a line.
 #[tactic(auto, unfolding(crate::specs::Grammar::last_fact_at))]
-fn last_fact_at(line: &[u8]) -> Option<Option<Fact>>
-    ensures { result ≡ spec.last_fact_at (words_of line.now) }
+fn last_fact_at(version: Version, line: &[u8]) -> Option<Option<Fact>>
+    ensures { result ≡ spec.last_fact_at version (words_of line.now) }
 {
     let rest = key_at(line, b"fact")?;
-    let (fact, rest) = fact_at(rest)?;
+    let (fact, rest) = fact_at(version, rest)?;
     if is_over(rest) { Some(fact) } else { None }
 }
 
 /// `SITE TURN LO HI`, and what follows it.
 #[tactic(auto, unfolding(crate::specs::Grammar::test_at))]
-fn test_at(line: &[u8]) -> Option<(Undecided, &[u8])>
-    ensures { Gives (λ p. (p.0, words_of p.1.now)) result (spec.test_at (words_of line.now)) }
+fn test_at(version: Version, line: &[u8]) -> Option<(Undecided, &[u8])>
+    ensures { Gives (λ p. (p.0, words_of p.1.now)) result
+        (spec.test_at version (words_of line.now)) }
 {
-    let (site, rest) = site_at(line)?;
+    let (site, rest) = site_at(version, line)?;
     let (turn, rest) = counter_at(rest)?;
     let (lo, rest) = end_at(rest)?;
     let (hi, rest) = end_at(rest)?;
@@ -113,23 +115,23 @@ fn refused_form(number: u32, line: &[u8]) -> Option<Form>
 
 /// `undecided SITE TURN LO HI fact KIND PLACE DAY`.
 #[tactic(auto, unfolding(crate::specs::Grammar::undecided_form))]
-fn undecided_form(number: u32, line: &[u8]) -> Option<Form>
-    ensures { result ≡ spec.undecided_form number (words_of line.now) }
+fn undecided_form(version: Version, number: u32, line: &[u8]) -> Option<Form>
+    ensures { result ≡ spec.undecided_form version number (words_of line.now) }
 {
     let rest = key_at(line, b"undecided")?;
-    let (at, rest) = test_at(rest)?;
-    let fact = last_fact_at(rest)?;
+    let (at, rest) = test_at(version, rest)?;
+    let fact = last_fact_at(version, rest)?;
     Some(Form::Undecided(number, fact, at))
 }
 
 /// `void SITE fact KIND PLACE DAY`.
 #[tactic(auto, unfolding(crate::specs::Grammar::void_form))]
-fn void_form(number: u32, line: &[u8]) -> Option<Form>
-    ensures { result ≡ spec.void_form number (words_of line.now) }
+fn void_form(version: Version, number: u32, line: &[u8]) -> Option<Form>
+    ensures { result ≡ spec.void_form version number (words_of line.now) }
 {
     let rest = key_at(line, b"void")?;
-    let (site, rest) = site_at(rest)?;
-    let fact = last_fact_at(rest)?;
+    let (site, rest) = site_at(version, rest)?;
+    let fact = last_fact_at(version, rest)?;
     Some(Form::Void(number, fact, site))
 }
 
@@ -147,17 +149,17 @@ fn listed_form(alloc: Global, number: u32, line: &[u8]) -> Result<Form, NoForm>
 
 /// What follows the number of a line.
 #[tactic(auto, unfolding(crate::specs::Grammar::body_form))]
-fn body_form(alloc: Global, number: u32, line: &[u8]) -> Result<Form, NoForm>
+fn body_form(alloc: Global, version: Version, number: u32, line: &[u8]) -> Result<Form, NoForm>
     requires { AreWords (words_of line.now) }
-    ensures { Yields (λ form. form) result (spec.body_form number (words_of line.now)) }
+    ensures { Yields (λ form. form) result (spec.body_form version number (words_of line.now)) }
 {
     if let Some(form) = refused_form(number, line) {
         return Ok(form);
     }
-    if let Some(form) = undecided_form(number, line) {
+    if let Some(form) = undecided_form(version, number, line) {
         return Ok(form);
     }
-    if let Some(form) = void_form(number, line) {
+    if let Some(form) = void_form(version, number, line) {
         return Ok(form);
     }
     listed_form(alloc, number, line)
@@ -165,25 +167,25 @@ fn body_form(alloc: Global, number: u32, line: &[u8]) -> Result<Form, NoForm>
 
 /// `N`, and what follows it.
 #[tactic(auto, unfolding(crate::specs::Grammar::line_form))]
-fn line_form(alloc: Global, line: &[u8]) -> Result<Form, NoForm>
+fn line_form(alloc: Global, version: Version, line: &[u8]) -> Result<Form, NoForm>
     requires { AreWords (words_of line.now) }
-    ensures { Yields (λ form. form) result (spec.line_form (words_of line.now)) }
+    ensures { Yields (λ form. form) result (spec.line_form version (words_of line.now)) }
 {
     let (number, rest) = counter_at(line).ok_or(NoForm::Broken)?;
-    body_form(alloc, number, rest)
+    body_form(alloc, version, number, rest)
 }
 
 /// The form of words, of which the first says what they are.
-fn form_in(alloc: Global, line: &[u8]) -> Result<Form, NoForm>
+fn form_in(alloc: Global, version: Version, line: &[u8]) -> Result<Form, NoForm>
     requires { AreWords (words_of line.now) }
-    ensures { Yields (λ form. form) result (spec.form_in (words_of line.now)) }
+    ensures { Yields (λ form. form) result (spec.form_in version (words_of line.now)) }
 {
     let (word, rest) = word_at(line).ok_or(NoForm::Broken)?;
     if word == b"fact".as_slice() {
-        return fact_form(rest).ok_or(NoForm::Broken);
+        return fact_form(version, rest).ok_or(NoForm::Broken);
     }
     if word == b"line".as_slice() {
-        return line_form(alloc, rest);
+        return line_form(alloc, version, rest);
     }
     if word == b"end".as_slice() {
         return end_form(rest).ok_or(NoForm::Broken);
@@ -191,13 +193,13 @@ fn form_in(alloc: Global, line: &[u8]) -> Result<Form, NoForm>
     Err(NoForm::Broken)
 }
 
-/// The form of a line below the header, if it has one.
+/// The form of a line below the header of a file of a version, if it has one.
 #[tactic(auto, unfolding(crate::specs::Grammar::form_of))]
-pub(crate) fn form_of(alloc: Global, line: &[u8]) -> Result<Form, NoForm>
-    ensures { Yields (λ form. form) result (spec.form_of line.now) }
+pub(crate) fn form_of(alloc: Global, version: Version, line: &[u8]) -> Result<Form, NoForm>
+    ensures { Yields (λ form. form) result (spec.form_of version line.now) }
 {
     if is_spaced(line) {
-        form_in(alloc, line)
+        form_in(alloc, version, line)
     } else {
         Err(NoForm::Broken)
     }

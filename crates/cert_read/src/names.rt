@@ -1,38 +1,41 @@
-//! Kinds of facts, places and sites, read by their names.
+//! Kinds of facts, places and sites that a version has, read by their names.
 ghost use Rattle.std.specs.Prelude.{◌≡◌};
 ghost use Rattle.book_model.specs.lines.Lines.{words_of};
 ghost use Rattle.cert_read.specs.Gives.{Gives};
 ghost use Rattle.cert_read.specs.Grammar as spec;
 
 use crate::words::word_at;
-use book_model::{Kind, Place, Site};
+use book_model::{Kind, Place, Site, Version};
 
-/// A kind, and what follows it.
+/// A kind that the version has, and what follows it.
 #[tactic(auto, unfolding(crate::specs::Grammar::kind_at))]
-pub(crate) fn kind_at(line: &[u8]) -> Option<(Kind, &[u8])>
-    ensures { Gives (λ p. (p.0, words_of p.1.now)) result (spec.kind_at (words_of line.now)) }
+pub(crate) fn kind_at(version: Version, line: &[u8]) -> Option<(Kind, &[u8])>
+    ensures { Gives (λ p. (p.0, words_of p.1.now)) result
+        (spec.kind_at version (words_of line.now)) }
 {
     let (word, rest) = word_at(line)?;
-    let kind = Kind::named(word)?;
+    let kind = Kind::named_in(version, word)?;
     Some((kind, rest))
 }
 
-/// A place, and what follows it.
+/// A place that the version has, and what follows it.
 #[tactic(auto, unfolding(crate::specs::Grammar::place_at))]
-pub(crate) fn place_at(line: &[u8]) -> Option<(Place, &[u8])>
-    ensures { Gives (λ p. (p.0, words_of p.1.now)) result (spec.place_at (words_of line.now)) }
+pub(crate) fn place_at(version: Version, line: &[u8]) -> Option<(Place, &[u8])>
+    ensures { Gives (λ p. (p.0, words_of p.1.now)) result
+        (spec.place_at version (words_of line.now)) }
 {
     let (word, rest) = word_at(line)?;
-    let place = Place::named(word)?;
+    let place = Place::named_in(version, word)?;
     Some((place, rest))
 }
 
-/// A site, and what follows it.
+/// A site that the version has, and what follows it.
 #[tactic(auto, unfolding(crate::specs::Grammar::site_at))]
-pub(crate) fn site_at(line: &[u8]) -> Option<(Site, &[u8])>
-    ensures { Gives (λ p. (p.0, words_of p.1.now)) result (spec.site_at (words_of line.now)) }
+pub(crate) fn site_at(version: Version, line: &[u8]) -> Option<(Site, &[u8])>
+    ensures { Gives (λ p. (p.0, words_of p.1.now)) result
+        (spec.site_at version (words_of line.now)) }
 {
     let (word, rest) = word_at(line)?;
-    let site = Site::named(word)?;
+    let site = Site::named_in(version, word)?;
     Some((site, rest))
 }

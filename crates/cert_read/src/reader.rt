@@ -234,12 +234,12 @@ impl Reader {
     pub(crate) fn take(&mut self, alloc: Global, line: &[u8]) -> Result<(), LineFault>
         requires agrees { Agrees self.old.file self.old.seen self.old.marks.items }
         ensures passes { OnOk result (Passes self.old.file self.old.ended
-            (form_of_line line.now) self.new.file self.new.ended) }
+            (form_of_line self.old.file.version line.now) self.new.file self.new.ended) }
         ensures fails { IfErr result (λ e. Fails e self.old.file self.old.ended
-            (form_of_line line.now)) }
+            (form_of_line self.old.file.version line.now)) }
         ensures agrees { OnOk result (Agrees self.new.file self.new.seen self.new.marks.items) }
     {
-        match form_of(alloc, line) {
+        match form_of(alloc, self.file.version, line) {
             Ok(form) => self.take_form(form),
             Err(NoForm::Broken) => Err(LineFault::Rule(2)),
             Err(NoForm::Memory) => Err(LineFault::Memory),

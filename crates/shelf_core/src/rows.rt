@@ -6,7 +6,7 @@ use book_model::{KINDS, Kind, Place};
 use std::alloc::{AllocError, Global};
 
 /// The number of pairs of a kind and one of its places.
-fn rows_among<T, N, W>(mut table: &[(T, N, (&[Place], W))]) -> usize
+fn rows_among<T, N, W, V>(mut table: &[(T, N, (&[Place], W, V))]) -> usize
     requires few { spec.rows_among (map (λ row. row.2.0.now) table.now) ≤ spec.MOST_ROWS }
     ensures rows { result ≡ spec.rows_among (map (λ row. row.2.0.now) table.entry.now) }
 {
@@ -44,9 +44,9 @@ pub(crate) fn fact_rows() -> usize
 }
 
 /// The first row of each kind of a table: how many rows the kinds before it have. The error comes where memory runs out.
-fn first_rows_of<T, N, W>(
+fn first_rows_of<T, N, W, V>(
     alloc: Global,
-    mut table: &[(T, N, (&[Place], W))],
+    mut table: &[(T, N, (&[Place], W, V))],
 ) -> Result<Vec<usize>, AllocError>
     requires few { spec.rows_among (map (λ row. row.2.0.now) table.now) ≤ spec.MOST_ROWS }
     ensures rows { IfOk result (λ rows. rows.items

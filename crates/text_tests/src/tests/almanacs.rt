@@ -18,11 +18,8 @@ fn requests_of_the_almanac_of_2024(rt: HostRuntime) -> Result<(), Fail> {
         (46, b"full-moon 2024-01-28 gregorian"),
         (103, b"gregorian 2024-12-01 sunset-cairo"),
     ] {
-        assert_eq!(rt;
-            read_line(line, WRITTEN),
-            Ok(requests[index]),
-            "line {index}"
-        );
+        let request = requests.get(index).ok_or("too few requests")?;
+        assert_eq!(rt; read_line(line, WRITTEN), Ok(*request), "line {index}");
     }
     Ok(())
 }

@@ -144,7 +144,8 @@ fn found_results_are_compared(rt: HostRuntime) -> Result<(), Fail> {
     Ok(())
 }
 
-/// A line that the rules of version 1 refuse and those of version 2 answer, with what its text is in a file of each.
+/// A line that the rules of version 1 refuse and those of version 2 answer, with what its text is in a file of each. A word that
+/// a version doesn't have is one that it doesn't know.
 #[test]
 fn a_line_is_checked_by_the_version_of_its_file(rt: HostRuntime) -> Result<(), Fail> {
     let alloc = rt.alloc();
@@ -208,6 +209,36 @@ fn a_line_is_checked_by_the_version_of_its_file(rt: HostRuntime) -> Result<(), F
             "bahai 0-17-14-1-1 gregorian 1801-03-21 facts",
             "no 1 form 4\n",
             "no 1 missing bahai-year - 657333\n",
+        ),
+        (
+            "gregorian 1985-01-21 vietnamese 78-2-1-0-1 facts",
+            "no 1 form 2\n",
+            "no 1 missing solstice hanoi 724662\n",
+        ),
+        (
+            "vietnamese 78-2-1-0-1 gregorian 1985-01-21 facts",
+            "no 1 form 2\n",
+            "no 1 missing solstice hanoi 724867\n",
+        ),
+        (
+            "gregorian 1985-01-21 korean 78-1-12-0-1 facts",
+            "no 1 form 2\n",
+            "no 1 missing solstice seoul 724662\n",
+        ),
+        (
+            "japanese 78-1-12-0-1 gregorian 1985-01-21 facts",
+            "no 1 form 2\n",
+            "no 1 missing solstice tokyo 724502\n",
+        ),
+        (
+            "vietnamese 78-61-1-0-1 gregorian 1985-01-21 facts",
+            "no 1 form 2\n",
+            "no 1 form 3\n",
+        ),
+        (
+            "gregorian 1985-01-21 saigon 78-2-1-0-1 facts",
+            "no 1 form 2\n",
+            "no 1 form 2\n",
         ),
     ] {
         for (number, want) in [(1, by_one), (2, by_two)] {

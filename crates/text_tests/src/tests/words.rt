@@ -27,6 +27,9 @@ fn words_in_the_form_tell_a_command(rt: HostRuntime) -> Result<(), Fail> {
             Command::Almanac { year: 2024 },
         ),
         ("almanac --jobs 1 2024", Command::Almanac { year: 2024 }),
+        ("east 1703", Command::East { year: 1703 }),
+        ("east 2007", Command::East { year: 2007 }),
+        ("east 2147 --jobs 1", Command::East { year: 2147 }),
         ("sample 0001 007", Command::Sample { count: 1, seed: 7 }),
         ("sample 5 0 --jobs=1", Command::Sample { count: 5, seed: 0 }),
         (
@@ -66,7 +69,7 @@ fn words_in_the_form_tell_the_jobs(rt: HostRuntime) -> Result<(), Fail> {
 }
 
 /// Words that name no command.
-const NO_FORMS: [&str; 52] = [
+const NO_FORMS: [&str; 59] = [
     "",
     "almanac",
     "almanac 2024x",
@@ -77,6 +80,13 @@ const NO_FORMS: [&str; 52] = [
     "almanac -2024",
     "almanac 000000000000000002024",
     "almanac ",
+    "east",
+    "east 1702",
+    "east 2148",
+    "east 2007 x",
+    "east x",
+    "east ",
+    "East 2007",
     "sample",
     "sample 1",
     "sample 5",

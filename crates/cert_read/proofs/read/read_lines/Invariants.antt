@@ -1,4 +1,4 @@
-use Rattle.std.proofs.Common.{◌≡◌, ◌+◌, [], false, length}
+use Rattle.std.proofs.Common.{◌≡◌, ◌+◌, false, length}
 use Rattle.book_model.specs.lines.Lines.{lines_of}
 use Rattle.cert_read.specs.Agreeing.{Agrees}
 use Rattle.cert_read.specs.Reading.{reading_from}

@@ -1,4 +1,4 @@
-//! The header, which tells the version, and the ends of lines.
+//! The header, which tells the version and so the places, and the ends of lines.
 use super::broken;
 use book_model::Version;
 use cert_read::{LONGEST_FILE, read_file};
@@ -80,8 +80,56 @@ fn a_header_comes_first_and_lines_end_with_line_feeds(rt: HostRuntime) -> Result
     Ok(())
 }
 
+/// Lines below a header, with the line and the rule that they break in a file of version 1 and in one of version 2. What a
+/// version doesn't have is as unknown to it as what none has, before any other rule is tried.
+const PLACES: [(&str, Option<(usize, u8)>, Option<(usize, u8)>); 11] = [
+    (
+        "fact 1 solstice beijing 724662 724631\nend lines 0 facts 1",
+        None,
+        None,
+    ),
+    (
+        "fact 1 solstice hanoi 724662 724631\nend lines 0 facts 1",
+        Some((2, 2)),
+        None,
+    ),
+    (
+        "fact 1 solstice saigon 724662 724631\nend lines 0 facts 1",
+        Some((2, 2)),
+        Some((2, 2)),
+    ),
+    ("fact 2 solstice hanoi 1 1", Some((2, 2)), Some((2, 3))),
+    ("fact 1 dt hanoi 1 1", Some((2, 2)), Some((2, 7))),
+    ("fact 1 major-term hanoi 1 1", Some((2, 2)), Some((2, 7))),
+    (
+        "end lines 0 facts 0\nfact 1 solstice hanoi 1 1",
+        Some((3, 2)),
+        Some((3, 6)),
+    ),
+    (
+        "line 1 void year fact solstice seoul 1\nend lines 1 facts 0",
+        Some((2, 2)),
+        None,
+    ),
+    (
+        "line 1 undecided round 1 0 0 fact major tokyo 1\nend lines 1 facts 0",
+        Some((2, 2)),
+        None,
+    ),
+    (
+        "line 1 undecided round 1 0 0 fact sunset tokyo 1\nend lines 1 facts 0",
+        Some((2, 2)),
+        Some((2, 7)),
+    ),
+    (
+        "line 1 gregorian 1985-01-21 vietnamese 78-2-1-0-1 facts\nend lines 1 facts 0",
+        None,
+        None,
+    ),
+];
+
 #[test]
-fn a_file_has_the_version_of_its_header(rt: HostRuntime) -> Result<(), Fail> {
+fn a_file_has_the_version_of_its_header_and_its_places(rt: HostRuntime) -> Result<(), Fail> {
     for (text, version) in [
         ("calendrica 1 depth 40\nend lines 0 facts 0\n", Version::One),
         ("calendrica 1 depth 40\r\nend lines 0 facts 0", Version::One),
@@ -91,6 +139,12 @@ fn a_file_has_the_version_of_its_header(rt: HostRuntime) -> Result<(), Fail> {
         assert!(rt; text.len() <= LONGEST_FILE);
         let file = read_file(rt.alloc(), text.as_bytes())?;
         assert_eq!(rt; file.version, version, "{text:?}");
+    }
+    for (lines, by_one, by_two) in PLACES {
+        for (number, want) in [(1, by_one), (2, by_two)] {
+            let file = format!(in rt.alloc(); "calendrica {number} depth 40\n{lines}\n")?;
+            assert_eq!(rt; broken(rt.alloc(), file.as_bytes())?, want, "{file}");
+        }
     }
     Ok(())
 }
