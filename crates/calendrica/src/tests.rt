@@ -125,7 +125,7 @@ fn other_words_are_answered_by_the_usage_line(rt: HostRuntime) -> Result<(), Fai
         // The source would fail at its first call.
         let mut source = MemorySource::new(Vec::new(alloc), vec![in alloc; 1u32]?);
         for (room, status, text) in [
-            (100, Status::Words, USAGE),
+            (1000, Status::Words, USAGE),
             (5, Status::WriteFault, "usage"),
         ] {
             let mut sink = MemorySink::new(alloc, room, Vec::new(alloc))?;
@@ -335,6 +335,7 @@ fn a_run_evaluates_each_fact_once(rt: HostRuntime) -> Result<(), Fail> {
         chinese 78-41-1-0-1 gregorian\n";
     for (line, input, end, asked) in [
         ("almanac 2024", "", "end lines 104 facts 152\n", 152),
+        ("east 2007", "", "end lines 52 facts 124\n", 124),
         ("sample 40 1", "", " refused 0 facts 137\n", 137),
         ("convert", twice, "end lines 3 facts 8\n", 8),
         ("check", ROW_TEXT, "end yes 1 no 0 skip 0\n", 1),

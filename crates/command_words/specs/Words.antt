@@ -8,7 +8,7 @@ use Rattle.clap.specs.declared.builder.action.ArgAction.TheVariants.{Set}
 use Rattle.book_model.specs.declared.version.TheConstants.{FIRST_ALMANAC_YEAR, LAST_ALMANAC_YEAR}
 use Rattle.book_model.specs.calendars.Versions.{IsAlmanacYear}
 use Rattle.command_words.specs.declared.command.Command.{Command}
-use Rattle.command_words.specs.declared.command.Command.TheVariants.{Convert, Check, Upgrade, Almanac, Sample}
+use Rattle.command_words.specs.declared.command.Command.TheVariants.{Convert, Check, Upgrade, Almanac, Sample, East}
 
 -- ---- the command by which clap reads the words
 
@@ -60,10 +60,18 @@ lone_command name =
     if bytes_eq name (codes "convert") then Some Convert
     else (if bytes_eq name (codes "check") then Some Check else (if bytes_eq name (codes "upgrade") then Some Upgrade else None))
 
--- `almanac` with a year of which there is an almanac
+-- a year of which there is an almanac
+abbrev pub almanac_year : List ℕ → Option ℕ
+almanac_year word = between FIRST_ALMANAC_YEAR LAST_ALMANAC_YEAR (number_word word)
+
+-- `almanac` or `east` of a year
+abbrev pub command_of_year : List ℕ → ℕ → Option Command
+command_of_year name year =
+    if bytes_eq name (codes "almanac") then Some (Almanac year) else (if bytes_eq name (codes "east") then Some (East year) else None)
+
+-- the same with a year of which there is an almanac
 abbrev pub year_command : List ℕ → List ℕ → Option Command
-year_command name year =
-    if bytes_eq name (codes "almanac") then option_map (λ y. Almanac y) (between FIRST_ALMANAC_YEAR LAST_ALMANAC_YEAR (number_word year)) else None
+year_command name year = option_and_then (command_of_year name) (almanac_year year)
 
 -- `sample` with a count from 1 to 100,000 and a seed of 64 bits
 abbrev pub sample_command : List ℕ → List ℕ → List ℕ → Option Command
@@ -115,3 +123,4 @@ IsInRange Check = Unit {0}
 IsInRange Upgrade = Unit {0}
 IsInRange (Almanac year) = IsAlmanacYear year
 IsInRange (Sample count seed) = (1 ≤ count) × (count ≤ 100000)
+IsInRange (East year) = IsAlmanacYear year

@@ -1,7 +1,8 @@
 //! What the program is told to do.
 
 /// What the program is told to do: to write what lines of dates come to, to check such a text, to write the almanac of a
-/// year, to write sample lines, or to upgrade a text of an older version.
+/// year, to count what sample lines come to, to upgrade a text of an older version, or to write the months of a year in the
+/// calendars of the east.
 #[derive(Clone, Copy, Debug, PartialEq, Eq)]
 pub enum Command {
     Convert,
@@ -11,6 +12,8 @@ pub enum Command {
     Almanac { year: u32 },
     /// This many lines, from 1 to 100,000, which the seed settles; the seed may be any number of 64 bits.
     Sample { count: u32, seed: u64 },
+    /// The months of a year from 1703 to 2147 in the Chinese, Vietnamese, Korean and Japanese calendars.
+    East { year: u32 },
 }
 
 /// What the program is told to do, and by how many workers, from 1 to 64.

@@ -23,19 +23,28 @@ fn lone_command(name: &str) -> Option<Command>
     }
 }
 
+/// A year of which there is an almanac, as a word spells it.
+fn almanac_year(word: &str) -> Option<u32>
+    ensures year { result ≡ spec.almanac_year word.now }
+{
+    let year = number_between(
+        word,
+        u64::from(FIRST_ALMANAC_YEAR),
+        u64::from(LAST_ALMANAC_YEAR),
+    )?;
+    Some(year as u32)
+}
+
 /// The command that a word names with a year behind it.
 fn year_command(name: &str, year: &str) -> Option<Command>
     ensures command { result ≡ spec.year_command name.now year.now }
 {
-    if name != "almanac" {
-        return None;
+    let year = almanac_year(year)?;
+    match name {
+        "almanac" => Some(Command::Almanac { year }),
+        "east" => Some(Command::East { year }),
+        _ => None,
     }
-    let year = number_between(
-        year,
-        u64::from(FIRST_ALMANAC_YEAR),
-        u64::from(LAST_ALMANAC_YEAR),
-    )?;
-    Some(Command::Almanac { year: year as u32 })
 }
 
 /// The command that a word names with a count and a seed behind it.
@@ -139,8 +148,9 @@ fn matches_in<'a>(alloc: Global, words: &'a [String]) -> Result<ArgMatches<'a>, 
     }
 }
 
-/// The order that the words tell: the command that they name, `convert`, `check`, `almanac YEAR`, `sample COUNT SEED` or `upgrade`, and the jobs of
-/// `--jobs N`, 1 to 64, which are 1 where the option isn't given. The words come without the program's own name.
+/// The order that the words tell: the command that they name, `convert`, `check`, `almanac YEAR`, `sample COUNT SEED`, `upgrade`
+/// or `east YEAR`, and the jobs of `--jobs N`, 1 to 64, which are 1 where the option isn't given. The words come without the
+/// program's own name.
 ///
 /// `Form` comes where the words name no command, and `Memory` where memory ran out before they were read.
 pub fn order_of(alloc: Global, words: &[String]) -> Result<Order, NoCommand>

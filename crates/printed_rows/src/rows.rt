@@ -84,7 +84,10 @@ fn write_own_words<K: Sink>(sink: &mut K, number: u32, line: &[u8]) -> Result<()
     ensures { Writes K.written K.faults sink.old sink.new
         (echo_text number (words_of line.now)) result }
 {
-    write_three(sink, number, three_words(line).unwrap())
+    match three_words(line) {
+        Some(words) => write_three(sink, number, words),
+        None => unreachable!(),
+    }
 }
 
 /// Writes the number of a line and the three words of the line of a request.

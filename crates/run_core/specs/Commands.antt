@@ -1,11 +1,12 @@
 -- What the commands of the program do and read.
 use Rattle.std.specs.Prelude.{ℕ, List, map, Option, Some, None}
 use Rattle.almanac_core.specs.Almanac.{almanac_requests}
+use Rattle.almanac_core.specs.East.{east_requests}
 use Rattle.almanac_core.specs.Sample.{sample_requests}
 use Rattle.book_model.specs.declared.request.Request.{Request}
 use Rattle.book_model.specs.lines.Text.{line_text}
 use Rattle.command_words.specs.declared.command.Command.{Command}
-use Rattle.command_words.specs.declared.command.Command.TheVariants.{Convert, Check, Upgrade, Almanac, Sample}
+use Rattle.command_words.specs.declared.command.Command.TheVariants.{Convert, Check, Upgrade, Almanac, Sample, East}
 
 -- the lines of the almanac of a year
 abbrev pub almanac_lines : ℕ → List (List ℕ)
@@ -35,6 +36,7 @@ work_of Check = judge
 work_of Upgrade = renew
 work_of (Almanac year) = print (made (almanac_requests year))
 work_of (Sample n seed) = count n seed
+work_of (East year) = print (made (east_requests year))
 
 -- what is read: the whole input, of up to so many bytes, or nothing
 pub data Input : Type 0 where

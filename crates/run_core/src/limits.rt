@@ -12,7 +12,7 @@ pub(crate) fn limit_read(command: Command) -> Option<usize>
     match command {
         Command::Convert => Some(4_194_304),
         Command::Check | Command::Upgrade => Some(LONGEST_FILE),
-        Command::Almanac { .. } | Command::Sample { .. } => None,
+        Command::Almanac { .. } | Command::Sample { .. } | Command::East { .. } => None,
     }
 }
 

@@ -21,7 +21,7 @@ use std::thread::Threads;
 
 /// The line that is written where the words are in no form.
 pub const USAGE: &str =
-    "usage: calendrica convert | check | almanac YEAR | sample COUNT SEED | upgrade [--jobs N]\n";
+    "usage: calendrica convert | check | almanac YEAR | sample COUNT SEED | upgrade | east YEAR [--jobs N]\n";
 
 /// How a run ends whose lines were written, with results in all or not, or that stopped there.
 fn status_of(written: Result<bool, WriteStop>) -> Status
@@ -133,8 +133,9 @@ fn refuse_words<K: Sink>(sink: &mut K) -> Status
 /// All that the program does: looks at its words, reads the whole input, computes, and writes. The words name a command:
 /// `convert`, which writes what each line of the input comes to; `check`, which writes a verdict for each line of a printed
 /// file, whoever made it; `upgrade`, which writes what the lines of a printed file of an older version come to by the version that
-/// is written; `almanac YEAR`, which writes what the lines of an almanac come to; or `sample COUNT SEED`, which writes one line of
-/// counts of what the lines of a sample come to. The last two read nothing. Other words are answered by a usage line.
+/// is written; `almanac YEAR` or `east YEAR`, which write what the lines of an almanac come to, or those of the months of a year
+/// in the calendars of the east; or `sample COUNT SEED`, which writes one line of counts of what the lines of a sample come to. The
+/// last three read nothing. Other words are answered by a usage line.
 ///
 /// `Done` says that each line has a result, or that each verdict is yes, `Mixed` that some line or verdict isn't so,
 /// `Words` that the words are in no form and the usage line is written, `ReadFault` and `WriteFault` that a read or a
@@ -179,7 +180,7 @@ pub fn run<R: Threads + Sync, S: Source, K: Sink, E: Evaluator + Sync, G: Gate +
     ensures words_refused { named (map string_bytes words.now) ≡ None
         → (result ≡ Status.Words) ⊎ (result ≡ Status.WriteFault) ⊎ (result ≡ Status.Memory) }
     ensures words_unread { named (map string_bytes words.now) ≡ None → source.new ≡ source.old }
-    // Nothing is read under `almanac` and `sample` either.
+    // Nothing is read under `almanac`, `east` and `sample` either.
     ensures unread { (c : Command) → named (map string_bytes words.now) ≡ Some c
         → input_of c ≡ nothing → source.new ≡ source.old }
     // Faults have a cause.

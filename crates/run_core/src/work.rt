@@ -4,7 +4,7 @@ ghost use Rattle.command_words.specs.Words.{IsInRange};
 ghost use Rattle.run_core.specs.Commands as spec;
 ghost use Rattle.run_core.specs.Works.{DoesWork};
 
-use almanac_core::{almanac_requests, sample_requests};
+use almanac_core::{almanac_requests, east_requests, sample_requests};
 use command_words::Command;
 use line_core::split_lines;
 use printed_rows::Rows;
@@ -43,5 +43,6 @@ pub(crate) fn work_of<'a>(
             let rows = Rows::Made(sample_requests(alloc, count, seed)?);
             Ok(Work::Count { rows, count, seed })
         }
+        Command::East { year } => Ok(Work::Print(Rows::Made(east_requests(alloc, year)?))),
     }
 }

@@ -85,13 +85,15 @@ fn a_front_of_a_file_is_no_file(rt: HostRuntime) -> Result<(), Fail> {
 }
 
 /// Commands with their input, and how many calls of the source they make.
-const COMMANDS: [(&str, &str, u32); 10] = [
+const COMMANDS: [(&str, &str, u32); 12] = [
     ("convert --jobs 1", TWO_LINES, 2),
     ("convert --jobs 8", TWO_LINES, 2),
     ("check --jobs 1", PERSIAN_TEXT, 2),
     ("check --jobs 8", PERSIAN_TEXT, 2),
     ("almanac 2024 --jobs 1", "", 0),
     ("almanac 2024 --jobs 8", "", 0),
+    ("east 2007 --jobs 1", "", 0),
+    ("east 2007 --jobs 8", "", 0),
     ("sample 14 1 --jobs 1", "", 0),
     ("sample 14 1 --jobs 8", "", 0),
     ("upgrade --jobs 1", OLDER_TEXT, 2),

@@ -3,5 +3,5 @@ use Rattle.printed_rows.proofs.rows.write_own_words.Goals as goal
 
 pub returns : goal.returns
 returns g c =
-    let words = rw c.unwrap.ensures at c.three_words.ensures.words in
-    rw (words, ← words_echoed c.args.number c.unwrap.result.from.now c.unwrap.result.date.now c.unwrap.result.to.now) c.write_three.ensures
+    let words = c.in-Some.words in
+    rw (c.in-Some.ensures.words, ← words_echoed c.args.number words.from.now words.date.now words.to.now) c.write_three.ensures
