@@ -31,8 +31,8 @@ _calendrica() {
     elif ((place == 0)); then
         # The script of a checkout knows one word more.
         file=$(type -P -- "$1") && IFS= read -rN 2 start <"$file"
-        _calendrica_offer "convert check almanac sample upgrade $([[ ${start-} == '#!' && ! $has_jobs ]] && echo build)" "$typed"
-    elif ((place == 1)) && [[ $command == almanac ]]; then
+        _calendrica_offer "convert check almanac sample upgrade east $([[ ${start-} == '#!' && ! $has_jobs ]] && echo build)" "$typed"
+    elif ((place == 1)) && [[ $command == almanac || $command == east ]]; then
         _calendrica_offer "$(echo {1703..2147})" "$typed"
     else
         COMPREPLY=()
