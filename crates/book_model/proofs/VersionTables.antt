@@ -2,7 +2,7 @@
 -- of its files.
 use Rattle.std.proofs.Common.{◌≡◌, Bool, true, false, ◌&&◌, ◌||◌, refl, arith, List, [], ◌∷◌, ℕ, suc, zero}
 use Rattle.std.proofs.lemmas.Int.{ints}
-use Rattle.std.specs.Prelude.{IsTrue, ℤ, pos, int_le, slice_index_or, Option, Some}
+use Rattle.std.specs.Prelude.{IsTrue, ℤ, pos, ◌≤ℤ◌, int_le, slice_index_or, Option, Some}
 use Rattle.std.specs.List.{list_all}
 use Rattle.book_model.specs.declared.calendar.Calendar.{Calendar}
 use Rattle.book_model.specs.declared.calendar.Calendar.TheVariants.{Gregorian, Fixed}
@@ -21,10 +21,11 @@ use Rattle.book_model.specs.declared.words.FromWord.{FromWord}
 use Rattle.book_model.specs.declared.words.FromWord.TheVariants as from
 use Rattle.book_model.specs.declared.words.ToWord.{ToWord}
 use Rattle.book_model.specs.declared.words.ToWord.TheVariants as to
-use Rattle.book_model.specs.calendars.Dates.{row_of, may_have, year_number, has_year, has_some_year, gregorian_day, fixed_day, has_day_in_range, is_answered, IsAskable}
-use Rattle.book_model.specs.calendars.Versions.{version_number, range_in, is_in_some, line_days, is_in_range, is_in_some_range, has_since, had_in, kind_in, place_in, site_in, header_line, version_named}
-use Rattle.book_model.specs.lines.Requests.{has_words}
-use Rattle.book_model.specs.lines.Words.{from_since, to_since}
+use Rattle.book_model.specs.calendars.Dates.{row_of, may_have, year_number, has_year, has_some_year, gregorian_day, fixed_day, has_day_in_reach, is_answered, IsAskable}
+use Rattle.book_model.specs.calendars.Versions.{version_number, range_in, is_in_some, line_days, days_in, has_since, had_in, kind_in, place_in, site_in, header_line, version_named}
+use Rattle.book_model.specs.lines.Reach.{later, first_day_of, reach_of, is_reached}
+use Rattle.book_model.specs.lines.Requests.{has_words, is_in_reach}
+use Rattle.book_model.specs.lines.Words.{from_since, to_since, named_by, shown_by, calendar_of}
 use Rattle.book_model.specs.sky.Correction.{is_between}
 use Rattle.book_model.specs.sky.Names.{kind_name, kind_named, kind_since, place_name, place_named, place_since, site_name, site_named, site_since}
 use Rattle.book_model.proofs.CorrectionRows.{lies}
@@ -51,21 +52,18 @@ in_some (range ∷ other ∷ ranges) (suc i) z h = by (is_between range.0 range.
     by true e = refl
     by false e = e
 
--- a day that a line of a version may name is one of some version's
-pub some_range : (version : Version) (day : ℤ) → IsTrue (is_in_range version day) → IsTrue (is_in_some_range day)
-some_range version day h = in_some line_days (version_number version) day h
-
 -- a date that a version answers is one that its calendar may be asked the day of
-pub askable : (version : Version) (c : Calendar) (f : Fields) → IsTrue (may_have c f) → IsTrue (is_answered version c f) → IsAskable c f
+pub askable : (version : Version) (reach : ℤ × ℤ) (c : Calendar) (f : Fields) → IsTrue (may_have c f) → IsTrue (is_answered version reach c f) → IsAskable c f
 unfolding is_answered has_some_year
-askable version c f possible h =
-    let year = (both (has_year version (row_of c) f) (has_day_in_range version c f) h).0 in
+askable version reach c f possible h =
+    let year = (both (has_year version (row_of c) f) (has_day_in_reach reach c f) h).0 in
     (possible, in_some (row_of c).years (version_number version) (year_number (row_of c) f) year)
 
--- the day of a Gregorian date that a version answers is one that a line may name
-pub day_in_range : (version : Version) (f : Fields) → IsTrue (is_answered version Gregorian f) → IsTrue (is_in_some_range (gregorian_day f))
+-- the day of a Gregorian date that a line answers is one that the line may name
+pub answered_day : (version : Version) (reach : ℤ × ℤ) (f : Fields) → IsTrue (is_answered version reach Gregorian f)
+    → IsTrue (is_between reach.0 reach.1 (gregorian_day f))
 unfolding is_answered
-day_in_range version f h = some_range version (gregorian_day f) (both (has_year version (row_of Gregorian) f) (has_day_in_range version Gregorian f) h).1
+answered_day version reach f h = (both (has_year version (row_of Gregorian) f) (has_day_in_reach reach Gregorian f) h).1
 
 -- ---- the version that is written
 -- a range has the ends of another
@@ -100,23 +98,87 @@ years_widest : (c : Calendar) → is_written_widest (row_of c).years ≡ true
 years_widest Gregorian = refl
 years_widest _ = refl
 
--- a day that a line of a version may name is one that a line of the written version may name
-pub later_days : (version : Version) (day : ℤ) → IsTrue (is_in_range version day) → IsTrue (is_in_range WRITTEN day)
-later_days version day h = in_widest (range_in WRITTEN line_days) line_days (version_number version) day days_widest h
+-- what lies from the later of two days on lies from both on
+later_low : (a b z : ℤ) → later a b ≤ℤ z → (a ≤ℤ z) × (b ≤ℤ z)
+later_low a b z h = (grind (arith, ints, h), grind (arith, ints, h))
 
-day_later : (version : Version) (c : Calendar) (f : Fields) → has_day_in_range version c f ≡ true → has_day_in_range WRITTEN c f ≡ true
-day_later version Gregorian f h = later_days version (gregorian_day f) h
-day_later version Fixed f h = later_days version (fixed_day f) h
-day_later version _ f h = refl
+later_least : (a b z : ℤ) → a ≤ℤ z → b ≤ℤ z → later a b ≤ℤ z
+later_least a b z h k = grind (arith, ints, h, k)
 
--- a date that a version answers is one that the written version answers
-pub later_dates : (version : Version) (c : Calendar) (f : Fields) → IsTrue (is_answered version c f) → IsTrue (is_answered WRITTEN c f)
+between_ends : (lo hi z : ℤ) → lo ≤ℤ z → z ≤ℤ hi → is_between lo hi z ≡ true
+between_ends lo hi z h k = grind (arith, ints, h, k)
+
+-- a day that a line of a version may name is one of the version's days
+pub reached_day : (version : Version) (from : FromWord) (to : ToWord) (day : ℤ) → IsTrue (is_reached version from to day)
+    → IsTrue (is_between (days_in version).0 (days_in version).1 day)
+reached_day version from to day h =
+    let l = lies (reach_of version from to).0 (reach_of version from to).1 day h in
+    between_ends (days_in version).0 (days_in version).1 day (later_low (days_in version).0 _ day l.0).0 l.1
+
+-- and one from the first day on of which there is what its words are about
+pub told_from : (version : Version) (from : FromWord) (to : ToWord) (day : ℤ) → IsTrue (is_reached version from to day)
+    → (first_day_of (named_by from) ≤ℤ day) × (first_day_of (shown_by to) ≤ℤ day)
+told_from version from to day h =
+    let l = lies (reach_of version from to).0 (reach_of version from to).1 day h in
+    later_low (first_day_of (named_by from)) (first_day_of (shown_by to)) day (later_low (days_in version).0 _ day l.0).1
+
+-- a day that a line of a version may name is one that the same line of the written version may name
+pub later_days : (version : Version) (from : FromWord) (to : ToWord) (day : ℤ) → IsTrue (is_reached version from to day)
+    → IsTrue (is_reached WRITTEN from to day)
+later_days version from to day h =
+    let words = later (first_day_of (named_by from)) (first_day_of (shown_by to)) in
+    let l = lies (reach_of version from to).0 (reach_of version from to).1 day h in
+    let from_first = later_low (days_in version).0 words day l.0 in
+    let here = between_ends (days_in version).0 (days_in version).1 day from_first.0 l.1 in
+    let wide = in_widest (range_in WRITTEN line_days) line_days (version_number version) day days_widest here in
+    let k = lies (days_in WRITTEN).0 (days_in WRITTEN).1 day wide in
+    between_ends (later (days_in WRITTEN).0 words) (days_in WRITTEN).1 day (later_least (days_in WRITTEN).0 words day k.0 from_first.1) k.1
+
+day_later : (version : Version) (from : FromWord) (to : ToWord) (c : Calendar) (f : Fields) → has_day_in_reach (reach_of version from to) c f ≡ true
+    → has_day_in_reach (reach_of WRITTEN from to) c f ≡ true
+day_later version from to Gregorian f h = later_days version from to (gregorian_day f) h
+day_later version from to Fixed f h = later_days version from to (fixed_day f) h
+day_later version from to _ f h = refl
+
+later_dates : (version : Version) (from : FromWord) (to : ToWord) (c : Calendar) (f : Fields) → IsTrue (is_answered version (reach_of version from to) c f)
+    → IsTrue (is_answered WRITTEN (reach_of WRITTEN from to) c f)
 unfolding is_answered
-later_dates version c f h =
-    let b = both (has_year version (row_of c) f) (has_day_in_range version c f) h in
+later_dates version from to c f h =
+    let b = both (has_year version (row_of c) f) (has_day_in_reach (reach_of version from to) c f) h in
     let ranges = (row_of c).years in
     let year = in_widest (range_in WRITTEN ranges) ranges (version_number version) (year_number (row_of c) f) (years_widest c) b.0 in
-    both_true (has_year WRITTEN (row_of c) f) (has_day_in_range WRITTEN c f) year (day_later version c f b.1)
+    both_true (has_year WRITTEN (row_of c) f) (has_day_in_reach (reach_of WRITTEN from to) c f) year (day_later version from to c f b.1)
+
+-- a request whose date a version answers is one whose date the written version answers
+pub later_requests : (version : Version) (r : Request) → IsTrue (is_in_reach version r) → IsTrue (is_in_reach WRITTEN r)
+later_requests version r h = later_dates version r.from r.to (calendar_of r.from) r.date h
+
+-- ---- the words of the first version
+-- what they are about there is from the first day of the table on: the last line is checked for each word by itself
+from_early : (w : FromWord) → has_since One (from_since w) ≡ true → int_le (first_day_of (named_by w)) (pos 1) ≡ true
+from_early from.French h = absurd (cc)
+from_early from.HebrewObserved h = absurd (cc)
+from_early _ h = refl
+
+to_early : (w : ToWord) → has_since One (to_since w) ≡ true → int_le (first_day_of (shown_by w)) (pos 1) ≡ true
+to_early to.French h = absurd (cc)
+to_early to.HebrewObserved h = absurd (cc)
+to_early _ h = refl
+
+days_late : (version : Version) → int_le (pos 1) (days_in version).0 ≡ true
+days_late One = refl
+days_late _ = refl
+
+later_stays : (a b c : ℤ) → int_le (pos 1) a ≡ true → int_le b (pos 1) ≡ true → int_le c (pos 1) ≡ true → later a (later b c) ≡ a
+later_stays a b c h k l = grind (arith, ints, h, k, l)
+
+-- a line with words that the first version has may name each day of its version
+pub first_reach : (version : Version) (r : Request) → IsTrue (has_words One r) → reach_of version r.from r.to ≡ days_in version
+first_reach version r h =
+    let since = both (has_since One (from_since r.from)) (has_since One (to_since r.to)) h in
+    let same = later_stays (days_in version).0 (first_day_of (named_by r.from)) (first_day_of (shown_by r.to)) (days_late version) (from_early r.from since.0)
+    (to_early r.to since.1) in
+    rw same refl
 
 -- ---- the first line of a version's files is that version's
 pub header_found : (version : Version) → version_named (header_line version) ≡ Some version

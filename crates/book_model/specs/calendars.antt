@@ -9,5 +9,7 @@ pub mod Chinese
 pub mod Islamic
 pub mod HinduSolar
 pub mod HinduLunar
+pub mod French
+pub mod HebrewObserved
 pub mod Moving
 pub mod Dates

@@ -1,6 +1,7 @@
 -- Lines: what they ask, what they come to, and their text.
 pub mod Lines
 pub mod Words
+pub mod Reach
 pub mod Requests
 pub mod LineRules
 pub mod Outcomes

@@ -2,6 +2,7 @@
 pub mod Programs
 pub mod Searches
 pub mod Bisection
+pub mod Crossings
 pub mod Leading
 pub mod Nesting
 pub mod Calls

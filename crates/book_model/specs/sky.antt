@@ -8,13 +8,16 @@ pub mod Sidereal
 pub mod Noon
 pub mod Moon
 pub mod Latitude
+pub mod Distance
 pub mod NewMoons
 pub mod Phases
 pub mod Horizon
 pub mod Altitude
 pub mod Places
 pub mod Crescent
+pub mod Moonrise
 pub mod HinduFacts
+pub mod Nisan
 pub mod Kinds
 pub mod Facts
 pub mod Older

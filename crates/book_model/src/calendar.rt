@@ -2,11 +2,14 @@
 //! read the table too.
 ghost use Rattle.std.specs.Prelude.{◌≡◌};
 
+use crate::calendar_tables::FRENCH_EPOCH;
+
 /// The last day whose date the calendars tell (R.D.).
 pub const LAST_DATE_DAY: i64 = 1_000_000;
 
 /// A calendar of dates: the Gregorian calendar, the day number of the book (R.D.), the Persian, the Bahá'í, the Chinese, the
-/// Vietnamese, the Korean, the Japanese, the Islamic, the Hindu solar or the Hindu lunar calendar.
+/// Vietnamese, the Korean, the Japanese, the Islamic, the Hindu solar, the Hindu lunar, the French or the Hebrew calendar, whose
+/// months begin by observation.
 #[derive(Clone, Copy, Debug, PartialEq, Eq)]
 pub enum Calendar {
     Gregorian,
@@ -20,6 +23,8 @@ pub enum Calendar {
     Islamic,
     HinduSolar,
     HinduLunar,
+    French,
+    HebrewObserved,
 }
 
 /// What differs from calendar to calendar. The number of a date's year is the offset and the sum of the fields, each
@@ -48,7 +53,7 @@ pub struct CalendarRow {
 /// The calendars, in the order of their values. The days of Gregorian dates and day numbers are known without any fact
 /// and tell which of them are answered.
 #[rattlefmt::skip]
-pub const CALENDARS: [CalendarRow; 11] = [
+pub const CALENDARS: [CalendarRow; 13] = [
     CalendarRow { calendar: Calendar::Gregorian, count: 3, limits: [(1, 9999), (1, 12), (1, 31), (0, 0), (0, 0)],
         weights: [1, 0, 0, 0, 0], offset: 0, first_day: 1, years: [(1, 9999), (1, 9999)], is_confirmed: false, is_padded: true },
     CalendarRow { calendar: Calendar::Fixed, count: 1, limits: [(0, 9_999_999), (0, 0), (0, 0), (0, 0), (0, 0)],
@@ -71,6 +76,10 @@ pub const CALENDARS: [CalendarRow; 11] = [
         weights: [1, 0, 0, 0, 0], offset: 0, first_day: 0, years: [(1723, 1970), (1623, 2070)], is_confirmed: true, is_padded: false },
     CalendarRow { calendar: Calendar::HinduLunar, count: 5, limits: [(1, 9999), (1, 12), (0, 1), (1, 30), (0, 1)],
         weights: [1, 0, 0, 0, 0], offset: 0, first_day: 0, years: [(1858, 2105), (1758, 2205)], is_confirmed: true, is_padded: false },
+    CalendarRow { calendar: Calendar::French, count: 3, limits: [(1, 9999), (1, 13), (1, 30), (0, 0), (0, 0)],
+        weights: [1, 0, 0, 0, 0], offset: 0, first_day: FRENCH_EPOCH, years: [(10, 257), (1, 357)], is_confirmed: true, is_padded: false },
+    CalendarRow { calendar: Calendar::HebrewObserved, count: 3, limits: [(1, 9999), (1, 13), (1, 30), (0, 0), (0, 0)],
+        weights: [1, 0, 0, 0, 0], offset: 0, first_day: 400, years: [(5562, 5809), (5462, 5909)], is_confirmed: true, is_padded: false },
 ];
 
 impl Calendar {

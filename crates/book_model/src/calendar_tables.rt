@@ -25,6 +25,20 @@ pub const CHINESE_EPOCH: i64 = -963_099;
 /// Calculations, chapter 7).
 pub const ISLAMIC_EPOCH: i64 = 227_015;
 
+/// The first day of the French year 1: 22 September 1792 (R.D.; Reingold and Dershowitz, Calendrical Calculations, chapter 17).
+pub const FRENCH_EPOCH: i64 = 654_415;
+
+/// The month by which those of the Hebrew year are counted from Nisan on, in days (Reingold and Dershowitz, Calendrical Calculations,
+/// chapter 18).
+#[rattlefmt::skip]
+pub const OBSERVED_MONTH: Frac = Frac { num: 59, den: 2 };
+
+/// The year of the era of the world in which the Gregorian year 1 began, by which Hebrew years are counted, before the month of Tishri.
+pub const WORLD_ERA: i64 = 3760;
+
+/// The month with which a Hebrew year begins, Tishri, where months are counted from Nisan.
+pub const TISHRI: i64 = 7;
+
 /// The mean sidereal year, after which the sun is at the same stars, in days (Reingold and Dershowitz, Calendrical Calculations,
 /// chapter 14).
 #[rattlefmt::skip]
@@ -48,3 +62,7 @@ pub const SPRING: Season = Season { longitude: 0, side: Side::UpTo(2) };
 /// The winter solstice (Reingold and Dershowitz, Calendrical Calculations, chapter 19).
 #[rattlefmt::skip]
 pub const WINTER: Season = Season { longitude: 270, side: Side::Past(270) };
+
+/// The autumnal equinox (Reingold and Dershowitz, Calendrical Calculations, chapter 17).
+#[rattlefmt::skip]
+pub const AUTUMN: Season = Season { longitude: 180, side: Side::From(180) };

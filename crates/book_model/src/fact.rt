@@ -2,7 +2,7 @@
 ghost use Rattle.std.specs.Prelude.{◌≡◌, ◌↔◌, ◌<◌, ℤ, ◌≤ℤ◌, length, map, IfSome, IsSome};
 ghost use Rattle.book_model.specs.declared.fact.TheConstants.{KINDS, PLACES};
 
-use crate::location_tables::{CAIRO, TEHRAN, UJJAIN};
+use crate::location_tables::{CAIRO, HAIFA, TEHRAN, UJJAIN};
 use crate::names::{first_row_named, list_at, name_at, since_at};
 use crate::{Frac, Location, Version, ZoneStep};
 
@@ -32,6 +32,11 @@ pub enum Kind {
     FullMoon,
     LastQuarter,
     Sunset,
+    Distance,
+    Moonrise,
+    Moonset,
+    FrenchYear,
+    Nisan,
 }
 
 /// A place that a fact may be asked of.
@@ -45,6 +50,7 @@ pub enum Place {
     Hanoi,
     Seoul,
     Tokyo,
+    Haifa,
 }
 
 /// An astronomical fact: what the model gives for a kind, a place and a day, as a day number of the book (R.D.).
@@ -70,7 +76,7 @@ pub enum WholeDays {
 /// Each kind of fact with its printed name, the places that it is asked of, which of its tests of a year are of a whole day, and
 /// the first version of printed files that has it, in the order of the variants.
 #[rattlefmt::skip]
-pub static KINDS: [(Kind, &str, (&[Place], WholeDays, Version)); 23] = [
+pub static KINDS: [(Kind, &str, (&[Place], WholeDays, Version)); 28] = [
     (Kind::Dt, "dt", (&[Place::None], WholeDays::AtFirst, Version::One)),
     (Kind::Sun, "sun", (&[Place::None], WholeDays::AtFirst, Version::One)),
     (Kind::Nowruz, "nowruz", (&[Place::None], WholeDays::Nowhere, Version::One)),
@@ -81,7 +87,7 @@ pub static KINDS: [(Kind, &str, (&[Place], WholeDays, Version)); 23] = [
     (Kind::Major, "major", (&[Place::Beijing, Place::Hanoi, Place::Seoul, Place::Tokyo], WholeDays::Nowhere, Version::One)),
     (Kind::MajorTerm, "major-term", (&[Place::Beijing], WholeDays::Nowhere, Version::One)),
     (Kind::MinorTerm, "minor-term", (&[Place::Beijing], WholeDays::Nowhere, Version::One)),
-    (Kind::Phasis, "phasis", (&[Place::Cairo], WholeDays::AtFirst, Version::One)),
+    (Kind::Phasis, "phasis", (&[Place::Cairo, Place::Haifa], WholeDays::AtFirst, Version::One)),
     (Kind::Sign, "sign", (&[Place::None], WholeDays::Nowhere, Version::One)),
     (Kind::SolarYear, "solar-year", (&[Place::None], WholeDays::Nowhere, Version::One)),
     (Kind::Sankranti, "sankranti", (&[Place::None], WholeDays::Nowhere, Version::One)),
@@ -94,6 +100,11 @@ pub static KINDS: [(Kind, &str, (&[Place], WholeDays, Version)); 23] = [
     (Kind::FullMoon, "full-moon", (&[Place::None], WholeDays::AtFirst, Version::One)),
     (Kind::LastQuarter, "last-quarter", (&[Place::None], WholeDays::AtFirst, Version::One)),
     (Kind::Sunset, "sunset", (&[Place::Tehran, Place::Cairo, Place::Ujjain], WholeDays::Nowhere, Version::One)),
+    (Kind::Distance, "distance", (&[Place::None], WholeDays::AtFirst, Version::Two)),
+    (Kind::Moonrise, "moonrise", (&[Place::Tehran, Place::Cairo, Place::Ujjain], WholeDays::Everywhere, Version::Two)),
+    (Kind::Moonset, "moonset", (&[Place::Tehran, Place::Cairo, Place::Ujjain], WholeDays::Everywhere, Version::Two)),
+    (Kind::FrenchYear, "french-year", (&[Place::None], WholeDays::Nowhere, Version::Two)),
+    (Kind::Nisan, "nisan", (&[Place::Haifa], WholeDays::AtFirst, Version::Two)),
 ];
 
 /// Each place with its printed name, the location from which its horizon is looked at, if it has one, its zone, and the first
@@ -101,7 +112,7 @@ pub static KINDS: [(Kind, &str, (&[Place], WholeDays, Version)); 23] = [
 /// in order, each with the hours by which it is ahead of universal time before, and the hours from the last of these days on. Facts
 /// of no place go by universal time.
 #[rattlefmt::skip]
-pub static PLACES: [(Place, &str, (Option<Location>, &[ZoneStep], Frac, Version)); 8] = [
+pub static PLACES: [(Place, &str, (Option<Location>, &[ZoneStep], Frac, Version)); 9] = [
     (Place::None, "-", (None, &[], Frac { num: 0, den: 1 }, Version::One)),
     (Place::Beijing, "beijing", (None, &[ZoneStep { before: 704_188, hours: Frac { num: 1397, den: 180 } }], Frac { num: 8, den: 1 }, Version::One)),
     (Place::Cairo, "cairo", (Some(CAIRO), &[], Frac { num: 2, den: 1 }, Version::One)),
@@ -115,6 +126,7 @@ pub static PLACES: [(Place, &str, (Option<Location>, &[ZoneStep], Frac, Version)
         ZoneStep { before: 716_097, hours: Frac { num: 17, den: 2 } },
     ], Frac { num: 9, den: 1 }, Version::Two)),
     (Place::Tokyo, "tokyo", (None, &[ZoneStep { before: 689_213, hours: Frac { num: 4193, den: 450 } }], Frac { num: 9, den: 1 }, Version::Two)),
+    (Place::Haifa, "haifa", (Some(HAIFA), &[], Frac { num: 2, den: 1 }, Version::Two)),
 ];
 
 /// The first and the last day of which a fact may be asked (R.D.).

@@ -18,11 +18,12 @@ ghost use Rattle.book_model.specs.sky.Kinds.{dt_of};
 ghost use Rattle.book_model.specs.sky.Noon.{StartsNear};
 ghost use Rattle.book_model.specs.sky.Older.{over_years, rows_in, has_correction, run_by, AreComposed, correction_by_version, dt_by_version};
 ghost use Rattle.book_model.specs.sky.Time.{correction_at};
-ghost use Rattle.book_model.specs.calendars.Dates.{row_of, is_answered};
+ghost use Rattle.book_model.specs.calendars.Dates.{row_of};
 ghost use Rattle.book_model.specs.calendars.Inquiries.{Inquiry, facts_over, result_over};
 ghost use Rattle.book_model.specs.calendars.Moving.{at_place, moved_fact};
-ghost use Rattle.book_model.specs.calendars.Versions.{is_in_range, fact_days_in, header_line, version_named, kind_in, place_in, site_in};
-ghost use Rattle.book_model.specs.lines.Requests.{has_words};
+ghost use Rattle.book_model.specs.calendars.Versions.{days_in, fact_days_in, header_line, version_named, kind_in, place_in, site_in};
+ghost use Rattle.book_model.specs.lines.Reach.{reach_of, is_reached};
+ghost use Rattle.book_model.specs.lines.Requests.{has_words, is_in_reach};
 ghost use Rattle.book_model.specs.lines.Words.{from_word_of, to_word_of, text_of_from, text_of_to, from_words, to_words, are_distinct_words, named_by, shown_by};
 ghost use Rattle.book_model.specs.sky.Names.{has_place, kind_name, kind_named, place_name, place_named, site_name, site_named};
 ghost use Rattle.book_model.specs.declared.fact.Kind.{Kind};
@@ -31,8 +32,7 @@ ghost use Rattle.book_model.specs.declared.site.Site.{Site};
 ghost use Rattle.book_model.specs.declared.site.Site.TheVariants.{Year};
 
 use crate::{
-    Calendar, FIRST_DAY, Fact, Fields, FromWord, LAST_DAY, Meaning, Request, ToWord, Version,
-    WRITTEN,
+    Calendar, FIRST_DAY, Fact, FromWord, LAST_DAY, Meaning, Request, ToWord, Version, WRITTEN,
 };
 
 /// Nesting: at a greater depth, with narrower arguments, each expression's value lies within its value here, and
@@ -160,16 +160,23 @@ pub fn names()
 {}
 
 /// What a version names and answers, the version that is written does too; and it has each word, kind, place and site.
-#[tactic(auto, using(crate::proofs::VersionTables::later_days, crate::proofs::VersionTables::later_dates, crate::proofs::VersionTables::all_words, crate::proofs::VersionTables::all_kinds, crate::proofs::VersionTables::all_places, crate::proofs::VersionTables::all_sites))]
+#[tactic(auto, using(crate::proofs::VersionTables::all_words, crate::proofs::VersionTables::all_kinds, crate::proofs::VersionTables::all_places, crate::proofs::VersionTables::all_sites))]
 pub fn later_versions()
     ensures words { (r : Request) → IsTrue (has_words WRITTEN r) }
     ensures kinds { (k : Kind) → kind_in WRITTEN (kind_name k) ≡ Some k }
     ensures places { (p : Place) → place_in WRITTEN (place_name p) ≡ Some p }
     ensures sites { (s : Site) → site_in WRITTEN (site_name s) ≡ Some s }
-    ensures days { (version : Version) (day : ℤ) → IsTrue (is_in_range version day)
-        → IsTrue (is_in_range WRITTEN day) }
-    ensures dates { (version : Version) (c : Calendar) (f : Fields)
-        → IsTrue (is_answered version c f) → IsTrue (is_answered WRITTEN c f) }
+    ensures days { (version : Version) (from : FromWord) (to : ToWord) (day : ℤ)
+        → IsTrue (is_reached version from to day) → IsTrue (is_reached WRITTEN from to day) }
+    ensures dates { (version : Version) (r : Request)
+        → IsTrue (is_in_reach version r) → IsTrue (is_in_reach WRITTEN r) }
+{}
+
+/// A line with words that the first version has may name each day of its version.
+#[tactic(auto, using(crate::proofs::VersionTables::first_reach))]
+pub fn first_words()
+    ensures { (version : Version) (r : Request) → IsTrue (has_words Version.One r)
+        → reach_of version r.from r.to ≡ days_in version }
 {}
 
 /// The first line of a version's files leads back to the version.

@@ -15,6 +15,10 @@ pub const CAIRO: Location = Location { latitude: Frac { num: 301, den: 10 }, lon
 #[rattlefmt::skip]
 pub const UJJAIN: Location = Location { latitude: Frac { num: 1389, den: 60 }, longitude: Frac { num: 272_766, den: 3600 }, height: 0 };
 
+/// Haifa, from which the crescent of the Hebrew months is looked for (chapter 18 there).
+#[rattlefmt::skip]
+pub const HAIFA: Location = Location { latitude: Frac { num: 3282, den: 100 }, longitude: Frac { num: 35, den: 1 }, height: 0 };
+
 /// A quarter of a day, and three quarters: apparent time at 6 and 18 hours, to which dawn and dusk come near.
 pub const QUARTER: Frac = Frac { num: 1, den: 4 };
 
@@ -34,6 +38,12 @@ pub const HALF_SUN: Frac = Frac { num: 16, den: 60 };
 
 /// The radius of the earth, in metres.
 pub const EARTH_RADIUS: u32 = 6_372_000;
+
+/// The radius of the earth at the equator, in kilometres, by which the moon's parallax is taken.
+pub const EQUATOR_RADIUS: Frac = Frac {
+    num: 637_814,
+    den: 100,
+};
 
 /// The minutes of a day.
 pub const MINUTES_OF_DAY: Frac = Frac { num: 1440, den: 1 };

@@ -53,6 +53,9 @@ pub const LATITUDE_ARGUMENT: Quartic = Quartic {
     fourth: Frac { num: 1, den: 863_310_000 },
 };
 
+/// The mean distance of the moon, in metres.
+pub const MEAN_DISTANCE: i64 = 385_000_560;
+
 /// What the eccentricity of the earth's orbit makes of a term of the sun's anomaly, as time goes on.
 #[rattlefmt::skip]
 pub const ECCENTRICITY_FACTOR: Quadratic = Quadratic {

@@ -7,6 +7,8 @@ pub enum Side {
     UpTo(i64),
     /// Those past it.
     Past(i64),
+    /// It and those past it.
+    From(i64),
 }
 
 /// A season: the longitude of the sun, in degrees, at which it begins, and the side on which the sun stands from then on, in a

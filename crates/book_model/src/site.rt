@@ -28,11 +28,12 @@ pub enum Site {
     Round,
     Crescent,
     Sidereal,
+    Rise,
 }
 
 /// Each site with its printed name, and the first version of printed files that has it, in the order of the variants.
 #[rattlefmt::skip]
-pub static SITES: [(Site, &str, Version); 21] = [
+pub static SITES: [(Site, &str, Version); 22] = [
     (Site::Year, "year", Version::One),
     (Site::Zone, "zone", Version::One),
     (Site::SunWrap, "sun-wrap", Version::One),
@@ -54,6 +55,7 @@ pub static SITES: [(Site, &str, Version); 21] = [
     (Site::Round, "round", Version::One),
     (Site::Crescent, "crescent", Version::One),
     (Site::Sidereal, "sidereal", Version::One),
+    (Site::Rise, "rise", Version::Two),
 ];
 
 impl Site {

@@ -88,6 +88,11 @@ pub const DEGREE_IN_DAYS: Frac = Frac { num: 1, den: 360 };
 #[rattlefmt::skip]
 pub const PERSIAN_NOON_LONGITUDE: Frac = Frac { num: 5142, den: 100 };
 
+/// The longitude of Paris, in degrees east of Greenwich, 2° 20′ 15″: its apparent midnight begins the days of the French calendar
+/// (Reingold and Dershowitz, Calendrical Calculations, chapter 17).
+#[rattlefmt::skip]
+pub const PARIS_LONGITUDE: Frac = Frac { num: 8415, den: 3600 };
+
 /// The time in which the sun moves on by a degree, in days: a 360th of the tropical year.
 pub const DEGREE_OF_YEAR: Frac = Frac {
     num: TROPICAL_YEAR.num,

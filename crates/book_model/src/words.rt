@@ -6,8 +6,8 @@ use crate::names::{first_row_named, name_at};
 use crate::{Calendar, Kind, Place, Version};
 
 /// A word for what a line's date names: the day of a Gregorian date, of a day number of the book (R.D.), of a Persian, a Bahá'í, a
-/// Chinese, a Vietnamese, a Korean, a Japanese, an Islamic, a Hindu solar or a Hindu lunar date, the day of the next minor or major
-/// solar term, or the day on which the moon was last new, at its first quarter, full or at its last quarter.
+/// Chinese, a Vietnamese, a Korean, a Japanese, an Islamic, a Hindu solar, a Hindu lunar, a French or an observed Hebrew date, the
+/// day of the next minor or major solar term, or the day on which the moon was last new, at its first quarter, full or at its last quarter.
 #[derive(Clone, Copy, Debug, PartialEq, Eq)]
 pub enum FromWord {
     Gregorian,
@@ -21,6 +21,8 @@ pub enum FromWord {
     Islamic,
     HinduSolar,
     HinduLunar,
+    French,
+    HebrewObserved,
     MinorTerm,
     MajorTerm,
     NewMoon,
@@ -30,8 +32,9 @@ pub enum FromWord {
 }
 
 /// A word for what a line asks: the Gregorian date, the day number (R.D.), the Persian, the Bahá'í, the Chinese, the Vietnamese, the
-/// Korean, the Japanese, the Islamic, the Hindu solar or the Hindu lunar date, the dynamical time correction, the longitude of the
-/// sun, or sunset at Tehran, Cairo or Ujjain.
+/// Korean, the Japanese, the Islamic, the Hindu solar, the Hindu lunar, the French or the observed Hebrew date, the dynamical time
+/// correction, the longitude of the sun, sunset at Tehran, Cairo or Ujjain, the distance of the moon, or moonrise or moonset at one of
+/// these places.
 #[derive(Clone, Copy, Debug, PartialEq, Eq)]
 pub enum ToWord {
     Gregorian,
@@ -45,11 +48,20 @@ pub enum ToWord {
     Islamic,
     HinduSolar,
     HinduLunar,
+    French,
+    HebrewObserved,
     Dt,
     Sun,
     SunsetTehran,
     SunsetCairo,
     SunsetUjjain,
+    Distance,
+    MoonriseTehran,
+    MoonriseCairo,
+    MoonriseUjjain,
+    MoonsetTehran,
+    MoonsetCairo,
+    MoonsetUjjain,
 }
 
 /// What a word is about: a date in a calendar, or the value of the fact of this kind at this place. A word before a date names the
@@ -63,7 +75,7 @@ pub enum Meaning {
 /// The words that stand before a date, in the order of their values, with what they name by the date, and the first version of
 /// printed files that has them.
 #[rattlefmt::skip]
-pub static FROM_WORDS: [(FromWord, &str, (Meaning, Version)); 17] = [
+pub static FROM_WORDS: [(FromWord, &str, (Meaning, Version)); 19] = [
     (FromWord::Gregorian, "gregorian", (Meaning::Date(Calendar::Gregorian), Version::One)),
     (FromWord::Fixed, "fixed", (Meaning::Date(Calendar::Fixed), Version::One)),
     (FromWord::Persian, "persian", (Meaning::Date(Calendar::Persian), Version::One)),
@@ -75,6 +87,8 @@ pub static FROM_WORDS: [(FromWord, &str, (Meaning, Version)); 17] = [
     (FromWord::Islamic, "islamic", (Meaning::Date(Calendar::Islamic), Version::One)),
     (FromWord::HinduSolar, "hindu-solar", (Meaning::Date(Calendar::HinduSolar), Version::One)),
     (FromWord::HinduLunar, "hindu-lunar", (Meaning::Date(Calendar::HinduLunar), Version::One)),
+    (FromWord::French, "french", (Meaning::Date(Calendar::French), Version::Two)),
+    (FromWord::HebrewObserved, "hebrew-observed", (Meaning::Date(Calendar::HebrewObserved), Version::Two)),
     (FromWord::MinorTerm, "minor-term", (Meaning::Value(Kind::MinorTerm, Place::Beijing), Version::One)),
     (FromWord::MajorTerm, "major-term", (Meaning::Value(Kind::MajorTerm, Place::Beijing), Version::One)),
     (FromWord::NewMoon, "new-moon", (Meaning::Value(Kind::NewMoon, Place::None), Version::One)),
@@ -86,7 +100,7 @@ pub static FROM_WORDS: [(FromWord, &str, (Meaning, Version)); 17] = [
 /// The words for what a line asks, in the order of their values, with what they show of a day, and the first version of printed
 /// files that has them.
 #[rattlefmt::skip]
-pub static TO_WORDS: [(ToWord, &str, (Meaning, Version)); 16] = [
+pub static TO_WORDS: [(ToWord, &str, (Meaning, Version)); 25] = [
     (ToWord::Gregorian, "gregorian", (Meaning::Date(Calendar::Gregorian), Version::One)),
     (ToWord::Fixed, "fixed", (Meaning::Date(Calendar::Fixed), Version::One)),
     (ToWord::Persian, "persian", (Meaning::Date(Calendar::Persian), Version::One)),
@@ -98,11 +112,20 @@ pub static TO_WORDS: [(ToWord, &str, (Meaning, Version)); 16] = [
     (ToWord::Islamic, "islamic", (Meaning::Date(Calendar::Islamic), Version::One)),
     (ToWord::HinduSolar, "hindu-solar", (Meaning::Date(Calendar::HinduSolar), Version::One)),
     (ToWord::HinduLunar, "hindu-lunar", (Meaning::Date(Calendar::HinduLunar), Version::One)),
+    (ToWord::French, "french", (Meaning::Date(Calendar::French), Version::Two)),
+    (ToWord::HebrewObserved, "hebrew-observed", (Meaning::Date(Calendar::HebrewObserved), Version::Two)),
     (ToWord::Dt, "dt", (Meaning::Value(Kind::Dt, Place::None), Version::One)),
     (ToWord::Sun, "sun", (Meaning::Value(Kind::Sun, Place::None), Version::One)),
     (ToWord::SunsetTehran, "sunset-tehran", (Meaning::Value(Kind::Sunset, Place::Tehran), Version::One)),
     (ToWord::SunsetCairo, "sunset-cairo", (Meaning::Value(Kind::Sunset, Place::Cairo), Version::One)),
     (ToWord::SunsetUjjain, "sunset-ujjain", (Meaning::Value(Kind::Sunset, Place::Ujjain), Version::One)),
+    (ToWord::Distance, "distance", (Meaning::Value(Kind::Distance, Place::None), Version::Two)),
+    (ToWord::MoonriseTehran, "moonrise-tehran", (Meaning::Value(Kind::Moonrise, Place::Tehran), Version::Two)),
+    (ToWord::MoonriseCairo, "moonrise-cairo", (Meaning::Value(Kind::Moonrise, Place::Cairo), Version::Two)),
+    (ToWord::MoonriseUjjain, "moonrise-ujjain", (Meaning::Value(Kind::Moonrise, Place::Ujjain), Version::Two)),
+    (ToWord::MoonsetTehran, "moonset-tehran", (Meaning::Value(Kind::Moonset, Place::Tehran), Version::Two)),
+    (ToWord::MoonsetCairo, "moonset-cairo", (Meaning::Value(Kind::Moonset, Place::Cairo), Version::Two)),
+    (ToWord::MoonsetUjjain, "moonset-ujjain", (Meaning::Value(Kind::Moonset, Place::Ujjain), Version::Two)),
 ];
 
 impl FromWord {

@@ -185,10 +185,10 @@ excluded c d l e = by_test (lt_z (pos 0) c.num) refl e
     by_test true p e = let h : IsPositive c = record { above = omega (arith, ints) } in inl (h, positive_above c d h l)
     by_test false p e = let h : IsNegative d = record { under = omega (arith, ints) } in inr (negative_below c d h l, h)
 
-positive_excludes : (c d : Fraction) → IsPositive c → excludes_zero c d ≡ true
+pub positive_excludes : (c d : Fraction) → IsPositive c → excludes_zero c d ≡ true
 positive_excludes c d h = let e : true ≡ lt_z (pos 0) c.num = omega (arith, ints) in rw (← e)
 
-negative_excludes : (c d : Fraction) → IsNegative d → excludes_zero c d ≡ true
+pub negative_excludes : (c d : Fraction) → IsNegative d → excludes_zero c d ≡ true
 negative_excludes c d h = by_test (lt_z (pos 0) c.num)
   where
     by_test : (t : Bool) → cond t true (lt_z d.num (pos 0)) ≡ true

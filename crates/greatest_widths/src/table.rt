@@ -28,6 +28,10 @@ pub const MOON: WidthRow = WidthRow { numerator: 20, denominator: 1, slack: 68_7
 #[rattlefmt::skip]
 pub const LATITUDE: WidthRow = WidthRow { numerator: 4, denominator: 1, slack: 68_719_476_736 };
 
+/// The distance of the moon, in kilometres, by the width of the moment: 16384 times that, and 2⁻²².
+#[rattlefmt::skip]
+pub const DISTANCE: WidthRow = WidthRow { numerator: 16_384, denominator: 1, slack: 4_398_046_511_104 };
+
 /// The moment of a new moon by its number: 2⁻³⁴.
 #[rattlefmt::skip]
 pub const NEW_MOON: WidthRow = WidthRow { numerator: 0, denominator: 1, slack: 1_073_741_824 };

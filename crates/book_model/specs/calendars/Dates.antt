@@ -16,6 +16,8 @@ use Rattle.book_model.specs.declared.version.Version.{Version}
 use Rattle.book_model.specs.calendars.Bahai.{bahai_on, bahai_day}
 use Rattle.book_model.specs.calendars.Gregorian.{is_date, fixed_of, year_of_day, month_of_day, day_of_month}
 use Rattle.book_model.specs.calendars.Chinese.{chinese_on, chinese_day}
+use Rattle.book_model.specs.calendars.French.{french_on, french_day}
+use Rattle.book_model.specs.calendars.HebrewObserved.{hebrew_on, hebrew_day}
 use Rattle.book_model.specs.sky.Correction.{is_between}
 use Rattle.book_model.specs.calendars.Inquiries.{Inquiry, done, field_at, to_32_bits}
 use Rattle.book_model.specs.calendars.HinduLunar.{hindu_lunar_on, hindu_lunar_day}
@@ -23,7 +25,7 @@ use Rattle.book_model.specs.calendars.HinduSolar.{hindu_solar_on, hindu_solar_da
 use Rattle.book_model.specs.calendars.Islamic.{islamic_on, islamic_day}
 use Rattle.book_model.specs.calendars.Moving.{at_place}
 use Rattle.book_model.specs.calendars.Persian.{persian_on, persian_day}
-use Rattle.book_model.specs.calendars.Versions.{range_in, is_in_some, is_in_range}
+use Rattle.book_model.specs.calendars.Versions.{range_in, is_in_some}
 
 abbrev pub no_row : CalendarRow
 no_row = record {
@@ -99,15 +101,15 @@ gregorian_day f = fixed_of (field f 0) (field f 1) (field f 2)
 abbrev pub fixed_day : Fields → ℤ
 fixed_day f = pos (field f 0)
 
--- a day that is known without any fact is one that a line of a version may name
-abbrev pub has_day_in_range : Version → Calendar → Fields → Bool
-has_day_in_range version Gregorian f = is_in_range version (gregorian_day f)
-has_day_in_range version Fixed f = is_in_range version (fixed_day f)
-has_day_in_range version c f = true
+-- a day that is known without any fact lies in the reach of a line, from its first to its last day
+abbrev pub has_day_in_reach : ℤ × ℤ → Calendar → Fields → Bool
+has_day_in_reach reach Gregorian f = is_between reach.0 reach.1 (gregorian_day f)
+has_day_in_reach reach Fixed f = is_between reach.0 reach.1 (fixed_day f)
+has_day_in_reach reach c f = true
 
--- the dates that a version answers, as far as that can be told without any fact
-unfoldable pub is_answered : Version → Calendar → Fields → Bool
-is_answered version c f = has_year version (row_of c) f && has_day_in_range version c f
+-- the dates that a line of a version answers, as far as that can be told without any fact
+unfoldable pub is_answered : Version → ℤ × ℤ → Calendar → Fields → Bool
+is_answered version reach c f = has_year version (row_of c) f && has_day_in_reach reach c f
 
 -- one number as the only field of a date or of a result
 abbrev pub one_field : ℤ → Fields
@@ -134,6 +136,8 @@ day_named calendars.Japanese f = at_place Tokyo (chinese_day (pos (field f 0)) (
 day_named calendars.Islamic f = islamic_day (pos (field f 0)) (pos (field f 1)) (pos (field f 2))
 day_named calendars.HinduSolar f = hindu_solar_day (pos (field f 0)) (pos (field f 1)) (pos (field f 2))
 day_named calendars.HinduLunar f = hindu_lunar_day (pos (field f 0)) (pos (field f 1)) (pos (field f 2)) (pos (field f 3)) (pos (field f 4))
+day_named calendars.French f = french_day (pos (field f 0)) (pos (field f 1)) (pos (field f 2))
+day_named calendars.HebrewObserved f = hebrew_day (pos (field f 0)) (pos (field f 1)) (pos (field f 2))
 
 -- the date of a day (R.D.)
 abbrev pub date_on : Calendar → ℤ → Inquiry Fields
@@ -148,3 +152,5 @@ date_on calendars.Japanese day = at_place Tokyo (chinese_on day)
 date_on calendars.Islamic day = islamic_on day
 date_on calendars.HinduSolar day = hindu_solar_on day
 date_on calendars.HinduLunar day = hindu_lunar_on day
+date_on calendars.French day = french_on day
+date_on calendars.HebrewObserved day = hebrew_on day

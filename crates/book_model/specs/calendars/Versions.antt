@@ -25,17 +25,13 @@ is_in_some [] z = false
 is_in_some (range ∷ []) z = is_between range.0 range.1 z
 is_in_some (range ∷ other ∷ ranges) z = is_between range.0 range.1 z || is_in_some (other ∷ ranges) z
 
--- the days that lines of each version may name
+-- the days of each version, of which its lines may name those that their calendars tell the dates of
 abbrev pub line_days : List (ℤ × ℤ)
 line_days = map (λ row. row.days) VERSIONS
 
--- the first and the last day that a line of a version may name
+-- the first and the last day of a version
 abbrev pub days_in : Version → ℤ × ℤ
 days_in version = range_in version line_days
-
--- the days that a line of a version may name
-abbrev pub is_in_range : Version → ℤ → Bool
-is_in_range version day = is_between (days_in version).0 (days_in version).1 day
 
 -- the first and the last day of which a fact had a value when a version was the last one
 abbrev pub fact_days_in : Version → ℤ × ℤ
@@ -63,10 +59,6 @@ place_in version word = had_in version place_since (place_named word)
 
 abbrev pub site_in : Version → List ℕ → Option Site
 site_in version word = had_in version site_since (site_named word)
-
--- the days that a line of some version may name
-abbrev pub is_in_some_range : ℤ → Bool
-is_in_some_range day = is_in_some line_days day
 
 -- a year of which there is an almanac
 abbrev pub IsAlmanacYear : ℕ → Type 0

@@ -13,7 +13,7 @@ use Rattle.book_model.specs.declared.request.Resolved.TheVariants.{Shown, TooFar
 use Rattle.book_model.specs.declared.version.Version.{Version}
 use Rattle.book_model.specs.calendars.Dates.{row_of, one_field, are_same_fields, gregorian_day, day_named, date_on}
 use Rattle.book_model.specs.calendars.Inquiries.{Inquiry, done, ask, ask_once, and_then}
-use Rattle.book_model.specs.calendars.Versions.{is_in_range}
+use Rattle.book_model.specs.lines.Reach.{is_reached}
 use Rattle.book_model.specs.lines.Words.{named_by, calendar_of, shown_by}
 
 -- the fact of a kind and a place on a day
@@ -39,7 +39,7 @@ result_within r day = if (row_of (calendar_of r.from)).is_confirmed then and_the
 
 -- what a day comes to that a date names, in lines of a version
 unfoldable pub result_of_day : Version → Request → ℤ → Inquiry Resolved
-result_of_day version r day = if is_in_range version day then result_within r day else done (TooFar day)
+result_of_day version r day = if is_reached version r.from r.to day then result_within r day else done (TooFar day)
 
 -- the day (R.D.) that a date names, by what a word names: in a calendar, or by the fact of its Gregorian day
 abbrev pub day_by : Meaning → Fields → Inquiry ℤ

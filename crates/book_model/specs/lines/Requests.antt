@@ -1,5 +1,5 @@
 -- What a line asks, and the first rule that it breaks.
-use Rattle.std.specs.Prelude.{◌≡◌, ℕ, ◌&&◌, nat_le, nat_lt, if◌then◌else◌, Bool, true, List, [], ◌∷◌, length, slice_index_or, pos, Some, None, Option, Result, Ok, Err}
+use Rattle.std.specs.Prelude.{◌≡◌, ℕ, ◌&&◌, nat_le, nat_lt, if◌then◌else◌, Bool, true, List, [], ◌∷◌, length, slice_index_or, pos, ℤ, Some, None, Option, Result, Ok, Err}
 use Rattle.std.specs.List.{list_all}
 use Rattle.book_model.specs.declared.calendar.Calendar.{Calendar}
 use Rattle.book_model.specs.declared.words.FromWord.{FromWord}
@@ -13,6 +13,7 @@ use Rattle.book_model.specs.declared.version.Version.{Version}
 use Rattle.book_model.specs.calendars.Dates.{row_of, may_have, is_answered}
 use Rattle.book_model.specs.lines.Lines.{is_plain, words_of, parts_of, number_of}
 use Rattle.book_model.specs.calendars.Versions.{has_since}
+use Rattle.book_model.specs.lines.Reach.{reach_of}
 use Rattle.book_model.specs.lines.Words.{from_since, to_since, from_word_in, to_word_in, calendar_of}
 
 -- the number of a rule
@@ -75,12 +76,16 @@ is_possible r = may_have (calendar_of r.from) r.date
 
 -- the date of a request is one that a version answers, as far as that can be told without any fact
 abbrev pub is_in_reach : Version → Request → Bool
-is_in_reach version r = is_answered version (calendar_of r.from) r.date
+is_in_reach version r = is_answered version (reach_of version r.from r.to) (calendar_of r.from) r.date
 
--- the date of a calendar, where it is one that a version answers
-abbrev pub ranged : Version → Calendar → Option Fields → Result Fields Rule
-ranged version c None = Err Field
-ranged version c (Some f) = if is_answered version c f then Ok f else Err Range
+-- the date of a calendar, where it is one that a line of a version answers, which may name these days
+abbrev pub ranged : Version → ℤ × ℤ → Calendar → Option Fields → Result Fields Rule
+ranged version reach c None = Err Field
+ranged version reach c (Some f) = if is_answered version reach c f then Ok f else Err Range
+
+-- the date of a line with these words, where it is one that the line answers
+abbrev pub ranged_by : Version → FromWord → ToWord → Option Fields → Result Fields Rule
+ranged_by version from to date = ranged version (reach_of version from to) (calendar_of from) date
 
 -- the request for a date
 abbrev pub with_date : FromWord → ToWord → Result Fields Rule → Result Request Rule
@@ -94,12 +99,12 @@ has_words version r = has_since version (from_since r.from) && has_since version
 -- the request itself, where a version has its words, its calendar may have its date, and the version answers it
 abbrev pub checked_request : Version → Request → Result Request Rule
 checked_request version r =
-    if has_words version r then with_date r.from r.to (ranged version (calendar_of r.from) (checked (calendar_of r.from) r.date)) else Err rules.Calendar
+    if has_words version r then with_date r.from r.to (ranged_by version r.from r.to (checked (calendar_of r.from) r.date)) else Err rules.Calendar
 
 abbrev pub with_words : Version → Option FromWord → List ℕ → Option ToWord → Result Request Rule
 with_words version None date to = Err rules.Calendar
 with_words version (Some from) date None = Err rules.Calendar
-with_words version (Some from) date (Some to) = with_date from to (ranged version (calendar_of from) (fields_of (calendar_of from) date))
+with_words version (Some from) date (Some to) = with_date from to (ranged_by version from to (fields_of (calendar_of from) date))
 
 -- the request of three words, by a version's rules
 abbrev pub asked_by : Version → List (List ℕ) → Result Request Rule

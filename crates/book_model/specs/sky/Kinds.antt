@@ -1,12 +1,12 @@
 -- The formulas of the kinds of facts, each for a day (R.D.).
 use Rattle.std.specs.Prelude.{ℤ, pos, ◌+ℤ◌, ◌-ℤ◌, ◌*ℤ◌, Bool, not, Option, Some, None}
 use Rattle.book_model.specs.declared.site.Site.TheVariants.{Year, Round, StartFloor, DayFloor, DayTest, TermFloor}
-use Rattle.book_model.specs.declared.calendar_tables.TheConstants.{SPRING, WINTER}
+use Rattle.book_model.specs.declared.calendar_tables.TheConstants.{AUTUMN, SPRING, WINTER}
 use Rattle.book_model.specs.declared.fact.Place.{Place}
 use Rattle.book_model.specs.declared.horizon.Location.{Location}
 use Rattle.book_model.specs.declared.season.Season.{Season}
 use Rattle.book_model.specs.declared.season.Side.{Side}
-use Rattle.book_model.specs.declared.season.Side.TheVariants.{UpTo, Past}
+use Rattle.book_model.specs.declared.season.Side.TheVariants.{UpTo, Past, From}
 use Rattle.book_model.specs.declared.location_tables.TheConstants.{TEHRAN, MINUTES_OF_DAY}
 use Rattle.book_model.specs.declared.sun_tables.TheConstants.{DEGREE_IN_TERMS}
 use Rattle.book_model.specs.declared.tables.TheConstants.{MILLISECONDS_OF_DAY, THOUSANDTHS_OF_DEGREE}
@@ -15,7 +15,7 @@ use Rattle.book_model.specs.sky.Correction.{year_of, rounded_of}
 use Rattle.book_model.specs.numbers.Expressions.{Expression, integer, constant, add, subtract, scale}
 use Rattle.book_model.specs.numbers.Fractions.{fraction_of}
 use Rattle.book_model.specs.sky.Horizon.{sunset_of}
-use Rattle.book_model.specs.sky.Noon.{noon_of}
+use Rattle.book_model.specs.sky.Noon.{noon_of, paris_midnight_of}
 use Rattle.book_model.specs.programs.Programs.{Program, answer, void, cell, compare, bind, integers}
 use Rattle.book_model.specs.programs.Searches.{first_day_from}
 use Rattle.book_model.specs.calendars.Spans.{amod, modulo}
@@ -45,6 +45,7 @@ longitude_at_of moment d = bind (moment d) sun_of
 unfoldable pub is_on_side_of : Side → Expression → Program Bool
 is_on_side_of (UpTo l) s = compare DayTest (integer l) s λ more. answer (not more)
 is_on_side_of (Past l) s = compare DayTest (integer l) s answer
+is_on_side_of (From l) s = compare DayTest s (integer l) λ less. answer (not less)
 
 -- whether the sun stands on a side at a moment of a day
 unfoldable pub has_side_at : (ℤ → Program Expression) → Side → ℤ → Program Bool
@@ -81,6 +82,10 @@ midnight_after_of place d = answer (midnight_of place (d +ℤ pos 1))
 -- the day of the last winter solstice at a place before a day ends there
 abbrev pub solstice_of : Place → ℤ → Program ℤ
 solstice_of place d = season_day_of (midnight_after_of place) WINTER d
+
+-- the first day of the French year in which a day falls: by apparent midnight at Paris at the end of a day
+abbrev pub french_year_of : ℤ → Program ℤ
+french_year_of d = season_day_of paris_midnight_of AUTUMN d
 
 -- ---- sunset
 -- a formula at the location of a place; where the place has none, it has no value

@@ -1,8 +1,9 @@
--- The equation of time, apparent time, and true noon at Tehran. Angles are in degrees, moments and spans in days; c is in
--- centuries. Reingold and Dershowitz, Calendrical Calculations, chapter 14; the place of noon is that of chapter 15.
+-- The equation of time, apparent time, true noon at Tehran and apparent midnight at Paris. Angles are in degrees, moments and spans in
+-- days; c is in centuries. Reingold and Dershowitz, Calendrical Calculations, chapter 14; the place of noon is that of chapter 15, the
+-- place of midnight that of chapter 17.
 use Rattle.std.specs.Prelude.{◌≡◌, ℤ, pos, ◌+ℤ◌, ◌-ℤ◌, ◌≤ℤ◌, Some}
 use Rattle.exact_math.specs.Fraction.{Fraction}
-use Rattle.book_model.specs.declared.sun_tables.TheConstants.{DEGREE_IN_DAYS, ECCENTRICITY, FIVE_QUARTERS, FOUR, MEAN_SUN, MINUS_HALF, OBLIQUITY, PERSIAN_NOON_LONGITUDE, SOLAR_ANOMALY, TWO}
+use Rattle.book_model.specs.declared.sun_tables.TheConstants.{DEGREE_IN_DAYS, ECCENTRICITY, FIVE_QUARTERS, FOUR, MEAN_SUN, MINUS_HALF, OBLIQUITY, PARIS_LONGITUDE, PERSIAN_NOON_LONGITUDE, SOLAR_ANOMALY, TWO}
 use Rattle.book_model.specs.declared.tables.TheConstants.{HALF}
 use Rattle.book_model.specs.numbers.Expressions.{Expression, World, value, integer, constant, add, subtract, multiply, divide, scale, power, minimum, maximum, pi, sine, cosine, tangent}
 use Rattle.book_model.specs.numbers.Fractions.{fraction_of}
@@ -65,6 +66,12 @@ unfoldable pub noon_of : ℤ → Program Expression
 noon_of d =
     bind (from_apparent_of (fraction_of PERSIAN_NOON_LONGITUDE) (add (integer d) (constant (fraction_of HALF)))) λ x.
     answer (subtract x (ahead_of (fraction_of PERSIAN_NOON_LONGITUDE)))
+
+-- midnight at the end of a day by apparent time at Paris, in universal time
+unfoldable pub paris_midnight_of : ℤ → Program Expression
+paris_midnight_of d =
+    bind (from_apparent_of (fraction_of PARIS_LONGITUDE) (integer (d +ℤ pos 1))) λ x.
+    answer (subtract x (ahead_of (fraction_of PARIS_LONGITUDE)))
 
 -- the day q lies at most 600 days before the day d and at most 2 after it
 pub record IsStart (d q : ℤ) : Type 0 where
