@@ -1,5 +1,5 @@
 -- How wide the moment of an evening is at the scale 2^-56, and what the criterion is taken of at that moment.
-use Rattle.std.specs.Prelude.{◌≡◌, ℕ, ◌+◌, ◌*◌, ◌/◌, ◌^◌, ◌≤◌, Bool, true, false, ℤ, pos, neg_ℤ, ◌*ℤ◌, ◌≤ℤ◌, ◌&&◌, Result, Ok, Err, refl, if◌then◌else◌, ◌==◌}
+use Rattle.std.specs.Prelude.{◌≡◌, ℕ, ◌+◌, ◌*◌, ◌/◌, ◌^◌, ◌≤◌, Bool, true, false, ℤ, pos, neg_ℤ, ◌*ℤ◌, ◌≤ℤ◌, ◌&&◌, refl, if◌then◌else◌, ◌==◌}
 use Rattle.std.proofs.Common.{arith}
 use Rattle.std.proofs.lemmas.Int.{ints, clamps}
 use Rattle.std.proofs.lemmas.Float.{T_from_true}
@@ -9,7 +9,6 @@ use Rattle.exact_math.specs.Fraction.{floor_quotient}
 use Rattle.exact_math.specs.Interval.{Interval}
 use Rattle.exact_math.proofs.Floors.{floor_quotient_is}
 use Rattle.book_model.specs.declared.crescent_tables.TheConstants.{CRESCENT_DEPRESSION}
-use Rattle.book_model.specs.declared.fail.Fail.{Fail}
 use Rattle.book_model.specs.declared.frac.Frac.{Frac}
 use Rattle.book_model.specs.declared.sun_tables.TheConstants.{DEGREE_IN_DAYS}
 use Rattle.book_model.specs.numbers.Bounds.{Bound, unbounded, bounded, Reach, limited, implies, bound_of, limits_at, limits_of, constant_bound, scaled_bound, sum_bound, ceil_quotient}
@@ -17,12 +16,12 @@ use Rattle.book_model.specs.numbers.Expressions.{Expression, argument, constant,
 use Rattle.book_model.specs.numbers.Fractions.{fraction_of}
 use Rattle.book_model.specs.numbers.Ranges.{IsInTable}
 use Rattle.book_model.specs.numbers.Relations.{Narrow}
-use Rattle.book_model.specs.programs.Widths.{IsAbout, IsUpTo, Measures}
+use Rattle.book_model.specs.programs.Widths.{IsAbout, IsUpTo}
 use Rattle.book_model.specs.sky.Noon.{ahead_of}
 use Rattle.greatest_widths.proofs.Measuring.{measured, sloped, looser, drawn}
-use Rattle.sun_core.specs.Widths.{IsNarrowPlace, IsObliquity}
+use Rattle.sun_core.specs.Widths.{IsNarrowPlace}
 use Rattle.rise_set.specs.Widths.{IsDepression}
-use Rattle.rise_set.specs.Altitudes.{IsMoonAngle, IsMoonLatitude, IsTilt, IsLocalSiderealTime}
+use Rattle.rise_set.specs.Altitudes.{IsMoonAngle, IsMoonLatitude, IsLocalSiderealTime}
 use Rattle.crescent.specs.Widths.{IsEvening, IsDatedEvening, IsSiderealTime}
 use Rattle.book_model.specs.declared.time_tables.TheConstants.{TABLE_START, TABLE_END}
 
@@ -52,12 +51,6 @@ north_within i h = looser _ _ _ _ (4 * (9 * 2 ^ 29) + 2 ^ 36) (2 ^ 37) i (omega 
 
 pub greenwich_within : (i : Interval) → IsAbout (2 ^ 61) (362 * (9 * 2 ^ 29) + 2 ^ 37) i → IsSiderealTime i
 greenwich_within i h = looser _ _ _ _ (362 * (9 * 2 ^ 29) + 2 ^ 37) (2 ^ 41) i (omega (arith, ints)) (omega (arith, ints)) (omega arith) h
-
-pub tilt_measures : {E : Type 0} (shown : E → Interval) (r : Result E Fail) → Measures (λ o. IsObliquity ((9 * 2 ^ 29) / 36525 + 2 ^ 12) (shown o)) r
-    → Measures (λ o. IsTilt (shown o)) r
-tilt_measures shown (Ok o) h = looser _ _ _ _ (((9 * 2 ^ 29) / 36525 + 2 ^ 12) / 64 + 2 ^ 12) (2 ^ 13) (shown o) (omega (arith, ints)) (omega (arith, ints))
-    (omega arith) h
-tilt_measures shown (Err f) h = h
 
 -- ---- a longitude of the ground: it lies within a turn of 0 where its part of a day lies within a day
 parts : (p q r s : Bool) → (p && q && r && s) ≡ true → (p ≡ true) × (q ≡ true)

@@ -3,4 +3,8 @@ use Rattle.std.specs.Prelude.{ℤ, pos, ◌+ℤ◌, ◌-ℤ◌, ◌≤ℤ◌}
 use Rattle.book_model.specs.declared.time_tables.TheConstants.{TABLE_START, TABLE_END}
 
 abbrev pub IsSightDay : ℤ → Type 0
-IsSightDay day = ((TABLE_START -ℤ pos 69) ≤ℤ day) × (day ≤ℤ (TABLE_END +ℤ pos 12))
+IsSightDay day = ((TABLE_START -ℤ pos 69) ≤ℤ day) × (day ≤ℤ (TABLE_END +ℤ pos 41))
+
+-- a day of the years of which there are corrections
+abbrev pub IsTableDay : ℤ → Type 0
+IsTableDay day = (TABLE_START ≤ℤ day) × (day ≤ℤ TABLE_END)

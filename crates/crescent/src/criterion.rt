@@ -1,8 +1,7 @@
 //! Shaukat's criterion: whether the crescent is seen on an evening.
-ghost use Rattle.book_model.specs.programs.Calls.{Decides, Decides1, Decides2, Decides3, Follows1};
-ghost use Rattle.std.specs.Prelude.{◌≡◌, ◌≤◌, ◌^◌, ◌≤ℤ◌, pos, IfOk, IfErr, ◌-ℤ◌};
-ghost use Rattle.book_model.specs.programs.Widths.{IsAbout, IsClose, Measured, Closes1};
-ghost use Rattle.book_model.specs.numbers.Ranges.{IsInTable};
+ghost use Rattle.book_model.specs.programs.Calls.{Decides, Decides1, Decides2, Decides3};
+ghost use Rattle.std.specs.Prelude.{◌≡◌, ◌≤◌, ◌^◌, ◌≤ℤ◌, pos, IfErr, ◌-ℤ◌};
+ghost use Rattle.book_model.specs.programs.Widths.{IsAbout, IsClose, Closes1};
 ghost use Rattle.rise_set.specs.Widths.{IsNarrowLocation};
 ghost use Rattle.rise_set.specs.Altitudes.{IsAltitudeSine, IsMoonAngle, IsMoonLatitude, IsTilt};
 ghost use Rattle.crescent.specs.Widths.{IsArcCosine, IsDatedEvening, IsEvening, IsSiderealTime};
@@ -20,9 +19,8 @@ use book_model::crescent_tables::{LEAST_ALTITUDE, LEAST_ARC_OF_LIGHT};
 use book_model::{Fail, Location, Site};
 use encl_core::{Enclosure, Trail, less_step};
 use moon_core::{latitude, moon, phase};
-use rise_set::altitude_sine;
-use sun_core::obliquity;
-use time_scales::{centuries, sidereal};
+use rise_set::{altitude_sine, obliquity_at};
+use time_scales::sidereal;
 use trig_series::{cos_deg, sin_deg};
 
 /// The phase of the moon at its first quarter, in degrees.
@@ -154,17 +152,6 @@ fn meets_with<E: Enclosure>(
     meets(
         location, phase, obliquity, longitude, north, greenwich, trail,
     )
-}
-
-/// The obliquity of the ecliptic at a moment of universal time.
-#[tactic(auto, using(book_model::proofs::Leads::leading), unfolding(book_model::specs::sky::Crescent::obliquity_at_of))]
-fn obliquity_at<E: Enclosure>(t: E, trail: &mut Trail) -> Result<E, Fail>
-    ensures leads { Follows1 E.shown spec.obliquity_at_of t trail.old.count trail.new.count result }
-    ensures in_table { IfOk result (λ o. IsInTable (E.shown t)) }
-    ensures measured { IsEvening (E.shown t) → Measured E.BITS E.shown IsTilt result }
-{
-    let c = centuries(t, trail)?;
-    obliquity(c, trail)
 }
 
 /// Whether the moon meets the criterion at a location and a moment of universal time: 19 tests at most (`meets_at_few`).

@@ -1,6 +1,7 @@
 //! The day with whose evening the crescent was first seen.
 ghost use Rattle.book_model.specs.programs.Calls.{Decides};
 ghost use Rattle.std.specs.Prelude.{◌≡◌, ◌≤◌, pos, ◌≤ℤ◌, ◌+ℤ◌, ◌-ℤ◌, int_le, IfOk, IfErr};
+ghost use Rattle.book_model.specs.sky.Nisan as nisan;
 ghost use Rattle.book_model.specs.sky.Crescent as spec;
 ghost use Rattle.book_model.specs.sky.Facts.{IsFactDay, IsFactValue, IsValueDay};
 ghost use Rattle.book_model.specs.programs.Searches.{first_day_from};
@@ -8,7 +9,7 @@ ghost use Rattle.book_model.specs.programs.Widths.{IsClose};
 ghost use Rattle.rise_set.specs.Widths.{IsNarrowLocation};
 ghost use Rattle.moon_core.specs.PhaseDays.{IsPhaseDay};
 ghost use Rattle.time_scales.specs.Steps.{IsNoEarlyYear};
-ghost use Rattle.crescent.specs.Sights.{IsSightDay};
+ghost use Rattle.crescent.specs.Sights.{IsSightDay, IsTableDay};
 ghost use Rattle.book_model.specs.declared.fact.TheConstants.{FIRST_FACT_DAY as first_fact_day};
 
 use crate::criterion::visible_on;
@@ -25,6 +26,12 @@ const UNSEEN_DAYS: i64 = 3;
 
 /// How far back the search begins then.
 const DAYS_BACK: i64 = 30;
+
+/// From how many days after its new moon on a crescent has been seen.
+const SEEN_DAYS: i64 = 4;
+
+/// How many days after a new moon the next crescent is sought from.
+const DAYS_ON: i64 = 29;
 
 /// The test of a day: whether the crescent is seen on the evening with which it begins.
 impl<E: Enclosure> DayTest<E> for Evenings<E> {
@@ -154,4 +161,98 @@ pub fn phasis<E: Enclosure>(location: &Location, day: i64, trail: &mut Trail) ->
 {
     let course = PhaseCourse::<E>::usual();
     phasis_by(&course, location, day, trail)
+}
+
+/// Whether a day (R.D.) is so late after a new moon that its crescent has been seen.
+fn is_late(day: i64, new_moon: i64) -> bool
+    requires day { IsTableDay day }
+    requires near { IsPhaseDay new_moon }
+    ensures late { result ≡ int_le (pos 4) (day -ℤ new_moon) }
+{
+    SEEN_DAYS <= day - new_moon
+}
+
+/// The day (R.D.) from which the first sight from a day on is sought, by whether the crescent of the last new moon is seen before.
+#[tactic(auto, unfolding(book_model::specs::sky::Nisan::sought_from))]
+fn sought_from(day: i64, new_moon: i64, is_seen: bool) -> i64
+    requires day { IsTableDay day }
+    requires near { IsPhaseDay new_moon }
+    ensures start { result ≡ nisan.sought_from day new_moon is_seen }
+    ensures near { IsSightDay result }
+{
+    if is_seen { new_moon + DAYS_ON } else { day }
+}
+
+/// The day (R.D.) on whose evening it is asked whether the crescent is seen before a day.
+fn day_before(day: i64) -> i64
+    requires day { IsTableDay day }
+    ensures day { result ≡ day -ℤ pos 1 }
+    ensures near { IsFactDay (result -ℤ pos 1) }
+{
+    day - 1
+}
+
+/// The same, where the crescent of the last new moon may be one that is seen from the day on: 151 tests at most.
+#[tactic(auto, using(book_model::proofs::Leads::leading), unfolding(book_model::specs::sky::Nisan::sought_start_of))]
+fn sought_start<E: Enclosure>(
+    evenings: &Evenings<E>,
+    day: i64,
+    new_moon: i64,
+    trail: &mut Trail,
+) -> Result<i64, Fail>
+    requires day { IsTableDay day }
+    requires near { IsPhaseDay new_moon }
+    ensures leads { Decides (nisan.sought_start_of evenings.now day new_moon) trail.old.count
+        trail.new.count result }
+    ensures near { IfOk result IsSightDay }
+    ensures close { E.BITS ≡ 56 → IsNarrowLocation evenings.now → IfErr result IsClose }
+{
+    if is_late(day, new_moon) {
+        return Ok(new_moon + DAYS_ON);
+    }
+    let is_seen = visible_on(evenings, day_before(day), trail)?;
+    Ok(sought_from(day, new_moon, is_seen))
+}
+
+/// The first day (R.D.) from a day on on whose evening before the crescent is seen for the first time, from where the new moon before
+/// it tells.
+#[tactic(auto, using(book_model::proofs::Leads::leading), unfolding(book_model::specs::sky::Nisan::sight_by_of))]
+fn sight_by<E: Enclosure>(
+    evenings: &Evenings<E>,
+    day: i64,
+    new_moon: i64,
+    trail: &mut Trail,
+) -> Result<i64, Fail>
+    requires day { IsTableDay day }
+    requires near { IsPhaseDay new_moon }
+    ensures leads { Decides (nisan.sight_by_of evenings.now day new_moon) trail.old.count
+        trail.new.count result }
+    ensures value { IfOk result IsFactValue }
+    ensures close { E.BITS ≡ 56 → IsNarrowLocation evenings.now → IfErr result IsClose }
+{
+    let from = sought_start(evenings, day, new_moon, trail)?;
+    first_sight(evenings, from, trail)
+}
+
+/// The first day (R.D.) from a day on with whose evening before a month begins: the crescent is seen then for the first time at a
+/// location, by Shaukat's criterion (Reingold and Dershowitz, Calendrical Calculations, chapter 18). It is sought from 29 days after
+/// the last new moon, or, where the crescent of that may not have been seen yet, from the day; the courses of the moon and the sun are
+/// known over the usual days. At most 7,942 tests. It is void at `search` where there is no such day, and where `phase_day` or
+/// `visible` is.
+#[tactic(auto, using(book_model::proofs::Leads::leading), unfolding(book_model::specs::sky::Nisan::sight_from_of))]
+pub fn sight_from_by<E: Enclosure>(
+    course: &PhaseCourse<E>,
+    location: &Location,
+    day: i64,
+    trail: &mut Trail,
+) -> Result<i64, Fail>
+    requires day { IsFactDay day }
+    ensures leads { Decides (nisan.sight_from_of location.now day) trail.old.count trail.new.count
+        result }
+    ensures value { IfOk result IsFactValue }
+    ensures close { E.BITS ≡ 56 → IsNarrowLocation location.now → IfErr result IsClose }
+{
+    let new_moon = phase_day::<E>(course, NEW_MOON, day, trail)?;
+    let evenings = Evenings::<E>::new(location);
+    sight_by(&evenings, day, new_moon, trail)
 }

@@ -3,7 +3,7 @@
 //!
 //! - `arc_cosine`: the moon's arc of light;
 //! - `visible`: the criterion, by the moon's phase, its arc of light and its altitude at dusk;
-//! - `phasis`: the search for the day of the first sight; `phasis_by`: the same by courses.
+//! - `phasis`: the search for the day of the first sight; `phasis_by`: the same by courses; `sight_from_by`: the search from a day on.
 #![tactic(auto)]
 
 mod arc_of_light;
@@ -13,4 +13,4 @@ mod first_sight;
 
 pub use arc_of_light::arc_cosine;
 pub use criterion::visible;
-pub use first_sight::{phasis, phasis_by};
+pub use first_sight::{phasis, phasis_by, sight_from_by};

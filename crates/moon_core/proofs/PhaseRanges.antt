@@ -293,24 +293,6 @@ pub within_world : {E : Type 0} (shown : E → Interval) (p : (e : E) → IsProp
 unfolding Lies value world_of
 within_world shown p e = record { deep = omega arith; inside = within_refl _ }
 
--- the same of two enclosures
-either_proper : (i j : Interval) (t : Bool) → IsProper i → IsProper j → IsProper (if t then i else j)
-either_proper i j true p q = p
-either_proper i j false p q = q
-
-pub world_of_two : (i j : Interval) → IsProper i → IsProper j → World
-world_of_two i j p q = record { depth = 40; arguments = λ k. if k == 0 then i else j; proper = λ k. either_proper i j (k == 0) p q }
-
-pub within_first : {E : Type 0} (shown : E → Interval) (p : (e : E) → IsProper (shown e)) (e f : E)
-    → Within shown (world_of_two (shown e) (shown f) (p e) (p f)) (argument 0) e
-unfolding Lies value world_of_two
-within_first shown p e f = record { deep = omega arith; inside = within_refl _ }
-
-pub within_second : {E : Type 0} (shown : E → Interval) (p : (e : E) → IsProper (shown e)) (e f : E)
-    → Within shown (world_of_two (shown e) (shown f) (p e) (p f)) (argument 1) f
-unfolding Lies value world_of_two
-within_second shown p e f = record { deep = omega arith; inside = within_refl _ }
-
 -- an elongation is found of a moment in the table alone
 pub elongation_found : {E T : Type 0} {R : Expression → T → Type 0} (shown : E → Interval) (p : (e : E) → IsProper (shown e)) (t : E) {b a : ℕ}
     (r : Result T Fail) →

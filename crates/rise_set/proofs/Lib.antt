@@ -5,5 +5,6 @@ pub mod MeanMoments
 pub mod Measured
 pub mod Altitudes
 pub mod Places
+pub mod Tilts
 pub mod Sunrises
 pub mod SkyDays

@@ -1,12 +1,15 @@
-//! Universal time at a longitude, and the declination of the sun.
+//! Universal time at a longitude, the obliquity of the ecliptic at a moment, and the declination of the sun.
 ghost use Rattle.book_model.specs.programs.Calls.{Encloses2, Follows1, Holds1};
 ghost use Rattle.book_model.specs.programs.Widths.{IsAbout, IsMoment, Measured1};
-ghost use Rattle.std.specs.Prelude.{◌≡◌, ◌+◌, ◌-◌, ◌^◌, ℕ, IfOk};
+ghost use Rattle.std.specs.Prelude.{◌≡◌, ◌+◌, ◌-◌, ◌^◌, ℕ, IfOk, IfErr};
 ghost use Rattle.book_model.specs.numbers.Fractions.{fraction_of};
 ghost use Rattle.book_model.specs.numbers.Ranges.{IsInTable, IsNearTable};
+ghost use Rattle.book_model.specs.sky.Crescent.{obliquity_at_of};
 ghost use Rattle.book_model.specs.sky.Horizon as spec;
 ghost use Rattle.sun_core.specs.Widths.{IsNarrowPlace};
+ghost use Rattle.rise_set.specs.Altitudes.{IsTilt};
 ghost use Rattle.rise_set.specs.Widths.{IsDeclination};
+ghost use Rattle.time_scales.specs.Steps.{IsYearOpenFor};
 
 use arc_series::arcsin_deg;
 use book_model::sun_tables::DEGREE_IN_DAYS;
@@ -26,6 +29,19 @@ pub fn universal<E: Enclosure>(longitude: Frac, t: E) -> E
         → IsMoment v (E.shown result) → IsInTable (E.shown result) → IsNearTable 1 (E.shown t) }
 {
     t.sub(E::from_frac(longitude).mul_frac(DEGREE_IN_DAYS))
+}
+
+/// The obliquity of the ecliptic at a moment of universal time, in degrees (Reingold and Dershowitz, Calendrical Calculations, chapter
+/// 14): one test, at `year`. It is void at `year` in a year without a correction.
+#[tactic(auto, using(book_model::proofs::Leads::leading), unfolding(book_model::specs::sky::Crescent::obliquity_at_of))]
+pub fn obliquity_at<E: Enclosure>(t: E, trail: &mut Trail) -> Result<E, Fail>
+    ensures leads { Follows1 E.shown obliquity_at_of t trail.old.count trail.new.count result }
+    ensures in_table { IfOk result (λ o. IsInTable (E.shown t)) }
+    ensures measured { Measured1 E.BITS E.shown (2 ^ 33) IsMoment (λ v. IsTilt) t result }
+    ensures open { IfErr result (IsYearOpenFor (E.shown t)) }
+{
+    let c = centuries(t, trail)?;
+    obliquity(c, trail)
 }
 
 /// The declination of the sun by the obliquity of the ecliptic and the longitude of the sun, in degrees.

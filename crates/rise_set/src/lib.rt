@@ -2,6 +2,7 @@
 //! high the moon stands there. Each call makes the tests of its formula.
 //!
 //! - `universal`: the universal time of a moment of local mean time;
+//! - `obliquity_at`: the obliquity of the ecliptic at a moment;
 //! - `declination` and `offset`: how far the sun is from the horizon;
 //! - `dawn` and `dusk`: approximations until two are less than half a minute apart;
 //! - `refraction`, `sunset`: the depression of the sun's upper edge, and when it sets;
@@ -21,7 +22,7 @@ mod skyline;
 mod sunsets;
 
 pub use altitude::altitude_sine;
-pub use declinations::{declination, universal};
+pub use declinations::{declination, obliquity_at, universal};
 pub use depression::{dawn, dusk, dusk_at};
 pub use hindu::{FIRST_HINDU_DAY, HinduSunsets, hsunset, sunrise};
 pub use offsets::offset;

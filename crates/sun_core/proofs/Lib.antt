@@ -8,3 +8,6 @@ pub mod NewYears
 pub mod Measured
 pub mod PassageWidths
 pub mod StarWidths
+pub mod Nested
+pub mod EarlyTests
+pub mod Worlds

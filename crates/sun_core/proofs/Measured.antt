@@ -5,7 +5,7 @@ use Rattle.std.proofs.lemmas.Int.{ints}
 use Rattle.std.proofs.lemmas.Bool.{lt-ltb}
 use Rattle.exact_math.specs.Interval.{Interval}
 use Rattle.book_model.specs.declared.frac.Frac.{Frac}
-use Rattle.book_model.specs.declared.sun_tables.TheConstants.{OBLIQUITY, PERSIAN_NOON_LONGITUDE}
+use Rattle.book_model.specs.declared.sun_tables.TheConstants.{OBLIQUITY, PARIS_LONGITUDE, PERSIAN_NOON_LONGITUDE}
 use Rattle.book_model.specs.declared.time_tables.TheConstants.{NOON_2000}
 use Rattle.book_model.specs.numbers.Bounds.{Bound, unbounded, bounded, Reach, implies, bound_of, limits_at, limits_of, integer_bound, constant_bound, sum_bound, difference_bound, scaled_bound, product_bound, power_bound, quotient_bound, minimum_bound, maximum_bound, spanned_bound, sine_spans, cosine_spans}
 use Rattle.book_model.specs.numbers.Expressions.{Expression, argument, constant, integer, add, subtract, minimum}
@@ -21,7 +21,7 @@ use Rattle.book_model.specs.sky.Sun.{nutation_of, back_by}
 use Rattle.book_model.proofs.Implying.{limits_within}
 use Rattle.greatest_widths.proofs.Measuring.{measured, measured_argument, sloped, looser, drawn}
 use Rattle.sun_core.specs.Daily.{in_centuries, has_daily, by_centuries, by_days, daily_wave_of}
-use Rattle.sun_core.specs.Steps.{apparent_noon_of, computed_mean_longitude_of, computed_periodic_of, computed_aberration_of, computed_longitude_of}
+use Rattle.sun_core.specs.Steps.{apparent_midnight_of, apparent_noon_of, computed_mean_longitude_of, computed_periodic_of, computed_aberration_of, computed_longitude_of}
 use Rattle.sun_core.specs.Widths.{IsObliquity, IsNarrowPlace, IsLocalMoment, IsNearMoment}
 
 -- ---- the sun's longitude
@@ -270,3 +270,26 @@ noon_found shown n x a m e h k f =
     (sloped shown (limits_of n) 0 (2 ^ 8 + 2 ^ 8 / 100 + 3 * 2 ^ 29) noon_bounds 0 (neg_ℤ (pos (2 ^ 58 - 2 ^ 33))) (pos (2 ^ 58 - 2 ^ 33)) 0
     (2 ^ 8 + 2 + 3 * 2 ^ 29) x refl (omega arith) h)
     (sloped shown (limits_of n) 0 (2 ^ 10) noon_bounds 1 (neg_ℤ (pos (2 ^ 32))) (pos (2 ^ 32)) 0 (2 ^ 10) a refl (omega arith) k))
+
+-- ---- midnight at Paris
+paris_reach : implies (bound_of (limits_at 56) (λ k. unbounded) (ahead_of (fraction_of PARIS_LONGITUDE)))
+    (bounded (neg_ℤ (pos (2 ^ 32))) (pos (2 ^ 32)) 0 (2 ^ 10)) ≡ true
+unfolding implies bound_of constant_bound scaled_bound ahead_of
+paris_reach = refl
+
+pub paris_is_narrow : IsNarrowPlace PARIS_LONGITUDE
+paris_is_narrow = record { narrow = paris_reach }
+
+midnight_bound : (d : ℤ) → IsFactDay d → bound_of (limits_at 56) (λ k. unbounded) (apparent_midnight_of d)
+    ≡ bounded ((d +ℤ pos 1) *ℤ pos (2 ^ 32)) ((d +ℤ pos 1) *ℤ pos (2 ^ 32)) 0 0
+unfolding bound_of integer_bound apparent_midnight_of
+midnight_bound d h = let p : nat_lt (unsigned_abs (d +ℤ pos 1) * 2 ^ 32) (2 ^ 100) ≡ true = lt-ltb _ _ (omega (arith, ints, h.0, h.1)) in rw p refl
+
+pub midnight_within : {E : Type 0} (shown : E → Interval) (n : ℕ) (d : ℤ) (x : E) → n ≡ 56 → IsFactDay d
+    → ((r : Reach) → Narrow shown (limits_of n) r (apparent_midnight_of d) x) → IsLocalMoment (2 ^ 8) (shown x)
+unfolding Keeps
+midnight_within shown n d x e h f =
+    let l = limits_within n (omega arith) (omega arith) in
+    let z = f (record { width = 0; bounds = λ k. unbounded }) in
+    let b = midnight_bound d h in
+    looser _ _ _ _ 0 (2 ^ 8) _ (omega (arith, ints, h.0)) (omega (arith, ints, h.1)) (omega arith) (record { kept = rw (l, e, b) at z.kept })

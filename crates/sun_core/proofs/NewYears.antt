@@ -2,19 +2,19 @@
 use Rattle.std.specs.Prelude.{◌≡◌, ℕ, zero, suc, ◌*◌, ◌+◌, ◌≤◌, ℤ, pos, ◌+ℤ◌, ◌-ℤ◌, ◌≤ℤ◌, Some, Bool, true, false, cond}
 use Rattle.std.proofs.Common.{arith}
 use Rattle.std.proofs.lemmas.Int.{ints}
-use Rattle.book_model.specs.declared.calendar_tables.TheConstants.{SPRING}
+use Rattle.book_model.specs.declared.calendar_tables.TheConstants.{AUTUMN, SPRING}
 use Rattle.book_model.specs.declared.season.Season.{Season}
 use Rattle.book_model.specs.declared.season.Side.{Side}
-use Rattle.book_model.specs.declared.season.Side.TheVariants.{UpTo, Past}
+use Rattle.book_model.specs.declared.season.Side.TheVariants.{UpTo, Past, From}
 use Rattle.book_model.specs.declared.time_tables.TheConstants.{TABLE_START, TABLE_END}
 use Rattle.book_model.specs.numbers.Expressions.{Expression, World, value, integer}
-use Rattle.book_model.specs.sky.Kinds.{longitude_at_of, is_on_side_of, has_side_at, last_passage_of, search_start_of, season_day_of, nowruz_of}
-use Rattle.book_model.specs.sky.Noon.{noon_of}
+use Rattle.book_model.specs.sky.Kinds.{longitude_at_of, is_on_side_of, has_side_at, last_passage_of, search_start_of, season_day_of, nowruz_of, french_year_of}
+use Rattle.book_model.specs.sky.Noon.{noon_of, paris_midnight_of}
 use Rattle.book_model.specs.programs.Programs.{Program, answer, integers, cell_at, run, valued, outcome, AtMost, answer_at_most, void_at_most, cell_at_most, compare_at_most}
 use Rattle.book_model.specs.programs.Searches.{first_of_days, first_day_from}
 use Rattle.book_model.specs.sky.Sun.{sun_of, past_of, estimate_of}
 use Rattle.book_model.specs.sky.Time.{centuries_of}
-use Rattle.book_model.proofs.Estimates.{noon_few, estimate_few, estimate_between, floor_between}
+use Rattle.book_model.proofs.Estimates.{from_apparent_few, noon_few, estimate_few, estimate_between, floor_between}
 use Rattle.book_model.proofs.FactRuns.{sun_few, parts}
 use Rattle.book_model.proofs.Leads.{at_most_bind, at_most_more}
 use Rattle.time_scales.proofs.Moments.{dated_in_table}
@@ -37,6 +37,7 @@ side_few : (side : Side) (s : Expression) → AtMost 1 (is_on_side_of side s)
 unfolding is_on_side_of
 side_few (UpTo l) s = compare_at_most (λ more. answer_at_most)
 side_few (Past l) s = compare_at_most (λ past. answer_at_most)
+side_few (From l) s = compare_at_most (λ less. answer_at_most)
 
 pub has_side_few : (n : ℕ) (moment : ℤ → Program Expression) (side : Side) → ((d : ℤ) → AtMost n (moment d)) → (d : ℤ)
     → AtMost (n + 2 + 1) (has_side_at moment side d)
@@ -57,6 +58,13 @@ season_day_few n moment season h l d =
 
 pub nowruz_few : (d : ℤ) → AtMost 99999 (nowruz_of d)
 nowruz_few d = season_day_few 1 noon_of SPRING noon_few (omega arith) d
+
+paris_midnight_few : (d : ℤ) → AtMost 1 (paris_midnight_of d)
+unfolding paris_midnight_of
+paris_midnight_few d = at_most_bind 1 0 (from_apparent_few _ _) (λ e. answer_at_most)
+
+pub french_year_few : (d : ℤ) → AtMost 99999 (french_year_of d)
+french_year_few d = season_day_few 1 paris_midnight_of AUTUMN paris_midnight_few (omega arith) d
 
 -- ---- where a search begins
 -- the moment of a day from which a passage is estimated lies in the years of which there is a correction, and so the estimate

@@ -18,7 +18,7 @@ use Rattle.book_model.specs.sky.Sun.{sun_unit}
 use Rattle.book_model.proofs.Values.{value_proper}
 
 -- a number of the value of a member is a member
-same_member : (i : Interval) (x y : Fraction) → x ≈ y → IsMember x i → IsMember y i
+pub same_member : (i : Interval) (x y : Fraction) → x ≈ y → IsMember x i → IsMember y i
 same_member everything x y e h = tt
 same_member (between a b) x y e h = (le_trans _ _ _ h.0 (le_of_same e), le_trans _ _ _ (ge_of_same e) h.1)
 

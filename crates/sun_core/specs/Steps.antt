@@ -1,5 +1,5 @@
 -- The parts of the sun's longitude, and the order in which they are computed; parts of the equation of time and of noon.
-use Rattle.std.specs.Prelude.{ℤ}
+use Rattle.std.specs.Prelude.{ℤ, pos, ◌+ℤ◌}
 use Rattle.book_model.specs.declared.sun_tables.TheConstants.{ABERRATION, MEAN_ABERRATION, SUN_AT_2000, SUN_RATE, SUN_UNIT_COARSELY, SUN_UNIT_FINELY, SUN_WAVES}
 use Rattle.book_model.specs.declared.tables.TheConstants.{HALF}
 use Rattle.book_model.specs.numbers.Expressions.{Expression, integer, constant, add, subtract, scale, cosine}
@@ -36,6 +36,10 @@ computed_longitude_of x = add (add (add (computed_mean_longitude_of x) (computed
 -- the first three terms of the equation of time, in radians
 unfoldable pub first_radians_of : (y e l m : Expression) → Expression
 first_radians_of y e l m = add (subtract (reduction_of y l) (centre_of e m)) (joint_of y e l m)
+
+-- the end of a day
+unfoldable pub apparent_midnight_of : ℤ → Expression
+apparent_midnight_of d = integer (d +ℤ pos 1)
 
 -- the middle of a day
 unfoldable pub apparent_noon_of : ℤ → Expression

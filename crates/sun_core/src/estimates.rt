@@ -2,11 +2,13 @@
 ghost use Rattle.book_model.specs.programs.Calls.{Encloses2, Follows1, Follows2};
 ghost use Rattle.book_model.specs.programs.Widths.{IsAbout, IsMoment, IsUpTo, Measured1, Measured2};
 ghost use Rattle.book_model.specs.numbers.Ranges.{IsInTable};
-ghost use Rattle.std.specs.Prelude.{◌≡◌, ◌≤◌, ◌+◌, ◌*◌, ◌^◌, IfOk};
+ghost use Rattle.std.specs.Prelude.{◌≡◌, ◌≤◌, ◌+◌, ◌*◌, ◌^◌, IfOk, IfErr};
+ghost use Rattle.exact_math.specs.Interval.{Interval};
 ghost use Rattle.book_model.specs.programs.Leading.{next_turn};
 ghost use Rattle.book_model.specs.sky.Sun.{reduced_of, past_of, off_of, back_by, estimate_of};
 ghost use Rattle.greatest_widths.specs.declared.table.TheConstants.{SUN};
 ghost use Rattle.greatest_widths.specs.Table.{greatest_of};
+ghost use Rattle.time_scales.specs.Steps.{IsEarlyYearFor};
 
 use crate::longitude::sun;
 use book_model::sun_tables::DEGREE_OF_YEAR;
@@ -17,11 +19,12 @@ use encl_core::{Enclosure, Trail, wrap_step};
 const HALF_TURN: i64 = 180;
 
 /// An angle, reduced to 0 up to 360 degrees: one test, at `step-wrap`.
-#[tactic(auto, using(book_model::proofs::Leads::leading), unfolding(book_model::specs::sky::Sun::reduced_of))]
+#[tactic(auto, using(book_model::proofs::Leads::leading, crate::proofs::Openings::opening), unfolding(book_model::specs::sky::Sun::reduced_of))]
 pub(crate) fn reduced<E: Enclosure>(angle: E, trail: &mut Trail) -> Result<E, Fail>
     ensures leads { Follows1 E.shown reduced_of angle trail.old.count trail.new.count result }
     ensures measured { Measured1 E.BITS E.shown (2 ^ 44) (IsAbout (2 ^ 90)) (IsUpTo 360) angle
         result }
+    ensures elsewhere { (i : Interval) → IfErr result (IsEarlyYearFor i) }
 {
     wrap_step(angle, 360, Site::StepWrap, trail)
 }

@@ -9,7 +9,8 @@
 //! - `obliquity`: of the ecliptic, by the centuries; `nutation`, `sine_wave`, `wave_angle` and `times_rate`, of which longitudes are made;
 //! - `equation_of_time`: what apparent time, which sundials show, is ahead of mean time;
 //! - `from_apparent`: from apparent to local mean time;
-//! - `noon`: true noon at Tehran, which decides the first day of a Persian year;
+//! - `noon`: true noon at Tehran, which decides the first day of a Persian year; `paris_midnight`: midnight by apparent time at Paris,
+//!   which decides that of a French year;
 //! - `estimate`: about when the sun was last at a longitude; `sun_from`: when it is next at one; `sun_from_by`: the same by a course;
 //! - `precession`: how far the equinox has moved among the stars; `sidereal_sun`: the longitude of the sun among them.
 #![tactic(auto)]
@@ -25,7 +26,7 @@ mod passages;
 mod stars;
 mod waves;
 
-pub use apparent::{from_apparent, noon};
+pub use apparent::{from_apparent, noon, paris_midnight};
 pub use courses::{SunCourse, days_over, sun_by};
 pub use daily::times_rate;
 pub use ecliptic::obliquity;

@@ -1,5 +1,5 @@
 //! When the sun is next at a longitude.
-ghost use Rattle.std.specs.Prelude.{◌≡◌, ◌≤◌, ◌+◌, ◌*◌, ◌^◌, ℕ, IfOk};
+ghost use Rattle.std.specs.Prelude.{◌≡◌, ◌≤◌, ◌+◌, ◌*◌, ◌^◌, ℕ, IfOk, IfErr};
 ghost use Rattle.book_model.specs.programs.Calls.{Encloses2, Follows2, Follows3};
 ghost use Rattle.book_model.specs.programs.Widths.{IsMoment, IsUpTo, Measured2, Measures};
 ghost use Rattle.book_model.specs.numbers.Ranges.{IsInTable};
@@ -7,6 +7,7 @@ ghost use Rattle.book_model.specs.sky.Sun as spec;
 ghost use Rattle.greatest_widths.specs.declared.table.TheConstants.{SUN};
 ghost use Rattle.greatest_widths.specs.Table.{greatest_of};
 ghost use Rattle.sun_core.specs.Widths.{IsNearMoment};
+ghost use Rattle.time_scales.specs.Steps.{IsEarlyYearFor};
 
 use crate::courses::{SunCourse, days_over, sun_by};
 use crate::estimates::reduced;
@@ -52,6 +53,7 @@ fn degrees_short<E: Enclosure>(longitude: E, t: E, trail: &mut Trail) -> Result<
     ensures in_table { IfOk result (λ p. IsInTable (E.shown t)) }
     ensures measured { Measured2 E.BITS E.shown (2 ^ 42) (λ v. IsMoment 0) IsMoment
         (λ v. IsUpTo 360 (greatest_of SUN v)) longitude t result }
+    ensures early { IfErr result (IsEarlyYearFor (E.shown t)) }
 {
     let there = longitude::sun(t, trail)?;
     reduced(longitude.sub(there), trail)
@@ -101,6 +103,7 @@ pub fn sun_from_by<E: Enclosure>(
     ensures leads { Follows2 E.shown spec.sun_from_of l t trail.old.count trail.new.count result }
     ensures measured { Measured2 E.BITS E.shown (2 ^ 34) (λ v. IsMoment 0) IsMoment
         (λ v. IsMoment (4 * v + 2 ^ 33)) l t result }
+    ensures early { trail.old.count ≡ 0 → IfErr result (IsEarlyYearFor (E.shown t)) }
 {
     let short = degrees_short(l, t, trail)?;
     passage_about(course, l, t, moved_on(short, t), trail)
@@ -114,6 +117,7 @@ pub fn sun_from<E: Enclosure>(l: E, t: E, trail: &mut Trail) -> Result<E, Fail>
     ensures leads { Follows2 E.shown spec.sun_from_of l t trail.old.count trail.new.count result }
     ensures measured { Measured2 E.BITS E.shown (2 ^ 34) (λ v. IsMoment 0) IsMoment
         (λ v. IsMoment (4 * v + 2 ^ 33)) l t result }
+    ensures early { trail.old.count ≡ 0 → IfErr result (IsEarlyYearFor (E.shown t)) }
 {
     let course = SunCourse::<E>::always();
     sun_from_by(&course, l, t, trail)

@@ -38,4 +38,4 @@ returns-clause-close g c = λ e p.
     let m = rw c.new-evenings.ensures.location at (simp to_z-of_z at c.sight_after.ensures.close) in
     let l = simp to_z-of_z at c.in_ok-new_moon.ensures.leads in
     let d = day_dated (pos 0) c.args.day _ _ _ l in
-    m e p (omega (arith, ints, d))
+    m e p (omega (arith, ints, d.0))

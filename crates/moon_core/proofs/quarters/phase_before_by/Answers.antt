@@ -3,8 +3,8 @@ use Rattle.book_model.specs.numbers.Expressions.{argument}
 use Rattle.book_model.specs.sky.Phases.{phase_before_of}
 use Rattle.book_model.proofs.Early.{phase_past_least, three_made}
 use Rattle.book_model.proofs.Leads.{leads_on, leaf_within}
-use Rattle.moon_core.proofs.PhaseRanges.{world_of_two, within_first, within_second}
-use Rattle.moon_core.proofs.Openings.{late_failure}
+use Rattle.sun_core.proofs.Worlds.{world_of_two, within_first, within_second}
+use Rattle.sun_core.proofs.Openings.{late_failure}
 use Rattle.std.proofs.Common.{arith, ◌+◌, ◌-◌, ◌*◌, ◌^◌}
 use Rattle.angle_search.proofs.Measured.{moment_wider}
 use Rattle.moon_core.proofs.QuarterWidths.{back_within, passage_measured}

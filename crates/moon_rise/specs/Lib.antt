@@ -1,0 +1,4 @@
+pub mod Crossings
+pub mod Computed
+pub mod Moments
+pub mod Widths

@@ -1,0 +1,137 @@
+//! The observed altitude of the moon.
+ghost use Rattle.book_model.specs.numbers.Fractions.{fraction_of};
+ghost use Rattle.book_model.specs.programs.Calls.{Decides1, Follows1, Follows3, Holds2, Holds3, Holds4, Narrows2};
+ghost use Rattle.book_model.specs.programs.Widths.{IsClose, Measured};
+ghost use Rattle.moon_rise.specs.Computed as computed;
+ghost use Rattle.book_model.specs.sky.Moonrise as spec;
+ghost use Rattle.moon_rise.specs.Widths.{IsAltitude, IsExact, IsHeight, IsMoonDistance, IsMoonLatitude, IsMoonLongitude, IsSiderealTime, IsSkyLocation, IsSkySine};
+ghost use Rattle.rise_set.specs.Altitudes.{IsTilt};
+ghost use Rattle.rise_set.specs.Widths.{IsDepression};
+ghost use Rattle.std.specs.Prelude.{◌≡◌, IfErr, IfOk};
+ghost use Rattle.time_scales.specs.Steps.{IsYearOpenFor};
+
+use crate::distances::distance;
+use arc_series::arcsin_deg;
+use book_model::{Fail, Frac, Location, Site};
+use encl_core::{Enclosure, Trail, less_step};
+use moon_core::{latitude, moon};
+use rise_set::{altitude_sine, obliquity_at, sunset_depression};
+use time_scales::sidereal;
+use trig_series::cos_deg;
+
+/// A kilometre, in radii of the earth.
+fn kilometre_in_radii() -> Frac
+    ensures kilometre { fraction_of result ≡ computed.kilometre_in_radii }
+{
+    Frac::new(100, 637_814).unwrap()
+}
+
+/// The parallax at an altitude, by the distance in kilometres. These are too great a divisor for an enclosure, so the distance is
+/// taken in radii of the earth.
+#[tactic(auto, using(crate::proofs::Orders::parallax_holds), unfolding(crate::specs::Computed::computed_parallax_of))]
+fn parallax<E: Enclosure>(altitude: E, distance: E) -> E
+    ensures holds { Holds2 E.shown spec.parallax_of altitude distance result }
+    ensures narrow { Narrows2 E.shown E.BITS computed.computed_parallax_of altitude distance result }
+{
+    arcsin_deg(cos_deg(altitude).div(distance.mul_frac(kilometre_in_radii())))
+}
+
+/// The observed altitude by the altitude, the distance and by how much the level of the horizon is lowered.
+#[tactic(auto, unfolding(book_model::specs::sky::Moonrise::lifted_of))]
+fn lifted<E: Enclosure>(altitude: E, distance: E, depression: E) -> E
+    ensures holds { Holds3 E.shown spec.lifted_of altitude distance depression result }
+    ensures measured { E.BITS ≡ 56 → IsAltitude (E.shown altitude)
+        → IsMoonDistance (E.shown distance) → IsDepression (E.shown depression)
+        → IsHeight (E.shown result) }
+{
+    altitude.sub(parallax(altitude, distance)).add(depression)
+}
+
+/// The same by the sine of the altitude.
+#[tactic(auto, unfolding(book_model::specs::sky::Moonrise::height_of))]
+fn height<E: Enclosure>(sine: E, distance: E, depression: E) -> E
+    ensures holds { Holds3 E.shown spec.height_of sine distance depression result }
+    ensures measured { E.BITS ≡ 56 → IsSkySine (E.shown sine) → IsMoonDistance (E.shown distance)
+        → IsDepression (E.shown depression) → IsHeight (E.shown result) }
+{
+    lifted(arcsin_deg(sine), distance, depression)
+}
+
+/// The sine of the altitude at a location, by the sidereal time at Greenwich, the obliquity of the ecliptic and the moon's longitude
+/// and latitude, all in degrees.
+#[tactic(auto, unfolding(book_model::specs::sky::Moonrise::sky_sine_of))]
+fn sky_sine<E: Enclosure>(
+    location: &Location,
+    sidereal: E,
+    obliquity: E,
+    longitude: E,
+    latitude: E,
+) -> E
+    ensures holds { Holds4 E.shown (spec.sky_sine_of location.now) sidereal obliquity longitude
+        latitude result }
+    ensures measured { E.BITS ≡ 56 → IsSkyLocation location.now
+        → IsSiderealTime (E.shown sidereal) → IsTilt (E.shown obliquity)
+        → IsMoonLongitude (E.shown longitude) → IsMoonLatitude (E.shown latitude)
+        → IsSkySine (E.shown result) }
+{
+    let here = sidereal.add(E::from_frac(location.longitude));
+    altitude_sine(location.latitude, here, obliquity, longitude, latitude)
+}
+
+/// The observed altitude at a location by the sidereal time at Greenwich and the obliquity of the ecliptic: four tests.
+#[tactic(auto, using(book_model::proofs::Leads::leading), unfolding(book_model::specs::sky::Moonrise::observed_with_of))]
+fn observed_with<E: Enclosure>(
+    location: &Location,
+    t: E,
+    sidereal: E,
+    obliquity: E,
+    trail: &mut Trail,
+) -> Result<E, Fail>
+    ensures leads { Follows3 E.shown (spec.observed_with_of location.now) t sidereal obliquity
+        trail.old.count trail.new.count result }
+    ensures measured { IsSkyLocation location.now → IsExact (E.shown t)
+        → IsSiderealTime (E.shown sidereal) → IsTilt (E.shown obliquity)
+        → Measured E.BITS E.shown IsHeight result }
+    ensures open { IfErr result (IsYearOpenFor (E.shown t)) }
+{
+    let longitude = moon(t, trail)?;
+    let north = latitude(t, trail)?;
+    let far = distance(t, trail)?;
+    let sine = sky_sine(location, sidereal, obliquity, longitude, north);
+    Ok(height(sine, far, sunset_depression::<E>(location)))
+}
+
+/// The observed altitude of the moon at a location and a moment of universal time, in degrees: how far its upper edge is seen to stand
+/// above the level of the horizon. The altitude (Reingold and Dershowitz, Calendrical Calculations, chapter 14), less the parallax, and
+/// as much more as the sun's middle stands below that level when its upper edge is seen to set. Five tests: the years of the
+/// obliquity, of the moon's longitude with the one at `moon-wrap`, of its latitude and of its distance. It is void at `year` in a year
+/// without a correction.
+#[tactic(auto, using(book_model::proofs::Leads::leading), unfolding(book_model::specs::sky::Moonrise::observed_of))]
+pub fn observed<E: Enclosure>(location: &Location, t: E, trail: &mut Trail) -> Result<E, Fail>
+    ensures leads { Follows1 E.shown (spec.observed_of location.now) t trail.old.count
+        trail.new.count result }
+    ensures measured { IsSkyLocation location.now → IsExact (E.shown t)
+        → Measured E.BITS E.shown IsHeight result }
+    ensures open { IfErr result (IsYearOpenFor (E.shown t)) }
+{
+    let greenwich = sidereal(t, trail)?;
+    let tilt = obliquity_at(t, trail)?;
+    observed_with(location, t, greenwich, tilt, trail)
+}
+
+/// Whether the moon is up at a location and a moment of universal time: six tests.
+#[tactic(auto, using(book_model::proofs::Leads::leading), unfolding(book_model::specs::sky::Moonrise::up_of))]
+pub(crate) fn is_up<E: Enclosure>(
+    location: &Location,
+    t: E,
+    trail: &mut Trail,
+) -> Result<bool, Fail>
+    ensures leads { Decides1 E.shown (spec.up_of location.now) t trail.old.count trail.new.count
+        result }
+    ensures close { E.BITS ≡ 56 → IsSkyLocation location.now → IsExact (E.shown t)
+        → IfErr result IsClose }
+    ensures open { IfErr result (IsYearOpenFor (E.shown t)) }
+{
+    let altitude = observed(location, t, trail)?;
+    less_step(E::from_int(0), altitude, Site::Rise, trail)
+}
