@@ -3,7 +3,7 @@
 //!
 //! - `to_fixed`: the day number of a date;
 //! - `from_fixed`: the date of a day number, as a `Civil`;
-//! - `year_of`: the year of any day number; `first_of_july`: the day number of 1 July of a year.
+//! - `year_of`: the year of any day number; `first_of_january`, `first_of_july`: the day numbers of 1 January and 1 July of a year.
 #![tactic(auto)]
 
 mod civil;
@@ -11,4 +11,4 @@ mod jiff_date;
 mod years;
 
 pub use civil::{Civil, NoSuchDay, from_fixed, to_fixed};
-pub use years::{first_of_july, year_of};
+pub use years::{first_of_january, first_of_july, year_of};

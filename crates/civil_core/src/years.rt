@@ -1,11 +1,11 @@
-//! The year of a day, and the first of July of a year.
+//! The year of a day, and the first of January and of July of a year.
 ghost use Rattle.std.specs.Prelude.{◌≡◌, ◌^◌, pos, negsuc, neg_ℤ, ◌+ℤ◌, ◌≤ℤ◌, unsigned_abs};
-ghost use Rattle.book_model.specs.calendars.Gregorian.{fixed_of, year_of_day};
+ghost use Rattle.book_model.specs.calendars.Gregorian.{first_day, fixed_of, leap_days, year_of_day};
 ghost use Rattle.jiff.specs.Words.{epoch_day};
 
 use crate::jiff_date::{date_on, day_number};
 use jiff::civil::{Date, date};
-use rounded_quotients::floor_div;
+use rounded_quotients::{floor_div, quotient};
 
 /// The days of 400 years, after which the calendar repeats itself.
 const DAYS_OF_400_YEARS: i128 = 146_097;
@@ -29,6 +29,29 @@ pub fn year_of(day: i128) -> i64
     let times = floor_div(day, DAYS_OF_400_YEARS);
     let rest = day - times * DAYS_OF_400_YEARS;
     times as i64 * 400 + year_of_date(date_on(rest as i64))
+}
+
+/// How many leap days the years from the first to a year have, or, less than none, those from the next year to the first.
+fn leap_days_to(year: i64) -> i64
+    requires from { negsuc 20000 ≤ℤ year }
+    requires to { year ≤ℤ pos 20000 }
+    ensures days { result ≡ leap_days year }
+    ensures near_from { negsuc 9999 ≤ℤ result }
+    ensures near_to { result ≤ℤ pos 10000 }
+{
+    quotient(year, 4) - quotient(year, 100) + quotient(year, 400)
+}
+
+/// The day number (R.D.) of 1 January of a year from -20,000 to 20,000, as if the calendar had always been.
+#[tactic(auto, unfolding(book_model::specs::calendars::Gregorian::first_day))]
+pub fn first_of_january(year: i64) -> i64
+    requires from { negsuc 19999 ≤ℤ year }
+    requires to { year ≤ℤ pos 20000 }
+    ensures day { result ≡ first_day year }
+    ensures near_from { negsuc 9999999 ≤ℤ result }
+    ensures near_to { result ≤ℤ pos 10000000 }
+{
+    365 * (year - 1) + leap_days_to(year - 1) + 1
 }
 
 /// The day number (R.D.) of 1 July of a year from 1 to 9999.

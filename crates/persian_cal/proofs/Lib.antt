@@ -1,2 +1,1 @@
-pub mod TropicalYears
 pub mod YearDays

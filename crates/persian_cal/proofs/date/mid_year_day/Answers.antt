@@ -1,7 +1,7 @@
 use Rattle.std.proofs.Common.{rules, arith, SFits, w64, pos, ◌+ℤ◌, ◌-ℤ◌}
 use Rattle.std.proofs.lemmas.Int.{to_z-of_z, ints}
 use Rattle.book_model.specs.calendars.Persian.{mid_year_day}
-use Rattle.persian_cal.proofs.TropicalYears.{days_near}
+use Rattle.calendar_math.proofs.TropicalYears.{days_near}
 use Rattle.persian_cal.proofs.date.mid_year_day.Goals as goal
 
 pub overflow_add-result-2 : goal.overflow_add-result-2

@@ -1,7 +1,7 @@
 use Rattle.std.proofs.Common.{rules, arith, SFits, w64, pos, ◌+ℤ◌, ◌-ℤ◌}
 use Rattle.std.proofs.lemmas.Int.{to_z-of_z, ints}
 use Rattle.book_model.specs.calendars.Persian.{year_begun}
-use Rattle.persian_cal.proofs.TropicalYears.{years_near}
+use Rattle.calendar_math.proofs.TropicalYears.{years_near}
 use Rattle.persian_cal.proofs.date.year_begun.Goals as goal
 
 pub overflow_add-result : goal.overflow_add-result

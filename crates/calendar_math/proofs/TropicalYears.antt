@@ -23,6 +23,6 @@ days_near years h = let f = floor_quotient_is (pos 365242189 *ℤ years) 999999 
     { from = omega (arith, ints, h.from, h.to, f.not_above, f.close); to = omega (arith, ints, h.from, h.to, f.not_above, f.close) }
 
 -- the years of the days that are values of facts
-pub years_near : (days : ℤ) → LiesWithin (negsuc 10299999) (pos 10300000) days → LiesWithin (negsuc 29997) (pos 29998) (years_of_days days)
+pub years_near : (days : ℤ) → LiesWithin (negsuc 10699999) (pos 10700000) days → LiesWithin (negsuc 29997) (pos 29998) (years_of_days days)
 years_near days h = let f = floor_quotient_is ((days *ℤ pos 1000000) *ℤ pos 2 +ℤ pos 365242189) 730484377 in let e = years_of_days_is days in record
     { from = omega (arith, ints, h.from, h.to, f.not_above, f.close); to = omega (arith, ints, h.from, h.to, f.not_above, f.close) }
