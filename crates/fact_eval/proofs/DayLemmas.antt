@@ -25,11 +25,11 @@ none_early : (f : Fail) → IsNotOfYear f → IsNoEarlyYear f
 none_early (undecided_at u) h = λ e t. h e
 none_early (Void s) h = tt
 
--- a failure of the sun at a whole day is not at the year
-pub sun_not_of_year : {E : Type 0} (shown : E → Interval) (bits : ℕ) (d : ℤ) (e : E) (f : Fail) → 36 ≤ bits → bits ≤ 56 → IsValueDay d
+-- a failure at a whole day, where it is at the year of that alone, is not at the year
+pub day_not_of_year : {E : Type 0} (shown : E → Interval) (bits : ℕ) (d : ℤ) (e : E) (f : Fail) → 36 ≤ bits → bits ≤ 56 → IsValueDay d
     → ((r : Reach) → Narrow shown (limits_of bits) r (integer d) e)
     → IsYearOpenFor (shown e) f → IsNoEarlyYear f
-sun_not_of_year shown bits d e f p q h n o =
+day_not_of_year shown bits d e f p q h n o =
     let y = year_small d h in
     none_early f (closed_year (shown e) (year_of_day d) f (year_enclosed shown bits d e p q h (n _)) (omega (arith, ints, y.0, y.1)) o)
 

@@ -2,7 +2,6 @@ pub mod Rightness
 pub mod WidthLemmas
 pub mod DayLemmas
 pub mod NewYears
-pub mod Nested
 pub mod Winters
 pub mod Evaluations
 pub mod Nearness
@@ -14,3 +13,5 @@ pub mod MoonFacts
 pub mod FewTests
 pub mod Measured
 mod SunsetWidths
+pub mod Equinoxes
+pub mod DistanceValues

@@ -12,7 +12,7 @@ use Rattle.exact_math.proofs.Ring.{at, lit, ◌⊗◌}
 use Rattle.exact_math.proofs.Intervals.{within_trans, within_everything}
 use Rattle.exact_math.proofs.Same.{le_of_same, ge_of_same}
 use Rattle.book_model.specs.declared.site.Site.{Site}
-use Rattle.book_model.specs.declared.site.Site.TheVariants.{Year, Zone, SunWrap, MoonWrap, PhaseWrap, PhasePick, MoonNumber, MoonWalk, StepWrap, StartFloor, DayTest, DayFloor, TermFloor, Search, BisectEnd, Bisect, Offset, Settle, Round, Crescent, Sidereal}
+use Rattle.book_model.specs.declared.site.Site.TheVariants.{Year, Zone, SunWrap, MoonWrap, PhaseWrap, PhasePick, MoonNumber, MoonWalk, StepWrap, StartFloor, DayTest, DayFloor, TermFloor, Search, BisectEnd, Bisect, Offset, Settle, Round, Crescent, Sidereal, Rise}
 use Rattle.book_model.specs.numbers.Expressions.{World, value}
 use Rattle.book_model.specs.sky.Facts.{LiesFrom, HasThreshold, AreNear, near_cell, near_comparison}
 use Rattle.book_model.specs.programs.Widths.{most_apart}
@@ -149,6 +149,7 @@ site_allows Settle = omega arith
 site_allows Round = omega arith
 site_allows Crescent = omega arith
 site_allows Sidereal = omega arith
+site_allows Rise = omega arith
 
 -- the sides of an open test whose ends are close are near
 pub near_open : (lo hi : ℤ) (s : Sides) {m : ℕ} → AreNearBy m lo hi → AreProper s → IsOpen s lo hi → AreNear lo hi s

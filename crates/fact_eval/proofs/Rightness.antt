@@ -1,5 +1,5 @@
 -- The answer that an evaluation gives is right for its fact.
-use Rattle.std.specs.Prelude.{◌≡◌, ℕ, ◌≤◌, ◌==◌, ℤ, Bool, true, false, ◌||◌, IsTrue, Result, Ok, Err, IfOk, IfErr, refl}
+use Rattle.std.specs.Prelude.{◌≡◌, ℕ, ◌≤◌, ◌==◌, ℤ, pos, negsuc, ◌≤ℤ◌, Bool, true, false, ◌||◌, IsTrue, Result, Ok, Err, IfOk, IfErr, refl}
 use Rattle.std.proofs.Common.{arith}
 use Rattle.std.proofs.lemmas.Bool.Decides.{nat_tests}
 use Rattle.std.proofs.lemmas.Int.{ints}
@@ -20,7 +20,7 @@ use Rattle.book_model.specs.programs.Programs.{void}
 use Rattle.fact_eval.proofs.FewTests.{program_few}
 use Rattle.fact_eval.proofs.Evaluations.{true_of_leads, void_of_leads, near_of_leads}
 use Rattle.moon_core.specs.PhaseDays.{IsPhaseDay}
-use Rattle.time_scales.specs.Steps.{IsNoEarlyYear}
+use Rattle.time_scales.specs.Steps.{IsNotOfYear, IsNoEarlyYear}
 use Rattle.oracle_core.specs.Answers.{IsRightAnswer}
 use Rattle.fact_eval.specs.Answers.{answer_of, IsCloseAnswer}
 use Rattle.book_model.specs.programs.Widths.{IsClose, close_test}
@@ -62,7 +62,18 @@ of_days k (Err (undecided_at u)) a h = λ e w. h e (early (whole_days k) u.turn 
     early Everywhere n e w = absurd (cc)
 of_days k (Err (Void s)) a h = tt
 
-pub ruleset keeping = (of_days, of_other_days)
+-- a kind of which no test of a year is open
+pub of_all_days : (k : Kind) (r : Result ℤ Fail) → whole_days k ≡ Everywhere → IfErr r IsNotOfYear → IfErr r (IsNoWholeDay k)
+of_all_days k (Ok v) a h = tt
+of_all_days k (Err (undecided_at u)) a h = λ e w. h e
+of_all_days k (Err (Void s)) a h = tt
+
+-- minutes after midnight are a value that a fact may have
+pub minutes_are_value : (r : Result ℤ Fail) → IfOk r (λ v. negsuc 0 ≤ℤ v) → IfOk r (λ v. v ≤ℤ pos 1440) → IfOk r IsFactValue
+minutes_are_value (Ok v) h k = (omega (arith, ints, h), omega (arith, ints, k))
+minutes_are_value (Err f) h k = tt
+
+pub ruleset keeping = (of_days, of_all_days, of_other_days, minutes_are_value)
 
 -- the day of a phase is a value that a fact may have
 pub phase_day_is_value : (r : Result ℤ Fail) → IfOk r IsPhaseDay → IfOk r IsFactValue

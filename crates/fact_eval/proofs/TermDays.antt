@@ -35,7 +35,7 @@ short_few : (l x : Expression) → AtMost 3 (sun_short_of l x)
 unfolding sun_short_of
 short_few l x = at_most_bind 2 1 (sun_few x) (λ s. reduced_few _)
 
-from_few : (l x : Expression) → AtMost 324 (sun_from_of l x)
+pub from_few : (l x : Expression) → AtMost 324 (sun_from_of l x)
 unfolding sun_from_of sun_about_of invert_of
 from_few l x = at_most_bind 3 321 (short_few l x) (λ p. bisected_few 2 sun_of sun_few 64 l _ _)
 
@@ -54,13 +54,13 @@ unfolding sun_of
 sun_in_table w x s h = let c = parts w (centuries_of x) _ s h in dated_in_table w x c.part c.first
 
 -- from where to where the search sets out and comes to: a year later at most, and five days
-abbrev earliest : ℤ
+abbrev pub earliest : ℤ
 earliest = TABLE_START -ℤ pos 79
 
 abbrev year_after : ℤ
 year_after = TABLE_END +ℤ pos 366
 
-abbrev latest : ℤ
+abbrev pub latest : ℤ
 latest = TABLE_END +ℤ pos 451
 
 halves : AreHalved earliest latest (earliest +ℤ earliest) (latest +ℤ latest)
@@ -108,7 +108,7 @@ about_between w l x t v h k e =
     five_between : (w : World) → IsBetween (pos 5) (pos 5) (value w (integer (pos 5)))
     five_between w = (record { cross = omega (arith, ints) }, record { cross = omega (arith, ints) })
 
-from_between : (w : World) (l x v : Expression) → outcome (run w (sun_from_of l x)) ≡ valued v → IsBetween earliest latest (value w v)
+pub from_between : (w : World) (l x v : Expression) → outcome (run w (sun_from_of l x)) ≡ valued v → IsBetween earliest latest (value w v)
 unfolding sun_from_of sun_short_of
 from_between w l x v e =
     let p = parts w (sun_short_of l x) _ v e in

@@ -5,7 +5,7 @@ use Rattle.book_model.specs.declared.fail.Fail.{Fail}
 use Rattle.book_model.specs.declared.fail.Fail.TheVariants.{Undecided, Void}
 use Rattle.book_model.specs.declared.season.Season.{Season}
 use Rattle.book_model.specs.declared.season.Side.{Side}
-use Rattle.book_model.specs.declared.season.Side.TheVariants.{UpTo, Past}
+use Rattle.book_model.specs.declared.season.Side.TheVariants.{UpTo, Past, From}
 use Rattle.book_model.specs.declared.site.Site.TheVariants.{Year}
 use Rattle.book_model.specs.declared.tables.TheConstants.{HALF, MILLISECONDS_OF_DAY}
 use Rattle.book_model.specs.numbers.Expressions.{Expression, constant, add, scale}
@@ -36,6 +36,7 @@ IsNoWholeDay kind (Void s) = Unit {0}
 abbrev pub IsSmallSide : Side → Type 0
 IsSmallSide (UpTo l) = IsSmall l
 IsSmallSide (Past l) = IsSmall l
+IsSmallSide (From l) = IsSmall l
 
 abbrev pub IsSmallSeason : Season → Type 0
 IsSmallSeason season = IsSmall season.longitude × IsSmallSide season.side

@@ -1,13 +1,17 @@
 //! Answers facts by computing enclosures of their formulas.
 #![tactic(auto)]
 
+mod distances;
 mod dt;
+mod french_year;
 pub mod laws;
 mod major;
 mod midnights;
 mod moon_days;
+mod nisan;
 mod nowruz;
 mod quarters;
+mod rounding;
 mod seasons;
 mod solar_terms;
 mod solstice;

@@ -2,7 +2,7 @@
 ghost use Rattle.book_model.specs.programs.Calls.{Decides, Decides1, Follows};
 ghost use Rattle.book_model.specs.programs.Widths.{IsClose, IsMoment, IsSmall, IsUpTo, Measured, Closes1};
 ghost use Rattle.std.specs.Prelude.{◌≡◌, ◌*◌, ◌^◌, pos, ◌-ℤ◌, ◌≤ℤ◌, ℤ, Ok, IfOk, IfErr, IfSome, IsNone};
-ghost use Rattle.book_model.specs.declared.season.Side.TheVariants.{UpTo as up_to, Past as past};
+ghost use Rattle.book_model.specs.declared.season.Side.TheVariants.{UpTo as up_to, Past as past, From as at_least};
 ghost use Rattle.book_model.specs.declared.time_tables.TheConstants.{TABLE_START as table_start, TABLE_END as table_end};
 ghost use Rattle.book_model.specs.numbers.Expressions.{Expression};
 ghost use Rattle.book_model.specs.sky.Facts.{IsFactDay, IsFactValue, IsValueDay};
@@ -58,6 +58,17 @@ fn is_past<E: Enclosure>(degrees: i64, longitude: E, trail: &mut Trail) -> Resul
     less_step(E::from_int(degrees), longitude, Site::DayTest, trail)
 }
 
+/// Whether a longitude is so many degrees or more, as one test.
+#[tactic(auto, using(book_model::proofs::Leads::leading), unfolding(book_model::specs::sky::Kinds::is_on_side_of))]
+fn is_from<E: Enclosure>(degrees: i64, longitude: E, trail: &mut Trail) -> Result<bool, Fail>
+    ensures leads { Decides1 E.shown (is_on_side_of (at_least degrees)) longitude trail.old.count
+        trail.new.count result }
+    ensures close { IsSmall degrees → Closes1 E.BITS E.shown (2 ^ 44) (IsUpTo 360) longitude result }
+{
+    let is_less = less_step(longitude, E::from_int(degrees), Site::DayTest, trail)?;
+    Ok(!is_less)
+}
+
 /// Whether a longitude lies on a side.
 #[tactic(auto, using(book_model::proofs::Leads::leading))]
 fn is_on_side<E: Enclosure>(side: Side, longitude: E, trail: &mut Trail) -> Result<bool, Fail>
@@ -68,6 +79,7 @@ fn is_on_side<E: Enclosure>(side: Side, longitude: E, trail: &mut Trail) -> Resu
     match side {
         Side::UpTo(degrees) => is_up_to(degrees, longitude, trail),
         Side::Past(degrees) => is_past(degrees, longitude, trail),
+        Side::From(degrees) => is_from(degrees, longitude, trail),
     }
 }
 

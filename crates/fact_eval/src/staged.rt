@@ -9,9 +9,12 @@ ghost use Rattle.book_model.specs.programs.Widths.{IsClose};
 ghost use Rattle.fact_eval.specs.Answers.{answer_of, AreCloseAnywhere, IsCloseAnswer, IsCloseAnywhere};
 ghost use Rattle.fact_eval.specs.Widths.{IsNoWholeDay};
 
+use crate::distances::distance_in_kilometres;
 use crate::dt::dt;
+use crate::french_year::french_year;
 use crate::major::major;
 use crate::moon_days::{new_moon_before, new_moon_from};
+use crate::nisan::nisan;
 use crate::nowruz::nowruz;
 use crate::quarters::{phase_day, phasis};
 use crate::solar_terms::term_day;
@@ -26,6 +29,7 @@ use hindu_facts::{
     tithi,
 };
 use moon_core::PhaseCourse;
+use moon_rise::{moonrise, moonset};
 use new_moons::new_moon;
 use oracle_core::{Answer, Evaluator};
 
@@ -107,6 +111,11 @@ fn formula<E: Enclosure>(
         Kind::FullMoon => phase_day::<E>(course, 180, day, trail),
         Kind::LastQuarter => phase_day::<E>(course, 270, day, trail),
         Kind::Sunset => sunset_in_minutes::<E>(place, day, trail),
+        Kind::Distance => distance_in_kilometres::<E>(day, trail),
+        Kind::Moonrise => moonrise::<E>(place, day, trail),
+        Kind::Moonset => moonset::<E>(place, day, trail),
+        Kind::FrenchYear => french_year::<E>(course.sun(), day, trail),
+        Kind::Nisan => nisan::<E>(course, place, day, trail),
     }
 }
 

@@ -1,8 +1,7 @@
 //! The first day of a Bahá'í year, and sunset in minutes.
-ghost use Rattle.book_model.specs.programs.Calls.{Decides, Decides1, Holds1};
-ghost use Rattle.book_model.specs.programs.Widths.{IsAbout, IsClose, IsMoment, Closes1};
+ghost use Rattle.book_model.specs.programs.Calls.{Decides, Holds1};
+ghost use Rattle.book_model.specs.programs.Widths.{IsAbout, IsClose, IsMoment};
 ghost use Rattle.std.specs.Prelude.{◌≡◌, ℕ, ◌+◌, ◌*◌, ◌^◌, ◌≤◌, IfOk, IfErr};
-ghost use Rattle.book_model.specs.sky.Correction.{rounded_of};
 ghost use Rattle.book_model.specs.sky.Facts.{IsFactDay, IsFactValue, IsValueDay};
 ghost use Rattle.book_model.specs.sky.Horizon.{sunset_of};
 ghost use Rattle.book_model.specs.sky.Kinds.{bahai_year_of, located, minutes_of, sunset_in_minutes_of};
@@ -10,13 +9,13 @@ ghost use Rattle.book_model.specs.sky.Names.{location_of};
 ghost use Rattle.book_model.specs.declared.location_tables.TheConstants.{TEHRAN as tehran};
 ghost use Rattle.rise_set.specs.Widths.{IsNarrowLocation};
 
+use crate::rounding::rounded;
 use crate::seasons::{DayMoment, season_day};
 use book_model::calendar_tables::SPRING;
 use book_model::location_tables::{MINUTES_OF_DAY, TEHRAN};
-use book_model::tables::HALF;
 use book_model::time_tables::HOUR;
 use book_model::{Fail, Location, Place, Site};
-use encl_core::{Enclosure, Trail, floor_step};
+use encl_core::{Enclosure, Trail};
 use rise_set::{Sunsets, sunset};
 use std::marker::Model;
 use sun_core::SunCourse;
@@ -82,15 +81,6 @@ fn minutes<E: Enclosure>(place: Place, day: i64, t: E) -> E
     t.add(E::from_frac(zone_on(place, day)).mul_frac(HOUR))
         .sub(E::from_int(day))
         .mul_frac(MINUTES_OF_DAY)
-}
-
-/// A number rounded, the greater of two: one test.
-#[tactic(auto, using(book_model::proofs::Leads::leading), unfolding(book_model::specs::sky::Correction::rounded_of))]
-fn rounded<E: Enclosure>(number: E, trail: &mut Trail) -> Result<i64, Fail>
-    ensures leads { Decides1 E.shown rounded_of number trail.old.count trail.new.count result }
-    ensures close { Closes1 E.BITS E.shown (2 ^ 43) (IsAbout (2 ^ 89)) number result }
-{
-    floor_step(number.add(E::from_frac(HALF)), Site::Round, trail)
 }
 
 /// Sunset on a day (R.D.) at the location of a place, in minutes of its time after midnight, rounded.

@@ -4,7 +4,7 @@ use Rattle.std.proofs.lemmas.Int.{to_z-of_z}
 use Rattle.std.proofs.lemmas.Result.{IfErr-weaker}
 use Rattle.book_model.specs.sky.Kinds.{sun_in_thousandths_of}
 use Rattle.book_model.proofs.Leads.{leads_on, leaf_within}
-use Rattle.fact_eval.proofs.DayLemmas.{sun_is_value, sun_not_of_year, round_not_of_year}
+use Rattle.fact_eval.proofs.DayLemmas.{sun_is_value, day_not_of_year, round_not_of_year}
 use Rattle.moon_core.proofs.QuarterWidths.{whole_moment}
 use Rattle.fact_eval.proofs.Measured.{fact_day, small_day, thousandths_within}
 use Rattle.fact_eval.proofs.sun.sun_in_thousandths.Goals as goal
@@ -28,7 +28,7 @@ returns-in_err-degrees-clause-early g c = λ p q.
     let f : SFits w64 c.args.day = c.ranges.day in
     let n = simp to_z-of_z at c.from_int.ensures.encloses.narrow in
     let fails = err_from_is_err_and c.from_residual.result c.from_residual.ensures.1 in
-    rw (fails.1, fails.2) (sun_not_of_year g.E.Enclosure.shown _ c.args.day c.from_int.result _ p q c.requires.day n c.in_err-degrees.ensures.open)
+    rw (fails.1, fails.2) (day_not_of_year g.E.Enclosure.shown _ c.args.day c.from_int.result _ p q c.requires.day n c.in_err-degrees.ensures.open)
 
 pub returns-clause-close : goal.returns-clause-close
 returns-clause-close g c = λ e.
