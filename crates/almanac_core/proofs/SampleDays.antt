@@ -6,10 +6,14 @@ use Rattle.std.proofs.lemmas.Int.{ints}
 use Rattle.book_model.specs.declared.calendar.Calendar.TheVariants as calendars
 use Rattle.book_model.specs.declared.version.TheConstants.{WRITTEN}
 use Rattle.book_model.specs.calendars.Dates.{row_of, may_have, is_answered, year_number}
-use Rattle.book_model.specs.calendars.Versions.{days_in, is_in_range}
+use Rattle.book_model.specs.declared.words.FromWord.TheVariants as from
+use Rattle.book_model.specs.declared.words.ToWord.{ToWord}
+use Rattle.book_model.specs.declared.words.ToWord.TheVariants as to
+use Rattle.book_model.specs.calendars.Versions.{days_in}
+use Rattle.book_model.specs.lines.Reach.{reach_of, is_reached}
 use Rattle.book_model.specs.lines.Requests.{fields_with, has_words, checked_request}
 use Rattle.book_model.proofs.VersionTables.{all_words}
-use Rattle.almanac_core.specs.Sample.{day_by, sample_line_of, IsSampleDay}
+use Rattle.almanac_core.specs.Sample.{day_by, asked_at, sample_line_of, IsSampleDay}
 use Rattle.almanac_core.proofs.Samples.{sample_day}
 
 -- a day number is a date
@@ -31,18 +35,24 @@ fixed_year : (n : ℕ) → year_number (row_of calendars.Fixed) (fields_with (n 
 unfolding year_number
 fixed_year n = sum_of_nothing (pos 0 *ℤ pos n) (nothing_counted (pos n))
 
--- a line may name the days of a sample
-pub in_range : (n : ℕ) → IsSampleDay n → is_in_range WRITTEN (pos n) ≡ true
-in_range n day =
+-- what any word shows there is of the days of a sample: the last line is checked for each word by itself
+shown_before : (to : ToWord) → int_le (reach_of WRITTEN from.Fixed to).0 (pos 657802) ≡ true
+shown_before to.Gregorian = refl
+shown_before _ = refl
+
+-- a line may name them
+pub in_reach : (n : ℕ) (to : ToWord) → IsSampleDay n → is_reached WRITTEN from.Fixed to (pos n) ≡ true
+in_reach n to day =
     let low = day.0 in
     let high = day.1 in
-    let from_first : int_le (days_in WRITTEN).0 (pos n) ≡ true = grind (arith, ints, nat_tests) in
+    let before = shown_before to in
+    let from_first : int_le (reach_of WRITTEN from.Fixed to).0 (pos n) ≡ true = grind (arith, ints, nat_tests, before) in
     let to_last : int_le (pos n) (days_in WRITTEN).1 ≡ true = grind (arith, ints, nat_tests) in
     rw (from_first, to_last) refl
 
-fixed_answered : (n : ℕ) → IsSampleDay n → is_answered WRITTEN calendars.Fixed (fields_with (n ∷ [])) ≡ true
+fixed_answered : (n : ℕ) (to : ToWord) → IsSampleDay n → is_answered WRITTEN (reach_of WRITTEN from.Fixed to) calendars.Fixed (fields_with (n ∷ [])) ≡ true
 unfolding is_answered
-fixed_answered n day = rw (fixed_year n, in_range n day) refl
+fixed_answered n to day = rw (fixed_year n, in_reach n to day) refl
 
 -- the request of a state breaks no rule
 pub sample_checked : (state index : ℕ) → checked_request WRITTEN (sample_line_of state index) ≡ Ok (sample_line_of state index)
@@ -50,4 +60,4 @@ unfolding sample_line_of
 sample_checked state index =
     let day = sample_day state in
     let words : has_words WRITTEN (sample_line_of state index) ≡ true = all_words (sample_line_of state index) in
-    rw (words, fixed_may (day_by state) (omega (arith, day.1)), fixed_answered (day_by state) day) refl
+    rw (words, fixed_may (day_by state) (omega (arith, day.1)), fixed_answered (day_by state) (asked_at index) day) refl

@@ -1,12 +1,11 @@
 -- Calendars whose days are known by facts alone.
 use Rattle.std.proofs.Common.{◌≡◌, Bool, true, false, refl}
-use Rattle.std.specs.Prelude.{◌&&◌, ◌==◌, IsTrue}
+use Rattle.std.specs.Prelude.{◌&&◌, ◌==◌, IsTrue, ℤ}
 use Rattle.book_model.specs.declared.calendar.Calendar.{Calendar}
 use Rattle.book_model.specs.declared.calendar.Calendar.TheVariants.{Gregorian, Fixed}
 use Rattle.book_model.specs.declared.request.Fields.{Fields}
-use Rattle.book_model.specs.declared.version.Version.{Version}
 use Rattle.book_model.specs.calendars.Gregorian.{is_date}
-use Rattle.book_model.specs.calendars.Dates.{may_have, row_of, field, are_within, has_day_of_month, has_day_in_range}
+use Rattle.book_model.specs.calendars.Dates.{may_have, row_of, field, are_within, has_day_of_month, has_day_in_reach}
 
 -- nothing is said of their months: the last line is checked for each calendar by itself
 pub other_month : (c : Calendar) (f : Fields) → (c ≡ Gregorian → ⊥) → has_day_of_month c f ≡ true
@@ -14,10 +13,10 @@ other_month Gregorian f other = absurd (other refl)
 other_month _ f other = refl
 
 -- nor of their days
-pub other_day : (version : Version) (c : Calendar) (f : Fields) → (c ≡ Gregorian → ⊥) → (c ≡ Fixed → ⊥) → true ≡ has_day_in_range version c f
-other_day version Gregorian f other and_other = absurd (other refl)
-other_day version Fixed f other and_other = absurd (and_other refl)
-other_day version _ f other and_other = refl
+pub other_day : (reach : ℤ × ℤ) (c : Calendar) (f : Fields) → (c ≡ Gregorian → ⊥) → (c ≡ Fixed → ⊥) → true ≡ has_day_in_reach reach c f
+other_day reach Gregorian f other and_other = absurd (other refl)
+other_day reach Fixed f other and_other = absurd (and_other refl)
+other_day reach _ f other and_other = refl
 
 both : (a b : Bool) → IsTrue (a && b) → IsTrue b
 both true b h = h

@@ -15,7 +15,7 @@ use Rattle.book_model.specs.declared.words.ToWord.TheVariants as to
 use Rattle.book_model.specs.calendars.Dates.{row_of}
 use Rattle.book_model.specs.calendars.Versions.{has_since, had_in}
 use Rattle.book_model.specs.lines.Lines.{words_of}
-use Rattle.book_model.specs.lines.Requests.{request_of, checked_request, fields_of, fields_with, checked, ranged, with_date, with_words, is_of_seven_digits, IsSpelled}
+use Rattle.book_model.specs.lines.Requests.{request_of, checked_request, fields_of, fields_with, checked, ranged_by, with_date, with_words, is_of_seven_digits, IsSpelled}
 use Rattle.book_model.specs.lines.Text.{date_text, line_text, three_words_text}
 use Rattle.book_model.specs.lines.Words.{calendar_of, from_since, to_since, from_word_of, to_word_of, text_of_from, text_of_to}
 use Rattle.book_model.proofs.WordTables.{from_found, to_found, few_fields}
@@ -56,7 +56,7 @@ words_asked : (version : Version) (r : Request) (date : List ℕ) (o : Option Fr
 words_asked version r date o p before after again = rw (before, after) (by (has_since version (from_since r.from)) (has_since version (to_since r.to)))
   where
     by : (s t : Bool) → with_words version (if s then Some r.from else None) date (if t then Some r.to else None)
-        ≡ (if s && t then with_date r.from r.to (ranged version (calendar_of r.from) (checked (calendar_of r.from) r.date)) else Err rules.Calendar)
+        ≡ (if s && t then with_date r.from r.to (ranged_by version r.from r.to (checked (calendar_of r.from) r.date)) else Err rules.Calendar)
     by true true = rw again refl
     by true false = refl
     by false t = refl

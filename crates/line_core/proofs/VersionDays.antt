@@ -1,54 +1,57 @@
--- The days that a line of some version may name: each calendar tells their dates, and facts may be asked of them.
-use Rattle.std.proofs.Common.{◌≡◌, Bool, true, false, ◌&&◌, ◌||◌, refl, arith, List, [], ◌∷◌}
+-- The days that a line of the written version may name: the calendars of its words tell their dates, and facts may be asked of them.
+use Rattle.std.proofs.Common.{◌≡◌, arith}
 use Rattle.std.proofs.lemmas.Int.{ints}
-use Rattle.std.specs.List.{list_all}
-use Rattle.std.specs.Prelude.{IsTrue, ℤ, ◌≤ℤ◌, int_le}
+use Rattle.std.specs.Prelude.{IsTrue, ℤ, pos, ◌≤ℤ◌}
+use Rattle.book_model.specs.declared.calendar.TheConstants.{LAST_DATE_DAY}
+use Rattle.book_model.specs.declared.version.Version.{Version}
+use Rattle.book_model.specs.declared.version.TheConstants.{WRITTEN}
+use Rattle.book_model.specs.declared.words.FromWord.{FromWord}
+use Rattle.book_model.specs.declared.words.Meaning.{Meaning}
+use Rattle.book_model.specs.declared.words.Meaning.TheVariants.{Date, Value}
+use Rattle.book_model.specs.declared.words.ToWord.{ToWord}
+use Rattle.book_model.specs.declared.request.Fields.{Fields}
 use Rattle.book_model.specs.declared.calendar.Calendar.{Calendar}
 use Rattle.book_model.specs.declared.calendar.Calendar.TheVariants.{Gregorian}
-use Rattle.book_model.specs.declared.calendar.TheConstants.{LAST_DATE_DAY}
-use Rattle.book_model.specs.declared.fact.TheConstants.{FIRST_FACT_DAY, LAST_FACT_DAY}
-use Rattle.book_model.specs.calendars.Dates.{row_of, IsDateDay}
-use Rattle.book_model.specs.calendars.Versions.{is_in_some, line_days, is_in_some_range}
-use Rattle.book_model.specs.sky.Correction.{is_between}
+use Rattle.book_model.specs.calendars.Dates.{gregorian_day, may_have, is_answered, IsAskable}
+use Rattle.book_model.specs.calendars.Versions.{days_in}
+use Rattle.book_model.specs.lines.Reach.{first_day_of, reach_of, is_reached}
+use Rattle.book_model.specs.lines.Words.{shown_by}
 use Rattle.book_model.specs.sky.Facts.{IsFactDay}
+use Rattle.book_model.proofs.CorrectionRows.{lies}
+use Rattle.book_model.proofs.VersionTables.{answered_day, askable, later_days, reached_day, told_from}
+use Rattle.line_core.specs.Days.{IsTold}
 
--- ranges lie between two numbers
-abbrev lie_between : (lo hi : ℤ) → List (ℤ × ℤ) → Bool
-lie_between lo hi ranges = list_all (λ range. int_le lo range.0 && int_le range.1 hi) ranges
+-- a day of the written version
+pub record IsWrittenDay (day : ℤ) : Type 0 where
+  pub from : pos 1 ≤ℤ day
+  pub to : day ≤ℤ LAST_DATE_DAY
 
-both : (p q : Bool) → (p && q) ≡ true → (p ≡ true) × (q ≡ true)
-both true true e = (refl, refl)
-both true false e = absurd (cc)
-both false q e = absurd (cc)
+written_day : (from : FromWord) (to : ToWord) (day : ℤ) → IsTrue (is_reached WRITTEN from to day) → IsWrittenDay day
+written_day from to day h =
+    let l = lies (days_in WRITTEN).0 (days_in WRITTEN).1 day (reached_day WRITTEN from to day h) in
+    record { from = omega (arith, ints, l.0); to = omega (arith, ints, l.1) }
 
-in_wider : (lo hi first last z : ℤ) → (int_le lo first && int_le last hi) ≡ true → is_between first last z ≡ true → (lo ≤ℤ z) × (z ≤ℤ hi)
-in_wider lo hi first last z wide h =
-    let ends = both (int_le lo first) (int_le last hi) wide in
-    let within = both (int_le first z) (int_le z last) h in
-    (grind (arith, ints, ends, within), grind (arith, ints, ends, within))
+-- facts may be asked of it
+written_fact : (day : ℤ) → IsWrittenDay day → IsFactDay day
+written_fact day w = (omega (arith, ints, w.from), omega (arith, ints, w.to))
 
--- and so does a number in one of them
-in_all : (lo hi : ℤ) (ranges : List (ℤ × ℤ)) (z : ℤ) → lie_between lo hi ranges ≡ true → is_in_some ranges z ≡ true → (lo ≤ℤ z) × (z ≤ℤ hi)
-in_all lo hi [] z wide h = absurd (cc)
-in_all lo hi (range ∷ []) z wide h = in_wider lo hi range.0 range.1 z (both _ _ wide).0 h
-in_all lo hi (range ∷ other ∷ ranges) z wide h =
-    let each = both (int_le lo range.0 && int_le range.1 hi) (lie_between lo hi (other ∷ ranges)) wide in
-    by (is_between range.0 range.1 z) refl each.0 (in_all lo hi (other ∷ ranges) z each.1) h
-  where
-    by : (b : Bool) → is_between range.0 range.1 z ≡ b → (int_le lo range.0 && int_le range.1 hi) ≡ true
-        → (is_in_some (other ∷ ranges) z ≡ true → (lo ≤ℤ z) × (z ≤ℤ hi)) → (b || is_in_some (other ∷ ranges) z) ≡ true → (lo ≤ℤ z) × (z ≤ℤ hi)
-    by true here first rest h = in_wider lo hi range.0 range.1 z first here
-    by false here first rest h = rest h
+-- from the first day on of which there is what a word is about, there is that
+told_by : (m : Meaning) (day : ℤ) → IsWrittenDay day → first_day_of m ≤ℤ day → IsTold m day
+told_by (Date c) day w h = (h, w.to)
+told_by (Value kind place) day w h = written_fact day w
 
--- by the tables: the last line is checked for each calendar by itself
-all_told : (c : Calendar) → lie_between (row_of c).first_day LAST_DATE_DAY line_days ≡ true
-all_told Gregorian = refl
-all_told _ = refl
+-- of a day that a line may name there is what its last word shows
+pub shown_told : (from : FromWord) (to : ToWord) (day : ℤ) → IsTrue (is_reached WRITTEN from to day) → IsTold (shown_by to) day
+shown_told from to day h = told_by (shown_by to) day (written_day from to day h) (told_from WRITTEN from to day h).1
 
--- each calendar tells the date of a day that a line may name
-pub date_day : (c : Calendar) (day : ℤ) → IsTrue (is_in_some_range day) → IsDateDay c day
-date_day c day h = in_all (row_of c).first_day LAST_DATE_DAY line_days day (all_told c) h
+-- a date that a line answers is one that its calendar may be asked the day of
+pub asked_date : (version : Version) (reach : ℤ × ℤ) (c d : Calendar) (f : Fields) → d ≡ c → IsTrue (may_have d f) → IsTrue (is_answered version reach d f)
+    → IsAskable c f
+asked_date version reach c d f same possible h = askable version reach c f (rw same at possible) (rw same at h)
 
--- and facts may be asked of it
-pub fact_day : (day : ℤ) → IsTrue (is_in_some_range day) → IsFactDay day
-fact_day day h = in_all FIRST_FACT_DAY LAST_FACT_DAY line_days day refl h
+-- facts may be asked of the day of a Gregorian date that a line answers
+pub asked_day : (version : Version) (from : FromWord) (to : ToWord) (c : Calendar) (f : Fields) → c ≡ Gregorian
+    → IsTrue (is_answered version (reach_of version from to) c f) → IsFactDay (gregorian_day f)
+asked_day version from to c f same h =
+    let near = answered_day version (reach_of version from to) f (rw same at h) in
+    written_fact (gregorian_day f) (written_day from to (gregorian_day f) (later_days version from to (gregorian_day f) near))

@@ -2,13 +2,13 @@
 ghost use Rattle.std.specs.Prelude.{◌≡◌, IsTrue, IfOk, MatchOption, true, false};
 ghost use Rattle.book_model.specs.calendars.Dates as spec;
 ghost use Rattle.book_model.specs.calendars.Moving.{at_place};
-ghost use Rattle.book_model.specs.calendars.Versions.{is_in_some_range};
 ghost use Rattle.book_model.specs.lines.Requests.{ranged, checked, fields_of};
 ghost use Rattle.east_cal.specs.Moving.{is_moved_to};
 ghost use Rattle.oracle_core.specs.Asking.{Asks};
 
 use crate::fields::{are_within, has_year, spelled_fields};
-use crate::gregorian::{gregorian_date, gregorian_day, is_in_range};
+use crate::gregorian::{gregorian_date, gregorian_day};
+use crate::reach::is_within;
 use book_model::{Calendar, Fields, Place, Rule, Version};
 use calendar_math::to_32_bits;
 use chinese_cal::ChineseDate;
@@ -22,37 +22,39 @@ fn fixed_day(date: &Fields) -> i64
     i64::from(date.field(0))
 }
 
-/// Whether the day of a date is one that a line of a version may name, where it is known without any fact; `None` where the
-/// month of the date hasn't this day.
-fn has_day_in_range(version: Version, calendar: Calendar, date: &Fields) -> Option<bool>
+/// Whether the day of a date lies in the reach of a line, from its first to its last day, where it is known without any fact; `None`
+/// where the month of the date hasn't this day.
+fn has_day_in_reach(reach: (i64, i64), calendar: Calendar, date: &Fields) -> Option<bool>
     ensures day { MatchOption result (spec.has_day_of_month calendar date.now ≡ false)
         (λ near. (spec.has_day_of_month calendar date.now ≡ true)
-        × (near ≡ spec.has_day_in_range version calendar date.now)) }
+        × (near ≡ spec.has_day_in_reach reach calendar date.now)) }
 {
     match calendar {
-        Calendar::Gregorian => Some(is_in_range(version, gregorian_day(date)?)),
-        Calendar::Fixed => Some(is_in_range(version, fixed_day(date))),
+        Calendar::Gregorian => Some(is_within(reach, gregorian_day(date)?)),
+        Calendar::Fixed => Some(is_within(reach, fixed_day(date))),
         _ => Some(true),
     }
 }
 
-/// A date of a calendar itself, where it is one that a version answers as far as that can be told without any fact: `Field`
-/// where the calendar can have no such date, `Range` where it is out of range.
+/// A date of a calendar itself, where it is one that a line of a version answers, which may name the days from the first to the last
+/// of its reach, as far as that can be told without any fact: `Field` where the calendar can have no such date, `Range` where it is
+/// out of range.
 #[tactic(auto, unfolding(book_model::specs::calendars::Dates::may_have, book_model::specs::calendars::Dates::is_answered))]
 pub(crate) fn checked_date(
     version: Version,
+    reach: (i64, i64),
     calendar: Calendar,
     date: &Fields,
 ) -> Result<Fields, Rule>
-    ensures date { result ≡ ranged version calendar (checked calendar date.now) }
+    ensures date { result ≡ ranged version reach calendar (checked calendar date.now) }
     ensures possible { IfOk result (λ f. IsTrue (spec.may_have calendar f)) }
-    ensures in_reach { IfOk result (λ f. IsTrue (spec.is_answered version calendar f)) }
+    ensures in_reach { IfOk result (λ f. IsTrue (spec.is_answered version reach calendar f)) }
 {
     let row = calendar.row();
     if date.count != row.count || !are_within(&row, date) {
         return Err(Rule::Field);
     }
-    let is_near = has_day_in_range(version, calendar, date).ok_or(Rule::Field)?;
+    let is_near = has_day_in_reach(reach, calendar, date).ok_or(Rule::Field)?;
     if is_near && has_year(version, &row, date) {
         Ok(*date)
     } else {
@@ -60,15 +62,20 @@ pub(crate) fn checked_date(
     }
 }
 
-/// The date that a word spells in a calendar, where it is one that a version answers as far as that can be told without any
-/// fact: `Field` where the calendar can have no such date, `Range` where it is out of range.
-pub(crate) fn ranged_date(version: Version, calendar: Calendar, date: &[u8]) -> Result<Fields, Rule>
-    ensures date { result ≡ ranged version calendar (fields_of calendar date.now) }
+/// The date that a word spells in a calendar, where it is one that such a line answers, as far as that can be told without any fact:
+/// `Field` where the calendar can have no such date, `Range` where it is out of range.
+pub(crate) fn ranged_date(
+    version: Version,
+    reach: (i64, i64),
+    calendar: Calendar,
+    date: &[u8],
+) -> Result<Fields, Rule>
+    ensures date { result ≡ ranged version reach calendar (fields_of calendar date.now) }
     ensures possible { IfOk result (λ f. IsTrue (spec.may_have calendar f)) }
-    ensures in_reach { IfOk result (λ f. IsTrue (spec.is_answered version calendar f)) }
+    ensures in_reach { IfOk result (λ f. IsTrue (spec.is_answered version reach calendar f)) }
 {
     let fields = spelled_fields(date).ok_or(Rule::Field)?;
-    checked_date(version, calendar, &fields)
+    checked_date(version, reach, calendar, &fields)
 }
 
 /// A number as the only field of a date or of a result.
@@ -104,10 +111,10 @@ fn day_by<D: CalendarDate, O: Oracle>(oracle: &mut O, date: &Fields) -> Result<i
     D::day_by(oracle, date)
 }
 
-/// The fields of the date of a day (R.D.) that a line may name, found by facts. It stops where the oracle stops.
+/// The fields of the date of a day (R.D.) whose date the calendar tells, found by facts. It stops where the oracle stops.
 #[tactic(auto, using(oracle_core::proofs::Inquiring::asking))]
 fn fields_on<D: CalendarDate, O: Oracle>(oracle: &mut O, day: i64) -> Result<Fields, Stop>
-    requires in_range { IsTrue (is_in_some_range day) }
+    requires told { spec.IsDateDay D.calendar day }
     ensures date { Asks O.Oracle (spec.date_on D.calendar day) oracle.old oracle.new result }
 {
     Ok(D::of_day(oracle, day)?.fields())
@@ -124,11 +131,10 @@ fn day_at<O: Oracle>(oracle: &mut O, place: Place, date: &Fields) -> Result<i64,
     day_by::<ChineseDate, Moved<O>>(&mut Moved::new(oracle, place), date)
 }
 
-/// The fields of the date of a day (R.D.) that a line may name, by the Chinese rules over the sky of another place. It stops where
-/// the oracle stops.
+/// The fields of the date of a day (R.D.) by the Chinese rules over the sky of another place. It stops where the oracle stops.
 fn fields_at<O: Oracle>(oracle: &mut O, place: Place, day: i64) -> Result<Fields, Stop>
     requires moved_to { IsTrue (is_moved_to place) }
-    requires in_range { IsTrue (is_in_some_range day) }
+    requires told { spec.IsDateDay Calendar.Chinese day }
     ensures date { Asks O.Oracle (at_place place (spec.date_on Calendar.Chinese day))
         oracle.old oracle.new result }
 {
@@ -151,6 +157,8 @@ macro_rules! by_calendar {
             Calendar::Islamic => $call::<islamic_observed::IslamicDate, O>($oracle, $given),
             Calendar::HinduSolar => $call::<hindu_astro::solar::HinduSolar, O>($oracle, $given),
             Calendar::HinduLunar => $call::<hindu_astro::lunar::HinduLunar, O>($oracle, $given),
+            Calendar::French => $call::<french_astro::FrenchDate, O>($oracle, $given),
+            Calendar::HebrewObserved => $call::<hebrew_observed::HebrewDate, O>($oracle, $given),
         }
     };
 }
@@ -174,14 +182,14 @@ pub(crate) fn named_day<O: Oracle>(
     )
 }
 
-/// The date of a day (R.D.) that a line may name. It stops where the oracle stops.
+/// The date of a day (R.D.) whose date the calendar tells. It stops where the oracle stops.
 #[tactic(auto, using(oracle_core::proofs::Inquiring::asking))]
 pub(crate) fn date_on<O: Oracle>(
     oracle: &mut O,
     calendar: Calendar,
     day: i64,
 ) -> Result<Fields, Stop>
-    requires in_range { IsTrue (is_in_some_range day) }
+    requires told { spec.IsDateDay calendar day }
     ensures comes { Asks O.Oracle (spec.date_on calendar day) oracle.old oracle.new result }
 {
     by_calendar!(

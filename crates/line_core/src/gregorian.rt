@@ -2,19 +2,10 @@
 ghost use Rattle.std.specs.Prelude.{◌≡◌, ◌↔◌, IsTrue, IsSome, IfSome};
 ghost use Rattle.book_model.specs.calendars.Gregorian.{is_date, fixed_of};
 ghost use Rattle.book_model.specs.calendars.Dates as dates;
-ghost use Rattle.book_model.specs.calendars.Versions as versions;
 ghost use Rattle.book_model.specs.declared.calendar.Calendar.TheVariants.{Gregorian};
 
-use book_model::{Fields, Version};
+use book_model::Fields;
 use civil_core::{from_fixed, to_fixed};
-
-/// Whether a day (R.D.) is one of the days that a line of a version may name.
-pub(crate) fn is_in_range(version: Version, day: i64) -> bool
-    ensures range { result ≡ versions.is_in_range version day }
-{
-    let (first, last) = version.days();
-    first <= day && day <= last
-}
 
 /// The day number (R.D.) of the date of the years 1 to 9999 with these numbers, if the calendar has it.
 fn date_day(year: u32, month: u32, day: u32) -> Option<i64>

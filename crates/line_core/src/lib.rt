@@ -6,6 +6,7 @@ mod fields;
 mod gregorian;
 pub mod laws;
 mod line;
+mod reach;
 mod request;
 mod result;
 mod split;

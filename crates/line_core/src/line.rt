@@ -7,6 +7,7 @@ ghost use Rattle.book_model.specs.lines.Text.{three_words_text};
 ghost use Rattle.book_model.specs.lines.Words.{from_word_in, to_word_in};
 
 use crate::dates::ranged_date;
+use crate::reach::reach_of;
 use book_model::{FromWord, Request, Rule, ToWord, Version};
 
 /// The longest line, in bytes.
@@ -111,7 +112,12 @@ fn asked(words: ThreeWords<'_>, version: Version) -> Result<Request, Rule>
 {
     let from = FromWord::named_in(version, words.from).ok_or(Rule::Calendar)?;
     let to = ToWord::named_in(version, words.to).ok_or(Rule::Calendar)?;
-    let date = ranged_date(version, from.calendar(), words.date)?;
+    let date = ranged_date(
+        version,
+        reach_of(version, from, to),
+        from.calendar(),
+        words.date,
+    )?;
     Ok(Request { from, date, to })
 }
 

@@ -3,6 +3,7 @@ ghost use Rattle.std.specs.Prelude.{◌≡◌, IsTrue, IfOk};
 ghost use Rattle.book_model.specs.lines.Requests as spec;
 
 use crate::dates::checked_date;
+use crate::reach::reach_of;
 use book_model::{Request, Rule, Version};
 
 /// A request itself, or the first rule of a version that its line breaks: `Calendar` for a word that the version hasn't; `Field`
@@ -16,7 +17,8 @@ pub fn checked_request(request: &Request, version: Version) -> Result<Request, R
     if !version.has_since(request.from.since()) || !version.has_since(request.to.since()) {
         return Err(Rule::Calendar);
     }
-    let date = checked_date(version, request.from.calendar(), &request.date)?;
+    let reach = reach_of(version, request.from, request.to);
+    let date = checked_date(version, reach, request.from.calendar(), &request.date)?;
     Ok(Request {
         from: request.from,
         date,

@@ -1,14 +1,17 @@
 //! What a request comes to.
 ghost use Rattle.std.specs.Prelude.{◌≡◌, IsTrue};
 ghost use Rattle.book_model.specs.calendars.Dates as dates;
-ghost use Rattle.book_model.specs.calendars.Versions.{is_in_some_range};
 ghost use Rattle.book_model.specs.lines.LineRules as spec;
+ghost use Rattle.book_model.specs.declared.version.TheConstants.{WRITTEN};
+ghost use Rattle.book_model.specs.lines.Reach.{is_reached};
 ghost use Rattle.book_model.specs.lines.Requests.{is_possible, is_in_reach};
 ghost use Rattle.book_model.specs.lines.Words.{named_by, shown_by};
+ghost use Rattle.book_model.specs.sky.Facts.{IsFactDay};
+ghost use Rattle.line_core.specs.Days.{IsTold};
 ghost use Rattle.oracle_core.specs.Asking.{Asks};
 
 use crate::dates::{date_on, day_of_gregorian, have_same_fields, named_day, one_field};
-use crate::gregorian::is_in_range;
+use crate::reach::{is_within, reach_of};
 use book_model::{
     Calendar, Fact, Fields, FromWord, Kind, Meaning, Place, Request, Resolved, ToWord, Version,
 };
@@ -22,7 +25,7 @@ fn show_date<O: Oracle>(
     calendar: Calendar,
     day: i64,
 ) -> Result<Resolved, Stop>
-    requires in_range { IsTrue (is_in_some_range day) }
+    requires told { dates.IsDateDay calendar day }
     ensures comes { Asks O.Oracle (spec.shown_on to (Meaning.Date calendar) day)
         oracle.old oracle.new result }
 {
@@ -31,10 +34,10 @@ fn show_date<O: Oracle>(
 }
 
 /// The fact that a word shows the value of, on a day (R.D.).
-#[tactic(auto, using(book_model::proofs::WordTables::value_placed, crate::proofs::VersionDays::fact_day))]
+#[tactic(auto, using(book_model::proofs::WordTables::value_placed))]
 fn fact_on(to: ToWord, kind: Kind, place: Place, day: i64) -> Fact
     requires shown { shown_by to ≡ Meaning.Value kind place }
-    requires in_range { IsTrue (is_in_some_range day) }
+    requires day { IsFactDay day }
     ensures fact { result ≡ spec.fact_on kind place day }
 {
     Fact::new(kind, place, day).unwrap()
@@ -50,7 +53,7 @@ fn show_value<O: Oracle>(
     day: i64,
 ) -> Result<Resolved, Stop>
     requires shown { shown_by to ≡ Meaning.Value kind place }
-    requires in_range { IsTrue (is_in_some_range day) }
+    requires day { IsFactDay day }
     ensures comes { Asks O.Oracle (spec.shown_on to (Meaning.Value kind place) day)
         oracle.old oracle.new result }
 {
@@ -60,7 +63,7 @@ fn show_value<O: Oracle>(
 
 /// What a day (R.D.) comes to. It stops where the oracle stops.
 fn resolve_on<O: Oracle>(oracle: &mut O, to: ToWord, day: i64) -> Result<Resolved, Stop>
-    requires in_range { IsTrue (is_in_some_range day) }
+    requires told { IsTold (shown_by to) day }
     ensures comes { Asks O.Oracle (spec.result_on to day) oracle.old oracle.new result }
 {
     match to.shows() {
@@ -78,7 +81,7 @@ fn confirm<O: Oracle>(
     day: i64,
     back: Fields,
 ) -> Result<Resolved, Stop>
-    requires in_range { IsTrue (is_in_some_range day) }
+    requires told { IsTold (shown_by request.now.to) day }
     ensures comes { Asks O.Oracle (spec.confirmed request.now day back)
         oracle.old oracle.new result }
 {
@@ -93,7 +96,7 @@ fn confirm<O: Oracle>(
 /// dates that no day has. It stops where the oracle stops.
 #[tactic(auto, using(oracle_core::proofs::Inquiring::asking), unfolding(book_model::specs::lines::LineRules::result_within))]
 fn resolve_within<O: Oracle>(oracle: &mut O, request: &Request, day: i64) -> Result<Resolved, Stop>
-    requires in_range { IsTrue (is_in_some_range day) }
+    requires reached { IsTrue (is_reached WRITTEN request.now.from request.now.to day) }
     ensures comes { Asks O.Oracle (spec.result_within request.now day)
         oracle.old oracle.new result }
 {
@@ -105,7 +108,7 @@ fn resolve_within<O: Oracle>(oracle: &mut O, request: &Request, day: i64) -> Res
     confirm(oracle, request, day, back)
 }
 
-/// What a day (R.D.) comes to that the date of a request names: `TooFar` where it isn't in range, and `NoDate` where
+/// What a day (R.D.) comes to that the date of a request names: `TooFar` where the line may not name it, and `NoDate` where
 /// the calendar of the request has another date for it. It stops where the oracle stops.
 #[tactic(auto, using(oracle_core::proofs::Inquiring::asking), unfolding(book_model::specs::lines::LineRules::result_of_day))]
 fn resolve_day<O: Oracle>(
@@ -117,7 +120,7 @@ fn resolve_day<O: Oracle>(
     ensures comes { Asks O.Oracle (spec.result_of_day version request.now day)
         oracle.old oracle.new result }
 {
-    if is_in_range(version, day) {
+    if is_within(reach_of(version, request.from, request.to), day) {
         resolve_within(oracle, request, day)
     } else {
         Ok(Resolved::TooFar { day })
@@ -125,11 +128,11 @@ fn resolve_day<O: Oracle>(
 }
 
 /// The fact by whose value a word and a Gregorian date name a day.
-#[tactic(auto, using(book_model::proofs::WordTables::day_placed, crate::proofs::VersionDays::fact_day))]
+#[tactic(auto, using(book_model::proofs::WordTables::day_placed))]
 fn named_fact(from: FromWord, kind: Kind, place: Place, date: &Fields) -> Fact
     requires named { named_by from ≡ Meaning.Value kind place }
     requires possible { IsTrue (dates.may_have Calendar.Gregorian date.now) }
-    requires in_range { IsTrue (is_in_some_range (dates.gregorian_day date.now)) }
+    requires day { IsFactDay (dates.gregorian_day date.now) }
     ensures fact { result ≡ spec.fact_on kind place (dates.gregorian_day date.now) }
 {
     Fact::new(kind, place, day_of_gregorian(date)).unwrap()
@@ -158,8 +161,9 @@ fn day_of_request<O: Oracle>(
 
 /// What a request that breaks no rule of a version by itself comes to: the result of the line's rule by what the oracle
 /// knows, for which the facts that the rule asks are added to the oracle's list. `TooFar` comes exactly where the day
-/// that the date names isn't one of those that a line of the version may name, and `NoDate` exactly where it is and has
-/// another date in the calendar of the request. It stops where the oracle stops, at a fact that the rule asks.
+/// that the date names isn't one of those that the line may name, which are the days of the version from the first on of
+/// which its calendars tell the dates, and `NoDate` exactly where it is and has another date in the calendar of the request. It
+/// stops where the oracle stops, at a fact that the rule asks.
 ///
 /// ```
 /// let evaluator = Staged::new();

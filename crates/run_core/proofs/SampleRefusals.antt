@@ -3,7 +3,7 @@ use Rattle.std.proofs.Common.{◌≡◌, ◌∙◌, ℕ, zero, suc, ◌+◌, tru
 use Rattle.std.specs.Prelude.{Ok, pos, ℤ}
 use Rattle.almanac_core.specs.Sample.{state_after, day_by, asked_at, sample_line_of, sample_from, IsSampleDay}
 use Rattle.almanac_core.proofs.Samples.{sample_day}
-use Rattle.almanac_core.proofs.SampleDays.{in_range, sample_checked}
+use Rattle.almanac_core.proofs.SampleDays.{in_reach, sample_checked}
 use Rattle.almanac_core.proofs.SpelledRequests.{sample_spelled}
 use Rattle.book_model.specs.declared.fact.Fact.{Fact}
 use Rattle.book_model.specs.declared.request.Fields.{Fields}
@@ -63,7 +63,7 @@ result_shown n to (Value kind place) day x es h = value_found n (fact_on kind pl
 
 day_rule : (n : ℕ) (to : ToWord) → IsSampleDay n → rule_of WRITTEN (day_request n to) ≡ shown_on to (shown_by to) (pos n)
 unfolding rule_of result_of_day result_within and_then
-day_rule n to day = rw (in_range n day) refl
+day_rule n to day = rw (in_reach n to day) refl
 
 request_not_refused : (n : ℕ) (to : ToWord) (o : LineOutcome) → IsSampleDay n → IsRightForRow WRITTEN (Ok (day_request n to)) o → is_refused o ≡ false
 request_not_refused n to (refused rule) day h = absurd h

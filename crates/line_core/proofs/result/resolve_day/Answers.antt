@@ -1,10 +1,10 @@
 use Rattle.std.proofs.Common.{SFits, w64, sym}
 use Rattle.std.proofs.lemmas.Int.{to_z-of_z}
-use Rattle.book_model.proofs.VersionTables.{some_range}
+use Rattle.book_model.proofs.VersionTables.{later_days}
 use Rattle.line_core.proofs.result.resolve_day.Goals as goal
 
 pub resolve_within-requires : goal.resolve_within-requires
 resolve_within-requires g c =
     let fits : SFits w64 c.args.day = c.ranges.day in
-    let range = simp to_z-of_z at c.if-is_in_range.ensures.range in
-    record { in_range = simp to_z-of_z (some_range c.args.version c.args.day (sym range)) }
+    let range = rw c.reach_of.ensures.reach at (simp to_z-of_z at c.if-is_within.ensures.within) in
+    record { reached = simp to_z-of_z (later_days c.args.version c.args.request.now.from c.args.request.now.to c.args.day (sym range)) }
