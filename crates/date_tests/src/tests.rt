@@ -5,6 +5,8 @@ mod chinese;
 mod civil;
 mod eastern;
 mod facts;
+mod french;
+mod hebrew;
 mod hindu;
 mod islamic;
 mod lines;

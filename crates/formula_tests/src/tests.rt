@@ -17,6 +17,7 @@ mod kept;
 mod measures;
 mod model;
 mod moon;
+mod moonrise;
 mod new_moons_by_number;
 mod quotients;
 mod rough;

@@ -2,6 +2,8 @@
 ghost use Rattle.std.specs.Prelude.{◌≡◌, IsTrue};
 ghost use Rattle.book_model.specs.calendars.Bahai.{bahai_fact};
 ghost use Rattle.book_model.specs.calendars.Chinese.{solstice_fact, moon_before_fact, moon_from_fact, major_fact};
+ghost use Rattle.book_model.specs.calendars.French.{french_year_fact};
+ghost use Rattle.book_model.specs.calendars.HebrewObserved.{month_fact};
 ghost use Rattle.book_model.specs.calendars.HinduSolar.{hindu_fact};
 ghost use Rattle.book_model.specs.calendars.Islamic.{phasis_fact};
 ghost use Rattle.book_model.specs.calendars.Persian.{nowruz_fact};
@@ -32,6 +34,30 @@ pub fn phasis_on(day: i64) -> Fact
     ensures fact { result ≡ phasis_fact day }
 {
     Fact::new(Kind::Phasis, Place::Cairo, day).unwrap()
+}
+
+/// The fact of the first day of the French year that a day falls in.
+pub fn french_year_on(day: i64) -> Fact
+    requires day { IsFactDay day }
+    ensures fact { result ≡ french_year_fact day }
+{
+    Fact::new(Kind::FrenchYear, Place::None, day).unwrap()
+}
+
+/// The fact of the first day of the Hebrew month that a day falls in.
+pub fn hebrew_month_on(day: i64) -> Fact
+    requires day { IsFactDay day }
+    ensures fact { result ≡ month_fact day }
+{
+    Fact::new(Kind::Phasis, Place::Haifa, day).unwrap()
+}
+
+/// The fact of the first day of Nisan about the equinox that is next from a day on.
+pub fn nisan_from(day: i64) -> Fact
+    requires day { IsFactDay day }
+    ensures fact { result ≡ record { kind = Kind.Nisan; place = Place.Haifa; day = day } }
+{
+    Fact::new(Kind::Nisan, Place::Haifa, day).unwrap()
 }
 
 /// The fact of the last winter solstice before the end of a day.

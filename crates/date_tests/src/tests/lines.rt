@@ -3,7 +3,7 @@
 ghost use Rattle.std.specs.Prelude.{◌≡◌, IsTrue, length};
 ghost use Rattle.oracle_core.specs.Pairs.{are_distinct, AreFactValues};
 
-use super::facts::nowruz_on;
+use super::facts::{french_year_on, nowruz_on};
 use book_model::{Fact, Fields, FromWord, Kind, Place, Request, Resolved, Rule, ToWord};
 use line_core::{
     ThreeWords, Version, checked_request, read_line, read_words, resolve, split_lines, three_words,
@@ -169,6 +169,23 @@ const ANSWERED: [(bool, bool); 8] = [
     (false, false),
 ];
 
+/// Dates at the ends of what version 2 answers in the calendars that it alone has, each with whether it is answered.
+#[rattlefmt::skip]
+const LATER_ENDS: [(&str, bool); 12] = [
+    ("french 1-1-1", true),
+    ("french 357-13-6", true),
+    ("french 358-1-1", false),
+    ("french 9999-13-30", false),
+    ("hebrew-observed 5461-13-30", false),
+    ("hebrew-observed 5462-1-1", true),
+    ("hebrew-observed 5909-13-30", true),
+    ("hebrew-observed 5910-1-1", false),
+    ("fixed 621278", true),
+    ("fixed 654414", true),
+    ("new-moon 1702-01-01", true),
+    ("new-moon 1701-12-31", false),
+];
+
 /// The rule of a version that a line breaks, if it breaks one.
 pub fn broken(line: &str, version: Version) -> Option<Rule> {
     match read_line(line.as_bytes(), version) {
@@ -193,6 +210,37 @@ fn each_version_answers_its_own_years(rt: HostRuntime) -> Result<(), Fail> {
         }
     }
     Ok(())
+}
+
+#[test]
+fn words_of_version_2_are_read_by_it_alone(rt: HostRuntime) -> Result<(), Fail> {
+    for (date, is_answered) in LATER_ENDS {
+        let line = format!(in rt.alloc(); "{date} hebrew-observed")?;
+        assert_eq!(rt; broken(&line, Version::One), Some(Rule::Calendar), "{line}");
+        assert_eq!(rt;
+            broken(&line, Version::Two),
+            range_unless(is_answered),
+            "{line}"
+        );
+    }
+    Ok(())
+}
+
+#[test]
+fn days_before_the_french_calendar_are_out_of_its_range(rt: HostRuntime) {
+    for (line, want) in [
+        ("gregorian 1792-09-21 french", Some(Rule::Range)),
+        ("gregorian 1792-09-22 french", None),
+        ("gregorian 1750-01-01 french", Some(Rule::Range)),
+        ("gregorian 1750-01-01 hebrew-observed", None),
+        ("fixed 654414 french", Some(Rule::Range)),
+        ("fixed 654415 french", None),
+        ("full-moon 1792-09-21 french", Some(Rule::Range)),
+        ("full-moon 1792-09-22 french", None),
+        ("persian 1100-1-1 french", None),
+    ] {
+        assert_eq!(rt; broken(line, Version::Two), want, "{line}");
+    }
 }
 
 #[test]
@@ -296,5 +344,29 @@ fn a_day_is_too_far_by_its_version(rt: HostRuntime) -> Result<(), Fail> {
     let line = "persian 1080-10-10 gregorian";
     let by_two = resolved_over(alloc, line, Version::Two, &[nowruz_on(621_172)], &[620_992])?;
     assert_eq!(rt; by_two, (Resolved::TooFar { day: 621_277 }, 1));
+    Ok(())
+}
+
+#[test]
+fn a_day_before_the_french_calendar_is_too_far(rt: HostRuntime) -> Result<(), Fail> {
+    let alloc = rt.alloc();
+    let line = "persian 1100-1-1 french";
+    let earlier = resolved_over(alloc, line, Version::Two, &[nowruz_on(628_477)], &[628_297])?;
+    assert_eq!(rt; earlier, (Resolved::TooFar { day: 628_297 }, 1));
+    let line = "french 357-4-12 gregorian";
+    let (facts, values) = ([french_year_on(784_621)], [784_441]);
+    let late = resolved_over(alloc, line, Version::Two, &facts, &values)?;
+    assert_eq!(rt; late, (Resolved::TooFar { day: 784_542 }, 1));
+    let line = "french 4-13-6 gregorian";
+    let (facts, values) = (
+        [french_year_on(655_690), french_year_on(655_876)],
+        [655_511, 655_876],
+    );
+    let no_date = resolved_over(alloc, line, Version::Two, &facts, &values)?;
+    let back = Fields {
+        count: 3,
+        values: [5, 1, 1, 0, 0],
+    };
+    assert_eq!(rt; no_date, (Resolved::NoDate { back }, 2));
     Ok(())
 }

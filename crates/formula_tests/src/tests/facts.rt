@@ -175,6 +175,143 @@ fn moons_are_those_of_the_reference(rt: HostRuntime) -> Result<(), Fail> {
 }
 
 #[test]
+fn distances_of_the_moon_are_those_of_the_reference(rt: HostRuntime) -> Result<(), Fail> {
+    let staged = Staged::new();
+    for (day, kilometres) in [
+        (620_729, 400_285),
+        (621_278, 388_039),
+        (638_961, 365_506),
+        (657_802, 372_688),
+        (690_925, 363_245),
+        (693_595, 372_858),
+        (727_300, 368_409),
+        (738_926, 358_680),
+        (748_017, 369_830),
+        (784_906, 400_347),
+    ] {
+        let fact = Fact::new(Kind::Distance, Place::None, day).ok_or("no fact")?;
+        assert_eq!(rt; staged.eval(fact), Answer::Value(kilometres), "day {day}");
+        assert_eq!(rt;
+            Fact::new(Kind::Distance, Place::Cairo, day),
+            None,
+            "day {day}"
+        );
+    }
+    let after = Fact::new(Kind::Distance, Place::None, 784_907).ok_or("no fact")?;
+    assert_eq!(rt; staged.eval(after), Answer::Void(Site::Year));
+    Ok(())
+}
+
+/// Where the moon doesn't rise, or doesn't set, the value is -1.
+#[test]
+fn risings_of_the_moon_are_those_of_the_reference(rt: HostRuntime) -> Result<(), Fail> {
+    let staged = Staged::new();
+    for (place, day, rising, setting) in [
+        (Place::Cairo, 620_729, 1141, 307),
+        (Place::Cairo, 657_802, 217, 845),
+        (Place::Cairo, 725_336, 37, 810),
+        (Place::Cairo, 738_984, 315, 1090),
+        (Place::Cairo, 738_990, 582, -1),
+        (Place::Cairo, 739_006, -1, 612),
+        (Place::Cairo, 784_906, 468, 1106),
+        (Place::Tehran, 620_729, 1162, 300),
+        (Place::Tehran, 657_802, 240, 833),
+        (Place::Tehran, 725_336, 42, 818),
+        (Place::Tehran, 738_886, 1326, 645),
+        (Place::Tehran, 738_989, 515, -1),
+        (Place::Tehran, 739_005, -1, 531),
+        (Place::Tehran, 784_906, 492, 1095),
+        (Place::Ujjain, 620_729, 1131, 316),
+        (Place::Ujjain, 657_802, 201, 858),
+        (Place::Ujjain, 725_336, 43, 807),
+        (Place::Ujjain, 738_886, 1329, 624),
+        (Place::Ujjain, 738_990, 603, -1),
+        (Place::Ujjain, 739_006, -1, 625),
+        (Place::Ujjain, 784_906, 454, 1116),
+    ] {
+        for (kind, minute) in [(Kind::Moonrise, rising), (Kind::Moonset, setting)] {
+            let fact = Fact::new(kind, place, day).ok_or("no fact")?;
+            assert_eq!(rt;
+                staged.eval(fact),
+                Answer::Value(minute),
+                "{kind:?} at {place:?} on day {day}"
+            );
+        }
+    }
+    let after = Fact::new(Kind::Moonset, Place::Ujjain, 784_907).ok_or("no fact")?;
+    assert_eq!(rt; staged.eval(after), Answer::Void(Site::Year));
+    assert_eq!(rt; Fact::new(Kind::Moonrise, Place::Haifa, 738_984), None);
+    Ok(())
+}
+
+#[test]
+fn french_years_are_those_of_the_reference(rt: HostRuntime) -> Result<(), Fail> {
+    let staged = Staged::new();
+    for (day, first) in [
+        (621_278, 621_178),
+        (654_414, 654_050),
+        (654_415, 654_415),
+        (654_779, 654_415),
+        (654_780, 654_780),
+        (655_510, 655_145),
+        (655_511, 655_511),
+        (690_574, 690_574),
+        (720_623, 720_524),
+        (739_150, 738_786),
+        (739_151, 739_151),
+        (745_359, 744_995),
+        (745_360, 745_360),
+        (774_580, 774_579),
+        (784_441, 784_441),
+        (784_541, 784_441),
+        (784_906, 784_806),
+    ] {
+        let fact = Fact::new(Kind::FrenchYear, Place::None, day).ok_or("no fact")?;
+        assert_eq!(rt; staged.eval(fact), Answer::Value(first), "day {day}");
+    }
+    let before = Fact::new(Kind::FrenchYear, Place::None, 620_729).ok_or("no fact")?;
+    assert_eq!(rt; staged.eval(before), Answer::Void(Site::Year));
+    Ok(())
+}
+
+#[test]
+fn months_of_haifa_are_those_of_the_reference(rt: HostRuntime) -> Result<(), Fail> {
+    let staged = Staged::new();
+    for (kind, day, first) in [
+        (Kind::Phasis, 620_729, 620_717),
+        (Kind::Phasis, 621_278, 621_277),
+        (Kind::Phasis, 657_802, 657_778),
+        (Kind::Phasis, 690_925, 690_910),
+        (Kind::Phasis, 738_957, 738_957),
+        (Kind::Phasis, 738_986, 738_986),
+        (Kind::Phasis, 738_987, 738_986),
+        (Kind::Phasis, 748_017, 747_993),
+        (Kind::Phasis, 784_541, 784_523),
+        (Kind::Phasis, 784_906, 784_877),
+        (Kind::Nisan, 620_729, 620_983),
+        (Kind::Nisan, 621_278, 621_366),
+        (Kind::Nisan, 654_516, 654_588),
+        (Kind::Nisan, 690_925, 691_118),
+        (Kind::Nisan, 720_259, 720_324),
+        (Kind::Nisan, 730_120, 730_187),
+        (Kind::Nisan, 738_521, 738_602),
+        (Kind::Nisan, 738_886, 738_957),
+        (Kind::Nisan, 739_252, 739_341),
+        (Kind::Nisan, 783_811, 783_902),
+        (Kind::Nisan, 784_176, 784_257),
+        (Kind::Nisan, 784_541, 784_611),
+    ] {
+        let fact = Fact::new(kind, Place::Haifa, day).ok_or("no fact")?;
+        assert_eq!(rt;
+            staged.eval(fact),
+            Answer::Value(first),
+            "{kind:?} of day {day}"
+        );
+    }
+    Ok(())
+}
+
+#[test]
 fn other_days_are_void_at_the_year(rt: HostRuntime) -> Result<(), Fail> {
     let staged = Staged::new();
     for day in [-40_000_000, 0, 620_728, 784_907, 40_000_000] {

@@ -4,8 +4,9 @@ use super::measures::new_year;
 use book_model::Fail as FormulaFail;
 use encl_core::{Enclosure, Trail};
 use fix_fine::Fine;
-use greatest_widths::{LATITUDE, MOON, NEW_MOON, PHASE, SUN, WidthRow};
+use greatest_widths::{DISTANCE, LATITUDE, MOON, NEW_MOON, PHASE, SUN, WidthRow};
 use moon_core::{latitude, moon, moon_from, phase};
+use moon_rise::distance;
 use sun_core::sun;
 
 /// Whether there is an answer, at most as wide as a row says of an argument without width. A row counts 2⁻⁶⁴, an end 2⁻⁵⁶.
@@ -22,13 +23,14 @@ fn is_within(found: Result<Fine, FormulaFail>, row: WidthRow) -> bool {
     }
 }
 
-/// Whether the longitudes, the latitude and the phase as a day begins are so narrow, and the moment of the next new moon, which
-/// is an answer of `new_moon`.
+/// Whether the longitudes, the latitude, the distance and the phase as a day begins are so narrow, and the moment of the next new
+/// moon, which is an answer of `new_moon`.
 fn is_day_narrow(day: i64) -> bool {
     let t = Fine::from_int(day);
     is_within(sun(t, &mut Trail::new()), SUN)
         && is_within(moon(t, &mut Trail::new()), MOON)
         && is_within(latitude(t, &mut Trail::new()), LATITUDE)
+        && is_within(distance(t, &mut Trail::new()), DISTANCE)
         && is_within(phase(t, &mut Trail::new()), PHASE)
         && is_within(moon_from(t, &mut Trail::new()), NEW_MOON)
 }

@@ -32,6 +32,7 @@ fn sites_are_numbered_and_named(rt: HostRuntime) {
         (Site::Search, 14, "search"),
         (Site::BisectEnd, 15, "bisect-end"),
         (Site::Sidereal, 21, "sidereal"),
+        (Site::Rise, 22, "rise"),
     ] {
         assert_eq!(rt; site.number(), number);
         assert_eq!(rt; site.name(), name);

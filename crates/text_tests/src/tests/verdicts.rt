@@ -236,6 +236,71 @@ fn a_line_is_checked_by_the_version_of_its_file(rt: HostRuntime) -> Result<(), F
             "no 1 form 3\n",
         ),
         (
+            "gregorian 1992-04-12 distance 368409 facts",
+            "no 1 form 2\n",
+            "no 1 missing distance - 727300\n",
+        ),
+        (
+            "gregorian 1992-04-12 moonset-ujjain 115 facts",
+            "no 1 form 2\n",
+            "no 1 missing moonset ujjain 727300\n",
+        ),
+        (
+            "distance 1992-04-12 gregorian 1992-04-12 facts",
+            "no 1 form 2\n",
+            "no 1 form 2\n",
+        ),
+        (
+            "gregorian 1795-09-22 french 3-13-6 facts",
+            "no 1 form 2\n",
+            "no 1 missing french-year - 655510\n",
+        ),
+        (
+            "french 4-13-6 gregorian 1796-09-22 facts",
+            "no 1 form 2\n",
+            "no 1 missing french-year - 655690\n",
+        ),
+        (
+            "french 4-14-1 gregorian 1796-09-22 facts",
+            "no 1 form 2\n",
+            "no 1 form 3\n",
+        ),
+        (
+            "french 358-1-1 fixed 784842 facts",
+            "no 1 form 2\n",
+            "no 1 form 4\n",
+        ),
+        (
+            "gregorian 1792-09-22 french 1-1-1 facts",
+            "no 1 form 2\n",
+            "no 1 missing french-year - 654415\n",
+        ),
+        (
+            "gregorian 1792-09-21 french 1-1-1 facts",
+            "no 1 form 2\n",
+            "no 1 form 4\n",
+        ),
+        (
+            "fixed 654414 french 1-1-1 facts",
+            "no 1 form 2\n",
+            "no 1 form 4\n",
+        ),
+        (
+            "hebrew-observed 5784-1-1 gregorian 2024-03-12 facts",
+            "no 1 form 2\n",
+            "no 1 missing nisan haifa 738886\n",
+        ),
+        (
+            "gregorian 2024-03-12 hebrew-observed 5784-1-1 facts",
+            "no 1 form 2\n",
+            "no 1 missing phasis haifa 738957\n",
+        ),
+        (
+            "hebrew-observed 5910-1-1 fixed 784540 facts",
+            "no 1 form 2\n",
+            "no 1 form 4\n",
+        ),
+        (
             "gregorian 1985-01-21 saigon 78-2-1-0-1 facts",
             "no 1 form 2\n",
             "no 1 form 2\n",

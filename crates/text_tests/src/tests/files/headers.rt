@@ -1,4 +1,4 @@
-//! The header, which tells the version and so the places, and the ends of lines.
+//! The header, which tells the version and so the kinds, places and sites, and the ends of lines.
 use super::broken;
 use book_model::Version;
 use cert_read::{LONGEST_FILE, read_file};
@@ -82,7 +82,7 @@ fn a_header_comes_first_and_lines_end_with_line_feeds(rt: HostRuntime) -> Result
 
 /// Lines below a header, with the line and the rule that they break in a file of version 1 and in one of version 2. What a
 /// version doesn't have is as unknown to it as what none has, before any other rule is tried.
-const PLACES: [(&str, Option<(usize, u8)>, Option<(usize, u8)>); 11] = [
+const NAMES: [(&str, Option<(usize, u8)>, Option<(usize, u8)>); 19] = [
     (
         "fact 1 solstice beijing 724662 724631\nend lines 0 facts 1",
         None,
@@ -126,10 +126,50 @@ const PLACES: [(&str, Option<(usize, u8)>, Option<(usize, u8)>); 11] = [
         None,
         None,
     ),
+    (
+        "fact 1 distance - 727300 368409\nend lines 0 facts 1",
+        Some((2, 2)),
+        None,
+    ),
+    (
+        "fact 1 moonrise cairo 739006 -1\nend lines 0 facts 1",
+        Some((2, 2)),
+        None,
+    ),
+    (
+        "fact 1 moonset haifa 727300 115",
+        Some((2, 2)),
+        Some((2, 7)),
+    ),
+    (
+        "line 1 undecided rise 1 0 0 fact moonset ujjain 1\nend lines 1 facts 0",
+        Some((2, 2)),
+        None,
+    ),
+    (
+        "fact 1 french-year - 739151 739151\nend lines 0 facts 1",
+        Some((2, 2)),
+        None,
+    ),
+    (
+        "fact 1 phasis haifa 738957 738957\nend lines 0 facts 1",
+        Some((2, 2)),
+        None,
+    ),
+    (
+        "fact 1 nisan haifa 738886 738957\nend lines 0 facts 1",
+        Some((2, 2)),
+        None,
+    ),
+    (
+        "fact 1 nisan cairo 738886 738957",
+        Some((2, 2)),
+        Some((2, 7)),
+    ),
 ];
 
 #[test]
-fn a_file_has_the_version_of_its_header_and_its_places(rt: HostRuntime) -> Result<(), Fail> {
+fn a_file_has_the_version_of_its_header_and_its_names(rt: HostRuntime) -> Result<(), Fail> {
     for (text, version) in [
         ("calendrica 1 depth 40\nend lines 0 facts 0\n", Version::One),
         ("calendrica 1 depth 40\r\nend lines 0 facts 0", Version::One),
@@ -140,7 +180,7 @@ fn a_file_has_the_version_of_its_header_and_its_places(rt: HostRuntime) -> Resul
         let file = read_file(rt.alloc(), text.as_bytes())?;
         assert_eq!(rt; file.version, version, "{text:?}");
     }
-    for (lines, by_one, by_two) in PLACES {
+    for (lines, by_one, by_two) in NAMES {
         for (number, want) in [(1, by_one), (2, by_two)] {
             let file = format!(in rt.alloc(); "calendrica {number} depth 40\n{lines}\n")?;
             assert_eq!(rt; broken(rt.alloc(), file.as_bytes())?, want, "{file}");
