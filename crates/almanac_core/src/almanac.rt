@@ -73,6 +73,7 @@ fn january(year: u32) -> i64
     to_fixed(year as i32, 1, 1).unwrap()
 }
 
+// Apart from the call, whose clause says which day it is and not where it lies.
 /// The same, and from where to where it lies.
 fn first_of_january(year: u32) -> i64
     requires year { IsAlmanacYear year }

@@ -1,4 +1,7 @@
 //! Requests by whole numbers.
+//!
+//! Requests and no lines: that a request is what its line is read as is a law (`line_core::laws::text_is_read`), so no
+//! text is made to be read again.
 ghost use Rattle.std.specs.Prelude.{◌≡◌, ◌<◌, [], ◌∷◌, pos};
 ghost use Rattle.almanac_core.specs.Almanac as spec;
 ghost use Rattle.book_model.specs.lines.Requests.{fields_with};

@@ -21,6 +21,7 @@ pub trait Angular<E: Enclosure>: Drop {
     /// How wide the angle is at the scale 2⁻⁵⁶, by the width of the moment. Both count 2⁻⁶⁴.
     ghost spread: { ℕ → ℕ };
 
+    // Any number of tests: a bound on them would be a condition on angles that nobody needs.
     /// The angle at a moment, in degrees. It makes the tests of its formula, and fails where that does. It lies within
     /// 2²⁶ degrees of 0, and its width is bounded by that of the moment.
     fn at(&self, x: E, trail: &mut Trail) -> Result<E, Fail>
@@ -28,6 +29,8 @@ pub trait Angular<E: Enclosure>: Drop {
         ensures measured { Measured1 E.BITS E.shown (3 * 2 ^ 37) IsMoment
             (λ v. IsAbout (2 ^ 58) (spread v)) x result };
 
+    // What the calls say of an enclosure they say of every number that it holds: so a course needs
+    // no law of its own, and no stretch has to be the right one.
     /// The angle at a moment by the course, in degrees. Nothing is said of its width. Where it answers it has made the tests of
     /// its formula. A failure says nothing of the formula: it is void where the moment isn't one of the course.
     fn near(&self, x: E, trail: &mut Trail) -> Result<E, Fail>

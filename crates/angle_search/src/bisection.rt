@@ -84,6 +84,7 @@ pub(crate) fn has_passed_at<E: Enclosure, F: Angular<E>>(
     has_passed(angle, target, trail)
 }
 
+// A recursion on the turns that are left, as the definition is, with the test of the ends first.
 /// Bisection by so many turns at most. It is void at `bisect-end` where the ends aren't near then, and fails where the function
 /// does. With `m` for the greatest width of all middles, the widths that the turns meet need not be followed: each
 /// middle is at most two units wider than the wider end.
@@ -104,6 +105,7 @@ fn bisected<E: Enclosure, F: Angular<E>>(
         → IsMoment v (E.shown high) → Measures (λ x. IsMoment (m + 2 ^ 9) (E.shown x)) result }
 {
     if are_near(low, high, trail)? {
+        // The middle that the definition says, never a root that is known sooner.
         return Ok(middle(low, high));
     }
     if more == 0 {

@@ -1,4 +1,6 @@
 //! What a bisection has learned of its angle.
+//!
+//! A solar term so takes some two evaluations of all waves in place of 20, a phase three or four in place of 19.
 
 /// An angle by its courses over the last stretch of time at which a bisection took one, and over the one before. Both are kept: a
 /// turn whose moment doesn't lie in the last stretch mostly lies in the one before.

@@ -45,6 +45,7 @@ fn tried<E: Enclosure, F: Angular<E>>(
     match has_passed_near(course, target, x, trail) {
         Ok(passed) => Ok(passed),
         Err(fail) => {
+            // The tests of a try are no part of the run.
             trail.back_to(before);
             Err(fail)
         }

@@ -32,10 +32,14 @@ pub fn arctan_deg<E: Enclosure>(x: E) -> E
             Some(arc) => E::from_span(arc),
             None => E::whole(),
         },
+        // The arctangent of everything is everything; an arcsine's argument is cut to -1..1 first,
+        // and so is never everything.
         None => E::whole(),
     }
 }
 
+// The bound of an arcsine is computed by these same steps, so that it needs no law of its own. It
+// is up to 61.5 times the size of the argument, where 60 would be exact at 1/2.
 /// The tangent of half the arcsine of what is cut to -1..1.
 #[tactic(auto, unfolding(crate::specs::Forms::half_tangent_of))]
 fn half_tangent<E: Enclosure>(x: E) -> E
@@ -80,6 +84,7 @@ fn end_around(end: i128) -> i128
     end.min(HALF_TURN).max(-HALF_TURN)
 }
 
+// By its ends; at a scale of which nothing is promised nothing is said of its size.
 /// What an enclosure has of -180..180 degrees, by ends that are moved there; all of it, where nothing is known.
 fn kept_around<E: Enclosure>(x: E) -> E
     ensures holds { (i : Interval) → i ⊆ E.shown x → i ⊆ all_around → i ⊆ E.shown result }

@@ -16,6 +16,8 @@ use crate::spans::{hull, less, more, opposite};
 use encl_core::Span;
 use interval_ends::parts::{HALF, NATURAL_ONE, QUARTER, THREE, WIDE_OCTANT};
 
+// A list of five, in the definition too, with one hull over those that an interval meets; octants
+// have no end, and so are a range of numbers.
 /// A closed piece of the line: up to -3, from there to -1/2, to 1/2, to 3, and from 3 on.
 #[derive(Clone, Copy, Debug, PartialEq)]
 pub(crate) enum Piece {
@@ -26,6 +28,8 @@ pub(crate) enum Piece {
     FarAbove,
 }
 
+// From 1/2 on the series is taken of one quotient; up to 1/2 of the number itself, which so is
+// exact.
 /// The arctangent of a number from 0 to 1/2.
 #[inline(always)]
 fn near(number: u64) -> Span
@@ -113,6 +117,7 @@ fn begin_of(piece: Piece) -> i128
     ensures value { result ≡ begin_56 piece }
 {
     match piece {
+        // It begins nowhere in the definition; no number of 128 bits lies below this one.
         Piece::FarBelow => i128::MIN,
         Piece::Below => -THREE,
         Piece::Near => -HALF,
@@ -154,6 +159,7 @@ fn arc_over(piece: Piece, lo: i128, hi: i128) -> Option<Span>
     Some(hull(low, high))
 }
 
+// `match` in `match`: a `match` on a pair of options gets no generated proof.
 /// The hull of what there is.
 fn hull_of_spans(x: Option<Span>, y: Option<Span>) -> Option<Span>
     ensures holds { (is js : List Interval) → AreHeld of_span is x → AreHeld of_span js y

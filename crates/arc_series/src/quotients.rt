@@ -3,6 +3,7 @@ ghost use Rattle.std.specs.Prelude.{◌≤◌, ◌*◌, ◌^◌, pos};
 ghost use Rattle.exact_math.specs.Fraction.{Fraction, ◌≈◌, whole, times};
 ghost use Rattle.arc_series.specs.Kernel.{IsNumber};
 
+// Rounded down only; the kernel takes a number that is known to one part.
 /// A number over a divisor, which is at most a half, in parts of 2⁻⁶⁴, rounded down.
 #[inline(always)]
 pub(crate) fn quotient_64(number: u64, divisor: u128) -> u64

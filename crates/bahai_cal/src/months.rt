@@ -60,6 +60,8 @@ fn month_of_19_days(base: i64, number: i64) -> BahaiMonth
     }
 }
 
+// A month is found together with the day on which it begins, by one choice; the day of the month is
+// what the day is past it.
 /// The month of a day, by the first day that was asked of the day, that of its year and that of the next.
 #[tactic(auto, unfolding(book_model::specs::calendars::Bahai::bahai_month))]
 pub(crate) fn month_on(day: i64, first: i64, base: i64, next: i64) -> BahaiMonth
@@ -85,6 +87,7 @@ pub(crate) fn month_on(day: i64, first: i64, base: i64, next: i64) -> BahaiMonth
     }
 }
 
+// On the way back one choice says from where a month is counted.
 /// From where a month of a year is counted: the last one back from the first day of the next year.
 #[tactic(auto, unfolding(book_model::specs::calendars::Bahai::month_start))]
 pub(crate) fn month_start(number: i64, month: i64) -> MonthStart

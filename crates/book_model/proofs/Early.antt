@@ -21,14 +21,14 @@ pub data AtLeast {A : Type 0} : ℕ → Program A → Type 0 where
   cell_at_least : {n : ℕ} {s : Site} {g : Grid} {x : Expression} {next : ℤ → Program A} → ((q : ℤ) → AtLeast n (next q)) → AtLeast (suc n) (cell s g x next)
   compare_at_least : {n : ℕ} {s : Site} {x y : Expression} {next : Bool → Program A} → ((t : Bool) → AtLeast n (next t)) → AtLeast (suc n) (compare s x y next)
 
-fewer : {A : Type 0} {p : Program A} (n : ℕ) → AtLeast (suc n) p → AtLeast n p
+pub fewer : {A : Type 0} {p : Program A} (n : ℕ) → AtLeast (suc n) p → AtLeast n p
 fewer zero h = any_at_least
 fewer (suc n) void_at_least = void_at_least
 fewer (suc n) (cell_at_least k) = cell_at_least (λ q. fewer n (k q))
 fewer (suc n) (compare_at_least k) = compare_at_least (λ t. fewer n (k t))
 
 -- what follows a program
-least_after : {A B : Type 0} (n : ℕ) (p : Program A) (f : A → Program B) → ((v : A) → AtLeast n (f v)) → AtLeast n (bind p f)
+pub least_after : {A B : Type 0} (n : ℕ) (p : Program A) (f : A → Program B) → ((v : A) → AtLeast n (f v)) → AtLeast n (bind p f)
 unfolding bind
 least_after n (answer v) f h = h v
 least_after n (void s) f h = void_at_least
@@ -38,7 +38,7 @@ least_after zero (compare s x y next) f h = any_at_least
 least_after (suc n) (compare s x y next) f h = compare_at_least (λ t. fewer n (least_after (suc n) (next t) f h))
 
 -- a program alone
-least_first : {A B : Type 0} {n : ℕ} {p : Program A} (f : A → Program B) → AtLeast n p → AtLeast n (bind p f)
+pub least_first : {A B : Type 0} {n : ℕ} {p : Program A} (f : A → Program B) → AtLeast n p → AtLeast n (bind p f)
 unfolding bind
 least_first f any_at_least = any_at_least
 least_first f void_at_least = void_at_least
@@ -46,7 +46,7 @@ least_first f (cell_at_least k) = cell_at_least (λ q. least_first f (k q))
 least_first f (compare_at_least k) = compare_at_least (λ t. least_first f (k t))
 
 -- a program with a test, and what follows it
-one_more : {A B : Type 0} {p : Program A} (n : ℕ) (f : A → Program B) → AtLeast 1 p → ((v : A) → AtLeast n (f v)) → AtLeast (suc n) (bind p f)
+pub one_more : {A B : Type 0} {p : Program A} (n : ℕ) (f : A → Program B) → AtLeast 1 p → ((v : A) → AtLeast n (f v)) → AtLeast (suc n) (bind p f)
 unfolding bind
 one_more n f void_at_least h = void_at_least
 one_more n f (cell_at_least {next = next} k) h = cell_at_least (λ q. least_after n (next q) f h)

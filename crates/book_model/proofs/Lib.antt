@@ -20,6 +20,7 @@ pub mod Arcs
 pub mod Estimates
 pub mod WordTables
 pub mod NameLemmas
+pub mod NameLengths
 pub mod Early
 pub mod Rows
 pub mod VersionTables

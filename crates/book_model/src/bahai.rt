@@ -1,5 +1,6 @@
 //! What the rules of the Bahá'í calendar find on the way to a date and to a day.
 
+// Both types stand here, since the definition of the Bahá'í rules speaks of them.
 /// A month of the Bahá'í calendar: its number from 1 to 19, or 0 for Ayyám-i-Há, and the day on which it begins (R.D.).
 #[derive(Clone, Copy, Debug)]
 pub struct BahaiMonth {

@@ -53,7 +53,7 @@ pub struct CalendarRow {
 /// The calendars, in the order of their values. The days of Gregorian dates and day numbers are known without any fact
 /// and tell which of them are answered.
 #[rattlefmt::skip]
-pub const CALENDARS: [CalendarRow; 13] = [
+pub static CALENDARS: [CalendarRow; 13] = [
     CalendarRow { calendar: Calendar::Gregorian, count: 3, limits: [(1, 9999), (1, 12), (1, 31), (0, 0), (0, 0)],
         weights: [1, 0, 0, 0, 0], offset: 0, first_day: 1, years: [(1, 9999), (1, 9999)], is_confirmed: false, is_padded: true },
     CalendarRow { calendar: Calendar::Fixed, count: 1, limits: [(0, 9_999_999), (0, 0), (0, 0), (0, 0), (0, 0)],
@@ -89,6 +89,7 @@ impl Calendar {
     pub fn row(self) -> CalendarRow
         ensures row { result ≡ row_of self }
     {
-        CALENDARS[self as usize]
+        let rows = CALENDARS;
+        rows[self as usize]
     }
 }

@@ -5,6 +5,7 @@ use crate::{Frac, Season, Side};
 #[rattlefmt::skip]
 pub const TROPICAL_YEAR: Frac = Frac { num: 365_242_189, den: 1_000_000 };
 
+// It stands once: the part of a month that a day is comes from it.
 /// The mean synodic month, from new moon to new moon, in days (Reingold and Dershowitz, Calendrical Calculations,
 /// chapter 14).
 #[rattlefmt::skip]

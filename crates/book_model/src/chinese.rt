@@ -1,5 +1,6 @@
 //! What the rules of the Chinese calendar find on the way to a date.
 
+// Both types stand here, since the definition of the Chinese rules speaks of them.
 /// A sui, the span of the months from one winter solstice to the next: the day on which the month after the one of the first
 /// solstice begins, and the day of the second solstice (both R.D.).
 #[derive(Clone, Copy, Debug)]

@@ -19,6 +19,7 @@ pub enum CorrectionForm {
     /// Seconds, by the hundredths of the year.
     SecondsByHundreds,
     /// Days, by the centuries from the end of 1899 to 1 July of the year.
+    // Its years lie from 1 to 9999, as those of `first_of_july` do.
     DaysByCenturies,
 }
 
@@ -33,6 +34,9 @@ pub type CorrectionRow = (
     Version,
 );
 
+// What each row has to keep, its powers, widths and values, is computed over the table. So a row
+// more needs no proof; where powers are taken in whole years they fit while these lie within 256 of
+// the form's and there are seven coefficients at most.
 /// The rows, in order. A year in none of them has no correction.
 #[rattlefmt::skip]
 pub static CORRECTIONS: [CorrectionRow; 7] = [

@@ -53,6 +53,8 @@ pub enum Place {
     Haifa,
 }
 
+// Every kind, place and day is a value of the type, and has a formula: that a place goes with its
+// kind is said by `new` alone.
 /// An astronomical fact: what the model gives for a kind, a place and a day, as a day number of the book (R.D.).
 #[derive(Clone, Copy, Debug, PartialEq, Eq, Hash)]
 pub struct Fact {
@@ -61,6 +63,7 @@ pub struct Fact {
     pub(crate) day: i64,
 }
 
+// A column of the table of kinds, so that no proof goes over kinds.
 /// Which tests of the formula of a kind of fact, where they are of a year, are of that of the whole day itself, and so are never
 /// open.
 #[derive(Clone, Copy, Debug, PartialEq, Eq)]
@@ -70,9 +73,15 @@ pub enum WholeDays {
     /// The first and the third.
     AtFirst,
     /// Each.
+    // Of moonrise and moonset: each moment lies in one day. Required is it of those alone that are
+    // the day itself.
     Everywhere,
 }
 
+// Kinds, places and sites are rows, each at the place of its variant, and read by the definitions
+// too. That a name leads back, and is a word of printed files, is computed over the table.
+// A static, since a constant that is borrowed is written to the stack at each use. A tuple, since
+// the definitions can't read a static's struct that holds a reference.
 /// Each kind of fact with its printed name, the places that it is asked of, which of its tests of a year are of a whole day, and
 /// the first version of printed files that has it, in the order of the variants.
 #[rattlefmt::skip]
@@ -107,12 +116,15 @@ pub static KINDS: [(Kind, &str, (&[Place], WholeDays, Version)); 28] = [
     (Kind::Nisan, "nisan", (&[Place::Haifa], WholeDays::AtFirst, Version::Two)),
 ];
 
+// A place without a location has none of the facts that need one, which `Fact::new` refuses; their
+// formulas are void at `year` there, which is total and says no location that isn't the place's.
 /// Each place with its printed name, the location from which its horizon is looked at, if it has one, its zone, and the first
 /// version of printed files that has it, in the order of the variants. A zone is the days on which the time of the place changes,
 /// in order, each with the hours by which it is ahead of universal time before, and the hours from the last of these days on. Facts
 /// of no place go by universal time.
 #[rattlefmt::skip]
 pub static PLACES: [(Place, &str, (Option<Location>, &[ZoneStep], Frac, Version)); 9] = [
+    // No steps and 0 hours: universal time, so that midnights and days are total for every place.
     (Place::None, "-", (None, &[], Frac { num: 0, den: 1 }, Version::One)),
     (Place::Beijing, "beijing", (None, &[ZoneStep { before: 704_188, hours: Frac { num: 1397, den: 180 } }], Frac { num: 8, den: 1 }, Version::One)),
     (Place::Cairo, "cairo", (Some(CAIRO), &[], Frac { num: 2, den: 1 }, Version::One)),
@@ -134,6 +146,8 @@ pub const FIRST_FACT_DAY: i64 = -40_000_000;
 
 pub const LAST_FACT_DAY: i64 = 40_000_000;
 
+// Whatever a line may name: a file of either version that lists a fact of such a day is judged by
+// it. No line of version 1 asks one before 1 July 1800 or after 31 December 2049.
 /// The first and the last day of which a fact may have a value (R.D.): 1 July 1700 and 31 December 2149.
 pub const FIRST_DAY: i64 = 620_729;
 
@@ -182,6 +196,8 @@ impl Kind {
     pub fn named_in(version: Version, word: &[u8]) -> Option<Kind>
         ensures { result ≡ kind_in version word.now }
     {
+        // The name first, then the version: a table has all names that there are, so that the
+        // numbers of values, rows and shelves are those of one table.
         let kind = Kind::named(word)?;
         if version.has_since(kind.since()) {
             Some(kind)
@@ -289,6 +305,8 @@ impl Fact {
         ensures place { IfSome result (λ f. f.place ≡ place) }
         ensures day { IfSome result (λ f. f.day ≡ day) }
     {
+        // A place is one of a kind's where it stands in the kind's row, which the grammar reads
+        // too.
         if kind.has_place(place) && FIRST_FACT_DAY <= day && day <= LAST_FACT_DAY {
             Some(Fact { kind, place, day })
         } else {

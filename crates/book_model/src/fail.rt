@@ -15,6 +15,8 @@ pub struct Undecided {
     pub hi: i128,
 }
 
+// It stands here and not with the enclosures, since the relation between a call's result and its
+// program (`Leads`) speaks of it.
 /// Why a formula has no answer: a test is open, or the formula has no value there.
 #[derive(Clone, Copy, Debug, PartialEq, Eq)]
 pub enum Fail {

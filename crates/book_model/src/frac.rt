@@ -3,6 +3,8 @@ ghost use Rattle.std.specs.Prelude.{◌≡◌, ◌↔◌, ℤ, ℕ, IfSome, IsNo
 ghost use Rattle.exact_math.specs.Fraction.{whole as whole_number};
 ghost use Rattle.book_model.specs.numbers.Fractions.{fraction_of, ten_millionths as parts, daily_ten_millionths as daily_parts};
 
+// A denominator of 0, which `new` refuses and no table has, is read as 1 by the definitions: so no
+// invariant is needed, and tables stay plain constants.
 /// An exact fraction, a whole number over a positive one. It isn't reduced.
 #[derive(Clone, Copy, Debug, PartialEq, Eq)]
 pub struct Frac {
@@ -36,6 +38,8 @@ impl Frac {
         }
     }
 
+    // Inlined, as all here: by a denominator that the compiler knows, a quotient is a
+    // multiplication.
     /// So many ten-millionths.
     #[inline(always)]
     pub fn ten_millionths(number: i64) -> Self

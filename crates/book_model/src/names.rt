@@ -1,16 +1,27 @@
 //! Values that are looked up by their names.
-ghost use Rattle.std.specs.Prelude.{◌≡◌, ◌<◌, [], length, map, slice_index_or};
+ghost use lib.Pointwise.{pointwise};
+ghost use Rattle.std.specs.Prelude.{◌≡◌, ◌<◌, [], length, map, nat_eq, slice_index_or};
 ghost use Rattle.book_model.specs.declared.version.Version.TheVariants.{One};
 ghost use Rattle.book_model.specs.sky.Names.{first_named as first_of};
 
 use crate::Version;
+
+/// Whether a word is a name. Of most names of a table the length alone tells that it isn't: it is compared here, since the
+/// comparison of bytes is a call.
+#[inline(always)]
+#[tactic(auto, using(crate::proofs::NameLengths::other_length))]
+fn is_name(word: &[u8], name: &str) -> bool
+    ensures { result ≡ pointwise nat_eq word.now name.now }
+{
+    word.len() == name.len() && word == name.as_bytes()
+}
 
 /// The first value of the rows that has this name.
 pub(crate) fn first_named<T: Copy>(mut rows: &[(T, &str)], word: &[u8]) -> Option<T>
     ensures { result ≡ first_of (map (λ row. (row.0, row.1.now)) rows.entry.now) word.now }
 {
     while let [row, rest @ ..] = rows {
-        if word == row.1.as_bytes() {
+        if is_name(word, row.1) {
             return Some(row.0);
         }
         rows = rest;
@@ -23,7 +34,7 @@ pub(crate) fn first_row_named<T: Copy, W>(mut rows: &[(T, &str, W)], word: &[u8]
     ensures { result ≡ first_of (map (λ row. (row.0, row.1.now)) rows.entry.now) word.now }
 {
     while let [first, rest @ ..] = rows {
-        if word == first.1.as_bytes() {
+        if is_name(word, first.1) {
             return Some(first.0);
         }
         rows = rest;

@@ -18,6 +18,8 @@ pub struct Cubic {
     pub cube: Frac,
 }
 
+// Whole numbers over one power of ten, so that a row's denominators are known to the compiler.
+// Coefficients stay fractions, since the moon's have denominators like 538,841.
 /// A wave in time: its size times the sine of its phase and its rate times the time. The phase is in ten-millionths of a
 /// degree, the rate in the same a century, and the size in a unit of its table.
 #[derive(Clone, Copy, Debug)]

@@ -2,6 +2,9 @@
 
 use crate::{FromWord, ToWord};
 
+// Types of requests stand here, since the definitions of lines and outcomes speak of them. In lines
+// a date of any calendar is `Fields`; the crate of a calendar turns a type of its own into them and
+// back.
 /// The fields of a date: the first `count` values, in the calendar's order; the values after them are 0.
 #[derive(Clone, Copy, Debug, PartialEq, Eq)]
 pub struct Fields {
@@ -13,6 +16,8 @@ impl Fields {
     ghost use Rattle.std.specs.Prelude.{◌≡◌, ◌<◌};
     ghost use Rattle.book_model.specs.calendars.Dates.{field as field_of};
 
+    // It asks for an index below 5, the room of a date's fields. The sign is left out, since no
+    // field in a line has one.
     /// A field of the date, from 0, less its sign.
     pub fn field(&self, index: usize) -> u32
         requires few { index < 5 }

@@ -31,6 +31,7 @@ pub enum Site {
     Rise,
 }
 
+// A row more, at its variant's place, is a site more: no proof goes over sites.
 /// Each site with its printed name, and the first version of printed files that has it, in the order of the variants.
 #[rattlefmt::skip]
 pub static SITES: [(Site, &str, Version); 22] = [

@@ -54,6 +54,8 @@ pub const CORRECTION_1900: [Frac; 8] = [
     Frac { num: -212_591, den: 1_000_000 },
 ];
 
+// Multiplied out into the years from 2000 it needs no form of its own, and is three units wide;
+// tests/check-tables multiplies out the source's numbers once more.
 /// The same in seconds, for the years 2051 to 2150: the coefficients of the powers of the year less 2000. The source has
 /// -20 + 32 c² - 0.5628 (2150 - y) in the year y, where c are the hundreds of years from 1820 to it: the same polynomial.
 #[rattlefmt::skip]
@@ -95,6 +97,8 @@ pub const FIRST_CENTURY: i64 = -25;
 
 pub const LAST_CENTURY: i64 = 2;
 
+// From here on the angle whose arctangent precession takes keeps to one quadrant. The facts ask of
+// no earlier moment; of the last new moon before a sunrise that follows from its number.
 /// The day (R.D.) from which on a moment is recent: over recent moments precession is computed, and new moons are narrower. It lies
 /// in the year 1588.
 pub const RECENT_START: i64 = 580_000;

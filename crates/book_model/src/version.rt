@@ -5,6 +5,8 @@ ghost use Rattle.std.specs.Prelude.{◌≡◌};
 use crate::names::first_named;
 use crate::{FIRST_DAY, LAST_DAY};
 
+// Definitions and calls take a version where they read a range; none below the test of a range
+// does, and each of these asks for what some version answers.
 /// A version of printed files.
 #[derive(Clone, Copy, Debug, PartialEq, Eq)]
 pub enum Version {
@@ -12,6 +14,8 @@ pub enum Version {
     Two,
 }
 
+// What else differs between versions is a row or a column of its own: a calendar's years, and since
+// when a kind, a place, a site, a word or a row of corrections is there.
 /// What differs from version to version.
 #[derive(Clone, Copy, Debug)]
 pub struct VersionRow {
@@ -37,6 +41,8 @@ pub static HEADERS: [(Version, &str); 2] = [
     (Version::Two, "calendrica 2 depth 40"),
 ];
 
+// Another version is a row, an entry in each calendar's years, and this constant. That its ranges
+// hold those of each older version is computed from the tables.
 /// The version that is written, and by which lines of input are read.
 pub const WRITTEN: Version = Version::Two;
 
@@ -57,6 +63,9 @@ impl Version {
         VERSIONS[self as usize].days
     }
 
+    // The table of corrections is no argument of the formulas: what a version had of them is the
+    // formula in which the years of later rows are void (`Older.antt`), and a law says that its
+    // runs stay.
     /// Whether the version has what there is since another.
     pub fn has_since(self, since: Version) -> bool
         ensures { result ≡ has_since self since }

@@ -5,6 +5,8 @@ ghost use Rattle.std.specs.Prelude.{◌≡◌};
 use crate::names::{first_row_named, name_at};
 use crate::{Calendar, Kind, Place, Version};
 
+// The eastern calendars stand behind `Chinese`, whose fields they share. No number of a word is
+// printed, so a row between others changes no file.
 /// A word for what a line's date names: the day of a Gregorian date, of a day number of the book (R.D.), of a Persian, a Bahá'í, a
 /// Chinese, a Vietnamese, a Korean, a Japanese, an Islamic, a Hindu solar, a Hindu lunar, a French or an observed Hebrew date, the
 /// day of the next minor or major solar term, or the day on which the moon was last new, at its first quarter, full or at its last quarter.
@@ -64,6 +66,8 @@ pub enum ToWord {
     MoonsetUjjain,
 }
 
+// One type for what stands before a date and after it: the phases of the moon are rows of the table
+// of words, and their dates are Gregorian.
 /// What a word is about: a date in a calendar, or the value of the fact of this kind at this place. A word before a date names the
 /// day that has the date, or that the value for the day of the Gregorian date is; a word after it shows the date or the value of a day.
 #[derive(Clone, Copy, Debug, PartialEq, Eq)]
@@ -72,6 +76,8 @@ pub enum Meaning {
     Value(Kind, Place),
 }
 
+// A row stands at the place of its value. A law says that the row found is the value's own, that
+// its word is found as that value, and that no word stands twice.
 /// The words that stand before a date, in the order of their values, with what they name by the date, and the first version of
 /// printed files that has them.
 #[rattlefmt::skip]

@@ -2,6 +2,9 @@
 //! readers and writers of the standard library (`standard`), in memory (`memory`), or gather what is written
 //! (`gathered`). `read_all` reads an input to its end, `write_all` and `write_parts` write texts whole, or a front of
 //! them where a write fails.
+//!
+//! The streams stand below both writing and reading: writing stands on no stream's implementation, and reading stands
+//! above writing.
 #![tactic(auto)]
 
 mod gathered;

@@ -14,6 +14,8 @@ pub fn decimal<'a, I: Integer>(buffer: &'a mut Buffer, number: I) -> &'a [u8]
     buffer.format(number).as_bytes()
 }
 
+// What a call appends is one word (`Writes`): on `Ok` the whole text, on `Err` a front of it, and
+// why.
 /// Writes one part after the other. At an error, which comes only where the count of the sink's faults rose, a front of
 /// them was written.
 pub fn write_parts<K: Sink>(sink: &mut K, parts: &[&[u8]]) -> Result<(), Failed>

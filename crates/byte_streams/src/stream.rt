@@ -83,6 +83,7 @@ pub fn read_all<S: Source>(alloc: Global, source: &mut S, limit: usize) -> Resul
     ensures later { S.faults source.old ≤ S.faults source.new }
 {
     let mut held = Vec::new(alloc);
+    // By pieces, so that no more memory is wanted than there are bytes, whatever the limit is.
     let mut piece = [0u8; 4096];
     while held.len() <= limit {
         let count = source.read(&mut piece)?;

@@ -1,4 +1,8 @@
 //! Spans, as a year or a month, and their days. A span's length is an exact fraction, from one day to a thousand.
+//!
+//! Two functions serve all: a count is a number over another, so that half years, twelfths and half months need no
+//! function more, and to the nearest is with a half more. Counts of up to 100,000,000 are asked for, so that products
+//! with the parts of a span fit.
 ghost use Rattle.std.specs.Prelude.{◌≡◌, ◌<◌, ◌≤◌, ◌^◌, pos, negsuc, ◌≤ℤ◌, ◌*ℤ◌};
 ghost use Rattle.book_model.specs.numbers.Fractions.{fraction_of};
 ghost use Rattle.book_model.specs.calendars.Spans.{quotient_down, ratio, days_of as days_of_spans, spans_of as spans_of_days, days_of_years as days_of_tropical_years, months_of_days as synodic_months_of, years_of_days as tropical_years_of};

@@ -107,6 +107,8 @@ pub(crate) fn date_from_facts<O: Oracle>(
     Ok(date_from_month(day, month, years))
 }
 
+// It asks for any day within 11,000,000 of 0, since the rule for the day of a date takes the date
+// of a day that is the value of a fact.
 /// The date of a day (R.D.): the month that begins with the last new moon before the day ends in Beijing, numbered from the
 /// winter solstice of its sui, whose month is the eleventh; in a sui with thirteen months the first without a major solar term
 /// is a leap month. Cycle and year follow from the mean years since the epoch. A day of the month that its type doesn't hold

@@ -19,6 +19,8 @@ impl CalendarDate for ChineseDate {
                 self.cycle,
                 i32::from(self.year),
                 i32::from(self.month),
+                // The rule compares flags and numbers alike as whole numbers, a leap month as 0 or
+                // 1.
                 i32::from(self.leap),
                 i32::from(self.day),
             ],

@@ -4,9 +4,13 @@ ghost use Rattle.chinese_cal.specs.Keeping.{AreEmpty, kept_value};
 
 use book_model::Fact;
 
+// At most 129 facts for the date of a day, and 26 more for the day of a date. Were it full, the
+// oracle would be asked again, which changes no answer.
 /// How many facts are kept at most: one call asks fewer.
 const MOST: usize = 160;
 
+// So a call asks the oracle nothing twice. An array takes no memory from the system, and is looked
+// through from its beginning.
 /// Facts with their values, in order of first use, in places of which those behind the first so many hold nothing.
 #[derive(Drop)]
 pub(crate) struct Kept {

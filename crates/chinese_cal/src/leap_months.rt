@@ -58,6 +58,8 @@ pub(crate) fn is_leap_month<O: Oracle>(
         return Ok(false);
     }
     let before = ask_kept(oracle, kept, moon_before(month))?;
+    // It walks anew, over kept facts alone: this walk and the first would agree on one list of
+    // months only where the first ended before its fifteenth call.
     let found = prior(oracle, kept, first, before)?;
     Ok(!found)
 }

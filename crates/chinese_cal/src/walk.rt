@@ -1,5 +1,9 @@
 //! The walk over the months of a sui: back from a month to the first, and forwards as far as one that is bare. Months are
 //! named by the day on which they begin (R.D.).
+//!
+//! The definition is the plain recursion, where a fact that it names twice stands twice. A lemma (`prior_is_walk`) says
+//! that the two are one inquiry, whatever the values: so nothing is asked of the gaps between months, which are 29 or
+//! 30 days in the sky, and any number in a false table.
 ghost use Rattle.std.specs.Prelude.{◌≡◌, ◌≤◌, ◌+◌, All, length};
 ghost use Rattle.std.specs.Ordering.{int_eq};
 ghost use Rattle.book_model.specs.calendars.Chinese as spec;

@@ -19,6 +19,8 @@ pub struct Civil {
 #[derive(Clone, Copy, Debug, PartialEq, Eq)]
 pub struct NoSuchDay;
 
+// Both calls share one relation of a date and its day (`IsDateOfDay`), so that each gives back what
+// the other was given.
 /// The day number (R.D.) of a Gregorian date: its year, its month from 1, and its day of the month from 1.
 /// `NoSuchDay` comes exactly where the calendar has no such date, or the year isn't one of 1 to 9999.
 ///

@@ -1,4 +1,7 @@
 //! The dates of `jiff`, whose days count from 1 January 1970.
+//!
+//! The definitions don't speak of `jiff`: that its dates of the years from 1 on are theirs, with the same days, is
+//! proved once, in this crate.
 ghost use Rattle.std.specs.Prelude.{◌≡◌, ◌↔◌, ◌≤ℤ◌, ◌+ℤ◌, pos, IsTrue, IsSome, IfSome};
 ghost use Rattle.civil_core.specs.Dates.{has_date};
 ghost use Rattle.jiff.specs.Words.{epoch_day, IsYmd};

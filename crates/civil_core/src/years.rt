@@ -19,6 +19,8 @@ fn year_of_date(date: Date) -> i64
     i64::from(date.year())
 }
 
+// The ends of an enclosure may lie far outside the years of `jiff`: hence the calendar's own
+// repetition.
 /// The Gregorian year of a day number (R.D.), of 2⁷¹ days before and after day 0, as if the calendar had always been: that of
 /// the date as many times 400 years away as lies within the years 0 to 400.
 pub fn year_of(day: i128) -> i64
@@ -42,6 +44,8 @@ fn leap_days_to(year: i64) -> i64
     quotient(year, 4) - quotient(year, 100) + quotient(year, 400)
 }
 
+// Years below 0 too: a field of a date is read less its sign, so a Hebrew date of any year may be
+// asked, and its Nisan is asked like any other.
 /// The day number (R.D.) of 1 January of a year from -20,000 to 20,000, as if the calendar had always been.
 #[tactic(auto, unfolding(book_model::specs::calendars::Gregorian::first_day))]
 pub fn first_of_january(year: i64) -> i64

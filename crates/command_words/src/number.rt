@@ -7,6 +7,8 @@ fn is_number(word: &str) -> bool
     ensures number { result ≡ spec.is_number word.now }
 {
     let digits = word.as_bytes();
+    // The greatest seed has twenty digits, so every seed fits, with zeros in front or without; a
+    // number beyond 64 bits is out of every range. The empty word isn't 0.
     if digits.is_empty() || digits.len() > 20 {
         return false;
     }

@@ -1,4 +1,8 @@
 //! The command by which clap reads the words.
+//!
+//! The words that are accepted are exactly those in which clap's own reading finds no fault (`fault_of` at this
+//! command), and not a retelling of its rules that could differ from it. This crate stands on clap alone, so that the
+//! words don't wait for the formulas.
 ghost use Rattle.std.specs.Prelude.{◌≡◌, IfOk, false};
 ghost use Rattle.clap.specs.Words.{app_of, rule_of};
 ghost use Rattle.command_words.specs.Words as spec;
@@ -24,6 +28,7 @@ fn jobs<'a>(alloc: Global) -> Arg<'a>
     Arg::new(alloc, "jobs")
         .long("jobs")
         .action(ArgAction::Set)
+        // One processor, unless the run is told otherwise.
         .default_value("1")
 }
 
@@ -33,6 +38,7 @@ fn bare<'a>(alloc: Global) -> Command<'a>
 {
     Command::new(alloc, "calendrica")
         .no_binary_name(true)
+        // Words in no form are answered by the usage line, `help` and `--help` among them.
         .disable_help_flag(true)
 }
 
@@ -40,6 +46,8 @@ fn bare<'a>(alloc: Global) -> Command<'a>
 pub(crate) fn program<'a>(alloc: Global) -> Result<Command<'a>, AllocError>
     ensures app { IfOk result (λ p. app_of p ≡ spec.program) }
 {
+    // By place, as clap has it: `-- convert` is `convert`, and in `convert -- --jobs 1` the option
+    // is a value of A, so that these words are no form.
     let command = placed(alloc, "command", true);
     let first = placed(alloc, "a", false);
     let second = placed(alloc, "b", false);

@@ -75,6 +75,7 @@ fn table(name: &str, first: Option<&str>, second: Option<&str>) -> Option<Comman
     }
 }
 
+// More jobs than processors are allowed: they even out pieces of unequal work.
 /// How many jobs a word asks for, from 1 to 64.
 fn jobs_in(word: &str) -> Option<usize>
     ensures jobs { result ≡ spec.jobs_in word.now }

@@ -1,4 +1,8 @@
 //! An oracle that asks another one of the sky of another place.
+//!
+//! The inquiry itself is turned, fact by fact, so that the Chinese rules take no place and no rule stands twice. A law
+//! (`moves`) says what that comes to over each table of facts: the result over the table read at the place, and the
+//! same facts asked, moved.
 ghost use Rattle.std.specs.Prelude.{◌≡◌, IsTrue};
 ghost use Rattle.book_model.specs.calendars.Moving.{is_eastern, moved_fact};
 ghost use Rattle.east_cal.specs.Moving.{is_moved_to};
@@ -43,6 +47,8 @@ pub struct Moved<'a, O> {
 }
 
 impl<'a, O> Moved<'a, O> {
+    // The calendars differ from the Chinese one in nothing else: fields, cycles, years and epoch
+    // are its own, and a year of a reign or an era is none of their fields.
     /// The oracle over another one, of the sky of Hanoi, Seoul or Tokyo.
     pub fn new(inner: &'a mut O, place: Place) -> Moved<'a, O>
         requires moved_to { IsTrue (is_moved_to place) }
@@ -57,6 +63,9 @@ impl<'a, O> Moved<'a, O> {
 impl<'a, O: Oracle> Oracle for Moved<'a, O> {
     ghost use Rattle.east_cal.specs.Moving.{Through, through, through_state, one_through};
 
+    // What it knows holds the name of the reference that was lent to it, which never changes: so
+    // whoever lends an oracle learns that it got the same one back, which the call `ask` doesn't
+    // say.
     ghost Known = { Through O.Known };
 
     ghost meaning = { through O.meaning };

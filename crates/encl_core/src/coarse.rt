@@ -44,6 +44,7 @@ impl Enclosure for Coarse {
         }
     }
 
+    // Inlined where an argument is mostly a constant, so that the compiler knows the divisor.
     #[inline(always)]
     fn from_frac(value: Frac) -> Self {
         Coarse {
@@ -116,6 +117,7 @@ impl Enclosure for Coarse {
     #[inline(always)]
     fn angle(self, phase: i64, rate: i64) -> Self {
         Coarse {
+            // One quotient at each end in place of three roundings.
             ends: angle_ends(self.ends, phase, rate),
         }
     }

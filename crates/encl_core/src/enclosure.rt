@@ -51,6 +51,7 @@ pub trait Enclosure: Copy + Drop {
     fn from_int(value: i64) -> Self
         ensures encloses { Encloses shown BITS (integer value) result };
 
+    // At most one unit wide beyond the fraction, so that a half is a plain constant.
     /// The enclosure of a fraction.
     fn from_frac(value: Frac) -> Self
         ensures encloses { Encloses shown BITS (constant (fraction_of value)) result };
@@ -78,6 +79,8 @@ pub trait Enclosure: Copy + Drop {
     fn min(self, other: Self) -> Self
         ensures encloses { Encloses2 shown BITS minimum self other result };
 
+    // No operation gives a size: it is the greater of a number and its opposite, here and in the
+    // definitions.
     /// The greater of each two members.
     fn max(self, other: Self) -> Self
         ensures encloses { Encloses2 shown BITS maximum self other result };
@@ -99,6 +102,8 @@ pub trait Enclosure: Copy + Drop {
     fn mul_frac(self, by: Frac) -> Self
         ensures encloses { Encloses1 shown BITS (scale (fraction_of by)) self result };
 
+    // This one and the next have default bodies by the other operations, and so serve every kind; a
+    // kind may take fewer roundings.
     /// The products of the members with a whole number.
     #[inline(always)]
     fn times(self, by: i64) -> Self
@@ -134,6 +139,8 @@ pub trait Enclosure: Copy + Drop {
     fn clamp_unit(self) -> Self
         ensures encloses { Encloses1 shown BITS clamp_of self result };
 
+    // A formula that is evaluated at points, as a sine at the ends of its degrees, takes ends and
+    // gives ends back by `from_span`: so it is the same for every kind.
     /// The ends, at one scale for every kind; `None` for every number.
     fn span(self) -> Option<Span>
         ensures holds { IfSome result (λ s. shown self ⊆ between (units_of_56 s.lo)
@@ -142,6 +149,9 @@ pub trait Enclosure: Copy + Drop {
             ⊆ shown self) }
         ensures none { IsNone result → shown self ≡ everything };
 
+    // Two kinds of tests: a cell has a whole number for its answer, a comparison a truth value. The
+    // clause `undecided` holds the ends at which it is open, so that giving up at once is no way
+    // out.
     /// Whether each member is below each of the other, where that is so of all or of none. The test counts in the
     /// trail. `Undecided` comes exactly where it is so of some.
     fn less(self, other: Self, site: Site, trail: &mut Trail) -> Result<bool, Undecided>

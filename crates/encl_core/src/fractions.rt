@@ -9,6 +9,7 @@ use book_model::Frac;
 use interval_ends::{Ends, ends_of, ends_of_fraction};
 use rounded_quotients::{ceil_div, floor_div};
 
+// Where a caller's denominator is a constant, the compiler takes the branch away.
 /// How many times 2³⁶ goes into a denominator; 0, where it leaves a remainder.
 #[inline(always)]
 fn units_of(den: u64) -> u64

@@ -6,6 +6,7 @@ ghost use Rattle.encl_core.specs.Kept.{IsKept, IsKept-prop, IsKeptAbout, IsKeptA
 use crate::Span;
 use std::alloc::AllocError;
 
+// As `KeptMoon`: its type says that it is the year's correction, which makes no test.
 /// The dynamical time correction of a year, as enclosures of one scale give it.
 #[derive(Debug, PartialEq)]
 pub struct KeptCorrection {

@@ -5,10 +5,14 @@ ghost use Rattle.encl_core.specs.Kept.{IsKept, IsKept-prop, IsMoonWithin, IsMoon
 use crate::Span;
 use std::alloc::AllocError;
 
+// The type says that what is kept is right: the program of the new moon makes one test, decides it
+// and ends within these ends, which are so narrow at the fine scale. So it may be taken at any
+// turn. A ghost field has to be a proposition, so that is said of runs and not by `Leads`.
 /// The moment of the new moon of a number, as enclosures of one scale give it.
 #[derive(Debug, PartialEq)]
 pub struct KeptMoon {
     number: i64,
+    // The scale is part of the key: fine enclosures never take coarse ends.
     bits: u32,
     moment: Span,
     ghost evaluated: { IsKept 1 (new_moon_of number) moment } by { IsKept-prop 1 (new_moon_of number) moment },

@@ -28,6 +28,7 @@ impl KeptMoons {
 
     /// The place of a number: the new moon of it or of another with the same rest by 3.
     fn place(self, number: i64) -> Option<KeptMoon> {
+        // Three neighbouring numbers leave three different rests.
         match number.rem_euclid(3) {
             0 => self.first,
             1 => self.second,

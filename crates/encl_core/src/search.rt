@@ -9,14 +9,18 @@ ghost use Rattle.book_model.specs.sky.Facts.{IsFactDay};
 use crate::{Enclosure, Trail};
 use book_model::{Fail, Site};
 
+// A start 100 days within the range of facts is asked for, so that each day that is tried is one.
 /// How many days a search tries.
 const DAYS_TRIED: u32 = 46;
 
+// So `first_day` is proved once for all kinds of facts. No number of tests stands here: how many a
+// formula makes is said of the definitions (`fact_eval::laws::counts`).
 /// What a search by day looks for: a test of a day.
 pub trait DayTest<E: Enclosure> {
     /// The test of a day, as a formula.
     ghost test_of: { Self → ℤ → Program Bool };
 
+    // That may hang on the location that the test keeps, or on the century.
     /// Of which test and day its failures are known to be close at the scale 2⁻⁵⁶.
     ghost near_on: { Self → ℤ → Type 0 };
 

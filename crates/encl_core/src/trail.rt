@@ -34,6 +34,8 @@ impl Trail {
         }
     }
 
+    // The evaluator has one trail for each scale, which keeps the new moon of number 0 and from
+    // which each run begins.
     /// The trail of another run, which has made no test, and keeps what this one does.
     pub fn anew(&self) -> Self
         ensures empty { result.count ≡ 0 }
@@ -53,6 +55,7 @@ impl Trail {
         self.count
     }
 
+    // Public, since a formula that decides a test in whole numbers counts it itself.
     /// Counts one more test, and gives its number.
     #[tactic(auto, unfolding(book_model::specs::programs::Leading::next_turn))]
     pub fn step(&mut self) -> u32
@@ -82,6 +85,7 @@ impl Trail {
         self.last_moons.at(number, bits)
     }
 
+    // It asks for ends that were evaluated: what a trail keeps says by its type that it is right.
     /// Keeps the ends of the new moon of a number, as enclosures at scale 2 to the power of minus `bits` gave them, if they did.
     pub fn keep_new_moon(&mut self, number: i64, bits: u32, moment: Option<Span>)
         requires evaluated { IfSome moment (IsKept 1 (new_moon_of number)) }

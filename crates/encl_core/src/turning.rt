@@ -20,6 +20,8 @@ fn product_of(a: i64, b: i64) -> i128
     i128::from(a) * i128::from(b)
 }
 
+// The factor is 2³⁶ times 36,525 days: both parts over one denominator, so that one quotient rounds
+// them.
 /// A phase of ten-millionths and the rate times an end, by that number.
 #[inline(always)]
 fn turned(end: i64, phase: i64, rate: i64) -> i128

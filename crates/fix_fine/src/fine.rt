@@ -206,6 +206,8 @@ impl Enclosure for Fine {
         match cell_of_ends(self.ends) {
             Some(cell) => match i64::try_from(cell) {
                 Ok(cell) => Ok(cell),
+                // A whole number of days or turns outside 64 bits has no place in a line: an open
+                // test, with the ends of 128 bits.
                 Err(_) => Err(open_at::<i128>(None, site, turn)),
             },
             None => Err(open_at(self.ends, site, turn)),

@@ -84,6 +84,8 @@ fn date_from_number(year: i64, over: i64) -> FrenchDate
     FrenchDate {
         year: to_32_bits(year),
         month: month_after(over),
+        // What is left of days by 30 always fits. An added day in a common year, as 4-13-6, names
+        // the first of the next year, and so is refused as no date of its day.
         day: day_after(over),
     }
 }

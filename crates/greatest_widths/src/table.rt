@@ -1,5 +1,8 @@
 //! How wide the answers of calls are at most at the scale 2⁻⁵⁶. Each row stands here once: clauses and tests read it.
 
+// Rows, since clauses and a test read them. What a call keeps beyond its row stands in its own
+// clause (`wide`): phases and longitudes of the moon are narrow also of moments at which their
+// failures aren't close.
 /// How wide an answer is at most: the width of the argument times a fraction, rounded down, and a slack. Widths count 2⁻⁶⁴.
 #[derive(Clone, Copy, Debug)]
 pub struct WidthRow {

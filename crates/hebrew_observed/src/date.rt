@@ -124,6 +124,7 @@ fn date_since<O: Oracle>(
     }
 }
 
+// Dates are told of days from 400 on, so that the Gregorian year before the day's is 1 or more.
 /// The Gregorian year of a day.
 fn gregorian_year(day: i64) -> i64
     requires day { IsDateDay HebrewObserved day }

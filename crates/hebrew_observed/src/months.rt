@@ -43,6 +43,8 @@ pub(crate) fn month_begun(days: i64) -> i64
     months_of(days) + 1
 }
 
+// The nearest by a quotient by 2, which is the same number: the half of a whole number is never a
+// quarter off.
 /// The days of so many months of a year, to the nearest.
 #[tactic(auto, unfolding(book_model::specs::calendars::HebrewObserved::days_of_observed_months))]
 fn days_of_months(months: i64) -> i64

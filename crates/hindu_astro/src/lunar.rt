@@ -203,6 +203,8 @@ fn is_sought<O: Oracle>(oracle: &mut O, search: Search, day: i64) -> Result<bool
     }
 }
 
+// The two searches of the rule are uses of one, here and in the definition: the days that are
+// looked at, and an inquiry of each.
 /// The first of some days about one that is sought, else that one. It stops where the oracle stops.
 #[tactic(auto, using(oracle_core::proofs::Inquiring::asking), unfolding(book_model::specs::calendars::Inquiries::first_of))]
 fn first_of<O: Oracle>(
@@ -366,6 +368,7 @@ impl CalendarDate for HinduLunar {
             values: [
                 self.year,
                 i32::from(self.month),
+                // The rule compares flags and numbers alike as whole numbers, a flag as 0 or 1.
                 i32::from(self.leap_month),
                 i32::from(self.day),
                 i32::from(self.leap_day),

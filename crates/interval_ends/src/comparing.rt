@@ -23,6 +23,8 @@ pub fn cell_of_ends<I: MachineWord>(ends: Option<Ends<I>>) -> Option<I>
     }
 }
 
+// An undecided result tells the ends at which the test was found open, and the clause on it says
+// that it is: so a body that gives up at once is refused.
 /// An open test at these ends, which count 2⁻⁵⁶ in it.
 pub fn open_at<I: MachineWord>(ends: Option<Ends<I>>, site: Site, turn: u32) -> Undecided
     ensures named { (result.site ≡ site) × (result.turn ≡ turn) }

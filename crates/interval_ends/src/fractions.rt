@@ -1,4 +1,7 @@
 //! Fractions, and products of ends with fractions, rounded outwards.
+//!
+//! Inlined where a caller's fraction is a constant: by a denominator that the compiler knows, a quotient is a
+//! multiplication.
 ghost use Rattle.std.specs.Prelude.{◌≡◌, ◌<◌, ◌+◌, ℕ, pos, ◌≤ℤ◌, ◌<ℤ◌, ◌+ℤ◌, ◌-ℤ◌, ◌*ℤ◌, IfSome, IsSome, unsigned_abs};
 ghost use Rattle.std.specs.Int.{w128};
 ghost use Rattle.std.proofs.Common.{SFits};

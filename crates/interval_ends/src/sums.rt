@@ -1,4 +1,7 @@
 //! Sums and differences of ends. No ends stand for every number.
+//!
+//! The innermost functions say equations on ends (`HasEnds`), and one lemma leads from there to intervals and bounds.
+//! That ends are the best that a word can say no caller needs, and it isn't stated.
 ghost use Rattle.std.specs.Prelude.{ℕ, pos, ◌+ℤ◌, ◌-ℤ◌, ◌≤ℤ◌, IfSome};
 ghost use Rattle.exact_math.specs.Fraction.{whole as whole_number};
 ghost use Rattle.exact_math.specs.Interval.{◌⊆◌, sum, difference, negative, between};
@@ -9,6 +12,7 @@ ghost use Rattle.interval_ends.specs.Shown.{shown_ends, HasEnds};
 use crate::ends::Ends;
 use crate::word::MachineWord;
 
+// It asks for ends in order, since `Ends` says that they are by its type.
 /// The ends of so many units, where both fit.
 #[inline(always)]
 pub fn ends_of<I: MachineWord>(lo: i128, hi: i128) -> Option<Ends<I>>

@@ -1,4 +1,7 @@
 //! Words of whole numbers, each with the scale that it counts.
+//!
+//! Each method is an instruction or two, and inlined: so the code for a word is what one would write for it alone. That
+//! a word has no room is said by each checked method (`none`), since a law can't say that a value fits.
 ghost use Rattle.std.specs.Prelude.{◌≡◌, ◌↔◌, ◌<◌, ◌-◌, ◌<ℤ◌, ◌≤ℤ◌, ◌+ℤ◌, ◌-ℤ◌, ◌*ℤ◌, ℤ, pos, neg_ℤ, IsTrue, IfSome, IsNone, FitsSigned};
 ghost use Rattle.std.specs.Int.{w128, int_min, int_max};
 ghost use Rattle.exact_math.specs.Fraction.{floor_quotient};
@@ -11,6 +14,8 @@ use rounded_quotients::{ceil_div, floor_div};
 /// A whole number of so many bits, which counts the units of a scale.
 pub trait MachineWord: Copy + Drop {
     /// The scale.
+    // Ghost members, so that a lemma on ends takes the scale as an argument. The limits below which
+    // an operation keeps its bound are a function of its bits (`limits_at`), proved for these two.
     ghost scale: { Scale };
 
     /// How many units it counts.
@@ -187,6 +192,8 @@ impl MachineWord for i64 {
     #[inline(always)]
     fn times(self, factor: i128) -> Option<i128> {
         match i64::try_from(factor) {
+            // Two factors of 64 bits always have room; one of 128 has where the checked product
+            // does.
             Ok(small) => Some(i128::from(self) * i128::from(small)),
             Err(_) => i128::from(self).checked_mul(factor),
         }
@@ -204,6 +211,7 @@ impl MachineWord for i64 {
 
     #[inline(always)]
     fn floor(self) -> i64 {
+        // A shift rounds down, also below 0.
         self >> 36
     }
 
@@ -326,6 +334,7 @@ impl MachineWord for i128 {
 
     #[inline(always)]
     fn rest(self, modulus: u32, period: i128) -> Option<i128> {
+        // By the whole part: where the period begins may lie below the least number.
         let whole = self.floor();
         let begun = i128::from(modulus) * period;
         let rest = self - whole * ONE;

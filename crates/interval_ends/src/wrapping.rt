@@ -27,6 +27,8 @@ pub fn period_of_ends<I: MachineWord>(ends: Option<Ends<I>>, modulus: u32) -> Op
     }
 }
 
+// It asks for the period in which the ends lie, so that the test is made once, by the step that
+// counts it.
 /// The ends, each moved down to the first period, from that in which both lie.
 #[inline]
 pub fn rest_of_period<I: MachineWord>(

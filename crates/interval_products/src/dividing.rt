@@ -11,6 +11,8 @@ ghost use Rattle.interval_products.specs.Close.{IsCloseQuotient, OfTwo, ThereOfT
 use crate::word::RoundingWord;
 use interval_ends::{Ends, ends_of};
 
+// So only two quotients of four are taken. A bound keeps the sign of its range through products,
+// squares and quotients, since a quotient has a bound only by a divisor of one sign.
 /// By which of two divisors above 0, the first the lesser, the quotient of a number is the least.
 #[inline(always)]
 fn least_by(a: i128, c: i128, d: i128) -> i128

@@ -9,12 +9,15 @@
 //! - `mul_ends`, `square_ends`: products and squares;
 //! - `div_ends`: quotients; every number, where the divisor may be 0;
 //! - `root_ends`: roots; a negative number counts as 0.
+//!
+//! These stand apart from `interval_ends`, since a crate has at most a hundred functions.
 #![tactic(auto)]
 
 mod dividing;
 mod products;
 mod roots;
 mod stepping;
+mod whole_roots;
 mod word;
 
 pub use dividing::div_ends;

@@ -27,6 +27,7 @@ fn all_products<I: RoundingWord>(x: Ends<I>, y: Ends<I>) -> Option<(i128, i128)>
     Some((least_of(p, q, r, s), greatest_of(p, q, r, s)))
 }
 
+// Most factors aren't below 0: two products and not four.
 /// The same, of ends that are not below 0.
 #[inline]
 fn natural_products<I: RoundingWord>(x: Ends<I>, y: Ends<I>) -> Option<(i128, i128)>
@@ -50,6 +51,7 @@ fn products<I: RoundingWord>(x: Ends<I>, y: Ends<I>) -> Option<(i128, i128)>
     ensures some { HaveProducts I.scale (I.value x.lo) (I.value x.hi) (I.value y.lo) (I.value y.hi)
         → IsSome result }
 {
+    // Two tests and not `||`: the clause needs to know which of them holds.
     if x.lo.wide() < 0 {
         all_products(x, y)
     } else if y.lo.wide() < 0 {

@@ -1,4 +1,7 @@
 //! Roots of ends, rounded outwards.
+//!
+//! Roots are whole numbers in the definition too: the greatest whose square is at most a number. What a root keeps of a
+//! width is squared on both sides, so that no root stands in the table of widths.
 ghost use Rattle.std.specs.Prelude.{ℕ, ◌≤◌};
 ghost use Rattle.exact_math.specs.Interval.{◌⊆◌};
 ghost use Rattle.book_model.specs.numbers.Roots.{root_of};

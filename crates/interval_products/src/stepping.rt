@@ -6,6 +6,8 @@ ghost use Rattle.interval_products.specs.Room.{HasFineQuotient, HasParts};
 use interval_ends::parts::ONE;
 use rounded_quotients::{ceil_div, floor_div};
 
+// A dividend that can't be raised to the scale within 128 bits: the whole quotient, and that of
+// what it leaves. So only the divisor has to be small, and the quotient itself.
 /// The whole quotient of two numbers and what it leaves of the dividend, both raised to the scale. `None` only where the
 /// divisor is above 2⁷⁰, or the quotient above 2⁶⁹ in size.
 fn raised_parts(n: i128, d: i128) -> Option<(i128, i128)>

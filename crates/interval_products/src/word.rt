@@ -1,4 +1,8 @@
 //! Words with their products, quotients and roots, rounded to the scale.
+//!
+//! The rule for an operation, which corners are the least and the greatest, by which divisor, what a divisor below 0 or
+//! around 0 does, is code over this trait; a method is what differs from word to word. In 64 bits there is always room,
+//! so that the lemmas on want of room (`Room.antt`) are one line there.
 ghost use Rattle.std.specs.Prelude.{◌≡◌, ◌<ℤ◌, ◌≤ℤ◌, ◌+ℤ◌, ◌-ℤ◌, ◌*ℤ◌, pos, IfSome, IsNone, FitsSigned};
 ghost use Rattle.book_model.specs.numbers.Roots.{natural_part};
 ghost use Rattle.rounded_quotients.specs.Rounding.{IsFloor, IsCeiling};
@@ -6,6 +10,7 @@ ghost use Rattle.interval_ends.specs.Scales.{unit, word};
 ghost use Rattle.interval_products.specs.Room.{HasProduct, IsDividend, HasQuotient, HasRoot};
 
 use crate::stepping::{stepped_down, stepped_up};
+use crate::whole_roots::whole_root;
 use interval_ends::MachineWord;
 use interval_ends::parts::ONE;
 use rounded_quotients::{ceil_div, floor_div};
@@ -32,6 +37,7 @@ pub trait RoundingWord: MachineWord {
     fn ceil_product(product: i128) -> i128
         ensures ceiling { IsCeiling result product (unit Self.scale) };
 
+    // Divisors are above 0: the sign is dealt with once, by `div_ends`.
     /// The quotient of two numbers of units, in units, rounded down.
     fn quotient_down(dividend: i128, divisor: i128) -> Option<i128>
         requires dividend { IsDividend Self.scale dividend }
@@ -85,6 +91,8 @@ impl RoundingWord for i64 {
 
     #[inline(always)]
     fn ceil_product(product: i128) -> i128 {
+        // Rounded up by the number rounded down: no opposite is taken, for which 128 bits may have
+        // no room, so that a product which fits is always rounded.
         let down = product >> 36;
         if down * 68_719_476_736 == product {
             down
@@ -108,7 +116,7 @@ impl RoundingWord for i64 {
         if self <= 0 {
             return Some(0);
         }
-        Some((u128::from(self.unsigned_abs()) * 68_719_476_736).isqrt() as i128)
+        Some(i128::from(whole_root(u128::from(self.unsigned_abs()) * 68_719_476_736)))
     }
 
     #[inline(always)]
@@ -116,7 +124,7 @@ impl RoundingWord for i64 {
         if self <= 0 {
             return Some(0);
         }
-        Some((u128::from(self.unsigned_abs()) * 68_719_476_736 - 1).isqrt() as i128 + 1)
+        Some(i128::from(whole_root(u128::from(self.unsigned_abs()) * 68_719_476_736 - 1)) + 1)
     }
 }
 
@@ -148,6 +156,8 @@ impl RoundingWord for i128 {
 
     fn quotient_down(dividend: i128, divisor: i128) -> Option<i128> {
         match dividend.checked_mul(ONE) {
+            // One division where the raised dividend fits; else two steps, which need a small
+            // divisor only.
             Some(raised) => Some(floor_div(raised, divisor)),
             None => stepped_down(dividend, divisor),
         }
@@ -165,7 +175,7 @@ impl RoundingWord for i128 {
             return Some(0);
         }
         let raised = self.unsigned_abs().checked_mul(ONE as u128)?;
-        Some(raised.isqrt() as i128)
+        Some(i128::from(whole_root(raised)))
     }
 
     fn root_up(self) -> Option<i128> {
@@ -173,6 +183,6 @@ impl RoundingWord for i128 {
             return Some(0);
         }
         let raised = self.unsigned_abs().checked_mul(ONE as u128)?;
-        Some((raised - 1).isqrt() as i128 + 1)
+        Some(i128::from(whole_root(raised - 1)) + 1)
     }
 }

@@ -28,6 +28,7 @@ pub(crate) fn months_before(first: i64) -> i64
     months_of_days(first - ISLAMIC_EPOCH)
 }
 
+// Halves, so that the middle of a month is a count over 2 and one function counts all spans.
 /// Twice the months from the epoch to the middle of a month.
 #[tactic(auto, unfolding(book_model::specs::calendars::Islamic::half_months_to))]
 fn half_months_to(year: i64, month: i64) -> i64

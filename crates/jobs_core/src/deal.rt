@@ -3,6 +3,8 @@
 ghost use Rattle.std.specs.Prelude.{◌≡◌, ◌≤◌, ◌<◌};
 ghost use Rattle.jobs_core.specs.Pieces as spec;
 
+// Two threads would compute the facts of neighbours at once; and dear lines that lie together, as
+// the Islamic months of an almanac, are shared by all threads.
 /// How many places a block has.
 const BLOCK: usize = 16;
 

@@ -17,6 +17,7 @@ pub struct Finding {
     pub facts: FactValues,
 }
 
+// A stop of an oracle for a missing fact or for want of memory is no outcome.
 /// Why a line that breaks no rule has no result: a fact that it asks is undecided or void.
 #[derive(Clone, Copy)]
 pub enum Halt {
@@ -24,6 +25,7 @@ pub enum Halt {
     Void(Fact, Site),
 }
 
+// So a line that breaks a rule takes 16 bytes in place of 80, and a result as much as before.
 /// What comes of a line: it breaks a rule; it has a result; or it has none. What belongs to it stands in a box, so that an
 /// outcome is two words long.
 #[derive(Drop)]
@@ -33,6 +35,7 @@ pub enum Outcome {
     Halted(Box<Halt>),
 }
 
+// A plain `Vec`, since the lists of pieces are joined by moving them.
 /// Outcomes, in the order of the rows.
 pub type Outcomes = Vec<Outcome>;
 
@@ -70,6 +73,8 @@ fn outcome_of_request<E: Evaluator>(
     }
 }
 
+// It asks that the row may be resolved. One relation, book_model's, says what is right for a row
+// and for its request.
 /// What comes of a row, by the answers of the evaluator for the facts that it asks. The error comes where memory runs
 /// out.
 pub fn outcome_of<E: Evaluator>(

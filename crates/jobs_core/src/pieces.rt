@@ -80,6 +80,8 @@ fn only_of<X: Drop>(mut pieces: Vec<Result<Vec<X>, AllocError>>) -> Result<Vec<X
     pieces.pop().unwrap()
 }
 
+// Both maps are this, which knows nothing of lines and facts. The work isn't done in rounds of so
+// many lines, which would bound the memory: all is computed before anything is written.
 /// What `f` gives at each place below `count`, in the order of the places. They are dealt in turn to as many pieces as there are
 /// jobs, whose sizes differ by at most one, and some of which are empty where there are fewer places. Each piece is worked in
 /// a thread of its own where one can be had, and the gate is told once, as the piece begins. The error is that of a call, or

@@ -71,6 +71,8 @@ fn date_from_number(year: i64, number: i64) -> PersianDate
     }
 }
 
+// What is computed between two questions is done by functions with contracts in the definition's
+// words, of a sum in an argument too: so the calls that ask need no proof of their own.
 /// The date of a day (R.D.) by the first day of its year.
 fn date_from_facts(year: i64, new_year: i64, day: i64) -> PersianDate
     requires year { IsNearYear year }
@@ -111,6 +113,7 @@ pub fn from_fixed<O: Oracle>(oracle: &mut O, day: i64) -> Result<PersianDate, St
 {
     let first = oracle.ask(nowruz_fact_on(day))?;
     let year = year_begun(first);
+    // The year's first day is asked once more, of a day in its middle, as the rule has it.
     let new_year = oracle.ask(new_year_fact(year))?;
     Ok(date_from_facts(year, new_year, day))
 }

@@ -1,4 +1,8 @@
 //! Quotients of counts of days, months and years, rounded down and up, and what they leave, as the definitions take them.
+//!
+//! Numbers from -50,000,000 to 50,000,000 are asked for, so that products with the parts of a span fit the word; the
+//! calendars' days and years are a fiftieth of that. Divisors are above 0: each is a constant, a denominator, or an end
+//! that was tested, so no answer tells that there is none.
 ghost use Rattle.std.specs.Prelude.{◌≡◌, ◌<◌, pos, ◌≤ℤ◌, ◌<ℤ◌, ◌-ℤ◌, ◌*ℤ◌};
 ghost use Rattle.book_model.specs.calendars.Spans.{quotient_down, quotient_up as quotient_up_of, amod as amod_of, modulo as modulo_of};
 ghost use Rattle.rounded_quotients.specs.Counts.{IsCount};
@@ -11,6 +15,7 @@ pub fn wide_quotient(number: i128, divisor: u64) -> i128
     number.div_euclid(i128::from(divisor))
 }
 
+// In the definitions a divisor stands as itself, as the rules are read; 0 is read as 1 there.
 /// The least whole number that isn't below the quotient.
 pub fn quotient_up(number: i64, divisor: u8) -> i64
     requires positive { 0 < divisor }
@@ -70,6 +75,8 @@ pub fn quotient_before(number: i64, divisor: u8) -> i64
     (number - 1).div_euclid(i64::from(divisor))
 }
 
+// It stands below the evaluator and the calendars, so that the number of a major solar term, which
+// both count from 1 on, is this one function.
 /// The number from 1 to the divisor that differs from this one by a multiple of it.
 pub fn amod(number: i64, divisor: u8) -> i64
     requires positive { 0 < divisor }

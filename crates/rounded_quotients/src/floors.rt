@@ -1,4 +1,7 @@
 //! Quotients rounded down and up, in 64 bits where that can be.
+//!
+//! A division of 128 bits is many times slower than one of 64, and one by a constant is a multiplication: hence the
+//! ways below, tried in turn, and hence `#[inline(always)]`, which lets the constant of the caller through.
 ghost use Rattle.std.specs.Prelude.{◌≡◌, ◌^◌, ◌<◌, ◌+ℤ◌, pos, ◌≤ℤ◌, ◌<ℤ◌, ◌-ℤ◌, ◌*ℤ◌, int_div, IfSome};
 ghost use Rattle.rounded_quotients.specs.Rounding.{IsFloor, IsCeiling};
 
@@ -45,6 +48,7 @@ fn floor_in_64_bits(n: i128, d: i128) -> Option<i64>
     Some(floor_64(n, d))
 }
 
+// Below 2³⁵, so that the rest and 29 further bits fit 64.
 /// A divisor below 2³⁵.
 #[inline(always)]
 fn small_divisor(d: i128) -> Option<i64>
@@ -71,6 +75,7 @@ fn last_step(rest: u64, low: u64, d: u64) -> u64
     (rest * 536_870_912 + low) / d
 }
 
+// Small functions, so that each proof is about one expression.
 /// What is left of a number above so many times a divisor.
 #[inline(always)]
 fn rest_of(number: i64, times: i64, d: i64) -> u64
@@ -139,6 +144,8 @@ fn reduced_floor(n: i128, d: i128) -> Option<i128>
     requires { pos 0 <ℤ d }
     ensures value { IfSome result (λ q. IsFloor q n d) }
 {
+    // A factor of 128 that both hold is taken out: so more divisors are small, and more dividends
+    // fit.
     if d % 128 == 0 {
         shifted_floor(n, d / 128)
     } else {
@@ -155,6 +162,7 @@ pub fn floor_div(n: i128, d: i128) -> i128
     if d == 1 {
         return n;
     }
+    // Most numbers are small: one division of 64 bits.
     if let Some(quotient) = floor_in_64_bits(n, d) {
         return i128::from(quotient);
     }
@@ -178,6 +186,8 @@ pub fn ceil_div(n: i128, d: i128) -> i128
     requires { pos 0 <ℤ d }
     ensures { IsCeiling result n d }
 {
+    // One more than the floor of the number before: no opposite is taken, for which 128 bits may
+    // have no room.
     match n.checked_sub(1) {
         Some(before) => floor_div(before, d) + 1,
         None => whole_quotient(n, d),

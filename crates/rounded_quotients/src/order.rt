@@ -1,6 +1,7 @@
 //! The lesser and the greater of numbers.
 ghost use Rattle.rounded_quotients.specs.Rounding.{AreSorted, IsBelowFour, IsAboveFour, IsAboveEachBelow, IsBelowEachAbove};
 
+// Functions, since the proof of a body with several `min` and `max` of products meets limits.
 /// The lesser and the greater of two.
 pub fn sorted(p: i128, q: i128) -> (i128, i128)
     ensures { AreSorted result.0 result.1 p q }

@@ -6,6 +6,8 @@ use crate::Entry;
 use once_cell::race::{Note, OnceBox};
 use std::alloc::{AllocError, Global};
 
+// A shelf of 2.3 million slots that is taken at once cost 15 ms and 19 MB in every run, where a
+// cold start takes a millisecond; a directory of blocks for 7.7 million takes 240 kB.
 /// How many slots a block has.
 pub(crate) const BLOCK: usize = 256;
 

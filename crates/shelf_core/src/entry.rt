@@ -29,6 +29,8 @@ impl Model for Entry {
 impl Entry {
     ghost use Rattle.oracle_core.specs.Answers.{IsRightAnswer};
 
+    // The one way to an entry. It asks for an answer that is right, and so each entry says by its
+    // type that it is.
     /// The entry of a fact and an answer that is right for it.
     pub fn new(fact: Fact, answer: Answer) -> Entry
         requires right { IsRightAnswer fact answer }

@@ -5,6 +5,8 @@
 //! `rows` numbers the pairs of a kind and a place, `entry` is what a slot holds, `block` a number of slots that are made
 //! together, `notes` what two looks at a slot have in common, `shelf` the slots with the passes by which they are read and
 //! set, `shelved` the evaluator over a shelf, and `laws` what holds of a shelf after any steps, and of the numbers of slots.
+//!
+//! The definition of a shelf stands in this crate and not in book_model, since it speaks of an evaluator's answers.
 #![tactic(auto)]
 
 mod block;

@@ -62,6 +62,8 @@ fn first_rows_of<T, N, W, V>(
     Ok(rows)
 }
 
+// Counted when a shelf is opened, over the table of kinds: a kind or a place more wants nothing
+// here.
 /// The first row of each kind. The error comes where memory runs out.
 pub(crate) fn first_rows(alloc: Global) -> Result<Vec<usize>, AllocError>
     ensures rows { IfOk result (λ rows. rows.items ≡ spec.first_rows 0 spec.place_lists) }

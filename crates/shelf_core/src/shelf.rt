@@ -1,8 +1,8 @@
 //! The slots, and the passes by which they are read and set.
-ghost use Rattle.std.specs.Prelude.{◌≡◌, ◌<◌, vec_len};
+ghost use Rattle.std.specs.Prelude.{◌≡◌, ◌<◌, ◌/◌, ◌%◌, vec_len};
 ghost use Rattle.book_model.specs.sky.Facts.{IsValueDay};
 ghost use Rattle.shelf_core.specs.Rows.{first_rows as first_rows_from, place_lists};
-ghost use Rattle.shelf_core.specs.Slots.{slot_count, block_count};
+ghost use Rattle.shelf_core.specs.Slots.{slot_of, slot_count, block_count, BLOCK as SLOTS};
 
 use crate::Entry;
 use crate::block::{BLOCK, Block};
@@ -31,9 +31,13 @@ pub struct Shelf {
 #[derive(Drop)]
 pub struct Pass {
     pub(crate) fact: Fact,
+    /// The number of the fact's slot, which is reckoned once.
+    slot: usize,
     pub(crate) block: Note<Block>,
     pub(crate) entry: Option<Note<Entry>>,
     ghost in_reach: { IsValueDay fact.day },
+    ghost numbered: { slot ≡ slot_of fact },
+    ghost within: { slot < slot_count },
 }
 
 /// The number of blocks.
@@ -44,12 +48,39 @@ fn block_count_of() -> usize
     fact_rows() * DAYS / BLOCK + 1
 }
 
+/// The place of the block of a slot with this number.
+#[tactic(auto, unfolding(crate::specs::Slots::block_count))]
+fn block_of(slot: usize) -> usize
+    requires within { slot < slot_count }
+    ensures number { result ≡ slot / SLOTS }
+    ensures within { result < block_count }
+{
+    slot / BLOCK
+}
+
+impl Pass {
+    /// The place of the fact's block.
+    fn block_number(&self) -> usize
+        ensures number { result ≡ slot_of self.now.fact / SLOTS }
+        ensures within { result < block_count }
+    {
+        block_of(self.slot)
+    }
+
+    /// The place of the fact's slot in its block.
+    fn place_in_block(&self) -> usize
+        ensures number { result ≡ slot_of self.now.fact % SLOTS }
+        ensures within { result < SLOTS }
+    {
+        self.slot % BLOCK
+    }
+}
+
 impl Shelf {
-    ghost use Rattle.std.specs.Prelude.{◌/◌, ◌%◌, ◌↔◌, IfSome, IfNone, IsSome, OnErr, IfOk};
+    ghost use Rattle.std.specs.Prelude.{◌↔◌, IfSome, IfNone, IsSome, OnErr, IfOk};
     ghost use Rattle.std.specs.declared.option.Option.TheVariants.{None, Some};
     ghost use Rattle.once_cell.specs.Once.{Agrees};
     ghost use Rattle.oracle_core.specs.Answers.{IsRightAnswer};
-    ghost use Rattle.shelf_core.specs.Slots.{slot_of, BLOCK as SLOTS};
     ghost use Rattle.shelf_core.specs.Passes.{IsPassOf, seen};
     ghost use Rattle.shelf_core.specs.Shelves.{IsStep};
 
@@ -73,25 +104,6 @@ impl Shelf {
             + (fact.day() - FIRST_DAY) as usize
     }
 
-    /// The place of a fact's block.
-    #[tactic(auto, unfolding(crate::specs::Slots::block_count))]
-    fn block_number(&self, fact: Fact) -> usize
-        requires in_reach { IsValueDay fact.day }
-        ensures number { result ≡ slot_of fact / SLOTS }
-        ensures within { result < block_count }
-    {
-        self.slot_number(fact) / BLOCK
-    }
-
-    /// The place of a fact's slot in its block.
-    fn place_in_block(&self, fact: Fact) -> usize
-        requires in_reach { IsValueDay fact.day }
-        ensures number { result ≡ slot_of fact % SLOTS }
-        ensures within { result < SLOTS }
-    {
-        self.slot_number(fact) % BLOCK
-    }
-
     /// A pass of a fact, which has seen nothing; `None` exactly where the fact's day lies outside 1 July 1700 to
     /// 31 December 2149. It takes no memory.
     pub fn pass(&self, fact: Fact) -> Option<Pass>
@@ -101,9 +113,11 @@ impl Shelf {
         ensures unseen { IfSome result (λ p. seen p ≡ None) }
     {
         if FIRST_DAY <= fact.day() && fact.day() <= LAST_DAY {
-            let block = self.blocks[self.block_number(fact)].note();
+            let slot = self.slot_number(fact);
+            let block = self.blocks[block_of(slot)].note();
             Some(Pass {
                 fact,
+                slot,
                 block,
                 entry: None,
             })
@@ -121,8 +135,8 @@ impl Shelf {
         ensures some { IfSome result (λ e. (seen pass.new ≡ Some e) × Agrees (seen pass.old) e) }
         ensures none { IfNone result ((seen pass.old ≡ None) × (seen pass.new ≡ None)) }
     {
-        let block = self.blocks[self.block_number(pass.fact)].get_as(&mut pass.block)?;
-        let (note, entry) = block.look(self.place_in_block(pass.fact), pass.entry.take());
+        let block = self.blocks[pass.block_number()].get_as(&mut pass.block)?;
+        let (note, entry) = block.look(pass.place_in_block(), pass.entry.take());
         pass.entry = Some(note);
         entry
     }
@@ -140,9 +154,9 @@ impl Shelf {
         ensures err { OnErr result (seen pass.new ≡ seen pass.old) }
     {
         let entry = Entry::new(pass.fact, answer);
-        let made = &self.blocks[self.block_number(pass.fact)];
+        let made = &self.blocks[pass.block_number()];
         let block = made.get_or_try_init_as(move || Block::boxed(alloc), &mut pass.block)?;
-        let place = self.place_in_block(pass.fact);
+        let place = pass.place_in_block();
         let (note, filled) = block.put(alloc, place, pass.entry.take(), entry);
         pass.entry = Some(note);
         filled
@@ -170,11 +184,15 @@ impl Shelf {
             return evaluator.eval(fact);
         };
         if let Some(entry) = self.get(&mut pass) {
+            // No clause says that the slot's entry is of this fact; the comparison costs little,
+            // and makes every answer right whoever set the slot.
             if entry.fact() == fact {
                 return entry.answer();
             }
         }
         let answer = evaluator.eval(fact);
+        // Want of memory for a block or a slot leaves it empty: the computed answer is given all
+        // the same.
         let _ = self.fill(alloc, &mut pass, answer);
         answer
     }

@@ -1,5 +1,5 @@
 -- The year of a moment, by its two ends.
-use Rattle.std.proofs.Common.{◌≡◌, ℕ, ℤ, pos, negsuc, ◌≤ℤ◌, ◌^◌, ◌-◌, ◌∙◌, sym, arith, refl, Option, Some, None, Result, Ok, Err, IfOk, IfErr}
+use Rattle.std.proofs.Common.{◌≡◌, ℕ, ℤ, pos, negsuc, ◌≤ℤ◌, ◌^◌, ◌-◌, ◌∙◌, sym, ap, arith, refl, Option, Some, None, Result, Ok, Err, IfOk, IfErr}
 use Rattle.std.specs.Int.{int_div_euclid}
 use Rattle.std.proofs.lemmas.Int.{ints}
 use Rattle.exact_math.specs.Interval.{Interval, everything, between, IsProper, ◌⊆◌}
@@ -29,6 +29,11 @@ day_is m q e = let f = e ∙ euclid_is m (2 ^ 56) (omega arith) in rw f (floor_q
 pub year_at_is : (m q : ℤ) → q ≡ int_div_euclid m (pos (2 ^ 56)) → year_of_day q ≡ cell_of years (units_of_56 m)
 unfolding cell_of
 year_at_is m q e = let f = e ∙ euclid_is m (2 ^ 56) (omega arith) in rw f refl
+
+-- the year of a moment is that of another of the same day
+pub year_of_same_day : (k m p q y : ℤ) → p ≡ int_div_euclid k (pos (2 ^ 56)) → q ≡ int_div_euclid m (pos (2 ^ 56)) → p ≡ q
+    → y ≡ cell_of years (units_of_56 k) → y ≡ cell_of years (units_of_56 m)
+year_of_same_day k m p q y d e s f = f ∙ sym (year_at_is k p d) ∙ ap year_of_day s ∙ year_at_is m q e
 
 -- both ends fall in one year
 pub year_same : (lo hi p q : ℤ) → p ≡ cell_of years (units_of_56 lo) → q ≡ cell_of years (units_of_56 hi) → p ≡ q

@@ -80,6 +80,8 @@ pub fn correction<E: Enclosure>(year: i64, trail: &mut Trail) -> Result<E, Fail>
     ensures void { IfErr result (λ f. f ≡ Fail.Void Site.Year) }
     ensures counted { trail.new.count ≡ trail.old.count }
 {
+    // What is claimed of a correction, its width, its bound and its milliseconds, is computed over
+    // the rows and cited for the year at hand: no proof goes over years.
     match row_of_year(year) {
         Some(row) => Ok(by_form::<E>(row.2, row.3, year)),
         None => Err(Fail::Void(Site::Year)),
@@ -111,6 +113,7 @@ fn correction_once<E: Enclosure>(year: i64, trail: &mut Trail) -> Result<E, Fail
     }
 }
 
+// A moment's year is tested for its correction alone.
 /// The correction of the year of a moment: one test, at `year`.
 #[tactic(auto, using(book_model::proofs::Leads::leading, crate::proofs::Years::opening), unfolding(book_model::specs::sky::Time::correction_at))]
 fn correction_of_moment<E: Enclosure>(t: E, trail: &mut Trail) -> Result<E, Fail>

@@ -22,6 +22,19 @@ fn year_at(moment: i128) -> i64
     civil_core::year_of(moment.div_euclid(ONE))
 }
 
+// An end mostly falls on the day of the other, and what year a day has takes a division by the
+// 400 years of the calendar.
+/// The year of a moment that counts 2⁻⁵⁶ of a day, by another moment, whose year is known: the same, where both fall on one day.
+fn year_beside(known: i128, year: i64, moment: i128) -> i64
+    requires year { year ≡ cell_of years (units_of_56 known) }
+    ensures year { result ≡ cell_of years (units_of_56 moment) }
+{
+    if known.div_euclid(ONE) == moment.div_euclid(ONE) {
+        return year;
+    }
+    year_at(moment)
+}
+
 /// The year in which both ends fall, by the test of the run that has this number.
 fn year_between(span: Span, turn: u32) -> Result<i64, Fail>
     ensures decided { IfOk result (λ y. cell_at years (between (units_of_56 span.lo)
@@ -32,7 +45,7 @@ fn year_between(span: Span, turn: u32) -> Result<i64, Fail>
     ensures ends { IfErr result (HasYearEnds span.lo span.hi) }
 {
     let first = year_at(span.lo);
-    if first == year_at(span.hi) {
+    if first == year_beside(span.lo, first, span.hi) {
         return Ok(first);
     }
     Err(Fail::Undecided(Undecided {
@@ -50,6 +63,7 @@ pub fn year_of_whole_day(day: i64, trail: &mut Trail) -> i64
         trail.new.count (Ok result) }
     ensures counted { trail.new.count ≡ next_turn trail.old.count }
 {
+    // Counted like every other test, so that a formula makes as many whatever its moment is.
     trail.step();
     civil_core::year_of(i128::from(day))
 }

@@ -11,6 +11,8 @@ ghost use Rattle.time_scales.specs.Horner.{horner_of, horner_size, horner_width,
 use book_model::{Cubic, Frac, Quadratic};
 use encl_core::Enclosure;
 
+// Inlined, here and below: tables are constants, and so their denominators are known to the
+// compiler.
 /// The quadratic polynomial with these coefficients.
 #[inline(always)]
 #[tactic(auto, unfolding(book_model::specs::numbers::Polynomials::quadratic_of))]
@@ -44,6 +46,8 @@ pub(crate) fn at_whole<E: Enclosure>(coefficients: &[Frac], x: i64) -> E
     ensures encloses { Encloses E.shown E.BITS (polynomial_of coefficients.now x) result }
 {
     let mut sum = E::from_int(0);
+    // Powers in whole numbers, and from the constant on, as in the definition: a sum of coefficient
+    // times power.
     let mut power = 1i64;
     for coefficient in coefficients {
         sum = sum.add(E::from_int(power).mul_frac(*coefficient));

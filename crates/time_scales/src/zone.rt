@@ -28,6 +28,7 @@ fn hours_at<E: Enclosure>(
     match steps {
         [] => Ok(E::from_frac(last)),
         [step, later @ ..] => {
+            // One zone of five costs up to four tests, and an open one is told at `zone`.
             if less_step(t, E::from_int(step.before), Site::Zone, trail)? {
                 return Ok(E::from_frac(step.hours));
             }
@@ -51,6 +52,7 @@ fn hours_on(steps: &[ZoneStep], last: Frac, day: i64) -> Frac
     }
 }
 
+// It asks nothing of the place, and stands here, so that what asks for a zone needs no calendar.
 /// The hours by which the time of a place is ahead of universal time at a moment: a test at `zone` for each day on which it
 /// changes, until the moment is before one.
 #[tactic(auto, unfolding(book_model::specs::sky::Time::zone_of))]
@@ -72,6 +74,7 @@ pub fn zone_beijing<E: Enclosure>(t: E, trail: &mut Trail) -> Result<E, Fail>
     hours_at(place.zone_steps(), place.last_hours(), t, trail)
 }
 
+// Of the whole day, so that it costs no test.
 /// The hours by which the time of a place is ahead of universal time as a day (R.D.) begins there. They make no test.
 #[tactic(auto, unfolding(book_model::specs::sky::Time::zone_on))]
 pub fn zone_on(place: Place, day: i64) -> Frac
