@@ -18,7 +18,7 @@ use crate::evening::Evenings;
 use book_model::crescent_tables::{LEAST_ALTITUDE, LEAST_ARC_OF_LIGHT};
 use book_model::{Fail, Location, Site};
 use encl_core::{Enclosure, Trail, less_step};
-use moon_core::{latitude, moon, phase};
+use moon_core::{latitude_again, longitude_at, moon_elements, phase};
 use rise_set::{altitude_sine, obliquity_at};
 use time_scales::sidereal;
 use trig_series::{cos_deg, sin_deg};
@@ -78,6 +78,8 @@ fn is_high<E: Enclosure>(altitude: E, trail: &mut Trail) -> Result<bool, Fail>
     less_step(least, altitude, Site::Crescent, trail)
 }
 
+// One expression, as the definition is a chain (`and_also`): the first condition that doesn't hold
+// ends it, and no further test is made.
 /// The conditions on the arc of light and on the altitude, in order: three tests at most (`bright_few`).
 #[tactic(auto, using(book_model::proofs::Leads::leading), unfolding(book_model::specs::sky::Crescent::is_bright_of, book_model::specs::sky::Crescent::and_also))]
 fn is_bright<E: Enclosure>(arc: E, altitude: E, trail: &mut Trail) -> Result<bool, Fail>
@@ -146,8 +148,9 @@ fn meets_with<E: Enclosure>(
     ensures close { E.BITS ≡ 56 → IsNarrowLocation location.now → IsDatedEvening (E.shown t)
         → IsMoonAngle (E.shown phase) → IsTilt (E.shown obliquity) → IfErr result IsClose }
 {
-    let longitude = moon(t, trail)?;
-    let north = latitude(t, trail)?;
+    let elements = moon_elements(t, trail)?;
+    let longitude = longitude_at(elements, trail)?;
+    let north = latitude_again(elements, trail);
     let greenwich = sidereal(t, trail)?;
     meets(
         location, phase, obliquity, longitude, north, greenwich, trail,

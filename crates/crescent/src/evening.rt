@@ -14,6 +14,7 @@ use encl_core::{Enclosure, Trail};
 use rise_set::{Horizon, dusk_at, horizon_at, universal};
 use std::marker::Model;
 
+// As the `Sunsets` of rise_set: its type says whose horizon it keeps.
 /// The evenings at a location on which the crescent is looked for: its horizon, which is the same on each day. Contracts see the
 /// location.
 #[derive(Drop)]

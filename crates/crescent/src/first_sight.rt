@@ -234,6 +234,7 @@ fn sight_by<E: Enclosure>(
     first_sight(evenings, from, trail)
 }
 
+// It stands beside the search for the last one, so that Nisan is a formula of crescent and sun.
 /// The first day (R.D.) from a day on with whose evening before a month begins: the crescent is seen then for the first time at a
 /// location, by Shaukat's criterion (Reingold and Dershowitz, Calendrical Calculations, chapter 18). It is sought from 29 days after
 /// the last new moon, or, where the crescent of that may not have been seen yet, from the day; the courses of the moon and the sun are

@@ -9,11 +9,11 @@ use Rattle.book_model.specs.declared.site.Site.TheVariants.{DayFloor}
 use Rattle.book_model.specs.numbers.Expressions.{Expression, World, integer}
 use Rattle.book_model.specs.numbers.Relations.{Within}
 use Rattle.book_model.specs.programs.Leading.{Leads, Exact, leaf}
-use Rattle.book_model.specs.programs.Programs.{Program, answer, bind, cell, integers, AtMost, answer_at_most, cell_at_most, compare_at_most}
+use Rattle.book_model.specs.programs.Programs.{answer, cell, integers, AtMost, answer_at_most, cell_at_most, compare_at_most}
 use Rattle.book_model.specs.sky.Horizon.{sunset_of, dusk_of, depression_of}
 use Rattle.book_model.specs.sky.Nisan.{is_before_sunset_of, nisan_by_of, nisan_of, nisan_start}
 use Rattle.book_model.specs.sky.Sun.{sun_from_of}
-use Rattle.book_model.proofs.Early.{AtLeast, any_at_least, void_at_least, cell_at_least, compare_at_least}
+use Rattle.book_model.proofs.Early.{AtLeast, least_first}
 use Rattle.book_model.proofs.Estimates.{floor_between}
 use Rattle.book_model.proofs.FactRuns.{decides}
 use Rattle.book_model.proofs.Leads.{at_most_bind, at_most_more, leads_leaf, leads_value}
@@ -54,14 +54,6 @@ equinox_near w d (Ok q) h f =
 equinox_near w d (Err z) h f = tt
 
 -- ---- its first tests
--- a program makes at least the tests of its first part
-pub least_first : {A B : Type 0} {n : ℕ} {p : Program A} (f : A → Program B) → AtLeast n p → AtLeast n (bind p f)
-unfolding bind
-least_first f any_at_least = any_at_least
-least_first f void_at_least = void_at_least
-least_first f (cell_at_least k) = cell_at_least (λ q. least_first f (k q))
-least_first f (compare_at_least k) = compare_at_least (λ t. least_first f (k t))
-
 pub equinox_least : (d : ℤ) → AtLeast 3 (next_equinox_of d)
 unfolding next_equinox_of sun_from_of
 equinox_least d = least_first _ (short_least _ _)

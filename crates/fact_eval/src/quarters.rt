@@ -31,6 +31,7 @@ pub(crate) fn phase_day<E: Enclosure>(
     moon_core::phase_day::<E>(course, phase, day, trail)
 }
 
+// Void where the place has no location: total, the same in the definition, and met by no fact.
 /// The last day (R.D.) before a day, or the day itself, on whose evening before the crescent was first seen at a place: 7,942
 /// tests at most (`phasis_few`). It is void at `year` where the place has no location.
 #[tactic(auto, using(book_model::proofs::Leads::leading), unfolding(book_model::specs::sky::Kinds::located))]

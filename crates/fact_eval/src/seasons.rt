@@ -16,6 +16,8 @@ use book_model::{Fail, Season, Side, Site};
 use encl_core::{DayTest, Enclosure, Trail, first_day, floor_step, less_step};
 use sun_core::{SunCourse, estimate, sun, sun_by};
 
+// So that the search is one for true noon, sunset and midnight, as in the definitions
+// (`season_day_of`).
 /// A moment of each day, as true noon, sunset or midnight at a place.
 pub(crate) trait DayMoment<E: Enclosure>: Drop {
     /// The moment of a day, as a formula.
@@ -37,6 +39,8 @@ struct SeasonAt<'a, E: Enclosure, M> {
     course: &'a SunCourse<E>,
 }
 
+// The test is made as the rule words it, so that an undecided line prints the sides of that
+// comparison; likewise `is_from`.
 /// Whether a longitude is at most so many degrees, as one test.
 #[tactic(auto, using(book_model::proofs::Leads::leading), unfolding(book_model::specs::sky::Kinds::is_on_side_of))]
 fn is_up_to<E: Enclosure>(degrees: i64, longitude: E, trail: &mut Trail) -> Result<bool, Fail>
@@ -190,6 +194,8 @@ fn last_passage<E: Enclosure, M: DayMoment<E>>(
     estimate(E::from_int(longitude), there, trail)
 }
 
+// It may set out from anywhere in the years of which there is a correction: that bound holds
+// whatever the moment of the day is.
 /// The day (R.D.) of that moment.
 #[tactic(auto, using(book_model::proofs::Leads::leading), unfolding(book_model::specs::sky::Kinds::search_start_of))]
 fn search_start<E: Enclosure, M: DayMoment<E>>(

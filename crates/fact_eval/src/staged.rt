@@ -71,6 +71,8 @@ impl Staged {
     }
 }
 
+// That a value stays within 10,000,000 is proved of runs and not of enclosures: the bounds of these
+// lose the signs of terms, and are too wide in many years before 1987.
 /// The value that the formula of a kind of fact gives at a place on a day (R.D.): one line for each kind.
 #[tactic(auto, using(crate::proofs::Rightness::keeping), unfolding(book_model::specs::sky::Facts::formula_of))]
 fn formula<E: Enclosure>(
@@ -181,6 +183,8 @@ fn answer_from<E: Enclosure>(beginning: &Beginning<E>, fact: Fact) -> Answer
     answer(evaluate_by::<E>(&beginning.course, fact, &mut trail))
 }
 
+// The bounds on values are proved for these scales. What it says of an open test it says of each
+// kind of fact: it is near where its ends are close, which `is_close` tells.
 /// The answer for a fact by enclosures of one kind, with a scale from 2⁻³⁶ to 2⁻⁵⁶. A value and a void are right, and an open
 /// test is wherever its ends are no further apart than its site allows: a 2²⁰th, and a 2²⁴th at the tests of a bisection. At the
 /// scale 2⁻⁵⁶ they never are further apart.
@@ -222,6 +226,7 @@ pub fn is_close(answer: &Answer) -> bool
 impl Evaluator for Staged {
     fn eval(&self, fact: Fact) -> Answer {
         match answer_from::<Coarse>(&self.coarse, fact) {
+            // By the same formulas, and the fine run's answer is the answer: its ends are narrower.
             Answer::Undecided(_) => answer_from::<Fine>(&self.fine, fact),
             decided => decided,
         }

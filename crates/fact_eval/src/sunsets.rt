@@ -83,6 +83,9 @@ fn minutes<E: Enclosure>(place: Place, day: i64, t: E) -> E
         .mul_frac(MINUTES_OF_DAY)
 }
 
+// That this is a value that a fact may have rests on the definition: each approximation moves the
+// day by three at most, since an arcsine lies within 180 degrees of 0 and the equation
+// of time within a day, and twelve are made.
 /// Sunset on a day (R.D.) at the location of a place, in minutes of its time after midnight, rounded.
 #[tactic(auto, using(book_model::proofs::Leads::leading), unfolding(book_model::specs::sky::Kinds::sunset_in_minutes_of))]
 fn minutes_of_sunset<E: Enclosure>(

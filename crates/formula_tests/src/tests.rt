@@ -25,4 +25,5 @@ mod sine_spans;
 mod sines;
 mod sun;
 mod time;
+mod whole_sums;
 mod zones;

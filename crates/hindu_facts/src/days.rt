@@ -233,6 +233,8 @@ fn lunar_days_passed<E: Enclosure>(t: E, trail: &mut Trail) -> Result<i64, Fail>
     floor_step(degrees.mul_frac(DEGREE_IN_LUNAR_DAYS), Site::Round, trail)
 }
 
+// Sunrise is computed for each fact that asks it, three for one lunar date. To keep it from fact to
+// fact would need a place that threads set, as the shelf has for answers.
 /// The lunar day, from 1 on, at sunrise on a day (R.D.) at Ujjain (Reingold and Dershowitz, Calendrical Calculations, chapter 20):
 /// 144 tests at most (`tithi_few`). It is void at `year` where a moment that it takes lies in a year of which there is no
 /// correction, at `offset` where the sun doesn't come to the depression of sunrise, and at `settle` where twelve approximations of

@@ -4,6 +4,10 @@
 //! - `sign_at_sunset`, `solar_year`, `sankranti`: of the solar calendar;
 //! - `tithi`, `sign_before`, `sign_after`, `calendar_year`: of the lunar one;
 //! - `sankranti_by` and the others with this ending: the same by courses of the sun and the moon.
+//!
+//! They stand in a crate of their own, below the evaluator, so that each crate has few wrong programs. All but
+//! `sign_at_sunset`, which the search for a sankranti calls too, ask for a day of which a fact may have a value; for
+//! another the evaluator answers void first.
 #![tactic(auto)]
 
 mod days;

@@ -1,6 +1,8 @@
 pub mod OnCourse
 pub mod WalkSteps
 pub mod Reaches
+pub mod WholeTerms
+pub mod MomentElements
 pub mod Openings
 pub mod FirstMoon
 pub mod PhaseRanges

@@ -15,7 +15,7 @@ use Rattle.book_model.specs.sky.Phases.{phase_of, nearest_moon_of}
 use Rattle.book_model.specs.sky.Sun.{nutation_of}
 use Rattle.moon_core.specs.Angles.{HoldAngles}
 use Rattle.moon_core.specs.declared.angles.Angles.{Angles}
-use Rattle.moon_core.specs.declared.courses.TheConstants.{GREATEST_TERMS}
+use Rattle.multiple_sums.specs.declared.tables.TheConstants.{GREATEST_TERMS}
 use Rattle.sun_core.specs.Daily.{in_centuries}
 
 -- the sum of the greatest terms, the first of the table, and that of the others, by the days

@@ -43,14 +43,19 @@ computed_terms_of x = terms_of (longitude_term_of (daily_angles_of x)) no_term M
 unfoldable pub computed_flattening_of : Expression → Expression
 computed_flattening_of x = scale (fraction_of FLATTENING) (sine (subtract (daily_quartic_of MOON_LONGITUDE x) (daily_quartic_of LATITUDE_ARGUMENT x)))
 
--- what the moon is ahead of its mean longitude, in millionths of a degree
-unfoldable pub computed_inequalities_of : Expression → Expression
-computed_inequalities_of x = add (add (add (computed_terms_of x) (daily_wave_of x VENUS_WAVE)) (daily_wave_of x JUPITER_WAVE)) (computed_flattening_of x)
+-- what the moon is ahead of its mean longitude, in millionths of a degree, by the sum of the terms
+abbrev pub inequalities_by : (terms x : Expression) → Expression
+inequalities_by t x = add (add (add t (daily_wave_of x VENUS_WAVE)) (daily_wave_of x JUPITER_WAVE)) (computed_flattening_of x)
 
--- the moon's longitude, not reduced
+unfoldable pub computed_inequalities_of : Expression → Expression
+computed_inequalities_of x = inequalities_by (computed_terms_of x) x
+
+-- the moon's longitude, not reduced, by what the moon is ahead
+abbrev pub longitude_by : (inequalities x : Expression) → Expression
+longitude_by i x = add (add (daily_quartic_of MOON_LONGITUDE x) (scale (fraction_of MILLIONTH) i)) (nutation_of (in_centuries x))
+
 unfoldable pub computed_longitude_of : Expression → Expression
-computed_longitude_of x = add (add (daily_quartic_of MOON_LONGITUDE x) (scale (fraction_of MILLIONTH) (computed_inequalities_of x)))
-    (nutation_of (in_centuries x))
+computed_longitude_of x = longitude_by (computed_inequalities_of x) x
 
 -- the latitude in millionths of a degree
 unfoldable pub computed_millionths_of : LunarAngles → Expression → Expression

@@ -1,5 +1,6 @@
 pub mod Angles
 pub mod Courses
 pub mod Daily
+pub mod Elements
 pub mod Widths
 pub mod PhaseDays

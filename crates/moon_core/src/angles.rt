@@ -27,6 +27,8 @@ pub struct Angles<E> {
     pub eccentricity: E,
 }
 
+// The fourth power is the scaled cube times the time: in early years the power itself is too large
+// for fine enclosures.
 /// A quartic of the time, by the days from noon of 1 January 2000, and these in centuries: the linear part by the days.
 #[inline(always)]
 #[tactic(auto, using(time_scales::proofs::Powers::fourths), unfolding(book_model::specs::numbers::Polynomials::quartic_of, sun_core::specs::Daily::by_centuries, crate::specs::Daily::daily_quartic_of))]

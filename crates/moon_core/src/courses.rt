@@ -1,7 +1,7 @@
 //! The course of the moon over a stretch of days: what it is ahead of its mean longitude by all but the greatest of its terms, as wide
 //! as that may be at one of them. The longitude at a moment of the stretch takes the greatest terms of the moment, and the others of
 //! the course.
-ghost use Rattle.std.specs.Prelude.{◌≡◌, ◌≤◌, Ok, IfOk, IsTrue};
+ghost use Rattle.std.specs.Prelude.{◌≡◌, ◌≤◌, Ok, IfOk, IfSome, IsTrue};
 ghost use Rattle.exact_math.specs.Interval.{◌⊆◌};
 ghost use Rattle.book_model.specs.numbers.Depth.{DEPTH};
 ghost use Rattle.book_model.specs.numbers.Expressions.{Expression, World};
@@ -20,23 +20,38 @@ use book_model::moon_tables::{
 use book_model::time_tables::{DAY_IN_CENTURIES, NOON_2000};
 use book_model::{FIRST_DAY, Fail, LAST_DAY, MoonTerm, Site};
 use encl_core::{Enclosure, Trail, lies_within, sum_of_terms, wrap_step};
+use multiple_sums::{GREATEST_TERMS, greatest_sum, mean_turns, other_sum, two_turns};
 use std::marker::Model;
 use sun_core::{nutation, sine_wave};
 use time_scales::dynamical;
 
-/// How many terms, the first of the table, are the greatest: tried as the sun's.
-pub(crate) const GREATEST_TERMS: usize = 4;
-
 /// 1 January 2000 (R.D.), from whose noon days are counted.
 const DAY_OF_2000: i64 = 730_120;
 
+// Not all days, as for the sun: an angle that may be any, times 0, may be any.
 /// The usual days, counted so: every day of which a fact may have a value, and more than a year before and after.
 const FIRST_USUAL_DAY: i64 = FIRST_DAY - DAY_OF_2000 - 400;
 
 const LAST_USUAL_DAY: i64 = LAST_DAY - DAY_OF_2000 + 400;
 
-/// The sum of the greatest terms, in millionths of a degree.
-fn greatest_terms<E: Enclosure>(angles: Angles<E>) -> E
+/// The sum of the greatest terms, in millionths of a degree, in whole numbers; `None` where one of the two angles that they take isn't
+/// known well enough.
+fn greatest_in_whole_numbers<E: Enclosure>(angles: Angles<E>) -> Option<E>
+    ensures holds { IfSome result (λ e. (w : World) (x : Expression) → DEPTH ≤ w.depth
+        → HoldAngles E.shown w (lunar_angles_of (in_centuries x)) angles
+        → Within E.shown w (greatest_terms_of x) e) }
+{
+    let turns = two_turns(
+        angles.elongation,
+        angles.sun_anomaly,
+        angles.moon_anomaly,
+        angles.latitude_argument,
+    )?;
+    Some(E::from_span(greatest_sum(&turns)))
+}
+
+/// The same, row by row.
+fn greatest_by_rows<E: Enclosure>(angles: Angles<E>) -> E
     ensures holds { (w : World) (x : Expression) → DEPTH ≤ w.depth
         → HoldAngles E.shown w (lunar_angles_of (in_centuries x)) angles
         → Within E.shown w (greatest_terms_of x) result }
@@ -44,13 +59,58 @@ fn greatest_terms<E: Enclosure>(angles: Angles<E>) -> E
     sum_of_terms::<Angles<E>, E, MoonTerm>(&MOON_TERMS[..GREATEST_TERMS], angles)
 }
 
-/// The sum of the other terms, in millionths of a degree.
-fn other_terms<E: Enclosure>(angles: Angles<E>) -> E
+/// The same: in whole numbers over the coarse kind, where the angles are known well enough.
+fn greatest_terms<E: Enclosure>(angles: Angles<E>) -> E
+    ensures holds { (w : World) (x : Expression) → DEPTH ≤ w.depth
+        → HoldAngles E.shown w (lunar_angles_of (in_centuries x)) angles
+        → Within E.shown w (greatest_terms_of x) result }
+{
+    if E::BITS == 36 {
+        if let Some(whole) = greatest_in_whole_numbers(angles) {
+            return whole;
+        }
+    }
+    greatest_by_rows(angles)
+}
+
+/// The sum of the other terms, in millionths of a degree, in whole numbers; `None` where an angle isn't known well enough, as over a
+/// stretch of more than a third of a day.
+fn other_in_whole_numbers<E: Enclosure>(angles: Angles<E>) -> Option<E>
+    ensures holds { IfSome result (λ e. (w : World) (x : Expression) → DEPTH ≤ w.depth
+        → HoldAngles E.shown w (lunar_angles_of (in_centuries x)) angles
+        → Within E.shown w (other_terms_of x) e) }
+{
+    let turns = mean_turns(
+        angles.elongation,
+        angles.sun_anomaly,
+        angles.moon_anomaly,
+        angles.latitude_argument,
+        angles.eccentricity,
+    )?;
+    Some(E::from_span(other_sum(&turns)))
+}
+
+/// The same, row by row.
+fn other_by_rows<E: Enclosure>(angles: Angles<E>) -> E
     ensures holds { (w : World) (x : Expression) → DEPTH ≤ w.depth
         → HoldAngles E.shown w (lunar_angles_of (in_centuries x)) angles
         → Within E.shown w (other_terms_of x) result }
 {
     sum_of_terms::<Angles<E>, E, MoonTerm>(&MOON_TERMS[GREATEST_TERMS..], angles)
+}
+
+/// The same: in whole numbers over the coarse kind, where the stretch is short enough.
+fn other_terms<E: Enclosure>(angles: Angles<E>) -> E
+    ensures holds { (w : World) (x : Expression) → DEPTH ≤ w.depth
+        → HoldAngles E.shown w (lunar_angles_of (in_centuries x)) angles
+        → Within E.shown w (other_terms_of x) result }
+{
+    if E::BITS == 36 {
+        if let Some(whole) = other_in_whole_numbers(angles) {
+            return whole;
+        }
+    }
+    other_by_rows(angles)
 }
 
 /// Angles of which the two by which the greatest terms turn may be any. The others stay: a row multiplies an angle that it doesn't
@@ -106,7 +166,10 @@ impl<E: Enclosure> MoonCourse<E> {
             terms: other_terms(angles),
             venus: sine_wave(&VENUS_WAVE, days),
             jupiter: sine_wave(&JUPITER_WAVE, days),
-            flattening: flattening(days, c),
+            flattening: flattening(
+                daily_quartic(&MOON_LONGITUDE, days, c),
+                angles.latitude_argument,
+            ),
             nutation: nutation(c),
         }
     }

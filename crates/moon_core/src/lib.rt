@@ -3,7 +3,8 @@
 //! tests of its definition in the same order, and its answer holds what the definition gives, at every depth from `DEPTH` on.
 //!
 //! - `moon`: the longitude at a moment; `latitude`: the latitude;
-//! - `angles_at`, `lunar_angle`: the angles by which their terms turn;
+//! - `moon_elements`: what both are computed of, once for all that is asked of a moment; `longitude_at` and `latitude_again` take it;
+//! - `angles_at`, `lunar_angle`: the angles by which the terms turn;
 //! - `phase`: the longitude less the sun's, which is 0 at a new moon and 180 at a full moon;
 //! - `moon_before`: the last new moon before a moment; `moon_from`: the first at or after it;
 //! - `phase_before`: when the moon was last at a phase; `phase_day`: the day of that;
@@ -13,6 +14,7 @@
 
 mod angles;
 mod courses;
+mod elements;
 mod latitudes;
 mod longitude;
 mod numbers;
@@ -23,8 +25,9 @@ mod terms;
 mod walks;
 
 pub use angles::{Angles, angles_at};
-pub use latitudes::latitude;
-pub use longitude::moon;
+pub use elements::{MoonElements, moon_elements};
+pub use latitudes::{latitude, latitude_again};
+pub use longitude::{longitude_at, moon};
 pub use phase_courses::PhaseCourse;
 pub use phases::phase;
 pub use quarters::{phase_before, phase_before_by, phase_day};

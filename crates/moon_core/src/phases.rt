@@ -151,6 +151,8 @@ fn test_which_phase<E: Enclosure>(
     Ok(phase_of_choice(is_apart, by_longitudes, by_time))
 }
 
+// Apart from the longitudes, so that the first three tests, at the year of the moment itself twice,
+// are told from the later ones: at a whole day these are never open (`IsNoEarlyYear`).
 /// The phase by longitudes, or in its place the one by the time since the new moon about the moment.
 #[tactic(auto, using(book_model::proofs::Leads::leading), unfolding(book_model::specs::sky::Phases::corrected_of))]
 pub(crate) fn corrected<E: Enclosure>(by_longitudes: E, t: E, trail: &mut Trail) -> Result<E, Fail>

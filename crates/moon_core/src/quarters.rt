@@ -138,6 +138,7 @@ pub fn phase_before<E: Enclosure>(p: E, t: E, trail: &mut Trail) -> Result<E, Fa
     phase_before_by(&course, p, t, trail)
 }
 
+// One call, which the four phases and the first sight of the crescent share.
 /// The day (R.D.) in universal time on which the moon was last at a phase, in degrees, before a day begins or as it begins, by the
 /// courses of the moon and the sun: 845 tests at most (`phase_day_few_exactly`). It is void where `phase_before` is. Its first and
 /// third tests, of the year of the day itself, are never open.

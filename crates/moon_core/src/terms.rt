@@ -44,6 +44,8 @@ fn size_of(multiple: i64) -> u64
     multiple.unsigned_abs()
 }
 
+// Of the multiples and the size and not of a row, so that longitude and latitude, whose rows
+// differ, share it.
 /// A size times the sine of the sum of so many times each of the angles, and times the factor of the eccentricity to the power of
 /// the multiple of the sun's anomaly.
 #[inline(always)]

@@ -10,11 +10,11 @@ ghost use Rattle.rise_set.specs.Widths.{IsDepression};
 ghost use Rattle.std.specs.Prelude.{◌≡◌, IfErr, IfOk};
 ghost use Rattle.time_scales.specs.Steps.{IsYearOpenFor};
 
-use crate::distances::distance;
+use crate::distances::distance_again;
 use arc_series::arcsin_deg;
 use book_model::{Fail, Frac, Location, Site};
 use encl_core::{Enclosure, Trail, less_step};
-use moon_core::{latitude, moon};
+use moon_core::{latitude_again, longitude_at, moon_elements};
 use rise_set::{altitude_sine, obliquity_at, sunset_depression};
 use time_scales::sidereal;
 use trig_series::cos_deg;
@@ -36,6 +36,8 @@ fn parallax<E: Enclosure>(altitude: E, distance: E) -> E
     arcsin_deg(cos_deg(altitude).div(distance.mul_frac(kilometre_in_radii())))
 }
 
+// What the air lifts and the height lowers is `sunset_depression` as it is: its terms are added to
+// each other first.
 /// The observed altitude by the altitude, the distance and by how much the level of the horizon is lowered.
 #[tactic(auto, unfolding(book_model::specs::sky::Moonrise::lifted_of))]
 fn lifted<E: Enclosure>(altitude: E, distance: E, depression: E) -> E
@@ -78,7 +80,8 @@ fn sky_sine<E: Enclosure>(
     altitude_sine(location.latitude, here, obliquity, longitude, latitude)
 }
 
-/// The observed altitude at a location by the sidereal time at Greenwich and the obliquity of the ecliptic: four tests.
+/// The observed altitude at a location by the sidereal time at Greenwich and the obliquity of the ecliptic: four tests. The moon's
+/// longitude, latitude and distance are of one set of elements, so the year is tested once, and counts thrice.
 #[tactic(auto, using(book_model::proofs::Leads::leading), unfolding(book_model::specs::sky::Moonrise::observed_with_of))]
 fn observed_with<E: Enclosure>(
     location: &Location,
@@ -94,9 +97,10 @@ fn observed_with<E: Enclosure>(
         → Measured E.BITS E.shown IsHeight result }
     ensures open { IfErr result (IsYearOpenFor (E.shown t)) }
 {
-    let longitude = moon(t, trail)?;
-    let north = latitude(t, trail)?;
-    let far = distance(t, trail)?;
+    let elements = moon_elements(t, trail)?;
+    let longitude = longitude_at(elements, trail)?;
+    let north = latitude_again(elements, trail);
+    let far = distance_again(elements, trail);
     let sine = sky_sine(location, sidereal, obliquity, longitude, north);
     Ok(height(sine, far, sunset_depression::<E>(location)))
 }
@@ -119,6 +123,8 @@ pub fn observed<E: Enclosure>(location: &Location, t: E, trail: &mut Trail) -> R
     observed_with(location, t, greenwich, tilt, trail)
 }
 
+// An altitude far from the horizon needs no width: where its sine is within 9/16 of 0 it is at most
+// 2⁻²³ degrees wide, and elsewhere it is at least 4 degrees above 0 or a fourth of one below.
 /// Whether the moon is up at a location and a moment of universal time: six tests.
 #[tactic(auto, using(book_model::proofs::Leads::leading), unfolding(book_model::specs::sky::Moonrise::up_of))]
 pub(crate) fn is_up<E: Enclosure>(

@@ -5,24 +5,23 @@ ghost use Rattle.book_model.specs.numbers.Expressions.{Expression, World};
 ghost use Rattle.book_model.specs.numbers.Fractions.{fraction_of};
 ghost use Rattle.book_model.specs.numbers.Relations.{Within, Narrow};
 ghost use Rattle.book_model.specs.programs.Calls.{Follows1};
+ghost use Rattle.book_model.specs.programs.Leading.{Leads};
 ghost use Rattle.book_model.specs.programs.Widths.{IsMoment, Measured1};
 ghost use Rattle.book_model.specs.sky.Moon.{LunarAngles, lunar_angles_of};
 ghost use Rattle.moon_core.specs.Angles.{HoldAngles, KeepAngles};
-ghost use Rattle.moon_core.specs.Daily.{daily_angles_of};
+ghost use Rattle.moon_core.specs.Elements.{AreElementsOf, AreMeasured, HoldElements};
 ghost use Rattle.moon_rise.specs.Computed.{mean_kilometres as mean_kilometres_of, computed_distance_by};
 ghost use Rattle.book_model.specs.sky.Distance as spec;
 ghost use Rattle.moon_rise.specs.Widths.{IsDistance};
-ghost use Rattle.std.specs.Prelude.{◌≡◌, ◌≤◌, ◌^◌, IfErr};
+ghost use Rattle.std.specs.Prelude.{◌≡◌, ◌≤◌, ◌^◌, ℕ, Ok, IfErr};
 ghost use Rattle.sun_core.specs.Daily.{in_centuries};
 ghost use Rattle.time_scales.specs.Steps.{IsYearOpenFor};
 
 use crate::terms::distance_terms;
 use book_model::moon_tables::MEAN_DISTANCE;
-use book_model::time_tables::{DAY_IN_CENTURIES, NOON_2000};
 use book_model::{Fail, Frac};
 use encl_core::{Enclosure, Trail};
-use moon_core::{Angles, angles_at};
-use time_scales::dynamical;
+use moon_core::{Angles, MoonElements, moon_elements};
 
 /// The mean distance, in kilometres.
 fn mean_kilometres() -> Frac
@@ -44,36 +43,45 @@ fn metre() -> Frac
 fn distance_by<E: Enclosure>(angles: Angles<E>) -> E
     ensures holds { (w : World) (a : LunarAngles) → DEPTH ≤ w.depth → HoldAngles E.shown w a angles
         → Within E.shown w (spec.distance_by a) result }
-    ensures narrow { (r : Reach) (a : LunarAngles) → KeepAngles E.shown
+    ensures narrow { (E.BITS ≡ 36 → ⊥) → (r : Reach) (a : LunarAngles) → KeepAngles E.shown
         (limits_of E.BITS) r a angles → Narrow E.shown (limits_of E.BITS) r
         (computed_distance_by a) result }
 {
     E::from_frac(mean_kilometres()).add(distance_terms(angles).mul_frac(metre()))
 }
 
-/// The distance by the days from noon of 1 January 2000, and these in centuries.
-fn distance_at<E: Enclosure>(days: E, c: E) -> E
-    ensures holds { (w : World) (x : Expression) → DEPTH ≤ w.depth → Within E.shown w x days
-        → Within E.shown w (in_centuries x) c → Within E.shown w
-        (spec.distance_by (lunar_angles_of (in_centuries x))) result }
-    ensures narrow { (r : Reach) (x : Expression) → Narrow E.shown (limits_of E.BITS) r x days
-        → Narrow E.shown (limits_of E.BITS) r (in_centuries x) c
-        → Narrow E.shown (limits_of E.BITS) r (computed_distance_by (daily_angles_of x)) result }
+/// The distance by the elements of a moment, in kilometres.
+fn distance_at<E: Enclosure>(elements: MoonElements<E>) -> E
+    ensures holds { (w : World) (x : Expression) → HoldElements E.shown w x elements
+        → Within E.shown w (spec.distance_by (lunar_angles_of (in_centuries x))) result }
+    ensures measured { (v : ℕ) → E.BITS ≡ 56 → AreMeasured E.shown E.BITS v elements
+        → IsDistance v (E.shown result) }
 {
-    distance_by(angles_at(days, c))
+    distance_by(elements.angles)
 }
 
 /// The distance of the moon's centre from the earth's at a moment of universal time, in kilometres (Reingold and Dershowitz,
 /// Calendrical Calculations, chapter 14; Meeus, Astronomical Algorithms, chapter 47). One test, the year's. It is void at `year`
 /// in a year without a correction.
-#[tactic(auto, using(book_model::proofs::Leads::leading), unfolding(book_model::specs::sky::Distance::distance_of, book_model::specs::sky::Time::centuries_of, book_model::specs::sky::Time::in_centuries, sun_core::specs::Daily::in_centuries))]
+#[tactic(auto, using(book_model::proofs::Leads::leading), unfolding(book_model::specs::sky::Distance::distance_of))]
 pub fn distance<E: Enclosure>(t: E, trail: &mut Trail) -> Result<E, Fail>
     ensures leads { Follows1 E.shown spec.distance_of t trail.old.count trail.new.count result }
     ensures measured { Measured1 E.BITS E.shown (2 ^ 44) IsMoment IsDistance t result }
     ensures open { IfErr result (IsYearOpenFor (E.shown t)) }
 {
-    let moment = dynamical(t, trail)?;
-    let days = moment.sub(E::from_frac(NOON_2000));
-    let c = days.mul_frac(DAY_IN_CENTURIES);
-    Ok(distance_at(days, c))
+    let elements = moon_elements(t, trail)?;
+    Ok(distance_at(elements))
+}
+
+/// The same by the elements, where a run has those of the moment. The test of their year is not made anew, since it is decided as it
+/// was, but it counts.
+pub(crate) fn distance_again<E: Enclosure>(elements: MoonElements<E>, trail: &mut Trail) -> E
+    ensures leads { (w : World) (x : Expression) → AreElementsOf E.shown w x elements
+        → Leads w (Within E.shown w) (spec.distance_of x) trail.old.count trail.new.count
+        (Ok result) }
+    ensures measured { (v : ℕ) → E.BITS ≡ 56 → AreMeasured E.shown E.BITS v elements
+        → IsDistance v (E.shown result) }
+{
+    trail.step();
+    distance_at(elements)
 }

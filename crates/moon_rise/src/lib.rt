@@ -6,6 +6,10 @@
 //! - `moonrise`, `moonset`: a day is walked in quarters of an hour, and the first in which the moon comes over the horizon, or goes below
 //!   it, is halved four times;
 //! - `laws`: what a minute that is found says.
+//!
+//! Three numbers are computed in another order than defined, since an enclosure can't hold the parts of the defined
+//! one: the distance, the parallax and a moment. A lemma each says that both are one number (`thousandth_holds`,
+//! `parallax_holds`, `moment_holds`).
 #![tactic(auto)]
 
 mod altitudes;

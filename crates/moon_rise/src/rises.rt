@@ -54,6 +54,8 @@ impl<E: Enclosure, T: MomentTest<E>> MomentTest<E> for Opposite<T> {
     }
 }
 
+// It takes a place, since it needs its zone; void where that has no location, so that no condition
+// is owed on it.
 /// The minute of a day (R.D.) at a place in which the moon rises, or -1 where it doesn't: of the quarters of an hour of the day the
 /// first at whose beginning it isn't up and at whose end it is, and in that, halved four times, the minute. 606 tests at most
 /// (`moonrise_few`). It is void at `year` in a year without a correction, and where the place has no location. No test of a year is ever

@@ -6,12 +6,13 @@ ghost use Rattle.book_model.specs.numbers.Relations.{Within, Narrow};
 ghost use Rattle.book_model.specs.sky.Moon.{LunarAngles};
 ghost use Rattle.moon_core.specs.Angles.{HoldAngles, KeepAngles};
 ghost use Rattle.book_model.specs.sky.Distance as spec;
-ghost use Rattle.std.specs.Prelude.{◌≡◌, ◌≤◌, unsigned_abs};
+ghost use Rattle.std.specs.Prelude.{◌≡◌, ◌≤◌, unsigned_abs, IfSome};
 
 use book_model::MoonTerm;
 use book_model::moon_tables::MOON_TERMS;
 use encl_core::{Enclosure, Term, sum_of_terms};
 use moon_core::{Angles, lunar_angle};
+use multiple_sums::{distance_sum, mean_turns};
 use new_moons::times_power;
 use trig_series::cos_deg;
 
@@ -82,9 +83,24 @@ impl<E: Enclosure> Term<DistanceAngles<E>, E> for MoonTerm {
     }
 }
 
-/// The sum of the terms, in metres.
+/// The sum of the terms in whole numbers, in metres; `None` where an angle isn't known well enough.
+fn terms_in_whole_numbers<E: Enclosure>(angles: Angles<E>) -> Option<E>
+    ensures holds { IfSome result (λ e. (w : World) (a : LunarAngles) → DEPTH ≤ w.depth
+        → HoldAngles E.shown w a angles → Within E.shown w (spec.distance_terms_of a) e) }
+{
+    let turns = mean_turns(
+        angles.elongation,
+        angles.sun_anomaly,
+        angles.moon_anomaly,
+        angles.latitude_argument,
+        angles.eccentricity,
+    )?;
+    Some(E::from_span(distance_sum(&turns)))
+}
+
+/// The sum of the terms, row by row.
 #[tactic(auto, unfolding(book_model::specs::sky::Distance::distance_terms_of))]
-pub(crate) fn distance_terms<E: Enclosure>(angles: Angles<E>) -> E
+fn terms_by_rows<E: Enclosure>(angles: Angles<E>) -> E
     ensures holds { (w : World) (a : LunarAngles) → DEPTH ≤ w.depth → HoldAngles E.shown w a angles
         → Within E.shown w (spec.distance_terms_of a) result }
     ensures narrow { (r : Reach) (a : LunarAngles) → KeepAngles E.shown
@@ -92,4 +108,24 @@ pub(crate) fn distance_terms<E: Enclosure>(angles: Angles<E>) -> E
         (spec.distance_terms_of a) result }
 {
     sum_of_terms::<DistanceAngles<E>, E, MoonTerm>(&MOON_TERMS, DistanceAngles { angles })
+}
+
+// That a distance is a value that a fact may have is shown of the definition, at each depth: a term
+// has at most 21,000,000 metres and the factor of the eccentricity at most twice, so that 60 terms
+// are less than 5,040,000 kilometres.
+/// The sum of the terms, in metres: in whole numbers over the coarse kind, where the angles are known well enough, and else row by row.
+/// The fine kind keeps its rows, which are narrower.
+pub(crate) fn distance_terms<E: Enclosure>(angles: Angles<E>) -> E
+    ensures holds { (w : World) (a : LunarAngles) → DEPTH ≤ w.depth → HoldAngles E.shown w a angles
+        → Within E.shown w (spec.distance_terms_of a) result }
+    ensures narrow { (E.BITS ≡ 36 → ⊥) → (r : Reach) (a : LunarAngles) → KeepAngles E.shown
+        (limits_of E.BITS) r a angles → Narrow E.shown (limits_of E.BITS) r
+        (spec.distance_terms_of a) result }
+{
+    if E::BITS == 36 {
+        if let Some(whole) = terms_in_whole_numbers(angles) {
+            return whole;
+        }
+    }
+    terms_by_rows(angles)
 }

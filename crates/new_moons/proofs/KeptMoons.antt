@@ -1,6 +1,6 @@
 -- A new moon makes one test, of the year, so what it was once it is again; and how wide it is when it is taken again.
 use Rattle.std.proofs.Common.{◌≡◌, ℕ, ◌+◌, ◌^◌, ℤ, pos, negsuc, ◌≤ℤ◌, ◌-ℤ◌, Option, Some, None, Ok, IfSome, arith}
-use Rattle.std.specs.Prelude.{neg_ℤ, nat_lt, true, refl, pos, ◌+ℤ◌}
+use Rattle.std.specs.Prelude.{nat_lt, true, refl, pos, ◌+ℤ◌}
 use Rattle.std.proofs.lemmas.Int.{ints}
 use Rattle.exact_math.specs.Interval.{Interval, ◌⊆◌}
 use Rattle.book_model.specs.declared.site.Site.TheVariants.{Year}

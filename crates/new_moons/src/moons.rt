@@ -1,13 +1,19 @@
 //! The moment of a new moon.
 ghost use Rattle.book_model.specs.programs.Calls.{Encloses, Follows, Holds, Narrows};
 ghost use Rattle.book_model.specs.programs.Widths.{IsAbout, IsMoment, IsSmall, Measured, IsDated, IsFrom, IsSince};
-ghost use Rattle.std.specs.Prelude.{◌≡◌, ◌+◌, ◌^◌, ℤ, pos, negsuc, ◌≤ℤ◌, ◌+ℤ◌};
-ghost use Rattle.book_model.specs.declared.new_moon_tables.TheConstants.{FIRST_RECENT_MOON as first_recent, LAST_RECENT_MOON as last_recent};
+ghost use Rattle.std.specs.Prelude.{◌≡◌, ◌≤◌, ◌+◌, ◌^◌, ℤ, pos, negsuc, ◌≤ℤ◌, ◌+ℤ◌, IfSome};
+ghost use Rattle.book_model.specs.declared.new_moon_tables.TheConstants.{FIRST_RECENT_MOON as first_recent, LAST_RECENT_MOON as last_recent, NEW_MOON_TERMS as NEW_MOON_ROWS};
+ghost use Rattle.book_model.specs.numbers.Bounds.{Reach, limits_of};
+ghost use Rattle.book_model.specs.numbers.Depth.{DEPTH};
+ghost use Rattle.book_model.specs.numbers.Expressions.{World};
+ghost use Rattle.book_model.specs.numbers.Relations.{Within, Narrow};
+ghost use Rattle.book_model.specs.numbers.Terms.{terms_of};
 ghost use Rattle.book_model.specs.numbers.Fractions.{fraction_of};
 ghost use Rattle.book_model.specs.programs.Leading.{next_turn};
 ghost use Rattle.book_model.specs.sky.NewMoons as spec;
 ghost use Rattle.greatest_widths.specs.declared.table.TheConstants.{NEW_MOON};
 ghost use Rattle.greatest_widths.specs.Table.{greatest_of};
+ghost use Rattle.new_moons.specs.Angles.{HoldAngles, KeepAngles};
 ghost use Rattle.new_moons.specs.Widths.{IsNearTime, IsRecentMonth, IsRecentTime, IsRecentMean};
 ghost use Rattle.new_moons.specs.Moons.{computed_mean_of, computed_node_term_of, computed_terms_of, computed_new_moon_of};
 ghost use Rattle.book_model.specs.declared.time_tables.TheConstants.{RECENT_START, TABLE_END};
@@ -21,9 +27,11 @@ use book_model::new_moon_tables::{
 use book_model::time_tables::NOON_2000;
 use book_model::{Fail, Frac, NewMoonTerm, PlanetTerm};
 use encl_core::{Enclosure, Trail, sum_of_terms};
+use multiple_sums::{mean_turns, new_moon_sum};
 use time_scales::{at_fraction, from_dynamical, quadratic};
 use trig_series::sin_deg;
 
+// An exact fraction: of the polynomials at it only their own steps round.
 /// So many months in units of 1236.85 months, which are centuries.
 #[inline(always)]
 fn centuries_of_months(months: i64) -> Frac
@@ -60,15 +68,49 @@ fn node_term<E: Enclosure>(time: Frac) -> E
     sin_deg(at_fraction::<E>(&NEW_MOON_NODE, time)).mul_frac(NODE_TERM)
 }
 
+/// The sum of the terms of the three angles in whole numbers, in days; `None` where an angle isn't known well enough.
+fn terms_in_whole_numbers<E: Enclosure>(angles: Angles<E>) -> Option<E>
+    ensures holds { IfSome result (λ e. (w : World) (a : spec.NewMoonAngles) → DEPTH ≤ w.depth
+        → HoldAngles E.shown w a angles → Within E.shown w
+        (terms_of (spec.new_moon_term_of a) spec.no_new_moon_term NEW_MOON_ROWS) e) }
+{
+    let turns = mean_turns(
+        E::from_int(0),
+        angles.sun_anomaly,
+        angles.moon_anomaly,
+        angles.latitude_argument,
+        angles.eccentricity,
+    )?;
+    Some(E::from_span(new_moon_sum(&turns)))
+}
+
+/// The sum of the terms of the three angles, in days: in whole numbers over the coarse kind, and else row by row.
+fn sum_of_angles<E: Enclosure>(angles: Angles<E>) -> E
+    ensures holds { (w : World) (a : spec.NewMoonAngles) → DEPTH ≤ w.depth
+        → HoldAngles E.shown w a angles → Within E.shown w
+        (terms_of (spec.new_moon_term_of a) spec.no_new_moon_term NEW_MOON_ROWS) result }
+    ensures narrow { (E.BITS ≡ 36 → ⊥) → (r : Reach) (a : spec.NewMoonAngles)
+        → KeepAngles E.shown (limits_of E.BITS) r a angles → Narrow E.shown (limits_of E.BITS) r
+        (terms_of (spec.new_moon_term_of a) spec.no_new_moon_term NEW_MOON_ROWS) result }
+{
+    if E::BITS == 36 {
+        if let Some(whole) = terms_in_whole_numbers(angles) {
+            return whole;
+        }
+    }
+    sum_of_terms::<Angles<E>, E, NewMoonTerm>(&NEW_MOON_TERMS, angles)
+}
+
 /// The sum of the terms of the three angles, in days.
 #[tactic(auto, unfolding(book_model::specs::sky::NewMoons::new_moon_terms_of, crate::specs::Moons::computed_terms_of))]
 fn lunar_terms<E: Enclosure>(time: Frac) -> E
     ensures holds { Holds E.shown (spec.new_moon_terms_of (fraction_of time)) result }
-    ensures narrow { Narrows E.shown E.BITS (computed_terms_of (fraction_of time)) result }
+    ensures narrow { (E.BITS ≡ 36 → ⊥)
+        → Narrows E.shown E.BITS (computed_terms_of (fraction_of time)) result }
     ensures measured { E.BITS ≡ 56 → IsNearTime (fraction_of time)
         → IsAbout (2 ^ 33) (2 ^ 23) (E.shown result) }
 {
-    sum_of_terms::<Angles<E>, E, NewMoonTerm>(&NEW_MOON_TERMS, angles_at::<E>(time))
+    sum_of_angles(angles_at::<E>(time))
 }
 
 /// What Venus adds, in days.
@@ -98,7 +140,8 @@ fn dynamical_new_moon<E: Enclosure>(number: i64) -> E
     requires low { negsuc 40049999 ≤ℤ number }
     requires high { number ≤ℤ pos 40050000 }
     ensures holds { Holds E.shown (spec.dynamical_new_moon_of number) result }
-    ensures narrow { Narrows E.shown E.BITS (computed_new_moon_of number) result }
+    ensures narrow { (E.BITS ≡ 36 → ⊥)
+        → Narrows E.shown E.BITS (computed_new_moon_of number) result }
     ensures measured { E.BITS ≡ 56 → negsuc 31023 ≤ℤ number → number ≤ℤ pos 31024
         → IsMoment (2 ^ 29 + 2 ^ 24) (E.shown result) }
     ensures recent { E.BITS ≡ 56 → IsRecentMonth number
@@ -158,6 +201,8 @@ pub fn new_moon<E: Enclosure>(n: i64, trail: &mut Trail) -> Result<E, Fail>
 {
     match trail.new_moon(n, E::BITS) {
         Some(moment) => {
+            // What is kept makes one test that is decided, and it counts at the turn at which it is
+            // taken.
             trail.step();
             Ok(E::from_span(moment))
         }

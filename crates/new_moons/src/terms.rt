@@ -14,6 +14,7 @@ use book_model::{Frac, NewMoonTerm, PlanetTerm};
 use encl_core::{Enclosure, Term};
 use trig_series::sin_deg;
 
+// Inlined: the denominator is then a constant where a row is used.
 /// A number of hundred-thousandths.
 #[inline(always)]
 fn hundred_thousandths(number: i64) -> Frac

@@ -1,9 +1,14 @@
 //! Where the moon stands above the horizon: its altitude, by its sine.
-ghost use Rattle.book_model.specs.programs.Calls.{Holds4, Encloses3, Encloses4, Narrows4};
+//!
+//! The parts of the moon's direction share their sines and cosines, so each is taken once (`Direction`): ten of them make an
+//! altitude, where its formula names eighteen.
+ghost use Rattle.book_model.specs.programs.Calls.{Holds4, Narrows4};
 ghost use Rattle.std.specs.Prelude.{◌≡◌, true, pos, ◌*◌, ◌^◌};
-ghost use Rattle.book_model.specs.numbers.Bounds.{bounded, unbounded, bound_of, implies, limits_at};
-ghost use Rattle.book_model.specs.numbers.Expressions.{constant};
+ghost use Rattle.book_model.specs.numbers.Bounds.{Reach, bounded, unbounded, bound_of, implies, limits_at, limits_of};
+ghost use Rattle.book_model.specs.numbers.Expressions.{Expression, World, constant};
+ghost use Rattle.book_model.specs.numbers.Relations.{Within, Narrow};
 ghost use Rattle.rise_set.specs.Altitudes.{IsAltitudeSine, IsLocalSiderealTime, IsMoonAngle, IsMoonLatitude, IsTilt};
+ghost use Rattle.rise_set.specs.Directions.{IsDirection, IsNarrowDirection, over_ground};
 ghost use Rattle.book_model.specs.sky.Altitude as spec;
 ghost use Rattle.book_model.specs.numbers.Fractions.{fraction_of};
 
@@ -11,46 +16,121 @@ use book_model::Frac;
 use encl_core::Enclosure;
 use trig_series::{cos_deg, sin_deg};
 
+/// An angle by its sine and its cosine.
+#[derive(Clone, Copy, Drop)]
+pub(crate) struct Direction<E> {
+    pub(crate) sine: E,
+    pub(crate) cosine: E,
+}
+
+/// The sine and the cosine of degrees.
+fn direction_of<E: Enclosure>(degrees: E) -> Direction<E>
+    ensures holds { (w : World) (x : Expression) → Within E.shown w x degrees
+        → IsDirection E.shown w x result }
+    ensures narrow { (r : Reach) (x : Expression) → Narrow E.shown (limits_of E.BITS) r x degrees
+        → IsNarrowDirection E.shown (limits_of E.BITS) r x result }
+{
+    Direction {
+        sine: sin_deg(degrees),
+        cosine: cos_deg(degrees),
+    }
+}
+
 /// The sine of the moon's declination, by the obliquity of the ecliptic and the longitude and the latitude of the moon.
 #[tactic(auto, unfolding(book_model::specs::sky::Altitude::north_of))]
-fn declination_sine<E: Enclosure>(obliquity: E, longitude: E, latitude: E) -> E
-    ensures encloses { Encloses3 E.shown E.BITS spec.north_of obliquity longitude latitude result }
+fn declination_sine<E: Enclosure>(
+    obliquity: Direction<E>,
+    longitude: Direction<E>,
+    latitude: Direction<E>,
+) -> E
+    ensures holds { (w : World) (o l b : Expression) → IsDirection E.shown w o obliquity
+        → IsDirection E.shown w l longitude → IsDirection E.shown w b latitude
+        → Within E.shown w (spec.north_of o l b) result }
+    ensures narrow { (r : Reach) (o l b : Expression)
+        → IsNarrowDirection E.shown (limits_of E.BITS) r o obliquity
+        → IsNarrowDirection E.shown (limits_of E.BITS) r l longitude
+        → IsNarrowDirection E.shown (limits_of E.BITS) r b latitude
+        → Narrow E.shown (limits_of E.BITS) r (spec.north_of o l b) result }
 {
-    let level = sin_deg(latitude).mul(cos_deg(obliquity));
-    level.add(
-        cos_deg(latitude)
-            .mul(sin_deg(obliquity))
-            .mul(sin_deg(longitude)),
-    )
+    let level = latitude.sine.mul(obliquity.cosine);
+    level.add(latitude.cosine.mul(obliquity.sine).mul(longitude.sine))
 }
 
 /// The part of the moon's direction towards the east of the equinox, in the plane of the equator.
 #[tactic(auto, unfolding(book_model::specs::sky::Altitude::east_of))]
-fn east_part<E: Enclosure>(obliquity: E, longitude: E, latitude: E) -> E
-    ensures encloses { Encloses3 E.shown E.BITS spec.east_of obliquity longitude latitude result }
+fn east_part<E: Enclosure>(
+    obliquity: Direction<E>,
+    longitude: Direction<E>,
+    latitude: Direction<E>,
+) -> E
+    ensures holds { (w : World) (o l b : Expression) → IsDirection E.shown w o obliquity
+        → IsDirection E.shown w l longitude → IsDirection E.shown w b latitude
+        → Within E.shown w (spec.east_of o l b) result }
+    ensures narrow { (r : Reach) (o l b : Expression)
+        → IsNarrowDirection E.shown (limits_of E.BITS) r o obliquity
+        → IsNarrowDirection E.shown (limits_of E.BITS) r l longitude
+        → IsNarrowDirection E.shown (limits_of E.BITS) r b latitude
+        → Narrow E.shown (limits_of E.BITS) r (spec.east_of o l b) result }
 {
-    let level = cos_deg(latitude)
-        .mul(sin_deg(longitude))
-        .mul(cos_deg(obliquity));
-    level.sub(sin_deg(latitude).mul(sin_deg(obliquity)))
+    let level = latitude.cosine.mul(longitude.sine).mul(obliquity.cosine);
+    level.sub(latitude.sine.mul(obliquity.sine))
 }
 
 /// The part of the moon's direction towards where the equator crosses the meridian, at a local sidereal time.
 #[tactic(auto, unfolding(book_model::specs::sky::Altitude::towards_of))]
-fn meridian_part<E: Enclosure>(sidereal: E, obliquity: E, longitude: E, latitude: E) -> E
-    ensures encloses { Encloses4 E.shown E.BITS spec.towards_of sidereal obliquity longitude
-        latitude
-        result }
+fn meridian_part<E: Enclosure>(
+    sidereal: Direction<E>,
+    obliquity: Direction<E>,
+    longitude: Direction<E>,
+    latitude: Direction<E>,
+) -> E
+    ensures holds { (w : World) (t o l b : Expression) → IsDirection E.shown w t sidereal
+        → IsDirection E.shown w o obliquity → IsDirection E.shown w l longitude
+        → IsDirection E.shown w b latitude → Within E.shown w (spec.towards_of t o l b) result }
+    ensures narrow { (r : Reach) (t o l b : Expression)
+        → IsNarrowDirection E.shown (limits_of E.BITS) r t sidereal
+        → IsNarrowDirection E.shown (limits_of E.BITS) r o obliquity
+        → IsNarrowDirection E.shown (limits_of E.BITS) r l longitude
+        → IsNarrowDirection E.shown (limits_of E.BITS) r b latitude
+        → Narrow E.shown (limits_of E.BITS) r (spec.towards_of t o l b) result }
 {
-    let along = cos_deg(sidereal)
-        .mul(cos_deg(latitude))
-        .mul(cos_deg(longitude));
-    along.add(sin_deg(sidereal).mul(east_part(obliquity, longitude, latitude)))
+    let along = sidereal.cosine.mul(latitude.cosine).mul(longitude.cosine);
+    along.add(sidereal.sine.mul(east_part(obliquity, longitude, latitude)))
+}
+
+/// The sine of the moon's altitude by the latitude of the ground, the local sidereal time, the obliquity of the ecliptic and the
+/// moon's longitude and latitude.
+#[tactic(auto, unfolding(crate::specs::Directions::over_ground))]
+fn sine_over<E: Enclosure>(
+    ground: Direction<E>,
+    sidereal: E,
+    obliquity: E,
+    longitude: E,
+    latitude: E,
+) -> E
+    ensures holds { (w : World) (g t o l b : Expression) → IsDirection E.shown w g ground
+        → Within E.shown w t sidereal → Within E.shown w o obliquity
+        → Within E.shown w l longitude → Within E.shown w b latitude
+        → Within E.shown w (over_ground g t o l b) result }
+    ensures narrow { (r : Reach) (g t o l b : Expression)
+        → IsNarrowDirection E.shown (limits_of E.BITS) r g ground
+        → Narrow E.shown (limits_of E.BITS) r t sidereal
+        → Narrow E.shown (limits_of E.BITS) r o obliquity
+        → Narrow E.shown (limits_of E.BITS) r l longitude
+        → Narrow E.shown (limits_of E.BITS) r b latitude
+        → Narrow E.shown (limits_of E.BITS) r (over_ground g t o l b) result }
+{
+    let tilt = direction_of(obliquity);
+    let around = direction_of(longitude);
+    let north = direction_of(latitude);
+    let upwards = ground.sine.mul(declination_sine(tilt, around, north));
+    let towards = meridian_part(direction_of(sidereal), tilt, around, north);
+    upwards.add(ground.cosine.mul(towards))
 }
 
 /// The sine of the moon's altitude at a latitude of the ground, by the local sidereal time, the obliquity of the ecliptic and the
 /// moon's longitude and latitude, all in degrees (Reingold and Dershowitz, Calendrical Calculations, chapter 14).
-#[tactic(auto, unfolding(book_model::specs::sky::Altitude::altitude_sine_of))]
+#[tactic(auto, unfolding(book_model::specs::sky::Altitude::altitude_sine_of, crate::specs::Directions::over_ground))]
 pub fn altitude_sine<E: Enclosure>(
     ground: Frac,
     sidereal: E,
@@ -69,6 +149,5 @@ pub fn altitude_sine<E: Enclosure>(
         → IsAltitudeSine (E.shown result) }
 {
     let here = E::from_frac(ground);
-    let upwards = sin_deg(here).mul(declination_sine(obliquity, longitude, latitude));
-    upwards.add(cos_deg(here).mul(meridian_part(sidereal, obliquity, longitude, latitude)))
+    sine_over(direction_of(here), sidereal, obliquity, longitude, latitude)
 }

@@ -20,6 +20,8 @@ use book_model::{Fail, Site, Twilight};
 use encl_core::{Enclosure, Trail, floor_step};
 use sun_core::from_apparent;
 
+// Sums of enclosures and not of numbers: these don't leave their type for any day that a floor may
+// give.
 /// When the sun rises or sets on a day (R.D.) at the equinox, in apparent time: at 6 or at 18 hours.
 #[tactic(auto, unfolding(book_model::specs::sky::Horizon::quarter_of))]
 pub(crate) fn quarter<E: Enclosure>(twilight: Twilight, day: i64) -> E

@@ -33,6 +33,7 @@ fn has_settled<E: Enclosure>(old: E, new: E, trail: &mut Trail) -> Result<bool, 
     )
 }
 
+// The first approximation is compared with the moment from which it was made, like each later one.
 /// Approximations, so many at most, from a moment on until two are less than half a minute apart: eleven tests at most for each
 /// (`settled_few`). It is void at `settle` where none are, and where an approximation is.
 #[tactic(auto, using(book_model::proofs::Leads::leading, crate::proofs::Settling::settling), unfolding(book_model::specs::programs::Leading::next_turn))]

@@ -25,6 +25,7 @@ fn shifted_end(end: i128, whole: i64) -> Option<i128>
     end.checked_add(i128::from(whole) * ONE)
 }
 
+// The test is one of the sum, and so are its ends.
 /// The open test of a number, where a whole number is added to it; with ends that have no 128 bits it has none.
 fn shifted_by(at: Undecided, whole: i64) -> Undecided
     ensures turn { result.turn ≡ at.turn }
@@ -106,6 +107,8 @@ fn minutes_after<E: Enclosure>(day: i64, t: E) -> E
         .add(E::from_frac(HALF))
 }
 
+// By the minutes of the day: 1440 times a moment (R.D.) has no place among coarse enclosures, whose
+// numbers are below 134,000,000.
 /// The minutes from the day of R.D. 0 to a moment of a day, rounded: one test, at `round`.
 #[tactic(auto, unfolding(book_model::specs::sky::Horizon::rounded_minutes_of))]
 pub(crate) fn rounded_minutes<E: Enclosure>(day: i64, t: E, trail: &mut Trail) -> Result<i64, Fail>

@@ -1,4 +1,8 @@
 //! How far the sun is from the horizon: the sine of the hour angle at which it has a depression, less a quarter of a turn.
+//!
+//! The calls of this crate take a location and no place, so that they hold of every one; a place is turned into its
+//! location once, where a fact is evaluated. What stays the same comes first among their arguments, and of the day they
+//! ask nothing.
 ghost use Rattle.book_model.specs.programs.Calls.{Decides1, Encloses1, Encloses2, Encloses3, Follows1, Follows2, Holds, Narrows4};
 ghost use Rattle.book_model.specs.programs.Widths.{Measured1, Measures};
 ghost use Rattle.std.specs.Prelude.{◌≡◌, ◌≤◌, ◌+◌, ◌/◌, ◌^◌, ℕ, false, IfOk};

@@ -43,6 +43,7 @@ fn refraction_of_height<E: Enclosure>(height: u16) -> E
         .mul_frac(REFRACTION_OF_HEIGHT)
 }
 
+// An enclosure and no result, since it makes no test.
 /// By how many degrees the sun stands below the level when its middle is seen to set at a location: what the air lifts it, and
 /// what the height of the location lowers the horizon (Reingold and Dershowitz, Calendrical Calculations, chapter 14). It makes
 /// no test.
@@ -67,6 +68,8 @@ pub fn sunset_depression<E: Enclosure>(location: &Location) -> E
     refraction::<E>(location).add(E::from_frac(HALF_SUN))
 }
 
+// Its type says that the horizon is the location's, in every world (`IsHorizonOf`): so `on` says
+// what `sunset` does, and the definitions know of no horizon.
 /// The sunsets at a location: its horizon, which is the same on each day. Contracts see the location.
 #[derive(Drop)]
 pub struct Sunsets<E: Enclosure> {

@@ -3,6 +3,8 @@ pub mod Scalings
 pub mod Openings
 pub mod Elapsed
 pub mod Reaches
+pub mod SunWaves
+pub mod WholeSums
 pub mod FormulaWidths
 pub mod NewYears
 pub mod Measured

@@ -14,6 +14,7 @@ ghost use Rattle.sun_core.specs.Daily.{in_centuries};
 ghost use Rattle.sun_core.specs.Steps.{periodic_of};
 
 use crate::longitude::{aberration, mean_longitude, nutation};
+use crate::turns::{greatest_in_whole_numbers, other_in_whole_numbers};
 use crate::waves::Days;
 use book_model::sun_tables::{SUN_UNIT_COARSELY, SUN_UNIT_FINELY, SUN_WAVES};
 use book_model::time_tables::{DAY_IN_CENTURIES, NOON_2000};
@@ -22,22 +23,47 @@ use encl_core::{Enclosure, Trail, lies_within, sum_of_terms, wrap_step};
 use std::marker::Model;
 use time_scales::dynamical;
 
+// A major term takes 171,000 instructions so, and 210,000, 206,000 and 263,000 with the others.
 /// How many waves, the first of the table, are the greatest. Tried with two, four, eight and sixteen: with four a bisection for a
 /// solar term evaluates the fewest waves in all.
 pub(crate) const GREATEST_WAVES: usize = 4;
 
-/// The sum of the greatest waves.
-fn greatest_waves<E: Enclosure>(days: E) -> E
+/// The sum of the greatest waves, row by row.
+fn greatest_by_rows<E: Enclosure>(days: E) -> E
     ensures holds { Holds1 E.shown greatest_waves_of days result }
 {
     sum_of_terms::<Days<E>, E, Wave>(&SUN_WAVES[..GREATEST_WAVES], Days(days))
 }
 
-/// The sum of the other waves.
-fn other_waves<E: Enclosure>(days: E) -> E
+/// The sum of the greatest waves: in whole numbers over the coarse kind, where its days are known well enough.
+fn greatest_waves<E: Enclosure>(days: E) -> E
+    ensures holds { Holds1 E.shown greatest_waves_of days result }
+{
+    if E::BITS == 36 {
+        if let Some(whole) = greatest_in_whole_numbers(days) {
+            return whole;
+        }
+    }
+    greatest_by_rows(days)
+}
+
+/// The sum of the other waves, row by row.
+fn other_by_rows<E: Enclosure>(days: E) -> E
     ensures holds { Holds1 E.shown other_waves_of days result }
 {
     sum_of_terms::<Days<E>, E, Wave>(&SUN_WAVES[GREATEST_WAVES..], Days(days))
+}
+
+/// The sum of the other waves: in whole numbers over the coarse kind, where the stretch is short enough.
+fn other_waves<E: Enclosure>(days: E) -> E
+    ensures holds { Holds1 E.shown other_waves_of days result }
+{
+    if E::BITS == 36 {
+        if let Some(whole) = other_in_whole_numbers(days) {
+            return whole;
+        }
+    }
+    other_by_rows(days)
 }
 
 /// The days of dynamical time, counted from noon of 1 January 2000, of a stretch of universal time; none where it isn't decided of
@@ -50,6 +76,8 @@ pub fn days_over<E: Enclosure>(stretch: E, trail: &Trail) -> Option<E> {
     }
 }
 
+// Its type says of which days it holds, and it is taken of these alone (`covers`): no stretch has
+// to be the right one.
 /// The course of the sun over a stretch of days, counted from noon of 1 January 2000 in dynamical time. Contracts see the days.
 #[derive(Drop)]
 pub struct SunCourse<E: Enclosure> {
@@ -82,6 +110,8 @@ impl<E: Enclosure> SunCourse<E> {
         }
     }
 
+    // For tests that need few digits: whether a day is past an equinox, in which sign the sun
+    // stands.
     /// The course over all days.
     pub fn always() -> Self
         ensures all { E.shown result ≡ everything }

@@ -1,4 +1,8 @@
 //! Rates a century times the time, by days, so that the rounding of the centuries isn't multiplied by a rate.
+//!
+//! The two units of rounding of a quotient would else be multiplied by some 36,000, or 480,000 for the moon. The
+//! definitions keep the centuries; a law that scaling by two numbers in turn is scaling by their product (`Scalings`)
+//! joins the two.
 ghost use Rattle.book_model.specs.programs.Calls.{Holds1, Narrows1};
 ghost use Rattle.std.specs.Prelude.{◌≡◌, ◌*◌, ◌<◌, MatchOption, true, false};
 ghost use Rattle.sun_core.specs.Daily.{has_daily, by_days, by_centuries};
@@ -7,6 +11,7 @@ use book_model::Frac;
 use book_model::time_tables::DAY_IN_CENTURIES;
 use encl_core::Enclosure;
 
+// No table has a greater one; with it the centuries would be taken.
 /// The greatest denominator of a rate a century whose rate a day has one in 64 bits.
 const GREATEST: u64 = 500_000_000_000_000;
 

@@ -14,6 +14,7 @@ use book_model::sun_tables::OBLIQUITY;
 use encl_core::{Enclosure, Trail};
 use time_scales::cubic;
 
+// A trail and a result, as every formula of a moment has.
 /// The obliquity of the ecliptic by the centuries from noon of 1 January 2000, in degrees (Reingold and Dershowitz,
 /// Calendrical Calculations, chapter 14). It makes no test and never fails.
 #[tactic(auto, using(book_model::proofs::Leads::leading, crate::proofs::Measured::obliquity_within), unfolding(book_model::specs::sky::Sun::obliquity_of))]

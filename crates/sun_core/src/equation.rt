@@ -4,11 +4,11 @@ ghost use Rattle.book_model.specs.programs.Widths.{IsAbout, IsMoment, Measured1}
 ghost use Rattle.book_model.specs.numbers.Ranges.{IsInTable};
 ghost use Rattle.std.specs.Prelude.{◌≡◌, ◌^◌, IfOk, IfErr};
 ghost use Rattle.book_model.specs.programs.Leading.{next_turn};
-ghost use Rattle.book_model.specs.sky.Noon.{tilt_of, reduction_of, centre_of, joint_of, second_reduction_of, second_centre_of, radians_of, part_of_day, equation_of, equation_of_time_of};
+ghost use Rattle.book_model.specs.sky.Noon.{tilt_of, reduction_of, second_reduction_of, second_centre_of, radians_of, part_of_day, equation_of, equation_of_time_of};
 ghost use Rattle.greatest_widths.specs.declared.table.TheConstants.{EQUATION_OF_TIME};
 ghost use Rattle.greatest_widths.specs.Table.{greatest_of};
 ghost use Rattle.time_scales.specs.Steps.{IsYearOpenFor};
-ghost use Rattle.sun_core.specs.Steps.{first_radians_of};
+ghost use Rattle.sun_core.specs.Steps.{centre_by, first_radians_of, joint_by};
 
 use book_model::Fail;
 use book_model::sun_tables::{
@@ -35,23 +35,20 @@ fn reduction<E: Enclosure>(tilt: E, mean_sun: E) -> E
     tilt.mul(sin_deg(mean_sun.mul_frac(TWO)))
 }
 
-/// The equation of the centre.
-#[tactic(auto, unfolding(book_model::specs::sky::Noon::centre_of))]
-fn equation_of_centre<E: Enclosure>(eccentricity: E, anomaly: E) -> E
-    ensures encloses { Encloses2 E.shown E.BITS centre_of eccentricity anomaly result }
+/// The equation of the centre, by the sine of the anomaly.
+fn equation_of_centre<E: Enclosure>(eccentricity: E, sine: E) -> E
+    ensures encloses { Encloses2 E.shown E.BITS centre_by eccentricity sine result }
 {
-    eccentricity.mul(sin_deg(anomaly)).mul_frac(TWO)
+    eccentricity.mul(sine).mul_frac(TWO)
 }
 
-/// What the tilt and the eccentricity bring about together.
-#[tactic(auto, unfolding(book_model::specs::sky::Noon::joint_of))]
-fn joint_term<E: Enclosure>(tilt: E, eccentricity: E, mean_sun: E, anomaly: E) -> E
-    ensures encloses { Encloses4 E.shown E.BITS joint_of tilt eccentricity mean_sun anomaly
-        result }
+/// What the tilt and the eccentricity bring about together, by the sine of the anomaly.
+fn joint_term<E: Enclosure>(tilt: E, eccentricity: E, mean_sun: E, sine: E) -> E
+    ensures encloses { Encloses4 E.shown E.BITS joint_by tilt eccentricity mean_sun sine result }
 {
     eccentricity
         .mul(tilt)
-        .mul(sin_deg(anomaly))
+        .mul(sine)
         .mul(cos_deg(mean_sun.mul_frac(TWO)))
         .mul_frac(FOUR)
 }
@@ -78,14 +75,16 @@ fn second_centre<E: Enclosure>(eccentricity: E, anomaly: E) -> E
 }
 
 /// The first three terms of the equation of time, in radians.
-#[tactic(auto, unfolding(crate::specs::Steps::first_radians_of))]
+#[tactic(auto, unfolding(crate::specs::Steps::first_radians_of, book_model::specs::sky::Noon::centre_of, book_model::specs::sky::Noon::joint_of))]
 fn first_radians<E: Enclosure>(tilt: E, eccentricity: E, mean_sun: E, anomaly: E) -> E
     ensures encloses { Encloses4 E.shown E.BITS first_radians_of tilt eccentricity mean_sun
         anomaly result }
 {
+    // Taken once for both.
+    let sine = sin_deg(anomaly);
     reduction(tilt, mean_sun)
-        .sub(equation_of_centre(eccentricity, anomaly))
-        .add(joint_term(tilt, eccentricity, mean_sun, anomaly))
+        .sub(equation_of_centre(eccentricity, sine))
+        .add(joint_term(tilt, eccentricity, mean_sun, sine))
 }
 
 /// The equation of time in radians.

@@ -62,6 +62,7 @@ fn moved_back<E: Enclosure>(angle: E, t: E) -> E
     t.sub(angle.mul_frac(DEGREE_OF_YEAR))
 }
 
+// Its width is said for a longitude that is known exactly, as every caller has it.
 /// About when the sun was last at a longitude, in degrees, at or before a moment of universal time (Reingold and
 /// Dershowitz, Calendrical Calculations, chapter 14): from the moment it goes back by the mean sun's time from that
 /// longitude, and from there once more by what the sun is still off. Six tests: the sun's two at the moment, one at

@@ -24,6 +24,7 @@ mod estimates;
 mod longitude;
 mod passages;
 mod stars;
+mod turns;
 mod waves;
 
 pub use apparent::{from_apparent, noon, paris_midnight};

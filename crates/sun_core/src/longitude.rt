@@ -11,10 +11,11 @@ ghost use Rattle.greatest_widths.specs.declared.table.TheConstants.{SUN};
 ghost use Rattle.greatest_widths.specs.Table.{greatest_of};
 ghost use Rattle.time_scales.specs.Steps.{IsYearOpenFor};
 ghost use Rattle.sun_core.specs.Daily.{in_centuries};
-ghost use Rattle.sun_core.specs.Widths.{days_of_years, longitude_bound};
+ghost use Rattle.sun_core.specs.Widths.{days_of_years, longitude_bound, periodic_bound};
 ghost use Rattle.sun_core.specs.Steps.{mean_longitude_of, periodic_of, computed_aberration_of, computed_mean_longitude_of, computed_periodic_of, computed_longitude_of};
 
 use crate::daily::times_rate;
+use crate::turns::periodic_in_whole_numbers;
 use crate::waves::{Days, cosine_wave, quadratic_wave};
 use book_model::sun_tables::{
     ABERRATION, MEAN_ABERRATION, NODE_NUTATION, SOLAR_NUTATION, SUN_AT_2000, SUN_RATE,
@@ -44,13 +45,31 @@ pub(crate) fn aberration<E: Enclosure>(days: E) -> E
 
 /// What the sun is ahead of its mean longitude: the sum of its waves times their unit, which is applied in two steps.
 #[tactic(auto, unfolding(crate::specs::Steps::computed_periodic_of))]
-fn sum_of_waves<E: Enclosure>(days: E) -> E
+fn sum_by_rows<E: Enclosure>(days: E) -> E
     ensures holds { Holds1 E.shown (λ x. periodic_of (in_centuries x)) days result }
     ensures narrow { Narrows1 E.shown E.BITS computed_periodic_of days result }
 {
     sum_of_terms::<Days<E>, E, Wave>(&SUN_WAVES, Days(days))
         .mul_frac(SUN_UNIT_COARSELY)
         .mul_frac(SUN_UNIT_FINELY)
+}
+
+/// What the sun is ahead of its mean longitude: in whole numbers over the coarse kind, where its days are known well enough, and else row
+/// by row. The fine kind keeps its rows: its units are finer than what the whole numbers leave out, so that it would decide fewer of the
+/// tests that it is for.
+fn sum_of_waves<E: Enclosure>(days: E) -> E
+    ensures holds { Holds1 E.shown (λ x. periodic_of (in_centuries x)) days result }
+    ensures narrow { (E.BITS ≡ 36 → ⊥) → Narrows1 E.shown E.BITS computed_periodic_of days result }
+    ensures close { (w : ℕ) → E.BITS ≡ 36 → Narrow E.shown (limits_of E.BITS)
+        (record { width = w; bounds = days_of_years }) (argument 0) days
+        → IsNarrow w periodic_bound (E.shown result) }
+{
+    if E::BITS == 36 {
+        if let Some(whole) = periodic_in_whole_numbers(days) {
+            return whole;
+        }
+    }
+    sum_by_rows(days)
 }
 
 /// The mean longitude of the sun, not reduced.
@@ -68,8 +87,8 @@ fn longitude<E: Enclosure>(days: E, c: E) -> E
     ensures holds { (w : World) (x : Expression) → Within E.shown w x days
         → Within E.shown w (in_centuries x) c → Within E.shown w
         (longitude_of (in_centuries x)) result }
-    ensures narrow { (r : Reach) (x : Expression) → Narrow E.shown (limits_of E.BITS) r x days
-        → Narrow E.shown (limits_of E.BITS) r (in_centuries x) c
+    ensures narrow { (E.BITS ≡ 36 → ⊥) → (r : Reach) (x : Expression)
+        → Narrow E.shown (limits_of E.BITS) r x days → Narrow E.shown (limits_of E.BITS) r (in_centuries x) c
         → Narrow E.shown (limits_of E.BITS) r (computed_longitude_of x) result }
     ensures close { (w : ℕ) → E.BITS ≡ 36 → Narrow E.shown (limits_of E.BITS)
         (record { width = w; bounds = days_of_years }) (argument 0) days

@@ -92,6 +92,8 @@ fn passage_about<E: Enclosure>(
     )
 }
 
+// Calls with the ending `_by` take a course, of which the evaluator has one for all facts; the call
+// without it makes the one over all days first.
 /// `sun_from`, where the course of the sun is known, over all days or over those about the moment.
 #[tactic(auto, using(book_model::proofs::Leads::leading), unfolding(book_model::specs::sky::Sun::sun_from_of))]
 pub fn sun_from_by<E: Enclosure>(

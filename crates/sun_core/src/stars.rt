@@ -20,6 +20,8 @@ use encl_core::{Enclosure, Trail, wrap_step};
 use time_scales::{centuries, cubic, quadratic};
 use trig_series::{cos_deg, sin_deg};
 
+// Over recent moments, from R.D. 580,000 on, the direction keeps to one quadrant: so its arctangent
+// is narrow.
 /// Precession by the tilt of the ecliptic, where it crosses that of 2000, and the advance of the equinox, in degrees.
 #[tactic(auto, unfolding(book_model::specs::sky::Sidereal::precession_by))]
 fn precession_by<E: Enclosure>(tilt: E, crossing: E, advance: E) -> E

@@ -64,6 +64,7 @@ impl<E: Enclosure> Term<Days<E>, E> for Wave {
 
     ghost term_of = { λ x wave. wave_of (in_centuries x) wave };
 
+    // By the days, where the definition has centuries: for no other table do the two differ.
     ghost computed_of = { λ x wave. daily_wave_of x wave };
 
     fn term(&self, given: Days<E>) -> E {

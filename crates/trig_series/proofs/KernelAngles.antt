@@ -45,7 +45,7 @@ high_above : (d h : ℕ) → d ≤ OCTANT → 41210421805949854240 * d ≤ h * 2
 unfolding times
 high_above d h l q = record { cross = omega (arith, ints, l, q) }
 
-neighbours : (d : ℕ)
+pub neighbours : (d : ℕ)
     → times (units_of_56 (pos d)) (times (binary 226375608064910088) (one_over 179)) ≤F times (units_of_56 (pos d))
     (times (binary 226375608064910089) (one_over 179))
 unfolding times

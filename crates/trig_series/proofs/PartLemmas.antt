@@ -28,32 +28,32 @@ use Rattle.trig_series.proofs.Curves.{in_fifths, in_order, sine_above, cosine_ab
 use Rattle.trig_series.proofs.Steady.{more_crest}
 
 -- ---- angles by the upper neighbour of pi
-above_in_order : (d e : ℕ) → d ≤ e → in_radians_above d ≤F in_radians_above e
+pub above_in_order : (d e : ℕ) → d ≤ e → in_radians_above d ≤F in_radians_above e
 unfolding times
 above_in_order d e h = record { cross = omega (arith, ints, h) }
 
-above_fifths : (d : ℕ) → d ≤ OCTANT → IsUpTo 4 5 (in_radians_above d)
+pub above_fifths : (d : ℕ) → d ≤ OCTANT → IsUpTo 4 5 (in_radians_above d)
 unfolding times
 above_fifths d h = record { nonneg = record { cross = omega (arith, ints) }; bound = record { cross = omega (arith, ints, h) } }
 
 -- a degree is less than a 57th of a radian
-above_close : (d e : ℕ) (m : ℤ) → d ≤ e → (pos e -ℤ pos d) ≤ℤ (pos 57 *ℤ m) → in_radians_above e ≤F plus (in_radians_above d) (units_of_56 m)
+pub above_close : (d e : ℕ) (m : ℤ) → d ≤ e → (pos e -ℤ pos d) ≤ℤ (pos 57 *ℤ m) → in_radians_above e ≤F plus (in_radians_above d) (units_of_56 m)
 unfolding plus times
 above_close d e m o h = record { cross = omega (arith, ints, o, h) }
 
 -- ---- ends that are moved
-joined : (a b : ℤ) → units_of_56 (a +ℤ b) ≈ plus (units_of_56 a) (units_of_56 b)
+pub joined : (a b : ℤ) → units_of_56 (a +ℤ b) ≈ plus (units_of_56 a) (units_of_56 b)
 unfolding plus
 joined a b = record { cross = omega (arith, ints) }
 
-moved_up : (a b x y : Fraction) (hi m : ℤ) → plus a x ≤F plus b y → b ≤F units_of_56 hi → y ≤F plus x (units_of_56 m) → a ≤F units_of_56 (hi +ℤ m)
+pub moved_up : (a b x y : Fraction) (hi m : ℤ) → plus a x ≤F plus b y → b ≤F units_of_56 hi → y ≤F plus x (units_of_56 m) → a ≤F units_of_56 (hi +ℤ m)
 moved_up a b x y hi m p q r =
     le_by (a ∷ b ∷ x ∷ y ∷ units_of_56 hi ∷ units_of_56 m ∷ units_of_56 (hi +ℤ m) ∷ [])
     ((at 0 ⊕ at 2 ≼ at 1 ⊕ at 3) ∷ (at 1 ≼ at 4) ∷ (at 3 ≼ at 2 ⊕ at 5) ∷ (at 6 ≗ at 4 ⊕ at 5) ∷ []) (at 0) (at 6)
     (known 0 ⊞ known 1 ⊞ known 2 ⊞ multiple 3 (lit (negsuc 0))) refl (p, (q, (r, (joined hi m, tt))))
 
 -- ---- from the first angle of a part to a later one
-none_below : (d : ℕ) → zero_F ≤F in_radians d
+pub none_below : (d : ℕ) → zero_F ≤F in_radians d
 unfolding times
 none_below d = record { cross = omega (arith, ints) }
 
@@ -74,7 +74,7 @@ sine_from n d e s lo hi m o u w f l r =
     })
 
 -- and from the last angle of a part to an earlier one
-lower_close : (d e : ℕ) (m : ℤ) → d ≤ e → (pos e -ℤ pos d) ≤ℤ (pos 57 *ℤ m) → in_radians e ≤F plus (in_radians d) (units_of_56 m)
+pub lower_close : (d e : ℕ) (m : ℤ) → d ≤ e → (pos e -ℤ pos d) ≤ℤ (pos 57 *ℤ m) → in_radians e ≤F plus (in_radians d) (units_of_56 m)
 unfolding plus times
 lower_close d e m o h = record { cross = omega (arith, ints, o, h) }
 

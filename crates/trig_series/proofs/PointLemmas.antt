@@ -175,13 +175,13 @@ near_full =
     record { low = le_trans _ _ _ z.1 (record { cross = omega (arith, ints) }); high = le_trans _ _ _ (record { cross = omega (arith, ints) }) z.0 }
 
 -- ---- at 45 degrees, where the kernel's numbers are known
-keeps : (c w t h : ℕ) → IsHigh h w t → h ≤ c → 2 * t ≤ 2 ^ 64 → Keeps c w t (c - h)
+pub keeps : (c w t h : ℕ) → IsHigh h w t → h ≤ c → 2 * t ≤ 2 ^ 64 → Keeps c w t (c - h)
 keeps c w t h p k l C u v z i s n = step_near c w t h C u v p k l z i s n
 
-high : (h w t : ℕ) → h * 2 ^ 64 ≤ w * t → w * t ≤ h * 2 ^ 64 + 2 ^ 64 → IsHigh h w t
+pub high : (h w t : ℕ) → h * 2 ^ 64 ≤ w * t → w * t ≤ h * 2 ^ 64 + 2 ^ 64 → IsHigh h w t
 high h w t p q = record { not_above = p; close = q }
 
-eighth : IsAngle 14488038916154245630 (in_radians OCTANT)
+pub eighth : IsAngle 14488038916154245630 (in_radians OCTANT)
 eighth = angle_between OCTANT _ 7244019458077122815 _ _ (omega arith) refl refl refl (by_lower OCTANT)
 
 sine_chain : Chain 11378879155978302076 51862 14074536 2953688836 460307848123 50550340485508 3628886277159895 151484387782656051 2981014159346006776
@@ -241,14 +241,14 @@ cosine_chain = record {
       (high 5402926248376769365 11378879155978302076 8758894121884635386 (omega arith) (omega arith)) (omega arith) (omega arith);
 }
 
-sine_eighth : (n : ℕ) (x : Fraction) → 8 ≤ n → IsAngle 14488038916154245630 x → AreSineEnds x 13043817825332782175 n
+pub sine_eighth : (n : ℕ) (x : Fraction) → 8 ≤ n → IsAngle 14488038916154245630 x → AreSineEnds x 13043817825332782175 n
 sine_eighth n x l i =
     sine_near n 14488038916154245630 11378879155978302076 51862 14074536 2953688836 460307848123 50550340485508 3628886277159895 151484387782656051
     2981014159346006776 16607904669535111438 13043817825332782175 x l (omega arith) (omega arith)
     (high 11378879155978302076 14488038916154245630 14488038916154245630 (omega arith) (omega arith))
     (high 13043817825332782175 14488038916154245630 16607904669535111438 (omega arith) (omega arith)) i sine_chain
 
-cosine_eighth : (n : ℕ) (x : Fraction) → 9 ≤ n → IsAngle 14488038916154245630 x → AreCosineEnds x 13043817825332782250 n
+pub cosine_eighth : (n : ℕ) (x : Fraction) → 9 ≤ n → IsAngle 14488038916154245630 x → AreCosineEnds x 13043817825332782250 n
 cosine_eighth n x l i =
     cosine_near n 14488038916154245630 11378879155978302076 2881 879880 211055154 38380629895 5059753048715 454387423514269 25340188872969900 752983233927995943
     8758894121884635386 13043817825332782250 x l (omega arith)

@@ -238,7 +238,7 @@ tangent_holds shown w a r h = record { deep = h.deep; inside = h.inside }
 
 -- ---- and keep their bounds
 -- the ends of an enclosure keep its bound, since they lie within it and hold it
-span_keeps : (w : ℕ) (b : Bound) (i : Interval) (lo hi : ℤ) → lo ≤ℤ hi → i ⊆ between (units_of_56 lo) (units_of_56 hi)
+pub span_keeps : (w : ℕ) (b : Bound) (i : Interval) (lo hi : ℤ) → lo ≤ℤ hi → i ⊆ between (units_of_56 lo) (units_of_56 hi)
     → between (units_of_56 lo) (units_of_56 hi) ⊆ i
     → IsNarrow w b i → IsNarrow w b (between (units_of_56 lo) (units_of_56 hi))
 unfolding IsNarrow
@@ -252,13 +252,13 @@ span_keeps w (bounded a b s t) (between c d) lo hi o g h k = record {
 }
 
 -- ends that keep a bound, in whole numbers
-record AreKept (a b : ℤ) (s k w : ℕ) (from to : ℤ) : Type 0 where
-  low : (a *ℤ pos (2 ^ 24)) ≤ℤ from
-  high : to ≤ℤ (b *ℤ pos (2 ^ 24))
-  order : from ≤ℤ to
-  close : ((to -ℤ from) *ℤ pos (2 ^ 48)) ≤ℤ (pos (s * w) +ℤ pos (k * 2 ^ 40))
+pub record AreKept (a b : ℤ) (s k w : ℕ) (from to : ℤ) : Type 0 where
+  pub low : (a *ℤ pos (2 ^ 24)) ≤ℤ from
+  pub high : to ≤ℤ (b *ℤ pos (2 ^ 24))
+  pub order : from ≤ℤ to
+  pub close : ((to -ℤ from) *ℤ pos (2 ^ 48)) ≤ℤ (pos (s * w) +ℤ pos (k * 2 ^ 40))
 
-kept_of : (a b : ℤ) (s k w : ℕ) (from to : ℤ) → Spans a b s k w (units_of_56 from) (units_of_56 to) → AreKept a b s k w from to
+pub kept_of : (a b : ℤ) (s k w : ℕ) (from to : ℤ) → Spans a b s k w (units_of_56 from) (units_of_56 to) → AreKept a b s k w from to
 unfolding plus
 kept_of a b s k w from to h = record {
   low = omega (arith, ints, h.above.cross);
@@ -267,7 +267,7 @@ kept_of a b s k w from to h = record {
   close = omega (arith, ints, h.close.cross);
 }
 
-spans_of : (a b : ℤ) (s k w : ℕ) (lo hi : ℤ) → AreKept a b s k w lo hi → Spans a b s k w (units_of_56 lo) (units_of_56 hi)
+pub spans_of : (a b : ℤ) (s k w : ℕ) (lo hi : ℤ) → AreKept a b s k w lo hi → Spans a b s k w (units_of_56 lo) (units_of_56 hi)
 unfolding plus
 spans_of a b s k w lo hi h = record {
   ordered = record { cross = omega (arith, ints, h.order) };

@@ -86,7 +86,7 @@ pub next_edge : (k o lo hi : ℤ) → o ≡ pos (octant_of_turn k) → IsAt (edg
 next_edge k o lo hi e h = rw e at h
 
 -- where an octant ends the next begins
-next_turn : (k q r : ℤ) → q ≡ floor_quotient k 7 → r ≡ floor_quotient (k +ℤ pos 1) 7 → IsFloorQuotient q k 7 → IsFloorQuotient r (k +ℤ pos 1) 7
+pub next_turn : (k q r : ℤ) → q ≡ floor_quotient k 7 → r ≡ floor_quotient (k +ℤ pos 1) 7 → IsFloorQuotient q k 7 → IsFloorQuotient r (k +ℤ pos 1) 7
     → (suc (octant_of_turn k) ≡ octant_of_turn (k +ℤ pos 1)) ⊎ ((octant_of_turn k ≡ 7) × (octant_of_turn (k +ℤ pos 1) ≡ 0))
 next_turn k q r e f g h =
     rw (← e, ← f)

@@ -1,4 +1,8 @@
 //! Sine, cosine and tangent of enclosures of degrees.
+//!
+//! The bound of a sine has a chord of 20/1279 of the degrees and not of a 64th, so that a sine from 4 degrees on is at
+//! least a 16th after rounding. At depth 0 the definition's sine is -1..1: its rule of the octants takes terms from
+//! index 1 on, and so sines nest at every depth.
 ghost use Rattle.book_model.specs.programs.Calls.{Encloses1};
 ghost use Rattle.book_model.specs.programs.Widths.{IsAbout};
 ghost use Rattle.std.specs.Prelude.{◌≡◌, ℕ, ℤ, pos, neg_ℤ, ◌^◌, ◌≤◌, ◌≤ℤ◌};

@@ -2,6 +2,9 @@
 //!
 //! All numbers count 2⁻⁶⁴. The coefficients are 1 / n!, rounded down, and Horner's form takes them from the inside
 //! out. A step makes an error of at most 320 into one of at most 320, since the square of an angle is at most 16/25.
+//!
+//! One scale for every kind of enclosure, whose own scale the ends get by `from_span`. Each step is inlined: the terms
+//! run as one line of multiplications, with no loop, no table and no bounds.
 ghost use Rattle.std.specs.Prelude.{◌≤◌, ◌*◌, ◌-◌, ◌^◌, ℕ, pos, ◌-ℤ◌, ◌+ℤ◌};
 ghost use Rattle.exact_math.specs.Fraction.{Fraction, ◌≤F◌, plus, opposite, times};
 ghost use Rattle.exact_math.specs.Interval.{zero_fraction, between, ◌⊆◌};
@@ -76,7 +79,7 @@ fn angle(degrees: u64) -> u64
 }
 
 /// The sine of so many degrees of an octant, which count 2⁻⁵⁶, within 384.
-pub(crate) fn sine_of_degrees_56(degrees: u64) -> u64
+pub fn sine_of_degrees_56(degrees: u64) -> u64
     requires octant { degrees ≤ OCTANT }
     ensures near { (n : ℕ) → 12 ≤ n → sine_series n (radians n (units_of_56 (pos degrees)))
         ⊆ between
@@ -87,7 +90,7 @@ pub(crate) fn sine_of_degrees_56(degrees: u64) -> u64
 }
 
 /// The cosine of so many degrees of an octant, which count 2⁻⁵⁶, within 320.
-pub(crate) fn cosine_of_degrees_56(degrees: u64) -> u64
+pub fn cosine_of_degrees_56(degrees: u64) -> u64
     requires octant { degrees ≤ OCTANT }
     ensures near { (n : ℕ) → 12 ≤ n → cosine_series n (radians n (units_of_56 (pos degrees)))
         ⊆ between

@@ -2,7 +2,9 @@
 //! the model's at every depth from `DEPTH` on.
 //!
 //! - `sin_deg`, `cos_deg` and `tan_deg`: of degrees, which are reduced exactly;
-//! - `pi`: the number, from the crate of the enclosures.
+//! - `pi`: the number, from the crate of the enclosures;
+//! - `sine_of_degrees_56` and `cosine_of_degrees_56`: of the degrees of one octant in 64 bits, on which the others stand, and sums of waves
+//!   in whole numbers too.
 #![tactic(auto)]
 
 mod degrees;
@@ -13,3 +15,4 @@ mod points;
 
 pub use degrees::{cos_deg, sin_deg, tan_deg};
 pub use encl_core::pi;
+pub use kernel::{cosine_of_degrees_56, sine_of_degrees_56};

@@ -184,6 +184,8 @@ fn last_met(hi: i128) -> i128
     octants_in(hi)
 }
 
+// Over an edge 9 parts of 2⁻⁵⁶ are allowed for each octant, up to four; three octants have more
+// room than a sine can move.
 /// The sine over the octants from the first to the last that two ends meet.
 #[cold]
 fn sine_over_octants(first: i128, last: i128, lo: i128, hi: i128) -> Span
@@ -213,6 +215,7 @@ fn sine_over_octants(first: i128, last: i128, lo: i128, hi: i128) -> Span
     sine
 }
 
+// The usual case is inlined, so that it runs without a call; what is over an edge is `#[cold]`.
 /// The sine over ends, which count 2⁻⁵⁶, that lie in one octant.
 #[inline(always)]
 fn sine_within_octant(octant: i128, lo: i128, hi: i128) -> Span

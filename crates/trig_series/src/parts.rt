@@ -15,6 +15,9 @@ use crate::points::{opposite, span_around};
 use encl_core::Span;
 use interval_ends::parts::OCTANT;
 
+// One series instead of two: the other end is moved in the direction in which the sine runs there.
+// That neither moves more is a lemma on the series. Where both ends are one number nothing is
+// moved.
 /// How far a sine or a cosine moves at most over so many degrees of an octant: a 57th of them, rounded up.
 #[inline(always)]
 fn most_moved(degrees: u64) -> i128

@@ -43,6 +43,7 @@ pub(crate) fn span_around(number: u64) -> Span
     }
 }
 
+// Ends that hold the sine and the cosine both, so that octants meet.
 /// The sine and the cosine of 45 degrees.
 fn at_octant_end() -> Span
     ensures low { result.lo ≡ pos 50952413380206178 }
@@ -54,6 +55,7 @@ fn at_octant_end() -> Span
     }
 }
 
+// Exact at 0: so a sine at a multiple of 90 degrees is exact.
 /// The sine of so many degrees of an octant, which count 2⁻⁵⁶; exact at 0.
 #[inline(always)]
 pub(crate) fn sine_ends_at_degrees(degrees: u64) -> Span

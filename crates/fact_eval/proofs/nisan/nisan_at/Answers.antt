@@ -10,7 +10,8 @@ use Rattle.book_model.proofs.Leads.{leads_on, leads_bind_exact, leaf_within}
 use Rattle.greatest_widths.proofs.Measuring.{moment_about}
 use Rattle.moon_core.proofs.Openings.{late_is_not_early}
 use Rattle.fact_eval.specs.Nisan.{next_equinox_of, nisan_on_of}
-use Rattle.fact_eval.proofs.Equinoxes.{equinox_least, equinox_near, least_first}
+use Rattle.book_model.proofs.Early.{least_first}
+use Rattle.fact_eval.proofs.Equinoxes.{equinox_least, equinox_near}
 use Rattle.fact_eval.proofs.nisan.nisan_at.Goals as goal
 
 pub nisan_on-requires : goal.nisan_on-requires

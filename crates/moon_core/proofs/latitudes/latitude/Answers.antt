@@ -1,33 +1,13 @@
-use Rattle.std.proofs.Common.{arith, ◌+◌, ◌^◌}
-use Rattle.book_model.specs.numbers.Bounds.{Reach}
-use Rattle.book_model.specs.numbers.Expressions.{argument, subtract, constant}
-use Rattle.book_model.specs.numbers.Fractions.{fraction_of}
-use Rattle.book_model.specs.declared.time_tables.TheConstants.{NOON_2000}
 use Rattle.book_model.specs.programs.Programs.{answer}
 use Rattle.book_model.specs.sky.Latitude.{latitude_of, latitude_at_of}
-use Rattle.book_model.specs.sky.Time.{in_centuries as centuries_from}
 use Rattle.book_model.proofs.Leads.{leads_answer}
-use Rattle.greatest_widths.proofs.Measuring.{measured_argument}
-use Rattle.sun_core.specs.Daily.{in_centuries}
-use Rattle.sun_core.proofs.Elapsed.{by_dynamical}
-use Rattle.sun_core.proofs.Measured.{tabled, days_of}
-use Rattle.moon_core.proofs.Measured.{latitude_within}
+use Rattle.moon_core.proofs.MomentElements.{by_elements}
 use Rattle.moon_core.proofs.latitudes.latitude.Goals as goal
 
 pub returns-clause-leads : goal.returns-clause-leads
-unfolding latitude_of centuries_from in_centuries
-returns-clause-leads g c = λ w x k.
-    by_dynamical x (λ v. answer (latitude_at_of v)) (c.in_ok-moment.ensures.leads w x k)
-    (λ d r.
-    let days = c.sub-days.ensures.encloses.holds w d (constant (fraction_of NOON_2000)) r (c.from_frac.ensures.encloses.holds w r.deep) in
-    leads_answer (c.latitude_at.ensures.holds w (subtract d (constant (fraction_of NOON_2000))) k.deep days (c.mul_frac-c.ensures.encloses.holds w _ days)))
+unfolding latitude_of
+returns-clause-leads g c = λ w x h.
+    by_elements (λ v. answer (latitude_at_of v)) (c.in_ok-elements.ensures.leads w x h) (λ d k. leads_answer (c.latitude_at.ensures.holds w d k))
 
 pub returns-clause-measured : goal.returns-clause-measured
-unfolding in_centuries
-returns-clause-measured g c = λ v e b h.
-    let shown = g.E.Enclosure.shown in
-    let r : Reach = record { width = v + 2 ^ 17; bounds = tabled } in
-    let m = c.in_ok-moment.ensures.measured v e (omega (arith, b)) h in
-    let days = c.sub-days.ensures.encloses.narrow r (argument 0) (constant (fraction_of NOON_2000))
-    (measured_argument shown _ _ _ (v + 2 ^ 17) 0 c.in_ok-moment.moment m) (c.from_frac.ensures.encloses.narrow r) in
-    latitude_within shown _ v c.latitude_at.result e (c.latitude_at.ensures.narrow r days_of days (c.mul_frac-c.ensures.encloses.narrow r days_of days))
+returns-clause-measured g c = λ v e b h. c.latitude_at.ensures.measured v e (c.in_ok-elements.ensures.measured v e b h)

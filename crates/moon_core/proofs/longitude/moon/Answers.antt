@@ -1,48 +1,18 @@
-use Rattle.std.proofs.Common.{arith, ◌+◌, ◌*◌, ◌^◌}
-use Rattle.book_model.specs.numbers.Bounds.{Reach}
-use Rattle.book_model.specs.numbers.Expressions.{argument, remainder, subtract, constant}
-use Rattle.book_model.specs.numbers.Fractions.{fraction_of}
-use Rattle.book_model.specs.declared.site.Site.TheVariants.{MoonWrap}
-use Rattle.book_model.specs.declared.time_tables.TheConstants.{NOON_2000}
-use Rattle.book_model.specs.programs.Programs.{answer, cell, multiples}
-use Rattle.book_model.specs.sky.Moon.{moon_of, moon_longitude_of}
-use Rattle.book_model.specs.sky.Time.{in_centuries as centuries_from}
-use Rattle.sun_core.specs.Daily.{in_centuries}
-use Rattle.greatest_widths.proofs.Measuring.{measured_argument}
-use Rattle.sun_core.proofs.Elapsed.{by_dynamical}
-use Rattle.sun_core.proofs.Measured.{tabled, days_of}
-use Rattle.moon_core.proofs.Measured.{left_answer, longitude_within}
+use Rattle.std.proofs.Common.{arith}
+use Rattle.book_model.specs.sky.Moon.{moon_of}
+use Rattle.moon_core.specs.Elements.{reduced_longitude_of}
+use Rattle.moon_core.proofs.MomentElements.{by_elements}
 use Rattle.moon_core.proofs.longitude.moon.Goals as goal
 
 pub returns-clause-leads : goal.returns-clause-leads
-unfolding moon_of centuries_from in_centuries
-returns-clause-leads g c = λ w x h.
-    by_dynamical x (λ v. cell MoonWrap (multiples 360) (moon_longitude_of v) (λ q. answer (remainder 360 (moon_longitude_of v) q)))
-    (c.in_ok-moment.ensures.leads w x h)
-    (λ d r.
-    let days = c.sub-days.ensures.encloses.holds w d (constant (fraction_of NOON_2000)) r (c.from_frac.ensures.encloses.holds w r.deep) in
-    c.wrap_step.ensures.leads w (moon_longitude_of (in_centuries (subtract d (constant (fraction_of NOON_2000)))))
-    (c.longitude.ensures.holds w (subtract d (constant (fraction_of NOON_2000))) days (c.mul_frac-c.ensures.encloses.holds w _ days)))
+unfolding moon_of reduced_longitude_of
+returns-clause-leads g c = λ w x h. by_elements reduced_longitude_of (c.in_ok-elements.ensures.leads w x h) (λ d k. c.longitude_at.ensures.leads w d k)
 
 pub returns-clause-measured : goal.returns-clause-measured
-unfolding in_centuries
-returns-clause-measured g c = λ v e b h.
-    let shown = g.E.Enclosure.shown in
-    let r : Reach = record { width = v + 2 ^ 17; bounds = tabled } in
-    let m = c.in_ok-moment.ensures.measured v e (omega (arith, b)) h in
-    let days = c.sub-days.ensures.encloses.narrow r (argument 0) (constant (fraction_of NOON_2000))
-    (measured_argument shown _ _ _ (v + 2 ^ 17) 0 c.in_ok-moment.moment m) (c.from_frac.ensures.encloses.narrow r) in
-    let y = c.longitude.ensures.narrow r days_of days (c.mul_frac-c.ensures.encloses.narrow r days_of days) in
-    c.wrap_step.ensures.measured (20 * v + 2 ^ 36) e (omega (arith, b)) (longitude_within shown _ v c.longitude.result e y)
+returns-clause-measured g c = λ v e b h. c.longitude_at.ensures.measured v e b (c.in_ok-elements.ensures.measured v e (omega (arith, b)) h)
 
 pub returns-clause-wide : goal.returns-clause-wide
-unfolding in_centuries
-returns-clause-wide g c = λ v e b h.
-    let shown = g.E.Enclosure.shown in
-    let r : Reach = record { width = v + 2 ^ 17; bounds = tabled } in
-    let m = c.in_ok-moment.ensures.measured v e (omega (arith, b)) h in
-    let days = c.sub-days.ensures.encloses.narrow r (argument 0) (constant (fraction_of NOON_2000))
-    (measured_argument shown _ _ _ (v + 2 ^ 17) 0 c.in_ok-moment.moment m) (c.from_frac.ensures.encloses.narrow r) in
-    let y = c.longitude.ensures.narrow r days_of days (c.mul_frac-c.ensures.encloses.narrow r days_of days) in
-    left_answer shown _ 360 (20 * v + 2 ^ 36) c.longitude.result c.wrap_step.result e (omega arith) (longitude_within shown _ v c.longitude.result e y)
-    c.wrap_step.ensures.narrow
+returns-clause-wide g c = λ v e b h. c.longitude_at.ensures.wide v e b (c.in_ok-elements.ensures.measured v e (omega (arith, b)) h)
+
+pub returns-clause-open : goal.returns-clause-open
+returns-clause-open g c = c.longitude_at.ensures.elsewhere _

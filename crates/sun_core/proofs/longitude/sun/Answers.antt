@@ -30,5 +30,5 @@ returns-clause-measured g c = λ v e b h.
     let m = c.in_ok-moment.ensures.measured v e (omega (arith, b)) h in
     let days = c.sub-days.ensures.encloses.narrow r (argument 0) (constant (fraction_of NOON_2000))
     (measured_argument shown _ _ _ (v + 2 ^ 17) 0 c.in_ok-moment.moment m) (c.from_frac.ensures.encloses.narrow r) in
-    let y = c.longitude.ensures.narrow r days_of days (c.mul_frac-c.ensures.encloses.narrow r days_of days) in
+    let y = c.longitude.ensures.narrow (λ q. omega (arith, e, q)) r days_of days (c.mul_frac-c.ensures.encloses.narrow r days_of days) in
     c.wrap_step.ensures.measured (2 * v + 2 ^ 32) e (omega (arith, b)) (longitude_within shown _ v c.longitude.result e b y)

@@ -1,0 +1,7 @@
+pub mod FoundTurns
+pub mod NearTurns
+pub mod Products
+pub mod TableRows
+pub mod TermRows
+pub mod TermSpans
+pub mod TermSums

@@ -1,0 +1,3 @@
+pub mod Angles
+pub mod Multiples
+pub mod Tables

@@ -1,0 +1,139 @@
+//! Rows whose angles are sums of multiples of mean angles.
+ghost use Rattle.std.specs.Prelude.{◌≡◌, ◌≤◌, ◌*◌, ◌^◌, ℕ, ℤ, pos, neg_ℤ, ◌≤ℤ◌, ◌+ℤ◌, ◌-ℤ◌, ◌*ℤ◌, unsigned_abs};
+ghost use Rattle.exact_math.specs.Interval.{◌⊆◌};
+ghost use Rattle.book_model.specs.numbers.Depth.{DEPTH};
+ghost use Rattle.book_model.specs.numbers.Expressions.{Expression, World, value};
+ghost use Rattle.turn_sums.specs.Turning.{whole_turns};
+ghost use Rattle.multiple_sums.specs.declared.rows.Multiples.{Multiples};
+ghost use Rattle.multiple_sums.specs.Multiples.{IsSmallRow, IsTerm, around_93, factor_of, multiples_of, radius_of, sums_of, turns_of};
+
+use crate::mean::{MeanFactors, MeanTurns};
+use turn_sums::{low_64, sine_at_turn};
+
+/// A quarter of a turn, in 2⁻⁶⁴ turns.
+const QUARTER: i128 = 1 << 62;
+
+/// 1, which counts 2⁻³⁷.
+pub(crate) const ONE: u64 = 1 << 37;
+
+/// A row as it is summed: how many times it takes each mean angle, how many quarters of a turn its angle is ahead of their sum (none of
+/// a sine and one of a cosine), the power of the eccentricity's factor, and its size.
+#[derive(Clone, Copy)]
+pub struct Multiples {
+    pub elongation: i64,
+    pub sun_anomaly: i64,
+    pub moon_anomaly: i64,
+    pub latitude_argument: i64,
+    pub quarters: u64,
+    pub power: u64,
+    pub size: i64,
+}
+
+/// So many times an angle that counts 2⁻⁶⁴ turns.
+#[inline(always)]
+fn times(multiple: i64, turn: u64) -> i128
+    requires few { unsigned_abs multiple ≤ 8 }
+    ensures value { result ≡ multiple *ℤ pos turn }
+    ensures from { neg_ℤ (pos (2 ^ 67)) ≤ℤ result }
+    ensures to { result ≤ℤ pos (2 ^ 67) }
+{
+    i128::from(multiple) * i128::from(turn)
+}
+
+/// The sum of a row's multiples, in 2⁻⁶⁴ turns.
+#[inline(always)]
+fn turned(row: Multiples, turns: &MeanTurns) -> i128
+    requires small { IsSmallRow row }
+    ensures value { result ≡ multiples_of turns.now row }
+    ensures from { neg_ℤ (pos (2 ^ 70)) ≤ℤ result }
+    ensures to { result ≤ℤ pos (2 ^ 70) }
+{
+    times(row.elongation, turns.elongation.turn)
+        + times(row.sun_anomaly, turns.sun_anomaly.turn)
+        + times(row.moon_anomaly, turns.moon_anomaly.turn)
+        + times(row.latitude_argument, turns.latitude_argument.turn)
+}
+
+/// So many quarters of a turn, in 2⁻⁶⁴ turns.
+#[inline(always)]
+fn ahead(quarters: u64) -> i128
+    requires few { quarters ≤ 1 }
+    ensures value { result ≡ pos (quarters * 2 ^ 62) }
+    ensures small { result ≤ℤ pos (2 ^ 62) }
+{
+    i128::from(quarters) * QUARTER
+}
+
+/// The angle of a row, in 2⁻⁶⁴ turns, with whole turns left out.
+#[inline(always)]
+fn turn_of(row: Multiples, turns: &MeanTurns) -> u64
+    requires small { IsSmallRow row }
+    ensures value { pos result ≡ turns_of turns.now row
+        -ℤ whole_turns (turns_of turns.now row) *ℤ pos (2 ^ 64) }
+{
+    low_64(turned(row, turns) + ahead(row.quarters))
+}
+
+/// The power of the factor by which a row is multiplied, in 2⁻³⁷.
+#[inline(always)]
+fn factor(power: u64, factors: MeanFactors) -> u64
+    requires few { power ≤ 2 }
+    ensures value { result ≡ factor_of factors power }
+    ensures small { result ≤ 5 * 2 ^ 35 }
+{
+    if power == 0 {
+        return ONE;
+    }
+    if power == 1 {
+        return factors.first;
+    }
+    factors.second
+}
+
+/// A size times a factor.
+#[inline(always)]
+fn weight(size: i64, factor: u64) -> i64
+    requires size { unsigned_abs size ≤ 2 ^ 25 }
+    requires factor { factor ≤ 5 * 2 ^ 35 }
+    ensures value { result ≡ size *ℤ pos factor }
+    ensures from { neg_ℤ (pos (5 * 2 ^ 60)) ≤ℤ result }
+    ensures to { result ≤ℤ pos (5 * 2 ^ 60) }
+{
+    size * factor as i64
+}
+
+/// A weight times a sine.
+#[inline(always)]
+fn weighted(weight: i64, sine: i64) -> i128
+    requires from { neg_ℤ (pos (2 ^ 56)) ≤ℤ sine }
+    requires to { sine ≤ℤ pos (2 ^ 56) }
+    ensures value { result ≡ weight *ℤ sine }
+    ensures low { neg_ℤ (pos (2 ^ 119)) ≤ℤ result }
+    ensures high { result ≤ℤ pos (2 ^ 119) }
+{
+    i128::from(weight) * i128::from(sine)
+}
+
+/// What a row adds by the mean angles, in 2⁻⁹³ of its size.
+#[inline(always)]
+pub(crate) fn row_at(row: Multiples, turns: &MeanTurns) -> i128
+    requires small { IsSmallRow row }
+    ensures holds { (w : World) (u : ℕ) (x : Expression) → DEPTH ≤ w.depth
+        → IsTerm w u turns.now row x
+        → value w x ⊆ around_93 u result (radius_of turns.now (sums_of row)) }
+    ensures low { neg_ℤ (pos (2 ^ 119)) ≤ℤ result }
+    ensures high { result ≤ℤ pos (2 ^ 119) }
+{
+    let sine = sine_at_turn(turn_of(row, turns));
+    weighted(weight(row.size, factor(row.power, turns.factors)), sine)
+}
+
+/// A row of a table as it is summed for `S`: a table may have several sums, as the longitude's and the distance's are of the same rows.
+pub trait MultipleRow<S> {
+    /// The row as it is summed.
+    ghost row_of: { Self → Multiples };
+
+    /// The row as it is summed.
+    fn row(&self) -> Multiples
+        ensures value { result ≡ row_of self.now };
+}

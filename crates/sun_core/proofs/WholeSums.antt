@@ -1,0 +1,78 @@
+-- How wide the sum of the sun's waves is at the coarse scale, in whole numbers and row by row, and the longitude with it.
+use Rattle.std.proofs.Common.{◌≡◌, ℕ, ◌*◌, ◌^◌, arith, neg_ℤ, ℤ, pos, ◌-ℤ◌, ◌*ℤ◌, ◌≤ℤ◌}
+use Rattle.std.proofs.lemmas.Int.{ints}
+use Rattle.exact_math.specs.Interval.{Interval, between, ◌⊆◌}
+use Rattle.book_model.specs.declared.sun_tables.TheConstants.{SUN_UNIT_COARSELY, SUN_UNIT_FINELY}
+use Rattle.book_model.specs.numbers.Bounds.{Bound, bounded, Limits, Reach, IsNarrow, bound_of, limits_of, limits_36, spanned_bound}
+use Rattle.book_model.specs.numbers.Expressions.{Expression, argument, scale}
+use Rattle.book_model.specs.numbers.Fractions.{fraction_of}
+use Rattle.book_model.specs.numbers.Relations.{Narrow, Keeps}
+use Rattle.book_model.specs.programs.Leading.{units_of_56}
+use Rattle.book_model.proofs.Implying.{limits_at_36, settled}
+use Rattle.trig_series.proofs.SineLemmas.{span_keeps, kept_of, spans_of}
+use Rattle.turn_sums.specs.Turning.{IsNarrowSum}
+use Rattle.sun_core.specs.Daily.{in_centuries}
+use Rattle.sun_core.specs.Steps.{computed_periodic_of}
+use Rattle.sun_core.specs.Widths.{days_of_years, days_and_periodic, periodic_bound, turns_bound}
+use Rattle.sun_core.specs.declared.turns.TheConstants.{SUN_SLOPE, SUN_SIZES}
+use Rattle.sun_core.proofs.Reaches.{periodic_reaches, turns_reach}
+
+-- how far apart the ends of the days are
+days_apart : {E : Type 0} (shown : E → Interval) (l : Limits) (w : ℕ) (days : E) (a b : ℤ) → a ≤ℤ b → shown days ⊆ between (units_of_56 a) (units_of_56 b)
+    → between (units_of_56 a) (units_of_56 b) ⊆ shown days → Narrow shown l (record { width = w; bounds = days_of_years }) (argument 0) days
+    → ((b -ℤ a) *ℤ pos 256) ≤ℤ pos w
+unfolding Keeps bound_of IsNarrow
+days_apart shown l w days a b o g h n =
+    let k = kept_of _ _ _ _ w a b (span_keeps w (days_of_years 0) (shown days) a b o g h n.kept) in
+    omega (arith, ints, k.close)
+
+-- how far apart those of the sum are, and how far from 0
+turns_kept : (w : ℕ) (a b lo hi : ℤ) → IsNarrowSum SUN_SLOPE SUN_SIZES a b lo hi → lo ≤ℤ hi → ((b -ℤ a) *ℤ pos 256) ≤ℤ pos w
+    → IsNarrow w (bounded (neg_ℤ (pos (846764 * 2 ^ 32))) (pos (846764 * 2 ^ 32)) (7769 * 2 ^ 40) (2 ^ 43)) (between (units_of_56 lo) (units_of_56 hi))
+unfolding IsNarrow
+turns_kept w a b lo hi n o d =
+    spans_of _ _ _ _ w lo hi
+    (record {
+      low = omega (arith, ints, n.above);
+      high = omega (arith, ints, n.below);
+      order = o;
+      close = omega (arith, ints, n.narrow, d);
+    })
+
+pub turns_close : {E : Type 0} (shown : E → Interval) (l : Limits) (w : ℕ) (days sum : E) (a b lo hi : ℤ) → a ≤ℤ b → lo ≤ℤ hi
+    → shown days ⊆ between (units_of_56 a) (units_of_56 b) → between (units_of_56 a) (units_of_56 b) ⊆ shown days → IsNarrowSum SUN_SLOPE SUN_SIZES a b lo hi
+    → ((w : ℕ) (b : Bound) → IsNarrow w b (between (units_of_56 lo) (units_of_56 hi)) → IsNarrow w (spanned_bound l b) (shown sum))
+    → Narrow shown l (record { width = w; bounds = days_of_years }) (argument 0) days → IsNarrow w (turns_bound l) (shown sum)
+unfolding turns_bound
+turns_close shown l w days sum a b lo hi o p g h n f k = f w _ (turns_kept w a b lo hi n p (days_apart shown l w days a b o g h k))
+
+pub periodic_close : {E : Type 0} (shown : E → Interval) (n w : ℕ) (sum once y : E) → n ≡ 36 → IsNarrow w (turns_bound (limits_of n)) (shown sum)
+    → ((r : Reach) (x : Expression) → Narrow shown (limits_of n) r x sum → Narrow shown (limits_of n) r (scale (fraction_of SUN_UNIT_COARSELY) x) once)
+    → ((r : Reach) (x : Expression) → Narrow shown (limits_of n) r x once → Narrow shown (limits_of n) r (scale (fraction_of SUN_UNIT_FINELY) x) y)
+    → IsNarrow w periodic_bound (shown y)
+unfolding Keeps bound_of
+periodic_close shown n w sum once y e k f g =
+    let b : ℕ → Bound = λ i. turns_bound limits_36 in
+    let r : Reach = record { width = w; bounds = b } in
+    let z : Narrow shown (limits_of n) r (argument 0) sum = record { kept = rw (limits_at_36 n e) at k } in
+    settled shown n w b _ periodic_bound y e turns_reach (g r _ (f r (argument 0) z))
+
+pub rows_close : {E : Type 0} (shown : E → Interval) (n w : ℕ) (y : E) → n ≡ 36
+    → Narrow shown (limits_of n) (record { width = w; bounds = days_of_years }) (computed_periodic_of (argument 0)) y → IsNarrow w periodic_bound (shown y)
+rows_close shown n w y e h = settled shown n w days_of_years (computed_periodic_of (argument 0)) periodic_bound y e periodic_reaches h
+
+-- ---- the same days beside a second argument
+module _ {E : Type 0} (shown : E → Interval) (l : Limits) (w : ℕ) where
+  pub days_beside : (d : E) → Narrow shown l (record { width = w; bounds = days_of_years }) (argument 0) d
+      → Narrow shown l (record { width = w; bounds = days_and_periodic }) (argument 0) d
+  unfolding Keeps bound_of
+  days_beside d h = record { kept = h.kept }
+
+  pub centuries_beside : (c : E) → Narrow shown l (record { width = w; bounds = days_of_years }) (in_centuries (argument 0)) c
+      → Narrow shown l (record { width = w; bounds = days_and_periodic }) (in_centuries (argument 0)) c
+  unfolding Keeps bound_of in_centuries
+  centuries_beside c h = record { kept = h.kept }
+
+  pub periodic_beside : (p : E) → IsNarrow w periodic_bound (shown p) → Narrow shown l (record { width = w; bounds = days_and_periodic }) (argument 1) p
+  unfolding Keeps bound_of
+  periodic_beside p h = record { kept = h }

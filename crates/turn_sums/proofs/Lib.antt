@@ -1,0 +1,7 @@
+pub mod Spreads
+pub mod Edges
+pub mod Around
+pub mod WaveRows
+pub mod WaveSums
+pub mod WaveSpans
+pub mod Counts
