@@ -14,6 +14,7 @@ use std::process::ExitCode;
 /// What the program ends with where memory is wanted while the words are collected.
 const MEMORY: u8 = 5;
 
+// No run ends so.
 /// What the program ends with where the system doesn't hand over the words as text.
 const NO_WORDS: u8 = 8;
 

@@ -238,9 +238,9 @@ impl Evaluator for CoarseWhereClose {
 }
 
 /// What `convert` writes for a line whose fact coarse enclosures leave open, by ends that are near: the months since a new moon lie
-/// from two parts of 2⁻³⁶ below a whole number of months to one above.
+/// from two parts of 2⁻³⁶ below a whole number of months to that number.
 const OPEN_TEXT: &str = "calendrica 2 depth 40\n\
-    line 1 undecided phase-wrap 242 -2097152 1048576 fact phasis cairo 695106\n\
+    line 1 undecided phase-wrap 242 -2097152 0 fact phasis cairo 695106\n\
     end lines 1 facts 0\n";
 
 /// The same line as it is where the fact is decided.
@@ -250,8 +250,7 @@ const DECIDED_TEXT: &str = "calendrica 2 depth 40\n\
     end lines 1 facts 1\n";
 
 /// What `check` writes for it over coarse enclosures.
-const OPEN_VERDICT: &str =
-    "no 1 undecided phase-wrap 242 -2097152 1048576 fact phasis cairo 695106\n\
+const OPEN_VERDICT: &str = "no 1 undecided phase-wrap 242 -2097152 0 fact phasis cairo 695106\n\
     end yes 0 no 1 skip 0\n";
 
 #[test]

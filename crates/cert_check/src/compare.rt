@@ -30,6 +30,8 @@ fn first_difference(asked: &FactList, listed: &[Fact]) -> Option<u32>
     None
 }
 
+// A refusal is a text as a result is: one that is right gets `Yes`, and one for a result, or a
+// result for one, `Date`.
 /// Whether the text of a result is the line's.
 fn verdict_by_text(alloc: Global, found: Resolved, text: &[u8]) -> Result<Verdict, AllocError>
     ensures verdict { IfOk result (λ v. v ≡ spec.verdict_on_text found text.now) }

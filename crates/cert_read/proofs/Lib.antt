@@ -10,6 +10,7 @@ pub mod Rows
 pub mod RowTexts
 pub mod WordParts
 pub mod TakenWords
+pub mod OtherKeys
 pub mod FormsRead
 pub mod OtherForms
 pub mod ListedRead

@@ -36,7 +36,7 @@ same_rest : (n a b c d : ℕ) → a ≡ c → a * n + b ≡ c * n + d → b ≡ 
 same_rest n a b c d h e = omega (arith, rw h at e)
 
 -- facts of one row have one kind and one place
-same_row : (f g : Fact) → row_of f ≡ row_of g → (kind_number f.kind ≡ kind_number g.kind) × (place_number f.place ≡ place_number g.place)
+pub same_row : (f g : Fact) → row_of f ≡ row_of g → (kind_number f.kind ≡ kind_number g.kind) × (place_number f.place ≡ place_number g.place)
 same_row f g h =
     let p : place_number f.place < length PLACES = tag_below (variants place_type) (place_type.to f.place) in
     let q : place_number g.place < length PLACES = tag_below (variants place_type) (place_type.to g.place) in

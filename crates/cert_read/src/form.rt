@@ -147,6 +147,7 @@ fn listed_form(alloc: Global, number: u32, line: &[u8]) -> Result<Form, NoForm>
     Ok(Form::Line(number, line_with(echo, found, facts)))
 }
 
+// In any order: no word that the first three forms must hold can stand where a listed line's do.
 /// What follows the number of a line.
 #[tactic(auto, unfolding(crate::specs::Grammar::body_form))]
 fn body_form(alloc: Global, version: Version, number: u32, line: &[u8]) -> Result<Form, NoForm>

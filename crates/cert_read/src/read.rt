@@ -53,6 +53,8 @@ fn read_lines(alloc: Global, version: Version, bytes: &[u8]) -> Result<CertFile,
     }
 }
 
+// A file is judged by the rules of its version: what version 1 refused is refused in a file of it
+// still, and a line that was right then is right now.
 /// The file that the bytes are by the grammar; its version is the one whose header is their first line. `Bad` comes exactly
 /// where they are none, with the first line that breaks a rule and the first rule that it breaks, and `Memory` where memory
 /// runs out.

@@ -11,13 +11,16 @@ use std::collections::BTreeSet;
 use std::marker::Model;
 
 /// The place of a fact's kind and place among all pairs of a kind and a place.
-fn row_of(fact: Fact) -> usize
+pub fn row_of(fact: Fact) -> usize
     ensures row { result ≡ spec.row_of fact }
     ensures within { result < length kinds * length places }
 {
     fact.kind().number() * PLACES.len() + fact.place().number()
 }
 
+// 400,000 chosen facts took a hashed set a hundred seconds; a random key wants a source that can
+// fail. For 9,600,000 facts in order these sets take a quarter of its time, in three fifths of the
+// memory. Bits would serve the days that have a value alone.
 /// The facts that were seen: for each kind and place the days of which one was. The days stand in order, so that a look-up
 /// takes time by their number alone. A set that hashes takes as long as whoever writes a file wants: its hasher begins with
 /// a fixed number, and days can be chosen whose hashes are alike.

@@ -1,5 +1,5 @@
 //! The words of a printed line, taken one after another.
-ghost use Rattle.std.specs.Prelude.{◌≡◌, ◌≤ℤ◌, IfSome};
+ghost use Rattle.std.specs.Prelude.{◌≡◌, ◌≤ℤ◌, IfSome, IsTrue, None};
 ghost use Rattle.book_model.specs.declared.fact.TheConstants.{FIRST_FACT_DAY as first_day, LAST_FACT_DAY as last_day};
 ghost use Rattle.book_model.specs.lines.Lines as lines;
 ghost use Rattle.book_model.specs.lines.Lines.{words_of};
@@ -43,7 +43,7 @@ fn is_printable(byte: u8) -> bool
 }
 
 /// Whether a line is words of printable bytes with single spaces between them.
-pub(crate) fn is_spaced(line: &[u8]) -> bool
+pub fn is_spaced(line: &[u8]) -> bool
     ensures { result ≡ spec.is_spaced line.now }
 {
     let mut after_space = true;
@@ -77,13 +77,43 @@ pub(crate) fn word_at(line: &[u8]) -> Option<(&[u8], &[u8])>
     cut_word(line)
 }
 
-/// What follows this word.
+/// Whether the first word of what begins with a space begins with another byte than a key. Most keys that are looked for stand
+/// elsewhere, and this tells it without the word.
+#[inline(always)]
+fn begins_otherwise(line: &[u8], text: &[u8]) -> bool
+    ensures { IsTrue result → spec.key_at text.now (words_of line.now) ≡ None }
+{
+    let [space, first, _rest @ ..] = line else {
+        return false;
+    };
+    let [key, _others @ ..] = text else {
+        return false;
+    };
+    if *space == b' ' {
+        if is_printable(*first) {
+            return *first != *key;
+        }
+    }
+    false
+}
+
+/// The first word, where it is this one, and what follows it.
 #[tactic(auto, unfolding(crate::specs::Grammar::key_at))]
-pub(crate) fn key_at<'a>(line: &'a [u8], text: &[u8]) -> Option<&'a [u8]>
+fn whole_key_at<'a>(line: &'a [u8], text: &[u8]) -> Option<&'a [u8]>
     ensures { Gives (λ rest. words_of rest.now) result (spec.key_at text.now (words_of line.now)) }
 {
     let (word, rest) = word_at(line)?;
     if word == text { Some(rest) } else { None }
+}
+
+/// What follows this word.
+pub(crate) fn key_at<'a>(line: &'a [u8], text: &[u8]) -> Option<&'a [u8]>
+    ensures { Gives (λ rest. words_of rest.now) result (spec.key_at text.now (words_of line.now)) }
+{
+    if begins_otherwise(line, text) {
+        return None;
+    }
+    whole_key_at(line, text)
 }
 
 /// A counter, and what follows it.

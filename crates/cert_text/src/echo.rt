@@ -3,14 +3,18 @@ ghost use Rattle.std.specs.Prelude.{◌≡◌, IfOk};
 ghost use Rattle.book_model.specs.lines.Lines.{IsWord};
 ghost use Rattle.cert_text.specs.Echo.{Echo as EchoView, AreParts, first_part, second_part, third_part};
 
+use smallvec::SmallVec;
 use std::alloc::{AllocError, Global};
 use std::marker::Model;
 
+/// How many bytes of the words stand in the echo itself.
+const ROOM: usize = 32;
+
 /// The three words of an input line, as they were given: each is one byte or more from 0x21 to 0x7E. They stand in one text,
-/// without the spaces, so that an echo takes one allocation.
+/// without the spaces, so that an echo takes one allocation, and one of short words takes none.
 #[derive(Debug, Drop)]
 pub struct Echo {
-    text: Vec<u8>,
+    text: SmallVec<u8, ROOM>,
     /// Where the date begins.
     date: usize,
     /// Where the last word begins.
@@ -43,7 +47,7 @@ impl Echo {
             .len()
             .saturating_add(date.len())
             .saturating_add(to.len());
-        let mut text = Vec::with_capacity(alloc, room)?;
+        let mut text = SmallVec::with_capacity(alloc, room)?;
         text.extend_from_slice(from)?;
         let date_start = text.len();
         text.extend_from_slice(date)?;

@@ -4,6 +4,9 @@ use crate::lists::{Numbers, Word};
 use book_model::{Fact, Site, Undecided};
 use oracle_core::FactValues;
 
+// A line that lists facts never has another form, whatever its words: no word that the last three
+// forms must hold can stand where a listed line's do. A kind named `refused`, or a place named
+// `facts`, would break this.
 /// A line of a printed file without its number.
 #[derive(Debug, Drop)]
 pub enum CertLine {
@@ -13,6 +16,8 @@ pub enum CertLine {
         result: Word,
         facts: Numbers,
     },
+    // With its facts, since they say why; the same of the next. Neither is a result, and `convert`
+    // ends with 1 for it.
     /// The computed day (R.D.) is out of range.
     TooFar {
         echo: Echo,

@@ -1,13 +1,22 @@
 //! Lists of bytes and of numbers, which contracts see as lists.
 ghost use Rattle.std.specs.Prelude.{◌≡◌, ◌++◌, ◌∷◌, [], ℕ, List, IfOk, OnOk, OnErr};
 
+use smallvec::SmallVec;
 use std::alloc::{AllocError, Global};
 use std::marker::Model;
 
-/// A word: a list of bytes.
+/// How many bytes of a word stand in the word itself: no date and no value that a line shows has more.
+pub(crate) const WORD_ROOM: usize = 24;
+
+/// How many numbers stand in their list itself: most lines rest on no more facts.
+const NUMBERS_ROOM: usize = 4;
+
+// A word is made whole and read as bytes; it and `Numbers` have what callers need of a list, and no
+// more.
+/// A word: a list of bytes. A short one takes no memory of its own.
 #[derive(Debug, Drop)]
 pub struct Word {
-    bytes: Vec<u8>,
+    bytes: SmallVec<u8, WORD_ROOM>,
 }
 
 impl Model for Word {
@@ -22,12 +31,12 @@ impl Word {
         ensures bytes { IfOk result (λ w. w ≡ bytes.now) }
     {
         Ok(Word {
-            bytes: Vec::from_slice(alloc, bytes)?,
+            bytes: SmallVec::from_slice(alloc, bytes)?,
         })
     }
 
     /// The word that holds these bytes.
-    pub(crate) fn with(bytes: Vec<u8>) -> Word
+    pub(crate) fn with(bytes: SmallVec<u8, WORD_ROOM>) -> Word
         ensures bytes { result ≡ bytes.items }
     {
         Word { bytes }
@@ -41,10 +50,10 @@ impl Word {
     }
 }
 
-/// A list of the numbers of facts.
+/// A list of the numbers of facts. A short one takes no memory of its own.
 #[derive(Debug, Drop)]
 pub struct Numbers {
-    items: Vec<u32>,
+    items: SmallVec<u32, NUMBERS_ROOM>,
 }
 
 impl Model for Numbers {
@@ -59,7 +68,7 @@ impl Numbers {
         ensures empty { result ≡ [] }
     {
         Numbers {
-            items: Vec::new(alloc),
+            items: SmallVec::new(alloc),
         }
     }
 

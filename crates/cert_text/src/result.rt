@@ -5,10 +5,11 @@ ghost use Rattle.std.specs.List.{flat_map};
 ghost use Rattle.book_model.specs.lines.Text as spec;
 ghost use Rattle.byte_streams.specs.Stream.{Writes};
 
+use crate::brief::Brief;
 use crate::lists::Word;
 use crate::write::{REFUSED_5, write_no_date, write_too_far};
 use book_model::{Calendar, Fields, Meaning, Resolved, ToWord};
-use byte_streams::{Failed, Gathered, Sink, decimal, write_all, write_parts};
+use byte_streams::{Failed, Sink, decimal, write_all, write_parts};
 use itoa::Buffer;
 use std::alloc::{AllocError, Global};
 
@@ -165,9 +166,10 @@ pub fn write_result<K: Sink>(sink: &mut K, resolved: Resolved) -> Result<(), Fai
 pub fn result_word(alloc: Global, resolved: Resolved) -> Result<Word, AllocError>
     ensures word { IfOk result (λ w. w ≡ spec.result_text resolved) }
 {
-    let mut gathered = Gathered::new(alloc);
+    let mut gathered = Brief::new(alloc);
     match write_result(&mut gathered, resolved) {
-        Ok(()) => Ok(Word::with(gathered.into_bytes())),
+        Ok(()) => Ok(gathered.into_word()),
+        // What is gathered fails only where memory runs out.
         Err(_) => Err(AllocError),
     }
 }
@@ -176,9 +178,9 @@ pub fn result_word(alloc: Global, resolved: Resolved) -> Result<Word, AllocError
 pub fn date_word(alloc: Global, date: &Fields) -> Result<Word, AllocError>
     ensures word { IfOk result (λ w. w ≡ spec.dashed_text date.now) }
 {
-    let mut gathered = Gathered::new(alloc);
+    let mut gathered = Brief::new(alloc);
     match write_dashed(&mut gathered, date) {
-        Ok(()) => Ok(Word::with(gathered.into_bytes())),
+        Ok(()) => Ok(gathered.into_word()),
         Err(_) => Err(AllocError),
     }
 }
@@ -187,9 +189,9 @@ pub fn date_word(alloc: Global, date: &Fields) -> Result<Word, AllocError>
 pub fn too_far_word(alloc: Global, day: i64) -> Result<Word, AllocError>
     ensures word { IfOk result (λ w. w ≡ spec.too_far_text day) }
 {
-    let mut gathered = Gathered::new(alloc);
+    let mut gathered = Brief::new(alloc);
     match write_too_far(&mut gathered, day) {
-        Ok(()) => Ok(Word::with(gathered.into_bytes())),
+        Ok(()) => Ok(gathered.into_word()),
         Err(_) => Err(AllocError),
     }
 }
@@ -198,9 +200,9 @@ pub fn too_far_word(alloc: Global, day: i64) -> Result<Word, AllocError>
 pub fn no_date_word(alloc: Global, back: &[u8]) -> Result<Word, AllocError>
     ensures word { IfOk result (λ w. w ≡ spec.no_date_text back.now) }
 {
-    let mut gathered = Gathered::new(alloc);
+    let mut gathered = Brief::new(alloc);
     match write_no_date(&mut gathered, back) {
-        Ok(()) => Ok(Word::with(gathered.into_bytes())),
+        Ok(()) => Ok(gathered.into_word()),
         Err(_) => Err(AllocError),
     }
 }

@@ -15,3 +15,4 @@ pub mod DateSpelling
 pub mod TextRead
 pub mod AskedWords
 pub mod EasternDates
+pub mod FirstPlaces

@@ -22,6 +22,7 @@ fn fixed_day(date: &Fields) -> i64
     i64::from(date.field(0))
 }
 
+// Of the two calendars whose days are known without any fact; their rows refuse no year.
 /// Whether the day of a date lies in the reach of a line, from its first to its last day, where it is known without any fact; `None`
 /// where the month of the date hasn't this day.
 fn has_day_in_reach(reach: (i64, i64), calendar: Calendar, date: &Fields) -> Option<bool>
@@ -36,6 +37,8 @@ fn has_day_in_reach(reach: (i64, i64), calendar: Calendar, date: &Fields) -> Opt
     }
 }
 
+// One rule for all calendars. Of a date whose day is found by facts the year is told first,
+// `refused 4`, and the day once it is computed, `refused 4 DAY`, with the facts that say so.
 /// A date of a calendar itself, where it is one that a line of a version answers, which may name the days from the first to the last
 /// of its reach, as far as that can be told without any fact: `Field` where the calendar can have no such date, `Range` where it is
 /// out of range.
@@ -141,6 +144,7 @@ fn fields_at<O: Oracle>(oracle: &mut O, place: Place, day: i64) -> Result<Fields
     fields_on::<ChineseDate, Moved<O>>(&mut Moved::new(oracle, place), day)
 }
 
+// The calendars stand here once, for the day of a date and for the date of a day.
 /// What is given in the Gregorian calendar, in day numbers, by a call that is told the date's type of any other calendar, or by
 /// one that is told the place of a calendar of the Chinese rules.
 macro_rules! by_calendar {

@@ -131,6 +131,8 @@ fn are_short(words: &ThreeWords<'_>) -> bool
     length.saturating_add(words.to.len()) <= LONGEST_LINE - 2
 }
 
+// What the line with single spaces asks, so that `check` puts no line together again. That the
+// words are of printable bytes `Echo` says by its type.
 /// What three words ask, each of one byte or more from 0x21 to 0x7E, or the first rule of a version that their line
 /// breaks, in which single spaces stand between them: `Syntax` where it has more than 200 bytes; `Calendar` for a word that
 /// the version hasn't; `Field` where the calendar can have no such date; `Range` for a date that the version doesn't answer, as

@@ -23,6 +23,9 @@ fn first_day_of(meaning: Meaning) -> i64
     }
 }
 
+// Of all calendars the French alone has a first day within the versions' range. A line whose FROM
+// is a fact is told by the day of its Gregorian date, though the day that the fact names might lie
+// later.
 /// The first and the last day (R.D.) that a line of a version may name, by the words before and after its date.
 pub(crate) fn reach_of(version: Version, from: FromWord, to: ToWord) -> (i64, i64)
     ensures reach { result ≡ spec.reach_of version from to }

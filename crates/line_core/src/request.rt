@@ -6,6 +6,7 @@ use crate::dates::checked_date;
 use crate::reach::reach_of;
 use book_model::{Request, Rule, Version};
 
+// A request tells its line (`laws::text_is_read`), so this is the check of words and date alone.
 /// A request itself, or the first rule of a version that its line breaks: `Calendar` for a word that the version hasn't; `Field`
 /// where the calendar can have no such date; `Range` for a date that the version doesn't answer, as far as that can be told
 /// without any fact.

@@ -92,6 +92,9 @@ fn confirm<O: Oracle>(
     }
 }
 
+// The own date is taken after the range check and before TO: so a line that is refused with a date
+// lists no fact of TO. A Gregorian date is never confirmed, since its check says that the month has
+// the day.
 /// What a day (R.D.) within the range comes to that the date of a request names: it is confirmed where the calendar has
 /// dates that no day has. It stops where the oracle stops.
 #[tactic(auto, using(oracle_core::proofs::Inquiring::asking), unfolding(book_model::specs::lines::LineRules::result_within))]

@@ -2,13 +2,14 @@
 ghost use Rattle.std.specs.Prelude.{◌≡◌, ◌<◌, ◌≤◌, ◌+◌, [], ◌∷◌, List, ℕ, ◌==◌, length, map, position, IfOk, MatchOption};
 ghost use Rattle.book_model.specs.lines.Lines as spec;
 
+use memchr::memchr;
 use std::alloc::{AllocError, Global};
 
 /// Where the first line feed stands.
 fn first_end(bytes: &[u8]) -> Option<usize>
     ensures { result ≡ position (λ b. b == 10) bytes.now }
 {
-    bytes.iter().position(|byte| *byte == b'\n')
+    memchr(b'\n', bytes)
 }
 
 /// The first line without its line feed, and what follows it.

@@ -1,6 +1,6 @@
 -- Facts that are kept with true values.
 use Rattle.std.proofs.Common.{◌≡◌, ℕ, suc, ◌+◌, ◌<◌, Bool, true, false, cond, not, refl, List, [], ◌∷◌, ◌++◌, length, get_or, ℤ, arith, ap, sym}
-use Rattle.std.specs.Prelude.{Some}
+use Rattle.std.specs.Prelude.{Option, Some}
 use Rattle.std.specs.List.{list_any, position_or_len, position}
 use Rattle.book_model.specs.declared.fact.Fact.{Fact}
 use Rattle.book_model.specs.calendars.Inquiries.{fact_eq, with_fact}
@@ -46,15 +46,18 @@ kept_value es f i d h all =
     let p = found_at (fact_eq f) (facts_of es) i h in
     rw p.same (at_place es f d p.before_end all)
 
--- facts and pairs that agree do so with one more
-pub keeps_agreeing : (asked now_asked : List Fact) (es now : List (Fact × ℤ)) (f : Fact) (v : ℤ) → asked ≡ facts_of es → list_any (fact_eq f) (facts_of es)
-    ≡ false → now_asked ≡ with_fact asked f
-    → now ≡ es ++ (f, v) ∷ [] → AllStand es → StandsWith f v → (now_asked ≡ facts_of now) × AllStand now
-keeps_agreeing asked now_asked es now f v agree new noted pushed all here =
-    rw pushed (
-      (let e : facts_of es ++ f ∷ [] ≡ facts_of (es ++ (f, v) ∷ []) = sym (facts_of_push es f v) in rw (noted, agree, new) e),
-      stand_push es f v all here,
-    )
+-- pairs to which a true one is added
+pub stand_pushed : (es now : List (Fact × ℤ)) (f : Fact) (v : ℤ) → now ≡ es ++ (f, v) ∷ [] → AllStand es → StandsWith f v → AllStand now
+stand_pushed es now f v pushed all here = rw pushed (stand_push es f v all here)
+
+-- a fact stands among pairs where it stands among their facts
+pub place_among_facts : (es : List (Fact × ℤ)) (f : Fact) (place : Option ℕ) → place ≡ position (λ pair. fact_eq f pair.0) es
+    → place ≡ position (fact_eq f) (facts_of es)
+place_among_facts es f place h = rw (as_many es, ← same_place es) h
+  where
+    same_place : (es : List (Fact × ℤ)) → position_or_len (λ e. fact_eq f e.0) es ≡ position_or_len (fact_eq f) (facts_of es)
+    same_place [] = refl
+    same_place (e ∷ es) = ap (λ n. cond (not (fact_eq f e.0)) (1 + n) 0) (same_place es)
 
 -- the facts of the pairs with one more
 pub added_fact : (es now : List (Fact × ℤ)) (f : Fact) (v : ℤ) → list_any (fact_eq f) (facts_of es) ≡ false → now ≡ es ++ (f, v) ∷ [] → facts_of now
@@ -66,15 +69,15 @@ pub already_there : (fs : List Fact) (f : Fact) (i : ℕ) → Some i ≡ positio
 already_there fs f i h = rw (there (fact_eq f) fs i h) refl
 
 -- the place of a fact is one of the pairs
-pub place_within : (es : List (Fact × ℤ)) (asked : List Fact) (f : Fact) (i : ℕ) → asked ≡ facts_of es → Some i ≡ position (fact_eq f) asked → i < length es
-place_within es asked f i agree h =
-    let p = found_at (fact_eq f) asked i h in
-    let n : length asked ≡ length es = rw agree (as_many es) in
+pub place_within : (es : List (Fact × ℤ)) (f : Fact) (i : ℕ) → Some i ≡ position (fact_eq f) (facts_of es) → i < length es
+place_within es f i h =
+    let p = found_at (fact_eq f) (facts_of es) i h in
+    let n : length (facts_of es) ≡ length es = as_many es in
     omega arith
 
 -- the value of the pair at the place of a fact stands with it
-pub kept_item : (es : List (Fact × ℤ)) (asked : List Fact) (f : Fact) (i : ℕ) (e : Fact × ℤ) → asked ≡ facts_of es → Some i ≡ position (fact_eq f) asked
-    → Some e ≡ slice_get es i → AllStand es → StandsWith f e.1
-kept_item es asked f i e agree h item all =
+pub kept_item : (es : List (Fact × ℤ)) (f : Fact) (i : ℕ) (e : Fact × ℤ) → Some i ≡ position (fact_eq f) (facts_of es) → Some e ≡ slice_get es i → AllStand es
+    → StandsWith f e.1
+kept_item es f i e h item all =
     let same : get_or es i e ≡ e = get_or_from_slice_get es i e e (sym item) in
-    rw same at (kept_value es f i e (rw agree at h) all)
+    rw same at (kept_value es f i e h all)

@@ -1,8 +1,7 @@
 -- Facts that are among facts, and their places.
-use Rattle.std.proofs.Common.{◌≡◌, ℕ, suc, ◌+◌, ◌-◌, ◌<◌, ◌≤◌, Bool, true, false, cond, not, ◌||◌, refl, List, [], ◌∷◌, ◌++◌, length, take, arith, nat_lt, ap}
+use Rattle.std.proofs.Common.{◌≡◌, ℕ, ◌+◌, ◌<◌, ◌≤◌, Bool, true, false, cond, not, ◌||◌, refl, List, [], ◌∷◌, length, arith, nat_lt}
 use Rattle.std.specs.Prelude.{Some, None}
 use Rattle.std.specs.List.{list_any, position_or_len, position}
-use Rattle.std.proofs.Math.Seq.{take-append_seam}
 use borrow.Author.Tests.{ltb-true, ltb-false}
 
 -- a first place that is found is before the end
@@ -53,17 +52,3 @@ module _ {X : Type 0} (p : X → Bool) where
   -- what has no place isn't there
   pub not_there : (xs : List X) → None ≡ position p xs → list_any p xs ≡ false
   not_there xs h = none_before xs (not_found xs h)
-
--- all but the last of a list with one more
-pub front_of_push : {X : Type 0} (xs : List X) (x : X) → take (length (xs ++ x ∷ []) - 1) (xs ++ x ∷ []) ≡ xs
-front_of_push xs x =
-    let n : length (xs ++ x ∷ []) - 1 ≡ length xs = length_front xs x in
-    rw n (take-append_seam xs (x ∷ []))
-  where
-    length_front : {X : Type 0} (xs : List X) (x : X) → length (xs ++ x ∷ []) - 1 ≡ length xs
-    length_front [] x = refl
-    length_front (y ∷ xs) x = let e : length (xs ++ x ∷ []) ≡ suc (length xs) = longer xs x in omega arith
-      where
-        longer : {X : Type 0} (xs : List X) (x : X) → length (xs ++ x ∷ []) ≡ suc (length xs)
-        longer [] x = refl
-        longer (y ∷ xs) x = ap suc (longer xs x)

@@ -8,18 +8,18 @@ ghost use Rattle.oracle_core.specs.Inquiring.{Inquires};
 ghost use Rattle.oracle_core.specs.Oracles.{after_pairs, by_evaluator, one_by_evaluator};
 ghost use Rattle.oracle_core.specs.Pairs.{StandsWith, AllStand, facts_of};
 
-use crate::noted::Noted;
-use crate::{Answer, Evaluator, FactList, FactValues, Oracle, Stop};
+use crate::noted::place_among_pairs;
+use crate::{Answer, Evaluator, FactValues, Oracle, Stop};
 use book_model::Fact;
 use std::alloc::{AllocError, Global};
 use std::marker::Model;
 
+// One list, so that a line whose rule asks few facts takes one allocation for them.
 /// Answers facts by an evaluator, and keeps each fact that was answered with its value, in order of first use. A
 /// fact that is kept isn't evaluated again.
 #[derive(Drop)]
 pub struct Asking<'a, E: Evaluator> {
     evaluator: &'a E,
-    asked: Noted,
     kept: FactValues,
 }
 
@@ -28,7 +28,7 @@ impl<'a, E: Evaluator> Model for Asking<'a, E> {
 
     ghost view = { λ a. a.kept };
 
-    ghost invariant = { λ a. (a.asked ≡ facts_of a.kept) × AllStand a.kept };
+    ghost invariant = { λ a. AllStand a.kept };
 }
 
 impl<'a, E: Evaluator> Asking<'a, E> {
@@ -38,16 +38,15 @@ impl<'a, E: Evaluator> Asking<'a, E> {
     {
         Asking {
             evaluator,
-            asked: Noted::new(alloc),
             kept: FactValues::new(alloc),
         }
     }
 
-    /// The facts that were answered, each once, in order of first use.
-    pub fn asked(&self) -> &FactList
-        ensures facts { result.now ≡ facts_of self.now }
+    /// The facts that were answered, with their values, each once, in order of first use.
+    pub fn asked(&self) -> &FactValues
+        ensures pairs { result.now ≡ self.now }
     {
-        self.asked.list()
+        &self.kept
     }
 
     /// The facts that were answered, with their values, in order of first use.
@@ -66,13 +65,7 @@ impl<'a, E: Evaluator> Asking<'a, E> {
         ensures err { OnErr result (self.new ≡ self.old) }
     {
         self.kept.push((fact, value))?;
-        match self.asked.note(fact) {
-            Ok(()) => Ok(()),
-            Err(error) => {
-                self.kept.forget_last();
-                Err(error)
-            }
-        }
+        Ok(())
     }
 
     /// The value of a fact that isn't kept yet, by the evaluator; then it is kept. A stop changes nothing.
@@ -103,7 +96,9 @@ impl<'a, E: Evaluator> Oracle for Asking<'a, E> {
     ghost one_value = { one_by_evaluator };
 
     fn ask(&mut self, fact: Fact) -> Result<i64, Stop> {
-        match self.asked.place(fact) {
+        match place_among_pairs(self.kept.entries(), fact) {
+            // Never a stop again at a fact that was asked, for want of memory either: its value is
+            // kept.
             Some(place) => Ok(self.kept.item(place).1),
             None => self.evaluate(fact),
         }

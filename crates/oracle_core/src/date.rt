@@ -8,6 +8,8 @@ ghost use Rattle.oracle_core.specs.Asking.{Asks, AsksAs};
 use crate::{Oracle, Stop};
 use book_model::Fields;
 
+// Gregorian dates and day numbers aren't among them: their days are known without any fact, and ask
+// no oracle.
 /// A date of a calendar, whose day is found by facts.
 pub trait CalendarDate: Copy + Drop {
     /// The calendar.
@@ -20,6 +22,9 @@ pub trait CalendarDate: Copy + Drop {
     fn fields(self) -> Fields
         ensures fields { result ≡ fields_of self };
 
+    // It asks for fields that the calendar may have, of a year that some version answers, and
+    // `of_day` for a day whose date the calendar tells: both read the calendar's row, so no
+    // condition has a number of a range.
     /// The day (R.D.) that the fields of a date name. It stops where the oracle stops.
     fn day_by<O: Oracle>(oracle: &mut O, fields: &Fields) -> Result<i64, Stop>
         requires askable { IsAskable calendar fields.now }

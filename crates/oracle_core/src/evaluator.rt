@@ -1,4 +1,6 @@
 //! What an evaluator answers, and when its answer is right.
+//!
+//! The contract stands below the code that evaluates, so that an oracle over any evaluator is proved once.
 use book_model::{Fact, Site, Undecided};
 
 /// The answer for a fact: its value, a test that the enclosures leave open, or the site where it has no value.

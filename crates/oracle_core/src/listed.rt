@@ -62,8 +62,11 @@ impl<'a> Oracle for Listed<'a> {
 
     fn ask(&mut self, fact: Fact) -> Result<i64, Stop> {
         match place_among(self.facts, fact) {
+            // The first value that stands beside the fact. The facts of a file are distinct, so it
+            // is the only one; a law of the trait can't see that.
             Some(place) => {
                 let value = self.values[place];
+                // It wants memory for a fact that it notes for the first time alone.
                 self.asked.note(fact)?;
                 Ok(value)
             }

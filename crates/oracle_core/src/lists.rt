@@ -1,5 +1,5 @@
 //! Lists of facts, of facts with their values, and of answers, which contracts see as lists.
-ghost use Rattle.std.specs.Prelude.{◌≡◌, ◌<◌, ◌-◌, ◌++◌, [], ◌∷◌, ℤ, List, Some, length, take, slice_get, OnOk, OnErr};
+ghost use Rattle.std.specs.Prelude.{◌≡◌, ◌<◌, ◌++◌, [], ◌∷◌, ℤ, List, Some, length, slice_get, OnOk, OnErr};
 ghost use Rattle.book_model.specs.declared.fact.Fact.{Fact};
 ghost use Rattle.oracle_core.specs.declared.evaluator.Answer.{Answer};
 
@@ -113,13 +113,6 @@ impl FactValues {
         ensures entries { result.now ≡ self.now }
     {
         &self.pairs
-    }
-
-    /// Takes the last item away, if there is one.
-    pub(crate) fn forget_last(&mut self)
-        ensures front { self.new ≡ take (length self.old - 1) self.old }
-    {
-        self.pairs.pop();
     }
 }
 

@@ -22,7 +22,16 @@ fn is_same(one: Fact, other: Fact) -> bool
 pub(crate) fn place_among(facts: &[Fact], fact: Fact) -> Option<usize>
     ensures place { result ≡ position (fact_eq fact) facts.now }
 {
+    // 41 facts were the most in the lines that were tried. Facts of thousands of requests in one
+    // oracle would be slow; the program makes one oracle for each line.
     facts.iter().position(|other| is_same(fact, *other))
+}
+
+/// Where a fact stands among facts with their values, if it does.
+pub(crate) fn place_among_pairs(pairs: &[(Fact, i64)], fact: Fact) -> Option<usize>
+    ensures place { result ≡ position (λ pair. fact_eq fact pair.0) pairs.now }
+{
+    pairs.iter().position(|pair| is_same(fact, pair.0))
 }
 
 /// Facts, each once, in order of first use.

@@ -33,10 +33,14 @@ impl<T: Drop> From<AllocFailed<T>> for Stop {
     }
 }
 
+// One relation, `Inquires`, says what a call that asks comes to, for an answer and a stop alike, by
+// the states before and after; it joins call by call, as a rule's definition does by `and_then`.
 /// Answers facts. Each fact is kept under a fact, mostly itself, and has at most one value.
 pub trait Oracle {
     ghost use Rattle.oracle_core.specs.Inquiring.{Meaning, State, Inquires};
 
+    // A type of its own, so that values, keeping and stops are one function of it (`meaning`), and
+    // a call has one clause in place of one for each.
     /// What the oracle knows, which never changes.
     ghost Known: { Type 0 };
 

@@ -1,3 +1,5 @@
+pub mod BlockLemmas
+pub mod NumberLemmas
 pub mod TextLemmas
 pub mod RightLemmas
 pub mod RowLemmas
@@ -5,3 +7,4 @@ pub mod Marks
 pub mod PrintedLemmas
 pub mod EchoLemmas
 pub mod RenewLemmas
+pub mod SpacedLines

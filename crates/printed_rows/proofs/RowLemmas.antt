@@ -1,7 +1,5 @@
 -- What rows ask is what their lines ask.
-use Rattle.std.proofs.Common.{◌≡◌, ℕ, zero, suc, ◌<◌, Bool, false, List, [], ◌∷◌, length, get_or, map, append_assoc, refl, ap, arith}
-use Rattle.std.specs.List.{list_any, position_or_len}
-use Rattle.std.specs.Prelude.{◌||◌, ◌+◌, not, true, if◌then◌else◌, IsTrue}
+use Rattle.std.proofs.Common.{◌≡◌, ℕ, zero, suc, ◌<◌, List, [], ◌∷◌, length, get_or, map, append_assoc, refl, ap, arith}
 use Rattle.book_model.specs.declared.request.Request.{Request}
 use Rattle.book_model.specs.declared.version.TheConstants.{WRITTEN}
 use Rattle.book_model.specs.lines.Requests.{request_of, checked_request, AreSpelled, IsSpelled}
@@ -41,21 +39,3 @@ pub map_at : {X Y : Type 0} (f : X → Y) (xs : List X) (i : ℕ) (d : X) (e : Y
 map_at f [] i d e within = absurd (omega arith)
 map_at f (x ∷ xs) zero d e within = refl
 map_at f (x ∷ xs) (suc i) d e within = map_at f xs i d e (omega arith)
-
--- where none passes, the place is the length
-pub none_placed : {X : Type 0} (p : X → Bool) (xs : List X) → list_any p xs ≡ false → position_or_len p xs ≡ length xs
-none_placed p [] h = refl
-none_placed p (x ∷ xs) h = step (p x) (list_any p xs) h (none_placed p xs)
-  where
-    step : (t u : Bool) → (t || u) ≡ false → (u ≡ false → position_or_len p xs ≡ length xs) → (if not t then 1 + position_or_len p xs else 0) ≡ length (x ∷ xs)
-    step true u h rest = absurd (cc)
-    step false u h rest = omega (arith, rest h)
-
--- what is new among others gets the number that follows their count
-pub new_is_last : {X : Type 0} (p : X → Bool) (xs : List X) (is_new : Bool) (i n : ℕ) → is_new ≡ not (list_any p xs) → i ≡ position_or_len p xs
-    → n ≡ i + 1 → IsTrue is_new → n ≡ length xs + 1
-new_is_last p xs is_new i n new place next holds = by (list_any p xs) refl
-  where
-    by : (t : Bool) → list_any p xs ≡ t → n ≡ length xs + 1
-    by true any = absurd (cc)
-    by false any = omega (arith, place, next, none_placed p xs any)

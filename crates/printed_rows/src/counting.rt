@@ -10,12 +10,12 @@ ghost use Rattle.printed_rows.specs.Counting as spec;
 ghost use Rattle.printed_rows.specs.Rows.{AreSpelledRows, lines_in};
 ghost use Rattle.printed_rows.specs.Writing.{Performs};
 
+use crate::numbering::{NumberedFacts, number_fact};
 use crate::outcome::{all_found, is_found, is_shown, outcomes_of};
 use crate::rows::Rows;
 use crate::text::WriteStop;
 use book_model::Fact;
 use byte_streams::{Failed, Gathered, Sink, decimal, write_all, write_parts};
-use indexmap::IndexSet;
 use itoa::Buffer;
 use jobs_core::{Gate, Halt, Outcome, Tools};
 use oracle_core::{Evaluator, FactValues};
@@ -32,6 +32,8 @@ enum OutcomeKind {
     Refused,
 }
 
+// A line that is refused with a day or a date is no result, and is counted once; its facts are
+// facts of the text.
 /// Whether an outcome is a refusal, by the line itself or by computing.
 fn is_refused(outcome: &Outcome) -> bool
     ensures refused { result ≡ spec.is_refused (line_outcome outcome.now) }
@@ -113,6 +115,8 @@ struct Tally {
     refused: usize,
 }
 
+// `rayon` sets the number of its threads by the processors; a piece is a part for each job at
+// least.
 /// The shortest piece of a list that is counted by a thread of its own.
 const SHORTEST_PIECE: usize = 1024;
 
@@ -136,16 +140,16 @@ fn tally_of<R: Threads + Sync>(rt: &R, outcomes: &[Outcome], jobs: usize) -> Tal
 }
 
 /// Adds a fact where it is new. The error comes where memory runs out.
-fn see_fact(seen: &mut IndexSet<Fact>, fact: Fact) -> Result<(), AllocError>
-    ensures seen { OnOk result (seen.new.keys ≡ with_fact seen.old.keys fact) }
+fn see_fact(seen: &mut NumberedFacts, fact: Fact) -> Result<(), AllocError>
+    ensures seen { OnOk result (seen.new ≡ with_fact seen.old fact) }
 {
-    seen.insert_full(fact)?;
+    number_fact(seen, fact)?;
     Ok(())
 }
 
 /// Adds the facts that are new. The error comes where memory runs out.
-fn see_facts(seen: &mut IndexSet<Fact>, facts: &FactValues) -> Result<(), AllocError>
-    ensures seen { OnOk result (seen.new.keys ≡ with_facts seen.old.keys facts.now) }
+fn see_facts(seen: &mut NumberedFacts, facts: &FactValues) -> Result<(), AllocError>
+    ensures seen { OnOk result (seen.new ≡ with_facts seen.old facts.now) }
 {
     for entry in facts.entries() {
         see_fact(seen, entry.0)?;
@@ -154,8 +158,8 @@ fn see_facts(seen: &mut IndexSet<Fact>, facts: &FactValues) -> Result<(), AllocE
 }
 
 /// Adds the facts that a line rests on and that are new. The error comes where memory runs out.
-fn see_line(seen: &mut IndexSet<Fact>, outcome: &Outcome) -> Result<(), AllocError>
-    ensures seen { OnOk result (seen.new.keys ≡ seen_after seen.old.keys (line_outcome outcome.now)) }
+fn see_line(seen: &mut NumberedFacts, outcome: &Outcome) -> Result<(), AllocError>
+    ensures seen { OnOk result (seen.new ≡ seen_after seen.old (line_outcome outcome.now)) }
 {
     match outcome {
         Outcome::Found(finding) => see_facts(seen, &finding.facts),
@@ -167,7 +171,7 @@ fn see_line(seen: &mut IndexSet<Fact>, outcome: &Outcome) -> Result<(), AllocErr
 fn facts_in(alloc: Global, outcomes: &[Outcome]) -> Result<usize, AllocError>
     ensures facts { IfOk result (λ facts. facts ≡ spec.facts_in (map line_outcome outcomes.now)) }
 {
-    let mut seen = IndexSet::new(alloc);
+    let mut seen = NumberedFacts::new(alloc);
     for outcome in outcomes.iter() {
         see_line(&mut seen, outcome)?;
     }

@@ -10,6 +10,8 @@ use byte_streams::{Failed, Sink};
 use cert_text::{CertLine, Echo};
 use line_core::ThreeWords;
 
+// Apart from what is computed: a printed line may have no words, and so ask nothing, and yet stands
+// in the text.
 /// Where the words of the lines of a text lie: in the rows that it is of, or in a printed file. Contracts see them as lines.
 #[derive(Clone, Copy)]
 pub enum Echoes<'a> {

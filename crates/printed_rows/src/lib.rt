@@ -4,6 +4,7 @@
 //! computes the lines of a printed file anew, by their words alone, and writes their text.
 #![tactic(auto)]
 
+mod blocks;
 mod counting;
 mod echoes;
 mod numbering;

@@ -14,6 +14,8 @@ use shelf_core::Shelf;
 use std::alloc::AllocError;
 use std::thread::Threads;
 
+// What a line asks takes 36 bytes. A fault of the sink is met only once all is computed. The shelf
+// is opened where facts are asked, so that no clause of `run` speaks of it.
 /// What comes of each row, in order. Each fact is evaluated once, or a few times where threads ask it at the same time. What
 /// the rows ask is dropped at the end, before anything is written. The error comes where memory runs out.
 pub(crate) fn outcomes_of<R: Threads + Sync, E: Evaluator + Sync, G: Gate + Sync>(

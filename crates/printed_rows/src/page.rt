@@ -10,11 +10,10 @@ ghost use Rattle.jobs_core.specs.Outcomes.{halt_outcome, line_outcome};
 ghost use Rattle.printed_rows.specs.Echoes.{CanEcho, MayStand, echoed_at, echoed_lines};
 
 use crate::echoes::Echoes;
-use crate::numbering::{number_after, number_fact};
+use crate::numbering::{NumberedFacts, number_after, number_fact};
 use book_model::Fact;
 use byte_streams::{Failed, Gathered};
 use cert_text::{CertLine, Numbers, write_fact, write_line, write_list, write_result};
-use indexmap::IndexSet;
 use jobs_core::{Finding, Halt, Outcome};
 use oracle_core::FactValues;
 use std::alloc::{AllocError, Global};
@@ -24,7 +23,7 @@ use std::alloc::{AllocError, Global};
 #[derive(Drop)]
 pub(crate) struct Page {
     pub(crate) pending: Gathered,
-    pub(crate) seen: IndexSet<Fact>,
+    pub(crate) seen: NumberedFacts,
     numbers: Numbers,
 }
 
@@ -53,24 +52,24 @@ impl Page {
     /// An empty page.
     pub(crate) fn new(alloc: Global) -> Page
         ensures pending { result.pending.bytes.items ≡ [] }
-        ensures seen { result.seen.keys ≡ [] }
+        ensures seen { result.seen ≡ [] }
     {
         Page {
             pending: Gathered::new(alloc),
-            seen: IndexSet::new(alloc),
+            seen: NumberedFacts::new(alloc),
             numbers: Numbers::new(alloc),
         }
     }
 
     /// Puts a fact with its value, where it is new, and adds its number to those of the line.
     fn put_fact(&mut self, entry: &(Fact, i64)) -> Result<(), AllocError>
-        ensures seen { OnOk result (self.new.seen.keys ≡ model.with_fact self.old.seen.keys
+        ensures seen { OnOk result (self.new.seen ≡ model.with_fact self.old.seen
             entry.now.0) }
         ensures numbers { OnOk result (self.new.numbers ≡ self.old.numbers
-            ++ (position_or_len (fact_eq entry.now.0) self.old.seen.keys + 1) ∷ []) }
+            ++ (position_or_len (fact_eq entry.now.0) self.old.seen + 1) ∷ []) }
         ensures text { OnOk result (self.new.pending.bytes.items ≡ self.old.pending.bytes.items
-            ++ (if list_any (fact_eq entry.now.0) self.old.seen.keys then []
-            else model.fact_text (length self.old.seen.keys + 1) entry.now.0 entry.now.1)) }
+            ++ (if list_any (fact_eq entry.now.0) self.old.seen then []
+            else model.fact_text (length self.old.seen + 1) entry.now.0 entry.now.1)) }
     {
         let numbered = number_fact(&mut self.seen, entry.0)?;
         self.numbers.push(numbered.number)?;
@@ -83,12 +82,12 @@ impl Page {
 
     /// Puts the facts that are new, with their values; the numbers of the line are those of all.
     fn put_facts(&mut self, facts: &FactValues) -> Result<(), AllocError>
-        ensures seen { OnOk result (self.new.seen.keys ≡ model.with_facts self.old.seen.keys
+        ensures seen { OnOk result (self.new.seen ≡ model.with_facts self.old.seen
             facts.now) }
-        ensures numbers { OnOk result (self.new.numbers ≡ model.numbers_of self.old.seen.keys
+        ensures numbers { OnOk result (self.new.numbers ≡ model.numbers_of self.old.seen
             facts.now) }
         ensures text { OnOk result (self.new.pending.bytes.items ≡ self.old.pending.bytes.items
-            ++ model.new_facts_text self.old.seen.keys facts.now) }
+            ++ model.new_facts_text self.old.seen facts.now) }
     {
         self.numbers.clear();
         for entry in facts.entries() {
@@ -107,13 +106,13 @@ impl Page {
         requires can { CanEcho echoes.now }
         requires within { index < length (echoed_lines echoes.now) }
         requires three { length (words_of (echoed_at echoes.now index)) ≡ 3 }
-        ensures seen { OnOk result (self.new.seen.keys ≡ model.with_facts self.old.seen.keys
+        ensures seen { OnOk result (self.new.seen ≡ model.with_facts self.old.seen
             finding.now.facts) }
         ensures text { OnOk result (self.new.pending.bytes.items ≡ self.old.pending.bytes.items
-            ++ (model.new_facts_text self.old.seen.keys finding.now.facts
+            ++ (model.new_facts_text self.old.seen finding.now.facts
             ++ model.listed_text (index + 1)
             (words_of (echoed_at echoes.now index)) (model.result_text finding.now.resolved)
-            (model.numbers_of self.old.seen.keys finding.now.facts))) }
+            (model.numbers_of self.old.seen finding.now.facts))) }
     {
         let number = number_after(index)?;
         self.put_facts(&finding.facts)?;
@@ -144,10 +143,10 @@ impl Page {
         requires can { CanEcho echoes.now }
         requires within { index < length (echoed_lines echoes.now) }
         requires stands { MayStand (echoed_at echoes.now index) (line_outcome outcome.now) }
-        ensures seen { OnOk result (self.new.seen.keys ≡ model.seen_after self.old.seen.keys
+        ensures seen { OnOk result (self.new.seen ≡ model.seen_after self.old.seen
             (line_outcome outcome.now)) }
         ensures text { OnOk result (self.new.pending.bytes.items ≡ self.old.pending.bytes.items
-            ++ model.block_text self.old.seen.keys (index + 1) (echoed_at echoes.now index)
+            ++ model.block_text self.old.seen (index + 1) (echoed_at echoes.now index)
             (line_outcome outcome.now)) }
     {
         match outcome {

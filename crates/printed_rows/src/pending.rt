@@ -5,6 +5,8 @@ ghost use Rattle.printed_rows.specs.Writing.{WritesFront};
 
 use byte_streams::{Failed, Gathered, Sink, write_all};
 
+// The real sink makes a system call for each write. What a failed write leaves is a front of the
+// text all the same.
 /// How many bytes may wait before they are written.
 pub const MANY: usize = 65536;
 

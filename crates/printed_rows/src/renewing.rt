@@ -58,6 +58,8 @@ fn rule_numbered(number: u8) -> Rule
     }
 }
 
+// The file may be anyone's: neither its facts nor its results are used. A line without words has
+// nothing to be computed from, and that it says what is so is claimed nowhere.
 /// What an upgrade makes of a line of a file: what comes of its words, whatever the line says; a line without words stays
 /// as it is. The error comes where memory runs out.
 fn renewed<E: Evaluator>(

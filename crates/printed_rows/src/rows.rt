@@ -10,6 +10,7 @@ ghost use Rattle.printed_rows.specs.Rows as spec;
 
 use book_model::{Request, WRITTEN};
 use byte_streams::{Failed, Sink, decimal, write_all, write_parts};
+use cert_read::is_spaced;
 use cert_text::write_date;
 use itoa::Buffer;
 use jobs_core::{Row, rows_of};
@@ -78,12 +79,18 @@ pub(crate) fn write_three<K: Sink>(
     write_last(sink, words.to)
 }
 
+// Words are cut where a line is read and again here: less than a thousandth of a line that asks a
+// fact.
 /// Writes the number of a line of the input and its three words, as they stand there.
 fn write_own_words<K: Sink>(sink: &mut K, number: u32, line: &[u8]) -> Result<(), Failed>
     requires three { length (words_of line.now) ≡ 3 }
     ensures { Writes K.written K.faults sink.old sink.new
         (echo_text number (words_of line.now)) result }
 {
+    // Nearly each line has single spaces between its words: then they are written together.
+    if is_spaced(line) {
+        return write_front(sink, number, line);
+    }
     match three_words(line) {
         Some(words) => write_three(sink, number, words),
         None => unreachable!(),

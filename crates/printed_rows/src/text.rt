@@ -53,12 +53,12 @@ fn write_row<K: Sink>(
     requires within { index < length (echoed_lines echoes.now) }
     requires stands { MayStand (echoed_at echoes.now index) (line_outcome outcome.now) }
     ensures ok { OnOk result (Wrote (K.written sink.old) (K.written sink.new)
-        (page.old.pending.bytes.items ++ spec.block_text page.old.seen.keys (index + 1)
+        (page.old.pending.bytes.items ++ spec.block_text page.old.seen (index + 1)
         (echoed_at echoes.now index) (line_outcome outcome.now)) page.new.pending.bytes.items) }
-    ensures seen { OnOk result (page.new.seen.keys ≡ spec.seen_after page.old.seen.keys
+    ensures seen { OnOk result (page.new.seen ≡ spec.seen_after page.old.seen
         (line_outcome outcome.now)) }
     ensures err { WritesFront K.written sink.old sink.new
-        (page.old.pending.bytes.items ++ spec.block_text page.old.seen.keys (index + 1)
+        (page.old.pending.bytes.items ++ spec.block_text page.old.seen (index + 1)
         (echoed_at echoes.now index) (line_outcome outcome.now)) result }
     ensures fault { IsErrOf result WriteStop.Fault → Rose (K.faults sink.old) (K.faults sink.new) }
     ensures later { K.faults sink.old ≤ K.faults sink.new }
@@ -103,7 +103,7 @@ fn write_rows<K: Sink>(
     outcomes: &[Outcome],
 ) -> Result<(), WriteStop>
     requires can { CanEcho echoes.now }
-    requires new { page.old.seen.keys ≡ [] }
+    requires new { page.old.seen ≡ [] }
     requires same { length (echoed_lines echoes.now) ≡ length outcomes.now }
     requires stand { AllZip MayStand (echoed_lines echoes.now) (map line_outcome outcomes.now) }
     ensures ok { WritesAll K.written sink.old sink.new (page.old.pending.bytes.items
@@ -120,6 +120,8 @@ fn write_rows<K: Sink>(
     put_end(sink, &mut page.pending, outcomes.len(), facts)
 }
 
+// It asks for outcomes that are right, since the form of a printed line rests on it: a result lists
+// the facts that its rule asked.
 /// Writes the whole text of rows and their outcomes: a header, each line with its new facts before it, and the counts of
 /// lines and facts. At an error a front of the text was written. Counts of 32 bits are written: more lines or facts are
 /// answered as want of memory.

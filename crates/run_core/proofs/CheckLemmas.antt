@@ -1,24 +1,33 @@
 -- Verdicts, one further.
-use Rattle.std.proofs.Common.{◌≡◌, ◌⊎◌, inl, inr, ℕ, ℤ, ◌+◌, ◌<◌, ◌≤◌, Bool, List, [], ◌∷◌, ◌++◌, length, drop, get_or, map, refl}
+use Rattle.std.proofs.Common.{◌≡◌, ◌⊎◌, inl, inr, ℕ, suc, ℤ, ◌+◌, ◌<◌, ◌≤◌, ◌==◌, ◌&&◌, Bool, true, false, cond, List, [], ◌∷◌, ◌++◌, length, drop, filter, get_or, map, refl}
 use Rattle.std.proofs.Common.{append_assoc, append-nil, arith}
+use Rattle.std.proofs.lemmas.Bool.Decides.{nat_tests}
 use Rattle.std.proofs.lemmas.Grind.{common_steps}
 use Rattle.std.proofs.lemmas.List.{drop_more}
-use Rattle.std.specs.Prelude.{Err, IsErrOf}
+use Rattle.std.proofs.lemmas.Result.{IfOk-weaker}
+use Rattle.std.specs.Prelude.{Result, Err, IsErrOf}
 use Rattle.std.specs.List.{list_all, AllZip}
 use Rattle.book_model.specs.declared.fact.Fact.{Fact}
 use Rattle.oracle_core.specs.Answers.{IsRightAnswer}
 use Rattle.std.specs.declared.option.Option.{Option}
-use Rattle.std.specs.Io.KnownBytes.{Appends, Keeps}
+use Rattle.std.specs.Io.KnownBytes.{Appends}
 use Rattle.oracle_core.specs.declared.evaluator.Answer.{Answer}
 use Rattle.cert_read.specs.declared.lines.CertFile.{CertFile}
-use Rattle.cert_read.specs.Reading.{grammar_of, file}
+use Rattle.cert_text.specs.declared.line.CertLine.TheVariants.{Refused}
+use Rattle.cert_read.specs.declared.read.ReadFail.{ReadFail}
+use Rattle.cert_read.specs.declared.read.ReadFail.TheVariants.{Bad, Memory}
+use Rattle.cert_read.specs.Reading.{Answers, Reading, bad, file, grammar_of}
 use Rattle.byte_streams.specs.Stream.{Wrote, AppendsFront}
 use Rattle.byte_streams.proofs.Flow.{buffered_on, buffered_front}
 use Rattle.cert_check.specs.declared.verdict.Verdict.{Verdict}
-use Rattle.cert_check.specs.Verdicts.{AreRightAnswers, IsCheckable, line_at}
+use Rattle.cert_check.specs.declared.verdict.Verdict.TheVariants.{Yes, No, Skip}
+use Rattle.cert_check.specs.Verdicts.{AreRightAnswers, IsCheckable, line_at, verdict_of}
 use Rattle.cert_check.proofs.Certified.{yes_line}
 use Rattle.printed_rows.specs.declared.text.WriteStop.{WriteStop}
-use Rattle.run_core.specs.Checking.{verdict_text, verdicts_after, verdicts_of, verdicts_text, is_yes, ChecksFile, CutsFile, CheckCutShort, cut_verdicts}
+use Rattle.printed_rows.specs.Writing.{Performs}
+use Rattle.run_core.specs.declared.check.Checked.{Checked}
+use Rattle.run_core.specs.declared.check.Checked.TheVariants.{AllYes, NotAll, BadText}
+use Rattle.run_core.specs.Checking.{verdict_text, verdicts_after, verdicts_of, verdicts_text, is_yes, is_no, is_skip, with_one, ChecksFile, Comes, RefusesText, TellsFail, CutsFail, bad_text, checked}
 
 -- what comes of one item more is added
 pub mapped_on : {X Y : Type 0} (f : X → Y) (ys now : List Y) (y : Y) (i : ℕ) (xs : List X) (d : X) (all : List Y) → i < length xs → y ≡ f (get_or xs i d)
@@ -33,32 +42,76 @@ mapped_whole f ys i xs all h old =
     let over : drop i xs ≡ [] = grind (arith, common_steps) in
     rw append-nil at (rw over at old)
 
-verdicts_split : (i : ℕ) (vs : List Verdict) (d : Verdict) → i < length vs → verdicts_after i (drop i vs)
-    ≡ verdict_text (i + 1) (get_or vs i d) ++ verdicts_after (i + 1) (drop (i + 1) vs)
-verdicts_split i vs d h = rw (drop_more vs i d h) refl
+-- the verdicts of the lines of a file from one on
+abbrev pub verdicts_from : CertFile → List Answer → ℕ → List Verdict
+verdicts_from f answers i = map (verdict_of f.version f.facts answers) (drop i f.lines)
 
-verdicts_left : (i : ℕ) (vs : List Verdict) (d : Verdict) (counts : List ℕ) → i < length vs
-    → verdicts_after i (drop i vs) ++ counts ≡ verdict_text (i + 1) (get_or vs i d) ++ (verdicts_after (i + 1) (drop (i + 1) vs) ++ counts)
-verdicts_left i vs d counts h = rw (verdicts_split i vs d h) (append_assoc (verdict_text (i + 1) (get_or vs i d)) (verdicts_after (i + 1) (drop (i + 1) vs))
-    counts)
+-- that of the next line is the first of them
+pub next_verdict : (f : CertFile) (answers : List Answer) (i : ℕ) (v : Verdict) → i < length f.lines → v ≡ verdict_of f.version f.facts answers (line_at f i)
+    → verdicts_from f answers i ≡ v ∷ verdicts_from f answers (i + 1)
+next_verdict f answers i v h is = rw (drop_more f.lines i (Refused 0) h, is) refl
+
+-- behind the last line there is none
+pub no_verdict : (f : CertFile) (answers : List Answer) (i : ℕ) → length f.lines ≤ i → verdicts_from f answers i ≡ []
+no_verdict f answers i h =
+    let over : drop i f.lines ≡ [] = grind (arith, common_steps) in
+    rw over refl
+
+verdicts_split : (i : ℕ) (v : Verdict) (rest : List Verdict) (counts : List ℕ) → verdicts_after i (v ∷ rest) ++ counts
+    ≡ verdict_text (i + 1) v ++ (verdicts_after (i + 1) rest ++ counts)
+verdicts_split i v rest counts = append_assoc (verdict_text (i + 1) v) (verdicts_after (i + 1) rest) counts
 
 -- one more verdict is put
-pub verdicts_on : (a b c : Option (List ℕ)) (t w w' : List ℕ) (i : ℕ) (vs : List Verdict) (d : Verdict) (counts : List ℕ) → i < length vs
-    → Wrote a b t (w ++ (verdicts_after i (drop i vs) ++ counts)) → Wrote b c (w ++ verdict_text (i + 1) (get_or vs i d)) w'
-    → Wrote a c t (w' ++ (verdicts_after (i + 1) (drop (i + 1) vs) ++ counts))
-verdicts_on a b c t w w' i vs d counts h old new = buffered_on a b c t w _ w' _ (rw (verdicts_left i vs d counts h) at old) new
+pub verdicts_on : (a b c : Option (List ℕ)) (t w w' : List ℕ) (i : ℕ) (left rest : List Verdict) (v : Verdict) (counts : List ℕ) → left ≡ v ∷ rest
+    → Wrote a b t (w ++ (verdicts_after i left ++ counts)) → Wrote b c (w ++ verdict_text (i + 1) v) w'
+    → Wrote a c t (w' ++ (verdicts_after (i + 1) rest ++ counts))
+verdicts_on a b c t w w' i left rest v counts is old new = buffered_on a b c t w _ w' _ (rw (is, verdicts_split i v rest counts) at old) new
 
 -- a front of one more verdict is put
-pub verdicts_front : (a b c : Option (List ℕ)) (t w : List ℕ) (i : ℕ) (vs : List Verdict) (d : Verdict) (counts : List ℕ) → i < length vs
-    → Wrote a b t (w ++ (verdicts_after i (drop i vs) ++ counts)) → AppendsFront b c (w ++ verdict_text (i + 1) (get_or vs i d)) → AppendsFront a c t
-verdicts_front a b c t w i vs d counts h old new = buffered_front a b c t w _ _ (rw (verdicts_left i vs d counts h) at old) new
+pub verdicts_front : (a b c : Option (List ℕ)) (t w : List ℕ) (i : ℕ) (left rest : List Verdict) (v : Verdict) (counts : List ℕ) → left ≡ v ∷ rest
+    → Wrote a b t (w ++ (verdicts_after i left ++ counts)) → AppendsFront b c (w ++ verdict_text (i + 1) v) → AppendsFront a c t
+verdicts_front a b c t w i left rest v counts is old new = buffered_front a b c t w _ _ (rw (is, verdicts_split i v rest counts) at old) new
 
 -- after the last verdict the counts are left
-pub verdicts_end : (a b : Option (List ℕ)) (t w : List ℕ) (i : ℕ) (vs : List Verdict) (counts : List ℕ) → length vs ≤ i
-    → Wrote a b t (w ++ (verdicts_after i (drop i vs) ++ counts)) → Wrote a b t (w ++ counts)
-verdicts_end a b t w i vs counts h old =
-    let over : drop i vs ≡ [] = grind (arith, common_steps) in
-    rw over at old
+pub verdicts_end : (a b : Option (List ℕ)) (t w : List ℕ) (i : ℕ) (left : List Verdict) (counts : List ℕ) → left ≡ []
+    → Wrote a b t (w ++ (verdicts_after i left ++ counts)) → Wrote a b t (w ++ counts)
+verdicts_end a b t w i left counts none old = rw none at old
+
+-- one more verdict is counted, or isn't
+pub counted : (p : Verdict → Bool) (n now whole : ℕ) (left rest : List Verdict) (v : Verdict) → left ≡ v ∷ rest → n + length (filter p left) ≡ whole
+    → now ≡ with_one (p v) n → now + length (filter p rest) ≡ whole
+counted p n now whole left rest v is old added = step (p v) (rw is at old) added
+  where
+    step : (t : Bool) → n + length (cond t (v ∷ filter p rest) (filter p rest)) ≡ whole → now ≡ with_one t n → now + length (filter p rest) ≡ whole
+    step true h k = omega arith
+    step false h k = omega arith
+
+-- a count grows by one at most
+pub one_more : (t : Bool) (n now i : ℕ) → n ≤ i → now ≡ with_one t n → now ≤ i + 1
+one_more true n now i h k = omega arith
+one_more false n now i h k = omega arith
+
+-- where no verdict is left, all are counted
+pub all_counted : (p : Verdict → Bool) (n whole : ℕ) (left : List Verdict) → left ≡ [] → n + length (filter p left) ≡ whole → n ≡ whole
+all_counted p n whole left none h = let k : n + length (filter p []) ≡ whole = rw none at h in omega arith
+
+-- all are yes where none is a no or a skip
+some : (n : ℕ) → (suc n == 0) ≡ false
+some n = grind (arith, nat_tests)
+
+pub all_yes : (vs : List Verdict) → ((length (filter is_no vs) == 0) && (length (filter is_skip vs) == 0)) ≡ list_all is_yes vs
+all_yes [] = refl
+all_yes (Yes ∷ vs) = all_yes vs
+all_yes (No reason ∷ vs) = rw (some (length (filter is_no vs))) refl
+all_yes (Skip ∷ vs) = rw (some (length (filter is_skip vs))) (neither (length (filter is_no vs) == 0))
+  where
+    neither : (t : Bool) → (t && false) ≡ false
+    neither true = refl
+    neither false = refl
+
+-- what is left to write is a rest
+pub front_written : (a b : Option (List ℕ)) (t r : List ℕ) → Wrote a b t r → AppendsFront a b t
+front_written a b t r w = record { rest = r; wrote = w }
 
 -- answers that are right for the facts of pairs, in order
 pub right_answers : (es : List (Fact × ℤ)) (answers : List Answer) → AllZip IsRightAnswer (map (λ pair. pair.0) es) answers → AreRightAnswers es answers
@@ -79,12 +132,53 @@ checks_file old new f answers all checkable right written all_are = record {
   certified = λ i h e. yes_line f.version f.facts answers (line_at f i) checkable.distinct (checkable.numbers i) right e;
 }
 
--- where the verdicts of a file were cut, so was what is written for its bytes
-pub kept_or_cut : (old new : Option (List ℕ)) (input : List ℕ) (f : CertFile) → grammar_of input ≡ file f → Keeps old new ⊎ CutsFile old new f
-    → Keeps old new ⊎ CheckCutShort old new input
-kept_or_cut old new input f h (inl kept) = inl kept
-kept_or_cut old new input f h (inr cut) = inr (cut_verdicts f h cut)
+-- what comes of a file that is checked
+pub checks_come : (old new : Option (List ℕ)) (input : List ℕ) (f : CertFile) (all : Bool) → grammar_of input ≡ file f → ChecksFile old new f all
+    → Comes old new input (checked all)
+checks_come old new input f true h k = record { of = f; read = h; checks = k }
+checks_come old new input f false h k = record { of = f; read = h; checks = k }
 
 -- a stop is the same whatever would have been answered
-pub same_stop : {T U : Type 0} (stop other : WriteStop) → IsErrOf {T = T} (Err stop) other → IsErrOf {T = U} (Err stop) other
+same_stop : {T U : Type 0} (stop other : WriteStop) → IsErrOf {T = T} (Err stop) other → IsErrOf {T = U} (Err stop) other
 same_stop stop other h = let same : stop ≡ other = cc in rw same refl
+
+-- ---- what is the same of a file that is checked and of one that is upgraded
+-- a call stopped within another, of which there is more to tell
+pub stopped_within : {S T U : Type 0} {written : S → Option (List ℕ)} {faults : S → ℕ} {old new : S} {done : T → Type 0} {finished : U → Type 0}
+    {front cut : Type 0} (stop : WriteStop) → (front → cut) → Performs written faults old new done front (Err stop)
+    → Performs written faults old new finished cut (Err stop)
+stopped_within stop more h = record {
+  ok = tt;
+  fault = λ e. more (h.fault (same_stop _ _ e));
+  memory = λ e. elim (h.memory (same_stop _ _ e)) [ inl kept ↦ inl kept | inr front ↦ inr (more front) ];
+  cause = λ e. h.cause (same_stop _ _ e);
+  later = h.later;
+}
+
+-- the line stands there that says why bytes aren't such a file
+told : (fail : ReadFail) (reading : Reading) (old new : Option (List ℕ)) (is : Checked) → Answers (Err fail) reading → TellsFail fail old new is
+    → (is ≡ BadText) × RefusesText reading old new
+told (Bad line rule) reading old new AllYes h k = absurd k
+told (Bad line rule) reading old new NotAll h k = absurd k
+told (Bad line rule) reading old new BadText h k = (refl, record { line = line; rule = rule; read = h; written = k })
+told Memory reading old new is h k = absurd k
+
+-- or a front of it
+told_front : (fail : ReadFail) (reading : Reading) (old new : Option (List ℕ)) {cut : Type 0} → Answers (Err fail) reading
+    → ((line rule : ℕ) → reading ≡ bad line rule → AppendsFront old new (bad_text line rule) → cut) → CutsFail fail old new → cut
+told_front (Bad line rule) reading old new h front k = front line rule h k
+told_front Memory reading old new h front k = absurd k
+
+-- and that is what comes of the bytes
+pub refused : {S : Type 0} {written : S → Option (List ℕ)} {faults : S → ℕ} {old new : S} {comes : Checked → Type 0} {cut : Type 0} {r : Result Checked WriteStop}
+    (fail : ReadFail) (reading : Reading) → Answers (Err fail) reading → (RefusesText reading (written old) (written new) → comes BadText)
+    → ((line rule : ℕ) → reading ≡ bad line rule → AppendsFront (written old) (written new) (bad_text line rule) → cut)
+    → Performs written faults old new (TellsFail fail (written old) (written new)) (CutsFail fail (written old) (written new)) r
+    → Performs written faults old new comes cut r
+refused {written = written} {old = old} {new = new} {comes = comes} {r = r} fail reading h refuses front k = record {
+  ok = IfOk-weaker r _ _ (λ is t. let bad_one = told fail reading _ _ is h t in rw bad_one.0 (refuses bad_one.1)) k.ok;
+  fault = λ e. told_front fail reading _ _ h front (k.fault e);
+  memory = λ e. elim (k.memory e) [ inl kept ↦ inl kept | inr told_so ↦ inr (told_front fail reading _ _ h front told_so) ];
+  cause = k.cause;
+  later = k.later;
+}

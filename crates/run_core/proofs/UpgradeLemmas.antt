@@ -1,17 +1,17 @@
 -- What is read and written where a file is upgraded.
-use Rattle.std.proofs.Common.{◌≡◌, ◌⊎◌, inl, inr, ℕ, Bool, true, false, List, [], ◌∷◌, All, refl}
+use Rattle.std.proofs.Common.{◌≡◌, ℕ, Bool, true, false, List, [], ◌∷◌, All, refl}
 use Rattle.std.proofs.lemmas.List.Elements.{All-cons, All-nil}
 use Rattle.std.specs.Prelude.{if◌then◌else◌}
 use Rattle.std.specs.declared.option.Option.{Option}
-use Rattle.std.specs.Io.KnownBytes.{Keeps}
 use Rattle.book_model.specs.declared.version.TheConstants.{WRITTEN}
 use Rattle.book_model.specs.lines.Lines.{lines_of}
 use Rattle.cert_text.specs.declared.line.CertLine.{CertLine}
 use Rattle.cert_read.specs.declared.lines.CertFile.{CertFile}
 use Rattle.cert_read.specs.Reading.{HasRule, bad, file, grammar_of}
 use Rattle.cert_read.proofs.ReadFiles.{HaveRules, grammar_well}
-use Rattle.printed_rows.specs.Renewing.{RenewedCutShort}
-use Rattle.run_core.specs.Upgrading.{UpgradeCutShort, cut_text, has_header, upgradable}
+use Rattle.printed_rows.specs.Renewing.{Renewed}
+use Rattle.run_core.specs.Checking.{checked}
+use Rattle.run_core.specs.Upgrading.{Becomes, has_header, upgradable}
 
 all_ruled : (ls : List CertLine) → HaveRules ls → All HasRule ls
 all_ruled [] h = All-nil HasRule
@@ -26,8 +26,8 @@ older_ruled bytes f h = by (has_header WRITTEN (lines_of bytes)) h
     by true k = cc
     by false k = let well = grammar_well bytes f k in all_ruled f.lines well.ruled
 
--- where the text of its lines was cut, so was what is written for its bytes
-pub kept_or_cut : (old new : Option (List ℕ)) (input : List ℕ) (f : CertFile) → upgradable input ≡ file f → Keeps old new ⊎ RenewedCutShort old new f.lines
-    → Keeps old new ⊎ UpgradeCutShort old new input
-kept_or_cut old new input f h (inl kept) = inl kept
-kept_or_cut old new input f h (inr cut) = inr (cut_text f h cut)
+-- what comes of a file that is upgraded
+pub upgrade_comes : (old new : Option (List ℕ)) (input : List ℕ) (f : CertFile) (all : Bool) → upgradable input ≡ file f → Renewed old new f.lines all
+    → Becomes old new input (checked all)
+upgrade_comes old new input f true h k = record { of = f; read = h; renewed = k }
+upgrade_comes old new input f false h k = record { of = f; read = h; renewed = k }

@@ -6,6 +6,8 @@ use Rattle.std.specs.Io.KnownBytes.{Appends}
 use Rattle.oracle_core.specs.declared.evaluator.Answer.{Answer}
 use Rattle.cert_read.specs.declared.lines.CertFile.{CertFile}
 use Rattle.cert_read.specs.Reading.{Reading, grammar_of, file, bad}
+use Rattle.cert_read.specs.declared.read.ReadFail.{ReadFail}
+use Rattle.cert_read.specs.declared.read.ReadFail.TheVariants.{Bad, Memory}
 use Rattle.byte_streams.specs.Stream.{AppendsFront}
 use Rattle.cert_check.specs.declared.verdict.Verdict.{Verdict}
 use Rattle.cert_check.specs.declared.verdict.Verdict.TheVariants.{Yes, No, Skip}
@@ -29,6 +31,11 @@ abbrev pub is_skip : Verdict → Bool
 is_skip Yes = false
 is_skip (No reason) = false
 is_skip Skip = true
+
+-- a count, with one more where that is counted
+abbrev pub with_one : Bool → ℕ → ℕ
+with_one true n = n + 1
+with_one false n = n
 
 -- the verdicts of the lines of a file, by an answer for each of its facts
 abbrev pub verdicts_of : CertFile → List Answer → List Verdict
@@ -72,6 +79,23 @@ pub record ChecksText (old new : Option (List ℕ)) (input : List ℕ) (all_yes 
   pub of : CertFile
   pub read : grammar_of input ≡ file of
   pub checks : ChecksFile old new of all_yes
+
+-- what comes of a printed file, all of whose verdicts are yes or not
+abbrev pub checked : Bool → Checked
+checked true = AllYes
+checked false = NotAll
+
+-- the line that says why bytes weren't read as a file stands there
+abbrev pub TellsFail : ReadFail → Option (List ℕ) → Option (List ℕ) → Checked → Type 0
+TellsFail (Bad line rule) old new AllYes = ⊥
+TellsFail (Bad line rule) old new NotAll = ⊥
+TellsFail (Bad line rule) old new BadText = Appends old new (bad_text line rule)
+TellsFail Memory old new checked = ⊥
+
+-- a front of it stands there
+abbrev pub CutsFail : ReadFail → Option (List ℕ) → Option (List ℕ) → Type 0
+CutsFail (Bad line rule) old new = AppendsFront old new (bad_text line rule)
+CutsFail Memory old new = ⊥
 
 -- bytes are read as none of a file, and the line that names the first bad line and its first broken rule stands there
 pub record RefusesText (reading : Reading) (old new : Option (List ℕ)) : Type 0 where

@@ -1,6 +1,7 @@
 //! Checks a printed file: a verdict for each of its lines, and how many there are of each kind.
-ghost use Rattle.std.specs.Prelude.{◌≡◌, ◌≤◌, ◌+◌, ◌++◌, length, map, filter, OnOk, IfOk, IsErrOf};
+ghost use Rattle.std.specs.Prelude.{◌≡◌, ◌≤◌, ◌<◌, ◌==◌, ◌&&◌, ◌+◌, ◌-◌, ◌^◌, ◌++◌, length, map, OnOk, IfOk, IsErrOf};
 ghost use Rattle.std.specs.List.{list_all};
+ghost use Rattle.cert_check.specs.Text.{counts_text};
 ghost use Rattle.cert_check.specs.Verdicts.{AreRightAnswers, IsCheckable};
 ghost use Rattle.cert_read.specs.declared.read.TheConstants.{LONGEST_FILE as longest_file};
 ghost use Rattle.byte_streams.specs.Stream.{Rose, Writes, Wrote};
@@ -27,18 +28,17 @@ pub(crate) enum Checked {
     BadText,
 }
 
-/// Whether a verdict is yes.
-fn is_yes(verdict: &Verdict) -> bool
-    ensures yes { result ≡ spec.is_yes verdict.now }
-{
-    matches!(verdict, Verdict::Yes)
-}
-
-/// Whether all verdicts are yes.
-fn all_yes(verdicts: &[Verdict]) -> bool
-    ensures all { result ≡ list_all spec.is_yes verdicts.now }
-{
-    verdicts.iter().all(is_yes)
+impl Checked {
+    /// What comes of a printed file whose verdicts are all yes, or whose lines are all results, or not.
+    pub(crate) fn of(all: bool) -> Checked
+        ensures checked { result ≡ spec.checked all }
+    {
+        if all {
+            Checked::AllYes
+        } else {
+            Checked::NotAll
+        }
+    }
 }
 
 /// How many verdicts are yes, a no and a skip.
@@ -49,25 +49,29 @@ struct Counts {
     skip: usize,
 }
 
-/// How many verdicts there are of each kind.
-fn counts_of(verdicts: &[Verdict]) -> Counts
-    ensures yes { result.yes ≡ length (filter spec.is_yes verdicts.now) }
-    ensures no { result.no ≡ length (filter spec.is_no verdicts.now) }
-    ensures skip { result.skip ≡ length (filter spec.is_skip verdicts.now) }
-{
-    let mut counts = Counts {
-        yes: 0,
-        no: 0,
-        skip: 0,
-    };
-    for verdict in verdicts.iter() {
+impl Counts {
+    /// Counts a verdict.
+    fn add(&mut self, verdict: &Verdict)
+        requires few_yes { self.old.yes < 2 ^ 64 - 1 }
+        requires few_no { self.old.no < 2 ^ 64 - 1 }
+        requires few_skip { self.old.skip < 2 ^ 64 - 1 }
+        ensures yes { self.new.yes ≡ spec.with_one (spec.is_yes verdict.now) self.old.yes }
+        ensures no { self.new.no ≡ spec.with_one (spec.is_no verdict.now) self.old.no }
+        ensures skip { self.new.skip ≡ spec.with_one (spec.is_skip verdict.now) self.old.skip }
+    {
         match verdict {
-            Verdict::Yes => counts.yes += 1,
-            Verdict::No(_) => counts.no += 1,
-            Verdict::Skip => counts.skip += 1,
+            Verdict::Yes => self.yes += 1,
+            Verdict::No(_) => self.no += 1,
+            Verdict::Skip => self.skip += 1,
         }
     }
-    counts
+
+    /// Whether no verdict but yes was counted.
+    fn are_all_yes(&self) -> bool
+        ensures only { result ≡ ((self.now.no == 0) && (self.now.skip == 0)) }
+    {
+        self.no == 0 && self.skip == 0
+    }
 }
 
 /// The facts of pairs, in order. The error comes where memory runs out.
@@ -101,23 +105,6 @@ fn answers_of<R: Threads + Sync, E: Evaluator + Sync, G: Gate + Sync>(
     )
 }
 
-/// The verdicts of the lines of a file, in order. The error comes where memory runs out.
-fn verdicts_of(
-    alloc: Global,
-    file: &CertFile,
-    answers: &Answers,
-) -> Result<Vec<Verdict>, AllocError>
-    requires checkable { IsCheckable file.now }
-    requires right { AreRightAnswers file.now.facts answers.now }
-    ensures verdicts { IfOk result (λ v. v.items ≡ spec.verdicts_of file.now answers.now) }
-{
-    let mut verdicts = Vec::new(alloc);
-    for index in 0..file.lines.len() {
-        verdicts.push(check_line(alloc, file, answers, index)?)?;
-    }
-    Ok(verdicts)
-}
-
 /// Puts the verdict of a line behind the bytes that wait, and writes them all once they are many.
 #[tactic(auto, using(byte_streams::proofs::Flow::writing))]
 fn put_verdict<K: Sink>(
@@ -149,16 +136,15 @@ fn put_verdict<K: Sink>(
 fn put_counts<K: Sink>(
     sink: &mut K,
     pending: &mut Gathered,
-    verdicts: &[Verdict],
+    counts: Counts,
 ) -> Result<(), WriteStop>
     ensures ok { WritesAll K.written sink.old sink.new (pending.old.bytes.items
-        ++ spec.counts_of verdicts.now) result }
+        ++ counts_text counts.yes counts.no counts.skip) result }
     ensures err { WritesFront K.written sink.old sink.new
-        (pending.old.bytes.items ++ spec.counts_of verdicts.now) result }
+        (pending.old.bytes.items ++ counts_text counts.yes counts.no counts.skip) result }
     ensures fault { IsErrOf result WriteStop.Fault → Rose (K.faults sink.old) (K.faults sink.new) }
     ensures later { K.faults sink.old ≤ K.faults sink.new }
 {
-    let counts = counts_of(verdicts);
     let yes = count_of(counts.yes)?;
     let no = count_of(counts.no)?;
     let skip = count_of(counts.skip)?;
@@ -171,31 +157,63 @@ fn put_counts<K: Sink>(
     }
 }
 
-/// Writes the verdicts, numbered from 1, and how many there are of each kind. At an error a front of the text was
-/// written.
+// Each verdict is written as it is found, and none is kept: a list of them would take up to four
+// times as much as the file.
+/// Writes the verdicts of the lines of a file, numbered from 1, and how many there are of each kind, and says whether all are
+/// yes. At an error a front of the text was written.
 fn write_verdicts<K: Sink>(
     alloc: Global,
     sink: &mut K,
-    verdicts: &[Verdict],
-) -> Result<(), WriteStop>
-    ensures ok { WritesAll K.written sink.old sink.new (spec.verdicts_text verdicts.now) result }
-    ensures err { WritesFront K.written sink.old sink.new (spec.verdicts_text verdicts.now) result }
+    file: &CertFile,
+    answers: &Answers,
+) -> Result<bool, WriteStop>
+    requires checkable { IsCheckable file.now }
+    requires right { AreRightAnswers file.now.facts answers.now }
+    ensures ok { WritesAll K.written sink.old sink.new
+        (spec.verdicts_text (spec.verdicts_of file.now answers.now)) result }
+    ensures yes { IfOk result (λ all. all
+        ≡ list_all spec.is_yes (spec.verdicts_of file.now answers.now)) }
+    ensures err { WritesFront K.written sink.old sink.new
+        (spec.verdicts_text (spec.verdicts_of file.now answers.now)) result }
     ensures fault { IsErrOf result WriteStop.Fault → Rose (K.faults sink.old) (K.faults sink.new) }
     ensures later { K.faults sink.old ≤ K.faults sink.new }
 {
     let mut pending = Gathered::new(alloc);
-    for (index, verdict) in verdicts.iter().enumerate() {
-        put_verdict(sink, &mut pending, index, verdict)?;
+    let mut counts = Counts {
+        yes: 0,
+        no: 0,
+        skip: 0,
+    };
+    for index in 0..file.lines.len() {
+        let verdict = check_line(alloc, file, answers, index)?;
+        put_verdict(sink, &mut pending, index, &verdict)?;
+        counts.add(&verdict);
     }
-    put_counts(sink, &mut pending, verdicts)
+    put_counts(sink, &mut pending, counts)?;
+    Ok(counts.are_all_yes())
 }
 
 /// Writes the line that names the first bad line of bytes, and the rule that it breaks.
 #[tactic(auto, unfolding(crate::specs::Checking::bad_text))]
-pub(crate) fn write_bad<K: Sink>(sink: &mut K, line: u32, rule: u8) -> Result<(), Failed>
+fn write_bad<K: Sink>(sink: &mut K, line: u32, rule: u8) -> Result<(), Failed>
     ensures { Writes K.written K.faults sink.old sink.new (spec.bad_text line rule) result }
 {
     write_two_counts(sink, b"bad ", line, b" ", u32::from(rule))
+}
+
+/// Writes the line that says why bytes weren't read as such a file as a command takes.
+pub(crate) fn write_fail<K: Sink>(sink: &mut K, fail: ReadFail) -> Result<Checked, WriteStop>
+    ensures performs { Performs K.written K.faults sink.old sink.new
+        (spec.TellsFail fail (K.written sink.old) (K.written sink.new))
+        (spec.CutsFail fail (K.written sink.old) (K.written sink.new)) result }
+{
+    match fail {
+        ReadFail::Bad { line, rule } => {
+            write_bad(sink, line, rule)?;
+            Ok(Checked::BadText)
+        }
+        ReadFail::Memory => Err(WriteStop::Memory),
+    }
 }
 
 /// Writes the verdicts of the lines of a file, and says whether all are yes.
@@ -211,9 +229,8 @@ fn check_file<R: Threads + Sync, K: Sink, E: Evaluator + Sync, G: Gate + Sync>(
 {
     let shelf = Shelf::open(tools.alloc)?;
     let answers = answers_of(tools, file, &shelf)?;
-    let verdicts = verdicts_of(tools.alloc, file, &answers)?;
-    write_verdicts(tools.alloc, sink, &verdicts)?;
-    Ok(all_yes(&verdicts))
+    let is_right = write_verdicts(tools.alloc, sink, file, &answers)?;
+    Ok(is_right)
 }
 
 /// Checks bytes, whoever made them: writes the verdicts of the lines of a printed file, or the line that says why they
@@ -231,16 +248,8 @@ pub(crate) fn check<R: Threads + Sync, K: Sink, E: Evaluator + Sync, G: Gate + S
     match read_file(tools.alloc, input) {
         Ok(file) => {
             let is_right = check_file(tools, sink, &file)?;
-            Ok(if is_right {
-                Checked::AllYes
-            } else {
-                Checked::NotAll
-            })
+            Ok(Checked::of(is_right))
         }
-        Err(ReadFail::Bad { line, rule }) => match write_bad(sink, line, rule) {
-            Ok(()) => Ok(Checked::BadText),
-            Err(Failed) => Err(WriteStop::Fault),
-        },
-        Err(ReadFail::Memory) => Err(WriteStop::Memory),
+        Err(fail) => write_fail(sink, fail),
     }
 }

@@ -5,6 +5,7 @@ ghost use Rattle.run_core.specs.Commands as spec;
 use cert_read::LONGEST_FILE;
 use command_words::Command;
 
+// The definitions have these numbers too, and the two are proved to be the same.
 /// How many bytes an input of a command may have, where the command reads one.
 pub(crate) fn limit_read(command: Command) -> Option<usize>
     ensures input { spec.input_of command ≡ spec.input_within result }

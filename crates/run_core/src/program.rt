@@ -35,6 +35,7 @@ fn status_of(written: Result<bool, WriteStop>) -> Status
     }
 }
 
+// A value, the whole input or nothing, of which alone the clauses of `run` speak.
 /// Reads what a command reads: the whole input, or nothing.
 fn read_input<S: Source>(
     alloc: Global,

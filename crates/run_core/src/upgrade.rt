@@ -7,9 +7,9 @@ ghost use Rattle.cert_read.specs.declared.read.TheConstants.{LONGEST_FILE as lon
 ghost use Rattle.printed_rows.specs.Writing.{Performs};
 ghost use Rattle.run_core.specs.Upgrading as spec;
 
-use crate::check::{Checked, write_bad};
+use crate::check::{Checked, write_fail};
 use book_model::WRITTEN;
-use byte_streams::{Failed, Sink};
+use byte_streams::Sink;
 use cert_read::{CertFile, ReadFail, read_file};
 use jobs_core::{Gate, Tools};
 use line_core::cut_line;
@@ -28,6 +28,7 @@ fn is_written(bytes: &[u8]) -> bool
     }
 }
 
+// So that nothing is taken for upgraded that only looks so.
 /// The file of an older version that the bytes are. A file of the version that is written is refused by its first line, whatever
 /// follows.
 #[tactic(auto, unfolding(crate::specs::Upgrading::upgradable))]
@@ -58,16 +59,8 @@ pub(crate) fn upgrade<R: Threads + Sync, K: Sink, E: Evaluator + Sync, G: Gate +
     match read_older(tools.alloc, input) {
         Ok(file) => {
             let is_whole = renew(tools, sink, file.lines.entries())?;
-            Ok(if is_whole {
-                Checked::AllYes
-            } else {
-                Checked::NotAll
-            })
+            Ok(Checked::of(is_whole))
         }
-        Err(ReadFail::Bad { line, rule }) => match write_bad(sink, line, rule) {
-            Ok(()) => Ok(Checked::BadText),
-            Err(Failed) => Err(WriteStop::Fault),
-        },
-        Err(ReadFail::Memory) => Err(WriteStop::Memory),
+        Err(fail) => write_fail(sink, fail),
     }
 }

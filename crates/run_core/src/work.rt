@@ -24,6 +24,8 @@ pub(crate) enum Work<'a> {
     Renew,
 }
 
+// Lines and requests go one path: so `almanac` and `east` write what `convert` would write by
+// definition.
 /// What a command does with an input. The error comes where memory runs out.
 #[tactic(auto, using(almanac_core::proofs::SpelledRequests::sample_spelled))]
 pub(crate) fn work_of<'a>(

@@ -87,7 +87,7 @@ const DECIDED_AND_OPEN: &str = "calendrica 1 depth 40\n\
 
 /// The same where the fact of the first is left open: that line is computed, the other copied.
 const BOTH_OPEN: &str = "calendrica 2 depth 40\n\
-    line 1 undecided phase-wrap 242 -2097152 1048576 fact phasis cairo 695106\n\
+    line 1 undecided phase-wrap 242 -2097152 0 fact phasis cairo 695106\n\
     line 2 undecided phase-wrap 7 -3 2 fact phasis cairo 695136\n\
     end lines 2 facts 0\n";
 

@@ -1,16 +1,7 @@
-use Rattle.std.proofs.Common.{refl}
-use Rattle.oracle_core.proofs.FactLemmas.{same_any, same_position}
-use Rattle.printed_rows.proofs.RowLemmas.{new_is_last}
+use Rattle.printed_rows.proofs.NumberLemmas.{is_new, new_number}
 use Rattle.printed_rows.proofs.numbering.number_fact.Goals as goal
 
-pub returns-clause-seen : goal.returns-clause-seen
-returns-clause-seen c = rw (← same_any c.args.fact c.args.seen.now.keys) c.in_ok-index.ensures.keys
-
-pub returns-clause-number : goal.returns-clause-number
-returns-clause-number c = rw (← same_position c.args.fact c.args.seen.now.keys, c.in_ok-number_after.ensures.number, c.in_ok-index.ensures.index) refl
-
-pub returns-clause-new : goal.returns-clause-new
-returns-clause-new c = rw (← same_any c.args.fact c.args.seen.now.keys) c.in_ok-index.ensures.added
-
-pub returns-clause-last : goal.returns-clause-last
-returns-clause-last c = new_is_last _ c.args.seen.now.keys _ _ _ c.in_ok-index.ensures.added c.in_ok-index.ensures.index c.in_ok-number_after.ensures.number
+pub returns-in_ok-add-clause-number : goal.returns-in_ok-add-clause-number
+returns-in_ok-add-clause-number c =
+    new_number c.args.seen.now c.args.fact _ (is_new c.args.seen.now c.args.fact _ c.in_ok-number.ensures.number c.if-number-eq0.true)
+    c.in_ok-add.ensures.number

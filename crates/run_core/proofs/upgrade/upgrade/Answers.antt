@@ -1,8 +1,7 @@
-use Rattle.std.proofs.Common.{rules}
 use Rattle.std.proofs.lemmas.Result.{err_from_is_err_and}
-use Rattle.run_core.specs.Upgrading.{cut_text, cut_refusal}
-use Rattle.run_core.proofs.CheckLemmas.{same_stop}
-use Rattle.run_core.proofs.UpgradeLemmas.{older_ruled, kept_or_cut}
+use Rattle.run_core.specs.Upgrading.{upgradable, cut_text, cut_refusal}
+use Rattle.run_core.proofs.CheckLemmas.{refused, stopped_within}
+use Rattle.run_core.proofs.UpgradeLemmas.{older_ruled, upgrade_comes}
 use Rattle.run_core.proofs.upgrade.upgrade.Goals as goal
 
 pub renew-requires-clause-rules : goal.renew-requires-clause-rules
@@ -12,24 +11,22 @@ pub returns-in_err-is_whole-in-Ok : goal.returns-in_err-is_whole-in-Ok
 returns-in_err-is_whole-in-Ok g c =
     let fails = err_from_is_err_and c.from_residual.result c.from_residual.ensures.1 in
     let stopped = rw c.entries.ensures.entries at c.in_err-is_whole-in-Ok.ensures.performs in
+    record { performs = rw (fails.1, fails.2) (stopped_within _ (cut_text c.in-Ok.file c.in-Ok.ensures) stopped) }
+
+pub returns-in_ok-is_whole-in-Ok : goal.returns-in_ok-is_whole-in-Ok
+returns-in_ok-is_whole-in-Ok g c =
+    let done = rw c.entries.ensures.entries at c.in_ok-is_whole-in-Ok.ensures.performs in
     record {
       performs = record {
-        ok = search rules;
-        fault = λ e. cut_text c.in-Ok.file c.in-Ok.ensures (stopped.fault (same_stop _ _ (rw (fails.1, fails.2) at e)));
-        memory = λ e. kept_or_cut _ _ c.args.input.now c.in-Ok.file c.in-Ok.ensures (stopped.memory (same_stop _ _ (rw (fails.1, fails.2) at e)));
-        cause = λ e. stopped.cause (same_stop _ _ (rw (fails.1, fails.2) at e));
-        later = stopped.later;
+        ok = rw c.of.ensures.checked (upgrade_comes _ _ c.args.input.now c.in-Ok.file _ c.in-Ok.ensures done.ok);
+        fault = λ e. absurd (cc);
+        memory = λ e. absurd (cc);
+        cause = λ e. absurd (cc);
+        later = done.later;
       };
     }
 
 pub returns-in-Err : goal.returns-in-Err
 returns-in-Err g c = record {
-  performs = record {
-    ok = search rules;
-    fault = λ e. cut_refusal c.in-Err-Bad.line c.in-Err-Bad.rule (rw c.in-Err-Bad.field-0-is at c.in-Err-Bad.ensures)
-        (rw (← c.in-Err-Bad.line-is, ← c.in-Err-Bad.rule-is) c.in-Err.ensures.err);
-    memory = λ e. absurd (cc);
-    cause = λ e. c.in-Err.ensures.cause.failed;
-    later = c.in-Err.ensures.cause.later;
-  };
+  performs = refused c.in-Err.fail (upgradable c.args.input.now) c.in-Err.ensures (λ refuses. refuses) cut_refusal c.write_fail.ensures.performs;
 }

@@ -1,5 +1,6 @@
 //! The seven forms of lines and the end line, and lines that have none of the forms.
 use super::{assert_files, assert_last_breaks};
+use cert_read::is_spaced;
 use std::test::Fail;
 
 /// Each form, with the least and the greatest that it may hold, and words that other forms begin with.
@@ -67,4 +68,11 @@ fn each_form_is_read(rt: HostRuntime) -> Result<(), Fail> {
 fn other_words_and_bytes_have_no_form(rt: HostRuntime) -> Result<(), Fail> {
     assert_last_breaks(&rt, rt.alloc(), 2, &WORDS)?;
     assert_last_breaks(&rt, rt.alloc(), 2, &BYTES)
+}
+
+#[test]
+fn words_are_told_that_have_single_spaces_between_them(rt: HostRuntime) {
+    assert!(rt; is_spaced(b"gregorian 2024-02-10 dt"));
+    assert!(rt; !is_spaced(b"gregorian  2024-02-10 dt"));
+    assert!(rt; !is_spaced(b"gregorian\t2024-02-10 dt"));
 }
