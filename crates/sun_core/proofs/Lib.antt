@@ -4,6 +4,7 @@ pub mod Openings
 pub mod Elapsed
 pub mod Reaches
 pub mod SunWaves
+pub mod QuadraticWaves
 pub mod WholeSums
 pub mod FormulaWidths
 pub mod NewYears

@@ -47,7 +47,7 @@ unfolding product
 whole_twice i a b e = rw e refl
 
 -- a product with the product of two numbers lies within that with one and then the other
-twice_within : (i : Interval) (a b f : Fraction) → IsProper i → times a b ≈ f → product i (exactly f) ⊆ product (product i (exactly a)) (exactly b)
+pub twice_within : (i : Interval) (a b f : Fraction) → IsProper i → times a b ≈ f → product i (exactly f) ⊆ product (product i (exactly a)) (exactly b)
 twice_within i a b f p e = product_in i (product (product i (exactly a)) (exactly b)) f p (λ x m. twice_member i a b f x e m) (whole_twice i a b)
 
 -- what holds an expression scaled by two fractions holds it scaled by their product
@@ -80,7 +80,7 @@ ends_within p q b everything hp hq = within_everything _
 ends_within p q b (between c d) hp hq = record { ends = (least_is c _ _ _ _ hp.0 hp.0 hq.0 hq.0, greatest_is d _ _ _ _ hp.1 hp.1 hq.1 hq.1) }
 
 -- scaling by two numbers, one after the other, lies within scaling by their product
-once_within : (i : Interval) (a b f : Fraction) → IsProper i → times a b ≈ f → product (product i (exactly a)) (exactly b) ⊆ product i (exactly f)
+pub once_within : (i : Interval) (a b f : Fraction) → IsProper i → times a b ≈ f → product (product i (exactly a)) (exactly b) ⊆ product i (exactly f)
 unfolding product
 once_within everything a b f p e = within_everything _
 once_within (between l u) a b f p e =

@@ -21,9 +21,17 @@ periodic_bound = bounded (neg_ℤ (pos (5 * 2 ^ 32))) (pos (5 * 2 ^ 32)) (45 * 2
 unfoldable pub turns_bound : Limits → Bound
 turns_bound l = spanned_bound l (bounded (neg_ℤ (pos (846764 * 2 ^ 32))) (pos (846764 * 2 ^ 32)) (7769 * 2 ^ 40) (2 ^ 43))
 
--- the bounds of the days, and of what the sun is ahead of its mean longitude
-abbrev pub days_and_periodic : ℕ → Bound
-days_and_periodic k = if k == 0 then days_of_years k else periodic_bound
+-- the nutation, of such days: at most a 50000th as wide as they are, and 5.5 units
+abbrev pub nutation_bound : Bound
+nutation_bound = bounded (neg_ℤ (pos (2 ^ 25))) (pos (2 ^ 25)) (2 ^ 40 / 50000) (11 * 2 ^ 27)
+
+-- its waves in whole numbers, in ten-millionths of a degree, where they are close
+unfoldable pub close_waves_bound : Limits → Bound
+close_waves_bound l = spanned_bound l (bounded (neg_ℤ (pos (51535 * 2 ^ 32))) (pos (51535 * 2 ^ 32)) 0 (2 ^ 51))
+
+-- the bounds of the days, of what the sun is ahead of its mean longitude, and of the nutation
+abbrev pub days_and_parts : ℕ → Bound
+days_and_parts k = if k == 0 then days_of_years k else (if k == 1 then periodic_bound else nutation_bound)
 
 -- at most 1.031 times as wide as the days, and 24 units
 abbrev pub longitude_bound : Bound

@@ -8,12 +8,13 @@ ghost use Rattle.std.specs.Prelude.{◌≡◌, Ok, IfOk, IsTrue};
 ghost use Rattle.exact_math.specs.Interval.{everything, ◌⊆◌};
 ghost use Rattle.book_model.specs.numbers.Ranges.{IsInTable};
 ghost use Rattle.book_model.specs.programs.Calls.{Follows1, Holds1};
-ghost use Rattle.book_model.specs.sky.Sun.{longitude_of, sun_of};
+ghost use Rattle.book_model.specs.sky.Sun.{longitude_of, nutation_of, sun_of};
 ghost use Rattle.sun_core.specs.Courses.{greatest_waves_of, other_waves_of};
 ghost use Rattle.sun_core.specs.Daily.{in_centuries};
 ghost use Rattle.sun_core.specs.Steps.{periodic_of};
 
 use crate::longitude::{aberration, mean_longitude, nutation};
+use crate::nutation_sum::nutation_in_whole_numbers;
 use crate::turns::{greatest_in_whole_numbers, other_in_whole_numbers};
 use crate::waves::Days;
 use book_model::sun_tables::{SUN_UNIT_COARSELY, SUN_UNIT_FINELY, SUN_WAVES};
@@ -66,6 +67,20 @@ fn other_waves<E: Enclosure>(days: E) -> E
     other_by_rows(days)
 }
 
+/// The nutation: in whole numbers over the coarse kind, where the stretch is short enough.
+#[tactic(auto, unfolding(crate::specs::Daily::in_centuries))]
+fn nutation_over<E: Enclosure>(days: E) -> E
+    ensures holds { Holds1 E.shown (λ x. nutation_of (in_centuries x)) days result }
+{
+    let c = days.mul_frac(DAY_IN_CENTURIES);
+    if E::BITS == 36 {
+        if let Some(whole) = nutation_in_whole_numbers(days, c) {
+            return whole;
+        }
+    }
+    nutation(c)
+}
+
 /// The days of dynamical time, counted from noon of 1 January 2000, of a stretch of universal time; none where it isn't decided of
 /// the stretch in which year it lies, as where it leaves a year. The tests are no part of a run.
 pub fn days_over<E: Enclosure>(stretch: E, trail: &Trail) -> Option<E> {
@@ -106,7 +121,7 @@ impl<E: Enclosure> SunCourse<E> {
             days,
             waves: other_waves(days),
             aberration: aberration(days),
-            nutation: nutation(days.mul_frac(DAY_IN_CENTURIES)),
+            nutation: nutation_over(days),
         }
     }
 
@@ -117,6 +132,13 @@ impl<E: Enclosure> SunCourse<E> {
         ensures all { E.shown result ≡ everything }
     {
         SunCourse::<E>::of(E::whole())
+    }
+
+    /// The nutation in longitude over the days of the course, in degrees.
+    pub fn nutation(&self) -> E
+        ensures holds { Holds1 E.shown (λ x. nutation_of (in_centuries x)) self.now result }
+    {
+        self.nutation
     }
 
     /// Whether days lie within those of the course.

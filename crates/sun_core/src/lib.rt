@@ -22,6 +22,7 @@ mod ecliptic;
 mod equation;
 mod estimates;
 mod longitude;
+mod nutation_sum;
 mod passages;
 mod stars;
 mod turns;

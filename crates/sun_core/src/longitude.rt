@@ -11,10 +11,11 @@ ghost use Rattle.greatest_widths.specs.declared.table.TheConstants.{SUN};
 ghost use Rattle.greatest_widths.specs.Table.{greatest_of};
 ghost use Rattle.time_scales.specs.Steps.{IsYearOpenFor};
 ghost use Rattle.sun_core.specs.Daily.{in_centuries};
-ghost use Rattle.sun_core.specs.Widths.{days_of_years, longitude_bound, periodic_bound};
+ghost use Rattle.sun_core.specs.Widths.{days_of_years, longitude_bound, nutation_bound, periodic_bound};
 ghost use Rattle.sun_core.specs.Steps.{mean_longitude_of, periodic_of, computed_aberration_of, computed_mean_longitude_of, computed_periodic_of, computed_longitude_of};
 
 use crate::daily::times_rate;
+use crate::nutation_sum::close_nutation;
 use crate::turns::periodic_in_whole_numbers;
 use crate::waves::{Days, cosine_wave, quadratic_wave};
 use book_model::sun_tables::{
@@ -32,6 +33,25 @@ pub fn nutation<E: Enclosure>(c: E) -> E
     ensures encloses { Encloses1 E.shown E.BITS nutation_of c result }
 {
     quadratic_wave(&NODE_NUTATION, c).add(quadratic_wave(&SOLAR_NUTATION, c))
+}
+
+/// The nutation in longitude, in degrees, by the days from noon of 1 January 2000 and these in centuries: in whole numbers over the coarse
+/// kind, where its days are known closely enough, and else wave by wave.
+pub(crate) fn nutation_by_days<E: Enclosure>(days: E, c: E) -> E
+    ensures holds { (w : World) (x : Expression) → Within E.shown w x days
+        → Within E.shown w (in_centuries x) c → Within E.shown w
+        (nutation_of (in_centuries x)) result }
+    ensures narrow { (E.BITS ≡ 36 → ⊥) → Narrows1 E.shown E.BITS nutation_of c result }
+    ensures close { (w : ℕ) → E.BITS ≡ 36 → Narrow E.shown (limits_of E.BITS)
+        (record { width = w; bounds = days_of_years }) (in_centuries (argument 0)) c
+        → IsNarrow w nutation_bound (E.shown result) }
+{
+    if E::BITS == 36 {
+        if let Some(whole) = close_nutation(days, c) {
+            return whole;
+        }
+    }
+    nutation(c)
 }
 
 /// The aberration, by the days from noon of 1 January 2000.
@@ -98,7 +118,7 @@ fn longitude<E: Enclosure>(days: E, c: E) -> E
     mean_longitude(days)
         .add(sum_of_waves(days))
         .add(aberration(days))
-        .add(nutation(c))
+        .add(nutation_by_days(days, c))
 }
 
 /// The apparent longitude of the sun at a moment of universal time, in degrees from 0 up to 360 (Reingold and
