@@ -10,3 +10,4 @@ pub mod Bisections
 pub mod PhaseDays
 pub mod Measured
 pub mod QuarterWidths
+pub mod HigherTerms

@@ -14,7 +14,9 @@ use Rattle.book_model.specs.sky.Moon.{flattening_of, longitude_term_of, lunar_an
 use Rattle.book_model.specs.sky.Phases.{phase_of, nearest_moon_of}
 use Rattle.book_model.specs.sky.Sun.{nutation_of}
 use Rattle.moon_core.specs.Angles.{HoldAngles}
+use Rattle.moon_core.specs.HigherTerms.{HoldHigherTerms}
 use Rattle.moon_core.specs.declared.angles.Angles.{Angles}
+use Rattle.moon_core.specs.declared.higher_terms.HigherTerms.{HigherTerms}
 use Rattle.multiple_sums.specs.declared.tables.TheConstants.{GREATEST_TERMS}
 use Rattle.sun_core.specs.Daily.{in_centuries}
 
@@ -26,7 +28,8 @@ unfoldable pub other_terms_of : Expression → Expression
 other_terms_of x = terms_of (longitude_term_of (lunar_angles_of (in_centuries x))) no_term (slice_range MOON_TERMS GREATEST_TERMS (length MOON_TERMS))
 
 -- a course's parts hold those of the longitude at each number of days of the stretch
-pub record IsMoonCourse {E : Type 0} (shown : E → Interval) (days : E) (a : Angles E) (t v j f n : E) : Type 0 where
+pub record IsMoonCourse {E : Type 0} (shown : E → Interval) (days : E) (b : HigherTerms E) (a : Angles E) (t v j f n : E) : Type 0 where
+  pub higher : (w : World) (x : Expression) → Within shown w x days → HoldHigherTerms shown w (in_centuries x) b
   pub angles : (w : World) (x : Expression) → Within shown w x days → HoldAngles shown w (lunar_angles_of (in_centuries x)) a
   pub terms : Holds1 shown other_terms_of days t
   pub venus : Holds1 shown (λ x. wave_of (in_centuries x) VENUS_WAVE) days v

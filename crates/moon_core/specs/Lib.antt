@@ -4,3 +4,4 @@ pub mod Daily
 pub mod Elements
 pub mod Widths
 pub mod PhaseDays
+pub mod HigherTerms

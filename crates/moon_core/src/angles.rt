@@ -52,7 +52,7 @@ pub(crate) fn daily_quartic<E: Enclosure>(angle: &Quartic, days: E, c: E) -> E
 /// A cubic of the time, in the same way.
 #[inline(always)]
 #[tactic(auto, using(time_scales::proofs::Powers::cubes), unfolding(book_model::specs::numbers::Polynomials::cubic_of, sun_core::specs::Daily::by_centuries, crate::specs::Daily::daily_cubic_of))]
-fn daily_cubic<E: Enclosure>(angle: &Cubic, days: E, c: E) -> E
+pub(crate) fn daily_cubic<E: Enclosure>(angle: &Cubic, days: E, c: E) -> E
     ensures holds { (w : World) (x : Expression) → Within E.shown w x days
         → Within E.shown w (in_centuries x) c → Within E.shown w
         (cubic_of angle.now (in_centuries x)) result }

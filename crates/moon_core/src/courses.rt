@@ -6,13 +6,16 @@ ghost use Rattle.exact_math.specs.Interval.{◌⊆◌};
 ghost use Rattle.book_model.specs.numbers.Depth.{DEPTH};
 ghost use Rattle.book_model.specs.numbers.Expressions.{Expression, World};
 ghost use Rattle.book_model.specs.numbers.Relations.{Within};
-ghost use Rattle.book_model.specs.programs.Calls.{Follows1};
+ghost use Rattle.book_model.specs.programs.Calls.{Follows1, Holds1};
+ghost use Rattle.book_model.specs.sky.Sun.{nutation_of};
 ghost use Rattle.book_model.specs.sky.Moon.{LunarAngles, lunar_angles_of, longitude_terms_of, inequalities_of, moon_longitude_of, moon_of};
 ghost use Rattle.moon_core.specs.Angles.{HoldAngles};
+ghost use Rattle.moon_core.specs.HigherTerms.{HoldHigherTerms};
 ghost use Rattle.moon_core.specs.Courses.{greatest_terms_of, other_terms_of};
 ghost use Rattle.sun_core.specs.Daily.{in_centuries};
 
-use crate::angles::{Angles, angles_at, daily_quartic};
+use crate::angles::Angles;
+use crate::higher_terms::{HigherTerms, angles_by, higher_terms, quartic_by};
 use crate::longitude::flattening;
 use book_model::moon_tables::{
     ELONGATION, JUPITER_WAVE, MILLIONTH, MOON_ANOMALY, MOON_LONGITUDE, MOON_TERMS, VENUS_WAVE,
@@ -132,6 +135,7 @@ fn with_any<E: Enclosure>(angles: Angles<E>) -> Angles<E>
 #[derive(Drop)]
 pub(crate) struct MoonCourse<E: Enclosure> {
     days: E,
+    higher: HigherTerms<E>,
     angles: Angles<E>,
     terms: E,
     venus: E,
@@ -147,46 +151,56 @@ impl<E: Enclosure> Model for MoonCourse<E> {
 
     ghost view = { λ s. s.days };
 
-    ghost invariant = { λ s. IsMoonCourse E.shown s.days s.angles s.terms s.venus s.jupiter
+    ghost invariant = { λ s. IsMoonCourse E.shown s.days s.higher s.angles s.terms s.venus s.jupiter
         s.flattening s.nutation };
 }
 
 impl<E: Enclosure> MoonCourse<E> {
-    /// The course over days, and these in centuries, by angles that hold there.
-    fn by(days: E, c: E, angles: Angles<E>) -> Self
-        requires centuries { (w : World) (x : Expression) → Within E.shown w x days
-            → Within E.shown w (in_centuries x) c }
+    /// The course over days, by the higher terms, the angles and the nutation that hold there.
+    fn by(days: E, higher: HigherTerms<E>, angles: Angles<E>, nutation: E) -> Self
+        requires higher { (w : World) (x : Expression) → Within E.shown w x days
+            → HoldHigherTerms E.shown w (in_centuries x) higher }
         requires angles { (w : World) (x : Expression) → Within E.shown w x days
             → HoldAngles E.shown w (lunar_angles_of (in_centuries x)) angles }
+        requires nutation { Holds1 E.shown (λ x. nutation_of (in_centuries x)) days nutation }
         ensures days { result ≡ days }
     {
         MoonCourse {
             days,
+            higher,
             angles,
             terms: other_terms(angles),
             venus: sine_wave(&VENUS_WAVE, days),
             jupiter: sine_wave(&JUPITER_WAVE, days),
             flattening: flattening(
-                daily_quartic(&MOON_LONGITUDE, days, c),
+                quartic_by(&MOON_LONGITUDE, days, higher.longitude),
                 angles.latitude_argument,
             ),
-            nutation: nutation(c),
+            nutation,
         }
     }
 
-    /// The course over days.
-    pub(crate) fn of(days: E) -> Self
+    /// The course over days, by the nutation there.
+    pub(crate) fn of(days: E, nutation: E) -> Self
+        requires nutation { Holds1 E.shown (λ x. nutation_of (in_centuries x)) days nutation }
         ensures days { result ≡ days }
     {
         let c = days.mul_frac(DAY_IN_CENTURIES);
-        MoonCourse::<E>::by(days, c, angles_at(days, c))
+        let higher = higher_terms(c);
+        MoonCourse::<E>::by(days, higher, angles_by(days, c, higher), nutation)
     }
 
     /// The course over the usual days, over which its terms come to their whole size.
     pub(crate) fn usual() -> Self {
         let days = E::from_int(FIRST_USUAL_DAY).hull(E::from_int(LAST_USUAL_DAY));
         let c = days.mul_frac(DAY_IN_CENTURIES);
-        MoonCourse::<E>::by(days, c, with_any(angles_at(days, c)))
+        let higher = higher_terms(c);
+        MoonCourse::<E>::by(
+            days,
+            higher,
+            with_any(angles_by(days, c, higher)),
+            nutation(c),
+        )
     }
 
     /// Whether days lie within those of the course.
@@ -197,53 +211,46 @@ impl<E: Enclosure> MoonCourse<E> {
     }
 
     /// The angles by days of the course: those by which the greatest terms turn at these days, the others of the course.
-    fn angles_on(&self, days: E, c: E) -> Angles<E>
+    fn angles_on(&self, days: E) -> Angles<E>
         requires there { E.shown days ⊆ E.shown self.now }
         ensures holds { (w : World) (x : Expression) → Within E.shown w x days
-            → Within E.shown w (in_centuries x) c → HoldAngles E.shown w
-            (lunar_angles_of (in_centuries x)) result }
+            → HoldAngles E.shown w (lunar_angles_of (in_centuries x)) result }
     {
         Angles {
-            elongation: daily_quartic(&ELONGATION, days, c),
+            elongation: quartic_by(&ELONGATION, days, self.higher.elongation),
             sun_anomaly: self.angles.sun_anomaly,
-            moon_anomaly: daily_quartic(&MOON_ANOMALY, days, c),
+            moon_anomaly: quartic_by(&MOON_ANOMALY, days, self.higher.moon_anomaly),
             latitude_argument: self.angles.latitude_argument,
             eccentricity: self.angles.eccentricity,
         }
     }
 
     /// The sum of the longitude's terms by days of the course, in millionths of a degree.
-    fn terms_on(&self, days: E, c: E) -> E
+    fn terms_on(&self, days: E) -> E
         requires there { E.shown days ⊆ E.shown self.now }
-        ensures holds { (w : World) (x : Expression) → Within E.shown w x days
-            → Within E.shown w (in_centuries x) c → Within E.shown w
-            (longitude_terms_of (in_centuries x)) result }
+        ensures holds { Holds1 E.shown (λ x. longitude_terms_of (in_centuries x)) days result }
     {
-        greatest_terms(self.angles_on(days, c)).add(self.terms)
+        greatest_terms(self.angles_on(days)).add(self.terms)
     }
 
     /// What the moon is ahead of its mean longitude by days of the course, in millionths of a degree.
-    fn inequalities_on(&self, days: E, c: E) -> E
+    fn inequalities_on(&self, days: E) -> E
         requires there { E.shown days ⊆ E.shown self.now }
-        ensures holds { (w : World) (x : Expression) → Within E.shown w x days
-            → Within E.shown w (in_centuries x) c → Within E.shown w
-            (inequalities_of (in_centuries x)) result }
+        ensures holds { Holds1 E.shown (λ x. inequalities_of (in_centuries x)) days result }
     {
-        self.terms_on(days, c)
+        self.terms_on(days)
             .add(self.venus)
             .add(self.jupiter)
             .add(self.flattening)
     }
 
-    /// The longitude of the moon by days of the course, and these in centuries; not reduced.
-    fn longitude_on(&self, days: E, c: E) -> E
+    /// The longitude of the moon by days of the course, not reduced.
+    fn longitude_on(&self, days: E) -> E
         requires there { E.shown days ⊆ E.shown self.now }
-        ensures holds { (w : World) (x : Expression) → Within E.shown w x days
-            → Within E.shown w (in_centuries x) c → Within E.shown w
-            (moon_longitude_of (in_centuries x)) result }
+        ensures holds { Holds1 E.shown (λ x. moon_longitude_of (in_centuries x)) days result }
     {
-        daily_quartic(&MOON_LONGITUDE, days, c)
-            .add(self.inequalities_on(days, c).mul_frac(MILLIONTH))
+        quartic_by(&MOON_LONGITUDE, days, self.higher.longitude)
+            .add(self.inequalities_on(days).mul_frac(MILLIONTH))
             .add(self.nutation)
     }
 }
@@ -264,6 +271,5 @@ pub(crate) fn moon_by<E: Enclosure>(
     if !course.covers(days) {
         return Err(Fail::Void(Site::MoonWrap));
     }
-    let c = days.mul_frac(DAY_IN_CENTURIES);
-    wrap_step(course.longitude_on(days, c), 360, Site::MoonWrap, trail)
+    wrap_step(course.longitude_on(days), 360, Site::MoonWrap, trail)
 }

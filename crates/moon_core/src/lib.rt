@@ -15,6 +15,7 @@
 mod angles;
 mod courses;
 mod elements;
+mod higher_terms;
 mod latitudes;
 mod longitude;
 mod numbers;

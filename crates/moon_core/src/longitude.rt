@@ -129,8 +129,8 @@ fn terms_in_whole_numbers<E: Enclosure>(days: E, angles: Angles<E>) -> Option<E>
         angles.latitude_argument,
         angles.eccentricity,
     )?;
-    // One radius stands for the four angles as for the widest of them: over wide days the rows are narrower. By the test the longitude
-    // keeps the bound that it has by the rows, whichever way its terms are summed.
+    // Each angle has one half width, that of its middle: over wide days the rows are narrower. By the test the longitude keeps the
+    // bound that it has by the rows, whichever way its terms are summed.
     let sum = close_sum(span, longitude_sum(&turns))?;
     Some(E::from_span(sum))
 }

@@ -20,9 +20,10 @@ pub struct PhaseCourse<E: Enclosure> {
 impl<E: Enclosure> PhaseCourse<E> {
     /// The courses over days, counted from noon of 1 January 2000 in dynamical time.
     pub(crate) fn of(days: E) -> Self {
+        let sun = SunCourse::<E>::of(days);
         PhaseCourse {
-            moon: MoonCourse::<E>::of(days),
-            sun: SunCourse::<E>::of(days),
+            moon: MoonCourse::<E>::of(days, sun.nutation()),
+            sun,
         }
     }
 

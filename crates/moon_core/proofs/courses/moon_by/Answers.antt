@@ -21,5 +21,5 @@ returns g c = record {
       (λ d r.
       let days = c.sub-days.ensures.encloses.holds w d (constant (fraction_of NOON_2000)) r (c.from_frac.ensures.encloses.holds w r.deep) in
       c.wrap_step.ensures.leads w (moon_longitude_of (in_centuries (subtract d (constant (fraction_of NOON_2000)))))
-      (c.longitude_on.ensures.holds w (subtract d (constant (fraction_of NOON_2000))) days (c.mul_frac-c.ensures.encloses.holds w _ days))));
+      (c.longitude_on.ensures.holds w (subtract d (constant (fraction_of NOON_2000))) days)));
 }

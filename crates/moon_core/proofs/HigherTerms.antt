@@ -1,0 +1,24 @@
+-- A quartic is the sum of its constant, its linear term and its higher terms.
+use Rattle.exact_math.specs.Interval.{Interval, everything, between, ◌⊆◌, sum}
+use Rattle.exact_math.proofs.Intervals.{within_trans}
+use Rattle.exact_math.proofs.Same.{plus_assoc, le_of_same, ge_of_same}
+use Rattle.book_model.specs.declared.polynomial.Quartic.{Quartic}
+use Rattle.book_model.specs.numbers.Expressions.{Expression, World, value, constant, add, scale}
+use Rattle.book_model.specs.numbers.Fractions.{fraction_of}
+use Rattle.book_model.specs.numbers.Polynomials.{quartic_of}
+use Rattle.book_model.specs.numbers.Relations.{Within, Lies}
+use Rattle.moon_core.specs.HigherTerms.{higher_sum_of}
+
+-- sums of three
+regrouped : (i j k : Interval) → sum (sum i j) k ⊆ sum i (sum j k)
+unfolding sum
+regrouped everything j k = record { ends = tt }
+regrouped (between a b) everything k = record { ends = tt }
+regrouped (between a b) (between c d) everything = record { ends = tt }
+regrouped (between a b) (between c d) (between e f) = record { ends = (ge_of_same (plus_assoc a c e), le_of_same (plus_assoc b d f)) }
+
+-- what holds the sum of the constant, the linear term and the higher terms holds the quartic
+pub with_higher : {E : Type 0} (shown : E → Interval) (w : World) (p : Quartic) (x : Expression) (e : E)
+    → Within shown w (add (add (constant (fraction_of p.constant)) (scale (fraction_of p.linear) x)) (higher_sum_of p x)) e → Within shown w (quartic_of p x) e
+unfolding Lies value quartic_of higher_sum_of
+with_higher shown w p x e h = record { deep = h.deep; inside = within_trans (regrouped _ _ _) (within_trans (regrouped _ _ _) h.inside) }

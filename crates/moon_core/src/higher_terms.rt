@@ -1,0 +1,87 @@
+//! The higher terms of a quartic of the time, which are those in its square, its cube and its fourth power. Over a stretch of some days
+//! they hardly move, so a course takes their sum once, and a moment of the stretch only the constant and the linear term.
+ghost use Rattle.book_model.specs.numbers.Expressions.{Expression, World, power};
+ghost use Rattle.book_model.specs.numbers.Polynomials.{quartic_of};
+ghost use Rattle.book_model.specs.numbers.Relations.{Within};
+ghost use Rattle.book_model.specs.sky.Moon.{lunar_angles_of};
+ghost use Rattle.moon_core.specs.Angles.{HoldAngles};
+ghost use Rattle.moon_core.specs.HigherTerms.{HoldHigherTerms, higher_sum_of};
+ghost use Rattle.sun_core.specs.Daily.{in_centuries};
+
+use crate::angles::{Angles, daily_cubic};
+use book_model::Quartic;
+use book_model::moon_tables::{
+    ECCENTRICITY_FACTOR, ELONGATION, LATITUDE_ARGUMENT, MOON_ANOMALY, MOON_LONGITUDE, SUN_ANOMALY,
+};
+use encl_core::Enclosure;
+use sun_core::times_rate;
+use time_scales::quadratic;
+
+/// The sums of the higher terms of the moon's mean longitude, its mean elongation from the sun, its mean anomaly and the argument of its
+/// latitude, in degrees.
+#[derive(Clone, Copy, Drop)]
+pub(crate) struct HigherTerms<E> {
+    pub(crate) longitude: E,
+    pub(crate) elongation: E,
+    pub(crate) moon_anomaly: E,
+    pub(crate) latitude_argument: E,
+}
+
+/// The sum of the higher terms of one quartic, by the centuries from noon of 1 January 2000, and the square and the cube of these.
+#[inline(always)]
+#[tactic(auto, using(time_scales::proofs::Powers::fourths), unfolding(crate::specs::HigherTerms::higher_sum_of))]
+fn higher_sum<E: Enclosure>(angle: &Quartic, c: E, square: E, cube: E) -> E
+    ensures holds { (w : World) (x : Expression) → Within E.shown w x c
+        → Within E.shown w (power x 2) square → Within E.shown w (power x 3) cube
+        → Within E.shown w (higher_sum_of angle.now x) result }
+{
+    square.mul_frac(angle.square).add(
+        cube.mul_frac(angle.cube)
+            .add(cube.mul_frac(angle.fourth).mul(c)),
+    )
+}
+
+/// The sums of the four, by the centuries from noon of 1 January 2000.
+#[tactic(auto, using(time_scales::proofs::Powers::cubes))]
+pub(crate) fn higher_terms<E: Enclosure>(c: E) -> HigherTerms<E>
+    ensures holds { (w : World) (x : Expression) → Within E.shown w x c
+        → HoldHigherTerms E.shown w x result }
+{
+    let square = c.square();
+    let cube = square.mul(c);
+    HigherTerms {
+        longitude: higher_sum(&MOON_LONGITUDE, c, square, cube),
+        elongation: higher_sum(&ELONGATION, c, square, cube),
+        moon_anomaly: higher_sum(&MOON_ANOMALY, c, square, cube),
+        latitude_argument: higher_sum(&LATITUDE_ARGUMENT, c, square, cube),
+    }
+}
+
+/// A quartic of the time by the days from noon of 1 January 2000, and the sum of its higher terms there.
+#[inline(always)]
+#[tactic(auto, using(crate::proofs::HigherTerms::with_higher), unfolding(sun_core::specs::Daily::by_centuries))]
+pub(crate) fn quartic_by<E: Enclosure>(angle: &Quartic, days: E, higher: E) -> E
+    ensures holds { (w : World) (x : Expression) → Within E.shown w x days
+        → Within E.shown w (higher_sum_of angle.now (in_centuries x)) higher → Within E.shown w
+        (quartic_of angle.now (in_centuries x)) result }
+{
+    E::from_frac(angle.constant)
+        .add(times_rate(days, angle.linear))
+        .add(higher)
+}
+
+/// The angles by the days from noon of 1 January 2000, these in centuries, and the sums of the quartics' higher terms there.
+#[tactic(auto, unfolding(book_model::specs::sky::Moon::lunar_angles_of))]
+pub(crate) fn angles_by<E: Enclosure>(days: E, c: E, higher: HigherTerms<E>) -> Angles<E>
+    ensures holds { (w : World) (x : Expression) → Within E.shown w x days
+        → Within E.shown w (in_centuries x) c → HoldHigherTerms E.shown w (in_centuries x) higher
+        → HoldAngles E.shown w (lunar_angles_of (in_centuries x)) result }
+{
+    Angles {
+        elongation: quartic_by(&ELONGATION, days, higher.elongation),
+        sun_anomaly: daily_cubic(&SUN_ANOMALY, days, c),
+        moon_anomaly: quartic_by(&MOON_ANOMALY, days, higher.moon_anomaly),
+        latitude_argument: quartic_by(&LATITUDE_ARGUMENT, days, higher.latitude_argument),
+        eccentricity: quadratic(&ECCENTRICITY_FACTOR, c),
+    }
+}
