@@ -85,11 +85,27 @@ pub static CALENDARS: [CalendarRow; 13] = [
 impl Calendar {
     ghost use Rattle.book_model.specs.calendars.Dates.{row_of};
 
+    // By the places of the table, each a constant: where a place is computed, the whole table is written to the stack at each
+    // call, 350 instructions, and a line wants some four rows.
     /// What the calendar differs in.
     pub fn row(self) -> CalendarRow
         ensures row { result ≡ row_of self }
     {
         let rows = CALENDARS;
-        rows[self as usize]
+        match self {
+            Calendar::Gregorian => rows[0],
+            Calendar::Fixed => rows[1],
+            Calendar::Persian => rows[2],
+            Calendar::Bahai => rows[3],
+            Calendar::Chinese => rows[4],
+            Calendar::Vietnamese => rows[5],
+            Calendar::Korean => rows[6],
+            Calendar::Japanese => rows[7],
+            Calendar::Islamic => rows[8],
+            Calendar::HinduSolar => rows[9],
+            Calendar::HinduLunar => rows[10],
+            Calendar::French => rows[11],
+            Calendar::HebrewObserved => rows[12],
+        }
     }
 }

@@ -1,12 +1,13 @@
 //! Roots of whole numbers, rounded down.
 //!
-//! `isqrt` of std halves its range 64 times, with a product of 128 bits each time, and an arcsine takes two roots. A few steps of Newton's
-//! rule come to the same root in far less. What they come to isn't proved but tested, by one square: so a guess that is off costs time
-//! and never a digit.
+//! `isqrt` of std halves its range 64 times, with a product of 128 bits each time, and an arcsine takes two roots. A few
+//! steps of Newton's rule come to the same root in far less. What they come to isn't proved but tested, by one square: so a
+//! guess that is off costs time and never a digit.
 ghost use Rattle.std.specs.Prelude.{◌≤◌, ◌<◌, ◌+◌, ◌*◌, IsTrue};
 
-/// How many steps are made. A first guess of at most twice the root is off by at most the root; a step makes of a part e of the root that a
-/// guess is off e² / (2 + 2e). After six of them that is below 2⁻¹⁰⁰, and roots have 64 bits: so what is left is the rounding.
+/// How many steps are made. A first guess of at most twice the root is off by at most the root; a step makes of a part e
+/// of the root that a guess is off e² / (2 + 2e). After six of them that is below 2⁻¹⁰⁰, and roots have 64 bits: so what is
+/// left is the rounding.
 const STEPS: u32 = 6;
 
 /// A step of Newton's rule: the mean of a guess and of the number over it.
