@@ -1,3 +1,4 @@
 pub mod Angles
+pub mod Months
 pub mod Moons
 pub mod Widths

@@ -7,7 +7,9 @@
 #![tactic(auto)]
 
 mod angles;
+mod months;
 mod moons;
+mod planets;
 mod powers;
 mod terms;
 

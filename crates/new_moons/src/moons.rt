@@ -19,6 +19,8 @@ ghost use Rattle.new_moons.specs.Moons.{computed_mean_of, computed_node_term_of,
 ghost use Rattle.book_model.specs.declared.time_tables.TheConstants.{RECENT_START, TABLE_END};
 
 use crate::angles::{Angles, angles_at};
+use crate::months::{angles_by_months, mean_by_months, node_by_months, powers_at};
+use crate::planets::planets_in_whole_numbers;
 use crate::terms::Number;
 use book_model::new_moon_tables::{
     MEAN_NEW_MOON, NEW_MOON_NODE, NEW_MOON_OF_2000, NEW_MOON_TERMS, NEW_MOON_WAVE, NODE_TERM,
@@ -134,9 +136,38 @@ fn planet_terms<E: Enclosure>(number: i64) -> E
     sum_of_terms::<Number, E, PlanetTerm>(&PLANET_TERMS, Number(number))
 }
 
-/// The new moon of a number, counted from that of January 2000, in dynamical time.
+/// What the planets add, in days: in whole numbers, and row by row where these have no room.
+fn planets<E: Enclosure>(number: i64) -> E
+    requires low { negsuc 40049999 ≤ℤ number }
+    requires high { number ≤ℤ pos 40050000 }
+    ensures holds { Holds E.shown (spec.planet_terms_of number) result }
+{
+    match planets_in_whole_numbers(number) {
+        Some(whole) => whole,
+        None => planet_terms(number),
+    }
+}
+
+/// The new moon of a number by months, in dynamical time: each polynomial by what a month adds and by powers of the centuries, and the
+/// planets in whole numbers.
+fn moon_by_months<E: Enclosure>(number: i64) -> E
+    requires low { negsuc 40049999 ≤ℤ number }
+    requires high { number ≤ℤ pos 40050000 }
+    ensures holds { Holds E.shown (spec.dynamical_new_moon_of number) result }
+{
+    let time = centuries_of_months(number);
+    let powers = powers_at::<E>(time);
+    E::from_frac(NOON_2000)
+        .add(mean_by_months(number, powers))
+        .add(sin_deg(node_by_months(number, powers)).mul_frac(NODE_TERM))
+        .add(sum_of_angles(angles_by_months(number, powers)))
+        .add(venus_wave::<E>(time))
+        .add(planets::<E>(number))
+}
+
+/// The new moon of a number by its time, in dynamical time: each polynomial at an exact fraction, and the planets row by row.
 #[tactic(auto, unfolding(book_model::specs::sky::NewMoons::dynamical_new_moon_of, crate::specs::Moons::computed_new_moon_of))]
-fn dynamical_new_moon<E: Enclosure>(number: i64) -> E
+fn moon_by_time<E: Enclosure>(number: i64) -> E
     requires low { negsuc 40049999 ≤ℤ number }
     requires high { number ≤ℤ pos 40050000 }
     ensures holds { Holds E.shown (spec.dynamical_new_moon_of number) result }
@@ -153,6 +184,25 @@ fn dynamical_new_moon<E: Enclosure>(number: i64) -> E
         .add(lunar_terms::<E>(time))
         .add(venus_wave::<E>(time))
         .add(planet_terms::<E>(number))
+}
+
+/// The new moon of a number, counted from that of January 2000, in dynamical time: over the coarse kind by months, and by its time over
+/// the fine one, whose widths are proved.
+fn dynamical_new_moon<E: Enclosure>(number: i64) -> E
+    requires low { negsuc 40049999 ≤ℤ number }
+    requires high { number ≤ℤ pos 40050000 }
+    ensures holds { Holds E.shown (spec.dynamical_new_moon_of number) result }
+    ensures narrow { (E.BITS ≡ 36 → ⊥)
+        → Narrows E.shown E.BITS (computed_new_moon_of number) result }
+    ensures measured { E.BITS ≡ 56 → negsuc 31023 ≤ℤ number → number ≤ℤ pos 31024
+        → IsMoment (2 ^ 29 + 2 ^ 24) (E.shown result) }
+    ensures recent { E.BITS ≡ 56 → IsRecentMonth number
+        → IsSince (RECENT_START +ℤ pos 1) (2 ^ 29 + 2 ^ 24) (E.shown result) }
+{
+    if E::BITS == 36 {
+        return moon_by_months(number);
+    }
+    moon_by_time(number)
 }
 
 /// The moment of the new moon of a number, counted from that of January of the year 1, in universal time: one test.

@@ -25,7 +25,7 @@ fn hundred_thousandths(number: i64) -> Frac
 
 /// A number of millionths.
 #[inline(always)]
-fn millionths(number: i128) -> Frac
+pub(crate) fn millionths(number: i128) -> Frac
     ensures value { fraction_of result ≡ spec.millionths number }
 {
     Frac::new(number, 1_000_000).unwrap()

@@ -3,7 +3,7 @@ use Rattle.std.proofs.lemmas.Int.{ints, to_z-of_z}
 use Rattle.book_model.specs.numbers.Fractions.{fraction_of}
 use Rattle.new_moons.specs.Widths.{IsNearTime, IsRecentTime}
 use Rattle.new_moons.proofs.Measured.{months_near, months_recent, parts_within, recent_parts_within}
-use Rattle.new_moons.proofs.moons.dynamical_new_moon.Goals as goal
+use Rattle.new_moons.proofs.moons.moon_by_time.Goals as goal
 
 pub returns-clause-measured : goal.returns-clause-measured
 returns-clause-measured g c = λ e l h.

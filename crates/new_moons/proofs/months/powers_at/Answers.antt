@@ -1,0 +1,20 @@
+use Rattle.exact_math.specs.Fraction.{power}
+use Rattle.book_model.specs.numbers.Expressions.{constant}
+use Rattle.book_model.specs.numbers.Fractions.{fraction_of}
+use Rattle.new_moons.proofs.MonthPolynomials.{square_holds, cube_holds, fourth_holds}
+use Rattle.new_moons.proofs.months.powers_at.Goals as goal
+
+pub returns : goal.returns
+returns g c = record {
+  holds = λ w d.
+      let shown = g.E.Enclosure.shown in
+      let t = fraction_of c.args.time in
+      let h = c.from_frac-centuries.ensures.encloses.holds w d in
+      let s = square_holds shown w t _ (c.square-square.ensures.encloses.holds w (constant t) h) in
+      record {
+        centuries = h;
+        square = s;
+        cube = cube_holds shown w t _ (c.mul-cube.ensures.encloses.holds w (constant (power t 2)) (constant t) s h);
+        fourth = fourth_holds shown w t _ (c.square-fourth.ensures.encloses.holds w (constant (power t 2)) s);
+      };
+}
