@@ -5,7 +5,7 @@ pub mod Elapsed
 pub mod Reaches
 pub mod SunWaves
 pub mod QuadraticWaves
-pub mod WholeSums
+pub mod LongitudeParts
 pub mod FormulaWidths
 pub mod NewYears
 pub mod Measured

@@ -51,7 +51,7 @@ corner i j x y f p q =
     same_member (product (sum i j) (exactly f)) _ _ (plus_times x y f) (product_holds (sum i j) (exactly f) (plus x y) f (sum_holds i j x y p q)
     (le_refl f, le_refl f))
 
-sum_parts : (i j : Interval) (f : Fraction) → IsProper i → IsProper j → sum (product i (exactly f)) (product j (exactly f)) ⊆ product (sum i j) (exactly f)
+pub sum_parts : (i j : Interval) (f : Fraction) → IsProper i → IsProper j → sum (product i (exactly f)) (product j (exactly f)) ⊆ product (sum i j) (exactly f)
 unfolding sum product
 sum_parts everything j f p q = within_everything _
 sum_parts (between a b) everything f p q = within_everything _
@@ -61,7 +61,7 @@ sum_parts (between a b) (between c d) f p q =
     parts_ends a b c d f (product (sum i j) (exactly f)) (corner i j a c f (le_refl a, p) (le_refl c, q)) (corner i j a d f (le_refl a, p) (q, le_refl d))
     (corner i j b c f (p, le_refl b) (le_refl c, q)) (corner i j b d f (p, le_refl b) (q, le_refl d))
 
-sum_assoc : (i j k : Interval) → sum (sum i j) k ⊆ sum i (sum j k)
+pub sum_assoc : (i j k : Interval) → sum (sum i j) k ⊆ sum i (sum j k)
 unfolding sum
 sum_assoc everything j k = within_everything _
 sum_assoc (between a b) everything k = within_everything _
@@ -128,7 +128,7 @@ solar_is = record {
   size_same = record { cross = refl };
 }
 
-nutation_within : (w : World) (x : Expression) → value w (nutation_of (in_centuries x)) ⊆ value w (scale (ten_millionths (pos 1)) (nutation_parts x))
+pub nutation_within : (w : World) (x : Expression) → value w (nutation_of (in_centuries x)) ⊆ value w (scale (ten_millionths (pos 1)) (nutation_parts x))
 unfolding value nutation_of nutation_parts
 nutation_within w x =
     let p = turning_wave_of (moved_days node_shift x) node_wave in

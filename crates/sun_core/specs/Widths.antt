@@ -1,9 +1,9 @@
 -- How wide a longitude of the sun is at the coarse scale, whose unit is 2^-36 degrees; ranges of moments at the scale 2^-56.
-use Rattle.std.specs.Prelude.{◌≡◌, ℕ, ◌+◌, ◌-◌, ◌*◌, ◌/◌, ◌^◌, ℤ, pos, neg_ℤ, ◌*ℤ◌, true, if◌then◌else◌, ◌==◌}
+use Rattle.std.specs.Prelude.{◌≡◌, ℕ, ◌+◌, ◌-◌, ◌*◌, ◌/◌, ◌^◌, ℤ, pos, neg_ℤ, ◌*ℤ◌, true}
 use Rattle.exact_math.specs.Interval.{Interval}
 use Rattle.book_model.specs.declared.frac.Frac.{Frac}
 use Rattle.book_model.specs.declared.sun_tables.TheConstants.{GREATEST_RECENT_ADVANCE, LEAST_RECENT_CROSSING}
-use Rattle.book_model.specs.numbers.Bounds.{Bound, unbounded, bounded, bound_of, implies, limits_at, Limits, spanned_bound}
+use Rattle.book_model.specs.numbers.Bounds.{Bound, unbounded, bounded, bound_of, implies, limits_at}
 use Rattle.book_model.specs.numbers.Fractions.{fraction_of}
 use Rattle.book_model.specs.programs.Widths.{IsWithin, IsAbout}
 use Rattle.book_model.specs.sky.Noon.{ahead_of}
@@ -11,27 +11,6 @@ use Rattle.book_model.specs.sky.Noon.{ahead_of}
 -- days of the years 1800 to 2050, counted from noon of 1 January 2000, as far as a moment's width is known
 abbrev pub days_of_years : ℕ → Bound
 days_of_years k = bounded (neg_ℤ (pos (73050 * 2 ^ 32))) (pos (18263 * 2 ^ 32)) (2 ^ 40) 0
-
--- what the sun is ahead of its mean longitude, of such days: at most 0.045 times as wide as they are, and 12 units
-abbrev pub periodic_bound : Bound
-periodic_bound = bounded (neg_ℤ (pos (5 * 2 ^ 32))) (pos (5 * 2 ^ 32)) (45 * 2 ^ 40 / 1000) (12 * 2 ^ 28)
-
--- the sum of its waves in whole numbers: no further from 0 than the sizes and what they move in half a day, 846764; as wide as a slope of
--- 7769 makes it, and 2^43 parts of 2^-64 more for the roundings of the rows
-unfoldable pub turns_bound : Limits → Bound
-turns_bound l = spanned_bound l (bounded (neg_ℤ (pos (846764 * 2 ^ 32))) (pos (846764 * 2 ^ 32)) (7769 * 2 ^ 40) (2 ^ 43))
-
--- the nutation, of such days: at most a 50000th as wide as they are, and 5.5 units
-abbrev pub nutation_bound : Bound
-nutation_bound = bounded (neg_ℤ (pos (2 ^ 25))) (pos (2 ^ 25)) (2 ^ 40 / 50000) (11 * 2 ^ 27)
-
--- its waves in whole numbers, in ten-millionths of a degree, where they are close
-unfoldable pub close_waves_bound : Limits → Bound
-close_waves_bound l = spanned_bound l (bounded (neg_ℤ (pos (51535 * 2 ^ 32))) (pos (51535 * 2 ^ 32)) 0 (2 ^ 51))
-
--- the bounds of the days, of what the sun is ahead of its mean longitude, and of the nutation
-abbrev pub days_and_parts : ℕ → Bound
-days_and_parts k = if k == 0 then days_of_years k else (if k == 1 then periodic_bound else nutation_bound)
 
 -- at most 1.031 times as wide as the days, and 24 units
 abbrev pub longitude_bound : Bound

@@ -27,6 +27,7 @@ mod passages;
 mod stars;
 mod turns;
 mod waves;
+mod whole_longitude;
 
 pub use apparent::{from_apparent, noon, paris_midnight};
 pub use courses::{SunCourse, days_over, sun_by};

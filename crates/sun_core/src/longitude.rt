@@ -11,13 +11,12 @@ ghost use Rattle.greatest_widths.specs.declared.table.TheConstants.{SUN};
 ghost use Rattle.greatest_widths.specs.Table.{greatest_of};
 ghost use Rattle.time_scales.specs.Steps.{IsYearOpenFor};
 ghost use Rattle.sun_core.specs.Daily.{in_centuries};
-ghost use Rattle.sun_core.specs.Widths.{days_of_years, longitude_bound, nutation_bound, periodic_bound};
+ghost use Rattle.sun_core.specs.Widths.{days_of_years, longitude_bound};
 ghost use Rattle.sun_core.specs.Steps.{mean_longitude_of, periodic_of, computed_aberration_of, computed_mean_longitude_of, computed_periodic_of, computed_longitude_of};
 
 use crate::daily::times_rate;
-use crate::nutation_sum::close_nutation;
-use crate::turns::periodic_in_whole_numbers;
 use crate::waves::{Days, cosine_wave, quadratic_wave};
+use crate::whole_longitude::longitude_in_whole_numbers;
 use book_model::sun_tables::{
     ABERRATION, MEAN_ABERRATION, NODE_NUTATION, SOLAR_NUTATION, SUN_AT_2000, SUN_RATE,
     SUN_UNIT_COARSELY, SUN_UNIT_FINELY, SUN_WAVES,
@@ -33,25 +32,6 @@ pub fn nutation<E: Enclosure>(c: E) -> E
     ensures encloses { Encloses1 E.shown E.BITS nutation_of c result }
 {
     quadratic_wave(&NODE_NUTATION, c).add(quadratic_wave(&SOLAR_NUTATION, c))
-}
-
-/// The nutation in longitude, in degrees, by the days from noon of 1 January 2000 and these in centuries: in whole numbers over the coarse
-/// kind, where its days are known closely enough, and else wave by wave.
-pub(crate) fn nutation_by_days<E: Enclosure>(days: E, c: E) -> E
-    ensures holds { (w : World) (x : Expression) → Within E.shown w x days
-        → Within E.shown w (in_centuries x) c → Within E.shown w
-        (nutation_of (in_centuries x)) result }
-    ensures narrow { (E.BITS ≡ 36 → ⊥) → Narrows1 E.shown E.BITS nutation_of c result }
-    ensures close { (w : ℕ) → E.BITS ≡ 36 → Narrow E.shown (limits_of E.BITS)
-        (record { width = w; bounds = days_of_years }) (in_centuries (argument 0)) c
-        → IsNarrow w nutation_bound (E.shown result) }
-{
-    if E::BITS == 36 {
-        if let Some(whole) = close_nutation(days, c) {
-            return whole;
-        }
-    }
-    nutation(c)
 }
 
 /// The aberration, by the days from noon of 1 January 2000.
@@ -74,24 +54,6 @@ fn sum_by_rows<E: Enclosure>(days: E) -> E
         .mul_frac(SUN_UNIT_FINELY)
 }
 
-/// What the sun is ahead of its mean longitude: in whole numbers over the coarse kind, where its days are known well enough, and else row
-/// by row. The fine kind keeps its rows: its units are finer than what the whole numbers leave out, so that it would decide fewer of the
-/// tests that it is for.
-fn sum_of_waves<E: Enclosure>(days: E) -> E
-    ensures holds { Holds1 E.shown (λ x. periodic_of (in_centuries x)) days result }
-    ensures narrow { (E.BITS ≡ 36 → ⊥) → Narrows1 E.shown E.BITS computed_periodic_of days result }
-    ensures close { (w : ℕ) → E.BITS ≡ 36 → Narrow E.shown (limits_of E.BITS)
-        (record { width = w; bounds = days_of_years }) (argument 0) days
-        → IsNarrow w periodic_bound (E.shown result) }
-{
-    if E::BITS == 36 {
-        if let Some(whole) = periodic_in_whole_numbers(days) {
-            return whole;
-        }
-    }
-    sum_by_rows(days)
-}
-
 /// The mean longitude of the sun, not reduced.
 #[tactic(auto, unfolding(crate::specs::Daily::by_centuries, crate::specs::Steps::mean_longitude_of, crate::specs::Steps::computed_mean_longitude_of))]
 pub(crate) fn mean_longitude<E: Enclosure>(days: E) -> E
@@ -101,8 +63,25 @@ pub(crate) fn mean_longitude<E: Enclosure>(days: E) -> E
     E::from_frac(SUN_AT_2000).add(times_rate(days, SUN_RATE))
 }
 
-/// The longitude of the sun by the days from noon of 1 January 2000, and these in centuries; not reduced.
+/// The longitude of the sun by the days from noon of 1 January 2000, and these in centuries, part by part; not reduced.
 #[tactic(auto, unfolding(book_model::specs::sky::Sun::longitude_of, crate::specs::Steps::computed_longitude_of, crate::specs::Steps::periodic_of, crate::specs::Steps::mean_longitude_of))]
+fn longitude_by_parts<E: Enclosure>(days: E, c: E) -> E
+    ensures holds { (w : World) (x : Expression) → Within E.shown w x days
+        → Within E.shown w (in_centuries x) c → Within E.shown w
+        (longitude_of (in_centuries x)) result }
+    ensures narrow { (r : Reach) (x : Expression)
+        → Narrow E.shown (limits_of E.BITS) r x days → Narrow E.shown (limits_of E.BITS) r (in_centuries x) c
+        → Narrow E.shown (limits_of E.BITS) r (computed_longitude_of x) result }
+{
+    mean_longitude(days)
+        .add(sum_by_rows(days))
+        .add(aberration(days))
+        .add(nutation(c))
+}
+
+/// The longitude of the sun by the days from noon of 1 January 2000, and these in centuries, not reduced: in whole numbers over the coarse
+/// kind, where its days are known well enough, and else part by part. The fine kind keeps its parts: its units are finer than what the
+/// whole numbers leave out, so that it would decide fewer of the tests that it is for.
 fn longitude<E: Enclosure>(days: E, c: E) -> E
     ensures holds { (w : World) (x : Expression) → Within E.shown w x days
         → Within E.shown w (in_centuries x) c → Within E.shown w
@@ -115,10 +94,12 @@ fn longitude<E: Enclosure>(days: E, c: E) -> E
         → Narrow E.shown (limits_of E.BITS) (record { width = w; bounds = days_of_years })
         (in_centuries (argument 0)) c → IsNarrow w longitude_bound (E.shown result) }
 {
-    mean_longitude(days)
-        .add(sum_of_waves(days))
-        .add(aberration(days))
-        .add(nutation_by_days(days, c))
+    if E::BITS == 36 {
+        if let Some(whole) = longitude_in_whole_numbers(days, c) {
+            return whole;
+        }
+    }
+    longitude_by_parts(days, c)
 }
 
 /// The apparent longitude of the sun at a moment of universal time, in degrees from 0 up to 360 (Reingold and

@@ -2,9 +2,8 @@
 //!
 //! The angles of its two waves are quadratic. What the square of the centuries adds to one is added to the days instead, as many as add
 //! as much: so a wave is a row by turns and days as any other.
-ghost use Rattle.std.specs.Prelude.{◌≡◌, ◌≤◌, ◌^◌, pos, neg_ℤ, ◌≤ℤ◌, ◌<ℤ◌, ◌+ℤ◌, ◌*ℤ◌, ◌*◌, ℕ, IfSome};
+ghost use Rattle.std.specs.Prelude.{◌≤◌, ◌^◌, pos, neg_ℤ, ◌≤ℤ◌, ◌<ℤ◌, ◌+ℤ◌, ◌*ℤ◌, ◌*◌, ℕ, IfSome};
 ghost use Rattle.exact_math.specs.Interval.{between, ◌⊆◌};
-ghost use Rattle.book_model.specs.numbers.Bounds.{IsNarrow};
 ghost use Rattle.book_model.specs.numbers.Depth.{DEPTH};
 ghost use Rattle.book_model.specs.numbers.Expressions.{Expression, World, value, power};
 ghost use Rattle.book_model.specs.numbers.Relations.{Within};
@@ -12,7 +11,6 @@ ghost use Rattle.book_model.specs.programs.Leading.{units_of_56};
 ghost use Rattle.book_model.specs.sky.Sun.{nutation_of};
 ghost use Rattle.sun_core.specs.Daily.{in_centuries};
 ghost use Rattle.sun_core.specs.MovedDays.{node_wave, solar_wave, nutation_parts};
-ghost use Rattle.sun_core.specs.Widths.{nutation_bound};
 ghost use Rattle.turn_sums.specs.Turning.{turning_wave_of};
 
 use book_model::Frac;
@@ -56,13 +54,10 @@ const SOLAR_BELOW: i128 = 317_923_869;
 const SOLAR_ABOVE: i128 = 317_923_870;
 
 /// 2²⁰ days, which count 2⁻⁵⁶.
-const FAR: i128 = 1 << 76;
+pub(crate) const FAR: i128 = 1 << 76;
 
 /// The square of 32 centuries, which counts 2⁻⁵⁶.
 const FAR_SQUARE: i128 = 1 << 66;
-
-/// How wide the sum of both waves is at most where it is close: less than a unit of 2⁻³⁶ degrees.
-const CLOSE: i128 = 1 << 43;
 
 /// The days by which the two waves turn.
 #[derive(Clone, Copy)]
@@ -219,7 +214,7 @@ fn solar_over(days: Span) -> Option<Span>
 
 /// Both waves by the days and the square of their centuries, in ten-millionths of a degree.
 #[inline(always)]
-fn both_over(days: Span, square: Span) -> Option<Span>
+pub(crate) fn both_over(days: Span, square: Span) -> Option<Span>
     ensures holds { IfSome result (λ s. (w : World) (x : Expression) → DEPTH ≤ w.depth
         → value w x ⊆ between (units_of_56 days.lo) (units_of_56 days.hi)
         → value w (power (in_centuries x) 2) ⊆ between (units_of_56 square.lo) (units_of_56 square.hi)
@@ -256,18 +251,5 @@ pub(crate) fn nutation_in_whole_numbers<E: Enclosure>(days: E, c: E) -> Option<E
         → Within E.shown w (in_centuries x) c → Within E.shown w (nutation_of (in_centuries x)) e) }
 {
     let waves = both_waves(days, c)?;
-    Some(E::from_span(waves).mul_frac(Frac::ten_millionths(1)))
-}
-
-/// The same, where both waves are known so closely that rounding makes up most of its width, as those of a moment are.
-pub(crate) fn close_nutation<E: Enclosure>(days: E, c: E) -> Option<E>
-    ensures holds { IfSome result (λ e. (w : World) (x : Expression) → Within E.shown w x days
-        → Within E.shown w (in_centuries x) c → Within E.shown w (nutation_of (in_centuries x)) e) }
-    ensures close { IfSome result (λ e. (w : ℕ) → E.BITS ≡ 36 → IsNarrow w nutation_bound (E.shown e)) }
-{
-    let waves = both_waves(days, c)?;
-    if waves.hi - waves.lo > CLOSE {
-        return None;
-    }
     Some(E::from_span(waves).mul_frac(Frac::ten_millionths(1)))
 }

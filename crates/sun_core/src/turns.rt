@@ -1,22 +1,20 @@
 //! The sum of the sun's waves in whole numbers, where the days are known well enough.
-ghost use Rattle.std.specs.Prelude.{◌≡◌, ◌≤◌, ◌^◌, ℕ, List, length, IfSome};
+ghost use Rattle.std.specs.Prelude.{◌≤◌, ◌^◌, pos, neg_ℤ, ◌≤ℤ◌, List, length, IfSome};
+ghost use Rattle.exact_math.specs.Interval.{between, ◌⊆◌};
 ghost use Rattle.book_model.specs.declared.polynomial.Wave.{Wave};
 ghost use Rattle.book_model.specs.declared.sun_tables.TheConstants.{SUN_WAVES};
-ghost use Rattle.book_model.specs.numbers.Bounds.{IsNarrow, limits_of};
-ghost use Rattle.book_model.specs.numbers.Expressions.{Expression, World, argument};
+ghost use Rattle.book_model.specs.numbers.Depth.{DEPTH};
+ghost use Rattle.book_model.specs.numbers.Expressions.{Expression, World, value};
 ghost use Rattle.book_model.specs.numbers.Polynomials.{no_wave};
-ghost use Rattle.book_model.specs.numbers.Relations.{Within, Narrow};
+ghost use Rattle.book_model.specs.numbers.Relations.{Within};
 ghost use Rattle.book_model.specs.numbers.Terms.{terms_of};
 ghost use Rattle.book_model.specs.programs.Calls.{Holds1};
+ghost use Rattle.book_model.specs.programs.Leading.{units_of_56};
 ghost use Rattle.sun_core.specs.Courses.{greatest_waves_of, other_waves_of};
-ghost use Rattle.sun_core.specs.Daily.{in_centuries};
-ghost use Rattle.sun_core.specs.Steps.{periodic_of};
-ghost use Rattle.sun_core.specs.Widths.{days_of_years, periodic_bound, turns_bound};
-ghost use Rattle.turn_sums.specs.Turning.{AreTurning, HasReach, turning_wave_of};
+ghost use Rattle.turn_sums.specs.Turning.{AreTurning, HasReach, IsNarrowSum, turning_wave_of};
 
 use crate::courses::GREATEST_WAVES;
-use book_model::sun_tables::{SUN_UNIT_COARSELY, SUN_UNIT_FINELY};
-use encl_core::Enclosure;
+use encl_core::{Enclosure, Span};
 use turn_sums::{TurningWave, sum_over};
 
 /// The sun's 49 waves as they are summed: those of `SUN_WAVES`, in the same order, by turns and days.
@@ -91,29 +89,18 @@ const OTHER_SLOPE: u64 = 1_650_129_186_484;
 /// The sum of their sizes.
 const OTHER_SIZES: u64 = 12_441;
 
-/// The sum of the waves; `None` where the days aren't known to half a day, or lie further than 2²⁰ from noon of 1 January 2000.
+/// The sum of the waves over days; `None` where these aren't known to half a day, or lie further than 2²⁰ from noon of 1 January 2000.
 #[inline(always)]
-fn waves_in_whole_numbers<E: Enclosure>(days: E) -> Option<E>
-    ensures holds { IfSome result (λ e. (w : World) (x : Expression) → Within E.shown w x days
-        → Within E.shown w (terms_of (turning_wave_of x) no_wave SUN_WAVES) e) }
-    ensures close { IfSome result (λ e. (w : ℕ) → Narrow E.shown (limits_of E.BITS)
-        (record { width = w; bounds = days_of_years }) (argument 0) days
-        → IsNarrow w (turns_bound (limits_of E.BITS)) (E.shown e)) }
+pub(crate) fn waves_over(days: Span) -> Option<Span>
+    ensures holds { IfSome result (λ s. (w : World) (x : Expression) → DEPTH ≤ w.depth
+        → value w x ⊆ between (units_of_56 days.lo) (units_of_56 days.hi)
+        → value w (terms_of (turning_wave_of x) no_wave SUN_WAVES) ⊆ between (units_of_56 s.lo) (units_of_56 s.hi)) }
+    ensures narrow { IfSome result (λ s. IsNarrowSum 33364602334325 842879 days.lo days.hi s.lo s.hi) }
+    ensures low { IfSome result (λ s. neg_ℤ (pos (2 ^ 76)) ≤ℤ s.lo) }
+    ensures high { IfSome result (λ s. s.hi ≤ℤ pos (2 ^ 76)) }
 {
-    let span = days.span()?;
-    let sum = sum_over(&SUN_TURNS, SUN_SLOPE, SUN_SIZES, span)?;
-    Some(E::from_span(sum))
-}
-
-/// What the sun is ahead of its mean longitude, by its waves in whole numbers.
-pub(crate) fn periodic_in_whole_numbers<E: Enclosure>(days: E) -> Option<E>
-    ensures holds { IfSome result (λ e. Holds1 E.shown (λ x. periodic_of (in_centuries x)) days e) }
-    ensures close { IfSome result (λ e. (w : ℕ) → E.BITS ≡ 36 → Narrow E.shown (limits_of E.BITS)
-        (record { width = w; bounds = days_of_years }) (argument 0) days
-        → IsNarrow w periodic_bound (E.shown e)) }
-{
-    let waves = waves_in_whole_numbers(days)?;
-    Some(waves.mul_frac(SUN_UNIT_COARSELY).mul_frac(SUN_UNIT_FINELY))
+    let sum = sum_over(&SUN_TURNS, SUN_SLOPE, SUN_SIZES, days)?;
+    Some(sum)
 }
 
 /// The sum of the waves of some rows of the table, by their slope and sizes.
