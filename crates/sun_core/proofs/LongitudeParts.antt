@@ -16,7 +16,7 @@ use Rattle.book_model.specs.numbers.Expressions.{Expression, World, value, exact
 use Rattle.book_model.specs.numbers.Fractions.{fraction_of, ten_millionths, daily_ten_millionths}
 use Rattle.book_model.specs.numbers.Octants.{only, cosine_of_degrees}
 use Rattle.book_model.specs.numbers.Polynomials.{no_wave, angle_of_wave, waves_of}
-use Rattle.book_model.specs.numbers.Relations.{Narrow, Keeps}
+use Rattle.book_model.specs.numbers.Relations.{Narrow, Keeps, Lies}
 use Rattle.book_model.specs.numbers.Terms.{terms_of}
 use Rattle.book_model.specs.programs.Leading.{units_of_56}
 use Rattle.book_model.specs.sky.Sun.{aberration_of, longitude_of, nutation_of, sun_unit}
@@ -29,10 +29,12 @@ use Rattle.trig_series.proofs.SineLemmas.{AreKept, span_keeps, kept_of, spans_of
 use Rattle.turn_sums.specs.Turning.{AreTurning, HasReach, IsNarrowSum, turning_wave_of, reach_to, sizes_to}
 use Rattle.sun_core.specs.Daily.{in_centuries}
 use Rattle.sun_core.specs.MovedDays.{nutation_parts}
-use Rattle.sun_core.specs.Steps.{computed_longitude_of}
+use Rattle.sun_core.specs.Courses.{greatest_waves_of, other_waves_of}
+use Rattle.sun_core.specs.Steps.{computed_longitude_of, mean_longitude_of, periodic_of}
 use Rattle.sun_core.specs.WholeLongitude.{aberration_wave, beside_parts, whole_unit, degrees_times, longitude_times, IsLongitude, whole_bound}
 use Rattle.sun_core.specs.Widths.{days_of_years, longitude_bound}
 use Rattle.sun_core.specs.declared.whole_longitude.TheConstants.{ABERRATION_TURNS, ABERRATION_SLOPE, ABERRATION_SIZES}
+use Rattle.sun_core.proofs.OnCourse.{all_waves}
 use Rattle.sun_core.proofs.QuadraticWaves.{nutation_within, sum_assoc, sum_parts}
 use Rattle.sun_core.proofs.Reaches.{parts_reach, whole_reach}
 use Rattle.sun_core.proofs.Scalings.{same_member, once_within, twice_within, daily_ten_millionths_are}
@@ -228,6 +230,50 @@ module _ (w : World) (x : Expression) (first last from to least most lo hi : ℤ
       within_trans (sum_assoc _ (value w (aberration_of (in_centuries x))) (value w (nutation_of (in_centuries x))))
       (within_trans (sum_within (sum_within (mean_within_ends o k) (waves_within_ends d p m)) (beside_within_ends q n))
       (all_ends first last from to least most lo hi h))
+
+-- ---- the mean longitude and the waves alone
+waves_sum : (a b c d lo hi : ℤ) → lo ≡ a +ℤ c → hi ≡ b +ℤ d → sum (between (units_of_56 a) (units_of_56 b)) (between (units_of_56 c) (units_of_56 d))
+    ⊆ between (units_of_56 lo) (units_of_56 hi)
+unfolding sum plus
+waves_sum a b c d lo hi e f = record { ends = (record { cross = omega (arith, ints, e) }, record { cross = omega (arith, ints, f) }) }
+
+pub waves_together : (w : World) (x : Expression) (a b c d lo hi : ℤ) → 40 ≤ w.depth
+    → value w (greatest_waves_of x) ⊆ between (units_of_56 a) (units_of_56 b) → value w (other_waves_of x) ⊆ between (units_of_56 c) (units_of_56 d)
+    → lo ≡ a +ℤ c → hi ≡ b +ℤ d → value w (waves_of SUN_WAVES (in_centuries x)) ⊆ between (units_of_56 lo) (units_of_56 hi)
+unfolding value Lies
+waves_together w x a b c d lo hi deep h k e f =
+    let z = all_waves {shown = λ i. i} {w = w} {e = between (units_of_56 lo) (units_of_56 hi)} x
+    (record { deep = deep; inside = within_trans (sum_within h k) (waves_sum a b c d lo hi e f) }) in
+    z.inside
+
+two_low : (days waves z : ℤ) → (z *ℤ pos whole_unit) ≤ℤ longitude_times days waves (pos 0)
+    → units_of_56 z ≤F plus (plus (fraction_of SUN_AT_2000) (times (units_of_56 days) daily_rate)) (times (units_of_56 waves) sun_unit)
+unfolding plus times
+two_low days waves z k = record { cross = omega (arith, ints, k) }
+
+two_high : (days waves z : ℤ) → longitude_times days waves (pos 0) ≤ℤ (z *ℤ pos whole_unit)
+    → plus (plus (fraction_of SUN_AT_2000) (times (units_of_56 days) daily_rate)) (times (units_of_56 waves) sun_unit) ≤F units_of_56 z
+unfolding plus times
+two_high days waves z k = record { cross = omega (arith, ints, k) }
+
+two_ends : (first last from to lo hi : ℤ) → IsLongitude first last from to (pos 0) (pos 0) lo hi
+    → sum (sum (exactly (fraction_of SUN_AT_2000)) (between (times (units_of_56 first) daily_rate) (times (units_of_56 last) daily_rate)))
+    (between (times (units_of_56 from) sun_unit) (times (units_of_56 to) sun_unit))
+    ⊆ between (units_of_56 lo) (units_of_56 hi)
+unfolding sum
+two_ends first last from to lo hi h = record { ends = (two_low first from lo h.low, two_high last to hi h.high) }
+
+pub mean_and_waves_inside : (w : World) (x : Expression) (first last from to lo hi : ℤ) → IsLongitude first last from to (pos 0) (pos 0) lo hi
+    → first ≤ℤ last → from ≤ℤ to → value w x ⊆ between (units_of_56 first) (units_of_56 last)
+    → value w (waves_of SUN_WAVES (in_centuries x)) ⊆ between (units_of_56 from) (units_of_56 to)
+    → value w (add (mean_longitude_of (in_centuries x)) (periodic_of (in_centuries x))) ⊆ between (units_of_56 lo) (units_of_56 hi)
+unfolding value mean_longitude_of periodic_of
+mean_and_waves_inside w x first last from to lo hi h o p k m =
+    within_trans
+    (sum_within (mean_within_ends w x first last from to (pos 0) (pos 0) lo hi h o k)
+    (times_ends sun_unit from to (value w (waves_of SUN_WAVES (in_centuries x))) (record { cross = omega (arith, ints) }) p
+    (value_proper w (waves_of SUN_WAVES (in_centuries x))) m))
+    (two_ends first last from to lo hi h)
 
 -- ---- the products, rounded
 -- a number in 2^-40, rounded down, is small

@@ -163,6 +163,11 @@ unfolding value terms_to
 terms_within w x vs zero d = within_refl _
 terms_within w x vs (suc n) d = sum_within (terms_within w x vs n d) (wave_within w x (slice_index_or vs n no_wave) d)
 
+pub waves_inside : (w : World) (x : Expression) (vs : List Wave) (i : Interval) → 40 ≤ w.depth → value w (terms_of (turning_wave_of x) no_wave vs) ⊆ i
+    → value w (waves_of vs (in_centuries x)) ⊆ i
+unfolding terms_of
+waves_inside w x vs i d h = within_trans (terms_within w x vs (length vs) d) h
+
 pub waves_within : {E : Type 0} (shown : E → Interval) (w : World) (x : Expression) (vs : List Wave) (e : E)
     → Within shown w (terms_of (turning_wave_of x) no_wave vs) e → Within shown w (waves_of vs (in_centuries x)) e
 unfolding Lies terms_of

@@ -11,12 +11,14 @@ ghost use Rattle.book_model.specs.programs.Calls.{Follows1, Holds1};
 ghost use Rattle.book_model.specs.sky.Sun.{longitude_of, nutation_of, sun_of};
 ghost use Rattle.sun_core.specs.Courses.{greatest_waves_of, other_waves_of};
 ghost use Rattle.sun_core.specs.Daily.{in_centuries};
-ghost use Rattle.sun_core.specs.Steps.{periodic_of};
+ghost use Rattle.sun_core.specs.Steps.{mean_longitude_of, periodic_of};
+ghost use Rattle.book_model.specs.numbers.Expressions.{add};
 
 use crate::longitude::{aberration, mean_longitude, nutation};
 use crate::nutation_sum::nutation_in_whole_numbers;
-use crate::turns::{greatest_in_whole_numbers, other_in_whole_numbers};
+use crate::turns::other_in_whole_numbers;
 use crate::waves::Days;
+use crate::whole_longitude::mean_and_waves_in_whole_numbers;
 use book_model::sun_tables::{SUN_UNIT_COARSELY, SUN_UNIT_FINELY, SUN_WAVES};
 use book_model::time_tables::{DAY_IN_CENTURIES, NOON_2000};
 use book_model::{Fail, Site, Wave};
@@ -34,18 +36,6 @@ fn greatest_by_rows<E: Enclosure>(days: E) -> E
     ensures holds { Holds1 E.shown greatest_waves_of days result }
 {
     sum_of_terms::<Days<E>, E, Wave>(&SUN_WAVES[..GREATEST_WAVES], Days(days))
-}
-
-/// The sum of the greatest waves: in whole numbers over the coarse kind, where its days are known well enough.
-fn greatest_waves<E: Enclosure>(days: E) -> E
-    ensures holds { Holds1 E.shown greatest_waves_of days result }
-{
-    if E::BITS == 36 {
-        if let Some(whole) = greatest_in_whole_numbers(days) {
-            return whole;
-        }
-    }
-    greatest_by_rows(days)
 }
 
 /// The sum of the other waves, row by row.
@@ -148,15 +138,29 @@ impl<E: Enclosure> SunCourse<E> {
         lies_within(days, self.days)
     }
 
-    /// What the sun is ahead of its mean longitude by days of the course.
+    /// What the sun is ahead of its mean longitude by days of the course, the greatest waves row by row.
     fn sum_of_waves(&self, days: E) -> E
         requires there { E.shown days ⊆ E.shown self.now }
         ensures holds { Holds1 E.shown (λ x. periodic_of (in_centuries x)) days result }
     {
-        greatest_waves(days)
+        greatest_by_rows(days)
             .add(self.waves)
             .mul_frac(SUN_UNIT_COARSELY)
             .mul_frac(SUN_UNIT_FINELY)
+    }
+
+    /// The mean longitude and what the sun is ahead of it, by days of the course: in whole numbers over the coarse kind, where these days are
+    /// known well enough.
+    fn mean_and_waves(&self, days: E) -> E
+        requires there { E.shown days ⊆ E.shown self.now }
+        ensures holds { Holds1 E.shown (λ x. add (mean_longitude_of (in_centuries x)) (periodic_of (in_centuries x))) days result }
+    {
+        if E::BITS == 36 {
+            if let Some(whole) = mean_and_waves_in_whole_numbers(days, self.waves) {
+                return whole;
+            }
+        }
+        mean_longitude(days).add(self.sum_of_waves(days))
     }
 
     /// The longitude of the sun by days of the course, not reduced.
@@ -164,8 +168,7 @@ impl<E: Enclosure> SunCourse<E> {
         requires there { E.shown days ⊆ E.shown self.now }
         ensures holds { Holds1 E.shown (λ x. longitude_of (in_centuries x)) days result }
     {
-        mean_longitude(days)
-            .add(self.sum_of_waves(days))
+        self.mean_and_waves(days)
             .add(self.aberration)
             .add(self.nutation)
     }

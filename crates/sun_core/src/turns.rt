@@ -1,5 +1,5 @@
 //! The sum of the sun's waves in whole numbers, where the days are known well enough.
-ghost use Rattle.std.specs.Prelude.{◌≤◌, ◌^◌, pos, neg_ℤ, ◌≤ℤ◌, List, length, IfSome};
+ghost use Rattle.std.specs.Prelude.{◌≤◌, ◌*◌, ◌^◌, pos, neg_ℤ, ◌≤ℤ◌, List, length, IfSome};
 ghost use Rattle.exact_math.specs.Interval.{between, ◌⊆◌};
 ghost use Rattle.book_model.specs.declared.polynomial.Wave.{Wave};
 ghost use Rattle.book_model.specs.declared.sun_tables.TheConstants.{SUN_WAVES};
@@ -103,6 +103,24 @@ pub(crate) fn waves_over(days: Span) -> Option<Span>
     Some(sum)
 }
 
+/// The sum of the greatest waves over days.
+#[inline(always)]
+pub(crate) fn greatest_over(days: Span) -> Option<Span>
+    ensures holds { IfSome result (λ s. (w : World) (x : Expression) → DEPTH ≤ w.depth
+        → value w x ⊆ between (units_of_56 days.lo) (units_of_56 days.hi)
+        → value w (greatest_waves_of x) ⊆ between (units_of_56 s.lo) (units_of_56 s.hi)) }
+    ensures low { IfSome result (λ s. neg_ℤ (pos (834200 * 2 ^ 56)) ≤ℤ s.lo) }
+    ensures high { IfSome result (λ s. s.hi ≤ℤ pos (834200 * 2 ^ 56)) }
+{
+    let sum = sum_over(
+        &SUN_TURNS[..GREATEST_WAVES],
+        GREATEST_SLOPE,
+        GREATEST_SIZES,
+        days,
+    )?;
+    Some(sum)
+}
+
 /// The sum of the waves of some rows of the table, by their slope and sizes.
 #[inline(always)]
 fn sum_of_rows<E: Enclosure>(rows: &[TurningWave], slope: u64, sizes: u64, days: E) -> Option<E>
@@ -115,18 +133,6 @@ fn sum_of_rows<E: Enclosure>(rows: &[TurningWave], slope: u64, sizes: u64, days:
     let span = days.span()?;
     let sum = sum_over(rows, slope, sizes, span)?;
     Some(E::from_span(sum))
-}
-
-/// The sum of the greatest waves, in whole numbers.
-pub(crate) fn greatest_in_whole_numbers<E: Enclosure>(days: E) -> Option<E>
-    ensures holds { IfSome result (λ e. Holds1 E.shown greatest_waves_of days e) }
-{
-    sum_of_rows(
-        &SUN_TURNS[..GREATEST_WAVES],
-        GREATEST_SLOPE,
-        GREATEST_SIZES,
-        days,
-    )
 }
 
 /// The sum of the other waves, in whole numbers: of a stretch of at most a day, as the later ones of a bisection are.

@@ -2,19 +2,23 @@
 //! aberration and nutation, each times its unit in degrees, in one sum that is rounded once.
 ghost use Rattle.std.specs.Prelude.{◌≡◌, ◌≤◌, ◌^◌, ◌*◌, pos, neg_ℤ, ◌≤ℤ◌, ◌<ℤ◌, ◌+ℤ◌, ◌-ℤ◌, ◌*ℤ◌, ℕ, IfSome};
 ghost use Rattle.exact_math.specs.Interval.{between, ◌⊆◌};
+ghost use Rattle.book_model.specs.declared.sun_tables.TheConstants.{SUN_WAVES};
 ghost use Rattle.book_model.specs.numbers.Bounds.{IsNarrow, limits_of};
 ghost use Rattle.book_model.specs.numbers.Depth.{DEPTH};
-ghost use Rattle.book_model.specs.numbers.Expressions.{Expression, World, argument, value, power};
+ghost use Rattle.book_model.specs.numbers.Expressions.{Expression, World, add, argument, value, power};
+ghost use Rattle.book_model.specs.numbers.Polynomials.{waves_of};
 ghost use Rattle.book_model.specs.numbers.Relations.{Within, Narrow};
 ghost use Rattle.book_model.specs.programs.Leading.{units_of_56};
 ghost use Rattle.book_model.specs.sky.Sun.{longitude_of};
+ghost use Rattle.sun_core.specs.Courses.{other_waves_of};
 ghost use Rattle.sun_core.specs.Daily.{in_centuries};
+ghost use Rattle.sun_core.specs.Steps.{mean_longitude_of, periodic_of};
 ghost use Rattle.sun_core.specs.WholeLongitude.{aberration_wave, beside_parts, degrees_times, whole_unit, IsLongitude};
 ghost use Rattle.sun_core.specs.Widths.{days_of_years, longitude_bound};
 ghost use Rattle.turn_sums.specs.Turning.{turning_wave_of};
 
 use crate::nutation_sum::{FAR, both_over};
-use crate::turns::waves_over;
+use crate::turns::{greatest_over, waves_over};
 use encl_core::{Enclosure, Span};
 use turn_sums::{TurningWave, sum_over};
 
@@ -36,6 +40,9 @@ const MEAN_PARTS: i128 = 55_750 << 56;
 
 /// How wide aberration and nutation are together at most where they are close: 13 units of 2⁻³⁶ degrees.
 const CLOSE: i128 = 1 << 47;
+
+/// 65536 units of the waves, which count 2⁻⁵⁶: more than the sum of all but the greatest.
+const MANY: i128 = 1 << 72;
 
 /// What the mean longitude gains in a day, in 2⁻⁶⁴ degrees, rounded down.
 const RATE: i128 = 18_181_984_452_121_962_376;
@@ -192,4 +199,60 @@ pub(crate) fn longitude_in_whole_numbers<E: Enclosure>(days: E, c: E) -> Option<
     let beside = close_beside(span, square)?;
     let waves = waves_over(span)?;
     Some(E::from_span(degrees_over(span, waves, beside)))
+}
+
+/// The sum of the greatest waves and that of the others.
+#[inline(always)]
+fn all_waves(greatest: Span, others: Span) -> Span
+    requires from { neg_ℤ (pos (834200 * 2 ^ 56)) ≤ℤ greatest.lo }
+    requires to { greatest.hi ≤ℤ pos (834200 * 2 ^ 56) }
+    requires least { neg_ℤ (pos (2 ^ 72)) ≤ℤ others.lo }
+    requires most { others.hi ≤ℤ pos (2 ^ 72) }
+    ensures first { result.lo ≡ greatest.lo +ℤ others.lo }
+    ensures last { result.hi ≡ greatest.hi +ℤ others.hi }
+{
+    Span {
+        lo: greatest.lo + others.lo,
+        hi: greatest.hi + others.hi,
+    }
+}
+
+/// The sum of the waves by days of a stretch, and by what all but the greatest come to over it; `None` far from noon of 1 January 2000.
+#[inline(always)]
+fn waves_on_course(days: Span, others: Span) -> Option<Span>
+    ensures holds { IfSome result (λ s. (w : World) (x : Expression) → DEPTH ≤ w.depth
+        → value w x ⊆ between (units_of_56 days.lo) (units_of_56 days.hi)
+        → value w (other_waves_of x) ⊆ between (units_of_56 others.lo) (units_of_56 others.hi)
+        → value w (waves_of SUN_WAVES (in_centuries x)) ⊆ between (units_of_56 s.lo) (units_of_56 s.hi)) }
+    ensures low { IfSome result (λ s. neg_ℤ (pos (2 ^ 76)) ≤ℤ s.lo) }
+    ensures high { IfSome result (λ s. s.hi ≤ℤ pos (2 ^ 76)) }
+    ensures first { IfSome result (λ s. neg_ℤ (pos (2 ^ 76)) ≤ℤ days.lo) }
+    ensures last { IfSome result (λ s. days.hi ≤ℤ pos (2 ^ 76)) }
+{
+    if days.lo < -FAR {
+        return None;
+    }
+    if days.hi > FAR {
+        return None;
+    }
+    if others.lo < -MANY {
+        return None;
+    }
+    if others.hi > MANY {
+        return None;
+    }
+    let greatest = greatest_over(days)?;
+    Some(all_waves(greatest, others))
+}
+
+/// The mean longitude and the waves by days of a stretch, and by what all but the greatest of these come to over it.
+pub(crate) fn mean_and_waves_in_whole_numbers<E: Enclosure>(days: E, others: E) -> Option<E>
+    ensures holds { IfSome result (λ e. (w : World) (x : Expression) → Within E.shown w x days
+        → Within E.shown w (other_waves_of x) others
+        → Within E.shown w (add (mean_longitude_of (in_centuries x)) (periodic_of (in_centuries x))) e) }
+{
+    let span = days.span()?;
+    let rest = others.span()?;
+    let waves = waves_on_course(span, rest)?;
+    Some(E::from_span(degrees_over(span, waves, Span { lo: 0, hi: 0 })))
 }

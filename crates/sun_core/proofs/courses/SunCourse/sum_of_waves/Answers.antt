@@ -9,6 +9,6 @@ returns g c = record {
   holds =
       λ w x h.
       let k = stretched c.requires.there h in
-      let waves = all_waves x (c.add.ensures.encloses.holds w _ _ (c.greatest_waves.ensures.holds w x h) (c.self.invariant.waves w x (rw c.self.view_is k))) in
+      let waves = all_waves x (c.add.ensures.encloses.holds w _ _ (c.greatest_by_rows.ensures.holds w x h) (c.self.invariant.waves w x (rw c.self.view_is k))) in
       unit_holds g.E.Enclosure.shown w _ _ (c.mul_frac-2.ensures.encloses.holds w _ (c.mul_frac.ensures.encloses.holds w _ waves));
 }
