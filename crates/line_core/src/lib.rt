@@ -12,7 +12,7 @@ mod result;
 mod split;
 
 pub use book_model::Version;
-pub use line::{ThreeWords, cut_word, read_line, read_words, three_words};
+pub use line::{ThreeWords, cut_word, read_line, read_words, spaced_words, three_words};
 pub use request::checked_request;
 pub use result::resolve;
 pub use split::{cut_line, split_lines};

@@ -1,5 +1,5 @@
 //! What a line asks, or the first rule that it breaks.
-ghost use Rattle.std.specs.Prelude.{◌≡◌, ◌≤◌, ◌↔◌, ◌&&◌, ◌∷◌, [], nat_le, not, length, position, IsTrue, IsSome, IfSome, IfOk, MatchOption};
+ghost use Rattle.std.specs.Prelude.{◌≡◌, ◌≤◌, ◌↔◌, ◌&&◌, ◌++◌, ◌∷◌, [], nat_le, not, length, position, IsTrue, IsSome, IfSome, IfOk, MatchOption};
 ghost use Rattle.std.specs.List.{list_all, position_or_len};
 ghost use Rattle.book_model.specs.lines.Lines as spec;
 ghost use Rattle.book_model.specs.lines.Requests.{request_of, with_words, is_possible, is_in_reach};
@@ -25,7 +25,8 @@ pub struct ThreeWords<'a> {
 fn is_blank(byte: u8) -> bool
     ensures blank { result ≡ spec.is_blank byte }
 {
-    byte == b' ' || byte == b'\t'
+    // Of nearly each byte the first comparison tells it.
+    byte <= b' ' && (byte == b' ' || byte == b'\t')
 }
 
 /// Whether a line may hold the byte: a tab, or a byte from 0x20 to 0x7E.
@@ -33,6 +34,13 @@ fn is_plain(byte: u8) -> bool
     ensures plain { result ≡ spec.is_plain byte }
 {
     byte == b'\t' || (0x20 <= byte && byte < 0x7F)
+}
+
+/// Whether a word may hold the byte: one from 0x21 to 0x7E.
+fn is_printable(byte: u8) -> bool
+    ensures printable { result ≡ spec.is_printable byte }
+{
+    b' ' < byte && byte < 0x7F
 }
 
 /// Whether a line may hold each of the bytes.
@@ -74,6 +82,13 @@ fn word_length(line: &[u8]) -> usize
     }
 }
 
+/// Where the first byte stands that a word may not hold.
+fn first_other(line: &[u8]) -> Option<usize>
+    ensures place { result ≡ position (λ b. not (spec.is_printable b)) line.now }
+{
+    line.iter().position(|b| !is_printable(*b))
+}
+
 /// The first word of a line, which blanks end, and what follows it; `None` where the line has no word.
 pub fn cut_word(line: &[u8]) -> Option<(&[u8], &[u8])>
     ensures cut { MatchOption result (spec.words_of line.now ≡ [])
@@ -86,6 +101,50 @@ pub fn cut_word(line: &[u8]) -> Option<(&[u8], &[u8])>
         }
         None => None,
     }
+}
+
+/// Bytes that are a word, and no more.
+fn whole_word(bytes: &[u8]) -> Option<&[u8]>
+    ensures same { IfSome result (λ w. w.now ≡ bytes.now) }
+    ensures word { IfSome result (λ w. spec.IsWord w.now) }
+{
+    if bytes.is_empty() {
+        return None;
+    }
+    match first_other(bytes) {
+        Some(_) => None,
+        None => Some(bytes),
+    }
+}
+
+/// The word with which a line begins, where a space follows it, and what follows the space.
+fn cut_spaced(line: &[u8]) -> Option<(&[u8], &[u8])>
+    ensures cut { IfSome result (λ p. line.now ≡ p.0.now ++ 32 ∷ p.1.now) }
+    ensures word { IfSome result (λ p. spec.IsWord p.0.now) }
+{
+    let end = first_other(line)?;
+    if end == 0 {
+        return None;
+    }
+    if line[end] != b' ' {
+        return None;
+    }
+    Some((&line[..end], &line[end + 1..]))
+}
+
+// One pass over the bytes; `three_words` and the test of a line's bytes take one each.
+/// The three words of a line that is nothing else but these with single spaces between them, as nearly each line is. `None`
+/// says nothing.
+pub fn spaced_words<'a>(line: &'a [u8]) -> Option<ThreeWords<'a>>
+    ensures line { IfSome result (λ w. line.now ≡ three_words_text w.from.now w.date.now w.to.now) }
+    ensures from { IfSome result (λ w. spec.IsWord w.from.now) }
+    ensures date { IfSome result (λ w. spec.IsWord w.date.now) }
+    ensures to { IfSome result (λ w. spec.IsWord w.to.now) }
+{
+    let (from, rest) = cut_spaced(line)?;
+    let (date, last) = cut_spaced(rest)?;
+    let to = whole_word(last)?;
+    Some(ThreeWords { from, date, to })
 }
 
 /// The three words of a line, which blanks separate; `None` where it has fewer or more.
@@ -153,11 +212,8 @@ pub fn read_words(words: ThreeWords<'_>, version: Version) -> Result<Request, Ru
     }
 }
 
-/// What a line asks, or the first rule of a version that it breaks: `Syntax` where it isn't three words of printable
-/// bytes with blanks between them, in 200 bytes at most; `Calendar` for a word that the version hasn't; `Field` where the
-/// calendar can have no such date; `Range` for a date that the version doesn't answer, as far as that can be told
-/// without any fact.
-pub fn read_line(bytes: &[u8], version: Version) -> Result<Request, Rule>
+/// What any line asks, or the first rule of a version that it breaks.
+fn read_any_line(bytes: &[u8], version: Version) -> Result<Request, Rule>
     ensures request { result ≡ request_of version bytes.now }
     ensures possible { IfOk result (λ r. IsTrue (is_possible r)) }
     ensures in_reach { IfOk result (λ r. IsTrue (is_in_reach version r)) }
@@ -168,5 +224,20 @@ pub fn read_line(bytes: &[u8], version: Version) -> Result<Request, Rule>
     match three_words(bytes) {
         Some(words) => asked(words, version),
         None => Err(Rule::Syntax),
+    }
+}
+
+/// What a line asks, or the first rule of a version that it breaks: `Syntax` where it isn't three words of printable
+/// bytes with blanks between them, in 200 bytes at most; `Calendar` for a word that the version hasn't; `Field` where the
+/// calendar can have no such date; `Range` for a date that the version doesn't answer, as far as that can be told
+/// without any fact.
+pub fn read_line(bytes: &[u8], version: Version) -> Result<Request, Rule>
+    ensures request { result ≡ request_of version bytes.now }
+    ensures possible { IfOk result (λ r. IsTrue (is_possible r)) }
+    ensures in_reach { IfOk result (λ r. IsTrue (is_in_reach version r)) }
+{
+    match spaced_words(bytes) {
+        Some(words) => read_words(words, version),
+        None => read_any_line(bytes, version),
     }
 }

@@ -6,7 +6,8 @@ ghost use Rattle.oracle_core.specs.Pairs.{are_distinct, AreFactValues};
 use super::facts::{french_year_on, nowruz_on};
 use book_model::{Fact, Fields, FromWord, Kind, Place, Request, Resolved, Rule, ToWord};
 use line_core::{
-    ThreeWords, Version, checked_request, read_line, read_words, resolve, split_lines, three_words,
+    ThreeWords, Version, checked_request, read_line, read_words, resolve, spaced_words,
+    split_lines, three_words,
 };
 use oracle_core::{Listed, Oracle, Stop};
 use std::alloc::Global;
@@ -250,6 +251,18 @@ fn words_are_cut_out(rt: HostRuntime) -> Result<(), Fail> {
     assert_eq!(rt; words.date, b"2024-01-1".as_slice());
     assert_eq!(rt; words.to, b"dt".as_slice());
     assert!(rt; three_words(b"gregorian dt").is_none());
+    Ok(())
+}
+
+#[test]
+fn words_with_single_spaces_are_cut_out(rt: HostRuntime) -> Result<(), Fail> {
+    let words = spaced_words(b"gregorian 2024-01-1 dt").ok_or("there are three")?;
+    assert_eq!(rt; words.from, b"gregorian".as_slice());
+    assert_eq!(rt; words.date, b"2024-01-1".as_slice());
+    assert_eq!(rt; words.to, b"dt".as_slice());
+    // Of any other line it says nothing, though it may have three words.
+    assert!(rt; spaced_words(b"gregorian\t2024-01-1 dt").is_none());
+    assert!(rt; spaced_words(b"gregorian 2024-01-1 dt ").is_none());
     Ok(())
 }
 
