@@ -1,7 +1,8 @@
 //! The text of a result.
-ghost use Rattle.std.specs.Prelude.{◌≡◌, ◌≤◌, ◌<◌, ◌-◌, ◌++◌, codes, take, replicate, length, IfOk};
+ghost use Rattle.std.specs.Prelude.{◌≡◌, ◌≤◌, ◌<◌, ◌+◌, ◌-◌, ◌%◌, ◌++◌, codes, take, replicate, length, IfOk};
 ghost use Rattle.std.specs.Fmt.{signed_decimal};
 ghost use Rattle.std.specs.List.{flat_map};
+ghost use Rattle.book_model.specs.calendars.Dates.{field};
 ghost use Rattle.book_model.specs.lines.Text as spec;
 ghost use Rattle.byte_streams.specs.Stream.{Writes};
 
@@ -21,9 +22,41 @@ fn zeros(width: usize, digits: &[u8]) -> &'static [u8]
     &b"0000"[..width.saturating_sub(digits.len())]
 }
 
-/// Writes a Gregorian date: a year of four digits, a month of two and a day of two.
+/// The last digit of a number.
+fn last_digit(number: u32) -> u8
+    ensures { result ≡ 48 + number % 10 }
+{
+    b'0' + (number % 10) as u8
+}
+
+/// A Gregorian date whose year has at most four digits, and its month and its day at most two.
 #[tactic(auto, unfolding(book_model::specs::lines::Text::gregorian_text))]
-fn write_gregorian<K: Sink>(sink: &mut K, date: &Fields) -> Result<(), Failed>
+fn short_date(date: &Fields) -> [u8; 10]
+    requires year { field date.now 0 < 10000 }
+    requires month { field date.now 1 < 100 }
+    requires day { field date.now 2 < 100 }
+    ensures { result ≡ spec.gregorian_text date.now }
+{
+    let year = date.field(0);
+    let month = date.field(1);
+    let day = date.field(2);
+    [
+        last_digit(year / 10 / 10 / 10),
+        last_digit(year / 10 / 10),
+        last_digit(year / 10),
+        last_digit(year),
+        b'-',
+        last_digit(month / 10),
+        last_digit(month),
+        b'-',
+        last_digit(day / 10),
+        last_digit(day),
+    ]
+}
+
+/// Writes a Gregorian date of any numbers: a year of four digits or more, a month of two and a day of two.
+#[tactic(auto, unfolding(book_model::specs::lines::Text::gregorian_text))]
+fn write_any_gregorian<K: Sink>(sink: &mut K, date: &Fields) -> Result<(), Failed>
     ensures { Writes K.written K.faults sink.old sink.new (spec.gregorian_text date.now) result }
 {
     let mut year_buffer = Buffer::new();
@@ -45,6 +78,18 @@ fn write_gregorian<K: Sink>(sink: &mut K, date: &Fields) -> Result<(), Failed>
             day,
         ],
     )
+}
+
+// Nearly each date is short, and then written at once.
+/// Writes a Gregorian date: a year of four digits, a month of two and a day of two.
+fn write_gregorian<K: Sink>(sink: &mut K, date: &Fields) -> Result<(), Failed>
+    ensures { Writes K.written K.faults sink.old sink.new (spec.gregorian_text date.now) result }
+{
+    if date.field(0) < 10_000 && date.field(1) < 100 && date.field(2) < 100 {
+        write_all(sink, &short_date(date))
+    } else {
+        write_any_gregorian(sink, date)
+    }
 }
 
 /// Writes a number.
