@@ -17,7 +17,7 @@ use Rattle.printed_rows.proofs.RightLemmas.{three_words_found}
 use Rattle.printed_rows.proofs.RowLemmas.{words_echoed}
 
 -- the words of an echo are those of the line that they are with single spaces
-echo_words : (from date to : List ℕ) → IsWord from → IsWord date → IsWord to → words_of (three_words_text from date to) ≡ from ∷ date ∷ to ∷ []
+pub echo_words : (from date to : List ℕ) → IsWord from → IsWord date → IsWord to → words_of (three_words_text from date to) ≡ from ∷ date ∷ to ∷ []
 echo_words from date to f d t = rw (text_spaced from date to) (words_read from (date ∷ to ∷ []) f (d, (t, tt)))
 
 -- and they are echoed as that line's

@@ -7,7 +7,7 @@ use Rattle.book_model.specs.lines.Text.{date_text, echo_text, line_text}
 use Rattle.book_model.specs.lines.Lines.{words_of}
 use Rattle.book_model.specs.lines.Words.{calendar_of, text_of_from, text_of_to}
 use Rattle.line_core.proofs.TextRead.{line_words, text_is_read}
-use Rattle.printed_rows.specs.Rows.{echo_front, echo_end, words_echo, request_echo}
+use Rattle.printed_rows.specs.Rows.{words_echo, request_echo}
 
 -- a map over a map
 pub map_twice : {X Y Z : Type 0} (f : X → Y) (g : Y → Z) (xs : List X) → map (λ x. g (f x)) xs ≡ map g (map f xs)
@@ -27,7 +27,7 @@ spelled_at (s ∷ rs) (suc i) r within h e = spelled_at rs i r (omega arith) h.1
 
 -- three words are echoed as the definitions say
 pub words_echoed : (number : ℕ) (from date to : List ℕ) → words_echo number from date to ≡ echo_text number (from ∷ date ∷ to ∷ [])
-unfolding echo_front echo_end echo_text
+unfolding echo_text
 words_echoed number from date to = simp append_assoc
 
 -- the words of a request are those of its line

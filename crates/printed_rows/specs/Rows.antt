@@ -1,6 +1,5 @@
 -- The lines that rows stand for.
-use Rattle.std.specs.Prelude.{ℕ, List, [], ◌∷◌, ◌++◌, map, codes, decimal, slice_index_or}
-use Rattle.std.specs.List.{concat}
+use Rattle.std.specs.Prelude.{ℕ, List, [], ◌++◌, map, codes, decimal, slice_index_or}
 use Rattle.book_model.specs.lines.Requests.{AreSpelled}
 use Rattle.book_model.specs.declared.request.Request.{Request}
 use Rattle.book_model.specs.lines.Text.{date_text, line_text}
@@ -21,13 +20,17 @@ abbrev pub AreSpelledRows : Rows → Type 0
 AreSpelledRows (Lines lines) = Unit {0}
 AreSpelledRows (Made requests) = AreSpelled requests.items
 
+-- a word, with a space behind
+abbrev pub spaced : List ℕ → List ℕ
+spaced word = word ++ codes " "
+
 -- line N FROM, up to the date
-unfoldable pub echo_front : ℕ → List ℕ → List ℕ
-echo_front number from = concat (codes "line " ∷ decimal number ∷ codes " " ∷ from ∷ codes " " ∷ [])
+abbrev pub echo_front : ℕ → List ℕ → List ℕ
+echo_front number from = codes "line " ++ (spaced (decimal number) ++ spaced from)
 
 -- TO, behind the date
-unfoldable pub echo_end : List ℕ → List ℕ
-echo_end to = concat (codes " " ∷ to ∷ codes " " ∷ [])
+abbrev pub echo_end : List ℕ → List ℕ
+echo_end to = codes " " ++ spaced to
 
 -- line N FROM DATE TO, with a space behind
 abbrev pub words_echo : (number : ℕ) (from date to : List ℕ) → List ℕ

@@ -9,12 +9,11 @@ ghost use Rattle.jobs_core.specs.Outcomes.{CanResolve};
 ghost use Rattle.printed_rows.specs.Rows as spec;
 
 use book_model::{Request, WRITTEN};
-use byte_streams::{Failed, Sink, decimal, write_all, write_parts};
-use cert_read::is_spaced;
+use byte_streams::{Failed, Sink, decimal, write_all};
 use cert_text::write_date;
 use itoa::Buffer;
 use jobs_core::{Row, rows_of};
-use line_core::{ThreeWords, checked_request, three_words};
+use line_core::{ThreeWords, checked_request, spaced_words, three_words};
 use std::alloc::{AllocError, Global};
 
 /// What is to be computed and printed. Contracts see it as its lines.
@@ -47,22 +46,33 @@ fn checked_rows(alloc: Global, requests: &[Request]) -> Result<Vec<Row>, AllocEr
     Ok(rows)
 }
 
+/// Writes a word and a space.
+#[inline(always)]
+fn write_spaced<K: Sink>(sink: &mut K, word: &[u8]) -> Result<(), Failed>
+    ensures { Writes K.written K.faults sink.old sink.new (spec.spaced word.now) result }
+{
+    write_all(sink, word)?;
+    write_all(sink, b" ")
+}
+
+// Part after part, and not `write_parts`: bytes that are known here are put in their place without a
+// call.
 /// Writes the number of a line and its first word.
-#[tactic(auto, unfolding(crate::specs::Rows::echo_front))]
 fn write_front<K: Sink>(sink: &mut K, number: u32, from: &[u8]) -> Result<(), Failed>
     ensures { Writes K.written K.faults sink.old sink.new (spec.echo_front number from.now) result }
 {
     let mut buffer = Buffer::new();
-    let number = decimal(&mut buffer, number);
-    write_parts(sink, &[b"line ", number, b" ", from, b" "])
+    write_all(sink, b"line ")?;
+    write_spaced(sink, decimal(&mut buffer, number))?;
+    write_spaced(sink, from)
 }
 
 /// Writes the last word of a line.
-#[tactic(auto, unfolding(crate::specs::Rows::echo_end))]
 fn write_last<K: Sink>(sink: &mut K, to: &[u8]) -> Result<(), Failed>
     ensures { Writes K.written K.faults sink.old sink.new (spec.echo_end to.now) result }
 {
-    write_parts(sink, &[b" ", to, b" "])
+    write_all(sink, b" ")?;
+    write_spaced(sink, to)
 }
 
 /// Writes the number of a line and three words.
@@ -79,6 +89,18 @@ pub(crate) fn write_three<K: Sink>(
     write_last(sink, words.to)
 }
 
+/// Writes the number of a line of the input and its three words, whatever blanks stand between them.
+fn write_any_words<K: Sink>(sink: &mut K, number: u32, line: &[u8]) -> Result<(), Failed>
+    requires three { length (words_of line.now) ≡ 3 }
+    ensures { Writes K.written K.faults sink.old sink.new
+        (echo_text number (words_of line.now)) result }
+{
+    match three_words(line) {
+        Some(words) => write_three(sink, number, words),
+        None => unreachable!(),
+    }
+}
+
 // Words are cut where a line is read and again here: less than a thousandth of a line that asks a
 // fact.
 /// Writes the number of a line of the input and its three words, as they stand there.
@@ -87,13 +109,10 @@ fn write_own_words<K: Sink>(sink: &mut K, number: u32, line: &[u8]) -> Result<()
     ensures { Writes K.written K.faults sink.old sink.new
         (echo_text number (words_of line.now)) result }
 {
-    // Nearly each line has single spaces between its words: then they are written together.
-    if is_spaced(line) {
-        return write_front(sink, number, line);
-    }
-    match three_words(line) {
-        Some(words) => write_three(sink, number, words),
-        None => unreachable!(),
+    match spaced_words(line) {
+        // Nearly each line has single spaces between its words: then they are written together.
+        Some(_words) => write_front(sink, number, line),
+        None => write_any_words(sink, number, line),
     }
 }
 
