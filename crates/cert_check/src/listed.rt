@@ -7,7 +7,11 @@ ghost use Rattle.cert_check.specs.Verdicts as spec;
 use crate::verdict::Reason;
 use book_model::Fact;
 use oracle_core::{Answer, Answers, FactValues};
+use smallvec::SmallVec;
 use std::alloc::{AllocError, Global};
+
+/// How many values stand in their list itself: most lines list no more facts.
+const VALUES_ROOM: usize = 4;
 
 /// The facts with these numbers, which count from 1.
 pub(crate) fn listed_facts(
@@ -26,17 +30,17 @@ pub(crate) fn listed_facts(
     Ok(listed)
 }
 
-/// The values of the facts with these numbers, which count from 1.
+/// The values of the facts with these numbers, which count from 1. A few take no memory of their own.
 pub(crate) fn listed_values(
     alloc: Global,
     facts: &FactValues,
     numbers: &[u32],
-) -> Result<Vec<i64>, AllocError>
+) -> Result<SmallVec<i64, VALUES_ROOM>, AllocError>
     requires numbers { AreNumbers (length facts.now) numbers.now }
     ensures values { IfOk result (λ v. v.items ≡ spec.values_of
         (spec.numbered facts.now numbers.now)) }
 {
-    let mut listed = Vec::with_capacity(alloc, numbers.len())?;
+    let mut listed = SmallVec::with_capacity(alloc, numbers.len())?;
     for number in numbers {
         let (_, value) = facts.item(*number as usize - 1);
         listed.push(*value)?;

@@ -15,7 +15,7 @@ listed_values-requires c = record { numbers = numbers_within _ _ _ c.requires.nu
 
 pub verdict_over-requires-clause-same : goal.verdict_over-requires-clause-same
 verdict_over-requires-clause-same c =
-    rw (c.deref.ensures.value, c.deref-in-None.ensures.value, c.in_ok-facts-in-None.ensures.facts, c.in_ok-values-in-None.ensures.values)
+    rw (c.deref.ensures.value, c.deref-in-None.ensures, c.in_ok-facts-in-None.ensures.facts, c.in_ok-values-in-None.ensures.values)
     (as_many_values (numbered c.args.file.now.facts c.args.numbers.now))
 
 pub verdict_over-requires-clause-distinct : goal.verdict_over-requires-clause-distinct
@@ -25,7 +25,7 @@ verdict_over-requires-clause-distinct c =
     (numbers_apart _ _ _ c.requires.numbers))
 
 pub verdict_over-requires-clause-known : goal.verdict_over-requires-clause-known
-verdict_over-requires-clause-known c = rw (c.deref-in-None.ensures.value, c.in_ok-values-in-None.ensures.values)
+verdict_over-requires-clause-known c = rw (c.deref-in-None.ensures, c.in_ok-values-in-None.ensures.values)
     (listed_known c.args.file.now.facts c.args.numbers.now c.requires.known)
 
 pub verdict_over-requires-clause-few : goal.verdict_over-requires-clause-few
