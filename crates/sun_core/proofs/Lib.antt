@@ -12,5 +12,7 @@ pub mod Measured
 pub mod PassageWidths
 pub mod StarWidths
 pub mod Nested
+pub mod PolynomialSums
+pub mod EquationSums
 pub mod EarlyTests
 pub mod Worlds

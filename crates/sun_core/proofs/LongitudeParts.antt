@@ -41,7 +41,7 @@ use Rattle.sun_core.proofs.Scalings.{same_member, once_within, twice_within, dai
 use Rattle.sun_core.proofs.SunWaves.{tables_match, terms_within}
 
 -- ---- the aberration
-point_within : (p : Fraction) (j : Interval) → IsMember p j → exactly p ⊆ j
+pub point_within : (p : Fraction) (j : Interval) → IsMember p j → exactly p ⊆ j
 point_within p everything h = within_everything _
 point_within p (between a b) h = record { ends = (h.0, h.1) }
 
@@ -150,7 +150,7 @@ aberration_reach = record { reach = rw aberration_reach_is (omega (arith, ints))
 
 -- ---- the longitude
 -- what an interval of whole numbers comes to, times a number that isn't negative
-times_ends : (f : Fraction) (a b : ℤ) (i : Interval) → zero_fraction ≤F f → a ≤ℤ b → IsProper i → i ⊆ between (units_of_56 a) (units_of_56 b)
+pub times_ends : (f : Fraction) (a b : ℤ) (i : Interval) → zero_fraction ≤F f → a ≤ℤ b → IsProper i → i ⊆ between (units_of_56 a) (units_of_56 b)
     → product i (exactly f) ⊆ between (times (units_of_56 a) f) (times (units_of_56 b) f)
 times_ends f a b i n o p h =
     let l = times (units_of_56 a) f in

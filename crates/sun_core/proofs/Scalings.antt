@@ -32,7 +32,7 @@ twice_member i a b f x e m =
     same_member (product (product i (exactly a)) (exactly b)) (times (times x a) b) (times x f) same second
 
 -- an interval that holds the product of each member with a number holds the product with that number
-product_in : (i j : Interval) (f : Fraction) → IsProper i → ((x : Fraction) → IsMember x i → IsMember (times x f) j) → (i ≡ everything → j ≡ everything)
+pub product_in : (i j : Interval) (f : Fraction) → IsProper i → ((x : Fraction) → IsMember x i → IsMember (times x f) j) → (i ≡ everything → j ≡ everything)
     → product i (exactly f) ⊆ j
 unfolding product
 product_in everything j f p h e = rw (e refl) (within_everything everything)

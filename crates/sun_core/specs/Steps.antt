@@ -1,8 +1,8 @@
 -- The parts of the sun's longitude, and the order in which they are computed; parts of the equation of time and of noon.
 use Rattle.std.specs.Prelude.{ℤ, pos, ◌+ℤ◌}
-use Rattle.book_model.specs.declared.sun_tables.TheConstants.{ABERRATION, MEAN_ABERRATION, SUN_AT_2000, SUN_RATE, FOUR, SUN_UNIT_COARSELY, SUN_UNIT_FINELY, SUN_WAVES, TWO}
+use Rattle.book_model.specs.declared.sun_tables.TheConstants.{ABERRATION, MEAN_ABERRATION, SUN_AT_2000, SUN_RATE, SUN_UNIT_COARSELY, SUN_UNIT_FINELY, SUN_WAVES}
 use Rattle.book_model.specs.declared.tables.TheConstants.{HALF}
-use Rattle.book_model.specs.numbers.Expressions.{Expression, integer, constant, add, subtract, multiply, scale, cosine}
+use Rattle.book_model.specs.numbers.Expressions.{Expression, integer, constant, add, subtract, scale, power, cosine, tangent}
 use Rattle.book_model.specs.numbers.Fractions.{fraction_of, ten_millionths}
 use Rattle.book_model.specs.sky.Noon.{reduction_of, centre_of, joint_of}
 use Rattle.book_model.specs.numbers.Polynomials.{waves_of}
@@ -33,12 +33,9 @@ computed_aberration_of x = subtract (scale (ten_millionths ABERRATION.size) (cos
 unfoldable pub computed_longitude_of : Expression → Expression
 computed_longitude_of x = add (add (add (computed_mean_longitude_of x) (computed_periodic_of x)) (computed_aberration_of x)) (nutation_of (in_centuries x))
 
--- the equation of the centre, and what tilt and eccentricity bring about together, by the sine of the anomaly
-abbrev pub centre_by : (e s : Expression) → Expression
-centre_by e s = scale (fraction_of TWO) (multiply e s)
-
-abbrev pub joint_by : (y e l s : Expression) → Expression
-joint_by y e l s = scale (fraction_of FOUR) (multiply (multiply (multiply e y) s) (cosine (scale (fraction_of TWO) l)))
+-- the square of the tangent of half the obliquity
+abbrev pub tilt_by : Expression → Expression
+tilt_by o = power (tangent (scale (fraction_of HALF) o)) 2
 
 -- the first three terms of the equation of time, in radians
 unfoldable pub first_radians_of : (y e l m : Expression) → Expression

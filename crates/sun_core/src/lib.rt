@@ -24,9 +24,11 @@ mod estimates;
 mod longitude;
 mod nutation_sum;
 mod passages;
+mod polynomials;
 mod stars;
 mod turns;
 mod waves;
+mod whole_equation;
 mod whole_longitude;
 
 pub use apparent::{from_apparent, noon, paris_midnight};

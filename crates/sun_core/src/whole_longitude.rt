@@ -127,7 +127,7 @@ fn floor_16(number: i128) -> i128
 
 /// A number over 2⁴⁸, rounded down.
 #[inline(always)]
-fn floor_48(number: i128) -> i128
+pub(crate) fn floor_48(number: i128) -> i128
     ensures below { (result *ℤ pos (2 ^ 48)) ≤ℤ number }
     ensures close { number <ℤ (result *ℤ pos (2 ^ 48) +ℤ pos (2 ^ 48)) }
 {
