@@ -1,17 +1,16 @@
 -- The equation of time in whole numbers: the sum of its terms, and what it is as a part of a day.
-use Rattle.std.proofs.Common.{◌≡◌, ◌^◌, ◌-◌, ◌≤◌, refl, arith, neg_ℤ, ℤ, pos, ◌+ℤ◌, ◌-ℤ◌, ◌*ℤ◌, ◌≤ℤ◌, ◌<ℤ◌, [], ◌∷◌, SFits, to_z, of_z}
+use Rattle.std.proofs.Common.{◌≡◌, ◌^◌, ◌≤◌, refl, arith, neg_ℤ, ℤ, pos, ◌+ℤ◌, ◌-ℤ◌, ◌*ℤ◌, ◌≤ℤ◌, ◌<ℤ◌, [], ◌∷◌, SFits, to_z, of_z}
 use Rattle.std.specs.Int.{w128}
 use Rattle.std.proofs.lemmas.Int.{ints, to_z-of_z}
-use Rattle.exact_math.specs.Fraction.{Fraction, ◌≈◌, ◌≤F◌, plus, times, opposite, reciprocal, smaller, larger}
-use Rattle.exact_math.specs.Interval.{Interval, everything, between, IsProper, IsMember, ◌⊆◌, sum, negative, difference, product, quotient, minimum, maximum}
+use Rattle.exact_math.specs.Fraction.{Fraction, ◌≤F◌, plus, times, opposite, reciprocal, smaller}
+use Rattle.exact_math.specs.Interval.{Interval, everything, between, IsMember, ◌⊆◌, sum, negative, difference, product, quotient, minimum, maximum}
 use Rattle.exact_math.proofs.FractionRing.{same_by}
 use Rattle.exact_math.proofs.Fractions.{le_refl, le_trans, smaller_keeps, smaller_second, larger_keeps, larger_second}
 use Rattle.exact_math.proofs.Intervals.{within_trans, within_refl, sum_within, sum_holds, difference_within, quotient_within, minimum_within, maximum_within, least_is, greatest_is}
 use Rattle.exact_math.proofs.Ring.{at, lit, ◌⊕◌, ◌⊗◌}
-use Rattle.exact_math.proofs.Same.{same_sym}
 use Rattle.book_model.specs.declared.sun_tables.TheConstants.{FIVE_QUARTERS, FOUR, MINUS_HALF, TWO}
 use Rattle.book_model.specs.declared.tables.TheConstants.{HALF, PI_ABOVE, PI_BELOW}
-use Rattle.book_model.specs.numbers.Expressions.{Expression, World, value, exactly, add, subtract, multiply, divide, power, scale, sine, cosine, pi}
+use Rattle.book_model.specs.numbers.Expressions.{Expression, World, value, exactly, add, scale, pi}
 use Rattle.book_model.specs.numbers.Fractions.{fraction_of}
 use Rattle.book_model.specs.numbers.Relations.{Within, Lies}
 use Rattle.book_model.specs.programs.Leading.{units_of_56}
@@ -148,6 +147,14 @@ module _ {E : Type 0} (shown : E → Interval) (w : World) (x : Expression) (e :
         (four_member (value w x)) (four_whole (value w x)))
         h.inside;
   }
+
+-- ---- half an angle
+pub half_within : (w : World) (x : Expression) (a b lo hi : ℤ) → a ≤ℤ b → (lo *ℤ pos 2) ≤ℤ a → b ≤ℤ (hi *ℤ pos 2)
+    → value w x ⊆ between (units_of_56 a) (units_of_56 b) → value w (scale (fraction_of HALF) x) ⊆ between (units_of_56 lo) (units_of_56 hi)
+unfolding value times
+half_within w x a b lo hi o l u h =
+    within_trans (times_ends (fraction_of HALF) a b (value w x) (record { cross = omega (arith, ints) }) o (value_proper w x) h)
+    (record { ends = (record { cross = omega (arith, ints, l) }, record { cross = omega (arith, ints, u) }) })
 
 -- ---- the sum of the terms
 first_is : (r c j z : ℤ) → z ≡ (pos 4 *ℤ r -ℤ pos 8 *ℤ c) +ℤ pos 16 *ℤ j

@@ -2,7 +2,7 @@
 use Rattle.std.specs.Prelude.{ℤ, pos, ◌+ℤ◌}
 use Rattle.book_model.specs.declared.sun_tables.TheConstants.{ABERRATION, MEAN_ABERRATION, SUN_AT_2000, SUN_RATE, SUN_UNIT_COARSELY, SUN_UNIT_FINELY, SUN_WAVES}
 use Rattle.book_model.specs.declared.tables.TheConstants.{HALF}
-use Rattle.book_model.specs.numbers.Expressions.{Expression, integer, constant, add, subtract, scale, power, cosine, tangent}
+use Rattle.book_model.specs.numbers.Expressions.{Expression, integer, constant, add, subtract, scale, cosine}
 use Rattle.book_model.specs.numbers.Fractions.{fraction_of, ten_millionths}
 use Rattle.book_model.specs.sky.Noon.{reduction_of, centre_of, joint_of}
 use Rattle.book_model.specs.numbers.Polynomials.{waves_of}
@@ -32,10 +32,6 @@ computed_aberration_of x = subtract (scale (ten_millionths ABERRATION.size) (cos
 -- the sun's longitude as it is computed by the days from noon of 1 January 2000, not reduced
 unfoldable pub computed_longitude_of : Expression → Expression
 computed_longitude_of x = add (add (add (computed_mean_longitude_of x) (computed_periodic_of x)) (computed_aberration_of x)) (nutation_of (in_centuries x))
-
--- the square of the tangent of half the obliquity
-abbrev pub tilt_by : Expression → Expression
-tilt_by o = power (tangent (scale (fraction_of HALF) o)) 2
 
 -- the first three terms of the equation of time, in radians
 unfoldable pub first_radians_of : (y e l m : Expression) → Expression

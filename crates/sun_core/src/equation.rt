@@ -8,10 +8,10 @@ ghost use Rattle.book_model.specs.sky.Noon.{radians_of, part_of_day, equation_of
 ghost use Rattle.greatest_widths.specs.declared.table.TheConstants.{EQUATION_OF_TIME};
 ghost use Rattle.greatest_widths.specs.Table.{greatest_of};
 ghost use Rattle.time_scales.specs.Steps.{IsYearOpenFor};
-ghost use Rattle.sun_core.specs.Steps.{first_radians_of, tilt_by};
+ghost use Rattle.sun_core.specs.Steps.{first_radians_of};
 
 use crate::polynomials::{Coefficients, by_powers, powers_of};
-use crate::whole_equation::{days_in_whole_numbers, radians_in_whole_numbers};
+use crate::whole_equation::{days_in_whole_numbers, halves_of, radians_in_whole_numbers};
 use book_model::Fail;
 use book_model::sun_tables::{
     ECCENTRICITY, FIVE_QUARTERS, FOUR, MEAN_SUN, MINUS_HALF, OBLIQUITY, SOLAR_ANOMALY, TWO,
@@ -20,13 +20,6 @@ use book_model::tables::HALF;
 use encl_core::{Enclosure, Trail};
 use time_scales::{centuries, cubic, quadratic};
 use trig_series::{cos_deg, pi, sin_deg, tan_deg};
-
-/// The square of the tangent of half the obliquity of the ecliptic.
-fn half_tilt_square<E: Enclosure>(obliquity: E) -> E
-    ensures encloses { Encloses1 E.shown E.BITS tilt_by obliquity result }
-{
-    tan_deg(obliquity.mul_frac(HALF)).square()
-}
 
 /// The first three terms of the equation of time, in radians.
 #[tactic(auto, unfolding(crate::specs::Steps::first_radians_of, book_model::specs::sky::Noon::reduction_of, book_model::specs::sky::Noon::centre_of, book_model::specs::sky::Noon::joint_of))]
@@ -106,11 +99,11 @@ fn equation_in_whole_numbers<E: Enclosure>(c: E) -> Option<E>
     ensures holds { IfSome result (λ e. Holds1 E.shown equation_of c e) }
 {
     let powers = powers_of(c)?;
-    let obliquity = E::from_span(by_powers(OBLIQUITY_BY_POWERS, powers));
+    let obliquity = by_powers(OBLIQUITY_BY_POWERS, powers);
     let eccentricity = E::from_span(by_powers(ECCENTRICITY_BY_POWERS, powers));
     let mean_sun = E::from_span(by_powers(MEAN_SUN_BY_POWERS, powers));
     let anomaly = E::from_span(by_powers(ANOMALY_BY_POWERS, powers));
-    let tilt = half_tilt_square(obliquity);
+    let tilt = tan_deg(E::from_span(halves_of(obliquity))).square();
     let radians = radians_in_whole_numbers(tilt, eccentricity, mean_sun, anomaly)?;
     let days = days_in_whole_numbers(radians)?;
     Some(days)
@@ -128,7 +121,7 @@ fn equation<E: Enclosure>(c: E) -> E
             return whole;
         }
     }
-    let tilt = half_tilt_square(cubic(&OBLIQUITY, c));
+    let tilt = tan_deg(cubic(&OBLIQUITY, c).mul_frac(HALF)).square();
     let eccentricity = quadratic(&ECCENTRICITY, c);
     let mean_sun = quadratic(&MEAN_SUN, c);
     let anomaly = cubic(&SOLAR_ANOMALY, c);

@@ -1,5 +1,5 @@
 //! The equation of time in whole numbers: its five terms in one sum, which counts 2⁻⁵⁸ and is rounded once, as a part of a day.
-ghost use Rattle.std.specs.Prelude.{◌≤◌, ◌^◌, pos, neg_ℤ, ◌≤ℤ◌, IfSome};
+ghost use Rattle.std.specs.Prelude.{◌≤◌, ◌^◌, pos, neg_ℤ, ◌≤ℤ◌, ◌*ℤ◌, IfSome};
 ghost use Rattle.exact_math.specs.Interval.{between, ◌⊆◌};
 ghost use Rattle.book_model.specs.numbers.Depth.{DEPTH};
 ghost use Rattle.book_model.specs.numbers.Expressions.{Expression, World, value};
@@ -23,6 +23,18 @@ const PART_OF_TURN: i128 = 11_199_533_475_044;
 
 /// How far off half a radian times that is at most, in 2⁻⁵⁶.
 const ROUNDING: i128 = 512;
+
+/// Ends of the halves of what lies between two.
+#[inline(always)]
+pub(crate) fn halves_of(span: Span) -> Span
+    ensures below { (result.lo *ℤ pos 2) ≤ℤ span.lo }
+    ensures above { span.hi ≤ℤ (result.hi *ℤ pos 2) }
+{
+    Span {
+        lo: span.lo >> 1,
+        hi: (span.hi >> 1) + 1,
+    }
+}
 
 /// The ends of what is known to be at most 1 in size; else `None`.
 #[inline(always)]
