@@ -112,8 +112,8 @@ fn write_value<K: Sink>(sink: &mut K, fields: &Fields) -> Result<(), Failed>
 fn write_next<K: Sink>(sink: &mut K, value: i32) -> Result<(), Failed>
     ensures { Writes K.written K.faults sink.old sink.new (spec.dash_text value) result }
 {
-    let mut buffer = Buffer::new();
-    write_parts(sink, &[b"-", decimal(&mut buffer, value)])
+    write_all(sink, b"-")?;
+    write_number(sink, value)
 }
 
 /// Writes numbers, a dash before each.

@@ -66,13 +66,15 @@ fn write_echo<K: Sink>(sink: &mut K, number: u32, echo: &Echo) -> Result<(), Fai
     )
 }
 
+// Part after part, and not `write_parts`: bytes that are known here are put in their place without a
+// call.
 /// Writes the number of a fact that a line lists.
 fn write_number<K: Sink>(sink: &mut K, number: u32) -> Result<(), Failed>
     ensures { Writes K.written K.faults sink.old sink.new (model.number_text number) result }
 {
     let mut buffer = Buffer::new();
-    let number = decimal(&mut buffer, number);
-    write_parts(sink, &[b" ", number])
+    write_all(sink, b" ")?;
+    write_all(sink, decimal(&mut buffer, number))
 }
 
 /// Writes the numbers of the facts that a line lists.
