@@ -9,8 +9,9 @@ use Rattle.book_model.specs.lines.Outcomes.{LineOutcome, refused, resolved, unde
 use Rattle.oracle_core.specs.declared.oracle.Stop.{Stop}
 use Rattle.oracle_core.specs.declared.oracle.Stop.TheVariants.{Undecided as undecided_stop, Void as void_stop, Missing as missing_stop, Memory as memory_stop}
 use Rattle.jobs_core.specs.declared.outcome.Outcome.{Outcome}
-use Rattle.jobs_core.specs.declared.outcome.Outcome.TheVariants.{Refused, Found, Halted}
+use Rattle.jobs_core.specs.declared.outcome.Outcome.TheVariants.{Refused, Shown, Found, Halted}
 use Rattle.jobs_core.specs.declared.outcome.Halt.{Halt}
+use Rattle.jobs_core.specs.Shown.{shown_outcome}
 use Rattle.jobs_core.specs.declared.outcome.Halt.TheVariants.{Undecided, Void}
 
 -- the outcome, of those that the definitions speak of, of a line without a result
@@ -22,6 +23,7 @@ halt_outcome (Void fact site) = void fact site
 abbrev pub line_outcome : Outcome → LineOutcome
 line_outcome (Refused rule) = refused rule
 line_outcome (Found finding) = resolved finding.value.resolved finding.value.facts
+line_outcome (Shown shown) = shown_outcome shown
 line_outcome (Halted halt) = halt_outcome halt.value
 
 -- the date of a request, where the row is one, is possible and in reach

@@ -14,6 +14,7 @@ mod maps;
 mod outcome;
 mod pieces;
 mod row;
+mod shown;
 mod tools;
 
 pub use gate::{Gate, OpenGate};
@@ -21,4 +22,5 @@ pub use maps::{map_facts, map_lines};
 pub use outcome::{Finding, Halt, Outcome, Outcomes, outcome_of};
 pub use pieces::map_places;
 pub use row::{Row, rows_of};
+pub use shown::ShownValue;
 pub use tools::Tools;

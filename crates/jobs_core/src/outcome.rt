@@ -2,12 +2,15 @@
 ghost use Rattle.std.specs.Prelude.{◌≡◌, IsTrue, IfOk, OnErr, Ok};
 ghost use Rattle.book_model.specs.lines.Outcomes.{IsRightForRow};
 ghost use Rattle.book_model.specs.lines.Requests.{is_possible, is_in_reach};
+ghost use Rattle.book_model.specs.lines.Outcomes.{resolved as resolved_by};
+ghost use Rattle.oracle_core.specs.Kept.{kept_pairs};
 ghost use Rattle.jobs_core.specs.Outcomes.{line_outcome, halt_outcome, CanResolve, ComesOfStop, HasNoOutcome};
 
 use crate::Row;
+use crate::shown::ShownValue;
 use book_model::{Fact, Request, Resolved, Rule, Site, Undecided, WRITTEN};
 use line_core::resolve;
-use oracle_core::{Asking, Evaluator, FactValues, Stop};
+use oracle_core::{Asking, Evaluator, FactValues, Kept, Stop};
 use std::alloc::{AllocError, Global};
 
 /// The result of a line, and the facts with their values on which it rests, in order of first use.
@@ -25,12 +28,13 @@ pub enum Halt {
     Void(Fact, Site),
 }
 
-// So a line that breaks a rule takes 16 bytes in place of 80, and a result as much as before.
-/// What comes of a line: it breaks a rule; it has a result; or it has none. What belongs to it stands in a box, so that an
-/// outcome is two words long.
+// So a line that breaks a rule takes 16 bytes in place of 80.
+/// What comes of a line: it breaks a rule; it shows the value of one fact; it has any other result; or it has none. What is longer
+/// than two words stands in a box, so that an outcome has two words.
 #[derive(Drop)]
 pub enum Outcome {
     Refused(Rule),
+    Shown(ShownValue),
     Found(Box<Finding>),
     Halted(Box<Halt>),
 }
@@ -52,6 +56,41 @@ fn halt_at(stop: Stop) -> Result<Halt, AllocError>
     }
 }
 
+/// A result with the facts on which it rests. The error comes where memory runs out.
+fn found(alloc: Global, resolved: Resolved, facts: FactValues) -> Result<Outcome, AllocError>
+    ensures found { IfOk result (λ outcome. line_outcome outcome ≡ resolved_by resolved facts) }
+{
+    Ok(Outcome::Found(Box::new(alloc, Finding { resolved, facts })?))
+}
+
+/// A result that rests on one fact with its value. The error comes where memory runs out.
+fn found_by_one(
+    alloc: Global,
+    resolved: Resolved,
+    entry: [(Fact, i64); 1],
+) -> Result<Outcome, AllocError>
+    ensures found { IfOk result (λ outcome. line_outcome outcome ≡ resolved_by resolved entry) }
+{
+    if let Some(shown) = ShownValue::of(&resolved, entry[0]) {
+        return Ok(Outcome::Shown(shown));
+    }
+    let mut facts = FactValues::new(alloc);
+    facts.push(entry[0])?;
+    found(alloc, resolved, facts)
+}
+
+/// A result by the facts that an oracle keeps. The error comes where memory runs out.
+fn found_by(alloc: Global, resolved: Resolved, kept: Kept) -> Result<Outcome, AllocError>
+    ensures found { IfOk result (λ outcome. line_outcome outcome
+        ≡ resolved_by resolved (kept_pairs kept)) }
+{
+    match kept {
+        Kept::Empty => found(alloc, resolved, FactValues::new(alloc)),
+        Kept::One(entry) => found_by_one(alloc, resolved, entry),
+        Kept::Many(facts) => found(alloc, resolved, facts),
+    }
+}
+
 /// What comes of a request that breaks no rule by itself. The error comes where memory runs out.
 fn outcome_of_request<E: Evaluator>(
     alloc: Global,
@@ -65,10 +104,7 @@ fn outcome_of_request<E: Evaluator>(
 {
     let mut asking = Asking::new(alloc, evaluator);
     match resolve(&mut asking, request, WRITTEN) {
-        Ok(resolved) => {
-            let facts = asking.finish();
-            Ok(Outcome::Found(Box::new(alloc, Finding { resolved, facts })?))
-        }
+        Ok(resolved) => found_by(alloc, resolved, asking.finish()),
         Err(stop) => Ok(Outcome::Halted(Box::new(alloc, halt_at(stop)?)?)),
     }
 }

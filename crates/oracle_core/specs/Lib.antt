@@ -5,3 +5,4 @@ pub mod Stops
 pub mod Inquiring
 pub mod Tables
 pub mod Oracles
+pub mod Kept

@@ -6,6 +6,7 @@
 mod asking;
 mod date;
 mod evaluator;
+mod kept;
 pub mod laws;
 mod listed;
 mod lists;
@@ -15,6 +16,7 @@ mod oracle;
 pub use asking::Asking;
 pub use date::CalendarDate;
 pub use evaluator::{Answer, Evaluator};
+pub use kept::Kept;
 pub use listed::Listed;
 pub use lists::{Answers, FactList, FactValues};
 pub use oracle::{Oracle, Stop};

@@ -18,7 +18,7 @@ use book_model::Fact;
 use byte_streams::{Failed, Gathered, Sink, decimal, write_all, write_parts};
 use itoa::Buffer;
 use jobs_core::{Gate, Halt, Outcome, Tools};
-use oracle_core::{Evaluator, FactValues};
+use oracle_core::Evaluator;
 use rayon::prelude::*;
 use std::alloc::{AllocError, Global};
 use std::thread::Threads;
@@ -41,6 +41,7 @@ fn is_refused(outcome: &Outcome) -> bool
     match outcome {
         Outcome::Refused(_) => true,
         Outcome::Found(finding) => !is_shown(&finding.resolved),
+        Outcome::Shown(shown) => !is_shown(&shown.resolved()),
         Outcome::Halted(_) => false,
     }
 }
@@ -59,7 +60,7 @@ fn is_undecided_line(outcome: &Outcome) -> bool
 {
     match outcome {
         Outcome::Halted(halt) => is_open(halt),
-        Outcome::Refused(_) | Outcome::Found(_) => false,
+        Outcome::Refused(_) | Outcome::Shown(_) | Outcome::Found(_) => false,
     }
 }
 
@@ -69,7 +70,7 @@ fn is_void_line(outcome: &Outcome) -> bool
 {
     match outcome {
         Outcome::Halted(halt) => !is_open(halt),
-        Outcome::Refused(_) | Outcome::Found(_) => false,
+        Outcome::Refused(_) | Outcome::Shown(_) | Outcome::Found(_) => false,
     }
 }
 
@@ -148,10 +149,10 @@ fn see_fact(seen: &mut NumberedFacts, fact: Fact) -> Result<(), AllocError>
 }
 
 /// Adds the facts that are new. The error comes where memory runs out.
-fn see_facts(seen: &mut NumberedFacts, facts: &FactValues) -> Result<(), AllocError>
+fn see_facts(seen: &mut NumberedFacts, facts: &[(Fact, i64)]) -> Result<(), AllocError>
     ensures seen { OnOk result (seen.new ≡ with_facts seen.old facts.now) }
 {
-    for entry in facts.entries() {
+    for entry in facts {
         see_fact(seen, entry.0)?;
     }
     Ok(())
@@ -162,7 +163,8 @@ fn see_line(seen: &mut NumberedFacts, outcome: &Outcome) -> Result<(), AllocErro
     ensures seen { OnOk result (seen.new ≡ seen_after seen.old (line_outcome outcome.now)) }
 {
     match outcome {
-        Outcome::Found(finding) => see_facts(seen, &finding.facts),
+        Outcome::Found(finding) => see_facts(seen, finding.facts.entries()),
+        Outcome::Shown(shown) => see_facts(seen, &[shown.entry()]),
         Outcome::Refused(_) | Outcome::Halted(_) => Ok(()),
     }
 }

@@ -52,6 +52,7 @@ pub(crate) fn is_found(outcome: &Outcome) -> bool
 {
     match outcome {
         Outcome::Found(finding) => is_shown(&finding.resolved),
+        Outcome::Shown(shown) => is_shown(&shown.resolved()),
         Outcome::Refused(_) | Outcome::Halted(_) => false,
     }
 }

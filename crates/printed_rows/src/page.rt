@@ -11,11 +11,10 @@ ghost use Rattle.printed_rows.specs.Echoes.{CanEcho, MayStand, echoed_at, echoed
 
 use crate::echoes::Echoes;
 use crate::numbering::{NumberedFacts, number_after, number_fact};
-use book_model::Fact;
+use book_model::{Fact, Resolved};
 use byte_streams::{Failed, Gathered};
 use cert_text::{CertLine, Numbers, write_fact, write_line, write_list, write_result};
-use jobs_core::{Finding, Halt, Outcome};
-use oracle_core::FactValues;
+use jobs_core::{Halt, Outcome};
 use std::alloc::{AllocError, Global};
 
 /// The bytes that wait to be written, the facts that stand in the text, numbered in order of first use, and the numbers of the
@@ -81,7 +80,7 @@ impl Page {
     }
 
     /// Puts the facts that are new, with their values; the numbers of the line are those of all.
-    fn put_facts(&mut self, facts: &FactValues) -> Result<(), AllocError>
+    fn put_facts(&mut self, facts: &[(Fact, i64)]) -> Result<(), AllocError>
         ensures seen { OnOk result (self.new.seen ≡ model.with_facts self.old.seen
             facts.now) }
         ensures numbers { OnOk result (self.new.numbers ≡ model.numbers_of self.old.seen
@@ -90,7 +89,7 @@ impl Page {
             ++ model.new_facts_text self.old.seen facts.now) }
     {
         self.numbers.clear();
-        for entry in facts.entries() {
+        for entry in facts {
             self.put_fact(entry)?;
         }
         Ok(())
@@ -101,23 +100,24 @@ impl Page {
         &mut self,
         echoes: &Echoes<'_>,
         index: usize,
-        finding: &Finding,
+        resolved: Resolved,
+        facts: &[(Fact, i64)],
     ) -> Result<(), AllocError>
         requires can { CanEcho echoes.now }
         requires within { index < length (echoed_lines echoes.now) }
         requires three { length (words_of (echoed_at echoes.now index)) ≡ 3 }
         ensures seen { OnOk result (self.new.seen ≡ model.with_facts self.old.seen
-            finding.now.facts) }
+            facts.now) }
         ensures text { OnOk result (self.new.pending.bytes.items ≡ self.old.pending.bytes.items
-            ++ (model.new_facts_text self.old.seen finding.now.facts
+            ++ (model.new_facts_text self.old.seen facts.now
             ++ model.listed_text (index + 1)
-            (words_of (echoed_at echoes.now index)) (model.result_text finding.now.resolved)
-            (model.numbers_of self.old.seen finding.now.facts))) }
+            (words_of (echoed_at echoes.now index)) (model.result_text resolved)
+            (model.numbers_of self.old.seen facts.now))) }
     {
         let number = number_after(index)?;
-        self.put_facts(&finding.facts)?;
+        self.put_facts(facts)?;
         gathered(echoes.write_echo(&mut self.pending, number, index))?;
-        gathered(write_result(&mut self.pending, finding.resolved))?;
+        gathered(write_result(&mut self.pending, resolved))?;
         let numbers = self.numbers.numbers();
         gathered(write_list(&mut self.pending, numbers))
     }
@@ -151,7 +151,18 @@ impl Page {
     {
         match outcome {
             Outcome::Refused(rule) => self.put_bare(index, &CertLine::Refused(rule.number())),
-            Outcome::Found(finding) => self.put_found(echoes, index, finding),
+            Outcome::Found(finding) => self.put_found(
+                echoes,
+                index,
+                finding.resolved,
+                finding.facts.entries(),
+            ),
+            Outcome::Shown(shown) => self.put_found(
+                echoes,
+                index,
+                shown.resolved(),
+                &[shown.entry()],
+            ),
             Outcome::Halted(halt) => self.put_bare(index, &halted_line(halt)),
         }
     }

@@ -2,6 +2,7 @@
 mod almanacs;
 mod files;
 mod known;
+mod outcomes;
 mod pieces;
 mod runs;
 mod shelves;
