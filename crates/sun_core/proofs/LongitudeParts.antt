@@ -38,7 +38,8 @@ use Rattle.sun_core.proofs.OnCourse.{all_waves}
 use Rattle.sun_core.proofs.QuadraticWaves.{nutation_within, sum_assoc, sum_parts}
 use Rattle.sun_core.proofs.Reaches.{parts_reach, whole_reach}
 use Rattle.sun_core.proofs.Scalings.{same_member, once_within, twice_within, daily_ten_millionths_are}
-use Rattle.sun_core.proofs.SunWaves.{tables_match, terms_within}
+use Rattle.turn_sums.proofs.TableMatches.{tables_match}
+use Rattle.sun_core.proofs.SunWaves.{terms_within}
 
 -- ---- the aberration
 pub point_within : (p : Fraction) (j : Interval) → IsMember p j → exactly p ⊆ j

@@ -24,7 +24,7 @@ use Rattle.sun_core.specs.Daily.{in_centuries}
 use Rattle.sun_core.specs.MovedDays.{node_wave, solar_wave, node_shift, solar_shift, moved_days, nutation_parts}
 use Rattle.sun_core.specs.declared.nutation_sum.TheConstants.{NODE_TURNS, NODE_SLOPE, NODE_SIZES, SOLAR_TURNS, SOLAR_SLOPE, SOLAR_SIZES}
 use Rattle.sun_core.proofs.Scalings.{same_member, once_within, twice_within}
-use Rattle.sun_core.proofs.SunWaves.{tables_match}
+use Rattle.turn_sums.proofs.TableMatches.{tables_match}
 
 -- ---- laws of sums
 -- in an interval that holds the sums of products of ends with one number, the sum of the products lies

@@ -5,3 +5,4 @@ pub mod WaveRows
 pub mod WaveSums
 pub mod WaveSpans
 pub mod Counts
+pub mod TableMatches
