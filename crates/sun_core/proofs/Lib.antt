@@ -16,3 +16,4 @@ pub mod PolynomialSums
 pub mod EquationSums
 pub mod EarlyTests
 pub mod Worlds
+pub mod Rooms
