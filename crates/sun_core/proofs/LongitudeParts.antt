@@ -33,6 +33,7 @@ use Rattle.sun_core.specs.Courses.{greatest_waves_of, other_waves_of}
 use Rattle.sun_core.specs.Steps.{computed_longitude_of, mean_longitude_of, periodic_of}
 use Rattle.sun_core.specs.WholeLongitude.{aberration_wave, beside_parts, whole_unit, degrees_times, longitude_times, IsLongitude, whole_bound}
 use Rattle.sun_core.specs.Widths.{days_of_years, longitude_bound}
+use Rattle.sun_core.specs.declared.turns.TheConstants.{SUN_SLOPE, SUN_SIZES}
 use Rattle.sun_core.specs.declared.whole_longitude.TheConstants.{ABERRATION_TURNS, ABERRATION_SLOPE, ABERRATION_SIZES}
 use Rattle.sun_core.proofs.OnCourse.{all_waves}
 use Rattle.sun_core.proofs.QuadraticWaves.{nutation_within, sum_assoc, sum_parts}
@@ -402,7 +403,7 @@ unfolding Keeps bound_of IsNarrow
 days_kept shown l w days a b o g h n = kept_of _ _ _ _ w a b (span_keeps w (days_of_years 0) (shown days) a b o g h n.kept)
 
 longitude_kept : (w : ℕ) (first last from to least most lo hi : ℤ) → IsLongitude first last from to least most lo hi
-    → AreKept (neg_ℤ (pos (73050 * 2 ^ 32))) (pos (18263 * 2 ^ 32)) (2 ^ 40) 0 w first last → IsNarrowSum 33364602334325 842879 first last from to
+    → AreKept (neg_ℤ (pos (73050 * 2 ^ 32))) (pos (18263 * 2 ^ 32)) (2 ^ 40) 0 w first last → IsNarrowSum SUN_SLOPE SUN_SIZES first last from to
     → neg_ℤ (pos (108268 * 2 ^ 56)) ≤ℤ least → most ≤ℤ pos (108268 * 2 ^ 56) → (most -ℤ least) ≤ℤ pos (2 ^ 47) → lo ≤ℤ hi
     → IsNarrow w (bounded (neg_ℤ (pos (71724 * 2 ^ 32))) (pos (18289 * 2 ^ 32)) (1031 * 2 ^ 40 / 1000) (20 * 2 ^ 28)) (between (units_of_56 lo) (units_of_56 hi))
 unfolding IsNarrow
@@ -416,7 +417,7 @@ longitude_kept w first last from to least most lo hi h d s l u c o =
 
 pub longitude_close : {E : Type 0} (shown : E → Interval) (n w : ℕ) (days y : E) (first last from to least most lo hi : ℤ) → n ≡ 36
     → IsLongitude first last from to least most lo hi → first ≤ℤ last → lo ≤ℤ hi → shown days ⊆ between (units_of_56 first) (units_of_56 last)
-    → between (units_of_56 first) (units_of_56 last) ⊆ shown days → IsNarrowSum 33364602334325 842879 first last from to
+    → between (units_of_56 first) (units_of_56 last) ⊆ shown days → IsNarrowSum SUN_SLOPE SUN_SIZES first last from to
     → neg_ℤ (pos (108268 * 2 ^ 56)) ≤ℤ least → most ≤ℤ pos (108268 * 2 ^ 56) → (most -ℤ least) ≤ℤ pos (2 ^ 47)
     → ((w : ℕ) (b : Bound) → IsNarrow w b (between (units_of_56 lo) (units_of_56 hi)) → IsNarrow w (spanned_bound (limits_of n) b) (shown y))
     → Narrow shown (limits_of n) (record { width = w; bounds = days_of_years }) (argument 0) days → IsNarrow w longitude_bound (shown y)

@@ -95,7 +95,7 @@ pub(crate) fn waves_over(days: Span) -> Option<Span>
     ensures holds { IfSome result (λ s. (w : World) (x : Expression) → DEPTH ≤ w.depth
         → value w x ⊆ between (units_of_56 days.lo) (units_of_56 days.hi)
         → value w (terms_of (turning_wave_of x) no_wave SUN_WAVES) ⊆ between (units_of_56 s.lo) (units_of_56 s.hi)) }
-    ensures narrow { IfSome result (λ s. IsNarrowSum 33364602334325 842879 days.lo days.hi s.lo s.hi) }
+    ensures narrow { IfSome result (λ s. IsNarrowSum SUN_SLOPE SUN_SIZES days.lo days.hi s.lo s.hi) }
     ensures low { IfSome result (λ s. neg_ℤ (pos (2 ^ 76)) ≤ℤ s.lo) }
     ensures high { IfSome result (λ s. s.hi ≤ℤ pos (2 ^ 76)) }
 {
