@@ -30,7 +30,7 @@ use Rattle.turn_sums.specs.Turning.{AreTurning, HasReach, IsNarrowSum, turning_w
 use Rattle.sun_core.specs.Daily.{in_centuries}
 use Rattle.sun_core.specs.MovedDays.{nutation_parts}
 use Rattle.sun_core.specs.Courses.{greatest_waves_of, other_waves_of}
-use Rattle.sun_core.specs.Steps.{computed_longitude_of, mean_longitude_of, periodic_of}
+use Rattle.sun_core.specs.Steps.{computed_longitude_of, mean_longitude_of, periodic_of, true_longitude_of}
 use Rattle.sun_core.specs.WholeLongitude.{aberration_wave, beside_parts, whole_unit, degrees_times, longitude_times, IsLongitude, whole_bound}
 use Rattle.sun_core.specs.Widths.{days_of_years, longitude_bound}
 use Rattle.sun_core.specs.declared.turns.TheConstants.{SUN_SLOPE, SUN_SIZES}
@@ -268,7 +268,7 @@ two_ends first last from to lo hi h = record { ends = (two_low first from lo h.l
 pub mean_and_waves_inside : (w : World) (x : Expression) (first last from to lo hi : ℤ) → IsLongitude first last from to (pos 0) (pos 0) lo hi
     → first ≤ℤ last → from ≤ℤ to → value w x ⊆ between (units_of_56 first) (units_of_56 last)
     → value w (waves_of SUN_WAVES (in_centuries x)) ⊆ between (units_of_56 from) (units_of_56 to)
-    → value w (add (mean_longitude_of (in_centuries x)) (periodic_of (in_centuries x))) ⊆ between (units_of_56 lo) (units_of_56 hi)
+    → value w (true_longitude_of (in_centuries x)) ⊆ between (units_of_56 lo) (units_of_56 hi)
 unfolding value mean_longitude_of periodic_of
 mean_and_waves_inside w x first last from to lo hi h o p k m =
     within_trans

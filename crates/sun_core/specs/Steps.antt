@@ -17,7 +17,11 @@ mean_longitude_of c = add (constant (fraction_of SUN_AT_2000)) (scale (fraction_
 unfoldable pub periodic_of : Expression → Expression
 periodic_of c = scale sun_unit (waves_of SUN_WAVES c)
 
--- the same by the days, and by the unit's two factors
+-- the true longitude, which is both, not reduced
+abbrev pub true_longitude_of : Expression → Expression
+true_longitude_of c = add (mean_longitude_of c) (periodic_of c)
+
+-- what the sun is ahead of it, by the days, and by the unit's two factors
 unfoldable pub computed_periodic_of : Expression → Expression
 computed_periodic_of x = scale (fraction_of SUN_UNIT_FINELY) (scale (fraction_of SUN_UNIT_COARSELY) (daily_waves_of SUN_WAVES x))
 

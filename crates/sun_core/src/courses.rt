@@ -11,8 +11,7 @@ ghost use Rattle.book_model.specs.programs.Calls.{Follows1, Holds1};
 ghost use Rattle.book_model.specs.sky.Sun.{longitude_of, nutation_of, sun_of};
 ghost use Rattle.sun_core.specs.Courses.{greatest_waves_of, other_waves_of};
 ghost use Rattle.sun_core.specs.Daily.{in_centuries};
-ghost use Rattle.sun_core.specs.Steps.{mean_longitude_of, periodic_of};
-ghost use Rattle.book_model.specs.numbers.Expressions.{add};
+ghost use Rattle.sun_core.specs.Steps.{periodic_of, true_longitude_of};
 
 use crate::longitude::{aberration, mean_longitude, nutation};
 use crate::nutation_sum::nutation_in_whole_numbers;
@@ -153,7 +152,7 @@ impl<E: Enclosure> SunCourse<E> {
     /// known well enough.
     fn mean_and_waves(&self, days: E) -> E
         requires there { E.shown days ⊆ E.shown self.now }
-        ensures holds { Holds1 E.shown (λ x. add (mean_longitude_of (in_centuries x)) (periodic_of (in_centuries x))) days result }
+        ensures holds { Holds1 E.shown (λ x. true_longitude_of (in_centuries x)) days result }
     {
         if E::BITS == 36 {
             if let Some(whole) = mean_and_waves_in_whole_numbers(days, self.waves) {

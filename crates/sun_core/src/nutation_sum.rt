@@ -235,7 +235,8 @@ pub(crate) fn both_over(days: Span, square: Span) -> Option<Span>
 /// further than 2²⁰ days or 32 centuries from noon of 1 January 2000.
 fn both_waves<E: Enclosure>(days: E, c: E) -> Option<Span>
     ensures holds { IfSome result (λ s. (w : World) (x : Expression) → Within E.shown w x days
-        → Within E.shown w (in_centuries x) c → value w (nutation_parts x) ⊆ between (units_of_56 s.lo) (units_of_56 s.hi)) }
+        → Within E.shown w (in_centuries x) c
+        → value w (nutation_parts x) ⊆ between (units_of_56 s.lo) (units_of_56 s.hi)) }
     ensures low { IfSome result (λ s. neg_ℤ (pos (51535 * 2 ^ 56)) ≤ℤ s.lo) }
     ensures high { IfSome result (λ s. s.hi ≤ℤ pos (51535 * 2 ^ 56)) }
 {

@@ -5,14 +5,14 @@ ghost use Rattle.exact_math.specs.Interval.{between, ◌⊆◌};
 ghost use Rattle.book_model.specs.declared.sun_tables.TheConstants.{SUN_WAVES};
 ghost use Rattle.book_model.specs.numbers.Bounds.{IsNarrow, limits_of};
 ghost use Rattle.book_model.specs.numbers.Depth.{DEPTH};
-ghost use Rattle.book_model.specs.numbers.Expressions.{Expression, World, add, argument, value, power};
+ghost use Rattle.book_model.specs.numbers.Expressions.{Expression, World, argument, value, power};
 ghost use Rattle.book_model.specs.numbers.Polynomials.{waves_of};
 ghost use Rattle.book_model.specs.numbers.Relations.{Within, Narrow};
 ghost use Rattle.book_model.specs.programs.Leading.{units_of_56};
 ghost use Rattle.book_model.specs.sky.Sun.{longitude_of};
 ghost use Rattle.sun_core.specs.Courses.{other_waves_of};
 ghost use Rattle.sun_core.specs.Daily.{in_centuries};
-ghost use Rattle.sun_core.specs.Steps.{mean_longitude_of, periodic_of};
+ghost use Rattle.sun_core.specs.Steps.{true_longitude_of};
 ghost use Rattle.sun_core.specs.WholeLongitude.{aberration_wave, beside_parts, degrees_times, whole_unit, IsLongitude};
 ghost use Rattle.sun_core.specs.Widths.{days_of_years, longitude_bound};
 ghost use Rattle.turn_sums.specs.Turning.{turning_wave_of};
@@ -143,7 +143,8 @@ fn products_of(days: i128, waves: i128, parts: i128) -> i128
     requires to { waves ≤ℤ pos (2 ^ 60) }
     requires least { neg_ℤ (pos (2 ^ 60)) ≤ℤ parts }
     requires most { parts ≤ℤ pos (2 ^ 60) }
-    ensures value { result ≡ (days *ℤ pos 18181984452121962376 +ℤ waves *ℤ pos 105692058118152) +ℤ parts *ℤ pos 1844674407370 }
+    ensures value { result ≡ (days *ℤ pos 18181984452121962376 +ℤ waves *ℤ pos 105692058118152)
+        +ℤ parts *ℤ pos 1844674407370 }
     ensures low { neg_ℤ (pos (2 ^ 126)) ≤ℤ result }
     ensures high { result ≤ℤ pos (2 ^ 126) }
 {
@@ -249,7 +250,7 @@ fn waves_on_course(days: Span, others: Span) -> Option<Span>
 pub(crate) fn mean_and_waves_in_whole_numbers<E: Enclosure>(days: E, others: E) -> Option<E>
     ensures holds { IfSome result (λ e. (w : World) (x : Expression) → Within E.shown w x days
         → Within E.shown w (other_waves_of x) others
-        → Within E.shown w (add (mean_longitude_of (in_centuries x)) (periodic_of (in_centuries x))) e) }
+        → Within E.shown w (true_longitude_of (in_centuries x)) e) }
 {
     let span = days.span()?;
     let rest = others.span()?;
