@@ -22,7 +22,7 @@ halt_outcome (Void fact site) = void fact site
 -- the outcome that the definitions speak of
 abbrev pub line_outcome : Outcome → LineOutcome
 line_outcome (Refused rule) = refused rule
-line_outcome (Found finding) = resolved finding.value.resolved finding.value.facts
+line_outcome (Found finding) = resolved finding.value.resolved finding.value.facts.items
 line_outcome (Shown shown) = shown_outcome shown
 line_outcome (Halted halt) = halt_outcome halt.value
 

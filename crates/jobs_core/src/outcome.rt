@@ -3,7 +3,6 @@ ghost use Rattle.std.specs.Prelude.{◌≡◌, IsTrue, IfOk, OnErr, Ok};
 ghost use Rattle.book_model.specs.lines.Outcomes.{IsRightForRow};
 ghost use Rattle.book_model.specs.lines.Requests.{is_possible, is_in_reach};
 ghost use Rattle.book_model.specs.lines.Outcomes.{resolved as resolved_by};
-ghost use Rattle.oracle_core.specs.Kept.{kept_pairs};
 ghost use Rattle.jobs_core.specs.Outcomes.{line_outcome, halt_outcome, CanResolve, ComesOfStop, HasNoOutcome};
 
 use crate::Row;
@@ -13,11 +12,13 @@ use line_core::resolve;
 use oracle_core::{Asking, Evaluator, FactValues, Kept, Stop};
 use std::alloc::{AllocError, Global};
 
+// A plain `Vec` of facts: with a single one in itself, as `FactValues` has it, a result would take 16
+// bytes more.
 /// The result of a line, and the facts with their values on which it rests, in order of first use.
 #[derive(Drop)]
 pub struct Finding {
     pub resolved: Resolved,
-    pub facts: FactValues,
+    pub facts: Vec<(Fact, i64)>,
 }
 
 // A stop of an oracle for a missing fact or for want of memory is no outcome.
@@ -57,8 +58,8 @@ fn halt_at(stop: Stop) -> Result<Halt, AllocError>
 }
 
 /// A result with the facts on which it rests. The error comes where memory runs out.
-fn found(alloc: Global, resolved: Resolved, facts: FactValues) -> Result<Outcome, AllocError>
-    ensures found { IfOk result (λ outcome. line_outcome outcome ≡ resolved_by resolved facts) }
+fn found(alloc: Global, resolved: Resolved, facts: Vec<(Fact, i64)>) -> Result<Outcome, AllocError>
+    ensures found { IfOk result (λ outcome. line_outcome outcome ≡ resolved_by resolved facts.items) }
 {
     Ok(Outcome::Found(Box::new(alloc, Finding { resolved, facts })?))
 }
@@ -74,18 +75,17 @@ fn found_by_one(
     if let Some(shown) = ShownValue::of(&resolved, entry[0]) {
         return Ok(Outcome::Shown(shown));
     }
-    let mut facts = FactValues::new(alloc);
+    let mut facts = Vec::with_capacity(alloc, 1)?;
     facts.push(entry[0])?;
     found(alloc, resolved, facts)
 }
 
-/// A result by the facts that an oracle keeps. The error comes where memory runs out.
-fn found_by(alloc: Global, resolved: Resolved, kept: Kept) -> Result<Outcome, AllocError>
-    ensures found { IfOk result (λ outcome. line_outcome outcome
-        ≡ resolved_by resolved (kept_pairs kept)) }
+/// A result by facts with their values. The error comes where memory runs out.
+fn found_by(alloc: Global, resolved: Resolved, facts: FactValues) -> Result<Outcome, AllocError>
+    ensures found { IfOk result (λ outcome. line_outcome outcome ≡ resolved_by resolved facts) }
 {
-    match kept {
-        Kept::Empty => found(alloc, resolved, FactValues::new(alloc)),
+    match facts.into_kept() {
+        Kept::Empty => found(alloc, resolved, Vec::new(alloc)),
         Kept::One(entry) => found_by_one(alloc, resolved, entry),
         Kept::Many(facts) => found(alloc, resolved, facts),
     }

@@ -1,4 +1,4 @@
--- The facts that an oracle keeps with their values.
+-- How facts with their values are held.
 use Rattle.std.specs.Prelude.{ℤ, List, []}
 use Rattle.book_model.specs.declared.fact.Fact.{Fact}
 use Rattle.oracle_core.specs.declared.kept.Kept.{Kept}
@@ -8,4 +8,4 @@ use Rattle.oracle_core.specs.declared.kept.Kept.TheVariants.{Empty, One, Many}
 abbrev pub kept_pairs : Kept → List (Fact × ℤ)
 kept_pairs Empty = []
 kept_pairs (One pair) = pair
-kept_pairs (Many pairs) = pairs
+kept_pairs (Many pairs) = pairs.items

@@ -5,33 +5,30 @@ ghost use Rattle.std.specs.List.{list_any};
 ghost use Rattle.book_model.specs.sky.Facts.{IsFactValue};
 ghost use Rattle.book_model.specs.calendars.Inquiries.{ask_once, fact_eq};
 ghost use Rattle.oracle_core.specs.Inquiring.{Inquires};
-ghost use Rattle.oracle_core.specs.Kept.{kept_pairs};
 ghost use Rattle.oracle_core.specs.Oracles.{after_pairs, by_evaluator, one_by_evaluator};
 ghost use Rattle.oracle_core.specs.Pairs.{StandsWith, AllStand, facts_of};
 
 use crate::noted::place_among_pairs;
-use crate::{Answer, Evaluator, Kept, Oracle, Stop};
+use crate::{Answer, Evaluator, FactValues, Oracle, Stop};
 use book_model::Fact;
 use std::alloc::{AllocError, Global};
 use std::marker::Model;
 
-// One list, so that a line whose rule asks few facts takes one allocation for them, and none for a
-// single one.
+// One list, so that a line whose rule asks few facts takes one allocation for them at most.
 /// Answers facts by an evaluator, and keeps each fact that was answered with its value, in order of first use. A
 /// fact that is kept isn't evaluated again.
 #[derive(Drop)]
 pub struct Asking<'a, E: Evaluator> {
-    alloc: Global,
     evaluator: &'a E,
-    kept: Kept,
+    kept: FactValues,
 }
 
 impl<'a, E: Evaluator> Model for Asking<'a, E> {
     ghost Value = { List (Fact × ℤ) };
 
-    ghost view = { λ a. kept_pairs a.kept };
+    ghost view = { λ a. a.kept };
 
-    ghost invariant = { λ a. AllStand (kept_pairs a.kept) };
+    ghost invariant = { λ a. AllStand a.kept };
 }
 
 impl<'a, E: Evaluator> Asking<'a, E> {
@@ -40,22 +37,21 @@ impl<'a, E: Evaluator> Asking<'a, E> {
         ensures empty { result ≡ [] }
     {
         Asking {
-            alloc,
             evaluator,
-            kept: Kept::Empty,
+            kept: FactValues::new(alloc),
         }
     }
 
     /// The facts that were answered, with their values, each once, in order of first use.
-    pub fn asked(&self) -> &[(Fact, i64)]
+    pub fn asked(&self) -> &FactValues
         ensures pairs { result.now ≡ self.now }
     {
-        self.kept.entries()
+        &self.kept
     }
 
     /// The facts that were answered, with their values, in order of first use.
-    pub fn finish(self) -> Kept
-        ensures pairs { kept_pairs result ≡ self.entry }
+    pub fn finish(self) -> FactValues
+        ensures pairs { result ≡ self.entry }
         ensures stand { AllStand self.entry }
     {
         self.kept
@@ -68,7 +64,7 @@ impl<'a, E: Evaluator> Asking<'a, E> {
         ensures ok { OnOk result (self.new ≡ self.old ++ (fact, value) ∷ []) }
         ensures err { OnErr result (self.new ≡ self.old) }
     {
-        self.kept.push(self.alloc, (fact, value))?;
+        self.kept.push((fact, value))?;
         Ok(())
     }
 

@@ -1,19 +1,18 @@
-//! The facts that an oracle keeps with their values while a line asks.
+//! How facts with their values are held.
 ghost use Rattle.std.specs.Prelude.{◌≡◌, ◌<◌, ◌++◌, [], ◌∷◌, Some, length, slice_get, IfOk, OnOk, OnErr};
 ghost use Rattle.oracle_core.specs.Kept.{kept_pairs};
 
-use crate::FactValues;
 use book_model::Fact;
 use std::alloc::{AllocError, Global};
 
 // Many lines ask a single fact, and an allocation is an eighth of what such a line costs whose fact is
 // known already.
-/// Facts with their values, in order. Neither an empty list nor one of a single fact takes memory.
+/// Facts with their values, in order, by their number. Neither an empty list nor one of a single fact takes memory.
 #[derive(Debug, Drop)]
 pub enum Kept {
     Empty,
     One([(Fact, i64); 1]),
-    Many(FactValues),
+    Many(Vec<(Fact, i64)>),
 }
 
 /// A list of two facts with their values. The error comes where memory runs out.
@@ -21,10 +20,10 @@ fn both_of(
     alloc: Global,
     first: &[(Fact, i64); 1],
     second: (Fact, i64),
-) -> Result<FactValues, AllocError>
-    ensures pairs { IfOk result (λ pairs. pairs ≡ first.now ++ second ∷ []) }
+) -> Result<Vec<(Fact, i64)>, AllocError>
+    ensures pairs { IfOk result (λ pairs. pairs.items ≡ first.now ++ second ∷ []) }
 {
-    let mut pairs = FactValues::new(alloc);
+    let mut pairs = Vec::new(alloc);
     pairs.push(first[0])?;
     pairs.push(second)?;
     Ok(pairs)
@@ -44,22 +43,14 @@ impl Kept {
         Ok(())
     }
 
-    /// A fact with its value, from 0.
-    pub(crate) fn item(&self, index: usize) -> &(Fact, i64)
-        requires within { index < length (kept_pairs self.now) }
-        ensures item { Some result.now ≡ slice_get (kept_pairs self.now) index }
-    {
-        &self.entries()[index]
-    }
-
     /// The facts with their values, in order.
-    pub fn entries(&self) -> &[(Fact, i64)]
+    pub(crate) fn entries(&self) -> &[(Fact, i64)]
         ensures entries { result.now ≡ kept_pairs self.now }
     {
         match self {
             Kept::Empty => &[],
             Kept::One(pair) => pair,
-            Kept::Many(pairs) => pairs.entries(),
+            Kept::Many(pairs) => pairs,
         }
     }
 }

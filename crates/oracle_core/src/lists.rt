@@ -1,9 +1,10 @@
 //! Lists of facts, of facts with their values, and of answers, which contracts see as lists.
 ghost use Rattle.std.specs.Prelude.{◌≡◌, ◌<◌, ◌++◌, [], ◌∷◌, ℤ, List, Some, length, slice_get, OnOk, OnErr};
 ghost use Rattle.book_model.specs.declared.fact.Fact.{Fact};
+ghost use Rattle.oracle_core.specs.Kept.{kept_pairs};
 ghost use Rattle.oracle_core.specs.declared.evaluator.Answer.{Answer};
 
-use crate::Answer;
+use crate::{Answer, Kept};
 use book_model::Fact;
 use std::alloc::{AllocError, Global};
 use std::marker::Model;
@@ -62,16 +63,17 @@ impl FactList {
     }
 }
 
-/// Facts with their values, in order.
+/// Facts with their values, in order. Neither an empty list nor one of a single fact takes memory.
 #[derive(Debug, Drop)]
 pub struct FactValues {
-    pairs: Vec<(Fact, i64)>,
+    alloc: Global,
+    kept: Kept,
 }
 
 impl Model for FactValues {
     ghost Value = { List (Fact × ℤ) };
 
-    ghost view = { λ l. l.pairs.items };
+    ghost view = { λ l. kept_pairs l.kept };
 }
 
 impl FactValues {
@@ -80,7 +82,8 @@ impl FactValues {
         ensures empty { result ≡ [] }
     {
         FactValues {
-            pairs: Vec::new(alloc),
+            alloc,
+            kept: Kept::Empty,
         }
     }
 
@@ -89,7 +92,7 @@ impl FactValues {
         ensures ok { OnOk result (self.new ≡ self.old ++ item ∷ []) }
         ensures err { OnErr result (self.new ≡ self.old) }
     {
-        self.pairs.push(item)?;
+        self.kept.push(self.alloc, item)?;
         Ok(())
     }
 
@@ -97,7 +100,7 @@ impl FactValues {
     pub fn len(&self) -> usize
         ensures len { result ≡ length self.now }
     {
-        self.pairs.len()
+        self.entries().len()
     }
 
     /// An item, from 0.
@@ -105,14 +108,21 @@ impl FactValues {
         requires within { index < length self.now }
         ensures item { Some result.now ≡ slice_get self.now index }
     {
-        &self.pairs[index]
+        &self.entries()[index]
     }
 
     /// The facts with their values, in order.
     pub fn entries(&self) -> &[(Fact, i64)]
         ensures entries { result.now ≡ self.now }
     {
-        &self.pairs
+        self.kept.entries()
+    }
+
+    /// The facts with their values, by their number.
+    pub fn into_kept(self) -> Kept
+        ensures kept { kept_pairs result ≡ self }
+    {
+        self.kept
     }
 }
 

@@ -163,7 +163,7 @@ fn see_line(seen: &mut NumberedFacts, outcome: &Outcome) -> Result<(), AllocErro
     ensures seen { OnOk result (seen.new ≡ seen_after seen.old (line_outcome outcome.now)) }
 {
     match outcome {
-        Outcome::Found(finding) => see_facts(seen, finding.facts.entries()),
+        Outcome::Found(finding) => see_facts(seen, &finding.facts),
         Outcome::Shown(shown) => see_facts(seen, &[shown.entry()]),
         Outcome::Refused(_) | Outcome::Halted(_) => Ok(()),
     }

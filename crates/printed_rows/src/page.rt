@@ -155,7 +155,7 @@ impl Page {
                 echoes,
                 index,
                 finding.resolved,
-                finding.facts.entries(),
+                &finding.facts,
             ),
             Outcome::Shown(shown) => self.put_found(
                 echoes,
