@@ -2,3 +2,4 @@ pub mod Dealing
 pub mod Joining
 pub mod PieceLemmas
 pub mod AnswerLemmas
+pub mod RowLemmas

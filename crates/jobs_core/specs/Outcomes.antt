@@ -1,10 +1,10 @@
 -- What the code's outcome of a row stands for, and when it is right.
-use Rattle.std.specs.Prelude.{◌≡◌, List, Result, IfOk, IsTrue}
+use Rattle.std.specs.Prelude.{◌≡◌, ℕ, List, Result, IfOk, IsTrue}
 use Rattle.std.specs.List.{AllZip}
 use Rattle.book_model.specs.declared.request.Request.{Request}
 use Rattle.book_model.specs.declared.request.Rule.{Rule}
 use Rattle.book_model.specs.declared.version.TheConstants.{WRITTEN}
-use Rattle.book_model.specs.lines.Requests.{is_possible, is_in_reach}
+use Rattle.book_model.specs.lines.Requests.{is_possible, is_in_reach, request_of}
 use Rattle.book_model.specs.lines.Outcomes.{LineOutcome, refused, resolved, undecided, void, IsRightForRow}
 use Rattle.oracle_core.specs.declared.oracle.Stop.{Stop}
 use Rattle.oracle_core.specs.declared.oracle.Stop.TheVariants.{Undecided as undecided_stop, Void as void_stop, Missing as missing_stop, Memory as memory_stop}
@@ -29,6 +29,10 @@ line_outcome (Halted halt) = halt_outcome halt.value
 -- the date of a request, where the row is one, is possible and in reach
 abbrev pub CanResolve : Result Request Rule → Type 0
 CanResolve row = IfOk row (λ r. IsTrue (is_possible r)) × IfOk row (λ r. IsTrue (is_in_reach WRITTEN r))
+
+-- the row is what the line asks, and may be resolved
+abbrev pub IsRowOf : List ℕ → Result Request Rule → Type 0
+IsRowOf line row = (row ≡ request_of WRITTEN line) × CanResolve row
 
 -- one outcome for each row, in the order of the rows, each right for its row
 abbrev pub AreRightForRows : List (Result Request Rule) → List Outcome → Type 0

@@ -27,7 +27,7 @@ pub(crate) fn outcomes_of<R: Threads + Sync, E: Evaluator + Sync, G: Gate + Sync
         (map line_outcome outcomes.items)) }
 {
     let shelf = Shelf::open(tools.alloc)?;
-    let asked = rows.asked(tools.alloc)?;
+    let asked = rows.asked(tools.rt, tools.alloc, tools.jobs)?;
     map_lines(
         tools.rt,
         tools.alloc,

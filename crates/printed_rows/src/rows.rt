@@ -1,5 +1,5 @@
 //! What is to be computed and printed.
-ghost use Rattle.std.specs.Prelude.{◌≡◌, ◌<◌, map, length, All, IfOk};
+ghost use Rattle.std.specs.Prelude.{◌≡◌, ◌≤◌, ◌<◌, map, length, All, IfOk};
 ghost use Rattle.book_model.specs.declared.version.TheConstants.{WRITTEN};
 ghost use Rattle.book_model.specs.lines.Lines.{words_of};
 ghost use Rattle.book_model.specs.lines.Requests.{request_of, checked_request as checked};
@@ -15,6 +15,7 @@ use itoa::Buffer;
 use jobs_core::{Row, rows_of};
 use line_core::{ThreeWords, checked_request, spaced_words, three_words};
 use std::alloc::{AllocError, Global};
+use std::thread::Threads;
 
 /// What is to be computed and printed. Contracts see it as its lines.
 #[derive(Drop)]
@@ -137,15 +138,24 @@ impl Rows<'_> {
         }
     }
 
-    /// What each asks, or the first rule that it breaks, in order. The error comes where memory runs out.
-    pub fn asked(&self, alloc: Global) -> Result<Vec<Row>, AllocError>
+    // Requests of the program's own are few, and checked in some hundred instructions each.
+    /// What each asks, or the first rule that it breaks, in order: lines are read by so many jobs. The error comes where memory
+    /// runs out.
+    pub fn asked<R: Threads + Sync>(
+        &self,
+        rt: &R,
+        alloc: Global,
+        jobs: usize,
+    ) -> Result<Vec<Row>, AllocError>
+        requires some { 1 ≤ jobs }
+        requires few { jobs ≤ 64 }
         requires spelled { spec.AreSpelledRows self.now }
         ensures rows { IfOk result (λ rows. rows.items
             ≡ map (request_of WRITTEN) (spec.lines_in self.now)) }
         ensures resolvable { IfOk result (λ rows. All CanResolve rows.items) }
     {
         match self {
-            Rows::Lines(lines) => rows_of(alloc, lines),
+            Rows::Lines(lines) => rows_of(rt, alloc, lines, jobs),
             Rows::Made(requests) => checked_rows(alloc, requests),
         }
     }

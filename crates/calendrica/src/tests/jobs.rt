@@ -73,7 +73,7 @@ impl Gate for Meeting {
 /// Whether two rows are worked at the same time.
 fn rows_meet<R: Threads + Sync>(rt: &R, alloc: Global) -> Result<bool, Fail> {
     let lines: [&[u8]; 2] = [b"gregorian 2024-02-10 dt", b"gregorian 2024-02-10 mayan"];
-    let rows = rows_of(alloc, &lines)?;
+    let rows = rows_of(rt, alloc, &lines, 1)?;
     let shelf = Shelf::open(alloc)?;
     let gate = Meeting::new();
     let outcomes = map_lines(rt, alloc, &rows, &shelf, &Staged::new(), 2, &gate)?;

@@ -8,7 +8,7 @@ use std::test::Fail;
 fn the_value_of_one_fact_stands_in_its_outcome(rt: HostRuntime) -> Result<(), Fail> {
     let alloc = rt.alloc();
     let lines: [&[u8]; 1] = [b"gregorian 2024-02-10 dt"];
-    let rows = rows_of(alloc, &lines)?;
+    let rows = rows_of(&rt, alloc, &lines, 1)?;
     let shelf = Shelf::open(alloc)?;
     let known = Known::new(&rt);
     let outcomes = map_lines(&rt, alloc, &rows, &shelf, &known, 1, &OpenGate)?;

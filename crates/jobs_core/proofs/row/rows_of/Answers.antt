@@ -1,12 +1,15 @@
-use Rattle.std.proofs.Common.{arith}
-use Rattle.std.proofs.lemmas.Grind.{common_steps}
-use Rattle.std.proofs.lemmas.List.Elements.{All-push}
-use Rattle.jobs_core.specs.Outcomes.{CanResolve}
+use Rattle.std.proofs.lemmas.Result.{IfOk-weaker}
+use Rattle.jobs_core.specs.Outcomes.{IsRowOf}
+use Rattle.jobs_core.proofs.PieceLemmas.{covers_zip}
+use Rattle.jobs_core.proofs.RowLemmas.{rows_mapped, rows_resolvable}
 use Rattle.jobs_core.proofs.row.rows_of.Goals as goal
 
-pub loop-line-preserved : goal.loop-line-preserved
-loop-line-preserved c = (
-  grind (arith, common_steps),
-  rw c.in_ok-push.ensures.items
-      (All-push CanResolve _ _ c.loop-line.invariant.1 c.row_of.ensures.resolvable),
-)
+pub returns : goal.returns
+returns g c = record {
+  rows = IfOk-weaker c.map_places.result _ _
+      (λ all h. rows_mapped (λ line. line.now) c.args.lines.now all.items
+      (covers_zip (λ line row. IsRowOf line.now row) _ c.args.lines.now all.items (λ i d y p. p d) h)) c.map_places.ensures.covers;
+  resolvable = IfOk-weaker c.map_places.result _ _
+      (λ all h. rows_resolvable (λ line. line.now) c.args.lines.now all.items
+      (covers_zip (λ line row. IsRowOf line.now row) _ c.args.lines.now all.items (λ i d y p. p d) h)) c.map_places.ensures.covers;
+}
