@@ -1,5 +1,5 @@
-use Rattle.std.proofs.Common.{rules, arith, SFits, pos, ◌+ℤ◌, ◌*ℤ◌}
-use Rattle.std.specs.Int.{w128}
+use Rattle.std.proofs.Common.{◌≡◌, ◌^◌, rules, arith, SFits, ℤ, pos, neg_ℤ, ◌+ℤ◌, ◌*ℤ◌, ◌≤ℤ◌}
+use Rattle.std.specs.Int.{w128, int_div_euclid}
 use Rattle.std.proofs.lemmas.Int.{ints, to_z-of_z}
 use Rattle.book_model.specs.programs.Leading.{units_of_56}
 use Rattle.book_model.specs.numbers.Octants.{sine_in as in_octant}
@@ -9,6 +9,16 @@ use Rattle.trig_series.proofs.PartLemmas.{begun_elsewhere, ended_elsewhere, by_i
 use Rattle.trig_series.proofs.TurnLemmas.{one_narrow}
 use Rattle.trig_series.proofs.octants.sine_over_degrees.Goals as goal
 
+-- there is room for the edges of an octant that a number lies in
+record HasRoom (octant : ℤ) : Type 0 where
+  edge : SFits w128 (octant *ℤ pos OCTANT)
+  next : SFits w128 (octant *ℤ pos OCTANT +ℤ pos OCTANT)
+
+room : (lo hi octant : ℤ) → lo ≤ℤ hi → neg_ℤ (pos (2 ^ 120)) ≤ℤ lo → hi ≤ℤ pos (2 ^ 120) → octant ≡ int_div_euclid lo (pos OCTANT) → HasRoom octant
+room lo hi octant o from to e =
+    let q = division_is lo octant e in
+    record { edge = omega (arith, ints, q.not_above, q.close); next = omega (arith, ints, q.not_above, q.close) }
+
 pub sine_over_edges-requires-clause-several : goal.sine_over_edges-requires-clause-several
 sine_over_edges-requires-clause-several c =
     let fl = c.ranges.lo in
@@ -16,8 +26,9 @@ sine_over_edges-requires-clause-several c =
     let fo : SFits w128 c.octants_in-octant.result = search rules in
     let e = simp to_z-of_z at c.octants_in-octant.ensures.value in
     let q = division_is c.args.lo c.octants_in-octant.result e in
-    let fp : SFits w128 (c.octants_in-octant.result *ℤ pos OCTANT) = omega (arith, ints, c.requires, q.not_above, q.close) in
-    let fn : SFits w128 (c.octants_in-octant.result *ℤ pos OCTANT +ℤ pos OCTANT) = omega (arith, ints, c.requires, q.not_above, q.close) in
+    let r = room c.args.lo c.args.hi c.octants_in-octant.result c.requires.ordered c.requires.from c.requires.to e in
+    let fp = r.edge in
+    let fn = r.next in
     let l = simp to_z-of_z at c.if-lo-edge.true in
     simp to_z-of_z (edge_below c.octants_in-octant.result c.args.lo c.args.hi (omega (arith, ints, q.not_above)) (omega (arith, ints, l)) c.requires.ordered)
 
@@ -28,8 +39,9 @@ sine_over_edges-requires-then-hi-edge-clause-several c =
     let fo : SFits w128 c.octants_in-octant.result = search rules in
     let e = simp to_z-of_z at c.octants_in-octant.ensures.value in
     let q = division_is c.args.lo c.octants_in-octant.result e in
-    let fp : SFits w128 (c.octants_in-octant.result *ℤ pos OCTANT) = omega (arith, ints, c.requires, q.not_above, q.close) in
-    let fn : SFits w128 (c.octants_in-octant.result *ℤ pos OCTANT +ℤ pos OCTANT) = omega (arith, ints, c.requires, q.not_above, q.close) in
+    let r = room c.args.lo c.args.hi c.octants_in-octant.result c.requires.ordered c.requires.from c.requires.to e in
+    let fp = r.edge in
+    let fn = r.next in
     let u = simp to_z-of_z at c.if-hi-edge.true in
     simp to_z-of_z (edge_above c.octants_in-octant.result c.args.lo c.args.hi (omega (arith, ints, q.close)) (omega (arith, ints, u)))
 
@@ -75,9 +87,9 @@ returns-clause-holds c =
     let fh = c.ranges.hi in
     let fo : SFits w128 c.octants_in-octant.result = search rules in
     let e = simp to_z-of_z at c.octants_in-octant.ensures.value in
-    let q = division_is c.args.lo c.octants_in-octant.result e in
-    let fp : SFits w128 (c.octants_in-octant.result *ℤ pos OCTANT) = omega (arith, ints, c.requires, q.not_above, q.close) in
-    let fn : SFits w128 (c.octants_in-octant.result *ℤ pos OCTANT +ℤ pos OCTANT) = omega (arith, ints, c.requires, q.not_above, q.close) in
+    let r = room c.args.lo c.args.hi c.octants_in-octant.result c.requires.ordered c.requires.from c.requires.to e in
+    let fp = r.edge in
+    let fn = r.next in
     let l = simp to_z-of_z at c.if-lo-edge.false in
     let u = simp to_z-of_z at c.if-hi-edge.false in
     let h = simp to_z-of_z at c.sine_within_octant.ensures.holds in
@@ -94,9 +106,9 @@ returns-clause-narrow c =
     let fh = c.ranges.hi in
     let fo : SFits w128 c.octants_in-octant.result = search rules in
     let e = simp to_z-of_z at c.octants_in-octant.ensures.value in
-    let q = division_is c.args.lo c.octants_in-octant.result e in
-    let fp : SFits w128 (c.octants_in-octant.result *ℤ pos OCTANT) = omega (arith, ints, c.requires, q.not_above, q.close) in
-    let fn : SFits w128 (c.octants_in-octant.result *ℤ pos OCTANT +ℤ pos OCTANT) = omega (arith, ints, c.requires, q.not_above, q.close) in
+    let r = room c.args.lo c.args.hi c.octants_in-octant.result c.requires.ordered c.requires.from c.requires.to e in
+    let fp = r.edge in
+    let fn = r.next in
     one_narrow c.args.lo c.args.hi c.sine_within_octant.result.lo c.sine_within_octant.result.hi (simp to_z-of_z at c.sine_within_octant.ensures.narrow)
 
 pub returns-clause-small : goal.returns-clause-small
@@ -105,9 +117,9 @@ returns-clause-small c =
     let fh = c.ranges.hi in
     let fo : SFits w128 c.octants_in-octant.result = search rules in
     let e = simp to_z-of_z at c.octants_in-octant.ensures.value in
-    let q = division_is c.args.lo c.octants_in-octant.result e in
-    let fp : SFits w128 (c.octants_in-octant.result *ℤ pos OCTANT) = omega (arith, ints, c.requires, q.not_above, q.close) in
-    let fn : SFits w128 (c.octants_in-octant.result *ℤ pos OCTANT +ℤ pos OCTANT) = omega (arith, ints, c.requires, q.not_above, q.close) in
+    let r = room c.args.lo c.args.hi c.octants_in-octant.result c.requires.ordered c.requires.from c.requires.to e in
+    let fp = r.edge in
+    let fn = r.next in
     simp to_z-of_z at c.sine_within_octant.ensures.small
 
 pub returns-clause-crest : goal.returns-clause-crest
@@ -116,9 +128,9 @@ returns-clause-crest c =
     let fh = c.ranges.hi in
     let fo : SFits w128 c.octants_in-octant.result = search rules in
     let e = simp to_z-of_z at c.octants_in-octant.ensures.value in
-    let q = division_is c.args.lo c.octants_in-octant.result e in
-    let fp : SFits w128 (c.octants_in-octant.result *ℤ pos OCTANT) = omega (arith, ints, c.requires, q.not_above, q.close) in
-    let fn : SFits w128 (c.octants_in-octant.result *ℤ pos OCTANT +ℤ pos OCTANT) = omega (arith, ints, c.requires, q.not_above, q.close) in
+    let r = room c.args.lo c.args.hi c.octants_in-octant.result c.requires.ordered c.requires.from c.requires.to e in
+    let fp = r.edge in
+    let fn = r.next in
     simp to_z-of_z at c.sine_within_octant.ensures.crest
 
 pub returns-then-lo-edge-clause-inside : goal.returns-then-lo-edge-clause-inside
@@ -128,7 +140,8 @@ returns-then-lo-edge-clause-inside c =
     let fo : SFits w128 c.octants_in-octant.result = search rules in
     let e = simp to_z-of_z at c.octants_in-octant.ensures.value in
     let q = division_is c.args.lo c.octants_in-octant.result e in
-    let fp : SFits w128 (c.octants_in-octant.result *ℤ pos OCTANT) = omega (arith, ints, c.requires, q.not_above, q.close) in
+    let r = room c.args.lo c.args.hi c.octants_in-octant.result c.requires.ordered c.requires.from c.requires.to e in
+    let fp = r.edge in
     let l = simp to_z-of_z at c.if-lo-edge.true in
     λ k i. absurd (begun_elsewhere k c.octants_in-octant.result c.args.lo c.args.hi (omega (arith, ints, q.not_above)) (omega (arith, ints, l))
     c.requires.ordered i)
@@ -140,8 +153,9 @@ returns-then-hi-edge-clause-inside c =
     let fo : SFits w128 c.octants_in-octant.result = search rules in
     let e = simp to_z-of_z at c.octants_in-octant.ensures.value in
     let q = division_is c.args.lo c.octants_in-octant.result e in
-    let fp : SFits w128 (c.octants_in-octant.result *ℤ pos OCTANT) = omega (arith, ints, c.requires, q.not_above, q.close) in
-    let fn : SFits w128 (c.octants_in-octant.result *ℤ pos OCTANT +ℤ pos OCTANT) = omega (arith, ints, c.requires, q.not_above, q.close) in
+    let r = room c.args.lo c.args.hi c.octants_in-octant.result c.requires.ordered c.requires.from c.requires.to e in
+    let fp = r.edge in
+    let fn = r.next in
     let u = simp to_z-of_z at c.if-hi-edge.true in
     λ k i. absurd (ended_elsewhere k c.octants_in-octant.result c.args.lo c.args.hi (omega (arith, ints, q.close)) (omega (arith, ints, u)) i)
 
@@ -152,8 +166,9 @@ returns-clause-inside c =
     let fo : SFits w128 c.octants_in-octant.result = search rules in
     let e = simp to_z-of_z at c.octants_in-octant.ensures.value in
     let q = division_is c.args.lo c.octants_in-octant.result e in
-    let fp : SFits w128 (c.octants_in-octant.result *ℤ pos OCTANT) = omega (arith, ints, c.requires, q.not_above, q.close) in
-    let fn : SFits w128 (c.octants_in-octant.result *ℤ pos OCTANT +ℤ pos OCTANT) = omega (arith, ints, c.requires, q.not_above, q.close) in
+    let r = room c.args.lo c.args.hi c.octants_in-octant.result c.requires.ordered c.requires.from c.requires.to e in
+    let fp = r.edge in
+    let fn = r.next in
     let h = simp to_z-of_z at c.sine_within_octant.ensures.near in
     λ k i. by_inside k c.octants_in-octant.result c.args.lo c.args.hi _ _ (omega (arith, ints, q.not_above)) (omega (arith, ints, q.close)) c.requires.ordered i
     h

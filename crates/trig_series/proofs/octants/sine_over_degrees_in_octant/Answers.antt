@@ -1,17 +1,26 @@
-use Rattle.std.proofs.Common.{rules, arith, SFits, pos, ◌+ℤ◌, ◌*ℤ◌}
-use Rattle.std.specs.Int.{w128}
+use Rattle.std.proofs.Common.{◌≡◌, ◌^◌, rules, arith, SFits, ℤ, pos, neg_ℤ, ◌+ℤ◌, ◌*ℤ◌, ◌≤ℤ◌}
+use Rattle.std.specs.Int.{w128, int_min, int_max}
 use Rattle.std.proofs.lemmas.Int.{ints, clamps, to_z-of_z}
 use Rattle.interval_ends.specs.declared.parts.TheConstants.{OCTANT}
 use Rattle.trig_series.proofs.OctantLemmas.{in_holds}
 use Rattle.trig_series.proofs.Steady.{LiesIn, in_narrow, in_small, in_crest, hull_at_first, hull_at_second}
 use Rattle.trig_series.proofs.octants.sine_over_degrees_in_octant.Goals as goal
 
+-- there is room for the edges of an octant
+record HasRoom (octant : ℤ) : Type 0 where
+  edge : SFits w128 (octant *ℤ pos OCTANT)
+  next : SFits w128 (octant *ℤ pos OCTANT +ℤ pos OCTANT)
+
+room : (octant : ℤ) → neg_ℤ (pos (2 ^ 60)) ≤ℤ octant → octant ≤ℤ pos (2 ^ 60) → HasRoom octant
+room octant from to = record { edge = omega (arith, ints); next = omega (arith, ints) }
+
 pub sine_at_degrees_in_octant-high-requires-clause-low : goal.sine_at_degrees_in_octant-high-requires-clause-low
 sine_at_degrees_in_octant-high-requires-clause-low c =
     let fo = c.ranges.octant in
     let fh = c.ranges.hi in
-    let fe : SFits w128 (c.args.octant *ℤ pos OCTANT) = omega (arith, ints, c.requires) in
-    let fn : SFits w128 (c.args.octant *ℤ pos OCTANT +ℤ pos OCTANT) = omega (arith, ints, c.requires) in
+    let r = room c.args.octant c.requires.from c.requires.to in
+    let fe = r.edge in
+    let fn = r.next in
     let fq : SFits w128 c.min.result = search rules in
     let v = simp to_z-of_z at c.min.ensures.value in
     simp to_z-of_z (omega (arith, ints, clamps, v, c.requires))
@@ -21,8 +30,9 @@ returns-clause-holds c =
     let fo = c.ranges.octant in
     let fl = c.ranges.lo in
     let fh = c.ranges.hi in
-    let fe : SFits w128 (c.args.octant *ℤ pos OCTANT) = omega (arith, ints, c.requires) in
-    let fn : SFits w128 (c.args.octant *ℤ pos OCTANT +ℤ pos OCTANT) = omega (arith, ints, c.requires) in
+    let r = room c.args.octant c.requires.from c.requires.to in
+    let fe = r.edge in
+    let fn = r.next in
     let fp : SFits w128 c.max.result = search rules in
     let fq : SFits w128 c.min.result = search rules in
     let u = simp to_z-of_z at c.max.ensures.value in
@@ -32,39 +42,76 @@ returns-clause-holds c =
     λ n l. in_holds n c.args.octant c.args.lo c.args.hi c.max.result c.min.result _ _ _ _ _ _ u v (λ z e. low n z l e) (λ z e. high n z l e) c.hull.ensures.low
     c.hull.ensures.high
 
-pub returns-clause-narrow : goal.returns-clause-narrow
-returns-clause-narrow c =
+-- ends that are cut to an octant that they meet
+record AreCut (octant lo hi low high : ℤ) : Type 0 where
+  above : lo ≤ℤ low
+  below : high ≤ℤ hi
+  ordered : low ≤ℤ high
+  low_from : (octant *ℤ pos OCTANT) ≤ℤ low
+  low_to : low ≤ℤ (octant *ℤ pos OCTANT +ℤ pos OCTANT)
+  high_from : (octant *ℤ pos OCTANT) ≤ℤ high
+  high_to : high ≤ℤ (octant *ℤ pos OCTANT +ℤ pos OCTANT)
+
+are_cut : (octant lo hi low high : ℤ) → low ≡ int_max (octant *ℤ pos OCTANT) lo → high ≡ int_min (octant *ℤ pos OCTANT +ℤ pos OCTANT) hi → lo ≤ℤ hi
+    → (octant *ℤ pos OCTANT) ≤ℤ hi → lo ≤ℤ (octant *ℤ pos OCTANT +ℤ pos OCTANT) → AreCut octant lo hi low high
+are_cut octant lo hi low high u v ordered begun ended = record {
+  above = omega (arith, ints, clamps, u);
+  below = omega (arith, ints, clamps, v);
+  ordered = omega (arith, ints, clamps, u, v);
+  low_from = omega (arith, ints, clamps, u);
+  low_to = omega (arith, ints, clamps, u);
+  high_from = omega (arith, ints, clamps, v);
+  high_to = omega (arith, ints, clamps, v);
+}
+
+-- and the sines there
+record HaveSines (octant lo hi p q a b x y : ℤ) : Type 0 where
+  least : p ≡ int_max (octant *ℤ pos OCTANT) lo
+  most : q ≡ int_min (octant *ℤ pos OCTANT +ℤ pos OCTANT) hi
+  cut : AreCut octant lo hi p q
+  low : LiesIn octant p a b
+  high : LiesIn octant q x y
+
+cut_ends : (c : goal.After-hull) → HaveSines c.args.octant c.args.lo c.args.hi c.max.result c.min.result c.sine_at_degrees_in_octant-low.result.lo
+    c.sine_at_degrees_in_octant-low.result.hi c.sine_at_degrees_in_octant-high.result.lo c.sine_at_degrees_in_octant-high.result.hi
+cut_ends c =
     let fo = c.ranges.octant in
     let fl = c.ranges.lo in
     let fh = c.ranges.hi in
-    let fe : SFits w128 (c.args.octant *ℤ pos OCTANT) = omega (arith, ints, c.requires) in
-    let fn : SFits w128 (c.args.octant *ℤ pos OCTANT +ℤ pos OCTANT) = omega (arith, ints, c.requires) in
+    let r = room c.args.octant c.requires.from c.requires.to in
+    let fe = r.edge in
+    let fn = r.next in
     let fp : SFits w128 c.max.result = search rules in
     let fq : SFits w128 c.min.result = search rules in
     let u = simp to_z-of_z at c.max.ensures.value in
     let v = simp to_z-of_z at c.min.ensures.value in
-    let low : LiesIn c.args.octant c.max.result c.sine_at_degrees_in_octant-low.result.lo c.sine_at_degrees_in_octant-low.result.hi = record {
-      point = simp to_z-of_z at c.sine_at_degrees_in_octant-low.ensures.near;
-      from = omega (arith, ints, clamps, u);
-      to = omega (arith, ints, clamps, u, c.requires);
-    } in
-    let high : LiesIn c.args.octant c.min.result c.sine_at_degrees_in_octant-high.result.lo c.sine_at_degrees_in_octant-high.result.hi = record {
-      point = simp to_z-of_z at c.sine_at_degrees_in_octant-high.ensures.near;
-      from = omega (arith, ints, clamps, v, c.requires);
-      to = omega (arith, ints, clamps, v);
-    } in
+    let t = are_cut c.args.octant c.args.lo c.args.hi c.max.result c.min.result u v c.requires.ordered c.requires.begun c.requires.ended in
+    let m = simp to_z-of_z at c.sine_at_degrees_in_octant-low.ensures.near in
+    let n = simp to_z-of_z at c.sine_at_degrees_in_octant-high.ensures.near in
+    record {
+      least = u;
+      most = v;
+      cut = t;
+      low = record { point = m; from = t.low_from; to = t.low_to };
+      high = record { point = n; from = t.high_from; to = t.high_to };
+    }
+
+pub returns-clause-narrow : goal.returns-clause-narrow
+returns-clause-narrow c =
+    let t = cut_ends c in
     let h =
-    in_narrow c.args.octant c.max.result c.min.result _ _ _ _ _ _ (omega (arith, ints, clamps, u, v, c.requires)) low high c.hull.ensures.low
+    in_narrow c.args.octant c.max.result c.min.result _ _ _ _ _ _ t.cut.ordered t.low t.high c.hull.ensures.low
     c.hull.ensures.high in
-    rw (u, v) at h
+    rw (t.least, t.most) at h
 
 pub returns-clause-begins : goal.returns-clause-begins
 returns-clause-begins c =
     let fo = c.ranges.octant in
     let fl = c.ranges.lo in
     let fh = c.ranges.hi in
-    let fe : SFits w128 (c.args.octant *ℤ pos OCTANT) = omega (arith, ints, c.requires) in
-    let fn : SFits w128 (c.args.octant *ℤ pos OCTANT +ℤ pos OCTANT) = omega (arith, ints, c.requires) in
+    let r = room c.args.octant c.requires.from c.requires.to in
+    let fe = r.edge in
+    let fn = r.next in
     let fp : SFits w128 c.max.result = search rules in
     let fq : SFits w128 c.min.result = search rules in
     let u = simp to_z-of_z at c.max.ensures.value in
@@ -78,8 +125,9 @@ returns-clause-ends c =
     let fo = c.ranges.octant in
     let fl = c.ranges.lo in
     let fh = c.ranges.hi in
-    let fe : SFits w128 (c.args.octant *ℤ pos OCTANT) = omega (arith, ints, c.requires) in
-    let fn : SFits w128 (c.args.octant *ℤ pos OCTANT +ℤ pos OCTANT) = omega (arith, ints, c.requires) in
+    let r = room c.args.octant c.requires.from c.requires.to in
+    let fe = r.edge in
+    let fn = r.next in
     let fp : SFits w128 c.max.result = search rules in
     let fq : SFits w128 c.min.result = search rules in
     let u = simp to_z-of_z at c.max.ensures.value in
@@ -90,48 +138,12 @@ returns-clause-ends c =
 
 pub returns-clause-small : goal.returns-clause-small
 returns-clause-small c =
-    let fo = c.ranges.octant in
-    let fl = c.ranges.lo in
-    let fh = c.ranges.hi in
-    let fe : SFits w128 (c.args.octant *ℤ pos OCTANT) = omega (arith, ints, c.requires) in
-    let fn : SFits w128 (c.args.octant *ℤ pos OCTANT +ℤ pos OCTANT) = omega (arith, ints, c.requires) in
-    let fp : SFits w128 c.max.result = search rules in
-    let fq : SFits w128 c.min.result = search rules in
-    let u = simp to_z-of_z at c.max.ensures.value in
-    let v = simp to_z-of_z at c.min.ensures.value in
-    let low : LiesIn c.args.octant c.max.result c.sine_at_degrees_in_octant-low.result.lo c.sine_at_degrees_in_octant-low.result.hi = record {
-      point = simp to_z-of_z at c.sine_at_degrees_in_octant-low.ensures.near;
-      from = omega (arith, ints, clamps, u);
-      to = omega (arith, ints, clamps, u, c.requires);
-    } in
-    let high : LiesIn c.args.octant c.min.result c.sine_at_degrees_in_octant-high.result.lo c.sine_at_degrees_in_octant-high.result.hi = record {
-      point = simp to_z-of_z at c.sine_at_degrees_in_octant-high.ensures.near;
-      from = omega (arith, ints, clamps, v, c.requires);
-      to = omega (arith, ints, clamps, v);
-    } in
-    in_small c.args.octant c.args.lo c.args.hi c.max.result c.min.result _ _ _ _ _ _ (omega (arith, ints, clamps, u))
-    (omega (arith, ints, clamps, u, v, c.requires)) (omega (arith, ints, clamps, v)) low high c.hull.ensures.low c.hull.ensures.high
+    let t = cut_ends c in
+    in_small c.args.octant c.args.lo c.args.hi c.max.result c.min.result _ _ _ _ _ _ t.cut.above
+    t.cut.ordered t.cut.below t.low t.high c.hull.ensures.low c.hull.ensures.high
 
 pub returns-clause-crest : goal.returns-clause-crest
 returns-clause-crest c =
-    let fo = c.ranges.octant in
-    let fl = c.ranges.lo in
-    let fh = c.ranges.hi in
-    let fe : SFits w128 (c.args.octant *ℤ pos OCTANT) = omega (arith, ints, c.requires) in
-    let fn : SFits w128 (c.args.octant *ℤ pos OCTANT +ℤ pos OCTANT) = omega (arith, ints, c.requires) in
-    let fp : SFits w128 c.max.result = search rules in
-    let fq : SFits w128 c.min.result = search rules in
-    let u = simp to_z-of_z at c.max.ensures.value in
-    let v = simp to_z-of_z at c.min.ensures.value in
-    let low : LiesIn c.args.octant c.max.result c.sine_at_degrees_in_octant-low.result.lo c.sine_at_degrees_in_octant-low.result.hi = record {
-      point = simp to_z-of_z at c.sine_at_degrees_in_octant-low.ensures.near;
-      from = omega (arith, ints, clamps, u);
-      to = omega (arith, ints, clamps, u, c.requires);
-    } in
-    let high : LiesIn c.args.octant c.min.result c.sine_at_degrees_in_octant-high.result.lo c.sine_at_degrees_in_octant-high.result.hi = record {
-      point = simp to_z-of_z at c.sine_at_degrees_in_octant-high.ensures.near;
-      from = omega (arith, ints, clamps, v, c.requires);
-      to = omega (arith, ints, clamps, v);
-    } in
-    in_crest c.args.octant c.args.lo c.args.hi c.max.result c.min.result _ _ _ _ _ (omega (arith, ints, clamps, u))
-    (omega (arith, ints, clamps, u, v, c.requires)) (omega (arith, ints, clamps, v)) low high c.hull.ensures.low
+    let t = cut_ends c in
+    in_crest c.args.octant c.args.lo c.args.hi c.max.result c.min.result _ _ _ _ _ t.cut.above
+    t.cut.ordered t.cut.below t.low t.high c.hull.ensures.low

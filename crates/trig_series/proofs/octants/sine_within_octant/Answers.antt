@@ -1,9 +1,19 @@
-use Rattle.std.proofs.Common.{rules, arith, SFits, pos, ◌-ℤ◌, ◌*ℤ◌}
+use Rattle.std.proofs.Common.{◌^◌, rules, arith, SFits, ℤ, pos, neg_ℤ, ◌+ℤ◌, ◌-ℤ◌, ◌*ℤ◌, ◌≤ℤ◌}
 use Rattle.std.specs.Int.{w128}
 use Rattle.std.proofs.lemmas.Int.{ints, to_z-of_z}
 use Rattle.interval_ends.specs.declared.parts.TheConstants.{OCTANT}
 use Rattle.trig_series.proofs.PartLemmas.{turned_part, within_holds, part_small, part_crest}
 use Rattle.trig_series.proofs.octants.sine_within_octant.Goals as goal
+
+-- there is room for the edge of an octant, and for how far numbers that lie in it are from there
+record HasRoom (octant lo hi : ℤ) : Type 0 where
+  edge : SFits w128 (octant *ℤ pos OCTANT)
+  low : SFits w128 (lo -ℤ octant *ℤ pos OCTANT)
+  high : SFits w128 (hi -ℤ octant *ℤ pos OCTANT)
+
+room : (octant lo hi : ℤ) → neg_ℤ (pos (2 ^ 60)) ≤ℤ octant → octant ≤ℤ pos (2 ^ 60) → (octant *ℤ pos OCTANT) ≤ℤ lo → lo ≤ℤ hi
+    → hi ≤ℤ (octant *ℤ pos OCTANT +ℤ pos OCTANT) → HasRoom octant lo hi
+room octant lo hi from to begun ordered ended = record { edge = omega (arith, ints); low = omega (arith, ints); high = omega (arith, ints) }
 
 pub returns-clause-holds : goal.returns-clause-holds
 returns-clause-holds c =
@@ -11,9 +21,10 @@ returns-clause-holds c =
     let fl = c.ranges.lo in
     let fh = c.ranges.hi in
     let ft : SFits w128 c.octant_in_turn.result = search rules in
-    let fe : SFits w128 (c.args.octant *ℤ pos OCTANT) = omega (arith, ints, c.requires) in
-    let fa : SFits w128 (c.args.lo -ℤ c.args.octant *ℤ pos OCTANT) = omega (arith, ints, c.requires) in
-    let fb : SFits w128 (c.args.hi -ℤ c.args.octant *ℤ pos OCTANT) = omega (arith, ints, c.requires) in
+    let r = room c.args.octant c.args.lo c.args.hi c.requires.from c.requires.to c.requires.begun c.requires.ordered c.requires.ended in
+    let fe = r.edge in
+    let fa = r.low in
+    let fb = r.high in
     let v = simp to_z-of_z at c.octant_in_turn.ensures.value in
     let h = simp to_z-of_z at c.part_of_turn.ensures.holds in
     λ n l. within_holds n c.args.octant c.octant_in_turn.result c.args.lo c.args.hi _ _ v c.requires.begun c.requires.ordered c.requires.ended
@@ -25,9 +36,10 @@ returns-clause-narrow c =
     let fl = c.ranges.lo in
     let fh = c.ranges.hi in
     let ft : SFits w128 c.octant_in_turn.result = search rules in
-    let fe : SFits w128 (c.args.octant *ℤ pos OCTANT) = omega (arith, ints, c.requires) in
-    let fa : SFits w128 (c.args.lo -ℤ c.args.octant *ℤ pos OCTANT) = omega (arith, ints, c.requires) in
-    let fb : SFits w128 (c.args.hi -ℤ c.args.octant *ℤ pos OCTANT) = omega (arith, ints, c.requires) in
+    let r = room c.args.octant c.args.lo c.args.hi c.requires.from c.requires.to c.requires.begun c.requires.ordered c.requires.ended in
+    let fe = r.edge in
+    let fa = r.low in
+    let fb = r.high in
     let n = simp to_z-of_z at c.part_of_turn.ensures.narrow in
     omega (arith, ints, n, c.requires.begun, c.requires.ordered)
 
@@ -37,9 +49,10 @@ returns-clause-near c =
     let fl = c.ranges.lo in
     let fh = c.ranges.hi in
     let ft : SFits w128 c.octant_in_turn.result = search rules in
-    let fe : SFits w128 (c.args.octant *ℤ pos OCTANT) = omega (arith, ints, c.requires) in
-    let fa : SFits w128 (c.args.lo -ℤ c.args.octant *ℤ pos OCTANT) = omega (arith, ints, c.requires) in
-    let fb : SFits w128 (c.args.hi -ℤ c.args.octant *ℤ pos OCTANT) = omega (arith, ints, c.requires) in
+    let r = room c.args.octant c.args.lo c.args.hi c.requires.from c.requires.to c.requires.begun c.requires.ordered c.requires.ended in
+    let fe = r.edge in
+    let fa = r.low in
+    let fb = r.high in
     let v = simp to_z-of_z at c.octant_in_turn.ensures.value in
     let p = simp to_z-of_z at c.part_of_turn.ensures.near in
     turned_part c.args.octant c.octant_in_turn.result _ _ _ _ v p
@@ -50,9 +63,10 @@ returns-clause-small c =
     let fl = c.ranges.lo in
     let fh = c.ranges.hi in
     let ft : SFits w128 c.octant_in_turn.result = search rules in
-    let fe : SFits w128 (c.args.octant *ℤ pos OCTANT) = omega (arith, ints, c.requires) in
-    let fa : SFits w128 (c.args.lo -ℤ c.args.octant *ℤ pos OCTANT) = omega (arith, ints, c.requires) in
-    let fb : SFits w128 (c.args.hi -ℤ c.args.octant *ℤ pos OCTANT) = omega (arith, ints, c.requires) in
+    let r = room c.args.octant c.args.lo c.args.hi c.requires.from c.requires.to c.requires.begun c.requires.ordered c.requires.ended in
+    let fe = r.edge in
+    let fa = r.low in
+    let fb = r.high in
     let v = simp to_z-of_z at c.octant_in_turn.ensures.value in
     let p = simp to_z-of_z at c.part_of_turn.ensures.near in
     part_small c.args.octant c.args.lo c.args.hi _ _ (turned_part c.args.octant c.octant_in_turn.result _ _ _ _ v p) c.requires.begun c.requires.ordered
@@ -64,9 +78,10 @@ returns-clause-crest c =
     let fl = c.ranges.lo in
     let fh = c.ranges.hi in
     let ft : SFits w128 c.octant_in_turn.result = search rules in
-    let fe : SFits w128 (c.args.octant *ℤ pos OCTANT) = omega (arith, ints, c.requires) in
-    let fa : SFits w128 (c.args.lo -ℤ c.args.octant *ℤ pos OCTANT) = omega (arith, ints, c.requires) in
-    let fb : SFits w128 (c.args.hi -ℤ c.args.octant *ℤ pos OCTANT) = omega (arith, ints, c.requires) in
+    let r = room c.args.octant c.args.lo c.args.hi c.requires.from c.requires.to c.requires.begun c.requires.ordered c.requires.ended in
+    let fe = r.edge in
+    let fa = r.low in
+    let fb = r.high in
     let v = simp to_z-of_z at c.octant_in_turn.ensures.value in
     let p = simp to_z-of_z at c.part_of_turn.ensures.near in
     part_crest c.args.octant c.args.lo c.args.hi _ _ (turned_part c.args.octant c.octant_in_turn.result _ _ _ _ v p) c.requires.begun c.requires.ordered
