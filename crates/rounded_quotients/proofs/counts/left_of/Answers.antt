@@ -1,4 +1,4 @@
-use Rattle.std.proofs.Common.{◌≡◌, refl, arith, rules, SFits, w64, ℕ, ℤ, pos, ◌^◌, ◌<◌, ◌-ℤ◌, ◌*ℤ◌, ◌≤ℤ◌, ◌<ℤ◌}
+use Rattle.std.proofs.Common.{◌≡◌, refl, arith, rules, SFits, w64, ℕ, ℤ, pos, ◌^◌, ◌<◌, ◌-ℤ◌, ◌*ℤ◌, ◌≤ℤ◌}
 use Rattle.std.proofs.lemmas.Int.{ints, to_z-of_z}
 use Rattle.rounded_quotients.specs.Counts.{IsCount}
 use Rattle.rounded_quotients.proofs.counts.left_of.Goals as goal
