@@ -3,6 +3,7 @@ pub mod Years
 pub mod WholePowers
 pub mod HornerLemmas
 pub mod CorrectionRows
+mod CoarserBounds
 pub mod CorrectionWidths
 pub mod WholeDays
 pub mod Moments
