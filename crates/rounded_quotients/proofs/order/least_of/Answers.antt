@@ -4,3 +4,6 @@ use Rattle.rounded_quotients.proofs.order.least_of.Goals as goal
 
 pub returns-clause-best : goal.returns-clause-best
 returns-clause-best c = λ m p q r s. omega (arith, ints, clamps)
+
+pub returns-clause-bounds : goal.returns-clause-bounds
+returns-clause-bounds c = omega (arith, ints, clamps)
