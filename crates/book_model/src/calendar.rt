@@ -29,7 +29,7 @@ pub enum Calendar {
 
 /// What differs from calendar to calendar. The number of a date's year is the offset and the sum of the fields, each
 /// times its weight.
-#[derive(Clone, Copy, Debug)]
+#[derive(Clone, Copy)]
 pub struct CalendarRow {
     pub calendar: Calendar,
     /// How many fields a date has.

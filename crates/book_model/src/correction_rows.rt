@@ -12,7 +12,7 @@ use crate::time_tables::{
 use crate::version::Version;
 
 /// What the polynomial of a row is taken of, and what it counts.
-#[derive(Clone, Copy, Debug, PartialEq, Eq)]
+#[derive(Clone, Copy)]
 pub enum CorrectionForm {
     /// Seconds, by the whole years from a year on.
     SecondsSince(i64),

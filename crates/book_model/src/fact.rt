@@ -66,7 +66,7 @@ pub struct Fact {
 // A column of the table of kinds, so that no proof goes over kinds.
 /// Which tests of the formula of a kind of fact, where they are of a year, are of that of the whole day itself, and so are never
 /// open.
-#[derive(Clone, Copy, Debug, PartialEq, Eq)]
+#[derive(Clone, Copy)]
 pub enum WholeDays {
     /// None.
     Nowhere,

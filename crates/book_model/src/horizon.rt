@@ -2,7 +2,7 @@
 use crate::Frac;
 
 /// A location on the ground: its latitude north and its longitude east, in degrees, and its height above the sea, in metres.
-#[derive(Clone, Copy, Debug)]
+#[derive(Clone, Copy)]
 pub struct Location {
     pub latitude: Frac,
     pub longitude: Frac,
@@ -10,7 +10,7 @@ pub struct Location {
 }
 
 /// When the sun stands so many degrees below the horizon: before it rises, or after it has set.
-#[derive(Clone, Copy, Debug)]
+#[derive(Clone, Copy)]
 pub enum Twilight {
     Dawn,
     Dusk,

@@ -2,7 +2,7 @@
 
 /// A term of the moon's longitude and distance: the multiples of its elongation, of the sun's and of its own anomaly and
 /// of its argument of latitude, and the sizes in millionths of a degree and in metres.
-#[derive(Clone, Copy, Debug)]
+#[derive(Clone, Copy)]
 pub struct MoonTerm {
     pub elongation: i64,
     pub sun_anomaly: i64,
@@ -16,7 +16,7 @@ pub struct MoonTerm {
 // of the multiples and the size.
 /// A term of the moon's latitude: the multiples of its elongation, of the sun's and of its own anomaly and of its argument of
 /// latitude, and the size in millionths of a degree.
-#[derive(Clone, Copy, Debug)]
+#[derive(Clone, Copy)]
 pub struct LatitudeTerm {
     pub elongation: i64,
     pub sun_anomaly: i64,
@@ -27,7 +27,7 @@ pub struct LatitudeTerm {
 
 /// A term of a new moon: the power of the eccentricity's factor, the multiples of the anomalies of the sun and of the moon
 /// and of the argument of latitude, and the size in hundred-thousandths of a day.
-#[derive(Clone, Copy, Debug)]
+#[derive(Clone, Copy)]
 pub struct NewMoonTerm {
     pub eccentricity: u64,
     pub sun_anomaly: i64,
@@ -38,7 +38,7 @@ pub struct NewMoonTerm {
 
 /// A term of a new moon that goes by its number: the phase in hundredths of a degree, the rate a month in millionths of a
 /// degree, and the size in millionths of a day.
-#[derive(Clone, Copy, Debug)]
+#[derive(Clone, Copy)]
 pub struct PlanetTerm {
     pub phase: i64,
     pub rate: i64,

@@ -2,7 +2,7 @@
 use crate::Frac;
 
 /// The coefficients of a quadratic polynomial.
-#[derive(Clone, Copy, Debug)]
+#[derive(Clone, Copy)]
 pub struct Quadratic {
     pub constant: Frac,
     pub linear: Frac,
@@ -10,7 +10,7 @@ pub struct Quadratic {
 }
 
 /// The coefficients of a cubic polynomial.
-#[derive(Clone, Copy, Debug)]
+#[derive(Clone, Copy)]
 pub struct Cubic {
     pub constant: Frac,
     pub linear: Frac,
@@ -22,7 +22,7 @@ pub struct Cubic {
 // Coefficients stay fractions, since the moon's have denominators like 538,841.
 /// A wave in time: its size times the sine of its phase and its rate times the time. The phase is in ten-millionths of a
 /// degree, the rate in the same a century, and the size in a unit of its table.
-#[derive(Clone, Copy, Debug)]
+#[derive(Clone, Copy)]
 pub struct Wave {
     pub size: i64,
     pub phase: i64,
@@ -30,14 +30,14 @@ pub struct Wave {
 }
 
 /// A wave whose angle is quadratic in time: its size times the sine of the angle, in degrees.
-#[derive(Clone, Copy, Debug)]
+#[derive(Clone, Copy)]
 pub struct QuadraticWave {
     pub size: Frac,
     pub angle: Quadratic,
 }
 
 /// The coefficients of a polynomial of the fourth degree.
-#[derive(Clone, Copy, Debug)]
+#[derive(Clone, Copy)]
 pub struct Quartic {
     pub constant: Frac,
     pub linear: Frac,

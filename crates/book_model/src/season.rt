@@ -1,7 +1,7 @@
 //! Seasons: where the sun stands as they begin, and how a search tells that they have begun.
 
 /// A side of a longitude, in degrees.
-#[derive(Clone, Copy, Debug)]
+#[derive(Clone, Copy)]
 pub enum Side {
     // The rule asks 2 < longitude: that is the test made, and its answer is turned round, so that
     // an undecided line prints the sides of that comparison.
@@ -19,7 +19,7 @@ pub enum Side {
 // at whose moment the sun stands on the side.
 /// A season: the longitude of the sun, in degrees, at which it begins, and the side on which the sun stands from then on, in a
 /// search by days that sets out before it.
-#[derive(Clone, Copy, Debug)]
+#[derive(Clone, Copy)]
 pub struct Season {
     pub longitude: i64,
     pub side: Side,

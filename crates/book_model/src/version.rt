@@ -17,7 +17,7 @@ pub enum Version {
 // What else differs between versions is a row or a column of its own: a calendar's years, and since
 // when a kind, a place, a site, a word or a row of corrections is there.
 /// What differs from version to version.
-#[derive(Clone, Copy, Debug)]
+#[derive(Clone, Copy)]
 pub struct VersionRow {
     pub version: Version,
     /// The first and the last day that a line may name (R.D.).

@@ -3,7 +3,7 @@ use crate::Frac;
 
 // Zones are data in the rows of places: a zone more is a row, and no code.
 /// A day (R.D.) on which the time of a place changes, and the hours by which it is ahead of universal time before that day.
-#[derive(Clone, Copy, Debug)]
+#[derive(Clone, Copy)]
 pub struct ZoneStep {
     pub before: i64,
     pub hours: Frac,
