@@ -19,7 +19,7 @@ use interval_ends::parts::{HALF, NATURAL_ONE, QUARTER, THREE, WIDE_OCTANT};
 // A list of five, in the definition too, with one hull over those that an interval meets; octants
 // have no end, and so are a range of numbers.
 /// A closed piece of the line: up to -3, from there to -1/2, to 1/2, to 3, and from 3 on.
-#[derive(Clone, Copy, Debug, PartialEq)]
+#[derive(Clone, Copy)]
 pub(crate) enum Piece {
     FarBelow,
     Below,

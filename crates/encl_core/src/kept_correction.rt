@@ -8,7 +8,6 @@ use std::alloc::AllocError;
 
 // As `KeptMoon`: its type says that it is the year's correction, which makes no test.
 /// The dynamical time correction of a year, as enclosures of one scale give it.
-#[derive(Debug, PartialEq)]
 pub struct KeptCorrection {
     year: i64,
     bits: u32,

@@ -9,7 +9,6 @@ use std::alloc::AllocError;
 // and ends within these ends, which are so narrow at the fine scale. So it may be taken at any
 // turn. A ghost field has to be a proposition, so that is said of runs and not by `Leads`.
 /// The moment of the new moon of a number, as enclosures of one scale give it.
-#[derive(Debug, PartialEq)]
 pub struct KeptMoon {
     number: i64,
     // The scale is part of the key: fine enclosures never take coarse ends.

@@ -9,7 +9,7 @@ use crate::kept_moon::KeptMoon;
 /// The last new moon whose number leaves each rest by 3. A walk to the new moon before a moment names four or five new moons, of
 /// three neighbouring numbers: that about the moment, those that it tries, and its answer. So each is evaluated once, where one
 /// place for the last of them had two evaluated twice.
-#[derive(Clone, Copy, Debug, PartialEq)]
+#[derive(Clone, Copy)]
 pub(crate) struct KeptMoons {
     first: Option<KeptMoon>,
     second: Option<KeptMoon>,

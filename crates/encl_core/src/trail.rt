@@ -13,7 +13,7 @@ use crate::kept_moons::KeptMoons;
 /// How many tests a run has made, and what it keeps: the new moon of number 0, some of the last other new moons, and the correction
 /// of the last year. The count stops at the greatest `u32`. What is kept is only ever what the run would evaluate anew, so
 /// it changes no answer; and it is taken only by enclosures of the scale at which it was evaluated.
-#[derive(Debug, PartialEq, Drop)]
+#[derive(Drop)]
 pub struct Trail {
     count: u32,
     first_moon: Option<KeptMoon>,

@@ -4,7 +4,7 @@
 // clause (`wide`): phases and longitudes of the moon are narrow also of moments at which their
 // failures aren't close.
 /// How wide an answer is at most: the width of the argument times a fraction, rounded down, and a slack. Widths count 2⁻⁶⁴.
-#[derive(Clone, Copy, Debug)]
+#[derive(Clone, Copy)]
 pub struct WidthRow {
     pub numerator: u64,
     pub denominator: u64,
