@@ -50,7 +50,8 @@ unfoldable keeps_units : Correction → Bool
 keeps_units row = option_map_or (λ units. are_finest units row) row.units true
 
 table_close : list_all keeps_units corrections ≡ true
-unfolding corrections keeps_units are_finest holds_from is_finest implies bound_of integer_bound constant_bound sum_bound scaled_bound
+unfolding corrections keeps_units are_finest holds_from is_finest implies bound_of integer_bound constant_bound
+    sum_bound scaled_bound
     computed_by seconds_of polynomial_of polynomial_to int_power horner_of horner_to fixed_of first_day days_of_months
 table_close = refl
 
@@ -96,7 +97,12 @@ scale_is k h =
     let c = both _ _ b.1 in
     let d = both _ _ c.1 in
     record {
-      limits = record { unit = eqb-true _ _ a.0; sizes = leb-true _ _ b.0; constants = leb-true _ _ c.0; factors = leb-true _ _ d.0 };
+      limits = record {
+        unit = eqb-true _ _ a.0;
+        sizes = leb-true _ _ b.0;
+        constants = leb-true _ _ c.0;
+        factors = leb-true _ _ d.0;
+      };
       width = eqb-true _ _ d.1;
     }
 
@@ -106,17 +112,20 @@ implied_at : (k u : ℕ) → k < 21 → (r : ℕ → Bound) (form : CorrectionFo
     → implies (bound_of (limits_of (36 + k)) r (computed_by form cs y)) (correction_bound u (36 + k)) ≡ true
 implied_at k u h r form cs y e =
     let s = scale_is k h in
-    implied (unit_at k) u (2 ^ (64 - (36 + k))) _ _ s.width (coarser_correction (unit_at k) (limits_of (36 + k)) s.limits r form cs y) _ _ e
+    implied (unit_at k) u (2 ^ (64 - (36 + k))) _ _ s.width (coarser_correction (unit_at k) (limits_of (36 + k))
+    s.limits r form cs y) _ _ e
 
 -- ---- the rows
-row_close : (row : Correction) (u n : ℕ) (y : ℤ) → are_finest u row ≡ true → 36 ≤ n → n ≤ 56 → row.first ≤ℤ y → y ≤ℤ row.last
+row_close : (row : Correction) (u n : ℕ) (y : ℤ) → are_finest u row ≡ true → 36 ≤ n → n ≤ 56 → row.first ≤ℤ y
+    → y ≤ℤ row.last
     → is_close u n row.form row.coefficients y ≡ true
 unfolding are_finest is_finest is_close
 row_close row u n y c a b h k =
     let p : 36 + (n - 36) ≡ n = omega arith in
     let e = holds_at (is_finest u row.form row.coefficients) (years_of row) row.first y c h (year_inside row y h k) in
     let f = implied_at (n - 36) u (omega arith) no_bound row.form row.coefficients y e in
-    subst (λ t. implies (bound_of (limits_of t) no_bound (computed_by row.form row.coefficients y)) (correction_bound u t) ≡ true) p f
+    subst (λ t. implies (bound_of (limits_of t) no_bound (computed_by row.form row.coefficients y))
+    (correction_bound u t) ≡ true) p f
 
 -- a correction that keeps its computed bound is close
 close : {E : Type 0} (shown : E → Interval) (u n : ℕ) (y : ℤ) (form : CorrectionForm) (cs : List Frac) (e : E) → is_close u n form cs y ≡ true
