@@ -11,7 +11,8 @@ record HasRoom (a p r : ℤ) : Type 0 where
 
 room : (a p r : ℤ) → SFits w64 a → SFits w64 p → SFits w64 r → HasRoom a p r
 room a p r fa fp fr =
-    let b = bounded_z a r (pos (2 ^ 63)) (pos (2 ^ 63)) (omega (arith, ints)) (omega (arith, ints)) (omega (arith, ints)) (omega (arith, ints)) in
+    let b = bounded_z a r (pos (2 ^ 63)) (pos (2 ^ 63)) (omega (arith, ints)) (omega (arith, ints))
+    (omega (arith, ints)) (omega (arith, ints)) in
     record { phase = omega (arith, ints, fp); sum = omega (arith, ints, fp, b.0, b.1) }
 
 pub overflow_mul-result : goal.overflow_mul-result

@@ -8,16 +8,22 @@ record HasRoom (n w : ℤ) (d : ℕ) : Type 0 where
   multiple : SFits w64 (w *ℤ pos d)
   left : SFits w64 (n -ℤ w *ℤ pos d)
 
-room : (n w : ℤ) (d : ℕ) → pos 0 ≤ℤ (n -ℤ w *ℤ pos d) → (n -ℤ w *ℤ pos d) <ℤ pos d → IsCount n → d < 2 ^ 16 → HasRoom n w d
+room : (n w : ℤ) (d : ℕ) → pos 0 ≤ℤ (n -ℤ w *ℤ pos d) → (n -ℤ w *ℤ pos d) <ℤ pos d → IsCount n → d < 2 ^ 16
+    → HasRoom n w d
 room n w d from to count fits =
-    record { multiple = omega (arith, ints, from, to, count.0, count.1, fits); left = omega (arith, ints, from, to, fits) }
+    record {
+      multiple = omega (arith, ints, from, to, count.0, count.1, fits);
+      left = omega
+          (arith, ints, from, to, fits);
+    }
 
 pub overflow_mul-result : goal.overflow_mul-result
 overflow_mul-result c =
     let fw : SFits w64 c.args.whole = c.ranges.whole in
     let ff : SFits w64 c.from.result = search rules in
     let e : c.from.result ≡ pos c.args.divisor = c.from.ensures in
-    let r = room c.args.number c.args.whole c.args.divisor c.requires.from c.requires.to c.requires.number c.ranges.divisor.fits in
+    let r = room c.args.number c.args.whole c.args.divisor c.requires.from c.requires.to c.requires.number
+    c.ranges.divisor.fits in
     let m : SFits w64 (c.args.whole *ℤ c.from.result) = rw e r.multiple in
     simp to_z-of_z m
 
@@ -27,7 +33,8 @@ overflow_sub-result c =
     let fw : SFits w64 c.args.whole = c.ranges.whole in
     let ff : SFits w64 c.from.result = search rules in
     let e : c.from.result ≡ pos c.args.divisor = c.from.ensures in
-    let r = room c.args.number c.args.whole c.args.divisor c.requires.from c.requires.to c.requires.number c.ranges.divisor.fits in
+    let r = room c.args.number c.args.whole c.args.divisor c.requires.from c.requires.to c.requires.number
+    c.ranges.divisor.fits in
     let m : SFits w64 (c.args.whole *ℤ c.from.result) = rw e r.multiple in
     let s : SFits w64 (c.args.number -ℤ c.args.whole *ℤ c.from.result) = rw e r.left in
     simp to_z-of_z s
@@ -38,7 +45,8 @@ returns c =
     let fw : SFits w64 c.args.whole = c.ranges.whole in
     let ff : SFits w64 c.from.result = search rules in
     let e : c.from.result ≡ pos c.args.divisor = c.from.ensures in
-    let r = room c.args.number c.args.whole c.args.divisor c.requires.from c.requires.to c.requires.number c.ranges.divisor.fits in
+    let r = room c.args.number c.args.whole c.args.divisor c.requires.from c.requires.to c.requires.number
+    c.ranges.divisor.fits in
     let m : SFits w64 (c.args.whole *ℤ c.from.result) = rw e r.multiple in
     let s : SFits w64 (c.args.number -ℤ c.args.whole *ℤ c.from.result) = rw e r.left in
     record { left = simp to_z-of_z (rw e refl) }

@@ -13,7 +13,8 @@ opposite n count = omega (arith, ints, count.0, count.1)
 least : (n : ℤ) (d : ℕ) → n ≤ℤ pos 50000000 → negsuc 49999999 ≤ℤ floor_quotient (pos 0 -ℤ n) d
 least n d h = floor_quotient_mono (negsuc 49999999) (pos 0 -ℤ n) 0 d (omega (arith, ints, h))
 
-opposite_quotient : (q n : ℤ) (d : ℕ) → SFits w64 q → n ≤ℤ pos 50000000 → q ≡ floor_quotient (pos 0 -ℤ n) d → SFits w64 (pos 0 -ℤ q)
+opposite_quotient : (q n : ℤ) (d : ℕ) → SFits w64 q → n ≤ℤ pos 50000000 → q ≡ floor_quotient (pos 0 -ℤ n) d
+    → SFits w64 (pos 0 -ℤ q)
 opposite_quotient q n d f h e = let l = least n d h in omega (arith, ints, f, l, e)
 
 same : (q n : ℤ) (d : ℕ) → q ≡ floor_quotient (pos 0 -ℤ n) d → pos 0 -ℤ q ≡ neg_ℤ (floor_quotient (neg_ℤ n) d)
@@ -27,7 +28,8 @@ overflow_sub-number c =
     let fn : SFits w64 c.args.number = c.ranges.number in
     simp to_z-of_z (opposite c.args.number c.requires.number)
 
-quotient_is : (c : goal.After-div_euclid) → c.div_euclid.result ≡ floor_quotient (pos 0 -ℤ c.args.number) (c.args.divisor - 1)
+quotient_is : (c : goal.After-div_euclid)
+    → c.div_euclid.result ≡ floor_quotient (pos 0 -ℤ c.args.number) (c.args.divisor - 1)
 quotient_is c =
     let fn : SFits w64 c.args.number = c.ranges.number in
     let fm = opposite c.args.number c.requires.number in
@@ -40,10 +42,12 @@ quotient_is c =
 pub overflow_sub-result : goal.overflow_sub-result
 overflow_sub-result c =
     let fq : SFits w64 c.div_euclid.result = search rules in
-    simp to_z-of_z (opposite_quotient c.div_euclid.result c.args.number (c.args.divisor - 1) fq c.requires.number.1 (quotient_is c))
+    simp to_z-of_z (opposite_quotient c.div_euclid.result c.args.number (c.args.divisor - 1) fq c.requires.number.1
+    (quotient_is c))
 
 pub returns : goal.returns
 returns c =
     let fq : SFits w64 c.div_euclid.result = search rules in
-    let fr = opposite_quotient c.div_euclid.result c.args.number (c.args.divisor - 1) fq c.requires.number.1 (quotient_is c) in
+    let fr = opposite_quotient c.div_euclid.result c.args.number (c.args.divisor - 1) fq c.requires.number.1
+    (quotient_is c) in
     record { quotient = simp to_z-of_z (same c.div_euclid.result c.args.number (c.args.divisor - 1) (quotient_is c)) }
