@@ -9,7 +9,17 @@ pub returns-in_err-hi : goal.returns-in_err-hi
 returns-in_err-hi g c = record { ends = rw c.from_residual-in_err-hi.ensures (λ p q. c.in_err-hi.ensures.none refl q) }
 
 pub invariant_of-result : goal.invariant_of-result
-invariant_of-result g c = record { ordered = omega (arith, ints, c.in_ok-lo.ensures.difference, c.in_ok-hi.ensures.difference, c.args.x.ordered, c.args.y.ordered) }
+invariant_of-result g c =
+    record {
+      ordered = omega (
+        arith,
+        ints,
+        c.in_ok-lo.ensures.difference,
+        c.in_ok-hi.ensures.difference,
+        c.args.x.ordered,
+        c.args.y.ordered,
+      );
+    }
 
 pub returns : goal.returns
 returns g c = record { ends = (c.in_ok-lo.ensures.difference, c.in_ok-hi.ensures.difference) }

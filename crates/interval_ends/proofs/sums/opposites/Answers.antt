@@ -9,7 +9,8 @@ pub returns-in_err-hi : goal.returns-in_err-hi
 returns-in_err-hi g c = record { ends = rw c.from_residual-in_err-hi.ensures (λ p q. c.in_err-hi.ensures.none refl q) }
 
 pub invariant_of-result : goal.invariant_of-result
-invariant_of-result g c = record { ordered = omega (arith, ints, c.in_ok-lo.ensures.opposite, c.in_ok-hi.ensures.opposite, c.args.x.ordered) }
+invariant_of-result g c =
+    record { ordered = omega (arith, ints, c.in_ok-lo.ensures.opposite, c.in_ok-hi.ensures.opposite, c.args.x.ordered) }
 
 pub returns : goal.returns
 returns g c = record { ends = (c.in_ok-lo.ensures.opposite, c.in_ok-hi.ensures.opposite) }

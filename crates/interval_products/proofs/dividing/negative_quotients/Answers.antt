@@ -115,8 +115,10 @@ record AreOfOpposites (scale : Scale) (a b c d x y z w lo hi : ℤ) : Type 0 whe
   greatest : w ≡ pos 0 -ℤ c
   quotients : AreQuotientsAt scale x y z w lo hi
 
-of_opposites : (g : _) (c : goal.After-ends_of g) → AreOfOpposites g.I.MachineWord.scale (g.I.MachineWord.value c.args.x.lo)
-    (g.I.MachineWord.value c.args.x.hi) (g.I.MachineWord.value c.args.y.lo) (g.I.MachineWord.value c.args.y.hi) c.in_ok-a.a c.in_ok-b.b c.in_ok-c.c
+of_opposites : (g : _) (c : goal.After-ends_of g)
+    → AreOfOpposites g.I.MachineWord.scale (g.I.MachineWord.value c.args.x.lo)
+    (g.I.MachineWord.value c.args.x.hi) (g.I.MachineWord.value c.args.y.lo) (g.I.MachineWord.value c.args.y.hi)
+    c.in_ok-a.a c.in_ok-b.b c.in_ok-c.c
     c.in_ok-d.d c.in_ok-lo.lo c.in_ok-lo.hi
 of_opposites g c =
     let ga : SFits w128 c.wide.result = search rules in
@@ -146,7 +148,8 @@ returns-clause-holds g c =
     let fh : SFits w128 c.in_ok-lo.hi = search rules in
     let o = of_opposites g c in
     let e = simp to_z-of_z at c.ends_of.ensures.ends in
-    negative_enclosed g.I.MachineWord.scale _ _ _ _ _ _ _ _ _ _ _ c.args.x.ordered c.requires c.args.y.ordered o.first o.last o.least o.greatest
+    negative_enclosed g.I.MachineWord.scale _ _ _ _ _ _ _ _ _ _ _ c.args.x.ordered c.requires c.args.y.ordered o.first
+    o.last o.least o.greatest
     o.quotients (shows _ _ _ e)
 
 pub returns-clause-close : goal.returns-clause-close
@@ -161,7 +164,8 @@ returns-clause-close g c =
     let f = g.I.MachineWord.value c.args.y.hi in
     when_there _ _ _ (λ z. (m : ℕ) → 0 < m → (pos m ≤ℤ d) ⊎ (f ≤ℤ (pos 0 -ℤ pos m)) → ((z -ℤ pos 2) *ℤ (pos m *ℤ pos m))
     ≤ℤ (unit g.I.MachineWord.scale *ℤ ((y -ℤ x) *ℤ pos m) +ℤ unit g.I.MachineWord.scale *ℤ (pos (size_between x y) *ℤ (f -ℤ d)))) e
-    (negative_close g.I.MachineWord.scale x y d f _ _ c.args.y.ordered c.requires (rw (o.first, o.last, o.least, o.greatest) at o.quotients))
+    (negative_close g.I.MachineWord.scale x y d f _ _ c.args.y.ordered c.requires
+    (rw (o.first, o.last, o.least, o.greatest) at o.quotients))
 
 pub returns-clause-some : goal.returns-clause-some
 returns-clause-some g c =

@@ -60,7 +60,8 @@ record AreSquared (scale : Scale) (a b n m lo hi : ℤ) : Type 0 where
   high : IsCeiling hi m (unit scale)
 
 squared : (g : _) (c : goal.After-ends_of g) → AreSquared g.I.MachineWord.scale (g.I.MachineWord.value c.in_ok-x.x.lo)
-    (g.I.MachineWord.value c.in_ok-x.x.hi) c.least_square-least.result c.max.result c.floor_product.result c.ceil_product.result
+    (g.I.MachineWord.value c.in_ok-x.x.hi) c.least_square-least.result c.max.result c.floor_product.result
+    c.ceil_product.result
 squared g c =
     let fp : SFits w128 c.in_ok-low.low = search rules in
     let fq : SFits w128 c.in_ok-high.high = search rules in
@@ -78,7 +79,14 @@ squared g c =
     let i = simp to_z-of_z at c.floor_product.ensures.floor in
     let j = simp to_z-of_z at c.ceil_product.ensures.ceiling in
     let v = simp to_z-of_z at c.max.ensures.value in
-    record { least = n; first = k; last = k'; best = λ z p q. omega (arith, ints, clamps, v, e, e', p, q); low = i; high = j }
+    record {
+      least = n;
+      first = k;
+      last = k';
+      best = λ z p q. omega (arith, ints, clamps, v, e, e', p, q);
+      low = i;
+      high = j;
+    }
 
 pub returns-clause-holds : goal.returns-clause-holds
 returns-clause-holds g c =
@@ -86,16 +94,19 @@ returns-clause-holds g c =
     let fh : SFits w128 c.ceil_product.result = search rules in
     let t = squared g c in
     let s = simp to_z-of_z at c.ends_of.ensures.ends in
-    rw c.in_ok-x.was (square_encloses g.I.MachineWord.scale _ _ _ _ _ _ _ t.least t.first t.last t.low t.high (shows _ _ _ s))
+    rw c.in_ok-x.was (square_encloses g.I.MachineWord.scale _ _ _ _ _ _ _ t.least t.first t.last t.low t.high
+    (shows _ _ _ s))
 
 pub returns-clause-narrow : goal.returns-clause-narrow
 returns-clause-narrow g c = λ w a h.
     let fl : SFits w128 c.floor_product.result = search rules in
     let fh : SFits w128 c.ceil_product.result = search rules in
     let t = squared g c in
-    let o = outward_order _ _ _ _ _ (squares_order _ _ _ _ t.least t.first t.last) t.low t.high (unit_positive g.I.MachineWord.scale) in
+    let o = outward_order _ _ _ _ _ (squares_order _ _ _ _ t.least t.first t.last) t.low t.high
+    (unit_positive g.I.MachineWord.scale) in
     let s = simp to_z-of_z at c.ends_of.ensures.ends in
-    square_narrow g.I.MachineWord.scale w a _ _ _ _ _ _ _ c.in_ok-x.x.ordered t.least t.best o t.low t.high (shows _ _ _ s) (rw c.in_ok-x.was at h)
+    square_narrow g.I.MachineWord.scale w a _ _ _ _ _ _ _ c.in_ok-x.x.ordered t.least t.best o t.low t.high
+    (shows _ _ _ s) (rw c.in_ok-x.was at h)
 
 pub returns-clause-close : goal.returns-clause-close
 returns-clause-close g c =

@@ -14,7 +14,8 @@ record HasRoom (octant : ℤ) : Type 0 where
   edge : SFits w128 (octant *ℤ pos OCTANT)
   next : SFits w128 (octant *ℤ pos OCTANT +ℤ pos OCTANT)
 
-room : (lo hi octant : ℤ) → lo ≤ℤ hi → neg_ℤ (pos (2 ^ 120)) ≤ℤ lo → hi ≤ℤ pos (2 ^ 120) → octant ≡ int_div_euclid lo (pos OCTANT) → HasRoom octant
+room : (lo hi octant : ℤ) → lo ≤ℤ hi → neg_ℤ (pos (2 ^ 120)) ≤ℤ lo → hi ≤ℤ pos (2 ^ 120)
+    → octant ≡ int_div_euclid lo (pos OCTANT) → HasRoom octant
 room lo hi octant o from to e =
     let q = division_is lo octant e in
     record { edge = omega (arith, ints, q.not_above, q.close); next = omega (arith, ints, q.not_above, q.close) }

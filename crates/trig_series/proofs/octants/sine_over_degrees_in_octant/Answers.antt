@@ -52,7 +52,8 @@ record AreCut (octant lo hi low high : ℤ) : Type 0 where
   high_from : (octant *ℤ pos OCTANT) ≤ℤ high
   high_to : high ≤ℤ (octant *ℤ pos OCTANT +ℤ pos OCTANT)
 
-are_cut : (octant lo hi low high : ℤ) → low ≡ int_max (octant *ℤ pos OCTANT) lo → high ≡ int_min (octant *ℤ pos OCTANT +ℤ pos OCTANT) hi → lo ≤ℤ hi
+are_cut : (octant lo hi low high : ℤ) → low ≡ int_max (octant *ℤ pos OCTANT) lo
+    → high ≡ int_min (octant *ℤ pos OCTANT +ℤ pos OCTANT) hi → lo ≤ℤ hi
     → (octant *ℤ pos OCTANT) ≤ℤ hi → lo ≤ℤ (octant *ℤ pos OCTANT +ℤ pos OCTANT) → AreCut octant lo hi low high
 are_cut octant lo hi low high u v ordered begun ended = record {
   above = omega (arith, ints, clamps, u);
@@ -72,8 +73,10 @@ record HaveSines (octant lo hi p q a b x y : ℤ) : Type 0 where
   low : LiesIn octant p a b
   high : LiesIn octant q x y
 
-cut_ends : (c : goal.After-hull) → HaveSines c.args.octant c.args.lo c.args.hi c.max.result c.min.result c.sine_at_degrees_in_octant-low.result.lo
-    c.sine_at_degrees_in_octant-low.result.hi c.sine_at_degrees_in_octant-high.result.lo c.sine_at_degrees_in_octant-high.result.hi
+cut_ends : (c : goal.After-hull)
+    → HaveSines c.args.octant c.args.lo c.args.hi c.max.result c.min.result c.sine_at_degrees_in_octant-low.result.lo
+    c.sine_at_degrees_in_octant-low.result.hi c.sine_at_degrees_in_octant-high.result.lo
+    c.sine_at_degrees_in_octant-high.result.hi
 cut_ends c =
     let fo = c.ranges.octant in
     let fl = c.ranges.lo in
@@ -85,7 +88,8 @@ cut_ends c =
     let fq : SFits w128 c.min.result = search rules in
     let u = simp to_z-of_z at c.max.ensures.value in
     let v = simp to_z-of_z at c.min.ensures.value in
-    let t = are_cut c.args.octant c.args.lo c.args.hi c.max.result c.min.result u v c.requires.ordered c.requires.begun c.requires.ended in
+    let t = are_cut c.args.octant c.args.lo c.args.hi c.max.result c.min.result u v c.requires.ordered
+    c.requires.begun c.requires.ended in
     let m = simp to_z-of_z at c.sine_at_degrees_in_octant-low.ensures.near in
     let n = simp to_z-of_z at c.sine_at_degrees_in_octant-high.ensures.near in
     record {

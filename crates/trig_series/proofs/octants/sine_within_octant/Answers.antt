@@ -11,9 +11,11 @@ record HasRoom (octant lo hi : ℤ) : Type 0 where
   low : SFits w128 (lo -ℤ octant *ℤ pos OCTANT)
   high : SFits w128 (hi -ℤ octant *ℤ pos OCTANT)
 
-room : (octant lo hi : ℤ) → neg_ℤ (pos (2 ^ 60)) ≤ℤ octant → octant ≤ℤ pos (2 ^ 60) → (octant *ℤ pos OCTANT) ≤ℤ lo → lo ≤ℤ hi
+room : (octant lo hi : ℤ) → neg_ℤ (pos (2 ^ 60)) ≤ℤ octant → octant ≤ℤ pos (2 ^ 60) → (octant *ℤ pos OCTANT) ≤ℤ lo
+    → lo ≤ℤ hi
     → hi ≤ℤ (octant *ℤ pos OCTANT +ℤ pos OCTANT) → HasRoom octant lo hi
-room octant lo hi from to begun ordered ended = record { edge = omega (arith, ints); low = omega (arith, ints); high = omega (arith, ints) }
+room octant lo hi from to begun ordered ended =
+    record { edge = omega (arith, ints); low = omega (arith, ints); high = omega (arith, ints) }
 
 pub returns-clause-holds : goal.returns-clause-holds
 returns-clause-holds c =
@@ -21,7 +23,8 @@ returns-clause-holds c =
     let fl = c.ranges.lo in
     let fh = c.ranges.hi in
     let ft : SFits w128 c.octant_in_turn.result = search rules in
-    let r = room c.args.octant c.args.lo c.args.hi c.requires.from c.requires.to c.requires.begun c.requires.ordered c.requires.ended in
+    let r = room c.args.octant c.args.lo c.args.hi c.requires.from c.requires.to c.requires.begun c.requires.ordered
+    c.requires.ended in
     let fe = r.edge in
     let fa = r.low in
     let fb = r.high in
@@ -36,7 +39,8 @@ returns-clause-narrow c =
     let fl = c.ranges.lo in
     let fh = c.ranges.hi in
     let ft : SFits w128 c.octant_in_turn.result = search rules in
-    let r = room c.args.octant c.args.lo c.args.hi c.requires.from c.requires.to c.requires.begun c.requires.ordered c.requires.ended in
+    let r = room c.args.octant c.args.lo c.args.hi c.requires.from c.requires.to c.requires.begun c.requires.ordered
+    c.requires.ended in
     let fe = r.edge in
     let fa = r.low in
     let fb = r.high in
@@ -49,7 +53,8 @@ returns-clause-near c =
     let fl = c.ranges.lo in
     let fh = c.ranges.hi in
     let ft : SFits w128 c.octant_in_turn.result = search rules in
-    let r = room c.args.octant c.args.lo c.args.hi c.requires.from c.requires.to c.requires.begun c.requires.ordered c.requires.ended in
+    let r = room c.args.octant c.args.lo c.args.hi c.requires.from c.requires.to c.requires.begun c.requires.ordered
+    c.requires.ended in
     let fe = r.edge in
     let fa = r.low in
     let fb = r.high in
@@ -63,7 +68,8 @@ returns-clause-small c =
     let fl = c.ranges.lo in
     let fh = c.ranges.hi in
     let ft : SFits w128 c.octant_in_turn.result = search rules in
-    let r = room c.args.octant c.args.lo c.args.hi c.requires.from c.requires.to c.requires.begun c.requires.ordered c.requires.ended in
+    let r = room c.args.octant c.args.lo c.args.hi c.requires.from c.requires.to c.requires.begun c.requires.ordered
+    c.requires.ended in
     let fe = r.edge in
     let fa = r.low in
     let fb = r.high in
@@ -78,7 +84,8 @@ returns-clause-crest c =
     let fl = c.ranges.lo in
     let fh = c.ranges.hi in
     let ft : SFits w128 c.octant_in_turn.result = search rules in
-    let r = room c.args.octant c.args.lo c.args.hi c.requires.from c.requires.to c.requires.begun c.requires.ordered c.requires.ended in
+    let r = room c.args.octant c.args.lo c.args.hi c.requires.from c.requires.to c.requires.begun c.requires.ordered
+    c.requires.ended in
     let fe = r.edge in
     let fa = r.low in
     let fb = r.high in

@@ -12,7 +12,8 @@ lowered c =
     let e : c.from.result ≡ pos c.args.modulus = c.from.ensures in
     let v = simp to_z-of_z at c.floor-whole.ensures.value in
     let f = rw (sym v) at (floor_quotient_is c.args.self (2 ^ 56 - 1)) in
-    rw e (are_lowered (pos c.args.modulus *ℤ c.args.period) c.floor-whole.result c.args.self c.args.modulus fe (omega (arith, ints, f.not_above))
+    rw e (are_lowered (pos c.args.modulus *ℤ c.args.period) c.floor-whole.result c.args.self c.args.modulus fe
+    (omega (arith, ints, f.not_above))
     (omega (arith, ints, f.close)) c.requires.begun c.requires.not_over c.ranges.modulus.fits)
 
 pub overflow_mul-begun : goal.overflow_mul-begun

@@ -11,7 +11,8 @@ begun c =
     let e : c.from.result ≡ pos c.args.modulus = c.from.ensures in
     let f : c.from-2.result ≡ c.args.period = simp to_z-of_z at c.from-2.ensures in
     simp (e, f)
-    (are_begun (pos c.args.modulus *ℤ c.args.period) c.args.self c.args.modulus c.ranges.self c.requires.begun c.requires.not_over c.ranges.modulus.fits)
+    (are_begun (pos c.args.modulus *ℤ c.args.period) c.args.self c.args.modulus c.ranges.self c.requires.begun
+    c.requires.not_over c.ranges.modulus.fits)
 
 pub overflow_mul-begun : goal.overflow_mul-begun
 overflow_mul-begun c =
@@ -30,7 +31,8 @@ overflow_mul-begun-2 c =
     let f : c.from-2.result ≡ c.args.period = simp to_z-of_z at c.from-2.ensures in
     let g : c.from-3.result ≡ c.args.self = simp to_z-of_z at c.from-3.ensures in
     let l : AreBegun (c.from.result *ℤ c.from-2.result) c.from-3.result = simp (e, f, g)
-    (are_begun (pos c.args.modulus *ℤ c.args.period) c.args.self c.args.modulus fs c.requires.begun c.requires.not_over c.ranges.modulus.fits) in
+    (are_begun (pos c.args.modulus *ℤ c.args.period) c.args.self c.args.modulus fs c.requires.begun
+    c.requires.not_over c.ranges.modulus.fits) in
     let f1 = l.begun in
     simp to_z-of_z l.raised
 
@@ -45,7 +47,8 @@ overflow_sub-from c =
     let f : c.from-2.result ≡ c.args.period = simp to_z-of_z at c.from-2.ensures in
     let g : c.from-3.result ≡ c.args.self = simp to_z-of_z at c.from-3.ensures in
     let l : AreBegun (c.from.result *ℤ c.from-2.result) c.from-3.result = simp (e, f, g)
-    (are_begun (pos c.args.modulus *ℤ c.args.period) c.args.self c.args.modulus fs c.requires.begun c.requires.not_over c.ranges.modulus.fits) in
+    (are_begun (pos c.args.modulus *ℤ c.args.period) c.args.self c.args.modulus fs c.requires.begun
+    c.requires.not_over c.ranges.modulus.fits) in
     let f1 = l.begun in
     let f2 = l.raised in
     simp to_z-of_z l.rest
@@ -61,7 +64,8 @@ returns-clause-value c =
     let f : c.from-2.result ≡ c.args.period = simp to_z-of_z at c.from-2.ensures in
     let g : c.from-3.result ≡ c.args.self = simp to_z-of_z at c.from-3.ensures in
     let l : AreBegun (c.from.result *ℤ c.from-2.result) c.from-3.result = simp (e, f, g)
-    (are_begun (pos c.args.modulus *ℤ c.args.period) c.args.self c.args.modulus fs c.requires.begun c.requires.not_over c.ranges.modulus.fits) in
+    (are_begun (pos c.args.modulus *ℤ c.args.period) c.args.self c.args.modulus fs c.requires.begun
+    c.requires.not_over c.ranges.modulus.fits) in
     let f1 = l.begun in
     let f2 = l.raised in
     let f3 = l.rest in
@@ -79,7 +83,8 @@ returns-clause-none c =
     let f : c.from-2.result ≡ c.args.period = simp to_z-of_z at c.from-2.ensures in
     let g : c.from-3.result ≡ c.args.self = simp to_z-of_z at c.from-3.ensures in
     let l : AreBegun (c.from.result *ℤ c.from-2.result) c.from-3.result = simp (e, f, g)
-    (are_begun (pos c.args.modulus *ℤ c.args.period) c.args.self c.args.modulus fs c.requires.begun c.requires.not_over c.ranges.modulus.fits) in
+    (are_begun (pos c.args.modulus *ℤ c.args.period) c.args.self c.args.modulus fs c.requires.begun
+    c.requires.not_over c.ranges.modulus.fits) in
     let f1 = l.begun in
     let f2 = l.raised in
     let f3 = l.rest in
