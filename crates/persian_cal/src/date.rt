@@ -106,7 +106,6 @@ fn day_by(new_year: i64, month: i64, day: i64) -> i64
 /// let mut oracle = Asking::new(rt.alloc(), &evaluator);
 /// let date = persian_cal::from_fixed(&mut oracle, 738_965)?; // PersianDate { year: 1403, month: 1, day: 1 }
 /// ```
-#[tactic(auto, using(oracle_core::proofs::Inquiring::asking), unfolding(book_model::specs::calendars::Persian::persian_on))]
 pub fn from_fixed<O: Oracle>(oracle: &mut O, day: i64) -> Result<PersianDate, Stop>
     requires day { IsDateDay Persian day }
     ensures date { AsksAs fields_of_date O.Oracle (persian_on day) oracle.old oracle.new result }
@@ -128,7 +127,6 @@ pub fn from_fixed<O: Oracle>(oracle: &mut O, day: i64) -> Result<PersianDate, St
 /// let date = PersianDate { year: 1403, month: 1, day: 1 };
 /// let day = persian_cal::to_fixed(&mut oracle, date)?; // 738_965, which is 20 March 2024
 /// ```
-#[tactic(auto, using(oracle_core::proofs::Inquiring::asking), unfolding(book_model::specs::calendars::Persian::persian_day))]
 pub fn to_fixed<O: Oracle>(oracle: &mut O, date: PersianDate) -> Result<i64, Stop>
     requires askable { IsAskable Persian (fields_of_date date) }
     ensures day { Asks O.Oracle (persian_day date.year (pos date.month) (pos date.day))
