@@ -105,7 +105,6 @@ fn date_from_signs(tithi: i64, earlier: i64, before: i64, after: i64, year: i64)
 }
 
 /// The date of a day by its tithi and that of the day before.
-#[tactic(auto, using(oracle_core::proofs::Inquiring::asking), unfolding(book_model::specs::calendars::HinduLunar::lunar_date_by))]
 fn date_from_tithis<O: Oracle>(
     oracle: &mut O,
     day: i64,
@@ -123,7 +122,6 @@ fn date_from_tithis<O: Oracle>(
 }
 
 /// The date of a day (R.D.) to which values of facts lead.
-#[tactic(auto, using(oracle_core::proofs::Inquiring::asking), unfolding(book_model::specs::calendars::HinduLunar::hindu_lunar_on))]
 fn date_from_facts<O: Oracle>(oracle: &mut O, day: i64) -> Result<HinduLunar, Stop>
     requires day { IsDatedDay day }
     ensures date { AsksAs fields_of_lunar O.Oracle (spec.hindu_lunar_on day)
@@ -170,7 +168,6 @@ fn is_sought_date(sought: HinduLunar, date: HinduLunar) -> bool
 }
 
 /// Whether a day lies in the month of a date. It stops where the oracle stops.
-#[tactic(auto, using(oracle_core::proofs::Inquiring::asking), unfolding(book_model::specs::calendars::HinduLunar::lies_in_month))]
 fn lies_in_month<O: Oracle>(oracle: &mut O, sought: HinduLunar, day: i64) -> Result<bool, Stop>
     requires day { IsDatedDay day }
     ensures lies { Asks O.Oracle (spec.lies_in_month (fields_of_lunar sought) day)
@@ -181,7 +178,6 @@ fn lies_in_month<O: Oracle>(oracle: &mut O, sought: HinduLunar, day: i64) -> Res
 }
 
 /// Whether a day has a date. It stops where the oracle stops.
-#[tactic(auto, using(oracle_core::proofs::Inquiring::asking), unfolding(book_model::specs::calendars::HinduLunar::has_date))]
 fn has_date<O: Oracle>(oracle: &mut O, sought: HinduLunar, day: i64) -> Result<bool, Stop>
     requires day { IsDatedDay day }
     ensures has { Asks O.Oracle (spec.has_date (fields_of_lunar sought) day)
@@ -311,7 +307,6 @@ fn day_by_tithi(middle: i64, tithi: i64, day: u8) -> i64
 }
 
 /// The day of a date by the middle of its month, whose tithi leads to it or near it. It stops where the oracle stops.
-#[tactic(auto, using(oracle_core::proofs::Inquiring::asking), unfolding(book_model::specs::calendars::HinduLunar::day_by_middle))]
 fn day_by_middle<O: Oracle>(oracle: &mut O, sought: HinduLunar, middle: i64) -> Result<i64, Stop>
     requires low { negsuc 17000999 ≤ℤ middle }
     requires high { middle ≤ℤ pos 17001100 }
@@ -324,7 +319,6 @@ fn day_by_middle<O: Oracle>(oracle: &mut O, sought: HinduLunar, middle: i64) -> 
 
 /// The day of a date by a day about the middle of its month, whose tithi leads to the middle of a month. It stops where the oracle
 /// stops.
-#[tactic(auto, using(oracle_core::proofs::Inquiring::asking), unfolding(book_model::specs::calendars::HinduLunar::day_by_month))]
 fn day_by_month<O: Oracle>(oracle: &mut O, sought: HinduLunar, day: i64) -> Result<i64, Stop>
     requires low { negsuc 6999999 ≤ℤ day }
     requires high { day ≤ℤ pos 6999999 }
@@ -347,7 +341,6 @@ fn day_by_month<O: Oracle>(oracle: &mut O, sought: HinduLunar, day: i64) -> Resu
 /// let date = HinduLunar { year: 2080, month: 5, leap_month: true, day: 1, leap_day: false };
 /// let day = hindu_astro::lunar::to_fixed(&mut oracle, date)?; // 738_719, which is 18 July 2023
 /// ```
-#[tactic(auto, using(oracle_core::proofs::Inquiring::asking), unfolding(book_model::specs::calendars::HinduLunar::hindu_lunar_day))]
 pub fn to_fixed<O: Oracle>(oracle: &mut O, date: HinduLunar) -> Result<i64, Stop>
     requires askable { IsAskable LunarCalendar (fields_of_lunar date) }
     ensures day { Asks O.Oracle (spec.hindu_lunar_day date.year (pos date.month)

@@ -66,7 +66,6 @@ fn date_from_facts(day: i64, sign: i64, year: i64, first: i64) -> HinduSolar
 /// let mut oracle = Asking::new(rt.alloc(), &evaluator);
 /// let date = hindu_astro::solar::from_fixed(&mut oracle, 738_990)?; // HinduSolar { year: 1946, month: 1, day: 1 }
 /// ```
-#[tactic(auto, using(oracle_core::proofs::Inquiring::asking), unfolding(book_model::specs::calendars::HinduSolar::hindu_solar_on))]
 pub fn from_fixed<O: Oracle>(oracle: &mut O, day: i64) -> Result<HinduSolar, Stop>
     requires day { IsDateDay SolarCalendar day }
     ensures date { AsksAs fields_of_solar O.Oracle (spec.hindu_solar_on day)
@@ -107,7 +106,6 @@ fn day_by(first: i64, day: i64) -> i64
 /// let date = HinduSolar { year: 1946, month: 1, day: 1 };
 /// let day = hindu_astro::solar::to_fixed(&mut oracle, date)?; // 738_990, which is 14 April 2024
 /// ```
-#[tactic(auto, using(oracle_core::proofs::Inquiring::asking), unfolding(book_model::specs::calendars::HinduSolar::hindu_solar_day))]
 pub fn to_fixed<O: Oracle>(oracle: &mut O, date: HinduSolar) -> Result<i64, Stop>
     requires askable { IsAskable SolarCalendar (fields_of_solar date) }
     ensures day { Asks O.Oracle (spec.hindu_solar_day date.year (pos date.month) (pos date.day))

@@ -3,6 +3,8 @@ use Rattle.std.proofs.lemmas.Int.{ints}
 use Rattle.book_model.specs.declared.calendar.Calendar.TheVariants.{HinduSolar}
 use Rattle.book_model.proofs.DateLimits.{within_limits, by_size}
 use Rattle.hindu_astro.specs.Dates.{fields_of_solar}
+use Rattle.oracle_core.proofs.Inquiring.{asking}
+use Rattle.book_model.specs.calendars.HinduSolar.{hindu_solar_day}
 use Rattle.hindu_astro.proofs.solar.to_fixed.Goals as goal
 
 pub day_late_in_month-within-requires : goal.day_late_in_month-within-requires
@@ -21,3 +23,11 @@ pub day_by-requires-clause-to_last_day : goal.day_by-requires-clause-to_last_day
 day_by-requires-clause-to_last_day g c =
     let day = within_limits HinduSolar (fields_of_solar c.args.date) 2 (omega arith) c.requires.askable.0 in
     grind (arith, ints, day.high)
+
+pub returns-in_err-first : goal.returns-in_err-first
+unfolding hindu_solar_day
+returns-in_err-first g c = grind (arith, asking)
+
+pub returns : goal.returns
+unfolding hindu_solar_day
+returns g c = grind (arith, asking)
