@@ -3,6 +3,9 @@ use Rattle.std.proofs.lemmas.Int.{to_z-of_z, ints}
 use Rattle.book_model.specs.declared.calendar.Calendar.TheVariants.{Chinese}
 use Rattle.book_model.proofs.DateLimits.{within_limits, by_size}
 use Rattle.chinese_cal.specs.Dates.{fields_of_date}
+use Rattle.chinese_cal.proofs.KeptLemmas.{empty_kept}
+use Rattle.oracle_core.proofs.Inquiring.{asking}
+use Rattle.book_model.specs.calendars.Chinese.{chinese_day}
 use Rattle.chinese_cal.proofs.day.to_fixed.Goals as goal
 
 pub mid_year_day-middle-requires-clause-from_cycle : goal.mid_year_day-middle-requires-clause-from_cycle
@@ -36,3 +39,15 @@ month_beginning-requires-clause-from g c = (within_limits Chinese (fields_of_dat
 
 pub month_beginning-requires-clause-to : goal.month_beginning-requires-clause-to
 month_beginning-requires-clause-to g c = (within_limits Chinese (fields_of_date c.args.date) 2 (omega arith) c.requires.askable.0).high
+
+pub returns-in_err-new_year : goal.returns-in_err-new_year
+unfolding chinese_day
+returns-in_err-new_year g c = record { day = grind (arith, asking, empty_kept) }
+
+pub returns-in_err-first : goal.returns-in_err-first
+unfolding chinese_day
+returns-in_err-first g c = record { day = grind (arith, asking, empty_kept) }
+
+pub returns : goal.returns
+unfolding chinese_day
+returns g c = record { day = grind (arith, asking, empty_kept) }

@@ -1,0 +1,16 @@
+use Rattle.std.proofs.Common.{arith}
+use Rattle.oracle_core.proofs.Inquiring.{asking}
+use Rattle.book_model.specs.calendars.Chinese.{new_year_in_sui}
+use Rattle.chinese_cal.proofs.years.new_year_in_sui.Goals as goal
+
+pub returns-in_err-sui-clause-day : goal.returns-in_err-sui-clause-day
+unfolding new_year_in_sui
+returns-in_err-sui-clause-day g c = grind (arith, asking)
+
+pub returns-in_err-second-clause-day : goal.returns-in_err-second-clause-day
+unfolding new_year_in_sui
+returns-in_err-second-clause-day g c = grind (arith, asking)
+
+pub returns-in_err-leap_sui-clause-day : goal.returns-in_err-leap_sui-clause-day
+unfolding new_year_in_sui
+returns-in_err-leap_sui-clause-day g c = grind (arith, asking)
