@@ -83,7 +83,6 @@ fn date_by(day: i64, first: i64, nisan_year: i64, nisan: i64) -> HebrewDate
 }
 
 /// The same by the Gregorian year in which Nisan came last: the first of Nisan there is asked. It stops where the oracle stops.
-#[tactic(auto, using(oracle_core::proofs::Inquiring::asking))]
 fn date_in_year<O: Oracle>(
     oracle: &mut O,
     day: i64,
@@ -145,7 +144,6 @@ fn gregorian_year(day: i64) -> i64
 /// let mut oracle = Asking::new(rt.alloc(), &evaluator);
 /// let date = hebrew_observed::from_fixed(&mut oracle, 738_957)?; // HebrewDate { year: 5784, month: 1, day: 1 }
 /// ```
-#[tactic(auto, using(oracle_core::proofs::Inquiring::asking), unfolding(book_model::specs::calendars::HebrewObserved::hebrew_on))]
 pub fn from_fixed<O: Oracle>(oracle: &mut O, day: i64) -> Result<HebrewDate, Stop>
     requires day { IsDateDay HebrewObserved day }
     ensures date { AsksAs fields_of_date O.Oracle (spec.hebrew_on day)
@@ -187,7 +185,6 @@ fn day_by(first: i64, day: i64) -> i64
 /// let date = HebrewDate { year: 5784, month: 1, day: 1 };
 /// let day = hebrew_observed::to_fixed(&mut oracle, date)?; // 738_957, which is 12 March 2024
 /// ```
-#[tactic(auto, using(oracle_core::proofs::Inquiring::asking), unfolding(book_model::specs::calendars::HebrewObserved::hebrew_day))]
 pub fn to_fixed<O: Oracle>(oracle: &mut O, date: HebrewDate) -> Result<i64, Stop>
     requires askable { IsAskable HebrewObserved (fields_of_date date) }
     ensures day { Asks O.Oracle (spec.hebrew_day date.year (pos date.month) (pos date.day))

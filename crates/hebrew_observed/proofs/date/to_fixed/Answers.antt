@@ -4,6 +4,8 @@ use Rattle.book_model.specs.declared.calendar.Calendar.TheVariants.{HebrewObserv
 use Rattle.book_model.proofs.DateLimits.{within_limits, by_size}
 use Rattle.hebrew_observed.specs.Dates.{fields_of_date}
 use Rattle.hebrew_observed.specs.Months.{IsMonth}
+use Rattle.oracle_core.proofs.Inquiring.{asking}
+use Rattle.book_model.specs.calendars.HebrewObserved.{hebrew_day}
 use Rattle.hebrew_observed.proofs.date.to_fixed.Goals as goal
 
 -- a month by its number
@@ -38,3 +40,15 @@ pub day_by-requires-clause-to_last_day : goal.day_by-requires-clause-to_last_day
 day_by-requires-clause-to_last_day g c =
     let day = within_limits HebrewObserved (fields_of_date c.args.date) 2 (omega arith) c.requires.askable.0 in
     grind (arith, ints, day.high)
+
+pub returns-in_err-nisan : goal.returns-in_err-nisan
+unfolding hebrew_day
+returns-in_err-nisan g c = grind (arith, asking)
+
+pub returns-in_err-first : goal.returns-in_err-first
+unfolding hebrew_day
+returns-in_err-first g c = grind (arith, asking)
+
+pub returns : goal.returns
+unfolding hebrew_day
+returns g c = grind (arith, asking)
