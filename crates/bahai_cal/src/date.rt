@@ -111,7 +111,6 @@ fn date_from_facts(day: i64, first: i64, base: i64, next: i64) -> BahaiDate
 /// let date = bahai_cal::from_fixed(&mut oracle, 739_695)?;
 /// // BahaiDate { major: 1, cycle: 10, year: 12, month: 1, day: 1 }
 /// ```
-#[tactic(auto, using(oracle_core::proofs::Inquiring::asking), unfolding(book_model::specs::calendars::Bahai::bahai_on))]
 pub fn from_fixed<O: Oracle>(oracle: &mut O, day: i64) -> Result<BahaiDate, Stop>
     requires day { IsDateDay Bahai day }
     ensures date { AsksAs fields_of_date O.Oracle (spec.bahai_on day) oracle.old oracle.new result }
@@ -158,7 +157,6 @@ fn day_by(first: i64, days: i64, day: i64) -> i64
 }
 
 /// The day (R.D.) of a day of a month, by where the month is counted from. It stops where the oracle stops.
-#[tactic(auto, using(oracle_core::proofs::Inquiring::asking), unfolding(book_model::specs::calendars::Bahai::day_counted_from))]
 fn day_counted_from<O: Oracle>(oracle: &mut O, start: MonthStart, day: i64) -> Result<i64, Stop>
     requires near { IsMonthStart start }
     requires from_first_day { pos 1 ≤ℤ day }
@@ -179,7 +177,6 @@ fn day_counted_from<O: Oracle>(oracle: &mut O, start: MonthStart, day: i64) -> R
 /// let date = BahaiDate { major: 1, cycle: 10, year: 12, month: 1, day: 1 };
 /// let day = bahai_cal::to_fixed(&mut oracle, date)?; // 739_695, which is 20 March 2026
 /// ```
-#[tactic(auto, using(oracle_core::proofs::Inquiring::asking), unfolding(book_model::specs::calendars::Bahai::bahai_day))]
 pub fn to_fixed<O: Oracle>(oracle: &mut O, date: BahaiDate) -> Result<i64, Stop>
     requires askable { IsAskable Bahai (fields_of_date date) }
     ensures day { Asks O.Oracle (spec.bahai_day date.major (pos date.cycle) (pos date.year)

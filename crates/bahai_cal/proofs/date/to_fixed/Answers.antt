@@ -3,6 +3,8 @@ use Rattle.std.proofs.lemmas.Int.{to_z-of_z, ints}
 use Rattle.book_model.specs.declared.calendar.Calendar.TheVariants.{Bahai}
 use Rattle.book_model.proofs.DateLimits.{within_limits, by_size}
 use Rattle.bahai_cal.specs.Dates.{fields_of_date}
+use Rattle.oracle_core.proofs.Inquiring.{asking}
+use Rattle.book_model.specs.calendars.Bahai.{bahai_day}
 use Rattle.bahai_cal.proofs.date.to_fixed.Goals as goal
 
 pub year_number-requires-clause-major_from : goal.year_number-requires-clause-major_from
@@ -32,3 +34,7 @@ day_counted_from-requires-clause-to_last_day g c =
     let day = within_limits Bahai (fields_of_date c.args.date) 4 (omega arith) c.requires.askable.0 in
     let f : SFits w64 c.from-2.result = search rules in
     simp to_z-of_z (omega (arith, ints, c.from-2.ensures, day.high))
+
+pub returns : goal.returns
+unfolding bahai_day
+returns g c = grind (arith, asking)
