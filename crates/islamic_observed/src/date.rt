@@ -80,7 +80,6 @@ fn date_from_facts(day: i64, first: i64) -> IslamicDate
 /// let mut oracle = Asking::new(rt.alloc(), &evaluator);
 /// let date = islamic_observed::from_fixed(&mut oracle, 738_957)?; // IslamicDate { year: 1445, month: 9, day: 1 }
 /// ```
-#[tactic(auto, using(oracle_core::proofs::Inquiring::asking), unfolding(book_model::specs::calendars::Islamic::islamic_on))]
 pub fn from_fixed<O: Oracle>(oracle: &mut O, day: i64) -> Result<IslamicDate, Stop>
     requires day { IsDateDay Islamic day }
     ensures date { AsksAs fields_of_date O.Oracle (spec.islamic_on day)
@@ -110,7 +109,6 @@ fn day_by(first: i64, day: i64) -> i64
 /// let date = IslamicDate { year: 1445, month: 9, day: 1 };
 /// let day = islamic_observed::to_fixed(&mut oracle, date)?; // 738_957, which is 12 March 2024
 /// ```
-#[tactic(auto, using(oracle_core::proofs::Inquiring::asking), unfolding(book_model::specs::calendars::Islamic::islamic_day))]
 pub fn to_fixed<O: Oracle>(oracle: &mut O, date: IslamicDate) -> Result<i64, Stop>
     requires askable { IsAskable Islamic (fields_of_date date) }
     ensures day { Asks O.Oracle (spec.islamic_day date.year (pos date.month) (pos date.day))
