@@ -91,7 +91,6 @@ fn date_from_month(day: i64, month: ChineseMonth, years: i64) -> ChineseDate
 }
 
 /// The date of a day, beside what is kept. It stops where the oracle stops.
-#[tactic(auto, using(oracle_core::proofs::Inquiring::asking), unfolding(book_model::specs::calendars::Chinese::chinese_on))]
 pub(crate) fn date_from_facts<O: Oracle>(
     oracle: &mut O,
     kept: &mut Kept,

@@ -35,7 +35,6 @@ fn has_month(date: ChineseDate, month: u8, leap: bool) -> bool
 }
 
 /// The first day of a month of a year. It stops where the oracle stops.
-#[tactic(auto, using(oracle_core::proofs::Inquiring::asking), unfolding(book_model::specs::calendars::Chinese::month_beginning))]
 fn month_beginning<O: Oracle>(
     oracle: &mut O,
     kept: &mut Kept,
@@ -80,7 +79,6 @@ fn day_by(first: i64, day: u8) -> i64
 /// let date = ChineseDate { cycle: 78, year: 44, month: 1, leap: false, day: 1 };
 /// let day = chinese_cal::to_fixed(&mut oracle, date)?; // 740_018, which is 6 February 2027
 /// ```
-#[tactic(auto, using(oracle_core::proofs::Inquiring::asking, crate::proofs::KeptLemmas::empty_kept), unfolding(book_model::specs::calendars::Chinese::chinese_day))]
 pub fn to_fixed<O: Oracle>(oracle: &mut O, date: ChineseDate) -> Result<i64, Stop>
     requires askable { IsAskable Chinese (fields_of_date date) }
     ensures day { Asks O.Oracle (spec.chinese_day date.cycle (pos date.year) (pos date.month)

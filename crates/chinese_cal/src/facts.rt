@@ -6,7 +6,6 @@ ghost use Rattle.chinese_cal.specs.Days.{IsNearDay};
 use book_model::{Fact, Kind, Place};
 
 /// The fact of the last winter solstice before the end of a day.
-#[tactic(auto, unfolding(book_model::specs::calendars::Chinese::beijing_fact))]
 pub(crate) fn solstice_on(day: i64) -> Fact
     requires near { IsNearDay day }
     ensures fact { result ≡ solstice_fact day }

@@ -36,7 +36,6 @@ pub(crate) fn is_from_leap_month<O: Oracle>(
 
 /// Whether a month of a sui is its leap month, given whether the sui has one: it is bare, and none before it is. It stops
 /// where the oracle stops.
-#[tactic(auto, using(oracle_core::proofs::Inquiring::asking), unfolding(book_model::specs::calendars::Chinese::is_leap_month))]
 pub(crate) fn is_leap_month<O: Oracle>(
     oracle: &mut O,
     kept: &mut Kept,

@@ -65,7 +65,6 @@ fn month_by(first: i64, month: i64, from_leap: bool, is_leap: bool) -> ChineseMo
 }
 
 /// A month of a sui, given whether the sui has a leap month. It stops where the oracle stops.
-#[tactic(auto, using(oracle_core::proofs::Inquiring::asking), unfolding(book_model::specs::calendars::Chinese::month_in))]
 fn month_in<O: Oracle>(
     oracle: &mut O,
     kept: &mut Kept,
@@ -86,7 +85,6 @@ fn month_in<O: Oracle>(
 }
 
 /// The month in which a day falls. It stops where the oracle stops.
-#[tactic(auto, using(oracle_core::proofs::Inquiring::asking), unfolding(book_model::specs::calendars::Chinese::chinese_month))]
 pub(crate) fn chinese_month<O: Oracle>(
     oracle: &mut O,
     kept: &mut Kept,

@@ -36,7 +36,6 @@ fn are_twelve_apart(from: i64, to: i64) -> bool
 
 /// The sui in which a day falls. It stops where the oracle stops, at one of the two solstices or at the new moon after the
 /// first.
-#[tactic(auto, using(oracle_core::proofs::Inquiring::asking), unfolding(book_model::specs::calendars::Chinese::sui_of))]
 pub(crate) fn sui_of<O: Oracle>(oracle: &mut O, kept: &mut Kept, day: i64) -> Result<Sui, Stop>
     requires kept { Keeps O.Oracle oracle.old kept.old }
     requires near { IsNearDay day }
@@ -55,7 +54,6 @@ pub(crate) fn sui_of<O: Oracle>(oracle: &mut O, kept: &mut Kept, day: i64) -> Re
 
 /// Whether a sui has thirteen months, the two of its solstices counted as one. It stops where the oracle stops, at the month
 /// of the second solstice.
-#[tactic(auto, using(oracle_core::proofs::Inquiring::asking), unfolding(book_model::specs::calendars::Chinese::is_leap_sui))]
 pub(crate) fn is_leap_sui<O: Oracle>(
     oracle: &mut O,
     kept: &mut Kept,

@@ -27,7 +27,6 @@ fn is_same_term(term: i64, next_term: i64) -> bool
 
 /// Whether a month is bare: no major solar term falls in it, so that the sun is at the same one when the next month begins. It
 /// stops where the oracle stops, at one of the two terms or at the next month.
-#[tactic(auto, using(oracle_core::proofs::Inquiring::asking), unfolding(book_model::specs::calendars::Chinese::bare))]
 pub(crate) fn is_bare<O: Oracle>(oracle: &mut O, kept: &mut Kept, month: i64) -> Result<bool, Stop>
     requires kept { Keeps O.Oracle oracle.old kept.old }
     requires near { IsNearDay month }
@@ -42,7 +41,6 @@ pub(crate) fn is_bare<O: Oracle>(oracle: &mut O, kept: &mut Kept, month: i64) ->
 
 /// A month, and those before it as far as the first of its sui, put before the months after it; so many at most. It stops
 /// where the oracle stops.
-#[tactic(auto, using(oracle_core::proofs::Inquiring::asking), unfolding(crate::specs::Walks::months_back))]
 fn walk_back<O: Oracle>(
     oracle: &mut O,
     kept: &mut Kept,
@@ -78,7 +76,6 @@ fn walk_back<O: Oracle>(
 
 /// Whether one of the months is bare: they are looked at from the first on, as far as one that is. It stops where the oracle
 /// stops.
-#[tactic(auto, using(oracle_core::proofs::Inquiring::asking), unfolding(crate::specs::Walks::one_bare))]
 fn is_one_bare<O: Oracle>(oracle: &mut O, kept: &mut Kept, months: &[i64]) -> Result<bool, Stop>
     requires kept { Keeps O.Oracle oracle.old kept.old }
     requires near { All IsNearDay months.now }

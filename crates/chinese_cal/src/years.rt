@@ -17,7 +17,6 @@ use calendar_math::days_of;
 use oracle_core::{Oracle, Stop};
 
 /// Whether the leap month of a sui is one of its first two, given whether it has one. It stops where the oracle stops.
-#[tactic(auto, using(oracle_core::proofs::Inquiring::asking), unfolding(book_model::specs::calendars::Chinese::is_leap_at_start))]
 fn is_leap_at_start<O: Oracle>(
     oracle: &mut O,
     kept: &mut Kept,
@@ -43,7 +42,6 @@ fn is_leap_at_start<O: Oracle>(
 
 /// The first day of the year that begins in the sui of a day: its second month, or the one after where the leap month is one of
 /// the first two. It stops where the oracle stops.
-#[tactic(auto, using(oracle_core::proofs::Inquiring::asking), unfolding(book_model::specs::calendars::Chinese::new_year_in_sui))]
 fn new_year_in_sui<O: Oracle>(oracle: &mut O, kept: &mut Kept, day: i64) -> Result<i64, Stop>
     requires kept { Keeps O.Oracle oracle.old kept.old }
     requires near { IsNearDay day }
@@ -74,7 +72,6 @@ fn new_year_before<O: Oracle>(oracle: &mut O, kept: &mut Kept, day: i64) -> Resu
 }
 
 /// The first day of the year in which a day falls. It stops where the oracle stops.
-#[tactic(auto, using(oracle_core::proofs::Inquiring::asking), unfolding(book_model::specs::calendars::Chinese::new_year_by_day))]
 pub(crate) fn new_year_by_day<O: Oracle>(
     oracle: &mut O,
     kept: &mut Kept,

@@ -10,3 +10,11 @@ returns-in_err-first-clause-day g c = grind (arith, asking)
 pub returns-in_err-date-clause-day : goal.returns-in_err-date-clause-day
 unfolding month_beginning
 returns-in_err-date-clause-day g c = grind (arith, asking)
+
+pub returns-then-has_month-clause-day : goal.returns-then-has_month-clause-day
+unfolding month_beginning
+returns-then-has_month-clause-day g c = grind (arith, asking)
+
+pub returns-else-has_month-clause-day : goal.returns-else-has_month-clause-day
+unfolding month_beginning
+returns-else-has_month-clause-day g c = grind (arith, asking)

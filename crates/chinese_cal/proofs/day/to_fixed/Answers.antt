@@ -42,12 +42,15 @@ month_beginning-requires-clause-to g c = (within_limits Chinese (fields_of_date 
 
 pub returns-in_err-new_year : goal.returns-in_err-new_year
 unfolding chinese_day
-returns-in_err-new_year g c = record { day = grind (arith, asking, empty_kept) }
+returns-in_err-new_year g c = grind (arith, asking)
 
 pub returns-in_err-first : goal.returns-in_err-first
 unfolding chinese_day
-returns-in_err-first g c = record { day = grind (arith, asking, empty_kept) }
+returns-in_err-first g c = grind (arith, asking)
 
 pub returns : goal.returns
 unfolding chinese_day
-returns g c = record { day = grind (arith, asking, empty_kept) }
+returns g c = grind (arith, asking)
+
+pub new_year_by_day-requires-clause-kept : goal.new_year_by_day-requires-clause-kept
+new_year_by_day-requires-clause-kept g c = grind (arith, empty_kept)

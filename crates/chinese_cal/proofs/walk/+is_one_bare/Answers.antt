@@ -1,7 +1,7 @@
 use Rattle.std.proofs.Common.{arith, ◌-◌, Bool, if◌then◌else◌, true, SFits, w64, pos, length, take, drop, slice_index_or}
 use Rattle.std.proofs.lemmas.Int.{ints, to_z-of_z}
 use Rattle.book_model.specs.calendars.Inquiries.{done}
-use Rattle.oracle_core.proofs.Inquiring.{inquires_done, inquires_then}
+use Rattle.oracle_core.proofs.Inquiring.{asking, inquires_done, inquires_then}
 use Rattle.chinese_cal.specs.Walks.{one_bare}
 use Rattle.chinese_cal.proofs.WalkLemmas.{none_bare, first_bare}
 use Rattle.chinese_cal.proofs.walk.+is_one_bare.Goals as goal
@@ -16,3 +16,11 @@ returns-else-branch-clause-bare g t c =
     let next = λ (is_bare : Bool). if is_bare then done true else one_bare (take (length c.args.months.now - 1) (drop 1 c.args.months.now)) in
     let b = rw (to_z-of_z w64 (slice_index_or c.args.months.now 0 (pos 0)) f, c.if-branch.false) at (c.in_ok-is_bare-in-len1-up.ensures {u = tt}).bare in
     rw (first_bare c.args.months.now c.in-len1-up.len_at_least) (inquires_then next b c.is_one_bare.ensures.bare)
+
+pub returns-in_err-is_bare-in-len1-up-clause-bare : goal.returns-in_err-is_bare-in-len1-up-clause-bare
+unfolding one_bare
+returns-in_err-is_bare-in-len1-up-clause-bare g t c = grind (arith, asking)
+
+pub returns-then-branch-clause-bare : goal.returns-then-branch-clause-bare
+unfolding one_bare
+returns-then-branch-clause-bare g t c = grind (arith, asking)
