@@ -118,7 +118,6 @@ fn date_from_facts(first: i64, day: i64) -> FrenchDate
 /// let mut oracle = Asking::new(rt.alloc(), &evaluator);
 /// let date = french_astro::from_fixed(&mut oracle, 655_511)?; // FrenchDate { year: 4, month: 1, day: 1 }
 /// ```
-#[tactic(auto, using(oracle_core::proofs::Inquiring::asking), unfolding(book_model::specs::calendars::French::french_on))]
 pub fn from_fixed<O: Oracle>(oracle: &mut O, day: i64) -> Result<FrenchDate, Stop>
     requires day { IsDateDay French day }
     ensures date { AsksAs fields_of_date O.Oracle (french_on day) oracle.old oracle.new result }
@@ -149,7 +148,6 @@ fn day_by(first: i64, month: i64, day: i64) -> i64
 /// let date = FrenchDate { year: 4, month: 1, day: 1 };
 /// let day = french_astro::to_fixed(&mut oracle, date)?; // 655_511, which is 23 September 1795
 /// ```
-#[tactic(auto, using(oracle_core::proofs::Inquiring::asking), unfolding(book_model::specs::calendars::French::french_day))]
 pub fn to_fixed<O: Oracle>(oracle: &mut O, date: FrenchDate) -> Result<i64, Stop>
     requires askable { IsAskable French (fields_of_date date) }
     ensures day { Asks O.Oracle (french_day date.year (pos date.month) (pos date.day))
