@@ -1,3 +1,4 @@
+pub mod CellReads
 pub mod RowLemmas
 pub mod NoteReads
 pub mod StepLemmas

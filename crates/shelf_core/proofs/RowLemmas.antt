@@ -1,11 +1,11 @@
 -- The rows of facts: by the first row of each kind, and within their number.
-use Rattle.std.proofs.Common.{◌≡◌, ◌==◌, Bool, true, false, ℕ, suc, zero, ◌+◌, ◌<◌, List, [], ◌∷◌, length, map, refl, arith, if◌then◌else◌}
+use Rattle.std.proofs.Common.{◌≡◌, ◌==◌, Bool, true, false, ℕ, suc, zero, ◌+◌, ◌<◌, ◌≤◌, List, [], ◌∷◌, length, map, refl, arith, if◌then◌else◌}
 use Rattle.std.specs.Prelude.{slice_get, slice_index_or}
 use Rattle.std.specs.Option.{option_map_or}
 use Rattle.book_model.specs.declared.fact.Place.{Place}
 use Rattle.book_model.specs.declared.fact.TheConstants.{KINDS}
 use Rattle.book_model.specs.sky.Names.{place_number}
-use Rattle.shelf_core.specs.Rows.{rows_among, HavePlaces, column_in, column_from, row_in, first_rows, place_lists}
+use Rattle.shelf_core.specs.Rows.{MOST_ROWS, rows_among, HavePlaces, column_in, column_from, row_in, first_rows, place_lists}
 
 -- a place stands among these, the first of which has this number
 column_from_within : (at : ℕ) (ps : List Place) (place : Place) → 0 < at + length ps → column_from at ps place < at + length ps
@@ -54,3 +54,12 @@ pub row_by_first : (n : ℕ) (place : Place) (d : ℕ) → n < length place_list
 row_by_first n place d less =
     let row = rw (places_of_row (λ row. row.2.0.now) KINDS n) at (row_from_first 0 place_lists n place d less) in
     omega (arith, row)
+
+-- there are few rows
+pub few_rows : (n : ℕ) (place : Place) (d : ℕ) → n < length place_lists
+    → slice_index_or (first_rows 0 place_lists) n d + column_in (option_map_or (λ row. row.2.0.now) (slice_get KINDS n) []) place ≤ MOST_ROWS
+few_rows n place d less =
+    let row = row_by_first n place d less in
+    let within = row_within place_lists n place kinds_have_places less in
+    let all : rows_among place_lists ≤ MOST_ROWS = search arith in
+    omega (arith, row, within, all)
