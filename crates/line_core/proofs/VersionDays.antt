@@ -12,10 +12,10 @@ use Rattle.book_model.specs.declared.words.ToWord.{ToWord}
 use Rattle.book_model.specs.declared.request.Fields.{Fields}
 use Rattle.book_model.specs.declared.calendar.Calendar.{Calendar}
 use Rattle.book_model.specs.declared.calendar.Calendar.TheVariants.{Gregorian}
-use Rattle.book_model.specs.calendars.Dates.{gregorian_day, may_have, is_answered, IsAskable}
+use Rattle.book_model.specs.calendars.Dates.{gregorian_day, may_have, is_answered, IsAskable, IsDateDay}
 use Rattle.book_model.specs.calendars.Versions.{days_in}
 use Rattle.book_model.specs.lines.Reach.{first_day_of, reach_of, is_reached}
-use Rattle.book_model.specs.lines.Words.{shown_by}
+use Rattle.book_model.specs.lines.Words.{calendar_in, calendar_of, named_by, shown_by}
 use Rattle.book_model.specs.sky.Facts.{IsFactDay}
 use Rattle.book_model.proofs.CorrectionRows.{lies}
 use Rattle.book_model.proofs.VersionTables.{answered_day, askable, later_days, reached_day, told_from}
@@ -43,6 +43,15 @@ told_by (Value kind place) day w h = written_fact day w
 -- of a day that a line may name there is what its last word shows
 pub shown_told : (from : FromWord) (to : ToWord) (day : ℤ) → IsTrue (is_reached WRITTEN from to day) → IsTold (shown_by to) day
 shown_told from to day h = told_by (shown_by to) day (written_day from to day h) (told_from WRITTEN from to day h).1
+
+-- what a word names days by tells the date of a day from the first one on
+told_in : (m : Meaning) (day : ℤ) → IsWrittenDay day → first_day_of m ≤ℤ day → IsDateDay (calendar_in m) day
+told_in (Date c) day w h = (h, w.to)
+told_in (Value kind place) day w h = (w.from, w.to)
+
+-- of a day that a line may name the calendar of its first word tells the date
+pub named_told : (from : FromWord) (to : ToWord) (day : ℤ) → IsTrue (is_reached WRITTEN from to day) → IsDateDay (calendar_of from) day
+named_told from to day h = told_in (named_by from) day (written_day from to day h) (told_from WRITTEN from to day h).0
 
 -- a date that a line answers is one that its calendar may be asked the day of
 pub asked_date : (version : Version) (reach : ℤ × ℤ) (c d : Calendar) (f : Fields) → d ≡ c → IsTrue (may_have d f) → IsTrue (is_answered version reach d f)

@@ -1,3 +1,4 @@
+use Rattle.std.proofs.lemmas.Grind.{common_steps}
 use Rattle.std.proofs.Common.{arith}
 use Rattle.line_core.proofs.DateText.{few_digits, seven_digits}
 use Rattle.line_core.proofs.fields.number.Goals as goal
@@ -10,3 +11,12 @@ overflow_add-number c = let small = few_digits c.loop-digit.digit-index c.loop-d
 
 pub returns-clause-small : goal.returns-clause-small
 returns-clause-small c = seven_digits c.loop-digit.digit-index c.loop-digit.number (omega arith) c.loop-digit.invariant.has_digits
+
+pub returns-then-not-is_ascii_digit-clause-number : goal.returns-then-not-is_ascii_digit-clause-number
+returns-then-not-is_ascii_digit-clause-number c = grind (arith, common_steps)
+
+pub loop-digit-preserved : goal.loop-digit-preserved
+loop-digit-preserved c = record { goes_on = grind (arith, common_steps); has_digits = grind (arith, common_steps) }
+
+pub returns-clause-number : goal.returns-clause-number
+returns-clause-number c = grind (arith, common_steps)

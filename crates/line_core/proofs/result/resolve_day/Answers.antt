@@ -1,4 +1,6 @@
-use Rattle.std.proofs.Common.{SFits, w64, sym}
+use Rattle.book_model.specs.lines.LineRules.{result_of_day}
+use Rattle.oracle_core.proofs.Inquiring.{asking}
+use Rattle.std.proofs.Common.{SFits, w64, sym, arith}
 use Rattle.std.proofs.lemmas.Int.{to_z-of_z}
 use Rattle.book_model.proofs.VersionTables.{later_days}
 use Rattle.line_core.proofs.result.resolve_day.Goals as goal
@@ -8,3 +10,11 @@ resolve_within-requires g c =
     let fits : SFits w64 c.args.day = c.ranges.day in
     let range = rw c.reach_of.ensures.reach at (simp to_z-of_z at c.if-is_within.ensures.within) in
     record { reached = simp to_z-of_z (later_days c.args.version c.args.request.now.from c.args.request.now.to c.args.day (sym range)) }
+
+pub returns-then-is_within : goal.returns-then-is_within
+unfolding result_of_day
+returns-then-is_within g c = record { comes = grind (arith, asking) }
+
+pub returns-else-is_within : goal.returns-else-is_within
+unfolding result_of_day
+returns-else-is_within g c = record { comes = grind (arith, asking) }
