@@ -119,10 +119,10 @@ module _ (n k i : ℕ) where
     dealt_past : (p : ℕ) → dealt n k i p ≡ piece_size i k p
     dealt_past p = if_above i (in_rounds n k) (by_blocks k i p) (piece_size i k p) past
 
-place_in : (n k p j : ℕ) → j < n / (k * 16) * 16 → place_at n k p j ≡ j / 16 * (k * 16) + (p * 16 + j % 16)
+pub place_in : (n k p j : ℕ) → j < n / (k * 16) * 16 → place_at n k p j ≡ j / 16 * (k * 16) + (p * 16 + j % 16)
 place_in n k p j small = if_below j (n / (k * 16) * 16) (j / 16 * (k * 16) + (p * 16 + j % 16)) (j * k + p) small
 
-place_past : (n k p j : ℕ) → n / (k * 16) * 16 ≤ j → place_at n k p j ≡ j * k + p
+pub place_past : (n k p j : ℕ) → n / (k * 16) * 16 ≤ j → place_at n k p j ≡ j * k + p
 place_past n k p j past = if_above j (n / (k * 16) * 16) (j / 16 * (k * 16) + (p * 16 + j % 16)) (j * k + p) past
 
 -- ---- one place further
@@ -247,6 +247,14 @@ place_below n k p j some within few = by (cases_lt j (n / (k * 16) * 16))
         let most : (j / 16 + 1) * (k * 16) ≤ n / (k * 16) * (k * 16) = mul-le-mul_right (k * 16) (omega arith) in
         rw (lt-ltb j (n / (k * 16) * 16) lt) (omega (arith, more, most, div-mul-le_self n (k * 16)))
     by (inr ge) = rw (if_above j (n / (k * 16) * 16) (j / 16 * (k * 16) + (p * 16 + j % 16)) (j * k + p) ge) (single (cases_lt j (n / k)))
+
+-- so is its place in whole rounds, and past them
+pub block_below : (n k p j : ℕ) → 0 < k → p < k → j < piece_size n k p → j < n / (k * 16) * 16
+    → j / 16 * (k * 16) + (p * 16 + j % 16) < n
+block_below n k p j some within few small = rw (← place_in n k p j small) (place_below n k p j some within few)
+
+pub single_below : (n k p j : ℕ) → 0 < k → p < k → j < piece_size n k p → n / (k * 16) * 16 ≤ j → j * k + p < n
+single_below n k p j some within few past = rw (← place_past n k p j past) (place_below n k p j some within few)
 
 -- the sizes of pieces differ by at most one
 pub fair : (n k : ℕ) → AreFair n k
