@@ -1,5 +1,5 @@
 use Rattle.std.proofs.Common.{arith}
-use Rattle.std.proofs.lemmas.Int.{ints, to_z-of_z}
+use Rattle.std.proofs.lemmas.Int.{ints}
 use Rattle.book_model.specs.calendars.Dates.{year_number}
 use Rattle.line_core.proofs.fields.year_number.Goals as goal
 

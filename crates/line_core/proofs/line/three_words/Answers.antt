@@ -1,5 +1,4 @@
 use Rattle.std.proofs.Common.{arith}
-use Rattle.std.proofs.Common.{rules}
 use Rattle.line_core.proofs.line.three_words.Goals as goal
 
 pub returns-in_err-from-clause-three : goal.returns-in_err-from-clause-three
