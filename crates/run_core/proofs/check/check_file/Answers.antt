@@ -1,3 +1,4 @@
+use Rattle.std.proofs.Common.{rules}
 use Rattle.run_core.proofs.CheckLemmas.{checks_file}
 use Rattle.run_core.proofs.check.check_file.Goals as goal
 
@@ -12,3 +13,18 @@ returns g c = record {
     later = c.in_ok-is_right.ensures.later;
   };
 }
+
+pub returns-in_err-shelf : goal.returns-in_err-shelf
+returns-in_err-shelf g c = search rules
+
+pub returns-in_err-answers : goal.returns-in_err-answers
+returns-in_err-answers g c = search rules
+
+pub write_verdicts-requires-clause-checkable : goal.write_verdicts-requires-clause-checkable
+write_verdicts-requires-clause-checkable g c = search rules
+
+pub write_verdicts-requires-clause-right : goal.write_verdicts-requires-clause-right
+write_verdicts-requires-clause-right g c = search rules
+
+pub returns-in_err-is_right : goal.returns-in_err-is_right
+returns-in_err-is_right g c = search rules
