@@ -1,0 +1,12 @@
+use Rattle.interval_ends.proofs.Following.{within_hull, narrow_hull}
+use Rattle.enclosure_tests.proofs.tests.rough.RoughEnclosure.hull.Goals as goal
+
+pub returns : goal.returns
+returns c = record {
+  encloses = record {
+    holds = λ w x y. within_hull _ w x y _ _ _ c.hull_ends.ensures.holds;
+    narrow = λ r x y.
+        narrow_hull _ _ r x y _ _ _ c.hull_ends.ensures.narrow;
+  };
+  tight = c.hull_ends.ensures.tight;
+}

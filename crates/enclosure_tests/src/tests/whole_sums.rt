@@ -1,0 +1,76 @@
+//! Sums of waves in whole numbers: the sines at the edges of octants, and where a sum is known and where it isn't.
+use encl_core::Span;
+use turn_sums::{TurningWave, sine_at_turn, sum_over};
+
+/// One, in parts of 2⁻⁵⁶; also a day.
+const ONE: i128 = 72_057_594_037_927_936;
+
+/// The sine of 45 degrees.
+const AT_45: i128 = 50_952_413_380_206_180;
+
+/// Where octants begin, and the sine there.
+const EDGES: [(u64, i128); 8] = [
+    (0, 0),
+    (1 << 61, AT_45),
+    (1 << 62, ONE),
+    (3 << 61, AT_45),
+    (1 << 63, 0),
+    (5 << 61, -AT_45),
+    (3 << 62, -ONE),
+    (7 << 61, -AT_45),
+];
+
+#[test]
+fn sines_at_the_edges_of_octants_are_within_three_parts(rt: HostRuntime) {
+    for (turn, sine) in EDGES {
+        let off = i128::from(sine_at_turn(turn)).saturating_sub(sine);
+        assert!(rt; off.abs_diff(0) <= 3, "at {turn}: {off}");
+    }
+}
+
+/// Three times the sine of 90 degrees, and the sine of an angle that begins at 0 and moves by 45 degrees a day.
+fn sum_of_two(days: Span) -> Option<Span> {
+    let rows = [
+        TurningWave {
+            size: 3,
+            phase: 1 << 62,
+            rate: 0,
+        },
+        TurningWave {
+            size: 1,
+            phase: 0,
+            rate: 9_223_372_036_854_775_807,
+        },
+    ];
+    sum_over(&rows, 3_390_763_655, 4, days)
+}
+
+/// Days, and where a sum is known over them the two numbers from below one of which to above the other it goes, and how wide it
+/// is at most: where the day begins, where it ends, over the day; over more than a day, and further than 2²⁰ days after 0 and before.
+#[rattlefmt::skip]
+const SUMS: [(Span, Option<(i128, i128, i128)>); 6] = [
+    (Span { lo: 0, hi: 0 }, Some((3 * ONE, 3 * ONE, 60_000))),
+    (Span { lo: ONE, hi: ONE }, Some((3 * ONE + AT_45, 3 * ONE + AT_45, 60_000))),
+    (Span { lo: 0, hi: ONE }, Some((3 * ONE, 3 * ONE + AT_45, ONE))),
+    (Span { lo: 0, hi: ONE + 2 }, None),
+    (Span { lo: 1_048_577 * ONE, hi: 1_048_577 * ONE }, None),
+    (Span { lo: -1_048_577 * ONE, hi: -1_048_577 * ONE }, None),
+];
+
+/// Whether a sum goes from below one number to above another, and is at most so wide; or is not known.
+fn is_around(found: Option<Span>, around: Option<(i128, i128, i128)>) -> bool {
+    let (Some(sum), Some((first, last, most))) = (found, around) else {
+        return found.is_none() && around.is_none();
+    };
+    match sum.hi.checked_sub(sum.lo) {
+        Some(width) => sum.lo <= first && last <= sum.hi && width <= most,
+        None => false,
+    }
+}
+
+#[test]
+fn a_sum_is_known_over_a_day_that_is_not_far_away(rt: HostRuntime) {
+    for (days, around) in SUMS {
+        assert!(rt; is_around(sum_of_two(days), around), "over {days:?}");
+    }
+}

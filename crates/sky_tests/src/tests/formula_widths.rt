@@ -1,0 +1,57 @@
+//! Answers over fine enclosures of moments without width, in all years of the table of corrections: each is at most as wide as
+//! the table of greatest widths says.
+use super::formulas::{Formula, value};
+use super::measures::new_year;
+use book_model::Fail as FormulaFail;
+use encl_core::{Enclosure, Trail};
+use fix_fine::Fine;
+use greatest_widths::{DISTANCE, LATITUDE, MOON, NEW_MOON, PHASE, SUN, WidthRow};
+
+/// Whether there is an answer, at most as wide as a row says of an argument without width. A row counts 2⁻⁶⁴, an end 2⁻⁵⁶.
+fn is_within(found: Result<Fine, FormulaFail>, row: WidthRow) -> bool {
+    let Ok(found) = found else {
+        return false;
+    };
+    let Some(span) = found.span() else {
+        return false;
+    };
+    match span.hi.checked_sub(span.lo) {
+        Some(width) => width <= i128::from(row.slack / 256),
+        None => false,
+    }
+}
+
+/// Formulas of a moment and their rows. The moment of the next new moon is an answer of `new_moon`.
+const ROWS: [(Formula, WidthRow); 6] = [
+    (Formula::Sun, SUN),
+    (Formula::Moon, MOON),
+    (Formula::Latitude, LATITUDE),
+    (Formula::Distance, DISTANCE),
+    (Formula::Phase, PHASE),
+    (Formula::MoonFrom, NEW_MOON),
+];
+
+/// Whether the answers as a day begins are so narrow.
+fn is_day_narrow(day: i64) -> bool {
+    for (formula, row) in ROWS {
+        if !is_within(value(formula, Fine::from_int(day), &mut Trail::new()), row) {
+            return false;
+        }
+    }
+    true
+}
+
+#[test]
+fn each_new_year_from_1702_on_is_narrow(rt: HostRuntime) {
+    for year in 1702..2149 {
+        assert!(rt; is_day_narrow(new_year(year)), "1 January {year}");
+    }
+}
+
+#[test]
+fn a_day_of_each_ancient_decade_is_narrow(rt: HostRuntime) {
+    for decade in 0..100_i64 {
+        let day = decade.saturating_mul(3_652).saturating_sub(182_500);
+        assert!(rt; is_day_narrow(day), "day {day}");
+    }
+}
