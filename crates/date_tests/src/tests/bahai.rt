@@ -7,7 +7,6 @@ use bahai_cal::{BahaiDate, from_fixed};
 use book_model::Fact;
 use oracle_core::{Listed, Stop};
 use std::alloc::Global;
-use std::test::Fail;
 
 /// The date of a day over a table, and the number of facts asked.
 fn date_from_listed(
@@ -74,27 +73,22 @@ fn date(year: u8, month: u8, day: u8) -> BahaiDate {
     }
 }
 
-#[test]
-fn dates_follow_the_tables(rt: HostRuntime) -> Result<(), Fail> {
-    assert_eq!(rt; last_day_of_ayyam_i_ha(rt.alloc()), (Ok(date(9, 0, 4)), 3));
-    assert_eq!(rt;
-        first_day_of_the_last_month(rt.alloc()),
-        (Ok(date(9, 19, 1)), 3)
-    );
-    let missing = Stop::Missing(bahai_year_on(739_878));
-    assert_eq!(rt; date_without_its_year(rt.alloc()), (Err(missing), 2));
-    Ok(())
-}
+/// The date of values at their ends.
+const FAR: BahaiDate = BahaiDate {
+    major: -80,
+    cycle: 2,
+    year: 1,
+    month: 255,
+    day: 0,
+};
 
 #[test]
-fn false_tables_have_dates_too(rt: HostRuntime) -> Result<(), Fail> {
-    let far = BahaiDate {
-        major: -80,
-        cycle: 2,
-        year: 1,
-        month: 255,
-        day: 0,
-    };
-    assert_eq!(rt; date_by_ends(rt.alloc()), (Ok(far), 3));
-    Ok(())
+fn dates_follow_the_tables(rt: HostRuntime) {
+    let alloc = rt.alloc();
+    assert!(rt; last_day_of_ayyam_i_ha(alloc) == (Ok(date(9, 0, 4)), 3));
+    assert!(rt; first_day_of_the_last_month(alloc) == (Ok(date(9, 19, 1)), 3));
+    let missing = Stop::Missing(bahai_year_on(739_878));
+    assert!(rt; date_without_its_year(alloc) == (Err(missing), 2));
+    // False tables have dates too.
+    assert!(rt; date_by_ends(alloc) == (Ok(FAR), 3));
 }

@@ -14,7 +14,6 @@ use book_model::Fact;
 use chinese_cal::{ChineseDate, from_fixed, to_fixed};
 use oracle_core::{Listed, Oracle, Stop};
 use std::alloc::Global;
-use std::test::Fail;
 
 /// An oracle over a table that counts how often it is asked.
 #[derive(Drop)]
@@ -247,51 +246,33 @@ fn day_of_leap_month(alloc: Global) -> Counted<i64> {
     day_over(alloc, &facts, &values, date)
 }
 
-#[test]
-fn dates_follow_the_tables(rt: HostRuntime) -> Result<(), Fail> {
-    let date = |month, day| ChineseDate {
-        cycle: 78,
-        year: 41,
-        month,
-        leap: false,
-        day,
-    };
-    assert_eq!(rt; date_of_2024(rt.alloc()), (Ok(date(1, 1)), 5, 5));
-    let missing = Stop::Missing(moon_before(738_927));
-    assert_eq!(rt; date_without_its_month(rt.alloc()), (Err(missing), 4, 5));
-    Ok(())
-}
-
-#[test]
-fn no_fact_is_asked_twice(rt: HostRuntime) -> Result<(), Fail> {
-    let leap_day = |year, month| ChineseDate {
+/// A date of the 78th cycle.
+fn dated(year: u8, month: u8, leap: bool, day: u8) -> ChineseDate {
+    ChineseDate {
         cycle: 78,
         year,
         month,
-        leap: true,
-        day: 1,
-    };
-    assert_eq!(rt; date_of_2023(rt.alloc()), (Ok(leap_day(40, 2)), 18, 18));
-    assert_eq!(rt; date_of_2033(rt.alloc()), (Ok(leap_day(50, 11)), 9, 9));
-    Ok(())
+        leap,
+        day,
+    }
+}
+
+#[test]
+fn dates_follow_the_tables(rt: HostRuntime) {
+    let alloc = rt.alloc();
+    assert!(rt; date_of_2024(alloc) == (Ok(dated(41, 1, false, 1)), 5, 5));
+    let missing = Stop::Missing(moon_before(738_927));
+    assert!(rt; date_without_its_month(alloc) == (Err(missing), 4, 5));
+    // No fact is asked twice.
+    assert!(rt; date_of_2023(alloc) == (Ok(dated(40, 2, true, 1)), 18, 18));
+    assert!(rt; date_of_2033(alloc) == (Ok(dated(50, 11, true, 1)), 9, 9));
+    // False tables have dates too.
+    assert!(rt; date_by_ends(alloc) == (Ok(dated(40, 8, false, 0)), 5, 5));
+    assert!(rt; date_in_a_circle(alloc) == (Ok(dated(40, 12, false, 1)), 8, 8));
 }
 
 #[test]
 fn days_follow_the_tables(rt: HostRuntime) {
-    assert_eq!(rt; day_of_new_year(rt.alloc()), (Ok(738_926), 8, 8));
-    assert_eq!(rt; day_of_leap_month(rt.alloc()), (Ok(738_605), 17, 17));
-}
-
-#[test]
-fn false_tables_have_dates_too(rt: HostRuntime) -> Result<(), Fail> {
-    let date = |month, day| ChineseDate {
-        cycle: 78,
-        year: 40,
-        month,
-        leap: false,
-        day,
-    };
-    assert_eq!(rt; date_by_ends(rt.alloc()), (Ok(date(8, 0)), 5, 5));
-    assert_eq!(rt; date_in_a_circle(rt.alloc()), (Ok(date(12, 1)), 8, 8));
-    Ok(())
+    assert!(rt; day_of_new_year(rt.alloc()) == (Ok(738_926), 8, 8));
+    assert!(rt; day_of_leap_month(rt.alloc()) == (Ok(738_605), 17, 17));
 }

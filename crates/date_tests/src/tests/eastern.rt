@@ -1,7 +1,7 @@
 //! Vietnamese, Korean and Japanese dates over tables in memory, each compared with an independent implementation, and the words
 //! for them by version.
 use super::facts::{major_term, moon_before, moon_from, nowruz_on, solstice_on};
-use super::lines::{broken, resolved, resolved_over};
+use super::lines::{assert_breaks, resolved, resolved_over};
 use book_model::{Place, Resolved, Rule, ToWord};
 use east_cal::Moved;
 use line_core::Version;
@@ -88,65 +88,60 @@ fn dates_go_by_the_sky_of_their_place(rt: HostRuntime) -> Result<(), Fail> {
     let alloc = rt.alloc();
     let new_year = [78, 2, 1, 0, 1];
     let vietnamese = (resolved(ToWord::Vietnamese, 5, new_year), 12);
-    assert_eq!(rt;
-        in_1985(alloc, "gregorian 1985-01-21 vietnamese")?,
-        vietnamese
-    );
+    assert!(rt; in_1985(alloc, "gregorian 1985-01-21 vietnamese")? == vietnamese);
     let chinese = (resolved(ToWord::Chinese, 5, new_year), 5);
-    assert_eq!(rt; in_1985(alloc, "gregorian 1985-02-20 chinese")?, chinese);
-    let day = |day| (resolved(ToWord::Gregorian, 3, day), 8);
-    assert_eq!(rt;
-        in_2007(alloc, "vietnamese 78-24-1-0-1 gregorian")?,
-        day([2007, 2, 17, 0, 0])
-    );
+    assert!(rt; in_1985(alloc, "gregorian 1985-02-20 chinese")? == chinese);
+    let day = (resolved(ToWord::Gregorian, 3, [2007, 2, 17, 0, 0]), 8);
+    assert!(rt; in_2007(alloc, "vietnamese 78-24-1-0-1 gregorian")? == day);
+    let day = (resolved(ToWord::Gregorian, 3, [1997, 2, 8, 0, 0]), 8);
     for line in [
         "korean 78-14-1-0-1 gregorian",
         "japanese 78-14-1-0-1 gregorian",
     ] {
-        assert_eq!(rt;
-            in_1997(alloc, line)?,
-            day([1997, 2, 8, 0, 0]),
-            "at {line:?}"
-        );
+        assert!(rt; in_1997(alloc, line)? == day, "{line}");
     }
     Ok(())
 }
 
 #[test]
 fn facts_of_beijing_alone_are_moved(rt: HostRuntime) {
-    let hanoi = Place::Hanoi;
+    let (fact, hanoi) = (solstice_on(738_926), Place::Hanoi);
     let facts = [
-        solstice_on(738_926).at(hanoi),
-        solstice_on(738_926).at(Place::Seoul),
-        solstice_on(738_926),
+        fact.at(hanoi),
+        fact.at(Place::Seoul),
+        fact,
         nowruz_on(738_926),
     ];
     let mut table = Listed::new(rt.alloc(), &facts, &[1, 2, 3, 4]);
     let mut moved = Moved::new(&mut table, hanoi);
-    assert_eq!(rt; moved.ask(solstice_on(738_926)), Ok(1));
-    assert_eq!(rt; moved.ask(solstice_on(738_926).at(Place::Seoul)), Ok(2));
-    assert_eq!(rt; moved.ask(nowruz_on(738_926)), Ok(4));
-    assert_eq!(rt; table.asked().len(), 3);
+    let values = (
+        moved.ask(fact),
+        moved.ask(fact.at(Place::Seoul)),
+        moved.ask(nowruz_on(738_926)),
+    );
+    assert!(rt; values == (Ok(1), Ok(2), Ok(4)));
+    assert!(rt; table.asked().len() == 3);
 }
+
+/// Dates of each of the eastern calendars, and the rule that they break in a file of version 2.
+const DATES: [(&str, Option<Rule>); 5] = [
+    ("73-17-1-0-1", Some(Rule::Range)),
+    ("73-18-1-0-1", None),
+    ("80-45-1-0-1", None),
+    ("80-46-1-0-1", Some(Rule::Range)),
+    ("78-41-13-0-1", Some(Rule::Field)),
+];
 
 #[test]
 fn version_1_has_none_of_the_words(rt: HostRuntime) -> Result<(), Fail> {
-    let range = Some(Rule::Range);
+    let none = Some(Rule::Calendar);
     for word in ["vietnamese", "korean", "japanese"] {
-        for (date, by_two) in [
-            ("73-17-1-0-1", range),
-            ("73-18-1-0-1", None),
-            ("80-45-1-0-1", None),
-            ("80-46-1-0-1", range),
-            ("78-41-13-0-1", Some(Rule::Field)),
-        ] {
+        for (date, by_two) in DATES {
             let line = format!(in rt.alloc(); "{word} {date} gregorian")?;
-            assert_eq!(rt; broken(&line, Version::One), Some(Rule::Calendar), "{line}");
-            assert_eq!(rt; broken(&line, Version::Two), by_two, "{line}");
+            assert_breaks(&rt, &line, none, by_two);
         }
         let line = format!(in rt.alloc(); "gregorian 2024-02-10 {word}")?;
-        assert_eq!(rt; broken(&line, Version::One), Some(Rule::Calendar), "{line}");
-        assert_eq!(rt; broken(&line, Version::Two), None, "{line}");
+        assert_breaks(&rt, &line, none, None);
     }
     Ok(())
 }

@@ -1,5 +1,5 @@
 //! The facts that tables list, each by its day (R.D.).
-ghost use Rattle.std.specs.Prelude.{◌≡◌, IsTrue};
+ghost use Rattle.std.specs.Prelude.{◌≡◌, ◌≤ℤ◌, IsTrue};
 ghost use Rattle.book_model.specs.calendars.Bahai.{bahai_fact};
 ghost use Rattle.book_model.specs.calendars.Chinese.{solstice_fact, moon_before_fact, moon_from_fact, major_fact};
 ghost use Rattle.book_model.specs.calendars.French.{french_year_fact};
@@ -11,6 +11,17 @@ ghost use Rattle.book_model.specs.sky.Facts.{IsFactDay};
 ghost use Rattle.book_model.specs.sky.Names.{has_place};
 
 use book_model::{Fact, Kind, Place};
+use std::process::Abort;
+
+/// A number of a table, which has to lie between these.
+pub fn within(rt: &impl Abort, number: i64, from: i64, to: i64) -> i64
+    ensures from { from ≤ℤ result }
+    ensures to { result ≤ℤ to }
+{
+    assert!(rt; from <= number);
+    assert!(rt; number <= to);
+    number
+}
 
 /// The fact of the first day of the Persian year that a day falls in.
 pub fn nowruz_on(day: i64) -> Fact

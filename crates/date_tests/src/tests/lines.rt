@@ -11,135 +11,114 @@ use line_core::{
 };
 use oracle_core::{Listed, Oracle, Stop};
 use std::alloc::Global;
+use std::process::Abort;
 use std::test::Fail;
 
 #[test]
 fn lines_end_with_line_feeds(rt: HostRuntime) -> Result<(), Fail> {
     let alloc = rt.alloc();
-    let lines = split_lines(alloc, b"a\r\n\n\r\r\nb\rc\nd\r")?;
     let want: [&[u8]; 5] = [b"a", b"", b"\r", b"b\rc", b"d"];
-    assert_eq!(rt; lines.len(), 5);
-    for (line, wanted) in lines.iter().zip(want.iter()) {
-        assert_eq!(rt; *line, *wanted);
-    }
-    assert_eq!(rt; split_lines(alloc, b"")?.len(), 0);
-    assert_eq!(rt; split_lines(alloc, b"\n")?.len(), 1);
+    let lines = split_lines(alloc, b"a\r\n\n\r\r\nb\rc\nd\r")?;
+    assert!(rt; lines.as_slice() == want.as_slice());
+    let counts = (
+        split_lines(alloc, b"")?.len(),
+        split_lines(alloc, b"\n")?.len(),
+    );
+    assert!(rt; counts == (0, 1));
     Ok(())
 }
 
-fn on(from: FromWord, count: u8, values: [i32; 5]) -> Result<Request, Rule> {
-    Ok(Request {
+/// The correction of a date.
+fn on(from: FromWord, count: u8, values: [i32; 5]) -> Request {
+    Request {
         from,
         date: Fields { count, values },
         to: ToWord::Dt,
-    })
-}
-
-#[test]
-fn a_line_is_a_request_or_breaks_a_rule(rt: HostRuntime) {
-    for (line, want) in [
-        (
-            " \tgregorian\t 02024-002-0029\t\tdt \t",
-            on(FromWord::Gregorian, 3, [2024, 2, 29, 0, 0]),
-        ),
-        (
-            "fixed 0738926 dt",
-            on(FromWord::Fixed, 1, [738_926, 0, 0, 0, 0]),
-        ),
-        (
-            "persian 1402-12-31 dt",
-            on(FromWord::Persian, 3, [1402, 12, 31, 0, 0]),
-        ),
-        ("gregorian dt", Err(Rule::Syntax)),
-        ("gregorian 2024-13-1 du", Err(Rule::Calendar)),
-        ("gregorian 2023-2-29 dt", Err(Rule::Field)),
-        ("gregorian 1801-12-31 dt", Err(Rule::Range)),
-    ] {
-        assert_eq!(rt;
-            read_line(line.as_bytes(), Version::One),
-            want,
-            "at {line:?}"
-        );
     }
 }
 
+/// Lines, with the calendar and the fields of a date whose correction they ask.
+const LINES: [(&str, FromWord, u8, [i32; 5]); 3] = [
+    (
+        " \tgregorian\t 02024-002-0029\t\tdt \t",
+        FromWord::Gregorian,
+        3,
+        [2024, 2, 29, 0, 0],
+    ),
+    (
+        "fixed 0738926 dt",
+        FromWord::Fixed,
+        1,
+        [738_926, 0, 0, 0, 0],
+    ),
+    (
+        "persian 1402-12-31 dt",
+        FromWord::Persian,
+        3,
+        [1402, 12, 31, 0, 0],
+    ),
+];
+
+/// Lines, and the rule that they break.
+const REFUSED: [(&str, Rule); 4] = [
+    ("gregorian dt", Rule::Syntax),
+    ("gregorian 2024-13-1 du", Rule::Calendar),
+    ("gregorian 2023-2-29 dt", Rule::Field),
+    ("gregorian 1801-12-31 dt", Rule::Range),
+];
+
 #[test]
-fn three_words_are_a_request_or_break_a_rule(rt: HostRuntime) {
-    let gregorian = on(FromWord::Gregorian, 3, [2024, 2, 29, 0, 0]);
+fn a_line_is_a_request_or_breaks_a_rule(rt: HostRuntime) {
+    for (line, from, count, values) in LINES {
+        let want = Ok(on(from, count, values));
+        assert!(rt; read_line(line.as_bytes(), Version::One) == want, "{line}");
+    }
+    for (line, rule) in REFUSED {
+        assert!(rt;
+            read_line(line.as_bytes(), Version::One) == Err(rule),
+            "{line}"
+        );
+    }
     let (from, date) = (b"gregorian", b"2024-02-29");
     let words = ThreeWords {
         from,
         date,
         to: b"dt",
     };
-    assert_eq!(rt; read_words(words, Version::One), gregorian);
-    let words = ThreeWords {
+    let unknown = ThreeWords {
         from,
         date,
         to: b"du",
     };
-    assert_eq!(rt; read_words(words, Version::One), Err(Rule::Calendar));
+    let want = Ok(on(FromWord::Gregorian, 3, [2024, 2, 29, 0, 0]));
+    assert!(rt; read_words(words, Version::One) == want);
+    assert!(rt; read_words(unknown, Version::One) == Err(Rule::Calendar));
 }
+
+/// Requests of a correction, and the rule of a version that they break.
+#[rattlefmt::skip]
+const REQUESTS: [(FromWord, [i32; 5], Version, Option<Rule>); 10] = [
+    (FromWord::Gregorian, [2024, 2, 29, 0, 0], Version::One, None),
+    (FromWord::Gregorian, [2023, 2, 29, 0, 0], Version::Two, Some(Rule::Field)),
+    (FromWord::Gregorian, [1801, 12, 31, 0, 0], Version::One, Some(Rule::Range)),
+    (FromWord::Gregorian, [1801, 12, 31, 0, 0], Version::Two, None),
+    (FromWord::Gregorian, [1701, 12, 31, 0, 0], Version::Two, Some(Rule::Range)),
+    (FromWord::Persian, [1428, 1, 1, 0, 0], Version::One, Some(Rule::Range)),
+    (FromWord::Persian, [1428, 1, 1, 0, 0], Version::Two, None),
+    (FromWord::Persian, [1528, 1, 1, 0, 0], Version::Two, Some(Rule::Range)),
+    (FromWord::Korean, [1528, 1, 1, 0, 0], Version::One, Some(Rule::Calendar)),
+    (FromWord::Korean, [1528, 1, 1, 0, 0], Version::Two, Some(Rule::Field)),
+];
 
 #[test]
 fn a_request_breaks_the_rule_of_its_line(rt: HostRuntime) {
-    let (one, two) = (Version::One, Version::Two);
-    for (from, values, version, rule) in [
-        (FromWord::Gregorian, [2024, 2, 29, 0, 0], one, None),
-        (
-            FromWord::Gregorian,
-            [2023, 2, 29, 0, 0],
-            two,
-            Some(Rule::Field),
-        ),
-        (
-            FromWord::Gregorian,
-            [1801, 12, 31, 0, 0],
-            one,
-            Some(Rule::Range),
-        ),
-        (FromWord::Gregorian, [1801, 12, 31, 0, 0], two, None),
-        (
-            FromWord::Gregorian,
-            [1701, 12, 31, 0, 0],
-            two,
-            Some(Rule::Range),
-        ),
-        (
-            FromWord::Persian,
-            [1428, 1, 1, 0, 0],
-            one,
-            Some(Rule::Range),
-        ),
-        (FromWord::Persian, [1428, 1, 1, 0, 0], two, None),
-        (
-            FromWord::Persian,
-            [1528, 1, 1, 0, 0],
-            two,
-            Some(Rule::Range),
-        ),
-        (
-            FromWord::Korean,
-            [1528, 1, 1, 0, 0],
-            one,
-            Some(Rule::Calendar),
-        ),
-        (FromWord::Korean, [1528, 1, 1, 0, 0], two, Some(Rule::Field)),
-    ] {
-        let request = Request {
-            from,
-            date: Fields { count: 3, values },
-            to: ToWord::Dt,
-        };
+    for (from, values, version, rule) in REQUESTS {
+        let request = on(from, 3, values);
         let want = match rule {
             Some(rule) => Err(rule),
             None => Ok(request),
         };
-        assert_eq!(rt;
-            checked_request(&request, version),
-            want,
-            "at {values:?} by {version:?}"
-        );
+        assert!(rt; checked_request(&request, version) == want, "at {values:?}");
     }
 }
 
@@ -187,12 +166,32 @@ const LATER_ENDS: [(&str, bool); 12] = [
     ("new-moon 1701-12-31", false),
 ];
 
+/// Lines with a word that version 2 alone has, whose days lie before the French calendar or in it, and the rule that they break
+/// in a file of version 2.
+const FRENCH: [(&str, Option<Rule>); 9] = [
+    ("gregorian 1792-09-21 french", Some(Rule::Range)),
+    ("gregorian 1792-09-22 french", None),
+    ("gregorian 1750-01-01 french", Some(Rule::Range)),
+    ("gregorian 1750-01-01 hebrew-observed", None),
+    ("fixed 654414 french", Some(Rule::Range)),
+    ("fixed 654415 french", None),
+    ("full-moon 1792-09-21 french", Some(Rule::Range)),
+    ("full-moon 1792-09-22 french", None),
+    ("persian 1100-1-1 french", None),
+];
+
 /// The rule of a version that a line breaks, if it breaks one.
-pub fn broken(line: &str, version: Version) -> Option<Rule> {
+fn broken(line: &str, version: Version) -> Option<Rule> {
     match read_line(line.as_bytes(), version) {
         Ok(_) => None,
         Err(rule) => Some(rule),
     }
+}
+
+/// The rules of version 1 and of version 2 that a line breaks are these.
+pub fn assert_breaks(rt: &impl Abort, line: &str, by_one: Option<Rule>, by_two: Option<Rule>) {
+    let found = (broken(line, Version::One), broken(line, Version::Two));
+    assert!(rt; found == (by_one, by_two), "{line}");
 }
 
 /// What a line breaks that is answered, or isn't.
@@ -206,8 +205,7 @@ fn each_version_answers_its_own_years(rt: HostRuntime) -> Result<(), Fail> {
         for place in 0..ANSWERED.len() {
             let (by_one, by_two) = ANSWERED[place];
             let line = format!(in rt.alloc(); "{from} {} dt", dates[place])?;
-            assert_eq!(rt; broken(&line, Version::One), range_unless(by_one), "{line}");
-            assert_eq!(rt; broken(&line, Version::Two), range_unless(by_two), "{line}");
+            assert_breaks(&rt, &line, range_unless(by_one), range_unless(by_two));
         }
     }
     Ok(())
@@ -215,115 +213,56 @@ fn each_version_answers_its_own_years(rt: HostRuntime) -> Result<(), Fail> {
 
 #[test]
 fn words_of_version_2_are_read_by_it_alone(rt: HostRuntime) -> Result<(), Fail> {
+    let none = Some(Rule::Calendar);
     for (date, is_answered) in LATER_ENDS {
         let line = format!(in rt.alloc(); "{date} hebrew-observed")?;
-        assert_eq!(rt; broken(&line, Version::One), Some(Rule::Calendar), "{line}");
-        assert_eq!(rt;
-            broken(&line, Version::Two),
-            range_unless(is_answered),
-            "{line}"
+        assert_breaks(&rt, &line, none, range_unless(is_answered));
+    }
+    for (line, by_two) in FRENCH {
+        assert_breaks(&rt, line, none, by_two);
+    }
+    Ok(())
+}
+
+/// Lines, and whether they have three words and these with single spaces between them. Of other lines `spaced_words` says
+/// nothing, though they may have three words.
+const WORDS: [(&[u8], bool, bool); 5] = [
+    (b" gregorian  2024-01-1\tdt", true, false),
+    (b"gregorian 2024-01-1 dt", true, true),
+    (b"gregorian\t2024-01-1 dt", true, false),
+    (b"gregorian 2024-01-1 dt ", true, false),
+    (b"gregorian dt", false, false),
+];
+
+/// Whether these are three words, and the right ones.
+fn are_cut_out(rt: &impl Abort, words: Option<ThreeWords<'_>>) -> bool {
+    let Some(words) = words else {
+        return false;
+    };
+    let found = (words.from, words.date, words.to);
+    let want = (
+        b"gregorian".as_slice(),
+        b"2024-01-1".as_slice(),
+        b"dt".as_slice(),
+    );
+    assert!(rt; found == want);
+    true
+}
+
+#[test]
+fn words_are_cut_out(rt: HostRuntime) {
+    for (line, three, spaced) in WORDS {
+        let cut = (
+            are_cut_out(&rt, three_words(line)),
+            are_cut_out(&rt, spaced_words(line)),
         );
+        assert!(rt; cut == (three, spaced), "{line:?}");
     }
-    Ok(())
-}
-
-#[test]
-fn days_before_the_french_calendar_are_out_of_its_range(rt: HostRuntime) {
-    for (line, want) in [
-        ("gregorian 1792-09-21 french", Some(Rule::Range)),
-        ("gregorian 1792-09-22 french", None),
-        ("gregorian 1750-01-01 french", Some(Rule::Range)),
-        ("gregorian 1750-01-01 hebrew-observed", None),
-        ("fixed 654414 french", Some(Rule::Range)),
-        ("fixed 654415 french", None),
-        ("full-moon 1792-09-21 french", Some(Rule::Range)),
-        ("full-moon 1792-09-22 french", None),
-        ("persian 1100-1-1 french", None),
-    ] {
-        assert_eq!(rt; broken(line, Version::Two), want, "{line}");
-    }
-}
-
-#[test]
-fn words_are_cut_out(rt: HostRuntime) -> Result<(), Fail> {
-    let words = three_words(b" gregorian  2024-01-1\tdt").ok_or("there are three")?;
-    assert_eq!(rt; words.from, b"gregorian".as_slice());
-    assert_eq!(rt; words.date, b"2024-01-1".as_slice());
-    assert_eq!(rt; words.to, b"dt".as_slice());
-    assert!(rt; three_words(b"gregorian dt").is_none());
-    Ok(())
-}
-
-#[test]
-fn words_with_single_spaces_are_cut_out(rt: HostRuntime) -> Result<(), Fail> {
-    let words = spaced_words(b"gregorian 2024-01-1 dt").ok_or("there are three")?;
-    assert_eq!(rt; words.from, b"gregorian".as_slice());
-    assert_eq!(rt; words.date, b"2024-01-1".as_slice());
-    assert_eq!(rt; words.to, b"dt".as_slice());
-    // Of any other line it says nothing, though it may have three words.
-    assert!(rt; spaced_words(b"gregorian\t2024-01-1 dt").is_none());
-    assert!(rt; spaced_words(b"gregorian 2024-01-1 dt ").is_none());
-    Ok(())
 }
 
 /// A date that is shown.
 pub fn resolved(to: ToWord, count: u8, values: [i32; 5]) -> Resolved {
     Resolved::Shown(to, Fields { count, values })
-}
-
-#[test]
-fn days_and_dates_ask_no_facts(rt: HostRuntime) -> Result<(), Fail> {
-    for (line, want) in [
-        (
-            "fixed 738926 gregorian",
-            resolved(ToWord::Gregorian, 3, [2024, 2, 10, 0, 0]),
-        ),
-        (
-            "gregorian 2000-2-29 fixed",
-            resolved(ToWord::Fixed, 1, [730_179, 0, 0, 0, 0]),
-        ),
-    ] {
-        let mut oracle = Listed::new(rt.alloc(), &[], &[]);
-        let request = read_line(line.as_bytes(), Version::One).map_err(|_| "a line is refused")?;
-        assert_eq!(rt;
-            resolve(&mut oracle, &request, Version::One),
-            Ok(want),
-            "at {line:?}"
-        );
-        assert_eq!(rt; oracle.asked().len(), 0, "at {line:?}");
-    }
-    Ok(())
-}
-
-#[test]
-fn corrections_are_asked(rt: HostRuntime) -> Result<(), Fail> {
-    let fact = Fact::new(Kind::Dt, Place::None, 738_926).ok_or("no fact")?;
-    let facts = [fact];
-    let values = [73_871];
-    let mut oracle = Listed::new(rt.alloc(), &facts, &values);
-    let request = read_line(b"gregorian 2024-02-10 dt", Version::One).map_err(
-        |_| "a line is refused",
-    )?;
-    assert_eq!(rt;
-        resolve(&mut oracle, &request, Version::One),
-        Ok(resolved(ToWord::Dt, 1, [73_871, 0, 0, 0, 0]))
-    );
-    assert_eq!(rt; oracle.asked().len(), 1);
-    assert_eq!(rt; *oracle.asked().item(0), fact);
-    Ok(())
-}
-
-#[test]
-fn a_missing_fact_stops(rt: HostRuntime) -> Result<(), Fail> {
-    let fact = Fact::new(Kind::Dt, Place::None, 738_926).ok_or("no fact")?;
-    let mut oracle = Listed::new(rt.alloc(), &[], &[]);
-    let request = read_line(b"fixed 738926 dt", Version::One).map_err(|_| "a line is refused")?;
-    assert_eq!(rt;
-        resolve(&mut oracle, &request, Version::One),
-        Err(Stop::Missing(fact))
-    );
-    assert_eq!(rt; oracle.ask(fact), Err(Stop::Missing(fact)));
-    Ok(())
 }
 
 /// What a line comes to over these facts, and how many of them are asked.
@@ -345,41 +284,57 @@ pub fn resolved_over(
 }
 
 #[test]
+fn lines_ask_the_facts_that_they_need(rt: HostRuntime) -> Result<(), Fail> {
+    let (alloc, one) = (rt.alloc(), Version::One);
+    let day = (resolved(ToWord::Gregorian, 3, [2024, 2, 10, 0, 0]), 0);
+    assert!(rt; resolved_over(alloc, "fixed 738926 gregorian", one, &[], &[])? == day);
+    let number = (resolved(ToWord::Fixed, 1, [730_179, 0, 0, 0, 0]), 0);
+    assert!(rt; resolved_over(alloc, "gregorian 2000-2-29 fixed", one, &[], &[])? == number);
+    let fact = Fact::new(Kind::Dt, Place::None, 738_926).ok_or("no fact")?;
+    let (facts, values) = ([fact], [73_871]);
+    let correction = (resolved(ToWord::Dt, 1, [73_871, 0, 0, 0, 0]), 1);
+    let found = resolved_over(alloc, "gregorian 2024-02-10 dt", one, &facts, &values)?;
+    assert!(rt; found == correction);
+    // A missing fact stops.
+    let mut oracle = Listed::new(alloc, &[], &[]);
+    let request = read_line(b"fixed 738926 dt", one).map_err(|_| "a line is refused")?;
+    let asked = (resolve(&mut oracle, &request, one), oracle.ask(fact));
+    assert!(rt; asked == (Err(Stop::Missing(fact)), Err(Stop::Missing(fact))));
+    Ok(())
+}
+
+#[test]
 fn a_day_is_too_far_by_its_version(rt: HostRuntime) -> Result<(), Fail> {
     let alloc = rt.alloc();
     let line = "persian 1427-10-12 gregorian";
     let (facts, values) = ([nowruz_on(747_911), nowruz_on(748_018)], [747_731, 747_731]);
     let by_one = resolved_over(alloc, line, Version::One, &facts, &values)?;
-    assert_eq!(rt; by_one, (Resolved::TooFar { day: 748_018 }, 1));
+    assert!(rt; by_one == (Resolved::TooFar { day: 748_018 }, 1));
     let by_two = resolved_over(alloc, line, Version::Two, &facts, &values)?;
     let new_year = resolved(ToWord::Gregorian, 3, [2049, 1, 1, 0, 0]);
-    assert_eq!(rt; by_two, (new_year, 2));
+    assert!(rt; by_two == (new_year, 2));
     let line = "persian 1080-10-10 gregorian";
     let by_two = resolved_over(alloc, line, Version::Two, &[nowruz_on(621_172)], &[620_992])?;
-    assert_eq!(rt; by_two, (Resolved::TooFar { day: 621_277 }, 1));
+    assert!(rt; by_two == (Resolved::TooFar { day: 621_277 }, 1));
     Ok(())
 }
 
 #[test]
 fn a_day_before_the_french_calendar_is_too_far(rt: HostRuntime) -> Result<(), Fail> {
-    let alloc = rt.alloc();
+    let (alloc, two) = (rt.alloc(), Version::Two);
     let line = "persian 1100-1-1 french";
-    let earlier = resolved_over(alloc, line, Version::Two, &[nowruz_on(628_477)], &[628_297])?;
-    assert_eq!(rt; earlier, (Resolved::TooFar { day: 628_297 }, 1));
+    let earlier = resolved_over(alloc, line, two, &[nowruz_on(628_477)], &[628_297])?;
+    assert!(rt; earlier == (Resolved::TooFar { day: 628_297 }, 1));
     let line = "french 357-4-12 gregorian";
-    let (facts, values) = ([french_year_on(784_621)], [784_441]);
-    let late = resolved_over(alloc, line, Version::Two, &facts, &values)?;
-    assert_eq!(rt; late, (Resolved::TooFar { day: 784_542 }, 1));
+    let late = resolved_over(alloc, line, two, &[french_year_on(784_621)], &[784_441])?;
+    assert!(rt; late == (Resolved::TooFar { day: 784_542 }, 1));
     let line = "french 4-13-6 gregorian";
-    let (facts, values) = (
-        [french_year_on(655_690), french_year_on(655_876)],
-        [655_511, 655_876],
-    );
-    let no_date = resolved_over(alloc, line, Version::Two, &facts, &values)?;
+    let facts = [french_year_on(655_690), french_year_on(655_876)];
+    let no_date = resolved_over(alloc, line, two, &facts, &[655_511, 655_876])?;
     let back = Fields {
         count: 3,
         values: [5, 1, 1, 0, 0],
     };
-    assert_eq!(rt; no_date, (Resolved::NoDate { back }, 2));
+    assert!(rt; no_date == (Resolved::NoDate { back }, 2));
     Ok(())
 }

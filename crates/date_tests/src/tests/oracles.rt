@@ -13,34 +13,29 @@ fn lists_hold_what_they_are_given(rt: HostRuntime) -> Result<(), Fail> {
     let alloc = rt.alloc();
     let fact = correction_on(738_926)?;
     let mut facts = FactList::new(alloc);
-    assert_eq!(rt; facts.len(), 0);
+    let none = facts.len();
     facts.push(fact)?;
-    assert_eq!(rt; facts.len(), 1);
-    assert_eq!(rt; *facts.item(0), fact);
+    assert!(rt; (none, facts.len(), *facts.item(0)) == (0, 1, fact));
     let mut values = FactValues::new(alloc);
     values.push((fact, 73_871))?;
-    assert_eq!(rt; values.len(), 1);
-    assert_eq!(rt; *values.item(0), (fact, 73_871));
+    assert!(rt; (values.len(), *values.item(0)) == (1, (fact, 73_871)));
     let mut answers = Answers::new(alloc);
     answers.push(Answer::Void(Site::Year))?;
-    assert_eq!(rt; answers.len(), 1);
-    assert_eq!(rt; *answers.item(0), Answer::Void(Site::Year));
+    assert!(rt; (answers.len(), *answers.item(0)) == (1, Answer::Void(Site::Year)));
     Ok(())
 }
 
 #[test]
 fn listed_facts_have_their_values(rt: HostRuntime) -> Result<(), Fail> {
-    let alloc = rt.alloc();
     let fact = correction_on(738_926)?;
     let other = correction_on(1)?;
     let facts = [fact];
     let values = [73_871];
-    let mut listed = Listed::new(alloc, &facts, &values);
-    assert_eq!(rt; listed.ask(other), Err(Stop::Missing(other)));
-    assert_eq!(rt; listed.asked().len(), 0);
-    assert_eq!(rt; listed.ask(fact), Ok(73_871));
-    assert_eq!(rt; listed.ask(fact), Ok(73_871));
-    assert_eq!(rt; listed.asked().len(), 1);
+    let mut listed = Listed::new(rt.alloc(), &facts, &values);
+    let missing = (listed.ask(other), listed.asked().len());
+    assert!(rt; missing == (Err(Stop::Missing(other)), 0));
+    let twice = (listed.ask(fact), listed.ask(fact), listed.asked().len());
+    assert!(rt; twice == (Ok(73_871), Ok(73_871), 1));
     laws::tables::<i64, Listed>();
     Ok(())
 }

@@ -2,12 +2,11 @@
 ghost use Rattle.std.specs.Prelude.{◌≢◌, ◌≤◌, ◌≤ℤ◌, pos, negsuc};
 ghost use Rattle.book_model.specs.sky.Facts.{IsFactDay};
 
-use crate::tests::facts::nowruz_on;
+use crate::tests::facts::{nowruz_on, within};
 use oracle_core::{Listed, Stop};
 use persian_cal::{PersianDate, from_fixed, to_fixed};
 use std::alloc::Global;
 use std::process::Abort;
-use std::test::Fail;
 
 /// The date of a day over a table of its two facts, and the number of facts asked.
 fn date_from_listed(
@@ -126,94 +125,82 @@ const FALSE_ROWS: [Row; 9] = [
     (738_965, 738_783, 739_145, 738_965, (1403, 1, 1)),
 ];
 
-/// The row's date is found over the table of its two facts, by asking both.
-fn row_holds(rt: &impl Abort, alloc: Global, row: Row) -> Result<(), Fail> {
-    let (day, first, within, new_year, (year, month, day_of_month)) = row;
-    assert!(rt; 0 <= day);
-    assert!(rt; day <= 1_000_000);
-    assert!(rt; -40_000_000 <= within);
-    assert!(rt; within <= 40_000_000);
-    assert!(rt; within != day);
-    assert!(rt; -10_000_000 <= first);
-    assert!(rt; first <= 10_000_000);
-    assert!(rt; -10_000_000 <= new_year);
-    assert!(rt; new_year <= 10_000_000);
-    let (found, asked) = date_from_listed(alloc, day, first, within, new_year);
-    let date = PersianDate {
-        year,
-        month,
-        day: day_of_month,
-    };
-    assert_eq!(rt; found, Ok(date), "on {day}");
-    assert_eq!(rt; asked, 2, "on {day}");
-    Ok(())
-}
-
-#[test]
-fn dates_are_those_of_the_calendar(rt: HostRuntime) -> Result<(), Fail> {
-    for row in TRUE_ROWS {
-        row_holds(&rt, rt.alloc(), row)?;
+/// The dates of rows are found over tables of two facts, by asking both.
+fn rows_hold(rt: &impl Abort, alloc: Global, rows: &[Row]) {
+    for (day, first, of_day, new_year, (year, month, number)) in rows {
+        let day = within(rt, *day, 0, 1_000_000);
+        let of_day = within(rt, *of_day, -40_000_000, 40_000_000);
+        assert!(rt; of_day != day);
+        let first = within(rt, *first, -10_000_000, 10_000_000);
+        let new_year = within(rt, *new_year, -10_000_000, 10_000_000);
+        let date = PersianDate {
+            year: *year,
+            month: *month,
+            day: *number,
+        };
+        let found = date_from_listed(alloc, day, first, of_day, new_year);
+        assert!(rt; found == (Ok(date), 2), "on {day}");
     }
-    Ok(())
 }
 
 #[test]
-fn fields_of_false_tables_stand_at_the_nearest_ends(rt: HostRuntime) -> Result<(), Fail> {
-    for row in FALSE_ROWS {
-        row_holds(&rt, rt.alloc(), row)?;
+fn dates_are_those_of_the_tables(rt: HostRuntime) {
+    rows_hold(&rt, rt.alloc(), &TRUE_ROWS);
+    rows_hold(&rt, rt.alloc(), &FALSE_ROWS);
+}
+
+#[test]
+fn a_stop_keeps_what_was_asked_before(rt: HostRuntime) {
+    let second = date_over_one(rt.alloc(), 738_965, 738_965, 738_965);
+    let missing = Stop::Missing(nowruz_on(739_145));
+    assert!(rt; second == (Err(missing), 1));
+    let first = date_over_one(rt.alloc(), 739_181, 739_145, 738_965);
+    assert!(rt; first == (Err(Stop::Missing(nowruz_on(739_181))), 0));
+    let date = date_of(&rt, 1403, 1, 1);
+    let day = day_over(rt.alloc(), date, 738_965, 738_965);
+    assert!(rt; day == (Err(missing), 0));
+}
+
+/// A date of these years.
+fn date_of(rt: &impl Abort, year: i32, month: u8, day: u8) -> PersianDate
+    ensures from_1180 { pos 1180 ≤ℤ result.year }
+    ensures to_1427 { result.year ≤ℤ pos 1427 }
+    ensures from_first_month { 1 ≤ result.month }
+    ensures to_last_month { result.month ≤ 12 }
+    ensures from_first_day { 1 ≤ result.day }
+    ensures to_last_day { result.day ≤ 31 }
+{
+    assert!(rt; 1180 <= year);
+    assert!(rt; year <= 1427);
+    assert!(rt; 1 <= month);
+    assert!(rt; month <= 12);
+    assert!(rt; 1 <= day);
+    assert!(rt; day <= 31);
+    PersianDate { year, month, day }
+}
+
+/// A date, the day that its new year is asked of, the new year, and the day.
+const DAYS: [(i32, u8, u8, i64, i64, i64); 12] = [
+    (1180, 1, 1, 657_696, -10_000_000, -10_000_000),
+    (1180, 10, 11, 657_696, 657_516, 657_802),
+    (1402, 12, 29, 738_780, 738_600, 738_964),
+    (1402, 12, 30, 738_780, 738_600, 738_965),
+    (1403, 1, 1, 739_145, 738_965, 738_965),
+    (1403, 6, 31, 739_145, 738_965, 739_150),
+    (1403, 7, 1, 739_145, 738_965, 739_151),
+    (1403, 7, 31, 739_145, 738_965, 739_181),
+    (1403, 12, 30, 739_145, 738_965, 739_330),
+    (1404, 1, 1, 739_510, 739_331, 739_331),
+    (1427, 10, 11, 747_911, 747_731, 748_017),
+    (1427, 12, 31, 747_911, 10_000_000, 10_000_366),
+];
+
+#[test]
+fn days_are_those_of_the_dates(rt: HostRuntime) {
+    for (year, month, day, of_day, new_year, want) in DAYS {
+        let of_day = within(&rt, of_day, 0, 1_000_000);
+        let new_year = within(&rt, new_year, -10_000_000, 10_000_000);
+        let found = day_over(rt.alloc(), date_of(&rt, year, month, day), of_day, new_year);
+        assert!(rt; found == (Ok(want), 1), "at {year}-{month}-{day}");
     }
-    Ok(())
-}
-
-#[test]
-fn a_stop_keeps_what_was_asked_before(rt: HostRuntime) -> Result<(), Fail> {
-    let (second, asked) = date_over_one(rt.alloc(), 738_965, 738_965, 738_965);
-    assert_eq!(rt; second, Err(Stop::Missing(nowruz_on(739_145))));
-    assert_eq!(rt; asked, 1);
-    let (first, asked) = date_over_one(rt.alloc(), 739_181, 739_145, 738_965);
-    assert_eq!(rt; first, Err(Stop::Missing(nowruz_on(739_181))));
-    assert_eq!(rt; asked, 0);
-    let date = PersianDate {
-        year: 1403,
-        month: 1,
-        day: 1,
-    };
-    let (day, asked) = day_over(rt.alloc(), date, 738_965, 738_965);
-    assert_eq!(rt; day, Err(Stop::Missing(nowruz_on(739_145))));
-    assert_eq!(rt; asked, 0);
-    Ok(())
-}
-
-#[test]
-fn days_are_those_of_the_dates(rt: HostRuntime) -> Result<(), Fail> {
-    for (year, month, day, within, new_year, want) in [
-        (1180, 1, 1, 657_696, -10_000_000, -10_000_000),
-        (1180, 10, 11, 657_696, 657_516, 657_802),
-        (1402, 12, 29, 738_780, 738_600, 738_964),
-        (1402, 12, 30, 738_780, 738_600, 738_965),
-        (1403, 1, 1, 739_145, 738_965, 738_965),
-        (1403, 6, 31, 739_145, 738_965, 739_150),
-        (1403, 7, 1, 739_145, 738_965, 739_151),
-        (1403, 7, 31, 739_145, 738_965, 739_181),
-        (1403, 12, 30, 739_145, 738_965, 739_330),
-        (1404, 1, 1, 739_510, 739_331, 739_331),
-        (1427, 10, 11, 747_911, 747_731, 748_017),
-        (1427, 12, 31, 747_911, 10_000_000, 10_000_366),
-    ] {
-        assert!(rt; 1180 <= year);
-        assert!(rt; year <= 1427);
-        assert!(rt; 1 <= month);
-        assert!(rt; month <= 12);
-        assert!(rt; 1 <= day);
-        assert!(rt; day <= 31);
-        assert!(rt; 0 <= within);
-        assert!(rt; within <= 1_000_000);
-        assert!(rt; -10_000_000 <= new_year);
-        assert!(rt; new_year <= 10_000_000);
-        let date = PersianDate { year, month, day };
-        let (found, asked) = day_over(rt.alloc(), date, within, new_year);
-        assert_eq!(rt; found, Ok(want), "at {year}-{month}-{day}");
-        assert_eq!(rt; asked, 1, "at {year}-{month}-{day}");
-    }
-    Ok(())
 }
