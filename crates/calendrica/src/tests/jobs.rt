@@ -1,12 +1,9 @@
 //! Several jobs: that their pieces are worked at the same time, which no clause says, and what they write.
-use super::{run_with_room, words_in};
+use super::upgrades::{EACH_FORM, EACH_RENEWED};
+use super::{Streams, run_in_memory};
 use book_model::{Fact, Kind, Place};
-use cert_check::check_facts;
-use cert_read::{CertFile, read_file};
 use fact_eval::Staged;
 use jobs_core::{Gate, map_facts, map_lines, rows_of};
-use oracle_core::Answer;
-use run_core::{MemorySink, MemorySource, Status, run};
 use shelf_core::Shelf;
 use std::alloc::Global;
 use std::sync::atomic::AtomicBool;
@@ -98,78 +95,33 @@ fn facts_meet<R: Threads + Sync>(rt: &R, alloc: Global) -> Result<bool, Fail> {
     Ok(gate.was_held() && answers.len() == 2)
 }
 
-/// Whether a run over an input works two pieces at the same time and writes this text.
-pub fn run_meets<R: Threads + Sync>(
-    rt: &R,
-    alloc: Global,
-    line: &str,
-    input: &str,
-    text: &str,
-) -> Result<bool, Fail> {
-    let words = words_in(alloc, line)?;
-    let mut source = MemorySource::new(input.as_bytes().to_vec(alloc)?, Vec::new(alloc));
-    let mut sink = MemorySink::new(alloc, 1000, Vec::new(alloc))?;
-    let gate = Meeting::new();
-    run(
-        rt,
-        alloc,
-        &words,
-        &mut source,
-        &mut sink,
-        &Staged::new(),
-        &gate,
-    );
-    Ok(gate.was_held() && sink.written() == text.as_bytes())
-}
+/// Words for two jobs, an input, and what is written.
+const MEETINGS: [(&[&str], &str, &str); 3] = [
+    (&["convert", "--jobs", "2"], TWO_LINES, TWO_LINES_TEXT),
+    (
+        &["check", "--jobs", "2"],
+        PERSIAN_TEXT,
+        "yes 1\nend yes 1 no 0 skip 0\n",
+    ),
+    (&["upgrade", "--jobs", "2"], EACH_FORM, EACH_RENEWED),
+];
 
 #[test]
 fn two_pieces_are_worked_at_the_same_time(rt: HostRuntime) -> Result<(), Fail> {
     let alloc = rt.alloc();
     assert!(rt; rows_meet(&rt, alloc)?, "map_lines");
     assert!(rt; facts_meet(&rt, alloc)?, "map_facts");
-    for (line, input, text) in [
-        ("convert --jobs 2", TWO_LINES, TWO_LINES_TEXT),
-        (
-            "check --jobs 2",
-            PERSIAN_TEXT,
-            "yes 1\nend yes 1 no 0 skip 0\n",
-        ),
-    ] {
-        assert!(rt; run_meets(&rt, alloc, line, input, text)?, "{line}");
+    for (words, input, text) in MEETINGS {
+        let streams = Streams {
+            input: input.as_bytes(),
+            read: 0,
+            write: 0,
+            room: 1000,
+        };
+        let gate = Meeting::new();
+        let (_, sink) = run_in_memory(&rt, alloc, words, streams, &Staged::new(), &gate)?;
+        let met = (gate.was_held(), sink.written());
+        assert!(rt; met == (true, text.as_bytes()), "{words:?}");
     }
-    Ok(())
-}
-
-// The counts by one job stand in `two_scales_leave_fewer_lines_of_a_sample_open`.
-#[test]
-fn eight_jobs_leave_the_counts_of_a_sample(rt: HostRuntime) -> Result<(), Fail> {
-    let line = "sample 700 1 --jobs 8";
-    let (status, sink) = run_with_room(&rt, rt.alloc(), line, "", 100)?;
-    let want = "sample 700 1 decided 700 undecided 0 void 0 refused 0 facts 2563\n";
-    assert_eq!(rt; status, Status::Done);
-    assert_eq!(rt; sink.written(), want.as_bytes());
-    Ok(())
-}
-
-/// The printed file that bytes are.
-fn file_of(alloc: Global, text: &str) -> Result<CertFile, Fail> {
-    let bytes = text.as_bytes();
-    if bytes.len() > 1000 {
-        return Err("too long a text")?;
-    }
-    match read_file(alloc, bytes) {
-        Ok(file) => Ok(file),
-        Err(_) => Err("no file")?,
-    }
-}
-
-#[test]
-fn the_facts_of_a_file_are_answered(rt: HostRuntime) -> Result<(), Fail> {
-    let alloc = rt.alloc();
-    let file = file_of(alloc, PERSIAN_TEXT)?;
-    let answers = check_facts(alloc, &file, &Staged::new())?;
-    assert_eq!(rt; answers.len(), 2);
-    assert_eq!(rt; *answers.item(0), Answer::Value(738_965));
-    assert_eq!(rt; *answers.item(1), Answer::Value(738_965));
     Ok(())
 }
