@@ -1,10 +1,8 @@
 //! What no clause says of streams and texts, one file for each crate; and an evaluator that several use.
-mod almanacs;
 mod files;
 mod known;
 mod outcomes;
 mod pieces;
-mod runs;
 mod shelves;
 mod streams;
 mod texts;

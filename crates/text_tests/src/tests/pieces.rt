@@ -42,9 +42,9 @@ fn places_stand_in_order(rt: HostRuntime) -> Result<(), Fail> {
     let alloc: Global = rt.alloc();
     for jobs in [1usize, 2, 3, 7, 64] {
         let squares = map_places(&rt, alloc, 100, jobs, &OpenGate, &square)?;
-        assert_eq!(rt; squares.len(), 100, "{jobs}");
+        assert!(rt; squares.len() == 100, "{jobs}");
         for (place, found) in squares.iter().enumerate() {
-            assert_eq!(rt; Ok(*found), square(place), "{jobs}");
+            assert!(rt; Ok(*found) == square(place), "{jobs}");
         }
     }
     Ok(())
@@ -55,10 +55,13 @@ fn the_gate_is_told_once_of_each_piece(rt: HostRuntime) -> Result<(), Fail> {
     for (count, jobs) in [(7usize, 3usize), (1, 3), (0, 3)] {
         let gate = Told::new();
         let squares = map_places(&rt, rt.alloc(), count, jobs, &gate, &square)?;
-        assert_eq!(rt; squares.len(), count);
+        assert!(rt; squares.len() == count);
         for piece in 0..4usize {
             let told = usize::from(piece < jobs);
-            assert_eq!(rt; gate.pieces[piece].load(SeqCst), told, "{piece} of {count}");
+            assert!(rt;
+                gate.pieces[piece].load(SeqCst) == told,
+                "{piece} of {count}"
+            );
         }
     }
     Ok(())

@@ -1,12 +1,12 @@
 //! Lists hold what they are given; each form of a line is written; sinks that are full in the middle of a block.
 ghost use Rattle.std.specs.Prelude.{◌≤◌, ◌+◌, ◌^◌, length, IfOk};
 
-use book_model::{Fact, Kind, Place, Site, Undecided};
+use super::known::correction_on;
+use book_model::{Site, Undecided};
 use byte_streams::{Failed, MemorySink};
 use cert_text::{Block, CertLine, Echo, Numbers, Word, write_block};
 use oracle_core::FactValues;
 use std::alloc::{AllocError, Global};
-use std::process::Abort;
 use std::test::Fail;
 
 /// A fact, and a line of each form.
@@ -17,11 +17,6 @@ const TEXT: &[u8] = b"fact 1 dt - 738926 73871\n\
     line 4 refused 3\n\
     line 5 undecided round 2 -5 7 fact dt - 738926\n\
     line 6 void bisect-end fact dt - -5\n";
-
-/// The correction on a day (R.D.).
-fn correction_on(day: i64) -> Result<Fact, &'static str> {
-    Fact::new(Kind::Dt, Place::None, day).ok_or("no fact")
-}
 
 /// The list of the first fact.
 fn first_fact(alloc: Global) -> Result<Numbers, AllocError> {
@@ -82,81 +77,80 @@ fn first_block(alloc: Global) -> Result<Block, Fail>
 }
 
 /// Writes a line with its number as a block without facts.
-fn write_alone(rt: &impl Abort, alloc: Global, sink: &mut MemorySink, number: u32, line: CertLine) {
+fn write_alone(
+    alloc: Global,
+    sink: &mut MemorySink,
+    number: u32,
+    line: CertLine,
+) -> Result<(), Failed> {
     let block = Block {
         facts: FactValues::new(alloc),
         first: 2,
         number,
         line,
     };
-    assert_eq!(rt; write_block(sink, &block), Ok(()));
+    write_block(sink, &block)
+}
+
+/// Writes the second to the fourth line.
+fn write_refusals(alloc: Global, sink: &mut MemorySink) -> Result<(), Fail> {
+    write_alone(alloc, sink, 2, too_far(alloc)?)?;
+    write_alone(alloc, sink, 3, no_date(alloc)?)?;
+    write_alone(alloc, sink, 4, CertLine::Refused(3))?;
+    Ok(())
+}
+
+/// Writes the fifth and the sixth line.
+fn write_open_and_void(alloc: Global, sink: &mut MemorySink) -> Result<(), Fail> {
+    let fact = correction_on(738_926)?;
+    let earlier = correction_on(-5)?;
+    let open = CertLine::Undecided { fact, at: ROUNDING };
+    write_alone(alloc, sink, 5, open)?;
+    let void = CertLine::Void {
+        fact: earlier,
+        site: Site::BisectEnd,
+    };
+    write_alone(alloc, sink, 6, void)?;
+    Ok(())
 }
 
 #[test]
 fn each_form_is_written(rt: HostRuntime) -> Result<(), Fail> {
     let alloc = rt.alloc();
-    let fact = correction_on(738_926)?;
-    let earlier = correction_on(-5)?;
-    let site = Site::BisectEnd;
     let mut sink = MemorySink::new(alloc, 1000, Vec::new(alloc))?;
-    assert_eq!(rt; write_block(&mut sink, &first_block(alloc)?), Ok(()));
-    write_alone(&rt, alloc, &mut sink, 2, too_far(alloc)?);
-    write_alone(&rt, alloc, &mut sink, 3, no_date(alloc)?);
-    write_alone(&rt, alloc, &mut sink, 4, CertLine::Refused(3));
-    write_alone(
-        &rt,
-        alloc,
-        &mut sink,
-        5,
-        CertLine::Undecided { fact, at: ROUNDING },
-    );
-    write_alone(
-        &rt,
-        alloc,
-        &mut sink,
-        6,
-        CertLine::Void {
-            fact: earlier,
-            site,
-        },
-    );
-    assert_eq!(rt; sink.written(), TEXT);
+    write_block(&mut sink, &first_block(alloc)?)?;
+    write_refusals(alloc, &mut sink)?;
+    write_open_and_void(alloc, &mut sink)?;
+    assert!(rt; sink.written() == TEXT);
     Ok(())
 }
 
-/// A sink with so much room, less than the first block takes, keeps as much of it.
-fn assert_front_is_kept(rt: &impl Abort, alloc: Global, room: usize) -> Result<(), Fail> {
-    let mut sink = MemorySink::new(alloc, room, Vec::new(alloc))?;
-    assert_eq!(rt; write_block(&mut sink, &first_block(alloc)?), Err(Failed));
-    assert!(rt; room <= TEXT.len());
-    assert_eq!(rt; sink.written(), &TEXT[..room], "room for {room}");
-    Ok(())
-}
+/// The bytes of the first block.
+const FIRST_BLOCK: usize = 70;
 
 #[test]
 fn a_sink_that_is_full_keeps_a_front_of_the_block(rt: HostRuntime) -> Result<(), Fail> {
     let alloc = rt.alloc();
-    for room in 0..70usize {
-        assert_front_is_kept(&rt, alloc, room)?;
+    for room in 0..FIRST_BLOCK + 1 {
+        let mut sink = MemorySink::new(alloc, room, Vec::new(alloc))?;
+        let written = write_block(&mut sink, &first_block(alloc)?);
+        assert!(rt; written.is_ok() == (room == FIRST_BLOCK), "room for {room}");
+        assert!(rt;
+            sink.written() == &TEXT[..room.min(TEXT.len())],
+            "room for {room}"
+        );
     }
-    let mut sink = MemorySink::new(alloc, 70, Vec::new(alloc))?;
-    assert_eq!(rt; write_block(&mut sink, &first_block(alloc)?), Ok(()));
     Ok(())
 }
 
 #[test]
-fn words_hold_their_bytes(rt: HostRuntime) -> Result<(), Fail> {
-    let word = Word::of(rt.alloc(), b"dt")?;
-    assert_eq!(rt; word.bytes(), b"dt".as_slice());
-    Ok(())
-}
-
-#[test]
-fn numbers_stand_in_order(rt: HostRuntime) -> Result<(), Fail> {
+fn words_and_numbers_hold_what_they_are_given(rt: HostRuntime) -> Result<(), Fail> {
     let alloc = rt.alloc();
+    let word = Word::of(alloc, b"dt")?;
+    assert!(rt; word.bytes() == b"dt".as_slice());
     let mut numbers = Numbers::new(alloc);
     numbers.push(7)?;
     numbers.push(u32::MAX)?;
-    assert_eq!(rt; numbers.numbers(), [7, u32::MAX].as_slice());
+    assert!(rt; numbers.numbers() == [7, u32::MAX].as_slice());
     Ok(())
 }

@@ -1,75 +1,67 @@
 //! Words at spaces, and what they tell.
 use command_words::{Command, NoCommand, Order, order_of};
 use std::alloc::Global;
+use std::process::Abort;
 use std::test::Fail;
 
-/// What the parts of a line tell, as they stand between single spaces.
-fn told_by(alloc: Global, line: &str) -> Result<Result<Order, NoCommand>, Fail> {
+/// The parts of a line, as they stand between single spaces, tell this.
+fn assert_told(
+    rt: &impl Abort,
+    alloc: Global,
+    line: &str,
+    want: Result<Order, NoCommand>,
+) -> Result<(), Fail> {
     let mut words = Vec::new(alloc);
     for part in line.split(' ') {
         words.push(String::from_str(alloc, part)?)?;
     }
-    Ok(order_of(alloc, words.as_slice()))
-}
-
-#[test]
-fn words_in_the_form_tell_a_command(rt: HostRuntime) -> Result<(), Fail> {
-    for (line, command) in [
-        ("convert", Command::Convert),
-        ("check", Command::Check),
-        ("upgrade", Command::Upgrade),
-        ("upgrade --", Command::Upgrade),
-        ("almanac 1703", Command::Almanac { year: 1703 }),
-        ("almanac 02024", Command::Almanac { year: 2024 }),
-        ("almanac 2147", Command::Almanac { year: 2147 }),
-        (
-            "almanac 00000000000000002024",
-            Command::Almanac { year: 2024 },
-        ),
-        ("almanac --jobs 1 2024", Command::Almanac { year: 2024 }),
-        ("east 1703", Command::East { year: 1703 }),
-        ("east 2007", Command::East { year: 2007 }),
-        ("east 2147 --jobs 1", Command::East { year: 2147 }),
-        ("sample 0001 007", Command::Sample { count: 1, seed: 7 }),
-        ("sample 5 0 --jobs=1", Command::Sample { count: 5, seed: 0 }),
-        (
-            "sample 100000 18446744073709551615",
-            Command::Sample {
-                count: 100_000,
-                seed: 18_446_744_073_709_551_615,
-            },
-        ),
-        ("convert --jobs 1", Command::Convert),
-        ("convert --jobs=1", Command::Convert),
-        ("convert --jobs 01", Command::Convert),
-        ("--jobs 1 convert", Command::Convert),
-        ("convert --", Command::Convert),
-        ("-- convert", Command::Convert),
-    ] {
-        let order = Order { command, jobs: 1 };
-        assert_eq!(rt; told_by(rt.alloc(), line)?, Ok(order), "{line}");
-    }
+    assert!(rt; order_of(alloc, words.as_slice()) == want, "{line}");
     Ok(())
 }
 
-#[test]
-fn words_in_the_form_tell_the_jobs(rt: HostRuntime) -> Result<(), Fail> {
-    for (words, jobs) in [
-        ("convert --jobs 2", 2usize),
-        ("convert --jobs=64", 64),
-        ("--jobs 008 convert", 8),
-    ] {
-        let order = Order {
-            command: Command::Convert,
-            jobs,
-        };
-        assert_eq!(rt; told_by(rt.alloc(), words)?, Ok(order), "{words}");
-    }
-    Ok(())
-}
+/// Words that tell a command, by one job.
+static COMMANDS: [(&str, Command); 21] = [
+    ("convert", Command::Convert),
+    ("check", Command::Check),
+    ("upgrade", Command::Upgrade),
+    ("upgrade --", Command::Upgrade),
+    ("almanac 1703", Command::Almanac { year: 1703 }),
+    ("almanac 02024", Command::Almanac { year: 2024 }),
+    ("almanac 2147", Command::Almanac { year: 2147 }),
+    (
+        "almanac 00000000000000002024",
+        Command::Almanac { year: 2024 },
+    ),
+    ("almanac --jobs 1 2024", Command::Almanac { year: 2024 }),
+    ("east 1703", Command::East { year: 1703 }),
+    ("east 2007", Command::East { year: 2007 }),
+    ("east 2147 --jobs 1", Command::East { year: 2147 }),
+    ("sample 0001 007", Command::Sample { count: 1, seed: 7 }),
+    ("sample 5 0 --jobs=1", Command::Sample { count: 5, seed: 0 }),
+    (
+        "sample 100000 18446744073709551615",
+        Command::Sample {
+            count: 100_000,
+            seed: 18_446_744_073_709_551_615,
+        },
+    ),
+    ("convert --jobs 1", Command::Convert),
+    ("convert --jobs=1", Command::Convert),
+    ("convert --jobs 01", Command::Convert),
+    ("--jobs 1 convert", Command::Convert),
+    ("convert --", Command::Convert),
+    ("-- convert", Command::Convert),
+];
+
+/// Words that tell how many jobs convert.
+const JOBS: [(&str, usize); 3] = [
+    ("convert --jobs 2", 2),
+    ("convert --jobs=64", 64),
+    ("--jobs 008 convert", 8),
+];
 
 /// Words that name no command.
-const NO_FORMS: [&str; 59] = [
+static NO_FORMS: [&str; 59] = [
     "",
     "almanac",
     "almanac 2024x",
@@ -132,9 +124,30 @@ const NO_FORMS: [&str; 59] = [
 ];
 
 #[test]
+fn words_in_the_form_tell_a_command(rt: HostRuntime) -> Result<(), Fail> {
+    for (line, command) in &COMMANDS {
+        let order = Order {
+            command: *command,
+            jobs: 1,
+        };
+        assert_told(&rt, rt.alloc(), line, Ok(order))?;
+    }
+    Ok(())
+}
+
+#[test]
+fn words_in_the_form_tell_the_jobs(rt: HostRuntime) -> Result<(), Fail> {
+    let command = Command::Convert;
+    for (line, jobs) in JOBS {
+        assert_told(&rt, rt.alloc(), line, Ok(Order { command, jobs }))?;
+    }
+    Ok(())
+}
+
+#[test]
 fn other_words_are_no_form(rt: HostRuntime) -> Result<(), Fail> {
-    for line in NO_FORMS {
-        assert_eq!(rt; told_by(rt.alloc(), line)?, Err(NoCommand::Form), "{line}");
+    for line in &NO_FORMS {
+        assert_told(&rt, rt.alloc(), line, Err(NoCommand::Form))?;
     }
     Ok(())
 }
@@ -142,5 +155,5 @@ fn other_words_are_no_form(rt: HostRuntime) -> Result<(), Fail> {
 #[test]
 fn no_words_are_no_form(rt: HostRuntime) {
     let words: &[String] = &[];
-    assert_eq!(rt; order_of(rt.alloc(), words), Err(NoCommand::Form));
+    assert!(rt; order_of(rt.alloc(), words) == Err(NoCommand::Form));
 }

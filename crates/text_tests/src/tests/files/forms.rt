@@ -1,10 +1,7 @@
 //! The seven forms of lines and the end line, and lines that have none of the forms.
-use super::{assert_files, assert_last_breaks};
-use cert_read::is_spaced;
-use std::test::Fail;
 
 /// Each form, with the least and the greatest that it may hold, and words that other forms begin with.
-const FILES: [&str; 12] = [
+pub const FILES: &[&str] = &[
     "fact 1 dt - 738926 73871\nend lines 0 facts 1",
     "line 1 gregorian 2024-02-10 dt 73871 facts\nend lines 1 facts 0",
     "line 1 a b c ! facts\nline 2 a b c ~ facts\nend lines 2 facts 0",
@@ -20,7 +17,7 @@ const FILES: [&str; 12] = [
 ];
 
 /// Words too few, too many or unknown.
-const WORDS: [&str; 26] = [
+pub const WORDS: &[&str] = &[
     "facts 1 dt - 1 1",
     "fact 1 dt - 1",
     "fact 1 dt - 1 1 1",
@@ -50,7 +47,7 @@ const WORDS: [&str; 26] = [
 ];
 
 /// Spaces where there should be none, and bytes that no word holds.
-const BYTES: [&str; 6] = [
+pub const BYTES: &[&str] = &[
     "line 1  refused 3",
     " line 1 refused 3",
     "line 1 refused 3 ",
@@ -58,21 +55,3 @@ const BYTES: [&str; 6] = [
     "line 1 a b c \x7f facts",
     "line 1 a b c \0 facts",
 ];
-
-#[test]
-fn each_form_is_read(rt: HostRuntime) -> Result<(), Fail> {
-    assert_files(&rt, rt.alloc(), &FILES)
-}
-
-#[test]
-fn other_words_and_bytes_have_no_form(rt: HostRuntime) -> Result<(), Fail> {
-    assert_last_breaks(&rt, rt.alloc(), 2, &WORDS)?;
-    assert_last_breaks(&rt, rt.alloc(), 2, &BYTES)
-}
-
-#[test]
-fn words_are_told_that_have_single_spaces_between_them(rt: HostRuntime) {
-    assert!(rt; is_spaced(b"gregorian 2024-02-10 dt"));
-    assert!(rt; !is_spaced(b"gregorian  2024-02-10 dt"));
-    assert!(rt; !is_spaced(b"gregorian\t2024-02-10 dt"));
-}

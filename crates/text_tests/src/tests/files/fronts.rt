@@ -1,5 +1,5 @@
 //! Fronts of a file.
-use super::broken;
+use super::assert_breaks;
 use std::test::Fail;
 
 /// A file of a fact and two lines.
@@ -9,39 +9,29 @@ const WHOLE: &[u8] = b"calendrica 1 depth 40\n\
     line 2 refused 3\n\
     end lines 2 facts 1\n";
 
-/// How many fronts in a row, from the empty one on, break this rule of this line.
-const BROKEN: [(usize, (usize, u8)); 11] = [
-    (21, (1, 1)),
-    (2, (2, 6)),
-    (19, (2, 2)),
-    (6, (3, 6)),
-    (41, (3, 2)),
-    (1, (4, 6)),
-    (1, (3, 2)),
-    (2, (4, 6)),
-    (15, (4, 2)),
-    (2, (5, 6)),
-    (18, (5, 2)),
+/// The rule and the line that fronts break, from one length to before another. Without its last line feed it is a file still.
+const FRONTS: [(usize, usize, Option<(usize, u8)>); 12] = [
+    (0, 21, Some((1, 1))),
+    (21, 23, Some((2, 6))),
+    (23, 42, Some((2, 2))),
+    (42, 48, Some((3, 6))),
+    (48, 89, Some((3, 2))),
+    (89, 90, Some((4, 6))),
+    (90, 91, Some((3, 2))),
+    (91, 93, Some((4, 6))),
+    (93, 108, Some((4, 2))),
+    (108, 110, Some((5, 6))),
+    (110, 128, Some((5, 2))),
+    (128, 130, None),
 ];
 
 #[test]
 fn a_front_of_a_file_is_no_file(rt: HostRuntime) -> Result<(), Fail> {
-    let alloc = rt.alloc();
-    let mut length = 0usize;
-    for (count, want) in BROKEN {
-        for _ in 0..count {
-            assert!(rt; length < WHOLE.len());
-            let front = &WHOLE[..length];
-            assert_eq!(rt; broken(alloc, front)?, Some(want), "at {length}");
-            length += 1;
+    for (from, to, want) in FRONTS {
+        for length in from..to {
+            let front = &WHOLE[..length.min(WHOLE.len())];
+            assert_breaks(&rt, rt.alloc(), front, want, "a front")?;
         }
     }
-    assert_eq!(rt; length, 128);
-    assert_eq!(rt;
-        broken(alloc, &WHOLE[..128])?,
-        None,
-        "without the last line feed"
-    );
-    assert_eq!(rt; broken(alloc, WHOLE)?, None);
     Ok(())
 }

@@ -1,11 +1,11 @@
 //! The header, which tells the version and so the kinds, places and sites, and the ends of lines.
-use super::broken;
+use super::assert_breaks;
+use crate::tests::verdicts::file_of;
 use book_model::Version;
-use cert_read::{LONGEST_FILE, read_file};
 use std::test::Fail;
 
 /// Texts, and the line and the rule that they break.
-const TEXTS: [(&str, Option<(usize, u8)>); 36] = [
+static TEXTS: [(&str, Option<(usize, u8)>); 37] = [
     ("", Some((1, 1))),
     ("c", Some((1, 1))),
     ("\n", Some((1, 1))),
@@ -69,20 +69,16 @@ const TEXTS: [(&str, Option<(usize, u8)>); 36] = [
         "calendrica 2 depth 40\ncalendrica 1 depth 40\nend lines 0 facts 0\n",
         Some((2, 2)),
     ),
+    // The end line is missing.
+    (
+        "calendrica 1 depth 40\nfact 1 dt - 1 1\nline 1 refused 1\n",
+        Some((4, 6)),
+    ),
 ];
-
-#[test]
-fn a_header_comes_first_and_lines_end_with_line_feeds(rt: HostRuntime) -> Result<(), Fail> {
-    let alloc = rt.alloc();
-    for (text, want) in TEXTS {
-        assert_eq!(rt; broken(alloc, text.as_bytes())?, want, "{text:?}");
-    }
-    Ok(())
-}
 
 /// Lines below a header, with the line and the rule that they break in a file of version 1 and in one of version 2. What a
 /// version doesn't have is as unknown to it as what none has, before any other rule is tried.
-const NAMES: [(&str, Option<(usize, u8)>, Option<(usize, u8)>); 19] = [
+static NAMES: [(&str, Option<(usize, u8)>, Option<(usize, u8)>); 19] = [
     (
         "fact 1 solstice beijing 724662 724631\nend lines 0 facts 1",
         None,
@@ -168,22 +164,36 @@ const NAMES: [(&str, Option<(usize, u8)>, Option<(usize, u8)>); 19] = [
     ),
 ];
 
+/// Files with the version of their header.
+const FILES: [(&str, Version); 4] = [
+    ("calendrica 1 depth 40\nend lines 0 facts 0\n", Version::One),
+    ("calendrica 1 depth 40\r\nend lines 0 facts 0", Version::One),
+    ("calendrica 2 depth 40\nend lines 0 facts 0\n", Version::Two),
+    ("calendrica 2 depth 40\r\nend lines 0 facts 0", Version::Two),
+];
+
 #[test]
-fn a_file_has_the_version_of_its_header_and_its_names(rt: HostRuntime) -> Result<(), Fail> {
-    for (text, version) in [
-        ("calendrica 1 depth 40\nend lines 0 facts 0\n", Version::One),
-        ("calendrica 1 depth 40\r\nend lines 0 facts 0", Version::One),
-        ("calendrica 2 depth 40\nend lines 0 facts 0\n", Version::Two),
-        ("calendrica 2 depth 40\r\nend lines 0 facts 0", Version::Two),
-    ] {
-        assert!(rt; text.len() <= LONGEST_FILE);
-        let file = read_file(rt.alloc(), text.as_bytes())?;
-        assert_eq!(rt; file.version, version, "{text:?}");
+fn a_header_comes_first_and_lines_end_with_line_feeds(rt: HostRuntime) -> Result<(), Fail> {
+    for (text, want) in &TEXTS {
+        assert_breaks(&rt, rt.alloc(), text.as_bytes(), *want, text)?;
     }
-    for (lines, by_one, by_two) in NAMES {
-        for (number, want) in [(1, by_one), (2, by_two)] {
+    Ok(())
+}
+
+#[test]
+fn a_file_has_the_version_of_its_header(rt: HostRuntime) -> Result<(), Fail> {
+    for (text, version) in FILES {
+        assert!(rt; file_of(rt.alloc(), text)?.version == version, "{text}");
+    }
+    Ok(())
+}
+
+#[test]
+fn a_file_has_the_names_of_its_version(rt: HostRuntime) -> Result<(), Fail> {
+    for (lines, by_one, by_two) in &NAMES {
+        for (number, want) in [(1, *by_one), (2, *by_two)] {
             let file = format!(in rt.alloc(); "calendrica {number} depth 40\n{lines}\n")?;
-            assert_eq!(rt; broken(rt.alloc(), file.as_bytes())?, want, "{file}");
+            assert_breaks(&rt, rt.alloc(), file.as_bytes(), want, lines)?;
         }
     }
     Ok(())

@@ -1,9 +1,7 @@
 //! Numbers that fit and numbers that don't: at the ends of their ranges, and of 10, 20 and 40 digits.
-use super::{assert_files, assert_last_breaks};
-use std::test::Fail;
 
 /// The ends of the ranges of days, values and ends of open tests.
-const FITTING: [&str; 9] = [
+pub const FITTING: &[&str] = &[
     "fact 1 dt - 40000000 -10000000\nend lines 0 facts 1",
     "fact 1 dt - -40000000 10000000\nend lines 0 facts 1",
     "fact 1 dt - 0 0\nend lines 0 facts 1",
@@ -17,7 +15,7 @@ const FITTING: [&str; 9] = [
 ];
 
 /// Counters that are none, since they don't fit or have another spelling.
-const COUNTERS: [&str; 18] = [
+pub const COUNTERS: &[&str] = &[
     "line 4294967296 refused 3",
     "line 12345678901234567890 refused 3",
     "line 1000000000000000000000000000000000000007 refused 3",
@@ -39,14 +37,14 @@ const COUNTERS: [&str; 18] = [
 ];
 
 /// Counters that fit, and are out of order.
-const LARGE_COUNTERS: [&str; 3] = [
+pub const LARGE_COUNTERS: &[&str] = &[
     "line 1234567890 refused 3",
     "line 4294967295 refused 3",
     "fact 4294967295 dt - 1 1",
 ];
 
 /// Days and values out of their ranges or in another spelling.
-const DAYS_AND_VALUES: [&str; 21] = [
+pub const DAYS_AND_VALUES: &[&str] = &[
     "fact 1 dt - 40000001 1",
     "fact 1 dt - -40000001 1",
     "fact 1 dt - 1234567890 1",
@@ -71,7 +69,7 @@ const DAYS_AND_VALUES: [&str; 21] = [
 ];
 
 /// Ends of open tests that don't fit or have another spelling.
-const ENDS: [&str; 9] = [
+pub const ENDS: &[&str] = &[
     "line 1 undecided year 1 -170141183460469231731687303715884105729 0 fact dt - 1",
     "line 1 undecided year 1 0 170141183460469231731687303715884105728 fact dt - 1",
     "line 1 undecided year 1 0 1000000000000000000000000000000000000007 fact dt - 1",
@@ -82,16 +80,3 @@ const ENDS: [&str; 9] = [
     "line 1 undecided year 1 0 000000000000000000000000000000000000000 fact dt - 1",
     "line 1 undecided year 1 +5 7 fact dt - 1",
 ];
-
-#[test]
-fn numbers_fit_up_to_the_ends_of_their_ranges(rt: HostRuntime) -> Result<(), Fail> {
-    assert_files(&rt, rt.alloc(), &FITTING)?;
-    assert_last_breaks(&rt, rt.alloc(), 3, &LARGE_COUNTERS)
-}
-
-#[test]
-fn other_numbers_have_no_form(rt: HostRuntime) -> Result<(), Fail> {
-    assert_last_breaks(&rt, rt.alloc(), 2, &COUNTERS)?;
-    assert_last_breaks(&rt, rt.alloc(), 2, &DAYS_AND_VALUES)?;
-    assert_last_breaks(&rt, rt.alloc(), 2, &ENDS)
-}

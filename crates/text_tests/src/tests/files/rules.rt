@@ -1,9 +1,7 @@
 //! The rules from the third on: order of numbers, places, facts, lists and the end line.
-use super::{assert_files, assert_last_breaks, broken};
-use std::test::Fail;
 
 /// Files that come close to breaking a rule.
-const FILES: [&str; 5] = [
+pub const FILES: &[&str] = &[
     "fact 1 dt - 1 1\nline 1 refused 1\nfact 2 dt - 2 1\nline 2 refused 1\nend lines 2 facts 2",
     "fact 1 dt - 1 1\nend lines 0 facts 1",
     "fact 1 dt - 1 1\nfact 2 dt - 2 1\nline 1 a b c d facts 2 1\nend lines 1 facts 2",
@@ -12,7 +10,7 @@ const FILES: [&str; 5] = [
 ];
 
 /// A number out of order.
-const NUMBERS: [&str; 9] = [
+pub const NUMBERS: &[&str] = &[
     "fact 0 dt - 1 1",
     "fact 2 dt - 1 1",
     "line 0 refused 1",
@@ -25,21 +23,21 @@ const NUMBERS: [&str; 9] = [
 ];
 
 /// A place that isn't one of the kind's places.
-const PLACES: [&str; 3] = [
+pub const PLACES: &[&str] = &[
     "fact 1 dt cairo 1 1",
     "line 1 undecided round 3 1 2 fact dt ujjain 1",
     "line 1 void year fact dt tehran 1",
 ];
 
 /// A fact twice.
-const FACTS: [&str; 3] = [
+pub const FACTS: &[&str] = &[
     "fact 1 dt - 1 1\nfact 2 dt - 1 1",
     "fact 1 dt - 1 1\nfact 2 dt - 1 2",
     "fact 1 dt - 1 1\nfact 2 dt - 2 1\nfact 3 dt - 1 1",
 ];
 
 /// A listed number that is 0, of a later fact or there twice.
-const LISTS: [&str; 7] = [
+pub const LISTS: &[&str] = &[
     "line 1 a b c d facts 1",
     "fact 1 dt - 1 1\nline 1 a b c d facts 0",
     "fact 1 dt - 1 1\nline 1 a b c d facts 1 2",
@@ -50,7 +48,7 @@ const LISTS: [&str; 7] = [
 ];
 
 /// Wrong counts, and lines after the end line.
-const ENDS: [&str; 10] = [
+pub const ENDS: &[&str] = &[
     "line 1 refused 1\nend lines 0 facts 0",
     "line 1 refused 1\nend lines 2 facts 0",
     "fact 1 dt - 1 1\nend lines 0 facts 0",
@@ -62,29 +60,3 @@ const ENDS: [&str; 10] = [
     "end lines 0 facts 0\nline 1 undecided round 1 0 0 fact dt - 1",
     "end lines 0 facts 0\nline 1 void year fact dt - 1",
 ];
-
-#[test]
-fn files_near_the_rules_are_read(rt: HostRuntime) -> Result<(), Fail> {
-    assert_files(&rt, rt.alloc(), &FILES)
-}
-
-#[test]
-fn numbers_run_and_places_belong_to_kinds(rt: HostRuntime) -> Result<(), Fail> {
-    assert_last_breaks(&rt, rt.alloc(), 3, &NUMBERS)?;
-    assert_last_breaks(&rt, rt.alloc(), 7, &PLACES)
-}
-
-#[test]
-fn facts_and_listed_numbers_are_distinct(rt: HostRuntime) -> Result<(), Fail> {
-    assert_last_breaks(&rt, rt.alloc(), 4, &FACTS)?;
-    assert_last_breaks(&rt, rt.alloc(), 5, &LISTS)
-}
-
-#[test]
-fn the_end_line_is_last_and_counts(rt: HostRuntime) -> Result<(), Fail> {
-    let alloc = rt.alloc();
-    assert_last_breaks(&rt, alloc, 6, &ENDS)?;
-    let missing = b"calendrica 1 depth 40\nfact 1 dt - 1 1\nline 1 refused 1\n";
-    assert_eq!(rt; broken(alloc, missing)?, Some((4, 6)));
-    Ok(())
-}

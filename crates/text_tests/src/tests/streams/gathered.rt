@@ -8,19 +8,12 @@ fn parts_are_gathered_until_they_are_forgotten(rt: HostRuntime) -> Result<(), Fa
     let mut gathered = Gathered::new(rt.alloc());
     let mut buffer = Buffer::new();
     let number = decimal(&mut buffer, -70_123i32);
-    assert_eq!(rt;
-        write_parts(&mut gathered, &[b"day ", number, b"\n"]),
-        Ok(())
-    );
-    assert_eq!(rt; gathered.bytes(), b"day -70123\n".as_slice());
+    write_parts(&mut gathered, &[b"day ", number, b"\n"])?;
+    write_two_counts(&mut gathered, b"lines ", 2, b" facts ", u32::MAX)?;
+    let want = b"day -70123\nlines 2 facts 4294967295\n";
+    assert!(rt; gathered.bytes() == want.as_slice());
     gathered.clear();
-    assert_eq!(rt;
-        write_two_counts(&mut gathered, b"lines ", 2, b" facts ", u32::MAX),
-        Ok(())
-    );
-    assert_eq!(rt; gathered.bytes(), b"lines 2 facts 4294967295\n".as_slice());
-    gathered.clear();
-    assert_eq!(rt; write_parts(&mut gathered, &[b"", b"end"]), Ok(()));
-    assert_eq!(rt; gathered.into_bytes().as_slice(), b"end".as_slice());
+    write_parts(&mut gathered, &[b"", b"end"])?;
+    assert!(rt; gathered.into_bytes().as_slice() == b"end".as_slice());
     Ok(())
 }
