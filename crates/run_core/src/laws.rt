@@ -1,6 +1,6 @@
 //! Laws of the definitions, each carried by a function that does nothing.
 ghost use Rattle.std.specs.Prelude.{◌≡◌, ◌⊎◌, List, ℕ, IsTrue};
-ghost use Rattle.run_core.specs.Laws.{HasResultOrRule, HasOneCount, HasNoRefusal};
+ghost use Rattle.run_core.specs.Laws.{HasResultOrRule, HasOneCount, HasNoRefusal, HasOneUpgrade, HasOneCheck};
 
 /// A line whose asked facts are neither near nor void has a result, the refusal that was found by computing, or the
 /// refusal of the rule that it breaks: nothing else is right for it.
@@ -15,4 +15,16 @@ pub fn decided_lines()
 pub fn samples()
     ensures no_refusal { (count seed : ℕ) → HasNoRefusal count seed }
     ensures one_count { (count seed : ℕ) → HasOneCount count seed }
+{}
+
+/// Bytes settle the text that they are upgraded to where no line with words is undecided: two such texts, each of right outcomes
+/// for the words and of the lines without words as they stand, are equal, however many jobs computed them.
+pub fn upgrades()
+    ensures one_text { (input : List ℕ) → HasOneUpgrade input }
+{}
+
+/// Bytes settle the text of their verdicts where no fact of the file is answered by an open test: two such texts, each by right
+/// answers for the facts, are equal, however many jobs answered them.
+pub fn checks()
+    ensures one_text { (input : List ℕ) → HasOneCheck input }
 {}
