@@ -2,7 +2,7 @@
 use Rattle.std.specs.Prelude.{◌≡◌, ℕ, ◌+◌, ◌^◌, ◌≤◌, true, pos, neg_ℤ, refl, if◌then◌else◌, ◌==◌, Result, Ok, Err}
 use Rattle.std.proofs.Common.{arith}
 use Rattle.std.proofs.lemmas.Int.{ints}
-use Rattle.exact_math.specs.Interval.{Interval}
+use Rattle.book_model.specs.Interval.{Interval}
 use Rattle.book_model.specs.declared.fail.Fail.{Fail}
 use Rattle.book_model.specs.declared.tables.TheConstants.{HUNDRED_THOUSANDTH}
 use Rattle.book_model.specs.numbers.Bounds.{Bound, unbounded, bounded, Limits, Reach, bound_of, implies, limits_at, limits_of, integer_bound, constant_bound, sum_bound, difference_bound, scaled_bound}
@@ -12,7 +12,7 @@ use Rattle.book_model.specs.numbers.Relations.{Narrow, Keeps}
 use Rattle.book_model.specs.programs.Bisection.{middle_of}
 use Rattle.book_model.specs.programs.Widths.{IsAbout, IsMoment, IsUpTo, Measures}
 use Rattle.book_model.proofs.Implying.{limits_within}
-use Rattle.greatest_widths.proofs.Measuring.{measured, measured_argument, looser}
+use Rattle.encl_core.proofs.Measuring.{measured, measured_argument, looser}
 
 -- ---- the middle
 abbrev any_moment : ℕ → Bound

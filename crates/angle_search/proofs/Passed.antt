@@ -1,6 +1,6 @@
 -- Tries that are decided make the tests of their formula.
 use Rattle.std.specs.Prelude.{ℕ, Bool, Result, Ok, Err, IfOk}
-use Rattle.exact_math.specs.Interval.{Interval}
+use Rattle.book_model.specs.Interval.{Interval}
 use Rattle.book_model.specs.declared.fail.Fail.{Fail}
 use Rattle.book_model.specs.numbers.Expressions.{Expression}
 use Rattle.book_model.specs.programs.Bisection.{has_passed_of, has_passed_at}

@@ -3,8 +3,8 @@ ghost use Rattle.std.specs.Prelude.{◌≡◌, ◌≤◌, ◌+◌, ◌*◌, ◌^
 ghost use Rattle.book_model.specs.programs.Calls.{Decides2, Encloses2, Follows2, Follows3};
 ghost use Rattle.book_model.specs.programs.Widths.{IsAbout, IsMoment, IsUpTo, IsClose, Measures};
 ghost use Rattle.book_model.specs.programs.Bisection as spec;
-ghost use Rattle.greatest_widths.specs.declared.table.TheConstants.{BISECTION};
-ghost use Rattle.greatest_widths.specs.Table.{greatest_of};
+ghost use Rattle.encl_core.specs.declared.greatest_widths.TheConstants.{BISECTION};
+ghost use Rattle.encl_core.specs.GreatestWidths.{greatest_of};
 
 use crate::Angular;
 use crate::known::Known;

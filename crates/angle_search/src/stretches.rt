@@ -2,8 +2,8 @@
 
 use crate::Angular;
 use book_model::{Fail, Site, Undecided};
+use encl_core::parts::TURN;
 use encl_core::{Enclosure, Span};
-use interval_ends::parts::TURN;
 
 /// What is left of the ends of an open test by whole turns, so that their middle is about 0: at `sun-wrap` and `phase-wrap` they
 /// are an angle itself, which near 0 and near 360 is as far from an angle that is passed as from 0.

@@ -2,12 +2,12 @@
 use Rattle.std.proofs.Common.{◌*◌, ◌^◌, refl, arith, ℤ, pos, negsuc, ◌+ℤ◌, ◌*ℤ◌, ◌≤ℤ◌}
 use Rattle.std.proofs.lemmas.Int.{ints}
 use lib.IntN.{neg_ℤ}
-use Rattle.exact_math.specs.Fraction.{Fraction, ◌≤F◌, whole, plus, opposite, times, reciprocal, is_at_most, smaller, larger, size, power}
-use Rattle.exact_math.specs.Interval.{Interval, everything, between, IsProper, ◌⊆◌, negative, product, one, minus_one, least, greatest}
-use Rattle.exact_math.specs.Sums.{alternating, lower, upper}
-use Rattle.exact_math.proofs.Certificates.{zero_F}
-use Rattle.exact_math.proofs.Fractions.{le_refl, le_trans, plus_mono}
-use Rattle.exact_math.proofs.Intervals.{within_trans, product_within}
+use Rattle.book_model.specs.Fraction.{Fraction, ◌≤F◌, whole, plus, opposite, times, reciprocal, is_at_most, smaller, larger, size, power}
+use Rattle.book_model.specs.Interval.{Interval, everything, between, IsProper, ◌⊆◌, negative, product, one, minus_one, least, greatest}
+use Rattle.book_model.specs.Sums.{alternating, lower, upper}
+use Rattle.book_model.proofs.Certificates.{zero_F}
+use Rattle.book_model.proofs.Fractions.{le_refl, le_trans, plus_mono}
+use Rattle.book_model.proofs.Intervals.{within_trans, product_within}
 use Rattle.book_model.specs.programs.Leading.{units_of_56}
 use Rattle.book_model.specs.numbers.Series.{arctan_term}
 use Rattle.book_model.specs.numbers.Arcs.{half, minus_half, arctan_series, arc_near, arc_above, arc_beyond, mirrored}
@@ -16,7 +16,7 @@ use Rattle.book_model.proofs.ArcSeries.{InHalf, series_proper, series_nests, deg
 use Rattle.book_model.proofs.ArcPieces.{InPiece, InAbove, turned, turned_in, recip_in, quarters}
 use Rattle.arc_series.specs.declared.pieces.Piece.{Piece}
 use Rattle.arc_series.specs.Forms.{piece_of}
-use Rattle.rounded_quotients.specs.Units.{at_64}
+use Rattle.encl_core.specs.Units.{at_64}
 use Rattle.arc_series.proofs.ArcValues.{radian, radian_near}
 use Rattle.arc_series.proofs.PieceArcs.{more_held, less_held, opposite_held}
 use Rattle.arc_series.proofs.ArcSlopes.{rate, Climbs, climbing, piece_climbs, piece_arc}

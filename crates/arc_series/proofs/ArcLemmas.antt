@@ -7,11 +7,11 @@ use Rattle.std.proofs.lemmas.Int.{ints, clamps}
 use lib.IntN.{neg_ℤ}
 use lib.Signed.{lt_z}
 use Rattle.book_model.specs.programs.Leading.{units_of_56}
-use Rattle.exact_math.specs.Fraction.{Fraction, whole, plus, ◌≤F◌}
-use Rattle.exact_math.specs.Interval.{Interval, everything, between, IsProper, AreWithin, ◌⊆◌, sum, difference, negative, quotient}
-use Rattle.exact_math.proofs.Fractions.{le_trans, positive_above, negative_below}
+use Rattle.book_model.specs.Fraction.{Fraction, whole, plus, ◌≤F◌}
+use Rattle.book_model.specs.Interval.{Interval, everything, between, IsProper, AreWithin, ◌⊆◌, sum, difference, negative, quotient}
+use Rattle.book_model.proofs.Fractions.{le_trans, positive_above, negative_below}
 use Rattle.std.specs.Prelude.{◌||◌}
-use Rattle.exact_math.proofs.Intervals.{within_trans, within_everything}
+use Rattle.book_model.proofs.Intervals.{within_trans, within_everything}
 use Rattle.book_model.specs.numbers.Bounds.{Limits, Reach}
 use Rattle.book_model.specs.numbers.Expressions.{Expression, World, value, integer, subtract, divide, scale, arctangent, arcsine, arccosine, arctangent_of_two}
 use Rattle.book_model.specs.numbers.Relations.{Within, Narrow, Lies, Keeps}
@@ -21,7 +21,7 @@ use Rattle.book_model.specs.numbers.Bounds.{limited, bound_of, IsNarrow, Bound, 
 use Rattle.book_model.specs.numbers.Bounds.{limits_of, limits_at, no_limits, is_scale}
 use Rattle.book_model.proofs.Values.{value_proper}
 use Rattle.book_model.proofs.Arcs.{arctangents, two_inside, not_positive}
-use Rattle.interval_ends.specs.declared.parts.TheConstants.{HALF_TURN}
+use Rattle.encl_core.specs.parts.TheConstants.{HALF_TURN}
 use Rattle.arc_series.specs.Forms.{half_tangent_of, has_sign}
 
 -- ---- the arctangent

@@ -4,9 +4,9 @@ use Rattle.std.specs.Int.{int_min, int_max}
 use Rattle.std.proofs.lemmas.Int.{ints, clamps}
 use Rattle.std.proofs.Math.Nat.{mul-le-mul_right}
 use lib.IntN.{neg_ℤ}
-use Rattle.exact_math.specs.Fraction.{Fraction, ◌≈◌, whole, plus}
-use Rattle.exact_math.specs.Interval.{between, ◌⊆◌}
-use Rattle.exact_math.proofs.Same.{same_refl}
+use Rattle.book_model.specs.Fraction.{Fraction, ◌≈◌, whole, plus}
+use Rattle.book_model.specs.Interval.{between, ◌⊆◌}
+use Rattle.book_model.proofs.Same.{same_refl}
 use Rattle.book_model.specs.programs.Leading.{units_of_56}
 use Rattle.book_model.specs.numbers.Arcs.{half, minus_half}
 use Rattle.book_model.proofs.ArcPieces.{InPiece}

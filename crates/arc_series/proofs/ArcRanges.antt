@@ -3,9 +3,9 @@ use Rattle.std.proofs.Common.{◌≡◌, ◌*◌, ◌^◌, subst, arith, ℤ, po
 use Rattle.std.specs.Int.{int_min, int_max}
 use Rattle.std.proofs.lemmas.Int.{ints, clamps}
 use lib.IntN.{neg_ℤ}
-use Rattle.exact_math.specs.Fraction.{whole, plus}
-use Rattle.exact_math.specs.Interval.{between, ◌⊆◌, one, minus_one}
-use Rattle.exact_math.proofs.Certificates.{zero_F}
+use Rattle.book_model.specs.Fraction.{whole, plus}
+use Rattle.book_model.specs.Interval.{between, ◌⊆◌, one, minus_one}
+use Rattle.book_model.proofs.Certificates.{zero_F}
 use Rattle.book_model.specs.programs.Leading.{units_of_56}
 use Rattle.book_model.specs.numbers.Arcs.{half, minus_half}
 use Rattle.book_model.proofs.ArcPieces.{InPiece}

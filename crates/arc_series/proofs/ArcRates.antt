@@ -2,13 +2,13 @@
 -- do over the square of 1 - c, in radians.
 use Rattle.std.proofs.Common.{◌≡◌, subst, zero, suc, ◌*◌, ◌^◌, ◌-◌, ℕ, refl, arith, ℤ, pos, negsuc, ◌+ℤ◌, ◌-ℤ◌, ◌*ℤ◌, ◌≤ℤ◌, [], ◌∷◌}
 use Rattle.std.proofs.lemmas.Int.{ints}
-use Rattle.exact_math.proofs.IntLaws.{mul_assoc, mul_add, mul_left_comm}
+use Rattle.book_model.proofs.IntLaws.{mul_assoc, mul_add, mul_left_comm}
 use lib.IntN.{neg_ℤ}
-use Rattle.exact_math.specs.Fraction.{Fraction, ◌≤F◌, whole, plus, opposite, times, reciprocal}
-use Rattle.exact_math.specs.Interval.{Interval, between, ◌⊆◌, one}
-use Rattle.exact_math.proofs.Ring.{at, lit, ◌⊕◌, ◌⊖◌, ◌⊗◌, minus}
-use Rattle.exact_math.proofs.Fractions.{le_refl, le_trans, plus_mono, opposite_mono, IsPositive, positive_above, reciprocal_anti_positive}
-use Rattle.exact_math.proofs.Certificates.{zero_F, ◌≼◌, ◌≗◌, known, multiple, square, ◌⊞◌, ◌⊠◌, natural, le_by, le_over}
+use Rattle.book_model.specs.Fraction.{Fraction, ◌≤F◌, whole, plus, opposite, times, reciprocal}
+use Rattle.book_model.specs.Interval.{Interval, between, ◌⊆◌, one}
+use Rattle.book_model.proofs.Ring.{at, lit, ◌⊕◌, ◌⊖◌, ◌⊗◌, minus}
+use Rattle.book_model.proofs.Fractions.{le_refl, le_trans, plus_mono, opposite_mono, IsPositive, positive_above, reciprocal_anti_positive}
+use Rattle.book_model.proofs.Certificates.{zero_F, ◌≼◌, ◌≗◌, known, multiple, square, ◌⊞◌, ◌⊠◌, natural, le_by, le_over}
 use Rattle.book_model.specs.programs.Leading.{units_of_56}
 use Rattle.book_model.specs.numbers.Arcs.{half, minus_half, arc_above, arc_beyond, mirrored}
 use Rattle.book_model.proofs.ArcPieces.{InPiece, recip_one, recip_nonneg, turned, sum_positive, turned_in, three_positive, recip_in, opposite_three}

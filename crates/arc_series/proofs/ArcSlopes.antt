@@ -1,15 +1,15 @@
 -- Arctangents in degrees rise by at most 57.3 times what their numbers do, in each piece of the line.
 use Rattle.std.proofs.Common.{◌≡◌, suc, refl, arith, pos, negsuc, Bool, true, false, cond, [], ◌∷◌}
 use Rattle.std.proofs.lemmas.Int.{ints}
-use Rattle.exact_math.specs.Fraction.{Fraction, ◌≤F◌, whole, plus, opposite, times, reciprocal, is_at_most}
-use Rattle.exact_math.specs.Fraction.{size, power}
-use Rattle.exact_math.specs.Interval.{Interval, everything, between, IsProper, ◌⊆◌, sum, negative, product, one, greatest}
-use Rattle.exact_math.specs.Sums.{alternating, lower, upper}
-use Rattle.exact_math.proofs.Ring.{at, lit, ◌⊕◌, ◌⊖◌, ◌⊗◌, minus}
-use Rattle.exact_math.proofs.Fractions.{le_trans, opposite_mono, at_most_true, reciprocal_anti_positive}
-use Rattle.exact_math.proofs.Intervals.{least_below, greatest_above}
-use Rattle.exact_math.proofs.Hulls.{true_at_most}
-use Rattle.exact_math.proofs.Certificates.{zero_F, ◌≼◌, ◌≗◌, known, multiple, ◌⊞◌, ◌⊠◌, natural, le_by, le_over}
+use Rattle.book_model.specs.Fraction.{Fraction, ◌≤F◌, whole, plus, opposite, times, reciprocal, is_at_most}
+use Rattle.book_model.specs.Fraction.{size, power}
+use Rattle.book_model.specs.Interval.{Interval, everything, between, IsProper, ◌⊆◌, sum, negative, product, one, greatest}
+use Rattle.book_model.specs.Sums.{alternating, lower, upper}
+use Rattle.book_model.proofs.Ring.{at, lit, ◌⊕◌, ◌⊖◌, ◌⊗◌, minus}
+use Rattle.book_model.proofs.Fractions.{le_trans, opposite_mono, at_most_true, reciprocal_anti_positive}
+use Rattle.book_model.proofs.Intervals.{least_below, greatest_above}
+use Rattle.book_model.proofs.Hulls.{true_at_most}
+use Rattle.book_model.proofs.Certificates.{zero_F, ◌≼◌, ◌≗◌, known, multiple, ◌⊞◌, ◌⊠◌, natural, le_by, le_over}
 use Rattle.book_model.specs.numbers.Series.{arctan_term, arctan_at}
 use Rattle.book_model.specs.numbers.Octants.{only}
 use Rattle.book_model.specs.numbers.Arcs.{half, arctan_series, radian_at, arc_near, arc_above, arc_beyond}

@@ -3,16 +3,16 @@ use Rattle.std.proofs.Common.{◌≡◌, ℕ, zero, suc, ◌+◌, ◌*◌, ◌/�
 use Rattle.std.proofs.Common.{◌-ℤ◌, ◌*ℤ◌, ◌≤ℤ◌, [], ◌∷◌}
 use Rattle.std.proofs.lemmas.Int.{ints}
 use lib.IntN.{neg_ℤ}
-use Rattle.exact_math.specs.Fraction.{Fraction, ◌≤F◌, ◌≈◌, whole, plus, opposite, times, size, reciprocal, power, is_at_most, smaller, larger}
-use Rattle.exact_math.specs.Interval.{Interval, between, ◌⊆◌, sum, negative, product, quotient, least, greatest}
-use Rattle.exact_math.specs.Sums.{one_over, twice, alternating, lower, upper}
-use Rattle.exact_math.proofs.Ring.{at, lit, ◌⊕◌, ◌⊖◌, ◌⊗◌, minus}
-use Rattle.exact_math.proofs.Fractions.{le_refl, le_trans, at_most_true}
-use Rattle.exact_math.proofs.Same.{same_refl, le_of_same, ge_of_same}
-use Rattle.exact_math.proofs.Hulls.{true_at_most}
-use Rattle.exact_math.proofs.Intervals.{within_trans, within_refl, negative_within, product_within, quotient_within, least_is, greatest_is}
-use Rattle.exact_math.proofs.Certificates.{zero_F, ◌≼◌, ◌≗◌, known, multiple, ◌⊞◌, ◌⊠◌, natural, le_by, same_given}
-use Rattle.exact_math.proofs.Alternating.{size_same}
+use Rattle.book_model.specs.Fraction.{Fraction, ◌≤F◌, ◌≈◌, whole, plus, opposite, times, size, reciprocal, power, is_at_most, smaller, larger}
+use Rattle.book_model.specs.Interval.{Interval, between, ◌⊆◌, sum, negative, product, quotient, least, greatest}
+use Rattle.book_model.specs.Sums.{one_over, twice, alternating, lower, upper}
+use Rattle.book_model.proofs.Ring.{at, lit, ◌⊕◌, ◌⊖◌, ◌⊗◌, minus}
+use Rattle.book_model.proofs.Fractions.{le_refl, le_trans, at_most_true}
+use Rattle.book_model.proofs.Same.{same_refl, le_of_same, ge_of_same}
+use Rattle.book_model.proofs.Hulls.{true_at_most}
+use Rattle.book_model.proofs.Intervals.{within_trans, within_refl, negative_within, product_within, quotient_within, least_is, greatest_is}
+use Rattle.book_model.proofs.Certificates.{zero_F, ◌≼◌, ◌≗◌, known, multiple, ◌⊞◌, ◌⊠◌, natural, le_by, same_given}
+use Rattle.book_model.proofs.Alternating.{size_same}
 use Rattle.book_model.specs.programs.Leading.{units_of_56}
 use Rattle.book_model.specs.numbers.Octants.{only}
 use Rattle.book_model.specs.numbers.Series.{arctan_term, arctan_at, double, scaled, pi_at}
@@ -20,10 +20,10 @@ use Rattle.book_model.specs.numbers.Arcs.{half, minus_half, arctan_series, radia
 use Rattle.book_model.proofs.Terms.{IsUpTo, arctan_halving, arctan_rising}
 use Rattle.book_model.proofs.Pi.{pi_at_least, pi_proper}
 use Rattle.book_model.proofs.ArcSeries.{InHalf, series_nests, series_proper, degrees_proper}
-use Rattle.rounded_quotients.specs.Units.{at_64, IsWithinUnits}
+use Rattle.encl_core.specs.Units.{at_64, IsWithinUnits}
 use Rattle.arc_series.specs.Kernel.{IsNumber, IsSquare, nested}
-use Rattle.rounded_quotients.proofs.HighHalves.{unit, unit_nonneg, at_more, at_less, IsHigh, high_is, high_small, product_is, high_below, high_above}
-use Rattle.rounded_quotients.proofs.HighHalves.{count_nonneg}
+use Rattle.encl_core.proofs.HighHalves.{unit, unit_nonneg, at_more, at_less, IsHigh, high_is, high_small, product_is, high_below, high_above}
+use Rattle.encl_core.proofs.HighHalves.{count_nonneg}
 use Rattle.arc_series.proofs.KernelSteps.{count_whole, square_near, product_above, product_below}
 
 -- ---- Horner's form

@@ -4,10 +4,10 @@ use Rattle.std.specs.Int.{int_min, int_max}
 use Rattle.std.proofs.lemmas.Int.{ints, clamps}
 use Rattle.std.proofs.Math.Nat.{mul-le-mul_right}
 use lib.IntN.{neg_ℤ}
-use Rattle.exact_math.specs.Fraction.{plus}
-use Rattle.exact_math.specs.Interval.{Interval, everything, between, ◌⊆◌}
-use Rattle.exact_math.proofs.Fractions.{le_trans, le_refl, plus_mono}
-use Rattle.exact_math.proofs.Floors.{IsFloorQuotient, floor_quotient_is}
+use Rattle.book_model.specs.Fraction.{plus}
+use Rattle.book_model.specs.Interval.{Interval, everything, between, ◌⊆◌}
+use Rattle.book_model.proofs.Fractions.{le_trans, le_refl, plus_mono}
+use Rattle.book_model.proofs.Floors.{IsFloorQuotient, floor_quotient_is}
 use Rattle.book_model.specs.programs.Leading.{units_of_56}
 use Rattle.book_model.specs.numbers.Bounds.{Bound, unbounded, bounded, Limits, Reach, Spans, IsNarrow, bound_of, ceil_div, at_radians, arc_from, least_arc}
 use Rattle.book_model.specs.numbers.Bounds.{greatest_arc, arc_spans, arctangent_bound, spanned_bound}

@@ -7,15 +7,15 @@ use Rattle.std.proofs.lemmas.Int.{ints, clamps}
 use Rattle.std.proofs.lemmas.Bool.{lt-ltb}
 use Rattle.std.proofs.Math.Nat.{mul-le-mul, mul-le-mul_left, le_of_mul-le-mul_right}
 use lib.IntN.{neg_ℤ}
-use Rattle.exact_math.specs.Fraction.{Fraction, ◌≤F◌, plus, floor_quotient}
-use Rattle.exact_math.specs.Interval.{Interval, everything, between}
-use Rattle.exact_math.proofs.Fractions.{le_trans, plus_mono, le_refl}
-use Rattle.exact_math.proofs.IntLaws.{add_mul}
-use Rattle.exact_math.proofs.Floors.{floor_quotient_is, floor_quotient_mono}
+use Rattle.book_model.specs.Fraction.{Fraction, ◌≤F◌, plus, floor_quotient}
+use Rattle.book_model.specs.Interval.{Interval, everything, between}
+use Rattle.book_model.proofs.Fractions.{le_trans, plus_mono, le_refl}
+use Rattle.book_model.proofs.IntLaws.{add_mul}
+use Rattle.book_model.proofs.Floors.{floor_quotient_is, floor_quotient_mono}
 use Rattle.book_model.specs.programs.Widths.{IsWithin}
 use Rattle.book_model.specs.numbers.Bounds.{bounded, IsNarrow, at_32, breadth, ceil_div, ceil_quotient, floor_at_32, ceil_at_32, limits_at, quotient_bound}
 use Rattle.book_model.specs.numbers.Bounds.{least_quotient}
-use Rattle.greatest_widths.proofs.Measuring.{looser, remeasured}
+use Rattle.encl_core.proofs.Measuring.{looser, remeasured}
 use Rattle.arc_series.specs.Widths.{IsRateFrom, slow_width}
 use Rattle.arc_series.proofs.ArcWidths.{ceil_above}
 

@@ -2,9 +2,9 @@
 use Rattle.std.proofs.Common.{◌≡◌, ◌≤◌, ◌+◌, ◌-◌, ◌*◌, ◌^◌, refl, arith, true, ℕ, ℤ, pos, ◌≤ℤ◌, if◌then◌else◌, ◌==◌}
 use Rattle.std.proofs.lemmas.Int.{ints}
 use lib.IntN.{neg_ℤ}
-use Rattle.exact_math.specs.Fraction.{◌≤F◌}
-use Rattle.exact_math.specs.Interval.{Interval, everything, between, ◌⊆◌}
-use Rattle.exact_math.proofs.Fractions.{le_trans}
+use Rattle.book_model.specs.Fraction.{◌≤F◌}
+use Rattle.book_model.specs.Interval.{Interval, everything, between, ◌⊆◌}
+use Rattle.book_model.proofs.Fractions.{le_trans}
 use Rattle.book_model.specs.programs.Leading.{units_of_56}
 use Rattle.book_model.specs.programs.Widths.{IsWithin, IsAbout}
 use Rattle.book_model.specs.numbers.Bounds.{Bound, bounded, Reach, IsNarrow, at_32, limits_of, limits_at, bound_of, implies, integer_bound, difference_bound}
@@ -12,7 +12,7 @@ use Rattle.book_model.specs.numbers.Bounds.{quotient_bound, arctangent_bound, ar
 use Rattle.book_model.specs.numbers.Expressions.{Expression, argument, integer, subtract, divide, arctangent}
 use Rattle.book_model.specs.numbers.Relations.{Narrow, Keeps}
 use Rattle.book_model.proofs.Implying.{limits_within}
-use Rattle.greatest_widths.proofs.Measuring.{measured, measured_argument, sloped, looser}
+use Rattle.encl_core.proofs.Measuring.{measured, measured_argument, sloped, looser}
 use Rattle.arc_series.specs.Widths.{IsRateFrom, slow_width}
 use Rattle.arc_series.proofs.BoxQuotients.{low_of, high_of, tight_is, tight_kept, IsCornered, cornered}
 

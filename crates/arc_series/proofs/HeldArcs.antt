@@ -5,12 +5,12 @@ use Rattle.std.specs.Prelude.{IfSome}
 use Rattle.std.specs.List.{filter}
 use Rattle.std.specs.Int.{int_min, int_max}
 use Rattle.std.proofs.lemmas.Int.{ints, clamps}
-use Rattle.exact_math.specs.Fraction.{Fraction, ◌≤F◌, ◌≈◌, whole, smaller, larger}
-use Rattle.exact_math.specs.Interval.{Interval, between, ◌⊆◌}
-use Rattle.exact_math.proofs.Same.{same_of_le}
-use Rattle.exact_math.proofs.Fractions.{le_trans, smaller_keeps, larger_keeps, smaller_first, smaller_second, larger_first, larger_second}
-use Rattle.exact_math.proofs.Intervals.{within_trans}
-use Rattle.exact_math.proofs.Hulls.{hull_least}
+use Rattle.book_model.specs.Fraction.{Fraction, ◌≤F◌, ◌≈◌, whole, smaller, larger}
+use Rattle.book_model.specs.Interval.{Interval, between, ◌⊆◌}
+use Rattle.book_model.proofs.Same.{same_of_le}
+use Rattle.book_model.proofs.Fractions.{le_trans, smaller_keeps, larger_keeps, smaller_first, smaller_second, larger_first, larger_second}
+use Rattle.book_model.proofs.Intervals.{within_trans}
+use Rattle.book_model.proofs.Hulls.{hull_least}
 use Rattle.book_model.specs.programs.Leading.{units_of_56}
 use Rattle.book_model.specs.numbers.Octants.{only}
 use Rattle.book_model.specs.numbers.Arcs.{half, minus_half, Piece as ArcPiece, pieces, meets, arc_of_part, arcs_over, arctangent_of}

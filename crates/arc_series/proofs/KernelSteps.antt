@@ -1,15 +1,15 @@
 -- One step of Horner's form in 64 bits keeps what is near, and so do the square before it and the product after it.
 use Rattle.std.proofs.Common.{ℕ, suc, ◌*◌, ◌-◌, ◌^◌, ◌≤◌, refl, arith, ℤ, pos, negsuc, ◌+ℤ◌, ◌-ℤ◌, ◌≤ℤ◌, [], ◌∷◌}
 use Rattle.std.proofs.lemmas.Int.{ints}
-use Rattle.exact_math.specs.Fraction.{Fraction, ◌≤F◌, whole, plus, opposite, times}
-use Rattle.exact_math.specs.Sums.{one_over}
-use Rattle.exact_math.proofs.Ring.{at, lit, ◌⊕◌, ◌⊖◌, ◌⊗◌}
-use Rattle.exact_math.proofs.Fractions.{le_trans}
-use Rattle.exact_math.proofs.Same.{le_of_same, ge_of_same}
-use Rattle.exact_math.proofs.Certificates.{zero_F, ◌≼◌, ◌≗◌, known, multiple, ◌⊞◌, ◌⊠◌, natural, le_by, le_over}
-use Rattle.rounded_quotients.specs.Units.{at_64, IsWithinUnits}
-use Rattle.rounded_quotients.proofs.HighHalves.{unit, unit_nonneg, at_is, at_more, at_less, IsHigh, product_is, high_below, high_above, half_of, count_nonneg}
-use Rattle.rounded_quotients.proofs.HighHalves.{from_at, to_more, from_less, rest_is}
+use Rattle.book_model.specs.Fraction.{Fraction, ◌≤F◌, whole, plus, opposite, times}
+use Rattle.book_model.specs.Sums.{one_over}
+use Rattle.book_model.proofs.Ring.{at, lit, ◌⊕◌, ◌⊖◌, ◌⊗◌}
+use Rattle.book_model.proofs.Fractions.{le_trans}
+use Rattle.book_model.proofs.Same.{le_of_same, ge_of_same}
+use Rattle.book_model.proofs.Certificates.{zero_F, ◌≼◌, ◌≗◌, known, multiple, ◌⊞◌, ◌⊠◌, natural, le_by, le_over}
+use Rattle.encl_core.specs.Units.{at_64, IsWithinUnits}
+use Rattle.encl_core.proofs.HighHalves.{unit, unit_nonneg, at_is, at_more, at_less, IsHigh, product_is, high_below, high_above, half_of, count_nonneg}
+use Rattle.encl_core.proofs.HighHalves.{from_at, to_more, from_less, rest_is}
 use Rattle.arc_series.specs.Kernel.{IsCut, IsNumber, IsSquare, nested}
 
 unit_small : unit ≤F whole (pos 1)

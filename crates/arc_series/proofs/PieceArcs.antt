@@ -3,10 +3,10 @@ use Rattle.std.specs.Prelude.{unsigned_abs}
 use Rattle.std.proofs.Common.{◌≡◌, ℕ, zero, suc, ◌≤◌, ◌-◌, ◌*◌, ◌+◌, ◌^◌, refl, arith, ℤ, pos, negsuc, ◌+ℤ◌, ◌-ℤ◌, ◌≤ℤ◌}
 use Rattle.std.proofs.lemmas.Int.{ints}
 use lib.IntN.{neg_ℤ}
-use Rattle.exact_math.specs.Fraction.{Fraction, ◌≈◌, whole, plus, opposite, times, reciprocal}
-use Rattle.exact_math.proofs.Same.{same_trans, opposite_cong}
-use Rattle.exact_math.specs.Interval.{Interval, between, ◌⊆◌, sum, negative, difference}
-use Rattle.exact_math.proofs.Intervals.{within_trans, within_refl, negative_within, sum_within}
+use Rattle.book_model.specs.Fraction.{Fraction, ◌≈◌, whole, plus, opposite, times, reciprocal}
+use Rattle.book_model.proofs.Same.{same_trans, opposite_cong}
+use Rattle.book_model.specs.Interval.{Interval, between, ◌⊆◌, sum, negative, difference}
+use Rattle.book_model.proofs.Intervals.{within_trans, within_refl, negative_within, sum_within}
 use Rattle.book_model.specs.programs.Leading.{units_of_56}
 use Rattle.book_model.specs.numbers.Octants.{only}
 use Rattle.book_model.specs.numbers.Arcs.{arc_near, arc_above, arc_beyond, mirrored}

@@ -2,17 +2,17 @@
 use Rattle.std.proofs.Common.{◌≡◌, ℕ, zero, suc, ◌+◌, ◌*◌, ◌/◌, ◌%◌, ◌-◌, ◌^◌, ◌≤◌, refl, arith, pos, negsuc, ◌≤ℤ◌, [], ◌∷◌}
 use Rattle.std.proofs.lemmas.Int.{ints}
 use Rattle.std.proofs.lemmas.Nat.{div-add-mod', mod_below, div_below, le-div}
-use Rattle.exact_math.specs.Fraction.{Fraction, ◌≤F◌, ◌≈◌, whole, plus, opposite, times, reciprocal}
-use Rattle.exact_math.specs.Interval.{one}
-use Rattle.exact_math.proofs.Ring.{at, lit, ◌⊕◌, ◌⊖◌, ◌⊗◌, minus}
-use Rattle.exact_math.proofs.Fractions.{le_trans}
-use Rattle.exact_math.proofs.Same.{le_of_same, ge_of_same}
-use Rattle.exact_math.proofs.Certificates.{◌≼◌, ◌≗◌, known, multiple, ◌⊞◌, le_by, from_sub, over_natural, same_given}
+use Rattle.book_model.specs.Fraction.{Fraction, ◌≤F◌, ◌≈◌, whole, plus, opposite, times, reciprocal}
+use Rattle.book_model.specs.Interval.{one}
+use Rattle.book_model.proofs.Ring.{at, lit, ◌⊕◌, ◌⊖◌, ◌⊗◌, minus}
+use Rattle.book_model.proofs.Fractions.{le_trans}
+use Rattle.book_model.proofs.Same.{le_of_same, ge_of_same}
+use Rattle.book_model.proofs.Certificates.{◌≼◌, ◌≗◌, known, multiple, ◌⊞◌, le_by, from_sub, over_natural, same_given}
 use Rattle.book_model.specs.programs.Leading.{units_of_56}
 use Rattle.book_model.specs.numbers.Arcs.{half}
 use Rattle.book_model.proofs.ArcPieces.{recip_one, turned, sum_positive, three_positive}
 use Rattle.arc_series.specs.Kernel.{IsNumber}
-use Rattle.rounded_quotients.proofs.HighHalves.{unit, product_is, at_is, at_more}
+use Rattle.encl_core.proofs.HighHalves.{unit, product_is, at_is, at_more}
 
 -- ---- a quotient
 -- n over d, rounded down

@@ -1,11 +1,11 @@
 -- The sum of the arctangent's series and its ends rise by no more than the number does, from 0 to 1/2.
 use Rattle.std.proofs.Common.{ℕ, suc, refl, pos, negsuc, [], ◌∷◌}
-use Rattle.exact_math.specs.Fraction.{Fraction, ◌≤F◌, ◌≈◌, plus, power, size}
-use Rattle.exact_math.specs.Sums.{alternating, lower, upper}
-use Rattle.exact_math.proofs.Ring.{at, lit, ◌⊕◌, ◌⊖◌, ◌⊗◌}
-use Rattle.exact_math.proofs.FractionRing.{same_by}
-use Rattle.exact_math.proofs.Certificates.{◌≼◌, ◌≗◌, known, multiple, ◌⊞◌, le_by, le_over}
-use Rattle.exact_math.proofs.Alternating.{beneath, atop, beneath_step, atop_step, tails, beneath_rises, atop_rises, lower_is_beneath, upper_is_atop}
+use Rattle.book_model.specs.Fraction.{Fraction, ◌≤F◌, ◌≈◌, plus, power, size}
+use Rattle.book_model.specs.Sums.{alternating, lower, upper}
+use Rattle.book_model.proofs.Ring.{at, lit, ◌⊕◌, ◌⊖◌, ◌⊗◌}
+use Rattle.book_model.proofs.FractionRing.{same_by}
+use Rattle.book_model.proofs.Certificates.{◌≼◌, ◌≗◌, known, multiple, ◌⊞◌, le_by, le_over}
+use Rattle.book_model.proofs.Alternating.{beneath, atop, beneath_step, atop_step, tails, beneath_rises, atop_rises, lower_is_beneath, upper_is_atop}
 use Rattle.book_model.specs.numbers.Series.{arctan_term}
 use Rattle.book_model.proofs.Terms.{IsUpTo, arctan_halving, arctan_rising}
 

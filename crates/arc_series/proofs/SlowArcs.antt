@@ -4,13 +4,13 @@ use Rattle.std.proofs.Common.{◌≡◌, ◌≤◌, ◌+◌, ◌-◌, ◌*◌, �
 use Rattle.std.proofs.lemmas.Int.{ints, clamps}
 use Rattle.std.proofs.Math.Nat.{mul-le-mul, mul-le-mul_left, mul-le-mul_right}
 use lib.IntN.{neg_ℤ}
-use Rattle.exact_math.specs.Interval.{Interval, everything, between, ◌⊆◌}
-use Rattle.exact_math.proofs.IntLaws.{add_mul}
+use Rattle.book_model.specs.Interval.{Interval, everything, between, ◌⊆◌}
+use Rattle.book_model.proofs.IntLaws.{add_mul}
 use Rattle.book_model.specs.programs.Leading.{units_of_56}
 use Rattle.book_model.specs.programs.Widths.{IsWithin, IsAbout}
 use Rattle.book_model.specs.numbers.Bounds.{Bound, bounded, IsNarrow, ceil_div, limits_of, spanned_bound}
 use Rattle.book_model.proofs.Implying.{limits_within}
-use Rattle.greatest_widths.proofs.Measuring.{looser}
+use Rattle.encl_core.proofs.Measuring.{looser}
 use Rattle.encl_core.specs.declared.span.Span.{Span}
 use Rattle.arc_series.specs.Widths.{IsRate, IsRateFrom, slow_width, IsOver}
 use Rattle.arc_series.proofs.PieceArcs.{size_above}

@@ -1,6 +1,6 @@
 -- The pieces of the line as the code names them, what spans hold, and the form of an arcsine.
 use Rattle.std.specs.Prelude.{◌-◌, ◌*◌, ◌^◌, ℤ, pos, negsuc, neg_ℤ, Option, Some, None, List, [], ◌∷◌, Bool, false, ◌||◌}
-use Rattle.exact_math.specs.Interval.{Interval, everything, between, ◌⊆◌}
+use Rattle.book_model.specs.Interval.{Interval, everything, between, ◌⊆◌}
 use lib.Signed.{lt_z}
 use Rattle.book_model.specs.programs.Leading.{units_of_56}
 use Rattle.book_model.specs.numbers.Arcs.{Piece as ArcPiece, far_below, below, near, above, far_above}

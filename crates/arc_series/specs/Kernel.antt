@@ -1,9 +1,9 @@
 -- Numbers in 64 bits that are near a fraction; all count 2^-64.
 use Rattle.std.specs.Prelude.{ℕ, zero, suc, neg_ℤ, ◌^◌, ℤ, pos, ◌+ℤ◌, ◌≤ℤ◌}
-use Rattle.exact_math.specs.Fraction.{Fraction, ◌≤F◌, plus, opposite, times}
-use Rattle.exact_math.specs.Sums.{one_over}
+use Rattle.book_model.specs.Fraction.{Fraction, ◌≤F◌, plus, opposite, times}
+use Rattle.book_model.specs.Sums.{one_over}
 use Rattle.book_model.specs.numbers.Arcs.{half}
-use Rattle.rounded_quotients.specs.Units.{at_64}
+use Rattle.encl_core.specs.Units.{at_64}
 
 -- c is 1 / (d + 1), rounded down
 pub record IsCut (c d : ℕ) : Type 0 where

@@ -2,20 +2,20 @@
 ghost use Rattle.book_model.specs.programs.Calls.{Encloses1, Encloses2};
 ghost use Rattle.std.specs.Prelude.{◌≡◌, ◌≤◌, ◌+◌, ◌*◌, ◌^◌, ℕ, ℤ, pos, IsTrue, false, neg_ℤ};
 ghost use Rattle.std.specs.Int.{int_min, int_max};
-ghost use Rattle.interval_ends.specs.declared.parts.TheConstants.{HALF_TURN};
-ghost use Rattle.exact_math.specs.Interval.{Interval, everything, ◌⊆◌};
+ghost use Rattle.encl_core.specs.parts.TheConstants.{HALF_TURN};
+ghost use Rattle.book_model.specs.Interval.{Interval, everything, ◌⊆◌};
 ghost use Rattle.book_model.specs.numbers.Arcs.{all_around};
 ghost use Rattle.book_model.specs.numbers.Bounds.{is_scale};
 ghost use Rattle.book_model.specs.numbers.Expressions.{arctangent, arcsine, arccosine, arctangent_of_two};
 ghost use Rattle.book_model.specs.programs.Widths.{IsAbout, IsWithin};
-ghost use Rattle.greatest_widths.specs.declared.table.TheConstants.{ARCTANGENT_OF_TWO};
-ghost use Rattle.greatest_widths.specs.Table.{greatest_of};
+ghost use Rattle.encl_core.specs.declared.greatest_widths.TheConstants.{ARCTANGENT_OF_TWO};
+ghost use Rattle.encl_core.specs.GreatestWidths.{greatest_of};
 ghost use Rattle.arc_series.specs.Forms.{half_tangent_of, has_sign};
 ghost use Rattle.arc_series.specs.Widths.{IsRateFrom, slow_width};
 
 use crate::pieces::arctan_over;
+use encl_core::parts::HALF_TURN;
 use encl_core::{Enclosure, Span};
-use interval_ends::parts::HALF_TURN;
 
 /// The arctangent in degrees.
 ///

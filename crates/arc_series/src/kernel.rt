@@ -7,18 +7,17 @@
 //! 39, which are nine of 2⁻⁵⁶, and three products more are cheap. The steps are written out and inlined: no loop, no
 //! table, no bounds.
 ghost use Rattle.std.specs.Prelude.{◌≤◌, ◌*◌, ◌^◌, ℕ, pos, neg_ℤ, ◌*ℤ◌, ◌+ℤ◌, ◌≤ℤ◌};
-ghost use Rattle.exact_math.specs.Fraction.{Fraction, plus, opposite, times};
-ghost use Rattle.exact_math.specs.Interval.{between, ◌⊆◌};
-ghost use Rattle.exact_math.specs.Sums.{one_over};
+ghost use Rattle.book_model.specs.Fraction.{Fraction, plus, opposite, times};
+ghost use Rattle.book_model.specs.Interval.{between, ◌⊆◌};
+ghost use Rattle.book_model.specs.Sums.{one_over};
 ghost use Rattle.book_model.specs.programs.Leading.{units_of_56};
 ghost use Rattle.book_model.specs.numbers.Arcs.{arc_near};
 ghost use Rattle.book_model.specs.numbers.Depth.{DEPTH};
-ghost use Rattle.rounded_quotients.specs.Units.{IsWithinUnits};
+ghost use Rattle.encl_core.specs.Units.{IsWithinUnits};
 ghost use Rattle.arc_series.specs.Kernel.{IsCut, IsSquare, IsNumber, IsArc, IsSmall, nested};
 ghost use Rattle.arc_series.specs.Widths.{IsThin};
 
-use encl_core::Span;
-use rounded_quotients::high_half;
+use encl_core::{Span, high_half};
 
 /// The degrees of a radian, which count 2⁻⁵⁸, rounded down.
 const DEGREES: u64 = 16_514_384_080_961_256_899;

@@ -1,11 +1,11 @@
 //! Arctangents over the closed pieces of the line. All numbers and degrees count 2⁻⁵⁶.
 ghost use Rattle.std.specs.Prelude.{◌≡◌, ℕ, ◌≤◌, ◌+◌, pos, neg_ℤ, ◌≤ℤ◌, ℤ, List, [], ◌∷◌, ◌++◌, IfSome};
-ghost use Rattle.exact_math.specs.Fraction.{Fraction, ◌≈◌, opposite as opposite_of};
-ghost use Rattle.exact_math.specs.Interval.{Interval, between, ◌⊆◌};
+ghost use Rattle.book_model.specs.Fraction.{Fraction, ◌≈◌, opposite as opposite_of};
+ghost use Rattle.book_model.specs.Interval.{Interval, between, ◌⊆◌};
 ghost use Rattle.book_model.specs.numbers.Arcs.{arcs_over, arctangent_of, arc_near, arc_above, arc_beyond};
 ghost use Rattle.book_model.specs.programs.Leading.{units_of_56};
 ghost use Rattle.book_model.specs.numbers.Depth.{DEPTH};
-ghost use Rattle.interval_ends.specs.declared.parts.TheConstants.{HALF, THREE};
+ghost use Rattle.encl_core.specs.parts.TheConstants.{HALF, THREE};
 ghost use Rattle.arc_series.specs.Forms.{piece_of, of_span, AreHeld, begin_56, end_56};
 ghost use Rattle.arc_series.specs.Kernel.{IsSmall};
 ghost use Rattle.arc_series.specs.Widths.{IsThin, Edge, first_edge, last_edge, Reaches, AreOver};
@@ -14,7 +14,7 @@ use crate::kernel::arc_of_number_64;
 use crate::quotients::quotient_64;
 use crate::spans::{hull, less, more, opposite};
 use encl_core::Span;
-use interval_ends::parts::{HALF, NATURAL_ONE, QUARTER, THREE, WIDE_OCTANT};
+use encl_core::parts::{HALF, NATURAL_ONE, QUARTER, THREE, WIDE_OCTANT};
 
 // A list of five, in the definition too, with one hull over those that an interval meets; octants
 // have no end, and so are a range of numbers.

@@ -1,6 +1,6 @@
 //! Quotients in 64 bits.
 ghost use Rattle.std.specs.Prelude.{◌≤◌, ◌*◌, ◌^◌, pos};
-ghost use Rattle.exact_math.specs.Fraction.{Fraction, ◌≈◌, whole, times};
+ghost use Rattle.book_model.specs.Fraction.{Fraction, ◌≈◌, whole, times};
 ghost use Rattle.arc_series.specs.Kernel.{IsNumber};
 
 // Rounded down only; the kernel takes a number that is known to one part.

@@ -1,3 +1,18 @@
+-- the lemmas of exact_math, given on
+pub use Rattle.exact_math.proofs.IntLaws
+pub use Rattle.exact_math.proofs.Ring
+pub use Rattle.exact_math.proofs.Bounds
+pub use Rattle.exact_math.proofs.Fractions
+pub use Rattle.exact_math.proofs.Intervals
+pub use Rattle.exact_math.proofs.Same
+pub use Rattle.exact_math.proofs.FractionRing
+pub use Rattle.exact_math.proofs.Certificates
+pub use Rattle.exact_math.proofs.Floors
+pub use Rattle.exact_math.proofs.Alternating
+pub use Rattle.exact_math.proofs.Ratios
+pub use Rattle.exact_math.proofs.Horner
+pub use Rattle.exact_math.proofs.Hulls
+pub use Rattle.exact_math.proofs.Narrowing
 pub mod Calendars
 pub mod Cells
 pub mod Values

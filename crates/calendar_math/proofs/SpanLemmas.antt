@@ -3,10 +3,10 @@ use Rattle.std.specs.Prelude.{◌≡◌, ℕ, suc, ◌+◌, ◌-◌, ◌*◌, �
 use Rattle.std.proofs.Common.{zero, arith, ap, sym, ◌∙◌, SFits}
 use Rattle.std.specs.Int.{w128}
 use Rattle.std.proofs.lemmas.Int.{ints}
-use Rattle.exact_math.specs.Fraction.{floor_quotient, times, plus, reciprocal, below_product}
-use Rattle.exact_math.proofs.Floors.{floor_quotient_mono}
-use Rattle.exact_math.proofs.Fractions.{den_product}
-use Rattle.exact_math.proofs.IntLaws.{mul_assoc, mul_one}
+use Rattle.book_model.specs.Fraction.{floor_quotient, times, plus, reciprocal, below_product}
+use Rattle.book_model.proofs.Floors.{floor_quotient_mono}
+use Rattle.book_model.proofs.Fractions.{den_product}
+use Rattle.book_model.proofs.IntLaws.{mul_assoc, mul_one}
 use Rattle.std.proofs.Math.Nat.{mul-le-mul_right}
 use Rattle.book_model.specs.calendars.Spans.{ratio, days_of, spans_of, days_of_years, months_of_days, years_of_days, nearest}
 

@@ -2,8 +2,8 @@
 use Rattle.std.specs.Prelude.{◌≡◌, ℤ, pos, negsuc, ◌+ℤ◌, ◌-ℤ◌, ◌*ℤ◌, ◌≤ℤ◌, refl}
 use Rattle.std.proofs.Common.{arith}
 use Rattle.std.proofs.lemmas.Int.{ints}
-use Rattle.exact_math.specs.Fraction.{floor_quotient, times, plus, reciprocal}
-use Rattle.exact_math.proofs.Floors.{floor_quotient_is}
+use Rattle.book_model.specs.Fraction.{floor_quotient, times, plus, reciprocal}
+use Rattle.book_model.proofs.Floors.{floor_quotient_is}
 use Rattle.book_model.specs.calendars.Chinese.{months_between, elapsed_years, days_to_mid_year}
 use Rattle.book_model.specs.calendars.Spans.{days_of, months_of_days, nearest, spans_of}
 use Rattle.calendar_math.proofs.SpanLemmas.{LiesWithin}

@@ -1,7 +1,7 @@
 -- After 400 years, of 146097 days, the calendar repeats itself.
 use Rattle.std.proofs.Common.{◌≡◌, ℤ, pos, ◌+ℤ◌, ◌-ℤ◌, ◌*ℤ◌, arith}
 use Rattle.std.proofs.lemmas.Int.{ints}
-use Rattle.exact_math.proofs.Floors.{floor_quotient_is}
+use Rattle.book_model.proofs.Floors.{floor_quotient_is}
 use Rattle.book_model.specs.calendars.Gregorian.{first_day, year_of_day, IsYearOfDay}
 use Rattle.book_model.proofs.Calendars.{year_is, year_unique}
 

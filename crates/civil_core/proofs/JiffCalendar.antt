@@ -3,7 +3,7 @@ use Rattle.std.specs.Prelude.{◌&&◌, nat_lt, nat_le, ◌≡◌, ◌↔◌, �
 use Rattle.std.proofs.Common.{arith, ap, sym}
 use Rattle.std.proofs.lemmas.Bool.Decides.{nat_tests}
 use Rattle.std.proofs.lemmas.Int.{ints}
-use Rattle.exact_math.proofs.Floors.{floor_quotient_is}
+use Rattle.book_model.proofs.Floors.{floor_quotient_is}
 use Rattle.book_model.specs.calendars.Gregorian.{first_day, year_of_day, IsYearOfDay, is_date, days_in_month, days_of_months, fixed_of}
 use Rattle.book_model.proofs.Calendars.{year_is, year_unique}
 use Rattle.jiff_core.specs.declared.civil.date.Date.{Date}

@@ -13,7 +13,7 @@ use Rattle.book_model.specs.sky.Time.{sidereal_of}
 use Rattle.book_model.proofs.FactRuns.{centuries_few}
 use Rattle.rise_set.proofs.Horizons.{settled_few, obliquity_few}
 use Rattle.book_model.proofs.Leads.{at_most_bind, at_most_more}
-use Rattle.sun_core.proofs.NewYears.{days_few}
+use Rattle.rise_set.proofs.NewYears.{days_few}
 use Rattle.moon_core.proofs.PhaseDays.{phase_day_few_exactly}
 use Rattle.moon_core.proofs.PhaseRanges.{few_if, moon_few, phase_few}
 

@@ -2,7 +2,7 @@
 use Rattle.std.specs.Prelude.{◌≡◌, ℕ, ℤ, ◌≤◌, ◌≤ℤ◌, Ok}
 use Rattle.std.proofs.Common.{arith}
 use Rattle.std.proofs.lemmas.Int.{ints}
-use Rattle.exact_math.specs.Fraction.{whole, ◌≤F◌}
+use Rattle.book_model.specs.Fraction.{whole, ◌≤F◌}
 use Rattle.book_model.specs.numbers.Expressions.{World, value, integer}
 use Rattle.book_model.specs.programs.Leading.{Leads, Exact}
 use Rattle.book_model.specs.programs.Programs.{run, valued, outcome}

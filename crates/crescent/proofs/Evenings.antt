@@ -5,9 +5,9 @@ use Rattle.std.proofs.lemmas.Int.{ints, clamps}
 use Rattle.std.proofs.lemmas.Float.{T_from_true}
 use Rattle.std.specs.Int.{int_min, int_max}
 use Rattle.std.specs.Int.Signed.{le_z, le_z_yes}
-use Rattle.exact_math.specs.Fraction.{floor_quotient}
-use Rattle.exact_math.specs.Interval.{Interval}
-use Rattle.exact_math.proofs.Floors.{floor_quotient_is}
+use Rattle.book_model.specs.Fraction.{floor_quotient}
+use Rattle.book_model.specs.Interval.{Interval}
+use Rattle.book_model.proofs.Floors.{floor_quotient_is}
 use Rattle.book_model.specs.declared.crescent_tables.TheConstants.{CRESCENT_DEPRESSION}
 use Rattle.book_model.specs.declared.frac.Frac.{Frac}
 use Rattle.book_model.specs.declared.sun_tables.TheConstants.{DEGREE_IN_DAYS}
@@ -18,8 +18,8 @@ use Rattle.book_model.specs.numbers.Ranges.{IsInTable}
 use Rattle.book_model.specs.numbers.Relations.{Narrow}
 use Rattle.book_model.specs.programs.Widths.{IsAbout, IsUpTo}
 use Rattle.book_model.specs.sky.Noon.{ahead_of}
-use Rattle.greatest_widths.proofs.Measuring.{measured, sloped, looser, drawn}
-use Rattle.sun_core.specs.Widths.{IsNarrowPlace}
+use Rattle.encl_core.proofs.Measuring.{measured, sloped, looser, drawn}
+use Rattle.rise_set.specs.SunWidths.{IsNarrowPlace}
 use Rattle.rise_set.specs.Widths.{IsDepression}
 use Rattle.rise_set.specs.Altitudes.{IsMoonAngle, IsMoonLatitude, IsLocalSiderealTime}
 use Rattle.crescent.specs.Widths.{IsEvening, IsDatedEvening, IsSiderealTime}

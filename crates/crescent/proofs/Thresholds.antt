@@ -2,14 +2,14 @@
 use Rattle.std.specs.Prelude.{◌≡◌, ℕ, ◌^◌, true, pos, neg_ℤ, refl}
 use Rattle.std.proofs.Common.{arith}
 use Rattle.std.proofs.lemmas.Int.{ints}
-use Rattle.exact_math.specs.Interval.{Interval}
+use Rattle.book_model.specs.Interval.{Interval}
 use Rattle.book_model.specs.declared.crescent_tables.TheConstants.{LEAST_ALTITUDE, LEAST_ARC_OF_LIGHT}
 use Rattle.book_model.specs.numbers.Bounds.{unbounded, bounded, Reach, implies, bound_of, limits_at, limits_of, integer_bound, constant_bound, spanned_bound, sine_spans, cosine_spans}
 use Rattle.book_model.specs.numbers.Expressions.{constant, integer, sine as sine_of, cosine as cosine_of}
 use Rattle.book_model.specs.numbers.Fractions.{fraction_of}
 use Rattle.book_model.specs.numbers.Relations.{Narrow}
 use Rattle.book_model.specs.programs.Widths.{IsAbout}
-use Rattle.greatest_widths.proofs.Measuring.{measured, looser}
+use Rattle.encl_core.proofs.Measuring.{measured, looser}
 use Rattle.rise_set.specs.Altitudes.{IsMoonAngle, IsAltitudeSine}
 use Rattle.crescent.specs.Widths.{IsArcCosine}
 

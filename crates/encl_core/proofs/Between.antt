@@ -2,8 +2,8 @@
 use Rattle.std.specs.Prelude.{◌≡◌, ◌≤ℤ◌, Bool, IsTrue}
 use Rattle.std.proofs.Common.{arith}
 use Rattle.std.proofs.lemmas.Int.{ints}
-use Rattle.exact_math.specs.Interval.{Interval, everything, ◌⊆◌}
-use Rattle.exact_math.proofs.Intervals.{within_trans, within_everything}
+use Rattle.book_model.specs.Interval.{Interval, everything, ◌⊆◌}
+use Rattle.book_model.proofs.Intervals.{within_trans, within_everything}
 use Rattle.encl_core.specs.declared.span.Span.{Span}
 use Rattle.encl_core.specs.Kept.{shown_span}
 

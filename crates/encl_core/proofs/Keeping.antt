@@ -1,7 +1,7 @@
 -- What a run has evaluated, and takes again: a program with no test, or with one, answers from every turn on as it did from one.
 use Rattle.std.proofs.Common.{◌≡◌, ℕ, ℤ, ◌≤◌, true, Option, Some, None, Ok, IfSome, refl}
-use Rattle.exact_math.specs.Interval.{Interval, ◌⊆◌}
-use Rattle.exact_math.proofs.Intervals.{within_trans}
+use Rattle.book_model.specs.Interval.{Interval, ◌⊆◌}
+use Rattle.book_model.proofs.Intervals.{within_trans}
 use Rattle.book_model.specs.declared.site.Site.{Site}
 use Rattle.book_model.specs.numbers.Expressions.{Expression, World, value}
 use Rattle.book_model.specs.numbers.Depth.{DEPTH}

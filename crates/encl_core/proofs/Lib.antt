@@ -1,3 +1,13 @@
+-- of interval_ends, given on
+pub use Rattle.interval_ends.proofs.HighHalves
+pub use Rattle.interval_ends.proofs.Quotients
+pub use Rattle.interval_ends.proofs.Stepping
+pub use Rattle.interval_ends.proofs.Scaling
+pub use Rattle.interval_ends.proofs.Testing
+pub mod Measuring
+pub mod Closing
+pub mod Covering
+pub mod WaveCovers
 pub mod Parted
 pub mod Between
 pub mod Keeping

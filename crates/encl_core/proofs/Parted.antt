@@ -2,10 +2,10 @@
 use Rattle.std.specs.Prelude.{◌≡◌, ℕ, zero, suc, ◌+◌, ◌≤◌, pos, List, length, ◌++◌, slice_index_or, refl}
 use Rattle.std.proofs.Common.{arith}
 use Rattle.std.proofs.lemmas.List.{get_or_append_left, get_or-append-add, length-append}
-use Rattle.exact_math.specs.Fraction.{whole}
-use Rattle.exact_math.specs.Interval.{Interval, everything, between, ◌⊆◌, sum}
-use Rattle.exact_math.proofs.Intervals.{within_trans, within_refl, sum_within}
-use Rattle.exact_math.proofs.Same.{plus_assoc, plus_zero, le_of_same, ge_of_same}
+use Rattle.book_model.specs.Fraction.{whole}
+use Rattle.book_model.specs.Interval.{Interval, everything, between, ◌⊆◌, sum}
+use Rattle.book_model.proofs.Intervals.{within_trans, within_refl, sum_within}
+use Rattle.book_model.proofs.Same.{plus_assoc, plus_zero, le_of_same, ge_of_same}
 use Rattle.book_model.specs.numbers.Expressions.{Expression, World, value, add, exactly}
 use Rattle.book_model.specs.numbers.Relations.{Within, Lies}
 use Rattle.book_model.specs.numbers.Terms.{terms_to, terms_of}

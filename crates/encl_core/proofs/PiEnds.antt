@@ -1,9 +1,9 @@
 -- Pi lies between its neighbours that count 2^-56.
 use Rattle.std.proofs.Common.{ℕ, ◌≤◌, arith}
 use Rattle.std.proofs.lemmas.Int.{ints}
-use Rattle.exact_math.specs.Fraction.{plus}
-use Rattle.exact_math.specs.Interval.{Interval, between, ◌⊆◌}
-use Rattle.exact_math.proofs.Intervals.{within_trans}
+use Rattle.book_model.specs.Fraction.{plus}
+use Rattle.book_model.specs.Interval.{Interval, between, ◌⊆◌}
+use Rattle.book_model.proofs.Intervals.{within_trans}
 use Rattle.book_model.specs.numbers.Bounds.{Bound, Reach, IsNarrow, bound_of, spanned_bound, pi_spans, limits_of}
 use Rattle.book_model.specs.declared.tables.TheConstants.{PI_BELOW, PI_ABOVE}
 use Rattle.book_model.specs.numbers.Expressions.{World, value, pi}

@@ -2,7 +2,7 @@
 use Rattle.std.specs.Prelude.{◌≡◌, ℕ, ◌+◌, ◌*◌, ◌^◌, ◌≤◌, ◌<◌, ℤ, pos, neg_ℤ, nat_lt, true}
 use Rattle.std.proofs.Common.{arith}
 use Rattle.std.proofs.lemmas.Bool.{lt-ltb}
-use Rattle.exact_math.specs.Interval.{Interval}
+use Rattle.book_model.specs.Interval.{Interval}
 use Rattle.book_model.specs.declared.site.Site.{Site}
 use Rattle.book_model.specs.declared.fail.Undecided.{Undecided}
 use Rattle.book_model.specs.declared.fail.Fail.TheVariants.{Undecided as undecided_at}
@@ -11,7 +11,7 @@ use Rattle.book_model.specs.numbers.Expressions.{Expression, argument, remainder
 use Rattle.book_model.specs.numbers.Relations.{Narrow, Keeps}
 use Rattle.book_model.specs.programs.Widths.{IsAbout, IsUpTo, IsClose, most_apart}
 use Rattle.book_model.proofs.Implying.{limits_within}
-use Rattle.greatest_widths.proofs.Closing.{ends_apart, floor_apart, hull_apart, close_ends}
+use Rattle.encl_core.proofs.Closing.{ends_apart, floor_apart, hull_apart, close_ends}
 use Rattle.book_model.specs.programs.Leading.{IsOpenCell, IsOpenComparison}
 use Rattle.book_model.specs.programs.Programs.{integers}
 use Rattle.encl_core.specs.Steps.{IsOpenPeriod}

@@ -2,7 +2,7 @@
 use denote.Struct.Props as facts
 use Rattle.std.specs.Coded.{Unit-prop}
 use Rattle.std.specs.Prelude.{◌≡◌, ℕ, zero, suc, ◌≤◌, ◌+◌, ◌^◌, ℤ, pos, negsuc, ◌≤ℤ◌, Bool, true, false, ◌+ℤ◌}
-use Rattle.exact_math.specs.Interval.{Interval, everything, between, ◌⊆◌, AreWithin}
+use Rattle.book_model.specs.Interval.{Interval, everything, between, ◌⊆◌, AreWithin}
 use Rattle.book_model.specs.numbers.Bounds.{bounded, IsNarrow}
 use Rattle.book_model.specs.numbers.Depth.{DEPTH}
 use Rattle.book_model.specs.numbers.Expressions.{Expression, World, value}

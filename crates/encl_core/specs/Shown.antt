@@ -1,5 +1,5 @@
 -- The intervals that enclosures at scale 2^-36 show.
-use Rattle.exact_math.specs.Interval.{Interval, IsProper}
+use Rattle.book_model.specs.Interval.{Interval, IsProper}
 use Rattle.encl_core.specs.declared.coarse.Coarse.{Coarse}
 use Rattle.interval_ends.specs.Shown.{shown_ends, ends_proper}
 

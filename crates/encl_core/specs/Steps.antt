@@ -1,6 +1,6 @@
 -- What a step of a formula that fails says of its enclosures.
 use Rattle.std.specs.Prelude.{◌≡◌, ℕ, ℤ, None}
-use Rattle.exact_math.specs.Interval.{Interval}
+use Rattle.book_model.specs.Interval.{Interval}
 use Rattle.book_model.specs.declared.site.Site.{Site}
 use Rattle.book_model.specs.declared.fail.Fail.{Fail}
 use Rattle.book_model.specs.declared.fail.Fail.TheVariants.{Undecided, Void}

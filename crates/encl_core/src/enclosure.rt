@@ -1,8 +1,8 @@
 //! The trait of all kinds of enclosures.
 ghost use Rattle.book_model.specs.programs.Calls.{Encloses, Encloses1, Encloses2};
 ghost use Rattle.std.specs.Prelude.{◌≡◌, ◌<◌, ℕ, ℤ, Some, IfOk, IfErr, IfSome, IsSome, IsNone};
-ghost use Rattle.exact_math.specs.Fraction.{whole as whole_number};
-ghost use Rattle.exact_math.specs.Interval.{Interval, everything, between, ◌⊆◌, IsProper, hull as hull_of_intervals};
+ghost use Rattle.book_model.specs.Fraction.{whole as whole_number};
+ghost use Rattle.book_model.specs.Interval.{Interval, everything, between, ◌⊆◌, IsProper, hull as hull_of_intervals};
 ghost use Rattle.book_model.specs.numbers.Fractions.{fraction_of, ten_millionths, daily_ten_millionths};
 ghost use Rattle.book_model.specs.numbers.Expressions.{Expression, World, integer, constant, add as add_of, subtract, multiply, negate, scale, minimum, maximum, hull as hull_of, widen as widen_of, divide, power, root as root_of, clamp as clamp_of, remainder};
 ghost use Rattle.book_model.specs.numbers.Bounds.{Bound, Reach, IsNarrow, spanned_bound, limits_of};

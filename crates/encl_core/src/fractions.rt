@@ -1,13 +1,12 @@
 //! Fractions as ends that count 2⁻³⁶, rounded outwards.
 ghost use Rattle.std.specs.Prelude.{◌≡◌, ℕ, ◌*◌, ◌^◌, ◌<◌};
-ghost use Rattle.exact_math.specs.Interval.{◌⊆◌, between};
+ghost use Rattle.book_model.specs.Interval.{◌⊆◌, between};
 ghost use Rattle.book_model.specs.numbers.Fractions.{fraction_of};
 ghost use Rattle.book_model.specs.numbers.Bounds.{IsNarrow, constant_bound, limits_36};
 ghost use Rattle.interval_ends.specs.Shown.{shown_ends};
 
 use book_model::Frac;
-use interval_ends::{Ends, ends_of, ends_of_fraction};
-use rounded_quotients::{ceil_div, floor_div};
+use interval_ends::{Ends, ceil_div, ends_of, ends_of_fraction, floor_div};
 
 // Where a caller's denominator is a constant, the compiler takes the branch away.
 /// How many times 2³⁶ goes into a denominator; 0, where it leaves a remainder.

@@ -8,13 +8,21 @@
 //! - `Coarse`: the first kind, by ends in 64 bits that count 2⁻³⁶;
 //! - `floor_step`, `less_step` and `wrap_step`: the tests as steps of a formula's program;
 //! - `first_day`: the search for the first day of which a `DayTest` is true;
-//! - `lies_within`: whether an enclosure lies within another.
+//! - `lies_within`: whether an enclosure lies within another;
+//! - `greatest_widths`: how wide the results of formulas are at most, a row for each;
+//! - `parts`, `high_half`, `modulo`, `amod`: of `interval_ends`, given on to the formulas above.
+//!
+//! Widths through tests are said at the scale 2⁻⁵⁶ alone, for all widths of the argument (`Measured` of `Widths.antt`). That a
+//! failure's ends are close doesn't speak of the program, and so passes through `?`. Lemmas lead from the computed bound of an
+//! expression to the width of what is enclosed (`Measuring`, `Covering`, `WaveCovers`), and from the widths of a test's sides to
+//! how far apart its ends lie where it is open (`Closing`).
 #![tactic(auto)]
 
 mod circle;
 mod coarse;
 mod enclosure;
 mod fractions;
+pub mod greatest_widths;
 mod kept_correction;
 mod kept_moon;
 mod kept_moons;
@@ -29,6 +37,7 @@ mod within;
 pub use circle::pi;
 pub use coarse::Coarse;
 pub use enclosure::Enclosure;
+pub use interval_ends::{amod, high_half, modulo, parts};
 pub use search::{DayTest, first_day};
 pub use span::Span;
 pub use steps::{floor_step, less_step, wrap_step};

@@ -1,12 +1,11 @@
 //! The angle of a wave, of ends that count 2⁻³⁶.
 ghost use Rattle.std.specs.Prelude.{◌≡◌, ℕ, pos, neg_ℤ, ◌^◌, ◌*ℤ◌, ◌+ℤ◌, ◌≤ℤ◌};
-ghost use Rattle.exact_math.specs.Interval.{◌⊆◌, sum, product, between};
+ghost use Rattle.book_model.specs.Interval.{◌⊆◌, sum, product, between};
 ghost use Rattle.book_model.specs.numbers.Bounds.{Bound, IsNarrow, sum_bound, constant_bound, scaled_bound, limits_36};
 ghost use Rattle.book_model.specs.numbers.Fractions.{ten_millionths, daily_ten_millionths};
 ghost use Rattle.interval_ends.specs.Shown.{shown_ends};
 
-use interval_ends::{Ends, ends_of};
-use rounded_quotients::{ceil_div, floor_div, sorted};
+use interval_ends::{Ends, ceil_div, ends_of, floor_div, sorted};
 
 /// What a rate of ten-millionths a century is counted by in a day.
 const DAILY: i128 = 365_250_000_000;

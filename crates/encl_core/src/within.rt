@@ -1,6 +1,6 @@
 //! Whether an enclosure lies within another.
 ghost use Rattle.std.specs.Prelude.{◌≡◌, IsTrue};
-ghost use Rattle.exact_math.specs.Interval.{◌⊆◌};
+ghost use Rattle.book_model.specs.Interval.{◌⊆◌};
 ghost use Rattle.encl_core.specs.Kept.{shown_span};
 
 use crate::{Enclosure, Span};

@@ -4,10 +4,10 @@ use Rattle.std.specs.List.{list_all}
 use Rattle.std.proofs.Common.{arith}
 use Rattle.std.proofs.lemmas.Bool.{leb-true}
 use Rattle.std.proofs.lemmas.Int.{ints}
-use Rattle.exact_math.specs.Fraction.{whole, times, power as fraction_power, smaller, larger, is_at_most}
-use Rattle.exact_math.specs.Interval.{Interval, everything, between, ◌⊆◌, IsProper, product, power as interval_power, least, greatest, least_even}
-use Rattle.exact_math.proofs.Fractions.{le_refl}
-use Rattle.exact_math.proofs.Intervals.{within_trans, product_within, power_within, plus_proper}
+use Rattle.book_model.specs.Fraction.{whole, times, power as fraction_power, smaller, larger, is_at_most}
+use Rattle.book_model.specs.Interval.{Interval, everything, between, ◌⊆◌, IsProper, product, power as interval_power, least, greatest, least_even}
+use Rattle.book_model.proofs.Fractions.{le_refl}
+use Rattle.book_model.proofs.Intervals.{within_trans, product_within, power_within, plus_proper}
 use Rattle.book_model.specs.declared.fail.Fail.{Fail}
 use Rattle.book_model.specs.declared.moon_tables.TheConstants.{ECCENTRICITY_FACTOR, MOON_TERMS}
 use Rattle.book_model.specs.declared.moon_terms.MoonTerm.{MoonTerm}

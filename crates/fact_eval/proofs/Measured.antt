@@ -2,7 +2,7 @@
 use Rattle.std.specs.Prelude.{◌≡◌, ℕ, ◌+◌, ◌*◌, ◌^◌, ◌≤◌, true, ℤ, pos, neg_ℤ, refl, if◌then◌else◌, ◌==◌, Result, Ok, Err}
 use Rattle.std.proofs.Common.{arith}
 use Rattle.std.proofs.lemmas.Int.{ints}
-use Rattle.exact_math.specs.Interval.{Interval}
+use Rattle.book_model.specs.Interval.{Interval}
 use Rattle.book_model.specs.declared.fail.Fail.{Fail}
 use Rattle.book_model.specs.declared.sun_tables.TheConstants.{DEGREE_IN_TERMS}
 use Rattle.book_model.specs.declared.tables.TheConstants.{THOUSANDTHS_OF_DEGREE}
@@ -12,7 +12,7 @@ use Rattle.book_model.specs.numbers.Fractions.{fraction_of}
 use Rattle.book_model.specs.numbers.Relations.{Narrow}
 use Rattle.book_model.specs.programs.Widths.{IsAbout, IsCorrection, IsMoment, IsSmall, IsUpTo, Measures, IsDated}
 use Rattle.book_model.specs.sky.Facts.{IsFactDay, IsValueDay}
-use Rattle.greatest_widths.proofs.Measuring.{measured, sloped, looser, moment_about}
+use Rattle.encl_core.proofs.Measuring.{measured, sloped, looser, moment_about}
 use Rattle.moon_core.proofs.QuarterWidths.{whole_moment}
 use Rattle.time_scales.specs.Widths.{IsMidnightDay}
 use Rattle.fact_eval.specs.Widths.{rounded_expression}

@@ -4,13 +4,13 @@ use Rattle.std.proofs.Common.{[], ◌∷◌, arith}
 use Rattle.std.proofs.lemmas.Int.{ints, by_lt_z}
 use Rattle.std.specs.Ordering.{int_eq}
 use Rattle.std.proofs.lemmas.Bool.Decides.{Decides-int_eq}
-use Rattle.exact_math.specs.Fraction.{Fraction, whole, ◌≤F◌, ◌≈◌}
-use Rattle.exact_math.specs.Interval.{Interval, everything, between, IsProper, AreWithin, ◌⊆◌, hull}
-use Rattle.exact_math.proofs.Fractions.{le_trans, lt_le_trans, le_lt_trans, smaller_first, smaller_second, larger_first, larger_second}
-use Rattle.exact_math.proofs.Bounds.{◌≼◌, known, ◌⊠◌, le_by, pos_nonneg}
-use Rattle.exact_math.proofs.Ring.{at, lit, ◌⊗◌}
-use Rattle.exact_math.proofs.Intervals.{within_trans, within_everything}
-use Rattle.exact_math.proofs.Same.{le_of_same, ge_of_same}
+use Rattle.book_model.specs.Fraction.{Fraction, whole, ◌≤F◌, ◌≈◌}
+use Rattle.book_model.specs.Interval.{Interval, everything, between, IsProper, AreWithin, ◌⊆◌, hull}
+use Rattle.book_model.proofs.Fractions.{le_trans, lt_le_trans, le_lt_trans, smaller_first, smaller_second, larger_first, larger_second}
+use Rattle.book_model.proofs.Bounds.{◌≼◌, known, ◌⊠◌, le_by, pos_nonneg}
+use Rattle.book_model.proofs.Ring.{at, lit, ◌⊗◌}
+use Rattle.book_model.proofs.Intervals.{within_trans, within_everything}
+use Rattle.book_model.proofs.Same.{le_of_same, ge_of_same}
 use Rattle.book_model.specs.declared.site.Site.{Site}
 use Rattle.book_model.specs.declared.site.Site.TheVariants.{Year, Zone, SunWrap, MoonWrap, PhaseWrap, PhasePick, MoonNumber, MoonWalk, StepWrap, StartFloor, DayTest, DayFloor, TermFloor, Search, BisectEnd, Bisect, Offset, Settle, Round, Crescent, Sidereal, Rise}
 use Rattle.book_model.specs.numbers.Expressions.{World, value}

@@ -4,9 +4,9 @@ use Rattle.std.specs.List.{list_all}
 use Rattle.std.proofs.Common.{arith}
 use Rattle.std.proofs.lemmas.Bool.{leb-true}
 use Rattle.std.proofs.lemmas.Int.{ints}
-use Rattle.exact_math.specs.Fraction.{whole, times, smaller, larger, is_at_most}
-use Rattle.exact_math.specs.Interval.{between, ◌⊆◌, product, least, greatest}
-use Rattle.exact_math.proofs.Fractions.{at_most_true}
+use Rattle.book_model.specs.Fraction.{whole, times, smaller, larger, is_at_most}
+use Rattle.book_model.specs.Interval.{between, ◌⊆◌, product, least, greatest}
+use Rattle.book_model.proofs.Fractions.{at_most_true}
 use Rattle.book_model.specs.declared.fact.Place.{Place}
 use Rattle.book_model.specs.declared.fact.TheConstants.{PLACES}
 use Rattle.book_model.specs.declared.frac.Frac.{Frac}

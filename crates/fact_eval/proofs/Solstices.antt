@@ -3,9 +3,9 @@
 use Rattle.std.specs.Prelude.{◌≡◌, ℤ, pos, ◌≤ℤ◌, Some}
 use Rattle.std.proofs.Common.{arith}
 use Rattle.std.proofs.lemmas.Int.{ints}
-use Rattle.exact_math.specs.Fraction.{whole, times, smaller, larger, is_at_most}
-use Rattle.exact_math.specs.Interval.{between, ◌⊆◌, product, least, greatest}
-use Rattle.exact_math.proofs.Intervals.{within_trans, product_within, within_refl}
+use Rattle.book_model.specs.Fraction.{whole, times, smaller, larger, is_at_most}
+use Rattle.book_model.specs.Interval.{between, ◌⊆◌, product, least, greatest}
+use Rattle.book_model.proofs.Intervals.{within_trans, product_within, within_refl}
 use Rattle.book_model.specs.declared.calendar_tables.TheConstants.{WINTER}
 use Rattle.book_model.specs.declared.fact.Place.{Place}
 use Rattle.book_model.specs.declared.sun_tables.TheConstants.{DEGREE_IN_TERMS}

@@ -4,10 +4,10 @@ use Rattle.std.specs.Option.{option_map_or}
 use Rattle.std.proofs.Common.{arith, sym}
 use Rattle.std.proofs.lemmas.Int.{ints}
 use lib.Signed.{lt_z}
-use Rattle.exact_math.specs.Fraction.{Fraction, whole, plus, times, smaller, larger, is_at_most}
-use Rattle.exact_math.specs.Interval.{Interval, everything, between, ◌⊆◌, IsProper, one, sum, negative, product, quotient, power, clamp, least, greatest}
-use Rattle.exact_math.proofs.Fractions.{at_most_true, le_refl}
-use Rattle.exact_math.proofs.Intervals.{within_trans, within_refl, product_within, quotient_proper, plus_proper, difference_proper, clamp_proper, power_proper}
+use Rattle.book_model.specs.Fraction.{Fraction, whole, plus, times, smaller, larger, is_at_most}
+use Rattle.book_model.specs.Interval.{Interval, everything, between, ◌⊆◌, IsProper, one, sum, negative, product, quotient, power, clamp, least, greatest}
+use Rattle.book_model.proofs.Fractions.{at_most_true, le_refl}
+use Rattle.book_model.proofs.Intervals.{within_trans, within_refl, product_within, quotient_proper, plus_proper, difference_proper, clamp_proper, power_proper}
 use Rattle.book_model.specs.declared.fail.Fail.{Fail}
 use Rattle.book_model.specs.declared.fact.Place.{Place}
 use Rattle.book_model.specs.declared.horizon.Location.{Location}

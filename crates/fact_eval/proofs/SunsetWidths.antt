@@ -1,7 +1,7 @@
 -- How wide a sunset in minutes is at the scale 2^-56, and that the places of the facts are narrow.
 use Rattle.std.specs.Prelude.{◌≡◌, ℕ, ◌+◌, ◌*◌, ◌^◌, true, pos, neg_ℤ, Option, Some, None, IfSome, refl, if◌then◌else◌, ◌==◌}
 use Rattle.std.proofs.Common.{arith}
-use Rattle.exact_math.specs.Interval.{Interval}
+use Rattle.book_model.specs.Interval.{Interval}
 use Rattle.book_model.specs.declared.fact.Place.{Place}
 use Rattle.book_model.specs.declared.fact.Place.TheVariants.{Tehran}
 use Rattle.book_model.specs.declared.frac.Frac.{Frac}
@@ -16,7 +16,7 @@ use Rattle.book_model.specs.numbers.Relations.{Narrow}
 use Rattle.book_model.specs.programs.Widths.{IsAbout, IsMoment}
 use Rattle.book_model.specs.sky.Names.{location_of}
 use Rattle.book_model.specs.sky.Places.{are_kept_hours}
-use Rattle.greatest_widths.proofs.Measuring.{measured, sloped}
+use Rattle.encl_core.proofs.Measuring.{measured, sloped}
 use Rattle.time_scales.proofs.ZoneWidths.{hours_within}
 use Rattle.rise_set.specs.Widths.{IsNarrowLocation}
 use Rattle.rise_set.proofs.Places.{place_is_narrow}

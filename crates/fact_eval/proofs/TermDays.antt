@@ -2,9 +2,9 @@
 use Rattle.std.specs.Prelude.{◌≡◌, ℕ, ◌≤◌, ℤ, pos, negsuc, ◌+ℤ◌, ◌-ℤ◌, ◌≤ℤ◌, Some, Result, Ok, Err, IfOk}
 use Rattle.std.proofs.Common.{arith}
 use Rattle.std.proofs.lemmas.Int.{ints}
-use Rattle.exact_math.specs.Fraction.{◌≤F◌, whole, times, smaller, larger, is_at_most}
-use Rattle.exact_math.specs.Interval.{Interval, everything, between, ◌⊆◌, product, least, greatest, maximum as interval_maximum}
-use Rattle.exact_math.proofs.Fractions.{le_trans, larger_first, larger_keeps}
+use Rattle.book_model.specs.Fraction.{◌≤F◌, whole, times, smaller, larger, is_at_most}
+use Rattle.book_model.specs.Interval.{Interval, everything, between, ◌⊆◌, product, least, greatest, maximum as interval_maximum}
+use Rattle.book_model.proofs.Fractions.{le_trans, larger_first, larger_keeps}
 use Rattle.book_model.specs.declared.fact.Place.{Place}
 use Rattle.book_model.specs.declared.fail.Fail.{Fail}
 use Rattle.book_model.specs.declared.site.Site.TheVariants.{TermFloor}

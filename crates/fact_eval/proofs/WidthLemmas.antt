@@ -7,11 +7,11 @@ use Rattle.std.proofs.Common.{arith, subst}
 use Rattle.book_model.proofs.Implying.{settled_at}
 use Rattle.std.proofs.lemmas.Int.{ints}
 use Rattle.std.specs.Int.{w64}
-use Rattle.exact_math.specs.Fraction.{Fraction, ◌≤F◌, ◌≈◌, plus, floor}
-use Rattle.exact_math.specs.Interval.{Interval, everything, between}
-use Rattle.exact_math.proofs.Fractions.{le_trans, le_refl, plus_mono}
-use Rattle.exact_math.proofs.Floors.{floor_mono}
-use Rattle.exact_math.proofs.Same.{le_of_same, ge_of_same}
+use Rattle.book_model.specs.Fraction.{Fraction, ◌≤F◌, ◌≈◌, plus, floor}
+use Rattle.book_model.specs.Interval.{Interval, everything, between}
+use Rattle.book_model.proofs.Fractions.{le_trans, le_refl, plus_mono}
+use Rattle.book_model.proofs.Floors.{floor_mono}
+use Rattle.book_model.proofs.Same.{le_of_same, ge_of_same}
 use Rattle.book_model.specs.declared.fail.Fail.{Fail}
 use Rattle.book_model.specs.declared.fail.Fail.TheVariants.{Undecided as undecided_at, Void}
 use Rattle.book_model.specs.declared.site.Site.TheVariants.{Round, Year}

@@ -1,6 +1,6 @@
 -- How many solar terms the sun has passed.
 use Rattle.std.specs.Prelude.{ℕ, ℤ, ◌≤ℤ◌, pos, Result, Ok, Err, IfOk}
-use Rattle.exact_math.specs.Interval.{Interval}
+use Rattle.book_model.specs.Interval.{Interval}
 use Rattle.book_model.specs.declared.fact.Place.{Place}
 use Rattle.book_model.specs.declared.fail.Fail.{Fail}
 use Rattle.book_model.specs.declared.site.Site.{Site}

@@ -8,8 +8,7 @@ ghost use Rattle.book_model.specs.sky.Kinds.{terms_passed_of, major_of};
 use crate::midnights::longitude_at_midnight;
 use book_model::sun_tables::DEGREE_IN_TERMS;
 use book_model::{Fail, Place, Site};
-use encl_core::{Enclosure, Trail, floor_step};
-use rounded_quotients::amod;
+use encl_core::{Enclosure, Trail, amod, floor_step};
 
 /// How many major solar terms the sun has passed since the spring equinox at midnight at the beginning of a day (R.D.) at a
 /// place: three tests at most (`passed_few`).

@@ -9,8 +9,7 @@ ghost use Rattle.fact_eval.specs.Spans.{IsTermCount};
 use crate::midnights::{day_at, longitude_at_midnight};
 use book_model::sun_tables::DEGREE_IN_TERMS;
 use book_model::{Fail, Place, Site};
-use encl_core::{Enclosure, Trail, floor_step};
-use rounded_quotients::modulo;
+use encl_core::{Enclosure, Trail, floor_step, modulo};
 use sun_core::{SunCourse, sun_from_by};
 use time_scales::midnight;
 

@@ -2,7 +2,7 @@
 use Rattle.std.proofs.Common.{◌≡◌, sym, ℤ}
 use Rattle.std.specs.Prelude.{FitsSigned, Some}
 use Rattle.std.specs.Int.{w64}
-use Rattle.exact_math.specs.Interval.{Interval, everything}
+use Rattle.book_model.specs.Interval.{Interval, everything}
 use Rattle.book_model.specs.programs.Leading.{AreEnds, AreNoBounds, no_bounds, IsOpenCell, too_far}
 use Rattle.book_model.specs.programs.Programs.{integers, cell_at}
 

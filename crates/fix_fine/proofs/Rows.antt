@@ -4,19 +4,19 @@ use Rattle.std.specs.Prelude.{neg_ℤ, nat_lt, IfSome, IsSome, ◌-◌, ◌/◌,
 use Rattle.std.specs.Int.{w64, w128, int_min, int_max}
 use Rattle.std.proofs.Math.Nat.{mul-le-mul_left}
 use Rattle.std.proofs.lemmas.Int.{ints, clamps, by_lt_z}
-use Rattle.exact_math.specs.Fraction.{Fraction}
-use Rattle.exact_math.specs.Interval.{Interval, everything, between}
-use Rattle.exact_math.proofs.Ring.{at, lit, ◌⊕◌, ◌⊖◌, ◌⊗◌}
-use Rattle.exact_math.proofs.Bounds.{◌≼◌, known, ◌⊞◌, ◌⊠◌, times as naturally, refute}
+use Rattle.book_model.specs.Fraction.{Fraction}
+use Rattle.book_model.specs.Interval.{Interval, everything, between}
+use Rattle.book_model.proofs.Ring.{at, lit, ◌⊕◌, ◌⊖◌, ◌⊗◌}
+use Rattle.book_model.proofs.Bounds.{◌≼◌, known, ◌⊞◌, ◌⊠◌, times as naturally, refute}
 use Rattle.interval_ends.specs.Scales.{fine, at_scale}
 use Rattle.interval_ends.specs.Rounding.{ShowsEnds, fitting, too_large}
 use Rattle.interval_ends.proofs.Products.{bounded_product}
 use Rattle.std.proofs.lemmas.Bool.{lt-ltb}
-use Rattle.exact_math.specs.Fraction.{◌≤F◌, smaller, larger, floor_quotient}
-use Rattle.exact_math.specs.Interval.{◌⊆◌, hull}
-use Rattle.exact_math.proofs.Fractions.{le_trans, smaller_keeps, larger_keeps, smaller_first, smaller_second, larger_first, larger_second}
+use Rattle.book_model.specs.Fraction.{◌≤F◌, smaller, larger, floor_quotient}
+use Rattle.book_model.specs.Interval.{◌⊆◌, hull}
+use Rattle.book_model.proofs.Fractions.{le_trans, smaller_keeps, larger_keeps, smaller_first, smaller_second, larger_first, larger_second}
 use Rattle.book_model.specs.numbers.Bounds.{Bound, bounded, limited, minimum_bound, maximum_bound, clamp_bound, remainder_bound, integer_bound, IsNarrow, constant_bound, widen_bound, floor_at_32, ceil_at_32, margin_32, range_size}
-use Rattle.rounded_quotients.proofs.Quotients.{floor_quotient_floor}
+use Rattle.encl_core.proofs.Quotients.{floor_quotient_floor}
 use Rattle.interval_ends.specs.Scales.{limits_on}
 use Rattle.interval_ends.specs.Shown.{shown_ends, shown_of, HasEnds}
 use Rattle.interval_ends.specs.declared.ends.Ends.{Ends}

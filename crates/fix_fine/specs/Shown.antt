@@ -1,5 +1,5 @@
 -- The intervals that enclosures at scale 2^-56 show.
-use Rattle.exact_math.specs.Interval.{Interval, IsProper}
+use Rattle.book_model.specs.Interval.{Interval, IsProper}
 use Rattle.fix_fine.specs.declared.fine.Fine.{Fine}
 use Rattle.interval_ends.specs.Shown.{shown_ends, ends_proper}
 

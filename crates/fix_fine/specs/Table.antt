@@ -1,8 +1,8 @@
 -- The widths of fine enclosures, one row for each operation. Ends, sizes and widths count 2^-56.
 use Rattle.std.specs.Prelude.{◌≡◌, ℕ, pos, max, unsigned_abs, ◌+◌, ◌*◌, ◌^◌, ◌<◌, ℤ, ◌+ℤ◌, ◌-ℤ◌, ◌*ℤ◌, ◌≤ℤ◌, ◌<ℤ◌, ◌⊎◌}
 use Rattle.std.specs.Int.{int_min, int_max}
-use Rattle.exact_math.specs.Fraction.{Fraction}
-use Rattle.exact_math.specs.Interval.{Interval, everything, between}
+use Rattle.book_model.specs.Fraction.{Fraction}
+use Rattle.book_model.specs.Interval.{Interval, everything, between}
 
 -- something is known of a number: not that it is any number
 abbrev pub IsKnown : Interval → Type 0

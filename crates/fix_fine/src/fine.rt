@@ -1,7 +1,7 @@
 //! Enclosures by ends in 128 bits, which count 2⁻⁵⁶.
 ghost use Rattle.book_model.specs.programs.Calls.{Encloses, Encloses1, Encloses2};
 ghost use Rattle.std.specs.Prelude.{refl, ◌≡◌, ◌<◌, ℤ, Some, IfOk, IfErr, IsSome};
-ghost use Rattle.exact_math.specs.Interval.{◌⊆◌, hull as hull_of_intervals};
+ghost use Rattle.book_model.specs.Interval.{◌⊆◌, hull as hull_of_intervals};
 ghost use Rattle.book_model.specs.numbers.Fractions.{fraction_of};
 ghost use Rattle.book_model.specs.numbers.Expressions.{Expression, World, integer, constant, scale, widen as widen_of, add as add_of, subtract, multiply, negate, minimum, maximum, hull as hull_of, divide, power, root as root_of, clamp as clamp_of, remainder};
 ghost use Rattle.book_model.specs.numbers.Bounds.{Reach, limits_of};

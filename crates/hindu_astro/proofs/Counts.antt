@@ -2,8 +2,8 @@
 use Rattle.std.specs.Prelude.{◌≡◌, ℤ, pos, negsuc, ◌*ℤ◌, ◌≤ℤ◌, refl}
 use Rattle.std.proofs.Common.{arith}
 use Rattle.std.proofs.lemmas.Int.{ints}
-use Rattle.exact_math.specs.Fraction.{floor_quotient, times}
-use Rattle.exact_math.proofs.Floors.{floor_quotient_is}
+use Rattle.book_model.specs.Fraction.{floor_quotient, times}
+use Rattle.book_model.proofs.Floors.{floor_quotient_is}
 use Rattle.book_model.specs.declared.calendar_tables.TheConstants.{SIDEREAL_YEAR}
 use Rattle.book_model.specs.numbers.Fractions.{fraction_of}
 use Rattle.book_model.specs.calendars.Spans.{days_of, ratio}

@@ -2,9 +2,9 @@
 use Rattle.std.specs.Prelude.{◌≡◌, ℕ, ◌+◌, ◌*◌, ◌≤◌, ℤ, pos, neg_ℤ, Some, Result, Ok, Err, IfOk, ◌+ℤ◌}
 use Rattle.std.proofs.Common.{arith}
 use Rattle.std.proofs.lemmas.Int.{ints}
-use Rattle.exact_math.specs.Fraction.{whole, times, smaller, larger, is_at_most}
-use Rattle.exact_math.specs.Interval.{Interval, between, ◌⊆◌, IsProper, product, least, greatest}
-use Rattle.exact_math.proofs.Fractions.{le_refl}
+use Rattle.book_model.specs.Fraction.{whole, times, smaller, larger, is_at_most}
+use Rattle.book_model.specs.Interval.{Interval, between, ◌⊆◌, IsProper, product, least, greatest}
+use Rattle.book_model.proofs.Fractions.{le_refl}
 use Rattle.book_model.specs.declared.calendar_tables.TheConstants.{HINDU_EPOCH}
 use Rattle.book_model.specs.declared.fail.Fail.{Fail}
 use Rattle.book_model.specs.declared.site.Site.TheVariants.{Round, Sidereal}

@@ -3,7 +3,7 @@ use Rattle.std.specs.Prelude.{◌≡◌, ℕ, ◌+◌, ◌*◌, ◌^◌, true, �
 use Rattle.std.proofs.Common.{arith}
 use Rattle.std.proofs.lemmas.Int.{ints}
 use Rattle.std.proofs.lemmas.Bool.{lt-ltb}
-use Rattle.exact_math.specs.Interval.{Interval}
+use Rattle.book_model.specs.Interval.{Interval}
 use Rattle.book_model.specs.declared.fact.TheConstants.{LAST_FACT_DAY}
 use Rattle.book_model.specs.declared.sun_tables.TheConstants.{DEGREE_IN_LUNAR_DAYS, DEGREE_IN_SIGNS}
 use Rattle.book_model.specs.declared.tables.TheConstants.{HALF}
@@ -15,7 +15,7 @@ use Rattle.book_model.specs.programs.Widths.{IsAbout, IsMoment, IsUpTo, IsDated,
 use Rattle.book_model.specs.sky.Sidereal.{years_gone_of}
 use Rattle.book_model.proofs.Implying.{limits_within}
 use Rattle.rise_set.specs.declared.hindu.TheConstants.{FIRST_HINDU_DAY}
-use Rattle.greatest_widths.proofs.Measuring.{measured, sloped, looser}
+use Rattle.encl_core.proofs.Measuring.{measured, sloped, looser}
 use Rattle.book_model.specs.declared.time_tables.TheConstants.{RECENT_START, TABLE_END}
 
 -- ---- parts of a turn

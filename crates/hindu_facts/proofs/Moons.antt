@@ -1,8 +1,8 @@
 -- The first new moon from a moment on doesn't lie before it.
 use Rattle.std.specs.Prelude.{◌≡◌, ℕ, zero, suc, not, cond, Bool, true, false, Option, Some, None, ℤ, pos, ◌+ℤ◌, if◌then◌else◌, refl, ◌-ℤ◌}
-use Rattle.exact_math.specs.Fraction.{is_at_most}
-use Rattle.exact_math.specs.Interval.{Interval, everything, between, IsProper}
-use Rattle.exact_math.proofs.Fractions.{le_trans, at_most_true}
+use Rattle.book_model.specs.Fraction.{is_at_most}
+use Rattle.book_model.specs.Interval.{Interval, everything, between, IsProper}
+use Rattle.book_model.proofs.Fractions.{le_trans, at_most_true}
 use Rattle.book_model.specs.declared.site.Site.TheVariants.{MoonWalk}
 use Rattle.book_model.specs.declared.time_tables.TheConstants.{TABLE_START, TABLE_END}
 use Rattle.book_model.specs.numbers.Expressions.{Expression, World, value}

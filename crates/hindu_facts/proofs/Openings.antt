@@ -1,6 +1,6 @@
 -- Which failures are at the year: an open rounding is none, and a year that is open of a whole day there isn't.
 use Rattle.std.specs.Prelude.{ℕ, ◌≤◌, ℤ, Result, Ok, Err, IfErr}
-use Rattle.exact_math.specs.Interval.{Interval}
+use Rattle.book_model.specs.Interval.{Interval}
 use Rattle.book_model.specs.declared.fail.Fail.{Fail}
 use Rattle.book_model.specs.declared.fail.Fail.TheVariants.{Undecided as undecided_at, Void}
 use Rattle.book_model.specs.declared.site.Site.TheVariants.{Round}

@@ -1,9 +1,9 @@
 -- Products and quotients of numbers within ranges lie between those of the ranges' ends.
 use Rattle.std.proofs.Common.{◌≡◌, ℕ, suc, ◌-◌, ◌^◌, refl, arith, Bool, true, false, cond, int_le, neg_ℤ, ℤ, pos, ◌+ℤ◌, ◌*ℤ◌, ◌-ℤ◌, ◌≤ℤ◌, ◌<ℤ◌, [], ◌∷◌}
 use Rattle.std.proofs.lemmas.Int.{ints, clamps, by_lt_z}
-use Rattle.exact_math.specs.Fraction.{floor_quotient}
-use Rattle.exact_math.proofs.Ring.{at, lit, ◌⊕◌, ◌⊖◌, ◌⊗◌}
-use Rattle.exact_math.proofs.Bounds.{◌≼◌, known, ◌⊞◌, ◌⊠◌, times as naturally, square, le_by, refute}
+use Rattle.book_model.specs.Fraction.{floor_quotient}
+use Rattle.book_model.proofs.Ring.{at, lit, ◌⊕◌, ◌⊖◌, ◌⊗◌}
+use Rattle.book_model.proofs.Bounds.{◌≼◌, known, ◌⊞◌, ◌⊠◌, times as naturally, square, le_by, refute}
 use Rattle.book_model.specs.numbers.Bounds.{least_corner, greatest_corner, floor_of_product, ceil_of_product, least_square, greatest_square, ceil_quotient, least_quotient, greatest_quotient}
 use Rattle.rounded_quotients.specs.Rounding.{IsBelowFour, IsAboveFour}
 use Rattle.rounded_quotients.proofs.Quotients.{floor_quotient_floor}

@@ -4,13 +4,13 @@ use Rattle.std.proofs.Common.{◌≡◌, ℕ, zero, suc, ◌^◌, ◌-◌, refl,
 use Rattle.std.proofs.lemmas.Int.{ints}
 use lib.IntN.{neg_ℤ}
 use lib.Signed.{lt_z, le_z, ≤ℤ_refl}
-use Rattle.exact_math.specs.Fraction.{Fraction, ◌≤F◌, times, reciprocal, is_at_most, power as fraction_power}
-use Rattle.exact_math.specs.Interval.{Interval, between, ◌⊆◌, product, quotient, excludes_zero, least_even, power as interval_power, zero_fraction}
-use Rattle.exact_math.proofs.Ring.{at, lit, ◌⊖◌, ◌⊗◌, minus}
-use Rattle.exact_math.proofs.Bounds.{◌≼◌, known, ◌⊠◌, times as naturally, le_by, pos_nonneg, square_nonneg}
-use Rattle.exact_math.proofs.IntLaws.{mul_one}
-use Rattle.exact_math.proofs.Fractions.{by_cross, den_product, larger_keeps}
-use Rattle.exact_math.proofs.Intervals.{least_is, greatest_is, within_trans}
+use Rattle.book_model.specs.Fraction.{Fraction, ◌≤F◌, times, reciprocal, is_at_most, power as fraction_power}
+use Rattle.book_model.specs.Interval.{Interval, between, ◌⊆◌, product, quotient, excludes_zero, least_even, power as interval_power, zero_fraction}
+use Rattle.book_model.proofs.Ring.{at, lit, ◌⊖◌, ◌⊗◌, minus}
+use Rattle.book_model.proofs.Bounds.{◌≼◌, known, ◌⊠◌, times as naturally, le_by, pos_nonneg, square_nonneg}
+use Rattle.book_model.proofs.IntLaws.{mul_one}
+use Rattle.book_model.proofs.Fractions.{by_cross, den_product, larger_keeps}
+use Rattle.book_model.proofs.Intervals.{least_is, greatest_is, within_trans}
 use Rattle.rounded_quotients.specs.Rounding.{IsFloor, IsCeiling}
 use Rattle.interval_ends.specs.Rounding.{IsOneSided, AreQuotientsAt, least_square_of, ShowsEnds}
 use Rattle.interval_ends.proofs.Keeping.{kept_within}

@@ -5,12 +5,12 @@ use lib.IntN.{neg_ℤ}
 use Rattle.std.specs.Prelude.{unsigned_abs}
 use Rattle.std.specs.Int.{int_min, int_max}
 use Rattle.std.proofs.lemmas.Int.{ints}
-use Rattle.exact_math.specs.Fraction.{Fraction, ◌≤F◌, plus, opposite, size, times, smaller, larger}
-use Rattle.exact_math.specs.Interval.{Interval, everything, between, ◌⊆◌, sum, negative, difference, product, minimum, maximum, hull, widen}
-use Rattle.exact_math.proofs.Ring.{at, lit, ◌⊕◌, ◌⊖◌, ◌⊗◌, minus}
-use Rattle.exact_math.proofs.Bounds.{◌≼◌, known, ◌⊠◌, le_by, pos_nonneg}
-use Rattle.exact_math.proofs.Fractions.{le_trans, by_cross, den_product, smaller_keeps, larger_keeps, smaller_first, smaller_second, larger_first, larger_second}
-use Rattle.exact_math.proofs.Intervals.{within_trans, within_refl, least_is, greatest_is}
+use Rattle.book_model.specs.Fraction.{Fraction, ◌≤F◌, plus, opposite, size, times, smaller, larger}
+use Rattle.book_model.specs.Interval.{Interval, everything, between, ◌⊆◌, sum, negative, difference, product, minimum, maximum, hull, widen}
+use Rattle.book_model.proofs.Ring.{at, lit, ◌⊕◌, ◌⊖◌, ◌⊗◌, minus}
+use Rattle.book_model.proofs.Bounds.{◌≼◌, known, ◌⊠◌, le_by, pos_nonneg}
+use Rattle.book_model.proofs.Fractions.{le_trans, by_cross, den_product, smaller_keeps, larger_keeps, smaller_first, smaller_second, larger_first, larger_second}
+use Rattle.book_model.proofs.Intervals.{within_trans, within_refl, least_is, greatest_is}
 use Rattle.rounded_quotients.specs.Rounding.{IsFloor, IsCeiling, IsBelowFour, IsAboveFour}
 use Rattle.interval_ends.specs.Rounding.{IsMarginAt, ShowsEnds}
 use Rattle.interval_ends.proofs.Keeping.{kept_within}

@@ -1,10 +1,10 @@
 -- From the operations on intervals and bounds to those on expressions.
 use Rattle.interval_ends.specs.Scales.{Scale, coarse, fine, bits_of, limits_on}
 use Rattle.std.proofs.Common.{ℕ, ◌≤◌, ℤ, pos, ◌*ℤ◌}
-use Rattle.exact_math.specs.Fraction.{Fraction, whole}
-use Rattle.exact_math.specs.Interval.{Interval, between, ◌⊆◌, sum, difference, negative, product, minimum as interval_minimum, maximum as interval_maximum, hull as interval_hull, widen as interval_widen, quotient, power as interval_power}
-use Rattle.exact_math.proofs.Fractions.{le_refl}
-use Rattle.exact_math.proofs.Intervals.{within_refl, within_trans, sum_within, difference_within, negative_within, product_within, minimum_within, maximum_within, hull_within, widen_within, quotient_within, power_within}
+use Rattle.book_model.specs.Fraction.{Fraction, whole}
+use Rattle.book_model.specs.Interval.{Interval, between, ◌⊆◌, sum, difference, negative, product, minimum as interval_minimum, maximum as interval_maximum, hull as interval_hull, widen as interval_widen, quotient, power as interval_power}
+use Rattle.book_model.proofs.Fractions.{le_refl}
+use Rattle.book_model.proofs.Intervals.{within_refl, within_trans, sum_within, difference_within, negative_within, product_within, minimum_within, maximum_within, hull_within, widen_within, quotient_within, power_within}
 use Rattle.book_model.specs.numbers.Expressions.{Expression, World, value, integer, constant, add, subtract, multiply, negate, scale, minimum, maximum, hull, widen, divide, power, remainder}
 use Rattle.book_model.specs.numbers.Bounds.{Bound, Limits, Reach, IsNarrow, bound_of, integer_bound, constant_bound, sum_bound, scaled_bound, difference_bound, product_bound, power_bound, quotient_bound, negated_bound, minimum_bound, maximum_bound, hull_bound, widen_bound, remainder_bound, spanned_bound, limits_of}
 use Rattle.book_model.proofs.Values.{value_proper}

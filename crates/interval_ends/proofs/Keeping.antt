@@ -3,9 +3,9 @@ use Rattle.interval_ends.specs.Scales.{Scale, coarse, fine, at_scale, unit, limi
 use Rattle.std.proofs.Common.{◌≡◌, ℕ, ◌+◌, ◌*◌, ◌^◌, ◌<◌, refl, arith, Bool, true, false, ◌&&◌, ℤ, pos, ◌+ℤ◌, ◌*ℤ◌, ◌-ℤ◌, ◌≤ℤ◌, SFits}
 use Rattle.std.proofs.lemmas.Int.{ints}
 use Rattle.std.proofs.lemmas.Bool.{ltb-true}
-use Rattle.exact_math.specs.Fraction.{plus}
-use Rattle.exact_math.specs.Interval.{Interval, everything, between, ◌⊆◌, sum}
-use Rattle.exact_math.proofs.Intervals.{within_trans, within_everything}
+use Rattle.book_model.specs.Fraction.{plus}
+use Rattle.book_model.specs.Interval.{Interval, everything, between, ◌⊆◌, sum}
+use Rattle.book_model.proofs.Intervals.{within_trans, within_everything}
 use Rattle.book_model.specs.numbers.Bounds.{Bound, unbounded, bounded, range_size, limited, integer_bound, sum_bound, Spans, IsNarrow}
 use Rattle.interval_ends.specs.Rounding.{ShowsEnds, fitting, too_large}
 

@@ -1,3 +1,7 @@
+-- of rounded_quotients, given on
+pub use Rattle.rounded_quotients.proofs.HighHalves
+pub use Rattle.rounded_quotients.proofs.Quotients
+pub use Rattle.rounded_quotients.proofs.Stepping
 pub mod Keeping
 pub mod Following
 pub mod Enclosing

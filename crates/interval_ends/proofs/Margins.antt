@@ -3,9 +3,9 @@ use Rattle.interval_ends.specs.Scales.{Scale, coarse, fine, unit}
 use Rattle.std.proofs.Common.{◌≡◌, suc, ◌+◌, ◌^◌, refl, subst, arith, ℤ, pos, ◌+ℤ◌, ◌*ℤ◌, ◌≤ℤ◌, ◌<ℤ◌, [], ◌∷◌}
 use Rattle.std.specs.Prelude.{unsigned_abs}
 use Rattle.std.proofs.lemmas.Int.{ints, by_lt_z}
-use Rattle.exact_math.specs.Fraction.{Fraction}
-use Rattle.exact_math.proofs.Ring.{at, lit, ◌⊕◌, ◌⊗◌}
-use Rattle.exact_math.proofs.Bounds.{◌≼◌, known, ◌⊞◌, ◌⊠◌, refute}
+use Rattle.book_model.specs.Fraction.{Fraction}
+use Rattle.book_model.proofs.Ring.{at, lit, ◌⊕◌, ◌⊗◌}
+use Rattle.book_model.proofs.Bounds.{◌≼◌, known, ◌⊞◌, ◌⊠◌, refute}
 use Rattle.interval_ends.specs.Rounding.{IsMarginAt}
 use Rattle.rounded_quotients.proofs.Quotients.{next_le}
 

@@ -2,9 +2,9 @@
 use Rattle.interval_ends.specs.Scales.{Scale, coarse, fine, at_scale, unit, below}
 use Rattle.std.proofs.Common.{◌≡◌, ℕ, ◌^◌, ◌-◌, refl, sym, ◌∙◌, arith, ℤ, ◌*ℤ◌, ◌-ℤ◌, Some, None}
 use Rattle.std.proofs.lemmas.Int.{ints}
-use Rattle.exact_math.specs.Fraction.{whole, floor_quotient, plus, opposite}
-use Rattle.exact_math.specs.Interval.{Interval, everything, between, ◌⊆◌, sum, negative, difference}
-use Rattle.exact_math.proofs.Intervals.{within_trans}
+use Rattle.book_model.specs.Fraction.{whole, floor_quotient, plus, opposite}
+use Rattle.book_model.specs.Interval.{Interval, everything, between, ◌⊆◌, sum, negative, difference}
+use Rattle.book_model.proofs.Intervals.{within_trans}
 use Rattle.book_model.specs.programs.Programs.{multiples, cell_of, cell_at}
 use Rattle.interval_ends.specs.Rounding.{ShowsEnds}
 use Rattle.interval_ends.proofs.Keeping.{kept_within}

@@ -4,9 +4,9 @@ use Rattle.std.proofs.Common.{◌≡◌, ℕ, zero, suc, ◌+◌, ◌*◌, ◌-�
 use Rattle.std.proofs.lemmas.Int.{ints, by_lt_z}
 use Rattle.std.proofs.lemmas.Bool.{ltb-true}
 use Rattle.std.proofs.Math.Nat.{mul-le-mul_left}
-use Rattle.exact_math.specs.Interval.{Interval, everything, between}
-use Rattle.exact_math.proofs.Ring.{at, lit, ◌⊕◌, ◌⊖◌, ◌⊗◌}
-use Rattle.exact_math.proofs.Bounds.{◌≼◌, known, ◌⊞◌, ◌⊠◌, times as naturally, le_by, le_over, refute, pos_nonneg}
+use Rattle.book_model.specs.Interval.{Interval, everything, between}
+use Rattle.book_model.proofs.Ring.{at, lit, ◌⊕◌, ◌⊖◌, ◌⊗◌}
+use Rattle.book_model.proofs.Bounds.{◌≼◌, known, ◌⊞◌, ◌⊠◌, times as naturally, le_by, le_over, refute, pos_nonneg}
 use lib.Signed.{≤ℤ_refl}
 use Rattle.book_model.specs.numbers.Bounds.{Bound, unbounded, bounded, range_size, ceil_div, least_quotient, greatest_quotient, quotient_bound, IsNarrow}
 use Rattle.rounded_quotients.specs.Rounding.{IsFloor, IsCeiling}

@@ -5,11 +5,11 @@ use lib.IntN.{neg_ℤ}
 use Rattle.std.specs.Int.{int_min, int_max}
 use Rattle.std.proofs.Math.Nat.{mul-le-mul_left}
 use Rattle.std.proofs.lemmas.Int.{ints, clamps}
-use Rattle.exact_math.specs.Fraction.{◌≤F◌, times, smaller, larger}
-use Rattle.exact_math.specs.Interval.{Interval, everything, between, ◌⊆◌, clamp, one, minus_one}
-use Rattle.exact_math.proofs.Fractions.{le_trans, smaller_keeps, larger_keeps, smaller_first, smaller_second, larger_first, larger_second}
-use Rattle.exact_math.proofs.Intervals.{within_trans, within_refl, clamp_within}
-use Rattle.exact_math.proofs.Narrowing.{at_least}
+use Rattle.book_model.specs.Fraction.{◌≤F◌, times, smaller, larger}
+use Rattle.book_model.specs.Interval.{Interval, everything, between, ◌⊆◌, clamp, one, minus_one}
+use Rattle.book_model.proofs.Fractions.{le_trans, smaller_keeps, larger_keeps, smaller_first, smaller_second, larger_first, larger_second}
+use Rattle.book_model.proofs.Intervals.{within_trans, within_refl, clamp_within}
+use Rattle.book_model.proofs.Narrowing.{at_least}
 use Rattle.book_model.specs.numbers.Expressions.{Expression, World, value, root, clamp as clamp_of}
 use Rattle.book_model.specs.numbers.Roots.{natural_part, on_grid, root_low, root_high, root_of}
 use Rattle.book_model.specs.numbers.Relations.{Within, Lies}

@@ -4,7 +4,7 @@ use Rattle.std.proofs.Common.{◌≡◌, ℕ, zero, suc, ◌+◌, ◌*◌, ◌-�
 use Rattle.std.proofs.lemmas.Int.{ints, clamps}
 use Rattle.std.proofs.lemmas.Bool.{ltb-true}
 use Rattle.std.proofs.Math.Nat.{mul-le-mul_left}
-use Rattle.exact_math.specs.Interval.{Interval, everything, between}
+use Rattle.book_model.specs.Interval.{Interval, everything, between}
 use Rattle.book_model.specs.numbers.Bounds.{Bound, unbounded, bounded, Limits, Reach, limited, ceil_div, root_around, root_bound, clamp_bound, cut_32, IsNarrow, limits_of, bound_of}
 use Rattle.book_model.specs.numbers.Expressions.{Expression, root, clamp as clamp_of}
 use Rattle.book_model.specs.numbers.Relations.{Narrow, Keeps}

@@ -1,9 +1,9 @@
 -- How far apart ends are that are rounded outwards.
 use Rattle.std.proofs.Common.{◌≡◌, ℕ, suc, ◌+◌, refl, arith, unsigned_abs, ℤ, pos, negsuc, ◌+ℤ◌, ◌*ℤ◌, ◌-ℤ◌, ◌≤ℤ◌, ◌<ℤ◌, [], ◌∷◌}
 use Rattle.std.proofs.lemmas.Int.{ints, by_lt_z}
-use Rattle.exact_math.proofs.Ring.{at, lit, ◌⊕◌, ◌⊖◌, ◌⊗◌}
-use Rattle.exact_math.proofs.Bounds.{◌≼◌, known, ◌⊞◌, ◌⊠◌, times as naturally, le_by, refute}
-use Rattle.exact_math.specs.Fraction.{Fraction}
+use Rattle.book_model.proofs.Ring.{at, lit, ◌⊕◌, ◌⊖◌, ◌⊗◌}
+use Rattle.book_model.proofs.Bounds.{◌≼◌, known, ◌⊞◌, ◌⊠◌, times as naturally, le_by, refute}
+use Rattle.book_model.specs.Fraction.{Fraction}
 use Rattle.rounded_quotients.specs.Rounding.{IsFloor, IsCeiling, AreSorted}
 use Rattle.interval_ends.specs.Scales.{Scale, unit}
 use Rattle.interval_ends.specs.Rounding.{IsMarginAt}

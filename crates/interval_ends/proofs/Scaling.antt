@@ -8,12 +8,12 @@ use Rattle.std.specs.Int.{int_min, int_max}
 use Rattle.std.proofs.lemmas.Int.{ints, clamps, by_lt_z}
 use Rattle.std.proofs.lemmas.Bool.{ltb-true}
 use Rattle.std.specs.Int.Signed.{le_z_yes}
-use Rattle.exact_math.specs.Fraction.{Fraction, ◌≤F◌, times, floor_quotient}
-use Rattle.exact_math.specs.Interval.{Interval, everything, between, ◌⊆◌, product}
-use Rattle.exact_math.proofs.Ring.{at, lit, ◌⊕◌, ◌⊖◌, ◌⊗◌, minus}
-use Rattle.exact_math.proofs.Bounds.{◌≼◌, known, ◌⊞◌, ◌⊠◌, times as naturally, le_by, le_over, refute, pos_nonneg}
-use Rattle.exact_math.proofs.Fractions.{by_cross, den_product}
-use Rattle.exact_math.proofs.Intervals.{within_trans, least_is, greatest_is}
+use Rattle.book_model.specs.Fraction.{Fraction, ◌≤F◌, times, floor_quotient}
+use Rattle.book_model.specs.Interval.{Interval, everything, between, ◌⊆◌, product}
+use Rattle.book_model.proofs.Ring.{at, lit, ◌⊕◌, ◌⊖◌, ◌⊗◌, minus}
+use Rattle.book_model.proofs.Bounds.{◌≼◌, known, ◌⊞◌, ◌⊠◌, times as naturally, le_by, le_over, refute, pos_nonneg}
+use Rattle.book_model.proofs.Fractions.{by_cross, den_product}
+use Rattle.book_model.proofs.Intervals.{within_trans, least_is, greatest_is}
 use Rattle.book_model.specs.numbers.Bounds.{Bound, unbounded, bounded, range_size, ceil_div, floor_at_32, ceil_at_32, limited, ceil_quotient, scaled_within, scaled_bound, constant_bound, IsNarrow}
 use Rattle.rounded_quotients.specs.Rounding.{IsFloor, IsCeiling, AreSorted}
 use Rattle.interval_ends.specs.Rounding.{ShowsEnds}

@@ -5,9 +5,9 @@ use Rattle.std.specs.Ordering.{int_eq}
 use Rattle.std.proofs.lemmas.Int.{ints}
 use Rattle.std.proofs.lemmas.Bool.Decides.{Decides-int_eq}
 use lib.Signed.{le_z}
-use Rattle.exact_math.specs.Fraction.{Fraction, floor_quotient, is_at_most}
-use Rattle.exact_math.proofs.Same.{same_trans, same_of_le}
-use Rattle.exact_math.specs.Interval.{Interval, everything, between, ◌⊆◌, hull}
+use Rattle.book_model.specs.Fraction.{Fraction, floor_quotient, is_at_most}
+use Rattle.book_model.proofs.Same.{same_trans, same_of_le}
+use Rattle.book_model.specs.Interval.{Interval, everything, between, ◌⊆◌, hull}
 use Rattle.book_model.specs.programs.Programs.{integers, cell_of, cell_at, compare_at}
 use Rattle.book_model.specs.programs.Leading.{AreEnds, bounds, no_bounds, IsOpenComparison}
 

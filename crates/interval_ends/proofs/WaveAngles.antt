@@ -4,9 +4,9 @@ use Rattle.std.proofs.Common.{◌≡◌, ℕ, ◌^◌, refl, arith, ℤ, pos, �
 use lib.IntN.{neg_ℤ}
 use Rattle.std.specs.Int.{int_min, int_max}
 use Rattle.std.proofs.lemmas.Int.{ints, clamps}
-use Rattle.exact_math.specs.Fraction.{Fraction, ◌≤F◌, plus, times, floor_quotient}
-use Rattle.exact_math.specs.Interval.{Interval, between, ◌⊆◌, sum, product}
-use Rattle.exact_math.proofs.Intervals.{within_trans, least_keeps, greatest_keeps}
+use Rattle.book_model.specs.Fraction.{Fraction, ◌≤F◌, plus, times, floor_quotient}
+use Rattle.book_model.specs.Interval.{Interval, between, ◌⊆◌, sum, product}
+use Rattle.book_model.proofs.Intervals.{within_trans, least_keeps, greatest_keeps}
 use Rattle.book_model.specs.numbers.Bounds.{Bound, sum_bound, scaled_bound, constant_bound, IsNarrow, limits_36}
 use Rattle.book_model.specs.numbers.Fractions.{ten_millionths, daily_ten_millionths}
 use Rattle.rounded_quotients.specs.Rounding.{IsFloor, IsCeiling, AreSorted}

@@ -5,10 +5,10 @@ use Rattle.std.specs.Prelude.{unsigned_abs}
 use Rattle.std.specs.Int.{int_min, int_max}
 use Rattle.std.proofs.lemmas.Int.{ints, clamps}
 use Rattle.std.proofs.lemmas.Bool.{ltb-true}
-use Rattle.exact_math.specs.Fraction.{Fraction}
-use Rattle.exact_math.specs.Interval.{Interval, everything, between}
-use Rattle.exact_math.proofs.Ring.{at, lit, ◌⊕◌, ◌⊗◌}
-use Rattle.exact_math.proofs.Bounds.{◌≼◌, known, ◌⊞◌, ◌⊠◌, times as naturally, le_over}
+use Rattle.book_model.specs.Fraction.{Fraction}
+use Rattle.book_model.specs.Interval.{Interval, everything, between}
+use Rattle.book_model.proofs.Ring.{at, lit, ◌⊕◌, ◌⊗◌}
+use Rattle.book_model.proofs.Bounds.{◌≼◌, known, ◌⊞◌, ◌⊠◌, times as naturally, le_over}
 use Rattle.book_model.specs.numbers.Bounds.{Bound, Limits, unbounded, bounded, limited, margin_32, margin_64, hull_bound, widen_bound, IsNarrow}
 use Rattle.rounded_quotients.proofs.Quotients.{next_le}
 use Rattle.interval_ends.specs.Rounding.{IsMarginAt, ShowsEnds}

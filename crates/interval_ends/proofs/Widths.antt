@@ -6,10 +6,10 @@ use Rattle.std.specs.Int.{int_max, int_min}
 use Rattle.std.proofs.lemmas.Int.{ints, clamps, by_lt_z}
 use Rattle.std.proofs.lemmas.Bool.{ltb-true}
 use Rattle.std.proofs.Math.Nat.{mul-le-mul_right}
-use Rattle.exact_math.specs.Fraction.{◌≤F◌, ◌<F◌, plus}
-use Rattle.exact_math.specs.Interval.{Interval, everything, between, ◌⊆◌}
-use Rattle.exact_math.proofs.IntLaws.{mul_add}
-use Rattle.exact_math.proofs.Intervals.{within_trans}
+use Rattle.book_model.specs.Fraction.{◌≤F◌, ◌<F◌, plus}
+use Rattle.book_model.specs.Interval.{Interval, everything, between, ◌⊆◌}
+use Rattle.book_model.proofs.IntLaws.{mul_add}
+use Rattle.book_model.proofs.Intervals.{within_trans}
 use Rattle.book_model.specs.numbers.Bounds.{Bound, unbounded, bounded, range_size, difference_bound, negated_bound, minimum_bound, maximum_bound, remainder_bound, spanned_bound, Spans, IsNarrow}
 use Rattle.book_model.specs.programs.Leading.{units_of_56}
 use Rattle.book_model.specs.programs.Programs.{multiples, cell_at, cell_of, threshold, when}

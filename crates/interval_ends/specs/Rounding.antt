@@ -1,8 +1,8 @@
 -- Ends that fit in 64 bits, and quotients of ends, over plain numbers.
 use Rattle.std.specs.Prelude.{◌≡◌, cond, int_le, ◌⊎◌, ℤ, pos, ◌+ℤ◌, ◌-ℤ◌, ◌*ℤ◌, ◌≤ℤ◌, ◌<ℤ◌, ◌+◌, unsigned_abs, FitsSigned}
-use Rattle.exact_math.specs.Fraction.{Fraction}
+use Rattle.book_model.specs.Fraction.{Fraction}
 use Rattle.interval_ends.specs.Scales.{Scale, coarse, at_scale, unit, word}
-use Rattle.exact_math.specs.Interval.{Interval, everything, between}
+use Rattle.book_model.specs.Interval.{Interval, everything, between}
 use Rattle.rounded_quotients.specs.Rounding.{IsCeiling}
 
 -- a number that counts 2^-36

@@ -1,7 +1,7 @@
 -- The scales of ends: coarse ones of 64 bits, which count 2^-36, and fine ones of 128 bits, which count 2^-56.
 use Rattle.std.specs.Prelude.{ℕ, ◌-◌, ◌^◌, ℤ, pos}
 use Rattle.std.specs.Int.{Width, w64, w128}
-use Rattle.exact_math.specs.Fraction.{Fraction}
+use Rattle.book_model.specs.Fraction.{Fraction}
 use Rattle.book_model.specs.numbers.Bounds.{Limits, limits_at, limits_36}
 
 pub data Scale : Type 0 where

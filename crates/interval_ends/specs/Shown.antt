@@ -2,7 +2,7 @@
 use Rattle.std.specs.Prelude.{◌≡◌, ℤ, ◌≤ℤ◌, Option, Some, None, FitsSigned}
 use Rattle.std.proofs.Common.{arith}
 use Rattle.std.proofs.lemmas.Int.{ints}
-use Rattle.exact_math.specs.Interval.{Interval, everything, between, IsProper}
+use Rattle.book_model.specs.Interval.{Interval, everything, between, IsProper}
 use Rattle.interval_ends.specs.Scales.{Scale, coarse, fine, at_scale, word}
 use Rattle.interval_ends.specs.declared.word.MachineWord.{Ghosts}
 use Rattle.interval_ends.specs.declared.ends.Ends.{Ends}

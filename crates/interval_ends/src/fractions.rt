@@ -5,7 +5,7 @@
 ghost use Rattle.std.specs.Prelude.{◌≡◌, ◌<◌, ◌+◌, ℕ, pos, ◌≤ℤ◌, ◌<ℤ◌, ◌+ℤ◌, ◌-ℤ◌, ◌*ℤ◌, IfSome, IsSome, unsigned_abs};
 ghost use Rattle.std.specs.Int.{w128};
 ghost use Rattle.std.proofs.Common.{SFits};
-ghost use Rattle.exact_math.specs.Interval.{◌⊆◌, product, widen, between};
+ghost use Rattle.book_model.specs.Interval.{◌⊆◌, product, widen, between};
 ghost use Rattle.book_model.specs.numbers.Fractions.{fraction_of};
 ghost use Rattle.book_model.specs.numbers.Bounds.{Bound, IsNarrow, constant_bound, scaled_bound, widen_bound};
 ghost use Rattle.interval_ends.specs.Scales.{limits_on, most_numerator, unit, word};

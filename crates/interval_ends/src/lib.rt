@@ -12,6 +12,8 @@
 //! - `ends_of_span`, `ends_at_fine_scale`: from ends that count 2⁻⁵⁶, and to them;
 //! - `parts`: one, and parts of a turn, as numbers that count 2⁻⁵⁶;
 //! - `order_of_ends`, `cell_of_ends`, `period_of_ends`, `rest_of_period`, `open_at`: the tests, and what an open one tells.
+//!
+//! Of `rounded_quotients` it gives on what the crates above divide by, so that these list one crate.
 #![tactic(auto)]
 
 mod comparing;
@@ -28,6 +30,9 @@ pub use comparing::{cell_of_ends, open_at, order_of_ends};
 pub use ends::Ends;
 pub use fractions::{denominator, ends_of_fraction, scale_ends, widen_ends};
 pub use ranges::{clamp_ends, hull_ends, max_ends, min_ends};
+pub use rounded_quotients::{
+    amod, ceil_div, floor_div, greatest_of, high_half, least_of, modulo, sorted,
+};
 pub use spans::{ends_at_fine_scale, ends_of_span};
 pub use sums::{add_ends, ends_of, int_ends, neg_ends, sub_ends};
 pub use word::MachineWord;

@@ -1,7 +1,7 @@
 //! The lesser and the greater of ends, their hull, and ends that are cut to -1..1.
 ghost use Rattle.std.specs.Prelude.{◌≡◌, ℕ, neg_ℤ};
 ghost use Rattle.std.specs.Int.{int_min, int_max};
-ghost use Rattle.exact_math.specs.Interval.{everything, between, ◌⊆◌, minimum, maximum, hull, clamp};
+ghost use Rattle.book_model.specs.Interval.{everything, between, ◌⊆◌, minimum, maximum, hull, clamp};
 ghost use Rattle.book_model.specs.numbers.Bounds.{Bound, IsNarrow, minimum_bound, maximum_bound, hull_bound, clamp_bound};
 ghost use Rattle.interval_ends.specs.Scales.{unit};
 ghost use Rattle.interval_ends.specs.Shown.{shown_ends, shown_of};

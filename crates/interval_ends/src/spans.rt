@@ -1,6 +1,6 @@
 //! Ends that count 2⁻⁵⁶, and those that count units, from one another.
 ghost use Rattle.std.specs.Prelude.{◌≡◌, ℕ, ◌≤ℤ◌, IfSome, IsNone};
-ghost use Rattle.exact_math.specs.Interval.{◌⊆◌, between, everything};
+ghost use Rattle.book_model.specs.Interval.{◌⊆◌, between, everything};
 ghost use Rattle.book_model.specs.numbers.Bounds.{Bound, IsNarrow, spanned_bound};
 ghost use Rattle.book_model.specs.programs.Leading.{units_of_56};
 ghost use Rattle.interval_ends.specs.Scales.{limits_on};

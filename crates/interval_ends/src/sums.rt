@@ -3,8 +3,8 @@
 //! The innermost functions say equations on ends (`HasEnds`), and one lemma leads from there to intervals and bounds.
 //! That ends are the best that a word can say no caller needs, and it isn't stated.
 ghost use Rattle.std.specs.Prelude.{ℕ, pos, ◌+ℤ◌, ◌-ℤ◌, ◌≤ℤ◌, IfSome};
-ghost use Rattle.exact_math.specs.Fraction.{whole as whole_number};
-ghost use Rattle.exact_math.specs.Interval.{◌⊆◌, sum, difference, negative, between};
+ghost use Rattle.book_model.specs.Fraction.{whole as whole_number};
+ghost use Rattle.book_model.specs.Interval.{◌⊆◌, sum, difference, negative, between};
 ghost use Rattle.book_model.specs.numbers.Bounds.{Bound, IsNarrow, integer_bound, sum_bound, difference_bound, negated_bound};
 ghost use Rattle.interval_ends.specs.Scales.{limits_on};
 ghost use Rattle.interval_ends.specs.Shown.{shown_ends, HasEnds};

@@ -4,7 +4,7 @@
 //! a word has no room is said by each checked method (`none`), since a law can't say that a value fits.
 ghost use Rattle.std.specs.Prelude.{◌≡◌, ◌↔◌, ◌<◌, ◌-◌, ◌<ℤ◌, ◌≤ℤ◌, ◌+ℤ◌, ◌-ℤ◌, ◌*ℤ◌, ℤ, pos, neg_ℤ, IsTrue, IfSome, IsNone, FitsSigned};
 ghost use Rattle.std.specs.Int.{w128, int_min, int_max};
-ghost use Rattle.exact_math.specs.Fraction.{floor_quotient};
+ghost use Rattle.book_model.specs.Fraction.{floor_quotient};
 ghost use Rattle.rounded_quotients.specs.Rounding.{IsFloor, IsCeiling};
 ghost use Rattle.interval_ends.specs.Scales.{Scale, coarse, fine, unit, below, finer_units, word};
 

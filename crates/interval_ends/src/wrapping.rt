@@ -1,7 +1,7 @@
 //! The periods of ends.
 ghost use Rattle.std.specs.Prelude.{◌≡◌, ◌<◌, ◌-◌, ◌*ℤ◌, ℕ, pos, Some, None, IfSome, IsNone};
-ghost use Rattle.exact_math.specs.Fraction.{whole as whole_number, floor_quotient};
-ghost use Rattle.exact_math.specs.Interval.{◌⊆◌, difference, between};
+ghost use Rattle.book_model.specs.Fraction.{whole as whole_number, floor_quotient};
+ghost use Rattle.book_model.specs.Interval.{◌⊆◌, difference, between};
 ghost use Rattle.book_model.specs.numbers.Bounds.{Bound, IsNarrow, remainder_bound};
 ghost use Rattle.book_model.specs.programs.Programs.{multiples, cell_at};
 ghost use Rattle.interval_ends.specs.Scales.{below, limits_on};

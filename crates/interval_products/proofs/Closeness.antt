@@ -2,10 +2,10 @@
 use Rattle.std.proofs.Common.{◌≡◌, ℕ, ◌<◌, arith, refl, int_le, ℤ, pos, negsuc, ◌+ℤ◌, ◌*ℤ◌, ◌-ℤ◌, ◌≤ℤ◌, ◌<ℤ◌, ◌⊎◌, inl, inr, [], ◌∷◌}
 use Rattle.std.proofs.lemmas.Int.{ints}
 use lib.Signed.{≤ℤ_refl}
-use Rattle.exact_math.proofs.Ring.{at, lit, ◌⊕◌, ◌⊖◌, ◌⊗◌}
-use Rattle.exact_math.proofs.Bounds.{◌≼◌, known, ◌⊞◌, ◌⊠◌, times as naturally, le_by}
-use Rattle.rounded_quotients.specs.Rounding.{IsFloor, IsCeiling, IsBelowFour, IsAboveFour, IsAboveEachBelow, IsBelowEachAbove}
-use Rattle.rounded_quotients.proofs.Quotients.{products_mono}
+use Rattle.book_model.proofs.Ring.{at, lit, ◌⊕◌, ◌⊖◌, ◌⊗◌}
+use Rattle.book_model.proofs.Bounds.{◌≼◌, known, ◌⊞◌, ◌⊠◌, times as naturally, le_by}
+use Rattle.interval_ends.specs.WholeRounding.{IsFloor, IsCeiling, IsBelowFour, IsAboveFour, IsAboveEachBelow, IsBelowEachAbove}
+use Rattle.interval_ends.proofs.Quotients.{products_mono}
 use Rattle.interval_ends.specs.Scales.{Scale, coarse, fine, unit}
 use Rattle.interval_ends.specs.Rounding.{AreQuotientsAt, least_square_of}
 use Rattle.interval_ends.proofs.Products.{corners_apart, AreSquares, by_sign}

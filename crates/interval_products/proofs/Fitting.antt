@@ -5,7 +5,7 @@ use Rattle.std.proofs.Math.Nat.{mul-le-mul_right}
 use Rattle.std.proofs.lemmas.Int.{ints}
 use Rattle.std.proofs.lemmas.Bool.{ltb-true}
 use lib.Signed.{≤ℤ_refl}
-use Rattle.exact_math.specs.Interval.{Interval, between}
+use Rattle.book_model.specs.Interval.{Interval, between}
 use Rattle.book_model.specs.numbers.Bounds.{Bound, unbounded, bounded, range_size, ceil_div, limited, product_bound, power_bound, root_bound, quotient_bound, IsNarrow}
 use Rattle.interval_ends.specs.Rounding.{IsLeastBy, IsGreatestBy}
 use Rattle.interval_ends.specs.Scales.{Scale, coarse, fine, at_scale, limits_on, word}

@@ -3,10 +3,10 @@ use Rattle.std.proofs.Common.{◌≡◌, zero, suc, ◌+◌, ◌^◌, arith, ℤ
 use Rattle.std.specs.Prelude.{Option, Some, None, SomeIff, IsSome}
 use Rattle.std.specs.Int.{w128, int_div_euclid, int_rem_euclid}
 use Rattle.std.proofs.lemmas.Int.{ints}
-use Rattle.exact_math.proofs.Ring.{at, lit, ◌⊕◌, ◌⊖◌, ◌⊗◌}
-use Rattle.exact_math.proofs.Bounds.{◌≼◌, known, ◌⊞◌, ◌⊠◌, times as naturally, le_by, le_over}
-use Rattle.rounded_quotients.specs.Rounding.{IsFloor, IsCeiling}
-use Rattle.rounded_quotients.proofs.Quotients.{next_le, lt_next}
+use Rattle.book_model.proofs.Ring.{at, lit, ◌⊕◌, ◌⊖◌, ◌⊗◌}
+use Rattle.book_model.proofs.Bounds.{◌≼◌, known, ◌⊞◌, ◌⊠◌, times as naturally, le_by, le_over}
+use Rattle.interval_ends.specs.WholeRounding.{IsFloor, IsCeiling}
+use Rattle.interval_ends.proofs.Quotients.{next_le, lt_next}
 use Rattle.interval_products.specs.Room.{HasFineQuotient, HasParts}
 
 -- a number is its whole quotient times the divisor, and what is left, which is less than the divisor

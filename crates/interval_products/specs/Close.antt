@@ -1,7 +1,7 @@
 -- How far apart the ends of products, squares, quotients and roots are, in units, and the greatest and the least of products.
 use Rattle.std.specs.Prelude.{◌≡◌, ℕ, max, unsigned_abs, ◌<◌, ◌⊎◌, ℤ, pos, ◌+ℤ◌, ◌-ℤ◌, ◌*ℤ◌, ◌≤ℤ◌, ◌<ℤ◌, Option, IfSome, IsSome}
 use Rattle.std.specs.Int.{w128}
-use Rattle.rounded_quotients.specs.Rounding.{IsBelowFour, IsAboveFour, IsAboveEachBelow, IsBelowEachAbove}
+use Rattle.interval_ends.specs.WholeRounding.{IsBelowFour, IsAboveFour, IsAboveEachBelow, IsBelowEachAbove}
 use Rattle.interval_ends.specs.Scales.{Scale, unit, word}
 use Rattle.interval_ends.specs.declared.word.MachineWord.{Ghosts}
 use Rattle.interval_ends.specs.declared.ends.Ends.{Ends}

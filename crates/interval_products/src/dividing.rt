@@ -1,6 +1,6 @@
 //! Quotients of ends, rounded outwards.
 ghost use Rattle.std.specs.Prelude.{ℕ, pos, ◌≤ℤ◌, ◌<ℤ◌, Some, IfSome, IsSome};
-ghost use Rattle.exact_math.specs.Interval.{◌⊆◌, quotient};
+ghost use Rattle.book_model.specs.Interval.{◌⊆◌, quotient};
 ghost use Rattle.book_model.specs.numbers.Bounds.{Bound, IsNarrow, quotient_bound};
 ghost use Rattle.interval_ends.specs.Rounding.{IsLeastBy, IsGreatestBy, AreQuotientsAt};
 ghost use Rattle.interval_ends.specs.Scales.{limits_on};

@@ -1,6 +1,6 @@
 //! Products and squares of ends, rounded outwards.
 ghost use Rattle.std.specs.Prelude.{◌≡◌, ℕ, pos, ◌*ℤ◌, ◌≤ℤ◌, IfSome, IsSome};
-ghost use Rattle.exact_math.specs.Interval.{◌⊆◌, product, power};
+ghost use Rattle.book_model.specs.Interval.{◌⊆◌, product, power};
 ghost use Rattle.book_model.specs.numbers.Bounds.{Bound, IsNarrow, product_bound, power_bound};
 ghost use Rattle.interval_ends.specs.Rounding.{least_square_of};
 ghost use Rattle.interval_ends.specs.Scales.{limits_on};
@@ -9,8 +9,7 @@ ghost use Rattle.interval_products.specs.Room.{HaveProducts};
 ghost use Rattle.interval_products.specs.Close.{AreCorners, IsCloseProduct, IsCloseSquare, OfOne, OfTwo, ThereOfOne, ThereOfTwo};
 
 use crate::word::RoundingWord;
-use interval_ends::{Ends, ends_of};
-use rounded_quotients::{greatest_of, least_of};
+use interval_ends::{Ends, ends_of, greatest_of, least_of};
 
 /// The least and the greatest of the four products of the ends.
 #[inline]

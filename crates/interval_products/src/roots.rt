@@ -3,7 +3,7 @@
 //! Roots are whole numbers in the definition too: the greatest whose square is at most a number. What a root keeps of a
 //! width is squared on both sides, so that no root stands in the table of widths.
 ghost use Rattle.std.specs.Prelude.{ℕ, ◌≤◌};
-ghost use Rattle.exact_math.specs.Interval.{◌⊆◌};
+ghost use Rattle.book_model.specs.Interval.{◌⊆◌};
 ghost use Rattle.book_model.specs.numbers.Roots.{root_of};
 ghost use Rattle.book_model.specs.numbers.Bounds.{Bound, IsNarrow, root_bound};
 ghost use Rattle.book_model.specs.numbers.Depth.{DEPTH};

@@ -5,15 +5,14 @@
 //! so that the lemmas on want of room (`Room.antt`) are one line there.
 ghost use Rattle.std.specs.Prelude.{◌≡◌, ◌<ℤ◌, ◌≤ℤ◌, ◌+ℤ◌, ◌-ℤ◌, ◌*ℤ◌, pos, IfSome, IsNone, FitsSigned};
 ghost use Rattle.book_model.specs.numbers.Roots.{natural_part};
-ghost use Rattle.rounded_quotients.specs.Rounding.{IsFloor, IsCeiling};
+ghost use Rattle.interval_ends.specs.WholeRounding.{IsFloor, IsCeiling};
 ghost use Rattle.interval_ends.specs.Scales.{unit, word};
 ghost use Rattle.interval_products.specs.Room.{HasProduct, IsDividend, HasQuotient, HasRoot};
 
 use crate::stepping::{stepped_down, stepped_up};
 use crate::whole_roots::whole_root;
-use interval_ends::MachineWord;
 use interval_ends::parts::ONE;
-use rounded_quotients::{ceil_div, floor_div};
+use interval_ends::{MachineWord, ceil_div, floor_div};
 
 /// A word whose products, quotients and roots are rounded to its scale. They are taken in 128 bits, and are `None` only where
 /// these have no room.

@@ -3,7 +3,7 @@ ghost use Rattle.std.specs.Prelude.{◌≡◌, IsTrue, IfOk, MatchOption, true, 
 ghost use Rattle.book_model.specs.calendars.Dates as spec;
 ghost use Rattle.book_model.specs.calendars.Moving.{at_place};
 ghost use Rattle.book_model.specs.lines.Requests.{ranged, checked, fields_of};
-ghost use Rattle.east_cal.specs.Moving.{is_moved_to};
+ghost use Rattle.moved_oracle.specs.Moving.{is_moved_to};
 ghost use Rattle.oracle_core.specs.Asking.{Asks};
 
 use crate::fields::{are_within, has_year, spelled_fields};
@@ -12,7 +12,7 @@ use crate::reach::is_within;
 use book_model::{Calendar, Fields, Place, Rule, Version};
 use calendar_math::to_32_bits;
 use chinese_cal::ChineseDate;
-use east_cal::Moved;
+use moved_oracle::Moved;
 use oracle_core::{CalendarDate, Oracle, Stop};
 
 /// The day (R.D.) that a day number names.

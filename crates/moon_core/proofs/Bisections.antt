@@ -1,8 +1,8 @@
 -- Bisection: how many tests it makes, and that its answer lies where its ends do.
 use Rattle.std.specs.Prelude.{◌≡◌, ℕ, zero, suc, ◌+◌, ◌*◌, Bool, true, false, if◌then◌else◌, ℤ, ◌+ℤ◌, ◌≤ℤ◌}
 use Rattle.std.proofs.Common.{arith}
-use Rattle.exact_math.specs.Fraction.{whole}
-use Rattle.exact_math.specs.Interval.{between, ◌⊆◌, product}
+use Rattle.book_model.specs.Fraction.{whole}
+use Rattle.book_model.specs.Interval.{between, ◌⊆◌, product}
 use Rattle.book_model.specs.declared.site.Site.{Site}
 use Rattle.book_model.specs.declared.site.Site.TheVariants.{BisectEnd}
 use Rattle.book_model.specs.declared.tables.TheConstants.{HALF}

@@ -3,10 +3,10 @@
 use Rattle.std.specs.Prelude.{◌≡◌, ℕ, zero, suc, ◌&&◌, ℤ, pos, negsuc, neg_ℤ, Bool, true, false, List, slice_index_or, refl}
 use Rattle.std.proofs.Common.{arith}
 use Rattle.std.proofs.lemmas.Int.{ints}
-use Rattle.exact_math.specs.Fraction.{Fraction, whole, plus, times, smaller, larger, is_at_most, power as fraction_power}
-use Rattle.exact_math.specs.Interval.{Interval, everything, between, ◌⊆◌, sum, product, least, greatest, power as interval_power, least_even}
-use Rattle.exact_math.proofs.Fractions.{at_most_true}
-use Rattle.exact_math.proofs.Intervals.{within_trans, within_refl}
+use Rattle.book_model.specs.Fraction.{Fraction, whole, plus, times, smaller, larger, is_at_most, power as fraction_power}
+use Rattle.book_model.specs.Interval.{Interval, everything, between, ◌⊆◌, sum, product, least, greatest, power as interval_power, least_even}
+use Rattle.book_model.proofs.Fractions.{at_most_true}
+use Rattle.book_model.proofs.Intervals.{within_trans, within_refl}
 use Rattle.book_model.specs.declared.new_moon_tables.TheConstants.{NEW_MOON_TERMS, PLANET_TERMS}
 use Rattle.book_model.specs.numbers.Expressions.{Expression, World, value, subtract}
 use Rattle.book_model.specs.numbers.Octants.{sine_of_degrees}

@@ -1,7 +1,7 @@
 -- A quartic is the sum of its constant, its linear term and its higher terms.
-use Rattle.exact_math.specs.Interval.{Interval, everything, between, ◌⊆◌, sum}
-use Rattle.exact_math.proofs.Intervals.{within_trans}
-use Rattle.exact_math.proofs.Same.{plus_assoc, le_of_same, ge_of_same}
+use Rattle.book_model.specs.Interval.{Interval, everything, between, ◌⊆◌, sum}
+use Rattle.book_model.proofs.Intervals.{within_trans}
+use Rattle.book_model.proofs.Same.{plus_assoc, le_of_same, ge_of_same}
 use Rattle.book_model.specs.declared.polynomial.Quartic.{Quartic}
 use Rattle.book_model.specs.numbers.Expressions.{Expression, World, value, constant, add, scale}
 use Rattle.book_model.specs.numbers.Fractions.{fraction_of}

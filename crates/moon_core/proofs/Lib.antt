@@ -1,3 +1,6 @@
+-- of sun_core, given on
+pub use Rattle.sun_core.proofs.Measured as SunMeasured
+pub use Rattle.sun_core.proofs.Scalings
 pub mod OnCourse
 pub mod WalkSteps
 pub mod Reaches

@@ -2,7 +2,7 @@
 use Rattle.std.specs.Prelude.{◌≡◌, ℕ, ◌+◌, ◌*◌, ◌/◌, ◌^◌, ◌≤◌, ◌<◌, true, ℤ, pos, neg_ℤ, refl, if◌then◌else◌, ◌==◌, Result, Ok, Err, IfOk}
 use Rattle.std.proofs.Common.{arith}
 use Rattle.std.proofs.lemmas.Int.{ints}
-use Rattle.exact_math.specs.Interval.{Interval}
+use Rattle.book_model.specs.Interval.{Interval}
 use Rattle.book_model.specs.declared.fail.Fail.{Fail}
 use Rattle.book_model.specs.declared.new_moon_tables.TheConstants.{DAY_IN_MONTHS, DEGREE_IN_MONTHS, TURN, LATE_START}
 use Rattle.book_model.specs.declared.tables.TheConstants.{HALF}
@@ -17,7 +17,7 @@ use Rattle.book_model.specs.sky.Latitude.{latitude_term_of, latitude_terms_of, v
 use Rattle.book_model.specs.sky.Moon.{lunar_angle_of, lunar_term_of, longitude_term_of}
 use Rattle.book_model.specs.sky.Phases.{size_of}
 use Rattle.book_model.specs.sky.Sun.{nutation_of}
-use Rattle.greatest_widths.proofs.Measuring.{measured, sloped, looser}
+use Rattle.encl_core.proofs.Measuring.{measured, sloped, looser}
 use Rattle.encl_core.proofs.StepWidths.{left_within}
 use Rattle.sun_core.specs.Daily.{in_centuries, has_daily, by_centuries, by_days, daily_wave_of}
 use Rattle.sun_core.proofs.Measured.{tabled, days_of}

@@ -1,6 +1,6 @@
 -- The elements of a moment: the time that they are of, and its test made again.
 use Rattle.std.proofs.Common.{ℕ, ℤ, refl, sym, subst, Option, Some, None, Result, Ok}
-use Rattle.exact_math.specs.Interval.{Interval}
+use Rattle.book_model.specs.Interval.{Interval}
 use Rattle.book_model.specs.declared.fail.Fail.{Fail}
 use Rattle.book_model.specs.declared.site.Site.{Site}
 use Rattle.book_model.specs.declared.time_tables.TheConstants.{NOON_2000}

@@ -1,6 +1,6 @@
 -- The greatest terms and the others are all.
 use Rattle.std.specs.Prelude.{◌≡◌, length, slice_range, ◌++◌, refl}
-use Rattle.exact_math.specs.Interval.{Interval}
+use Rattle.book_model.specs.Interval.{Interval}
 use Rattle.book_model.specs.declared.moon_tables.TheConstants.{MOON_TERMS}
 use Rattle.book_model.specs.numbers.Expressions.{Expression, World, add}
 use Rattle.book_model.specs.numbers.Relations.{Within}

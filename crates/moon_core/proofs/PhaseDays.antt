@@ -2,8 +2,8 @@
 use Rattle.std.specs.Prelude.{◌≡◌, ℕ, ℤ, pos, ◌≤◌, Result, Ok, Err, IfOk, ◌+ℤ◌, ◌-ℤ◌}
 use Rattle.std.proofs.Common.{arith}
 use Rattle.std.proofs.lemmas.Int.{ints}
-use Rattle.exact_math.specs.Fraction.{whole, times, smaller, larger, is_at_most}
-use Rattle.exact_math.specs.Interval.{between, ◌⊆◌, product, least, greatest}
+use Rattle.book_model.specs.Fraction.{whole, times, smaller, larger, is_at_most}
+use Rattle.book_model.specs.Interval.{between, ◌⊆◌, product, least, greatest}
 use Rattle.book_model.specs.declared.fail.Fail.{Fail}
 use Rattle.book_model.specs.declared.new_moon_tables.TheConstants.{DEGREE_OF_MONTH}
 use Rattle.book_model.specs.declared.site.Site.TheVariants.{DayFloor}

@@ -4,11 +4,11 @@ use Rattle.std.proofs.Common.{arith, sym, ◌∙◌}
 use Rattle.std.proofs.lemmas.Int.{ints}
 use Rattle.std.specs.Ordering.{int_eq}
 use Rattle.std.proofs.lemmas.Bool.Decides.{Decides-int_eq}
-use Rattle.exact_math.specs.Fraction.{Fraction, ◌≤F◌, ◌<F◌, whole, plus, opposite, times, smaller, larger, is_at_most}
-use Rattle.exact_math.specs.Interval.{Interval, everything, between, ◌⊆◌, IsProper, sum, negative, difference, product, least, greatest}
-use Rattle.exact_math.proofs.Fractions.{le_trans, le_refl, plus_mono}
-use Rattle.exact_math.proofs.IntLaws.{mul_add}
-use Rattle.exact_math.proofs.Intervals.{within_trans, within_refl, product_within}
+use Rattle.book_model.specs.Fraction.{Fraction, ◌≤F◌, ◌<F◌, whole, plus, opposite, times, smaller, larger, is_at_most}
+use Rattle.book_model.specs.Interval.{Interval, everything, between, ◌⊆◌, IsProper, sum, negative, difference, product, least, greatest}
+use Rattle.book_model.proofs.Fractions.{le_trans, le_refl, plus_mono}
+use Rattle.book_model.proofs.IntLaws.{mul_add}
+use Rattle.book_model.proofs.Intervals.{within_trans, within_refl, product_within}
 use Rattle.book_model.specs.declared.new_moon_tables.TheConstants.{DAY_IN_MONTHS, DEGREE_IN_MONTHS, FIRST_LATE_MONTH, FIRST_LATE_MOON, LAST_TABLE_MONTH, LAST_TABLE_MOON, LATE_START, TURN}
 use Rattle.book_model.specs.declared.time_tables.TheConstants.{TABLE_START, TABLE_END}
 use Rattle.book_model.specs.declared.site.Site.TheVariants.{PhaseWrap, MoonNumber, PhasePick}

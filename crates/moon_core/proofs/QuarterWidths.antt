@@ -2,7 +2,7 @@
 use Rattle.std.specs.Prelude.{◌≡◌, ℕ, ◌+◌, ◌-◌, ◌*◌, ◌^◌, true, ℤ, pos, neg_ℤ, refl, if◌then◌else◌, ◌==◌, Result, Ok, Err}
 use Rattle.std.proofs.Common.{arith}
 use Rattle.std.proofs.lemmas.Int.{ints}
-use Rattle.exact_math.specs.Interval.{Interval}
+use Rattle.book_model.specs.Interval.{Interval}
 use Rattle.book_model.specs.declared.fail.Fail.{Fail}
 use Rattle.book_model.specs.numbers.Bounds.{Bound, bounded, Reach, implies, bound_of, limits_at, limits_of, integer_bound, sum_bound, difference_bound, scaled_bound, minimum_bound}
 use Rattle.book_model.specs.numbers.Expressions.{Expression, argument, integer, add, subtract, minimum}
@@ -10,7 +10,7 @@ use Rattle.book_model.specs.numbers.Ranges.{IsInTable}
 use Rattle.book_model.specs.numbers.Relations.{Narrow}
 use Rattle.book_model.specs.programs.Widths.{IsAbout, IsMoment, IsSmall, IsUpTo, Measures, table_days, table_from, table_to}
 use Rattle.book_model.specs.sky.Phases.{phase_back_by}
-use Rattle.greatest_widths.proofs.Measuring.{measured, sloped, looser, drawn}
+use Rattle.encl_core.proofs.Measuring.{measured, sloped, looser, drawn}
 use Rattle.angle_search.proofs.Measured.{apart_within, turn_is_angle, moment_wider}
 use Rattle.time_scales.proofs.ZoneWidths.{whole_day_within}
 use Rattle.sun_core.specs.Widths.{IsNearMoment}

@@ -1,7 +1,7 @@
 -- How wide the sum of the moon's terms is at the coarse scale, in whole numbers and row by row, and the longitude with it.
 use Rattle.std.proofs.Common.{◌≡◌, ℕ, ◌*◌, ◌^◌, arith, neg_ℤ, ℤ, pos, ◌-ℤ◌, ◌*ℤ◌, ◌≤ℤ◌}
 use Rattle.std.proofs.lemmas.Int.{ints}
-use Rattle.exact_math.specs.Interval.{Interval, between, ◌⊆◌}
+use Rattle.book_model.specs.Interval.{Interval, between, ◌⊆◌}
 use Rattle.book_model.specs.declared.moon_tables.TheConstants.{LATITUDE_ARGUMENT, MOON_LONGITUDE}
 use Rattle.book_model.specs.numbers.Bounds.{Bound, bounded, Limits, IsNarrow, bound_of, limits_of, limits_36, spanned_bound}
 use Rattle.book_model.specs.numbers.Expressions.{argument}

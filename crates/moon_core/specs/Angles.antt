@@ -1,5 +1,5 @@
 -- What the code's angles of the moon say of the definition's.
-use Rattle.exact_math.specs.Interval.{Interval}
+use Rattle.book_model.specs.Interval.{Interval}
 use Rattle.book_model.specs.numbers.Bounds.{Limits, Reach}
 use Rattle.book_model.specs.numbers.Expressions.{World}
 use Rattle.book_model.specs.sky.Moon.{LunarAngles}

@@ -1,6 +1,6 @@
 -- What is kept of the moon's longitude over a stretch of days, and the number of a new moon by it.
 use Rattle.std.specs.Prelude.{length, slice_range, ℤ}
-use Rattle.exact_math.specs.Interval.{Interval}
+use Rattle.book_model.specs.Interval.{Interval}
 use Rattle.book_model.specs.declared.moon_tables.TheConstants.{JUPITER_WAVE, MOON_TERMS, VENUS_WAVE}
 use Rattle.book_model.specs.declared.new_moon_tables.TheConstants.{DEGREE_IN_MONTHS}
 use Rattle.book_model.specs.numbers.Expressions.{Expression, World, subtract, scale}

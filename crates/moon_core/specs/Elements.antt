@@ -1,6 +1,6 @@
 -- What the code's mean elements of the moon say of a moment.
 use Rattle.std.specs.Prelude.{◌≡◌, ℕ, ◌+◌, ◌^◌, Ok}
-use Rattle.exact_math.specs.Interval.{Interval}
+use Rattle.book_model.specs.Interval.{Interval}
 use Rattle.book_model.specs.declared.moon_tables.TheConstants.{MOON_LONGITUDE}
 use Rattle.book_model.specs.declared.site.Site.TheVariants.{MoonWrap}
 use Rattle.book_model.specs.declared.time_tables.TheConstants.{NOON_2000}

@@ -1,3 +1,5 @@
+-- of sun_core, given on
+pub use Rattle.sun_core.specs.Daily as SunDaily
 pub mod Angles
 pub mod Courses
 pub mod Daily

@@ -14,8 +14,8 @@ ghost use Rattle.moon_core.specs.Daily.{daily_angles_of, computed_millionths_of}
 ghost use Rattle.moon_core.specs.Elements.{AreElementsOf, AreMeasured, HoldElements, KeepElements};
 ghost use Rattle.sun_core.specs.Daily.{in_centuries};
 ghost use Rattle.time_scales.specs.Steps.{IsYearOpenFor};
-ghost use Rattle.greatest_widths.specs.declared.table.TheConstants.{LATITUDE};
-ghost use Rattle.greatest_widths.specs.Table.{greatest_of};
+ghost use Rattle.encl_core.specs.declared.greatest_widths.TheConstants.{LATITUDE};
+ghost use Rattle.encl_core.specs.GreatestWidths.{greatest_of};
 
 use crate::angles::Angles;
 use crate::elements::{MoonElements, moon_elements};

@@ -6,7 +6,7 @@ ghost use Rattle.book_model.specs.programs.Calls.{Follows1};
 ghost use Rattle.book_model.specs.programs.Leading.{Leads};
 ghost use Rattle.book_model.specs.programs.Widths.{IsMoment, IsUpTo, Measured1, Measures, Answers1};
 ghost use Rattle.std.specs.Prelude.{◌≡◌, ◌≤◌, ℕ, ◌^◌, pos, neg_ℤ, ◌≤ℤ◌, ◌+ℤ◌, ◌-ℤ◌, ◌*ℤ◌, IfOk, IfErr, IfSome};
-ghost use Rattle.exact_math.specs.Interval.{Interval};
+ghost use Rattle.book_model.specs.Interval.{Interval};
 ghost use Rattle.book_model.specs.numbers.Bounds.{Reach, IsNarrow, limits_of};
 ghost use Rattle.book_model.specs.numbers.Expressions.{Expression, World, argument};
 ghost use Rattle.book_model.specs.sky.Moon as spec;
@@ -19,8 +19,8 @@ ghost use Rattle.moon_core.specs.Widths.{IsCloseSum, days_and_terms, longitude_b
 ghost use Rattle.sun_core.specs.Daily.{in_centuries};
 ghost use Rattle.sun_core.specs.Widths.{days_of_years};
 ghost use Rattle.time_scales.specs.Steps.{IsYearOpenFor};
-ghost use Rattle.greatest_widths.specs.declared.table.TheConstants.{MOON};
-ghost use Rattle.greatest_widths.specs.Table.{greatest_of};
+ghost use Rattle.encl_core.specs.declared.greatest_widths.TheConstants.{MOON};
+ghost use Rattle.encl_core.specs.GreatestWidths.{greatest_of};
 
 use crate::angles::Angles;
 use crate::elements::{MoonElements, moon_elements};

@@ -8,8 +8,8 @@ ghost use Rattle.std.specs.Prelude.{◌≡◌, ℕ, ◌≤◌, ◌+◌, ◌*◌,
 ghost use Rattle.book_model.specs.declared.new_moon_tables.TheConstants.{FIRST_LATE_MOON as first_late, LAST_TABLE_MOON as last_moon, LATE_START};
 ghost use Rattle.book_model.specs.sky.Phases as spec;
 ghost use Rattle.moon_core.specs.Courses.{number_by, number_of_phase as number_of_phase_of};
-ghost use Rattle.greatest_widths.specs.declared.table.TheConstants.{PHASE};
-ghost use Rattle.greatest_widths.specs.Table.{greatest_of};
+ghost use Rattle.encl_core.specs.declared.greatest_widths.TheConstants.{PHASE};
+ghost use Rattle.encl_core.specs.GreatestWidths.{greatest_of};
 
 use crate::phase_courses::{PhaseCourse, phase_by};
 use crate::phases::{months_since, nearest_moon, phase};

@@ -2,13 +2,13 @@
 ghost use Rattle.book_model.specs.programs.Calls.{Decides1, Encloses1, Follows1, Follows2, Holds2};
 ghost use Rattle.book_model.specs.programs.Widths.{IsAbout, IsMoment, IsSmall, IsUpTo, IsWithin, Measured1, Measured2, Answers1, Answers2, Closes1};
 ghost use Rattle.std.specs.Prelude.{◌≡◌, ℕ, ◌≤◌, ◌+◌, ◌*◌, ◌/◌, ◌^◌, ℤ, pos, negsuc, ◌≤ℤ◌, IfOk, IfErr};
-ghost use Rattle.exact_math.specs.Interval.{Interval};
+ghost use Rattle.book_model.specs.Interval.{Interval};
 ghost use Rattle.book_model.specs.declared.new_moon_tables.TheConstants.{LAST_TABLE_MOON as last_moon};
 ghost use Rattle.book_model.specs.sky.Phases as spec;
 ghost use Rattle.book_model.specs.numbers.Ranges.{IsInTable};
 ghost use Rattle.time_scales.specs.Steps.{IsYearOpenFor, IsEarlyYearFor};
-ghost use Rattle.greatest_widths.specs.declared.table.TheConstants.{PHASE};
-ghost use Rattle.greatest_widths.specs.Table.{greatest_of};
+ghost use Rattle.encl_core.specs.declared.greatest_widths.TheConstants.{PHASE};
+ghost use Rattle.encl_core.specs.GreatestWidths.{greatest_of};
 
 use crate::longitude::moon;
 use book_model::new_moon_tables::{DAY_IN_MONTHS, TURN};

@@ -4,12 +4,12 @@ ghost use Rattle.book_model.specs.programs.Widths.{IsAbout, IsClose, IsMoment, I
 ghost use Rattle.std.specs.Prelude.{◌≡◌, ◌≤◌, ◌+◌, ◌*◌, ◌^◌, ℕ, pos, negsuc, ◌≤ℤ◌, IfOk, IfErr};
 ghost use Rattle.book_model.specs.numbers.Ranges.{IsInTable};
 ghost use Rattle.sun_core.specs.Widths.{IsNearMoment};
-ghost use Rattle.exact_math.specs.Interval.{Interval};
+ghost use Rattle.book_model.specs.Interval.{Interval};
 ghost use Rattle.book_model.specs.sky.Facts.{IsFactDay, IsValueDay};
 ghost use Rattle.book_model.specs.sky.Phases as spec;
 ghost use Rattle.book_model.specs.sky.Sun.{reduced_of};
-ghost use Rattle.greatest_widths.specs.declared.table.TheConstants.{PHASE};
-ghost use Rattle.greatest_widths.specs.Table.{greatest_of};
+ghost use Rattle.encl_core.specs.declared.greatest_widths.TheConstants.{PHASE};
+ghost use Rattle.encl_core.specs.GreatestWidths.{greatest_of};
 ghost use Rattle.moon_core.specs.PhaseDays.{IsPhaseDay};
 ghost use Rattle.time_scales.specs.Steps.{IsEarlyYearFor, IsNoEarlyYear};
 

@@ -4,8 +4,8 @@ ghost use Rattle.book_model.specs.programs.Widths.{IsMoment, IsSmall, Measured, 
 ghost use Rattle.std.specs.Prelude.{◌≡◌, ◌+◌, ◌*◌, ◌^◌, pos, negsuc, ◌≤ℤ◌, ◌+ℤ◌, ◌-ℤ◌, IfOk};
 ghost use Rattle.book_model.specs.declared.new_moon_tables.TheConstants.{FIRST_RECENT_MOON as first_recent, LAST_RECENT_MOON as last_recent, LATE_START};
 ghost use Rattle.book_model.specs.sky.Phases as spec;
-ghost use Rattle.greatest_widths.specs.declared.table.TheConstants.{NEW_MOON};
-ghost use Rattle.greatest_widths.specs.Table.{greatest_of};
+ghost use Rattle.encl_core.specs.declared.greatest_widths.TheConstants.{NEW_MOON};
+ghost use Rattle.encl_core.specs.GreatestWidths.{greatest_of};
 ghost use Rattle.book_model.specs.declared.time_tables.TheConstants.{RECENT_START, TABLE_END};
 
 use crate::numbers::number;

@@ -4,7 +4,7 @@
 use Rattle.std.proofs.Common.{◌≡◌, ℕ, zero, suc, ◌+◌, ◌-◌, ◌*◌, ◌/◌, ◌^◌, ◌<◌, ◌≤◌, refl, subst, ap, arith, Bool, true, false, not, if◌then◌else◌, ℤ, pos, negsuc, ◌≤ℤ◌, ◌*ℤ◌}
 use Rattle.std.specs.Prelude.{◌&&◌}
 use Rattle.std.proofs.lemmas.Int.{ints}
-use Rattle.exact_math.proofs.Intervals.{within_refl}
+use Rattle.book_model.proofs.Intervals.{within_refl}
 use Rattle.book_model.specs.declared.fact.Place.{Place}
 use Rattle.book_model.specs.declared.horizon.Location.{Location}
 use Rattle.book_model.specs.programs.Programs.{Program, answer, run, outcome, valued}

@@ -9,10 +9,10 @@ use Rattle.std.proofs.Math.Pow.{pow_mono}
 use Rattle.std.proofs.lemmas.Int.{ints, by_lt_z}
 use Rattle.std.proofs.lemmas.Bool.{lt-ltb, ltb-true}
 use Rattle.std.proofs.lemmas.Bool.Decides.{Decides-int_eq}
-use Rattle.exact_math.specs.Fraction.{Fraction, whole, floor}
-use Rattle.exact_math.specs.Interval.{Interval, everything, between}
-use Rattle.exact_math.proofs.Floors.{floor_mono, floor_quotient_is}
-use Rattle.exact_math.proofs.Fractions.{at_most_true}
+use Rattle.book_model.specs.Fraction.{Fraction, whole, floor}
+use Rattle.book_model.specs.Interval.{Interval, everything, between}
+use Rattle.book_model.proofs.Floors.{floor_mono, floor_quotient_is}
+use Rattle.book_model.proofs.Fractions.{at_most_true}
 use Rattle.book_model.specs.calendars.Gregorian.{first_day, year_of_day}
 use Rattle.book_model.specs.declared.fact.Place.{Place}
 use Rattle.book_model.specs.declared.fact.TheConstants.{PLACES}
@@ -31,8 +31,8 @@ use Rattle.book_model.proofs.Calendars.{year_mono}
 use Rattle.book_model.proofs.CorrectionRows.{both}
 use Rattle.book_model.proofs.Implying.{limits_within}
 use Rattle.book_model.proofs.NameLemmas.{column_passes, place_row}
-use Rattle.greatest_widths.proofs.Covering.{floor_least, floor_most, ceil_least, ceil_most, size_least}
-use Rattle.greatest_widths.proofs.Measuring.{looser}
+use Rattle.encl_core.proofs.Covering.{floor_least, floor_most, ceil_least, ceil_most, size_least}
+use Rattle.encl_core.proofs.Measuring.{looser}
 use Rattle.time_scales.proofs.ZoneWidths.{zone_hours_kept}
 use Rattle.moon_rise.specs.Computed.{shift_of, computed_moment_of}
 use Rattle.moon_rise.specs.Moments.{AreHours, HasOneYear}

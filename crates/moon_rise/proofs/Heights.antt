@@ -6,9 +6,9 @@ use Rattle.std.specs.Option.{option_map_or}
 use Rattle.std.specs.List.{list_all}
 use Rattle.std.proofs.Common.{arith, ◌⊎◌, inl, inr}
 use Rattle.std.proofs.lemmas.Int.{ints}
-use Rattle.exact_math.specs.Fraction.{Fraction, ◌≤F◌, plus, is_at_most}
-use Rattle.exact_math.specs.Interval.{Interval, everything, between}
-use Rattle.exact_math.proofs.Fractions.{le_refl, le_trans, le_total, plus_mono, at_most_true, at_most_false}
+use Rattle.book_model.specs.Fraction.{Fraction, ◌≤F◌, plus, is_at_most}
+use Rattle.book_model.specs.Interval.{Interval, everything, between}
+use Rattle.book_model.proofs.Fractions.{le_refl, le_trans, le_total, plus_mono, at_most_true, at_most_false}
 use Rattle.book_model.specs.declared.fact.Place.{Place}
 use Rattle.book_model.specs.declared.fact.TheConstants.{PLACES}
 use Rattle.book_model.specs.declared.fail.Fail.{Fail}
@@ -25,7 +25,7 @@ use Rattle.book_model.specs.sky.Altitude.{altitude_sine_of, north_of, towards_of
 use Rattle.book_model.specs.sky.Names.{place_number, location_of}
 use Rattle.book_model.proofs.NameLemmas.{column_passes, place_row}
 use Rattle.encl_core.specs.Steps.{IsOpenLess}
-use Rattle.greatest_widths.proofs.Measuring.{measured, sloped, looser}
+use Rattle.encl_core.proofs.Measuring.{measured, sloped, looser}
 use Rattle.rise_set.specs.Altitudes.{IsTilt}
 use Rattle.rise_set.specs.Widths.{IsDepression, IsNarrowLocation}
 use Rattle.rise_set.proofs.Places.{place_is_narrow}

@@ -1,15 +1,15 @@
 -- How wide the moon's distance is at the scale 2^-56.
 use Rattle.std.specs.Prelude.{◌≡◌, ℕ, ◌+◌, ◌*◌, ◌^◌, true, pos, refl}
 use Rattle.std.proofs.Common.{arith}
-use Rattle.exact_math.specs.Interval.{Interval}
+use Rattle.book_model.specs.Interval.{Interval}
 use Rattle.book_model.specs.numbers.Bounds.{bounded, implies, bound_of, limits_at, limits_of, integer_bound, constant_bound, sum_bound, difference_bound, scaled_bound, product_bound, power_bound, spanned_bound, cosine_spans}
 use Rattle.book_model.specs.numbers.Polynomials.{quadratic_of}
 use Rattle.book_model.specs.numbers.Relations.{Narrow}
 use Rattle.book_model.specs.numbers.Terms.{terms_to, terms_of, times_power}
 use Rattle.book_model.specs.sky.Moon.{lunar_angle_of}
-use Rattle.greatest_widths.proofs.Measuring.{measured}
-use Rattle.sun_core.specs.Daily.{in_centuries, has_daily, by_centuries, by_days}
-use Rattle.sun_core.proofs.Measured.{tabled, days_of}
+use Rattle.encl_core.proofs.Measuring.{measured}
+use Rattle.moon_core.specs.SunDaily.{in_centuries, has_daily, by_centuries, by_days}
+use Rattle.moon_core.proofs.SunMeasured.{tabled, days_of}
 use Rattle.moon_core.specs.Daily.{daily_quartic_of, daily_cubic_of, daily_angles_of}
 use Rattle.moon_rise.specs.Computed.{computed_distance_by}
 use Rattle.book_model.specs.sky.Distance.{distance_part_of, distance_term_of, distance_terms_of}

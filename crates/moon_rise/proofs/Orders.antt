@@ -4,12 +4,12 @@ use Rattle.std.proofs.Common.{arith, ◌≡◌, ◌<◌, ◌*◌, ◌+◌, ◌-�
 use Rattle.std.proofs.lemmas.Int.{ints}
 use lib.IntN.{neg_ℤ}
 use lib.Signed.{lt_z}
-use Rattle.exact_math.specs.Fraction.{Fraction, ◌≤F◌, ◌≈◌, whole, plus, opposite, times, reciprocal, below_product}
-use Rattle.exact_math.specs.Interval.{Interval, everything, between, IsProper, IsMember, ◌⊆◌, sum, negative, product, quotient, least, greatest, excludes_zero}
-use Rattle.exact_math.proofs.Fractions.{le_refl, le_trans, IsPositive, IsNegative, positive_above, negative_below}
-use Rattle.exact_math.proofs.Intervals.{sum_holds, product_holds, quotient_holds, positive_excludes, negative_excludes, least_is, greatest_is, least_keeps, greatest_keeps, within_trans, within_refl, within_everything, sum_within, negative_within}
-use Rattle.exact_math.proofs.Ring.{ring, at, lit, ◌⊗◌}
-use Rattle.exact_math.proofs.Same.{same_trans, same_refl, same_sym, plus_cong, plus_assoc, times_assoc, times_cong, plus_times, le_of_same, ge_of_same}
+use Rattle.book_model.specs.Fraction.{Fraction, ◌≤F◌, ◌≈◌, whole, plus, opposite, times, reciprocal, below_product}
+use Rattle.book_model.specs.Interval.{Interval, everything, between, IsProper, IsMember, ◌⊆◌, sum, negative, product, quotient, least, greatest, excludes_zero}
+use Rattle.book_model.proofs.Fractions.{le_refl, le_trans, IsPositive, IsNegative, positive_above, negative_below}
+use Rattle.book_model.proofs.Intervals.{sum_holds, product_holds, quotient_holds, positive_excludes, negative_excludes, least_is, greatest_is, least_keeps, greatest_keeps, within_trans, within_refl, within_everything, sum_within, negative_within}
+use Rattle.book_model.proofs.Ring.{ring, at, lit, ◌⊗◌}
+use Rattle.book_model.proofs.Same.{same_trans, same_refl, same_sym, plus_cong, plus_assoc, times_assoc, times_cong, plus_times, le_of_same, ge_of_same}
 use Rattle.book_model.specs.declared.fact.Place.{Place}
 use Rattle.book_model.specs.declared.frac.Frac.{Frac}
 use Rattle.book_model.specs.declared.time_tables.TheConstants.{HOUR}
@@ -19,7 +19,7 @@ use Rattle.book_model.specs.numbers.Relations.{Within, Lies}
 use Rattle.book_model.specs.sky.Time.{midnight_of, zone_on}
 use Rattle.book_model.proofs.Arcs.{arcsines_nest}
 use Rattle.book_model.proofs.Values.{value_proper}
-use Rattle.sun_core.proofs.Scalings.{same_member}
+use Rattle.moon_core.proofs.Scalings.{same_member}
 use Rattle.moon_rise.specs.Computed.{mean_kilometres, kilometre_in_radii, computed_parallax_of, shift_of, computed_moment_of}
 use Rattle.book_model.specs.sky.Distance.{mean_distance, metre}
 use Rattle.book_model.specs.sky.Moonrise.{equator_radius, parallax_of, part_of_day, moment_of}

@@ -2,7 +2,7 @@
 -- such that every open test is close; and how many tests there are.
 use Rattle.std.specs.Prelude.{◌≡◌, ℕ, zero, suc, ◌+◌, ◌*◌, ◌^◌, ◌&&◌, not, if◌then◌else◌, Bool, true, false, ℤ, Option, Some, None, Result, Ok, Err, IfErr, IfSome}
 use Rattle.std.proofs.Common.{arith}
-use Rattle.exact_math.specs.Interval.{Interval, IsProper}
+use Rattle.book_model.specs.Interval.{Interval, IsProper}
 use Rattle.book_model.specs.declared.fact.Place.{Place}
 use Rattle.book_model.specs.declared.fail.Fail.{Fail}
 use Rattle.book_model.specs.declared.fail.Fail.TheVariants.{Undecided as undecided_at, Void}
@@ -23,7 +23,7 @@ use Rattle.book_model.specs.sky.Time.{sidereal_of}
 use Rattle.book_model.proofs.FactRuns.{centuries_few}
 use Rattle.book_model.proofs.Leads.{at_most_bind, at_most_more}
 use Rattle.encl_core.specs.Steps.{IsOpenLess}
-use Rattle.greatest_widths.proofs.Measuring.{drawn}
+use Rattle.encl_core.proofs.Measuring.{drawn}
 use Rattle.moon_core.proofs.PhaseRanges.{within_world}
 use Rattle.rise_set.proofs.Tilts.{no_failure}
 use Rattle.time_scales.specs.Steps.{IsYearOpenFor, IsNotOfYear}

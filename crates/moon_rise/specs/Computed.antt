@@ -1,7 +1,7 @@
 -- The distance, the parallax and the moments of a day as they are computed: the same numbers as the definitions', in an order whose parts
 -- an enclosure can hold.
 use Rattle.std.specs.Prelude.{ℕ, ℤ, pos, ◌-ℤ◌, ◌*ℤ◌, ◌*◌, ◌-◌}
-use Rattle.exact_math.specs.Fraction.{Fraction}
+use Rattle.book_model.specs.Fraction.{Fraction}
 use Rattle.book_model.specs.declared.frac.Frac.{Frac}
 use Rattle.book_model.specs.declared.moon_tables.TheConstants.{MEAN_DISTANCE}
 use Rattle.book_model.specs.numbers.Expressions.{Expression, integer, constant, add, subtract, divide, scale, cosine, arcsine}

@@ -1,7 +1,7 @@
 -- What is known of the moments of a day.
 use Rattle.std.specs.Prelude.{◌≡◌, ◌<◌, ◌*◌, ◌^◌, ℤ, pos, ◌≤ℤ◌, Some, FitsSigned}
 use Rattle.std.specs.Int.{w64}
-use Rattle.exact_math.specs.Interval.{Interval}
+use Rattle.book_model.specs.Interval.{Interval}
 use Rattle.book_model.specs.declared.frac.Frac.{Frac}
 use Rattle.book_model.specs.programs.Programs.{years, cell_at}
 

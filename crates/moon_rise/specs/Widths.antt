@@ -1,12 +1,12 @@
 -- How wide the distance of the moon, its altitude and what they are taken of are at the scale 2^-56.
 use Rattle.std.specs.Prelude.{◌≡◌, ℕ, ◌+◌, ◌*◌, ◌^◌, pos, neg_ℤ, Bool, true, if◌then◌else◌, ◌==◌}
-use Rattle.exact_math.specs.Interval.{Interval}
+use Rattle.book_model.specs.Interval.{Interval}
 use Rattle.book_model.specs.declared.horizon.Location.{Location}
 use Rattle.book_model.specs.numbers.Bounds.{Bound, bounded, bound_of, implies, limits_at}
 use Rattle.book_model.specs.numbers.Expressions.{argument}
 use Rattle.book_model.specs.programs.Widths.{IsWithin, IsAbout, IsMoment, IsUpTo, IsDated}
-use Rattle.greatest_widths.specs.Table.{greatest_of}
-use Rattle.greatest_widths.specs.declared.table.TheConstants.{DISTANCE, LATITUDE, MOON, SIDEREAL}
+use Rattle.encl_core.specs.GreatestWidths.{greatest_of}
+use Rattle.encl_core.specs.declared.greatest_widths.TheConstants.{DISTANCE, LATITUDE, MOON, SIDEREAL}
 use Rattle.rise_set.specs.Widths.{IsNarrowLocation}
 use Rattle.book_model.specs.sky.Moonrise.{sky_sine_of}
 

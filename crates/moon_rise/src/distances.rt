@@ -14,7 +14,7 @@ ghost use Rattle.moon_rise.specs.Computed.{mean_kilometres as mean_kilometres_of
 ghost use Rattle.book_model.specs.sky.Distance as spec;
 ghost use Rattle.moon_rise.specs.Widths.{IsDistance};
 ghost use Rattle.std.specs.Prelude.{◌≡◌, ◌≤◌, ◌^◌, ℕ, Ok, IfErr};
-ghost use Rattle.sun_core.specs.Daily.{in_centuries};
+ghost use Rattle.moon_core.specs.SunDaily.{in_centuries};
 ghost use Rattle.time_scales.specs.Steps.{IsYearOpenFor};
 
 use crate::terms::distance_terms;

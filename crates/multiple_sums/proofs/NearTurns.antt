@@ -1,16 +1,16 @@
 -- What is near a turn: multiples and sums of it, and its sine.
 use Rattle.std.proofs.Common.{◌≡◌, ℕ, ◌+◌, ◌*◌, ◌/◌, ◌^◌, ◌≤◌, ◌<◌, refl, arith, unsigned_abs, neg_ℤ, ℤ, pos, ◌+ℤ◌, ◌-ℤ◌, ◌*ℤ◌, ◌≤ℤ◌, ◌<ℤ◌, [], ◌∷◌}
 use Rattle.std.proofs.lemmas.Int.{ints}
-use Rattle.exact_math.specs.Fraction.{◌≤F◌, whole, plus, times}
-use Rattle.exact_math.specs.Interval.{Interval, between, IsProper, ◌⊆◌, sum, product}
-use Rattle.exact_math.proofs.Fractions.{le_refl}
-use Rattle.exact_math.proofs.Intervals.{within_trans, within_refl, sum_within, product_within, least_keeps, greatest_keeps}
-use Rattle.exact_math.proofs.Ring.{at, lit, ◌⊕◌, ◌⊗◌, ring}
+use Rattle.book_model.specs.Fraction.{◌≤F◌, whole, plus, times}
+use Rattle.book_model.specs.Interval.{Interval, between, IsProper, ◌⊆◌, sum, product}
+use Rattle.book_model.proofs.Fractions.{le_refl}
+use Rattle.book_model.proofs.Intervals.{within_trans, within_refl, sum_within, product_within, least_keeps, greatest_keeps}
+use Rattle.book_model.proofs.Ring.{at, lit, ◌⊕◌, ◌⊗◌, ring}
 use Rattle.book_model.specs.numbers.Expressions.{exactly}
 use Rattle.book_model.specs.numbers.Octants.{only, sine_of_degrees}
 use Rattle.book_model.specs.programs.Leading.{units_of_56}
-use Rattle.interval_ends.specs.declared.parts.TheConstants.{OCTANT}
-use Rattle.trig_series.proofs.KernelAngles.{product_ends}
+use Rattle.encl_core.specs.parts.TheConstants.{OCTANT}
+use Rattle.turn_sums.proofs.KernelAngles.{product_ends}
 use Rattle.turn_sums.specs.Turning.{HasPoint, octant_of, degrees_of}
 use Rattle.turn_sums.proofs.Around.{IsAngleNear, sine_near}
 use Rattle.turn_sums.proofs.WaveRows.{corners, octant_is, degrees_are, degrees_few, octant_few, abs_above, abs_below}

@@ -2,8 +2,8 @@
 use Rattle.std.proofs.Common.{refl, ap, ◌∙◌, ◌≡◌, ℕ, ◌*◌, ◌^◌, ◌≤◌, ◌<◌, arith, unsigned_abs, neg_ℤ, ℤ, pos, ◌+ℤ◌, ◌-ℤ◌, ◌*ℤ◌, ◌≤ℤ◌, SFits, w64}
 use Rattle.std.specs.Int.{w128}
 use Rattle.std.proofs.lemmas.Int.{ints}
-use Rattle.exact_math.proofs.IntLaws.{mul_assoc}
-use Rattle.interval_ends.proofs.Scaling.{bounded_z}
+use Rattle.book_model.proofs.IntLaws.{mul_assoc}
+use Rattle.encl_core.proofs.Scaling.{bounded_z}
 use Rattle.turn_sums.specs.Turning.{whole_turns}
 
 pub times_bounds : (m : ℤ) (t : ℕ) → unsigned_abs m ≤ 8 → t < 2 ^ 64 → (neg_ℤ (pos (2 ^ 67)) ≤ℤ (m *ℤ pos t)) × ((m *ℤ pos t) ≤ℤ pos (2 ^ 67))

@@ -5,8 +5,8 @@ use Rattle.std.proofs.Common.{◌≡◌, ℕ, zero, suc, ◌+◌, ◌*◌, ◌^�
 use Rattle.std.proofs.Common.{[], ◌∷◌, ◌<◌, length, slice_index_or}
 use Rattle.std.proofs.lemmas.Float.{T_from_true}
 use Rattle.std.proofs.lemmas.Int.{ints}
-use Rattle.exact_math.specs.Fraction.{whole}
-use Rattle.exact_math.proofs.Ring.{at, lit, ◌⊕◌, ◌⊗◌, ring}
+use Rattle.book_model.specs.Fraction.{whole}
+use Rattle.book_model.proofs.Ring.{at, lit, ◌⊕◌, ◌⊗◌, ring}
 use Rattle.book_model.specs.declared.moon_tables.TheConstants.{LATITUDE_TERMS, MOON_TERMS}
 use Rattle.book_model.specs.declared.moon_terms.LatitudeTerm.{LatitudeTerm}
 use Rattle.book_model.specs.declared.moon_terms.MoonTerm.{MoonTerm}

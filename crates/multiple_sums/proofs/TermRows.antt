@@ -2,19 +2,19 @@
 use Rattle.std.proofs.Common.{mul-le-mul, ◌≡◌, ℕ, zero, suc, ◌+◌, ◌*◌, ◌/◌, ◌-◌, ◌^◌, ◌≤◌, ◌<◌, refl, arith, unsigned_abs, neg_ℤ, ℤ, pos, negsuc}
 use Rattle.std.proofs.Common.{◌+ℤ◌, ◌-ℤ◌, ◌*ℤ◌, ◌≤ℤ◌, [], ◌∷◌}
 use Rattle.std.proofs.lemmas.Int.{ints}
-use Rattle.exact_math.specs.Fraction.{Fraction, ◌≤F◌, times, below_product}
-use Rattle.exact_math.specs.Interval.{Interval, between, IsProper, ◌⊆◌, product}
-use Rattle.exact_math.proofs.Bounds.{◌≼◌, known, ◌⊞◌, ◌⊠◌, times as naturally, le_by, pos_nonneg}
-use Rattle.exact_math.proofs.Fractions.{le_refl}
-use Rattle.exact_math.proofs.Intervals.{within_trans, within_refl, product_within, least_keeps, greatest_keeps}
-use Rattle.exact_math.proofs.Ring.{at, lit, ◌⊕◌, ◌⊖◌, ◌⊗◌, ring}
+use Rattle.book_model.specs.Fraction.{Fraction, ◌≤F◌, times, below_product}
+use Rattle.book_model.specs.Interval.{Interval, between, IsProper, ◌⊆◌, product}
+use Rattle.book_model.proofs.Bounds.{◌≼◌, known, ◌⊞◌, ◌⊠◌, times as naturally, le_by, pos_nonneg}
+use Rattle.book_model.proofs.Fractions.{le_refl}
+use Rattle.book_model.proofs.Intervals.{within_trans, within_refl, product_within, least_keeps, greatest_keeps}
+use Rattle.book_model.proofs.Ring.{at, lit, ◌⊕◌, ◌⊖◌, ◌⊗◌, ring}
 use Rattle.book_model.specs.numbers.Expressions.{Expression, World, value, exactly, power}
 use Rattle.book_model.specs.numbers.Octants.{cosine_of_degrees}
 use Rattle.book_model.specs.numbers.Terms.{times_power}
 use Rattle.book_model.specs.programs.Leading.{units_of_56}
 use Rattle.book_model.proofs.Values.{value_proper}
-use Rattle.trig_series.proofs.KernelAngles.{product_ends}
-use Rattle.trig_series.proofs.SineLemmas.{quarter_proper}
+use Rattle.turn_sums.proofs.KernelAngles.{product_ends}
+use Rattle.turn_sums.proofs.SineLemmas.{quarter_proper}
 use Rattle.turn_sums.specs.Turning.{HasPoint, octant_of, degrees_of}
 use Rattle.turn_sums.proofs.WaveRows.{corners, abs_above, abs_below}
 use Rattle.multiple_sums.specs.Angles.{in_37, IsFactor, IsNearTurn}

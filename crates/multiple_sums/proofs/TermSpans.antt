@@ -1,7 +1,7 @@
 -- A sum of rows as a span.
 use Rattle.std.proofs.Common.{◌≡◌, ℕ, ◌^◌, arith, ℤ, pos, ◌+ℤ◌, ◌-ℤ◌, ◌*ℤ◌, ◌≤ℤ◌, ◌<ℤ◌}
 use Rattle.std.proofs.lemmas.Int.{ints}
-use Rattle.exact_math.specs.Interval.{Interval, between, ◌⊆◌}
+use Rattle.book_model.specs.Interval.{Interval, between, ◌⊆◌}
 use Rattle.book_model.specs.programs.Leading.{units_of_56}
 use Rattle.multiple_sums.specs.Multiples.{in_93, around_93, radius_of}
 use Rattle.multiple_sums.specs.declared.mean.MeanTurns.{MeanTurns}

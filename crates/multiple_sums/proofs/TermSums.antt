@@ -2,12 +2,12 @@
 use Rattle.std.proofs.Common.{sym, subst, ◌∙◌, ◌≡◌, ℕ, zero, suc, ◌+◌, ◌*◌, ◌/◌, ◌-◌, ◌^◌, ◌<◌, refl, ap, arith, ℤ, pos, ◌+ℤ◌, ◌-ℤ◌}
 use Rattle.std.proofs.Common.{◌*ℤ◌, add-one, List, length, slice_index_or, [], ◌∷◌}
 use Rattle.std.proofs.lemmas.Int.{ints}
-use Rattle.exact_math.specs.Fraction.{◌≤F◌, plus, below_product}
-use Rattle.exact_math.specs.Interval.{◌⊆◌, sum}
-use Rattle.exact_math.proofs.Bounds.{times as naturally, le_by}
-use Rattle.exact_math.proofs.Fractions.{by_cross, den_product}
-use Rattle.exact_math.proofs.Intervals.{within_trans, sum_within}
-use Rattle.exact_math.proofs.Ring.{at, lit, ◌⊕◌, ◌⊗◌, ring}
+use Rattle.book_model.specs.Fraction.{◌≤F◌, plus, below_product}
+use Rattle.book_model.specs.Interval.{◌⊆◌, sum}
+use Rattle.book_model.proofs.Bounds.{times as naturally, le_by}
+use Rattle.book_model.proofs.Fractions.{by_cross, den_product}
+use Rattle.book_model.proofs.Intervals.{within_trans, sum_within}
+use Rattle.book_model.proofs.Ring.{at, lit, ◌⊕◌, ◌⊗◌, ring}
 use Rattle.book_model.specs.numbers.Expressions.{Expression, World, value}
 use Rattle.book_model.specs.numbers.Terms.{terms_to, terms_of}
 use Rattle.multiple_sums.specs.Multiples.{AreSmall, AreTerms, IsSmallRow, IsTerm, in_93, around_93, no_sums, radius_of, sums_of, sums_to, together}

@@ -1,7 +1,7 @@
 -- Angles and factors that are known as whole numbers.
 use Rattle.std.specs.Prelude.{ℕ, ◌-◌, ◌^◌, ℤ, pos, ◌+ℤ◌, ◌-ℤ◌, ◌*ℤ◌, ◌≤ℤ◌}
-use Rattle.exact_math.specs.Fraction.{Fraction}
-use Rattle.exact_math.specs.Interval.{Interval, between, ◌⊆◌}
+use Rattle.book_model.specs.Fraction.{Fraction}
+use Rattle.book_model.specs.Interval.{Interval, between, ◌⊆◌}
 use Rattle.book_model.specs.programs.Leading.{units_of_56}
 
 -- numbers that count 2^-61 and 2^-37

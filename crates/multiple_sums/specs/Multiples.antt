@@ -1,7 +1,7 @@
 -- Terms whose angles are sums of multiples of a few mean angles, each of which is known as a turn.
 use Rattle.std.specs.Prelude.{◌≡◌, ℕ, zero, suc, ◌+◌, ◌*◌, ◌/◌, ◌-◌, ◌^◌, ◌≤◌, ◌<◌, unsigned_abs, ℤ, pos, ◌+ℤ◌, ◌-ℤ◌, ◌*ℤ◌, List, length, slice_index_or}
-use Rattle.exact_math.specs.Fraction.{Fraction, below_product}
-use Rattle.exact_math.specs.Interval.{Interval, between}
+use Rattle.book_model.specs.Fraction.{Fraction, below_product}
+use Rattle.book_model.specs.Interval.{Interval, between}
 use Rattle.book_model.specs.numbers.Expressions.{Expression, World, value, scale, sine, cosine, power}
 use Rattle.book_model.specs.numbers.Terms.{times_power}
 use Rattle.multiple_sums.specs.Angles.{IsFactor, IsKnown, IsNearTurn}

@@ -1,6 +1,6 @@
 //! Rows whose angles are sums of multiples of mean angles.
 ghost use Rattle.std.specs.Prelude.{◌≡◌, ◌≤◌, ◌*◌, ◌^◌, ℕ, ℤ, pos, neg_ℤ, ◌≤ℤ◌, ◌+ℤ◌, ◌-ℤ◌, ◌*ℤ◌, unsigned_abs};
-ghost use Rattle.exact_math.specs.Interval.{◌⊆◌};
+ghost use Rattle.book_model.specs.Interval.{◌⊆◌};
 ghost use Rattle.book_model.specs.numbers.Depth.{DEPTH};
 ghost use Rattle.book_model.specs.numbers.Expressions.{Expression, World, value};
 ghost use Rattle.turn_sums.specs.Turning.{whole_turns};

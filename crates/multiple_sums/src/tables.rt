@@ -1,6 +1,6 @@
 //! The rows of the moon's tables as they are summed, and their sums.
 ghost use Rattle.std.specs.Prelude.{◌≤◌, unsigned_abs, pos};
-ghost use Rattle.exact_math.specs.Interval.{between, ◌⊆◌};
+ghost use Rattle.book_model.specs.Interval.{between, ◌⊆◌};
 ghost use Rattle.book_model.specs.declared.moon_tables.TheConstants.{LATITUDE_TERMS, MOON_TERMS};
 ghost use Rattle.book_model.specs.declared.new_moon_tables.TheConstants.{NEW_MOON_TERMS};
 ghost use Rattle.book_model.specs.numbers.Depth.{DEPTH};

@@ -1,6 +1,6 @@
 //! Mean angles as turns.
 ghost use Rattle.std.specs.Prelude.{◌≡◌, ◌≤◌, ◌+◌, ◌*◌, ◌-◌, ◌^◌, ℕ, pos, neg_ℤ, ◌≤ℤ◌, ◌<ℤ◌, ◌+ℤ◌, ◌-ℤ◌, ◌*ℤ◌, IfSome};
-ghost use Rattle.exact_math.specs.Interval.{Interval, between, ◌⊆◌};
+ghost use Rattle.book_model.specs.Interval.{Interval, between, ◌⊆◌};
 ghost use Rattle.book_model.specs.numbers.Expressions.{Expression, World, value, power};
 ghost use Rattle.book_model.specs.numbers.Relations.{Within};
 ghost use Rattle.book_model.specs.programs.Leading.{units_of_56};

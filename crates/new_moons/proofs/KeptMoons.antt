@@ -2,7 +2,7 @@
 use Rattle.std.proofs.Common.{◌≡◌, ℕ, ◌+◌, ◌^◌, ℤ, pos, negsuc, ◌≤ℤ◌, ◌-ℤ◌, Option, Some, None, Ok, IfSome, arith}
 use Rattle.std.specs.Prelude.{nat_lt, true, refl, pos, ◌+ℤ◌}
 use Rattle.std.proofs.lemmas.Int.{ints}
-use Rattle.exact_math.specs.Interval.{Interval, ◌⊆◌}
+use Rattle.book_model.specs.Interval.{Interval, ◌⊆◌}
 use Rattle.book_model.specs.declared.site.Site.TheVariants.{Year}
 use Rattle.book_model.specs.declared.new_moon_tables.TheConstants.{FIRST_RECENT_MOON, LAST_RECENT_MOON, NEW_MOON_OF_2000}
 use Rattle.book_model.specs.numbers.Expressions.{Expression, subtract}
@@ -16,7 +16,7 @@ use Rattle.book_model.specs.sky.Time.{correction_of_year, correction_at, from_dy
 use Rattle.book_model.proofs.FactRuns.{correction_few}
 use Rattle.book_model.proofs.Implying.{limits_within}
 use Rattle.book_model.proofs.Leads.{at_most_bind}
-use Rattle.greatest_widths.proofs.Measuring.{looser, narrower}
+use Rattle.encl_core.proofs.Measuring.{looser, narrower}
 use Rattle.encl_core.specs.declared.span.Span.{Span}
 use Rattle.encl_core.specs.Kept.{shown_span, IsKept, IsMoonWithin}
 use Rattle.encl_core.proofs.Keeping.{kept_with_test}

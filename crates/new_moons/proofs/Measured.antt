@@ -4,8 +4,8 @@ use Rattle.std.specs.Prelude.{◌≡◌, ℕ, zero, suc, ◌+◌, ◌-◌, ◌*�
 use Rattle.std.proofs.Common.{arith}
 use Rattle.std.proofs.lemmas.Int.{ints}
 use Rattle.std.proofs.lemmas.Bool.{leb-true}
-use Rattle.exact_math.specs.Fraction.{Fraction}
-use Rattle.exact_math.specs.Interval.{Interval}
+use Rattle.book_model.specs.Fraction.{Fraction}
+use Rattle.book_model.specs.Interval.{Interval}
 use Rattle.book_model.specs.declared.fail.Fail.{Fail}
 use Rattle.book_model.specs.declared.frac.Frac.{Frac}
 use Rattle.book_model.specs.declared.moon_tables.TheConstants.{ECCENTRICITY_FACTOR}
@@ -21,10 +21,10 @@ use Rattle.book_model.specs.numbers.Terms.{terms_to, terms_of, times_power}
 use Rattle.book_model.specs.programs.Widths.{IsWithin, IsAbout, IsMoment, Measures, recent_from, IsSince}
 use Rattle.book_model.specs.sky.NewMoons.{NewMoonAngles, new_moon_term_of, angle_of_new_moon_term, no_new_moon_term, millionths, planet_angle, planet_term_of, planet_terms_of, no_planet_term, centuries_of_months}
 use Rattle.book_model.proofs.Implying.{limits_within}
-use Rattle.greatest_widths.specs.Sizes.{HasSize}
-use Rattle.greatest_widths.proofs.Covering.{IsCovered, wider_covered, scaled_covered, within_covered}
-use Rattle.greatest_widths.proofs.Measuring.{measured, sloped, looser}
-use Rattle.greatest_widths.proofs.WaveCovers.{constant_covered, constant_sine_covered, terms_covered}
+use Rattle.encl_core.specs.Sizes.{HasSize}
+use Rattle.encl_core.proofs.Covering.{IsCovered, wider_covered, scaled_covered, within_covered}
+use Rattle.encl_core.proofs.Measuring.{measured, sloped, looser}
+use Rattle.encl_core.proofs.WaveCovers.{constant_covered, constant_sine_covered, terms_covered}
 use Rattle.time_scales.specs.Horner.{horner_size, horner_width, horner_fits}
 use Rattle.new_moons.specs.Angles.{KeepAngles}
 use Rattle.new_moons.specs.Widths.{IsNearTime, IsRecentMonth, IsRecentTime, IsRecentMean, recent_mean_from, recent_mean_to, AreNearAngles}

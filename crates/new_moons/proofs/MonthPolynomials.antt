@@ -1,13 +1,13 @@
 -- The polynomials of a new moon with their first two terms as one fraction have the same values; and the powers of a time.
 use Rattle.std.proofs.Common.{◌≡◌, ℕ, refl, arith, ℤ, pos, negsuc, ◌+ℤ◌, ◌*ℤ◌, List, [], ◌∷◌, length, slice_index_or}
 use Rattle.std.proofs.lemmas.Int.{ints}
-use Rattle.exact_math.specs.Fraction.{Fraction, ◌≈◌, whole, plus, times, power}
-use Rattle.exact_math.specs.Interval.{Interval, everything, between, IsMember, ◌⊆◌, sum, product}
-use Rattle.exact_math.proofs.FractionRing.{same_by}
-use Rattle.exact_math.proofs.Fractions.{le_refl}
-use Rattle.exact_math.proofs.Intervals.{power_holds, sum_within, within_trans, within_refl, within_everything}
-use Rattle.exact_math.proofs.Ring.{at, lit, ◌⊕◌, ◌⊗◌}
-use Rattle.exact_math.proofs.Same.{same_trans, same_refl, plus_cong, le_of_same, ge_of_same}
+use Rattle.book_model.specs.Fraction.{Fraction, ◌≈◌, whole, plus, times, power}
+use Rattle.book_model.specs.Interval.{Interval, everything, between, IsMember, ◌⊆◌, sum, product}
+use Rattle.book_model.proofs.FractionRing.{same_by}
+use Rattle.book_model.proofs.Fractions.{le_refl}
+use Rattle.book_model.proofs.Intervals.{power_holds, sum_within, within_trans, within_refl, within_everything}
+use Rattle.book_model.proofs.Ring.{at, lit, ◌⊕◌, ◌⊗◌}
+use Rattle.book_model.proofs.Same.{same_trans, same_refl, plus_cong, le_of_same, ge_of_same}
 use Rattle.book_model.specs.declared.frac.Frac.{Frac}
 use Rattle.book_model.specs.declared.new_moon_tables.TheConstants.{MEAN_NEW_MOON, NEW_MOON_ANOMALY, NEW_MOON_LATITUDE_ARGUMENT, NEW_MOON_NODE, NEW_MOON_SUN_ANOMALY}
 use Rattle.book_model.specs.numbers.Expressions.{World, value, exactly, constant, multiply, power as power_of}

@@ -1,13 +1,13 @@
 -- The planets' terms are waves by half a month in turns, and their sum in days is a millionth of these waves' sum.
 use Rattle.std.proofs.Common.{◌≡◌, ℕ, zero, suc, refl, arith, ℤ, pos, ◌+ℤ◌, ◌*ℤ◌, List, [], ◌∷◌, slice_index_or}
 use Rattle.std.proofs.lemmas.Int.{ints}
-use Rattle.exact_math.specs.Fraction.{Fraction, ◌≈◌, ◌≤F◌, whole, plus, times}
-use Rattle.exact_math.specs.Interval.{Interval, everything, between, zero_fraction, IsProper, IsMember, ◌⊆◌, sum, product, least, greatest}
-use Rattle.exact_math.proofs.FractionRing.{same_by}
-use Rattle.exact_math.proofs.Fractions.{le_refl, le_trans, plus_mono, times_mono}
-use Rattle.exact_math.proofs.Intervals.{within_trans, within_refl, within_everything, product_within, product_holds, sum_within, least_is, greatest_is, least_below, greatest_above}
-use Rattle.exact_math.proofs.Ring.{at, lit, ◌⊕◌, ◌⊗◌, ring}
-use Rattle.exact_math.proofs.Same.{same_trans, same_refl, times_cong, plus_times, le_of_same, ge_of_same}
+use Rattle.book_model.specs.Fraction.{Fraction, ◌≈◌, ◌≤F◌, whole, plus, times}
+use Rattle.book_model.specs.Interval.{Interval, everything, between, zero_fraction, IsProper, IsMember, ◌⊆◌, sum, product, least, greatest}
+use Rattle.book_model.proofs.FractionRing.{same_by}
+use Rattle.book_model.proofs.Fractions.{le_refl, le_trans, plus_mono, times_mono}
+use Rattle.book_model.proofs.Intervals.{within_trans, within_refl, within_everything, product_within, product_holds, sum_within, least_is, greatest_is, least_below, greatest_above}
+use Rattle.book_model.proofs.Ring.{at, lit, ◌⊕◌, ◌⊗◌, ring}
+use Rattle.book_model.proofs.Same.{same_trans, same_refl, times_cong, plus_times, le_of_same, ge_of_same}
 use Rattle.book_model.specs.declared.polynomial.Wave.{Wave}
 use Rattle.book_model.specs.declared.moon_terms.PlanetTerm.{PlanetTerm}
 use Rattle.book_model.specs.declared.new_moon_tables.TheConstants.{PLANET_TERMS}

@@ -1,8 +1,8 @@
 -- Powers of a factor, one after the other.
 use Rattle.std.specs.Prelude.{◌≡◌, ℕ, zero, suc, ◌+◌, ◌≤◌, refl}
 use Rattle.std.proofs.Common.{add-one, arith}
-use Rattle.exact_math.specs.Interval.{Interval}
-use Rattle.exact_math.proofs.Intervals.{within_trans}
+use Rattle.book_model.specs.Interval.{Interval}
+use Rattle.book_model.proofs.Intervals.{within_trans}
 use Rattle.book_model.specs.numbers.Bounds.{Limits, Reach, bound_of, power_bound}
 use Rattle.book_model.specs.numbers.Expressions.{Expression, World, value, multiply, power}
 use Rattle.book_model.specs.numbers.Relations.{Within, Narrow, Lies, Keeps}

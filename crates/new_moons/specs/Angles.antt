@@ -1,6 +1,6 @@
 -- What the code's angles of a new moon say of the definition's, and the angles as the code computes them.
-use Rattle.exact_math.specs.Fraction.{Fraction}
-use Rattle.exact_math.specs.Interval.{Interval}
+use Rattle.book_model.specs.Fraction.{Fraction}
+use Rattle.book_model.specs.Interval.{Interval}
 use Rattle.book_model.specs.declared.moon_tables.TheConstants.{ECCENTRICITY_FACTOR}
 use Rattle.book_model.specs.declared.new_moon_tables.TheConstants.{NEW_MOON_ANOMALY, NEW_MOON_LATITUDE_ARGUMENT, NEW_MOON_SUN_ANOMALY}
 use Rattle.book_model.specs.numbers.Bounds.{Limits, Reach}

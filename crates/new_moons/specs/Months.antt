@@ -1,6 +1,6 @@
 -- The polynomials of a new moon with their first two terms as one fraction, and what holds the powers of a time.
-use Rattle.exact_math.specs.Fraction.{Fraction, power}
-use Rattle.exact_math.specs.Interval.{Interval}
+use Rattle.book_model.specs.Fraction.{Fraction, power}
+use Rattle.book_model.specs.Interval.{Interval}
 use Rattle.book_model.specs.numbers.Expressions.{Expression, World, constant, add, scale}
 use Rattle.book_model.specs.numbers.Relations.{Within}
 use Rattle.new_moons.specs.declared.months.Powers.{Powers}

@@ -1,6 +1,6 @@
 -- A new moon as the code computes it: at an exact time each polynomial from the inside out.
 use Rattle.std.specs.Prelude.{ℤ}
-use Rattle.exact_math.specs.Fraction.{Fraction}
+use Rattle.book_model.specs.Fraction.{Fraction}
 use Rattle.book_model.specs.declared.new_moon_tables.TheConstants.{MEAN_NEW_MOON, NEW_MOON_NODE, NEW_MOON_TERMS, NODE_TERM}
 use Rattle.book_model.specs.declared.time_tables.TheConstants.{NOON_2000}
 use Rattle.book_model.specs.numbers.Expressions.{Expression, constant, add, scale, sine}

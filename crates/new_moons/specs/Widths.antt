@@ -1,10 +1,10 @@
 -- How wide the parts of a new moon are at the scale 2^-56, within 26 centuries of 2000.
 use Rattle.std.specs.Prelude.{ℕ, ◌*◌, ◌^◌, ℤ, pos, ◌+ℤ◌, ◌-ℤ◌, ◌*ℤ◌, ◌≤ℤ◌}
-use Rattle.exact_math.specs.Fraction.{Fraction}
-use Rattle.exact_math.specs.Interval.{Interval}
+use Rattle.book_model.specs.Fraction.{Fraction}
+use Rattle.book_model.specs.Interval.{Interval}
 use Rattle.book_model.specs.declared.new_moon_tables.TheConstants.{FIRST_RECENT_MOON, LAST_RECENT_MOON, NEW_MOON_OF_2000, RECENT_CENTURIES, RECENT_DAYS}
 use Rattle.book_model.specs.programs.Widths.{IsWithin, IsAbout}
-use Rattle.greatest_widths.specs.Sizes.{HasSize}
+use Rattle.encl_core.specs.Sizes.{HasSize}
 use Rattle.new_moons.specs.declared.angles.Angles.{Angles}
 
 -- a time within 26 centuries of 2000

@@ -5,7 +5,7 @@ ghost use Rattle.std.specs.Prelude.{◌≡◌, ◌≤◌, ◌<◌, ◌-◌, ◌+
 ghost use Rattle.book_model.specs.declared.new_moon_tables.TheConstants.{MEAN_NEW_MOON as MEAN, NEW_MOON_ANOMALY as MOON, NEW_MOON_LATITUDE_ARGUMENT as LATITUDE, NEW_MOON_NODE as NODE, NEW_MOON_SUN_ANOMALY as SUN};
 ghost use Rattle.book_model.specs.numbers.Depth.{DEPTH};
 ghost use Rattle.book_model.specs.numbers.Expressions.{World};
-ghost use Rattle.exact_math.specs.Fraction.{Fraction};
+ghost use Rattle.book_model.specs.Fraction.{Fraction};
 ghost use Rattle.book_model.specs.numbers.Fractions.{fraction_of};
 ghost use Rattle.book_model.specs.numbers.Polynomials.{polynomial_at};
 ghost use Rattle.book_model.specs.numbers.Relations.{Within};

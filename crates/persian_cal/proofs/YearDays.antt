@@ -3,7 +3,7 @@ use Rattle.std.specs.Prelude.{◌≡◌, Bool, true, false, if◌then◌else◌,
 use Rattle.std.proofs.Common.{arith}
 use Rattle.std.proofs.lemmas.Int.{ints}
 use lib.IntN.{neg_ℤ}
-use Rattle.exact_math.proofs.Floors.{floor_quotient_is}
+use Rattle.book_model.proofs.Floors.{floor_quotient_is}
 use Rattle.book_model.specs.calendars.Inquiries.{to_32_bits}
 use Rattle.book_model.specs.calendars.Persian.{days_before_month, month_of_number}
 use Rattle.book_model.specs.calendars.Spans.{quotient_up}

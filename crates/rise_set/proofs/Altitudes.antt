@@ -1,12 +1,12 @@
 -- How wide the sine of the moon's altitude is at the scale 2^-56.
 use Rattle.std.specs.Prelude.{◌≡◌, ℕ, ◌+◌, ◌*◌, ◌^◌, true, pos, neg_ℤ, refl, if◌then◌else◌, ◌==◌}
 use Rattle.std.proofs.Common.{arith}
-use Rattle.exact_math.specs.Interval.{Interval}
+use Rattle.book_model.specs.Interval.{Interval}
 use Rattle.book_model.specs.numbers.Bounds.{Bound, bounded, Reach, implies, bound_of, limits_at, limits_of, sum_bound, difference_bound, product_bound, spanned_bound, sine_spans, cosine_spans}
 use Rattle.book_model.specs.numbers.Expressions.{Expression, argument}
 use Rattle.book_model.specs.numbers.Relations.{Narrow}
 use Rattle.book_model.specs.sky.Altitude.{north_of, towards_of, east_of}
-use Rattle.greatest_widths.proofs.Measuring.{measured, sloped}
+use Rattle.encl_core.proofs.Measuring.{measured, sloped}
 use Rattle.rise_set.specs.Directions.{over_ground}
 use Rattle.rise_set.specs.Altitudes.{IsMoonAngle, IsMoonLatitude, IsTilt, IsLocalSiderealTime, IsGround, IsAltitudeSine}
 

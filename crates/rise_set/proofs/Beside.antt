@@ -5,13 +5,13 @@ use Rattle.std.specs.Int.{w64}
 use Rattle.std.specs.Ordering.{int_eq}
 use Rattle.std.proofs.lemmas.Int.{ints}
 use Rattle.std.proofs.lemmas.Bool.Decides.{Decides-int_eq}
-use Rattle.exact_math.specs.Fraction.{Fraction, ◌≤F◌, ◌<F◌, ◌≈◌, whole, plus, floor}
-use Rattle.exact_math.specs.Interval.{Interval, everything, between, ◌⊆◌, sum}
-use Rattle.exact_math.proofs.Floors.{floor_below, floor_close}
-use Rattle.exact_math.proofs.Fractions.{le_refl, le_trans, le_lt_trans, plus_mono}
-use Rattle.exact_math.proofs.IntLaws.{add_mul}
-use Rattle.exact_math.proofs.Intervals.{sum_within, within_everything, within_refl}
-use Rattle.exact_math.proofs.Same.{same_refl, same_trans, plus_cong}
+use Rattle.book_model.specs.Fraction.{Fraction, ◌≤F◌, ◌<F◌, ◌≈◌, whole, plus, floor}
+use Rattle.book_model.specs.Interval.{Interval, everything, between, ◌⊆◌, sum}
+use Rattle.book_model.proofs.Floors.{floor_below, floor_close}
+use Rattle.book_model.proofs.Fractions.{le_refl, le_trans, le_lt_trans, plus_mono}
+use Rattle.book_model.proofs.IntLaws.{add_mul}
+use Rattle.book_model.proofs.Intervals.{sum_within, within_everything, within_refl}
+use Rattle.book_model.proofs.Same.{same_refl, same_trans, plus_cong}
 use Rattle.book_model.specs.declared.fail.Fail.{Fail}
 use Rattle.book_model.specs.declared.fail.Fail.TheVariants.{Undecided as undecided_at, Void}
 use Rattle.book_model.specs.declared.fail.Undecided.{Undecided}
@@ -23,7 +23,7 @@ use Rattle.book_model.specs.numbers.Relations.{Within}
 use Rattle.book_model.proofs.FactRuns.{when_some}
 use Rattle.book_model.proofs.Leads.{leads_cell, leads_open_cell, leads_answer, leads_stop_at, few_tests, lies}
 use Rattle.book_model.proofs.Early.{from_one}
-use Rattle.interval_ends.specs.declared.parts.TheConstants.{ONE}
+use Rattle.encl_core.specs.parts.TheConstants.{ONE}
 use Rattle.encl_core.specs.Steps.{IsOpenFloor}
 use Rattle.rise_set.specs.Moved.{AreMoved, by_whole, to_no_bounds, IsBeside, IsTooFar, AreOf128Bits}
 

@@ -1,3 +1,5 @@
+-- of sun_core, given on
+pub use Rattle.sun_core.proofs.NewYears
 pub mod Settling
 pub mod Beside
 pub mod Horizons

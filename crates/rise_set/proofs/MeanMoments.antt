@@ -2,13 +2,13 @@
 use Rattle.std.specs.Prelude.{◌≡◌, ℕ, ◌^◌, ◌≤◌, ℤ, pos, negsuc, ◌+ℤ◌, ◌-ℤ◌, refl}
 use Rattle.std.proofs.Common.{arith, [], ◌∷◌}
 use Rattle.std.proofs.lemmas.Int.{ints}
-use Rattle.exact_math.specs.Fraction.{Fraction, ◌≤F◌, whole, plus, opposite}
-use Rattle.exact_math.specs.Interval.{Interval, IsProper, everything, between, ◌⊆◌, sum, negative}
-use Rattle.exact_math.proofs.FractionRing.{same_by}
-use Rattle.exact_math.proofs.Fractions.{le_trans, plus_mono}
-use Rattle.exact_math.proofs.Intervals.{within_refl}
-use Rattle.exact_math.proofs.Ring.{at, ◌⊕◌, ◌⊖◌}
-use Rattle.exact_math.proofs.Same.{le_of_same}
+use Rattle.book_model.specs.Fraction.{Fraction, ◌≤F◌, whole, plus, opposite}
+use Rattle.book_model.specs.Interval.{Interval, IsProper, everything, between, ◌⊆◌, sum, negative}
+use Rattle.book_model.proofs.FractionRing.{same_by}
+use Rattle.book_model.proofs.Fractions.{le_trans, plus_mono}
+use Rattle.book_model.proofs.Intervals.{within_refl}
+use Rattle.book_model.proofs.Ring.{at, ◌⊕◌, ◌⊖◌}
+use Rattle.book_model.proofs.Same.{le_of_same}
 use Rattle.book_model.specs.declared.frac.Frac.{Frac}
 use Rattle.book_model.specs.numbers.Bounds.{Reach, IsNarrow, limits_of}
 use Rattle.book_model.specs.numbers.Depth.{DEPTH}

@@ -4,9 +4,9 @@ use Rattle.std.proofs.Common.{arith, sym}
 use Rattle.std.proofs.lemmas.Int.{ints}
 use Rattle.std.proofs.lemmas.Bool.{lt-ltb}
 use lib.Signed.{le_z}
-use Rattle.exact_math.specs.Fraction.{Fraction, den, ◌≤F◌, is_at_most}
-use Rattle.exact_math.specs.Interval.{Interval, everything, between}
-use Rattle.exact_math.proofs.Fractions.{le_trans}
+use Rattle.book_model.specs.Fraction.{Fraction, den, ◌≤F◌, is_at_most}
+use Rattle.book_model.specs.Interval.{Interval, everything, between}
+use Rattle.book_model.proofs.Fractions.{le_trans}
 use Rattle.book_model.specs.declared.frac.Frac.{Frac}
 use Rattle.book_model.specs.declared.fail.Fail.{Fail}
 use Rattle.book_model.specs.declared.fail.Fail.TheVariants.{Undecided as undecided_at, Void}
@@ -25,7 +25,7 @@ use Rattle.book_model.specs.sky.Horizon.{declination_by, part_of, quarter_of}
 use Rattle.book_model.specs.sky.Noon.{ahead_of}
 use Rattle.book_model.specs.sky.Phases.{size_of}
 use Rattle.book_model.proofs.Implying.{limits_within}
-use Rattle.greatest_widths.proofs.Measuring.{measured, measured_argument, sloped, looser}
+use Rattle.encl_core.proofs.Measuring.{measured, measured_argument, sloped, looser}
 use Rattle.sun_core.specs.Widths.{IsNarrowPlace, IsObliquity, IsLocalMoment}
 use Rattle.sun_core.proofs.Measured.{ahead_within}
 use Rattle.encl_core.specs.Steps.{IsOpenLess}

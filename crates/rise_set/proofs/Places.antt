@@ -3,7 +3,7 @@ use Rattle.std.specs.Prelude.{◌≡◌, ℕ, ◌+◌, ◌*◌, ◌/◌, ◌^◌
 use Rattle.std.specs.Option.{option_map_or}
 use Rattle.std.proofs.Common.{arith}
 use Rattle.std.proofs.lemmas.Int.{ints}
-use Rattle.exact_math.specs.Interval.{Interval}
+use Rattle.book_model.specs.Interval.{Interval}
 use Rattle.book_model.specs.declared.fact.Place.{Place}
 use Rattle.book_model.specs.declared.fact.Place.TheVariants.{Ujjain}
 use Rattle.book_model.specs.declared.horizon.Location.{Location}
@@ -18,7 +18,7 @@ use Rattle.book_model.specs.sky.Names.{location_of}
 use Rattle.book_model.specs.sky.Places.{is_kept_location}
 use Rattle.book_model.proofs.CorrectionRows.{both}
 use Rattle.book_model.proofs.Places.{location_kept}
-use Rattle.greatest_widths.proofs.Measuring.{measured, looser, sloped}
+use Rattle.encl_core.proofs.Measuring.{measured, looser, sloped}
 use Rattle.rise_set.specs.Widths.{IsDepression, IsNarrowLocation}
 
 -- ---- places

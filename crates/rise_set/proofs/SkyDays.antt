@@ -2,10 +2,10 @@
 use Rattle.std.specs.Prelude.{◌≡◌, ℕ, zero, suc, ◌*◌, ◌^◌, ◌≤◌, Bool, true, false, if◌then◌else◌, ℤ, pos, negsuc, ◌+ℤ◌, ◌-ℤ◌, ◌*ℤ◌, ◌≤ℤ◌, Ok}
 use Rattle.std.proofs.Common.{arith}
 use Rattle.std.proofs.lemmas.Int.{ints}
-use Rattle.exact_math.specs.Fraction.{◌≤F◌, whole, plus, opposite, times, smaller, larger, is_at_most}
-use Rattle.exact_math.specs.Interval.{Interval, everything, between, ◌⊆◌, IsProper, sum, difference, product, least, greatest, negative}
-use Rattle.exact_math.proofs.Fractions.{le_refl, le_trans, plus_mono}
-use Rattle.exact_math.proofs.Intervals.{within_refl, within_trans, product_within, difference_proper}
+use Rattle.book_model.specs.Fraction.{◌≤F◌, whole, plus, opposite, times, smaller, larger, is_at_most}
+use Rattle.book_model.specs.Interval.{Interval, everything, between, ◌⊆◌, IsProper, sum, difference, product, least, greatest, negative}
+use Rattle.book_model.proofs.Fractions.{le_refl, le_trans, plus_mono}
+use Rattle.book_model.proofs.Intervals.{within_refl, within_trans, product_within, difference_proper}
 use Rattle.book_model.specs.declared.horizon.Location.{Location}
 use Rattle.book_model.specs.declared.horizon.Twilight.{Twilight}
 use Rattle.book_model.specs.declared.horizon.Twilight.TheVariants.{Dawn, Dusk}
@@ -31,7 +31,7 @@ use Rattle.book_model.proofs.Estimates.{between_of_within, wider, difference_bet
 use Rattle.book_model.proofs.FactRuns.{parts, decides}
 use Rattle.book_model.proofs.Leads.{leads_leaf, leaf_within, lies}
 use Rattle.book_model.proofs.Values.{value_proper}
-use Rattle.greatest_widths.proofs.Measuring.{looser}
+use Rattle.encl_core.proofs.Measuring.{looser}
 use Rattle.rise_set.proofs.MeanMoments.{from_difference}
 use Rattle.book_model.specs.declared.time_tables.TheConstants.{RECENT_START}
 

@@ -5,14 +5,14 @@ use Rattle.std.specs.Int.{w128}
 use Rattle.std.specs.Ordering.{int_eq}
 use Rattle.std.proofs.lemmas.Int.{ints}
 use Rattle.std.proofs.lemmas.Bool.{lt-ltb}
-use Rattle.exact_math.specs.Fraction.{Fraction, ◌≤F◌, ◌≈◌, whole, plus, opposite, times, floor, floor_quotient}
-use Rattle.exact_math.specs.Interval.{Interval, IsProper, IsMember, everything, between, ◌⊆◌}
-use Rattle.exact_math.proofs.Floors.{floor_below, floor_close, floor_quotient_is}
-use Rattle.exact_math.proofs.FractionRing.{same_by}
-use Rattle.exact_math.proofs.Fractions.{le_refl, le_trans, le_lt_trans, plus_mono, times_mono}
-use Rattle.exact_math.proofs.Intervals.{sum_holds, product_holds, negative_holds, within_everything}
-use Rattle.exact_math.proofs.Ring.{at, ◌⊕◌, ◌⊖◌, ◌⊗◌}
-use Rattle.exact_math.proofs.Same.{le_of_same, ge_of_same, same_refl, same_trans, plus_cong}
+use Rattle.book_model.specs.Fraction.{Fraction, ◌≤F◌, ◌≈◌, whole, plus, opposite, times, floor, floor_quotient}
+use Rattle.book_model.specs.Interval.{Interval, IsProper, IsMember, everything, between, ◌⊆◌}
+use Rattle.book_model.proofs.Floors.{floor_below, floor_close, floor_quotient_is}
+use Rattle.book_model.proofs.FractionRing.{same_by}
+use Rattle.book_model.proofs.Fractions.{le_refl, le_trans, le_lt_trans, plus_mono, times_mono}
+use Rattle.book_model.proofs.Intervals.{sum_holds, product_holds, negative_holds, within_everything}
+use Rattle.book_model.proofs.Ring.{at, ◌⊕◌, ◌⊖◌, ◌⊗◌}
+use Rattle.book_model.proofs.Same.{le_of_same, ge_of_same, same_refl, same_trans, plus_cong}
 use Rattle.book_model.specs.declared.fail.Fail.{Fail}
 use Rattle.book_model.specs.declared.fail.Fail.TheVariants.{Undecided as undecided_at, Void}
 use Rattle.book_model.specs.declared.location_tables.TheConstants.{MINUTES, MINUTES_OF_DAY}
@@ -34,13 +34,13 @@ use Rattle.book_model.proofs.FactRuns.{decides, when_some}
 use Rattle.book_model.proofs.Implying.{limits_within}
 use Rattle.book_model.proofs.Leads.{leads_value}
 use Rattle.book_model.proofs.Nesting.{cell_nested}
-use Rattle.greatest_widths.proofs.Measuring.{measured, looser, sloped}
+use Rattle.encl_core.proofs.Measuring.{measured, looser, sloped}
 use Rattle.encl_core.specs.Steps.{IsOpenFloor}
 use Rattle.rise_set.specs.Moved.{HasRoom, IsTooFar}
 use Rattle.rise_set.specs.Widths.{IsMeanMoment, IsSettled, AreMinutes}
 use Rattle.rise_set.proofs.MeanMoments.{moment_world, within_moment}
 use Rattle.book_model.specs.sky.Facts.{IsFactDay}
-use Rattle.interval_ends.specs.declared.parts.TheConstants.{ONE}
+use Rattle.encl_core.specs.parts.TheConstants.{ONE}
 
 -- ---- a floor that a whole number is added to
 about_between : (v : ℕ) (i : Interval) → IsAbout (2 ^ 90) v i → IsBetween (neg_ℤ (pos (2 ^ 58))) (pos (2 ^ 58)) i

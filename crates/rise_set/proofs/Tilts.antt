@@ -2,7 +2,7 @@
 use Rattle.std.specs.Prelude.{ℕ, ◌+◌, ◌/◌, ◌^◌, ◌≤◌, Result, Ok, Err, IfErr}
 use Rattle.std.proofs.Common.{arith}
 use Rattle.std.proofs.lemmas.Int.{ints}
-use Rattle.exact_math.specs.Interval.{Interval, IsProper}
+use Rattle.book_model.specs.Interval.{Interval, IsProper}
 use Rattle.book_model.specs.declared.fail.Fail.{Fail}
 use Rattle.book_model.specs.numbers.Expressions.{Expression, World}
 use Rattle.book_model.specs.numbers.Relations.{Within}
@@ -10,7 +10,7 @@ use Rattle.book_model.specs.programs.Leading.{Leads, Reports}
 use Rattle.book_model.specs.programs.Programs.{answered, run}
 use Rattle.book_model.specs.programs.Widths.{Measures}
 use Rattle.book_model.specs.sky.Sun.{obliquity_of}
-use Rattle.greatest_widths.proofs.Measuring.{looser}
+use Rattle.encl_core.proofs.Measuring.{looser}
 use Rattle.rise_set.specs.Altitudes.{IsTilt}
 use Rattle.sun_core.proofs.Worlds.{within_first}
 use Rattle.sun_core.specs.Widths.{IsObliquity}

@@ -1,6 +1,6 @@
 -- How wide the altitude of the moon and what it is taken of are at the scale 2^-56, at a moment that is at most 9/8 of 2^-32 days wide.
 use Rattle.std.specs.Prelude.{◌+◌, ◌*◌, ◌^◌, pos}
-use Rattle.exact_math.specs.Interval.{Interval}
+use Rattle.book_model.specs.Interval.{Interval}
 use Rattle.book_model.specs.programs.Widths.{IsWithin, IsAbout, IsUpTo}
 
 -- a phase or a longitude of the moon: at most 2^-26 degrees wide

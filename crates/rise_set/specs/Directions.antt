@@ -1,5 +1,5 @@
 -- Angles by their sine and their cosine, and the altitude over a latitude of the ground.
-use Rattle.exact_math.specs.Interval.{Interval}
+use Rattle.book_model.specs.Interval.{Interval}
 use Rattle.book_model.specs.numbers.Bounds.{Limits, Reach}
 use Rattle.book_model.specs.numbers.Expressions.{Expression, World, add, multiply, sine as sine_of, cosine as cosine_of}
 use Rattle.book_model.specs.numbers.Relations.{Within, Narrow}

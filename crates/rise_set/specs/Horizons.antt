@@ -1,6 +1,6 @@
 -- What a horizon says of its location and of a depression, and calls that take one.
 use Rattle.std.specs.Prelude.{◌≡◌, ℕ, ◌≤◌, Result}
-use Rattle.exact_math.specs.Interval.{Interval}
+use Rattle.book_model.specs.Interval.{Interval}
 use Rattle.book_model.specs.declared.fail.Fail.{Fail}
 use Rattle.book_model.specs.numbers.Depth.{DEPTH}
 use Rattle.book_model.specs.numbers.Expressions.{Expression, World, constant, add, multiply, divide, sine as sine_of, cosine as cosine_of, tangent as tangent_of}

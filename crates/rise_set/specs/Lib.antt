@@ -1,3 +1,5 @@
+-- of sun_core, given on
+pub use Rattle.sun_core.specs.Widths as SunWidths
 pub mod Moved
 pub mod Horizons
 pub mod Widths

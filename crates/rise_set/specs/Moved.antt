@@ -5,7 +5,7 @@ use Rattle.book_model.specs.declared.fail.Fail.{Fail}
 use Rattle.book_model.specs.declared.fail.Fail.TheVariants.{Undecided, Void}
 use Rattle.book_model.specs.declared.site.Site.{Site}
 use Rattle.book_model.specs.programs.Leading.{AreNoBounds}
-use Rattle.interval_ends.specs.declared.parts.TheConstants.{ONE}
+use Rattle.encl_core.specs.parts.TheConstants.{ONE}
 
 -- the ends lo and hi, which count 2^-56, after k is added; or no ends
 pub data AreMoved (k lo hi low high : ℤ) : Type 0 where

@@ -1,6 +1,6 @@
 -- How wide dawn, dusk and what they are made of are at the scale 2^-56, at places of latitudes from 0 to 36 degrees.
 use Rattle.std.specs.Prelude.{◌≡◌, ℕ, ◌+◌, ◌-◌, ◌*◌, ◌/◌, ◌^◌, true, ℤ, pos, neg_ℤ, ◌≤ℤ◌}
-use Rattle.exact_math.specs.Interval.{Interval}
+use Rattle.book_model.specs.Interval.{Interval}
 use Rattle.book_model.specs.declared.horizon.Location.{Location}
 use Rattle.book_model.specs.numbers.Bounds.{unbounded, bounded, bound_of, implies, limits_at}
 use Rattle.book_model.specs.numbers.Expressions.{constant}

@@ -6,7 +6,7 @@ ghost use Rattle.std.specs.Prelude.{◌≡◌, ◌≤◌, ◌^◌, ◌*ℤ◌, �
 ghost use Rattle.book_model.specs.numbers.Expressions.{add, integer};
 ghost use Rattle.book_model.specs.sky.Horizon as spec;
 ghost use Rattle.book_model.specs.programs.Programs.{answer, cell, integers};
-ghost use Rattle.interval_ends.specs.declared.parts.TheConstants.{ONE};
+ghost use Rattle.encl_core.specs.parts.TheConstants.{ONE};
 ghost use Rattle.rise_set.specs.Moved.{AreMoved, AreOf128Bits, HasRoom, IsBeside, IsTooFar};
 ghost use Rattle.rise_set.specs.Widths.{IsSettled};
 ghost use Rattle.book_model.specs.sky.Facts.{IsFactDay};
@@ -14,8 +14,8 @@ ghost use Rattle.book_model.specs.sky.Facts.{IsFactDay};
 use book_model::location_tables::{MINUTES, MINUTES_OF_DAY};
 use book_model::tables::HALF;
 use book_model::{Fail, Site, Undecided};
+use encl_core::parts::ONE;
 use encl_core::{Enclosure, Trail, floor_step};
-use interval_ends::parts::ONE;
 
 /// A number that counts 2⁻⁵⁶ with a whole number added, where it has 128 bits.
 fn shifted_end(end: i128, whole: i64) -> Option<i128>

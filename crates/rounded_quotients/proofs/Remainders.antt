@@ -4,7 +4,7 @@ use Rattle.std.proofs.Common.{zero, arith}
 use Rattle.std.proofs.lemmas.Int.{ints}
 use Rattle.exact_math.specs.Fraction.{floor_quotient}
 use Rattle.exact_math.proofs.Floors.{floor_quotient_is}
-use Rattle.book_model.specs.calendars.Spans.{amod, modulo}
+use Rattle.exact_math.specs.Quotients.{amod, modulo}
 
 -- what is left of a number by the quotient of the one before it, and how large it is
 pub record IsLeft (n q : ℤ) (d : ℕ) : Type 0 where

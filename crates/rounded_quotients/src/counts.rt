@@ -4,7 +4,7 @@
 //! calendars' days and years are a fiftieth of that. Divisors are above 0: each is a constant, a denominator, or an end
 //! that was tested, so no answer tells that there is none.
 ghost use Rattle.std.specs.Prelude.{◌≡◌, ◌<◌, pos, ◌≤ℤ◌, ◌<ℤ◌, ◌-ℤ◌, ◌*ℤ◌};
-ghost use Rattle.book_model.specs.calendars.Spans.{quotient_down, quotient_up as quotient_up_of, amod as amod_of, modulo as modulo_of};
+ghost use Rattle.exact_math.specs.Quotients.{quotient_down, quotient_up as quotient_up_of, amod as amod_of, modulo as modulo_of};
 ghost use Rattle.rounded_quotients.specs.Counts.{IsCount};
 
 /// The greatest whole number that isn't above the quotient, of a number of 128 bits.

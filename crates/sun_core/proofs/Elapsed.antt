@@ -1,6 +1,6 @@
 -- The time from noon of 1 January 2000 in centuries, of which the days are known too.
 use Rattle.std.proofs.Common.{◌≡◌, ℕ, refl, sym, subst, Result, Ok}
-use Rattle.exact_math.specs.Interval.{Interval}
+use Rattle.book_model.specs.Interval.{Interval}
 use Rattle.book_model.specs.declared.fail.Fail.{Fail}
 use Rattle.book_model.specs.numbers.Expressions.{Expression, World}
 use Rattle.book_model.specs.programs.Leading.{Leads}

@@ -2,12 +2,12 @@
 use Rattle.std.proofs.Common.{◌≡◌, ◌^◌, ◌≤◌, refl, arith, neg_ℤ, ℤ, pos, ◌+ℤ◌, ◌-ℤ◌, ◌*ℤ◌, ◌≤ℤ◌, ◌<ℤ◌, [], ◌∷◌, SFits, to_z, of_z}
 use Rattle.std.specs.Int.{w128}
 use Rattle.std.proofs.lemmas.Int.{ints, to_z-of_z}
-use Rattle.exact_math.specs.Fraction.{Fraction, ◌≤F◌, plus, times, opposite, reciprocal, smaller}
-use Rattle.exact_math.specs.Interval.{Interval, everything, between, IsMember, ◌⊆◌, sum, negative, difference, product, quotient, minimum, maximum}
-use Rattle.exact_math.proofs.FractionRing.{same_by}
-use Rattle.exact_math.proofs.Fractions.{le_refl, le_trans, smaller_keeps, smaller_second, larger_keeps, larger_second}
-use Rattle.exact_math.proofs.Intervals.{within_trans, within_refl, sum_within, sum_holds, difference_within, quotient_within, minimum_within, maximum_within, least_is, greatest_is}
-use Rattle.exact_math.proofs.Ring.{at, lit, ◌⊕◌, ◌⊗◌}
+use Rattle.book_model.specs.Fraction.{Fraction, ◌≤F◌, plus, times, opposite, reciprocal, smaller}
+use Rattle.book_model.specs.Interval.{Interval, everything, between, IsMember, ◌⊆◌, sum, negative, difference, product, quotient, minimum, maximum}
+use Rattle.book_model.proofs.FractionRing.{same_by}
+use Rattle.book_model.proofs.Fractions.{le_refl, le_trans, smaller_keeps, smaller_second, larger_keeps, larger_second}
+use Rattle.book_model.proofs.Intervals.{within_trans, within_refl, sum_within, sum_holds, difference_within, quotient_within, minimum_within, maximum_within, least_is, greatest_is}
+use Rattle.book_model.proofs.Ring.{at, lit, ◌⊕◌, ◌⊗◌}
 use Rattle.book_model.specs.declared.sun_tables.TheConstants.{FIVE_QUARTERS, FOUR, MINUS_HALF, TWO}
 use Rattle.book_model.specs.declared.tables.TheConstants.{HALF, PI_ABOVE, PI_BELOW}
 use Rattle.book_model.specs.numbers.Expressions.{Expression, World, value, exactly, add, scale, pi}

@@ -1,7 +1,7 @@
 -- How wide the formulas without tests are at the scale 2^-36: a bound for each, which that of its expression implies. Of
 -- centuries from -2 to 0.5 and of moments from 0 to 1,000,000, each as wide as the moment from which the width counts.
 use Rattle.std.specs.Prelude.{◌≡◌, ◌+◌, ◌*◌, ◌/◌, ◌-◌, ◌^◌, ℕ, ℤ, pos, negsuc, ◌*ℤ◌, true, refl}
-use Rattle.exact_math.specs.Fraction.{floor_quotient}
+use Rattle.book_model.specs.Fraction.{floor_quotient}
 use Rattle.book_model.specs.declared.sun_tables.TheConstants.{OBLIQUITY}
 use Rattle.book_model.specs.declared.time_tables.TheConstants.{SIDEREAL_TIME}
 use Rattle.book_model.specs.numbers.Bounds.{Bound, bounded, bound_of, implies, limits_of, constant_bound, sum_bound, difference_bound, scaled_bound, product_bound, power_bound, quotient_bound, minimum_bound, maximum_bound, spanned_bound, sine_spans, cosine_spans}

@@ -2,13 +2,13 @@
 use Rattle.std.proofs.Common.{◌≡◌, ℕ, ◌*◌, ◌/◌, ◌^◌, ◌≤◌, refl, arith, neg_ℤ, ℤ, pos, ◌+ℤ◌, ◌-ℤ◌, ◌*ℤ◌, ◌≤ℤ◌, ◌<ℤ◌, length, SFits, [], ◌∷◌}
 use Rattle.std.specs.Int.{w128}
 use Rattle.std.proofs.lemmas.Int.{ints}
-use Rattle.exact_math.specs.Fraction.{Fraction, ◌≈◌, ◌≤F◌, whole, plus, times, opposite}
-use Rattle.exact_math.specs.Interval.{Interval, everything, between, zero_fraction, IsProper, IsMember, ◌⊆◌, sum, product, negative}
-use Rattle.exact_math.proofs.FractionRing.{same_by}
-use Rattle.exact_math.proofs.Fractions.{le_refl, times_mono}
-use Rattle.exact_math.proofs.Intervals.{within_trans, within_refl, within_everything, sum_within, product_within, product_holds, plus_proper, least_keeps, greatest_keeps}
-use Rattle.exact_math.proofs.Ring.{at, lit, ◌⊕◌}
-use Rattle.exact_math.proofs.Same.{same_trans, same_refl, plus_cong, le_of_same, ge_of_same}
+use Rattle.book_model.specs.Fraction.{Fraction, ◌≈◌, ◌≤F◌, whole, plus, times, opposite}
+use Rattle.book_model.specs.Interval.{Interval, everything, between, zero_fraction, IsProper, IsMember, ◌⊆◌, sum, product, negative}
+use Rattle.book_model.proofs.FractionRing.{same_by}
+use Rattle.book_model.proofs.Fractions.{le_refl, times_mono}
+use Rattle.book_model.proofs.Intervals.{within_trans, within_refl, within_everything, sum_within, product_within, product_holds, plus_proper, least_keeps, greatest_keeps}
+use Rattle.book_model.proofs.Ring.{at, lit, ◌⊕◌}
+use Rattle.book_model.proofs.Same.{same_trans, same_refl, plus_cong, le_of_same, ge_of_same}
 use Rattle.book_model.specs.declared.sun_tables.TheConstants.{ABERRATION, MEAN_ABERRATION, SUN_AT_2000, SUN_RATE, SUN_WAVES}
 use Rattle.book_model.specs.declared.time_tables.TheConstants.{DAY_IN_CENTURIES}
 use Rattle.book_model.specs.numbers.Bounds.{Bound, bounded, Limits, IsNarrow, bound_of, limits_of, limits_36, spanned_bound}

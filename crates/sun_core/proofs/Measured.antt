@@ -3,7 +3,7 @@ use Rattle.std.specs.Prelude.{◌≡◌, ℕ, ◌+◌, ◌-◌, ◌*◌, ◌/◌
 use Rattle.std.proofs.Common.{arith}
 use Rattle.std.proofs.lemmas.Int.{ints}
 use Rattle.std.proofs.lemmas.Bool.{lt-ltb}
-use Rattle.exact_math.specs.Interval.{Interval}
+use Rattle.book_model.specs.Interval.{Interval}
 use Rattle.book_model.specs.declared.frac.Frac.{Frac}
 use Rattle.book_model.specs.declared.sun_tables.TheConstants.{OBLIQUITY, PARIS_LONGITUDE, PERSIAN_NOON_LONGITUDE}
 use Rattle.book_model.specs.declared.time_tables.TheConstants.{NOON_2000}
@@ -19,7 +19,7 @@ use Rattle.book_model.specs.sky.Facts.{IsFactDay}
 use Rattle.book_model.specs.sky.Noon.{tilt_of, reduction_of, centre_of, joint_of, second_reduction_of, second_centre_of, radians_of, part_of_day, equation_of, ahead_of}
 use Rattle.book_model.specs.sky.Sun.{nutation_of, back_by}
 use Rattle.book_model.proofs.Implying.{limits_within}
-use Rattle.greatest_widths.proofs.Measuring.{measured, measured_argument, sloped, looser, drawn}
+use Rattle.encl_core.proofs.Measuring.{measured, measured_argument, sloped, looser, drawn}
 use Rattle.sun_core.specs.Daily.{in_centuries, has_daily, by_centuries, by_days, daily_wave_of}
 use Rattle.sun_core.specs.Steps.{apparent_midnight_of, apparent_noon_of, computed_mean_longitude_of, computed_periodic_of, computed_aberration_of, computed_longitude_of}
 use Rattle.sun_core.specs.Widths.{IsObliquity, IsNarrowPlace, IsLocalMoment, IsNearMoment}

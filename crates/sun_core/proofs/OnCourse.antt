@@ -1,7 +1,7 @@
 -- A number within a stretch; what calls that answer say of their programs.
 use Rattle.std.specs.Prelude.{◌≡◌, ℕ, ◌≤◌, Result, Ok, Err, IfOk, length, slice_range, ◌++◌, refl}
-use Rattle.exact_math.specs.Interval.{Interval, everything, ◌⊆◌}
-use Rattle.exact_math.proofs.Intervals.{within_trans, within_everything}
+use Rattle.book_model.specs.Interval.{Interval, everything, ◌⊆◌}
+use Rattle.book_model.proofs.Intervals.{within_trans, within_everything}
 use Rattle.book_model.specs.declared.fail.Fail.{Fail}
 use Rattle.book_model.specs.declared.sun_tables.TheConstants.{SUN_WAVES}
 use Rattle.book_model.specs.numbers.Depth.{DEPTH}

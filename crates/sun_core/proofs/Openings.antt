@@ -2,7 +2,7 @@
 -- failure after three tests isn't among the first.
 use Rattle.std.specs.Prelude.{ℕ, ◌≤◌, Result, Ok, Err, IfErr}
 use Rattle.std.proofs.Common.{arith}
-use Rattle.exact_math.specs.Interval.{Interval}
+use Rattle.book_model.specs.Interval.{Interval}
 use Rattle.book_model.specs.declared.fail.Fail.{Fail}
 use Rattle.book_model.specs.declared.fail.Fail.TheVariants.{Undecided as undecided_at, Void}
 use Rattle.book_model.specs.declared.site.Site.TheVariants.{Sidereal, StepWrap, SunWrap}

@@ -2,13 +2,13 @@
 use Rattle.std.proofs.Common.{ℕ, ◌^◌, refl, arith, neg_ℤ, ℤ, pos, ◌+ℤ◌, ◌-ℤ◌, ◌*ℤ◌, ◌≤ℤ◌, ◌<ℤ◌, [], ◌∷◌, SFits}
 use Rattle.std.specs.Int.{w128}
 use Rattle.std.proofs.lemmas.Int.{ints}
-use Rattle.exact_math.specs.Fraction.{Fraction, ◌≤F◌, plus, times, whole}
-use Rattle.exact_math.specs.Interval.{Interval, everything, between, IsProper, ◌⊆◌, sum, product}
-use Rattle.exact_math.proofs.Bounds.{le_by, le_over, ◌≼◌, known, ◌⊞◌, ◌⊠◌, times as count}
-use Rattle.exact_math.proofs.Fractions.{le_refl, le_trans, plus_mono, product_above, product_below, turned_above, turned_below}
-use Rattle.exact_math.proofs.Intervals.{within_trans, within_refl, within_everything, sum_within, product_within, product_holds, least_keeps, greatest_keeps}
-use Rattle.exact_math.proofs.Ring.{at, lit, minus, ◌⊕◌, ◌⊖◌, ◌⊗◌}
-use Rattle.exact_math.proofs.Same.{le_of_same, ge_of_same, plus_zero, times_to_zero}
+use Rattle.book_model.specs.Fraction.{Fraction, ◌≤F◌, plus, times, whole}
+use Rattle.book_model.specs.Interval.{Interval, everything, between, IsProper, ◌⊆◌, sum, product}
+use Rattle.book_model.proofs.Bounds.{le_by, le_over, ◌≼◌, known, ◌⊞◌, ◌⊠◌, times as count}
+use Rattle.book_model.proofs.Fractions.{le_refl, le_trans, plus_mono, product_above, product_below, turned_above, turned_below}
+use Rattle.book_model.proofs.Intervals.{within_trans, within_refl, within_everything, sum_within, product_within, product_holds, least_keeps, greatest_keeps}
+use Rattle.book_model.proofs.Ring.{at, lit, minus, ◌⊕◌, ◌⊖◌, ◌⊗◌}
+use Rattle.book_model.proofs.Same.{le_of_same, ge_of_same, plus_zero, times_to_zero}
 use Rattle.book_model.specs.declared.polynomial.Quadratic.{Quadratic}
 use Rattle.book_model.specs.declared.sun_tables.TheConstants.{ECCENTRICITY, MEAN_SUN, OBLIQUITY, SOLAR_ANOMALY}
 use Rattle.book_model.specs.numbers.Expressions.{Expression, World, value, exactly, power}

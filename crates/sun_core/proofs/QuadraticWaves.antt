@@ -1,11 +1,11 @@
 -- The two waves of the nutation by moved days: the definition's nutation lies within their sum.
 use Rattle.std.proofs.Common.{◌≡◌, refl, arith, ℤ, pos, ◌+ℤ◌, ◌*ℤ◌, ◌≤ℤ◌, [], ◌∷◌}
 use Rattle.std.proofs.lemmas.Int.{ints}
-use Rattle.exact_math.specs.Fraction.{Fraction, ◌≈◌, ◌≤F◌, whole, plus, times}
-use Rattle.exact_math.specs.Interval.{Interval, everything, between, IsProper, IsMember, ◌⊆◌, sum, product, least, greatest}
-use Rattle.exact_math.proofs.Fractions.{le_refl}
-use Rattle.exact_math.proofs.Intervals.{within_trans, within_refl, within_everything, sum_within, product_within, sum_holds, product_holds, least_keeps, greatest_keeps}
-use Rattle.exact_math.proofs.Same.{le_of_same, ge_of_same, plus_assoc, plus_times, zero_plus}
+use Rattle.book_model.specs.Fraction.{Fraction, ◌≈◌, ◌≤F◌, whole, plus, times}
+use Rattle.book_model.specs.Interval.{Interval, everything, between, IsProper, IsMember, ◌⊆◌, sum, product, least, greatest}
+use Rattle.book_model.proofs.Fractions.{le_refl}
+use Rattle.book_model.proofs.Intervals.{within_trans, within_refl, within_everything, sum_within, product_within, sum_holds, product_holds, least_keeps, greatest_keeps}
+use Rattle.book_model.proofs.Same.{le_of_same, ge_of_same, plus_assoc, plus_times, zero_plus}
 use Rattle.book_model.specs.declared.polynomial.QuadraticWave.{QuadraticWave}
 use Rattle.book_model.specs.declared.polynomial.Wave.{Wave}
 use Rattle.book_model.specs.declared.sun_tables.TheConstants.{NODE_NUTATION, SOLAR_NUTATION}

@@ -1,13 +1,13 @@
 -- Scaling twice is scaling once, by the product of the two fractions.
 use Rattle.std.proofs.Common.{arith, ◌≡◌, ◌<◌, ◌*◌, ◌-◌, suc, refl, ℤ, [], ◌∷◌}
-use Rattle.exact_math.specs.Fraction.{Fraction, ◌≈◌, times, below_product}
-use Rattle.exact_math.specs.Interval.{Interval, everything, between, IsProper, IsMember, ◌⊆◌, product, least, greatest}
-use Rattle.exact_math.proofs.FractionRing.{same_by}
-use Rattle.exact_math.proofs.Fractions.{le_refl, le_trans}
-use Rattle.exact_math.proofs.IntLaws.{one_mul}
-use Rattle.exact_math.proofs.Intervals.{product_holds, least_is, greatest_is, least_keeps, greatest_keeps, within_trans, within_refl, within_everything, sum_within}
-use Rattle.exact_math.proofs.Ring.{at, ◌⊗◌}
-use Rattle.exact_math.proofs.Same.{same_trans, same_refl, same_sym, times_cong, le_of_same, ge_of_same}
+use Rattle.book_model.specs.Fraction.{Fraction, ◌≈◌, times, below_product}
+use Rattle.book_model.specs.Interval.{Interval, everything, between, IsProper, IsMember, ◌⊆◌, product, least, greatest}
+use Rattle.book_model.proofs.FractionRing.{same_by}
+use Rattle.book_model.proofs.Fractions.{le_refl, le_trans}
+use Rattle.book_model.proofs.IntLaws.{one_mul}
+use Rattle.book_model.proofs.Intervals.{product_holds, least_is, greatest_is, least_keeps, greatest_keeps, within_trans, within_refl, within_everything, sum_within}
+use Rattle.book_model.proofs.Ring.{at, ◌⊗◌}
+use Rattle.book_model.proofs.Same.{same_trans, same_refl, same_sym, times_cong, le_of_same, ge_of_same}
 use Rattle.book_model.specs.declared.frac.Frac.{Frac}
 use Rattle.book_model.specs.declared.sun_tables.TheConstants.{SUN_UNIT_COARSELY, SUN_UNIT_FINELY}
 use Rattle.book_model.specs.declared.time_tables.TheConstants.{DAY_IN_CENTURIES}

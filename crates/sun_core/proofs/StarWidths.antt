@@ -1,7 +1,7 @@
 -- How wide precession and the sun's longitude among the stars are at the scale 2^-56.
 use Rattle.std.specs.Prelude.{◌≡◌, ℕ, ◌+◌, ◌*◌, ◌/◌, ◌^◌, ◌≤◌, true, pos, neg_ℤ, refl, if◌then◌else◌, ◌==◌}
 use Rattle.std.proofs.Common.{arith}
-use Rattle.exact_math.specs.Interval.{Interval}
+use Rattle.book_model.specs.Interval.{Interval}
 use Rattle.book_model.specs.declared.sun_tables.TheConstants.{ECLIPTIC_TILT, ECLIPTIC_CROSSING, EQUINOX_ADVANCE}
 use Rattle.book_model.specs.numbers.Bounds.{Bound, bounded, Reach, implies, bound_of, limits_at, limits_of, constant_bound, sum_bound, difference_bound, scaled_bound, product_bound, power_bound, spanned_bound, sine_spans, cosine_spans}
 use Rattle.book_model.specs.numbers.Expressions.{Expression, argument, add, subtract, multiply, sine, cosine}
@@ -10,7 +10,7 @@ use Rattle.book_model.specs.numbers.Relations.{Narrow}
 use Rattle.book_model.specs.programs.Widths.{IsWithin, IsAbout, IsUpTo, centuries_to, recent_centuries_from}
 use Rattle.book_model.specs.sky.Sidereal.{sidereal_by}
 use Rattle.time_scales.specs.Widths.{AreRecentCenturies}
-use Rattle.greatest_widths.proofs.Measuring.{measured, measured_argument, sloped}
+use Rattle.encl_core.proofs.Measuring.{measured, measured_argument, sloped}
 use Rattle.sun_core.specs.Widths.{IsTilt, IsCrossing, IsAdvance, advance_size, crossing_from}
 
 -- ---- the three angles

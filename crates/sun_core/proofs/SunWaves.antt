@@ -2,10 +2,10 @@
 use Rattle.std.specs.Prelude.{Option, Some, None, IfSome}
 use Rattle.std.proofs.Common.{◌≡◌, ℕ, zero, suc, ◌≤◌, refl, arith, List, length, slice_index_or, slice_range}
 use Rattle.std.proofs.lemmas.Int.{ints}
-use Rattle.exact_math.specs.Fraction.{whole}
-use Rattle.exact_math.specs.Interval.{Interval, ◌⊆◌}
-use Rattle.exact_math.proofs.Fractions.{le_refl}
-use Rattle.exact_math.proofs.Intervals.{within_trans, within_refl, product_within, sum_within}
+use Rattle.book_model.specs.Fraction.{whole}
+use Rattle.book_model.specs.Interval.{Interval, ◌⊆◌}
+use Rattle.book_model.proofs.Fractions.{le_refl}
+use Rattle.book_model.proofs.Intervals.{within_trans, within_refl, product_within, sum_within}
 use Rattle.book_model.specs.declared.polynomial.Wave.{Wave}
 use Rattle.book_model.specs.declared.sun_tables.TheConstants.{SUN_WAVES}
 use Rattle.book_model.specs.declared.time_tables.TheConstants.{DAY_IN_CENTURIES}

@@ -1,8 +1,8 @@
 -- A depth, and two enclosures as arguments.
 use Rattle.std.specs.Prelude.{◌==◌, Bool, true, false, if◌then◌else◌}
 use Rattle.std.proofs.Common.{arith}
-use Rattle.exact_math.specs.Interval.{Interval, IsProper}
-use Rattle.exact_math.proofs.Intervals.{within_refl}
+use Rattle.book_model.specs.Interval.{Interval, IsProper}
+use Rattle.book_model.proofs.Intervals.{within_refl}
 use Rattle.book_model.specs.numbers.Expressions.{World, value, argument}
 use Rattle.book_model.specs.numbers.Relations.{Lies, Within}
 

@@ -1,6 +1,6 @@
 -- What is kept of the sun's longitude over a stretch of days.
 use Rattle.std.specs.Prelude.{length, slice_range}
-use Rattle.exact_math.specs.Interval.{Interval}
+use Rattle.book_model.specs.Interval.{Interval}
 use Rattle.book_model.specs.declared.sun_tables.TheConstants.{SUN_WAVES}
 use Rattle.book_model.specs.numbers.Expressions.{Expression}
 use Rattle.book_model.specs.numbers.Polynomials.{wave_of, no_wave}

@@ -1,6 +1,6 @@
 -- The sun's waves and mean longitude by days: as the definitions have them, in centuries, and as they are computed.
 use Rattle.std.specs.Prelude.{Bool, List, ◌-◌, ◌*◌, ◌&&◌, nat_lt, nat_le, cond}
-use Rattle.exact_math.specs.Fraction.{whole}
+use Rattle.book_model.specs.Fraction.{whole}
 use Rattle.book_model.specs.declared.frac.Frac.{Frac}
 use Rattle.book_model.specs.declared.polynomial.Wave.{Wave}
 use Rattle.book_model.specs.declared.time_tables.TheConstants.{DAY_IN_CENTURIES}

@@ -1,6 +1,6 @@
 -- The nutation by the days: what the square of the centuries adds to the angle of a wave, as a number of days that adds as much.
 use Rattle.std.specs.Prelude.{pos, neg_ℤ}
-use Rattle.exact_math.specs.Fraction.{Fraction}
+use Rattle.book_model.specs.Fraction.{Fraction}
 use Rattle.book_model.specs.declared.polynomial.Wave.{Wave}
 use Rattle.book_model.specs.numbers.Expressions.{Expression, add, scale, power}
 use Rattle.sun_core.specs.Daily.{in_centuries}

@@ -1,6 +1,6 @@
 -- The equation of time in whole numbers: its terms as parts of 2^-56, and their sum as parts of 2^-58 of a radian.
 use Rattle.std.specs.Prelude.{◌^◌, ◌-◌, ℤ}
-use Rattle.exact_math.specs.Fraction.{Fraction}
+use Rattle.book_model.specs.Fraction.{Fraction}
 use Rattle.book_model.specs.declared.sun_tables.TheConstants.{FIVE_QUARTERS, FOUR, TWO}
 use Rattle.book_model.specs.declared.tables.TheConstants.{HALF}
 use Rattle.book_model.specs.numbers.Expressions.{Expression, add, subtract, scale}

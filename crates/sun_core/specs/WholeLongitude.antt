@@ -1,7 +1,7 @@
 -- The longitude of the sun in whole numbers, by days, the sum of its waves, and what aberration and nutation add. All three count
 -- 2^-56: days, units of 0.000005729577951308232 degrees, and ten-millionths of a degree.
 use Rattle.std.specs.Prelude.{ℕ, ◌*◌, ◌/◌, ◌^◌, ℤ, pos, neg_ℤ, ◌+ℤ◌, ◌*ℤ◌, ◌≤ℤ◌}
-use Rattle.exact_math.specs.Fraction.{whole}
+use Rattle.book_model.specs.Fraction.{whole}
 use Rattle.book_model.specs.declared.polynomial.Wave.{Wave}
 use Rattle.book_model.specs.numbers.Bounds.{Bound, bounded, Limits, spanned_bound}
 use Rattle.book_model.specs.numbers.Expressions.{Expression, add, constant}

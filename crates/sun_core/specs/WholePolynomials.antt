@@ -1,7 +1,7 @@
 -- Polynomials of centuries in whole numbers. The powers count 2^-56, the coefficients 2^-48, and the constants 2^-104.
 use Rattle.std.specs.Prelude.{ℕ, ◌^◌, ◌-◌, ℤ, pos, neg_ℤ, ◌+ℤ◌, ◌-ℤ◌, ◌*ℤ◌, ◌≤ℤ◌}
-use Rattle.exact_math.specs.Fraction.{Fraction, ◌≤F◌}
-use Rattle.exact_math.specs.Interval.{between, ◌⊆◌}
+use Rattle.book_model.specs.Fraction.{Fraction, ◌≤F◌}
+use Rattle.book_model.specs.Interval.{between, ◌⊆◌}
 use Rattle.book_model.specs.numbers.Expressions.{Expression, World, value, add, constant, scale, power}
 use Rattle.book_model.specs.programs.Leading.{units_of_56}
 

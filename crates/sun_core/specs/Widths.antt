@@ -1,6 +1,6 @@
 -- How wide a longitude of the sun is at the coarse scale, whose unit is 2^-36 degrees; ranges of moments at the scale 2^-56.
 use Rattle.std.specs.Prelude.{◌≡◌, ℕ, ◌+◌, ◌-◌, ◌*◌, ◌/◌, ◌^◌, ℤ, pos, neg_ℤ, ◌*ℤ◌, true}
-use Rattle.exact_math.specs.Interval.{Interval}
+use Rattle.book_model.specs.Interval.{Interval}
 use Rattle.book_model.specs.declared.frac.Frac.{Frac}
 use Rattle.book_model.specs.declared.sun_tables.TheConstants.{GREATEST_RECENT_ADVANCE, LEAST_RECENT_CROSSING}
 use Rattle.book_model.specs.numbers.Bounds.{Bound, unbounded, bounded, bound_of, implies, limits_at}

@@ -5,7 +5,7 @@
 //! That it holds at each moment needs no law of its own: an enclosure that is computed of a stretch holds the value at every moment
 //! that the stretch holds.
 ghost use Rattle.std.specs.Prelude.{◌≡◌, Ok, IfOk, IsTrue};
-ghost use Rattle.exact_math.specs.Interval.{everything, ◌⊆◌};
+ghost use Rattle.book_model.specs.Interval.{everything, ◌⊆◌};
 ghost use Rattle.book_model.specs.numbers.Ranges.{IsInTable};
 ghost use Rattle.book_model.specs.programs.Calls.{Follows1, Holds1};
 ghost use Rattle.book_model.specs.sky.Sun.{longitude_of, nutation_of, sun_of};

@@ -5,8 +5,8 @@ ghost use Rattle.book_model.specs.numbers.Ranges.{IsInTable};
 ghost use Rattle.std.specs.Prelude.{◌≡◌, ◌^◌, IfOk, IfErr, IfSome};
 ghost use Rattle.book_model.specs.programs.Leading.{next_turn};
 ghost use Rattle.book_model.specs.sky.Noon.{radians_of, part_of_day, equation_of, equation_of_time_of};
-ghost use Rattle.greatest_widths.specs.declared.table.TheConstants.{EQUATION_OF_TIME};
-ghost use Rattle.greatest_widths.specs.Table.{greatest_of};
+ghost use Rattle.encl_core.specs.declared.greatest_widths.TheConstants.{EQUATION_OF_TIME};
+ghost use Rattle.encl_core.specs.GreatestWidths.{greatest_of};
 ghost use Rattle.time_scales.specs.Steps.{IsYearOpenFor};
 ghost use Rattle.sun_core.specs.Steps.{first_radians_of};
 

@@ -3,11 +3,11 @@ ghost use Rattle.book_model.specs.programs.Calls.{Encloses2, Follows1, Follows2}
 ghost use Rattle.book_model.specs.programs.Widths.{IsAbout, IsMoment, IsUpTo, Measured1, Measured2};
 ghost use Rattle.book_model.specs.numbers.Ranges.{IsInTable};
 ghost use Rattle.std.specs.Prelude.{◌≡◌, ◌≤◌, ◌+◌, ◌*◌, ◌^◌, IfOk, IfErr};
-ghost use Rattle.exact_math.specs.Interval.{Interval};
+ghost use Rattle.book_model.specs.Interval.{Interval};
 ghost use Rattle.book_model.specs.programs.Leading.{next_turn};
 ghost use Rattle.book_model.specs.sky.Sun.{reduced_of, past_of, off_of, back_by, estimate_of};
-ghost use Rattle.greatest_widths.specs.declared.table.TheConstants.{SUN};
-ghost use Rattle.greatest_widths.specs.Table.{greatest_of};
+ghost use Rattle.encl_core.specs.declared.greatest_widths.TheConstants.{SUN};
+ghost use Rattle.encl_core.specs.GreatestWidths.{greatest_of};
 ghost use Rattle.time_scales.specs.Steps.{IsEarlyYearFor};
 
 use crate::longitude::sun;

@@ -3,7 +3,7 @@
 //! The angles of its two waves are quadratic. What the square of the centuries adds to one is added to the days instead, as many as add
 //! as much: so a wave is a row by turns and days as any other.
 ghost use Rattle.std.specs.Prelude.{◌≤◌, ◌^◌, pos, neg_ℤ, ◌≤ℤ◌, ◌<ℤ◌, ◌+ℤ◌, ◌*ℤ◌, ◌*◌, ℕ, IfSome};
-ghost use Rattle.exact_math.specs.Interval.{between, ◌⊆◌};
+ghost use Rattle.book_model.specs.Interval.{between, ◌⊆◌};
 ghost use Rattle.book_model.specs.numbers.Depth.{DEPTH};
 ghost use Rattle.book_model.specs.numbers.Expressions.{Expression, World, value, power};
 ghost use Rattle.book_model.specs.numbers.Relations.{Within};

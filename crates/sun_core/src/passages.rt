@@ -4,8 +4,8 @@ ghost use Rattle.book_model.specs.programs.Calls.{Encloses2, Follows2, Follows3}
 ghost use Rattle.book_model.specs.programs.Widths.{IsMoment, IsUpTo, Measured2, Measures};
 ghost use Rattle.book_model.specs.numbers.Ranges.{IsInTable};
 ghost use Rattle.book_model.specs.sky.Sun as spec;
-ghost use Rattle.greatest_widths.specs.declared.table.TheConstants.{SUN};
-ghost use Rattle.greatest_widths.specs.Table.{greatest_of};
+ghost use Rattle.encl_core.specs.declared.greatest_widths.TheConstants.{SUN};
+ghost use Rattle.encl_core.specs.GreatestWidths.{greatest_of};
 ghost use Rattle.sun_core.specs.Widths.{IsNearMoment};
 ghost use Rattle.time_scales.specs.Steps.{IsEarlyYearFor};
 

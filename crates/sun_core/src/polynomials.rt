@@ -1,8 +1,8 @@
 //! Polynomials of centuries in whole numbers: their coefficients count 2⁻⁴⁸, rounded, and so their terms 2⁻¹⁰⁴, of which the sum is
 //! rounded once.
 ghost use Rattle.std.specs.Prelude.{◌^◌, pos, neg_ℤ, ◌≤ℤ◌, ◌*ℤ◌, ℕ, IfSome};
-ghost use Rattle.exact_math.specs.Fraction.{Fraction};
-ghost use Rattle.exact_math.specs.Interval.{between, ◌⊆◌};
+ghost use Rattle.book_model.specs.Fraction.{Fraction};
+ghost use Rattle.book_model.specs.Interval.{between, ◌⊆◌};
 ghost use Rattle.book_model.specs.numbers.Expressions.{Expression, World, value};
 ghost use Rattle.book_model.specs.numbers.Relations.{Within};
 ghost use Rattle.book_model.specs.programs.Leading.{units_of_56};

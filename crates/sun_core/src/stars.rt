@@ -2,10 +2,10 @@
 ghost use Rattle.book_model.specs.programs.Calls.{Encloses1, Encloses2, Encloses3, Follows1};
 ghost use Rattle.book_model.specs.programs.Widths.{IsAbout, IsUpTo, Measured1, IsSince};
 ghost use Rattle.std.specs.Prelude.{◌≡◌, ◌≤◌, ◌+◌, ◌*◌, ◌/◌, ◌^◌, ℕ, Ok, IfOk, IfErr};
-ghost use Rattle.exact_math.specs.Interval.{Interval};
+ghost use Rattle.book_model.specs.Interval.{Interval};
 ghost use Rattle.book_model.specs.sky.Sidereal as spec;
-ghost use Rattle.greatest_widths.specs.declared.table.TheConstants.{SIDEREAL_SUN};
-ghost use Rattle.greatest_widths.specs.Table.{greatest_of};
+ghost use Rattle.encl_core.specs.declared.greatest_widths.TheConstants.{SIDEREAL_SUN};
+ghost use Rattle.encl_core.specs.GreatestWidths.{greatest_of};
 ghost use Rattle.time_scales.specs.Steps.{IsYearOpenFor};
 ghost use Rattle.time_scales.specs.Widths.{AreRecentCenturies};
 ghost use Rattle.sun_core.specs.Widths.{IsTilt, IsCrossing, IsAdvance};

@@ -1,6 +1,6 @@
 //! The sum of the sun's waves in whole numbers, where the days are known well enough.
 ghost use Rattle.std.specs.Prelude.{◌≤◌, ◌*◌, ◌^◌, pos, neg_ℤ, ◌≤ℤ◌, List, length, IfSome};
-ghost use Rattle.exact_math.specs.Interval.{between, ◌⊆◌};
+ghost use Rattle.book_model.specs.Interval.{between, ◌⊆◌};
 ghost use Rattle.book_model.specs.declared.polynomial.Wave.{Wave};
 ghost use Rattle.book_model.specs.declared.sun_tables.TheConstants.{SUN_WAVES};
 ghost use Rattle.book_model.specs.numbers.Depth.{DEPTH};

@@ -1,6 +1,6 @@
 //! The equation of time in whole numbers: its five terms in one sum, which counts 2⁻⁵⁸ and is rounded once, as a part of a day.
 ghost use Rattle.std.specs.Prelude.{◌≤◌, ◌^◌, pos, neg_ℤ, ◌≤ℤ◌, ◌*ℤ◌, IfSome};
-ghost use Rattle.exact_math.specs.Interval.{between, ◌⊆◌};
+ghost use Rattle.book_model.specs.Interval.{between, ◌⊆◌};
 ghost use Rattle.book_model.specs.numbers.Depth.{DEPTH};
 ghost use Rattle.book_model.specs.numbers.Expressions.{Expression, World, value};
 ghost use Rattle.book_model.specs.numbers.Relations.{Within};

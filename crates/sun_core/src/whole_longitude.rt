@@ -1,7 +1,7 @@
 //! The longitude of the sun in whole numbers, where the days are known well enough: what it gains in the days, the sum of its waves, and
 //! aberration and nutation, each times its unit in degrees, in one sum that is rounded once.
 ghost use Rattle.std.specs.Prelude.{◌≡◌, ◌≤◌, ◌^◌, ◌*◌, pos, neg_ℤ, ◌≤ℤ◌, ◌<ℤ◌, ◌+ℤ◌, ◌-ℤ◌, ◌*ℤ◌, ℕ, IfSome};
-ghost use Rattle.exact_math.specs.Interval.{between, ◌⊆◌};
+ghost use Rattle.book_model.specs.Interval.{between, ◌⊆◌};
 ghost use Rattle.book_model.specs.declared.sun_tables.TheConstants.{SUN_WAVES};
 ghost use Rattle.book_model.specs.numbers.Bounds.{IsNarrow, limits_of};
 ghost use Rattle.book_model.specs.numbers.Depth.{DEPTH};

@@ -2,8 +2,8 @@
 -- series, so they are the same at every depth.
 use Rattle.std.proofs.Common.{◌≡◌, true, ℕ, ℤ, pos, refl, ◌<ℤ◌, arith}
 use Rattle.std.proofs.lemmas.Int.{ints}
-use Rattle.exact_math.specs.Fraction.{plus, times, smaller, larger, is_at_most}
-use Rattle.exact_math.specs.Interval.{sum, product, least, greatest}
+use Rattle.book_model.specs.Fraction.{plus, times, smaller, larger, is_at_most}
+use Rattle.book_model.specs.Interval.{sum, product, least, greatest}
 use Rattle.book_model.specs.calendars.Gregorian.{year_of_day, first_day}
 use Rattle.book_model.specs.declared.fact.Fact.{Fact}
 use Rattle.book_model.specs.declared.fact.Kind.TheVariants.{Dt}

@@ -7,7 +7,7 @@ use Rattle.std.proofs.Common.{arith}
 use Rattle.std.proofs.Math.Nat.{mul-le-mul_right, mul-le-mul_left}
 use Rattle.std.proofs.lemmas.Int.{ints, by_lt_z}
 use Rattle.std.proofs.lemmas.Bool.{ltb-true, leb-true, lt-ltb, le-leb}
-use Rattle.exact_math.specs.Fraction.{Fraction, floor_quotient}
+use Rattle.book_model.specs.Fraction.{Fraction, floor_quotient}
 use Rattle.book_model.specs.declared.frac.Frac.{Frac}
 use Rattle.book_model.specs.declared.tables.TheConstants.{SECOND}
 use Rattle.book_model.specs.numbers.Bounds.{Bound, bounded, unbounded, Limits, limited, range_size, ceil_div, ceil_quotient, floor_at_32, ceil_at_32, bound_of, implies, integer_bound, constant_bound, sum_bound, scaled_bound}

@@ -5,12 +5,12 @@ use Rattle.std.specs.List.{list_all}
 use Rattle.std.proofs.Common.{arith, sym, ◌∙◌}
 use Rattle.std.proofs.lemmas.Int.{ints}
 use Rattle.std.specs.Ordering.{int_eq}
-use Rattle.exact_math.specs.Fraction.{Fraction, whole, floor, floor_quotient, plus, times, smaller, larger, is_at_most}
-use Rattle.exact_math.specs.Interval.{Interval, everything, between, ◌⊆◌, IsProper, sum, product, least, greatest}
-use Rattle.exact_math.proofs.Floors.{floor_mono, floor_quotient_is}
-use Rattle.exact_math.proofs.Fractions.{le_trans, le_refl}
-use Rattle.exact_math.proofs.IntLaws.{add_mul, one_mul}
-use Rattle.exact_math.proofs.Intervals.{within_trans, within_refl, within_everything, sum_within, product_within}
+use Rattle.book_model.specs.Fraction.{Fraction, whole, floor, floor_quotient, plus, times, smaller, larger, is_at_most}
+use Rattle.book_model.specs.Interval.{Interval, everything, between, ◌⊆◌, IsProper, sum, product, least, greatest}
+use Rattle.book_model.proofs.Floors.{floor_mono, floor_quotient_is}
+use Rattle.book_model.proofs.Fractions.{le_trans, le_refl}
+use Rattle.book_model.proofs.IntLaws.{add_mul, one_mul}
+use Rattle.book_model.proofs.Intervals.{within_trans, within_refl, within_everything, sum_within, product_within}
 use Rattle.book_model.specs.declared.tables.TheConstants.{HALF, MILLISECONDS_OF_DAY}
 use Rattle.book_model.specs.calendars.Gregorian.{first_day, year_of_day, days_of_months, fixed_of}
 use Rattle.book_model.specs.declared.correction_rows.CorrectionForm.{CorrectionForm}

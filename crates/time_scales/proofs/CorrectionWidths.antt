@@ -5,7 +5,7 @@ use Rattle.std.specs.Option.{option_map_or}
 use Rattle.std.proofs.Common.{arith, subst, ◌⊎◌, inl, inr}
 use Rattle.std.proofs.lemmas.Int.{ints, by_lt_z}
 use Rattle.std.proofs.lemmas.Bool.{leb-true, eqb-true}
-use Rattle.exact_math.specs.Interval.{Interval}
+use Rattle.book_model.specs.Interval.{Interval}
 use Rattle.book_model.specs.numbers.Bounds.{Bound, unbounded, Reach, IsNarrow, bound_of, implies, integer_bound, constant_bound, sum_bound, scaled_bound, limits_of}
 use Rattle.book_model.specs.calendars.Gregorian.{fixed_of, first_day, days_of_months}
 use Rattle.book_model.specs.sky.Correction.{Correction, corrections, row_of_year, int_power, polynomial_to, polynomial_of, seconds_of}

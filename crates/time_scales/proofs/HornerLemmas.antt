@@ -1,11 +1,11 @@
 -- At one fraction, Horner's form and the sum of coefficients times powers have the same value.
 use Rattle.std.proofs.Common.{◌≡◌, ℕ, zero, suc, ◌+◌, ◌-◌, pos, refl, arith, add-one, List, [], ◌∷◌, length, slice_index_or}
-use Rattle.exact_math.specs.Fraction.{Fraction, ◌≈◌, whole, plus, times, power}
-use Rattle.exact_math.specs.Interval.{Interval, ◌⊆◌}
-use Rattle.exact_math.proofs.FractionRing.{same_by}
-use Rattle.exact_math.proofs.Intervals.{within_trans}
-use Rattle.exact_math.proofs.Ring.{at, lit, ◌⊕◌, ◌⊗◌}
-use Rattle.exact_math.proofs.Same.{same_trans, le_of_same, ge_of_same}
+use Rattle.book_model.specs.Fraction.{Fraction, ◌≈◌, whole, plus, times, power}
+use Rattle.book_model.specs.Interval.{Interval, ◌⊆◌}
+use Rattle.book_model.proofs.FractionRing.{same_by}
+use Rattle.book_model.proofs.Intervals.{within_trans}
+use Rattle.book_model.proofs.Ring.{at, lit, ◌⊕◌, ◌⊗◌}
+use Rattle.book_model.proofs.Same.{same_trans, le_of_same, ge_of_same}
 use Rattle.book_model.specs.declared.frac.Frac.{Frac}
 use Rattle.book_model.specs.sky.Correction.{no_fraction}
 use Rattle.book_model.specs.numbers.Expressions.{World, value, exactly, integer, constant, add, scale}

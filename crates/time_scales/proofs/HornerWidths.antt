@@ -3,15 +3,15 @@ use Rattle.std.specs.Prelude.{◌≡◌, ℕ, zero, suc, ◌+◌, ◌*◌, ◌^�
 use Rattle.std.proofs.Common.{arith}
 use Rattle.std.proofs.lemmas.Int.{ints}
 use Rattle.std.proofs.lemmas.Bool.{lt-ltb, ltb-true}
-use Rattle.exact_math.specs.Fraction.{Fraction}
-use Rattle.exact_math.specs.Interval.{Interval}
+use Rattle.book_model.specs.Fraction.{Fraction}
+use Rattle.book_model.specs.Interval.{Interval}
 use Rattle.book_model.specs.declared.frac.Frac.{Frac}
 use Rattle.book_model.specs.numbers.Bounds.{Bound, unbounded, Reach, bound_of, integer_bound, constant_bound, limits_at, limits_of, range_size, floor_at_32, ceil_at_32}
 use Rattle.book_model.specs.numbers.Relations.{Narrow, Keeps}
 use Rattle.book_model.proofs.Implying.{limits_within}
 use Rattle.book_model.specs.programs.Widths.{IsAbout}
-use Rattle.greatest_widths.specs.Sizes.{HasSize}
-use Rattle.greatest_widths.proofs.Covering.{IsCovered, covered, wider_covered, sum_covered, scaled_covered, within_covered}
+use Rattle.encl_core.specs.Sizes.{HasSize}
+use Rattle.encl_core.proofs.Covering.{IsCovered, covered, wider_covered, sum_covered, scaled_covered, within_covered}
 use Rattle.time_scales.specs.Horner.{horner_to, horner_of, horner_size, horner_width, horner_fits, coefficient_at}
 
 four : (p q r s : Bool) → (p && (q && (r && s))) ≡ true → (p ≡ true) × (q ≡ true) × (r ≡ true) × (s ≡ true)

@@ -2,11 +2,11 @@
 use Rattle.std.specs.Prelude.{◌≡◌, ℕ, ◌+◌, ◌^◌, pos, neg_ℤ, Option, Some, None, Ok, IfSome}
 use Rattle.std.proofs.Common.{arith}
 use Rattle.std.proofs.lemmas.Int.{ints}
-use Rattle.exact_math.specs.Interval.{Interval, ◌⊆◌}
+use Rattle.book_model.specs.Interval.{Interval, ◌⊆◌}
 use Rattle.book_model.specs.numbers.Bounds.{Bound, bounded, IsNarrow, spanned_bound, limits_of}
 use Rattle.book_model.specs.programs.Widths.{Measured, IsCorrection}
 use Rattle.book_model.proofs.Implying.{limits_within}
-use Rattle.greatest_widths.proofs.Measuring.{looser, narrower}
+use Rattle.encl_core.proofs.Measuring.{looser, narrower}
 use Rattle.encl_core.specs.declared.span.Span.{Span}
 use Rattle.encl_core.specs.Kept.{shown_span, IsKeptAbout}
 

@@ -2,8 +2,8 @@
 use Rattle.std.specs.Prelude.{◌≡◌, ℕ, ◌+◌, ◌*◌, ◌/◌, ◌^◌, ◌≤◌, ℤ, pos, negsuc, neg_ℤ, ◌-ℤ◌, ◌*ℤ◌, ◌≤ℤ◌, true, Result, Ok, Err, IfOk, IfErr, refl, if◌then◌else◌, ◌==◌, ◌+ℤ◌}
 use Rattle.std.proofs.Common.{arith}
 use Rattle.std.proofs.lemmas.Int.{ints}
-use Rattle.exact_math.specs.Interval.{Interval, everything, IsProper, between, ◌⊆◌}
-use Rattle.exact_math.proofs.Intervals.{within_refl}
+use Rattle.book_model.specs.Interval.{Interval, everything, IsProper, between, ◌⊆◌}
+use Rattle.book_model.proofs.Intervals.{within_refl}
 use Rattle.book_model.specs.declared.site.Site.TheVariants.{Year}
 use Rattle.book_model.specs.declared.fail.Fail.{Fail}
 use Rattle.book_model.specs.declared.fail.Fail.TheVariants.{Undecided as undecided_at, Void}
@@ -17,10 +17,10 @@ use Rattle.book_model.specs.programs.Leading.{Leads, leaf, units_of_56}
 use Rattle.book_model.specs.programs.Widths.{IsAbout, IsClose, IsMoment, Measures, IsCorrection, IsDated, AreCenturies, IsWithin, table_from, table_to, table_days, table_centuries, centuries_to, recent_from, recent_centuries_from, IsFrom, IsSince}
 use Rattle.book_model.specs.sky.Time.{correction_at, in_centuries}
 use Rattle.book_model.proofs.Leads.{leads_leaf}
-use Rattle.greatest_widths.specs.declared.table.TheConstants.{CORRECTION}
-use Rattle.greatest_widths.specs.Table.{greatest_of}
-use Rattle.greatest_widths.proofs.Measuring.{measured, measured_argument, sloped, looser, drawn}
-use Rattle.greatest_widths.proofs.Closing.{inner_apart, close_ends}
+use Rattle.encl_core.specs.declared.greatest_widths.TheConstants.{CORRECTION}
+use Rattle.encl_core.specs.GreatestWidths.{greatest_of}
+use Rattle.encl_core.proofs.Measuring.{measured, measured_argument, sloped, looser, drawn}
+use Rattle.encl_core.proofs.Closing.{inner_apart, close_ends}
 use Rattle.time_scales.specs.Widths.{HasYearEnds, AreRecentCenturies}
 use Rattle.time_scales.proofs.Moments.{corrected_in_table}
 

@@ -5,10 +5,10 @@ use Rattle.std.proofs.Common.{arith, sym, ◌∙◌}
 use Rattle.std.proofs.lemmas.Int.{ints}
 use Rattle.std.specs.Ordering.{int_eq}
 use Rattle.std.proofs.lemmas.Bool.Decides.{Decides-int_eq}
-use Rattle.exact_math.specs.Fraction.{whole, is_at_most}
-use Rattle.exact_math.specs.Interval.{Interval, everything, between, ◌⊆◌}
-use Rattle.exact_math.proofs.Fractions.{at_most_true}
-use Rattle.exact_math.proofs.Intervals.{within_trans}
+use Rattle.book_model.specs.Fraction.{whole, is_at_most}
+use Rattle.book_model.specs.Interval.{Interval, everything, between, ◌⊆◌}
+use Rattle.book_model.proofs.Fractions.{at_most_true}
+use Rattle.book_model.proofs.Intervals.{within_trans}
 use Rattle.book_model.specs.declared.site.Site.TheVariants.{Year}
 use Rattle.book_model.specs.declared.time_tables.TheConstants.{TABLE_START, TABLE_END}
 use Rattle.book_model.specs.calendars.Gregorian.{first_day}

@@ -1,10 +1,10 @@
 -- A power of an interval lies within the product of the next lower power and the interval, which may be wider.
 use Rattle.std.proofs.Common.{◌≡◌, ℕ, suc, Bool, true, false, cond, refl}
-use Rattle.exact_math.specs.Fraction.{Fraction, ◌≤F◌, times, power, larger, is_at_most, is_even}
-use Rattle.exact_math.specs.Interval.{Interval, everything, between, IsProper, IsMember, ◌⊆◌, product, least_even, zero_fraction, power as interval_power}
-use Rattle.exact_math.proofs.Fractions.{le_refl, le_trans, times_comm, turned_above, turned_below, larger_keeps, at_most_false}
-use Rattle.exact_math.proofs.Intervals.{least_is, greatest_is, power_smallest, power_holds, product_holds, within_trans, within_everything}
-use Rattle.exact_math.proofs.Same.{le_of_same, ge_of_same, times_assoc}
+use Rattle.book_model.specs.Fraction.{Fraction, ◌≤F◌, times, power, larger, is_at_most, is_even}
+use Rattle.book_model.specs.Interval.{Interval, everything, between, IsProper, IsMember, ◌⊆◌, product, least_even, zero_fraction, power as interval_power}
+use Rattle.book_model.proofs.Fractions.{le_refl, le_trans, times_comm, turned_above, turned_below, larger_keeps, at_most_false}
+use Rattle.book_model.proofs.Intervals.{least_is, greatest_is, power_smallest, power_holds, product_holds, within_trans, within_everything}
+use Rattle.book_model.proofs.Same.{le_of_same, ge_of_same, times_assoc}
 use Rattle.book_model.specs.numbers.Bounds.{Limits, Reach, bound_of, power_bound}
 use Rattle.book_model.specs.numbers.Expressions.{Expression, World, value, multiply, scale, power as power_of}
 use Rattle.book_model.specs.numbers.Relations.{Within, Narrow, Lies, Keeps}

@@ -2,12 +2,12 @@
 use Rattle.std.specs.Prelude.{◌≡◌, ℕ, ◌^◌, ℤ, pos, neg_ℤ, Bool, true, List, Some, refl}
 use Rattle.std.specs.List.{list_all}
 use Rattle.std.proofs.Common.{arith}
-use Rattle.exact_math.specs.Interval.{Interval}
+use Rattle.book_model.specs.Interval.{Interval}
 use Rattle.book_model.specs.numbers.Bounds.{bounded, Reach, bound_of, implies, integer_bound, constant_bound, sum_bound, scaled_bound, limits_of, limits_at}
 use Rattle.book_model.specs.calendars.Gregorian.{fixed_of, first_day, days_of_months}
 use Rattle.book_model.specs.sky.Correction.{Correction, corrections, row_of_year, int_power, polynomial_to, polynomial_of, seconds_of}
 use Rattle.book_model.specs.numbers.Relations.{Narrow}
-use Rattle.greatest_widths.proofs.Measuring.{measured}
+use Rattle.encl_core.proofs.Measuring.{measured}
 use Rattle.book_model.specs.declared.correction_rows.CorrectionForm.{CorrectionForm}
 use Rattle.book_model.specs.declared.frac.Frac.{Frac}
 use Rattle.book_model.proofs.CorrectionRows.{year_row}

@@ -2,10 +2,10 @@
 use Rattle.std.proofs.Common.{◌≡◌, ℕ, ℤ, pos, negsuc, ◌≤ℤ◌, ◌^◌, ◌-◌, ◌∙◌, sym, ap, arith, refl, Option, Some, None, Result, Ok, Err, IfOk, IfErr}
 use Rattle.std.specs.Int.{int_div_euclid}
 use Rattle.std.proofs.lemmas.Int.{ints}
-use Rattle.exact_math.specs.Interval.{Interval, everything, between, IsProper, ◌⊆◌}
-use Rattle.exact_math.proofs.Floors.{IsFloorQuotient, floor_quotient_is}
-use Rattle.exact_math.proofs.Fractions.{le_trans}
-use Rattle.exact_math.proofs.Same.{same_of_le, same_trans}
+use Rattle.book_model.specs.Interval.{Interval, everything, between, IsProper, ◌⊆◌}
+use Rattle.book_model.proofs.Floors.{IsFloorQuotient, floor_quotient_is}
+use Rattle.book_model.proofs.Fractions.{le_trans}
+use Rattle.book_model.proofs.Same.{same_of_le, same_trans}
 use Rattle.book_model.specs.declared.fail.Fail.{Fail}
 use Rattle.book_model.specs.declared.fail.Fail.TheVariants.{Undecided as undecided_at, Void}
 use Rattle.book_model.specs.declared.site.Site.TheVariants.{Year}
@@ -17,8 +17,8 @@ use Rattle.book_model.specs.numbers.Relations.{Within}
 use Rattle.book_model.specs.programs.Programs.{Grid, years, cell_of, cell_at, answer}
 use Rattle.book_model.proofs.Leads.{leads_cell, leads_open_cell, leads_answer, lies}
 use Rattle.book_model.proofs.Nesting.{cell_nested}
-use Rattle.rounded_quotients.proofs.Quotients.{euclid_is}
-use Rattle.interval_ends.proofs.Testing.{eq_yes, eq_no}
+use Rattle.encl_core.proofs.Quotients.{euclid_is}
+use Rattle.encl_core.proofs.Testing.{eq_yes, eq_no}
 use Rattle.time_scales.specs.Steps.{IsOpenYear, IsYearOpenFor}
 
 -- the day of a moment that counts 2^-56

@@ -5,8 +5,8 @@ use Rattle.std.proofs.Common.{arith, subst, sym, ◌∙◌}
 use Rattle.std.proofs.Math.Seq.{take-length}
 use Rattle.std.proofs.lemmas.Int.{ints}
 use Rattle.std.proofs.lemmas.Bool.{lt-ltb}
-use Rattle.exact_math.specs.Fraction.{is_at_most}
-use Rattle.exact_math.specs.Interval.{Interval}
+use Rattle.book_model.specs.Fraction.{is_at_most}
+use Rattle.book_model.specs.Interval.{Interval}
 use Rattle.book_model.specs.declared.fact.Place.{Place}
 use Rattle.book_model.specs.declared.fact.Place.TheVariants.{Beijing}
 use Rattle.book_model.specs.declared.frac.Frac.{Frac}
@@ -26,7 +26,7 @@ use Rattle.book_model.proofs.CorrectionRows.{both}
 use Rattle.book_model.proofs.Places.{zone_kept}
 use Rattle.time_scales.specs.Widths.{IsMidnightDay}
 use Rattle.book_model.proofs.Implying.{limits_within}
-use Rattle.greatest_widths.proofs.Measuring.{measured, sloped, looser}
+use Rattle.encl_core.proofs.Measuring.{measured, sloped, looser}
 
 both_hold : (p q : Bool) → p ≡ true → q ≡ true → (p && q) ≡ true
 both_hold p q e f = rw (e, f) refl

@@ -1,6 +1,6 @@
 -- A polynomial at an exact fraction, from the inside out.
 use Rattle.std.specs.Prelude.{ℕ, zero, suc, ◌+◌, ◌-◌, ◌*◌, ◌^◌, pos, Bool, true, ◌&&◌, nat_lt, unsigned_abs, List, length, slice_index_or}
-use Rattle.exact_math.specs.Fraction.{Fraction}
+use Rattle.book_model.specs.Fraction.{Fraction}
 use Rattle.book_model.specs.declared.frac.Frac.{Frac}
 use Rattle.book_model.specs.numbers.Bounds.{range_size, floor_at_32, ceil_at_32}
 use Rattle.book_model.specs.sky.Correction.{no_fraction}

@@ -2,7 +2,7 @@
 ghost use Rattle.book_model.specs.programs.Calls.{Decides1};
 ghost use Rattle.book_model.specs.programs.Widths.{IsAbout, IsClose};
 ghost use Rattle.std.specs.Prelude.{◌≡◌, ◌≤◌, ◌^◌, ℕ, Some, Ok, IfOk, IfErr};
-ghost use Rattle.exact_math.specs.Interval.{between};
+ghost use Rattle.book_model.specs.Interval.{between};
 ghost use Rattle.book_model.specs.calendars.Gregorian.{year_of_day};
 ghost use Rattle.book_model.specs.sky.Correction.{year_of};
 ghost use Rattle.book_model.specs.numbers.Expressions.{World, integer};
@@ -12,8 +12,8 @@ ghost use Rattle.time_scales.specs.Steps.{IsOpenYear};
 ghost use Rattle.time_scales.specs.Widths.{HasYearEnds};
 
 use book_model::{Fail, Site, Undecided};
+use encl_core::parts::ONE;
 use encl_core::{Enclosure, Span, Trail};
-use interval_ends::parts::ONE;
 
 /// The year of a moment that counts 2⁻⁵⁶ of a day.
 fn year_at(moment: i128) -> i64

@@ -5,7 +5,7 @@ ghost use Rattle.std.specs.Prelude.{◌≡◌, ◌≤◌, ℕ, true, length, uns
 ghost use Rattle.book_model.specs.sky.Correction.{polynomial_of};
 ghost use Rattle.book_model.specs.numbers.Fractions.{fraction_of};
 ghost use Rattle.book_model.specs.numbers.Polynomials.{quadratic_of, cubic_of, polynomial_at};
-ghost use Rattle.greatest_widths.specs.Sizes.{HasSize};
+ghost use Rattle.encl_core.specs.Sizes.{HasSize};
 ghost use Rattle.time_scales.specs.Horner.{horner_of, horner_size, horner_width, horner_fits};
 
 use book_model::{Cubic, Frac, Quadratic};

@@ -7,8 +7,8 @@ ghost use Rattle.book_model.specs.numbers.Expressions.{Expression};
 ghost use Rattle.book_model.specs.numbers.Polynomials.{cubic_of};
 ghost use Rattle.book_model.specs.numbers.Relations.{Narrow};
 ghost use Rattle.book_model.specs.sky.Time.{in_centuries, sidereal_of};
-ghost use Rattle.greatest_widths.specs.declared.table.TheConstants.{SIDEREAL};
-ghost use Rattle.greatest_widths.specs.Table.{greatest_of};
+ghost use Rattle.encl_core.specs.declared.greatest_widths.TheConstants.{SIDEREAL};
+ghost use Rattle.encl_core.specs.GreatestWidths.{greatest_of};
 
 use crate::dynamical_time::to_centuries;
 use crate::polynomial::cubic;

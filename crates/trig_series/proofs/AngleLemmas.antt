@@ -1,20 +1,20 @@
 -- Angles, and the octants of a turn, as the code reads them.
 use Rattle.std.proofs.Common.{◌≡◌, ℕ, zero, suc, ◌≤◌, refl, ap, arith, unsigned_abs, ℤ, pos, negsuc, ◌-ℤ◌, ◌*ℤ◌, ◌≤ℤ◌, ◌*◌, ◌-◌, ◌^◌, [], ◌∷◌}
 use Rattle.std.proofs.lemmas.Int.{ints}
-use Rattle.exact_math.specs.Fraction.{Fraction, ◌≈◌, whole, plus, opposite, times, floor_quotient}
-use Rattle.exact_math.specs.Interval.{Interval, everything, between, IsMember, IsProper, ◌⊆◌, negative, product, least, greatest}
-use Rattle.exact_math.proofs.Fractions.{le_refl, le_trans, smaller_keeps, larger_keeps}
-use Rattle.exact_math.proofs.FractionRing.{same_by}
-use Rattle.exact_math.proofs.Ring.{at, ◌⊗◌}
-use Rattle.exact_math.proofs.Intervals.{within_everything, product_holds, least_is, greatest_is}
-use Rattle.exact_math.proofs.Same.{le_of_same, ge_of_same, same_refl, same_sym, same_trans, plus_cong, times_cong, opposite_cong}
-use Rattle.exact_math.specs.Sums.{one_over}
-use Rattle.exact_math.proofs.Floors.{IsFloorQuotient}
+use Rattle.book_model.specs.Fraction.{Fraction, ◌≈◌, whole, plus, opposite, times, floor_quotient}
+use Rattle.book_model.specs.Interval.{Interval, everything, between, IsMember, IsProper, ◌⊆◌, negative, product, least, greatest}
+use Rattle.book_model.proofs.Fractions.{le_refl, le_trans, smaller_keeps, larger_keeps}
+use Rattle.book_model.proofs.FractionRing.{same_by}
+use Rattle.book_model.proofs.Ring.{at, ◌⊗◌}
+use Rattle.book_model.proofs.Intervals.{within_everything, product_holds, least_is, greatest_is}
+use Rattle.book_model.proofs.Same.{le_of_same, ge_of_same, same_refl, same_sym, same_trans, plus_cong, times_cong, opposite_cong}
+use Rattle.book_model.specs.Sums.{one_over}
+use Rattle.book_model.proofs.Floors.{IsFloorQuotient}
 use Rattle.book_model.specs.programs.Leading.{units_of_56}
 use Rattle.book_model.specs.numbers.Series.{sine_series, cosine_series, pi_at}
 use Rattle.book_model.specs.numbers.Octants.{only, radians, short_of, sine_into, octant_of_turn, sine_at, octant_edge}
 use Rattle.book_model.proofs.Pi.{pi_proper}
-use Rattle.interval_ends.specs.declared.parts.TheConstants.{OCTANT}
+use Rattle.encl_core.specs.parts.TheConstants.{OCTANT}
 use Rattle.book_model.proofs.SeriesNesting.{cosines}
 
 member_same : (i : Interval) (a b : Fraction) → a ≈ b → IsMember a i → IsMember b i

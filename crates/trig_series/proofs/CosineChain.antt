@@ -1,20 +1,20 @@
 -- The cosine's ends at an angle, as a chain of steps.
 use Rattle.std.proofs.Common.{◌≡◌, ℕ, zero, suc, ◌+◌, ◌-◌, ◌≤◌, refl, arith, pos, negsuc, [], ◌∷◌}
-use Rattle.exact_math.specs.Fraction.{Fraction, ◌≤F◌, ◌≈◌, whole, opposite, times}
-use Rattle.exact_math.specs.Sums.{lower, upper, inner}
-use Rattle.exact_math.proofs.Ring.{at, lit, ◌⊗◌}
-use Rattle.exact_math.proofs.Fractions.{le_trans}
-use Rattle.exact_math.proofs.Same.{same_trans, le_of_same, ge_of_same, times_cong}
-use Rattle.exact_math.proofs.FractionRing.{same_by}
-use Rattle.exact_math.proofs.Certificates.{zero_F}
-use Rattle.exact_math.proofs.Alternating.{lower_is_beneath, upper_is_atop, later_sums_nested}
-use Rattle.exact_math.proofs.Horner.{beneath_is, atop_is}
+use Rattle.book_model.specs.Fraction.{Fraction, ◌≤F◌, ◌≈◌, whole, opposite, times}
+use Rattle.book_model.specs.Sums.{lower, upper, inner}
+use Rattle.book_model.proofs.Ring.{at, lit, ◌⊗◌}
+use Rattle.book_model.proofs.Fractions.{le_trans}
+use Rattle.book_model.proofs.Same.{same_trans, le_of_same, ge_of_same, times_cong}
+use Rattle.book_model.proofs.FractionRing.{same_by}
+use Rattle.book_model.proofs.Certificates.{zero_F}
+use Rattle.book_model.proofs.Alternating.{lower_is_beneath, upper_is_atop, later_sums_nested}
+use Rattle.book_model.proofs.Horner.{beneath_is, atop_is}
 use Rattle.book_model.specs.numbers.Series.{cosine_term, double}
 use Rattle.book_model.proofs.Terms.{IsUpTo, square_nonneg, falling, cosine_step_from_first, cosine_one, cosine_halving}
-use Rattle.rounded_quotients.proofs.HighHalves.{IsHigh}
+use Rattle.encl_core.proofs.HighHalves.{IsHigh}
 use Rattle.trig_series.proofs.KernelSteps.{step_near, square_near, angle_fifths}
 use Rattle.trig_series.proofs.SineChain.{Keeps, next, near_same, step_at, nested, flipped, inner_nested}
-use Rattle.rounded_quotients.specs.Units.{IsWithinUnits}
+use Rattle.encl_core.specs.Units.{IsWithinUnits}
 use Rattle.trig_series.specs.Kernel.{IsCut, IsAngle, IsSquare, AreCosineEnds}
 
 abbrev ratio : ℕ → Fraction

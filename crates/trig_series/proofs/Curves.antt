@@ -1,19 +1,19 @@
 -- The sine lies between two chords of the first octant, and the cosine above 1 less half its angle's square.
 use Rattle.std.proofs.Common.{ℕ, suc, ◌^◌, ◌*◌, ◌≤◌, refl, arith, ℤ, pos, negsuc, ◌-ℤ◌, ◌*ℤ◌, ◌≤ℤ◌, [], ◌∷◌}
 use Rattle.std.proofs.lemmas.Int.{ints}
-use Rattle.exact_math.specs.Fraction.{Fraction, ◌≤F◌, ◌≈◌, whole, plus, times, power}
-use Rattle.exact_math.specs.Sums.{lower, upper, one_over}
-use Rattle.exact_math.proofs.Ring.{at, lit, ◌⊕◌, ◌⊖◌, ◌⊗◌}
-use Rattle.exact_math.proofs.FractionRing.{same_by}
-use Rattle.exact_math.proofs.Fractions.{le_trans}
-use Rattle.exact_math.proofs.Same.{same_trans, same_sym}
-use Rattle.exact_math.proofs.Certificates.{zero_F, ◌≼◌, ◌≗◌, known, multiple, ◌⊞◌, ◌⊠◌, natural, le_by, le_over}
-use Rattle.exact_math.proofs.Alternating.{beneath, atop, beneath_step, tails, lower_is_beneath, sum_ends_in_order}
+use Rattle.book_model.specs.Fraction.{Fraction, ◌≤F◌, ◌≈◌, whole, plus, times, power}
+use Rattle.book_model.specs.Sums.{lower, upper, one_over}
+use Rattle.book_model.proofs.Ring.{at, lit, ◌⊕◌, ◌⊖◌, ◌⊗◌}
+use Rattle.book_model.proofs.FractionRing.{same_by}
+use Rattle.book_model.proofs.Fractions.{le_trans}
+use Rattle.book_model.proofs.Same.{same_trans, same_sym}
+use Rattle.book_model.proofs.Certificates.{zero_F, ◌≼◌, ◌≗◌, known, multiple, ◌⊞◌, ◌⊠◌, natural, le_by, le_over}
+use Rattle.book_model.proofs.Alternating.{beneath, atop, beneath_step, tails, lower_is_beneath, sum_ends_in_order}
 use Rattle.book_model.specs.programs.Leading.{units_of_56}
 use Rattle.book_model.specs.numbers.Series.{sine_term, cosine_term, over_factorial}
 use Rattle.book_model.proofs.Terms.{IsUpTo, sine_halving, sine_rising, sine_first, cosine_halving, cosine_falling, cosine_one}
-use Rattle.rounded_quotients.specs.Units.{at_64}
-use Rattle.interval_ends.specs.declared.parts.TheConstants.{ONE, OCTANT}
+use Rattle.encl_core.specs.Units.{at_64}
+use Rattle.encl_core.specs.parts.TheConstants.{ONE, OCTANT}
 use Rattle.trig_series.specs.Kernel.{in_radians}
 use Rattle.trig_series.proofs.PointLemmas.{sine_zero, cosine_zero, none_in_radians}
 use Rattle.trig_series.proofs.Slopes.{atop_slow, beneath_slow, half, half_twice, cosine_second}

@@ -1,20 +1,20 @@
 -- Degrees in radians, and the series over them.
 use Rattle.std.proofs.Common.{◌≡◌, ℕ, zero, suc, ◌+◌, ◌*◌, ◌/◌, ◌^◌, ◌≤◌, refl, arith, pos, ◌+ℤ◌, ◌-ℤ◌}
 use Rattle.std.proofs.lemmas.Int.{ints}
-use Rattle.exact_math.specs.Fraction.{Fraction, ◌≤F◌, times}
-use Rattle.exact_math.specs.Interval.{Interval, everything, between, IsMember, IsProper, ◌⊆◌, product, least, greatest}
-use Rattle.exact_math.specs.Sums.{one_over}
-use Rattle.exact_math.proofs.Fractions.{le_refl, le_trans, smaller_keeps, larger_keeps}
-use Rattle.exact_math.proofs.Intervals.{within_trans, within_refl, product_within, product_proper, least_is, greatest_is}
-use Rattle.exact_math.proofs.Certificates.{zero_F}
+use Rattle.book_model.specs.Fraction.{Fraction, ◌≤F◌, times}
+use Rattle.book_model.specs.Interval.{Interval, everything, between, IsMember, IsProper, ◌⊆◌, product, least, greatest}
+use Rattle.book_model.specs.Sums.{one_over}
+use Rattle.book_model.proofs.Fractions.{le_refl, le_trans, smaller_keeps, larger_keeps}
+use Rattle.book_model.proofs.Intervals.{within_trans, within_refl, product_within, product_proper, least_is, greatest_is}
+use Rattle.book_model.proofs.Certificates.{zero_F}
 use Rattle.book_model.specs.numbers.Series.{sine_series, cosine_series, pi_at, four_fifths}
 use Rattle.book_model.specs.programs.Leading.{units_of_56}
 use Rattle.book_model.specs.numbers.Octants.{only, radians}
 use Rattle.book_model.proofs.Pi.{binary, pi_number, pi_proper}
 use Rattle.book_model.proofs.SeriesNesting.{inside_in}
 use Rattle.book_model.proofs.OctantHulls.{radians_proper, radians_inside}
-use Rattle.rounded_quotients.specs.Units.{at_64}
-use Rattle.interval_ends.specs.declared.parts.TheConstants.{OCTANT}
+use Rattle.encl_core.specs.Units.{at_64}
+use Rattle.encl_core.specs.parts.TheConstants.{OCTANT}
 use Rattle.trig_series.specs.Kernel.{IsAngle, AreSineEnds, AreCosineEnds, in_radians, in_radians_above, IsInRadians}
 
 pub ends_product : (r lo hi : Fraction) (c d : Fraction) → IsMember (times r lo) (between c d) → IsMember (times r hi) (between c d)

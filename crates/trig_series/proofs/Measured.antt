@@ -2,13 +2,13 @@
 use Rattle.std.specs.Prelude.{◌≡◌, ℕ, ◌+◌, ◌*◌, ◌/◌, ◌^◌, pos, neg_ℤ}
 use Rattle.std.proofs.Common.{arith}
 use Rattle.std.proofs.lemmas.Int.{ints}
-use Rattle.exact_math.specs.Interval.{Interval}
+use Rattle.book_model.specs.Interval.{Interval}
 use Rattle.book_model.specs.numbers.Bounds.{Bound, bounded, Limits, Reach, bound_of, limits_of, spanned_bound, sine_spans, cosine_spans}
 use Rattle.book_model.specs.numbers.Expressions.{Expression, argument, sine, cosine}
 use Rattle.book_model.specs.numbers.Relations.{Narrow, Keeps}
 use Rattle.book_model.specs.programs.Widths.{IsAbout}
 use Rattle.book_model.proofs.Implying.{limits_within}
-use Rattle.greatest_widths.proofs.Measuring.{looser}
+use Rattle.encl_core.proofs.Measuring.{looser}
 
 abbrev any_degrees : ℕ → ℕ → Bound
 any_degrees v k = bounded (neg_ℤ (pos (2 ^ 94))) (pos (2 ^ 94)) 0 v

@@ -2,18 +2,18 @@
 use Rattle.std.proofs.Common.{◌≡◌, ℕ, zero, suc, ◌≤◌, ◌/◌, ◌∙◌, refl, arith, neg_ℤ, ℤ, pos, ◌+ℤ◌, ◌-ℤ◌, ◌*ℤ◌, ◌≤ℤ◌, ◌<ℤ◌}
 use Rattle.std.specs.Int.{int_div_euclid, int_max, int_min}
 use Rattle.std.proofs.lemmas.Int.{ints, clamps, by_lt_z}
-use Rattle.exact_math.specs.Fraction.{Fraction, ◌≤F◌, ◌≈◌, opposite, times, smaller, larger}
-use Rattle.exact_math.specs.Interval.{Interval, between, ◌⊆◌, negative, hull as interval_hull}
-use Rattle.exact_math.proofs.Fractions.{le_trans, smaller_keeps, smaller_first, smaller_second, larger_keeps, larger_first, larger_second}
-use Rattle.exact_math.proofs.Intervals.{within_trans, hull_within, negative_within}
-use Rattle.exact_math.proofs.Hulls.{hull_holds_first, hull_holds_second}
-use Rattle.exact_math.proofs.Same.{same_of_le, le_of_same, ge_of_same}
-use Rattle.exact_math.proofs.Floors.{IsFloorQuotient, floor_quotient_is}
+use Rattle.book_model.specs.Fraction.{Fraction, ◌≤F◌, ◌≈◌, opposite, times, smaller, larger}
+use Rattle.book_model.specs.Interval.{Interval, between, ◌⊆◌, negative, hull as interval_hull}
+use Rattle.book_model.proofs.Fractions.{le_trans, smaller_keeps, smaller_first, smaller_second, larger_keeps, larger_first, larger_second}
+use Rattle.book_model.proofs.Intervals.{within_trans, hull_within, negative_within}
+use Rattle.book_model.proofs.Hulls.{hull_holds_first, hull_holds_second}
+use Rattle.book_model.proofs.Same.{same_of_le, le_of_same, ge_of_same}
+use Rattle.book_model.proofs.Floors.{IsFloorQuotient, floor_quotient_is}
 use Rattle.book_model.specs.programs.Leading.{units_of_56}
 use Rattle.book_model.specs.numbers.Octants.{octant_edge, sine_at, sine_in, first_octant, last_octant, sine_of_degrees}
 use Rattle.book_model.proofs.DegreeSines.{over_least}
-use Rattle.interval_ends.specs.declared.parts.TheConstants.{OCTANT}
-use Rattle.rounded_quotients.proofs.Quotients.{euclid_is}
+use Rattle.encl_core.specs.parts.TheConstants.{OCTANT}
+use Rattle.encl_core.proofs.Quotients.{euclid_is}
 
 -- ---- the part of two ends in an octant
 pub order_at : (p q : ℤ) → p ≤ℤ q → units_of_56 p ≤F units_of_56 q

@@ -1,22 +1,22 @@
 -- The series over a part of an octant, from their ends at its first angle.
 use Rattle.std.proofs.Common.{◌≡◌, ℕ, zero, suc, ◌-◌, ◌≤◌, refl, arith, neg_ℤ, unsigned_abs, ℤ, pos, negsuc, ◌+ℤ◌, ◌-ℤ◌, ◌*ℤ◌, ◌≤ℤ◌, ◌<ℤ◌, [], ◌∷◌}
 use Rattle.std.proofs.lemmas.Int.{ints, clamps, by_lt_z}
-use Rattle.exact_math.specs.Fraction.{Fraction, ◌≤F◌, ◌≈◌, plus, times}
-use Rattle.exact_math.specs.Interval.{between, ◌⊆◌}
-use Rattle.exact_math.specs.Sums.{upper}
-use Rattle.exact_math.proofs.Alternating.{sum_ends_in_order}
-use Rattle.exact_math.proofs.Certificates.{zero_F, ◌≼◌, ◌≗◌, known, multiple, ◌⊞◌, le_by}
-use Rattle.exact_math.proofs.Fractions.{le_trans}
-use Rattle.exact_math.proofs.Intervals.{within_trans}
-use Rattle.exact_math.proofs.Ring.{at, lit, ◌⊕◌}
+use Rattle.book_model.specs.Fraction.{Fraction, ◌≤F◌, ◌≈◌, plus, times}
+use Rattle.book_model.specs.Interval.{between, ◌⊆◌}
+use Rattle.book_model.specs.Sums.{upper}
+use Rattle.book_model.proofs.Alternating.{sum_ends_in_order}
+use Rattle.book_model.proofs.Certificates.{zero_F, ◌≼◌, ◌≗◌, known, multiple, ◌⊞◌, le_by}
+use Rattle.book_model.proofs.Fractions.{le_trans}
+use Rattle.book_model.proofs.Intervals.{within_trans}
+use Rattle.book_model.proofs.Ring.{at, lit, ◌⊕◌}
 use Rattle.book_model.specs.programs.Leading.{units_of_56}
 use Rattle.book_model.specs.numbers.Octants.{radians, octant_of_turn, sine_into, sine_at, sine_in}
 use Rattle.book_model.specs.numbers.Series.{sine_series, cosine_series, sine_term, four_fifths}
 use Rattle.book_model.proofs.OctantHulls.{radians_proper}
 use Rattle.book_model.proofs.SeriesNesting.{sines, sine_lowers, cosine_lowers, inside_in}
 use Rattle.book_model.proofs.Terms.{IsUpTo, sine_halving}
-use Rattle.rounded_quotients.specs.Units.{at_64}
-use Rattle.interval_ends.specs.declared.parts.TheConstants.{OCTANT, QUARTER}
+use Rattle.encl_core.specs.Units.{at_64}
+use Rattle.encl_core.specs.parts.TheConstants.{OCTANT, QUARTER}
 use Rattle.trig_series.specs.Kernel.{in_radians, in_radians_above, IsInRadians, AreSineEnds, AreCosineEnds}
 use Rattle.trig_series.specs.Points.{IsAround, IsRising, IsCrest, IsPart, IsInside}
 use Rattle.trig_series.proofs.AngleLemmas.{at_in_turn, cosine_within}

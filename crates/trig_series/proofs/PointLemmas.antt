@@ -1,16 +1,16 @@
 -- Spans at single angles of the first octant: they hold the series, and are near its ends.
 use Rattle.std.proofs.Common.{ℕ, zero, suc, ◌+◌, ◌*◌, ◌-◌, ◌^◌, ◌≤◌, refl, arith, ℤ, pos, negsuc, ◌+ℤ◌, ◌-ℤ◌, ◌*ℤ◌, ◌≤ℤ◌, [], ◌∷◌}
 use Rattle.std.proofs.lemmas.Int.{ints}
-use Rattle.exact_math.specs.Fraction.{Fraction, ◌≤F◌, ◌≈◌, whole, times}
-use Rattle.exact_math.specs.Interval.{Interval, everything, between, IsMember, IsProper, ◌⊆◌, product}
-use Rattle.exact_math.specs.Sums.{lower, upper, one_over}
-use Rattle.exact_math.proofs.Ring.{at, lit, ◌⊖◌, ◌⊗◌}
-use Rattle.exact_math.proofs.Fractions.{le_refl, le_trans}
-use Rattle.exact_math.proofs.FractionRing.{same_by}
-use Rattle.exact_math.proofs.Intervals.{within_trans, within_refl, product_within, product_proper}
-use Rattle.exact_math.proofs.Same.{same_refl, same_trans, le_of_same, ge_of_same, same_of_le, times_cong, plus_cong, opposite_cong}
-use Rattle.exact_math.proofs.Certificates.{zero_F}
-use Rattle.exact_math.proofs.Narrowing.{at_least}
+use Rattle.book_model.specs.Fraction.{Fraction, ◌≤F◌, ◌≈◌, whole, times}
+use Rattle.book_model.specs.Interval.{Interval, everything, between, IsMember, IsProper, ◌⊆◌, product}
+use Rattle.book_model.specs.Sums.{lower, upper, one_over}
+use Rattle.book_model.proofs.Ring.{at, lit, ◌⊖◌, ◌⊗◌}
+use Rattle.book_model.proofs.Fractions.{le_refl, le_trans}
+use Rattle.book_model.proofs.FractionRing.{same_by}
+use Rattle.book_model.proofs.Intervals.{within_trans, within_refl, product_within, product_proper}
+use Rattle.book_model.proofs.Same.{same_refl, same_trans, le_of_same, ge_of_same, same_of_le, times_cong, plus_cong, opposite_cong}
+use Rattle.book_model.proofs.Certificates.{zero_F}
+use Rattle.book_model.proofs.Narrowing.{at_least}
 use Rattle.book_model.specs.programs.Leading.{units_of_56}
 use Rattle.book_model.specs.numbers.Octants.{only, radians}
 use Rattle.book_model.specs.numbers.Series.{sine_series, cosine_series, sine_term, cosine_term, four_fifths, double, pi_at}
@@ -18,13 +18,13 @@ use Rattle.book_model.proofs.Terms.{IsUpTo, falling}
 use Rattle.book_model.proofs.Pi.{pi_number, pi_proper}
 use Rattle.book_model.proofs.OctantHulls.{radians_proper}
 use Rattle.book_model.proofs.SeriesNesting.{sines, cosines, inside_in}
-use Rattle.rounded_quotients.specs.Units.{at_64}
-use Rattle.interval_ends.specs.declared.parts.TheConstants.{ONE, OCTANT}
+use Rattle.encl_core.specs.Units.{at_64}
+use Rattle.encl_core.specs.parts.TheConstants.{ONE, OCTANT}
 use Rattle.trig_series.specs.Kernel.{in_radians, IsAngle, AreSineEnds, AreCosineEnds}
 use Rattle.trig_series.specs.Points.{IsNearSine, IsNearCosine}
 use Rattle.trig_series.proofs.AngleLemmas.{radians_in_angle, angle_in_radians, cosine_within}
 use Rattle.trig_series.proofs.KernelAngles.{ends_product, product_ends, sine_there, cosine_there, radians_near, angle_between, by_lower}
-use Rattle.rounded_quotients.proofs.HighHalves.{IsHigh}
+use Rattle.encl_core.proofs.HighHalves.{IsHigh}
 use Rattle.trig_series.proofs.KernelSteps.{step_near}
 use Rattle.trig_series.proofs.SineChain.{sine_near, low_is as sine_low, high_is as sine_high, nested, flipped, step_at, Keeps, Chain, innermost}
 use Rattle.trig_series.proofs.CosineChain.{Chain as CosineChain, innermost as cosine_innermost, cosine_near, low_is as cosine_low, high_is as cosine_high}

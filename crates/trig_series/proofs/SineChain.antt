@@ -1,19 +1,19 @@
 -- The ends of the series at an angle, as chains of steps.
 use Rattle.std.proofs.Common.{◌≡◌, ℕ, zero, suc, ◌+◌, ◌-◌, ◌^◌, ◌≤◌, refl, arith, pos, negsuc, [], ◌∷◌}
-use Rattle.exact_math.specs.Fraction.{Fraction, ◌≤F◌, ◌≈◌, whole, plus, opposite, times}
-use Rattle.exact_math.specs.Sums.{lower, upper, inner}
-use Rattle.exact_math.proofs.Ring.{at, lit, ◌⊕◌, ◌⊖◌, ◌⊗◌, minus}
-use Rattle.exact_math.proofs.Fractions.{le_trans}
-use Rattle.exact_math.proofs.Same.{same_refl, same_trans, le_of_same, ge_of_same, plus_cong, times_cong, opposite_cong}
-use Rattle.exact_math.proofs.FractionRing.{same_by}
-use Rattle.exact_math.proofs.Certificates.{zero_F}
-use Rattle.exact_math.proofs.Alternating.{lower_is_beneath, upper_is_atop, sums_nested}
-use Rattle.exact_math.proofs.Horner.{beneath_is, atop_is}
+use Rattle.book_model.specs.Fraction.{Fraction, ◌≤F◌, ◌≈◌, whole, plus, opposite, times}
+use Rattle.book_model.specs.Sums.{lower, upper, inner}
+use Rattle.book_model.proofs.Ring.{at, lit, ◌⊕◌, ◌⊖◌, ◌⊗◌, minus}
+use Rattle.book_model.proofs.Fractions.{le_trans}
+use Rattle.book_model.proofs.Same.{same_refl, same_trans, le_of_same, ge_of_same, plus_cong, times_cong, opposite_cong}
+use Rattle.book_model.proofs.FractionRing.{same_by}
+use Rattle.book_model.proofs.Certificates.{zero_F}
+use Rattle.book_model.proofs.Alternating.{lower_is_beneath, upper_is_atop, sums_nested}
+use Rattle.book_model.proofs.Horner.{beneath_is, atop_is}
 use Rattle.book_model.specs.numbers.Series.{sine_term}
 use Rattle.book_model.proofs.Terms.{IsUpTo, square_nonneg, falling, sine_index, sine_step, sine_first, sine_halving}
-use Rattle.rounded_quotients.proofs.HighHalves.{IsHigh}
+use Rattle.encl_core.proofs.HighHalves.{IsHigh}
 use Rattle.trig_series.proofs.KernelSteps.{step_near, square_near, product_above, product_below, angle_fifths}
-use Rattle.rounded_quotients.specs.Units.{IsWithinUnits}
+use Rattle.encl_core.specs.Units.{IsWithinUnits}
 use Rattle.trig_series.specs.Kernel.{IsCut, IsAngle, IsSquare, AreSineEnds}
 
 -- 1 - u r s

@@ -5,14 +5,14 @@ use Rattle.std.specs.Prelude.{nat_lt, ◌&&◌}
 use Rattle.std.specs.Int.{int_max, int_min}
 use Rattle.std.proofs.lemmas.Int.{ints, clamps, by_lt_z}
 use lib.Signed.{lt_z}
-use Rattle.exact_math.proofs.Ring.{at, lit, ◌⊗◌}
-use Rattle.exact_math.proofs.Bounds.{◌≼◌, known, ◌⊞◌, ◌⊠◌, times as naturally, le_by, square_nonneg}
+use Rattle.book_model.proofs.Ring.{at, lit, ◌⊗◌}
+use Rattle.book_model.proofs.Bounds.{◌≼◌, known, ◌⊞◌, ◌⊠◌, times as naturally, le_by, square_nonneg}
 use Rattle.std.proofs.lemmas.Bool.{ltb-true}
 use Rattle.std.proofs.Math.Nat.{mul-le-mul_right}
-use Rattle.exact_math.specs.Fraction.{Fraction, ◌≤F◌, whole, plus}
-use Rattle.exact_math.specs.Interval.{Interval, everything, between, IsProper, ◌⊆◌, sum, one, minus_one}
-use Rattle.exact_math.proofs.Fractions.{le_trans, le_refl, plus_mono}
-use Rattle.exact_math.proofs.Intervals.{within_trans, within_refl, sum_within, plus_proper}
+use Rattle.book_model.specs.Fraction.{Fraction, ◌≤F◌, whole, plus}
+use Rattle.book_model.specs.Interval.{Interval, everything, between, IsProper, ◌⊆◌, sum, one, minus_one}
+use Rattle.book_model.proofs.Fractions.{le_trans, le_refl, plus_mono}
+use Rattle.book_model.proofs.Intervals.{within_trans, within_refl, sum_within, plus_proper}
 use Rattle.book_model.specs.numbers.Bounds.{Bound, unbounded, bounded, Limits, Reach, Spans, IsNarrow, bound_of, limited, range_size, ceil_div, eighth_turn}
 use Rattle.book_model.specs.numbers.Bounds.{Extent, opposites, sine_from, sine_to, cosine_from, octant_extent, octant_at, lie_inside, inside_extent}
 use Rattle.book_model.specs.numbers.Bounds.{sine_near_none, cosine_near_none, quarter_later, sine_spans, cosine_spans, spanned_bound}
@@ -23,7 +23,7 @@ use Rattle.book_model.specs.numbers.Relations.{Within, Lies, Narrow, Keeps}
 use Rattle.book_model.proofs.Values.{value_proper}
 use Rattle.book_model.proofs.OctantHulls.{all_sines}
 use Rattle.book_model.proofs.DegreeSines.{degree_sines, sine_inside}
-use Rattle.interval_ends.specs.declared.parts.TheConstants.{ONE, OCTANT, QUARTER, TURN}
+use Rattle.encl_core.specs.parts.TheConstants.{ONE, OCTANT, QUARTER, TURN}
 use Rattle.trig_series.specs.Points.{IsAround, IsRising, IsCrest, IsPart, IsInside, IsNarrowSine, IsNarrowCosine}
 use Rattle.trig_series.proofs.OctantLemmas.{order_at, by_max, by_min}
 

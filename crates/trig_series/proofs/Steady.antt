@@ -2,17 +2,17 @@
 use Rattle.std.proofs.Common.{◌≡◌, ℕ, zero, suc, ◌-◌, ◌≤◌, refl, arith, neg_ℤ, unsigned_abs, ◌<ℤ◌, ℤ, pos, negsuc, ◌+ℤ◌, ◌-ℤ◌, ◌*ℤ◌, ◌≤ℤ◌, [], ◌∷◌}
 use Rattle.std.specs.Int.{int_max, int_min}
 use Rattle.std.proofs.lemmas.Int.{ints, clamps, by_lt_z}
-use Rattle.exact_math.specs.Fraction.{◌≤F◌, plus, times}
-use Rattle.exact_math.proofs.Ring.{at, lit, ◌⊗◌}
-use Rattle.exact_math.proofs.Bounds.{◌≼◌, known as certain, ◌⊞◌, ◌⊠◌, times as twice, le_by as le_between}
-use Rattle.exact_math.proofs.Fractions.{le_refl, le_trans, plus_mono}
-use Rattle.exact_math.proofs.Alternating.{sum_ends_in_order}
+use Rattle.book_model.specs.Fraction.{◌≤F◌, plus, times}
+use Rattle.book_model.proofs.Ring.{at, lit, ◌⊗◌}
+use Rattle.book_model.proofs.Bounds.{◌≼◌, known as certain, ◌⊞◌, ◌⊠◌, times as twice, le_by as le_between}
+use Rattle.book_model.proofs.Fractions.{le_refl, le_trans, plus_mono}
+use Rattle.book_model.proofs.Alternating.{sum_ends_in_order}
 use Rattle.book_model.specs.numbers.Octants.{octant_of_turn}
 use Rattle.book_model.specs.numbers.Series.{sine_term, cosine_term}
 use Rattle.book_model.proofs.Terms.{sine_halving, cosine_halving}
 use Rattle.book_model.proofs.SeriesNesting.{sine_lowers, cosine_uppers}
-use Rattle.rounded_quotients.specs.Units.{at_64}
-use Rattle.interval_ends.specs.declared.parts.TheConstants.{OCTANT, QUARTER}
+use Rattle.encl_core.specs.Units.{at_64}
+use Rattle.encl_core.specs.parts.TheConstants.{OCTANT, QUARTER}
 use Rattle.trig_series.specs.Kernel.{in_radians}
 use Rattle.trig_series.specs.Points.{IsNearSine, IsNearCosine, IsPoint, IsAt, AreSteady, IsAround, IsCrest}
 use Rattle.trig_series.proofs.Slopes.{sine_slow, cosine_slow}

@@ -2,11 +2,11 @@
 use Rattle.std.proofs.Common.{◌≡◌, ℕ, zero, suc, ◌-◌, ◌≤◌, refl, ap, arith, neg_ℤ, unsigned_abs, ℤ, pos, negsuc, ◌+ℤ◌, ◌-ℤ◌, ◌*ℤ◌, ◌≤ℤ◌, ◌⊎◌, inl, inr}
 use Rattle.std.specs.Int.{int_min, int_max}
 use Rattle.std.proofs.lemmas.Int.{ints, clamps, by_lt_z}
-use Rattle.exact_math.specs.Fraction.{Fraction, ◌≈◌, floor_quotient}
-use Rattle.exact_math.proofs.Floors.{IsFloorQuotient, floor_quotient_is}
+use Rattle.book_model.specs.Fraction.{Fraction, ◌≈◌, floor_quotient}
+use Rattle.book_model.proofs.Floors.{IsFloorQuotient, floor_quotient_is}
 use Rattle.book_model.specs.programs.Leading.{units_of_56}
 use Rattle.book_model.specs.numbers.Octants.{short_of, octant_of_turn}
-use Rattle.interval_ends.specs.declared.parts.TheConstants.{OCTANT}
+use Rattle.encl_core.specs.parts.TheConstants.{OCTANT}
 use Rattle.trig_series.specs.Points.{IsNearSine, IsNearCosine, IsPoint, edge_of, IsAt}
 use Rattle.trig_series.proofs.AngleLemmas.{short_same}
 

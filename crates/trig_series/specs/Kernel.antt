@@ -1,12 +1,12 @@
 -- Numbers in 64 bits that are near a fraction; all count 2^-64.
 use Rattle.std.specs.Prelude.{ℕ, ℤ, pos, ◌-ℤ◌, ◌+ℤ◌}
-use Rattle.exact_math.specs.Fraction.{Fraction, ◌≤F◌, times}
-use Rattle.exact_math.specs.Sums.{lower, upper, one_over}
+use Rattle.book_model.specs.Fraction.{Fraction, ◌≤F◌, times}
+use Rattle.book_model.specs.Sums.{lower, upper, one_over}
 use Rattle.book_model.specs.declared.tables.TheConstants.{PI_BELOW, PI_ABOVE}
 use Rattle.book_model.specs.numbers.Fractions.{fraction_of}
 use Rattle.book_model.specs.programs.Leading.{units_of_56}
 use Rattle.book_model.specs.numbers.Series.{four_fifths, sine_term, cosine_term}
-use Rattle.rounded_quotients.specs.Units.{at_64}
+use Rattle.encl_core.specs.Units.{at_64}
 
 -- c is x, rounded down
 pub record IsCut (c : ℕ) (x : Fraction) : Type 0 where

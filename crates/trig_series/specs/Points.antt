@@ -1,11 +1,11 @@
 -- The sines at single angles as spans: near the ends of the series, and exact where an octant begins and ends.
 use Rattle.std.specs.Prelude.{ℕ, zero, suc, neg_ℤ, unsigned_abs, ◌-◌, ◌*◌, ◌^◌, ℤ, pos, ◌+ℤ◌, ◌-ℤ◌, ◌*ℤ◌, ◌≤ℤ◌, ◌<ℤ◌}
-use Rattle.exact_math.specs.Fraction.{◌≤F◌}
-use Rattle.exact_math.specs.Sums.{lower, upper}
+use Rattle.book_model.specs.Fraction.{◌≤F◌}
+use Rattle.book_model.specs.Sums.{lower, upper}
 use Rattle.book_model.specs.numbers.Octants.{octant_of_turn}
 use Rattle.book_model.specs.numbers.Series.{sine_term, cosine_term}
-use Rattle.interval_ends.specs.declared.parts.TheConstants.{OCTANT, QUARTER, ONE}
-use Rattle.rounded_quotients.specs.Units.{at_64}
+use Rattle.encl_core.specs.parts.TheConstants.{OCTANT, QUARTER, ONE}
+use Rattle.encl_core.specs.Units.{at_64}
 use Rattle.trig_series.specs.Kernel.{in_radians}
 
 -- lo is hardly below the sine of d degrees that count 2^-56, and hi hardly above it: by four and a half parts of 2^-56

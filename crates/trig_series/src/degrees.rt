@@ -6,19 +6,19 @@
 ghost use Rattle.book_model.specs.programs.Calls.{Encloses1};
 ghost use Rattle.book_model.specs.programs.Widths.{IsAbout};
 ghost use Rattle.std.specs.Prelude.{◌≡◌, ℕ, ℤ, pos, neg_ℤ, ◌^◌, ◌≤◌, ◌≤ℤ◌};
-ghost use Rattle.greatest_widths.specs.declared.table.TheConstants.{SINE};
-ghost use Rattle.greatest_widths.specs.Table.{greatest_of};
-ghost use Rattle.exact_math.specs.Interval.{Interval, IsProper, between, ◌⊆◌};
+ghost use Rattle.encl_core.specs.declared.greatest_widths.TheConstants.{SINE};
+ghost use Rattle.encl_core.specs.GreatestWidths.{greatest_of};
+ghost use Rattle.book_model.specs.Interval.{Interval, IsProper, between, ◌⊆◌};
 ghost use Rattle.book_model.specs.numbers.Expressions.{sine, cosine, tangent};
 ghost use Rattle.book_model.specs.programs.Leading.{units_of_56};
 ghost use Rattle.book_model.specs.numbers.Octants.{sine_of_degrees, cosine_of_degrees};
-ghost use Rattle.interval_ends.specs.declared.parts.TheConstants.{ONE};
+ghost use Rattle.encl_core.specs.parts.TheConstants.{ONE};
 ghost use Rattle.trig_series.specs.Points.{IsNarrowSine, IsNarrowCosine};
 ghost use Rattle.book_model.specs.numbers.Depth.{DEPTH};
 
 use crate::octants::sine_over_degrees;
+use encl_core::parts::{ONE, QUARTER, TURN};
 use encl_core::{Enclosure, Span};
-use interval_ends::parts::{ONE, QUARTER, TURN};
 
 /// 2⁶⁴ degrees, which count 2⁻⁵⁶. Further from 0 no octants are counted.
 const FAR: i128 = 1 << 120;

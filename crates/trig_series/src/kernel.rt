@@ -6,16 +6,16 @@
 //! One scale for every kind of enclosure, whose own scale the ends get by `from_span`. Each step is inlined: the terms
 //! run as one line of multiplications, with no loop, no table and no bounds.
 ghost use Rattle.std.specs.Prelude.{◌≤◌, ◌*◌, ◌-◌, ◌^◌, ℕ, pos, ◌-ℤ◌, ◌+ℤ◌};
-ghost use Rattle.exact_math.specs.Fraction.{Fraction, ◌≤F◌, plus, opposite, times};
-ghost use Rattle.exact_math.specs.Interval.{zero_fraction, between, ◌⊆◌};
+ghost use Rattle.book_model.specs.Fraction.{Fraction, ◌≤F◌, plus, opposite, times};
+ghost use Rattle.book_model.specs.Interval.{zero_fraction, between, ◌⊆◌};
 ghost use Rattle.book_model.specs.programs.Leading.{units_of_56};
 ghost use Rattle.book_model.specs.numbers.Octants.{radians};
 ghost use Rattle.book_model.specs.numbers.Series.{sine_series, cosine_series};
-ghost use Rattle.interval_ends.specs.declared.parts.TheConstants.{OCTANT};
-ghost use Rattle.rounded_quotients.specs.Units.{at_64, IsWithinUnits};
+ghost use Rattle.encl_core.specs.parts.TheConstants.{OCTANT};
+ghost use Rattle.encl_core.specs.Units.{at_64, IsWithinUnits};
 ghost use Rattle.trig_series.specs.Kernel.{IsCut, IsSquare, IsAngle, AreSineEnds, AreCosineEnds, IsInRadians};
 
-use rounded_quotients::high_half;
+use encl_core::high_half;
 
 /// One step of Horner's form: a coefficient less a square times what stands further in.
 #[inline(always)]

@@ -1,18 +1,18 @@
 //! The sine over octants of 45 degrees, as spans.
 ghost use Rattle.std.specs.Prelude.{◌≡◌, ◌≤◌, ◌⊎◌, ◌^◌, ℕ, ℤ, pos, suc, neg_ℤ, unsigned_abs, ◌≤ℤ◌, ◌<ℤ◌, ◌+ℤ◌, ◌-ℤ◌, ◌*ℤ◌};
 ghost use Rattle.std.specs.Int.{int_div_euclid, int_min, int_max};
-ghost use Rattle.exact_math.specs.Fraction.{Fraction, ◌≈◌};
-ghost use Rattle.exact_math.specs.Interval.{between, ◌⊆◌};
+ghost use Rattle.book_model.specs.Fraction.{Fraction, ◌≈◌};
+ghost use Rattle.book_model.specs.Interval.{between, ◌⊆◌};
 ghost use Rattle.book_model.specs.programs.Leading.{units_of_56};
 ghost use Rattle.book_model.specs.numbers.Octants.{octant_of_turn, sine_into as into_octant, sine_at as at_degrees, sine_in as in_octant, first_octant, last_octant, sine_of_degrees};
-ghost use Rattle.interval_ends.specs.declared.parts.TheConstants.{OCTANT, QUARTER};
+ghost use Rattle.encl_core.specs.parts.TheConstants.{OCTANT, QUARTER};
 ghost use Rattle.trig_series.specs.Points.{IsPoint, edge_of, IsAt, IsSmall, IsAround, IsCrest, IsInside, IsPart};
 ghost use Rattle.book_model.specs.numbers.Depth.{DEPTH};
 
 use crate::parts::part_of_turn;
 use crate::points::{cosine_ends_at_degrees, opposite, sine_ends_at_degrees};
 use encl_core::Span;
-use interval_ends::parts::{OCTANT, WIDE_OCTANT};
+use encl_core::parts::{OCTANT, WIDE_OCTANT};
 
 /// The sine at so many degrees into an octant of the first half turn.
 #[inline(always)]

@@ -1,19 +1,19 @@
 //! The sine over a part of one octant: the series at the angle where it is least, and how far the other angles may lead
 //! from there.
 ghost use Rattle.std.specs.Prelude.{◌≤◌, ℕ, pos, ◌≤ℤ◌, ◌+ℤ◌, ◌-ℤ◌, ◌*ℤ◌, unsigned_abs};
-ghost use Rattle.exact_math.specs.Fraction.{Fraction, ◌≈◌};
-ghost use Rattle.exact_math.specs.Interval.{between, ◌⊆◌};
+ghost use Rattle.book_model.specs.Fraction.{Fraction, ◌≈◌};
+ghost use Rattle.book_model.specs.Interval.{between, ◌⊆◌};
 ghost use Rattle.book_model.specs.programs.Leading.{units_of_56};
 ghost use Rattle.book_model.specs.numbers.Octants.{radians, sine_into as into_octant};
 ghost use Rattle.book_model.specs.numbers.Series.{sine_series, cosine_series};
-ghost use Rattle.interval_ends.specs.declared.parts.TheConstants.{OCTANT};
+ghost use Rattle.encl_core.specs.parts.TheConstants.{OCTANT};
 ghost use Rattle.trig_series.specs.Points.{IsSmall, IsRising, IsCrest, IsPart};
 ghost use Rattle.book_model.specs.numbers.Depth.{DEPTH};
 
 use crate::kernel::{cosine_of_degrees_56, sine_of_degrees_56};
 use crate::points::{opposite, span_around};
 use encl_core::Span;
-use interval_ends::parts::OCTANT;
+use encl_core::parts::OCTANT;
 
 // One series instead of two: the other end is moved in the direction in which the sine runs there.
 // That neither moves more is a lemma on the series. Where both ends are one number nothing is

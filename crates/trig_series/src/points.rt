@@ -1,17 +1,17 @@
 //! The sine and the cosine at one angle of the first octant, as spans.
 ghost use Rattle.std.specs.Prelude.{◌≡◌, neg_ℤ, ◌≤◌, ◌*◌, ◌<◌, ◌+◌, ℕ, pos, ◌*ℤ◌, ◌≤ℤ◌, ◌+ℤ◌, ◌-ℤ◌};
-ghost use Rattle.exact_math.specs.Fraction.{Fraction, ◌≈◌};
-ghost use Rattle.exact_math.specs.Interval.{between, ◌⊆◌};
+ghost use Rattle.book_model.specs.Fraction.{Fraction, ◌≈◌};
+ghost use Rattle.book_model.specs.Interval.{between, ◌⊆◌};
 ghost use Rattle.book_model.specs.programs.Leading.{units_of_56};
 ghost use Rattle.book_model.specs.numbers.Octants.{radians};
 ghost use Rattle.book_model.specs.numbers.Series.{sine_series, cosine_series};
-ghost use Rattle.interval_ends.specs.declared.parts.TheConstants.{OCTANT, ONE};
+ghost use Rattle.encl_core.specs.parts.TheConstants.{OCTANT, ONE};
 ghost use Rattle.trig_series.specs.Points.{IsNearSine, IsNearCosine, IsAt, IsSmall};
 ghost use Rattle.book_model.specs.numbers.Depth.{DEPTH};
 
 use crate::kernel::{cosine_of_degrees_56, sine_of_degrees_56};
 use encl_core::Span;
-use interval_ends::parts::{OCTANT, ONE};
+use encl_core::parts::{OCTANT, ONE};
 
 /// The opposite of a span.
 #[inline(always)]

@@ -2,13 +2,13 @@
 use Rattle.std.proofs.Common.{◌≡◌, ℕ, ◌+◌, ◌-◌, ◌/◌, ◌≤◌, refl, arith, unsigned_abs, ℤ, pos, ◌+ℤ◌, ◌-ℤ◌, ◌*ℤ◌, ◌≤ℤ◌, ◌<ℤ◌}
 use Rattle.std.specs.Int.{int_max, int_min}
 use Rattle.std.proofs.lemmas.Int.{ints, clamps, by_lt_z}
-use Rattle.exact_math.specs.Fraction.{Fraction, ◌≈◌}
-use Rattle.exact_math.specs.Interval.{Interval, between, IsProper, ◌⊆◌}
-use Rattle.exact_math.proofs.Intervals.{within_trans}
+use Rattle.book_model.specs.Fraction.{Fraction, ◌≈◌}
+use Rattle.book_model.specs.Interval.{Interval, between, IsProper, ◌⊆◌}
+use Rattle.book_model.proofs.Intervals.{within_trans}
 use Rattle.book_model.specs.programs.Leading.{units_of_56}
 use Rattle.book_model.specs.numbers.Octants.{octant_of_turn, sine_at, first_octant, last_octant, sine_of_degrees}
 use Rattle.book_model.proofs.DegreeSines.{degree_sines}
-use Rattle.interval_ends.specs.declared.parts.TheConstants.{OCTANT}
+use Rattle.encl_core.specs.parts.TheConstants.{OCTANT}
 use Rattle.trig_series.proofs.AngleLemmas.{at_in_turn}
 use Rattle.trig_series.proofs.OctantLemmas.{in_holds, over_holds, first_bounds, last_bounds}
 use Rattle.turn_sums.specs.Turning.{HasPoint}

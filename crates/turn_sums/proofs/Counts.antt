@@ -2,9 +2,9 @@
 use Rattle.std.proofs.Common.{◌≡◌, ◌-◌, ◌^◌, ◌*◌, arith, unsigned_abs, neg_ℤ, ℤ, pos, ◌+ℤ◌, ◌*ℤ◌, ◌≤ℤ◌, ◌<ℤ◌, SFits, w64}
 use Rattle.std.specs.Int.{w128}
 use Rattle.std.proofs.lemmas.Int.{ints}
-use Rattle.exact_math.specs.Fraction.{floor_quotient}
-use Rattle.exact_math.proofs.Floors.{floor_quotient_is}
-use Rattle.interval_ends.proofs.Scaling.{bounded_z}
+use Rattle.book_model.specs.Fraction.{floor_quotient}
+use Rattle.book_model.proofs.Floors.{floor_quotient_is}
+use Rattle.encl_core.proofs.Scaling.{bounded_z}
 use Rattle.turn_sums.specs.Turning.{whole_turns}
 
 pub is_part : (n r : ℤ) → (r *ℤ pos (2 ^ 39)) ≤ℤ n → n <ℤ (r *ℤ pos (2 ^ 39) +ℤ pos (2 ^ 39)) → r ≡ floor_quotient n (2 ^ 39 - 1)

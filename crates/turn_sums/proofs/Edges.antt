@@ -1,16 +1,16 @@
 -- Where two octants meet, the sines at the end of one are those at the beginning of the other.
 use Rattle.std.proofs.Common.{◌≡◌, ℕ, zero, suc, ◌-◌, ◌≤◌, refl, arith, neg_ℤ, ℤ, pos, negsuc, ◌+ℤ◌, ◌-ℤ◌, ◌*ℤ◌, ◌≤ℤ◌, ◌<ℤ◌, ◌⊎◌, inl, inr}
 use Rattle.std.proofs.lemmas.Int.{ints}
-use Rattle.exact_math.specs.Fraction.{Fraction, ◌≤F◌}
-use Rattle.exact_math.proofs.Alternating.{sum_ends_in_order}
-use Rattle.exact_math.proofs.Floors.{floor_quotient_is}
-use Rattle.exact_math.proofs.Fractions.{le_trans}
+use Rattle.book_model.specs.Fraction.{Fraction, ◌≤F◌}
+use Rattle.book_model.proofs.Alternating.{sum_ends_in_order}
+use Rattle.book_model.proofs.Floors.{floor_quotient_is}
+use Rattle.book_model.proofs.Fractions.{le_trans}
 use Rattle.book_model.specs.programs.Leading.{units_of_56}
 use Rattle.book_model.specs.numbers.Octants.{octant_of_turn}
 use Rattle.book_model.specs.numbers.Series.{sine_term, cosine_term}
 use Rattle.book_model.proofs.SeriesNesting.{sine_uppers, cosine_uppers}
 use Rattle.book_model.proofs.Terms.{sine_halving, cosine_halving}
-use Rattle.interval_ends.specs.declared.parts.TheConstants.{OCTANT}
+use Rattle.encl_core.specs.parts.TheConstants.{OCTANT}
 use Rattle.trig_series.specs.Kernel.{in_radians, in_radians_above, IsInRadians, IsAngle, AreSineEnds, AreCosineEnds}
 use Rattle.trig_series.proofs.Curves.{in_fifths}
 use Rattle.trig_series.proofs.KernelAngles.{angle_between, by_lower, by_upper}

@@ -1,3 +1,6 @@
+-- of trig_series, given on
+pub use Rattle.trig_series.proofs.KernelAngles
+pub use Rattle.trig_series.proofs.SineLemmas
 pub mod Spreads
 pub mod Edges
 pub mod Around

@@ -1,19 +1,19 @@
 -- From the sines at one angle of an octant to those at another: they move by at most a 57th of the degrees.
 use Rattle.std.proofs.Common.{ℕ, zero, suc, ◌-◌, ◌≤◌, refl, arith, neg_ℤ, ℤ, pos, negsuc, ◌+ℤ◌, ◌-ℤ◌, ◌*ℤ◌, ◌≤ℤ◌, [], ◌∷◌}
 use Rattle.std.proofs.lemmas.Int.{ints, by_lt_z}
-use Rattle.exact_math.specs.Fraction.{Fraction, ◌≤F◌, ◌≈◌, plus}
-use Rattle.exact_math.specs.Interval.{between, ◌⊆◌}
-use Rattle.exact_math.specs.Sums.{lower, upper}
-use Rattle.exact_math.proofs.Certificates.{zero_F, ◌≼◌, ◌≗◌, known, multiple, ◌⊞◌, le_by}
-use Rattle.exact_math.proofs.Fractions.{le_trans}
-use Rattle.exact_math.proofs.Intervals.{within_trans}
-use Rattle.exact_math.proofs.Ring.{at, lit, ◌⊕◌}
+use Rattle.book_model.specs.Fraction.{Fraction, ◌≤F◌, ◌≈◌, plus}
+use Rattle.book_model.specs.Interval.{between, ◌⊆◌}
+use Rattle.book_model.specs.Sums.{lower, upper}
+use Rattle.book_model.proofs.Certificates.{zero_F, ◌≼◌, ◌≗◌, known, multiple, ◌⊞◌, le_by}
+use Rattle.book_model.proofs.Fractions.{le_trans}
+use Rattle.book_model.proofs.Intervals.{within_trans}
+use Rattle.book_model.proofs.Ring.{at, lit, ◌⊕◌}
 use Rattle.book_model.specs.programs.Leading.{units_of_56}
 use Rattle.book_model.specs.numbers.Octants.{radians, sine_into}
 use Rattle.book_model.specs.numbers.Series.{sine_series, cosine_series, sine_term, cosine_term, four_fifths}
 use Rattle.book_model.proofs.OctantHulls.{radians_proper}
 use Rattle.book_model.proofs.SeriesNesting.{sines, sine_lowers, sine_uppers, cosine_lowers, cosine_uppers, inside_in}
-use Rattle.interval_ends.specs.declared.parts.TheConstants.{OCTANT}
+use Rattle.encl_core.specs.parts.TheConstants.{OCTANT}
 use Rattle.trig_series.specs.Kernel.{in_radians, in_radians_above}
 use Rattle.trig_series.proofs.AngleLemmas.{cosine_within}
 use Rattle.trig_series.proofs.Curves.{in_fifths, in_order}

@@ -1,13 +1,13 @@
 -- What a row of waves adds, from the sine at its turn in the middle of the days.
 use Rattle.std.proofs.Common.{mul-le-mul, ◌<◌, ◌≡◌, ℕ, ◌+◌, ◌*◌, ◌/◌, ◌-◌, ◌^◌, ◌≤◌, refl, ap, arith, unsigned_abs, neg_ℤ, ℤ, pos, negsuc, ◌+ℤ◌, ◌-ℤ◌, ◌*ℤ◌, ◌≤ℤ◌, ◌<ℤ◌, [], ◌∷◌}
 use Rattle.std.proofs.lemmas.Int.{ints}
-use Rattle.exact_math.specs.Fraction.{Fraction, ◌≤F◌, whole, plus, times, floor_quotient}
-use Rattle.exact_math.specs.Interval.{Interval, between, IsProper, ◌⊆◌, sum, product, least, greatest}
-use Rattle.exact_math.proofs.Bounds.{◌≼◌, known, ◌⊞◌, ◌⊠◌, times as naturally, le_by, le_over}
-use Rattle.exact_math.proofs.Floors.{IsFloorQuotient, floor_quotient_is}
-use Rattle.exact_math.proofs.Fractions.{le_refl}
-use Rattle.exact_math.proofs.Intervals.{within_trans, within_refl, sum_within, product_within, plus_proper, product_proper, least_keeps, greatest_keeps}
-use Rattle.exact_math.proofs.Ring.{at, lit, ◌⊕◌, ◌⊖◌, ◌⊗◌}
+use Rattle.book_model.specs.Fraction.{Fraction, ◌≤F◌, whole, plus, times, floor_quotient}
+use Rattle.book_model.specs.Interval.{Interval, between, IsProper, ◌⊆◌, sum, product, least, greatest}
+use Rattle.book_model.proofs.Bounds.{◌≼◌, known, ◌⊞◌, ◌⊠◌, times as naturally, le_by, le_over}
+use Rattle.book_model.proofs.Floors.{IsFloorQuotient, floor_quotient_is}
+use Rattle.book_model.proofs.Fractions.{le_refl}
+use Rattle.book_model.proofs.Intervals.{within_trans, within_refl, sum_within, product_within, plus_proper, product_proper, least_keeps, greatest_keeps}
+use Rattle.book_model.proofs.Ring.{at, lit, ◌⊕◌, ◌⊖◌, ◌⊗◌}
 use Rattle.book_model.specs.programs.Leading.{units_of_56}
 use Rattle.book_model.specs.declared.polynomial.Wave.{Wave}
 use Rattle.book_model.specs.numbers.Expressions.{Expression, World, value, exactly}
@@ -15,7 +15,7 @@ use Rattle.book_model.specs.numbers.Fractions.{ten_millionths, daily_ten_million
 use Rattle.book_model.specs.numbers.Octants.{octant_of_turn, sine_of_degrees}
 use Rattle.book_model.proofs.DegreeSines.{degree_sines}
 use Rattle.book_model.proofs.Values.{value_proper}
-use Rattle.interval_ends.specs.declared.parts.TheConstants.{OCTANT}
+use Rattle.encl_core.specs.parts.TheConstants.{OCTANT}
 use Rattle.trig_series.proofs.KernelAngles.{product_ends}
 use Rattle.trig_series.proofs.OctantLemmas.{order_at}
 use Rattle.turn_sums.specs.Turning.{HasPoint, octant_of, degrees_of, IsTurning, AreNear, turning_wave_of, radius_of, turn_part, whole_turns}

@@ -1,11 +1,11 @@
 -- The sum of the rows of a table of waves.
 use Rattle.std.proofs.Common.{◌^◌, ◌≡◌, ℕ, zero, suc, ◌+◌, ◌*◌, ◌/◌, refl, arith, unsigned_abs, neg_ℤ, ℤ, pos, ◌+ℤ◌, ◌-ℤ◌, ◌*ℤ◌, ◌≤ℤ◌, add-one, List, length, slice_index_or, [], ◌∷◌}
 use Rattle.std.proofs.lemmas.Int.{ints}
-use Rattle.exact_math.specs.Fraction.{plus}
-use Rattle.exact_math.specs.Interval.{Interval, between, ◌⊆◌, sum}
-use Rattle.exact_math.proofs.Bounds.{◌≼◌, known, ◌⊞◌, ◌⊠◌, le_by}
-use Rattle.exact_math.proofs.Intervals.{within_trans, sum_within}
-use Rattle.exact_math.proofs.Ring.{at, lit, ◌⊕◌, ◌⊗◌}
+use Rattle.book_model.specs.Fraction.{plus}
+use Rattle.book_model.specs.Interval.{Interval, between, ◌⊆◌, sum}
+use Rattle.book_model.proofs.Bounds.{◌≼◌, known, ◌⊞◌, ◌⊠◌, le_by}
+use Rattle.book_model.proofs.Intervals.{within_trans, sum_within}
+use Rattle.book_model.proofs.Ring.{at, lit, ◌⊕◌, ◌⊗◌}
 use Rattle.book_model.specs.declared.polynomial.Wave.{Wave}
 use Rattle.book_model.specs.numbers.Expressions.{Expression, World, value}
 use Rattle.book_model.specs.numbers.Polynomials.{no_wave}

@@ -1,15 +1,15 @@
 -- Waves by turns and days, and how far a sum of their rows may be off; where the sines at an angle of an octant lie.
 -- A phase counts 10^-7 degrees, and a rate the same a century: 3600000000 of them are a turn, and 365250000000 a degree a day.
 use Rattle.std.specs.Prelude.{◌≡◌, ℕ, zero, suc, ◌+◌, ◌*◌, ◌/◌, ◌-◌, ◌^◌, ◌≤◌, ◌<◌, unsigned_abs, ℤ, pos, neg_ℤ, ◌+ℤ◌, ◌-ℤ◌, ◌*ℤ◌, ◌≤ℤ◌, List, length, slice_index_or}
-use Rattle.exact_math.specs.Fraction.{◌≤F◌, whole, floor_quotient}
-use Rattle.exact_math.specs.Sums.{lower, upper}
+use Rattle.book_model.specs.Fraction.{◌≤F◌, whole, floor_quotient}
+use Rattle.book_model.specs.Sums.{lower, upper}
 use Rattle.book_model.specs.programs.Leading.{units_of_56}
 use Rattle.book_model.specs.numbers.Series.{sine_term, cosine_term}
 use Rattle.book_model.specs.declared.polynomial.Wave.{Wave}
 use Rattle.book_model.specs.numbers.Expressions.{Expression, constant, add, scale, sine}
 use Rattle.book_model.specs.numbers.Fractions.{ten_millionths, daily_ten_millionths}
 use Rattle.book_model.specs.numbers.Polynomials.{no_wave}
-use Rattle.interval_ends.specs.declared.parts.TheConstants.{OCTANT}
+use Rattle.encl_core.specs.parts.TheConstants.{OCTANT}
 use Rattle.trig_series.specs.Kernel.{in_radians, in_radians_above}
 use Rattle.turn_sums.specs.declared.rows.TurningWave.{TurningWave}
 

@@ -1,6 +1,6 @@
 //! The sum of the rows of a table over a span of days, as a span.
 ghost use Rattle.std.specs.Prelude.{◌≡◌, ◌≤◌, ◌/◌, ◌*◌, ◌^◌, ℕ, ℤ, pos, neg_ℤ, ◌≤ℤ◌, ◌+ℤ◌, ◌-ℤ◌, ◌*ℤ◌, length, List, IfSome};
-ghost use Rattle.exact_math.specs.Interval.{between, ◌⊆◌};
+ghost use Rattle.book_model.specs.Interval.{between, ◌⊆◌};
 ghost use Rattle.book_model.specs.declared.polynomial.Wave.{Wave};
 ghost use Rattle.book_model.specs.numbers.Depth.{DEPTH};
 ghost use Rattle.book_model.specs.numbers.Expressions.{Expression, World, value};
@@ -12,7 +12,7 @@ ghost use Rattle.turn_sums.specs.Turning.{AreTurning, AreNear, HasReach, IsNarro
 use crate::rows::TurningWave;
 use crate::sums::sum_at;
 use encl_core::Span;
-use interval_ends::parts::HALF;
+use encl_core::parts::HALF;
 
 /// 2²⁰ days, which count 2⁻⁵⁶. A rate is rounded to 2⁻⁶⁶ turns a day, which makes 2⁻⁴⁶ turns of them: the greatest part of `ROUNDINGS`.
 const FAR: i128 = 1 << 76;

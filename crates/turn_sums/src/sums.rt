@@ -1,6 +1,6 @@
 //! Sums of the rows of a table.
 ghost use Rattle.std.specs.Prelude.{◌≡◌, ◌≤◌, ◌*◌, ◌^◌, ℕ, ℤ, pos, neg_ℤ, ◌≤ℤ◌, ◌+ℤ◌, ◌-ℤ◌, ◌*ℤ◌, length, List};
-ghost use Rattle.exact_math.specs.Interval.{between, ◌⊆◌};
+ghost use Rattle.book_model.specs.Interval.{between, ◌⊆◌};
 ghost use Rattle.book_model.specs.declared.polynomial.Wave.{Wave};
 ghost use Rattle.book_model.specs.numbers.Depth.{DEPTH};
 ghost use Rattle.book_model.specs.numbers.Expressions.{Expression, World, value};

@@ -2,10 +2,10 @@
 //!
 //! The angle goes through degrees: that costs a product, and lets the numbers and the lemmas of `trig_series` serve as they are.
 ghost use Rattle.std.specs.Prelude.{◌≡◌, ◌≤◌, ◌^◌, pos, neg_ℤ, ◌≤ℤ◌, ◌<ℤ◌, ◌+ℤ◌, ◌-ℤ◌, ◌*ℤ◌};
-ghost use Rattle.interval_ends.specs.declared.parts.TheConstants.{OCTANT};
+ghost use Rattle.encl_core.specs.parts.TheConstants.{OCTANT};
 ghost use Rattle.turn_sums.specs.Turning.{HasPoint, octant_of, degrees_of};
 
-use interval_ends::parts::OCTANT;
+use encl_core::parts::OCTANT;
 use trig_series::{cosine_of_degrees_56, sine_of_degrees_56};
 
 /// An eighth of a turn, in 2⁻⁶⁴ turns.

@@ -1,8 +1,8 @@
 -- Whole numbers of days and of spans, as years and months are, exact: what the rules of dates count with. Nothing here is a
 -- test.
-use Rattle.std.specs.Prelude.{ℕ, ◌-◌, ℤ, pos, ◌-ℤ◌, ◌*ℤ◌}
-use lib.IntN.{neg_ℤ}
-use Rattle.exact_math.specs.Fraction.{Fraction, whole, plus, times, reciprocal, floor, floor_quotient}
+use Rattle.std.specs.Prelude.{ℕ, ◌-◌, ℤ}
+use Rattle.exact_math.specs.Fraction.{Fraction, whole, plus, times, reciprocal, floor}
+pub use Rattle.exact_math.specs.Quotients.{quotient_down, quotient_up, modulo, amod}
 use Rattle.book_model.specs.declared.calendar_tables.TheConstants.{SYNODIC_MONTH, TROPICAL_YEAR}
 use Rattle.book_model.specs.declared.tables.TheConstants.{HALF}
 use Rattle.book_model.specs.numbers.Fractions.{fraction_of}
@@ -14,22 +14,6 @@ nearest a = floor (plus a (fraction_of HALF))
 -- n / d; a divisor of 0 is read as 1
 abbrev pub ratio : ℤ → ℕ → Fraction
 ratio n d = record { num = n; below = d - 1 }
-
--- the greatest whole number that is not above n / d
-abbrev pub quotient_down : ℤ → ℕ → ℤ
-quotient_down n d = floor_quotient n (d - 1)
-
--- the least whole number that is not below n / d
-abbrev pub quotient_up : ℤ → ℕ → ℤ
-quotient_up n d = neg_ℤ (quotient_down (neg_ℤ n) d)
-
--- what is left of n by multiples of d, from 0 to less than d; by 0 all of it
-abbrev pub modulo : ℤ → ℕ → ℤ
-modulo n d = n -ℤ quotient_down n d *ℤ pos d
-
--- the number from 1 to d that differs from n by a multiple of d; by 0 n itself
-abbrev pub amod : ℤ → ℕ → ℤ
-amod n d = n -ℤ quotient_down (n -ℤ pos 1) d *ℤ pos d
 
 -- the whole days of a count of spans, rounded down
 unfoldable pub days_of : Fraction → Fraction → ℤ

@@ -3,8 +3,8 @@
 use super::facts::{major_term, moon_before, moon_from, nowruz_on, solstice_on};
 use super::lines::{assert_breaks, resolved, resolved_over};
 use book_model::{Place, Resolved, Rule, ToWord};
-use east_cal::Moved;
 use line_core::Version;
+use moved_oracle::Moved;
 use oracle_core::{Listed, Oracle};
 use std::alloc::Global;
 use std::test::Fail;

@@ -1,7 +1,7 @@
 //! A third kind of enclosures, at a rough scale: the trait's laws hold of it as of the others, so that no formula that is
 //! proved over the trait leans on one scale.
 ghost use Rattle.std.specs.Prelude.{refl};
-ghost use Rattle.exact_math.specs.Interval.{◌⊆◌};
+ghost use Rattle.book_model.specs.Interval.{◌⊆◌};
 ghost use Rattle.interval_ends.specs.Shown.{shown_ends, ends_proper};
 
 use book_model::{Frac, Site, Undecided};

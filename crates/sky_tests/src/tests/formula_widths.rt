@@ -3,9 +3,9 @@
 use super::formulas::{Formula, value};
 use super::measures::new_year;
 use book_model::Fail as FormulaFail;
+use encl_core::greatest_widths::{DISTANCE, LATITUDE, MOON, NEW_MOON, PHASE, SUN, WidthRow};
 use encl_core::{Enclosure, Trail};
 use fix_fine::Fine;
-use greatest_widths::{DISTANCE, LATITUDE, MOON, NEW_MOON, PHASE, SUN, WidthRow};
 
 /// Whether there is an answer, at most as wide as a row says of an argument without width. A row counts 2⁻⁶⁴, an end 2⁻⁵⁶.
 fn is_within(found: Result<Fine, FormulaFail>, row: WidthRow) -> bool {

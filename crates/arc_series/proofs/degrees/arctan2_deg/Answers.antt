@@ -2,7 +2,7 @@ use Rattle.std.proofs.Common.{refl, arith, rules, SFits, ◌+◌, ◌*◌, ◌^�
 use Rattle.std.specs.Int.{w128}
 use Rattle.std.proofs.lemmas.Int.{ints, to_z-of_z}
 use Rattle.arc_series.proofs.ArcLemmas.{upper_held, lower_held, somewhere_held, narrow_two, sure_above, sure_below}
-use Rattle.greatest_widths.proofs.Measuring.{looser}
+use Rattle.encl_core.proofs.Measuring.{looser}
 use Rattle.arc_series.proofs.SlowArcs.{nothing_slow}
 use Rattle.arc_series.proofs.Directions.{direction_within, start_positive}
 use Rattle.arc_series.proofs.degrees.arctan2_deg.Goals as goal

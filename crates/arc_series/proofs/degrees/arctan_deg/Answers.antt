@@ -1,5 +1,5 @@
 use Rattle.std.proofs.Common.{refl}
-use Rattle.exact_math.proofs.Intervals.{within_trans}
+use Rattle.book_model.proofs.Intervals.{within_trans}
 use Rattle.arc_series.proofs.ArcLemmas.{arctangent_held, arctangent_all}
 use Rattle.arc_series.proofs.ArcWidths.{arctangent_keeps, arctangent_keeps_all}
 use Rattle.arc_series.proofs.SlowArcs.{arctangent_slow, nothing_slow}

@@ -1,7 +1,7 @@
 use Rattle.std.proofs.Common.{refl, rules, SFits}
 use Rattle.std.specs.Int.{w128}
 use Rattle.std.proofs.lemmas.Int.{to_z-of_z}
-use Rattle.exact_math.proofs.Intervals.{within_trans}
+use Rattle.book_model.proofs.Intervals.{within_trans}
 use Rattle.arc_series.proofs.ArcLemmas.{moved_held, moved_inside}
 use Rattle.arc_series.proofs.SlowArcs.{moved_narrow, nothing_slow}
 use Rattle.arc_series.proofs.degrees.kept_around.Goals as goal

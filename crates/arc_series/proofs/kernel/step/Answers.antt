@@ -1,5 +1,5 @@
 use Rattle.std.proofs.Common.{arith}
-use Rattle.rounded_quotients.proofs.HighHalves.{high_is, high_small}
+use Rattle.encl_core.proofs.HighHalves.{high_is, high_small}
 use Rattle.arc_series.proofs.KernelSteps.{step_near}
 use Rattle.arc_series.proofs.kernel.step.Goals as goal
 

@@ -1,7 +1,7 @@
 use Rattle.std.proofs.Common.{rules, arith, ◌≡◌, ◌∙◌, ap, sym, SFits, w64, ◌≤◌, ◌*◌, ◌*ℤ◌}
 use Rattle.std.specs.Int.{w128}
 use Rattle.std.proofs.lemmas.Int.{to_z-of_z, ints}
-use Rattle.exact_math.proofs.IntLaws.{mul_comm}
+use Rattle.book_model.proofs.IntLaws.{mul_comm}
 use Rattle.calendar_math.proofs.SpanLemmas.{days_as_quotient, days_lie, WithinCounts}
 use Rattle.calendar_math.proofs.spans.days_of.Goals as goal
 

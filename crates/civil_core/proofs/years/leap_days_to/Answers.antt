@@ -1,6 +1,6 @@
 use Rattle.std.proofs.Common.{rules, arith, SFits, w64, ◌-ℤ◌}
 use Rattle.std.proofs.lemmas.Int.{to_z-of_z, ints}
-use Rattle.exact_math.proofs.Floors.{floor_quotient_is}
+use Rattle.book_model.proofs.Floors.{floor_quotient_is}
 use Rattle.civil_core.proofs.years.leap_days_to.Goals as goal
 
 pub returns : goal.returns

@@ -3,7 +3,7 @@ use Rattle.std.proofs.Common.{◌≡◌, refl, rules, arith, SFits, pos, ◌+◌
 use Rattle.std.specs.Int.{w128}
 use Rattle.std.proofs.lemmas.Int.{ints, to_z-of_z}
 use Rattle.book_model.specs.numbers.Fractions.{fraction_of}
-use Rattle.rounded_quotients.proofs.Quotients.{outward_order, fine_floor, fine_ceiling}
+use Rattle.interval_ends.proofs.Quotients.{outward_order, fine_floor, fine_ceiling}
 use Rattle.interval_ends.proofs.Scaling.{constant_encloses, constant_narrow}
 use Rattle.interval_ends.proofs.OnEnds.{shows}
 use Rattle.encl_core.proofs.fractions.fine_ends.Goals as goal

@@ -4,7 +4,7 @@ use Rattle.std.specs.Int.{w128}
 use Rattle.std.proofs.lemmas.Int.{ints, to_z-of_z}
 use Rattle.book_model.specs.numbers.Bounds.{constant_bound, scaled_bound, limits_36}
 use Rattle.book_model.specs.numbers.Fractions.{ten_millionths, daily_ten_millionths}
-use Rattle.rounded_quotients.proofs.Quotients.{outward_order, sorted_order}
+use Rattle.interval_ends.proofs.Quotients.{outward_order, sorted_order}
 use Rattle.interval_ends.proofs.Keeping.{sum_second}
 use Rattle.interval_ends.proofs.Scaling.{scaled_first}
 use Rattle.interval_ends.proofs.WaveAngles.{AreTurned, turned_encloses, turned_narrow}

@@ -2,7 +2,7 @@ use Rattle.std.proofs.lemmas.Result.{err_from_is_err_and}
 use Rattle.std.proofs.Common.{SFits, w64, arith, ◌+◌, ◌*◌, ◌^◌}
 use Rattle.std.proofs.lemmas.Int.{to_z-of_z, ints}
 use Rattle.book_model.proofs.Leads.{leads_on, leaf_within}
-use Rattle.greatest_widths.proofs.Measuring.{looser}
+use Rattle.encl_core.proofs.Measuring.{looser}
 use Rattle.moon_core.proofs.QuarterWidths.{whole_moment}
 use Rattle.fact_eval.proofs.DayLemmas.{day_not_of_year}
 use Rattle.fact_eval.proofs.DistanceValues.{distance_is_value}

@@ -3,7 +3,7 @@ use Rattle.std.proofs.lemmas.Int.{to_z-of_z, ints}
 use Rattle.std.proofs.lemmas.Result.{err_from_is_err_and}
 use Rattle.book_model.specs.sky.Nisan.{is_before_sunset_of}
 use Rattle.book_model.proofs.Leads.{leads_on, leaf_within}
-use Rattle.greatest_widths.proofs.Measuring.{moment_about}
+use Rattle.encl_core.proofs.Measuring.{moment_about}
 use Rattle.fact_eval.proofs.nisan.is_before_sunset.Goals as goal
 
 pub returns-clause-leads : goal.returns-clause-leads

@@ -3,7 +3,7 @@ use Rattle.std.proofs.lemmas.Int.{to_z-of_z}
 use Rattle.book_model.specs.sky.Facts.{at_depth}
 use Rattle.book_model.proofs.Leads.{leaf_within}
 use Rattle.fact_eval.proofs.NewYears.{is_estimate, begun, ended}
-use Rattle.greatest_widths.proofs.Measuring.{moment_about}
+use Rattle.encl_core.proofs.Measuring.{moment_about}
 use Rattle.fact_eval.proofs.seasons.search_start.Goals as goal
 
 pub returns-clause-from : goal.returns-clause-from

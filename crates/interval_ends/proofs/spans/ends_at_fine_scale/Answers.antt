@@ -1,7 +1,7 @@
 use Rattle.std.proofs.Common.{◌≡◌, ℤ, ◌*ℤ◌, ◌≤ℤ◌, arith, rules, SFits}
 use Rattle.std.specs.Int.{w128}
 use Rattle.std.proofs.lemmas.Int.{ints, to_z-of_z}
-use Rattle.exact_math.specs.Interval.{between, ◌⊆◌}
+use Rattle.book_model.specs.Interval.{between, ◌⊆◌}
 use Rattle.book_model.specs.programs.Leading.{units_of_56}
 use Rattle.interval_ends.specs.Scales.{Scale, coarse, fine, at_scale, finer_units}
 use Rattle.interval_ends.proofs.spans.ends_at_fine_scale.Goals as goal

@@ -1,7 +1,7 @@
 use Rattle.std.proofs.Common.{sym, rules, SFits, true≢false, pos, ◌+ℤ◌, ◌*ℤ◌, ◌-ℤ◌, ◌≤ℤ◌}
 use Rattle.std.specs.Int.{w128}
 use Rattle.std.proofs.lemmas.Int.{to_z-of_z}
-use Rattle.rounded_quotients.proofs.Quotients.{outward_order}
+use Rattle.interval_ends.proofs.Quotients.{outward_order}
 use Rattle.interval_ends.specs.Scales.{unit}
 use Rattle.interval_ends.proofs.Enclosing.{product_encloses, products_order}
 use Rattle.interval_ends.proofs.Products.{product_narrow, product_of_all, product_with_all}

@@ -1,8 +1,8 @@
 use Rattle.std.proofs.Common.{◌≡◌, ℤ, refl, arith, rules, SFits, pos, ◌*ℤ◌, ◌-ℤ◌, ◌≤ℤ◌}
 use Rattle.std.specs.Int.{w128}
 use Rattle.std.proofs.lemmas.Int.{ints, clamps, to_z-of_z}
-use Rattle.rounded_quotients.specs.Rounding.{IsFloor, IsCeiling}
-use Rattle.rounded_quotients.proofs.Quotients.{outward_order}
+use Rattle.interval_ends.specs.WholeRounding.{IsFloor, IsCeiling}
+use Rattle.interval_ends.proofs.Quotients.{outward_order}
 use Rattle.interval_ends.specs.Rounding.{least_square_of}
 use Rattle.interval_ends.specs.Scales.{Scale, unit}
 use Rattle.interval_ends.proofs.Divisions.{square_encloses, squares_order}

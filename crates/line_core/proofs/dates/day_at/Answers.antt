@@ -1,5 +1,5 @@
 use Rattle.std.proofs.Common.{rules}
-use Rattle.east_cal.proofs.Passing.{asked_moved}
+use Rattle.moved_oracle.proofs.Passing.{asked_moved}
 use Rattle.line_core.proofs.dates.day_at.Goals as goal
 
 pub returns : goal.returns

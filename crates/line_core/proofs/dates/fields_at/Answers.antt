@@ -1,5 +1,5 @@
 use Rattle.std.proofs.Common.{rules, ◌≡◌, w64, to_z, of_z}
-use Rattle.east_cal.proofs.Passing.{asked_moved}
+use Rattle.moved_oracle.proofs.Passing.{asked_moved}
 use Rattle.line_core.proofs.dates.fields_at.Goals as goal
 
 pub returns : goal.returns

@@ -1,4 +1,4 @@
-use Rattle.exact_math.proofs.Intervals.{within_trans}
+use Rattle.book_model.proofs.Intervals.{within_trans}
 use Rattle.book_model.specs.numbers.Relations.{Lies}
 use Rattle.book_model.specs.sky.Moon.{lunar_angles_of}
 use Rattle.sun_core.specs.Daily.{in_centuries}

@@ -3,7 +3,7 @@ use Rattle.book_model.specs.declared.time_tables.TheConstants.{NOON_2000}
 use Rattle.book_model.specs.numbers.Bounds.{Reach}
 use Rattle.book_model.specs.numbers.Expressions.{argument, constant}
 use Rattle.book_model.specs.numbers.Fractions.{fraction_of}
-use Rattle.greatest_widths.proofs.Measuring.{measured_argument}
+use Rattle.encl_core.proofs.Measuring.{measured_argument}
 use Rattle.sun_core.proofs.Measured.{tabled, days_of}
 use Rattle.moon_core.proofs.MomentElements.{centuries_again, elements_lead}
 use Rattle.moon_core.proofs.elements.moon_elements.Goals as goal

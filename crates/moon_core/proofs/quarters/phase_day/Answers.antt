@@ -6,7 +6,7 @@ use Rattle.book_model.proofs.Leads.{leads_on, leaf_within}
 use Rattle.time_scales.proofs.WholeDays.{no_early_year}
 use Rattle.moon_core.proofs.PhaseDays.{phase_day_found}
 use Rattle.std.proofs.Common.{arith, ◌+◌, ◌*◌, ◌^◌}
-use Rattle.greatest_widths.proofs.Measuring.{moment_about}
+use Rattle.encl_core.proofs.Measuring.{moment_about}
 use Rattle.moon_core.proofs.QuarterWidths.{whole_moment}
 use Rattle.moon_core.proofs.quarters.phase_day.Goals as goal
 

@@ -1,6 +1,6 @@
 use Rattle.std.proofs.Common.{arith, ◌^◌, SFits, w64}
 use Rattle.std.proofs.lemmas.Int.{to_z-of_z}
-use Rattle.greatest_widths.proofs.Measuring.{moment_about}
+use Rattle.encl_core.proofs.Measuring.{moment_about}
 use Rattle.moon_core.proofs.Measured.{dated_about}
 use Rattle.moon_core.proofs.walks.is_moon_before.Goals as goal
 

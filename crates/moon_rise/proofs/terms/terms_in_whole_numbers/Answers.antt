@@ -1,4 +1,4 @@
-use Rattle.exact_math.proofs.Intervals.{within_trans}
+use Rattle.book_model.proofs.Intervals.{within_trans}
 use Rattle.book_model.specs.numbers.Relations.{Lies}
 use Rattle.book_model.specs.sky.Distance.{distance_terms_of}
 use Rattle.moon_rise.proofs.terms.terms_in_whole_numbers.Goals as goal

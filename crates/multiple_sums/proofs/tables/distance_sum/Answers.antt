@@ -1,5 +1,5 @@
 use Rattle.std.proofs.Common.{refl, arith}
-use Rattle.exact_math.proofs.Intervals.{within_trans}
+use Rattle.book_model.proofs.Intervals.{within_trans}
 use Rattle.book_model.specs.sky.Distance.{distance_term_of}
 use Rattle.book_model.specs.sky.Moon.{no_term}
 use Rattle.multiple_sums.proofs.TableRows.{few_rows, distance_few, distance_small, distance_sums, distance_terms}

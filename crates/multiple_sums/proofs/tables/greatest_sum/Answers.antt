@@ -1,5 +1,5 @@
 use Rattle.std.proofs.Common.{refl, arith}
-use Rattle.exact_math.proofs.Intervals.{within_trans}
+use Rattle.book_model.proofs.Intervals.{within_trans}
 use Rattle.book_model.specs.sky.Moon.{longitude_term_of, no_term}
 use Rattle.multiple_sums.proofs.TableRows.{few_rows, greatest_few, greatest_small, greatest_sums, greatest_terms}
 use Rattle.multiple_sums.proofs.tables.greatest_sum.Goals as goal

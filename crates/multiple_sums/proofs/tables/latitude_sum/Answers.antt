@@ -1,5 +1,5 @@
 use Rattle.std.proofs.Common.{refl, arith}
-use Rattle.exact_math.proofs.Intervals.{within_trans}
+use Rattle.book_model.proofs.Intervals.{within_trans}
 use Rattle.book_model.specs.sky.Latitude.{latitude_term_of, no_latitude_term}
 use Rattle.multiple_sums.proofs.TableRows.{few_rows, latitude_few, latitude_small, latitude_sums, latitude_terms}
 use Rattle.multiple_sums.proofs.tables.latitude_sum.Goals as goal

@@ -1,5 +1,5 @@
 use Rattle.std.proofs.Common.{refl, arith}
-use Rattle.exact_math.proofs.Intervals.{within_trans}
+use Rattle.book_model.proofs.Intervals.{within_trans}
 use Rattle.book_model.specs.sky.Moon.{longitude_term_of, no_term}
 use Rattle.book_model.specs.declared.moon_tables.TheConstants.{MOON_TERMS}
 use Rattle.multiple_sums.proofs.TableRows.{few_rows, longitude_few, longitude_small, longitude_sums, longitude_terms}

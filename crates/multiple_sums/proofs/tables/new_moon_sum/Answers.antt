@@ -1,5 +1,5 @@
 use Rattle.std.proofs.Common.{refl, arith}
-use Rattle.exact_math.proofs.Intervals.{within_trans}
+use Rattle.book_model.proofs.Intervals.{within_trans}
 use Rattle.book_model.specs.sky.NewMoons.{new_moon_term_of, no_new_moon_term}
 use Rattle.multiple_sums.proofs.TableRows.{few_rows, new_moon_few, new_moon_small, new_moon_sums, new_moon_terms}
 use Rattle.multiple_sums.proofs.tables.new_moon_sum.Goals as goal

@@ -1,5 +1,5 @@
 use Rattle.std.proofs.Common.{refl, arith}
-use Rattle.exact_math.proofs.Intervals.{within_trans}
+use Rattle.book_model.proofs.Intervals.{within_trans}
 use Rattle.book_model.specs.sky.Moon.{longitude_term_of, no_term}
 use Rattle.multiple_sums.specs.Tables.{other_rows}
 use Rattle.multiple_sums.proofs.TableRows.{few_rows, other_few, other_small, other_sums, longitude_terms}

@@ -1,7 +1,7 @@
 use Rattle.std.proofs.Common.{◌∙◌, ◌≡◌, ap, arith, rules, SFits, pos, ◌+ℤ◌, ◌-ℤ◌, ◌*ℤ◌}
 use Rattle.std.specs.Int.{w128}
 use Rattle.std.proofs.lemmas.Int.{ints, to_z-of_z}
-use Rattle.rounded_quotients.proofs.Stepping.{cast_is}
+use Rattle.encl_core.proofs.Stepping.{cast_is}
 use Rattle.multiple_sums.proofs.turns.half_around.Goals as goal
 
 pub returns-clause-value : goal.returns-clause-value

@@ -1,4 +1,4 @@
-use Rattle.exact_math.specs.Fraction.{power}
+use Rattle.book_model.specs.Fraction.{power}
 use Rattle.book_model.specs.numbers.Expressions.{constant}
 use Rattle.book_model.specs.numbers.Fractions.{fraction_of}
 use Rattle.new_moons.proofs.MonthPolynomials.{square_holds, cube_holds, fourth_holds}

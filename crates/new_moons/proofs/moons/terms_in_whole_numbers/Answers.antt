@@ -1,5 +1,5 @@
 use Rattle.std.specs.Prelude.{pos}
-use Rattle.exact_math.proofs.Intervals.{within_trans}
+use Rattle.book_model.proofs.Intervals.{within_trans}
 use Rattle.book_model.specs.numbers.Expressions.{integer}
 use Rattle.book_model.specs.numbers.Relations.{Lies}
 use Rattle.new_moons.proofs.moons.terms_in_whole_numbers.Goals as goal

@@ -1,7 +1,7 @@
 use Rattle.std.specs.Prelude.{pos, ◌*ℤ◌}
 use Rattle.std.proofs.Common.{arith, SFits, w64}
 use Rattle.std.proofs.lemmas.Int.{ints, to_z-of_z}
-use Rattle.exact_math.proofs.Intervals.{within_trans}
+use Rattle.book_model.proofs.Intervals.{within_trans}
 use Rattle.book_model.specs.declared.new_moon_tables.TheConstants.{PLANET_TERMS}
 use Rattle.book_model.specs.numbers.Expressions.{integer}
 use Rattle.book_model.specs.numbers.Polynomials.{no_wave}

@@ -1,7 +1,7 @@
 use Rattle.std.proofs.Common.{◌≡◌, arith, SFits, pos, ◌^◌, ◌*ℤ◌, ◌+ℤ◌, refl}
 use Rattle.std.specs.Int.{w128}
 use Rattle.std.proofs.lemmas.Int.{ints, to_z-of_z}
-use Rattle.interval_ends.proofs.Scaling.{bounded_z}
+use Rattle.encl_core.proofs.Scaling.{bounded_z}
 use Rattle.new_moons.proofs.terms.planet_angle.Goals as goal
 
 pub overflow_add-result : goal.overflow_add-result

@@ -1,5 +1,5 @@
-use Rattle.exact_math.specs.Interval.{between, ◌⊆◌}
-use Rattle.exact_math.proofs.Intervals.{within_trans}
+use Rattle.book_model.specs.Interval.{between, ◌⊆◌}
+use Rattle.book_model.proofs.Intervals.{within_trans}
 use Rattle.book_model.specs.declared.sun_tables.TheConstants.{ECCENTRICITY, MEAN_SUN, OBLIQUITY, SOLAR_ANOMALY}
 use Rattle.book_model.specs.declared.tables.TheConstants.{HALF}
 use Rattle.book_model.specs.numbers.Expressions.{scale, tangent, value}

@@ -9,7 +9,7 @@ use Rattle.sun_core.specs.Daily.{in_centuries}
 use Rattle.sun_core.proofs.Elapsed.{by_dynamical}
 use Rattle.std.proofs.Common.{arith, ◌+◌, ◌*◌, ◌^◌}
 use Rattle.book_model.specs.numbers.Bounds.{Reach}
-use Rattle.greatest_widths.proofs.Measuring.{measured_argument}
+use Rattle.encl_core.proofs.Measuring.{measured_argument}
 use Rattle.sun_core.proofs.Measured.{tabled, days_of, longitude_within}
 use Rattle.sun_core.proofs.longitude.sun.Goals as goal
 

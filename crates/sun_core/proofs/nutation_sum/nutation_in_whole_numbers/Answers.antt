@@ -1,4 +1,4 @@
-use Rattle.exact_math.proofs.Intervals.{within_trans}
+use Rattle.book_model.proofs.Intervals.{within_trans}
 use Rattle.book_model.specs.numbers.Relations.{Lies}
 use Rattle.sun_core.proofs.QuadraticWaves.{nutation_held}
 use Rattle.sun_core.proofs.nutation_sum.nutation_in_whole_numbers.Goals as goal

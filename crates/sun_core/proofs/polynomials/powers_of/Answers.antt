@@ -1,6 +1,6 @@
 use Rattle.std.proofs.Common.{arith}
 use Rattle.std.proofs.lemmas.Int.{ints}
-use Rattle.exact_math.proofs.Intervals.{within_trans}
+use Rattle.book_model.proofs.Intervals.{within_trans}
 use Rattle.book_model.specs.numbers.Expressions.{power}
 use Rattle.book_model.specs.numbers.Relations.{Lies}
 use Rattle.time_scales.proofs.Powers.{cube_holds}

@@ -1,6 +1,6 @@
 use Rattle.std.proofs.Common.{arith, ◌+◌, ◌*◌, ◌^◌}
 use Rattle.std.proofs.lemmas.Int.{ints}
-use Rattle.greatest_widths.proofs.Measuring.{looser}
+use Rattle.encl_core.proofs.Measuring.{looser}
 use Rattle.sun_core.proofs.StarWidths.{tilt_within, crossing_within, advance_within}
 use Rattle.sun_core.proofs.stars.precession_at.Goals as goal
 

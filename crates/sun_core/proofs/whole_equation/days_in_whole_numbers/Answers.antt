@@ -1,6 +1,6 @@
 use Rattle.std.proofs.Common.{arith, ◌^◌, neg_ℤ, pos, ◌≤ℤ◌}
 use Rattle.std.proofs.lemmas.Int.{ints, to_z-of_z}
-use Rattle.exact_math.proofs.Intervals.{within_trans}
+use Rattle.book_model.proofs.Intervals.{within_trans}
 use Rattle.book_model.specs.numbers.Relations.{Lies}
 use Rattle.sun_core.proofs.EquationSums.{days_in_order, days_within, has_product, have_days, passed_less, passed_more, same_order}
 use Rattle.sun_core.proofs.whole_equation.days_in_whole_numbers.Goals as goal

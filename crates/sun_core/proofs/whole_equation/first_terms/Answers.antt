@@ -1,6 +1,6 @@
 use Rattle.std.proofs.Common.{arith, refl, pos, ◌+ℤ◌, ◌-ℤ◌, ◌*ℤ◌}
 use Rattle.std.proofs.lemmas.Int.{ints, to_z-of_z}
-use Rattle.exact_math.proofs.Intervals.{within_trans}
+use Rattle.book_model.proofs.Intervals.{within_trans}
 use Rattle.book_model.specs.numbers.Relations.{Lies}
 use Rattle.sun_core.proofs.EquationSums.{HaveFirstRoom, first_within}
 use Rattle.sun_core.proofs.Rooms.{by_first, first_rooms}

@@ -1,4 +1,4 @@
-use Rattle.exact_math.proofs.Intervals.{within_trans}
+use Rattle.book_model.proofs.Intervals.{within_trans}
 use Rattle.book_model.specs.numbers.Relations.{Lies}
 use Rattle.sun_core.proofs.LongitudeParts.{longitude_inside, longitude_close}
 use Rattle.sun_core.proofs.whole_longitude.longitude_in_whole_numbers.Goals as goal

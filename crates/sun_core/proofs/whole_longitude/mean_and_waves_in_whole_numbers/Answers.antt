@@ -1,4 +1,4 @@
-use Rattle.exact_math.proofs.Intervals.{within_trans}
+use Rattle.book_model.proofs.Intervals.{within_trans}
 use Rattle.book_model.specs.numbers.Relations.{Lies}
 use Rattle.sun_core.proofs.LongitudeParts.{mean_and_waves_inside}
 use Rattle.sun_core.proofs.whole_longitude.mean_and_waves_in_whole_numbers.Goals as goal

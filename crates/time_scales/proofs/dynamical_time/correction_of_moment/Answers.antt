@@ -3,7 +3,7 @@ use Rattle.std.proofs.Common.{rules, SFits, w64}
 use Rattle.std.proofs.lemmas.Int.{to_z-of_z}
 use Rattle.book_model.specs.sky.Time.{correction_at, correction_of_year}
 use Rattle.book_model.proofs.Leads.{leads_bind_exact}
-use Rattle.greatest_widths.proofs.Measuring.{moment_about}
+use Rattle.encl_core.proofs.Measuring.{moment_about}
 use Rattle.time_scales.proofs.Measured.{moment_in_table}
 use Rattle.time_scales.proofs.dynamical_time.correction_of_moment.Goals as goal
 

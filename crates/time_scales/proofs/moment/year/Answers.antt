@@ -1,7 +1,7 @@
 use Rattle.std.proofs.Common.{refl}
 use Rattle.std.proofs.lemmas.Result.{IfOk-weaker, IfErr-weaker}
 use Rattle.time_scales.proofs.Years.{year_shared, open_shared, open_everywhere, leads_year_test, leads_open_year}
-use Rattle.greatest_widths.proofs.Closing.{not_all}
+use Rattle.encl_core.proofs.Closing.{not_all}
 use Rattle.time_scales.proofs.Measured.{year_close}
 use Rattle.time_scales.proofs.moment.year.Goals as goal
 

@@ -2,7 +2,7 @@ use Rattle.std.proofs.Common.{rules, arith, ◌-◌, if◌then◌else◌, slice_
 use Rattle.std.proofs.lemmas.Int.{to_z-of_z}
 use Rattle.std.proofs.lemmas.Result.{err_from_is_err_and}
 use Rattle.book_model.proofs.Leads.{leads_bind_exact, leads_fail_exact, leads_answer}
-use Rattle.greatest_widths.proofs.Measuring.{moment_about}
+use Rattle.encl_core.proofs.Measuring.{moment_about}
 use Rattle.book_model.proofs.CorrectionRows.{both}
 use Rattle.time_scales.proofs.ZoneWidths.{none, no_step, first_step, kept_steps, last_kept, hours_within, step_within}
 use Rattle.time_scales.proofs.zone.+hours_at.Goals as goal

@@ -1,7 +1,7 @@
 use Rattle.std.proofs.Common.{rules, arith, SFits, refl, ◌+ℤ◌}
 use Rattle.std.specs.Int.{w128}
 use Rattle.std.proofs.lemmas.Int.{ints, to_z-of_z}
-use Rattle.interval_ends.specs.declared.parts.TheConstants.{QUARTER}
+use Rattle.encl_core.specs.parts.TheConstants.{QUARTER}
 use Rattle.trig_series.proofs.OctantLemmas.{order_at}
 use Rattle.trig_series.proofs.SineLemmas.{all_cosines_hold, quarter_holds, quarter_narrow}
 use Rattle.trig_series.proofs.degrees.cosine_over_span.Goals as goal

@@ -1,4 +1,4 @@
-use Rattle.rounded_quotients.proofs.HighHalves.{high_is}
+use Rattle.encl_core.proofs.HighHalves.{high_is}
 use Rattle.trig_series.proofs.CosineChain.{cosine_near, innermost}
 use Rattle.trig_series.proofs.kernel.cosine_of_angle_64.Goals as goal
 

@@ -1,5 +1,5 @@
 use Rattle.std.proofs.Common.{arith}
-use Rattle.rounded_quotients.proofs.HighHalves.{high_is}
+use Rattle.encl_core.proofs.HighHalves.{high_is}
 use Rattle.trig_series.proofs.SineChain.{sine_near, innermost}
 use Rattle.trig_series.proofs.kernel.sine_of_angle_64.Goals as goal
 

@@ -1,4 +1,4 @@
-use Rattle.rounded_quotients.proofs.HighHalves.{high_is, high_small}
+use Rattle.encl_core.proofs.HighHalves.{high_is, high_small}
 use Rattle.trig_series.proofs.KernelSteps.{step_near}
 use Rattle.trig_series.proofs.kernel.step.Goals as goal
 use Rattle.std.proofs.Common.{arith}

@@ -1,7 +1,7 @@
 use Rattle.std.proofs.Common.{◌≡◌, rules, arith, SFits, pos, unsigned_abs, ◌-ℤ◌, ◌*ℤ◌}
 use Rattle.std.specs.Int.{w128}
 use Rattle.std.proofs.lemmas.Int.{ints, to_z-of_z}
-use Rattle.interval_ends.specs.declared.parts.TheConstants.{OCTANT}
+use Rattle.encl_core.specs.parts.TheConstants.{OCTANT}
 use Rattle.trig_series.proofs.AngleLemmas.{at_in_turn}
 use Rattle.trig_series.proofs.TurnLemmas.{turned_point, turned_edge, next_edge, count_of}
 use Rattle.trig_series.proofs.octants.sine_at_degrees_in_octant.Goals as goal

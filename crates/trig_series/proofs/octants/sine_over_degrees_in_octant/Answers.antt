@@ -1,7 +1,7 @@
 use Rattle.std.proofs.Common.{◌≡◌, ◌^◌, rules, arith, SFits, ℤ, pos, neg_ℤ, ◌+ℤ◌, ◌*ℤ◌, ◌≤ℤ◌}
 use Rattle.std.specs.Int.{w128, int_min, int_max}
 use Rattle.std.proofs.lemmas.Int.{ints, clamps, to_z-of_z}
-use Rattle.interval_ends.specs.declared.parts.TheConstants.{OCTANT}
+use Rattle.encl_core.specs.parts.TheConstants.{OCTANT}
 use Rattle.trig_series.proofs.OctantLemmas.{in_holds}
 use Rattle.trig_series.proofs.Steady.{LiesIn, in_narrow, in_small, in_crest, hull_at_first, hull_at_second}
 use Rattle.trig_series.proofs.octants.sine_over_degrees_in_octant.Goals as goal

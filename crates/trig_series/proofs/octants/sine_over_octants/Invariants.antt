@@ -1,9 +1,9 @@
 use Rattle.std.proofs.Common.{ℕ, ◌≤◌, neg_ℤ, ℤ, pos, ◌+ℤ◌, ◌-ℤ◌, ◌*ℤ◌, ◌≤ℤ◌, ◌<ℤ◌}
 use Rattle.std.specs.Int.{int_min}
-use Rattle.exact_math.specs.Interval.{between, ◌⊆◌}
+use Rattle.book_model.specs.Interval.{between, ◌⊆◌}
 use Rattle.book_model.specs.programs.Leading.{units_of_56}
 use Rattle.book_model.specs.numbers.Octants.{octant_of_turn, sine_in as in_octant}
-use Rattle.interval_ends.specs.declared.parts.TheConstants.{OCTANT, QUARTER}
+use Rattle.encl_core.specs.parts.TheConstants.{OCTANT, QUARTER}
 use Rattle.trig_series.specs.Points.{edge_of, IsAt, IsAround, IsCrest}
 use Rattle.trig_series.proofs.octants.sine_over_octants.Given as goal
 

@@ -1,7 +1,7 @@
 use Rattle.std.proofs.Common.{◌^◌, rules, arith, SFits, ℤ, pos, neg_ℤ, ◌+ℤ◌, ◌-ℤ◌, ◌*ℤ◌, ◌≤ℤ◌}
 use Rattle.std.specs.Int.{w128}
 use Rattle.std.proofs.lemmas.Int.{ints, to_z-of_z}
-use Rattle.interval_ends.specs.declared.parts.TheConstants.{OCTANT}
+use Rattle.encl_core.specs.parts.TheConstants.{OCTANT}
 use Rattle.trig_series.proofs.PartLemmas.{turned_part, within_holds, part_small, part_crest}
 use Rattle.trig_series.proofs.octants.sine_within_octant.Goals as goal
 

@@ -1,6 +1,6 @@
 use Rattle.std.proofs.Common.{arith}
 use Rattle.std.proofs.lemmas.Int.{ints}
-use Rattle.interval_ends.specs.declared.parts.TheConstants.{OCTANT}
+use Rattle.encl_core.specs.parts.TheConstants.{OCTANT}
 use Rattle.trig_series.proofs.KernelAngles.{by_lower}
 use Rattle.trig_series.proofs.PointLemmas.{cosine_same, cosine_around, cosine_close, cosine_of_none, cosine_of_eighth, near_full, near_cosine_eighth}
 use Rattle.trig_series.proofs.points.cosine_ends_at_degrees.Goals as goal

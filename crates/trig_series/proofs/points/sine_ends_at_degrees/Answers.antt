@@ -1,6 +1,6 @@
 use Rattle.std.proofs.Common.{arith}
 use Rattle.std.proofs.lemmas.Int.{ints}
-use Rattle.interval_ends.specs.declared.parts.TheConstants.{OCTANT}
+use Rattle.encl_core.specs.parts.TheConstants.{OCTANT}
 use Rattle.trig_series.proofs.KernelAngles.{by_lower}
 use Rattle.trig_series.proofs.PointLemmas.{sine_same, sine_around, sine_close, sine_of_none, sine_of_eighth, near_none, near_sine_eighth}
 use Rattle.trig_series.proofs.points.sine_ends_at_degrees.Goals as goal

@@ -1,5 +1,5 @@
 use Rattle.std.proofs.Common.{ℕ, ◌*◌, ◌^◌, ◌≤◌, List, ℤ, pos, neg_ℤ, ◌≤ℤ◌}
-use Rattle.exact_math.specs.Interval.{between, ◌⊆◌}
+use Rattle.book_model.specs.Interval.{between, ◌⊆◌}
 use Rattle.book_model.specs.declared.polynomial.Wave.{Wave}
 use Rattle.book_model.specs.numbers.Expressions.{Expression, World, value}
 use Rattle.book_model.specs.numbers.Polynomials.{no_wave}

@@ -2,7 +2,7 @@ use Rattle.std.proofs.Common.{arith, pos, ◌*◌, ◌^◌, ◌+ℤ◌, SFits, w
 use Rattle.std.proofs.lemmas.Int.{to_z-of_z, ints}
 use Rattle.book_model.specs.sky.Kinds.{midnight_after_of}
 use Rattle.book_model.proofs.Leads.{leads_answer}
-use Rattle.greatest_widths.proofs.Measuring.{looser}
+use Rattle.encl_core.proofs.Measuring.{looser}
 use Rattle.fact_eval.proofs.solstice.MidnightAfterDayMoment.at.Goals as goal
 
 pub returns-clause-leads : goal.returns-clause-leads

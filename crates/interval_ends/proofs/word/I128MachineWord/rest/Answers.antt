@@ -1,7 +1,7 @@
 use Rattle.std.proofs.Common.{◌≡◌, ◌∙◌, refl, ◌-ℤ◌, sym, arith, rules, SFits, pos, ◌-◌, ◌^◌, ◌*ℤ◌}
 use Rattle.std.specs.Int.{w128}
 use Rattle.std.proofs.lemmas.Int.{ints, to_z-of_z}
-use Rattle.exact_math.proofs.Floors.{floor_quotient_is}
+use Rattle.book_model.proofs.Floors.{floor_quotient_is}
 use Rattle.interval_ends.proofs.Past.{AreLowered, are_lowered}
 use Rattle.interval_ends.proofs.word.I128MachineWord.rest.Goals as goal
 

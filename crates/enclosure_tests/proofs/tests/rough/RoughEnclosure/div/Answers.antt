@@ -1,4 +1,4 @@
-use Rattle.exact_math.proofs.Intervals.{within_trans}
+use Rattle.book_model.proofs.Intervals.{within_trans}
 use Rattle.interval_ends.proofs.Following.{within_divide}
 use Rattle.interval_ends.proofs.Unpromised.{narrow_divide}
 use Rattle.enclosure_tests.proofs.tests.rough.RoughEnclosure.div.Goals as goal

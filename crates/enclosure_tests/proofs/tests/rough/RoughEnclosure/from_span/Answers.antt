@@ -1,7 +1,7 @@
 use Rattle.std.proofs.Common.{rules, SFits}
 use Rattle.std.specs.Int.{w128}
 use Rattle.std.proofs.lemmas.Int.{to_z-of_z}
-use Rattle.exact_math.proofs.Intervals.{within_trans}
+use Rattle.book_model.proofs.Intervals.{within_trans}
 use Rattle.interval_ends.proofs.Unpromised.{narrow_ends}
 use Rattle.enclosure_tests.proofs.tests.rough.RoughEnclosure.from_span.Goals as goal
 

@@ -1,4 +1,4 @@
-use Rattle.exact_math.proofs.Intervals.{within_trans}
+use Rattle.book_model.proofs.Intervals.{within_trans}
 use Rattle.interval_ends.proofs.Following.{within_power}
 use Rattle.interval_ends.proofs.Unpromised.{narrow_square}
 use Rattle.enclosure_tests.proofs.tests.rough.RoughEnclosure.square.Goals as goal

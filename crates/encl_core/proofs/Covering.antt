@@ -6,13 +6,13 @@ use Rattle.std.specs.Int.{int_min, int_max}
 use Rattle.std.proofs.lemmas.Int.{ints, clamps, by_lt_z, unsigned_abs-mul}
 use Rattle.std.proofs.lemmas.Bool.{lt-ltb}
 use Rattle.std.proofs.Math.Nat.{mul-le-mul_right, mul-le-mul_left}
-use Rattle.exact_math.specs.Fraction.{Fraction, floor_quotient}
-use Rattle.exact_math.proofs.Floors.{floor_quotient_is}
+use Rattle.book_model.specs.Fraction.{Fraction, floor_quotient}
+use Rattle.book_model.proofs.Floors.{floor_quotient_is}
 use Rattle.book_model.specs.numbers.Bounds.{Bound, bounded, IsNarrow, limits_at, ceil_div, ceil_quotient, range_size, scaled_bound, sum_bound}
-use Rattle.exact_math.specs.Interval.{Interval}
+use Rattle.book_model.specs.Interval.{Interval}
 use Rattle.book_model.specs.programs.Widths.{IsAbout}
-use Rattle.greatest_widths.specs.Sizes.{HasSize}
-use Rattle.greatest_widths.proofs.Measuring.{looser, remeasured}
+use Rattle.encl_core.specs.Sizes.{HasSize}
+use Rattle.encl_core.proofs.Measuring.{looser, remeasured}
 
 -- a bound of numbers of at most this size, in 2^-32, and this width, in 2^-64
 pub data IsCovered : Bound → ℕ → ℕ → Type 0 where

@@ -1,6 +1,6 @@
 -- Sizes of fractions.
 use Rattle.std.specs.Prelude.{ℕ, suc, ◌*◌, ◌^◌, ◌≤◌, unsigned_abs}
-use Rattle.exact_math.specs.Fraction.{Fraction}
+use Rattle.book_model.specs.Fraction.{Fraction}
 
 -- a fraction of at most the size F, whose numerator is one that a scale bears
 pub record HasSize (F : ℕ) (f : Fraction) : Type 0 where

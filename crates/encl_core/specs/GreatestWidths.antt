@@ -1,6 +1,6 @@
 -- What the table of greatest widths says.
 use Rattle.std.specs.Prelude.{ℕ, zero, suc, ◌+◌, ◌*◌, ◌/◌}
-use Rattle.greatest_widths.specs.declared.table.WidthRow.{WidthRow}
+use Rattle.encl_core.specs.declared.greatest_widths.WidthRow.{WidthRow}
 
 -- so many times a width: none of a factor of 0, and itself of a factor of 1
 abbrev times : (n v : ℕ) → ℕ

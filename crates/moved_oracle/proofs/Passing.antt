@@ -9,8 +9,8 @@ use Rattle.oracle_core.specs.declared.oracle.Stop.{Stop}
 use Rattle.oracle_core.specs.declared.oracle.Oracle.{Ghosts}
 use Rattle.oracle_core.specs.Asking.{Asks}
 use Rattle.oracle_core.specs.Inquiring.{Meaning, State, Tells, ends, goes_on, stops, Inquires}
-use Rattle.east_cal.specs.declared.moving.Moved.{Moved}
-use Rattle.east_cal.specs.Moving.{Through, through, through_state}
+use Rattle.moved_oracle.specs.declared.moving.Moved.{Moved}
+use Rattle.moved_oracle.specs.Moving.{Through, through, through_state}
 
 -- ---- an inquiry
 -- what an inquiry comes to through it, the moved one comes to

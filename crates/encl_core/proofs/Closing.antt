@@ -3,11 +3,11 @@ use Rattle.std.specs.Prelude.{◌≡◌, ℕ, ◌+◌, ◌^◌, ◌≤◌, Bool,
 use Rattle.std.proofs.Common.{arith}
 use Rattle.std.specs.Int.{w64}
 use Rattle.std.proofs.lemmas.Int.{ints}
-use Rattle.exact_math.specs.Fraction.{Fraction, ◌≤F◌, ◌≈◌, plus, floor, smaller, larger, is_at_most}
-use Rattle.exact_math.specs.Interval.{Interval, everything, between, ◌⊆◌, hull}
-use Rattle.exact_math.proofs.Floors.{floor_mono}
-use Rattle.exact_math.proofs.Fractions.{le_refl, le_trans, plus_mono, smaller_keeps, larger_keeps, at_most_true, at_most_false}
-use Rattle.exact_math.proofs.Same.{le_of_same, ge_of_same, plus_assoc, plus_zero}
+use Rattle.book_model.specs.Fraction.{Fraction, ◌≤F◌, ◌≈◌, plus, floor, smaller, larger, is_at_most}
+use Rattle.book_model.specs.Interval.{Interval, everything, between, ◌⊆◌, hull}
+use Rattle.book_model.proofs.Floors.{floor_mono}
+use Rattle.book_model.proofs.Fractions.{le_refl, le_trans, plus_mono, smaller_keeps, larger_keeps, at_most_true, at_most_false}
+use Rattle.book_model.proofs.Same.{le_of_same, ge_of_same, plus_assoc, plus_zero}
 use Rattle.book_model.specs.numbers.Bounds.{IsNarrow, breadth, at_32}
 use Rattle.book_model.specs.programs.Leading.{units_of_56, AreEnds, bounds, no_bounds, IsOpenCell, between_cells, too_far, IsOpenComparison}
 use Rattle.book_model.specs.programs.Programs.{integers, cell_at, cell_of, compare_at, when}

@@ -2,9 +2,9 @@
 use Rattle.std.specs.Prelude.{◌≡◌, ℕ, ◌+◌, ◌*◌, ◌-◌, ◌^◌, ◌≤◌, true, ℤ, pos, ◌*ℤ◌, ◌≤ℤ◌}
 use Rattle.std.proofs.Common.{arith}
 use Rattle.std.proofs.lemmas.Int.{ints}
-use Rattle.exact_math.specs.Fraction.{◌≤F◌}
-use Rattle.exact_math.specs.Interval.{Interval, everything, between, ◌⊆◌}
-use Rattle.exact_math.proofs.Fractions.{le_refl, le_trans, plus_mono}
+use Rattle.book_model.specs.Fraction.{◌≤F◌}
+use Rattle.book_model.specs.Interval.{Interval, everything, between, ◌⊆◌}
+use Rattle.book_model.proofs.Fractions.{le_refl, le_trans, plus_mono}
 use Rattle.book_model.specs.numbers.Bounds.{Bound, bounded, Limits, IsNarrow, at_32, bound_of, implies, limits_at, limits_of}
 use Rattle.book_model.specs.numbers.Expressions.{Expression, argument}
 use Rattle.book_model.specs.numbers.Ranges.{IsBetween}

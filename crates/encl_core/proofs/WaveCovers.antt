@@ -6,14 +6,14 @@ use Rattle.std.proofs.lemmas.Int.{ints}
 use Rattle.std.proofs.lemmas.Float.{T_from_true}
 use Rattle.std.proofs.lemmas.Bool.{lt-ltb, ltb-true}
 use Rattle.std.proofs.Math.Nat.{mul-le-mul_left}
-use Rattle.exact_math.specs.Fraction.{Fraction, floor_quotient}
-use Rattle.exact_math.proofs.Floors.{floor_quotient_is}
-use Rattle.exact_math.proofs.IntLaws.{add_mul}
+use Rattle.book_model.specs.Fraction.{Fraction, floor_quotient}
+use Rattle.book_model.proofs.Floors.{floor_quotient_is}
+use Rattle.book_model.proofs.IntLaws.{add_mul}
 use Rattle.book_model.specs.numbers.Bounds.{Bound, bounded, bound_of, integer_bound, limits_at, ceil_div, ceil_quotient, range_size, floor_at_32, ceil_at_32, constant_bound, spanned_bound, sine_spans, Extent, sine_extent, sine_to, cosine_from, octant_extent, opposites, octant_at, lie_inside, inside_extent, sine_near_none, eighth_turn}
 use Rattle.book_model.specs.numbers.Expressions.{Expression}
 use Rattle.book_model.specs.numbers.Octants.{octant_of_turn}
 use Rattle.book_model.specs.numbers.Terms.{terms_to}
-use Rattle.greatest_widths.proofs.Covering.{IsCovered, covered, sum_covered, floor_least, floor_most, ceil_least, ceil_most, size_least}
+use Rattle.encl_core.proofs.Covering.{IsCovered, covered, sum_covered, floor_least, floor_most, ceil_least, ceil_most, size_least}
 
 -- ---- constants
 constant_size : (f : Fraction) (F : ℕ) → F < 2 ^ 60 → unsigned_abs f.num ≤ F * suc f.below → range_size (floor_at_32 f) (ceil_at_32 f) ≤ F * 2 ^ 32

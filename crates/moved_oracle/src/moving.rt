@@ -5,7 +5,7 @@
 //! same facts asked, moved.
 ghost use Rattle.std.specs.Prelude.{◌≡◌, IsTrue};
 ghost use Rattle.book_model.specs.calendars.Moving.{is_eastern, moved_fact};
-ghost use Rattle.east_cal.specs.Moving.{is_moved_to};
+ghost use Rattle.moved_oracle.specs.Moving.{is_moved_to};
 
 use book_model::{Fact, Kind, Place};
 use oracle_core::{Oracle, Stop};
@@ -61,7 +61,7 @@ impl<'a, O> Moved<'a, O> {
 }
 
 impl<'a, O: Oracle> Oracle for Moved<'a, O> {
-    ghost use Rattle.east_cal.specs.Moving.{Through, through, through_state, one_through};
+    ghost use Rattle.moved_oracle.specs.Moving.{Through, through, through_state, one_through};
 
     // What it knows holds the name of the reference that was lent to it, which never changes: so
     // whoever lends an oracle learns that it got the same one back, which the call `ask` doesn't

@@ -1,4 +1,0 @@
-pub mod Measuring
-pub mod Closing
-pub mod Covering
-pub mod WaveCovers
