@@ -1,9 +1,6 @@
 //! The program: hands its words and its standard streams to `run_core::run`, and ends with the number of the status.
 #![tactic(auto)]
 
-#[cfg(test)]
-mod tests;
-
 use fact_eval::Staged;
 use run_core::{OpenGate, StdSink, StdSource, run};
 use std::alloc::{AllocError, Global};
