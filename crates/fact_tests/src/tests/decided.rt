@@ -1,6 +1,6 @@
-//! The decided table: each kind of fact at each of its places, on the first days of the months of 2024, 444 facts. Each has
-//! the value that an independent implementation gives. Coarse enclosures alone decide them all; that what these leave open
-//! elsewhere is decided by fine ones is the second test.
+//! The decided table: each kind of fact at each of its places, on the first days of the months of 2024, 564 facts. Each has
+//! the value that an independent implementation gives. That what coarse enclosures leave open is decided by fine ones is the second
+//! test.
 use super::answers::{assert_facts, assert_year};
 use book_model::{Fact, Kind, Place};
 use encl_core::Coarse;
@@ -15,7 +15,7 @@ const DAYS: [i64; 12] = [
 ];
 
 /// The values on these days, by the independent implementation.
-const DECIDED: [(Kind, Place, [i64; 12]); 37] = [
+const DECIDED: [(Kind, Place, [i64; 12]); 47] = [
     (
         Kind::Dt,
         Place::None,
@@ -281,6 +281,74 @@ const DECIDED: [(Kind, Place, [i64; 12]); 37] = [
         Place::Ujjain,
         [
             1_045, 1_067, 1_083, 1_096, 1_108, 1_122, 1_130, 1_122, 1_097, 1_067, 1_042, 1_034,
+        ],
+    ),
+    (
+        Kind::Phasis,
+        Place::Haifa,
+        [
+            738_869, 738_898, 738_928, 738_957, 738_986, 739_016, 739_045, 739_075, 739_104,
+            739_134, 739_164, 739_194,
+        ],
+    ),
+    (
+        Kind::Distance,
+        Place::None,
+        [
+            404_671, 402_158, 398_940, 384_972, 375_448, 368_746, 372_575, 385_222, 399_179,
+            405_424, 404_656, 397_087,
+        ],
+    ),
+    (
+        Kind::Moonrise,
+        Place::Tehran,
+        [1_326, 1_425, 1_418, 40, 72, 84, 52, 101, 221, 271, 373, 428],
+    ),
+    (
+        Kind::Moonrise,
+        Place::Cairo,
+        [1_322, 1_408, 1_395, 12, 46, 72, 51, 110, 225, 266, 354, 402],
+    ),
+    (
+        Kind::Moonrise,
+        Place::Ujjain,
+        [1_329, 1_401, 1_382, -1, 32, 74, 64, 132, 239, 270, 345, 384],
+    ),
+    (
+        Kind::Moonset,
+        Place::Tehran,
+        [
+            645, 617, 552, 597, 668, 820, 900, 1_038, 1_078, 1_035, 1_012, 998,
+        ],
+    ),
+    (
+        Kind::Moonset,
+        Place::Cairo,
+        [
+            632, 617, 558, 613, 679, 816, 886, 1_016, 1_063, 1_027, 1_018, 1_012,
+        ],
+    ),
+    (
+        Kind::Moonset,
+        Place::Ujjain,
+        [
+            624, 622, 568, 629, 690, 811, 869, 990, 1_050, 1_025, 1_028, 1_028,
+        ],
+    ),
+    (
+        Kind::FrenchYear,
+        Place::None,
+        [
+            738_786, 738_786, 738_786, 738_786, 738_786, 738_786, 738_786, 738_786, 738_786,
+            739_151, 739_151, 739_151,
+        ],
+    ),
+    (
+        Kind::Nisan,
+        Place::Haifa,
+        [
+            738_957, 738_957, 738_957, 739_341, 739_341, 739_341, 739_341, 739_341, 739_341,
+            739_341, 739_341, 739_341,
         ],
     ),
 ];
