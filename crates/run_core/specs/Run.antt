@@ -1,5 +1,5 @@
 -- How a run ends, and what it has done.
-use Rattle.std.specs.Prelude.{◌≡◌, ◌<◌, ◌≤◌, ℕ, Bool, true, false, List, [], length, map, None, Some, Result, Ok, Err}
+use Rattle.std.specs.Prelude.{◌≡◌, ◌<◌, ◌≤◌, ℕ, Bool, true, false, List, [], codes, length, map, None, Some, Result, Ok, Err}
 use Rattle.std.specs.declared.option.Option.{Option}
 use Rattle.std.specs.Io.KnownBytes.{Consumes, IsAtEnd}
 use Rattle.book_model.specs.lines.Lines.{lines_of}
@@ -17,7 +17,6 @@ use Rattle.run_core.specs.declared.check.Checked.TheVariants.{AllYes, NotAll}
 use Rattle.printed_rows.specs.declared.text.WriteStop.{WriteStop}
 use Rattle.printed_rows.specs.declared.text.WriteStop.TheVariants as stop
 use Rattle.printed_rows.specs.declared.text.WriteStop.TheVariants.{Fault}
-use Rattle.run_core.specs.declared.program.TheConstants.{USAGE}
 use Rattle.run_core.specs.declared.status.Status.{Status}
 use Rattle.run_core.specs.declared.status.Status.TheVariants.{Done, Mixed, Words, ReadFault, WriteFault, Memory, TooLarge, BadText}
 
@@ -34,7 +33,7 @@ status_number BadText = 7
 
 -- the line that is written where the words are in no form
 abbrev pub usage : List ℕ
-usage = USAGE.now
+usage = codes "usage: calendrica convert | check | almanac YEAR | sample COUNT SEED | upgrade | east YEAR [--jobs N]\n"
 
 -- the source gave these bytes and no more, and they are within the limit
 pub record ReadWhole (old new : Option (List ℕ)) (limit : ℕ) (input : List ℕ) : Type 0 where
