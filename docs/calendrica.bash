@@ -6,8 +6,16 @@ _calendrica_offer() {
     mapfile -t COMPREPLY < <(compgen -W "$1" -- "$2")
 }
 
+# Whether a command is a script, as that of a checkout, which knows words of its own.
+_calendrica_is_script() {
+    local file start
+    file=$(type -P -- "$1") && IFS= read -rN 2 start <"$file"
+    [[ ${start-} == '#!' ]]
+}
+
 _calendrica() {
-    local typed=$2 place=0 has_jobs="" is_number="" command="" file start word index
+    local typed=$2 place=0 has_jobs="" is_number="" is_script="" command="" commands="convert check almanac sample upgrade east" word index
+    _calendrica_is_script "$1" && is_script=1
     # Bash takes `--jobs=8` as three words: `--jobs`, `=`, `8`.
     [[ $typed == = ]] && typed=""
     for ((index = 1; index < COMP_CWORD; index++)); do
@@ -18,20 +26,23 @@ _calendrica() {
             :
         elif [[ $is_number ]]; then
             is_number=""
+        elif [[ $is_script && $index == 1 && $word == try ]]; then
+            # What follows is a command of the program.
+            is_script=""
         else
             ((place++))
             command=${command:-$word}
         fi
     done
+    # The script's own words are the first.
+    ((COMP_CWORD == 1)) || is_script=""
     if [[ $is_number ]]; then
         _calendrica_offer "$(echo {1..64})" "$typed"
     elif [[ $typed == -* ]]; then
         COMPREPLY=()
-        [[ $has_jobs ]] || _calendrica_offer --jobs "$typed"
+        [[ $has_jobs ]] || _calendrica_offer "--jobs${is_script:+ --help --version}" "$typed"
     elif ((place == 0)); then
-        # The script of a checkout knows one word more.
-        file=$(type -P -- "$1") && IFS= read -rN 2 start <"$file"
-        _calendrica_offer "convert check almanac sample upgrade east $([[ ${start-} == '#!' && ! $has_jobs ]] && echo build)" "$typed"
+        _calendrica_offer "$commands${is_script:+ build try help}" "$typed"
     elif ((place == 1)) && [[ $command == almanac || $command == east ]]; then
         _calendrica_offer "$(echo {1703..2147})" "$typed"
     else
