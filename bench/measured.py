@@ -6,6 +6,14 @@ import tempfile
 TOP = os.path.dirname(os.path.dirname(os.path.abspath(__file__)))
 BUILT = os.path.join(TOP, "crates/calendrica/out/calendrica")
 
+
+def range_of(name, version=""):
+    """The first and the last of a range that docs/FORMAT.md gives (tests/ranges)."""
+    command = ["sh", os.path.join(TOP, "tests/ranges"), name, str(version)]
+    first, last = subprocess.run(command, stdout=subprocess.PIPE, check=True, universal_newlines=True).stdout.split()
+    return int(first), int(last)
+
+
 # Random numbers that are the same on every machine (Lehmer's, modulo 2^31 - 1).
 def random_numbers(state=1):
     while True:
