@@ -1,5 +1,5 @@
-# Completion of the words of calendrica for bash: source this file, or install it as
-# /usr/share/bash-completion/completions/calendrica. The words are those of docs/FORMAT.md, "Words and statuses".
+# Completion of the arguments of calendrica for bash: source this file, or install it as
+# /usr/share/bash-completion/completions/calendrica. They are those of docs/FORMAT.md, "Arguments and statuses".
 
 # Sets COMPREPLY to those words of a list, given in one line, that begin with what stands.
 _calendrica_offer() {
