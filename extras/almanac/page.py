@@ -56,9 +56,8 @@ def year_html(date):
     if date.calendar not in EASTERN:
         return escape(date.year_words())
     stem, branch, animal = date.year_names()
-    space = " " if date.calendar == "vietnamese" else ""
-    written = names.Name("", f"{stem.own}{space}{branch.own}, {animal.own}", stem.language)
-    return escape(date.year_words()) + own(written)
+    written = animal.own if stem.own == stem.latin else f"{stem.own}{branch.own}, {animal.own}"
+    return escape(date.year_words()) + own(names.Name("", written, stem.language))
 
 
 class Page:
@@ -162,7 +161,7 @@ class Page:
         rows = "".join(f'<tr><th scope="row">{both(names.name(calendar, "name"))}</th><td><ul>{"".join(self.years_of(calendar))}</ul></td></tr>\n'
                        for calendar in self.year.calendars)
         months = "".join(f'<li><a href="#{month:02}">{names.name("gregorian", month).latin}</a>' for month in range(1, 13))
-        return (f'<header>\n<h1>{self.year.year}</h1>\n<table class="years">\n<caption class="years">The year by each calendar</caption>\n'
+        return (f'<header>\n<h1>{self.year.year}</h1>\n<table class="years">\n<caption>The year by each calendar</caption>\n'
                 f"<tbody>\n{rows}</tbody>\n</table>\n</header>\n"
                 f'<nav aria-label="Months"><ul>{months}<li><a href="#promised">What is promised</a>'
                 f'<li><a href="#certificate">Certificate</a></ul></nav>\n')
@@ -185,7 +184,7 @@ class Page:
         drawn = SOUTHERN if self.south else NORTHERN
         symbols = "".join(f'<symbol id="{phase}" viewBox="0 0 16 16">{DISC.format("shade")}{drawn[phase]}{DISC.format("edge")}</symbol>\n'
                           for phase in drawn)
-        return f'<svg width="0" height="0" style="position:absolute" aria-hidden="true" class="moon">\n{symbols}</svg>\n'
+        return f'<svg width="0" height="0" style="position:absolute" aria-hidden="true">\n{symbols}</svg>\n'
 
     def text(self):
         """The whole page."""
