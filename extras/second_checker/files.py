@@ -9,7 +9,7 @@ from .run import Undecided, Void
 from .tables import rows
 
 Fact = namedtuple("Fact", "number kind place day value")
-Line = namedtuple("Line", "number echo shown listed fact", defaults=(None, None, (), None))
+Line = namedtuple("Line", "number echo shown listed")
 
 class Bad(Exception): """A text that isn't in the grammar: `bad LINE RULE`."""
 class Missing(Exception): """A line's rule asks a fact that the line doesn't list."""

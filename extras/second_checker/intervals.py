@@ -40,7 +40,7 @@ class Interval:
         n, s = other.m, other.r
         if abs(n) <= s: raise ZeroDivisionError("a divisor that may be 0")
         m = (self.m << BITS) // n
-        return Interval(m, ((self.r << BITS) + abs(m) * s) // (abs(n) - s) + 2)
+        return Interval(m, ((self.r << BITS) + (abs(m) + 1) * s) // (abs(n) - s) + 2)
     def __abs__(self): return Interval(abs(self.m), self.r) if abs(self.m) >= self.r else between(0, abs(self.m) + self.r)
     def __rtruediv__(self, other): return interval(other) / self
 

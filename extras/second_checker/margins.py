@@ -42,12 +42,13 @@ def in_words(time):
     for unit, length in (("days", DAY), ("hours", 3600), ("minutes", 60)):
         if time >= 2 * length: return f"{time / length:.1f} {unit}"
     return f"{time:.3g} s"
-def sentence(test):
-    """The test by its site and number, its distance in its own unit and, where it has a rate, in time."""
-    text, time = f"{test.site}, test {test.number}, {test.distance:+.4g} {test.seen.unit} from {test.seen.event}", seconds(test)
-    if time is None: return text
+def sentence(test, fact=""):
+    """What came how near, and behind it the test, its distance in its own unit and, where it has a rate, in seconds of time."""
+    seen, time, of_test = test.seen, seconds(test), f"{fact}test {test.number} at {test.site}, {test.distance:+.4g} {test.seen.unit}"
+    if time is None:
+        return f"{abs(test.distance):.3g} {seen.unit} {'above' if test.distance > 0 else 'below'} {seen.event} ({of_test})"
     side = "after" if time > 0 else "before"
-    return f"{text}, {time:+.4g} s: {test.seen.event} falls {in_words(abs(time))} {side} {test.boundary}"
+    return f"{seen.event} falls {in_words(abs(time))} {side} {test.boundary} ({of_test}, {time:+.4g} s)"
 def moment_text(t):
     """A moment of universal time to the second."""
     time = (2 * t.m * 86400 + ONE) // (2 * ONE)
@@ -62,17 +63,17 @@ def told(checker, line):
     facts = [fact for fact in (checker.facts[n - 1] for n in line.listed) if fact.number in checker.runs]
     tests = {id(test): fact.number for fact in facts for test in checker.runs[fact.number].tests}
     near, texts = ranked(test for fact in facts for test in checker.runs[fact.number].tests), []
-    if near: texts.append(f"  nearest: fact {tests[id(near[0])]}, {sentence(near[0])}")
+    if near: texts.append(f"  nearest: {sentence(near[0], f'fact {tests[id(near[0])]}, ')}")
     if near[1:]:
         time = seconds(near[1])
         far = in_words(rank(near[1]) if time is None else abs(time))
-        texts.append(f"  no other test is nearer than {far}: fact {tests[id(near[1])]}, {sentence(near[1])}")
+        texts.append(f"  no other test is nearer than {far}: {sentence(near[1], f'fact {tests[id(near[1])]}, ')}")
     for fact in facts:
         run = checker.runs[fact.number]
-        value = date_text(fact.value) if fact.kind in OF_DAYS else ""
-        texts.append(f"  fact {fact.number} {fact.kind} {fact.place} {fact.day} {fact.value}: {date_text(fact.day)} {value}".rstrip())
+        value = f"{fact.value} ({date_text(fact.value)})" if fact.kind in OF_DAYS else fact.value
+        texts.append(f"  fact {fact.number} {fact.kind} {fact.place} {fact.day} ({date_text(fact.day)}): {value}")
         texts += [f"    {name}: {moment_text(t)}" for name, t in moments(fact.kind, run).items()]
         texts += [f"    nearest: {sentence(test)}" for test in ranked(run.tests)[:1]]
         steps = sorted((test for test in run.tests if test.is_step), key=rank)
-        texts += [f"    nearest step: {t.site}, test {t.number}, {t.distance:+.4g} {t.seen.unit} from {t.seen.event}" for t in steps[:1]]
+        texts += [f"    nearest step: test {t.number} at {t.site}, {t.distance:+.4g} {t.seen.unit}" for t in steps[:1]]
     return "".join(text + "\n" for text in texts)
