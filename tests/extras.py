@@ -156,7 +156,7 @@ def check_certificate(folder, page):
         "2027-03-05, Persian": page.replace(line, line[:-2] + "15"),
         "Full moon": page[:phase] + "New moon" + page[phase + len("Full moon"):],
         minutes.group(1): page[:minutes.start(1)] + "12:34" + page[minutes.end(1):],
-        "line 9 of": page.replace("--mark: #8c1515", "--mark: #8c1516", 1),
+        f"line {page[:page.index('--mark: #8c1515')].count(chr(10)) + 1} of": page.replace("--mark: #8c1515", "--mark: #8c1516", 1),
         "certificate": page.replace("\nend lines ", "\nend lines 1", 1),
     }
     for wanted, other in changed.items():
