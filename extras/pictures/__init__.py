@@ -1,0 +1,1 @@
+"""The pictures of docs/, each from data that stands in the repository."""
