@@ -3,8 +3,7 @@ pub use Rattle.sun_core.proofs.Measured as SunMeasured
 pub use Rattle.sun_core.proofs.Scalings
 pub mod OnCourse
 pub mod WalkSteps
-pub mod Reaches
-pub mod WholeTerms
+pub mod TermWidths
 pub mod MomentElements
 pub mod Openings
 pub mod FirstMoon

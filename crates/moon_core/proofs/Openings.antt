@@ -5,13 +5,13 @@ use Rattle.std.proofs.Common.{arith}
 use Rattle.book_model.specs.Interval.{Interval}
 use Rattle.book_model.specs.declared.fail.Fail.{Fail}
 use Rattle.book_model.specs.declared.fail.Fail.TheVariants.{Undecided as undecided_at, Void}
-use Rattle.book_model.specs.declared.site.Site.TheVariants.{DayFloor, MoonWrap, PhaseWrap}
+use Rattle.book_model.specs.declared.site.Site.TheVariants.{MoonWrap, PhaseWrap}
 use Rattle.book_model.specs.numbers.Expressions.{World}
 use Rattle.book_model.specs.programs.Leading.{Leads}
 use Rattle.book_model.specs.programs.Programs.{Program}
 use Rattle.book_model.proofs.Early.{not_of_three}
-use Rattle.encl_core.specs.Steps.{IsOpenFloor, IsOpenWrap}
-use Rattle.time_scales.specs.Steps.{IsYearOpenFor, IsEarlyYearFor, IsNoEarlyYear}
+use Rattle.encl_core.specs.Steps.{IsOpenWrap}
+use Rattle.time_scales.specs.Steps.{IsYearOpenFor, IsNoEarlyYear}
 use Rattle.sun_core.proofs.Openings.{step_wrap_elsewhere}
 
 pub moon_wrap_elsewhere : {T : Type 0} (m : ℕ) (i j : Interval) (r : Result T Fail) → IfErr r (IsOpenWrap m i MoonWrap) → IfErr r (IsYearOpenFor j)
@@ -23,11 +23,6 @@ pub phase_wrap_elsewhere : {T : Type 0} (m : ℕ) (i j : Interval) (r : Result T
 phase_wrap_elsewhere m i j (Ok v) h = h
 phase_wrap_elsewhere m i j (Err (undecided_at u)) h = λ e. let s = h.1 in absurd (cc)
 phase_wrap_elsewhere m i j (Err (Void s)) h = absurd h
-
-pub floor_elsewhere : {T : Type 0} (i j : Interval) (r : Result T Fail) → IfErr r (IsOpenFloor i DayFloor) → IfErr r (IsEarlyYearFor j)
-floor_elsewhere i j (Ok v) h = h
-floor_elsewhere i j (Err (undecided_at u)) h = λ e t. let s = h.1 in absurd (cc)
-floor_elsewhere i j (Err (Void s)) h = absurd h
 
 pub ruleset opening = (moon_wrap_elsewhere, phase_wrap_elsewhere, step_wrap_elsewhere)
 

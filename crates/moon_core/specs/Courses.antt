@@ -13,32 +13,36 @@ use Rattle.book_model.specs.programs.Programs.{Program, bind}
 use Rattle.book_model.specs.sky.Moon.{flattening_of, longitude_term_of, lunar_angles_of, no_term}
 use Rattle.book_model.specs.sky.Phases.{phase_of, nearest_moon_of}
 use Rattle.book_model.specs.sky.Sun.{nutation_of}
-use Rattle.moon_core.specs.Angles.{HoldAngles}
+use Rattle.multiple_sums.specs.MeanAngles.{HoldAngles}
 use Rattle.moon_core.specs.HigherTerms.{HoldHigherTerms}
-use Rattle.moon_core.specs.declared.angles.Angles.{Angles}
+use Rattle.multiple_sums.specs.declared.mean.MeanAngles.{MeanAngles}
 use Rattle.moon_core.specs.declared.higher_terms.HigherTerms.{HigherTerms}
 use Rattle.multiple_sums.specs.declared.tables.TheConstants.{GREATEST_TERMS}
 use Rattle.sun_core.specs.Daily.{in_centuries}
 
 -- the sum of the greatest terms, the first of the table, and that of the others, by the days
 unfoldable pub greatest_terms_of : Expression → Expression
-greatest_terms_of x = terms_of (longitude_term_of (lunar_angles_of (in_centuries x))) no_term (slice_range MOON_TERMS 0 GREATEST_TERMS)
+greatest_terms_of x = terms_of (longitude_term_of (lunar_angles_of (in_centuries x))) no_term
+    (slice_range MOON_TERMS 0 GREATEST_TERMS)
 
 unfoldable pub other_terms_of : Expression → Expression
-other_terms_of x = terms_of (longitude_term_of (lunar_angles_of (in_centuries x))) no_term (slice_range MOON_TERMS GREATEST_TERMS (length MOON_TERMS))
+other_terms_of x = terms_of (longitude_term_of (lunar_angles_of (in_centuries x))) no_term
+    (slice_range MOON_TERMS GREATEST_TERMS (length MOON_TERMS))
 
 -- a course's parts hold those of the longitude at each number of days of the stretch
-pub record IsMoonCourse {E : Type 0} (shown : E → Interval) (days : E) (b : HigherTerms E) (a : Angles E) (t v j f n : E) : Type 0 where
+pub record IsMoonCourse {E : Type 0} (shown : E → Interval) (days : E) (b : HigherTerms E) (a : MeanAngles E)
+    (t v j f n : E) : Type 0 where
   pub higher : (w : World) (x : Expression) → Within shown w x days → HoldHigherTerms shown w (in_centuries x) b
-  pub angles : (w : World) (x : Expression) → Within shown w x days → HoldAngles shown w (lunar_angles_of (in_centuries x)) a
+  pub angles : (w : World) (x : Expression) → Within shown w x days
+      → HoldAngles shown w (lunar_angles_of (in_centuries x)) a
   pub terms : Holds1 shown other_terms_of days t
   pub venus : Holds1 shown (λ x. wave_of (in_centuries x) VENUS_WAVE) days v
   pub jupiter : Holds1 shown (λ x. wave_of (in_centuries x) JUPITER_WAVE) days j
   pub flattening : Holds1 shown (λ x. flattening_of (in_centuries x)) days f
   pub nutation : Holds1 shown (λ x. nutation_of (in_centuries x)) days n
 
--- the number of the last new moon before a moment, or of one next to it, by the months since the first and a phase; and by these
--- months and the phase at the moment
+-- the number of the last new moon before a moment, or of one next to it, by the months since the first and a phase; and
+-- by these months and the phase at the moment
 unfoldable pub number_of_phase : (months degrees : Expression) → Program ℤ
 number_of_phase m p = nearest_moon_of (subtract m (scale (fraction_of DEGREE_IN_MONTHS) p))
 

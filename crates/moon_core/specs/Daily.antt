@@ -1,27 +1,33 @@
--- The moon's longitude and latitude as they are computed, their linear parts and waves by the days from noon of 1 January 2000.
-use Rattle.book_model.specs.declared.moon_tables.TheConstants.{ECCENTRICITY_FACTOR, ELONGATION, FLATTENING, JUPITER_WAVE, LATITUDE_ARGUMENT, LATITUDE_WAVE, MILLIONTH, MOON_ANOMALY, MOON_LONGITUDE, MOON_TERMS, SUN_ANOMALY, VENUS_WAVE}
+-- The moon's longitude and latitude as they are computed, their linear parts and waves by the days from noon of 1
+-- January 2000.
+use Rattle.book_model.specs.declared.moon_tables.TheConstants.{ECCENTRICITY_FACTOR, ELONGATION, FLATTENING, JUPITER_WAVE, LATITUDE_ARGUMENT, LATITUDE_WAVE, MILLIONTH, MOON_ANOMALY, MOON_LONGITUDE, SUN_ANOMALY, VENUS_WAVE}
+use Rattle.book_model.specs.declared.time_tables.TheConstants.{NOON_2000}
 use Rattle.book_model.specs.declared.polynomial.Cubic.{Cubic}
 use Rattle.book_model.specs.declared.polynomial.Quartic.{Quartic}
-use Rattle.book_model.specs.numbers.Expressions.{Expression, constant, add, subtract, multiply, scale, power, sine}
+use Rattle.book_model.specs.numbers.Expressions.{Expression, argument, constant, add, subtract, multiply, scale, power, sine}
 use Rattle.book_model.specs.numbers.Fractions.{fraction_of}
-use Rattle.book_model.specs.sky.Latitude.{latitude_terms_of, venus_by, flattening_by}
-use Rattle.book_model.specs.sky.Moon.{LunarAngles, longitude_term_of, no_term}
+use Rattle.book_model.specs.sky.Latitude.{venus_by, flattening_by}
+use Rattle.book_model.specs.sky.Moon.{LunarAngles}
 use Rattle.book_model.specs.numbers.Polynomials.{quadratic_of}
 use Rattle.book_model.specs.sky.Sun.{nutation_of}
-use Rattle.book_model.specs.numbers.Terms.{terms_of}
 use Rattle.sun_core.specs.Daily.{in_centuries, by_days, daily_angle_of, daily_wave_of}
 
--- a quartic, its linear part by the days; a fourth power is too large for an enclosure in early years, and so the cube is
--- scaled and then multiplied
+-- the higher terms of a quartic of the time in centuries; a fourth power is too large for an enclosure in early years,
+-- and so the cube is scaled and then multiplied
+abbrev pub higher_by : Quartic → Expression → Expression
+higher_by p c =
+    add (scale (fraction_of p.square) (power c 2)) (add (scale (fraction_of p.cube) (power c 3))
+    (multiply (scale (fraction_of p.fourth) (power c 3)) c))
+
+-- a quartic, its linear part by the days
 unfoldable pub daily_quartic_of : Quartic → Expression → Expression
-daily_quartic_of p x =
-    add (add (add (add (constant (fraction_of p.constant)) (by_days p.linear x)) (scale (fraction_of p.square) (power (in_centuries x) 2)))
-    (scale (fraction_of p.cube) (power (in_centuries x) 3))) (multiply (scale (fraction_of p.fourth) (power (in_centuries x) 3)) (in_centuries x))
+daily_quartic_of p x = add (add (constant (fraction_of p.constant)) (by_days p.linear x)) (higher_by p (in_centuries x))
 
 -- a cubic, its linear part by the days
 unfoldable pub daily_cubic_of : Cubic → Expression → Expression
 daily_cubic_of p x =
-    add (add (add (constant (fraction_of p.constant)) (by_days p.linear x)) (scale (fraction_of p.square) (power (in_centuries x) 2)))
+    add (add (add (constant (fraction_of p.constant)) (by_days p.linear x))
+    (scale (fraction_of p.square) (power (in_centuries x) 2)))
     (scale (fraction_of p.cube) (power (in_centuries x) 3))
 
 -- the angles at a time
@@ -35,34 +41,28 @@ daily_angles_of x =
       eccentricity = quadratic_of ECCENTRICITY_FACTOR (in_centuries x);
     }
 
--- the sum of the longitude's terms
-unfoldable pub computed_terms_of : Expression → Expression
-computed_terms_of x = terms_of (longitude_term_of (daily_angles_of x)) no_term MOON_TERMS
-
 -- what the flattening of the earth adds
 unfoldable pub computed_flattening_of : Expression → Expression
-computed_flattening_of x = scale (fraction_of FLATTENING) (sine (subtract (daily_quartic_of MOON_LONGITUDE x) (daily_quartic_of LATITUDE_ARGUMENT x)))
+computed_flattening_of x = scale (fraction_of FLATTENING) (sine
+    (subtract (daily_quartic_of MOON_LONGITUDE x) (daily_quartic_of LATITUDE_ARGUMENT x)))
 
 -- what the moon is ahead of its mean longitude, in millionths of a degree, by the sum of the terms
 abbrev pub inequalities_by : (terms x : Expression) → Expression
-inequalities_by t x = add (add (add t (daily_wave_of x VENUS_WAVE)) (daily_wave_of x JUPITER_WAVE)) (computed_flattening_of x)
-
-unfoldable pub computed_inequalities_of : Expression → Expression
-computed_inequalities_of x = inequalities_by (computed_terms_of x) x
+inequalities_by t x = add (add (add t (daily_wave_of x VENUS_WAVE)) (daily_wave_of x JUPITER_WAVE))
+    (computed_flattening_of x)
 
 -- the moon's longitude, not reduced, by what the moon is ahead
 abbrev pub longitude_by : (inequalities x : Expression) → Expression
-longitude_by i x = add (add (daily_quartic_of MOON_LONGITUDE x) (scale (fraction_of MILLIONTH) i)) (nutation_of (in_centuries x))
+longitude_by i x = add (add (daily_quartic_of MOON_LONGITUDE x) (scale (fraction_of MILLIONTH) i))
+    (nutation_of (in_centuries x))
 
-unfoldable pub computed_longitude_of : Expression → Expression
-computed_longitude_of x = longitude_by (computed_inequalities_of x) x
+-- the days from noon of 1 January 2000 to a moment
+abbrev pub days_from_2000 : Expression
+days_from_2000 = subtract (argument 0) (constant (fraction_of NOON_2000))
 
--- the latitude in millionths of a degree
-unfoldable pub computed_millionths_of : LunarAngles → Expression → Expression
-computed_millionths_of a x =
-    add (add (add (latitude_terms_of a) (venus_by (daily_angle_of VENUS_WAVE x) a.latitude_argument))
-    (flattening_by (daily_quartic_of MOON_LONGITUDE x) a.moon_anomaly)) (daily_wave_of x LATITUDE_WAVE)
-
--- the latitude
-unfoldable pub computed_latitude_of : Expression → Expression
-computed_latitude_of x = scale (fraction_of MILLIONTH) (computed_millionths_of (daily_angles_of x) x)
+-- the latitude in millionths of a degree, by the sum of the terms
+abbrev pub millionths_by : (terms x : Expression) → Expression
+millionths_by t x =
+    add (add (add t (venus_by (daily_angle_of VENUS_WAVE x) (daily_quartic_of LATITUDE_ARGUMENT x)))
+    (flattening_by (daily_quartic_of MOON_LONGITUDE x) (daily_quartic_of MOON_ANOMALY x)))
+    (daily_wave_of x LATITUDE_WAVE)

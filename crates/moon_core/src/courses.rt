@@ -1,29 +1,28 @@
 //! The course of the moon over a stretch of days: what it is ahead of its mean longitude by all but the greatest of its terms, as wide
 //! as that may be at one of them. The longitude at a moment of the stretch takes the greatest terms of the moment, and the others of
 //! the course.
-ghost use Rattle.std.specs.Prelude.{◌≡◌, ◌≤◌, Ok, IfOk, IfSome, IsTrue};
+ghost use Rattle.std.specs.Prelude.{◌≡◌, ◌≤◌, Ok, IfOk, IsTrue};
 ghost use Rattle.book_model.specs.Interval.{◌⊆◌};
 ghost use Rattle.book_model.specs.numbers.Depth.{DEPTH};
 ghost use Rattle.book_model.specs.numbers.Expressions.{Expression, World};
 ghost use Rattle.book_model.specs.numbers.Relations.{Within};
 ghost use Rattle.book_model.specs.programs.Calls.{Follows1, Holds1};
 ghost use Rattle.book_model.specs.sky.Sun.{nutation_of};
-ghost use Rattle.book_model.specs.sky.Moon.{LunarAngles, lunar_angles_of, longitude_terms_of, inequalities_of, moon_longitude_of, moon_of};
-ghost use Rattle.moon_core.specs.Angles.{HoldAngles};
+ghost use Rattle.book_model.specs.sky.Moon.{lunar_angles_of, longitude_terms_of, inequalities_of, moon_longitude_of, moon_of};
+ghost use Rattle.multiple_sums.specs.MeanAngles.{HoldAngles};
 ghost use Rattle.moon_core.specs.HigherTerms.{HoldHigherTerms};
 ghost use Rattle.moon_core.specs.Courses.{greatest_terms_of, other_terms_of};
 ghost use Rattle.sun_core.specs.Daily.{in_centuries};
 
-use crate::angles::Angles;
 use crate::higher_terms::{HigherTerms, angles_by, higher_terms, quartic_by};
 use crate::longitude::flattening;
 use book_model::moon_tables::{
-    ELONGATION, JUPITER_WAVE, MILLIONTH, MOON_ANOMALY, MOON_LONGITUDE, MOON_TERMS, VENUS_WAVE,
+    ELONGATION, JUPITER_WAVE, MILLIONTH, MOON_ANOMALY, MOON_LONGITUDE, VENUS_WAVE,
 };
 use book_model::time_tables::{DAY_IN_CENTURIES, NOON_2000};
-use book_model::{FIRST_DAY, Fail, LAST_DAY, MoonTerm, Site};
-use encl_core::{Enclosure, Trail, lies_within, sum_of_terms, wrap_step};
-use multiple_sums::{GREATEST_TERMS, greatest_sum, mean_turns, other_sum, two_turns};
+use book_model::{FIRST_DAY, Fail, LAST_DAY, Site};
+use encl_core::{Enclosure, Trail, lies_within, wrap_step};
+use multiple_sums::{MeanAngles, greatest_terms, other_terms};
 use std::marker::Model;
 use sun_core::{nutation, sine_wave};
 use time_scales::dynamical;
@@ -37,98 +36,22 @@ const FIRST_USUAL_DAY: i64 = FIRST_DAY - DAY_OF_2000 - 400;
 
 const LAST_USUAL_DAY: i64 = LAST_DAY - DAY_OF_2000 + 400;
 
-/// The sum of the greatest terms, in millionths of a degree, in whole numbers; `None` where one of the two angles that they take isn't
-/// known well enough.
-fn greatest_in_whole_numbers<E: Enclosure>(angles: Angles<E>) -> Option<E>
-    ensures holds { IfSome result (λ e. (w : World) (x : Expression) → DEPTH ≤ w.depth
-        → HoldAngles E.shown w (lunar_angles_of (in_centuries x)) angles
-        → Within E.shown w (greatest_terms_of x) e) }
-{
-    let turns = two_turns(
-        angles.elongation,
-        angles.sun_anomaly,
-        angles.moon_anomaly,
-        angles.latitude_argument,
-    )?;
-    Some(E::from_span(greatest_sum(&turns)))
-}
-
-/// The same, row by row.
-fn greatest_by_rows<E: Enclosure>(angles: Angles<E>) -> E
+/// The sum of the greatest terms by the angles, in millionths of a degree.
+fn greatest_by<E: Enclosure>(angles: MeanAngles<E>) -> E
     ensures holds { (w : World) (x : Expression) → DEPTH ≤ w.depth
         → HoldAngles E.shown w (lunar_angles_of (in_centuries x)) angles
         → Within E.shown w (greatest_terms_of x) result }
 {
-    sum_of_terms::<Angles<E>, E, MoonTerm>(&MOON_TERMS[..GREATEST_TERMS], angles)
+    greatest_terms(angles)
 }
 
-/// The same: in whole numbers over the coarse kind, where the angles are known well enough.
-fn greatest_terms<E: Enclosure>(angles: Angles<E>) -> E
-    ensures holds { (w : World) (x : Expression) → DEPTH ≤ w.depth
-        → HoldAngles E.shown w (lunar_angles_of (in_centuries x)) angles
-        → Within E.shown w (greatest_terms_of x) result }
-{
-    if E::BITS == 36 {
-        if let Some(whole) = greatest_in_whole_numbers(angles) {
-            return whole;
-        }
-    }
-    greatest_by_rows(angles)
-}
-
-/// The sum of the other terms, in millionths of a degree, in whole numbers; `None` where an angle isn't known well enough, as over a
-/// stretch of more than a third of a day.
-fn other_in_whole_numbers<E: Enclosure>(angles: Angles<E>) -> Option<E>
-    ensures holds { IfSome result (λ e. (w : World) (x : Expression) → DEPTH ≤ w.depth
-        → HoldAngles E.shown w (lunar_angles_of (in_centuries x)) angles
-        → Within E.shown w (other_terms_of x) e) }
-{
-    let turns = mean_turns(
-        angles.elongation,
-        angles.sun_anomaly,
-        angles.moon_anomaly,
-        angles.latitude_argument,
-        angles.eccentricity,
-    )?;
-    Some(E::from_span(other_sum(&turns)))
-}
-
-/// The same, row by row.
-fn other_by_rows<E: Enclosure>(angles: Angles<E>) -> E
+/// The sum of the others. Over a stretch of more than a third of a day it may be any sum of these.
+fn others_by<E: Enclosure>(angles: MeanAngles<E>) -> E
     ensures holds { (w : World) (x : Expression) → DEPTH ≤ w.depth
         → HoldAngles E.shown w (lunar_angles_of (in_centuries x)) angles
         → Within E.shown w (other_terms_of x) result }
 {
-    sum_of_terms::<Angles<E>, E, MoonTerm>(&MOON_TERMS[GREATEST_TERMS..], angles)
-}
-
-/// The same: in whole numbers over the coarse kind, where the stretch is short enough.
-fn other_terms<E: Enclosure>(angles: Angles<E>) -> E
-    ensures holds { (w : World) (x : Expression) → DEPTH ≤ w.depth
-        → HoldAngles E.shown w (lunar_angles_of (in_centuries x)) angles
-        → Within E.shown w (other_terms_of x) result }
-{
-    if E::BITS == 36 {
-        if let Some(whole) = other_in_whole_numbers(angles) {
-            return whole;
-        }
-    }
-    other_by_rows(angles)
-}
-
-/// Angles of which the two by which the greatest terms turn may be any. The others stay: a row multiplies an angle that it doesn't
-/// take by 0, and of an angle that may be any nothing is known then either.
-fn with_any<E: Enclosure>(angles: Angles<E>) -> Angles<E>
-    ensures holds { (w : World) (a : LunarAngles) → HoldAngles E.shown w a angles
-        → HoldAngles E.shown w a result }
-{
-    Angles {
-        elongation: E::whole(),
-        sun_anomaly: angles.sun_anomaly,
-        moon_anomaly: E::whole(),
-        latitude_argument: angles.latitude_argument,
-        eccentricity: angles.eccentricity,
-    }
+    other_terms(angles)
 }
 
 /// The course of the moon over a stretch of days, counted from noon of 1 January 2000 in dynamical time. Contracts see the days.
@@ -136,7 +59,7 @@ fn with_any<E: Enclosure>(angles: Angles<E>) -> Angles<E>
 pub(crate) struct MoonCourse<E: Enclosure> {
     days: E,
     higher: HigherTerms<E>,
-    angles: Angles<E>,
+    angles: MeanAngles<E>,
     terms: E,
     venus: E,
     jupiter: E,
@@ -157,7 +80,7 @@ impl<E: Enclosure> Model for MoonCourse<E> {
 
 impl<E: Enclosure> MoonCourse<E> {
     /// The course over days, by the higher terms, the angles and the nutation that hold there.
-    fn by(days: E, higher: HigherTerms<E>, angles: Angles<E>, nutation: E) -> Self
+    fn by(days: E, higher: HigherTerms<E>, angles: MeanAngles<E>, nutation: E) -> Self
         requires higher { (w : World) (x : Expression) → Within E.shown w x days
             → HoldHigherTerms E.shown w (in_centuries x) higher }
         requires angles { (w : World) (x : Expression) → Within E.shown w x days
@@ -169,7 +92,7 @@ impl<E: Enclosure> MoonCourse<E> {
             days,
             higher,
             angles,
-            terms: other_terms(angles),
+            terms: others_by(angles),
             venus: sine_wave(&VENUS_WAVE, days),
             jupiter: sine_wave(&JUPITER_WAVE, days),
             flattening: flattening(
@@ -193,14 +116,7 @@ impl<E: Enclosure> MoonCourse<E> {
     /// The course over the usual days, over which its terms come to their whole size.
     pub(crate) fn usual() -> Self {
         let days = E::from_int(FIRST_USUAL_DAY).hull(E::from_int(LAST_USUAL_DAY));
-        let c = days.mul_frac(DAY_IN_CENTURIES);
-        let higher = higher_terms(c);
-        MoonCourse::<E>::by(
-            days,
-            higher,
-            with_any(angles_by(days, c, higher)),
-            nutation(c),
-        )
+        MoonCourse::<E>::of(days, nutation(days.mul_frac(DAY_IN_CENTURIES)))
     }
 
     /// Whether days lie within those of the course.
@@ -211,12 +127,12 @@ impl<E: Enclosure> MoonCourse<E> {
     }
 
     /// The angles by days of the course: those by which the greatest terms turn at these days, the others of the course.
-    fn angles_on(&self, days: E) -> Angles<E>
+    fn angles_on(&self, days: E) -> MeanAngles<E>
         requires there { E.shown days ⊆ E.shown self.now }
         ensures holds { (w : World) (x : Expression) → Within E.shown w x days
             → HoldAngles E.shown w (lunar_angles_of (in_centuries x)) result }
     {
-        Angles {
+        MeanAngles {
             elongation: quartic_by(&ELONGATION, days, self.higher.elongation),
             sun_anomaly: self.angles.sun_anomaly,
             moon_anomaly: quartic_by(&MOON_ANOMALY, days, self.higher.moon_anomaly),
@@ -230,7 +146,7 @@ impl<E: Enclosure> MoonCourse<E> {
         requires there { E.shown days ⊆ E.shown self.now }
         ensures holds { Holds1 E.shown (λ x. longitude_terms_of (in_centuries x)) days result }
     {
-        greatest_terms(self.angles_on(days)).add(self.terms)
+        greatest_by(self.angles_on(days)).add(self.terms)
     }
 
     /// What the moon is ahead of its mean longitude by days of the course, in millionths of a degree.

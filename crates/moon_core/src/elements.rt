@@ -9,11 +9,12 @@ ghost use Rattle.moon_core.specs.Elements.{HoldElements, KeepElements, AreElemen
 ghost use Rattle.std.specs.Prelude.{◌≡◌, ◌≤◌, ◌^◌, ℕ, IfOk, IfErr};
 ghost use Rattle.time_scales.specs.Steps.{IsYearOpenFor};
 
-use crate::angles::{Angles, angles_at, daily_quartic};
+use crate::higher_terms::{angles_by, higher_terms, quartic_by};
 use book_model::Fail;
 use book_model::moon_tables::MOON_LONGITUDE;
 use book_model::time_tables::{DAY_IN_CENTURIES, NOON_2000};
 use encl_core::{Enclosure, Trail};
+use multiple_sums::MeanAngles;
 use time_scales::dynamical;
 
 /// The time of a moment, in days from noon of 1 January 2000 in dynamical time and in centuries, the moon's mean longitude, in
@@ -23,7 +24,7 @@ pub struct MoonElements<E> {
     pub days: E,
     pub centuries: E,
     pub mean_longitude: E,
-    pub angles: Angles<E>,
+    pub angles: MeanAngles<E>,
 }
 
 /// The elements by the days from noon of 1 January 2000.
@@ -34,11 +35,12 @@ pub(crate) fn elements_at<E: Enclosure>(days: E) -> MoonElements<E>
         → KeepElements E.shown (limits_of E.BITS) r x result }
 {
     let centuries = days.mul_frac(DAY_IN_CENTURIES);
+    let higher = higher_terms(centuries);
     MoonElements {
         days,
         centuries,
-        mean_longitude: daily_quartic(&MOON_LONGITUDE, days, centuries),
-        angles: angles_at(days, centuries),
+        mean_longitude: quartic_by(&MOON_LONGITUDE, days, higher.longitude),
+        angles: angles_by(days, centuries, higher),
     }
 }
 

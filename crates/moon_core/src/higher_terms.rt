@@ -1,19 +1,23 @@
 //! The higher terms of a quartic of the time, which are those in its square, its cube and its fourth power. Over a stretch of some days
 //! they hardly move, so a course takes their sum once, and a moment of the stretch only the constant and the linear term.
+ghost use Rattle.book_model.specs.numbers.Bounds.{Reach, limits_of};
 ghost use Rattle.book_model.specs.numbers.Expressions.{Expression, World, power};
 ghost use Rattle.book_model.specs.numbers.Polynomials.{quartic_of};
-ghost use Rattle.book_model.specs.numbers.Relations.{Within};
+ghost use Rattle.book_model.specs.numbers.Relations.{Within, Narrow};
 ghost use Rattle.book_model.specs.sky.Moon.{lunar_angles_of};
-ghost use Rattle.moon_core.specs.Angles.{HoldAngles};
-ghost use Rattle.moon_core.specs.HigherTerms.{HoldHigherTerms, higher_sum_of};
+ghost use Rattle.moon_core.specs.Angles.{KeepAngles};
+ghost use Rattle.multiple_sums.specs.MeanAngles.{HoldAngles};
+ghost use Rattle.moon_core.specs.Daily.{daily_angles_of, daily_quartic_of, higher_by};
+ghost use Rattle.moon_core.specs.HigherTerms.{HoldHigherTerms, KeepHigherTerms, higher_sum_of};
 ghost use Rattle.sun_core.specs.Daily.{in_centuries};
 
-use crate::angles::{Angles, daily_cubic};
+use crate::angles::daily_cubic;
 use book_model::Quartic;
 use book_model::moon_tables::{
     ECCENTRICITY_FACTOR, ELONGATION, LATITUDE_ARGUMENT, MOON_ANOMALY, MOON_LONGITUDE, SUN_ANOMALY,
 };
 use encl_core::Enclosure;
+use multiple_sums::MeanAngles;
 use sun_core::times_rate;
 use time_scales::quadratic;
 
@@ -34,6 +38,10 @@ fn higher_sum<E: Enclosure>(angle: &Quartic, c: E, square: E, cube: E) -> E
     ensures holds { (w : World) (x : Expression) → Within E.shown w x c
         → Within E.shown w (power x 2) square → Within E.shown w (power x 3) cube
         → Within E.shown w (higher_sum_of angle.now x) result }
+    ensures narrow { (r : Reach) (x : Expression) → Narrow E.shown (limits_of E.BITS) r x c
+        → Narrow E.shown (limits_of E.BITS) r (power x 2) square
+        → Narrow E.shown (limits_of E.BITS) r (power x 3) cube
+        → Narrow E.shown (limits_of E.BITS) r (higher_by angle.now x) result }
 {
     square.mul_frac(angle.square).add(
         cube.mul_frac(angle.cube)
@@ -46,6 +54,8 @@ fn higher_sum<E: Enclosure>(angle: &Quartic, c: E, square: E, cube: E) -> E
 pub(crate) fn higher_terms<E: Enclosure>(c: E) -> HigherTerms<E>
     ensures holds { (w : World) (x : Expression) → Within E.shown w x c
         → HoldHigherTerms E.shown w x result }
+    ensures narrow { (r : Reach) (x : Expression) → Narrow E.shown (limits_of E.BITS) r x c
+        → KeepHigherTerms E.shown (limits_of E.BITS) r x result }
 {
     let square = c.square();
     let cube = square.mul(c);
@@ -59,11 +69,14 @@ pub(crate) fn higher_terms<E: Enclosure>(c: E) -> HigherTerms<E>
 
 /// A quartic of the time by the days from noon of 1 January 2000, and the sum of its higher terms there.
 #[inline(always)]
-#[tactic(auto, using(crate::proofs::HigherTerms::with_higher), unfolding(sun_core::specs::Daily::by_centuries))]
+#[tactic(auto, using(crate::proofs::HigherTerms::with_higher), unfolding(sun_core::specs::Daily::by_centuries, crate::specs::Daily::daily_quartic_of))]
 pub(crate) fn quartic_by<E: Enclosure>(angle: &Quartic, days: E, higher: E) -> E
     ensures holds { (w : World) (x : Expression) → Within E.shown w x days
         → Within E.shown w (higher_sum_of angle.now (in_centuries x)) higher → Within E.shown w
         (quartic_of angle.now (in_centuries x)) result }
+    ensures narrow { (r : Reach) (x : Expression) → Narrow E.shown (limits_of E.BITS) r x days
+        → Narrow E.shown (limits_of E.BITS) r (higher_by angle.now (in_centuries x)) higher
+        → Narrow E.shown (limits_of E.BITS) r (daily_quartic_of angle.now x) result }
 {
     E::from_frac(angle.constant)
         .add(times_rate(days, angle.linear))
@@ -71,13 +84,17 @@ pub(crate) fn quartic_by<E: Enclosure>(angle: &Quartic, days: E, higher: E) -> E
 }
 
 /// The angles by the days from noon of 1 January 2000, these in centuries, and the sums of the quartics' higher terms there.
-#[tactic(auto, unfolding(book_model::specs::sky::Moon::lunar_angles_of))]
-pub(crate) fn angles_by<E: Enclosure>(days: E, c: E, higher: HigherTerms<E>) -> Angles<E>
+#[tactic(auto, unfolding(book_model::specs::sky::Moon::lunar_angles_of, crate::specs::Daily::daily_angles_of))]
+pub(crate) fn angles_by<E: Enclosure>(days: E, c: E, higher: HigherTerms<E>) -> MeanAngles<E>
     ensures holds { (w : World) (x : Expression) → Within E.shown w x days
         → Within E.shown w (in_centuries x) c → HoldHigherTerms E.shown w (in_centuries x) higher
         → HoldAngles E.shown w (lunar_angles_of (in_centuries x)) result }
+    ensures narrow { (r : Reach) (x : Expression) → Narrow E.shown (limits_of E.BITS) r x days
+        → Narrow E.shown (limits_of E.BITS) r (in_centuries x) c
+        → KeepHigherTerms E.shown (limits_of E.BITS) r (in_centuries x) higher
+        → KeepAngles E.shown (limits_of E.BITS) r (daily_angles_of x) result }
 {
-    Angles {
+    MeanAngles {
         elongation: quartic_by(&ELONGATION, days, higher.elongation),
         sun_anomaly: daily_cubic(&SUN_ANOMALY, days, c),
         moon_anomaly: quartic_by(&MOON_ANOMALY, days, higher.moon_anomaly),

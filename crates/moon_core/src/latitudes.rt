@@ -2,100 +2,30 @@
 ghost use Rattle.book_model.specs.programs.Calls.{Encloses2, Follows1};
 ghost use Rattle.book_model.specs.programs.Leading.{Leads};
 ghost use Rattle.book_model.specs.programs.Widths.{IsAbout, IsMoment, Measured1};
-ghost use Rattle.std.specs.Prelude.{◌≡◌, ◌≤◌, ◌*◌, ◌^◌, ℕ, Ok, IfErr, IfSome};
-ghost use Rattle.book_model.specs.numbers.Bounds.{Reach, limits_of};
-ghost use Rattle.book_model.specs.numbers.Depth.{DEPTH};
-ghost use Rattle.book_model.specs.numbers.Expressions.{Expression, World};
+ghost use Rattle.std.specs.Prelude.{◌≡◌, ◌+◌, ◌*◌, ◌^◌, ℕ, Ok, IfErr};
+ghost use Rattle.book_model.specs.numbers.Bounds.{limits_of};
+ghost use Rattle.book_model.specs.numbers.Expressions.{Expression, World, argument};
 ghost use Rattle.book_model.specs.sky.Latitude as spec;
-ghost use Rattle.book_model.specs.sky.Moon.{LunarAngles, lunar_angles_of};
+ghost use Rattle.book_model.specs.sky.Moon.{lunar_angles_of};
 ghost use Rattle.book_model.specs.numbers.Relations.{Within, Narrow};
-ghost use Rattle.moon_core.specs.Angles.{HoldAngles, KeepAngles};
-ghost use Rattle.moon_core.specs.Daily.{daily_angles_of, computed_millionths_of};
-ghost use Rattle.moon_core.specs.Elements.{AreElementsOf, AreMeasured, HoldElements, KeepElements};
+ghost use Rattle.moon_core.specs.Daily.{days_from_2000, millionths_by};
+ghost use Rattle.moon_core.specs.Elements.{AreElementsOf, AreMeasured, HoldElements};
+ghost use Rattle.moon_core.specs.Widths.{days_and, latitude_bound};
 ghost use Rattle.sun_core.specs.Daily.{in_centuries};
 ghost use Rattle.time_scales.specs.Steps.{IsYearOpenFor};
 ghost use Rattle.encl_core.specs.declared.greatest_widths.TheConstants.{LATITUDE};
 ghost use Rattle.encl_core.specs.GreatestWidths.{greatest_of};
 
-use crate::angles::Angles;
 use crate::elements::{MoonElements, moon_elements};
-use crate::terms::lunar_term;
+use book_model::Fail;
 use book_model::moon_tables::{
-    FLATTENING_ALONE, FLATTENING_LESS_ANOMALY, FLATTENING_WITH_ANOMALY, LATITUDE_TERMS,
-    LATITUDE_WAVE, MILLIONTH, VENUS_IN_LATITUDE, VENUS_WAVE,
+    FLATTENING_ALONE, FLATTENING_LESS_ANOMALY, FLATTENING_WITH_ANOMALY, LATITUDE_WAVE, MILLIONTH,
+    VENUS_IN_LATITUDE, VENUS_WAVE,
 };
-use book_model::{Fail, LatitudeTerm};
-use encl_core::{Enclosure, Term, Trail, sum_of_terms};
-use multiple_sums::{latitude_sum, mean_turns};
+use encl_core::{Enclosure, Trail};
+use multiple_sums::latitude_terms;
 use sun_core::{sine_wave, wave_angle};
 use trig_series::sin_deg;
-
-impl<E: Enclosure> Term<Angles<E>, E> for LatitudeTerm {
-    ghost Given = { LunarAngles };
-
-    ghost holds = { λ w a given. HoldAngles E.shown w a given };
-
-    ghost keeps = { λ r a given. KeepAngles E.shown (limits_of E.BITS) r a given };
-
-    ghost term_of = { λ a term. spec.latitude_term_of a term };
-
-    ghost computed_of = { λ a term. spec.latitude_term_of a term };
-
-    #[tactic(auto, unfolding(book_model::specs::sky::Latitude::latitude_term_of))]
-    fn term(&self, given: Angles<E>) -> E {
-        lunar_term(
-            self.elongation,
-            self.sun_anomaly,
-            self.moon_anomaly,
-            self.latitude_argument,
-            self.latitude,
-            given,
-        )
-    }
-}
-
-/// The sum of the latitude's terms in whole numbers, in millionths of a degree; `None` where an angle isn't known well enough.
-fn terms_in_whole_numbers<E: Enclosure>(angles: Angles<E>) -> Option<E>
-    ensures holds { IfSome result (λ e. (w : World) (a : LunarAngles) → DEPTH ≤ w.depth
-        → HoldAngles E.shown w a angles → Within E.shown w (spec.latitude_terms_of a) e) }
-{
-    let turns = mean_turns(
-        angles.elongation,
-        angles.sun_anomaly,
-        angles.moon_anomaly,
-        angles.latitude_argument,
-        angles.eccentricity,
-    )?;
-    Some(E::from_span(latitude_sum(&turns)))
-}
-
-/// The sum of the latitude's terms, row by row.
-#[tactic(auto, unfolding(book_model::specs::sky::Latitude::latitude_terms_of))]
-fn terms_by_rows<E: Enclosure>(angles: Angles<E>) -> E
-    ensures holds { (w : World) (a : LunarAngles) → DEPTH ≤ w.depth → HoldAngles E.shown w a angles
-        → Within E.shown w (spec.latitude_terms_of a) result }
-    ensures narrow { (r : Reach) (a : LunarAngles) → KeepAngles E.shown
-        (limits_of E.BITS) r a angles → Narrow E.shown (limits_of E.BITS) r
-        (spec.latitude_terms_of a) result }
-{
-    sum_of_terms::<Angles<E>, E, LatitudeTerm>(&LATITUDE_TERMS, angles)
-}
-
-/// The sum of the latitude's terms, in millionths of a degree: in whole numbers over the coarse kind, as the longitude's.
-fn latitude_terms<E: Enclosure>(angles: Angles<E>) -> E
-    ensures holds { (w : World) (a : LunarAngles) → DEPTH ≤ w.depth → HoldAngles E.shown w a angles
-        → Within E.shown w (spec.latitude_terms_of a) result }
-    ensures narrow { (E.BITS ≡ 36 → ⊥) → (r : Reach) (a : LunarAngles) → KeepAngles E.shown
-        (limits_of E.BITS) r a angles → Narrow E.shown (limits_of E.BITS) r
-        (spec.latitude_terms_of a) result }
-{
-    if E::BITS == 36 {
-        if let Some(whole) = terms_in_whole_numbers(angles) {
-            return whole;
-        }
-    }
-    terms_by_rows(angles)
-}
 
 /// What Venus adds, by the angle of its wave and the argument of latitude, in millionths of a degree.
 #[tactic(auto, unfolding(book_model::specs::sky::Latitude::venus_by))]
@@ -119,14 +49,14 @@ fn flattening<E: Enclosure>(longitude: E, anomaly: E) -> E
 }
 
 /// The latitude by the elements of a moment, in millionths of a degree.
-#[tactic(auto, unfolding(book_model::specs::sky::Latitude::millionths_of, crate::specs::Daily::computed_millionths_of))]
 fn millionths<E: Enclosure>(elements: MoonElements<E>) -> E
     ensures holds { (w : World) (x : Expression) → HoldElements E.shown w x elements
         → Within E.shown w
         (spec.millionths_of (lunar_angles_of (in_centuries x)) (in_centuries x)) result }
-    ensures narrow { (E.BITS ≡ 36 → ⊥) → (r : Reach) (x : Expression)
-        → KeepElements E.shown (limits_of E.BITS) r x elements
-        → Narrow E.shown (limits_of E.BITS) r (computed_millionths_of (daily_angles_of x) x) result }
+    ensures narrow { (v : ℕ) → E.BITS ≡ 56 → AreMeasured E.shown E.BITS v elements
+        → Narrow E.shown (limits_of E.BITS)
+        (record { width = v + 2 ^ 17; bounds = days_and latitude_bound })
+        (millionths_by (argument 1) days_from_2000) result }
 {
     let angles = elements.angles;
     latitude_terms(angles)
@@ -139,7 +69,7 @@ fn millionths<E: Enclosure>(elements: MoonElements<E>) -> E
 }
 
 /// The latitude of the moon by the elements of a moment, in degrees.
-#[tactic(auto, unfolding(book_model::specs::sky::Latitude::latitude_at_of, crate::specs::Daily::computed_latitude_of))]
+#[tactic(auto, unfolding(book_model::specs::sky::Latitude::latitude_at_of))]
 fn latitude_at<E: Enclosure>(elements: MoonElements<E>) -> E
     ensures holds { (w : World) (x : Expression) → HoldElements E.shown w x elements
         → Within E.shown w (spec.latitude_at_of (in_centuries x)) result }

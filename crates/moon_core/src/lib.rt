@@ -4,7 +4,6 @@
 //!
 //! - `moon`: the longitude at a moment; `latitude`: the latitude;
 //! - `moon_elements`: what both are computed of, once for all that is asked of a moment; `longitude_at` and `latitude_again` take it;
-//! - `angles_at`, `lunar_angle`: the angles by which the terms turn;
 //! - `phase`: the longitude less the sun's, which is 0 at a new moon and 180 at a full moon;
 //! - `moon_before`: the last new moon before a moment; `moon_from`: the first at or after it;
 //! - `phase_before`: when the moon was last at a phase; `phase_day`: the day of that;
@@ -22,15 +21,13 @@ mod numbers;
 mod phase_courses;
 mod phases;
 mod quarters;
-mod terms;
 mod walks;
 
-pub use angles::{Angles, angles_at};
 pub use elements::{MoonElements, moon_elements};
 pub use latitudes::{latitude, latitude_again};
 pub use longitude::{longitude_at, moon};
+pub use multiple_sums::MeanAngles;
 pub use phase_courses::PhaseCourse;
 pub use phases::phase;
 pub use quarters::{phase_before, phase_before_by, phase_day};
-pub use terms::lunar_angle;
 pub use walks::{moon_before, moon_before_by, moon_from, moon_from_by};

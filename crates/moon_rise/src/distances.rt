@@ -1,27 +1,24 @@
 //! The distance of the moon.
-ghost use Rattle.book_model.specs.numbers.Bounds.{Reach, limits_of};
-ghost use Rattle.book_model.specs.numbers.Depth.{DEPTH};
 ghost use Rattle.book_model.specs.numbers.Expressions.{Expression, World};
 ghost use Rattle.book_model.specs.numbers.Fractions.{fraction_of};
-ghost use Rattle.book_model.specs.numbers.Relations.{Within, Narrow};
+ghost use Rattle.book_model.specs.numbers.Relations.{Within};
 ghost use Rattle.book_model.specs.programs.Calls.{Follows1};
 ghost use Rattle.book_model.specs.programs.Leading.{Leads};
 ghost use Rattle.book_model.specs.programs.Widths.{IsMoment, Measured1};
-ghost use Rattle.book_model.specs.sky.Moon.{LunarAngles, lunar_angles_of};
-ghost use Rattle.moon_core.specs.Angles.{HoldAngles, KeepAngles};
+ghost use Rattle.book_model.specs.sky.Moon.{lunar_angles_of};
 ghost use Rattle.moon_core.specs.Elements.{AreElementsOf, AreMeasured, HoldElements};
-ghost use Rattle.moon_rise.specs.Computed.{mean_kilometres as mean_kilometres_of, computed_distance_by};
+ghost use Rattle.moon_rise.specs.Computed.{mean_kilometres as mean_kilometres_of};
 ghost use Rattle.book_model.specs.sky.Distance as spec;
 ghost use Rattle.moon_rise.specs.Widths.{IsDistance};
-ghost use Rattle.std.specs.Prelude.{◌≡◌, ◌≤◌, ◌^◌, ℕ, Ok, IfErr};
+ghost use Rattle.std.specs.Prelude.{◌≡◌, ◌^◌, ℕ, Ok, IfErr};
 ghost use Rattle.moon_core.specs.SunDaily.{in_centuries};
 ghost use Rattle.time_scales.specs.Steps.{IsYearOpenFor};
 
-use crate::terms::distance_terms;
 use book_model::moon_tables::MEAN_DISTANCE;
 use book_model::{Fail, Frac};
 use encl_core::{Enclosure, Trail};
-use moon_core::{Angles, MoonElements, moon_elements};
+use moon_core::{MoonElements, moon_elements};
+use multiple_sums::distance_terms;
 
 /// The mean distance, in kilometres.
 fn mean_kilometres() -> Frac
@@ -37,27 +34,19 @@ fn metre() -> Frac
     Frac::new(1, 1000).unwrap()
 }
 
-/// The distance by the angles, in kilometres. The terms alone are taken in metres, since the mean distance in metres is no number of
-/// the coarse scale.
-#[tactic(auto, using(crate::proofs::Orders::thousandth_holds), unfolding(book_model::specs::sky::Distance::distance_by, crate::specs::Computed::computed_distance_by))]
-fn distance_by<E: Enclosure>(angles: Angles<E>) -> E
-    ensures holds { (w : World) (a : LunarAngles) → DEPTH ≤ w.depth → HoldAngles E.shown w a angles
-        → Within E.shown w (spec.distance_by a) result }
-    ensures narrow { (E.BITS ≡ 36 → ⊥) → (r : Reach) (a : LunarAngles) → KeepAngles E.shown
-        (limits_of E.BITS) r a angles → Narrow E.shown (limits_of E.BITS) r
-        (computed_distance_by a) result }
-{
-    E::from_frac(mean_kilometres()).add(distance_terms(angles).mul_frac(metre()))
-}
-
-/// The distance by the elements of a moment, in kilometres.
+// That a distance is a value that a fact may have is shown of the definition, at each depth: a term
+// has at most 21,000,000 metres and the factor of the eccentricity at most twice, so that 60 terms
+// are less than 5,040,000 kilometres.
+/// The distance by the elements of a moment, in kilometres. The terms alone are taken in metres, since the mean distance in metres is no
+/// number of the coarse scale.
 fn distance_at<E: Enclosure>(elements: MoonElements<E>) -> E
     ensures holds { (w : World) (x : Expression) → HoldElements E.shown w x elements
         → Within E.shown w (spec.distance_by (lunar_angles_of (in_centuries x))) result }
     ensures measured { (v : ℕ) → E.BITS ≡ 56 → AreMeasured E.shown E.BITS v elements
         → IsDistance v (E.shown result) }
 {
-    distance_by(elements.angles)
+    let terms = distance_terms(elements.angles);
+    E::from_frac(mean_kilometres()).add(terms.mul_frac(metre()))
 }
 
 /// The distance of the moon's centre from the earth's at a moment of universal time, in kilometres (Reingold and Dershowitz,

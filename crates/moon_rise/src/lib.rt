@@ -17,7 +17,6 @@ mod distances;
 pub mod laws;
 mod moments;
 mod rises;
-mod terms;
 mod walk;
 
 pub use altitudes::observed;

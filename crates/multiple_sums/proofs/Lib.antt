@@ -1,4 +1,5 @@
 pub mod FoundTurns
+pub mod Narrowing
 pub mod NearTurns
 pub mod Products
 pub mod TableRows

@@ -1,4 +1,5 @@
--- The rows of the moon's tables: they are small, they come to so much, and they are the terms of the definitions.
+-- The rows of the moon's tables: they are small and come to so much, which is computed of the tables, and they are the
+-- terms of the definitions, for which the angle of a row is the sum of its multiples, one after another.
 use Rattle.std.specs.Prelude.{◌&&◌}
 use Rattle.std.specs.Int.Signed.{le_z, le_z_yes}
 use Rattle.std.proofs.Common.{◌≡◌, ℕ, zero, suc, ◌+◌, ◌*◌, ◌^◌, ◌≤◌, refl, arith, Bool, true, false, unsigned_abs, ℤ, pos, ◌+ℤ◌, ◌*ℤ◌, ◌≤ℤ◌, List}
@@ -19,7 +20,8 @@ use Rattle.book_model.specs.sky.Moon.{LunarAngles, lunar_angle_of, lunar_term_of
 use Rattle.book_model.specs.sky.NewMoons.{NewMoonAngles, angle_of_new_moon_term, new_moon_term_of, no_new_moon_term}
 use Rattle.book_model.proofs.Values.{value_proper}
 use Rattle.multiple_sums.specs.Angles.{IsKnown, IsNearTurn}
-use Rattle.multiple_sums.specs.Multiples.{AreFew, AreSmall, AreTerms, AreTurns, AreTwoTurns, HasSums, IsSmallRow, IsTerm, count_of, half_of, multiples_of, sums_to}
+use Rattle.multiple_sums.specs.MeanAngles.{with_elongation}
+use Rattle.multiple_sums.specs.Multiples.{AreFew, AreKnown, AreSmall, AreTerms, AreTurns, AreTwoTurns, HasSums, IsSmallRow, IsTerm, count_of, half_of, multiples_of, sums_to}
 use Rattle.multiple_sums.specs.Tables.{distance_row_of, greatest_rows, longitude_row_of, latitude_row_of, new_moon_row_of, other_rows}
 use Rattle.multiple_sums.specs.declared.mean.MeanTurns.{MeanTurns}
 use Rattle.multiple_sums.specs.declared.rows.Multiples.{Multiples}
@@ -29,7 +31,8 @@ use Rattle.multiple_sums.proofs.NearTurns.{multiple_near, none_near, sum_near}
 -- ---- small rows
 abbrev is_small : Multiples → Bool
 is_small r =
-    le_z (pos (count_of r)) (pos 8) && (le_z (pos r.quarters) (pos 1) && (le_z (pos r.power) (pos 2) && le_z (pos (unsigned_abs r.size)) (pos (2 ^ 25))))
+    le_z (pos (count_of r)) (pos 8) && (le_z (pos r.quarters) (pos 1) &&
+    (le_z (pos r.power) (pos 2) && le_z (pos (unsigned_abs r.size)) (pos (2 ^ 25))))
 
 abbrev all_small : {T : Type 0} → (T → Multiples) → List T → Bool
 all_small row_of [] = true
@@ -179,59 +182,78 @@ three_counted : (e a b c : ℕ) → (a + b) + c ≡ ((0 * e + a) + b) + c
 three_counted e a b c = omega arith
 
 without_first : (e p q r : ℤ) → (p +ℤ q) +ℤ r ≡ ((pos 0 *ℤ e +ℤ p) +ℤ q) +ℤ r
-without_first e p q r = ring (e ∷ p ∷ q ∷ r ∷ []) ((at 1 ⊕ at 2) ⊕ at 3) (((lit (pos 0) ⊗ at 0 ⊕ at 1) ⊕ at 2) ⊕ at 3) refl
+without_first e p q r = ring (e ∷ p ∷ q ∷ r ∷ []) ((at 1 ⊕ at 2) ⊕ at 3) (((lit (pos 0) ⊗ at 0 ⊕ at 1) ⊕ at 2) ⊕ at 3)
+    refl
 
-part_near : (w : World) (x : Expression) (m t : ℤ) (h : ℕ) → IsNearTurn t h (value w x) → IsNearTurn (m *ℤ t) (unsigned_abs m * h) (value w (scale (whole m) x))
+part_near : (w : World) (x : Expression) (m t : ℤ) (h : ℕ) → IsNearTurn t h (value w x)
+    → IsNearTurn (m *ℤ t) (unsigned_abs m * h) (value w (scale (whole m) x))
 unfolding value
 part_near w x m t h k = multiple_near m t h (value w x) (value_proper w x) k
 
 lunar_near : (w : World) (a : LunarAngles) (t : MeanTurns) (r : Multiples)
-    → AreTurns w a.elongation a.sun_anomaly a.moon_anomaly a.latitude_argument a.eccentricity t
-    → IsNearTurn (multiples_of t r) (half_of t r) (value w (lunar_angle_of a r.elongation r.sun_anomaly r.moon_anomaly r.latitude_argument))
+    → AreTurns w a t → AreKnown t
+    → IsNearTurn (multiples_of t r) (half_of t r) (value w (lunar_angle_of a r.elongation r.sun_anomaly r.moon_anomaly
+    r.latitude_argument))
 unfolding value lunar_angle_of
-lunar_near w a t r k =
-    let d = part_near w a.elongation r.elongation (pos t.elongation.turn) t.elongation.half k.elongation in
-    let m = part_near w a.sun_anomaly r.sun_anomaly (pos t.sun_anomaly.turn) t.sun_anomaly.half k.sun_anomaly in
-    let n = part_near w a.moon_anomaly r.moon_anomaly (pos t.moon_anomaly.turn) t.moon_anomaly.half k.moon_anomaly in
-    let f = part_near w a.latitude_argument r.latitude_argument (pos t.latitude_argument.turn) t.latitude_argument.half k.latitude_argument in
+lunar_near w a t r k h =
+    let d = part_near w a.elongation r.elongation (pos t.elongation.turn) t.elongation.half (k.elongation h.elongation)
+    in
+    let m = part_near w a.sun_anomaly r.sun_anomaly (pos t.sun_anomaly.turn) t.sun_anomaly.half
+    (k.sun_anomaly h.sun_anomaly) in
+    let n = part_near w a.moon_anomaly r.moon_anomaly (pos t.moon_anomaly.turn) t.moon_anomaly.half
+    (k.moon_anomaly h.moon_anomaly) in
+    let f = part_near w a.latitude_argument r.latitude_argument (pos t.latitude_argument.turn) t.latitude_argument.half
+    (k.latitude_argument h.latitude_argument) in
     sum_near _ _ _ _ _ _ (sum_near _ _ _ _ _ _ (sum_near _ _ _ _ _ _ d m) n) f
 
 -- of a row that takes neither the sun's anomaly nor the argument of latitude
-none_of : (w : World) (x : Expression) (t : ℤ) (h : ℕ) → IsKnown (value w x) → IsNearTurn (pos 0 *ℤ t) (0 * h) (value w (scale (whole (pos 0)) x))
+none_of : (w : World) (x : Expression) (t : ℤ) (h : ℕ) → IsKnown (value w x)
+    → IsNearTurn (pos 0 *ℤ t) (0 * h) (value w (scale (whole (pos 0)) x))
 unfolding value
 none_of w x t h k = none_near t h (value w x) (value_proper w x) k
 
-two_near : (w : World) (a : LunarAngles) (t : MeanTurns) (p q : ℤ) → AreTwoTurns w a.elongation a.sun_anomaly a.moon_anomaly a.latitude_argument t
-    → IsNearTurn (((p *ℤ pos t.elongation.turn +ℤ pos 0 *ℤ pos t.sun_anomaly.turn) +ℤ q *ℤ pos t.moon_anomaly.turn) +ℤ pos 0 *ℤ pos t.latitude_argument.turn)
-    (((unsigned_abs p * t.elongation.half + 0 * t.sun_anomaly.half) + unsigned_abs q * t.moon_anomaly.half) + 0 * t.latitude_argument.half)
+two_near : (w : World) (a : LunarAngles) (t : MeanTurns) (p q : ℤ) → AreTwoTurns w a t
+    → AreKnown t
+    → IsNearTurn (((p *ℤ pos t.elongation.turn +ℤ pos 0 *ℤ pos t.sun_anomaly.turn) +ℤ q *ℤ pos t.moon_anomaly.turn)
+    +ℤ pos 0 *ℤ pos t.latitude_argument.turn)
+    (((unsigned_abs p * t.elongation.half + 0 * t.sun_anomaly.half) + unsigned_abs q * t.moon_anomaly.half)
+    + 0 * t.latitude_argument.half)
     (value w (lunar_angle_of a p (pos 0) q (pos 0)))
 unfolding value lunar_angle_of
-two_near w a t p q k =
-    let d = part_near w a.elongation p (pos t.elongation.turn) t.elongation.half k.elongation in
-    let m = none_of w a.sun_anomaly (pos t.sun_anomaly.turn) t.sun_anomaly.half k.sun_anomaly in
-    let n = part_near w a.moon_anomaly q (pos t.moon_anomaly.turn) t.moon_anomaly.half k.moon_anomaly in
-    let f = none_of w a.latitude_argument (pos t.latitude_argument.turn) t.latitude_argument.half k.latitude_argument in
+two_near w a t p q k h =
+    let d = part_near w a.elongation p (pos t.elongation.turn) t.elongation.half (k.elongation h.elongation) in
+    let m = none_of w a.sun_anomaly (pos t.sun_anomaly.turn) t.sun_anomaly.half (k.sun_anomaly h.sun_anomaly) in
+    let n = part_near w a.moon_anomaly q (pos t.moon_anomaly.turn) t.moon_anomaly.half (k.moon_anomaly h.moon_anomaly)
+    in
+    let f = none_of w a.latitude_argument (pos t.latitude_argument.turn) t.latitude_argument.half
+    (k.latitude_argument h.latitude_argument) in
     sum_near _ _ _ _ _ _ (sum_near _ _ _ _ _ _ (sum_near _ _ _ _ _ _ d m) n) f
 
 new_moon_near : (w : World) (e : Expression) (a : NewMoonAngles) (t : MeanTurns) (r : NewMoonTerm)
-    → AreTurns w e a.sun_anomaly a.moon_anomaly a.latitude_argument a.eccentricity t
-    → IsNearTurn (multiples_of t (new_moon_row_of r)) (half_of t (new_moon_row_of r)) (value w (angle_of_new_moon_term a r))
+    → AreTurns w (with_elongation e a) t → AreKnown t
+    → IsNearTurn (multiples_of t (new_moon_row_of r)) (half_of t (new_moon_row_of r))
+    (value w (angle_of_new_moon_term a r))
 unfolding value angle_of_new_moon_term
-new_moon_near w e a t r k =
-    let m = part_near w a.sun_anomaly r.sun_anomaly (pos t.sun_anomaly.turn) t.sun_anomaly.half k.sun_anomaly in
-    let n = part_near w a.moon_anomaly r.moon_anomaly (pos t.moon_anomaly.turn) t.moon_anomaly.half k.moon_anomaly in
-    let f = part_near w a.latitude_argument r.latitude_argument (pos t.latitude_argument.turn) t.latitude_argument.half k.latitude_argument in
+new_moon_near w e a t r k h =
+    let m = part_near w a.sun_anomaly r.sun_anomaly (pos t.sun_anomaly.turn) t.sun_anomaly.half
+    (k.sun_anomaly h.sun_anomaly) in
+    let n = part_near w a.moon_anomaly r.moon_anomaly (pos t.moon_anomaly.turn) t.moon_anomaly.half
+    (k.moon_anomaly h.moon_anomaly) in
+    let f = part_near w a.latitude_argument r.latitude_argument (pos t.latitude_argument.turn) t.latitude_argument.half
+    (k.latitude_argument h.latitude_argument) in
     let s = sum_near _ _ _ _ _ _ (sum_near _ _ _ _ _ _ m n) f in
     rw (
-      three_counted t.elongation.half (unsigned_abs r.sun_anomaly * t.sun_anomaly.half) (unsigned_abs r.moon_anomaly * t.moon_anomaly.half)
+      three_counted t.elongation.half (unsigned_abs r.sun_anomaly * t.sun_anomaly.half)
+          (unsigned_abs r.moon_anomaly * t.moon_anomaly.half)
           (unsigned_abs r.latitude_argument * t.latitude_argument.half),
       without_first (pos t.elongation.turn)
-          (r.sun_anomaly *ℤ pos t.sun_anomaly.turn) (r.moon_anomaly *ℤ pos t.moon_anomaly.turn) (r.latitude_argument *ℤ pos t.latitude_argument.turn),
+          (r.sun_anomaly *ℤ pos t.sun_anomaly.turn) (r.moon_anomaly *ℤ pos t.moon_anomaly.turn)
+          (r.latitude_argument *ℤ pos t.latitude_argument.turn),
     ) at s
 
 -- ---- the terms
 pub longitude_terms : (w : World) (a : LunarAngles) (t : MeanTurns) (rows : List MoonTerm)
-    → AreTurns w a.elongation a.sun_anomaly a.moon_anomaly a.latitude_argument a.eccentricity t → AreTerms w 0 t longitude_row_of (longitude_term_of a) rows no_term
+    → AreTurns w a t → AreTerms w 0 t longitude_row_of (longitude_term_of a) rows no_term
 unfolding longitude_term_of lunar_term_of
 longitude_terms w a t rows k i l =
     let r = longitude_row_of (slice_index_or rows i no_term) in
@@ -246,9 +268,16 @@ longitude_terms w a t rows k i l =
 
 -- a row that takes the elongation and the moon's anomaly alone
 abbrev row_of_two : (p q z d : ℤ) → MoonTerm
-row_of_two p q z d = record { elongation = p; sun_anomaly = pos 0; moon_anomaly = q; latitude_argument = pos 0; longitude = z; distance = d }
+row_of_two p q z d = record {
+  elongation = p;
+  sun_anomaly = pos 0;
+  moon_anomaly = q;
+  latitude_argument = pos 0;
+  longitude = z;
+  distance = d;
+}
 
-greatest_term : (w : World) (a : LunarAngles) (t : MeanTurns) (p q z d : ℤ) → AreTwoTurns w a.elongation a.sun_anomaly a.moon_anomaly a.latitude_argument t
+greatest_term : (w : World) (a : LunarAngles) (t : MeanTurns) (p q z d : ℤ) → AreTwoTurns w a t
     → IsTerm w 0 t (longitude_row_of (row_of_two p q z d)) (longitude_term_of a (row_of_two p q z d))
 unfolding longitude_term_of lunar_term_of
 greatest_term w a t p q z d k = record {
@@ -263,7 +292,7 @@ greatest_term w a t p q z d k = record {
 past_four : (n i : ℕ) → n ≡ 4 → suc (suc (suc (suc i))) < n → ⊥
 past_four n i e l = omega (arith, e, l)
 
-pub greatest_terms : (w : World) (a : LunarAngles) (t : MeanTurns) → AreTwoTurns w a.elongation a.sun_anomaly a.moon_anomaly a.latitude_argument t
+pub greatest_terms : (w : World) (a : LunarAngles) (t : MeanTurns) → AreTwoTurns w a t
     → AreTerms w 0 t longitude_row_of (longitude_term_of a) greatest_rows no_term
 greatest_terms w a t k zero l = greatest_term w a t _ _ _ _ k
 greatest_terms w a t k (suc zero) l = greatest_term w a t _ _ _ _ k
@@ -271,7 +300,7 @@ greatest_terms w a t k (suc (suc zero)) l = greatest_term w a t _ _ _ _ k
 greatest_terms w a t k (suc (suc (suc zero))) l = greatest_term w a t _ _ _ _ k
 greatest_terms w a t k (suc (suc (suc (suc i)))) l = absurd (past_four (length greatest_rows) i refl l)
 
-pub distance_terms : (w : World) (a : LunarAngles) (t : MeanTurns) → AreTurns w a.elongation a.sun_anomaly a.moon_anomaly a.latitude_argument a.eccentricity t
+pub distance_terms : (w : World) (a : LunarAngles) (t : MeanTurns) → AreTurns w a t
     → AreTerms w 0 t distance_row_of (distance_term_of a) MOON_TERMS no_term
 unfolding distance_term_of distance_part_of
 distance_terms w a t k i l =
@@ -285,7 +314,7 @@ distance_terms w a t k i l =
       second = λ e. k.second;
     }
 
-pub latitude_terms : (w : World) (a : LunarAngles) (t : MeanTurns) → AreTurns w a.elongation a.sun_anomaly a.moon_anomaly a.latitude_argument a.eccentricity t
+pub latitude_terms : (w : World) (a : LunarAngles) (t : MeanTurns) → AreTurns w a t
     → AreTerms w 0 t latitude_row_of (latitude_term_of a) LATITUDE_TERMS no_latitude_term
 unfolding latitude_term_of lunar_term_of
 latitude_terms w a t k i l =
@@ -300,9 +329,16 @@ latitude_terms w a t k i l =
     }
 
 pub new_moon_terms : (w : World) (e : Expression) (a : NewMoonAngles) (t : MeanTurns)
-    → AreTurns w e a.sun_anomaly a.moon_anomaly a.latitude_argument a.eccentricity t
+    → AreTurns w (with_elongation e a) t
     → AreTerms w 99999 t new_moon_row_of (new_moon_term_of a) NEW_MOON_TERMS no_new_moon_term
 unfolding new_moon_term_of
 new_moon_terms w e a t k i l =
     let r = slice_index_or NEW_MOON_TERMS i no_new_moon_term in
-    record { factor = a.eccentricity; angle = angle_of_new_moon_term a r; is = refl; near = new_moon_near w e a t r k; first = λ p. k.first; second = λ p. k.second }
+    record {
+      factor = a.eccentricity;
+      angle = angle_of_new_moon_term a r;
+      is = refl;
+      near = new_moon_near w e a t r k;
+      first = λ p. k.first;
+      second = λ p. k.second;
+    }

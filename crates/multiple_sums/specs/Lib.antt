@@ -1,3 +1,5 @@
 pub mod Angles
+pub mod MeanAngles
 pub mod Multiples
 pub mod Tables
+pub mod Widths

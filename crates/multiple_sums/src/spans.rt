@@ -1,5 +1,5 @@
 //! A sum of rows as a span.
-ghost use Rattle.std.specs.Prelude.{◌^◌, pos, neg_ℤ, ◌≤ℤ◌, ◌<ℤ◌, ◌+ℤ◌, ◌*ℤ◌};
+ghost use Rattle.std.specs.Prelude.{◌*◌, ◌^◌, pos, neg_ℤ, ◌≤ℤ◌, ◌<ℤ◌, ◌+ℤ◌, ◌-ℤ◌, ◌*ℤ◌};
 ghost use Rattle.book_model.specs.Interval.{between, ◌⊆◌};
 ghost use Rattle.book_model.specs.programs.Leading.{units_of_56};
 ghost use Rattle.multiple_sums.specs.Multiples.{in_93};
@@ -29,9 +29,12 @@ fn floor_of_parts(number: i128) -> i128
 }
 
 /// The sum of rows whose sizes are whole numbers.
-pub fn span_of(sum: WholeSum) -> Span
+pub(crate) fn span_of(sum: WholeSum) -> Span
     ensures holds { between (in_93 0 sum.lo) (in_93 0 sum.hi)
         ⊆ between (units_of_56 result.lo) (units_of_56 result.hi) }
+    ensures close { ((result.hi -ℤ result.lo) *ℤ pos (2 ^ 37)) ≤ℤ ((sum.hi -ℤ sum.lo) +ℤ pos (2 ^ 38)) }
+    ensures low { sum.lo ≤ℤ (result.lo *ℤ pos (2 ^ 37) +ℤ pos (2 ^ 37)) }
+    ensures high { (result.hi *ℤ pos (2 ^ 37)) ≤ℤ (sum.hi +ℤ pos (2 ^ 37)) }
 {
     Span {
         lo: floor_37(sum.lo),
@@ -40,9 +43,13 @@ pub fn span_of(sum: WholeSum) -> Span
 }
 
 /// The sum of rows whose sizes are hundred-thousandths.
-pub fn span_of_parts(sum: WholeSum) -> Span
+pub(crate) fn span_of_parts(sum: WholeSum) -> Span
     ensures holds { between (in_93 99999 sum.lo) (in_93 99999 sum.hi)
         ⊆ between (units_of_56 result.lo) (units_of_56 result.hi) }
+    ensures close { ((result.hi -ℤ result.lo) *ℤ pos (100000 * 2 ^ 37))
+        ≤ℤ ((sum.hi -ℤ sum.lo) +ℤ pos (2 * 100001 * 2 ^ 37)) }
+    ensures low { sum.lo ≤ℤ (result.lo *ℤ pos (100000 * 2 ^ 37) +ℤ pos (100001 * 2 ^ 37)) }
+    ensures high { (result.hi *ℤ pos (100000 * 2 ^ 37)) ≤ℤ (sum.hi +ℤ pos (100001 * 2 ^ 37)) }
 {
     Span {
         lo: floor_of_parts(floor_37(sum.lo)),

@@ -1,5 +1,5 @@
 //! The rows of the moon's tables as they are summed, and their sums.
-ghost use Rattle.std.specs.Prelude.{◌≤◌, unsigned_abs, pos};
+ghost use Rattle.std.specs.Prelude.{◌≡◌, ◌≤◌, ◌+◌, ◌*◌, ◌/◌, ◌^◌, ℕ, unsigned_abs, pos};
 ghost use Rattle.book_model.specs.Interval.{between, ◌⊆◌};
 ghost use Rattle.book_model.specs.declared.moon_tables.TheConstants.{LATITUDE_TERMS, MOON_TERMS};
 ghost use Rattle.book_model.specs.declared.new_moon_tables.TheConstants.{NEW_MOON_TERMS};
@@ -11,17 +11,22 @@ ghost use Rattle.book_model.specs.sky.Distance.{distance_term_of};
 ghost use Rattle.book_model.specs.sky.Latitude.{latitude_term_of, no_latitude_term};
 ghost use Rattle.book_model.specs.sky.Moon.{LunarAngles, longitude_term_of, no_term};
 ghost use Rattle.book_model.specs.sky.NewMoons.{NewMoonAngles, new_moon_term_of, no_new_moon_term};
+ghost use Rattle.book_model.specs.numbers.Relations.{Within};
+ghost use Rattle.book_model.specs.programs.Widths.{IsAbout};
+ghost use Rattle.multiple_sums.specs.MeanAngles.{HoldAngles, with_elongation};
 ghost use Rattle.multiple_sums.specs.Multiples.{AreTurns, AreTwoTurns};
+ghost use Rattle.multiple_sums.specs.Widths.{AreClose, AreTurnsWithin};
 ghost use Rattle.multiple_sums.specs.Tables.{distance_row_of, greatest_rows, longitude_row_of, latitude_row_of, new_moon_row_of, other_rows};
 
-use crate::mean::MeanTurns;
+use crate::mean::{MeanAngles, MeanTurns};
 use crate::rows::{MultipleRow, Multiples};
 use crate::spans::{span_of, span_of_parts};
 use crate::sums::{RowSums, sum_of_rows};
+use crate::turns::{mean_turns, two_turns};
 use book_model::moon_tables::{LATITUDE_TERMS, MOON_TERMS};
 use book_model::new_moon_tables::NEW_MOON_TERMS;
 use book_model::{LatitudeTerm, MoonTerm, NewMoonTerm};
-use encl_core::Span;
+use encl_core::{Enclosure, Span};
 
 // With the others row by row too a full moon takes 528,000 instructions so, and with two, eight and
 // sixteen 589,000, 576,000 and 705,000.
@@ -165,20 +170,22 @@ impl MultipleRow<NewMoon> for NewMoonTerm {
     }
 }
 
-/// The sum of the terms of the moon's longitude by its angles, in millionths of a degree.
-pub fn longitude_sum(turns: &MeanTurns) -> Span
-    ensures holds { (w : World) (a : LunarAngles) → DEPTH ≤ w.depth → AreTurns w a.elongation
-        a.sun_anomaly a.moon_anomaly a.latitude_argument a.eccentricity turns.now
+/// The sum of the terms of the moon's longitude.
+#[inline(always)]
+fn longitude_sum(turns: &MeanTurns) -> Span
+    ensures holds { (w : World) (a : LunarAngles) → DEPTH ≤ w.depth → AreTurns w a turns.now
         → value w (terms_of (longitude_term_of a) no_term MOON_TERMS)
         ⊆ between (units_of_56 result.lo) (units_of_56 result.hi) }
+    ensures narrow { (v : ℕ) → AreTurnsWithin v turns.now → IsAbout (9300000 * 2 ^ 32) (302000 * v + 2 ^ 49)
+        (between (units_of_56 result.lo) (units_of_56 result.hi)) }
 {
     span_of(sum_of_rows::<Longitude, MoonTerm>(&MOON_TERMS, turns, LONGITUDE_SUMS))
 }
 
 /// The sum of the greatest of them, by the two angles that they take.
-pub fn greatest_sum(turns: &MeanTurns) -> Span
-    ensures holds { (w : World) (a : LunarAngles) → DEPTH ≤ w.depth → AreTwoTurns w a.elongation
-        a.sun_anomaly a.moon_anomaly a.latitude_argument turns.now
+#[inline(always)]
+fn greatest_sum(turns: &MeanTurns) -> Span
+    ensures holds { (w : World) (a : LunarAngles) → DEPTH ≤ w.depth → AreTwoTurns w a turns.now
         → value w (terms_of (longitude_term_of a) no_term greatest_rows)
         ⊆ between (units_of_56 result.lo) (units_of_56 result.hi) }
 {
@@ -186,41 +193,121 @@ pub fn greatest_sum(turns: &MeanTurns) -> Span
 }
 
 /// The sum of the others.
-pub fn other_sum(turns: &MeanTurns) -> Span
-    ensures holds { (w : World) (a : LunarAngles) → DEPTH ≤ w.depth → AreTurns w a.elongation
-        a.sun_anomaly a.moon_anomaly a.latitude_argument a.eccentricity turns.now
+#[inline(always)]
+fn other_sum(turns: &MeanTurns) -> Span
+    ensures holds { (w : World) (a : LunarAngles) → DEPTH ≤ w.depth → AreTurns w a turns.now
         → value w (terms_of (longitude_term_of a) no_term other_rows)
         ⊆ between (units_of_56 result.lo) (units_of_56 result.hi) }
 {
     span_of(sum_of_rows::<Longitude, MoonTerm>(&MOON_TERMS[GREATEST_TERMS..], turns, OTHER_SUMS))
 }
 
-/// The sum of the terms of the moon's distance by its angles, in metres.
-pub fn distance_sum(turns: &MeanTurns) -> Span
-    ensures holds { (w : World) (a : LunarAngles) → DEPTH ≤ w.depth → AreTurns w a.elongation
-        a.sun_anomaly a.moon_anomaly a.latitude_argument a.eccentricity turns.now
+/// The sum of the terms of the moon's distance.
+#[inline(always)]
+fn distance_sum(turns: &MeanTurns) -> Span
+    ensures holds { (w : World) (a : LunarAngles) → DEPTH ≤ w.depth → AreTurns w a turns.now
         → value w (terms_of (distance_term_of a) no_term MOON_TERMS)
         ⊆ between (units_of_56 result.lo) (units_of_56 result.hi) }
+    ensures narrow { (v : ℕ) → AreTurnsWithin v turns.now → IsAbout (29900000 * 2 ^ 32) (962000 * v + 2 ^ 50)
+        (between (units_of_56 result.lo) (units_of_56 result.hi)) }
 {
     span_of(sum_of_rows::<Distance, MoonTerm>(&MOON_TERMS, turns, DISTANCE_SUMS))
 }
 
-/// The sum of the terms of the moon's latitude by its angles, in millionths of a degree.
-pub fn latitude_sum(turns: &MeanTurns) -> Span
-    ensures holds { (w : World) (a : LunarAngles) → DEPTH ≤ w.depth → AreTurns w a.elongation
-        a.sun_anomaly a.moon_anomaly a.latitude_argument a.eccentricity turns.now
+/// The sum of the terms of the moon's latitude.
+#[inline(always)]
+fn latitude_sum(turns: &MeanTurns) -> Span
+    ensures holds { (w : World) (a : LunarAngles) → DEPTH ≤ w.depth → AreTurns w a turns.now
         → value w (terms_of (latitude_term_of a) no_latitude_term LATITUDE_TERMS)
         ⊆ between (units_of_56 result.lo) (units_of_56 result.hi) }
+    ensures narrow { (v : ℕ) → AreTurnsWithin v turns.now → IsAbout (6100000 * 2 ^ 32) (167000 * v + 2 ^ 47)
+        (between (units_of_56 result.lo) (units_of_56 result.hi)) }
 {
     span_of(sum_of_rows::<Latitude, LatitudeTerm>(&LATITUDE_TERMS, turns, LATITUDE_SUMS))
 }
 
-/// The sum of the terms of a new moon by its angles, in days; its rows take no elongation.
-pub fn new_moon_sum(turns: &MeanTurns) -> Span
+/// The sum of the terms of a new moon; its rows take no elongation.
+#[inline(always)]
+fn new_moon_sum(turns: &MeanTurns) -> Span
     ensures holds { (w : World) (d : Expression) (a : NewMoonAngles) → DEPTH ≤ w.depth
-        → AreTurns w d a.sun_anomaly a.moon_anomaly a.latitude_argument a.eccentricity turns.now
+        → AreTurns w (with_elongation d a) turns.now
         → value w (terms_of (new_moon_term_of a) no_new_moon_term NEW_MOON_TERMS)
         ⊆ between (units_of_56 result.lo) (units_of_56 result.hi) }
+    ensures narrow { (v : ℕ) → AreTurnsWithin v turns.now → IsAbout (2 ^ 32) (v / 64 + 2 ^ 27)
+        (between (units_of_56 result.lo) (units_of_56 result.hi)) }
 {
     span_of_parts(sum_of_rows::<NewMoon, NewMoonTerm>(&NEW_MOON_TERMS, turns, NEW_MOON_SUMS))
+}
+
+/// The sum of the terms of the moon's longitude by its angles, in millionths of a degree: never wider than the sum of their sizes, where
+/// the factor is known.
+pub fn longitude_terms<E: Enclosure>(angles: MeanAngles<E>) -> E
+    ensures holds { (w : World) (a : LunarAngles) → DEPTH ≤ w.depth → HoldAngles E.shown w a angles
+        → Within E.shown w (terms_of (longitude_term_of a) no_term MOON_TERMS) result }
+    ensures narrow { (v : ℕ) → E.BITS ≡ 56 → v ≤ 2 ^ 65 → AreClose E.shown v angles
+        → IsAbout (9300000 * 2 ^ 32) (302000 * v + 2 ^ 49 + 2 ^ 9) (E.shown result) }
+{
+    match mean_turns(angles) {
+        Some(turns) => E::from_span(longitude_sum(&turns)),
+        None => E::whole(),
+    }
+}
+
+/// The sum of the greatest of them, the first of the table.
+pub fn greatest_terms<E: Enclosure>(angles: MeanAngles<E>) -> E
+    ensures holds { (w : World) (a : LunarAngles) → DEPTH ≤ w.depth → HoldAngles E.shown w a angles
+        → Within E.shown w (terms_of (longitude_term_of a) no_term greatest_rows) result }
+{
+    E::from_span(greatest_sum(&two_turns(angles)))
+}
+
+/// The sum of the others.
+pub fn other_terms<E: Enclosure>(angles: MeanAngles<E>) -> E
+    ensures holds { (w : World) (a : LunarAngles) → DEPTH ≤ w.depth → HoldAngles E.shown w a angles
+        → Within E.shown w (terms_of (longitude_term_of a) no_term other_rows) result }
+{
+    match mean_turns(angles) {
+        Some(turns) => E::from_span(other_sum(&turns)),
+        None => E::whole(),
+    }
+}
+
+/// The sum of the terms of the moon's distance by its angles, in metres.
+pub fn distance_terms<E: Enclosure>(angles: MeanAngles<E>) -> E
+    ensures holds { (w : World) (a : LunarAngles) → DEPTH ≤ w.depth → HoldAngles E.shown w a angles
+        → Within E.shown w (terms_of (distance_term_of a) no_term MOON_TERMS) result }
+    ensures narrow { (v : ℕ) → E.BITS ≡ 56 → v ≤ 2 ^ 65 → AreClose E.shown v angles
+        → IsAbout (29900000 * 2 ^ 32) (962000 * v + 2 ^ 50 + 2 ^ 9) (E.shown result) }
+{
+    match mean_turns(angles) {
+        Some(turns) => E::from_span(distance_sum(&turns)),
+        None => E::whole(),
+    }
+}
+
+/// The sum of the terms of the moon's latitude by its angles, in millionths of a degree.
+pub fn latitude_terms<E: Enclosure>(angles: MeanAngles<E>) -> E
+    ensures holds { (w : World) (a : LunarAngles) → DEPTH ≤ w.depth → HoldAngles E.shown w a angles
+        → Within E.shown w (terms_of (latitude_term_of a) no_latitude_term LATITUDE_TERMS) result }
+    ensures narrow { (v : ℕ) → E.BITS ≡ 56 → v ≤ 2 ^ 65 → AreClose E.shown v angles
+        → IsAbout (6100000 * 2 ^ 32) (167000 * v + 2 ^ 47 + 2 ^ 9) (E.shown result) }
+{
+    match mean_turns(angles) {
+        Some(turns) => E::from_span(latitude_sum(&turns)),
+        None => E::whole(),
+    }
+}
+
+/// The sum of the terms of a new moon by its angles, in days; its rows take no elongation.
+pub fn new_moon_terms<E: Enclosure>(angles: MeanAngles<E>) -> E
+    ensures holds { (w : World) (d : Expression) (a : NewMoonAngles) → DEPTH ≤ w.depth
+        → HoldAngles E.shown w (with_elongation d a) angles
+        → Within E.shown w (terms_of (new_moon_term_of a) no_new_moon_term NEW_MOON_TERMS) result }
+    ensures narrow { (v : ℕ) → E.BITS ≡ 56 → v ≤ 2 ^ 65 → AreClose E.shown v angles
+        → IsAbout (2 ^ 32) (v / 64 + 2 ^ 27 + 2 ^ 9) (E.shown result) }
+{
+    match mean_turns(angles) {
+        Some(turns) => E::from_span(new_moon_sum(&turns)),
+        None => E::whole(),
+    }
 }

@@ -1,15 +1,20 @@
 //! Mean angles as turns.
-ghost use Rattle.std.specs.Prelude.{◌≡◌, ◌≤◌, ◌+◌, ◌*◌, ◌-◌, ◌^◌, ℕ, pos, neg_ℤ, ◌≤ℤ◌, ◌<ℤ◌, ◌+ℤ◌, ◌-ℤ◌, ◌*ℤ◌, IfSome};
+ghost use Rattle.std.specs.Prelude.{◌≡◌, ◌≤◌, ◌<◌, ◌+◌, ◌*◌, ◌-◌, ◌^◌, ℕ, pos, neg_ℤ, ◌≤ℤ◌, ◌<ℤ◌, ◌+ℤ◌, ◌-ℤ◌, ◌*ℤ◌, IfSome, IsSome, IsSomeAnd, IsTrue, true};
 ghost use Rattle.book_model.specs.Interval.{Interval, between, ◌⊆◌};
 ghost use Rattle.book_model.specs.numbers.Expressions.{Expression, World, value, power};
 ghost use Rattle.book_model.specs.numbers.Relations.{Within};
 ghost use Rattle.book_model.specs.programs.Leading.{units_of_56};
-ghost use Rattle.multiple_sums.specs.Angles.{IsFactor, IsKnown, IsNearTurn, IsTurnAt};
+ghost use Rattle.book_model.specs.programs.Widths.{IsAbout};
+ghost use Rattle.multiple_sums.specs.Angles.{IsFactor, IsKnown, IsNearTurn, IsTurn, IsTurnAt, IsWideTurnAt};
+ghost use Rattle.book_model.specs.sky.Moon.{LunarAngles};
+ghost use Rattle.multiple_sums.specs.MeanAngles.{HoldAngles};
 ghost use Rattle.multiple_sums.specs.Multiples.{AreTurns, AreTwoTurns};
+ghost use Rattle.multiple_sums.specs.Widths.{AreClose, AreTurnsWithin, IsFactorSpan, IsFactorWithin, IsTurnWithin, IsUsualEccentricity, IsUsualFactor};
 
-use crate::mean::{MeanFactor, MeanFactors, MeanTurn, MeanTurns};
-use crate::rows::ONE;
+use crate::mean::{MeanAngles, MeanFactor, MeanFactors, MeanTurn, MeanTurns};
+use crate::rows::{ONE, UNIT};
 use encl_core::{Enclosure, Span};
+use turn_sums::low_64;
 
 /// 2²⁵ degrees, which count 2⁻⁵⁶.
 const FAR: i128 = 1 << 81;
@@ -17,8 +22,8 @@ const FAR: i128 = 1 << 81;
 /// 2¹⁷ turns, which count 2⁻³⁷ degrees.
 const WHOLE_TURNS: i128 = 45 << 57;
 
-/// 2 degrees, which count 2⁻⁵⁶, and two of these less.
-const GREATEST_HALF: i128 = (1 << 57) - 2;
+/// 2 degrees, which count 2⁻⁵⁶, and three of these less.
+const GREATEST_HALF: i128 = (1 << 57) - 3;
 
 /// How many parts of 2⁻⁵⁶ are one of 2⁻³⁷.
 const PARTS: i128 = 1 << 19;
@@ -35,24 +40,33 @@ const TURN_PARTS: u64 = 1 << 24;
 /// A turn, in 45 parts of 2⁻³⁷ degrees.
 const TURN: u64 = 1 << 40;
 
-/// A number over 2²⁰, rounded down.
+/// Half a number, rounded down.
 #[inline(always)]
-fn floor_20(number: i128) -> i128
-    ensures below { (result *ℤ pos (2 ^ 20)) ≤ℤ number }
-    ensures close { number <ℤ (result *ℤ pos (2 ^ 20) +ℤ pos (2 ^ 20)) }
+fn half_of(number: i128) -> i128
+    ensures below { (result *ℤ pos 2) ≤ℤ number }
+    ensures close { number <ℤ (result *ℤ pos 2 +ℤ pos 2) }
 {
-    number >> 20
+    number >> 1
 }
 
-/// The middle of a span of degrees, which counts 2⁻³⁷, rounded down; `None` further than 2²⁵ degrees from 0.
+/// A number over 2¹⁹, rounded down.
 #[inline(always)]
-fn middle_of(span: Span) -> Option<i64>
-    ensures below { IfSome result (λ m. (m *ℤ pos (2 ^ 20)) ≤ℤ (span.lo +ℤ span.hi)) }
-    ensures close { IfSome result (λ m. (span.lo +ℤ span.hi)
-        <ℤ (m *ℤ pos (2 ^ 20) +ℤ pos (2 ^ 20))) }
-    ensures least { IfSome result (λ m. neg_ℤ (pos (2 ^ 62)) ≤ℤ m) }
-    ensures greatest { IfSome result (λ m. m ≤ℤ pos (2 ^ 62)) }
+fn floor_19(number: i128) -> i128
+    ensures below { (result *ℤ pos (2 ^ 19)) ≤ℤ number }
+    ensures close { number <ℤ (result *ℤ pos (2 ^ 19) +ℤ pos (2 ^ 19)) }
+{
+    number >> 19
+}
+
+/// The middle of a span of degrees, rounded down; `None` further than 2²⁵ degrees from 0.
+#[inline(always)]
+fn middle_of(span: Span) -> Option<i128>
+    ensures below { IfSome result (λ m. (m *ℤ pos 2) ≤ℤ (span.lo +ℤ span.hi)) }
+    ensures close { IfSome result (λ m. (span.lo +ℤ span.hi) <ℤ (m *ℤ pos 2 +ℤ pos 2)) }
+    ensures least { IfSome result (λ m. neg_ℤ (pos (2 ^ 81)) ≤ℤ m) }
+    ensures greatest { IfSome result (λ m. m ≤ℤ pos (2 ^ 81)) }
     ensures far { IfSome result (λ m. span.hi ≤ℤ pos (2 ^ 81)) }
+    ensures some { neg_ℤ (pos (2 ^ 81)) ≤ℤ span.lo → span.hi ≤ℤ pos (2 ^ 81) → IsSome result }
 {
     if span.lo < -FAR {
         return None;
@@ -60,7 +74,7 @@ fn middle_of(span: Span) -> Option<i64>
     if span.hi > FAR {
         return None;
     }
-    Some(floor_20(span.lo + span.hi) as i64)
+    Some(half_of(span.lo + span.hi))
 }
 
 /// An angle that counts 2⁻³⁷ degrees and so many whole turns that it isn't negative.
@@ -76,10 +90,10 @@ fn shifted(middle: i64) -> u64
 /// An angle that counts 2⁻³⁷ degrees in 2⁻⁶⁴ turns, rounded down; whole turns are left out. A unit is 2²⁴ / 45 of these, and 2⁴⁰
 /// times 45 units are a turn.
 #[inline(always)]
-fn turn_at(middle: i64) -> u64
+fn wide_turn_at(middle: i64) -> u64
     requires least { neg_ℤ (pos (2 ^ 62)) ≤ℤ middle }
     requires greatest { middle ≤ℤ pos (2 ^ 62) }
-    ensures turn { IsTurnAt result middle }
+    ensures turn { IsWideTurnAt result middle }
 {
     let angle = shifted(middle);
     let whole = angle / 45;
@@ -88,23 +102,44 @@ fn turn_at(middle: i64) -> u64
     part * TURN_PARTS + rest * TURN_PARTS / 45
 }
 
-/// How far the ends of a span are from its middle, which counts 2⁻³⁷, in 2⁻⁶¹ degrees, with the rounding of its turn; `None` for
-/// more than 2 degrees.
+/// What a part of 2⁻³⁷ degrees, which counts 2⁻⁵⁶, adds to a turn, in 2⁻⁶⁴ turns, rounded down.
 #[inline(always)]
-fn half_around(hi: i128, middle: i64) -> Option<u64>
-    requires least { neg_ℤ (pos (2 ^ 62)) ≤ℤ middle }
-    requires greatest { middle ≤ℤ pos (2 ^ 62) }
-    requires far { hi ≤ℤ pos (2 ^ 81) }
-    requires above { (middle *ℤ pos (2 ^ 19)) ≤ℤ hi }
-    ensures value { IfSome result (λ w. pos w
-        ≡ (hi -ℤ middle *ℤ pos (2 ^ 19)) *ℤ pos 32 +ℤ pos 45) }
-    ensures narrow { IfSome result (λ w. w ≤ 2 ^ 62) }
+fn rest_of_turn(rest: u64) -> u64
+    requires few { rest < 2 ^ 19 }
+    ensures below { result * 45 ≤ rest * 32 }
+    ensures close { rest * 32 < result * 45 + 45 }
 {
-    let after = hi - i128::from(middle) * PARTS;
+    rest * 32 / 45
+}
+
+/// An angle that counts 2⁻⁵⁶ degrees in 2⁻⁶⁴ turns, rounded down twice; whole turns are left out.
+#[inline(always)]
+fn turn_at(middle: i128) -> u64
+    requires least { neg_ℤ (pos (2 ^ 81)) ≤ℤ middle }
+    requires greatest { middle ≤ℤ pos (2 ^ 81) }
+    ensures turn { IsTurnAt result middle }
+{
+    let wide = floor_19(middle);
+    let rest = (middle - wide * PARTS) as u64;
+    low_64(i128::from(wide_turn_at(wide as i64)) + i128::from(rest_of_turn(rest)))
+}
+
+/// How far the ends of a span are from its middle, in 2⁻⁶¹ degrees, with the roundings of its turn; `None` for more than 2 degrees.
+#[inline(always)]
+fn half_around(hi: i128, middle: i128) -> Option<u64>
+    requires least { neg_ℤ (pos (2 ^ 81)) ≤ℤ middle }
+    requires greatest { middle ≤ℤ pos (2 ^ 81) }
+    requires far { hi ≤ℤ pos (2 ^ 81) }
+    requires above { middle ≤ℤ hi }
+    ensures value { IfSome result (λ w. pos w ≡ (hi -ℤ middle) *ℤ pos 32 +ℤ pos 90) }
+    ensures narrow { IfSome result (λ w. w ≤ 2 ^ 62) }
+    ensures some { (hi -ℤ middle) ≤ℤ pos (2 ^ 57 - 3) → IsSome result }
+{
+    let after = hi - middle;
     if after > GREATEST_HALF {
         return None;
     }
-    Some((after * 32 + 45) as u64)
+    Some((after * 32 + 90) as u64)
 }
 
 /// A span of degrees as a turn; `None` over more than 2 degrees on a side, or further than 2²⁵ degrees from 0.
@@ -113,24 +148,16 @@ fn turn_of_span(span: Span) -> Option<MeanTurn>
     ensures near { IfSome result (λ t. (i : Interval)
         → i ⊆ between (units_of_56 span.lo) (units_of_56 span.hi)
         → IsNearTurn (pos t.turn) t.half i) }
+    ensures narrow { (v : ℕ) → v ≤ 2 ^ 65 → neg_ℤ (pos (2 ^ 81)) ≤ℤ span.lo → span.hi ≤ℤ pos (2 ^ 81)
+        → ((span.hi -ℤ span.lo) *ℤ pos 256) ≤ℤ pos v → IsSomeAnd result (λ t. IsTurnWithin t v) }
 {
     let middle = middle_of(span)?;
     let half = half_around(span.hi, middle)?;
     Some(MeanTurn {
         turn: turn_at(middle),
         half,
+        known: true,
     })
-}
-
-/// How far the ends of a factor are from its middle, in 2⁻³⁷, rounded up.
-#[inline(always)]
-fn wide_around(hi: u64, middle: u64) -> u64
-    requires above { middle * 2 ^ 19 ≤ hi }
-    requires far { hi ≤ 2 ^ 58 }
-    ensures enough { hi ≤ (middle + result) * 2 ^ 19 }
-    ensures small { result ≤ 2 ^ 40 }
-{
-    (hi + ROUND_UP >> 19) - middle
 }
 
 /// A factor by its ends, which count 2⁻⁵⁶.
@@ -138,15 +165,16 @@ fn wide_around(hi: u64, middle: u64) -> u64
 fn factor_between(lo: u64, hi: u64) -> MeanFactor
     requires ordered { lo ≤ hi }
     requires far { hi ≤ 2 ^ 58 }
-    ensures low { result.middle * 2 ^ 19 ≤ lo + result.wide * 2 ^ 19 }
-    ensures high { hi ≤ (result.middle + result.wide) * 2 ^ 19 }
-    ensures small { result.middle ≤ 2 ^ 40 }
-    ensures narrow { result.wide ≤ 2 ^ 40 }
+    ensures low { result.middle ≤ lo + result.wide }
+    ensures high { hi ≤ result.middle + result.wide }
+    ensures small { result.middle ≤ 2 ^ 58 }
+    ensures narrow { result.wide ≤ 2 ^ 58 }
+    ensures usual { IsFactorSpan (pos lo) (pos hi) → IsUsualFactor result }
 {
-    let middle = lo + hi >> 20;
+    let middle = lo + hi >> 1;
     MeanFactor {
         middle,
-        wide: wide_around(hi, middle),
+        wide: hi - middle,
     }
 }
 
@@ -163,10 +191,11 @@ fn end_of(end: i128) -> u64
 /// A span from 0 to 4 as a factor.
 #[inline(always)]
 fn factor_of_span(span: Span) -> Option<MeanFactor>
-    ensures low { IfSome result (λ f. ((pos f.middle -ℤ pos f.wide) *ℤ pos (2 ^ 19)) ≤ℤ span.lo) }
-    ensures high { IfSome result (λ f. span.hi ≤ℤ ((pos f.middle +ℤ pos f.wide) *ℤ pos (2 ^ 19))) }
-    ensures small { IfSome result (λ f. f.middle ≤ 2 ^ 40) }
-    ensures narrow { IfSome result (λ f. f.wide ≤ 2 ^ 40) }
+    ensures low { IfSome result (λ f. (pos f.middle -ℤ pos f.wide) ≤ℤ span.lo) }
+    ensures high { IfSome result (λ f. span.hi ≤ℤ (pos f.middle +ℤ pos f.wide)) }
+    ensures small { IfSome result (λ f. f.middle ≤ 2 ^ 58) }
+    ensures narrow { IfSome result (λ f. f.wide ≤ 2 ^ 58) }
+    ensures some { IsFactorSpan span.lo span.hi → IsSomeAnd result IsUsualFactor }
 {
     if span.lo < 0 {
         return None;
@@ -182,8 +211,9 @@ fn factor_of_span(span: Span) -> Option<MeanFactor>
 fn factor_of<E: Enclosure>(factor: E) -> Option<MeanFactor>
     ensures near { IfSome result (λ f. (w : World) (x : Expression) → Within E.shown w x factor
         → IsFactor f.middle f.wide (value w x)) }
-    ensures small { IfSome result (λ f. f.middle ≤ 2 ^ 40) }
-    ensures narrow { IfSome result (λ f. f.wide ≤ 2 ^ 40) }
+    ensures small { IfSome result (λ f. f.middle ≤ 2 ^ 58) }
+    ensures narrow { IfSome result (λ f. f.wide ≤ 2 ^ 58) }
+    ensures some { IsFactorWithin (E.shown factor) → IsSomeAnd result IsUsualFactor }
 {
     let span = factor.span()?;
     factor_of_span(span)
@@ -191,12 +221,35 @@ fn factor_of<E: Enclosure>(factor: E) -> Option<MeanFactor>
 
 /// An angle as a turn; `None` where it isn't known, or not closely.
 #[inline(always)]
-fn turn_of<E: Enclosure>(angle: E) -> Option<MeanTurn>
+fn found_turn<E: Enclosure>(angle: E) -> Option<MeanTurn>
     ensures near { IfSome result (λ t. (w : World) (x : Expression) → Within E.shown w x angle
         → IsNearTurn (pos t.turn) t.half (value w x)) }
+    ensures narrow { (v : ℕ) → v ≤ 2 ^ 65 → IsAbout (2 ^ 57) v (E.shown angle)
+        → IsSomeAnd result (λ t. IsTurnWithin t v) }
 {
     let span = angle.span()?;
     turn_of_span(span)
+}
+
+/// The turn of an angle that isn't known well enough.
+const UNKNOWN: MeanTurn = MeanTurn {
+    turn: 0,
+    half: 0,
+    known: false,
+};
+
+/// An angle as a turn: known where it is within 2 degrees, and no further than 2²⁵ degrees from 0.
+#[inline(always)]
+fn turn_of<E: Enclosure>(angle: E) -> MeanTurn
+    ensures near { (w : World) (x : Expression) → Within E.shown w x angle
+        → IsTurn result (value w x) }
+    ensures narrow { (v : ℕ) → v ≤ 2 ^ 65 → IsAbout (2 ^ 57) v (E.shown angle)
+        → IsTurnWithin result v }
+{
+    match found_turn(angle) {
+        Some(turn) => turn,
+        None => UNKNOWN,
+    }
 }
 
 /// 5 / 4, which count 2⁻³⁷.
@@ -212,20 +265,33 @@ fn greater_of(a: u64, b: u64) -> u64
     if a < b { b } else { a }
 }
 
+/// A number that counts 2⁻⁵⁶ in 2⁻³⁷, rounded up.
+#[inline(always)]
+fn ceil_19(number: u64) -> u64
+    requires small { number ≤ 2 ^ 60 }
+    ensures enough { number ≤ result * 2 ^ 19 }
+    ensures close { result * 2 ^ 19 < number + 2 ^ 19 }
+{
+    number + ROUND_UP >> 19
+}
+
 /// A factor and its square together; `None` where one may be negative or more than 5 / 4.
 #[inline(always)]
 fn both_factors(first: MeanFactor, second: MeanFactor) -> Option<MeanFactors>
-    requires first { first.middle ≤ 2 ^ 40 }
-    requires second { second.middle ≤ 2 ^ 40 }
-    requires first_narrow { first.wide ≤ 2 ^ 40 }
-    requires second_narrow { second.wide ≤ 2 ^ 40 }
+    requires first { first.middle ≤ 2 ^ 58 }
+    requires second { second.middle ≤ 2 ^ 58 }
+    requires first_narrow { first.wide ≤ 2 ^ 58 }
+    requires second_narrow { second.wide ≤ 2 ^ 58 }
     ensures first { IfSome result (λ f. f.first ≡ first.middle) }
     ensures second { IfSome result (λ f. f.second ≡ second.middle) }
     ensures first_wide { IfSome result (λ f. first.wide ≤ f.wide) }
     ensures second_wide { IfSome result (λ f. second.wide ≤ f.wide) }
+    ensures some { IsUsualFactor first → IsUsualFactor second
+        → IsSomeAnd result (λ f. f.wide ≤ 2 ^ 18) }
 {
     let wide = greater_of(first.wide, second.wide);
-    let greatest = greater_of(ONE, greater_of(first.middle, second.middle) + wide);
+    let top = greater_of(first.middle, second.middle) + wide;
+    let greatest = greater_of(ONE, ceil_19(top));
     if first.middle < wide {
         return None;
     }
@@ -250,84 +316,79 @@ fn factors_of<E: Enclosure>(factor: E) -> Option<MeanFactors>
         → IsFactor f.first f.wide (value w x)) }
     ensures second { IfSome result (λ f. (w : World) (x : Expression) → Within E.shown w x factor
         → IsFactor f.second f.wide (value w (power x 2))) }
+    ensures some { E.BITS ≡ 56 → IsUsualEccentricity (E.shown factor)
+        → IsSomeAnd result (λ f. f.wide ≤ 2 ^ 18) }
 {
     let first = factor_of(factor)?;
     let second = factor_of(factor.square())?;
     both_factors(first, second)
 }
 
-/// The mean angles and the factor of a moment as turns; `None` where an angle isn't known within 2 degrees or is further than 2²⁵
-/// degrees from 0, or the factor isn't known or may be negative or more than 5 / 4, or its square.
-pub fn mean_turns<E: Enclosure>(
-    elongation: E,
-    sun_anomaly: E,
-    moon_anomaly: E,
-    latitude_argument: E,
-    eccentricity: E,
-) -> Option<MeanTurns>
-    ensures holds { IfSome result (λ t. (w : World) (d m n f e : Expression)
-        → Within E.shown w d elongation → Within E.shown w m sun_anomaly
-        → Within E.shown w n moon_anomaly → Within E.shown w f latitude_argument
-        → Within E.shown w e eccentricity → AreTurns w d m n f e t) }
+/// The mean angles and the factor of a moment as turns; `None` where the factor isn't known, or may be negative or more than 5 / 4, or its
+/// square.
+pub(crate) fn mean_turns<E: Enclosure>(angles: MeanAngles<E>) -> Option<MeanTurns>
+    ensures holds { IfSome result (λ t. (w : World) (a : LunarAngles)
+        → HoldAngles E.shown w a angles → AreTurns w a t) }
+    ensures narrow { (v : ℕ) → E.BITS ≡ 56 → v ≤ 2 ^ 65 → AreClose E.shown v angles
+        → IsSomeAnd result (AreTurnsWithin v) }
 {
-    let elongation_turn = turn_of(elongation)?;
-    let sun_turn = turn_of(sun_anomaly)?;
-    let moon_turn = turn_of(moon_anomaly)?;
-    let latitude_turn = turn_of(latitude_argument)?;
-    let factors = factors_of(eccentricity)?;
+    let factors = factors_of(angles.eccentricity)?;
     Some(MeanTurns {
-        elongation: elongation_turn,
-        sun_anomaly: sun_turn,
-        moon_anomaly: moon_turn,
-        latitude_argument: latitude_turn,
+        elongation: turn_of(angles.elongation),
+        sun_anomaly: turn_of(angles.sun_anomaly),
+        moon_anomaly: turn_of(angles.moon_anomaly),
+        latitude_argument: turn_of(angles.latitude_argument),
         factors,
     })
 }
 
-/// The turn of an angle of which rows take nothing; `None` where nothing is known of it.
+/// Whether anything is known of an angle of which rows take nothing.
 #[inline(always)]
-fn unused_turn<E: Enclosure>(angle: E) -> Option<MeanTurn>
-    ensures known { IfSome result (λ t. (w : World) (x : Expression) → Within E.shown w x angle
-        → IsKnown (value w x)) }
+fn is_known<E: Enclosure>(angle: E) -> bool
+    ensures known { (w : World) (x : Expression) → Within E.shown w x angle → IsTrue result
+        → IsKnown (value w x) }
 {
-    let _known = angle.span()?;
-    Some(MeanTurn { turn: 0, half: 0 })
+    match angle.span() {
+        Some(_) => true,
+        None => false,
+    }
+}
+
+/// The turn of such an angle.
+#[inline(always)]
+fn unused_turn<E: Enclosure>(angle: E) -> MeanTurn
+    ensures known { (w : World) (x : Expression) → Within E.shown w x angle
+        → result.known ≡ true → IsKnown (value w x) }
+{
+    MeanTurn {
+        turn: 0,
+        half: 0,
+        known: is_known(angle),
+    }
 }
 
 /// The factor of rows that have no power of it.
 #[inline(always)]
 fn unused_factors() -> MeanFactors {
     MeanFactors {
-        first: ONE,
-        second: ONE,
+        first: UNIT,
+        second: UNIT,
         wide: 0,
         greatest: ONE,
     }
 }
 
-/// The two mean angles by which rows turn that take neither the sun's anomaly nor the argument of latitude, nor a power of the factor;
-/// `None` where one of these two isn't known within 2 degrees or is further than 2²⁵ degrees from 0, or nothing is known of one of the
-/// others: a multiple of what may be any may be any, be it none.
-pub fn two_turns<E: Enclosure>(
-    elongation: E,
-    sun_anomaly: E,
-    moon_anomaly: E,
-    latitude_argument: E,
-) -> Option<MeanTurns>
-    ensures holds { IfSome result (λ t. (w : World) (d m n f : Expression)
-        → Within E.shown w d elongation → Within E.shown w m sun_anomaly
-        → Within E.shown w n moon_anomaly → Within E.shown w f latitude_argument
-        → AreTwoTurns w d m n f t) }
+/// The two mean angles by which rows turn that take neither the sun's anomaly nor the argument of latitude, nor a power of the factor.
+/// Something must be known of the others too: a multiple of what may be any may be any, be it none.
+pub(crate) fn two_turns<E: Enclosure>(angles: MeanAngles<E>) -> MeanTurns
+    ensures holds { (w : World) (a : LunarAngles) → HoldAngles E.shown w a angles
+        → AreTwoTurns w a result }
 {
-    let elongation_turn = turn_of(elongation)?;
-    let sun_turn = unused_turn(sun_anomaly)?;
-    let moon_turn = turn_of(moon_anomaly)?;
-    let latitude_turn = unused_turn(latitude_argument)?;
-    Some(MeanTurns {
-        elongation: elongation_turn,
-        sun_anomaly: sun_turn,
-        moon_anomaly: moon_turn,
-        latitude_argument: latitude_turn,
+    MeanTurns {
+        elongation: turn_of(angles.elongation),
+        sun_anomaly: unused_turn(angles.sun_anomaly),
+        moon_anomaly: turn_of(angles.moon_anomaly),
+        latitude_argument: unused_turn(angles.latitude_argument),
         factors: unused_factors(),
-    })
+    }
 }

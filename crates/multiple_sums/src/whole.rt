@@ -3,7 +3,7 @@ ghost use Rattle.std.specs.Prelude.{◌^◌, pos, neg_ℤ, ◌≤ℤ◌};
 
 /// Between what a sum of rows lies, in 2⁻⁹³ of their sizes.
 #[derive(Clone, Copy)]
-pub struct WholeSum {
+pub(crate) struct WholeSum {
     pub lo: i128,
     pub hi: i128,
     ghost ordered: { lo ≤ℤ hi },

@@ -1,5 +1,5 @@
-pub mod PowerLemmas
 pub mod KeptMoons
 pub mod Measured
 pub mod MonthPolynomials
 pub mod PlanetWaves
+pub mod PlanetWidths

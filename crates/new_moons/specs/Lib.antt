@@ -1,4 +1,3 @@
 pub mod Angles
 pub mod Months
-pub mod Moons
 pub mod Widths

@@ -1,7 +1,7 @@
 -- The polynomials of a new moon with their first two terms as one fraction, and what holds the powers of a time.
 use Rattle.book_model.specs.Fraction.{Fraction, power}
 use Rattle.book_model.specs.Interval.{Interval}
-use Rattle.book_model.specs.numbers.Expressions.{Expression, World, constant, add, scale}
+use Rattle.book_model.specs.numbers.Expressions.{Expression, World, constant, add, multiply, scale}
 use Rattle.book_model.specs.numbers.Relations.{Within}
 use Rattle.new_moons.specs.declared.months.Powers.{Powers}
 
@@ -10,7 +10,14 @@ pub record HoldPowers {E : Type 0} (shown : E → Interval) (w : World) (c : Fra
   pub centuries : Within shown w (constant c) p.centuries
   pub square : Within shown w (constant (power c 2)) p.square
   pub cube : Within shown w (constant (power c 3)) p.cube
-  pub fourth : Within shown w (constant (power c 4)) p.fourth
+
+-- f + q s + k u, where s is a square and u a cube
+abbrev pub cubic_sum : (q k : Fraction) (f s u : Expression) → Expression
+cubic_sum q k f s u = add (add f (scale q s)) (scale k u)
+
+-- f + q s + k u + (h u) c
+abbrev pub quartic_sum : (q k h : Fraction) (f s u c : Expression) → Expression
+quartic_sum q k h f s u c = add (cubic_sum q k f s u) (multiply (scale h u) c)
 
 -- f + q c^2 + k c^3
 abbrev pub cubic_by : (f q k c : Fraction) → Expression

@@ -2,16 +2,12 @@
 //! formula makes the test of its definition, and its answer holds what the definition gives, at every depth from `DEPTH`
 //! on.
 //!
-//! - `new_moon`: the moment of a new moon, in universal time;
-//! - `times_power`: what the terms of the moon's formulas are made with, also in the crate above.
+//! - `new_moon`: the moment of a new moon, in universal time.
 #![tactic(auto)]
 
 mod angles;
 mod months;
 mod moons;
 mod planets;
-mod powers;
-mod terms;
 
 pub use moons::new_moon;
-pub use powers::times_power;

@@ -1,17 +1,19 @@
-//! The polynomials of a new moon by its number, over the coarse kind. What a polynomial gains a month is a whole number of parts, so that
-//! its first two terms are one fraction, which is rounded once; the others are small, and take powers of the centuries, which all
-//! polynomials share. Horner's rule, by which the fine kind goes, multiplies at each step what was rounded before.
-ghost use Rattle.std.specs.Prelude.{◌≡◌, ◌≤◌, ◌<◌, ◌-◌, ◌+ℤ◌, ◌*ℤ◌};
-ghost use Rattle.book_model.specs.declared.new_moon_tables.TheConstants.{MEAN_NEW_MOON as MEAN, NEW_MOON_ANOMALY as MOON, NEW_MOON_LATITUDE_ARGUMENT as LATITUDE, NEW_MOON_NODE as NODE, NEW_MOON_SUN_ANOMALY as SUN};
+//! The polynomials of a new moon by its number. What a polynomial gains a month is a whole number of parts, so that its first two terms
+//! are one fraction, which is rounded once; the others are small, and take powers of the centuries, which all polynomials share.
+//! Horner's rule would multiply at each step what was rounded before.
+ghost use Rattle.std.specs.Prelude.{◌≡◌, ◌≤◌, ◌<◌, ◌-◌, ◌*◌, ◌^◌, ◌+ℤ◌, ◌*ℤ◌};
+ghost use Rattle.book_model.specs.declared.new_moon_tables.TheConstants.{MEAN_NEW_MOON as MEAN, NEW_MOON_ANOMALY as MOON, NEW_MOON_LATITUDE_ARGUMENT as LATITUDE, NEW_MOON_NODE as NODE, NEW_MOON_SUN_ANOMALY as SUN, RECENT_DAYS};
 ghost use Rattle.book_model.specs.numbers.Depth.{DEPTH};
-ghost use Rattle.book_model.specs.numbers.Expressions.{World};
-ghost use Rattle.book_model.specs.Fraction.{Fraction};
+ghost use Rattle.book_model.specs.numbers.Bounds.{Reach, limits_of};
+ghost use Rattle.book_model.specs.numbers.Expressions.{Expression, World};
 ghost use Rattle.book_model.specs.numbers.Fractions.{fraction_of};
 ghost use Rattle.book_model.specs.numbers.Polynomials.{polynomial_at};
-ghost use Rattle.book_model.specs.numbers.Relations.{Within};
+ghost use Rattle.book_model.specs.numbers.Relations.{Narrow, Within};
+ghost use Rattle.book_model.specs.programs.Widths.{IsAbout};
 ghost use Rattle.book_model.specs.sky.NewMoons.{centuries_of_months, new_moon_angles_of};
 ghost use Rattle.new_moons.specs.Angles.{HoldAngles};
-ghost use Rattle.new_moons.specs.Months.{HoldPowers, cubic_by, quartic_by};
+ghost use Rattle.new_moons.specs.Months.{HoldPowers, cubic_sum, quartic_sum};
+ghost use Rattle.new_moons.specs.Widths.{AreNearAngles, ArePowers, IsNearMonth, IsNearTime, IsRecentMonth};
 
 use crate::angles::Angles;
 use book_model::Frac;
@@ -74,23 +76,21 @@ pub(crate) struct Powers<E> {
     pub(crate) centuries: E,
     pub(crate) square: E,
     pub(crate) cube: E,
-    pub(crate) fourth: E,
 }
 
 /// The powers of a time in centuries.
 #[inline(always)]
 pub(crate) fn powers_at<E: Enclosure>(time: Frac) -> Powers<E>
     ensures holds { (w : World) → DEPTH ≤ w.depth → HoldPowers E.shown w (fraction_of time) result }
+    ensures measured { E.BITS ≡ 56 → IsNearTime (fraction_of time) → ArePowers E.shown result }
 {
     let centuries = E::from_frac(time);
     let square = centuries.square();
     let cube = square.mul(centuries);
-    let fourth = square.square();
     Powers {
         centuries,
         square,
         cube,
-        fourth,
     }
 }
 
@@ -112,31 +112,43 @@ fn first_terms(by: Monthly, number: i64) -> Frac
     Frac::new(parts_at(by.start, by.month, number), by.parts).unwrap()
 }
 
-/// A cubic polynomial whose first two terms are one fraction.
+/// A cubic polynomial by its first two terms.
 #[inline(always)]
-fn cubic_at<E: Enclosure>(first: Frac, square: Frac, cube: Frac, powers: Powers<E>) -> E
-    ensures holds { (w : World) (c : Fraction) → DEPTH ≤ w.depth → HoldPowers E.shown w c powers
-        → Within E.shown w (cubic_by (fraction_of first) (fraction_of square) (fraction_of cube) c) result }
+fn cubic_at<E: Enclosure>(first: E, square: Frac, cube: Frac, powers: Powers<E>) -> E
+    ensures holds { (w : World) (f s k : Expression) → Within E.shown w f first
+        → Within E.shown w s powers.square → Within E.shown w k powers.cube
+        → Within E.shown w (cubic_sum (fraction_of square) (fraction_of cube) f s k) result }
+    ensures narrow { (r : Reach) (f s k : Expression) → Narrow E.shown (limits_of E.BITS) r f first
+        → Narrow E.shown (limits_of E.BITS) r s powers.square
+        → Narrow E.shown (limits_of E.BITS) r k powers.cube
+        → Narrow E.shown (limits_of E.BITS) r (cubic_sum (fraction_of square) (fraction_of cube) f s k) result }
 {
-    E::from_frac(first)
+    first
         .add(powers.square.mul_frac(square))
         .add(powers.cube.mul_frac(cube))
 }
 
-/// A quartic polynomial whose first two terms are one fraction.
+// The fourth power is the scaled cube times the time: the power itself is too large for the fine kind.
+/// A quartic polynomial by its first two terms.
 #[inline(always)]
 fn quartic_at<E: Enclosure>(
-    first: Frac,
+    first: E,
     square: Frac,
     cube: Frac,
     fourth: Frac,
     powers: Powers<E>,
 ) -> E
-    ensures holds { (w : World) (c : Fraction) → DEPTH ≤ w.depth → HoldPowers E.shown w c powers
-        → Within E.shown w (quartic_by (fraction_of first) (fraction_of square) (fraction_of cube)
-        (fraction_of fourth) c) result }
+    ensures holds { (w : World) (f s k c : Expression) → Within E.shown w f first
+        → Within E.shown w s powers.square → Within E.shown w k powers.cube
+        → Within E.shown w c powers.centuries
+        → Within E.shown w (quartic_sum (fraction_of square) (fraction_of cube) (fraction_of fourth) f s k c) result }
+    ensures narrow { (r : Reach) (f s k c : Expression) → Narrow E.shown (limits_of E.BITS) r f first
+        → Narrow E.shown (limits_of E.BITS) r s powers.square
+        → Narrow E.shown (limits_of E.BITS) r k powers.cube
+        → Narrow E.shown (limits_of E.BITS) r c powers.centuries
+        → Narrow E.shown (limits_of E.BITS) r (quartic_sum (fraction_of square) (fraction_of cube) (fraction_of fourth) f s k c) result }
 {
-    cubic_at(first, square, cube, powers).add(powers.fourth.mul_frac(fourth))
+    cubic_at(first, square, cube, powers).add(powers.cube.mul_frac(fourth).mul(powers.centuries))
 }
 
 /// The mean new moon, in days from noon of 1 January 2000.
@@ -145,9 +157,13 @@ pub(crate) fn mean_by_months<E: Enclosure>(number: i64, powers: Powers<E>) -> E
     ensures holds { (w : World) → DEPTH ≤ w.depth
         → HoldPowers E.shown w (centuries_of_months number) powers
         → Within E.shown w (polynomial_at MEAN (centuries_of_months number)) result }
+    ensures measured { E.BITS ≡ 56 → IsNearMonth number → ArePowers E.shown powers
+        → IsAbout (2 ^ 53) (2 ^ 15) (E.shown result) }
+    ensures recent { E.BITS ≡ 56 → IsRecentMonth number → ArePowers E.shown powers
+        → IsAbout (RECENT_DAYS * 2 ^ 32) (2 ^ 15) (E.shown result) }
 {
     quartic_at(
-        first_terms(MEAN_BY_MONTHS, number),
+        E::from_frac(first_terms(MEAN_BY_MONTHS, number)),
         MEAN_NEW_MOON[2],
         MEAN_NEW_MOON[3],
         MEAN_NEW_MOON[4],
@@ -161,9 +177,11 @@ pub(crate) fn node_by_months<E: Enclosure>(number: i64, powers: Powers<E>) -> E
     ensures holds { (w : World) → DEPTH ≤ w.depth
         → HoldPowers E.shown w (centuries_of_months number) powers
         → Within E.shown w (polynomial_at NODE (centuries_of_months number)) result }
+    ensures measured { E.BITS ≡ 56 → IsNearMonth number → ArePowers E.shown powers
+        → IsAbout (2 ^ 57) (2 ^ 15) (E.shown result) }
 {
     cubic_at(
-        first_terms(NODE_BY_MONTHS, number),
+        E::from_frac(first_terms(NODE_BY_MONTHS, number)),
         NEW_MOON_NODE[2],
         NEW_MOON_NODE[3],
         powers,
@@ -176,9 +194,11 @@ fn sun_anomaly_by_months<E: Enclosure>(number: i64, powers: Powers<E>) -> E
     ensures holds { (w : World) → DEPTH ≤ w.depth
         → HoldPowers E.shown w (centuries_of_months number) powers
         → Within E.shown w (polynomial_at SUN (centuries_of_months number)) result }
+    ensures measured { E.BITS ≡ 56 → IsNearMonth number → ArePowers E.shown powers
+        → IsAbout (2 ^ 57) (2 ^ 15) (E.shown result) }
 {
     cubic_at(
-        first_terms(SUN_BY_MONTHS, number),
+        E::from_frac(first_terms(SUN_BY_MONTHS, number)),
         NEW_MOON_SUN_ANOMALY[2],
         NEW_MOON_SUN_ANOMALY[3],
         powers,
@@ -191,9 +211,11 @@ fn moon_anomaly_by_months<E: Enclosure>(number: i64, powers: Powers<E>) -> E
     ensures holds { (w : World) → DEPTH ≤ w.depth
         → HoldPowers E.shown w (centuries_of_months number) powers
         → Within E.shown w (polynomial_at MOON (centuries_of_months number)) result }
+    ensures measured { E.BITS ≡ 56 → IsNearMonth number → ArePowers E.shown powers
+        → IsAbout (2 ^ 57) (2 ^ 15) (E.shown result) }
 {
     quartic_at(
-        first_terms(MOON_BY_MONTHS, number),
+        E::from_frac(first_terms(MOON_BY_MONTHS, number)),
         NEW_MOON_ANOMALY[2],
         NEW_MOON_ANOMALY[3],
         NEW_MOON_ANOMALY[4],
@@ -207,9 +229,11 @@ fn latitude_by_months<E: Enclosure>(number: i64, powers: Powers<E>) -> E
     ensures holds { (w : World) → DEPTH ≤ w.depth
         → HoldPowers E.shown w (centuries_of_months number) powers
         → Within E.shown w (polynomial_at LATITUDE (centuries_of_months number)) result }
+    ensures measured { E.BITS ≡ 56 → IsNearMonth number → ArePowers E.shown powers
+        → IsAbout (2 ^ 57) (2 ^ 15) (E.shown result) }
 {
     quartic_at(
-        first_terms(LATITUDE_BY_MONTHS, number),
+        E::from_frac(first_terms(LATITUDE_BY_MONTHS, number)),
         NEW_MOON_LATITUDE_ARGUMENT[2],
         NEW_MOON_LATITUDE_ARGUMENT[3],
         NEW_MOON_LATITUDE_ARGUMENT[4],
@@ -223,6 +247,8 @@ pub(crate) fn angles_by_months<E: Enclosure>(number: i64, powers: Powers<E>) -> 
     ensures holds { (w : World) → DEPTH ≤ w.depth
         → HoldPowers E.shown w (centuries_of_months number) powers
         → HoldAngles E.shown w (new_moon_angles_of (centuries_of_months number)) result }
+    ensures measured { E.BITS ≡ 56 → IsNearMonth number → ArePowers E.shown powers
+        → AreNearAngles E.shown result }
 {
     Angles {
         sun_anomaly: sun_anomaly_by_months(number, powers),

@@ -1,46 +1,54 @@
-//! What the planets add to a new moon, in whole numbers.
-ghost use Rattle.std.specs.Prelude.{pos, negsuc, ◌≤ℤ◌, IfSome};
+//! What the planets add to a new moon.
+ghost use Rattle.std.specs.Prelude.{◌≡◌, ◌^◌, pos, negsuc, ◌≤ℤ◌};
+ghost use Rattle.book_model.specs.numbers.Fractions.{fraction_of};
 ghost use Rattle.book_model.specs.programs.Calls.{Holds};
+ghost use Rattle.book_model.specs.programs.Widths.{IsAbout};
 ghost use Rattle.book_model.specs.sky.NewMoons as spec;
+ghost use Rattle.new_moons.specs.Widths.{IsNearMonth};
 
-use crate::terms::millionths;
+use book_model::Frac;
 use encl_core::Enclosure;
-use turn_sums::{TurningWave, sum_over};
+use turn_sums::{TurningWave, sum_of_waves};
 
-/// The terms of the planets as they are summed: those of `PLANET_TERMS`, in the same order, by turns and half a month. In a whole month
-/// some turn by more than an eighth of a turn, for which a rate has no room.
+/// The terms of the planets as they are summed: those of `PLANET_TERMS`, in the same order, by turns and months, which stand for days.
 #[rattlefmt::skip]
 pub const PLANET_TURNS: [TurningWave; 13] = [
-    TurningWave { size: 165, phase: 12_906_571_936_905_449_613, rate: 1_672_607_277_927_853 },
-    TurningWave { size: 164, phase: 12_904_009_889_117_434_398, rate: 2_731_336_222_909_347_593 },
-    TurningWave { size: 126, phase: 17_904_614_761_765_532_015, rate: 3_731_620_348_642_107_925 },
-    TurningWave { size: 110, phase: 4_338_059_314_667_362_888, rate: 1_865_810_174_321_053_962 },
-    TurningWave { size: 62, phase: 7_262_893_069_465_532_905, rate: 5_462_672_343_336_783_665 },
-    TurningWave { size: 60, phase: 10_614_051_576_189_434_782, rate: 251_463_145_719_286_030 },
-    TurningWave { size: 56, phase: 7_934_149_589_925_519_367, rate: 748_820_980_013_474_301 },
-    TurningWave { size: 47, phase: 1_768_837_792_845_704_782, rate: 2_793_783_883_140_165_017 },
-    TurningWave { size: 42, phase: 10_616_613_623_977_449_998, rate: 12_484_756_389_086_624 },
-    TurningWave { size: 40, phase: 14_928_540_051_207_057_688, rate: 189_015_485_488_468_606 },
-    TurningWave { size: 37, phase: 8_286_687_365_556_413_020, rate: 2_479_873_077_190_061_562 },
-    TurningWave { size: 35, phase: 12_275_283_361_938_500_514, rate: 2_614_631_154_334_528_264 },
-    TurningWave { size: 23, phase: 16_988_938_882_328_893_995, rate: 368_168_111_812_193_838 },
+    TurningWave { size: 165, phase: 12_906_571_936_905_449_613, rate: 54_807_995_283_139_896_556 },
+    TurningWave { size: 164, phase: 12_904_009_889_117_434_398, rate: 89_500_425_352_293_501_934_841 },
+    TurningWave { size: 126, phase: 17_904_614_761_765_532_015, rate: 122_277_735_584_304_592_505_963 },
+    TurningWave { size: 110, phase: 4_338_059_314_667_362_888, rate: 61_138_867_792_152_296_252_981 },
+    TurningWave { size: 62, phase: 7_262_893_069_465_532_905, rate: 179_000_847_346_459_727_162_380 },
+    TurningWave { size: 60, phase: 10_614_051_576_189_434_782, rate: 8_239_944_358_929_564_650_305 },
+    TurningWave { size: 56, phase: 7_934_149_589_925_519_367, rate: 24_537_365_873_081_525_920_815 },
+    TurningWave { size: 47, phase: 1_768_837_792_845_704_782, rate: 91_546_710_282_736_927_300_105 },
+    TurningWave { size: 42, phase: 10_616_613_623_977_449_998, rate: 409_100_497_357_590_512_720 },
+    TurningWave { size: 40, phase: 14_928_540_051_207_057_688, rate: 6_193_659_428_486_139_285_042 },
+    TurningWave { size: 37, phase: 8_286_687_365_556_413_020, rate: 81_260_480_993_363_937_284_535 },
+    TurningWave { size: 35, phase: 12_275_283_361_938_500_514, rate: 85_676_233_665_233_822_173_797 },
+    TurningWave { size: 23, phase: 16_988_938_882_328_893_995, rate: 12_064_132_687_861_967_704_047 },
 ];
 
-/// A 57th of the sum of their sizes times their rates half a month in degrees, in 2⁻³², rounded up: how far the sum moves in that at most.
-const PLANET_SLOPE: u64 = 680_284_795_927;
+/// A 57th of the sum of their sizes times their rates a month in degrees, in 2⁻³², rounded up: how far the sum moves in that at most.
+const PLANET_SLOPE: u64 = 1_360_569_591_854;
 
 /// The sum of their sizes, which count millionths of a day.
 const PLANET_SIZES: u64 = 967;
 
-/// What the planets add by the number of the new moon, counted from that of January 2000, in days: the sum over twice that number of
-/// halves, a span without a width; `None` further than 2¹⁹ months from that new moon.
+/// A millionth.
 #[inline(always)]
-pub(crate) fn planets_in_whole_numbers<E: Enclosure>(number: i64) -> Option<E>
+fn millionth() -> Frac
+    ensures value { fraction_of result ≡ spec.millionths (pos 1) }
+{
+    Frac::new(1, 1_000_000).unwrap()
+}
+
+/// What the planets add by the number of the new moon, counted from that of January 2000, in days.
+pub(crate) fn planet_terms<E: Enclosure>(number: i64) -> E
     requires low { negsuc 40049999 ≤ℤ number }
     requires high { number ≤ℤ pos 40050000 }
-    ensures holds { IfSome result (λ e. Holds E.shown (spec.planet_terms_of number) e) }
+    ensures holds { Holds E.shown (spec.planet_terms_of number) result }
+    ensures measured { E.BITS ≡ 56 → IsNearMonth number → IsAbout (2 ^ 40) (2 ^ 18) (E.shown result) }
 {
-    let span = E::from_int(2 * number).span()?;
-    let sum = sum_over(&PLANET_TURNS, PLANET_SLOPE, PLANET_SIZES, span)?;
-    Some(E::from_span(sum).mul_frac(millionths(1)))
+    let months = E::from_int(number);
+    sum_of_waves(&PLANET_TURNS, PLANET_SLOPE, PLANET_SIZES, months).mul_frac(millionth())
 }

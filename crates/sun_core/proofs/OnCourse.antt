@@ -8,7 +8,7 @@ use Rattle.book_model.specs.numbers.Depth.{DEPTH}
 use Rattle.book_model.specs.numbers.Expressions.{Expression, World, add, value}
 use Rattle.book_model.specs.numbers.Polynomials.{wave_of, waves_of, no_wave}
 use Rattle.book_model.specs.numbers.Relations.{Within, Lies}
-use Rattle.book_model.specs.programs.Calls.{Decides, Decides1, Follows1}
+use Rattle.book_model.specs.programs.Calls.{Decides1, Follows1}
 use Rattle.book_model.specs.programs.Programs.{Program}
 use Rattle.encl_core.proofs.Parted.{parted}
 use Rattle.sun_core.specs.Courses.{greatest_waves_of, other_waves_of}
@@ -24,11 +24,6 @@ stretched k h = record { deep = h.deep; inside = within_trans h.inside k }
 pub anywhere : {E : Type 0} {shown : E → Interval} {w : World} {x : Expression} {e : E} → shown e ≡ everything → DEPTH ≤ w.depth → Within shown w x e
 unfolding Lies
 anywhere {w = w} {x = x} k d = record { deep = d; inside = rw k (within_everything (value w x)) }
-
--- where a call answers, what it says it says of its answer
-pub answer_decided : {A : Type 0} (p : Program A) (m n : ℕ) (r : Result A Fail) → Decides p m n r → IfOk r (λ t. Decides p m n (Ok t))
-answer_decided p m n (Ok t) h = h
-answer_decided p m n (Err z) h = tt
 
 pub answer_decided_at : {A E : Type 0} (shown : E → Interval) (p : Expression → Program A) (a : E) (m n : ℕ) (r : Result A Fail) → Decides1 shown p a m n r
     → IfOk r (λ t. Decides1 shown p a m n (Ok t))

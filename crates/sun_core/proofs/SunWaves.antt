@@ -1,5 +1,6 @@
--- The table of the sun's waves as they are summed, and the definition's sum.
-use Rattle.std.specs.Prelude.{Option, Some, None, IfSome}
+-- The table of the sun's waves as they are summed, and the definition's sum: that the tables match, and what the sizes
+-- and rates come to, is computed; a wave by days lies in the wave by centuries of the definition, since a rate a
+-- century times a day in centuries is the rate a day.
 use Rattle.std.proofs.Common.{◌≡◌, ℕ, zero, suc, ◌≤◌, refl, arith, List, length, slice_index_or, slice_range}
 use Rattle.std.proofs.lemmas.Int.{ints}
 use Rattle.book_model.specs.Fraction.{whole}
@@ -14,14 +15,12 @@ use Rattle.book_model.specs.numbers.Fractions.{fraction_of, ten_millionths, dail
 use Rattle.book_model.specs.numbers.Polynomials.{no_wave, wave_of, waves_of}
 use Rattle.book_model.specs.numbers.Relations.{Within, Lies}
 use Rattle.book_model.specs.numbers.Terms.{terms_to, terms_of}
-use Rattle.book_model.specs.programs.Calls.{Holds1}
 use Rattle.book_model.proofs.DegreeSines.{degree_sines}
 use Rattle.book_model.proofs.Values.{value_proper}
 use Rattle.sun_core.specs.declared.courses.TheConstants.{GREATEST_WAVES}
 use Rattle.sun_core.specs.Daily.{in_centuries}
 use Rattle.sun_core.proofs.Scalings.{both_hold_in_sum, daily_ten_millionths_are}
 use Rattle.turn_sums.specs.Turning.{AreTurning, HasReach, turning_wave_of, reach_to, sizes_to}
-use Rattle.turn_sums.specs.declared.rows.TurningWave.{TurningWave}
 use Rattle.turn_sums.proofs.TableMatches.{tables_match}
 use Rattle.sun_core.specs.declared.turns.TheConstants.{SUN_TURNS, SUN_SLOPE, SUN_SIZES, GREATEST_SLOPE, GREATEST_SIZES, OTHER_SLOPE, OTHER_SIZES}
 
@@ -56,7 +55,11 @@ unfolding sizes_to
 greatest_sizes_are = refl
 
 pub greatest_reach : HasReach greatest GREATEST_SLOPE GREATEST_SIZES
-greatest_reach = record { reach = rw greatest_reach_is (omega (arith, ints)); total = rw greatest_sizes_are (omega (arith, ints)) }
+greatest_reach = record {
+  reach = rw greatest_reach_is (omega (arith, ints));
+  total =
+      rw greatest_sizes_are (omega (arith, ints));
+}
 
 -- ---- and the others
 abbrev others : List Wave
@@ -74,19 +77,26 @@ unfolding sizes_to
 other_sizes_are = refl
 
 pub other_reach : HasReach others OTHER_SLOPE OTHER_SIZES
-other_reach = record { reach = rw other_reach_is (omega (arith, ints)); total = rw other_sizes_are (omega (arith, ints)) }
+other_reach = record {
+  reach = rw other_reach_is (omega (arith, ints));
+  total =
+      rw other_sizes_are (omega (arith, ints));
+}
 
 -- ---- the definition's waves, in centuries
-wave_within : (w : World) (x : Expression) (v : Wave) → 40 ≤ w.depth → value w (wave_of (in_centuries x) v) ⊆ value w (turning_wave_of x v)
+wave_within : (w : World) (x : Expression) (v : Wave) → 40 ≤ w.depth → value w (wave_of (in_centuries x) v)
+    ⊆ value w (turning_wave_of x v)
 unfolding value wave_of turning_wave_of in_centuries Lies
 wave_within w x v d =
     let c = constant (ten_millionths v.phase) in
     let a = add c (scale (ten_millionths v.rate) (scale (fraction_of DAY_IN_CENTURIES) x)) in
     let b = add c (scale (daily_ten_millionths v.rate) x) in
     let h : Within (λ (i : Interval). i) w a (value w b) =
-    both_hold_in_sum (λ (i : Interval). i) w c x (fraction_of DAY_IN_CENTURIES) (ten_millionths v.rate) (daily_ten_millionths v.rate) (value w b)
+    both_hold_in_sum (λ (i : Interval). i) w c x (fraction_of DAY_IN_CENTURIES) (ten_millionths v.rate)
+    (daily_ten_millionths v.rate) (value w b)
     (daily_ten_millionths_are v.rate) (record { deep = d; inside = within_refl (value w b) }) in
-    product_within (value_proper w (sine a)) (le_refl (whole v.size)) (degree_sines.within w.depth (value_proper w a) h.inside)
+    product_within (value_proper w (sine a)) (le_refl (whole v.size))
+    (degree_sines.within w.depth (value_proper w a) h.inside)
     (within_refl (exactly (whole v.size)))
 
 pub terms_within : (w : World) (x : Expression) (vs : List Wave) (n : ℕ) → 40 ≤ w.depth
@@ -95,21 +105,11 @@ unfolding value terms_to
 terms_within w x vs zero d = within_refl _
 terms_within w x vs (suc n) d = sum_within (terms_within w x vs n d) (wave_within w x (slice_index_or vs n no_wave) d)
 
-pub waves_inside : (w : World) (x : Expression) (vs : List Wave) (i : Interval) → 40 ≤ w.depth → value w (terms_of (turning_wave_of x) no_wave vs) ⊆ i
-    → value w (waves_of vs (in_centuries x)) ⊆ i
-unfolding terms_of
-waves_inside w x vs i d h = within_trans (terms_within w x vs (length vs) d) h
-
 pub waves_within : {E : Type 0} (shown : E → Interval) (w : World) (x : Expression) (vs : List Wave) (e : E)
     → Within shown w (terms_of (turning_wave_of x) no_wave vs) e → Within shown w (waves_of vs (in_centuries x)) e
 unfolding Lies terms_of
-waves_within shown w x vs e h = record { deep = h.deep; inside = within_trans (terms_within w x vs (length vs) h.deep) h.inside }
-
--- the sum of some rows, where there is one, holds that of the waves that they match
-pub rows_within : {E : Type 0} (shown : E → Interval) (days : E) (vs : List Wave) (ts : List TurningWave) (slope sizes : ℕ) (o : Option E)
-    → AreTurning vs ts → HasReach vs slope sizes
-    → IfSome o (λ e. (w : World) (x : Expression) (us : List Wave) → AreTurning us ts → HasReach us slope sizes → Within shown w x days
-    → Within shown w (terms_of (turning_wave_of x) no_wave us) e)
-    → IfSome o (λ e. Holds1 shown (λ x. waves_of vs (in_centuries x)) days e)
-rows_within shown days vs ts slope sizes None t r h = h
-rows_within shown days vs ts slope sizes (Some e) t r h = λ w x k. waves_within shown w x vs e (h w x vs t r k)
+waves_within shown w x vs e h = record {
+  deep = h.deep;
+  inside = within_trans (terms_within w x vs (length vs) h.deep)
+      h.inside;
+}

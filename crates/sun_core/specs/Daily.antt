@@ -1,13 +1,11 @@
 -- The sun's waves and mean longitude by days: as the definitions have them, in centuries, and as they are computed.
-use Rattle.std.specs.Prelude.{Bool, List, ◌-◌, ◌*◌, ◌&&◌, nat_lt, nat_le, cond}
+use Rattle.std.specs.Prelude.{Bool, ◌-◌, ◌*◌, ◌&&◌, nat_lt, nat_le, cond}
 use Rattle.book_model.specs.Fraction.{whole}
 use Rattle.book_model.specs.declared.frac.Frac.{Frac}
 use Rattle.book_model.specs.declared.polynomial.Wave.{Wave}
 use Rattle.book_model.specs.declared.time_tables.TheConstants.{DAY_IN_CENTURIES}
 use Rattle.book_model.specs.numbers.Expressions.{Expression, constant, add, scale, sine}
 use Rattle.book_model.specs.numbers.Fractions.{fraction_of, ten_millionths, daily_ten_millionths}
-use Rattle.book_model.specs.numbers.Polynomials.{no_wave}
-use Rattle.book_model.specs.numbers.Terms.{terms_of}
 use Rattle.sun_core.specs.declared.daily.TheConstants.{GREATEST}
 
 -- a number of days in centuries
@@ -33,7 +31,3 @@ daily_angle_of v x = add (constant (ten_millionths v.phase)) (scale (daily_ten_m
 -- the size of a wave times the sine of its angle
 unfoldable pub daily_wave_of : Expression → Wave → Expression
 daily_wave_of x v = scale (whole v.size) (sine (daily_angle_of v x))
-
--- the sum of the waves
-abbrev pub daily_waves_of : List Wave → Expression → Expression
-daily_waves_of vs x = terms_of (daily_wave_of x) no_wave vs

@@ -9,19 +9,15 @@ ghost use Rattle.book_model.specs.Interval.{everything, ◌⊆◌};
 ghost use Rattle.book_model.specs.numbers.Ranges.{IsInTable};
 ghost use Rattle.book_model.specs.programs.Calls.{Follows1, Holds1};
 ghost use Rattle.book_model.specs.sky.Sun.{longitude_of, nutation_of, sun_of};
-ghost use Rattle.sun_core.specs.Courses.{greatest_waves_of, other_waves_of};
 ghost use Rattle.sun_core.specs.Daily.{in_centuries};
-ghost use Rattle.sun_core.specs.Steps.{periodic_of, true_longitude_of};
+ghost use Rattle.sun_core.specs.Steps.{periodic_of};
 
 use crate::longitude::{aberration, mean_longitude, nutation};
-use crate::nutation_sum::nutation_in_whole_numbers;
-use crate::turns::other_in_whole_numbers;
-use crate::waves::Days;
-use crate::whole_longitude::mean_and_waves_in_whole_numbers;
-use book_model::sun_tables::{SUN_UNIT_COARSELY, SUN_UNIT_FINELY, SUN_WAVES};
+use crate::turns::{greatest_waves, other_waves};
+use book_model::sun_tables::{SUN_UNIT_COARSELY, SUN_UNIT_FINELY};
 use book_model::time_tables::{DAY_IN_CENTURIES, NOON_2000};
-use book_model::{Fail, Site, Wave};
-use encl_core::{Enclosure, Trail, lies_within, sum_of_terms, wrap_step};
+use book_model::{Fail, Site};
+use encl_core::{Enclosure, Trail, lies_within, wrap_step};
 use std::marker::Model;
 use time_scales::dynamical;
 
@@ -29,46 +25,6 @@ use time_scales::dynamical;
 /// How many waves, the first of the table, are the greatest. Tried with two, four, eight and sixteen: with four a bisection for a
 /// solar term evaluates the fewest waves in all.
 pub(crate) const GREATEST_WAVES: usize = 4;
-
-/// The sum of the greatest waves, row by row.
-fn greatest_by_rows<E: Enclosure>(days: E) -> E
-    ensures holds { Holds1 E.shown greatest_waves_of days result }
-{
-    sum_of_terms::<Days<E>, E, Wave>(&SUN_WAVES[..GREATEST_WAVES], Days(days))
-}
-
-/// The sum of the other waves, row by row.
-fn other_by_rows<E: Enclosure>(days: E) -> E
-    ensures holds { Holds1 E.shown other_waves_of days result }
-{
-    sum_of_terms::<Days<E>, E, Wave>(&SUN_WAVES[GREATEST_WAVES..], Days(days))
-}
-
-/// The sum of the other waves: in whole numbers over the coarse kind, where the stretch is short enough.
-fn other_waves<E: Enclosure>(days: E) -> E
-    ensures holds { Holds1 E.shown other_waves_of days result }
-{
-    if E::BITS == 36 {
-        if let Some(whole) = other_in_whole_numbers(days) {
-            return whole;
-        }
-    }
-    other_by_rows(days)
-}
-
-/// The nutation: in whole numbers over the coarse kind, where the stretch is short enough.
-#[tactic(auto, unfolding(crate::specs::Daily::in_centuries))]
-fn nutation_over<E: Enclosure>(days: E) -> E
-    ensures holds { Holds1 E.shown (λ x. nutation_of (in_centuries x)) days result }
-{
-    let c = days.mul_frac(DAY_IN_CENTURIES);
-    if E::BITS == 36 {
-        if let Some(whole) = nutation_in_whole_numbers(days, c) {
-            return whole;
-        }
-    }
-    nutation(c)
-}
 
 /// The days of dynamical time, counted from noon of 1 January 2000, of a stretch of universal time; none where it isn't decided of
 /// the stretch in which year it lies, as where it leaves a year. The tests are no part of a run.
@@ -110,7 +66,7 @@ impl<E: Enclosure> SunCourse<E> {
             days,
             waves: other_waves(days),
             aberration: aberration(days),
-            nutation: nutation_over(days),
+            nutation: nutation(days.mul_frac(DAY_IN_CENTURIES)),
         }
     }
 
@@ -137,29 +93,15 @@ impl<E: Enclosure> SunCourse<E> {
         lies_within(days, self.days)
     }
 
-    /// What the sun is ahead of its mean longitude by days of the course, the greatest waves row by row.
-    fn sum_of_waves(&self, days: E) -> E
+    /// What the sun is ahead of its mean longitude by days of the course: the greatest waves of these days, and the others of the course.
+    fn periodic(&self, days: E) -> E
         requires there { E.shown days ⊆ E.shown self.now }
         ensures holds { Holds1 E.shown (λ x. periodic_of (in_centuries x)) days result }
     {
-        greatest_by_rows(days)
+        greatest_waves(days)
             .add(self.waves)
             .mul_frac(SUN_UNIT_COARSELY)
             .mul_frac(SUN_UNIT_FINELY)
-    }
-
-    /// The mean longitude and what the sun is ahead of it, by days of the course: in whole numbers over the coarse kind, where these days are
-    /// known well enough.
-    fn mean_and_waves(&self, days: E) -> E
-        requires there { E.shown days ⊆ E.shown self.now }
-        ensures holds { Holds1 E.shown (λ x. true_longitude_of (in_centuries x)) days result }
-    {
-        if E::BITS == 36 {
-            if let Some(whole) = mean_and_waves_in_whole_numbers(days, self.waves) {
-                return whole;
-            }
-        }
-        mean_longitude(days).add(self.sum_of_waves(days))
     }
 
     /// The longitude of the sun by days of the course, not reduced.
@@ -167,7 +109,8 @@ impl<E: Enclosure> SunCourse<E> {
         requires there { E.shown days ⊆ E.shown self.now }
         ensures holds { Holds1 E.shown (λ x. longitude_of (in_centuries x)) days result }
     {
-        self.mean_and_waves(days)
+        mean_longitude(days)
+            .add(self.periodic(days))
             .add(self.aberration)
             .add(self.nutation)
     }

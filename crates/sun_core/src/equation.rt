@@ -2,7 +2,7 @@
 ghost use Rattle.book_model.specs.programs.Calls.{Encloses1, Encloses4, Follows1, Holds1, Narrows1};
 ghost use Rattle.book_model.specs.programs.Widths.{IsAbout, IsMoment, Measured1};
 ghost use Rattle.book_model.specs.numbers.Ranges.{IsInTable};
-ghost use Rattle.std.specs.Prelude.{◌≡◌, ◌^◌, IfOk, IfErr, IfSome};
+ghost use Rattle.std.specs.Prelude.{◌≡◌, ◌^◌, IfOk, IfErr};
 ghost use Rattle.book_model.specs.programs.Leading.{next_turn};
 ghost use Rattle.book_model.specs.sky.Noon.{radians_of, part_of_day, equation_of, equation_of_time_of};
 ghost use Rattle.encl_core.specs.declared.greatest_widths.TheConstants.{EQUATION_OF_TIME};
@@ -10,15 +10,13 @@ ghost use Rattle.encl_core.specs.GreatestWidths.{greatest_of};
 ghost use Rattle.time_scales.specs.Steps.{IsYearOpenFor};
 ghost use Rattle.sun_core.specs.Steps.{first_radians_of};
 
-use crate::polynomials::{Coefficients, by_powers, powers_of};
-use crate::whole_equation::{days_in_whole_numbers, halves_of, radians_in_whole_numbers};
 use book_model::Fail;
 use book_model::sun_tables::{
     ECCENTRICITY, FIVE_QUARTERS, FOUR, MEAN_SUN, MINUS_HALF, OBLIQUITY, SOLAR_ANOMALY, TWO,
 };
 use book_model::tables::HALF;
 use encl_core::{Enclosure, Trail};
-use time_scales::{centuries, cubic, quadratic};
+use time_scales::centuries;
 use trig_series::{cos_deg, pi, sin_deg, tan_deg};
 
 /// The first three terms of the equation of time, in radians.
@@ -58,73 +56,30 @@ fn in_days<E: Enclosure>(radians: E) -> E
     E::from_frac(MINUS_HALF).max(E::from_frac(HALF).min(days))
 }
 
-/// The obliquity of the ecliptic, in degrees.
-const OBLIQUITY_BY_POWERS: Coefficients = Coefficients {
-    below: 475_405_303_133_568_594_745_031_379_172_449,
-    above: 475_405_303_136_005_871_087_245_230_390_370,
-    linear: -3_660_347_509_641,
-    square: -46_130_621,
-    cube: 141_753_926,
-};
-
-/// The eccentricity of the earth's orbit.
-const ECCENTRICITY_BY_POWERS: Coefficients = Coefficients {
-    below: 338_891_013_866_491_152_871_936_299_732,
-    above: 338_891_013_942_584_253_650_964_910_805,
-    linear: -11_832_363_596,
-    square: -34_790_307,
-    cube: 0,
-};
-
-/// The mean longitude of the sun, in degrees.
-const MEAN_SUN_BY_POWERS: Coefficients = Coefficients {
-    below: 5_688_535_418_982_052_993_964_828_529_496_634,
-    above: 5_688_535_418_982_129_087_065_607_558_107_707,
-    linear: 10_133_315_849_464_937_164,
-    square: 85_343_212_939,
-    cube: 0,
-};
-
-/// Its mean anomaly, in degrees.
-const ANOMALY_BY_POWERS: Coefficients = Coefficients {
-    below: 7_251_551_651_423_719_802_140_109_762_509_511,
-    above: 7_251_551_651_426_157_078_482_323_613_727_432,
-    linear: 10_132_831_844_798_233_890,
-    square: -43_881_948_869,
-    cube: -135_107_989,
-};
-
-/// The equation of time by the centuries, of which polynomials and terms are taken in whole numbers; `None` of more than 32.
-fn equation_in_whole_numbers<E: Enclosure>(c: E) -> Option<E>
-    ensures holds { IfSome result (λ e. Holds1 E.shown equation_of c e) }
-{
-    let powers = powers_of(c)?;
-    let obliquity = by_powers(OBLIQUITY_BY_POWERS, powers);
-    let eccentricity = E::from_span(by_powers(ECCENTRICITY_BY_POWERS, powers));
-    let mean_sun = E::from_span(by_powers(MEAN_SUN_BY_POWERS, powers));
-    let anomaly = E::from_span(by_powers(ANOMALY_BY_POWERS, powers));
-    let tilt = tan_deg(E::from_span(halves_of(obliquity))).square();
-    let radians = radians_in_whole_numbers(tilt, eccentricity, mean_sun, anomaly)?;
-    let days = days_in_whole_numbers(radians)?;
-    Some(days)
-}
-
-/// The equation of time by the centuries: over the coarse kind its polynomials in whole numbers, where these are few, and else step by
-/// step.
-#[tactic(auto, unfolding(book_model::specs::sky::Noon::equation_of, book_model::specs::sky::Noon::tilt_of))]
+/// The equation of time by the centuries.
+#[tactic(auto, using(time_scales::proofs::Powers::cubes), unfolding(book_model::specs::sky::Noon::equation_of, book_model::specs::sky::Noon::tilt_of, book_model::specs::numbers::Polynomials::quadratic_of, book_model::specs::numbers::Polynomials::cubic_of))]
 fn equation<E: Enclosure>(c: E) -> E
     ensures holds { Holds1 E.shown equation_of c result }
-    ensures narrow { (E.BITS ≡ 36 → ⊥) → Narrows1 E.shown E.BITS equation_of c result }
+    ensures narrow { Narrows1 E.shown E.BITS equation_of c result }
 {
-    if E::BITS == 36 {
-        if let Some(whole) = equation_in_whole_numbers(c) {
-            return whole;
-        }
-    }
-    let tilt = tan_deg(cubic(&OBLIQUITY, c).mul_frac(HALF)).square();
-    let eccentricity = quadratic(&ECCENTRICITY, c);
-    let mean_sun = quadratic(&MEAN_SUN, c);
-    let anomaly = cubic(&SOLAR_ANOMALY, c);
+    // Written out, so that the powers are taken once and the denominators are known to the compiler.
+    let square = c.square();
+    let cube = square.mul(c);
+    let obliquity = E::from_frac(OBLIQUITY.constant)
+        .add(c.mul_frac(OBLIQUITY.linear))
+        .add(square.mul_frac(OBLIQUITY.square))
+        .add(cube.mul_frac(OBLIQUITY.cube));
+    let eccentricity = E::from_frac(ECCENTRICITY.constant)
+        .add(c.mul_frac(ECCENTRICITY.linear))
+        .add(square.mul_frac(ECCENTRICITY.square));
+    let mean_sun = E::from_frac(MEAN_SUN.constant)
+        .add(c.mul_frac(MEAN_SUN.linear))
+        .add(square.mul_frac(MEAN_SUN.square));
+    let anomaly = E::from_frac(SOLAR_ANOMALY.constant)
+        .add(c.mul_frac(SOLAR_ANOMALY.linear))
+        .add(square.mul_frac(SOLAR_ANOMALY.square))
+        .add(cube.mul_frac(SOLAR_ANOMALY.cube));
+    let tilt = tan_deg(obliquity.mul_frac(HALF)).square();
     in_days(radians(tilt, eccentricity, mean_sun, anomaly))
 }
 

@@ -22,14 +22,10 @@ mod ecliptic;
 mod equation;
 mod estimates;
 mod longitude;
-mod nutation_sum;
 mod passages;
-mod polynomials;
 mod stars;
 mod turns;
 mod waves;
-mod whole_equation;
-mod whole_longitude;
 
 pub use apparent::{from_apparent, noon, paris_midnight};
 pub use courses::{SunCourse, days_over, sun_by};

@@ -1,37 +1,46 @@
 //! The apparent longitude of the sun.
 ghost use Rattle.book_model.specs.programs.Calls.{Encloses1, Follows1, Holds1, Narrows1};
-ghost use Rattle.book_model.specs.programs.Widths.{IsMoment, IsUpTo, Measured1};
+ghost use Rattle.book_model.specs.programs.Widths.{AreCenturies, IsAbout, IsMoment, IsUpTo, Measured1};
 ghost use Rattle.book_model.specs.numbers.Ranges.{IsInTable};
-ghost use Rattle.std.specs.Prelude.{◌≡◌, ◌≤◌, ◌^◌, ℕ, IfOk, IfErr};
-ghost use Rattle.book_model.specs.numbers.Bounds.{Reach, IsNarrow, limits_of};
-ghost use Rattle.book_model.specs.numbers.Expressions.{Expression, World, argument};
-ghost use Rattle.book_model.specs.numbers.Relations.{Within, Narrow};
+ghost use Rattle.std.specs.Prelude.{◌≡◌, ◌≤◌, ◌^◌, ◌*◌, ◌+◌, ◌/◌, ℕ, IfOk, IfErr};
+ghost use Rattle.book_model.specs.numbers.Expressions.{Expression, World};
+ghost use Rattle.book_model.specs.numbers.Relations.{Within};
 ghost use Rattle.book_model.specs.sky.Sun.{nutation_of, aberration_of, longitude_of, sun_of};
 ghost use Rattle.encl_core.specs.declared.greatest_widths.TheConstants.{SUN};
 ghost use Rattle.encl_core.specs.GreatestWidths.{greatest_of};
 ghost use Rattle.time_scales.specs.Steps.{IsYearOpenFor};
 ghost use Rattle.sun_core.specs.Daily.{in_centuries};
-ghost use Rattle.sun_core.specs.Widths.{days_of_years, longitude_bound};
-ghost use Rattle.sun_core.specs.Steps.{mean_longitude_of, periodic_of, computed_aberration_of, computed_mean_longitude_of, computed_periodic_of, computed_longitude_of};
+ghost use Rattle.sun_core.specs.Steps.{mean_longitude_of, periodic_of, computed_aberration_of, computed_mean_longitude_of};
 
 use crate::daily::times_rate;
-use crate::waves::{Days, cosine_wave, quadratic_wave};
-use crate::whole_longitude::longitude_in_whole_numbers;
+use crate::turns::sun_waves;
+use crate::waves::cosine_wave;
 use book_model::sun_tables::{
     ABERRATION, MEAN_ABERRATION, NODE_NUTATION, SOLAR_NUTATION, SUN_AT_2000, SUN_RATE,
-    SUN_UNIT_COARSELY, SUN_UNIT_FINELY, SUN_WAVES,
+    SUN_UNIT_COARSELY, SUN_UNIT_FINELY,
 };
 use book_model::time_tables::{DAY_IN_CENTURIES, NOON_2000};
-use book_model::{Fail, Site, Wave};
-use encl_core::{Enclosure, Trail, sum_of_terms, wrap_step};
+use book_model::{Fail, Site};
+use encl_core::{Enclosure, Trail, wrap_step};
 use time_scales::dynamical;
+use trig_series::sin_deg;
 
 /// The nutation in longitude, in degrees, by the centuries (Reingold and Dershowitz, Calendrical Calculations, chapter 14).
-#[tactic(auto, unfolding(book_model::specs::sky::Sun::nutation_of))]
+#[tactic(auto, unfolding(book_model::specs::sky::Sun::nutation_of, book_model::specs::numbers::Polynomials::quadratic_wave_of, book_model::specs::numbers::Polynomials::quadratic_of))]
 pub fn nutation<E: Enclosure>(c: E) -> E
     ensures encloses { Encloses1 E.shown E.BITS nutation_of c result }
 {
-    quadratic_wave(&NODE_NUTATION, c).add(quadratic_wave(&SOLAR_NUTATION, c))
+    // Written out, so that the denominators are known to the compiler: it drops the hint from a function that would grow so large.
+    let square = c.square();
+    let node = E::from_frac(NODE_NUTATION.angle.constant)
+        .add(c.mul_frac(NODE_NUTATION.angle.linear))
+        .add(square.mul_frac(NODE_NUTATION.angle.square));
+    let solar = E::from_frac(SOLAR_NUTATION.angle.constant)
+        .add(c.mul_frac(SOLAR_NUTATION.angle.linear))
+        .add(square.mul_frac(SOLAR_NUTATION.angle.square));
+    sin_deg(node)
+        .mul_frac(NODE_NUTATION.size)
+        .add(sin_deg(solar).mul_frac(SOLAR_NUTATION.size))
 }
 
 /// The aberration, by the days from noon of 1 January 2000.
@@ -44,12 +53,12 @@ pub(crate) fn aberration<E: Enclosure>(days: E) -> E
 }
 
 /// What the sun is ahead of its mean longitude: the sum of its waves times their unit, which is applied in two steps.
-#[tactic(auto, unfolding(crate::specs::Steps::computed_periodic_of))]
-fn sum_by_rows<E: Enclosure>(days: E) -> E
+fn periodic<E: Enclosure>(days: E) -> E
     ensures holds { Holds1 E.shown (λ x. periodic_of (in_centuries x)) days result }
-    ensures narrow { Narrows1 E.shown E.BITS computed_periodic_of days result }
+    ensures measured { (v : ℕ) → E.BITS ≡ 56 → v ≤ 2 ^ 70 → IsAbout (2 ^ 52) v (E.shown days)
+        → IsAbout (5 * 2 ^ 32) (v / 20 + 2 ^ 26) (E.shown result) }
 {
-    sum_of_terms::<Days<E>, E, Wave>(&SUN_WAVES, Days(days))
+    sun_waves(days)
         .mul_frac(SUN_UNIT_COARSELY)
         .mul_frac(SUN_UNIT_FINELY)
 }
@@ -63,43 +72,20 @@ pub(crate) fn mean_longitude<E: Enclosure>(days: E) -> E
     E::from_frac(SUN_AT_2000).add(times_rate(days, SUN_RATE))
 }
 
-/// The longitude of the sun by the days from noon of 1 January 2000, and these in centuries, part by part; not reduced.
-#[tactic(auto, unfolding(book_model::specs::sky::Sun::longitude_of, crate::specs::Steps::computed_longitude_of, crate::specs::Steps::periodic_of, crate::specs::Steps::mean_longitude_of))]
-fn longitude_by_parts<E: Enclosure>(days: E, c: E) -> E
-    ensures holds { (w : World) (x : Expression) → Within E.shown w x days
-        → Within E.shown w (in_centuries x) c → Within E.shown w
-        (longitude_of (in_centuries x)) result }
-    ensures narrow { (r : Reach) (x : Expression)
-        → Narrow E.shown (limits_of E.BITS) r x days → Narrow E.shown (limits_of E.BITS) r (in_centuries x) c
-        → Narrow E.shown (limits_of E.BITS) r (computed_longitude_of x) result }
-{
-    mean_longitude(days)
-        .add(sum_by_rows(days))
-        .add(aberration(days))
-        .add(nutation(c))
-}
-
-/// The longitude of the sun by the days from noon of 1 January 2000, and these in centuries, not reduced: in whole numbers over the coarse
-/// kind, where its days are known well enough, and else part by part. The fine kind keeps its parts: its units are finer than what the
-/// whole numbers leave out, so that it would decide fewer of the tests that it is for.
+/// The longitude of the sun by the days from noon of 1 January 2000, and these in centuries; not reduced.
+#[tactic(auto, unfolding(book_model::specs::sky::Sun::longitude_of, crate::specs::Steps::periodic_of, crate::specs::Steps::mean_longitude_of))]
 fn longitude<E: Enclosure>(days: E, c: E) -> E
     ensures holds { (w : World) (x : Expression) → Within E.shown w x days
         → Within E.shown w (in_centuries x) c → Within E.shown w
         (longitude_of (in_centuries x)) result }
-    ensures narrow { (E.BITS ≡ 36 → ⊥) → (r : Reach) (x : Expression)
-        → Narrow E.shown (limits_of E.BITS) r x days → Narrow E.shown (limits_of E.BITS) r (in_centuries x) c
-        → Narrow E.shown (limits_of E.BITS) r (computed_longitude_of x) result }
-    ensures close { (w : ℕ) → E.BITS ≡ 36 → Narrow E.shown (limits_of E.BITS)
-        (record { width = w; bounds = days_of_years }) (argument 0) days
-        → Narrow E.shown (limits_of E.BITS) (record { width = w; bounds = days_of_years })
-        (in_centuries (argument 0)) c → IsNarrow w longitude_bound (E.shown result) }
+    ensures measured { (v : ℕ) → E.BITS ≡ 56 → v ≤ 2 ^ 70 → IsAbout (2 ^ 52) v (E.shown days)
+        → AreCenturies (v / 36525 + 2 ^ 12) (E.shown c)
+        → IsAbout (2 ^ 90) (2 * v + 2 ^ 31) (E.shown result) }
 {
-    if E::BITS == 36 {
-        if let Some(whole) = longitude_in_whole_numbers(days, c) {
-            return whole;
-        }
-    }
-    longitude_by_parts(days, c)
+    mean_longitude(days)
+        .add(periodic(days))
+        .add(aberration(days))
+        .add(nutation(c))
 }
 
 /// The apparent longitude of the sun at a moment of universal time, in degrees from 0 up to 360 (Reingold and

@@ -1,26 +1,14 @@
 //! Waves: sizes times sines or cosines of angles that grow with time.
 
-ghost use Rattle.book_model.specs.programs.Calls.{Encloses1, Holds1, Narrows1};
-ghost use Rattle.book_model.specs.numbers.Bounds.{limits_of};
-ghost use Rattle.book_model.specs.numbers.Expressions.{Expression, scale, cosine};
+ghost use Rattle.book_model.specs.programs.Calls.{Holds1, Narrows1};
+ghost use Rattle.book_model.specs.numbers.Expressions.{scale, cosine};
 ghost use Rattle.book_model.specs.numbers.Fractions.{ten_millionths};
-ghost use Rattle.book_model.specs.numbers.Polynomials.{angle_of_wave, wave_of, quadratic_wave_of};
-ghost use Rattle.book_model.specs.numbers.Relations.{Within, Narrow};
+ghost use Rattle.book_model.specs.numbers.Polynomials.{angle_of_wave, wave_of};
 ghost use Rattle.sun_core.specs.Daily.{in_centuries, daily_angle_of, daily_wave_of};
 
-use book_model::{Frac, QuadraticWave, Wave};
-use encl_core::{Enclosure, Term};
-use time_scales::quadratic;
+use book_model::{Frac, Wave};
+use encl_core::Enclosure;
 use trig_series::{cos_deg, sin_deg};
-
-/// The size of a wave times the sine of its angle, which is quadratic.
-#[inline(always)]
-#[tactic(auto, unfolding(book_model::specs::numbers::Polynomials::quadratic_wave_of))]
-pub(crate) fn quadratic_wave<E: Enclosure>(wave: &QuadraticWave, c: E) -> E
-    ensures encloses { Encloses1 E.shown E.BITS (quadratic_wave_of wave.now) c result }
-{
-    sin_deg(quadratic(&wave.angle, c)).mul_frac(wave.size)
-}
 
 /// The angle of a wave by the days from noon of 1 January 2000.
 #[inline(always)]
@@ -49,25 +37,4 @@ pub(crate) fn cosine_wave<E: Enclosure>(wave: &Wave, days: E) -> E
         (cosine (daily_angle_of wave.now x))) days result }
 {
     cos_deg(wave_angle(wave, days)).mul_frac(Frac::ten_millionths(wave.size))
-}
-
-/// The days from noon of 1 January 2000.
-#[derive(Clone, Copy, Drop)]
-pub(crate) struct Days<E>(pub(crate) E);
-
-impl<E: Enclosure> Term<Days<E>, E> for Wave {
-    ghost Given = { Expression };
-
-    ghost holds = { λ w x given. Within E.shown w x given.0 };
-
-    ghost keeps = { λ r x given. Narrow E.shown (limits_of E.BITS) r x given.0 };
-
-    ghost term_of = { λ x wave. wave_of (in_centuries x) wave };
-
-    // By the days, where the definition has centuries: for no other table do the two differ.
-    ghost computed_of = { λ x wave. daily_wave_of x wave };
-
-    fn term(&self, given: Days<E>) -> E {
-        sine_wave(self, given.0)
-    }
 }

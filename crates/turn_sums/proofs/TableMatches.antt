@@ -1,5 +1,5 @@
--- Two tables match, row by row: the waves of the one are those of the other, as they are summed. Of two tables that are written out it
--- is computed.
+-- Two tables match, row by row: the waves of the one are those of the other, as they are summed. Of two tables that are
+-- written out it is computed.
 use Rattle.std.specs.Prelude.{◌&&◌}
 use Rattle.std.specs.Int.Signed.{le_z, le_z_yes}
 use Rattle.std.proofs.Common.{◌≡◌, ℕ, zero, suc, ◌^◌, ◌<◌, refl, arith, Bool, true, false, ℤ, pos, ◌+ℤ◌, ◌*ℤ◌, ◌≤ℤ◌, List, [], ◌∷◌, length, slice_index_or}
@@ -13,9 +13,11 @@ use Rattle.turn_sums.specs.declared.rows.TurningWave.{TurningWave}
 -- ---- the tests
 abbrev pub is_turning : Wave → TurningWave → Bool
 is_turning v t =
-    le_z t.size v.size && le_z v.size t.size && le_z (pos t.phase *ℤ pos 3600000000) (v.phase *ℤ pos (2 ^ 64)) && le_z (v.phase *ℤ pos (2 ^ 64))
+    le_z t.size v.size && le_z v.size t.size && le_z (pos t.phase *ℤ pos 3600000000) (v.phase *ℤ pos (2 ^ 64)) && le_z
+    (v.phase *ℤ pos (2 ^ 64))
     (pos t.phase *ℤ pos 3600000000 +ℤ pos 3600000000)
-    && le_z (t.rate *ℤ pos 16436250000000) (v.rate *ℤ pos (2 ^ 63)) && le_z (v.rate *ℤ pos (2 ^ 63)) (t.rate *ℤ pos 16436250000000 +ℤ pos 16436250000000)
+    && le_z (t.rate *ℤ pos 16436250000000) (v.rate *ℤ pos (2 ^ 77)) && le_z (v.rate *ℤ pos (2 ^ 77))
+    (t.rate *ℤ pos 16436250000000 +ℤ pos 16436250000000)
 
 abbrev pub all_turning : List Wave → List TurningWave → Bool
 all_turning [] [] = true
@@ -39,7 +41,8 @@ module _ (a b c d e f : Bool) (h : (a && b && c && d && e && f) ≡ true) where
   all_six : (a ≡ true) × (b ≡ true) × (c ≡ true) × (d ≡ true) × (e ≡ true) × (f ≡ true)
   all_six = cases a b c d e f h
     where
-      cases : (a b c d e f : Bool) → (a && b && c && d && e && f) ≡ true → (a ≡ true) × (b ≡ true) × (c ≡ true) × (d ≡ true) × (e ≡ true) × (f ≡ true)
+      cases : (a b c d e f : Bool) → (a && b && c && d && e && f) ≡ true → (a ≡ true) × (b ≡ true) × (c ≡ true)
+          × (d ≡ true) × (e ≡ true) × (f ≡ true)
       cases true true true true true true k = (refl, refl, refl, refl, refl, refl)
       cases false b c d e f k = absurd (cc)
       cases true false c d e f k = absurd (cc)
@@ -68,7 +71,8 @@ same_count [] (t ∷ ts) h = absurd (cc)
 same_count (v ∷ vs) [] h = absurd (cc)
 same_count (v ∷ vs) (t ∷ ts) h = let e = same_count vs ts (second _ _ h) in omega (arith, e)
 
-rows_match : (vs : List Wave) (ts : List TurningWave) (i : ℕ) → all_turning vs ts ≡ true → i < length ts → (none : TurningWave)
+rows_match : (vs : List Wave) (ts : List TurningWave) (i : ℕ) → all_turning vs ts ≡ true → i < length ts
+    → (none : TurningWave)
     → IsTurning (slice_index_or vs i no_wave) (slice_index_or ts i none)
 rows_match [] [] i h l none = absurd (omega (arith, l))
 rows_match [] (t ∷ ts) i h l none = absurd (cc)

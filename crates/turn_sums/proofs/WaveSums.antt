@@ -1,5 +1,7 @@
--- The sum of the rows of a table of waves.
-use Rattle.std.proofs.Common.{◌^◌, ◌≡◌, ℕ, zero, suc, ◌+◌, ◌*◌, ◌/◌, refl, arith, unsigned_abs, neg_ℤ, ℤ, pos, ◌+ℤ◌, ◌-ℤ◌, ◌*ℤ◌, ◌≤ℤ◌, add-one, List, length, slice_index_or, [], ◌∷◌}
+-- The sum of the rows of a table of waves: what lies around two numbers adds up to what lies around their sum, row by
+-- row, and the radii of all rows come to what two sums over the table say, of the sizes and of the sizes times the
+-- rates.
+use Rattle.std.proofs.Common.{◌≡◌, ℕ, zero, suc, ◌+◌, ◌*◌, ◌/◌, refl, arith, unsigned_abs, ℤ, pos, ◌+ℤ◌, ◌-ℤ◌, ◌*ℤ◌, ◌≤ℤ◌, add-one, List, length, slice_index_or, [], ◌∷◌}
 use Rattle.std.proofs.lemmas.Int.{ints}
 use Rattle.book_model.specs.Fraction.{plus}
 use Rattle.book_model.specs.Interval.{Interval, between, ◌⊆◌, sum}
@@ -11,7 +13,7 @@ use Rattle.book_model.specs.numbers.Expressions.{Expression, World, value}
 use Rattle.book_model.specs.numbers.Polynomials.{no_wave}
 use Rattle.book_model.specs.numbers.Terms.{terms_to, terms_of}
 use Rattle.book_model.specs.programs.Leading.{units_of_56}
-use Rattle.turn_sums.specs.Turning.{IsAtMost, turning_wave_of, radius_of, radius_to, sizes_to, reach_to}
+use Rattle.turn_sums.specs.Turning.{turning_wave_of, radius_of, radius_to, sizes_to, reach_to}
 
 -- what lies within e of a number
 abbrev pub around : ℤ → ℕ → Interval
@@ -24,18 +26,25 @@ sum_around a b d e = record { ends = (record { cross = omega (arith, ints) }, re
 pub none_around : (w : World) (x : Expression) (vs : List Wave) (width : ℕ)
     → value w (terms_to (turning_wave_of x) no_wave vs 0) ⊆ around (pos 0) (radius_to vs width 0)
 unfolding value terms_to radius_to
-none_around w x vs width = record { ends = (record { cross = omega (arith, ints) }, record { cross = omega (arith, ints) }) }
+none_around w x vs width = record {
+  ends = (
+    record { cross = omega (arith, ints) },
+    record { cross = omega (arith, ints) },
+  );
+}
 
 pub more_around : (w : World) (x : Expression) (vs : List Wave) (width i : ℕ) (a b : ℤ)
     → value w (terms_to (turning_wave_of x) no_wave vs i) ⊆ around a (radius_to vs width i)
-    → value w (turning_wave_of x (slice_index_or vs i no_wave)) ⊆ around b (radius_of (slice_index_or vs i no_wave) width)
+    → value w (turning_wave_of x (slice_index_or vs i no_wave))
+    ⊆ around b (radius_of (slice_index_or vs i no_wave) width)
     → value w (terms_to (turning_wave_of x) no_wave vs (suc i)) ⊆ around (a +ℤ b) (radius_to vs width (suc i))
 unfolding value terms_to radius_to
 more_around w x vs width i a b h k = within_trans (sum_within h k) (sum_around a b _ _)
 
 pub next_around : (w : World) (x : Expression) (vs : List Wave) (width i : ℕ) (a b : ℤ)
     → value w (terms_to (turning_wave_of x) no_wave vs i) ⊆ around a (radius_to vs width i)
-    → value w (turning_wave_of x (slice_index_or vs i no_wave)) ⊆ around b (radius_of (slice_index_or vs i no_wave) width)
+    → value w (turning_wave_of x (slice_index_or vs i no_wave))
+    ⊆ around b (radius_of (slice_index_or vs i no_wave) width)
     → value w (terms_to (turning_wave_of x) no_wave vs (i + 1)) ⊆ around (a +ℤ b) (radius_to vs width (i + 1))
 next_around w x vs width i a b h k = rw add-one (more_around w x vs width i a b h k)
 
@@ -45,51 +54,37 @@ pub all_around : (w : World) (x : Expression) (vs : List Wave) (width i : ℕ) (
 unfolding terms_of
 all_around w x vs width i a e h = rw e at h
 
--- ---- the sizes of all rows
-pub none_at_most : (vs : List Wave) → IsAtMost (sizes_to vs 0 * 2 ^ 56) (pos 0)
-unfolding sizes_to
-none_at_most vs = record { above = omega (arith, ints); below = omega (arith, ints) }
-
-more_at_most : (vs : List Wave) (i : ℕ) (a b : ℤ) → IsAtMost (sizes_to vs i * 2 ^ 56) a
-    → neg_ℤ (pos (unsigned_abs (slice_index_or vs i no_wave).size * 2 ^ 56)) ≤ℤ b → b ≤ℤ pos (unsigned_abs (slice_index_or vs i no_wave).size * 2 ^ 56)
-    → IsAtMost (sizes_to vs (suc i) * 2 ^ 56) (a +ℤ b)
-unfolding sizes_to
-more_at_most vs i a b h l u = record { above = omega (arith, ints, h.above, l); below = omega (arith, ints, h.below, u) }
-
-pub next_at_most : (vs : List Wave) (i : ℕ) (a b size : ℤ) → IsAtMost (sizes_to vs i * 2 ^ 56) a → size ≡ (slice_index_or vs i no_wave).size
-    → neg_ℤ (pos (unsigned_abs size * 2 ^ 56)) ≤ℤ b → b ≤ℤ pos (unsigned_abs size * 2 ^ 56) → IsAtMost (sizes_to vs (i + 1) * 2 ^ 56) (a +ℤ b)
-next_at_most vs i a b size h e l u = rw add-one (more_at_most vs i a b h (rw e at l) (rw e at u))
-
-pub all_at_most : (vs : List Wave) (i : ℕ) (a : ℤ) → i ≡ length vs → IsAtMost (sizes_to vs i * 2 ^ 56) a → IsAtMost (sizes_to vs (length vs) * 2 ^ 56) a
-all_at_most vs i a e h = rw e at h
-
 -- ---- the radius of all rows
 row_radius : (z r w q : ℤ) → pos 0 ≤ℤ z → (q *ℤ pos 20819250000000) ≤ℤ (r *ℤ w)
-    → ((z *ℤ (q +ℤ pos 6503)) *ℤ pos 20819250000000) ≤ℤ ((z *ℤ r) *ℤ w +ℤ z *ℤ pos (6503 * 20819250000000))
+    → ((z *ℤ (q +ℤ pos 28)) *ℤ pos 20819250000000) ≤ℤ ((z *ℤ r) *ℤ w +ℤ z *ℤ pos (28 * 20819250000000))
 row_radius z r w q n h =
     le_by (z ∷ r ∷ w ∷ q ∷ []) ((lit (pos 0) ≼ at 0) ∷ (at 3 ⊗ lit (pos 20819250000000) ≼ at 1 ⊗ at 2) ∷ [])
-    ((at 0 ⊗ (at 3 ⊕ lit (pos 6503))) ⊗ lit (pos 20819250000000)) ((at 0 ⊗ at 1) ⊗ at 2 ⊕ at 0 ⊗ lit (pos (6503 * 20819250000000)))
+    ((at 0 ⊗ (at 3 ⊕ lit (pos 28))) ⊗ lit (pos 20819250000000))
+    ((at 0 ⊗ at 1) ⊗ at 2 ⊕ at 0 ⊗ lit (pos (28 * 20819250000000)))
     (known 0 ⊠ known 1) refl (n, (h, tt))
 
-added : (a b c d e f w : ℤ) → (a *ℤ pos 20819250000000) ≤ℤ (c *ℤ w +ℤ e *ℤ pos (6503 * 20819250000000))
-    → (b *ℤ pos 20819250000000) ≤ℤ (d *ℤ w +ℤ f *ℤ pos (6503 * 20819250000000))
-    → ((a +ℤ b) *ℤ pos 20819250000000) ≤ℤ ((c +ℤ d) *ℤ w +ℤ (e +ℤ f) *ℤ pos (6503 * 20819250000000))
+added : (a b c d e f w : ℤ) → (a *ℤ pos 20819250000000) ≤ℤ (c *ℤ w +ℤ e *ℤ pos (28 * 20819250000000))
+    → (b *ℤ pos 20819250000000) ≤ℤ (d *ℤ w +ℤ f *ℤ pos (28 * 20819250000000))
+    → ((a +ℤ b) *ℤ pos 20819250000000) ≤ℤ ((c +ℤ d) *ℤ w +ℤ (e +ℤ f) *ℤ pos (28 * 20819250000000))
 added a b c d e f w h k =
-    le_by (a ∷ b ∷ c ∷ d ∷ e ∷ f ∷ w ∷ []) ((at 0 ⊗ lit (pos 20819250000000) ≼ at 2 ⊗ at 6 ⊕ at 4 ⊗ lit (pos (6503 * 20819250000000))) ∷
-    (at 1 ⊗ lit (pos 20819250000000) ≼ at 3 ⊗ at 6 ⊕ at 5 ⊗ lit (pos (6503 * 20819250000000))) ∷ [])
-    ((at 0 ⊕ at 1) ⊗ lit (pos 20819250000000)) ((at 2 ⊕ at 3) ⊗ at 6 ⊕ (at 4 ⊕ at 5) ⊗ lit (pos (6503 * 20819250000000))) (known 0 ⊞ known 1) refl
+    le_by (a ∷ b ∷ c ∷ d ∷ e ∷ f ∷ w ∷ []) ((at 0 ⊗ lit (pos 20819250000000) ≼ at 2 ⊗ at 6
+    ⊕ at 4 ⊗ lit (pos (28 * 20819250000000))) ∷
+    (at 1 ⊗ lit (pos 20819250000000) ≼ at 3 ⊗ at 6 ⊕ at 5 ⊗ lit (pos (28 * 20819250000000))) ∷ [])
+    ((at 0 ⊕ at 1) ⊗ lit (pos 20819250000000)) ((at 2 ⊕ at 3) ⊗ at 6 ⊕ (at 4 ⊕ at 5) ⊗ lit (pos (28 * 20819250000000)))
+    (known 0 ⊞ known 1) refl
     (h, (k, tt))
 
 quotient_below : (v : ℕ) → (pos (v / 20819250000000) *ℤ pos 20819250000000) ≤ℤ pos v
 quotient_below v = omega (arith, ints)
 
 pub radius_is : (vs : List Wave) (w n : ℕ) → (pos (radius_to vs w n) *ℤ pos 20819250000000) ≤ℤ
-    (pos (reach_to vs n) *ℤ pos w +ℤ pos (sizes_to vs n) *ℤ pos (6503 * 20819250000000))
+    (pos (reach_to vs n) *ℤ pos w +ℤ pos (sizes_to vs n) *ℤ pos (28 * 20819250000000))
 unfolding radius_to reach_to sizes_to
 radius_is vs w zero = omega (arith, ints)
 radius_is vs w (suc n) =
     let v = slice_index_or vs n no_wave in
     let z = unsigned_abs v.size in
     let r = unsigned_abs v.rate in
-    added (pos (radius_to vs w n)) (pos (radius_of v w)) (pos (reach_to vs n)) (pos (z * r)) (pos (sizes_to vs n)) (pos z) (pos w) (radius_is vs w n)
+    added (pos (radius_to vs w n)) (pos (radius_of v w)) (pos (reach_to vs n)) (pos (z * r)) (pos (sizes_to vs n))
+    (pos z) (pos w) (radius_is vs w n)
     (row_radius (pos z) (pos r) (pos w) (pos (r * w / 20819250000000)) (omega (arith, ints)) (quotient_below (r * w)))

@@ -1,5 +1,6 @@
 -- Waves by turns and days, and how far a sum of their rows may be off; where the sines at an angle of an octant lie.
--- A phase counts 10^-7 degrees, and a rate the same a century: 3600000000 of them are a turn, and 365250000000 a degree a day.
+-- A phase counts 10^-7 degrees, and a rate the same a century: 3600000000 of them are a turn, and 365250000000 a degree
+-- a day.
 use Rattle.std.specs.Prelude.{◌≡◌, ℕ, zero, suc, ◌+◌, ◌*◌, ◌/◌, ◌-◌, ◌^◌, ◌≤◌, ◌<◌, unsigned_abs, ℤ, pos, neg_ℤ, ◌+ℤ◌, ◌-ℤ◌, ◌*ℤ◌, ◌≤ℤ◌, List, length, slice_index_or}
 use Rattle.book_model.specs.Fraction.{◌≤F◌, whole, floor_quotient}
 use Rattle.book_model.specs.Sums.{lower, upper}
@@ -39,28 +40,30 @@ octant_of t = t / 2 ^ 61
 abbrev pub degrees_of : ℕ → ℕ
 degrees_of t = (t - t / 2 ^ 61 * 2 ^ 61) * 45 / 32
 
--- a wave as it is summed: its size; its phase in 2^-64 turns, and its rate in 2^-66 turns a day, both rounded down. A turn a day is
--- 8 * 16436250000000 of a rate, so that 2^-66 turns are that over 2^63
+-- a wave as it is summed: its size; its phase in 2^-64 turns, and its rate in 2^-80 turns a day, both rounded down. A
+-- turn a day is 8 * 16436250000000 of a rate, so that 2^-80 turns are that over 2^77
 pub record IsTurning (v : Wave) (t : TurningWave) : Type 0 where
   pub size : t.size ≡ v.size
   pub phase_below : (pos t.phase *ℤ pos 3600000000) ≤ℤ (v.phase *ℤ pos (2 ^ 64))
   pub phase_close : (v.phase *ℤ pos (2 ^ 64)) ≤ℤ (pos t.phase *ℤ pos 3600000000 +ℤ pos 3600000000)
-  pub rate_below : (t.rate *ℤ pos 16436250000000) ≤ℤ (v.rate *ℤ pos (2 ^ 63))
-  pub rate_close : (v.rate *ℤ pos (2 ^ 63)) ≤ℤ (t.rate *ℤ pos 16436250000000 +ℤ pos 16436250000000)
+  pub rate_below : (t.rate *ℤ pos 16436250000000) ≤ℤ (v.rate *ℤ pos (2 ^ 77))
+  pub rate_close : (v.rate *ℤ pos (2 ^ 77)) ≤ℤ (t.rate *ℤ pos 16436250000000 +ℤ pos 16436250000000)
 
 -- the same of all rows of two tables
 pub record AreTurning (vs : List Wave) (ts : List TurningWave) : Type 0 where
   pub count : length vs ≡ length ts
-  pub rows : (i : ℕ) → i < length ts → (none : TurningWave) → IsTurning (slice_index_or vs i no_wave) (slice_index_or ts i none)
+  pub rows : (i : ℕ) → i < length ts → (none : TurningWave)
+      → IsTurning (slice_index_or vs i no_wave) (slice_index_or ts i none)
 
 -- what a wave adds, by the days
 unfoldable pub turning_wave_of : Expression → Wave → Expression
-turning_wave_of x v = scale (whole v.size) (sine (add (constant (ten_millionths v.phase)) (scale (daily_ten_millionths v.rate) x)))
+turning_wave_of x v = scale (whole v.size) (sine (add (constant (ten_millionths v.phase))
+    (scale (daily_ten_millionths v.rate) x)))
 
--- how far what a wave adds is off at most, in 2^-56, for days that are at most w off, in 2^-56: its angle moves by rate * w, and its
--- sine by a 57th of that; 20819250000000 is 57 * 365250000000. The roundings of a row are 6503
+-- how far what a wave adds is off at most, in 2^-56, for days that are at most w off, in 2^-56: its angle moves by rate
+-- * w, and its sine by a 57th of that; 20819250000000 is 57 * 365250000000. The roundings of a row are 28
 abbrev pub radius_of : Wave → ℕ → ℕ
-radius_of v w = unsigned_abs v.size * (unsigned_abs v.rate * w / 20819250000000 + 6503)
+radius_of v w = unsigned_abs v.size * (unsigned_abs v.rate * w / 20819250000000 + 28)
 
 -- the same of the sum of the first n waves
 unfoldable pub radius_to : List Wave → ℕ → ℕ → ℕ
@@ -74,42 +77,44 @@ sizes_to vs (suc n) = sizes_to vs n + unsigned_abs (slice_index_or vs n no_wave)
 
 unfoldable pub reach_to : List Wave → ℕ → ℕ
 reach_to vs zero = 0
-reach_to vs (suc n) = reach_to vs n + unsigned_abs (slice_index_or vs n no_wave).size * unsigned_abs (slice_index_or vs n no_wave).rate
+reach_to vs (suc n) = reach_to vs n + unsigned_abs (slice_index_or vs n no_wave).size * unsigned_abs
+    (slice_index_or vs n no_wave).rate
 
--- a number of at most this size
-pub record IsAtMost (n : ℕ) (z : ℤ) : Type 0 where
-  pub above : neg_ℤ (pos n) ≤ℤ z
-  pub below : z ≤ℤ pos n
-
--- the part of a turn, in 2^-64, that a rate makes of days that count 2^-37
+-- the part of a turn, in 2^-64, that a rate in 2^-80 turns makes of days that count 2^-48
 abbrev pub turn_part : (rate mid : ℤ) → ℤ
-turn_part rate mid = floor_quotient (rate *ℤ mid) (2 ^ 39 - 1)
+turn_part rate mid = floor_quotient (rate *ℤ mid) (2 ^ 64 - 1)
 
 -- how many whole turns such a number has
 abbrev pub whole_turns : ℤ → ℤ
 whole_turns n = floor_quotient n (2 ^ 64 - 1)
 
--- the days from lo to hi, in 2^-56, are within w of a number of days that counts 2^-37
+-- the days from lo to hi, in 2^-56, are within w of a number of days that counts 2^-48
 pub record AreNear (mid : ℤ) (w : ℕ) (lo hi : ℤ) : Type 0 where
   pub ordered : lo ≤ℤ hi
-  pub above : (mid *ℤ pos (2 ^ 19) -ℤ pos w) ≤ℤ lo
-  pub below : hi ≤ℤ (mid *ℤ pos (2 ^ 19) +ℤ pos w)
-  pub small : w ≤ 2 ^ 55
-  pub least : neg_ℤ (pos (2 ^ 57)) ≤ℤ mid
-  pub greatest : mid ≤ℤ pos (2 ^ 57)
+  pub above : (mid *ℤ pos (2 ^ 8) -ℤ pos w) ≤ℤ lo
+  pub below : hi ≤ℤ (mid *ℤ pos (2 ^ 8) +ℤ pos w)
+  pub least : neg_ℤ (pos (2 ^ 68)) ≤ℤ mid
+  pub greatest : mid ≤ℤ pos (2 ^ 68)
 
--- a slope that counts 2^-32 is at least a 57th of the sum of the sizes times the rates a day, in degrees, and the sizes come to no more
--- than this
+-- a slope that counts 2^-32 is at least a 57th of the sum of the sizes times the rates a day, in degrees, and the sizes
+-- come to no more than this
 pub record HasReach (vs : List Wave) (slope sizes : ℕ) : Type 0 where
   pub reach : (pos (reach_to vs (length vs)) *ℤ pos (2 ^ 32)) ≤ℤ (pos slope *ℤ pos 20819250000000)
   pub total : pos (sizes_to vs (length vs)) ≤ℤ pos sizes
 
--- how far from 0 a sum over at most half a day is, in 2^-56: the sizes, and the slope times half a day
-abbrev pub greatest_sum : (slope sizes : ℕ) → ℕ
-greatest_sum slope sizes = sizes * 2 ^ 56 + slope * 2 ^ 23 + sizes * 6503 + 1
+-- days, in 2^-56, within 2^20 of 0, which are known to 64 days
+pub record AreKnown (first last : ℤ) : Type 0 where
+  pub from : neg_ℤ (pos (2 ^ 76)) ≤ℤ first
+  pub to : last ≤ℤ pos (2 ^ 76)
+  pub close : (last -ℤ first) ≤ℤ pos (2 ^ 62)
 
 -- the sum over the days from first to last: as wide as the slope makes it, and twice the roundings of the rows
 pub record IsNarrowSum (slope sizes : ℕ) (first last lo hi : ℤ) : Type 0 where
-  pub narrow : ((hi -ℤ lo) *ℤ pos (2 ^ 32)) ≤ℤ (((last -ℤ first) +ℤ pos (2 ^ 20)) *ℤ pos slope +ℤ (pos sizes *ℤ pos 6503 +ℤ pos 1) *ℤ pos (2 ^ 33))
-  pub above : neg_ℤ (pos (greatest_sum slope sizes)) ≤ℤ lo
-  pub below : hi ≤ℤ pos (greatest_sum slope sizes)
+  pub narrow : ((hi -ℤ lo) *ℤ pos (2 ^ 32))
+      ≤ℤ (((last -ℤ first) +ℤ pos (2 ^ 9)) *ℤ pos slope +ℤ (pos sizes *ℤ pos 28 +ℤ pos 1) *ℤ pos (2 ^ 33))
+  pub above : neg_ℤ (pos (sizes * 2 ^ 56)) ≤ℤ lo
+  pub below : hi ≤ℤ pos (sizes * 2 ^ 56)
+
+-- the same as an enclosure at the scale of 2^-56, over days of width v, both in 2^-64
+abbrev pub width_of_sum : (slope sizes v : ℕ) → ℕ
+width_of_sum slope sizes v = (v + 2 ^ 17) * slope / 2 ^ 32 + (sizes * 28 + 2) * 2 ^ 9

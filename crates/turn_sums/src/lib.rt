@@ -8,14 +8,17 @@
 //! - `TurningWave`: a wave by turns and days;
 //! - `sine_at_turn`: the sine at an angle that counts parts of a turn;
 //! - `low_64`: an angle without its whole turns;
-//! - `sum_over`: the sum of the rows of a table over a span of days.
+//! - `sum_over`: the sum of the rows of a table over a span of days;
+//! - `sum_of_waves`: the same over days as an enclosure of any kind.
 #![tactic(auto)]
 
 mod rows;
 mod spans;
 mod sums;
 mod turns;
+mod waves;
 
 pub use rows::{TurningWave, low_64};
 pub use spans::sum_over;
 pub use turns::sine_at_turn;
+pub use waves::sum_of_waves;

@@ -7,17 +7,15 @@ ghost use Rattle.book_model.specs.numbers.Expressions.{Expression, World, value}
 ghost use Rattle.book_model.specs.numbers.Polynomials.{no_wave};
 ghost use Rattle.book_model.specs.numbers.Terms.{terms_of};
 ghost use Rattle.book_model.specs.programs.Leading.{units_of_56};
-ghost use Rattle.turn_sums.specs.Turning.{AreTurning, AreNear, IsAtMost, turning_wave_of, radius_to, sizes_to};
+ghost use Rattle.turn_sums.specs.Turning.{AreTurning, AreNear, turning_wave_of, radius_to};
 
 use crate::rows::{TurningWave, row_at};
 
-/// The sum of the rows in the middle of the days, which counts 2⁻³⁷ days, in parts of 2⁻⁵⁶. It has 128 bits: the sun's sizes come to
+/// The sum of the rows in the middle of the days, which counts 2⁻⁴⁸ days, in parts of 2⁻⁵⁶. It has 128 bits: the sun's sizes come to
 /// nearly 2²⁰, and 2⁵⁶ times that is no number of 64.
 #[inline(always)]
-pub(crate) fn sum_at(rows: &[TurningWave], mid: i64) -> i128
+pub(crate) fn sum_at(rows: &[TurningWave], mid: i128) -> i128
     requires few { length rows.now ≤ 2 ^ 32 }
-    requires least { neg_ℤ (pos (2 ^ 57)) ≤ℤ mid }
-    requires greatest { mid ≤ℤ pos (2 ^ 57) }
     ensures holds { (w : World) (x : Expression) (vs : List Wave) (width : ℕ) (lo hi : ℤ)
         → DEPTH ≤ w.depth → AreTurning vs rows.now → AreNear mid width lo hi
         → value w x ⊆ between (units_of_56 lo) (units_of_56 hi)
@@ -26,8 +24,6 @@ pub(crate) fn sum_at(rows: &[TurningWave], mid: i64) -> i128
         (units_of_56 (result +ℤ pos (radius_to vs width (length vs)))) }
     ensures low { neg_ℤ (pos (2 ^ 119)) ≤ℤ result }
     ensures high { result ≤ℤ pos (2 ^ 119) }
-    ensures sizes { (vs : List Wave) → AreTurning vs rows.now
-        → IsAtMost (sizes_to vs (length vs) * 2 ^ 56) result }
 {
     let mut sum: i128 = 0;
     for row in rows {

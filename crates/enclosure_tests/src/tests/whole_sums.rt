@@ -1,4 +1,4 @@
-//! Sums of waves in whole numbers: the sines at the edges of octants, and where a sum is known and where it isn't.
+//! Sums of waves in whole numbers: the sines at the edges of octants, and how narrow a sum is, where its days are known and where they aren't.
 use encl_core::Span;
 use turn_sums::{TurningWave, sine_at_turn, sum_over};
 
@@ -29,7 +29,7 @@ fn sines_at_the_edges_of_octants_are_within_three_parts(rt: HostRuntime) {
 }
 
 /// Three times the sine of 90 degrees, and the sine of an angle that begins at 0 and moves by 45 degrees a day.
-fn sum_of_two(days: Span) -> Option<Span> {
+fn sum_of_two(days: Span) -> Span {
     let rows = [
         TurningWave {
             size: 3,
@@ -39,29 +39,28 @@ fn sum_of_two(days: Span) -> Option<Span> {
         TurningWave {
             size: 1,
             phase: 0,
-            rate: 9_223_372_036_854_775_807,
+            rate: 1 << 77,
         },
     ];
     sum_over(&rows, 3_390_763_655, 4, days)
 }
 
-/// Days, and where a sum is known over them the two numbers from below one of which to above the other it goes, and how wide it
-/// is at most: where the day begins, where it ends, over the day; over more than a day, and further than 2²⁰ days after 0 and before.
+/// Days, the two numbers from below one of which to above the other the sum over them goes, and how wide it is at most: where the
+/// day begins, where it ends, over the day and a little more; over more than 64 days a side, and further than 2²⁰ days after 0 and
+/// before, where it is any sum of the two.
 #[rattlefmt::skip]
-const SUMS: [(Span, Option<(i128, i128, i128)>); 6] = [
-    (Span { lo: 0, hi: 0 }, Some((3 * ONE, 3 * ONE, 60_000))),
-    (Span { lo: ONE, hi: ONE }, Some((3 * ONE + AT_45, 3 * ONE + AT_45, 60_000))),
-    (Span { lo: 0, hi: ONE }, Some((3 * ONE, 3 * ONE + AT_45, ONE))),
-    (Span { lo: 0, hi: ONE + 2 }, None),
-    (Span { lo: 1_048_577 * ONE, hi: 1_048_577 * ONE }, None),
-    (Span { lo: -1_048_577 * ONE, hi: -1_048_577 * ONE }, None),
+const SUMS: [(Span, i128, i128, i128); 7] = [
+    (Span { lo: 0, hi: 0 }, 3 * ONE, 3 * ONE, 300),
+    (Span { lo: ONE, hi: ONE }, 3 * ONE + AT_45, 3 * ONE + AT_45, 300),
+    (Span { lo: 0, hi: ONE }, 3 * ONE, 3 * ONE + AT_45, ONE),
+    (Span { lo: 0, hi: ONE + 2 }, 3 * ONE, 3 * ONE + AT_45, ONE),
+    (Span { lo: 0, hi: 129 * ONE }, -4 * ONE, 4 * ONE, 8 * ONE),
+    (Span { lo: 1_048_577 * ONE, hi: 1_048_577 * ONE }, -4 * ONE, 4 * ONE, 8 * ONE),
+    (Span { lo: -1_048_577 * ONE, hi: -1_048_577 * ONE }, -4 * ONE, 4 * ONE, 8 * ONE),
 ];
 
-/// Whether a sum goes from below one number to above another, and is at most so wide; or is not known.
-fn is_around(found: Option<Span>, around: Option<(i128, i128, i128)>) -> bool {
-    let (Some(sum), Some((first, last, most))) = (found, around) else {
-        return found.is_none() && around.is_none();
-    };
+/// Whether a sum goes from below one number to above another, and is at most so wide.
+fn is_around(sum: Span, first: i128, last: i128, most: i128) -> bool {
     match sum.hi.checked_sub(sum.lo) {
         Some(width) => sum.lo <= first && last <= sum.hi && width <= most,
         None => false,
@@ -69,8 +68,11 @@ fn is_around(found: Option<Span>, around: Option<(i128, i128, i128)>) -> bool {
 }
 
 #[test]
-fn a_sum_is_known_over_a_day_that_is_not_far_away(rt: HostRuntime) {
-    for (days, around) in SUMS {
-        assert!(rt; is_around(sum_of_two(days), around), "over {days:?}");
+fn a_sum_is_as_narrow_as_its_days_let_it_be(rt: HostRuntime) {
+    for (days, first, last, most) in SUMS {
+        assert!(rt;
+            is_around(sum_of_two(days), first, last, most),
+            "over {days:?}"
+        );
     }
 }

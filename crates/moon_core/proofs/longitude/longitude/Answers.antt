@@ -1,22 +1,18 @@
-use Rattle.book_model.specs.numbers.Bounds.{Reach, limits_of}
-use Rattle.book_model.specs.numbers.Expressions.{argument}
-use Rattle.book_model.specs.numbers.Relations.{Narrow}
-use Rattle.book_model.proofs.Implying.{settled}
-use Rattle.moon_core.specs.Daily.{inequalities_by, longitude_by}
-use Rattle.moon_core.specs.Widths.{days_and_terms, longitude_bound}
-use Rattle.moon_core.proofs.Reaches.{longitude_reaches}
-use Rattle.moon_core.proofs.WholeTerms.{centuries_beside, longitude_beside}
+use Rattle.std.proofs.Common.{◌+◌, ◌^◌}
+use Rattle.book_model.specs.numbers.Bounds.{Reach}
+use Rattle.moon_core.specs.Widths.{days_and, longitude_bound}
+use Rattle.moon_core.proofs.Measured.{longitude_within}
+use Rattle.moon_core.proofs.TermWidths.{centuries_beside, longitude_beside}
 use Rattle.moon_core.proofs.longitude.longitude.Goals as goal
 
-pub returns-clause-close : goal.returns-clause-close
-returns-clause-close g c = λ w e k.
+pub returns-clause-measured : goal.returns-clause-measured
+returns-clause-measured g c = λ v e h.
     let shown = g.E.Enclosure.shown in
-    let l = limits_of g.E.Enclosure.BITS in
-    let r : Reach = record { width = w; bounds = days_and_terms } in
-    let i = inequalities_by (argument 1) (argument 0) in
-    let n : Narrow shown l r (longitude_by i (argument 0)) c.add-2.result =
-    c.add-2.ensures.encloses.narrow r _ _
-    (c.add.ensures.encloses.narrow r _ _ (longitude_beside shown l w c.args.elements.mean_longitude k.mean_longitude)
-    (c.mul_frac.ensures.encloses.narrow r i (c.inequalities.ensures.close w e k)))
-    (c.nutation.ensures.encloses.narrow r _ (centuries_beside shown l w c.args.elements.centuries k.centuries)) in
-    settled shown g.E.Enclosure.BITS w days_and_terms (longitude_by i (argument 0)) longitude_bound c.add-2.result e longitude_reaches n
+    let n = g.E.Enclosure.BITS in
+    let b = c.args.elements in
+    let r : Reach = record { width = v + 2 ^ 17; bounds = days_and longitude_bound } in
+    longitude_within shown n v c.add-2.result e
+    (c.add-2.ensures.encloses.narrow r _ _
+    (c.add.ensures.encloses.narrow r _ _ (longitude_beside shown n v longitude_bound b h)
+    (c.mul_frac.ensures.encloses.narrow r _ (c.inequalities.ensures.narrow v e h)))
+    (c.nutation.ensures.encloses.narrow r _ (centuries_beside shown n v longitude_bound b h)))

@@ -2,19 +2,20 @@ use Rattle.std.proofs.Common.{arith, ◌+◌, ◌*◌, ◌^◌}
 use Rattle.book_model.specs.sky.Moon.{moon_longitude_of}
 use Rattle.sun_core.specs.Daily.{in_centuries}
 use Rattle.moon_core.specs.Elements.{reduced_longitude_of}
-use Rattle.moon_core.proofs.Measured.{left_answer, longitude_within}
+use Rattle.moon_core.proofs.Measured.{left_answer}
 use Rattle.moon_core.proofs.longitude.longitude_at.Goals as goal
 
 pub returns-clause-leads : goal.returns-clause-leads
 unfolding reduced_longitude_of
-returns-clause-leads g c = λ w x h. c.wrap_step.ensures.leads w (moon_longitude_of (in_centuries x)) (c.longitude.ensures.holds w x h)
+returns-clause-leads g c = λ w x h. c.wrap_step.ensures.leads w (moon_longitude_of (in_centuries x))
+    (c.longitude.ensures.holds w x h)
 
 pub returns-clause-measured : goal.returns-clause-measured
-returns-clause-measured g c = λ v e b k.
-    c.wrap_step.ensures.measured (20 * v + 2 ^ 36) e (omega (arith, b))
-    (longitude_within g.E.Enclosure.shown _ v c.longitude.result e (c.longitude.ensures.narrow (λ q. omega (arith, e, q)) _ _ k.keep))
+returns-clause-measured g c = λ v e b k. c.wrap_step.ensures.measured (20 * v + 2 ^ 36) e (omega (arith, b))
+    (c.longitude.ensures.measured v e k)
 
 pub returns-clause-wide : goal.returns-clause-wide
 returns-clause-wide g c = λ v e b k.
     left_answer g.E.Enclosure.shown _ 360 (20 * v + 2 ^ 36) c.longitude.result c.wrap_step.result e (omega arith)
-    (longitude_within g.E.Enclosure.shown _ v c.longitude.result e (c.longitude.ensures.narrow (λ q. omega (arith, e, q)) _ _ k.keep)) c.wrap_step.ensures.narrow
+    (c.longitude.ensures.measured v e k)
+    c.wrap_step.ensures.narrow

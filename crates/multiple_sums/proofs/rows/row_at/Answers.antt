@@ -1,6 +1,6 @@
-use Rattle.std.proofs.Common.{rules, arith, SFits, Fits, w64}
+use Rattle.std.proofs.Common.{rules, arith, SFits, Fits, w64, neg_ℤ, pos, ◌*ℤ◌, ◌≤ℤ◌, ◌^◌}
 use Rattle.std.specs.Int.{w128}
-use Rattle.std.proofs.lemmas.Int.{to_z-of_z}
+use Rattle.std.proofs.lemmas.Int.{ints, to_z-of_z}
 use Rattle.turn_sums.specs.Turning.{whole_turns}
 use Rattle.multiple_sums.specs.Multiples.{turns_of}
 use Rattle.multiple_sums.proofs.Products.{product_is}
@@ -12,14 +12,18 @@ returns-clause-holds c =
     let fz : SFits w64 c.args.row.size = search rules in
     let ft : Fits w64 c.turn_of.result = search rules in
     let fs : SFits w64 c.sine_at_turn-sine.result = search rules in
-    let fw : SFits w64 c.weight.result = search rules in
-    let fp : SFits w128 c.weighted.result = search rules in
-    let v = simp to_z-of_z at c.weighted.ensures.value in
-    let q = simp to_z-of_z at c.weight.ensures.value in
+    let fw : SFits w64 c.scaled.result = search rules in
+    let fp : SFits w128 c.sized.result = search rules in
+    let fq : SFits w128 (c.sized.result *ℤ pos (2 ^ 37)) =
+    omega (arith, ints, c.sized.ensures.low, c.sized.ensures.high) in
+    let v = simp to_z-of_z at c.sized.ensures.value in
+    let l = rw c.factor.ensures.value at (simp to_z-of_z at c.scaled.ensures.below) in
+    let u = rw c.factor.ensures.value at (simp to_z-of_z at c.scaled.ensures.close) in
     let n = c.sine_at_turn-sine.ensures.near in
-    simp to_z-of_z (λ w u x d k.
-    row_holds w u c.args.turns.now c.args.row x c.turn_of.result (whole_turns
-    (turns_of c.args.turns.now c.args.row)) c.sine_at_turn-sine.result c.weighted.result d c.requires.small
+    simp to_z-of_z (λ w u' x d a k.
+    row_holds w u' c.args.turns.now c.args.row x c.turn_of.result (whole_turns
+    (turns_of c.args.turns.now c.args.row)) c.sine_at_turn-sine.result c.scaled.result (c.sized.result *ℤ pos (2 ^ 37))
+    d a c.requires.small
     (record {
       fits = omega
           (arith, ft);
@@ -28,4 +32,20 @@ returns-clause-holds c =
       greatest = c.sine_at_turn-sine.ensures.to;
       point = n;
     })
-    k (product_is c.weighted.result c.weight.result c.sine_at_turn-sine.result c.args.row.size c.factor.result _ v q c.factor.ensures.value))
+    k l u (product_is c.sized.result c.args.row.size c.scaled.result v))
+
+pub returns-clause-low : goal.returns-clause-low
+returns-clause-low c =
+    let fp : SFits w128 c.sized.result = search rules in
+    let fq : SFits w128 (c.sized.result *ℤ pos (2 ^ 37)) =
+    omega (arith, ints, c.sized.ensures.low, c.sized.ensures.high) in
+    let l : neg_ℤ (pos (2 ^ 119)) ≤ℤ (c.sized.result *ℤ pos (2 ^ 37)) = omega (arith, ints, c.sized.ensures.low) in
+    simp to_z-of_z l
+
+pub returns-clause-high : goal.returns-clause-high
+returns-clause-high c =
+    let fp : SFits w128 c.sized.result = search rules in
+    let fq : SFits w128 (c.sized.result *ℤ pos (2 ^ 37)) =
+    omega (arith, ints, c.sized.ensures.low, c.sized.ensures.high) in
+    let u : (c.sized.result *ℤ pos (2 ^ 37)) ≤ℤ pos (2 ^ 119) = omega (arith, ints, c.sized.ensures.high) in
+    simp to_z-of_z u

@@ -2,11 +2,11 @@ use Rattle.multiple_sums.proofs.turns.two_turns.Goals as goal
 
 pub returns : goal.returns
 returns g c = record {
-  holds = λ w d m n f hd hm hn hf.
+  holds = λ w a h.
       record {
-        elongation = c.in_ok-elongation_turn.ensures.near w d hd;
-        sun_anomaly = c.in_ok-sun_turn.ensures.known w m hm;
-        moon_anomaly = c.in_ok-moon_turn.ensures.near w n hn;
-        latitude_argument = c.in_ok-latitude_turn.ensures.known w f hf;
+        elongation = c.turn_of.ensures.near w a.elongation h.elongation;
+        sun_anomaly = c.unused_turn.ensures.known w a.sun_anomaly h.sun_anomaly;
+        moon_anomaly = c.turn_of-2.ensures.near w a.moon_anomaly h.moon_anomaly;
+        latitude_argument = c.unused_turn-2.ensures.known w a.latitude_argument h.latitude_argument;
       };
 }

@@ -1,10 +1,19 @@
-use Rattle.book_model.specs.declared.new_moon_tables.TheConstants.{NEW_MOON_NODE}
-use Rattle.new_moons.proofs.Measured.{polynomial_within, node_small, node_within}
+use Rattle.std.proofs.Common.{SFits, w64}
+use Rattle.std.proofs.lemmas.Int.{to_z-of_z}
+use Rattle.book_model.specs.sky.NewMoons.{node_term_of}
+use Rattle.new_moons.proofs.Measured.{node_within}
 use Rattle.new_moons.proofs.moons.node_term.Goals as goal
 
-pub returns-clause-measured : goal.returns-clause-measured
-returns-clause-measured g c = λ e h.
-    let shown = g.E.Enclosure.shown in
-    let q = polynomial_within shown _ NEW_MOON_NODE _ _ _ _ c.at_fraction.result e h node_small (λ F. c.at_fraction.ensures.measured F) in
-    node_within shown _ c.at_fraction.result c.sin_deg.result c.mul_frac.result e q (λ r x. c.sin_deg.ensures.encloses.narrow r x)
-    (λ r x. c.mul_frac.ensures.encloses.narrow r x)
+pub returns : goal.returns
+unfolding node_term_of
+returns g c =
+    let f : SFits w64 c.args.number = c.ranges.number in
+    record {
+      holds = λ w d h.
+          let n = simp to_z-of_z at c.node_by_months.ensures.holds in
+          c.mul_frac.ensures.encloses.holds w _ (c.sin_deg.ensures.encloses.holds w _ (n w d h));
+      measured = λ e k h.
+          let n = simp to_z-of_z at c.node_by_months.ensures.measured in
+          node_within g.E.Enclosure.shown _ c.node_by_months.result c.sin_deg.result c.mul_frac.result e (n e k h)
+          (λ r x. c.sin_deg.ensures.encloses.narrow r x) (λ r x. c.mul_frac.ensures.encloses.narrow r x);
+    }

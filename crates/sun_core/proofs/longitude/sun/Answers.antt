@@ -10,17 +10,20 @@ use Rattle.sun_core.proofs.Elapsed.{by_dynamical}
 use Rattle.std.proofs.Common.{arith, ◌+◌, ◌*◌, ◌^◌}
 use Rattle.book_model.specs.numbers.Bounds.{Reach}
 use Rattle.encl_core.proofs.Measuring.{measured_argument}
-use Rattle.sun_core.proofs.Measured.{tabled, days_of, longitude_within}
+use Rattle.sun_core.proofs.Measured.{tabled, days_of, days_within, centuries_within, turned_within}
 use Rattle.sun_core.proofs.longitude.sun.Goals as goal
 
 pub returns-clause-leads : goal.returns-clause-leads
 unfolding sun_of centuries_from in_centuries
 returns-clause-leads g c = λ w x h.
-    by_dynamical x (λ v. cell SunWrap (multiples 360) (longitude_of v) (λ q. answer (remainder 360 (longitude_of v) q))) (c.in_ok-moment.ensures.leads w x h)
+    by_dynamical x (λ v. cell SunWrap (multiples 360) (longitude_of v) (λ q. answer (remainder 360 (longitude_of v) q)))
+    (c.in_ok-moment.ensures.leads w x h)
     (λ d r.
-    let days = c.sub-days.ensures.encloses.holds w d (constant (fraction_of NOON_2000)) r (c.from_frac.ensures.encloses.holds w r.deep) in
+    let days = c.sub-days.ensures.encloses.holds w d (constant (fraction_of NOON_2000)) r
+    (c.from_frac.ensures.encloses.holds w r.deep) in
     c.wrap_step.ensures.leads w (longitude_of (in_centuries (subtract d (constant (fraction_of NOON_2000)))))
-    (c.longitude.ensures.holds w (subtract d (constant (fraction_of NOON_2000))) days (c.mul_frac-c.ensures.encloses.holds w _ days)))
+    (c.longitude.ensures.holds w (subtract d (constant (fraction_of NOON_2000))) days
+    (c.mul_frac-c.ensures.encloses.holds w _ days)))
 
 pub returns-clause-measured : goal.returns-clause-measured
 unfolding in_centuries
@@ -30,5 +33,8 @@ returns-clause-measured g c = λ v e b h.
     let m = c.in_ok-moment.ensures.measured v e (omega (arith, b)) h in
     let days = c.sub-days.ensures.encloses.narrow r (argument 0) (constant (fraction_of NOON_2000))
     (measured_argument shown _ _ _ (v + 2 ^ 17) 0 c.in_ok-moment.moment m) (c.from_frac.ensures.encloses.narrow r) in
-    let y = c.longitude.ensures.narrow (λ q. omega (arith, e, q)) r days_of days (c.mul_frac-c.ensures.encloses.narrow r days_of days) in
-    c.wrap_step.ensures.measured (2 * v + 2 ^ 32) e (omega (arith, b)) (longitude_within shown _ v c.longitude.result e b y)
+    let y = c.longitude.ensures.measured (v + 2 ^ 18) e (omega (arith, b))
+    (days_within shown _ v e b c.sub-days.result days)
+    (centuries_within shown _ v e b c.mul_frac-c.result (c.mul_frac-c.ensures.encloses.narrow r days_of days)) in
+    c.wrap_step.ensures.measured (2 * v + 2 ^ 32) e (omega (arith, b))
+    (turned_within shown _ v e b c.longitude.result y)

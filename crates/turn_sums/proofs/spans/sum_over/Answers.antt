@@ -1,29 +1,10 @@
-use Rattle.std.proofs.Common.{rules, arith, refl, SFits, w64, ◌+ℤ◌, ◌-ℤ◌}
-use Rattle.std.specs.Int.{w128}
-use Rattle.std.proofs.lemmas.Int.{ints, to_z-of_z}
-use Rattle.turn_sums.proofs.WaveSpans.{span_holds, sum_is_narrow}
+use Rattle.std.proofs.Common.{arith}
+use Rattle.std.proofs.lemmas.Int.{ints}
 use Rattle.turn_sums.proofs.spans.sum_over.Goals as goal
 
-pub returns : goal.returns
-returns c =
-    let fm : SFits w64 c.in_ok-mid.mid = search rules in
-    let fs : SFits w128 c.sum_at-sum.result = search rules in
-    let fr : SFits w128 c.radius_of-radius.result = search rules in
-    let n = simp to_z-of_z at c.in_ok-width.ensures.near in
-    let v = c.in_ok-width.ensures.half in
-    let h = simp to_z-of_z at c.sum_at-sum.ensures.holds in
-    let l = c.sum_at-sum.ensures.low in
-    let u = c.sum_at-sum.ensures.high in
-    let p = c.radius_of-radius.ensures.low in
-    let q = c.radius_of-radius.ensures.high in
-    let g1 : SFits w128 (c.sum_at-sum.result -ℤ c.radius_of-radius.result) = omega (arith, ints, l, u, p, q) in
-    let g2 : SFits w128 (c.sum_at-sum.result +ℤ c.radius_of-radius.result) = omega (arith, ints, l, u, p, q) in
-    record {
-      holds = simp to_z-of_z (λ w x vs d t r k.
-          span_holds vs c.in_ok-width.width c.args.slope c.args.sizes _ c.sum_at-sum.result c.radius_of-radius.result _ _ r
-          c.radius_of-radius.ensures.enough refl refl
-          (h w x vs c.in_ok-width.width c.args.days.lo c.args.days.hi d t n k));
-      narrow = simp to_z-of_z (λ vs t r.
-          sum_is_narrow vs c.in_ok-width.width c.args.slope c.args.sizes c.args.days.lo c.args.days.hi c.sum_at-sum.result c.radius_of-radius.result _ _ r
-          n.small v c.radius_of-radius.ensures.close (c.sum_at-sum.ensures.sizes vs t) refl refl);
-    }
+pub returns-in-Some-clause-narrow : goal.returns-in-Some-clause-narrow
+returns-in-Some-clause-narrow c = λ k. record {
+  narrow = omega (arith, ints, c.common.ensures.close, c.in-Some.ensures.narrow);
+  above = omega (arith, ints, c.common.ensures.above, c.any_sum-any.ensures.low);
+  below = omega (arith, ints, c.common.ensures.below, c.any_sum-any.ensures.high);
+}

@@ -5,14 +5,14 @@ use Rattle.book_model.specs.numbers.Expressions.{Expression, World, value}
 use Rattle.book_model.specs.numbers.Polynomials.{no_wave}
 use Rattle.book_model.specs.numbers.Terms.{terms_to}
 use Rattle.book_model.specs.programs.Leading.{units_of_56}
-use Rattle.turn_sums.specs.Turning.{AreTurning, AreNear, IsAtMost, turning_wave_of, radius_to, sizes_to}
+use Rattle.turn_sums.specs.Turning.{AreTurning, AreNear, turning_wave_of, radius_to}
 use Rattle.turn_sums.proofs.WaveSums.{around}
 use Rattle.turn_sums.proofs.sums.sum_at.Given as goal
 
 abbrev pub invariant-loop-row : goal.invariant-loop-row
 invariant-loop-row l =
-    ((w : World) (x : Expression) (vs : List Wave) (width : ℕ) (lo hi : ℤ) → 40 ≤ w.depth → AreTurning vs l.rows → AreNear l.mid width lo hi
+    ((w : World) (x : Expression) (vs : List Wave) (width : ℕ) (lo hi : ℤ) → 40 ≤ w.depth → AreTurning vs l.rows
+    → AreNear l.mid width lo hi
     → value w x ⊆ between (units_of_56 lo) (units_of_56 hi)
     → value w (terms_to (turning_wave_of x) no_wave vs l.row-index) ⊆ around l.sum (radius_to vs width l.row-index))
-    × ((vs : List Wave) → AreTurning vs l.rows → IsAtMost (sizes_to vs l.row-index * 2 ^ 56) l.sum)
     × (neg_ℤ (pos (l.row-index * 2 ^ 87)) ≤ℤ l.sum) × (l.sum ≤ℤ pos (l.row-index * 2 ^ 87))

@@ -6,10 +6,11 @@ unfolding lunar_angles_of
 invariant_of-result g c = record {
   higher = c.requires.higher;
   angles = c.requires.angles;
-  terms = λ w x h. c.other_terms.ensures.holds w x h.deep (c.requires.angles w x h);
+  terms = λ w x h. c.others_by.ensures.holds w x h.deep (c.requires.angles w x h);
   venus = c.sine_wave.ensures.holds;
   jupiter = c.sine_wave-2.ensures.holds;
   flattening =
-      λ w x h. c.flattening.ensures.holds w x (c.quartic_by.ensures.holds w x h (c.requires.higher w x h).longitude) (c.requires.angles w x h).latitude_argument;
+      λ w x h. c.flattening.ensures.holds w x (c.quartic_by.ensures.holds w x h (c.requires.higher w x h).longitude)
+      (c.requires.angles w x h).latitude_argument;
   nutation = c.requires.nutation;
 }

@@ -1,15 +1,9 @@
 use Rattle.sun_core.specs.Daily.{in_centuries}
 use Rattle.moon_core.proofs.courses.MoonCourse.usual.Goals as goal
 
-pub by-requires-clause-higher : goal.by-requires-clause-higher
+pub of-requires : goal.of-requires
 unfolding in_centuries
-by-requires-clause-higher g c = λ w x h. c.higher_terms-higher.ensures.holds w _ (c.mul_frac-c.ensures.encloses.holds w x h)
-
-pub by-requires-clause-angles : goal.by-requires-clause-angles
-unfolding in_centuries
-by-requires-clause-angles g c = λ w x h. c.with_any.ensures.holds w _ (c.angles_by.ensures.holds w x h (c.mul_frac-c.ensures.encloses.holds w x h)
-    (c.higher_terms-higher.ensures.holds w _ (c.mul_frac-c.ensures.encloses.holds w x h)))
-
-pub by-requires-clause-nutation : goal.by-requires-clause-nutation
-unfolding in_centuries
-by-requires-clause-nutation g c = λ w x h. c.nutation.ensures.encloses.holds w _ (c.mul_frac-c.ensures.encloses.holds w x h)
+of-requires g c = record {
+  nutation = λ w x h. c.nutation.ensures.encloses.holds w _
+      (c.mul_frac.ensures.encloses.holds w x h);
+}

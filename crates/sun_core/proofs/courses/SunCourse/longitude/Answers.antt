@@ -9,6 +9,8 @@ returns g c = record {
   holds =
       λ w x h.
       let k = stretched c.requires.there h in
-      c.add-2.ensures.encloses.holds w _ _
-      (c.add.ensures.encloses.holds w _ _ (c.mean_and_waves.ensures.holds w x h) (c.self.invariant.aberration w x (rw c.self.view_is k))) (c.self.invariant.nutation w x (rw c.self.view_is k));
+      c.add-3.ensures.encloses.holds w _ _
+      (c.add-2.ensures.encloses.holds w _ _ (c.add.ensures.encloses.holds w _ _ (c.mean_longitude.ensures.holds w x h)
+      (c.periodic.ensures.holds w x h)) (c.self.invariant.aberration w x (rw c.self.view_is k)))
+      (c.self.invariant.nutation w x (rw c.self.view_is k));
 }

@@ -1,8 +1,10 @@
+use Rattle.sun_core.specs.Daily.{in_centuries}
 use Rattle.sun_core.proofs.courses.SunCourse.of.Goals as goal
 
 pub invariant_of-result : goal.invariant_of-result
+unfolding in_centuries
 invariant_of-result g c = record {
   waves = c.other_waves.ensures.holds;
   aberration = c.aberration.ensures.holds;
-  nutation = c.nutation_over.ensures.holds;
+  nutation = λ w x h. c.nutation.ensures.encloses.holds w _ (c.mul_frac.ensures.encloses.holds w _ h);
 }
