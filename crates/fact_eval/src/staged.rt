@@ -25,8 +25,7 @@ use book_model::{FIRST_DAY, Fact, Fail, Kind, LAST_DAY, Place, Site, Undecided};
 use encl_core::{Coarse, Enclosure, Trail};
 use fix_fine::Fine;
 use hindu_facts::{
-    calendar_year, sankranti_by, sign_after_by, sign_at_sunset_by, sign_before_by, solar_year,
-    tithi,
+    calendar_year, sankranti, sign_after, sign_at_sunset, sign_before, solar_year, tithi,
 };
 use moon_core::PhaseCourse;
 use moon_rise::{moonrise, moonset};
@@ -101,12 +100,12 @@ fn formula<E: Enclosure>(
         Kind::MajorTerm => term_day::<E>(course.sun(), place, 0, day, trail),
         Kind::MinorTerm => term_day::<E>(course.sun(), place, 15, day, trail),
         Kind::Phasis => phasis::<E>(course, place, day, trail),
-        Kind::Sign => sign_at_sunset_by::<E>(course.sun(), day, trail),
+        Kind::Sign => sign_at_sunset::<E>(course.sun(), day, trail),
         Kind::SolarYear => solar_year::<E>(day, trail),
-        Kind::Sankranti => sankranti_by::<E>(course.sun(), day, trail),
+        Kind::Sankranti => sankranti::<E>(course.sun(), day, trail),
         Kind::Tithi => tithi::<E>(day, trail),
-        Kind::SignBefore => sign_before_by::<E>(course, day, trail),
-        Kind::SignAfter => sign_after_by::<E>(course, day, trail),
+        Kind::SignBefore => sign_before::<E>(course, day, trail),
+        Kind::SignAfter => sign_after::<E>(course, day, trail),
         Kind::CalendarYear => calendar_year::<E>(day, trail),
         Kind::NewMoon => phase_day::<E>(course, 0, day, trail),
         Kind::FirstQuarter => phase_day::<E>(course, 90, day, trail),

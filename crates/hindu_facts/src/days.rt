@@ -38,9 +38,16 @@ fn sign_on<E: Enclosure>(
     sign(course, t, trail)
 }
 
-/// `sign_at_sunset`, where the course of the sun is known over all days.
+/// The sign of the zodiac, from 1 to 12, in which the sun stands at sunset on a day (R.D.) at Ujjain (Reingold and Dershowitz,
+/// Calendrical Calculations, chapter 20): 137 tests at most (`sign_at_few`). It is void at `year` where a moment that it takes lies
+/// in a year of which there is no correction, at `offset` where the sun doesn't come to the horizon, and at `settle` where twelve
+/// approximations of sunset don't settle.
+///
+/// ```
+/// let sign = hindu_facts::sign_at_sunset::<Fine>(&SunCourse::always(), 738_990, &mut Trail::new())?; // 1, on 14 April 2024
+/// ```
 #[tactic(auto, using(book_model::proofs::Leads::leading))]
-pub fn sign_at_sunset_by<E: Enclosure>(
+pub fn sign_at_sunset<E: Enclosure>(
     course: &SunCourse<E>,
     day: i64,
     trail: &mut Trail,
@@ -52,24 +59,6 @@ pub fn sign_at_sunset_by<E: Enclosure>(
 {
     let sunsets = HinduSunsets::<E>::new();
     sign_on(&sunsets, course, day, trail)
-}
-
-/// The sign of the zodiac, from 1 to 12, in which the sun stands at sunset on a day (R.D.) at Ujjain (Reingold and Dershowitz,
-/// Calendrical Calculations, chapter 20): 137 tests at most (`sign_at_few`). It is void at `year` where a moment that it takes lies
-/// in a year of which there is no correction, at `offset` where the sun doesn't come to the horizon, and at `settle` where twelve
-/// approximations of sunset don't settle.
-///
-/// ```
-/// let sign = hindu_facts::sign_at_sunset::<Fine>(738_990, &mut Trail::new())?; // 1, on 14 April 2024
-/// ```
-pub fn sign_at_sunset<E: Enclosure>(day: i64, trail: &mut Trail) -> Result<i64, Fail>
-    ensures leads { Decides (spec.sign_at_sunset_of day) trail.old.count trail.new.count result }
-    ensures value { IfOk result IsFactValue }
-    ensures close { FIRST_HINDU_DAY ≤ℤ day → day ≤ℤ last_fact_day → E.BITS ≡ 56
-        → IfErr result IsClose }
-{
-    let course = SunCourse::<E>::always();
-    sign_at_sunset_by(&course, day, trail)
 }
 
 /// The year of the Kali Yuga at sunset on a day (R.D.) at Ujjain (Reingold and Dershowitz, Calendrical Calculations, chapter
@@ -186,9 +175,15 @@ fn sign_entered<E: Enclosure>(
     first_in_sign(sunsets, course, there, start(day, degrees), trail)
 }
 
-/// `sankranti`, where the course of the sun is known over all days.
+/// The first day (R.D.) of the solar month in which a day falls, by whose sunset at Ujjain the sun has come into its sign (Reingold
+/// and Dershowitz, Calendrical Calculations, chapter 20): 6,444 tests at most (`sankranti_few`). Void as `sign_at_sunset`, of the
+/// day or of one that is tried, and at `search` where none of 46 days is one.
+///
+/// ```
+/// let first = hindu_facts::sankranti::<Fine>(&SunCourse::always(), 738_990, &mut Trail::new())?; // 738_990: the month begins on 14 April 2024
+/// ```
 #[tactic(auto, using(book_model::proofs::Leads::leading), unfolding(book_model::specs::sky::HinduFacts::sankranti_of))]
-pub fn sankranti_by<E: Enclosure>(
+pub fn sankranti<E: Enclosure>(
     course: &SunCourse<E>,
     day: i64,
     trail: &mut Trail,
@@ -201,23 +196,6 @@ pub fn sankranti_by<E: Enclosure>(
     let sunsets = HinduSunsets::<E>::new();
     let t = sunsets.on(day, trail)?;
     sign_entered(sunsets, course, day, t, trail)
-}
-
-/// The first day (R.D.) of the solar month in which a day falls, by whose sunset at Ujjain the sun has come into its sign (Reingold
-/// and Dershowitz, Calendrical Calculations, chapter 20): 6,444 tests at most (`sankranti_few`). Void as `sign_at_sunset`, of the
-/// day or of one that is tried, and at `search` where none of 46 days is one.
-///
-/// ```
-/// let first = hindu_facts::sankranti::<Fine>(738_990, &mut Trail::new())?; // 738_990: the month begins on 14 April 2024
-/// ```
-pub fn sankranti<E: Enclosure>(day: i64, trail: &mut Trail) -> Result<i64, Fail>
-    requires day { IsValueDay day }
-    ensures leads { Decides (spec.sankranti_of day) trail.old.count trail.new.count result }
-    ensures value { IfOk result IsFactValue }
-    ensures close { E.BITS ≡ 56 → IfErr result IsClose }
-{
-    let course = SunCourse::<E>::always();
-    sankranti_by(&course, day, trail)
 }
 
 /// The whole lunar days that have passed of a month at a moment, from 0 to 30.
@@ -254,9 +232,15 @@ pub fn tithi<E: Enclosure>(day: i64, trail: &mut Trail) -> Result<i64, Fail>
     Ok(passed + 1)
 }
 
-/// `sign_before`, where the courses of the moon and the sun are known over the usual days.
+/// The sign in which the sun stood at the last new moon before sunrise on a day (R.D.) at Ujjain (Reingold and Dershowitz,
+/// Calendrical Calculations, chapter 20): 163 tests at most (`sign_before_few`). Void as `tithi`, and at `moon-walk` where the walk
+/// to the new moon takes more than five steps.
+///
+/// ```
+/// let sign = hindu_facts::sign_before::<Fine>(&PhaseCourse::usual(), 738_990, &mut Trail::new())?; // 12, on 14 April 2024
+/// ```
 #[tactic(auto, using(book_model::proofs::Leads::leading), unfolding(book_model::specs::sky::HinduFacts::sign_before_of))]
-pub fn sign_before_by<E: Enclosure>(
+pub fn sign_before<E: Enclosure>(
     course: &PhaseCourse<E>,
     day: i64,
     trail: &mut Trail,
@@ -271,26 +255,14 @@ pub fn sign_before_by<E: Enclosure>(
     sign(course.sun(), t, trail)
 }
 
-/// The sign in which the sun stood at the last new moon before sunrise on a day (R.D.) at Ujjain (Reingold and Dershowitz,
-/// Calendrical Calculations, chapter 20): 163 tests at most (`sign_before_few`). Void as `tithi`, and at `moon-walk` where the walk
-/// to the new moon takes more than five steps.
+/// The sign in which the sun stands at the first new moon from sunrise on on a day (R.D.) at Ujjain (Reingold and
+/// Dershowitz, Calendrical Calculations, chapter 20): 163 tests at most (`sign_after_few`). Void as `sign_before`.
 ///
 /// ```
-/// let sign = hindu_facts::sign_before::<Fine>(738_990, &mut Trail::new())?; // 12, on 14 April 2024
+/// let sign = hindu_facts::sign_after::<Fine>(&PhaseCourse::usual(), 738_990, &mut Trail::new())?; // 1, on 14 April 2024
 /// ```
-pub fn sign_before<E: Enclosure>(day: i64, trail: &mut Trail) -> Result<i64, Fail>
-    requires day { IsValueDay day }
-    ensures leads { Decides (spec.sign_before_of day) trail.old.count trail.new.count result }
-    ensures value { IfOk result IsFactValue }
-    ensures close { E.BITS ≡ 56 → IfErr result IsClose }
-{
-    let course = PhaseCourse::<E>::usual();
-    sign_before_by(&course, day, trail)
-}
-
-/// `sign_after`, where the courses of the moon and the sun are known over the usual days.
 #[tactic(auto, using(book_model::proofs::Leads::leading), unfolding(book_model::specs::sky::HinduFacts::sign_after_of))]
-pub fn sign_after_by<E: Enclosure>(
+pub fn sign_after<E: Enclosure>(
     course: &PhaseCourse<E>,
     day: i64,
     trail: &mut Trail,
@@ -303,22 +275,6 @@ pub fn sign_after_by<E: Enclosure>(
     let rising = sunrise::<E>(day, trail)?;
     let t = moon_from_by(course, rising, trail)?;
     sign(course.sun(), t, trail)
-}
-
-/// The sign in which the sun stands at the first new moon from sunrise on on a day (R.D.) at Ujjain (Reingold and
-/// Dershowitz, Calendrical Calculations, chapter 20): 163 tests at most (`sign_after_few`). Void as `sign_before`.
-///
-/// ```
-/// let sign = hindu_facts::sign_after::<Fine>(738_990, &mut Trail::new())?; // 1, on 14 April 2024
-/// ```
-pub fn sign_after<E: Enclosure>(day: i64, trail: &mut Trail) -> Result<i64, Fail>
-    requires day { IsValueDay day }
-    ensures leads { Decides (spec.sign_after_of day) trail.old.count trail.new.count result }
-    ensures value { IfOk result IsFactValue }
-    ensures close { E.BITS ≡ 56 → IfErr result IsClose }
-{
-    let course = PhaseCourse::<E>::usual();
-    sign_after_by(&course, day, trail)
 }
 
 /// The year of the Kali Yuga when a day (R.D.) begins in universal time (Reingold and Dershowitz, Calendrical Calculations,

@@ -2,8 +2,10 @@
 //! the signs at the new moons about it, by sunrise and sunset at Ujjain. Each call makes the tests of its formula.
 //!
 //! - `sign_at_sunset`, `solar_year`, `sankranti`: of the solar calendar;
-//! - `tithi`, `sign_before`, `sign_after`, `calendar_year`: of the lunar one;
-//! - `sankranti_by` and the others with this ending: the same by courses of the sun and the moon.
+//! - `tithi`, `sign_before`, `sign_after`, `calendar_year`: of the lunar one.
+//!
+//! Four take a course of the sun, or of the moon and the sun: of a stretch that holds the moments that they ask, or of all days
+//! (`SunCourse::always`, `PhaseCourse::usual`).
 //!
 //! They stand in a crate of their own, below the evaluator, so that each crate has few wrong programs. All but
 //! `sign_at_sunset`, which the search for a sankranti calls too, ask for a day of which a fact may have a value; for
@@ -14,6 +16,5 @@ mod days;
 mod zodiac;
 
 pub use days::{
-    calendar_year, sankranti, sankranti_by, sign_after, sign_after_by, sign_at_sunset,
-    sign_at_sunset_by, sign_before, sign_before_by, solar_year, tithi,
+    calendar_year, sankranti, sign_after, sign_at_sunset, sign_before, solar_year, tithi,
 };

@@ -4,18 +4,22 @@ use encl_core::{Coarse, Trail};
 use hindu_facts::{
     calendar_year, sankranti, sign_after, sign_at_sunset, sign_before, solar_year, tithi,
 };
+use moon_core::PhaseCourse;
+use sun_core::SunCourse;
 
 /// The values of a day (R.D.), in the order of the facts.
 fn values(day: i64, trail: &mut Trail) -> Result<[i64; 7], FormulaFail> {
     // Of other days no value is asked.
     let day = day.clamp(620_729, 784_906);
+    let phases = PhaseCourse::<Coarse>::usual();
+    let course = SunCourse::<Coarse>::always();
     Ok([
-        sign_at_sunset::<Coarse>(day, trail)?,
+        sign_at_sunset::<Coarse>(&course, day, trail)?,
         solar_year::<Coarse>(day, trail)?,
-        sankranti::<Coarse>(day, trail)?,
+        sankranti::<Coarse>(&course, day, trail)?,
         tithi::<Coarse>(day, trail)?,
-        sign_before::<Coarse>(day, trail)?,
-        sign_after::<Coarse>(day, trail)?,
+        sign_before::<Coarse>(&phases, day, trail)?,
+        sign_after::<Coarse>(&phases, day, trail)?,
         calendar_year::<Coarse>(day, trail)?,
     ])
 }

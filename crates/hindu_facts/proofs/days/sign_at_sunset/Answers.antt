@@ -1,6 +1,6 @@
 use Rattle.std.proofs.Common.{SFits, w64}
 use Rattle.std.proofs.lemmas.Int.{to_z-of_z}
-use Rattle.hindu_facts.proofs.days.sign_at_sunset_by.Goals as goal
+use Rattle.hindu_facts.proofs.days.sign_at_sunset.Goals as goal
 
 pub returns-clause-close : goal.returns-clause-close
 returns-clause-close g c =

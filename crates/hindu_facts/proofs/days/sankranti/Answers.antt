@@ -3,7 +3,7 @@ use Rattle.std.proofs.lemmas.Int.{to_z-of_z, ints}
 use Rattle.std.proofs.lemmas.Result.{err_from_is_err_and}
 use Rattle.book_model.specs.sky.HinduFacts.{sankranti_of}
 use Rattle.book_model.proofs.Leads.{leads_on, leaf_within}
-use Rattle.hindu_facts.proofs.days.sankranti_by.Goals as goal
+use Rattle.hindu_facts.proofs.days.sankranti.Goals as goal
 
 pub returns-clause-leads : goal.returns-clause-leads
 unfolding sankranti_of
@@ -17,7 +17,8 @@ returns-clause-close g c = λ e.
     let f : SFits w64 c.args.day = c.ranges.day in
     let d = c.requires.day in
     let m = simp to_z-of_z at c.in_ok-t.ensures.recent in
-    c.sign_entered.ensures.close (9 * 2 ^ 29) e (omega arith) (m (omega (arith, ints, d.0)) (omega (arith, ints, d.1)) e)
+    c.sign_entered.ensures.close (9 * 2 ^ 29) e (omega arith)
+    (m (omega (arith, ints, d.0)) (omega (arith, ints, d.1)) e)
 
 pub returns-in_err-t-clause-close : goal.returns-in_err-t-clause-close
 returns-in_err-t-clause-close g c = λ e.
