@@ -1,7 +1,7 @@
 //! Answers over fine enclosures of moments without width, in all years of the table of corrections: each is at most as wide as
 //! the table of greatest widths says.
 use super::formulas::{Formula, value};
-use super::measures::new_year;
+use super::measures::{fraction, new_year};
 use book_model::Fail as FormulaFail;
 use encl_core::greatest_widths::{DISTANCE, LATITUDE, MOON, NEW_MOON, PHASE, SUN, WidthRow};
 use encl_core::{Enclosure, Trail};
@@ -53,5 +53,48 @@ fn a_day_of_each_ancient_decade_is_narrow(rt: HostRuntime) {
     for decade in 0..100_i64 {
         let day = decade.saturating_mul(3_652).saturating_sub(182_500);
         assert!(rt; is_day_narrow(day), "day {day}");
+    }
+}
+
+/// Formulas of a moment, and how wide their answers are at most between 1712 and 2147, in 2⁻⁵⁶ degrees and days. What their clauses
+/// say leaves more room, for the rows' roundings are summed there as if they all fell to one side and over all of the table.
+const FINE_WIDTHS: [(Formula, i128); 5] = [
+    (Formula::Sun, 1_000),
+    (Formula::Moon, 1_000),
+    (Formula::Latitude, 1_000),
+    (Formula::Phase, 1_000),
+    (Formula::MoonFrom, 1_000),
+];
+
+/// How many moments are tried, and how many days one is after another.
+const MOMENTS: i64 = 1_600;
+
+const DAYS_BETWEEN: i64 = 99;
+
+/// The moment of a number: days apart, each a sixteenth of a day later.
+fn moment(number: i64) -> Fine {
+    let day = new_year(1712).saturating_add(number.saturating_mul(DAYS_BETWEEN));
+    let sixteenths = day.saturating_mul(16).saturating_add(number % 16);
+    fraction(i128::from(sixteenths), 16)
+}
+
+/// How wide an answer is, in 2⁻⁵⁶; of none more than any is.
+fn width(found: Result<Fine, FormulaFail>) -> i128 {
+    let Ok(found) = found else {
+        return i128::MAX;
+    };
+    match found.span() {
+        Some(span) => span.hi.saturating_sub(span.lo),
+        None => i128::MAX,
+    }
+}
+
+#[test]
+fn the_fine_kind_is_fine(rt: HostRuntime) {
+    for (formula, most) in FINE_WIDTHS {
+        for number in 0..MOMENTS {
+            let found = width(value(formula, moment(number), &mut Trail::new()));
+            assert!(rt; found <= most, "moment {number}: {found}");
+        }
     }
 }
