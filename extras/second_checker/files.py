@@ -1,4 +1,4 @@
-"""Printed files: the grammar, and the verdicts of `check` (docs/FORMAT.md)."""
+"""Certificates: the grammar, and the verdicts of `check` (docs/FORMAT.md)."""
 
 import re
 from collections import namedtuple
@@ -43,7 +43,7 @@ def parsed(text, patterns):
     return None
 
 def read(text):
-    """The version, the facts and the lines of a printed file; raises Bad."""
+    """The version, the facts and the lines of a certificate; raises Bad."""
     lines = text.split(b"\n")
     lines = [line[:-1] if line.endswith(b"\r") else line for line in (lines if lines[-1] else lines[:-1])]
     if not lines or lines[0] not in HEADERS: raise Bad("bad 1 1")

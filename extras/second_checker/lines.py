@@ -12,7 +12,7 @@ ROW = {row["calendar"]: row for row in rows("calendars")}
 DAYS = {n: (int(row["first day"]), int(row["last day"])) for n, row in enumerate(rows("versions"), 1)}
 
 def is_in(version, row):
-    """Whether a row is one of a version of printed files."""
+    """Whether a row is one of a version of certificates."""
     return row["since"] == "One" or version == 2
 
 class Refused(Exception):
