@@ -117,8 +117,9 @@ def check_page(folder):
     status, page, said = extra("almanac-page", "2027", "--place", "tehran")
     took = time.monotonic() - began
     expect(status == 0 and not said, f"almanac-page 2027 ends with 0 and says nothing: {status} {said}")
-    expect(len(page.encode()) < MOST_BYTES, f"the page has fewer than {MOST_BYTES} bytes: {len(page.encode())}")
-    print(f"extras: the page of 2027 has {len(page.encode())} bytes and took {took:.1f} s")
+    longest = len(extra("almanac-page", "2028")[1].encode())  # a year of leap months, whose dates rest on more facts
+    expect(max(len(page.encode()), longest) < MOST_BYTES, f"a page has fewer than {MOST_BYTES} bytes: {len(page.encode())}, {longest}")
+    print(f"extras: the page of 2027 has {len(page.encode())} bytes and took {took:.1f} s, that of 2028 has {longest} bytes")
     read = Reader(page)
     days = [str(day) for day in days_of(2027)]
     wanted = results(f"gregorian {day} {calendar}" for day in days for calendar in CALENDARS)

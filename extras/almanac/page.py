@@ -71,7 +71,7 @@ class Page:
         """What the line at a place rests on, as the list that a date opens."""
         line = self.year.line(place)
         told = "".join(f"<li>{escape(ground.words)}" for ground in words.grounds(line, self.year.text))
-        return f'<ul><li>Line {line.number}: {" ".join(line.asked)}: {line.result}{told}</ul>'
+        return f"<ul><li>Line {line.number}: {line.result}{told}</ul>"
 
     def opening(self, shown, place):
         """Something shown that opens what it rests on."""

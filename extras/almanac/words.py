@@ -129,35 +129,64 @@ class Grounds:
         if not (first and last):
             return None
         spans = (Fraction(last.value - first.value) / SYNODIC_MONTH + Fraction(1, 2)).__floor__()
-        told = "one of the thirteen months is a leap month" if spans == 12 else "no leap month"
+        told = "a leap month among the thirteen" if spans == 12 else "no leap month"
         return Ground((fact.number, next_solstice.number, first.number, last.number),
                       f"December solstices in {CITIES.get(fact.place, fact.place)}: {gregorian(fact.value)} and "
                       f"{gregorian(next_solstice.value)}; first new moon after the former {gregorian(first.value)}, last by the latter "
-                      f"{gregorian(last.value)}, {spans} months later: {told}")
+                      f"{gregorian(last.value)}, {spans} months on: {told}")
 
     def month(self, fact):
-        """Whether the month that begins on the day of this fact, of kind `major`, has a major term, where the facts are listed."""
+        """The facts by which the month that begins on the day of this one, of kind `major`, is tested, where all are listed."""
         after = self.find("new-moon-from", fact.place, fact.day + 1)
         at_end = after and self.find("major", fact.place, after.value)
-        if not at_end:
-            return None
-        span = f"month from {gregorian(fact.day)} to {gregorian(after.value - 1)}"
-        if at_end.value == fact.value:
-            words = f"{span}: no major term; the last is {major(fact.value)} as it begins, and as the next begins"
-        else:
-            words = f"{span}: has a major term; the last is {major(fact.value)} as it begins, {major(at_end.value)} as the next begins"
-        return Ground((fact.number, after.number, at_end.number), words)
+        return (fact, after, at_end) if at_end else None
 
     def together(self, fact):
         """The sentence that begins with this fact."""
-        whole = {"solstice": self.sui, "major": self.month}.get(fact.kind, lambda fact: None)(fact)
-        return whole or Ground((fact.number,), phrase(fact))
+        if fact.kind == "solstice" and self.sui(fact):
+            return self.sui(fact)
+        if fact.kind == "major" and self.month(fact):
+            return month_words(*self.month(fact))
+        return Ground((fact.number,), phrase(fact))
+
+    def months(self):
+        """The sentences on the months that are tested at a place, where they are several."""
+        tests = [test for test in map(self.month, (fact for fact in self.facts if fact.kind == "major")) if test]
+        for place in dict.fromkeys(fact.place for fact, _, _ in tests):
+            here = sorted((test for test in tests if test[0].place == place), key=lambda test: test[0].day)
+            if len(here) > 1:
+                begun = {fact.value for fact in self.facts if fact.place == place and fact.kind.startswith("new-moon-")}
+                yield months_words(here, [fact for fact in self.facts if fact.place == place and fact.kind == "new-moon-before"
+                                          and fact.day in begun])
 
     def all(self):
         """The sentences in the order of the facts; each fact stands in one at least."""
-        whole = [self.together(fact) for fact in self.facts]
-        told = {number for ground in whole if len(ground.facts) > 1 for number in ground.facts}
-        return [ground for ground in whole if len(ground.facts) > 1 or ground.facts[0] not in told]
+        several = list(self.months())
+        told = {number for ground in several for number in ground.facts}
+        whole = [self.together(fact) for fact in self.facts if fact.number not in told]
+        told |= {number for ground in whole if len(ground.facts) > 1 for number in ground.facts}
+        return [ground for ground in whole if len(ground.facts) > 1 or ground.facts[0] not in told] + several
+
+
+def month_words(fact, after, at_end):
+    """Whether a month has a major term, by the last one as it begins and as the next begins."""
+    span = f"month from {gregorian(fact.day)} to {gregorian(after.value - 1)}"
+    if at_end.value == fact.value:
+        words = f"{span}: no major term; the last is {major(fact.value)} as it begins, and as the next begins"
+    else:
+        words = f"{span}: has a major term; the last is {major(fact.value)} as it begins, {major(at_end.value)} as the next begins"
+    return Ground((fact.number, after.number, at_end.number), words)
+
+
+def months_words(tests, chain):
+    """Of several months in one sentence the last major term as each begins, and which have none; and months found back from others."""
+    begins = {fact.day: fact.value for test in tests for fact in (test[0], test[2])}
+    terms = ", ".join(f"{gregorian(day)} {major_degrees(begins[day])}°" for day in sorted(begins))
+    bare = [f"that from {gregorian(fact.day)} to {gregorian(after.value - 1)}" for fact, after, at_end in tests if fact.value == at_end.value]
+    numbers = {fact.number for test in tests for fact in test} | {fact.number for fact in chain}
+    others = ", ".join(gregorian(day) for day in sorted({fact.value for fact in chain} - set(begins)))
+    return Ground(tuple(sorted(numbers)), f"last major term as months begin: {terms}; without one: {', '.join(bare) or 'none of them'}"
+                  + (f"; last new moons before such a month: {others}" if others else ""))
 
 
 def grounds(line, text):
