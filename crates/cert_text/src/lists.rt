@@ -1,5 +1,5 @@
 //! Lists of bytes and of numbers, which contracts see as lists.
-ghost use Rattle.std.specs.Prelude.{◌≡◌, ◌++◌, ◌∷◌, [], ℕ, List, IfOk, OnOk, OnErr};
+ghost use Rattle.std.specs.Prelude.{◌≡◌, ◌<◌, ◌++◌, ◌∷◌, [], ℕ, List, Some, length, slice_get, IfOk, OnOk, OnErr};
 
 use smallvec::SmallVec;
 use std::alloc::{AllocError, Global};
@@ -11,8 +11,7 @@ pub(crate) const WORD_ROOM: usize = 24;
 /// How many numbers stand in their list itself: most lines rest on no more facts.
 const NUMBERS_ROOM: usize = 4;
 
-// A word is made whole and read as bytes; it and `Numbers` have what callers need of a list, and no
-// more.
+// A word is made whole and read as bytes, so that it has none of a list's other calls.
 /// A word: a list of bytes. A short one takes no memory of its own.
 #[derive(Debug, Drop)]
 pub struct Word {
@@ -79,6 +78,21 @@ impl Numbers {
     {
         self.items.push(number)?;
         Ok(())
+    }
+
+    /// The number of items.
+    pub fn len(&self) -> usize
+        ensures len { result ≡ length self.now }
+    {
+        self.numbers().len()
+    }
+
+    /// An item, from 0.
+    pub fn item(&self, index: usize) -> &u32
+        requires within { index < length self.now }
+        ensures item { Some result.now ≡ slice_get self.now index }
+    {
+        &self.numbers()[index]
     }
 
     /// Empties the list, and keeps its room.
