@@ -1,5 +1,5 @@
 //! How facts with their values are held.
-ghost use Rattle.std.specs.Prelude.{◌≡◌, ◌<◌, ◌++◌, [], ◌∷◌, Some, length, slice_get, IfOk, OnOk, OnErr};
+ghost use Rattle.std.specs.Prelude.{◌≡◌, ◌++◌, [], ◌∷◌, IfOk, OnOk, OnErr};
 ghost use Rattle.oracle_core.specs.Kept.{kept_pairs};
 
 use book_model::Fact;
@@ -7,7 +7,7 @@ use std::alloc::{AllocError, Global};
 
 // Many lines ask a single fact, and an allocation is an eighth of what such a line costs whose fact is
 // known already.
-/// Facts with their values, in order, by their number. Neither an empty list nor one of a single fact takes memory.
+/// Facts with their values, in order: none, one or more. Neither an empty list nor one of a single fact takes memory.
 #[derive(Debug, Drop)]
 pub enum Kept {
     Empty,
