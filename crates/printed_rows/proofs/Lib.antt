@@ -1,4 +1,3 @@
-pub mod BlockLemmas
 pub mod NumberLemmas
 pub mod TextLemmas
 pub mod RightLemmas

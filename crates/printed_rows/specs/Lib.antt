@@ -4,4 +4,4 @@ pub mod Writing
 pub mod Printing
 pub mod Counting
 pub mod Renewing
-pub mod Numbering
+pub mod Hashing

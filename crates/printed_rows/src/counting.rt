@@ -10,6 +10,7 @@ ghost use Rattle.printed_rows.specs.Counting as spec;
 ghost use Rattle.printed_rows.specs.Rows.{AreSpelledRows, lines_in};
 ghost use Rattle.printed_rows.specs.Writing.{Performs};
 
+use crate::listed::ListedFacts;
 use crate::numbering::{NumberedFacts, number_fact};
 use crate::outcome::{all_found, is_found, is_shown, outcomes_of};
 use crate::rows::Rows;
@@ -173,7 +174,7 @@ fn see_line(seen: &mut NumberedFacts, outcome: &Outcome) -> Result<(), AllocErro
 fn facts_in(alloc: Global, outcomes: &[Outcome]) -> Result<usize, AllocError>
     ensures facts { IfOk result (λ facts. facts ≡ spec.facts_in (map line_outcome outcomes.now)) }
 {
-    let mut seen = NumberedFacts::new(alloc);
+    let mut seen = NumberedFacts::new(alloc, ListedFacts::of(outcomes))?;
     for outcome in outcomes.iter() {
         see_line(&mut seen, outcome)?;
     }

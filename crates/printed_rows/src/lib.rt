@@ -4,9 +4,10 @@
 //! computes the lines of a printed file anew, by their words alone, and writes their text.
 #![tactic(auto)]
 
-mod blocks;
 mod counting;
 mod echoes;
+mod hashing;
+mod listed;
 mod numbering;
 mod outcome;
 mod page;

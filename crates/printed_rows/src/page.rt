@@ -1,5 +1,5 @@
 //! The text of rows while it is put together.
-ghost use Rattle.std.specs.Prelude.{◌≡◌, ◌<◌, ◌+◌, ◌++◌, ◌∷◌, [], ℕ, List, if◌then◌else◌, length, OnOk, IsOk, IsTrue};
+ghost use Rattle.std.specs.Prelude.{◌≡◌, ◌<◌, ◌+◌, ◌++◌, ◌∷◌, [], ℕ, List, if◌then◌else◌, length, IfOk, OnOk, IsOk, IsTrue};
 ghost use Rattle.std.specs.List.{list_any, position_or_len};
 ghost use Rattle.book_model.specs.calendars.Inquiries.{fact_eq};
 ghost use Rattle.book_model.specs.declared.fact.Fact.{Fact as FactOf};
@@ -10,6 +10,7 @@ ghost use Rattle.jobs_core.specs.Outcomes.{halt_outcome, line_outcome};
 ghost use Rattle.printed_rows.specs.Echoes.{CanEcho, MayStand, echoed_at, echoed_lines};
 
 use crate::echoes::Echoes;
+use crate::listed::ListedFacts;
 use crate::numbering::{NumberedFacts, number_after, number_fact};
 use book_model::{Fact, Resolved};
 use byte_streams::{Failed, Gathered};
@@ -48,16 +49,16 @@ fn halted_line(halt: &Halt) -> CertLine
 }
 
 impl Page {
-    /// An empty page.
-    pub(crate) fn new(alloc: Global) -> Page
-        ensures pending { result.pending.bytes.items ≡ [] }
-        ensures seen { result.seen ≡ [] }
+    /// An empty page, with room for the facts that are listed. The error comes where memory runs out.
+    pub(crate) fn new(alloc: Global, listed: ListedFacts) -> Result<Page, AllocError>
+        ensures pending { IfOk result (λ page. page.pending.bytes.items ≡ []) }
+        ensures seen { IfOk result (λ page. page.seen ≡ []) }
     {
-        Page {
+        Ok(Page {
             pending: Gathered::new(alloc),
-            seen: NumberedFacts::new(alloc),
+            seen: NumberedFacts::new(alloc, listed)?,
             numbers: Numbers::new(alloc),
-        }
+        })
     }
 
     /// Puts a fact with its value, where it is new, and adds its number to those of the line.

@@ -9,6 +9,7 @@ ghost use Rattle.printed_rows.specs.Writing.{WritesAll, WritesFront};
 ghost use Rattle.printed_rows.specs.declared.text.WriteStop.TheVariants.{Fault, Memory};
 
 use crate::echoes::Echoes;
+use crate::listed::ListedFacts;
 use crate::numbering::count_of;
 use crate::page::Page;
 use crate::pending::{MANY, write_if_many};
@@ -120,11 +121,38 @@ fn write_rows<K: Sink>(
     put_end(sink, &mut page.pending, outcomes.len(), facts)
 }
 
+/// Writes the whole text of rows and their outcomes behind an empty page.
+fn write_page<K: Sink>(
+    sink: &mut K,
+    page: &mut Page,
+    echoes: &Echoes<'_>,
+    outcomes: &[Outcome],
+) -> Result<(), WriteStop>
+    requires empty { page.old.pending.bytes.items ≡ [] }
+    requires new { page.old.seen ≡ [] }
+    requires can { CanEcho echoes.now }
+    requires same { length (echoed_lines echoes.now) ≡ length outcomes.now }
+    requires stand { AllZip MayStand (echoed_lines echoes.now) (map line_outcome outcomes.now) }
+    ensures ok { WritesAll K.written sink.old sink.new
+        (spec.text (echoed_lines echoes.now) (map line_outcome outcomes.now)) result }
+    ensures err { WritesFront K.written sink.old sink.new
+        (spec.text (echoed_lines echoes.now) (map line_outcome outcomes.now)) result }
+    ensures fault { IsErrOf result WriteStop.Fault → Rose (K.faults sink.old) (K.faults sink.new) }
+    ensures later { K.faults sink.old ≤ K.faults sink.new }
+{
+    match write_header(&mut page.pending) {
+        Ok(()) => write_rows(sink, page, echoes, outcomes),
+        // What is gathered fails only where memory runs out; `?` would tell it as a fault.
+        Err(Failed) => Err(WriteStop::Memory),
+    }
+}
+
 // It asks for outcomes that are right, since the form of a printed line rests on it: a result lists
 // the facts that its rule asked.
 /// Writes the whole text of rows and their outcomes: a header, each line with its new facts before it, and the counts of
 /// lines and facts. At an error a front of the text was written. Counts of 32 bits are written: more lines or facts are
 /// answered as want of memory.
+#[tactic(auto, using(byte_streams::proofs::Flow::writing))]
 pub fn write_text<K: Sink>(
     alloc: Global,
     sink: &mut K,
@@ -141,10 +169,6 @@ pub fn write_text<K: Sink>(
     ensures fault { IsErrOf result WriteStop.Fault → Rose (K.faults sink.old) (K.faults sink.new) }
     ensures later { K.faults sink.old ≤ K.faults sink.new }
 {
-    let mut page = Page::new(alloc);
-    match write_header(&mut page.pending) {
-        Ok(()) => write_rows(sink, &mut page, echoes, outcomes),
-        // What is gathered fails only where memory runs out; `?` would tell it as a fault.
-        Err(Failed) => Err(WriteStop::Memory),
-    }
+    let mut page = Page::new(alloc, ListedFacts::of(outcomes))?;
+    write_page(sink, &mut page, echoes, outcomes)
 }
