@@ -3,3 +3,4 @@ pub mod Joining
 pub mod PieceLemmas
 pub mod AnswerLemmas
 pub mod RowLemmas
+pub mod NearLemmas

@@ -1,3 +1,5 @@
 pub mod Pieces
 pub mod Outcomes
 pub mod Shown
+pub mod Near
+pub mod LineFacts

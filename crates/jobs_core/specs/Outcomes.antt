@@ -11,6 +11,7 @@ use Rattle.oracle_core.specs.declared.oracle.Stop.TheVariants.{Undecided as unde
 use Rattle.jobs_core.specs.declared.outcome.Outcome.{Outcome}
 use Rattle.jobs_core.specs.declared.outcome.Outcome.TheVariants.{Refused, Shown, Found, Halted}
 use Rattle.jobs_core.specs.declared.outcome.Halt.{Halt}
+use Rattle.jobs_core.specs.LineFacts.{pairs_in}
 use Rattle.jobs_core.specs.Shown.{shown_outcome}
 use Rattle.jobs_core.specs.declared.outcome.Halt.TheVariants.{Undecided, Void}
 
@@ -22,7 +23,7 @@ halt_outcome (Void fact site) = void fact site
 -- the outcome that the definitions speak of
 abbrev pub line_outcome : Outcome → LineOutcome
 line_outcome (Refused rule) = refused rule
-line_outcome (Found finding) = resolved finding.value.resolved finding.value.facts.items
+line_outcome (Found finding) = resolved finding.value.resolved (pairs_in finding.value.facts)
 line_outcome (Shown shown) = shown_outcome shown
 line_outcome (Halted halt) = halt_outcome halt.value
 

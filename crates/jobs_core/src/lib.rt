@@ -10,7 +10,9 @@ mod deal;
 mod gate;
 mod join;
 pub mod laws;
+mod line_facts;
 mod maps;
+mod near;
 mod outcome;
 mod pieces;
 mod row;
@@ -18,6 +20,7 @@ mod shown;
 mod tools;
 
 pub use gate::{Gate, OpenGate};
+pub use line_facts::LineFacts;
 pub use maps::{map_facts, map_lines};
 pub use outcome::{Finding, Halt, Outcome, Outcomes, outcome_of};
 pub use pieces::map_places;

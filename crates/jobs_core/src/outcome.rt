@@ -6,19 +6,19 @@ ghost use Rattle.book_model.specs.lines.Outcomes.{resolved as resolved_by};
 ghost use Rattle.jobs_core.specs.Outcomes.{line_outcome, halt_outcome, CanResolve, ComesOfStop, HasNoOutcome};
 
 use crate::Row;
+use crate::line_facts::LineFacts;
 use crate::shown::ShownValue;
 use book_model::{Fact, Request, Resolved, Rule, Site, Undecided, WRITTEN};
 use line_core::resolve;
 use oracle_core::{Asking, Evaluator, FactValues, Kept, Stop};
 use std::alloc::{AllocError, Global};
 
-// A plain `Vec` of facts: with a single one in itself, as `FactValues` has it, a result would take 16
-// bytes more.
+// With a single fact in itself, as `FactValues` has it, a result would take 16 bytes more.
 /// The result of a line, and the facts with their values on which it rests, in order of first use.
 #[derive(Drop)]
 pub struct Finding {
     pub resolved: Resolved,
-    pub facts: Vec<(Fact, i64)>,
+    pub facts: LineFacts,
 }
 
 // A stop of an oracle for a missing fact or for want of memory is no outcome.
@@ -61,6 +61,7 @@ fn halt_at(stop: Stop) -> Result<Halt, AllocError>
 fn found(alloc: Global, resolved: Resolved, facts: Vec<(Fact, i64)>) -> Result<Outcome, AllocError>
     ensures found { IfOk result (λ outcome. line_outcome outcome ≡ resolved_by resolved facts.items) }
 {
+    let facts = LineFacts::of(alloc, facts)?;
     Ok(Outcome::Found(Box::new(alloc, Finding { resolved, facts })?))
 }
 

@@ -5,6 +5,7 @@ ghost use Rattle.book_model.specs.lines.Outcomes.{is_result};
 ghost use Rattle.book_model.specs.lines.Text.{with_fact, with_facts, seen_after};
 ghost use Rattle.byte_streams.specs.Stream.{Writes};
 ghost use Rattle.cert_text.specs.Laws.{is_undecided};
+ghost use Rattle.jobs_core.specs.LineFacts.{pairs_in};
 ghost use Rattle.jobs_core.specs.Outcomes.{halt_outcome, line_outcome};
 ghost use Rattle.printed_rows.specs.Counting as spec;
 ghost use Rattle.printed_rows.specs.Rows.{AreSpelledRows, lines_in};
@@ -18,7 +19,7 @@ use crate::text::WriteStop;
 use book_model::Fact;
 use byte_streams::{Failed, Gathered, Sink, decimal, write_all, write_parts};
 use itoa::Buffer;
-use jobs_core::{Gate, Halt, Outcome, Tools};
+use jobs_core::{Gate, Halt, LineFacts, Outcome, Tools};
 use oracle_core::Evaluator;
 use rayon::prelude::*;
 use std::alloc::{AllocError, Global};
@@ -150,11 +151,11 @@ fn see_fact(seen: &mut NumberedFacts, fact: Fact) -> Result<(), AllocError>
 }
 
 /// Adds the facts that are new. The error comes where memory runs out.
-fn see_facts(seen: &mut NumberedFacts, facts: &[(Fact, i64)]) -> Result<(), AllocError>
-    ensures seen { OnOk result (seen.new ≡ with_facts seen.old facts.now) }
+fn see_facts(seen: &mut NumberedFacts, facts: &LineFacts) -> Result<(), AllocError>
+    ensures seen { OnOk result (seen.new ≡ with_facts seen.old (pairs_in facts.now)) }
 {
-    for entry in facts {
-        see_fact(seen, entry.0)?;
+    for index in 0..facts.len() {
+        see_fact(seen, facts.pair(index).0)?;
     }
     Ok(())
 }
@@ -165,7 +166,7 @@ fn see_line(seen: &mut NumberedFacts, outcome: &Outcome) -> Result<(), AllocErro
 {
     match outcome {
         Outcome::Found(finding) => see_facts(seen, &finding.facts),
-        Outcome::Shown(shown) => see_facts(seen, &[shown.entry()]),
+        Outcome::Shown(shown) => see_fact(seen, shown.entry().0),
         Outcome::Refused(_) | Outcome::Halted(_) => Ok(()),
     }
 }

@@ -3,7 +3,7 @@ ghost use Rattle.std.specs.Prelude.{◌≤◌};
 
 use crate::hashing::{RowHashing, row_number};
 use book_model::{FIRST_DAY, Fact, LAST_DAY};
-use jobs_core::Outcome;
+use jobs_core::{LineFacts, Outcome};
 
 /// Where so few facts are listed, a table grows by itself.
 const FEW: usize = 1024;
@@ -57,9 +57,9 @@ impl ListedFacts {
     }
 
     /// Adds facts.
-    fn add_all(&mut self, facts: &[(Fact, i64)]) {
-        for entry in facts {
-            self.add(entry.0);
+    fn add_all(&mut self, facts: &LineFacts) {
+        for index in 0..facts.len() {
+            self.add(facts.pair(index).0);
         }
     }
 

@@ -6,7 +6,9 @@ ghost use Rattle.book_model.specs.declared.fact.Fact.{Fact as FactOf};
 ghost use Rattle.book_model.specs.lines.Lines.{words_of};
 ghost use Rattle.book_model.specs.lines.Text as model;
 ghost use Rattle.cert_text.specs.Text as cert;
+ghost use Rattle.jobs_core.specs.LineFacts.{pairs_in};
 ghost use Rattle.jobs_core.specs.Outcomes.{halt_outcome, line_outcome};
+ghost use Rattle.jobs_core.specs.Shown.{shown_outcome};
 ghost use Rattle.printed_rows.specs.Echoes.{CanEcho, MayStand, echoed_at, echoed_lines};
 
 use crate::echoes::Echoes;
@@ -15,7 +17,7 @@ use crate::numbering::{NumberedFacts, number_after, number_fact};
 use book_model::{Fact, Resolved};
 use byte_streams::{Failed, Gathered};
 use cert_text::{CertLine, Numbers, write_fact, write_line, write_list, write_result};
-use jobs_core::{Halt, Outcome};
+use jobs_core::{Finding, Halt, LineFacts, Outcome, ShownValue};
 use std::alloc::{AllocError, Global};
 
 /// The bytes that wait to be written, the facts that stand in the text, numbered in order of first use, and the numbers of the
@@ -81,46 +83,96 @@ impl Page {
     }
 
     /// Puts the facts that are new, with their values; the numbers of the line are those of all.
-    fn put_facts(&mut self, facts: &[(Fact, i64)]) -> Result<(), AllocError>
+    fn put_facts(&mut self, facts: &LineFacts) -> Result<(), AllocError>
         ensures seen { OnOk result (self.new.seen ≡ model.with_facts self.old.seen
-            facts.now) }
+            (pairs_in facts.now)) }
         ensures numbers { OnOk result (self.new.numbers ≡ model.numbers_of self.old.seen
-            facts.now) }
+            (pairs_in facts.now)) }
         ensures text { OnOk result (self.new.pending.bytes.items ≡ self.old.pending.bytes.items
-            ++ model.new_facts_text self.old.seen facts.now) }
+            ++ model.new_facts_text self.old.seen (pairs_in facts.now)) }
     {
         self.numbers.clear();
-        for entry in facts {
-            self.put_fact(entry)?;
+        for index in 0..facts.len() {
+            self.put_fact(&facts.pair(index))?;
         }
         Ok(())
     }
 
-    /// Puts the new facts of a row with a result, and its line, which is written from the row's own words and the numbers.
-    fn put_found(
+    /// Puts a fact with its value, where it is new; the only number of the line is its own.
+    fn put_only(&mut self, pair: &(Fact, i64)) -> Result<(), AllocError>
+        ensures seen { OnOk result (self.new.seen ≡ model.with_facts self.old.seen
+            (pair.now ∷ [])) }
+        ensures numbers { OnOk result (self.new.numbers ≡ model.numbers_of self.old.seen
+            (pair.now ∷ [])) }
+        ensures text { OnOk result (self.new.pending.bytes.items ≡ self.old.pending.bytes.items
+            ++ model.new_facts_text self.old.seen (pair.now ∷ [])) }
+    {
+        self.numbers.clear();
+        self.put_fact(pair)
+    }
+
+    /// Puts the line of a row with a result, which is written from the row's own words and the numbers.
+    fn put_line(
         &mut self,
         echoes: &Echoes<'_>,
         index: usize,
         resolved: Resolved,
-        facts: &[(Fact, i64)],
+    ) -> Result<(), AllocError>
+        requires can { CanEcho echoes.now }
+        requires within { index < length (echoed_lines echoes.now) }
+        requires three { length (words_of (echoed_at echoes.now index)) ≡ 3 }
+        ensures seen { self.new.seen ≡ self.old.seen }
+        ensures text { OnOk result (self.new.pending.bytes.items ≡ self.old.pending.bytes.items
+            ++ model.listed_text (index + 1) (words_of (echoed_at echoes.now index))
+            (model.result_text resolved) self.old.numbers) }
+    {
+        let number = number_after(index)?;
+        gathered(echoes.write_echo(&mut self.pending, number, index))?;
+        gathered(write_result(&mut self.pending, resolved))?;
+        let numbers = self.numbers.numbers();
+        gathered(write_list(&mut self.pending, numbers))
+    }
+
+    /// Puts the new facts of a row with a result, and its line.
+    fn put_found(
+        &mut self,
+        echoes: &Echoes<'_>,
+        index: usize,
+        finding: &Finding,
     ) -> Result<(), AllocError>
         requires can { CanEcho echoes.now }
         requires within { index < length (echoed_lines echoes.now) }
         requires three { length (words_of (echoed_at echoes.now index)) ≡ 3 }
         ensures seen { OnOk result (self.new.seen ≡ model.with_facts self.old.seen
-            facts.now) }
+            (pairs_in finding.now.facts)) }
         ensures text { OnOk result (self.new.pending.bytes.items ≡ self.old.pending.bytes.items
-            ++ (model.new_facts_text self.old.seen facts.now
+            ++ (model.new_facts_text self.old.seen (pairs_in finding.now.facts)
             ++ model.listed_text (index + 1)
-            (words_of (echoed_at echoes.now index)) (model.result_text resolved)
-            (model.numbers_of self.old.seen facts.now))) }
+            (words_of (echoed_at echoes.now index)) (model.result_text finding.now.resolved)
+            (model.numbers_of self.old.seen (pairs_in finding.now.facts)))) }
     {
-        let number = number_after(index)?;
-        self.put_facts(facts)?;
-        gathered(echoes.write_echo(&mut self.pending, number, index))?;
-        gathered(write_result(&mut self.pending, resolved))?;
-        let numbers = self.numbers.numbers();
-        gathered(write_list(&mut self.pending, numbers))
+        self.put_facts(&finding.facts)?;
+        self.put_line(echoes, index, finding.resolved)
+    }
+
+    /// Puts the fact of a row that shows its value, where it is new, and the row's line.
+    fn put_shown(
+        &mut self,
+        echoes: &Echoes<'_>,
+        index: usize,
+        shown: &ShownValue,
+    ) -> Result<(), AllocError>
+        requires can { CanEcho echoes.now }
+        requires within { index < length (echoed_lines echoes.now) }
+        requires three { length (words_of (echoed_at echoes.now index)) ≡ 3 }
+        ensures seen { OnOk result (self.new.seen ≡ model.seen_after self.old.seen
+            (shown_outcome shown.now)) }
+        ensures text { OnOk result (self.new.pending.bytes.items ≡ self.old.pending.bytes.items
+            ++ model.block_text self.old.seen (index + 1) (echoed_at echoes.now index)
+            (shown_outcome shown.now)) }
+    {
+        self.put_only(&shown.entry())?;
+        self.put_line(echoes, index, shown.resolved())
     }
 
     /// Puts a line that prints no facts.
@@ -152,18 +204,8 @@ impl Page {
     {
         match outcome {
             Outcome::Refused(rule) => self.put_bare(index, &CertLine::Refused(rule.number())),
-            Outcome::Found(finding) => self.put_found(
-                echoes,
-                index,
-                finding.resolved,
-                &finding.facts,
-            ),
-            Outcome::Shown(shown) => self.put_found(
-                echoes,
-                index,
-                shown.resolved(),
-                &[shown.entry()],
-            ),
+            Outcome::Found(finding) => self.put_found(echoes, index, finding),
+            Outcome::Shown(shown) => self.put_shown(echoes, index, shown),
             Outcome::Halted(halt) => self.put_bare(index, &halted_line(halt)),
         }
     }
