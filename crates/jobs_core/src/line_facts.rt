@@ -6,8 +6,10 @@ use crate::near::NearFacts;
 use book_model::Fact;
 use std::alloc::{AllocError, Global};
 
-/// So few facts take little memory as they are.
-const FEW: usize = 4;
+// A list of other bytes is one allocation more, and its facts are read one by one: for a line of five
+// facts, as most Chinese ones are, the time isn't worth the bytes.
+/// So few facts take little memory as they are: 192 bytes at most.
+const FEW: usize = 8;
 
 /// Facts with their values, in order of first use: as they are, or in a third of the bytes where they are many and their days
 /// near one another, as those that a line asks are.
