@@ -7,7 +7,7 @@ use Rattle.book_model.specs.numbers.Relations.{Within}
 use Rattle.book_model.specs.sky.Moon.{longitude_term_of, longitude_terms_of, lunar_angles_of, no_term}
 use Rattle.encl_core.proofs.Parted.{parted}
 use Rattle.moon_core.specs.Courses.{greatest_terms_of, other_terms_of}
-use Rattle.multiple_sums.specs.declared.tables.TheConstants.{GREATEST_TERMS}
+use Rattle.periodic_terms.specs.declared.tables.TheConstants.{GREATEST_TERMS}
 use Rattle.sun_core.specs.Daily.{in_centuries}
 
 terms_parted : slice_range MOON_TERMS 0 GREATEST_TERMS ++ slice_range MOON_TERMS GREATEST_TERMS (length MOON_TERMS) ≡ MOON_TERMS

@@ -10,14 +10,14 @@ use Rattle.book_model.specs.numbers.Polynomials.{quadratic_of}
 use Rattle.book_model.specs.numbers.Relations.{Narrow, Keeps}
 use Rattle.book_model.specs.programs.Widths.{IsAbout}
 use Rattle.encl_core.proofs.Measuring.{measured, sloped}
-use Rattle.multiple_sums.specs.Widths.{AreClose}
+use Rattle.periodic_terms.specs.Widths.{AreClose}
 use Rattle.sun_core.specs.Daily.{in_centuries, has_daily, by_centuries, by_days}
 use Rattle.sun_core.proofs.Measured.{tabled, days_of}
 use Rattle.moon_core.specs.Angles.{KeepAngles}
 use Rattle.moon_core.specs.Daily.{daily_angles_of, daily_quartic_of, daily_cubic_of}
 use Rattle.moon_core.specs.Elements.{AreMeasured}
 use Rattle.moon_core.specs.Widths.{days_and}
-use Rattle.multiple_sums.specs.declared.mean.MeanAngles.{MeanAngles}
+use Rattle.periodic_terms.specs.declared.mean.MeanAngles.{MeanAngles}
 use Rattle.moon_core.specs.declared.elements.MoonElements.{MoonElements}
 
 -- ---- the angles: each at most 13.25 times as wide as the moment

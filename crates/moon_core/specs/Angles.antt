@@ -3,7 +3,7 @@ use Rattle.book_model.specs.Interval.{Interval}
 use Rattle.book_model.specs.numbers.Bounds.{Limits, Reach}
 use Rattle.book_model.specs.sky.Moon.{LunarAngles}
 use Rattle.book_model.specs.numbers.Relations.{Narrow}
-use Rattle.multiple_sums.specs.declared.mean.MeanAngles.{MeanAngles}
+use Rattle.periodic_terms.specs.declared.mean.MeanAngles.{MeanAngles}
 
 -- each enclosure keeps its angle's bound
 pub record KeepAngles {E : Type 0} (shown : E → Interval) (l : Limits) (r : Reach) (a : LunarAngles)

@@ -13,11 +13,11 @@ use Rattle.book_model.specs.programs.Programs.{Program, bind}
 use Rattle.book_model.specs.sky.Moon.{flattening_of, longitude_term_of, lunar_angles_of, no_term}
 use Rattle.book_model.specs.sky.Phases.{phase_of, nearest_moon_of}
 use Rattle.book_model.specs.sky.Sun.{nutation_of}
-use Rattle.multiple_sums.specs.MeanAngles.{HoldAngles}
+use Rattle.periodic_terms.specs.MeanAngles.{HoldAngles}
 use Rattle.moon_core.specs.HigherTerms.{HoldHigherTerms}
-use Rattle.multiple_sums.specs.declared.mean.MeanAngles.{MeanAngles}
+use Rattle.periodic_terms.specs.declared.mean.MeanAngles.{MeanAngles}
 use Rattle.moon_core.specs.declared.higher_terms.HigherTerms.{HigherTerms}
-use Rattle.multiple_sums.specs.declared.tables.TheConstants.{GREATEST_TERMS}
+use Rattle.periodic_terms.specs.declared.tables.TheConstants.{GREATEST_TERMS}
 use Rattle.sun_core.specs.Daily.{in_centuries}
 
 -- the sum of the greatest terms, the first of the table, and that of the others, by the days

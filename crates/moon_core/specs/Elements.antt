@@ -15,7 +15,7 @@ use Rattle.book_model.specs.programs.Widths.{table_days}
 use Rattle.book_model.specs.sky.Moon.{lunar_angles_of, moon_longitude_of}
 use Rattle.book_model.specs.sky.Time.{centuries_of}
 use Rattle.moon_core.specs.Angles.{KeepAngles}
-use Rattle.multiple_sums.specs.MeanAngles.{HoldAngles}
+use Rattle.periodic_terms.specs.MeanAngles.{HoldAngles}
 use Rattle.moon_core.specs.Daily.{daily_angles_of, daily_quartic_of}
 use Rattle.moon_core.specs.declared.elements.MoonElements.{MoonElements}
 use Rattle.sun_core.specs.Daily.{in_centuries}

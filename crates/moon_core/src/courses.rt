@@ -9,7 +9,7 @@ ghost use Rattle.book_model.specs.numbers.Relations.{Within};
 ghost use Rattle.book_model.specs.programs.Calls.{Follows1, Holds1};
 ghost use Rattle.book_model.specs.sky.Sun.{nutation_of};
 ghost use Rattle.book_model.specs.sky.Moon.{lunar_angles_of, longitude_terms_of, inequalities_of, moon_longitude_of, moon_of};
-ghost use Rattle.multiple_sums.specs.MeanAngles.{HoldAngles};
+ghost use Rattle.periodic_terms.specs.MeanAngles.{HoldAngles};
 ghost use Rattle.moon_core.specs.HigherTerms.{HoldHigherTerms};
 ghost use Rattle.moon_core.specs.Courses.{greatest_terms_of, other_terms_of};
 ghost use Rattle.sun_core.specs.Daily.{in_centuries};
@@ -22,7 +22,7 @@ use book_model::moon_tables::{
 use book_model::time_tables::{DAY_IN_CENTURIES, NOON_2000};
 use book_model::{FIRST_DAY, Fail, LAST_DAY, Site};
 use encl_core::{Enclosure, Trail, lies_within, wrap_step};
-use multiple_sums::{MeanAngles, greatest_terms, other_terms};
+use periodic_terms::{MeanAngles, greatest_terms, other_terms};
 use std::marker::Model;
 use sun_core::{nutation, sine_wave};
 use time_scales::dynamical;

@@ -14,7 +14,7 @@ use book_model::Fail;
 use book_model::moon_tables::MOON_LONGITUDE;
 use book_model::time_tables::{DAY_IN_CENTURIES, NOON_2000};
 use encl_core::{Enclosure, Trail};
-use multiple_sums::MeanAngles;
+use periodic_terms::MeanAngles;
 use time_scales::dynamical;
 
 /// The time of a moment, in days from noon of 1 January 2000 in dynamical time and in centuries, the moon's mean longitude, in

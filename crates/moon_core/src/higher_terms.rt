@@ -6,7 +6,7 @@ ghost use Rattle.book_model.specs.numbers.Polynomials.{quartic_of};
 ghost use Rattle.book_model.specs.numbers.Relations.{Within, Narrow};
 ghost use Rattle.book_model.specs.sky.Moon.{lunar_angles_of};
 ghost use Rattle.moon_core.specs.Angles.{KeepAngles};
-ghost use Rattle.multiple_sums.specs.MeanAngles.{HoldAngles};
+ghost use Rattle.periodic_terms.specs.MeanAngles.{HoldAngles};
 ghost use Rattle.moon_core.specs.Daily.{daily_angles_of, daily_quartic_of, higher_by};
 ghost use Rattle.moon_core.specs.HigherTerms.{HoldHigherTerms, KeepHigherTerms, higher_sum_of};
 ghost use Rattle.sun_core.specs.Daily.{in_centuries};
@@ -17,7 +17,7 @@ use book_model::moon_tables::{
     ECCENTRICITY_FACTOR, ELONGATION, LATITUDE_ARGUMENT, MOON_ANOMALY, MOON_LONGITUDE, SUN_ANOMALY,
 };
 use encl_core::Enclosure;
-use multiple_sums::MeanAngles;
+use periodic_terms::MeanAngles;
 use sun_core::times_rate;
 use time_scales::quadratic;
 

@@ -23,7 +23,7 @@ use book_model::moon_tables::{
     VENUS_IN_LATITUDE, VENUS_WAVE,
 };
 use encl_core::{Enclosure, Trail};
-use multiple_sums::latitude_terms;
+use periodic_terms::latitude_terms;
 use sun_core::{sine_wave, wave_angle};
 use trig_series::sin_deg;
 

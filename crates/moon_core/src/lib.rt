@@ -26,7 +26,7 @@ mod walks;
 pub use elements::{MoonElements, moon_elements};
 pub use latitudes::{latitude, latitude_again};
 pub use longitude::{longitude_at, moon};
-pub use multiple_sums::MeanAngles;
+pub use periodic_terms::MeanAngles;
 pub use phase_courses::PhaseCourse;
 pub use phases::phase;
 pub use quarters::{phase_before, phase_before_by, phase_day};

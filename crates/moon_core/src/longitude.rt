@@ -22,7 +22,7 @@ use crate::elements::{MoonElements, moon_elements};
 use book_model::moon_tables::{FLATTENING, JUPITER_WAVE, MILLIONTH, VENUS_WAVE};
 use book_model::{Fail, Site};
 use encl_core::{Enclosure, Trail, wrap_step};
-use multiple_sums::longitude_terms;
+use periodic_terms::longitude_terms;
 use sun_core::{nutation, sine_wave};
 use trig_series::sin_deg;
 

@@ -18,7 +18,7 @@ use book_model::moon_tables::MEAN_DISTANCE;
 use book_model::{Fail, Frac};
 use encl_core::{Enclosure, Trail};
 use moon_core::{MoonElements, moon_elements};
-use multiple_sums::distance_terms;
+use periodic_terms::distance_terms;
 
 /// The mean distance, in kilometres.
 fn mean_kilometres() -> Frac

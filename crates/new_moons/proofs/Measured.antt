@@ -21,10 +21,10 @@ use Rattle.book_model.specs.sky.NewMoons.{millionths, centuries_of_months}
 use Rattle.book_model.proofs.Implying.{limits_within}
 use Rattle.encl_core.proofs.Covering.{IsCovered, ceil_least, ceil_most, covered, floor_least, floor_most, size_least, within_covered}
 use Rattle.encl_core.proofs.Measuring.{measured, sloped, looser}
-use Rattle.multiple_sums.specs.Widths.{AreClose, IsUsualEccentricity}
+use Rattle.periodic_terms.specs.Widths.{AreClose, IsUsualEccentricity}
 use Rattle.new_moons.specs.Months.{cubic_sum, quartic_sum}
 use Rattle.new_moons.specs.Widths.{AreNearAngles, ArePowers, IsNearMonth, IsNearTime, IsRecentMean, IsRecentMonth, near_size, recent_mean_from, recent_mean_to}
-use Rattle.multiple_sums.specs.declared.mean.MeanAngles.{MeanAngles}
+use Rattle.periodic_terms.specs.declared.mean.MeanAngles.{MeanAngles}
 use Rattle.new_moons.specs.declared.angles.Angles.{Angles}
 use Rattle.new_moons.specs.declared.months.Powers.{Powers}
 use Rattle.new_moons.proofs.MonthPolynomials.{coefficient}

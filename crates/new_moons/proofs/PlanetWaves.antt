@@ -22,8 +22,8 @@ use Rattle.book_model.specs.sky.NewMoons.{millionths, planet_angle, planet_term_
 use Rattle.book_model.proofs.DegreeSines.{degree_sines}
 use Rattle.book_model.proofs.Exactly.{product_exactly, sum_exactly}
 use Rattle.book_model.proofs.Values.{value_proper}
-use Rattle.turn_sums.specs.Turning.{AreTurning, HasReach, turning_wave_of, reach_to, sizes_to}
-use Rattle.turn_sums.proofs.TableMatches.{tables_match}
+use Rattle.periodic_terms.specs.Turning.{AreTurning, HasReach, turning_wave_of, reach_to, sizes_to}
+use Rattle.periodic_terms.proofs.TableMatches.{tables_match}
 use Rattle.new_moons.specs.declared.planets.TheConstants.{PLANET_TURNS, PLANET_SLOPE, PLANET_SIZES}
 use Rattle.new_moons.proofs.MonthPolynomials.{exactly_within}
 

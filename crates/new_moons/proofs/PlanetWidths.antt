@@ -11,7 +11,7 @@ use Rattle.book_model.specs.numbers.Relations.{Narrow, Keeps}
 use Rattle.book_model.specs.programs.Widths.{IsAbout}
 use Rattle.book_model.proofs.Implying.{limits_within}
 use Rattle.encl_core.proofs.Measuring.{looser}
-use Rattle.turn_sums.specs.Turning.{width_of_sum}
+use Rattle.periodic_terms.specs.Turning.{width_of_sum}
 use Rattle.new_moons.specs.Widths.{IsNearMonth}
 use Rattle.new_moons.specs.declared.planets.TheConstants.{PLANET_SLOPE, PLANET_SIZES}
 

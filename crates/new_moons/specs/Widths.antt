@@ -4,7 +4,7 @@ use Rattle.book_model.specs.Fraction.{Fraction}
 use Rattle.book_model.specs.Interval.{Interval}
 use Rattle.book_model.specs.declared.new_moon_tables.TheConstants.{FIRST_RECENT_MOON, LAST_RECENT_MOON, NEW_MOON_OF_2000, RECENT_DAYS}
 use Rattle.book_model.specs.programs.Widths.{IsWithin, IsAbout}
-use Rattle.multiple_sums.specs.Widths.{IsUsualEccentricity}
+use Rattle.periodic_terms.specs.Widths.{IsUsualEccentricity}
 use Rattle.new_moons.specs.declared.angles.Angles.{Angles}
 use Rattle.new_moons.specs.declared.months.Powers.{Powers}
 

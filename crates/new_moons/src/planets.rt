@@ -8,7 +8,7 @@ ghost use Rattle.new_moons.specs.Widths.{IsNearMonth};
 
 use book_model::Frac;
 use encl_core::Enclosure;
-use turn_sums::{TurningWave, sum_of_waves};
+use periodic_terms::{TurningWave, sum_of_waves};
 
 /// The terms of the planets as they are summed: those of `PLANET_TERMS`, in the same order, by turns and months, which stand for days.
 #[rattlefmt::skip]

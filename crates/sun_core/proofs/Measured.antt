@@ -24,7 +24,7 @@ use Rattle.encl_core.proofs.Measuring.{measured, measured_argument, sloped, loos
 use Rattle.sun_core.specs.Daily.{in_centuries, has_daily, by_centuries, by_days}
 use Rattle.sun_core.specs.Steps.{apparent_midnight_of, apparent_noon_of, computed_mean_longitude_of, computed_aberration_of}
 use Rattle.sun_core.specs.declared.turns.TheConstants.{SUN_SIZES, SUN_SLOPE}
-use Rattle.turn_sums.specs.Turning.{width_of_sum}
+use Rattle.periodic_terms.specs.Turning.{width_of_sum}
 use Rattle.sun_core.specs.Widths.{IsObliquity, IsNarrowPlace, IsLocalMoment, IsNearMoment}
 
 -- ---- the sun's longitude

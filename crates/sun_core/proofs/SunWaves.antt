@@ -20,8 +20,8 @@ use Rattle.book_model.proofs.Values.{value_proper}
 use Rattle.sun_core.specs.declared.courses.TheConstants.{GREATEST_WAVES}
 use Rattle.sun_core.specs.Daily.{in_centuries}
 use Rattle.sun_core.proofs.Scalings.{both_hold_in_sum, daily_ten_millionths_are}
-use Rattle.turn_sums.specs.Turning.{AreTurning, HasReach, turning_wave_of, reach_to, sizes_to}
-use Rattle.turn_sums.proofs.TableMatches.{tables_match}
+use Rattle.periodic_terms.specs.Turning.{AreTurning, HasReach, turning_wave_of, reach_to, sizes_to}
+use Rattle.periodic_terms.proofs.TableMatches.{tables_match}
 use Rattle.sun_core.specs.declared.turns.TheConstants.{SUN_TURNS, SUN_SLOPE, SUN_SIZES, GREATEST_SLOPE, GREATEST_SIZES, OTHER_SLOPE, OTHER_SIZES}
 
 -- ---- the tables match

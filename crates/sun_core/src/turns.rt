@@ -6,11 +6,11 @@ ghost use Rattle.book_model.specs.programs.Calls.{Holds1};
 ghost use Rattle.book_model.specs.programs.Widths.{IsAbout};
 ghost use Rattle.sun_core.specs.Courses.{greatest_waves_of, other_waves_of};
 ghost use Rattle.sun_core.specs.Daily.{in_centuries};
-ghost use Rattle.turn_sums.specs.Turning.{width_of_sum};
+ghost use Rattle.periodic_terms.specs.Turning.{width_of_sum};
 
 use crate::courses::GREATEST_WAVES;
 use encl_core::Enclosure;
-use turn_sums::{TurningWave, sum_of_waves};
+use periodic_terms::{TurningWave, sum_of_waves};
 
 /// The sun's 49 waves as they are summed: those of `SUN_WAVES`, in the same order, by turns and days.
 #[rattlefmt::skip]

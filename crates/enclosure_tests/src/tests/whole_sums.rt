@@ -1,6 +1,6 @@
 //! Sums of waves in whole numbers: the sines at the edges of octants, and how narrow a sum is, where its days are known and where they aren't.
 use encl_core::Span;
-use turn_sums::{TurningWave, sine_at_turn, sum_over};
+use periodic_terms::{TurningWave, sine_at_turn, sum_over};
 
 /// One, in parts of 2⁻⁵⁶; also a day.
 const ONE: i128 = 72_057_594_037_927_936;

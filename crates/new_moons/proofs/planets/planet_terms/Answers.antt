@@ -7,7 +7,7 @@ use Rattle.book_model.specs.numbers.Terms.{terms_of}
 use Rattle.new_moons.proofs.Measured.{millionths_within}
 use Rattle.new_moons.proofs.PlanetWaves.{planet_waves, planet_turns, planet_reach, planets_hold}
 use Rattle.new_moons.proofs.PlanetWidths.{months_within, planets_sum_within}
-use Rattle.turn_sums.specs.Turning.{turning_wave_of}
+use Rattle.periodic_terms.specs.Turning.{turning_wave_of}
 use Rattle.new_moons.proofs.planets.planet_terms.Goals as goal
 
 pub returns-clause-holds : goal.returns-clause-holds

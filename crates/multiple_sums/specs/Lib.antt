@@ -1,5 +1,0 @@
-pub mod Angles
-pub mod MeanAngles
-pub mod Multiples
-pub mod Tables
-pub mod Widths

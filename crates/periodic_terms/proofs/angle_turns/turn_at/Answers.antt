@@ -1,0 +1,35 @@
+use Rattle.std.proofs.Common.{◌≡◌, rules, arith, SFits, w64, pos, ◌+ℤ◌, ◌-ℤ◌, ◌*ℤ◌, ◌^◌}
+use Rattle.std.specs.Int.{w128}
+use Rattle.std.proofs.lemmas.Int.{ints, to_z-of_z}
+use Rattle.periodic_terms.specs.Turning.{whole_turns}
+use Rattle.periodic_terms.proofs.NearTurns.{added, turn_together}
+use Rattle.periodic_terms.proofs.angle_turns.turn_at.Goals as goal
+
+pub returns : goal.returns
+returns c =
+    let fm = c.ranges.middle in
+    let fw : SFits w128 c.floor_19-wide.result = search rules in
+    let l = simp to_z-of_z at c.floor_19-wide.ensures.below in
+    let u = simp to_z-of_z at c.floor_19-wide.ensures.close in
+    let f64 : SFits w64 c.floor_19-wide.result = omega (arith, ints, c.requires, l, u) in
+    let fp : SFits w128 (c.floor_19-wide.result *ℤ pos (2 ^ 19)) = omega (arith, ints, c.requires, l, u) in
+    let fd : SFits w128 (c.args.middle -ℤ c.floor_19-wide.result *ℤ pos (2 ^ 19)) =
+    omega (arith, ints, c.requires, l, u) in
+    let fa : SFits w128 c.from.result = search rules in
+    let fb : SFits w128 c.from-2.result = search rules in
+    let a : c.from.result ≡ pos c.wide_turn_at.result = c.from.ensures in
+    let b : c.from-2.result ≡ pos c.rest_of_turn.result = c.from-2.ensures in
+    let fs : SFits w128 (c.from.result +ℤ c.from-2.result) =
+    omega (arith, ints, a, b, c.wide_turn_at.type_inv, c.rest_of_turn.type_inv) in
+    let t = simp to_z-of_z at c.wide_turn_at.ensures.turn in
+    let p = simp to_z-of_z at c.rest_of_turn.ensures.below in
+    let q = simp to_z-of_z at c.rest_of_turn.ensures.close in
+    let h = simp to_z-of_z at c.low_64.ensures.value in
+    record {
+      turn = turn_together c.wide_turn_at.result c.rest_of_turn.result c.low_64.result c.args.middle
+          c.floor_19-wide.result
+          (c.args.middle -ℤ c.floor_19-wide.result *ℤ pos (2 ^ 19)) t (omega (arith, ints))
+          (omega (arith, ints, p, l, u)) (omega (arith, ints, q, l, u))
+          (whole_turns (c.from.result +ℤ c.from-2.result)) (added c.low_64.result c.from.result c.from-2.result
+          c.wide_turn_at.result c.rest_of_turn.result (whole_turns (c.from.result +ℤ c.from-2.result)) a b h);
+    }

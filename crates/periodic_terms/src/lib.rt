@@ -1,0 +1,43 @@
+//! Sums of the periodic terms of a table in whole numbers: one pass over its rows at the middle of each argument, and one radius for what
+//! the roundings and the widths of the arguments may add. A row costs a few products of whole numbers, where an enclosure of each term
+//! reduces an angle, takes a sine and rounds a product by itself. An angle is a count of parts of a turn, which wraps at a turn as its
+//! number does, so that nothing is reduced. What is left out anywhere is in the radius: so the result holds the definition's sum, at every
+//! depth from `DEPTH` on, and it is never wider than any sum of the rows.
+//!
+//! The terms of the sun and of the planets go by the days: each has a phase and a rate.
+//!
+//! - `sum_of_waves`: the sum of the rows of a table over days as an enclosure of any kind, and `sum_over` over a span of days;
+//! - `TurningWave`: a row by turns and days;
+//! - `sine_at_turn`: the sine at an angle that counts parts of a turn.
+//!
+//! The terms of the moon go by a few mean angles: each takes multiples of these, and a power of the eccentricity's factor.
+//!
+//! - `MeanAngles`: the mean angles and the factor;
+//! - `longitude_terms`, `latitude_terms`, `distance_terms`: the sums of the moon's terms; `new_moon_terms`: those of a new moon;
+//! - `greatest_terms`, `other_terms`: the two parts of the longitude's, of which a course keeps the other one.
+//!
+//! Within, a table's row becomes `Multiples` (the trait `MultipleRow`), the mean angles become turns (`mean_turns`, `two_turns`), and
+//! `sum_of_rows` sums the rows.
+#![tactic(auto)]
+
+mod angle_turns;
+mod mean;
+mod sines;
+mod tables;
+mod term_rows;
+mod term_spans;
+mod term_sums;
+mod wave_rows;
+mod wave_spans;
+mod wave_sums;
+mod waves;
+mod whole;
+
+pub use mean::MeanAngles;
+pub use sines::sine_at_turn;
+pub use tables::{
+    distance_terms, greatest_terms, latitude_terms, longitude_terms, new_moon_terms, other_terms,
+};
+pub use wave_rows::TurningWave;
+pub use wave_spans::sum_over;
+pub use waves::sum_of_waves;

@@ -1,0 +1,58 @@
+//! A sum of rows as a span.
+ghost use Rattle.std.specs.Prelude.{◌*◌, ◌^◌, pos, neg_ℤ, ◌≤ℤ◌, ◌<ℤ◌, ◌+ℤ◌, ◌-ℤ◌, ◌*ℤ◌};
+ghost use Rattle.book_model.specs.Interval.{between, ◌⊆◌};
+ghost use Rattle.book_model.specs.programs.Leading.{units_of_56};
+ghost use Rattle.periodic_terms.specs.Multiples.{in_93};
+
+use crate::whole::WholeSum;
+use encl_core::Span;
+
+/// A number over 2³⁷, rounded down.
+#[inline(always)]
+fn floor_37(number: i128) -> i128
+    ensures below { (result *ℤ pos (2 ^ 37)) ≤ℤ number }
+    ensures close { number <ℤ (result *ℤ pos (2 ^ 37) +ℤ pos (2 ^ 37)) }
+{
+    number >> 37
+}
+
+/// How many parts of a day the sizes of a new moon's terms count.
+const PARTS: i128 = 100_000;
+
+/// A number over 100,000, rounded down.
+#[inline(always)]
+fn floor_of_parts(number: i128) -> i128
+    ensures below { (result *ℤ pos 100000) ≤ℤ number }
+    ensures close { number <ℤ (result *ℤ pos 100000 +ℤ pos 100000) }
+{
+    number.div_euclid(PARTS)
+}
+
+/// The sum of rows whose sizes are whole numbers.
+pub(crate) fn span_of(sum: WholeSum) -> Span
+    ensures holds { between (in_93 0 sum.lo) (in_93 0 sum.hi)
+        ⊆ between (units_of_56 result.lo) (units_of_56 result.hi) }
+    ensures close { ((result.hi -ℤ result.lo) *ℤ pos (2 ^ 37)) ≤ℤ ((sum.hi -ℤ sum.lo) +ℤ pos (2 ^ 38)) }
+    ensures low { sum.lo ≤ℤ (result.lo *ℤ pos (2 ^ 37) +ℤ pos (2 ^ 37)) }
+    ensures high { (result.hi *ℤ pos (2 ^ 37)) ≤ℤ (sum.hi +ℤ pos (2 ^ 37)) }
+{
+    Span {
+        lo: floor_37(sum.lo),
+        hi: floor_37(sum.hi) + 1,
+    }
+}
+
+/// The sum of rows whose sizes are hundred-thousandths.
+pub(crate) fn span_of_parts(sum: WholeSum) -> Span
+    ensures holds { between (in_93 99999 sum.lo) (in_93 99999 sum.hi)
+        ⊆ between (units_of_56 result.lo) (units_of_56 result.hi) }
+    ensures close { ((result.hi -ℤ result.lo) *ℤ pos (100000 * 2 ^ 37))
+        ≤ℤ ((sum.hi -ℤ sum.lo) +ℤ pos (2 * 100001 * 2 ^ 37)) }
+    ensures low { sum.lo ≤ℤ (result.lo *ℤ pos (100000 * 2 ^ 37) +ℤ pos (100001 * 2 ^ 37)) }
+    ensures high { (result.hi *ℤ pos (100000 * 2 ^ 37)) ≤ℤ (sum.hi +ℤ pos (100001 * 2 ^ 37)) }
+{
+    Span {
+        lo: floor_of_parts(floor_37(sum.lo)),
+        hi: floor_of_parts(floor_37(sum.hi)) + 1,
+    }
+}
