@@ -1,3 +1,6 @@
+-- of rise_set, given on
+pub use Rattle.rise_set.proofs.Horizons
+pub use Rattle.rise_set.proofs.Places
 pub mod Crescents
 pub mod Measured
 pub mod Evenings

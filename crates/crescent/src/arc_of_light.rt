@@ -6,7 +6,7 @@ ghost use Rattle.crescent.specs.Widths.{IsArcCosine};
 ghost use Rattle.book_model.specs.sky.Crescent as spec;
 
 use encl_core::Enclosure;
-use trig_series::cos_deg;
+use rise_set::cos_deg;
 
 /// The cosine of the arc of light between the moon and the sun, by the moon's latitude and its phase, in degrees.
 #[tactic(auto, unfolding(book_model::specs::sky::Crescent::arc_cosine_of))]

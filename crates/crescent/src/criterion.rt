@@ -19,9 +19,8 @@ use book_model::crescent_tables::{LEAST_ALTITUDE, LEAST_ARC_OF_LIGHT};
 use book_model::{Fail, Location, Site};
 use encl_core::{Enclosure, Trail, less_step};
 use moon_core::{latitude_again, longitude_at, moon_elements, phase};
-use rise_set::{altitude_sine, obliquity_at};
+use rise_set::{altitude_sine, cos_deg, obliquity_at, sin_deg};
 use time_scales::sidereal;
-use trig_series::{cos_deg, sin_deg};
 
 /// The phase of the moon at its first quarter, in degrees.
 const FIRST_QUARTER: i64 = 90;

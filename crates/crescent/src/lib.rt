@@ -3,7 +3,8 @@
 //!
 //! - `arc_cosine`: the moon's arc of light;
 //! - `visible`: the criterion, by the moon's phase, its arc of light and its altitude at dusk;
-//! - `phasis`: the search for the day of the first sight; `phasis_by`: the same by courses; `sight_from_by`: the search from a day on.
+//! - `phasis`: the search for the day of the first sight; `phasis_by`: the same by courses; `sight_from_by`: the search from a day on;
+//! - `Sunsets`, `sunset`: of `rise_set`, given on to the facts.
 #![tactic(auto)]
 
 mod arc_of_light;
@@ -14,3 +15,4 @@ mod first_sight;
 pub use arc_of_light::arc_cosine;
 pub use criterion::visible;
 pub use first_sight::{phasis, phasis_by, sight_from_by};
+pub use rise_set::{Sunsets, sunset};

@@ -19,8 +19,8 @@ use Rattle.book_model.proofs.FactRuns.{decides}
 use Rattle.book_model.proofs.Leads.{at_most_bind, at_most_more, leads_leaf, leads_value}
 use Rattle.book_model.proofs.Values.{value_proper}
 use Rattle.crescent.proofs.Crescents.{sight_from_few}
-use Rattle.rise_set.proofs.Horizons.{settled_few}
-use Rattle.sun_core.proofs.EarlyTests.{short_least}
+use Rattle.crescent.proofs.Horizons.{settled_few}
+use Rattle.moon_core.proofs.EarlyTests.{short_least}
 use Rattle.fact_eval.specs.Nisan.{next_equinox_of, IsEquinoxDay}
 use Rattle.fact_eval.proofs.TermDays.{earliest, latest, from_few, from_between}
 

@@ -21,10 +21,10 @@ use Rattle.book_model.specs.sky.Nisan.{nisan_of}
 use Rattle.book_model.proofs.Corrections.{few_of_two}
 use Rattle.book_model.proofs.FactRuns.{centuries_few, dt_few, sun_in_thousandths_few}
 use Rattle.book_model.proofs.Leads.{at_most_bind, at_most_more, few_tests}
-use Rattle.sun_core.proofs.NewYears.{french_year_few, nowruz_few}
+use Rattle.moon_core.proofs.NewYears.{french_year_few, nowruz_few}
 use Rattle.moon_core.proofs.PhaseDays.{phase_day_few}
 use Rattle.moon_rise.proofs.Risings.{moonrise_few, moonset_few}
-use Rattle.rise_set.proofs.Horizons.{bahai_year_few, sunset_in_minutes_few}
+use Rattle.crescent.proofs.Horizons.{bahai_year_few, sunset_in_minutes_few}
 use Rattle.hindu_facts.proofs.HinduRuns.{sign_at_sunset_few, year_at_sunset_few, sankranti_few, tithi_few, sign_before_few, sign_after_few, calendar_year_few}
 use Rattle.crescent.proofs.Crescents.{phasis_few}
 use Rattle.fact_eval.proofs.MoonFacts.{new_moon_before_few, new_moon_from_few}

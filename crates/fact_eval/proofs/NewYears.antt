@@ -11,7 +11,7 @@ use Rattle.book_model.specs.programs.Programs.{Program, answer, cell, integers}
 use Rattle.book_model.specs.numbers.Relations.{Within}
 use Rattle.book_model.proofs.FactRuns.{decides}
 use Rattle.book_model.proofs.Leads.{leads_leaf, leads_value}
-use Rattle.sun_core.proofs.NewYears.{IsEstimate, search_start_near}
+use Rattle.moon_core.proofs.NewYears.{IsEstimate, search_start_near}
 
 -- the floor of the estimated passage doesn't lie far off
 pub is_estimate : {E : Type 0} {shown : E → Interval} (w : World) (site : Site) (moment : ℤ → Program Expression) (l d : ℤ) {a b e : ℕ} {y : E}

@@ -17,7 +17,7 @@ use Rattle.book_model.specs.sky.Time.{midnight_of}
 use Rattle.book_model.proofs.Estimates.{floor_between, between_of_within}
 use Rattle.book_model.proofs.FactRuns.{sun_few, sun_within}
 use Rattle.book_model.proofs.Leads.{at_most_bind, at_most_more}
-use Rattle.sun_core.proofs.NewYears.{season_day_few}
+use Rattle.moon_core.proofs.NewYears.{season_day_few}
 use Rattle.book_model.proofs.Values.{value_proper}
 
 -- ---- how many tests

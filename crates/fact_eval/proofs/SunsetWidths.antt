@@ -18,8 +18,8 @@ use Rattle.book_model.specs.sky.Names.{location_of}
 use Rattle.book_model.specs.sky.Places.{are_kept_hours}
 use Rattle.encl_core.proofs.Measuring.{measured, sloped}
 use Rattle.time_scales.proofs.ZoneWidths.{hours_within}
-use Rattle.rise_set.specs.Widths.{IsNarrowLocation}
-use Rattle.rise_set.proofs.Places.{place_is_narrow}
+use Rattle.crescent.specs.SkyWidths.{IsNarrowLocation}
+use Rattle.crescent.proofs.Places.{place_is_narrow}
 
 -- the location of a place is narrow
 pub found_is_narrow : (place : Place) (l : Location) → Some l ≡ location_of place → IsNarrowLocation l

@@ -10,7 +10,7 @@ use crate::seasons::{DayMoment, season_day};
 use book_model::Fail;
 use book_model::calendar_tables::AUTUMN;
 use encl_core::{Enclosure, Trail};
-use sun_core::{SunCourse, paris_midnight};
+use moon_core::{SunCourse, paris_midnight};
 
 /// Midnight at the end of a day by apparent time at Paris.
 #[derive(Drop)]

@@ -8,7 +8,7 @@ ghost use Rattle.time_scales.specs.Widths.{IsMidnightDay};
 
 use book_model::{Fail, Place, Site};
 use encl_core::{Enclosure, Trail, floor_step};
-use sun_core::sun;
+use moon_core::sun;
 use time_scales::{in_zone, midnight};
 
 /// The longitude of the sun at midnight at the beginning of a day (R.D.) at a place: two tests at most (`sun_few`).

@@ -7,15 +7,13 @@ ghost use Rattle.book_model.specs.sky.Kinds.{located};
 ghost use Rattle.book_model.specs.sky.Names.{location_of};
 ghost use Rattle.book_model.specs.sky.Nisan as spec;
 ghost use Rattle.fact_eval.specs.Nisan.{IsEquinoxDay, next_equinox_of, nisan_on_of};
-ghost use Rattle.rise_set.specs.Widths.{IsNarrowLocation};
+ghost use Rattle.crescent.specs.SkyWidths.{IsNarrowLocation};
 ghost use Rattle.time_scales.specs.Steps.{IsNoEarlyYear};
 
 use book_model::{Fail, Location, Place, Site};
-use crescent::sight_from_by;
+use crescent::{sight_from_by, sunset};
 use encl_core::{Enclosure, Trail, floor_step, less_step};
-use moon_core::PhaseCourse;
-use rise_set::sunset;
-use sun_core::{SunCourse, sun_from_by};
+use moon_core::{PhaseCourse, SunCourse, sun_from_by};
 
 /// The longitude of the sun at the spring equinox, in degrees.
 const SPRING_EQUINOX: i64 = 0;

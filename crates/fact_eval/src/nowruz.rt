@@ -10,7 +10,7 @@ use crate::seasons::{DayMoment, season_day};
 use book_model::Fail;
 use book_model::calendar_tables::SPRING;
 use encl_core::{Enclosure, Trail};
-use sun_core::{SunCourse, noon};
+use moon_core::{SunCourse, noon};
 
 /// True noon of a day at Tehran.
 #[derive(Drop)]

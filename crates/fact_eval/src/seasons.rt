@@ -14,7 +14,7 @@ ghost use Rattle.fact_eval.specs.Widths.{IsSmallSeason, IsSmallSide};
 
 use book_model::{Fail, Season, Side, Site};
 use encl_core::{DayTest, Enclosure, Trail, first_day, floor_step, less_step};
-use sun_core::{SunCourse, estimate, sun, sun_by};
+use moon_core::{SunCourse, estimate, sun, sun_by};
 
 // So that the search is one for true noon, sunset and midnight, as in the definitions
 // (`season_day_of`).

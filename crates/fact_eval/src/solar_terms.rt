@@ -10,7 +10,7 @@ use crate::midnights::{day_at, longitude_at_midnight};
 use book_model::sun_tables::DEGREE_IN_TERMS;
 use book_model::{Fail, Place, Site};
 use encl_core::{Enclosure, Trail, floor_step, modulo};
-use sun_core::{SunCourse, sun_from_by};
+use moon_core::{SunCourse, sun_from_by};
 use time_scales::midnight;
 
 /// How many degrees the sun moves from one major solar term to the next, and from one minor term to the next.

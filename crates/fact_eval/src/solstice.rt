@@ -9,7 +9,7 @@ use crate::seasons::{DayMoment, season_day};
 use book_model::calendar_tables::WINTER;
 use book_model::{Fail, Place};
 use encl_core::{Enclosure, Trail};
-use sun_core::SunCourse;
+use moon_core::SunCourse;
 use time_scales::midnight;
 
 /// Midnight at the end of a day at a place.

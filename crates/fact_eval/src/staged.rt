@@ -27,9 +27,8 @@ use fix_fine::Fine;
 use hindu_facts::{
     calendar_year, sankranti, sign_after, sign_at_sunset, sign_before, solar_year, tithi,
 };
-use moon_core::PhaseCourse;
+use moon_core::{PhaseCourse, new_moon};
 use moon_rise::{moonrise, moonset};
-use new_moons::new_moon;
 use oracle_core::{Answer, Evaluator};
 
 /// What is evaluated once, before any fact, over enclosures of one kind, and serves every fact: a trail that has made no test and

@@ -9,7 +9,7 @@ ghost use Rattle.time_scales.specs.Steps.{IsNoEarlyYear};
 use book_model::tables::THOUSANDTHS_OF_DEGREE;
 use book_model::{Fail, Site};
 use encl_core::{Enclosure, Trail, floor_step};
-use sun_core::sun;
+use moon_core::sun;
 
 /// The longitude of the sun at 0 h universal time of a day, in thousandths of a degree, rounded down: three tests, of
 /// which that of the year is never open.

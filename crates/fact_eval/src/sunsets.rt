@@ -7,7 +7,7 @@ ghost use Rattle.book_model.specs.sky.Horizon.{sunset_of};
 ghost use Rattle.book_model.specs.sky.Kinds.{bahai_year_of, located, minutes_of, sunset_in_minutes_of};
 ghost use Rattle.book_model.specs.sky.Names.{location_of};
 ghost use Rattle.book_model.specs.declared.location_tables.TheConstants.{TEHRAN as tehran};
-ghost use Rattle.rise_set.specs.Widths.{IsNarrowLocation};
+ghost use Rattle.crescent.specs.SkyWidths.{IsNarrowLocation};
 
 use crate::rounding::rounded;
 use crate::seasons::{DayMoment, season_day};
@@ -15,10 +15,10 @@ use book_model::calendar_tables::SPRING;
 use book_model::location_tables::{MINUTES_OF_DAY, TEHRAN};
 use book_model::time_tables::HOUR;
 use book_model::{Fail, Location, Place, Site};
+use crescent::{Sunsets, sunset};
 use encl_core::{Enclosure, Trail};
-use rise_set::{Sunsets, sunset};
+use moon_core::SunCourse;
 use std::marker::Model;
-use sun_core::SunCourse;
 use time_scales::zone_on;
 
 /// Sunset on a day at Tehran: the sunsets there, which share what the location asks for. Contracts see nothing of it.

@@ -30,7 +30,7 @@ use Rattle.book_model.proofs.FactRuns.{centuries_few, sun_few, parts, decides, r
 use Rattle.rise_set.proofs.Horizons.{settled_few}
 use Rattle.book_model.proofs.Leads.{at_most_bind, at_most_more, leads_value}
 use Rattle.time_scales.proofs.Moments.{dated_in_table}
-use Rattle.sun_core.proofs.NewYears.{days_few}
+use Rattle.moon_core.proofs.NewYears.{days_few}
 use Rattle.moon_core.proofs.PhaseRanges.{half_between, moon_before_few, moon_from_few, phase_between, phase_few, scaled_between, world_of}
 use Rattle.book_model.proofs.Values.{value_proper}
 use Rattle.hindu_facts.specs.Counts.{IsSign, IsDegree, IsLunarDay}

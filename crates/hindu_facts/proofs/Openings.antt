@@ -11,7 +11,7 @@ use Rattle.book_model.specs.numbers.Relations.{Narrow}
 use Rattle.encl_core.specs.Steps.{IsOpenFloor}
 use Rattle.time_scales.specs.Steps.{IsNoEarlyYear, IsYearOpenFor}
 use Rattle.time_scales.proofs.WholeDays.{no_early_year}
-use Rattle.sun_core.proofs.Openings.{open_is_early}
+use Rattle.moon_core.proofs.SunOpenings.{open_is_early}
 
 -- an open rounding isn't of the year
 pub round_elsewhere : {T : Type 0} (i j : Interval) (r : Result T Fail) → IfErr r (IsOpenFloor i Round) → IfErr r (IsYearOpenFor j)

@@ -16,9 +16,8 @@ use crate::zodiac::{hindu_year, sign, whole_degrees};
 use book_model::sun_tables::DEGREE_IN_LUNAR_DAYS;
 use book_model::{Fail, Site};
 use encl_core::{DayTest, Enclosure, Trail, first_day, floor_step, modulo};
-use moon_core::{PhaseCourse, moon_before_by, moon_from_by, phase};
+use moon_core::{PhaseCourse, SunCourse, moon_before_by, moon_from_by, phase};
 use rise_set::{HinduSunsets, hsunset, sunrise};
-use sun_core::SunCourse;
 
 /// The sign of the zodiac in which the sun stands at sunset on a day (R.D.): 137 tests at most (`sign_at_few`), those of
 /// `sign_at_sunset`.

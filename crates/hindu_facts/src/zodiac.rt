@@ -13,7 +13,7 @@ use book_model::sun_tables::{DAY_IN_SIDEREAL_YEARS, DEGREE_IN_SIGNS, DEGREE_IN_T
 use book_model::tables::HALF;
 use book_model::{Fail, Site};
 use encl_core::{Enclosure, Trail, floor_step};
-use sun_core::{SunCourse, sidereal_sun, sidereal_sun_by};
+use moon_core::{SunCourse, sidereal_sun, sidereal_sun_by};
 
 /// The whole signs in a longitude among the stars, as one test.
 #[tactic(auto, using(book_model::proofs::Leads::leading))]

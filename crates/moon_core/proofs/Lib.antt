@@ -1,5 +1,10 @@
 -- of sun_core, given on
+pub use Rattle.sun_core.proofs.EarlyTests
 pub use Rattle.sun_core.proofs.Measured as SunMeasured
+pub use Rattle.sun_core.proofs.Nested
+pub use Rattle.sun_core.proofs.NewYears
+pub use Rattle.sun_core.proofs.OnCourse as SunOnCourse
+pub use Rattle.sun_core.proofs.Openings as SunOpenings
 pub use Rattle.sun_core.proofs.Scalings
 pub mod OnCourse
 pub mod WalkSteps

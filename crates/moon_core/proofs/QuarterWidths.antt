@@ -11,7 +11,7 @@ use Rattle.book_model.specs.numbers.Relations.{Narrow}
 use Rattle.book_model.specs.programs.Widths.{IsAbout, IsMoment, IsSmall, IsUpTo, Measures, table_days, table_from, table_to}
 use Rattle.book_model.specs.sky.Phases.{phase_back_by}
 use Rattle.encl_core.proofs.Measuring.{measured, sloped, looser, drawn}
-use Rattle.angle_search.proofs.Measured.{apart_within, turn_is_angle, moment_wider}
+use Rattle.sun_core.proofs.SearchMeasured.{apart_within, turn_is_angle, moment_wider}
 use Rattle.time_scales.proofs.ZoneWidths.{whole_day_within}
 use Rattle.sun_core.specs.Widths.{IsNearMoment}
 

@@ -23,9 +23,8 @@ use book_model::moon_tables::{
     VENUS_IN_LATITUDE, VENUS_WAVE,
 };
 use encl_core::{Enclosure, Trail};
-use periodic_terms::latitude_terms;
+use periodic_terms::{latitude_terms, sin_deg};
 use sun_core::{sine_wave, wave_angle};
-use trig_series::sin_deg;
 
 /// What Venus adds, by the angle of its wave and the argument of latitude, in millionths of a degree.
 #[tactic(auto, unfolding(book_model::specs::sky::Latitude::venus_by))]

@@ -8,7 +8,8 @@
 //! - `moon_before`: the last new moon before a moment; `moon_from`: the first at or after it;
 //! - `phase_before`: when the moon was last at a phase; `phase_day`: the day of that;
 //! - `PhaseCourse`: what is known of the phase over a stretch of time, by which `moon_before_by`, `moon_from_by` and `phase_before_by`
-//!   are the calls above.
+//!   are the calls above;
+//! - of `sun_core` and `new_moons` what the facts ask of the sun and of a new moon, given on.
 #![tactic(auto)]
 
 mod angles;
@@ -26,8 +27,13 @@ mod walks;
 pub use elements::{MoonElements, moon_elements};
 pub use latitudes::{latitude, latitude_again};
 pub use longitude::{longitude_at, moon};
+pub use new_moons::new_moon;
 pub use periodic_terms::MeanAngles;
 pub use phase_courses::PhaseCourse;
 pub use phases::phase;
 pub use quarters::{phase_before, phase_before_by, phase_day};
+pub use sun_core::{
+    SunCourse, estimate, noon, paris_midnight, sidereal_sun, sidereal_sun_by, sun, sun_by,
+    sun_from_by,
+};
 pub use walks::{moon_before, moon_before_by, moon_from, moon_from_by};

@@ -22,9 +22,8 @@ use crate::elements::{MoonElements, moon_elements};
 use book_model::moon_tables::{FLATTENING, JUPITER_WAVE, MILLIONTH, VENUS_WAVE};
 use book_model::{Fail, Site};
 use encl_core::{Enclosure, Trail, wrap_step};
-use periodic_terms::longitude_terms;
+use periodic_terms::{longitude_terms, sin_deg};
 use sun_core::{nutation, sine_wave};
-use trig_series::sin_deg;
 
 /// What the flattening of the earth adds, by the mean longitude and the argument of latitude, in millionths of a degree.
 #[tactic(auto, unfolding(book_model::specs::sky::Moon::flattening_of, crate::specs::Daily::computed_flattening_of))]

@@ -15,11 +15,10 @@ ghost use Rattle.time_scales.specs.Steps.{IsEarlyYearFor, IsNoEarlyYear};
 
 use crate::phase_courses::{PhaseCourse, phase_by};
 use crate::phases;
-use angle_search::{Angular, invert_angular};
 use book_model::new_moon_tables::DEGREE_OF_MONTH;
 use book_model::{Fail, Site};
 use encl_core::{Enclosure, Trail, floor_step, wrap_step};
-use sun_core::days_over;
+use sun_core::{Angular, days_over, invert_angular};
 
 /// How many days before and after the moment by the mean phase the moon is sought.
 const DAYS_ABOUT: i64 = 2;
@@ -30,7 +29,6 @@ impl<E: Enclosure> Angular<E> for PhaseCourse<E> {
 
     ghost spread = { λ v. greatest_of PHASE v };
 
-    #[tactic(auto, using(angle_search::proofs::Measured::turn_measured))]
     fn at(&self, x: E, trail: &mut Trail) -> Result<E, Fail> {
         phases::phase(x, trail)
     }

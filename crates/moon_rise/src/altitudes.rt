@@ -11,13 +11,11 @@ ghost use Rattle.std.specs.Prelude.{◌≡◌, IfErr, IfOk};
 ghost use Rattle.time_scales.specs.Steps.{IsYearOpenFor};
 
 use crate::distances::distance_again;
-use arc_series::arcsin_deg;
 use book_model::{Fail, Frac, Location, Site};
 use encl_core::{Enclosure, Trail, less_step};
 use moon_core::{latitude_again, longitude_at, moon_elements};
-use rise_set::{altitude_sine, obliquity_at, sunset_depression};
+use rise_set::{altitude_sine, arcsin_deg, cos_deg, obliquity_at, sunset_depression};
 use time_scales::sidereal;
-use trig_series::cos_deg;
 
 /// A kilometre, in radii of the earth.
 fn kilometre_in_radii() -> Frac

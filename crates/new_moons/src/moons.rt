@@ -24,9 +24,8 @@ use book_model::new_moon_tables::{NEW_MOON_OF_2000, NEW_MOON_WAVE, NODE_TERM};
 use book_model::time_tables::NOON_2000;
 use book_model::{Fail, Frac};
 use encl_core::{Enclosure, Trail};
-use periodic_terms::{MeanAngles, new_moon_terms};
+use periodic_terms::{MeanAngles, new_moon_terms, sin_deg};
 use time_scales::{from_dynamical, quadratic};
-use trig_series::sin_deg;
 
 // An exact fraction: of the polynomials at it only their own steps round.
 /// So many months in units of 1236.85 months, which are centuries.

@@ -16,6 +16,8 @@
 //! - `longitude_terms`, `latitude_terms`, `distance_terms`: the sums of the moon's terms; `new_moon_terms`: those of a new moon;
 //! - `greatest_terms`, `other_terms`: the two parts of the longitude's, of which a course keeps the other one.
 //!
+//! The sines of `trig_series` are given on to the formulas above.
+//!
 //! Within, a table's row becomes `Multiples` (the trait `MultipleRow`), the mean angles become turns (`mean_turns`, `two_turns`), and
 //! `sum_of_rows` sums the rows.
 #![tactic(auto)]
@@ -38,6 +40,7 @@ pub use sines::sine_at_turn;
 pub use tables::{
     distance_terms, greatest_terms, latitude_terms, longitude_terms, new_moon_terms, other_terms,
 };
+pub use trig_series::{cos_deg, pi, sin_deg, tan_deg};
 pub use wave_rows::TurningWave;
 pub use wave_spans::sum_over;
 pub use waves::sum_of_waves;

@@ -14,7 +14,7 @@ ghost use Rattle.book_model.specs.numbers.Fractions.{fraction_of};
 
 use book_model::Frac;
 use encl_core::Enclosure;
-use trig_series::{cos_deg, sin_deg};
+use sun_core::{cos_deg, sin_deg};
 
 /// An angle by its sine and its cosine.
 #[derive(Clone, Copy, Drop)]

@@ -13,12 +13,11 @@ ghost use Rattle.book_model.specs.sky.Facts.{IsFactDay};
 
 use crate::offsets::offset_near;
 use crate::skyline::Horizon;
-use arc_series::arcsin_deg;
 use book_model::location_tables::{QUARTER, THREE_QUARTERS};
 use book_model::sun_tables::DEGREE_IN_DAYS;
 use book_model::{Fail, Site, Twilight};
 use encl_core::{Enclosure, Trail, floor_step};
-use sun_core::from_apparent;
+use sun_core::{arcsin_deg, from_apparent};
 
 // Sums of enclosures and not of numbers: these don't leave their type for any day that a floor may
 // give.

@@ -11,13 +11,11 @@ ghost use Rattle.rise_set.specs.Altitudes.{IsTilt};
 ghost use Rattle.rise_set.specs.Widths.{IsDeclination};
 ghost use Rattle.time_scales.specs.Steps.{IsYearOpenFor};
 
-use arc_series::arcsin_deg;
 use book_model::sun_tables::DEGREE_IN_DAYS;
 use book_model::{Fail, Frac};
 use encl_core::{Enclosure, Trail};
-use sun_core::{obliquity, sun};
+use sun_core::{arcsin_deg, obliquity, sin_deg, sun};
 use time_scales::centuries;
-use trig_series::sin_deg;
 
 /// The universal time of a moment of local mean time at a longitude east of Greenwich, in degrees.
 #[tactic(auto, unfolding(book_model::specs::sky::Horizon::universal_of, book_model::specs::sky::Noon::ahead_of))]

@@ -8,7 +8,8 @@
 //! - `refraction`, `sunset`: the depression of the sun's upper edge, and when it sets;
 //! - `sunrise`, `hsunset`: sunrise and sunset at Ujjain as the Hindu calendars take them;
 //! - `altitude_sine`: the sine of the moon's altitude;
-//! - `Horizon` with `dusk_at`, `Sunsets`, `HinduSunsets`: the same of many days, with what a location asks for computed once.
+//! - `Horizon` with `dusk_at`, `Sunsets`, `HinduSunsets`: the same of many days, with what a location asks for computed once;
+//! - sines and the arcsine, given on to the formulas above.
 #![tactic(auto)]
 
 mod altitude;
@@ -27,4 +28,5 @@ pub use depression::{dawn, dusk, dusk_at};
 pub use hindu::{FIRST_HINDU_DAY, HinduSunsets, hsunset, sunrise};
 pub use offsets::offset;
 pub use skyline::{Horizon, horizon_at};
+pub use sun_core::{arcsin_deg, cos_deg, sin_deg};
 pub use sunsets::{Sunsets, refraction, sunset, sunset_depression};

@@ -20,7 +20,7 @@ use crate::declinations::{declination, universal};
 use crate::skyline::{Horizon, horizon_at};
 use book_model::{Fail, Location, Site, Twilight};
 use encl_core::{Enclosure, Trail, less_step};
-use trig_series::{cos_deg, tan_deg};
+use sun_core::{cos_deg, tan_deg};
 
 /// The size of a number.
 #[tactic(auto, unfolding(book_model::specs::sky::Phases::size_of))]

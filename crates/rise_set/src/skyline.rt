@@ -8,7 +8,7 @@ ghost use Rattle.std.specs.Prelude.{◌≡◌};
 
 use book_model::Location;
 use encl_core::Enclosure;
-use trig_series::{cos_deg, sin_deg, tan_deg};
+use sun_core::{cos_deg, sin_deg, tan_deg};
 
 /// The horizon of a location, below which the sun stands by a depression: the tangent and the cosine of the latitude, and the
 /// sine of the depression. They are taken once for all approximations of dawns and dusks there, of however many days.

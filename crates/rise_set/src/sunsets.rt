@@ -10,11 +10,11 @@ ghost use Rattle.book_model.specs.sky.Facts.{IsFactDay};
 use crate::declinations::universal;
 use crate::depression::dusk_at;
 use crate::skyline::{Horizon, horizon_at};
-use arc_series::arccos_deg;
 use book_model::location_tables::{EARTH_RADIUS, HALF_SUN, REFRACTION, REFRACTION_OF_HEIGHT};
 use book_model::{Fail, Frac, Location};
 use encl_core::{Enclosure, Trail};
 use std::marker::Model;
+use sun_core::arccos_deg;
 
 /// The cosine of the angle by which the horizon lies deeper from so many metres of height.
 fn horizon_cosine(height: u16) -> Frac

@@ -1,3 +1,6 @@
+-- of angle_search, given on
+pub use Rattle.angle_search.proofs.Measured as SearchMeasured
+pub use Rattle.angle_search.proofs.Passed
 pub mod OnCourse
 pub mod Scalings
 pub mod Openings

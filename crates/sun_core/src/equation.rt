@@ -16,8 +16,8 @@ use book_model::sun_tables::{
 };
 use book_model::tables::HALF;
 use encl_core::{Enclosure, Trail};
+use periodic_terms::{cos_deg, pi, sin_deg, tan_deg};
 use time_scales::centuries;
-use trig_series::{cos_deg, pi, sin_deg, tan_deg};
 
 /// The first three terms of the equation of time, in radians.
 #[tactic(auto, unfolding(crate::specs::Steps::first_radians_of, book_model::specs::sky::Noon::reduction_of, book_model::specs::sky::Noon::centre_of, book_model::specs::sky::Noon::joint_of))]

@@ -12,7 +12,8 @@
 //! - `noon`: true noon at Tehran, which decides the first day of a Persian year; `paris_midnight`: midnight by apparent time at Paris,
 //!   which decides that of a French year;
 //! - `estimate`: about when the sun was last at a longitude; `sun_from`: when it is next at one; `sun_from_by`: the same by a course;
-//! - `precession`: how far the equinox has moved among the stars; `sidereal_sun`: the longitude of the sun among them.
+//! - `precession`: how far the equinox has moved among the stars; `sidereal_sun`: the longitude of the sun among them;
+//! - sines, arcs and the bisection of `trig_series`, `arc_series` and `angle_search`, given on to the formulas above.
 #![tactic(auto)]
 
 mod apparent;
@@ -27,7 +28,9 @@ mod stars;
 mod turns;
 mod waves;
 
+pub use angle_search::{Angular, invert_angular};
 pub use apparent::{from_apparent, noon, paris_midnight};
+pub use arc_series::{arccos_deg, arcsin_deg};
 pub use courses::{SunCourse, days_over, sun_by};
 pub use daily::times_rate;
 pub use ecliptic::obliquity;
@@ -35,5 +38,6 @@ pub use equation::equation_of_time;
 pub use estimates::estimate;
 pub use longitude::{nutation, sun};
 pub use passages::{sun_from, sun_from_by};
+pub use periodic_terms::{cos_deg, sin_deg, tan_deg};
 pub use stars::{precession, sidereal_sun, sidereal_sun_by};
 pub use waves::{sine_wave, wave_angle};

@@ -22,8 +22,8 @@ use book_model::sun_tables::{
 use book_model::time_tables::{DAY_IN_CENTURIES, NOON_2000};
 use book_model::{Fail, Site};
 use encl_core::{Enclosure, Trail, wrap_step};
+use periodic_terms::sin_deg;
 use time_scales::dynamical;
-use trig_series::sin_deg;
 
 /// The nutation in longitude, in degrees, by the centuries (Reingold and Dershowitz, Calendrical Calculations, chapter 14).
 #[tactic(auto, unfolding(book_model::specs::sky::Sun::nutation_of, book_model::specs::numbers::Polynomials::quadratic_wave_of, book_model::specs::numbers::Polynomials::quadratic_of))]

@@ -17,8 +17,8 @@ use arc_series::arctan2_deg;
 use book_model::sun_tables::{ECLIPTIC_CROSSING, ECLIPTIC_TILT, EQUINOX_ADVANCE, SIDEREAL_START};
 use book_model::{Fail, Site};
 use encl_core::{Enclosure, Trail, wrap_step};
+use periodic_terms::{cos_deg, sin_deg};
 use time_scales::{centuries, cubic, quadratic};
-use trig_series::{cos_deg, sin_deg};
 
 // Over recent moments, from R.D. 580,000 on, the direction keeps to one quadrant: so its arctangent
 // is narrow.

@@ -8,7 +8,7 @@ ghost use Rattle.sun_core.specs.Daily.{in_centuries, daily_angle_of, daily_wave_
 
 use book_model::{Frac, Wave};
 use encl_core::Enclosure;
-use trig_series::{cos_deg, sin_deg};
+use periodic_terms::{cos_deg, sin_deg};
 
 /// The angle of a wave by the days from noon of 1 January 2000.
 #[inline(always)]

@@ -6,7 +6,7 @@ use Rattle.book_model.specs.numbers.Relations.{Within}
 use Rattle.book_model.specs.sky.Kinds.{has_side_at, longitude_at_of, is_on_side_of}
 use Rattle.book_model.specs.sky.Sun.{sun_of}
 use Rattle.fact_eval.specs.Seasons.{stands_on}
-use Rattle.sun_core.proofs.Nested.{bind_nested}
+use Rattle.moon_core.proofs.Nested.{bind_nested}
 use Rattle.fact_eval.proofs.seasons.has_side.Goals as goal
 
 pub returns-clause-leads : goal.returns-clause-leads

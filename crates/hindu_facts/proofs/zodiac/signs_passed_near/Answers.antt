@@ -1,6 +1,6 @@
 use Rattle.book_model.specs.sky.Sidereal.{signs_passed_of}
 use Rattle.book_model.proofs.Leads.{leads_on, leaf_within}
-use Rattle.sun_core.proofs.OnCourse.{answer_decided_at}
+use Rattle.moon_core.proofs.SunOnCourse.{answer_decided_at}
 use Rattle.hindu_facts.specs.Counts.{whole_signs_of}
 use Rattle.hindu_facts.proofs.zodiac.signs_passed_near.Goals as goal
 

@@ -1,5 +1,5 @@
 use Rattle.book_model.proofs.Leads.{leads_on, leaf_within}
-use Rattle.angle_search.proofs.Passed.{answer_decides}
+use Rattle.sun_core.proofs.Passed.{answer_decides}
 use Rattle.moon_core.specs.Courses.{number_by}
 use Rattle.moon_core.proofs.numbers.number_near.Goals as goal
 

@@ -6,7 +6,7 @@ use Rattle.book_model.proofs.Leads.{leads_on, leaf_within}
 use Rattle.sun_core.proofs.Worlds.{world_of_two, within_first, within_second}
 use Rattle.sun_core.proofs.Openings.{late_failure}
 use Rattle.std.proofs.Common.{arith, ◌+◌, ◌-◌, ◌*◌, ◌^◌}
-use Rattle.angle_search.proofs.Measured.{moment_wider}
+use Rattle.sun_core.proofs.SearchMeasured.{moment_wider}
 use Rattle.moon_core.proofs.QuarterWidths.{back_within, passage_measured}
 use Rattle.moon_core.proofs.quarters.phase_before_by.Goals as goal
 
