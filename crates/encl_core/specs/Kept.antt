@@ -10,6 +10,10 @@ use Rattle.book_model.specs.programs.Leading.{units_of_56, leaf}
 use Rattle.book_model.specs.declared.new_moon_tables.TheConstants.{FIRST_RECENT_MOON, LAST_RECENT_MOON}
 use Rattle.book_model.specs.programs.Widths.{IsWithin, IsAbout, IsDated, IsFrom}
 use Rattle.book_model.specs.programs.Programs.{Program, Run, answered, voided, undecided, decided, run}
+use Rattle.book_model.specs.sky.NewMoons.{new_moon_of}
+use Rattle.book_model.specs.sky.Time.{correction_of_year}
+use Rattle.encl_core.specs.declared.asked.Asked.{Asked}
+use Rattle.encl_core.specs.declared.asked.Asked.TheVariants.{NewMoon, Correction}
 use Rattle.encl_core.specs.declared.span.Span.{Span}
 use Rattle.book_model.specs.declared.time_tables.TheConstants.{RECENT_START, TABLE_END}
 
@@ -44,6 +48,19 @@ pub record IsMoonWithin (number : ℤ) (bits : ℕ) (s : Span) : Type 0 where
   pub recent : FIRST_RECENT_MOON ≤ℤ number → number ≤ℤ LAST_RECENT_MOON → bits ≡ 56
       → IsFrom RECENT_START (TABLE_END +ℤ pos 1) (2 ^ 29 + 2 ^ 24 + 2 ^ 17) (shown_span s)
 
+-- ---- what is asked: its program, how many tests that makes, and how wide it is at most
+abbrev pub program_of : Asked → Program Expression
+program_of (NewMoon number) = new_moon_of number
+program_of (Correction year) = correction_of_year year
+
+abbrev pub tests_of : Asked → ℕ
+tests_of (NewMoon number) = 1
+tests_of (Correction year) = 0
+
+abbrev pub IsKeptWithin : Asked → ℕ → Span → Type 0
+IsKeptWithin (NewMoon number) bits s = IsMoonWithin number bits s
+IsKeptWithin (Correction year) bits s = IsKeptAbout (2 ^ 30) (2 ^ 14) bits s
+
 -- ---- a span is kept in one way at most, so it may be a ghost field
 ends_prop : (i j : Interval) → IsProp (AreWithin i j)
 ends_prop everything everything = Unit-prop
@@ -69,3 +86,7 @@ IsKeptAbout-prop size width bits s = Prim.hlevel (about_prop, facts.props)
 
 pub IsMoonWithin-prop : (number : ℤ) (bits : ℕ) (s : Span) → IsProp (IsMoonWithin number bits s)
 IsMoonWithin-prop number bits s = Prim.hlevel (about_prop, facts.props)
+
+pub IsKeptWithin-prop : (asked : Asked) (bits : ℕ) (s : Span) → IsProp (IsKeptWithin asked bits s)
+IsKeptWithin-prop (NewMoon number) bits s = IsMoonWithin-prop number bits s
+IsKeptWithin-prop (Correction year) bits s = IsKeptAbout-prop (2 ^ 30) (2 ^ 14) bits s

@@ -4,7 +4,7 @@
 //! the enclosures decide it; where they don't, it says which test that was and what the enclosures were.
 //!
 //! - `Enclosure`: the trait, with the clauses that formulas are proved from;
-//! - `Trail`: the count of the tests of a run, and what it keeps of what it may ask again;
+//! - `Trail`: the count of the tests of a run, and what it keeps of what it may ask again (`Asked`);
 //! - `Coarse`: the first kind, by ends in 64 bits that count 2⁻³⁶;
 //! - `floor_step`, `less_step` and `wrap_step`: the tests as steps of a formula's program;
 //! - `first_day`: the search for the first day of which a `DayTest` is true;
@@ -18,14 +18,13 @@
 //! how far apart its ends lie where it is open (`Closing`).
 #![tactic(auto)]
 
+mod asked;
 mod circle;
 mod coarse;
 mod enclosure;
 mod fractions;
 pub mod greatest_widths;
-mod kept_correction;
-mod kept_moon;
-mod kept_moons;
+mod kept;
 mod search;
 mod span;
 mod steps;
@@ -34,6 +33,7 @@ mod trail;
 mod turning;
 mod within;
 
+pub use asked::Asked;
 pub use circle::pi;
 pub use coarse::Coarse;
 pub use enclosure::Enclosure;

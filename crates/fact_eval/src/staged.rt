@@ -27,7 +27,7 @@ use fix_fine::Fine;
 use hindu_facts::{
     calendar_year, sankranti, sign_after, sign_at_sunset, sign_before, solar_year, tithi,
 };
-use moon_core::{PhaseCourse, new_moon};
+use moon_core::{PhaseCourse, trail_with_first_moon};
 use moon_rise::{moonrise, moonset};
 use oracle_core::{Answer, Evaluator};
 
@@ -42,10 +42,8 @@ struct Beginning<E: Enclosure> {
 impl<E: Enclosure> Beginning<E> {
     /// What serves every fact.
     fn new() -> Self {
-        let mut trail = Trail::new();
-        let _moment = new_moon::<E>(0, &mut trail);
         Beginning {
-            trail,
+            trail: trail_with_first_moon::<E>(),
             course: PhaseCourse::<E>::usual(),
         }
     }

@@ -9,7 +9,7 @@
 //! - `phase_before`: when the moon was last at a phase; `phase_day`: the day of that;
 //! - `PhaseCourse`: what is known of the phase over a stretch of time, by which `moon_before_by`, `moon_from_by` and `phase_before_by`
 //!   are the calls above;
-//! - of `sun_core` and `new_moons` what the facts ask of the sun and of a new moon, given on.
+//! - of `sun_core` and `new_moons` what the facts ask of the sun, and the trail with which they begin, given on.
 #![tactic(auto)]
 
 mod angles;
@@ -27,7 +27,7 @@ mod walks;
 pub use elements::{MoonElements, moon_elements};
 pub use latitudes::{latitude, latitude_again};
 pub use longitude::{longitude_at, moon};
-pub use new_moons::new_moon;
+pub use new_moons::trail_with_first_moon;
 pub use periodic_terms::MeanAngles;
 pub use phase_courses::PhaseCourse;
 pub use phases::phase;

@@ -2,7 +2,8 @@
 //! formula makes the test of its definition, and its answer holds what the definition gives, at every depth from `DEPTH`
 //! on.
 //!
-//! - `new_moon`: the moment of a new moon, in universal time.
+//! - `new_moon`: the moment of a new moon, in universal time;
+//! - `trail_with_first_moon`: a trail that keeps the first new moon that each walk asks.
 #![tactic(auto)]
 
 mod angles;
@@ -10,4 +11,4 @@ mod months;
 mod moons;
 mod planets;
 
-pub use moons::new_moon;
+pub use moons::{new_moon, trail_with_first_moon};

@@ -23,7 +23,7 @@ use crate::planets::planet_terms;
 use book_model::new_moon_tables::{NEW_MOON_OF_2000, NEW_MOON_WAVE, NODE_TERM};
 use book_model::time_tables::NOON_2000;
 use book_model::{Fail, Frac};
-use encl_core::{Enclosure, Trail};
+use encl_core::{Asked, Enclosure, Trail};
 use periodic_terms::{MeanAngles, new_moon_terms, sin_deg};
 use time_scales::{from_dynamical, quadratic};
 
@@ -149,7 +149,7 @@ fn kept_moon<E: Enclosure>(n: i64, trail: &mut Trail) -> Result<E, Fail>
     ensures counted { trail.new.count ≡ next_turn trail.old.count }
 {
     let moment = evaluated_moon::<E>(n, trail)?;
-    trail.keep_new_moon(n, E::BITS, moment.span());
+    trail.keep(Asked::NewMoon(n), E::BITS, moment.span());
     Ok(moment)
 }
 
@@ -166,7 +166,7 @@ pub fn new_moon<E: Enclosure>(n: i64, trail: &mut Trail) -> Result<E, Fail>
         (IsFrom RECENT_START (TABLE_END +ℤ pos 1) (greatest_of NEW_MOON 0)) result }
     ensures counted { trail.new.count ≡ next_turn trail.old.count }
 {
-    match trail.new_moon(n, E::BITS) {
+    match trail.kept(Asked::NewMoon(n), E::BITS) {
         Some(moment) => {
             // What is kept makes one test that is decided, and it counts at the turn at which it is
             // taken.
@@ -175,4 +175,14 @@ pub fn new_moon<E: Enclosure>(n: i64, trail: &mut Trail) -> Result<E, Fail>
         }
         None => kept_moon::<E>(n, trail),
     }
+}
+
+/// A trail that has made no test and keeps the new moon of number 0, with which a walk begins.
+pub fn trail_with_first_moon<E: Enclosure>() -> Trail
+    ensures empty { result.count ≡ 0 }
+{
+    let mut trail = Trail::new();
+    // What it gives is what the trail keeps: the run begins anew, and takes it with its test.
+    let _moment = new_moon::<E>(0, &mut trail);
+    trail.anew()
 }

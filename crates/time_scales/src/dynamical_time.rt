@@ -22,7 +22,7 @@ use book_model::tables::SECOND;
 use book_model::time_tables::{DAY_IN_CENTURIES, NOON_2000};
 use book_model::{CorrectionForm, Fail, Frac, Site, row_of_year};
 use civil_core::first_of_july;
-use encl_core::{Enclosure, Trail};
+use encl_core::{Asked, Enclosure, Trail};
 
 /// The last day of 1899 (R.D.).
 const LAST_DAY_OF_1899: i64 = 693_596;
@@ -96,7 +96,7 @@ fn kept_correction<E: Enclosure>(year: i64, trail: &mut Trail) -> Result<E, Fail
     ensures counted { trail.new.count ≡ trail.old.count }
 {
     let days = correction::<E>(year, trail)?;
-    trail.keep_correction(year, E::BITS, days.span());
+    trail.keep(Asked::Correction(year), E::BITS, days.span());
     Ok(days)
 }
 
@@ -107,7 +107,7 @@ fn correction_once<E: Enclosure>(year: i64, trail: &mut Trail) -> Result<E, Fail
     ensures void { IfErr result (λ f. f ≡ Fail.Void Site.Year) }
     ensures counted { trail.new.count ≡ trail.old.count }
 {
-    match trail.correction(year, E::BITS) {
+    match trail.kept(Asked::Correction(year), E::BITS) {
         Some(days) => Ok(E::from_span(days)),
         None => kept_correction::<E>(year, trail),
     }

@@ -1,6 +1,6 @@
 //! What a trail keeps: that it is what would be evaluated anew, and is taken with its test.
 use super::measures::{fraction, is_near};
-use encl_core::{Coarse, Enclosure, Trail};
+use encl_core::{Asked, Coarse, Enclosure, Trail};
 use fix_fine::Fine;
 use new_moons::new_moon;
 use time_scales::dynamical;
@@ -51,8 +51,12 @@ fn is_done(step: Step, trail: &mut Trail) -> bool {
         }
         Step::Coarse(number) => is_anew::<Coarse>(number, trail),
         Step::Fine(number) => is_anew::<Fine>(number, trail),
-        Step::Kept(number, bits, is_kept) => trail.new_moon(i64::from(number), bits).is_some()
-            == is_kept,
+        Step::Kept(number, bits, is_kept) => {
+            trail
+                .kept(Asked::NewMoon(i64::from(number)), bits)
+                .is_some()
+                == is_kept
+        }
         Step::Moved(halves, days) => is_moved(halves, days, trail),
         Step::Count(tests) => trail.count() == tests,
     }

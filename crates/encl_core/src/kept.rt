@@ -1,0 +1,65 @@
+//! What a run has evaluated.
+ghost use Rattle.encl_core.specs.Kept.{IsKept, IsKept-prop, IsKeptWithin, IsKeptWithin-prop, program_of, tests_of};
+
+use crate::Span;
+use crate::asked::Asked;
+use std::alloc::AllocError;
+
+// The type says that what is kept is right: the program of what was asked makes so many tests,
+// decides them and ends within these ends, which are so narrow at the fine scale. So it may be taken
+// at any turn. A ghost field has to be a proposition, so that is said of runs and not by `Leads`.
+/// What was asked, as enclosures of one scale give it.
+pub struct Kept {
+    asked: Asked,
+    // The scale is part of the key: fine enclosures never take coarse ends.
+    bits: u32,
+    ends: Span,
+    ghost evaluated: { IsKept (tests_of asked) (program_of asked) ends } by { IsKept-prop (tests_of asked) (program_of asked) ends },
+    ghost measured: { IsKeptWithin asked bits ends } by { IsKeptWithin-prop asked bits ends },
+}
+
+impl Clone for Kept {
+    ghost use Rattle.std.specs.Prelude.{◌≡◌};
+
+    ghost is_clone = { λ v w. w ≡ v };
+
+    fn clone(&self) -> Result<Self, AllocError> {
+        Ok(*self)
+    }
+}
+
+impl Copy for Kept {}
+
+impl Kept {
+    ghost use Rattle.std.specs.Prelude.{IfSome};
+
+    /// What was asked, where an enclosure at scale 2 to the power of minus `bits` gave these ends.
+    pub(crate) fn new(asked: Asked, bits: u32, ends: Span) -> Self
+        requires evaluated { IsKept (tests_of asked) (program_of asked) ends }
+        requires measured { IsKeptWithin asked bits ends }
+    {
+        Kept { asked, bits, ends }
+    }
+
+    /// Its ends, if this was asked at this scale.
+    pub(crate) fn at(self, asked: Asked, bits: u32) -> Option<Span>
+        ensures evaluated { IfSome result (IsKept (tests_of asked) (program_of asked)) }
+        ensures measured { IfSome result (IsKeptWithin asked bits) }
+    {
+        if self.asked == asked {
+            return self.at_scale(bits);
+        }
+        None
+    }
+
+    /// Its ends, if it is at this scale.
+    fn at_scale(self, bits: u32) -> Option<Span>
+        ensures evaluated { IfSome result (IsKept (tests_of self.asked) (program_of self.asked)) }
+        ensures measured { IfSome result (IsKeptWithin self.asked bits) }
+    {
+        if self.bits == bits {
+            return Some(self.ends);
+        }
+        None
+    }
+}
