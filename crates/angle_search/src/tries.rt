@@ -41,15 +41,12 @@ fn tried<E: Enclosure, F: Angular<E>>(
         trail.old.count trail.new.count (Ok b)) }
     ensures back { IfErr result (λ z. trail.new.count ≡ trail.old.count) }
 {
-    let before = trail.count();
-    match has_passed_near(course, target, x, trail) {
-        Ok(passed) => Ok(passed),
-        Err(fail) => {
-            // The tests of a try are no part of the run.
-            trail.back_to(before);
-            Err(fail)
-        }
-    }
+    trail.attempt(
+        |inner: &mut Trail| -> Result<bool, Fail>
+            ensures { IfOk result (λ b. Decides2 E.shown (spec.has_passed_at F.angle_of) target x
+                inner.old.count inner.new.count (Ok b)) }
+        { has_passed_near(course, target, x, inner) },
+    )
 }
 
 /// The same by a course over the stretch that a try left open, if it left one and the angle is known there.

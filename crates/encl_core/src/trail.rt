@@ -1,5 +1,6 @@
 //! The trail of a run: the count of its tests, and what it has evaluated and may ask again.
-ghost use Rattle.std.specs.Prelude.{◌≡◌, IfSome};
+ghost use Rattle.std.specs.Fn.{FnOnceReturnsAtMut};
+ghost use Rattle.std.specs.Prelude.{◌≡◌, Ok, IfErr, IfOk, IfSome};
 ghost use Rattle.book_model.specs.programs.Leading.{next_turn};
 ghost use Rattle.encl_core.specs.Kept.{IsKept, IsKeptWithin, program_of, tests_of};
 
@@ -57,11 +58,18 @@ impl Trail {
         self.count
     }
 
-    /// Sets the count back to what it was: the tests made since then were a try, and another is made in its place.
-    pub fn back_to(&mut self, count: u32)
-        ensures counted { self.new.count ≡ count }
+    /// What a call gives on this trail, as a try: where it fails its tests are no part of the run, and another is made in its place.
+    pub fn attempt<T, X, F: FnOnce(&mut Trail) -> Result<T, X>>(&mut self, call: F) -> Result<T, X>
+        requires { F.IsAlwaysCallable call }
+        ensures found { IfOk result (λ t. FnOnceReturnsAtMut F.FnOnce call self.old (Ok t) self.new) }
+        ensures back { IfErr result (λ x. self.new.count ≡ self.old.count) }
     {
-        self.count = count;
+        let before = self.count;
+        let result = call(self);
+        if result.is_err() {
+            self.count = before;
+        }
+        result
     }
 
     /// The ends of what is asked, if they are kept at scale 2 to the power of minus `bits`. Who takes them counts the tests that they

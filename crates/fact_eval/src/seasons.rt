@@ -1,7 +1,7 @@
 //! The day by whose moment, as true noon, sunset or midnight at a place, a season has just begun.
 ghost use Rattle.book_model.specs.programs.Calls.{Decides, Decides1, Follows};
 ghost use Rattle.book_model.specs.programs.Widths.{IsClose, IsMoment, IsSmall, IsUpTo, Measured, Closes1};
-ghost use Rattle.std.specs.Prelude.{◌≡◌, ◌*◌, ◌^◌, pos, ◌-ℤ◌, ◌≤ℤ◌, ℤ, Ok, IfOk, IfErr, IfSome, IsNone};
+ghost use Rattle.std.specs.Prelude.{◌≡◌, ◌*◌, ◌^◌, pos, ◌-ℤ◌, ◌≤ℤ◌, ℤ, Ok, IfOk, IfErr};
 ghost use Rattle.book_model.specs.declared.season.Side.TheVariants.{UpTo as up_to, Past as past, From as at_least};
 ghost use Rattle.book_model.specs.declared.time_tables.TheConstants.{TABLE_START as table_start, TABLE_END as table_end};
 ghost use Rattle.book_model.specs.numbers.Expressions.{Expression};
@@ -111,25 +111,23 @@ fn stands_near<E: Enclosure>(
     is_on_side(side, longitude, trail)
 }
 
-/// The same, as a try: where it gives none, no test has been made.
+/// The same, as a try: where it fails, no test has been made.
 fn stands_tried<E: Enclosure>(
     course: &SunCourse<E>,
     side: Side,
     t: E,
     trail: &mut Trail,
-) -> Option<bool>
-    ensures leads { IfSome result (λ b. Decides1 E.shown (stands_on side) t trail.old.count
+) -> Result<bool, Fail>
+    ensures leads { IfOk result (λ b. Decides1 E.shown (stands_on side) t trail.old.count
         trail.new.count (Ok b)) }
-    ensures back { IsNone result → trail.new.count ≡ trail.old.count }
+    ensures back { IfErr result (λ z. trail.new.count ≡ trail.old.count) }
 {
-    let before = trail.count();
-    match stands_near(course, side, t, trail) {
-        Ok(found) => Some(found),
-        Err(_) => {
-            trail.back_to(before);
-            None
-        }
-    }
+    trail.attempt(
+        |inner: &mut Trail| -> Result<bool, Fail>
+            ensures { IfOk result (λ b. Decides1 E.shown (stands_on side) t inner.old.count
+                inner.new.count (Ok b)) }
+        { stands_near(course, side, t, inner) },
+    )
 }
 
 /// Whether the sun stands on a side at a moment: by its course where that decides it, as it does but within hours of the ends of the
@@ -144,8 +142,8 @@ fn stands<E: Enclosure>(
     ensures close { IsSmallSide side → Closes1 E.BITS E.shown (2 ^ 33) IsMoment t result }
 {
     match stands_tried(course, side, t, trail) {
-        Some(found) => Ok(found),
-        None => stands_at(side, t, trail),
+        Ok(found) => Ok(found),
+        Err(_) => stands_at(side, t, trail),
     }
 }
 

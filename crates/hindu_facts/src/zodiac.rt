@@ -1,6 +1,6 @@
 //! The sign of the zodiac in which the sun stands, and the year of the Kali Yuga, at a moment.
 ghost use Rattle.book_model.specs.programs.Calls.{Decides1, Encloses2};
-ghost use Rattle.std.specs.Prelude.{◌≡◌, ◌≤◌, ◌+◌, ◌^◌, pos, ◌≤ℤ◌, Ok, IfOk, IfErr, IfSome, IsNone};
+ghost use Rattle.std.specs.Prelude.{◌≡◌, ◌≤◌, ◌+◌, ◌^◌, pos, ◌≤ℤ◌, Ok, IfOk, IfErr};
 ghost use Rattle.book_model.specs.sky.HinduFacts.{whole_degrees_of};
 ghost use Rattle.book_model.specs.sky.Sidereal as spec;
 ghost use Rattle.hindu_facts.specs.Counts.{IsDegree, IsSign, whole_signs_of};
@@ -48,20 +48,22 @@ fn signs_passed_near<E: Enclosure>(
     whole_signs(longitude, trail)
 }
 
-/// The same, as a try: where it gives none, no test has been made.
-fn signs_passed_tried<E: Enclosure>(course: &SunCourse<E>, t: E, trail: &mut Trail) -> Option<i64>
-    ensures leads { IfSome result (λ n. Decides1 E.shown spec.signs_passed_of t trail.old.count
+/// The same, as a try: where it fails, no test has been made.
+fn signs_passed_tried<E: Enclosure>(
+    course: &SunCourse<E>,
+    t: E,
+    trail: &mut Trail,
+) -> Result<i64, Fail>
+    ensures leads { IfOk result (λ n. Decides1 E.shown spec.signs_passed_of t trail.old.count
         trail.new.count (Ok n)) }
-    ensures back { IsNone result → trail.new.count ≡ trail.old.count }
+    ensures back { IfErr result (λ z. trail.new.count ≡ trail.old.count) }
 {
-    let before = trail.count();
-    match signs_passed_near(course, t, trail) {
-        Ok(passed) => Some(passed),
-        Err(_) => {
-            trail.back_to(before);
-            None
-        }
-    }
+    trail.attempt(
+        |inner: &mut Trail| -> Result<i64, Fail>
+            ensures { IfOk result (λ n. Decides1 E.shown spec.signs_passed_of t inner.old.count
+                inner.new.count (Ok n)) }
+        { signs_passed_near(course, t, inner) },
+    )
 }
 
 /// The whole signs that the sun has passed, from 0 to 12: by its course where that decides it, as it does but within hours of its
@@ -72,8 +74,8 @@ fn signs_passed<E: Enclosure>(course: &SunCourse<E>, t: E, trail: &mut Trail) ->
     ensures close { Closes1 E.BITS E.shown (2 ^ 41) (IsSince RECENT_START) t result }
 {
     match signs_passed_tried(course, t, trail) {
-        Some(passed) => Ok(passed),
-        None => signs_passed_at(t, trail),
+        Ok(passed) => Ok(passed),
+        Err(_) => signs_passed_at(t, trail),
     }
 }
 

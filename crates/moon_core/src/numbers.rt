@@ -4,7 +4,7 @@
 //! Where that leaves a test open, as near a new moon, its tests are taken back, and the phase at the moment tells it.
 ghost use Rattle.book_model.specs.programs.Calls.{Decides1, Decides2};
 ghost use Rattle.book_model.specs.programs.Widths.{IsAbout, IsClose, IsMoment, IsUpTo, Closes1, IsSince};
-ghost use Rattle.std.specs.Prelude.{◌≡◌, ℕ, ◌≤◌, ◌+◌, ◌*◌, ◌/◌, ◌^◌, pos, negsuc, ◌≤ℤ◌, Ok, IfOk, IfErr, IfSome, IsNone};
+ghost use Rattle.std.specs.Prelude.{◌≡◌, ℕ, ◌≤◌, ◌+◌, ◌*◌, ◌/◌, ◌^◌, pos, negsuc, ◌≤ℤ◌, Ok, IfOk, IfErr};
 ghost use Rattle.book_model.specs.declared.new_moon_tables.TheConstants.{FIRST_LATE_MOON as first_late, LAST_TABLE_MOON as last_moon, LATE_START};
 ghost use Rattle.book_model.specs.sky.Phases as spec;
 ghost use Rattle.moon_core.specs.Courses.{number_by, number_of_phase as number_of_phase_of};
@@ -55,25 +55,23 @@ fn number_near<E: Enclosure>(
     number_of_phase(months, degrees, trail)
 }
 
-/// The same, as a try: where it gives none, no test has been made.
+/// The same, as a try: where it fails, no test has been made.
 fn number_tried<E: Enclosure>(
     course: &PhaseCourse<E>,
     months: E,
     t: E,
     trail: &mut Trail,
-) -> Option<i64>
-    ensures leads { IfSome result (λ n. Decides2 E.shown number_by months t trail.old.count
+) -> Result<i64, Fail>
+    ensures leads { IfOk result (λ n. Decides2 E.shown number_by months t trail.old.count
         trail.new.count (Ok n)) }
-    ensures back { IsNone result → trail.new.count ≡ trail.old.count }
+    ensures back { IfErr result (λ z. trail.new.count ≡ trail.old.count) }
 {
-    let before = trail.count();
-    match number_near(course, months, t, trail) {
-        Ok(number) => Some(number),
-        Err(_) => {
-            trail.back_to(before);
-            None
-        }
-    }
+    trail.attempt(
+        |inner: &mut Trail| -> Result<i64, Fail>
+            ensures { IfOk result (λ n. Decides2 E.shown number_by months t inner.old.count
+                inner.new.count (Ok n)) }
+        { number_near(course, months, t, inner) },
+    )
 }
 
 /// The number by the months since the new moon of number 0: by a course where that decides it, and else by the phase at the moment.
@@ -89,8 +87,8 @@ fn number_after<E: Enclosure>(
         → IfErr result IsClose }
 {
     match number_tried(course, months, t, trail) {
-        Some(number) => Ok(number),
-        None => number_at(months, t, trail),
+        Ok(number) => Ok(number),
+        Err(_) => number_at(months, t, trail),
     }
 }
 

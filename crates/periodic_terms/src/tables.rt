@@ -18,11 +18,11 @@ ghost use Rattle.periodic_terms.specs.Multiples.{AreTurns, AreTwoTurns};
 ghost use Rattle.periodic_terms.specs.Widths.{AreClose, AreTurnsWithin};
 ghost use Rattle.periodic_terms.specs.Tables.{distance_row_of, greatest_rows, longitude_row_of, latitude_row_of, new_moon_row_of, other_rows};
 
+use crate::angle_turns::{mean_turns, two_turns};
 use crate::mean::{MeanAngles, MeanTurns};
 use crate::term_rows::{MultipleRow, Multiples};
 use crate::term_spans::{span_of, span_of_parts};
 use crate::term_sums::{RowSums, sum_of_rows};
-use crate::angle_turns::{mean_turns, two_turns};
 use book_model::moon_tables::{LATITUDE_TERMS, MOON_TERMS};
 use book_model::new_moon_tables::NEW_MOON_TERMS;
 use book_model::{LatitudeTerm, MoonTerm, NewMoonTerm};

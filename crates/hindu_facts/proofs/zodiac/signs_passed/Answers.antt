@@ -5,15 +5,15 @@ use Rattle.hindu_facts.proofs.HinduRuns.{signs_found}
 use Rattle.moon_core.proofs.PhaseRanges.{within_world}
 use Rattle.hindu_facts.proofs.zodiac.signs_passed.Goals as goal
 
-pub returns-in-Some-clause-near : goal.returns-in-Some-clause-near
-returns-in-Some-clause-near g c =
+pub returns-in-Ok-clause-near : goal.returns-in-Ok-clause-near
+returns-in-Ok-clause-near g c =
     let shown = g.E.Enclosure.shown in
     let p = g.E.Enclosure.proper in
-    let f : SFits w64 c.in-Some.passed = search rules in
-    simp to_z-of_z (signs_found shown p c.args.t (Ok c.in-Some.passed) (c.in-Some.ensures.leads _ _ (within_world shown p c.args.t)))
+    let f : SFits w64 c.in-Ok.passed = search rules in
+    simp to_z-of_z (signs_found shown p c.args.t (Ok c.in-Ok.passed) (c.in-Ok.ensures.leads _ _ (within_world shown p c.args.t)))
 
-pub returns-in-None-clause-near : goal.returns-in-None-clause-near
-returns-in-None-clause-near g c =
+pub returns-in-Err-clause-near : goal.returns-in-Err-clause-near
+returns-in-Err-clause-near g c =
     let shown = g.E.Enclosure.shown in
     let p = g.E.Enclosure.proper in
     signs_found shown p c.args.t c.signs_passed_at.result (c.signs_passed_at.ensures.leads _ _ (within_world shown p c.args.t))
